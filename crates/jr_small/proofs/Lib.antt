@@ -1,0 +1,5 @@
+pub mod Complete
+pub mod Partial
+pub mod Sound
+pub mod Reading
+pub mod Steps

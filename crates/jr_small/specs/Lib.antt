@@ -1,0 +1,9 @@
+pub mod Source
+pub mod Token
+pub mod Spelling
+pub mod Occurrence
+pub mod Binding
+pub mod Sound
+pub mod Rename
+pub mod Machine
+pub mod View

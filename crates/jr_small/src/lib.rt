@@ -1,0 +1,10 @@
+//! Small sources: one class of static `int` fields and static `void` methods without nesting. They are read, checked
+//! and bound here, and one of their locals is renamed.
+#![tactic(auto)]
+
+mod occurrences;
+mod phases;
+mod reader;
+mod tokens;
+
+pub use occurrences::{Occurrence, Role};
