@@ -3,3 +3,5 @@ pub mod Partial
 pub mod Sound
 pub mod Reading
 pub mod Steps
+pub mod Walks
+pub mod Lookups

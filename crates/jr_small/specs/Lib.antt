@@ -7,3 +7,6 @@ pub mod Sound
 pub mod Rename
 pub mod Machine
 pub mod View
+pub mod Placed
+pub mod Exact
+pub mod Table

@@ -2,9 +2,11 @@
 //! and bound here, and one of their locals is renamed.
 #![tactic(auto)]
 
+mod declared;
 mod occurrences;
 mod phases;
 mod reader;
+mod tables;
 mod tokens;
 
 pub use occurrences::{Occurrence, Role};
