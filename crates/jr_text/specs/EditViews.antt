@@ -1,8 +1,8 @@
 -- How the edits that are kept are seen.
-use Rattle.std.specs.Prelude.{◌≡◌, ℕ, ◌≤◌, ◌<◌, ◌^◌, List, map, string_bytes, Option, Some, None, All, Contains}
+use Rattle.std.specs.Prelude.{◌≡◌, ℕ, ◌≤◌, ◌<◌, ◌^◌, List, length, take, drop, map, string_bytes, Option, Some, None, All, Contains}
 use Rattle.jr_text.specs.declared.spans.Span.{Span}
-use Rattle.jr_text.specs.declared.edits.Edit.{Edit}
-use Rattle.jr_text.specs.Edits.{Entry, AreEdits, IsApartFrom}
+use Rattle.jr_text.specs.declared.edit_walks.Edit.{Edit}
+use Rattle.jr_text.specs.Edits.{Entry, AreEdits, EndBy, IsApartFrom}
 use Rattle.jr_text.specs.Spans.{Overlap}
 use Rattle.jr_text.specs.Splices.{added}
 
@@ -30,3 +30,10 @@ pub record HasFirst (es : List Entry) (span : Span) (found : ℕ × Span) : Type
 abbrev pub IsFirstOf : List Entry → Span → Option (ℕ × Span) → Type 0
 IsFirstOf es span None = IsApartFrom es span
 IsFirstOf es span (Some found) = HasFirst es span found
+
+-- the entries in front of the place end where the span begins or before it, those behind it end later, and none overlaps
+pub record IsPlaceFor (es : List Entry) (span : Span) (at : ℕ) : Type 0 where
+  pub within : at ≤ length es
+  pub front : EndBy (take at es) span.from
+  pub behind : All (λ x. span.from < x.span.to) (drop at es)
+  pub apart : IsApartFrom es span

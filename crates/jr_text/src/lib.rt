@@ -4,6 +4,7 @@
 //! What the edits make of a text is the splice of `specs/Splices.antt`, and `splice_laws` has its laws.
 #![tactic(auto)]
 
+mod edit_walks;
 mod edits;
 mod marks;
 mod spans;
@@ -15,3 +16,6 @@ pub use marks::{Mark, Widths};
 pub use spans::{Place, Span};
 pub use splice_laws::{splice_has_length, splice_is_join, untouched_bytes_move};
 pub use texts::{MAX_TEXT_LEN, Text, TextFault};
+
+#[cfg(test)]
+mod tests;

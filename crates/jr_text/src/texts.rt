@@ -3,11 +3,10 @@ ghost use Rattle.jr_text.specs.Spans.{CanCut, part_of};
 ghost use Rattle.jr_text.specs.Texts.{IsText};
 ghost use Rattle.jr_text.specs.TextFaults.{IsTextFault};
 
+use crate::spans::Span;
 use std::alloc::{AllocError, Global};
 use std::marker::Model;
 use thiserror::Error;
-
-use crate::spans::Span;
 
 /// How many bytes a text has at most.
 pub const MAX_TEXT_LEN: u32 = 1_048_576;
@@ -56,7 +55,8 @@ impl Text {
     // The text that a string is.
     pub(crate) fn of(text: String) -> Text
         requires { length (string_bytes text) ≤ 1048576 }
-        ensures { result ≡ string_bytes text }
+        ensures bytes { result ≡ string_bytes text }
+        ensures valid { IsText result }
     {
         Text { text }
     }
