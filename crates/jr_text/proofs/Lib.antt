@@ -1,0 +1,9 @@
+pub mod Overlaps
+pub mod Chains
+pub mod SpliceProofs
+pub mod Firsts
+pub mod Rows
+pub mod Joins
+pub mod Places
+pub mod Pairs
+pub mod Pushes
