@@ -62,21 +62,23 @@ pub(crate) fn variable_at(
     text: &str,
     all: &[Occurrence],
     number: usize,
+    member: usize,
     name: &str,
 ) -> Option<usize>
+    requires stands { IfSome (slice_get (all_of text.now all.now) number) (λ o. o.member ≡ member) }
     requires within { number < length all.now }
     requires records { Records is_variable (all_of text.now (take number all.now)) variables.now }
     requires monotone { IsMonotone (all_of text.now all.now) }
-    ensures { IfSome (slice_get all.now number) (λ o. MatchOption result (NoneInScope (all_of text.now all.now) o.member number name.now) (FindsVariable (all_of text.now all.now) o.member number name.now)) }
+    ensures { MatchOption result (NoneInScope (all_of text.now all.now) member number name.now) (FindsVariable (all_of text.now all.now) member number name.now) }
 {
-    match variables.find(name) {
-        Some(declared) => {
-            if all[declared].member == all[number].member {
-                Some(declared)
-            } else {
-                None
-            }
-        }
-        None => None,
+    let Some(declared) = variables.find(name) else {
+        return None;
+    };
+    let Some(other) = all.get(declared) else {
+        return None;
+    };
+    if other.member == member {
+        return Some(declared);
     }
+    None
 }
