@@ -5,3 +5,4 @@ pub mod Reading
 pub mod Steps
 pub mod Walks
 pub mod Lookups
+pub mod WellBound

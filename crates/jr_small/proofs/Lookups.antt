@@ -202,3 +202,6 @@ records_at text all number test t r = subst (λ (os : List Occurrence). Records 
 
 pub if_some_at : {A : Type 0} (o : Option A) (x : A) (P : A → Type 0) → o ≡ Some x → IfSome o P → P x
 if_some_at {A} o x P e h = subst (λ (r : Option A). IfSome r P) e h
+
+pub to_if_some : {A : Type 0} (o : Option A) (x : A) (P : A → Type 0) → o ≡ Some x → P x → IfSome o P
+to_if_some {A} o x P e h = subst (λ (r : Option A). IfSome r P) (sym e) h

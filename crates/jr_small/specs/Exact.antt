@@ -1,5 +1,5 @@
 -- Which occurrence a table by name has: the last one that passes a test.
-use Rattle.std.specs.Prelude.{◌≡◌, ◌≤◌, slice_get, ℕ, ◌+◌, List, [], ◌∷◌, ◌++◌, Option, Some, None, Bool, true, false, ◌&&◌, ◌||◌, ◌==◌, if◌then◌else◌, option_map}
+use Rattle.std.specs.Prelude.{◌≡◌, ◌≤◌, ◌<◌, slice_get, ℕ, ◌+◌, List, [], ◌∷◌, ◌++◌, Option, Some, None, Bool, true, false, ◌&&◌, ◌||◌, ◌==◌, if◌then◌else◌, option_map}
 use Rattle.std.specs.Str.{bytes_eq}
 use Rattle.jr_small.specs.declared.occurrences.Role.{Role}
 use Rattle.jr_small.specs.declared.occurrences.Role.TheVariants.{Class, Field, Method, Parameter, Local, Reference}
@@ -69,3 +69,12 @@ pub record IsWellBound (all : List Occurrence) (k : ℕ) : Type 0 where
   pub declaration : ℕ
   pub binds : Binds all k declaration
   pub not_own : IsOwn all k declaration → ⊥
+
+-- a reference without a qualifier
+pub record IsNameRef (o : Occurrence) : Type 0 where
+  pub role : o.role ≡ Reference
+  pub plain : o.qualifier ≡ None
+
+-- each of the first n occurrences that is a reference is well bound
+abbrev pub AreBound : List Occurrence → ℕ → Type 0
+AreBound all n = (k : ℕ) (o : Occurrence) → k < n → slice_get all k ≡ Some o → o.role ≡ Reference → IsWellBound all k

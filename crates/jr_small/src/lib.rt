@@ -2,6 +2,7 @@
 //! and bound here, and one of their locals is renamed.
 #![tactic(auto)]
 
+mod bound;
 mod declared;
 mod occurrences;
 mod phases;

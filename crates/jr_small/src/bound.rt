@@ -1,0 +1,67 @@
+ghost use Rattle.std.specs.Prelude.{◌≡◌, ℕ, List, ◌↔◌, ◌<◌, length, take, slice_get, IsTrue, IfOk, IfSome};
+ghost use Rattle.jr_small.specs.Placed.{ArePlaced};
+ghost use Rattle.jr_small.specs.Binding.{IsVariable};
+ghost use Rattle.jr_small.specs.Sound.{Together, SameField, SameVariable};
+ghost use Rattle.jr_small.specs.Exact.{is_field, is_variable, IsMonotone, Records, Added, IsOwn, IsWellBound, IsNameRef, AreBound};
+ghost use Rattle.jr_small.specs.View.{all_of};
+
+use crate::declared::{part, variable_at};
+use crate::occurrences::{Occurrence, Role};
+use crate::tables::Table;
+use std::alloc::{AllocError, Global};
+
+/// Puts a parameter or local into the table; false where one of its name is in scope.
+fn put_variable<'a>(
+    variables: &mut Table<'a>,
+    text: &'a str,
+    all: &[Occurrence],
+    number: usize,
+) -> Result<bool, AllocError>
+    requires within { number < length all.now }
+    requires placed { ArePlaced text.now all.now }
+    requires records { Records is_variable (all_of text.now (take number all.now)) variables.old }
+    requires monotone { IsMonotone (all_of text.now all.now) }
+    ensures { IfOk result (λ new. IfSome (slice_get (all_of text.now all.now) number) (λ o. IsVariable o.role → Added SameVariable is_variable (all_of text.now (take number all.now)) o new variables.new)) }
+{
+    let occurrence = &all[number];
+    let name = part(text, occurrence.name);
+    let before = variable_at(variables, text, all, number, occurrence.member, name);
+    variables.put(name, number)?;
+    Ok(before.is_none())
+}
+
+/// Whether the declaration is the local whose initializer the reference stands in.
+fn is_own(all: &[Occurrence], number: usize, declared: usize) -> bool
+    requires within { number < length all.now }
+    requires declared { declared < length all.now }
+    ensures { (text : List ℕ) → IsTrue result ↔ IsOwn (all_of text all.now) number declared }
+{
+    let declaration = &all[declared];
+    match declaration.role {
+        Role::Local => declaration.statement == all[number].statement,
+        _ => false,
+    }
+}
+
+/// Whether a name means a declaration, and not the local whose initializer it stands in.
+fn is_name_bound(
+    fields: &Table<'_>,
+    variables: &Table<'_>,
+    text: &str,
+    all: &[Occurrence],
+    number: usize,
+) -> bool
+    requires within { number < length all.now }
+    requires placed { ArePlaced text.now all.now }
+    requires fields { Records is_field (all_of text.now all.now) fields.now }
+    requires variables { Records is_variable (all_of text.now (take number all.now)) variables.now }
+    requires monotone { IsMonotone (all_of text.now all.now) }
+    ensures { IfSome (slice_get (all_of text.now all.now) number) (λ o. IsNameRef o → (IsTrue result ↔ IsWellBound (all_of text.now all.now) number)) }
+{
+    let occurrence = &all[number];
+    let name = part(text, occurrence.name);
+    match variable_at(variables, text, all, number, occurrence.member, name) {
+        Some(declared) => !is_own(all, number, declared),
+        None => fields.find(name).is_some(),
+    }
+}
