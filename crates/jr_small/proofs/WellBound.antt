@@ -12,9 +12,9 @@ use Rattle.jr_small.specs.Source.{Name}
 use Rattle.jr_small.specs.Occurrence.{Occurrence}
 use Rattle.jr_small.specs.Binding.{IsVariable, InScope, NoneInScope, FindsVariable, DeclaresField, NoField, FindsName, FindsClass, FindsReference, Binds}
 use Rattle.jr_small.specs.Table.{found, PutsNumber}
-use Rattle.jr_small.specs.Exact.{last_where, is_field, is_variable, Pairs, Added, Records, IsOwn, IsWellBound, IsNameRef}
+use Rattle.jr_small.specs.Exact.{last_where, is_field, is_variable, Pairs, Added, Records, IsOwn, IsWellBound, IsNameRef, IsQualifiedRef}
 use Rattle.jr_small.proofs.Walks.{last_is, last_none}
-use Rattle.jr_small.proofs.Lookups.{nobody, at, at_number, field_passes, passes_field, front_of, in_front, records_put, role_variable}
+use Rattle.jr_small.proofs.Lookups.{and_both, nobody, at, at_number, field_passes, passes_field, front_of, in_front, records_put, role_variable}
 
 -- two answers of one place are one
 pub same_at : {A : Type 0} (xs : List A) (i : ℕ) (a b : A) → slice_get xs i ≡ Some a → slice_get xs i ≡ Some b → a ≡ b
@@ -121,3 +121,83 @@ added_variable all number o old new name (Some i) true e v n h f r p s = absurd 
 added_variable all number o old new name (Some i) false e v n h f r p s =
     let d = f.in_scope in
     record { number = i; other = d.declaration; stands = in_front all number i d.declaration d.stands d.before; pair = record { first = d.variable; second = v; name = d.named ∙ n; member = d.member } }
+
+-- ---- a name behind a qualifier
+
+qualified_binds : (all : List Occurrence) (k j : ℕ) (o : Occurrence) (q : Name) → slice_get all k ≡ Some o → IsQualifiedRef o q → FindsClass all o.member k q.text → DeclaresField all o.name.text j → Binds all k j
+qualified_binds all k j o q e r c d = record { reference = o; stands = e; role = r.role; finds = subst (λ (q : Option Name). FindsReference all o.member k q o.name.text j) (sym r.qualifier) (c, d) }
+
+pub binds_qualified : (all : List Occurrence) (k j : ℕ) (o : Occurrence) (q : Name) → slice_get all k ≡ Some o → IsQualifiedRef o q → Binds all k j → FindsClass all o.member k q.text × DeclaresField all o.name.text j
+binds_qualified all k j o q e r b =
+    let same : b.reference ≡ o = same_at all k b.reference o b.stands e in
+    let at_o = subst (λ (p : Occurrence). FindsReference all p.member k p.qualifier p.name.text j) same b.finds in
+    subst (λ (q : Option Name). FindsReference all o.member k q o.name.text j) r.qualifier at_o
+
+-- what the tables say of a name behind a qualifier
+pub record QualifiedTests (all : List Occurrence) (k : ℕ) (o class : Occurrence) (q : Name) (a b c d : Bool) : Type 0 where
+  pub no_variable : (a ≡ true) ↔ NoneInScope all o.member k q.text
+  pub no_field : (b ≡ true) ↔ NoField all q.text
+  pub is_class : (c ≡ true) ↔ (q.text ≡ class.name.text)
+  pub field_to : d ≡ true → (j : ℕ) × DeclaresField all o.name.text j
+  pub field_from : (j : ℕ) → DeclaresField all o.name.text j → d ≡ true
+
+pub qualified_well : (all : List Occurrence) (k : ℕ) (o class : Occurrence) (q : Name) (a b c d : Bool) → slice_get all k ≡ Some o → slice_get all 0 ≡ Some class → IsQualifiedRef o q → QualifiedTests all k o class q a b c d → IsTrue (((a && b) && c) && d) ↔ IsWellBound all k
+qualified_well all k o class q a b c d e f r t = (to, from)
+  where
+    to : IsTrue (((a && b) && c) && d) → IsWellBound all k
+    to h =
+        let h3 = and_both ((a && b) && c) d h in
+        let h2 = and_both (a && b) c h3.0 in
+        let h1 = and_both a b h2.0 in
+        let g = t.field_to h3.1 in
+        record {
+          declaration = g.0;
+          binds = qualified_binds all k g.0 o q e r (record { class = class; stands = f; named = sym (t.is_class.0 h2.1); no_variable = t.no_variable.0 h1.0; no_field = t.no_field.0 h1.1 }) g.1;
+          not_own = λ w. let bad : Field ≡ Local = sym g.1.role ∙ ap (λ (p : Occurrence). p.role) (same_at all g.0 g.1.declaration w.declaration g.1.stands w.declares) ∙ w.local in absurd cc;
+        }
+
+    all_true : (a b c d : Bool) → a ≡ true → b ≡ true → c ≡ true → d ≡ true → IsTrue (((a && b) && c) && d)
+    all_true a b c d h i j l = rw (h, i, j, l) refl
+
+    from : IsWellBound all k → IsTrue (((a && b) && c) && d)
+    from w =
+        let g = binds_qualified all k w.declaration o q e r w.binds in
+        let n : q.text ≡ class.name.text = sym g.0.named ∙ ap (λ (p : Occurrence). p.name.text) (same_at all 0 g.0.class class g.0.stands f) in
+        all_true a b c d (t.no_variable.1 g.0.no_variable) (t.no_field.1 g.0.no_field) (t.is_class.1 n) (t.field_from w.declaration g.1)
+
+-- by the answer of a look-up of a variable
+pub none_in_scope : (all : List Occurrence) (m k : ℕ) (text : List ℕ) (found : Option ℕ) → MatchOption found (NoneInScope all m k text) (FindsVariable all m k text) → (is_some found ≡ false) ↔ NoneInScope all m k text
+none_in_scope all m k text None h = (λ e. h, λ n. refl)
+none_in_scope all m k text (Some j) h = (λ e. absurd cc, λ n. absurd (n j h.in_scope))
+
+-- by the answer of a look-up of a field
+pub none_declares : (all : List Occurrence) (text : List ℕ) (t : Table) → Records is_field all t → (is_some (found t text) ≡ false) ↔ NoField all text
+none_declares all text t r = (λ h j d. to (found t text) refl h j d, λ n. from (found t text) refl n)
+  where
+    to : (x : Option ℕ) → found t text ≡ x → is_some x ≡ false → (j : ℕ) → DeclaresField all text j → ⊥
+    to None e h j d = last_none (is_field text) all (sym (r text) ∙ e) j d.declaration d.stands (field_passes text d.declaration d.role d.named)
+    to (Some i) e h j d = absurd cc
+
+    from : (x : Option ℕ) → found t text ≡ x → NoField all text → is_some x ≡ false
+    from None e n = refl
+    from (Some i) e n =
+        let l = last_is (is_field text) all i (sym (r text) ∙ e) in
+        let p = passes_field text l.occurrence l.passes in
+        absurd (n i (record { declaration = l.occurrence; stands = l.stands; role = p.0; named = p.1 }))
+
+pub some_declares : (all : List Occurrence) (text : List ℕ) (t : Table) → Records is_field all t → is_some (found t text) ≡ true → (j : ℕ) × DeclaresField all text j
+some_declares all text t r h = go (found t text) refl h
+  where
+    go : (x : Option ℕ) → found t text ≡ x → is_some x ≡ true → (j : ℕ) × DeclaresField all text j
+    go None e h = absurd cc
+    go (Some i) e h =
+        let l = last_is (is_field text) all i (sym (r text) ∙ e) in
+        let p = passes_field text l.occurrence l.passes in
+        (i, record { declaration = l.occurrence; stands = l.stands; role = p.0; named = p.1 })
+
+pub declares_some : (all : List Occurrence) (text : List ℕ) (t : Table) → Records is_field all t → (j : ℕ) → DeclaresField all text j → is_some (found t text) ≡ true
+declares_some all text t r j d = go (found t text) refl
+  where
+    go : (x : Option ℕ) → found t text ≡ x → is_some x ≡ true
+    go None e = absurd (last_none (is_field text) all (sym (r text) ∙ e) j d.declaration d.stands (field_passes text d.declaration d.role d.named))
+    go (Some i) e = refl

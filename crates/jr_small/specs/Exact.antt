@@ -5,6 +5,7 @@ use Rattle.jr_small.specs.declared.occurrences.Role.{Role}
 use Rattle.jr_small.specs.declared.occurrences.Role.TheVariants.{Class, Field, Method, Parameter, Local, Reference}
 use Rattle.jr_small.specs.declared.tables.Table.{Table}
 use Rattle.jr_small.specs.Table.{found}
+use Rattle.jr_small.specs.Source.{Name}
 use Rattle.jr_small.specs.Occurrence.{Occurrence}
 use Rattle.jr_small.specs.Binding.{Binds}
 
@@ -74,6 +75,11 @@ pub record IsWellBound (all : List Occurrence) (k : ℕ) : Type 0 where
 pub record IsNameRef (o : Occurrence) : Type 0 where
   pub role : o.role ≡ Reference
   pub plain : o.qualifier ≡ None
+
+-- a reference with this qualifier
+pub record IsQualifiedRef (o : Occurrence) (q : Name) : Type 0 where
+  pub role : o.role ≡ Reference
+  pub qualifier : o.qualifier ≡ Some q
 
 -- each of the first n occurrences that is a reference is well bound
 abbrev pub AreBound : List Occurrence → ℕ → Type 0

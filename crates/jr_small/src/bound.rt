@@ -1,13 +1,15 @@
 ghost use Rattle.std.specs.Prelude.{◌≡◌, ℕ, List, ◌↔◌, ◌<◌, length, take, slice_get, IsTrue, IfOk, IfSome};
-ghost use Rattle.jr_small.specs.Placed.{ArePlaced};
+ghost use Rattle.jr_small.specs.Placed.{IsCut, ArePlaced};
 ghost use Rattle.jr_small.specs.Binding.{IsVariable};
 ghost use Rattle.jr_small.specs.Sound.{Together, SameField, SameVariable};
-ghost use Rattle.jr_small.specs.Exact.{is_field, is_variable, IsMonotone, Records, Added, IsOwn, IsWellBound, IsNameRef, AreBound};
+ghost use Rattle.jr_small.specs.Exact.{is_field, is_variable, IsMonotone, Records, Added, IsOwn, IsWellBound, IsNameRef, IsQualifiedRef, AreBound};
+ghost use Rattle.jr_small.specs.Token.{name_at};
 ghost use Rattle.jr_small.specs.View.{all_of};
 
 use crate::declared::{part, variable_at};
 use crate::occurrences::{Occurrence, Role};
 use crate::tables::Table;
+use jr_text::Span;
 use std::alloc::{AllocError, Global};
 
 /// Puts a parameter or local into the table; false where one of its name is in scope.
@@ -64,4 +66,30 @@ fn is_name_bound(
         Some(declared) => !is_own(all, number, declared),
         None => fields.find(name).is_some(),
     }
+}
+
+/// Whether a name behind a qualifier means a field of the class.
+fn is_field_of_class(
+    fields: &Table<'_>,
+    variables: &Table<'_>,
+    text: &str,
+    all: &[Occurrence],
+    number: usize,
+    qualifier: Span,
+) -> bool
+    requires within { number < length all.now }
+    requires placed { ArePlaced text.now all.now }
+    requires cut { IsCut text.now qualifier }
+    requires fields { Records is_field (all_of text.now all.now) fields.now }
+    requires variables { Records is_variable (all_of text.now (take number all.now)) variables.now }
+    requires monotone { IsMonotone (all_of text.now all.now) }
+    ensures { IfSome (slice_get (all_of text.now all.now) number) (λ o. IsQualifiedRef o (name_at text.now qualifier) → (IsTrue result ↔ IsWellBound (all_of text.now all.now) number)) }
+{
+    let occurrence = &all[number];
+    let class = part(text, qualifier);
+    let variable = variable_at(variables, text, all, number, occurrence.member, class);
+    let obscuring = fields.find(class);
+    let field = fields.find(part(text, occurrence.name));
+    let is_class = class == part(text, all[0].name);
+    variable.is_none() & obscuring.is_none() & is_class & field.is_some()
 }
