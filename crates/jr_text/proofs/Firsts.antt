@@ -1,10 +1,9 @@
 -- The first pushed entry that overlaps a span, as a list is looked through.
-use Rattle.std.proofs.Common.{◌≡◌, ℕ, ◌<◌, ◌≤◌, List, [], ◌∷◌, ◌++◌, Option, Some, None, refl, arith}
-use Rattle.std.specs.List.{All, Contains}
+use Rattle.std.proofs.Common.{◌≡◌, ℕ, ◌≤◌, List, [], ◌∷◌, Option, Some, None, refl, arith}
 use Rattle.std.proofs.lemmas.List.Elements.{All-push, All-weaker, Contains-append_left, Contains-push}
 use Rattle.jr_text.specs.declared.spans.Span.{Span}
 use Rattle.jr_text.specs.Spans.{Overlap}
-use Rattle.jr_text.specs.Edits.{Entry, with_last, IsApartFrom, IsFirstOverlap}
+use Rattle.jr_text.specs.Edits.{Entry, with_last, IsFirstOverlap}
 use Rattle.jr_text.specs.EditViews.{HasFirst, IsFirstOf}
 
 -- the entry is not earlier than what was found

@@ -1,14 +1,15 @@
 -- What a new entry makes of entries in order, at its place.
 use Rattle.std.proofs.Common.{◌≡◌, ◌≢◌, ℕ, suc, ◌+◌, ◌<◌, ◌≤◌, List, [], ◌∷◌, ◌++◌, length, get_or, take, drop, inl, inr, sym, ap, ◌∙◌, subst, refl, arith, length-append}
-use Rattle.std.specs.List.{All, AllPairs, Contains, insert}
+use Rattle.std.specs.List.{All, Contains, insert}
 use Rattle.std.proofs.lemmas.List.{take-append-drop, append-nil}
-use Rattle.std.proofs.lemmas.List.Elements.{All-take, All-drop, All-append, All-weaker, All-head, Contains-append_right}
+use Rattle.std.proofs.lemmas.List.Elements.{All-take, All-drop, All-append, All-head, All-tail, Contains-append_right}
 use Rattle.std.proofs.lemmas.List.Sums.{sum_by-append, sum_by-cons}
 use Rattle.std.proofs.lemmas.Bool.{cases_lt}
 use Rattle.jr_text.specs.declared.spans.Span.{Span}
 use Rattle.jr_text.specs.Spans.{Overlap}
 use Rattle.jr_text.specs.Edits.{Entry, AreEdits, ComesBefore, Adds, next_entry, with_last, EndBy, IsApartFrom, IsFirstOverlap}
 use Rattle.jr_text.specs.EditViews.{IsPlaceFor}
+use Rattle.jr_text.specs.SpliceLaws.{HasOnePlace}
 use Rattle.jr_text.specs.Splices.{added}
 use Rattle.jr_text.proofs.Overlaps.{ends_behind, Overlap-from_ends}
 use Rattle.jr_text.proofs.Pairs.{AllPairs-insert, All-insert, All-left, All-right}
@@ -137,3 +138,38 @@ Pushed-at_place es new span text at v o p e =
       behind = λ h. insert-behind es (next_entry es span text) at h p.behind;
       counted = added-insert es at (next_entry es span text);
     })
+
+-- no entry comes before one that comes before it
+never_both : (x y : Entry) → ComesBefore x y → ComesBefore y x → ⊥
+never_both x y (inl a) (inl b) = omega arith
+never_both x y (inl a) (inr (b, c)) = omega arith
+never_both x y (inr (a, c)) (inl b) = omega arith
+never_both x y (inr (a, inl c)) (inr (b, inl d)) = omega arith
+never_both x y (inr (a, inl c)) (inr (b, inr (d, f))) = omega arith
+never_both x y (inr (a, inr (c, f))) (inr (b, inl d)) = omega arith
+never_both x y (inr (a, inr (c, f))) (inr (b, inr (d, g))) = omega arith
+
+-- the heads and the rests of equal lists
+same_heads : (x y : Entry) (xs ys : List Entry) → ◌≡◌ {A = List Entry} (x ∷ xs) (y ∷ ys) → (x ≡ y) × (xs ≡ ys)
+same_heads x y xs ys e = (cc, cc)
+
+one_split : (f b f' b' : List Entry) (e : Entry) → f ++ b ≡ f' ++ b' → All (λ x. ComesBefore x e) f → All (λ x. ComesBefore e x) b → All (λ x. ComesBefore x e) f' → All (λ x. ComesBefore e x) b' → f ++ e ∷ b ≡ f' ++ e ∷ b'
+one_split [] b [] b' e same f-low b-high f-low' b-high' = ap (λ xs. e ∷ xs) same
+one_split [] [] (x ∷ xs) b' e same f-low b-high f-low' b-high' = cc
+one_split [] (y ∷ ys) (x ∷ xs) b' e same f-low b-high f-low' b-high' =
+    let heads = same_heads y x ys (xs ++ b') same in
+    let above : ComesBefore e x = subst (ComesBefore e) heads.0 (All-head (λ z. ComesBefore e z) y ys b-high) in
+    absurd (never_both x e (All-head (λ z. ComesBefore z e) x xs f-low') above)
+one_split (x ∷ xs) b [] [] e same f-low b-high f-low' b-high' = cc
+one_split (x ∷ xs) b [] (y ∷ ys) e same f-low b-high f-low' b-high' =
+    let heads = same_heads x y (xs ++ b) ys same in
+    let above : ComesBefore e x = subst (ComesBefore e) (sym heads.0) (All-head (λ z. ComesBefore e z) y ys b-high') in
+    absurd (never_both x e (All-head (λ z. ComesBefore z e) x xs f-low) above)
+one_split (x ∷ xs) b (y ∷ ys) b' e same f-low b-high f-low' b-high' =
+    let heads = same_heads x y (xs ++ b) (ys ++ b') same in
+    let rest : xs ++ e ∷ b ≡ ys ++ e ∷ b' = one_split xs b ys b' e heads.1 (All-tail (λ z. ComesBefore z e) x xs f-low) b-high (All-tail (λ z. ComesBefore z e) y ys f-low') b-high' in
+    let first : x ≡ y = heads.0 in
+    cc
+
+pub Adds-one_place : HasOnePlace
+Adds-one_place = λ es one other e a b. a.becomes ∙ (one_split a.front a.back b.front b.back e (sym a.was ∙ b.was) a.before a.after b.before b.after ∙ sym b.becomes)

@@ -108,6 +108,7 @@ impl EditList {
         ensures ok { OnOk result (Adds self.old (next_entry self.old span text.now) self.new) }
         ensures apart { OnOk result (IsApartFrom self.old span) }
         ensures behind { OnOk result (EndBy self.old span.from → self.new ≡ with_last self.old (next_entry self.old span text.now)) }
+        ensures clear { EndBy self.old span.from → IfErr result (λ fault. fault ≡ EditFault.Memory) }
         // Each fault comes only where it applies, and an overlap always comes.
         ensures fault { IfErr result (IsEditFault self.old span) }
         ensures err { OnErr result (self.new ≡ self.old) }

@@ -1,4 +1,4 @@
-use Rattle.std.proofs.Common.{◌≤◌, length, arith}
+use Rattle.std.proofs.Common.{◌≤◌}
 use Rattle.std.proofs.lemmas.List.{take_all}
 use Rattle.jr_text.specs.EditViews.{entries_of, IsFirstOf}
 use Rattle.jr_text.proofs.Rows.{All-at_read, entries_more}

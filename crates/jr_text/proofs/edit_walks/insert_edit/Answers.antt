@@ -1,4 +1,4 @@
-use Rattle.std.proofs.Common.{◌≡◌, length, sym, ap, ◌∙◌, string_bytes, arith}
+use Rattle.std.proofs.Common.{◌≡◌, ap, ◌∙◌, arith}
 use Rattle.std.specs.List.{insert}
 use Rattle.jr_text.specs.declared.edit_walks.Edit.{Edit}
 use Rattle.jr_text.specs.Edits.{next_entry}

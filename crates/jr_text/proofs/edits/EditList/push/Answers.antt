@@ -1,7 +1,5 @@
-use Rattle.std.proofs.Common.{◌≡◌, ◌+◌, length, subst, ap, arith}
-use Rattle.std.specs.List.{insert}
-use Rattle.jr_text.specs.Edits.{Adds, AreEdits, next_entry, with_last, EndBy}
-use Rattle.jr_text.specs.EditViews.{entries_of, IsPlaceFor, IsKept}
+use Rattle.std.proofs.Common.{arith}
+use Rattle.jr_text.specs.EditViews.{entries_of, IsPlaceFor}
 use Rattle.jr_text.proofs.Pushes.{Pushed, Pushed-at_place}
 use Rattle.jr_text.proofs.edits.EditList.push.Goals as goal
 
