@@ -63,6 +63,8 @@ impl Text {
     }
 
     /// The text with these bytes.
+    ///
+    /// `TooLong` where they are too many, else `NotUtf8` where they aren't UTF-8.
     pub fn new(alloc: Global, bytes: &[u8]) -> Result<Text, TextFault>
         ensures ok { IfOk result (λ text. text ≡ bytes.now) }
         ensures valid { IfOk result IsText }
