@@ -5,6 +5,7 @@ use Rattle.jr_text.specs.declared.edits.EditFault.{EditFault}
 use Rattle.jr_text.specs.declared.edits.EditFault.TheVariants as edit_faults
 use Rattle.jr_text.specs.declared.edits.ApplyFault.{ApplyFault}
 use Rattle.jr_text.specs.declared.edits.ApplyFault.TheVariants as apply_faults
+use Rattle.jr_text.specs.Texts.{text_limit}
 use Rattle.jr_text.specs.Edits.{Entry, IsApartFrom, IsFirstOverlap}
 use Rattle.jr_text.specs.Splices.{splice}
 
@@ -15,5 +16,5 @@ IsEditFault es span edit_faults.Memory = IsApartFrom es span
 
 -- Above the limit of a text the splice's length is told. Memory is wanted only for what is no longer.
 abbrev pub IsApplyFault : List ℕ → List Entry → ApplyFault → Type 0
-IsApplyFault bytes es (apply_faults.TooLong len) = (1048576 < length (splice bytes es)) × (len ≡ length (splice bytes es))
-IsApplyFault bytes es apply_faults.Memory = length (splice bytes es) ≤ 1048576
+IsApplyFault bytes es (apply_faults.TooLong len) = (text_limit < length (splice bytes es)) × (len ≡ length (splice bytes es))
+IsApplyFault bytes es apply_faults.Memory = length (splice bytes es) ≤ text_limit

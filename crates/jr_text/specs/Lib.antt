@@ -6,3 +6,4 @@ pub mod EditFaults
 pub mod Splices
 pub mod SpliceLaws
 pub mod EditViews
+pub mod EditWalks

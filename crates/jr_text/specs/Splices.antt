@@ -1,8 +1,8 @@
 -- What a list of edits makes of a text: the splice.
-use Rattle.std.specs.Prelude.{◌≡◌, ℕ, ◌+◌, ◌-◌, ◌<◌, ◌≤◌, List, [], ◌∷◌, ◌++◌, length, take, drop, sum_by, filter, nat_le, All, slice_get}
+use Rattle.std.specs.Prelude.{ℕ, ◌+◌, ◌-◌, List, [], ◌∷◌, ◌++◌, length, take, drop, sum_by, filter, nat_le, All}
 use Rattle.jr_text.specs.declared.spans.Span.{Span}
 use Rattle.jr_text.specs.Spans.{LiesIn, part_of}
-use Rattle.jr_text.specs.Edits.{Entry, AreEdits, FitsIn}
+use Rattle.jr_text.specs.Edits.{Entry}
 
 -- the bytes with those of the span replaced by the text
 abbrev pub replaced : List ℕ → Span → List ℕ → List ℕ

@@ -1,9 +1,10 @@
-ghost use Rattle.std.specs.Prelude.{◌≡◌, ◌<◌, ◌≤◌, ◌↔◌, ◌^◌, List, length, take, drop, IsTrue, IfOk, IfErr, OnOk, OnErr, IfNone, IfSome, All, insert, string_bytes};
+ghost use Rattle.std.specs.Prelude.{◌≡◌, ◌<◌, ◌≤◌, ◌↔◌, ◌^◌, List, length, take, drop, IsTrue, IfOk, IfErr, OnOk, OnErr, IfNone, IfSome, All, string_bytes};
 ghost use Rattle.jr_text.specs.Spans.{Overlap};
-ghost use Rattle.jr_text.specs.Edits.{Entry, AreEdits, next_entry, with_last, EndBy, IsApartFrom, IsFirstOverlap, FitsIn};
+ghost use Rattle.jr_text.specs.Edits.{Entry, AreEdits, with_last, EndBy, IsApartFrom, IsFirstOverlap, FitsIn};
 ghost use Rattle.jr_text.specs.EditFaults.{IsEditFault};
 ghost use Rattle.jr_text.specs.Splices.{splice, removed};
-ghost use Rattle.jr_text.specs.EditViews.{entry_of, entries_of, IsFirstOf, IsPlaceFor, IsKept};
+ghost use Rattle.jr_text.specs.EditViews.{entry_of, entries_of, IsKept};
+ghost use Rattle.jr_text.specs.EditWalks.{IsFirstOf, IsPlaceFor, Pushed};
 
 use crate::edits::EditFault;
 use crate::spans::Span;
@@ -39,8 +40,11 @@ pub(crate) fn insert_edit(
     span: Span,
     text: &str,
 ) -> Result<(), AllocError>
-    requires { at ≤ length edits.old.items }
-    ensures ok { OnOk result (entries_of edits.new.items ≡ insert (entries_of edits.old.items) at (next_entry (entries_of edits.old.items) span text.now)) }
+    requires valid { AreEdits (entries_of edits.old.items) }
+    requires ordered { span.from ≤ span.to }
+    requires place { IsPlaceFor (entries_of edits.old.items) span at }
+    ensures ok { OnOk result
+        (Pushed (entries_of edits.old.items) (entries_of edits.new.items) span text.now) }
     ensures err { OnErr result (edits.new.items ≡ edits.old.items) }
 {
     let edit = Edit {
@@ -84,7 +88,8 @@ fn first_overlap(edits: &[Edit], span: Span) -> Option<Span>
 fn earlier_of(first: Option<(usize, Span)>, edit: &Edit, span: Span) -> Option<(usize, Span)>
     requires spans { edit.now.span.from ≤ edit.now.span.to }
     requires ordered { span.from ≤ span.to }
-    ensures { (seen : List Entry) → IsFirstOf seen span first → IsFirstOf (with_last seen (entry_of edit.now)) span result }
+    ensures { (seen : List Entry) → IsFirstOf seen span first
+        → IsFirstOf (with_last seen (entry_of edit.now)) span result }
 {
     if !overlaps(edit.span, span) {
         return first;

@@ -101,13 +101,18 @@ impl EditList {
         }
     }
 
-    /// Adds the edit that puts the text in the place of the span. An edit whose span no entry's overlaps goes to its
-    /// place in the order; behind all others this takes no walk over them.
+    /// Adds the edit that puts the text in the place of the span, at its place in the order. Only entries that end
+    /// behind the span's start are looked at.
+    ///
+    /// `Overlaps` where the span overlaps that of an entry. After a fault the list is as it was.
     pub fn push(&mut self, span: Span, text: &str) -> Result<(), EditFault>
         requires { span.from ≤ span.to }
         ensures ok { OnOk result (Adds self.old (next_entry self.old span text.now) self.new) }
         ensures apart { OnOk result (IsApartFrom self.old span) }
-        ensures behind { OnOk result (EndBy self.old span.from → self.new ≡ with_last self.old (next_entry self.old span text.now)) }
+        // Behind all others it goes last, and nothing overlaps it.
+        ensures behind { OnOk result (EndBy self.old span.from
+            → self.new ≡ with_last self.old (next_entry self.old span text.now)) }
+        ensures clear { EndBy self.old span.from → IfErr result (λ fault. fault ≡ EditFault.Memory) }
         // Each fault comes only where it applies, and an overlap always comes.
         ensures fault { IfErr result (IsEditFault self.old span) }
         ensures err { OnErr result (self.new ≡ self.old) }
@@ -131,7 +136,9 @@ impl EditList {
         all_fit(&self.edits, text)
     }
 
-    /// The text in which each span is replaced by its text.
+    /// The text in which each span is replaced by its text. The old text is walked once.
+    ///
+    /// `TooLong` where that has more than [`MAX_TEXT_LEN`] bytes.
     pub fn apply(&self, alloc: Global, text: &Text) -> Result<Text, ApplyFault>
         requires { FitsIn text.now self.now }
         ensures ok { IfOk result (λ new. new ≡ splice text.now self.now) }

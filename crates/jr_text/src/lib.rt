@@ -14,7 +14,9 @@ mod texts;
 pub use edits::{ApplyFault, EditFault, EditList};
 pub use marks::{Mark, Widths};
 pub use spans::{Place, Span};
-pub use splice_laws::{splice_has_length, splice_is_join, untouched_bytes_move};
+pub use splice_laws::{
+    entry_has_one_place, splice_has_length, splice_is_join, untouched_bytes_move,
+};
 pub use texts::{MAX_TEXT_LEN, Text, TextFault};
 
 #[cfg(test)]

@@ -1,4 +1,4 @@
-ghost use Rattle.jr_text.specs.SpliceLaws.{SpliceIsJoin, UntouchedBytesMove, SpliceHasLength};
+ghost use Rattle.jr_text.specs.SpliceLaws.{SpliceIsJoin, UntouchedBytesMove, SpliceHasLength, HasOnePlace};
 
 /// The splice is the gaps between the spans and the texts, joined from left to right.
 pub fn splice_is_join()
@@ -13,4 +13,9 @@ pub fn untouched_bytes_move()
 /// How long the new text is.
 pub fn splice_has_length()
     ensures { SpliceHasLength }
+{}
+
+/// What `Adds` says of a push leaves one list.
+pub fn entry_has_one_place()
+    ensures { HasOnePlace }
 {}

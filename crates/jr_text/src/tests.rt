@@ -1,8 +1,12 @@
 use super::*;
-use std::alloc::Global;
+use std::alloc::{AllocError, Global};
 use std::test::Fail;
 
 const SOURCE: &str = "class A{static int f;static void m(){int a=1;f=a;}}";
+
+fn letters(alloc: Global, count: usize) -> Result<Vec<u8>, AllocError> {
+    vec![in alloc; b'a'; count]
+}
 
 #[test]
 fn texts(rt: HostRuntime) -> Result<(), Fail> {
@@ -22,7 +26,7 @@ fn texts(rt: HostRuntime) -> Result<(), Fail> {
 
 #[test]
 fn faults_of_texts(rt: HostRuntime) -> Result<(), Fail> {
-    let mut bytes = vec![in rt.alloc(); b'a'; 1_048_576]?;
+    let mut bytes = letters(rt.alloc(), 1_048_576)?;
     assert_eq!(rt; Text::new(rt.alloc(), &bytes)?.len(), 1_048_576);
     bytes.push(0xff)?;
     let long = Text::new(rt.alloc(), &bytes);
@@ -114,7 +118,7 @@ fn overlaps(rt: HostRuntime) -> Result<(), Fail> {
 
 #[test]
 fn too_long_to_apply(rt: HostRuntime) -> Result<(), Fail> {
-    let bytes = vec![in rt.alloc(); b'a'; 1_048_576]?;
+    let bytes = letters(rt.alloc(), 1_048_576)?;
     let text = Text::new(rt.alloc(), &bytes)?;
     let mut edits = EditList::new(rt.alloc());
     edits.push(Span { from: 7, to: 8 }, "bc")?;
@@ -133,4 +137,5 @@ fn marks(rt: HostRuntime) {
     splice_is_join();
     untouched_bytes_move();
     splice_has_length();
+    entry_has_one_place();
 }

@@ -1,6 +1,6 @@
 ghost use Rattle.std.specs.Prelude.{◌≡◌, ◌≤◌, ◌↔◌, length, IsTrue, IfOk, IfErr, string_bytes};
 ghost use Rattle.jr_text.specs.Spans.{CanCut, part_of};
-ghost use Rattle.jr_text.specs.Texts.{IsText};
+ghost use Rattle.jr_text.specs.Texts.{IsText, text_limit};
 ghost use Rattle.jr_text.specs.TextFaults.{IsTextFault};
 
 use crate::spans::Span;
@@ -19,12 +19,13 @@ pub struct Text {
 
 impl Model for Text {
     ghost use Rattle.std.specs.Prelude.{List, ℕ, ◌≤◌, length, string_bytes};
+    ghost use Rattle.jr_text.specs.Texts.{text_limit};
 
     ghost Value = { List ℕ };
 
     ghost view = { λ t. string_bytes t.text };
 
-    ghost invariant = { λ t. length (string_bytes t.text) ≤ 1048576 };
+    ghost invariant = { λ t. length (string_bytes t.text) ≤ text_limit };
 }
 
 /// Why bytes are no text.
@@ -54,7 +55,7 @@ impl From<AllocError> for TextFault {
 impl Text {
     // The text that a string is.
     pub(crate) fn of(text: String) -> Text
-        requires { length (string_bytes text) ≤ 1048576 }
+        requires { length (string_bytes text) ≤ text_limit }
         ensures bytes { result ≡ string_bytes text }
         ensures valid { IsText result }
     {
@@ -62,6 +63,8 @@ impl Text {
     }
 
     /// The text with these bytes.
+    ///
+    /// `TooLong` where they are too many, else `NotUtf8` where they aren't UTF-8.
     pub fn new(alloc: Global, bytes: &[u8]) -> Result<Text, TextFault>
         ensures ok { IfOk result (λ text. text ≡ bytes.now) }
         ensures valid { IfOk result IsText }
