@@ -1,0 +1,4 @@
+pub mod Counts
+pub mod Fetch
+pub mod Shelf
+pub mod Sink
