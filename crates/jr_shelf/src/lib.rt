@@ -1,14 +1,20 @@
 //! The outside: where sources are fetched and stored, and where output goes.
 //!
 //! A `Shelf` holds files by their names, and a `Sink` takes bytes. Both count their faults, so that
-//! a caller can tell a fault that happened in a call of its own. `MemoryShelf` and `MemorySink`
-//! keep all in memory and fail where they are told to.
+//! a caller can tell a fault that happened in a call of its own. `DirShelf` and `OutSink` are the
+//! real ones, over files and standard output. `MemoryShelf` and `MemorySink` keep all in memory and
+//! fail where they are told to.
 #![tactic(auto)]
 
+mod dir_shelf;
 mod faults;
+mod out_sink;
 mod shelves;
 mod sinks;
+mod transfers;
 
+pub use dir_shelf::DirShelf;
 pub use faults::{Failed, FetchFault, Memory};
+pub use out_sink::OutSink;
 pub use shelves::{MAX_FILE, Shelf};
 pub use sinks::Sink;

@@ -1,0 +1,2 @@
+mod InPart
+mod KnownLengths
