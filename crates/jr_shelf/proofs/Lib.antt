@@ -1,2 +1,4 @@
 mod InPart
 mod KnownLengths
+mod Lookups
+mod Pools

@@ -11,6 +11,7 @@ mod faults;
 mod out_sink;
 mod shelves;
 mod sinks;
+mod store_logs;
 mod transfers;
 
 pub use dir_shelf::DirShelf;
