@@ -1,6 +1,9 @@
 pub mod Counts
 pub mod Fetch
+pub mod Files
 pub mod LogState
+pub mod MemoryShelf
+pub mod MemoryState
 pub mod Shelf
 pub mod Sink
 pub mod StoreLog

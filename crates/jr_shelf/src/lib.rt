@@ -8,6 +8,8 @@
 
 mod dir_shelf;
 mod faults;
+mod file_lists;
+mod memory_shelf;
 mod out_sink;
 mod shelves;
 mod sinks;
@@ -16,6 +18,8 @@ mod transfers;
 
 pub use dir_shelf::DirShelf;
 pub use faults::{Failed, FetchFault, Memory};
+pub use memory_shelf::MemoryShelf;
 pub use out_sink::OutSink;
 pub use shelves::{MAX_FILE, Shelf};
 pub use sinks::Sink;
+pub use store_logs::MAX_STORES;
