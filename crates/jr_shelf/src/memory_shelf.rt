@@ -98,7 +98,9 @@ impl MemoryShelf {
 }
 
 impl Shelf for MemoryShelf {
-    ghost use Rattle.std.specs.Prelude.{is_err};
+    ghost use Rattle.std.specs.Prelude.{IfOk, IsErr, is_err, length, ◌≤◌};
+    ghost use Rattle.jr_shelf.specs.Fetch.{OnMemory};
+    ghost use Rattle.jr_shelf.specs.Shelf.{Holds, HoldsTooMuch};
     ghost use Rattle.jr_shelf.specs.MemoryState.{store_fails, FetchMayGive, after_fetch, after_store};
     ghost use Rattle.jr_shelf.specs.MemoryShelf.{state_of};
 
@@ -110,7 +112,16 @@ impl Shelf for MemoryShelf {
 
     ghost served = { λ shelf. shelf.served_count };
 
-    fn fetch(&mut self, alloc: Global, name: &str) -> Result<Vec<u8>, FetchFault> {
+    fn fetch(&mut self, alloc: Global, name: &str) -> Result<Vec<u8>, FetchFault>
+        ensures ok { IfOk result (λ bytes. Holds (Some (state_of self.old).held) name.now bytes.items) }
+        ensures within { IfOk result (λ bytes. length bytes.items ≤ MAX_FILE) }
+        ensures not_served { HoldsTooMuch (Some (state_of self.old).held) name.now → IsErr result }
+        ensures memory { OnMemory result (self.new ≡ self.old) }
+
+        // Exactly which fetches fail, and all that a fetch leaves.
+        ensures may { FetchMayGive (state_of self.old) name.now result }
+        ensures after { state_of self.new ≡ after_fetch (state_of self.old) name.now result }
+    {
         match self.answer(alloc, name) {
             Ok(bytes) => {
                 self.last_number = self.last_number.saturating_add(1);
@@ -132,7 +143,11 @@ impl Shelf for MemoryShelf {
         }
     }
 
-    fn store(&mut self, name: &str, bytes: &[u8]) -> Result<(), Failed> {
+    fn store(&mut self, name: &str, bytes: &[u8]) -> Result<(), Failed>
+        // Exactly which stores fail, and all that a store leaves.
+        ensures fails { is_err result ≡ store_fails (state_of self.old) name.now bytes.now }
+        ensures after { state_of self.new ≡ after_store (state_of self.old) name.now bytes.now result }
+    {
         let fails = self.will_not_store(name, bytes);
         self.last_number = self.last_number.saturating_add(1);
         if fails {
