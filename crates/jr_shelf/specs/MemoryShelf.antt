@@ -15,5 +15,5 @@ state_of shelf = record {
   number = shelf.last_number;
   failing = shelf.failing_numbers.items;
   room = shelf.log.room;
-  stores = length shelf.log.entries
+  stores = length shelf.log.entries;
 }

@@ -58,6 +58,6 @@ after_store state name bytes (Ok done) = record state {
   served = raised state.served;
   number = next_number state.number;
   room = state.room - (length name + length bytes);
-  stores = state.stores + 1
+  stores = state.stores + 1;
 }
 after_store state name bytes (Err fault) = record state { number = next_number state.number; faults = raised state.faults }

@@ -9,7 +9,9 @@
 mod dir_shelf;
 mod faults;
 mod file_lists;
+mod in_place;
 mod memory_shelf;
+mod memory_sink;
 mod out_sink;
 mod shelves;
 mod sinks;
@@ -19,6 +21,7 @@ mod transfers;
 pub use dir_shelf::DirShelf;
 pub use faults::{Failed, FetchFault, Memory};
 pub use memory_shelf::MemoryShelf;
+pub use memory_sink::MemorySink;
 pub use out_sink::OutSink;
 pub use shelves::{MAX_FILE, Shelf};
 pub use sinks::Sink;

@@ -1,5 +1,5 @@
 // The stores of a shelf in memory. All their room is taken before the first.
-ghost use Rattle.std.specs.Prelude.{◌≡◌, ◌+◌, ◌-◌, ◌<◌, ◌≤◌, [], ◌∷◌, ◌++◌, length, map, IfOk, IsTrue, vec_len, vec_capacity};
+ghost use Rattle.std.specs.Prelude.{◌≡◌, ◌+◌, ◌-◌, ◌<◌, ◌≤◌, [], ◌∷◌, length, map, IfOk, IsTrue};
 ghost use Rattle.std.specs.List.{list_all};
 ghost use Rattle.std.specs.Option.{option_copied};
 ghost use Rattle.std.specs.Ordering.{nat_cmp};
@@ -7,6 +7,7 @@ ghost use Rattle.std.specs.Cmp.Lexicographic.{slice_cmp};
 ghost use Rattle.std.specs.FinMap.{find};
 ghost use Rattle.jr_shelf.specs.StoreLog.{entry_in, lies_in};
 
+use crate::in_place::append_in_place;
 use std::alloc::{AllocError, Global};
 use std::collections::VecDeque;
 use std::marker::Model;
@@ -95,14 +96,6 @@ impl StoreLog {
     {
         find_stored(&self.entries, self.pool.as_slice(), name)
     }
-}
-
-fn append_in_place(pool: &mut Vec<u8>, bytes: &[u8])
-    requires { vec_len pool.old + length bytes.now ≤ vec_capacity pool.old }
-    ensures items { pool.new.items ≡ pool.old.items ++ bytes.now }
-    ensures capacity { vec_capacity pool.old ≤ vec_capacity pool.new }
-{
-    pool.extend_from_slice(bytes).unwrap();
 }
 
 fn find_stored<'a>(entries: &VecDeque<Stored>, pool: &'a [u8], name: &str) -> Option<&'a [u8]>
