@@ -1,5 +1,5 @@
 -- What callers see of a `MemoryShelf`.
-use Rattle.std.specs.Prelude.{ℕ, ◌++◌, List, String, Vec, length, map, string_bytes}
+use Rattle.std.specs.Prelude.{◌++◌, length, string_bytes}
 use Rattle.std.specs.Option.{option_map}
 use Rattle.std.specs.FinMap.{from_entries}
 use Rattle.jr_shelf.specs.declared.memory_shelf.MemoryShelf.{MemoryShelf}

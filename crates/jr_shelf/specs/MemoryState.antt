@@ -1,5 +1,5 @@
 -- A shelf in memory, as its callers see it: which of its calls fail, and what each call leaves.
-use Rattle.std.specs.Prelude.{◌≡◌, ℕ, ◌+◌, ◌-◌, ◌<◌, ◌≤◌, ◌||◌, Bool, true, false, List, length, nat_lt, nat_le, is_none, Option, Some, None, Result, Ok, Err, IsSomeAnd}
+use Rattle.std.specs.Prelude.{◌≡◌, ℕ, ◌+◌, ◌-◌, ◌<◌, ◌||◌, Bool, true, false, List, length, nat_lt, nat_le, is_none, Option, Some, None, Result, Ok, Err, IsSomeAnd}
 use Rattle.std.specs.FinMap as map
 use Rattle.jr_shelf.specs.declared.faults.FetchFault.{FetchFault}
 use Rattle.jr_shelf.specs.declared.faults.FetchFault.TheVariants.{Failed, TooLong, Memory}

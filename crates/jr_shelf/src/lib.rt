@@ -19,6 +19,7 @@ mod store_logs;
 mod transfers;
 
 pub use dir_shelf::DirShelf;
+pub use file_lists::names_differ;
 pub use faults::{Failed, FetchFault, Memory};
 pub use memory_shelf::MemoryShelf;
 pub use memory_sink::MemorySink;

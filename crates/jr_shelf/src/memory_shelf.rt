@@ -25,11 +25,11 @@ pub struct MemoryShelf {
 }
 
 impl MemoryShelf {
-    ghost use Rattle.std.specs.Prelude.{IfOk, length, map, ◌≤◌};
+    ghost use Rattle.std.specs.Prelude.{IfOk, IsTrue, length, ◌≤◌};
     ghost use Rattle.std.specs.Option.{option_copied};
     ghost use Rattle.std.specs.FinMap.{get, from_entries};
     ghost use Rattle.jr_shelf.specs.Counts.{next_number, fails_next};
-    ghost use Rattle.jr_shelf.specs.Files.{NamesDiffer, entries_of};
+    ghost use Rattle.jr_shelf.specs.Files.{names_differ, entries_of};
     ghost use Rattle.jr_shelf.specs.MemoryState.{new_state, store_fails, FetchMayGive};
     ghost use Rattle.jr_shelf.specs.MemoryShelf.{state_of};
 
@@ -41,7 +41,7 @@ impl MemoryShelf {
         failing: Vec<u32>,
         room: u32,
     ) -> Result<MemoryShelf, Memory>
-        requires { NamesDiffer files.items }
+        requires { IsTrue (names_differ (entries_of files.items)) }
         ensures { IfOk result (λ shelf. state_of shelf ≡ new_state (from_entries (entries_of files.items)) failing.items room) }
     {
         let log = StoreLog::with_room(alloc, room)?;
