@@ -1,3 +1,4 @@
+mod Examples
 mod InPart
 mod KnownLengths
 mod Lookups

@@ -16,11 +16,13 @@ mod out_sink;
 mod shelves;
 mod sinks;
 mod store_logs;
+#[cfg(test)]
+mod tests;
 mod transfers;
 
 pub use dir_shelf::DirShelf;
-pub use file_lists::names_differ;
 pub use faults::{Failed, FetchFault, Memory};
+pub use file_lists::names_differ;
 pub use memory_shelf::MemoryShelf;
 pub use memory_sink::MemorySink;
 pub use out_sink::OutSink;
