@@ -36,6 +36,7 @@ impl Model for StoreLog {
     ghost use Rattle.std.specs.Prelude.{◌+◌, ◌≤◌, length, map, IsTrue, vec_len, vec_capacity};
     ghost use Rattle.std.specs.List.{list_all};
     ghost use Rattle.std.specs.VecDeque.{deque_len, deque_capacity};
+    ghost use Rattle.jr_shelf.specs.declared.store_logs.TheConstants.{MAX_STORES};
     ghost use Rattle.jr_shelf.specs.LogState.{LogState};
     ghost use Rattle.jr_shelf.specs.StoreLog.{entry_in, lies_in};
 
@@ -44,7 +45,7 @@ impl Model for StoreLog {
     ghost view = { λ log. record { entries = map (entry_in log.pool.items) log.entries.items; room = log.room } };
 
     ghost invariant = { λ log. (vec_len log.pool + log.room ≤ vec_capacity log.pool)
-        × (1024 ≤ deque_capacity log.entries)
+        × (MAX_STORES ≤ deque_capacity log.entries)
         × IsTrue (list_all (lies_in (length log.pool.items)) log.entries.items) };
 }
 

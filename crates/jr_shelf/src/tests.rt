@@ -3,6 +3,7 @@ use crate::{
     DirShelf, FetchFault, MAX_FILE, MAX_STORES, MemoryShelf, MemorySink, OutSink, Shelf, Sink,
     names_differ,
 };
+use std::fmt::Display;
 use std::io::{Error, ErrorKind, Read, Result as IoResult, Write};
 use std::test::Fail;
 use std::{env, fs, process};
@@ -117,6 +118,25 @@ fn real_files(rt: HostRuntime) -> Result<(), Fail> {
 #[test]
 fn standard_output(rt: HostRuntime) {
     assert!(rt; OutSink::new(rt).put(b"put\n").is_ok());
+    assert!(rt; OutSink::new(Closed).put(b"put\n").is_err());
+}
+
+// An output that was closed.
+#[derive(Clone, Copy)]
+struct Closed;
+
+impl Print for Closed {
+    fn print<D: Display + Drop>(&self, _value: D) -> IoResult<()> {
+        self.write_all(b"")
+    }
+
+    fn println<D: Display + Drop>(&self, _value: D) -> IoResult<()> {
+        self.write_all(b"")
+    }
+
+    fn write_all(&self, _bytes: &[u8]) -> IoResult<()> {
+        Err(Error::from(ErrorKind::BrokenPipe))
+    }
 }
 
 // What happens at each call, in turn: some bytes are moved, or a fault comes.

@@ -1,6 +1,7 @@
 // Loops over `read` and `write` to the end of the input and of the bytes.
-ghost use Rattle.std.specs.Prelude.{◌≡◌, ℕ, ◌<◌, ◌≤◌, ◌++◌, length, take, IfOk, OnOk, OnErr, IfSome};
+ghost use Rattle.std.specs.Prelude.{◌≡◌, ℕ, ◌<◌, ◌≤◌, ◌↔◌, ◌++◌, length, take, IfOk, IsTrue, OnOk, OnErr, IfSome};
 ghost use Rattle.std.specs.Io.KnownBytes.{Appends};
+ghost use Rattle.std.specs.IoError.{error_kind};
 ghost use Rattle.jr_shelf.specs.Fetch.{OnTooLong};
 
 use crate::{Failed, FetchFault, MAX_FILE};
@@ -44,12 +45,16 @@ fn append(bytes: &mut Vec<u8>, piece: &[u8]) -> Result<(), FetchFault>
     Ok(())
 }
 
-fn is_interrupted(fault: &Error) -> bool {
+fn is_interrupted(fault: &Error) -> bool
+    ensures { IsTrue result ↔ (error_kind fault.now ≡ ErrorKind.Interrupted) }
+{
     fault.kind() == ErrorKind::Interrupted
 }
 
 /// Whether the system had no memory.
-pub fn is_out_of_memory(fault: &Error) -> bool {
+pub fn is_out_of_memory(fault: &Error) -> bool
+    ensures { IsTrue result ↔ (error_kind fault.now ≡ ErrorKind.OutOfMemory) }
+{
     fault.kind() == ErrorKind::OutOfMemory
 }
 
