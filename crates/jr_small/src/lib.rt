@@ -6,8 +6,12 @@ mod bound;
 mod declared;
 mod occurrences;
 mod phases;
+mod plans;
 mod reader;
+mod refusals;
 mod tables;
 mod tokens;
 
 pub use occurrences::{Occurrence, Role};
+pub use plans::{Outcome, rename};
+pub use refusals::{Declaration, Refusal, SourceKind};
