@@ -6,3 +6,4 @@ pub mod Steps
 pub mod Walks
 pub mod Lookups
 pub mod WellBound
+pub mod Checks
