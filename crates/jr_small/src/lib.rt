@@ -4,6 +4,7 @@
 
 mod bound;
 mod declared;
+mod methods;
 mod occurrences;
 mod phases;
 mod plans;
