@@ -1,0 +1,7 @@
+pub mod Tokens
+pub mod Spelling
+pub mod Shape
+pub mod Readings
+pub mod Pieces
+pub mod Machine
+pub mod Runs
