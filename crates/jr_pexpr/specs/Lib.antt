@@ -4,4 +4,5 @@ pub mod Shape
 pub mod Readings
 pub mod Pieces
 pub mod Machine
+pub mod Bare
 pub mod Runs

@@ -1,0 +1,5 @@
+pub mod Spell
+pub mod Scans
+pub mod Found
+pub mod Levels
+pub mod Complete
