@@ -3,3 +3,5 @@ pub mod Scans
 pub mod Found
 pub mod Levels
 pub mod Complete
+pub mod PieceTokens
+pub mod Sound
