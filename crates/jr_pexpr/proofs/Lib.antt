@@ -5,3 +5,5 @@ pub mod Levels
 pub mod Complete
 pub mod PieceTokens
 pub mod Sound
+pub mod Reading
+pub mod Statements
