@@ -6,4 +6,5 @@ pub mod Complete
 pub mod PieceTokens
 pub mod Sound
 pub mod Reading
+pub mod Opens
 pub mod Statements

@@ -65,3 +65,13 @@ bare_whole s = whole no_join s
 
 abbrev pub bare_run : State Bare → List Token → Option (State Bare)
 bare_run s ts = run (State Bare) Token (Exp Bare) bare_step bare_whole s ts
+
+-- the same for statement expressions
+abbrev pub bare_statement_step : State Bare → Token → Option (State Bare)
+bare_statement_step s t = statement_step no_join s tt t
+
+abbrev pub bare_statement_whole : State Bare → Option (Exp Bare)
+bare_statement_whole s = statement_whole no_join s
+
+abbrev pub bare_statement_run : State Bare → List Token → Option (State Bare)
+bare_statement_run s ts = run (State Bare) Token (Exp Bare) bare_statement_step bare_statement_whole s ts
