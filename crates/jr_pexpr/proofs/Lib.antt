@@ -8,3 +8,4 @@ pub mod Sound
 pub mod Reading
 pub mod Opens
 pub mod Statements
+pub mod Erase
