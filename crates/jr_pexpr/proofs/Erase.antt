@@ -79,13 +79,13 @@ level_of-bare (assign m t e) = refl
 level_of-bare (compound m o t e) = refl
 level_of-bare _ = refl
 
-is_target-bare : {A : Type 0} (e : Exp A) → is_target (bare e) ≡ is_target e
+pub is_target-bare : {A : Type 0} (e : Exp A) → is_target (bare e) ≡ is_target e
 is_target-bare (name m w) = refl
 is_target-bare (field m e w) = refl
 is_target-bare (super_field m w) = refl
 is_target-bare _ = refl
 
-is_statement-bare : {A : Type 0} (e : Exp A) → is_statement (bare e) ≡ is_statement e
+pub is_statement-bare : {A : Type 0} (e : Exp A) → is_statement (bare e) ≡ is_statement e
 is_statement-bare (assign m t e) = refl
 is_statement-bare (compound m o t e) = refl
 is_statement-bare (bump m o e) = refl

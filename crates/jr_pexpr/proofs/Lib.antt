@@ -9,3 +9,4 @@ pub mod Reading
 pub mod Opens
 pub mod Statements
 pub mod Erase
+pub mod EraseSteps
