@@ -10,3 +10,5 @@ pub mod Opens
 pub mod Statements
 pub mod Erase
 pub mod EraseSteps
+pub mod Placing
+pub mod Places

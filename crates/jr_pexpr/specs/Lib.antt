@@ -5,4 +5,6 @@ pub mod Readings
 pub mod Pieces
 pub mod Machine
 pub mod Bare
+pub mod Stands
+pub mod Marked
 pub mod Runs
