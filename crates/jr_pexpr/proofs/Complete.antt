@@ -1,23 +1,21 @@
 -- The machine reads every shaped tree.
-use Rattle.std.proofs.Common.{◌≡◌, ℕ, zero, suc, ◌+◌, ◌<◌, ◌≤◌, Bool, true, false, cond, ltb, List, [], ◌∷◌, ◌++◌, Option, Some, None, refl, sym, ap, subst, ◌∙◌, arith}
+use Rattle.std.proofs.Common.{◌≡◌, ℕ, ◌<◌, ◌≤◌, Bool, true, false, List, [], ◌∷◌, Option, Some, None, refl, sym, ap, ◌∙◌, arith}
 use Rattle.std.specs.Prelude.{option_and_then}
 use Rattle.std.proofs.lemmas.Bool.{lt-ltb, le-ltb}
-use Rattle.jr_lex.specs.declared.items.Keyword.TheVariants.{Class, New, Super, This, Null}
+use Rattle.jr_lex.specs.declared.items.Keyword.TheVariants.{Class, New, Super}
 use Rattle.jr_lex.specs.declared.items.Symbol.TheVariants.{OpenParen, CloseParen, Comma, Dot, Equals, PlusPlus, MinusMinus}
-use Rattle.jr_ast.specs.declared.operators.UnOp.{UnOp}
 use Rattle.jr_ast.specs.declared.operators.UnOp.TheVariants.{Plus, Minus, Not}
 use Rattle.jr_ast.specs.declared.operators.BinOp.{BinOp}
-use Rattle.jr_ast.specs.declared.operators.BinOp.TheVariants.{Or, And, Eq, Ne, Lt, Gt, Le, Ge, Add, Sub, Mul, Div, Rem}
-use Rattle.jr_ast.specs.declared.operators.BumpOp.{BumpOp}
+use Rattle.jr_ast.specs.declared.operators.BinOp.TheVariants.{Or, Add, Sub, Mul, Div, Rem}
 use Rattle.jr_ast.specs.declared.operators.BumpOp.TheVariants.{PreInc, PreDec, PostInc, PostDec}
-use Rattle.jr_ast.specs.Tree.{Word, TypeName, int, boolean, named, Exp, number, truth, null, string, name, field, super_field, this, class_literal, call, super_call, create, paren, cast, unary, bump, binary, assign, compound, Target, no_target, on, Exps, end, more}
-use Rattle.jr_pexpr.specs.Tokens.{Token, word, keyword, integer, text, symbol}
-use Rattle.jr_pexpr.specs.Spelling.{unary_symbol, binary_symbol, compound_symbol, truth_keyword}
-use Rattle.jr_pexpr.specs.Shape.{rank_of, unary_level, bump_level, level_of, IsTarget, IsCompound, IsNamed, ShapedBehind, ShapedTarget, AllShaped, greatest, FitsInt, is_minus}
-use Rattle.jr_pexpr.specs.Pieces.{Way, up, down, way_symbol, Atom, a_number, a_truth, a_null, a_string, a_this, Piece, a_word, an_atom, a_super, a_new, a_class, an_open, a_close, a_comma, a_dot, a_bang, a_bump, an_operator, an_equals, a_compound, piece_of}
-use Rattle.jr_pexpr.specs.Machine.{Head, call_head, super_head, create_head, Frame, in_unary, in_bump, in_binary, in_assign, in_compound, in_cast, in_paren, in_args, State, want, have, dotted, at_super, super_dotted, at_new, new_named, new_dotted, with_last, in_front, behind, binds, needs, needed, behind_minus, plug, fits, reduced, operated, closed, continued, applied, at_most, is_target, assigned, bumped, begun, cast_of, casted, name_type, extended, stepped}
-use Rattle.jr_pexpr.specs.Bare.{Bare, no_join, bare_step, bare_run, bare_whole}
-use Rattle.jr_pexpr.proofs.Spell.{spell, spell_type, spell_target, spell_args, spell_more}
+use Rattle.jr_ast.specs.Tree.{Word, TypeName, int, boolean, named, Exp, number, truth, null, string, name, field, super_field, this, class_literal, call, super_call, create, paren, cast, unary, bump, binary, assign, compound, no_target, on, Exps, end, more}
+use Rattle.jr_pexpr.specs.Tokens.{Token, word, keyword, symbol}
+use Rattle.jr_pexpr.specs.Spelling.{binary_symbol, compound_symbol}
+use Rattle.jr_pexpr.specs.Shape.{rank_of, level_of, IsTarget, IsCompound, IsNamed, ShapedBehind, AllShaped, is_minus}
+use Rattle.jr_pexpr.specs.Pieces.{Way, up, down, way_symbol, a_number, a_truth, a_null, a_string, a_this, Piece, a_word, an_atom, a_super, a_new, an_open, a_bang}
+use Rattle.jr_pexpr.specs.Machine.{Head, call_head, super_head, create_head, Frame, in_unary, in_bump, in_binary, in_assign, in_compound, in_cast, in_paren, in_args, State, want, have, dotted, with_last, behind, binds, needs, needed, behind_minus, plug, fits, reduced, operated, closed, continued, applied, assigned, begun, cast_of, casted, name_type, extended}
+use Rattle.jr_pexpr.specs.Bare.{Bare, no_join, bare_step, bare_run}
+use Rattle.jr_pexpr.proofs.Spell.{spell, spell_type, spell_args, spell_more}
 use Rattle.jr_pexpr.proofs.Levels.{rank_low, unary_low, bump_low, level_pos, needed_low, target_level, target_true, at_most_is, number_fits}
 
 -- ---- what stands on the stack once a tree is read

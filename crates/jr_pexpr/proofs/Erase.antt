@@ -1,20 +1,13 @@
 -- Spelling, shape and the machine's steps don't depend on marks.
-use Rattle.std.proofs.Common.{◌≡◌, ℕ, ◌+◌, ◌<◌, ◌≤◌, Bool, true, false, cond, ltb, List, [], ◌∷◌, ◌++◌, Option, Some, None, refl, sym, ap, subst, ◌∙◌, arith}
-use Rattle.std.specs.Prelude.{option_map, option_and_then}
+use Rattle.std.proofs.Common.{◌≡◌, ◌<◌, ◌≤◌, Bool, false, List, [], ◌∷◌, ◌++◌, Option, Some, None, refl, ap}
 use Rattle.jr_lex.specs.declared.items.Keyword.TheVariants.{Class, New, Super}
 use Rattle.jr_lex.specs.declared.items.Symbol.TheVariants.{OpenParen, CloseParen, Comma, Dot, Equals}
-use Rattle.jr_ast.specs.declared.operators.UnOp.TheVariants.{Plus, Minus, Not}
-use Rattle.jr_ast.specs.declared.operators.BinOp.{BinOp}
-use Rattle.jr_ast.specs.declared.operators.BinOp.TheVariants.{Add, Sub}
-use Rattle.jr_ast.specs.declared.operators.BumpOp.{BumpOp}
-use Rattle.jr_ast.specs.declared.operators.BumpOp.TheVariants.{PreInc, PreDec, PostInc, PostDec}
 use Rattle.jr_ast.specs.Tree.{Word, TypeName, int, boolean, named, Exp, number, truth, null, string, name, field, super_field, this, class_literal, call, super_call, create, paren, cast, unary, bump, binary, assign, compound, Target, no_target, on, Exps, end, more}
 use Rattle.jr_pexpr.specs.Tokens.{Token, word, keyword, symbol}
 use Rattle.jr_pexpr.specs.Spelling.{unary_symbol, binary_symbol, compound_symbol, bump_toks, name_toks, type_toks, toks, target_toks, args_toks, more_toks}
-use Rattle.jr_pexpr.specs.Shape.{rank_of, level_of, IsTarget, IsCompound, IsNamed, ShapedBehind, ShapedTarget, AllShaped, IsStatementForm, ShapedStatement, is_minus, behind_of}
-use Rattle.jr_pexpr.specs.Pieces.{Way, Atom, a_number, a_truth, a_null, a_string, a_this, Piece, a_word, an_atom, a_super, a_new, a_class, an_open, a_close, a_comma, a_dot, a_bang, a_bump, an_operator, an_equals, a_compound, piece_of}
-use Rattle.jr_pexpr.specs.Machine.{Head, call_head, super_head, create_head, Frame, in_unary, in_bump, in_binary, in_assign, in_compound, in_cast, in_paren, in_args, State, want, have, dotted, at_super, super_dotted, at_new, new_named, new_dotted, marked, mark_of, with_last, behind, binds, needed, behind_minus, plug, fits, applied, reduced, operated, closed, continued, at_most, atom_exp, atom_fits, signed, emptied, begun, name_type, cast_frame, cast_of, casted, opened, is_target, is_compound, assigned, bumped, extended, literal_of, member, behind_super, super_member, behind_new, new_outer, behind_new_name, new_inner, stepped, step, whole_of, whole, is_bottom, is_open, frames_of, kept_open, statement_step, is_statement, kept_statement, statement_whole}
-use Rattle.jr_pexpr.specs.Bare.{Bare, no_join, bare_word, bare_outer, bare_type, bare, bare_target, bare_args, bare_head, bare_frame, bare_stack, bare_state, bare_step, bare_whole, bare_statement_step, bare_statement_whole}
+use Rattle.jr_pexpr.specs.Shape.{rank_of, level_of, IsTarget, IsCompound, IsNamed, ShapedBehind, ShapedTarget, AllShaped, IsStatementForm, is_minus, behind_of}
+use Rattle.jr_pexpr.specs.Machine.{is_target, is_statement}
+use Rattle.jr_pexpr.specs.Bare.{bare_word, bare_outer, bare_type, bare, bare_target, bare_args}
 
 -- ---- spelling
 

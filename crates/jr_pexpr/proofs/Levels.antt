@@ -1,16 +1,16 @@
 -- Levels of expressions, and of what waits for them.
-use Rattle.std.proofs.Common.{◌≡◌, ℕ, ◌+◌, ◌<◌, ◌≤◌, Bool, true, false, cond, ltb, List, [], ◌∷◌, Option, Some, None, refl, arith}
+use Rattle.std.proofs.Common.{◌≡◌, ℕ, ◌≤◌, Bool, true, List, [], ◌∷◌, Some, refl, arith}
 use Rattle.std.proofs.lemmas.Bool.{le-ltb}
 use Rattle.jr_ast.specs.declared.operators.UnOp.{UnOp}
 use Rattle.jr_ast.specs.declared.operators.UnOp.TheVariants.{Plus, Minus, Not}
 use Rattle.jr_ast.specs.declared.operators.BinOp.{BinOp}
-use Rattle.jr_ast.specs.declared.operators.BinOp.TheVariants.{Or, And, Eq, Ne, Lt, Gt, Le, Ge, Add, Sub, Mul, Div, Rem}
+use Rattle.jr_ast.specs.declared.operators.BinOp.TheVariants.{Or, Add, Sub, Mul, Div, Rem}
 use Rattle.jr_ast.specs.declared.operators.BumpOp.{BumpOp}
 use Rattle.jr_ast.specs.declared.operators.BumpOp.TheVariants.{PreInc, PreDec, PostInc, PostDec}
-use Rattle.jr_ast.specs.Tree.{Exp, number, truth, null, string, name, field, super_field, this, class_literal, call, super_call, create, paren, cast, unary, bump, binary, assign, compound}
+use Rattle.jr_ast.specs.Tree.{Exp, number, name, field, super_field, cast, unary, bump, binary, assign, compound}
 use Rattle.jr_pexpr.specs.Shape.{rank_of, unary_level, bump_level, level_of, IsTarget, IsCompound, greatest, FitsInt}
 use Rattle.jr_pexpr.specs.Pieces.{a_number}
-use Rattle.jr_pexpr.specs.Machine.{Frame, in_unary, in_bump, in_binary, in_assign, in_compound, in_cast, in_paren, in_args, State, needs, needed, is_target, is_compound, fits, at_most, atom_fits}
+use Rattle.jr_pexpr.specs.Machine.{Frame, in_unary, in_bump, in_binary, in_assign, in_compound, in_cast, in_paren, in_args, State, needed, is_target, is_compound, at_most, atom_fits}
 
 pub rank_low : (o : BinOp) → (2 ≤ rank_of o) × (rank_of o ≤ 7)
 rank_low Or = omega arith

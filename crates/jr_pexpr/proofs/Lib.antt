@@ -12,3 +12,5 @@ pub mod Erase
 pub mod EraseSteps
 pub mod Placing
 pub mod Places
+pub mod Maps
+pub mod Marks

@@ -1,9 +1,9 @@
 -- A token is the token of its piece.
-use Rattle.std.proofs.Common.{◌≡◌, refl, true, false}
+use Rattle.std.proofs.Common.{◌≡◌, refl}
 use Rattle.jr_lex.specs.declared.items.Keyword.{Keyword}
 use Rattle.jr_lex.specs.declared.items.Keyword.TheVariants.{Class, New, Super, This, True, False, Null}
 use Rattle.jr_lex.specs.declared.items.Symbol.{Symbol}
-use Rattle.jr_lex.specs.declared.items.Symbol.TheVariants.{OpenParen, CloseParen, Comma, Dot, Equals, Bang, Plus, Minus, PlusPlus, MinusMinus, BarBar, AndAnd, EqualEqual, NotEqual, Less, Greater, LessEqual, GreaterEqual, Star, Slash, Percent, PlusEquals, MinusEquals, StarEquals, SlashEquals, PercentEquals}
+use Rattle.jr_lex.specs.declared.items.Symbol.TheVariants.{OpenParen}
 use Rattle.jr_pexpr.specs.Tokens.{Token, word, keyword, integer, text, symbol}
 use Rattle.jr_pexpr.specs.Pieces.{keyword_piece, symbol_piece, piece_of, piece_token}
 

@@ -1,25 +1,25 @@
 -- Each mark that the machine makes goes from the first to the last of the tokens that its node spells.
-use Rattle.std.proofs.Common.{◌≡◌, ℕ, ◌+◌, ◌<◌, ◌≤◌, Bool, true, false, cond, ltb, List, [], ◌∷◌, ◌++◌, Option, Some, None, refl, sym, ap, subst, ◌∙◌, append_assoc, arith}
-use Rattle.std.specs.Prelude.{option_and_then, option_map, IfSome}
-use Rattle.std.proofs.lemmas.Bool.{ltb-true, ltb-false, cond_both}
+use Rattle.std.proofs.Common.{◌≡◌, ℕ, ◌≤◌, cond, ltb, List, [], ◌∷◌, ◌++◌, Option, Some, None, refl, sym, ap, ◌∙◌, append_assoc, arith}
+use Rattle.std.specs.Prelude.{IfSome}
+use Rattle.std.proofs.lemmas.Bool.{ltb-false, cond_both}
 use Rattle.std.proofs.lemmas.List.{append-nil}
 use Rattle.jr_text.specs.declared.spans.Span.{Span}
-use Rattle.jr_lex.specs.declared.items.Keyword.TheVariants.{Class, New, Super}
-use Rattle.jr_lex.specs.declared.items.Symbol.TheVariants.{OpenParen, CloseParen, Comma, Dot, Equals}
+use Rattle.jr_lex.specs.declared.items.Keyword.TheVariants.{Class}
+use Rattle.jr_lex.specs.declared.items.Symbol.TheVariants.{OpenParen, CloseParen, Comma, Dot}
 use Rattle.jr_ast.specs.declared.operators.UnOp.TheVariants.{Plus, Minus, Not}
 use Rattle.jr_ast.specs.declared.operators.BinOp.{BinOp}
 use Rattle.jr_ast.specs.declared.operators.BinOp.TheVariants.{Add, Sub}
-use Rattle.jr_ast.specs.Tree.{Word, TypeName, int, boolean, named, Exp, number, truth, null, string, name, field, super_field, this, class_literal, call, super_call, create, paren, cast, unary, bump, binary, assign, compound, Target, no_target, on, Exps, end, more}
-use Rattle.jr_pexpr.specs.Tokens.{Token, word, keyword, symbol, Placed}
-use Rattle.jr_pexpr.specs.Spelling.{unary_symbol, binary_symbol, compound_symbol}
+use Rattle.jr_ast.specs.Tree.{Word, TypeName, named, Exp, name, field, super_field, paren, bump, end}
+use Rattle.jr_pexpr.specs.Tokens.{keyword, symbol, Placed}
+use Rattle.jr_pexpr.specs.Spelling.{binary_symbol}
 use Rattle.jr_pexpr.specs.Shape.{rank_of, level_of}
 use Rattle.jr_pexpr.specs.Pieces.{Way, up, down, way_symbol, Atom, a_number, a_truth, a_null, a_string, a_this, Piece, a_word, an_atom, a_super, a_new, a_class, an_open, a_close, a_comma, a_dot, a_bang, a_bump, an_operator, an_equals, a_compound, piece_of, piece_token}
-use Rattle.jr_pexpr.specs.Machine.{Head, call_head, super_head, create_head, Frame, in_unary, in_bump, in_binary, in_assign, in_compound, in_cast, in_paren, in_args, State, want, have, dotted, at_super, super_dotted, at_new, new_named, new_dotted, mark_of, with_last, behind, binds, needed, behind_minus, plug, fits, applied, reduced, operated, closed, continued, at_most, atom_exp, atom_fits, signed, emptied, begun, name_type, cast_frame, cast_of, casted, opened, is_target, is_compound, assigned, bumped, extended, literal_of, member, behind_super, super_member, behind_new, new_outer, behind_new_name, new_inner, stepped, step}
-use Rattle.jr_pexpr.specs.Stands.{Tokens, first_from, last_to, span_of, Is, IsAlone, StandsWord, StandsName, StandsType, StandsCast, StandsSuper, StandsNew, Stands, StandsCall, StandArgs, StandMore}
+use Rattle.jr_pexpr.specs.Machine.{Frame, in_unary, in_bump, in_assign, in_compound, in_paren, in_args, State, want, have, dotted, at_super, super_dotted, at_new, new_named, new_dotted, mark_of, with_last, behind, binds, needed, behind_minus, plug, fits, reduced, operated, closed, continued, at_most, atom_exp, atom_fits, signed, emptied, begun, name_type, cast_frame, cast_of, casted, opened, is_target, is_compound, assigned, bumped, extended, literal_of, member, behind_super, super_member, behind_new, new_outer, behind_new_name, new_inner, stepped}
+use Rattle.jr_pexpr.specs.Stands.{Tokens, first_from, span_of, Is, StandsType, Stands}
 use Rattle.jr_pexpr.specs.Marked.{join, span_step}
 use Rattle.jr_pexpr.proofs.Levels.{rank_low}
 use Rattle.jr_pexpr.proofs.PieceTokens.{piece_back}
-use Rattle.jr_pexpr.proofs.Placing.{IsMore, is_more, more_append, more_after, first_from-append, span_parts, to_last, stands_mark, stands_more, StandDone, StandsHead, StandsFrame, StandsStack, StandsState, stands_plug, args_last, done_last, applied_stands}
+use Rattle.jr_pexpr.proofs.Placing.{is_more, first_from-append, to_last, stands_mark, stands_more, StandsFrame, StandsStack, StandsState, stands_plug, args_last, done_last, applied_stands}
 
 abbrev Spans : Type 0
 Spans = List (Frame Span)

@@ -1,25 +1,23 @@
 -- What the machine answers is the longest expression, and where it stops.
-use Rattle.std.proofs.Common.{◌≡◌, ℕ, zero, suc, ◌+◌, ◌<◌, ◌≤◌, Bool, true, false, cond, ltb, List, [], ◌∷◌, ◌++◌, Option, Some, None, refl, sym, ap, subst, ◌∙◌, arith, ◌⊎◌, inl, inr}
-use Rattle.std.specs.Prelude.{option_and_then, option_map, IfSome}
+use Rattle.std.proofs.Common.{◌≡◌, ℕ, ◌<◌, ◌≤◌, true, false, List, [], ◌∷◌, ◌++◌, Option, Some, None, refl, sym, ap, subst, ◌∙◌, arith, ◌⊎◌, inl, inr}
+use Rattle.std.specs.Prelude.{option_and_then}
 use Rattle.std.proofs.lemmas.List.{append-nil}
 use Rattle.std.proofs.lemmas.Bool.{cases_lt}
-use Rattle.jr_lex.specs.declared.items.Keyword.TheVariants.{Super, New}
 use Rattle.jr_lex.specs.declared.items.Symbol.TheVariants.{OpenParen, CloseParen, Dot}
 use Rattle.jr_ast.specs.declared.operators.BumpOp.TheVariants.{PreInc, PreDec, PostInc, PostDec}
-use Rattle.jr_ast.specs.Tree.{Word, TypeName, named, Exp, name, field, super_field, call, super_call, create, paren, cast, unary, bump, binary, assign, compound, Target, no_target, on, Exps, end}
-use Rattle.jr_pexpr.specs.Tokens.{Token, word, keyword, symbol}
+use Rattle.jr_ast.specs.Tree.{Word, named, Exp, name, field, super_field, create, paren, cast, unary, bump, binary, assign, compound, end}
+use Rattle.jr_pexpr.specs.Tokens.{Token, word, symbol}
 use Rattle.jr_pexpr.specs.Spelling.{toks}
-use Rattle.jr_pexpr.specs.Shape.{level_of, IsTarget, IsNamed, ShapedBehind, Shaped, AllShaped, IsStatementForm}
-use Rattle.jr_pexpr.specs.Readings.{OneTree, Begins, IsPrefix, IsLongest, HasNone, IsStop}
-use Rattle.jr_pexpr.specs.Runs.{run, longest, stop_of}
+use Rattle.jr_pexpr.specs.Shape.{level_of, IsTarget, ShapedBehind, Shaped, IsStatementForm}
+use Rattle.jr_pexpr.specs.Readings.{Begins}
 use Rattle.jr_pexpr.specs.Pieces.{up, down}
-use Rattle.jr_pexpr.specs.Machine.{Head, call_head, super_head, create_head, Frame, in_unary, in_bump, in_binary, in_assign, in_compound, in_cast, in_paren, in_args, State, want, have, dotted, at_super, super_dotted, at_new, new_named, new_dotted, with_last, needed, behind_minus, binds, plug, fits, applied, reduced, whole_of, is_bottom, is_open, frames_of}
-use Rattle.jr_pexpr.specs.Bare.{Bare, no_join, bare_step, bare_run, bare_whole}
-use Rattle.jr_pexpr.proofs.Spell.{spell, spell_type, spell-is}
+use Rattle.jr_pexpr.specs.Machine.{Frame, in_unary, in_bump, in_binary, in_assign, in_compound, in_cast, in_paren, in_args, State, want, have, dotted, at_super, super_dotted, at_new, new_named, new_dotted, with_last, needed, behind_minus, binds, plug, fits, applied, reduced, whole_of, is_bottom, is_open, frames_of}
+use Rattle.jr_pexpr.specs.Bare.{Bare, no_join, bare_run, bare_whole}
+use Rattle.jr_pexpr.proofs.Spell.{spell, spell-is}
 use Rattle.jr_pexpr.proofs.Levels.{rank_low, unary_low, level_pos, needed_low, target_true}
 use Rattle.jr_pexpr.proofs.Complete.{Frames, tops, tip, unwound, complete}
-use Rattle.jr_pexpr.proofs.Sound.{Good, GoodTip, GoodStack, GoodFrame, IsTip, tip_level, Plugs, plugs, gives, IsEnded, Ended, SameText, spell_state, spell_stack, spell_head, spell_reduced, reduced_ended, spell_args-with_last, AllShaped-with_last, spell_applied, applied_level, applied_shaped, RunSound, run_sound}
-use Rattle.jr_pexpr.proofs.Found.{at_some, both_some}
+use Rattle.jr_pexpr.proofs.Sound.{Good, GoodTip, GoodStack, IsTip, plugs, gives, IsEnded, SameText, spell_state, spell_stack, spell_head, spell_reduced, reduced_ended, spell_args-with_last, AllShaped-with_last, spell_applied, applied_level, applied_shaped, RunSound, run_sound}
+use Rattle.jr_pexpr.proofs.Found.{at_some}
 
 -- ---- a tree read from nothing
 
@@ -155,8 +153,8 @@ ends (in_args c es ∷ fs) e g h n t =
       tree = k.tree;
       shaped = k.shaped;
       spelled = λ x.
-      ap (λ (y : List Token). spell_stack fs (spell_head c y)) (sym (spell_args-with_last es e (symbol CloseParen ∷ symbol Dot ∷ word a ∷ (k.rest ++ x))))
-      ∙ ap (spell_stack fs) (sym (spell_applied c (with_last es e) (symbol Dot ∷ word a ∷ (k.rest ++ x)))) ∙ k.spelled x;
+          ap (λ (y : List Token). spell_stack fs (spell_head c y)) (sym (spell_args-with_last es e (symbol CloseParen ∷ symbol Dot ∷ word a ∷ (k.rest ++ x))))
+          ∙ ap (spell_stack fs) (sym (spell_applied c (with_last es e) (symbol Dot ∷ word a ∷ (k.rest ++ x)))) ∙ k.spelled x;
       top = λ o. k.top (topped_next (in_args c es) fs d (λ _. inr (omega arith)) o);
     }
 ends (in_unary m o ∷ fs) e g h n t = plugged (in_unary m o) fs e (omega (arith, unary_low o)) g h n t (λ d p q r. ends fs d g.2 p q r)

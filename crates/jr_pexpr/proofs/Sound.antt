@@ -1,24 +1,22 @@
 -- What the machine has read is what stands on its stack.
-use Rattle.std.proofs.Common.{◌≡◌, ℕ, zero, suc, ◌+◌, ◌<◌, ◌≤◌, Bool, true, false, cond, ltb, List, [], ◌∷◌, ◌++◌, Option, Some, None, refl, sym, ap, subst, ◌∙◌, append_assoc, arith}
-use Rattle.std.specs.Prelude.{option_and_then, option_map, IfSome}
-use Rattle.std.proofs.lemmas.Bool.{lt-ltb, le-ltb, ltb-true, ltb-false, cond_both}
-use Rattle.jr_lex.specs.declared.items.Keyword.TheVariants.{Class, New, Super, This, Null}
+use Rattle.std.proofs.Common.{◌≡◌, ℕ, ◌<◌, ◌≤◌, Bool, true, false, cond, ltb, List, [], ◌∷◌, ◌++◌, Option, Some, None, refl, sym, ap, subst, ◌∙◌, arith}
+use Rattle.std.specs.Prelude.{option_and_then, IfSome}
+use Rattle.std.proofs.lemmas.Bool.{ltb-true, ltb-false, cond_both}
+use Rattle.jr_lex.specs.declared.items.Keyword.TheVariants.{Class, New, Super}
 use Rattle.jr_lex.specs.declared.items.Symbol.TheVariants.{OpenParen, CloseParen, Comma, Dot, Equals, PlusPlus, MinusMinus}
-use Rattle.jr_ast.specs.declared.operators.UnOp.{UnOp}
 use Rattle.jr_ast.specs.declared.operators.UnOp.TheVariants.{Plus, Minus, Not}
 use Rattle.jr_ast.specs.declared.operators.BinOp.{BinOp}
-use Rattle.jr_ast.specs.declared.operators.BinOp.TheVariants.{Or, And, Eq, Ne, Lt, Gt, Le, Ge, Add, Sub, Mul, Div, Rem}
-use Rattle.jr_ast.specs.declared.operators.BumpOp.{BumpOp}
+use Rattle.jr_ast.specs.declared.operators.BinOp.TheVariants.{Add, Sub}
 use Rattle.jr_ast.specs.declared.operators.BumpOp.TheVariants.{PreInc, PreDec, PostInc, PostDec}
-use Rattle.jr_ast.specs.Tree.{Word, TypeName, int, boolean, named, Exp, number, truth, null, string, name, field, super_field, this, class_literal, call, super_call, create, paren, cast, unary, bump, binary, assign, compound, Target, no_target, on, Exps, end, more}
-use Rattle.jr_pexpr.specs.Tokens.{Token, word, keyword, integer, text, symbol}
-use Rattle.jr_pexpr.specs.Spelling.{unary_symbol, binary_symbol, compound_symbol, truth_keyword}
-use Rattle.jr_pexpr.specs.Shape.{rank_of, unary_level, bump_level, level_of, IsTarget, IsCompound, IsNamed, ShapedBehind, ShapedTarget, AllShaped, greatest, FitsInt, is_minus}
-use Rattle.jr_pexpr.specs.Pieces.{Way, up, down, way_symbol, Atom, a_number, a_truth, a_null, a_string, a_this, Piece, a_word, an_atom, a_super, a_new, a_class, an_open, a_close, a_comma, a_dot, a_bang, a_bump, an_operator, an_equals, a_compound, another, piece_of, piece_token}
-use Rattle.jr_pexpr.specs.Machine.{Head, call_head, super_head, create_head, Frame, in_unary, in_bump, in_binary, in_assign, in_compound, in_cast, in_paren, in_args, State, want, have, dotted, at_super, super_dotted, at_new, new_named, new_dotted, mark_of, with_last, in_front, behind, binds, needs, needed, is_behind_minus, behind_minus, plug, fits, reduced, operated, closed, continued, applied, at_most, atom_exp, atom_fits, signed, emptied, is_target, is_compound, assigned, bumped, begun, cast_frame, cast_of, casted, opened, name_type, extended, literal_of, member, behind_super, super_member, behind_new, new_outer, behind_new_name, new_inner, stepped}
-use Rattle.jr_pexpr.specs.Bare.{Bare, no_join, bare_step, bare_run, bare_whole}
-use Rattle.jr_pexpr.proofs.Spell.{spell, spell_name, spell_type, spell_target, spell_args, spell_more}
-use Rattle.jr_pexpr.proofs.Levels.{rank_low, unary_low, bump_low, level_pos, needed_low, target_level, target_true, target_is, compound_is, at_most_is, number_fits}
+use Rattle.jr_ast.specs.Tree.{Word, TypeName, named, Exp, number, truth, null, string, name, field, super_field, this, class_literal, paren, cast, unary, bump, binary, assign, compound, Exps, end, more}
+use Rattle.jr_pexpr.specs.Tokens.{Token, word, keyword, integer, symbol}
+use Rattle.jr_pexpr.specs.Spelling.{unary_symbol, binary_symbol, compound_symbol}
+use Rattle.jr_pexpr.specs.Shape.{rank_of, unary_level, level_of, IsTarget, IsCompound, IsNamed, ShapedBehind, ShapedTarget, AllShaped, greatest}
+use Rattle.jr_pexpr.specs.Pieces.{Way, up, down, way_symbol, Atom, a_number, a_truth, a_null, a_string, a_this, Piece, a_word, an_atom, a_super, a_new, a_class, an_open, a_close, a_comma, a_dot, a_bang, a_bump, an_operator, an_equals, a_compound, piece_of, piece_token}
+use Rattle.jr_pexpr.specs.Machine.{Head, call_head, super_head, create_head, Frame, in_unary, in_bump, in_binary, in_assign, in_compound, in_cast, in_paren, in_args, State, want, have, dotted, at_super, super_dotted, at_new, new_named, new_dotted, with_last, binds, needs, needed, is_behind_minus, behind_minus, plug, fits, reduced, operated, closed, continued, applied, at_most, atom_exp, atom_fits, signed, emptied, is_target, is_compound, assigned, bumped, begun, cast_of, casted, opened, name_type, extended, literal_of, member, behind_super, super_member, behind_new, new_outer, behind_new_name, new_inner, stepped}
+use Rattle.jr_pexpr.specs.Bare.{Bare, no_join, bare_step, bare_run}
+use Rattle.jr_pexpr.proofs.Spell.{spell, spell_type, spell_target, spell_args, spell_more}
+use Rattle.jr_pexpr.proofs.Levels.{rank_low, unary_low, needed_low, target_is, compound_is}
 use Rattle.jr_pexpr.proofs.Complete.{Frames}
 use Rattle.jr_pexpr.proofs.PieceTokens.{piece_back}
 

@@ -1,5 +1,5 @@
 -- Trees without marks, and the machine without them.
-use Rattle.std.specs.Prelude.{List, [], ◌∷◌, Option, Some, None, option_map}
+use Rattle.std.specs.Prelude.{List, [], ◌∷◌, Option, Some, None}
 use Rattle.jr_ast.specs.Tree.{Word, TypeName, int, boolean, named, Exp, number, truth, null, string, name, field, super_field, this, class_literal, call, super_call, create, paren, cast, unary, bump, binary, assign, compound, Target, no_target, on, Exps, end, more}
 use Rattle.jr_pexpr.specs.Tokens.{Token}
 use Rattle.jr_pexpr.specs.Machine.{Head, call_head, super_head, create_head, Frame, in_unary, in_bump, in_binary, in_assign, in_compound, in_cast, in_paren, in_args, State, want, have, dotted, at_super, super_dotted, at_new, new_named, new_dotted, step, whole, statement_step, statement_whole}

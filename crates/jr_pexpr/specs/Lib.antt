@@ -7,4 +7,5 @@ pub mod Machine
 pub mod Bare
 pub mod Stands
 pub mod Marked
+pub mod Expressions
 pub mod Runs

@@ -1,5 +1,5 @@
 -- The tokens that names, types and expressions spell (JLS 6.5, 4.1, 15).
-use Rattle.std.specs.Prelude.{ℕ, Bool, true, false, List, [], ◌∷◌, ◌++◌, Option, Some, None}
+use Rattle.std.specs.Prelude.{Bool, true, false, List, [], ◌∷◌, ◌++◌, Option, Some, None}
 use Rattle.jr_lex.specs.declared.items.Keyword.{Keyword}
 use Rattle.jr_lex.specs.declared.items.Keyword.TheVariants.{Int, Boolean, Class, New, Super, This, True, False, Null}
 use Rattle.jr_lex.specs.declared.items.Symbol.{Symbol}
