@@ -14,3 +14,4 @@ pub mod Placing
 pub mod Places
 pub mod Maps
 pub mod Marks
+pub mod Cases

@@ -1,0 +1,6 @@
+pub mod Forms
+pub mod Operators
+pub mod Stops
+pub mod Primaries
+pub mod Refused
+pub mod StatementExpressions
