@@ -1,7 +1,7 @@
 -- Which trees are members, classes and compilation units: the side conditions (JLS 7.3, 8).
 use Rattle.std.specs.Prelude.{◌≡◌, ℕ, List, [], ◌∷◌, Option, Some, None}
-use Rattle.jr_ast.specs.Tree.{Word, TypeName, Exp, Exps}
-use Rattle.jr_ast.specs.MemberTree.{Modifier, Param, Class, class, Member, field, method, constructor, inner, Members, end, more, Unit as UnitTree}
+use Rattle.jr_ast.specs.Tree.{Word, TypeName, Exps}
+use Rattle.jr_ast.specs.MemberTree.{Class, class, Member, field, method, constructor, inner, Members, end, more, Unit as UnitTree}
 use Rattle.jr_pexpr.specs.Shape.{IsNamed, AllShaped}
 use Rattle.jr_punit.specs.StatementShape.{ShapedValue, StmtsShaped}
 

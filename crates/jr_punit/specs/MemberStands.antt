@@ -5,7 +5,7 @@ use Rattle.jr_lex.specs.declared.items.Keyword.TheVariants.{Class as ClassWord, 
 use Rattle.jr_lex.specs.declared.items.Symbol.TheVariants.{OpenParen, CloseParen, OpenBrace, CloseBrace, Semicolon, Comma, Dot, Equals}
 use Rattle.jr_ast.specs.Tree.{Word, TypeName, Exp, Exps}
 use Rattle.jr_ast.specs.MemberTree.{Modifier, Param, Class, class, Member, field, method, constructor, inner, Members, end, more, Unit as UnitTree}
-use Rattle.jr_pexpr.specs.Tokens.{word, keyword, symbol, Placed}
+use Rattle.jr_pexpr.specs.Tokens.{keyword, symbol, Placed}
 use Rattle.jr_pexpr.specs.Stands.{Tokens, span_of, Is, IsAlone, StandsWord, StandsType, Stands, StandArgs}
 use Rattle.jr_punit.specs.MemberSpelling.{modifier_keyword}
 use Rattle.jr_punit.specs.StatementStands.{StandsFinal, StandsStmts}

@@ -1,10 +1,10 @@
 -- Statements over the tokens that they spell, each mark from the first of a node's tokens to the last.
-use Rattle.std.specs.Prelude.{◌≡◌, Bool, true, false, List, [], ◌∷◌, ◌++◌, Option, Some, None}
+use Rattle.std.specs.Prelude.{◌≡◌, Bool, true, false, [], ◌∷◌, ◌++◌, Some, None}
 use Rattle.jr_text.specs.declared.spans.Span.{Span}
 use Rattle.jr_lex.specs.declared.items.Keyword.TheVariants.{Final, If, Else, While, Return, Synchronized}
 use Rattle.jr_lex.specs.declared.items.Symbol.TheVariants.{OpenParen, CloseParen, OpenBrace, CloseBrace, Semicolon, Equals}
 use Rattle.jr_ast.specs.StatementTree.{Stmt, local, eval, branch, loop, return, block, sync, empty, Else as Otherwise, no_else, otherwise, Stmts, end, more}
-use Rattle.jr_pexpr.specs.Tokens.{word, keyword, symbol, Placed}
+use Rattle.jr_pexpr.specs.Tokens.{keyword, symbol, Placed}
 use Rattle.jr_pexpr.specs.Stands.{Tokens, span_of, Is, IsAlone, StandsWord, StandsType, Stands}
 
 abbrev pub StandsFinal : Bool → Tokens → Type 0

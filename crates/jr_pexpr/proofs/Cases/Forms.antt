@@ -1,11 +1,10 @@
 -- What a case says, and short names for its parts.
-use Rattle.std.proofs.Common.{◌≡◌, ℕ, List, Option, Some, None, refl, sym, ap, ◌∙◌}
+use Rattle.std.proofs.Common.{◌≡◌, ℕ, List, Option, Some, None, sym, ap, ◌∙◌}
 use Rattle.std.specs.Prelude.{option_and_then}
 use Rattle.jr_ast.specs.Tree.{Word, TypeName, named, Exp, name}
 use Rattle.jr_pexpr.specs.Tokens.{Token}
 use Rattle.jr_pexpr.specs.Spelling.{toks}
 use Rattle.jr_pexpr.specs.Shape.{Shaped, ShapedStatement}
-use Rattle.jr_pexpr.specs.Machine.{State}
 use Rattle.jr_pexpr.specs.Bare.{Bare, bare_run, bare_whole, bare_statement_run, bare_statement_whole}
 use Rattle.jr_pexpr.proofs.Found.{both_some}
 use Rattle.jr_pexpr.proofs.Reading.{start, reads, sound}

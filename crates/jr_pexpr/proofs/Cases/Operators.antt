@@ -341,4 +341,3 @@ bump_then_sum_of_bump : IsExpression (word (codes "a") ∷ symbol PlusPlus ∷ s
     (binary tt Add (bump tt PostInc (v (codes "a"))) (bump tt PreInc (v (codes "b"))))
 unfolding begun extended
 bump_then_sum_of_bump = expression_read _ _ refl
-

@@ -361,4 +361,3 @@ field_of_number_behind_sign : IsExpression (symbol MinusSign ∷ integer 1 ∷ s
     (unary tt Minus (field tt (number tt 1) (w (codes "x"))))
 unfolding begun extended
 field_of_number_behind_sign = expression_read _ _ refl
-

@@ -1,10 +1,9 @@
 -- Texts that are no expression, each for one side condition or one form that is left out.
 -- The tree of each case is the one that javac's parser makes of the text; where the two differ, the case says why.
-use Rattle.std.proofs.Common.{[], ◌∷◌, refl, true}
+use Rattle.std.proofs.Common.{[], ◌∷◌, refl}
 use Rattle.std.specs.Prelude.{codes}
 use Rattle.jr_lex.specs.declared.items.Keyword.TheVariants.{Class, Instanceof, Int, New, Super, This, True}
 use Rattle.jr_lex.specs.declared.items.Symbol.TheVariants.{AndEquals, And as AndSign, Arrow, Bang, CloseBrace, CloseBracket, CloseParen, Colon, Comma, Dot, DoubleColon, EqualEqual, Equals, Minus as MinusSign, OpenBrace, OpenBracket, OpenParen, PlusPlus, Plus as PlusSign, Question, ShiftLeft, ShiftLeftEquals, Slash, Star, Tilde}
-use Rattle.jr_ast.specs.Tree.{on}
 use Rattle.jr_pexpr.specs.Tokens.{word, keyword, integer, symbol}
 use Rattle.jr_pexpr.specs.Machine.{begun, extended}
 use Rattle.jr_pexpr.proofs.Cases.Forms.{IsExpressionRefused, expression_refused}
@@ -374,4 +373,3 @@ method_reference = expression_refused _ refl
 lambda : IsExpressionRefused (word (codes "a") ∷ symbol Arrow ∷ word (codes "b") ∷ [])
 unfolding begun extended
 lambda = expression_refused _ refl
-

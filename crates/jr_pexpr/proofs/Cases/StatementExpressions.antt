@@ -190,4 +190,3 @@ field_of_created = statement_refused _ refl
 cast_assigned : IsStatementExpressionRefused (symbol OpenParen ∷ word (codes "A") ∷ symbol CloseParen ∷ word (codes "a") ∷ symbol Equals ∷ word (codes "b") ∷ [])
 unfolding begun extended
 cast_assigned = statement_refused _ refl
-

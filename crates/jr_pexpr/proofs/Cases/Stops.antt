@@ -54,7 +54,7 @@ nothing_begins : HasNoExpression (symbol Semicolon ∷ word (codes "a") ∷ []) 
 unfolding begun extended
 nothing_begins = (expression_none _ refl, stop_of_expression _ _ refl)
 
--- 
+--
 nothing_there : HasNoExpression ([]) × IsExpressionStop ([]) 0
 unfolding begun extended
 nothing_there = (expression_none _ refl, stop_of_expression _ _ refl)
@@ -179,4 +179,3 @@ sign_in_an_argument = let k = statement_longest (word (codes "m") ∷ symbol Ope
 created_and_field : (tree : Exp Bare) × IsLongestStatementExpression (keyword New ∷ word (codes "A") ∷ symbol OpenParen ∷ symbol CloseParen ∷ symbol Dot ∷ word (codes "f") ∷ []) 4 tree × IsStatementExpressionStop (keyword New ∷ word (codes "A") ∷ symbol OpenParen ∷ symbol CloseParen ∷ symbol Dot ∷ word (codes "f") ∷ []) 6
 unfolding begun extended
 created_and_field = let k = statement_longest (keyword New ∷ word (codes "A") ∷ symbol OpenParen ∷ symbol CloseParen ∷ symbol Dot ∷ word (codes "f") ∷ []) 4 refl in (k.0, k.1, statement_stop _ _ refl)
-
