@@ -4,3 +4,4 @@ pub mod Stops
 pub mod Primaries
 pub mod Refused
 pub mod StatementExpressions
+pub mod Places
