@@ -8,10 +8,11 @@ use Rattle.jr_small.specs.declared.occurrences.Occurrence as raw
 use Rattle.jr_small.specs.declared.tables.Table.{Table}
 use Rattle.jr_small.specs.Occurrence.{Occurrence}
 use Rattle.jr_small.specs.Binding.{IsVariable}
-use Rattle.jr_small.specs.Sound.{Together, SameVariable}
+use Rattle.jr_small.specs.Sound.{Together, SameVariable, SameMethod, IsObjects, NoObjectMethod}
 use Rattle.jr_small.specs.View.{all_of}
 use Rattle.jr_small.specs.Exact.{is_variable_role, is_variable, Pairs, Records, IsWellBound, AreBound, Checked}
-use Rattle.jr_small.proofs.Lookups.{nobody, at, at_number, records_kept, records_more, apart_more, pair_apart}
+use Rattle.jr_small.proofs.Lookups.{nobody, at, at_number, in_all, records_kept, records_more, apart_more, pair_apart}
+use Rattle.jr_small.proofs.Walks.{get_more, all_of-more}
 use Rattle.jr_small.proofs.WellBound.{same_at}
 
 not_variable : (r : Role) → (r ≡ Parameter → ⊥) → (r ≡ Local → ⊥) → is_variable_role r ≡ false
@@ -58,3 +59,18 @@ not_fine text all n t h c w = elim c [
   | inl p ↦ pair_apart text all n nobody SameVariable h p.1 w.0
   | inr r ↦ r.1 (w.1 n (at text all n) h (at_number text all n nobody h) r.0)
 ]
+
+-- ---- methods
+
+pub no_objects_more : (text : List ℕ) (all : List raw.Occurrence) (n : ℕ) → n < length all → NoObjectMethod (all_of text (take n all)) → (IsObjects (at text all n) → ⊥) → NoObjectMethod (all_of text (take (n + 1) all))
+no_objects_more text all n h none here = subst NoObjectMethod (sym (all_of-more text all n nobody h)) (more (all_of text (take n all)) (at text all n) none here)
+  where
+    more : (front : List Occurrence) (o : Occurrence) → NoObjectMethod front → (IsObjects o → ⊥) → NoObjectMethod (front ++ o ∷ [])
+    more front o f g k p e w = elim (get_more front o k p e) [ inl a ↦ f k p a w | inr b ↦ g (subst IsObjects b.same w) ]
+
+-- none in front is the same method
+pub no_repeat : (text : List ℕ) (all : List raw.Occurrence) (n : ℕ) → n < length all → ((k : ℕ) → k < n → SameMethod (all_of text all) (at text all k) (at text all n) → ⊥) → Pairs (SameMethod (all_of text all)) (all_of text (take n all)) (at text all n) → ⊥
+no_repeat text all n h none p =
+    let f = in_all text all n p.number p.other p.stands in
+    let l : p.number < length all = omega (arith, f.1) in
+    none p.number f.1 (subst (λ (o : Occurrence). SameMethod (all_of text all) o (at text all n)) (same_at (all_of text all) p.number p.other (at text all p.number) f.0 (at_number text all p.number nobody l)) p.pair)

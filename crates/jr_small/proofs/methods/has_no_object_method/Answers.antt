@@ -1,18 +1,24 @@
-use Rattle.std.proofs.Common.{rules, ◌≡◌, ℕ, List, ◌↔◌, ◌<◌, length, take, slice_get, IsTrue, IfSome, Contains, ◌+◌, ◌-◌, ◌*◌, ◌≤◌, ◌/◌, ◌%◌, Bool, true, false, nat_eq, nat_lt, [], ◌∷◌, ◌++◌, slice_index_or, slice_set, bit_and, bit_or, Fits, w8, w32, w64, Bor, MutBor}
-use Rattle.jr_small.specs.Placed.{IsPlaced, ArePlaced}
-use Rattle.jr_small.specs.Sound.{Together, SameMethod, IsObjects, NoObjectMethod, object_methods, prelude_names, parameter_count}
-use Rattle.jr_small.specs.Exact.{Pairs}
-use Rattle.jr_small.specs.View.{occurrence_of, all_of}
+use Rattle.std.proofs.Common.{◌≡◌, List, take, length, ap, sym, subst, refl, arith, ◌∙◌, true, false}
+use Rattle.std.proofs.Math.Seq.{take-length}
+use Rattle.jr_small.specs.Occurrence.{Occurrence}
+use Rattle.jr_small.specs.Sound.{IsObjects, NoObjectMethod}
+use Rattle.jr_small.specs.View.{all_of}
+use Rattle.jr_small.proofs.Lookups.{nobody, at, at_number}
+use Rattle.jr_small.proofs.Checks.{no_objects_more}
 use Rattle.jr_small.proofs.methods.has_no_object_method.Goals as goal
 
--- src/methods.rt:83:13
 pub returns-then-is_objects : goal.returns-then-is_objects
-returns-then-is_objects c = ?
+returns-then-is_objects c =
+    let n = c.loop-occurrence.occurrence-index in
+    (λ (t : false ≡ true). absurd cc, λ h. absurd (h n (at c.args.text.now c.args.all.now n) (at_number c.args.text.now c.args.all.now n nobody c.loop-occurrence-test.true) (c.is_objects.ensures.0 c.if-is_objects.true)))
 
--- src/methods.rt:81:5
 pub loop-occurrence-preserved : goal.loop-occurrence-preserved
-loop-occurrence-preserved c = ?
+loop-occurrence-preserved c =
+    no_objects_more c.args.text.now c.args.all.now c.loop-occurrence.occurrence-index c.loop-occurrence-test.true c.loop-occurrence.invariant (λ w. let bad : false ≡ true = sym c.if-is_objects.false ∙ c.is_objects.ensures.1 w in cc)
 
--- src/methods.rt:77:1
 pub returns : goal.returns
-returns c = ?
+returns c =
+    let n = c.loop-occurrence.occurrence-index in
+    let ended : n ≡ length c.args.all.now = omega arith in
+    let whole : all_of c.args.text.now (take n c.args.all.now) ≡ all_of c.args.text.now c.args.all.now = ap (all_of c.args.text.now) (ap (λ n. take n c.args.all.now) ended ∙ take-length c.args.all.now) in
+    (λ _. subst NoObjectMethod whole c.loop-occurrence.invariant, λ _. refl)

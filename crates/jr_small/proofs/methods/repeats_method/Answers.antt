@@ -1,10 +1,11 @@
-use Rattle.std.proofs.Common.{rules, ◌≡◌, ℕ, List, ◌↔◌, ◌<◌, length, take, slice_get, IsTrue, IfSome, Contains, ◌+◌, ◌-◌, ◌*◌, ◌≤◌, ◌/◌, ◌%◌, Bool, true, false, nat_eq, nat_lt, [], ◌∷◌, ◌++◌, slice_index_or, slice_set, bit_and, bit_or, Fits, w8, w32, w64, Bor, MutBor}
-use Rattle.jr_small.specs.Placed.{IsPlaced, ArePlaced}
-use Rattle.jr_small.specs.Sound.{Together, SameMethod, IsObjects, NoObjectMethod, object_methods, prelude_names, parameter_count}
-use Rattle.jr_small.specs.Exact.{Pairs}
-use Rattle.jr_small.specs.View.{occurrence_of, all_of}
+use Rattle.std.proofs.Common.{◌≡◌, ℕ, get_or, arith, true, false}
+use Rattle.jr_small.proofs.Lookups.{nobody, at, at_number, to_if_some}
+use Rattle.jr_small.proofs.Checks.{no_repeat}
 use Rattle.jr_small.proofs.methods.repeats_method.Goals as goal
 
--- src/methods.rt:35:1
 pub returns : goal.returns
-returns c = ?
+returns c =
+    let text = c.args.text.now in
+    let all = c.args.all.now in
+    let n = c.args.number in
+    to_if_some _ (at text all n) _ (at_number text all n nobody c.requires.within) (λ (t : false ≡ true). absurd cc, λ p. absurd (no_repeat text all n c.requires.within (λ k h. c.loop-i.invariant k (omega arith)) p))
