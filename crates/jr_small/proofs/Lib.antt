@@ -1,9 +1,10 @@
 pub mod Complete
 pub mod Partial
-pub mod Sound
+pub mod Growing
 pub mod Reading
 pub mod Steps
 pub mod Walks
 pub mod Lookups
 pub mod WellBound
 pub mod Checks
+pub mod SoundParts

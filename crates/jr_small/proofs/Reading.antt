@@ -9,7 +9,7 @@ use Rattle.jr_small.specs.Occurrence.{Occurrence, occurrences}
 use Rattle.jr_small.specs.Machine.{State, step, run, start, whole, read}
 use Rattle.jr_small.proofs.Complete.{source_read}
 use Rattle.jr_small.proofs.Partial.{Partial, nothing, finished, spelled, state_of, Body}
-use Rattle.jr_small.proofs.Sound.{Grows, step_grows}
+use Rattle.jr_small.proofs.Growing.{Grows, step_grows}
 
 -- the tokens make the beginning longer by them, and lead the machine there
 record GrowsBy (p : Partial) (ts : List Piece) (s : State) : Type 0 where

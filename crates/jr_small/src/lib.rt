@@ -10,6 +10,7 @@ mod phases;
 mod plans;
 mod reader;
 mod refusals;
+mod sound;
 mod tables;
 mod tokens;
 
