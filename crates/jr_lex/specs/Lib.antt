@@ -1,0 +1,10 @@
+pub mod Characters
+pub mod Words
+pub mod Numbers
+pub mod Strings
+pub mod Comments
+pub mod Symbols
+pub mod Lexemes
+pub mod Faults
+pub mod Lexes
+pub mod Depth
