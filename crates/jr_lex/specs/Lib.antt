@@ -8,3 +8,4 @@ pub mod Lexemes
 pub mod Faults
 pub mod Lexes
 pub mod Depth
+pub mod Replacing
