@@ -9,3 +9,5 @@ pub mod Faults
 pub mod Lexes
 pub mod Depth
 pub mod Replacing
+pub mod Scan
+pub mod Front

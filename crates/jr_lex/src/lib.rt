@@ -1,8 +1,12 @@
 //! The lexical grammar: a text is cut into blanks, comments and tokens.
 #![tactic(auto)]
 
+mod characters;
 mod faults;
 mod items;
+mod keywords;
+mod numbers;
+mod words;
 
 pub use faults::LexFault;
 pub use items::{Item, ItemKind, Keyword, Symbol, TokenKind};

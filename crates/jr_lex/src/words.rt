@@ -1,0 +1,58 @@
+//! Words (JLS 3.8, 3.9).
+
+ghost use Rattle.std.specs.Prelude.{◌≡◌, ◌≤◌, ◌+◌, ◌∷◌, length, map};
+ghost use Rattle.std.specs.Str.{chars};
+ghost use Rattle.jr_lex.specs.Front.{BeginsWith};
+ghost use Rattle.jr_lex.specs.Characters.{is_blank, is_word_part};
+ghost use Rattle.jr_lex.specs.Scan as spec;
+
+use crate::characters::{is_blank, is_word_part, split_first};
+use crate::items::{ItemKind, Keyword, TokenKind};
+use crate::keywords::KEYWORDS;
+
+/// What follows the blanks that a text begins with.
+pub(crate) fn after_blanks(mut text: &str) -> &str
+    ensures rest { chars result.now ≡ spec.rest_after is_blank (chars text.entry.now) }
+{
+    while let Some((first, behind)) = split_first(text) {
+        if !is_blank(first) {
+            break;
+        }
+        text = behind;
+    }
+    text
+}
+
+/// What follows the characters of a word that a text begins with.
+pub(crate) fn after_word(mut text: &str) -> &str
+    ensures rest { chars result.now ≡ spec.rest_after is_word_part (chars text.entry.now) }
+{
+    while let Some((first, behind)) = split_first(text) {
+        if !is_word_part(first) {
+            break;
+        }
+        text = behind;
+    }
+    text
+}
+
+/// The keyword of that spelling in a table.
+fn lookup(mut table: &[(&[u8], Keyword)], word: &[u8]) -> Option<Keyword>
+    ensures { result ≡ spec.lookup (map (λ entry. (entry.0.now, entry.1)) table.entry.now) word.now }
+{
+    while let [entry, rest @ ..] = table {
+        if entry.0 == word {
+            return Some(entry.1);
+        }
+        table = rest;
+    }
+    None
+}
+
+/// The keyword, or the literal, that is spelled so, if one is.
+#[tactic(auto, unfolding(crate::specs::Scan::keyword_of))]
+pub(crate) fn keyword_of(word: &[u8]) -> Option<Keyword>
+    ensures { result ≡ spec.keyword_of word.now }
+{
+    lookup(&KEYWORDS, word)
+}
