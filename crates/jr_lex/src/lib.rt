@@ -2,10 +2,14 @@
 #![tactic(auto)]
 
 mod characters;
+mod comments;
+mod escapes;
 mod faults;
 mod items;
 mod keywords;
 mod numbers;
+mod strings;
+mod symbols;
 mod words;
 
 pub use faults::LexFault;
