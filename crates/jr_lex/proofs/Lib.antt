@@ -1,2 +1,4 @@
 pub mod NumberLaws
 pub mod ScanLaws
+pub mod RunLaws
+pub mod WordLaws

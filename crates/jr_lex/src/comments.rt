@@ -19,7 +19,7 @@ struct CommentEnd<'a> {
 }
 
 /// Whether the text begins with a character.
-fn begins_with(text: &str, c: char) -> bool
+pub(crate) fn begins_with(text: &str, c: char) -> bool
     ensures { result ≡ first_passes (λ d. d == c) (chars text.now) }
 {
     match split_first(text) {

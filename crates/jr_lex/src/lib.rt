@@ -8,6 +8,7 @@ mod faults;
 mod items;
 mod keywords;
 mod numbers;
+mod scan;
 mod strings;
 mod symbols;
 mod words;
