@@ -7,6 +7,7 @@ mod escapes;
 mod faults;
 mod items;
 mod keywords;
+mod lexing;
 mod numbers;
 mod scan;
 mod strings;
@@ -15,3 +16,6 @@ mod words;
 
 pub use faults::LexFault;
 pub use items::{Item, ItemKind, Keyword, Symbol, TokenKind};
+
+#[cfg(test)]
+mod tests;
