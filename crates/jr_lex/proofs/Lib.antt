@@ -3,3 +3,5 @@ pub mod ScanLaws
 pub mod RunLaws
 pub mod WordLaws
 pub mod FirstLaws
+pub mod Meaning
+pub mod StringLaws
