@@ -5,3 +5,4 @@ pub mod WordLaws
 pub mod FirstLaws
 pub mod Meaning
 pub mod StringLaws
+pub mod CommentLaws

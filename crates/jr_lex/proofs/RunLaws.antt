@@ -1,8 +1,9 @@
 -- The characters at the front that pass a test, and what follows them.
-use Rattle.std.proofs.Common.{◌≡◌, ℕ, Bool, true, false, List, [], ◌∷◌, ◌++◌, refl, sym, ap, ◌∙◌, inl, inr, length, length-append, ◌+◌, ◌-◌, ◌≤◌, take, arith}
+use Rattle.std.proofs.Common.{◌≡◌, ℕ, Bool, true, false, List, [], ◌∷◌, ◌++◌, refl, sym, ap, ◌∙◌, inl, inr, length, length-append, ◌+◌, ◌-◌, ◌≤◌, ◌<◌, take, drop, arith}
 use Rattle.std.specs.Prelude.{encode_utf8, encode_utf8_all}
 use Rattle.std.proofs.lemmas.Bool.{cases_Bool, and_parts, false≢true}
-use Rattle.std.proofs.lemmas.Str.{encodes-append, encodes-chars}
+use Rattle.std.proofs.lemmas.Str.{encodes-append, encodes-chars, encode_ascii}
+use Rattle.std.proofs.Math.Seq.{take-append_seam, drop-append_seam}
 use Rattle.std.specs.Str.{IsUtf8, chars}
 use Rattle.jr_lex.specs.Characters.{all_pass, first_passes, byte_len}
 use Rattle.jr_lex.specs.Scan.{front_of, rest_after}
@@ -63,3 +64,30 @@ front_of-some p (c ∷ cs) h e = let f = rw h at e in cc
 pub first_passes-append : (p : ℕ → Bool) (front rest : List ℕ) → all_pass p front ≡ true → (front ≡ [] → ⊥) → first_passes p (front ++ rest) ≡ true
 first_passes-append p [] rest h some = absurd (some refl)
 first_passes-append p (c ∷ cs) rest h some = (and_parts (p c) (all_pass p cs) h).0
+
+-- ---- bytes
+
+pub byte_len-append : (xs ys : List ℕ) → byte_len (xs ++ ys) ≡ byte_len xs + byte_len ys
+byte_len-append xs ys = ap length (encodes-append xs ys) ∙ length-append (encode_utf8_all xs) (encode_utf8_all ys)
+
+pub byte_len-cons : (c : ℕ) (cs : List ℕ) → byte_len (c ∷ cs) ≡ length (encode_utf8 c) + byte_len cs
+byte_len-cons c cs = length-append (encode_utf8 c) (encode_utf8_all cs)
+
+pub byte_len-ascii : (c : ℕ) (cs : List ℕ) → c < 128 → byte_len (c ∷ cs) ≡ 1 + byte_len cs
+byte_len-ascii c cs small = byte_len-cons c cs ∙ ap (λ bs. length bs + byte_len cs) (encode_ascii c small)
+
+-- the place of the end of a list of characters
+pub byte_len-end : (at : ℕ) (whole front end : List ℕ) → whole ≡ front ++ end → at + (byte_len whole - byte_len end) ≡ at + byte_len front
+byte_len-end at whole front end e = omega (arith, ap byte_len e, byte_len-append front end)
+
+-- ---- lists
+
+-- two ways to cut a list at one place are one
+pub append_apart : {A : Type 0} (a b x y : List A) → length a ≡ length b → a ++ x ≡ b ++ y → (a ≡ b) × (x ≡ y)
+append_apart a b x y same e =
+    (sym (take-append_seam a x) ∙ ap (take (length a)) e ∙ ap (λ n. take n (b ++ y)) same ∙ take-append_seam b y,
+     sym (drop-append_seam a x) ∙ ap (drop (length a)) e ∙ ap (λ n. drop n (b ++ y)) same ∙ drop-append_seam b y)
+
+-- two ends of a list that are as long are one
+pub ends_apart : {A : Type 0} (a b x y : List A) → length x ≡ length y → a ++ x ≡ b ++ y → (a ≡ b) × (x ≡ y)
+ends_apart a b x y same e = append_apart a b x y (omega (arith, length-append a x, length-append b y, ap length e)) e

@@ -1,9 +1,17 @@
 -- Strings: where they close, and what is wrong in them.
-use Rattle.std.proofs.Common.{◌≡◌, ◌≢◌, ℕ, ◌+◌, ◌-◌, ◌==◌, Bool, true, false, ◌&&◌, ◌||◌, ◌⊎◌, cond, List, [], ◌∷◌, ◌++◌, length, Option, Some, None, Ok, Err, refl, sym, ap, ◌∙◌, inl, inr, subst, arith, MatchOption}
+use Rattle.std.proofs.Common.{◌≡◌, ◌≢◌, ℕ, ◌+◌, ◌-◌, ◌==◌, Bool, true, false, ◌&&◌, ◌||◌, ◌⊎◌, cond, List, [], ◌∷◌, ◌++◌, length, Option, Some, None, Ok, Err, refl, sym, ap, ◌∙◌, inl, inr, subst, arith}
 use Rattle.std.proofs.lemmas.Bool.{cases_Bool, and_parts, or_parts, eqb-true, eq-eqb, ne_eqb, not-true, false≢true, true≢false, both_ways, cond-true, cond-false, and_from}
-use Rattle.jr_lex.specs.Characters.{is_line_end}
+use Rattle.jr_lex.specs.Characters.{is_line_end, byte_len}
 use Rattle.jr_lex.specs.Strings.{is_plain, is_escape, is_any, is_content, Closes, HasWrongEscape, IsString}
-use Rattle.jr_lex.specs.Scan.{string_rest, string_wrong}
+use Rattle.jr_lex.specs.declared.items.ItemKind.TheVariants as item
+use Rattle.jr_lex.specs.declared.items.TokenKind.TheVariants as token
+use Rattle.jr_lex.specs.declared.faults.LexFault.TheVariants as fault
+use Rattle.jr_lex.specs.Faults.{HasOpenString, HasEscapeInString}
+use Rattle.jr_lex.specs.Scan.{string_rest, string_wrong, string_behind, string_at, escape_or, scan}
+use Rattle.jr_lex.proofs.Meaning.{Means, Reaches, Reaches-escape}
+use Rattle.jr_lex.proofs.RunLaws.{byte_len-end, byte_len-ascii}
+use Rattle.jr_lex.proofs.FirstLaws.{scan-quote}
+use Rattle.std.proofs.lemmas.List.{append_assoc}
 
 -- a plain character is none of those that mean something
 pub plain_parts : (c : ℕ) → is_plain c ≡ true → record { quote : (c == 34) ≡ false; backslash : (c == 92) ≡ false; line : is_line_end c ≡ false }
@@ -185,3 +193,69 @@ content-any (c ∷ d ∷ cs) h =
       inl x ↦ rw x.0 (content-any cs x.2)
     | inr x ↦ content-plain is_any c (d ∷ cs) x.0 (content-any (d ∷ cs) x.1)
     ]
+
+-- ---- what scan gives for strings
+
+none_some : {X : Type 0} (x : X) → (let none : Option X = None in none ≡ Some x) → ⊥
+none_some x e = cc
+
+joined : (content rest : List ℕ) → (content ++ 34 ∷ []) ++ rest ≡ content ++ 34 ∷ rest
+joined content rest = append_assoc content (34 ∷ []) rest
+
+pub text_reach : (at d : ℕ) (more rest : List ℕ) → IsString (d ∷ more) → Reaches (scan at d (more ++ rest)) (item.Token token.Text) rest
+text_reach at d more rest h =
+    let same : d ∷ more ≡ 34 ∷ (h.content ++ 34 ∷ []) = h.quotes in
+    let quote : d ≡ 34 = cc in
+    let others : more ≡ h.content ++ 34 ∷ [] = cc in
+    let behind : more ++ rest ≡ h.content ++ 34 ∷ rest = ap (λ xs. xs ++ rest) others ∙ joined h.content rest in
+    let closes : string_rest (more ++ rest) ≡ Some rest = ap string_rest behind ∙ string_rest-append h.content rest (content-any h.content h.escapes) in
+    rw (quote, scan-quote at (more ++ rest), closes) (Reaches-escape _ _ _ _ _ _ (omega arith, λ _. refl))
+
+wrong_means : (at : ℕ) (cs rest : List ℕ) (ended : Ended cs rest) (found : Option (List ℕ)) → string_wrong cs ≡ found
+    → Means at (34 ∷ cs) (escape_or (at + 1) cs found (Ok (item.Token token.Text, rest)))
+wrong_means at cs rest ended None e =
+    (34 ∷ ended.content ++ 34 ∷ [],
+     ap (λ xs. 34 ∷ xs) (ended.closes.parts ∙ sym (joined ended.content rest)),
+     record { content = ended.content; quotes = refl; escapes = ended.right e })
+wrong_means at cs rest ended (Some w) e =
+    let found = ended.wrong w e in
+    let inside : List ℕ = found.0 in
+    (34 ∷ inside,
+     (omega (arith, byte_len-end (at + 1) cs inside w found.2, byte_len-ascii 34 inside (omega arith))),
+     inr (inl (record { content = ended.content; inside = inside; rest = rest; behind = cs; opens = refl; closes = ended.closes; wrong = found.1; before = refl })))
+
+ended_means : (at : ℕ) (cs : List ℕ) (found : Option (List ℕ)) → string_rest cs ≡ found → Means at (34 ∷ cs) (string_behind at cs found)
+ended_means at cs None e =
+    (refl, record { rest = cs; opens = refl; no_close = λ content after closes.
+        none_some after (sym e ∙ ap string_rest closes.parts ∙ string_rest-append content after closes.taken) })
+ended_means at cs (Some rest) e = wrong_means at cs rest (string-ended cs rest e) (string_wrong cs) refl
+
+pub string_means : (at : ℕ) (cs : List ℕ) → Means at (34 ∷ cs) (string_at at cs)
+string_means at cs = ended_means at cs (string_rest cs) refl
+
+pub open_string : (at c : ℕ) (cs : List ℕ) → HasOpenString (c ∷ cs) → scan at c cs ≡ Err (fault.OpenString at)
+open_string at c cs h =
+    let same : c ∷ cs ≡ 34 ∷ h.rest = h.opens in
+    let quote : c ≡ 34 = cc in
+    let behind : cs ≡ h.rest = cc in
+    rw (quote, scan-quote at cs) (go (string_rest cs) refl behind)
+  where
+    go : (found : Option (List ℕ)) → string_rest cs ≡ found → cs ≡ h.rest → string_behind at cs found ≡ Err (fault.OpenString at)
+    go None e behind = refl
+    go (Some rest) e behind =
+        let ended = string-ended cs rest e in
+        absurd (h.no_close ended.content rest (record { parts = sym behind ∙ ended.closes.parts; taken = ended.closes.taken }))
+
+pub escape_in_string : (at c : ℕ) (cs front : List ℕ) → HasEscapeInString (c ∷ cs) front → scan at c cs ≡ Err (fault.Escape (at + byte_len front))
+escape_in_string at c cs front h =
+    let same : c ∷ cs ≡ 34 ∷ h.behind = h.opens in
+    let quote : c ≡ 34 = cc in
+    let behind : cs ≡ h.behind = cc in
+    let closes : string_rest cs ≡ Some h.rest = ap string_rest (behind ∙ h.closes.parts) ∙ string_rest-append h.content h.rest h.closes.taken in
+    let tail : List ℕ = h.wrong.back ++ 34 ∷ h.rest in
+    let parts : cs ≡ h.inside ++ 92 ∷ h.wrong.letter ∷ tail =
+        behind ∙ h.closes.parts ∙ ap (λ xs. xs ++ 34 ∷ h.rest) h.wrong.parts ∙ append_assoc h.inside (92 ∷ h.wrong.letter ∷ h.wrong.back) (34 ∷ h.rest) in
+    let wrong : string_wrong cs ≡ Some (92 ∷ h.wrong.letter ∷ tail) = ap string_wrong parts ∙ string_wrong-append h.inside h.wrong.letter tail h.wrong.right h.wrong.wrong in
+    let place : at + 1 + (byte_len cs - byte_len (92 ∷ h.wrong.letter ∷ tail)) ≡ at + byte_len front =
+        omega (arith, byte_len-end (at + 1) cs h.inside (92 ∷ h.wrong.letter ∷ tail) parts, byte_len-ascii 34 h.inside (omega arith), ap byte_len h.before) in
+    rw (quote, scan-quote at cs, closes, wrong) (ap (λ n. Err (fault.Escape n)) place)
