@@ -3,7 +3,7 @@ use Rattle.std.proofs.Common.{◌≡◌, ◌≢◌, ℕ, suc, ◌+◌, ◌-◌, 
 use Rattle.std.specs.Prelude.{reverse}
 use Rattle.std.specs.Option.{option_map}
 use Rattle.std.specs.List.{prefix_len}
-use Rattle.std.proofs.lemmas.Bool.{cases_Bool, cases_lt, and_parts, or_parts, and_from, and_right, or_from, eqb-true, eq-eqb, eqb-false, ne_eqb, not-true, not-false, false≢true, true≢false, both_ways, cond-true, cond-false}
+use Rattle.std.proofs.lemmas.Bool.{cases_Bool, cases_lt, and_parts, or_parts, and_from, and_right, or_cases, or_from, eqb-true, eq-eqb, eqb-false, ne_eqb, not-true, not-false, false≢true, true≢false, both_ways, cond-true, cond-false}
 use Rattle.std.proofs.lemmas.List.{append_assoc, append-nil, reverse-append, length-append}
 use Rattle.jr_lex.specs.Characters.{is_line_end, first_passes, all_pass, byte_len}
 use Rattle.jr_lex.specs.Comments.{has_close, is_backslash, HasUnicodeEscape, HasFirstUnicodeEscape, IsLineComment, IsBlockComment}
@@ -199,3 +199,111 @@ escape_in-some false before (c ∷ cs) w parity e =
         | inr no_u ↦ found_later before c cs w (λ here. both_ways _ no_u here.1) (escape_in-some true (before ++ c ∷ []) cs w (Parity-more before c false backslash parity) (rw (backslash, no_u) at e))
         ]
     ]
+
+-- ---- the code's searches stop at the end of the comment
+
+u_append : (cs rest : List ℕ) → first_passes is_not_line_end rest ≡ false → first_passes (λ d. d == 117) (cs ++ rest) ≡ first_passes (λ d. d == 117) cs
+u_append [] [] h = refl
+u_append [] (c ∷ rest) h =
+    elim (or_cases (c == 10) (c == 13) (not-false _ h)) [
+      inl same ↦ ne_eqb c 117 (λ e. absurd (omega (arith, e, eqb-true c 10 same)))
+    | inr same ↦ ne_eqb c 117 (λ e. absurd (omega (arith, e, eqb-true c 13 same)))
+    ]
+u_append (d ∷ cs) rest h = refl
+
+pub line_escape-append : (odd : Bool) (body rest : List ℕ) → all_pass is_not_line_end body ≡ true → first_passes is_not_line_end rest ≡ false
+    → line_escape odd (body ++ rest) ≡ with_rest rest (escape_in odd body)
+unfolding escape_in
+line_escape-append odd [] [] h stop = refl
+line_escape-append odd [] (c ∷ rest) h stop = cond-true (is_line_end c) _ _ (not-false _ stop)
+line_escape-append odd (c ∷ cs) rest h stop =
+    let parts = and_parts (is_not_line_end c) (all_pass is_not_line_end cs) h in
+    let inside : is_line_end c ≡ false = not-true _ parts.0 in
+    let again : (o : Bool) → line_escape o (cs ++ rest) ≡ with_rest rest (escape_in o cs) = λ o. line_escape-append o cs rest parts.1 stop in
+    cond-false (is_line_end c) _ _ inside ∙ go odd again
+  where
+    go : (odd : Bool) → ((o : Bool) → line_escape o (cs ++ rest) ≡ with_rest rest (escape_in o cs))
+        → cond (c == 92) (cond (not odd && first_passes (λ d. d == 117) (cs ++ rest)) (Some (c ∷ (cs ++ rest))) (line_escape (not odd) (cs ++ rest))) (line_escape false (cs ++ rest))
+            ≡ with_rest rest (escape_in odd (c ∷ cs))
+    go odd again =
+        elim (cases_Bool (c == 92)) [
+          inr plain ↦ rw plain (again false)
+        | inl backslash ↦ elim (cases_Bool (not odd && first_passes (λ d. d == 117) cs)) [
+              inl both ↦ rw (u_append cs rest stop, backslash, both) refl
+            | inr other ↦ rw (u_append cs rest stop, backslash, other) (again (not odd))
+            ]
+        ]
+
+block_step : (odd : Bool) (c d : ℕ) (cs rest : List ℕ) → ((c == 42) && (d == 47)) ≡ false
+    → ((o : Bool) → block_escape o (d ∷ (cs ++ rest)) ≡ with_rest rest (escape_in o (d ∷ cs)))
+    → block_escape odd (c ∷ d ∷ (cs ++ rest)) ≡ with_rest rest (escape_in odd (c ∷ d ∷ cs))
+unfolding escape_in
+block_step odd c d cs rest unclosed again =
+    cond-false ((c == 42) && (d == 47)) _ _ unclosed
+    ∙ elim (cases_Bool (c == 92)) [
+          inr plain ↦ rw plain (again false)
+        | inl backslash ↦ elim (cases_Bool (not odd && (d == 117))) [
+              inl both ↦ rw (backslash, both) refl
+            | inr other ↦ rw (backslash, other) (again (not odd))
+            ]
+        ]
+
+pub block_escape-append : (odd : Bool) (body rest : List ℕ) → has_close (body ++ 42 ∷ []) ≡ false
+    → block_escape odd ((body ++ 42 ∷ 47 ∷ []) ++ rest) ≡ with_rest rest (escape_in odd (body ++ 42 ∷ 47 ∷ []))
+unfolding escape_in
+block_escape-append odd [] rest h = refl
+block_escape-append odd (c ∷ []) rest h = block_step odd c 42 (47 ∷ []) rest (and_right (c == 42) false refl) (λ o. refl)
+block_escape-append odd (c ∷ d ∷ body) rest h =
+    let parts = or_parts ((c == 42) && (d == 47)) (has_close (d ∷ body ++ 42 ∷ [])) h in
+    block_step odd c d (body ++ 42 ∷ 47 ∷ []) rest parts.0 (λ o. block_escape-append o (d ∷ body) rest parts.1)
+
+-- ---- the first escape of a comment
+
+opening_parity : (x : ℕ) → (x == 92) ≡ false → Parity (47 ∷ x ∷ []) false
+opening_parity x other = rw other refl
+
+head_same : (a b : ℕ) (xs ys : List ℕ) → a ∷ xs ≡ b ∷ ys → a ≡ b
+head_same a b xs ys e = cc
+
+tail_same : (a b : ℕ) (xs ys : List ℕ) → a ∷ xs ≡ b ∷ ys → xs ≡ ys
+tail_same a b xs ys e = cc
+
+far_behind : (y x : ℕ) (tail other back : List ℕ) → (y ≡ 92 → ⊥) → (x ≡ 92 → ⊥) → y ∷ x ∷ tail ≡ other ++ 92 ∷ back → 2 ≤ length other
+far_behind y x tail [] back no_y no_x e = absurd (no_y (head_same y 92 _ _ e))
+far_behind y x tail (a ∷ []) back no_y no_x e = absurd (no_x (head_same x 92 _ _ (tail_same y a _ _ e)))
+far_behind y x tail (a ∷ b ∷ other) back no_y no_x e = omega arith
+
+behind_opening : (x : ℕ) (tail other : List ℕ) → (x == 92) ≡ false → HasUnicodeEscape (47 ∷ x ∷ tail) other → 2 ≤ length other
+behind_opening x tail other no_backslash h =
+    far_behind 47 x tail other (117 ∷ h.back) (λ e. absurd (omega (arith, e))) (eqb-false x 92 no_backslash) (h.parts ∙ append_assoc other (92 ∷ 117 ∷ []) h.back)
+
+-- what the search finds is the first escape of the comment
+pub record FirstEscape (x : ℕ) (tail w : List ℕ) : Type 0 where
+  pub inside : List ℕ
+  pub parts : tail ≡ inside ++ w
+  pub escape : HasFirstUnicodeEscape (47 ∷ x ∷ tail) (47 ∷ x ∷ inside)
+
+pub first_escape : (x : ℕ) (tail w : List ℕ) → (x == 92) ≡ false → escape_in false tail ≡ Some w → FirstEscape x tail w
+first_escape x tail w no_backslash e =
+    let found = escape_in-some false (47 ∷ x ∷ []) tail w (opening_parity x no_backslash) e in
+    record {
+      inside = found.inside;
+      parts = found.parts;
+      escape = record { escape = found.escape; first = λ other h. found.first other h (behind_opening x tail other no_backslash h) };
+    }
+
+pub escape_first : (x : ℕ) (tail front : List ℕ) → (x == 92) ≡ false → HasFirstUnicodeEscape (47 ∷ x ∷ tail) front
+    → (w : List ℕ) × (escape_in false tail ≡ Some w) × (inside : List ℕ) × (tail ≡ inside ++ w) × (front ≡ 47 ∷ x ∷ inside)
+escape_first x tail front no_backslash h = go (escape_in false tail) refl
+  where
+    go : (found : Option (List ℕ)) → escape_in false tail ≡ found
+        → (w : List ℕ) × (escape_in false tail ≡ Some w) × (inside : List ℕ) × (tail ≡ inside ++ w) × (front ≡ 47 ∷ x ∷ inside)
+    go None e = absurd (escape_in-none false (47 ∷ x ∷ []) tail (opening_parity x no_backslash) e front h.escape (behind_opening x tail front no_backslash h.escape))
+    go (Some w) e =
+        let found = first_escape x tail w no_backslash e in
+        let len : length front ≡ length (47 ∷ x ∷ found.inside) =
+            omega (arith, h.first (47 ∷ x ∷ found.inside) found.escape.escape, found.escape.first front h.escape) in
+        let one : 47 ∷ x ∷ tail ≡ front ++ 92 ∷ 117 ∷ h.escape.back = h.escape.parts ∙ append_assoc front (92 ∷ 117 ∷ []) h.escape.back in
+        let two : 47 ∷ x ∷ tail ≡ (47 ∷ x ∷ found.inside) ++ 92 ∷ 117 ∷ found.escape.escape.back =
+            found.escape.escape.parts ∙ append_assoc (47 ∷ x ∷ found.inside) (92 ∷ 117 ∷ []) found.escape.escape.back in
+        (w, e, found.inside, found.parts, (append_apart front (47 ∷ x ∷ found.inside) _ _ len (sym one ∙ two)).0)
