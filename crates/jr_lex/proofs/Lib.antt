@@ -6,3 +6,4 @@ pub mod FirstLaws
 pub mod Meaning
 pub mod StringLaws
 pub mod CommentLaws
+pub mod CommentScans
