@@ -148,7 +148,7 @@ pub record FoundEscape (before cs w : List ℕ) : Type 0 where
   pub escape : HasUnicodeEscape (before ++ cs) (before ++ inside)
   pub first : (other : List ℕ) → HasUnicodeEscape (before ++ cs) other → length before ≤ length other → length (before ++ inside) ≤ length other
 
-u_parts : (cs : List ℕ) → first_passes (λ d. d == 117) cs ≡ true → (back : List ℕ) × (cs ≡ 117 ∷ back)
+pub u_parts : (cs : List ℕ) → first_passes (λ d. d == 117) cs ≡ true → (back : List ℕ) × (cs ≡ 117 ∷ back)
 u_parts [] h = absurd (false≢true h)
 u_parts (c ∷ cs) h = (cs, ap (λ x. x ∷ cs) (eqb-true c 117 h))
 
@@ -262,10 +262,10 @@ block_escape-append odd (c ∷ d ∷ body) rest h =
 opening_parity : (x : ℕ) → (x == 92) ≡ false → Parity (47 ∷ x ∷ []) false
 opening_parity x other = rw other refl
 
-head_same : (a b : ℕ) (xs ys : List ℕ) → a ∷ xs ≡ b ∷ ys → a ≡ b
+pub head_same : (a b : ℕ) (xs ys : List ℕ) → a ∷ xs ≡ b ∷ ys → a ≡ b
 head_same a b xs ys e = cc
 
-tail_same : (a b : ℕ) (xs ys : List ℕ) → a ∷ xs ≡ b ∷ ys → xs ≡ ys
+pub tail_same : (a b : ℕ) (xs ys : List ℕ) → a ∷ xs ≡ b ∷ ys → xs ≡ ys
 tail_same a b xs ys e = cc
 
 far_behind : (y x : ℕ) (tail other back : List ℕ) → (y ≡ 92 → ⊥) → (x ≡ 92 → ⊥) → y ∷ x ∷ tail ≡ other ++ 92 ∷ back → 2 ≤ length other

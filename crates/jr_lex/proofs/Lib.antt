@@ -7,3 +7,4 @@ pub mod Meaning
 pub mod StringLaws
 pub mod CommentLaws
 pub mod CommentScans
+pub mod SymbolLaws
