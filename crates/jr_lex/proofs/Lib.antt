@@ -8,3 +8,4 @@ pub mod StringLaws
 pub mod CommentLaws
 pub mod CommentScans
 pub mod SymbolLaws
+pub mod ScanMeaning

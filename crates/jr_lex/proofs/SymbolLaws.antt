@@ -122,8 +122,11 @@ grown_means at c s cs spelled =
     let h = grown-grew s cs in
     (c ∷ h.more, ap (λ xs. c ∷ xs) h.parts, sym (h.spelled ∙ ap (λ xs. xs ++ h.more) spelled))
 
+pub symbol_char : (c : ℕ) (s : Symbol) → first_symbol c ≡ Some s → symbol_text s ≡ c ∷ []
+symbol_char c s e = symbol_cases (λ k x. symbol_text x ≡ k ∷ []) refl refl refl refl refl refl refl refl refl refl refl refl refl refl refl refl refl refl refl refl refl refl refl c s e
+
 pub symbol_means : (at c : ℕ) (cs : List ℕ) (s : Symbol) → first_symbol c ≡ Some s → Means at (c ∷ cs) (marked (grown s cs))
-symbol_means at c cs s e = grown_means at c s cs (symbol_cases (λ k x. symbol_text x ≡ k ∷ []) refl refl refl refl refl refl refl refl refl refl refl refl refl refl refl refl refl refl refl refl refl refl refl c s e)
+symbol_means at c cs s e = grown_means at c s cs (symbol_char c s e)
 
 -- ---- dots
 
@@ -264,7 +267,7 @@ abbrev pub has_known_head : List ℕ → Bool
 has_known_head [] = false
 has_known_head (c ∷ cs) = (c == 46) || (c == 47) || is_some (first_symbol c)
 
-known_head : (s : Symbol) → has_known_head (symbol_text s) ≡ true
+pub known_head : (s : Symbol) → has_known_head (symbol_text s) ≡ true
 known_head symbol.OpenParen = refl
 known_head symbol.CloseParen = refl
 known_head symbol.OpenBrace = refl
