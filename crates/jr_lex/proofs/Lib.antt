@@ -9,3 +9,4 @@ pub mod CommentLaws
 pub mod CommentScans
 pub mod SymbolLaws
 pub mod ScanMeaning
+pub mod CutLaws
