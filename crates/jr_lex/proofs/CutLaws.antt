@@ -1,7 +1,7 @@
 -- Items one behind the other, and what stands behind the last.
 use Rattle.std.proofs.Common.{◌≡◌, ℕ, zero, suc, ◌+◌, ◌-◌, ◌≤◌, ◌<◌, ◌⊎◌, List, [], ◌∷◌, ◌++◌, length, Ok, Err, refl, sym, ap, ◌∙◌, inl, inr, subst, arith}
 use Rattle.std.specs.Str.{IsUtf8, chars}
-use Rattle.std.proofs.lemmas.Str.{encodes-chars}
+use Rattle.std.proofs.lemmas.Str.{length-le-encodes}
 use Rattle.std.proofs.lemmas.List.{length-append}
 use Rattle.jr_lex.specs.declared.items.Item.{Item}
 use Rattle.jr_lex.specs.declared.items.ItemKind.{ItemKind}
@@ -59,6 +59,16 @@ loop_step text rest behind after first kind items u v fits begins e cut =
                 (subst (λ x. IsItemAt from x (record { kind = kind; span = span_of from (length text - length after) }) front (chars after)) (sym (h.1 ∙ begins.chars_are)) item),
              (ap (λ x. x + byte_len front) h.0 ∙ to, refl)))
         0 (chars text) items cut)
+
+some_bytes : (kind : ItemKind) (front : List ℕ) → IsLexeme kind front → 1 ≤ byte_len front
+some_bytes kind [] h = absurd (no_empty kind h)
+some_bytes kind (c ∷ cs) h = omega (arith, length-le-encodes (c ∷ cs))
+
+pub loop_smaller : (at : ℕ) (rest behind after : List ℕ) (first : ℕ) (kind : ItemKind) → IsUtf8 rest → IsUtf8 after
+    → BeginsWith rest first behind → scan at first (chars behind) ≡ Ok (kind, chars after) → length after < length rest
+loop_smaller at rest behind after first kind u v begins e =
+    let found = scan-item at first (chars behind) kind (chars after) e in
+    omega (arith, front_len rest after found.front u v (begins.chars_are ∙ found.item.taken.parts), some_bytes kind found.front found.item.taken.lexeme)
 
 pub loop_start : (text : List ℕ) → Cuts (Upto text text) 0 (chars text) []
 loop_start text = (omega arith, refl)
