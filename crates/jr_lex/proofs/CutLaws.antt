@@ -1,5 +1,6 @@
 -- Items one behind the other, and what stands behind the last.
-use Rattle.std.proofs.Common.{◌≡◌, ℕ, zero, suc, ◌+◌, ◌-◌, ◌≤◌, ◌<◌, ◌⊎◌, List, [], ◌∷◌, ◌++◌, length, Ok, Err, refl, sym, ap, ◌∙◌, inl, inr, subst, arith}
+use Rattle.std.proofs.Common.{◌≡◌, ℕ, zero, suc, ◌+◌, ◌-◌, ◌≤◌, ◌<◌, ◌⊎◌, List, [], ◌∷◌, ◌++◌, length, Result, Ok, Err, MatchResult, refl, sym, ap, ◌∙◌, inl, inr, subst, arith}
+use Rattle.std.specs.Result.{IfOk, IfErr}
 use Rattle.std.specs.Str.{IsUtf8, chars}
 use Rattle.std.proofs.lemmas.Str.{length-le-encodes}
 use Rattle.std.proofs.lemmas.List.{length-append}
@@ -180,3 +181,23 @@ one_cut_fault at text f g (i ∷ items) (j ∷ others) h k =
 
 pub one_fault : (bytes : List ℕ) (f g : LexFault) → IsFirstFault bytes f → IsFirstFault bytes g → f ≡ g
 one_fault bytes f g h k = one_cut_fault 0 (chars bytes) f g h.items k.items h.cut k.cut
+
+-- ---- the answers of `lex`
+
+fault_first : (bytes : List ℕ) (f : LexFault) → IsFault bytes f → (f ≡ fault.Memory) ⊎ IsFirstFault bytes f
+fault_first bytes (fault.BadByte at) h = inr h
+fault_first bytes (fault.OpenComment at) h = inr h
+fault_first bytes (fault.OpenString at) h = inr h
+fault_first bytes (fault.Escape at) h = inr h
+fault_first bytes (fault.BadNumber at) h = inr h
+fault_first bytes fault.Memory h = inl refl
+
+pub answers_items : {V : Type 0} (view : V → List Item) (r : Result V LexFault) (bytes : List ℕ) (items : List Item)
+    → IfOk r (λ v. Lexes bytes (view v)) → IfErr r (IsFault bytes) → Lexes bytes items → MatchResult r (λ v. view v ≡ items) (λ e. e ≡ fault.Memory)
+answers_items view (Ok v) bytes items ok err h = one_lexing bytes (view v) items ok h
+answers_items view (Err e) bytes items ok err h = elim (fault_first bytes e err) [ inl memory ↦ memory | inr first ↦ absurd (lexes_no_fault bytes items e h first) ]
+
+pub answers_fault : {V : Type 0} (view : V → List Item) (r : Result V LexFault) (bytes : List ℕ) (f : LexFault)
+    → IfOk r (λ v. Lexes bytes (view v)) → IfErr r (IsFault bytes) → IsFirstFault bytes f → MatchResult r (λ v. ⊥) (λ e. (e ≡ f) ⊎ (e ≡ fault.Memory))
+answers_fault view (Ok v) bytes f ok err h = lexes_no_fault bytes (view v) f ok h
+answers_fault view (Err e) bytes f ok err h = elim (fault_first bytes e err) [ inl memory ↦ inr memory | inr first ↦ inl (one_fault bytes e f first h) ]

@@ -1,16 +1,17 @@
 -- Keywords, and the bytes that they take.
 use Rattle.std.proofs.Common.{◌≡◌, ℕ, ◌<◌, ◌≤◌, ◌==◌, Bool, true, false, ◌&&◌, cond, List, [], ◌∷◌, ◌++◌, map, Option, Some, None, Ok, refl, sym, ap, ◌∙◌, inl, inr, arith, ltb, length, take, ◌-◌, subst}
-use Rattle.std.specs.Prelude.{encode_utf8, encode_utf8_all, nat_lt, nat_le}
-use Rattle.std.proofs.lemmas.Bool.{cases_Bool, eqb-true, eq-eqb, ltb-true, leb-true, and_parts, or_right, false≢true}
+use Rattle.std.specs.Prelude.{encode_utf8, encode_utf8_all, nat_lt, nat_le, is_some}
+use Rattle.std.proofs.lemmas.Bool.{cases_Bool, eqb-true, eq-eqb, ltb-true, leb-true, and_parts, and_from, or_right, false≢true}
 use Rattle.std.specs.Char.{is_ascii_alphabetic}
 use Rattle.std.specs.Int.{is_in_range}
 use Rattle.std.proofs.lemmas.List.{append-nil}
 use Rattle.unicode_ident.proofs.IdentLemmas.{is_xid_start-ascii}
-use Rattle.std.proofs.lemmas.Str.{encodes_same, encode_ascii}
+use Rattle.std.proofs.lemmas.Str.{encodes_same, encode_ascii, length-le-encodes, encodes-chars}
+use Rattle.jr_lex.proofs.ScanLaws.{byte_len-chars}
 use Rattle.jr_lex.specs.declared.items.Keyword.{Keyword}
 use Rattle.jr_lex.specs.declared.keywords.TheConstants.{KEYWORDS}
 use Rattle.jr_lex.specs.Characters.{all_pass}
-use Rattle.jr_lex.specs.Scan.{same_text, lookup, keyword_of, kind_of_keyword, word_kind, word_at, front_of, rest_after, scan, Scanned}
+use Rattle.jr_lex.specs.Scan.{same_text, lookup, keyword_of, kind_of_keyword, word_kind, word_at, front_of, rest_after, is_word, scan, Scanned}
 use Rattle.jr_lex.specs.Characters.{is_word_start, is_word_part, byte_len}
 use Rattle.jr_lex.specs.Words.{keyword_text, IsWord, IsIdentifier}
 use Rattle.jr_lex.specs.Lexemes.{IsLexeme}
@@ -344,3 +345,47 @@ pub word_means : (at c : ℕ) (cs : List ℕ) → is_word_start c ≡ true → M
 word_means at c cs starts =
     let word : List ℕ = c ∷ front_of is_word_part cs in
     (word, ap (λ xs. c ∷ xs) (sym (front_of-rest_after is_word_part cs)), kind_lexeme word (keyword_of word) refl (starts, all_pass-front_of is_word_part cs))
+
+-- ---- whole words
+
+rest_after-all : (p : ℕ → Bool) (cs : List ℕ) → byte_len (rest_after p cs) ≡ 0 → all_pass p cs ≡ true
+rest_after-all p cs none =
+    let empty : rest_after p cs ≡ [] = no_bytes (rest_after p cs) none in
+    let all : front_of p cs ≡ cs = sym (append-nil (front_of p cs)) ∙ ap (λ r. front_of p cs ++ r) (sym empty) ∙ front_of-rest_after p cs in
+    subst (λ xs. all_pass p xs ≡ true) all (all_pass-front_of p cs)
+  where
+    no_bytes : (xs : List ℕ) → byte_len xs ≡ 0 → xs ≡ []
+    no_bytes [] e = refl
+    no_bytes (x ∷ xs) e = absurd (omega (arith, e, length-le-encodes (x ∷ xs)))
+
+pub is_word-sound : (cs : List ℕ) → is_word cs ≡ true → IsWord cs
+is_word-sound [] h = absurd (false≢true h)
+is_word-sound (c ∷ cs) h =
+    let parts = and_parts (is_word_start c) (byte_len (rest_after is_word_part cs) == 0) h in
+    (parts.0, rest_after-all is_word_part cs (eqb-true (byte_len (rest_after is_word_part cs)) 0 parts.1))
+
+pub is_word-complete : (cs : List ℕ) → IsWord cs → is_word cs ≡ true
+is_word-complete [] h = absurd h
+is_word-complete (c ∷ cs) h =
+    let whole : rest_after is_word_part cs ≡ [] = ap (rest_after is_word_part) (sym (append-nil cs)) ∙ rest_after-append is_word_part cs [] h.1 in
+    and_from (is_word_start c) _ h.0 (eq-eqb (byte_len (rest_after is_word_part cs)) 0 (ap byte_len whole))
+
+-- a whole word that is no keyword is an identifier, and nothing else is
+pub identifier-sound : (cs : List ℕ) → is_word cs ≡ true → is_some (keyword_of cs) ≡ false → IsIdentifier cs
+identifier-sound cs word none = record { is_word = is_word-sound cs word; is_no_keyword = λ k same. differ k (ap is_some (sym (keyword_of-text k)) ∙ ap (λ w. is_some (keyword_of w)) (sym same) ∙ none) }
+  where
+    differ : (k : Keyword) → is_some (Some k) ≡ false → ⊥
+    differ k e = false≢true (sym e)
+
+pub identifier-complete : (cs : List ℕ) → IsIdentifier cs → (is_word cs ≡ true) × (is_some (keyword_of cs) ≡ false)
+identifier-complete cs h = (is_word-complete cs h.is_word, ap is_some (IsIdentifier-none cs h))
+
+-- the same, of the bytes of a text
+
+pub is_word-begins : (text behind rest : List ℕ) (c : ℕ) → chars text ≡ c ∷ chars behind → is_word_start c ≡ true → IsUtf8 rest → chars rest ≡ rest_after is_word_part (chars behind)
+    → (length rest == 0) ≡ is_word (chars text)
+is_word-begins text behind rest c begins starts u left =
+    rw (begins, starts) (ap (λ n. n == 0) (sym (byte_len-chars rest u) ∙ ap byte_len left))
+
+pub keyword_of-chars : (text : List ℕ) → IsUtf8 text → keyword_of text ≡ keyword_of (chars text)
+keyword_of-chars text u = ap keyword_of (sym (encodes-chars text u)) ∙ keyword_of-encodes (chars text)

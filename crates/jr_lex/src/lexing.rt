@@ -1,12 +1,15 @@
 //! A text is cut into its items (JLS 3.2).
 
-ghost use Rattle.std.specs.Prelude.{◌≡◌, ◌≤◌, IfOk, IfErr, length};
-ghost use Rattle.jr_lex.specs.Lexes.{Lexes};
+ghost use Rattle.std.specs.Prelude.{◌≡◌, ◌≤◌, ◌⊎◌, IfOk, IfErr, MatchResult, List, length};
+ghost use Rattle.jr_text.specs.Texts.{IsText};
+ghost use Rattle.jr_lex.specs.declared.items.Item.{Item};
+ghost use Rattle.jr_lex.specs.Lexes.{Lexes, IsFirstFault};
 ghost use Rattle.jr_lex.specs.Answers.{IsFault};
+ghost use Rattle.jr_lex.specs.declared.faults.LexFault.{LexFault};
 
 use std::alloc::Global;
 
-use jr_text::Span;
+use jr_text::{Span, Text};
 
 use crate::characters::split_first;
 use crate::faults::LexFault;
@@ -30,4 +33,20 @@ pub(crate) fn items_of(alloc: Global, text: &str) -> Result<Vec<Item>, LexFault>
         rest = after;
     }
     Ok(items)
+}
+
+/// The items of a text, which join to it: each is the longest lexeme that begins where the last one ends (JLS 3.2).
+///
+/// An `Err` is the first fault of the text, with its place in bytes, or `Memory`.
+pub fn lex(alloc: Global, text: &Text) -> Result<Vec<Item>, LexFault>
+    ensures items { IfOk result (λ items. Lexes text.now items.items) }
+    ensures fault { IfErr result (IsFault text.now) }
+
+    // Where the text has items they are answered, and where it has a fault that is, unless memory ran out.
+    ensures only_items { (items : List Item) → Lexes text.now items
+        → MatchResult result (λ found. found.items ≡ items) (λ error. error ≡ LexFault.Memory) }
+    ensures only_fault { (fault : LexFault) → IsFirstFault text.now fault
+        → MatchResult result (λ _. ⊥) (λ error. (error ≡ fault) ⊎ (error ≡ LexFault.Memory)) }
+{
+    items_of(alloc, text.as_str())
 }
