@@ -10,3 +10,4 @@ pub mod CommentScans
 pub mod SymbolLaws
 pub mod ScanMeaning
 pub mod CutLaws
+pub mod LocalLaws

@@ -34,7 +34,7 @@ string_rest-plain c [] h = rw (plain_parts c h).quote refl
 string_rest-plain c (d ∷ cs) h = let p = plain_parts c h in rw (p.quote, p.backslash, p.line) refl
 
 -- what a content of two characters or more begins with
-content_cases : (p : ℕ → Bool) (c d : ℕ) (cs : List ℕ) → is_content p (c ∷ d ∷ cs) ≡ true
+pub content_cases : (p : ℕ → Bool) (c d : ℕ) (cs : List ℕ) → is_content p (c ∷ d ∷ cs) ≡ true
     → ((c ≡ 92) × (p d ≡ true) × (is_content p cs ≡ true)) ⊎ ((is_plain c ≡ true) × (is_content p (d ∷ cs) ≡ true))
 content_cases p c d cs h =
     elim (cases_Bool (c == 92)) [
@@ -132,11 +132,11 @@ ended_wrong d cs rest wrong ended =
     differ : (w : List ℕ) → (let none : Option (List ℕ) = None in none ≡ Some w) → ⊥
     differ w e = cc
 
-string_wrong-plain : (c : ℕ) (cs : List ℕ) → is_plain c ≡ true → string_wrong (c ∷ cs) ≡ string_wrong cs
+pub string_wrong-plain : (c : ℕ) (cs : List ℕ) → is_plain c ≡ true → string_wrong (c ∷ cs) ≡ string_wrong cs
 string_wrong-plain c [] h = refl
 string_wrong-plain c (d ∷ cs) h = let p = plain_parts c h in rw (p.quote, p.backslash, p.line) refl
 
-string_wrong-quote : (cs : List ℕ) → string_wrong (34 ∷ cs) ≡ None
+pub string_wrong-quote : (cs : List ℕ) → string_wrong (34 ∷ cs) ≡ None
 string_wrong-quote [] = refl
 string_wrong-quote (c ∷ cs) = refl
 
