@@ -1,7 +1,7 @@
 -- What stands at a place depends on its own characters, and on no more than a look at what follows.
 use Rattle.std.proofs.Common.{◌≡◌, ◌≢◌, ℕ, ◌+◌, ◌-◌, ◌≤◌, ◌<◌, ◌==◌, Bool, true, false, not, ◌&&◌, ◌||◌, ◌⊎◌, cond, List, [], ◌∷◌, ◌++◌, length, Option, Some, None, Ok, Err, refl, sym, ap, ◌∙◌, inl, inr, subst, arith}
 use Rattle.std.specs.Prelude.{nat_lt}
-use Rattle.std.proofs.lemmas.Bool.{cases_Bool, and_parts, or_parts, or_right, or_left, eqb-true, eq-eqb, both_ways, cond-true, cond-false, false≢true, not_from_false}
+use Rattle.std.proofs.lemmas.Bool.{cases_Bool, and_parts, or_parts, or_right, or_left, and_left, and_right, eqb-true, eq-eqb, both_ways, cond-true, cond-false, false≢true, not_from_false}
 use Rattle.std.proofs.lemmas.List.{append_assoc, append_cancel_right, append-nil, length-append}
 use Rattle.jr_lex.specs.declared.items.ItemKind.{ItemKind}
 use Rattle.jr_lex.specs.declared.items.ItemKind.TheVariants as item
@@ -12,11 +12,11 @@ use Rattle.jr_lex.specs.declared.faults.LexFault.{LexFault}
 use Rattle.jr_lex.specs.Characters.{is_line_end, is_blank, is_digit, is_word_start, is_word_part, all_pass, first_passes}
 use Rattle.jr_lex.specs.Numbers.{number_of}
 use Rattle.jr_lex.specs.Scan.{scan, Scanned, front_of, rest_after, spoils, is_not_line_end, number_at, word_at, word_kind, string_at, string_behind, string_rest, string_wrong, escape_or, line_comment_at, line_escape, block_comment_at, block_behind, block_rest, block_escape, extended, doubled, grown, marked, two_dots, dots, dot_at, slash_at, backslash_at}
-use Rattle.jr_lex.proofs.RunLaws.{front_of-rest_after, all_pass-front_of, first_passes-rest_after, rest_after-append, front_of-append, rest_after-none, front_of-none}
+use Rattle.jr_lex.proofs.RunLaws.{front_of-rest_after, all_pass-front_of, first_passes-rest_after, rest_after-append, front_of-append, rest_after-none, front_of-none, length-rest_after}
 use Rattle.jr_lex.specs.Strings.{is_content, is_escape}
 use Rattle.jr_lex.proofs.StringLaws.{content_cases, string_wrong-plain, string_wrong-quote, string_rest-append, string-ended}
 use Rattle.jr_lex.proofs.CommentLaws.{escape_in, with_rest, line_escape-append, block_escape-append, block_rest-ends, block_rest-append}
-use Rattle.jr_lex.proofs.SymbolLaws.{grown-grew}
+use Rattle.jr_lex.proofs.SymbolLaws.{grown-grew, two_dots-parts}
 use Rattle.jr_lex.proofs.FirstLaws.{First, first_of, start-apart, word_start-blank, word_start-digit, word_start-part, scan-blank, scan-digit, scan-quote, scan-dot, scan-slash, scan-backslash, scan-symbol, scan-word, scan-bad}
 
 -- Two texts that go the same way up to a place from which each goes on with a character that begins words, or to their end.
@@ -261,3 +261,151 @@ stopped_alike s (c ∷ cs) (d ∷ ds) alike e =
     go : (found : Option Symbol) → extended s c ≡ found → c ≡ d → grown s (d ∷ ds) ≡ (s, d ∷ ds)
     go None none same = rw (ap (extended s) (sym same) ∙ none) refl
     go (Some t) some same = absurd (omega (arith, (grown-grew t cs).shorter, ap (λ (g : Symbol × List ℕ). length g.1) (rw some at e)))
+
+abbrev Growth : Type 0
+Growth = Symbol × List ℕ
+
+growth_same : (x y : Growth) → x.0 ≡ y.0 → x.1 ≡ y.1 → x ≡ y
+growth_same x y e f = subst (λ k. (let z : Growth = (k, y.1) in x ≡ z)) e (subst (λ r. (let z : Growth = (x.0, r) in x ≡ z)) f refl)
+
+grown_local : (s g : Symbol) (tail rest other : List ℕ) → Alike rest other → grown s (tail ++ rest) ≡ (g, rest) → grown s (tail ++ other) ≡ (g, other)
+grown_local s g [] rest other alike e =
+    let here = stopped s rest (ap (λ (x : Growth). length x.1) e) in
+    stopped_alike s rest other alike here ∙ growth_same (s, other) (g, other) (ap (λ (x : Growth). x.0) (sym here ∙ e)) refl
+grown_local s g (c ∷ tail) rest other alike e = go (extended s c) refl (λ t h. grown_local t g tail rest other alike h)
+  where
+    go : (found : Option Symbol) → extended s c ≡ found → ((t : Symbol) → grown t (tail ++ rest) ≡ (g, rest) → grown t (tail ++ other) ≡ (g, other))
+        → grown s (c ∷ (tail ++ other)) ≡ (g, other)
+    go None same again = (let stuck : (let x : Growth = (s, c ∷ (tail ++ rest)) in x ≡ (g, rest)) = rw same at e in
+        absurd (omega (arith, ap (λ (x : Growth). length x.1) stuck, length-append tail rest)))
+    go (Some t) same again = rw same (again t (rw same at e))
+
+mark_local : (s : Symbol) (k : ItemKind) (tail rest other : List ℕ) → Alike rest other → marked (grown s (tail ++ rest)) ≡ Ok (k, rest) → marked (grown s (tail ++ other)) ≡ Ok (k, other)
+mark_local s k tail rest other alike e =
+    let left : (grown s (tail ++ rest)).1 ≡ rest = rest_same _ _ _ _ e in
+    let whole : grown s (tail ++ rest) ≡ ((grown s (tail ++ rest)).0, rest) = growth_same (grown s (tail ++ rest)) ((grown s (tail ++ rest)).0, rest) refl left in
+    ap marked (grown_local s (grown s (tail ++ rest)).0 tail rest other alike whole) ∙ same_ok _ _ _ _ (kind_same _ _ _ _ e) refl
+
+line_too_short : (at c : ℕ) (cs : List ℕ) (k : ItemKind) → line_comment_at at cs ≡ Ok (k, c ∷ cs) → ⊥
+line_too_short at c cs k e =
+    let parts = no_escape (at + 2) cs (line_escape false cs) (Ok (item.Comment, rest_after is_not_line_end cs)) (k, c ∷ cs) e in
+    absurd (omega (arith, ap length (rest_same _ _ _ _ parts.1), length-rest_after is_not_line_end cs))
+
+block_too_short : (at c : ℕ) (cs : List ℕ) (k : ItemKind) (found : Option (List ℕ)) → block_rest cs ≡ found → block_behind at cs found ≡ Ok (k, c ∷ cs) → ⊥
+block_too_short at c cs k None e scanned = err_ok _ _ scanned
+block_too_short at c cs k (Some left) e scanned =
+    let parts = no_escape (at + 2) cs (block_escape false cs) (Ok (item.Comment, left)) (k, c ∷ cs) scanned in
+    let ends = block_rest-ends cs left e in
+    absurd (omega (arith, ap length (rest_same _ _ _ _ parts.1), ap length ends.parts, length-append ends.body (42 ∷ 47 ∷ left)))
+
+slash_symbol : (at d : ℕ) (ds : List ℕ) → (d == 47) ≡ false → (d == 42) ≡ false → slash_at at (d ∷ ds) ≡ marked (grown symbol.Slash (d ∷ ds))
+slash_symbol at d ds no_slash no_star = cond-false (d == 47) _ _ no_slash ∙ cond-false (d == 42) _ _ no_star
+
+slash_alone : (at : ℕ) (k : ItemKind) (rest other : List ℕ) → Alike rest other → slash_at at rest ≡ Ok (k, rest) → slash_at at other ≡ Ok (k, other)
+slash_alone at k [] [] alike e = e
+slash_alone at k [] (d ∷ ds) alike e = absurd alike
+slash_alone at k (c ∷ cs) [] alike e = absurd alike
+slash_alone at k (c ∷ cs) (d ∷ ds) alike e =
+    elim (cases_Bool (c == 47)) [
+      inl slash ↦ absurd (line_too_short at c cs k (sym (cond-true (c == 47) _ _ slash) ∙ e))
+    | inr no_slash ↦ elim (cases_Bool (c == 42)) [
+          inl star ↦ absurd (block_too_short at c cs k (block_rest cs) refl (sym (cond-true (c == 42) _ _ star) ∙ (sym (cond-false (c == 47) _ _ no_slash) ∙ e)))
+        | inr no_star ↦
+            (let here : marked (grown symbol.Slash (c ∷ cs)) ≡ Ok (k, c ∷ cs) = sym (slash_symbol at c cs no_slash no_star) ∙ e in
+             let there : marked (grown symbol.Slash (d ∷ ds)) ≡ Ok (k, d ∷ ds) = mark_local symbol.Slash k [] (c ∷ cs) (d ∷ ds) alike here in
+             elim alike [
+               inl x ↦ slash_symbol at d ds (subst (λ n. (n == 47) ≡ false) x.0 no_slash) (subst (λ n. (n == 42) ≡ false) x.0 no_star) ∙ there
+             | inr x ↦ slash_symbol at d ds (start-apart d 47 x.1 refl) (start-apart d 42 x.1 refl) ∙ there
+             ])
+        ]
+    ]
+
+slash_local : (at : ℕ) (k : ItemKind) (tail rest other : List ℕ) → Alike rest other → slash_at at (tail ++ rest) ≡ Ok (k, rest) → slash_at at (tail ++ other) ≡ Ok (k, other)
+slash_local at k [] rest other alike e = slash_alone at k rest other alike e
+slash_local at k (c ∷ tail) rest other alike e =
+    elim (cases_Bool (c == 47)) [
+      inl slash ↦ cond-true (c == 47) _ _ slash ∙ line_local at k tail rest other alike (sym (cond-true (c == 47) _ _ slash) ∙ e)
+    | inr no_slash ↦ elim (cases_Bool (c == 42)) [
+          inl star ↦ cond-false (c == 47) _ _ no_slash ∙ (cond-true (c == 42) _ _ star
+            ∙ block_local at k tail rest other (sym (cond-true (c == 42) _ _ star) ∙ (sym (cond-false (c == 47) _ _ no_slash) ∙ e)))
+        | inr no_star ↦ slash_symbol at c (tail ++ other) no_slash no_star
+            ∙ mark_local symbol.Slash k (c ∷ tail) rest other alike (sym (slash_symbol at c (tail ++ rest) no_slash no_star) ∙ e)
+        ]
+    ]
+
+-- ---- dots
+
+one_dot : (c d : ℕ) (cs : List ℕ) → (d == 46) ≡ false → two_dots (c ∷ d ∷ cs) ≡ None
+one_dot c d cs no_dot = cond-false ((c == 46) && (d == 46)) _ _ (and_right (c == 46) (d == 46) no_dot)
+
+no_dots : (c : ℕ) (cs : List ℕ) → (c == 46) ≡ false → two_dots (c ∷ cs) ≡ None
+no_dots c [] no_dot = refl
+no_dots c (d ∷ cs) no_dot = cond-false ((c == 46) && (d == 46)) _ _ (and_left (c == 46) (d == 46) no_dot)
+
+two_dots-alike : (rest other : List ℕ) → Alike rest other → two_dots rest ≡ None → two_dots other ≡ None
+two_dots-alike [] [] alike e = refl
+two_dots-alike [] (d ∷ ds) alike e = absurd alike
+two_dots-alike (c ∷ cs) [] alike e = absurd alike
+two_dots-alike (c ∷ cs) (d ∷ ds) alike e =
+    elim alike [
+      inr x ↦ no_dots d ds (start-apart d 46 x.1 refl)
+    | inl x ↦ go cs ds x.1 (subst (λ n. two_dots (n ∷ cs) ≡ None) x.0 e)
+    ]
+  where
+    go : (cs ds : List ℕ) → Alike cs ds → two_dots (d ∷ cs) ≡ None → two_dots (d ∷ ds) ≡ None
+    go [] [] h e = refl
+    go [] (y ∷ ys) h e = absurd h
+    go (x ∷ xs) [] h e = absurd h
+    go (x ∷ xs) (y ∷ ys) h e =
+        elim h [
+          inr z ↦ one_dot d y ys (start-apart y 46 z.1 refl)
+        | inl z ↦ elim (cases_Bool ((d == 46) && (x == 46))) [
+              inl both ↦ absurd (none_some xs (sym e ∙ cond-true _ _ _ both))
+            | inr other ↦ cond-false ((d == 46) && (y == 46)) _ _ (subst (λ n. ((d == 46) && (n == 46)) ≡ false) z.0 other)
+            ]
+        ]
+
+nothing_before : (tail rest : List ℕ) → tail ++ rest ≡ rest → tail ≡ []
+nothing_before tail rest e = append_cancel_right tail [] rest e
+
+dots_local : (at : ℕ) (k : ItemKind) (tail rest other : List ℕ) (found : Option (List ℕ)) → Alike rest other → two_dots (tail ++ rest) ≡ found
+    → dots (tail ++ rest) found ≡ Ok (k, rest) → dots (tail ++ other) (two_dots (tail ++ other)) ≡ Ok (k, other)
+dots_local at k tail rest other None alike e scanned =
+    let none : tail ≡ [] = nothing_before tail rest (rest_same _ _ _ _ scanned) in
+    let here : two_dots rest ≡ None = ap (λ xs. two_dots (xs ++ rest)) (sym none) ∙ e in
+    let there : two_dots (tail ++ other) ≡ None = ap (λ xs. two_dots (xs ++ other)) none ∙ two_dots-alike rest other alike here in
+    rw there (same_ok _ _ _ _ (kind_same _ _ _ _ scanned) (ap (λ xs. xs ++ other) none))
+dots_local at k tail rest other (Some left) alike e scanned =
+    let parts : tail ++ rest ≡ (46 ∷ 46 ∷ []) ++ rest = two_dots-parts (tail ++ rest) left e ∙ ap (λ r. 46 ∷ 46 ∷ r) (rest_same _ _ _ _ scanned) in
+    let tails : tail ≡ 46 ∷ 46 ∷ [] = append_cancel_right tail (46 ∷ 46 ∷ []) rest parts in
+    let there : two_dots (tail ++ other) ≡ Some other = ap (λ xs. two_dots (xs ++ other)) tails in
+    rw there (same_ok _ _ _ _ (kind_same _ _ _ _ scanned) refl)
+
+dot_local : (at : ℕ) (k : ItemKind) (tail rest other : List ℕ) → Alike rest other → dot_at at (tail ++ rest) ≡ Ok (k, rest) → dot_at at (tail ++ other) ≡ Ok (k, other)
+dot_local at k tail rest other alike e =
+    let parts = unspoilt (first_passes is_digit (tail ++ rest)) _ _ (k, rest) e in
+    cond-false _ _ _ (sym (first_digit tail rest other alike) ∙ parts.0) ∙ dots_local at k tail rest other (two_dots (tail ++ rest)) alike refl parts.1
+
+-- ---- all
+
+backslash_never : (at : ℕ) (cs : List ℕ) (x : Taken) → backslash_at at cs ≡ Ok x → ⊥
+backslash_never at cs x e =
+    elim (cases_Bool (first_passes (λ d. d == 117) cs)) [ inl u ↦ err_ok _ x (sym (cond-true _ _ _ u) ∙ e) | inr no_u ↦ err_ok _ x (sym (cond-false _ _ _ no_u) ∙ e) ]
+
+-- What is taken is taken in front of any text that goes on alike.
+pub scan_local : (at c : ℕ) (k : ItemKind) (tail rest other : List ℕ) → Alike rest other → scan at c (tail ++ rest) ≡ Ok (k, rest) → scan at c (tail ++ other) ≡ Ok (k, other)
+scan_local at c k tail rest other alike e =
+    elim (first_of c) [
+      First.blank is ↦ scan-blank at c _ is ∙ blank_local k tail rest other alike (sym (scan-blank at c _ is) ∙ e)
+    | First.digit is ↦ scan-digit at c _ is ∙ number_local at c k tail rest other alike (sym (scan-digit at c _ is) ∙ e)
+    | First.quote is ↦ subst (λ x. scan at x (tail ++ other) ≡ Ok (k, other)) (sym is)
+        (scan-quote at _ ∙ string_local at k tail rest other (sym (scan-quote at _) ∙ (ap (λ x. scan at x (tail ++ rest)) (sym is) ∙ e)))
+    | First.dot is ↦ subst (λ x. scan at x (tail ++ other) ≡ Ok (k, other)) (sym is)
+        (scan-dot at _ ∙ dot_local at k tail rest other alike (sym (scan-dot at _) ∙ (ap (λ x. scan at x (tail ++ rest)) (sym is) ∙ e)))
+    | First.slash is ↦ subst (λ x. scan at x (tail ++ other) ≡ Ok (k, other)) (sym is)
+        (scan-slash at _ ∙ slash_local at k tail rest other alike (sym (scan-slash at _) ∙ (ap (λ x. scan at x (tail ++ rest)) (sym is) ∙ e)))
+    | First.backslash is ↦ absurd (backslash_never at (tail ++ rest) (k, rest) (sym (scan-backslash at _) ∙ (ap (λ x. scan at x (tail ++ rest)) (sym is) ∙ e)))
+    | First.mark s is ↦ scan-symbol at c _ s is ∙ mark_local s k tail rest other alike (sym (scan-symbol at c _ s is) ∙ e)
+    | First.word is ↦ scan-word at c _ is ∙ word_local c k tail rest other alike (sym (scan-word at c _ is) ∙ e)
+    | First.bad is ↦ absurd (err_ok _ (k, rest) (sym (scan-bad at c _ is) ∙ e))
+    ]

@@ -130,7 +130,7 @@ symbol_means at c cs s e = grown_means at c s cs (symbol_char c s e)
 
 -- ---- dots
 
-two_dots-parts : (cs rest : List ℕ) → two_dots cs ≡ Some rest → cs ≡ 46 ∷ 46 ∷ rest
+pub two_dots-parts : (cs rest : List ℕ) → two_dots cs ≡ Some rest → cs ≡ 46 ∷ 46 ∷ rest
 two_dots-parts [] rest e = absurd (none_some rest e)
 two_dots-parts (c ∷ []) rest e = absurd (none_some rest e)
 two_dots-parts (c ∷ d ∷ cs) rest e =
