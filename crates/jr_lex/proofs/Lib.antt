@@ -11,3 +11,4 @@ pub mod SymbolLaws
 pub mod ScanMeaning
 pub mod CutLaws
 pub mod LocalLaws
+pub mod ReplaceLaws
