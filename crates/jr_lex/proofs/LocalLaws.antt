@@ -86,19 +86,19 @@ run_alike p same tail rest other alike run = record { all = run.all; stops = sym
 
 -- ---- what Ok says
 
-abbrev Taken : Type 0
+abbrev pub Taken : Type 0
 Taken = ItemKind × List ℕ
 
 ok_same : (x y : Taken) → (let a : Scanned = Ok x in let b : Scanned = Ok y in a ≡ b) → x ≡ y
 ok_same x y e = cc
 
-kind_same : (k l : ItemKind) (r s : List ℕ) → (let a : Scanned = Ok (k, r) in let b : Scanned = Ok (l, s) in a ≡ b) → k ≡ l
+pub kind_same : (k l : ItemKind) (r s : List ℕ) → (let a : Scanned = Ok (k, r) in let b : Scanned = Ok (l, s) in a ≡ b) → k ≡ l
 kind_same k l r s e = ap (λ (x : Taken). x.0) (ok_same (k, r) (l, s) e)
 
-rest_same : (k l : ItemKind) (r s : List ℕ) → (let a : Scanned = Ok (k, r) in let b : Scanned = Ok (l, s) in a ≡ b) → r ≡ s
+pub rest_same : (k l : ItemKind) (r s : List ℕ) → (let a : Scanned = Ok (k, r) in let b : Scanned = Ok (l, s) in a ≡ b) → r ≡ s
 rest_same k l r s e = ap (λ (x : Taken). x.1) (ok_same (k, r) (l, s) e)
 
-same_ok : (k l : ItemKind) (r s : List ℕ) → k ≡ l → r ≡ s → (let a : Scanned = Ok (k, r) in let b : Scanned = Ok (l, s) in a ≡ b)
+pub same_ok : (k l : ItemKind) (r s : List ℕ) → k ≡ l → r ≡ s → (let a : Scanned = Ok (k, r) in let b : Scanned = Ok (l, s) in a ≡ b)
 same_ok k l r s e f = subst (λ x. (let a : Scanned = Ok (k, r) in let b : Scanned = Ok (x, s) in a ≡ b)) e (subst (λ x. (let a : Scanned = Ok (k, r) in let b : Scanned = Ok (k, x) in a ≡ b)) f refl)
 
 err_ok : (f : LexFault) (x : Taken) → (let a : Scanned = Err f in let b : Scanned = Ok x in a ≡ b) → ⊥
@@ -338,7 +338,7 @@ slash_local at k (c ∷ tail) rest other alike e =
 one_dot : (c d : ℕ) (cs : List ℕ) → (d == 46) ≡ false → two_dots (c ∷ d ∷ cs) ≡ None
 one_dot c d cs no_dot = cond-false ((c == 46) && (d == 46)) _ _ (and_right (c == 46) (d == 46) no_dot)
 
-no_dots : (c : ℕ) (cs : List ℕ) → (c == 46) ≡ false → two_dots (c ∷ cs) ≡ None
+pub no_dots : (c : ℕ) (cs : List ℕ) → (c == 46) ≡ false → two_dots (c ∷ cs) ≡ None
 no_dots c [] no_dot = refl
 no_dots c (d ∷ cs) no_dot = cond-false ((c == 46) && (d == 46)) _ _ (and_left (c == 46) (d == 46) no_dot)
 
