@@ -2,7 +2,7 @@
 use Rattle.std.proofs.Common.{◌≡◌, ℕ, ◌+◌, ◌-◌, ◌≤◌, ◌<◌, ◌⊎◌, true, false, List, [], ◌∷◌, ◌++◌, length, map, Ok, Err, refl, sym, ap, ◌∙◌, inl, inr, subst, arith}
 use Rattle.std.specs.Prelude.{encode_utf8_all}
 use Rattle.std.specs.Str.{IsUtf8, chars}
-use Rattle.std.proofs.lemmas.Str.{encodes-chars, encodes-append, chars_from_encodes, chars-append, IsUtf8-append, scalars-chars, chars-encodes}
+use Rattle.std.proofs.lemmas.Str.{encodes-chars, encodes-append, chars_from_encodes, chars-append, IsUtf8-append, scalars-chars, chars_past_char, encode_ascii}
 use Rattle.std.proofs.lemmas.List.{append_assoc, append_cancel_right, append_cancel_left, append-nil, length-append}
 use Rattle.jr_lex.specs.declared.items.Item.{Item}
 use Rattle.jr_lex.specs.declared.items.ItemKind.{ItemKind}
@@ -24,8 +24,8 @@ use Rattle.jr_lex.specs.Scan.{scan, Scanned, word_at as spec_word_at, word_kind,
 use Rattle.unicode_ident.proofs.IdentLemmas.{is_xid_continue-ascii}
 use Rattle.jr_lex.proofs.ScanLaws.{byte_len-chars}
 use Rattle.jr_lex.proofs.FirstLaws.{scan-word, scan-dot, start-apart, word_start-digit}
-use Rattle.jr_lex.proofs.WordLaws.{IsIdentifier-none}
-use Rattle.jr_lex.proofs.RunLaws.{append_apart, byte_len-append, first_passes-rest_after, rest_after-append, rest_after-none, front_of-append, front_of-none}
+use Rattle.jr_lex.proofs.WordLaws.{IsIdentifier-none, encodes-ascii}
+use Rattle.jr_lex.proofs.RunLaws.{append_apart, byte_len-append, byte_len-ascii, first_passes-rest_after, rest_after-append, rest_after-none, front_of-append, front_of-none}
 use Rattle.jr_lex.proofs.ScanMeaning.{scan-item, item-scan, no_empty, TakesItem}
 use Rattle.jr_lex.proofs.LocalLaws.{Alike, Alike-append, scan_local, same_ok, rest_same, no_dots}
 use Rattle.jr_lex.proofs.CutLaws.{Cuts-map, Cuts-append}
@@ -326,6 +326,9 @@ word_item at (c ∷ tail) r h stops =
     let fronts : found.front ≡ c ∷ tail = append_cancel_right found.front (c ∷ tail) r (sym found.item.taken.parts) in
     subst (λ f. IsItemAt at (c ∷ (tail ++ r)) (word_at at (byte_len f)) f r) fronts found.item
 
+one_byte : byte_len (46 ∷ []) ≡ 1
+one_byte = byte_len-ascii 46 [] (omega arith)
+
 dot_item : (at : ℕ) (r : List ℕ) → first_passes is_word_start r ≡ true → IsItemAt at (46 ∷ r) (dot_at at) (46 ∷ []) r
 dot_item at [] starts = absurd (false≢true starts)
 dot_item at (c ∷ cs) starts =
@@ -333,7 +336,8 @@ dot_item at (c ∷ cs) starts =
         scan-dot at (c ∷ cs) ∙ (cond-false _ _ _ (word_start-digit c starts) ∙ ap (dots (c ∷ cs)) (no_dots c cs (start-apart c 46 starts refl))) in
     let found = scan-item at 46 (c ∷ cs) (item.Token (token.Mark symbol.Dot)) (c ∷ cs) scanned in
     let fronts : found.front ≡ 46 ∷ [] = append_cancel_right found.front (46 ∷ []) (c ∷ cs) (sym found.item.taken.parts) in
-    subst (λ f. IsItemAt at (46 ∷ c ∷ cs) (item_of (item.Token (token.Mark symbol.Dot)) at (at + byte_len f)) f (c ∷ cs)) fronts found.item
+    subst (λ n. IsItemAt at (46 ∷ c ∷ cs) (item_of (item.Token (token.Mark symbol.Dot)) at (at + n)) (46 ∷ []) (c ∷ cs)) one_byte
+    (subst (λ f. IsItemAt at (46 ∷ c ∷ cs) (item_of (item.Token (token.Mark symbol.Dot)) at (at + byte_len f)) f (c ∷ cs)) fronts found.item)
 
 dot_stops : (r : List ℕ) → first_passes is_word_part (46 ∷ r) ≡ false
 unfolding is_word_part
@@ -357,5 +361,60 @@ word_swapped front old rest new before after n h =
         ap (λ xs. before ++ xs ++ moved (length old) (length new) after) same ∙ append_assoc before (word_at (length front) (length new) ∷ []) (moved (length old) (length new) after) in
     subst (Lexes (front ++ new ++ rest)) items replaced
 
+-- a `.` and a text behind it
+dot_text : (name : List ℕ) → IsUtf8 name → (IsUtf8 (46 ∷ name)) × (chars (46 ∷ name) ≡ 46 ∷ chars name)
+dot_text name u =
+    let dot : encode_utf8_all (46 ∷ []) ≡ 46 ∷ [] = encodes-ascii (46 ∷ []) refl in
+    let text : IsUtf8 (46 ∷ name) = IsUtf8-append (46 ∷ []) name (46 ∷ [], (refl, dot)) u in
+    (text, chars_past_char (46 ∷ name) name 46 text (ap (λ bs. bs ++ name) (sym (encode_ascii 46 (omega arith)))))
+
+qualified_lexes : (class new : List ℕ) → IsName class → IsName new → Lexes (class ++ 46 ∷ new) (word_at 0 (length class) ∷ dot_at (length class) ∷ word_at (length class + 1) (length new) ∷ [])
+qualified_lexes class new m n =
+    let C : List ℕ = chars class in
+    let N : List ℕ = chars new in
+    let len_class : byte_len C ≡ length class = byte_len-chars class m.is_text in
+    let len_new : byte_len N ≡ length new = byte_len-chars new n.is_text in
+    let behind = dot_text new n.is_text in
+    let text : chars (class ++ 46 ∷ new) ≡ C ++ 46 ∷ N = chars-append class (46 ∷ new) m.is_text ∙ ap (λ t. C ++ t) behind.1 in
+    let one : IsItemAt 0 (C ++ 46 ∷ N) (word_at 0 (length class)) C (46 ∷ N) =
+        subst (λ k. IsItemAt 0 (C ++ 46 ∷ N) (word_at 0 k) C (46 ∷ N)) len_class (word_item 0 C (46 ∷ N) m.is_identifier (dot_stops N)) in
+    let two : IsItemAt (0 + byte_len C) (46 ∷ N) (dot_at (length class)) (46 ∷ []) N =
+        subst (λ a. IsItemAt (0 + byte_len C) (46 ∷ N) (dot_at a) (46 ∷ []) N) (omega arith) (dot_item (0 + byte_len C) N (identifier_starts N n.is_identifier)) in
+    let third_at : ℕ = 0 + byte_len C + byte_len (46 ∷ []) in
+    let place : third_at ≡ length class + 1 = omega (arith, one_byte) in
+    let three : IsItemAt third_at N (word_at (length class + 1) (length new)) N [] =
+        subst (λ a. IsItemAt third_at N (word_at a (length new)) N []) place
+        (subst (λ k. IsItemAt third_at N (word_at third_at k) N []) len_new
+        (subst (λ x. IsItemAt third_at x (word_at third_at (byte_len N)) N []) (append-nil N) (word_item third_at N [] n.is_identifier refl))) in
+    record {
+      is_text = IsUtf8-append class (46 ∷ new) m.is_text behind.0;
+      cut = subst (λ x. Cuts IsEnd 0 x (word_at 0 (length class) ∷ dot_at (length class) ∷ word_at (length class + 1) (length new) ∷ [])) (sym text)
+        (C, 46 ∷ N, one, (46 ∷ [], N, two, (N, [], three, refl)));
+    }
+
+three_same : (a b c x y z : Item) → a ≡ x → b ≡ y → c ≡ z → a ∷ b ∷ c ∷ [] ≡ x ∷ y ∷ z ∷ []
+three_same a b c x y z e f g = cc
+
 pub word_qualified : WordQualified
-word_qualified front old rest class new before after m n h = ?
+word_qualified front old rest class new before after m n h =
+    let whole : List ℕ = class ++ 46 ∷ new in
+    let lf : ℕ = length front in
+    let lc : ℕ = length class in
+    let inside : List Item = word_at 0 lc ∷ dot_at lc ∷ word_at (lc + 1) (length new) ∷ [] in
+    let lexes = qualified_lexes class new m n in
+    let starts : first_passes is_word_start (chars whole) ≡ true =
+        ap (first_passes is_word_start) (chars-append class (46 ∷ new) m.is_text) ∙ first_front is_word_start (chars class) (chars (46 ∷ new)) (identifier_starts (chars class) m.is_identifier) in
+    let replaced = word_replaced front old rest whole before inside after h lexes starts
+        (record { front = word_at 0 lc ∷ dot_at lc ∷ []; last = word_at (lc + 1) (length new); parts = refl; is_word = refl }) in
+    let placed : List Item = word_at lf lc ∷ dot_at (lf + lc) ∷ word_at (lf + lc + 1) (length new) ∷ [] in
+    let same : moved 0 lf inside ≡ placed =
+        three_same _ _ _ _ _ _
+            (item_same word_kind_of _ _ _ _ (omega arith) (omega arith))
+            (item_same (item.Token (token.Mark symbol.Dot)) _ _ _ _ (omega arith) (omega arith))
+            (item_same word_kind_of _ _ _ _ (omega arith) (omega arith)) in
+    let len : length whole ≡ lc + 1 + length new = omega (arith, length-append class (46 ∷ new)) in
+    let items : before ++ moved 0 lf inside ++ moved (length old) (length whole) after ≡ before ++ (placed ++ moved (length old) (lc + 1 + length new) after) =
+        ap (λ xs. before ++ xs ++ moved (length old) (length whole) after) same
+        ∙ ap (λ k. before ++ placed ++ moved (length old) k after) len
+        ∙ append_assoc before placed (moved (length old) (lc + 1 + length new) after) in
+    subst (Lexes (front ++ whole ++ rest)) items replaced
