@@ -11,3 +11,4 @@ pub mod Depth
 pub mod Replacing
 pub mod Scan
 pub mod Front
+pub mod Answers

@@ -66,6 +66,11 @@ word_kind word = kind_of_keyword (keyword_of word)
 abbrev pub word_at : ℕ → List ℕ → Scanned
 word_at c cs = Ok (item.Token (word_kind (c ∷ front_of is_word_part cs)), rest_after is_word_part cs)
 
+-- the whole text is a word
+abbrev pub is_word : List ℕ → Bool
+is_word [] = false
+is_word (c ∷ cs) = is_word_start c && (byte_len (rest_after is_word_part cs) == 0)
+
 -- ---- numbers
 
 -- a character that spoils the number in front of it

@@ -7,6 +7,8 @@ mod escapes;
 mod faults;
 mod items;
 mod keywords;
+mod laws;
+mod lexing;
 mod numbers;
 mod scan;
 mod strings;
@@ -15,3 +17,9 @@ mod words;
 
 pub use faults::LexFault;
 pub use items::{Item, ItemKind, Keyword, Symbol, TokenKind};
+pub use laws::one_answer;
+pub use lexing::lex;
+pub use words::is_identifier;
+
+#[cfg(test)]
+mod tests;
