@@ -9,6 +9,7 @@ mod occurrences;
 mod phases;
 mod plans;
 mod reader;
+mod readings;
 mod refusals;
 mod sound;
 mod tables;
