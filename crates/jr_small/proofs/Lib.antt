@@ -8,3 +8,4 @@ pub mod Lookups
 pub mod WellBound
 pub mod AgainItems
 pub mod AgainInside
+pub mod AgainSlots
