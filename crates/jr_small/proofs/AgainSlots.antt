@@ -112,7 +112,7 @@ body_fills : (xs : List (Statement Name Reference)) (m s : ℕ) (ss : List Slot)
 body_fills [] m s ss os ts h = h
 body_fills (x ∷ xs) m s ss os ts h =
     let inner = statement_fills x m s (slots_body (map (statement_map bare_name bare_reference) xs) ss) (in_body m (s + 1) xs ++ os) (spell_body xs ++ ts) (body_fills xs m (s + 1) ss os ts h) in
-    rw append_assoc (rw append_assoc inner)
+    rw (append_assoc (in_statement m s x) (in_body m (s + 1) xs) os, append_assoc (spell_statement x) (spell_body xs) ts) inner
 
 later_fills : (ps : List Name) (m s : ℕ) (ss : List Slot) (os : List Occurrence) (ts : List Piece)
     → Fills ss os ts → Fills (slots_later (map bare_name ps) ss) (map (declared role.Parameter m s) ps ++ os) (spell_later ps ++ ts)
@@ -158,7 +158,7 @@ members_fill : (xs : List (Member Name Reference)) (m : ℕ) (ss : List Slot) (o
 members_fill [] m ss os ts h = h
 members_fill (x ∷ xs) m ss os ts h =
     let inner = member_fills x m (slots_members (map (member_map bare_name bare_reference) xs) ss) (in_members (m + 1) xs ++ os) (spell_members xs ++ ts) (members_fill xs (m + 1) ss os ts h) in
-    rw append_assoc (rw append_assoc inner)
+    rw (append_assoc (in_member m x) (in_members (m + 1) xs) os, append_assoc (spell_member x) (spell_members xs) ts) inner
 
 pub source_fills : (u : Tree) → Fills (slots (form_of u)) (occurrences u) (spell u)
 source_fills u =

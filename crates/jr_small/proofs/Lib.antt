@@ -9,3 +9,4 @@ pub mod WellBound
 pub mod AgainItems
 pub mod AgainInside
 pub mod AgainSlots
+pub mod AgainRefill
