@@ -10,3 +10,4 @@ pub mod AgainItems
 pub mod AgainInside
 pub mod AgainSlots
 pub mod AgainRefill
+pub mod AgainMoved
