@@ -11,3 +11,4 @@ pub mod AgainInside
 pub mod AgainSlots
 pub mod AgainRefill
 pub mod AgainMoved
+pub mod AgainOne
