@@ -12,3 +12,4 @@ pub mod AgainSlots
 pub mod AgainRefill
 pub mod AgainMoved
 pub mod AgainOne
+pub mod AgainTree
