@@ -13,3 +13,4 @@ pub mod AgainRefill
 pub mod AgainMoved
 pub mod AgainOne
 pub mod AgainTree
+pub mod AgainAll
