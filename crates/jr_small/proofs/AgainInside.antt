@@ -11,7 +11,9 @@ use Rattle.jr_lex.specs.declared.items.TokenKind.TheVariants.{Word}
 use Rattle.jr_lex.specs.Lexes.{Lexes, span_of}
 use Rattle.jr_lex.specs.Replacing.{IsName, item_of, word_at}
 use Rattle.jr_small.specs.Source.{Name}
-use Rattle.jr_small.specs.Token.{Piece, word, name_at, piece_of, pieces_of}
+use Rattle.jr_small.specs.declared.tokens.Shape.{Shape}
+use Rattle.jr_small.specs.declared.tokens.Shape.TheVariants as shape
+use Rattle.jr_small.specs.Token.{Piece, word, number, fixed_token, shape_in, value_in, shaped_piece, name_at, piece_of, pieces_of}
 use Rattle.jr_small.proofs.AgainItems.{IsTile, Tiled, lexes_tiled, slice_between, IsWordPiece, piece_word}
 
 -- Among the items from a place on the word is one. left and right are the bytes from the place on, in front of the word and behind it.
@@ -119,6 +121,62 @@ find text p bytes (item ∷ items) w back e t front s =
                 (find text (p ++ t.0) t.1 items w back (e' ∙ sym (append_assoc p t.0 t.1)) (subst (λ (n : ℕ). Tiled n t.1 items) (sym l) t.4) front' s'))
             front s)
 
+-- ---- the order of names
+
+-- a name stands between the two places
+abbrev pub IsWithin : ℕ → ℕ → Piece → Type 0
+IsWithin from to (word n) = (from ≤ n.at) × (n.at + length n.text ≤ to)
+IsWithin from to _ = Unit {0}
+
+-- each name stands between the two places
+abbrev pub AllWithin : ℕ → ℕ → List Piece → Type 0
+AllWithin from to [] = Unit {0}
+AllWithin from to (t ∷ ts) = IsWithin from to t × AllWithin from to ts
+
+within_wider : (from before to : ℕ) (t : Piece) → before ≤ from → IsWithin from to t → IsWithin before to t
+within_wider from before to (word n) l h = (omega (arith, h.0), h.1)
+within_wider from before to (number v) l h = tt
+within_wider from before to (fixed_token f) l h = tt
+
+all_wider : (from before to : ℕ) (ts : List Piece) → before ≤ from → AllWithin from to ts → AllWithin before to ts
+all_wider from before to [] l h = tt
+all_wider from before to (t ∷ ts) l h = (within_wider from before to t l h.0, all_wider from before to ts l h.1)
+
+piece_within : (text p f x : List ℕ) (to : ℕ) (k : TokenKind) → text ≡ p ++ (f ++ x) → length p + length f ≤ to → IsWithin (length p) to (piece_of text (span_of (length p) (length p + length f)) k)
+piece_within text p f x to k e l = go (shape_in k)
+  where
+    bytes : slice_range text (length p) (length p + length f) ≡ f
+    bytes = ap (λ (t : List ℕ). slice_range t (length p) (length p + length f)) e ∙ slice_between p f x
+
+    go : (s : Shape) → IsWithin (length p) to (shaped_piece text (span_of (length p) (length p + length f)) (value_in k) s)
+    go shape.Word = (omega arith, omega (arith, ap length bytes))
+    go shape.Number = tt
+    go (shape.Fixed y) = tt
+
+item_within : (text : List ℕ) (from to : ℕ) (span : Span) (kind : ItemKind) (items : List Item) → ((k : TokenKind) → IsWithin from to (piece_of text span k)) → AllWithin from to (pieces_of text items)
+    → AllWithin from to (pieces_of text (record { kind = kind; span = span } ∷ items))
+item_within text from to span (Token k) items h g = (h k, g)
+item_within text from to span Blank items h g = g
+item_within text from to span Comment items h g = g
+
+tiled_within : (items : List Item) (text p bytes r : List ℕ) → text ≡ p ++ (bytes ++ r) → Tiled (length p) bytes items → AllWithin (length p) (length p + length bytes) (pieces_of text items)
+tiled_within [] text p bytes r e t = tt
+tiled_within (item ∷ items) text p bytes r e t =
+    let f = t.0 in
+    let rest = t.1 in
+    let to = length p + length bytes in
+    let bytes_are : bytes ≡ f ++ rest = t.2 in
+    let at : length (p ++ f) ≡ length p + length f = length-append p f in
+    let long : length bytes ≡ length f + length rest = ap length bytes_are ∙ length-append f rest in
+    let outer : text ≡ p ++ (f ++ (rest ++ r)) = e ∙ ap (λ (bs : List ℕ). p ++ (bs ++ r)) bytes_are ∙ ap (λ (bs : List ℕ). p ++ bs) (append_assoc f rest r) in
+    let behind = tiled_within items text (p ++ f) rest r (outer ∙ sym (append_assoc p f (rest ++ r))) (subst (λ (n : ℕ). Tiled n rest items) (sym at) t.4) in
+    let same_end : length (p ++ f) + length rest ≡ to = omega arith in
+    let behind' = subst (λ (n : ℕ). AllWithin (length (p ++ f)) n (pieces_of text items)) same_end behind in
+    let fits : length p + length f ≤ to = omega arith in
+    subst (λ (at : Span). AllWithin (length p) to (pieces_of text (record { kind = item.kind; span = at } ∷ items))) (sym t.3.place)
+        (item_within text (length p) to (span_of (length p) (length p + length f)) item.kind items (λ k. piece_within text p f (rest ++ r) to k outer fits)
+            (all_wider (length (p ++ f)) (length p) to (pieces_of text items) (omega arith) behind'))
+
 -- A word among the tokens of a text: left and right are the bytes in front of it and behind it.
 pub record IsInText (text : List ℕ) (items : List Item) (front : List Piece) (w : Name) (back : List Piece) : Type 0 where
   pub before : List Item
@@ -135,6 +193,8 @@ pub record IsInText (text : List ℕ) (items : List Item) (front : List Piece) (
   pub name : IsName w.text
   pub spell_before : pieces_of text before ≡ front
   pub spell_after : pieces_of text after ≡ back
+  pub names_before : AllWithin 0 w.at front
+  pub names_after : AllWithin (w.at + length w.text) (length text) back
 
 -- each word among the tokens of a text stands in it, and is a name
 pub inside_text : (text : List ℕ) (items : List Item) (front : List Piece) (w : Name) (back : List Piece) → Lexes text items → pieces_of text items ≡ front ++ word w ∷ back → IsInText text items front w back
@@ -142,6 +202,12 @@ inside_text text items front w back lexes s =
     let h = find text [] text items w back refl (lexes_tiled text items lexes) front s in
     let zero : 0 + length h.left ≡ length h.left = omega arith in
     let at_is : w.at ≡ length h.left = h.place ∙ zero in
+    let end_is : w.at + length w.text ≡ length (h.left ++ w.text) = omega (arith, length-append h.left w.text) in
+    let tail : Tiled (length (h.left ++ w.text)) h.right h.after = subst (λ (n : ℕ). Tiled n h.right h.after) (omega arith) h.tiled_after in
+    let joined : text ≡ (h.left ++ w.text) ++ h.right = h.bytes_are ∙ sym (append_assoc h.left w.text h.right) in
+    let all : length (h.left ++ w.text) + length h.right ≡ length text = sym (ap length joined ∙ length-append (h.left ++ w.text) h.right) in
+    let first = tiled_within h.before text [] h.left (w.text ++ h.right) h.bytes_are h.tiled_before in
+    let last = tiled_within h.after text (h.left ++ w.text) h.right [] (joined ∙ ap (λ (bs : List ℕ). (h.left ++ w.text) ++ bs) (sym (append-nil h.right))) tail in
     record {
       before = h.before;
       after = h.after;
@@ -157,4 +223,7 @@ inside_text text items front w back lexes s =
       name = h.name;
       spell_before = h.spell_before;
       spell_after = h.spell_after;
+      names_before = subst (AllWithin 0 w.at) h.spell_before (subst (λ (n : ℕ). AllWithin 0 n (pieces_of text h.before)) (sym h.place) first);
+      names_after = subst (AllWithin (w.at + length w.text) (length text)) h.spell_after
+          (subst (λ (n : ℕ). AllWithin n (length text) (pieces_of text h.after)) (sym end_is) (subst (λ (n : ℕ). AllWithin (length (h.left ++ w.text)) n (pieces_of text h.after)) all last));
     }
