@@ -1,7 +1,6 @@
 -- The new text of a renaming, its edits applied from the last to the first, reads as the source with the other names.
-use Rattle.std.proofs.Common.{◌≡◌, ◌≢◌, ℕ, ◌+◌, List, [], ◌∷◌, ◌++◌, length, Option, Some, None, refl, sym, ap, subst, ◌∙◌, append_assoc, append-nil, arith, length-append, inl, inr, ◌⊎◌}
+use Rattle.std.proofs.Common.{◌≡◌, ◌≢◌, ℕ, ◌+◌, List, [], ◌∷◌, ◌++◌, length, Option, Some, None, refl, sym, ap, subst, ◌∙◌, append_assoc, arith, length-append, inl, inr, ◌⊎◌}
 use Rattle.std.specs.Prelude.{map}
-use Rattle.jr_text.specs.declared.spans.Span.{Span}
 use Rattle.jr_text.specs.Edits.{Entry}
 use Rattle.jr_text.specs.Splices.{splice, replaced}
 use Rattle.jr_lex.specs.Lexes.{span_of}
@@ -13,10 +12,10 @@ use Rattle.jr_small.specs.Occurrence.{Occurrence, occurrences}
 use Rattle.jr_small.specs.Renaming.{Plain, plain, with_text, with_qualifier}
 use Rattle.jr_small.specs.Answer.{Reads, form_of, SameForm, spelling_of, AreEditsOf}
 use Rattle.jr_small.proofs.AgainSlots.{Slot, slots}
-use Rattle.jr_small.proofs.AgainRefill.{Fits, AllFit}
+use Rattle.jr_small.proofs.AgainRefill.{AllFit}
 use Rattle.jr_small.proofs.AgainMoved.{moved_occurrence, all_moved_plain}
 use Rattle.jr_small.proofs.AgainOne.{ReadsAs, swap_read, qualify_read, qualified_by}
-use Rattle.jr_small.proofs.AgainTree.{AllBare, source_bare, fits_same, fits_text, fits_qualified, all_fit_moved, reads_as, ReadsWith, reads_with}
+use Rattle.jr_small.proofs.AgainTree.{AllBare, source_bare, fits_same, fits_text, fits_qualified, all_fit_moved, reads_as, reads_with}
 
 -- the name is replaced by another
 pub record IsRespelled (o n : Occurrence) : Type 0 where
@@ -150,7 +149,7 @@ all_edited swapped qualified ss text k before (o ∷ os) (n ∷ ns) es b c (inr 
     let rest = e.1.1 in
     let behind = all_edited swapped qualified ss text (k + 1) (before ++ o ∷ []) os ns rest b.1 c.1 e.1.6 reads in
     subst (λ (t : List ℕ). Done ss t before (o ∷ os) (n ∷ ns)) (sym (first_edit text o n es rest e.1.0 e.1.2 e.1.3 e.1.4 e.1.5))
-        (edited swapped qualified ss (splice text rest) before o n os ns b.0 c.0 e.0 behind)
+    (edited swapped qualified ss (splice text rest) before o n os ns b.0 c.0 e.0 behind)
 
 -- a tree of the same form whose names are these, but for their places
 pub record ReadsPlainly (text : List ℕ) (u : Tree) (ns : List Occurrence) : Type 0 where

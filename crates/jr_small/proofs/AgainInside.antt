@@ -1,6 +1,6 @@
 -- A word among the tokens of a text stands in the text, with the items and tokens in front of it and behind it.
-use Rattle.std.proofs.Common.{◌≡◌, ℕ, zero, suc, ◌+◌, ◌-◌, ◌≤◌, List, [], ◌∷◌, ◌++◌, length, take, drop, refl, sym, ap, subst, ◌∙◌, append_assoc, append-nil, arith, length-append}
-use Rattle.std.specs.Prelude.{slice_range, map}
+use Rattle.std.proofs.Common.{◌≡◌, ℕ, ◌+◌, ◌≤◌, List, [], ◌∷◌, ◌++◌, length, take, drop, refl, sym, ap, subst, ◌∙◌, append_assoc, append-nil, arith, length-append}
+use Rattle.std.specs.Prelude.{slice_range}
 use Rattle.std.proofs.lemmas.List.{take_at, drop_at}
 use Rattle.jr_text.specs.declared.spans.Span.{Span}
 use Rattle.jr_lex.specs.declared.items.Item.{Item}
@@ -14,7 +14,7 @@ use Rattle.jr_small.specs.Source.{Name}
 use Rattle.jr_small.specs.declared.tokens.Shape.{Shape}
 use Rattle.jr_small.specs.declared.tokens.Shape.TheVariants as shape
 use Rattle.jr_small.specs.Token.{Piece, word, number, fixed_token, shape_in, value_in, shaped_piece, name_at, piece_of, pieces_of}
-use Rattle.jr_small.proofs.AgainItems.{IsTile, Tiled, lexes_tiled, slice_between, IsWordPiece, piece_word}
+use Rattle.jr_small.proofs.AgainItems.{IsTile, Tiled, lexes_tiled, slice_between, piece_word}
 
 -- Among the items from a place on the word is one. left and right are the bytes from the place on, in front of the word and behind it.
 record Found (text : List ℕ) (at : ℕ) (bytes : List ℕ) (items : List Item) (front : List Piece) (w : Name) (back : List Piece) : Type 0 where
@@ -102,7 +102,7 @@ find_further text p f rest item items w back e tile tiled later front s = by_kin
         let x_is : piece_of text item.span k ≡ x = cc in
         let rest_is : pieces_of text items ≡ front ++ word w ∷ back = cc in
         further text (length p) f rest item items front (x ∷ front) w back tile
-            (λ before b. pieces_token text item before k i ∙ ap (λ (y : Piece). y ∷ pieces_of text before) x_is ∙ ap (λ (ys : List Piece). x ∷ ys) b) (later front rest_is)
+        (λ before b. pieces_token text item before k i ∙ ap (λ (y : Piece). y ∷ pieces_of text before) x_is ∙ ap (λ (ys : List Piece). x ∷ ys) b) (later front rest_is)
 
     by_kind : (k : ItemKind) → item.kind ≡ k → Found text (length p) (f ++ rest) (item ∷ items) front w back
     by_kind (Token k) i = by_front k i front (sym (pieces_token text item items k i) ∙ s)
@@ -116,10 +116,10 @@ find text p bytes (item ∷ items) w back e t front s =
     let e' : text ≡ p ++ (t.0 ++ t.1) = e ∙ ap (λ (bs : List ℕ). p ++ bs) t.2 in
     let l : length (p ++ t.0) ≡ length p + length t.0 = length-append p t.0 in
     subst (λ (bs : List ℕ). Found text (length p) bs (item ∷ items) front w back) (sym t.2)
-        (find_further text p t.0 t.1 item items w back e' t.3 t.4
-            (λ front' s'. subst (λ (n : ℕ). Found text n t.1 items front' w back) l
-                (find text (p ++ t.0) t.1 items w back (e' ∙ sym (append_assoc p t.0 t.1)) (subst (λ (n : ℕ). Tiled n t.1 items) (sym l) t.4) front' s'))
-            front s)
+    (find_further text p t.0 t.1 item items w back e' t.3 t.4
+    (λ front' s'. subst (λ (n : ℕ). Found text n t.1 items front' w back) l
+    (find text (p ++ t.0) t.1 items w back (e' ∙ sym (append_assoc p t.0 t.1)) (subst (λ (n : ℕ). Tiled n t.1 items) (sym l) t.4) front' s'))
+    front s)
 
 -- ---- the order of names
 
@@ -174,8 +174,8 @@ tiled_within (item ∷ items) text p bytes r e t =
     let behind' = subst (λ (n : ℕ). AllWithin (length (p ++ f)) n (pieces_of text items)) same_end behind in
     let fits : length p + length f ≤ to = omega arith in
     subst (λ (at : Span). AllWithin (length p) to (pieces_of text (record { kind = item.kind; span = at } ∷ items))) (sym t.3.place)
-        (item_within text (length p) to (span_of (length p) (length p + length f)) item.kind items (λ k. piece_within text p f (rest ++ r) to k outer fits)
-            (all_wider (length (p ++ f)) (length p) to (pieces_of text items) (omega arith) behind'))
+    (item_within text (length p) to (span_of (length p) (length p + length f)) item.kind items (λ k. piece_within text p f (rest ++ r) to k outer fits)
+    (all_wider (length (p ++ f)) (length p) to (pieces_of text items) (omega arith) behind'))
 
 -- A word among the tokens of a text: left and right are the bytes in front of it and behind it.
 pub record IsInText (text : List ℕ) (items : List Item) (front : List Piece) (w : Name) (back : List Piece) : Type 0 where

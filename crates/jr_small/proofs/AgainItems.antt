@@ -1,14 +1,14 @@
 -- The items of a text stand one behind the other, and the bytes of a word are a name.
-use Rattle.std.proofs.Common.{◌≡◌, ℕ, zero, suc, ◌+◌, ◌-◌, ◌≤◌, List, [], ◌∷◌, ◌++◌, length, take, drop, Bool, true, false, refl, sym, ap, subst, ◌∙◌, append_assoc, append-nil, arith, length-append}
-use Rattle.std.specs.Prelude.{encode_utf8_all, slice_range, map, nat_le, All, ◌&&◌}
-use Rattle.std.specs.Str.{IsUtf8, chars}
+use Rattle.std.proofs.Common.{◌≡◌, ℕ, ◌+◌, ◌-◌, List, [], ◌∷◌, ◌++◌, length, take, true, refl, sym, ap, subst, ◌∙◌, arith}
+use Rattle.std.specs.Prelude.{encode_utf8_all, slice_range}
+use Rattle.std.specs.Str.{chars}
 use Rattle.std.proofs.Math.Utf8.{scalars}
 use Rattle.std.proofs.lemmas.List.{take_at, drop_at}
 use Rattle.std.proofs.lemmas.Str.{encodes-append, encodes-chars, scalars-chars, chars-encodes}
 use Rattle.jr_text.specs.declared.spans.Span.{Span}
 use Rattle.jr_lex.specs.declared.items.Item.{Item}
 use Rattle.jr_lex.specs.declared.items.ItemKind.{ItemKind}
-use Rattle.jr_lex.specs.declared.items.ItemKind.TheVariants.{Token, Blank, Comment}
+use Rattle.jr_lex.specs.declared.items.ItemKind.TheVariants.{Token}
 use Rattle.jr_lex.specs.declared.items.TokenKind.{TokenKind}
 use Rattle.jr_lex.specs.declared.items.TokenKind.TheVariants.{Word, Keyword, Int, Mark, Text}
 use Rattle.jr_lex.specs.declared.items.Keyword as kw
@@ -16,13 +16,13 @@ use Rattle.jr_lex.specs.declared.items.Keyword.TheVariants as keyword
 use Rattle.jr_lex.specs.declared.items.Symbol as sy
 use Rattle.jr_lex.specs.declared.items.Symbol.TheVariants as symbol
 use Rattle.jr_lex.specs.Lexemes.{IsLexeme}
-use Rattle.jr_lex.specs.Lexes.{Lexes, Cuts, IsEnd, IsItemAt, span_of}
+use Rattle.jr_lex.specs.Lexes.{Lexes, Cuts, IsEnd, span_of}
 use Rattle.jr_lex.specs.Words.{IsIdentifier}
-use Rattle.jr_lex.specs.Replacing.{IsName, item_of, word_at}
+use Rattle.jr_lex.specs.Replacing.{IsName}
 use Rattle.jr_small.specs.declared.tokens.Shape.{Shape}
 use Rattle.jr_small.specs.declared.tokens.Shape.TheVariants as shape
 use Rattle.jr_small.specs.Source.{Name}
-use Rattle.jr_small.specs.Token.{Piece, word, number, fixed_token, shape_in, value_in, number_shape, name_at, shaped_piece, piece_of, pieces_of}
+use Rattle.jr_small.specs.Token.{word, shape_in, value_in, number_shape, name_at, shaped_piece, piece_of}
 
 -- ---- items in order
 
@@ -57,10 +57,13 @@ cuts_tiled at cs (item ∷ items) s h =
     let rest = h.1 in
     let e : cs ≡ front ++ rest = h.2.taken.parts in
     let s' : scalars (front ++ rest) ≡ true = ap scalars (sym e) ∙ s in
-    let l : scalars front ≡ true = scalars-left front rest s' in
-    (encode_utf8_all front, encode_utf8_all rest, ap encode_utf8_all e ∙ encodes-append front rest,
-        record { place = h.2.place; name = λ k. name_of front l (identifier item.kind front h.2.taken.lexeme k) },
-        cuts_tiled (at + length (encode_utf8_all front)) rest items (scalars-right front rest s') h.3)
+    let l : scalars front ≡ true = scalars-left front rest s' in (
+      encode_utf8_all front,
+      encode_utf8_all rest,
+      ap encode_utf8_all e ∙ encodes-append front rest,
+      record { place = h.2.place; name = λ k. name_of front l (identifier item.kind front h.2.taken.lexeme k) },
+      cuts_tiled (at + length (encode_utf8_all front)) rest items (scalars-right front rest s') h.3,
+    )
 
 -- the items of a text take its bytes
 pub lexes_tiled : (text : List ℕ) (items : List Item) → Lexes text items → Tiled 0 text items

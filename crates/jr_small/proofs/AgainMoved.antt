@@ -8,15 +8,14 @@ use Rattle.jr_lex.specs.declared.items.ItemKind.{ItemKind}
 use Rattle.jr_lex.specs.declared.items.ItemKind.TheVariants.{Token, Blank, Comment}
 use Rattle.jr_lex.specs.declared.items.TokenKind.{TokenKind}
 use Rattle.jr_lex.specs.Lexes.{span_of}
-use Rattle.jr_lex.specs.Replacing.{item_of, moved}
+use Rattle.jr_lex.specs.Replacing.{moved}
 use Rattle.jr_small.specs.declared.tokens.Shape.{Shape}
 use Rattle.jr_small.specs.declared.tokens.Shape.TheVariants as shape
 use Rattle.jr_small.specs.Source.{Name}
-use Rattle.jr_small.specs.Spelling.{spell_reference}
-use Rattle.jr_small.specs.Token.{Piece, word, number, fixed_token, shape_in, value_in, name_at, shaped_piece, piece_of, pieces_of}
+use Rattle.jr_small.specs.Token.{Piece, word, number, fixed_token, shape_in, value_in, shaped_piece, piece_of, pieces_of}
 use Rattle.jr_small.specs.Occurrence.{Occurrence}
 use Rattle.jr_small.specs.Renaming.{Plain, plain}
-use Rattle.jr_small.proofs.AgainItems.{IsTile, Tiled, slice_between}
+use Rattle.jr_small.proofs.AgainItems.{Tiled, slice_between}
 use Rattle.jr_small.proofs.AgainSlots.{Slot, a_name, a_number, a_token, Fills, spell_occurrence}
 
 -- a name where, in front of it, so many bytes are gone and so many have come
@@ -83,8 +82,8 @@ same_step : (p f x y : List ℕ) (item : Item) (items : List Item) → item.span
 same_step p f x y item items place e =
     let span = span_of (length p) (length p + length f) in
     subst (λ (at : Span). pieces_of (p ++ (f ++ y)) (record { kind = item.kind; span = at } ∷ items) ≡ pieces_of (p ++ (f ++ x)) (record { kind = item.kind; span = at } ∷ items)) (sym place)
-        (pieces_step (λ z. z) (p ++ (f ++ x)) (p ++ (f ++ y)) span span item.kind items items (piece_same p f x y) (e ∙ sym (map-id (pieces_of (p ++ (f ++ x)) items)))
-            ∙ map-id (pieces_of (p ++ (f ++ x)) (record { kind = item.kind; span = span } ∷ items)))
+    (pieces_step (λ z. z) (p ++ (f ++ x)) (p ++ (f ++ y)) span span item.kind items items (piece_same p f x y) (e ∙ sym (map-id (pieces_of (p ++ (f ++ x)) items)))
+    ∙ map-id (pieces_of (p ++ (f ++ x)) (record { kind = item.kind; span = span } ∷ items)))
 
 inner_joined : (p f rest s : List ℕ) → p ++ ((f ++ rest) ++ s) ≡ (p ++ f) ++ (rest ++ s)
 inner_joined p f rest s = simp append_assoc
@@ -100,11 +99,11 @@ pieces_before (item ∷ items) p bytes r s t =
     let rest = t.1 in
     let behind = pieces_before items (p ++ f) rest r s (subst (λ (n : ℕ). Tiled n rest items) (sym (length-append p f)) t.4) in
     let same : pieces_of (p ++ (f ++ (rest ++ s))) items ≡ pieces_of (p ++ (f ++ (rest ++ r))) items =
-        ap (λ (x : List ℕ). pieces_of x items) (sym (append_assoc p f (rest ++ s))) ∙ behind ∙ ap (λ (x : List ℕ). pieces_of x items) (append_assoc p f (rest ++ r)) in
+    ap (λ (x : List ℕ). pieces_of x items) (sym (append_assoc p f (rest ++ s))) ∙ behind ∙ ap (λ (x : List ℕ). pieces_of x items) (append_assoc p f (rest ++ r)) in
     subst (λ (bs : List ℕ). pieces_of (p ++ (bs ++ s)) (item ∷ items) ≡ pieces_of (p ++ (bs ++ r)) (item ∷ items)) (sym t.2)
-        (ap (λ (x : List ℕ). pieces_of x (item ∷ items)) (outer_joined p f rest s)
-            ∙ same_step p f (rest ++ r) (rest ++ s) item items t.3.place same
-            ∙ ap (λ (x : List ℕ). pieces_of x (item ∷ items)) (sym (outer_joined p f rest r)))
+    (ap (λ (x : List ℕ). pieces_of x (item ∷ items)) (outer_joined p f rest s)
+    ∙ same_step p f (rest ++ r) (rest ++ s) item items t.3.place same
+    ∙ ap (λ (x : List ℕ). pieces_of x (item ∷ items)) (sym (outer_joined p f rest r)))
 
 piece_moved : (gone come : ℕ) (p q f x : List ℕ) (k : TokenKind) → length q + gone ≡ length p + come
     → piece_of (q ++ (f ++ x)) (span_of (length p + come - gone) (length p + length f + come - gone)) k ≡ moved_piece gone come (piece_of (p ++ (f ++ x)) (span_of (length p) (length p + length f)) k)
@@ -129,8 +128,8 @@ moved_step : (gone come : ℕ) (p q f x : List ℕ) (item : Item) (items : List 
     → pieces_of (q ++ (f ++ x)) (moved gone come (item ∷ items)) ≡ map (moved_piece gone come) (pieces_of (p ++ (f ++ x)) (item ∷ items))
 moved_step gone come p q f x item items e place h =
     subst (λ (at : Span). pieces_of (q ++ (f ++ x)) (moved gone come (record { kind = item.kind; span = at } ∷ items)) ≡ map (moved_piece gone come) (pieces_of (p ++ (f ++ x)) (record { kind = item.kind; span = at } ∷ items))) (sym place)
-        (pieces_step (moved_piece gone come) (p ++ (f ++ x)) (q ++ (f ++ x)) (span_of (length p) (length p + length f)) (span_of (length p + come - gone) (length p + length f + come - gone)) item.kind items (moved gone come items)
-            (λ k. piece_moved gone come p q f x k e) h)
+    (pieces_step (moved_piece gone come) (p ++ (f ++ x)) (q ++ (f ++ x)) (span_of (length p) (length p + length f)) (span_of (length p + come - gone) (length p + length f + come - gone)) item.kind items (moved gone come items)
+    (λ k. piece_moved gone come p q f x k e) h)
 
 -- the items behind what is longer or shorter now
 pub pieces_behind : (gone come : ℕ) (items : List Item) (p q bytes : List ℕ) → length q + gone ≡ length p + come → Tiled (length p) bytes items
@@ -142,9 +141,9 @@ pieces_behind gone come (item ∷ items) p q bytes e t =
     let e' : length (q ++ f) + gone ≡ length (p ++ f) + come = omega (arith, length-append q f, length-append p f) in
     let behind = pieces_behind gone come items (p ++ f) (q ++ f) rest e' (subst (λ (n : ℕ). Tiled n rest items) (sym (length-append p f)) t.4) in
     let same : pieces_of (q ++ (f ++ rest)) (moved gone come items) ≡ map (moved_piece gone come) (pieces_of (p ++ (f ++ rest)) items) =
-        ap (λ (x : List ℕ). pieces_of x (moved gone come items)) (sym (append_assoc q f rest)) ∙ behind ∙ ap (λ (x : List ℕ). map (moved_piece gone come) (pieces_of x items)) (append_assoc p f rest) in
+    ap (λ (x : List ℕ). pieces_of x (moved gone come items)) (sym (append_assoc q f rest)) ∙ behind ∙ ap (λ (x : List ℕ). map (moved_piece gone come) (pieces_of x items)) (append_assoc p f rest) in
     subst (λ (bs : List ℕ). pieces_of (q ++ bs) (moved gone come (item ∷ items)) ≡ map (moved_piece gone come) (pieces_of (p ++ bs) (item ∷ items))) (sym t.2)
-        (moved_step gone come p q f rest item items e t.3.place same)
+    (moved_step gone come p q f rest item items e t.3.place same)
 
 -- items behind others
 pub pieces-append : (text : List ℕ) (items others : List Item) → pieces_of text (items ++ others) ≡ pieces_of text items ++ pieces_of text others

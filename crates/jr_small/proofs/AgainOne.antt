@@ -1,24 +1,19 @@
 -- One name of a text is replaced, and the text reads again with the other name.
-use Rattle.std.proofs.Common.{◌≡◌, ℕ, ◌+◌, ◌-◌, List, [], ◌∷◌, ◌++◌, length, take, drop, Option, Some, None, refl, sym, ap, subst, ◌∙◌, append_assoc, append-nil, arith, length-append}
-use Rattle.std.specs.Prelude.{slice_range, map}
-use Rattle.jr_text.specs.declared.spans.Span.{Span}
+use Rattle.std.proofs.Common.{◌≡◌, ℕ, ◌+◌, List, [], ◌∷◌, ◌++◌, length, drop, Option, Some, None, refl, sym, ap, subst, ◌∙◌, append_assoc, arith, length-append}
+use Rattle.std.specs.Prelude.{map}
 use Rattle.jr_text.specs.Splices.{replaced}
 use Rattle.jr_lex.specs.declared.items.Item.{Item}
 use Rattle.jr_lex.specs.Lexes.{Lexes, span_of}
-use Rattle.jr_lex.specs.Replacing.{IsName, item_of, word_at, dot_at, moved, WordSwapped, WordQualified}
+use Rattle.jr_lex.specs.Replacing.{IsName, word_at, dot_at, moved, WordSwapped, WordQualified}
 use Rattle.jr_small.specs.declared.tokens.Fixed.TheVariants as fixed
-use Rattle.jr_small.specs.declared.occurrences.Role.TheVariants as roles
 use Rattle.jr_small.specs.Source.{Name}
-use Rattle.jr_small.specs.Spelling.{Tree, spell}
 use Rattle.jr_small.specs.Token.{Piece, word, number, fixed_token, name_at, pieces_of}
-use Rattle.jr_small.specs.Occurrence.{Occurrence, occurrences}
-use Rattle.jr_small.specs.Renaming.{Plain, plain, with_text, with_qualifier}
-use Rattle.jr_small.specs.Answer.{Reads, form_of, SameForm}
+use Rattle.jr_small.specs.Occurrence.{Occurrence}
+use Rattle.jr_small.specs.Renaming.{with_text}
 use Rattle.jr_small.proofs.AgainItems.{Tiled, slice_between}
 use Rattle.jr_small.proofs.AgainInside.{IsInText, inside_text}
-use Rattle.jr_small.proofs.AgainSlots.{Slot, a_name, a_number, a_token, Fills, spell_occurrence, slots, source_fills, one_filling}
-use Rattle.jr_small.proofs.AgainRefill.{Fits, AllFit, SourceAgain, source_again}
-use Rattle.jr_small.proofs.AgainMoved.{moved_name, moved_piece, moved_occurrence, all_moved_plain, fills_moved, pieces_before, pieces_behind, pieces-append}
+use Rattle.jr_small.proofs.AgainSlots.{Slot, a_name, a_number, a_token, Fills, spell_occurrence}
+use Rattle.jr_small.proofs.AgainMoved.{moved_piece, moved_occurrence, fills_moved, pieces_before, pieces_behind, pieces-append}
 
 -- the text's tokens are the slots with these names
 pub record ReadsAs (ss : List Slot) (text : List ℕ) (os : List Occurrence) : Type 0 where
@@ -99,8 +94,8 @@ place_of ss text os o ps h q =
 put : (ss : List Slot) (text : List ℕ) (os : List Occurrence) (o : Occurrence) (ps : List Occurrence) (h : Place ss text os o ps) (middle : List ℕ) (come : ℕ) (between : List Item) (n : Occurrence)
     → length middle ≡ come
     → (let new = h.inside.left ++ middle ++ h.inside.right in
-        Lexes new (h.inside.before ++ (between ++ moved (length o.name.text) come h.inside.after)) → pieces_of new between ≡ spell_occurrence n
-        → ReadsAs ss (replaced text (span_of o.name.at (o.name.at + length o.name.text)) middle) (os ++ n ∷ map (moved_occurrence (length o.name.text) come) ps))
+    Lexes new (h.inside.before ++ (between ++ moved (length o.name.text) come h.inside.after)) → pieces_of new between ≡ spell_occurrence n
+    → ReadsAs ss (replaced text (span_of o.name.at (o.name.at + length o.name.text)) middle) (os ++ n ∷ map (moved_occurrence (length o.name.text) come) ps))
 put ss text os o ps h middle come between n len lexes spelled =
     let i = h.inside in
     let a = h.around in
@@ -109,21 +104,21 @@ put ss text os o ps h middle come between n len lexes spelled =
     let behind = moved gone come i.after in
     let new_is : replaced text (span_of o.name.at (o.name.at + gone)) middle ≡ new = ap (λ (x : List ℕ). x ++ middle ++ drop (o.name.at + gone) text) (sym i.left_is) ∙ ap (λ (x : List ℕ). i.left ++ middle ++ x) (sym i.right_is) in
     let first : pieces_of new i.before ≡ a.front =
-        ap (λ (x : List ℕ). pieces_of x i.before) (append_assoc i.left middle i.right)
-        ∙ pieces_before i.before [] i.left (o.name.text ++ i.right) (middle ++ i.right) i.tiled_before
-        ∙ ap (λ (x : List ℕ). pieces_of x i.before) (sym (i.bytes_are ∙ append_assoc i.left o.name.text i.right))
-        ∙ i.spell_before in
+    ap (λ (x : List ℕ). pieces_of x i.before) (append_assoc i.left middle i.right)
+    ∙ pieces_before i.before [] i.left (o.name.text ++ i.right) (middle ++ i.right) i.tiled_before
+    ∙ ap (λ (x : List ℕ). pieces_of x i.before) (sym (i.bytes_are ∙ append_assoc i.left o.name.text i.right))
+    ∙ i.spell_before in
     let lengths : length (i.left ++ middle) + gone ≡ length (i.left ++ o.name.text) + come = omega (arith, length-append i.left middle, length-append i.left o.name.text) in
     let last : pieces_of new behind ≡ map (moved_piece gone come) a.back =
-        pieces_behind gone come i.after (i.left ++ o.name.text) (i.left ++ middle) i.right lengths (subst (λ (k : ℕ). Tiled k i.right i.after) (sym (length-append i.left o.name.text)) i.tiled_after)
-        ∙ ap (λ (x : List ℕ). map (moved_piece gone come) (pieces_of x i.after)) (sym i.bytes_are)
-        ∙ ap (map (moved_piece gone come)) i.spell_after in
+    pieces_behind gone come i.after (i.left ++ o.name.text) (i.left ++ middle) i.right lengths (subst (λ (k : ℕ). Tiled k i.right i.after) (sym (length-append i.left o.name.text)) i.tiled_after)
+    ∙ ap (λ (x : List ℕ). map (moved_piece gone come) (pieces_of x i.after)) (sym i.bytes_are)
+    ∙ ap (map (moved_piece gone come)) i.spell_after in
     let all : pieces_of new (i.before ++ (between ++ behind)) ≡ a.front ++ (spell_occurrence n ++ map (moved_piece gone come) a.back) =
-        pieces-append new i.before (between ++ behind)
-        ∙ ap (λ (x : List Piece). x ++ pieces_of new (between ++ behind)) first
-        ∙ ap (λ (x : List Piece). a.front ++ x) (pieces-append new between behind ∙ ap (λ (x : List Piece). x ++ pieces_of new behind) spelled ∙ ap (λ (x : List Piece). spell_occurrence n ++ x) last) in
+    pieces-append new i.before (between ++ behind)
+    ∙ ap (λ (x : List Piece). x ++ pieces_of new (between ++ behind)) first
+    ∙ ap (λ (x : List Piece). a.front ++ x) (pieces-append new between behind ∙ ap (λ (x : List Piece). x ++ pieces_of new behind) spelled ∙ ap (λ (x : List Piece). spell_occurrence n ++ x) last) in
     let filled = fills_join a.left os a.front (a_name ∷ a.right) (n ∷ map (moved_occurrence gone come) ps) (spell_occurrence n ++ map (moved_piece gone come) a.back)
-        a.fill_left (map (moved_piece gone come) a.back, refl, fills_moved gone come a.right ps a.back a.fill_right) in
+    a.fill_left (map (moved_piece gone come) a.back, refl, fills_moved gone come a.right ps a.back a.fill_right) in
     let filled' = subst (λ (xs : List Slot). Fills xs (os ++ n ∷ map (moved_occurrence gone come) ps) (a.front ++ (spell_occurrence n ++ map (moved_piece gone come) a.back))) a.slots_are filled in
     let reads : ReadsAs ss new (os ++ n ∷ map (moved_occurrence gone come) ps) = record {
       items = i.before ++ (between ++ behind);
@@ -143,13 +138,13 @@ swap_read swapped ss text os o ps new h q name =
     let old = subst (λ (t : List ℕ). Lexes t p.items) i.bytes_are p.lexes in
     let old' = subst (λ (xs : List Item). Lexes (i.left ++ o.name.text ++ i.right) xs) i.parts old in
     let named : name_at all (span_of (length i.left) (length i.left + length new)) ≡ record { at = o.name.at; text = new } =
-        ap (λ (t : List ℕ). name_at t (span_of (length i.left) (length i.left + length new))) (append_assoc i.left new i.right)
-        ∙ ap (λ (t : List ℕ). record { at = length i.left; text = t }) (slice_between i.left new i.right)
-        ∙ ap (λ (k : ℕ). record { at = k; text = new }) (sym i.place) in
+    ap (λ (t : List ℕ). name_at t (span_of (length i.left) (length i.left + length new))) (append_assoc i.left new i.right)
+    ∙ ap (λ (t : List ℕ). record { at = length i.left; text = t }) (slice_between i.left new i.right)
+    ∙ ap (λ (k : ℕ). record { at = k; text = new }) (sym i.place) in
     let spelled : word (record { at = o.name.at; text = new }) ∷ [] ≡ spell_occurrence (with_text o new) = sym (bare_spelling (with_text o new) q) in
     put ss text os o ps p new (length new) (word_at (length i.left) (length new) ∷ []) (with_text o new) refl
-        (swapped i.left o.name.text i.right new i.before i.after name old')
-        (ap (λ (n : Name). word n ∷ []) named ∙ spelled)
+    (swapped i.left o.name.text i.right new i.before i.after name old')
+    (ap (λ (n : Name). word n ∷ []) named ∙ spelled)
 
 -- the occurrence with the class and a dot in front of its name
 abbrev pub qualified_by : Occurrence → List ℕ → Occurrence
@@ -159,7 +154,7 @@ qualified_by o class = record o { qualifier = Some (record { at = o.name.at; tex
 pub qualify_read : (qualified : WordQualified) (ss : List Slot) (text : List ℕ) (os : List Occurrence) (o : Occurrence) (ps : List Occurrence) (class : List ℕ)
     → ReadsAs ss text (os ++ o ∷ ps) → o.qualifier ≡ None → IsName class
     → ReadsAs ss (replaced text (span_of o.name.at (o.name.at + length o.name.text)) (class ++ 46 ∷ o.name.text))
-        (os ++ qualified_by o class ∷ map (moved_occurrence (length o.name.text) (length class + 1 + length o.name.text)) ps)
+    (os ++ qualified_by o class ∷ map (moved_occurrence (length o.name.text) (length class + 1 + length o.name.text)) ps)
 qualify_read qualified ss text os o ps class h q name =
     let p = place_of ss text os o ps h q in
     let i = p.inside in
@@ -170,21 +165,21 @@ qualify_read qualified ss text os o ps class h q name =
     let old' = subst (λ (xs : List Item). Lexes (i.left ++ o.name.text ++ i.right) xs) i.parts old in
     let from = length i.left in
     let named : name_at all (span_of from (from + length class)) ≡ record { at = o.name.at; text = class } =
-        ap (λ (t : List ℕ). name_at t (span_of from (from + length class))) (class_joined i.left class text' i.right)
-        ∙ ap (λ (t : List ℕ). record { at = from; text = t }) (slice_between i.left class (46 ∷ (text' ++ i.right)))
-        ∙ ap (λ (k : ℕ). record { at = k; text = class }) (sym i.place) in
+    ap (λ (t : List ℕ). name_at t (span_of from (from + length class))) (class_joined i.left class text' i.right)
+    ∙ ap (λ (t : List ℕ). record { at = from; text = t }) (slice_between i.left class (46 ∷ (text' ++ i.right)))
+    ∙ ap (λ (k : ℕ). record { at = k; text = class }) (sym i.place) in
     let front = i.left ++ (class ++ 46 ∷ []) in
     let front_is : length front ≡ from + length class + 1 = omega (arith, length-append i.left (class ++ 46 ∷ []), length-append class (46 ∷ [])) in
     let behind : name_at all (span_of (from + length class + 1) (from + length class + 1 + length text')) ≡ record { at = o.name.at + length class + 1; text = text' } =
-        ap (λ (t : List ℕ). name_at t (span_of (from + length class + 1) (from + length class + 1 + length text'))) (name_joined i.left class text' i.right)
-        ∙ ap (λ (k : ℕ). name_at (front ++ (text' ++ i.right)) (span_of k (k + length text'))) (sym front_is)
-        ∙ ap (λ (t : List ℕ). record { at = length front; text = t }) (slice_between front text' i.right)
-        ∙ ap (λ (k : ℕ). record { at = k; text = text' }) (front_is ∙ ap (λ (k : ℕ). k + length class + 1) (sym i.place)) in
+    ap (λ (t : List ℕ). name_at t (span_of (from + length class + 1) (from + length class + 1 + length text'))) (name_joined i.left class text' i.right)
+    ∙ ap (λ (k : ℕ). name_at (front ++ (text' ++ i.right)) (span_of k (k + length text'))) (sym front_is)
+    ∙ ap (λ (t : List ℕ). record { at = length front; text = t }) (slice_between front text' i.right)
+    ∙ ap (λ (k : ℕ). record { at = k; text = text' }) (front_is ∙ ap (λ (k : ℕ). k + length class + 1) (sym i.place)) in
     put ss text os o ps p middle (length class + 1 + length text') (word_at from (length class) ∷ dot_at (from + length class) ∷ word_at (from + length class + 1) (length text') ∷ []) (qualified_by o class)
-        (omega (arith, length-append class (46 ∷ text')))
-        (qualified i.left text' i.right class text' i.before i.after name i.name old')
-        (ap (λ (n : Name). word n ∷ fixed_token fixed.Dot ∷ word (name_at all (span_of (from + length class + 1) (from + length class + 1 + length text'))) ∷ []) named
-            ∙ ap (λ (n : Name). word (record { at = o.name.at; text = class }) ∷ fixed_token fixed.Dot ∷ word n ∷ []) behind)
+    (omega (arith, length-append class (46 ∷ text')))
+    (qualified i.left text' i.right class text' i.before i.after name i.name old')
+    (ap (λ (n : Name). word n ∷ fixed_token fixed.Dot ∷ word (name_at all (span_of (from + length class + 1) (from + length class + 1 + length text'))) ∷ []) named
+    ∙ ap (λ (n : Name). word (record { at = o.name.at; text = class }) ∷ fixed_token fixed.Dot ∷ word n ∷ []) behind)
   where
     class_joined : (l c t r : List ℕ) → l ++ (c ++ 46 ∷ t) ++ r ≡ l ++ (c ++ (46 ∷ (t ++ r)))
     class_joined l c t r = simp append_assoc

@@ -1,12 +1,12 @@
 -- A source can be given other names in place of its own.
-use Rattle.std.proofs.Common.{◌≡◌, ℕ, ◌+◌, List, [], ◌∷◌, ◌++◌, Option, Some, None, refl, sym, ap, subst, ◌∙◌, append_assoc, append-nil}
+use Rattle.std.proofs.Common.{◌≡◌, ℕ, ◌+◌, List, [], ◌∷◌, ◌++◌, Option, None, refl, sym, ap, ◌∙◌}
 use Rattle.std.specs.Prelude.{map}
 use Rattle.jr_small.specs.declared.occurrences.Role.{Role}
 use Rattle.jr_small.specs.declared.occurrences.Role.TheVariants as roles
-use Rattle.jr_small.specs.Source.{Name, Reference, Atom, number, named, Sum, Statement, declares, assigns, Member, field, method, Source, atom_map, sum_map, statement_map, member_map, source_map}
+use Rattle.jr_small.specs.Source.{Name, Reference, Atom, number, named, Sum, Statement, declares, assigns, Member, field, method, atom_map, sum_map, statement_map, member_map}
 use Rattle.jr_small.specs.Spelling.{Tree}
 use Rattle.jr_small.specs.Occurrence.{Occurrence, declared, referred, in_atoms, in_sum, in_statement, in_body, in_member, in_members, occurrences}
-use Rattle.jr_small.specs.Answer.{form_of, SameForm}
+use Rattle.jr_small.specs.Answer.{SameForm}
 use Rattle.jr_small.proofs.AgainSlots.{bare_name, bare_reference}
 
 -- the occurrence can stand in place of the other: only a reference has a qualifier

@@ -1,14 +1,14 @@
 -- A source's tokens are its form with its names filled in.
-use Rattle.std.proofs.Common.{◌≡◌, ℕ, ◌+◌, List, [], ◌∷◌, ◌++◌, Option, Some, None, refl, sym, ap, subst, ◌∙◌, append_assoc, append-nil}
+use Rattle.std.proofs.Common.{◌≡◌, ℕ, ◌+◌, List, [], ◌∷◌, ◌++◌, refl, sym, ap, subst, ◌∙◌, append_assoc, append-nil}
 use Rattle.std.specs.Prelude.{map}
 use Rattle.jr_small.specs.declared.tokens.Fixed.{Fixed}
 use Rattle.jr_small.specs.declared.tokens.Fixed.TheVariants as fixed
 use Rattle.jr_small.specs.declared.occurrences.Role.TheVariants as role
-use Rattle.jr_small.specs.Source.{Name, Reference, Atom, number, named, Sum, Statement, declares, assigns, Member, field, method, Source, atom_map, sum_map, statement_map, member_map, source_map}
+use Rattle.jr_small.specs.Source.{Name, Reference, Atom, number, named, Sum, Statement, declares, assigns, Member, field, method, Source, atom_map, sum_map, statement_map, member_map}
 use Rattle.jr_small.specs.Token as token
 use Rattle.jr_small.specs.Token.{Piece}
 use Rattle.jr_small.specs.Spelling.{Tree, spell_reference, spell_atom, spell_more, spell_value, spell_statement, spell_body, spell_later, spell_parameters, spell_member, spell_members, spell}
-use Rattle.jr_small.specs.Occurrence.{Occurrence, declared, referred, in_atoms, in_sum, in_statement, in_body, in_member, in_members, occurrences}
+use Rattle.jr_small.specs.Occurrence.{Occurrence, declared, in_atoms, in_sum, in_statement, in_body, in_member, in_members, occurrences}
 use Rattle.jr_small.specs.Answer.{form_of}
 
 -- a token, or the place of a name or a qualified name
@@ -87,9 +87,11 @@ atom_fills (named r) as' m s ss os ts h = (ts, refl, h)
 more_fills : (as' : List (Atom Reference)) (m s : ℕ) (ss : List Slot) (os : List Occurrence) (ts : List Piece)
     → Fills ss os ts → Fills (slots_more (map (atom_map bare_reference) as') ss) (in_atoms m s as' ++ os) (spell_more as' ++ ts)
 more_fills [] m s ss os ts h = h
-more_fills (a ∷ as') m s ss os ts h =
-    (spell_atom a ++ (spell_more as' ++ ts), ap (λ (x : List Piece). token.fixed_token fixed.Plus ∷ x) (append_assoc (spell_atom a) (spell_more as') ts),
-        atom_fills a as' m s (slots_more (map (atom_map bare_reference) as') ss) os (spell_more as' ++ ts) (more_fills as' m s ss os ts h))
+more_fills (a ∷ as') m s ss os ts h = (
+  spell_atom a ++ (spell_more as' ++ ts),
+  ap (λ (x : List Piece). token.fixed_token fixed.Plus ∷ x) (append_assoc (spell_atom a) (spell_more as') ts),
+  atom_fills a as' m s (slots_more (map (atom_map bare_reference) as') ss) os (spell_more as' ++ ts) (more_fills as' m s ss os ts h),
+)
 
 joined : (a b c x : List Piece) → (a ++ (b ++ c)) ++ x ≡ a ++ (b ++ (c ++ x))
 joined a b c x = simp append_assoc
@@ -97,10 +99,12 @@ joined a b c x = simp append_assoc
 value_fills : (v : Sum Reference) (m s : ℕ) (ss : List Slot) (os : List Occurrence) (ts : List Piece)
     → Fills ss os ts → Fills (slots_value (sum_map bare_reference v) ss) (in_sum m s v ++ os) (spell_value v ++ ts)
 value_fills v m s ss os ts h =
-    let end = token.fixed_token fixed.Semicolon ∷ ts in
-    (spell_atom v.first ++ (spell_more v.more ++ end), ap (λ (x : List Piece). token.fixed_token fixed.Equals ∷ x) (joined (spell_atom v.first) (spell_more v.more) (token.fixed_token fixed.Semicolon ∷ []) ts),
-        atom_fills v.first v.more m s (slots_more (map (atom_map bare_reference) v.more) (a_token fixed.Semicolon ∷ ss)) os (spell_more v.more ++ end)
-            (more_fills v.more m s (a_token fixed.Semicolon ∷ ss) os end (ts, refl, h)))
+    let end = token.fixed_token fixed.Semicolon ∷ ts in (
+      spell_atom v.first ++ (spell_more v.more ++ end),
+      ap (λ (x : List Piece). token.fixed_token fixed.Equals ∷ x) (joined (spell_atom v.first) (spell_more v.more) (token.fixed_token fixed.Semicolon ∷ []) ts),
+      atom_fills v.first v.more m s (slots_more (map (atom_map bare_reference) v.more) (a_token fixed.Semicolon ∷ ss)) os (spell_more v.more ++ end)
+          (more_fills v.more m s (a_token fixed.Semicolon ∷ ss) os end (ts, refl, h)),
+    )
 
 statement_fills : (x : Statement Name Reference) (m s : ℕ) (ss : List Slot) (os : List Occurrence) (ts : List Piece)
     → Fills ss os ts → Fills (slots_statement (statement_map bare_name bare_reference x) ss) (in_statement m s x ++ os) (spell_statement x ++ ts)
@@ -145,13 +149,14 @@ member_fills (method w ps body) m ss os ts h =
     let parameters = spell_parameters ps ++ closes in
     let last = body_fills body m 0 (a_token fixed.CloseBrace ∷ ss) os end (ts, refl, h) in
     let first = parameters_fill ps m 0
-        (a_token fixed.CloseParen ∷ a_token fixed.OpenBrace ∷ slots_body (map (statement_map bare_name bare_reference) body) (a_token fixed.CloseBrace ∷ ss))
-        (in_body m 0 body ++ os) closes (opens, refl, (inner, refl, last)) in
+    (a_token fixed.CloseParen ∷ a_token fixed.OpenBrace ∷ slots_body (map (statement_map bare_name bare_reference) body) (a_token fixed.CloseBrace ∷ ss))
+    (in_body m 0 body ++ os) closes (opens, refl, (inner, refl, last)) in
     let all = subst (λ (xs : List Occurrence). Fills (slots_parameters (map bare_name ps) (a_token fixed.CloseParen ∷ a_token fixed.OpenBrace ∷ slots_body (map (statement_map bare_name bare_reference) body) (a_token fixed.CloseBrace ∷ ss))) xs parameters)
-        (sym (append_assoc (map (declared role.Parameter m 0) ps) (in_body m 0 body) os)) first in
-    (token.fixed_token fixed.Void ∷ token.word w ∷ token.fixed_token fixed.OpenParen ∷ parameters,
-        ap (λ (x : List Piece). token.fixed_token fixed.Static ∷ token.fixed_token fixed.Void ∷ token.word w ∷ token.fixed_token fixed.OpenParen ∷ x) (method_joined (spell_parameters ps) (spell_body body) ts),
-        (token.word w ∷ token.fixed_token fixed.OpenParen ∷ parameters, refl, (token.fixed_token fixed.OpenParen ∷ parameters, refl, (parameters, refl, all))))
+    (sym (append_assoc (map (declared role.Parameter m 0) ps) (in_body m 0 body) os)) first in (
+      token.fixed_token fixed.Void ∷ token.word w ∷ token.fixed_token fixed.OpenParen ∷ parameters,
+      ap (λ (x : List Piece). token.fixed_token fixed.Static ∷ token.fixed_token fixed.Void ∷ token.word w ∷ token.fixed_token fixed.OpenParen ∷ x) (method_joined (spell_parameters ps) (spell_body body) ts),
+      (token.word w ∷ token.fixed_token fixed.OpenParen ∷ parameters, refl, (token.fixed_token fixed.OpenParen ∷ parameters, refl, (parameters, refl, all))),
+    )
 
 members_fill : (xs : List (Member Name Reference)) (m : ℕ) (ss : List Slot) (os : List Occurrence) (ts : List Piece)
     → Fills ss os ts → Fills (slots_members (map (member_map bare_name bare_reference) xs) ss) (in_members m xs ++ os) (spell_members xs ++ ts)

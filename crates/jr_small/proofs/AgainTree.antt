@@ -1,5 +1,5 @@
 -- A source with one name replaced is read as the source with the other name.
-use Rattle.std.proofs.Common.{◌≡◌, ℕ, ◌+◌, List, [], ◌∷◌, ◌++◌, length, Option, Some, None, refl, sym, ap, subst, ◌∙◌, append_assoc, append-nil}
+use Rattle.std.proofs.Common.{◌≡◌, ℕ, ◌+◌, List, [], ◌∷◌, ◌++◌, length, Option, None, refl, sym, ap, subst, ◌∙◌}
 use Rattle.std.specs.Prelude.{map}
 use Rattle.std.proofs.lemmas.List.{map-append}
 use Rattle.jr_text.specs.Splices.{replaced}
@@ -7,15 +7,14 @@ use Rattle.jr_lex.specs.Lexes.{span_of}
 use Rattle.jr_lex.specs.Replacing.{IsName, WordSwapped, WordQualified}
 use Rattle.jr_small.specs.declared.occurrences.Role.{Role}
 use Rattle.jr_small.specs.declared.occurrences.Role.TheVariants as roles
-use Rattle.jr_small.specs.Source.{Name, Reference, Atom, number, named, Sum, Statement, declares, assigns, Member, field, method, Source}
+use Rattle.jr_small.specs.Source.{Name, Reference, Atom, number, named, Statement, declares, assigns, Member, field, method, Source}
 use Rattle.jr_small.specs.Spelling.{Tree, spell}
 use Rattle.jr_small.specs.Token.{Piece, pieces_of}
-use Rattle.jr_small.specs.Occurrence.{Occurrence, declared, referred, in_atoms, in_sum, in_statement, in_body, in_member, in_members, occurrences}
-use Rattle.jr_small.specs.Renaming.{Plain, plain, with_text, with_qualifier}
+use Rattle.jr_small.specs.Occurrence.{Occurrence, declared, in_atoms, in_statement, in_body, in_member, in_members, occurrences}
+use Rattle.jr_small.specs.Renaming.{Plain, plain, with_text}
 use Rattle.jr_small.specs.Answer.{Reads, form_of, SameForm}
-use Rattle.jr_small.specs.Source as tree
-use Rattle.jr_small.proofs.AgainSlots.{Slot, Fills, slots, source_fills, one_filling}
-use Rattle.jr_small.proofs.AgainRefill.{Fits, AllFit, SourceAgain, source_again}
+use Rattle.jr_small.proofs.AgainSlots.{Fills, slots, source_fills, one_filling}
+use Rattle.jr_small.proofs.AgainRefill.{Fits, AllFit, source_again}
 use Rattle.jr_small.proofs.AgainMoved.{moved_occurrence, all_moved_plain}
 use Rattle.jr_small.proofs.AgainOne.{ReadsAs, swap_read, qualify_read, qualified_by}
 
@@ -164,7 +163,7 @@ pub one_swapped : (swapped : WordSwapped) (text : List ℕ) (u : Tree) (os : Lis
     → ReadsChanged (replaced text (span_of o.name.at (o.name.at + length o.name.text)) new) u os (with_text o new) ps
 one_swapped swapped text u os o ps new h e q name =
     changed_reads (replaced text (span_of o.name.at (o.name.at + length o.name.text)) new) u os o (with_text o new) ps (length o.name.text) (length new) e (fits_text o new (λ k. q))
-        (swap_read swapped (slots (form_of u)) text os o ps new (reads_split text u os o ps h e) q name)
+    (swap_read swapped (slots (form_of u)) text os o ps new (reads_split text u os o ps h e) q name)
 
 -- A reference without a qualifier is spelled through a class: the new text reads as the tree with that qualifier.
 pub one_qualified : (qualified : WordQualified) (text : List ℕ) (u : Tree) (os : List Occurrence) (o : Occurrence) (ps : List Occurrence) (class : List ℕ)
@@ -172,4 +171,4 @@ pub one_qualified : (qualified : WordQualified) (text : List ℕ) (u : Tree) (os
     → ReadsChanged (replaced text (span_of o.name.at (o.name.at + length o.name.text)) (class ++ 46 ∷ o.name.text)) u os (qualified_by o class) ps
 one_qualified qualified text u os o ps class h e r q name =
     changed_reads (replaced text (span_of o.name.at (o.name.at + length o.name.text)) (class ++ 46 ∷ o.name.text)) u os o (qualified_by o class) ps (length o.name.text) (length class + 1 + length o.name.text) e (fits_qualified o class r)
-        (qualify_read qualified (slots (form_of u)) text os o ps class (reads_split text u os o ps h e) q name)
+    (qualify_read qualified (slots (form_of u)) text os o ps class (reads_split text u os o ps h e) q name)
