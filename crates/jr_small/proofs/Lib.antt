@@ -9,3 +9,11 @@ pub mod WellBound
 pub mod Checks
 pub mod SoundParts
 pub mod Standing
+pub mod AgainItems
+pub mod AgainInside
+pub mod AgainSlots
+pub mod AgainRefill
+pub mod AgainMoved
+pub mod AgainOne
+pub mod AgainTree
+pub mod AgainAll
