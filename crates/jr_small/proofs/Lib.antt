@@ -6,3 +6,5 @@ pub mod Steps
 pub mod Walks
 pub mod Lookups
 pub mod WellBound
+pub mod KeepLists
+pub mod KeepNames
