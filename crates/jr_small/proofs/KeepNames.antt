@@ -81,7 +81,7 @@ plain_behind_is target d text k o h =
 pub is_plain_behind_of : (target : Occurrence) (d : ℕ) (text : List ℕ) (k : ℕ) (o : Occurrence) → IsPlainBehind target d text k o → is_plain_behind target d text k o ≡ true
 is_plain_behind_of target d text k o p = both (is_behind target d k o && is_none o.qualifier) (bytes_eq o.name.text text) (both (is_behind target d k o) (is_none o.qualifier) (is_behind_of target d k o p.behind) (is_none_of o.qualifier p.plain)) (same_bytes o.name.text text p.named)
 
-same_if : (i j : ℕ) → (i < j → ⊥) → (j < i → ⊥) → i ≡ j
+pub same_if : (i j : ℕ) → (i < j → ⊥) → (j < i → ⊥) → i ≡ j
 same_if i j h k = omega arith
 
 pub one_field : (all : List Occurrence) (text : List ℕ) (i j : ℕ) → IsSound all → DeclaresField all text i → DeclaresField all text j → i ≡ j

@@ -8,3 +8,5 @@ pub mod Lookups
 pub mod WellBound
 pub mod KeepLists
 pub mod KeepNames
+pub mod KeepScope
+pub mod KeepLost
