@@ -10,3 +10,4 @@ pub mod KeepLists
 pub mod KeepNames
 pub mod KeepScope
 pub mod KeepLost
+pub mod KeepTold
