@@ -66,7 +66,8 @@ captured_field all class target d name k o j r e c q b = go (plain_finds all k o
 
 -- ---- bindings of the changed names
 
-finds_binds : (xs : List Occurrence) (k : ℕ) (n o : Occurrence) (j : ℕ) → slice_get xs k ≡ Some n → n ≡ o → o.role ≡ Reference → FindsReference xs o.member k o.qualifier o.name.text j → Binds xs k j
+-- what a reference finds, it is bound to
+pub finds_binds : (xs : List Occurrence) (k : ℕ) (n o : Occurrence) (j : ℕ) → slice_get xs k ≡ Some n → n ≡ o → o.role ≡ Reference → FindsReference xs o.member k o.qualifier o.name.text j → Binds xs k j
 finds_binds xs k n o j e same r f = record { reference = o; stands = subst (λ (p : Occurrence). slice_get xs k ≡ Some p) same e; role = r; finds = f }
 
 -- A reference of the variable is bound to it by its new name.
@@ -93,7 +94,7 @@ keeps_binding f all class target d name k o j r c e h free b = by_number j d
     not_own : (j ≡ d → ⊥) → is_own_name target d k o ≡ true → ⊥
     not_own other t = elim (own_is all target d k o r.sound r.stands r.variable e t) [
       | inl n ↦ reference_apart all class target d name k o r e (binds_finds all k o j e b).role n
-      | inr w ↦ other (binds_one all k j d r.sound b w)
+      | inr w ↦ other (binds_one all k j d r.sound.fields b w)
     ]
 
     plain : o.role ≡ Reference → o.qualifier ≡ None → (j ≡ d → ⊥) → FindsName all o.member k o.name.text j → FindsName (changed_from 0 f all) o.member k o.name.text j

@@ -8,7 +8,7 @@ use Rattle.jr_small.specs.declared.occurrences.Role.TheVariants.{Class, Field, M
 use Rattle.jr_small.specs.Source.{Name}
 use Rattle.jr_small.specs.Occurrence.{Occurrence}
 use Rattle.jr_small.specs.Binding.{IsVariable, InScope, NoneInScope, FindsVariable, DeclaresField, FindsName, FindsClass, FindsReference, Binds}
-use Rattle.jr_small.specs.Sound.{IsSound}
+use Rattle.jr_small.specs.Sound.{IsSound, Together, SameField}
 use Rattle.jr_small.specs.Exact.{IsNameRef}
 use Rattle.jr_small.specs.Rename.{IsOf, IsAsked, Asks, Meets, SameOccurrence, qualifier_text}
 use Rattle.jr_small.specs.Renaming.{is_reference_role, is_behind, is_plain_behind, is_own_name, with_text, asked_at, changed_from, asked_list}
@@ -84,10 +84,10 @@ is_plain_behind_of target d text k o p = both (is_behind target d k o && is_none
 pub same_if : (i j : ℕ) → (i < j → ⊥) → (j < i → ⊥) → i ≡ j
 same_if i j h k = omega arith
 
-pub one_field : (all : List Occurrence) (text : List ℕ) (i j : ℕ) → IsSound all → DeclaresField all text i → DeclaresField all text j → i ≡ j
+pub one_field : (all : List Occurrence) (text : List ℕ) (i j : ℕ) → Together all SameField → DeclaresField all text i → DeclaresField all text j → i ≡ j
 one_field all text i j s f g = same_if i j
-    (λ l. s.fields i j f.declaration g.declaration l f.stands g.stands (record { first = f.role; second = g.role; name = f.named ∙ sym g.named }))
-    (λ l. s.fields j i g.declaration f.declaration l g.stands f.stands (record { first = g.role; second = f.role; name = g.named ∙ sym f.named }))
+    (λ l. s i j f.declaration g.declaration l f.stands g.stands (record { first = f.role; second = g.role; name = f.named ∙ sym g.named }))
+    (λ l. s j i g.declaration f.declaration l g.stands f.stands (record { first = g.role; second = f.role; name = g.named ∙ sym f.named }))
 
 not_below : (i j : ℕ) → (j < i → ⊥) → i ≤ j
 not_below i j h = omega arith
@@ -125,14 +125,14 @@ pub by_qualifier : {P : Type 0} (q : Option Name) → (q ≡ None → P) → ((n
 by_qualifier {P} None f g = f refl
 by_qualifier {P} (Some n) f g = g n refl
 
--- a reference means one declaration alone
-pub finds_one : (all : List Occurrence) (m k : ℕ) (text : List ℕ) (i j : ℕ) → IsSound all → FindsName all m k text i → FindsName all m k text j → i ≡ j
+-- Where no two fields have one name, a reference means one declaration alone.
+pub finds_one : (all : List Occurrence) (m k : ℕ) (text : List ℕ) (i j : ℕ) → Together all SameField → FindsName all m k text i → FindsName all m k text j → i ≡ j
 finds_one all m k text i j s (inl v) (inl w) = one_variable all m k text i j v w
 finds_one all m k text i j s (inl v) (inr w) = absurd (w.0 i v.in_scope)
 finds_one all m k text i j s (inr v) (inl w) = absurd (v.0 j w.in_scope)
 finds_one all m k text i j s (inr v) (inr w) = one_field all text i j s v.1 w.1
 
-pub binds_one : (all : List Occurrence) (k i j : ℕ) → IsSound all → Binds all k i → Binds all k j → i ≡ j
+pub binds_one : (all : List Occurrence) (k i j : ℕ) → Together all SameField → Binds all k i → Binds all k j → i ≡ j
 binds_one all k i j s b c =
     let o = b.reference in
     let f : FindsAt all k o i = record { role = b.role; finds = b.finds } in

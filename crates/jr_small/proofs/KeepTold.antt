@@ -53,14 +53,14 @@ asked_as_is all class target d name k o r e c =
 -- ---- the test
 
 -- the test, by the qualifier
-lost_plain : (all : List Occurrence) (target : Occurrence) (d : ℕ) (name class : List ℕ) (k : ℕ) (o : Occurrence) → o.qualifier ≡ None → is_lost_at all target d name class k o ≡ (is_behind target d k o && (bytes_eq o.name.text name && is_class_obscured all target name class k))
+pub lost_plain : (all : List Occurrence) (target : Occurrence) (d : ℕ) (name class : List ℕ) (k : ℕ) (o : Occurrence) → o.qualifier ≡ None → is_lost_at all target d name class k o ≡ (is_behind target d k o && (bytes_eq o.name.text name && is_class_obscured all target name class k))
 lost_plain all target d name class k o e = go o.qualifier e
   where
     go : (q : Option Name) → q ≡ None → is_lost_at all target d name class k (record o { qualifier = q }) ≡ (is_behind target d k o && (bytes_eq o.name.text name && is_class_obscured all target name class k))
     go None h = refl
     go (Some n) h = absurd cc
 
-lost_qualified : (all : List Occurrence) (target : Occurrence) (d : ℕ) (name class : List ℕ) (k : ℕ) (o : Occurrence) (n : Name) → o.qualifier ≡ Some n → is_lost_at all target d name class k o ≡ (is_behind target d k o && bytes_eq n.text name)
+pub lost_qualified : (all : List Occurrence) (target : Occurrence) (d : ℕ) (name class : List ℕ) (k : ℕ) (o : Occurrence) (n : Name) → o.qualifier ≡ Some n → is_lost_at all target d name class k o ≡ (is_behind target d k o && bytes_eq n.text name)
 lost_qualified all target d name class k o n e = go o.qualifier e
   where
     go : (q : Option Name) → q ≡ Some n → is_lost_at all target d name class k (record o { qualifier = q }) ≡ (is_behind target d k o && bytes_eq n.text name)

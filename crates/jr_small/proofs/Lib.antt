@@ -11,3 +11,4 @@ pub mod KeepNames
 pub mod KeepScope
 pub mod KeepLost
 pub mod KeepTold
+pub mod KeepBound
