@@ -12,3 +12,4 @@ pub mod KeepScope
 pub mod KeepLost
 pub mod KeepTold
 pub mod KeepBound
+pub mod KeepSound
