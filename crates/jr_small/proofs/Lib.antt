@@ -13,3 +13,5 @@ pub mod KeepLost
 pub mod KeepTold
 pub mod KeepBound
 pub mod KeepSound
+pub mod KeepTree
+pub mod KeepPlain
