@@ -1,18 +1,17 @@
 -- The renamed names, each with its spelling: where no reference is lost, each keeps its declaration.
-use Rattle.std.proofs.Common.{◌≡◌, ℕ, ◌+◌, ◌<◌, ◌≤◌, List, length, Option, Some, None, Bool, true, false, refl, sym, ap, subst, ◌∙◌, inl, inr, ◌⊎◌}
-use Rattle.std.specs.Prelude.{slice_get, ◌&&◌, ◌||◌, ◌==◌, if◌then◌else◌}
+use Rattle.std.proofs.Common.{◌≡◌, ℕ, List, Some, None, Bool, true, false, refl, sym, ap, subst, ◌∙◌, inl, inr}
+use Rattle.std.specs.Prelude.{slice_get, ◌&&◌, ◌==◌, if◌then◌else◌}
 use Rattle.std.specs.Str.{bytes_eq}
-use Rattle.jr_small.specs.declared.occurrences.Role.{Role}
-use Rattle.jr_small.specs.declared.occurrences.Role.TheVariants.{Class, Field, Method, Parameter, Local, Reference}
+use Rattle.jr_small.specs.declared.occurrences.Role.TheVariants.{Reference}
 use Rattle.jr_small.specs.Source.{Name}
 use Rattle.jr_small.specs.Occurrence.{Occurrence}
-use Rattle.jr_small.specs.Binding.{DeclaresField, FindsClass, Binds}
-use Rattle.jr_small.specs.Rename.{Asks, Lost, SameOccurrence, qualifier_text, IsSpelled, Renames}
-use Rattle.jr_small.specs.Renaming.{is_behind, is_plain_behind, is_own_name, with_text, with_qualifier, asked_at, renamed_at, changed_from, asked_list, renamed_list, is_lost_at, is_class_obscured}
+use Rattle.jr_small.specs.Binding.{FindsClass, Binds}
+use Rattle.jr_small.specs.Rename.{Lost, SameOccurrence, qualifier_text, IsSpelled, Renames}
+use Rattle.jr_small.specs.Renaming.{is_behind, is_plain_behind, is_own_name, with_text, with_qualifier, asked_at, renamed_at, asked_list, renamed_list, is_class_obscured}
 use Rattle.jr_small.proofs.Lookups.{same_bytes}
 use Rattle.jr_small.proofs.WellBound.{same_at}
-use Rattle.jr_small.proofs.KeepLists.{by_test, both, not_true, either, either_left, if_true, if_false, same_number, number_same, to_changed, WasChanged, from_changed, length_changed}
-use Rattle.jr_small.proofs.KeepNames.{IsReady, IsBehind, is_behind_of, IsPlainBehind, plain_behind_is, is_plain_behind_of, binds_finds, by_qualifier, asks}
+use Rattle.jr_small.proofs.KeepLists.{both, not_true, either, either_left, if_true, if_false, same_number, number_same, to_changed, from_changed, length_changed}
+use Rattle.jr_small.proofs.KeepNames.{IsReady, is_behind_of, IsPlainBehind, plain_behind_is, is_plain_behind_of, by_qualifier, asks}
 use Rattle.jr_small.proofs.KeepScope.{IsChange, field_to, class_free}
 use Rattle.jr_small.proofs.KeepLost.{IsCaptured, by_capture, plain_named, qualified_named, captured_other, captured_field, finds_binds, keeps_binding, captured_fails}
 use Rattle.jr_small.proofs.KeepTold.{change_asked, asked_as_is, lost_plain, lost_qualified, marked_is_lost}
@@ -85,7 +84,7 @@ NoneLost all target d name = (k : ℕ) → Lost all (asked_list all target d nam
 free_class : (all : List Occurrence) (class target : Occurrence) (d : ℕ) (name : List ℕ) (k : ℕ) (o : Occurrence) → IsReady all class target d name → NoneLost all target d name → slice_get all k ≡ Some o → IsCaptured target d name k o → o.qualifier ≡ None → is_class_obscured all target name class.name.text k ≡ false
 free_class all class target d name k o r none e c q = not_true (is_class_obscured all target name class.name.text k) (λ t. none k (marked_is_lost all class target d name k o r e
     (lost_plain all target d name class.name.text k o q ∙ both (is_behind target d k o) (bytes_eq o.name.text name && is_class_obscured all target name class.name.text k) (is_behind_of target d k o c.behind)
-        (both (bytes_eq o.name.text name) (is_class_obscured all target name class.name.text k) (same_bytes o.name.text name ((plain_named name o q).0 c.named)) t))))
+    (both (bytes_eq o.name.text name) (is_class_obscured all target name class.name.text k) (same_bytes o.name.text name ((plain_named name o q).0 c.named)) t))))
 
 none_through : (all : List Occurrence) (class target : Occurrence) (d : ℕ) (name : List ℕ) (k : ℕ) (o : Occurrence) (n : Name) → IsReady all class target d name → NoneLost all target d name → slice_get all k ≡ Some o → IsCaptured target d name k o → o.qualifier ≡ Some n → ⊥
 none_through all class target d name k o n r none e c q = none k (marked_is_lost all class target d name k o r e
@@ -99,11 +98,10 @@ keeps_bound all class target d name k o j r none e b = by_capture target d name 
   where
     captured : IsCaptured target d name k o → o.qualifier ≡ None → Binds (renamed_list all target d name class.name.text) k j
     captured c q = finds_binds (renamed_list all target d name class.name.text) k (renamed_at target d name class.name.text k o) (with_qualifier o class.name.text) j
-        (to_changed (renamed_at target d name class.name.text) all k o e) (as_class all class target d name k o r e c q) c.behind.role
-        (
-            subst (λ (m : ℕ). FindsClass (renamed_list all target d name class.name.text) m k class.name.text) (sym c.behind.member)
-                (class_free (renamed_at target d name class.name.text) all class target d name k r (change_renamed target d name class.name.text) (free_class all class target d name k o r none e c q)),
-            field_to (renamed_at target d name class.name.text) all class target d name o.name.text j r (change_renamed target d name class.name.text) (captured_field all class target d name k o j r e c q b),
+        (to_changed (renamed_at target d name class.name.text) all k o e) (as_class all class target d name k o r e c q) c.behind.role (
+          subst (λ (m : ℕ). FindsClass (renamed_list all target d name class.name.text) m k class.name.text) (sym c.behind.member)
+              (class_free (renamed_at target d name class.name.text) all class target d name k r (change_renamed target d name class.name.text) (free_class all class target d name k o r none e c q)),
+          field_to (renamed_at target d name class.name.text) all class target d name o.name.text j r (change_renamed target d name class.name.text) (captured_field all class target d name k o j r e c q b),
         )
 
 asked_qualifier : (target : Occurrence) (d : ℕ) (name : List ℕ) (k : ℕ) (o : Occurrence) → (asked_at target d name k o).qualifier ≡ o.qualifier
@@ -121,8 +119,8 @@ is_spelled all class target d name k j o n r none e h b = record {
       (λ f. ap qualifier_text (ap (λ (p : Occurrence). p.qualifier) (h ∙ as_asked target d name class.name.text k o (λ p. f (plain_captured target d name k o p))) ∙ asked_qualifier target d name k o));
   through_class = λ fails other g. by_capture target d name k o
       (λ c. by_qualifier o.qualifier
-          (λ q. ap (λ (p : Occurrence). qualifier_text p.qualifier) (h ∙ as_class all class target d name k o r e c q) ∙ ap (λ (p : Occurrence). Some p.name.text) (same_at all 0 class other r.class_stands g))
-          (λ m q. absurd (none_through all class target d name k o m r none e c q)))
+      (λ q. ap (λ (p : Occurrence). qualifier_text p.qualifier) (h ∙ as_class all class target d name k o r e c q) ∙ ap (λ (p : Occurrence). Some p.name.text) (same_at all 0 class other r.class_stands g))
+      (λ m q. absurd (none_through all class target d name k o m r none e c q)))
       (λ f. absurd (fails (keeps_binding (asked_at target d name) all class target d name k o j r (change_asked target d name) e refl f b)));
 }
 
@@ -158,12 +156,11 @@ renames all class target d name r none = record {
         let w = from_changed (asked_at target d name) all k a e in
         let n_is = was k w.old n w.stands h in
         let old = change_asked target d name in
-        let new = change_renamed target d name class.name.text in
-        (
-            record {
-              role = ap (λ (p : Occurrence). p.role) n_is ∙ new.role k w.old ∙ sym (ap (λ (p : Occurrence). p.role) w.is ∙ old.role k w.old);
-              member = ap (λ (p : Occurrence). p.member) n_is ∙ new.member k w.old ∙ sym (ap (λ (p : Occurrence). p.member) w.is ∙ old.member k w.old);
-              statement = ap (λ (p : Occurrence). p.statement) n_is ∙ new.statement k w.old ∙ sym (ap (λ (p : Occurrence). p.statement) w.is ∙ old.statement k w.old);
-            },
-            ap (λ (p : Occurrence). p.name.text) n_is ∙ same_named target d name class.name.text k w.old ∙ sym (ap (λ (p : Occurrence). p.name.text) w.is),
+        let new = change_renamed target d name class.name.text in (
+          record {
+            role = ap (λ (p : Occurrence). p.role) n_is ∙ new.role k w.old ∙ sym (ap (λ (p : Occurrence). p.role) w.is ∙ old.role k w.old);
+            member = ap (λ (p : Occurrence). p.member) n_is ∙ new.member k w.old ∙ sym (ap (λ (p : Occurrence). p.member) w.is ∙ old.member k w.old);
+            statement = ap (λ (p : Occurrence). p.statement) n_is ∙ new.statement k w.old ∙ sym (ap (λ (p : Occurrence). p.statement) w.is ∙ old.statement k w.old);
+          },
+          ap (λ (p : Occurrence). p.name.text) n_is ∙ same_named target d name class.name.text k w.old ∙ sym (ap (λ (p : Occurrence). p.name.text) w.is),
         )

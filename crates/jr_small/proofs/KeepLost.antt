@@ -1,20 +1,17 @@
 -- Which references lose their declaration by a renaming, and what their asked spelling finds.
-use Rattle.std.proofs.Common.{◌≡◌, ℕ, ◌+◌, ◌<◌, ◌≤◌, List, length, Option, Some, None, Bool, true, false, refl, sym, ap, subst, ◌∙◌, arith, inl, inr, ◌⊎◌}
-use Rattle.std.specs.Prelude.{slice_get, ◌&&◌, ◌||◌, ◌==◌, ◌↔◌, if◌then◌else◌}
+use Rattle.std.proofs.Common.{◌≡◌, ℕ, List, Option, Some, None, true, false, refl, sym, ap, subst, ◌∙◌, inl, inr}
+use Rattle.std.specs.Prelude.{slice_get, ◌&&◌, ◌↔◌}
 use Rattle.std.specs.Str.{bytes_eq}
-use Rattle.jr_small.specs.declared.occurrences.Role.{Role}
-use Rattle.jr_small.specs.declared.occurrences.Role.TheVariants.{Class, Field, Method, Parameter, Local, Reference}
+use Rattle.jr_small.specs.declared.occurrences.Role.TheVariants.{Reference}
 use Rattle.jr_small.specs.Source.{Name}
 use Rattle.jr_small.specs.Occurrence.{Occurrence}
-use Rattle.jr_small.specs.Binding.{IsVariable, InScope, NoneInScope, FindsVariable, DeclaresField, FindsName, FindsClass, FindsReference, Binds}
-use Rattle.jr_small.specs.Sound.{IsSound}
-use Rattle.jr_small.specs.Rename.{IsOf, Meets, Lost, BindsAs, IsClassName}
-use Rattle.jr_small.specs.Renaming.{is_behind, is_plain_behind, is_own_name, with_text, asked_at, changed_from, asked_list, is_lost_at, is_class_obscured}
+use Rattle.jr_small.specs.Binding.{FindsVariable, DeclaresField, FindsName, FindsClass, FindsReference, Binds}
+use Rattle.jr_small.specs.Renaming.{is_behind, is_own_name, with_text, asked_at, changed_from}
 use Rattle.jr_small.proofs.Lookups.{and_both, bytes_same, same_bytes}
 use Rattle.jr_small.proofs.WellBound.{same_at, one_variable}
-use Rattle.jr_small.proofs.KeepLists.{by_test, both, not_true, true_false, either, either_left, if_true, if_false, same_number, number_same, to_changed}
-use Rattle.jr_small.proofs.KeepNames.{IsReady, variable_reference, IsBehind, behind_is, is_behind_of, IsPlainBehind, plain_behind_is, FindsAt, binds_finds, plain_finds, qualified_finds, by_qualifier, binds_one, no_field_there, bound_plain, is_own, own_is}
-use Rattle.jr_small.proofs.KeepScope.{IsChange, IsMet, by_number, not_met, target_to, keeps_variable, finds_renamed, keeps_none, field_to, keeps_class, class_free, class_hidden}
+use Rattle.jr_small.proofs.KeepLists.{by_test, both, not_true, true_false, if_true, if_false, to_changed}
+use Rattle.jr_small.proofs.KeepNames.{IsReady, variable_reference, IsBehind, behind_is, is_behind_of, FindsAt, binds_finds, plain_finds, qualified_finds, by_qualifier, binds_one, no_field_there, bound_plain, is_own, own_is}
+use Rattle.jr_small.proofs.KeepScope.{IsChange, IsMet, by_number, not_met, target_to, keeps_variable, finds_renamed, keeps_none, field_to, keeps_class}
 
 -- ---- captured references
 
@@ -84,9 +81,9 @@ pub keeps_binding : (f : ℕ → Occurrence → Occurrence) (all : List Occurren
 keeps_binding f all class target d name k o j r c e h free b = by_number j d
     (λ same. subst (Binds (changed_from 0 f all) k) (sym same) (keeps_own f all class target d name k o r c e h (subst (Binds all k) same b)))
     (λ other.
-        let own : is_own_name target d k o ≡ false = not_true (is_own_name target d k o) (not_own other) in
-        let is : f k o ≡ o = h ∙ if_false (is_own_name target d k o) (with_text o name) o own in
-        finds_binds (changed_from 0 f all) k (f k o) o j (to_changed f all k o e) is at.role (finds other))
+    let own : is_own_name target d k o ≡ false = not_true (is_own_name target d k o) (not_own other) in
+    let is : f k o ≡ o = h ∙ if_false (is_own_name target d k o) (with_text o name) o own in
+    finds_binds (changed_from 0 f all) k (f k o) o j (to_changed f all k o e) is at.role (finds other))
   where
     at : FindsAt all k o j
     at = binds_finds all k o j e b
@@ -100,29 +97,29 @@ keeps_binding f all class target d name k o j r c e h free b = by_number j d
     plain : o.role ≡ Reference → o.qualifier ≡ None → (j ≡ d → ⊥) → FindsName all o.member k o.name.text j → FindsName (changed_from 0 f all) o.member k o.name.text j
     plain ref q other (inl v) = inl (keeps_variable f all class target d name o.member k o.name.text j r c other v)
     plain ref q other (inr w) = inr (
-        keeps_none f all class target d name o.member k o.name.text r c (λ m. free (record { behind = record { role = ref; member = sym m.member; before = m.before }; named = (plain_named name o q).1 (sym m.named) })) w.0,
-        field_to f all class target d name o.name.text j r c w.1,
+      keeps_none f all class target d name o.member k o.name.text r c (λ m. free (record { behind = record { role = ref; member = sym m.member; before = m.before }; named = (plain_named name o q).1 (sym m.named) })) w.0,
+      field_to f all class target d name o.name.text j r c w.1,
     )
 
     through : (n : Name) → o.role ≡ Reference → o.qualifier ≡ Some n → FindsClass all o.member k n.text × DeclaresField all o.name.text j → FindsClass (changed_from 0 f all) o.member k n.text × DeclaresField (changed_from 0 f all) o.name.text j
     through n ref q w = (
-        keeps_class f all class target d name o.member k n.text r c (λ m. free (record { behind = record { role = ref; member = sym m.member; before = m.before }; named = (qualified_named name o n q).1 (sym m.named) })) w.0,
-        field_to f all class target d name o.name.text j r c w.1,
+      keeps_class f all class target d name o.member k n.text r c (λ m. free (record { behind = record { role = ref; member = sym m.member; before = m.before }; named = (qualified_named name o n q).1 (sym m.named) })) w.0,
+      field_to f all class target d name o.name.text j r c w.1,
     )
 
     finds : (j ≡ d → ⊥) → FindsReference (changed_from 0 f all) o.member k o.qualifier o.name.text j
     finds other =
         let g = binds_finds all k o j e b in
         by_qualifier o.qualifier
-            (λ q. subst (λ (x : Option Name). FindsReference (changed_from 0 f all) o.member k x o.name.text j) (sym q) (plain g.role q other (plain_finds all k o j q g)))
-            (λ n q. subst (λ (x : Option Name). FindsReference (changed_from 0 f all) o.member k x o.name.text j) (sym q) (through n g.role q (qualified_finds all k o j n q g)))
+        (λ q. subst (λ (x : Option Name). FindsReference (changed_from 0 f all) o.member k x o.name.text j) (sym q) (plain g.role q other (plain_finds all k o j q g)))
+        (λ n q. subst (λ (x : Option Name). FindsReference (changed_from 0 f all) o.member k x o.name.text j) (sym q) (through n g.role q (qualified_finds all k o j n q g)))
 
 -- A captured reference that is spelled as before loses it.
 pub captured_fails : (f : ℕ → Occurrence → Occurrence) (all : List Occurrence) (class target : Occurrence) (d : ℕ) (name : List ℕ) (k : ℕ) (o : Occurrence) (j : ℕ) → IsReady all class target d name → IsChange f d name → slice_get all k ≡ Some o → slice_get (changed_from 0 f all) k ≡ Some o → IsCaptured target d name k o → Binds all k j → Binds (changed_from 0 f all) k j → ⊥
 captured_fails f all class target d name k o j r c e h w b g = by_qualifier o.qualifier
     (λ q. plain q (plain_finds new k o j q (binds_finds new k o j h g)))
     (λ n q. (qualified_finds new k o j n q (binds_finds new k o j h g)).0.no_variable d
-        (target_to f all target d name o.member k n.text c r.stands r.variable (met_of target d name k o n.text w.behind ((qualified_named name o n q).0 w.named))))
+    (target_to f all target d name o.member k n.text c r.stands r.variable (met_of target d name k o n.text w.behind ((qualified_named name o n q).0 w.named))))
   where
     new : List Occurrence
     new = changed_from 0 f all

@@ -1,20 +1,19 @@
 -- What a renaming asks for: which names are those of the renamed variable.
-use Rattle.std.proofs.Common.{◌≡◌, ℕ, ◌+◌, ◌<◌, ◌≤◌, List, length, Option, Some, None, Bool, true, false, refl, sym, ap, subst, ◌∙◌, arith, inl, inr, ◌⊎◌}
-use Rattle.std.specs.Prelude.{slice_get, ◌&&◌, ◌||◌, ◌==◌, nat_lt, is_none, ◌↔◌, if◌then◌else◌}
+use Rattle.std.proofs.Common.{◌≡◌, ℕ, ◌<◌, ◌≤◌, List, Option, Some, None, true, refl, sym, ap, subst, ◌∙◌, arith, inl, inr}
+use Rattle.std.specs.Prelude.{slice_get, ◌&&◌, ◌==◌, nat_lt, is_none, ◌↔◌}
 use Rattle.std.specs.Str.{bytes_eq}
 use Rattle.std.proofs.lemmas.Bool.{lt-ltb, ltb-true}
 use Rattle.jr_small.specs.declared.occurrences.Role.{Role}
 use Rattle.jr_small.specs.declared.occurrences.Role.TheVariants.{Class, Field, Method, Parameter, Local, Reference}
 use Rattle.jr_small.specs.Source.{Name}
 use Rattle.jr_small.specs.Occurrence.{Occurrence}
-use Rattle.jr_small.specs.Binding.{IsVariable, InScope, NoneInScope, FindsVariable, DeclaresField, FindsName, FindsClass, FindsReference, Binds}
+use Rattle.jr_small.specs.Binding.{IsVariable, FindsVariable, DeclaresField, FindsName, FindsClass, FindsReference, Binds}
 use Rattle.jr_small.specs.Sound.{IsSound, Together, SameField}
-use Rattle.jr_small.specs.Exact.{IsNameRef}
-use Rattle.jr_small.specs.Rename.{IsOf, IsAsked, Asks, Meets, SameOccurrence, qualifier_text}
-use Rattle.jr_small.specs.Renaming.{is_reference_role, is_behind, is_plain_behind, is_own_name, with_text, asked_at, changed_from, asked_list}
+use Rattle.jr_small.specs.Rename.{IsOf, IsAsked, Asks, Meets, qualifier_text}
+use Rattle.jr_small.specs.Renaming.{is_reference_role, is_behind, is_plain_behind, is_own_name, with_text, asked_at, asked_list}
 use Rattle.jr_small.proofs.Lookups.{and_both, bytes_same, same_bytes}
-use Rattle.jr_small.proofs.WellBound.{same_at, one_variable, binds_name}
-use Rattle.jr_small.proofs.KeepLists.{by_test, both, not_true, true_false, either, either_left, either_right, if_true, if_false, same_number, number_same, role_reference, reference_role, none_is, is_none_of, to_changed, from_changed, length_changed}
+use Rattle.jr_small.proofs.WellBound.{same_at, one_variable}
+use Rattle.jr_small.proofs.KeepLists.{by_test, both, true_false, either, either_left, either_right, if_true, if_false, same_number, number_same, role_reference, reference_role, none_is, is_none_of, from_changed, length_changed}
 
 -- a sound source in which a variable can get the name
 pub record IsReady (all : List Occurrence) (class target : Occurrence) (d : ℕ) (name : List ℕ) : Type 0 where
@@ -138,8 +137,8 @@ binds_one all k i j s b c =
     let f : FindsAt all k o i = record { role = b.role; finds = b.finds } in
     let g = binds_finds all k o j b.stands c in
     by_qualifier o.qualifier
-        (λ e. finds_one all o.member k o.name.text i j s (plain_finds all k o i e f) (plain_finds all k o j e g))
-        (λ q e. one_field all o.name.text i j s (qualified_finds all k o i q e f).1 (qualified_finds all k o j q e g).1)
+    (λ e. finds_one all o.member k o.name.text i j s (plain_finds all k o i e f) (plain_finds all k o j e g))
+    (λ q e. one_field all o.name.text i j s (qualified_finds all k o i q e f).1 (qualified_finds all k o j q e g).1)
 
 pub no_field_there : (all : List Occurrence) (target : Occurrence) (d : ℕ) (text : List ℕ) → slice_get all d ≡ Some target → IsVariable target.role → DeclaresField all text d → ⊥
 no_field_there all target d text e v f = variable_field target.role v (ap (λ (o : Occurrence). o.role) (same_at all d target f.declaration e f.stands) ∙ f.role)
@@ -169,8 +168,8 @@ plain_bound all target d k o s e v h p =
 -- In a sound source the references that are bound to a variable are those without a qualifier, of its name and member, behind it.
 pub binds_variable : (all : List Occurrence) (target : Occurrence) (d k : ℕ) (o : Occurrence) → IsSound all → slice_get all d ≡ Some target → IsVariable target.role → slice_get all k ≡ Some o → Binds all k d ↔ (is_plain_behind target d target.name.text k o ≡ true)
 binds_variable all target d k o s e v h = (
-    λ b. is_plain_behind_of target d target.name.text k o (bound_plain all target d k o e v h b),
-    λ t. plain_bound all target d k o s e v h (plain_behind_is target d target.name.text k o t),
+  λ b. is_plain_behind_of target d target.name.text k o (bound_plain all target d k o e v h b),
+  λ t. plain_bound all target d k o s e v h (plain_behind_is target d target.name.text k o t),
 )
 
 -- ---- the names of the variable

@@ -1,17 +1,14 @@
 -- Places change nothing: what holds of names holds of names that are the same but for their places.
-use Rattle.std.proofs.Common.{◌≡◌, ℕ, ◌+◌, ◌<◌, ◌≤◌, List, [], ◌∷◌, length, Option, Some, None, Bool, true, false, refl, sym, ap, subst, ◌∙◌, inl, inr, ◌⊎◌}
-use Rattle.std.specs.Prelude.{map, slice_get, option_map, Contains, count_by, fold, cond}
+use Rattle.std.proofs.Common.{◌≡◌, ℕ, ◌+◌, List, [], ◌∷◌, length, Option, Some, None, refl, sym, ap, subst, ◌∙◌, inl, inr}
+use Rattle.std.specs.Prelude.{map, slice_get, option_map, Contains, fold, cond}
 use Rattle.std.proofs.lemmas.List.{length-map}
 use Rattle.std.proofs.lemmas.Option.{slice_get-map}
-use Rattle.jr_small.specs.declared.occurrences.Role.{Role}
-use Rattle.jr_small.specs.declared.occurrences.Role.TheVariants.{Class, Field, Method, Parameter, Local, Reference}
 use Rattle.jr_small.specs.Source.{Name}
 use Rattle.jr_small.specs.Occurrence.{Occurrence}
-use Rattle.jr_small.specs.Binding.{IsVariable, InScope, NoneInScope, FindsVariable, DeclaresField, NoField, FindsName, FindsClass, FindsReference, Binds}
+use Rattle.jr_small.specs.Binding.{IsVariable, InScope, NoneInScope, FindsVariable, DeclaresField, FindsName, FindsClass, FindsReference, Binds}
 use Rattle.jr_small.specs.Sound.{IsSound, Together, SameField, SameMethod, SameVariable, NoneForward, is_parameter_of, parameter_count, prelude_names, object_methods}
 use Rattle.jr_small.specs.Rename.{SameOccurrence, qualifier_text, IsSpelled, Renames}
 use Rattle.jr_small.specs.Renaming.{Plain, plain}
-use Rattle.jr_small.proofs.WellBound.{same_at}
 
 -- ---- the same but for places
 
@@ -183,10 +180,9 @@ renames_like all d name xs ys h r = record {
     same : (k : ℕ) (a n : Occurrence) → slice_get r.asked k ≡ Some a → slice_get ys k ≡ Some n → SameOccurrence a n × (n.name.text ≡ a.name.text)
     same k a n e f =
         let l = like ys xs k n (sym h) f in
-        let s = r.same k a l.other e l.stands in
-        (
-            record { role = sym (role_of l.other n l.alike) ∙ s.0.role; member = sym (member_of l.other n l.alike) ∙ s.0.member; statement = sym (statement_of l.other n l.alike) ∙ s.0.statement },
-            sym (text_of l.other n l.alike) ∙ s.1,
+        let s = r.same k a l.other e l.stands in (
+          record { role = sym (role_of l.other n l.alike) ∙ s.0.role; member = sym (member_of l.other n l.alike) ∙ s.0.member; statement = sym (statement_of l.other n l.alike) ∙ s.0.statement },
+          sym (text_of l.other n l.alike) ∙ s.1,
         )
 
     spelled : (k j : ℕ) (o n : Occurrence) → slice_get all k ≡ Some o → slice_get ys k ≡ Some n → Binds all k j → IsSpelled all r.asked k j o n

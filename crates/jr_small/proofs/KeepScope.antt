@@ -1,19 +1,18 @@
 -- What is in scope once the variable has its new name. Each occurrence is changed by its number: f changes no role, member
 -- or statement, and of the declarations only the name of the variable.
-use Rattle.std.proofs.Common.{◌≡◌, ℕ, ◌+◌, ◌<◌, ◌≤◌, List, length, take, Option, Some, None, Bool, true, false, refl, sym, ap, subst, ◌∙◌, arith, inl, inr, ◌⊎◌}
-use Rattle.std.specs.Prelude.{slice_get, ◌&&◌, ◌||◌, ◌==◌, not, ◌↔◌}
+use Rattle.std.proofs.Common.{◌≡◌, ℕ, ◌<◌, List, take, Some, Bool, true, false, refl, sym, ap, subst, ◌∙◌, arith, inl, inr}
+use Rattle.std.specs.Prelude.{slice_get, ◌&&◌, ◌||◌, ◌==◌, not}
 use Rattle.std.specs.List.{list_any}
 use Rattle.std.specs.Str.{bytes_eq}
-use Rattle.jr_small.specs.declared.occurrences.Role.{Role}
-use Rattle.jr_small.specs.declared.occurrences.Role.TheVariants.{Class, Field, Method, Parameter, Local, Reference}
+use Rattle.jr_small.specs.declared.occurrences.Role.TheVariants.{Class, Field, Reference}
 use Rattle.jr_small.specs.Occurrence.{Occurrence}
-use Rattle.jr_small.specs.Binding.{IsVariable, InScope, NoneInScope, FindsVariable, DeclaresField, NoField, FindsName, FindsClass}
+use Rattle.jr_small.specs.Binding.{IsVariable, InScope, NoneInScope, FindsVariable, DeclaresField, FindsClass}
 use Rattle.jr_small.specs.Sound.{IsSound}
 use Rattle.jr_small.specs.Exact.{is_field, is_variable}
 use Rattle.jr_small.specs.Renaming.{changed_from, is_class_obscured}
 use Rattle.jr_small.proofs.Lookups.{and_both, bytes_same, same_bytes, field_passes, passes_field, variable_passes, passes_variable, front_of, in_front}
 use Rattle.jr_small.proofs.WellBound.{same_at}
-use Rattle.jr_small.proofs.KeepLists.{by_test, both, not_true, true_false, either, either_left, either_right, not_is, is_not, same_number, number_same, Passes, any_passes, passes_any, to_changed, from_changed}
+use Rattle.jr_small.proofs.KeepLists.{by_test, both, true_false, either, either_left, either_right, not_is, is_not, same_number, number_same, any_passes, passes_any, to_changed, from_changed}
 use Rattle.jr_small.proofs.KeepNames.{IsReady, variable_field, variable_class, variable_reference, field_reference, no_field_there, same_if}
 
 pub record IsChange (f : ℕ → Occurrence → Occurrence) (d : ℕ) (name : List ℕ) : Type 0 where
@@ -160,9 +159,9 @@ field_obscures all target name class k j w = either_left (bytes_eq class name ||
 rival_obscures : (all : List Occurrence) (target : Occurrence) (name class : List ℕ) (k i : ℕ) → (target.name.text ≡ class → ⊥) → InScope all target.member k class i → is_class_obscured all target name class k ≡ true
 rival_obscures all target name class k i n s = either_right (bytes_eq class name || list_any (is_field class) all) (has_rival all target class k)
     (both (not (bytes_eq target.name.text class)) (list_any (is_rival target class) (take k all))
-        (is_not (bytes_eq target.name.text class) (λ t. n (bytes_same target.name.text class t)))
-        (passes_any (is_rival target class) (take k all) i s.declaration (in_front all k i s.declaration s.stands s.before)
-            (both (is_variable class s.declaration) (s.declaration.member == target.member) (variable_passes class s.declaration s.variable s.named) (same_number s.declaration.member target.member s.member))))
+    (is_not (bytes_eq target.name.text class) (λ t. n (bytes_same target.name.text class t)))
+    (passes_any (is_rival target class) (take k all) i s.declaration (in_front all k i s.declaration s.stands s.before)
+    (both (is_variable class s.declaration) (s.declaration.member == target.member) (variable_passes class s.declaration s.variable s.named) (same_number s.declaration.member target.member s.member))))
 
 -- what obscures it
 record Rival (all : List Occurrence) (target : Occurrence) (class : List ℕ) (k : ℕ) : Type 0 where
@@ -175,21 +174,21 @@ obscured_by {P} all target name class k h on_name on_field on_rival = elim (eith
   | inl a ↦ elim (either (bytes_eq class name) (list_any (is_field class) all) a) [
     | inl n ↦ on_name (bytes_same class name n)
     | inr f ↦
-      let p = any_passes (is_field class) all f in
-      let q = passes_field class p.element p.passes in
-      on_field p.number (record { declaration = p.element; stands = p.stands; role = q.0; named = q.1 })
+        let p = any_passes (is_field class) all f in
+        let q = passes_field class p.element p.passes in
+        on_field p.number (record { declaration = p.element; stands = p.stands; role = q.0; named = q.1 })
   ]
   | inr b ↦
-    let a = and_both (not (bytes_eq target.name.text class)) (list_any (is_rival target class) (take k all)) b in
-    let p = any_passes (is_rival target class) (take k all) a.1 in
-    let q = and_both (is_variable class p.element) (p.element.member == target.member) p.passes in
-    let v = passes_variable class p.element q.0 in
-    let f = front_of all k p.number p.element p.stands in
-    on_rival (record {
-      other = λ e. not_is (bytes_eq target.name.text class) a.0 (same_bytes target.name.text class e);
-      number = p.number;
-      scope = record { declaration = p.element; stands = f.0; variable = v.0; member = number_same p.element.member target.member q.1; named = v.1; before = f.1 };
-    })
+      let a = and_both (not (bytes_eq target.name.text class)) (list_any (is_rival target class) (take k all)) b in
+      let p = any_passes (is_rival target class) (take k all) a.1 in
+      let q = and_both (is_variable class p.element) (p.element.member == target.member) p.passes in
+      let v = passes_variable class p.element q.0 in
+      let f = front_of all k p.number p.element p.stands in
+      on_rival (record {
+        other = λ e. not_is (bytes_eq target.name.text class) a.0 (same_bytes target.name.text class e);
+        number = p.number;
+        scope = record { declaration = p.element; stands = f.0; variable = v.0; member = number_same p.element.member target.member q.1; named = v.1; before = f.1 };
+      })
 ]
 
 -- In a sound source no other variable of the member has the variable's name.
@@ -225,4 +224,4 @@ class_hidden f all class target d name k r c b o g = obscured_by {P = ⊥} all t
     (λ e. g.no_variable d (target_to f all target d name target.member k class.name.text c r.stands r.variable (record { member = refl; before = b; named = sym e })))
     (λ j w. g.no_field j (field_to f all class target d name class.name.text j r c w))
     (λ w. g.no_variable w.number (scope_to f all d name target.member k class.name.text w.number c
-        (λ e. w.other (ap (λ (p : Occurrence). p.name.text) (same_at all d target w.scope.declaration r.stands (ap (slice_get all) (sym e) ∙ w.scope.stands)) ∙ w.scope.named)) w.scope))
+    (λ e. w.other (ap (λ (p : Occurrence). p.name.text) (same_at all d target w.scope.declaration r.stands (ap (slice_get all) (sym e) ∙ w.scope.stands)) ∙ w.scope.named)) w.scope))

@@ -1,8 +1,8 @@
 -- The renamed names are those of a sound source.
-use Rattle.std.proofs.Common.{◌≡◌, ℕ, ◌+◌, ◌<◌, ◌≤◌, List, length, Option, Some, None, Bool, true, false, refl, sym, ap, subst, ◌∙◌, arith, inl, inr, ◌⊎◌}
+use Rattle.std.proofs.Common.{◌≡◌, ℕ, ◌<◌, List, Some, sym, ap, subst, ◌∙◌, arith}
 use Rattle.std.specs.Prelude.{slice_get, Contains}
 use Rattle.jr_small.specs.declared.occurrences.Role.{Role}
-use Rattle.jr_small.specs.declared.occurrences.Role.TheVariants.{Class, Field, Method, Parameter, Local, Reference}
+use Rattle.jr_small.specs.declared.occurrences.Role.TheVariants.{Field, Method, Reference}
 use Rattle.jr_small.specs.Occurrence.{Occurrence}
 use Rattle.jr_small.specs.Binding.{IsVariable, Binds}
 use Rattle.jr_small.specs.Sound.{IsSound, Together, SameField, SameMethod, SameVariable, NoneForward, is_parameter_of, parameter_count, prelude_names, object_methods}
@@ -12,7 +12,7 @@ use Rattle.jr_small.proofs.WellBound.{same_at}
 use Rattle.jr_small.proofs.KeepLists.{to_changed, from_changed, count_changed}
 use Rattle.jr_small.proofs.KeepNames.{IsReady, variable_field, variable_method, variable_reference, field_reference, binds_one}
 use Rattle.jr_small.proofs.KeepScope.{IsChange, by_number, class_kept}
-use Rattle.jr_small.proofs.KeepBound.{NoneLost, change_renamed, keeps_bound}
+use Rattle.jr_small.proofs.KeepBound.{change_renamed, keeps_bound}
 
 -- what stood where one stands
 record Was (all : List Occurrence) (d : ℕ) (i : ℕ) (a : Occurrence) : Type 0 where
@@ -103,16 +103,16 @@ variables_apart : (f : ℕ → Occurrence → Occurrence) (all : List Occurrence
 variables_apart f all class target d name r c i j a b l e h p = by_number i d
     (λ s. renamed_apart f all class target d name j a b r c (ap (slice_get (changed_from 0 f all)) (sym s) ∙ e) h (above i j d l s) p.second (sym p.name) (sym p.member))
     (λ n. by_number j d
-        (λ s. renamed_apart f all class target d name i b a r c (ap (slice_get (changed_from 0 f all)) (sym s) ∙ h) e n p.first p.name p.member)
-        (λ m.
-            let u = was f all d name i a c e in
-            let w = was f all d name j b c h in
-            r.sound.variables i j u.old w.old l u.stands w.stands (record {
-              first = subst IsVariable (sym u.role) p.first;
-              second = subst IsVariable (sym w.role) p.second;
-              name = u.named (variable_reference a.role p.first) n ∙ p.name ∙ sym (w.named (variable_reference b.role p.second) m);
-              member = u.member ∙ p.member ∙ sym w.member;
-            })))
+    (λ s. renamed_apart f all class target d name i b a r c (ap (slice_get (changed_from 0 f all)) (sym s) ∙ h) e n p.first p.name p.member)
+    (λ m.
+    let u = was f all d name i a c e in
+    let w = was f all d name j b c h in
+    r.sound.variables i j u.old w.old l u.stands w.stands (record {
+      first = subst IsVariable (sym u.role) p.first;
+      second = subst IsVariable (sym w.role) p.second;
+      name = u.named (variable_reference a.role p.first) n ∙ p.name ∙ sym (w.named (variable_reference b.role p.second) m);
+      member = u.member ∙ p.member ∙ sym w.member;
+    })))
 
 -- Where no reference is lost, the renamed names are sound again.
 pub renamed_sound : (all : List Occurrence) (class target : Occurrence) (d : ℕ) (name : List ℕ) → IsReady all class target d name → ((k : ℕ) → Lost all (asked_list all target d name) k → ⊥) → IsSound (renamed_list all target d name class.name.text)

@@ -1,21 +1,19 @@
 -- The test of lost references is right both ways, and what is told of the first one.
-use Rattle.std.proofs.Common.{◌≡◌, ℕ, ◌+◌, ◌<◌, ◌≤◌, List, Option, Some, None, Bool, true, false, refl, sym, ap, subst, ◌∙◌, inl, inr, ◌⊎◌}
-use Rattle.std.specs.Prelude.{slice_get, ◌&&◌, ◌||◌, ◌==◌, ◌↔◌, if◌then◌else◌}
+use Rattle.std.proofs.Common.{◌≡◌, ℕ, List, Option, Some, None, Bool, true, false, refl, sym, ap, subst, ◌∙◌, inl, inr}
+use Rattle.std.specs.Prelude.{slice_get, ◌&&◌, ◌==◌, ◌↔◌, if◌then◌else◌}
 use Rattle.std.specs.Str.{bytes_eq}
-use Rattle.jr_small.specs.declared.occurrences.Role.{Role}
-use Rattle.jr_small.specs.declared.occurrences.Role.TheVariants.{Class, Field, Method, Parameter, Local, Reference}
+use Rattle.jr_small.specs.declared.occurrences.Role.TheVariants.{Reference}
 use Rattle.jr_small.specs.Source.{Name}
 use Rattle.jr_small.specs.Occurrence.{Occurrence}
 use Rattle.jr_small.specs.Binding.{DeclaresField, FindsName, FindsClass, Binds}
-use Rattle.jr_small.specs.Sound.{IsSound}
 use Rattle.jr_small.specs.Rename.{Lost, BindsAs, IsClassName}
-use Rattle.jr_small.specs.Renaming.{is_behind, is_plain_behind, is_own_name, with_text, asked_at, changed_from, asked_list, is_lost_at, is_class_obscured}
+use Rattle.jr_small.specs.Renaming.{is_behind, is_plain_behind, is_own_name, with_text, asked_at, asked_list, is_lost_at, is_class_obscured}
 use Rattle.jr_small.proofs.Lookups.{and_both, bytes_same, same_bytes}
 use Rattle.jr_small.proofs.WellBound.{same_at}
 use Rattle.jr_small.proofs.KeepLists.{by_test, both, not_true, either, either_left, if_true, if_false, same_number, number_same, to_changed}
-use Rattle.jr_small.proofs.KeepNames.{IsReady, IsBehind, behind_is, is_behind_of, plain_behind_is, FindsAt, binds_finds, qualified_finds, by_qualifier}
-use Rattle.jr_small.proofs.KeepScope.{IsChange, IsMet, target_to, finds_renamed, field_to, class_free, class_hidden}
-use Rattle.jr_small.proofs.KeepLost.{first_name, IsCaptured, by_capture, plain_named, qualified_named, captured_other, met_of, captured_field, keeps_binding, captured_fails}
+use Rattle.jr_small.proofs.KeepNames.{IsReady, behind_is, is_behind_of, plain_behind_is, binds_finds, qualified_finds, by_qualifier}
+use Rattle.jr_small.proofs.KeepScope.{IsChange, target_to, finds_renamed, field_to, class_free, class_hidden}
+use Rattle.jr_small.proofs.KeepLost.{IsCaptured, by_capture, plain_named, qualified_named, captured_other, met_of, captured_field, keeps_binding, captured_fails}
 
 -- the asked names change the variable's alone
 pub change_asked : (target : Occurrence) (d : ℕ) (name : List ℕ) → IsChange (asked_at target d name) d name
@@ -88,10 +86,10 @@ pub lost_is_marked : (all : List Occurrence) (class target : Occurrence) (d : �
 lost_is_marked all class target d name k o r e l =
     let c = lost_captured all class target d name k o r e l in
     by_qualifier o.qualifier
-        (λ q. lost_plain all target d name class.name.text k o q ∙ both (is_behind target d k o) (bytes_eq o.name.text name && is_class_obscured all target name class.name.text k) (is_behind_of target d k o c.behind)
-            (both (bytes_eq o.name.text name) (is_class_obscured all target name class.name.text k) (same_bytes o.name.text name ((plain_named name o q).0 c.named))
-                (by_test (is_class_obscured all target name class.name.text k) (λ t. t) (λ f. absurd (through_class all class target d name k o r e c q f l)))))
-        (λ n q. lost_qualified all target d name class.name.text k o n q ∙ both (is_behind target d k o) (bytes_eq n.text name) (is_behind_of target d k o c.behind) (same_bytes n.text name ((qualified_named name o n q).0 c.named)))
+    (λ q. lost_plain all target d name class.name.text k o q ∙ both (is_behind target d k o) (bytes_eq o.name.text name && is_class_obscured all target name class.name.text k) (is_behind_of target d k o c.behind)
+    (both (bytes_eq o.name.text name) (is_class_obscured all target name class.name.text k) (same_bytes o.name.text name ((plain_named name o q).0 c.named))
+    (by_test (is_class_obscured all target name class.name.text k) (λ t. t) (λ f. absurd (through_class all class target d name k o r e c q f l)))))
+    (λ n q. lost_qualified all target d name class.name.text k o n q ∙ both (is_behind target d k o) (bytes_eq n.text name) (is_behind_of target d k o c.behind) (same_bytes n.text name ((qualified_named name o n q).0 c.named)))
 
 -- what is spelled through the class, at the place of a captured reference
 class_at : (all : List Occurrence) (class target : Occurrence) (d : ℕ) (name : List ℕ) (k : ℕ) (o : Occurrence) (j : ℕ) (c : Name) → IsReady all class target d name → slice_get all k ≡ Some o → IsCaptured target d name k o → IsClassName all c → BindsAs (asked_list all target d name) k (Some c) j
@@ -132,7 +130,7 @@ marked_is_lost all class target d name k o r e t = by_qualifier o.qualifier plai
         let g = (qualified_finds all k o j.0 n q (binds_finds all k o j.0 e j.1)).0 in
         let is_class : n.text ≡ class.name.text = sym g.named ∙ ap (λ (p : Occurrence). p.name.text) (same_at all 0 g.class class g.stands r.class_stands) in
         lost w j.0 j.1 (λ c m b. (class_at all class target d name k o j.0 c r e w m b).no_variable d
-            (target_to (asked_at target d name) all target d name target.member k class.name.text (change_asked target d name) r.stands r.variable (record { member = refl; before = behind.before; named = sym (bytes_same n.text name a.1) ∙ is_class })))
+        (target_to (asked_at target d name) all target d name target.member k class.name.text (change_asked target d name) r.stands r.variable (record { member = refl; before = behind.before; named = sym (bytes_same n.text name a.1) ∙ is_class })))
 
 -- A reference is lost exactly where the test says it.
 pub lost_iff_marked : (all : List Occurrence) (class target : Occurrence) (d : ℕ) (name : List ℕ) (k : ℕ) (o : Occurrence) → IsReady all class target d name → slice_get all k ≡ Some o → Lost all (asked_list all target d name) k ↔ (is_lost_at all target d name class.name.text k o ≡ true)

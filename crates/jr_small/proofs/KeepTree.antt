@@ -1,5 +1,5 @@
 -- What holds of the names of every tree.
-use Rattle.std.proofs.Common.{◌≡◌, ℕ, zero, suc, ◌+◌, ◌≤◌, List, [], ◌∷◌, ◌++◌, Option, Some, None, refl, sym, ap, subst, ◌∙◌, arith}
+use Rattle.std.proofs.Common.{◌≡◌, ℕ, zero, suc, ◌+◌, ◌≤◌, List, [], ◌∷◌, ◌++◌, Some, None, refl, sym, ap, subst, arith}
 use Rattle.std.specs.Prelude.{map, slice_get}
 use Rattle.jr_small.specs.declared.occurrences.Role.{Role}
 use Rattle.jr_small.specs.declared.occurrences.Role.TheVariants.{Class, Field, Method, Parameter, Local, Reference}
@@ -31,7 +31,7 @@ monotone_append (x ∷ xs) ys f g h zero zero a b l e k = let same : a ≡ b = c
 monotone_append (x ∷ xs) ys f g h zero (suc j) a b l e k =
     let same : x ≡ a = cc in
     subst (λ (o : Occurrence). o.member ≤ b.member) same
-        (each_append (λ o. x.member ≤ o.member) xs ys (λ i o p. f zero (suc i) x o (omega arith) refl p) (λ i o p. h zero x refl i o p) j b k)
+    (each_append (λ o. x.member ≤ o.member) xs ys (λ i o p. f zero (suc i) x o (omega arith) refl p) (λ i o p. h zero x refl i o p) j b k)
 monotone_append (x ∷ xs) ys f g h (suc i) zero a b l e k = absurd (omega arith)
 monotone_append (x ∷ xs) ys f g h (suc i) (suc j) a b l e k =
     monotone_append xs ys (λ m n c d p q s. f (suc m) (suc n) c d (omega arith) q s) g (λ m c p. h (suc m) c p) i j a b (omega arith) e k
