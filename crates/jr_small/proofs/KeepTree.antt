@@ -6,7 +6,11 @@ use Rattle.jr_small.specs.declared.occurrences.Role.TheVariants.{Class, Field, M
 use Rattle.jr_small.specs.Source as tree
 use Rattle.jr_small.specs.Spelling.{Tree}
 use Rattle.jr_small.specs.Occurrence.{Occurrence, declared, referred, in_atoms, in_sum, in_statement, in_body, in_member, in_members, occurrences}
+use Rattle.jr_small.specs.Binding.{IsVariable}
+use Rattle.jr_small.specs.Sound.{IsSound}
 use Rattle.jr_small.specs.Exact.{IsMonotone}
+use Rattle.jr_small.specs.Rename.{Meets}
+use Rattle.jr_small.proofs.KeepNames.{IsReady}
 
 -- ---- each one of a list
 
@@ -121,3 +125,7 @@ one_class u (suc k) o e h = absurd ((in_members_from 0 u.members k o e).inner h)
 pub occurrences_unqualified : (u : Tree) (k : ℕ) (o : Occurrence) → slice_get (occurrences u) k ≡ Some o → (o.role ≡ Reference → ⊥) → o.qualifier ≡ None
 occurrences_unqualified u zero o e h = let same : declared Class 0 0 u.name ≡ o = cc in ap (λ (p : Occurrence). p.qualifier) (sym same)
 occurrences_unqualified u (suc k) o e h = (in_members_from 0 u.members k o e).unqualified h
+
+-- So a sound tree, a variable of it and a name that meets no declaration are ready.
+pub tree_ready : (u : Tree) (target : Occurrence) (d : ℕ) (name : List ℕ) → IsSound (occurrences u) → slice_get (occurrences u) d ≡ Some target → IsVariable target.role → ((w : ℕ) → Meets (occurrences u) d name w → ⊥) → IsReady (occurrences u) (declared Class 0 0 u.name) target d name
+tree_ready u target d name s e v free = record { sound = s; class_stands = class_first u; class_role = refl; unqualified = occurrences_unqualified u; stands = e; variable = v; free = free }

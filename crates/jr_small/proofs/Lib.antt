@@ -15,3 +15,4 @@ pub mod KeepBound
 pub mod KeepSound
 pub mod KeepTree
 pub mod KeepPlain
+pub mod KeepFirst
