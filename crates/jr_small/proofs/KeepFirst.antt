@@ -1,5 +1,5 @@
 -- The first reference that the test marks is the first lost one, and told so.
-use Rattle.std.proofs.Common.{◌≡◌, ℕ, ◌<◌, ◌≤◌, List, Option, Some, None, Bool, true, false, refl, sym, ap, subst, ◌∙◌, arith}
+use Rattle.std.proofs.Common.{◌≡◌, ℕ, ◌<◌, ◌≤◌, List, Option, Some, None, true, false, refl, arith}
 use Rattle.std.specs.Prelude.{slice_get}
 use Rattle.jr_small.specs.declared.occurrences.Role.TheVariants.{Class, Field}
 use Rattle.jr_small.specs.Source.{Name}
