@@ -17,3 +17,13 @@ pub mod AgainMoved
 pub mod AgainOne
 pub mod AgainTree
 pub mod AgainAll
+pub mod KeepLists
+pub mod KeepNames
+pub mod KeepScope
+pub mod KeepLost
+pub mod KeepTold
+pub mod KeepBound
+pub mod KeepSound
+pub mod KeepTree
+pub mod KeepPlain
+pub mod KeepFirst
