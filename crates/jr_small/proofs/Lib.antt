@@ -14,3 +14,4 @@ pub mod AgainMoved
 pub mod AgainOne
 pub mod AgainTree
 pub mod AgainAll
+pub mod AgainNames
