@@ -1,10 +1,10 @@
 -- The items of a text stand one behind the other, and the bytes of a word are a name.
 use Rattle.std.proofs.Common.{◌≡◌, ℕ, ◌+◌, ◌-◌, List, [], ◌∷◌, ◌++◌, length, take, true, refl, sym, ap, subst, ◌∙◌, arith}
 use Rattle.std.specs.Prelude.{encode_utf8_all, slice_range}
-use Rattle.std.specs.Str.{chars}
+use Rattle.std.specs.Str.{IsUtf8, chars}
 use Rattle.std.proofs.Math.Utf8.{scalars}
 use Rattle.std.proofs.lemmas.List.{take_at, drop_at}
-use Rattle.std.proofs.lemmas.Str.{encodes-append, encodes-chars, scalars-chars, chars-encodes}
+use Rattle.std.proofs.lemmas.Str.{encodes-append, encodes-chars, scalars-chars, chars-encodes, IsUtf8-nil, IsUtf8-append}
 use Rattle.jr_text.specs.declared.spans.Span.{Span}
 use Rattle.jr_lex.specs.declared.items.Item.{Item}
 use Rattle.jr_lex.specs.declared.items.ItemKind.{ItemKind}
@@ -30,6 +30,7 @@ use Rattle.jr_small.specs.Token.{word, shape_in, value_in, number_shape, name_at
 pub record IsTile (at : ℕ) (item : Item) (front : List ℕ) : Type 0 where
   pub place : item.span ≡ span_of at (at + length front)
   pub name : item.kind ≡ Token Word → IsName front
+  pub is_text : IsUtf8 front
 
 -- the items stand one behind the other from the place on, and take the bytes
 abbrev pub Tiled : ℕ → List ℕ → List Item → Type 0
@@ -61,9 +62,14 @@ cuts_tiled at cs (item ∷ items) s h =
       encode_utf8_all front,
       encode_utf8_all rest,
       ap encode_utf8_all e ∙ encodes-append front rest,
-      record { place = h.2.place; name = λ k. name_of front l (identifier item.kind front h.2.taken.lexeme k) },
+      record { place = h.2.place; name = λ k. name_of front l (identifier item.kind front h.2.taken.lexeme k); is_text = (front, (l, refl)) },
       cuts_tiled (at + length (encode_utf8_all front)) rest items (scalars-right front rest s') h.3,
     )
+
+-- the bytes of items are a text
+pub tiled_text : (at : ℕ) (bytes : List ℕ) (items : List Item) → Tiled at bytes items → IsUtf8 bytes
+tiled_text at bytes [] t = subst IsUtf8 (sym t) IsUtf8-nil
+tiled_text at bytes (item ∷ items) t = subst IsUtf8 (sym t.2) (IsUtf8-append t.0 t.1 t.3.is_text (tiled_text (at + length t.0) t.1 items t.4))
 
 -- the items of a text take its bytes
 pub lexes_tiled : (text : List ℕ) (items : List Item) → Lexes text items → Tiled 0 text items

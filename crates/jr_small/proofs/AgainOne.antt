@@ -23,15 +23,16 @@ pub record ReadsAs (ss : List Slot) (text : List ℕ) (os : List Occurrence) : T
 
 -- ---- slots around one name
 
-record Around (ss : List Slot) (os : List Occurrence) (o : Occurrence) (ps : List Occurrence) (ts : List Piece) : Type 0 where
-  left : List Slot
-  right : List Slot
-  front : List Piece
-  back : List Piece
-  slots_are : left ++ a_name ∷ right ≡ ss
-  tokens_are : ts ≡ front ++ (spell_occurrence o ++ back)
-  fill_left : Fills left os front
-  fill_right : Fills right ps back
+-- the slots in front of an occurrence and behind it, with their tokens
+pub record Around (ss : List Slot) (os : List Occurrence) (o : Occurrence) (ps : List Occurrence) (ts : List Piece) : Type 0 where
+  pub left : List Slot
+  pub right : List Slot
+  pub front : List Piece
+  pub back : List Piece
+  pub slots_are : left ++ a_name ∷ right ≡ ss
+  pub tokens_are : ts ≡ front ++ (spell_occurrence o ++ back)
+  pub fill_left : Fills left os front
+  pub fill_right : Fills right ps back
 
 -- with one slot more in front
 more_around : (x : Slot) (y : List Piece) (ss : List Slot) (os more : List Occurrence) (o : Occurrence) (ps : List Occurrence) (ts us : List Piece)
@@ -47,7 +48,7 @@ more_around x y ss os more o ps ts us e f h = record {
   fill_right = h.fill_right;
 }
 
-around : (ss : List Slot) (os : List Occurrence) (o : Occurrence) (ps : List Occurrence) (ts : List Piece) → Fills ss (os ++ o ∷ ps) ts → Around ss os o ps ts
+pub around : (ss : List Slot) (os : List Occurrence) (o : Occurrence) (ps : List Occurrence) (ts : List Piece) → Fills ss (os ++ o ∷ ps) ts → Around ss os o ps ts
 around [] [] o ps ts h = absurd h
 around [] (p ∷ os) o ps ts h = absurd h
 around (a_name ∷ ss) [] o ps ts h = record { left = []; right = ss; front = []; back = h.0; slots_are = refl; tokens_are = h.1; fill_left = refl; fill_right = h.2 }

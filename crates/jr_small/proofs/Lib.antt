@@ -27,3 +27,4 @@ pub mod KeepSound
 pub mod KeepTree
 pub mod KeepPlain
 pub mod KeepFirst
+pub mod AgainNames
