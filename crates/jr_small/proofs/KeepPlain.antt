@@ -97,6 +97,7 @@ reference_like xs ys m k (Some p) (Some n) text j h e f =
     let same : p.text ≡ n.text = cc in
     (subst (FindsClass ys m k) same (class_like xs ys m k p.text h f.0), field_like xs ys text j h f.1)
 
+-- A reference is bound as in the other list.
 pub binds_like : (xs ys : List Occurrence) (k j : ℕ) → map plain xs ≡ map plain ys → Binds xs k j → Binds ys k j
 binds_like xs ys k j h b =
     let l = like xs ys k b.reference h b.stands in
@@ -153,6 +154,7 @@ forward_like xs ys h n k j reference declaration e f b local same =
     let w = like ys xs j declaration (sym h) f in
     n k j u.other w.other u.stands w.stands (binds_like ys xs k j (sym h) b) (role_of w.other declaration w.alike ∙ local) (statement_of w.other declaration w.alike ∙ same ∙ sym (statement_of u.other reference u.alike))
 
+-- The other list is sound too.
 pub sound_like : (xs ys : List Occurrence) → map plain xs ≡ map plain ys → IsSound xs → IsSound ys
 sound_like xs ys h s = record {
   class_name = λ c e n. let l = like ys xs 0 c (sym h) e in s.class_name l.other l.stands (subst (Contains prelude_names) (sym (text_of l.other c l.alike)) n);
@@ -166,6 +168,7 @@ sound_like xs ys h s = record {
 
 -- ---- renamings
 
+-- What is a renaming stays one, wherever its names stand.
 pub renames_like : (all : List Occurrence) (d : ℕ) (name : List ℕ) (xs ys : List Occurrence) → map plain xs ≡ map plain ys → Renames all d name xs → Renames all d name ys
 renames_like all d name xs ys h r = record {
   asked = r.asked;

@@ -82,6 +82,7 @@ through_class all class target d name k o r e c q free l = l.class_fails class.n
   );
 })
 
+-- What is lost, the test marks,
 pub lost_is_marked : (all : List Occurrence) (class target : Occurrence) (d : ℕ) (name : List ℕ) (k : ℕ) (o : Occurrence) → IsReady all class target d name → slice_get all k ≡ Some o → Lost all (asked_list all target d name) k → is_lost_at all target d name class.name.text k o ≡ true
 lost_is_marked all class target d name k o r e l =
     let c = lost_captured all class target d name k o r e l in
@@ -100,6 +101,7 @@ class_at all class target d name k o j c r e w n b =
     let text : c.text ≡ class.name.text = n.named ∙ ap (λ (p : Occurrence). p.name.text) (same_at all 0 n.occurrence class n.stands r.class_stands) in
     subst (λ (m : ℕ). FindsClass (asked_list all target d name) m k class.name.text) member (subst (FindsClass (asked_list all target d name) b.reference.member k) text b.finds.0)
 
+-- and what it marks, is lost.
 pub marked_is_lost : (all : List Occurrence) (class target : Occurrence) (d : ℕ) (name : List ℕ) (k : ℕ) (o : Occurrence) → IsReady all class target d name → slice_get all k ≡ Some o → is_lost_at all target d name class.name.text k o ≡ true → Lost all (asked_list all target d name) k
 marked_is_lost all class target d name k o r e t = by_qualifier o.qualifier plain through
   where
