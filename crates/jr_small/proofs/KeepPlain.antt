@@ -161,7 +161,7 @@ sound_like xs ys h s = record {
   fields = together_like xs ys SameField SameField h same_field s.fields;
   methods = together_like xs ys (SameMethod xs) (SameMethod ys) h (same_method xs ys h) s.methods;
   variables = together_like xs ys SameVariable SameVariable h same_variable s.variables;
-  no_object_method = λ k o e m n. let l = like ys xs k o (sym h) e in s.no_object_method k l.other l.stands (role_of l.other o l.alike ∙ m) (subst (Contains object_methods) (sym (text_of l.other o l.alike)) n);
+  no_object_method = λ k o e w. let l = like ys xs k o (sym h) e in s.no_object_method k l.other l.stands (record { role = role_of l.other o l.alike ∙ w.role; name = subst (Contains object_methods) (sym (text_of l.other o l.alike)) w.name });
   bound = λ k o e r. let l = like ys xs k o (sym h) e in let b = s.bound k l.other l.stands (role_of l.other o l.alike ∙ r) in (b.0, binds_like xs ys k b.0 h b.1);
   no_forward = forward_like xs ys h s.no_forward;
 }

@@ -121,7 +121,7 @@ renamed_sound all class target d name r none = record {
   fields = fields;
   methods = methods_apart f all class target d name r c;
   variables = variables_apart f all class target d name r c;
-  no_object_method = λ k o e m h. let w = method_was f all class target d name k o r c e m in r.sound.no_object_method k w.0 w.1 w.2 (subst (Contains object_methods) (sym w.3) h);
+  no_object_method = λ k o e h. let w = method_was f all class target d name k o r c e h.role in r.sound.no_object_method k w.0 w.1 (record { role = w.2; name = subst (Contains object_methods) (sym w.3) h.name });
   bound = bound;
   no_forward = no_forward;
 }

@@ -28,3 +28,4 @@ pub mod KeepTree
 pub mod KeepPlain
 pub mod KeepFirst
 pub mod AgainNames
+pub mod Reached
