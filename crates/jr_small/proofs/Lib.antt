@@ -29,3 +29,4 @@ pub mod KeepPlain
 pub mod KeepFirst
 pub mod AgainNames
 pub mod Reached
+pub mod ReadNames

@@ -63,8 +63,8 @@ read_none ts e u s =
     let found : Some (occurrences u) ≡ None = sym (source_read u) ∙ ap read (sym s) ∙ e in
     cc
 
--- what a source spells has its names
-pub read_names : (ts : List Piece) (os : List Occurrence) → read ts ≡ Some os → (u : Tree) → ts ≡ spell u → occurrences u ≡ os
-read_names ts os e u s =
-    let found : Some (occurrences u) ≡ Some os = sym (source_read u) ∙ ap read (sym s) ∙ e in
+-- sources that spell the same have the same names
+pub spelled_alike : (ts : List Piece) (u v : Tree) → ts ≡ spell u → ts ≡ spell v → occurrences u ≡ occurrences v
+spelled_alike ts u v e f =
+    let both : Some (occurrences u) ≡ Some (occurrences v) = sym (source_read u) ∙ ap read (sym e ∙ f) ∙ source_read v in
     cc

@@ -3,7 +3,7 @@ use Rattle.std.specs.Prelude.{◌≡◌, ◌≢◌, ℕ, ◌<◌, ◌≤◌, Lis
 use Rattle.jr_small.specs.declared.occurrences.Occurrence.{Occurrence}
 use Rattle.jr_small.specs.declared.readings.Reading.{Reading}
 use Rattle.jr_small.specs.declared.readings.Reading.TheVariants.{Source, Fault}
-use Rattle.jr_small.specs.Placed.{ArePlaced}
+use Rattle.jr_small.specs.Placed.{Stand}
 use Rattle.jr_small.specs.Spelling.{Tree}
 use Rattle.jr_small.specs.Occurrence as pure
 use Rattle.jr_small.specs.View.{all_of}
@@ -15,7 +15,7 @@ pub record AreNamesOf (text : List ℕ) (all : List Occurrence) : Type 0 where
   pub shallow : IsShallow text
   pub reads : ReadsSound text tree
   pub names : pure.occurrences tree ≡ all_of text all
-  pub placed : ArePlaced text all
+  pub stands : Stand text all
 
 abbrev pub IsReading : List ℕ → Reading → Type 0
 IsReading text (Source all) = AreNamesOf text all.items
