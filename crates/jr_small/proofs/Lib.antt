@@ -15,3 +15,4 @@ pub mod AgainOne
 pub mod AgainTree
 pub mod AgainAll
 pub mod AgainNames
+pub mod AgainRenaming
