@@ -1,6 +1,6 @@
 -- The text of a renaming reads as the renamed source.
-use Rattle.std.proofs.Common.{◌≡◌, ℕ, zero, suc, ◌+◌, List, [], ◌∷◌, ◌++◌, length, Option, Some, None, Bool, true, false, refl, sym, ap, subst, ◌∙◌, arith, inl, inr, ◌⊎◌}
-use Rattle.std.specs.Prelude.{map, slice_get, ◌&&◌, ◌||◌, ◌==◌, nat_lt, nat_eq, is_none, if◌then◌else◌}
+use Rattle.std.proofs.Common.{◌≡◌, ℕ, suc, ◌+◌, List, [], ◌∷◌, Option, Some, None, Bool, true, false, refl, sym, ap, ◌∙◌, arith, inl, inr}
+use Rattle.std.specs.Prelude.{map, slice_get, ◌&&◌, ◌||◌, ◌==◌, nat_lt, is_none, if◌then◌else◌}
 use Rattle.std.specs.Str.{bytes_eq}
 use Rattle.std.proofs.lemmas.Bool.Decides.{nat_tests}
 use Rattle.jr_text.specs.Edits.{Entry}
@@ -11,9 +11,9 @@ use Rattle.jr_small.specs.declared.occurrences.Role.TheVariants as roles
 use Rattle.jr_small.specs.Source.{Name}
 use Rattle.jr_small.specs.Spelling.{Tree}
 use Rattle.jr_small.specs.Occurrence.{Occurrence, occurrences}
-use Rattle.jr_small.specs.Renaming.{Plain, plain, with_text, with_qualifier, is_reference_role, is_behind, is_plain_behind, is_own_name, renamed_at, renamed_list, changed_from}
-use Rattle.jr_small.specs.Answer.{Reads, spelling_of, AreEditsOf}
-use Rattle.jr_small.proofs.AgainAll.{IsRespelled, IsQualified, IsChange, AllChange, same_spelled, ReadsPlainly, all_read}
+use Rattle.jr_small.specs.Renaming.{plain, with_text, with_qualifier, is_reference_role, is_behind, is_plain_behind, is_own_name, renamed_at, renamed_list, changed_from}
+use Rattle.jr_small.specs.Answer.{Reads, AreEditsOf}
+use Rattle.jr_small.proofs.AgainAll.{IsChange, AllChange, same_spelled, ReadsPlainly, all_read}
 
 -- ---- edits by what is spelled
 
@@ -79,9 +79,10 @@ renamed_change target d name class k o n c h = by_own (is_own_name target d k o)
 pub renamed_changes : (target : Occurrence) (d : ℕ) (name class : List ℕ) (n : ℕ) (os : List Occurrence) → IsName name → IsName class
     → ((i : ℕ) (o : Occurrence) → n + i ≡ d → slice_get os i ≡ Some o → o.qualifier ≡ None) → AllChange os (changed_from n (renamed_at target d name class) os)
 renamed_changes target d name class n [] a c h = tt
-renamed_changes target d name class n (o ∷ os) a c h =
-    (renamed_change target d name class n o a c (λ e. h 0 o (omega arith) refl),
-        renamed_changes target d name class (n + 1) os a c (λ i p e s. h (suc i) p (omega arith) s))
+renamed_changes target d name class n (o ∷ os) a c h = (
+  renamed_change target d name class n o a c (λ e. h 0 o (omega arith) refl),
+  renamed_changes target d name class (n + 1) os a c (λ i p e s. h (suc i) p (omega arith) s),
+)
 
 -- The text with the edits of a renaming reads as a source of the same form with the new names.
 pub renamed_reads : (swapped : WordSwapped) (qualified : WordQualified) (text : List ℕ) (u : Tree) (target : Occurrence) (d : ℕ) (name class : List ℕ) (es : List Entry)
@@ -89,7 +90,7 @@ pub renamed_reads : (swapped : WordSwapped) (qualified : WordQualified) (text : 
     → AreEditsOf 0 (occurrences u) (renamed_list (occurrences u) target d name class) es → ReadsPlainly (splice text es) u (renamed_list (occurrences u) target d name class)
 renamed_reads swapped qualified text u target d name class es h stands bare n c e =
     all_read swapped qualified text u (renamed_list (occurrences u) target d name class) es h
-        (renamed_changes target d name class 0 (occurrences u) n c (λ i o at s. target_bare i o (omega arith) s)) e
+    (renamed_changes target d name class 0 (occurrences u) n c (λ i o at s. target_bare i o (omega arith) s)) e
   where
     target_bare : (i : ℕ) (o : Occurrence) → i ≡ d → slice_get (occurrences u) i ≡ Some o → o.qualifier ≡ None
     target_bare i o e s =
