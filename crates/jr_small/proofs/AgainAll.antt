@@ -62,7 +62,7 @@ spelling_plain o = go o.qualifier
 bare_spelled : (o : Occurrence) → o.qualifier ≡ None → spelling_of o ≡ o.name.text
 bare_spelled o e = ap (λ (q : Option Name). spelling_of (record o { qualifier = q })) e
 
-same_spelled : (o n : Occurrence) → plain n ≡ plain o → spelling_of o ≡ spelling_of n
+pub same_spelled : (o n : Occurrence) → plain n ≡ plain o → spelling_of o ≡ spelling_of n
 same_spelled o n e = spelling_plain o ∙ ap spelling_in (sym e) ∙ sym (spelling_plain n)
 
 respelled : (o n : Occurrence) (h : IsRespelled o n) → spelling_of n ≡ h.text

@@ -1,11 +1,10 @@
 -- The names of a source stand in its text, one behind the other.
-use Rattle.std.proofs.Common.{◌≡◌, ℕ, zero, suc, ◌+◌, ◌-◌, ◌<◌, ◌≤◌, List, [], ◌∷◌, ◌++◌, length, Option, Some, None, refl, sym, ap, subst, ◌∙◌, append_assoc, arith, length-append, inl, inr}
-use Rattle.std.specs.Prelude.{slice_range, slice_get, map, All}
+use Rattle.std.proofs.Common.{◌≡◌, ℕ, zero, suc, ◌+◌, ◌<◌, ◌≤◌, List, [], ◌∷◌, ◌++◌, length, Option, Some, None, refl, sym, ap, subst, ◌∙◌, append_assoc, arith, length-append, inl, inr}
+use Rattle.std.specs.Prelude.{slice_range, slice_get}
 use Rattle.std.specs.List.{AllByRecursion}
 use Rattle.std.proofs.lemmas.List.Elements.{All-from_recursion}
-use Rattle.std.specs.Str.{IsUtf8, IsCharBoundary, chars}
+use Rattle.std.specs.Str.{IsUtf8, IsCharBoundary}
 use Rattle.std.proofs.lemmas.Str.{chars-nil, IsUtf8-append, IsCharBoundary-at_seam}
-use Rattle.jr_text.specs.declared.spans.Span.{Span}
 use Rattle.jr_text.specs.Spans.{CanCut}
 use Rattle.jr_text.specs.Edits.{Entry, FitsIn}
 use Rattle.jr_lex.specs.declared.items.Item.{Item}
@@ -19,9 +18,9 @@ use Rattle.jr_small.specs.Token.{Piece, word, fixed_token, pieces_of}
 use Rattle.jr_small.specs.Occurrence.{Occurrence, occurrences}
 use Rattle.jr_small.specs.Answer.{Reads, form_of, AreEditsOf}
 use Rattle.jr_small.proofs.AgainItems.{tiled_text, slice_between}
-use Rattle.jr_small.proofs.AgainInside.{IsInText, inside_text, IsWithin, AllWithin}
+use Rattle.jr_small.proofs.AgainInside.{IsInText, inside_text, AllWithin}
 use Rattle.jr_small.proofs.AgainSlots.{Slot, a_name, a_number, a_token, Fills, spell_occurrence, slots}
-use Rattle.jr_small.proofs.AgainOne.{ReadsAs, Around, around}
+use Rattle.jr_small.proofs.AgainOne.{ReadsAs, around}
 use Rattle.jr_small.proofs.AgainTree.{reads_as}
 
 -- the text has the name at its place, and can be cut there
@@ -79,7 +78,7 @@ name_in ss text os o ps h =
     let a = around ss os o ps (pieces_of text h.items) h.fills in
     let front = a.front ++ in_front o.qualifier in
     let parts : pieces_of text h.items ≡ front ++ word o.name ∷ a.back =
-        a.tokens_are ∙ ap (λ (ts : List Piece). a.front ++ (ts ++ a.back)) (spelled_parts o) ∙ joined a.front (in_front o.qualifier) (word o.name) a.back in
+    a.tokens_are ∙ ap (λ (ts : List Piece). a.front ++ (ts ++ a.back)) (spelled_parts o) ∙ joined a.front (in_front o.qualifier) (word o.name) a.back in
     let i = inside_text text h.items front o.name a.back h.lexes parts in
     record { right = a.right; back = a.back; fill = a.fill_right; stands = inside_stands text h.items front o.name a.back i; after = i.names_after }
 

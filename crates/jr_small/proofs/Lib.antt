@@ -30,3 +30,4 @@ pub mod KeepFirst
 pub mod AgainNames
 pub mod Reached
 pub mod ReadNames
+pub mod AgainRenaming
