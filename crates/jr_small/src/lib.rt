@@ -12,6 +12,7 @@ mod reader;
 mod refusals;
 mod sound;
 mod tables;
+mod targets;
 mod tokens;
 
 pub use occurrences::{Occurrence, Role};
