@@ -10,7 +10,7 @@ use Rattle.jr_small.specs.Source.{Name}
 use Rattle.jr_small.specs.Occurrence.{Occurrence}
 use Rattle.jr_small.specs.Binding.{IsVariable, InScope, NoneInScope, FindsVariable, DeclaresField, FindsName, FindsReference, Binds}
 use Rattle.jr_small.specs.Rename.{Holds, DeclaresVariable, StandsAt, IsOf, IsTarget, Meets, Clashes}
-use Rattle.jr_small.specs.Meant.{IsVariableOf, IsMeant}
+use Rattle.jr_small.specs.Meant.{IsVariableOf, IsMeant, IsMeantAt}
 use Rattle.jr_small.specs.Exact.{IsNameRef, IsQualifiedRef}
 use Rattle.jr_small.specs.View.{occurrence_of, all_of}
 use Rattle.jr_small.proofs.Walks.{get_within}
@@ -85,7 +85,7 @@ is_variable_at text all d v = subst (λ (o : Occurrence). IsVariable o.role) (is
 pub meant_itself : (text : List ℕ) (all : List raw.Occurrence) (k : ℕ) → k < length all → IsVariable (at text all k).role → IsMeant (all_of text all) k k
 meant_itself text all k h v = record { variable = record { declaration = at text all k; stands = at_number text all k nobody h; variable = v }; names = inl refl }
 
-pub meant_variable : (text : List ℕ) (all : List raw.Occurrence) (k j : ℕ) (q : List ℕ) → k < length all → IsNameRef (at text all k) → q ≡ (at text all k).name.text → FindsVariable (all_of text all) (at text all k).member k q j → IsMeant (all_of text all) k j
+meant_variable : (text : List ℕ) (all : List raw.Occurrence) (k j : ℕ) (q : List ℕ) → k < length all → IsNameRef (at text all k) → q ≡ (at text all k).name.text → FindsVariable (all_of text all) (at text all k).member k q j → IsMeant (all_of text all) k j
 meant_variable text all k j q h r e f =
     let o = at text all k in
     let g = subst (λ (w : List ℕ). FindsVariable (all_of text all) o.member k w j) e f in
@@ -106,7 +106,7 @@ field_none all q d f v =
     let role : v.declaration.role ≡ Field = ap (λ (o : Occurrence). o.role) (same_at all d v.declaration f.declaration v.stands f.stands) ∙ f.role in
     no_role v.declaration.role (λ e. let bad : Field ≡ Parameter = sym role ∙ e in cc) (λ e. let bad : Field ≡ Local = sym role ∙ e in cc) v.variable
 
-pub meant_none : (text : List ℕ) (all : List raw.Occurrence) (k : ℕ) (q : List ℕ) → k < length all → IsNameRef (at text all k) → q ≡ (at text all k).name.text → NoneInScope (all_of text all) (at text all k).member k q
+meant_none : (text : List ℕ) (all : List raw.Occurrence) (k : ℕ) (q : List ℕ) → k < length all → IsNameRef (at text all k) → q ≡ (at text all k).name.text → NoneInScope (all_of text all) (at text all k).member k q
     → (d : ℕ) → IsMeant (all_of text all) k d → ⊥
 meant_none text all k q h r e n d m = go m.names
   where
@@ -117,6 +117,13 @@ meant_none text all k q h r e n d m = go m.names
     go : IsOf (all_of text all) d k → ⊥
     go (inl same) = reference_none (at text all k).role r.role (subst (λ (i : ℕ). IsVariable (at text all i).role) (sym same) (is_variable_at text all d m.variable))
     go (inr b) = finds (name_binds (all_of text all) k d (at text all k) (at_number text all k nobody h) r b)
+
+-- by the answer of a look-up of its name
+pub meant_by : (text : List ℕ) (all : List raw.Occurrence) (k : ℕ) (q : List ℕ) (found : Option ℕ) → k < length all → IsNameRef (at text all k) → q ≡ (at text all k).name.text
+    → MatchOption found (NoneInScope (all_of text all) (at text all k).member k q) (FindsVariable (all_of text all) (at text all k).member k q)
+    → MatchOption found ((d : ℕ) → IsMeant (all_of text all) k d → ⊥) (IsMeant (all_of text all) k)
+meant_by text all k q None h r e n = meant_none text all k q h r e n
+meant_by text all k q (Some j) h r e f = meant_variable text all k j q h r e f
 
 pub qualified_none : (text : List ℕ) (all : List raw.Occurrence) (k : ℕ) (q : Name) → k < length all → IsQualifiedRef (at text all k) q → (d : ℕ) → IsMeant (all_of text all) k d → ⊥
 qualified_none text all k q h r d m = go m.names
@@ -135,15 +142,17 @@ other_none text all k p l r d m = go m.names
 
 -- ---- the target
 
-pub target_is : (text : List ℕ) (all : List raw.Occurrence) (byte k d : ℕ) → k < length all → Holds (at text all k).name byte → IsMeant (all_of text all) k d → IsTarget (all_of text all) byte d
-target_is text all byte k d h holds m = record {
-  variable = m.variable;
-  at_name = k;
-  stands = record { occurrence = at text all k; stands = at_number text all k nobody h; holds = holds };
-  names = m.names;
-}
+pub meant_at : (text : List ℕ) (all : List raw.Occurrence) (byte k : ℕ) (found : Option ℕ) → k < length all → Holds (at text all k).name byte
+    → MatchOption found ((d : ℕ) → IsMeant (all_of text all) k d → ⊥) (IsMeant (all_of text all) k)
+    → MatchOption found ((d : ℕ) → IsMeantAt (all_of text all) byte k d → ⊥) (IsMeantAt (all_of text all) byte k)
+meant_at text all byte k None h holds n = λ d m. n d m.meant
+meant_at text all byte k (Some d) h holds m = record { stands = record { occurrence = at text all k; stands = at_number text all k nobody h; holds = holds }; meant = m }
 
-pub target_none : (text : List ℕ) (all : List raw.Occurrence) (byte : ℕ) → ((k : ℕ) → k < length all → Holds (at text all k).name byte → (d : ℕ) → IsMeant (all_of text all) k d → ⊥) → (d : ℕ) → IsTarget (all_of text all) byte d → ⊥
-target_none text all byte none d t =
-    let s = t.stands in
-    none t.at_name (within_all text all t.at_name s.occurrence s.stands) (subst (λ (o : Occurrence). Holds o.name byte) (is_at text all t.at_name s.occurrence s.stands) s.holds) d (record { variable = t.variable; names = t.names })
+pub held_at : (text : List ℕ) (all : List raw.Occurrence) (byte k d : ℕ) → IsMeantAt (all_of text all) byte k d → Holds (at text all k).name byte
+held_at text all byte k d m = subst (λ (o : Occurrence). Holds o.name byte) (is_at text all k m.stands.occurrence m.stands.stands) m.stands.holds
+
+pub target_is : (all : List Occurrence) (byte k d : ℕ) → IsMeantAt all byte k d → IsTarget all byte d
+target_is all byte k d m = record { variable = m.meant.variable; at_name = k; stands = m.stands; names = m.meant.names }
+
+pub target_none : (text : List ℕ) (all : List raw.Occurrence) (byte : ℕ) → ((k : ℕ) → k < length all → (d : ℕ) → IsMeantAt (all_of text all) byte k d → ⊥) → (d : ℕ) → IsTarget (all_of text all) byte d → ⊥
+target_none text all byte none d t = none t.at_name (within_all text all t.at_name t.stands.occurrence t.stands.stands) d (record { stands = t.stands; meant = record { variable = t.variable; names = t.names } })

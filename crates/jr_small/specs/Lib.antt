@@ -15,3 +15,4 @@ pub mod Renaming
 pub mod Answer
 pub mod Outcome
 pub mod Meant
+pub mod Structure

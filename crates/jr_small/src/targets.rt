@@ -3,7 +3,7 @@ ghost use Rattle.std.specs.Option.{MatchOption};
 ghost use Rattle.jr_small.specs.Placed.{IsPlaced, ArePlaced};
 ghost use Rattle.jr_small.specs.Binding.{IsVariable, FindsVariable, NoneInScope};
 ghost use Rattle.jr_small.specs.Rename.{Holds, IsTarget, Meets, Clashes};
-ghost use Rattle.jr_small.specs.Meant.{IsVariableOf, IsMeant};
+ghost use Rattle.jr_small.specs.Meant.{IsVariableOf, IsMeant, IsMeantAt};
 ghost use Rattle.jr_small.specs.View.{occurrence_of, all_of};
 
 use crate::declared::part;
@@ -66,17 +66,26 @@ fn variable_of(text: &str, all: &[Occurrence], number: usize) -> Option<usize>
     }
 }
 
+/// The parameter or local that the occurrence declares or means, where its name holds the byte.
+fn target_of(text: &str, all: &[Occurrence], number: usize, at: u32) -> Option<usize>
+    requires within { number < length all.now }
+    requires placed { ArePlaced text.now all.now }
+    ensures { MatchOption result ((d : ℕ) → IsMeantAt (all_of text.now all.now) at number d → ⊥) (IsMeantAt (all_of text.now all.now) at number) }
+{
+    if !holds(&all[number], at) {
+        return None;
+    }
+    variable_of(text, all, number)
+}
+
 /// The parameter or local that the identifier at the byte declares or means.
 pub(crate) fn target_at(text: &str, all: &[Occurrence], at: u32) -> Option<usize>
     requires placed { ArePlaced text.now all.now }
     ensures { MatchOption result ((d : ℕ) → IsTarget (all_of text.now all.now) at d → ⊥) (IsTarget (all_of text.now all.now) at) }
 {
     for number in 0..all.len() {
-        if holds(&all[number], at) {
-            let target = variable_of(text, all, number);
-            if target.is_some() {
-                return target;
-            }
+        if let Some(target) = target_of(text, all, number, at) {
+            return Some(target);
         }
     }
     None
