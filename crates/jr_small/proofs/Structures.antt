@@ -1,5 +1,5 @@
 -- What holds of the names of each small source.
-use Rattle.std.proofs.Common.{◌≡◌, ℕ, zero, suc, ◌+◌, List, [], ◌∷◌, ◌++◌, Option, Some, None, refl, sym, ap, subst, ◌∙◌, inl, inr, ◌⊎◌}
+use Rattle.std.proofs.Common.{◌≡◌, ℕ, zero, suc, ◌+◌, ◌<◌, length, get_or, List, [], ◌∷◌, ◌++◌, Option, Some, None, refl, sym, ap, subst, ◌∙◌, inl, inr, ◌⊎◌}
 use Rattle.std.specs.Prelude.{slice_get, map}
 use Rattle.jr_small.specs.declared.occurrences.Role.{Role}
 use Rattle.jr_small.specs.declared.occurrences.Role.TheVariants.{Class, Field, Method, Parameter, Local, Reference}
@@ -7,8 +7,13 @@ use Rattle.jr_small.specs.Source as tree
 use Rattle.jr_small.specs.Spelling.{Tree}
 use Rattle.jr_small.specs.Occurrence.{Occurrence, declared, referred, in_atoms, in_sum, in_statement, in_body, in_member, in_members, occurrences}
 use Rattle.jr_small.specs.Binding.{IsVariable}
-use Rattle.jr_small.specs.Structure.{HasMethod, HasMethods}
+use Rattle.jr_small.specs.Structure.{IsMethodOf, HasMethod, HasMethods}
+use Rattle.jr_small.specs.Answer.{HasName}
+use Rattle.jr_small.specs.View.{all_of}
+use Rattle.jr_small.specs.declared.occurrences.Occurrence as raw
 use Rattle.jr_small.proofs.Walks.{get_front}
+use Rattle.jr_small.proofs.Lookups.{nobody, at, at_number}
+use Rattle.jr_small.proofs.Meant.{is_at, within_all}
 
 -- ---- two lists joined
 
@@ -95,3 +100,14 @@ methods_of m (x ∷ xs) = methods_joined (in_member m x) (in_members (m + 1) xs)
 -- the names of each source have them
 pub has_methods : (u : Tree) → HasMethods (occurrences u)
 has_methods u = methods_joined (declared Class 0 0 u.name ∷ []) (in_members 0 u.members) (methods_alone (declared Class 0 0 u.name) no_class) (methods_of 0 u.members)
+
+-- ---- the occurrences of the code
+
+pub named_method : (text : List ℕ) (all : List raw.Occurrence) (i m : ℕ) (name : List ℕ) → i < length all → (get_or all i nobody).role ≡ Method → (get_or all i nobody).member ≡ m → name ≡ (at text all i).name.text
+    → (x : ℕ) × HasName (all_of text all) x (λ o. (o.role ≡ Method) × (o.member ≡ m)) name
+named_method text all i m name h r e n = (i, record { occurrence = at text all i; stands = at_number text all i nobody h; holds = (r, e); named = sym n })
+
+-- a method is found among them
+pub method_stands : (text : List ℕ) (all : List raw.Occurrence) (m : ℕ) → HasMethod (all_of text all) m → ((k : ℕ) → k < length all → IsMethodOf (at text all k) m → ⊥) → ⊥
+method_stands text all m h none =
+    none h.number (within_all text all h.number h.occurrence h.stands) (subst (λ (o : Occurrence). IsMethodOf o m) (is_at text all h.number h.occurrence h.stands) (record { role = h.role; member = h.member }))

@@ -3,6 +3,7 @@
 #![tactic(auto)]
 
 mod bound;
+mod declarations;
 mod declared;
 mod methods;
 mod occurrences;
