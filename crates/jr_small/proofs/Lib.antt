@@ -31,3 +31,5 @@ pub mod AgainNames
 pub mod Reached
 pub mod ReadNames
 pub mod AgainRenaming
+pub mod Meant
+pub mod Structures

@@ -15,3 +15,5 @@ pub mod Renaming
 pub mod Answer
 pub mod Outcome
 pub mod Readings
+pub mod Meant
+pub mod Structure

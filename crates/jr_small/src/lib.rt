@@ -3,6 +3,7 @@
 #![tactic(auto)]
 
 mod bound;
+mod declarations;
 mod declared;
 mod methods;
 mod occurrences;
@@ -13,6 +14,7 @@ mod readings;
 mod refusals;
 mod sound;
 mod tables;
+mod targets;
 mod tokens;
 
 pub use occurrences::{Occurrence, Role};
