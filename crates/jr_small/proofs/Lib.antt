@@ -8,3 +8,4 @@ pub mod Lookups
 pub mod WellBound
 pub mod Checks
 pub mod SoundParts
+pub mod Tests

@@ -14,3 +14,4 @@ pub mod Refusal
 pub mod Renaming
 pub mod Answer
 pub mod Outcome
+pub mod Changes

@@ -3,6 +3,7 @@
 #![tactic(auto)]
 
 mod bound;
+mod changes;
 mod declared;
 mod methods;
 mod occurrences;
