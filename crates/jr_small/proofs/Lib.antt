@@ -9,3 +9,4 @@ pub mod WellBound
 pub mod Checks
 pub mod SoundParts
 pub mod Tests
+pub mod FirstLost
