@@ -31,10 +31,6 @@ or_false : (a : Bool) → (a || false) ≡ a
 or_false true = refl
 or_false false = refl
 
-or_assoc : (a b c : Bool) → (a || b || c) ≡ ((a || b) || c)
-or_assoc true b c = refl
-or_assoc false b c = refl
-
 pub any_found : (test : Occurrence → Bool) (xs : List Occurrence) (i : ℕ) (x : Occurrence) → slice_get xs i ≡ Some x → test x ≡ true → list_any test xs ≡ true
 any_found test [] i x e h = absurd cc
 any_found test (y ∷ ys) zero x e h = let same : y ≡ x = cc in true_or (test y) (list_any test ys) (ap test same ∙ h)
@@ -60,7 +56,6 @@ pub obscured_is : (text : List ℕ) (all : List raw.Occurrence) (target : Occurr
     → ((bytes_eq class name || list_any (is_field class) (all_of text all)) || (not (bytes_eq target.name.text class) && shadowed)) ≡ is_class_obscured (all_of text all) target name class k
 obscured_is text all target name class k shadowed h =
     ap (λ (x : Bool). (bytes_eq class name || list_any (is_field class) (all_of text all)) || (not (bytes_eq target.name.text class) && x)) (h ∙ ap (list_any (is_variable_of class target.member)) (sym (take-map (occurrence_of text) k all)))
-    ∙ sym (or_assoc (bytes_eq class name) (list_any (is_field class) (all_of text all)) (not (bytes_eq target.name.text class) && list_any (is_variable_of class target.member) (take k (all_of text all))))
 
 -- the same by the answers of the code
 pub obscured_of : (text : List ℕ) (all : List raw.Occurrence) (target : Occurrence) (name class : List ℕ) (k : ℕ) (equal field other shadowed : Bool) (class_part target_part : List ℕ) → class_part ≡ class → target_part ≡ target.name.text

@@ -10,3 +10,4 @@ pub mod Checks
 pub mod SoundParts
 pub mod Tests
 pub mod FirstLost
+pub mod RenamingEdits
