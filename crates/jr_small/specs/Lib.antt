@@ -17,3 +17,4 @@ pub mod Outcome
 pub mod Readings
 pub mod Meant
 pub mod Structure
+pub mod Changes

@@ -4,6 +4,7 @@
 
 mod bound;
 mod declarations;
+mod changes;
 mod declared;
 mod methods;
 mod occurrences;
