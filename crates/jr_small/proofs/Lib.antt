@@ -36,3 +36,4 @@ pub mod Structures
 pub mod Tests
 pub mod FirstLost
 pub mod RenamingEdits
+pub mod Assembly
