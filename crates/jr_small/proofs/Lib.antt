@@ -10,3 +10,4 @@ pub mod Checks
 pub mod SoundParts
 pub mod Meant
 pub mod Structures
+pub mod Telling
