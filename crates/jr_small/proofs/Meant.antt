@@ -50,9 +50,13 @@ member_at all target = (get_or all target nobody).member
 
 pub variable_meets : (text : List ℕ) (all : List raw.Occurrence) (target i : ℕ) (q : List ℕ) → target < length all → i < length all → IsVariableOf (at text all i) (member_at all target) q → Meets (all_of text all) target q i
 variable_meets text all target i q h l v = record {
-  target = at text all target; stands = at_number text all target nobody h;
-  declaration = at text all i; other = at_number text all i nobody l;
-  variable = v.variable; member = v.member; named = v.named;
+  target = at text all target;
+  stands = at_number text all target nobody h;
+  declaration = at text all i;
+  other = at_number text all i nobody l;
+  variable = v.variable;
+  member = v.member;
+  named = v.named;
 }
 
 pub meets_variable : (text : List ℕ) (all : List raw.Occurrence) (target i : ℕ) (q : List ℕ) → Meets (all_of text all) target q i → IsVariableOf (at text all i) (member_at all target) q

@@ -1,11 +1,11 @@
 -- What a name means is a declaration, as `told` asks for.
-use Rattle.std.proofs.Common.{◌≡◌, ℕ, ◌<◌, length, List, Option, Some, None, refl, inl, inr, ◌⊎◌}
+use Rattle.std.proofs.Common.{◌≡◌, ℕ, ◌<◌, length, List, Option, Some, None, refl, inl, inr}
 use Rattle.std.specs.Prelude.{slice_get, IfSome}
 use Rattle.jr_small.specs.declared.occurrences.Role.TheVariants.{Class}
 use Rattle.jr_small.specs.declared.occurrences.Occurrence as raw
 use Rattle.jr_small.specs.Source.{Name}
 use Rattle.jr_small.specs.Spelling.{Tree}
-use Rattle.jr_small.specs.Occurrence.{Occurrence, declared, in_members, occurrences}
+use Rattle.jr_small.specs.Occurrence.{Occurrence, declared, occurrences}
 use Rattle.jr_small.specs.Binding.{InScope, DeclaresField, FindsName, FindsReference, Binds}
 use Rattle.jr_small.specs.Rename.{DeclaresVariable, Meets}
 use Rattle.jr_small.specs.Structure.{IsDeclaration}

@@ -84,7 +84,10 @@ pub(crate) fn told(
 {
     let declaration = &all[number];
     match declaration.role {
-        Role::Class => Ok(Declaration::Class(String::from_str(alloc, part(text, declaration.name))?)),
+        Role::Class => Ok(Declaration::Class(String::from_str(
+            alloc,
+            part(text, declaration.name),
+        )?)),
         Role::Field => Ok(Declaration::Field {
             class: String::from_str(alloc, part(text, all[0].name))?,
             name: String::from_str(alloc, part(text, declaration.name))?,

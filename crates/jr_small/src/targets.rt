@@ -59,7 +59,13 @@ fn variable_of(text: &str, all: &[Occurrence], number: usize) -> Option<usize>
     match occurrence.role {
         Role::Parameter | Role::Local => Some(number),
         Role::Reference => match occurrence.qualifier {
-            None => variable_meant(text, all, number, occurrence.member, part(text, occurrence.name)),
+            None => variable_meant(
+                text,
+                all,
+                number,
+                occurrence.member,
+                part(text, occurrence.name),
+            ),
             Some(_) => None,
         },
         _ => None,
