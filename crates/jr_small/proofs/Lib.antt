@@ -37,3 +37,4 @@ pub mod Tests
 pub mod FirstLost
 pub mod RenamingEdits
 pub mod Assembly
+pub mod Telling

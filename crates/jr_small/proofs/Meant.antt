@@ -1,15 +1,15 @@
 -- Which variable a place of the text means.
-use Rattle.std.proofs.Common.{◌≡◌, ℕ, ◌+◌, ◌<◌, ◌≤◌, length, get_or, List, Option, Some, None, refl, sym, ap, subst, ◌∙◌, arith, inl, inr, ◌⊎◌}
-use Rattle.std.specs.Prelude.{slice_get, IfSome}
+use Rattle.std.proofs.Common.{◌≡◌, ℕ, ◌<◌, ◌≤◌, length, get_or, List, Option, Some, None, refl, sym, ap, subst, ◌∙◌, arith, inl, inr}
+use Rattle.std.specs.Prelude.{slice_get}
 use Rattle.std.specs.Option.{MatchOption}
 use Rattle.std.proofs.lemmas.List.{length-map}
 use Rattle.jr_small.specs.declared.occurrences.Role.{Role}
-use Rattle.jr_small.specs.declared.occurrences.Role.TheVariants.{Class, Field, Method, Parameter, Local, Reference}
+use Rattle.jr_small.specs.declared.occurrences.Role.TheVariants.{Field, Parameter, Local, Reference}
 use Rattle.jr_small.specs.declared.occurrences.Occurrence as raw
 use Rattle.jr_small.specs.Source.{Name}
 use Rattle.jr_small.specs.Occurrence.{Occurrence}
-use Rattle.jr_small.specs.Binding.{IsVariable, InScope, NoneInScope, FindsVariable, DeclaresField, FindsName, FindsReference, Binds}
-use Rattle.jr_small.specs.Rename.{Holds, DeclaresVariable, StandsAt, IsOf, IsTarget, Meets, Clashes}
+use Rattle.jr_small.specs.Binding.{IsVariable, InScope, NoneInScope, FindsVariable, DeclaresField, FindsName}
+use Rattle.jr_small.specs.Rename.{Holds, DeclaresVariable, IsOf, IsTarget, Meets, Clashes}
 use Rattle.jr_small.specs.Meant.{IsVariableOf, IsMeant, IsMeantAt}
 use Rattle.jr_small.specs.Exact.{IsNameRef, IsQualifiedRef}
 use Rattle.jr_small.specs.View.{occurrence_of, all_of}
@@ -50,9 +50,13 @@ member_at all target = (get_or all target nobody).member
 
 pub variable_meets : (text : List ℕ) (all : List raw.Occurrence) (target i : ℕ) (q : List ℕ) → target < length all → i < length all → IsVariableOf (at text all i) (member_at all target) q → Meets (all_of text all) target q i
 variable_meets text all target i q h l v = record {
-  target = at text all target; stands = at_number text all target nobody h;
-  declaration = at text all i; other = at_number text all i nobody l;
-  variable = v.variable; member = v.member; named = v.named;
+  target = at text all target;
+  stands = at_number text all target nobody h;
+  declaration = at text all i;
+  other = at_number text all i nobody l;
+  variable = v.variable;
+  member = v.member;
+  named = v.named;
 }
 
 pub meets_variable : (text : List ℕ) (all : List raw.Occurrence) (target i : ℕ) (q : List ℕ) → Meets (all_of text all) target q i → IsVariableOf (at text all i) (member_at all target) q

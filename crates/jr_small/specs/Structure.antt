@@ -1,9 +1,14 @@
 -- What holds of the names of each small source.
-use Rattle.std.specs.Prelude.{◌≡◌, ℕ, List, Some, slice_get, count_by, ◌&&◌, ◌==◌}
-use Rattle.jr_small.specs.declared.occurrences.Role.TheVariants.{Method}
+use Rattle.std.specs.Prelude.{◌≡◌, ℕ, List, Some, slice_get, count_by, ◌&&◌, ◌==◌, ◌⊎◌}
+use Rattle.jr_small.specs.declared.occurrences.Role.{Role}
+use Rattle.jr_small.specs.declared.occurrences.Role.TheVariants.{Class, Field, Method}
 use Rattle.jr_small.specs.Occurrence.{Occurrence}
 use Rattle.jr_small.specs.Binding.{IsVariable}
 use Rattle.jr_small.specs.Exact.{is_variable_role}
+
+-- the class, a field, a parameter or a local: what a name can mean
+abbrev pub IsDeclaration : Role → Type 0
+IsDeclaration role = (role ≡ Class) ⊎ ((role ≡ Field) ⊎ IsVariable role)
 
 -- the occurrence declares the member as a method
 pub record IsMethodOf (o : Occurrence) (m : ℕ) : Type 0 where

@@ -1,12 +1,12 @@
-ghost use Rattle.std.specs.Prelude.{◌≡◌, ℕ, List, ◌↔◌, ◌<◌, ◌≤◌, ◌⊎◌, length, slice_get, string_bytes, IsTrue, IfOk, IfSome};
-ghost use Rattle.jr_small.specs.declared.occurrences.Role.TheVariants.{Class, Field, Method};
-ghost use Rattle.jr_small.specs.Placed.{IsPlaced, ArePlaced};
+ghost use Rattle.std.specs.Prelude.{◌≡◌, ℕ, List, ◌<◌, length, slice_get, IfOk, IfSome};
+ghost use Rattle.jr_small.specs.declared.occurrences.Role.TheVariants.{Class, Method};
+ghost use Rattle.jr_small.specs.Placed.{ArePlaced};
 ghost use Rattle.jr_small.specs.Binding.{IsVariable};
-ghost use Rattle.jr_small.specs.Structure.{HasMethod, HasMethods, variables_in};
+ghost use Rattle.jr_small.specs.Structure.{IsDeclaration, HasMethod, HasMethods, variables_in};
 ghost use Rattle.jr_small.specs.Answer.{HasName, Shows};
 ghost use Rattle.jr_small.specs.Exact.{is_variable_role};
 ghost use Rattle.jr_small.specs.Refusal.{declaration_of};
-ghost use Rattle.jr_small.specs.View.{occurrence_of, all_of};
+ghost use Rattle.jr_small.specs.View.{all_of};
 
 use crate::declared::part;
 use crate::methods::count_parameters;
@@ -14,6 +14,7 @@ use crate::occurrences::{Occurrence, Role};
 use crate::refusals::Declaration;
 use std::alloc::{AllocError, Global};
 
+/// Whether the role is that of a parameter or local.
 fn is_variable(role: Role) -> bool
     ensures { result ≡ is_variable_role role }
 {
@@ -76,14 +77,17 @@ pub(crate) fn told(
 ) -> Result<Declaration, AllocError>
     requires within { number < length all.now }
     requires placed { ArePlaced text.now all.now }
-    requires declaration { IfSome (slice_get (all_of text.now all.now) number) (λ o. (o.role ≡ Class) ⊎ ((o.role ≡ Field) ⊎ IsVariable o.role)) }
+    requires declaration { IfSome (slice_get (all_of text.now all.now) number) (λ o. IsDeclaration o.role) }
     requires first { IfSome (slice_get (all_of text.now all.now) 0) (λ o. o.role ≡ Class) }
     requires methods { HasMethods (all_of text.now all.now) }
     ensures { IfOk result (λ d. Shows (all_of text.now all.now) number (declaration_of d)) }
 {
     let declaration = &all[number];
     match declaration.role {
-        Role::Class => Ok(Declaration::Class(String::from_str(alloc, part(text, declaration.name))?)),
+        Role::Class => Ok(Declaration::Class(String::from_str(
+            alloc,
+            part(text, declaration.name),
+        )?)),
         Role::Field => Ok(Declaration::Field {
             class: String::from_str(alloc, part(text, all[0].name))?,
             name: String::from_str(alloc, part(text, declaration.name))?,

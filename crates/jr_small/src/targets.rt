@@ -1,7 +1,7 @@
-ghost use Rattle.std.specs.Prelude.{◌≡◌, ℕ, List, ◌↔◌, ◌<◌, ◌≤◌, length, slice_get, IsTrue, IfSome};
+ghost use Rattle.std.specs.Prelude.{ℕ, List, ◌↔◌, ◌<◌, ◌≤◌, length, IsTrue};
 ghost use Rattle.std.specs.Option.{MatchOption};
 ghost use Rattle.jr_small.specs.Placed.{IsPlaced, ArePlaced};
-ghost use Rattle.jr_small.specs.Binding.{IsVariable, FindsVariable, NoneInScope};
+ghost use Rattle.jr_small.specs.Binding.{FindsVariable, NoneInScope};
 ghost use Rattle.jr_small.specs.Rename.{Holds, IsTarget, Meets, Clashes};
 ghost use Rattle.jr_small.specs.Meant.{IsVariableOf, IsMeant, IsMeantAt};
 ghost use Rattle.jr_small.specs.View.{occurrence_of, all_of};
@@ -59,7 +59,13 @@ fn variable_of(text: &str, all: &[Occurrence], number: usize) -> Option<usize>
     match occurrence.role {
         Role::Parameter | Role::Local => Some(number),
         Role::Reference => match occurrence.qualifier {
-            None => variable_meant(text, all, number, occurrence.member, part(text, occurrence.name)),
+            None => variable_meant(
+                text,
+                all,
+                number,
+                occurrence.member,
+                part(text, occurrence.name),
+            ),
             Some(_) => None,
         },
         _ => None,
@@ -96,7 +102,6 @@ pub(crate) fn target_at(text: &str, all: &[Occurrence], at: u32) -> Option<usize
 pub(crate) fn clash_of(text: &str, all: &[Occurrence], target: usize, name: &str) -> Option<usize>
     requires within { target < length all.now }
     requires placed { ArePlaced text.now all.now }
-    requires variable { IfSome (slice_get (all_of text.now all.now) target) (λ o. IsVariable o.role) }
     ensures { MatchOption result ((w : ℕ) → Meets (all_of text.now all.now) target name.now w → ⊥) (Clashes (all_of text.now all.now) target name.now) }
 {
     let member = all[target].member;

@@ -1,4 +1,4 @@
-use Rattle.std.proofs.Common.{◌≡◌, ◌<◌, ℕ, arith, rules, get_or, sym}
+use Rattle.std.proofs.Common.{◌≡◌, arith, rules, get_or}
 use Rattle.jr_small.specs.declared.occurrences.Role.TheVariants.{Method}
 use Rattle.jr_small.proofs.Lookups.{nobody}
 use Rattle.jr_small.proofs.Structures.{named_method, method_stands}

@@ -1,4 +1,4 @@
-use Rattle.std.proofs.Common.{◌≡◌, ◌<◌, ℕ}
+use Rattle.std.proofs.Common.{◌<◌, ℕ}
 use Rattle.jr_small.specs.Structure.{IsMethodOf}
 use Rattle.jr_small.proofs.Lookups.{at}
 use Rattle.jr_small.proofs.declarations.method_name.Given as goal

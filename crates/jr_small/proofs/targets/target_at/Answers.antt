@@ -1,4 +1,4 @@
-use Rattle.std.proofs.Common.{◌≡◌, ℕ, ◌<◌, subst, arith, below_more}
+use Rattle.std.proofs.Common.{ℕ, arith, below_more}
 use Rattle.jr_small.specs.Meant.{IsMeantAt}
 use Rattle.jr_small.specs.View.{all_of}
 use Rattle.jr_small.proofs.Meant.{target_is, target_none}

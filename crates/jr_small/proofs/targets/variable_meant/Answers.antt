@@ -1,4 +1,4 @@
-use Rattle.std.proofs.Common.{◌≡◌, ℕ, ◌-◌, ◌≤◌, ◌<◌, true, false, sym, subst, arith, ◌∙◌}
+use Rattle.std.proofs.Common.{◌≡◌, ℕ, ◌-◌, ◌≤◌, true, false, sym, subst, arith, ◌∙◌}
 use Rattle.jr_small.specs.Meant.{IsVariableOf}
 use Rattle.jr_small.proofs.Lookups.{at}
 use Rattle.jr_small.proofs.Meant.{variable_last, variable_absent}
