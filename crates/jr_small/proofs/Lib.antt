@@ -11,3 +11,4 @@ pub mod SoundParts
 pub mod Tests
 pub mod FirstLost
 pub mod RenamingEdits
+pub mod PlainVariables
