@@ -8,7 +8,7 @@ pub mod Lookups
 pub mod WellBound
 pub mod Checks
 pub mod SoundParts
-pub mod Tests
+pub mod Conjunctions
 pub mod FirstLost
 pub mod RenamingEdits
 pub mod PlainVariables

@@ -4,7 +4,7 @@ use Rattle.std.specs.Str.{bytes_eq}
 use Rattle.jr_small.specs.Token.{name_at}
 use Rattle.jr_small.specs.Renaming.{is_behind}
 use Rattle.jr_small.specs.View.{occurrence_of}
-use Rattle.jr_small.proofs.Tests.{none_mapped, last_decides, first_fails, second_fails}
+use Rattle.jr_small.proofs.Conjunctions.{none_mapped, last_decides, first_fails, second_fails}
 use Rattle.jr_small.proofs.changes.is_plain_behind.Goals as goal
 use Rattle.jr_small.proofs.changes.is_plain_behind.Goals.{then-is_behind, else-is_behind}
 
