@@ -1,5 +1,5 @@
 -- The first reference without a spelling, by one walk.
-use Rattle.std.proofs.Common.{◌≡◌, ℕ, zero, suc, ◌+◌, ◌<◌, List, [], ◌∷◌, ◌++◌, length, take, get_or, Option, Some, None, Bool, true, false, refl, sym, ap, subst, ◌∙◌, arith}
+use Rattle.std.proofs.Common.{◌≡◌, ℕ, zero, suc, ◌+◌, ◌<◌, List, [], ◌∷◌, length, take, Option, Some, None, Bool, true, false, refl, sym, ap, subst, ◌∙◌, arith}
 use Rattle.std.specs.Prelude.{slice_get, ◌&&◌, ◌||◌, not}
 use Rattle.std.specs.List.{list_any}
 use Rattle.std.specs.Str.{bytes_eq}
@@ -106,10 +106,10 @@ not_lost text all d name n i o none h within e =
 
 pub lost_first : (text : List ℕ) (all : List raw.Occurrence) (d : ℕ) (name : List ℕ) (n : ℕ) → d < length all → n < length all → NoneLost text all d name n → is_lost text all d name n (at text all n) ≡ true → IsFirstLostOf (all_of text all) d name (Some n)
 lost_first text all d name n h within none here = for_any text all d name (Some n) h (record {
-    occurrence = at text all n;
-    stands = at_number text all n nobody within;
-    passes = here;
-    before = λ i o l e. not_lost text all d name n i o none l (omega arith) e;
+  occurrence = at text all n;
+  stands = at_number text all n nobody within;
+  passes = here;
+  before = λ i o l e. not_lost text all d name n i o none l (omega arith) e;
 })
 
 pub none_lost : (text : List ℕ) (all : List raw.Occurrence) (d : ℕ) (name : List ℕ) → d < length all → NoneLost text all d name (length all) → IsFirstLostOf (all_of text all) d name None

@@ -38,3 +38,5 @@ pub mod FirstLost
 pub mod RenamingEdits
 pub mod Assembly
 pub mod Telling
+pub mod Conjunctions
+pub mod PlainVariables

@@ -1,6 +1,6 @@
 -- The edits of a renamed list, by one walk.
-use Rattle.std.proofs.Common.{◌≡◌, ◌≢◌, ℕ, zero, suc, ◌+◌, ◌-◌, ◌<◌, ◌≤◌, List, [], ◌∷◌, ◌++◌, length, take, drop, get_or, nat_eq, eqb-true, Option, Some, None, Bool, true, false, refl, sym, ap, subst, ◌∙◌, arith, inl, inr, ◌⊎◌, length-append, length-drop}
-use Rattle.std.specs.Prelude.{slice_get, slice_range, ◌&&◌, ◌||◌, not, is_none, if◌then◌else◌, All}
+use Rattle.std.proofs.Common.{◌≡◌, ◌≢◌, ℕ, zero, suc, ◌+◌, ◌-◌, ◌<◌, ◌≤◌, List, [], ◌∷◌, ◌++◌, length, take, drop, get_or, nat_eq, eqb-true, Option, Some, None, Bool, true, false, refl, sym, ap, subst, ◌∙◌, arith, inl, inr, length-append, length-drop}
+use Rattle.std.specs.Prelude.{slice_range, ◌&&◌, ◌||◌, is_none, if◌then◌else◌, All}
 use Rattle.std.specs.Str.{bytes_eq}
 use Rattle.std.proofs.Math.Seq.{take-length}
 use Rattle.std.proofs.lemmas.List.{length-take}
@@ -17,7 +17,7 @@ use Rattle.jr_small.specs.Placed.{IsCut, ArePlaced}
 use Rattle.jr_small.specs.Renaming.{is_behind, is_plain_behind, is_own_name, with_text, with_qualifier, renamed_at, changed_from, renamed_list}
 use Rattle.jr_small.specs.Answer.{spelling_of, AreEditsOf}
 use Rattle.jr_small.specs.Changes.{AreAscending, replacement_at, AreRenamingEdits}
-use Rattle.jr_small.specs.View.{occurrence_of, all_of}
+use Rattle.jr_small.specs.View.{all_of}
 use Rattle.jr_small.proofs.Walks.{all_of-more}
 use Rattle.jr_small.proofs.Lookups.{nobody, at, at_number, and_both, bytes_same, length_front}
 use Rattle.jr_small.proofs.WellBound.{same_at}
@@ -143,7 +143,7 @@ more_made text all d name n es h made =
     let more = all_of-more text all n nobody h in
     let number : n ≡ 0 + length (front text all n) = omega (arith, length_front text all n (omega arith)) in
     let changed : changed_from 0 (new_at text all d name) (front text all n) ++ new_at text all d name n (at text all n) ∷ [] ≡ changed_from 0 (new_at text all d name) (front text all n ++ at text all n ∷ []) =
-        ap (λ (k : ℕ). changed_from 0 (new_at text all d name) (front text all n) ++ new_at text all d name k (at text all n) ∷ []) number ∙ sym (changed_more 0 (new_at text all d name) (front text all n) (at text all n)) in
+    ap (λ (k : ℕ). changed_from 0 (new_at text all d name) (front text all n) ++ new_at text all d name k (at text all n) ∷ []) number ∙ sym (changed_more 0 (new_at text all d name) (front text all n) (at text all n)) in
     subst (λ (os : List Occurrence). AreEditsOf 0 os (changed_from 0 (new_at text all d name) os) es) (sym more)
     (subst (λ (ms : List Occurrence). AreEditsOf 0 (front text all n ++ at text all n ∷ []) ms es) changed made)
 

@@ -111,12 +111,7 @@ fn has_field(text: &str, all: &[Occurrence], name: &str) -> bool
 
 /// The first reference without a spelling once the target has the name: one that means another declaration then, and
 /// can't be spelled through the class either.
-pub(crate) fn first_lost(
-    text: &str,
-    all: &[Occurrence],
-    target: usize,
-    name: &str,
-) -> Option<usize>
+pub(crate) fn first_lost(text: &str, all: &[Occurrence], target: usize, name: &str) -> Option<usize>
     requires within { target < length all.now }
     requires placed { ArePlaced text.now all.now }
     ensures within { IfSome result (λ k. k < length all.now) }

@@ -1,7 +1,6 @@
-use Rattle.std.proofs.Common.{◌≡◌, List, take, length, ap, sym, arith, ◌∙◌, false}
+use Rattle.std.proofs.Common.{◌≡◌, take, length, ap, sym, arith, ◌∙◌, false}
 use Rattle.std.proofs.Math.Seq.{take-length}
 use Rattle.std.specs.List.{list_any}
-use Rattle.jr_small.specs.Occurrence.{Occurrence}
 use Rattle.jr_small.specs.Exact.{is_field}
 use Rattle.jr_small.specs.View.{all_of}
 use Rattle.jr_small.proofs.Lookups.{nobody, at, at_number}

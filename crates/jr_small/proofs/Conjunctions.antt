@@ -1,5 +1,5 @@
 -- Conjunctions of tests.
-use Rattle.std.proofs.Common.{◌≡◌, Option, Some, None, Bool, true, false, refl, sym, ◌∙◌}
+use Rattle.std.proofs.Common.{◌≡◌, Option, Some, None, Bool, true, false, refl}
 use Rattle.std.specs.Prelude.{◌&&◌, not, is_none, is_some, option_map}
 
 pub none_mapped : {A B : Type 0} (f : A → B) (q : Option A) (b : Bool) → is_some q ≡ not b → is_none (option_map f q) ≡ b
