@@ -133,3 +133,7 @@ is_spliced text place name all d es swapped qualified f none edits =
   where
     bare : (u : Tree) (w : DeclaresVariable (occurrences u) d) → w.declaration.qualifier ≡ None
     bare u w = occurrences_unqualified u d w.declaration w.stands (no_reference w.declaration w.variable)
+
+-- a name that meets nothing is not the present one
+pub new_name : (all : List Occurrence) (d : ℕ) (name : List ℕ) (v : DeclaresVariable all d) → ((w : ℕ) → Meets all d name w → ⊥) → v.declaration.name.text ≢ name
+new_name all d name v none e = none d (record { target = v.declaration; stands = v.stands; declaration = v.declaration; other = v.stands; variable = v.variable; member = refl; named = e })

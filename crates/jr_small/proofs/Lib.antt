@@ -33,7 +33,6 @@ pub mod ReadNames
 pub mod AgainRenaming
 pub mod Meant
 pub mod Structures
-pub mod Tests
 pub mod FirstLost
 pub mod RenamingEdits
 pub mod Assembly

@@ -1,6 +1,7 @@
-ghost use Rattle.std.specs.Prelude.{◌≡◌, ◌^◌, ◌<◌, List, length, IfOk};
+ghost use Rattle.std.specs.Prelude.{◌≡◌, ℕ, ◌^◌, ◌<◌, List, length, IfOk};
 ghost use Rattle.jr_lex.specs.declared.items.Item.{Item};
 ghost use Rattle.jr_lex.specs.Lexes.{Lexes};
+ghost use Rattle.jr_lex.specs.Answers.{IsFault};
 ghost use Rattle.jr_lex.specs.Depth.{AreWithin};
 ghost use Rattle.jr_small.specs.Readings.{IsReading};
 
@@ -8,7 +9,7 @@ use crate::occurrences::Occurrence;
 use crate::reader::names_of;
 use crate::refusals::SourceKind;
 use crate::sound::is_sound;
-use jr_lex::Item;
+use jr_lex::{Item, LexFault, lex, measure};
 use jr_text::Text;
 use std::alloc::{AllocError, Global};
 
@@ -50,11 +51,47 @@ fn source_of(alloc: Global, text: &Text, items: &[Item]) -> Result<Reading, Allo
     Ok(Reading::unbuilt())
 }
 
-/// What a text reads as.
+/// What is wrong with a text that has no items.
+fn fault_of(fault: LexFault) -> Result<Reading, AllocError>
+    ensures { (text : List ℕ) → IsFault text fault → IfOk result (IsReading text) }
+{
+    match fault {
+        LexFault::BadByte { at } => Ok(Reading::Fault {
+            at,
+            kind: SourceKind::BadByte,
+        }),
+        LexFault::OpenComment { at } => Ok(Reading::Fault {
+            at,
+            kind: SourceKind::OpenComment,
+        }),
+        LexFault::OpenString { at } => Ok(Reading::Fault {
+            at,
+            kind: SourceKind::OpenString,
+        }),
+        LexFault::Escape { at } => Ok(Reading::Fault {
+            at,
+            kind: SourceKind::Escape,
+        }),
+        LexFault::BadNumber { at } => Ok(Reading::Fault {
+            at,
+            kind: SourceKind::BadNumber,
+        }),
+        LexFault::Memory => Err(AllocError),
+    }
+}
+
+/// What a text reads as: its names where it is a sound small source, and else its first fault.
 pub(crate) fn read(alloc: Global, text: &Text) -> Result<Reading, AllocError>
     ensures { IfOk result (IsReading text.now) }
 {
-    let _ = alloc;
-    let _ = text;
-    Err(AllocError)
+    match lex(alloc, text) {
+        Err(fault) => fault_of(fault),
+        Ok(items) => match measure(items.as_slice()) {
+            Err(deep) => Ok(Reading::Fault {
+                at: deep.at,
+                kind: SourceKind::Deep,
+            }),
+            Ok(()) => source_of(alloc, text, items.as_slice()),
+        },
+    }
 }
