@@ -1,3 +1,4 @@
 pub mod Parts
 pub mod Statements
 pub mod Classes
+pub mod Places
