@@ -164,4 +164,3 @@ statement_without_its_semicolon h = omega (arith, ap end_of h.0)
 -- a unit is the whole file, and not from its first token to its last
 unit_without_its_blanks : ReadsUnit (codes " class A{} ") (blank 0 1 ∷ tk 1 6 (KeywordKind Class) ∷ blank 6 7 ∷ tk 7 8 WordKind ∷ tk 8 9 (Mark OpenBrace) ∷ tk 9 10 (Mark CloseBrace) ∷ blank 10 11 ∷ []) (record { mark = at 1 10; package_name = []; classes = (M.class (at 1 10) [] (record { mark = at 7 8; text = codes "A" }) None M.end) ∷ [] }) → ⊥
 unit_without_its_blanks h = omega (arith, ap end_of h.whole)
-
