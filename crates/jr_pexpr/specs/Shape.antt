@@ -63,12 +63,13 @@ IsUnaryOperand e = 8 ≤ level_of e
 abbrev pub IsCastOperand : {A : Type 0} → Exp A → Type 0
 IsCastOperand e = 9 ≤ level_of e
 
--- Operators of one rank group to the left, and those of a higher rank bind more tightly (JLS 15.7, 15.17 to 15.24).
+-- Operators of one rank group to the left (JLS 15.17 to 15.24), and those of a higher rank bind more tightly (JLS 15.7.3).
 abbrev pub GroupsLeft : {A : Type 0} → BinOp → Exp A → Exp A → Type 0
 GroupsLeft o l r = (rank_of o ≤ level_of l) × (rank_of o < level_of r)
 
--- What is assigned, and what `++` and `--` take: a name, or a field of a primary or of `super`, with no parentheses around
--- it (JLS 15.26, 15.14.2, 15.15.1).
+-- What is assigned (JLS 15.26), and what `++` and `--` take (JLS 15.14.2, 15.14.3, 15.15.1, 15.15.2): a name, or a field of a
+-- primary or of `super`. That no parentheses stand around it is a rule of this profile: a parenthesized variable is a variable
+-- (JLS 15.8.5), and javac takes `(a)++` and `(a)=3`.
 abbrev pub IsTarget : {A : Type 0} → Exp A → Type 0
 IsTarget (name m w) = Unit {0}
 IsTarget (field m e w) = Unit {0}
@@ -89,7 +90,9 @@ abbrev pub IsNamed : {A : Type 0} → TypeName A → Type 0
 IsNamed (named m o w) = Unit {0}
 IsNamed _ = ⊥
 
--- 2147483648 stands only where the token directly before it is a unary minus; no greater literal stands anywhere (JLS 3.10.1).
+-- 2147483648 stands only where the token directly before it is a unary minus, and no greater literal stands anywhere. The
+-- language makes the literal the minus's own operand (JLS 3.10.1); this profile asks for the token alone, and so lets in
+-- `-2147483648 .x`, where the operand is the field.
 abbrev pub greatest : Bool → ℕ
 greatest minus = if minus then 2147483648 else 2147483647
 

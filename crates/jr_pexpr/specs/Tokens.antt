@@ -13,7 +13,7 @@ use Rattle.jr_lex.specs.declared.items.Item.{Item}
 pub data Token : Type 0 where
   -- an identifier, by its bytes (JLS 3.8)
   word : (text : List ℕ) → Token
-  -- a keyword, or `true`, `false` or `null` (JLS 3.9)
+  -- a keyword (JLS 3.9), or `true` or `false` (JLS 3.10.3), or `null` (JLS 3.10.7)
   keyword : (which : Keyword) → Token
   -- an integer literal, by its value (JLS 3.10.1)
   integer : (value : ℕ) → Token

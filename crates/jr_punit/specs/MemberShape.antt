@@ -1,5 +1,5 @@
 -- Which trees are members, classes and compilation units: the side conditions (JLS 7.3, 8).
-use Rattle.std.specs.Prelude.{◌≡◌, ℕ, List, [], ◌∷◌, Option, Some, None}
+use Rattle.std.specs.Prelude.{◌≡◌, ℕ, Bool, true, false, List, [], ◌∷◌, Option, Some, None}
 use Rattle.jr_ast.specs.Tree.{Word, TypeName, Exps}
 use Rattle.jr_ast.specs.MemberTree.{Class, class, Member, field, method, constructor, inner, Members, end, more, Unit as UnitTree}
 use Rattle.jr_pexpr.specs.Shape.{IsNamed, AllShaped}
@@ -38,6 +38,11 @@ InnerShaped (class m ms w parent all) = IsParent parent × AllOwnShaped w.text a
 abbrev pub MemberShaped : {A : Type 0} → List ℕ → Member A → Type 0
 MemberShaped name (inner m c) = InnerShaped c
 MemberShaped name d = OwnShaped name d
+
+-- A member of the class that has the name; `nested` says whether that class is itself a member class (JLS 8.5).
+abbrev pub ShapedIn : {A : Type 0} → Bool → List ℕ → Member A → Type 0
+ShapedIn true name d = OwnShaped name d
+ShapedIn false name d = MemberShaped name d
 
 abbrev pub MembersShaped : {A : Type 0} → List ℕ → Members A → Type 0
 MembersShaped name end = Unit {0}

@@ -1,5 +1,5 @@
 -- What the members and the unit are that tokens spell, and where reading stops.
-use Rattle.std.specs.Prelude.{◌≡◌, ℕ, List, length}
+use Rattle.std.specs.Prelude.{◌≡◌, ℕ, Bool, List, length}
 use Rattle.jr_text.specs.declared.spans.Span.{Span}
 use Rattle.jr_lex.specs.declared.items.Item.{Item}
 use Rattle.jr_ast.specs.StatementTree.{Stmts}
@@ -11,7 +11,7 @@ use Rattle.jr_pexpr.specs.Readings as Readings
 use Rattle.jr_punit.specs.StatementSpelling.{stmts_toks}
 use Rattle.jr_punit.specs.StatementShape.{StmtsShaped}
 use Rattle.jr_punit.specs.MemberSpelling.{member_toks, unit_toks}
-use Rattle.jr_punit.specs.MemberShape.{MemberShaped, UnitShaped}
+use Rattle.jr_punit.specs.MemberShape.{ShapedIn, UnitShaped}
 use Rattle.jr_punit.specs.MemberStands.{StandsMember, StandsUnit}
 
 -- ---- units
@@ -41,27 +41,29 @@ OneUnit = Readings.OneTree (UnitTree Bare) unit_toks UnitShaped
 abbrev pub IsUnitStop : List Token → ℕ → Type 0
 IsUnitStop tokens n = Readings.IsStop (UnitTree Bare) unit_toks UnitShaped tokens n
 
--- ---- members of the top-level class that has the name
+-- ---- members of the class that has the name; `nested` says whether that class is itself a member class
 
 -- The tokens are those of the member, which is shaped, and each mark is the span of its node's tokens.
-pub record ReadsMember (name : List ℕ) (tokens : Tokens) (member : Member Span) : Type 0 where
-  pub shaped : MemberShaped name member
+pub record ReadsMember (nested : Bool) (name : List ℕ) (tokens : Tokens) (member : Member Span) : Type 0 where
+  pub shaped : ShapedIn nested name member
   pub spells : member_toks member ≡ kinds tokens
   pub marks : StandsMember member tokens
 
+-- no two members spell the same tokens
 abbrev pub OneMember : Type 0
-OneMember = (name : List ℕ) → Readings.OneTree (Member Bare) member_toks (MemberShaped name)
+OneMember = (nested : Bool) (name : List ℕ) → Readings.OneTree (Member Bare) member_toks (ShapedIn nested name)
 
 -- the first n tokens are the member, and no more of them are one
-abbrev pub IsLongestMember : List ℕ → List Token → ℕ → Member Bare → Type 0
-IsLongestMember name tokens n member = Readings.IsLongest (Member Bare) member_toks (MemberShaped name) tokens n member
+abbrev pub IsLongestMember : Bool → List ℕ → List Token → ℕ → Member Bare → Type 0
+IsLongestMember nested name tokens n member = Readings.IsLongest (Member Bare) member_toks (ShapedIn nested name) tokens n member
 
 -- the tokens begin with no member
-abbrev pub HasNoMember : List ℕ → List Token → Type 0
-HasNoMember name tokens = Readings.HasNone (Member Bare) member_toks (MemberShaped name) tokens
+abbrev pub HasNoMember : Bool → List ℕ → List Token → Type 0
+HasNoMember nested name tokens = Readings.HasNone (Member Bare) member_toks (ShapedIn nested name) tokens
 
-abbrev pub IsMemberStop : List ℕ → List Token → ℕ → Type 0
-IsMemberStop name tokens n = Readings.IsStop (Member Bare) member_toks (MemberShaped name) tokens n
+-- the first n tokens begin some member, and with the one behind them they begin none
+abbrev pub IsMemberStop : Bool → List ℕ → List Token → ℕ → Type 0
+IsMemberStop nested name tokens n = Readings.IsStop (Member Bare) member_toks (ShapedIn nested name) tokens n
 
 -- ---- lists of statements
 

@@ -1,4 +1,4 @@
--- Assignments, binary operators and signs (JLS 15.15 to 15.26).
+-- Assignments, binary operators and signs (JLS 15.14 to 15.26).
 -- The tree of each case is the one that javac's parser makes of the text; where the two differ, the case says why.
 use Rattle.std.proofs.Common.{[], ◌∷◌, refl}
 use Rattle.std.specs.Prelude.{codes}

@@ -1,5 +1,6 @@
 -- Texts that are no expression, each for one side condition or one form that is left out.
--- The tree of each case is the one that javac's parser makes of the text; where the two differ, the case says why.
+-- Each case has no tree. `javac too` is followed by what javac's parser says of the text; where javac takes it, the case says why
+-- it is no expression here.
 use Rattle.std.proofs.Common.{[], ◌∷◌, refl}
 use Rattle.std.specs.Prelude.{codes}
 use Rattle.jr_lex.specs.declared.items.Keyword.TheVariants.{Class, Instanceof, Int, New, Super, This, True}
@@ -99,7 +100,7 @@ unfolding begun extended
 bump_bumped_before = expression_refused _ refl
 
 -- a++.b
--- javac too: ';' expected; javac takes it; what stands before a dot is a primary
+-- javac too: ';' expected
 field_of_bump : IsExpressionRefused (word (codes "a") ∷ symbol PlusPlus ∷ symbol Dot ∷ word (codes "b") ∷ [])
 unfolding begun extended
 field_of_bump = expression_refused _ refl

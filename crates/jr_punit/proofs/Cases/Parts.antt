@@ -17,12 +17,12 @@ pub record IsItem (tokens : List Token) (tree : Stmt Bare) : Type 0 where
   pub shaped : StmtShaped tree
   pub spells : stmt_toks tree ≡ tokens
 
--- the tree spells the tokens, and is no statement
+-- The tree spells the tokens, and is no statement. Of other trees that spell them this says nothing.
 pub record IsItemRefused (tokens : List Token) (tree : Stmt Bare) : Type 0 where
   pub spells : stmt_toks tree ≡ tokens
   pub not_shaped : StmtShaped tree → ⊥
 
--- the tree spells the tokens, and is no unit
+-- The tree spells the tokens, and is no unit. Of other trees that spell them this says nothing.
 pub record IsUnitRefused (tokens : List Token) (tree : UnitTree Bare) : Type 0 where
   pub spells : unit_toks tree ≡ tokens
   pub not_shaped : UnitShaped tree → ⊥
