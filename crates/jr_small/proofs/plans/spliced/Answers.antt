@@ -1,6 +1,7 @@
 use Rattle.std.proofs.Common.{◌≡◌, ◌≢◌, ◌∙◌, ◌<◌, List, ℕ, length, Option, Some, None, sym, ap, subst, arith}
 use Rattle.std.specs.Prelude.{slice_get, IfSome}
 use Rattle.jr_text.specs.Splices.{splice}
+use Rattle.jr_text.specs.EditFaults.{IsApplyFault}
 use Rattle.jr_text.specs.Texts.{IsText, text_limit}
 use Rattle.jr_small.specs.Occurrence.{Occurrence, occurrences}
 use Rattle.jr_small.specs.Changes.{AreRenamingEdits}
@@ -37,5 +38,5 @@ returns-in-Err-TooLong c =
     let text = c.args.text.now in
     let edits = subst (λ (t : List ℕ). AreRenamingEdits (all_of t c.args.all.now) c.args.target c.args.name.now c.in_ok-edits.edits) c.as_str.ensures.whole c.in_ok-edits.ensures.edits in
     let spliced = is_spliced text c.args.at c.args.name.now c.args.all.now c.args.target c.in_ok-edits.edits c.words_may_be_replaced.ensures.swapped c.words_may_be_replaced.ensures.qualified c.requires.free c.requires.none edits in
-    let fault : (text_limit < length (splice text c.in_ok-edits.edits)) × (c.in-Err-TooLong.len ≡ length (splice text c.in_ok-edits.edits)) = c.in-Err-TooLong.ensures.fault in
+    let fault : (text_limit < length (splice text c.in_ok-edits.edits)) × (c.in-Err-TooLong.len ≡ length (splice text c.in_ok-edits.edits)) = subst (IsApplyFault text c.in_ok-edits.edits) c.in-Err-TooLong.field-0-is c.in-Err-TooLong.ensures.fault in
     (splice text c.in_ok-edits.edits, spliced, fault.0, fault.1)
