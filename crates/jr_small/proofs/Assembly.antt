@@ -1,23 +1,21 @@
 -- The parts of a renaming make an answer.
-use Rattle.std.proofs.Common.{◌≡◌, ◌≢◌, ℕ, ◌<◌, ◌≤◌, List, length, Option, Some, None, refl, sym, ap, subst, ◌∙◌, arith, true, inl, inr}
-use Rattle.std.specs.Prelude.{slice_get, map, IfSome}
+use Rattle.std.proofs.Common.{◌≡◌, ◌≢◌, ℕ, ◌<◌, List, length, Some, None, refl, sym, ap, subst, ◌∙◌, arith, true, inl, inr}
+use Rattle.std.specs.Prelude.{slice_get}
 use Rattle.jr_text.specs.Edits.{Entry}
 use Rattle.jr_text.specs.Splices.{splice}
 use Rattle.jr_lex.specs.Replacing.{IsName, WordSwapped, WordQualified}
 use Rattle.jr_small.specs.declared.occurrences.Role.TheVariants.{Class, Parameter, Local, Reference}
 use Rattle.jr_small.specs.declared.occurrences.Occurrence as raw
-use Rattle.jr_small.specs.Source.{Name}
 use Rattle.jr_small.specs.Spelling.{Tree}
 use Rattle.jr_small.specs.Occurrence.{Occurrence, occurrences, declared}
-use Rattle.jr_small.specs.Sound.{IsSound}
 use Rattle.jr_small.specs.Binding.{IsVariable}
 use Rattle.jr_small.specs.Rename.{IsTarget, DeclaresVariable, Meets, Clashes, Lost}
-use Rattle.jr_small.specs.Renaming.{asked_list, renamed_list, is_lost_at, plain}
+use Rattle.jr_small.specs.Renaming.{asked_list, renamed_list, is_lost_at}
 use Rattle.jr_small.specs.Refusal as refusal
 use Rattle.jr_small.specs.Refusal.{Declaration}
 use Rattle.jr_small.specs.Changes.{IsFirstLostOf, AreRenamingEdits}
 use Rattle.jr_small.specs.View.{all_of}
-use Rattle.jr_small.specs.Answer.{IsAsked, HasTarget, CanBeNamed, Shows, IsClash, IsLost, IsSpliced, IsRenamed, Refuses, AreEditsOf, reference_place}
+use Rattle.jr_small.specs.Answer.{IsAsked, Shows, IsClash, IsLost, IsSpliced, Refuses, reference_place}
 use Rattle.jr_small.specs.Readings.{AreNamesOf}
 use Rattle.jr_small.specs.Plans.{Means, IsFree}
 use Rattle.jr_small.proofs.Lookups.{nobody, at, at_number}
@@ -111,7 +109,7 @@ is_spliced text place name all d es swapped qualified f none edits =
     let r = ready text place name all d f in
     let ns = renamed_list os v.declaration d name class.name.text in
     let kept : (k : ℕ) → Lost os (asked_list os v.declaration d name) k → ⊥ =
-        none_marked os class v.declaration d name r (subst (λ (xs : List Occurrence). IsFirstLostOf xs d name None) (sym f.names) none v.declaration class v.stands (class_first f.tree)) in
+    none_marked os class v.declaration d name r (subst (λ (xs : List Occurrence). IsFirstLostOf xs d name None) (sym f.names) none v.declaration class v.stands (class_first f.tree)) in
     let changed = subst (λ (xs : List Occurrence). AreRenamingEdits xs d name es) (sym f.names) edits v.declaration class v.stands (class_first f.tree) in
     let reads = f.target.target.reads.reads in
     let class_name : IsName class.name.text = (name_stands text f.tree 0 class reads (class_first f.tree)).is_name in

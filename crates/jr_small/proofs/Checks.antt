@@ -1,9 +1,9 @@
 -- One name after the other is looked at.
-use Rattle.std.proofs.Common.{◌≡◌, ℕ, ◌+◌, ◌<◌, ◌≤◌, length, take, get_or, List, [], ◌∷◌, ◌++◌, Option, Some, None, Bool, true, false, refl, sym, ap, subst, ◌∙◌, arith, inl, inr, ◌⊎◌, below_more}
-use Rattle.std.specs.Prelude.{slice_get, ◌↔◌, IsTrue, is_some, not, ◌&&◌}
+use Rattle.std.proofs.Common.{◌≡◌, ℕ, ◌+◌, ◌<◌, length, take, List, [], ◌∷◌, ◌++◌, Some, Bool, true, false, refl, sym, ap, subst, ◌∙◌, arith, inl, inr, below_more}
+use Rattle.std.specs.Prelude.{slice_get, ◌↔◌, IsTrue, ◌&&◌}
 use Rattle.std.specs.Str.{bytes_eq}
 use Rattle.jr_small.specs.declared.occurrences.Role.{Role}
-use Rattle.jr_small.specs.declared.occurrences.Role.TheVariants.{Class, Field, Method, Parameter, Local, Reference}
+use Rattle.jr_small.specs.declared.occurrences.Role.TheVariants.{Parameter, Local, Reference}
 use Rattle.jr_small.specs.declared.occurrences.Occurrence as raw
 use Rattle.jr_small.specs.declared.tables.Table.{Table}
 use Rattle.jr_small.specs.Occurrence.{Occurrence}
@@ -44,9 +44,9 @@ pub fine_more : (text : List ℕ) (all : List raw.Occurrence) (n : ℕ) (t : Tab
     → Together (all_of text (take n all)) SameVariable → AreBound (all_of text all) n
     → Together (all_of text (take (n + 1) all)) SameVariable × Records is_variable (all_of text (take (n + 1) all)) t × AreBound (all_of text all) (n + 1)
 fine_more text all n t h c apart bound = (
-    apart_more text all n nobody SameVariable h (λ p. c.1 p.pair.second p) apart,
-    records_more text all n nobody is_variable t h c.0,
-    λ k o l e r. below_more (λ (k : ℕ). (o : Occurrence) → slice_get (all_of text all) k ≡ Some o → o.role ≡ Reference → IsWellBound (all_of text all) k) n (λ k l o e r. bound k o l e r) here k l o e r,
+  apart_more text all n nobody SameVariable h (λ p. c.1 p.pair.second p) apart,
+  records_more text all n nobody is_variable t h c.0,
+  λ k o l e r. below_more (λ (k : ℕ). (o : Occurrence) → slice_get (all_of text all) k ≡ Some o → o.role ≡ Reference → IsWellBound (all_of text all) k) n (λ k l o e r. bound k o l e r) here k l o e r,
 )
   where
     here : (o : Occurrence) → slice_get (all_of text all) n ≡ Some o → o.role ≡ Reference → IsWellBound (all_of text all) n

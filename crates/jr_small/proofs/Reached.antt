@@ -1,12 +1,12 @@
 -- Items of a text that lexes stand in it one behind the other.
-use Rattle.std.proofs.Common.{◌≡◌, ℕ, ◌+◌, ◌≤◌, List, [], ◌∷◌, ◌++◌, length, refl, sym, ap, subst, ◌∙◌, append_assoc, arith, length-append}
+use Rattle.std.proofs.Common.{◌≡◌, ℕ, ◌+◌, List, [], ◌∷◌, ◌++◌, length, refl, sym, ap, subst, ◌∙◌, append_assoc, arith, length-append}
 use Rattle.std.specs.Str.{IsUtf8, IsCharBoundary}
-use Rattle.std.proofs.lemmas.Str.{IsCharBoundary-at_seam, IsUtf8-append}
+use Rattle.std.proofs.lemmas.Str.{IsCharBoundary-at_seam}
 use Rattle.jr_text.specs.declared.spans.Span.{Span}
 use Rattle.jr_lex.specs.declared.items.Item.{Item}
 use Rattle.jr_lex.specs.Lexes.{Lexes, span_of}
 use Rattle.jr_small.specs.Placed.{IsCut, AreItemsFrom}
-use Rattle.jr_small.proofs.AgainItems.{IsTile, Tiled, tiled_text, lexes_tiled}
+use Rattle.jr_small.proofs.AgainItems.{Tiled, tiled_text, lexes_tiled}
 
 -- a piece of the text between two others can be cut out
 piece_cut : (p front rest : List ℕ) → IsUtf8 (front ++ rest) → IsUtf8 rest → IsCut (p ++ (front ++ rest)) (span_of (length p) (length p + length front))

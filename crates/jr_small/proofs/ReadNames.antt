@@ -1,6 +1,6 @@
 -- What the reader answers is what the text reads as.
-use Rattle.std.proofs.Common.{◌≡◌, ℕ, ◌<◌, ◌≤◌, List, [], ◌∷◌, length, Option, Some, None, refl, sym, ap, subst, ◌∙◌, arith, inr}
-use Rattle.std.specs.Prelude.{option_map, IfSome, Vec, Bool, IsTrue, ◌↔◌, true, false}
+use Rattle.std.proofs.Common.{◌≡◌, ℕ, ◌<◌, List, length, Option, Some, None, refl, sym, ap, subst, ◌∙◌, arith, inr}
+use Rattle.std.specs.Prelude.{option_map, IfSome, Vec}
 use Rattle.std.specs.Global.{Global}
 use Rattle.std.proofs.lemmas.List.{length-map}
 use Rattle.jr_lex.specs.declared.items.Item.{Item}
@@ -16,7 +16,7 @@ use Rattle.jr_small.specs.Machine.{read}
 use Rattle.jr_small.specs.Placed.{AreItemsFrom, Stand}
 use Rattle.jr_small.specs.Exact.{IsMonotone}
 use Rattle.jr_small.specs.View.{occurrence_of, all_of}
-use Rattle.jr_small.specs.Answer.{Reads, ReadsSound, IsShallow, HasSourceFault, IsUnbuilt}
+use Rattle.jr_small.specs.Answer.{IsShallow, HasSourceFault}
 use Rattle.jr_small.specs.Readings.{AreNamesOf}
 use Rattle.jr_small.proofs.Reading.{Spells, read_spells, read_none, spelled_alike}
 use Rattle.jr_small.proofs.Reached.{lexes_from}

@@ -1,8 +1,6 @@
 -- What is read is what a source spells, and nothing else is.
-use Rattle.std.proofs.Common.{◌≡◌, ℕ, List, [], ◌∷◌, ◌++◌, Option, Some, None, refl, sym, ap, subst, ◌∙◌, append_assoc, append-nil}
+use Rattle.std.proofs.Common.{◌≡◌, List, [], ◌∷◌, ◌++◌, Option, Some, None, refl, sym, ap, subst, ◌∙◌, append_assoc, append-nil}
 use Rattle.std.specs.Prelude.{option_and_then, IfSome}
-use Rattle.jr_small.specs.declared.phases.Phase.{Phase}
-use Rattle.jr_small.specs.declared.phases.Phase.TheVariants as phase
 use Rattle.jr_small.specs.Token.{Piece}
 use Rattle.jr_small.specs.Spelling.{Tree, spell}
 use Rattle.jr_small.specs.Occurrence.{Occurrence, occurrences}

@@ -1,12 +1,12 @@
 -- A source is sound where each of its parts is.
-use Rattle.std.proofs.Common.{◌≡◌, ◌≢◌, ℕ, ◌<◌, ◌≤◌, length, List, Option, Some, None, refl, sym, ap, subst, ◌∙◌, arith, inl, inr, ◌⊎◌}
+use Rattle.std.proofs.Common.{◌≡◌, ℕ, ◌<◌, length, List, Option, Some, None, sym, ap, subst, ◌∙◌, arith, inl, inr}
 use Rattle.std.specs.Prelude.{slice_get, Contains}
-use Rattle.jr_small.specs.declared.occurrences.Role.TheVariants.{Class, Field, Method, Parameter, Local, Reference}
+use Rattle.jr_small.specs.declared.occurrences.Role.TheVariants.{Reference}
 use Rattle.jr_small.specs.Source.{Name}
 use Rattle.jr_small.specs.Occurrence.{Occurrence}
-use Rattle.jr_small.specs.Binding.{FindsVariable, NoneInScope, DeclaresField, FindsName, FindsClass, FindsReference, Binds}
-use Rattle.jr_small.specs.Sound.{Together, SameField, SameMethod, SameVariable, IsObjects, NoObjectMethod, NoneForward, prelude_names, IsSound}
-use Rattle.jr_small.specs.Exact.{IsOwn, IsWellBound, AreBound}
+use Rattle.jr_small.specs.Binding.{DeclaresField, FindsName, FindsReference, Binds}
+use Rattle.jr_small.specs.Sound.{Together, SameField, SameMethod, SameVariable, NoObjectMethod, prelude_names, IsSound}
+use Rattle.jr_small.specs.Exact.{AreBound}
 use Rattle.jr_small.proofs.Walks.{get_within}
 use Rattle.jr_small.proofs.WellBound.{same_at, one_variable}
 

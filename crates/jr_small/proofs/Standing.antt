@@ -1,11 +1,10 @@
 -- Names that stand one behind the other go on to do so.
-use Rattle.std.proofs.Common.{◌≡◌, ℕ, zero, suc, ◌+◌, ◌<◌, ◌≤◌, List, [], ◌∷◌, ◌++◌, length, Option, Some, None, refl, sym, ap, subst, ◌∙◌, arith, inl, inr, ◌⊎◌}
-use Rattle.std.specs.Prelude.{slice_get, All, IfSome, Vec}
+use Rattle.std.proofs.Common.{◌≡◌, ℕ, ◌≤◌, List, [], ◌∷◌, ◌++◌, length, Option, Some, None, refl, sym, subst, arith, inl, inr}
+use Rattle.std.specs.Prelude.{IfSome, Vec}
 use Rattle.std.proofs.lemmas.List.Elements.{All-append, All-cons, All-nil, All-pop}
 use Rattle.jr_text.specs.declared.spans.Span.{Span}
-use Rattle.jr_small.specs.declared.occurrences.Role.{Role}
 use Rattle.jr_small.specs.declared.occurrences.Occurrence.{Occurrence}
-use Rattle.jr_small.specs.Placed.{IsCut, IsPlaced, ArePlaced, AreStanding, Stand}
+use Rattle.jr_small.specs.Placed.{IsCut, IsPlaced, AreStanding, Stand}
 use Rattle.jr_small.proofs.Walks.{get_more, get_front, get_last, get_within}
 
 pub stand_later : (text : List ℕ) (os : List Occurrence) (at later : ℕ) → AreStanding text os at → at ≤ later → AreStanding text os later

@@ -1,5 +1,5 @@
 -- What reading a text gives: its names where it is a sound source, or what is wrong with it.
-use Rattle.std.specs.Prelude.{◌≡◌, ◌≢◌, ℕ, ◌<◌, ◌≤◌, List, length}
+use Rattle.std.specs.Prelude.{◌≡◌, ℕ, List}
 use Rattle.jr_small.specs.declared.occurrences.Occurrence.{Occurrence}
 use Rattle.jr_small.specs.declared.readings.Reading.{Reading}
 use Rattle.jr_small.specs.declared.readings.Reading.TheVariants.{Source, Fault}

@@ -114,7 +114,9 @@ fn check<'a>(
         Role::Parameter | Role::Local => put_variable(variables, text, all, number),
         Role::Reference => match occurrence.qualifier {
             None => Ok(is_name_bound(fields, variables, text, all, number)),
-            Some(qualifier) => Ok(is_field_of_class(fields, variables, text, all, number, qualifier)),
+            Some(qualifier) => Ok(is_field_of_class(
+                fields, variables, text, all, number, qualifier,
+            )),
         },
         _ => Ok(true),
     }

@@ -3,8 +3,8 @@
 #![tactic(auto)]
 
 mod bound;
-mod declarations;
 mod changes;
+mod declarations;
 mod declared;
 mod methods;
 mod occurrences;

@@ -89,7 +89,18 @@ pub(crate) fn has_no_object_method(text: &str, all: &[Occurrence]) -> bool
 fn is_object_method(name: &str) -> bool
     ensures { IsTrue result ↔ Contains object_methods name.now }
 {
-    matches!(name, "equals" | "hashCode" | "toString" | "getClass" | "notify" | "notifyAll" | "wait" | "clone" | "finalize")
+    matches!(
+        name,
+        "equals"
+            | "hashCode"
+            | "toString"
+            | "getClass"
+            | "notify"
+            | "notifyAll"
+            | "wait"
+            | "clone"
+            | "finalize"
+    )
 }
 
 /// Whether the name is that of a class that each program has, or reserved.

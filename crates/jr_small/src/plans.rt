@@ -108,9 +108,7 @@ fn rename_in(
         }));
     }
     match first_lost(source, all, target, name) {
-        Some(lost) => Ok(Outcome::Refused(lost_refusal(
-            alloc, text, all, at, name, target, lost,
-        )?)),
+        Some(lost) => Ok(Outcome::Refused(lost_refusal(alloc, text, all, at, name, target, lost)?)),
         None => spliced(alloc, text, all, at, name, target),
     }
 }

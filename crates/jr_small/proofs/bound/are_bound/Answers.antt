@@ -1,4 +1,4 @@
-use Rattle.std.proofs.Common.{◌≡◌, Bool, List, take, length, ap, subst, sym, refl, arith, ◌∙◌, true, false}
+use Rattle.std.proofs.Common.{◌≡◌, Bool, List, take, length, ap, subst, refl, arith, ◌∙◌, true, false}
 use Rattle.std.proofs.Math.Seq.{take-length}
 use Rattle.jr_small.specs.Occurrence.{Occurrence}
 use Rattle.jr_small.specs.Sound.{Together, SameVariable}

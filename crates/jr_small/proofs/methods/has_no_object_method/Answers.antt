@@ -1,7 +1,6 @@
-use Rattle.std.proofs.Common.{◌≡◌, List, take, length, ap, sym, subst, refl, arith, ◌∙◌, true, false}
+use Rattle.std.proofs.Common.{◌≡◌, take, length, ap, sym, subst, refl, arith, ◌∙◌, true, false}
 use Rattle.std.proofs.Math.Seq.{take-length}
-use Rattle.jr_small.specs.Occurrence.{Occurrence}
-use Rattle.jr_small.specs.Sound.{IsObjects, NoObjectMethod}
+use Rattle.jr_small.specs.Sound.{NoObjectMethod}
 use Rattle.jr_small.specs.View.{all_of}
 use Rattle.jr_small.proofs.Lookups.{nobody, at, at_number}
 use Rattle.jr_small.proofs.Checks.{no_objects_more}

@@ -1,4 +1,4 @@
-use Rattle.std.proofs.Common.{◌≡◌, sym, refl, lit<}
+use Rattle.std.proofs.Common.{sym, refl, lit<}
 use Rattle.jr_small.proofs.methods.is_object_method.Goals as goal
 
 pub returns-in-equals-3 : goal.returns-in-equals-3
@@ -18,4 +18,3 @@ returns-in-equals-7 c = (λ _. (6, lit< tt, sym c.in-equals.is-wait), λ _. refl
 
 pub returns-in-equals-8 : goal.returns-in-equals-8
 returns-in-equals-8 c = (λ _. (7, lit< tt, sym c.in-equals.is-clone), λ _. refl)
-

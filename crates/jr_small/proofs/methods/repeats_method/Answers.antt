@@ -1,4 +1,4 @@
-use Rattle.std.proofs.Common.{◌≡◌, ℕ, get_or, arith, true, false}
+use Rattle.std.proofs.Common.{◌≡◌, arith, true, false}
 use Rattle.jr_small.proofs.Lookups.{nobody, at, at_number, to_if_some}
 use Rattle.jr_small.proofs.Checks.{no_repeat}
 use Rattle.jr_small.proofs.methods.repeats_method.Goals as goal

@@ -1,4 +1,4 @@
-use Rattle.std.proofs.Common.{◌≡◌, ◌<◌, ℕ, get_or}
+use Rattle.std.proofs.Common.{◌<◌, ℕ}
 use Rattle.jr_small.specs.Sound.{SameMethod}
 use Rattle.jr_small.specs.View.{all_of}
 use Rattle.jr_small.proofs.Lookups.{at}

@@ -1,7 +1,6 @@
-use Rattle.std.proofs.Common.{◌≡◌, ◌∙◌, ◌<◌, length, get_or, List, ℕ, Option, Some, None, sym, ap, subst, arith}
+use Rattle.std.proofs.Common.{◌≡◌, ◌∙◌, ◌<◌, length, get_or, List, ℕ, Option, Some, None, sym, ap, subst}
 use Rattle.std.specs.Prelude.{option_map, string_bytes}
 use Rattle.jr_text.specs.declared.spans.Span.{Span}
-use Rattle.jr_small.specs.Source.{Name}
 use Rattle.jr_small.specs.Occurrence.{Occurrence}
 use Rattle.jr_small.specs.Token.{name_at}
 use Rattle.jr_small.specs.Structure.{HasMethods}

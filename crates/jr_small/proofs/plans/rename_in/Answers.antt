@@ -1,12 +1,10 @@
-use Rattle.std.proofs.Common.{◌≡◌, ◌∙◌, ◌<◌, List, ℕ, length, sym, ap, subst, arith}
-use Rattle.jr_small.specs.Occurrence.{Occurrence}
-use Rattle.jr_small.specs.Rename.{IsTarget, Meets, Clashes}
+use Rattle.std.proofs.Common.{List, ℕ, sym, subst}
+use Rattle.jr_small.specs.Rename.{IsTarget, Meets}
 use Rattle.jr_small.specs.Structure.{HasMethods}
 use Rattle.jr_small.specs.View.{all_of}
-use Rattle.jr_small.specs.Answer.{Shows}
 use Rattle.jr_small.proofs.Structures.{has_methods}
 use Rattle.jr_small.proofs.Telling.{declares_within, variable_declares, met_declares}
-use Rattle.jr_small.proofs.Assembly.{no_target, means, is_clash, is_free}
+use Rattle.jr_small.proofs.Assembly.{no_target, means, is_free}
 use Rattle.jr_small.proofs.plans.rename_in.Goals as goal
 
 -- what is said of the source's text is said of the text

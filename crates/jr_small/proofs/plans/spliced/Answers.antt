@@ -1,8 +1,8 @@
-use Rattle.std.proofs.Common.{◌≡◌, ◌≢◌, ◌∙◌, ◌<◌, List, ℕ, length, Option, Some, None, sym, ap, subst, arith}
+use Rattle.std.proofs.Common.{◌≡◌, ◌≢◌, ◌<◌, List, ℕ, length, None, sym, subst}
 use Rattle.std.specs.Prelude.{slice_get, IfSome}
 use Rattle.jr_text.specs.Splices.{splice}
 use Rattle.jr_text.specs.EditFaults.{IsApplyFault}
-use Rattle.jr_text.specs.Texts.{IsText, text_limit}
+use Rattle.jr_text.specs.Texts.{text_limit}
 use Rattle.jr_small.specs.Occurrence.{Occurrence, occurrences}
 use Rattle.jr_small.specs.Changes.{AreRenamingEdits}
 use Rattle.jr_small.specs.View.{all_of}

@@ -1,13 +1,12 @@
-use Rattle.std.proofs.Common.{◌≡◌, ◌≤◌, ◌+◌, ◌∷◌, List, ℕ, Bool, drop, get_or, length, sym, ap, subst, arith, ◌∙◌, true, add-one}
-use Rattle.std.specs.Prelude.{IfSome}
+use Rattle.std.proofs.Common.{◌≡◌, ◌+◌, ◌∷◌, List, Bool, drop, get_or, sym, ap, subst, arith, ◌∙◌, add-one}
 use Rattle.std.proofs.Math.Seq.{drop-cons}
 use Rattle.jr_lex.specs.declared.items.Item.{Item}
 use Rattle.jr_lex.specs.declared.items.ItemKind.TheVariants.{Token}
 use Rattle.jr_lex.specs.declared.items.TokenKind.TheVariants.{Word}
 use Rattle.jr_small.specs.declared.occurrences.Occurrence.{Occurrence}
-use Rattle.jr_small.specs.Machine.{State, run, start}
+use Rattle.jr_small.specs.Machine.{State, run}
 use Rattle.jr_small.specs.Token.{pieces_of}
-use Rattle.jr_small.specs.Placed.{AreItemsFrom, AreStanding, Stand}
+use Rattle.jr_small.specs.Placed.{AreItemsFrom, AreStanding}
 use Rattle.jr_small.specs.View.{state_of, Leads}
 use Rattle.jr_small.proofs.Standing.{none_stand, some_stand}
 use Rattle.jr_small.proofs.reader.names_of.Goals as goal

@@ -1,6 +1,5 @@
-use Rattle.std.proofs.Common.{◌≡◌, ◌<◌, ◌∙◌, List, ℕ, length, ap, sym, subst, true, false}
+use Rattle.std.proofs.Common.{◌≡◌, ◌<◌, ◌∙◌, List, ℕ, length, sym, subst, true, false}
 use Rattle.jr_small.specs.declared.occurrences.Occurrence.{Occurrence}
-use Rattle.jr_small.specs.declared.readings.Reading.{Reading}
 use Rattle.jr_small.specs.Placed.{ArePlaced}
 use Rattle.jr_small.specs.Exact.{IsMonotone}
 use Rattle.jr_small.specs.Sound.{IsSound}
@@ -41,6 +40,6 @@ pub returns : goal.returns
 returns c =
     let h = has_names c.args.text.now c.args.items.now c.in_ok-all.field-0 c.in-Some.all c.requires.lexes c.in-Some.is (c.in_ok-all.ensures.read c.args.text.now) c.in_ok-all.ensures.stand in
     let back : IsSound (all_of c.args.text.now c.in-Some.all.items) → IsSound (all_of c.as_str.result.now c.as_slice.result.now) =
-        λ s. subst (λ (text : List ℕ). IsSound (all_of text c.as_slice.result.now)) (sym c.as_str.ensures.whole) (subst (λ (os : List Occurrence). IsSound (all_of c.args.text.now os)) (sym c.as_slice.ensures.value) s) in
+    λ s. subst (λ (text : List ℕ). IsSound (all_of text c.as_slice.result.now)) (sym c.as_str.ensures.whole) (subst (λ (os : List Occurrence). IsSound (all_of c.args.text.now os)) (sym c.as_slice.ensures.value) s) in
     subst (IsReading c.args.text.now) (sym c.unbuilt-2.ensures)
     (unsound c.args.text.now c.args.items.now c.in-Some.all.items (record { lexes = c.requires.lexes; only = c.requires.only; within = c.requires.within }) h (λ s. let bad : false ≡ true = sym c.if-branch.false ∙ c.in_ok-is_sound.ensures.1 (back s) in cc))
