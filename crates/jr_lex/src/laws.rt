@@ -5,6 +5,7 @@ ghost use Rattle.std.specs.Str.{IsUtf8};
 ghost use Rattle.jr_lex.specs.declared.items.Item.{Item};
 ghost use Rattle.jr_lex.specs.declared.faults.LexFault.{LexFault};
 ghost use Rattle.jr_lex.specs.Lexes.{Lexes, IsFirstFault};
+ghost use Rattle.jr_lex.specs.Replacing.{WordReplaced, WordSwapped, WordQualified};
 
 /// A text has items, all of them, or a first fault, and never both: each text has one answer.
 pub fn one_answer()
@@ -13,5 +14,15 @@ pub fn one_answer()
     ensures never_both { (bytes : List ℕ) (items : List Item) (fault : LexFault) → Lexes bytes items → IsFirstFault bytes fault → ⊥ }
     ensures always_one { (bytes : List ℕ) → IsUtf8 bytes
         → ((items : List Item) × Lexes bytes items) ⊎ ((fault : LexFault) × IsFirstFault bytes fault) }
+{
+}
+
+/// A word of a text may be replaced: by another identifier, by two with a `.` between them, or by anything that lexes
+/// by itself, begins like a word and ends with an identifier. The text lexes again, the items in front stay, and those
+/// behind move by as many bytes as the text grows or shrinks.
+pub fn words_may_be_replaced()
+    ensures replaced { WordReplaced }
+    ensures swapped { WordSwapped }
+    ensures qualified { WordQualified }
 {
 }

@@ -17,7 +17,7 @@ mod words;
 
 pub use faults::LexFault;
 pub use items::{Item, ItemKind, Keyword, Symbol, TokenKind};
-pub use laws::one_answer;
+pub use laws::{one_answer, words_may_be_replaced};
 pub use lexing::lex;
 pub use words::is_identifier;
 
