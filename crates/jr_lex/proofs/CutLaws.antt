@@ -61,7 +61,7 @@ loop_step text rest behind after first kind items u v fits begins e cut =
              (ap (λ x. x + byte_len front) h.0 ∙ to, refl)))
         0 (chars text) items cut)
 
-some_bytes : (kind : ItemKind) (front : List ℕ) → IsLexeme kind front → 1 ≤ byte_len front
+pub some_bytes : (kind : ItemKind) (front : List ℕ) → IsLexeme kind front → 1 ≤ byte_len front
 some_bytes kind [] h = absurd (no_empty kind h)
 some_bytes kind (c ∷ cs) h = omega (arith, length-le-encodes (c ∷ cs))
 

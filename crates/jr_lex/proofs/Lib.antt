@@ -12,3 +12,5 @@ pub mod ScanMeaning
 pub mod CutLaws
 pub mod LocalLaws
 pub mod ReplaceLaws
+pub mod DepthLaws
+pub mod PlaceLaws

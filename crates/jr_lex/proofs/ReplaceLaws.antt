@@ -240,7 +240,7 @@ replaced_cut F w r N before inside after word is cut1 item1 cut2 cut3 starts end
 
 -- ---- bytes
 
-scalars_parts : (xs ys : List ℕ) → scalars (xs ++ ys) ≡ true → (scalars xs ≡ true) × (scalars ys ≡ true)
+pub scalars_parts : (xs ys : List ℕ) → scalars (xs ++ ys) ≡ true → (scalars xs ≡ true) × (scalars ys ≡ true)
 scalars_parts [] ys h = (refl, h)
 scalars_parts (c ∷ cs) ys h =
     let here = and_parts (scalar c) (scalars (cs ++ ys)) h in

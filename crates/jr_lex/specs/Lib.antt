@@ -12,3 +12,4 @@ pub mod Replacing
 pub mod Scan
 pub mod Front
 pub mod Answers
+pub mod Places

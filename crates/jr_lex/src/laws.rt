@@ -5,6 +5,7 @@ ghost use Rattle.std.specs.Str.{IsUtf8};
 ghost use Rattle.jr_lex.specs.declared.items.Item.{Item};
 ghost use Rattle.jr_lex.specs.declared.faults.LexFault.{LexFault};
 ghost use Rattle.jr_lex.specs.Lexes.{Lexes, IsFirstFault};
+ghost use Rattle.jr_lex.specs.Places.{ItemsPlaced, LastPlaced};
 ghost use Rattle.jr_lex.specs.Replacing.{WordReplaced, WordSwapped, WordQualified};
 
 /// A text has items, all of them, or a first fault, and never both: each text has one answer.
@@ -24,5 +25,13 @@ pub fn words_may_be_replaced()
     ensures replaced { WordReplaced }
     ensures swapped { WordSwapped }
     ensures qualified { WordQualified }
+{
+}
+
+/// Each item has a byte at least, stands where the one in front of it ends, can be cut out of the text, and its bytes are
+/// a lexeme of its kind. The last ends where the text does.
+pub fn items_are_placed()
+    ensures items { ItemsPlaced }
+    ensures last { LastPlaced }
 {
 }

@@ -3,6 +3,7 @@
 
 mod characters;
 mod comments;
+mod depth;
 mod escapes;
 mod faults;
 mod items;
@@ -15,9 +16,10 @@ mod strings;
 mod symbols;
 mod words;
 
+pub use depth::{TooDeep, measure};
 pub use faults::LexFault;
 pub use items::{Item, ItemKind, Keyword, Symbol, TokenKind};
-pub use laws::{one_answer, words_may_be_replaced};
+pub use laws::{items_are_placed, one_answer, words_may_be_replaced};
 pub use lexing::lex;
 pub use words::is_identifier;
 
