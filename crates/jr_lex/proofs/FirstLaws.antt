@@ -10,7 +10,7 @@ use Rattle.jr_lex.specs.declared.items.Symbol.TheVariants as symbol
 use Rattle.jr_lex.specs.declared.items.ItemKind.TheVariants as item
 use Rattle.jr_lex.specs.declared.faults.LexFault.TheVariants as fault
 use Rattle.jr_lex.specs.Characters.{is_line_end, is_blank, is_digit, is_word_start, is_word_part}
-use Rattle.jr_lex.specs.Scan.{scan, Scanned, first_symbol, rest_after, number_at, string_at, dot_at, slash_at, backslash_at, marked, grown, word_at}
+use Rattle.jr_lex.specs.Scan.{scan, Scanned, first_symbol, rest_after, number_at, string_at, scanned_dot, slash_at, backslash_at, marked, grown, scanned_word}
 
 -- an ASCII character that begins no word
 abbrev pub is_ascii_other : ℕ → Bool
@@ -134,7 +134,7 @@ pub scan-quote : (at : ℕ) (cs : List ℕ) → scan at 34 cs ≡ string_at at c
 unfolding scan
 scan-quote at cs = refl
 
-pub scan-dot : (at : ℕ) (cs : List ℕ) → scan at 46 cs ≡ dot_at at cs
+pub scan-dot : (at : ℕ) (cs : List ℕ) → scan at 46 cs ≡ scanned_dot at cs
 unfolding scan
 scan-dot at cs = refl
 
@@ -151,7 +151,7 @@ unfolding scan
 scan-symbol at c cs s = symbol_cases (λ k x. scan at k cs ≡ marked (grown x cs))
     refl refl refl refl refl refl refl refl refl refl refl refl refl refl refl refl refl refl refl refl refl refl refl c s
 
-pub scan-word : (at c : ℕ) (cs : List ℕ) → is_word_start c ≡ true → scan at c cs ≡ word_at c cs
+pub scan-word : (at c : ℕ) (cs : List ℕ) → is_word_start c ≡ true → scan at c cs ≡ scanned_word c cs
 unfolding scan
 scan-word at c cs starts =
     rw (word_start-blank c starts, word_start-digit c starts, start-apart c 34 starts refl, start-apart c 46 starts refl, start-apart c 47 starts refl, start-apart c 92 starts refl, word_start-symbol c starts, starts) refl

@@ -11,7 +11,7 @@ use Rattle.jr_lex.specs.declared.items.Symbol.TheVariants as symbol
 use Rattle.jr_lex.specs.declared.faults.LexFault.{LexFault}
 use Rattle.jr_lex.specs.Characters.{is_line_end, is_blank, is_digit, is_word_start, is_word_part, all_pass, first_passes}
 use Rattle.jr_lex.specs.Numbers.{number_of}
-use Rattle.jr_lex.specs.Scan.{scan, Scanned, front_of, rest_after, spoils, is_not_line_end, number_at, word_at, word_kind, string_at, string_behind, string_rest, string_wrong, escape_or, line_comment_at, line_escape, block_comment_at, block_behind, block_rest, block_escape, extended, doubled, grown, marked, two_dots, dots, dot_at, slash_at, backslash_at}
+use Rattle.jr_lex.specs.Scan.{scan, Scanned, front_of, rest_after, spoils, is_not_line_end, number_at, scanned_word, word_kind, string_at, string_behind, string_rest, string_wrong, escape_or, line_comment_at, line_escape, block_comment_at, block_behind, block_rest, block_escape, extended, doubled, grown, marked, two_dots, dots, scanned_dot, slash_at, backslash_at}
 use Rattle.jr_lex.proofs.RunLaws.{front_of-rest_after, all_pass-front_of, first_passes-rest_after, rest_after-append, front_of-append, rest_after-none, front_of-none, length-rest_after}
 use Rattle.jr_lex.specs.Strings.{is_content, is_escape}
 use Rattle.jr_lex.proofs.StringLaws.{content_cases, string_wrong-plain, string_wrong-quote, string_rest-append, string-ended}
@@ -121,7 +121,7 @@ blank_local k tail rest other alike e =
     let run = run_of is_blank tail rest (rest_same _ _ _ _ e) in
     same_ok _ _ _ _ (kind_same _ _ _ _ e) (run_rest is_blank tail other (run_alike is_blank starts_blank tail rest other alike run))
 
-word_local : (c : ℕ) (k : ItemKind) (tail rest other : List ℕ) → Alike rest other → word_at c (tail ++ rest) ≡ Ok (k, rest) → word_at c (tail ++ other) ≡ Ok (k, other)
+word_local : (c : ℕ) (k : ItemKind) (tail rest other : List ℕ) → Alike rest other → scanned_word c (tail ++ rest) ≡ Ok (k, rest) → scanned_word c (tail ++ other) ≡ Ok (k, other)
 word_local c k tail rest other alike e =
     let run = run_of is_word_part tail rest (rest_same _ _ _ _ e) in
     let run_on = run_alike is_word_part starts_part tail rest other alike run in
@@ -381,7 +381,7 @@ dots_local at k tail rest other (Some left) alike e scanned =
     let there : two_dots (tail ++ other) ≡ Some other = ap (λ xs. two_dots (xs ++ other)) tails in
     rw there (same_ok _ _ _ _ (kind_same _ _ _ _ scanned) refl)
 
-dot_local : (at : ℕ) (k : ItemKind) (tail rest other : List ℕ) → Alike rest other → dot_at at (tail ++ rest) ≡ Ok (k, rest) → dot_at at (tail ++ other) ≡ Ok (k, other)
+dot_local : (at : ℕ) (k : ItemKind) (tail rest other : List ℕ) → Alike rest other → scanned_dot at (tail ++ rest) ≡ Ok (k, rest) → scanned_dot at (tail ++ other) ≡ Ok (k, other)
 dot_local at k tail rest other alike e =
     let parts = unspoilt (first_passes is_digit (tail ++ rest)) _ _ (k, rest) e in
     cond-false _ _ _ (sym (first_digit tail rest other alike) ∙ parts.0) ∙ dots_local at k tail rest other (two_dots (tail ++ rest)) alike refl parts.1

@@ -12,15 +12,15 @@ use Rattle.jr_lex.specs.declared.items.Symbol.TheVariants as symbol
 use Rattle.jr_lex.specs.declared.faults.LexFault.{LexFault}
 use Rattle.jr_lex.specs.declared.faults.LexFault.TheVariants as fault
 use Rattle.jr_lex.specs.Characters.{is_word_start, is_word_part, is_digit, all_pass, first_passes, byte_len}
-use Rattle.jr_lex.specs.Words.{IsIdentifier}
+use Rattle.jr_lex.specs.Words.{IsIdentifier, IsName}
 use Rattle.jr_lex.specs.Lexemes.{IsLexeme}
 use Rattle.jr_lex.specs.Faults.{IsFaultAt}
 use Rattle.jr_lex.specs.Lexes.{IsItemAt, Cuts, IsEnd, Lexes, span_of}
-use Rattle.jr_lex.specs.Replacing.{IsName, item_of, word_at, dot_at, moved, EndsWithWord, WordReplaced, WordSwapped, WordQualified}
+use Rattle.jr_lex.specs.Replacing.{item_of, word_at, dot_at, moved, EndsWithWord, WordReplaced, WordSwapped, WordQualified}
 use Rattle.std.proofs.Math.Utf8.{scalars, scalar}
 use Rattle.std.specs.Prelude.{Bool}
 use Rattle.std.proofs.lemmas.Bool.{false≢true, and_parts, and_from, cond-false}
-use Rattle.jr_lex.specs.Scan.{scan, Scanned, word_at as spec_word_at, word_kind, kind_of_keyword, front_of, rest_after, dots}
+use Rattle.jr_lex.specs.Scan.{scan, Scanned, scanned_word, word_kind, kind_of_keyword, front_of, rest_after, dots}
 use Rattle.unicode_ident.proofs.IdentLemmas.{is_xid_continue-ascii}
 use Rattle.jr_lex.proofs.ScanLaws.{byte_len-chars}
 use Rattle.jr_lex.proofs.FirstLaws.{scan-word, scan-dot, start-apart, word_start-digit}
@@ -169,7 +169,7 @@ pub word_stops : (at : ℕ) (w r : List ℕ) (i : Item) → i.kind ≡ word_kind
 word_stops at [] r i is h = absurd (no_empty i.kind h.taken.lexeme)
 word_stops at (c ∷ tail) r i is h =
     let identifier : IsIdentifier (c ∷ tail) = subst (λ k. IsLexeme k (c ∷ tail)) is h.taken.lexeme in
-    let scanned : spec_word_at c (tail ++ r) ≡ Ok (i.kind, r) = sym (scan-word at c (tail ++ r) identifier.is_word.0) ∙ item-scan at c (tail ++ r) i (c ∷ tail) r h in
+    let scanned : scanned_word c (tail ++ r) ≡ Ok (i.kind, r) = sym (scan-word at c (tail ++ r) identifier.is_word.0) ∙ item-scan at c (tail ++ r) i (c ∷ tail) r h in
     subst (λ x. first_passes is_word_part x ≡ false) (rest_same _ _ _ _ scanned) (first_passes-rest_after is_word_part (tail ++ r))
 
 -- scan gives an identifier

@@ -14,7 +14,7 @@ use Rattle.jr_lex.specs.Words.{IsWord, keyword_text}
 use Rattle.jr_lex.specs.Symbols.{symbol_text}
 use Rattle.jr_lex.specs.Lexemes.{IsLexeme}
 use Rattle.jr_lex.specs.Faults.{HasBadByte, BeginsNone, HasPointDigit}
-use Rattle.jr_lex.specs.Scan.{with_equals, with_greater, doubled, extended, grown, marked, first_symbol, two_dots, dots, dot_at, slash_at, backslash_at, rest_after, is_not_line_end, line_escape, block_rest, block_behind, line_comment_at, block_comment_at, scan}
+use Rattle.jr_lex.specs.Scan.{with_equals, with_greater, doubled, extended, grown, marked, first_symbol, two_dots, dots, scanned_dot, slash_at, backslash_at, rest_after, is_not_line_end, line_escape, block_rest, block_behind, line_comment_at, block_comment_at, scan}
 use Rattle.jr_lex.proofs.RunLaws.{length-rest_after}
 use Rattle.jr_lex.proofs.FirstLaws.{symbol_cases, other-start, IsBad}
 use Rattle.jr_lex.proofs.WordLaws.{keyword-IsWord}
@@ -148,7 +148,7 @@ dots_means : (at : ℕ) (cs : List ℕ) (found : Option (List ℕ)) → two_dots
 dots_means at cs None e = (46 ∷ [], refl, refl)
 dots_means at cs (Some rest) e = (46 ∷ 46 ∷ 46 ∷ [], ap (λ xs. 46 ∷ xs) (two_dots-parts cs rest e), refl)
 
-pub dot_means : (at : ℕ) (cs : List ℕ) → Means at (46 ∷ cs) (dot_at at cs)
+pub dot_means : (at : ℕ) (cs : List ℕ) → Means at (46 ∷ cs) (scanned_dot at cs)
 dot_means at cs =
     elim (cases_Bool (first_passes is_digit cs)) [
       inl digit ↦ rw digit (refl, inr (record { rest = cs; parts = refl; digit = digit }))
@@ -160,7 +160,7 @@ dots_reach rest None e = (omega arith, λ _. refl)
 dots_reach rest (Some left) e =
     let len = ap length (two_dots-parts rest left e) in (omega (arith, len), λ same. absurd (omega (arith, len, same)))
 
-dot_reach : (at : ℕ) (rest : List ℕ) → Reaches (dot_at at rest) (item.Token (token.Mark symbol.Dot)) rest
+dot_reach : (at : ℕ) (rest : List ℕ) → Reaches (scanned_dot at rest) (item.Token (token.Mark symbol.Dot)) rest
 dot_reach at rest =
     elim (cases_Bool (first_passes is_digit rest)) [
       inl digit ↦ rw digit tt

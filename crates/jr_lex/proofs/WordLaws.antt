@@ -11,7 +11,7 @@ use Rattle.jr_lex.proofs.ScanLaws.{byte_len-chars}
 use Rattle.jr_lex.specs.declared.items.Keyword.{Keyword}
 use Rattle.jr_lex.specs.declared.keywords.TheConstants.{KEYWORDS}
 use Rattle.jr_lex.specs.Characters.{all_pass}
-use Rattle.jr_lex.specs.Scan.{same_text, lookup, keyword_of, kind_of_keyword, word_kind, word_at, front_of, rest_after, is_word, scan, Scanned}
+use Rattle.jr_lex.specs.Scan.{same_text, lookup, keyword_of, kind_of_keyword, word_kind, scanned_word, front_of, rest_after, is_word, scan, Scanned}
 use Rattle.jr_lex.specs.Characters.{is_word_start, is_word_part, byte_len}
 use Rattle.jr_lex.specs.Words.{keyword_text, IsWord, IsIdentifier}
 use Rattle.jr_lex.specs.Lexemes.{IsLexeme}
@@ -341,7 +341,7 @@ kind_lexeme word None e h = record { is_word = h; is_no_keyword = λ k same. abs
     not_both : (k : Keyword) → (let none : Option Keyword = None in none ≡ Some k) → ⊥
     not_both k x = cc
 
-pub word_means : (at c : ℕ) (cs : List ℕ) → is_word_start c ≡ true → Means at (c ∷ cs) (word_at c cs)
+pub word_means : (at c : ℕ) (cs : List ℕ) → is_word_start c ≡ true → Means at (c ∷ cs) (scanned_word c cs)
 word_means at c cs starts =
     let word : List ℕ = c ∷ front_of is_word_part cs in
     (word, ap (λ xs. c ∷ xs) (sym (front_of-rest_after is_word_part cs)), kind_lexeme word (keyword_of word) refl (starts, all_pass-front_of is_word_part cs))

@@ -1,9 +1,9 @@
 use std::alloc::Global;
 use std::process::Abort;
 
-use crate::faults::LexFault;
-use crate::items::{ItemKind, Keyword, Symbol, TokenKind};
-use crate::lexing::items_of;
+use jr_text::Text;
+
+use crate::{ItemKind, Keyword, LexFault, Symbol, TokenKind, TooDeep, is_identifier, lex, measure};
 
 const BLANK: ItemKind = ItemKind::Blank;
 const COMMENT: ItemKind = ItemKind::Comment;
@@ -18,22 +18,19 @@ fn number(value: u32) -> ItemKind {
     ItemKind::Token(TokenKind::Int(value))
 }
 
+fn text_of(rt: &impl Abort, alloc: Global, text: &str) -> Text {
+    Text::new(alloc, text.as_bytes()).expect(rt, "a text")
+}
+
 /// The items of a text are of these kinds, and end at these bytes.
 fn assert_items(rt: &impl Abort, alloc: Global, text: &str, expected: &[(ItemKind, u32)]) {
-    if text.len() > 1_048_576 {
-        return;
-    }
-    match items_of(alloc, text) {
-        Err(fault) => assert!(rt; false, "{text:?}: {fault}"),
-        Ok(items) => {
-            let mut from = 0;
-            assert_eq!(rt; items.len(), expected.len(), "{text:?}");
-            for (item, (kind, to)) in items.iter().zip(expected) {
-                assert_eq!(rt; item.kind, *kind, "{text:?}");
-                assert_eq!(rt; (item.span.from, item.span.to), (from, *to), "{text:?}");
-                from = *to;
-            }
-        }
+    let items = lex(alloc, &text_of(rt, alloc, text)).expect(rt, text);
+    let mut from = 0;
+    assert_eq!(rt; items.len(), expected.len(), "{text:?}");
+    for (item, (kind, to)) in items.iter().zip(expected) {
+        assert_eq!(rt; item.kind, *kind, "{text:?}");
+        assert_eq!(rt; (item.span.from, item.span.to), (from, *to), "{text:?}");
+        from = *to;
     }
 }
 
@@ -148,9 +145,48 @@ fn finds_first_faults(rt: HostRuntime) {
         ("1L # /*", LexFault::BadNumber { at: 0 }),
     ];
     for (text, fault) in cases {
-        if text.len() <= 1_048_576 {
-            let result = items_of(alloc, text);
-            assert_eq!(rt; result.err(), Some(fault), "{text:?}");
-        }
+        let result = lex(alloc, &text_of(&rt, alloc, text));
+        assert_eq!(rt; result.err(), Some(fault), "{text:?}");
+    }
+}
+
+/// The place at which so many copies of a text are too deep.
+fn deep_place(rt: &impl Abort, alloc: Global, piece: &str, count: u32) -> Option<TooDeep> {
+    let mut whole = String::new(alloc);
+    for _ in 0..count {
+        whole.push_str(piece).expect(rt, "memory");
+    }
+    let items = lex(alloc, &text_of(rt, alloc, whole.as_str())).expect(rt, piece);
+    measure(items.as_slice()).err()
+}
+
+#[test]
+fn measures_depth(rt: HostRuntime) {
+    let alloc = rt.alloc();
+    let cases = [
+        ("(", 100, None),
+        ("(", 101, Some(100)),
+        ("[{", 50, None),
+        ("[{", 51, Some(100)),
+        ("()", 149, None),
+        ("a ", 300, None),
+        ("a ", 301, Some(600)),
+        ("else;", 500, None),
+        ("else;", 501, Some(2500)),
+        ("};", 1000, None),
+    ];
+    for (piece, count, at) in cases {
+        let expected = at.map(|at| TooDeep { at });
+        assert_eq!(rt; deep_place(&rt, alloc, piece, count), expected, "{count} of {piece:?}");
+    }
+}
+
+#[test]
+fn knows_identifiers(rt: HostRuntime) {
+    for name in ["a", "$1", "_", "classes", "λέξη", "Null"] {
+        assert!(rt; is_identifier(name), "{name:?}");
+    }
+    for name in ["", "1a", "class", "null", "true", "a.b", "a ", "é-"] {
+        assert!(rt; !is_identifier(name), "{name:?}");
     }
 }
