@@ -1,0 +1,11 @@
+pub mod Counts
+pub mod Fetch
+pub mod Files
+pub mod LogState
+pub mod MemoryShelf
+pub mod MemorySink
+pub mod MemoryState
+pub mod Shelf
+pub mod Sink
+pub mod SinkState
+pub mod StoreLog

@@ -1,0 +1,5 @@
+mod Examples
+mod InPart
+mod KnownLengths
+mod Lookups
+mod Pools

@@ -1,0 +1,94 @@
+ghost use Rattle.std.specs.Prelude.{◌≡◌, ℕ, ◌^◌, ◌<◌, ◌≤◌, List, Option, None, length, IfOk};
+ghost use Rattle.jr_shelf.specs.Shelf.{Files as HeldFiles};
+
+use crate::transfers::{is_out_of_memory, read_whole, write_whole};
+use crate::{Failed, FetchFault, MAX_FILE, Shelf};
+use std::alloc::Global;
+use std::fs;
+use std::rt::Files;
+
+/// Real files, each under its path.
+///
+/// It tells nothing of what it holds. A refusal of memory by the system is want of memory in a
+/// fetch, and a fault in a store.
+#[derive(Drop)]
+pub struct DirShelf<R: Files + Drop> {
+    rt: R,
+    fault_count: u64,
+    served_count: u64,
+    ghost fault_count_fits: { fault_count < 2 ^ 64 },
+    ghost served_count_fits: { served_count < 2 ^ 64 },
+}
+
+impl<R: Files + Drop> DirShelf<R> {
+    /// A shelf over the files that this runtime reaches, with both counts 0.
+    pub fn new(rt: R) -> Self
+        ensures faults { ⟦<DirShelf<R> as Shelf>⟧.faults result ≡ 0 }
+        ensures served { ⟦<DirShelf<R> as Shelf>⟧.served result ≡ 0 }
+    {
+        DirShelf {
+            rt,
+            fault_count: 0,
+            served_count: 0,
+        }
+    }
+}
+
+impl<R: Files + Drop> Shelf for DirShelf<R> {
+    ghost holds = { λ _. None };
+
+    ghost missed = { λ _. None };
+
+    ghost faults = { λ shelf. shelf.fault_count };
+
+    ghost served = { λ shelf. shelf.served_count };
+
+    fn fetch(&mut self, alloc: Global, name: &str) -> Result<Vec<u8>, FetchFault> {
+        match read_file(&self.rt, alloc, name) {
+            Ok(bytes) => {
+                self.served_count = self.served_count.saturating_add(1);
+                Ok(bytes)
+            }
+            Err(FetchFault::Failed) => {
+                self.fault_count = self.fault_count.saturating_add(1);
+                Err(FetchFault::Failed)
+            }
+            Err(FetchFault::TooLong) => Err(FetchFault::TooLong),
+            Err(FetchFault::Memory) => Err(FetchFault::Memory),
+        }
+    }
+
+    fn store(&mut self, name: &str, bytes: &[u8]) -> Result<(), Failed> {
+        match write_file(&self.rt, name, bytes) {
+            Ok(()) => {
+                self.served_count = self.served_count.saturating_add(1);
+                Ok(())
+            }
+            Err(Failed) => {
+                self.fault_count = self.fault_count.saturating_add(1);
+                Err(Failed)
+            }
+        }
+    }
+
+    ghost faults_fit = { λ shelf. shelf.fault_count_fits };
+
+    ghost served_fit = { λ shelf. shelf.served_count_fits };
+}
+
+fn read_file<R: Files>(rt: &R, alloc: Global, name: &str) -> Result<Vec<u8>, FetchFault>
+    ensures { IfOk result (λ bytes. length bytes.items ≤ MAX_FILE) }
+{
+    match fs::open(rt, name) {
+        Ok(mut file) => read_whole(&mut file, alloc),
+        Err(fault) if is_out_of_memory(&fault) => Err(FetchFault::Memory),
+        Err(_) => Err(FetchFault::Failed),
+    }
+}
+
+fn write_file<R: Files>(rt: &R, name: &str, bytes: &[u8]) -> Result<(), Failed> {
+    match fs::create(rt, name) {
+        Ok(mut file) => write_whole(&mut file, bytes),
+        Err(_) => Err(Failed),
+    }
+}

@@ -1,0 +1,23 @@
+//! Small sources: one class of static `int` fields and static `void` methods without nesting. They are read, checked
+//! and bound here, and one of their locals is renamed.
+#![tactic(auto)]
+
+mod bound;
+mod declarations;
+mod changes;
+mod declared;
+mod methods;
+mod occurrences;
+mod phases;
+mod plans;
+mod reader;
+mod readings;
+mod refusals;
+mod sound;
+mod tables;
+mod targets;
+mod tokens;
+
+pub use occurrences::{Occurrence, Role};
+pub use plans::{Outcome, rename};
+pub use refusals::{Declaration, Refusal, SourceKind};
