@@ -12,11 +12,11 @@ use Rattle.jr_lex.specs.declared.items.Symbol.TheVariants as symbol
 use Rattle.jr_lex.specs.declared.faults.LexFault.{LexFault}
 use Rattle.jr_lex.specs.declared.faults.LexFault.TheVariants as fault
 use Rattle.jr_lex.specs.Characters.{is_word_start, is_word_part, is_digit, all_pass, first_passes, byte_len}
-use Rattle.jr_lex.specs.Words.{IsIdentifier, IsName}
+use Rattle.jr_lex.specs.Words.{IsIdentifier}
 use Rattle.jr_lex.specs.Lexemes.{IsLexeme}
 use Rattle.jr_lex.specs.Faults.{IsFaultAt}
 use Rattle.jr_lex.specs.Lexes.{IsItemAt, Cuts, IsEnd, Lexes, span_of}
-use Rattle.jr_lex.specs.Replacing.{item_of, word_at, dot_at, moved, EndsWithWord, WordReplaced, WordSwapped, WordQualified}
+use Rattle.jr_lex.specs.Replacing.{IsName, item_of, word_at, dot_at, moved, EndsWithWord, WordReplaced, WordSwapped, WordQualified}
 use Rattle.std.proofs.Math.Utf8.{scalars, scalar}
 use Rattle.std.specs.Prelude.{Bool}
 use Rattle.std.proofs.lemmas.Bool.{false≢true, and_parts, and_from, cond-false}

@@ -1,14 +1,19 @@
 -- A word of a text that lexes is replaced, and the text lexes again.
 use Rattle.std.specs.Prelude.{◌≡◌, ◌+◌, ◌-◌, ℕ, true, List, [], ◌∷◌, ◌++◌, length, map}
-use Rattle.std.specs.Str.{chars}
+use Rattle.std.specs.Str.{IsUtf8, chars}
 use Rattle.jr_lex.specs.declared.items.Item.{Item}
 use Rattle.jr_lex.specs.declared.items.ItemKind.{ItemKind}
 use Rattle.jr_lex.specs.declared.items.ItemKind.TheVariants as item
 use Rattle.jr_lex.specs.declared.items.TokenKind.TheVariants as token
 use Rattle.jr_lex.specs.declared.items.Symbol.TheVariants as symbol
 use Rattle.jr_lex.specs.Characters.{is_word_start, first_passes}
-use Rattle.jr_lex.specs.Words.{IsName}
+use Rattle.jr_lex.specs.Words.{IsIdentifier}
 use Rattle.jr_lex.specs.Lexes.{Lexes, span_of}
+
+-- the bytes are an identifier
+pub record IsName (bytes : List ℕ) : Type 0 where
+  pub is_text : IsUtf8 bytes
+  pub is_identifier : IsIdentifier (chars bytes)
 
 abbrev pub item_of : ItemKind → ℕ → ℕ → Item
 item_of kind from to = record { kind = kind; span = span_of from to }

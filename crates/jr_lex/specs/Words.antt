@@ -1,6 +1,5 @@
 -- Words: identifiers, keywords, and the literals that are spelled as words (JLS 3.8, 3.9, 3.10.3, 3.10.7).
 use Rattle.std.specs.Prelude.{◌≡◌, ◌≢◌, ℕ, true, codes, List, [], ◌∷◌}
-use Rattle.std.specs.Str.{IsUtf8, chars}
 use Rattle.jr_lex.specs.declared.items.Keyword.{Keyword}
 use Rattle.jr_lex.specs.declared.items.Keyword.TheVariants as keyword
 use Rattle.jr_lex.specs.Characters.{is_word_start, is_word_part, all_pass}
@@ -70,8 +69,3 @@ IsWord (c ∷ cs) = (is_word_start c ≡ true) × (all_pass is_word_part cs ≡ 
 pub record IsIdentifier (word : List ℕ) : Type 0 where
   pub is_word : IsWord word
   pub is_no_keyword : (k : Keyword) → word ≢ keyword_text k
-
--- the bytes are an identifier
-pub record IsName (bytes : List ℕ) : Type 0 where
-  pub is_text : IsUtf8 bytes
-  pub is_identifier : IsIdentifier (chars bytes)

@@ -2,7 +2,7 @@
 
 ghost use Rattle.std.specs.Prelude.{◌≡◌, ◌↔◌, map, IsTrue};
 ghost use Rattle.std.specs.Str.{chars};
-ghost use Rattle.jr_lex.specs.Words.{IsName};
+ghost use Rattle.jr_lex.specs.Words.{IsIdentifier};
 ghost use Rattle.jr_lex.specs.Characters.{is_blank, is_word_part};
 ghost use Rattle.jr_lex.specs.Scan as spec;
 
@@ -69,7 +69,7 @@ fn is_word(name: &str) -> bool
 
 /// Whether the whole name is one identifier (JLS 3.8): a word that is no keyword and no literal.
 pub fn is_identifier(name: &str) -> bool
-    ensures { IsTrue result ↔ IsName name.now }
+    ensures { IsTrue result ↔ IsIdentifier (chars name.now) }
 {
     is_word(name) && keyword_of(name.as_bytes()).is_none()
 }
