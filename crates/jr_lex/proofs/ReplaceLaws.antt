@@ -1,9 +1,9 @@
 -- Items that are replaced, and items that move.
-use Rattle.std.proofs.Common.{◌≡◌, ℕ, ◌+◌, ◌-◌, ◌≤◌, ◌<◌, ◌⊎◌, true, false, List, [], ◌∷◌, ◌++◌, length, map, Ok, Err, refl, sym, ap, ◌∙◌, inl, inr, subst, arith}
+use Rattle.std.proofs.Common.{◌≡◌, ℕ, ◌+◌, ◌-◌, ◌≤◌, true, false, List, [], ◌∷◌, ◌++◌, length, Ok, refl, sym, ap, ◌∙◌, inl, inr, subst, arith}
 use Rattle.std.specs.Prelude.{encode_utf8_all}
 use Rattle.std.specs.Str.{IsUtf8, chars}
 use Rattle.std.proofs.lemmas.Str.{encodes-chars, encodes-append, chars_from_encodes, chars-append, IsUtf8-append, scalars-chars, chars_past_char, encode_ascii}
-use Rattle.std.proofs.lemmas.List.{append_assoc, append_cancel_right, append_cancel_left, append-nil, length-append}
+use Rattle.std.proofs.lemmas.List.{append_assoc, append_cancel_right, append-nil, length-append}
 use Rattle.jr_lex.specs.declared.items.Item.{Item}
 use Rattle.jr_lex.specs.declared.items.ItemKind.{ItemKind}
 use Rattle.jr_lex.specs.declared.items.ItemKind.TheVariants as item
@@ -11,7 +11,7 @@ use Rattle.jr_lex.specs.declared.items.TokenKind.TheVariants as token
 use Rattle.jr_lex.specs.declared.items.Symbol.TheVariants as symbol
 use Rattle.jr_lex.specs.declared.faults.LexFault.{LexFault}
 use Rattle.jr_lex.specs.declared.faults.LexFault.TheVariants as fault
-use Rattle.jr_lex.specs.Characters.{is_word_start, is_word_part, is_digit, all_pass, first_passes, byte_len}
+use Rattle.jr_lex.specs.Characters.{is_word_start, is_word_part, first_passes, byte_len}
 use Rattle.jr_lex.specs.Words.{IsIdentifier}
 use Rattle.jr_lex.specs.Lexemes.{IsLexeme}
 use Rattle.jr_lex.specs.Faults.{IsFaultAt}
@@ -26,7 +26,7 @@ use Rattle.jr_lex.proofs.ScanLaws.{byte_len-chars}
 use Rattle.jr_lex.proofs.FirstLaws.{scan-word, scan-dot, start-apart, word_start-digit}
 use Rattle.jr_lex.proofs.WordLaws.{IsIdentifier-none, encodes-ascii}
 use Rattle.jr_lex.proofs.RunLaws.{append_apart, byte_len-append, byte_len-ascii, first_passes-rest_after, rest_after-append, rest_after-none, front_of-append, front_of-none}
-use Rattle.jr_lex.proofs.ScanMeaning.{scan-item, item-scan, no_empty, TakesItem}
+use Rattle.jr_lex.proofs.ScanMeaning.{scan-item, item-scan, no_empty}
 use Rattle.jr_lex.proofs.LocalLaws.{Alike, Alike-append, scan_local, same_ok, rest_same, no_dots}
 use Rattle.jr_lex.proofs.CutLaws.{Cuts-map, Cuts-append}
 
@@ -96,11 +96,14 @@ Cuts-swap (i ∷ items) at front t u alike h =
     let fronts : f ++ g ≡ front = append_cancel_right (f ++ g) front t (append_assoc f g t ∙ sym whole) in
     let other : f ++ (g ++ u) ≡ front ++ u = sym (append_assoc f g u) ∙ ap (λ x. x ++ u) fronts in
     let here : IsItemAt at (f ++ (g ++ t)) i f (g ++ t) =
-        subst (λ x. IsItemAt at x i f (g ++ t)) whole (subst (λ x. IsItemAt at (front ++ t) i f x) rest h.2) in
+    subst (λ x. IsItemAt at x i f (g ++ t)) whole (subst (λ x. IsItemAt at (front ++ t) i f x) rest h.2) in
     let there : IsItemAt at (f ++ (g ++ u)) i f (g ++ u) = item_local at f (g ++ t) (g ++ u) i (Alike-append g t u alike) here in
-    let more = Cuts-swap items (at + byte_len f) g t u alike (subst (λ x. Cuts (Before t) (at + byte_len f) x items) rest h.3) in
-    (f, g ++ u, subst (λ x. IsItemAt at x i f (g ++ u)) other there,
-     Cuts-map _ (λ a x. (x ≡ u) × (a ≡ at + byte_len front)) (λ a x k. (k.0, place a f g fronts k.1)) (at + byte_len f) (g ++ u) items more)
+    let more = Cuts-swap items (at + byte_len f) g t u alike (subst (λ x. Cuts (Before t) (at + byte_len f) x items) rest h.3) in (
+      f,
+      g ++ u,
+      subst (λ x. IsItemAt at x i f (g ++ u)) other there,
+      Cuts-map _ (λ a x. (x ≡ u) × (a ≡ at + byte_len front)) (λ a x k. (k.0, place a f g fronts k.1)) (at + byte_len f) (g ++ u) items more,
+    )
   where
     place : (a : ℕ) (f g : List ℕ) → f ++ g ≡ front → a ≡ at + byte_len f + byte_len g → a ≡ at + byte_len front
     place a f g e k = omega (arith, k, byte_len-append f g, ap byte_len e)
@@ -134,9 +137,12 @@ pub Cuts-moved : (R : List ℕ → Type 0) (gone come : ℕ) (items : List Item)
     → Cuts (λ a x. R x) at text items → Cuts (λ a x. R x) (at + come - gone) text (moved gone come items)
 Cuts-moved R gone come [] at text far h = h
 Cuts-moved R gone come (i ∷ items) at text far h =
-    let place : at + byte_len h.0 + come - gone ≡ at + come - gone + byte_len h.0 = omega arith in
-    (h.0, h.1, item_moved gone come at text h.0 h.1 i far h.2,
-     subst (λ n. Cuts (λ a x. R x) n h.1 (moved gone come items)) place (Cuts-moved R gone come items (at + byte_len h.0) h.1 (omega arith) h.3))
+    let place : at + byte_len h.0 + come - gone ≡ at + come - gone + byte_len h.0 = omega arith in (
+      h.0,
+      h.1,
+      item_moved gone come at text h.0 h.1 i far h.2,
+      subst (λ n. Cuts (λ a x. R x) n h.1 (moved gone come items)) place (Cuts-moved R gone come items (at + byte_len h.0) h.1 (omega arith) h.3),
+    )
 
 -- ---- words
 
@@ -201,16 +207,16 @@ ends_before N r inside ends cut stops =
     let whole : N ≡ front ++ w = found.parts ∙ ap (λ x. front ++ x) left in
     let text : front ++ (w ++ r) ≡ N ++ r = sym (append_assoc front w r) ∙ ap (λ x. x ++ r) (sym whole) in
     let here : IsItemAt (byte_len front) (w ++ step.1) ends.last w step.1 =
-        subst (λ n. IsItemAt n (w ++ step.1) ends.last w step.1) (omega arith) (subst (λ x. IsItemAt (0 + byte_len front) x ends.last w step.1) step.2.taken.parts step.2) in
+    subst (λ n. IsItemAt n (w ++ step.1) ends.last w step.1) (omega arith) (subst (λ x. IsItemAt (0 + byte_len front) x ends.last w step.1) step.2.taken.parts step.2) in
     let there : IsItemAt (byte_len front) (w ++ r) ends.last w r = word_before (byte_len front) w step.1 r ends.last ends.is_word stops here in
     let identifier : IsIdentifier w = subst (λ k. IsLexeme k w) ends.is_word step.2.taken.lexeme in
     let starts = identifier_starts w identifier in
     let before : Cuts (Before w) 0 (front ++ w) ends.front = subst (λ x. Cuts (Before w) 0 x ends.front) whole (subst (λ x. Cuts (Before x) 0 N ends.front) left found.cut) in
     let swapped = Cuts-swap ends.front 0 front w (w ++ r) (starts_alike w (w ++ r) starts (first_front is_word_start w r starts)) before in
     subst (λ x. Cuts (Before r) 0 x inside) text (subst (λ xs. Cuts (Before r) 0 (front ++ (w ++ r)) xs) (sym ends.parts)
-        (Cuts-append (λ a x. (x ≡ w ++ r) × (a ≡ 0 + byte_len front)) (Before r) (ends.last ∷ [])
-            (λ a x k. (w, r, subst (λ n. IsItemAt n x ends.last w r) (sym (k.1 ∙ (omega arith))) (subst (λ y. IsItemAt (byte_len front) y ends.last w r) (sym k.0) there), refl))
-            0 (front ++ (w ++ r)) ends.front swapped))
+    (Cuts-append (λ a x. (x ≡ w ++ r) × (a ≡ 0 + byte_len front)) (Before r) (ends.last ∷ [])
+    (λ a x k. (w, r, subst (λ n. IsItemAt n x ends.last w r) (sym (k.1 ∙ (omega arith))) (subst (λ y. IsItemAt (byte_len front) y ends.last w r) (sym k.0) there), refl))
+    0 (front ++ (w ++ r)) ends.front swapped))
 
 pub replaced_cut : (F w r N : List ℕ) (before inside after : List Item) (word : Item) → word.kind ≡ word_kind_of
     → Cuts (Before (w ++ r)) 0 (F ++ (w ++ r)) before
@@ -224,19 +230,19 @@ replaced_cut F w r N before inside after word is cut1 item1 cut2 cut3 starts end
     let first = Cuts-swap before 0 F (w ++ r) (N ++ r) alike cut1 in
     let stops = word_stops (byte_len F) w r word is item1 in
     let second : Cuts (λ a x. (x ≡ r) × (a ≡ byte_len F + byte_len N)) (byte_len F) (N ++ r) (moved 0 (byte_len F) inside) =
-        Cuts-place (moved 0 (byte_len F) inside) (byte_len F) N r
-        (subst (λ n. Cuts (Before r) n (N ++ r) (moved 0 (byte_len F) inside)) (omega arith)
-            (Cuts-moved (λ x. x ≡ r) 0 (byte_len F) inside 0 (N ++ r) (omega arith) (ends_before N r inside ends cut3 stops))) in
+    Cuts-place (moved 0 (byte_len F) inside) (byte_len F) N r
+    (subst (λ n. Cuts (Before r) n (N ++ r) (moved 0 (byte_len F) inside)) (omega arith)
+    (Cuts-moved (λ x. x ≡ r) 0 (byte_len F) inside 0 (N ++ r) (omega arith) (ends_before N r inside ends cut3 stops))) in
     let third : Cuts IsEnd (byte_len F + byte_len N) r (moved (byte_len w) (byte_len N) after) =
-        subst (λ n. Cuts IsEnd n r (moved (byte_len w) (byte_len N) after)) (omega arith)
-        (Cuts-moved (λ x. x ≡ []) (byte_len w) (byte_len N) after (byte_len F + byte_len w) r (omega arith) cut2) in
+    subst (λ n. Cuts IsEnd n r (moved (byte_len w) (byte_len N) after)) (omega arith)
+    (Cuts-moved (λ x. x ≡ []) (byte_len w) (byte_len N) after (byte_len F + byte_len w) r (omega arith) cut2) in
     Cuts-append (λ a x. (x ≡ r) × (a ≡ byte_len F + byte_len N)) IsEnd (moved (byte_len w) (byte_len N) after)
-        (λ a x k. subst (λ n. Cuts IsEnd n x (moved (byte_len w) (byte_len N) after)) (sym k.1) (subst (λ y. Cuts IsEnd (byte_len F + byte_len N) y (moved (byte_len w) (byte_len N) after)) (sym k.0) third))
-        0 (F ++ (N ++ r)) (before ++ moved 0 (byte_len F) inside)
-        (Cuts-append (λ a x. (x ≡ N ++ r) × (a ≡ 0 + byte_len F)) (λ a x. (x ≡ r) × (a ≡ byte_len F + byte_len N)) (moved 0 (byte_len F) inside)
-            (λ a x k. subst (λ n. Cuts (λ a x. (x ≡ r) × (a ≡ byte_len F + byte_len N)) n x (moved 0 (byte_len F) inside)) (sym (k.1 ∙ (omega arith)))
-                (subst (λ y. Cuts (λ a x. (x ≡ r) × (a ≡ byte_len F + byte_len N)) (byte_len F) y (moved 0 (byte_len F) inside)) (sym k.0) second))
-            0 (F ++ (N ++ r)) before first)
+    (λ a x k. subst (λ n. Cuts IsEnd n x (moved (byte_len w) (byte_len N) after)) (sym k.1) (subst (λ y. Cuts IsEnd (byte_len F + byte_len N) y (moved (byte_len w) (byte_len N) after)) (sym k.0) third))
+    0 (F ++ (N ++ r)) (before ++ moved 0 (byte_len F) inside)
+    (Cuts-append (λ a x. (x ≡ N ++ r) × (a ≡ 0 + byte_len F)) (λ a x. (x ≡ r) × (a ≡ byte_len F + byte_len N)) (moved 0 (byte_len F) inside)
+    (λ a x k. subst (λ n. Cuts (λ a x. (x ≡ r) × (a ≡ byte_len F + byte_len N)) n x (moved 0 (byte_len F) inside)) (sym (k.1 ∙ (omega arith)))
+    (subst (λ y. Cuts (λ a x. (x ≡ r) × (a ≡ byte_len F + byte_len N)) (byte_len F) y (moved 0 (byte_len F) inside)) (sym k.0) second))
+    0 (F ++ (N ++ r)) before first)
 
 -- ---- bytes
 
@@ -259,7 +265,7 @@ in_three : (front old rest F w r : List ℕ) → IsUtf8 (front ++ old ++ rest) �
     → InThree front old rest F w r
 in_three front old rest F w r u e len_front len_old =
     let bytes : front ++ (old ++ rest) ≡ encode_utf8_all F ++ encode_utf8_all (w ++ r) =
-        sym (append_assoc front old rest) ∙ sym (encodes-chars (front ++ old ++ rest) u) ∙ ap encode_utf8_all e ∙ encodes-append F (w ++ r) in
+    sym (append_assoc front old rest) ∙ sym (encodes-chars (front ++ old ++ rest) u) ∙ ap encode_utf8_all e ∙ encodes-append F (w ++ r) in
     let one = append_apart front (encode_utf8_all F) (old ++ rest) (encode_utf8_all (w ++ r)) len_front bytes in
     let two = append_apart old (encode_utf8_all w) rest (encode_utf8_all r) len_old (one.1 ∙ encodes-append w r) in
     let all = scalars_parts F (w ++ r) (ap scalars (sym e) ∙ scalars-chars (front ++ old ++ rest) u) in
@@ -300,7 +306,7 @@ word_replaced front old rest new before inside after h n starts ends =
     let three = in_three front old rest F w r h.is_text whole len_front len_old in
     let cut1 : Cuts (Before (w ++ r)) 0 (F ++ (w ++ r)) before = subst (λ x. Cuts (Before (w ++ r)) 0 x before) whole (subst (λ x. Cuts (Before x) 0 (chars bytes) before) left found.cut) in
     let item1 : IsItemAt (byte_len F) (w ++ r) word w r =
-        subst (λ a. IsItemAt a (w ++ r) word w r) (omega arith) (subst (λ x. IsItemAt (0 + byte_len F) x word w r) left step.2) in
+    subst (λ a. IsItemAt a (w ++ r) word w r) (omega arith) (subst (λ x. IsItemAt (0 + byte_len F) x word w r) left step.2) in
     let cut2 : Cuts IsEnd (byte_len F + byte_len w) r after = subst (λ a. Cuts IsEnd a r after) (omega arith) step.3 in
     let cut = replaced_cut F w r (chars new) before inside after word refl cut1 item1 cut2 n.cut starts ends in
     let len_new : byte_len (chars new) ≡ length new = byte_len-chars new n.is_text in
@@ -308,10 +314,10 @@ word_replaced front old rest new before inside after h n starts ends =
     record {
       is_text = IsUtf8-append (front ++ new) rest (IsUtf8-append front new three.front_text n.is_text) three.rest_text;
       cut =
-        subst (λ x. Cuts IsEnd 0 x (before ++ moved 0 (length front) inside ++ moved (length old) (length new) after)) (sym text)
-        (subst (λ a. Cuts IsEnd 0 (F ++ (chars new ++ r)) (before ++ moved 0 a inside ++ moved (length old) (length new) after)) (sym len_front)
-        (subst (λ a. Cuts IsEnd 0 (F ++ (chars new ++ r)) (before ++ moved 0 (byte_len F) inside ++ moved a (length new) after)) (sym len_old)
-        (subst (λ a. Cuts IsEnd 0 (F ++ (chars new ++ r)) (before ++ moved 0 (byte_len F) inside ++ moved (byte_len w) a after)) len_new cut)));
+          subst (λ x. Cuts IsEnd 0 x (before ++ moved 0 (length front) inside ++ moved (length old) (length new) after)) (sym text)
+          (subst (λ a. Cuts IsEnd 0 (F ++ (chars new ++ r)) (before ++ moved 0 a inside ++ moved (length old) (length new) after)) (sym len_front)
+          (subst (λ a. Cuts IsEnd 0 (F ++ (chars new ++ r)) (before ++ moved 0 (byte_len F) inside ++ moved a (length new) after)) (sym len_old)
+          (subst (λ a. Cuts IsEnd 0 (F ++ (chars new ++ r)) (before ++ moved 0 (byte_len F) inside ++ moved (byte_len w) a after)) len_new cut)));
     }
 
 -- ---- identifiers that lex alone
@@ -333,7 +339,7 @@ dot_item : (at : ℕ) (r : List ℕ) → first_passes is_word_start r ≡ true �
 dot_item at [] starts = absurd (false≢true starts)
 dot_item at (c ∷ cs) starts =
     let scanned : scan at 46 (c ∷ cs) ≡ Ok (item.Token (token.Mark symbol.Dot), c ∷ cs) =
-        scan-dot at (c ∷ cs) ∙ (cond-false _ _ _ (word_start-digit c starts) ∙ ap (dots (c ∷ cs)) (no_dots c cs (start-apart c 46 starts refl))) in
+    scan-dot at (c ∷ cs) ∙ (cond-false _ _ _ (word_start-digit c starts) ∙ ap (dots (c ∷ cs)) (no_dots c cs (start-apart c 46 starts refl))) in
     let found = scan-item at 46 (c ∷ cs) (item.Token (token.Mark symbol.Dot)) (c ∷ cs) scanned in
     let fronts : found.front ≡ 46 ∷ [] = append_cancel_right found.front (46 ∷ []) (c ∷ cs) (sym found.item.taken.parts) in
     subst (λ n. IsItemAt at (46 ∷ c ∷ cs) (item_of (item.Token (token.Mark symbol.Dot)) at (at + n)) (46 ∷ []) (c ∷ cs)) one_byte
@@ -347,8 +353,8 @@ name_lexes : (name : List ℕ) → IsName name → Lexes name (word_at 0 (length
 name_lexes name h =
     let len : byte_len (chars name) ≡ length name = byte_len-chars name h.is_text in
     let here : IsItemAt 0 (chars name) (word_at 0 (length name)) (chars name) [] =
-        subst (λ n. IsItemAt 0 (chars name) (word_at 0 n) (chars name) []) len
-        (subst (λ x. IsItemAt 0 x (word_at 0 (byte_len (chars name))) (chars name) []) (append-nil (chars name)) (word_item 0 (chars name) [] h.is_identifier refl)) in
+    subst (λ n. IsItemAt 0 (chars name) (word_at 0 n) (chars name) []) len
+    (subst (λ x. IsItemAt 0 x (word_at 0 (byte_len (chars name))) (chars name) []) (append-nil (chars name)) (word_item 0 (chars name) [] h.is_identifier refl)) in
     record { is_text = h.is_text; cut = (chars name, [], here, refl) }
 
 pub word_swapped : WordSwapped
@@ -358,7 +364,7 @@ word_swapped front old rest new before after n h =
     let replaced = word_replaced front old rest new before inside after h lexes (identifier_starts (chars new) n.is_identifier) (record { front = []; last = word_at 0 (length new); parts = refl; is_word = refl }) in
     let same : moved 0 (length front) inside ≡ word_at (length front) (length new) ∷ [] = ap (λ i. i ∷ []) (item_same word_kind_of _ _ _ _ (omega arith) (omega arith)) in
     let items : before ++ moved 0 (length front) inside ++ moved (length old) (length new) after ≡ before ++ word_at (length front) (length new) ∷ moved (length old) (length new) after =
-        ap (λ xs. before ++ xs ++ moved (length old) (length new) after) same ∙ append_assoc before (word_at (length front) (length new) ∷ []) (moved (length old) (length new) after) in
+    ap (λ xs. before ++ xs ++ moved (length old) (length new) after) same ∙ append_assoc before (word_at (length front) (length new) ∷ []) (moved (length old) (length new) after) in
     subst (Lexes (front ++ new ++ rest)) items replaced
 
 -- a `.` and a text behind it
@@ -377,19 +383,19 @@ qualified_lexes class new m n =
     let behind = dot_text new n.is_text in
     let text : chars (class ++ 46 ∷ new) ≡ C ++ 46 ∷ N = chars-append class (46 ∷ new) m.is_text ∙ ap (λ t. C ++ t) behind.1 in
     let one : IsItemAt 0 (C ++ 46 ∷ N) (word_at 0 (length class)) C (46 ∷ N) =
-        subst (λ k. IsItemAt 0 (C ++ 46 ∷ N) (word_at 0 k) C (46 ∷ N)) len_class (word_item 0 C (46 ∷ N) m.is_identifier (dot_stops N)) in
+    subst (λ k. IsItemAt 0 (C ++ 46 ∷ N) (word_at 0 k) C (46 ∷ N)) len_class (word_item 0 C (46 ∷ N) m.is_identifier (dot_stops N)) in
     let two : IsItemAt (0 + byte_len C) (46 ∷ N) (dot_at (length class)) (46 ∷ []) N =
-        subst (λ a. IsItemAt (0 + byte_len C) (46 ∷ N) (dot_at a) (46 ∷ []) N) (omega arith) (dot_item (0 + byte_len C) N (identifier_starts N n.is_identifier)) in
+    subst (λ a. IsItemAt (0 + byte_len C) (46 ∷ N) (dot_at a) (46 ∷ []) N) (omega arith) (dot_item (0 + byte_len C) N (identifier_starts N n.is_identifier)) in
     let third_at : ℕ = 0 + byte_len C + byte_len (46 ∷ []) in
     let place : third_at ≡ length class + 1 = omega (arith, one_byte) in
     let three : IsItemAt third_at N (word_at (length class + 1) (length new)) N [] =
-        subst (λ a. IsItemAt third_at N (word_at a (length new)) N []) place
-        (subst (λ k. IsItemAt third_at N (word_at third_at k) N []) len_new
-        (subst (λ x. IsItemAt third_at x (word_at third_at (byte_len N)) N []) (append-nil N) (word_item third_at N [] n.is_identifier refl))) in
+    subst (λ a. IsItemAt third_at N (word_at a (length new)) N []) place
+    (subst (λ k. IsItemAt third_at N (word_at third_at k) N []) len_new
+    (subst (λ x. IsItemAt third_at x (word_at third_at (byte_len N)) N []) (append-nil N) (word_item third_at N [] n.is_identifier refl))) in
     record {
       is_text = IsUtf8-append class (46 ∷ new) m.is_text behind.0;
       cut = subst (λ x. Cuts IsEnd 0 x (word_at 0 (length class) ∷ dot_at (length class) ∷ word_at (length class + 1) (length new) ∷ [])) (sym text)
-        (C, 46 ∷ N, one, (46 ∷ [], N, two, (N, [], three, refl)));
+          (C, 46 ∷ N, one, (46 ∷ [], N, two, (N, [], three, refl)));
     }
 
 three_same : (a b c x y z : Item) → a ≡ x → b ≡ y → c ≡ z → a ∷ b ∷ c ∷ [] ≡ x ∷ y ∷ z ∷ []
@@ -403,18 +409,18 @@ word_qualified front old rest class new before after m n h =
     let inside : List Item = word_at 0 lc ∷ dot_at lc ∷ word_at (lc + 1) (length new) ∷ [] in
     let lexes = qualified_lexes class new m n in
     let starts : first_passes is_word_start (chars whole) ≡ true =
-        ap (first_passes is_word_start) (chars-append class (46 ∷ new) m.is_text) ∙ first_front is_word_start (chars class) (chars (46 ∷ new)) (identifier_starts (chars class) m.is_identifier) in
+    ap (first_passes is_word_start) (chars-append class (46 ∷ new) m.is_text) ∙ first_front is_word_start (chars class) (chars (46 ∷ new)) (identifier_starts (chars class) m.is_identifier) in
     let replaced = word_replaced front old rest whole before inside after h lexes starts
-        (record { front = word_at 0 lc ∷ dot_at lc ∷ []; last = word_at (lc + 1) (length new); parts = refl; is_word = refl }) in
+    (record { front = word_at 0 lc ∷ dot_at lc ∷ []; last = word_at (lc + 1) (length new); parts = refl; is_word = refl }) in
     let placed : List Item = word_at lf lc ∷ dot_at (lf + lc) ∷ word_at (lf + lc + 1) (length new) ∷ [] in
     let same : moved 0 lf inside ≡ placed =
-        three_same _ _ _ _ _ _
-            (item_same word_kind_of _ _ _ _ (omega arith) (omega arith))
-            (item_same (item.Token (token.Mark symbol.Dot)) _ _ _ _ (omega arith) (omega arith))
-            (item_same word_kind_of _ _ _ _ (omega arith) (omega arith)) in
+    three_same _ _ _ _ _ _
+    (item_same word_kind_of _ _ _ _ (omega arith) (omega arith))
+    (item_same (item.Token (token.Mark symbol.Dot)) _ _ _ _ (omega arith) (omega arith))
+    (item_same word_kind_of _ _ _ _ (omega arith) (omega arith)) in
     let len : length whole ≡ lc + 1 + length new = omega (arith, length-append class (46 ∷ new)) in
     let items : before ++ moved 0 lf inside ++ moved (length old) (length whole) after ≡ before ++ (placed ++ moved (length old) (lc + 1 + length new) after) =
-        ap (λ xs. before ++ xs ++ moved (length old) (length whole) after) same
-        ∙ ap (λ k. before ++ placed ++ moved (length old) k after) len
-        ∙ append_assoc before placed (moved (length old) (lc + 1 + length new) after) in
+    ap (λ xs. before ++ xs ++ moved (length old) (length whole) after) same
+    ∙ ap (λ k. before ++ placed ++ moved (length old) k after) len
+    ∙ append_assoc before placed (moved (length old) (lc + 1 + length new) after) in
     subst (Lexes (front ++ whole ++ rest)) items replaced

@@ -1,5 +1,5 @@
 -- What is wrong with a text at a place.
-use Rattle.std.specs.Prelude.{◌≡◌, ◌≢◌, ◌<◌, ◌+◌, ◌⊎◌, ◌||◌, ◌==◌, not, ℕ, true, false, List, [], ◌∷◌, ◌++◌, length, codes}
+use Rattle.std.specs.Prelude.{◌≡◌, ◌≢◌, ◌<◌, ◌+◌, ◌⊎◌, ◌||◌, ◌==◌, not, ℕ, true, false, List, [], ◌∷◌, ◌++◌, codes}
 use Rattle.jr_lex.specs.declared.items.ItemKind.{ItemKind}
 use Rattle.jr_lex.specs.declared.faults.LexFault.{LexFault}
 use Rattle.jr_lex.specs.declared.faults.LexFault.TheVariants as fault

@@ -1,5 +1,5 @@
 -- Where the items of a text stand in it.
-use Rattle.std.specs.Prelude.{◌≡◌, ◌<◌, ℕ, List, [], ◌∷◌, ◌++◌, length, fold}
+use Rattle.std.specs.Prelude.{◌≡◌, ◌<◌, ℕ, List, ◌∷◌, ◌++◌, length, fold}
 use Rattle.std.specs.Str.{chars}
 use Rattle.jr_text.specs.Spans.{CanCut, part_of}
 use Rattle.jr_lex.specs.declared.items.Item.{Item}

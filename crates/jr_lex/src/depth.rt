@@ -91,8 +91,16 @@ impl Counts {
     {
         Counts {
             unclosed: unclosed_behind(self.unclosed, token),
-            since: if is_separator(token) { 0 } else { self.since + 1 },
-            elses: if is_else(token) { self.elses + 1 } else { self.elses },
+            since: if is_separator(token) {
+                0
+            } else {
+                self.since + 1
+            },
+            elses: if is_else(token) {
+                self.elses + 1
+            } else {
+                self.elses
+            },
         }
     }
 
@@ -126,9 +134,7 @@ pub fn measure(items: &[Item]) -> Result<(), TooDeep>
         if let ItemKind::Token(token) = item.kind {
             counts = counts.behind(token);
             if counts.are_beyond() {
-                return Err(TooDeep {
-                    at: item.span.from,
-                });
+                return Err(TooDeep { at: item.span.from });
             }
         }
     }

@@ -15,8 +15,7 @@ pub fn one_answer()
     ensures never_both { (bytes : List ℕ) (items : List Item) (fault : LexFault) → Lexes bytes items → IsFirstFault bytes fault → ⊥ }
     ensures always_one { (bytes : List ℕ) → IsUtf8 bytes
         → ((items : List Item) × Lexes bytes items) ⊎ ((fault : LexFault) × IsFirstFault bytes fault) }
-{
-}
+{}
 
 /// A word of a text may be replaced: by another identifier, by two with a `.` between them, or by anything that lexes
 /// by itself, begins like a word and ends with an identifier. The text lexes again, the items in front stay, and those
@@ -25,13 +24,11 @@ pub fn words_may_be_replaced()
     ensures replaced { WordReplaced }
     ensures swapped { WordSwapped }
     ensures qualified { WordQualified }
-{
-}
+{}
 
 /// Each item has a byte at least, stands where the one in front of it ends, can be cut out of the text, and its bytes are
 /// a lexeme of its kind. The last ends where the text does.
 pub fn items_are_placed()
     ensures items { ItemsPlaced }
     ensures last { LastPlaced }
-{
-}
+{}

@@ -7,14 +7,12 @@ ghost use Rattle.jr_lex.specs.Lexes.{Lexes, IsFirstFault};
 ghost use Rattle.jr_lex.specs.Answers.{IsFault};
 ghost use Rattle.jr_lex.specs.declared.faults.LexFault.{LexFault};
 
-use std::alloc::Global;
-
-use jr_text::{Span, Text};
-
 use crate::characters::split_first;
 use crate::faults::LexFault;
 use crate::items::Item;
 use crate::scan::scan;
+use jr_text::{Span, Text};
+use std::alloc::Global;
 
 /// The items of a text, or what is wrong with it first.
 pub(crate) fn items_of(alloc: Global, text: &str) -> Result<Vec<Item>, LexFault>

@@ -1,13 +1,14 @@
+use crate::{ItemKind, Keyword, LexFault, Symbol, TokenKind, TooDeep, is_identifier, lex, measure};
+use jr_text::Text;
 use std::alloc::Global;
 use std::process::Abort;
 
-use jr_text::Text;
-
-use crate::{ItemKind, Keyword, LexFault, Symbol, TokenKind, TooDeep, is_identifier, lex, measure};
-
 const BLANK: ItemKind = ItemKind::Blank;
+
 const COMMENT: ItemKind = ItemKind::Comment;
+
 const WORD: ItemKind = ItemKind::Token(TokenKind::Word);
+
 const TEXT: ItemKind = ItemKind::Token(TokenKind::Text);
 
 fn mark(symbol: Symbol) -> ItemKind {
@@ -57,23 +58,54 @@ fn cuts_texts(rt: HostRuntime) {
         &rt,
         alloc,
         "/* */ */;",
-        &[(COMMENT, 5), (BLANK, 6), (mark(Symbol::Star), 7), (mark(Symbol::Slash), 8), (semicolon, 9)],
+        &[
+            (COMMENT, 5),
+            (BLANK, 6),
+            (mark(Symbol::Star), 7),
+            (mark(Symbol::Slash), 8),
+            (semicolon, 9),
+        ],
     );
     assert_items(&rt, alloc, ";//", &[(semicolon, 1), (COMMENT, 3)]);
-    assert_items(&rt, alloc, "// a\r\n;", &[(COMMENT, 4), (BLANK, 6), (semicolon, 7)]);
-    assert_items(&rt, alloc, "//\r;", &[(COMMENT, 2), (BLANK, 3), (semicolon, 4)]);
+    assert_items(
+        &rt,
+        alloc,
+        "// a\r\n;",
+        &[(COMMENT, 4), (BLANK, 6), (semicolon, 7)],
+    );
+    assert_items(
+        &rt,
+        alloc,
+        "//\r;",
+        &[(COMMENT, 2), (BLANK, 3), (semicolon, 4)],
+    );
     assert_items(&rt, alloc, "// \\\\u", &[(COMMENT, 6)]);
     assert_items(&rt, alloc, "/* \\\\u */", &[(COMMENT, 9)]);
     assert_items(&rt, alloc, "\"\\\\u\\\"\\'\"", &[(TEXT, 9)]);
-    assert_items(&rt, alloc, "0 2147483648", &[(number(0), 1), (BLANK, 2), (number(2_147_483_648), 12)]);
+    assert_items(
+        &rt,
+        alloc,
+        "0 2147483648",
+        &[(number(0), 1), (BLANK, 2), (number(2_147_483_648), 12)],
+    );
     assert_items(
         &rt,
         alloc,
         "....",
         &[(mark(Symbol::Ellipsis), 3), (mark(Symbol::Dot), 4)],
     );
-    assert_items(&rt, alloc, "..a", &[(mark(Symbol::Dot), 1), (mark(Symbol::Dot), 2), (WORD, 3)]);
-    assert_items(&rt, alloc, "...5", &[(mark(Symbol::Ellipsis), 3), (number(5), 4)]);
+    assert_items(
+        &rt,
+        alloc,
+        "..a",
+        &[(mark(Symbol::Dot), 1), (mark(Symbol::Dot), 2), (WORD, 3)],
+    );
+    assert_items(
+        &rt,
+        alloc,
+        "...5",
+        &[(mark(Symbol::Ellipsis), 3), (number(5), 4)],
+    );
     assert_items(
         &rt,
         alloc,
@@ -93,14 +125,28 @@ fn cuts_texts(rt: HostRuntime) {
         &rt,
         alloc,
         ":::===",
-        &[(mark(Symbol::DoubleColon), 2), (mark(Symbol::Colon), 3), (mark(Symbol::EqualEqual), 5), (mark(Symbol::Equals), 6)],
+        &[
+            (mark(Symbol::DoubleColon), 2),
+            (mark(Symbol::Colon), 3),
+            (mark(Symbol::EqualEqual), 5),
+            (mark(Symbol::Equals), 6),
+        ],
     );
-    assert_items(&rt, alloc, "λέξη=$1_é", &[(WORD, 8), (mark(Symbol::Equals), 9), (WORD, 14)]);
+    assert_items(
+        &rt,
+        alloc,
+        "λέξη=$1_é",
+        &[(WORD, 8), (mark(Symbol::Equals), 9), (WORD, 14)],
+    );
     assert_items(
         &rt,
         alloc,
         "classes null",
-        &[(WORD, 7), (BLANK, 8), (ItemKind::Token(TokenKind::Keyword(Keyword::Null)), 12)],
+        &[
+            (WORD, 7),
+            (BLANK, 8),
+            (ItemKind::Token(TokenKind::Keyword(Keyword::Null)), 12),
+        ],
     );
 }
 
@@ -177,7 +223,11 @@ fn measures_depth(rt: HostRuntime) {
     ];
     for (piece, count, at) in cases {
         let expected = at.map(|at| TooDeep { at });
-        assert_eq!(rt; deep_place(&rt, alloc, piece, count), expected, "{count} of {piece:?}");
+        assert_eq!(rt;
+            deep_place(&rt, alloc, piece, count),
+            expected,
+            "{count} of {piece:?}"
+        );
     }
 }
 
