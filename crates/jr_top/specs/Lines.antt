@@ -1,5 +1,5 @@
 -- Refusals as text.
-use Rattle.std.specs.Prelude.{ℕ, suc, zero, List, [], ◌∷◌, ◌++◌, codes, decimal}
+use Rattle.std.specs.Prelude.{ℕ, suc, zero, List, [], ◌++◌, codes, decimal}
 use Rattle.jr_small.specs.declared.refusals.SourceKind.{SourceKind}
 use Rattle.jr_small.specs.declared.refusals.SourceKind.TheVariants.{BadByte, OpenComment, OpenString, Escape, BadNumber, Deep, Unbuilt}
 use Rattle.jr_small.specs.Refusal.{Refusal, Declaration, class, field, variable, bad_place, bad_name, source_error, bad_target, clash, lost_binding, too_long}
@@ -27,14 +27,15 @@ kind_text BadNumber = codes "BadNumber"
 kind_text Deep = codes "Deep"
 kind_text Unbuilt = codes "Unbuilt"
 
--- the types of n parameters, each `int`, with commas between them
+-- the type of parameter n, counted from 0: each is `int`, with a comma in front of all but the first
+abbrev pub type_text : ℕ → List ℕ
+type_text zero = codes "int"
+type_text (suc n) = codes ",int"
+
+-- the types of the first n parameters
 abbrev pub types_text : ℕ → List ℕ
 types_text zero = []
-types_text (suc n) = codes "int" ++ more n
-  where
-    more : ℕ → List ℕ
-    more zero = []
-    more (suc n) = codes ",int" ++ more n
+types_text (suc n) = types_text n ++ type_text n
 
 -- a class is `A`, a field `A.f`, and a parameter or local its method's text, `#` and its number: `A.m(int,int)#2`
 abbrev pub declaration_text : Declaration → List ℕ

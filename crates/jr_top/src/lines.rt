@@ -1,6 +1,6 @@
 ghost use Rattle.std.specs.Prelude.{◌≡◌, IfOk, string_bytes};
 ghost use Rattle.jr_small.specs.Refusal.{declaration_of, refusal_of};
-ghost use Rattle.jr_top.specs.Lines.{declaration_text as text_of_declaration, kind_text as text_of_kind, number_of, refusal_line as line_of, refusal_text as text_of, types_text as text_of_types};
+ghost use Rattle.jr_top.specs.Lines.{declaration_text as text_of_declaration, kind_text as text_of_kind, number_of, refusal_line as line_of, refusal_text as text_of, type_text as text_of_type, types_text as text_of_types};
 
 use jr_small::{Declaration, Refusal, SourceKind};
 use std::alloc::{AllocError, Global};
@@ -102,13 +102,20 @@ fn declaration_text(alloc: Global, declaration: &Declaration) -> Result<String, 
     }
 }
 
-// So many types `int`, with commas between them.
+// The types of so many parameters.
 fn types_text(alloc: Global, count: usize) -> Result<String, AllocError>
     ensures { IfOk result (λ text. string_bytes text ≡ text_of_types count) }
 {
     let mut text = String::new(alloc);
     for i in 0..count {
-        text.push_str(if i == 0 { "int" } else { ",int" })?;
+        text.push_str(type_text(i))?;
     }
     Ok(text)
+}
+
+// The type of parameter `i`, with a comma in front of all but the first.
+fn type_text(i: usize) -> &'static str
+    ensures { result.now ≡ text_of_type i }
+{
+    if i == 0 { "int" } else { ",int" }
 }

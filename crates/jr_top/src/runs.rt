@@ -62,10 +62,10 @@ pub fn run<S: Shelf, K: Sink>(
     ensures shelf_faults { S.faults shelf.old ≤ S.faults shelf.new }
     ensures sink_faults { K.faults sink.old ≤ K.faults sink.new }
 {
-    match read_words(words) {
-        None => Status::Usage,
-        Some(Command::Rename { file, at, name }) => {
-            rename_in_file(alloc, file, at, name, shelf, sink)
-        }
+    let Some(command) = read_words(words) else {
+        return Status::Usage;
+    };
+    match command {
+        Command::Rename { file, at, name } => rename_in_file(alloc, file, at, name, shelf, sink),
     }
 }
