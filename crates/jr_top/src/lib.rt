@@ -10,6 +10,8 @@ mod messages;
 mod renames;
 mod runs;
 mod statuses;
+#[cfg(test)]
+mod tests;
 mod words;
 
 pub use lines::refusal_line;
