@@ -3,7 +3,7 @@ use Rattle.std.proofs.Common.{Bor, ◌≡◌, ◌≢◌, ℕ, ◌<◌, ◌≤◌
 use Rattle.std.specs.Char.{digit_value}
 use Rattle.jr_top.specs.declared.words.Command as raw_command
 use Rattle.jr_top.specs.declared.words.Command.TheVariants as asked_as
-use Rattle.jr_top.specs.Words.{IsPlain, IsPlace, Mean, rename}
+use Rattle.jr_top.specs.Words.{IsPlain, IsPlace, Mean, MeanOneAtMost, rename}
 
 -- a list of four is its four elements
 pub four : {A : Type 0} (xs : List A) (a b c d : A) → 4 ≤ length xs → length xs < 5 → a ≡ get_or xs 0 a → b ≡ get_or xs 1 b → c ≡ get_or xs 2 c → d ≡ get_or xs 3 d → xs ≡ a ∷ b ∷ c ∷ d ∷ []
@@ -39,3 +39,8 @@ pub record Parts (command : raw_command.Command) : Type 0 where
 
 pub parts_of : (command : raw_command.Command) → Parts command
 parts_of (asked_as.Rename file at name) = record { file = file; at = at; name = name; is = refl }
+
+-- words mean one command at most
+pub Mean-same : MeanOneAtMost
+Mean-same words (rename f a n) (rename g b m) one other =
+    cc (one.names.2, other.names.2, one.names.1.value, other.names.1.value)

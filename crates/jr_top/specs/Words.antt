@@ -42,6 +42,10 @@ pub record Mean (words : List (List ℕ)) (command : Command) : Type 0 where
 abbrev pub MeanNothing : List (List ℕ) → Type 0
 MeanNothing words = (command : Command) → Mean words command → ⊥
 
+-- they mean one command at most
+abbrev pub MeanOneAtMost : Type 0
+MeanOneAtMost = (words : List (List ℕ)) (one other : Command) → Mean words one → Mean words other → one ≡ other
+
 -- a command as contracts see it
 abbrev pub command_of : raw_command.Command → Command
 command_of (asked_as.Rename file at name) = rename file.now at name.now

@@ -12,10 +12,12 @@ mod runs;
 mod statuses;
 #[cfg(test)]
 mod tests;
+mod word_laws;
 mod words;
 
 pub use lines::refusal_line;
 pub use messages::Message;
 pub use runs::run;
 pub use statuses::{SourceFault, Status};
+pub use word_laws::words_mean_one_command;
 pub use words::{Command, read_words};

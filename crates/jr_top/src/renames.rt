@@ -1,5 +1,6 @@
 ghost use Rattle.std.specs.Prelude.{◌≡◌, ◌≤◌, ◌+◌, ◌⊎◌, IfErr, IfOk, OnErr, OnOk, OnSome, Some};
 ghost use Rattle.jr_shelf.specs.Counts.{Rose, RoseBy};
+ghost use Rattle.jr_shelf.specs.Sink.{AppendedInPart, appended};
 ghost use Rattle.jr_small.specs.Answer.{Grants};
 ghost use Rattle.jr_top.specs.Sources.{HasFault, HoldsNoText, HoldsSome, HoldsText};
 ghost use Rattle.jr_top.specs.Statuses.{IsAfterSource, IsAnswerOrMemory, IsBadSourceOrMemory, IsBeforeSource, IsOfRename, OnBadSource, OnDone, OnNoReadFault, OnNothingWritten, OnReadFault, OnRefused, OnWriteFault, OnWriting};
@@ -122,16 +123,30 @@ fn rename_in_source<K: Sink>(
 {
     match rename(alloc, source, at, name) {
         Err(_) => Status::NoMemory,
-        Ok(Outcome::Renamed(text)) => match sink.put(text.as_str().as_bytes()) {
+        Ok(Outcome::Renamed(text)) => match put(sink, text.as_str()) {
             Ok(()) => Status::Done,
-            Err(_) => Status::WriteFault { stored: 0 },
+            Err(fault) => fault,
         },
         Ok(Outcome::Refused(refusal)) => match refusal_line(alloc, file, at, name, &refusal) {
             Err(_) => Status::NoMemory,
-            Ok(line) => match sink.put(line.as_bytes()) {
+            Ok(line) => match put(sink, line.as_str()) {
                 Ok(()) => Status::Refused,
-                Err(_) => Status::WriteFault { stored: 0 },
+                Err(fault) => fault,
             },
         },
+    }
+}
+
+// Gives the sink the output, or says how the run ends where the sink failed.
+fn put<K: Sink>(sink: &mut K, output: &str) -> Result<(), Status>
+    ensures ok { OnOk result (K.taken sink.new ≡ appended (K.taken sink.old) output.now) }
+    ensures fault { IfErr result (λ status. status ≡ Status.WriteFault 0) }
+    ensures failed { OnErr result (Rose (K.faults sink.old) (K.faults sink.new)) }
+    ensures in_part { OnErr result (AppendedInPart (K.taken sink.old) (K.taken sink.new) output.now) }
+    ensures faults { K.faults sink.old ≤ K.faults sink.new }
+{
+    match sink.put(output.as_bytes()) {
+        Ok(()) => Ok(()),
+        Err(_) => Err(Status::WriteFault { stored: 0 }),
     }
 }
