@@ -1,0 +1,101 @@
+-- What a run does.
+use Rattle.std.specs.Prelude.{◌≡◌, ℕ, ◌⊎◌, List, Option, Some, OnSome, slice_get}
+use Rattle.jr_shelf.specs.Counts.{Rose}
+use Rattle.jr_shelf.specs.Shelf.{Files, Holds}
+use Rattle.jr_shelf.specs.Sink.{appended, AppendedInPart}
+use Rattle.jr_text.specs.Texts.{IsText}
+use Rattle.jr_small.specs.Refusal.{Refusal}
+use Rattle.jr_small.specs.Answer.{Grants, Refuses}
+use Rattle.jr_top.specs.declared.statuses.SourceFault.{SourceFault}
+use Rattle.jr_top.specs.Lines.{refusal_line}
+use Rattle.jr_top.specs.Sources.{HasFault, HoldsSome, HoldsText, HoldsNoText}
+use Rattle.jr_top.specs.Words.{rename, Mean}
+
+-- ---- outputs
+
+-- a text that the file holds, where it is told what is held
+pub record IsSource (told : Option Files) (file source : List ℕ) : Type 0 where
+  pub held : Holds told file source
+  pub text : IsText source
+
+-- the line of the refusal to give the local at a byte of the source the name
+pub record IsRefusalLine (file source : List ℕ) (at : ℕ) (name output : List ℕ) : Type 0 where
+  pub refusal : Refusal
+  pub refuses : Refuses source at name refusal
+  pub line : output ≡ refusal_line file at name refusal
+
+-- the new text of the file's source
+pub record IsNewText (told : Option Files) (file : List ℕ) (at : ℕ) (name output : List ℕ) : Type 0 where
+  pub source : List ℕ
+  pub is_source : IsSource told file source
+  pub grants : Grants source at name output
+
+-- the line of the refusal to make one
+pub record IsNoNewText (told : Option Files) (file : List ℕ) (at : ℕ) (name output : List ℕ) : Type 0 where
+  pub source : List ℕ
+  pub is_source : IsSource told file source
+  pub line : IsRefusalLine file source at name output
+
+-- the words ask for a new text, and it is this
+pub record Grant (words : List (List ℕ)) (told : Option Files) (output : List ℕ) : Type 0 where
+  pub file : List ℕ
+  pub at : ℕ
+  pub name : List ℕ
+  pub mean : Mean words (rename file at name)
+  pub granted : IsNewText told file at name output
+
+-- the words ask for a new text, which is refused by this line
+pub record Refuse (words : List (List ℕ)) (told : Option Files) (output : List ℕ) : Type 0 where
+  pub file : List ℕ
+  pub at : ℕ
+  pub name : List ℕ
+  pub mean : Mean words (rename file at name)
+  pub refused : IsNoNewText told file at name output
+
+abbrev pub Answer : List (List ℕ) → Option Files → List ℕ → Type 0
+Answer words told output = Grant words told output ⊎ Refuse words told output
+
+-- ---- what a sink took
+
+-- an output of which this is so
+pub record TookAll (Is : List ℕ → Type 0) (before after : Option (List ℕ)) : Type 0 where
+  pub output : List ℕ
+  pub is_output : Is output
+  pub took : after ≡ appended before output
+
+-- a prefix of an output of which this is so
+pub record TookInPart (Is : List ℕ → Type 0) (before after : Option (List ℕ)) : Type 0 where
+  pub output : List ℕ
+  pub is_output : Is output
+  pub took : AppendedInPart before after output
+
+-- ---- the file
+
+-- the words ask for a new text of a file that is told to hold a text
+pub record AskOfText (words : List (List ℕ)) (told : Option Files) : Type 0 where
+  pub file : List ℕ
+  pub at : ℕ
+  pub name : List ℕ
+  pub mean : Mean words (rename file at name)
+  pub holds : HoldsText told file
+
+-- the words ask for a new text of a file that is told to hold no text
+pub record AskOfNoText (words : List (List ℕ)) (told : Option Files) : Type 0 where
+  pub file : List ℕ
+  pub at : ℕ
+  pub name : List ℕ
+  pub mean : Mean words (rename file at name)
+  pub holds : HoldsNoText told file
+
+-- the word of this number names a file, and where it is told what is held, that file has this fault
+pub record NamesFault (words : List (List ℕ)) (told : Option Files) (word : ℕ) (fault : SourceFault) : Type 0 where
+  pub file : List ℕ
+  pub named : slice_get words word ≡ Some file
+  pub has_fault : OnSome told (HoldsSome told file (λ bytes. HasFault bytes fault))
+
+-- ---- faults
+
+-- no count of faults rose: neither the shelf's, nor the sink's
+pub record HadNoFault (shelf_before shelf_after sink_before sink_after : ℕ) : Type 0 where
+  pub shelf : Rose shelf_before shelf_after → ⊥
+  pub sink : Rose sink_before sink_after → ⊥

@@ -1,0 +1,25 @@
+-- What bytes are no source.
+use Rattle.std.specs.Prelude.{ℕ, ◌<◌, ◌≤◌, List, length, Option, IsSomeAnd}
+use Rattle.std.specs.Str.{IsValidUpTo}
+use Rattle.std.specs.FinMap as map
+use Rattle.jr_shelf.specs.Shelf.{Files}
+use Rattle.jr_text.specs.Texts.{IsText, text_limit}
+use Rattle.jr_top.specs.declared.statuses.SourceFault.{SourceFault}
+use Rattle.jr_top.specs.declared.statuses.SourceFault.TheVariants.{TooLong, NotUtf8}
+
+-- the bytes have this fault: they are too many, or else they aren't UTF-8, and the longest prefix that is has so many bytes
+abbrev pub HasFault : List ℕ → SourceFault → Type 0
+HasFault bytes TooLong = text_limit < length bytes
+HasFault bytes (NotUtf8 valid) = (length bytes ≤ text_limit) × IsValidUpTo bytes valid
+
+-- it is told what is held, and the name holds bytes of which this is so
+abbrev pub HoldsSome : Option Files → List ℕ → (List ℕ → Type 0) → Type 0
+HoldsSome told name P = IsSomeAnd told (λ files. IsSomeAnd (map.get files name) P)
+
+-- the name is told to hold a text
+abbrev pub HoldsText : Option Files → List ℕ → Type 0
+HoldsText told name = HoldsSome told name IsText
+
+-- the name is told to hold bytes that are no text
+abbrev pub HoldsNoText : Option Files → List ℕ → Type 0
+HoldsNoText told name = HoldsSome told name (λ bytes. IsText bytes → ⊥)

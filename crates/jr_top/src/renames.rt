@@ -1,0 +1,152 @@
+ghost use Rattle.std.specs.Prelude.{◌≡◌, ◌≤◌, ◌+◌, ◌⊎◌, IfErr, IfOk, OnErr, OnOk, OnSome, Some};
+ghost use Rattle.jr_shelf.specs.Counts.{Rose, RoseBy};
+ghost use Rattle.jr_shelf.specs.Sink.{AppendedInPart, appended};
+ghost use Rattle.jr_small.specs.Answer.{Grants};
+ghost use Rattle.jr_top.specs.Sources.{HasFault, HoldsNoText, HoldsSome, HoldsText};
+ghost use Rattle.jr_top.specs.Statuses.{IsAfterSource, IsAnswerOrMemory, IsBadSourceOrMemory, IsBeforeSource, IsOfRename, OnBadSource, OnDone, OnNoReadFault, OnNothingWritten, OnReadFault, OnRefused, OnWriteFault, OnWriting};
+ghost use Rattle.jr_top.specs.Runs.{HadNoFault, IsNewText, IsNoNewText, IsRefusalLine, IsSource, TookAll, TookInPart};
+
+use crate::lines::refusal_line;
+use crate::statuses::{SourceFault, Status};
+use jr_shelf::{FetchFault, Shelf, Sink};
+use jr_small::{Outcome, rename};
+use jr_text::{Text, TextFault};
+use std::alloc::Global;
+
+// The number of the word FILE.
+const FILE: u32 = 1;
+
+/// Fetches the file, renames the local at the byte `at` of its source, and gives the sink the new text, or the line of
+/// the refusal.
+pub(crate) fn rename_in_file<S: Shelf, K: Sink>(
+    alloc: Global,
+    file: &str,
+    at: u32,
+    name: &str,
+    shelf: &mut S,
+    sink: &mut K,
+) -> Status
+    ensures ends { IsOfRename result }
+    ensures done { OnDone result (TookAll (IsNewText (S.holds shelf.old) file.now at name.now) (K.taken sink.old) (K.taken sink.new)) }
+    ensures refused { OnRefused result (TookAll (IsNoNewText (S.holds shelf.old) file.now at name.now) (K.taken sink.old) (K.taken sink.new)) }
+
+    ensures read_fault_word { OnReadFault result (λ word. word ≡ 1) }
+    ensures read_fault { OnReadFault result (λ word. Rose (S.faults shelf.old) (S.faults shelf.new)) }
+    ensures read_fault_missed { OnReadFault result (λ word. OnSome (S.holds shelf.old) (S.missed shelf.new ≡ Some file.now)) }
+    ensures read_fault_served { OnReadFault result (λ word. RoseBy 0 (S.served shelf.old) (S.served shelf.new)) }
+
+    ensures write_fault_stored { OnWriteFault result (λ stored. stored ≡ 0) }
+    ensures write_fault { OnWriteFault result (λ stored. Rose (K.faults sink.old) (K.faults sink.new)) }
+    ensures write_fault_in_part { OnWriteFault result (λ stored.
+        TookInPart (λ output. IsNewText (S.holds shelf.old) file.now at name.now output ⊎ IsNoNewText (S.holds shelf.old) file.now at name.now output) (K.taken sink.old) (K.taken sink.new)) }
+
+    ensures bad_source_word { OnBadSource result (λ word fault. word ≡ 1) }
+    ensures bad_source { OnBadSource result (λ word fault. OnSome (S.holds shelf.old) (HoldsSome (S.holds shelf.old) file.now (λ bytes. HasFault bytes fault))) }
+    ensures no_source { HoldsNoText (S.holds shelf.old) file.now
+        → HadNoFault (S.faults shelf.old) (S.faults shelf.new) (K.faults sink.old) (K.faults sink.new)
+        → IsBadSourceOrMemory result }
+    ensures complete { HoldsText (S.holds shelf.old) file.now
+        → HadNoFault (S.faults shelf.old) (S.faults shelf.new) (K.faults sink.old) (K.faults sink.new)
+        → IsAnswerOrMemory result }
+
+    ensures nothing_put { OnNothingWritten result (sink.new ≡ sink.old) }
+    ensures keeps { S.holds shelf.new ≡ S.holds shelf.old }
+    ensures missed { OnNoReadFault result (OnSome (S.holds shelf.old) (S.missed shelf.new ≡ S.missed shelf.old)) }
+    ensures served { OnWriting result (λ stored. RoseBy (stored + 1) (S.served shelf.old) (S.served shelf.new)) }
+    ensures shelf_faults { S.faults shelf.old ≤ S.faults shelf.new }
+    ensures sink_faults { K.faults sink.old ≤ K.faults sink.new }
+{
+    match fetch_source(alloc, file, shelf) {
+        Err(status) => status,
+        Ok(source) => rename_in_source(alloc, file, &source, at, name, sink),
+    }
+}
+
+// The source that the file holds, or how the run ends where there is none.
+fn fetch_source<S: Shelf>(alloc: Global, file: &str, shelf: &mut S) -> Result<Text, Status>
+    ensures ok { IfOk result (λ source. IsSource (S.holds shelf.old) file.now source) }
+    ensures ends { IfErr result IsBeforeSource }
+
+    ensures read_fault_word { IfErr result (λ status. OnReadFault status (λ word. word ≡ 1)) }
+    ensures read_fault { IfErr result (λ status. OnReadFault status (λ word. Rose (S.faults shelf.old) (S.faults shelf.new))) }
+    ensures read_fault_missed { IfErr result (λ status. OnReadFault status (λ word. OnSome (S.holds shelf.old) (S.missed shelf.new ≡ Some file.now))) }
+    ensures read_fault_served { IfErr result (λ status. OnReadFault status (λ word. RoseBy 0 (S.served shelf.old) (S.served shelf.new))) }
+
+    ensures bad_source_word { IfErr result (λ status. OnBadSource status (λ word fault. word ≡ 1)) }
+    ensures bad_source { IfErr result (λ status. OnBadSource status (λ word fault. OnSome (S.holds shelf.old) (HoldsSome (S.holds shelf.old) file.now (λ bytes. HasFault bytes fault)))) }
+    ensures bad_source_only { IfErr result (λ status. OnBadSource status (λ word fault. HoldsText (S.holds shelf.old) file.now → ⊥)) }
+
+    ensures keeps { S.holds shelf.new ≡ S.holds shelf.old }
+    ensures missed_ok { OnOk result (OnSome (S.holds shelf.old) (S.missed shelf.new ≡ S.missed shelf.old)) }
+    ensures missed_err { IfErr result (λ status. OnNoReadFault status (OnSome (S.holds shelf.old) (S.missed shelf.new ≡ S.missed shelf.old))) }
+    ensures served { OnOk result (RoseBy 1 (S.served shelf.old) (S.served shelf.new)) }
+    ensures faults { S.faults shelf.old ≤ S.faults shelf.new }
+{
+    let bytes = match shelf.fetch(alloc, file) {
+        Ok(bytes) => bytes,
+        Err(FetchFault::Failed) => return Err(Status::ReadFault { word: FILE }),
+        Err(FetchFault::TooLong) => return Err(bad_source(SourceFault::TooLong)),
+        Err(FetchFault::Memory) => return Err(Status::NoMemory),
+    };
+    match Text::new(alloc, bytes.as_slice()) {
+        Ok(source) => Ok(source),
+        Err(TextFault::TooLong { .. }) => Err(bad_source(SourceFault::TooLong)),
+        Err(TextFault::NotUtf8 { valid }) => Err(bad_source(SourceFault::NotUtf8 { valid })),
+        Err(TextFault::Memory) => Err(Status::NoMemory),
+    }
+}
+
+fn bad_source(fault: SourceFault) -> Status
+    ensures { result ≡ Status.BadSource 1 fault }
+{
+    Status::BadSource { word: FILE, fault }
+}
+
+// Renames the local at the byte `at` of the source, and gives the sink the new text, or the line of the refusal.
+fn rename_in_source<K: Sink>(
+    alloc: Global,
+    file: &str,
+    source: &Text,
+    at: u32,
+    name: &str,
+    sink: &mut K,
+) -> Status
+    ensures ends { IsAfterSource result }
+    ensures done { OnDone result (TookAll (Grants source.now at name.now) (K.taken sink.old) (K.taken sink.new)) }
+    ensures refused { OnRefused result (TookAll (IsRefusalLine file.now source.now at name.now) (K.taken sink.old) (K.taken sink.new)) }
+    ensures write_fault_stored { OnWriteFault result (λ stored. stored ≡ 0) }
+    ensures write_fault { OnWriteFault result (λ stored. Rose (K.faults sink.old) (K.faults sink.new)) }
+    ensures write_fault_in_part { OnWriteFault result (λ stored.
+        TookInPart (λ output. Grants source.now at name.now output ⊎ IsRefusalLine file.now source.now at name.now output) (K.taken sink.old) (K.taken sink.new)) }
+    ensures nothing_put { OnNothingWritten result (sink.new ≡ sink.old) }
+    ensures faults { K.faults sink.old ≤ K.faults sink.new }
+{
+    match rename(alloc, source, at, name) {
+        Err(_) => Status::NoMemory,
+        Ok(Outcome::Renamed(text)) => match put(sink, text.as_str()) {
+            Ok(()) => Status::Done,
+            Err(fault) => fault,
+        },
+        Ok(Outcome::Refused(refusal)) => match refusal_line(alloc, file, at, name, &refusal) {
+            Err(_) => Status::NoMemory,
+            Ok(line) => match put(sink, line.as_str()) {
+                Ok(()) => Status::Refused,
+                Err(fault) => fault,
+            },
+        },
+    }
+}
+
+// Gives the sink the output, or says how the run ends where the sink failed.
+fn put<K: Sink>(sink: &mut K, output: &str) -> Result<(), Status>
+    ensures ok { OnOk result (K.taken sink.new ≡ appended (K.taken sink.old) output.now) }
+    ensures fault { IfErr result (λ status. status ≡ Status.WriteFault 0) }
+    ensures failed { OnErr result (Rose (K.faults sink.old) (K.faults sink.new)) }
+    ensures in_part { OnErr result (AppendedInPart (K.taken sink.old) (K.taken sink.new) output.now) }
+    ensures faults { K.faults sink.old ≤ K.faults sink.new }
+{
+    match sink.put(output.as_bytes()) {
+        Ok(()) => Ok(()),
+        Err(_) => Err(Status::WriteFault { stored: 0 }),
+    }
+}

@@ -1,0 +1,342 @@
+use crate::{Command, Message, SourceFault, Status, read_words, refusal_line, run};
+use jr_shelf::{MemoryShelf, MemorySink, names_differ};
+use jr_small::{Declaration, Refusal, SourceKind};
+use std::alloc::{AllocError, Global};
+use std::process::Abort;
+use std::test::Fail;
+
+const RENAMED: &str = "class A{static int f;static void m(){int a=1;f=a;}}";
+
+// The words that single spaces part.
+fn words_of(alloc: Global, line: &str) -> Result<Vec<String>, AllocError> {
+    let mut words = Vec::new(alloc);
+    for word in line.split(' ') {
+        words.push(String::from_str(alloc, word)?)?;
+    }
+    Ok(words)
+}
+
+// How a run ends over the one file A.java, where calls of the shelf and puts of these numbers fail, and what its sink
+// took.
+fn ran(
+    rt: &impl Abort,
+    alloc: Global,
+    source: &[u8],
+    words: &[String],
+    failing: (Option<u32>, Option<u32>),
+) -> Result<(Status, Vec<u8>), Fail> {
+    let mut files = Vec::new(alloc);
+    files.push((String::from_str(alloc, "A.java")?, source.to_vec(alloc)?))?;
+    assert!(rt; names_differ(files.as_slice()));
+    let mut calls = Vec::new(alloc);
+    calls.push(failing.0.unwrap_or(0))?;
+    let mut puts = Vec::new(alloc);
+    puts.push(failing.1.unwrap_or(0))?;
+    let mut shelf = MemoryShelf::new(alloc, files, calls, 0)?;
+    let mut sink = MemorySink::new(alloc, puts, 2_000_000)?;
+    let status = run(alloc, words, &mut shelf, &mut sink);
+    Ok((status, sink.bytes().to_vec(alloc)?))
+}
+
+// One row: the source, the words, how the run ends, and what the sink took.
+fn check(
+    rt: &impl Abort,
+    alloc: Global,
+    source: &[u8],
+    line: &str,
+    status: Status,
+    output: &str,
+) -> Result<(), Fail> {
+    let words = words_of(alloc, line)?;
+    let (ended, took) = ran(rt, alloc, source, words.as_slice(), (None, None))?;
+    assert_eq!(rt; ended, status, "{line}");
+    assert_eq!(rt; took.as_slice(), output.as_bytes(), "{line}");
+    Ok(())
+}
+
+#[test]
+fn renames(rt: HostRuntime) -> Result<(), Fail> {
+    let captured = "class A{static int f;static void m(){int f=1;A.f=f;}}";
+    for (line, output) in [
+        (
+            "rename A.java 41 b",
+            "class A{static int f;static void m(){int b=1;f=b;}}",
+        ),
+        ("rename A.java 0041 f", captured),
+    ] {
+        check(
+            &rt,
+            rt.alloc(),
+            RENAMED.as_bytes(),
+            line,
+            Status::Done,
+            output,
+        )?;
+    }
+    Ok(())
+}
+
+#[test]
+fn refuses(rt: HostRuntime) -> Result<(), Fail> {
+    let obscured = "class A{static int f;static void m(int A){int a=1;f=a+A;}}";
+    let two = "class A{static void m(){int a=1;int b=2;}}";
+    for (source, line, output) in [
+        (
+            RENAMED,
+            "rename A.java 999 b",
+            "refused 2 BadPlace A.java:999\n",
+        ),
+        (
+            RENAMED,
+            "rename A.java 4294967295 b",
+            "refused 2 BadPlace A.java:4294967295\n",
+        ),
+        (RENAMED, "rename A.java 41 goto", "refused 3 BadName goto\n"),
+        (
+            "class A{int f;}",
+            "rename A.java 12 b",
+            "refused 4 SourceError A.java:0 Unbuilt\n",
+        ),
+        (
+            RENAMED,
+            "rename A.java 6 b",
+            "refused 5 BadTarget A.java:6 Declaration\n",
+        ),
+        (two, "rename A.java 28 b", "refused 14 Clash A.m()#1\n"),
+        (
+            obscured,
+            "rename A.java 46 f",
+            "refused 16 LostBinding A.java:50 A.f found A.m(int)#1\n",
+        ),
+    ] {
+        check(
+            &rt,
+            rt.alloc(),
+            source.as_bytes(),
+            line,
+            Status::Refused,
+            output,
+        )?;
+    }
+    Ok(())
+}
+
+#[test]
+fn refuses_a_text_that_grows_too_long(rt: HostRuntime) -> Result<(), Fail> {
+    let alloc = rt.alloc();
+    let source = b"class A{static void m(){int a=1;}}";
+    let mut long = source.to_vec(alloc)?;
+    for _ in source.len()..1_048_576 {
+        long.push(b' ')?;
+    }
+    let output = "refused 20 TooLong 1048577\n";
+    check(
+        &rt,
+        alloc,
+        long.as_slice(),
+        "rename A.java 28 bb",
+        Status::Refused,
+        output,
+    )
+}
+
+#[test]
+fn wrong_words(rt: HostRuntime) -> Result<(), Fail> {
+    let alloc = rt.alloc();
+    for line in [
+        "",
+        "rename",
+        "rename A.java 41",
+        "rename A.java 41 b c",
+        "undo A.java 41 b",
+        "Rename A.java 41 b",
+        "run A.java 41 b",
+        "generate A.java 41 b",
+        " A.java 41 b",
+        "rename  41 b",
+        "rename A.java  b",
+        "rename A.java 41 ",
+        "-rename A.java 41 b",
+        "rename -A.java 41 b",
+        "rename A.java -41 b",
+        "rename A.java 41 -b",
+        "rename --out 41 b",
+        "rename --out A.java 41 b",
+        "rename A.java x b",
+        "rename A.java 4x b",
+        "rename A.java +41 b",
+        "rename A.java 0x29 b",
+        "rename A.java 4_1 b",
+        "rename A.java ४१ b",
+        "rename A.java 4294967296 b",
+        "rename A.java 99999999999999999999 b",
+    ] {
+        let words = words_of(alloc, line)?;
+        // The shelf's first call would fail.
+        let (status, took) = ran(&rt, alloc, b"", words.as_slice(), (Some(1), None))?;
+        assert_eq!(rt; status, Status::Usage, "{line}");
+        assert!(rt; took.is_empty());
+    }
+    let (status, _) = ran(&rt, alloc, b"", &[], (Some(1), None))?;
+    assert_eq!(rt; status, Status::Usage);
+    Ok(())
+}
+
+#[test]
+fn too_many_words(rt: HostRuntime) -> Result<(), Fail> {
+    let alloc = rt.alloc();
+    let mut words = words_of(alloc, "rename A.java 41")?;
+    for _ in 3..65_537 {
+        words.push(String::from_str(alloc, "b")?)?;
+    }
+    let (status, _) = ran(&rt, alloc, b"", words.as_slice(), (Some(1), None))?;
+    assert_eq!(rt; status, Status::Usage);
+    Ok(())
+}
+
+#[test]
+fn places(rt: HostRuntime) -> Result<(), Fail> {
+    let alloc = rt.alloc();
+    for (line, place) in [
+        ("rename A.java 0 b", 0),
+        ("rename A.java 0041 b", 41),
+        ("rename A.java 4294967295 b", 4_294_967_295),
+    ] {
+        let words = words_of(alloc, line)?;
+        let Some(Command::Rename { file, at, name }) = read_words(words.as_slice()) else {
+            return Err(Fail::from("no command"));
+        };
+        assert_eq!(rt; file, "A.java");
+        assert_eq!(rt; at, place);
+        assert_eq!(rt; name, "b");
+    }
+    Ok(())
+}
+
+#[test]
+fn faults(rt: HostRuntime) -> Result<(), Fail> {
+    let alloc = rt.alloc();
+    let long = vec![in alloc; b' '; 1_048_577]?;
+    let no_text = |valid| Status::BadSource {
+        word: 1,
+        fault: SourceFault::NotUtf8 { valid },
+    };
+    let too_long = Status::BadSource {
+        word: 1,
+        fault: SourceFault::TooLong,
+    };
+    for (source, line, status) in [
+        (
+            RENAMED.as_bytes(),
+            "rename B.java 41 b",
+            Status::ReadFault { word: 1 },
+        ),
+        (
+            b"class A{}\xff".as_slice(),
+            "rename A.java 41 b",
+            no_text(9),
+        ),
+        (b"\xc3".as_slice(), "rename A.java 0 b", no_text(0)),
+        (long.as_slice(), "rename A.java 41 b", too_long),
+    ] {
+        check(&rt, alloc, source, line, status, "")?;
+    }
+    let words = words_of(alloc, "rename A.java 41 b")?;
+    let words = words.as_slice();
+    let (status, took) = ran(&rt, alloc, RENAMED.as_bytes(), words, (Some(1), None))?;
+    assert_eq!(rt; status, Status::ReadFault { word: 1 });
+    assert!(rt; took.is_empty());
+    Ok(())
+}
+
+#[test]
+fn failing_put(rt: HostRuntime) -> Result<(), Fail> {
+    let alloc = rt.alloc();
+    for line in ["rename A.java 41 b", "rename A.java 999 b"] {
+        let words = words_of(alloc, line)?;
+        let source = RENAMED.as_bytes();
+        let (status, took) = ran(&rt, alloc, source, words.as_slice(), (None, Some(1)))?;
+        assert_eq!(rt; status, Status::WriteFault { stored: 0 });
+        assert!(rt; took.is_empty());
+    }
+    Ok(())
+}
+
+#[test]
+fn lines(rt: HostRuntime) -> Result<(), Fail> {
+    let alloc = rt.alloc();
+    let name = |text: &str| String::from_str(alloc, text);
+    let class = Declaration::Class(name("A")?);
+    let field = Declaration::Field {
+        class: name("A")?,
+        name: name("f")?,
+    };
+    let variable = Declaration::Variable {
+        class: name("A")?,
+        method: name("m")?,
+        parameters: 2,
+        number: 2,
+    };
+    let lost = Refusal::LostBinding {
+        at: 50,
+        declaration: field,
+        found: class,
+    };
+    let bad_source = Refusal::SourceError {
+        at: 7,
+        kind: SourceKind::Deep,
+    };
+    for (refusal, line) in [
+        (Refusal::BadPlace, "refused 2 BadPlace dir/A.java:12\n"),
+        (Refusal::BadName, "refused 3 BadName goto\n"),
+        (bad_source, "refused 4 SourceError dir/A.java:7 Deep\n"),
+        (
+            Refusal::BadTarget,
+            "refused 5 BadTarget dir/A.java:12 Declaration\n",
+        ),
+        (
+            Refusal::Clash { with: variable },
+            "refused 14 Clash A.m(int,int)#2\n",
+        ),
+        (lost, "refused 16 LostBinding dir/A.java:50 A.f found A\n"),
+        (
+            Refusal::TooLong { len: 1_048_577 },
+            "refused 20 TooLong 1048577\n",
+        ),
+    ] {
+        let written = refusal_line(alloc, "dir/A.java", 12, "goto", &refusal)?;
+        assert_eq!(rt; written.as_str(), line);
+    }
+    Ok(())
+}
+
+#[test]
+fn statuses(rt: HostRuntime) -> Result<(), Fail> {
+    let alloc = rt.alloc();
+    let words = words_of(alloc, "rename A.java 41 b")?;
+    let bad_source = Status::BadSource {
+        word: 1,
+        fault: SourceFault::TooLong,
+    };
+    for (status, number, text) in [
+        (Status::Done, 0, ""),
+        (Status::Refused, 1, ""),
+        (Status::Usage, 2, "jref: usage"),
+        (Status::ReadFault { word: 1 }, 3, "jref: cannot read A.java"),
+        (
+            Status::WriteFault { stored: 2 },
+            4,
+            "jref: write fault after 2 files",
+        ),
+        (bad_source, 6, "jref: bad source A.java"),
+        (Status::NoMemory, 7, "jref: no memory"),
+    ] {
+        assert_eq!(rt; status.number(), number);
+        let told = match Message::of(&status, words.as_slice()) {
+            Some(message) => format!(in alloc; "{message}")?,
+            None => String::new(alloc),
+        };
+        assert_eq!(rt; told.as_str(), text);
+    }
+    Ok(())
+}

@@ -1,0 +1,1 @@
+class A{static int f;static void m(){int a=1;f=a;}}
