@@ -25,20 +25,20 @@ like xs ys k x h e = go (slice_get ys k) refl (sym (slice_get-map plain ys k) �
     go None f g = let bad : None ≡ Some (plain x) = sym (ap (option_map plain) f) ∙ g in absurd cc
     go (Some y) f g = let same : Some (plain y) ≡ Some (plain x) = sym (ap (option_map plain) f) ∙ g in record { other = y; stands = f; alike = cc }
 
-role_of : (a b : Occurrence) → plain a ≡ plain b → a.role ≡ b.role
+pub role_of : (a b : Occurrence) → plain a ≡ plain b → a.role ≡ b.role
 role_of a b h = ap (λ (p : Plain). p.role) h
 
-text_of : (a b : Occurrence) → plain a ≡ plain b → a.name.text ≡ b.name.text
+pub text_of : (a b : Occurrence) → plain a ≡ plain b → a.name.text ≡ b.name.text
 text_of a b h = ap (λ (p : Plain). p.text) h
 
-member_of : (a b : Occurrence) → plain a ≡ plain b → a.member ≡ b.member
+pub member_of : (a b : Occurrence) → plain a ≡ plain b → a.member ≡ b.member
 member_of a b h = ap (λ (p : Plain). p.member) h
 
-statement_of : (a b : Occurrence) → plain a ≡ plain b → a.statement ≡ b.statement
+pub statement_of : (a b : Occurrence) → plain a ≡ plain b → a.statement ≡ b.statement
 statement_of a b h = ap (λ (p : Plain). p.statement) h
 
 -- the text of a qualifier, if there is one
-abbrev text_in : Option Name → Option (List ℕ)
+abbrev pub text_in : Option Name → Option (List ℕ)
 text_in q = option_map (λ (n : Name). n.text) q
 
 qualifier_of : (a b : Occurrence) → plain a ≡ plain b → text_in a.qualifier ≡ text_in b.qualifier
@@ -80,7 +80,7 @@ field_like xs ys text j h d =
     let l = like xs ys j d.declaration h d.stands in
     record { declaration = l.other; stands = l.stands; role = role_of l.other d.declaration l.alike ∙ d.role; named = text_of l.other d.declaration l.alike ∙ d.named }
 
-name_like : (xs ys : List Occurrence) (m k : ℕ) (text : List ℕ) (j : ℕ) → map plain xs ≡ map plain ys → FindsName xs m k text j → FindsName ys m k text j
+pub name_like : (xs ys : List Occurrence) (m k : ℕ) (text : List ℕ) (j : ℕ) → map plain xs ≡ map plain ys → FindsName xs m k text j → FindsName ys m k text j
 name_like xs ys m k text j h (inl v) = inl (variable_like xs ys m k text j h v)
 name_like xs ys m k text j h (inr w) = inr (none_like xs ys m k text h w.0, field_like xs ys text j h w.1)
 
@@ -89,7 +89,7 @@ class_like xs ys m k text h c =
     let l = like xs ys 0 c.class h c.stands in
     record { class = l.other; stands = l.stands; named = text_of l.other c.class l.alike ∙ c.named; no_variable = none_like xs ys m k text h c.no_variable; no_field = λ j d. c.no_field j (field_like ys xs text j (sym h) d) }
 
-reference_like : (xs ys : List Occurrence) (m k : ℕ) (q r : Option Name) (text : List ℕ) (j : ℕ) → map plain xs ≡ map plain ys → text_in q ≡ text_in r → FindsReference xs m k q text j → FindsReference ys m k r text j
+pub reference_like : (xs ys : List Occurrence) (m k : ℕ) (q r : Option Name) (text : List ℕ) (j : ℕ) → map plain xs ≡ map plain ys → text_in q ≡ text_in r → FindsReference xs m k q text j → FindsReference ys m k r text j
 reference_like xs ys m k None None text j h e f = name_like xs ys m k text j h f
 reference_like xs ys m k None (Some n) text j h e f = absurd cc
 reference_like xs ys m k (Some p) None text j h e f = absurd cc

@@ -39,3 +39,8 @@ pub mod Assembly
 pub mod Telling
 pub mod Conjunctions
 pub mod PlainVariables
+pub mod OneReading
+pub mod OneTold
+pub mod OneRenaming
+pub mod OneLost
+pub mod OneAnswer

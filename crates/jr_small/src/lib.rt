@@ -6,6 +6,7 @@ mod bound;
 mod changes;
 mod declarations;
 mod declared;
+mod laws;
 mod methods;
 mod occurrences;
 mod phases;
@@ -18,6 +19,7 @@ mod tables;
 mod targets;
 mod tokens;
 
+pub use laws::wish_has_one_answer;
 pub use occurrences::{Occurrence, Role};
 pub use plans::{Outcome, rename};
 pub use refusals::{Declaration, Refusal, SourceKind};
