@@ -1,6 +1,16 @@
 //! Trees of Java sources, generic in a mark for each node.
 #![tactic(auto)]
 
+mod exprs;
+mod members;
+mod names;
 mod operators;
+mod parts;
+mod stmts;
 
+pub use exprs::{Expr, ExprKind};
+pub use members::{Class, Member, MemberKind, Unit};
+pub use names::{Ident, Name};
 pub use operators::{BinOp, BumpOp, ModWord, UnOp};
+pub use parts::{Modifier, Param, TypeKind, TypeRef};
+pub use stmts::{Stmt, StmtKind};
