@@ -1,5 +1,5 @@
 -- Children as lists, and the marks of views.
-use Rattle.std.proofs.Common.{◌≡◌, refl, ap, ◌∙◌, Vec, Global, Option, Some, None, map, option_map}
+use Rattle.std.proofs.Common.{◌≡◌, refl, sym, ap, ◌∙◌, Vec, Global, Option, Some, None, map, option_map}
 use Rattle.std.specs.declared.boxed.Box.{Box}
 use Rattle.jr_ast.specs.declared.names.Ident.{Ident}
 use Rattle.jr_ast.specs.declared.parts.TypeRef.{TypeRef}
@@ -7,12 +7,12 @@ use Rattle.jr_ast.specs.declared.exprs.Expr.{Expr}
 use Rattle.jr_ast.specs.declared.exprs.ExprKind as expr
 use Rattle.jr_ast.specs.declared.stmts.Stmt.{Stmt}
 use Rattle.jr_ast.specs.declared.stmts.StmtKind as stmt
-use Rattle.jr_ast.specs.declared.members.Class.{Class, Class', roll-Class, Row_of-Member, end_of-Member, more_of-Member, items-the_row-Member, items_hidden-the_row-Member-0}
+use Rattle.jr_ast.specs.declared.members.Class.{Class, Class', roll-Class, out-Class, Row_of-Member, end_of-Member, more_of-Member, items-the_row-Member, items_hidden-the_row-Member-0, items_shown-the_row-Member-0}
 use Rattle.jr_ast.specs.declared.members.Member.{Member}
 use Rattle.jr_ast.specs.declared.members.MemberKind as kind
 use Rattle.jr_ast.specs.declared.parts.Modifier.{Modifier}
 use Rattle.jr_ast.specs.declared.members.MemberKind.TheBlock as block
-use denote.Hole.Carrier.{roll}
+use denote.Hole.Carrier.{roll, out}
 use Rattle.jr_ast.specs.Marks.{exp_mark, stmt_mark, member_mark}
 use Rattle.jr_ast.specs.Tree as tree
 use Rattle.jr_ast.specs.StatementTree as statement
@@ -94,6 +94,12 @@ module _ (A : Type 0) where
   class_of-roll m mods i t all =
       let row = members_in (roll-Class A (record { mark = m; modifiers = mods; name = i; parent = t; members = all })) in
       ap (member.class m (map modifier_of mods.items) (word_of i) (option_map type_of t)) (member_row-list row.0 row.1 ∙ ap members_of (items_hidden-the_row-Member-0 A all))
+
+  pub class_of-out : (x : Class A) → class_of x
+      ≡ member.class (out-Class A x).mark (map modifier_of (out-Class A x).modifiers.items) (word_of (out-Class A x).name) (option_map type_of (out-Class A x).parent) (members_of (out-Class A x).members.items)
+  unfolding member_kind member_row class_of out-Class out
+  class_of-out (Class' m mods i t shape row) =
+      ap (member.class m (map modifier_of mods.items) (word_of i) (option_map type_of t)) (member_row-list _ row ∙ ap members_of (sym (items_shown-the_row-Member-0 A shape row)))
 
   mark_expr : (m : A) (k : expr.ExprKind A) → exp_mark (expr_kind m k) ≡ m
   unfolding expr_kind expr_row held_target
