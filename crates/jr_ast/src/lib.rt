@@ -2,7 +2,9 @@
 #![tactic(auto)]
 
 mod children;
+mod expr_marks;
 mod exprs;
+mod marks;
 mod members;
 mod names;
 mod nodes;
@@ -10,6 +12,7 @@ mod operators;
 mod parts;
 mod paths;
 mod seeks;
+mod stmt_marks;
 mod stmts;
 
 pub use exprs::{Expr, ExprKind};
