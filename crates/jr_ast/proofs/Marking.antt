@@ -7,6 +7,7 @@ use Rattle.jr_ast.specs.declared.exprs.Expr.{Expr}
 use Rattle.jr_ast.specs.declared.exprs.ExprKind.{Call}
 use Rattle.jr_ast.specs.declared.stmts.Stmt.{Stmt}
 use Rattle.jr_ast.specs.declared.members.Member.{Member}
+use Rattle.jr_ast.proofs.Seeking.{map-map}
 use Rattle.jr_ast.specs.Tree as tree
 use Rattle.jr_ast.specs.StatementTree as statement
 use Rattle.jr_ast.specs.MemberTree as member
@@ -119,3 +120,6 @@ stmts_add x xs = refl
 pub members_add : {A : Type 0} (x : Member A) (xs : List (Member A)) → members_size (members_of (x ∷ xs)) ≡ member_size (member_of x) + members_size (members_of xs)
 unfolding member_size members_size class_size
 members_add x xs = refl
+
+pub same_maps : {X Y X' Y' Z : Type 0} (p : X' → Z) (u : X → X') (q : Y' → Z) (v : Y → Y') (xs : List X) (ys : List Y) → map (λ x. p (u x)) xs ≡ map (λ y. q (v y)) ys → map p (map u xs) ≡ map q (map v ys)
+same_maps p u q v xs ys e = map-map p u xs ∙ e ∙ sym (map-map q v ys)

@@ -126,3 +126,24 @@ module _ {A B : Type 0} (R : A → B → Type 0) where
 
   abbrev pub SameUnit : member.Unit A → member.Unit B → Type 0
   SameUnit t t' = (h : B → Option B) (k : A → Option B) → Agree R h k → map_unit h t' ≡ map_unit k t
+
+  abbrev pub SameModifier : member.Modifier A → member.Modifier B → Type 0
+  SameModifier t t' = (h : B → Option B) (k : A → Option B) → Agree R h k → map_modifier h t' ≡ map_modifier k t
+
+  abbrev pub SameWords : List (tree.Word A) → List (tree.Word B) → Type 0
+  SameWords t t' = (h : B → Option B) (k : A → Option B) → Agree R h k → map (map_word h) t' ≡ map (map_word k) t
+
+  abbrev pub SameParams : List (member.Param A) → List (member.Param B) → Type 0
+  SameParams t t' = (h : B → Option B) (k : A → Option B) → Agree R h k → map (map_param h) t' ≡ map (map_param k) t
+
+  abbrev pub SameClasses : List (member.Class A) → List (member.Class B) → Type 0
+  SameClasses t t' = (h : B → Option B) (k : A → Option B) → Agree R h k → map (map_class h) t' ≡ map (map_class k) t
+
+  abbrev pub SameMaybeType : Option (tree.TypeName A) → Option (tree.TypeName B) → Type 0
+  SameMaybeType t t' = (h : B → Option B) (k : A → Option B) → Agree R h k → option_map (map_type h) t' ≡ option_map (map_type k) t
+
+  abbrev pub SameMaybeExp : Option (tree.Exp A) → Option (tree.Exp B) → Type 0
+  SameMaybeExp t t' = (h : B → Option B) (k : A → Option B) → Agree R h k → option_map (map_exp h) t' ≡ option_map (map_exp k) t
+
+  abbrev pub SameMaybeExps : Option (tree.Exps A) → Option (tree.Exps B) → Type 0
+  SameMaybeExps t t' = (h : B → Option B) (k : A → Option B) → Agree R h k → option_map (map_exps h) t' ≡ option_map (map_exps k) t

@@ -5,6 +5,7 @@ mod children;
 mod expr_marks;
 mod exprs;
 mod marks;
+mod member_marks;
 mod members;
 mod names;
 mod nodes;

@@ -1,5 +1,5 @@
 //! A copy of a tree with other marks: names, types and parameters.
-ghost use Rattle.std.specs.Prelude.{IfOk, option_map};
+ghost use Rattle.std.specs.Prelude.{IfOk, option_map, map};
 ghost use Rattle.std.specs.Fn.{FnReturnsAt};
 ghost use Rattle.jr_ast.specs.Remarked as same;
 ghost use Rattle.jr_ast.specs.View.{word_of, modifier_of, type_of, param_of};
@@ -82,4 +82,77 @@ pub(crate) fn param<A, B: Drop, F: Fn(&A) -> B>(
         ty,
         name,
     })
+}
+
+pub(crate) fn maybe_ty<A, B: Drop, F: Fn(&A) -> B>(
+    alloc: Global,
+    of: &Option<TypeRef<A>>,
+    f: &F,
+) -> Result<Option<TypeRef<B>>, AllocError>
+    requires { F.IsAlwaysCallable f.now }
+    ensures { IfOk result (λ x. same.SameMaybeType (FnReturnsAt F.Fn f.now) (option_map type_of of.now) (option_map type_of x)) }
+{
+    match of {
+        None => Ok(None),
+        Some(of) => {
+            let copy = ty(alloc, of, f)?;
+            Ok(Some(copy))
+        }
+    }
+}
+
+fn modifier<A, B: Drop, F: Fn(&A) -> B>(modifier: &Modifier<A>, f: &F) -> Modifier<B>
+    requires { F.IsAlwaysCallable f.now }
+    ensures { same.SameModifier (FnReturnsAt F.Fn f.now) (modifier_of modifier.now) (modifier_of result) }
+{
+    let mark = marked(&modifier.mark, f);
+    Modifier {
+        mark,
+        word: modifier.word,
+    }
+}
+
+pub(crate) fn modifiers<A, B: Drop, F: Fn(&A) -> B>(
+    alloc: Global,
+    parts: &[Modifier<A>],
+    f: &F,
+) -> Result<Vec<Modifier<B>>, AllocError>
+    requires { F.IsAlwaysCallable f.now }
+    ensures { IfOk result (λ x. same.SameModifiers (FnReturnsAt F.Fn f.now) (map modifier_of parts.now) (map modifier_of x.items)) }
+{
+    let mut copies = Vec::new(alloc);
+    for part in parts {
+        copies.push(modifier(part, f))?;
+    }
+    Ok(copies)
+}
+
+pub(crate) fn words<A, B: Drop, F: Fn(&A) -> B>(
+    alloc: Global,
+    parts: &[Ident<A>],
+    f: &F,
+) -> Result<Vec<Ident<B>>, AllocError>
+    requires { F.IsAlwaysCallable f.now }
+    ensures { IfOk result (λ x. same.SameWords (FnReturnsAt F.Fn f.now) (map word_of parts.now) (map word_of x.items)) }
+{
+    let mut copies = Vec::new(alloc);
+    for part in parts {
+        copies.push(word(alloc, part, f)?)?;
+    }
+    Ok(copies)
+}
+
+pub(crate) fn params<A, B: Drop, F: Fn(&A) -> B>(
+    alloc: Global,
+    parts: &[Param<A>],
+    f: &F,
+) -> Result<Vec<Param<B>>, AllocError>
+    requires { F.IsAlwaysCallable f.now }
+    ensures { IfOk result (λ x. same.SameParams (FnReturnsAt F.Fn f.now) (map param_of parts.now) (map param_of x.items)) }
+{
+    let mut copies = Vec::new(alloc);
+    for part in parts {
+        copies.push(param(alloc, part, f)?)?;
+    }
+    Ok(copies)
 }
