@@ -1,6 +1,29 @@
 //! Trees of Java sources, generic in a mark for each node.
 #![tactic(auto)]
 
+mod children;
+mod expr_marks;
+mod exprs;
+mod marks;
+mod member_marks;
+mod members;
+mod names;
+mod nodes;
 mod operators;
+mod parts;
+mod paths;
+mod seeks;
+mod stmt_marks;
+mod stmts;
 
+pub use exprs::{Expr, ExprKind};
+pub use members::{Class, Member, MemberKind, Unit};
+pub use names::{Ident, Name};
+pub use nodes::Node;
 pub use operators::{BinOp, BumpOp, ModWord, UnOp};
+pub use parts::{Modifier, Param, TypeKind, TypeRef};
+pub use paths::Path;
+pub use stmts::{Stmt, StmtKind};
+
+#[cfg(test)]
+mod tests;

@@ -1,0 +1,170 @@
+//! Trees made by hand, and what paths, names and other marks give of them.
+use crate::{
+    Class, Expr, Ident, Member, ModWord, Modifier, Name, Node, Param, Path, Stmt, TypeKind,
+    TypeRef, Unit,
+};
+use std::alloc::{AllocError, Global};
+use std::test::Fail;
+
+fn word(alloc: Global, mark: u32, text: &str) -> Result<Ident<u32>, AllocError> {
+    let name = Name::new(alloc, text)?;
+    Ok(Ident { mark, name })
+}
+
+fn path(alloc: Global, steps: &[u32]) -> Result<Path, AllocError> {
+    let steps = steps.to_vec(alloc)?;
+    Ok(Path { steps })
+}
+
+fn plain(mark: u32, kind: TypeKind<u32>) -> TypeRef<u32> {
+    TypeRef { mark, kind }
+}
+
+// `x + 1`
+fn sum(alloc: Global) -> Result<Expr<u32>, AllocError> {
+    let name = word(alloc, 32, "x")?;
+    let left = Box::new(alloc, Expr::simple(31, name))?;
+    let right = Box::new(alloc, Expr::number(33, 1))?;
+    Ok(Expr::binary(30, crate::BinOp::Add, left, right))
+}
+
+// `m(x + 1);`
+fn call(alloc: Global) -> Result<Stmt<u32>, AllocError> {
+    let mut args = Vec::new(alloc);
+    args.push(sum(alloc)?)?;
+    let name = word(alloc, 29, "m")?;
+    Ok(Stmt::eval(27, Expr::call(28, name, args)))
+}
+
+// `static void m(boolean b) { m(x + 1); }`
+fn method(alloc: Global) -> Result<Member<u32>, AllocError> {
+    let mut modifiers = Vec::new(alloc);
+    modifiers.push(Modifier {
+        mark: 21,
+        word: ModWord::Static,
+    })?;
+    let mut params = Vec::new(alloc);
+    params.push(Param {
+        mark: 23,
+        is_final: false,
+        ty: plain(24, TypeKind::Boolean),
+        name: word(alloc, 25, "b")?,
+    })?;
+    let mut body = Vec::new(alloc);
+    body.push(call(alloc)?)?;
+    let name = word(alloc, 22, "m")?;
+    Ok(Member::method(20, modifiers, None, name, params, body))
+}
+
+// `class A extends B { static void m(boolean b) { m(x + 1); } }`
+fn class(alloc: Global) -> Result<Class<u32>, AllocError> {
+    let name = word(alloc, 11, "A")?;
+    let parent = word(alloc, 13, "B")?;
+    let parent = plain(12, TypeKind::Named(None, parent));
+    let mut members = Vec::new(alloc);
+    members.push(method(alloc)?)?;
+    Ok(Class::new(10, Vec::new(alloc), name, Some(parent), members))
+}
+
+// `package p; class A extends B { .. }`
+fn unit(alloc: Global) -> Result<Unit<u32>, AllocError> {
+    let mut path = Vec::new(alloc);
+    path.push(word(alloc, 2, "p")?)?;
+    let mut classes = Vec::new(alloc);
+    classes.push(class(alloc)?)?;
+    Ok(Unit::new(1, path, classes))
+}
+
+fn mark_of(node: &Node<'_, u32>) -> u32 {
+    match node {
+        Node::Unit(unit) => unit.mark,
+        Node::Class(class) => class.mark,
+        Node::Modifier(modifier) => modifier.mark,
+        Node::Word(word) => word.mark,
+        Node::Type(ty) => ty.mark,
+        Node::Param(param) => param.mark,
+        Node::Member(member) => member.mark,
+        Node::Stmt(stmt) => stmt.mark,
+        Node::Expr(expr) => expr.mark,
+    }
+}
+
+fn mark_at(alloc: Global, unit: &Unit<u32>, steps: &[u32]) -> Result<Option<u32>, AllocError> {
+    let path = path(alloc, steps)?;
+    Ok(Node::Unit(unit).at(&path).map(|node| mark_of(&node)))
+}
+
+// Each kind of node is reached by a path, and what lies past a tree's edge is not.
+#[test]
+fn paths_lead_to_nodes(rt: HostRuntime) -> Result<(), Fail> {
+    let alloc = rt.alloc();
+    let unit = unit(alloc)?;
+    let table: [(&[u32], Option<u32>); 14] = [
+        (&[], Some(1)),
+        (&[0], Some(2)),
+        (&[1], Some(10)),
+        (&[1, 0], Some(11)),
+        (&[1, 1, 0], Some(13)),
+        (&[1, 2], Some(20)),
+        (&[1, 2, 0], Some(21)),
+        (&[1, 2, 2, 0], Some(24)),
+        (&[1, 2, 3], Some(27)),
+        (&[1, 2, 3, 0, 1], Some(30)),
+        (&[1, 2, 3, 0, 1, 1], Some(33)),
+        (&[2], None),
+        (&[1, 2, 4], None),
+        (&[1, 2, 3, 0, 1, 1, 0], None),
+    ];
+    for (steps, want) in table {
+        assert_eq!(rt; mark_at(alloc, &unit, steps)?, want);
+    }
+    Ok(())
+}
+
+#[test]
+fn path_calls_answer_by_kind(rt: HostRuntime) -> Result<(), Fail> {
+    let alloc = rt.alloc();
+    let unit = unit(alloc)?;
+    let to_member = path(alloc, &[1, 2])?;
+    let to_stmt = path(alloc, &[1, 2, 3])?;
+    let to_expr = path(alloc, &[1, 2, 3, 0])?;
+    assert_eq!(rt; unit.member_at(&to_member).map(|m| m.mark), Some(20));
+    assert_eq!(rt; unit.stmt_at(&to_stmt).map(|s| s.mark), Some(27));
+    assert_eq!(rt; unit.expr_at(&to_expr).map(|e| e.mark), Some(28));
+    assert_eq!(rt; unit.expr_at(&to_stmt).map(|e| e.mark), None);
+    Ok(())
+}
+
+#[test]
+fn a_member_is_where_its_paths_begin(rt: HostRuntime) -> Result<(), Fail> {
+    let alloc = rt.alloc();
+    let member = method(alloc)?;
+    let to_stmt = path(alloc, &[3])?;
+    let to_expr = path(alloc, &[3, 0, 1])?;
+    assert_eq!(rt; member.stmt_at(&to_stmt).map(|s| s.mark), Some(27));
+    assert_eq!(rt; member.expr_at(&to_expr).map(|e| e.mark), Some(30));
+    assert_eq!(rt; member.stmt_at(&to_expr).map(|s| s.mark), None);
+    Ok(())
+}
+
+#[test]
+fn marks_are_made_anew(rt: HostRuntime) -> Result<(), Fail> {
+    let alloc = rt.alloc();
+    let unit = unit(alloc)?;
+    let copy = unit.with_marks(alloc, |mark| *mark ^ 64)?;
+    let table: [(&[u32], u32); 2] = [(&[1, 1, 0], 77), (&[1, 2, 3, 0, 1, 1], 97)];
+    for (steps, want) in table {
+        assert_eq!(rt; mark_at(alloc, &copy, steps)?, Some(want));
+    }
+    Ok(())
+}
+
+#[test]
+fn names_are_their_bytes(rt: HostRuntime) -> Result<(), Fail> {
+    let alloc = rt.alloc();
+    let name = Name::new(alloc, "ab")?;
+    assert_eq!(rt; name.as_str(), "ab");
+    assert!(rt; name == Name::new(alloc, "ab")?);
+    assert!(rt; name != Name::new(alloc, "a")?);
+    Ok(())
+}
