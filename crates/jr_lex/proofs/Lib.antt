@@ -2,3 +2,15 @@ pub mod NumberLaws
 pub mod ScanLaws
 pub mod RunLaws
 pub mod WordLaws
+pub mod FirstLaws
+pub mod Meaning
+pub mod StringLaws
+pub mod CommentLaws
+pub mod CommentScans
+pub mod SymbolLaws
+pub mod ScanMeaning
+pub mod CutLaws
+pub mod LocalLaws
+pub mod ReplaceLaws
+pub mod DepthLaws
+pub mod PlaceLaws

@@ -49,6 +49,13 @@ tokens_of (i ∷ items) = in_front i.kind (tokens_of items)
 abbrev pub unclosed_behind : ℕ → TokenKind → ℕ
 unclosed_behind n t = if is_opening t then n + 1 else (if is_closing t then n - 1 else n)
 
+-- how many tokens stand behind the last of `; { }`, and how many are `else`, with one more token
+abbrev pub since_behind : ℕ → TokenKind → ℕ
+since_behind n t = if is_separator t then 0 else n + 1
+
+abbrev pub elses_behind : ℕ → TokenKind → ℕ
+elses_behind n t = if is_else t then n + 1 else n
+
 -- how many brackets are open behind tokens
 abbrev pub unclosed : List TokenKind → ℕ
 unclosed ts = fold unclosed_behind 0 ts

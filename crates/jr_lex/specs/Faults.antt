@@ -1,14 +1,13 @@
 -- What is wrong with a text at a place.
-use Rattle.std.specs.Prelude.{◌≡◌, ◌≢◌, ◌<◌, ◌+◌, ◌⊎◌, ◌||◌, ◌==◌, ℕ, true, false, List, [], ◌∷◌, ◌++◌, length, codes}
+use Rattle.std.specs.Prelude.{◌≡◌, ◌≢◌, ◌<◌, ◌+◌, ◌⊎◌, ◌||◌, ◌==◌, not, ℕ, true, false, List, [], ◌∷◌, ◌++◌, codes}
 use Rattle.jr_lex.specs.declared.items.ItemKind.{ItemKind}
-use Rattle.jr_lex.specs.declared.items.ItemKind.TheVariants as item
 use Rattle.jr_lex.specs.declared.faults.LexFault.{LexFault}
 use Rattle.jr_lex.specs.declared.faults.LexFault.TheVariants as fault
-use Rattle.jr_lex.specs.Characters.{is_digit, is_word_part, all_pass, first_passes, byte_len}
+use Rattle.jr_lex.specs.Characters.{is_digit, is_line_end, is_word_part, all_pass, first_passes, byte_len}
 use Rattle.jr_lex.specs.Numbers.{number_of}
 use Rattle.jr_lex.specs.Strings.{Closes, HasWrongEscape}
-use Rattle.jr_lex.specs.Comments.{has_close, HasFirstUnicodeEscape}
-use Rattle.jr_lex.specs.Lexemes.{IsLexeme, IsLexemeAt}
+use Rattle.jr_lex.specs.Comments.{has_close, IsLineComment, IsBlockComment, HasFirstUnicodeEscape}
+use Rattle.jr_lex.specs.Lexemes.{IsLexeme}
 
 -- no lexeme begins with the character
 abbrev pub BeginsNone : ℕ → Type 0
@@ -34,11 +33,16 @@ pub record HasOpenString (text : List ℕ) : Type 0 where
   pub opens : text ≡ 34 ∷ rest
   pub no_close : (content after : List ℕ) → Closes rest content after → ⊥
 
--- A Unicode escape in the comment that begins the text.
+-- The text begins with a comment that is whole: a block comment, or a line comment that goes up to the end of the line or of the file.
+pub record BeginsWithComment (text comment rest : List ℕ) : Type 0 where
+  pub parts : text ≡ comment ++ rest
+  pub whole : IsBlockComment comment ⊎ (IsLineComment comment × (first_passes (λ c. not (is_line_end c)) rest ≡ false))
+
+-- The first Unicode escape in the comment that begins the text.
 pub record HasEscapeInComment (text front : List ℕ) : Type 0 where
   pub comment : List ℕ
   pub rest : List ℕ
-  pub whole : IsLexemeAt text item.Comment comment rest
+  pub begins : BeginsWithComment text comment rest
   pub escape : HasFirstUnicodeEscape comment front
 
 -- An escape that is none in the string that begins the text, and closes: a Unicode escape, or another.

@@ -11,3 +11,5 @@ pub mod Depth
 pub mod Replacing
 pub mod Scan
 pub mod Front
+pub mod Answers
+pub mod Places

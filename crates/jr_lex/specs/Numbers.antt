@@ -1,5 +1,5 @@
 -- Decimal integer literals (JLS 3.10.1), of which one more than the greatest int is kept for a minus in front of it.
-use Rattle.std.specs.Prelude.{◌≡◌, ◌≢◌, ◌≤◌, ℕ, ◌+◌, ◌*◌, ◌-◌, true, List, [], ◌∷◌}
+use Rattle.std.specs.Prelude.{◌≡◌, ◌≤◌, ℕ, ◌+◌, ◌*◌, ◌-◌, true, List, [], ◌∷◌}
 use Rattle.jr_lex.specs.Characters.{is_digit, all_pass}
 
 -- the number that the digits `front` and then these digits spell, where `front` spells `n`

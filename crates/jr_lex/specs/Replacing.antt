@@ -63,5 +63,5 @@ WordQualified =
     → IsName new
     → Lexes (front ++ old ++ rest) (before ++ word_at (length front) (length old) ∷ after)
     → Lexes (front ++ (class ++ 46 ∷ new) ++ rest)
-        (before ++ word_at (length front) (length class) ∷ dot_at (length front + length class) ∷ word_at (length front + length class + 1) (length new)
-            ∷ moved (length old) (length class + 1 + length new) after)
+    (before ++ word_at (length front) (length class) ∷ dot_at (length front + length class) ∷ word_at (length front + length class + 1) (length new)
+    ∷ moved (length old) (length class + 1 + length new) after)

@@ -1,5 +1,5 @@
 -- What stands at the front of a text, as an exact function that the code computes: its kind and what follows it, or what is wrong.
-use Rattle.std.specs.Prelude.{◌≡◌, ◌+◌, ◌-◌, ℕ, Bool, true, false, not, ◌&&◌, ◌||◌, ◌==◌, nat_lt, if◌then◌else◌, List, [], ◌∷◌, map, Option, Some, None, Result, Ok, Err, MatchResult, MatchOption}
+use Rattle.std.specs.Prelude.{◌≡◌, ◌+◌, ◌-◌, ℕ, Bool, true, false, not, ◌&&◌, ◌||◌, ◌==◌, nat_lt, if◌then◌else◌, List, [], ◌∷◌, map, Option, Some, None, Result, Ok, Err}
 use Rattle.std.specs.Option.{option_map_or}
 use Rattle.jr_lex.specs.declared.items.ItemKind.{ItemKind}
 use Rattle.jr_lex.specs.declared.items.ItemKind.TheVariants as item
@@ -63,8 +63,13 @@ kind_of_keyword None = token.Word
 abbrev pub word_kind : List ℕ → TokenKind
 word_kind word = kind_of_keyword (keyword_of word)
 
-abbrev pub word_at : ℕ → List ℕ → Scanned
-word_at c cs = Ok (item.Token (word_kind (c ∷ front_of is_word_part cs)), rest_after is_word_part cs)
+abbrev pub scanned_word : ℕ → List ℕ → Scanned
+scanned_word c cs = Ok (item.Token (word_kind (c ∷ front_of is_word_part cs)), rest_after is_word_part cs)
+
+-- the whole text is a word
+abbrev pub is_word : List ℕ → Bool
+is_word [] = false
+is_word (c ∷ cs) = is_word_start c && (byte_len (rest_after is_word_part cs) == 0)
 
 -- ---- numbers
 
@@ -219,8 +224,8 @@ abbrev pub dots : List ℕ → Option (List ℕ) → Scanned
 dots cs (Some rest) = Ok (item.Token (token.Mark symbol.Ellipsis), rest)
 dots cs None = Ok (item.Token (token.Mark symbol.Dot), cs)
 
-abbrev pub dot_at : ℕ → List ℕ → Scanned
-dot_at at cs = if first_passes is_digit cs then Err (fault.BadNumber at) else dots cs (two_dots cs)
+abbrev pub scanned_dot : ℕ → List ℕ → Scanned
+scanned_dot at cs = if first_passes is_digit cs then Err (fault.BadNumber at) else dots cs (two_dots cs)
 
 abbrev pub slash_at : ℕ → List ℕ → Scanned
 slash_at at [] = marked (symbol.Slash, [])
@@ -234,7 +239,7 @@ backslash_at at cs = if first_passes (λ d. d == 117) cs then Err (fault.Escape 
 
 abbrev pub other_at : ℕ → ℕ → List ℕ → Option Symbol → Scanned
 other_at at c cs (Some s) = marked (grown s cs)
-other_at at c cs None = if is_word_start c then word_at c cs else Err (fault.BadByte at)
+other_at at c cs None = if is_word_start c then scanned_word c cs else Err (fault.BadByte at)
 
 -- What stands at the front of the text `c ∷ cs`, which begins at the byte `at`.
 unfoldable pub scan : ℕ → ℕ → List ℕ → Scanned
@@ -242,7 +247,7 @@ scan at c cs =
     if is_blank c then Ok (item.Blank, rest_after is_blank cs)
     else (if is_digit c then number_at at c cs
     else (if c == 34 then string_at at cs
-    else (if c == 46 then dot_at at cs
+    else (if c == 46 then scanned_dot at cs
     else (if c == 47 then slash_at at cs
     else (if c == 92 then backslash_at at cs
     else other_at at c cs (first_symbol c))))))

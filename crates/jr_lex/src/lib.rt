@@ -3,15 +3,25 @@
 
 mod characters;
 mod comments;
+mod depth;
 mod escapes;
 mod faults;
 mod items;
 mod keywords;
+mod laws;
+mod lexing;
 mod numbers;
 mod scan;
 mod strings;
 mod symbols;
 mod words;
 
+pub use depth::{TooDeep, measure};
 pub use faults::LexFault;
 pub use items::{Item, ItemKind, Keyword, Symbol, TokenKind};
+pub use laws::{items_are_placed, one_answer, words_may_be_replaced};
+pub use lexing::lex;
+pub use words::is_identifier;
+
+#[cfg(test)]
+mod tests;

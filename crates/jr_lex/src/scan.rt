@@ -18,7 +18,7 @@ use crate::words::{after_blanks, after_word, keyword_of};
 /// The word that a text begins with, whose first character is `first`, and what follows it.
 fn word<'a>(text: &str, first: char, behind: &'a str) -> (ItemKind, &'a str)
     requires { BeginsWith text.now first behind.now }
-    ensures { spec.word_at first (chars behind.now) ≡ Ok (result.0, chars result.1.now) }
+    ensures { spec.scanned_word first (chars behind.now) ≡ Ok (result.0, chars result.1.now) }
 {
     let rest = after_word(behind);
     let len = text.len().saturating_sub(rest.len());

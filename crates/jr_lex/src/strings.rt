@@ -33,7 +33,10 @@ fn string_ending(mut text: &str) -> Option<Ending<'_>>
     let mut wrong = None;
     while let Some((first, behind)) = split_first(text) {
         if first == '"' {
-            return Some(Ending { rest: behind, wrong });
+            return Some(Ending {
+                rest: behind,
+                wrong,
+            });
         }
         if is_line_end(first) {
             return None;

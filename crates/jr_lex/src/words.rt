@@ -1,13 +1,13 @@
 //! Words (JLS 3.8, 3.9).
 
-ghost use Rattle.std.specs.Prelude.{◌≡◌, ◌≤◌, ◌+◌, ◌∷◌, length, map};
+ghost use Rattle.std.specs.Prelude.{◌≡◌, ◌↔◌, map, IsTrue};
 ghost use Rattle.std.specs.Str.{chars};
-ghost use Rattle.jr_lex.specs.Front.{BeginsWith};
+ghost use Rattle.jr_lex.specs.Words.{IsIdentifier};
 ghost use Rattle.jr_lex.specs.Characters.{is_blank, is_word_part};
 ghost use Rattle.jr_lex.specs.Scan as spec;
 
-use crate::characters::{is_blank, is_word_part, split_first};
-use crate::items::{ItemKind, Keyword, TokenKind};
+use crate::characters::{is_blank, is_word_part, is_word_start, split_first};
+use crate::items::Keyword;
 use crate::keywords::KEYWORDS;
 
 /// What follows the blanks that a text begins with.
@@ -55,4 +55,21 @@ pub(crate) fn keyword_of(word: &[u8]) -> Option<Keyword>
     ensures { result ≡ spec.keyword_of word.now }
 {
     lookup(&KEYWORDS, word)
+}
+
+/// Whether the whole name is one word.
+fn is_word(name: &str) -> bool
+    ensures { result ≡ spec.is_word (chars name.now) }
+{
+    match split_first(name) {
+        Some((first, behind)) => is_word_start(first) && after_word(behind).is_empty(),
+        None => false,
+    }
+}
+
+/// Whether the whole name is one identifier (JLS 3.8): a word that is no keyword and no literal.
+pub fn is_identifier(name: &str) -> bool
+    ensures { IsTrue result ↔ IsIdentifier (chars name.now) }
+{
+    is_word(name) && keyword_of(name.as_bytes()).is_none()
 }

@@ -1,15 +1,15 @@
 -- The machine reads every small source, and finds its names.
-use Rattle.std.proofs.Common.{◌≡◌, ℕ, zero, suc, ◌+◌, List, [], ◌∷◌, ◌++◌, Option, Some, None, refl, sym, ap, subst, ◌∙◌, append_assoc, append-nil, arith, length}
+use Rattle.std.proofs.Common.{◌≡◌, ℕ, ◌+◌, List, [], ◌∷◌, ◌++◌, Option, Some, None, refl, sym, ap, ◌∙◌, append_assoc, append-nil, arith, length}
 use Rattle.std.specs.Prelude.{option_and_then, map}
 use Rattle.jr_small.specs.declared.tokens.Fixed.TheVariants as fixed
 use Rattle.jr_small.specs.declared.occurrences.Role.TheVariants as role
 use Rattle.jr_small.specs.declared.phases.Phase.{Phase}
 use Rattle.jr_small.specs.declared.phases.Phase.TheVariants as phase
-use Rattle.jr_small.specs.Source.{Name, Reference, Atom, number, named, Sum, Statement, declares, assigns, Member, field, method, Source}
-use Rattle.jr_small.specs.Token.{Piece, word, fixed_token}
+use Rattle.jr_small.specs.Source.{Name, Reference, Atom, number, named, Sum, Statement, declares, assigns, Member, field, method}
+use Rattle.jr_small.specs.Token.{Piece, fixed_token}
 use Rattle.jr_small.specs.Spelling.{Tree, spell_reference, spell_atom, spell_more, spell_value, spell_statement, spell_body, spell_later, spell_parameters, spell_member, spell_members, spell}
 use Rattle.jr_small.specs.Occurrence.{Occurrence, declared, referred, in_atoms, in_sum, in_statement, in_body, in_member, in_members, occurrences}
-use Rattle.jr_small.specs.Machine.{State, qualified, step, run, start, whole, read}
+use Rattle.jr_small.specs.Machine.{State, qualified, step, run, whole, read}
 
 abbrev pub at : Phase → ℕ → ℕ → List Occurrence → State
 at p m s os = record { phase = p; member = m; statement = s; occurrences = os }

@@ -1,22 +1,22 @@
 -- What a table by name answers is what the name means.
-use Rattle.std.proofs.Common.{◌≡◌, ℕ, zero, suc, ◌+◌, ◌<◌, ◌≤◌, List, [], ◌∷◌, ◌++◌, length, take, get_or, Option, Some, None, Bool, true, false, cond, refl, sym, ap, subst, ◌∙◌, arith, inl, inr, ◌⊎◌}
-use Rattle.std.specs.Prelude.{map, slice_get, ◌&&◌, if◌then◌else◌, MatchOption, IfSome, is_some, not, option_map}
+use Rattle.std.proofs.Common.{◌≡◌, ℕ, zero, suc, ◌+◌, ◌<◌, ◌≤◌, List, [], ◌∷◌, ◌++◌, length, take, get_or, Option, Some, None, Bool, true, false, cond, refl, sym, ap, subst, ◌∙◌, arith, inl, inr}
+use Rattle.std.specs.Prelude.{slice_get, ◌&&◌, MatchOption, IfSome, is_some, not, option_map}
 use Rattle.std.proofs.lemmas.List.{take-map}
 use Rattle.std.proofs.lemmas.Option.{slice_get-map, slice_get-get_or}
 use Rattle.std.proofs.lemmas.List.{length-map, length-take}
 use Rattle.std.specs.Str.{bytes_eq}
 use Rattle.std.proofs.lemmas.Slice.Eq.{bytes_eq-Decides}
 use Rattle.jr_small.specs.declared.occurrences.Role.{Role}
-use Rattle.jr_small.specs.declared.occurrences.Role.TheVariants.{Class, Field, Method, Parameter, Local, Reference}
+use Rattle.jr_small.specs.declared.occurrences.Role.TheVariants.{Class, Field, Parameter, Local}
 use Rattle.jr_small.specs.declared.tables.Table.{Table}
 use Rattle.jr_small.specs.declared.occurrences.Occurrence as raw
 use Rattle.jr_small.specs.View.{occurrence_of, all_of}
 use Rattle.jr_small.specs.Occurrence.{Occurrence}
-use Rattle.jr_small.specs.Binding.{IsVariable, InScope, NoneInScope, FindsVariable, DeclaresField}
-use Rattle.jr_small.specs.Sound.{Together, SameField, SameVariable}
+use Rattle.jr_small.specs.Binding.{IsVariable, InScope, NoneInScope, FindsVariable}
+use Rattle.jr_small.specs.Sound.{Together, SameField}
 use Rattle.jr_small.specs.Table.{found, PutsNumber}
 use Rattle.jr_small.specs.Exact.{last_where, is_field_role, is_variable_role, is_field, is_variable, IsMonotone, Records, Pairs, Added}
-use Rattle.jr_small.proofs.Walks.{all_of-more, together_more, last_where-more, IsLastOne, NonePasses, last_is, last_none, get_front, get_more}
+use Rattle.jr_small.proofs.Walks.{all_of-more, together_more, last_where-more, IsLastOne, last_is, last_none}
 
 -- ---- the tests
 
@@ -149,8 +149,8 @@ not_field _ h = refl
 pub added_field : (front : List Occurrence) (o : Occurrence) (old new : Table) (number : ℕ) (name : List ℕ) (before : Option ℕ) (b : Bool) → o.role ≡ Field → name ≡ o.name.text → Records is_field front old → length front ≡ number
     → before ≡ found old name → PutsNumber old name number new → is_some before ≡ not b → Added SameField is_field front o b new
 added_field front o old new number name None true f n r l e p s = (
-    field_before front o old None f r (e ∙ ap (found old) n),
-    records_put is_field front o old new number r (λ q. ap (λ (x : Bool). x && bytes_eq o.name.text q) (role_field o.role f)) l (subst (λ (w : List ℕ). PutsNumber old w number new) n p),
+  field_before front o old None f r (e ∙ ap (found old) n),
+  records_put is_field front o old new number r (λ q. ap (λ (x : Bool). x && bytes_eq o.name.text q) (role_field o.role f)) l (subst (λ (w : List ℕ). PutsNumber old w number new) n p),
 )
 added_field front o old new number name None false f n r l e p s = absurd cc
 added_field front o old new number name (Some i) true f n r l e p s = absurd cc

@@ -1,15 +1,13 @@
 -- What is read is what a source spells, and nothing else is.
-use Rattle.std.proofs.Common.{◌≡◌, ℕ, List, [], ◌∷◌, ◌++◌, Option, Some, None, refl, sym, ap, subst, ◌∙◌, append_assoc, append-nil}
+use Rattle.std.proofs.Common.{◌≡◌, List, [], ◌∷◌, ◌++◌, Option, Some, None, refl, sym, ap, subst, ◌∙◌, append_assoc, append-nil}
 use Rattle.std.specs.Prelude.{option_and_then, IfSome}
-use Rattle.jr_small.specs.declared.phases.Phase.{Phase}
-use Rattle.jr_small.specs.declared.phases.Phase.TheVariants as phase
 use Rattle.jr_small.specs.Token.{Piece}
 use Rattle.jr_small.specs.Spelling.{Tree, spell}
 use Rattle.jr_small.specs.Occurrence.{Occurrence, occurrences}
 use Rattle.jr_small.specs.Machine.{State, step, run, start, whole, read}
 use Rattle.jr_small.proofs.Complete.{source_read}
 use Rattle.jr_small.proofs.Partial.{Partial, nothing, finished, spelled, state_of, Body}
-use Rattle.jr_small.proofs.Sound.{Grows, step_grows}
+use Rattle.jr_small.proofs.Growing.{Grows, step_grows}
 
 -- the tokens make the beginning longer by them, and lead the machine there
 record GrowsBy (p : Partial) (ts : List Piece) (s : State) : Type 0 where
@@ -63,8 +61,8 @@ read_none ts e u s =
     let found : Some (occurrences u) ≡ None = sym (source_read u) ∙ ap read (sym s) ∙ e in
     cc
 
--- what a source spells has its names
-pub read_names : (ts : List Piece) (os : List Occurrence) → read ts ≡ Some os → (u : Tree) → ts ≡ spell u → occurrences u ≡ os
-read_names ts os e u s =
-    let found : Some (occurrences u) ≡ Some os = sym (source_read u) ∙ ap read (sym s) ∙ e in
+-- sources that spell the same have the same names
+pub spelled_alike : (ts : List Piece) (u v : Tree) → ts ≡ spell u → ts ≡ spell v → occurrences u ≡ occurrences v
+spelled_alike ts u v e f =
+    let both : Some (occurrences u) ≡ Some (occurrences v) = sym (source_read u) ∙ ap read (sym e ∙ f) ∙ source_read v in
     cc

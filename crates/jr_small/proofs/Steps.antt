@@ -1,19 +1,17 @@
 -- The steps of the reader, over the text.
-use Rattle.std.proofs.Common.{◌≡◌, ℕ, List, [], ◌∷◌, ◌++◌, Option, Some, None, refl, sym, ap, subst, ◌∙◌}
-use Rattle.std.specs.Prelude.{map, option_and_then}
+use Rattle.std.proofs.Common.{◌≡◌, ℕ, List, [], ◌∷◌, ◌++◌, Option, Some, None, refl, ap, subst, ◌∙◌}
+use Rattle.std.specs.Prelude.{option_and_then}
 use Rattle.jr_text.specs.declared.spans.Span.{Span}
-use Rattle.jr_small.specs.declared.tokens.Fixed.{Fixed}
 use Rattle.jr_small.specs.declared.tokens.Fixed.TheVariants as fixed
 use Rattle.jr_small.specs.declared.tokens.Shape.{Shape}
 use Rattle.jr_small.specs.declared.tokens.Shape.TheVariants as shape
 use Rattle.jr_small.specs.declared.phases.Phase.{Phase}
 use Rattle.jr_small.specs.declared.phases.Phase.TheVariants as phase
 use Rattle.jr_small.specs.declared.phases.Action.{Action}
-use Rattle.jr_small.specs.declared.phases.Action.TheVariants as action
 use Rattle.jr_small.specs.declared.occurrences.Occurrence.{Occurrence}
 use Rattle.jr_small.specs.Source.{Name}
 use Rattle.jr_small.specs.Token.{name_at, shaped_piece}
-use Rattle.jr_small.specs.Machine.{State, transition_of, acted, moved, step, qualified, name_of, shape_of}
+use Rattle.jr_small.specs.Machine.{State, transition_of, acted, moved, step, qualified}
 use Rattle.jr_small.specs.View.{occurrence_of, all_of}
 
 -- the last name becomes the qualifier of this one

@@ -1,16 +1,12 @@
 -- What holds of the occurrences so far, once one more is looked at.
-use Rattle.std.proofs.Common.{◌≡◌, ℕ, zero, suc, ◌+◌, ◌<◌, ◌≤◌, List, [], ◌∷◌, ◌++◌, length, take, get_or, Option, Some, None, Bool, true, false, cond, refl, sym, ap, subst, ◌∙◌, append_assoc, append-nil, arith, inl, inr, ◌⊎◌, add-zero, add-one}
-use Rattle.std.specs.Prelude.{map, slice_get, ◌&&◌, if◌then◌else◌}
-use Rattle.std.specs.Str.{bytes_eq}
+use Rattle.std.proofs.Common.{◌≡◌, ℕ, zero, suc, ◌+◌, ◌<◌, ◌≤◌, List, [], ◌∷◌, ◌++◌, length, take, get_or, Option, Some, None, Bool, true, false, refl, ap, subst, ◌∙◌, arith, inl, inr, ◌⊎◌, add-one}
+use Rattle.std.specs.Prelude.{slice_get, if◌then◌else◌}
 use Rattle.std.proofs.Math.Seq.{take-suc}
 use Rattle.std.proofs.lemmas.List.{map-append}
-use Rattle.jr_small.specs.declared.occurrences.Role.{Role}
 use Rattle.jr_small.specs.declared.occurrences.Occurrence as raw
-use Rattle.jr_small.specs.declared.tables.Table.{Table}
 use Rattle.jr_small.specs.Occurrence.{Occurrence}
 use Rattle.jr_small.specs.Sound.{Together}
-use Rattle.jr_small.specs.Table.{found, PutsNumber}
-use Rattle.jr_small.specs.Exact.{or_later, last_from, last_where, Records}
+use Rattle.jr_small.specs.Exact.{or_later, last_from, last_where}
 use Rattle.jr_small.specs.View.{occurrence_of, all_of}
 
 -- ---- a list with one more at its end

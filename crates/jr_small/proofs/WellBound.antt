@@ -1,18 +1,18 @@
 -- What it means that a reference is well bound.
-use Rattle.std.proofs.Common.{◌≡◌, ℕ, ◌<◌, ◌≤◌, length, take, get_or, nat_eq, eq-eqb, eqb-true, List, Option, Some, None, Bool, true, false, refl, sym, ap, subst, ◌∙◌, arith, inl, inr, ◌⊎◌}
+use Rattle.std.proofs.Common.{◌≡◌, ℕ, ◌<◌, ◌≤◌, length, take, get_or, nat_eq, eq-eqb, eqb-true, List, Option, Some, None, Bool, true, false, refl, sym, ap, subst, ◌∙◌, arith, inl, inr}
 use Rattle.std.specs.Prelude.{slice_get, ◌↔◌, IsTrue, is_some, not, ◌&&◌, MatchOption}
 use Rattle.std.specs.Str.{bytes_eq}
 use Rattle.std.proofs.lemmas.List.{length-take-le}
 use Rattle.jr_small.specs.declared.occurrences.Occurrence as raw
 use Rattle.jr_small.specs.View.{all_of}
 use Rattle.jr_small.specs.Sound.{SameVariable}
-use Rattle.jr_small.specs.declared.occurrences.Role.TheVariants.{Class, Field, Method, Parameter, Local, Reference}
+use Rattle.jr_small.specs.declared.occurrences.Role.TheVariants.{Field, Local}
 use Rattle.jr_small.specs.declared.tables.Table.{Table}
 use Rattle.jr_small.specs.Source.{Name}
 use Rattle.jr_small.specs.Occurrence.{Occurrence}
-use Rattle.jr_small.specs.Binding.{IsVariable, InScope, NoneInScope, FindsVariable, DeclaresField, NoField, FindsName, FindsClass, FindsReference, Binds}
+use Rattle.jr_small.specs.Binding.{IsVariable, NoneInScope, FindsVariable, DeclaresField, NoField, FindsName, FindsClass, FindsReference, Binds}
 use Rattle.jr_small.specs.Table.{found, PutsNumber}
-use Rattle.jr_small.specs.Exact.{last_where, is_field, is_variable, Pairs, Added, Records, IsOwn, IsWellBound, IsNameRef, IsQualifiedRef}
+use Rattle.jr_small.specs.Exact.{is_field, is_variable, Added, Records, IsOwn, IsWellBound, IsNameRef, IsQualifiedRef}
 use Rattle.jr_small.proofs.Walks.{last_is, last_none}
 use Rattle.jr_small.proofs.Lookups.{and_both, nobody, at, at_number, field_passes, passes_field, front_of, in_front, records_put, role_variable}
 
@@ -46,8 +46,8 @@ variable_well all k j o d e r f g n = record {
 pub well_variable : (all : List Occurrence) (k j : ℕ) (o d : Occurrence) → slice_get all k ≡ Some o → IsNameRef o → FindsVariable all o.member k o.name.text j → slice_get all j ≡ Some d → IsWellBound all k → d.role ≡ Local → d.statement ≡ o.statement → ⊥
 well_variable all k j o d e r f g w local same = elim (name_binds all k w.declaration o e r w.binds) [
   | inl v ↦
-    let is_j : w.declaration ≡ j = one_variable all o.member k o.name.text w.declaration j v f in
-    w.not_own (record { reference = o; declaration = d; stands = e; declares = ap (slice_get all) is_j ∙ g; local = local; same = same })
+      let is_j : w.declaration ≡ j = one_variable all o.member k o.name.text w.declaration j v f in
+      w.not_own (record { reference = o; declaration = d; stands = e; declares = ap (slice_get all) is_j ∙ g; local = local; same = same })
   | inr n ↦ n.0 j f.in_scope
 ]
 
@@ -79,9 +79,9 @@ field_well all k o t e r n f = (λ h. from_found (found t o.name.text) refl h, �
 pub own_is : (text : List ℕ) (all : List raw.Occurrence) (number declared : ℕ) → number < length all → declared < length all → (get_or all declared nobody).role ≡ Local
     → IsTrue (nat_eq (get_or all declared nobody).statement (get_or all number nobody).statement) ↔ IsOwn (all_of text all) number declared
 own_is text all number declared h k r = (
-    λ t. record { reference = at text all number; declaration = at text all declared; stands = at_number text all number nobody h; declares = at_number text all declared nobody k; local = r; same = eqb-true _ _ t },
-    λ w. eq-eqb _ _ (ap (λ (o : Occurrence). o.statement) (same_at (all_of text all) declared (at text all declared) w.declaration (at_number text all declared nobody k) w.declares) ∙ w.same
-        ∙ ap (λ (o : Occurrence). o.statement) (same_at (all_of text all) number w.reference (at text all number) w.stands (at_number text all number nobody h))),
+  λ t. record { reference = at text all number; declaration = at text all declared; stands = at_number text all number nobody h; declares = at_number text all declared nobody k; local = r; same = eqb-true _ _ t },
+  λ w. eq-eqb _ _ (ap (λ (o : Occurrence). o.statement) (same_at (all_of text all) declared (at text all declared) w.declaration (at_number text all declared nobody k) w.declares) ∙ w.same
+      ∙ ap (λ (o : Occurrence). o.statement) (same_at (all_of text all) number w.reference (at text all number) w.stands (at_number text all number nobody h))),
 )
 
 pub own_local : (text : List ℕ) (all : List raw.Occurrence) (number declared : ℕ) → declared < length all → IsOwn (all_of text all) number declared → (get_or all declared nobody).role ≡ Local
@@ -105,7 +105,7 @@ some_well all k j o b e f w r = (to b w.1, from b w.0)
         let own = w refl in
         let d = f.in_scope.declaration in
         absurd (well_variable all k j o d e r f f.in_scope.stands h (ap (λ (p : Occurrence). p.role) (same_at all j d own.declaration f.in_scope.stands own.declares) ∙ own.local)
-            (ap (λ (p : Occurrence). p.statement) (same_at all j d own.declaration f.in_scope.stands own.declares) ∙ own.same ∙ ap (λ (p : Occurrence). p.statement) (same_at all k own.reference o own.stands e)))
+        (ap (λ (p : Occurrence). p.statement) (same_at all j d own.declaration f.in_scope.stands own.declares) ∙ own.same ∙ ap (λ (p : Occurrence). p.statement) (same_at all k own.reference o own.stands e)))
 
 -- ---- a put of a variable
 
@@ -113,8 +113,8 @@ some_well all k j o b e f w r = (to b w.1, from b w.0)
 pub added_variable : (all : List Occurrence) (number : ℕ) (o : Occurrence) (old new : Table) (name : List ℕ) (before : Option ℕ) (b : Bool) → slice_get all number ≡ Some o → IsVariable o.role → name ≡ o.name.text → number ≤ length all
     → MatchOption before (NoneInScope all o.member number name) (FindsVariable all o.member number name) → Records is_variable (take number all) old → PutsNumber old name number new → is_some before ≡ not b → Added SameVariable is_variable (take number all) o b new
 added_variable all number o old new name None true e v n h f r p s = (
-    λ q. f q.number (record { declaration = q.other; stands = (front_of all number q.number q.other q.stands).0; variable = q.pair.first; member = q.pair.member; named = q.pair.name ∙ sym n; before = (front_of all number q.number q.other q.stands).1 }),
-    records_put is_variable (take number all) o old new number r (λ q. ap (λ (x : Bool). x && bytes_eq o.name.text q) (role_variable o.role v)) (length-take-le number all h) (subst (λ (w : List ℕ). PutsNumber old w number new) n p),
+  λ q. f q.number (record { declaration = q.other; stands = (front_of all number q.number q.other q.stands).0; variable = q.pair.first; member = q.pair.member; named = q.pair.name ∙ sym n; before = (front_of all number q.number q.other q.stands).1 }),
+  records_put is_variable (take number all) o old new number r (λ q. ap (λ (x : Bool). x && bytes_eq o.name.text q) (role_variable o.role v)) (length-take-le number all h) (subst (λ (w : List ℕ). PutsNumber old w number new) n p),
 )
 added_variable all number o old new name None false e v n h f r p s = absurd cc
 added_variable all number o old new name (Some i) true e v n h f r p s = absurd cc

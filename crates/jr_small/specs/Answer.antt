@@ -20,7 +20,7 @@ use Rattle.jr_small.specs.Occurrence.{Occurrence, occurrences}
 use Rattle.jr_small.specs.Binding.{IsVariable, FindsName, Binds}
 use Rattle.jr_small.specs.Sound.{IsSound, parameter_count}
 use Rattle.jr_small.specs.Exact.{is_variable_role}
-use Rattle.jr_small.specs.Rename.{IsTarget, Asks, Meets, Clashes, Lost, Renames, BindsAs}
+use Rattle.jr_small.specs.Rename.{IsTarget, Asks, Meets, Clashes, Lost, Renames}
 use Rattle.jr_small.specs.Refusal as refusal
 use Rattle.jr_small.specs.Refusal.{Refusal, Declaration}
 

@@ -1,13 +1,14 @@
 -- Which occurrence a table by name has: the last one that passes a test.
-use Rattle.std.specs.Prelude.{◌≡◌, ◌≤◌, ◌<◌, slice_get, ℕ, ◌+◌, List, [], ◌∷◌, ◌++◌, Option, Some, None, Bool, true, false, ◌&&◌, ◌||◌, ◌==◌, if◌then◌else◌, option_map}
+use Rattle.std.specs.Prelude.{◌≡◌, ◌≤◌, ◌<◌, ◌⊎◌, slice_get, ℕ, ◌+◌, List, [], ◌∷◌, ◌++◌, Option, Some, None, Bool, true, false, ◌&&◌, if◌then◌else◌}
 use Rattle.std.specs.Str.{bytes_eq}
 use Rattle.jr_small.specs.declared.occurrences.Role.{Role}
-use Rattle.jr_small.specs.declared.occurrences.Role.TheVariants.{Class, Field, Method, Parameter, Local, Reference}
+use Rattle.jr_small.specs.declared.occurrences.Role.TheVariants.{Field, Parameter, Local, Reference}
 use Rattle.jr_small.specs.declared.tables.Table.{Table}
 use Rattle.jr_small.specs.Table.{found}
 use Rattle.jr_small.specs.Source.{Name}
 use Rattle.jr_small.specs.Occurrence.{Occurrence}
-use Rattle.jr_small.specs.Binding.{Binds}
+use Rattle.jr_small.specs.Binding.{IsVariable, Binds}
+use Rattle.jr_small.specs.Sound.{SameVariable}
 
 abbrev pub or_later : {A : Type 0} → Option A → Option A → Option A
 or_later first None = first
@@ -84,3 +85,10 @@ pub record IsQualifiedRef (o : Occurrence) (q : Name) : Type 0 where
 -- each of the first n occurrences that is a reference is well bound
 abbrev pub AreBound : List Occurrence → ℕ → Type 0
 AreBound all n = (k : ℕ) (o : Occurrence) → k < n → slice_get all k ≡ Some o → o.role ≡ Reference → IsWellBound all k
+
+-- whether occurrence o, which stands behind these, is a variable that none of them pairs with, or a well bound
+-- reference, or neither; and the table with it
+abbrev pub Checked : List Occurrence → ℕ → List Occurrence → Occurrence → Bool → Table → Type 0
+Checked all number front o true new =
+    Records is_variable (front ++ o ∷ []) new × (IsVariable o.role → Pairs SameVariable front o → ⊥) × (o.role ≡ Reference → IsWellBound all number)
+Checked all number front o false new = (IsVariable o.role × Pairs SameVariable front o) ⊎ ((o.role ≡ Reference) × (IsWellBound all number → ⊥))

@@ -14,3 +14,8 @@ pub mod Refusal
 pub mod Renaming
 pub mod Answer
 pub mod Outcome
+pub mod Readings
+pub mod Plans
+pub mod Meant
+pub mod Structure
+pub mod Changes

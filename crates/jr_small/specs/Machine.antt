@@ -1,9 +1,8 @@
 -- Reading token by token: what has been read is a phase, two counts and the names so far.
-use Rattle.std.specs.Prelude.{◌≡◌, ℕ, ◌+◌, List, [], ◌∷◌, ◌++◌, Option, Some, None, option_and_then}
+use Rattle.std.specs.Prelude.{ℕ, ◌+◌, List, [], ◌∷◌, ◌++◌, Option, Some, None, option_and_then}
 use Rattle.jr_small.specs.declared.tokens.Fixed.TheVariants as fixed
 use Rattle.jr_small.specs.declared.tokens.Shape.{Shape}
 use Rattle.jr_small.specs.declared.tokens.Shape.TheVariants as shape
-use Rattle.jr_small.specs.declared.occurrences.Role.{Role}
 use Rattle.jr_small.specs.declared.occurrences.Role.TheVariants as role
 use Rattle.jr_small.specs.declared.phases.Phase.{Phase}
 use Rattle.jr_small.specs.declared.phases.Phase.TheVariants as phase

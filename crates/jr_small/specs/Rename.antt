@@ -1,10 +1,9 @@
 -- What renaming a parameter or local of a small source means, and when it is refused.
-use Rattle.std.specs.Prelude.{◌≡◌, ◌≢◌, ℕ, ◌+◌, ◌<◌, ◌≤◌, List, [], ◌∷◌, ◌++◌, length, Option, Some, None, slice_get, ◌⊎◌, ⊤}
-use Rattle.jr_small.specs.declared.occurrences.Role.{Role}
-use Rattle.jr_small.specs.declared.occurrences.Role.TheVariants.{Class, Field, Method, Parameter, Local, Reference}
+use Rattle.std.specs.Prelude.{◌≡◌, ◌≢◌, ℕ, ◌+◌, ◌<◌, ◌≤◌, List, length, Option, Some, None, slice_get, ◌⊎◌}
+use Rattle.jr_small.specs.declared.occurrences.Role.TheVariants.{Reference}
 use Rattle.jr_small.specs.Source.{Name}
 use Rattle.jr_small.specs.Occurrence.{Occurrence}
-use Rattle.jr_small.specs.Binding.{IsVariable, FindsName, FindsReference, Binds}
+use Rattle.jr_small.specs.Binding.{IsVariable, FindsReference, Binds}
 
 -- the name holds the byte
 abbrev pub Holds : Name → ℕ → Type 0

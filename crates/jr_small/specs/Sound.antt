@@ -1,7 +1,7 @@
 -- When a small source is sound.
-use Rattle.std.specs.Prelude.{◌≡◌, ◌≢◌, ℕ, ◌<◌, List, [], ◌∷◌, Option, Some, None, slice_get, Contains, codes, count_by, ◌==◌, ◌&&◌, Bool, true, false}
+use Rattle.std.specs.Prelude.{◌≡◌, ◌≢◌, ℕ, ◌<◌, List, [], ◌∷◌, Some, slice_get, Contains, codes, count_by, ◌==◌, ◌&&◌, Bool, true, false}
 use Rattle.jr_small.specs.declared.occurrences.Role.{Role}
-use Rattle.jr_small.specs.declared.occurrences.Role.TheVariants.{Class, Field, Method, Parameter, Local, Reference}
+use Rattle.jr_small.specs.declared.occurrences.Role.TheVariants.{Field, Method, Parameter, Local, Reference}
 use Rattle.jr_small.specs.Occurrence.{Occurrence}
 use Rattle.jr_small.specs.Binding.{IsVariable, Binds}
 
@@ -53,11 +53,19 @@ abbrev pub NoneForward : List Occurrence → Type 0
 NoneForward all = (k j : ℕ) (reference declaration : Occurrence) → slice_get all k ≡ Some reference → slice_get all j ≡ Some declaration → Binds all k j
     → declaration.role ≡ Local → declaration.statement ≢ reference.statement
 
+-- a method with the name of one of Object's
+pub record IsObjects (o : Occurrence) : Type 0 where
+  pub role : o.role ≡ Method
+  pub name : Contains object_methods o.name.text
+
+abbrev pub NoObjectMethod : List Occurrence → Type 0
+NoObjectMethod all = (k : ℕ) (o : Occurrence) → slice_get all k ≡ Some o → IsObjects o → ⊥
+
 pub record IsSound (all : List Occurrence) : Type 0 where
   pub class_name : (class : Occurrence) → slice_get all 0 ≡ Some class → Contains prelude_names class.name.text → ⊥
   pub fields : Together all SameField
   pub methods : Together all (SameMethod all)
   pub variables : Together all SameVariable
-  pub no_object_method : (k : ℕ) (o : Occurrence) → slice_get all k ≡ Some o → o.role ≡ Method → Contains object_methods o.name.text → ⊥
+  pub no_object_method : NoObjectMethod all
   pub bound : (k : ℕ) (o : Occurrence) → slice_get all k ≡ Some o → o.role ≡ Reference → (j : ℕ) × Binds all k j
   pub no_forward : NoneForward all

@@ -1,5 +1,5 @@
 -- The tokens that a small source spells.
-use Rattle.std.specs.Prelude.{ℕ, List, [], ◌∷◌, ◌++◌, Option, Some, None, flat_map}
+use Rattle.std.specs.Prelude.{List, [], ◌∷◌, ◌++◌, Option, Some, None}
 use Rattle.jr_small.specs.declared.tokens.Fixed.{Fixed}
 use Rattle.jr_small.specs.declared.tokens.Fixed.TheVariants as fixed
 use Rattle.jr_small.specs.Source.{Name, Reference, Atom, number, named, Sum, Statement, declares, assigns, Member, field, method, Source}

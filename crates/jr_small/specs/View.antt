@@ -1,6 +1,5 @@
 -- Occurrences and readers as contracts see them, over the text that they are of.
 use Rattle.std.specs.Prelude.{ℕ, List, Option, Some, None, map, option_map, Bool, true, false, ◌≡◌}
-use Rattle.jr_text.specs.declared.spans.Span.{Span}
 use Rattle.jr_small.specs.declared.occurrences.Occurrence.{Occurrence}
 use Rattle.jr_small.specs.declared.reader.Reader.{Reader}
 use Rattle.jr_small.specs.Token.{name_at}

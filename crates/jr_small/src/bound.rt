@@ -1,8 +1,8 @@
 ghost use Rattle.std.specs.Prelude.{◌≡◌, ℕ, List, ◌↔◌, ◌<◌, length, take, slice_get, IsTrue, IfOk, IfSome};
 ghost use Rattle.jr_small.specs.Placed.{IsCut, ArePlaced};
 ghost use Rattle.jr_small.specs.Binding.{IsVariable};
-ghost use Rattle.jr_small.specs.Sound.{Together, SameField, SameVariable};
-ghost use Rattle.jr_small.specs.Exact.{is_field, is_variable, IsMonotone, Records, Added, IsOwn, IsWellBound, IsNameRef, IsQualifiedRef, AreBound};
+ghost use Rattle.jr_small.specs.Sound.{Together, SameVariable};
+ghost use Rattle.jr_small.specs.Exact.{is_field, is_variable, IsMonotone, Records, Added, IsOwn, IsWellBound, IsNameRef, IsQualifiedRef, AreBound, Checked};
 ghost use Rattle.jr_small.specs.Token.{name_at};
 ghost use Rattle.jr_small.specs.View.{all_of};
 
@@ -92,4 +92,53 @@ fn is_field_of_class(
     let field = fields.find(part(text, occurrence.name));
     let is_class = class == part(text, all[0].name);
     variable.is_none() & obscuring.is_none() & is_class & field.is_some()
+}
+
+/// Looks at one name: a variable is put into the table, a reference has to be well bound.
+fn check<'a>(
+    fields: &Table<'_>,
+    variables: &mut Table<'a>,
+    text: &'a str,
+    all: &[Occurrence],
+    number: usize,
+) -> Result<bool, AllocError>
+    requires within { number < length all.now }
+    requires placed { ArePlaced text.now all.now }
+    requires fields { Records is_field (all_of text.now all.now) fields.now }
+    requires variables { Records is_variable (all_of text.now (take number all.now)) variables.old }
+    requires monotone { IsMonotone (all_of text.now all.now) }
+    ensures { IfOk result (λ fine. IfSome (slice_get (all_of text.now all.now) number) (λ o. Checked (all_of text.now all.now) number (all_of text.now (take number all.now)) o fine variables.new)) }
+{
+    let occurrence = &all[number];
+    match occurrence.role {
+        Role::Parameter | Role::Local => put_variable(variables, text, all, number),
+        Role::Reference => match occurrence.qualifier {
+            None => Ok(is_name_bound(fields, variables, text, all, number)),
+            Some(qualifier) => Ok(is_field_of_class(
+                fields, variables, text, all, number, qualifier,
+            )),
+        },
+        _ => Ok(true),
+    }
+}
+
+/// Whether the variables of each method differ in name, and each reference is well bound.
+pub(crate) fn are_bound(
+    alloc: Global,
+    fields: &Table<'_>,
+    text: &str,
+    all: &[Occurrence],
+) -> Result<bool, AllocError>
+    requires placed { ArePlaced text.now all.now }
+    requires fields { Records is_field (all_of text.now all.now) fields.now }
+    requires monotone { IsMonotone (all_of text.now all.now) }
+    ensures { IfOk result (λ bound. IsTrue bound ↔ (Together (all_of text.now all.now) SameVariable × AreBound (all_of text.now all.now) (length all.now))) }
+{
+    let mut variables = Table::new(alloc);
+    for number in 0..all.len() {
+        if !check(fields, &mut variables, text, all, number)? {
+            return Ok(false);
+        }
+    }
+    Ok(true)
 }

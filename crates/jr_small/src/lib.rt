@@ -3,13 +3,19 @@
 #![tactic(auto)]
 
 mod bound;
+mod changes;
+mod declarations;
 mod declared;
+mod methods;
 mod occurrences;
 mod phases;
 mod plans;
 mod reader;
+mod readings;
 mod refusals;
+mod sound;
 mod tables;
+mod targets;
 mod tokens;
 
 pub use occurrences::{Occurrence, Role};

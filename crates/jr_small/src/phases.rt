@@ -61,14 +61,26 @@ pub(crate) fn transition(phase: Phase, shape: Shape) -> Option<(Phase, Action)>
     match (phase, shape) {
         (Phase::Start, Shape::Fixed(Fixed::Class)) => Some((Phase::ClassName, Action::Nothing)),
         (Phase::ClassName, Shape::Word) => Some((Phase::OpenBody, Action::Declare(Role::Class))),
-        (Phase::OpenBody, Shape::Fixed(Fixed::OpenBrace)) => Some((Phase::Members, Action::Nothing)),
+        (Phase::OpenBody, Shape::Fixed(Fixed::OpenBrace)) => Some((
+            Phase::Members,
+            Action::Nothing,
+        )),
         (Phase::Members, Shape::Fixed(Fixed::Static)) => Some((Phase::MemberType, Action::Nothing)),
         (Phase::Members, Shape::Fixed(Fixed::CloseBrace)) => Some((Phase::Done, Action::Nothing)),
         (Phase::MemberType, Shape::Fixed(Fixed::Int)) => Some((Phase::FieldName, Action::Nothing)),
-        (Phase::MemberType, Shape::Fixed(Fixed::Void)) => Some((Phase::MethodName, Action::Nothing)),
+        (Phase::MemberType, Shape::Fixed(Fixed::Void)) => Some((
+            Phase::MethodName,
+            Action::Nothing,
+        )),
         (Phase::FieldName, Shape::Word) => Some((Phase::FieldEnd, Action::Declare(Role::Field))),
-        (Phase::FieldEnd, Shape::Fixed(Fixed::Semicolon)) => Some((Phase::Members, Action::EndMember)),
-        (Phase::MethodName, Shape::Word) => Some((Phase::OpenParameters, Action::Declare(Role::Method))),
+        (Phase::FieldEnd, Shape::Fixed(Fixed::Semicolon)) => Some((
+            Phase::Members,
+            Action::EndMember,
+        )),
+        (Phase::MethodName, Shape::Word) => Some((
+            Phase::OpenParameters,
+            Action::Declare(Role::Method),
+        )),
         _ => method_transition(phase, shape),
     }
 }
@@ -77,17 +89,44 @@ fn method_transition(phase: Phase, shape: Shape) -> Option<(Phase, Action)>
     ensures { result ≡ method_transition_of phase shape }
 {
     match (phase, shape) {
-        (Phase::OpenParameters, Shape::Fixed(Fixed::OpenParen)) => Some((Phase::FirstParameter, Action::Nothing)),
-        (Phase::FirstParameter, Shape::Fixed(Fixed::Int)) => Some((Phase::ParameterName, Action::Nothing)),
-        (Phase::FirstParameter, Shape::Fixed(Fixed::CloseParen)) => Some((Phase::OpenBlock, Action::Nothing)),
-        (Phase::ParameterName, Shape::Word) => Some((Phase::ParameterEnd, Action::Declare(Role::Parameter))),
-        (Phase::ParameterEnd, Shape::Fixed(Fixed::Comma)) => Some((Phase::NextParameter, Action::Nothing)),
-        (Phase::ParameterEnd, Shape::Fixed(Fixed::CloseParen)) => Some((Phase::OpenBlock, Action::Nothing)),
-        (Phase::NextParameter, Shape::Fixed(Fixed::Int)) => Some((Phase::ParameterName, Action::Nothing)),
-        (Phase::OpenBlock, Shape::Fixed(Fixed::OpenBrace)) => Some((Phase::Statements, Action::Nothing)),
+        (Phase::OpenParameters, Shape::Fixed(Fixed::OpenParen)) => Some((
+            Phase::FirstParameter,
+            Action::Nothing,
+        )),
+        (Phase::FirstParameter, Shape::Fixed(Fixed::Int)) => Some((
+            Phase::ParameterName,
+            Action::Nothing,
+        )),
+        (Phase::FirstParameter, Shape::Fixed(Fixed::CloseParen)) => Some((
+            Phase::OpenBlock,
+            Action::Nothing,
+        )),
+        (Phase::ParameterName, Shape::Word) => Some((
+            Phase::ParameterEnd,
+            Action::Declare(Role::Parameter),
+        )),
+        (Phase::ParameterEnd, Shape::Fixed(Fixed::Comma)) => Some((
+            Phase::NextParameter,
+            Action::Nothing,
+        )),
+        (Phase::ParameterEnd, Shape::Fixed(Fixed::CloseParen)) => Some((
+            Phase::OpenBlock,
+            Action::Nothing,
+        )),
+        (Phase::NextParameter, Shape::Fixed(Fixed::Int)) => Some((
+            Phase::ParameterName,
+            Action::Nothing,
+        )),
+        (Phase::OpenBlock, Shape::Fixed(Fixed::OpenBrace)) => Some((
+            Phase::Statements,
+            Action::Nothing,
+        )),
         (Phase::Statements, Shape::Fixed(Fixed::Int)) => Some((Phase::LocalName, Action::Nothing)),
         (Phase::Statements, Shape::Word) => Some((Phase::Target, Action::Refer)),
-        (Phase::Statements, Shape::Fixed(Fixed::CloseBrace)) => Some((Phase::Members, Action::EndMember)),
+        (Phase::Statements, Shape::Fixed(Fixed::CloseBrace)) => Some((
+            Phase::Members,
+            Action::EndMember,
+        )),
         _ => body_transition(phase, shape),
     }
 }
@@ -105,10 +144,16 @@ fn body_transition(phase: Phase, shape: Shape) -> Option<(Phase, Action)>
         (Phase::Atom, Shape::Word) => Some((Phase::AtomName, Action::Refer)),
         (Phase::AtomName, Shape::Fixed(Fixed::Dot)) => Some((Phase::AtomField, Action::Nothing)),
         (Phase::AtomName, Shape::Fixed(Fixed::Plus)) => Some((Phase::Atom, Action::Nothing)),
-        (Phase::AtomName, Shape::Fixed(Fixed::Semicolon)) => Some((Phase::Statements, Action::EndStatement)),
+        (Phase::AtomName, Shape::Fixed(Fixed::Semicolon)) => Some((
+            Phase::Statements,
+            Action::EndStatement,
+        )),
         (Phase::AtomField, Shape::Word) => Some((Phase::AtomEnd, Action::Qualify)),
         (Phase::AtomEnd, Shape::Fixed(Fixed::Plus)) => Some((Phase::Atom, Action::Nothing)),
-        (Phase::AtomEnd, Shape::Fixed(Fixed::Semicolon)) => Some((Phase::Statements, Action::EndStatement)),
+        (Phase::AtomEnd, Shape::Fixed(Fixed::Semicolon)) => Some((
+            Phase::Statements,
+            Action::EndStatement,
+        )),
         _ => None,
     }
 }

@@ -1,8 +1,9 @@
-ghost use Rattle.std.specs.Prelude.{◌≡◌, ℕ, ◌^◌, ◌<◌, List, length, IfOk, option_map, Vec};
+ghost use Rattle.std.specs.Prelude.{◌≡◌, ℕ, ◌^◌, ◌<◌, List, length, IfOk, IfSome, option_map, Vec};
 ghost use Rattle.std.specs.Global.{Global};
 ghost use Rattle.jr_small.specs.declared.occurrences.Occurrence.{Occurrence};
 ghost use Rattle.jr_small.specs.Token.{pieces_of};
 ghost use Rattle.jr_small.specs.Machine.{read};
+ghost use Rattle.jr_small.specs.Placed.{AreItemsFrom, Stand};
 ghost use Rattle.jr_small.specs.View.{all_of};
 
 use crate::occurrences::{Occurrence, Role};
@@ -22,15 +23,17 @@ pub(crate) struct Reader {
 }
 
 impl Reader {
-    ghost use Rattle.std.specs.Prelude.{◌≡◌, ℕ, ◌+◌, ◌^◌, ◌<◌, ◌≤◌, List, ◌∷◌, Some, None, IfOk, OnOk, option_map, Vec};
+    ghost use Rattle.std.specs.Prelude.{◌≡◌, ℕ, ◌+◌, ◌^◌, ◌<◌, ◌≤◌, List, [], ◌∷◌, Some, None, IfOk, OnOk, IfSome, option_map, Vec};
     ghost use Rattle.std.specs.Global.{Global};
     ghost use Rattle.jr_lex.specs.declared.items.Item.{Item};
     ghost use Rattle.jr_small.specs.Token.{name_at, shaped_piece, pieces_of};
     ghost use Rattle.jr_small.specs.Machine.{start, acted, step, run, whole};
+    ghost use Rattle.jr_small.specs.Placed.{Stands};
     ghost use Rattle.jr_small.specs.View.{all_of, state_of, Steps, Leads};
 
     fn new(alloc: Global) -> Reader
         ensures start { (text : List ℕ) → state_of text result ≡ start }
+        ensures names { result.occurrences.items ≡ [] }
         ensures members { result.member ≡ 0 }
         ensures statements { result.statement ≡ 0 }
     {
@@ -44,6 +47,7 @@ impl Reader {
 
     fn add(&mut self, role: Role, name: Span) -> Result<(), AllocError>
         ensures added { OnOk result ((text : List ℕ) → state_of text self.new ≡ acted (Action.Declare role) (name_at text name) (state_of text self.old)) }
+        ensures stands { OnOk result ((text : List ℕ) (at : ℕ) → Stands text at name self.old.occurrences.items self.new.occurrences.items) }
         ensures members { self.new.member ≡ self.old.member }
         ensures statements { self.new.statement ≡ self.old.statement }
     {
@@ -60,6 +64,7 @@ impl Reader {
     /// Makes the last name the qualifier of this one.
     fn qualify(&mut self, name: Span) -> Result<(), AllocError>
         ensures qualified { OnOk result ((text : List ℕ) → state_of text self.new ≡ acted Action.Qualify (name_at text name) (state_of text self.old)) }
+        ensures stands { OnOk result ((text : List ℕ) (at : ℕ) → Stands text at name self.old.occurrences.items self.new.occurrences.items) }
         ensures members { self.new.member ≡ self.old.member }
         ensures statements { self.new.statement ≡ self.old.statement }
     {
@@ -77,6 +82,7 @@ impl Reader {
         requires members { self.old.member < 2 ^ 63 }
         requires statements { self.old.statement < 2 ^ 63 }
         ensures acted { OnOk result ((text : List ℕ) → state_of text self.new ≡ acted action (name_at text name) (state_of text self.old)) }
+        ensures stands { OnOk result ((text : List ℕ) (at : ℕ) → Stands text at name self.old.occurrences.items self.new.occurrences.items) }
         ensures members { self.new.member ≤ self.old.member + 1 }
         ensures statements { self.new.statement ≤ self.old.statement + 1 }
     {
@@ -102,6 +108,7 @@ impl Reader {
         requires members { self.old.member < 2 ^ 63 }
         requires statements { self.old.statement < 2 ^ 63 }
         ensures taken { IfOk result (λ taken. (text : List ℕ) (value : ℕ) → Steps (step (state_of text self.old) (shaped_piece text span value shape)) taken (state_of text self.new)) }
+        ensures stands { OnOk result ((text : List ℕ) (at : ℕ) → Stands text at span self.old.occurrences.items self.new.occurrences.items) }
         ensures members { self.new.member ≤ self.old.member + 1 }
         ensures statements { self.new.statement ≤ self.old.statement + 1 }
     {
@@ -120,6 +127,7 @@ impl Reader {
         requires members { self.old.member < 2 ^ 63 }
         requires statements { self.old.statement < 2 ^ 63 }
         ensures taken { IfOk result (λ taken. (text : List ℕ) (rest : List Item) → Leads (run (state_of text self.old) (pieces_of text (item.now ∷ rest))) taken (run (state_of text self.new) (pieces_of text rest))) }
+        ensures stands { OnOk result ((text : List ℕ) (at : ℕ) → Stands text at item.now.span self.old.occurrences.items self.new.occurrences.items) }
         ensures members { self.new.member ≤ self.old.member + 1 }
         ensures statements { self.new.statement ≤ self.old.statement + 1 }
     {
@@ -130,7 +138,8 @@ impl Reader {
     }
 
     fn finish(self) -> Option<Vec<Occurrence>>
-        ensures { (text : List ℕ) → option_map (λ (v : Vec Occurrence Global). all_of text v.items) result ≡ whole (state_of text self) }
+        ensures whole { (text : List ℕ) → option_map (λ (v : Vec Occurrence Global). all_of text v.items) result ≡ whole (state_of text self) }
+        ensures names { IfSome result (λ v. v.items ≡ self.occurrences.items) }
     {
         match self.phase {
             Phase::Done => Some(self.occurrences),
@@ -142,7 +151,8 @@ impl Reader {
 /// The names of the source that the items spell, in text order, or None where they spell no small source.
 pub(crate) fn names_of(alloc: Global, items: &[Item]) -> Result<Option<Vec<Occurrence>>, AllocError>
     requires { length items.now < 2 ^ 63 }
-    ensures { IfOk result (λ found. (text : List ℕ) → option_map (λ (v : Vec Occurrence Global). all_of text v.items) found ≡ read (pieces_of text items.now)) }
+    ensures read { IfOk result (λ found. (text : List ℕ) → option_map (λ (v : Vec Occurrence Global). all_of text v.items) found ≡ read (pieces_of text items.now)) }
+    ensures stand { IfOk result (λ found. IfSome found (λ v. (text : List ℕ) → AreItemsFrom text 0 items.now → Stand text v.items)) }
 {
     let mut reader = Reader::new(alloc);
     for item in items {

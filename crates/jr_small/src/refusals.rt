@@ -4,7 +4,10 @@ pub enum Declaration {
     /// The class of this name.
     Class(String),
     /// The field of this name of the class.
-    Field { class: String, name: String },
+    Field {
+        class: String,
+        name: String,
+    },
     /// The parameter or local of this number of a method with so many parameters, each of type `int`. Parameters come
     /// first, then locals in text order, from 0.
     Variable {
@@ -37,11 +40,16 @@ pub enum Refusal {
     /// The new name is no identifier (JLS 3.8).
     BadName,
     /// The source has this fault at the byte `at`.
-    SourceError { at: u32, kind: SourceKind },
+    SourceError {
+        at: u32,
+        kind: SourceKind,
+    },
     /// The identifier at the place is absent, or neither declares a parameter or local nor is bound to one.
     BadTarget,
     /// The new name meets this declaration: the target itself, or another variable of its method (JLS 6.4).
-    Clash { with: Declaration },
+    Clash {
+        with: Declaration,
+    },
     /// The reference at the byte `at` has no spelling that means its declaration; what it finds as asked.
     LostBinding {
         at: u32,
@@ -49,5 +57,7 @@ pub enum Refusal {
         found: Declaration,
     },
     /// The new text would have `len` bytes, which are too many.
-    TooLong { len: u64 },
+    TooLong {
+        len: u64,
+    },
 }

@@ -1,7 +1,6 @@
-use Rattle.std.proofs.Common.{◌≡◌, ◌∙◌, ◌<◌, List, ℕ, Bool, true, false, Option, sym, ap, subst, take, arith, length}
-use Rattle.std.specs.Prelude.{IfSome, IsTrue, ◌↔◌, is_some, not}
-use Rattle.jr_small.specs.Occurrence.{Occurrence}
-use Rattle.jr_small.specs.Binding.{NoneInScope, NoField, DeclaresField, FindsVariable}
+use Rattle.std.proofs.Common.{◌≡◌, ◌∙◌, List, ℕ, Bool, true, false, Option, sym, ap, subst, arith}
+use Rattle.std.specs.Prelude.{◌↔◌, is_some, not}
+use Rattle.jr_small.specs.Binding.{NoneInScope, NoField}
 use Rattle.jr_small.specs.Table.{found}
 use Rattle.jr_small.specs.Token.{name_at}
 use Rattle.jr_small.specs.View.{all_of}
@@ -25,7 +24,7 @@ returns c =
     let first = at_number text all 0 nobody (omega (arith, c.requires.within)) in
     let variables = subst (λ (w : List ℕ). (is_some c.variable_at-variable.result ≡ false) ↔ NoneInScope (all_of text all) o.member n w) c.part-class.ensures (none_in_scope (all_of text all) o.member n c.part-class.result.now c.variable_at-variable.result c.variable_at-variable.ensures) in
     let obscuring : (is_some c.find-obscuring.result ≡ false) ↔ NoField (all_of text all) q.text =
-        subst (λ (r : Option ℕ). (is_some r ≡ false) ↔ NoField (all_of text all) q.text) (ap (found c.args.fields.now) (sym c.part-class.ensures) ∙ sym c.find-obscuring.ensures) (none_declares (all_of text all) q.text c.args.fields.now c.requires.fields) in
+    subst (λ (r : Option ℕ). (is_some r ≡ false) ↔ NoField (all_of text all) q.text) (ap (found c.args.fields.now) (sym c.part-class.ensures) ∙ sym c.find-obscuring.ensures) (none_declares (all_of text all) q.text c.args.fields.now c.requires.fields) in
     let field : is_some (found c.args.fields.now o.name.text) ≡ c.is_some.result = ap (λ (w : List ℕ). is_some (found c.args.fields.now w)) (sym c.part.ensures) ∙ ap is_some (sym c.find-field.ensures) ∙ sym c.is_some.ensures in
     let tests : QualifiedTests (all_of text all) n o class q c.is_none.result c.is_none-2.result c.eq-is_class.result c.is_some.result = record {
       no_variable = none_is (is_some c.variable_at-variable.result) c.is_none.result _ c.is_none.ensures variables;

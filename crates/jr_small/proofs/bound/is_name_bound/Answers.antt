@@ -1,9 +1,8 @@
-use Rattle.std.proofs.Common.{◌≡◌, ◌∙◌, List, ℕ, Bool, Option, sym, ap, subst, take}
-use Rattle.std.specs.Prelude.{IfSome, IsTrue, ◌↔◌, is_some}
-use Rattle.jr_small.specs.Occurrence.{Occurrence}
+use Rattle.std.proofs.Common.{◌≡◌, ◌∙◌, List, ℕ, Bool, sym, ap, subst}
+use Rattle.std.specs.Prelude.{IsTrue, ◌↔◌, is_some}
 use Rattle.jr_small.specs.Binding.{NoneInScope, FindsVariable}
 use Rattle.jr_small.specs.Table.{found}
-use Rattle.jr_small.specs.Exact.{IsNameRef, IsWellBound}
+use Rattle.jr_small.specs.Exact.{IsWellBound}
 use Rattle.jr_small.specs.View.{all_of}
 use Rattle.jr_small.proofs.Lookups.{nobody, at, at_number, to_if_some}
 use Rattle.jr_small.proofs.WellBound.{some_well, field_well}

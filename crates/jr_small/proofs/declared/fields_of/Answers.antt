@@ -1,4 +1,4 @@
-use Rattle.std.proofs.Common.{◌≡◌, List, take, length, sym, ap, subst, arith, Bool, false, true, ◌∙◌}
+use Rattle.std.proofs.Common.{◌≡◌, List, take, length, ap, subst, arith, Bool, ◌∙◌}
 use Rattle.std.proofs.Math.Seq.{take-length}
 use Rattle.jr_small.specs.Sound.{SameField, Together}
 use Rattle.jr_small.specs.Exact.{is_field, Added, Records}

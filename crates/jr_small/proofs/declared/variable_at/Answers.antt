@@ -1,5 +1,4 @@
-use Rattle.std.proofs.Common.{◌≡◌, ◌<◌, ℕ, subst, true, false, sym, arith, ap, ◌∙◌}
-use Rattle.jr_small.specs.Occurrence.{Occurrence}
+use Rattle.std.proofs.Common.{◌≡◌, ◌<◌, ℕ, subst, true, false, sym, arith, ◌∙◌}
 use Rattle.jr_small.specs.Exact.{is_variable}
 use Rattle.jr_small.specs.Binding.{NoneInScope}
 use Rattle.jr_small.specs.View.{occurrence_of, all_of}
@@ -38,5 +37,5 @@ returns c =
     let here = at_number text all c.args.number nobody c.requires.within in
     let member : (at text all c.args.number).member ≡ c.args.member = if_some_at _ (at text all c.args.number) (λ o. o.member ≡ c.args.member) here c.requires.stands in
     let elsewhere = variable_elsewhere (all_of text all) c.args.number (at text all c.args.number) c.args.name.now c.in-Some.declared c.args.variables.now (occurrence_of text c.in-Some-get.other.now) c.requires.monotone here records
-        (sym c.in-Some.ensures) (got text all c.in-Some.declared c.in-Some-get.other.now c.in-Some-get.ensures.lookup.1 (omega arith)) (λ e. c.if-other-member.false (e ∙ member)) in
+    (sym c.in-Some.ensures) (got text all c.in-Some.declared c.in-Some-get.other.now c.in-Some-get.ensures.lookup.1 (omega arith)) (λ e. c.if-other-member.false (e ∙ member)) in
     subst (λ (m : ℕ). NoneInScope (all_of text all) m c.args.number c.args.name.now) member elsewhere

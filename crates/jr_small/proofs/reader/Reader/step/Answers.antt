@@ -1,4 +1,4 @@
-use Rattle.std.proofs.Common.{◌≡◌, ap, ◌∙◌, sym, Some}
+use Rattle.std.proofs.Common.{ap, ◌∙◌, sym, Some}
 use Rattle.jr_small.specs.Machine.{State}
 use Rattle.jr_small.specs.View.{state_of}
 use Rattle.jr_small.proofs.Steps.{step_taken}

@@ -1,18 +1,17 @@
 -- Each step of the machine makes a beginning of a source one token longer.
-use Rattle.std.proofs.Common.{◌≡◌, ℕ, zero, suc, ◌+◌, List, [], ◌∷◌, ◌++◌, Option, Some, None, refl, sym, ap, subst, ◌∙◌, append_assoc, append-nil, arith, length, zero-add}
-use Rattle.std.specs.Prelude.{option_and_then, map, IfSome}
+use Rattle.std.proofs.Common.{◌≡◌, ℕ, ◌+◌, List, [], ◌∷◌, ◌++◌, Some, refl, sym, ap, ◌∙◌, append_assoc, append-nil, length, zero-add}
+use Rattle.std.specs.Prelude.{map, IfSome}
 use Rattle.jr_small.specs.declared.tokens.Fixed.TheVariants as fixed
 use Rattle.jr_small.specs.declared.occurrences.Role.TheVariants as role
-use Rattle.jr_small.specs.declared.phases.Phase.{Phase}
 use Rattle.jr_small.specs.declared.phases.Phase.TheVariants as phase
-use Rattle.jr_small.specs.Source.{Name, Reference, Atom, number, named, Sum, Statement, declares, assigns, Member, field, method, Source}
+use Rattle.jr_small.specs.Source.{Name, Reference, Atom, number, named, Sum, Statement, declares, assigns, Member, field, method}
 use Rattle.jr_small.specs.Token.{Piece, word, fixed_token}
 use Rattle.jr_small.specs.Token as token
-use Rattle.jr_small.specs.Spelling.{Tree, spell_reference, spell_atom, spell_more, spell_value, spell_statement, spell_body, spell_later, spell_parameters, spell_member, spell_members, spell}
-use Rattle.jr_small.specs.Occurrence.{Occurrence, declared, referred, in_atoms, in_sum, in_statement, in_body, in_member, in_members, occurrences}
-use Rattle.jr_small.specs.Machine.{State, qualified, step, run, start, whole, read}
+use Rattle.jr_small.specs.Spelling.{spell_atom, spell_more, spell_value, spell_statement, spell_body, spell_parameters, spell_member}
+use Rattle.jr_small.specs.Occurrence.{Occurrence, declared, in_atoms, in_sum, in_statement, in_body, in_member, in_members}
+use Rattle.jr_small.specs.Machine.{State, step}
 use Rattle.jr_small.proofs.Complete.{at, qualified-last}
-use Rattle.jr_small.proofs.Partial.{mark, spell_members-last, in_members-last, spell_body-last, in_body-last, spell_later-last, spell_more-last, in_atoms-append, map-last, length-last, Body, Head, Block, Left, local, target, Value, Partial, nothing, class_word, class_name, members, static_word, field_type, field_name, void_word, method_name, open_parameters, first_type, parameter, comma, next_type, closed_parameters, statements, local_type, target_name, target_dot, left_side, atoms, atom_name, atom_dot, atom_end, finished, body_spelled, method_spelled, head_spelled, with_parameter, block_spelled, left_spelled, atoms_spelled, value_spelled, spelled, body_names, head_names, number_of, block_names, left_name, value_names, plain, in_body_at, in_block_at, state_of}
+use Rattle.jr_small.proofs.Partial.{mark, spell_members-last, in_members-last, spell_body-last, in_body-last, spell_later-last, in_atoms-append, map-last, length-last, Body, Head, Block, Left, local, target, Value, Partial, nothing, class_word, class_name, members, static_word, field_type, field_name, void_word, method_name, open_parameters, first_type, parameter, comma, next_type, closed_parameters, statements, local_type, target_name, target_dot, left_side, atoms, atom_name, atom_dot, atom_end, finished, body_spelled, method_spelled, head_spelled, with_parameter, block_spelled, left_spelled, atoms_spelled, value_spelled, spelled, body_names, head_names, number_of, block_names, left_name, value_names, plain, in_block_at, state_of}
 
 -- the token makes the beginning one token longer, and leads the machine there
 pub record Grows (p : Partial) (t : Piece) (s : State) : Type 0 where
@@ -134,8 +133,8 @@ plus_read v a p e =
       next = atoms (with_atom v a);
       stands = ap (in_block_at phase.Atom v.block) (ap (λ (x : List Occurrence). front ++ x) (in_atoms-append m s v.atoms (a ∷ [])) ∙ sym (append_assoc front (in_atoms m s v.atoms) (in_atoms m s (a ∷ []))));
       reads = ap (λ (x : List Piece). block_spelled v.block ++ (left_spelled v.left ++ (mark fixed.Equals ∷ x))) (atoms_spelled-last v.atoms a)
-        ∙ atom_joined (block_spelled v.block) (left_spelled v.left) (atoms_spelled v.atoms) (spell_atom a) (mark fixed.Equals) (mark fixed.Plus)
-        ∙ ap (λ (x : List Piece). x ++ (mark fixed.Plus ∷ [])) (sym e);
+          ∙ atom_joined (block_spelled v.block) (left_spelled v.left) (atoms_spelled v.atoms) (spell_atom a) (mark fixed.Equals) (mark fixed.Plus)
+          ∙ ap (λ (x : List Piece). x ++ (mark fixed.Plus ∷ [])) (sym e);
     }
 
 -- ---- a statement more
@@ -203,7 +202,7 @@ semicolon_read : (v : Value) (a : Atom Reference) (p : Partial) → spelled p �
 semicolon_read v a p e = record {
   next = statements (ended v a);
   stands = ap (λ (n : ℕ). at phase.Statements (number_of v.block) n (block_names (ended v a))) (sym (length-last v.block.statements (statement_of v.left (sum_of v.atoms a))))
-    ∙ ap (at phase.Statements (number_of v.block) (length v.block.statements + 1)) (ended_names v a);
+      ∙ ap (at phase.Statements (number_of v.block) (length v.block.statements + 1)) (ended_names v a);
   reads = ended_spelled v a ∙ ap (λ (x : List Piece). x ++ (mark fixed.Semicolon ∷ [])) (sym e);
 }
 

@@ -1,0 +1,17 @@
+pub mod Spell
+pub mod Scans
+pub mod Found
+pub mod Levels
+pub mod Complete
+pub mod PieceTokens
+pub mod Sound
+pub mod Reading
+pub mod Opens
+pub mod Statements
+pub mod Erase
+pub mod EraseSteps
+pub mod Placing
+pub mod Places
+pub mod Maps
+pub mod Marks
+pub mod Cases

@@ -1,0 +1,353 @@
+-- Each mark that the machine makes goes from the first to the last of the tokens that its node spells.
+use Rattle.std.proofs.Common.{◌≡◌, ℕ, ◌≤◌, cond, ltb, List, [], ◌∷◌, ◌++◌, Option, Some, None, refl, sym, ap, ◌∙◌, append_assoc, arith}
+use Rattle.std.specs.Prelude.{IfSome}
+use Rattle.std.proofs.lemmas.Bool.{ltb-false, cond_both}
+use Rattle.std.proofs.lemmas.List.{append-nil}
+use Rattle.jr_text.specs.declared.spans.Span.{Span}
+use Rattle.jr_lex.specs.declared.items.Keyword.TheVariants.{Class}
+use Rattle.jr_lex.specs.declared.items.Symbol.TheVariants.{OpenParen, CloseParen, Comma, Dot}
+use Rattle.jr_ast.specs.declared.operators.UnOp.TheVariants.{Plus, Minus, Not}
+use Rattle.jr_ast.specs.declared.operators.BinOp.{BinOp}
+use Rattle.jr_ast.specs.declared.operators.BinOp.TheVariants.{Add, Sub}
+use Rattle.jr_ast.specs.Tree.{Word, TypeName, named, Exp, name, field, super_field, paren, bump, end}
+use Rattle.jr_pexpr.specs.Tokens.{keyword, symbol, Placed}
+use Rattle.jr_pexpr.specs.Spelling.{binary_symbol}
+use Rattle.jr_pexpr.specs.Shape.{rank_of, level_of}
+use Rattle.jr_pexpr.specs.Pieces.{Way, up, down, way_symbol, Atom, a_number, a_truth, a_null, a_string, a_this, Piece, a_word, an_atom, a_super, a_new, a_class, an_open, a_close, a_comma, a_dot, a_bang, a_bump, an_operator, an_equals, a_compound, piece_of, piece_token}
+use Rattle.jr_pexpr.specs.Machine.{Frame, in_unary, in_bump, in_assign, in_compound, in_paren, in_args, State, want, have, dotted, at_super, super_dotted, at_new, new_named, new_dotted, mark_of, with_last, behind, binds, needed, behind_minus, plug, fits, reduced, operated, closed, continued, at_most, atom_exp, atom_fits, signed, emptied, begun, name_type, cast_frame, cast_of, casted, opened, is_target, is_compound, assigned, bumped, extended, literal_of, member, behind_super, super_member, behind_new, new_outer, behind_new_name, new_inner, stepped}
+use Rattle.jr_pexpr.specs.Stands.{Tokens, first_from, span_of, Is, StandsType, Stands}
+use Rattle.jr_pexpr.specs.Marked.{join, span_step}
+use Rattle.jr_pexpr.proofs.Levels.{rank_low}
+use Rattle.jr_pexpr.proofs.PieceTokens.{piece_back}
+use Rattle.jr_pexpr.proofs.Placing.{is_more, first_from-append, to_last, stands_mark, stands_more, StandsFrame, StandsStack, StandsState, stands_plug, args_last, done_last, applied_stands}
+
+abbrev Spans : Type 0
+Spans = List (Frame Span)
+
+-- ---- reducing
+
+abbrev pub StandsSome : Tokens → Option (State Span) → Type 0
+StandsSome ps o = IfSome o (λ (n : State Span). StandsState n ps)
+
+pub reduced_stands : (k : ℕ) (fs : Spans) (e : Exp Span) (ps : Tokens) → 1 ≤ k → StandsState (have fs e) ps → StandsSome ps (reduced join k fs e)
+reduced_stands k [] e ps p h = h
+reduced_stands k (f ∷ fs) e ps p h =
+    cond_both (ltb (binds f) k) (Some (have (f ∷ fs) e)) (cond (fits f e) (reduced join k fs (plug join f e)) None) (StandsSome ps)
+    (λ _. h)
+    (λ b.
+    let low = ltb-false (binds f) k b in
+    let g = h.3 in
+    cond_both (fits f e) (reduced join k fs (plug join f e)) None (StandsSome ps)
+    (λ _.
+    reduced_stands k fs (plug join f e) ps p
+    (g.0, g.1 ++ h.1, h.2 ∙ ap (λ (x : Tokens). x ++ h.1) g.2 ∙ append_assoc g.0 g.1 h.1, g.3, stands_plug f e g.1 h.1 (omega arith) g.4 h.4))
+    (λ _. tt))
+
+-- ---- one token more
+
+abbrev pub After : Tokens → Placed Span → Option (State Span) → Type 0
+After ps i o = StandsSome (ps ++ (i ∷ [])) o
+
+one_more : (ps a b : Tokens) (i : Placed Span) → ps ≡ a ++ b → ps ++ (i ∷ []) ≡ a ++ (b ++ (i ∷ []))
+one_more ps a b i p = ap (λ (x : Tokens). x ++ (i ∷ [])) p ∙ append_assoc a b (i ∷ [])
+
+regroup : (ps a b c d : Tokens) (i : Placed Span) → ps ≡ a ++ b → a ≡ c ++ d → ps ++ (i ∷ []) ≡ c ++ (d ++ (b ++ (i ∷ [])))
+regroup ps a b c d i p q = one_more ps a b i p ∙ ap (λ (x : Tokens). x ++ (b ++ (i ∷ []))) q ∙ append_assoc c d (b ++ (i ∷ []))
+
+-- with arguments behind a head
+regroup_args : (d u v b : Tokens) (i : Placed Span) → d ≡ u ++ v → d ++ (b ++ (i ∷ [])) ≡ u ++ ((v ++ b) ++ (i ∷ []))
+regroup_args d u v b i e = ap (λ (x : Tokens). x ++ (b ++ (i ∷ []))) e ∙ append_assoc u v (b ++ (i ∷ [])) ∙ ap (λ (x : Tokens). u ++ x) (sym (append_assoc v b (i ∷ [])))
+
+operated_stands : (o : BinOp) (i : Placed Span) (ps : Tokens) (r : Option (State Span)) → Is (symbol (binary_symbol o)) i → StandsSome ps r → After ps i (operated o r)
+operated_stands o i ps (Some (have fs e)) t h = (h.0, h.1 ++ (i ∷ []), one_more ps h.0 h.1 i h.2, h.3, (h.1, i, refl, h.4, t))
+operated_stands o i ps _ t h = tt
+
+closed_stands : (i : Placed Span) (ps : Tokens) (r : Option (State Span)) → Is (symbol CloseParen) i → StandsSome ps r → After ps i (closed join i.mark r)
+closed_stands i ps (Some (have (in_paren m ∷ fs) e)) t h =
+    let g = h.3 in
+    let f = g.4 in (
+      g.0,
+      g.1 ++ (h.1 ++ (i ∷ [])),
+      regroup ps h.0 h.1 g.0 g.1 i h.2 g.2,
+      g.3,
+      (
+        to_last m g.1 h.1 i (is_more g.1 _ f.1 tt) (ap (λ (s : Span). s.from) f.3 ∙ ap first_from (sym f.1)),
+        (h.1, f.0, i, ap (λ (x : Tokens). x ++ (h.1 ++ (i ∷ []))) f.1, f.2, h.4, t),
+      ),
+    )
+closed_stands i ps (Some (have (in_args c es ∷ fs) e)) t h =
+    let g = h.3 in
+    let f = g.4 in (
+      g.0,
+      f.0 ++ ((f.1 ++ h.1) ++ (i ∷ [])),
+      regroup ps h.0 h.1 g.0 g.1 i h.2 g.2 ∙ ap (λ (x : Tokens). g.0 ++ x) (regroup_args g.1 f.0 f.1 h.1 i f.2),
+      g.3,
+      applied_stands c (with_last es e) f.0 (f.1 ++ h.1) i f.3 (args_last es e f.1 h.1 f.4 h.4) t,
+    )
+closed_stands i ps _ t h = tt
+
+continued_stands : (i : Placed Span) (ps : Tokens) (r : Option (State Span)) → Is (symbol Comma) i → StandsSome ps r → After ps i (continued r)
+continued_stands i ps (Some (have (in_args c es ∷ fs) e)) t h =
+    let g = h.3 in
+    let f = g.4 in (
+      g.0,
+      g.1 ++ (h.1 ++ (i ∷ [])),
+      regroup ps h.0 h.1 g.0 g.1 i h.2 g.2,
+      g.3,
+      (f.0, f.1 ++ (h.1 ++ (i ∷ [])), ap (λ (x : Tokens). x ++ (h.1 ++ (i ∷ []))) f.2 ∙ append_assoc f.0 f.1 (h.1 ++ (i ∷ [])), f.3, done_last es e f.1 h.1 i f.4 h.4 t),
+    )
+continued_stands i ps _ t h = tt
+
+at_most_stands : (k : ℕ) (fs : Spans) (s : State Span) (ps : Tokens) → StandsState s ps → StandsSome ps (at_most k fs s)
+at_most_stands k fs s ps h = cond_both (ltb k (needed fs)) None (Some s) (StandsSome ps) (λ _. tt) (λ _. h)
+
+-- ---- where an expression is to come
+
+atom_stands : (at : Span) (a : Atom) (i : Placed Span) → Is (piece_token (an_atom a)) i → at ≡ i.mark → Stands (atom_exp at a) (i ∷ [])
+atom_stands at (a_number n) i t e = (e, (i, refl, t))
+atom_stands at (a_truth b) i t e = (e, (i, refl, t))
+atom_stands at a_null i t e = (e, (i, refl, t))
+atom_stands at (a_string s) i t e = (e, (i, refl, t))
+atom_stands at a_this i t e = (e, (i, refl, t))
+
+signed_stands : (fs : Spans) (i : Placed Span) (o : BinOp) (ps : Tokens) → Is (symbol (binary_symbol o)) i → StandsStack fs ps → After ps i (signed fs i.mark o)
+signed_stands fs i Add ps t h = at_most_stands 8 fs (want (in_unary i.mark Plus ∷ fs)) (ps ++ (i ∷ [])) (ps, i ∷ [], refl, h, (i, refl, t, refl))
+signed_stands fs i Sub ps t h = at_most_stands 8 fs (want (in_unary i.mark Minus ∷ fs)) (ps ++ (i ∷ [])) (ps, i ∷ [], refl, h, (i, refl, t, refl))
+signed_stands fs i _ ps t h = tt
+
+emptied_stands : (fs : Spans) (i : Placed Span) (ps : Tokens) → Is (symbol CloseParen) i → StandsStack fs ps → After ps i (emptied join i.mark fs)
+emptied_stands (in_args c end ∷ fs) i ps t g =
+    let f = g.4 in (
+      g.0,
+      f.0 ++ (i ∷ []),
+      one_more ps g.0 g.1 i g.2 ∙ ap (λ (x : Tokens). g.0 ++ (x ++ (i ∷ []))) (f.2 ∙ ap (λ (x : Tokens). f.0 ++ x) f.4 ∙ append-nil f.0),
+      g.3,
+      applied_stands c end f.0 [] i f.3 refl t,
+    )
+emptied_stands _ i ps t g = tt
+
+begun_stands : (fs : Spans) (i : Placed Span) (p : Piece) (ps : Tokens) → Is (piece_token p) i → StandsStack fs ps → After ps i (begun join fs i.mark p)
+unfolding begun
+begun_stands fs i (a_word w) ps t h = (ps, i ∷ [], refl, h, (refl, (i, refl, (t, refl))))
+begun_stands fs i (an_atom a) ps t h =
+    cond_both (atom_fits (behind_minus fs) a) (Some (have fs (atom_exp i.mark a))) None (After ps i) (λ _. (ps, i ∷ [], refl, h, atom_stands i.mark a i t refl)) (λ _. tt)
+begun_stands fs i a_super ps t h = (ps, i, refl, h, t, refl)
+begun_stands fs i a_new ps t h = (ps, i, refl, h, t, refl)
+begun_stands fs i an_open ps t h = (ps, i ∷ [], refl, h, (i, refl, t, refl))
+begun_stands fs i a_close ps t h = emptied_stands fs i ps t h
+begun_stands fs i a_bang ps t h = at_most_stands 9 fs (want (in_unary i.mark Not ∷ fs)) (ps ++ (i ∷ [])) (ps, i ∷ [], refl, h, (i, refl, t, refl))
+begun_stands fs i (a_bump w) ps t h = at_most_stands 8 fs (want (in_bump i.mark w ∷ fs)) (ps ++ (i ∷ [])) (ps, i ∷ [], refl, h, (i, refl, t, refl))
+begun_stands fs i (an_operator o) ps t h = signed_stands fs i o ps t h
+begun_stands fs i _ ps t h = tt
+
+-- ---- behind an expression
+
+-- a name is a type over the same tokens
+name_stands : (e : Exp Span) (ps : Tokens) → Stands e ps → IfSome (name_type e) (λ (t : TypeName Span). StandsType t ps)
+name_stands (name m w) ps h = (h.0, h.1)
+name_stands (field m (name n o) w) ps h =
+    let f = h.1 in
+    (h.0, (f.4.1.0, f.1, f.2, f.3 ∙ ap (λ (x : Tokens). x ++ (f.1 ∷ f.2 ∷ [])) f.4.1.1, f.4.1.2, f.5, f.6))
+name_stands _ ps h = tt
+
+frame_stands : (m : Span) (e : Exp Span) (ps : Tokens) → Stands (paren m e) ps → IfSome (cast_frame m (name_type e)) (λ (f : Frame Span). StandsFrame f ps)
+frame_stands m e ps h = go (name_type e) (name_stands e h.1.0 h.1.5)
+  where
+    go : (t : Option (TypeName Span)) → IfSome t (λ (t : TypeName Span). StandsType t h.1.0) → IfSome (cast_frame m t) (λ (f : Frame Span). StandsFrame f ps)
+    go None k = tt
+    go (Some t) k = ((h.1.0, h.1.1, h.1.2, h.1.3, h.1.4, k, h.1.6), ap (λ (s : Span). s.from) h.0)
+
+cast_stands : (e : Exp Span) (ps : Tokens) → Stands e ps → IfSome (cast_of e) (λ (f : Frame Span). StandsFrame f ps)
+cast_stands (paren m e) ps h = frame_stands m e ps h
+cast_stands _ ps h = tt
+
+casted_stands : (fs : Spans) (e : Exp Span) (i : Placed Span) (p : Piece) (ps : Tokens) → Is (piece_token p) i → StandsState (have fs e) ps → After ps i (casted join (cast_of e) fs i.mark p)
+casted_stands fs e i p ps t h = go (cast_of e) (cast_stands e h.1 h.4)
+  where
+    go : (c : Option (Frame Span)) → IfSome c (λ (f : Frame Span). StandsFrame f h.1) → After ps i (casted join c fs i.mark p)
+    go None k = tt
+    go (Some f) k =
+        cond_both (ltb 9 (needed fs)) None (begun join (f ∷ fs) i.mark p) (After ps i) (λ _. tt) (λ _. begun_stands (f ∷ fs) i p ps t (h.0, h.1, h.2, h.3, k))
+
+opened_stands : (fs : Spans) (e : Exp Span) (i : Placed Span) (ps : Tokens) → Is (symbol OpenParen) i → StandsState (have fs e) ps → After ps i (opened join fs e i.mark)
+opened_stands fs (name m w) i ps t h =
+    let s = h.4 in (
+      h.0,
+      h.1 ++ (i ∷ []),
+      one_more ps h.0 h.1 i h.2,
+      h.3,
+      (
+        h.1 ++ (i ∷ []),
+        [],
+        sym (append-nil (h.1 ++ (i ∷ []))),
+        (
+          (s.1.0, i, ap (λ (x : Tokens). x ++ (i ∷ [])) s.1.1, s.1.2, t),
+          ap (λ (n : Span). n.from) s.0 ∙ sym (first_from-append h.1 (i ∷ []) (stands_more (name m w) h.1 s)),
+        ),
+        refl,
+      ),
+    )
+opened_stands fs (field m e w) i ps t h =
+    let s = h.4 in
+    let f = s.1 in (
+      h.0,
+      h.1 ++ (i ∷ []),
+      one_more ps h.0 h.1 i h.2,
+      h.3,
+      (
+        h.1 ++ (i ∷ []),
+        [],
+        sym (append-nil (h.1 ++ (i ∷ []))),
+        (
+          (f.0, f.1, f.2, i, ap (λ (x : Tokens). x ++ (i ∷ [])) f.3 ∙ append_assoc f.0 (f.1 ∷ f.2 ∷ []) (i ∷ []), f.4, f.5, f.6, t),
+          ap (λ (n : Span). n.from) s.0 ∙ sym (first_from-append h.1 (i ∷ []) (stands_more (field m e w) h.1 s)),
+        ),
+        refl,
+      ),
+    )
+opened_stands fs (super_field m w) i ps t h =
+    let s = h.4 in
+    let f = s.1 in (
+      h.0,
+      h.1 ++ (i ∷ []),
+      one_more ps h.0 h.1 i h.2,
+      h.3,
+      (
+        h.1 ++ (i ∷ []),
+        [],
+        sym (append-nil (h.1 ++ (i ∷ []))),
+        (
+          (f.0, f.1, f.2, i, ap (λ (x : Tokens). x ++ (i ∷ [])) f.3, f.4, f.5, f.6, t),
+          ap (λ (n : Span). n.from) s.0 ∙ sym (first_from-append h.1 (i ∷ []) (stands_more (super_field m w) h.1 s)),
+        ),
+        refl,
+      ),
+    )
+opened_stands fs (paren m e) i ps t h = casted_stands fs (paren m e) i an_open ps t h
+opened_stands fs _ i ps t h = tt
+
+assigned_stands : (fs : Spans) (e : Exp Span) (f : Frame Span) (i : Placed Span) (ps : Tokens) → StandsState (have fs e) ps → ((a : Tokens) → Stands e a → StandsFrame f (a ++ (i ∷ []))) → After ps i (assigned fs e f)
+assigned_stands fs e f i ps h k =
+    cond_both (is_target e) (at_most 1 fs (want (f ∷ fs))) None (After ps i)
+    (λ _. at_most_stands 1 fs (want (f ∷ fs)) (ps ++ (i ∷ [])) (h.0, h.1 ++ (i ∷ []), one_more ps h.0 h.1 i h.2, h.3, k h.1 h.4))
+    (λ _. tt)
+
+-- the mark of an expression and one or two tokens behind it
+behind_mark : (e : Exp Span) (a b : Tokens) (i : Placed Span) → Stands e a → join (mark_of e) i.mark ≡ span_of (a ++ (b ++ (i ∷ [])))
+behind_mark e a b i h = to_last (mark_of e) a b i (stands_more e a h) (ap (λ (s : Span). s.from) (stands_mark e a h))
+
+bump_stands : (e : Exp Span) (w : Way) (a : Tokens) (i : Placed Span) → Stands e a → Is (symbol (way_symbol w)) i → Stands (bump (join (mark_of e) i.mark) (behind w) e) (a ++ (i ∷ []))
+bump_stands e up a i h t = (behind_mark e a [] i h, (a, i, refl, h, t))
+bump_stands e down a i h t = (behind_mark e a [] i h, (a, i, refl, h, t))
+
+bumped_stands : (fs : Spans) (e : Exp Span) (w : Way) (i : Placed Span) (ps : Tokens) → Is (symbol (way_symbol w)) i → StandsState (have fs e) ps → After ps i (bumped join fs e i.mark w)
+bumped_stands fs e w i ps t h =
+    cond_both (is_target e) (at_most 9 fs (have fs (bump (join (mark_of e) i.mark) (behind w) e))) None (After ps i)
+    (λ _. at_most_stands 9 fs (have fs (bump (join (mark_of e) i.mark) (behind w) e)) (ps ++ (i ∷ [])) (h.0, h.1 ++ (i ∷ []), one_more ps h.0 h.1 i h.2, h.3, bump_stands e w h.1 i h.4 t))
+    (λ _. tt)
+
+extended_stands : (fs : Spans) (e : Exp Span) (i : Placed Span) (p : Piece) (ps : Tokens) → Is (piece_token p) i → StandsState (have fs e) ps → After ps i (extended join fs e i.mark p)
+unfolding extended
+extended_stands fs e i a_dot ps t h =
+    cond_both (ltb (level_of e) 10) None (Some (dotted fs e)) (After ps i) (λ _. tt) (λ _. (h.0, h.1, i, one_more ps h.0 h.1 i h.2, h.3, h.4, t))
+extended_stands fs e i (a_bump w) ps t h = bumped_stands fs e w i ps t h
+extended_stands fs e i (an_operator o) ps t h =
+    operated_stands o i ps (reduced join (rank_of o) fs e) t (reduced_stands (rank_of o) fs e ps (omega (arith, rank_low o)) h)
+extended_stands fs e i an_equals ps t h = assigned_stands fs e (in_assign e) i ps h (λ a k. (a, i, refl, k, t))
+extended_stands fs e i (a_compound o) ps t h =
+    cond_both (is_compound o) (assigned fs e (in_compound o e)) None (After ps i) (λ _. assigned_stands fs e (in_compound o e) i ps h (λ a k. (a, i, refl, k, t))) (λ _. tt)
+extended_stands fs e i a_close ps t h = closed_stands i ps (reduced join 1 fs e) t (reduced_stands 1 fs e ps (omega arith) h)
+extended_stands fs e i a_comma ps t h = continued_stands i ps (reduced join 1 fs e) t (reduced_stands 1 fs e ps (omega arith) h)
+extended_stands fs e i an_open ps t h = opened_stands fs e i ps t h
+extended_stands fs e i (a_word w) ps t h = casted_stands fs e i (a_word w) ps t h
+extended_stands fs e i (an_atom a) ps t h = casted_stands fs e i (an_atom a) ps t h
+extended_stands fs e i a_super ps t h = casted_stands fs e i a_super ps t h
+extended_stands fs e i a_new ps t h = casted_stands fs e i a_new ps t h
+extended_stands fs e i a_bang ps t h = casted_stands fs e i a_bang ps t h
+extended_stands fs e i _ ps t h = tt
+
+-- ---- behind a dot
+
+-- tokens behind an expression, and the mark to the last of them
+two_behind : (a b : Tokens) (d i : Placed Span) (ps : Tokens) → ps ≡ a ++ (b ++ (d ∷ [])) → ps ++ (i ∷ []) ≡ a ++ (b ++ (d ∷ i ∷ []))
+two_behind a b d i ps e = one_more ps a (b ++ (d ∷ [])) i e ∙ ap (λ (x : Tokens). a ++ x) (append_assoc b (d ∷ []) (i ∷ []))
+
+literal_stands : (fs : Spans) (e : Exp Span) (i : Placed Span) (ps : Tokens) → Is (keyword Class) i → StandsState (dotted fs e) ps → After ps i (literal_of fs (join (mark_of e) i.mark) (name_type e))
+literal_stands fs e i ps t h = go (name_type e) (name_stands e h.1 h.5)
+  where
+    go : (c : Option (TypeName Span)) → IfSome c (λ (c : TypeName Span). StandsType c h.1) → After ps i (literal_of fs (join (mark_of e) i.mark) c)
+    go None k = tt
+    go (Some c) k = (h.0, h.1 ++ (h.2 ∷ i ∷ []), two_behind h.0 h.1 h.2 i ps h.3, h.4, (behind_mark e h.1 (h.2 ∷ []) i h.5, (h.1, h.2, i, refl, k, h.6, t)))
+
+member_stands : (fs : Spans) (e : Exp Span) (i : Placed Span) (p : Piece) (ps : Tokens) → Is (piece_token p) i → StandsState (dotted fs e) ps → After ps i (member join fs e i.mark p)
+member_stands fs e i (a_word w) ps t h =
+    (h.0, h.1 ++ (h.2 ∷ i ∷ []), two_behind h.0 h.1 h.2 i ps h.3, h.4, (behind_mark e h.1 (h.2 ∷ []) i h.5, (h.1, h.2, i, refl, h.5, h.6, (t, refl))))
+member_stands fs e i a_class ps t h = literal_stands fs e i ps t h
+member_stands fs e i _ ps t h = tt
+
+-- ---- `super` and `new`
+
+from_first : (m n : Span) (h i : Placed Span) (b : Tokens) → m ≡ h.mark → join m i.mark ≡ span_of (h ∷ (b ++ (i ∷ [])))
+from_first m n h i b e = to_last m (h ∷ []) b i tt (ap (λ (s : Span). s.from) e)
+
+behind_super_stands : (fs : Spans) (m : Span) (i : Placed Span) (p : Piece) (ps : Tokens) → Is (piece_token p) i → StandsState (at_super fs m) ps → After ps i (behind_super fs m p)
+behind_super_stands fs m i a_dot ps t h = (h.0, h.1, i, one_more ps h.0 (h.1 ∷ []) i h.2, h.3, h.4, h.5, t)
+behind_super_stands fs m i _ ps t h = tt
+
+super_member_stands : (fs : Spans) (m : Span) (i : Placed Span) (p : Piece) (ps : Tokens) → Is (piece_token p) i → StandsState (super_dotted fs m) ps → After ps i (super_member join fs m i.mark p)
+super_member_stands fs m i (a_word w) ps t h =
+    (h.0, h.1 ∷ h.2 ∷ i ∷ [], one_more ps h.0 (h.1 ∷ h.2 ∷ []) i h.3, h.4, (from_first m m h.1 i (h.2 ∷ []) h.6, (h.1, h.2, i, refl, h.5, h.7, (t, refl))))
+super_member_stands fs m i _ ps t h = tt
+
+behind_new_stands : (fs : Spans) (m : Span) (i : Placed Span) (p : Piece) (ps : Tokens) → Is (piece_token p) i → StandsState (at_new fs m) ps → After ps i (behind_new fs m i.mark p)
+behind_new_stands fs m i (a_word w) ps t h = (h.0, i ∷ [], h.1, one_more ps h.0 (h.1 ∷ []) i h.2, h.3, h.4, h.5, (refl, (i, refl, (t, refl))))
+behind_new_stands fs m i _ ps t h = tt
+
+new_outer_stands : (fs : Spans) (m : Span) (c : TypeName Span) (i : Placed Span) (ps : Tokens) → Is (symbol Dot) i → StandsState (new_named fs m c) ps → After ps i (new_outer fs m c)
+new_outer_stands fs m (named n None w) i ps t h =
+    let k = h.7.1 in
+    (h.0, h.2, k.0, i, one_more ps h.0 (h.2 ∷ h.1) i h.3 ∙ ap (λ (x : Tokens). h.0 ++ (h.2 ∷ (x ++ (i ∷ [])))) k.1, h.4, h.5, h.6, k.2, t)
+new_outer_stands fs m _ i ps t h = tt
+
+behind_new_name_stands : (fs : Spans) (m : Span) (c : TypeName Span) (i : Placed Span) (p : Piece) (ps : Tokens) → Is (piece_token p) i → StandsState (new_named fs m c) ps → After ps i (behind_new_name fs m c p)
+behind_new_name_stands fs m c i a_dot ps t h = new_outer_stands fs m c i ps t h
+behind_new_name_stands fs m c i an_open ps t h = (
+  h.0,
+  h.2 ∷ (h.1 ++ (i ∷ [])),
+  one_more ps h.0 (h.2 ∷ h.1) i h.3,
+  h.4,
+  (
+    h.2 ∷ (h.1 ++ (i ∷ [])),
+    [],
+    sym (append-nil (h.2 ∷ (h.1 ++ (i ∷ [])))),
+    ((h.1, h.2, i, refl, h.5, h.7, t), ap (λ (s : Span). s.from) h.6),
+    refl,
+  ),
+)
+behind_new_name_stands fs m c i _ ps t h = tt
+
+new_inner_stands : (fs : Spans) (m : Span) (o : Word Span) (i : Placed Span) (p : Piece) (ps : Tokens) → Is (piece_token p) i → StandsState (new_dotted fs m o) ps → After ps i (new_inner join fs m o i.mark p)
+new_inner_stands fs m o i (a_word w) ps t h = (
+  h.0,
+  h.2 ∷ h.3 ∷ i ∷ [],
+  h.1,
+  one_more ps h.0 (h.1 ∷ h.2 ∷ h.3 ∷ []) i h.4,
+  h.5,
+  h.6,
+  h.7,
+  (from_first o.mark m h.2 i (h.3 ∷ []) h.8.1, (h.2, h.3, i, refl, h.8, h.9, (t, refl))),
+)
+new_inner_stands fs m o i _ ps t h = tt
+
+pub piece_stands : (s : State Span) (i : Placed Span) (p : Piece) (ps : Tokens) → Is (piece_token p) i → StandsState s ps → After ps i (stepped join s i.mark p)
+piece_stands (want fs) i p ps t h = begun_stands fs i p ps t h
+piece_stands (have fs e) i p ps t h = extended_stands fs e i p ps t h
+piece_stands (dotted fs e) i p ps t h = member_stands fs e i p ps t h
+piece_stands (at_super fs m) i p ps t h = behind_super_stands fs m i p ps t h
+piece_stands (super_dotted fs m) i p ps t h = super_member_stands fs m i p ps t h
+piece_stands (at_new fs m) i p ps t h = behind_new_stands fs m i p ps t h
+piece_stands (new_named fs m c) i p ps t h = behind_new_name_stands fs m c i p ps t h
+piece_stands (new_dotted fs m o) i p ps t h = new_inner_stands fs m o i p ps t h
+
+pub step_stands : (s : State Span) (i : Placed Span) (ps : Tokens) → StandsState s ps → After ps i (span_step s i)
+step_stands s i ps h = piece_stands s i (piece_of i.token) ps (sym (piece_back i.token)) h

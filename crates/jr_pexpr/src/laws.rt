@@ -1,0 +1,46 @@
+ghost use Rattle.jr_pexpr.specs.Expressions.{OneExpression, OneStatementExpression, OneMarkedExpression, LengthIsLongest, StatementLengthIsLongest, StopIsExact, StatementStopIsExact, StepsAlike, BuildsMarked};
+
+/// No two expressions spell the same tokens (JLS 15).
+pub fn one_expression()
+    ensures { OneExpression }
+{}
+
+/// No two statement expressions spell the same tokens (JLS 14.8).
+pub fn one_statement_expression()
+    ensures { OneStatementExpression }
+{}
+
+/// Expressions with places that spell the same tokens are the same but for their marks.
+pub fn one_marked_expression()
+    ensures { OneMarkedExpression }
+{}
+
+/// The machine finds the longest expression that tokens begin with, and finds none only where there is none.
+pub fn expression_is_longest()
+    ensures { LengthIsLongest }
+{}
+
+/// The same for statement expressions.
+pub fn statement_expression_is_longest()
+    ensures { StatementLengthIsLongest }
+{}
+
+/// The machine stops at the first token such that no expression begins with the tokens up to and including it.
+pub fn expression_stop_is_exact()
+    ensures { StopIsExact }
+{}
+
+/// The same for statement expressions.
+pub fn statement_expression_stop_is_exact()
+    ensures { StatementStopIsExact }
+{}
+
+/// The machine over tokens with places steps, finds and stops as the one over tokens alone.
+pub fn marked_steps_alike()
+    ensures { StepsAlike }
+{}
+
+/// What the machine builds has the span of each node's tokens as that node's mark.
+pub fn marks_are_spans()
+    ensures { BuildsMarked }
+{}

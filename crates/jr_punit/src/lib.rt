@@ -1,0 +1,2 @@
+//! Compilation units: which tokens statements, members, classes and units spell, and which trees are shaped.
+#![tactic(auto)]
