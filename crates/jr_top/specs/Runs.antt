@@ -1,5 +1,5 @@
 -- What a run does.
-use Rattle.std.specs.Prelude.{◌≡◌, ℕ, ◌⊎◌, List, Option, Some, OnSome, slice_get}
+use Rattle.std.specs.Prelude.{◌≡◌, ℕ, ◌⊎◌, List, Option, Some, slice_get}
 use Rattle.jr_shelf.specs.Counts.{Rose}
 use Rattle.jr_shelf.specs.Shelf.{Files, Holds}
 use Rattle.jr_shelf.specs.Sink.{appended, AppendedInPart}
@@ -8,7 +8,7 @@ use Rattle.jr_small.specs.Refusal.{Refusal}
 use Rattle.jr_small.specs.Answer.{Grants, Refuses}
 use Rattle.jr_top.specs.declared.statuses.SourceFault.{SourceFault}
 use Rattle.jr_top.specs.Lines.{refusal_line}
-use Rattle.jr_top.specs.Sources.{HasFault, HoldsSome, HoldsText, HoldsNoText}
+use Rattle.jr_top.specs.Sources.{HoldsFault, HoldsText, HoldsNoText}
 use Rattle.jr_top.specs.Words.{rename, Mean}
 
 -- ---- outputs
@@ -35,6 +35,9 @@ pub record IsNoNewText (told : Option Files) (file : List ℕ) (at : ℕ) (name 
   pub source : List ℕ
   pub is_source : IsSource told file source
   pub line : IsRefusalLine file source at name output
+
+abbrev pub IsEither : Option Files → List ℕ → ℕ → List ℕ → List ℕ → Type 0
+IsEither told file at name output = IsNewText told file at name output ⊎ IsNoNewText told file at name output
 
 -- the words ask for a new text, and it is this
 pub record Grant (words : List (List ℕ)) (told : Option Files) (output : List ℕ) : Type 0 where
@@ -91,7 +94,7 @@ pub record AskOfNoText (words : List (List ℕ)) (told : Option Files) : Type 0 
 pub record NamesFault (words : List (List ℕ)) (told : Option Files) (word : ℕ) (fault : SourceFault) : Type 0 where
   pub file : List ℕ
   pub named : slice_get words word ≡ Some file
-  pub has_fault : OnSome told (HoldsSome told file (λ bytes. HasFault bytes fault))
+  pub has_fault : HoldsFault told file fault
 
 -- ---- faults
 

@@ -1,5 +1,5 @@
 -- What bytes are no source.
-use Rattle.std.specs.Prelude.{ℕ, ◌<◌, ◌≤◌, List, length, Option, IsSomeAnd}
+use Rattle.std.specs.Prelude.{ℕ, ◌<◌, ◌≤◌, List, length, Option, IsSomeAnd, OnSome}
 use Rattle.std.specs.Str.{IsValidUpTo}
 use Rattle.std.specs.FinMap as map
 use Rattle.jr_shelf.specs.Shelf.{Files}
@@ -15,6 +15,10 @@ HasFault bytes (NotUtf8 valid) = (length bytes ≤ text_limit) × IsValidUpTo by
 -- it is told what is held, and the name holds bytes of which this is so
 abbrev pub HoldsSome : Option Files → List ℕ → (List ℕ → Type 0) → Type 0
 HoldsSome told name P = IsSomeAnd told (λ files. IsSomeAnd (map.get files name) P)
+
+-- where it is told what is held, the name holds bytes with this fault
+abbrev pub HoldsFault : Option Files → List ℕ → SourceFault → Type 0
+HoldsFault told name fault = OnSome told (HoldsSome told name (λ bytes. HasFault bytes fault))
 
 -- the name is told to hold a text
 abbrev pub HoldsText : Option Files → List ℕ → Type 0

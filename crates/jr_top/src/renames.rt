@@ -2,9 +2,10 @@ ghost use Rattle.std.specs.Prelude.{◌≡◌, ◌≤◌, ◌+◌, ◌⊎◌, If
 ghost use Rattle.jr_shelf.specs.Counts.{Rose, RoseBy};
 ghost use Rattle.jr_shelf.specs.Sink.{AppendedInPart, appended};
 ghost use Rattle.jr_small.specs.Answer.{Grants};
-ghost use Rattle.jr_top.specs.Sources.{HasFault, HoldsNoText, HoldsSome, HoldsText};
-ghost use Rattle.jr_top.specs.Statuses.{IsAfterSource, IsAnswerOrMemory, IsBadSourceOrMemory, IsBeforeSource, IsOfRename, OnBadSource, OnDone, OnNoReadFault, OnNothingWritten, OnReadFault, OnRefused, OnWriteFault, OnWriting};
-ghost use Rattle.jr_top.specs.Runs.{HadNoFault, IsNewText, IsNoNewText, IsRefusalLine, IsSource, TookAll, TookInPart};
+ghost use Rattle.jr_top.specs.Sources.{HoldsFault, HoldsNoText, HoldsText};
+ghost use Rattle.jr_top.specs.Statuses.{IsAfterSource, IsAnswerOrMemory, IsBadSourceOrMemory, IsBeforeSource, IsOfRename};
+ghost use Rattle.jr_top.specs.Statuses.{OnBadSource, OnDone, OnNoReadFault, OnNothingWritten, OnReadFault, OnRefused, OnWriteFault, OnWriting};
+ghost use Rattle.jr_top.specs.Runs.{HadNoFault, IsEither, IsNewText, IsNoNewText, IsRefusalLine, IsSource, TookAll, TookInPart};
 
 use crate::lines::refusal_line;
 use crate::statuses::{SourceFault, Status};
@@ -27,21 +28,24 @@ pub(crate) fn rename_in_file<S: Shelf, K: Sink>(
     sink: &mut K,
 ) -> Status
     ensures ends { IsOfRename result }
-    ensures done { OnDone result (TookAll (IsNewText (S.holds shelf.old) file.now at name.now) (K.taken sink.old) (K.taken sink.new)) }
-    ensures refused { OnRefused result (TookAll (IsNoNewText (S.holds shelf.old) file.now at name.now) (K.taken sink.old) (K.taken sink.new)) }
+    ensures done { OnDone result
+        (TookAll (IsNewText (S.holds shelf.old) file.now at name.now) (K.taken sink.old) (K.taken sink.new)) }
+    ensures refused { OnRefused result
+        (TookAll (IsNoNewText (S.holds shelf.old) file.now at name.now) (K.taken sink.old) (K.taken sink.new)) }
 
     ensures read_fault_word { OnReadFault result (λ word. word ≡ 1) }
     ensures read_fault { OnReadFault result (λ word. Rose (S.faults shelf.old) (S.faults shelf.new)) }
-    ensures read_fault_missed { OnReadFault result (λ word. OnSome (S.holds shelf.old) (S.missed shelf.new ≡ Some file.now)) }
+    ensures read_fault_missed { OnReadFault result (λ word.
+        OnSome (S.holds shelf.old) (S.missed shelf.new ≡ Some file.now)) }
     ensures read_fault_served { OnReadFault result (λ word. RoseBy 0 (S.served shelf.old) (S.served shelf.new)) }
 
     ensures write_fault_stored { OnWriteFault result (λ stored. stored ≡ 0) }
     ensures write_fault { OnWriteFault result (λ stored. Rose (K.faults sink.old) (K.faults sink.new)) }
     ensures write_fault_in_part { OnWriteFault result (λ stored.
-        TookInPart (λ output. IsNewText (S.holds shelf.old) file.now at name.now output ⊎ IsNoNewText (S.holds shelf.old) file.now at name.now output) (K.taken sink.old) (K.taken sink.new)) }
+        TookInPart (IsEither (S.holds shelf.old) file.now at name.now) (K.taken sink.old) (K.taken sink.new)) }
 
     ensures bad_source_word { OnBadSource result (λ word fault. word ≡ 1) }
-    ensures bad_source { OnBadSource result (λ word fault. OnSome (S.holds shelf.old) (HoldsSome (S.holds shelf.old) file.now (λ bytes. HasFault bytes fault))) }
+    ensures bad_source { OnBadSource result (λ word fault. HoldsFault (S.holds shelf.old) file.now fault) }
     ensures no_source { HoldsNoText (S.holds shelf.old) file.now
         → HadNoFault (S.faults shelf.old) (S.faults shelf.new) (K.faults sink.old) (K.faults sink.new)
         → IsBadSourceOrMemory result }
@@ -68,17 +72,23 @@ fn fetch_source<S: Shelf>(alloc: Global, file: &str, shelf: &mut S) -> Result<Te
     ensures ends { IfErr result IsBeforeSource }
 
     ensures read_fault_word { IfErr result (λ status. OnReadFault status (λ word. word ≡ 1)) }
-    ensures read_fault { IfErr result (λ status. OnReadFault status (λ word. Rose (S.faults shelf.old) (S.faults shelf.new))) }
-    ensures read_fault_missed { IfErr result (λ status. OnReadFault status (λ word. OnSome (S.holds shelf.old) (S.missed shelf.new ≡ Some file.now))) }
-    ensures read_fault_served { IfErr result (λ status. OnReadFault status (λ word. RoseBy 0 (S.served shelf.old) (S.served shelf.new))) }
+    ensures read_fault { IfErr result (λ status. OnReadFault status (λ word.
+        Rose (S.faults shelf.old) (S.faults shelf.new))) }
+    ensures read_fault_missed { IfErr result (λ status. OnReadFault status (λ word.
+        OnSome (S.holds shelf.old) (S.missed shelf.new ≡ Some file.now))) }
+    ensures read_fault_served { IfErr result (λ status. OnReadFault status (λ word.
+        RoseBy 0 (S.served shelf.old) (S.served shelf.new))) }
 
     ensures bad_source_word { IfErr result (λ status. OnBadSource status (λ word fault. word ≡ 1)) }
-    ensures bad_source { IfErr result (λ status. OnBadSource status (λ word fault. OnSome (S.holds shelf.old) (HoldsSome (S.holds shelf.old) file.now (λ bytes. HasFault bytes fault)))) }
-    ensures bad_source_only { IfErr result (λ status. OnBadSource status (λ word fault. HoldsText (S.holds shelf.old) file.now → ⊥)) }
+    ensures bad_source { IfErr result (λ status. OnBadSource status (λ word fault.
+        HoldsFault (S.holds shelf.old) file.now fault)) }
+    ensures bad_source_only { IfErr result (λ status. OnBadSource status (λ word fault.
+        HoldsText (S.holds shelf.old) file.now → ⊥)) }
 
     ensures keeps { S.holds shelf.new ≡ S.holds shelf.old }
     ensures missed_ok { OnOk result (OnSome (S.holds shelf.old) (S.missed shelf.new ≡ S.missed shelf.old)) }
-    ensures missed_err { IfErr result (λ status. OnNoReadFault status (OnSome (S.holds shelf.old) (S.missed shelf.new ≡ S.missed shelf.old))) }
+    ensures missed_err { IfErr result (λ status. OnNoReadFault status
+        (OnSome (S.holds shelf.old) (S.missed shelf.new ≡ S.missed shelf.old))) }
     ensures served { OnOk result (RoseBy 1 (S.served shelf.old) (S.served shelf.new)) }
     ensures faults { S.faults shelf.old ≤ S.faults shelf.new }
 {
@@ -113,11 +123,13 @@ fn rename_in_source<K: Sink>(
 ) -> Status
     ensures ends { IsAfterSource result }
     ensures done { OnDone result (TookAll (Grants source.now at name.now) (K.taken sink.old) (K.taken sink.new)) }
-    ensures refused { OnRefused result (TookAll (IsRefusalLine file.now source.now at name.now) (K.taken sink.old) (K.taken sink.new)) }
+    ensures refused { OnRefused result
+        (TookAll (IsRefusalLine file.now source.now at name.now) (K.taken sink.old) (K.taken sink.new)) }
     ensures write_fault_stored { OnWriteFault result (λ stored. stored ≡ 0) }
     ensures write_fault { OnWriteFault result (λ stored. Rose (K.faults sink.old) (K.faults sink.new)) }
     ensures write_fault_in_part { OnWriteFault result (λ stored.
-        TookInPart (λ output. Grants source.now at name.now output ⊎ IsRefusalLine file.now source.now at name.now output) (K.taken sink.old) (K.taken sink.new)) }
+        TookInPart (λ output. Grants source.now at name.now output ⊎ IsRefusalLine file.now source.now at name.now output)
+        (K.taken sink.old) (K.taken sink.new)) }
     ensures nothing_put { OnNothingWritten result (sink.new ≡ sink.old) }
     ensures faults { K.faults sink.old ≤ K.faults sink.new }
 {

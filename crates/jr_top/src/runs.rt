@@ -1,7 +1,8 @@
 ghost use Rattle.std.specs.Prelude.{◌≡◌, ◌≤◌, ◌+◌, ◌↔◌, OnSome, slice_get, Some};
 ghost use Rattle.jr_shelf.specs.Counts.{Rose, RoseBy};
 ghost use Rattle.jr_top.specs.Words.{MeanNothing, texts_of};
-ghost use Rattle.jr_top.specs.Statuses.{IsAnswerOrMemory, IsBadSourceOrMemory, OnBadSource, OnDone, OnNoReadFault, OnNothingWritten, OnReadFault, OnRefused, OnWriteFault, OnWriting};
+ghost use Rattle.jr_top.specs.Statuses.{IsAnswerOrMemory, IsBadSourceOrMemory};
+ghost use Rattle.jr_top.specs.Statuses.{OnBadSource, OnDone, OnNoReadFault, OnNothingWritten, OnReadFault, OnRefused, OnWriteFault, OnWriting};
 ghost use Rattle.jr_top.specs.Runs.{Answer, AskOfNoText, AskOfText, Grant, HadNoFault, NamesFault, Refuse, TookAll, TookInPart};
 
 use crate::renames::rename_in_file;
@@ -25,8 +26,10 @@ pub fn run<S: Shelf, K: Sink>(
     ensures unread { MeanNothing (texts_of words.now) → shelf.new ≡ shelf.old }
 
     // `Done` and `Refused`: the sink took exactly the new text, or exactly the line of the refusal.
-    ensures done { OnDone result (TookAll (Grant (texts_of words.now) (S.holds shelf.old)) (K.taken sink.old) (K.taken sink.new)) }
-    ensures refused { OnRefused result (TookAll (Refuse (texts_of words.now) (S.holds shelf.old)) (K.taken sink.old) (K.taken sink.new)) }
+    ensures done { OnDone result
+        (TookAll (Grant (texts_of words.now) (S.holds shelf.old)) (K.taken sink.old) (K.taken sink.new)) }
+    ensures refused { OnRefused result
+        (TookAll (Refuse (texts_of words.now) (S.holds shelf.old)) (K.taken sink.old) (K.taken sink.new)) }
 
     // `ReadFault`: only where the shelf failed in the fetch of that word's file.
     ensures read_fault_word { OnReadFault result (λ word. word ≡ 1) }

@@ -17,7 +17,8 @@ pub enum Command<'a> {
 /// `rename FILE AT NAME` is the one command. AT is one or more decimal digits with a value up to 4,294,967,295. No
 /// word is empty, and none begins with `-`.
 pub fn read_words(words: &[String]) -> Option<Command<'_>>
-    ensures { MatchOption result (MeanNothing (texts_of words.now)) (λ command. Mean (texts_of words.now) (command_of command)) }
+    ensures { MatchOption result (MeanNothing (texts_of words.now))
+        (λ command. Mean (texts_of words.now) (command_of command)) }
 {
     let [command, file, at, name] = words else {
         return None;
@@ -26,7 +27,8 @@ pub fn read_words(words: &[String]) -> Option<Command<'_>>
 }
 
 fn read_rename<'a>(command: &str, file: &'a str, at: &str, name: &'a str) -> Option<Command<'a>>
-    ensures { MatchOption result (MeanNothing (command.now ∷ file.now ∷ at.now ∷ name.now ∷ [])) (λ read. Mean (command.now ∷ file.now ∷ at.now ∷ name.now ∷ []) (command_of read)) }
+    ensures { let words = command.now ∷ file.now ∷ at.now ∷ name.now ∷ []
+        in MatchOption result (MeanNothing words) (λ read. Mean words (command_of read)) }
 {
     if command != "rename" || !is_plain(file) || !is_plain(name) {
         return None;
