@@ -16,6 +16,8 @@ mod refusals;
 mod sound;
 mod tables;
 mod targets;
+#[cfg(test)]
+mod tests;
 mod tokens;
 
 pub use occurrences::{Occurrence, Role};
