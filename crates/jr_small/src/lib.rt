@@ -17,6 +17,8 @@ mod refusals;
 mod sound;
 mod tables;
 mod targets;
+#[cfg(test)]
+mod tests;
 mod tokens;
 
 pub use laws::wish_has_one_answer;
