@@ -2,6 +2,7 @@
 use Rattle.std.specs.Prelude.{ℕ, Option, Some, Result, Ok, Err, List}
 use Rattle.jr_shelf.specs.declared.faults.FetchFault.{FetchFault}
 use Rattle.jr_shelf.specs.declared.faults.FetchFault.TheVariants.{Failed, TooLong, Memory}
+use Rattle.jr_shelf.specs.Counts.{raised}
 
 -- a fact where the fetch answered `Failed`
 abbrev pub OnFailed : {T : Type 0} → Result T FetchFault → Type 0 → Type 0
@@ -37,3 +38,10 @@ missed_after (Ok bytes) name before = before
 missed_after (Err Failed) name before = Some name
 missed_after (Err TooLong) name before = before
 missed_after (Err Memory) name before = before
+
+-- how many faults a shelf of real files counts, once a fetch gave this answer: one more exactly after `Failed`
+abbrev pub faults_after : {T : Type 0} → Result T FetchFault → ℕ → ℕ
+faults_after (Ok bytes) before = before
+faults_after (Err Failed) before = raised before
+faults_after (Err TooLong) before = before
+faults_after (Err Memory) before = before

@@ -1,6 +1,7 @@
 pub mod Counts
 pub mod Fetch
 pub mod Files
+pub mod Limits
 pub mod LogState
 pub mod MemoryShelf
 pub mod MemorySink

@@ -3,8 +3,7 @@ use Rattle.std.specs.Prelude.{◌≡◌, ℕ, ◌+◌, ◌-◌, ◌<◌, ◌||�
 use Rattle.std.specs.FinMap as map
 use Rattle.jr_shelf.specs.declared.faults.FetchFault.{FetchFault}
 use Rattle.jr_shelf.specs.declared.faults.FetchFault.TheVariants.{Failed, TooLong, Memory}
-use Rattle.jr_shelf.specs.declared.shelves.TheConstants.{MAX_FILE}
-use Rattle.jr_shelf.specs.declared.store_logs.TheConstants.{MAX_STORES}
+use Rattle.jr_shelf.specs.Limits.{file_limit, store_limit}
 use Rattle.jr_shelf.specs.Counts.{raised, next_number, fails_next}
 use Rattle.jr_shelf.specs.Shelf.{Files}
 
@@ -37,7 +36,7 @@ fetch_fails state name = fails_next state.failing state.number || is_none (map.g
 abbrev pub FetchMayGive : {T : Type 0} → MemoryState → List ℕ → Result T FetchFault → Type 0
 FetchMayGive state name (Ok bytes) = fetch_fails state name ≡ false
 FetchMayGive state name (Err Failed) = fetch_fails state name ≡ true
-FetchMayGive state name (Err TooLong) = (fetch_fails state name ≡ false) × IsSomeAnd (map.get state.held name) (λ bytes. MAX_FILE < length bytes)
+FetchMayGive state name (Err TooLong) = (fetch_fails state name ≡ false) × IsSomeAnd (map.get state.held name) (λ bytes. file_limit < length bytes)
 FetchMayGive state name (Err Memory) = Unit {0}
 
 -- what a fetch of this name leaves, by its answer
@@ -49,7 +48,7 @@ after_fetch state name (Err Memory) = state
 
 -- whether a store of these bytes under this name fails: its number is among the failing ones, there is no room for both, or enough stores answered Ok
 abbrev pub store_fails : MemoryState → List ℕ → List ℕ → Bool
-store_fails state name bytes = fails_next state.failing state.number || nat_lt state.room (length name + length bytes) || nat_le MAX_STORES state.stores
+store_fails state name bytes = fails_next state.failing state.number || nat_lt state.room (length name + length bytes) || nat_le store_limit state.stores
 
 -- what a store leaves, by its answer
 abbrev pub after_store : {T E : Type 0} → MemoryState → List ℕ → List ℕ → Result T E → MemoryState

@@ -1,6 +1,6 @@
 -- What a shelf holds, and what a fetch and a store make of it.
 use Rattle.std.specs.Prelude.{◌≡◌, ℕ, ◌<◌, ◌⊎◌, Option, None, Some, List, length, take, IfSome, IsSomeAnd}
-use Rattle.jr_shelf.specs.declared.shelves.TheConstants.{MAX_FILE}
+use Rattle.jr_shelf.specs.Limits.{file_limit}
 use Rattle.std.specs.Ordering.{nat_cmp}
 use Rattle.std.specs.Cmp.Lexicographic.{slice_cmp}
 use Rattle.std.specs.FinMap as map
@@ -13,9 +13,9 @@ Files = map.FinMap (slice_cmp nat_cmp) (List ℕ)
 abbrev pub Holds : Option Files → List ℕ → List ℕ → Type 0
 Holds told name bytes = IfSome told (λ files. map.get files name ≡ Some bytes)
 
--- it is told what is held, and the name holds more than `MAX_FILE` bytes
+-- it is told what is held, and the name holds more bytes than a file may have
 abbrev pub HoldsTooMuch : Option Files → List ℕ → Type 0
-HoldsTooMuch told name = IsSomeAnd told (λ files. IsSomeAnd (map.get files name) (λ bytes. MAX_FILE < length bytes))
+HoldsTooMuch told name = IsSomeAnd told (λ files. IsSomeAnd (map.get files name) (λ bytes. file_limit < length bytes))
 
 -- it is told what is held, and the name isn't there
 abbrev pub LacksName : Option Files → List ℕ → Type 0

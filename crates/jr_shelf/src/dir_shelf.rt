@@ -1,8 +1,9 @@
 ghost use Rattle.std.specs.Prelude.{◌≡◌, ℕ, ◌^◌, ◌<◌, ◌≤◌, List, Option, None, length, IfOk};
+ghost use Rattle.jr_shelf.specs.Limits.{file_limit};
 ghost use Rattle.jr_shelf.specs.Shelf.{Files as HeldFiles};
 
 use crate::transfers::{is_out_of_memory, read_whole, write_whole};
-use crate::{Failed, FetchFault, MAX_FILE, Shelf};
+use crate::{Failed, FetchFault, Shelf};
 use std::alloc::Global;
 use std::fs;
 use std::rt::Files;
@@ -35,6 +36,10 @@ impl<R: Files + Drop> DirShelf<R> {
 }
 
 impl<R: Files + Drop> Shelf for DirShelf<R> {
+    ghost use Rattle.std.specs.Prelude.{is_ok, if◌then◌else◌};
+    ghost use Rattle.jr_shelf.specs.Counts.{raised};
+    ghost use Rattle.jr_shelf.specs.Fetch.{OnMemory, faults_after};
+
     ghost holds = { λ _. None };
 
     ghost missed = { λ _. None };
@@ -43,7 +48,14 @@ impl<R: Files + Drop> Shelf for DirShelf<R> {
 
     ghost served = { λ shelf. shelf.served_count };
 
-    fn fetch(&mut self, alloc: Global, name: &str) -> Result<Vec<u8>, FetchFault> {
+    fn fetch(&mut self, alloc: Global, name: &str) -> Result<Vec<u8>, FetchFault>
+        ensures within { IfOk result (λ bytes. length bytes.items ≤ file_limit) }
+        ensures memory { OnMemory result (self.new ≡ self.old) }
+
+        // Each count rises by one, and only at its answer.
+        ensures faults { self.new.fault_count ≡ faults_after result self.old.fault_count }
+        ensures served { self.new.served_count ≡ (if is_ok result then raised self.old.served_count else self.old.served_count) }
+    {
         match read_file(&self.rt, alloc, name) {
             Ok(bytes) => {
                 self.served_count = self.served_count.saturating_add(1);
@@ -58,7 +70,11 @@ impl<R: Files + Drop> Shelf for DirShelf<R> {
         }
     }
 
-    fn store(&mut self, name: &str, bytes: &[u8]) -> Result<(), Failed> {
+    fn store(&mut self, name: &str, bytes: &[u8]) -> Result<(), Failed>
+        // Each count rises by one, and only at its answer.
+        ensures faults { self.new.fault_count ≡ (if is_ok result then self.old.fault_count else raised self.old.fault_count) }
+        ensures served { self.new.served_count ≡ (if is_ok result then raised self.old.served_count else self.old.served_count) }
+    {
         match write_file(&self.rt, name, bytes) {
             Ok(()) => {
                 self.served_count = self.served_count.saturating_add(1);
@@ -77,7 +93,7 @@ impl<R: Files + Drop> Shelf for DirShelf<R> {
 }
 
 fn read_file<R: Files>(rt: &R, alloc: Global, name: &str) -> Result<Vec<u8>, FetchFault>
-    ensures { IfOk result (λ bytes. length bytes.items ≤ MAX_FILE) }
+    ensures { IfOk result (λ bytes. length bytes.items ≤ file_limit) }
 {
     match fs::open(rt, name) {
         Ok(mut file) => read_whole(&mut file, alloc),

@@ -1,4 +1,5 @@
 ghost use Rattle.std.specs.Prelude.{◌≡◌, ℕ, ◌^◌, ◌<◌, List, Option, Some};
+ghost use Rattle.jr_shelf.specs.Limits.{file_limit};
 
 use crate::file_lists::find_file;
 use crate::store_logs::{MAX_STORES, StoreLog};
@@ -76,7 +77,7 @@ impl MemoryShelf {
     fn answer(&self, alloc: Global, name: &str) -> Result<Vec<u8>, FetchFault>
         ensures may { FetchMayGive (state_of self.now) name.now result }
         ensures ok { IfOk result (λ bytes. get (state_of self.now).held name.now ≡ Some bytes.items) }
-        ensures within { IfOk result (λ bytes. length bytes.items ≤ MAX_FILE) }
+        ensures within { IfOk result (λ bytes. length bytes.items ≤ file_limit) }
     {
         if self.next_fails() {
             return Err(FetchFault::Failed);
@@ -114,7 +115,7 @@ impl Shelf for MemoryShelf {
 
     fn fetch(&mut self, alloc: Global, name: &str) -> Result<Vec<u8>, FetchFault>
         ensures ok { IfOk result (λ bytes. Holds (Some (state_of self.old).held) name.now bytes.items) }
-        ensures within { IfOk result (λ bytes. length bytes.items ≤ MAX_FILE) }
+        ensures within { IfOk result (λ bytes. length bytes.items ≤ file_limit) }
         ensures not_served { HoldsTooMuch (Some (state_of self.old).held) name.now → IsErr result }
         ensures memory { OnMemory result (self.new ≡ self.old) }
 

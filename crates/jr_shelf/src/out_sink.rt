@@ -22,11 +22,17 @@ impl<R: Print + Drop> OutSink<R> {
 }
 
 impl<R: Print + Drop> Sink for OutSink<R> {
+    ghost use Rattle.std.specs.Prelude.{is_ok, if◌then◌else◌};
+    ghost use Rattle.jr_shelf.specs.Counts.{raised};
+
     ghost taken = { λ _. None };
 
     ghost faults = { λ sink. sink.fault_count };
 
-    fn put(&mut self, bytes: &[u8]) -> Result<(), Failed> {
+    fn put(&mut self, bytes: &[u8]) -> Result<(), Failed>
+        // The count rises by one, and only at a fault.
+        ensures faults { self.new.fault_count ≡ (if is_ok result then self.old.fault_count else raised self.old.fault_count) }
+    {
         match write_whole(&mut io::writer(&self.rt), bytes) {
             Ok(()) => Ok(()),
             Err(Failed) => {

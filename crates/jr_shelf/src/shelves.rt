@@ -1,6 +1,7 @@
 ghost use Rattle.std.specs.Prelude.{◌≡◌, ℕ, ◌^◌, ◌<◌, ◌≤◌, List, length, Option, IfOk, OnOk, OnErr, OnSome, IsErr, is_ok, if◌then◌else◌};
 ghost use Rattle.jr_shelf.specs.Counts.{Rose, raised};
 ghost use Rattle.jr_shelf.specs.Fetch.{OnFailed, OnTooLong, OnMemory, IsFailedOrMemory, missed_after};
+ghost use Rattle.jr_shelf.specs.Limits.{file_limit};
 ghost use Rattle.jr_shelf.specs.Shelf.{Files, Holds, HoldsTooMuch, LacksName, stored, StoredInPart};
 
 use crate::{Failed, FetchFault};
@@ -34,7 +35,7 @@ pub trait Shelf {
     /// memory for the bytes, which leaves the shelf as it was.
     fn fetch(&mut self, alloc: Global, name: &str) -> Result<Vec<u8>, FetchFault>
         ensures ok { IfOk result (λ bytes. Holds (holds self.old) name.now bytes.items) }
-        ensures within { IfOk result (λ bytes. length bytes.items ≤ MAX_FILE) }
+        ensures within { IfOk result (λ bytes. length bytes.items ≤ file_limit) }
         ensures keeps { holds self.new ≡ holds self.old }
 
         // `Failed`: only in a call in which the count rose, and always where the name isn't there.

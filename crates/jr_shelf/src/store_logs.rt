@@ -62,12 +62,14 @@ impl StoreLog {
         })
     }
 
+    /// How many stores it has.
     pub fn len(&self) -> usize
         ensures { result ≡ length self.now.entries }
     {
         self.entries.len()
     }
 
+    /// How many bytes there is room for.
     pub fn room(&self) -> u32
         ensures { result ≡ self.now.room }
     {

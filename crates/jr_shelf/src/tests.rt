@@ -108,10 +108,12 @@ fn real_files(rt: HostRuntime) -> Result<(), Fail> {
     let long = shelf.fetch(alloc, name);
     fs::remove_file(&rt, name)?;
     let gone = shelf.fetch(alloc, name);
+    let in_no_folder = shelf.store(format!(in alloc; "{name}/A.java")?.as_str(), b"");
     assert!(rt; stored.is_ok() && stored_long.is_ok());
     assert_eq!(rt; fetched.ok().as_deref(), Some(b"class A{}".as_slice()));
     assert_eq!(rt; text(&long), "TooLong");
     assert_eq!(rt; text(&gone), "Failed");
+    assert!(rt; in_no_folder.is_err());
     Ok(())
 }
 
