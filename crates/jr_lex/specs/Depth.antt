@@ -1,4 +1,4 @@
--- How deep and how long a text may grow between its tokens.
+-- Limits on tokens: open brackets, tokens since the last of `; { }`, and tokens `else`.
 use Rattle.std.specs.Prelude.{◌≡◌, ◌<◌, ◌+◌, ◌-◌, ◌⊎◌, ℕ, Bool, true, false, not, if◌then◌else◌, List, [], ◌∷◌, ◌++◌, reverse, fold, count_by}
 use Rattle.std.specs.List.{prefix_len}
 use Rattle.jr_lex.specs.declared.items.Item.{Item}
@@ -60,7 +60,7 @@ elses_behind n t = if is_else t then n + 1 else n
 abbrev pub unclosed : List TokenKind → ℕ
 unclosed ts = fold unclosed_behind 0 ts
 
--- how many tokens stand behind the last of `; { }`
+-- how many tokens stand behind the last of `; { }`, or in all where none of them stands there
 abbrev pub since_separator : List TokenKind → ℕ
 since_separator ts = prefix_len (λ t. not (is_separator t)) (reverse ts)
 

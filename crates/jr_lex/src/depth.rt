@@ -1,4 +1,5 @@
-//! How deep brackets, and how long a text, may grow between its tokens.
+//! Limits on a file's tokens: how many brackets may be open at once, how many tokens may stand between two of `;`, `{`
+//! and `}`, and how many may be `else`.
 
 ghost use Rattle.std.specs.Prelude.{◌≡◌, ◌≤◌, ◌<◌, ◌⊎◌, ◌↔◌, IsTrue, OnOk, IfErr, IsOk, IsErr, ℕ, false};
 ghost use Rattle.jr_lex.specs.Depth as spec;
@@ -8,7 +9,7 @@ use crate::items::{Item, ItemKind, Keyword, Symbol, TokenKind};
 /// How many brackets may be open at once.
 const MAX_UNCLOSED: u32 = 100;
 
-/// How many tokens may stand between two of `;`, `{` and `}`.
+/// How many tokens may stand behind the last of `;`, `{` and `}`.
 const MAX_BETWEEN: u32 = 300;
 
 /// How many tokens may be `else`.
@@ -18,7 +19,7 @@ const MAX_ELSES: u32 = 500;
 #[derive(Clone, Copy, PartialEq, Eq, Debug, thiserror::Error)]
 #[error("the text is too deep at byte {at}")]
 pub struct TooDeep {
-    /// The first byte of the token.
+    /// The first byte of the token, in bytes from the start of the file.
     pub at: u32,
 }
 
@@ -29,6 +30,7 @@ struct Counts {
     unclosed: u32,
     /// Tokens since the last of `;`, `{` and `}`.
     since: u32,
+    /// Tokens that are `else`.
     elses: u32,
 }
 
@@ -113,10 +115,11 @@ impl Counts {
     }
 }
 
-/// Whether a file's items stay within the limits: 100 open brackets, 300 tokens between two of `;`, `{` and `}`, and 500
-/// `else`.
+/// Whether a file's items stay within the limits: 100 open brackets of `(`, `{` and `[`, 300 tokens since the last of `;`,
+/// `{` and `}` (or since the file's start), and 500 tokens `else`. A closing bracket closes the last one that is open,
+/// whatever its kind. Blanks and comments aren't counted.
 ///
-/// An `Err` has the first token with which one of the three counts is passed.
+/// An `Err` has the place of the first token with which one of the three counts is passed. No memory is taken.
 pub fn measure(items: &[Item]) -> Result<(), TooDeep>
     ensures within { OnOk result (spec.AreWithin items.now) }
     ensures beyond { IfErr result (λ fault. spec.IsFirstBeyond items.now fault.at) }

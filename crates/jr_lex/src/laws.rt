@@ -1,4 +1,4 @@
-//! What holds of each text and its items.
+//! What holds of each text and its items (JLS 3.2).
 
 ghost use Rattle.std.specs.Prelude.{◌≡◌, ◌⊎◌, ℕ, List};
 ghost use Rattle.std.specs.Str.{IsUtf8};
