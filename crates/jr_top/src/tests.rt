@@ -56,18 +56,37 @@ fn check(
 
 #[test]
 fn renames(rt: HostRuntime) -> Result<(), Fail> {
-    let captured = "class A{static int f;static void m(){int f=1;A.f=f;}}";
-    for (line, output) in [
+    for (source, line, output) in [
         (
+            RENAMED,
             "rename A.java 41 b",
             "class A{static int f;static void m(){int b=1;f=b;}}",
         ),
-        ("rename A.java 0041 f", captured),
+        (
+            RENAMED,
+            "rename A.java 0041 f",
+            "class A{static int f;static void m(){int f=1;A.f=f;}}",
+        ),
+        (
+            "class A{static int f;static void m(){f=1;int a=f;f=f+a+f;}}",
+            "rename A.java 45 f",
+            "class A{static int f;static void m(){f=1;int f=A.f;A.f=A.f+f+A.f;}}",
+        ),
+        (
+            "class A{static int f;static void m(int A){f=A;}}",
+            "rename A.java 39 f",
+            "class A{static int f;static void m(int f){A.f=f;}}",
+        ),
+        (
+            "class A{static int f;static void m(){A.f=1;int a=2;f=a;}static void n(int a){a=f;}}",
+            "rename A.java 47 A",
+            "class A{static int f;static void m(){A.f=1;int A=2;f=A;}static void n(int a){a=f;}}",
+        ),
     ] {
         check(
             &rt,
             rt.alloc(),
-            RENAMED.as_bytes(),
+            source.as_bytes(),
             line,
             Status::Done,
             output,
@@ -107,6 +126,82 @@ fn refuses(rt: HostRuntime) -> Result<(), Fail> {
             obscured,
             "rename A.java 46 f",
             "refused 16 LostBinding A.java:50 A.f found A.m(int)#1\n",
+        ),
+    ] {
+        check(
+            &rt,
+            rt.alloc(),
+            source.as_bytes(),
+            line,
+            Status::Refused,
+            output,
+        )?;
+    }
+    Ok(())
+}
+
+// Comments that are not closed, and then texts that are no sound source of one class without blocks.
+#[test]
+fn refuses_sources(rt: HostRuntime) -> Result<(), Fail> {
+    let unbuilt = "refused 4 SourceError A.java:0 Unbuilt\n";
+    for (source, at, output) in [
+        (
+            "class A{/*/}",
+            6,
+            "refused 4 SourceError A.java:8 OpenComment\n",
+        ),
+        ("/*", 0, "refused 4 SourceError A.java:0 OpenComment\n"),
+        ("class A{static int f;}class B{static int f;}", 42, unbuilt),
+        ("class A{static void m(){{int a=1;}}}", 29, unbuilt),
+        (
+            "class A{static int a;static void m(){int a=a;}}",
+            41,
+            unbuilt,
+        ),
+        (
+            "class A{static int f;static void m(int A){A.f=1;}}",
+            39,
+            unbuilt,
+        ),
+        ("class A{static void m(int a){b=a;int b=1;}}", 26, unbuilt),
+    ] {
+        let line = format!(in rt.alloc(); "rename A.java {at} B")?;
+        check(
+            &rt,
+            rt.alloc(),
+            source.as_bytes(),
+            line.as_str(),
+            Status::Refused,
+            output,
+        )?;
+    }
+    Ok(())
+}
+
+// A clash with a declaration in front, and lost references: one behind the name of the class, one behind a local that
+// obscures the class, and one where a field obscures it.
+#[test]
+fn refuses_names(rt: HostRuntime) -> Result<(), Fail> {
+    for (source, line, output) in [
+        (
+            "class A{static void m(int b){int a=1;}}",
+            "rename A.java 33 b",
+            "refused 14 Clash A.m(int)#0\n",
+        ),
+        (
+            "class A{static int f;static void m(){int a=1;A.f=a+f;}}",
+            "rename A.java 41 A",
+            "refused 16 LostBinding A.java:45 A found A.m()#0\n",
+        ),
+        (
+            "class A{static int f;static void m(){int a=1;f=a;int A=2;f=A;}}",
+            "rename A.java 41 f",
+            "refused 16 LostBinding A.java:57 A.f found A.m()#0\n",
+        ),
+        (
+            "class A{static int A;static void m(){int a=1;A=a;}}",
+            "rename A.java 41 A",
+            "refused 16 LostBinding A.java:45 A.A found A.m()#0\n",
         ),
     ] {
         check(
