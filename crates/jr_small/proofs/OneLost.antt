@@ -1,17 +1,16 @@
 -- The first lost reference is told in one way, and where one is lost there is no renamed source.
-use Rattle.std.proofs.Common.{◌≡◌, ℕ, ◌<◌, ◌≤◌, List, length, Option, Some, None, refl, sym, ap, subst, ◌∙◌, arith, inl, inr}
+use Rattle.std.proofs.Common.{◌≡◌, ℕ, ◌<◌, ◌≤◌, List, Option, Some, None, refl, sym, ap, subst, ◌∙◌, arith, inl, inr}
 use Rattle.std.specs.Prelude.{slice_get, map}
-use Rattle.jr_small.specs.declared.occurrences.Role.{Role}
 use Rattle.jr_small.specs.Source.{Name}
 use Rattle.jr_small.specs.Occurrence.{Occurrence}
-use Rattle.jr_small.specs.Binding.{IsVariable, InScope, NoneInScope, DeclaresField, FindsName, FindsClass, FindsReference}
-use Rattle.jr_small.specs.Rename.{Asks, BindsAs, Lost, Renames, SameOccurrence, qualifier_text}
+use Rattle.jr_small.specs.Binding.{IsVariable, InScope, DeclaresField, FindsName, FindsClass, FindsReference}
+use Rattle.jr_small.specs.Rename.{Asks, BindsAs, Lost, Renames, qualifier_text}
 use Rattle.jr_small.specs.Renaming.{plain, asked_at, asked_list}
 use Rattle.jr_small.specs.Refusal.{Declaration}
 use Rattle.jr_small.specs.Answer.{Shows, TellsLost, IsFirstLost, reference_place}
 use Rattle.jr_small.proofs.Walks.{get_within}
 use Rattle.jr_small.proofs.WellBound.{same_at, one_variable}
-use Rattle.jr_small.proofs.KeepNames.{IsReady, one_field, binds_one, binds_finds, qualified_finds, by_qualifier, same_if}
+use Rattle.jr_small.proofs.KeepNames.{IsReady, one_field, binds_one, binds_finds, qualified_finds, by_qualifier}
 use Rattle.jr_small.proofs.KeepScope.{field_from}
 use Rattle.jr_small.proofs.KeepTold.{change_asked}
 use Rattle.jr_small.proofs.KeepPlain.{member_of, text_of, like, name_like, reference_like, binds_like}

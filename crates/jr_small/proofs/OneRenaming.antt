@@ -14,7 +14,7 @@ use Rattle.jr_small.specs.Answer.{AreEditsOf, IsRenamed}
 use Rattle.jr_small.proofs.Walks.{get_within}
 use Rattle.jr_small.proofs.KeepLists.{by_test, true_false, reference_role, role_reference}
 use Rattle.jr_small.proofs.KeepNames.{IsReady, is_own, own_is, asks}
-use Rattle.jr_small.proofs.KeepLost.{IsCaptured, by_capture, keeps_binding, captured_fails}
+use Rattle.jr_small.proofs.KeepLost.{by_capture, keeps_binding, captured_fails}
 use Rattle.jr_small.proofs.KeepTold.{change_asked, asked_as_is}
 use Rattle.jr_small.proofs.KeepPlain.{text_in, role_of, text_of, member_of, statement_of, like, binds_like}
 use Rattle.jr_small.proofs.AgainRenaming.{edits_plain}

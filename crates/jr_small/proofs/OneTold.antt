@@ -1,12 +1,12 @@
 -- A declaration is told in one way at most.
-use Rattle.std.proofs.Common.{◌≡◌, ℕ, zero, suc, ◌+◌, ◌<◌, List, [], ◌∷◌, ◌++◌, length, Some, refl, sym, ap, subst, ◌∙◌, arith}
+use Rattle.std.proofs.Common.{◌≡◌, ℕ, zero, suc, ◌+◌, ◌<◌, List, [], ◌∷◌, ◌++◌, Some, refl, sym, ap, subst, ◌∙◌, arith}
 use Rattle.std.specs.Prelude.{slice_get, map}
 use Rattle.std.specs.List.{AllByRecursion}
 use Rattle.jr_small.specs.declared.occurrences.Role.{Role}
 use Rattle.jr_small.specs.declared.occurrences.Role.TheVariants.{Class, Field, Method, Parameter, Local, Reference}
 use Rattle.jr_small.specs.Source as tree
 use Rattle.jr_small.specs.Spelling.{Tree}
-use Rattle.jr_small.specs.Occurrence.{Occurrence, declared, referred, in_atoms, in_sum, in_statement, in_body, in_member, in_members, occurrences}
+use Rattle.jr_small.specs.Occurrence.{Occurrence, declared, in_atoms, in_statement, in_body, in_members, occurrences}
 use Rattle.jr_small.specs.Sound.{parameter_count}
 use Rattle.jr_small.specs.Refusal as refusal
 use Rattle.jr_small.specs.Refusal.{Declaration}
@@ -116,9 +116,9 @@ one_variable_told all j of method of' method' parameters number parameters' numb
     let member : h.declaration.member ≡ g.declaration.member = ap (λ (o : Occurrence). o.member) same in
     let a : of ≡ of' = one_text all 0 (λ o. o.role ≡ Class) (λ o. o.role ≡ Class) of of' h.class g.class in
     let at : h.method_at ≡ g.method_at =
-        one h.method_at g.method_at h.its_method.occurrence g.its_method.occurrence h.its_method.stands g.its_method.stands h.its_method.holds.0 g.its_method.holds.0 (h.its_method.holds.1 ∙ member ∙ sym g.its_method.holds.1) in
+    one h.method_at g.method_at h.its_method.occurrence g.its_method.occurrence h.its_method.stands g.its_method.stands h.its_method.holds.0 g.its_method.holds.0 (h.its_method.holds.1 ∙ member ∙ sym g.its_method.holds.1) in
     let b : method ≡ method' =
-        sym h.its_method.named ∙ ap (λ (o : Occurrence). o.name.text) (same_at all g.method_at h.its_method.occurrence g.its_method.occurrence (ap (slice_get all) (sym at) ∙ h.its_method.stands) g.its_method.stands) ∙ g.its_method.named in
+    sym h.its_method.named ∙ ap (λ (o : Occurrence). o.name.text) (same_at all g.method_at h.its_method.occurrence g.its_method.occurrence (ap (slice_get all) (sym at) ∙ h.its_method.stands) g.its_method.stands) ∙ g.its_method.named in
     let c : parameters ≡ parameters' = h.parameter_number ∙ ap (parameter_count all) member ∙ sym g.parameter_number in
     let n : number ≡ number' = h.own_number ∙ ap (λ (m : ℕ). variables_before all m j) member ∙ sym g.own_number in
     cc
