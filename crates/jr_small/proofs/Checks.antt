@@ -8,7 +8,7 @@ use Rattle.jr_small.specs.declared.occurrences.Occurrence as raw
 use Rattle.jr_small.specs.declared.tables.Table.{Table}
 use Rattle.jr_small.specs.Occurrence.{Occurrence}
 use Rattle.jr_small.specs.Binding.{IsVariable}
-use Rattle.jr_small.specs.Sound.{Together, SameVariable, SameMethod, IsObjects, NoObjectMethod}
+use Rattle.jr_small.specs.Sound.{Together, SameVariable, IsObjects, NoObjectMethod}
 use Rattle.jr_small.specs.View.{all_of}
 use Rattle.jr_small.specs.Exact.{is_variable_role, is_variable, Pairs, Records, IsWellBound, AreBound, Checked}
 use Rattle.jr_small.proofs.Lookups.{nobody, at, at_number, in_all, records_kept, records_more, apart_more, pair_apart}
@@ -67,10 +67,3 @@ no_objects_more text all n h none here = subst NoObjectMethod (sym (all_of-more 
   where
     more : (front : List Occurrence) (o : Occurrence) → NoObjectMethod front → (IsObjects o → ⊥) → NoObjectMethod (front ++ o ∷ [])
     more front o f g k p e w = elim (get_more front o k p e) [ inl a ↦ f k p a w | inr b ↦ g (subst IsObjects b.same w) ]
-
--- none in front is the same method
-pub no_repeat : (text : List ℕ) (all : List raw.Occurrence) (n : ℕ) → n < length all → ((k : ℕ) → k < n → SameMethod (all_of text all) (at text all k) (at text all n) → ⊥) → Pairs (SameMethod (all_of text all)) (all_of text (take n all)) (at text all n) → ⊥
-no_repeat text all n h none p =
-    let f = in_all text all n p.number p.other p.stands in
-    let l : p.number < length all = omega (arith, f.1) in
-    none p.number f.1 (subst (λ (o : Occurrence). SameMethod (all_of text all) o (at text all n)) (same_at (all_of text all) p.number p.other (at text all p.number) f.0 (at_number text all p.number nobody l)) p.pair)

@@ -34,6 +34,7 @@ pub mod AgainRenaming
 pub mod Meant
 pub mod Structures
 pub mod FirstLost
+pub mod SameMethods
 pub mod RenamingEdits
 pub mod Assembly
 pub mod Telling

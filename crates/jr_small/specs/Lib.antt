@@ -10,6 +10,7 @@ pub mod View
 pub mod Placed
 pub mod Exact
 pub mod Table
+pub mod Signature
 pub mod Refusal
 pub mod Renaming
 pub mod Answer

@@ -14,6 +14,7 @@ mod plans;
 mod reader;
 mod readings;
 mod refusals;
+mod signatures;
 mod sound;
 mod tables;
 mod targets;

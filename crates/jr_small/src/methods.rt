@@ -1,11 +1,14 @@
-ghost use Rattle.std.specs.Prelude.{◌≡◌, ℕ, List, ◌↔◌, ◌<◌, length, take, slice_get, IsTrue, IfSome, Contains};
+ghost use Rattle.std.specs.Prelude.{◌≡◌, ℕ, List, ◌↔◌, IsTrue, IfOk, Contains};
 ghost use Rattle.jr_small.specs.Placed.{IsPlaced, ArePlaced};
 ghost use Rattle.jr_small.specs.Sound.{Together, SameMethod, IsObjects, NoObjectMethod, object_methods, prelude_names, parameter_count};
-ghost use Rattle.jr_small.specs.Exact.{Pairs};
+ghost use Rattle.jr_small.specs.Signature.{Counts};
+ghost use Rattle.jr_small.specs.Exact.{Knows, AddedMethod};
 ghost use Rattle.jr_small.specs.View.{occurrence_of, all_of};
 
 use crate::declared::part;
 use crate::occurrences::{Occurrence, Role};
+use crate::signatures::{ParameterCounts, Signatures};
+use std::alloc::{AllocError, Global};
 
 /// How many parameters the member has.
 pub(crate) fn count_parameters(all: &[Occurrence], member: usize) -> usize
@@ -16,50 +19,39 @@ pub(crate) fn count_parameters(all: &[Occurrence], member: usize) -> usize
         .count()
 }
 
-/// Whether two occurrences declare methods of one name and as many parameters.
-fn is_same_method(text: &str, all: &[Occurrence], first: &Occurrence, second: &Occurrence) -> bool
-    requires first { IsPlaced text.now first.now }
-    requires second { IsPlaced text.now second.now }
-    ensures { IsTrue result ↔ SameMethod (all_of text.now all.now) (occurrence_of text.now first.now) (occurrence_of text.now second.now) }
+/// Puts the signature of a method among those of the methods in front of it; false where it is one of them.
+fn put_method<'a>(
+    signatures: &mut Signatures<'a>,
+    counts: &ParameterCounts,
+    text: &'a str,
+    occurrence: &Occurrence,
+) -> Result<bool, AllocError>
+    requires { IsPlaced text.now occurrence.now }
+    ensures { IfOk result (λ new. (all front : List _) → Counts all counts.now → Knows all front signatures.old → AddedMethod all front (occurrence_of text.now occurrence.now) new signatures.new) }
 {
-    match (first.role, second.role) {
-        (Role::Method, Role::Method) => {
-            part(text, first.name) == part(text, second.name)
-                && count_parameters(all, first.member) == count_parameters(all, second.member)
-        }
-        _ => false,
+    match occurrence.role {
+        Role::Method => signatures.put(part(text, occurrence.name), counts.at(occurrence.member)),
+        _ => Ok(true),
     }
-}
-
-/// Whether an occurrence declares a method as one in front of it does.
-fn repeats_method(text: &str, all: &[Occurrence], number: usize) -> bool
-    requires within { number < length all.now }
-    requires placed { ArePlaced text.now all.now }
-    ensures { IfSome (slice_get (all_of text.now all.now) number) (λ o. IsTrue result ↔ Pairs (SameMethod (all_of text.now all.now)) (all_of text.now (take number all.now)) o) }
-{
-    let second = &all[number];
-    if second.role != Role::Method {
-        return false;
-    }
-    for i in 0..number {
-        if is_same_method(text, all, &all[i], second) {
-            return true;
-        }
-    }
-    false
 }
 
 /// Whether no two methods have one name and as many parameters (JLS 8.4.2).
-pub(crate) fn methods_differ(text: &str, all: &[Occurrence]) -> bool
+pub(crate) fn methods_differ(
+    alloc: Global,
+    text: &str,
+    all: &[Occurrence],
+) -> Result<bool, AllocError>
     requires { ArePlaced text.now all.now }
-    ensures { IsTrue result ↔ Together (all_of text.now all.now) (SameMethod (all_of text.now all.now)) }
+    ensures { IfOk result (λ differ. IsTrue differ ↔ Together (all_of text.now all.now) (SameMethod (all_of text.now all.now))) }
 {
-    for number in 0..all.len() {
-        if repeats_method(text, all, number) {
-            return false;
+    let counts = ParameterCounts::of(alloc, all)?;
+    let mut signatures = Signatures::new(alloc);
+    for occurrence in all {
+        if !put_method(&mut signatures, &counts, text, occurrence)? {
+            return Ok(false);
         }
     }
-    true
+    Ok(true)
 }
 
 /// Whether an occurrence declares a method with the name of one of Object's.

@@ -21,7 +21,7 @@ pub(crate) fn is_sound(alloc: Global, text: &str, all: &[Occurrence]) -> Result<
     if is_prelude_name(part(text, all[0].name)) {
         return Ok(false);
     }
-    if !methods_differ(text, all) {
+    if !methods_differ(alloc, text, all)? {
         return Ok(false);
     }
     if !has_no_object_method(text, all) {

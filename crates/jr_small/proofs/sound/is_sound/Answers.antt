@@ -35,7 +35,7 @@ returns-in-Some c =
       λ t. sound_parts (all_of text all) (record {
         class_name = class_name;
         fields = fields.0;
-        methods = c.methods_differ.ensures.0 c.if-not-methods_differ.false;
+        methods = c.in_ok-methods_differ.ensures.0 c.if-not-branch.false;
         variables = (h.0 t).0;
         no_object_method = c.has_no_object_method.ensures.0 c.if-not-has_no_object_method.false;
         bound = subst (AreBound (all_of text all)) (sym long) (h.0 t).1;
