@@ -135,19 +135,19 @@ first_edit text o n es rest e is from to spelled =
 
 -- ---- all edits
 
-all_edited : (swapped : WordSwapped) (qualified : WordQualified) (ss : List Slot) (text : List ℕ) (k : ℕ) (before os ns : List Occurrence) (es : List Entry)
-    → AllBare os → AllChange os ns → AreEditsOf k os ns es → ReadsAs ss text (before ++ os) → Done ss (splice text es) before os ns
-all_edited swapped qualified ss text k before [] [] es b c e h =
+all_edited : (swapped : WordSwapped) (qualified : WordQualified) (ss : List Slot) (text : List ℕ) (before os ns : List Occurrence) (es : List Entry)
+    → AllBare os → AllChange os ns → AreEditsOf os ns es → ReadsAs ss text (before ++ os) → Done ss (splice text es) before os ns
+all_edited swapped qualified ss text before [] [] es b c e h =
     subst (λ (xs : List Entry). Done ss (splice text xs) before [] []) (sym e) (record { names = []; reads = h; same = refl; fit = tt })
-all_edited swapped qualified ss text k before [] (n ∷ ns) es b c e h = absurd c
-all_edited swapped qualified ss text k before (o ∷ os) [] es b c e h = absurd c
-all_edited swapped qualified ss text k before (o ∷ os) (n ∷ ns) es b c (inl e) h =
+all_edited swapped qualified ss text before [] (n ∷ ns) es b c e h = absurd c
+all_edited swapped qualified ss text before (o ∷ os) [] es b c e h = absurd c
+all_edited swapped qualified ss text before (o ∷ os) (n ∷ ns) es b c (inl e) h =
     let reads = subst (ReadsAs ss text) (sym (append_assoc before (o ∷ []) os)) h in
-    kept ss (splice text es) before o n os ns b.0 (unchanged o n c.0 e.0) (all_edited swapped qualified ss text k (before ++ o ∷ []) os ns es b.1 c.1 e.1 reads)
-all_edited swapped qualified ss text k before (o ∷ os) (n ∷ ns) es b c (inr e) h =
+    kept ss (splice text es) before o n os ns b.0 (unchanged o n c.0 e.0) (all_edited swapped qualified ss text (before ++ o ∷ []) os ns es b.1 c.1 e.1 reads)
+all_edited swapped qualified ss text before (o ∷ os) (n ∷ ns) es b c (inr e) h =
     let reads = subst (ReadsAs ss text) (sym (append_assoc before (o ∷ []) os)) h in
     let rest = e.1.1 in
-    let behind = all_edited swapped qualified ss text (k + 1) (before ++ o ∷ []) os ns rest b.1 c.1 e.1.6 reads in
+    let behind = all_edited swapped qualified ss text (before ++ o ∷ []) os ns rest b.1 c.1 e.1.6 reads in
     subst (λ (t : List ℕ). Done ss t before (o ∷ os) (n ∷ ns)) (sym (first_edit text o n es rest e.1.0 e.1.2 e.1.3 e.1.4 e.1.5))
     (edited swapped qualified ss (splice text rest) before o n os ns b.0 c.0 e.0 behind)
 
@@ -161,8 +161,8 @@ pub record ReadsPlainly (text : List ℕ) (u : Tree) (ns : List Occurrence) : Ty
 -- A text reads as a tree, and some of its names are to be spelled otherwise. The text with the edits that say so reads as
 -- the tree with those names.
 pub all_read : (swapped : WordSwapped) (qualified : WordQualified) (text : List ℕ) (u : Tree) (ns : List Occurrence) (es : List Entry)
-    → Reads text u → AllChange (occurrences u) ns → AreEditsOf 0 (occurrences u) ns es → ReadsPlainly (splice text es) u ns
+    → Reads text u → AllChange (occurrences u) ns → AreEditsOf (occurrences u) ns es → ReadsPlainly (splice text es) u ns
 all_read swapped qualified text u ns es h c e =
-    let d = all_edited swapped qualified (slots (form_of u)) text 0 [] (occurrences u) ns es (source_bare u) c e (reads_as text u h) in
+    let d = all_edited swapped qualified (slots (form_of u)) text [] (occurrences u) ns es (source_bare u) c e (reads_as text u h) in
     let g = reads_with (splice text es) u d.names d.fit d.reads in
     record { tree = g.tree; reads = g.reads; form = g.form; same = ap (map plain) g.names ∙ d.same }

@@ -143,14 +143,14 @@ entry_cut : (text : List ℕ) (o : Occurrence) (e : Entry) → StandsIn text o.n
 entry_cut text o e h from to =
     subst (λ (n : ℕ). CanCut text (span_of n e.span.to)) (sym from) (subst (λ (n : ℕ). CanCut text (span_of o.name.at n)) (sym to) h.cut)
 
-edits_cut : (text : List ℕ) (k : ℕ) (os ns : List Occurrence) (es : List Entry) → AllByRecursion (λ o. StandsIn text o.name) os → AreEditsOf k os ns es → AllByRecursion (λ e. CanCut text e.span) es
-edits_cut text k [] [] es h e = subst (AllByRecursion (λ x. CanCut text x.span)) (sym e) tt
-edits_cut text k [] (n ∷ ns) es h e = absurd e
-edits_cut text k (o ∷ os) [] es h e = absurd e
-edits_cut text k (o ∷ os) (n ∷ ns) es h (inl e) = edits_cut text k os ns es h.1 e.1
-edits_cut text k (o ∷ os) (n ∷ ns) es h (inr e) =
-    subst (AllByRecursion (λ x. CanCut text x.span)) (sym e.1.2) (entry_cut text o e.1.0 h.0 e.1.3 e.1.4, edits_cut text (k + 1) os ns e.1.1 h.1 e.1.6)
+edits_cut : (text : List ℕ) (os ns : List Occurrence) (es : List Entry) → AllByRecursion (λ o. StandsIn text o.name) os → AreEditsOf os ns es → AllByRecursion (λ e. CanCut text e.span) es
+edits_cut text [] [] es h e = subst (AllByRecursion (λ x. CanCut text x.span)) (sym e) tt
+edits_cut text [] (n ∷ ns) es h e = absurd e
+edits_cut text (o ∷ os) [] es h e = absurd e
+edits_cut text (o ∷ os) (n ∷ ns) es h (inl e) = edits_cut text os ns es h.1 e.1
+edits_cut text (o ∷ os) (n ∷ ns) es h (inr e) =
+    subst (AllByRecursion (λ x. CanCut text x.span)) (sym e.1.2) (entry_cut text o e.1.0 h.0 e.1.3 e.1.4, edits_cut text os ns e.1.1 h.1 e.1.6)
 
 -- the text can be cut at each edit
-pub edits_fit : (text : List ℕ) (u : Tree) (ns : List Occurrence) (es : List Entry) → Reads text u → AreEditsOf 0 (occurrences u) ns es → FitsIn text es
-edits_fit text u ns es h e = All-from_recursion (λ x. CanCut text x.span) es (edits_cut text 0 (occurrences u) ns es (names_stand text u h) e)
+pub edits_fit : (text : List ℕ) (u : Tree) (ns : List Occurrence) (es : List Entry) → Reads text u → AreEditsOf (occurrences u) ns es → FitsIn text es
+edits_fit text u ns es h e = All-from_recursion (λ x. CanCut text x.span) es (edits_cut text (occurrences u) ns es (names_stand text u h) e)

@@ -18,21 +18,21 @@ use Rattle.jr_small.proofs.AgainAll.{IsChange, AllChange, same_spelled, ReadsPla
 -- ---- edits by what is spelled
 
 -- the edits depend on no place of the new names
-pub edits_plain : (k : ℕ) (os ns ms : List Occurrence) (es : List Entry) → map plain ns ≡ map plain ms → AreEditsOf k os ns es → AreEditsOf k os ms es
-edits_plain k [] [] [] es s e = e
-edits_plain k [] [] (m ∷ ms) es s e = absurd cc
-edits_plain k [] (n ∷ ns) ms es s e = absurd e
-edits_plain k (o ∷ os) [] ms es s e = absurd e
-edits_plain k (o ∷ os) (n ∷ ns) [] es s e = absurd cc
-edits_plain k (o ∷ os) (n ∷ ns) (m ∷ ms) es s (inl e) =
+pub edits_plain : (os ns ms : List Occurrence) (es : List Entry) → map plain ns ≡ map plain ms → AreEditsOf os ns es → AreEditsOf os ms es
+edits_plain [] [] [] es s e = e
+edits_plain [] [] (m ∷ ms) es s e = absurd cc
+edits_plain [] (n ∷ ns) ms es s e = absurd e
+edits_plain (o ∷ os) [] ms es s e = absurd e
+edits_plain (o ∷ os) (n ∷ ns) [] es s e = absurd cc
+edits_plain (o ∷ os) (n ∷ ns) (m ∷ ms) es s (inl e) =
     let first : plain m ≡ plain n = cc in
     let rest : map plain ns ≡ map plain ms = cc in
-    inl (e.0 ∙ same_spelled n m first, edits_plain k os ns ms es rest e.1)
-edits_plain k (o ∷ os) (n ∷ ns) (m ∷ ms) es s (inr e) =
+    inl (e.0 ∙ same_spelled n m first, edits_plain os ns ms es rest e.1)
+edits_plain (o ∷ os) (n ∷ ns) (m ∷ ms) es s (inr e) =
     let first : plain m ≡ plain n = cc in
     let rest : map plain ns ≡ map plain ms = cc in
     let same = same_spelled n m first in
-    inr (λ q. e.0 (q ∙ sym same), (e.1.0, e.1.1, e.1.2, e.1.3, e.1.4, e.1.5 ∙ same, edits_plain (k + 1) os ns ms e.1.1 rest e.1.6))
+    inr (λ q. e.0 (q ∙ sym same), (e.1.0, e.1.1, e.1.2, e.1.3, e.1.4, e.1.5 ∙ same, edits_plain os ns ms e.1.1 rest e.1.6))
 
 -- ---- what a renaming changes
 
@@ -87,7 +87,7 @@ renamed_changes target d name class n (o ∷ os) a c h = (
 -- The text with the edits of a renaming reads as a source of the same form with the new names.
 pub renamed_reads : (swapped : WordSwapped) (qualified : WordQualified) (text : List ℕ) (u : Tree) (target : Occurrence) (d : ℕ) (name class : List ℕ) (es : List Entry)
     → Reads text u → slice_get (occurrences u) d ≡ Some target → target.qualifier ≡ None → IsName name → IsName class
-    → AreEditsOf 0 (occurrences u) (renamed_list (occurrences u) target d name class) es → ReadsPlainly (splice text es) u (renamed_list (occurrences u) target d name class)
+    → AreEditsOf (occurrences u) (renamed_list (occurrences u) target d name class) es → ReadsPlainly (splice text es) u (renamed_list (occurrences u) target d name class)
 renamed_reads swapped qualified text u target d name class es h stands bare n c e =
     all_read swapped qualified text u (renamed_list (occurrences u) target d name class) es h
     (renamed_changes target d name class 0 (occurrences u) n c (λ i o at s. target_bare i o (omega arith) s)) e
@@ -99,5 +99,5 @@ renamed_reads swapped qualified text u target d name class es h stands bare n c 
         ap (λ (x : Occurrence). x.qualifier) (sym same) ∙ bare
 
 -- and the edits are those between the names of the two sources
-pub renamed_edits : (k : ℕ) (text : List ℕ) (u : Tree) (os ns : List Occurrence) (es : List Entry) (h : ReadsPlainly text u ns) → AreEditsOf k os ns es → AreEditsOf k os (occurrences h.tree) es
-renamed_edits k text u os ns es h e = edits_plain k os ns (occurrences h.tree) es (sym h.same) e
+pub renamed_edits : (text : List ℕ) (u : Tree) (os ns : List Occurrence) (es : List Entry) (h : ReadsPlainly text u ns) → AreEditsOf os ns es → AreEditsOf os (occurrences h.tree) es
+renamed_edits text u os ns es h e = edits_plain os ns (occurrences h.tree) es (sym h.same) e

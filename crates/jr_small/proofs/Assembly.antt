@@ -124,7 +124,7 @@ is_spliced text place name all d es swapped qualified f none edits =
         form = again.form;
         renames = renames_like os d name ns (occurrences again.tree) (sym again.same) (renames os class v.declaration d name r kept);
         edits = es;
-        are_edits = renamed_edits 0 (splice text es) f.tree os ns es again changed;
+        are_edits = renamed_edits (splice text es) f.tree os ns es again changed;
         spliced = refl;
       };
     }

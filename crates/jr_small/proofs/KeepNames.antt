@@ -9,7 +9,7 @@ use Rattle.jr_small.specs.Source.{Name}
 use Rattle.jr_small.specs.Occurrence.{Occurrence}
 use Rattle.jr_small.specs.Binding.{IsVariable, FindsVariable, DeclaresField, FindsName, FindsClass, FindsReference, Binds}
 use Rattle.jr_small.specs.Sound.{IsSound, Together, SameField}
-use Rattle.jr_small.specs.Rename.{IsOf, IsAsked, Asks, Meets, qualifier_text}
+use Rattle.jr_small.specs.Rename.{IsOf, IsAskedOccurrence, Asks, Meets, qualifier_text}
 use Rattle.jr_small.specs.Renaming.{is_reference_role, is_behind, is_plain_behind, is_own_name, with_text, asked_at, asked_list}
 use Rattle.jr_small.proofs.Lookups.{and_both, bytes_same, same_bytes}
 use Rattle.jr_small.proofs.WellBound.{same_at, one_variable}
@@ -188,7 +188,7 @@ own_is all target d k o s e v h t = elim (either (k == d) (is_plain_behind targe
 pub asks : (all : List Occurrence) (class target : Occurrence) (d : ℕ) (name : List ℕ) → IsReady all class target d name → Asks all d name (asked_list all target d name)
 asks all class target d name r = record { count = length_changed 0 (asked_at target d name) all; each = each }
   where
-    as_old : (k : ℕ) (old new : Occurrence) → slice_get all k ≡ Some old → new ≡ asked_at target d name k old → IsAsked name (IsOf all d k) old new
+    as_old : (k : ℕ) (old new : Occurrence) → slice_get all k ≡ Some old → new ≡ asked_at target d name k old → IsAskedOccurrence name (IsOf all d k) old new
     as_old k old new e h = by_test (is_own_name target d k old)
         (λ t. let is : new ≡ with_text old name = h ∙ if_true (is_own_name target d k old) (with_text old name) old t in record {
           same = record { role = ap (λ (p : Occurrence). p.role) is; member = ap (λ (p : Occurrence). p.member) is; statement = ap (λ (p : Occurrence). p.statement) is };
@@ -203,7 +203,7 @@ asks all class target d name r = record { count = length_changed 0 (asked_at tar
           kept = λ n. ap (λ (p : Occurrence). p.name.text) is;
         })
 
-    each : (k : ℕ) (old new : Occurrence) → slice_get all k ≡ Some old → slice_get (asked_list all target d name) k ≡ Some new → IsAsked name (IsOf all d k) old new
+    each : (k : ℕ) (old new : Occurrence) → slice_get all k ≡ Some old → slice_get (asked_list all target d name) k ≡ Some new → IsAskedOccurrence name (IsOf all d k) old new
     each k old new e h =
         let w = from_changed (asked_at target d name) all k new h in
         as_old k old new e (w.is ∙ ap (asked_at target d name k) (same_at all k w.old old w.stands e))

@@ -8,7 +8,7 @@ use Rattle.jr_small.specs.Source.{Name}
 use Rattle.jr_small.specs.Spelling.{Tree}
 use Rattle.jr_small.specs.Occurrence.{Occurrence, occurrences}
 use Rattle.jr_small.specs.Binding.{Binds}
-use Rattle.jr_small.specs.Rename.{IsOf, IsAsked, Asks, IsSpelled, Renames, qualifier_text}
+use Rattle.jr_small.specs.Rename.{IsOf, IsAskedOccurrence, Asks, IsSpelled, Renames, qualifier_text}
 use Rattle.jr_small.specs.Renaming.{plain, is_reference_role, is_own_name, asked_at, asked_list}
 use Rattle.jr_small.specs.Answer.{AreEditsOf, IsRenamed}
 use Rattle.jr_small.proofs.Walks.{get_within}
@@ -46,7 +46,7 @@ as_text (Some m) (Some n) h = h
 
 -- ---- what is asked for
 
-one_asked : (all : List Occurrence) (class target : Occurrence) (d : ℕ) (name : List ℕ) (k : ℕ) (o x y : Occurrence) → IsReady all class target d name → slice_get all k ≡ Some o → IsAsked name (IsOf all d k) o x → IsAsked name (IsOf all d k) o y → plain x ≡ plain y
+one_asked : (all : List Occurrence) (class target : Occurrence) (d : ℕ) (name : List ℕ) (k : ℕ) (o x y : Occurrence) → IsReady all class target d name → slice_get all k ≡ Some o → IsAskedOccurrence name (IsOf all d k) o x → IsAskedOccurrence name (IsOf all d k) o y → plain x ≡ plain y
 one_asked all class target d name k o x y r e a b =
     plain_made x y (a.same.role ∙ sym b.same.role) (as_text x.qualifier y.qualifier (a.qualifier ∙ sym b.qualifier))
     (by_test (is_own_name target d k o)
@@ -113,14 +113,14 @@ renamed_once all class target d name xs ys r s t = same_lists xs ys (s.count ∙
 abbrev cut : ℕ → ℕ → List ℕ → List ℕ → List ℕ
 cut from to text bytes = take from bytes ++ text ++ drop to bytes
 
-edits_once : (text : List ℕ) (k n : ℕ) (os ns : List Occurrence) (es fs : List Entry) → AreEditsOf k os ns es → AreEditsOf n os ns fs → splice text es ≡ splice text fs
-edits_once text k n [] [] es fs e f = ap (splice text) (e ∙ sym f)
-edits_once text k n [] (m ∷ ms) es fs e f = absurd e
-edits_once text k n (o ∷ os) [] es fs e f = absurd e
-edits_once text k n (o ∷ os) (m ∷ ms) es fs (inl e) (inl f) = edits_once text k n os ms es fs e.1 f.1
-edits_once text k n (o ∷ os) (m ∷ ms) es fs (inl e) (inr f) = absurd (f.0 e.0)
-edits_once text k n (o ∷ os) (m ∷ ms) es fs (inr e) (inl f) = absurd (e.0 f.0)
-edits_once text k n (o ∷ os) (m ∷ ms) es fs (inr e) (inr f) =
+edits_once : (text : List ℕ) (os ns : List Occurrence) (es fs : List Entry) → AreEditsOf os ns es → AreEditsOf os ns fs → splice text es ≡ splice text fs
+edits_once text [] [] es fs e f = ap (splice text) (e ∙ sym f)
+edits_once text [] (m ∷ ms) es fs e f = absurd e
+edits_once text (o ∷ os) [] es fs e f = absurd e
+edits_once text (o ∷ os) (m ∷ ms) es fs (inl e) (inl f) = edits_once text os ms es fs e.1 f.1
+edits_once text (o ∷ os) (m ∷ ms) es fs (inl e) (inr f) = absurd (f.0 e.0)
+edits_once text (o ∷ os) (m ∷ ms) es fs (inr e) (inl f) = absurd (e.0 f.0)
+edits_once text (o ∷ os) (m ∷ ms) es fs (inr e) (inr f) =
     let x = e.1.0 in
     let y = f.1.0 in
     let rest = splice text e.1.1 in
@@ -128,12 +128,12 @@ edits_once text k n (o ∷ os) (m ∷ ms) es fs (inr e) (inr f) =
     ∙ ap (λ (i : ℕ). cut i x.span.to x.text rest) (e.1.3 ∙ sym f.1.3)
     ∙ ap (λ (i : ℕ). cut y.span.from i x.text rest) (e.1.4 ∙ sym f.1.4)
     ∙ ap (λ (t : List ℕ). cut y.span.from y.span.to t rest) (e.1.5 ∙ sym f.1.5)
-    ∙ ap (cut y.span.from y.span.to y.text) (edits_once text (k + 1) (n + 1) os ms e.1.1 f.1.1 e.1.6 f.1.6)
+    ∙ ap (cut y.span.from y.span.to y.text) (edits_once text os ms e.1.1 f.1.1 e.1.6 f.1.6)
     ∙ sym (ap (splice text) f.1.2)
 
 pub one_renamed : (text : List ℕ) (u v : Tree) (class target : Occurrence) (d : ℕ) (name new other : List ℕ) → IsReady (occurrences u) class target d name → occurrences u ≡ occurrences v → IsRenamed text u d name new → IsRenamed text v d name other → new ≡ other
 one_renamed text u v class target d name new other r same a b =
     let same_names = renamed_once (occurrences u) class target d name (occurrences a.tree) (occurrences b.tree) r a.renames (subst (λ (os : List Occurrence). Renames os d name (occurrences b.tree)) (sym same) b.renames) in
     a.spliced
-    ∙ edits_once text 0 0 (occurrences u) (occurrences b.tree) a.edits b.edits (edits_plain 0 (occurrences u) (occurrences a.tree) (occurrences b.tree) a.edits same_names a.are_edits) (subst (λ (os : List Occurrence). AreEditsOf 0 os (occurrences b.tree) b.edits) (sym same) b.are_edits)
+    ∙ edits_once text (occurrences u) (occurrences b.tree) a.edits b.edits (edits_plain (occurrences u) (occurrences a.tree) (occurrences b.tree) a.edits same_names a.are_edits) (subst (λ (os : List Occurrence). AreEditsOf os (occurrences b.tree) b.edits) (sym same) b.are_edits)
     ∙ sym b.spliced

@@ -28,12 +28,12 @@ changed_more : (n : ℕ) (f : ℕ → Occurrence → Occurrence) (os : List Occu
 changed_more n f [] o = ap (λ (k : ℕ). f k o ∷ []) (omega arith)
 changed_more n f (p ∷ os) o = ap (λ (xs : List Occurrence). f n p ∷ xs) (changed_more (n + 1) f os o ∙ ap (λ (k : ℕ). changed_from (n + 1) f os ++ f k o ∷ []) (omega arith))
 
-kept_more : (n : ℕ) (os ms : List Occurrence) (es : List Entry) (o m : Occurrence) → AreEditsOf n os ms es → spelling_of o ≡ spelling_of m → AreEditsOf n (os ++ o ∷ []) (ms ++ m ∷ []) es
-kept_more n [] [] es o m h s = inl (s, h)
-kept_more n [] (y ∷ ms) es o m h s = absurd h
-kept_more n (x ∷ os) [] es o m h s = absurd h
-kept_more n (x ∷ os) (y ∷ ms) es o m (inl h) s = inl (h.0, kept_more n os ms es o m h.1 s)
-kept_more n (x ∷ os) (y ∷ ms) es o m (inr h) s = inr (h.0, (h.1.0, h.1.1, h.1.2, h.1.3, h.1.4, h.1.5, kept_more (n + 1) os ms h.1.1 o m h.1.6 s))
+kept_more : (os ms : List Occurrence) (es : List Entry) (o m : Occurrence) → AreEditsOf os ms es → spelling_of o ≡ spelling_of m → AreEditsOf (os ++ o ∷ []) (ms ++ m ∷ []) es
+kept_more [] [] es o m h s = inl (s, h)
+kept_more [] (y ∷ ms) es o m h s = absurd h
+kept_more (x ∷ os) [] es o m h s = absurd h
+kept_more (x ∷ os) (y ∷ ms) es o m (inl h) s = inl (h.0, kept_more os ms es o m h.1 s)
+kept_more (x ∷ os) (y ∷ ms) es o m (inr h) s = inr (h.0, (h.1.0, h.1.1, h.1.2, h.1.3, h.1.4, h.1.5, kept_more os ms h.1.1 o m h.1.6 s))
 
 -- the entry replaces the name of o by the spelling of m
 pub record Replaces (o m : Occurrence) (e : Entry) : Type 0 where
@@ -42,13 +42,13 @@ pub record Replaces (o m : Occurrence) (e : Entry) : Type 0 where
   pub to : e.span.to ≡ o.name.at + length o.name.text
   pub text : e.text ≡ spelling_of m
 
-replaced_more : (n : ℕ) (os ms : List Occurrence) (es : List Entry) (o m : Occurrence) (e : Entry) → AreEditsOf n os ms es → Replaces o m e → AreEditsOf n (os ++ o ∷ []) (ms ++ m ∷ []) (es ++ e ∷ [])
-replaced_more n [] [] es o m e h r = inr (r.differs, (e, [], ap (λ (xs : List Entry). xs ++ e ∷ []) h, r.from, r.to, r.text, refl))
-replaced_more n [] (y ∷ ms) es o m e h r = absurd h
-replaced_more n (x ∷ os) [] es o m e h r = absurd h
-replaced_more n (x ∷ os) (y ∷ ms) es o m e (inl h) r = inl (h.0, replaced_more n os ms es o m e h.1 r)
-replaced_more n (x ∷ os) (y ∷ ms) es o m e (inr h) r =
-    inr (h.0, (h.1.0, h.1.1 ++ e ∷ [], ap (λ (xs : List Entry). xs ++ e ∷ []) h.1.2, h.1.3, h.1.4, h.1.5, replaced_more (n + 1) os ms h.1.1 o m e h.1.6 r))
+replaced_more : (os ms : List Occurrence) (es : List Entry) (o m : Occurrence) (e : Entry) → AreEditsOf os ms es → Replaces o m e → AreEditsOf (os ++ o ∷ []) (ms ++ m ∷ []) (es ++ e ∷ [])
+replaced_more [] [] es o m e h r = inr (r.differs, (e, [], ap (λ (xs : List Entry). xs ++ e ∷ []) h, r.from, r.to, r.text, refl))
+replaced_more [] (y ∷ ms) es o m e h r = absurd h
+replaced_more (x ∷ os) [] es o m e h r = absurd h
+replaced_more (x ∷ os) (y ∷ ms) es o m e (inl h) r = inl (h.0, replaced_more os ms es o m e h.1 r)
+replaced_more (x ∷ os) (y ∷ ms) es o m e (inr h) r =
+    inr (h.0, (h.1.0, h.1.1 ++ e ∷ [], ap (λ (xs : List Entry). xs ++ e ∷ []) h.1.2, h.1.3, h.1.4, h.1.5, replaced_more os ms h.1.1 o m e h.1.6 r))
 
 -- ---- spellings
 
@@ -129,7 +129,7 @@ new_at text all d name k o = renamed_at (at text all d) d name (at text all 0).n
 
 -- the edits of the first n occurrences
 pub record AreEditsTo (text : List ℕ) (all : List raw.Occurrence) (d : ℕ) (name : List ℕ) (n : ℕ) (es : List Entry) : Type 0 where
-  pub made : AreEditsOf 0 (front text all n) (changed_from 0 (new_at text all d name) (front text all n)) es
+  pub made : AreEditsOf (front text all n) (changed_from 0 (new_at text all d name) (front text all n)) es
   pub behind : (j : ℕ) → n ≤ j → j < length all → EndBy es (get_or all j nobody).name.from
   pub fits : FitsIn text es
 
@@ -137,20 +137,20 @@ pub no_edits : (text : List ℕ) (all : List raw.Occurrence) (d : ℕ) (name : L
 no_edits text all d name = record { made = refl; behind = λ j l h k x w. absurd (omega arith); fits = λ k x w. absurd (omega arith) }
 
 more_made : (text : List ℕ) (all : List raw.Occurrence) (d : ℕ) (name : List ℕ) (n : ℕ) (es : List Entry) → n < length all
-    → AreEditsOf 0 (front text all n ++ at text all n ∷ []) (changed_from 0 (new_at text all d name) (front text all n) ++ new_at text all d name n (at text all n) ∷ []) es
-    → AreEditsOf 0 (front text all (n + 1)) (changed_from 0 (new_at text all d name) (front text all (n + 1))) es
+    → AreEditsOf (front text all n ++ at text all n ∷ []) (changed_from 0 (new_at text all d name) (front text all n) ++ new_at text all d name n (at text all n) ∷ []) es
+    → AreEditsOf (front text all (n + 1)) (changed_from 0 (new_at text all d name) (front text all (n + 1))) es
 more_made text all d name n es h made =
     let more = all_of-more text all n nobody h in
     let number : n ≡ 0 + length (front text all n) = omega (arith, length_front text all n (omega arith)) in
     let changed : changed_from 0 (new_at text all d name) (front text all n) ++ new_at text all d name n (at text all n) ∷ [] ≡ changed_from 0 (new_at text all d name) (front text all n ++ at text all n ∷ []) =
     ap (λ (k : ℕ). changed_from 0 (new_at text all d name) (front text all n) ++ new_at text all d name k (at text all n) ∷ []) number ∙ sym (changed_more 0 (new_at text all d name) (front text all n) (at text all n)) in
-    subst (λ (os : List Occurrence). AreEditsOf 0 os (changed_from 0 (new_at text all d name) os) es) (sym more)
-    (subst (λ (ms : List Occurrence). AreEditsOf 0 (front text all n ++ at text all n ∷ []) ms es) changed made)
+    subst (λ (os : List Occurrence). AreEditsOf os (changed_from 0 (new_at text all d name) os) es) (sym more)
+    (subst (λ (ms : List Occurrence). AreEditsOf (front text all n ++ at text all n ∷ []) ms es) changed made)
 
 pub unchanged_more : (text : List ℕ) (all : List raw.Occurrence) (d : ℕ) (name : List ℕ) (n : ℕ) (es : List Entry) → n < length all → AreEditsTo text all d name n es
     → None ≡ replacement_at (at text all d) d name (at text all 0).name.text n (at text all n) → AreEditsTo text all d name (n + 1) es
 unchanged_more text all d name n es h a e = record {
-  made = more_made text all d name n es h (kept_more 0 (front text all n) _ es (at text all n) _ a.made (ap spelling_of (unchanged (at text all d) d name (at text all 0).name.text n (at text all n) e)));
+  made = more_made text all d name n es h (kept_more (front text all n) _ es (at text all n) _ a.made (ap spelling_of (unchanged (at text all d) d name (at text all 0).name.text n (at text all n) e)));
   behind = λ j l w. a.behind j (omega arith) w;
   fits = a.fits;
 }
@@ -178,7 +178,7 @@ replaced_one text all d name n es new h placed ascending plain ne a e =
     let replaces : Replaces (at text all n) (new_at text all d name n (at text all n)) entry = record { differs = r.differs; from = refl; to = length_of_name text o.name cut; text = r.is_text } in
     let can_cut : CanCut text o.name = record { ordered = cut.ordered; within = cut.within; start = cut.start; stop = cut.stop } in
     record {
-      made = more_made text all d name n (with_last es entry) h (replaced_more 0 (front text all n) _ es (at text all n) _ entry a.made replaces);
+      made = more_made text all d name n (with_last es entry) h (replaced_more (front text all n) _ es (at text all n) _ entry a.made replaces);
       behind = λ j l w.
           let ends : o.name.to ≤ (get_or all j nobody).name.from = ascending n j o (get_or all j nobody) (omega arith) (slice_get-get_or all n nobody h) (slice_get-get_or all j nobody w) in
           All-append (λ (x : Entry). x.span.to ≤ (get_or all j nobody).name.from) es (entry ∷ []) (a.behind j (omega arith) w) (one (λ (x : Entry). x.span.to ≤ (get_or all j nobody).name.from) entry ends);
@@ -190,9 +190,9 @@ replaced_one text all d name n es new h placed ascending plain ne a e =
 pub all_edits : (text : List ℕ) (all : List raw.Occurrence) (d : ℕ) (name : List ℕ) (es : List Entry) → d < length all
     → AreEditsTo text all d name (length all) es → AreRenamingEdits (all_of text all) d name es
 all_edits text all d name es h a target class e g =
-    let made = subst (λ (os : List raw.Occurrence). AreEditsOf 0 (all_of text os) (changed_from 0 (new_at text all d name) (all_of text os)) es) (take-length all) a.made in
+    let made = subst (λ (os : List raw.Occurrence). AreEditsOf (all_of text os) (changed_from 0 (new_at text all d name) (all_of text os)) es) (take-length all) a.made in
     let t = same_at (all_of text all) d (at text all d) target (at_number text all d nobody h) e in
     let some : 0 < length all = omega arith in
     let c = same_at (all_of text all) 0 (at text all 0) class (at_number text all 0 nobody some) g in
-    let at_target = subst (λ (o : Occurrence). AreEditsOf 0 (all_of text all) (renamed_list (all_of text all) o d name (at text all 0).name.text) es) t made in
-    subst (λ (o : Occurrence). AreEditsOf 0 (all_of text all) (renamed_list (all_of text all) target d name o.name.text) es) c at_target
+    let at_target = subst (λ (o : Occurrence). AreEditsOf (all_of text all) (renamed_list (all_of text all) o d name (at text all 0).name.text) es) t made in
+    subst (λ (o : Occurrence). AreEditsOf (all_of text all) (renamed_list (all_of text all) target d name o.name.text) es) c at_target

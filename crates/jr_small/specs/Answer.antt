@@ -147,13 +147,13 @@ spelling_of o = spelled o.qualifier
 
 -- One edit for each name that is spelled otherwise than before, in text order: the name's bytes are replaced. A name
 -- behind a qualifier stays.
-abbrev pub AreEditsOf : ℕ → List Occurrence → List Occurrence → List Entry → Type 0
-AreEditsOf n [] [] es = es ≡ []
-AreEditsOf n (o ∷ os) (m ∷ ms) es =
-    ((spelling_of o ≡ spelling_of m) × AreEditsOf n os ms es)
-    ⊎ ((spelling_of o ≢ spelling_of m) × ((e : Entry) × (rest : List Entry) × (es ≡ e ∷ rest) × (e.span.from ≡ o.name.at) × (e.span.to ≡ o.name.at + length o.name.text) × (e.text ≡ spelling_of m) × AreEditsOf (n + 1) os ms rest))
-AreEditsOf n [] (m ∷ ms) es = ⊥
-AreEditsOf n (o ∷ os) [] es = ⊥
+abbrev pub AreEditsOf : List Occurrence → List Occurrence → List Entry → Type 0
+AreEditsOf [] [] es = es ≡ []
+AreEditsOf (o ∷ os) (m ∷ ms) es =
+    ((spelling_of o ≡ spelling_of m) × AreEditsOf os ms es)
+    ⊎ ((spelling_of o ≢ spelling_of m) × ((e : Entry) × (rest : List Entry) × (es ≡ e ∷ rest) × (e.span.from ≡ o.name.at) × (e.span.to ≡ o.name.at + length o.name.text) × (e.text ≡ spelling_of m) × AreEditsOf os ms rest))
+AreEditsOf [] (m ∷ ms) es = ⊥
+AreEditsOf (o ∷ os) [] es = ⊥
 
 -- the source without its names
 abbrev pub form_of : Tree → Source ℕ ℕ
@@ -170,7 +170,7 @@ pub record IsRenamed (text : List ℕ) (u : Tree) (d : ℕ) (name new : List ℕ
   pub form : SameForm u tree
   pub renames : Renames (occurrences u) d name (occurrences tree)
   pub edits : List Entry
-  pub are_edits : AreEditsOf 0 (occurrences u) (occurrences tree) edits
+  pub are_edits : AreEditsOf (occurrences u) (occurrences tree) edits
   pub spliced : new ≡ splice text edits
 
 -- ---- answers

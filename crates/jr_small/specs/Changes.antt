@@ -52,4 +52,4 @@ IsReplacementOf all d name k new = (target class o : Occurrence) → slice_get a
 
 -- the edits that make the renamed list
 abbrev pub AreRenamingEdits : List Occurrence → ℕ → List ℕ → List Entry → Type 0
-AreRenamingEdits all d name es = (target class : Occurrence) → slice_get all d ≡ Some target → slice_get all 0 ≡ Some class → AreEditsOf 0 all (renamed_list all target d name class.name.text) es
+AreRenamingEdits all d name es = (target class : Occurrence) → slice_get all d ≡ Some target → slice_get all 0 ≡ Some class → AreEditsOf all (renamed_list all target d name class.name.text) es

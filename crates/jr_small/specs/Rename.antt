@@ -46,7 +46,7 @@ qualifier_text None = None
 qualifier_text (Some q) = Some q.text
 
 -- new is the occurrence as it is asked for: with the new name where it is one of the renamed declaration
-pub record IsAsked (name : List ℕ) (IsImage : Type 0) (old new : Occurrence) : Type 0 where
+pub record IsAskedOccurrence (name : List ℕ) (IsImage : Type 0) (old new : Occurrence) : Type 0 where
   pub same : SameOccurrence old new
   pub qualifier : qualifier_text new.qualifier ≡ qualifier_text old.qualifier
   pub renamed : IsImage → new.name.text ≡ name
@@ -55,7 +55,7 @@ pub record IsAsked (name : List ℕ) (IsImage : Type 0) (old new : Occurrence) :
 -- the occurrences with the new name at the declaration d and at each reference bound to it, and nothing else changed
 pub record Asks (all : List Occurrence) (d : ℕ) (name : List ℕ) (asked : List Occurrence) : Type 0 where
   pub count : length asked ≡ length all
-  pub each : (k : ℕ) (old new : Occurrence) → slice_get all k ≡ Some old → slice_get asked k ≡ Some new → IsAsked name (IsOf all d k) old new
+  pub each : (k : ℕ) (old new : Occurrence) → slice_get all k ≡ Some old → slice_get asked k ≡ Some new → IsAskedOccurrence name (IsOf all d k) old new
 
 -- ---- clash
 
