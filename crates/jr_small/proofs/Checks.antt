@@ -1,5 +1,5 @@
 -- One name after the other is looked at.
-use Rattle.std.proofs.Common.{◌≡◌, ℕ, ◌+◌, ◌<◌, length, take, List, [], ◌∷◌, ◌++◌, Some, Bool, true, false, refl, sym, ap, subst, ◌∙◌, arith, inl, inr, below_more}
+use Rattle.std.proofs.Common.{◌≡◌, ℕ, ◌+◌, ◌<◌, length, take, List, [], ◌∷◌, ◌++◌, Some, Bool, true, false, refl, sym, ap, subst, ◌∙◌, inl, inr, below_more}
 use Rattle.std.specs.Prelude.{slice_get, ◌↔◌, IsTrue, ◌&&◌}
 use Rattle.std.specs.Str.{bytes_eq}
 use Rattle.jr_small.specs.declared.occurrences.Role.{Role}
@@ -10,8 +10,8 @@ use Rattle.jr_small.specs.Occurrence.{Occurrence}
 use Rattle.jr_small.specs.Binding.{IsVariable}
 use Rattle.jr_small.specs.Sound.{Together, SameVariable, IsObjects, NoObjectMethod}
 use Rattle.jr_small.specs.View.{all_of}
-use Rattle.jr_small.specs.Exact.{is_variable_role, is_variable, Pairs, Records, IsWellBound, AreBound, Checked}
-use Rattle.jr_small.proofs.Lookups.{nobody, at, at_number, in_all, records_kept, records_more, apart_more, pair_apart}
+use Rattle.jr_small.specs.Exact.{is_variable_role, is_variable, Records, IsWellBound, AreBound, Checked}
+use Rattle.jr_small.proofs.Lookups.{nobody, at, at_number, records_kept, records_more, apart_more, pair_apart}
 use Rattle.jr_small.proofs.Walks.{get_more, all_of-more}
 use Rattle.jr_small.proofs.WellBound.{same_at}
 

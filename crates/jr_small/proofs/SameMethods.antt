@@ -1,5 +1,5 @@
 -- What the signatures answer is whether a method in front is the same.
-use Rattle.std.proofs.Common.{◌≡◌, ℕ, zero, suc, ◌+◌, ◌<◌, List, [], ◌∷◌, ◌++◌, length, take, Some, Bool, true, false, cond, refl, sym, ap, subst, ◌∙◌}
+use Rattle.std.proofs.Common.{◌≡◌, ℕ, suc, ◌+◌, ◌<◌, List, [], ◌∷◌, ◌++◌, length, take, Some, Bool, true, false, cond, refl, sym, ap, subst, ◌∙◌}
 use Rattle.std.specs.Prelude.{slice_get, ◌&&◌, ◌||◌, ◌==◌, not, Result, Ok, Err, IfOk, OnOk}
 use Rattle.std.specs.List.{list_any}
 use Rattle.std.specs.Str.{bytes_eq}
@@ -12,9 +12,8 @@ use Rattle.jr_small.specs.declared.signatures.ParameterCounts.{ParameterCounts}
 use Rattle.jr_small.specs.declared.signatures.Signatures.{Signatures}
 use Rattle.jr_small.specs.Occurrence.{Occurrence}
 use Rattle.jr_small.specs.Sound.{SameMethod, parameter_count}
-use Rattle.jr_small.specs.Signature.{is_known, count_at, Counts, PutsSignature}
-use Rattle.jr_small.specs.Exact.{Pairs, is_method_role, is_method, Knows, AddedMethod}
-use Rattle.jr_small.specs.View.{occurrence_of, all_of}
+use Rattle.jr_small.specs.Signature.{is_known, count_at, Counts, PutsSignature, is_method_role, is_method, Knows, AddedMethod}
+use Rattle.jr_small.specs.View.{all_of}
 use Rattle.jr_small.proofs.Walks.{all_of-more}
 use Rattle.jr_small.proofs.Lookups.{nobody, at, and_both, bytes_same, same_bytes}
 use Rattle.jr_small.proofs.FirstLost.{any_found}

@@ -1,17 +1,14 @@
 -- Which occurrence a table by name has: the last one that passes a test.
-use Rattle.std.specs.Prelude.{◌≡◌, ◌≤◌, ◌<◌, ◌⊎◌, slice_get, ℕ, ◌+◌, List, [], ◌∷◌, ◌++◌, Option, Some, None, Bool, true, false, ◌&&◌, ◌==◌, if◌then◌else◌}
-use Rattle.std.specs.List.{list_any}
+use Rattle.std.specs.Prelude.{◌≡◌, ◌≤◌, ◌<◌, ◌⊎◌, slice_get, ℕ, ◌+◌, List, [], ◌∷◌, ◌++◌, Option, Some, None, Bool, true, false, ◌&&◌, if◌then◌else◌}
 use Rattle.std.specs.Str.{bytes_eq}
 use Rattle.jr_small.specs.declared.occurrences.Role.{Role}
-use Rattle.jr_small.specs.declared.occurrences.Role.TheVariants.{Field, Method, Parameter, Local, Reference}
+use Rattle.jr_small.specs.declared.occurrences.Role.TheVariants.{Field, Parameter, Local, Reference}
 use Rattle.jr_small.specs.declared.tables.Table.{Table}
 use Rattle.jr_small.specs.Table.{found}
-use Rattle.jr_small.specs.declared.signatures.Signatures.{Signatures}
-use Rattle.jr_small.specs.Signature.{is_known}
 use Rattle.jr_small.specs.Source.{Name}
 use Rattle.jr_small.specs.Occurrence.{Occurrence}
 use Rattle.jr_small.specs.Binding.{IsVariable, Binds}
-use Rattle.jr_small.specs.Sound.{SameMethod, SameVariable, parameter_count}
+use Rattle.jr_small.specs.Sound.{SameVariable}
 
 abbrev pub or_later : {A : Type 0} → Option A → Option A → Option A
 or_later first None = first
@@ -59,23 +56,6 @@ pub record Pairs (P : Occurrence → Occurrence → Type 0) (front : List Occurr
 abbrev pub Added : (Occurrence → Occurrence → Type 0) → (List ℕ → Occurrence → Bool) → List Occurrence → Occurrence → Bool → Table → Type 0
 Added P test front o true new = (Pairs P front o → ⊥) × Records test (front ++ o ∷ []) new
 Added P test front o false new = Pairs P front o
-
-abbrev pub is_method_role : Role → Bool
-is_method_role Method = true
-is_method_role _ = false
-
--- a method of this name and as many parameters
-abbrev pub is_method : List Occurrence → List ℕ → ℕ → Occurrence → Bool
-is_method all text n o = is_method_role o.role && (bytes_eq o.name.text text && (parameter_count all o.member == n))
-
--- the signatures are those of the methods in front
-abbrev pub Knows : List Occurrence → List Occurrence → Signatures → Type 0
-Knows all front s = (q : List ℕ) (n : ℕ) → is_known s q n ≡ list_any (is_method all q n) front
-
--- whether one more was put among the signatures, and none of those in front is the same method
-abbrev pub AddedMethod : List Occurrence → List Occurrence → Occurrence → Bool → Signatures → Type 0
-AddedMethod all front o true new = (Pairs (SameMethod all) front o → ⊥) × Knows all (front ++ o ∷ []) new
-AddedMethod all front o false new = Pairs (SameMethod all) front o
 
 -- what a local's own initializer may not name
 pub record IsOwn (all : List Occurrence) (k j : ℕ) : Type 0 where

@@ -1,8 +1,7 @@
 ghost use Rattle.std.specs.Prelude.{◌≡◌, ℕ, List, ◌↔◌, IsTrue, IfOk, Contains};
 ghost use Rattle.jr_small.specs.Placed.{IsPlaced, ArePlaced};
 ghost use Rattle.jr_small.specs.Sound.{Together, SameMethod, IsObjects, NoObjectMethod, object_methods, prelude_names, parameter_count};
-ghost use Rattle.jr_small.specs.Signature.{Counts};
-ghost use Rattle.jr_small.specs.Exact.{Knows, AddedMethod};
+ghost use Rattle.jr_small.specs.Signature.{Counts, Knows, AddedMethod};
 ghost use Rattle.jr_small.specs.View.{occurrence_of, all_of};
 
 use crate::declared::part;

@@ -1,5 +1,3 @@
-ghost use Rattle.std.specs.Prelude.{◌≡◌, ℕ, List, ◌<◌, length};
-
 use crate::occurrences::{Occurrence, Role};
 use std::alloc::{AllocError, Global};
 use std::collections::{HashMap, HashSet};

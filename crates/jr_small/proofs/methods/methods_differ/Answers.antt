@@ -1,8 +1,8 @@
-use Rattle.std.proofs.Common.{◌≡◌, List, take, length, ap, subst, refl, sym, arith, Bool, ◌∙◌, true, false}
+use Rattle.std.proofs.Common.{◌≡◌, List, take, length, ap, subst, refl, arith, Bool, ◌∙◌, true, false}
 use Rattle.std.proofs.Math.Seq.{take-length}
 use Rattle.jr_small.specs.Occurrence.{Occurrence}
 use Rattle.jr_small.specs.Sound.{Together, SameMethod}
-use Rattle.jr_small.specs.Exact.{AddedMethod}
+use Rattle.jr_small.specs.Signature.{AddedMethod}
 use Rattle.jr_small.specs.View.{all_of}
 use Rattle.jr_small.proofs.Lookups.{nobody, at, pair_apart, apart_more}
 use Rattle.jr_small.proofs.SameMethods.{known_at}

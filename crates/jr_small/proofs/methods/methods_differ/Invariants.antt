@@ -1,6 +1,6 @@
 use Rattle.std.proofs.Common.{take}
 use Rattle.jr_small.specs.Sound.{Together, SameMethod}
-use Rattle.jr_small.specs.Exact.{Knows}
+use Rattle.jr_small.specs.Signature.{Knows}
 use Rattle.jr_small.specs.View.{all_of}
 use Rattle.jr_small.proofs.methods.methods_differ.Given as goal
 
