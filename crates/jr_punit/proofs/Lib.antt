@@ -1,2 +1,4 @@
 pub mod Begins
 pub mod Cases
+pub mod Standing
+pub mod Erase
