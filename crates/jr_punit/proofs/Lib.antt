@@ -2,3 +2,4 @@ pub mod Begins
 pub mod Cases
 pub mod Standing
 pub mod Erase
+pub mod EraseShape
