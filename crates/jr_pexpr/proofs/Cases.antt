@@ -5,3 +5,4 @@ pub mod Primaries
 pub mod Refused
 pub mod StatementExpressions
 pub mod Places
+pub mod Texts

@@ -93,7 +93,7 @@ IsTarget-bare (field m e w) = refl
 IsTarget-bare (super_field m w) = refl
 IsTarget-bare _ = refl
 
-IsNamed-bare : {A : Type 0} (t : TypeName A) → IsNamed (bare_type t) ≡ IsNamed t
+pub IsNamed-bare : {A : Type 0} (t : TypeName A) → IsNamed (bare_type t) ≡ IsNamed t
 IsNamed-bare (named m o w) = refl
 IsNamed-bare _ = refl
 
@@ -127,6 +127,6 @@ mutual
   ShapedTarget-bare b no_target = refl
   ShapedTarget-bare b (on e) = λ i. (10 ≤ level_of-bare e i) × ShapedBehind-bare b e i
 
-  AllShaped-bare : {A : Type 0} (es : Exps A) → AllShaped (bare_args es) ≡ AllShaped es
+  pub AllShaped-bare : {A : Type 0} (es : Exps A) → AllShaped (bare_args es) ≡ AllShaped es
   AllShaped-bare end = refl
   AllShaped-bare (more e es) = λ i. ShapedBehind-bare false e i × AllShaped-bare es i

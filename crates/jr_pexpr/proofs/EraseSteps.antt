@@ -5,10 +5,11 @@ use Rattle.jr_ast.specs.declared.operators.UnOp.TheVariants.{Plus, Minus, Not}
 use Rattle.jr_ast.specs.declared.operators.BinOp.{BinOp}
 use Rattle.jr_ast.specs.declared.operators.BinOp.TheVariants.{Add, Sub}
 use Rattle.jr_ast.specs.Tree.{Word, TypeName, named, Exp, number, name, field, super_field, paren, bump, Exps, end, more}
+use Rattle.jr_ast.specs.Marks.{exp_mark}
 use Rattle.jr_pexpr.specs.Tokens.{Token}
 use Rattle.jr_pexpr.specs.Shape.{rank_of, level_of}
 use Rattle.jr_pexpr.specs.Pieces.{Way, Atom, a_number, a_truth, a_null, a_string, a_this, Piece, a_word, an_atom, a_super, a_new, a_class, an_open, a_close, a_comma, a_dot, a_bang, a_bump, an_operator, an_equals, a_compound, piece_of}
-use Rattle.jr_pexpr.specs.Machine.{Head, call_head, super_head, create_head, Frame, in_unary, in_bump, in_assign, in_compound, in_paren, in_args, State, want, have, dotted, at_super, super_dotted, at_new, new_named, new_dotted, mark_of, with_last, behind, binds, needed, behind_minus, plug, fits, applied, reduced, operated, closed, continued, at_most, atom_exp, atom_fits, signed, emptied, begun, name_type, cast_frame, cast_of, casted, opened, is_target, is_compound, assigned, bumped, extended, literal_of, member, behind_super, super_member, behind_new, new_outer, behind_new_name, new_inner, stepped, step, whole_of, whole, is_bottom, is_open, frames_of, kept_open, statement_step, is_statement, kept_statement, statement_whole}
+use Rattle.jr_pexpr.specs.Machine.{Head, call_head, super_head, create_head, Frame, in_unary, in_bump, in_assign, in_compound, in_paren, in_args, State, want, have, dotted, at_super, super_dotted, at_new, new_named, new_dotted, with_last, behind, binds, needed, behind_minus, plug, fits, applied, reduced, operated, closed, continued, at_most, atom_exp, atom_fits, signed, emptied, begun, name_type, cast_frame, cast_of, casted, opened, is_target, is_compound, assigned, bumped, extended, literal_of, member, behind_super, super_member, behind_new, new_outer, behind_new_name, new_inner, stepped, step, whole_of, whole, is_bottom, is_open, frames_of, kept_open, statement_step, is_statement, kept_statement, statement_whole}
 use Rattle.jr_pexpr.specs.Bare.{Bare, no_join, bare_word, bare_type, bare, bare_args, bare_head, bare_frame, bare_stack, bare_state, bare_step, bare_whole, bare_statement_step, bare_statement_whole}
 use Rattle.jr_pexpr.proofs.Erase.{level_of-bare, is_target-bare, is_statement-bare}
 
@@ -180,8 +181,8 @@ compound-bare fs e o =
 
 bumped-bare : {A : Type 0} (join : A → A → A) (fs : List (Frame A)) (e : Exp A) (at : A) (w : Way) → bare_some (bumped join fs e at w) ≡ bumped no_join (bare_stack fs) (bare e) tt w
 bumped-bare join fs e at w =
-    if_some (is_target e) (at_most 9 fs (have fs (bump (join (mark_of e) at) (behind w) e)))
-    ∙ ap (λ (r : Option (State Bare)). cond (is_target e) r None) (at_most-bare 9 fs (have fs (bump (join (mark_of e) at) (behind w) e)))
+    if_some (is_target e) (at_most 9 fs (have fs (bump (join (exp_mark e) at) (behind w) e)))
+    ∙ ap (λ (r : Option (State Bare)). cond (is_target e) r None) (at_most-bare 9 fs (have fs (bump (join (exp_mark e) at) (behind w) e)))
     ∙ ap (λ (b : Bool). cond b (at_most 9 (bare_stack fs) (have (bare_stack fs) (bump tt (behind w) (bare e)))) None) (sym (is_target-bare e))
 
 dotted-bare : {A : Type 0} (fs : List (Frame A)) (e : Exp A) → bare_some (cond (ltb (level_of e) 10) None (Some (dotted fs e))) ≡ cond (ltb (level_of (bare e)) 10) None (Some (dotted (bare_stack fs) (bare e)))
@@ -210,7 +211,7 @@ extended-bare join fs e at _ = refl
 member-bare : {A : Type 0} (join : A → A → A) (fs : List (Frame A)) (e : Exp A) (at : A) (p : Piece) → bare_some (member join fs e at p) ≡ member no_join (bare_stack fs) (bare e) tt p
 member-bare {A} join fs e at a_class = go (name_type e) ∙ ap (literal_of (bare_stack fs) tt) (sym (bare_word-outer e))
   where
-    go : (t : Option (TypeName A)) → bare_some (literal_of fs (join (mark_of e) at) t) ≡ literal_of (bare_stack fs) tt (option_map bare_type t)
+    go : (t : Option (TypeName A)) → bare_some (literal_of fs (join (exp_mark e) at) t) ≡ literal_of (bare_stack fs) tt (option_map bare_type t)
     go (Some t) = refl
     go None = refl
 member-bare join fs e at _ = refl

@@ -15,3 +15,5 @@ pub mod Places
 pub mod Maps
 pub mod Marks
 pub mod Cases
+pub mod Standing
+pub mod OneAnswer

@@ -6,10 +6,11 @@ use Rattle.jr_ast.specs.declared.operators.UnOp.TheVariants.{Plus, Minus, Not}
 use Rattle.jr_ast.specs.declared.operators.BinOp.{BinOp}
 use Rattle.jr_ast.specs.declared.operators.BinOp.TheVariants.{Add, Sub}
 use Rattle.jr_ast.specs.Tree.{Word, TypeName, named, Exp, name, field, super_field, bump, no_target, on, end}
+use Rattle.jr_ast.specs.Marks.{exp_mark}
 use Rattle.jr_pexpr.specs.Tokens.{Token}
 use Rattle.jr_pexpr.specs.Shape.{rank_of, level_of}
 use Rattle.jr_pexpr.specs.Pieces.{Way, Piece, a_word, an_atom, a_super, a_new, a_class, an_open, a_close, a_comma, a_dot, a_bang, a_bump, an_operator, an_equals, a_compound, piece_of}
-use Rattle.jr_pexpr.specs.Machine.{call_head, super_head, create_head, Frame, in_unary, in_bump, in_assign, in_compound, in_paren, in_args, State, want, have, dotted, at_super, super_dotted, at_new, new_named, new_dotted, mark_of, with_last, behind, binds, needed, behind_minus, plug, fits, reduced, operated, closed, continued, at_most, atom_exp, atom_fits, signed, emptied, begun, name_type, cast_of, casted, opened, is_target, is_compound, assigned, bumped, extended, literal_of, member, behind_super, super_member, behind_new, new_outer, behind_new_name, new_inner, stepped, step, is_bottom, is_open, frames_of}
+use Rattle.jr_pexpr.specs.Machine.{call_head, super_head, create_head, Frame, in_unary, in_bump, in_assign, in_compound, in_paren, in_args, State, want, have, dotted, at_super, super_dotted, at_new, new_named, new_dotted, with_last, behind, binds, needed, behind_minus, plug, fits, reduced, operated, closed, continued, at_most, atom_exp, atom_fits, signed, emptied, begun, name_type, cast_of, casted, opened, is_target, is_compound, assigned, bumped, extended, literal_of, member, behind_super, super_member, behind_new, new_outer, behind_new_name, new_inner, stepped, step, is_bottom, is_open, frames_of}
 
 -- what was open stays what it was
 abbrev pub Opens : {A : Type 0} → List (Frame A) → Option (State A) → Type 0
@@ -105,8 +106,8 @@ assigned_opens fs e f = cond_both (is_target e) (at_most 1 fs (want (f ∷ fs)))
 
 bumped_opens : {A : Type 0} (join : A → A → A) (fs : List (Frame A)) (e : Exp A) (at : A) (w : Way) → Opens fs (bumped join fs e at w)
 bumped_opens join fs e at w =
-    cond_both (is_target e) (at_most 9 fs (have fs (bump (join (mark_of e) at) (behind w) e))) None (Opens fs)
-    (λ _. at_most_opens 9 fs fs (have fs (bump (join (mark_of e) at) (behind w) e)) (λ h. h))
+    cond_both (is_target e) (at_most 9 fs (have fs (bump (join (exp_mark e) at) (behind w) e))) None (Opens fs)
+    (λ _. at_most_opens 9 fs fs (have fs (bump (join (exp_mark e) at) (behind w) e)) (λ h. h))
     (λ _. tt)
 
 extended_opens : {A : Type 0} (join : A → A → A) (fs : List (Frame A)) (e : Exp A) (at : A) (p : Piece) → Opens fs (extended join fs e at p)
@@ -132,7 +133,7 @@ literal_opens fs m None = tt
 
 member_opens : {A : Type 0} (join : A → A → A) (fs : List (Frame A)) (e : Exp A) (at : A) (p : Piece) → Opens fs (member join fs e at p)
 member_opens join fs e at (a_word w) = λ h. h
-member_opens join fs e at a_class = literal_opens fs (join (mark_of e) at) (name_type e)
+member_opens join fs e at a_class = literal_opens fs (join (exp_mark e) at) (name_type e)
 member_opens join fs e at _ = tt
 
 behind_super_opens : {A : Type 0} (fs : List (Frame A)) (m : A) (p : Piece) → Opens fs (behind_super fs m p)

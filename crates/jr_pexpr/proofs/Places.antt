@@ -10,11 +10,12 @@ use Rattle.jr_ast.specs.declared.operators.UnOp.TheVariants.{Plus, Minus, Not}
 use Rattle.jr_ast.specs.declared.operators.BinOp.{BinOp}
 use Rattle.jr_ast.specs.declared.operators.BinOp.TheVariants.{Add, Sub}
 use Rattle.jr_ast.specs.Tree.{Word, TypeName, named, Exp, name, field, super_field, paren, bump, end}
+use Rattle.jr_ast.specs.Marks.{exp_mark}
 use Rattle.jr_pexpr.specs.Tokens.{keyword, symbol, Placed}
 use Rattle.jr_pexpr.specs.Spelling.{binary_symbol}
 use Rattle.jr_pexpr.specs.Shape.{rank_of, level_of}
 use Rattle.jr_pexpr.specs.Pieces.{Way, up, down, way_symbol, Atom, a_number, a_truth, a_null, a_string, a_this, Piece, a_word, an_atom, a_super, a_new, a_class, an_open, a_close, a_comma, a_dot, a_bang, a_bump, an_operator, an_equals, a_compound, piece_of, piece_token}
-use Rattle.jr_pexpr.specs.Machine.{Frame, in_unary, in_bump, in_assign, in_compound, in_paren, in_args, State, want, have, dotted, at_super, super_dotted, at_new, new_named, new_dotted, mark_of, with_last, behind, binds, needed, behind_minus, plug, fits, reduced, operated, closed, continued, at_most, atom_exp, atom_fits, signed, emptied, begun, name_type, cast_frame, cast_of, casted, opened, is_target, is_compound, assigned, bumped, extended, literal_of, member, behind_super, super_member, behind_new, new_outer, behind_new_name, new_inner, stepped}
+use Rattle.jr_pexpr.specs.Machine.{Frame, in_unary, in_bump, in_assign, in_compound, in_paren, in_args, State, want, have, dotted, at_super, super_dotted, at_new, new_named, new_dotted, with_last, behind, binds, needed, behind_minus, plug, fits, reduced, operated, closed, continued, at_most, atom_exp, atom_fits, signed, emptied, begun, name_type, cast_frame, cast_of, casted, opened, is_target, is_compound, assigned, bumped, extended, literal_of, member, behind_super, super_member, behind_new, new_outer, behind_new_name, new_inner, stepped}
 use Rattle.jr_pexpr.specs.Stands.{Tokens, first_from, span_of, Is, StandsType, Stands}
 use Rattle.jr_pexpr.specs.Marked.{join, span_step}
 use Rattle.jr_pexpr.proofs.Levels.{rank_low}
@@ -233,17 +234,17 @@ assigned_stands fs e f i ps h k =
     (λ _. tt)
 
 -- the mark of an expression and one or two tokens behind it
-behind_mark : (e : Exp Span) (a b : Tokens) (i : Placed Span) → Stands e a → join (mark_of e) i.mark ≡ span_of (a ++ (b ++ (i ∷ [])))
-behind_mark e a b i h = to_last (mark_of e) a b i (stands_more e a h) (ap (λ (s : Span). s.from) (stands_mark e a h))
+behind_mark : (e : Exp Span) (a b : Tokens) (i : Placed Span) → Stands e a → join (exp_mark e) i.mark ≡ span_of (a ++ (b ++ (i ∷ [])))
+behind_mark e a b i h = to_last (exp_mark e) a b i (stands_more e a h) (ap (λ (s : Span). s.from) (stands_mark e a h))
 
-bump_stands : (e : Exp Span) (w : Way) (a : Tokens) (i : Placed Span) → Stands e a → Is (symbol (way_symbol w)) i → Stands (bump (join (mark_of e) i.mark) (behind w) e) (a ++ (i ∷ []))
+bump_stands : (e : Exp Span) (w : Way) (a : Tokens) (i : Placed Span) → Stands e a → Is (symbol (way_symbol w)) i → Stands (bump (join (exp_mark e) i.mark) (behind w) e) (a ++ (i ∷ []))
 bump_stands e up a i h t = (behind_mark e a [] i h, (a, i, refl, h, t))
 bump_stands e down a i h t = (behind_mark e a [] i h, (a, i, refl, h, t))
 
 bumped_stands : (fs : Spans) (e : Exp Span) (w : Way) (i : Placed Span) (ps : Tokens) → Is (symbol (way_symbol w)) i → StandsState (have fs e) ps → After ps i (bumped join fs e i.mark w)
 bumped_stands fs e w i ps t h =
-    cond_both (is_target e) (at_most 9 fs (have fs (bump (join (mark_of e) i.mark) (behind w) e))) None (After ps i)
-    (λ _. at_most_stands 9 fs (have fs (bump (join (mark_of e) i.mark) (behind w) e)) (ps ++ (i ∷ [])) (h.0, h.1 ++ (i ∷ []), one_more ps h.0 h.1 i h.2, h.3, bump_stands e w h.1 i h.4 t))
+    cond_both (is_target e) (at_most 9 fs (have fs (bump (join (exp_mark e) i.mark) (behind w) e))) None (After ps i)
+    (λ _. at_most_stands 9 fs (have fs (bump (join (exp_mark e) i.mark) (behind w) e)) (ps ++ (i ∷ [])) (h.0, h.1 ++ (i ∷ []), one_more ps h.0 h.1 i h.2, h.3, bump_stands e w h.1 i h.4 t))
     (λ _. tt)
 
 extended_stands : (fs : Spans) (e : Exp Span) (i : Placed Span) (p : Piece) (ps : Tokens) → Is (piece_token p) i → StandsState (have fs e) ps → After ps i (extended join fs e i.mark p)
@@ -272,10 +273,10 @@ extended_stands fs e i _ ps t h = tt
 two_behind : (a b : Tokens) (d i : Placed Span) (ps : Tokens) → ps ≡ a ++ (b ++ (d ∷ [])) → ps ++ (i ∷ []) ≡ a ++ (b ++ (d ∷ i ∷ []))
 two_behind a b d i ps e = one_more ps a (b ++ (d ∷ [])) i e ∙ ap (λ (x : Tokens). a ++ x) (append_assoc b (d ∷ []) (i ∷ []))
 
-literal_stands : (fs : Spans) (e : Exp Span) (i : Placed Span) (ps : Tokens) → Is (keyword Class) i → StandsState (dotted fs e) ps → After ps i (literal_of fs (join (mark_of e) i.mark) (name_type e))
+literal_stands : (fs : Spans) (e : Exp Span) (i : Placed Span) (ps : Tokens) → Is (keyword Class) i → StandsState (dotted fs e) ps → After ps i (literal_of fs (join (exp_mark e) i.mark) (name_type e))
 literal_stands fs e i ps t h = go (name_type e) (name_stands e h.1 h.5)
   where
-    go : (c : Option (TypeName Span)) → IfSome c (λ (c : TypeName Span). StandsType c h.1) → After ps i (literal_of fs (join (mark_of e) i.mark) c)
+    go : (c : Option (TypeName Span)) → IfSome c (λ (c : TypeName Span). StandsType c h.1) → After ps i (literal_of fs (join (exp_mark e) i.mark) c)
     go None k = tt
     go (Some c) k = (h.0, h.1 ++ (h.2 ∷ i ∷ []), two_behind h.0 h.1 h.2 i ps h.3, h.4, (behind_mark e h.1 (h.2 ∷ []) i h.5, (h.1, h.2, i, refl, k, h.6, t)))
 

@@ -6,10 +6,11 @@ use Rattle.jr_lex.specs.declared.items.Keyword.TheVariants.{New, Super}
 use Rattle.jr_lex.specs.declared.items.Symbol.TheVariants.{OpenParen, CloseParen, Comma, Dot, Equals}
 use Rattle.jr_ast.specs.declared.operators.BumpOp.TheVariants.{PreInc, PreDec, PostInc, PostDec}
 use Rattle.jr_ast.specs.Tree.{Word, Exp, number, truth, null, string, name, field, super_field, this, class_literal, call, super_call, create, paren, cast, unary, bump, binary, assign, compound, Target, no_target, on, Exps, end, more}
+use Rattle.jr_ast.specs.Marks.{exp_mark}
 use Rattle.jr_pexpr.specs.Tokens.{keyword, symbol, Placed}
 use Rattle.jr_pexpr.specs.Spelling.{unary_symbol, binary_symbol, compound_symbol}
 use Rattle.jr_pexpr.specs.Pieces.{up, down, way_symbol}
-use Rattle.jr_pexpr.specs.Machine.{Head, call_head, super_head, create_head, Frame, in_unary, in_bump, in_binary, in_assign, in_compound, in_cast, in_paren, in_args, State, want, have, dotted, at_super, super_dotted, at_new, new_named, new_dotted, mark_of, with_last, binds, plug, applied}
+use Rattle.jr_pexpr.specs.Machine.{Head, call_head, super_head, create_head, Frame, in_unary, in_bump, in_binary, in_assign, in_compound, in_cast, in_paren, in_args, State, want, have, dotted, at_super, super_dotted, at_new, new_named, new_dotted, with_last, binds, plug, applied}
 use Rattle.jr_pexpr.specs.Stands.{Tokens, first_from, last_to, span_of, Is, StandsWord, StandsType, StandsCast, StandsSuper, StandsNew, Stands, StandsCall, StandArgs, StandMore}
 use Rattle.jr_pexpr.specs.Marked.{join}
 
@@ -57,7 +58,7 @@ is_more a b e h = subst IsMore (sym e) h
 
 -- ---- what stands has tokens, and its mark
 
-pub stands_mark : (e : Exp Span) (ps : Tokens) → Stands e ps → mark_of e ≡ span_of ps
+pub stands_mark : (e : Exp Span) (ps : Tokens) → Stands e ps → exp_mark e ≡ span_of ps
 stands_mark (bump m PreInc e) ps h = h.0
 stands_mark (bump m PreDec e) ps h = h.0
 stands_mark (bump m PostInc e) ps h = h.0
@@ -134,7 +135,7 @@ StandsState (new_dotted fs m o) ps =
 front : (a : Tokens) (i : Placed Span) → a ≡ i ∷ [] → (m : Span) → m ≡ i.mark → IsMore a × (m.from ≡ first_from a)
 front a i e m h = (is_more a _ e tt, ap (λ (s : Span). s.from) h ∙ ap first_from (sym e))
 
-operand : (l : Exp Span) (a c : Tokens) (i : Placed Span) → a ≡ c ++ (i ∷ []) → Stands l c → IsMore a × ((mark_of l).from ≡ first_from a)
+operand : (l : Exp Span) (a c : Tokens) (i : Placed Span) → a ≡ c ++ (i ∷ []) → Stands l c → IsMore a × ((exp_mark l).from ≡ first_from a)
 operand l a c i e h = (
   is_more a _ e (more_after c (i ∷ []) tt),
   ap (λ (s : Span). s.from) (stands_mark l c h) ∙ sym (first_from-append c (i ∷ []) (stands_more l c h)) ∙ ap first_from (sym e),
@@ -146,24 +147,24 @@ behind a b c i e = ap (λ (x : Tokens). x ++ b) e ∙ append_assoc c (i ∷ []) 
 pub stands_plug : (f : Frame Span) (e : Exp Span) (a b : Tokens) → 1 ≤ binds f → StandsFrame f a → Stands e b → Stands (plug join f e) (a ++ b)
 stands_plug (in_unary m o) e a b n f h =
     let k = front a f.0 f.1 m f.3 in
-    (two_parts m (mark_of e) a b k.0 (stands_more e b h) k.1 (stands_mark e b h), (b, f.0, ap (λ (x : Tokens). x ++ b) f.1, f.2, h))
+    (two_parts m (exp_mark e) a b k.0 (stands_more e b h) k.1 (stands_mark e b h), (b, f.0, ap (λ (x : Tokens). x ++ b) f.1, f.2, h))
 stands_plug (in_bump m up) e a b n f h =
     let k = front a f.0 f.1 m f.3 in
-    (two_parts m (mark_of e) a b k.0 (stands_more e b h) k.1 (stands_mark e b h), (b, f.0, ap (λ (x : Tokens). x ++ b) f.1, f.2, h))
+    (two_parts m (exp_mark e) a b k.0 (stands_more e b h) k.1 (stands_mark e b h), (b, f.0, ap (λ (x : Tokens). x ++ b) f.1, f.2, h))
 stands_plug (in_bump m down) e a b n f h =
     let k = front a f.0 f.1 m f.3 in
-    (two_parts m (mark_of e) a b k.0 (stands_more e b h) k.1 (stands_mark e b h), (b, f.0, ap (λ (x : Tokens). x ++ b) f.1, f.2, h))
+    (two_parts m (exp_mark e) a b k.0 (stands_more e b h) k.1 (stands_mark e b h), (b, f.0, ap (λ (x : Tokens). x ++ b) f.1, f.2, h))
 stands_plug (in_binary o l) e a b n f h =
     let k = operand l a f.0 f.1 f.2 f.3 in
-    (two_parts (mark_of l) (mark_of e) a b k.0 (stands_more e b h) k.1 (stands_mark e b h), (f.0, b, f.1, behind a b f.0 f.1 f.2, f.3, f.4, h))
+    (two_parts (exp_mark l) (exp_mark e) a b k.0 (stands_more e b h) k.1 (stands_mark e b h), (f.0, b, f.1, behind a b f.0 f.1 f.2, f.3, f.4, h))
 stands_plug (in_assign t) e a b n f h =
     let k = operand t a f.0 f.1 f.2 f.3 in
-    (two_parts (mark_of t) (mark_of e) a b k.0 (stands_more e b h) k.1 (stands_mark e b h), (f.0, b, f.1, behind a b f.0 f.1 f.2, f.3, f.4, h))
+    (two_parts (exp_mark t) (exp_mark e) a b k.0 (stands_more e b h) k.1 (stands_mark e b h), (f.0, b, f.1, behind a b f.0 f.1 f.2, f.3, f.4, h))
 stands_plug (in_compound o t) e a b n f h =
     let k = operand t a f.0 f.1 f.2 f.3 in
-    (two_parts (mark_of t) (mark_of e) a b k.0 (stands_more e b h) k.1 (stands_mark e b h), (f.0, b, f.1, behind a b f.0 f.1 f.2, f.3, f.4, h))
+    (two_parts (exp_mark t) (exp_mark e) a b k.0 (stands_more e b h) k.1 (stands_mark e b h), (f.0, b, f.1, behind a b f.0 f.1 f.2, f.3, f.4, h))
 stands_plug (in_cast m t) e a b n f h =
-    (two_parts m (mark_of e) a b (is_more a _ f.0.3 tt) (stands_more e b h) f.1 (stands_mark e b h), (a, b, refl, f.0, h))
+    (two_parts m (exp_mark e) a b (is_more a _ f.0.3 tt) (stands_more e b h) f.1 (stands_mark e b h), (a, b, refl, f.0, h))
 stands_plug (in_paren m) e a b n f h = absurd (omega arith)
 stands_plug (in_args d es) e a b n f h = absurd (omega arith)
 

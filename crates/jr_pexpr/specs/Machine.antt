@@ -7,6 +7,7 @@ use Rattle.jr_ast.specs.declared.operators.BinOp.TheVariants.{Add, Sub, Mul, Div
 use Rattle.jr_ast.specs.declared.operators.BumpOp.{BumpOp}
 use Rattle.jr_ast.specs.declared.operators.BumpOp.TheVariants.{PreInc, PreDec, PostInc, PostDec}
 use Rattle.jr_ast.specs.Tree.{Word, TypeName, named, Exp, number, truth, null, string, name, field, super_field, this, class_literal, call, super_call, create, paren, cast, unary, bump, binary, assign, compound, Target, no_target, on, Exps, end, more}
+use Rattle.jr_ast.specs.Marks.{exp_mark}
 use Rattle.jr_pexpr.specs.Tokens.{Token}
 use Rattle.jr_pexpr.specs.Shape.{rank_of, unary_level, level_of, greatest, is_minus}
 use Rattle.jr_pexpr.specs.Pieces.{Way, up, down, Atom, a_number, a_truth, a_null, a_string, a_this, Piece, a_word, an_atom, a_super, a_new, a_class, an_open, a_close, a_comma, a_dot, a_bang, a_bump, an_operator, an_equals, a_compound, piece_of}
@@ -42,27 +43,6 @@ pub data State (A : Type 0) : Type 0 where
   at_new : (on : List (Frame A)) (start : A) → State A
   new_named : (on : List (Frame A)) (start : A) (type : TypeName A) → State A
   new_dotted : (on : List (Frame A)) (start : A) (outer : Word A) → State A
-
-abbrev pub mark_of : {A : Type 0} → Exp A → A
-mark_of (number m n) = m
-mark_of (truth m b) = m
-mark_of (null m) = m
-mark_of (string m s) = m
-mark_of (name m w) = m
-mark_of (field m e w) = m
-mark_of (super_field m w) = m
-mark_of (this m) = m
-mark_of (class_literal m t) = m
-mark_of (call m t w es) = m
-mark_of (super_call m w es) = m
-mark_of (create m t es) = m
-mark_of (paren m e) = m
-mark_of (cast m t e) = m
-mark_of (unary m o e) = m
-mark_of (bump m o e) = m
-mark_of (binary m o l r) = m
-mark_of (assign m t e) = m
-mark_of (compound m o t e) = m
 
 abbrev pub with_last : {A : Type 0} → Exps A → Exp A → Exps A
 with_last end e = more e end
@@ -144,12 +124,12 @@ applied join at (create_head m t) es = create (join m at) t es
 
 -- what a frame becomes; a bracket is ended by its closing token
 abbrev pub plug : {A : Type 0} → (A → A → A) → Frame A → Exp A → Exp A
-plug join (in_unary m o) e = unary (join m (mark_of e)) o e
-plug join (in_bump m w) e = bump (join m (mark_of e)) (in_front w) e
-plug join (in_binary o l) e = binary (join (mark_of l) (mark_of e)) o l e
-plug join (in_assign t) e = assign (join (mark_of t) (mark_of e)) t e
-plug join (in_compound o t) e = compound (join (mark_of t) (mark_of e)) o t e
-plug join (in_cast m t) e = cast (join m (mark_of e)) t e
+plug join (in_unary m o) e = unary (join m (exp_mark e)) o e
+plug join (in_bump m w) e = bump (join m (exp_mark e)) (in_front w) e
+plug join (in_binary o l) e = binary (join (exp_mark l) (exp_mark e)) o l e
+plug join (in_assign t) e = assign (join (exp_mark t) (exp_mark e)) t e
+plug join (in_compound o t) e = compound (join (exp_mark t) (exp_mark e)) o t e
+plug join (in_cast m t) e = cast (join m (exp_mark e)) t e
 plug join _ e = e
 
 -- ends what binds at least so tightly; None where what stands in it does not fit
@@ -243,7 +223,7 @@ abbrev pub assigned : {A : Type 0} → List (Frame A) → Exp A → Frame A → 
 assigned fs e f = if is_target e then at_most 1 fs (want (f ∷ fs)) else None
 
 abbrev pub bumped : {A : Type 0} → (A → A → A) → List (Frame A) → Exp A → A → Way → Option (State A)
-bumped join fs e at w = if is_target e then at_most 9 fs (have fs (bump (join (mark_of e) at) (behind w) e)) else None
+bumped join fs e at w = if is_target e then at_most 9 fs (have fs (bump (join (exp_mark e) at) (behind w) e)) else None
 
 unfoldable pub extended : {A : Type 0} → (A → A → A) → List (Frame A) → Exp A → A → Piece → Option (State A)
 extended join fs e at a_dot = if nat_lt (level_of e) 10 then None else Some (dotted fs e)
@@ -268,8 +248,8 @@ literal_of fs m (Some t) = Some (have fs (class_literal m t))
 literal_of fs m None = None
 
 abbrev pub member : {A : Type 0} → (A → A → A) → List (Frame A) → Exp A → A → Piece → Option (State A)
-member join fs e at (a_word w) = Some (have fs (field (join (mark_of e) at) e (marked at w)))
-member join fs e at a_class = literal_of fs (join (mark_of e) at) (name_type e)
+member join fs e at (a_word w) = Some (have fs (field (join (exp_mark e) at) e (marked at w)))
+member join fs e at a_class = literal_of fs (join (exp_mark e) at) (name_type e)
 member join fs e at _ = None
 
 -- ---- `super` and `new`

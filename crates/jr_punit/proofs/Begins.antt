@@ -297,6 +297,25 @@ constructor_first name n (M.more (M.constructor m [] w [] args body) ds) q ts k 
 constructor_first name n (M.more (M.inner m (M.class c (x ∷ xs) w parent all)) ds) q ts k h = absurd cc
 constructor_first name n (M.more (M.inner m (M.class c [] w parent all)) ds) q ts k h = absurd cc
 
+-- a word with an opening parenthesis behind it begins a constructor, which is named as its class
+pub named_first : (name n : List ℕ) (all : M.Members Bare) (q ts : List Token) → MembersShaped name all → members_toks all ++ (symbol CloseBrace ∷ q) ≡ word n ∷ symbol OpenParen ∷ ts → n ≡ name
+named_first name n M.end q ts k h = absurd cc
+named_first name n (M.more (M.field m (x ∷ xs) t w init) ds) q ts k h = absurd cc
+named_first name n (M.more (M.field m [] (int i) w init) ds) q ts k h = absurd cc
+named_first name n (M.more (M.field m [] (boolean i) w init) ds) q ts k h = absurd cc
+named_first name n (M.more (M.field m [] (named i None c) w init) ds) q ts k h = absurd cc
+named_first name n (M.more (M.field m [] (named i (Some o) c) w init) ds) q ts k h = absurd cc
+named_first name n (M.more (M.method m (x ∷ xs) t w ps body) ds) q ts k h = absurd cc
+named_first name n (M.more (M.method m [] None w ps body) ds) q ts k h = absurd cc
+named_first name n (M.more (M.method m [] (Some (int i)) w ps body) ds) q ts k h = absurd cc
+named_first name n (M.more (M.method m [] (Some (boolean i)) w ps body) ds) q ts k h = absurd cc
+named_first name n (M.more (M.method m [] (Some (named i None c)) w ps body) ds) q ts k h = absurd cc
+named_first name n (M.more (M.method m [] (Some (named i (Some o) c)) w ps body) ds) q ts k h = absurd cc
+named_first name n (M.more (M.constructor m (x ∷ xs) w ps args body) ds) q ts k h = absurd cc
+named_first name n (M.more (M.constructor m [] w ps args body) ds) q ts k h = let e : w.text ≡ n = cc in sym e ∙ k.0.0
+named_first name n (M.more (M.inner m (M.class c (x ∷ xs) w parent all)) ds) q ts k h = absurd cc
+named_first name n (M.more (M.inner m (M.class c [] w parent all)) ds) q ts k h = absurd cc
+
 -- behind `m();` stands no `super(`, whether or not a constructor begins with one
 pub super_behind_call : (n : List ℕ) (args : Option (Exps Bare)) (body : S.Stmts Bare) (q r : List Token) → StmtsShaped body
     → super_toks args ++ (stmts_toks body ++ (symbol CloseBrace ∷ q)) ≡ word n ∷ symbol OpenParen ∷ symbol CloseParen ∷ symbol Semicolon ∷ keyword Super ∷ symbol OpenParen ∷ r → ⊥

@@ -1,2 +1,5 @@
 pub mod Begins
 pub mod Cases
+pub mod Standing
+pub mod Erase
+pub mod EraseShape

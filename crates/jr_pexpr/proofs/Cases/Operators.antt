@@ -102,9 +102,9 @@ and_before_or : IsExpression (word (codes "a") ∷ symbol BarBar ∷ word (codes
 unfolding begun extended
 and_before_or = expression_read _ _ refl
 
--- a==b!=c
-equality_groups_left : IsExpression (word (codes "a") ∷ symbol EqualEqual ∷ word (codes "b") ∷ symbol NotEqual ∷ word (codes "c") ∷ [])
-    (binary tt Ne (binary tt Eq (v (codes "a")) (v (codes "b"))) (v (codes "c")))
+-- a==b!=c==d
+equality_groups_left : IsExpression (word (codes "a") ∷ symbol EqualEqual ∷ word (codes "b") ∷ symbol NotEqual ∷ word (codes "c") ∷ symbol EqualEqual ∷ word (codes "d") ∷ [])
+    (binary tt Eq (binary tt Ne (binary tt Eq (v (codes "a")) (v (codes "b"))) (v (codes "c"))) (v (codes "d")))
 unfolding begun extended
 equality_groups_left = expression_read _ _ refl
 
@@ -132,6 +132,12 @@ relations_at_least : IsExpression (word (codes "a") ∷ symbol GreaterEqual ∷ 
 unfolding begun extended
 relations_at_least = expression_read _ _ refl
 
+-- a<b>c<=d>=e<f
+relations_group_left : IsExpression (word (codes "a") ∷ symbol Less ∷ word (codes "b") ∷ symbol Greater ∷ word (codes "c") ∷ symbol LessEqual ∷ word (codes "d") ∷ symbol GreaterEqual ∷ word (codes "e") ∷ symbol Less ∷ word (codes "f") ∷ [])
+    (binary tt Lt (binary tt Ge (binary tt Le (binary tt Gt (binary tt Lt (v (codes "a")) (v (codes "b"))) (v (codes "c"))) (v (codes "d"))) (v (codes "e"))) (v (codes "f")))
+unfolding begun extended
+relations_group_left = expression_read _ _ refl
+
 -- a<b==c>d
 relation_before_equality : IsExpression (word (codes "a") ∷ symbol Less ∷ word (codes "b") ∷ symbol EqualEqual ∷ word (codes "c") ∷ symbol Greater ∷ word (codes "d") ∷ [])
     (binary tt Eq (binary tt Lt (v (codes "a")) (v (codes "b"))) (binary tt Gt (v (codes "c")) (v (codes "d"))))
@@ -144,9 +150,9 @@ sums_group_left : IsExpression (word (codes "a") ∷ symbol MinusSign ∷ word (
 unfolding begun extended
 sums_group_left = expression_read _ _ refl
 
--- a/b*c%d
-products_group_left : IsExpression (word (codes "a") ∷ symbol Slash ∷ word (codes "b") ∷ symbol Star ∷ word (codes "c") ∷ symbol Percent ∷ word (codes "d") ∷ [])
-    (binary tt Rem (binary tt Mul (binary tt Div (v (codes "a")) (v (codes "b"))) (v (codes "c"))) (v (codes "d")))
+-- a/b*c%d/e
+products_group_left : IsExpression (word (codes "a") ∷ symbol Slash ∷ word (codes "b") ∷ symbol Star ∷ word (codes "c") ∷ symbol Percent ∷ word (codes "d") ∷ symbol Slash ∷ word (codes "e") ∷ [])
+    (binary tt Div (binary tt Rem (binary tt Mul (binary tt Div (v (codes "a")) (v (codes "b"))) (v (codes "c"))) (v (codes "d"))) (v (codes "e")))
 unfolding begun extended
 products_group_left = expression_read _ _ refl
 

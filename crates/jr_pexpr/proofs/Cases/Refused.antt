@@ -117,6 +117,12 @@ greatest_alone : IsExpressionRefused (integer 2147483648 ∷ [])
 unfolding begun extended
 greatest_alone = expression_refused _ refl
 
+-- -2147483649
+-- javac too: integer number too large
+beyond_the_least : IsExpressionRefused (symbol MinusSign ∷ integer 2147483649 ∷ [])
+unfolding begun extended
+beyond_the_least = expression_refused _ refl
+
 -- -(2147483648)
 -- javac too: integer number too large
 greatest_in_parentheses : IsExpressionRefused (symbol MinusSign ∷ symbol OpenParen ∷ integer 2147483648 ∷ symbol CloseParen ∷ [])

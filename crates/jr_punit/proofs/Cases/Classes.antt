@@ -3,11 +3,12 @@
 use Rattle.std.proofs.Common.{[], ◌∷◌, Some, None, refl, arith, true, false}
 use Rattle.std.specs.Prelude.{codes}
 use Rattle.jr_lex.specs.declared.items.Keyword.TheVariants.{Boolean, Class, Else, Extends, Final, If, Int, New, Package, Private, Protected, Public, Return, Static, Super, Synchronized, This, Void, Volatile, While}
-use Rattle.jr_lex.specs.declared.items.Symbol.TheVariants.{Bang, CloseBrace, CloseParen, Comma, Dot, Equals, OpenBrace, OpenParen, PlusPlus, Semicolon}
+use Rattle.jr_lex.specs.declared.items.Symbol.TheVariants.{Bang, CloseBrace, CloseParen, Comma, Dot, Equals, OpenBrace, OpenParen, PlusPlus, Plus as PlusSign, Semicolon}
 use Rattle.jr_ast.specs.declared.operators.UnOp.TheVariants.{Not}
+use Rattle.jr_ast.specs.declared.operators.BinOp.TheVariants.{Add}
 use Rattle.jr_ast.specs.declared.operators.BumpOp.TheVariants.{PostInc}
 use Rattle.jr_ast.specs.declared.operators.ModWord.TheVariants.{Public as PublicWord, Protected as ProtectedWord, Private as PrivateWord, Static as StaticWord, Final as FinalWord, Volatile as VolatileWord, Synchronized as SynchronizedWord}
-use Rattle.jr_ast.specs.Tree.{int, boolean, number, this, super_call, create, paren, unary, bump, assign, call, no_target, end, more}
+use Rattle.jr_ast.specs.Tree.{int, boolean, number, this, super_call, create, paren, unary, bump, binary, assign, call, no_target, end, more}
 use Rattle.jr_ast.specs.StatementTree as S
 use Rattle.jr_ast.specs.MemberTree as M
 use Rattle.jr_pexpr.specs.Tokens.{word, keyword, integer, symbol}
@@ -197,3 +198,38 @@ super_argument_no_expression = record { spells = refl; not_shaped = λ h. grind 
 body_no_statement : IsUnitRefused (keyword Class ∷ word (codes "A") ∷ symbol OpenBrace ∷ keyword Void ∷ word (codes "m") ∷ symbol OpenParen ∷ symbol CloseParen ∷ symbol OpenBrace ∷ symbol OpenParen ∷ word (codes "a") ∷ symbol CloseParen ∷ symbol Equals ∷ word (codes "b") ∷ symbol Semicolon ∷ symbol CloseBrace ∷ symbol CloseBrace ∷ [])
     (record { mark = tt; package_name = []; classes = (M.class tt [] (w (codes "A")) None (M.more (M.method tt [] None (w (codes "m")) ([]) (S.more (S.eval tt (assign tt (paren tt (v (codes "a"))) (v (codes "b")))) S.end)) M.end)) ∷ [] })
 body_no_statement = record { spells = refl; not_shaped = λ h. grind arith }
+
+-- class A{void m(int a,int b,int c){}}
+method_with_three_parameters : IsUnit (keyword Class ∷ word (codes "A") ∷ symbol OpenBrace ∷ keyword Void ∷ word (codes "m") ∷ symbol OpenParen ∷ keyword Int ∷ word (codes "a") ∷ symbol Comma ∷ keyword Int ∷ word (codes "b") ∷ symbol Comma ∷ keyword Int ∷ word (codes "c") ∷ symbol CloseParen ∷ symbol OpenBrace ∷ symbol CloseBrace ∷ symbol CloseBrace ∷ [])
+    (record { mark = tt; package_name = []; classes = (M.class tt [] (w (codes "A")) None (M.more (M.method tt [] None (w (codes "m")) (par false (int tt) (codes "a") ∷ par false (int tt) (codes "b") ∷ par false (int tt) (codes "c") ∷ []) S.end) M.end)) ∷ [] })
+method_with_three_parameters = record { shaped = grind arith; spells = refl }
+
+-- class A{A(){a+b;}}
+-- javac refuses it too: not a statement
+constructor_body_no_statement : IsUnitRefused (keyword Class ∷ word (codes "A") ∷ symbol OpenBrace ∷ word (codes "A") ∷ symbol OpenParen ∷ symbol CloseParen ∷ symbol OpenBrace ∷ word (codes "a") ∷ symbol PlusSign ∷ word (codes "b") ∷ symbol Semicolon ∷ symbol CloseBrace ∷ symbol CloseBrace ∷ [])
+    (record { mark = tt; package_name = []; classes = (M.class tt [] (w (codes "A")) None (M.more (M.constructor tt [] (w (codes "A")) [] None (S.more (S.eval tt (binary tt Add (v (codes "a")) (v (codes "b")))) S.end)) M.end)) ∷ [] })
+constructor_body_no_statement = record { spells = refl; not_shaped = λ h. grind arith }
+
+-- class A{class B extends int{}}
+-- javac's parser takes it; a superclass is named
+superclass_of_member_class_int : IsUnitRefused (keyword Class ∷ word (codes "A") ∷ symbol OpenBrace ∷ keyword Class ∷ word (codes "B") ∷ keyword Extends ∷ keyword Int ∷ symbol OpenBrace ∷ symbol CloseBrace ∷ symbol CloseBrace ∷ [])
+    (record { mark = tt; package_name = []; classes = (M.class tt [] (w (codes "A")) None (M.more (M.inner tt (M.class tt [] (w (codes "B")) (Some (int tt)) M.end)) M.end)) ∷ [] })
+superclass_of_member_class_int = record { spells = refl; not_shaped = λ h. grind arith }
+
+-- class A{int a;B(){}}
+-- javac refuses it too: invalid method declaration; return type required
+second_member_of_another_name : IsUnitRefused (keyword Class ∷ word (codes "A") ∷ symbol OpenBrace ∷ keyword Int ∷ word (codes "a") ∷ symbol Semicolon ∷ word (codes "B") ∷ symbol OpenParen ∷ symbol CloseParen ∷ symbol OpenBrace ∷ symbol CloseBrace ∷ symbol CloseBrace ∷ [])
+    (record { mark = tt; package_name = []; classes = (M.class tt [] (w (codes "A")) None (M.more (M.field tt [] (int tt) (w (codes "a")) None) (M.more (M.constructor tt [] (w (codes "B")) [] None S.end) M.end))) ∷ [] })
+second_member_of_another_name = record { spells = refl; not_shaped = λ h. grind arith }
+
+-- class A{class B{int a;A(){}}}
+-- javac refuses it too: invalid method declaration; return type required
+second_member_of_member_class_of_the_outer_name : IsUnitRefused (keyword Class ∷ word (codes "A") ∷ symbol OpenBrace ∷ keyword Class ∷ word (codes "B") ∷ symbol OpenBrace ∷ keyword Int ∷ word (codes "a") ∷ symbol Semicolon ∷ word (codes "A") ∷ symbol OpenParen ∷ symbol CloseParen ∷ symbol OpenBrace ∷ symbol CloseBrace ∷ symbol CloseBrace ∷ symbol CloseBrace ∷ [])
+    (record { mark = tt; package_name = []; classes = (M.class tt [] (w (codes "A")) None (M.more (M.inner tt (M.class tt [] (w (codes "B")) None (M.more (M.field tt [] (int tt) (w (codes "a")) None) (M.more (M.constructor tt [] (w (codes "A")) [] None S.end) M.end)))) M.end)) ∷ [] })
+second_member_of_member_class_of_the_outer_name = record { spells = refl; not_shaped = λ h. grind arith }
+
+-- class A{}class B{A(){}}
+-- javac refuses it too: invalid method declaration; return type required
+second_class_with_constructor_of_the_first : IsUnitRefused (keyword Class ∷ word (codes "A") ∷ symbol OpenBrace ∷ symbol CloseBrace ∷ keyword Class ∷ word (codes "B") ∷ symbol OpenBrace ∷ word (codes "A") ∷ symbol OpenParen ∷ symbol CloseParen ∷ symbol OpenBrace ∷ symbol CloseBrace ∷ symbol CloseBrace ∷ [])
+    (record { mark = tt; package_name = []; classes = (M.class tt [] (w (codes "A")) None M.end) ∷ (M.class tt [] (w (codes "B")) None (M.more (M.constructor tt [] (w (codes "A")) [] None S.end) M.end)) ∷ [] })
+second_class_with_constructor_of_the_first = record { spells = refl; not_shaped = λ h. grind arith }

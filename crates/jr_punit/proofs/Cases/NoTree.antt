@@ -1,5 +1,5 @@
 -- Texts that no tree at all spells, and where reading stops in them.
-use Rattle.std.proofs.Common.{◌≡◌, ℕ, zero, suc, Bool, true, false, List, [], ◌∷◌, ◌++◌, None, refl, ap, arith, take}
+use Rattle.std.proofs.Common.{◌≡◌, ℕ, zero, suc, Bool, true, false, List, [], ◌∷◌, ◌++◌, None, refl, ap, arith, take, get_or}
 use Rattle.std.specs.Prelude.{codes}
 use Rattle.jr_lex.specs.declared.items.Keyword.TheVariants.{Class, Int, Package, Super, Void}
 use Rattle.jr_lex.specs.declared.items.Symbol.TheVariants.{CloseBrace, CloseParen, Dot, Equals, OpenBrace, OpenParen, Semicolon}
@@ -9,11 +9,11 @@ use Rattle.jr_ast.specs.MemberTree as M
 use Rattle.jr_ast.specs.MemberTree.{Unit as UnitTree}
 use Rattle.jr_pexpr.specs.Tokens.{Token, word, keyword, integer, symbol}
 use Rattle.jr_pexpr.specs.Bare.{Bare}
-use Rattle.jr_pexpr.proofs.Cases.Forms.{w}
+use Rattle.jr_pexpr.proofs.Cases.Forms.{w, ty}
 use Rattle.jr_punit.specs.MemberSpelling.{member_toks}
 use Rattle.jr_punit.specs.MemberShape.{OwnShaped}
 use Rattle.jr_punit.specs.Units.{IsNoUnit, IsUnitStop, IsListStop, IsMemberStop, HasNoMember, IsLongestMember}
-use Rattle.jr_punit.proofs.Begins.{opened, method_first, constructor_first, body_of_local, body_of_super, super_behind_call, semicolon_first, package_ends, package_no_keyword, list_of_local, list_of_call_and_super, member_no_symbol, own_no_class}
+use Rattle.jr_punit.proofs.Begins.{opened, method_first, constructor_first, named_first, body_of_local, body_of_super, super_behind_call, semicolon_first, package_ends, package_no_keyword, list_of_local, list_of_call_and_super, member_no_symbol, own_no_class}
 
 -- ---- units
 
@@ -75,6 +75,22 @@ package_stops = record {
 package_goes_on : IsUnitStop (keyword Package ∷ word (codes "a") ∷ []) 2
 unfolding package_alone
 package_goes_on = record { within = grind arith; before = (package_alone, record { meant = grind arith; rest = symbol Semicolon ∷ []; spells = refl }); at = λ n u b. omega arith }
+
+-- class A{B(){}}
+-- javac refuses it too: invalid method declaration; return type required. `class A{B` begins a unit with a field of the class B
+constructor_of_another_name_stops : IsUnitStop (keyword Class ∷ word (codes "A") ∷ symbol OpenBrace ∷ word (codes "B") ∷ symbol OpenParen ∷ symbol CloseParen ∷ symbol OpenBrace ∷ symbol CloseBrace ∷ symbol CloseBrace ∷ []) 4
+constructor_of_another_name_stops = record {
+  within = grind arith;
+  before = (
+    record { mark = tt; package_name = []; classes = (M.class tt [] (w (codes "A")) None (M.more (M.field tt [] (ty (codes "B")) (w (codes "b")) None) M.end)) ∷ [] },
+    record { meant = grind arith; rest = word (codes "b") ∷ symbol Semicolon ∷ symbol CloseBrace ∷ []; spells = refl },
+  );
+  at = λ n u b.
+      let o = opened (codes "A") u.package_name u.classes _ b.meant b.spells in
+      let e : codes "B" ≡ codes "A" = named_first (codes "A") (codes "B") o.all o.behind _ o.shaped o.spells in
+      let f : 66 ≡ 65 = ap (λ (x : List ℕ). get_or x 0 0) e in
+      omega (arith, f);
+}
 
 -- ---- lists of statements
 

@@ -229,3 +229,51 @@ condition_no_expression = record { spells = refl; not_shaped = λ h. grind arith
 lock_no_expression : IsItemRefused (keyword Synchronized ∷ symbol OpenParen ∷ symbol OpenParen ∷ word (codes "a") ∷ symbol CloseParen ∷ symbol PlusPlus ∷ symbol CloseParen ∷ symbol OpenBrace ∷ symbol CloseBrace ∷ [])
     (S.sync tt (bump tt PostInc (paren tt (v (codes "a")))) S.end)
 lock_no_expression = record { spells = refl; not_shaped = λ h. grind arith }
+
+-- int a=2147483648;
+-- javac refuses it too: integer number too large
+greatest_declared : IsItemRefused (keyword Int ∷ word (codes "a") ∷ symbol Equals ∷ integer 2147483648 ∷ symbol Semicolon ∷ [])
+    (S.local tt false (int tt) (w (codes "a")) (number tt 2147483648))
+greatest_declared = record { spells = refl; not_shaped = λ h. grind arith }
+
+-- if(a)b+c;
+-- javac refuses it too: not a statement
+sum_behind_if : IsItemRefused (keyword If ∷ symbol OpenParen ∷ word (codes "a") ∷ symbol CloseParen ∷ word (codes "b") ∷ symbol PlusSign ∷ word (codes "c") ∷ symbol Semicolon ∷ [])
+    (S.branch tt (v (codes "a")) (S.eval tt (binary tt Add (v (codes "b")) (v (codes "c")))) S.no_else)
+sum_behind_if = record { spells = refl; not_shaped = λ h. grind arith }
+
+-- if(a);else b+c;
+-- javac refuses it too: not a statement
+sum_behind_else : IsItemRefused (keyword If ∷ symbol OpenParen ∷ word (codes "a") ∷ symbol CloseParen ∷ symbol Semicolon ∷ keyword Else ∷ word (codes "b") ∷ symbol PlusSign ∷ word (codes "c") ∷ symbol Semicolon ∷ [])
+    (S.branch tt (v (codes "a")) (S.empty tt) (S.otherwise (S.eval tt (binary tt Add (v (codes "b")) (v (codes "c"))))))
+sum_behind_else = record { spells = refl; not_shaped = λ h. grind arith }
+
+-- while(2147483648);
+-- javac refuses it too: integer number too large
+greatest_as_condition : IsItemRefused (keyword While ∷ symbol OpenParen ∷ integer 2147483648 ∷ symbol CloseParen ∷ symbol Semicolon ∷ [])
+    (S.loop tt (number tt 2147483648) (S.empty tt))
+greatest_as_condition = record { spells = refl; not_shaped = λ h. grind arith }
+
+-- while(a)b+c;
+-- javac refuses it too: not a statement
+sum_behind_while : IsItemRefused (keyword While ∷ symbol OpenParen ∷ word (codes "a") ∷ symbol CloseParen ∷ word (codes "b") ∷ symbol PlusSign ∷ word (codes "c") ∷ symbol Semicolon ∷ [])
+    (S.loop tt (v (codes "a")) (S.eval tt (binary tt Add (v (codes "b")) (v (codes "c")))))
+sum_behind_while = record { spells = refl; not_shaped = λ h. grind arith }
+
+-- {a+b;}
+-- javac refuses it too: not a statement
+sum_in_block : IsItemRefused (symbol OpenBrace ∷ word (codes "a") ∷ symbol PlusSign ∷ word (codes "b") ∷ symbol Semicolon ∷ symbol CloseBrace ∷ [])
+    (S.block tt (S.more (S.eval tt (binary tt Add (v (codes "a")) (v (codes "b")))) S.end))
+sum_in_block = record { spells = refl; not_shaped = λ h. grind arith }
+
+-- {;a+b;}
+-- javac refuses it too: not a statement
+sum_second : IsItemRefused (symbol OpenBrace ∷ symbol Semicolon ∷ word (codes "a") ∷ symbol PlusSign ∷ word (codes "b") ∷ symbol Semicolon ∷ symbol CloseBrace ∷ [])
+    (S.block tt (S.more (S.empty tt) (S.more (S.eval tt (binary tt Add (v (codes "a")) (v (codes "b")))) S.end)))
+sum_second = record { spells = refl; not_shaped = λ h. grind arith }
+
+-- synchronized(a){b+c;}
+-- javac refuses it too: not a statement
+sum_in_synchronized : IsItemRefused (keyword Synchronized ∷ symbol OpenParen ∷ word (codes "a") ∷ symbol CloseParen ∷ symbol OpenBrace ∷ word (codes "b") ∷ symbol PlusSign ∷ word (codes "c") ∷ symbol Semicolon ∷ symbol CloseBrace ∷ [])
+    (S.sync tt (v (codes "a")) (S.more (S.eval tt (binary tt Add (v (codes "b")) (v (codes "c")))) S.end))
+sum_in_synchronized = record { spells = refl; not_shaped = λ h. grind arith }
