@@ -37,20 +37,38 @@ module _ {X Y Z : Type 0} (p : X → Z) (q : Y → Z) where
   all_done out row i ge so_far = so_far ∙ ap (map q) (take_all i row ge)
 
 -- measures
+pub falls_box : (n t : ℕ) → 3 * n + 1 ≡ t → 3 * n < t
+falls_box n t h = omega arith
+
+pub falls_first : (n m t : ℕ) → 3 * (n + m) + 2 ≡ t → 3 * n + 1 < t
+falls_first n m t h = omega arith
+
+pub falls_second : (n m t : ℕ) → 3 * (n + m) + 2 ≡ t → 3 * m + 1 < t
+falls_second n m t h = omega arith
+
+pub falls_target : (n n' m t : ℕ) → n ≡ n' → 3 * (n' + m) + 2 ≡ t → 3 * n + 1 < t
+falls_target n n' m t e h = omega arith
+
+pub falls_held_one : (n n' t : ℕ) → n ≡ n' → 3 * n' + 2 ≡ t → 3 * n + 1 < t
+falls_held_one n n' t e h = omega arith
+
+pub falls_rest : (n m whole t : ℕ) → whole ≡ suc (n + m) → 3 * whole ≡ t → 3 * m + 2 < t
+falls_rest n m whole t w h = omega arith
+
 module _ {T : Type 0} (size : T → ℕ) where
-  pub falls_one : (whole : ℕ) (child shown : T) (t : ℕ) → shown ≡ child → whole ≡ suc (size child) → 2 * whole ≡ t → 2 * size shown < t
+  pub falls_one : (whole : ℕ) (child shown : T) (t : ℕ) → shown ≡ child → whole ≡ suc (size child) → 3 * whole ≡ t → 3 * size shown < t
   falls_one whole child shown t e w h = let s = ap size e in omega arith
 
-  pub falls_left : (whole n : ℕ) (child shown : T) (t : ℕ) → shown ≡ child → whole ≡ suc (size child + n) → 2 * whole ≡ t → 2 * size shown < t
+  pub falls_pair : (whole : ℕ) (left right shown shown' : T) (t : ℕ) → shown ≡ left → shown' ≡ right → whole ≡ suc (size left + size right) → 3 * whole ≡ t → 3 * (size shown + size shown') + 2 < t
+  falls_pair whole left right shown shown' t e e' w h = let s = ap size e in let s' = ap size e' in omega arith
+
+  pub falls_call : (whole n : ℕ) (row shown : T) (t : ℕ) → shown ≡ row → whole ≡ suc (n + size row) → 3 * whole ≡ t → 3 * (n + size shown) + 2 < t
+  falls_call whole n row shown t e w h = let s = ap size e in omega arith
+
+  pub falls_left : (whole n : ℕ) (child shown : T) (t : ℕ) → shown ≡ child → whole ≡ suc (size child + n) → 3 * whole ≡ t → 3 * size shown + 1 < t
   falls_left whole n child shown t e w h = let s = ap size e in omega arith
 
-  pub falls_right : (whole n : ℕ) (child shown : T) (t : ℕ) → shown ≡ child → whole ≡ suc (n + size child) → 2 * whole ≡ t → 2 * size shown < t
-  falls_right whole n child shown t e w h = let s = ap size e in omega arith
-
-  pub falls_row : (whole n : ℕ) (row shown : T) (t : ℕ) → shown ≡ row → whole ≡ suc (n + size row) → 2 * whole ≡ t → 2 * size shown + 1 < t
-  falls_row whole n row shown t e w h = let s = ap size e in omega arith
-
-  pub falls_whole_row : (whole : ℕ) (row shown : T) (t : ℕ) → shown ≡ row → whole ≡ suc (size row) → 2 * whole ≡ t → 2 * size shown + 1 < t
+  pub falls_whole_row : (whole : ℕ) (row shown : T) (t : ℕ) → shown ≡ row → whole ≡ suc (size row) → 3 * whole ≡ t → 3 * size shown + 1 < t
   falls_whole_row whole row shown t e w h = let s = ap size e in omega arith
 
 module _ {T : Type 0} (size : T → ℕ) (all : List T → ℕ) (adds : (x : T) (xs : List T) → all (x ∷ xs) ≡ size x + all xs) where
@@ -59,16 +77,8 @@ module _ {T : Type 0} (size : T → ℕ) (all : List T → ℕ) (adds : (x : T) 
   within (y ∷ ys) zero x lt e = let s = ap size e in let a = adds y ys in omega arith
   within (y ∷ ys) (suc i) x lt e = let h = within ys i x (omega arith) e in let a = adds y ys in omega arith
 
-  pub falls_item : (row : List T) (i : ℕ) (x : T) (t : ℕ) → i < length row → x ≡ get_or row i x → 2 * all row + 1 ≡ t → 2 * size x < t
+  pub falls_item : (row : List T) (i : ℕ) (x : T) (t : ℕ) → i < length row → x ≡ get_or row i x → 3 * all row + 1 ≡ t → 3 * size x < t
   falls_item row i x t lt e h = let s = within row i x lt e in omega arith
-
--- how much of a call its target is
-module _ {A : Type 0} where
-  pub call_target : (o : Option (Box (Expr A) Global))
-      → (n : ℕ) × ((m : A) (i : Ident A) (args : Vec (Expr A) Global) → exp_size (expr_kind m (Call o i args)) ≡ suc (n + exps_size (exprs_of args.items)))
-  unfolding exp_size exps_size target_size
-  call_target None = (0, λ m i args. ap exp_size (expr_kind-Call A m i args))
-  call_target (Some b) = (exp_size (expr_of b.value), λ m i args. ap exp_size (expr_kind-Call_on A m b i args))
 
 -- rows of copies, of each sort of tree
 rows : {A : Type 0} → List (tree.Exp A) → tree.Exps A

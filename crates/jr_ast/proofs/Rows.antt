@@ -17,7 +17,7 @@ use Rattle.jr_ast.specs.Marks.{exp_mark, stmt_mark, member_mark}
 use Rattle.jr_ast.specs.Tree as tree
 use Rattle.jr_ast.specs.StatementTree as statement
 use Rattle.jr_ast.specs.MemberTree as member
-use Rattle.jr_ast.specs.View.{word_of, modifier_of, type_of, expr_of, expr_kind, expr_row, held_target, exprs_of, stmt_of, stmt_kind, stmt_row, held_else, stmts_of, class_of, member_of, member_kind, member_row, members_of}
+use Rattle.jr_ast.specs.View.{word_of, modifier_of, type_of, expr_of, expr_kind, expr_row, held_target, target_of, exprs_of, stmt_of, stmt_kind, stmt_row, held_else, else_of, stmts_of, class_of, member_of, member_kind, member_row, members_of}
 
 module _ (A : Type 0) where
   pub expr_row-list : (n : _) (row : expr.Row_of-Expr A n) → expr_row row ≡ exprs_of (expr.items-the_row-Expr A n row)
@@ -45,6 +45,10 @@ module _ (A : Type 0) where
       let row = exprs_in (expr.Call (Some b) i args) in
       ap (tree.call m (tree.on (expr_of b.value)) (word_of i)) (expr_row-list row.0 row.1 ∙ ap exprs_of (expr.items_hidden-the_row-Expr-0 A args))
 
+  pub expr_kind-Call_to : (m : A) (o : Option (Box (Expr A) Global)) (i : Ident A) (args : Vec (Expr A) Global) → expr_kind m (expr.Call o i args) ≡ tree.call m (target_of o) (word_of i) (exprs_of args.items)
+  expr_kind-Call_to m None i args = expr_kind-Call m i args
+  expr_kind-Call_to m (Some b) i args = expr_kind-Call_on m b i args
+
   pub expr_kind-SuperCall : (m : A) (i : Ident A) (args : Vec (Expr A) Global) → expr_kind m (expr.SuperCall i args) ≡ tree.super_call m (word_of i) (exprs_of args.items)
   unfolding expr_kind expr_row held_target
   expr_kind-SuperCall m i args =
@@ -66,6 +70,11 @@ module _ (A : Type 0) where
   stmts_in (stmt.Block' shape row) = (_, row)
   stmts_in (stmt.Sync' x shape row) = (_, row)
   stmts_in _ = (_, stmt.end_of-Stmt)
+
+  pub stmt_kind-If : (m : A) (x : Expr A) (body : Box (Stmt A) Global) (other : Option (Box (Stmt A) Global)) → stmt_kind m (stmt.If x body other) ≡ statement.branch m (expr_of x) (stmt_of body.value) (else_of other)
+  unfolding stmt_kind stmt_row held_else
+  stmt_kind-If m x body None = refl
+  stmt_kind-If m x body (Some b) = refl
 
   pub stmt_kind-Block : (m : A) (body : Vec (Stmt A) Global) → stmt_kind m (stmt.Block body) ≡ statement.block m (stmts_of body.items)
   unfolding stmt_kind stmt_row held_else

@@ -112,6 +112,9 @@ module _ {A B : Type 0} (R : A → B → Type 0) where
   abbrev pub SameStmt : statement.Stmt A → statement.Stmt B → Type 0
   SameStmt t t' = (h : B → Option B) (k : A → Option B) → Agree R h k → map_stmt h t' ≡ map_stmt k t
 
+  abbrev pub SameElse : statement.Else A → statement.Else B → Type 0
+  SameElse t t' = (h : B → Option B) (k : A → Option B) → Agree R h k → map_else h t' ≡ map_else k t
+
   abbrev pub SameStmts : statement.Stmts A → statement.Stmts B → Type 0
   SameStmts t t' = (h : B → Option B) (k : A → Option B) → Agree R h k → map_stmts h t' ≡ map_stmts k t
 

@@ -1,6 +1,7 @@
 -- The pure tree that a Rust tree stands for. No other file knows the constructors that Rattle generates.
-use Rattle.std.specs.Prelude.{List, [], ◌∷◌, Option, Vec, map, option_map}
+use Rattle.std.specs.Prelude.{List, [], ◌∷◌, Option, None, Some, Vec, map, option_map}
 use Rattle.std.specs.Global.{Global}
+use Rattle.std.specs.declared.boxed.Box.{Box}
 use Rattle.jr_ast.specs.declared.names.Ident.{Ident}
 use Rattle.jr_ast.specs.declared.parts.Modifier.{Modifier}
 use Rattle.jr_ast.specs.declared.parts.Param.{Param}
@@ -74,6 +75,11 @@ module _ {A : Type 0} where
   exprs_of [] = tree.end
   exprs_of (x ∷ xs) = tree.more (expr_of x) (exprs_of xs)
 
+  -- what a call is made on
+  abbrev pub target_of : Option (Box (Expr A) Global) → tree.Target A
+  target_of None = tree.no_target
+  target_of (Some b) = tree.on (expr_of b.value)
+
   -- the arguments of a written `super(..)`, if there is one
   abbrev pub args_of : Option (Vec (Expr A) Global) → Option (tree.Exps A)
   args_of args = option_map (λ v. exprs_of v.items) args
@@ -103,6 +109,11 @@ module _ {A : Type 0} where
   abbrev pub stmts_of : List (Stmt A) → statement.Stmts A
   stmts_of [] = statement.end
   stmts_of (x ∷ xs) = statement.more (stmt_of x) (stmts_of xs)
+
+  -- what stands behind `else`
+  abbrev pub else_of : Option (Box (Stmt A) Global) → statement.Else A
+  else_of None = statement.no_else
+  else_of (Some b) = statement.otherwise (stmt_of b.value)
 
   unfoldable mutual
     pub member_kind : A → kind.MemberKind A → member.Member A

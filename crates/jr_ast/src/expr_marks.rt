@@ -1,14 +1,17 @@
 //! A copy of a tree with other marks: expressions.
-ghost use Rattle.std.specs.Prelude.{IfOk};
+ghost use Rattle.std.specs.Prelude.{IfOk, option_map};
 ghost use Rattle.std.specs.Fn.{FnReturnsAt};
 ghost use Rattle.jr_ast.specs.Remarked as same;
-ghost use Rattle.jr_ast.specs.View.{expr_of, exprs_of};
+ghost use Rattle.jr_ast.specs.Tree as tree;
+ghost use Rattle.jr_ast.specs.View.{word_of, target_of, expr_of, exprs_of, args_of};
 
 use crate::exprs::{Expr, ExprKind};
 use crate::marks::{marked, ty, word};
-use crate::names::Name;
+use crate::names::{Ident, Name};
 use std::alloc::{AllocError, Global};
 
+// The mark is made last, and an enum that is held by value just before it: an error path that
+// drops an enum is proved for each of its variants.
 #[cycle(expr_marks)]
 pub(crate) fn expr<A, B: Drop, F: Fn(&A) -> B>(
     alloc: Global,
@@ -18,85 +21,122 @@ pub(crate) fn expr<A, B: Drop, F: Fn(&A) -> B>(
     requires { F.IsAlwaysCallable f.now }
     ensures { IfOk result (λ x. same.SameExp (FnReturnsAt F.Fn f.now) (expr_of of.now) (expr_of x)) }
 {
-    let mark = marked(&of.mark, f);
     match &of.kind {
-        ExprKind::Int(value) => Ok(Expr::number(mark, *value)),
-        ExprKind::Bool(value) => Ok(Expr::truth(mark, *value)),
-        ExprKind::Null => Ok(Expr::null(mark)),
-        ExprKind::This => Ok(Expr::this(mark)),
+        ExprKind::Int(value) => Ok(Expr::number(marked(&of.mark, f), *value)),
+        ExprKind::Bool(value) => Ok(Expr::truth(marked(&of.mark, f), *value)),
+        ExprKind::Null => Ok(Expr::null(marked(&of.mark, f))),
+        ExprKind::This => Ok(Expr::this(marked(&of.mark, f))),
         ExprKind::Text(text) => {
             let text = Name::new(alloc, text.as_str())?;
-            Ok(Expr::string(mark, text))
+            Ok(Expr::string(marked(&of.mark, f), text))
         }
         ExprKind::Simple(name) => {
             let name = word(alloc, name, f)?;
-            Ok(Expr::simple(mark, name))
+            Ok(Expr::simple(marked(&of.mark, f), name))
         }
         ExprKind::SuperField(name) => {
             let name = word(alloc, name, f)?;
-            Ok(Expr::super_field(mark, name))
+            Ok(Expr::super_field(marked(&of.mark, f), name))
         }
-        ExprKind::ClassLit(of) => {
-            let of = ty(alloc, of, f)?;
-            Ok(Expr::class_literal(mark, of))
+        ExprKind::ClassLit(of_type) => {
+            let of_type = ty(alloc, of_type, f)?;
+            Ok(Expr::class_literal(marked(&of.mark, f), of_type))
         }
-        ExprKind::Field(of, name) => {
-            let of = Box::new(alloc, expr(alloc, of, f)?)?;
+        ExprKind::Field(part, name) => {
             let name = word(alloc, name, f)?;
-            Ok(Expr::field(mark, of, name))
+            let part = boxed(alloc, part, f)?;
+            Ok(Expr::field(marked(&of.mark, f), part, name))
         }
-        ExprKind::Call(target, name, args) => {
-            let name = word(alloc, name, f)?;
-            let args = exprs(alloc, args, f)?;
-            match target {
-                None => Ok(Expr::call(mark, name, args)),
-                Some(target) => {
-                    let target = Box::new(alloc, expr(alloc, target, f)?)?;
-                    Ok(Expr::call_on(mark, target, name, args))
-                }
-            }
-        }
+        ExprKind::Call(target, name, args) => call(alloc, &of.mark, target, name, args, f),
         ExprKind::SuperCall(name, args) => {
             let name = word(alloc, name, f)?;
             let args = exprs(alloc, args, f)?;
-            Ok(Expr::super_call(mark, name, args))
+            Ok(Expr::super_call(marked(&of.mark, f), name, args))
         }
-        ExprKind::New(of, args) => {
-            let of = ty(alloc, of, f)?;
+        ExprKind::New(made, args) => {
             let args = exprs(alloc, args, f)?;
-            Ok(Expr::create(mark, of, args))
+            let made = ty(alloc, made, f)?;
+            Ok(Expr::create(marked(&of.mark, f), made, args))
         }
-        ExprKind::Paren(of) => {
-            let of = Box::new(alloc, expr(alloc, of, f)?)?;
-            Ok(Expr::paren(mark, of))
+        ExprKind::Paren(part) => {
+            let part = boxed(alloc, part, f)?;
+            Ok(Expr::paren(marked(&of.mark, f), part))
         }
-        ExprKind::Cast(to, of) => {
+        ExprKind::Cast(to, part) => {
+            let part = boxed(alloc, part, f)?;
             let to = ty(alloc, to, f)?;
-            let of = Box::new(alloc, expr(alloc, of, f)?)?;
-            Ok(Expr::cast(mark, to, of))
+            Ok(Expr::cast(marked(&of.mark, f), to, part))
         }
-        ExprKind::Unary(op, of) => {
-            let of = Box::new(alloc, expr(alloc, of, f)?)?;
-            Ok(Expr::unary(mark, *op, of))
+        ExprKind::Unary(op, part) => {
+            let part = boxed(alloc, part, f)?;
+            Ok(Expr::unary(marked(&of.mark, f), *op, part))
         }
-        ExprKind::Bump(op, of) => {
-            let of = Box::new(alloc, expr(alloc, of, f)?)?;
-            Ok(Expr::bump(mark, *op, of))
+        ExprKind::Bump(op, part) => {
+            let part = boxed(alloc, part, f)?;
+            Ok(Expr::bump(marked(&of.mark, f), *op, part))
         }
         ExprKind::Binary(op, left, right) => {
-            let left = Box::new(alloc, expr(alloc, left, f)?)?;
-            let right = Box::new(alloc, expr(alloc, right, f)?)?;
-            Ok(Expr::binary(mark, *op, left, right))
+            let two = pair(alloc, left, right, f)?;
+            Ok(Expr::binary(marked(&of.mark, f), *op, two.0, two.1))
         }
         ExprKind::Assign(to, value) => {
-            let to = Box::new(alloc, expr(alloc, to, f)?)?;
-            let value = Box::new(alloc, expr(alloc, value, f)?)?;
-            Ok(Expr::assign(mark, to, value))
+            let two = pair(alloc, to, value, f)?;
+            Ok(Expr::assign(marked(&of.mark, f), two.0, two.1))
         }
         ExprKind::Compound(op, to, value) => {
-            let to = Box::new(alloc, expr(alloc, to, f)?)?;
-            let value = Box::new(alloc, expr(alloc, value, f)?)?;
-            Ok(Expr::compound(mark, *op, to, value))
+            let two = pair(alloc, to, value, f)?;
+            Ok(Expr::compound(marked(&of.mark, f), *op, two.0, two.1))
+        }
+    }
+}
+
+#[cycle(expr_marks)]
+fn boxed<A, B: Drop, F: Fn(&A) -> B>(
+    alloc: Global,
+    of: &Expr<A>,
+    f: &F,
+) -> Result<Box<Expr<B>>, AllocError>
+    requires { F.IsAlwaysCallable f.now }
+    ensures { IfOk result (λ x. same.SameExp (FnReturnsAt F.Fn f.now) (expr_of of.now) (expr_of x.value)) }
+{
+    Ok(Box::new(alloc, expr(alloc, of, f)?)?)
+}
+
+#[cycle(expr_marks)]
+fn pair<A, B: Drop, F: Fn(&A) -> B>(
+    alloc: Global,
+    left: &Expr<A>,
+    right: &Expr<A>,
+    f: &F,
+) -> Result<(Box<Expr<B>>, Box<Expr<B>>), AllocError>
+    requires { F.IsAlwaysCallable f.now }
+    ensures left { IfOk result (λ two. same.SameExp (FnReturnsAt F.Fn f.now) (expr_of left.now) (expr_of two.0.value)) }
+    ensures right { IfOk result (λ two. same.SameExp (FnReturnsAt F.Fn f.now) (expr_of right.now) (expr_of two.1.value)) }
+{
+    let left = boxed(alloc, left, f)?;
+    let right = boxed(alloc, right, f)?;
+    Ok((left, right))
+}
+
+#[cycle(expr_marks)]
+fn call<A, B: Drop, F: Fn(&A) -> B>(
+    alloc: Global,
+    mark: &A,
+    target: &Option<Box<Expr<A>>>,
+    name: &Ident<A>,
+    args: &[Expr<A>],
+    f: &F,
+) -> Result<Expr<B>, AllocError>
+    requires { F.IsAlwaysCallable f.now }
+    ensures { IfOk result (λ x. same.SameExp (FnReturnsAt F.Fn f.now) (tree.call mark.now (target_of target.now) (word_of name.now) (exprs_of args.now)) (expr_of x)) }
+{
+    let name = word(alloc, name, f)?;
+    let args = exprs(alloc, args, f)?;
+    match target {
+        None => Ok(Expr::call(marked(mark, f), name, args)),
+        Some(target) => {
+            let target = boxed(alloc, target, f)?;
+            Ok(Expr::call_on(marked(mark, f), target, name, args))
         }
     }
 }
@@ -115,4 +155,38 @@ pub(crate) fn exprs<A, B: Drop, F: Fn(&A) -> B>(
         copies.push(expr(alloc, part, f)?)?;
     }
     Ok(copies)
+}
+
+pub(crate) fn maybe_expr<A, B: Drop, F: Fn(&A) -> B>(
+    alloc: Global,
+    of: &Option<Expr<A>>,
+    f: &F,
+) -> Result<Option<Expr<B>>, AllocError>
+    requires { F.IsAlwaysCallable f.now }
+    ensures { IfOk result (λ x. same.SameMaybeExp (FnReturnsAt F.Fn f.now) (option_map expr_of of.now) (option_map expr_of x)) }
+{
+    match of {
+        None => Ok(None),
+        Some(of) => {
+            let copy = expr(alloc, of, f)?;
+            Ok(Some(copy))
+        }
+    }
+}
+
+pub(crate) fn maybe_args<A, B: Drop, F: Fn(&A) -> B>(
+    alloc: Global,
+    of: &Option<Vec<Expr<A>>>,
+    f: &F,
+) -> Result<Option<Vec<Expr<B>>>, AllocError>
+    requires { F.IsAlwaysCallable f.now }
+    ensures { IfOk result (λ x. same.SameMaybeExps (FnReturnsAt F.Fn f.now) (args_of of.now) (args_of x)) }
+{
+    match of {
+        None => Ok(None),
+        Some(of) => {
+            let copy = exprs(alloc, of, f)?;
+            Ok(Some(copy))
+        }
+    }
 }

@@ -36,27 +36,26 @@ pub(crate) fn ty<A, B: Drop, F: Fn(&A) -> B>(
     requires { F.IsAlwaysCallable f.now }
     ensures { IfOk result (λ t. same.SameType (FnReturnsAt F.Fn f.now) (type_of ty.now) (type_of t)) }
 {
-    let mark = marked(&ty.mark, f);
     match &ty.kind {
         TypeKind::Int => Ok(TypeRef {
-            mark,
+            mark: marked(&ty.mark, f),
             kind: TypeKind::Int,
         }),
         TypeKind::Boolean => Ok(TypeRef {
-            mark,
+            mark: marked(&ty.mark, f),
             kind: TypeKind::Boolean,
         }),
         TypeKind::Named(outer, name) => {
             let name = word(alloc, name, f)?;
             match outer {
                 None => Ok(TypeRef {
-                    mark,
+                    mark: marked(&ty.mark, f),
                     kind: TypeKind::Named(None, name),
                 }),
                 Some(outer) => {
                     let outer = word(alloc, outer, f)?;
                     Ok(TypeRef {
-                        mark,
+                        mark: marked(&ty.mark, f),
                         kind: TypeKind::Named(Some(outer), name),
                     })
                 }
@@ -73,9 +72,9 @@ pub(crate) fn param<A, B: Drop, F: Fn(&A) -> B>(
     requires { F.IsAlwaysCallable f.now }
     ensures { IfOk result (λ p. same.SameParam (FnReturnsAt F.Fn f.now) (param_of param.now) (param_of p)) }
 {
-    let mark = marked(&param.mark, f);
-    let ty = ty(alloc, &param.ty, f)?;
     let name = word(alloc, &param.name, f)?;
+    let ty = ty(alloc, &param.ty, f)?;
+    let mark = marked(&param.mark, f);
     Ok(Param {
         mark,
         is_final: param.is_final,

@@ -2,47 +2,93 @@
 ghost use Rattle.std.specs.Prelude.{IfOk, option_map, map};
 ghost use Rattle.std.specs.Fn.{FnReturnsAt};
 ghost use Rattle.jr_ast.specs.Remarked as same;
-ghost use Rattle.jr_ast.specs.View.{expr_of, args_of, class_of, member_of, members_of, unit_of};
+ghost use Rattle.jr_ast.specs.MemberTree as tree;
+ghost use Rattle.jr_ast.specs.View.{word_of, modifier_of, type_of, param_of, expr_of, args_of, stmts_of, class_of, member_of, members_of, unit_of};
 
-use crate::expr_marks::{expr, exprs};
+use crate::expr_marks::{maybe_args, maybe_expr};
 use crate::exprs::Expr;
 use crate::marks::{marked, maybe_ty, modifiers, params, ty, word, words};
 use crate::members::{Class, Member, MemberKind, Unit};
+use crate::names::Ident;
+use crate::parts::{Modifier, Param, TypeRef};
 use crate::stmt_marks::stmts;
+use crate::stmts::Stmt;
 use std::alloc::{AllocError, Global};
 
-fn maybe_expr<A, B: Drop, F: Fn(&A) -> B>(
+/// What a method and a constructor both have.
+fn signature<A, B: Drop, F: Fn(&A) -> B>(
     alloc: Global,
-    of: &Option<Expr<A>>,
+    words: &[Modifier<A>],
+    name: &Ident<A>,
+    list: &[Param<A>],
     f: &F,
-) -> Result<Option<Expr<B>>, AllocError>
+) -> Result<(Vec<Modifier<B>>, Ident<B>, Vec<Param<B>>), AllocError>
     requires { F.IsAlwaysCallable f.now }
-    ensures { IfOk result (λ x. same.SameMaybeExp (FnReturnsAt F.Fn f.now) (option_map expr_of of.now) (option_map expr_of x)) }
+    ensures words { IfOk result (λ all. same.SameModifiers (FnReturnsAt F.Fn f.now) (map modifier_of words.now) (map modifier_of all.0.items)) }
+    ensures name { IfOk result (λ all. same.SameWord (FnReturnsAt F.Fn f.now) (word_of name.now) (word_of all.1)) }
+    ensures list { IfOk result (λ all. same.SameParams (FnReturnsAt F.Fn f.now) (map param_of list.now) (map param_of all.2.items)) }
 {
-    match of {
-        None => Ok(None),
-        Some(of) => {
-            let copy = expr(alloc, of, f)?;
-            Ok(Some(copy))
-        }
-    }
+    let words = modifiers(alloc, words, f)?;
+    let name = word(alloc, name, f)?;
+    let list = params(alloc, list, f)?;
+    Ok((words, name, list))
 }
 
-fn maybe_args<A, B: Drop, F: Fn(&A) -> B>(
+fn field<A, B: Drop, F: Fn(&A) -> B>(
     alloc: Global,
-    of: &Option<Vec<Expr<A>>>,
+    mark: &A,
+    words: &[Modifier<A>],
+    kind: &TypeRef<A>,
+    name: &Ident<A>,
+    init: &Option<Expr<A>>,
     f: &F,
-) -> Result<Option<Vec<Expr<B>>>, AllocError>
+) -> Result<Member<B>, AllocError>
     requires { F.IsAlwaysCallable f.now }
-    ensures { IfOk result (λ x. same.SameMaybeExps (FnReturnsAt F.Fn f.now) (args_of of.now) (args_of x)) }
+    ensures { IfOk result (λ x. same.SameMember (FnReturnsAt F.Fn f.now) (tree.field mark.now (map modifier_of words.now) (type_of kind.now) (word_of name.now) (option_map expr_of init.now)) (member_of x)) }
 {
-    match of {
-        None => Ok(None),
-        Some(of) => {
-            let copy = exprs(alloc, of, f)?;
-            Ok(Some(copy))
-        }
-    }
+    let words = modifiers(alloc, words, f)?;
+    let name = word(alloc, name, f)?;
+    let kind = ty(alloc, kind, f)?;
+    let init = maybe_expr(alloc, init, f)?;
+    Ok(Member::field(marked(mark, f), words, kind, name, init))
+}
+
+fn method<A, B: Drop, F: Fn(&A) -> B>(
+    alloc: Global,
+    mark: &A,
+    words: &[Modifier<A>],
+    ret: &Option<TypeRef<A>>,
+    name: &Ident<A>,
+    list: &[Param<A>],
+    body: &[Stmt<A>],
+    f: &F,
+) -> Result<Member<B>, AllocError>
+    requires { F.IsAlwaysCallable f.now }
+    ensures { IfOk result (λ x. same.SameMember (FnReturnsAt F.Fn f.now) (tree.method mark.now (map modifier_of words.now) (option_map type_of ret.now) (word_of name.now) (map param_of list.now) (stmts_of body.now)) (member_of x)) }
+{
+    let head = signature(alloc, words, name, list, f)?;
+    let body = stmts(alloc, body, f)?;
+    let ret = maybe_ty(alloc, ret, f)?;
+    Ok(Member::method(marked(mark, f), head.0, ret, head.1, head.2, body))
+}
+
+fn ctor<A, B: Drop, F: Fn(&A) -> B>(
+    alloc: Global,
+    mark: &A,
+    words: &[Modifier<A>],
+    name: &Ident<A>,
+    list: &[Param<A>],
+    parent_args: &Option<Vec<Expr<A>>>,
+    body: &[Stmt<A>],
+    f: &F,
+) -> Result<Member<B>, AllocError>
+    requires { F.IsAlwaysCallable f.now }
+    ensures { IfOk result (λ x. same.SameMember (FnReturnsAt F.Fn f.now) (tree.constructor mark.now (map modifier_of words.now) (word_of name.now) (map param_of list.now) (args_of parent_args.now) (stmts_of body.now)) (member_of x)) }
+{
+    let head = signature(alloc, words, name, list, f)?;
+    let body = stmts(alloc, body, f)?;
+    let args = maybe_args(alloc, parent_args, f)?;
+    Ok(Member::ctor(marked(mark, f), head.0, head.1, head.2, args, body))
 }
 
 #[cycle(member_marks)]
@@ -54,51 +100,30 @@ pub(crate) fn member<A, B: Drop, F: Fn(&A) -> B>(
     requires { F.IsAlwaysCallable f.now }
     ensures { IfOk result (λ x. same.SameMember (FnReturnsAt F.Fn f.now) (member_of of.now) (member_of x)) }
 {
-    let mark = marked(&of.mark, f);
     match &of.kind {
         MemberKind::Field {
-            modifiers: words,
-            ty: kind,
+            modifiers,
+            ty,
             name,
             init,
-        } => {
-            let words = modifiers(alloc, words, f)?;
-            let kind = ty(alloc, kind, f)?;
-            let name = word(alloc, name, f)?;
-            let init = maybe_expr(alloc, init, f)?;
-            Ok(Member::field(mark, words, kind, name, init))
-        }
+        } => field(alloc, &of.mark, modifiers, ty, name, init, f),
         MemberKind::Method {
-            modifiers: words,
+            modifiers,
             ret,
             name,
-            params: list,
+            params,
             body,
-        } => {
-            let words = modifiers(alloc, words, f)?;
-            let ret = maybe_ty(alloc, ret, f)?;
-            let name = word(alloc, name, f)?;
-            let list = params(alloc, list, f)?;
-            let body = stmts(alloc, body, f)?;
-            Ok(Member::method(mark, words, ret, name, list, body))
-        }
+        } => method(alloc, &of.mark, modifiers, ret, name, params, body, f),
         MemberKind::Ctor {
-            modifiers: words,
+            modifiers,
             name,
-            params: list,
+            params,
             parent_args,
             body,
-        } => {
-            let words = modifiers(alloc, words, f)?;
-            let name = word(alloc, name, f)?;
-            let list = params(alloc, list, f)?;
-            let args = maybe_args(alloc, parent_args, f)?;
-            let body = stmts(alloc, body, f)?;
-            Ok(Member::ctor(mark, words, name, list, args, body))
-        }
+        } => ctor(alloc, &of.mark, modifiers, name, params, parent_args, body, f),
         MemberKind::Inner(inner) => {
             let inner = class(alloc, inner, f)?;
-            Ok(Member::inner(mark, inner))
+            Ok(Member::inner(marked(&of.mark, f), inner))
         }
     }
 }
@@ -112,12 +137,11 @@ pub(crate) fn class<A, B: Drop, F: Fn(&A) -> B>(
     requires { F.IsAlwaysCallable f.now }
     ensures { IfOk result (λ x. same.SameClass (FnReturnsAt F.Fn f.now) (class_of of.now) (class_of x)) }
 {
-    let mark = marked(&of.mark, f);
     let words = modifiers(alloc, &of.modifiers, f)?;
     let name = word(alloc, &of.name, f)?;
-    let parent = maybe_ty(alloc, &of.parent, f)?;
     let all = members(alloc, &of.members, f)?;
-    Ok(Class::new(mark, words, name, parent, all))
+    let parent = maybe_ty(alloc, &of.parent, f)?;
+    Ok(Class::new(marked(&of.mark, f), words, name, parent, all))
 }
 
 #[cycle(member_marks)]
@@ -159,10 +183,9 @@ fn unit<A, B: Drop, F: Fn(&A) -> B>(
     requires { F.IsAlwaysCallable f.now }
     ensures { IfOk result (λ x. same.SameUnit (FnReturnsAt F.Fn f.now) (unit_of of.now) (unit_of x)) }
 {
-    let mark = marked(&of.mark, f);
     let path = words(alloc, &of.package, f)?;
     let all = classes(alloc, &of.classes, f)?;
-    Ok(Unit::new(mark, path, all))
+    Ok(Unit::new(marked(&of.mark, f), path, all))
 }
 
 impl<A> Unit<A> {

@@ -44,11 +44,12 @@ fn method(alloc: Global) -> Result<Member<u32>, AllocError> {
         word: ModWord::Static,
     })?;
     let mut params = Vec::new(alloc);
+    let name = word(alloc, 25, "b")?;
     params.push(Param {
         mark: 23,
         is_final: false,
         ty: plain(24, TypeKind::Boolean),
-        name: word(alloc, 25, "b")?,
+        name,
     })?;
     let mut body = Vec::new(alloc);
     body.push(call(alloc)?)?;
@@ -58,11 +59,11 @@ fn method(alloc: Global) -> Result<Member<u32>, AllocError> {
 
 // `class A extends B { static void m(boolean b) { m(x + 1); } }`
 fn class(alloc: Global) -> Result<Class<u32>, AllocError> {
+    let mut members = Vec::new(alloc);
+    members.push(method(alloc)?)?;
     let name = word(alloc, 11, "A")?;
     let parent = word(alloc, 13, "B")?;
     let parent = plain(12, TypeKind::Named(None, parent));
-    let mut members = Vec::new(alloc);
-    members.push(method(alloc)?)?;
     Ok(Class::new(10, Vec::new(alloc), name, Some(parent), members))
 }
 
@@ -89,49 +90,55 @@ fn mark_of(node: &Node<'_, u32>) -> u32 {
     }
 }
 
-fn mark_at(alloc: Global, unit: &Unit<u32>, steps: &[u32]) -> Result<Option<u32>, AllocError> {
+// The marks of what the path leads to: of the node, and of it as an expression, a statement and a
+// member.
+type Marks = [Option<u32>; 4];
+
+fn from_unit(alloc: Global, unit: &Unit<u32>, steps: &[u32]) -> Result<Marks, AllocError> {
     let path = path(alloc, steps)?;
-    Ok(Node::Unit(unit).at(&path).map(|node| mark_of(&node)))
+    Ok([
+        Node::Unit(unit).at(&path).map(|node| mark_of(&node)),
+        unit.expr_at(&path).map(|expr| expr.mark),
+        unit.stmt_at(&path).map(|stmt| stmt.mark),
+        unit.member_at(&path).map(|member| member.mark),
+    ])
 }
 
-// Each kind of node is reached by a path, and what lies past a tree's edge is not.
+fn from_member(alloc: Global, member: &Member<u32>, steps: &[u32]) -> Result<Marks, AllocError> {
+    let path = path(alloc, steps)?;
+    Ok([
+        Node::Member(member).at(&path).map(|node| mark_of(&node)),
+        member.expr_at(&path).map(|expr| expr.mark),
+        member.stmt_at(&path).map(|stmt| stmt.mark),
+        None,
+    ])
+}
+
+// Each kind of node is reached by a path, and what lies past a tree's edge is not. A member is
+// where its own paths begin.
 #[test]
 fn paths_lead_to_nodes(rt: HostRuntime) -> Result<(), Fail> {
     let alloc = rt.alloc();
     let unit = unit(alloc)?;
-    let table: [(&[u32], Option<u32>); 14] = [
-        (&[], Some(1)),
-        (&[0], Some(2)),
-        (&[1], Some(10)),
-        (&[1, 0], Some(11)),
-        (&[1, 1, 0], Some(13)),
-        (&[1, 2], Some(20)),
-        (&[1, 2, 0], Some(21)),
-        (&[1, 2, 2, 0], Some(24)),
-        (&[1, 2, 3], Some(27)),
-        (&[1, 2, 3, 0, 1], Some(30)),
-        (&[1, 2, 3, 0, 1, 1], Some(33)),
-        (&[2], None),
-        (&[1, 2, 4], None),
-        (&[1, 2, 3, 0, 1, 1, 0], None),
+    let table: [(&[u32], Marks); 14] = [
+        (&[], [Some(1), None, None, None]),
+        (&[0], [Some(2), None, None, None]),
+        (&[1], [Some(10), None, None, None]),
+        (&[1, 0], [Some(11), None, None, None]),
+        (&[1, 1, 0], [Some(13), None, None, None]),
+        (&[1, 2], [Some(20), None, None, Some(20)]),
+        (&[1, 2, 0], [Some(21), None, None, None]),
+        (&[1, 2, 2, 0], [Some(24), None, None, None]),
+        (&[1, 2, 3], [Some(27), None, Some(27), None]),
+        (&[1, 2, 3, 0, 1], [Some(30), Some(30), None, None]),
+        (&[1, 2, 3, 0, 1, 1], [Some(33), Some(33), None, None]),
+        (&[2], [None, None, None, None]),
+        (&[1, 2, 4], [None, None, None, None]),
+        (&[1, 2, 3, 0, 1, 1, 0], [None, None, None, None]),
     ];
     for (steps, want) in table {
-        assert_eq!(rt; mark_at(alloc, &unit, steps)?, want);
+        assert_eq!(rt; from_unit(alloc, &unit, steps)?, want);
     }
-    Ok(())
-}
-
-#[test]
-fn path_calls_answer_by_kind(rt: HostRuntime) -> Result<(), Fail> {
-    let alloc = rt.alloc();
-    let unit = unit(alloc)?;
-    let to_member = path(alloc, &[1, 2])?;
-    let to_stmt = path(alloc, &[1, 2, 3])?;
-    let to_expr = path(alloc, &[1, 2, 3, 0])?;
-    assert_eq!(rt; unit.member_at(&to_member).map(|m| m.mark), Some(20));
-    assert_eq!(rt; unit.stmt_at(&to_stmt).map(|s| s.mark), Some(27));
-    assert_eq!(rt; unit.expr_at(&to_expr).map(|e| e.mark), Some(28));
-    assert_eq!(rt; unit.expr_at(&to_stmt).map(|e| e.mark), None);
     Ok(())
 }
 
@@ -139,22 +146,27 @@ fn path_calls_answer_by_kind(rt: HostRuntime) -> Result<(), Fail> {
 fn a_member_is_where_its_paths_begin(rt: HostRuntime) -> Result<(), Fail> {
     let alloc = rt.alloc();
     let member = method(alloc)?;
-    let to_stmt = path(alloc, &[3])?;
-    let to_expr = path(alloc, &[3, 0, 1])?;
-    assert_eq!(rt; member.stmt_at(&to_stmt).map(|s| s.mark), Some(27));
-    assert_eq!(rt; member.expr_at(&to_expr).map(|e| e.mark), Some(30));
-    assert_eq!(rt; member.stmt_at(&to_expr).map(|s| s.mark), None);
+    let table: [(&[u32], Marks); 3] = [
+        (&[3], [Some(27), None, Some(27), None]),
+        (&[3, 0], [Some(28), Some(28), None, None]),
+        (&[3, 0, 1], [Some(30), Some(30), None, None]),
+    ];
+    for (steps, want) in table {
+        assert_eq!(rt; from_member(alloc, &member, steps)?, want);
+    }
     Ok(())
 }
 
 #[test]
 fn marks_are_made_anew(rt: HostRuntime) -> Result<(), Fail> {
     let alloc = rt.alloc();
-    let unit = unit(alloc)?;
-    let copy = unit.with_marks(alloc, |mark| *mark ^ 64)?;
-    let table: [(&[u32], u32); 2] = [(&[1, 1, 0], 77), (&[1, 2, 3, 0, 1, 1], 97)];
+    let copy = unit(alloc)?.with_marks(alloc, |mark| *mark ^ 64)?;
+    let table: [(&[u32], Marks); 2] = [
+        (&[1, 1, 0], [Some(77), None, None, None]),
+        (&[1, 2, 3, 0, 1, 1], [Some(97), Some(97), None, None]),
+    ];
     for (steps, want) in table {
-        assert_eq!(rt; mark_at(alloc, &copy, steps)?, Some(want));
+        assert_eq!(rt; from_unit(alloc, &copy, steps)?, want);
     }
     Ok(())
 }

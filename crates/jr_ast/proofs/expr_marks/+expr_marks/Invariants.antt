@@ -1,16 +1,25 @@
 use Rattle.std.proofs.Common.{ℕ, ◌+◌, ◌*◌, ◌≡◌, take, map, Option}
 use Rattle.std.specs.Fn.{FnReturnsAt}
 use Rattle.jr_ast.specs.Tree.{Exp}
-use Rattle.jr_ast.specs.View.{expr_of, exprs_of}
+use Rattle.jr_ast.specs.View.{expr_of, exprs_of, target_of}
 use Rattle.jr_ast.specs.Remarked as same
-use Rattle.jr_ast.proofs.Sizes.{exp_size, exps_size}
+use Rattle.jr_ast.proofs.Sizes.{exp_size, exps_size, target_size}
 use Rattle.jr_ast.proofs.expr_marks.+expr_marks.Given as goal
 
 abbrev pub decreases-expr : goal.decreases-expr
-decreases-expr g l = 2 * exp_size (expr_of l.of.now)
+decreases-expr g l = 3 * exp_size (expr_of l.of.now)
+
+abbrev pub decreases-boxed : goal.decreases-boxed
+decreases-boxed g l = 3 * exp_size (expr_of l.of.now) + 1
+
+abbrev pub decreases-pair : goal.decreases-pair
+decreases-pair g l = 3 * (exp_size (expr_of l.left.now) + exp_size (expr_of l.right.now)) + 2
+
+abbrev pub decreases-call : goal.decreases-call
+decreases-call g l = 3 * (target_size (target_of l.target.now) + exps_size (exprs_of l.args.now)) + 2
 
 abbrev pub decreases-exprs : goal.decreases-exprs
-decreases-exprs g l = 2 * exps_size (exprs_of l.parts.now) + 1
+decreases-exprs g l = 3 * exps_size (exprs_of l.parts.now) + 1
 
 -- the copies so far are those of the parts so far
 abbrev pub invariant-exprs-loop-part : goal.invariant-exprs-loop-part

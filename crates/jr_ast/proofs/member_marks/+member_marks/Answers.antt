@@ -1,7 +1,9 @@
-use Rattle.std.proofs.Common.{ℕ, suc, ◌+◌, ◌*◌, ◌≡◌, ◌<◌, List, map, refl, ap, sym, ◌∙◌}
+use Rattle.std.proofs.Common.{ℕ, suc, ◌+◌, ◌*◌, ◌≡◌, ◌<◌, List, map, refl, ap, sym, ◌∙◌, subst, option_map}
+use Rattle.std.specs.Result.{IfOk}
+use Rattle.std.specs.Fn.{FnReturnsAt}
 use Rattle.jr_ast.specs.declared.members.Class.{out-Class}
 use Rattle.jr_ast.specs.MemberTree as tree
-use Rattle.jr_ast.specs.View.{modifier_of, param_of, stmts_of, member_of, members_of, member_kind, member_row, class_of}
+use Rattle.jr_ast.specs.View.{word_of, type_of, expr_of, args_of, modifier_of, param_of, stmts_of, member_of, members_of, member_kind, member_row, class_of}
 use Rattle.jr_ast.specs.Remarked as same
 use Rattle.jr_ast.proofs.Rows.{class_of-out}
 use Rattle.jr_ast.proofs.Sizes.{member_size, members_size, class_size}
@@ -21,53 +23,45 @@ class-members-requires g t c =
     let whole = class_size (class_of c.args.of.now) in
     λ κs o. (falls_whole_row (λ xs. members_size (members_of xs)) whole (out-Class _ c.args.of.now).members.items c.deref-2.result.now t c.deref-2.ensures.value (ap class_size (class_of-out _ c.args.of.now)) c.decreases, (o.0, (o.1.0, (o.1.1, c.requires))))
 
-pub member-returns-in_ok-init-in-Field : goal.member-returns-in_ok-init-in-Field
-unfolding same.map_member same.map_members same.map_class member_kind member_row class_of
-member-returns-in_ok-init-in-Field g t c = λ h k agree.
+pub member-returns-in-Field : goal.member-returns-in-Field
+unfolding member_kind member_row class_of
+member-returns-in-Field g t c =
+    let at = c.in-Field in
     let m = c.args.of.now.mark in
-    let mark = mark_agrees agree c.marked-mark.ensures in
-    let words = c.in_ok-words-in-Field.ensures h k agree ∙ ap (λ xs. map (same.map_modifier k) (map modifier_of xs)) c.deref.ensures.value in
-    let kind = c.in_ok-kind-in-Field.ensures h k agree in
-    let name = c.in_ok-name-in-Field.ensures h k agree in
-    let init = c.in_ok-init-in-Field.ensures h k agree in
-    ap (same.map_member h) c.field.ensures ∙ (λ i. tree.field (mark i) (words i) (kind i) (name i) (init i)) ∙ sym (ap (λ d. same.map_member k (member_kind m d)) c.in-Field.is)
+    subst (λ (e : tree.Member g.row.A.Denot). IfOk c.field.result (λ x. same.SameMember (FnReturnsAt g.F.Fn c.args.f.now) e (member_of x)))
+        ((λ i. tree.field m (map modifier_of (c.deref.ensures.value i)) (type_of at.ty) (word_of at.name) (option_map expr_of at.init)) ∙ sym (ap (member_kind m) at.is))
+        c.field.ensures
 
-pub member-returns-in_ok-body-in-Method : goal.member-returns-in_ok-body-in-Method
-unfolding same.map_member same.map_members same.map_class member_kind member_row class_of
-member-returns-in_ok-body-in-Method g t c = λ h k agree.
+pub member-returns-in-Method : goal.member-returns-in-Method
+unfolding member_kind member_row class_of
+member-returns-in-Method g t c =
+    let at = c.in-Method in
     let m = c.args.of.now.mark in
-    let mark = mark_agrees agree c.marked-mark.ensures in
-    let words = c.in_ok-words-in-Method.ensures h k agree ∙ ap (λ xs. map (same.map_modifier k) (map modifier_of xs)) c.deref-in-Method.ensures.value in
-    let ret = c.in_ok-ret-in-Method.ensures h k agree in
-    let name = c.in_ok-name-in-Method.ensures h k agree in
-    let list = c.in_ok-list-in-Method.ensures h k agree ∙ ap (λ xs. map (same.map_param k) (map param_of xs)) c.deref-in-Method-2.ensures.value in
-    let body = c.in_ok-body-in-Method.ensures h k agree ∙ ap (λ xs. same.map_stmts k (stmts_of xs)) c.deref-in-Method-3.ensures.value in
-    ap (same.map_member h) c.method.ensures ∙ (λ i. tree.method (mark i) (words i) (ret i) (name i) (list i) (body i)) ∙ sym (ap (λ d. same.map_member k (member_kind m d)) c.in-Method.is)
+    subst (λ (e : tree.Member g.row.A.Denot). IfOk c.method.result (λ x. same.SameMember (FnReturnsAt g.F.Fn c.args.f.now) e (member_of x)))
+        ((λ i. tree.method m (map modifier_of (c.deref-in-Method.ensures.value i)) (option_map type_of at.ret) (word_of at.name) (map param_of (c.deref-in-Method-2.ensures.value i)) (stmts_of (c.deref-in-Method-3.ensures.value i))) ∙ sym (ap (member_kind m) at.is))
+        c.method.ensures
 
-pub member-returns-in_ok-body-in-Ctor : goal.member-returns-in_ok-body-in-Ctor
-unfolding same.map_member same.map_members same.map_class member_kind member_row class_of
-member-returns-in_ok-body-in-Ctor g t c = λ h k agree.
+pub member-returns-in-Ctor : goal.member-returns-in-Ctor
+unfolding member_kind member_row class_of
+member-returns-in-Ctor g t c =
+    let at = c.in-Ctor in
     let m = c.args.of.now.mark in
-    let mark = mark_agrees agree c.marked-mark.ensures in
-    let words = c.in_ok-words-in-Ctor.ensures h k agree ∙ ap (λ xs. map (same.map_modifier k) (map modifier_of xs)) c.deref-in-Ctor.ensures.value in
-    let name = c.in_ok-name-in-Ctor.ensures h k agree in
-    let list = c.in_ok-list-in-Ctor.ensures h k agree ∙ ap (λ xs. map (same.map_param k) (map param_of xs)) c.deref-in-Ctor-2.ensures.value in
-    let args = c.in_ok-args-in-Ctor.ensures h k agree in
-    let body = c.in_ok-body-in-Ctor.ensures h k agree ∙ ap (λ xs. same.map_stmts k (stmts_of xs)) c.deref-in-Ctor-3.ensures.value in
-    ap (same.map_member h) c.ctor.ensures ∙ (λ i. tree.constructor (mark i) (words i) (name i) (list i) (args i) (body i)) ∙ sym (ap (λ d. same.map_member k (member_kind m d)) c.in-Ctor.is)
+    subst (λ (e : tree.Member g.row.A.Denot). IfOk c.ctor.result (λ x. same.SameMember (FnReturnsAt g.F.Fn c.args.f.now) e (member_of x)))
+        ((λ i. tree.constructor m (map modifier_of (c.deref-in-Ctor.ensures.value i)) (word_of at.name) (map param_of (c.deref-in-Ctor-2.ensures.value i)) (args_of at.parent_args) (stmts_of (c.deref-in-Ctor-3.ensures.value i))) ∙ sym (ap (member_kind m) at.is))
+        c.ctor.ensures
 
 pub member-returns-in_ok-inner-in-Inner : goal.member-returns-in_ok-inner-in-Inner
 unfolding same.map_member same.map_members same.map_class member_kind member_row class_of
 member-returns-in_ok-inner-in-Inner g t c = λ h k agree.
     let m = c.args.of.now.mark in
-    let mark = mark_agrees agree c.marked-mark.ensures in
+    let mark = mark_agrees agree c.marked.ensures in
     let inner = c.in_ok-inner-in-Inner.ensures h k agree in
     ap (same.map_member h) c.inner.ensures ∙ (λ i. tree.inner (mark i) (inner i)) ∙ sym (ap (λ d. same.map_member k (member_kind m d)) c.in-Inner.is)
 
 pub class-returns : goal.class-returns
 unfolding same.map_member same.map_members same.map_class
 class-returns g t c = λ h k agree.
-    let mark = mark_agrees agree c.marked-mark.ensures in
+    let mark = mark_agrees agree c.marked.ensures in
     let words = c.in_ok-words.ensures h k agree ∙ ap (λ xs. map (same.map_modifier k) (map modifier_of xs)) c.deref.ensures.value in
     let name = c.in_ok-name.ensures h k agree in
     let parent = c.in_ok-parent.ensures h k agree in

@@ -6,13 +6,13 @@ use Rattle.jr_ast.proofs.Sizes.{member_size, class_size, members_size}
 use Rattle.jr_ast.proofs.member_marks.+member_marks.Given as goal
 
 abbrev pub decreases-member : goal.decreases-member
-decreases-member g l = 2 * member_size (member_of l.of.now)
+decreases-member g l = 3 * member_size (member_of l.of.now)
 
 abbrev pub decreases-class : goal.decreases-class
-decreases-class g l = 2 * class_size (class_of l.of.now)
+decreases-class g l = 3 * class_size (class_of l.of.now)
 
 abbrev pub decreases-members : goal.decreases-members
-decreases-members g l = 2 * members_size (members_of l.parts.now) + 1
+decreases-members g l = 3 * members_size (members_of l.parts.now) + 1
 
 -- the copies so far are those of the parts so far
 abbrev pub invariant-members-loop-part : goal.invariant-members-loop-part

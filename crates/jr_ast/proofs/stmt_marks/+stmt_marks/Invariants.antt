@@ -1,15 +1,21 @@
 use Rattle.std.proofs.Common.{ℕ, ◌+◌, ◌*◌, ◌≡◌, take, map, Option}
 use Rattle.std.specs.Fn.{FnReturnsAt}
-use Rattle.jr_ast.specs.View.{stmt_of, stmts_of}
+use Rattle.jr_ast.specs.View.{stmt_of, stmts_of, else_of}
 use Rattle.jr_ast.specs.Remarked as same
-use Rattle.jr_ast.proofs.Sizes.{stmt_size, stmts_size}
+use Rattle.jr_ast.proofs.Sizes.{stmt_size, stmts_size, else_size}
 use Rattle.jr_ast.proofs.stmt_marks.+stmt_marks.Given as goal
 
 abbrev pub decreases-stmt : goal.decreases-stmt
-decreases-stmt g l = 2 * stmt_size (stmt_of l.of.now)
+decreases-stmt g l = 3 * stmt_size (stmt_of l.of.now)
+
+abbrev pub decreases-boxed : goal.decreases-boxed
+decreases-boxed g l = 3 * stmt_size (stmt_of l.of.now) + 1
+
+abbrev pub decreases-maybe_boxed : goal.decreases-maybe_boxed
+decreases-maybe_boxed g l = 3 * else_size (else_of l.of.now) + 2
 
 abbrev pub decreases-stmts : goal.decreases-stmts
-decreases-stmts g l = 2 * stmts_size (stmts_of l.parts.now) + 1
+decreases-stmts g l = 3 * stmts_size (stmts_of l.parts.now) + 1
 
 -- the copies so far are those of the parts so far
 abbrev pub invariant-stmts-loop-part : goal.invariant-stmts-loop-part

@@ -1,7 +1,7 @@
 use Rattle.std.proofs.Common.{Some, option_map, ap, sym, ◌∙◌}
 use Rattle.jr_ast.specs.View.{exprs_of, args_of}
 use Rattle.jr_ast.specs.Remarked as same
-use Rattle.jr_ast.proofs.member_marks.maybe_args.Goals as goal
+use Rattle.jr_ast.proofs.expr_marks.maybe_args.Goals as goal
 
 pub returns-in-None : goal.returns-in-None
 returns-in-None g c = λ h k agree. sym (ap (λ o. option_map (same.map_exps k) (args_of o)) c.in-None.is)

@@ -1,0 +1,16 @@
+use Rattle.std.proofs.Common.{ap, ◌∙◌}
+use Rattle.jr_ast.specs.MemberTree as tree
+use Rattle.jr_ast.specs.Remarked as same
+use Rattle.jr_ast.proofs.Marking.{mark_agrees}
+use Rattle.jr_ast.proofs.member_marks.ctor.Goals as goal
+
+pub returns : goal.returns
+unfolding same.map_member same.map_members same.map_class
+returns g c = λ h k agree.
+    let mark = mark_agrees agree c.marked.ensures in
+    let words = c.in_ok-head.ensures.words h k agree in
+    let name = c.in_ok-head.ensures.name h k agree in
+    let list = c.in_ok-head.ensures.list h k agree in
+    let args = c.in_ok-args.ensures h k agree in
+    let body = c.in_ok-body.ensures h k agree in
+    ap (same.map_member h) c.ctor.ensures ∙ (λ i. tree.constructor (mark i) (words i) (name i) (list i) (args i) (body i))

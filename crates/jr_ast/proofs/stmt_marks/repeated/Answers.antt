@@ -1,0 +1,13 @@
+use Rattle.std.proofs.Common.{ap, sym, ◌∙◌}
+use Rattle.jr_ast.specs.StatementTree as tree
+use Rattle.jr_ast.specs.View.{else_of}
+use Rattle.jr_ast.specs.Remarked as same
+use Rattle.jr_ast.proofs.Marking.{mark_agrees}
+use Rattle.jr_ast.proofs.stmt_marks.repeated.Goals as goal
+
+pub returns : goal.returns
+unfolding same.map_stmt same.map_stmts same.map_else
+returns g c = λ t body h k agree.
+    let mark = mark_agrees agree c.marked.ensures in
+    let condition = c.in_ok-condition.ensures h k agree in
+    ap (same.map_stmt h) c.while_loop.ensures ∙ (λ i. tree.loop (mark i) (condition i) (body h k agree i))
