@@ -1,20 +1,16 @@
 -- Copies with other marks.
-use Rattle.std.proofs.Common.{◌≡◌, ℕ, zero, suc, ◌+◌, ◌*◌, ◌<◌, ◌≤◌, List, [], ◌∷◌, ◌++◌, length, get_or, take, drop, map, Option, None, Some, Vec, Global, refl, sym, ap, ◌∙◌, arith, add-one}
+use Rattle.std.proofs.Common.{◌≡◌, ℕ, zero, suc, ◌+◌, ◌*◌, ◌<◌, ◌≤◌, List, [], ◌∷◌, ◌++◌, length, get_or, take, map, refl, sym, ap, ◌∙◌, arith}
 use Rattle.std.proofs.lemmas.List.{take_more, take_all, map-append}
-use Rattle.std.specs.declared.boxed.Box.{Box}
-use Rattle.jr_ast.specs.declared.names.Ident.{Ident}
 use Rattle.jr_ast.specs.declared.exprs.Expr.{Expr}
-use Rattle.jr_ast.specs.declared.exprs.ExprKind.{Call}
 use Rattle.jr_ast.specs.declared.stmts.Stmt.{Stmt}
 use Rattle.jr_ast.specs.declared.members.Member.{Member}
 use Rattle.jr_ast.proofs.Seeking.{map-map}
 use Rattle.jr_ast.specs.Tree as tree
 use Rattle.jr_ast.specs.StatementTree as statement
 use Rattle.jr_ast.specs.MemberTree as member
-use Rattle.jr_ast.specs.View.{expr_of, exprs_of, expr_kind, stmt_of, stmts_of, member_of, members_of}
+use Rattle.jr_ast.specs.View.{expr_of, exprs_of, stmt_of, stmts_of, member_of, members_of}
 use Rattle.jr_ast.specs.Remarked.{Agree, map_exp, map_exps, map_target, map_stmt, map_stmts, map_else, map_member, map_members, map_class}
 use Rattle.jr_ast.proofs.Sizes.{exp_size, exps_size, target_size, stmt_size, stmts_size, else_size, member_size, members_size, class_size}
-use Rattle.jr_ast.proofs.Rows.{expr_kind-Call, expr_kind-Call_on}
 
 pub mark_agrees : {A B C : Type 0} {R : A → B → Type 0} {h : B → C} {k : A → C} {a : A} {b : B} → Agree R h k → R a b → h b ≡ k a
 mark_agrees {a = a} {b = b} agree r = agree a b r

@@ -120,7 +120,16 @@ pub(crate) fn member<A, B: Drop, F: Fn(&A) -> B>(
             params,
             parent_args,
             body,
-        } => ctor(alloc, &of.mark, modifiers, name, params, parent_args, body, f),
+        } => ctor(
+            alloc,
+            &of.mark,
+            modifiers,
+            name,
+            params,
+            parent_args,
+            body,
+            f,
+        ),
         MemberKind::Inner(inner) => {
             let inner = class(alloc, inner, f)?;
             Ok(Member::inner(marked(&of.mark, f), inner))

@@ -145,7 +145,7 @@ fn paths_lead_to_nodes(rt: HostRuntime) -> Result<(), Fail> {
 #[test]
 fn a_member_is_where_its_paths_begin(rt: HostRuntime) -> Result<(), Fail> {
     let alloc = rt.alloc();
-    let member = method(alloc)?;
+    let member = Box::new(alloc, method(alloc)?)?;
     let table: [(&[u32], Marks); 3] = [
         (&[3], [Some(27), None, Some(27), None]),
         (&[3, 0], [Some(28), Some(28), None, None]),

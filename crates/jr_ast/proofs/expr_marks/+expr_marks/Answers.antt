@@ -1,12 +1,12 @@
-use Rattle.std.proofs.Common.{ℕ, suc, ◌+◌, ◌*◌, ◌≡◌, ◌<◌, List, None, Some, refl, ap, sym, ◌∙◌, subst}
+use Rattle.std.proofs.Common.{ap, sym, ◌∙◌, subst}
 use Rattle.std.specs.Result.{IfOk}
 use Rattle.std.specs.Fn.{FnReturnsAt}
 use Rattle.jr_ast.specs.Tree as tree
-use Rattle.jr_ast.specs.View.{expr_of, exprs_of, target_of, expr_kind, expr_row, held_target, word_of, type_of}
+use Rattle.jr_ast.specs.View.{expr_of, exprs_of, target_of, expr_kind, expr_row, held_target, word_of}
 use Rattle.jr_ast.specs.Remarked as same
 use Rattle.jr_ast.proofs.Rows.{expr_kind-Call_to, expr_kind-SuperCall, expr_kind-New}
 use Rattle.jr_ast.proofs.Sizes.{exp_size, exps_size, target_size}
-use Rattle.jr_ast.proofs.Marking.{mark_agrees, kept, none_yet, one_more, all_done, falls_whole_row, falls_box, falls_first, falls_second, falls_target, falls_pair, falls_call, falls_item, same_rows, exps_add}
+use Rattle.jr_ast.proofs.Marking.{mark_agrees, none_yet, one_more, all_done, falls_whole_row, falls_box, falls_first, falls_second, falls_target, falls_pair, falls_call, falls_item, same_rows, exps_add}
 use Rattle.jr_ast.proofs.expr_marks.+expr_marks.Goals as goal
 
 pub expr-boxed-requires : goal.expr-boxed-requires
@@ -239,8 +239,8 @@ expr-returns-in-Call g t c =
     let at = c.in-Call in
     let m = c.args.of.now.mark in
     subst (λ (e : tree.Exp g.row.A.Denot). IfOk c.call.result (λ x. same.SameExp (FnReturnsAt g.F.Fn c.args.f.now) e (expr_of x)))
-        (ap (λ xs. tree.call m (target_of at.target) (word_of at.name) (exprs_of xs)) c.deref-in-Call.ensures.value ∙ sym (ap (expr_kind m) at.is ∙ expr_kind-Call_to _ m at.target at.name at.args))
-        c.call.ensures
+    (ap (λ xs. tree.call m (target_of at.target) (word_of at.name) (exprs_of xs)) c.deref-in-Call.ensures.value ∙ sym (ap (expr_kind m) at.is ∙ expr_kind-Call_to _ m at.target at.name at.args))
+    c.call.ensures
 
 pub boxed-expr-requires : goal.boxed-expr-requires
 boxed-expr-requires g t c = λ κs o. (falls_box (exp_size (expr_of c.args.of.now)) t c.decreases, (o.0, (o.1.0, (o.1.1, c.requires))))

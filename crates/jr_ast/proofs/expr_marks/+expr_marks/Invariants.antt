@@ -1,6 +1,5 @@
-use Rattle.std.proofs.Common.{ℕ, ◌+◌, ◌*◌, ◌≡◌, take, map, Option}
+use Rattle.std.proofs.Common.{◌+◌, ◌*◌, ◌≡◌, take, map, Option}
 use Rattle.std.specs.Fn.{FnReturnsAt}
-use Rattle.jr_ast.specs.Tree.{Exp}
 use Rattle.jr_ast.specs.View.{expr_of, exprs_of, target_of}
 use Rattle.jr_ast.specs.Remarked as same
 use Rattle.jr_ast.proofs.Sizes.{exp_size, exps_size, target_size}

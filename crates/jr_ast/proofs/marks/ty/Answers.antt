@@ -1,4 +1,4 @@
-use Rattle.std.proofs.Common.{ap, sym, ◌∙◌, None, Some, option_map}
+use Rattle.std.proofs.Common.{ap, sym, ◌∙◌, None, Some}
 use Rattle.jr_ast.specs.declared.parts.TypeKind.TheVariants.{Named}
 use Rattle.jr_ast.specs.Tree as tree
 use Rattle.jr_ast.specs.View.{type_kind}

@@ -1,4 +1,4 @@
-use Rattle.std.proofs.Common.{ℕ, suc, ◌+◌, ◌*◌, ◌≡◌, ◌<◌, List, map, refl, ap, sym, ◌∙◌, subst, option_map}
+use Rattle.std.proofs.Common.{map, refl, ap, sym, ◌∙◌, subst, option_map}
 use Rattle.std.specs.Result.{IfOk}
 use Rattle.std.specs.Fn.{FnReturnsAt}
 use Rattle.jr_ast.specs.declared.members.Class.{out-Class}
@@ -29,8 +29,8 @@ member-returns-in-Field g t c =
     let at = c.in-Field in
     let m = c.args.of.now.mark in
     subst (λ (e : tree.Member g.row.A.Denot). IfOk c.field.result (λ x. same.SameMember (FnReturnsAt g.F.Fn c.args.f.now) e (member_of x)))
-        ((λ i. tree.field m (map modifier_of (c.deref.ensures.value i)) (type_of at.ty) (word_of at.name) (option_map expr_of at.init)) ∙ sym (ap (member_kind m) at.is))
-        c.field.ensures
+    ((λ i. tree.field m (map modifier_of (c.deref.ensures.value i)) (type_of at.ty) (word_of at.name) (option_map expr_of at.init)) ∙ sym (ap (member_kind m) at.is))
+    c.field.ensures
 
 pub member-returns-in-Method : goal.member-returns-in-Method
 unfolding member_kind member_row class_of
@@ -38,8 +38,8 @@ member-returns-in-Method g t c =
     let at = c.in-Method in
     let m = c.args.of.now.mark in
     subst (λ (e : tree.Member g.row.A.Denot). IfOk c.method.result (λ x. same.SameMember (FnReturnsAt g.F.Fn c.args.f.now) e (member_of x)))
-        ((λ i. tree.method m (map modifier_of (c.deref-in-Method.ensures.value i)) (option_map type_of at.ret) (word_of at.name) (map param_of (c.deref-in-Method-2.ensures.value i)) (stmts_of (c.deref-in-Method-3.ensures.value i))) ∙ sym (ap (member_kind m) at.is))
-        c.method.ensures
+    ((λ i. tree.method m (map modifier_of (c.deref-in-Method.ensures.value i)) (option_map type_of at.ret) (word_of at.name) (map param_of (c.deref-in-Method-2.ensures.value i)) (stmts_of (c.deref-in-Method-3.ensures.value i))) ∙ sym (ap (member_kind m) at.is))
+    c.method.ensures
 
 pub member-returns-in-Ctor : goal.member-returns-in-Ctor
 unfolding member_kind member_row class_of
@@ -47,8 +47,8 @@ member-returns-in-Ctor g t c =
     let at = c.in-Ctor in
     let m = c.args.of.now.mark in
     subst (λ (e : tree.Member g.row.A.Denot). IfOk c.ctor.result (λ x. same.SameMember (FnReturnsAt g.F.Fn c.args.f.now) e (member_of x)))
-        ((λ i. tree.constructor m (map modifier_of (c.deref-in-Ctor.ensures.value i)) (word_of at.name) (map param_of (c.deref-in-Ctor-2.ensures.value i)) (args_of at.parent_args) (stmts_of (c.deref-in-Ctor-3.ensures.value i))) ∙ sym (ap (member_kind m) at.is))
-        c.ctor.ensures
+    ((λ i. tree.constructor m (map modifier_of (c.deref-in-Ctor.ensures.value i)) (word_of at.name) (map param_of (c.deref-in-Ctor-2.ensures.value i)) (args_of at.parent_args) (stmts_of (c.deref-in-Ctor-3.ensures.value i))) ∙ sym (ap (member_kind m) at.is))
+    c.ctor.ensures
 
 pub member-returns-in_ok-inner-in-Inner : goal.member-returns-in_ok-inner-in-Inner
 unfolding same.map_member same.map_members same.map_class member_kind member_row class_of

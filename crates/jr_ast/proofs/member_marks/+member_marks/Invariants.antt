@@ -1,4 +1,4 @@
-use Rattle.std.proofs.Common.{ℕ, ◌+◌, ◌*◌, ◌≡◌, take, map, Option}
+use Rattle.std.proofs.Common.{◌+◌, ◌*◌, ◌≡◌, take, map, Option}
 use Rattle.std.specs.Fn.{FnReturnsAt}
 use Rattle.jr_ast.specs.View.{class_of, member_of, members_of}
 use Rattle.jr_ast.specs.Remarked as same

@@ -1,4 +1,4 @@
-use Rattle.std.proofs.Common.{ℕ, suc, ◌+◌, ◌*◌, ◌≡◌, ◌<◌, List, None, Some, refl, ap, sym, ◌∙◌, subst}
+use Rattle.std.proofs.Common.{ap, sym, ◌∙◌, subst}
 use Rattle.std.specs.Result.{IfOk}
 use Rattle.std.specs.Fn.{FnReturnsAt}
 use Rattle.jr_ast.specs.StatementTree as tree
@@ -36,8 +36,8 @@ stmt-returns-in-Local g t c =
     let at = c.in-Local in
     let m = c.args.of.now.mark in
     subst (λ (e : tree.Stmt g.row.A.Denot). IfOk c.local.result (λ x. same.SameStmt (FnReturnsAt g.F.Fn c.args.f.now) e (stmt_of x)))
-        (sym (ap (stmt_kind m) at.is))
-        c.local.ensures
+    (sym (ap (stmt_kind m) at.is))
+    c.local.ensures
 
 pub stmt-returns-in-Eval : goal.stmt-returns-in-Eval
 unfolding stmt_kind stmt_row held_else
@@ -45,8 +45,8 @@ stmt-returns-in-Eval g t c =
     let at = c.in-Eval in
     let m = c.args.of.now.mark in
     subst (λ (e : tree.Stmt g.row.A.Denot). IfOk c.eval.result (λ x. same.SameStmt (FnReturnsAt g.F.Fn c.args.f.now) e (stmt_of x)))
-        (sym (ap (stmt_kind m) at.is))
-        c.eval.ensures
+    (sym (ap (stmt_kind m) at.is))
+    c.eval.ensures
 
 pub stmt-returns-in-Return : goal.stmt-returns-in-Return
 unfolding stmt_kind stmt_row held_else
@@ -54,8 +54,8 @@ stmt-returns-in-Return g t c =
     let at = c.in-Return in
     let m = c.args.of.now.mark in
     subst (λ (e : tree.Stmt g.row.A.Denot). IfOk c.returned.result (λ x. same.SameStmt (FnReturnsAt g.F.Fn c.args.f.now) e (stmt_of x)))
-        (sym (ap (stmt_kind m) at.is))
-        c.returned.ensures
+    (sym (ap (stmt_kind m) at.is))
+    c.returned.ensures
 
 pub stmt-boxed-requires : goal.stmt-boxed-requires
 unfolding stmt_size stmts_size else_size stmt_kind stmt_row held_else
@@ -100,8 +100,8 @@ stmt-returns-in_ok-no-in-If g t c =
     let at = c.in-If in
     let m = c.args.of.now.mark in
     subst (λ (e : tree.Stmt g.row.A.Denot). IfOk c.conditional.result (λ x. same.SameStmt (FnReturnsAt g.F.Fn c.args.f.now) e (stmt_of x)))
-        (ap (λ y. tree.branch m (expr_of at.condition) (stmt_of y) (else_of at.no)) c.deref.ensures ∙ sym (ap (stmt_kind m) at.is ∙ stmt_kind-If _ m at.condition at.yes at.no))
-        (c.conditional.ensures (stmt_of c.deref.result.now) (else_of at.no) c.in_ok-yes-in-If.ensures c.in_ok-no-in-If.ensures)
+    (ap (λ y. tree.branch m (expr_of at.condition) (stmt_of y) (else_of at.no)) c.deref.ensures ∙ sym (ap (stmt_kind m) at.is ∙ stmt_kind-If _ m at.condition at.yes at.no))
+    (c.conditional.ensures (stmt_of c.deref.result.now) (else_of at.no) c.in_ok-yes-in-If.ensures c.in_ok-no-in-If.ensures)
 
 pub stmt-returns-in_ok-body-in-While : goal.stmt-returns-in_ok-body-in-While
 unfolding stmt_kind stmt_row held_else
@@ -109,8 +109,8 @@ stmt-returns-in_ok-body-in-While g t c =
     let at = c.in-While in
     let m = c.args.of.now.mark in
     subst (λ (e : tree.Stmt g.row.A.Denot). IfOk c.repeated.result (λ x. same.SameStmt (FnReturnsAt g.F.Fn c.args.f.now) e (stmt_of x)))
-        (ap (λ y. tree.loop m (expr_of at.condition) (stmt_of y)) c.deref-in-While.ensures ∙ sym (ap (stmt_kind m) at.is))
-        (c.repeated.ensures (stmt_of c.deref-in-While.result.now) c.in_ok-body-in-While.ensures)
+    (ap (λ y. tree.loop m (expr_of at.condition) (stmt_of y)) c.deref-in-While.ensures ∙ sym (ap (stmt_kind m) at.is))
+    (c.repeated.ensures (stmt_of c.deref-in-While.result.now) c.in_ok-body-in-While.ensures)
 
 pub stmt-returns-in_ok-body-in-Sync : goal.stmt-returns-in_ok-body-in-Sync
 unfolding stmt_kind stmt_row held_else
@@ -118,8 +118,8 @@ stmt-returns-in_ok-body-in-Sync g t c =
     let at = c.in-Sync in
     let m = c.args.of.now.mark in
     subst (λ (e : tree.Stmt g.row.A.Denot). IfOk c.locked.result (λ x. same.SameStmt (FnReturnsAt g.F.Fn c.args.f.now) e (stmt_of x)))
-        (ap (λ ys. tree.sync m (expr_of at.lock) (stmts_of ys)) c.deref-in-Sync.ensures.value ∙ sym (ap (stmt_kind m) at.is ∙ stmt_kind-Sync _ m at.lock at.body))
-        (c.locked.ensures (stmts_of c.deref-in-Sync.result.now) c.in_ok-body-in-Sync.ensures)
+    (ap (λ ys. tree.sync m (expr_of at.lock) (stmts_of ys)) c.deref-in-Sync.ensures.value ∙ sym (ap (stmt_kind m) at.is ∙ stmt_kind-Sync _ m at.lock at.body))
+    (c.locked.ensures (stmts_of c.deref-in-Sync.result.now) c.in_ok-body-in-Sync.ensures)
 
 pub maybe_boxed-boxed-requires : goal.maybe_boxed-boxed-requires
 unfolding stmt_size stmts_size else_size

@@ -1,6 +1,5 @@
-use Rattle.std.proofs.Common.{ap, sym, ◌∙◌}
+use Rattle.std.proofs.Common.{ap, ◌∙◌}
 use Rattle.jr_ast.specs.StatementTree as tree
-use Rattle.jr_ast.specs.View.{else_of}
 use Rattle.jr_ast.specs.Remarked as same
 use Rattle.jr_ast.proofs.Marking.{mark_agrees}
 use Rattle.jr_ast.proofs.stmt_marks.repeated.Goals as goal
