@@ -3,6 +3,7 @@
 
 mod children;
 mod expr_marks;
+mod expr_writes;
 mod exprs;
 mod marks;
 mod member_marks;
