@@ -32,18 +32,31 @@ fn held<A>(of: &mut Option<Box<Expr<A>>>) -> Option<&mut Expr<A>>
 
 impl<A> ExprKind<A> {
     /// The number of the first argument.
+    #[tactic(auto, unfolding(crate::specs::View::expr_kind))]
     fn arguments_begin(&self) -> usize
         ensures { (m : A) → result ≡ arguments_begin (view.expr_kind m self.now) }
     {
         match self {
-            ExprKind::Call(target, _, _) => {
-                if target.is_some() {
-                    2
-                } else {
-                    1
-                }
-            }
-            _ => 1,
+            ExprKind::Call(None, _, _) => 1,
+            ExprKind::Call(Some(_), _, _) => 2,
+            ExprKind::Int(_)
+            | ExprKind::Bool(_)
+            | ExprKind::Null
+            | ExprKind::Text(_)
+            | ExprKind::Simple(_)
+            | ExprKind::Field(_, _)
+            | ExprKind::SuperField(_)
+            | ExprKind::This
+            | ExprKind::ClassLit(_)
+            | ExprKind::SuperCall(_, _)
+            | ExprKind::New(_, _)
+            | ExprKind::Paren(_)
+            | ExprKind::Cast(_, _)
+            | ExprKind::Unary(_, _)
+            | ExprKind::Bump(_, _)
+            | ExprKind::Binary(_, _, _)
+            | ExprKind::Assign(_, _)
+            | ExprKind::Compound(_, _, _) => 1,
         }
     }
 
@@ -69,7 +82,22 @@ impl<A> ExprKind<A> {
             (ExprKind::Assign(_, value), 1) => Some(&mut **value),
             (ExprKind::Compound(_, to, _), 0) => Some(&mut **to),
             (ExprKind::Compound(_, _, value), 1) => Some(&mut **value),
-            _ => None,
+            (ExprKind::Int(_), _) => None,
+            (ExprKind::Bool(_), _) => None,
+            (ExprKind::Null, _) => None,
+            (ExprKind::Text(_), _) => None,
+            (ExprKind::Simple(_), _) => None,
+            (ExprKind::SuperField(_), _) => None,
+            (ExprKind::This, _) => None,
+            (ExprKind::ClassLit(_), _) => None,
+            (ExprKind::Field(_, _), _) => None,
+            (ExprKind::Paren(_), _) => None,
+            (ExprKind::Cast(_, _), _) => None,
+            (ExprKind::Unary(_, _), _) => None,
+            (ExprKind::Bump(_, _), _) => None,
+            (ExprKind::Binary(_, _, _), _) => None,
+            (ExprKind::Assign(_, _), _) => None,
+            (ExprKind::Compound(_, _, _), _) => None,
         }
     }
 }
