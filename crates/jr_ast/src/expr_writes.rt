@@ -1,5 +1,5 @@
 //! Changeable expressions of expressions.
-ghost use Rattle.std.specs.Prelude.{◌≡◌, ◌≤◌, ℕ, length, map, option_map, option_and_then};
+ghost use Rattle.std.specs.Prelude.{◌≡◌, ◌≤◌, length, map, option_map, option_and_then};
 ghost use Rattle.std.specs.Borrow.{sem};
 ghost use Rattle.jr_ast.specs.Nodes as pure;
 ghost use Rattle.jr_ast.specs.View as view;
@@ -7,7 +7,7 @@ ghost use Rattle.jr_ast.specs.With.{arguments_begin, get_from};
 ghost use Rattle.jr_ast.specs.Lent.{lends_expr_among, lends_held, lends_expr_of_expr, lends_below_expr};
 
 use crate::exprs::{Expr, ExprKind};
-use std::marker::PhantomData;
+use crate::levels::{One, Twice};
 
 /// The expression of this number, where the first of the row has the number `first`.
 pub(crate) fn nth_expr<A>(among: &mut Vec<Expr<A>>, first: usize, number: usize) -> Option<&mut Expr<A>>
@@ -113,9 +113,6 @@ pub(crate) trait ExprLevel<A> {
         ensures value { 1 ≤ length steps.now → length steps.now ≤ reach → (m : A) → option_map (λ x. view.expr_of x.now) result ≡ pure.exp_at (pure.exp (view.expr_kind m kind.entry.now)) steps.now };
 }
 
-/// One step.
-pub(crate) struct One;
-
 impl<A> ExprLevel<A> for One {
     ghost reach = { 1 };
 
@@ -126,9 +123,6 @@ impl<A> ExprLevel<A> for One {
         }
     }
 }
-
-/// The way down by `L`, and from there again.
-pub(crate) struct Twice<L>(PhantomData<L>);
 
 impl<A, L: ExprLevel<A>> ExprLevel<A> for Twice<L> {
     ghost use Rattle.std.specs.Prelude.{◌*◌};

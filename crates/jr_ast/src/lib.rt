@@ -5,6 +5,7 @@ mod children;
 mod expr_marks;
 mod expr_writes;
 mod exprs;
+mod levels;
 mod marks;
 mod member_marks;
 mod members;
