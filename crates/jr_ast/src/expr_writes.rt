@@ -7,7 +7,7 @@ ghost use Rattle.jr_ast.specs.With.{arguments_begin, get_from};
 ghost use Rattle.jr_ast.specs.Lent.{lends_expr_among, lends_held, lends_expr_of_expr, lends_below_expr};
 
 use crate::exprs::{Expr, ExprKind};
-use crate::levels::{One, Twice};
+use crate::reaches::{One, Twice};
 
 /// The expression of this number, where the first of the row has the number `first`.
 pub(crate) fn nth_expr<A>(among: &mut Vec<Expr<A>>, first: usize, number: usize) -> Option<&mut Expr<A>>

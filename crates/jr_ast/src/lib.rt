@@ -5,7 +5,6 @@ mod children;
 mod expr_marks;
 mod expr_writes;
 mod exprs;
-mod levels;
 mod marks;
 mod member_marks;
 mod members;
@@ -14,8 +13,10 @@ mod nodes;
 mod operators;
 mod parts;
 mod paths;
+mod reaches;
 mod seeks;
 mod stmt_marks;
+mod stmt_writes;
 mod stmts;
 
 pub use exprs::{Expr, ExprKind};
