@@ -7,6 +7,7 @@ use Rattle.jr_ast.specs.MemberTree as declared
 use Rattle.jr_ast.specs.Nodes as pure
 use Rattle.jr_ast.specs.Nodes.{Node, unit, class, modifier, word, type, param, member, stmt, exp, node_at, child_of, children_of, as_exp, as_stmt, as_member, exp_at, stmt_at, member_at}
 use Rattle.jr_ast.proofs.Picks.{Each, each-nil, each-cons, each-append, each-map}
+use Rattle.jr_ast.proofs.RowKinds.{each-exps, each-stmts, each-members, each-maybe, each-one, each-two, each-field, each-method, each-constructor}
 
 module _ {A : Type 0} where
   abbrev pub level : Node A → ℕ
@@ -46,33 +47,6 @@ module _ {A : Type 0} where
   HasUnder (param p) (word w) = Unit {0}
   HasUnder (type t) (word w) = Unit {0}
   HasUnder n c = ⊥
-
-  -- P of each node of a row, of a part that may be missing
-  each-exps : (P : Node A → Type 0) → ((e : tree.Exp A) → P (exp e)) → (es : tree.Exps A) → Each P (pure.exps es)
-  each-exps P p tree.end = each-nil P
-  each-exps P p (tree.more e es) = each-cons P (exp e) (pure.exps es) (p e) (each-exps P p es)
-
-  each-stmts : (P : Node A → Type 0) → ((s : statement.Stmt A) → P (stmt s)) → (ss : statement.Stmts A) → Each P (pure.stmts ss)
-  each-stmts P p statement.end = each-nil P
-  each-stmts P p (statement.more s ss) = each-cons P (stmt s) (pure.stmts ss) (p s) (each-stmts P p ss)
-
-  each-members : (P : Node A → Type 0) → ((m : declared.Member A) → P (member m)) → (ms : declared.Members A) → Each P (pure.members ms)
-  each-members P p declared.end = each-nil P
-  each-members P p (declared.more m ms) = each-cons P (member m) (pure.members ms) (p m) (each-members P p ms)
-
-  each-args : (P : Node A → Type 0) → ((e : tree.Exp A) → P (exp e)) → (args : Option (tree.Exps A)) → Each P (pure.args_children args)
-  each-args P p None = each-nil P
-  each-args P p (Some es) = each-exps P p es
-
-  each-maybe : {X : Type 0} (P : Node A → Type 0) (f : X → Node A) → ((x : X) → P (f x)) → (o : Option X) → Each P (pure.maybe (option_map f o))
-  each-maybe P f p None = each-nil P
-  each-maybe P f p (Some x) = each-cons P (f x) [] (p x) (each-nil P)
-
-  each-one : (P : Node A → Type 0) (n : Node A) → P n → Each P (n ∷ [])
-  each-one P n p = each-cons P n [] p (each-nil P)
-
-  each-two : (P : Node A → Type 0) (n m : Node A) → P n → P m → Each P (n ∷ m ∷ [])
-  each-two P n m p q = each-cons P n (m ∷ []) p (each-one P m q)
 
   each-type : (t : tree.TypeName A) → Each (HasUnder (type t)) (pure.type_children t)
   each-type (tree.named m outer w) =
@@ -122,24 +96,11 @@ module _ {A : Type 0} where
   each-member : (m : declared.Member A) → Each (HasUnder (member m)) (pure.member_children m)
   unfolding pure.member_children
   each-member (declared.field m mods t w e) =
-      let P = HasUnder (member (declared.field m mods t w e)) in
-      let init = pure.maybe (option_map exp e) in
-      each-append P (map modifier mods) (type t ∷ (word w ∷ init)) (each-map P modifier mods (λ _. tt))
-      (each-cons P (type t) (word w ∷ init) tt (each-cons P (word w) init tt (each-maybe P exp (λ _. tt) e)))
+      each-field (HasUnder (member (declared.field m mods t w e))) (λ _. tt) (λ _. tt) (λ _. tt) (λ _. tt) mods t w e
   each-member (declared.method m mods t w ps body) =
-      let P = HasUnder (member (declared.method m mods t w ps body)) in
-      let rest = map param ps ++ pure.stmts body in
-      each-append P (map modifier mods) (pure.maybe (option_map type t) ++ (word w ∷ rest)) (each-map P modifier mods (λ _. tt))
-      (each-append P (pure.maybe (option_map type t)) (word w ∷ rest) (each-maybe P type (λ _. tt) t)
-      (each-cons P (word w) rest tt
-      (each-append P (map param ps) (pure.stmts body) (each-map P param ps (λ _. tt)) (each-stmts P (λ _. tt) body))))
+      each-method (HasUnder (member (declared.method m mods t w ps body))) (λ _. tt) (λ _. tt) (λ _. tt) (λ _. tt) (λ _. tt) mods t w ps body
   each-member (declared.constructor m mods w ps args body) =
-      let P = HasUnder (member (declared.constructor m mods w ps args body)) in
-      let rest = pure.args_children args ++ pure.stmts body in
-      each-append P (map modifier mods) (word w ∷ (map param ps ++ rest)) (each-map P modifier mods (λ _. tt))
-      (each-cons P (word w) (map param ps ++ rest) tt
-      (each-append P (map param ps) rest (each-map P param ps (λ _. tt))
-      (each-append P (pure.args_children args) (pure.stmts body) (each-args P (λ _. tt) args) (each-stmts P (λ _. tt) body))))
+      each-constructor (HasUnder (member (declared.constructor m mods w ps args body))) (λ _. tt) (λ _. tt) (λ _. tt) (λ _. tt) (λ _. tt) mods w ps args body
   each-member (declared.inner m c) = each-one (HasUnder (member (declared.inner m c))) (class c) tt
 
   each-class : (c : declared.Class A) → Each (HasUnder (class c)) (pure.class_children c)

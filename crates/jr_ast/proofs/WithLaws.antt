@@ -9,7 +9,8 @@ use Rattle.jr_ast.specs.Nodes as pure
 use Rattle.jr_ast.specs.Nodes.{Node, unit, class, modifier, word, type, param, member, stmt, exp, node_at, child_of}
 use Rattle.jr_ast.specs.With as with
 use Rattle.jr_ast.specs.With.{get_from, with_child, with_found, with_node}
-use Rattle.jr_ast.proofs.Picks.{Lacks, each-nil, each-cons, past_one, past_map, past_part, in_front_from}
+use Rattle.jr_ast.proofs.Picks.{past_one, past_map, past_part, in_front_from}
+use Rattle.jr_ast.proofs.RowKinds.{each-stmts, each-args}
 
 module _ {A : Type 0} where
   pub at_append : (n : Node A) (p q : List ℕ) → node_at n (p ++ q) ≡ option_and_then (λ c. node_at c q) (node_at n p)
@@ -90,18 +91,6 @@ module _ {A : Type 0} where
   else_same (statement.otherwise s) (suc (suc zero)) x h = cc
   else_same (statement.otherwise s) (suc (suc (suc i))) x h = refl
 
-  lacks_stmts : (x : Node A) (ss : statement.Stmts A) → ((s : statement.Stmt A) → stmt s ≡ x → ⊥) → Lacks (pure.stmts ss) x
-  lacks_stmts x statement.end other = each-nil (λ y. y ≡ x → ⊥)
-  lacks_stmts x (statement.more s ss) other = each-cons (λ y. y ≡ x → ⊥) (stmt s) (pure.stmts ss) (other s) (lacks_stmts x ss other)
-
-  lacks_exps : (x : Node A) (es : tree.Exps A) → ((e : tree.Exp A) → exp e ≡ x → ⊥) → Lacks (pure.exps es) x
-  lacks_exps x tree.end other = each-nil (λ y. y ≡ x → ⊥)
-  lacks_exps x (tree.more e es) other = each-cons (λ y. y ≡ x → ⊥) (exp e) (pure.exps es) (other e) (lacks_exps x es other)
-
-  lacks_args : (x : Node A) (args : Option (tree.Exps A)) → ((e : tree.Exp A) → exp e ≡ x → ⊥) → Lacks (pure.args_children args) x
-  lacks_args x None other = each-nil (λ y. y ≡ x → ⊥)
-  lacks_args x (Some es) other = lacks_exps x es other
-
   -- arguments behind a word or a type
   args_same : (y : Node A) (args : tree.Exps A) (i : ℕ) (x : tree.Exp A) → (y ≡ exp x → ⊥) → slice_get (y ∷ pure.exps args) i ≡ Some (exp x) → with.with_exp_from 1 args i x ≡ args
   args_same y args i x other h = exps_from_same 1 args i x (past_one 0 y (pure.exps args) i (exp x) other h)
@@ -177,7 +166,7 @@ module _ {A : Type 0} where
       let named = past_modifiers mods (word w ∷ (map param ps ++ rest)) i (exp x) (λ d g. cc) h in
       let given = past_params (length mods) w ps rest i (exp x) (λ g. cc) (λ d g. cc) named in
       let first = length mods + (1 + length ps) in
-      let found = in_front_from first (pure.exps args) (pure.stmts body) i (exp x) (lacks_stmts (exp x) body (λ d g. cc)) given in
+      let found = in_front_from first (pure.exps args) (pure.stmts body) i (exp x) (each-stmts (λ y. y ≡ exp x → ⊥) (λ d g. cc) body) given in
       ap (λ es. declared.constructor m mods w ps (Some es) body) (exps_from_same first args i x found)
   member_exp_same m i x h = refl
 
@@ -203,7 +192,7 @@ module _ {A : Type 0} where
       let named = past_modifiers mods (word w ∷ (map param ps ++ rest)) i (stmt x) (λ d g. cc) h in
       let first = length mods + (1 + length ps) in
       let behind = past_params (length mods) w ps rest i (stmt x) (λ g. cc) (λ d g. cc) named in
-      let found = past_part first given (pure.stmts body) i (stmt x) (lacks_args (stmt x) args (λ d g. cc)) behind in
+      let found = past_part first given (pure.stmts body) i (stmt x) (each-args (λ y. y ≡ stmt x → ⊥) (λ d g. cc) args) behind in
       ap (declared.constructor m mods w ps args) (stmts_from_same (first + length given) body i x found)
   member_stmt_same m i x h = refl
 
