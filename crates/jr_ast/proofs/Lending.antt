@@ -1,5 +1,9 @@
 -- What a vector lends, and what it ends as.
 use Rattle.std.proofs.Common.{◌≡◌, ◌≤◌, ◌<◌, ◌↔◌, ◌-◌, ℕ, zero, suc, List, [], ◌∷◌, Option, Some, None, MutBor, length, slice_set, get_or, option_map, map, refl, ap, sym, subst, ◌∙◌, arith}
+use mathlib.Core.Option as maybe
+use denote.Enum.Declared.{Record}
+use borrow.Enum.Known.{ValuesAt, at}
+use borrow.Enum.Total.{values_o, values_o_at, values_d, values_d_at}
 use Rattle.std.specs.Option.{OnSome, IfSome, IsSome}
 use Rattle.std.specs.List.{slice_get}
 use Rattle.std.proofs.lemmas.Option.{slice_get-map, slice_get_past, slice_get_read}
@@ -12,9 +16,28 @@ use Rattle.jr_ast.specs.MemberTree as member
 use Rattle.jr_ast.specs.View.{expr_of, exprs_of, stmt_of, stmts_of, member_of, members_of}
 use Rattle.jr_ast.specs.With.{get_from, with_exp_among, with_exp_from, with_stmt_among, with_stmt_from, with_member_among, with_member_from}
 
+abbrev or_else : {V D Y : Type 0} → (Y → V → D) → maybe.Option V → D → Y → D
+or_else f maybe.none x y = x
+or_else f (maybe.some v) x y = f y v
+
 -- two paths with a bridge between them, whose ends they give
 pub link : {X : Type 0} {a b c d : X} → a ≡ b → c ≡ d → b ≡ c → a ≡ d
 link p q r = p ∙ r ∙ q
+
+-- two paths that meet in y
+pub via : {X : Type 0} {x : X} (y : X) {z : X} → x ≡ y → y ≡ z → x ≡ z
+via y p q = p ∙ q
+
+-- where an enum's fields are read, at the variant that it is known to be
+pub known : {V D Y : Type 0} (f : Y → V → D) (v : V) (x : D) (y : Y) {o : maybe.Option V} → o ≡ maybe.some v → or_else f o x y ≡ f y v
+known f v x y e = ap (λ o. or_else f o x y) e
+
+-- the fields of an enum of this variant
+pub given : (N : Record) (k : ℕ) (v : ValuesAt N.parts k) {s : N.D} → s ≡ at N k v → values_o N k s ≡ maybe.some v
+given N k v is = ap (values_o N k) is ∙ values_o_at N k v
+
+pub picked : (N : Record) (k : ℕ) (d v : ValuesAt N.parts k) {s : N.D} → s ≡ at N k v → values_d N k d s ≡ v
+picked N k d v is = ap (values_d N k d) is ∙ values_d_at N k d v
 
 pub on_some : {T P : Type 0} (o : Option T) → P → OnSome o P
 on_some None p = tt

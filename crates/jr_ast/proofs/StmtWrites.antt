@@ -1,11 +1,12 @@
 -- Statements whose parts are replaced.
-use Rattle.std.proofs.Common.{◌≡◌, ℕ, zero, suc, List, [], ◌∷◌, Option, Some, None, Vec, Global, option_map, option_and_then, map, refl, sym, ap, ◌∙◌}
+use Rattle.std.proofs.Common.{◌≡◌, Bool, ℕ, zero, suc, List, [], ◌∷◌, Option, Some, None, Vec, Global, option_map, option_and_then, map, refl, sym, ap, ◌∙◌}
 use Rattle.std.specs.List.{slice_get}
 use Rattle.std.specs.declared.boxed.Box.{Box}
+use Rattle.jr_ast.specs.declared.names.Ident.{Ident}
+use Rattle.jr_ast.specs.declared.parts.TypeRef.{TypeRef}
 use Rattle.jr_ast.specs.declared.exprs.Expr.{Expr}
 use Rattle.jr_ast.specs.declared.stmts.Stmt.{Stmt}
 use Rattle.jr_ast.specs.declared.stmts.StmtKind as stmt
-use Rattle.jr_ast.specs.declared.stmts.StmtKind.TheBlock as block
 use Rattle.jr_ast.specs.StatementTree as statement
 use Rattle.jr_ast.specs.Tree as tree
 use Rattle.jr_ast.specs.Nodes as pure
@@ -13,57 +14,65 @@ use Rattle.jr_ast.specs.View.{expr_of, stmt_of, stmt_kind, stmts_of}
 use Rattle.jr_ast.specs.With.{get_from, stmt_with_stmt, stmt_with_exp, with_stmt_from, with_else, with_maybe}
 use Rattle.jr_ast.proofs.Rows.{stmt_kind-Block, stmt_kind-Sync}
 
-module _ (A : Type 0) where
-  abbrev Held : Type 0
-  Held = Option (Box (Stmt A) Global)
+abbrev Held : Type 0 → Type 0
+Held A = Option (Box (Stmt A) Global)
 
-  abbrev else_of : Held → statement.Else A
+module _ {A : Type 0} where
+  abbrev pub stmt_in : statement.Stmt A → ℕ → Option (statement.Stmt A)
+  stmt_in s number = option_and_then pure.as_stmt (slice_get (pure.stmt_children s) number)
+
+  abbrev pub exp_in : statement.Stmt A → ℕ → Option (tree.Exp A)
+  exp_in s number = option_and_then pure.as_exp (slice_get (pure.stmt_children s) number)
+
+  abbrev pub else_of : Held A → statement.Else A
   else_of None = statement.no_else
   else_of (Some b) = statement.otherwise (stmt_of b.value)
 
-  if_is : (m : A) (c : Expr A) (yes : Box (Stmt A) Global) (h : Held) → stmt_kind m (stmt.If c yes h) ≡ statement.branch m (expr_of c) (stmt_of yes.value) (else_of h)
+  if_is : (m : A) (c : Expr A) (then : Box (Stmt A) Global) (h : Held A) → stmt_kind m (stmt.If c then h) ≡ statement.branch m (expr_of c) (stmt_of then.value) (else_of h)
   unfolding stmt_kind
-  if_is m c yes None = refl
-  if_is m c yes (Some b) = refl
+  if_is m c then None = refl
+  if_is m c then (Some b) = refl
 
-  -- what is read out of an `if` behind its `else` is what was put in
-  pub else_again : (h : Held) → else_of (block.view-StmtKind-If-2 A (block.back-StmtKind-If-2 A h)) ≡ else_of h
-  else_again None = refl
-  else_again (Some b) = refl
-
-  pub if_condition : (m : A) (c new : Expr A) (yes : Box (Stmt A) Global) (h same : Held) → else_of same ≡ else_of h
-      → stmt_kind m (stmt.If new yes same) ≡ stmt_with_exp (stmt_kind m (stmt.If c yes h)) 0 (expr_of new)
+  pub if_condition : (m : A) (c new : Expr A) (then : Box (Stmt A) Global) (h : Held A) (number : ℕ) → number ≡ 0
+      → stmt_kind m (stmt.If new then h) ≡ stmt_with_exp (stmt_kind m (stmt.If c then h)) number (expr_of new)
   unfolding stmt_with_exp
-  if_condition m c new yes h same alike =
-      if_is m new yes same ∙ ap (statement.branch m (expr_of new) (stmt_of yes.value)) alike ∙ sym (ap (λ s. stmt_with_exp s 0 (expr_of new)) (if_is m c yes h))
+  if_condition m c new then h number is =
+      if_is m new then h ∙ sym (ap (λ n. stmt_with_exp (stmt_kind m (stmt.If c then h)) n (expr_of new)) is ∙ ap (λ s. stmt_with_exp s 0 (expr_of new)) (if_is m c then h))
 
-  pub if_yes : (m : A) (c : Expr A) (yes new : Box (Stmt A) Global) (h same : Held) → else_of same ≡ else_of h
-      → stmt_kind m (stmt.If c new same) ≡ stmt_with_stmt (stmt_kind m (stmt.If c yes h)) 1 (stmt_of new.value)
+  pub if_then : (m : A) (c : Expr A) (then new : Box (Stmt A) Global) (h : Held A) (number : ℕ) → number ≡ 1
+      → stmt_kind m (stmt.If c new h) ≡ stmt_with_stmt (stmt_kind m (stmt.If c then h)) number (stmt_of new.value)
   unfolding stmt_with_stmt
-  if_yes m c yes new h same alike =
-      if_is m c new same ∙ ap (statement.branch m (expr_of c) (stmt_of new.value)) alike ∙ sym (ap (λ s. stmt_with_stmt s 1 (stmt_of new.value)) (if_is m c yes h))
+  if_then m c then new h number is =
+      if_is m c new h ∙ sym (ap (λ n. stmt_with_stmt (stmt_kind m (stmt.If c then h)) n (stmt_of new.value)) is ∙ ap (λ s. stmt_with_stmt s 1 (stmt_of new.value)) (if_is m c then h))
 
-  else_set : (old new : Held) (w : Stmt A) → option_map (λ (b : Box (Stmt A) Global). stmt_of b.value) new ≡ option_map (λ (b : Box (Stmt A) Global). stmt_of w) old
+  pub if_then_get : (m : A) (c : Expr A) (then : Box (Stmt A) Global) (h : Held A) (number : ℕ) → number ≡ 1 → Some (stmt_of then.value) ≡ stmt_in (stmt_kind m (stmt.If c then h)) number
+  unfolding pure.stmt_children
+  if_then_get m c then h number is = sym (ap (stmt_in (stmt_kind m (stmt.If c then h))) is ∙ ap (λ s. stmt_in s 1) (if_is m c then h))
+
+  pub if_condition_get : (m : A) (c : Expr A) (then : Box (Stmt A) Global) (h : Held A) (number : ℕ) → number ≡ 0 → Some (expr_of c) ≡ exp_in (stmt_kind m (stmt.If c then h)) number
+  unfolding pure.stmt_children
+  if_condition_get m c then h number is = sym (ap (exp_in (stmt_kind m (stmt.If c then h))) is ∙ ap (λ s. exp_in s 0) (if_is m c then h))
+
+  else_set : (old new : Held A) (w : Stmt A) → option_map (λ (b : Box (Stmt A) Global). stmt_of b.value) new ≡ option_map (λ (b : Box (Stmt A) Global). stmt_of w) old
       → else_of new ≡ with_else (else_of old) 2 (stmt_of w)
   else_set None None w e = refl
   else_set None (Some b) w e = absurd (cc e)
   else_set (Some b) None w e = absurd (cc e)
   else_set (Some b) (Some n) w e = ap statement.otherwise (cc e)
 
-  pub if_no : (m : A) (c : Expr A) (yes : Box (Stmt A) Global) (old new : Held) (w : Stmt A)
+  pub if_else : (m : A) (c : Expr A) (then : Box (Stmt A) Global) (old new : Held A) (w : Stmt A) (number : ℕ) → number ≡ 2
       → option_map (λ (b : Box (Stmt A) Global). stmt_of b.value) new ≡ option_map (λ (b : Box (Stmt A) Global). stmt_of w) old
-      → stmt_kind m (stmt.If c yes new) ≡ stmt_with_stmt (stmt_kind m (stmt.If c yes old)) 2 (stmt_of w)
+      → stmt_kind m (stmt.If c then new) ≡ stmt_with_stmt (stmt_kind m (stmt.If c then old)) number (stmt_of w)
   unfolding stmt_with_stmt
-  if_no m c yes old new w e =
-      if_is m c yes new ∙ ap (statement.branch m (expr_of c) (stmt_of yes.value)) (else_set old new w e) ∙ sym (ap (λ s. stmt_with_stmt s 2 (stmt_of w)) (if_is m c yes old))
+  if_else m c then old new w number is e =
+      if_is m c then new ∙ ap (statement.branch m (expr_of c) (stmt_of then.value)) (else_set old new w e)
+      ∙ sym (ap (λ n. stmt_with_stmt (stmt_kind m (stmt.If c then old)) n (stmt_of w)) is ∙ ap (λ s. stmt_with_stmt s 2 (stmt_of w)) (if_is m c then old))
 
-  abbrev stmt_in : statement.Stmt A → ℕ → Option (statement.Stmt A)
-  stmt_in s number = option_and_then pure.as_stmt (slice_get (pure.stmt_children s) number)
-
-  pub else_get : (m : A) (c : Expr A) (yes : Box (Stmt A) Global) (h : Held) → option_map (λ (b : Box (Stmt A) Global). stmt_of b.value) h ≡ stmt_in (stmt_kind m (stmt.If c yes h)) 2
+  pub else_get : (m : A) (c : Expr A) (then : Box (Stmt A) Global) (h : Held A) (number : ℕ) → number ≡ 2
+      → option_map (λ (b : Box (Stmt A) Global). stmt_of b.value) h ≡ stmt_in (stmt_kind m (stmt.If c then h)) number
   unfolding pure.stmt_children
-  else_get m c yes None = ap (λ s. stmt_in s 2) (sym (if_is m c yes None))
-  else_get m c yes (Some b) = ap (λ s. stmt_in s 2) (sym (if_is m c yes (Some b)))
+  else_get m c then None number is = sym (ap (stmt_in (stmt_kind m (stmt.If c then None))) is ∙ ap (λ s. stmt_in s 2) (if_is m c then None))
+  else_get m c then (Some b) number is = sym (ap (stmt_in (stmt_kind m (stmt.If c then (Some b)))) is ∙ ap (λ s. stmt_in s 2) (if_is m c then (Some b)))
 
   past_if : (e : tree.Exp A) (s : statement.Stmt A) (o : statement.Else A) (number : ℕ) → (number ≡ 1 → ⊥) → (number ≡ 2 → ⊥)
       → None ≡ option_and_then pure.as_stmt (slice_get (pure.exp e ∷ (pure.stmt s ∷ pure.else_children o)) number)
@@ -73,10 +82,10 @@ module _ (A : Type 0) where
   past_if e s statement.no_else (suc (suc (suc number))) h k = refl
   past_if e s (statement.otherwise t) (suc (suc (suc number))) h k = refl
 
-  pub if_none : (m : A) (c : Expr A) (yes : Box (Stmt A) Global) (h : Held) (number : ℕ) → (number ≡ 1 → ⊥) → (number ≡ 2 → ⊥) → None ≡ stmt_in (stmt_kind m (stmt.If c yes h)) number
+  pub if_none : (m : A) (c : Expr A) (then : Box (Stmt A) Global) (h : Held A) (number : ℕ) → (number ≡ 1 → ⊥) → (number ≡ 2 → ⊥) → None ≡ stmt_in (stmt_kind m (stmt.If c then h)) number
   unfolding pure.stmt_children
-  if_none m c yes h number one two =
-      past_if (expr_of c) (stmt_of yes.value) (else_of h) number one two ∙ ap (λ s. stmt_in s number) (sym (if_is m c yes h))
+  if_none m c then h number one two =
+      past_if (expr_of c) (stmt_of then.value) (else_of h) number one two ∙ ap (λ s. stmt_in s number) (sym (if_is m c then h))
 
   no_exp_past : (e : tree.Exp A) (s : statement.Stmt A) (o : statement.Else A) (number : ℕ) → (number ≡ 0 → ⊥)
       → None ≡ option_and_then pure.as_exp (slice_get (pure.exp e ∷ (pure.stmt s ∷ pure.else_children o)) number)
@@ -86,17 +95,10 @@ module _ (A : Type 0) where
   no_exp_past e s (statement.otherwise t) (suc (suc zero)) h = refl
   no_exp_past e s (statement.otherwise t) (suc (suc (suc number))) h = refl
 
-  abbrev exp_in : statement.Stmt A → ℕ → Option (tree.Exp A)
-  exp_in s number = option_and_then pure.as_exp (slice_get (pure.stmt_children s) number)
-
-  pub if_no_exp : (m : A) (c : Expr A) (yes : Box (Stmt A) Global) (h : Held) (number : ℕ) → (number ≡ 0 → ⊥) → None ≡ exp_in (stmt_kind m (stmt.If c yes h)) number
+  pub if_no_exp : (m : A) (c : Expr A) (then : Box (Stmt A) Global) (h : Held A) (number : ℕ) → (number ≡ 0 → ⊥) → None ≡ exp_in (stmt_kind m (stmt.If c then h)) number
   unfolding pure.stmt_children
-  if_no_exp m c yes h number zero_not =
-      no_exp_past (expr_of c) (stmt_of yes.value) (else_of h) number zero_not ∙ ap (λ s. exp_in s number) (sym (if_is m c yes h))
-
-  -- the vector that is read out of a statement is the one that was put in
-  pub shown_again : (body : Vec (Stmt A) Global) → (block.shown-the_row-Stmt-0 A (block.shape-the_row-Stmt-0 A body) (block.hidden-the_row-Stmt-0 A body)).items ≡ body.items
-  shown_again body = stmt.items_shown-the_row-Stmt-0 A (block.shape-the_row-Stmt-0 A body) (block.hidden-the_row-Stmt-0 A body) ∙ stmt.items_hidden-the_row-Stmt-0 A body
+  if_no_exp m c then h number zero_not =
+      no_exp_past (expr_of c) (stmt_of then.value) (else_of h) number zero_not ∙ ap (λ s. exp_in s number) (sym (if_is m c then h))
 
   stmts_get : (xs : List (Stmt A)) (i : ℕ) → slice_get (map stmt_of xs) i ≡ option_and_then pure.as_stmt (slice_get (pure.stmts (stmts_of xs)) i)
   stmts_get [] i = refl
@@ -132,9 +134,9 @@ module _ (A : Type 0) where
   unfolding pure.stmt_children
   sync_no_exp m lock body number h = no_exp_behind (expr_of lock) body.items number h ∙ sym (ap (λ s. exp_in s number) (stmt_kind-Sync A m lock body))
 
-  pub sync_lock_get : (m : A) (lock : Expr A) (body : Vec (Stmt A) Global) → Some (expr_of lock) ≡ exp_in (stmt_kind m (stmt.Sync lock body)) 0
+  pub sync_lock_get : (m : A) (lock : Expr A) (body : Vec (Stmt A) Global) (number : ℕ) → number ≡ 0 → Some (expr_of lock) ≡ exp_in (stmt_kind m (stmt.Sync lock body)) number
   unfolding pure.stmt_children
-  sync_lock_get m lock body = sym (ap (λ s. exp_in s 0) (stmt_kind-Sync A m lock body))
+  sync_lock_get m lock body number is = sym (ap (exp_in (stmt_kind m (stmt.Sync lock body))) is ∙ ap (λ s. exp_in s 0) (stmt_kind-Sync A m lock body))
 
   pub block_write : (m : A) (old new : Vec (Stmt A) Global) (number : ℕ) (w : Stmt A) → stmts_of new.items ≡ with_stmt_from 0 (stmts_of old.items) number (stmt_of w)
       → stmt_kind m (stmt.Block new) ≡ stmt_with_stmt (stmt_kind m (stmt.Block old)) number (stmt_of w)
@@ -153,11 +155,47 @@ module _ (A : Type 0) where
   pub sync_same : (m : A) (lock : Expr A) (old new : Vec (Stmt A) Global) → new.items ≡ old.items → stmt_kind m (stmt.Sync lock new) ≡ stmt_kind m (stmt.Sync lock old)
   sync_same m lock old new e = stmt_kind-Sync A m lock new ∙ ap (λ xs. statement.sync m (expr_of lock) (stmts_of xs)) e ∙ sym (stmt_kind-Sync A m lock old)
 
-  pub sync_lock : (m : A) (lock new : Expr A) (body same : Vec (Stmt A) Global) → same.items ≡ body.items
-      → stmt_kind m (stmt.Sync new same) ≡ stmt_with_exp (stmt_kind m (stmt.Sync lock body)) 0 (expr_of new)
+  pub sync_lock : (m : A) (lock new : Expr A) (body : Vec (Stmt A) Global) (number : ℕ) → number ≡ 0
+      → stmt_kind m (stmt.Sync new body) ≡ stmt_with_exp (stmt_kind m (stmt.Sync lock body)) number (expr_of new)
   unfolding stmt_with_exp
-  sync_lock m lock new body same alike =
-      stmt_kind-Sync A m new same ∙ ap (λ xs. statement.sync m (expr_of new) (stmts_of xs)) alike ∙ sym (ap (λ s. stmt_with_exp s 0 (expr_of new)) (stmt_kind-Sync A m lock body))
+  sync_lock m lock new body number is =
+      stmt_kind-Sync A m new body
+      ∙ sym (ap (λ n. stmt_with_exp (stmt_kind m (stmt.Sync lock body)) n (expr_of new)) is ∙ ap (λ s. stmt_with_exp s 0 (expr_of new)) (stmt_kind-Sync A m lock body))
+
+  pub while_condition : (m : A) (c new : Expr A) (body : Box (Stmt A) Global) (number : ℕ) → number ≡ 0
+      → stmt_kind m (stmt.While new body) ≡ stmt_with_exp (stmt_kind m (stmt.While c body)) number (expr_of new)
+  unfolding stmt_kind stmt_with_exp
+  while_condition m c new body number is = sym (ap (λ n. stmt_with_exp (stmt_kind m (stmt.While c body)) n (expr_of new)) is)
+
+  pub while_condition_get : (m : A) (c : Expr A) (body : Box (Stmt A) Global) (number : ℕ) → number ≡ 0 → Some (expr_of c) ≡ exp_in (stmt_kind m (stmt.While c body)) number
+  unfolding stmt_kind pure.stmt_children
+  while_condition_get m c body number is = sym (ap (exp_in (stmt_kind m (stmt.While c body))) is)
+
+  pub while_body : (m : A) (c : Expr A) (body new : Box (Stmt A) Global) (number : ℕ) → number ≡ 1
+      → stmt_kind m (stmt.While c new) ≡ stmt_with_stmt (stmt_kind m (stmt.While c body)) number (stmt_of new.value)
+  unfolding stmt_kind stmt_with_stmt
+  while_body m c body new number is = sym (ap (λ n. stmt_with_stmt (stmt_kind m (stmt.While c body)) n (stmt_of new.value)) is)
+
+  pub while_body_get : (m : A) (c : Expr A) (body : Box (Stmt A) Global) (number : ℕ) → number ≡ 1 → Some (stmt_of body.value) ≡ stmt_in (stmt_kind m (stmt.While c body)) number
+  unfolding stmt_kind pure.stmt_children
+  while_body_get m c body number is = sym (ap (stmt_in (stmt_kind m (stmt.While c body))) is)
+
+  pub local_init : (m : A) (f : Bool) (t : TypeRef A) (i : Ident A) (x new : Expr A) (number : ℕ) → number ≡ 2
+      → stmt_kind m (stmt.Local f t i new) ≡ stmt_with_exp (stmt_kind m (stmt.Local f t i x)) number (expr_of new)
+  unfolding stmt_kind stmt_with_exp
+  local_init m f t i x new number is = sym (ap (λ n. stmt_with_exp (stmt_kind m (stmt.Local f t i x)) n (expr_of new)) is)
+
+  pub local_init_get : (m : A) (f : Bool) (t : TypeRef A) (i : Ident A) (x : Expr A) (number : ℕ) → number ≡ 2 → Some (expr_of x) ≡ exp_in (stmt_kind m (stmt.Local f t i x)) number
+  unfolding stmt_kind pure.stmt_children
+  local_init_get m f t i x number is = sym (ap (exp_in (stmt_kind m (stmt.Local f t i x))) is)
+
+  pub eval_of : (m : A) (x new : Expr A) (number : ℕ) → number ≡ 0 → stmt_kind m (stmt.Eval new) ≡ stmt_with_exp (stmt_kind m (stmt.Eval x)) number (expr_of new)
+  unfolding stmt_kind stmt_with_exp
+  eval_of m x new number is = sym (ap (λ n. stmt_with_exp (stmt_kind m (stmt.Eval x)) n (expr_of new)) is)
+
+  pub eval_of_get : (m : A) (x : Expr A) (number : ℕ) → number ≡ 0 → Some (expr_of x) ≡ exp_in (stmt_kind m (stmt.Eval x)) number
+  unfolding stmt_kind pure.stmt_children
+  eval_of_get m x number is = sym (ap (exp_in (stmt_kind m (stmt.Eval x))) is)
 
   -- the value of a `return`
   value_set : (old new : Option (Expr A)) (w : Expr A) → option_map expr_of new ≡ option_map (λ (x : Expr A). expr_of w) old
@@ -165,15 +203,17 @@ module _ (A : Type 0) where
   value_set None new w e = e
   value_set (Some x) new w e = e
 
-  pub return_write : (m : A) (old new : Option (Expr A)) (w : Expr A) → option_map expr_of new ≡ option_map (λ (x : Expr A). expr_of w) old
-      → stmt_kind m (stmt.Return new) ≡ stmt_with_exp (stmt_kind m (stmt.Return old)) 0 (expr_of w)
+  pub return_write : (m : A) (old new : Option (Expr A)) (w : Expr A) (number : ℕ) → number ≡ 0
+      → option_map expr_of new ≡ option_map (λ (x : Expr A). expr_of w) old
+      → stmt_kind m (stmt.Return new) ≡ stmt_with_exp (stmt_kind m (stmt.Return old)) number (expr_of w)
   unfolding stmt_kind stmt_with_exp
-  return_write m old new w e = ap (statement.return m) (value_set old new w e)
+  return_write m old new w number is e =
+      ap (statement.return m) (value_set old new w e) ∙ sym (ap (λ n. stmt_with_exp (stmt_kind m (stmt.Return old)) n (expr_of w)) is)
 
-  pub return_get : (m : A) (h : Option (Expr A)) → option_map expr_of h ≡ exp_in (stmt_kind m (stmt.Return h)) 0
+  pub return_get : (m : A) (h : Option (Expr A)) (number : ℕ) → number ≡ 0 → option_map expr_of h ≡ exp_in (stmt_kind m (stmt.Return h)) number
   unfolding stmt_kind pure.stmt_children
-  return_get m None = refl
-  return_get m (Some x) = refl
+  return_get m None number is = sym (ap (exp_in (stmt_kind m (stmt.Return None))) is)
+  return_get m (Some x) number is = sym (ap (exp_in (stmt_kind m (stmt.Return (Some x)))) is)
 
   pub return_none : (m : A) (h : Option (Expr A)) (number : ℕ) → (number ≡ 0 → ⊥) → None ≡ exp_in (stmt_kind m (stmt.Return h)) number
   unfolding stmt_kind pure.stmt_children
@@ -187,31 +227,47 @@ module _ (A : Type 0) where
   return_no_stmt m (Some x) zero = refl
   return_no_stmt m (Some x) (suc number) = refl
 
--- no child of these numbers
-pub while_no_stmt : {A : Type 0} (e : tree.Exp A) (s : statement.Stmt A) (number : ℕ) → (number ≡ 1 → ⊥) → None ≡ option_and_then pure.as_stmt (slice_get (pure.exp e ∷ (pure.stmt s ∷ [])) number)
-while_no_stmt e s zero h = refl
-while_no_stmt e s (suc zero) h = absurd (h refl)
-while_no_stmt e s (suc (suc number)) h = refl
+  -- no child of these numbers
+  pub while_no_stmt : (m : A) (c : Expr A) (body : Box (Stmt A) Global) (number : ℕ) → (number ≡ 1 → ⊥) → None ≡ stmt_in (stmt_kind m (stmt.While c body)) number
+  unfolding stmt_kind pure.stmt_children
+  while_no_stmt m c body zero h = refl
+  while_no_stmt m c body (suc zero) h = absurd (h refl)
+  while_no_stmt m c body (suc (suc number)) h = refl
 
-pub while_no_exp : {A : Type 0} (e : tree.Exp A) (s : statement.Stmt A) (number : ℕ) → (number ≡ 0 → ⊥) → None ≡ option_and_then pure.as_exp (slice_get (pure.exp e ∷ (pure.stmt s ∷ [])) number)
-while_no_exp e s zero h = absurd (h refl)
-while_no_exp e s (suc zero) h = refl
-while_no_exp e s (suc (suc number)) h = refl
+  pub while_no_exp : (m : A) (c : Expr A) (body : Box (Stmt A) Global) (number : ℕ) → (number ≡ 0 → ⊥) → None ≡ exp_in (stmt_kind m (stmt.While c body)) number
+  unfolding stmt_kind pure.stmt_children
+  while_no_exp m c body zero h = absurd (h refl)
+  while_no_exp m c body (suc zero) h = refl
+  while_no_exp m c body (suc (suc number)) h = refl
 
-pub local_no_stmt : {A : Type 0} (t : tree.TypeName A) (w : tree.Word A) (e : tree.Exp A) (number : ℕ)
-    → None ≡ option_and_then pure.as_stmt (slice_get (pure.type t ∷ (pure.word w ∷ (pure.exp e ∷ []))) number)
-local_no_stmt t w e zero = refl
-local_no_stmt t w e (suc zero) = refl
-local_no_stmt t w e (suc (suc zero)) = refl
-local_no_stmt t w e (suc (suc (suc number))) = refl
+  pub local_no_stmt : (m : A) (f : Bool) (t : TypeRef A) (i : Ident A) (x : Expr A) (number : ℕ) → None ≡ stmt_in (stmt_kind m (stmt.Local f t i x)) number
+  unfolding stmt_kind pure.stmt_children
+  local_no_stmt m f t i x zero = refl
+  local_no_stmt m f t i x (suc zero) = refl
+  local_no_stmt m f t i x (suc (suc zero)) = refl
+  local_no_stmt m f t i x (suc (suc (suc number))) = refl
 
-pub local_no_exp : {A : Type 0} (t : tree.TypeName A) (w : tree.Word A) (e : tree.Exp A) (number : ℕ) → (number ≡ 2 → ⊥)
-    → None ≡ option_and_then pure.as_exp (slice_get (pure.type t ∷ (pure.word w ∷ (pure.exp e ∷ []))) number)
-local_no_exp t w e zero h = refl
-local_no_exp t w e (suc zero) h = refl
-local_no_exp t w e (suc (suc zero)) h = absurd (h refl)
-local_no_exp t w e (suc (suc (suc number))) h = refl
+  pub local_no_exp : (m : A) (f : Bool) (t : TypeRef A) (i : Ident A) (x : Expr A) (number : ℕ) → (number ≡ 2 → ⊥) → None ≡ exp_in (stmt_kind m (stmt.Local f t i x)) number
+  unfolding stmt_kind pure.stmt_children
+  local_no_exp m f t i x zero h = refl
+  local_no_exp m f t i x (suc zero) h = refl
+  local_no_exp m f t i x (suc (suc zero)) h = absurd (h refl)
+  local_no_exp m f t i x (suc (suc (suc number))) h = refl
 
-pub eval_no_stmt : {A : Type 0} (e : tree.Exp A) (number : ℕ) → None ≡ option_and_then pure.as_stmt (slice_get (pure.exp e ∷ []) number)
-eval_no_stmt e zero = refl
-eval_no_stmt e (suc number) = refl
+  pub eval_no_stmt : (m : A) (x : Expr A) (number : ℕ) → None ≡ stmt_in (stmt_kind m (stmt.Eval x)) number
+  unfolding stmt_kind pure.stmt_children
+  eval_no_stmt m x zero = refl
+  eval_no_stmt m x (suc number) = refl
+
+  pub eval_no_exp : (m : A) (x : Expr A) (number : ℕ) → (number ≡ 0 → ⊥) → None ≡ exp_in (stmt_kind m (stmt.Eval x)) number
+  unfolding stmt_kind pure.stmt_children
+  eval_no_exp m x zero h = absurd (h refl)
+  eval_no_exp m x (suc number) h = refl
+
+  pub empty_no_stmt : (m : A) (number : ℕ) → None ≡ stmt_in (stmt_kind m stmt.Empty) number
+  unfolding stmt_kind pure.stmt_children
+  empty_no_stmt m number = refl
+
+  pub empty_no_exp : (m : A) (number : ℕ) → None ≡ exp_in (stmt_kind m stmt.Empty) number
+  unfolding stmt_kind pure.stmt_children
+  empty_no_exp m number = refl
