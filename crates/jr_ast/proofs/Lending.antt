@@ -43,6 +43,18 @@ pub on_some : {T P : Type 0} (o : Option T) → P → OnSome o P
 on_some None p = tt
 on_some (Some x) p = p
 
+pub on_none : {T : Type 0} (P : Type 0) (o : Option T) → o ≡ None → OnSome o P
+on_none P None e = tt
+on_none P (Some x) e = absurd (cc e)
+
+pub on_that : {T P : Type 0} (o : Option T) {x : T} → o ≡ Some x → OnSome o P → P
+on_that None e p = absurd (cc e)
+on_that (Some y) e p = p
+
+pub on_some_with : {T P Q : Type 0} (o : Option T) → OnSome o P → ((x : T) → o ≡ Some x → P → Q) → OnSome o Q
+on_some_with None p f = tt
+on_some_with (Some x) p f = f x refl p
+
 pub on_some_also : {T P Q : Type 0} (o : Option T) → OnSome o P → (P → Q) → OnSome o Q
 on_some_also None p f = tt
 on_some_also (Some x) p f = f p

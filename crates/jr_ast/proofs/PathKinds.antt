@@ -4,17 +4,11 @@ use Rattle.std.proofs.lemmas.Option.{none-some}
 use Rattle.jr_ast.specs.StatementTree as statement
 use Rattle.jr_ast.specs.MemberTree as declared
 use Rattle.jr_ast.specs.Nodes.{Node, unit, class, modifier, word, type, param, member, stmt, exp, node_at, child_of, as_exp, as_stmt, as_member, exp_at, stmt_at, member_at}
+use Rattle.jr_ast.specs.PathKinds.{NoMember, NoStmt}
 use Rattle.jr_ast.proofs.Levels.{child_under, low_exp, low_stmt}
 use Rattle.jr_ast.proofs.PathSplits.{class_child, unit_child}
 
 module _ {A : Type 0} where
-  -- no first part of the path but the empty one leads to a member, to a statement
-  abbrev pub NoMember : Node A → List ℕ → Type 0
-  NoMember n q = (k : ℕ) → 1 ≤ k → k ≤ length q → member_at n (take k q) ≡ None
-
-  abbrev pub NoStmt : Node A → List ℕ → Type 0
-  NoStmt n q = (k : ℕ) → 1 ≤ k → k ≤ length q → stmt_at n (take k q) ≡ None
-
   pub no_member_below : (n c : Node A) (i : ℕ) (q : List ℕ) → child_of n i ≡ Some c → NoMember n (i ∷ q) → NoMember c q
   unfolding node_at
   no_member_below n c i q e none k low high =

@@ -15,6 +15,7 @@ use Rattle.jr_ast.specs.contracts.exprs.Expr as expr
 use Rattle.jr_ast.specs.contracts.exprs.ExprKind as expr_kind
 use Rattle.jr_ast.specs.View as view
 use Rattle.jr_ast.specs.Nodes as pure
+use Rattle.jr_ast.specs.Reaches.{IsWithin}
 use Rattle.jr_ast.specs.With.{with_exp, with_exp_from, with_node}
 
 module _ (A : RattleType) where
@@ -37,7 +38,8 @@ module _ (A : RattleType) where
       (λ n. (m : A.Denot) → view.expr_kind m n ≡ view.expr_kind m s.now)
 
   -- an expression below an expression
-  abbrev pub lends_below_expr : MutBor (ExprKind A.Denot) → List ℕ → Option (MutBor (Expr A.Denot)) → Fml
-  lends_below_expr s path r = LendsSo (expr_kind.the_row A) (expr.the_row A) s r
-      (λ n w. OnSome r ((m : A.Denot) → pure.exp (view.expr_kind m n) ≡ with_node (pure.exp (view.expr_kind m s.now)) path (pure.exp (view.expr_of w))))
-      (λ n. (m : A.Denot) → view.expr_kind m n ≡ view.expr_kind m s.now)
+  abbrev pub lends_below_expr : (reach : ℕ) → MutBor (ExprKind A.Denot) → List ℕ → Option (MutBor (Expr A.Denot)) → Fml
+  lends_below_expr reach s path r = LendsSo (expr_kind.the_row A) (expr.the_row A) s r
+      (λ n w. OnSome r (IsWithin reach path → (m : A.Denot)
+          → pure.exp (view.expr_kind m n) ≡ with_node (pure.exp (view.expr_kind m s.now)) path (pure.exp (view.expr_of w))))
+      (λ n. IsWithin reach path → (m : A.Denot) → view.expr_kind m n ≡ view.expr_kind m s.now)

@@ -17,6 +17,7 @@ use Rattle.jr_ast.specs.contracts.stmts.Stmt as stmt
 use Rattle.jr_ast.specs.contracts.stmts.StmtKind as stmt_kind
 use Rattle.jr_ast.specs.View as view
 use Rattle.jr_ast.specs.Nodes as pure
+use Rattle.jr_ast.specs.Reaches.{IsWithin}
 use Rattle.jr_ast.specs.With.{stmt_with_exp, stmt_with_stmt, with_stmt_from, with_node}
 
 module _ (A : RattleType) where
@@ -49,7 +50,8 @@ module _ (A : RattleType) where
       (λ n. (m : A.Denot) → view.stmt_kind m n ≡ view.stmt_kind m s.now)
 
   -- a statement below a statement
-  abbrev pub lends_below_stmt : MutBor (StmtKind A.Denot) → List ℕ → Option (MutBor (Stmt A.Denot)) → Fml
-  lends_below_stmt s path r = LendsSo (stmt_kind.the_row A) (stmt.the_row A) s r
-      (λ n w. OnSome r ((m : A.Denot) → pure.stmt (view.stmt_kind m n) ≡ with_node (pure.stmt (view.stmt_kind m s.now)) path (pure.stmt (view.stmt_of w))))
-      (λ n. (m : A.Denot) → view.stmt_kind m n ≡ view.stmt_kind m s.now)
+  abbrev pub lends_below_stmt : (reach : ℕ) → MutBor (StmtKind A.Denot) → List ℕ → Option (MutBor (Stmt A.Denot)) → Fml
+  lends_below_stmt reach s path r = LendsSo (stmt_kind.the_row A) (stmt.the_row A) s r
+      (λ n w. OnSome r (IsWithin reach path → (m : A.Denot)
+          → pure.stmt (view.stmt_kind m n) ≡ with_node (pure.stmt (view.stmt_kind m s.now)) path (pure.stmt (view.stmt_of w))))
+      (λ n. IsWithin reach path → (m : A.Denot) → view.stmt_kind m n ≡ view.stmt_kind m s.now)

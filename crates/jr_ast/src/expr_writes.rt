@@ -1,8 +1,9 @@
 //! Changeable expressions of expressions.
-ghost use Rattle.std.specs.Prelude.{◌≡◌, ◌≤◌, length, map, option_map, option_and_then};
+ghost use Rattle.std.specs.Prelude.{◌≡◌, map, option_map, option_and_then};
 ghost use Rattle.std.specs.Borrow.{sem};
 ghost use Rattle.jr_ast.specs.Nodes as pure;
 ghost use Rattle.jr_ast.specs.View as view;
+ghost use Rattle.jr_ast.specs.Reaches.{IsWithin};
 ghost use Rattle.jr_ast.specs.With.{arguments_begin, get_from};
 ghost use Rattle.jr_ast.specs.Lent.{lends_expr_among, lends_held, lends_expr_of_expr, lends_below_expr};
 
@@ -109,18 +110,18 @@ pub(crate) trait ExprLevel<A> {
     ghost reach: { ℕ };
 
     fn below<'k>(kind: &'k mut ExprKind<A>, steps: &[u32]) -> Option<&'k mut Expr<A>>
-        ensures* writes_back { sem 𝓛 (lends_below_expr A.row kind.entry steps.now result) }
-        ensures value { 1 ≤ length steps.now → length steps.now ≤ reach → (m : A) → option_map (λ x. view.expr_of x.now) result ≡ pure.exp_at (pure.exp (view.expr_kind m kind.entry.now)) steps.now };
+        ensures* writes_back { sem 𝓛 (lends_below_expr A.row reach kind.entry steps.now result) }
+        ensures value { IsWithin reach steps.now → (m : A) → option_map (λ x. view.expr_of x.now) result ≡ pure.exp_at (pure.exp (view.expr_kind m kind.entry.now)) steps.now };
 }
 
 impl<A> ExprLevel<A> for One {
     ghost reach = { 1 };
 
     fn below<'k>(kind: &'k mut ExprKind<A>, steps: &[u32]) -> Option<&'k mut Expr<A>> {
-        match steps {
-            [step] => kind.expr_mut(*step as usize),
-            _ => None,
+        if steps.len() != 1 {
+            return None;
         }
+        kind.expr_mut(steps[0] as usize)
     }
 }
 

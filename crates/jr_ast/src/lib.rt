@@ -12,6 +12,7 @@ mod names;
 mod nodes;
 mod operators;
 mod parts;
+mod path_writes;
 mod paths;
 mod reaches;
 mod seeks;

@@ -1,8 +1,9 @@
 //! Changeable statements and expressions of statements.
-ghost use Rattle.std.specs.Prelude.{◌≡◌, ◌≤◌, length, map, option_map, option_and_then};
+ghost use Rattle.std.specs.Prelude.{◌≡◌, map, option_map, option_and_then};
 ghost use Rattle.std.specs.Borrow.{sem};
 ghost use Rattle.jr_ast.specs.Nodes as pure;
 ghost use Rattle.jr_ast.specs.View as view;
+ghost use Rattle.jr_ast.specs.Reaches.{IsWithin};
 ghost use Rattle.jr_ast.specs.With.{get_from};
 ghost use Rattle.jr_ast.specs.StmtLent.{lends_stmt_among, lends_held_stmt, lends_held_expr, lends_stmt_of_stmt, lends_expr_of_stmt, lends_below_stmt};
 
@@ -93,18 +94,18 @@ pub(crate) trait StmtLevel<A> {
     ghost reach: { ℕ };
 
     fn below<'k>(kind: &'k mut StmtKind<A>, steps: &[u32]) -> Option<&'k mut Stmt<A>>
-        ensures* writes_back { sem 𝓛 (lends_below_stmt A.row kind.entry steps.now result) }
-        ensures value { 1 ≤ length steps.now → length steps.now ≤ reach → (m : A) → option_map (λ x. view.stmt_of x.now) result ≡ pure.stmt_at (pure.stmt (view.stmt_kind m kind.entry.now)) steps.now };
+        ensures* writes_back { sem 𝓛 (lends_below_stmt A.row reach kind.entry steps.now result) }
+        ensures value { IsWithin reach steps.now → (m : A) → option_map (λ x. view.stmt_of x.now) result ≡ pure.stmt_at (pure.stmt (view.stmt_kind m kind.entry.now)) steps.now };
 }
 
 impl<A> StmtLevel<A> for One {
     ghost reach = { 1 };
 
     fn below<'k>(kind: &'k mut StmtKind<A>, steps: &[u32]) -> Option<&'k mut Stmt<A>> {
-        match steps {
-            [step] => kind.stmt_mut(*step as usize),
-            _ => None,
+        if steps.len() != 1 {
+            return None;
         }
+        kind.stmt_mut(steps[0] as usize)
     }
 }
 
