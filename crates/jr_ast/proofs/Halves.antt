@@ -5,9 +5,9 @@ use Rattle.jr_ast.specs.Tree as tree
 use Rattle.jr_ast.specs.StatementTree as statement
 use Rattle.jr_ast.specs.MemberTree as declared
 use Rattle.jr_ast.specs.Nodes.{Node, unit, class, modifier, word, type, param, member, stmt, exp, node_at, child_of, as_exp, as_stmt, as_member, exp_at, stmt_at, member_at}
-use Rattle.jr_ast.specs.With.{with_exp, stmt_with_stmt, with_child, with_node}
+use Rattle.jr_ast.specs.With.{with_child, with_found, with_node}
 use Rattle.jr_ast.specs.Reaches.{IsWithin}
-use Rattle.jr_ast.proofs.WithLaws.{with_append, with_same}
+use Rattle.jr_ast.proofs.WithLaws.{with_append, with_same, child_same}
 use Rattle.jr_ast.proofs.PathSplits.{exp_split, stmt_split}
 
 -- one step
@@ -39,6 +39,9 @@ module _ {A : Type 0} where
   pub stmt_inject : {d e : statement.Stmt A} → stmt d ≡ stmt e → d ≡ e
   stmt_inject h = cc h
 
+  pub member_inject : {d e : declared.Member A} → member d ≡ member e → d ≡ e
+  member_inject h = cc h
+
   pub node_of_exp : (n : Node A) (p : List ℕ) (d : tree.Exp A) → Some d ≡ exp_at n p → node_at n p ≡ Some (exp d)
   node_of_exp n p d h = exp_is (node_at n p) d (sym h)
 
@@ -56,6 +59,30 @@ module _ {A : Type 0} where
   -- no write below c
   pub same_join : (n c f g : Node A) (p : List ℕ) → node_at n p ≡ Some c → f ≡ with_node n p g → g ≡ c → f ≡ n
   same_join n c f g p at first same = first ∙ ap (with_node n p) same ∙ with_same n c p at
+
+  -- a first step to c, and a write below it
+  pub first_then : (n c f g x : Node A) (i : ℕ) (q steps : List ℕ) → i ∷ q ≡ steps → child_of n i ≡ Some c → f ≡ with_child n i g → g ≡ with_node c q x → f ≡ with_node n steps x
+  unfolding with_node
+  first_then n c f g x i q steps join at first second =
+      first ∙ ap (with_child n i) second ∙ sym (ap (with_found n i (λ d. with_node d q x)) at) ∙ ap (λ s. with_node n s x) join
+
+  pub first_same : (n c f g : Node A) (i : ℕ) → child_of n i ≡ Some c → f ≡ with_child n i g → g ≡ c → f ≡ n
+  first_same n c f g i at first same = first ∙ ap (with_child n i) same ∙ child_same n c i at
+
+  pub empty_exp : (s : statement.Stmt A) (steps : List ℕ) → length steps ≡ 0 → None ≡ exp_at (stmt s) steps
+  unfolding node_at
+  empty_exp s [] h = refl
+  empty_exp s (i ∷ is) h = absurd (omega (h, arith))
+
+  pub empty_exp_member : (m : declared.Member A) (steps : List ℕ) → length steps ≡ 0 → None ≡ exp_at (member m) steps
+  unfolding node_at
+  empty_exp_member m [] h = refl
+  empty_exp_member m (i ∷ is) h = absurd (omega (h, arith))
+
+  pub empty_stmt_member : (m : declared.Member A) (steps : List ℕ) → length steps ≡ 0 → None ≡ stmt_at (member m) steps
+  unfolding node_at
+  empty_stmt_member m [] h = refl
+  empty_stmt_member m (i ∷ is) h = absurd (omega (h, arith))
 
   pub exp_joined : (e d : tree.Exp A) (p q steps : List ℕ) → p ++ q ≡ steps → Some d ≡ exp_at (exp e) p → exp_at (exp d) q ≡ exp_at (exp e) steps
   exp_joined e d p q steps join at = ap (option_and_then (λ x. exp_at (exp x) q)) at ∙ sym (exp_split e p q) ∙ ap (exp_at (exp e)) join
@@ -122,6 +149,15 @@ lower_half reach steps some within =
     (subst (λ n. 1 ≤ n) (sym same) (omega (some, arith)), subst (λ n. n ≤ reach) (sym same) (omega (within.1, arith)))
 
 -- a path of one step is within half the reach
+pub first_step : (steps : List ℕ) → 1 ≤ length steps → get_or steps 0 0 ∷ take (length steps - 1) (drop 1 steps) ≡ steps
+first_step [] h = absurd (omega (h, arith))
+first_step (i ∷ is) h = ap (λ q. i ∷ q) (rest_is (i ∷ is) 1)
+
+pub rest_within : (reach : ℕ) (steps : List ℕ) → 2 ≤ length steps → length steps ≤ reach → IsWithin reach (take (length steps - 1) (drop 1 steps))
+rest_within reach steps h k =
+    let same : length (take (length steps - 1) (drop 1 steps)) ≡ length steps - 1 = ap length (rest_is steps 1) ∙ length-drop 1 steps in
+    (subst (λ n. 1 ≤ n) (sym same) (omega (h, arith)), subst (λ n. n ≤ reach) (sym same) (omega (k, arith)))
+
 pub short_within : (reach : ℕ) (steps : List ℕ) → length steps / 2 ≡ 0 → IsWithin (2 * reach) steps → IsWithin reach steps
 short_within reach steps short within =
     let one : length steps ≤ 1 = omega (short, arith) in
