@@ -7,6 +7,7 @@ mod expr_writes;
 mod exprs;
 mod marks;
 mod member_marks;
+mod member_writes;
 mod members;
 mod names;
 mod nodes;
