@@ -8,9 +8,10 @@ ghost use Rattle.jr_ast.specs.PathLent.{lends_stmt_below_member, lends_expr_belo
 
 use crate::expr_writes::ExprLevel;
 use crate::exprs::Expr;
-
+use crate::members::MemberKind;
 use crate::reaches::Far;
-use crate::stmts::StmtKind;
+use crate::stmt_writes::StmtLevel;
+use crate::stmts::{Stmt, StmtKind};
 
 impl<A> StmtKind<A> {
     /// The expression to which the steps lead from the statement, where they pass no statement.
@@ -25,6 +26,40 @@ impl<A> StmtKind<A> {
             _ => {
                 let expr = self.expr_mut(steps[0] as usize)?;
                 <Far as ExprLevel<A>>::below(&mut expr.kind, &steps[1..])
+            }
+        }
+    }
+}
+
+impl<A> MemberKind<A> {
+    /// The expression to which the steps lead from the member, where they pass no member and no statement.
+    pub(crate) fn expr_below(&mut self, steps: &[u32]) -> Option<&mut Expr<A>>
+        requires { length steps.now ≤ 18446744073709551615 }
+        ensures* writes_back { sem 𝓛 (lends_expr_below_member A.row self.entry steps.now result) }
+        ensures value { (m : A) → NoMember (pure.member (view.member_kind m self.entry.now)) steps.now → NoStmt (pure.member (view.member_kind m self.entry.now)) steps.now → option_map (λ x. view.expr_of x.now) result ≡ pure.exp_at (pure.member (view.member_kind m self.entry.now)) steps.now }
+    {
+        match steps.len() {
+            0 => None,
+            1 => self.expr_mut(steps[0] as usize),
+            _ => {
+                let expr = self.expr_mut(steps[0] as usize)?;
+                <Far as ExprLevel<A>>::below(&mut expr.kind, &steps[1..])
+            }
+        }
+    }
+
+    /// The statement to which the steps lead from the member, where they pass no member.
+    pub(crate) fn stmt_below(&mut self, steps: &[u32]) -> Option<&mut Stmt<A>>
+        requires { length steps.now ≤ 18446744073709551615 }
+        ensures* writes_back { sem 𝓛 (lends_stmt_below_member A.row self.entry steps.now result) }
+        ensures value { (m : A) → NoMember (pure.member (view.member_kind m self.entry.now)) steps.now → option_map (λ x. view.stmt_of x.now) result ≡ pure.stmt_at (pure.member (view.member_kind m self.entry.now)) steps.now }
+    {
+        match steps.len() {
+            0 => None,
+            1 => self.stmt_mut(steps[0] as usize),
+            _ => {
+                let stmt = self.stmt_mut(steps[0] as usize)?;
+                <Far as StmtLevel<A>>::below(&mut stmt.kind, &steps[1..])
             }
         }
     }
