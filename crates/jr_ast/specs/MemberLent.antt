@@ -1,5 +1,5 @@
 -- What classes, members and compilation units end as, once a `&mut` into them has ended.
-use Rattle.std.specs.Prelude.{◌≡◌, ℕ, zero, suc, List, Option, Some, None, Vec, map, option_map, option_and_then}
+use Rattle.std.specs.Prelude.{◌≡◌, ◌≤◌, ◌*◌, ℕ, zero, suc, List, length, Option, Some, None, Vec, map, option_map, option_and_then}
 use Rattle.std.specs.List.{slice_get}
 use Rattle.std.specs.Option.{OnSome}
 use Rattle.std.specs.Global.{Global}
@@ -25,7 +25,7 @@ use Rattle.jr_ast.specs.StatementTree as statement
 use Rattle.jr_ast.specs.MemberTree as declared
 use Rattle.jr_ast.specs.Nodes as pure
 use Rattle.jr_ast.specs.View as view
-use Rattle.jr_ast.specs.With.{first_member, first_init, first_parent_arg, first_in_constructor, first_in_method, with_exp_among, with_stmt_among, with_member_from, with_class_from, with_maybe}
+use Rattle.jr_ast.specs.With.{first_member, first_init, first_parent_arg, first_in_constructor, first_in_method, with_exp_among, with_stmt_among, with_member_from, with_class_from, with_maybe, with_node}
 use Rattle.jr_ast.specs.With.{class_with_member, member_with_class, member_with_stmt, member_with_exp, unit_with_class}
 
 -- what is left of a number once so many children are passed over
@@ -130,3 +130,9 @@ module _ (A : RattleType) where
   lends_expr_of_member s number r = LendsSo (member_kind.the_row A) (expr.the_row A) s r
       (λ n w. OnSome r ((m : A.Denot) → view.member_kind m n ≡ member_with_exp (view.member_kind m s.now) number (view.expr_of w)))
       (λ n. (m : A.Denot) → view.member_kind m n ≡ view.member_kind m s.now)
+
+  -- a member below a class, where the path has no more than twice `reach` steps
+  abbrev pub lends_below_class : (reach : ℕ) → MutBor (Class A.Denot) → List ℕ → Option (MutBor (Member A.Denot)) → Fml
+  lends_below_class reach s path r = LendsSo (class.the_row A) (member.the_row A) s r
+      (λ n w. OnSome r (length path ≤ 2 * reach → pure.class (view.class_of n) ≡ with_node (pure.class (view.class_of s.now)) path (pure.member (view.member_of w))))
+      (λ n. length path ≤ 2 * reach → view.class_of n ≡ view.class_of s.now)

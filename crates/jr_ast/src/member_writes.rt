@@ -1,17 +1,18 @@
 //! Changeable parts of classes, members and compilation units.
-ghost use Rattle.std.specs.Prelude.{◌≡◌, length, map, option_map, option_and_then};
+ghost use Rattle.std.specs.Prelude.{◌≡◌, ◌≤◌, ◌*◌, length, map, option_map, option_and_then};
 ghost use Rattle.std.specs.Borrow.{sem};
 ghost use Rattle.jr_ast.specs.Nodes as pure;
 ghost use Rattle.jr_ast.specs.View as view;
 ghost use Rattle.jr_ast.specs.With.{get_from};
 ghost use Rattle.jr_ast.specs.MemberLent.{members_begin, init_begins, left_of, names_of, at_place, body_place, args_place};
 ghost use Rattle.jr_ast.specs.MemberLent.{lends_member_among, lends_member_of_class, lends_class_of_member, lends_class_among, lends_class_of_unit};
-ghost use Rattle.jr_ast.specs.MemberLent.{lends_stmt_left, lends_arg_left, lends_init, lends_stmt_of_member, lends_expr_of_member};
+ghost use Rattle.jr_ast.specs.MemberLent.{lends_stmt_left, lends_arg_left, lends_init, lends_stmt_of_member, lends_expr_of_member, lends_below_class};
 
 use crate::expr_writes::nth_expr;
 use crate::exprs::Expr;
 use crate::members::{Class, Member, MemberKind, Unit};
 use crate::parts::TypeRef;
+use crate::reaches::{One, Twice};
 use crate::stmt_writes::held_expr;
 use crate::stmts::Stmt;
 
@@ -228,5 +229,44 @@ impl<A> Unit<A> {
     {
         let first = self.package.len();
         nth_class(&mut self.classes, first, number)
+    }
+}
+
+/// A way down from a class to a member below it.
+pub(crate) trait ClassLevel<A> {
+    ghost use Rattle.std.specs.Prelude.{ℕ};
+
+    ghost reach: { ℕ };
+
+    fn below<'k>(class: &'k mut Class<A>, steps: &[u32]) -> Option<&'k mut Member<A>>
+        ensures* writes_back { sem 𝓛 (lends_below_class A.row reach class.entry steps.now result) }
+        ensures value { length steps.now ≤ 2 * reach → option_map (λ x. view.member_of x.now) result ≡ pure.member_at (pure.class (view.class_of class.entry.now)) steps.now };
+}
+
+impl<A> ClassLevel<A> for One {
+    ghost reach = { 1 };
+
+    fn below<'k>(class: &'k mut Class<A>, steps: &[u32]) -> Option<&'k mut Member<A>> {
+        if steps.len() != 1 {
+            return None;
+        }
+        class.member_mut(steps[0] as usize)
+    }
+}
+
+impl<A, L: ClassLevel<A>> ClassLevel<A> for Twice<L> {
+    ghost reach = { 2 * L.reach };
+
+    fn below<'k>(class: &'k mut Class<A>, steps: &[u32]) -> Option<&'k mut Member<A>> {
+        if steps.len() % 2 == 0 {
+            return None;
+        }
+        let upper = (steps.len() / 2 + 1) / 2;
+        if upper == 0 {
+            return L::below(class, steps);
+        }
+        let member = L::below(class, &steps[..2 * upper - 1])?;
+        let inner = member.kind.inner_mut(steps[2 * upper - 1] as usize)?;
+        L::below(inner, &steps[2 * upper..])
     }
 }
