@@ -6,6 +6,10 @@ use Rattle.jr_ast.specs.declared.exprs.Expr.{Expr}
 use Rattle.jr_ast.specs.declared.stmts.Stmt.{Stmt}
 use Rattle.jr_ast.specs.declared.stmts.StmtKind.{StmtKind}
 use Rattle.jr_ast.specs.declared.members.MemberKind.{MemberKind}
+use Rattle.jr_ast.specs.declared.members.Member.{Member}
+use Rattle.jr_ast.specs.declared.members.Unit.{Unit}
+use Rattle.jr_ast.specs.contracts.members.Member as member
+use Rattle.jr_ast.specs.contracts.members.Unit as unit
 use Rattle.jr_ast.specs.contracts.exprs.Expr as expr
 use Rattle.jr_ast.specs.contracts.stmts.Stmt as stmt
 use Rattle.jr_ast.specs.contracts.stmts.StmtKind as stmt_kind
@@ -29,3 +33,19 @@ module _ (A : RattleType) where
   lends_stmt_below_member s path r = LendsSo (member_kind.the_row A) (stmt.the_row A) s r
       (λ n w. OnSome r ((m : A.Denot) → pure.member (view.member_kind m n) ≡ with_node (pure.member (view.member_kind m s.now)) path (pure.stmt (view.stmt_of w))))
       (λ n. (m : A.Denot) → view.member_kind m n ≡ view.member_kind m s.now)
+
+  -- the unit with the node at the end of the path replaced by the last value behind the reference
+  abbrev pub lends_member_below_unit : MutBor (Unit A.Denot) → List ℕ → Option (MutBor (Member A.Denot)) → Fml
+  lends_member_below_unit s path r = LendsSo (unit.the_row A) (member.the_row A) s r
+      (λ n w. OnSome r (pure.unit (view.unit_of n) ≡ with_node (pure.unit (view.unit_of s.now)) path (pure.member (view.member_of w))))
+      (λ n. view.unit_of n ≡ view.unit_of s.now)
+
+  abbrev pub lends_stmt_below_unit : MutBor (Unit A.Denot) → List ℕ → Option (MutBor (Stmt A.Denot)) → Fml
+  lends_stmt_below_unit s path r = LendsSo (unit.the_row A) (stmt.the_row A) s r
+      (λ n w. OnSome r (pure.unit (view.unit_of n) ≡ with_node (pure.unit (view.unit_of s.now)) path (pure.stmt (view.stmt_of w))))
+      (λ n. view.unit_of n ≡ view.unit_of s.now)
+
+  abbrev pub lends_expr_below_unit : MutBor (Unit A.Denot) → List ℕ → Option (MutBor (Expr A.Denot)) → Fml
+  lends_expr_below_unit s path r = LendsSo (unit.the_row A) (expr.the_row A) s r
+      (λ n w. OnSome r (pure.unit (view.unit_of n) ≡ with_node (pure.unit (view.unit_of s.now)) path (pure.exp (view.expr_of w))))
+      (λ n. view.unit_of n ≡ view.unit_of s.now)

@@ -20,6 +20,7 @@ mod seeks;
 mod stmt_marks;
 mod stmt_writes;
 mod stmts;
+mod turns;
 
 pub use exprs::{Expr, ExprKind};
 pub use members::{Class, Member, MemberKind, Unit};

@@ -4,14 +4,17 @@ ghost use Rattle.std.specs.Borrow.{sem};
 ghost use Rattle.jr_ast.specs.Nodes as pure;
 ghost use Rattle.jr_ast.specs.View as view;
 ghost use Rattle.jr_ast.specs.PathKinds.{NoMember, NoStmt};
-ghost use Rattle.jr_ast.specs.PathLent.{lends_stmt_below_member, lends_expr_below_member, lends_expr_below_stmt};
+ghost use Rattle.jr_ast.specs.PathLent.{lends_stmt_below_member, lends_expr_below_member, lends_expr_below_stmt, lends_member_below_unit, lends_stmt_below_unit, lends_expr_below_unit};
 
 use crate::expr_writes::ExprLevel;
 use crate::exprs::Expr;
-use crate::members::MemberKind;
+use crate::member_writes::ClassLevel;
+use crate::members::{Member, MemberKind, Unit};
+use crate::paths::Path;
 use crate::reaches::Far;
 use crate::stmt_writes::StmtLevel;
 use crate::stmts::{Stmt, StmtKind};
+use crate::turns::turns_of;
 
 impl<A> StmtKind<A> {
     /// The expression to which the steps lead from the statement, where they pass no statement.
@@ -62,5 +65,56 @@ impl<A> MemberKind<A> {
                 <Far as StmtLevel<A>>::below(&mut stmt.kind, &steps[1..])
             }
         }
+    }
+}
+
+impl<A> Unit<A> {
+    /// The member to which the steps lead.
+    fn member_below(&mut self, steps: &[u32]) -> Option<&mut Member<A>>
+        requires { length steps.now ≤ 18446744073709551615 }
+        ensures* writes_back { sem 𝓛 (lends_member_below_unit A.row self.entry steps.now result) }
+        ensures value { option_map (λ x. view.member_of x.now) result ≡ pure.member_at (pure.unit (view.unit_of self.entry.now)) steps.now }
+    {
+        if steps.len() == 0 {
+            return None;
+        }
+        let class = self.class_mut(steps[0] as usize)?;
+        <Far as ClassLevel<A>>::below(class, &steps[1..])
+    }
+
+    /// The member to which the path leads, to change it; `None` exactly where it leads to no member.
+    pub fn member_at_mut(&mut self, path: &Path) -> Option<&mut Member<A>>
+        ensures* writes_back { sem 𝓛 (lends_member_below_unit A.row self.entry path.now.steps.items result) }
+        ensures value { option_map (λ x. view.member_of x.now) result ≡ pure.member_at (pure.unit (view.unit_of self.entry.now)) path.now.steps.items }
+    {
+        self.member_below(path.steps.as_slice())
+    }
+
+    /// The statement to which the path leads, to change it; `None` exactly where it leads to no
+    /// statement.
+    pub fn stmt_at_mut(&mut self, path: &Path) -> Option<&mut Stmt<A>>
+        ensures* writes_back { sem 𝓛 (lends_stmt_below_unit A.row self.entry path.now.steps.items result) }
+        ensures value { option_map (λ x. view.stmt_of x.now) result ≡ pure.stmt_at (pure.unit (view.unit_of self.entry.now)) path.now.steps.items }
+    {
+        let steps = path.steps.as_slice();
+        let turns = turns_of(self, steps);
+        let member = self.member_below(&steps[..turns.members])?;
+        member.kind.stmt_below(&steps[turns.members..])
+    }
+
+    /// The expression to which the path leads, to change it; `None` exactly where it leads to no
+    /// expression.
+    pub fn expr_at_mut(&mut self, path: &Path) -> Option<&mut Expr<A>>
+        ensures* writes_back { sem 𝓛 (lends_expr_below_unit A.row self.entry path.now.steps.items result) }
+        ensures value { option_map (λ x. view.expr_of x.now) result ≡ pure.exp_at (pure.unit (view.unit_of self.entry.now)) path.now.steps.items }
+    {
+        let steps = path.steps.as_slice();
+        let turns = turns_of(self, steps);
+        let member = self.member_below(&steps[..turns.members])?;
+        if turns.stmts <= turns.members {
+            return member.kind.expr_below(&steps[turns.members..]);
+        }
+        let stmt = member.kind.stmt_below(&steps[turns.members..turns.stmts])?;
+        stmt.kind.expr_below(&steps[turns.stmts..])
     }
 }
