@@ -153,6 +153,9 @@ pub first_step : (steps : List ℕ) → 1 ≤ length steps → get_or steps 0 0 
 first_step [] h = absurd (omega (h, arith))
 first_step (i ∷ is) h = ap (λ q. i ∷ q) (rest_is (i ∷ is) 1)
 
+pub rest_short : {bound : ℕ} (steps : List ℕ) → length steps ≤ bound → length (take (length steps - 1) (drop 1 steps)) ≤ bound
+rest_short {bound} steps h = subst (λ n. n ≤ bound) (sym (ap length (rest_is steps 1) ∙ length-drop 1 steps)) (omega (h, arith))
+
 pub rest_within : (reach : ℕ) (steps : List ℕ) → 2 ≤ length steps → length steps ≤ reach → IsWithin reach (take (length steps - 1) (drop 1 steps))
 rest_within reach steps h k =
     let same : length (take (length steps - 1) (drop 1 steps)) ≡ length steps - 1 = ap length (rest_is steps 1) ∙ length-drop 1 steps in
