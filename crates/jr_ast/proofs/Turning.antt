@@ -1,5 +1,6 @@
 -- Where a path leads from its last member, and from its last statement.
 use Rattle.std.proofs.Common.{◌≡◌, ℕ, zero, suc, ◌+◌, ◌-◌, ◌<◌, ◌≤◌, true, false, List, [], ◌∷◌, ◌++◌, length, take, drop, get_or, Option, Some, None, option_and_then, refl, sym, ap, subst, ◌∙◌, arith}
+use Rattle.std.proofs.Math.Seq.{take-add}
 use Rattle.std.proofs.lemmas.List.{take-take}
 use Rattle.std.specs.Option.{IsSome, is_some}
 use Rattle.jr_ast.specs.Tree as tree
@@ -10,17 +11,24 @@ use Rattle.jr_ast.specs.PathKinds.{NoMember, NoStmt, IsLast}
 use Rattle.jr_ast.proofs.WithLaws.{at_append}
 use Rattle.jr_ast.proofs.PathSplits.{unit_member, unit_no_member}
 
-take_add : {X : Type 0} (m k : ℕ) (xs : List X) → take (m + k) xs ≡ take m xs ++ take k (drop m xs)
-take_add zero k xs = ap (λ n. take n xs) (omega arith)
-take_add (suc m) k [] = ap (λ n. take n []) (add_suc m k) ∙ nothing k
-  where
-    nothing : {X : Type 0} (k : ℕ) → [] ≡ take k ([] {A = X})
-    nothing zero = refl
-    nothing (suc k) = refl
-take_add (suc m) k (x ∷ xs) = ap (λ n. take n (x ∷ xs)) (add_suc m k) ∙ ap (λ l. x ∷ l) (take_add m k xs)
+length-take-bound : {X : Type 0} (count : ℕ) (xs : List X) → length (take count xs) ≤ count
+length-take-bound zero xs = omega arith
+length-take-bound (suc count) [] = omega arith
+length-take-bound (suc count) (x ∷ xs) = let h = length-take-bound count xs in omega (h, arith)
 
-add_suc : (m k : ℕ) → suc m + k ≡ suc (m + k)
-add_suc m k = omega arith
+-- no first part of the path leads to such a node
+pub none_at_all : {X : Type 0} (at : List ℕ → Option X) (steps : List ℕ) (last : ℕ) → IsLast at steps (length steps) last → None ≡ at (take last steps)
+    → (k : ℕ) → 1 ≤ k → k ≤ length steps → at (take k steps) ≡ None
+none_at_all at steps zero h none k low high = h.2 k low high
+none_at_all at steps (suc last) h none k low high = absurd (not_some (at (take (suc last) steps)) (sym none) (h.1 (omega arith)))
+  where
+    not_some : {X : Type 0} (o : Option X) → o ≡ None → IsSome o → ⊥
+    not_some None e some = cc some
+    not_some (Some x) e some = cc e
+
+-- the steps from one place to another
+pub between : {X : Type 0} (m s : ℕ) (steps : List X) → m ≤ s → take m steps ++ take (s - m) (drop m steps) ≡ take s steps
+between m s steps h = sym (take-add m (s - m) steps) ∙ ap (λ n. take n steps) (omega (h, arith))
 
 module _ {A : Type 0} where
   class_is : (o : Option (Node A)) (d : declared.Class A) → option_and_then as_class o ≡ Some d → o ≡ Some (class d)
@@ -46,16 +54,6 @@ module _ {A : Type 0} where
   pub no_member_first : (u : declared.Unit A) (i : ℕ) (q steps : List ℕ) → i ∷ q ≡ steps → None ≡ option_and_then as_class (child_of (unit u) i) → None ≡ member_at (unit u) steps
   no_member_first u i q steps join at = ap (option_and_then (λ c. member_at (class c) q)) at ∙ sym (unit_member u i q) ∙ ap (member_at (unit u)) join
 
-  -- no first part of the path leads to such a node
-  pub none_at_all : {X : Type 0} (at : List ℕ → Option X) (steps : List ℕ) (last : ℕ) → IsLast at steps (length steps) last → None ≡ at (take last steps)
-      → (k : ℕ) → 1 ≤ k → k ≤ length steps → at (take k steps) ≡ None
-  none_at_all at steps zero h none k low high = h.2 k low high
-  none_at_all at steps (suc last) h none k low high = absurd (not_some (at (take (suc last) steps)) (sym none) (h.1 (omega arith)))
-    where
-      not_some : {X : Type 0} (o : Option X) → o ≡ None → IsSome o → ⊥
-      not_some None e some = cc some
-      not_some (Some x) e some = cc e
-
   -- below a node on the path: what comes after it on the path
   module _ {X : Type 0} (kind : Node A → Option X) (u n : Node A) (steps : List ℕ) (place : ℕ) (at : node_at u (take place steps) ≡ Some n) where
     pub at_below : (q rest : List ℕ) → take place steps ++ q ≡ rest → option_and_then kind (node_at n q) ≡ option_and_then kind (node_at u rest)
@@ -67,10 +65,5 @@ module _ {A : Type 0} where
     none_below count fits none k low high =
         let q = take count (drop place steps) in
         let small : k ≤ count = omega (high, length-take-bound count (drop place steps), arith) in
-        at_below (take k q) (take (place + k) steps) (ap (λ l. take place steps ++ l) (take-take k count (drop place steps) small) ∙ sym (take_add place k steps))
+        at_below (take k q) (take (place + k) steps) (ap (λ l. take place steps ++ l) (take-take k count (drop place steps) small) ∙ sym (take-add place k steps))
         ∙ none (place + k) (omega (low, arith)) (omega (small, fits, arith))
-
-length-take-bound : {X : Type 0} (count : ℕ) (xs : List X) → length (take count xs) ≤ count
-length-take-bound zero xs = omega arith
-length-take-bound (suc count) [] = omega arith
-length-take-bound (suc count) (x ∷ xs) = let h = length-take-bound count xs in omega (h, arith)
