@@ -138,6 +138,10 @@ module _ {A : Type 0} where
   as_member (member m) = Some m
   as_member _ = None
 
+  abbrev pub as_class : Node A → Option (declared.Class A)
+  as_class (class c) = Some c
+  as_class _ = None
+
   abbrev pub exp_at : Node A → List ℕ → Option (tree.Exp A)
   exp_at n path = option_and_then as_exp (node_at n path)
 

@@ -3,18 +3,24 @@
 
 mod children;
 mod expr_marks;
+mod expr_writes;
 mod exprs;
 mod marks;
 mod member_marks;
+mod member_writes;
 mod members;
 mod names;
 mod nodes;
 mod operators;
 mod parts;
+mod path_writes;
 mod paths;
+mod reaches;
 mod seeks;
 mod stmt_marks;
+mod stmt_writes;
 mod stmts;
+mod turns;
 
 pub use exprs::{Expr, ExprKind};
 pub use members::{Class, Member, MemberKind, Unit};

@@ -1,5 +1,6 @@
 //! Nodes: the parts of a tree that have a mark.
 ghost use Rattle.std.specs.Prelude.{◌≡◌, option_map};
+ghost use Rattle.std.specs.Option.{is_some};
 ghost use Rattle.jr_ast.specs.Nodes as pure;
 ghost use Rattle.jr_ast.specs.View.{expr_of, stmt_of, member_of};
 ghost use Rattle.jr_ast.specs.NodeView.{node_of};
@@ -94,6 +95,40 @@ impl<'a, A> Node<'a, A> {
         match self {
             Node::Member(member) => Some(member),
             _ => None,
+        }
+    }
+
+    /// Whether the node is a member.
+    pub(crate) fn is_member(&self) -> bool
+        ensures { result ≡ is_some (pure.as_member (node_of self.now)) }
+    {
+        match self {
+            Node::Member(_) => true,
+            Node::Unit(_) => false,
+            Node::Class(_) => false,
+            Node::Modifier(_) => false,
+            Node::Word(_) => false,
+            Node::Type(_) => false,
+            Node::Param(_) => false,
+            Node::Stmt(_) => false,
+            Node::Expr(_) => false,
+        }
+    }
+
+    /// Whether the node is a statement.
+    pub(crate) fn is_stmt(&self) -> bool
+        ensures { result ≡ is_some (pure.as_stmt (node_of self.now)) }
+    {
+        match self {
+            Node::Stmt(_) => true,
+            Node::Unit(_) => false,
+            Node::Class(_) => false,
+            Node::Modifier(_) => false,
+            Node::Word(_) => false,
+            Node::Type(_) => false,
+            Node::Param(_) => false,
+            Node::Member(_) => false,
+            Node::Expr(_) => false,
         }
     }
 
