@@ -157,6 +157,41 @@ fn a_member_is_where_its_paths_begin(rt: HostRuntime) -> Result<(), Fail> {
     Ok(())
 }
 
+// A write through a path is seen at its end and not beside it. Where no node of the kind stands,
+// nothing is lent.
+#[test]
+fn writes_land_at_the_end_of_a_path(rt: HostRuntime) -> Result<(), Fail> {
+    let alloc = rt.alloc();
+    let mut unit = unit(alloc)?;
+    match unit.expr_at_mut(&path(alloc, &[1, 2, 3, 0, 1, 0])?) {
+        None => assert!(rt; false),
+        Some(expr) => expr.mark = 90,
+    }
+    match unit.stmt_at_mut(&path(alloc, &[1, 2, 3])?) {
+        None => assert!(rt; false),
+        Some(stmt) => stmt.mark = 91,
+    }
+    match unit.member_at_mut(&path(alloc, &[1, 2])?) {
+        None => assert!(rt; false),
+        Some(member) => member.mark = 92,
+    }
+    assert!(rt; unit.expr_at_mut(&path(alloc, &[1, 2, 3, 0, 0])?).is_none());
+    assert!(rt; unit.stmt_at_mut(&path(alloc, &[1, 2, 3, 0])?).is_none());
+    assert!(rt; unit.member_at_mut(&path(alloc, &[1, 2, 3])?).is_none());
+    let table: [(&[u32], Marks); 6] = [
+        (&[1], [Some(10), None, None, None]),
+        (&[1, 2], [Some(92), None, None, Some(92)]),
+        (&[1, 2, 3], [Some(91), None, Some(91), None]),
+        (&[1, 2, 3, 0, 1], [Some(30), Some(30), None, None]),
+        (&[1, 2, 3, 0, 1, 0], [Some(90), Some(90), None, None]),
+        (&[1, 2, 3, 0, 1, 1], [Some(33), Some(33), None, None]),
+    ];
+    for (steps, want) in table {
+        assert_eq!(rt; from_unit(alloc, &unit, steps)?, want);
+    }
+    Ok(())
+}
+
 #[test]
 fn marks_are_made_anew(rt: HostRuntime) -> Result<(), Fail> {
     let alloc = rt.alloc();
