@@ -1,5 +1,5 @@
 -- Calls whose parts are replaced.
-use Rattle.std.proofs.Common.{◌≡◌, ℕ, zero, suc, List, [], ◌∷◌, Option, Some, None, Vec, Global, option_map, option_and_then, map, refl, sym, ap, subst, ◌∙◌}
+use Rattle.std.proofs.Common.{◌≡◌, ℕ, zero, suc, List, [], ◌∷◌, Option, Some, None, Vec, Global, option_map, option_and_then, map, refl, sym, ap, ◌∙◌}
 use Rattle.std.specs.List.{slice_get}
 use Rattle.std.specs.declared.boxed.Box.{Box}
 use Rattle.jr_ast.specs.declared.names.Ident.{Ident}

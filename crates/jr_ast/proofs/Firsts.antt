@@ -1,9 +1,9 @@
 -- Where a path leads from a member or a statement, by its first step.
-use Rattle.std.proofs.Common.{◌≡◌, ℕ, List, ◌∷◌, Option, Some, None, option_and_then, refl, sym, ap, subst, ◌∙◌}
+use Rattle.std.proofs.Common.{◌≡◌, ℕ, List, ◌∷◌, Some, None, option_and_then, sym, ap, subst, ◌∙◌}
 use Rattle.jr_ast.specs.Tree as tree
 use Rattle.jr_ast.specs.StatementTree as statement
 use Rattle.jr_ast.specs.MemberTree as declared
-use Rattle.jr_ast.specs.Nodes.{Node, member, stmt, exp, child_of, as_exp, as_stmt, exp_at, stmt_at}
+use Rattle.jr_ast.specs.Nodes.{member, stmt, exp, child_of, as_exp, as_stmt, exp_at, stmt_at}
 use Rattle.jr_ast.specs.PathKinds.{NoMember, NoStmt}
 use Rattle.jr_ast.proofs.PathKinds.{stmt_of_member, exp_of_member, exp_of_stmt}
 

@@ -1,10 +1,10 @@
 -- Nodes at the end of a path that is walked in two parts, or in one step.
-use Rattle.std.proofs.Common.{◌≡◌, ◌≤◌, ◌<◌, ◌*◌, ◌/◌, ◌-◌, ℕ, List, [], ◌∷◌, ◌++◌, length, take, drop, get_or, Option, Some, None, MutBor, option_map, option_and_then, refl, sym, ap, subst, ◌∙◌, arith}
+use Rattle.std.proofs.Common.{◌≡◌, ◌≤◌, ◌<◌, ◌*◌, ◌/◌, ◌-◌, ℕ, List, [], ◌∷◌, ◌++◌, length, take, drop, get_or, Option, Some, None, option_and_then, refl, sym, ap, subst, ◌∙◌, arith}
 use Rattle.std.proofs.lemmas.List.{length-take-le, length-drop, take_all, take-append-drop}
 use Rattle.jr_ast.specs.Tree as tree
 use Rattle.jr_ast.specs.StatementTree as statement
 use Rattle.jr_ast.specs.MemberTree as declared
-use Rattle.jr_ast.specs.Nodes.{Node, unit, class, modifier, word, type, param, member, stmt, exp, node_at, child_of, as_exp, as_stmt, as_member, exp_at, stmt_at, member_at}
+use Rattle.jr_ast.specs.Nodes.{Node, member, stmt, exp, node_at, child_of, as_exp, as_stmt, as_member, exp_at, stmt_at, member_at}
 use Rattle.jr_ast.specs.With.{with_child, with_found, with_node}
 use Rattle.jr_ast.specs.Reaches.{IsWithin}
 use Rattle.jr_ast.proofs.WithLaws.{with_append, with_same, child_same}

@@ -1,9 +1,9 @@
 -- Paths that pass no further member or statement: to which statement and expression they lead.
-use Rattle.std.proofs.Common.{◌≡◌, ℕ, suc, ◌≤◌, List, [], ◌∷◌, length, take, Option, Some, None, option_and_then, refl, sym, ap, ◌∙◌, arith}
+use Rattle.std.proofs.Common.{◌≡◌, ℕ, suc, List, [], ◌∷◌, take, Option, Some, None, option_and_then, refl, sym, ap, ◌∙◌, arith}
 use Rattle.std.proofs.lemmas.Option.{none-some}
 use Rattle.jr_ast.specs.StatementTree as statement
 use Rattle.jr_ast.specs.MemberTree as declared
-use Rattle.jr_ast.specs.Nodes.{Node, unit, class, modifier, word, type, param, member, stmt, exp, node_at, child_of, as_exp, as_stmt, as_member, exp_at, stmt_at, member_at}
+use Rattle.jr_ast.specs.Nodes.{Node, unit, class, modifier, word, type, param, member, stmt, exp, node_at, child_of, as_exp, as_stmt, as_member, exp_at, stmt_at}
 use Rattle.jr_ast.specs.PathKinds.{NoMember, NoStmt}
 use Rattle.jr_ast.proofs.Levels.{child_under, low_exp, low_stmt}
 use Rattle.jr_ast.proofs.PathSplits.{class_child, unit_child}

@@ -1,15 +1,13 @@
 -- Where a path leads from its last member, and from its last statement.
-use Rattle.std.proofs.Common.{◌≡◌, ℕ, zero, suc, ◌+◌, ◌-◌, ◌<◌, ◌≤◌, true, false, List, [], ◌∷◌, ◌++◌, length, take, drop, get_or, Option, Some, None, option_and_then, refl, sym, ap, subst, ◌∙◌, arith}
+use Rattle.std.proofs.Common.{◌≡◌, ℕ, zero, suc, ◌+◌, ◌-◌, ◌<◌, ◌≤◌, List, [], ◌∷◌, ◌++◌, length, take, drop, Option, Some, None, option_and_then, refl, sym, ap, ◌∙◌, arith}
 use Rattle.std.proofs.Math.Seq.{take-add}
 use Rattle.std.proofs.lemmas.List.{take-take}
-use Rattle.std.specs.Option.{IsSome, is_some}
-use Rattle.jr_ast.specs.Tree as tree
-use Rattle.jr_ast.specs.StatementTree as statement
+use Rattle.std.specs.Option.{IsSome}
 use Rattle.jr_ast.specs.MemberTree as declared
-use Rattle.jr_ast.specs.Nodes.{Node, unit, class, member, stmt, exp, node_at, child_of, as_exp, as_stmt, as_member, as_class, exp_at, stmt_at, member_at}
-use Rattle.jr_ast.specs.PathKinds.{NoMember, NoStmt, IsLast}
+use Rattle.jr_ast.specs.Nodes.{Node, unit, class, node_at, child_of, as_class, member_at}
+use Rattle.jr_ast.specs.PathKinds.{IsLast}
 use Rattle.jr_ast.proofs.WithLaws.{at_append}
-use Rattle.jr_ast.proofs.PathSplits.{unit_member, unit_no_member}
+use Rattle.jr_ast.proofs.PathSplits.{unit_member}
 
 length-take-bound : {X : Type 0} (count : ℕ) (xs : List X) → length (take count xs) ≤ count
 length-take-bound zero xs = omega arith

@@ -41,5 +41,5 @@ module _ (A : RattleType) where
   abbrev pub lends_below_expr : (reach : ℕ) → MutBor (ExprKind A.Denot) → List ℕ → Option (MutBor (Expr A.Denot)) → Fml
   lends_below_expr reach s path r = LendsSo (expr_kind.the_row A) (expr.the_row A) s r
       (λ n w. OnSome r (IsWithin reach path → (m : A.Denot)
-          → pure.exp (view.expr_kind m n) ≡ with_node (pure.exp (view.expr_kind m s.now)) path (pure.exp (view.expr_of w))))
+      → pure.exp (view.expr_kind m n) ≡ with_node (pure.exp (view.expr_kind m s.now)) path (pure.exp (view.expr_of w))))
       (λ n. IsWithin reach path → (m : A.Denot) → view.expr_kind m n ≡ view.expr_kind m s.now)

@@ -53,5 +53,5 @@ module _ (A : RattleType) where
   abbrev pub lends_below_stmt : (reach : ℕ) → MutBor (StmtKind A.Denot) → List ℕ → Option (MutBor (Stmt A.Denot)) → Fml
   lends_below_stmt reach s path r = LendsSo (stmt_kind.the_row A) (stmt.the_row A) s r
       (λ n w. OnSome r (IsWithin reach path → (m : A.Denot)
-          → pure.stmt (view.stmt_kind m n) ≡ with_node (pure.stmt (view.stmt_kind m s.now)) path (pure.stmt (view.stmt_of w))))
+      → pure.stmt (view.stmt_kind m n) ≡ with_node (pure.stmt (view.stmt_kind m s.now)) path (pure.stmt (view.stmt_of w))))
       (λ n. IsWithin reach path → (m : A.Denot) → view.stmt_kind m n ≡ view.stmt_kind m s.now)

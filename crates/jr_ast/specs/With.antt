@@ -1,10 +1,10 @@
 -- A tree in which one node is another: the child of a number, or the node at the end of a path, is replaced by a node of its kind, and all else stays.
-use Rattle.std.specs.Prelude.{ℕ, zero, suc, ◌+◌, List, [], ◌∷◌, Option, Some, None, length, map}
+use Rattle.std.specs.Prelude.{ℕ, zero, suc, ◌+◌, List, [], ◌∷◌, Option, Some, None, length}
 use Rattle.std.specs.List.{slice_get, slice_set}
 use Rattle.jr_ast.specs.Tree as tree
 use Rattle.jr_ast.specs.StatementTree as statement
 use Rattle.jr_ast.specs.MemberTree as declared
-use Rattle.jr_ast.specs.Nodes.{Node, unit, class, member, stmt, exp, child_of, maybe, target_children, args_children, type}
+use Rattle.jr_ast.specs.Nodes.{Node, unit, class, member, stmt, exp, child_of, args_children}
 
 -- what stands at this number, where the first has the number `first`
 abbrev pub get_from : {X : Type 0} → (first : ℕ) → List X → ℕ → Option X

@@ -11,7 +11,11 @@ use crate::exprs::{Expr, ExprKind};
 use crate::reaches::{One, Twice};
 
 /// The expression of this number, where the first of the row has the number `first`.
-pub(crate) fn nth_expr<A>(among: &mut Vec<Expr<A>>, first: usize, number: usize) -> Option<&mut Expr<A>>
+pub(crate) fn nth_expr<A>(
+    among: &mut Vec<Expr<A>>,
+    first: usize,
+    number: usize,
+) -> Option<&mut Expr<A>>
     ensures* writes_back { sem 𝓛 (lends_expr_among A.row among.entry first number result) }
     ensures value { option_map (λ x. view.expr_of x.now) result ≡ get_from first (map view.expr_of among.entry.now.items) number }
 {

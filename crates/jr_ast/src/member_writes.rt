@@ -17,7 +17,11 @@ use crate::stmt_writes::held_expr;
 use crate::stmts::Stmt;
 
 /// The member of this number, where the first of the row has the number `first`.
-pub(crate) fn nth_member<A>(among: &mut Vec<Member<A>>, first: usize, number: usize) -> Option<&mut Member<A>>
+pub(crate) fn nth_member<A>(
+    among: &mut Vec<Member<A>>,
+    first: usize,
+    number: usize,
+) -> Option<&mut Member<A>>
     ensures* writes_back { sem 𝓛 (lends_member_among A.row among.entry first number result) }
     ensures value { option_map (λ x. view.member_of x.now) result ≡ get_from first (map view.member_of among.entry.now.items) number }
 {
@@ -160,7 +164,9 @@ impl<A> MemberKind<A> {
     {
         match self {
             MemberKind::Ctor {
-                modifiers, params, ..
+                modifiers,
+                params,
+                ..
             } => passed(
                 passed(passed(Some(number), modifiers.len()), 1),
                 params.len(),

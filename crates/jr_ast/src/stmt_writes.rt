@@ -12,7 +12,11 @@ use crate::reaches::{One, Twice};
 use crate::stmts::{Stmt, StmtKind};
 
 /// The statement of this number, where the first of the row has the number `first`.
-pub(crate) fn nth_stmt<A>(among: &mut Vec<Stmt<A>>, first: usize, number: usize) -> Option<&mut Stmt<A>>
+pub(crate) fn nth_stmt<A>(
+    among: &mut Vec<Stmt<A>>,
+    first: usize,
+    number: usize,
+) -> Option<&mut Stmt<A>>
     ensures* writes_back { sem 𝓛 (lends_stmt_among A.row among.entry first number result) }
     ensures value { option_map (λ x. view.stmt_of x.now) result ≡ get_from first (map view.stmt_of among.entry.now.items) number }
 {

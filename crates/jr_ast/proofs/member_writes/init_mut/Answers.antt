@@ -10,8 +10,11 @@ returns-then-number-first g c = ((refl, λ w. tt, refl), record { writes_back = 
 pub returns : goal.returns
 returns g c =
     let init = c.args.init.now in
-    let same = c.if-number-first.false in
-    ((refl
-     , λ w. on_some_also c.held_expr.result (c.held_expr.follows.holds w) (init_set _ init (c.held_expr.follows.lender w) c.args.first c.args.number w same)
-     , ap (option_map view.expr_of) c.held_expr.follows.holds-at-none)
-    , record { writes_back = tt; value = c.held_expr.ensures.value ∙ init_get _ init c.args.first c.args.number same })
+    let same = c.if-number-first.false in (
+      (
+        refl,
+        λ w. on_some_also c.held_expr.result (c.held_expr.follows.holds w) (init_set _ init (c.held_expr.follows.lender w) c.args.first c.args.number w same),
+        ap (option_map view.expr_of) c.held_expr.follows.holds-at-none,
+      ),
+      record { writes_back = tt; value = c.held_expr.ensures.value ∙ init_get _ init c.args.first c.args.number same },
+    )

@@ -11,8 +11,11 @@ returns g c =
     let first = c.args.first in
     let number = c.args.number in
     let items = c.args.among.now.items in
-    let past = c.if-number-first.false in
-    ((refl, λ w. on_some c.get_mut.result (set_member_from w first items number past), refl)
-    , record { writes_back = tt
-             ; value = lent_is view.member_of items c.args.among.now.len (number - first) c.get_mut.result c.args.among.now.ok.0 c.get_mut.ensures.variant c.get_mut.ensures.value
-                 ∙ sym (from_at first (map view.member_of items) number past) })
+    let past = c.if-number-first.false in (
+      (refl, λ w. on_some c.get_mut.result (set_member_from w first items number past), refl),
+      record {
+        writes_back = tt;
+        value = lent_is view.member_of items c.args.among.now.len (number - first) c.get_mut.result c.args.among.now.ok.0 c.get_mut.ensures.variant c.get_mut.ensures.value
+            ∙ sym (from_at first (map view.member_of items) number past);
+      },
+    )

@@ -15,11 +15,14 @@ returns g c =
     let N = c.member_mut in
     let steps = c.args.steps.now in
     let one = one_step steps (omega (c.if-steps-ne1.false, arith)) (omega (c.if-steps-ne1.false, arith)) in
-    let n = pure.class (view.class_of c.args.class.now) in
-    ((refl
-     , λ w. on_some_with N.result (N.follows.holds w)
-         (λ x is e within.
-             ap pure.class e ∙ one_write n (pure.member (view.member_of x.now)) (pure.member (view.member_of w)) (get_or steps 0 0) steps one
-                 (member_at_child n (get_or steps 0 0) (view.member_of x.now) (sym (ap (option_map (λ y. view.member_of y.now)) is) ∙ N.ensures.value)))
-     , λ within. N.follows.holds-at-none)
-    , record { writes_back = tt; value = λ within. N.ensures.value ∙ one_member n (get_or steps 0 0) steps one })
+    let n = pure.class (view.class_of c.args.class.now) in (
+      (
+        refl,
+        λ w. on_some_with N.result (N.follows.holds w)
+            (λ x is e within.
+            ap pure.class e ∙ one_write n (pure.member (view.member_of x.now)) (pure.member (view.member_of w)) (get_or steps 0 0) steps one
+            (member_at_child n (get_or steps 0 0) (view.member_of x.now) (sym (ap (option_map (λ y. view.member_of y.now)) is) ∙ N.ensures.value))),
+        λ within. N.follows.holds-at-none,
+      ),
+      record { writes_back = tt; value = λ within. N.ensures.value ∙ one_member n (get_or steps 0 0) steps one },
+    )

@@ -1,4 +1,4 @@
-use Rattle.std.proofs.Common.{◌≡◌, ◌≤◌, ◌<◌, ◌-◌, ℕ, length, take, drop, get_or, refl, Some, None, ap, sym, option_map, option_and_then, ◌∙◌, arith}
+use Rattle.std.proofs.Common.{◌≤◌, length, get_or, refl, ap, sym, option_map, ◌∙◌, arith}
 use Rattle.std.specs.Option.{ghost_name_of}
 use Rattle.jr_ast.specs.View as view
 use Rattle.jr_ast.specs.Nodes as pure
@@ -17,28 +17,36 @@ returns-in-1 g c =
     let N = c.stmt_mut in
     let steps = c.args.steps.now in
     let whole = c.args.self.now in
-    let one = one_step steps (omega (c.in-1.is, arith)) (omega (c.in-1.is, arith)) in
-    ((refl
-     , λ w. on_some_with N.result (N.follows.holds w)
-         (λ x is e m.
-             ap pure.member (e m) ∙ one_write (pure.member (view.member_kind m whole)) (pure.stmt (view.stmt_of x.now)) (pure.stmt (view.stmt_of w)) (get_or steps 0 0) steps one
-                 (stmt_child (pure.member (view.member_kind m whole)) (get_or steps 0 0) (view.stmt_of x.now) (sym (ap (option_map (λ y. view.stmt_of y.now)) is) ∙ N.ensures.value m)))
-     , N.follows.holds-at-none)
-    , record { writes_back = tt; value = λ m no_member. N.ensures.value m ∙ one_stmt (pure.member (view.member_kind m whole)) (get_or steps 0 0) steps one })
+    let one = one_step steps (omega (c.in-1.is, arith)) (omega (c.in-1.is, arith)) in (
+      (
+        refl,
+        λ w. on_some_with N.result (N.follows.holds w)
+            (λ x is e m.
+            ap pure.member (e m) ∙ one_write (pure.member (view.member_kind m whole)) (pure.stmt (view.stmt_of x.now)) (pure.stmt (view.stmt_of w)) (get_or steps 0 0) steps one
+            (stmt_child (pure.member (view.member_kind m whole)) (get_or steps 0 0) (view.stmt_of x.now) (sym (ap (option_map (λ y. view.stmt_of y.now)) is) ∙ N.ensures.value m))),
+        N.follows.holds-at-none,
+      ),
+      record { writes_back = tt; value = λ m no_member. N.ensures.value m ∙ one_stmt (pure.member (view.member_kind m whole)) (get_or steps 0 0) steps one },
+    )
 
 pub returns-in_err-stmt-in_default : goal.returns-in_err-stmt-in_default
 returns-in_err-stmt-in_default g c =
     let N = c.stmt_mut-in_default in
     let steps = c.args.steps.now in
-    let some : 1 ≤ length steps = grind (c.in_default, arith) in
-    ((ap ghost_name_of (sym c.from_residual.ensures)
-     , λ w. on_none _ c.from_residual.result c.from_residual.ensures
-     , N.follows.holds-at-none)
-    , record { writes_back = tt
-             ; value = λ m no_member.
-                 ap (option_map (λ x. view.stmt_of x.now)) c.from_residual.ensures
-                 ∙ no_stmt_first_of_member (view.member_kind m c.args.self.now) (get_or steps 0 0) _ steps (first_step steps some) no_member
-                     (ap (option_map (λ x. view.stmt_of x.now)) (sym c.in_err-stmt-in_default.was) ∙ N.ensures.value m) })
+    let some : 1 ≤ length steps = grind (c.in_default, arith) in (
+      (
+        ap ghost_name_of (sym c.from_residual.ensures),
+        λ w. on_none _ c.from_residual.result c.from_residual.ensures,
+        N.follows.holds-at-none,
+      ),
+      record {
+        writes_back = tt;
+        value = λ m no_member.
+            ap (option_map (λ x. view.stmt_of x.now)) c.from_residual.ensures
+            ∙ no_stmt_first_of_member (view.member_kind m c.args.self.now) (get_or steps 0 0) _ steps (first_step steps some) no_member
+            (ap (option_map (λ x. view.stmt_of x.now)) (sym c.in_err-stmt-in_default.was) ∙ N.ensures.value m);
+      },
+    )
 
 pub returns-in_ok-stmt-in_default : goal.returns-in_ok-stmt-in_default
 returns-in_ok-stmt-in_default g c =
@@ -49,22 +57,27 @@ returns-in_ok-stmt-in_default g c =
     let upper = c.in_ok-stmt-in_default.stmt.now in
     let two : 2 ≤ length steps = grind (c.in_default, arith) in
     let some : 1 ≤ length steps = omega (two, arith) in
-    let within = rest_within 18446744073709551616 steps two (omega (c.requires, arith)) in
-    ((refl
-     , λ w. on_some_also L.result (L.follows.holds w)
-         (λ second m.
-             first_then (pure.member (view.member_kind m whole)) (pure.stmt (view.stmt_of upper)) _ _ (pure.stmt (view.stmt_of w)) (get_or steps 0 0) _ steps (first_step steps some)
-                 (stmt_child (pure.member (view.member_kind m whole)) (get_or steps 0 0) (view.stmt_of upper)
-                     (ap (option_map (λ x. view.stmt_of x.now)) (sym c.in_ok-stmt-in_default.was) ∙ N.ensures.value m))
-                 (ap pure.member (on_that N.result c.in_ok-stmt-in_default.was (N.follows.holds (views.roll-Stmt g.row.A.Denot (record { mark = upper.mark; kind = L.follows.lender w }))) m))
-                 (second within upper.mark))
-     , λ m.
-         member_inject (first_same (pure.member (view.member_kind m whole)) (pure.stmt (view.stmt_of upper)) _ _ (get_or steps 0 0)
-             (stmt_child (pure.member (view.member_kind m whole)) (get_or steps 0 0) (view.stmt_of upper)
-                 (ap (option_map (λ x. view.stmt_of x.now)) (sym c.in_ok-stmt-in_default.was) ∙ N.ensures.value m))
-             (ap pure.member (on_that N.result c.in_ok-stmt-in_default.was (N.follows.holds (views.roll-Stmt g.row.A.Denot (record { mark = upper.mark; kind = L.follows.lender-at-none }))) m))
-             (ap pure.stmt (L.follows.holds-at-none within upper.mark))))
-    , record { writes_back = tt
-             ; value = λ m no_member. L.ensures.value within upper.mark
-                 ∙ stmt_first_of_member (view.member_kind m whole) (view.stmt_of upper) (get_or steps 0 0) _ steps (first_step steps some) no_member
-                     (ap (option_map (λ x. view.stmt_of x.now)) (sym c.in_ok-stmt-in_default.was) ∙ N.ensures.value m) })
+    let within = rest_within 18446744073709551616 steps two (omega (c.requires, arith)) in (
+      (
+        refl,
+        λ w. on_some_also L.result (L.follows.holds w)
+            (λ second m.
+            first_then (pure.member (view.member_kind m whole)) (pure.stmt (view.stmt_of upper)) _ _ (pure.stmt (view.stmt_of w)) (get_or steps 0 0) _ steps (first_step steps some)
+            (stmt_child (pure.member (view.member_kind m whole)) (get_or steps 0 0) (view.stmt_of upper)
+            (ap (option_map (λ x. view.stmt_of x.now)) (sym c.in_ok-stmt-in_default.was) ∙ N.ensures.value m))
+            (ap pure.member (on_that N.result c.in_ok-stmt-in_default.was (N.follows.holds (views.roll-Stmt g.row.A.Denot (record { mark = upper.mark; kind = L.follows.lender w }))) m))
+            (second within upper.mark)),
+        λ m.
+            member_inject (first_same (pure.member (view.member_kind m whole)) (pure.stmt (view.stmt_of upper)) _ _ (get_or steps 0 0)
+            (stmt_child (pure.member (view.member_kind m whole)) (get_or steps 0 0) (view.stmt_of upper)
+            (ap (option_map (λ x. view.stmt_of x.now)) (sym c.in_ok-stmt-in_default.was) ∙ N.ensures.value m))
+            (ap pure.member (on_that N.result c.in_ok-stmt-in_default.was (N.follows.holds (views.roll-Stmt g.row.A.Denot (record { mark = upper.mark; kind = L.follows.lender-at-none }))) m))
+            (ap pure.stmt (L.follows.holds-at-none within upper.mark))),
+      ),
+      record {
+        writes_back = tt;
+        value = λ m no_member. L.ensures.value within upper.mark
+            ∙ stmt_first_of_member (view.member_kind m whole) (view.stmt_of upper) (get_or steps 0 0) _ steps (first_step steps some) no_member
+            (ap (option_map (λ x. view.stmt_of x.now)) (sym c.in_ok-stmt-in_default.was) ∙ N.ensures.value m);
+      },
+    )

@@ -8,8 +8,11 @@ returns g c =
     let u = c.args.self.now in
     let first = c.len-first.result in
     let number = c.args.number in
-    let counted = c.len-first.ensures in
-    ((refl
-     , λ w. on_some_also c.nth_class.result (c.nth_class.follows.holds w) (unit_write _ u (c.nth_class.follows.lender w) first number w counted)
-     , unit_same _ u c.nth_class.follows.lender-at-none c.nth_class.follows.holds-at-none)
-    , record { writes_back = tt; value = c.nth_class.ensures.value ∙ unit_get _ u first number counted })
+    let counted = c.len-first.ensures in (
+      (
+        refl,
+        λ w. on_some_also c.nth_class.result (c.nth_class.follows.holds w) (unit_write _ u (c.nth_class.follows.lender w) first number w counted),
+        unit_same _ u c.nth_class.follows.lender-at-none c.nth_class.follows.holds-at-none,
+      ),
+      record { writes_back = tt; value = c.nth_class.ensures.value ∙ unit_get _ u first number counted },
+    )

@@ -1,4 +1,4 @@
-use Rattle.std.proofs.Common.{◌≡◌, ◌≤◌, ◌-◌, ℕ, length, take, drop, get_or, refl, Some, None, ap, sym, option_map, option_and_then, ◌∙◌, arith}
+use Rattle.std.proofs.Common.{◌≤◌, ◌-◌, length, take, drop, get_or, refl, ap, sym, option_map, ◌∙◌, arith}
 use Rattle.std.specs.Option.{ghost_name_of}
 use Rattle.jr_ast.specs.View as view
 use Rattle.jr_ast.specs.Nodes as pure
@@ -14,15 +14,20 @@ pub returns-in_err-class : goal.returns-in_err-class
 returns-in_err-class g c =
     let N = c.class_mut in
     let steps = c.args.steps.now in
-    let some : 1 ≤ length steps = grind (c.if-steps-eq0.false, arith) in
-    ((ap ghost_name_of (sym c.from_residual.ensures)
-     , λ w. on_none _ c.from_residual.result c.from_residual.ensures
-     , N.follows.holds-at-none)
-    , record { writes_back = tt
-             ; value =
-                 ap (option_map (λ x. view.member_of x.now)) c.from_residual.ensures
-                 ∙ no_member_first (view.unit_of c.args.self.now) (get_or steps 0 0) _ steps (first_step steps some)
-                     (ap (option_map (λ x. view.class_of x.now)) (sym c.in_err-class.was) ∙ N.ensures.value) })
+    let some : 1 ≤ length steps = grind (c.if-steps-eq0.false, arith) in (
+      (
+        ap ghost_name_of (sym c.from_residual.ensures),
+        λ w. on_none _ c.from_residual.result c.from_residual.ensures,
+        N.follows.holds-at-none,
+      ),
+      record {
+        writes_back = tt;
+        value =
+            ap (option_map (λ x. view.member_of x.now)) c.from_residual.ensures
+            ∙ no_member_first (view.unit_of c.args.self.now) (get_or steps 0 0) _ steps (first_step steps some)
+            (ap (option_map (λ x. view.class_of x.now)) (sym c.in_err-class.was) ∙ N.ensures.value);
+      },
+    )
 
 pub returns : goal.returns
 returns g c =
@@ -34,16 +39,19 @@ returns g c =
     let some : 1 ≤ length steps = grind (c.if-steps-eq0.false, arith) in
     let q = take (length steps - 1) (drop 1 steps) in
     let within : length q ≤ 36893488147419103232 = rest_short steps (omega (c.requires, arith)) in
-    let found = ap (option_map (λ x. view.class_of x.now)) (sym c.in_ok-class.was) ∙ N.ensures.value in
-    ((refl
-     , λ w. on_some_also L.result (L.follows.holds w)
-         (λ second.
-             first_then (pure.unit u) (pure.class d) _ _ (pure.member (view.member_of w)) (get_or steps 0 0) _ steps (first_step steps some)
-                 (class_child (pure.unit u) (get_or steps 0 0) d found)
-                 (ap pure.unit (on_that N.result c.in_ok-class.was (N.follows.holds (L.follows.lender w))))
-                 (second within))
-     , unit_inject (first_same (pure.unit u) (pure.class d) _ _ (get_or steps 0 0)
-         (class_child (pure.unit u) (get_or steps 0 0) d found)
-         (ap pure.unit (on_that N.result c.in_ok-class.was (N.follows.holds L.follows.lender-at-none)))
-         (ap pure.class (L.follows.holds-at-none within))))
-    , record { writes_back = tt; value = L.ensures.value within ∙ member_first u d (get_or steps 0 0) _ steps (first_step steps some) found })
+    let found = ap (option_map (λ x. view.class_of x.now)) (sym c.in_ok-class.was) ∙ N.ensures.value in (
+      (
+        refl,
+        λ w. on_some_also L.result (L.follows.holds w)
+            (λ second.
+            first_then (pure.unit u) (pure.class d) _ _ (pure.member (view.member_of w)) (get_or steps 0 0) _ steps (first_step steps some)
+            (class_child (pure.unit u) (get_or steps 0 0) d found)
+            (ap pure.unit (on_that N.result c.in_ok-class.was (N.follows.holds (L.follows.lender w))))
+            (second within)),
+        unit_inject (first_same (pure.unit u) (pure.class d) _ _ (get_or steps 0 0)
+            (class_child (pure.unit u) (get_or steps 0 0) d found)
+            (ap pure.unit (on_that N.result c.in_ok-class.was (N.follows.holds L.follows.lender-at-none)))
+            (ap pure.class (L.follows.holds-at-none within))),
+      ),
+      record { writes_back = tt; value = L.ensures.value within ∙ member_first u d (get_or steps 0 0) _ steps (first_step steps some) found },
+    )
