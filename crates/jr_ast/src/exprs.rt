@@ -65,7 +65,7 @@ impl<A> Expr<A> {
         }
     }
 
-    /// `null` (JLS 3.10.8).
+    /// `null` (JLS 3.10.7).
     #[tactic(auto, unfolding(crate::specs::View::expr_kind))]
     pub fn null(mark: A) -> Expr<A>
         ensures { expr_of result ≡ tree.null mark }

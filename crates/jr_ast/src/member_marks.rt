@@ -198,7 +198,8 @@ fn unit<A, B: Drop, F: Fn(&A) -> B>(
 }
 
 impl<A> Unit<A> {
-    /// The same tree but for its marks: each is what `f` gives of the mark in its place.
+    /// The same tree but for its marks. Where `f` has one answer for each mark, a node's new mark is
+    /// the answer for its old one.
     ///
     /// `Err` comes only where memory runs out.
     pub fn with_marks<B: Drop, F: Fn(&A) -> B + Drop>(
