@@ -10,6 +10,7 @@ pub mod Opens
 pub mod Statements
 pub mod Erase
 pub mod EraseSteps
+pub mod Remarked
 pub mod Placing
 pub mod Places
 pub mod Maps

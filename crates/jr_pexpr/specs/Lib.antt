@@ -9,3 +9,4 @@ pub mod Stands
 pub mod Marked
 pub mod Expressions
 pub mod Runs
+pub mod IgnoresMarks

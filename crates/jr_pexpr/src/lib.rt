@@ -4,7 +4,7 @@
 mod laws;
 
 pub use laws::{
-    expression_is_longest, expression_stop_is_exact, marked_steps_alike, marks_are_spans,
-    one_expression, one_marked_expression, one_statement_expression,
+    expression_ignores_marks, expression_is_longest, expression_stop_is_exact, marked_steps_alike,
+    marks_are_spans, one_expression, one_marked_expression, one_statement_expression,
     statement_expression_is_longest, statement_expression_stop_is_exact,
 };

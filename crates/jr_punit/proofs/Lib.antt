@@ -3,3 +3,4 @@ pub mod Cases
 pub mod Standing
 pub mod Erase
 pub mod EraseShape
+pub mod Remarked

@@ -6,3 +6,4 @@ pub mod StatementStands
 pub mod MemberStands
 pub mod BareTrees
 pub mod Units
+pub mod IgnoresMarks
