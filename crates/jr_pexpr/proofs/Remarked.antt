@@ -21,6 +21,7 @@ bare_type-map h (named m o w) = ap (λ (y : Option (Word Bare)). named tt y (bar
 
 mutual
   unfolding map_exp map_exps map_target
+
   pub bare-map : {A B : Type 0} (h : A → B) (e : Exp A) → bare (map_exp h e) ≡ bare e
   bare-map h (number m n) = refl
   bare-map h (truth m b) = refl
@@ -67,7 +68,7 @@ IsStatementForm-map h e = sym (IsStatementForm-bare (map_exp h e)) ∙ ap IsStat
 
 pub expression_ignores_marks : {A B : Type 0} → ExpressionIgnoresMarks A B
 expression_ignores_marks = record {
-    spelling = toks-map;
-    shape = λ h e. holds_alike _ _ (Shaped-map h e);
-    statement_shape = λ h e. holds_alike _ _ (λ i. IsStatementForm-map h e i × Shaped-map h e i)
+  spelling = toks-map;
+  shape = λ h e. holds_alike _ _ (Shaped-map h e);
+  statement_shape = λ h e. holds_alike _ _ (λ i. IsStatementForm-map h e i × Shaped-map h e i);
 }

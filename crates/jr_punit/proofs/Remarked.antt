@@ -21,6 +21,7 @@ bare_value-map h (Some e) = λ i. Some (bare-map h e i)
 
 mutual
   unfolding map_stmt map_else map_stmts
+
   bare_stmt-map : {A B : Type 0} (h : A → B) (s : S.Stmt A) → bare_stmt (map_stmt h s) ≡ bare_stmt s
   bare_stmt-map h (S.local m f t w e) = λ i. S.local tt f (bare_type-map h t i) (bare_word w) (bare-map h e i)
   bare_stmt-map h (S.eval m e) = λ i. S.eval tt (bare-map h e i)
@@ -62,6 +63,7 @@ bare_some_args-map h (Some es) = λ i. Some (bare_args-map h es i)
 
 mutual
   unfolding map_class map_member map_members
+
   bare_class-map : {A B : Type 0} (h : A → B) (c : M.Class A) → bare_class (map_class h c) ≡ bare_class c
   bare_class-map h (M.class m ms w parent all) = λ i. M.class tt (bare_modifiers-map h ms i) (bare_word w) (bare_some_type-map h parent i) (bare_members-map h all i)
 
