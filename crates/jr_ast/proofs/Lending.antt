@@ -24,10 +24,6 @@ or_else f (maybe.some v) x y = f y v
 pub link : {X : Type 0} {a b c d : X} → a ≡ b → c ≡ d → b ≡ c → a ≡ d
 link p q r = p ∙ r ∙ q
 
--- two paths that meet in y
-pub via : {X : Type 0} {x : X} (y : X) {z : X} → x ≡ y → y ≡ z → x ≡ z
-via y p q = p ∙ q
-
 -- where an enum's fields are read, at the variant that it is known to be
 pub known : {V D Y : Type 0} (f : Y → V → D) (v : V) (x : D) (y : Y) {o : maybe.Option V} → o ≡ maybe.some v → or_else f o x y ≡ f y v
 known f v x y e = ap (λ o. or_else f o x y) e

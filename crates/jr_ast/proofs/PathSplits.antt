@@ -160,7 +160,3 @@ module _ {A : Type 0} where
       go None h = refl
       go (Some (class c)) h = refl
       go (Some x) h = let low = unit_child u x i h refl in low_member x q (omega arith)
-
-  pub unit_no_member : (u : declared.Unit A) → member_at (unit u) [] ≡ None
-  unfolding node_at
-  unit_no_member u = refl

@@ -7,20 +7,13 @@ use Rattle.jr_ast.specs.MemberTree as declared
 use Rattle.jr_ast.specs.Nodes as pure
 use Rattle.jr_ast.specs.Nodes.{Node, unit, class, modifier, word, type, param, member, stmt, exp, child_of, children_of}
 use Rattle.jr_ast.specs.With as with
-use Rattle.jr_ast.specs.With.{with_child}
+use Rattle.jr_ast.specs.With.{with_child, SameKind, OneChildReplaced}
 use Rattle.jr_ast.proofs.Puts.{Put, set_from, set_from-nil, put_always, put_none, put_one, put_part, put_front, put_at, put_map}
 use Rattle.jr_ast.proofs.RowKinds.{each-stmts, each-args, each-maybe, each-one, each-field, each-method, each-constructor}
 use Rattle.jr_ast.proofs.Levels.{child_under}
+use Rattle.jr_ast.proofs.WithLaws.{child_same}
 
 module _ {A : Type 0} where
-  -- both are expressions, statements, members or classes
-  abbrev pub SameKind : Node A → Node A → Type 0
-  SameKind (exp e) (exp x) = Unit {0}
-  SameKind (stmt s) (stmt x) = Unit {0}
-  SameKind (member m) (member x) = Unit {0}
-  SameKind (class c) (class x) = Unit {0}
-  SameKind c x = ⊥
-
   -- rows
   exps_set : (es : tree.Exps A) (i : ℕ) (x : tree.Exp A) → pure.exps (with.with_exp_among es i x) ≡ slice_set (pure.exps es) i (exp x)
   exps_set tree.end i x = refl
@@ -243,3 +236,6 @@ module _ {A : Type 0} where
   child_set n (member c) (member x) i h same = member_child_set n c x i h
   child_set n (class c) (class x) i h same = class_child_set n c x i h
   child_set n c x i h same = absurd same
+
+pub one_child_replaced : {A : Type 0} → OneChildReplaced A
+one_child_replaced = record { others = child_set; same = child_same }

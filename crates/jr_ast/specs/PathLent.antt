@@ -1,4 +1,4 @@
--- What a tree ends as, once a `&mut` to the node at the end of a path has ended.
+-- What a tree ends as, once a `&mut` to the node at the end of a path has ended: with that node replaced by the last value behind the reference, or as before where nothing was lent.
 use Rattle.std.specs.Prelude.{◌≡◌, ℕ, List, Option}
 use Rattle.std.specs.Option.{OnSome}
 use Rattle.std.specs.Borrow.{Fml, RattleType, MutBor, LendsSo}
@@ -34,7 +34,6 @@ module _ (A : RattleType) where
       (λ n w. OnSome r ((m : A.Denot) → pure.member (view.member_kind m n) ≡ with_node (pure.member (view.member_kind m s.now)) path (pure.stmt (view.stmt_of w))))
       (λ n. (m : A.Denot) → view.member_kind m n ≡ view.member_kind m s.now)
 
-  -- the unit with the node at the end of the path replaced by the last value behind the reference
   abbrev pub lends_member_below_unit : MutBor (Unit A.Denot) → List ℕ → Option (MutBor (Member A.Denot)) → Fml
   lends_member_below_unit s path r = LendsSo (unit.the_row A) (member.the_row A) s r
       (λ n w. OnSome r (pure.unit (view.unit_of n) ≡ with_node (pure.unit (view.unit_of s.now)) path (pure.member (view.member_of w))))

@@ -1,10 +1,10 @@
 -- A tree in which one node is another: the child of a number, or the node at the end of a path, is replaced by a node of its kind, and all else stays.
-use Rattle.std.specs.Prelude.{ℕ, zero, suc, ◌+◌, List, [], ◌∷◌, Option, Some, None, length}
+use Rattle.std.specs.Prelude.{◌≡◌, ℕ, zero, suc, ◌+◌, List, [], ◌∷◌, Option, Some, None, length}
 use Rattle.std.specs.List.{slice_get, slice_set}
 use Rattle.jr_ast.specs.Tree as tree
 use Rattle.jr_ast.specs.StatementTree as statement
 use Rattle.jr_ast.specs.MemberTree as declared
-use Rattle.jr_ast.specs.Nodes.{Node, unit, class, member, stmt, exp, child_of, args_children}
+use Rattle.jr_ast.specs.Nodes.{Node, unit, class, member, stmt, exp, child_of, children_of, args_children}
 
 -- what stands at this number, where the first has the number `first`
 abbrev pub get_from : {X : Type 0} → (first : ℕ) → List X → ℕ → Option X
@@ -181,3 +181,17 @@ module _ {A : Type 0} where
   unfoldable pub with_node : Node A → List ℕ → Node A → Node A
   with_node n [] x = x
   with_node n (i ∷ is) x = with_found n i (λ c. with_node c is x) (child_of n i)
+
+module _ {A : Type 0} where
+  -- both are expressions, statements, members or classes
+  abbrev pub SameKind : Node A → Node A → Type 0
+  SameKind (exp e) (exp x) = Unit {0}
+  SameKind (stmt s) (stmt x) = Unit {0}
+  SameKind (member m) (member x) = Unit {0}
+  SameKind (class c) (class x) = Unit {0}
+  SameKind c x = ⊥
+
+-- a child replaced is one child: the node has the new one at that number, and its others as before; with its own child it is the node that it was
+pub record OneChildReplaced (A : Type 0) : Type 0 where
+  pub others : (n c x : Node A) (i : ℕ) → child_of n i ≡ Some c → SameKind c x → children_of (with_child n i x) ≡ slice_set (children_of n) i x
+  pub same : (n c : Node A) (i : ℕ) → child_of n i ≡ Some c → with_child n i c ≡ n

@@ -5,6 +5,7 @@ mod children;
 mod expr_marks;
 mod expr_writes;
 mod exprs;
+mod laws;
 mod marks;
 mod member_marks;
 mod member_writes;
@@ -23,6 +24,7 @@ mod stmts;
 mod turns;
 
 pub use exprs::{Expr, ExprKind};
+pub use laws::one_child_is_replaced;
 pub use members::{Class, Member, MemberKind, Unit};
 pub use names::{Ident, Name};
 pub use nodes::Node;
