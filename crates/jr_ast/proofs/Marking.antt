@@ -33,36 +33,18 @@ module _ {X Y Z : Type 0} (p : X → Z) (q : Y → Z) where
   all_done out row i ge so_far = so_far ∙ ap (map q) (take_all i row ge)
 
 -- measures
-pub falls_box : (n t : ℕ) → 3 * n + 1 ≡ t → 3 * n < t
-falls_box n t h = omega arith
+pub below : (n t : ℕ) → n + 1 < t → n < t
+below n t h = omega arith
 
-pub falls_first : (n m t : ℕ) → 3 * (n + m) + 2 ≡ t → 3 * n + 1 < t
-falls_first n m t h = omega arith
-
-pub falls_second : (n m t : ℕ) → 3 * (n + m) + 2 ≡ t → 3 * m + 1 < t
-falls_second n m t h = omega arith
-
-pub falls_target : (n n' m t : ℕ) → n ≡ n' → 3 * (n' + m) + 2 ≡ t → 3 * n + 1 < t
-falls_target n n' m t e h = omega arith
-
-pub falls_held_one : (n n' t : ℕ) → n ≡ n' → 3 * n' + 2 ≡ t → 3 * n + 1 < t
-falls_held_one n n' t e h = omega arith
-
-pub falls_rest : (n m whole t : ℕ) → whole ≡ suc (n + m) → 3 * whole ≡ t → 3 * m + 2 < t
-falls_rest n m whole t w h = omega arith
+pub falls_held : (n n' t : ℕ) → n ≡ n' → 3 * n' + 1 ≡ t → 3 * n < t
+falls_held n n' t e h = omega arith
 
 module _ {T : Type 0} (size : T → ℕ) where
-  pub falls_one : (whole : ℕ) (child shown : T) (t : ℕ) → shown ≡ child → whole ≡ suc (size child) → 3 * whole ≡ t → 3 * size shown < t
-  falls_one whole child shown t e w h = let s = ap size e in omega arith
-
-  pub falls_pair : (whole : ℕ) (left right shown shown' : T) (t : ℕ) → shown ≡ left → shown' ≡ right → whole ≡ suc (size left + size right) → 3 * whole ≡ t → 3 * (size shown + size shown') + 2 < t
-  falls_pair whole left right shown shown' t e e' w h = let s = ap size e in let s' = ap size e' in omega arith
-
-  pub falls_call : (whole n : ℕ) (row shown : T) (t : ℕ) → shown ≡ row → whole ≡ suc (n + size row) → 3 * whole ≡ t → 3 * (n + size shown) + 2 < t
-  falls_call whole n row shown t e w h = let s = ap size e in omega arith
-
   pub falls_left : (whole n : ℕ) (child shown : T) (t : ℕ) → shown ≡ child → whole ≡ suc (size child + n) → 3 * whole ≡ t → 3 * size shown + 1 < t
   falls_left whole n child shown t e w h = let s = ap size e in omega arith
+
+  pub falls_right : (whole n : ℕ) (child shown : T) (t : ℕ) → shown ≡ child → whole ≡ suc (n + size child) → 3 * whole ≡ t → 3 * size shown + 1 < t
+  falls_right whole n child shown t e w h = let s = ap size e in omega arith
 
   pub falls_whole_row : (whole : ℕ) (row shown : T) (t : ℕ) → shown ≡ row → whole ≡ suc (size row) → 3 * whole ≡ t → 3 * size shown + 1 < t
   falls_whole_row whole row shown t e w h = let s = ap size e in omega arith

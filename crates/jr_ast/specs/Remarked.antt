@@ -106,6 +106,9 @@ module _ {A B : Type 0} (R : A → B → Type 0) where
   abbrev pub SameExp : tree.Exp A → tree.Exp B → Type 0
   SameExp t t' = (h : B → Option B) (k : A → Option B) → Agree R h k → map_exp h t' ≡ map_exp k t
 
+  abbrev pub SameTarget : tree.Target A → tree.Target B → Type 0
+  SameTarget t t' = (h : B → Option B) (k : A → Option B) → Agree R h k → map_target h t' ≡ map_target k t
+
   abbrev pub SameExps : tree.Exps A → tree.Exps B → Type 0
   SameExps t t' = (h : B → Option B) (k : A → Option B) → Agree R h k → map_exps h t' ≡ map_exps k t
 

@@ -8,14 +8,14 @@ use crate::names::{Ident, Name};
 use crate::parts::{Modifier, Param, TypeKind, TypeRef};
 use std::alloc::{AllocError, Global};
 
-pub(crate) fn marked<A, B, F: Fn(&A) -> B>(mark: &A, f: &F) -> B
+pub(crate) fn marked<B, A, F: Fn(&A) -> B>(mark: &A, f: &F) -> B
     requires { F.IsAlwaysCallable f.now }
     ensures { FnReturnsAt F.Fn f.now mark.now result }
 {
     f(mark)
 }
 
-pub(crate) fn word<A, B: Drop, F: Fn(&A) -> B>(
+pub(crate) fn word<B: Drop, A, F: Fn(&A) -> B>(
     alloc: Global,
     word: &Ident<A>,
     f: &F,
@@ -28,7 +28,7 @@ pub(crate) fn word<A, B: Drop, F: Fn(&A) -> B>(
     Ok(Ident { mark, name })
 }
 
-pub(crate) fn ty<A, B: Drop, F: Fn(&A) -> B>(
+pub(crate) fn ty<B: Drop, A, F: Fn(&A) -> B>(
     alloc: Global,
     ty: &TypeRef<A>,
     f: &F,
@@ -64,7 +64,7 @@ pub(crate) fn ty<A, B: Drop, F: Fn(&A) -> B>(
     }
 }
 
-pub(crate) fn param<A, B: Drop, F: Fn(&A) -> B>(
+pub(crate) fn param<B: Drop, A, F: Fn(&A) -> B>(
     alloc: Global,
     param: &Param<A>,
     f: &F,
@@ -83,7 +83,7 @@ pub(crate) fn param<A, B: Drop, F: Fn(&A) -> B>(
     })
 }
 
-pub(crate) fn maybe_ty<A, B: Drop, F: Fn(&A) -> B>(
+pub(crate) fn maybe_ty<B: Drop, A, F: Fn(&A) -> B>(
     alloc: Global,
     of: &Option<TypeRef<A>>,
     f: &F,
@@ -100,7 +100,7 @@ pub(crate) fn maybe_ty<A, B: Drop, F: Fn(&A) -> B>(
     }
 }
 
-fn modifier<A, B: Drop, F: Fn(&A) -> B>(modifier: &Modifier<A>, f: &F) -> Modifier<B>
+fn modifier<B: Drop, A, F: Fn(&A) -> B>(modifier: &Modifier<A>, f: &F) -> Modifier<B>
     requires { F.IsAlwaysCallable f.now }
     ensures { same.SameModifier (FnReturnsAt F.Fn f.now) (modifier_of modifier.now) (modifier_of result) }
 {
@@ -111,7 +111,7 @@ fn modifier<A, B: Drop, F: Fn(&A) -> B>(modifier: &Modifier<A>, f: &F) -> Modifi
     }
 }
 
-pub(crate) fn modifiers<A, B: Drop, F: Fn(&A) -> B>(
+pub(crate) fn modifiers<B: Drop, A, F: Fn(&A) -> B>(
     alloc: Global,
     parts: &[Modifier<A>],
     f: &F,
@@ -126,7 +126,7 @@ pub(crate) fn modifiers<A, B: Drop, F: Fn(&A) -> B>(
     Ok(copies)
 }
 
-pub(crate) fn words<A, B: Drop, F: Fn(&A) -> B>(
+pub(crate) fn words<B: Drop, A, F: Fn(&A) -> B>(
     alloc: Global,
     parts: &[Ident<A>],
     f: &F,
@@ -141,7 +141,7 @@ pub(crate) fn words<A, B: Drop, F: Fn(&A) -> B>(
     Ok(copies)
 }
 
-pub(crate) fn params<A, B: Drop, F: Fn(&A) -> B>(
+pub(crate) fn params<B: Drop, A, F: Fn(&A) -> B>(
     alloc: Global,
     parts: &[Param<A>],
     f: &F,

@@ -1,12 +1,14 @@
 //! A copy of a tree with other marks: members, classes and units.
-ghost use Rattle.std.specs.Prelude.{IfOk, option_map, map};
+ghost use Rattle.std.specs.Prelude.{◌≡◌, IfOk, option_map, map};
 ghost use Rattle.std.specs.Fn.{FnReturnsAt};
 ghost use Rattle.jr_ast.specs.Remarked as same;
+ghost use Rattle.jr_ast.specs.declared.members.Class.{out-Class};
 ghost use Rattle.jr_ast.specs.MemberTree as tree;
 ghost use Rattle.jr_ast.specs.View.{word_of, modifier_of, type_of, param_of, expr_of, args_of, stmts_of, class_of, member_of, members_of, unit_of};
 
 use crate::expr_marks::{maybe_args, maybe_expr};
 use crate::exprs::Expr;
+use crate::made::{push_made, Made};
 use crate::marks::{marked, maybe_ty, modifiers, params, ty, word, words};
 use crate::members::{Class, Member, MemberKind, Unit};
 use crate::names::Ident;
@@ -15,14 +17,20 @@ use crate::stmt_marks::stmts;
 use crate::stmts::Stmt;
 use std::alloc::{AllocError, Global};
 
+fn in_box<B: Drop>(alloc: Global, member: Member<B>) -> Made<Box<Member<B>>>
+    ensures { IfOk result (λ x. x.value ≡ member) }
+{
+    Ok(Box::new(alloc, member)?)
+}
+
 /// What a method and a constructor both have.
-fn signature<A, B: Drop, F: Fn(&A) -> B>(
+fn signature<B: Drop, A, F: Fn(&A) -> B>(
     alloc: Global,
     words: &[Modifier<A>],
     name: &Ident<A>,
     list: &[Param<A>],
     f: &F,
-) -> Result<(Vec<Modifier<B>>, Ident<B>, Vec<Param<B>>), AllocError>
+) -> Made<(Vec<Modifier<B>>, Ident<B>, Vec<Param<B>>)>
     requires { F.IsAlwaysCallable f.now }
     ensures words { IfOk result (λ all. same.SameModifiers (FnReturnsAt F.Fn f.now) (map modifier_of words.now) (map modifier_of all.0.items)) }
     ensures name { IfOk result (λ all. same.SameWord (FnReturnsAt F.Fn f.now) (word_of name.now) (word_of all.1)) }
@@ -34,7 +42,7 @@ fn signature<A, B: Drop, F: Fn(&A) -> B>(
     Ok((words, name, list))
 }
 
-fn field<A, B: Drop, F: Fn(&A) -> B>(
+fn field<B: Drop, A, F: Fn(&A) -> B>(
     alloc: Global,
     mark: &A,
     words: &[Modifier<A>],
@@ -42,18 +50,24 @@ fn field<A, B: Drop, F: Fn(&A) -> B>(
     name: &Ident<A>,
     init: &Option<Expr<A>>,
     f: &F,
-) -> Result<Member<B>, AllocError>
+) -> Made<Box<Member<B>>>
     requires { F.IsAlwaysCallable f.now }
-    ensures { IfOk result (λ x. same.SameMember (FnReturnsAt F.Fn f.now) (tree.field mark.now (map modifier_of words.now) (type_of kind.now) (word_of name.now) (option_map expr_of init.now)) (member_of x)) }
+    ensures { IfOk result (λ x. same.SameMember (FnReturnsAt F.Fn f.now) (tree.field mark.now (map modifier_of words.now) (type_of kind.now) (word_of name.now) (option_map expr_of init.now)) (member_of x.value)) }
 {
     let words = modifiers(alloc, words, f)?;
     let name = word(alloc, name, f)?;
-    let kind = ty(alloc, kind, f)?;
     let init = maybe_expr(alloc, init, f)?;
-    Ok(Member::field(marked(mark, f), words, kind, name, init))
+    let kind = ty(alloc, kind, f)?;
+    match init {
+        None => in_box(alloc, Member::field(marked(mark, f), words, kind, name, None)),
+        Some(init) => {
+            let init = Some(Box::into_inner(init));
+            in_box(alloc, Member::field(marked(mark, f), words, kind, name, init))
+        }
+    }
 }
 
-fn method<A, B: Drop, F: Fn(&A) -> B>(
+fn method<B: Drop, A, F: Fn(&A) -> B>(
     alloc: Global,
     mark: &A,
     words: &[Modifier<A>],
@@ -62,17 +76,17 @@ fn method<A, B: Drop, F: Fn(&A) -> B>(
     list: &[Param<A>],
     body: &[Stmt<A>],
     f: &F,
-) -> Result<Member<B>, AllocError>
+) -> Made<Box<Member<B>>>
     requires { F.IsAlwaysCallable f.now }
-    ensures { IfOk result (λ x. same.SameMember (FnReturnsAt F.Fn f.now) (tree.method mark.now (map modifier_of words.now) (option_map type_of ret.now) (word_of name.now) (map param_of list.now) (stmts_of body.now)) (member_of x)) }
+    ensures { IfOk result (λ x. same.SameMember (FnReturnsAt F.Fn f.now) (tree.method mark.now (map modifier_of words.now) (option_map type_of ret.now) (word_of name.now) (map param_of list.now) (stmts_of body.now)) (member_of x.value)) }
 {
     let head = signature(alloc, words, name, list, f)?;
     let body = stmts(alloc, body, f)?;
     let ret = maybe_ty(alloc, ret, f)?;
-    Ok(Member::method(marked(mark, f), head.0, ret, head.1, head.2, body))
+    in_box(alloc, Member::method(marked(mark, f), head.0, ret, head.1, head.2, body))
 }
 
-fn ctor<A, B: Drop, F: Fn(&A) -> B>(
+fn ctor<B: Drop, A, F: Fn(&A) -> B>(
     alloc: Global,
     mark: &A,
     words: &[Modifier<A>],
@@ -81,24 +95,56 @@ fn ctor<A, B: Drop, F: Fn(&A) -> B>(
     parent_args: &Option<Vec<Expr<A>>>,
     body: &[Stmt<A>],
     f: &F,
-) -> Result<Member<B>, AllocError>
+) -> Made<Box<Member<B>>>
     requires { F.IsAlwaysCallable f.now }
-    ensures { IfOk result (λ x. same.SameMember (FnReturnsAt F.Fn f.now) (tree.constructor mark.now (map modifier_of words.now) (word_of name.now) (map param_of list.now) (args_of parent_args.now) (stmts_of body.now)) (member_of x)) }
+    ensures { IfOk result (λ x. same.SameMember (FnReturnsAt F.Fn f.now) (tree.constructor mark.now (map modifier_of words.now) (word_of name.now) (map param_of list.now) (args_of parent_args.now) (stmts_of body.now)) (member_of x.value)) }
 {
     let head = signature(alloc, words, name, list, f)?;
     let body = stmts(alloc, body, f)?;
     let args = maybe_args(alloc, parent_args, f)?;
-    Ok(Member::ctor(marked(mark, f), head.0, head.1, head.2, args, body))
+    in_box(alloc, Member::ctor(marked(mark, f), head.0, head.1, head.2, args, body))
 }
 
+fn inner<B: Drop, A, F: Fn(&A) -> B>(
+    alloc: Global,
+    mark: &A,
+    class: Made<Box<Class<B>>>,
+    f: &F,
+) -> Made<Box<Member<B>>>
+    requires { F.IsAlwaysCallable f.now }
+    ensures { (t : tree.Class A) → IfOk class (λ c. same.SameClass (FnReturnsAt F.Fn f.now) t (class_of c.value)) → IfOk result (λ x. same.SameMember (FnReturnsAt F.Fn f.now) (tree.inner mark.now t) (member_of x.value)) }
+{
+    let class = class?;
+    in_box(alloc, Member::inner(marked(mark, f), Box::into_inner(class)))
+}
+
+/// A class with these members.
+fn class_with<B: Drop, A, F: Fn(&A) -> B>(
+    alloc: Global,
+    of: &Class<A>,
+    members: Made<Vec<Member<B>>>,
+    f: &F,
+) -> Made<Box<Class<B>>>
+    requires { F.IsAlwaysCallable f.now }
+    ensures { IfOk members (λ ms. same.SameMembers (FnReturnsAt F.Fn f.now) (members_of (out-Class _ of.now).members.items) (members_of ms.items)) → IfOk result (λ x. same.SameClass (FnReturnsAt F.Fn f.now) (class_of of.now) (class_of x.value)) }
+{
+    let all = members?;
+    let words = modifiers(alloc, &of.modifiers, f)?;
+    let name = word(alloc, &of.name, f)?;
+    let parent = maybe_ty(alloc, &of.parent, f)?;
+    let copy = Class::new(marked(&of.mark, f), words, name, parent, all);
+    Ok(Box::new(alloc, copy)?)
+}
+
+/// A copy, in a box.
 #[cycle(member_marks)]
-pub(crate) fn member<A, B: Drop, F: Fn(&A) -> B>(
+fn member<B: Drop, A, F: Fn(&A) -> B>(
     alloc: Global,
     of: &Member<A>,
     f: &F,
-) -> Result<Member<B>, AllocError>
+) -> Made<Box<Member<B>>>
     requires { F.IsAlwaysCallable f.now }
-    ensures { IfOk result (λ x. same.SameMember (FnReturnsAt F.Fn f.now) (member_of of.now) (member_of x)) }
+    ensures { IfOk result (λ x. same.SameMember (FnReturnsAt F.Fn f.now) (member_of of.now) (member_of x.value)) }
 {
     match &of.kind {
         MemberKind::Field {
@@ -130,61 +176,57 @@ pub(crate) fn member<A, B: Drop, F: Fn(&A) -> B>(
             body,
             f,
         ),
-        MemberKind::Inner(inner) => {
-            let inner = class(alloc, inner, f)?;
-            Ok(Member::inner(marked(&of.mark, f), inner))
+        MemberKind::Inner(inner_class) => {
+            inner(alloc, &of.mark, class(alloc, inner_class, f), f)
         }
     }
 }
 
+/// A copy, in a box.
 #[cycle(member_marks)]
-pub(crate) fn class<A, B: Drop, F: Fn(&A) -> B>(
+fn class<B: Drop, A, F: Fn(&A) -> B>(
     alloc: Global,
     of: &Class<A>,
     f: &F,
-) -> Result<Class<B>, AllocError>
+) -> Made<Box<Class<B>>>
     requires { F.IsAlwaysCallable f.now }
-    ensures { IfOk result (λ x. same.SameClass (FnReturnsAt F.Fn f.now) (class_of of.now) (class_of x)) }
+    ensures { IfOk result (λ x. same.SameClass (FnReturnsAt F.Fn f.now) (class_of of.now) (class_of x.value)) }
 {
-    let words = modifiers(alloc, &of.modifiers, f)?;
-    let name = word(alloc, &of.name, f)?;
-    let all = members(alloc, &of.members, f)?;
-    let parent = maybe_ty(alloc, &of.parent, f)?;
-    Ok(Class::new(marked(&of.mark, f), words, name, parent, all))
+    class_with(alloc, of, members(alloc, &of.members, f), f)
 }
 
 #[cycle(member_marks)]
-fn members<A, B: Drop, F: Fn(&A) -> B>(
+fn members<B: Drop, A, F: Fn(&A) -> B>(
     alloc: Global,
     parts: &[Member<A>],
     f: &F,
-) -> Result<Vec<Member<B>>, AllocError>
+) -> Made<Vec<Member<B>>>
     requires { F.IsAlwaysCallable f.now }
     ensures { IfOk result (λ x. same.SameMembers (FnReturnsAt F.Fn f.now) (members_of parts.now) (members_of x.items)) }
 {
     let mut copies = Vec::new(alloc);
     for part in parts {
-        copies.push(member(alloc, part, f)?)?;
+        push_made(&mut copies, member(alloc, part, f))?;
     }
     Ok(copies)
 }
 
-pub(crate) fn classes<A, B: Drop, F: Fn(&A) -> B>(
+pub(crate) fn classes<B: Drop, A, F: Fn(&A) -> B>(
     alloc: Global,
     parts: &[Class<A>],
     f: &F,
-) -> Result<Vec<Class<B>>, AllocError>
+) -> Made<Vec<Class<B>>>
     requires { F.IsAlwaysCallable f.now }
     ensures { IfOk result (λ x. same.SameClasses (FnReturnsAt F.Fn f.now) (map class_of parts.now) (map class_of x.items)) }
 {
     let mut copies = Vec::new(alloc);
     for part in parts {
-        copies.push(class(alloc, part, f)?)?;
+        push_made(&mut copies, class(alloc, part, f))?;
     }
     Ok(copies)
 }
 
-fn unit<A, B: Drop, F: Fn(&A) -> B>(
+fn unit<B: Drop, A, F: Fn(&A) -> B>(
     alloc: Global,
     of: &Unit<A>,
     f: &F,

@@ -8,14 +8,8 @@ use Rattle.jr_ast.proofs.expr_marks.+expr_marks.Given as goal
 abbrev pub decreases-expr : goal.decreases-expr
 decreases-expr g l = 3 * exp_size (expr_of l.of.now)
 
-abbrev pub decreases-boxed : goal.decreases-boxed
-decreases-boxed g l = 3 * exp_size (expr_of l.of.now) + 1
-
-abbrev pub decreases-pair : goal.decreases-pair
-decreases-pair g l = 3 * (exp_size (expr_of l.left.now) + exp_size (expr_of l.right.now)) + 2
-
-abbrev pub decreases-call : goal.decreases-call
-decreases-call g l = 3 * (target_size (target_of l.target.now) + exps_size (exprs_of l.args.now)) + 2
+abbrev pub decreases-target_expr : goal.decreases-target_expr
+decreases-target_expr g l = 3 * target_size (target_of l.of.now) + 1
 
 abbrev pub decreases-exprs : goal.decreases-exprs
 decreases-exprs g l = 3 * exps_size (exprs_of l.parts.now) + 1

@@ -8,11 +8,8 @@ use Rattle.jr_ast.proofs.stmt_marks.+stmt_marks.Given as goal
 abbrev pub decreases-stmt : goal.decreases-stmt
 decreases-stmt g l = 3 * stmt_size (stmt_of l.of.now)
 
-abbrev pub decreases-boxed : goal.decreases-boxed
-decreases-boxed g l = 3 * stmt_size (stmt_of l.of.now) + 1
-
-abbrev pub decreases-maybe_boxed : goal.decreases-maybe_boxed
-decreases-maybe_boxed g l = 3 * else_size (else_of l.of.now) + 2
+abbrev pub decreases-else_stmt : goal.decreases-else_stmt
+decreases-else_stmt g l = 3 * else_size (else_of l.of.now) + 1
 
 abbrev pub decreases-stmts : goal.decreases-stmts
 decreases-stmts g l = 3 * stmts_size (stmts_of l.parts.now) + 1
