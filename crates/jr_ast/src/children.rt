@@ -1,8 +1,8 @@
 //! The children of a node, by their numbers.
-ghost use Rattle.std.specs.Prelude.{◌≡◌, option_map};
+ghost use Rattle.std.specs.Prelude.{◌≡◌, ◌∷◌, [], option_map};
 ghost use Rattle.std.specs.List.{slice_get};
 ghost use Rattle.jr_ast.specs.Nodes as pure;
-ghost use Rattle.jr_ast.specs.View.{type_of, param_of, expr_of, stmt_of, class_of, member_of, unit_of};
+ghost use Rattle.jr_ast.specs.View.{type_of, param_of, expr_of, exprs_of, stmt_of, class_of, member_of, unit_of};
 ghost use Rattle.jr_ast.specs.NodeView.{node_of};
 
 use crate::exprs::{Expr, ExprKind};
@@ -11,6 +11,35 @@ use crate::nodes::Node;
 use crate::parts::{Param, TypeKind, TypeRef};
 use crate::seeks::Seek;
 use crate::stmts::{Stmt, StmtKind};
+
+/// The child of this number, where this is the only one.
+fn one<'a, A>(number: usize, node: Node<'a, A>) -> Option<Node<'a, A>>
+    ensures { option_map node_of result ≡ slice_get (node_of node.entry ∷ []) number }
+{
+    if number == 0 { Some(node) } else { None }
+}
+
+/// The child of this number, where these are the two.
+fn two<'a, A>(number: usize, first: Node<'a, A>, second: Node<'a, A>) -> Option<Node<'a, A>>
+    ensures { option_map node_of result ≡ slice_get (node_of first.entry ∷ (node_of second.entry ∷ [])) number }
+{
+    match number {
+        0 => Some(first),
+        1 => Some(second),
+        _ => None,
+    }
+}
+
+/// The child of this number, where the first is this node, and the others are these expressions.
+fn then_exprs<'a, A>(
+    number: usize,
+    first: Node<'a, A>,
+    others: &'a [Expr<A>],
+) -> Option<Node<'a, A>>
+    ensures { option_map node_of result ≡ slice_get (node_of first.entry ∷ pure.exps (exprs_of others.now)) number }
+{
+    Seek::Left(number).then(first).exprs(others).end()
+}
 
 #[tactic(auto, unfolding(crate::specs::View::expr_kind, crate::specs::Nodes::exp_children))]
 pub(crate) fn expr_child<'a, A>(expr: &'a Expr<A>, number: usize) -> Option<Node<'a, A>>
@@ -22,47 +51,27 @@ pub(crate) fn expr_child<'a, A>(expr: &'a Expr<A>, number: usize) -> Option<Node
         ExprKind::Null => None,
         ExprKind::Text(_) => None,
         ExprKind::This => None,
-        ExprKind::Simple(name) => Seek::Left(number).then(Node::Word(name)).end(),
-        ExprKind::SuperField(name) => Seek::Left(number).then(Node::Word(name)).end(),
-        ExprKind::ClassLit(ty) => Seek::Left(number).then(Node::Type(ty)).end(),
-        ExprKind::Field(of, name) => Seek::Left(number)
-            .then(Node::Expr(of))
-            .then(Node::Word(name))
-            .end(),
+        ExprKind::Simple(name) => one(number, Node::Word(name)),
+        ExprKind::SuperField(name) => one(number, Node::Word(name)),
+        ExprKind::ClassLit(ty) => one(number, Node::Type(ty)),
+        ExprKind::Field(of, name) => two(number, Node::Expr(of), Node::Word(name)),
         ExprKind::Call(target, name, args) => match target {
-            None => Seek::Left(number).then(Node::Word(name)).exprs(args).end(),
+            None => then_exprs(number, Node::Word(name), args),
             Some(target) => Seek::Left(number)
                 .then(Node::Expr(target))
                 .then(Node::Word(name))
                 .exprs(args)
                 .end(),
         },
-        ExprKind::SuperCall(name, args) => Seek::Left(number)
-            .then(Node::Word(name))
-            .exprs(args)
-            .end(),
-        ExprKind::New(ty, args) => Seek::Left(number).then(Node::Type(ty)).exprs(args).end(),
-        ExprKind::Paren(of) => Seek::Left(number).then(Node::Expr(of)).end(),
-        ExprKind::Cast(ty, of) => Seek::Left(number)
-            .then(Node::Type(ty))
-            .then(Node::Expr(of))
-            .end(),
-        ExprKind::Unary(_, of) => Seek::Left(number).then(Node::Expr(of)).end(),
-        ExprKind::Bump(_, of) => Seek::Left(number).then(Node::Expr(of)).end(),
-        ExprKind::Binary(_, left, right) => {
-            Seek::Left(number)
-                .then(Node::Expr(left))
-                .then(Node::Expr(right))
-                .end()
-        }
-        ExprKind::Assign(to, value) => Seek::Left(number)
-            .then(Node::Expr(to))
-            .then(Node::Expr(value))
-            .end(),
-        ExprKind::Compound(_, to, value) => Seek::Left(number)
-            .then(Node::Expr(to))
-            .then(Node::Expr(value))
-            .end(),
+        ExprKind::SuperCall(name, args) => then_exprs(number, Node::Word(name), args),
+        ExprKind::New(ty, args) => then_exprs(number, Node::Type(ty), args),
+        ExprKind::Paren(of) => one(number, Node::Expr(of)),
+        ExprKind::Cast(ty, of) => two(number, Node::Type(ty), Node::Expr(of)),
+        ExprKind::Unary(_, of) => one(number, Node::Expr(of)),
+        ExprKind::Bump(_, of) => one(number, Node::Expr(of)),
+        ExprKind::Binary(_, left, right) => { two(number, Node::Expr(left), Node::Expr(right)) }
+        ExprKind::Assign(to, value) => two(number, Node::Expr(to), Node::Expr(value)),
+        ExprKind::Compound(_, to, value) => two(number, Node::Expr(to), Node::Expr(value)),
     }
 }
 
@@ -78,12 +87,9 @@ pub(crate) fn stmt_child<'a, A>(stmt: &'a Stmt<A>, number: usize) -> Option<Node
                 .then(Node::Expr(init))
                 .end()
         }
-        StmtKind::Eval(of) => Seek::Left(number).then(Node::Expr(of)).end(),
+        StmtKind::Eval(of) => one(number, Node::Expr(of)),
         StmtKind::If(condition, yes, None) => {
-            Seek::Left(number)
-                .then(Node::Expr(condition))
-                .then(Node::Stmt(yes))
-                .end()
+            two(number, Node::Expr(condition), Node::Stmt(yes))
         }
         StmtKind::If(condition, yes, Some(no)) => {
             Seek::Left(number)
@@ -92,14 +98,9 @@ pub(crate) fn stmt_child<'a, A>(stmt: &'a Stmt<A>, number: usize) -> Option<Node
                 .then(Node::Stmt(no))
                 .end()
         }
-        StmtKind::While(condition, body) => {
-            Seek::Left(number)
-                .then(Node::Expr(condition))
-                .then(Node::Stmt(body))
-                .end()
-        }
+        StmtKind::While(condition, body) => { two(number, Node::Expr(condition), Node::Stmt(body)) }
         StmtKind::Return(None) => None,
-        StmtKind::Return(Some(value)) => Seek::Left(number).then(Node::Expr(value)).end(),
+        StmtKind::Return(Some(value)) => one(number, Node::Expr(value)),
         StmtKind::Block(body) => Seek::Left(number).stmts(body).end(),
         StmtKind::Sync(lock, body) => Seek::Left(number).then(Node::Expr(lock)).stmts(body).end(),
         StmtKind::Empty => None,
@@ -155,7 +156,7 @@ pub(crate) fn member_child<'a, A>(member: &'a Member<A>, number: usize) -> Optio
                 Some(args) => seek.exprs(args).stmts(body).end(),
             }
         }
-        MemberKind::Inner(class) => Seek::Left(number).then(Node::Class(class)).end(),
+        MemberKind::Inner(class) => one(number, Node::Class(class)),
     }
 }
 
@@ -186,19 +187,13 @@ pub(crate) fn type_child<'a, A>(ty: &'a TypeRef<A>, number: usize) -> Option<Nod
     match &ty.kind {
         TypeKind::Int => None,
         TypeKind::Boolean => None,
-        TypeKind::Named(None, name) => Seek::Left(number).then(Node::Word(name)).end(),
-        TypeKind::Named(Some(outer), name) => Seek::Left(number)
-            .then(Node::Word(outer))
-            .then(Node::Word(name))
-            .end(),
+        TypeKind::Named(None, name) => one(number, Node::Word(name)),
+        TypeKind::Named(Some(outer), name) => two(number, Node::Word(outer), Node::Word(name)),
     }
 }
 
 pub(crate) fn param_child<'a, A>(param: &'a Param<A>, number: usize) -> Option<Node<'a, A>>
     ensures { option_map node_of result ≡ pure.child_of (pure.param (param_of param.now)) number }
 {
-    Seek::Left(number)
-        .then(Node::Type(&param.ty))
-        .then(Node::Word(&param.name))
-        .end()
+    two(number, Node::Type(&param.ty), Node::Word(&param.name))
 }

@@ -5,7 +5,7 @@ ghost use Rattle.jr_ast.specs.Remarked as same;
 ghost use Rattle.jr_ast.specs.View.{target_of, expr_of, exprs_of, args_of};
 
 use crate::exprs::{Expr, ExprKind};
-use crate::made::{push_made, Made};
+use crate::made::{Made, push_made};
 use crate::made_exprs as made;
 use crate::marks::{marked, ty, word};
 use std::alloc::Global;
@@ -35,7 +35,13 @@ pub(crate) fn expr<B: Drop, A, F: Fn(&A) -> B>(
         }
         ExprKind::Call(target, name, args) => {
             let target = target_expr(alloc, target, f);
-            made::call(alloc, mark, target, word(alloc, name, f), exprs(alloc, args, f))
+            made::call(
+                alloc,
+                mark,
+                target,
+                word(alloc, name, f),
+                exprs(alloc, args, f),
+            )
         }
         ExprKind::SuperCall(name, args) => {
             made::super_call(alloc, mark, word(alloc, name, f), exprs(alloc, args, f))
@@ -48,7 +54,13 @@ pub(crate) fn expr<B: Drop, A, F: Fn(&A) -> B>(
         ExprKind::Unary(op, part) => made::unary(alloc, mark, *op, expr(alloc, part, f)),
         ExprKind::Bump(op, part) => made::bump(alloc, mark, *op, expr(alloc, part, f)),
         ExprKind::Binary(op, left, right) => {
-            made::binary(alloc, mark, *op, expr(alloc, left, f), expr(alloc, right, f))
+            made::binary(
+                alloc,
+                mark,
+                *op,
+                expr(alloc, left, f),
+                expr(alloc, right, f),
+            )
         }
         ExprKind::Assign(to, value) => {
             made::assign(alloc, mark, expr(alloc, to, f), expr(alloc, value, f))

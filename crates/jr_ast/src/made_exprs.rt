@@ -53,35 +53,58 @@ pub(crate) fn simple<B: Drop>(alloc: Global, mark: B, name: Made<Ident<B>>) -> M
 }
 
 /// `super.name`.
-pub(crate) fn super_field<B: Drop>(alloc: Global, mark: B, name: Made<Ident<B>>) -> Made<Box<Expr<B>>>
+pub(crate) fn super_field<B: Drop>(
+    alloc: Global,
+    mark: B,
+    name: Made<Ident<B>>,
+) -> Made<Box<Expr<B>>>
     ensures { IfOk result (λ x. IsOkAnd name (λ name'. expr_of x.value ≡ tree.super_field mark (word_of name'))) }
 {
     in_box(alloc, Expr::super_field(mark, name?))
 }
 
 /// `ty.class`.
-pub(crate) fn class_literal<B: Drop>(alloc: Global, mark: B, ty: Made<TypeRef<B>>) -> Made<Box<Expr<B>>>
+pub(crate) fn class_literal<B: Drop>(
+    alloc: Global,
+    mark: B,
+    ty: Made<TypeRef<B>>,
+) -> Made<Box<Expr<B>>>
     ensures { IfOk result (λ x. IsOkAnd ty (λ ty'. expr_of x.value ≡ tree.class_literal mark (type_of ty'))) }
 {
     in_box(alloc, Expr::class_literal(mark, ty?))
 }
 
 /// `of.name`.
-pub(crate) fn field<B: Drop>(alloc: Global, mark: B, of: Made<Box<Expr<B>>>, name: Made<Ident<B>>) -> Made<Box<Expr<B>>>
+pub(crate) fn field<B: Drop>(
+    alloc: Global,
+    mark: B,
+    of: Made<Box<Expr<B>>>,
+    name: Made<Ident<B>>,
+) -> Made<Box<Expr<B>>>
     ensures { IfOk result (λ x. IsOkAnd of (λ of'. IsOkAnd name (λ name'. expr_of x.value ≡ tree.field mark (expr_of of'.value) (word_of name')))) }
 {
     in_box(alloc, Expr::field(mark, of?, name?))
 }
 
 /// `super.name(args)`.
-pub(crate) fn super_call<B: Drop>(alloc: Global, mark: B, name: Made<Ident<B>>, args: Made<Vec<Expr<B>>>) -> Made<Box<Expr<B>>>
+pub(crate) fn super_call<B: Drop>(
+    alloc: Global,
+    mark: B,
+    name: Made<Ident<B>>,
+    args: Made<Vec<Expr<B>>>,
+) -> Made<Box<Expr<B>>>
     ensures { IfOk result (λ x. IsOkAnd name (λ name'. IsOkAnd args (λ args'. expr_of x.value ≡ tree.super_call mark (word_of name') (exprs_of args'.items)))) }
 {
     in_box(alloc, Expr::super_call(mark, name?, args?))
 }
 
 /// `new ty(args)`.
-pub(crate) fn create<B: Drop>(alloc: Global, mark: B, ty: Made<TypeRef<B>>, args: Made<Vec<Expr<B>>>) -> Made<Box<Expr<B>>>
+pub(crate) fn create<B: Drop>(
+    alloc: Global,
+    mark: B,
+    ty: Made<TypeRef<B>>,
+    args: Made<Vec<Expr<B>>>,
+) -> Made<Box<Expr<B>>>
     ensures { IfOk result (λ x. IsOkAnd ty (λ ty'. IsOkAnd args (λ args'. expr_of x.value ≡ tree.create mark (type_of ty') (exprs_of args'.items)))) }
 {
     in_box(alloc, Expr::create(mark, ty?, args?))
@@ -95,42 +118,74 @@ pub(crate) fn paren<B: Drop>(alloc: Global, mark: B, of: Made<Box<Expr<B>>>) -> 
 }
 
 /// `(ty) of`.
-pub(crate) fn cast<B: Drop>(alloc: Global, mark: B, ty: Made<TypeRef<B>>, of: Made<Box<Expr<B>>>) -> Made<Box<Expr<B>>>
+pub(crate) fn cast<B: Drop>(
+    alloc: Global,
+    mark: B,
+    ty: Made<TypeRef<B>>,
+    of: Made<Box<Expr<B>>>,
+) -> Made<Box<Expr<B>>>
     ensures { IfOk result (λ x. IsOkAnd ty (λ ty'. IsOkAnd of (λ of'. expr_of x.value ≡ tree.cast mark (type_of ty') (expr_of of'.value)))) }
 {
     in_box(alloc, Expr::cast(mark, ty?, of?))
 }
 
 /// A unary operator before its operand.
-pub(crate) fn unary<B: Drop>(alloc: Global, mark: B, op: UnOp, of: Made<Box<Expr<B>>>) -> Made<Box<Expr<B>>>
+pub(crate) fn unary<B: Drop>(
+    alloc: Global,
+    mark: B,
+    op: UnOp,
+    of: Made<Box<Expr<B>>>,
+) -> Made<Box<Expr<B>>>
     ensures { IfOk result (λ x. IsOkAnd of (λ of'. expr_of x.value ≡ tree.unary mark op (expr_of of'.value))) }
 {
     in_box(alloc, Expr::unary(mark, op, of?))
 }
 
 /// An increment or a decrement.
-pub(crate) fn bump<B: Drop>(alloc: Global, mark: B, op: BumpOp, of: Made<Box<Expr<B>>>) -> Made<Box<Expr<B>>>
+pub(crate) fn bump<B: Drop>(
+    alloc: Global,
+    mark: B,
+    op: BumpOp,
+    of: Made<Box<Expr<B>>>,
+) -> Made<Box<Expr<B>>>
     ensures { IfOk result (λ x. IsOkAnd of (λ of'. expr_of x.value ≡ tree.bump mark op (expr_of of'.value))) }
 {
     in_box(alloc, Expr::bump(mark, op, of?))
 }
 
 /// A binary operator between its operands.
-pub(crate) fn binary<B: Drop>(alloc: Global, mark: B, op: BinOp, left: Made<Box<Expr<B>>>, right: Made<Box<Expr<B>>>) -> Made<Box<Expr<B>>>
+pub(crate) fn binary<B: Drop>(
+    alloc: Global,
+    mark: B,
+    op: BinOp,
+    left: Made<Box<Expr<B>>>,
+    right: Made<Box<Expr<B>>>,
+) -> Made<Box<Expr<B>>>
     ensures { IfOk result (λ x. IsOkAnd left (λ left'. IsOkAnd right (λ right'. expr_of x.value ≡ tree.binary mark op (expr_of left'.value) (expr_of right'.value)))) }
 {
     in_box(alloc, Expr::binary(mark, op, left?, right?))
 }
 
 /// `to = value`.
-pub(crate) fn assign<B: Drop>(alloc: Global, mark: B, to: Made<Box<Expr<B>>>, value: Made<Box<Expr<B>>>) -> Made<Box<Expr<B>>>
+pub(crate) fn assign<B: Drop>(
+    alloc: Global,
+    mark: B,
+    to: Made<Box<Expr<B>>>,
+    value: Made<Box<Expr<B>>>,
+) -> Made<Box<Expr<B>>>
     ensures { IfOk result (λ x. IsOkAnd to (λ to'. IsOkAnd value (λ value'. expr_of x.value ≡ tree.assign mark (expr_of to'.value) (expr_of value'.value)))) }
 {
     in_box(alloc, Expr::assign(mark, to?, value?))
 }
 
 /// `to op= value`.
-pub(crate) fn compound<B: Drop>(alloc: Global, mark: B, op: BinOp, to: Made<Box<Expr<B>>>, value: Made<Box<Expr<B>>>) -> Made<Box<Expr<B>>>
+pub(crate) fn compound<B: Drop>(
+    alloc: Global,
+    mark: B,
+    op: BinOp,
+    to: Made<Box<Expr<B>>>,
+    value: Made<Box<Expr<B>>>,
+) -> Made<Box<Expr<B>>>
     ensures { IfOk result (λ x. IsOkAnd to (λ to'. IsOkAnd value (λ value'. expr_of x.value ≡ tree.compound mark op (expr_of to'.value) (expr_of value'.value)))) }
 {
     in_box(alloc, Expr::compound(mark, op, to?, value?))

@@ -18,13 +18,23 @@ fn in_box<B: Drop>(alloc: Global, stmt: Stmt<B>) -> Made<Box<Stmt<B>>>
 }
 
 /// `ty name = init;`, perhaps `final`.
-pub(crate) fn local<B: Drop>(alloc: Global, mark: B, is_final: bool, ty: Made<TypeRef<B>>, name: Made<Ident<B>>, init: Made<Box<Expr<B>>>) -> Made<Box<Stmt<B>>>
+pub(crate) fn local<B: Drop>(
+    alloc: Global,
+    mark: B,
+    is_final: bool,
+    ty: Made<TypeRef<B>>,
+    name: Made<Ident<B>>,
+    init: Made<Box<Expr<B>>>,
+) -> Made<Box<Stmt<B>>>
     ensures { IfOk result (λ x. IsOkAnd ty (λ ty'. IsOkAnd name (λ name'. IsOkAnd init (λ init'. stmt_of x.value ≡ tree.local mark is_final (type_of ty') (word_of name') (expr_of init'.value))))) }
 {
     let name = name?;
     let init = init?;
     let ty = ty?;
-    in_box(alloc, Stmt::local(mark, is_final, ty, name, Box::into_inner(init)))
+    in_box(
+        alloc,
+        Stmt::local(mark, is_final, ty, name, Box::into_inner(init)),
+    )
 }
 
 /// `of;`.
@@ -35,12 +45,20 @@ pub(crate) fn eval<B: Drop>(alloc: Global, mark: B, of: Made<Box<Expr<B>>>) -> M
 }
 
 /// `while (condition) body`.
-pub(crate) fn while_loop<B: Drop>(alloc: Global, mark: B, condition: Made<Box<Expr<B>>>, body: Made<Box<Stmt<B>>>) -> Made<Box<Stmt<B>>>
+pub(crate) fn while_loop<B: Drop>(
+    alloc: Global,
+    mark: B,
+    condition: Made<Box<Expr<B>>>,
+    body: Made<Box<Stmt<B>>>,
+) -> Made<Box<Stmt<B>>>
     ensures { IfOk result (λ x. IsOkAnd condition (λ condition'. IsOkAnd body (λ body'. stmt_of x.value ≡ tree.loop mark (expr_of condition'.value) (stmt_of body'.value)))) }
 {
     let condition = condition?;
     let body = body?;
-    in_box(alloc, Stmt::while_loop(mark, Box::into_inner(condition), body))
+    in_box(
+        alloc,
+        Stmt::while_loop(mark, Box::into_inner(condition), body),
+    )
 }
 
 /// `{ body }`.
@@ -51,7 +69,12 @@ pub(crate) fn block<B: Drop>(alloc: Global, mark: B, body: Made<Vec<Stmt<B>>>) -
 }
 
 /// `synchronized (lock) { body }`.
-pub(crate) fn sync<B: Drop>(alloc: Global, mark: B, lock: Made<Box<Expr<B>>>, body: Made<Vec<Stmt<B>>>) -> Made<Box<Stmt<B>>>
+pub(crate) fn sync<B: Drop>(
+    alloc: Global,
+    mark: B,
+    lock: Made<Box<Expr<B>>>,
+    body: Made<Vec<Stmt<B>>>,
+) -> Made<Box<Stmt<B>>>
     ensures { IfOk result (λ x. IsOkAnd lock (λ lock'. IsOkAnd body (λ body'. stmt_of x.value ≡ tree.sync mark (expr_of lock'.value) (stmts_of body'.items)))) }
 {
     let lock = lock?;
@@ -67,13 +90,20 @@ pub(crate) fn empty<B: Drop>(alloc: Global, mark: B) -> Made<Box<Stmt<B>>>
 }
 
 /// `return value;`, perhaps without a value.
-pub(crate) fn returned<B: Drop>(alloc: Global, mark: B, value: Made<Option<Box<Expr<B>>>>) -> Made<Box<Stmt<B>>>
+pub(crate) fn returned<B: Drop>(
+    alloc: Global,
+    mark: B,
+    value: Made<Option<Box<Expr<B>>>>,
+) -> Made<Box<Stmt<B>>>
     ensures { IfOk result (λ x. IsOkAnd value (λ value'. stmt_of x.value ≡ tree.«return» mark (option_map (λ b. expr_of b.value) value'))) }
 {
     let value = value?;
     match value {
         None => in_box(alloc, Stmt::return_value(mark, None)),
-        Some(value) => in_box(alloc, Stmt::return_value(mark, Some(Box::into_inner(value)))),
+        Some(value) => in_box(
+            alloc,
+            Stmt::return_value(mark, Some(Box::into_inner(value))),
+        ),
     }
 }
 
@@ -92,6 +122,9 @@ pub(crate) fn conditional<B: Drop>(
     let no = no?;
     match no {
         None => in_box(alloc, Stmt::if_then(mark, Box::into_inner(condition), yes)),
-        Some(no) => in_box(alloc, Stmt::if_else(mark, Box::into_inner(condition), yes, no)),
+        Some(no) => in_box(
+            alloc,
+            Stmt::if_else(mark, Box::into_inner(condition), yes, no),
+        ),
     }
 }

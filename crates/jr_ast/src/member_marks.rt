@@ -8,7 +8,7 @@ ghost use Rattle.jr_ast.specs.View.{word_of, modifier_of, type_of, param_of, exp
 
 use crate::expr_marks::{maybe_args, maybe_expr};
 use crate::exprs::Expr;
-use crate::made::{push_made, Made};
+use crate::made::{Made, push_made};
 use crate::marks::{marked, maybe_ty, modifiers, params, ty, word, words};
 use crate::members::{Class, Member, MemberKind, Unit};
 use crate::names::Ident;
@@ -59,10 +59,16 @@ fn field<B: Drop, A, F: Fn(&A) -> B>(
     let init = maybe_expr(alloc, init, f)?;
     let kind = ty(alloc, kind, f)?;
     match init {
-        None => in_box(alloc, Member::field(marked(mark, f), words, kind, name, None)),
+        None => in_box(
+            alloc,
+            Member::field(marked(mark, f), words, kind, name, None),
+        ),
         Some(init) => {
             let init = Some(Box::into_inner(init));
-            in_box(alloc, Member::field(marked(mark, f), words, kind, name, init))
+            in_box(
+                alloc,
+                Member::field(marked(mark, f), words, kind, name, init),
+            )
         }
     }
 }
@@ -83,7 +89,10 @@ fn method<B: Drop, A, F: Fn(&A) -> B>(
     let head = signature(alloc, words, name, list, f)?;
     let body = stmts(alloc, body, f)?;
     let ret = maybe_ty(alloc, ret, f)?;
-    in_box(alloc, Member::method(marked(mark, f), head.0, ret, head.1, head.2, body))
+    in_box(
+        alloc,
+        Member::method(marked(mark, f), head.0, ret, head.1, head.2, body),
+    )
 }
 
 fn ctor<B: Drop, A, F: Fn(&A) -> B>(
@@ -102,7 +111,10 @@ fn ctor<B: Drop, A, F: Fn(&A) -> B>(
     let head = signature(alloc, words, name, list, f)?;
     let body = stmts(alloc, body, f)?;
     let args = maybe_args(alloc, parent_args, f)?;
-    in_box(alloc, Member::ctor(marked(mark, f), head.0, head.1, head.2, args, body))
+    in_box(
+        alloc,
+        Member::ctor(marked(mark, f), head.0, head.1, head.2, args, body),
+    )
 }
 
 fn inner<B: Drop, A, F: Fn(&A) -> B>(
@@ -115,7 +127,10 @@ fn inner<B: Drop, A, F: Fn(&A) -> B>(
     ensures { (t : tree.Class A) → IfOk class (λ c. same.SameClass (FnReturnsAt F.Fn f.now) t (class_of c.value)) → IfOk result (λ x. same.SameMember (FnReturnsAt F.Fn f.now) (tree.inner mark.now t) (member_of x.value)) }
 {
     let class = class?;
-    in_box(alloc, Member::inner(marked(mark, f), Box::into_inner(class)))
+    in_box(
+        alloc,
+        Member::inner(marked(mark, f), Box::into_inner(class)),
+    )
 }
 
 /// A class with these members.
@@ -138,11 +153,7 @@ fn class_with<B: Drop, A, F: Fn(&A) -> B>(
 
 /// A copy, in a box.
 #[cycle(member_marks)]
-fn member<B: Drop, A, F: Fn(&A) -> B>(
-    alloc: Global,
-    of: &Member<A>,
-    f: &F,
-) -> Made<Box<Member<B>>>
+fn member<B: Drop, A, F: Fn(&A) -> B>(alloc: Global, of: &Member<A>, f: &F) -> Made<Box<Member<B>>>
     requires { F.IsAlwaysCallable f.now }
     ensures { IfOk result (λ x. same.SameMember (FnReturnsAt F.Fn f.now) (member_of of.now) (member_of x.value)) }
 {
@@ -184,11 +195,7 @@ fn member<B: Drop, A, F: Fn(&A) -> B>(
 
 /// A copy, in a box.
 #[cycle(member_marks)]
-fn class<B: Drop, A, F: Fn(&A) -> B>(
-    alloc: Global,
-    of: &Class<A>,
-    f: &F,
-) -> Made<Box<Class<B>>>
+fn class<B: Drop, A, F: Fn(&A) -> B>(alloc: Global, of: &Class<A>, f: &F) -> Made<Box<Class<B>>>
     requires { F.IsAlwaysCallable f.now }
     ensures { IfOk result (λ x. same.SameClass (FnReturnsAt F.Fn f.now) (class_of of.now) (class_of x.value)) }
 {

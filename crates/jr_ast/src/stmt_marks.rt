@@ -5,7 +5,7 @@ ghost use Rattle.jr_ast.specs.Remarked as same;
 ghost use Rattle.jr_ast.specs.View.{else_of, stmt_of, stmts_of};
 
 use crate::expr_marks::{expr, maybe_expr};
-use crate::made::{push_made, Made};
+use crate::made::{Made, push_made};
 use crate::made_stmts as made;
 use crate::marks::{marked, ty, word};
 use crate::stmts::{Stmt, StmtKind};
@@ -36,7 +36,13 @@ pub(crate) fn stmt<B: Drop, A, F: Fn(&A) -> B>(
         StmtKind::Eval(value) => made::eval(alloc, mark, expr(alloc, value, f)),
         StmtKind::If(condition, yes, no) => {
             let condition = expr(alloc, condition, f);
-            made::conditional(alloc, mark, condition, stmt(alloc, yes, f), else_stmt(alloc, no, f))
+            made::conditional(
+                alloc,
+                mark,
+                condition,
+                stmt(alloc, yes, f),
+                else_stmt(alloc, no, f),
+            )
         }
         StmtKind::While(condition, body) => {
             made::while_loop(alloc, mark, expr(alloc, condition, f), stmt(alloc, body, f))

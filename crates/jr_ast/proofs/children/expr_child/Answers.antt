@@ -11,8 +11,8 @@ unfolding pure.exp_children
 returns-in-SuperCall g c =
     let m = c.args.expr.now.mark in
     let first = pure.word (word_of c.in-SuperCall.name) in
-    c.end-in-SuperCall.ensures ∙ c.exprs-in-SuperCall.ensures [] ∙ c.then-in-SuperCall.ensures _
-    ∙ ap (λ l. slice_get (first ∷ l) c.args.number) (append-nil _ ∙ ap (λ xs. pure.exps (exprs_of xs)) c.deref-in-SuperCall.ensures.value)
+    c.then_exprs-in-SuperCall.ensures
+    ∙ ap (λ xs. slice_get (first ∷ pure.exps (exprs_of xs)) c.args.number) c.deref-in-SuperCall.ensures.value
     ∙ sym (ap (λ e. slice_get (pure.exp_children e) c.args.number) (ap (expr_kind m) c.in-SuperCall.is ∙ expr_kind-SuperCall _ m c.in-SuperCall.name c.in-SuperCall.args))
 
 pub returns-in-New : goal.returns-in-New
@@ -20,8 +20,8 @@ unfolding pure.exp_children
 returns-in-New g c =
     let m = c.args.expr.now.mark in
     let first = pure.type (type_of c.in-New.ty) in
-    c.end-in-New.ensures ∙ c.exprs-in-New.ensures [] ∙ c.then-in-New.ensures _
-    ∙ ap (λ l. slice_get (first ∷ l) c.args.number) (append-nil _ ∙ ap (λ xs. pure.exps (exprs_of xs)) c.deref-in-New.ensures.value)
+    c.then_exprs-in-New.ensures
+    ∙ ap (λ xs. slice_get (first ∷ pure.exps (exprs_of xs)) c.args.number) c.deref-in-New.ensures.value
     ∙ sym (ap (λ e. slice_get (pure.exp_children e) c.args.number) (ap (expr_kind m) c.in-New.is ∙ expr_kind-New _ m c.in-New.ty c.in-New.args))
 
 pub returns-in-None : goal.returns-in-None
@@ -30,8 +30,8 @@ returns-in-None g c =
     let m = c.args.expr.now.mark in
     let at = c.in-Call in
     let word = pure.word (word_of at.name) in
-    c.end-in-None.ensures ∙ c.exprs.ensures [] ∙ c.then-in-None.ensures _
-    ∙ ap (λ l. slice_get (word ∷ l) c.args.number) (append-nil _ ∙ ap (λ xs. pure.exps (exprs_of xs)) c.deref-in-None.ensures.value)
+    c.then_exprs.ensures
+    ∙ ap (λ xs. slice_get (word ∷ pure.exps (exprs_of xs)) c.args.number) c.deref-in-None.ensures.value
     ∙ sym (ap (λ e. slice_get (pure.exp_children e) c.args.number) (ap (expr_kind m) (at.is ∙ ap (λ o. Call o at.name at.args) c.in-None.is) ∙ expr_kind-Call _ m at.name at.args))
 
 pub returns-in-Some : goal.returns-in-Some
@@ -41,7 +41,7 @@ returns-in-Some g c =
     let at = c.in-Call in
     let target = c.in-Some.target in
     let word = pure.word (word_of at.name) in
-    c.end-in-Some.ensures ∙ c.exprs-in-Some.ensures [] ∙ c.then-in-Some-2.ensures _ ∙ c.then-in-Some.ensures _
+    c.end.ensures ∙ c.exprs.ensures [] ∙ c.then-in-Some.ensures _ ∙ c.then.ensures _
     ∙ ap (λ x. slice_get (pure.exp (expr_of x) ∷ (word ∷ (pure.exps (exprs_of c.deref-in-Some-2.result.now) ++ []))) c.args.number) c.deref-in-Some.ensures
     ∙ ap (λ l. slice_get (pure.exp (expr_of target.value) ∷ (word ∷ l)) c.args.number) (append-nil _ ∙ ap (λ xs. pure.exps (exprs_of xs)) c.deref-in-Some-2.ensures.value)
     ∙ sym (ap (λ e. slice_get (pure.exp_children e) c.args.number) (ap (expr_kind m) (at.is ∙ ap (λ o. Call o at.name at.args) c.in-Some.is) ∙ expr_kind-Call_on _ m target at.name at.args))
