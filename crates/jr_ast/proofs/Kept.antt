@@ -1,5 +1,5 @@
 -- What was made, and what it was made of.
-use Rattle.std.proofs.Common.{◌≡◌, ℕ, ◌+◌, ◌<◌, List, [], ◌∷◌, ◌++◌, length, get_or, take, map, sym, subst, ap}
+use Rattle.std.proofs.Common.{◌≡◌, ℕ, ◌+◌, ◌<◌, List, [], ◌∷◌, ◌++◌, length, get_or, take, map, sym, subst}
 use Rattle.std.specs.Prelude.{Result, Ok, Err, Box}
 use Rattle.std.specs.Global.{Global}
 use Rattle.std.specs.Result.{IfOk, IsOkAnd}

@@ -20,10 +20,6 @@ abbrev or_else : {V D Y : Type 0} → (Y → V → D) → maybe.Option V → D �
 or_else f maybe.none x y = x
 or_else f (maybe.some v) x y = f y v
 
--- two paths with a bridge between them, whose ends they give
-pub link : {X : Type 0} {a b c d : X} → a ≡ b → c ≡ d → b ≡ c → a ≡ d
-link p q r = p ∙ r ∙ q
-
 -- where an enum's fields are read, at the variant that it is known to be
 pub known : {V D Y : Type 0} (f : Y → V → D) (v : V) (x : D) (y : Y) {o : maybe.Option V} → o ≡ maybe.some v → or_else f o x y ≡ f y v
 known f v x y e = ap (λ o. or_else f o x y) e

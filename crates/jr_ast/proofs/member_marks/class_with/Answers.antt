@@ -1,5 +1,4 @@
 use Rattle.std.proofs.Common.{map, ap, sym, ◌∙◌}
-use Rattle.std.proofs.lemmas.Result.{IfOk-weaker}
 use Rattle.jr_ast.specs.MemberTree as tree
 use Rattle.jr_ast.specs.View.{class_of, modifier_of}
 use Rattle.jr_ast.specs.Remarked as same
