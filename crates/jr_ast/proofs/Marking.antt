@@ -33,8 +33,8 @@ module _ {X Y Z : Type 0} (p : X → Z) (q : Y → Z) where
   all_done out row i ge so_far = so_far ∙ ap (map q) (take_all i row ge)
 
 -- measures
-pub below : (n t : ℕ) → n + 1 < t → n < t
-below n t h = omega arith
+pub falls_further : (n t : ℕ) → n + 1 < t → n < t
+falls_further n t h = omega arith
 
 pub falls_held : (n n' t : ℕ) → n ≡ n' → 3 * n' + 1 ≡ t → 3 * n < t
 falls_held n n' t e h = omega arith

@@ -1,7 +1,6 @@
 -- Classes, members and compilation units whose parts are replaced.
 use Rattle.std.proofs.Common.{◌≡◌, ℕ, zero, suc, ◌+◌, ◌-◌, ◌≤◌, List, [], ◌∷◌, Option, Some, None, Vec, Global, length, slice_set, option_map, option_and_then, map, refl, sym, ap, ◌∙◌, arith}
 use Rattle.std.specs.List.{slice_get}
-use Rattle.std.proofs.Math.Nat.{sub-zero}
 use Rattle.std.proofs.lemmas.List.{length-map}
 use Rattle.jr_ast.specs.declared.names.Ident.{Ident}
 use Rattle.jr_ast.specs.declared.parts.Modifier.{Modifier}
@@ -24,7 +23,6 @@ use Rattle.jr_ast.specs.MemberLent.{members_begin, init_begins, args_place, body
 use Rattle.jr_ast.proofs.Rows.{class_of-out, class_of-roll}
 use Rattle.jr_ast.proofs.MemberPlaces.{left_three, left_more, method_first, got, got-nil, got_map, got_left, stmts_with_left, args_with_left, member_in_class, stmt_in_method, stmt_in_constructor, exp_in_field, exp_in_constructor, none_among, past_one, only_one}
 use Rattle.jr_ast.proofs.RowKinds.{each-field, each-method, each-constructor}
-use Rattle.jr_ast.proofs.Lending.{set_stmt_from}
 
 module _ (A : Type 0) where
   -- the number of a class's first member
@@ -356,9 +354,6 @@ module _ (A : Type 0) where
 
   pub stmt_at_place : (xs : List (Stmt A)) (i : ℕ) (place : Option ℕ) → place ≡ Some i → slice_get (map stmt_of xs) i ≡ at_place pure.as_stmt (pure.stmts (stmts_of xs)) place
   stmt_at_place xs i place e = stmts_get xs i ∙ sym (ap (at_place pure.as_stmt (pure.stmts (stmts_of xs))) e)
-
-  pub stmt_set : (xs : List (Stmt A)) (i : ℕ) (place : Option ℕ) (w : Stmt A) → place ≡ Some i → stmts_of (slice_set xs i w) ≡ with_stmt_left (stmts_of xs) place (stmt_of w)
-  stmt_set xs i place w e = ap (λ k. stmts_of (slice_set xs k w)) (sym (sub-zero i)) ∙ set_stmt_from w 0 xs i (omega arith) ∙ sym (ap (λ p. with_stmt_left (stmts_of xs) p (stmt_of w)) e)
 
   exps_get : (xs : List (Expr A)) (i : ℕ) → slice_get (map expr_of xs) i ≡ option_and_then pure.as_exp (slice_get (pure.exps (exprs_of xs)) i)
   exps_get [] i = refl

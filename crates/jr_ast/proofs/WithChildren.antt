@@ -12,6 +12,7 @@ use Rattle.jr_ast.proofs.Puts.{Put, set_from, set_from-nil, put_always, put_none
 use Rattle.jr_ast.proofs.RowKinds.{each-stmts, each-args, each-maybe, each-one, each-field, each-method, each-constructor}
 use Rattle.jr_ast.proofs.Levels.{child_under}
 use Rattle.jr_ast.proofs.WithLaws.{child_same}
+use Rattle.jr_ast.proofs.WithAgain.{child_again}
 
 module _ {A : Type 0} where
   -- rows
@@ -238,4 +239,4 @@ module _ {A : Type 0} where
   child_set n c x i h same = absurd same
 
 pub one_child_replaced : {A : Type 0} → OneChildReplaced A
-one_child_replaced = record { others = child_set; same = child_same }
+one_child_replaced = record { others = child_set; same = child_same; again = child_again }

@@ -191,7 +191,9 @@ module _ {A : Type 0} where
   SameKind (class c) (class x) = Unit {0}
   SameKind c x = ⊥
 
--- a child replaced is one child: the node has the new one at that number, and its others as before; with its own child it is the node that it was
+-- a child replaced is one child: the node has the new one at that number, and its others as before; with its own child it is the node that it was;
+-- and a child that is replaced again leaves no trace, so that a node's own child put back gives all of the node, its mark and its operator too
 pub record OneChildReplaced (A : Type 0) : Type 0 where
   pub others : (n c x : Node A) (i : ℕ) → child_of n i ≡ Some c → SameKind c x → children_of (with_child n i x) ≡ slice_set (children_of n) i x
   pub same : (n c : Node A) (i : ℕ) → child_of n i ≡ Some c → with_child n i c ≡ n
+  pub again : (n x y : Node A) (i : ℕ) → SameKind x y → with_child (with_child n i x) i y ≡ with_child n i y

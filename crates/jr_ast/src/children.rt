@@ -69,7 +69,7 @@ pub(crate) fn expr_child<'a, A>(expr: &'a Expr<A>, number: usize) -> Option<Node
         ExprKind::Cast(ty, of) => two(number, Node::Type(ty), Node::Expr(of)),
         ExprKind::Unary(_, of) => one(number, Node::Expr(of)),
         ExprKind::Bump(_, of) => one(number, Node::Expr(of)),
-        ExprKind::Binary(_, left, right) => { two(number, Node::Expr(left), Node::Expr(right)) }
+        ExprKind::Binary(_, left, right) => two(number, Node::Expr(left), Node::Expr(right)),
         ExprKind::Assign(to, value) => two(number, Node::Expr(to), Node::Expr(value)),
         ExprKind::Compound(_, to, value) => two(number, Node::Expr(to), Node::Expr(value)),
     }
@@ -88,9 +88,7 @@ pub(crate) fn stmt_child<'a, A>(stmt: &'a Stmt<A>, number: usize) -> Option<Node
                 .end()
         }
         StmtKind::Eval(of) => one(number, Node::Expr(of)),
-        StmtKind::If(condition, yes, None) => {
-            two(number, Node::Expr(condition), Node::Stmt(yes))
-        }
+        StmtKind::If(condition, yes, None) => two(number, Node::Expr(condition), Node::Stmt(yes)),
         StmtKind::If(condition, yes, Some(no)) => {
             Seek::Left(number)
                 .then(Node::Expr(condition))
@@ -98,7 +96,7 @@ pub(crate) fn stmt_child<'a, A>(stmt: &'a Stmt<A>, number: usize) -> Option<Node
                 .then(Node::Stmt(no))
                 .end()
         }
-        StmtKind::While(condition, body) => { two(number, Node::Expr(condition), Node::Stmt(body)) }
+        StmtKind::While(condition, body) => two(number, Node::Expr(condition), Node::Stmt(body)),
         StmtKind::Return(None) => None,
         StmtKind::Return(Some(value)) => one(number, Node::Expr(value)),
         StmtKind::Block(body) => Seek::Left(number).stmts(body).end(),

@@ -6,7 +6,7 @@ ghost use Rattle.jr_ast.specs.View.{target_of, expr_of, exprs_of, args_of};
 
 use crate::exprs::{Expr, ExprKind};
 use crate::made::{Made, push_made};
-use crate::made_exprs as made;
+use crate::made_exprs;
 use crate::marks::{marked, ty, word};
 use std::alloc::Global;
 
@@ -22,20 +22,24 @@ pub(crate) fn expr<B: Drop, A, F: Fn(&A) -> B>(
 {
     let mark = marked(&of.mark, f);
     match &of.kind {
-        ExprKind::Int(value) => made::number(alloc, mark, *value),
-        ExprKind::Bool(value) => made::truth(alloc, mark, *value),
-        ExprKind::Null => made::null(alloc, mark),
-        ExprKind::This => made::this(alloc, mark),
-        ExprKind::Text(text) => made::string(alloc, mark, text),
-        ExprKind::Simple(name) => made::simple(alloc, mark, word(alloc, name, f)),
-        ExprKind::SuperField(name) => made::super_field(alloc, mark, word(alloc, name, f)),
-        ExprKind::ClassLit(of_type) => made::class_literal(alloc, mark, ty(alloc, of_type, f)),
+        ExprKind::Int(value) => made_exprs::number(alloc, mark, *value),
+        ExprKind::Bool(value) => made_exprs::truth(alloc, mark, *value),
+        ExprKind::Null => made_exprs::null(alloc, mark),
+        ExprKind::This => made_exprs::this(alloc, mark),
+        ExprKind::Text(text) => made_exprs::string(alloc, mark, text),
+        ExprKind::Simple(name) => made_exprs::simple(alloc, mark, word(alloc, name, f)),
+        ExprKind::SuperField(name) => made_exprs::super_field(alloc, mark, word(alloc, name, f)),
+        ExprKind::ClassLit(of_type) => made_exprs::class_literal(
+            alloc,
+            mark,
+            ty(alloc, of_type, f),
+        ),
         ExprKind::Field(part, name) => {
-            made::field(alloc, mark, expr(alloc, part, f), word(alloc, name, f))
+            made_exprs::field(alloc, mark, expr(alloc, part, f), word(alloc, name, f))
         }
         ExprKind::Call(target, name, args) => {
             let target = target_expr(alloc, target, f);
-            made::call(
+            made_exprs::call(
                 alloc,
                 mark,
                 target,
@@ -44,17 +48,22 @@ pub(crate) fn expr<B: Drop, A, F: Fn(&A) -> B>(
             )
         }
         ExprKind::SuperCall(name, args) => {
-            made::super_call(alloc, mark, word(alloc, name, f), exprs(alloc, args, f))
+            made_exprs::super_call(alloc, mark, word(alloc, name, f), exprs(alloc, args, f))
         }
         ExprKind::New(created, args) => {
-            made::create(alloc, mark, ty(alloc, created, f), exprs(alloc, args, f))
+            made_exprs::create(alloc, mark, ty(alloc, created, f), exprs(alloc, args, f))
         }
-        ExprKind::Paren(part) => made::paren(alloc, mark, expr(alloc, part, f)),
-        ExprKind::Cast(to, part) => made::cast(alloc, mark, ty(alloc, to, f), expr(alloc, part, f)),
-        ExprKind::Unary(op, part) => made::unary(alloc, mark, *op, expr(alloc, part, f)),
-        ExprKind::Bump(op, part) => made::bump(alloc, mark, *op, expr(alloc, part, f)),
+        ExprKind::Paren(part) => made_exprs::paren(alloc, mark, expr(alloc, part, f)),
+        ExprKind::Cast(to, part) => made_exprs::cast(
+            alloc,
+            mark,
+            ty(alloc, to, f),
+            expr(alloc, part, f),
+        ),
+        ExprKind::Unary(op, part) => made_exprs::unary(alloc, mark, *op, expr(alloc, part, f)),
+        ExprKind::Bump(op, part) => made_exprs::bump(alloc, mark, *op, expr(alloc, part, f)),
         ExprKind::Binary(op, left, right) => {
-            made::binary(
+            made_exprs::binary(
                 alloc,
                 mark,
                 *op,
@@ -63,10 +72,10 @@ pub(crate) fn expr<B: Drop, A, F: Fn(&A) -> B>(
             )
         }
         ExprKind::Assign(to, value) => {
-            made::assign(alloc, mark, expr(alloc, to, f), expr(alloc, value, f))
+            made_exprs::assign(alloc, mark, expr(alloc, to, f), expr(alloc, value, f))
         }
         ExprKind::Compound(op, to, value) => {
-            made::compound(alloc, mark, *op, expr(alloc, to, f), expr(alloc, value, f))
+            made_exprs::compound(alloc, mark, *op, expr(alloc, to, f), expr(alloc, value, f))
         }
     }
 }

@@ -108,20 +108,20 @@ impl<A> ExprKind<A> {
 }
 
 /// A way down from an expression to one below it.
-pub(crate) trait ExprLevel<A> {
+pub(crate) trait ExprLevel {
     ghost use Rattle.std.specs.Prelude.{ℕ};
 
     ghost reach: { ℕ };
 
-    fn below<'k>(kind: &'k mut ExprKind<A>, steps: &[u32]) -> Option<&'k mut Expr<A>>
+    fn below<'k, A>(kind: &'k mut ExprKind<A>, steps: &[u32]) -> Option<&'k mut Expr<A>>
         ensures* writes_back { sem 𝓛 (lends_below_expr A.row reach kind.entry steps.now result) }
         ensures value { IsWithin reach steps.now → (m : A) → option_map (λ x. view.expr_of x.now) result ≡ pure.exp_at (pure.exp (view.expr_kind m kind.entry.now)) steps.now };
 }
 
-impl<A> ExprLevel<A> for One {
+impl ExprLevel for One {
     ghost reach = { 1 };
 
-    fn below<'k>(kind: &'k mut ExprKind<A>, steps: &[u32]) -> Option<&'k mut Expr<A>> {
+    fn below<'k, A>(kind: &'k mut ExprKind<A>, steps: &[u32]) -> Option<&'k mut Expr<A>> {
         if steps.len() != 1 {
             return None;
         }
@@ -129,12 +129,12 @@ impl<A> ExprLevel<A> for One {
     }
 }
 
-impl<A, L: ExprLevel<A>> ExprLevel<A> for Twice<L> {
+impl<L: ExprLevel> ExprLevel for Twice<L> {
     ghost use Rattle.std.specs.Prelude.{◌*◌};
 
     ghost reach = { 2 * L.reach };
 
-    fn below<'k>(kind: &'k mut ExprKind<A>, steps: &[u32]) -> Option<&'k mut Expr<A>> {
+    fn below<'k, A>(kind: &'k mut ExprKind<A>, steps: &[u32]) -> Option<&'k mut Expr<A>> {
         let half = steps.len() / 2;
         if half == 0 {
             return L::below(kind, steps);

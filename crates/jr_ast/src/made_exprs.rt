@@ -1,5 +1,5 @@
 //! Expressions of parts that were made, in boxes.
-ghost use Rattle.std.specs.Prelude.{◌≡◌, option_map};
+ghost use Rattle.std.specs.Prelude.{◌≡◌};
 ghost use Rattle.std.specs.Result.{IfOk, IsOkAnd};
 ghost use Rattle.jr_ast.specs.Tree as tree;
 ghost use Rattle.jr_ast.specs.View.{word_of, type_of, expr_of, exprs_of, target_of};
@@ -11,6 +11,7 @@ use crate::operators::{BinOp, BumpOp, UnOp};
 use crate::parts::TypeRef;
 use std::alloc::Global;
 
+/// In a box, at this type alone: at any type, each call of it would cost the check more.
 fn in_box<B: Drop>(alloc: Global, expr: Expr<B>) -> Made<Box<Expr<B>>>
     ensures { IfOk result (λ x. x.value ≡ expr) }
 {

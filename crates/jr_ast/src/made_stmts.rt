@@ -11,6 +11,7 @@ use crate::parts::TypeRef;
 use crate::stmts::Stmt;
 use std::alloc::Global;
 
+/// In a box, at this type alone: at any type, each call of it would cost the check more.
 fn in_box<B: Drop>(alloc: Global, stmt: Stmt<B>) -> Made<Box<Stmt<B>>>
     ensures { IfOk result (λ x. x.value ≡ stmt) }
 {

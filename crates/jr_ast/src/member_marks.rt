@@ -17,6 +17,7 @@ use crate::stmt_marks::stmts;
 use crate::stmts::Stmt;
 use std::alloc::{AllocError, Global};
 
+/// In a box, at this type alone: at any type, each call of it would cost the check more.
 fn in_box<B: Drop>(alloc: Global, member: Member<B>) -> Made<Box<Member<B>>>
     ensures { IfOk result (λ x. x.value ≡ member) }
 {
@@ -46,28 +47,28 @@ fn field<B: Drop, A, F: Fn(&A) -> B>(
     alloc: Global,
     mark: &A,
     words: &[Modifier<A>],
-    kind: &TypeRef<A>,
+    of_type: &TypeRef<A>,
     name: &Ident<A>,
     init: &Option<Expr<A>>,
     f: &F,
 ) -> Made<Box<Member<B>>>
     requires { F.IsAlwaysCallable f.now }
-    ensures { IfOk result (λ x. same.SameMember (FnReturnsAt F.Fn f.now) (tree.field mark.now (map modifier_of words.now) (type_of kind.now) (word_of name.now) (option_map expr_of init.now)) (member_of x.value)) }
+    ensures { IfOk result (λ x. same.SameMember (FnReturnsAt F.Fn f.now) (tree.field mark.now (map modifier_of words.now) (type_of of_type.now) (word_of name.now) (option_map expr_of init.now)) (member_of x.value)) }
 {
     let words = modifiers(alloc, words, f)?;
     let name = word(alloc, name, f)?;
     let init = maybe_expr(alloc, init, f)?;
-    let kind = ty(alloc, kind, f)?;
+    let of_type = ty(alloc, of_type, f)?;
     match init {
         None => in_box(
             alloc,
-            Member::field(marked(mark, f), words, kind, name, None),
+            Member::field(marked(mark, f), words, of_type, name, None),
         ),
         Some(init) => {
             let init = Some(Box::into_inner(init));
             in_box(
                 alloc,
-                Member::field(marked(mark, f), words, kind, name, init),
+                Member::field(marked(mark, f), words, of_type, name, init),
             )
         }
     }
@@ -117,6 +118,7 @@ fn ctor<B: Drop, A, F: Fn(&A) -> B>(
     )
 }
 
+/// A copy of a member that is a class, which is copied.
 fn inner<B: Drop, A, F: Fn(&A) -> B>(
     alloc: Global,
     mark: &A,
@@ -133,7 +135,7 @@ fn inner<B: Drop, A, F: Fn(&A) -> B>(
     )
 }
 
-/// A class with these members.
+/// A copy of a class, whose members are copied.
 fn class_with<B: Drop, A, F: Fn(&A) -> B>(
     alloc: Global,
     of: &Class<A>,

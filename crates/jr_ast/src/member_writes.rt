@@ -13,7 +13,7 @@ use crate::exprs::Expr;
 use crate::members::{Class, Member, MemberKind, Unit};
 use crate::parts::TypeRef;
 use crate::reaches::{One, Twice};
-use crate::stmt_writes::held_expr;
+use crate::stmt_writes::{held_expr, nth_stmt};
 use crate::stmts::Stmt;
 
 /// The member of this number, where the first of the row has the number `first`.
@@ -83,7 +83,7 @@ fn stmt_left<A>(body: &mut Vec<Stmt<A>>, left: Option<usize>) -> Option<&mut Stm
     ensures value { option_map (λ x. view.stmt_of x.now) result ≡ at_place pure.as_stmt (pure.stmts (view.stmts_of body.entry.now.items)) left }
 {
     match left {
-        Some(left) => body.get_mut(left),
+        Some(left) => nth_stmt(body, 0, left),
         None => None,
     }
 }
@@ -238,7 +238,8 @@ impl<A> Unit<A> {
     }
 }
 
-/// A way down from a class to a member below it.
+/// A way down from a class to a member below it. The mark stands with the trait, where it costs the
+/// check least.
 pub(crate) trait ClassLevel<A> {
     ghost use Rattle.std.specs.Prelude.{ℕ};
 

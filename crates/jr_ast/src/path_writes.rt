@@ -28,7 +28,7 @@ impl<A> StmtKind<A> {
             1 => self.expr_mut(steps[0] as usize),
             _ => {
                 let expr = self.expr_mut(steps[0] as usize)?;
-                <Far as ExprLevel<A>>::below(&mut expr.kind, &steps[1..])
+                <Far as ExprLevel>::below(&mut expr.kind, &steps[1..])
             }
         }
     }
@@ -46,7 +46,7 @@ impl<A> MemberKind<A> {
             1 => self.expr_mut(steps[0] as usize),
             _ => {
                 let expr = self.expr_mut(steps[0] as usize)?;
-                <Far as ExprLevel<A>>::below(&mut expr.kind, &steps[1..])
+                <Far as ExprLevel>::below(&mut expr.kind, &steps[1..])
             }
         }
     }
@@ -62,7 +62,7 @@ impl<A> MemberKind<A> {
             1 => self.stmt_mut(steps[0] as usize),
             _ => {
                 let stmt = self.stmt_mut(steps[0] as usize)?;
-                <Far as StmtLevel<A>>::below(&mut stmt.kind, &steps[1..])
+                <Far as StmtLevel>::below(&mut stmt.kind, &steps[1..])
             }
         }
     }

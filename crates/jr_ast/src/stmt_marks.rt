@@ -6,7 +6,7 @@ ghost use Rattle.jr_ast.specs.View.{else_of, stmt_of, stmts_of};
 
 use crate::expr_marks::{expr, maybe_expr};
 use crate::made::{Made, push_made};
-use crate::made_stmts as made;
+use crate::made_stmts;
 use crate::marks::{marked, ty, word};
 use crate::stmts::{Stmt, StmtKind};
 use std::alloc::Global;
@@ -25,18 +25,18 @@ pub(crate) fn stmt<B: Drop, A, F: Fn(&A) -> B>(
     match &of.kind {
         StmtKind::Local {
             is_final,
-            ty: kind,
+            ty: of_type,
             name,
             init,
         } => {
-            let kind = ty(alloc, kind, f);
+            let of_type = ty(alloc, of_type, f);
             let name = word(alloc, name, f);
-            made::local(alloc, mark, *is_final, kind, name, expr(alloc, init, f))
+            made_stmts::local(alloc, mark, *is_final, of_type, name, expr(alloc, init, f))
         }
-        StmtKind::Eval(value) => made::eval(alloc, mark, expr(alloc, value, f)),
+        StmtKind::Eval(value) => made_stmts::eval(alloc, mark, expr(alloc, value, f)),
         StmtKind::If(condition, yes, no) => {
             let condition = expr(alloc, condition, f);
-            made::conditional(
+            made_stmts::conditional(
                 alloc,
                 mark,
                 condition,
@@ -45,14 +45,14 @@ pub(crate) fn stmt<B: Drop, A, F: Fn(&A) -> B>(
             )
         }
         StmtKind::While(condition, body) => {
-            made::while_loop(alloc, mark, expr(alloc, condition, f), stmt(alloc, body, f))
+            made_stmts::while_loop(alloc, mark, expr(alloc, condition, f), stmt(alloc, body, f))
         }
-        StmtKind::Return(value) => made::returned(alloc, mark, maybe_expr(alloc, value, f)),
-        StmtKind::Block(body) => made::block(alloc, mark, stmts(alloc, body, f)),
+        StmtKind::Return(value) => made_stmts::returned(alloc, mark, maybe_expr(alloc, value, f)),
+        StmtKind::Block(body) => made_stmts::block(alloc, mark, stmts(alloc, body, f)),
         StmtKind::Sync(lock, body) => {
-            made::sync(alloc, mark, expr(alloc, lock, f), stmts(alloc, body, f))
+            made_stmts::sync(alloc, mark, expr(alloc, lock, f), stmts(alloc, body, f))
         }
-        StmtKind::Empty => made::empty(alloc, mark),
+        StmtKind::Empty => made_stmts::empty(alloc, mark),
     }
 }
 

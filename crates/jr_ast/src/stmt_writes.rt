@@ -92,20 +92,20 @@ impl<A> StmtKind<A> {
 }
 
 /// A way down from a statement to one below it.
-pub(crate) trait StmtLevel<A> {
+pub(crate) trait StmtLevel {
     ghost use Rattle.std.specs.Prelude.{ℕ};
 
     ghost reach: { ℕ };
 
-    fn below<'k>(kind: &'k mut StmtKind<A>, steps: &[u32]) -> Option<&'k mut Stmt<A>>
+    fn below<'k, A>(kind: &'k mut StmtKind<A>, steps: &[u32]) -> Option<&'k mut Stmt<A>>
         ensures* writes_back { sem 𝓛 (lends_below_stmt A.row reach kind.entry steps.now result) }
         ensures value { IsWithin reach steps.now → (m : A) → option_map (λ x. view.stmt_of x.now) result ≡ pure.stmt_at (pure.stmt (view.stmt_kind m kind.entry.now)) steps.now };
 }
 
-impl<A> StmtLevel<A> for One {
+impl StmtLevel for One {
     ghost reach = { 1 };
 
-    fn below<'k>(kind: &'k mut StmtKind<A>, steps: &[u32]) -> Option<&'k mut Stmt<A>> {
+    fn below<'k, A>(kind: &'k mut StmtKind<A>, steps: &[u32]) -> Option<&'k mut Stmt<A>> {
         if steps.len() != 1 {
             return None;
         }
@@ -113,12 +113,12 @@ impl<A> StmtLevel<A> for One {
     }
 }
 
-impl<A, L: StmtLevel<A>> StmtLevel<A> for Twice<L> {
+impl<L: StmtLevel> StmtLevel for Twice<L> {
     ghost use Rattle.std.specs.Prelude.{◌*◌};
 
     ghost reach = { 2 * L.reach };
 
-    fn below<'k>(kind: &'k mut StmtKind<A>, steps: &[u32]) -> Option<&'k mut Stmt<A>> {
+    fn below<'k, A>(kind: &'k mut StmtKind<A>, steps: &[u32]) -> Option<&'k mut Stmt<A>> {
         let half = steps.len() / 2;
         if half == 0 {
             return L::below(kind, steps);

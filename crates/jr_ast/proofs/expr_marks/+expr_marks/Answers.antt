@@ -5,8 +5,8 @@ use Rattle.jr_ast.specs.View.{expr_of, exprs_of, target_of, expr_kind, expr_row,
 use Rattle.jr_ast.specs.Remarked as same
 use Rattle.jr_ast.proofs.Rows.{expr_kind-Call_to, expr_kind-SuperCall, expr_kind-New}
 use Rattle.jr_ast.proofs.Sizes.{exp_size, exps_size, target_size}
-use Rattle.jr_ast.proofs.Kept.{with_part, one_more_made}
-use Rattle.jr_ast.proofs.Marking.{mark_agrees, none_yet, all_done, below, falls_left, falls_right, falls_whole_row, falls_item, falls_held, same_rows, exps_add}
+use Rattle.jr_ast.proofs.MadeOf.{with_part, one_more_made}
+use Rattle.jr_ast.proofs.Marking.{mark_agrees, none_yet, all_done, falls_further, falls_left, falls_right, falls_whole_row, falls_item, falls_held, same_rows, exps_add}
 use Rattle.jr_ast.proofs.expr_marks.+expr_marks.Goals as goal
 
 pub expr-expr-requires : goal.expr-expr-requires
@@ -15,7 +15,7 @@ expr-expr-requires g t c =
     let whole = exp_size (expr_of c.args.of.now) in
     let m = c.args.of.now.mark in
     let at = c.in-Field in
-    λ κs o. (below _ t (falls_whole_row (λ x. exp_size (expr_of x)) whole at.part.value c.deref.result.now t c.deref.ensures (ap (λ d. exp_size (expr_kind m d)) at.is) c.decreases), (o.0, (o.1.0, (o.1.1, c.requires))))
+    λ κs o. (falls_further _ t (falls_whole_row (λ x. exp_size (expr_of x)) whole at.part.value c.deref.result.now t c.deref.ensures (ap (λ d. exp_size (expr_kind m d)) at.is) c.decreases), (o.0, (o.1.0, (o.1.1, c.requires))))
 
 pub expr-expr-requires-in-Paren : goal.expr-expr-requires-in-Paren
 unfolding exp_size exps_size target_size expr_kind expr_row held_target
@@ -23,7 +23,7 @@ expr-expr-requires-in-Paren g t c =
     let whole = exp_size (expr_of c.args.of.now) in
     let m = c.args.of.now.mark in
     let at = c.in-Paren in
-    λ κs o. (below _ t (falls_whole_row (λ x. exp_size (expr_of x)) whole at.part.value c.deref-in-Paren.result.now t c.deref-in-Paren.ensures (ap (λ d. exp_size (expr_kind m d)) at.is) c.decreases), (o.0, (o.1.0, (o.1.1, c.requires))))
+    λ κs o. (falls_further _ t (falls_whole_row (λ x. exp_size (expr_of x)) whole at.part.value c.deref-in-Paren.result.now t c.deref-in-Paren.ensures (ap (λ d. exp_size (expr_kind m d)) at.is) c.decreases), (o.0, (o.1.0, (o.1.1, c.requires))))
 
 pub expr-expr-requires-in-Cast : goal.expr-expr-requires-in-Cast
 unfolding exp_size exps_size target_size expr_kind expr_row held_target
@@ -31,7 +31,7 @@ expr-expr-requires-in-Cast g t c =
     let whole = exp_size (expr_of c.args.of.now) in
     let m = c.args.of.now.mark in
     let at = c.in-Cast in
-    λ κs o. (below _ t (falls_whole_row (λ x. exp_size (expr_of x)) whole at.part.value c.deref-in-Cast.result.now t c.deref-in-Cast.ensures (ap (λ d. exp_size (expr_kind m d)) at.is) c.decreases), (o.0, (o.1.0, (o.1.1, c.requires))))
+    λ κs o. (falls_further _ t (falls_whole_row (λ x. exp_size (expr_of x)) whole at.part.value c.deref-in-Cast.result.now t c.deref-in-Cast.ensures (ap (λ d. exp_size (expr_kind m d)) at.is) c.decreases), (o.0, (o.1.0, (o.1.1, c.requires))))
 
 pub expr-expr-requires-in-Unary : goal.expr-expr-requires-in-Unary
 unfolding exp_size exps_size target_size expr_kind expr_row held_target
@@ -39,7 +39,7 @@ expr-expr-requires-in-Unary g t c =
     let whole = exp_size (expr_of c.args.of.now) in
     let m = c.args.of.now.mark in
     let at = c.in-Unary in
-    λ κs o. (below _ t (falls_whole_row (λ x. exp_size (expr_of x)) whole at.part.value c.deref-in-Unary.result.now t c.deref-in-Unary.ensures (ap (λ d. exp_size (expr_kind m d)) at.is) c.decreases), (o.0, (o.1.0, (o.1.1, c.requires))))
+    λ κs o. (falls_further _ t (falls_whole_row (λ x. exp_size (expr_of x)) whole at.part.value c.deref-in-Unary.result.now t c.deref-in-Unary.ensures (ap (λ d. exp_size (expr_kind m d)) at.is) c.decreases), (o.0, (o.1.0, (o.1.1, c.requires))))
 
 pub expr-expr-requires-in-Bump : goal.expr-expr-requires-in-Bump
 unfolding exp_size exps_size target_size expr_kind expr_row held_target
@@ -47,7 +47,7 @@ expr-expr-requires-in-Bump g t c =
     let whole = exp_size (expr_of c.args.of.now) in
     let m = c.args.of.now.mark in
     let at = c.in-Bump in
-    λ κs o. (below _ t (falls_whole_row (λ x. exp_size (expr_of x)) whole at.part.value c.deref-in-Bump.result.now t c.deref-in-Bump.ensures (ap (λ d. exp_size (expr_kind m d)) at.is) c.decreases), (o.0, (o.1.0, (o.1.1, c.requires))))
+    λ κs o. (falls_further _ t (falls_whole_row (λ x. exp_size (expr_of x)) whole at.part.value c.deref-in-Bump.result.now t c.deref-in-Bump.ensures (ap (λ d. exp_size (expr_kind m d)) at.is) c.decreases), (o.0, (o.1.0, (o.1.1, c.requires))))
 
 pub expr-expr-requires-in-Binary : goal.expr-expr-requires-in-Binary
 unfolding exp_size exps_size target_size expr_kind expr_row held_target
@@ -55,7 +55,7 @@ expr-expr-requires-in-Binary g t c =
     let whole = exp_size (expr_of c.args.of.now) in
     let m = c.args.of.now.mark in
     let at = c.in-Binary in
-    λ κs o. (below _ t (falls_left (λ x. exp_size (expr_of x)) whole (exp_size (expr_of at.right.value)) at.left.value c.deref-in-Binary.result.now t c.deref-in-Binary.ensures (ap (λ d. exp_size (expr_kind m d)) at.is) c.decreases), (o.0, (o.1.0, (o.1.1, c.requires))))
+    λ κs o. (falls_further _ t (falls_left (λ x. exp_size (expr_of x)) whole (exp_size (expr_of at.right.value)) at.left.value c.deref-in-Binary.result.now t c.deref-in-Binary.ensures (ap (λ d. exp_size (expr_kind m d)) at.is) c.decreases), (o.0, (o.1.0, (o.1.1, c.requires))))
 
 pub expr-expr-requires-in-Binary-2 : goal.expr-expr-requires-in-Binary-2
 unfolding exp_size exps_size target_size expr_kind expr_row held_target
@@ -63,7 +63,7 @@ expr-expr-requires-in-Binary-2 g t c =
     let whole = exp_size (expr_of c.args.of.now) in
     let m = c.args.of.now.mark in
     let at = c.in-Binary in
-    λ κs o. (below _ t (falls_right (λ x. exp_size (expr_of x)) whole (exp_size (expr_of at.left.value)) at.right.value c.deref-in-Binary-2.result.now t c.deref-in-Binary-2.ensures (ap (λ d. exp_size (expr_kind m d)) at.is) c.decreases), (o.0, (o.1.0, (o.1.1, c.requires))))
+    λ κs o. (falls_further _ t (falls_right (λ x. exp_size (expr_of x)) whole (exp_size (expr_of at.left.value)) at.right.value c.deref-in-Binary-2.result.now t c.deref-in-Binary-2.ensures (ap (λ d. exp_size (expr_kind m d)) at.is) c.decreases), (o.0, (o.1.0, (o.1.1, c.requires))))
 
 pub expr-expr-requires-in-Assign : goal.expr-expr-requires-in-Assign
 unfolding exp_size exps_size target_size expr_kind expr_row held_target
@@ -71,7 +71,7 @@ expr-expr-requires-in-Assign g t c =
     let whole = exp_size (expr_of c.args.of.now) in
     let m = c.args.of.now.mark in
     let at = c.in-Assign in
-    λ κs o. (below _ t (falls_left (λ x. exp_size (expr_of x)) whole (exp_size (expr_of at.value.value)) at.to.value c.deref-in-Assign.result.now t c.deref-in-Assign.ensures (ap (λ d. exp_size (expr_kind m d)) at.is) c.decreases), (o.0, (o.1.0, (o.1.1, c.requires))))
+    λ κs o. (falls_further _ t (falls_left (λ x. exp_size (expr_of x)) whole (exp_size (expr_of at.value.value)) at.to.value c.deref-in-Assign.result.now t c.deref-in-Assign.ensures (ap (λ d. exp_size (expr_kind m d)) at.is) c.decreases), (o.0, (o.1.0, (o.1.1, c.requires))))
 
 pub expr-expr-requires-in-Assign-2 : goal.expr-expr-requires-in-Assign-2
 unfolding exp_size exps_size target_size expr_kind expr_row held_target
@@ -79,7 +79,7 @@ expr-expr-requires-in-Assign-2 g t c =
     let whole = exp_size (expr_of c.args.of.now) in
     let m = c.args.of.now.mark in
     let at = c.in-Assign in
-    λ κs o. (below _ t (falls_right (λ x. exp_size (expr_of x)) whole (exp_size (expr_of at.to.value)) at.value.value c.deref-in-Assign-2.result.now t c.deref-in-Assign-2.ensures (ap (λ d. exp_size (expr_kind m d)) at.is) c.decreases), (o.0, (o.1.0, (o.1.1, c.requires))))
+    λ κs o. (falls_further _ t (falls_right (λ x. exp_size (expr_of x)) whole (exp_size (expr_of at.to.value)) at.value.value c.deref-in-Assign-2.result.now t c.deref-in-Assign-2.ensures (ap (λ d. exp_size (expr_kind m d)) at.is) c.decreases), (o.0, (o.1.0, (o.1.1, c.requires))))
 
 pub expr-expr-requires-in-Compound : goal.expr-expr-requires-in-Compound
 unfolding exp_size exps_size target_size expr_kind expr_row held_target
@@ -87,7 +87,7 @@ expr-expr-requires-in-Compound g t c =
     let whole = exp_size (expr_of c.args.of.now) in
     let m = c.args.of.now.mark in
     let at = c.in-Compound in
-    λ κs o. (below _ t (falls_left (λ x. exp_size (expr_of x)) whole (exp_size (expr_of at.value.value)) at.to.value c.deref-in-Compound.result.now t c.deref-in-Compound.ensures (ap (λ d. exp_size (expr_kind m d)) at.is) c.decreases), (o.0, (o.1.0, (o.1.1, c.requires))))
+    λ κs o. (falls_further _ t (falls_left (λ x. exp_size (expr_of x)) whole (exp_size (expr_of at.value.value)) at.to.value c.deref-in-Compound.result.now t c.deref-in-Compound.ensures (ap (λ d. exp_size (expr_kind m d)) at.is) c.decreases), (o.0, (o.1.0, (o.1.1, c.requires))))
 
 pub expr-expr-requires-in-Compound-2 : goal.expr-expr-requires-in-Compound-2
 unfolding exp_size exps_size target_size expr_kind expr_row held_target
@@ -95,7 +95,7 @@ expr-expr-requires-in-Compound-2 g t c =
     let whole = exp_size (expr_of c.args.of.now) in
     let m = c.args.of.now.mark in
     let at = c.in-Compound in
-    λ κs o. (below _ t (falls_right (λ x. exp_size (expr_of x)) whole (exp_size (expr_of at.to.value)) at.value.value c.deref-in-Compound-2.result.now t c.deref-in-Compound-2.ensures (ap (λ d. exp_size (expr_kind m d)) at.is) c.decreases), (o.0, (o.1.0, (o.1.1, c.requires))))
+    λ κs o. (falls_further _ t (falls_right (λ x. exp_size (expr_of x)) whole (exp_size (expr_of at.to.value)) at.value.value c.deref-in-Compound-2.result.now t c.deref-in-Compound-2.ensures (ap (λ d. exp_size (expr_kind m d)) at.is) c.decreases), (o.0, (o.1.0, (o.1.1, c.requires))))
 
 pub expr-target_expr-target-requires : goal.expr-target_expr-target-requires
 unfolding exp_size exps_size target_size expr_kind expr_row held_target

@@ -2,7 +2,7 @@ use Rattle.std.proofs.Common.{ap, sym, ◌∙◌}
 use Rattle.std.proofs.lemmas.Result.{IfOk-weaker}
 use Rattle.jr_ast.specs.Tree as tree
 use Rattle.jr_ast.specs.View.{expr_of, target_of, word_of, exprs_of}
-use Rattle.jr_ast.proofs.Kept.{that_ok}
+use Rattle.jr_ast.proofs.MadeOf.{that_ok}
 use Rattle.jr_ast.proofs.made_exprs.call.Goals as goal
 
 pub returns-in-None : goal.returns-in-None

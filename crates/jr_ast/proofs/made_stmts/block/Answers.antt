@@ -1,7 +1,7 @@
 use Rattle.std.proofs.Common.{ap, ◌∙◌}
 use Rattle.std.proofs.lemmas.Result.{IfOk-weaker}
 use Rattle.jr_ast.specs.View.{stmt_of}
-use Rattle.jr_ast.proofs.Kept.{that_ok}
+use Rattle.jr_ast.proofs.MadeOf.{that_ok}
 use Rattle.jr_ast.proofs.made_stmts.block.Goals as goal
 
 pub returns : goal.returns

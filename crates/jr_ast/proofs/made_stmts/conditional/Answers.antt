@@ -2,7 +2,7 @@ use Rattle.std.proofs.Common.{ap, sym, ◌∙◌}
 use Rattle.std.proofs.lemmas.Result.{IfOk-weaker}
 use Rattle.jr_ast.specs.StatementTree as tree
 use Rattle.jr_ast.specs.View.{stmt_of, expr_of, else_of}
-use Rattle.jr_ast.proofs.Kept.{that_ok}
+use Rattle.jr_ast.proofs.MadeOf.{that_ok}
 use Rattle.jr_ast.proofs.made_stmts.conditional.Goals as goal
 
 pub returns-in-None : goal.returns-in-None

@@ -2,7 +2,7 @@ use Rattle.std.proofs.Common.{ap, ◌∙◌}
 use Rattle.std.proofs.lemmas.Result.{IfOk-weaker}
 use Rattle.jr_ast.specs.StatementTree as tree
 use Rattle.jr_ast.specs.View.{stmt_of, stmts_of, expr_of}
-use Rattle.jr_ast.proofs.Kept.{that_ok}
+use Rattle.jr_ast.proofs.MadeOf.{that_ok}
 use Rattle.jr_ast.proofs.made_stmts.sync.Goals as goal
 
 pub returns : goal.returns

@@ -8,8 +8,8 @@ use Rattle.jr_ast.specs.View.{word_of, type_of, expr_of, args_of, modifier_of, p
 use Rattle.jr_ast.specs.Remarked as same
 use Rattle.jr_ast.proofs.Rows.{class_of-out}
 use Rattle.jr_ast.proofs.Sizes.{member_size, members_size, class_size}
-use Rattle.jr_ast.proofs.Kept.{one_more_made}
-use Rattle.jr_ast.proofs.Marking.{none_yet, all_done, below, falls_whole_row, falls_item, same_member_rows, members_add}
+use Rattle.jr_ast.proofs.MadeOf.{one_more_made}
+use Rattle.jr_ast.proofs.Marking.{none_yet, all_done, falls_further, falls_whole_row, falls_item, same_member_rows, members_add}
 use Rattle.jr_ast.proofs.member_marks.+member_marks.Goals as goal
 
 pub member-class-requires : goal.member-class-requires
@@ -18,7 +18,7 @@ member-class-requires g t c =
     let whole = member_size (member_of c.args.of.now) in
     let m = c.args.of.now.mark in
     let at = c.in-Inner in
-    λ κs o. (below _ t (falls_whole_row (λ x. class_size (class_of x)) whole at.inner_class at.inner_class t (λ i. at.inner_class) (ap (λ d. member_size (member_kind m d)) at.is) c.decreases), (o.0, (o.1.0, (o.1.1, c.requires))))
+    λ κs o. (falls_further _ t (falls_whole_row (λ x. class_size (class_of x)) whole at.inner_class at.inner_class t (λ i. at.inner_class) (ap (λ d. member_size (member_kind m d)) at.is) c.decreases), (o.0, (o.1.0, (o.1.1, c.requires))))
 
 pub class-members-requires : goal.class-members-requires
 unfolding member_size members_size class_size

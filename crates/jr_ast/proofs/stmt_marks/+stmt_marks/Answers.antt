@@ -5,8 +5,8 @@ use Rattle.jr_ast.specs.View.{else_of, stmt_of, stmts_of, stmt_kind, stmt_row, h
 use Rattle.jr_ast.specs.Remarked as same
 use Rattle.jr_ast.proofs.Rows.{stmt_kind-If, stmt_kind-Block, stmt_kind-Sync}
 use Rattle.jr_ast.proofs.Sizes.{stmt_size, stmts_size, else_size}
-use Rattle.jr_ast.proofs.Kept.{with_part, one_more_made}
-use Rattle.jr_ast.proofs.Marking.{mark_agrees, none_yet, all_done, below, falls_left, falls_right, falls_whole_row, falls_item, falls_held, same_stmt_rows, stmts_add}
+use Rattle.jr_ast.proofs.MadeOf.{with_part, one_more_made}
+use Rattle.jr_ast.proofs.Marking.{mark_agrees, none_yet, all_done, falls_further, falls_left, falls_right, falls_whole_row, falls_item, falls_held, same_stmt_rows, stmts_add}
 use Rattle.jr_ast.proofs.stmt_marks.+stmt_marks.Goals as goal
 
 pub stmt-stmt-requires : goal.stmt-stmt-requires
@@ -15,7 +15,7 @@ stmt-stmt-requires g t c =
     let whole = stmt_size (stmt_of c.args.of.now) in
     let m = c.args.of.now.mark in
     let at = c.in-If in
-    λ κs o. (below _ t (falls_left (λ x. stmt_size (stmt_of x)) whole (else_size (else_of at.no)) at.yes.value c.deref.result.now t c.deref.ensures (ap (λ d. stmt_size (stmt_kind m d)) at.is ∙ ap stmt_size (stmt_kind-If _ m at.condition at.yes at.no)) c.decreases), (o.0, (o.1.0, (o.1.1, c.requires))))
+    λ κs o. (falls_further _ t (falls_left (λ x. stmt_size (stmt_of x)) whole (else_size (else_of at.no)) at.yes.value c.deref.result.now t c.deref.ensures (ap (λ d. stmt_size (stmt_kind m d)) at.is ∙ ap stmt_size (stmt_kind-If _ m at.condition at.yes at.no)) c.decreases), (o.0, (o.1.0, (o.1.1, c.requires))))
 
 pub stmt-else_stmt-requires : goal.stmt-else_stmt-requires
 unfolding stmt_size stmts_size else_size stmt_kind stmt_row held_else
@@ -31,7 +31,7 @@ stmt-stmt-requires-in-While g t c =
     let whole = stmt_size (stmt_of c.args.of.now) in
     let m = c.args.of.now.mark in
     let at = c.in-While in
-    λ κs o. (below _ t (falls_whole_row (λ x. stmt_size (stmt_of x)) whole at.body.value c.deref-in-While.result.now t c.deref-in-While.ensures (ap (λ d. stmt_size (stmt_kind m d)) at.is) c.decreases), (o.0, (o.1.0, (o.1.1, c.requires))))
+    λ κs o. (falls_further _ t (falls_whole_row (λ x. stmt_size (stmt_of x)) whole at.body.value c.deref-in-While.result.now t c.deref-in-While.ensures (ap (λ d. stmt_size (stmt_kind m d)) at.is) c.decreases), (o.0, (o.1.0, (o.1.1, c.requires))))
 
 pub stmt-stmts-requires : goal.stmt-stmts-requires
 unfolding stmt_size stmts_size else_size stmt_kind stmt_row held_else
@@ -54,7 +54,7 @@ unfolding same.map_stmt same.map_stmts same.map_else stmt_kind stmt_row held_els
 stmt-returns-in-Local g t c =
     let at = c.in-Local in
     let m = c.args.of.now.mark in
-    IfOk-weaker c.local.result _ _ (λ x made. with_part c.ty-kind.result made c.ty-kind.ensures (λ kind' made1 kind. with_part c.word-name.result made1 c.word-name.ensures (λ name' made2 name. with_part c.expr.result made2 c.expr.ensures (λ init' is init. λ h k agree.
+    IfOk-weaker c.local.result _ _ (λ x made. with_part c.ty-of_type.result made c.ty-of_type.ensures (λ kind' made1 kind. with_part c.word-name.result made1 c.word-name.ensures (λ name' made2 name. with_part c.expr.result made2 c.expr.ensures (λ init' is init. λ h k agree.
     let mark = mark_agrees agree c.marked-mark.ensures in
     ap (same.map_stmt h) is ∙ (λ i. tree.local (mark i) at.is_final (kind h k agree i) (name h k agree i) (init h k agree i)) ∙ sym (ap (λ d. same.map_stmt k (stmt_kind m d)) at.is))))) c.local.ensures
 

@@ -17,5 +17,6 @@ module _ {T E : Type 0} where
   one_more_made p q out new row i y (Ok x) lt at kept so_far same = one_more p q out new x.value row i y lt at kept so_far same
   one_more_made p q out new row i y (Err e) lt at kept so_far same = absurd kept
 
+  -- of a part that was made, what holds of it
   pub that_ok : {part : Result T E} {p : T} (W : T → Type 0) → part ≡ Ok p → W p → IsOkAnd part W
   that_ok W is w = subst (λ r. IsOkAnd r W) (sym is) w
