@@ -107,21 +107,22 @@ impl<A> ExprKind<A> {
     }
 }
 
-/// A way down from an expression to one below it.
-pub(crate) trait ExprLevel {
+/// A way down from an expression to one below it, in trees with marks of this type. The mark is `Self`, so
+/// that a call of the way has it where the caller has it: elsewhere the check compares whole types.
+pub(crate) trait ExprLevel<L>: Sized {
     ghost use Rattle.std.specs.Prelude.{ℕ};
 
     ghost reach: { ℕ };
 
-    fn below<'k, A>(kind: &'k mut ExprKind<A>, steps: &[u32]) -> Option<&'k mut Expr<A>>
-        ensures* writes_back { sem 𝓛 (lends_below_expr A.row reach kind.entry steps.now result) }
-        ensures value { IsWithin reach steps.now → (m : A) → option_map (λ x. view.expr_of x.now) result ≡ pure.exp_at (pure.exp (view.expr_kind m kind.entry.now)) steps.now };
+    fn below<'k>(kind: &'k mut ExprKind<Self>, steps: &[u32]) -> Option<&'k mut Expr<Self>>
+        ensures* writes_back { sem 𝓛 (lends_below_expr Self.row reach kind.entry steps.now result) }
+        ensures value { IsWithin reach steps.now → (m : Self) → option_map (λ x. view.expr_of x.now) result ≡ pure.exp_at (pure.exp (view.expr_kind m kind.entry.now)) steps.now };
 }
 
-impl ExprLevel for One {
+impl<A> ExprLevel<One> for A {
     ghost reach = { 1 };
 
-    fn below<'k, A>(kind: &'k mut ExprKind<A>, steps: &[u32]) -> Option<&'k mut Expr<A>> {
+    fn below<'k>(kind: &'k mut ExprKind<A>, steps: &[u32]) -> Option<&'k mut Expr<A>> {
         if steps.len() != 1 {
             return None;
         }
@@ -129,17 +130,17 @@ impl ExprLevel for One {
     }
 }
 
-impl<L: ExprLevel> ExprLevel for Twice<L> {
+impl<A: ExprLevel<L>, L> ExprLevel<Twice<L>> for A {
     ghost use Rattle.std.specs.Prelude.{◌*◌};
 
-    ghost reach = { 2 * L.reach };
+    ghost reach = { 2 * A.reach };
 
-    fn below<'k, A>(kind: &'k mut ExprKind<A>, steps: &[u32]) -> Option<&'k mut Expr<A>> {
+    fn below<'k>(kind: &'k mut ExprKind<A>, steps: &[u32]) -> Option<&'k mut Expr<A>> {
         let half = steps.len() / 2;
         if half == 0 {
-            return L::below(kind, steps);
+            return <A as ExprLevel<L>>::below(kind, steps);
         }
-        let upper = L::below(kind, &steps[..half])?;
-        L::below(&mut upper.kind, &steps[half..])
+        let upper = <A as ExprLevel<L>>::below(kind, &steps[..half])?;
+        <A as ExprLevel<L>>::below(&mut upper.kind, &steps[half..])
     }
 }

@@ -238,19 +238,19 @@ impl<A> Unit<A> {
     }
 }
 
-/// A way down from a class to a member below it. The mark stands with the trait, where it costs the
-/// check least.
-pub(crate) trait ClassLevel<A> {
+/// A way down from a class to a member below it, in trees with marks of this type. The mark is `Self`, so
+/// that a call of the way has it where the caller has it: elsewhere the check compares whole types.
+pub(crate) trait ClassLevel<L>: Sized {
     ghost use Rattle.std.specs.Prelude.{ℕ};
 
     ghost reach: { ℕ };
 
-    fn below<'k>(class: &'k mut Class<A>, steps: &[u32]) -> Option<&'k mut Member<A>>
-        ensures* writes_back { sem 𝓛 (lends_below_class A.row reach class.entry steps.now result) }
+    fn below<'k>(class: &'k mut Class<Self>, steps: &[u32]) -> Option<&'k mut Member<Self>>
+        ensures* writes_back { sem 𝓛 (lends_below_class Self.row reach class.entry steps.now result) }
         ensures value { length steps.now ≤ 2 * reach → option_map (λ x. view.member_of x.now) result ≡ pure.member_at (pure.class (view.class_of class.entry.now)) steps.now };
 }
 
-impl<A> ClassLevel<A> for One {
+impl<A> ClassLevel<One> for A {
     ghost reach = { 1 };
 
     fn below<'k>(class: &'k mut Class<A>, steps: &[u32]) -> Option<&'k mut Member<A>> {
@@ -261,8 +261,8 @@ impl<A> ClassLevel<A> for One {
     }
 }
 
-impl<A, L: ClassLevel<A>> ClassLevel<A> for Twice<L> {
-    ghost reach = { 2 * L.reach };
+impl<A: ClassLevel<L>, L> ClassLevel<Twice<L>> for A {
+    ghost reach = { 2 * A.reach };
 
     fn below<'k>(class: &'k mut Class<A>, steps: &[u32]) -> Option<&'k mut Member<A>> {
         if steps.len() % 2 == 0 {
@@ -270,10 +270,10 @@ impl<A, L: ClassLevel<A>> ClassLevel<A> for Twice<L> {
         }
         let upper = (steps.len() / 2 + 1) / 2;
         if upper == 0 {
-            return L::below(class, steps);
+            return <A as ClassLevel<L>>::below(class, steps);
         }
-        let member = L::below(class, &steps[..2 * upper - 1])?;
+        let member = <A as ClassLevel<L>>::below(class, &steps[..2 * upper - 1])?;
         let inner = member.kind.inner_mut(steps[2 * upper - 1] as usize)?;
-        L::below(inner, &steps[2 * upper..])
+        <A as ClassLevel<L>>::below(inner, &steps[2 * upper..])
     }
 }

@@ -28,7 +28,7 @@ impl<A> StmtKind<A> {
             1 => self.expr_mut(steps[0] as usize),
             _ => {
                 let expr = self.expr_mut(steps[0] as usize)?;
-                <Far as ExprLevel>::below(&mut expr.kind, &steps[1..])
+                <A as ExprLevel<Far>>::below(&mut expr.kind, &steps[1..])
             }
         }
     }
@@ -46,7 +46,7 @@ impl<A> MemberKind<A> {
             1 => self.expr_mut(steps[0] as usize),
             _ => {
                 let expr = self.expr_mut(steps[0] as usize)?;
-                <Far as ExprLevel>::below(&mut expr.kind, &steps[1..])
+                <A as ExprLevel<Far>>::below(&mut expr.kind, &steps[1..])
             }
         }
     }
@@ -62,7 +62,7 @@ impl<A> MemberKind<A> {
             1 => self.stmt_mut(steps[0] as usize),
             _ => {
                 let stmt = self.stmt_mut(steps[0] as usize)?;
-                <Far as StmtLevel>::below(&mut stmt.kind, &steps[1..])
+                <A as StmtLevel<Far>>::below(&mut stmt.kind, &steps[1..])
             }
         }
     }
@@ -79,7 +79,7 @@ impl<A> Unit<A> {
             return None;
         }
         let class = self.class_mut(steps[0] as usize)?;
-        <Far as ClassLevel<A>>::below(class, &steps[1..])
+        <A as ClassLevel<Far>>::below(class, &steps[1..])
     }
 
     /// The member to which the path leads, to change it; `None` exactly where it leads to no member.

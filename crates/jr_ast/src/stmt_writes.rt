@@ -91,21 +91,22 @@ impl<A> StmtKind<A> {
     }
 }
 
-/// A way down from a statement to one below it.
-pub(crate) trait StmtLevel {
+/// A way down from a statement to one below it, in trees with marks of this type. The mark is `Self`, so
+/// that a call of the way has it where the caller has it: elsewhere the check compares whole types.
+pub(crate) trait StmtLevel<L>: Sized {
     ghost use Rattle.std.specs.Prelude.{ℕ};
 
     ghost reach: { ℕ };
 
-    fn below<'k, A>(kind: &'k mut StmtKind<A>, steps: &[u32]) -> Option<&'k mut Stmt<A>>
-        ensures* writes_back { sem 𝓛 (lends_below_stmt A.row reach kind.entry steps.now result) }
-        ensures value { IsWithin reach steps.now → (m : A) → option_map (λ x. view.stmt_of x.now) result ≡ pure.stmt_at (pure.stmt (view.stmt_kind m kind.entry.now)) steps.now };
+    fn below<'k>(kind: &'k mut StmtKind<Self>, steps: &[u32]) -> Option<&'k mut Stmt<Self>>
+        ensures* writes_back { sem 𝓛 (lends_below_stmt Self.row reach kind.entry steps.now result) }
+        ensures value { IsWithin reach steps.now → (m : Self) → option_map (λ x. view.stmt_of x.now) result ≡ pure.stmt_at (pure.stmt (view.stmt_kind m kind.entry.now)) steps.now };
 }
 
-impl StmtLevel for One {
+impl<A> StmtLevel<One> for A {
     ghost reach = { 1 };
 
-    fn below<'k, A>(kind: &'k mut StmtKind<A>, steps: &[u32]) -> Option<&'k mut Stmt<A>> {
+    fn below<'k>(kind: &'k mut StmtKind<A>, steps: &[u32]) -> Option<&'k mut Stmt<A>> {
         if steps.len() != 1 {
             return None;
         }
@@ -113,17 +114,17 @@ impl StmtLevel for One {
     }
 }
 
-impl<L: StmtLevel> StmtLevel for Twice<L> {
+impl<A: StmtLevel<L>, L> StmtLevel<Twice<L>> for A {
     ghost use Rattle.std.specs.Prelude.{◌*◌};
 
-    ghost reach = { 2 * L.reach };
+    ghost reach = { 2 * A.reach };
 
-    fn below<'k, A>(kind: &'k mut StmtKind<A>, steps: &[u32]) -> Option<&'k mut Stmt<A>> {
+    fn below<'k>(kind: &'k mut StmtKind<A>, steps: &[u32]) -> Option<&'k mut Stmt<A>> {
         let half = steps.len() / 2;
         if half == 0 {
-            return L::below(kind, steps);
+            return <A as StmtLevel<L>>::below(kind, steps);
         }
-        let upper = L::below(kind, &steps[..half])?;
-        L::below(&mut upper.kind, &steps[half..])
+        let upper = <A as StmtLevel<L>>::below(kind, &steps[..half])?;
+        <A as StmtLevel<L>>::below(&mut upper.kind, &steps[half..])
     }
 }

@@ -5,13 +5,13 @@ use Rattle.jr_ast.specs.Nodes as pure
 use Rattle.jr_ast.specs.declared.exprs.ExprKind.TheViews as views
 use Rattle.jr_ast.proofs.Lending.{on_none, on_that, on_some_also}
 use Rattle.jr_ast.proofs.Halves.{short_within, upper_half, lower_half, joined, node_of_exp, exp_inject, write_join, same_join, exp_joined, exp_missing}
-use Rattle.jr_ast.proofs.expr_writes.TwiceExprLevel.below.Goals as goal
+use Rattle.jr_ast.proofs.expr_writes.AnyExprLevelTwice.below.Goals as goal
 
 pub returns-then-half-eq0 : goal.returns-then-half-eq0
 returns-then-half-eq0 g c =
     let N = c.below in
     let steps = c.args.steps.now in
-    let reach = g.L.ExprLevel.reach in
+    let reach = g.A.ExprLevel.reach in
     let short : length steps / 2 ≡ 0 = c.if-half-eq0.true in (
       (
         refl,
@@ -25,7 +25,7 @@ pub returns-in_err-upper : goal.returns-in_err-upper
 returns-in_err-upper g c =
     let steps = c.args.steps.now in
     let half = length steps / 2 in
-    let reach = g.L.ExprLevel.reach in
+    let reach = g.A.ExprLevel.reach in
     let some : 1 ≤ half = omega (c.if-half-eq0.false, arith) in
     let U = c.below-2 in
     let e = view.expr_kind in (
@@ -47,7 +47,7 @@ pub returns : goal.returns
 returns g c =
     let steps = c.args.steps.now in
     let half = length steps / 2 in
-    let reach = g.L.ExprLevel.reach in
+    let reach = g.A.ExprLevel.reach in
     let some : 1 ≤ half = omega (c.if-half-eq0.false, arith) in
     let U = c.below-2 in
     let L = c.below-3 in

@@ -5,7 +5,7 @@ use Rattle.jr_ast.specs.Nodes as pure
 use Rattle.jr_ast.specs.declared.members.MemberKind.TheViews as views
 use Rattle.jr_ast.proofs.Lending.{on_none, on_that, on_some_also}
 use Rattle.jr_ast.proofs.ClassHalves as halves
-use Rattle.jr_ast.proofs.member_writes.TwiceClassLevel.below.Goals as goal
+use Rattle.jr_ast.proofs.member_writes.AnyClassLevelTwice.below.Goals as goal
 
 pub returns-then-steps-eq0 : goal.returns-then-steps-eq0
 returns-then-steps-eq0 g c =
@@ -15,7 +15,7 @@ pub returns-then-upper-eq0 : goal.returns-then-upper-eq0
 returns-then-upper-eq0 g c =
     let N = c.below in
     let steps = c.args.steps.now in
-    let reach = g.L.ClassLevel.reach in
+    let reach = g.A.ClassLevel.reach in
     let short : length steps ≤ 2 * (2 * reach) → length steps ≤ 2 * reach = halves.only_within steps c.if-steps-eq0.false reach c.if-upper-eq0.true in (
       (
         refl,
@@ -29,7 +29,7 @@ pub returns-in_err-member : goal.returns-in_err-member
 returns-in_err-member g c =
     let steps = c.args.steps.now in
     let upper = halves.upper_of steps in
-    let reach = g.L.ClassLevel.reach in
+    let reach = g.A.ClassLevel.reach in
     let odd = c.if-steps-eq0.false in
     let some : 1 ≤ upper = omega (c.if-upper-eq0.false, arith) in
     let U = c.below-2 in
@@ -52,7 +52,7 @@ pub returns-in_err-inner : goal.returns-in_err-inner
 returns-in_err-inner g c =
     let steps = c.args.steps.now in
     let upper = halves.upper_of steps in
-    let reach = g.L.ClassLevel.reach in
+    let reach = g.A.ClassLevel.reach in
     let odd = c.if-steps-eq0.false in
     let some : 1 ≤ upper = omega (c.if-upper-eq0.false, arith) in
     let U = c.below-2 in
@@ -82,7 +82,7 @@ pub returns : goal.returns
 returns g c =
     let steps = c.args.steps.now in
     let upper = halves.upper_of steps in
-    let reach = g.L.ClassLevel.reach in
+    let reach = g.A.ClassLevel.reach in
     let odd = c.if-steps-eq0.false in
     let some : 1 ≤ upper = omega (c.if-upper-eq0.false, arith) in
     let U = c.below-2 in

@@ -2,8 +2,8 @@ use Rattle.std.proofs.Common.{refl, ap, sym, option_map, ◌∙◌, get_or, arit
 use Rattle.jr_ast.specs.View as view
 use Rattle.jr_ast.specs.Nodes as pure
 use Rattle.jr_ast.proofs.Lending.{on_some_with}
-use Rattle.jr_ast.proofs.Halves.{one_step, one_exp, one_write, exp_child}
-use Rattle.jr_ast.proofs.expr_writes.OneExprLevel.below.Goals as goal
+use Rattle.jr_ast.proofs.Halves.{one_step, one_stmt, one_write, stmt_child}
+use Rattle.jr_ast.proofs.stmt_writes.AnyStmtLevelOne.below.Goals as goal
 
 pub returns-then-steps-ne1 : goal.returns-then-steps-ne1
 returns-then-steps-ne1 g c =
@@ -11,7 +11,7 @@ returns-then-steps-ne1 g c =
 
 pub returns : goal.returns
 returns g c =
-    let N = c.expr_mut in
+    let N = c.stmt_mut in
     let steps = c.args.steps.now in
     let one = one_step steps (omega (c.if-steps-ne1.false, arith)) (omega (c.if-steps-ne1.false, arith)) in (
       (
@@ -19,12 +19,12 @@ returns g c =
         λ w. on_some_with N.result (N.follows.holds w)
             (λ x is e within m.
             let found = N.ensures.value m in
-            ap pure.exp (e m) ∙ one_write (pure.exp (view.expr_kind m c.args.kind.now)) (pure.exp (view.expr_of x.now)) (pure.exp (view.expr_of w)) (get_or steps 0 0) steps one
-            (exp_child (pure.exp (view.expr_kind m c.args.kind.now)) (get_or steps 0 0) (view.expr_of x.now) (sym (ap (option_map (λ y. view.expr_of y.now)) is) ∙ found))),
+            ap pure.stmt (e m) ∙ one_write (pure.stmt (view.stmt_kind m c.args.kind.now)) (pure.stmt (view.stmt_of x.now)) (pure.stmt (view.stmt_of w)) (get_or steps 0 0) steps one
+            (stmt_child (pure.stmt (view.stmt_kind m c.args.kind.now)) (get_or steps 0 0) (view.stmt_of x.now) (sym (ap (option_map (λ y. view.stmt_of y.now)) is) ∙ found))),
         λ within. N.follows.holds-at-none,
       ),
       record {
         writes_back = tt;
-        value = λ within m. N.ensures.value m ∙ one_exp (pure.exp (view.expr_kind m c.args.kind.now)) (get_or steps 0 0) steps one;
+        value = λ within m. N.ensures.value m ∙ one_stmt (pure.stmt (view.stmt_kind m c.args.kind.now)) (get_or steps 0 0) steps one;
       },
     )

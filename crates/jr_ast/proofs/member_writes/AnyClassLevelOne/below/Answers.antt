@@ -4,7 +4,7 @@ use Rattle.jr_ast.specs.Nodes as pure
 use Rattle.jr_ast.proofs.Lending.{on_some_with}
 use Rattle.jr_ast.proofs.Halves.{one_step, one_write}
 use Rattle.jr_ast.proofs.ClassHalves.{one_member, member_at_child, none_but_one}
-use Rattle.jr_ast.proofs.member_writes.OneClassLevel.below.Goals as goal
+use Rattle.jr_ast.proofs.member_writes.AnyClassLevelOne.below.Goals as goal
 
 pub returns-then-steps-ne1 : goal.returns-then-steps-ne1
 returns-then-steps-ne1 g c =
