@@ -1,14 +1,16 @@
 //! The children of a node, by their numbers.
-ghost use Rattle.std.specs.Prelude.{◌≡◌, ◌∷◌, [], option_map};
+ghost use Rattle.std.specs.Prelude.{◌≡◌, ◌∷◌, ◌++◌, [], map, option_map};
 ghost use Rattle.std.specs.List.{slice_get};
 ghost use Rattle.jr_ast.specs.Nodes as pure;
-ghost use Rattle.jr_ast.specs.View.{type_of, param_of, expr_of, exprs_of, stmt_of, class_of, member_of, unit_of};
+ghost use Rattle.jr_ast.specs.View.{word_of, modifier_of, type_of, param_of, expr_of, exprs_of, args_of};
+ghost use Rattle.jr_ast.specs.View.{stmt_of, stmts_of, class_of, member_of, unit_of};
 ghost use Rattle.jr_ast.specs.NodeView.{node_of};
 
 use crate::exprs::{Expr, ExprKind};
 use crate::members::{Class, Member, MemberKind, Unit};
+use crate::names::Ident;
 use crate::nodes::Node;
-use crate::parts::{Param, TypeKind, TypeRef};
+use crate::parts::{Modifier, Param, TypeKind, TypeRef};
 use crate::seeks::Seek;
 use crate::stmts::{Stmt, StmtKind};
 
@@ -30,6 +32,23 @@ fn two<'a, A>(number: usize, first: Node<'a, A>, second: Node<'a, A>) -> Option<
     }
 }
 
+/// The child of this number, where these are the three.
+fn three<'a, A>(
+    number: usize,
+    first: Node<'a, A>,
+    second: Node<'a, A>,
+    third: Node<'a, A>,
+) -> Option<Node<'a, A>>
+    ensures { option_map node_of result ≡ slice_get (node_of first.entry ∷ (node_of second.entry ∷ (node_of third.entry ∷ []))) number }
+{
+    match number {
+        0 => Some(first),
+        1 => Some(second),
+        2 => Some(third),
+        _ => None,
+    }
+}
+
 /// The child of this number, where the first is this node, and the others are these expressions.
 fn then_exprs<'a, A>(
     number: usize,
@@ -39,6 +58,41 @@ fn then_exprs<'a, A>(
     ensures { option_map node_of result ≡ slice_get (node_of first.entry ∷ pure.exps (exprs_of others.now)) number }
 {
     Seek::Left(number).then(first).exprs(others).end()
+}
+
+/// The child of this number, where the first two are these nodes, and the others are these
+/// expressions.
+fn two_then_exprs<'a, A>(
+    number: usize,
+    first: Node<'a, A>,
+    second: Node<'a, A>,
+    others: &'a [Expr<A>],
+) -> Option<Node<'a, A>>
+    ensures { option_map node_of result ≡ slice_get (node_of first.entry ∷ (node_of second.entry ∷ pure.exps (exprs_of others.now))) number }
+{
+    Seek::Left(number)
+        .then(first)
+        .then(second)
+        .exprs(others)
+        .end()
+}
+
+/// The child of this number, where the first is this node, and the others are these statements.
+fn then_stmts<'a, A>(
+    number: usize,
+    first: Node<'a, A>,
+    others: &'a [Stmt<A>],
+) -> Option<Node<'a, A>>
+    ensures { option_map node_of result ≡ slice_get (node_of first.entry ∷ pure.stmts (stmts_of others.now)) number }
+{
+    Seek::Left(number).then(first).stmts(others).end()
+}
+
+/// The child of this number, where the children are these statements.
+fn only_stmts<'a, A>(number: usize, all: &'a [Stmt<A>]) -> Option<Node<'a, A>>
+    ensures { option_map node_of result ≡ slice_get (pure.stmts (stmts_of all.now)) number }
+{
+    Seek::Left(number).stmts(all).end()
 }
 
 #[tactic(auto, unfolding(crate::specs::View::expr_kind, crate::specs::Nodes::exp_children))]
@@ -57,11 +111,7 @@ pub(crate) fn expr_child<'a, A>(expr: &'a Expr<A>, number: usize) -> Option<Node
         ExprKind::Field(of, name) => two(number, Node::Expr(of), Node::Word(name)),
         ExprKind::Call(target, name, args) => match target {
             None => then_exprs(number, Node::Word(name), args),
-            Some(target) => Seek::Left(number)
-                .then(Node::Expr(target))
-                .then(Node::Word(name))
-                .exprs(args)
-                .end(),
+            Some(target) => two_then_exprs(number, Node::Expr(target), Node::Word(name), args),
         },
         ExprKind::SuperCall(name, args) => then_exprs(number, Node::Word(name), args),
         ExprKind::New(ty, args) => then_exprs(number, Node::Type(ty), args),
@@ -81,27 +131,84 @@ pub(crate) fn stmt_child<'a, A>(stmt: &'a Stmt<A>, number: usize) -> Option<Node
 {
     match &stmt.kind {
         StmtKind::Local { ty, name, init, .. } => {
-            Seek::Left(number)
-                .then(Node::Type(ty))
-                .then(Node::Word(name))
-                .then(Node::Expr(init))
-                .end()
+            three(number, Node::Type(ty), Node::Word(name), Node::Expr(init))
         }
         StmtKind::Eval(of) => one(number, Node::Expr(of)),
-        StmtKind::If(condition, yes, None) => two(number, Node::Expr(condition), Node::Stmt(yes)),
-        StmtKind::If(condition, yes, Some(no)) => {
-            Seek::Left(number)
-                .then(Node::Expr(condition))
-                .then(Node::Stmt(yes))
-                .then(Node::Stmt(no))
-                .end()
-        }
+        StmtKind::If(condition, yes, no) => match no {
+            None => two(number, Node::Expr(condition), Node::Stmt(yes)),
+            Some(no) => three(
+                number,
+                Node::Expr(condition),
+                Node::Stmt(yes),
+                Node::Stmt(no),
+            ),
+        },
         StmtKind::While(condition, body) => two(number, Node::Expr(condition), Node::Stmt(body)),
-        StmtKind::Return(None) => None,
-        StmtKind::Return(Some(value)) => one(number, Node::Expr(value)),
-        StmtKind::Block(body) => Seek::Left(number).stmts(body).end(),
-        StmtKind::Sync(lock, body) => Seek::Left(number).then(Node::Expr(lock)).stmts(body).end(),
+        StmtKind::Return(value) => match value {
+            None => None,
+            Some(value) => one(number, Node::Expr(value)),
+        },
+        StmtKind::Block(body) => only_stmts(number, body),
+        StmtKind::Sync(lock, body) => then_stmts(number, Node::Expr(lock), body),
         StmtKind::Empty => None,
+    }
+}
+
+fn field_child<'a, A>(
+    number: usize,
+    modifiers: &'a [Modifier<A>],
+    ty: &'a TypeRef<A>,
+    name: &'a Ident<A>,
+    init: &'a Option<Expr<A>>,
+) -> Option<Node<'a, A>>
+    ensures { option_map node_of result ≡ slice_get (map pure.modifier (map modifier_of modifiers.now) ++ (pure.type (type_of ty.now) ∷ (pure.word (word_of name.now) ∷ pure.maybe (option_map pure.exp (option_map expr_of init.now))))) number }
+{
+    let seek = Seek::Left(number)
+        .modifiers(modifiers)
+        .then(Node::Type(ty))
+        .then(Node::Word(name));
+    match init {
+        None => seek.end(),
+        Some(init) => seek.then(Node::Expr(init)).end(),
+    }
+}
+
+fn method_child<'a, A>(
+    number: usize,
+    modifiers: &'a [Modifier<A>],
+    ret: &'a Option<TypeRef<A>>,
+    name: &'a Ident<A>,
+    params: &'a [Param<A>],
+    body: &'a [Stmt<A>],
+) -> Option<Node<'a, A>>
+    ensures { option_map node_of result ≡ slice_get (map pure.modifier (map modifier_of modifiers.now) ++ (pure.maybe (option_map pure.type (option_map type_of ret.now)) ++ (pure.word (word_of name.now) ∷ (map pure.param (map param_of params.now) ++ pure.stmts (stmts_of body.now))))) number }
+{
+    Seek::Left(number)
+        .modifiers(modifiers)
+        .then_type(ret.as_ref())
+        .then(Node::Word(name))
+        .params(params)
+        .stmts(body)
+        .end()
+}
+
+fn ctor_child<'a, A>(
+    number: usize,
+    modifiers: &'a [Modifier<A>],
+    name: &'a Ident<A>,
+    params: &'a [Param<A>],
+    parent_args: &'a Option<Vec<Expr<A>>>,
+    body: &'a [Stmt<A>],
+) -> Option<Node<'a, A>>
+    ensures { option_map node_of result ≡ slice_get (map pure.modifier (map modifier_of modifiers.now) ++ (pure.word (word_of name.now) ∷ (map pure.param (map param_of params.now) ++ (pure.args_children (args_of parent_args.now) ++ pure.stmts (stmts_of body.now))))) number }
+{
+    let seek = Seek::Left(number)
+        .modifiers(modifiers)
+        .then(Node::Word(name))
+        .params(params);
+    match parent_args {
+        None => seek.stmts(body).end(),
+        Some(args) => seek.exprs(args).stmts(body).end(),
     }
 }
 
@@ -115,45 +222,21 @@ pub(crate) fn member_child<'a, A>(member: &'a Member<A>, number: usize) -> Optio
             ty,
             name,
             init,
-        } => {
-            let seek = Seek::Left(number)
-                .modifiers(modifiers)
-                .then(Node::Type(ty))
-                .then(Node::Word(name));
-            match init {
-                None => seek.end(),
-                Some(init) => seek.then(Node::Expr(init)).end(),
-            }
-        }
+        } => field_child(number, modifiers, ty, name, init),
         MemberKind::Method {
             modifiers,
             ret,
             name,
             params,
             body,
-        } => Seek::Left(number)
-            .modifiers(modifiers)
-            .then_type(ret.as_ref())
-            .then(Node::Word(name))
-            .params(params)
-            .stmts(body)
-            .end(),
+        } => method_child(number, modifiers, ret, name, params, body),
         MemberKind::Ctor {
             modifiers,
             name,
             params,
             parent_args,
             body,
-        } => {
-            let seek = Seek::Left(number)
-                .modifiers(modifiers)
-                .then(Node::Word(name))
-                .params(params);
-            match parent_args {
-                None => seek.stmts(body).end(),
-                Some(args) => seek.exprs(args).stmts(body).end(),
-            }
-        }
+        } => ctor_child(number, modifiers, name, params, parent_args, body),
         MemberKind::Inner(class) => one(number, Node::Class(class)),
     }
 }

@@ -1,4 +1,4 @@
-use Rattle.std.proofs.Common.{◌∷◌, ◌++◌, [], ap, sym, ◌∙◌, append-nil}
+use Rattle.std.proofs.Common.{◌∷◌, ap, sym, ◌∙◌}
 use Rattle.std.specs.List.{slice_get}
 use Rattle.jr_ast.specs.declared.exprs.ExprKind.{Call}
 use Rattle.jr_ast.specs.Nodes as pure
@@ -41,7 +41,7 @@ returns-in-Some g c =
     let at = c.in-Call in
     let target = c.in-Some.target in
     let word = pure.word (word_of at.name) in
-    c.end.ensures ∙ c.exprs.ensures [] ∙ c.then-in-Some.ensures _ ∙ c.then.ensures _
-    ∙ ap (λ x. slice_get (pure.exp (expr_of x) ∷ (word ∷ (pure.exps (exprs_of c.deref-in-Some-2.result.now) ++ []))) c.args.number) c.deref-in-Some.ensures
-    ∙ ap (λ l. slice_get (pure.exp (expr_of target.value) ∷ (word ∷ l)) c.args.number) (append-nil _ ∙ ap (λ xs. pure.exps (exprs_of xs)) c.deref-in-Some-2.ensures.value)
+    c.two_then_exprs.ensures
+    ∙ ap (λ x. slice_get (pure.exp (expr_of x) ∷ (word ∷ pure.exps (exprs_of c.deref-in-Some-2.result.now))) c.args.number) c.deref-in-Some.ensures
+    ∙ ap (λ l. slice_get (pure.exp (expr_of target.value) ∷ (word ∷ l)) c.args.number) (ap (λ xs. pure.exps (exprs_of xs)) c.deref-in-Some-2.ensures.value)
     ∙ sym (ap (λ e. slice_get (pure.exp_children e) c.args.number) (ap (expr_kind m) (at.is ∙ ap (λ o. Call o at.name at.args) c.in-Some.is) ∙ expr_kind-Call_on _ m target at.name at.args))
