@@ -107,8 +107,10 @@ impl<A> ExprKind<A> {
     }
 }
 
-/// A way down from an expression to one below it, in trees with marks of this type. The mark is `Self`, so
-/// that a call of the way has it where the caller has it: elsewhere the check compares whole types.
+/// A way down from an expression to one below it, in trees with marks of this type.
+///
+/// The mark is `Self`, so that a call of the way has it where the caller has it: elsewhere the check
+/// compares whole types.
 pub(crate) trait ExprLevel<L>: Sized {
     ghost use Rattle.std.specs.Prelude.{ℕ};
 

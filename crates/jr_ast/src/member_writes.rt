@@ -238,8 +238,10 @@ impl<A> Unit<A> {
     }
 }
 
-/// A way down from a class to a member below it, in trees with marks of this type. The mark is `Self`, so
-/// that a call of the way has it where the caller has it: elsewhere the check compares whole types.
+/// A way down from a class to a member below it, in trees with marks of this type.
+///
+/// The mark is `Self`, so that a call of the way has it where the caller has it: elsewhere the check
+/// compares whole types.
 pub(crate) trait ClassLevel<L>: Sized {
     ghost use Rattle.std.specs.Prelude.{ℕ};
 

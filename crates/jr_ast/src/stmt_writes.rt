@@ -91,8 +91,10 @@ impl<A> StmtKind<A> {
     }
 }
 
-/// A way down from a statement to one below it, in trees with marks of this type. The mark is `Self`, so
-/// that a call of the way has it where the caller has it: elsewhere the check compares whole types.
+/// A way down from a statement to one below it, in trees with marks of this type.
+///
+/// The mark is `Self`, so that a call of the way has it where the caller has it: elsewhere the check
+/// compares whole types.
 pub(crate) trait StmtLevel<L>: Sized {
     ghost use Rattle.std.specs.Prelude.{ℕ};
 
