@@ -17,7 +17,6 @@ pub struct Stmt<A> {
 
 /// The kinds of statements.
 #[cycle(stmt)]
-#[derive(Drop)]
 pub enum StmtKind<A> {
     Local {
         is_final: bool,
@@ -32,6 +31,41 @@ pub enum StmtKind<A> {
     Block(Vec<Stmt<A>>),
     Sync(Expr<A>, Vec<Stmt<A>>),
     Empty,
+}
+
+impl<A: Drop> Drop for StmtKind<A> {
+    // The last statement that this one holds is dropped by the loop: a call would take stack for
+    // each of the thousands of `if` and `while` that a text may nest.
+    #[cycle(stmt_drop)]
+    fn drop(mut self) {
+        loop {
+            match self {
+                StmtKind::Local {
+                    is_final: _,
+                    ty: _,
+                    name: _,
+                    init: _,
+                } => return,
+                StmtKind::Eval(_) => return,
+                StmtKind::If(_, yes, no) => {
+                    let last = match no {
+                        None => yes,
+                        Some(no) => no,
+                    };
+                    let Stmt { mark: _, kind } = Box::into_inner(last);
+                    self = kind;
+                }
+                StmtKind::While(_, body) => {
+                    let Stmt { mark: _, kind } = Box::into_inner(body);
+                    self = kind;
+                }
+                StmtKind::Return(_) => return,
+                StmtKind::Block(_) => return,
+                StmtKind::Sync(_, _) => return,
+                StmtKind::Empty => return,
+            }
+        }
+    }
 }
 
 impl<A> Stmt<A> {

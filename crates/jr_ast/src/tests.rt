@@ -215,3 +215,46 @@ fn names_are_their_bytes(rt: HostRuntime) -> Result<(), Fail> {
     assert!(rt; name != Name::new(alloc, "a")?);
     Ok(())
 }
+
+// How deep a text within the limits nests: in each of its 100 brackets there are at most 75 of
+// `if (x) ..`, whose four tokens count up to 300, and all of it has 500 words `else`.
+const DEEPEST: usize = 8_000;
+
+// `class A { m() { if (true) if (true) .. ; } }`
+fn deep_unit(alloc: Global) -> Result<Unit<u32>, AllocError> {
+    let mut stmt = Box::new(alloc, Stmt::empty(7))?;
+    for _ in 0..DEEPEST {
+        stmt = Box::new(alloc, Stmt::if_then(5, Expr::truth(6, true), stmt))?;
+    }
+    let mut body = Vec::new(alloc);
+    body.push(Box::into_inner(stmt))?;
+    let name = word(alloc, 4, "m")?;
+    let method = Member::method(3, Vec::new(alloc), None, name, Vec::new(alloc), body);
+    let mut members = Vec::new(alloc);
+    members.push(method)?;
+    let name = word(alloc, 2, "A")?;
+    let mut classes = Vec::new(alloc);
+    classes.push(Class::new(1, Vec::new(alloc), name, None, members))?;
+    Ok(Unit::new(0, Vec::new(alloc), classes))
+}
+
+// As deep a tree as any text gives is walked, copied, changed and dropped on the stack that a
+// program has.
+#[test]
+fn the_deepest_tree_fits_the_stack(rt: HostRuntime) -> Result<(), Fail> {
+    let alloc = rt.alloc();
+    let mut steps = Vec::new(alloc);
+    steps.push(0)?;
+    for _ in 0..DEEPEST + 2 {
+        steps.push(1)?;
+    }
+    let path = Path { steps };
+    let mut copy = deep_unit(alloc)?.with_marks(alloc, |mark| *mark ^ 64)?;
+    assert_eq!(rt; copy.stmt_at(&path).map(|stmt| stmt.mark), Some(71));
+    match copy.stmt_at_mut(&path) {
+        None => assert!(rt; false),
+        Some(stmt) => stmt.mark = 90,
+    }
+    assert_eq!(rt; copy.stmt_at(&path).map(|stmt| stmt.mark), Some(90));
+    Ok(())
+}
