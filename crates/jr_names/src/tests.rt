@@ -49,7 +49,7 @@ fn declarations(alloc: Global) -> Result<Vec<(Decl, &'static str)>, AllocError> 
         }),
         number: 12,
     };
-    vec![in alloc;
+    let all = vec![in alloc;
         (Decl::Class(class(alloc, "", "K")?), "K"),
         (Decl::Class(class(alloc, "O", "K")?), "O.K"),
         (
@@ -74,7 +74,8 @@ fn declarations(alloc: Global) -> Result<Vec<(Decl, &'static str)>, AllocError> 
         ),
         (Decl::Local(first), "K.m()#0"),
         (Decl::Local(later), "O.K.new()#12"),
-    ]
+    ]?;
+    Ok(all)
 }
 
 #[test]
