@@ -4,3 +4,5 @@ pub mod NameLaws
 pub mod StepLaws
 pub mod ElementLaws
 pub mod ReportLaws
+pub mod OneStep
+pub mod OneScript

@@ -1,15 +1,14 @@
 -- Values that a loop makes of texts and replies, and that what is written of replies has no float.
-use Rattle.std.proofs.Common.{◌≡◌, ℕ, ◌+◌, ◌<◌, Bool, false, ◌||◌, List, [], ◌∷◌, ◌++◌, length, get_or, take, map, String, Global, string_bytes, refl, sym, ap, ◌∙◌, subst, arith, rules}
+use Rattle.std.proofs.Common.{◌≡◌, ℕ, ◌+◌, ◌<◌, false, ◌||◌, List, [], ◌∷◌, ◌++◌, length, get_or, take, map, String, Global, string_bytes, refl, sym, ap, ◌∙◌, subst, arith, rules}
 use Rattle.std.specs.List.{All}
 use Rattle.std.proofs.lemmas.List.{map_more, map_push}
 use Rattle.std.proofs.lemmas.List.{get_or-map, length-map}
-use Rattle.serde_json.specs.Data.{Data, string, number, unsigned, array, object, Items}
+use Rattle.serde_json.specs.Data.{Data, string, array}
 use Rattle.serde_json.specs.View.{view, items_of}
 use Rattle.serde_json.specs.Written.{has_float, items_have_float}
 use Rattle.serde_json.specs.declared.value.Value.{Value, the_lemmas}
-use Rattle.serde_json.specs.declared.value.Value as Value
 use Rattle.jr_names.specs.Replies.{Reply, edited, refactored, shown, undone, redone, refused}
-use Rattle.jr_script.specs.Reports.{strings, object_of}
+use Rattle.jr_script.specs.Reports.{object_of}
 
 -- one value more than those of the elements up to one
 pub values_more : {X : Type 0} (f : X → Data) (xs : List X) (i : ℕ) (x : X) (values : List Value) (v : Value) → i < length xs → x ≡ get_or xs i x → map view values ≡ map f (take i xs) → view v ≡ f x

@@ -1,5 +1,5 @@
 -- When a value is a step, and which member is told of it otherwise.
-use Rattle.std.proofs.Common.{◌≡◌, ℕ, true, false, true≢false, nat_eq, Option, Some, None, option_and_then, ap, ◌∙◌, inl, inr, List, [], ◌∷◌, ◌++◌, map, Contains, sym, subst}
+use Rattle.std.proofs.Common.{◌≡◌, ℕ, true, false, true≢false, nat_eq, Some, None, option_and_then, ap, ◌∙◌, inl, inr, List, [], ◌∷◌, ◌++◌, map, Contains, sym, subst}
 use Rattle.std.specs.List.{AllByRecursion}
 use Rattle.std.proofs.lemmas.List.Elements.{All-from_recursion}
 use Rattle.std.specs.Cmp.Lexicographic.{pointwise}

@@ -6,3 +6,4 @@ pub mod ScriptFaults
 pub mod Texts
 pub mod RefusalTexts
 pub mod Reports
+pub mod ScriptLaws

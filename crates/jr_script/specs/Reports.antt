@@ -1,6 +1,6 @@
 -- How replies are written.
-use Rattle.std.specs.Prelude.{ℕ, List, [], ◌∷◌, ◌++◌, map, codes, All}
-use Rattle.serde_json.specs.Data.{Data, string, number, unsigned, array, object, Items, no_members, member}
+use Rattle.std.specs.Prelude.{ℕ, List, [], ◌++◌, map, codes, All}
+use Rattle.serde_json.specs.Data.{Data, string, number, unsigned, array, object, no_members, member}
 use Rattle.serde_json.specs.View.{items_of}
 use Rattle.serde_json.specs.Written.{compact_text}
 use Rattle.jr_text.specs.declared.spans.Place.{Place}

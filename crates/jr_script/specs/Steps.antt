@@ -6,7 +6,7 @@ use Rattle.jr_names.specs.declared.steps.What.{What}
 use Rattle.jr_names.specs.declared.steps.What.TheVariants.{Bindings, Dependences}
 use Rattle.jr_names.specs.declared.steps.Step.{Step}
 use Rattle.jr_names.specs.declared.steps.Step.TheVariants.{Edit, Rename, ExtractLocal, ExtractMethod, InlineLocal, InlineMethod, PullUp, MoveStatic, MoveInstance, Show, Undo, Redo}
-use Rattle.jr_script.specs.Rows.{Kind, text, offset, shown, IsOf, Column, column, Row, row, rows, word_name, names_of}
+use Rattle.jr_script.specs.Rows.{text, offset, shown, IsOf, Column, column, row, rows, word_name, names_of}
 
 -- a member, and the value that stands there
 pub record Cell : Type 0 where

@@ -5,6 +5,7 @@
 #![tactic(auto)]
 
 mod faults;
+mod laws;
 mod members;
 mod refusals;
 #[cfg(test)]
@@ -17,6 +18,7 @@ mod tests;
 mod texts;
 
 pub use faults::ScriptFault;
+pub use laws::script_has_one_answer;
 pub use refusals::refusal_text;
 pub use reports::report_text;
 pub use scripts::{MAX_SCRIPT_LEN, MAX_STEPS, read_script};

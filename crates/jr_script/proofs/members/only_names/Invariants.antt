@@ -1,4 +1,4 @@
-use Rattle.std.proofs.Common.{◌≡◌, List, ◌++◌, map}
+use Rattle.std.proofs.Common.{◌≡◌, List, ◌++◌}
 use Rattle.serde_json.proofs.Views.{Entry}
 use Rattle.jr_script.proofs.MemberLaws.{AllAmong}
 use Rattle.jr_script.proofs.NameLaws.{texts_of}

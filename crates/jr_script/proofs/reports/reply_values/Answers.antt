@@ -1,6 +1,5 @@
-use Rattle.std.proofs.Common.{◌≡◌, sym, ap, ◌∙◌, map, take}
+use Rattle.std.proofs.Common.{sym, ap, ◌∙◌, map}
 use Rattle.std.proofs.lemmas.List.{take_all}
-use Rattle.serde_json.specs.View.{view}
 use Rattle.jr_names.specs.ReplyView.{reply_of}
 use Rattle.jr_script.specs.RefusalTexts.{ArePlacesIn}
 use Rattle.jr_script.specs.Reports.{object_of, reply_places}

@@ -1,7 +1,7 @@
-use Rattle.std.proofs.Common.{◌≡◌, sym, ap, ◌∙◌, map, take}
+use Rattle.std.proofs.Common.{ap, ◌∙◌, map}
 use Rattle.std.proofs.lemmas.List.{take_all}
 use Rattle.serde_json.specs.Data.{string, array}
-use Rattle.serde_json.specs.View.{view, items_of}
+use Rattle.serde_json.specs.View.{items_of}
 use Rattle.serde_json.proofs.Views.{view-Array}
 use Rattle.jr_script.proofs.ReportLaws.{values_more, view-String}
 use Rattle.jr_script.proofs.reports.strings_value.Goals as goal

@@ -2,8 +2,8 @@ use Rattle.std.proofs.Common.{[], ◌∷◌, codes, refl, arith}
 use Rattle.std.proofs.lemmas.Result.{err_from_is_err_and}
 use Rattle.serde_json.specs.View.{view}
 use Rattle.jr_names.specs.declared.steps.Step.TheVariants.{Edit}
-use Rattle.jr_script.specs.Rows.{edit_row, column, text, offset, shown}
-use Rattle.jr_script.specs.Steps.{text_at, offset_at, shown_at}
+use Rattle.jr_script.specs.Rows.{edit_row, column, text, offset}
+use Rattle.jr_script.specs.Steps.{text_at, offset_at}
 use Rattle.jr_script.proofs.StepLaws.{missing_fault, surplus_fault, step_means}
 use Rattle.jr_script.proofs.rows.read_edit.Goals as goal
 
