@@ -19,7 +19,7 @@ const MAX_ADDED: u64 = 0x7fff_ffff_ffff_ffff;
 /// Its entries stand in the order of their starts, then of their ends, then of their pushing, and no two overlap.
 #[derive(Debug, Drop)]
 pub struct EditList {
-    edits: Vec<Edit>,
+    pub(crate) edits: Vec<Edit>,
     /// How many bytes the texts have together.
     added: u64,
 }

@@ -1,11 +1,13 @@
 //! Source texts, places and spans in them, and lists of edits.
 //!
 //! A [`Text`] is seen by contracts as the list of its bytes, an [`EditList`] as the list of its entries in order.
-//! What the edits make of a text is the splice of `specs/Splices.antt`, and `splice_laws` has its laws.
+//! What the edits make of a text is the splice of `specs/Splices.antt`, and `splice_laws` has its laws; what puts it
+//! back is in `specs/Inverses.antt`.
 #![tactic(auto)]
 
 mod edit_walks;
 mod edits;
+mod inverses;
 mod marks;
 mod spans;
 mod splice_laws;
@@ -19,5 +21,7 @@ pub use splice_laws::{
 };
 pub use texts::{MAX_TEXT_LEN, Text, TextFault};
 
+#[cfg(test)]
+mod inverse_tests;
 #[cfg(test)]
 mod tests;

@@ -1,0 +1,2 @@
+pub mod SameArms
+pub mod SameLists

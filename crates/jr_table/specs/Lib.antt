@@ -1,0 +1,11 @@
+pub mod Keys
+pub mod Decls
+pub mod Rows
+pub mod Found
+pub mod SameKeys
+pub mod SameDecls
+pub mod TypeView
+pub mod KeyView
+pub mod RowView
+pub mod FoundView
+pub mod Names

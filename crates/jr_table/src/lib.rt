@@ -1,0 +1,25 @@
+//! The declarations of a program: keys, rows, the table.
+#![tactic(auto)]
+
+mod classes;
+mod copies;
+mod decls;
+mod facts;
+mod found;
+mod keys;
+mod kinds;
+mod rows;
+mod rules;
+mod type_lists;
+mod types;
+
+pub use classes::ClassKey;
+pub use decls::{Decl, LocalKey, MemberKey};
+pub use facts::Facts;
+pub use found::Found;
+pub use keys::{CtorKey, FieldKey, MethodKey};
+pub use kinds::DeclKind;
+pub use rows::{Mods, Row};
+pub use rules::Rule;
+pub use type_lists::Tys;
+pub use types::Ty;
