@@ -4,3 +4,8 @@ pub mod Standing
 pub mod Erase
 pub mod EraseShape
 pub mod Remarked
+pub mod TestStatements
+pub mod TestUnits
+pub mod TestListStops
+pub mod TestMemberStops
+pub mod TestUnitStops

@@ -7,3 +7,14 @@ pub mod MemberStands
 pub mod BareTrees
 pub mod Units
 pub mod IgnoresMarks
+pub mod Cues
+pub mod Inside
+pub mod TypeMachine
+pub mod ArgumentMachine
+pub mod ParameterMachine
+pub mod StatementMachine
+pub mod OwnMachine
+pub mod ClassMachine
+pub mod MemberMachine
+pub mod UnitMachine
+pub mod Machines
