@@ -4,8 +4,9 @@ pub mod Standing
 pub mod Erase
 pub mod EraseShape
 pub mod Remarked
-pub mod TestStatements
-pub mod TestUnits
-pub mod TestListStops
-pub mod TestMemberStops
-pub mod TestUnitStops
+pub mod Inside
+pub mod Expressions
+pub mod CueTokens
+pub mod Types
+pub mod StatementSpell
+pub mod StatementComplete

@@ -1,0 +1,56 @@
+-- What is needed of the machines for expressions and statement expressions: each reads every tree, and stops at what stands behind
+-- one; each builds but what it read; and what it has read begins some tree.
+use Rattle.std.proofs.Common.{◌≡◌, false, List, [], ◌∷◌, ◌++◌, Option, Some, None, refl, ap, ◌∙◌, arith}
+use Rattle.jr_lex.specs.declared.items.Symbol.TheVariants.{CloseParen, Comma, Semicolon}
+use Rattle.jr_ast.specs.Tree.{Exp}
+use Rattle.jr_pexpr.specs.Tokens.{Token, symbol}
+use Rattle.jr_pexpr.specs.Spelling.{toks}
+use Rattle.jr_pexpr.specs.Shape.{Shaped, ShapedStatement}
+use Rattle.jr_pexpr.specs.Readings.{Begins}
+use Rattle.jr_pexpr.specs.Machine.{State, closed, continued, extended, kept_open}
+use Rattle.jr_pexpr.specs.Bare.{Bare, no_join, bare_step, bare_run, bare_whole, bare_statement_step, bare_statement_run, bare_statement_whole}
+use Rattle.jr_pexpr.proofs.Levels.{level_pos}
+use Rattle.jr_pexpr.proofs.Complete.{unwound}
+use Rattle.jr_pexpr.proofs.Reading.{start, after, toks_run, whole_after, sound, closes}
+use Rattle.jr_pexpr.proofs.Statements.{statement_toks_run, statement_whole_after, statement_sound, statement_closes}
+
+pub record ExpRead (e : Exp Bare) : Type 0 where
+  pub last : State Bare
+  pub runs : bare_run start (toks e) ≡ Some last
+  pub is_whole : bare_whole last ≡ Some e
+  pub at_semicolon : bare_step last (symbol Semicolon) ≡ None
+  pub at_close : bare_step last (symbol CloseParen) ≡ None
+  pub at_comma : bare_step last (symbol Comma) ≡ None
+
+pub exp_read : (e : Exp Bare) → Shaped e → ExpRead e
+unfolding extended
+exp_read e h = record {
+  last = after e;
+  runs = toks_run e h;
+  is_whole = whole_after e h;
+  at_semicolon = refl;
+  at_close = ap (closed no_join tt) (unwound e false [] 1 h (omega arith) (level_pos e));
+  at_comma = ap continued (unwound e false [] 1 h (omega arith) (level_pos e));
+}
+
+pub exp_sound : (ts : List Token) (n : State Bare) (e : Exp Bare) → bare_run start ts ≡ Some n → bare_whole n ≡ Some e → Shaped e × (toks e ≡ ts)
+exp_sound ts n e h k = sound ts n e h k
+
+pub exp_closes : (ts : List Token) (n : State Bare) → bare_run start ts ≡ Some n → (e : Exp Bare) × Begins (Exp Bare) toks Shaped ts e
+exp_closes ts n h = closes ts n h
+
+pub record EvalRead (e : Exp Bare) : Type 0 where
+  pub last : State Bare
+  pub runs : bare_statement_run start (toks e) ≡ Some last
+  pub is_whole : bare_statement_whole last ≡ Some e
+  pub at_semicolon : bare_statement_step last (symbol Semicolon) ≡ None
+
+pub eval_read : (e : Exp Bare) → ShapedStatement e → EvalRead e
+unfolding extended
+eval_read e h = record { last = after e; runs = statement_toks_run e h; is_whole = statement_whole_after e h; at_semicolon = refl }
+
+pub eval_sound : (ts : List Token) (n : State Bare) (e : Exp Bare) → bare_statement_run start ts ≡ Some n → bare_statement_whole n ≡ Some e → ShapedStatement e × (toks e ≡ ts)
+eval_sound ts n e h k = statement_sound ts n e h k
+
+pub eval_closes : (ts : List Token) (n : State Bare) → bare_statement_run start ts ≡ Some n → (e : Exp Bare) × Begins (Exp Bare) toks ShapedStatement ts e
+eval_closes ts n h = statement_closes ts n h
