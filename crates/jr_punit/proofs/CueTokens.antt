@@ -4,7 +4,7 @@ use Rattle.jr_lex.specs.declared.items.Keyword.{Keyword}
 use Rattle.jr_lex.specs.declared.items.Keyword.TheVariants.{Class}
 use Rattle.jr_lex.specs.declared.items.Symbol.{Symbol}
 use Rattle.jr_lex.specs.declared.items.Symbol.TheVariants.{OpenParen}
-use Rattle.jr_pexpr.specs.Tokens.{Token, word, keyword, integer, text, symbol}
+use Rattle.jr_grammar.specs.Tokens.{Token, word, keyword, integer, text, symbol}
 use Rattle.jr_punit.specs.Cues.{keyword_cue, symbol_cue, cue_of, cue_token}
 
 keyword_back : (k : Keyword) → cue_token (keyword_cue k) ≡ keyword k

@@ -3,12 +3,13 @@
 use Rattle.std.proofs.Common.{◌≡◌, false, List, [], ◌∷◌, ◌++◌, Option, Some, None, refl, ap, ◌∙◌, arith}
 use Rattle.jr_lex.specs.declared.items.Symbol.TheVariants.{CloseParen, Comma, Semicolon}
 use Rattle.jr_ast.specs.Tree.{Exp}
-use Rattle.jr_pexpr.specs.Tokens.{Token, symbol}
-use Rattle.jr_pexpr.specs.Spelling.{toks}
-use Rattle.jr_pexpr.specs.Shape.{Shaped, ShapedStatement}
-use Rattle.jr_pexpr.specs.Readings.{Begins}
+use Rattle.jr_grammar.specs.Tokens.{Token, symbol}
+use Rattle.jr_grammar.specs.Spelling.{toks}
+use Rattle.jr_grammar.specs.Shape.{Shaped, ShapedStatement}
+use Rattle.jr_grammar.specs.Readings.{Begins}
 use Rattle.jr_pexpr.specs.Machine.{State, closed, continued, extended, kept_open}
-use Rattle.jr_pexpr.specs.Bare.{Bare, no_join, bare_step, bare_run, bare_whole, bare_statement_step, bare_statement_run, bare_statement_whole}
+use Rattle.jr_grammar.specs.Bare.{Bare}
+use Rattle.jr_pexpr.specs.BareMachine.{no_join, bare_step, bare_run, bare_whole, bare_statement_step, bare_statement_run, bare_statement_whole}
 use Rattle.jr_pexpr.proofs.Levels.{level_pos}
 use Rattle.jr_pexpr.proofs.Complete.{unwound}
 use Rattle.jr_pexpr.proofs.Reading.{start, after, toks_run, whole_after, sound, closes}

@@ -2,7 +2,7 @@
 use Rattle.std.proofs.Common.{◌≡◌, List, [], ◌∷◌, ◌++◌, Option, Some, None, refl, sym, ap, ◌∙◌}
 use Rattle.std.specs.Prelude.{option_and_then}
 use Rattle.std.proofs.lemmas.Option.{none-some, same_Some}
-use Rattle.jr_pexpr.specs.Tokens.{Token}
+use Rattle.jr_grammar.specs.Tokens.{Token}
 use Rattle.jr_pexpr.specs.Runs.{run}
 use Rattle.jr_pexpr.proofs.Scans.{run-append}
 use Rattle.jr_pexpr.proofs.Found.{both_some}

@@ -1,9 +1,5 @@
 pub mod Begins
 pub mod Cases
-pub mod Standing
-pub mod Erase
-pub mod EraseShape
-pub mod Remarked
 pub mod Inside
 pub mod Expressions
 pub mod CueTokens

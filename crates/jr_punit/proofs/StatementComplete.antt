@@ -7,15 +7,16 @@ use Rattle.jr_lex.specs.declared.items.Keyword.TheVariants.{Boolean, Else, Final
 use Rattle.jr_lex.specs.declared.items.Symbol.TheVariants.{OpenParen, CloseParen, OpenBrace, CloseBrace, Semicolon, Equals, Dot}
 use Rattle.jr_ast.specs.Tree.{Word, TypeName, int, boolean, named as named_type, Exp}
 use Rattle.jr_ast.specs.StatementTree.{Stmt, local, eval, branch, loop, return, block, sync, empty, Else as Otherwise, no_else, otherwise, Stmts, end, more}
-use Rattle.jr_pexpr.specs.Tokens.{Token, word, keyword, symbol}
-use Rattle.jr_pexpr.specs.Spelling.{type_toks, toks}
-use Rattle.jr_pexpr.specs.Shape.{Shaped, ShapedStatement}
+use Rattle.jr_grammar.specs.Tokens.{Token, word, keyword, symbol}
+use Rattle.jr_grammar.specs.Spelling.{type_toks, toks}
+use Rattle.jr_grammar.specs.Shape.{Shaped, ShapedStatement}
 use Rattle.jr_pexpr.specs.Runs.{run}
 use Rattle.jr_pexpr.specs.Machine as E
 use Rattle.jr_pexpr.specs.Machine.{begun, extended}
-use Rattle.jr_pexpr.specs.Bare.{Bare, no_join, bare_step, bare_run, bare_whole, bare_statement_step, bare_statement_run, bare_statement_whole}
-use Rattle.jr_punit.specs.StatementSpelling.{final_toks, stmts_toks}
-use Rattle.jr_punit.specs.StatementShape.{IsNoDeclaration, TakesNoElse, EndsTaken, StmtShaped, ElseShaped, StmtsShaped}
+use Rattle.jr_grammar.specs.Bare.{Bare}
+use Rattle.jr_pexpr.specs.BareMachine.{no_join, bare_step, bare_run, bare_whole, bare_statement_step, bare_statement_run, bare_statement_whole}
+use Rattle.jr_grammar.specs.StatementSpelling.{final_toks, stmts_toks}
+use Rattle.jr_grammar.specs.StatementShape.{IsNoDeclaration, TakesNoElse, EndsTaken, StmtShaped, ElseShaped, StmtsShaped}
 use Rattle.jr_punit.specs.Cues.{cue_of}
 use Rattle.jr_punit.specs.TypeMachine as T
 use Rattle.jr_punit.specs.StatementMachine.{Frame, in_block, in_sync, in_then, in_else, in_loop, Head, if_head, while_head, sync_head, Slot, for_local, for_return, for_head, State, ready, done, headed, returning, in_exp, in_eval, locked, in_type, named, start, with_stmt, Place, ended, taken_by_if, list_closed, may_declare, declared, from_ready, filled, behind_head, evaluated, eval_ended, local_named, whole_at}

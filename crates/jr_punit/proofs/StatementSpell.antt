@@ -3,12 +3,12 @@ use Rattle.std.proofs.Common.{◌≡◌, Bool, true, false, List, [], ◌∷◌,
 use Rattle.jr_lex.specs.declared.items.Keyword.TheVariants.{Else, If, While, Return, Synchronized}
 use Rattle.jr_lex.specs.declared.items.Symbol.TheVariants.{OpenParen, CloseParen, OpenBrace, CloseBrace, Semicolon, Equals}
 use Rattle.jr_ast.specs.StatementTree.{Stmt, local, eval, branch, loop, return, block, sync, empty, Else as Otherwise, no_else, otherwise, Stmts, end, more}
-use Rattle.jr_pexpr.specs.Tokens.{Token, word, keyword, symbol}
-use Rattle.jr_pexpr.specs.Spelling.{type_toks, toks}
-use Rattle.jr_pexpr.specs.Bare.{Bare}
-use Rattle.jr_punit.specs.StatementSpelling.{final_toks, stmt_toks, else_toks, stmts_toks}
+use Rattle.jr_grammar.specs.Tokens.{Token, word, keyword, symbol}
+use Rattle.jr_grammar.specs.Spelling.{type_toks, toks}
+use Rattle.jr_grammar.specs.Bare.{Bare}
+use Rattle.jr_grammar.specs.StatementSpelling.{final_toks, stmt_toks, else_toks, stmts_toks}
 use Rattle.jr_punit.specs.StatementMachine.{with_stmt}
-use Rattle.jr_punit.specs.StatementShape.{StmtShaped, StmtsShaped}
+use Rattle.jr_grammar.specs.StatementShape.{StmtShaped, StmtsShaped}
 
 abbrev mutual
   pub spell : Stmt Bare → List Token → List Token

@@ -1,7 +1,7 @@
 -- Reading arguments, token by token: expressions with a comma between two (JLS 15.12).
 use Rattle.std.specs.Prelude.{[], Option, Some, None, option_map, option_and_then}
 use Rattle.jr_ast.specs.Tree.{Exp, Exps, end, more}
-use Rattle.jr_pexpr.specs.Tokens.{Token}
+use Rattle.jr_grammar.specs.Tokens.{Token}
 use Rattle.jr_pexpr.specs.Machine as E
 use Rattle.jr_punit.specs.Cues.{Cue, at_comma, cue_of}
 use Rattle.jr_punit.specs.Inside.{inner}

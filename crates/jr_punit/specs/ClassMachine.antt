@@ -2,7 +2,7 @@
 use Rattle.std.specs.Prelude.{ℕ, Bool, false, List, [], ◌∷◌, ◌++◌, Option, Some, None, if◌then◌else◌, option_map, option_and_then}
 use Rattle.jr_ast.specs.Tree.{Word, TypeName}
 use Rattle.jr_ast.specs.MemberTree.{Modifier, Class, class, Member, Members, end, more}
-use Rattle.jr_pexpr.specs.Tokens.{Token}
+use Rattle.jr_grammar.specs.Tokens.{Token}
 use Rattle.jr_pexpr.specs.Machine.{marked}
 use Rattle.jr_punit.specs.Cues.{Cue, a_word, a_modifier, a_class, an_extends, an_open_brace, at_open_brace, at_close_brace, cue_of}
 use Rattle.jr_punit.specs.Inside.{inner, settled}

@@ -6,8 +6,8 @@ use Rattle.jr_lex.specs.declared.items.Symbol.TheVariants.{OpenParen, CloseParen
 use Rattle.std.specs.Prelude.{ℕ, List, Option, Some, None}
 use Rattle.jr_ast.specs.declared.operators.ModWord.{ModWord}
 use Rattle.jr_ast.specs.declared.operators.ModWord.TheVariants.{Public, Protected, Private, Static, Final, Volatile, Synchronized}
-use Rattle.jr_pexpr.specs.Tokens.{Token, word, keyword, integer, text, symbol}
-use Rattle.jr_punit.specs.MemberSpelling.{modifier_keyword}
+use Rattle.jr_grammar.specs.Tokens.{Token, word, keyword, integer, text, symbol}
+use Rattle.jr_grammar.specs.MemberSpelling.{modifier_keyword}
 
 -- `int` or `boolean`
 pub data Primitive : Type 0 where

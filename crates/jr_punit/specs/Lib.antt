@@ -1,12 +1,3 @@
-pub mod StatementSpelling
-pub mod MemberSpelling
-pub mod StatementShape
-pub mod MemberShape
-pub mod StatementStands
-pub mod MemberStands
-pub mod BareTrees
-pub mod Units
-pub mod IgnoresMarks
 pub mod Cues
 pub mod Inside
 pub mod TypeMachine

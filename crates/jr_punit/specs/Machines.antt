@@ -2,8 +2,9 @@
 use Rattle.std.specs.Prelude.{ℕ, Bool, List, Option}
 use Rattle.jr_ast.specs.StatementTree.{Stmts}
 use Rattle.jr_ast.specs.MemberTree.{Member, Unit as UnitTree}
-use Rattle.jr_pexpr.specs.Tokens.{Token}
-use Rattle.jr_pexpr.specs.Bare.{Bare, no_join}
+use Rattle.jr_grammar.specs.Tokens.{Token}
+use Rattle.jr_grammar.specs.Bare.{Bare}
+use Rattle.jr_pexpr.specs.BareMachine.{no_join}
 use Rattle.jr_pexpr.specs.Runs as Runs
 use Rattle.jr_punit.specs.StatementMachine as Statements
 use Rattle.jr_punit.specs.MemberMachine as Members

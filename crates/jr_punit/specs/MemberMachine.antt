@@ -3,7 +3,7 @@
 use Rattle.std.specs.Prelude.{ℕ, Bool, true, false, List, [], Option, Some, None, if◌then◌else◌, option_map}
 use Rattle.jr_ast.specs.MemberTree.{Class, Member, inner as inner_member}
 use Rattle.jr_ast.specs.Marks.{class_mark}
-use Rattle.jr_pexpr.specs.Tokens.{Token}
+use Rattle.jr_grammar.specs.Tokens.{Token}
 use Rattle.jr_punit.specs.Cues.{Cue, a_class, cue_of}
 use Rattle.jr_punit.specs.Inside.{inner}
 use Rattle.jr_punit.specs.OwnMachine as Own

@@ -4,7 +4,7 @@ use Rattle.jr_ast.specs.declared.operators.ModWord.{ModWord}
 use Rattle.jr_ast.specs.declared.operators.ModWord.TheVariants.{Final}
 use Rattle.jr_ast.specs.Tree.{TypeName}
 use Rattle.jr_ast.specs.MemberTree.{Param}
-use Rattle.jr_pexpr.specs.Tokens.{Token}
+use Rattle.jr_grammar.specs.Tokens.{Token}
 use Rattle.jr_pexpr.specs.Machine.{marked}
 use Rattle.jr_punit.specs.Cues.{Cue, a_word, a_modifier, at_comma, cue_of}
 use Rattle.jr_punit.specs.Inside.{inner}

@@ -6,7 +6,7 @@ use Rattle.jr_ast.specs.declared.operators.ModWord.TheVariants.{Final, Synchroni
 use Rattle.jr_ast.specs.Tree.{Word, TypeName, Exp}
 use Rattle.jr_ast.specs.StatementTree.{Stmt, local, eval, branch, loop, return, block, sync, empty, no_else, otherwise, Stmts, end, more}
 use Rattle.jr_ast.specs.Marks.{type_mark, exp_mark, stmt_mark}
-use Rattle.jr_pexpr.specs.Tokens.{Token}
+use Rattle.jr_grammar.specs.Tokens.{Token}
 use Rattle.jr_pexpr.specs.Machine as E
 use Rattle.jr_punit.specs.Cues.{Primitive, Cue, a_word, a_primitive, a_modifier, an_if, an_else, a_while, a_return, an_open_brace, a_close_brace, a_semicolon, at_semicolon, at_open, at_close, at_open_brace, at_equals, cue_of}
 use Rattle.jr_punit.specs.Inside.{inner}

@@ -1,7 +1,7 @@
 -- Reading a type, token by token (JLS 4.2, 4.3, 6.5.5).
 use Rattle.std.specs.Prelude.{Bool, Option, Some, None, if◌then◌else◌}
 use Rattle.jr_ast.specs.Tree.{Word, TypeName, int, boolean, named}
-use Rattle.jr_pexpr.specs.Tokens.{Token}
+use Rattle.jr_grammar.specs.Tokens.{Token}
 use Rattle.jr_pexpr.specs.Machine.{marked}
 use Rattle.jr_punit.specs.Cues.{Primitive, an_int, a_boolean, Cue, a_word, a_primitive, a_dot, cue_of}
 

@@ -2,7 +2,7 @@
 use Rattle.std.specs.Prelude.{ℕ, Bool, true, false, List, [], ◌∷◌, ◌++◌, Option, Some, None, if◌then◌else◌, option_map}
 use Rattle.jr_ast.specs.Tree.{Word}
 use Rattle.jr_ast.specs.MemberTree.{Class, Unit as UnitTree}
-use Rattle.jr_pexpr.specs.Tokens.{Token}
+use Rattle.jr_grammar.specs.Tokens.{Token}
 use Rattle.jr_pexpr.specs.Machine.{marked}
 use Rattle.jr_punit.specs.Cues.{Cue, a_word, a_package, a_dot, a_semicolon, cue_of}
 use Rattle.jr_punit.specs.Inside.{settled}
