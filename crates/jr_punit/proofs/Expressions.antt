@@ -1,19 +1,20 @@
 -- What is needed of the machines for expressions and statement expressions: each reads every tree, and stops at what stands behind
 -- one; each builds but what it read; and what it has read begins some tree.
 use Rattle.std.proofs.Common.{◌≡◌, false, List, [], ◌∷◌, ◌++◌, Option, Some, None, refl, ap, ◌∙◌, arith}
+use Rattle.std.proofs.lemmas.Option.{same_Some}
 use Rattle.jr_lex.specs.declared.items.Symbol.TheVariants.{CloseParen, Comma, Semicolon}
-use Rattle.jr_ast.specs.Tree.{Exp}
+use Rattle.jr_ast.specs.Tree.{TypeName, named, Exp, name, field}
 use Rattle.jr_grammar.specs.Tokens.{Token, symbol}
-use Rattle.jr_grammar.specs.Spelling.{toks}
+use Rattle.jr_grammar.specs.Spelling.{type_toks, toks}
 use Rattle.jr_grammar.specs.Shape.{Shaped, ShapedStatement}
 use Rattle.jr_grammar.specs.Readings.{Begins}
-use Rattle.jr_pexpr.specs.Machine.{State, closed, continued, extended, kept_open}
+use Rattle.jr_pexpr.specs.Machine.{State, closed, continued, extended, name_type}
 use Rattle.jr_grammar.specs.Bare.{Bare}
 use Rattle.jr_pexpr.specs.BareMachine.{no_join, bare_step, bare_run, bare_whole, bare_statement_step, bare_statement_run, bare_statement_whole}
 use Rattle.jr_pexpr.proofs.Levels.{level_pos}
 use Rattle.jr_pexpr.proofs.Complete.{unwound}
 use Rattle.jr_pexpr.proofs.Reading.{start, after, toks_run, whole_after, sound, closes}
-use Rattle.jr_pexpr.proofs.Statements.{statement_toks_run, statement_whole_after, statement_sound, statement_closes}
+use Rattle.jr_pexpr.proofs.Statements.{statement_toks_run, statement_whole_after, statement_sound, statement_closes, run_kept}
 
 pub record ExpRead (e : Exp Bare) : Type 0 where
   pub last : State Bare
@@ -55,3 +56,13 @@ eval_sound ts n e h k = statement_sound ts n e h k
 
 pub eval_closes : (ts : List Token) (n : State Bare) → bare_statement_run start ts ≡ Some n → (e : Exp Bare) × Begins (Exp Bare) toks ShapedStatement ts e
 eval_closes ts n h = statement_closes ts n h
+
+-- what is read as a statement expression is read as an expression
+pub eval_runs : (ts : List Token) (n : State Bare) → bare_statement_run start ts ≡ Some n → bare_run start ts ≡ Some n
+eval_runs ts n h = (run_kept start ts n h refl).0
+
+-- a name, as a type
+pub name_toks : (e : Exp Bare) (t : TypeName Bare) → name_type e ≡ Some t → toks e ≡ type_toks t
+name_toks (name m w) t h = let k : named tt None w ≡ t = same_Some _ _ h in ap type_toks k
+name_toks (field m (name n o) w) t h = let k : named tt (Some o) w ≡ t = same_Some _ _ h in ap type_toks k
+name_toks _ t h = absurd cc

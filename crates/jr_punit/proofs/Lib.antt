@@ -6,3 +6,6 @@ pub mod CueTokens
 pub mod Types
 pub mod StatementSpell
 pub mod StatementComplete
+pub mod StatementSound
+pub mod StatementEnds
+pub mod Readings

@@ -84,7 +84,7 @@ dotted_sound : (b : Bool) (o : Word Bare) (q : Cue) → StepSound b (dotted o) (
 dotted_sound b o (a_word w) = record { good = admitted_named b (Some o) (record { mark = tt; text = w }); spelled = λ x. refl }
 dotted_sound b o _ = tt
 
-cue_sound : (b : Bool) (s : State Bare) (q : Cue) → Good b s → StepSound b s (cue_token q) (cue_step no_join s tt q)
+pub cue_sound : (b : Bool) (s : State Bare) (q : Cue) → Good b s → StepSound b s (cue_token q) (cue_step no_join s tt q)
 cue_sound b (want c) q g = want_sound b c q g
 cue_sound b (have t) q g = have_sound b t q
 cue_sound b (dotted o) q g = dotted_sound b o q

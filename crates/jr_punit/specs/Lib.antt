@@ -9,3 +9,4 @@ pub mod ClassMachine
 pub mod MemberMachine
 pub mod UnitMachine
 pub mod Machines
+pub mod Exact
