@@ -1,6 +1,6 @@
 -- Primaries, casts and literals (JLS 3.10, 15.8 to 15.16).
 -- The tree of each case is the one that javac's parser makes of the text; where the two differ, the case says why.
-use Rattle.std.proofs.Common.{[], ◌∷◌, refl, true, false}
+use Rattle.std.proofs.Common.{[], ◌∷◌, refl, arith, true, false}
 use Rattle.std.specs.Prelude.{codes}
 use Rattle.jr_lex.specs.declared.items.Keyword.TheVariants.{Class, False, New, Null, Super, This, True}
 use Rattle.jr_lex.specs.declared.items.Symbol.TheVariants.{Bang, CloseParen, Comma, Dot, Equals, Minus as MinusSign, OpenParen, PlusPlus, Plus as PlusSign, Star}

@@ -2,12 +2,12 @@
 -- The tree of each case is the one that javac's parser makes of the text; where the two differ, the case says why.
 use Rattle.std.proofs.Common.{[], ◌∷◌, refl, arith}
 use Rattle.std.specs.Prelude.{codes}
-use Rattle.jr_lex.specs.declared.items.Keyword.TheVariants.{Class, New, Super, This}
-use Rattle.jr_lex.specs.declared.items.Symbol.TheVariants.{Bang, CloseParen, Dot, Equals, MinusMinus, Minus as MinusSign, OpenParen, PlusEquals, PlusPlus, Plus as PlusSign}
+use Rattle.jr_lex.specs.declared.items.Keyword.TheVariants.{Class, New, Super}
+use Rattle.jr_lex.specs.declared.items.Symbol.TheVariants.{CloseParen, Dot, Equals, MinusMinus, OpenParen, PlusEquals, PlusPlus, Plus as PlusSign}
 use Rattle.jr_ast.specs.declared.operators.BinOp.TheVariants.{Add}
 use Rattle.jr_ast.specs.declared.operators.BumpOp.TheVariants.{PreDec, PostInc}
 use Rattle.jr_ast.specs.Tree.{string, field, class_literal, call, super_call, create, paren, cast, bump, binary, assign, compound, no_target, on, end, more}
-use Rattle.jr_grammar.specs.Tokens.{word, keyword, integer, text, symbol}
+use Rattle.jr_grammar.specs.Tokens.{word, keyword, text, symbol}
 use Rattle.jr_grammar.specs.Expressions.{IsStatementExpression}
 use Rattle.jr_grammar.proofs.Cases.Forms.{w, v, ty}
 

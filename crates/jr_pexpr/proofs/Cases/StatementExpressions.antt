@@ -2,11 +2,8 @@
 use Rattle.std.proofs.Common.{[], ◌∷◌, refl}
 use Rattle.std.specs.Prelude.{codes}
 use Rattle.jr_lex.specs.declared.items.Keyword.TheVariants.{Class, New, Super, This}
-use Rattle.jr_lex.specs.declared.items.Symbol.TheVariants.{Bang, CloseParen, Dot, Equals, MinusMinus, Minus as MinusSign, OpenParen, PlusEquals, PlusPlus, Plus as PlusSign}
-use Rattle.jr_ast.specs.declared.operators.BinOp.TheVariants.{Add}
-use Rattle.jr_ast.specs.declared.operators.BumpOp.TheVariants.{PreDec, PostInc}
-use Rattle.jr_ast.specs.Tree.{string, field, class_literal, call, super_call, create, paren, cast, bump, binary, assign, compound, no_target, on, end, more}
-use Rattle.jr_grammar.specs.Tokens.{word, keyword, integer, text, symbol}
+use Rattle.jr_lex.specs.declared.items.Symbol.TheVariants.{Bang, CloseParen, Dot, Equals, Minus as MinusSign, OpenParen, PlusPlus, Plus as PlusSign}
+use Rattle.jr_grammar.specs.Tokens.{word, keyword, integer, symbol}
 use Rattle.jr_pexpr.specs.Machine.{begun, extended}
 use Rattle.jr_grammar.specs.Expressions.{IsNoStatementExpression}
 use Rattle.jr_pexpr.proofs.Cases.Forms.{statement_refused}
