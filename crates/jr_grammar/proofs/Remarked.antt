@@ -5,7 +5,7 @@ use Rattle.jr_lex.specs.declared.items.Symbol.TheVariants.{OpenParen, CloseParen
 use Rattle.jr_ast.specs.Tree.{Word, TypeName, int, boolean, named, Exp, number, truth, null, string, name, field, super_field, this, class_literal, call, super_call, create, paren, cast, unary, bump, binary, assign, compound, Target, no_target, on, Exps, end, more}
 use Rattle.jr_grammar.specs.Tokens.{Token, word, keyword, symbol}
 use Rattle.jr_grammar.specs.Spelling.{unary_symbol, binary_symbol, compound_symbol, bump_toks, name_toks, type_toks, toks, target_toks, args_toks, more_toks}
-use Rattle.jr_grammar.specs.Shape.{rank_of, level_of, IsTarget, IsCompound, IsNamed, ShapedBehind, ShapedTarget, AllShaped, IsStatementForm, Shaped, is_minus, behind_of}
+use Rattle.jr_grammar.specs.Shape.{rank_of, level_of, IsTarget, IsCompound, IsNamed, ShapedBehind, ShapedTarget, AllShaped, IsStatementForm, is_minus, behind_of}
 use Rattle.jr_ast.specs.Remarked.{map_word, map_type, map_exp, map_target, map_exps}
 use Rattle.jr_grammar.specs.IgnoresMarks.{ExpressionIgnoresMarks}
 

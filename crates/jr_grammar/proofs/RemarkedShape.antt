@@ -7,7 +7,7 @@ use Rattle.jr_ast.specs.MemberTree.{Class, class, Member, field, method, constru
 use Rattle.jr_grammar.proofs.Remarked.{holds_alike, IsNamed-map, IsStatementForm-map, ShapedBehind-map, AllShaped-map}
 use Rattle.jr_grammar.specs.StatementShape.{IsNoDeclaration, TakesNoElse, EndsTaken, ShapedValue, StmtShaped, ElseShaped, StmtsShaped}
 use Rattle.jr_grammar.specs.MemberShape.{IsParent, IsNamedAs, ShapedArgs, HoldsClasses, ClassShaped, MemberShaped, MembersShaped, ClassesShaped, UnitShaped}
-use Rattle.jr_ast.specs.Remarked.{map_word, map_modifier, map_type, map_param, map_exp, map_exps, map_stmt, map_else, map_stmts, map_member, map_class, map_members, map_unit}
+use Rattle.jr_ast.specs.Remarked.{map_type, map_exp, map_exps, map_stmt, map_else, map_stmts, map_member, map_class, map_members, map_unit}
 use Rattle.jr_grammar.specs.IgnoresMarks.{UnitIgnoresMarks}
 use Rattle.jr_grammar.proofs.RemarkedSpelling.{unit_toks-map}
 

@@ -4,7 +4,7 @@ use Rattle.std.specs.Prelude.{option_map}
 use Rattle.jr_ast.specs.declared.operators.UnOp.TheVariants.{Plus, Minus, Not}
 use Rattle.jr_ast.specs.declared.operators.BinOp.{BinOp}
 use Rattle.jr_ast.specs.declared.operators.BinOp.TheVariants.{Add, Sub}
-use Rattle.jr_ast.specs.Tree.{Word, TypeName, named, Exp, number, name, field, super_field, call, super_call, create, paren, bump, assign, compound, Exps, end, more}
+use Rattle.jr_ast.specs.Tree.{Word, TypeName, named, Exp, number, name, field, super_field, call, super_call, create, paren, cast, unary, bump, binary, assign, compound, Exps, end, more}
 use Rattle.jr_ast.specs.Marks.{exp_mark}
 use Rattle.jr_ast.specs.Remarked.{map_exp, map_target, map_exps}
 use Rattle.jr_grammar.specs.Tokens.{Token}

@@ -6,7 +6,7 @@ use Rattle.jr_text.specs.declared.spans.Span.{Span}
 use Rattle.jr_ast.specs.Tree.{Exp}
 use Rattle.jr_grammar.specs.Tokens.{Token, Placed, kinds}
 use Rattle.jr_grammar.specs.Spelling.{toks}
-use Rattle.jr_grammar.specs.Shape.{Shaped, IsStatementForm, ShapedStatement}
+use Rattle.jr_grammar.specs.Shape.{Shaped, ShapedStatement}
 use Rattle.jr_grammar.specs.Stands.{Tokens, Stands}
 use Rattle.jr_pexpr.specs.Machine.{State, want, have, whole_of, reduced}
 use Rattle.jr_grammar.specs.Bare.{Bare, no_mark, bare}
