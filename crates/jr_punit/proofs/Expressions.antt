@@ -1,6 +1,7 @@
 -- What is needed of the machines for expressions and statement expressions: each reads every tree, and stops at what stands behind
 -- one; each builds but what it read; and what it has read begins some tree.
-use Rattle.std.proofs.Common.{◌≡◌, false, List, [], ◌∷◌, ◌++◌, Option, Some, None, refl, ap, ◌∙◌, arith}
+use Rattle.std.proofs.Common.{◌≡◌, false, List, [], ◌∷◌, ◌++◌, Option, Some, None, refl, sym, ap, ◌∙◌, arith}
+use Rattle.std.proofs.lemmas.List.{append-nil}
 use Rattle.std.proofs.lemmas.Option.{same_Some}
 use Rattle.jr_lex.specs.declared.items.Symbol.TheVariants.{CloseParen, Comma, Semicolon}
 use Rattle.jr_ast.specs.Tree.{TypeName, named, Exp, name, field}
@@ -13,7 +14,9 @@ use Rattle.jr_grammar.specs.Bare.{Bare}
 use Rattle.jr_pexpr.specs.BareMachine.{no_join, bare_step, bare_run, bare_whole, bare_statement_step, bare_statement_run, bare_statement_whole}
 use Rattle.jr_pexpr.proofs.Levels.{level_pos}
 use Rattle.jr_pexpr.proofs.Complete.{unwound}
-use Rattle.jr_pexpr.proofs.Reading.{start, after, toks_run, whole_after, sound, closes}
+use Rattle.jr_pexpr.proofs.Sound.{RunSound, run_sound}
+use Rattle.jr_pexpr.proofs.Found.{at_some}
+use Rattle.jr_pexpr.proofs.Reading.{start, after, toks_run, whole_after, sound, closes, from_nothing}
 use Rattle.jr_pexpr.proofs.Statements.{statement_toks_run, statement_whole_after, statement_sound, statement_closes, run_kept}
 
 pub record ExpRead (e : Exp Bare) : Type 0 where
@@ -66,3 +69,7 @@ pub name_toks : (e : Exp Bare) (t : TypeName Bare) → name_type e ≡ Some t �
 name_toks (name m w) t h = let k : named tt None w ≡ t = same_Some _ _ h in ap type_toks k
 name_toks (field m (name n o) w) t h = let k : named tt (Some o) w ≡ t = same_Some _ _ h in ap type_toks k
 name_toks _ t h = absurd cc
+
+-- where nothing is begun, nothing was read
+pub exp_unread : (ts : List Token) → bare_run start ts ≡ Some start → ts ≡ []
+exp_unread ts h = let r = at_some (bare_run start ts) start (RunSound start ts) h (run_sound start ts from_nothing) in sym (append-nil ts) ∙ r.spelled []

@@ -9,3 +9,5 @@ pub mod StatementComplete
 pub mod StatementSound
 pub mod StatementEnds
 pub mod Readings
+pub mod Arguments
+pub mod Parameters
