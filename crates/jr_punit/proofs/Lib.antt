@@ -11,3 +11,5 @@ pub mod StatementEnds
 pub mod Readings
 pub mod Arguments
 pub mod Parameters
+pub mod MemberSpell
+pub mod OwnComplete
