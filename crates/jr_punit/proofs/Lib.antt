@@ -13,3 +13,5 @@ pub mod Arguments
 pub mod Parameters
 pub mod MemberSpell
 pub mod OwnComplete
+pub mod OwnSound
+pub mod OwnEnds
