@@ -15,3 +15,4 @@ pub mod MemberSpell
 pub mod OwnComplete
 pub mod OwnSound
 pub mod OwnEnds
+pub mod Classes

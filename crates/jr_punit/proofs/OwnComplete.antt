@@ -68,7 +68,7 @@ modifier_read name ds m = go m.word refl
     go Volatile e = refl
     go Synchronized e = refl
 
-modifiers_read : (name : List ℕ) (ms ds : Modifiers) (x : List Token) → own_run name (modified ds) (modifiers_toks ms ++ x) ≡ own_run name (modified (ds ++ ms)) x
+pub modifiers_read : (name : List ℕ) (ms ds : Modifiers) (x : List Token) → own_run name (modified ds) (modifiers_toks ms ++ x) ≡ own_run name (modified (ds ++ ms)) x
 modifiers_read name [] ds x = ap (λ (r : Modifiers). own_run name (modified r) x) (sym (append-nil ds))
 modifiers_read name (m ∷ ms) ds x =
     ap (then_run name (modifiers_toks ms ++ x)) (modifier_read name ds m) ∙ modifiers_read name ms (ds ++ (m ∷ [])) x ∙ ap (λ (r : Modifiers). own_run name (modified r) x) (append_assoc ds (m ∷ []) ms)
