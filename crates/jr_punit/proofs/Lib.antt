@@ -16,3 +16,4 @@ pub mod OwnComplete
 pub mod OwnSound
 pub mod OwnEnds
 pub mod Classes
+pub mod MemberReads

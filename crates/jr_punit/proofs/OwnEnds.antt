@@ -54,18 +54,18 @@ own_run_is name ts n h = at_some (own_run name start ts) n (RunSound name start 
 
 -- ---- what is whole
 
-whole_is : (n : State Bare) (d : Member Bare) → whole n ≡ Some d → n ≡ done d
-whole_is (done e) d h = ap done (same_Some e d h)
-whole_is _ d h = absurd cc
+pub own_whole_is : (n : State Bare) (d : Member Bare) → whole n ≡ Some d → n ≡ done d
+own_whole_is (done e) d h = ap done (same_Some e d h)
+own_whole_is _ d h = absurd cc
 
 pub own_sound : (name : List ℕ) (ts : List Token) (n : State Bare) (d : Member Bare) → own_run name start ts ≡ Some n → whole n ≡ Some d → MemberShaped true name d × (member_toks d ≡ ts)
 own_sound name ts n d h k =
-    let r = own_run_is name ts (done d) (h ∙ ap (λ (m : State Bare). Some m) (whole_is n d k)) in
+    let r = own_run_is name ts (done d) (h ∙ ap (λ (m : State Bare). Some m) (own_whole_is n d k)) in
     (r.good, sym (append-nil (member_toks d)) ∙ sym (spell_member-is d []) ∙ sym (r.spelled []) ∙ append-nil ts)
 
 -- nothing stands behind a whole member
 pub own_ended : (name : List ℕ) (n : State Bare) (d : Member Bare) (t : Token) → whole n ≡ Some d → own_step name n t ≡ None
-own_ended name n d t h = ap (λ (m : State Bare). own_step name m t) (whole_is n d h)
+own_ended name n d t h = ap (λ (m : State Bare). own_step name m t) (own_whole_is n d h)
 
 -- where nothing is begun, nothing was read
 pub own_unread : (name : List ℕ) (ts : List Token) → own_run name start ts ≡ Some start → ts ≡ []
