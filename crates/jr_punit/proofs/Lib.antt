@@ -17,3 +17,4 @@ pub mod OwnSound
 pub mod OwnEnds
 pub mod Classes
 pub mod MemberReads
+pub mod UnitReads
