@@ -1,5 +1,5 @@
 -- The machines without marks, and what they answer.
-use Rattle.std.specs.Prelude.{ℕ, Bool, List, Option}
+use Rattle.std.specs.Prelude.{ℕ, Bool, List, Option, option_and_then}
 use Rattle.jr_ast.specs.StatementTree.{Stmts}
 use Rattle.jr_ast.specs.MemberTree.{Member, Unit as UnitTree}
 use Rattle.jr_grammar.specs.Tokens.{Token}
@@ -21,6 +21,10 @@ list_whole s = Statements.whole no_join s
 abbrev pub list_run : Statements.State Bare → List Token → Option (Statements.State Bare)
 list_run s ts = Runs.run (Statements.State Bare) Token (Stmts Bare) list_step list_whole s ts
 
+-- the list of statements that the tokens are, if any
+abbrev pub list_read : List Token → Option (Stmts Bare)
+list_read tokens = option_and_then list_whole (list_run Statements.start tokens)
+
 abbrev pub list_stop : List Token → ℕ
 list_stop tokens = Runs.stop_of (Statements.State Bare) Token (Stmts Bare) list_step list_whole Statements.start tokens
 
@@ -34,6 +38,10 @@ member_whole s = Members.whole s
 
 abbrev pub member_run : Bool → List ℕ → Members.State Bare → List Token → Option (Members.State Bare)
 member_run nested name s ts = Runs.run (Members.State Bare) Token (Member Bare) (member_step nested name) member_whole s ts
+
+-- the member that the tokens are, if any
+abbrev pub member_read : Bool → List ℕ → List Token → Option (Member Bare)
+member_read nested name tokens = option_and_then member_whole (member_run nested name Members.start tokens)
 
 abbrev pub member_length : Bool → List ℕ → List Token → Option ℕ
 member_length nested name tokens = Runs.longest (Members.State Bare) Token (Member Bare) (member_step nested name) member_whole Members.start tokens
@@ -51,6 +59,10 @@ unit_whole s = Units.whole tt s
 
 abbrev pub unit_run : Units.State Bare → List Token → Option (Units.State Bare)
 unit_run s ts = Runs.run (Units.State Bare) Token (UnitTree Bare) unit_step unit_whole s ts
+
+-- the unit that the tokens are, if any
+abbrev pub unit_read : List Token → Option (UnitTree Bare)
+unit_read tokens = option_and_then unit_whole (unit_run Units.start tokens)
 
 abbrev pub unit_stop : List Token → ℕ
 unit_stop tokens = Runs.stop_of (Units.State Bare) Token (UnitTree Bare) unit_step unit_whole Units.start tokens
