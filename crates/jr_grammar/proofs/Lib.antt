@@ -1,4 +1,11 @@
 pub mod OneAnswer
+pub mod Layouts
+pub mod ExpressionLayouts
+pub mod StatementLayouts
+pub mod MemberLayouts
+pub mod ExpressionMarks
+pub mod StatementMarks
+pub mod MemberMarks
 pub mod Remarked
 pub mod RemarkedSpelling
 pub mod RemarkedShape

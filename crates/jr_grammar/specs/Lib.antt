@@ -9,6 +9,11 @@ pub mod Bare
 pub mod Stands
 pub mod StatementStands
 pub mod MemberStands
+pub mod Layout
+pub mod Parts
+pub mod ExpressionLayout
+pub mod StatementLayout
+pub mod MemberLayout
 pub mod Readings
 pub mod Expressions
 pub mod Units
