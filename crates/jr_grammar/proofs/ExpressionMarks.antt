@@ -11,7 +11,7 @@ use Rattle.jr_grammar.specs.Spelling.{unary_symbol, binary_symbol, compound_symb
 use Rattle.jr_grammar.specs.Layout.{Layout, token, node, row, Layouts, done, ◌then◌, laid, all_laid}
 use Rattle.jr_grammar.specs.ExpressionLayout.{word_layout, type_layout, exp_layout, target_layout, args_layout, more_args_layout}
 use Rattle.jr_grammar.specs.Bare.{Bare, no_mark, bare_word}
-use Rattle.jr_grammar.specs.Parts.{Tokens, span_of}
+use Rattle.jr_grammar.specs.Stands.{Tokens, span_of}
 use Rattle.jr_grammar.proofs.Layouts.{front, back, lay, mark_of, parts_of, part0, part1, part2, part3, part4, part5, part6, part7}
 
 -- ---- its marks are those of the parts
@@ -156,7 +156,7 @@ mutual
 
 -- ---- without marks it is as before
 
-pub type_bare : {A : Type 0} (x : TypeName A) (y : Layout Span) → map_type no_mark (type_at x y) ≡ map_type no_mark x
+pub type_bare : (x : TypeName Bare) (y : Layout Span) → map_type no_mark (type_at x y) ≡ x
 type_bare (int m) y = refl
 type_bare (boolean m) y = refl
 type_bare (named m None w) y = refl
@@ -165,38 +165,38 @@ type_bare (named m (Some o) w) y = refl
 mutual
   unfolding map_exp map_target map_exps
 
-  pub exp_bare : {A : Type 0} (x : Exp A) (y : Layout Span) → map_exp no_mark (exp_at x y) ≡ map_exp no_mark x
+  pub exp_bare : (x : Exp Bare) (y : Layout Span) → map_exp no_mark (exp_at x y) ≡ x
   exp_bare (number m n) y = refl
   exp_bare (truth m b) y = refl
   exp_bare (null m) y = refl
   exp_bare (string m s) y = refl
   exp_bare (name m w) y = refl
-  exp_bare (field m e w) y = λ i. field tt (exp_bare e (part0 (parts_of y)) i) (bare_word w)
+  exp_bare (field m e w) y = λ i. field m (exp_bare e (part0 (parts_of y)) i) w
   exp_bare (super_field m w) y = refl
   exp_bare (this m) y = refl
-  exp_bare (class_literal m t) y = λ i. class_literal tt (type_bare t (part0 (parts_of y)) i)
-  exp_bare (call m t w es) y = λ i. call tt (target_bare t (part0 (parts_of y)) i) (bare_word w) (args_bare es (part3 (parts_of y)) i)
-  exp_bare (super_call m w es) y = λ i. super_call tt (bare_word w) (args_bare es (part4 (parts_of y)) i)
-  exp_bare (create m t es) y = λ i. create tt (type_bare t (part1 (parts_of y)) i) (args_bare es (part3 (parts_of y)) i)
-  exp_bare (paren m e) y = λ i. paren tt (exp_bare e (part1 (parts_of y)) i)
-  exp_bare (cast m t e) y = λ i. cast tt (type_bare t (part1 (parts_of y)) i) (exp_bare e (part3 (parts_of y)) i)
-  exp_bare (unary m o e) y = λ i. unary tt o (exp_bare e (part1 (parts_of y)) i)
-  exp_bare (bump m PreInc e) y = λ i. bump tt PreInc (exp_bare e (part1 (parts_of y)) i)
-  exp_bare (bump m PreDec e) y = λ i. bump tt PreDec (exp_bare e (part1 (parts_of y)) i)
-  exp_bare (bump m PostInc e) y = λ i. bump tt PostInc (exp_bare e (part0 (parts_of y)) i)
-  exp_bare (bump m PostDec e) y = λ i. bump tt PostDec (exp_bare e (part0 (parts_of y)) i)
-  exp_bare (binary m o l r) y = λ i. binary tt o (exp_bare l (part0 (parts_of y)) i) (exp_bare r (part2 (parts_of y)) i)
-  exp_bare (assign m t e) y = λ i. assign tt (exp_bare t (part0 (parts_of y)) i) (exp_bare e (part2 (parts_of y)) i)
-  exp_bare (compound m o t e) y = λ i. compound tt o (exp_bare t (part0 (parts_of y)) i) (exp_bare e (part2 (parts_of y)) i)
+  exp_bare (class_literal m t) y = λ i. class_literal m (type_bare t (part0 (parts_of y)) i)
+  exp_bare (call m t w es) y = λ i. call m (target_bare t (part0 (parts_of y)) i) w (args_bare es (part3 (parts_of y)) i)
+  exp_bare (super_call m w es) y = λ i. super_call m w (args_bare es (part4 (parts_of y)) i)
+  exp_bare (create m t es) y = λ i. create m (type_bare t (part1 (parts_of y)) i) (args_bare es (part3 (parts_of y)) i)
+  exp_bare (paren m e) y = λ i. paren m (exp_bare e (part1 (parts_of y)) i)
+  exp_bare (cast m t e) y = λ i. cast m (type_bare t (part1 (parts_of y)) i) (exp_bare e (part3 (parts_of y)) i)
+  exp_bare (unary m o e) y = λ i. unary m o (exp_bare e (part1 (parts_of y)) i)
+  exp_bare (bump m PreInc e) y = λ i. bump m PreInc (exp_bare e (part1 (parts_of y)) i)
+  exp_bare (bump m PreDec e) y = λ i. bump m PreDec (exp_bare e (part1 (parts_of y)) i)
+  exp_bare (bump m PostInc e) y = λ i. bump m PostInc (exp_bare e (part0 (parts_of y)) i)
+  exp_bare (bump m PostDec e) y = λ i. bump m PostDec (exp_bare e (part0 (parts_of y)) i)
+  exp_bare (binary m o l r) y = λ i. binary m o (exp_bare l (part0 (parts_of y)) i) (exp_bare r (part2 (parts_of y)) i)
+  exp_bare (assign m t e) y = λ i. assign m (exp_bare t (part0 (parts_of y)) i) (exp_bare e (part2 (parts_of y)) i)
+  exp_bare (compound m o t e) y = λ i. compound m o (exp_bare t (part0 (parts_of y)) i) (exp_bare e (part2 (parts_of y)) i)
 
-  target_bare : {A : Type 0} (x : Target A) (y : Layout Span) → map_target no_mark (target_at x y) ≡ map_target no_mark x
+  target_bare : (x : Target Bare) (y : Layout Span) → map_target no_mark (target_at x y) ≡ x
   target_bare no_target y = refl
   target_bare (on e) y = λ i. on (exp_bare e (part0 (parts_of y)) i)
 
-  pub args_bare : {A : Type 0} (x : Exps A) (y : Layout Span) → map_exps no_mark (args_at x y) ≡ map_exps no_mark x
+  pub args_bare : (x : Exps Bare) (y : Layout Span) → map_exps no_mark (args_at x y) ≡ x
   args_bare end y = refl
   args_bare (more e es) y = λ i. more (exp_bare e (part0 (parts_of y)) i) (more_args_bare es (part1 (parts_of y)) i)
 
-  more_args_bare : {A : Type 0} (x : Exps A) (y : Layout Span) → map_exps no_mark (more_args_at x y) ≡ map_exps no_mark x
+  more_args_bare : (x : Exps Bare) (y : Layout Span) → map_exps no_mark (more_args_at x y) ≡ x
   more_args_bare end y = refl
   more_args_bare (more e es) y = λ i. more (exp_bare e (part1 (parts_of y)) i) (more_args_bare es (part2 (parts_of y)) i)

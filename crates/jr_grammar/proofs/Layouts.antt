@@ -5,7 +5,7 @@ use Rattle.std.proofs.Math.Seq.{take-append_seam, drop-append_seam}
 use Rattle.jr_text.specs.declared.spans.Span.{Span}
 use Rattle.jr_grammar.specs.Tokens.{Token, Placed, kinds}
 use Rattle.jr_grammar.specs.Layout.{Layout, token, node, row, Layouts, done, ◌then◌, laid, all_laid, spans_from, all_spans_from}
-use Rattle.jr_grammar.specs.Parts.{Tokens, span_of, IsAlone, Stands, StandInOrder}
+use Rattle.jr_grammar.specs.Stands.{Tokens, span_of, IsAlone, Stands, StandInOrder}
 
 -- ---- other marks
 

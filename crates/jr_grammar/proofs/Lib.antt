@@ -6,9 +6,7 @@ pub mod MemberLayouts
 pub mod ExpressionMarks
 pub mod StatementMarks
 pub mod MemberMarks
+pub mod Marked
 pub mod Remarked
-pub mod RemarkedSpelling
 pub mod RemarkedShape
-pub mod Standing
-pub mod UnitStanding
 pub mod Cases

@@ -14,7 +14,7 @@ use Rattle.jr_grammar.specs.ExpressionLayout.{word_layout, type_layout, exp_layo
 use Rattle.jr_grammar.specs.StatementLayout.{final_layout, stmts_layout}
 use Rattle.jr_grammar.specs.MemberLayout.{modifier_layout, modifiers_layout, param_layout, more_params_layout, params_layout, init_layout, result_layout, parent_call_layout, extends_layout, class_layout, member_layout, members_layout, more_words_layout, package_layout, classes_layout, unit_layouts}
 use Rattle.jr_grammar.specs.Bare.{Bare, no_mark, bare_word}
-use Rattle.jr_grammar.specs.Parts.{Tokens, span_of}
+use Rattle.jr_grammar.specs.Stands.{Tokens, span_of}
 use Rattle.jr_grammar.proofs.Layouts.{front, back, lay, lay_all, mark_of, parts_of, part0, part1, part2, part3, part4, part5, part6, part7}
 use Rattle.jr_grammar.proofs.ExpressionMarks.{word_at, type_at, exp_at, args_at, type_again, exp_again, args_again, type_stays, exp_stays, args_stays, type_bare, exp_bare, args_bare}
 use Rattle.jr_grammar.proofs.StatementMarks.{stmts_at, stmts_again, final_stays, stmts_stays, stmts_bare}
@@ -212,64 +212,64 @@ unit_stays m u ps = λ i. package_stays u.package_name (front (package_layout u.
 
 -- ---- without marks it is as before
 
-modifiers_bare : {A : Type 0} (x : List (Modifier A)) (y : Layout Span) → map (map_modifier no_mark) (modifiers_at x y) ≡ map (map_modifier no_mark) x
+modifiers_bare : (x : List (Modifier Bare)) (y : Layout Span) → map (map_modifier no_mark) (modifiers_at x y) ≡ x
 modifiers_bare [] y = refl
-modifiers_bare (x ∷ xs) y = λ i. (map_modifier no_mark x) ∷ (modifiers_bare xs (part1 (parts_of y)) i)
+modifiers_bare (x ∷ xs) y = λ i. x ∷ (modifiers_bare xs (part1 (parts_of y)) i)
 
-param_bare : {A : Type 0} (x : Param A) (y : Layout Span) → map_param no_mark (param_at x y) ≡ map_param no_mark x
-param_bare x y = λ i. record { mark = tt; is_final = x.is_final; type = type_bare x.type (part1 (parts_of y)) i; name = bare_word x.name }
+param_bare : (x : Param Bare) (y : Layout Span) → map_param no_mark (param_at x y) ≡ x
+param_bare x y = λ i. record { mark = tt; is_final = x.is_final; type = type_bare x.type (part1 (parts_of y)) i; name = x.name }
 
-more_params_bare : {A : Type 0} (x : List (Param A)) (y : Layout Span) → map (map_param no_mark) (more_params_at x y) ≡ map (map_param no_mark) x
+more_params_bare : (x : List (Param Bare)) (y : Layout Span) → map (map_param no_mark) (more_params_at x y) ≡ x
 more_params_bare [] y = refl
 more_params_bare (x ∷ xs) y = λ i. (param_bare x (part1 (parts_of y)) i) ∷ (more_params_bare xs (part2 (parts_of y)) i)
 
-params_bare : {A : Type 0} (x : List (Param A)) (y : Layout Span) → map (map_param no_mark) (params_at x y) ≡ map (map_param no_mark) x
+params_bare : (x : List (Param Bare)) (y : Layout Span) → map (map_param no_mark) (params_at x y) ≡ x
 params_bare [] y = refl
 params_bare (x ∷ xs) y = λ i. (param_bare x (part0 (parts_of y)) i) ∷ (more_params_bare xs (part1 (parts_of y)) i)
 
-init_bare : {A : Type 0} (x : Option (Exp A)) (y : Layout Span) → option_map (map_exp no_mark) (init_at x y) ≡ option_map (map_exp no_mark) x
+init_bare : (x : Option (Exp Bare)) (y : Layout Span) → option_map (map_exp no_mark) (init_at x y) ≡ x
 init_bare None y = refl
 init_bare (Some e) y = λ i. Some (exp_bare e (part1 (parts_of y)) i)
 
-result_bare : {A : Type 0} (x : Option (TypeName A)) (y : Layout Span) → option_map (map_type no_mark) (result_at x y) ≡ option_map (map_type no_mark) x
+result_bare : (x : Option (TypeName Bare)) (y : Layout Span) → option_map (map_type no_mark) (result_at x y) ≡ x
 result_bare None y = refl
 result_bare (Some t) y = λ i. Some (type_bare t (part0 (parts_of y)) i)
 
-parent_call_bare : {A : Type 0} (x : Option (Exps A)) (y : Layout Span) → option_map (map_exps no_mark) (parent_call_at x y) ≡ option_map (map_exps no_mark) x
+parent_call_bare : (x : Option (Exps Bare)) (y : Layout Span) → option_map (map_exps no_mark) (parent_call_at x y) ≡ x
 parent_call_bare None y = refl
 parent_call_bare (Some es) y = λ i. Some (args_bare es (part2 (parts_of y)) i)
 
-extends_bare : {A : Type 0} (x : Option (TypeName A)) (y : Layout Span) → option_map (map_type no_mark) (extends_at x y) ≡ option_map (map_type no_mark) x
+extends_bare : (x : Option (TypeName Bare)) (y : Layout Span) → option_map (map_type no_mark) (extends_at x y) ≡ x
 extends_bare None y = refl
 extends_bare (Some t) y = λ i. Some (type_bare t (part1 (parts_of y)) i)
 
 mutual
   unfolding map_class map_member map_members
 
-  pub class_bare : {A : Type 0} (x : Class A) (y : Layout Span) → map_class no_mark (class_at x y) ≡ map_class no_mark x
-  class_bare (class m ms w parent all) y = λ i. class tt (modifiers_bare ms (part0 (parts_of y)) i) (bare_word w) (extends_bare parent (part3 (parts_of y)) i) (members_bare all (part5 (parts_of y)) i)
+  pub class_bare : (x : Class Bare) (y : Layout Span) → map_class no_mark (class_at x y) ≡ x
+  class_bare (class m ms w parent all) y = λ i. class m (modifiers_bare ms (part0 (parts_of y)) i) w (extends_bare parent (part3 (parts_of y)) i) (members_bare all (part5 (parts_of y)) i)
 
-  pub member_bare : {A : Type 0} (x : Member A) (y : Layout Span) → map_member no_mark (member_at x y) ≡ map_member no_mark x
-  member_bare (field m ms t w init) y = λ i. field tt (modifiers_bare ms (part0 (parts_of y)) i) (type_bare t (part1 (parts_of y)) i) (bare_word w) (init_bare init (part3 (parts_of y)) i)
-  member_bare (method m ms t w xs body) y = λ i. method tt (modifiers_bare ms (part0 (parts_of y)) i) (result_bare t (part1 (parts_of y)) i) (bare_word w) (params_bare xs (part4 (parts_of y)) i) (stmts_bare body (part7 (parts_of y)) i)
-  member_bare (constructor m ms w xs args body) y = λ i. constructor tt (modifiers_bare ms (part0 (parts_of y)) i) (bare_word w) (params_bare xs (part3 (parts_of y)) i) (parent_call_bare args (part6 (parts_of y)) i) (stmts_bare body (part7 (parts_of y)) i)
-  member_bare (inner m c) y = λ i. inner tt (class_bare c (part0 (parts_of y)) i)
+  pub member_bare : (x : Member Bare) (y : Layout Span) → map_member no_mark (member_at x y) ≡ x
+  member_bare (field m ms t w init) y = λ i. field m (modifiers_bare ms (part0 (parts_of y)) i) (type_bare t (part1 (parts_of y)) i) w (init_bare init (part3 (parts_of y)) i)
+  member_bare (method m ms t w xs body) y = λ i. method m (modifiers_bare ms (part0 (parts_of y)) i) (result_bare t (part1 (parts_of y)) i) w (params_bare xs (part4 (parts_of y)) i) (stmts_bare body (part7 (parts_of y)) i)
+  member_bare (constructor m ms w xs args body) y = λ i. constructor m (modifiers_bare ms (part0 (parts_of y)) i) w (params_bare xs (part3 (parts_of y)) i) (parent_call_bare args (part6 (parts_of y)) i) (stmts_bare body (part7 (parts_of y)) i)
+  member_bare (inner m c) y = λ i. inner m (class_bare c (part0 (parts_of y)) i)
 
-  members_bare : {A : Type 0} (x : Members A) (y : Layout Span) → map_members no_mark (members_at x y) ≡ map_members no_mark x
+  members_bare : (x : Members Bare) (y : Layout Span) → map_members no_mark (members_at x y) ≡ x
   members_bare M.end y = refl
   members_bare (M.more d ds) y = λ i. M.more (member_bare d (part0 (parts_of y)) i) (members_bare ds (part1 (parts_of y)) i)
 
-more_words_bare : {A : Type 0} (x : List (Word A)) (y : Layout Span) → map (map_word no_mark) (more_words_at x y) ≡ map (map_word no_mark) x
+more_words_bare : (x : List (Word Bare)) (y : Layout Span) → map (map_word no_mark) (more_words_at x y) ≡ x
 more_words_bare [] y = refl
-more_words_bare (w ∷ ws) y = λ i. (bare_word w) ∷ (more_words_bare ws (part2 (parts_of y)) i)
+more_words_bare (w ∷ ws) y = λ i. w ∷ (more_words_bare ws (part2 (parts_of y)) i)
 
-package_bare : {A : Type 0} (x : List (Word A)) (y : Layout Span) → map (map_word no_mark) (package_at x y) ≡ map (map_word no_mark) x
+package_bare : (x : List (Word Bare)) (y : Layout Span) → map (map_word no_mark) (package_at x y) ≡ x
 package_bare [] y = refl
-package_bare (w ∷ ws) y = λ i. (bare_word w) ∷ (more_words_bare ws (part2 (parts_of y)) i)
+package_bare (w ∷ ws) y = λ i. w ∷ (more_words_bare ws (part2 (parts_of y)) i)
 
-classes_bare : {A : Type 0} (x : List (Class A)) (y : Layout Span) → map (map_class no_mark) (classes_at x y) ≡ map (map_class no_mark) x
+classes_bare : (x : List (Class Bare)) (y : Layout Span) → map (map_class no_mark) (classes_at x y) ≡ x
 classes_bare [] y = refl
 classes_bare (c ∷ cs) y = λ i. (class_bare c (part0 (parts_of y)) i) ∷ (classes_bare cs (part1 (parts_of y)) i)
 
-pub unit_bare : {A : Type 0} (m : Span) (u : UnitTree A) (ys : Layouts Span) → map_unit no_mark (unit_at m u ys) ≡ map_unit no_mark u
+pub unit_bare : (m : Span) (u : UnitTree Bare) (ys : Layouts Span) → map_unit no_mark (unit_at m u ys) ≡ u
 unit_bare m u ys = λ i. record { mark = tt; package_name = package_bare u.package_name (part0 ys) i; classes = classes_bare u.classes (part1 ys) i }

@@ -10,7 +10,7 @@ use Rattle.jr_grammar.specs.Layout.{Layout, token, node, row, Layouts, done, ◌
 use Rattle.jr_grammar.specs.ExpressionLayout.{word_layout, type_layout, exp_layout, target_layout, args_layout, more_args_layout}
 use Rattle.jr_grammar.specs.StatementLayout.{final_layout, stmt_layout, else_layout, stmts_layout}
 use Rattle.jr_grammar.specs.Bare.{Bare, no_mark, bare_word}
-use Rattle.jr_grammar.specs.Parts.{Tokens, span_of}
+use Rattle.jr_grammar.specs.Stands.{Tokens, span_of}
 use Rattle.jr_grammar.proofs.Layouts.{front, back, lay, mark_of, parts_of, part0, part1, part2, part3, part4, part5, part6, part7}
 use Rattle.jr_grammar.proofs.ExpressionMarks.{word_at, type_at, exp_at, args_at, type_again, exp_again, args_again, type_stays, exp_stays, args_stays, type_bare, exp_bare, args_bare}
 
@@ -91,21 +91,21 @@ mutual
 mutual
   unfolding map_stmt map_else map_stmts
 
-  pub stmt_bare : {A : Type 0} (x : Stmt A) (y : Layout Span) → map_stmt no_mark (stmt_at x y) ≡ map_stmt no_mark x
-  stmt_bare (local m f t w e) y = λ i. local tt f (type_bare t (part1 (parts_of y)) i) (bare_word w) (exp_bare e (part4 (parts_of y)) i)
-  stmt_bare (eval m e) y = λ i. eval tt (exp_bare e (part0 (parts_of y)) i)
-  stmt_bare (branch m c first other) y = λ i. branch tt (exp_bare c (part2 (parts_of y)) i) (stmt_bare first (part4 (parts_of y)) i) (else_bare other (part5 (parts_of y)) i)
-  stmt_bare (loop m c body) y = λ i. loop tt (exp_bare c (part2 (parts_of y)) i) (stmt_bare body (part4 (parts_of y)) i)
+  pub stmt_bare : (x : Stmt Bare) (y : Layout Span) → map_stmt no_mark (stmt_at x y) ≡ x
+  stmt_bare (local m f t w e) y = λ i. local m f (type_bare t (part1 (parts_of y)) i) w (exp_bare e (part4 (parts_of y)) i)
+  stmt_bare (eval m e) y = λ i. eval m (exp_bare e (part0 (parts_of y)) i)
+  stmt_bare (branch m c first other) y = λ i. branch m (exp_bare c (part2 (parts_of y)) i) (stmt_bare first (part4 (parts_of y)) i) (else_bare other (part5 (parts_of y)) i)
+  stmt_bare (loop m c body) y = λ i. loop m (exp_bare c (part2 (parts_of y)) i) (stmt_bare body (part4 (parts_of y)) i)
   stmt_bare (return m None) y = refl
-  stmt_bare (return m (Some e)) y = λ i. return tt (Some (exp_bare e (part1 (parts_of y)) i))
-  stmt_bare (block m body) y = λ i. block tt (stmts_bare body (part1 (parts_of y)) i)
-  stmt_bare (sync m e body) y = λ i. sync tt (exp_bare e (part2 (parts_of y)) i) (stmts_bare body (part5 (parts_of y)) i)
+  stmt_bare (return m (Some e)) y = λ i. return m (Some (exp_bare e (part1 (parts_of y)) i))
+  stmt_bare (block m body) y = λ i. block m (stmts_bare body (part1 (parts_of y)) i)
+  stmt_bare (sync m e body) y = λ i. sync m (exp_bare e (part2 (parts_of y)) i) (stmts_bare body (part5 (parts_of y)) i)
   stmt_bare (empty m) y = refl
 
-  else_bare : {A : Type 0} (x : Else A) (y : Layout Span) → map_else no_mark (else_at x y) ≡ map_else no_mark x
+  else_bare : (x : Else Bare) (y : Layout Span) → map_else no_mark (else_at x y) ≡ x
   else_bare no_else y = refl
   else_bare (otherwise s) y = λ i. otherwise (stmt_bare s (part1 (parts_of y)) i)
 
-  pub stmts_bare : {A : Type 0} (x : Stmts A) (y : Layout Span) → map_stmts no_mark (stmts_at x y) ≡ map_stmts no_mark x
+  pub stmts_bare : (x : Stmts Bare) (y : Layout Span) → map_stmts no_mark (stmts_at x y) ≡ x
   stmts_bare end y = refl
   stmts_bare (more s ss) y = λ i. more (stmt_bare s (part0 (parts_of y)) i) (stmts_bare ss (part1 (parts_of y)) i)
