@@ -4,7 +4,7 @@ use Rattle.std.proofs.lemmas.List.{append-nil, map-append, length-map, take-appe
 use Rattle.std.proofs.Math.Seq.{take-append_seam, drop-append_seam}
 use Rattle.jr_text.specs.declared.spans.Span.{Span}
 use Rattle.jr_grammar.specs.Tokens.{Token, Placed, kinds}
-use Rattle.jr_grammar.specs.Layout.{Layout, token, node, row, Layouts, done, ◌then◌, laid, all_laid, spans_from, all_spans_from}
+use Rattle.jr_grammar.specs.Layout.{Layout, token, node, row, Layouts, done, ◌then◌, laid, all_laid, itself, spans_from, all_spans_from}
 use Rattle.jr_grammar.specs.Stands.{Tokens, span_of, IsAlone, Stands, StandInOrder}
 
 -- ---- other marks
@@ -143,12 +143,12 @@ mutual
 -- ---- marks that are spans tell themselves
 
 mutual
-  pub spans_from-span : (base : ℕ) (x : Layout Span) → spans_from (λ s b. s) base x ≡ x
+  pub spans_from-span : (base : ℕ) (x : Layout Span) → spans_from itself base x ≡ x
   spans_from-span base (token t) = refl
   spans_from-span base (node m parts) = λ i. node m (all_spans_from-span m.from parts i)
   spans_from-span base (row parts) = λ i. row (all_spans_from-span base parts i)
 
-  pub all_spans_from-span : (base : ℕ) (xs : Layouts Span) → all_spans_from (λ s b. s) base xs ≡ xs
+  pub all_spans_from-span : (base : ℕ) (xs : Layouts Span) → all_spans_from itself base xs ≡ xs
   all_spans_from-span base done = refl
   all_spans_from-span base (x then xs) = λ i. spans_from-span base x i then all_spans_from-span base xs i
 

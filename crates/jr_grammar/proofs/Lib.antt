@@ -7,6 +7,8 @@ pub mod ExpressionMarks
 pub mod StatementMarks
 pub mod MemberMarks
 pub mod Marked
+pub mod Lexical
 pub mod Remarked
 pub mod RemarkedShape
+pub mod Reading
 pub mod Cases

@@ -67,3 +67,10 @@ IsExpressionStop tokens n = Readings.IsStop (Exp Bare) toks Shaped tokens n
 
 abbrev pub IsStatementExpressionStop : List Token → ℕ → Type 0
 IsStatementExpressionStop tokens n = Readings.IsStop (Exp Bare) toks ShapedStatement tokens n
+
+-- tokens have one stop, and one longest expression or none
+abbrev pub OneExpressionReading : Type 0
+OneExpressionReading = Readings.OneReading (Exp Bare) toks Shaped
+
+abbrev pub OneStatementExpressionReading : Type 0
+OneStatementExpressionReading = Readings.OneReading (Exp Bare) toks ShapedStatement

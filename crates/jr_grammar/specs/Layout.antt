@@ -27,6 +27,10 @@ abbrev mutual
   all_laid done = []
   all_laid (x then xs) = laid x ++ all_laid xs
 
+-- a mark that is a span tells it, wherever the parent begins
+abbrev pub itself : Span → ℕ → Span
+itself s base = s
+
 -- With marks that tell spans, each node's from where its parent begins: the same with these spans.
 module _ {A : Type 0} (tells : A → ℕ → Span) where
   abbrev mutual

@@ -18,3 +18,4 @@ pub mod Reads
 pub mod Lexical
 pub mod IgnoresMarks
 pub mod MarksAreOne
+pub mod ReadLaws

@@ -9,7 +9,7 @@ use Rattle.jr_grammar.specs.Spelling.{toks}
 use Rattle.jr_grammar.specs.StatementSpelling.{stmt_toks, stmts_toks}
 use Rattle.jr_grammar.specs.MemberSpelling.{member_toks, unit_toks}
 use Rattle.jr_grammar.specs.Bare.{Bare, bare, bare_stmt, bare_stmts, bare_member, bare_unit}
-use Rattle.jr_grammar.specs.Layout.{Layout, Layouts, spans_from, all_spans_from}
+use Rattle.jr_grammar.specs.Layout.{Layout, Layouts, itself, spans_from, all_spans_from}
 use Rattle.jr_grammar.specs.Stands.{Tokens, Stands, StandInOrder}
 use Rattle.jr_grammar.specs.ExpressionLayout.{exp_layout}
 use Rattle.jr_grammar.specs.StatementLayout.{stmt_layout, stmts_layout}
@@ -42,5 +42,5 @@ pub record StandsSpells : Type 0 where
 
 -- A mark that is a span tells itself, wherever the parent begins.
 pub record SpansTellThemselves : Type 0 where
-  pub part : (base : ℕ) (x : Layout Span) → spans_from (λ s b. s) base x ≡ x
-  pub parts : (base : ℕ) (xs : Layouts Span) → all_spans_from (λ s b. s) base xs ≡ xs
+  pub part : (base : ℕ) (x : Layout Span) → spans_from itself base x ≡ x
+  pub parts : (base : ℕ) (xs : Layouts Span) → all_spans_from itself base xs ≡ xs

@@ -93,3 +93,14 @@ OneList = Readings.OneTree (Stmts Bare) stmts_toks StmtsShaped
 
 abbrev pub IsListStop : List Token → ℕ → Type 0
 IsListStop tokens n = Readings.IsStop (Stmts Bare) stmts_toks StmtsShaped tokens n
+
+-- ---- tokens have one stop, and one longest tree or none
+
+abbrev pub OneListReading : Type 0
+OneListReading = Readings.OneReading (Stmts Bare) stmts_toks StmtsShaped
+
+abbrev pub OneMemberReading : Type 0
+OneMemberReading = (nested : Bool) (name : List ℕ) → Readings.OneReading (Member Bare) member_toks (MemberShaped nested name)
+
+abbrev pub OneUnitReading : Type 0
+OneUnitReading = Readings.OneReading (UnitTree Bare) unit_toks UnitShaped
