@@ -14,11 +14,12 @@ use Rattle.jr_grammar.specs.Bare.{Bare, no_mark, bare}
 use Rattle.jr_pexpr.specs.BareMachine.{bare_state, bare_step, bare_whole, bare_run, bare_statement_step, bare_statement_whole, bare_statement_run}
 use Rattle.jr_pexpr.specs.Marked.{join, span_step, span_whole, span_run, span_statement_step, span_statement_whole, span_statement_run}
 use Rattle.jr_grammar.specs.Expressions.{IsMarkedExpression, IsMarkedStatementExpression, OneExpression, OneStatementExpression, HasNoExpression, HasNoStatementExpression, IsLongestExpression, IsLongestStatementExpression}
-use Rattle.jr_pexpr.specs.Expressions.{LengthIsLongest, StatementLengthIsLongest, StopIsExact, StatementStopIsExact, StepsAlike, BuildsMarked, OneMarkedExpression, expression_length, statement_expression_length}
+use Rattle.jr_pexpr.specs.Expressions.{LengthIsLongest, StatementLengthIsLongest, StopIsExact, StatementStopIsExact, StepsAlike, BuildsMarked, OneMarkedExpression, OneMarked, expression_length, statement_expression_length}
 use Rattle.jr_pexpr.proofs.Found.{at_some, both_some, one_tree_of, longest_is, longest_none, stop_is}
 use Rattle.jr_pexpr.proofs.Reading.{start, reads, sound, closes}
 use Rattle.jr_pexpr.proofs.Statements.{statement_reads, statement_sound, statement_closes}
 use Rattle.jr_grammar.specs.IgnoresMarks.{ExpressionIgnoresMarks}
+use Rattle.jr_grammar.specs.MarksAreOne.{MarksAreOne}
 use Rattle.jr_pexpr.proofs.EraseSteps.{step-bare, statement_step-bare, whole-bare, statement_whole-bare}
 use Rattle.jr_pexpr.proofs.Maps.{run_map, stop_map, longest_map}
 use Rattle.jr_pexpr.proofs.Placing.{StandsState}
@@ -167,3 +168,9 @@ builds_marked g = record { expression = builds_expression g; statement = builds_
 pub one_marked_expression : Ignores → OneMarkedExpression
 one_marked_expression g a b h k e =
     one_expression (bare a) (bare b) ((g.shape no_span a).1 h) ((g.shape no_span b).1 k) (g.spelling no_span a ∙ e ∙ sym (g.spelling no_span b))
+
+pub one_marked : Ignores → MarksAreOne → OneMarked
+one_marked g m = record {
+  expression = λ ts a b h k. m.expression a b ts (one_marked_expression g a b h.shaped k.shaped (h.spells ∙ sym k.spells)) h.marks k.marks;
+  statement = λ ts a b h k. m.expression a b ts (one_marked_expression g a b h.shaped.1 k.shaped.1 (h.spells ∙ sym k.spells)) h.marks k.marks;
+}
