@@ -1,14 +1,14 @@
 -- The tokens of an expression's parts are what it spells, and the parts of an expression with other marks are those with other marks.
-use Rattle.std.proofs.Common.{◌≡◌, ℕ, Bool, true, false, List, [], ◌∷◌, ◌++◌, take, drop, Option, Some, None, map, option_map, refl, sym, ap, ◌∙◌}
+use Rattle.std.proofs.Common.{◌≡◌, List, [], ◌∷◌, ◌++◌, Some, None, refl, ◌∙◌}
 use Rattle.std.proofs.lemmas.List.{append-nil}
-use Rattle.jr_lex.specs.declared.items.Keyword.TheVariants.{Int, Boolean, Class, New, Super, This, Null}
+use Rattle.jr_lex.specs.declared.items.Keyword.TheVariants.{Class, New, Super}
 use Rattle.jr_lex.specs.declared.items.Symbol.TheVariants.{OpenParen, CloseParen, Comma, Dot, Equals, PlusPlus, MinusMinus}
 use Rattle.jr_ast.specs.declared.operators.BumpOp.TheVariants.{PreInc, PreDec, PostInc, PostDec}
-use Rattle.jr_ast.specs.Tree.{Word, TypeName, int, boolean, named, Exp, number, truth, null, string, name, field, super_field, this, class_literal, call, super_call, create, paren, cast, unary, bump, binary, assign, compound, Target, no_target, on, Exps, end, more}
-use Rattle.jr_ast.specs.Remarked.{map_word, map_modifier, map_type, map_param, map_exp, map_target, map_exps, map_stmt, map_else, map_stmts, map_class, map_member, map_members, map_unit}
-use Rattle.jr_grammar.specs.Tokens.{Token, word, keyword, integer, text, symbol}
-use Rattle.jr_grammar.specs.Spelling.{unary_symbol, binary_symbol, compound_symbol, truth_keyword, type_toks, toks, target_toks, args_toks, more_toks}
-use Rattle.jr_grammar.specs.Layout.{Layout, token, node, row, Layouts, done, ◌then◌, laid, all_laid}
+use Rattle.jr_ast.specs.Tree.{TypeName, int, boolean, named, Exp, number, truth, null, string, name, field, super_field, this, class_literal, call, super_call, create, paren, cast, unary, bump, binary, assign, compound, Target, no_target, on, Exps, end, more}
+use Rattle.jr_ast.specs.Remarked.{map_word, map_type, map_exp, map_target, map_exps}
+use Rattle.jr_grammar.specs.Tokens.{Token, word, keyword, symbol}
+use Rattle.jr_grammar.specs.Spelling.{unary_symbol, binary_symbol, compound_symbol, type_toks, toks, target_toks, args_toks, more_toks}
+use Rattle.jr_grammar.specs.Layout.{token, node, row, done, ◌then◌, laid}
 use Rattle.jr_grammar.specs.ExpressionLayout.{word_layout, type_layout, exp_layout, target_layout, args_layout, more_args_layout}
 use Rattle.jr_grammar.proofs.Layouts.{map_layout}
 

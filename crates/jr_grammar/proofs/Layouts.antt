@@ -1,6 +1,6 @@
 -- Layouts over tokens: what stands spells the tokens, and stands there in one way.
 use Rattle.std.proofs.Common.{◌≡◌, ℕ, zero, suc, List, [], ◌∷◌, ◌++◌, length, take, drop, refl, sym, ap, ◌∙◌}
-use Rattle.std.proofs.lemmas.List.{append-nil, map-append, length-map, take-append-drop}
+use Rattle.std.proofs.lemmas.List.{map-append, length-map, take-append-drop}
 use Rattle.std.proofs.Math.Seq.{take-append_seam, drop-append_seam}
 use Rattle.jr_text.specs.declared.spans.Span.{Span}
 use Rattle.jr_grammar.specs.Tokens.{Token, Placed, kinds}

@@ -15,10 +15,10 @@ use Rattle.jr_lex.specs.declared.items.TokenKind.TheVariants.{Word, Keyword, Int
 use Rattle.jr_lex.specs.Lexemes.{IsLexeme}
 use Rattle.jr_lex.specs.Lexes.{Lexes}
 use Rattle.jr_lex.specs.Numbers.{IsNumber}
-use Rattle.jr_lex.specs.Places.{ItemsPlaced, IsPlaced}
+use Rattle.jr_lex.specs.Places.{ItemsPlaced}
 use Rattle.jr_lex.specs.Strings.{IsString, is_content, is_escape}
-use Rattle.jr_grammar.specs.Tokens.{Token, token_of, placed_of, tokens_of, kinds, with_placed}
-use Rattle.jr_grammar.specs.Lexical.{IsWritten, IsLexical, AreLexical}
+use Rattle.jr_grammar.specs.Tokens.{Token, tokens_of}
+use Rattle.jr_grammar.specs.Lexical.{IsWritten, AreLexical}
 
 -- ---- the bytes of a string between its quotation marks
 
@@ -74,7 +74,6 @@ written bytes at u c s =
 greatest : (text : List ℕ) (n : ℕ) → IsNumber text n → n ≤ 2147483648
 greatest [] n h = absurd h
 greatest (d ∷ ds) n h = h.4
-
 
 item_lexical : (bytes : List ℕ) (kind : ItemKind) (at : Span) (rest : List Token) → IsUtf8 bytes → CanCut bytes at → IsLexeme kind (chars (slice_range bytes at.from at.to)) → AreLexical rest
     → (ps : List Item) → tokens_of bytes ps ≡ rest → AreLexical (tokens_of bytes ((record { kind = kind; span = at }) ∷ ps))

@@ -5,9 +5,6 @@ use Rattle.jr_ast.specs.Tree.{Exp}
 use Rattle.jr_ast.specs.StatementTree.{Stmt, Stmts}
 use Rattle.jr_ast.specs.MemberTree.{Member, Unit as UnitTree}
 use Rattle.jr_grammar.specs.Tokens.{kinds}
-use Rattle.jr_grammar.specs.Spelling.{toks}
-use Rattle.jr_grammar.specs.StatementSpelling.{stmt_toks, stmts_toks}
-use Rattle.jr_grammar.specs.MemberSpelling.{member_toks, unit_toks}
 use Rattle.jr_grammar.specs.Bare.{Bare, no_mark, bare, bare_stmt, bare_stmts, bare_member, bare_unit}
 use Rattle.jr_grammar.specs.Layout.{Layout, Layouts, laid}
 use Rattle.jr_grammar.specs.Stands.{Tokens, Stands, StandInOrder}
@@ -15,7 +12,7 @@ use Rattle.jr_grammar.specs.ExpressionLayout.{exp_layout}
 use Rattle.jr_grammar.specs.StatementLayout.{stmt_layout, stmts_layout}
 use Rattle.jr_grammar.specs.MemberLayout.{member_layout, unit_layouts}
 use Rattle.jr_grammar.specs.MarksAreOne.{MarksAreOne, MarksAreThere, StandsSpells, SpansTellThemselves}
-use Rattle.jr_grammar.proofs.Layouts.{map_layout, map_layouts, lay, lay_all, lay-map, lay_all-map, stands_so, stand_so, stands_laid, stand_laid, lay_stands, lay_stand, spans_from-span, all_spans_from-span}
+use Rattle.jr_grammar.proofs.Layouts.{map_layout, lay, lay_all, lay-map, lay_all-map, stands_so, stand_so, stands_laid, stand_laid, lay_stands, lay_stand, spans_from-span, all_spans_from-span}
 use Rattle.jr_grammar.proofs.ExpressionLayouts.{exp_laid, exp_layout-map}
 use Rattle.jr_grammar.proofs.StatementLayouts.{stmt_laid, stmts_laid, stmt_layout-map, stmts_layout-map}
 use Rattle.jr_grammar.proofs.MemberLayouts.{member_laid, unit_laid, member_layout-map, unit_layouts-map}

@@ -1,16 +1,15 @@
 -- The same of members, classes and units.
-use Rattle.std.proofs.Common.{◌≡◌, ℕ, Bool, true, false, List, [], ◌∷◌, ◌++◌, take, drop, Option, Some, None, map, option_map, refl, sym, ap, ◌∙◌}
-use Rattle.jr_lex.specs.declared.items.Keyword.TheVariants.{Class as ClassWord, Extends, Package, Super, Void}
+use Rattle.std.proofs.Common.{◌≡◌, List, [], ◌∷◌, ◌++◌, Option, Some, None, map, option_map, refl}
+use Rattle.jr_lex.specs.declared.items.Keyword.TheVariants.{Class as ClassWord, Extends, Package, Super}
 use Rattle.jr_lex.specs.declared.items.Symbol.TheVariants.{OpenParen, CloseParen, OpenBrace, CloseBrace, Semicolon, Comma, Dot, Equals}
 use Rattle.jr_ast.specs.Tree.{Word, TypeName, Exp, Exps}
 use Rattle.jr_ast.specs.MemberTree as M
 use Rattle.jr_ast.specs.MemberTree.{Modifier, Param, Class, class, Member, field, method, constructor, inner, Members, Unit as UnitTree}
-use Rattle.jr_ast.specs.Remarked.{map_word, map_modifier, map_type, map_param, map_exp, map_target, map_exps, map_stmt, map_else, map_stmts, map_class, map_member, map_members, map_unit}
-use Rattle.jr_grammar.specs.Tokens.{Token, word, keyword, integer, text, symbol}
+use Rattle.jr_ast.specs.Remarked.{map_word, map_modifier, map_type, map_param, map_exp, map_exps, map_class, map_member, map_members, map_unit}
+use Rattle.jr_grammar.specs.Tokens.{word, keyword, symbol}
 use Rattle.jr_grammar.specs.MemberSpelling.{modifier_keyword, modifiers_toks, param_toks, more_params_toks, params_toks, init_toks, result_toks, super_toks, extends_toks, class_toks, member_toks, members_toks, more_words_toks, package_toks, classes_toks, unit_toks}
-use Rattle.jr_grammar.specs.Layout.{Layout, token, node, row, Layouts, done, ◌then◌, laid, all_laid}
+use Rattle.jr_grammar.specs.Layout.{token, node, row, done, ◌then◌, laid, all_laid}
 use Rattle.jr_grammar.specs.ExpressionLayout.{word_layout}
-use Rattle.jr_grammar.specs.StatementLayout.{final_layout}
 use Rattle.jr_grammar.specs.MemberLayout.{modifier_layout, modifiers_layout, param_layout, more_params_layout, params_layout, init_layout, result_layout, parent_call_layout, extends_layout, class_layout, member_layout, members_layout, more_words_layout, package_layout, classes_layout, unit_layouts}
 use Rattle.jr_grammar.proofs.Layouts.{map_layout, map_layouts}
 use Rattle.jr_grammar.proofs.ExpressionLayouts.{ends, type_laid, exp_laid, args_laid, type_layout-map, exp_layout-map, args_layout-map}

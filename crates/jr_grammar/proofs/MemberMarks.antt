@@ -1,19 +1,18 @@
 -- A member, class or unit with the marks of its parts.
-use Rattle.std.proofs.Common.{◌≡◌, ℕ, Bool, true, false, List, [], ◌∷◌, ◌++◌, take, drop, Option, Some, None, map, option_map, refl, sym, ap, ◌∙◌}
+use Rattle.std.proofs.Common.{◌≡◌, List, [], ◌∷◌, drop, Option, Some, None, map, option_map, refl}
 use Rattle.jr_text.specs.declared.spans.Span.{Span}
-use Rattle.jr_lex.specs.declared.items.Keyword.TheVariants.{Class as ClassWord, Extends, Package, Super, Void}
+use Rattle.jr_lex.specs.declared.items.Keyword.TheVariants.{Class as ClassWord, Extends, Package, Super}
 use Rattle.jr_lex.specs.declared.items.Symbol.TheVariants.{OpenParen, CloseParen, OpenBrace, CloseBrace, Semicolon, Comma, Dot, Equals}
 use Rattle.jr_ast.specs.Tree.{Word, TypeName, Exp, Exps}
 use Rattle.jr_ast.specs.MemberTree as M
 use Rattle.jr_ast.specs.MemberTree.{Modifier, Param, Class, class, Member, field, method, constructor, inner, Members, Unit as UnitTree}
-use Rattle.jr_ast.specs.Remarked.{map_word, map_modifier, map_type, map_param, map_exp, map_target, map_exps, map_stmt, map_else, map_stmts, map_class, map_member, map_members, map_unit}
-use Rattle.jr_grammar.specs.Tokens.{Token, word, keyword, integer, text, symbol}
-use Rattle.jr_grammar.specs.MemberSpelling.{modifier_keyword}
-use Rattle.jr_grammar.specs.Layout.{Layout, token, node, row, Layouts, done, ◌then◌, laid, all_laid}
-use Rattle.jr_grammar.specs.ExpressionLayout.{word_layout, type_layout, exp_layout, target_layout, args_layout, more_args_layout}
+use Rattle.jr_ast.specs.Remarked.{map_word, map_modifier, map_type, map_param, map_exp, map_exps, map_class, map_member, map_members, map_unit}
+use Rattle.jr_grammar.specs.Tokens.{keyword, symbol}
+use Rattle.jr_grammar.specs.Layout.{Layout, token, node, row, Layouts, done, ◌then◌}
+use Rattle.jr_grammar.specs.ExpressionLayout.{word_layout, type_layout, exp_layout, args_layout}
 use Rattle.jr_grammar.specs.StatementLayout.{final_layout, stmts_layout}
 use Rattle.jr_grammar.specs.MemberLayout.{modifier_layout, modifiers_layout, param_layout, more_params_layout, params_layout, init_layout, result_layout, parent_call_layout, extends_layout, class_layout, member_layout, members_layout, more_words_layout, package_layout, classes_layout, unit_layouts}
-use Rattle.jr_grammar.specs.Bare.{Bare, no_mark, bare_word}
+use Rattle.jr_grammar.specs.Bare.{Bare, no_mark}
 use Rattle.jr_grammar.specs.Stands.{Tokens, span_of}
 use Rattle.jr_grammar.proofs.Layouts.{front, back, lay, lay_all, mark_of, parts_of, part0, part1, part2, part3, part4, part5, part6, part7}
 use Rattle.jr_grammar.proofs.ExpressionMarks.{word_at, type_at, exp_at, args_at, type_again, exp_again, args_again, type_stays, exp_stays, args_stays, type_bare, exp_bare, args_bare}

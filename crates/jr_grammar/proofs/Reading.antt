@@ -1,9 +1,6 @@
 -- What holds of each tree that a text reads as.
-use Rattle.std.proofs.Common.{◌≡◌, ℕ, Bool, List, refl, sym, ap, subst, ◌∙◌, length}
+use Rattle.std.proofs.Common.{◌≡◌, ℕ, List, refl, sym, ap, subst, ◌∙◌, length}
 use Rattle.jr_text.specs.declared.spans.Span.{Span}
-use Rattle.jr_ast.specs.Tree.{Exp}
-use Rattle.jr_ast.specs.StatementTree.{Stmt}
-use Rattle.jr_ast.specs.MemberTree.{Member, Unit as UnitTree}
 use Rattle.jr_lex.specs.declared.items.Item.{Item}
 use Rattle.jr_lex.specs.Lexes.{Lexes}
 use Rattle.jr_lex.specs.Places.{ItemsPlaced}
@@ -14,7 +11,7 @@ use Rattle.jr_grammar.specs.MemberSpelling.{member_toks, unit_toks}
 use Rattle.jr_grammar.specs.Shape.{Shaped}
 use Rattle.jr_grammar.specs.StatementShape.{StmtShaped}
 use Rattle.jr_grammar.specs.MemberShape.{MemberShaped, UnitShaped}
-use Rattle.jr_grammar.specs.Bare.{Bare, no_mark, bare, bare_stmt, bare_member, bare_unit}
+use Rattle.jr_grammar.specs.Bare.{Bare, no_mark}
 use Rattle.jr_grammar.specs.Layout.{Layout, Layouts, itself, spans_from, all_spans_from}
 use Rattle.jr_grammar.specs.Stands.{Tokens, Stands, StandInOrder}
 use Rattle.jr_grammar.specs.ExpressionLayout.{exp_layout}

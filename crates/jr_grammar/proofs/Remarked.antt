@@ -1,13 +1,13 @@
 -- What an expression spells, and its shape, don't depend on its marks.
-use Rattle.std.proofs.Common.{◌≡◌, ◌↔◌, ◌<◌, ◌≤◌, Bool, false, List, [], ◌∷◌, ◌++◌, Option, Some, None, option_map, refl, sym, subst, ap, ◌∙◌}
-use Rattle.jr_ast.specs.Tree.{Word, TypeName, int, boolean, named, Exp, number, truth, null, string, name, field, super_field, this, class_literal, call, super_call, create, paren, cast, unary, bump, binary, assign, compound, Target, no_target, on, Exps, end, more}
+use Rattle.std.proofs.Common.{◌≡◌, ◌↔◌, ◌<◌, ◌≤◌, Bool, false, refl, sym, subst, ap, ◌∙◌}
+use Rattle.jr_ast.specs.Tree.{TypeName, named, Exp, number, name, field, super_field, class_literal, call, super_call, create, paren, cast, unary, bump, binary, assign, compound, Target, no_target, on, Exps, end, more}
 use Rattle.jr_grammar.specs.Spelling.{toks}
 use Rattle.jr_grammar.specs.Layout.{laid}
 use Rattle.jr_grammar.specs.ExpressionLayout.{exp_layout}
 use Rattle.jr_grammar.proofs.Layouts.{laid-map}
 use Rattle.jr_grammar.proofs.ExpressionLayouts.{exp_laid, exp_layout-map}
 use Rattle.jr_grammar.specs.Shape.{rank_of, level_of, IsTarget, IsCompound, IsNamed, ShapedBehind, ShapedTarget, AllShaped, IsStatementForm, is_minus, behind_of}
-use Rattle.jr_ast.specs.Remarked.{map_word, map_type, map_exp, map_target, map_exps}
+use Rattle.jr_ast.specs.Remarked.{map_type, map_exp, map_target, map_exps}
 use Rattle.jr_grammar.specs.IgnoresMarks.{ExpressionIgnoresMarks}
 
 -- ---- spelling

@@ -1,12 +1,12 @@
 -- The same of statements.
-use Rattle.std.proofs.Common.{◌≡◌, ℕ, Bool, true, false, List, [], ◌∷◌, ◌++◌, take, drop, Option, Some, None, map, option_map, refl, sym, ap, ◌∙◌}
-use Rattle.jr_lex.specs.declared.items.Keyword.TheVariants.{Final, If, Else as ElseWord, While, Return, Synchronized}
+use Rattle.std.proofs.Common.{◌≡◌, Bool, true, false, [], ◌∷◌, ◌++◌, Some, None, refl}
+use Rattle.jr_lex.specs.declared.items.Keyword.TheVariants.{If, Else as ElseWord, While, Return, Synchronized}
 use Rattle.jr_lex.specs.declared.items.Symbol.TheVariants.{OpenParen, CloseParen, OpenBrace, CloseBrace, Semicolon, Equals}
 use Rattle.jr_ast.specs.StatementTree.{Stmt, local, eval, branch, loop, return, block, sync, empty, Else, no_else, otherwise, Stmts, end, more}
-use Rattle.jr_ast.specs.Remarked.{map_word, map_modifier, map_type, map_param, map_exp, map_target, map_exps, map_stmt, map_else, map_stmts, map_class, map_member, map_members, map_unit}
-use Rattle.jr_grammar.specs.Tokens.{Token, word, keyword, integer, text, symbol}
+use Rattle.jr_ast.specs.Remarked.{map_word, map_stmt, map_else, map_stmts}
+use Rattle.jr_grammar.specs.Tokens.{word, keyword, symbol}
 use Rattle.jr_grammar.specs.StatementSpelling.{final_toks, stmt_toks, else_toks, stmts_toks}
-use Rattle.jr_grammar.specs.Layout.{Layout, token, node, row, Layouts, done, ◌then◌, laid, all_laid}
+use Rattle.jr_grammar.specs.Layout.{token, node, row, done, ◌then◌, laid}
 use Rattle.jr_grammar.specs.ExpressionLayout.{word_layout}
 use Rattle.jr_grammar.specs.StatementLayout.{final_layout, stmt_layout, else_layout, stmts_layout}
 use Rattle.jr_grammar.proofs.Layouts.{map_layout}

@@ -1,18 +1,18 @@
 -- A statement with the marks of its parts.
-use Rattle.std.proofs.Common.{◌≡◌, ℕ, Bool, true, false, List, [], ◌∷◌, ◌++◌, take, drop, Option, Some, None, map, option_map, refl, sym, ap, ◌∙◌}
+use Rattle.std.proofs.Common.{◌≡◌, Bool, true, false, drop, Some, None, refl}
 use Rattle.jr_text.specs.declared.spans.Span.{Span}
-use Rattle.jr_lex.specs.declared.items.Keyword.TheVariants.{Final, If, Else as ElseWord, While, Return, Synchronized}
+use Rattle.jr_lex.specs.declared.items.Keyword.TheVariants.{If, Else as ElseWord, While, Return, Synchronized}
 use Rattle.jr_lex.specs.declared.items.Symbol.TheVariants.{OpenParen, CloseParen, OpenBrace, CloseBrace, Semicolon, Equals}
 use Rattle.jr_ast.specs.StatementTree.{Stmt, local, eval, branch, loop, return, block, sync, empty, Else, no_else, otherwise, Stmts, end, more}
-use Rattle.jr_ast.specs.Remarked.{map_word, map_modifier, map_type, map_param, map_exp, map_target, map_exps, map_stmt, map_else, map_stmts, map_class, map_member, map_members, map_unit}
-use Rattle.jr_grammar.specs.Tokens.{Token, word, keyword, integer, text, symbol}
-use Rattle.jr_grammar.specs.Layout.{Layout, token, node, row, Layouts, done, ◌then◌, laid, all_laid}
-use Rattle.jr_grammar.specs.ExpressionLayout.{word_layout, type_layout, exp_layout, target_layout, args_layout, more_args_layout}
+use Rattle.jr_ast.specs.Remarked.{map_stmt, map_else, map_stmts}
+use Rattle.jr_grammar.specs.Tokens.{keyword, symbol}
+use Rattle.jr_grammar.specs.Layout.{Layout, token, node, row, done, ◌then◌}
+use Rattle.jr_grammar.specs.ExpressionLayout.{word_layout, type_layout, exp_layout}
 use Rattle.jr_grammar.specs.StatementLayout.{final_layout, stmt_layout, else_layout, stmts_layout}
-use Rattle.jr_grammar.specs.Bare.{Bare, no_mark, bare_word}
+use Rattle.jr_grammar.specs.Bare.{Bare, no_mark}
 use Rattle.jr_grammar.specs.Stands.{Tokens, span_of}
-use Rattle.jr_grammar.proofs.Layouts.{front, back, lay, mark_of, parts_of, part0, part1, part2, part3, part4, part5, part6, part7}
-use Rattle.jr_grammar.proofs.ExpressionMarks.{word_at, type_at, exp_at, args_at, type_again, exp_again, args_again, type_stays, exp_stays, args_stays, type_bare, exp_bare, args_bare}
+use Rattle.jr_grammar.proofs.Layouts.{front, back, lay, mark_of, parts_of, part0, part1, part2, part4, part5}
+use Rattle.jr_grammar.proofs.ExpressionMarks.{word_at, type_at, exp_at, type_again, exp_again, type_stays, exp_stays, type_bare, exp_bare}
 
 -- ---- its marks are those of the parts
 

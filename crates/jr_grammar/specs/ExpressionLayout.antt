@@ -1,5 +1,5 @@
 -- The parts of names, types and expressions (JLS 6.5, 4.1, 15).
-use Rattle.std.specs.Prelude.{Option, Some, None}
+use Rattle.std.specs.Prelude.{Some, None}
 use Rattle.jr_lex.specs.declared.items.Keyword.TheVariants.{Int, Boolean, Class, New, Super, This, Null}
 use Rattle.jr_lex.specs.declared.items.Symbol.TheVariants.{OpenParen, CloseParen, Comma, Dot, Equals, PlusPlus, MinusMinus}
 use Rattle.jr_ast.specs.declared.operators.BumpOp.TheVariants.{PreInc, PreDec, PostInc, PostDec}
@@ -28,11 +28,19 @@ abbrev mutual
   exp_layout (super_field m w) = node m (token (keyword Super) then token (symbol Dot) then word_layout w then done)
   exp_layout (this m) = node m (token (keyword This) then done)
   exp_layout (class_literal m t) = node m (type_layout t then token (symbol Dot) then token (keyword Class) then done)
-  exp_layout (call m t w es) = node m (target_layout t then word_layout w then token (symbol OpenParen) then args_layout es then token (symbol CloseParen) then done)
-  exp_layout (super_call m w es) = node m (token (keyword Super) then token (symbol Dot) then word_layout w then token (symbol OpenParen) then args_layout es then token (symbol CloseParen) then done)
-  exp_layout (create m t es) = node m (token (keyword New) then type_layout t then token (symbol OpenParen) then args_layout es then token (symbol CloseParen) then done)
+  exp_layout (call m t w es) =
+      node m (target_layout t then word_layout w then token (symbol OpenParen) then args_layout es
+      then token (symbol CloseParen) then done)
+  exp_layout (super_call m w es) =
+      node m (token (keyword Super) then token (symbol Dot) then word_layout w then token (symbol OpenParen)
+      then args_layout es then token (symbol CloseParen) then done)
+  exp_layout (create m t es) =
+      node m (token (keyword New) then type_layout t then token (symbol OpenParen) then args_layout es
+      then token (symbol CloseParen) then done)
   exp_layout (paren m e) = node m (token (symbol OpenParen) then exp_layout e then token (symbol CloseParen) then done)
-  exp_layout (cast m t e) = node m (token (symbol OpenParen) then type_layout t then token (symbol CloseParen) then exp_layout e then done)
+  exp_layout (cast m t e) =
+      node m (token (symbol OpenParen) then type_layout t then token (symbol CloseParen) then exp_layout e
+      then done)
   exp_layout (unary m o e) = node m (token (symbol (unary_symbol o)) then exp_layout e then done)
   exp_layout (bump m PreInc e) = node m (token (symbol PlusPlus) then exp_layout e then done)
   exp_layout (bump m PreDec e) = node m (token (symbol MinusMinus) then exp_layout e then done)
@@ -40,7 +48,8 @@ abbrev mutual
   exp_layout (bump m PostDec e) = node m (exp_layout e then token (symbol MinusMinus) then done)
   exp_layout (binary m o l r) = node m (exp_layout l then token (symbol (binary_symbol o)) then exp_layout r then done)
   exp_layout (assign m t e) = node m (exp_layout t then token (symbol Equals) then exp_layout e then done)
-  exp_layout (compound m o t e) = node m (exp_layout t then token (symbol (compound_symbol o)) then exp_layout e then done)
+  exp_layout (compound m o t e) =
+      node m (exp_layout t then token (symbol (compound_symbol o)) then exp_layout e then done)
 
   -- what a call is made on, with its dot
   pub target_layout : {A : Type 0} → Target A → Layout A

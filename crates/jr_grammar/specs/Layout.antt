@@ -1,10 +1,9 @@
 -- What a tree spells, part by part: the parts of each node, one behind the other, are tokens of its own and further nodes.
-use Rattle.std.specs.Prelude.{ℕ, List, [], ◌∷◌, ◌++◌, length}
+use Rattle.std.specs.Prelude.{ℕ, List, [], ◌∷◌, ◌++◌}
 use Rattle.jr_text.specs.declared.spans.Span.{Span}
 use Rattle.jr_grammar.specs.Tokens.{Token}
 
 infixr 30 ◌then◌
-
 mutual
   pub data Layout (A : Type 0) : Type 0 where
     token : (which : Token) → Layout A

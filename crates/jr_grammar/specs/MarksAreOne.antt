@@ -1,5 +1,5 @@
 -- A tree stands over tokens with one choice of marks, and each tree that spells them with some.
-use Rattle.std.specs.Prelude.{◌≡◌, ℕ, Bool, List}
+use Rattle.std.specs.Prelude.{◌≡◌, ℕ}
 use Rattle.jr_text.specs.declared.spans.Span.{Span}
 use Rattle.jr_ast.specs.Tree.{Exp}
 use Rattle.jr_ast.specs.StatementTree.{Stmt, Stmts}

@@ -44,7 +44,9 @@ result_layout (Some t) = row (type_layout t then done)
 -- the call of a constructor of the superclass (JLS 8.8.7.1)
 abbrev pub parent_call_layout : {A : Type 0} → Option (Exps A) → Layout A
 parent_call_layout None = row done
-parent_call_layout (Some es) = row (token (keyword Super) then token (symbol OpenParen) then args_layout es then token (symbol CloseParen) then token (symbol Semicolon) then done)
+parent_call_layout (Some es) =
+    row (token (keyword Super) then token (symbol OpenParen) then args_layout es then token (symbol CloseParen)
+    then token (symbol Semicolon) then done)
 
 -- JLS 8.1.4
 abbrev pub extends_layout : {A : Type 0} → Option (TypeName A) → Layout A
@@ -53,12 +55,22 @@ extends_layout (Some t) = row (token (keyword Extends) then type_layout t then d
 
 abbrev mutual
   pub class_layout : {A : Type 0} → Class A → Layout A
-  class_layout (class m ms w parent all) = node m (modifiers_layout ms then token (keyword ClassWord) then word_layout w then extends_layout parent then token (symbol OpenBrace) then members_layout all then token (symbol CloseBrace) then done)
+  class_layout (class m ms w parent all) =
+      node m (modifiers_layout ms then token (keyword ClassWord) then word_layout w then extends_layout parent
+      then token (symbol OpenBrace) then members_layout all then token (symbol CloseBrace) then done)
 
   pub member_layout : {A : Type 0} → Member A → Layout A
-  member_layout (field m ms t w init) = node m (modifiers_layout ms then type_layout t then word_layout w then init_layout init then token (symbol Semicolon) then done)
-  member_layout (method m ms t w xs body) = node m (modifiers_layout ms then result_layout t then word_layout w then token (symbol OpenParen) then params_layout xs then token (symbol CloseParen) then token (symbol OpenBrace) then stmts_layout body then token (symbol CloseBrace) then done)
-  member_layout (constructor m ms w xs args body) = node m (modifiers_layout ms then word_layout w then token (symbol OpenParen) then params_layout xs then token (symbol CloseParen) then token (symbol OpenBrace) then parent_call_layout args then stmts_layout body then token (symbol CloseBrace) then done)
+  member_layout (field m ms t w init) =
+      node m (modifiers_layout ms then type_layout t then word_layout w then init_layout init
+      then token (symbol Semicolon) then done)
+  member_layout (method m ms t w xs body) =
+      node m (modifiers_layout ms then result_layout t then word_layout w then token (symbol OpenParen)
+      then params_layout xs then token (symbol CloseParen) then token (symbol OpenBrace) then stmts_layout body
+      then token (symbol CloseBrace) then done)
+  member_layout (constructor m ms w xs args body) =
+      node m (modifiers_layout ms then word_layout w then token (symbol OpenParen) then params_layout xs
+      then token (symbol CloseParen) then token (symbol OpenBrace) then parent_call_layout args
+      then stmts_layout body then token (symbol CloseBrace) then done)
   member_layout (inner m c) = node m (class_layout c then done)
 
   pub members_layout : {A : Type 0} → Members A → Layout A
@@ -75,7 +87,9 @@ more_words_layout (w ∷ ws) = row (token (symbol Dot) then word_layout w then m
 -- a package's declaration; no words stand for none (JLS 7.4)
 abbrev pub package_layout : {A : Type 0} → List (Word A) → Layout A
 package_layout [] = row done
-package_layout (w ∷ ws) = row (token (keyword Package) then word_layout w then more_words_layout ws then token (symbol Semicolon) then done)
+package_layout (w ∷ ws) =
+    row (token (keyword Package) then word_layout w then more_words_layout ws then token (symbol Semicolon)
+    then done)
 
 abbrev pub classes_layout : {A : Type 0} → List (Class A) → Layout A
 classes_layout [] = row done

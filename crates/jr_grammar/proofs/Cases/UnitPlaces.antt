@@ -1,7 +1,7 @@
 -- Places: each mark is the span of its node's tokens, and a unit's is the whole file. The marks are those that javac's parser gives
 -- the nodes; of a name and of a modifier, for which it has none, they are where the word stands.
 -- In a case's comment `·` stands for the ends of a text that begins or ends with a blank.
-use Rattle.std.proofs.Common.{ℕ, ◌-◌, List, [], ◌∷◌, Some, None, true, false, refl, ap, arith, take, drop, length}
+use Rattle.std.proofs.Common.{ℕ, List, [], ◌∷◌, Some, None, true, false, refl, ap, arith, length}
 use Rattle.std.specs.Prelude.{codes}
 use Rattle.jr_text.specs.declared.spans.Span.{Span}
 use Rattle.jr_lex.specs.declared.items.Item.{Item}
