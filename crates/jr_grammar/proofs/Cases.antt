@@ -4,6 +4,7 @@ pub mod Operators
 pub mod Primaries
 pub mod StatementExpressions
 pub mod SideConditions
+pub mod Places
 pub mod Parts
 pub mod Statements
 pub mod Classes
