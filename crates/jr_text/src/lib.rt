@@ -1,7 +1,8 @@
 //! Source texts, places and spans in them, and lists of edits.
 //!
-//! A [`Text`] is seen by contracts as the list of its bytes, an [`EditList`] as the list of its entries in order.
-//! What the edits make of a text is the splice of `specs/Splices.antt`, and `splice_laws` has its laws.
+//! A [`Text`] is seen by contracts as the list of its bytes, an [`EditList`] as the list of its
+//! entries in order. What the edits make of a text is the splice of `specs/Splices.antt`, and
+//! `splice_laws` has its laws.
 #![tactic(auto)]
 
 mod edit_walks;
