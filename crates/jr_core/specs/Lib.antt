@@ -1,0 +1,14 @@
+pub mod Keys
+pub mod Values
+pub mod Actions
+pub mod Rows
+pub mod Fitting
+pub mod Core
+pub mod Arithmetic
+pub mod Evaluation
+pub mod Reordering
+pub mod Running
+pub mod Facts
+pub mod Translation
+pub mod StatementTranslation
+pub mod MemberTranslation

@@ -1,0 +1,2 @@
+//! What code does: resolved code, its runs, and when the runs of two programs are alike. It has definitions and laws alone.
+#![tactic(auto)]
