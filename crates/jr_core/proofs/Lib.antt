@@ -4,3 +4,13 @@ mod OrderCases
 mod StatementCases
 mod ObjectCases
 mod TranslationCases
+pub mod Locals
+pub mod Undoing
+pub mod ImageValues
+pub mod Matching
+pub mod ImageExps
+pub mod ImageStmts
+pub mod ImagePrograms
+pub mod Halves
+pub mod Renaming
+pub mod IntRange

@@ -12,3 +12,12 @@ pub mod Facts
 pub mod Translation
 pub mod StatementTranslation
 pub mod MemberTranslation
+pub mod KeyMaps
+pub mod Starting
+pub mod Alike
+pub mod Standing
+pub mod Images
+pub mod Pairs
+pub mod Typing
+pub mod TypedRuns
+pub mod Laws
