@@ -4,6 +4,7 @@
 mod classes;
 mod copies;
 mod decls;
+mod entries;
 mod facts;
 mod found;
 mod keys;
@@ -15,6 +16,7 @@ mod types;
 
 pub use classes::ClassKey;
 pub use decls::{Decl, LocalKey, MemberKey};
+pub use entries::{Entry, Kind, Kinds, Sort};
 pub use facts::Facts;
 pub use found::Found;
 pub use keys::{CtorKey, FieldKey, MethodKey};
