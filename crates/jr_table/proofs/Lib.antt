@@ -1,2 +1,3 @@
 pub mod SameArms
 pub mod SameLists
+pub mod FirstLaws

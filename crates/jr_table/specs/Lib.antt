@@ -17,3 +17,5 @@ pub mod Conditions
 pub mod Members
 pub mod Keyed
 pub mod Looking
+pub mod Sought
+pub mod Keeps

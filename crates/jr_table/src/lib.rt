@@ -9,8 +9,11 @@ mod facts;
 mod found;
 mod keys;
 mod kinds;
+mod numbering;
 mod rows;
 mod rules;
+mod sought;
+mod tables;
 mod type_lists;
 mod types;
 
@@ -23,5 +26,6 @@ pub use keys::{CtorKey, FieldKey, MethodKey};
 pub use kinds::DeclKind;
 pub use rows::{Mods, Row};
 pub use rules::Rule;
+pub use tables::Table;
 pub use type_lists::Tys;
 pub use types::Ty;
