@@ -9,3 +9,13 @@ pub mod KeyView
 pub mod RowView
 pub mod FoundView
 pub mod Names
+pub mod Firsts
+pub mod Entries
+pub mod Chains
+pub mod Prelude
+pub mod Conditions
+pub mod Members
+pub mod Keyed
+pub mod Looking
+pub mod Sought
+pub mod Keeps
