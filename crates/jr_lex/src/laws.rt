@@ -6,6 +6,7 @@ ghost use Rattle.jr_lex.specs.declared.items.Item.{Item};
 ghost use Rattle.jr_lex.specs.declared.faults.LexFault.{LexFault};
 ghost use Rattle.jr_lex.specs.Lexes.{Lexes, IsFirstFault};
 ghost use Rattle.jr_lex.specs.Places.{ItemsPlaced, LastPlaced};
+ghost use Rattle.jr_lex.specs.Beside.{PiecesLex};
 ghost use Rattle.jr_lex.specs.Replacing.{WordReplaced, WordSwapped, WordQualified};
 
 /// A text has items, all of them, or a first fault, and never both: each text has one answer.
@@ -36,4 +37,11 @@ pub fn words_may_be_replaced()
 pub fn items_are_placed()
     ensures items { ItemsPlaced }
     ensures last { LastPlaced }
+{}
+
+/// Lexemes one directly behind the other are cut again as they were put together, if each may stand beside the one in
+/// front of it: neither two words nor two numbers, no `.` behind a number nor a number behind a `.`, and no symbol
+/// behind one that would go on with it.
+pub fn pieces_lex()
+    ensures { PiecesLex }
 {}
