@@ -1,6 +1,6 @@
-ghost use Rattle.std.specs.Prelude.{◌≡◌, ℕ, ◌^◌, ◌<◌, ◌≤◌, List, Option, None, length, IfOk};
+ghost use Rattle.std.specs.Prelude.{◌≡◌, ℕ, ◌^◌, ◌<◌, ◌≤◌, List, Option, None, length, IfOk, IfSome};
 ghost use Rattle.jr_shelf.specs.Counts.{faults_after_write};
-ghost use Rattle.jr_shelf.specs.Fetch.{faults_after};
+ghost use Rattle.jr_shelf.specs.Fetch.{OnTooLong, faults_after};
 ghost use Rattle.jr_shelf.specs.Limits.{file_limit};
 ghost use Rattle.jr_shelf.specs.Shelf.{Files as HeldFiles};
 
@@ -39,7 +39,7 @@ impl<R: Files + Drop> DirShelf<R> {
 
 impl<R: Files + Drop> Shelf for DirShelf<R> {
     ghost use Rattle.jr_shelf.specs.Counts.{faults_after_write, served_after};
-    ghost use Rattle.jr_shelf.specs.Fetch.{OnMemory, faults_after};
+    ghost use Rattle.jr_shelf.specs.Fetch.{OnMemory, OnTooLong, faults_after};
 
     ghost holds = { λ _. None };
 
@@ -52,6 +52,9 @@ impl<R: Files + Drop> Shelf for DirShelf<R> {
     fn fetch(&mut self, alloc: Global, name: &str) -> Result<Vec<u8>, FetchFault>
         ensures within { IfOk result (λ bytes. length bytes.items ≤ file_limit) }
         ensures memory { OnMemory result (self.new ≡ self.old) }
+        // Of a file that was opened, whose bytes are too many where it tells them.
+        ensures too_long { OnTooLong result ((file : R.File)
+            × IfSome (R.File.remaining file) (λ left. file_limit < length left)) }
 
         // Each count rises by one, and only at its answer.
         ensures faults { self.new.fault_count ≡ faults_after result self.old.fault_count }
@@ -91,7 +94,6 @@ impl<R: Files + Drop> Shelf for DirShelf<R> {
     ghost served_fit = { λ shelf. shelf.served_count_fits };
 }
 
-/// `TooLong` comes only of a file that was opened.
 fn read_file<R: Files>(
     rt: &R,
     alloc: Global,
@@ -99,6 +101,9 @@ fn read_file<R: Files>(
     faults: &mut u64,
 ) -> Result<Vec<u8>, FetchFault>
     ensures within { IfOk result (λ bytes. length bytes.items ≤ file_limit) }
+    // Of a file that was opened, whose bytes are too many where it tells them.
+    ensures too_long { OnTooLong result ((file : R.File)
+        × IfSome (R.File.remaining file) (λ left. file_limit < length left)) }
     ensures faults { faults.new ≡ faults_after result faults.old }
 {
     match fs::open(rt, name) {
