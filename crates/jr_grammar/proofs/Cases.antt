@@ -6,6 +6,7 @@ pub mod StatementExpressions
 pub mod SideConditions
 pub mod Places
 pub mod Parts
+pub mod Scanned
 pub mod Statements
 pub mod Classes
 pub mod UnitPlaces

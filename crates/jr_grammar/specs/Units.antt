@@ -47,6 +47,10 @@ pub record IsMember {A : Type 0} (nested : Bool) (name : List ℕ) (tokens : Lis
   pub shaped : MemberShaped nested name member
   pub spells : member_toks member ≡ tokens
 
+-- the tokens are no member
+abbrev pub IsNoMember : Bool → List ℕ → List Token → Type 0
+IsNoMember nested name tokens = (member : Member Bare) → IsMember nested name tokens member → ⊥
+
 -- The tokens are the member, and each mark is the span of its node's tokens.
 pub record IsMarkedMember (nested : Bool) (name : List ℕ) (tokens : Tokens) (member : Member Span) : Type 0 where
   pub shaped : MemberShaped nested name member
@@ -75,6 +79,10 @@ IsMemberStop nested name tokens n = Readings.IsStop (Member Bare) member_toks (M
 pub record IsStatement {A : Type 0} (tokens : List Token) (stmt : Stmt A) : Type 0 where
   pub shaped : StmtShaped stmt
   pub spells : stmt_toks stmt ≡ tokens
+
+-- the tokens are no statement
+abbrev pub IsNoStatement : List Token → Type 0
+IsNoStatement tokens = (stmt : Stmt Bare) → IsStatement tokens stmt → ⊥
 
 -- The tokens are the statement, and each mark is the span of its node's tokens.
 pub record IsMarkedStatement (tokens : Tokens) (stmt : Stmt Span) : Type 0 where
