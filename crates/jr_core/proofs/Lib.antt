@@ -14,3 +14,9 @@ pub mod ImagePrograms
 pub mod Halves
 pub mod Renaming
 pub mod IntRange
+pub mod TypedLocals
+pub mod TypedValues
+pub mod TypedSteps
+pub mod TypedExps
+pub mod TypedStmts
+pub mod TypesKept

@@ -1,16 +1,16 @@
 -- Calls are made on receivers and arguments that fit, and their answers fit.
 use Rattle.std.specs.Prelude.{◌≡◌, ℕ, false, List, Option, Some, None, IsTrue}
 use Rattle.jr_plans.specs.Safe.{IsSafeTable}
-use Rattle.jr_core.specs.Keys.{Keys, keys_of}
+use Rattle.jr_core.specs.Keys.{Keys}
 use Rattle.jr_core.specs.Values.{Value, Ty, boolean_type}
 use Rattle.jr_core.specs.Rows.{Rows}
 use Rattle.jr_core.specs.Fitting.{fits}
 use Rattle.jr_core.specs.Arithmetic.{Out, value, thrown}
 use Rattle.jr_core.specs.Core.{Exp, Stmt, Program}
 use Rattle.jr_core.specs.Evaluation.{Flow, goes_on, returns, Call, invoke, construct, turn, local_at, table}
-use Rattle.jr_core.specs.Running.{of_method, of_constructor}
+use Rattle.jr_core.specs.Running.{Start, of_method, of_constructor, Ending, gave, gave_nothing, threw}
 use Rattle.jr_core.specs.Starting.{IsReceiver, IsStart}
-use Rattle.jr_core.specs.Typing.{type_of, HasType, StmtTyped, is_always, WellTyped}
+use Rattle.jr_core.specs.Typing.{type_of, HasType, StmtTyped, is_always}
 
 -- each local that is set has a value of its type
 abbrev pub LocalsFit : {K : Keys} → Rows K → List (ℕ × Ty K) → List (Value K) → Type 0
@@ -60,6 +60,14 @@ WellAnswered R (invoke m me args) o = OutHas (ResultFits R (R.result m)) o
 WellAnswered R (construct k me args) o = OutHas (ResultFits R None) o
 WellAnswered R (turn me c b l) o = (t : TurnTyped R me c b l) → OutHas (FlowFits R t.context t.result (is_always c ≡ false)) o
 
+-- how a run of a method or constructor ends: by a throw, or with a value of the result's type, if there is one
+abbrev pub EndFits : {K : Keys} → Rows K → Start K → Ending K → Type 0
+EndFits R c (threw f) = Unit {0}
+EndFits R (of_method m me args) (gave v) = GivenFits R (R.result m) (Some v)
+EndFits {K = K} R (of_method m me args) gave_nothing = GivenFits {K = K} R (R.result m) None
+EndFits R (of_constructor k me args) (gave v) = ⊥
+EndFits R (of_constructor k me args) gave_nothing = Unit {0}
+
 -- In a well-typed program each call that is well made makes well-made calls, and its answer fits if theirs do.
-abbrev pub TypesAreKept : (C F M N A : Type 0) → Type 0
-TypesAreKept C F M N A = (P : Program (keys_of C F M N A)) → WellTyped P → IsSafeTable (WellMade P.rows) (WellAnswered P.rows) (table P)
+abbrev pub CallsAreWellMade : {K : Keys} → Program K → Type 0
+CallsAreWellMade P = IsSafeTable (WellMade P.rows) (WellAnswered P.rows) (table P)

@@ -3,4 +3,4 @@
 
 mod laws;
 
-pub use laws::renamed_programs_are_alike;
+pub use laws::{renamed_programs_are_alike, types_are_kept};
