@@ -25,3 +25,9 @@ pub record PutInPart (before after : Option (List ℕ)) (faults_before faults_af
 abbrev pub Puts : {T E : Type 0} → Result T E → Option (List ℕ) → Option (List ℕ) → ℕ → ℕ → List ℕ → Type 0
 Puts (Ok done) before after faults_before faults_after bytes = PutAll before after faults_before faults_after bytes
 Puts (Err fault) before after faults_before faults_after bytes = PutInPart before after faults_before faults_after bytes
+
+-- what was put, and then these bytes where it was all put
+abbrev pub PutsBehind : {T E : Type 0} → Result T E → Result T E → Option (List ℕ) → Option (List ℕ) → ℕ → ℕ → List ℕ → Type 0
+PutsBehind first result between after faults_between faults_after more =
+    (before : Option (List ℕ)) (faults_before : ℕ) (bytes : List ℕ) → Puts first before between faults_before faults_between bytes
+    → Puts result before after faults_before faults_after (bytes ++ more)
