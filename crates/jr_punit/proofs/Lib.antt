@@ -18,3 +18,4 @@ pub mod OwnEnds
 pub mod Classes
 pub mod MemberReads
 pub mod UnitReads
+pub mod StopPlaces

@@ -10,3 +10,4 @@ pub mod MemberMachine
 pub mod UnitMachine
 pub mod Machines
 pub mod Exact
+pub mod StopPlaces
