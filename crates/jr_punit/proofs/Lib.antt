@@ -1,4 +1,3 @@
-pub mod Begins
 pub mod Cases
 pub mod Inside
 pub mod Expressions
