@@ -18,3 +18,8 @@ pub mod Classes
 pub mod MemberReads
 pub mod UnitReads
 pub mod StopPlaces
+pub mod MapSteps
+pub mod BareParts
+pub mod BareStatements
+pub mod BareMembers
+pub mod ReadsAlike

@@ -11,3 +11,5 @@ pub mod UnitMachine
 pub mod Machines
 pub mod Exact
 pub mod StopPlaces
+pub mod Marked
+pub mod MarkedAlike

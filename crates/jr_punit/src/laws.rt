@@ -1,4 +1,5 @@
 ghost use Rattle.jr_grammar.specs.Units.{OneList, OneMember, OneUnit};
+ghost use Rattle.jr_punit.specs.MarkedAlike.{ReadsAlike};
 ghost use Rattle.jr_punit.specs.StopPlaces.{StopsHavePlaces, StopsHaveOnePlace};
 ghost use Rattle.jr_punit.specs.Exact.{ListIsRead, ListStopIsExact, MemberIsRead, MemberLengthIsLongest, MemberStopIsExact, UnitIsRead, UnitStopIsExact};
 
@@ -57,4 +58,9 @@ pub fn unit_stop_is_exact()
 pub fn stops_have_places()
     ensures place { StopsHavePlaces }
     ensures one { StopsHaveOnePlace }
+{}
+
+/// The machines over tokens with places read, find and stop as those over tokens alone.
+pub fn marked_reads_alike()
+    ensures { ReadsAlike }
 {}
