@@ -2,6 +2,8 @@
 -- one; each builds but what it read; and what it has read begins some tree.
 use Rattle.std.proofs.Common.{◌≡◌, false, List, [], ◌∷◌, ◌++◌, Option, Some, None, refl, sym, ap, ◌∙◌, arith}
 use Rattle.std.proofs.lemmas.List.{append-nil}
+use Rattle.std.specs.Prelude.{option_map}
+use Rattle.jr_text.specs.declared.spans.Span.{Span}
 use Rattle.std.proofs.lemmas.Option.{same_Some}
 use Rattle.jr_lex.specs.declared.items.Symbol.TheVariants.{CloseParen, Comma, Semicolon}
 use Rattle.jr_ast.specs.Tree.{TypeName, named, Exp, name, field}
@@ -9,9 +11,12 @@ use Rattle.jr_grammar.specs.Tokens.{Token, symbol}
 use Rattle.jr_grammar.specs.Spelling.{type_toks, toks}
 use Rattle.jr_grammar.specs.Shape.{Shaped, ShapedStatement}
 use Rattle.jr_grammar.specs.Readings.{Begins}
-use Rattle.jr_pexpr.specs.Machine.{State, closed, continued, extended, name_type}
-use Rattle.jr_grammar.specs.Bare.{Bare}
-use Rattle.jr_pexpr.specs.BareMachine.{no_join, bare_step, bare_run, bare_whole, bare_statement_step, bare_statement_run, bare_statement_whole}
+use Rattle.jr_pexpr.specs.Machine.{State, closed, continued, extended, name_type, step, whole, statement_step, statement_whole}
+use Rattle.jr_pexpr.specs.Marked.{join}
+use Rattle.jr_pexpr.proofs.EraseSteps.{step-bare, whole-bare, statement_step-bare, statement_whole-bare}
+use Rattle.jr_ast.specs.Remarked.{map_exp}
+use Rattle.jr_grammar.specs.Bare.{Bare, bare_type, bare}
+use Rattle.jr_pexpr.specs.BareMachine.{no_join, bare_state, bare_step, bare_run, bare_whole, bare_statement_step, bare_statement_run, bare_statement_whole}
 use Rattle.jr_pexpr.proofs.Levels.{level_pos}
 use Rattle.jr_pexpr.proofs.Complete.{unwound}
 use Rattle.jr_pexpr.proofs.Sound.{RunSound, run_sound}
@@ -73,3 +78,23 @@ name_toks _ t h = absurd cc
 -- where nothing is begun, nothing was read
 pub exp_unread : (ts : List Token) → bare_run start ts ≡ Some start → ts ≡ []
 exp_unread ts h = let r = at_some (bare_run start ts) start (RunSound start ts) h (run_sound start ts from_nothing) in sym (append-nil ts) ∙ r.spelled []
+
+-- ---- with places
+
+pub exp_step-bare : (s : State Span) (at : Span) (t : Token) → option_map bare_state (step join s at t) ≡ bare_step (bare_state s) t
+exp_step-bare s at t = step-bare join s at t
+
+pub eval_step-bare : (s : State Span) (at : Span) (t : Token) → option_map bare_state (statement_step join s at t) ≡ bare_statement_step (bare_state s) t
+eval_step-bare s at t = statement_step-bare join s at t
+
+pub exp_whole-bare : (s : State Span) → option_map bare (whole join s) ≡ bare_whole (bare_state s)
+exp_whole-bare s = whole-bare join s
+
+pub eval_whole-bare : (s : State Span) → option_map bare (statement_whole join s) ≡ bare_statement_whole (bare_state s)
+eval_whole-bare s = statement_whole-bare join s
+
+pub name_type-bare : (e : Exp Span) → name_type (bare e) ≡ option_map bare_type (name_type e)
+unfolding map_exp
+name_type-bare (name m w) = refl
+name_type-bare (field m (name n o) w) = refl
+name_type-bare _ = refl

@@ -1,4 +1,3 @@
-pub mod Begins
 pub mod Cases
 pub mod Inside
 pub mod Expressions
@@ -18,3 +17,9 @@ pub mod OwnEnds
 pub mod Classes
 pub mod MemberReads
 pub mod UnitReads
+pub mod StopPlaces
+pub mod MapSteps
+pub mod BareParts
+pub mod BareStatements
+pub mod BareMembers
+pub mod ReadsAlike

@@ -16,7 +16,7 @@ use Rattle.jr_punit.specs.StatementMachine as Statements
 use Rattle.jr_punit.specs.MemberMachine as Members
 use Rattle.jr_punit.specs.UnitMachine as Units
 use Rattle.jr_punit.specs.Machines.{list_step, list_whole, list_read, member_step, member_whole, member_read, member_length, unit_step, unit_whole, unit_read}
-use Rattle.jr_punit.specs.Exact.{IsMember, IsList, ListIsRead, ListStopIsExact, MemberIsRead, MemberLengthIsLongest, MemberStopIsExact, UnitIsRead, UnitStopIsExact}
+use Rattle.jr_punit.specs.Exact.{ListIsRead, ListStopIsExact, MemberIsRead, MemberLengthIsLongest, MemberStopIsExact, UnitIsRead, UnitStopIsExact}
 use Rattle.jr_punit.proofs.StatementEnds.{list_answers, list_sound, list_closes}
 use Rattle.jr_punit.proofs.MemberReads.{member_answers, member_sound, member_closes}
 use Rattle.jr_punit.proofs.UnitReads.{unit_answers, unit_sound, unit_closes}

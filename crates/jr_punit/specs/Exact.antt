@@ -5,37 +5,30 @@ use Rattle.jr_ast.specs.MemberTree.{Member}
 use Rattle.jr_grammar.specs.Tokens.{Token}
 use Rattle.jr_grammar.specs.StatementSpelling.{stmts_toks}
 use Rattle.jr_grammar.specs.StatementShape.{StmtsShaped}
-use Rattle.jr_grammar.specs.MemberSpelling.{member_toks}
-use Rattle.jr_grammar.specs.MemberShape.{MemberShaped}
-use Rattle.jr_grammar.specs.Units.{IsUnit, IsNoUnit, IsUnitStop, IsLongestMember, HasNoMember, IsMemberStop, IsListStop}
+use Rattle.jr_grammar.specs.Units.{IsUnit, IsNoUnit, IsUnitStop, IsMember, IsLongestMember, HasNoMember, IsMemberStop, IsListStop}
 use Rattle.jr_grammar.specs.Bare.{Bare}
 use Rattle.jr_punit.specs.Machines.{list_read, list_stop, member_read, member_length, member_stop, unit_read, unit_stop}
 
 -- ---- members and lists of statements that tokens are
-
--- the tokens are the member, of the class that has the name
-pub record IsMember (nested : Bool) (name : List ℕ) (tokens : List Token) (member : Member Bare) : Type 0 where
-  pub shaped : MemberShaped nested name member
-  pub spells : member_toks member ≡ tokens
 
 -- the tokens are no member of it
 abbrev pub IsNoMember : Bool → List ℕ → List Token → Type 0
 IsNoMember nested name tokens = (member : Member Bare) → IsMember nested name tokens member → ⊥
 
 -- the tokens are the statements
-pub record IsList (tokens : List Token) (stmts : Stmts Bare) : Type 0 where
+pub record AreStatements (tokens : List Token) (stmts : Stmts Bare) : Type 0 where
   pub shaped : StmtsShaped stmts
   pub spells : stmts_toks stmts ≡ tokens
 
 -- the tokens are no statements
-abbrev pub IsNoList : List Token → Type 0
-IsNoList tokens = (stmts : Stmts Bare) → IsList tokens stmts → ⊥
+abbrev pub AreNoStatements : List Token → Type 0
+AreNoStatements tokens = (stmts : Stmts Bare) → AreStatements tokens stmts → ⊥
 
 -- ---- lists of statements
 
 -- the machine reads the statements that the tokens are, and none only where they are none
 abbrev pub ListIsRead : Type 0
-ListIsRead = (tokens : List Token) → MatchOption (list_read tokens) (IsNoList tokens) (IsList tokens)
+ListIsRead = (tokens : List Token) → MatchOption (list_read tokens) (AreNoStatements tokens) (AreStatements tokens)
 
 -- and it stops where reading stops
 abbrev pub ListStopIsExact : Type 0

@@ -10,3 +10,6 @@ pub mod MemberMachine
 pub mod UnitMachine
 pub mod Machines
 pub mod Exact
+pub mod StopPlaces
+pub mod Marked
+pub mod MarkedAlike

@@ -1,4 +1,6 @@
 ghost use Rattle.jr_grammar.specs.Units.{OneList, OneMember, OneUnit};
+ghost use Rattle.jr_punit.specs.MarkedAlike.{ReadsAlike};
+ghost use Rattle.jr_punit.specs.StopPlaces.{StopsHavePlaces, StopsHaveOnePlace};
 ghost use Rattle.jr_punit.specs.Exact.{ListIsRead, ListStopIsExact, MemberIsRead, MemberLengthIsLongest, MemberStopIsExact, UnitIsRead, UnitStopIsExact};
 
 /// No two lists of statements spell the same tokens (JLS 14.2).
@@ -49,4 +51,16 @@ pub fn unit_is_read()
 /// It stops at the first token such that no unit begins with the tokens up to and including it.
 pub fn unit_stop_is_exact()
     ensures { UnitStopIsExact }
+{}
+
+/// Each number of tokens of a text, as a stop is, has a place there: the first byte of the token behind them and
+/// its item, or the text's length. It has no other.
+pub fn stops_have_places()
+    ensures place { StopsHavePlaces }
+    ensures one { StopsHaveOnePlace }
+{}
+
+/// The machines over tokens with places read, find and stop as those over tokens alone.
+pub fn marked_reads_alike()
+    ensures { ReadsAlike }
 {}
