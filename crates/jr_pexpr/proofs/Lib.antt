@@ -18,3 +18,4 @@ pub mod Marks
 pub mod Cases
 pub mod Standing
 pub mod OneAnswer
+pub mod OwnMarks

@@ -10,3 +10,10 @@ pub mod Marked
 pub mod Expressions
 pub mod Runs
 pub mod IgnoresMarks
+pub mod TokenView
+pub mod PieceView
+pub mod FrameView
+pub mod Stacks
+pub mod StackView
+pub mod StateView
+pub mod Ended

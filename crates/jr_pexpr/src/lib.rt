@@ -1,10 +1,24 @@
 //! Expressions: which tokens a tree spells, which trees are shaped, and how tokens are read as trees.
 #![tactic(auto)]
 
+mod begun;
+mod ended;
+mod extended;
+mod frames;
+mod kinds;
 mod laws;
+mod made;
+mod members;
+mod pieces;
+mod stack;
+mod state;
+mod stepped;
+mod tokens;
 
 pub use laws::{
     expression_ignores_marks, expression_is_longest, expression_stop_is_exact, marked_steps_alike,
     marks_are_spans, one_expression, one_marked_expression, one_statement_expression,
     statement_expression_is_longest, statement_expression_stop_is_exact,
 };
+pub use state::State;
+pub use tokens::{Token, token_at};
