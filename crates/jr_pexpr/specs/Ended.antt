@@ -8,7 +8,7 @@ use Rattle.jr_ast.specs.Tree.{Exp}
 use Rattle.jr_ast.specs.View.{expr_of}
 use Rattle.jr_pexpr.specs.declared.stack.Stack.{Stack}
 use Rattle.jr_pexpr.specs.StackView.{stack}
-use Rattle.jr_pexpr.specs.Tokens.{Token, Placed}
+use Rattle.jr_grammar.specs.Tokens.{Token, Placed}
 use Rattle.jr_pexpr.specs.Marked.{join}
 use Rattle.jr_pexpr.specs.Machine.{Frame, State, have, fits, plug}
 

@@ -1,15 +1,8 @@
-pub mod Tokens
-pub mod Spelling
-pub mod Shape
-pub mod Readings
 pub mod Pieces
 pub mod Machine
-pub mod Bare
-pub mod Stands
+pub mod BareMachine
 pub mod Marked
-pub mod Expressions
 pub mod Runs
-pub mod IgnoresMarks
 pub mod TokenView
 pub mod PieceView
 pub mod FrameView
@@ -17,3 +10,4 @@ pub mod Stacks
 pub mod StackView
 pub mod StateView
 pub mod Ended
+pub mod Expressions

@@ -5,7 +5,7 @@ use Rattle.jr_pexpr.specs.declared.pieces.Atom.{Atom}
 use Rattle.jr_pexpr.specs.declared.pieces.Atom.TheVariants as atom
 use Rattle.jr_pexpr.specs.declared.pieces.Piece.{Piece}
 use Rattle.jr_pexpr.specs.declared.pieces.Piece.TheVariants as rust
-use Rattle.jr_pexpr.specs.Tokens.{keyword, symbol}
+use Rattle.jr_grammar.specs.Tokens.{keyword, symbol}
 use Rattle.jr_pexpr.specs.Pieces as pure
 
 abbrev pub way_view : Way → pure.Way

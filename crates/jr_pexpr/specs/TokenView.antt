@@ -1,7 +1,7 @@
 -- Rust's tokens, and what they can be in an expression, as pure ones.
 use Rattle.jr_pexpr.specs.declared.tokens.Token.{Token}
 use Rattle.jr_pexpr.specs.declared.tokens.Token.TheVariants as rust
-use Rattle.jr_pexpr.specs.Tokens as pure
+use Rattle.jr_grammar.specs.Tokens as pure
 
 abbrev pub token_view : Token → pure.Token
 token_view (rust.Word w) = pure.word w.now

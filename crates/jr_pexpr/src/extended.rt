@@ -4,7 +4,7 @@ ghost use Rattle.jr_ast.specs.Tree as tree;
 ghost use Rattle.jr_ast.specs.Marks.{exp_mark};
 ghost use Rattle.jr_ast.specs.View.{exprs_of};
 ghost use Rattle.jr_pexpr.specs.Marked.{join};
-ghost use Rattle.jr_pexpr.specs.Shape.{rank_of, level_of};
+ghost use Rattle.jr_grammar.specs.Shape.{rank_of, level_of};
 ghost use Rattle.jr_pexpr.specs.Machine as machine;
 ghost use Rattle.jr_pexpr.specs.PieceView.{way_view, piece_view};
 ghost use Rattle.jr_pexpr.specs.FrameView.{operand_view, head_view};

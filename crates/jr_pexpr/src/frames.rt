@@ -1,6 +1,6 @@
 //! What has been begun, and waits for an expression.
 ghost use Rattle.std.specs.Prelude.{◌≡◌};
-ghost use Rattle.jr_pexpr.specs.Shape.{rank_of, unary_level, is_minus};
+ghost use Rattle.jr_grammar.specs.Shape.{rank_of, unary_level, is_minus};
 ghost use Rattle.jr_pexpr.specs.Machine as machine;
 ghost use Rattle.jr_pexpr.specs.FrameView.{operand_view, frame_view};
 ghost use Rattle.jr_pexpr.specs.Stacks.{ends_when};

@@ -2,7 +2,7 @@
 ghost use Rattle.std.specs.Prelude.{◌≡◌, IfSome, MatchOption, option_map, nat_lt};
 ghost use Rattle.jr_ast.specs.View.{type_of, expr_of};
 ghost use Rattle.jr_pexpr.specs.Machine as machine;
-ghost use Rattle.jr_pexpr.specs.Shape.{level_of};
+ghost use Rattle.jr_grammar.specs.Shape.{level_of};
 ghost use Rattle.jr_pexpr.specs.FrameView.{operand_view};
 ghost use Rattle.jr_pexpr.specs.Ended.{exp_in};
 

@@ -2,7 +2,7 @@
 ghost use Rattle.std.specs.Prelude.{◌≡◌, ◌+◌, ◌-◌, ◌<◌, option_map};
 ghost use Rattle.jr_text.specs.Spans.{CanCut};
 ghost use Rattle.jr_lex.specs.Places.{IsPlaced};
-ghost use Rattle.jr_pexpr.specs.Tokens.{token_of, token_of_kind};
+ghost use Rattle.jr_grammar.specs.Tokens.{token_of, token_of_kind};
 ghost use Rattle.jr_pexpr.specs.TokenView.{token_view};
 
 use jr_lex::{Item, ItemKind, Keyword, Symbol, TokenKind};
