@@ -15,3 +15,7 @@ pub mod Maps
 pub mod Marks
 pub mod Cases
 pub mod OwnMarks
+pub mod Stacks
+pub mod Rows
+pub mod Wholes
+pub mod Quotes

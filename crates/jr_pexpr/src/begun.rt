@@ -75,6 +75,7 @@ fn atom_fits(minus: bool, atom: Atom<'_>) -> bool
     }
 }
 
+#[tactic(auto, unfolding(crate::specs::Machine::begun))]
 fn atom(alloc: Global, on: Stack, at: Span, atom: Atom<'_>) -> Stepped
     ensures { IfOk result (λ next. option_map state_view next ≡ machine.begun join (stack on) at (piece_view (Piece.Atom atom.entry))) }
 {

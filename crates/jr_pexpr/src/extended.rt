@@ -214,6 +214,7 @@ fn bump_op(way: Way) -> BumpOp
     }
 }
 
+#[tactic(auto, using(crate::proofs::OwnMarks::mark_is))]
 fn bump(alloc: Global, e: Box<Expr<Span>>, at: Span, way: Way) -> Made<Box<Expr<Span>>>
     ensures { IfOk result (λ made. exp_in made ≡ tree.bump (join (exp_mark (exp_in e)) at) (machine.behind (way_view way)) (exp_in e)) }
 {

@@ -123,8 +123,9 @@ impl State {
     pub fn finish(self, alloc: Global) -> Result<Option<Box<Expr<Span>>>, AllocError>
         ensures { IfOk result (λ made. filled made ≡ span_whole (state_view self)) }
     {
-        match self.mode {
-            Mode::Have(e) => finished(alloc, self.on, e),
+        let State { on, mode } = self;
+        match mode {
+            Mode::Have(e) => finished(alloc, on, e),
             _ => Ok(None),
         }
     }

@@ -1,12 +1,11 @@
 //! Tokens of a text (JLS 3.5).
-ghost use Rattle.std.specs.Prelude.{◌≡◌, ◌+◌, ◌-◌, ◌<◌, option_map};
-ghost use Rattle.jr_text.specs.Spans.{CanCut};
+ghost use Rattle.std.specs.Prelude.{◌≡◌, option_map};
 ghost use Rattle.jr_lex.specs.Places.{IsPlaced};
 ghost use Rattle.jr_grammar.specs.Tokens.{token_of, token_of_kind};
 ghost use Rattle.jr_pexpr.specs.TokenView.{token_view};
 
 use jr_lex::{Item, ItemKind, Keyword, Symbol, TokenKind};
-use jr_text::{Span, Text};
+use jr_text::Text;
 
 /// What a token is, whatever its place (JLS 3.5).
 #[derive(Clone, Copy, Debug)]
@@ -23,17 +22,15 @@ pub enum Token<'t> {
     Symbol(Symbol),
 }
 
-/// What stands in a string between its quotes.
-fn inside<'t>(text: &'t Text, at: Span) -> Token<'t>
-    requires some { at.from < at.to }
-    requires quotes { CanCut text.now (record { from = at.from + 1; to = at.to - 1 }) }
-    ensures { token_view result ≡ token_of_kind text.now at TokenKind.Text }
+/// A string, by what stands between its quotes.
+fn string<'t>(text: &'t Text, item: &Item) -> Token<'t>
+    requires placed { IsPlaced text.now item.now }
+    requires kind { item.now.kind ≡ ItemKind.Token TokenKind.Text }
+    ensures { token_view result ≡ token_of_kind text.now item.now.span TokenKind.Text }
 {
-    let inner = Span {
-        from: at.from + 1,
-        to: at.to - 1,
-    };
-    Token::Text(text.part(inner))
+    let from = item.span.from as usize + 1;
+    let to = item.span.to as usize - 1;
+    Token::Text(&text.as_str()[from..to])
 }
 
 fn placed_token<'t>(text: &'t Text, item: &Item, kind: TokenKind) -> Token<'t>
@@ -45,7 +42,7 @@ fn placed_token<'t>(text: &'t Text, item: &Item, kind: TokenKind) -> Token<'t>
         TokenKind::Word => Token::Word(text.part(item.span)),
         TokenKind::Keyword(keyword) => Token::Keyword(keyword),
         TokenKind::Int(value) => Token::Int(value),
-        TokenKind::Text => inside(text, item.span),
+        TokenKind::Text => string(text, item),
         TokenKind::Mark(symbol) => Token::Symbol(symbol),
     }
 }
