@@ -1,9 +1,7 @@
 pub mod OneAnswer
-pub mod Erase
-pub mod EraseSpelling
-pub mod EraseShape
 pub mod Remarked
-pub mod UnitRemarked
+pub mod RemarkedSpelling
+pub mod RemarkedShape
 pub mod Standing
 pub mod UnitStanding
 pub mod Cases

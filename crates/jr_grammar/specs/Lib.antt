@@ -6,7 +6,6 @@ pub mod Shape
 pub mod StatementShape
 pub mod MemberShape
 pub mod Bare
-pub mod BareTrees
 pub mod Stands
 pub mod StatementStands
 pub mod MemberStands

@@ -11,7 +11,7 @@ use Rattle.jr_grammar.specs.Readings as Readings
 use Rattle.jr_grammar.specs.StatementSpelling.{stmts_toks}
 use Rattle.jr_grammar.specs.StatementShape.{StmtsShaped}
 use Rattle.jr_grammar.specs.MemberSpelling.{member_toks, unit_toks}
-use Rattle.jr_grammar.specs.MemberShape.{ShapedIn, UnitShaped}
+use Rattle.jr_grammar.specs.MemberShape.{MemberShaped, UnitShaped}
 use Rattle.jr_grammar.specs.MemberStands.{StandsMember, StandsUnit}
 
 -- ---- units
@@ -45,25 +45,25 @@ IsUnitStop tokens n = Readings.IsStop (UnitTree Bare) unit_toks UnitShaped token
 
 -- The tokens are those of the member, which is shaped, and each mark is the span of its node's tokens.
 pub record IsMarkedMember (nested : Bool) (name : List ℕ) (tokens : Tokens) (member : Member Span) : Type 0 where
-  pub shaped : ShapedIn nested name member
+  pub shaped : MemberShaped nested name member
   pub spells : member_toks member ≡ kinds tokens
   pub marks : StandsMember member tokens
 
 -- no two members spell the same tokens
 abbrev pub OneMember : Type 0
-OneMember = (nested : Bool) (name : List ℕ) → Readings.OneTree (Member Bare) member_toks (ShapedIn nested name)
+OneMember = (nested : Bool) (name : List ℕ) → Readings.OneTree (Member Bare) member_toks (MemberShaped nested name)
 
 -- the first n tokens are the member, and no more of them are one
 abbrev pub IsLongestMember : Bool → List ℕ → List Token → ℕ → Member Bare → Type 0
-IsLongestMember nested name tokens n member = Readings.IsLongest (Member Bare) member_toks (ShapedIn nested name) tokens n member
+IsLongestMember nested name tokens n member = Readings.IsLongest (Member Bare) member_toks (MemberShaped nested name) tokens n member
 
 -- the tokens begin with no member
 abbrev pub HasNoMember : Bool → List ℕ → List Token → Type 0
-HasNoMember nested name tokens = Readings.HasNone (Member Bare) member_toks (ShapedIn nested name) tokens
+HasNoMember nested name tokens = Readings.HasNone (Member Bare) member_toks (MemberShaped nested name) tokens
 
 -- the first n tokens begin some member, and with the one behind them they begin none
 abbrev pub IsMemberStop : Bool → List ℕ → List Token → ℕ → Type 0
-IsMemberStop nested name tokens n = Readings.IsStop (Member Bare) member_toks (ShapedIn nested name) tokens n
+IsMemberStop nested name tokens n = Readings.IsStop (Member Bare) member_toks (MemberShaped nested name) tokens n
 
 -- ---- lists of statements
 

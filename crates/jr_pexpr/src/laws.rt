@@ -1,6 +1,9 @@
 ghost use Rattle.jr_grammar.specs.Expressions.{OneExpression, OneStatementExpression};
 ghost use Rattle.jr_pexpr.specs.Expressions.{OneMarkedExpression, LengthIsLongest, StatementLengthIsLongest, StopIsExact, StatementStopIsExact, StepsAlike, BuildsMarked};
 
+use jr_grammar::expression_ignores_marks;
+use jr_text::Span;
+
 /// No two expressions spell the same tokens (JLS 15).
 pub fn one_expression()
     ensures { OneExpression }
@@ -14,7 +17,9 @@ pub fn one_statement_expression()
 /// Expressions with places that spell the same tokens are the same but for their marks.
 pub fn one_marked_expression()
     ensures { OneMarkedExpression }
-{}
+{
+    expression_ignores_marks::<Span, ()>();
+}
 
 /// The machine finds the longest expression that tokens begin with, and finds none only where there is none.
 pub fn expression_is_longest()
@@ -44,4 +49,6 @@ pub fn marked_steps_alike()
 /// What the machine builds has the span of each node's tokens as that node's mark.
 pub fn marks_are_spans()
     ensures { BuildsMarked }
-{}
+{
+    expression_ignores_marks::<Span, ()>();
+}

@@ -144,7 +144,7 @@ field_with_difference = record { shaped = grind arith; spells = refl; marks = (r
 
 -- a member class holds no class; javac takes it
 member_class_within_another : IsMarkedMember true (codes "C") tokens_of_member_class tree_of_member_class → ⊥
-member_class_within_another h = h.shaped
+member_class_within_another h = h.shaped.0
 
 -- ---- wrong places
 

@@ -14,6 +14,7 @@ use Rattle.jr_pexpr.specs.Machine.{want, begun, extended}
 use Rattle.jr_pexpr.specs.Marked.{span_run, span_whole}
 use Rattle.jr_grammar.specs.Expressions.{IsMarkedExpression}
 use Rattle.jr_pexpr.proofs.Found.{both_some}
+use Rattle.jr_grammar.proofs.Remarked.{expression_ignores_marks}
 use Rattle.jr_pexpr.proofs.Marks.{builds_marked}
 
 abbrev at : ℕ → ℕ → Span
@@ -23,7 +24,7 @@ abbrev put : ℕ → ℕ → Token → Placed Span
 put a b t = record { mark = at a b; token = t }
 
 marked_read : (tokens : Tokens) (tree : Exp Span) → option_and_then span_whole (span_run (want []) tokens) ≡ Some tree → IsMarkedExpression tokens tree
-marked_read tokens tree h = let b = both_some span_whole (span_run (want []) tokens) tree h in builds_marked.expression tokens b.0 tree b.1 b.2
+marked_read tokens tree h = let b = both_some span_whole (span_run (want []) tokens) tree h in (builds_marked expression_ignores_marks).expression tokens b.0 tree b.1 b.2
 
 -- a + b*c
 sum : IsMarkedExpression (put 0 1 (word (codes "a")) ∷ put 2 3 (symbol PlusSign) ∷ put 4 5 (word (codes "b")) ∷ put 5 6 (symbol Star) ∷ put 6 7 (word (codes "c")) ∷ [])
