@@ -19,3 +19,4 @@ pub mod Stacks
 pub mod Rows
 pub mod Wholes
 pub mod Quotes
+pub mod Walking

@@ -11,3 +11,5 @@ pub mod StackView
 pub mod StateView
 pub mod Ended
 pub mod Expressions
+pub mod Parsing
+pub mod Walks

@@ -4,17 +4,21 @@
 mod begun;
 mod ended;
 mod extended;
+mod faults;
 mod frames;
 mod kinds;
 mod laws;
 mod made;
 mod members;
 mod pieces;
+mod rules;
 mod stack;
 mod state;
 mod stepped;
 mod tokens;
+mod walks;
 
+pub use faults::ParseFault;
 pub use laws::{
     expression_is_longest, expression_stop_is_exact, marked_steps_alike, marks_are_spans,
     one_expression, one_marked_expression, one_statement_expression,
