@@ -20,3 +20,6 @@ pub mod Rows
 pub mod Wholes
 pub mod Quotes
 pub mod Walking
+pub mod WalkLaws
+pub mod Finds
+pub mod Readings

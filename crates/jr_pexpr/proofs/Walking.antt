@@ -1,15 +1,15 @@
 -- One item of a walk.
-use Rattle.std.proofs.Common.{◌≡◌, ℕ, ◌+◌, ◌<◌, Bool, true, false, List, [], ◌∷◌, ◌++◌, length, take, drop, get_or, Option, Some, None, refl, sym, ap, subst, ◌∙◌, add-one, arith}
+use Rattle.std.proofs.Common.{◌≡◌, ℕ, suc, ◌+◌, ◌-◌, ◌<◌, ◌≤◌, Bool, true, false, List, [], ◌∷◌, ◌++◌, length, take, drop, get_or, Option, Some, None, refl, sym, ap, subst, ◌∙◌, add-one, arith}
 use Rattle.std.proofs.Math.Seq.{drop-cons}
 use Rattle.std.proofs.lemmas.List.{take-append-drop}
-use Rattle.std.specs.Prelude.{is_some, option_map, unwrap_or}
+use Rattle.std.specs.Prelude.{is_some, option_map, unwrap_or, slice_range}
 use Rattle.jr_text.specs.declared.spans.Span.{Span}
 use Rattle.jr_lex.specs.declared.items.Item.{Item}
 use Rattle.jr_lex.specs.declared.items.ItemKind.TheVariants.{Token as TokenItem}
 use Rattle.jr_lex.specs.declared.items.TokenKind.TheVariants.{Word}
 use Rattle.jr_lex.specs.Lexes.{Lexes}
 use Rattle.jr_lex.specs.Places.{IsPlaced, ItemsPlaced}
-use Rattle.jr_grammar.specs.Tokens.{Token, token_of}
+use Rattle.jr_grammar.specs.Tokens.{Token, token_of, placed_of}
 use Rattle.jr_ast.specs.Tree.{Exp}
 use Rattle.jr_pexpr.specs.declared.rules.Rule.{Rule}
 use Rattle.jr_pexpr.specs.declared.rules.Rule.TheVariants.{Expression, StatementExpression}
@@ -17,7 +17,7 @@ use Rattle.jr_pexpr.specs.Pieces.{Piece, a_close, a_comma, a_class, another, pie
 use Rattle.jr_pexpr.specs.Machine.{Frame, State, have, reduced, whole_of, extended, closed, continued, stepped, kept_open, kept_statement}
 use Rattle.jr_pexpr.specs.Marked.{join, span_step, span_whole}
 use Rattle.jr_pexpr.specs.Ended.{placed}
-use Rattle.jr_pexpr.specs.Walks.{rule_step, rule_whole, is_end, end_at, walk_end, walk_stop, walk_last}
+use Rattle.jr_pexpr.specs.Walks.{rule_step, rule_whole, rule_run, is_end, end_at, walk_end, walk_stop, walk_last}
 
 -- what stands for the item behind the last
 abbrev pub no_item : Item
@@ -77,6 +77,27 @@ module _ (r : Rule) (bytes : List ℕ) (items : List Item) (i : ℕ) (s : State 
         stops = rw (at, e, f) refl;
         last = rw (at, e, f) refl;
       }
+
+-- ---- a run over the items up to another
+
+slice_at : (items : List Item) (i to : ℕ) → i < to → to ≤ length items → slice_range items i to ≡ get_or items i no_item ∷ slice_range items (i + 1) to
+slice_at items i to h w =
+    let n : to - i ≡ suc (to - (i + 1)) = omega arith in
+    ap (λ (k : ℕ). take k (drop i items)) n ∙ ap (λ (is : List Item). take (suc (to - (i + 1))) is) (drop_at items i (omega arith))
+
+module _ (r : Rule) (bytes : List ℕ) (items : List Item) (i to : ℕ) (s : State Span) where
+  abbrev here : Item
+  here = get_or items i no_item
+
+  pub run_token : (t : Token) (n : State Span) → i < to → to ≤ length items → token_of bytes here.span here.kind ≡ Some t → rule_step r s (placed here.span t) ≡ Some n
+      → rule_run r n (placed_of bytes (slice_range items (i + 1) to)) ≡ rule_run r s (placed_of bytes (slice_range items i to))
+  run_token t n h w e f = let at = slice_at items i to h w in rw (at, e, f) refl
+
+  pub run_blank : i < to → to ≤ length items → token_of bytes here.span here.kind ≡ None → rule_run r s (placed_of bytes (slice_range items (i + 1) to)) ≡ rule_run r s (placed_of bytes (slice_range items i to))
+  run_blank h w e = let at = slice_at items i to h w in rw (at, e) refl
+
+  pub run_halt : (t : Token) → i < to → to ≤ length items → token_of bytes here.span here.kind ≡ Some t → rule_step r s (placed here.span t) ≡ None → rule_run r s (placed_of bytes (slice_range items i to)) ≡ None
+  run_halt t h w e f = let at = slice_at items i to h w in rw (at, e, f) refl
 
 -- ---- nothing whole goes on with an end
 

@@ -13,3 +13,4 @@ pub mod Ended
 pub mod Expressions
 pub mod Parsing
 pub mod Walks
+pub mod Rules

@@ -4,6 +4,8 @@ use Rattle.jr_text.specs.declared.spans.Span.{Span}
 use Rattle.jr_lex.specs.declared.items.Item.{Item}
 use Rattle.jr_ast.specs.Tree.{Exp}
 use Rattle.jr_grammar.specs.Tokens.{Token, Placed, token_of}
+use Rattle.jr_grammar.specs.Stands.{Tokens}
+use Rattle.jr_pexpr.specs.Runs.{run, longest, stop_of}
 use Rattle.jr_pexpr.specs.declared.rules.Rule.{Rule}
 use Rattle.jr_pexpr.specs.declared.rules.Rule.TheVariants as rule
 use Rattle.jr_pexpr.specs.Pieces.{Piece, a_close, a_comma, a_class, another}
@@ -19,6 +21,15 @@ rule_step rule.StatementExpression s p = span_statement_step s p
 abbrev pub rule_whole : Rule → State Span → Option (Exp Span)
 rule_whole rule.Expression s = span_whole s
 rule_whole rule.StatementExpression s = span_statement_whole s
+
+abbrev pub rule_run : Rule → State Span → Tokens → Option (State Span)
+rule_run r s ps = run (State Span) (Placed Span) (Exp Span) (rule_step r) (rule_whole r) s ps
+
+abbrev pub rule_length : Rule → State Span → Tokens → Option ℕ
+rule_length r s ps = longest (State Span) (Placed Span) (Exp Span) (rule_step r) (rule_whole r) s ps
+
+abbrev pub rule_stop : Rule → State Span → Tokens → ℕ
+rule_stop r s ps = stop_of (State Span) (Placed Span) (Exp Span) (rule_step r) (rule_whole r) s ps
 
 abbrev pub next_of : Rule → State Span → Span → Option Token → Option (State Span)
 next_of r s at (Some token) = rule_step r s (placed at token)

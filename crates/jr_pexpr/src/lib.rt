@@ -10,6 +10,7 @@ mod kinds;
 mod laws;
 mod made;
 mod members;
+mod parsing;
 mod pieces;
 mod rules;
 mod stack;
