@@ -17,6 +17,7 @@ use Rattle.jr_pexpr.specs.Runs.{best}
 use Rattle.jr_pexpr.specs.Parsing.{with_number, token_numbers, tokens_from, item_of_token, item_behind}
 use Rattle.jr_pexpr.specs.Walks.{rule_step, rule_whole, rule_run, rule_length, rule_stop, walk_end, walk_stop, walk_last}
 use Rattle.jr_pexpr.proofs.Found.{at_some}
+use Rattle.jr_pexpr.proofs.Marks.{kept_whole}
 use Rattle.jr_pexpr.proofs.Scans.{Found, longest_found}
 use Rattle.jr_pexpr.proofs.WalkLaws.{or_else, later, length_is, end_is, stop_is, last_is, whole_is}
 
@@ -76,6 +77,11 @@ whole_want : (r : Rule) → rule_whole r (want []) ≡ None
 whole_want Expression = refl
 whole_want StatementExpression = refl
 
+next_to : (from : ℕ) (is : List Item) (m d : ℕ) → get_or (token_numbers from is) m d + 1 ≡ get_or (token_numbers from is) (suc m - 1) d + 1
+next_to from is m d =
+    let n : m ≡ suc m - 1 = omega arith in
+    ap (λ (k : ℕ). get_or (token_numbers from is) k d + 1) n
+
 module _ (r : Rule) (bytes : List ℕ) (items : List Item) (from : ℕ) where
   abbrev ts : Tokens
   ts = tokens_from bytes items from
@@ -112,7 +118,7 @@ module _ (r : Rule) (bytes : List ℕ) (items : List Item) (from : ℕ) where
       record {
         taken = suc m;
         found = l;
-        ends = g.2 ∙ ap (λ (k : ℕ). get_or (token_numbers from is) k d + 1) (omega arith);
+        ends = g.2 ∙ next_to from is m d;
         state = f.state;
         tree = f.tree;
         run_to = f.run_to;
@@ -141,3 +147,12 @@ module _ (r : Rule) (bytes : List ℕ) (items : List Item) (from : ℕ) where
       let same : Some f.taken ≡ Some (rule_stop r (want []) ts) = sym f.found ∙ all in
       let n : f.taken ≡ rule_stop r (want []) ts = cc in
       ap (rule_run r (want [])) (f.tokens ∙ ap (λ (k : ℕ). take k ts) n) ∙ last_is r bytes (want []) is ∙ ap (λ (s : State Span). Some s) (sym e)
+
+-- what is whole for a rule is whole
+pub whole_for : (r : Rule) (s : State Span) (e : Exp Span) → rule_whole r s ≡ Some e → span_whole s ≡ Some e
+whole_for Expression s e h = h
+whole_for StatementExpression s e h = kept_whole (span_whole s) e h
+
+pub tree_is : (r : Rule) (bytes : List ℕ) (items : List Item) (from b : ℕ) → (f : Finds r bytes items from b) → option_and_then span_whole (rule_run r (want []) (placed_of bytes (slice_range items from b))) ≡ Some f.tree
+tree_is r bytes items from b f =
+    ap (λ (ps : Tokens). option_and_then span_whole (rule_run r (want []) ps)) f.tokens ∙ ap (option_and_then span_whole) f.run_to ∙ whole_for r f.state f.tree f.is_whole

@@ -21,5 +21,6 @@ pub mod Wholes
 pub mod Quotes
 pub mod Walking
 pub mod WalkLaws
+pub mod Few
 pub mod Finds
 pub mod Readings

@@ -6,7 +6,10 @@ use Rattle.jr_lex.specs.declared.items.ItemKind.{ItemKind}
 use Rattle.jr_lex.specs.declared.items.ItemKind.TheVariants.{Token as TokenItem, Blank, Comment}
 use Rattle.jr_ast.specs.Tree.{Exp}
 use Rattle.jr_grammar.specs.Tokens.{Token, kinds, placed_of}
+use Rattle.jr_grammar.specs.Spelling.{toks}
+use Rattle.jr_grammar.specs.Shape.{Shaped, ShapedStatement}
 use Rattle.jr_grammar.specs.Stands.{Tokens}
+use Rattle.jr_grammar.specs.Readings.{IsPrefix}
 use Rattle.jr_grammar.specs.Bare.{Bare, bare}
 use Rattle.jr_grammar.specs.Expressions.{IsLongestExpression, IsLongestStatementExpression, HasNoExpression, HasNoStatementExpression, IsExpressionStop, IsStatementExpressionStop, IsMarkedExpression, IsMarkedStatementExpression}
 use Rattle.jr_pexpr.specs.declared.faults.ParseFault.{ParseFault}
@@ -65,6 +68,13 @@ module _ (IsLongest : List Token → ℕ → Exp Bare → Type 0) (HasNone : Lis
     pub byte : at ≡ byte_of_item bytes items stop
 
 -- ---- expressions, and statement expressions
+
+-- the tokens begin with some expression
+abbrev pub HasExpression : List Token → Type 0
+HasExpression tokens = (n : ℕ) × ((tree : Exp Bare) × IsPrefix (Exp Bare) toks Shaped tokens n tree)
+
+abbrev pub HasStatementExpression : List Token → Type 0
+HasStatementExpression tokens = (n : ℕ) × ((tree : Exp Bare) × IsPrefix (Exp Bare) toks ShapedStatement tokens n tree)
 
 abbrev pub IsExpressionFrom : List ℕ → List Item → ℕ → Exp Span → ℕ → ℕ → Type 0
 IsExpressionFrom = IsReadFrom IsLongestExpression HasNoExpression IsExpressionStop IsMarkedExpression

@@ -25,5 +25,6 @@ pub use laws::{
     one_expression, one_marked_expression, one_statement_expression,
     statement_expression_is_longest, statement_expression_stop_is_exact,
 };
+pub use parsing::{parse_expr, parse_sexpr};
 pub use state::State;
 pub use tokens::{Token, token_at};

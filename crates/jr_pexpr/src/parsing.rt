@@ -1,14 +1,17 @@
 //! The longest expression, or statement expression, that begins at an item of a text.
-ghost use Rattle.std.specs.Prelude.{◌≡◌, ◌≤◌, [], Some, IfOk, IfErr, IfSome, length, slice_range, option_map, option_and_then};
+ghost use Rattle.std.specs.Prelude.{◌≡◌, ◌≤◌, [], Some, IfOk, IfErr, IsErr, IfSome, length, slice_get, slice_range, option_map, option_and_then, unwrap_or};
+ghost use Rattle.jr_lex.specs.declared.items.Item.{Item};
 ghost use Rattle.jr_lex.specs.Lexes.{Lexes};
 ghost use Rattle.jr_ast.specs.View.{expr_of};
-ghost use Rattle.jr_grammar.specs.Tokens.{placed_of};
+ghost use Rattle.jr_grammar.specs.Tokens.{placed_of, kinds};
 ghost use Rattle.jr_pexpr.specs.Machine.{want};
 ghost use Rattle.jr_pexpr.specs.Marked.{span_whole};
 ghost use Rattle.jr_pexpr.specs.Walks.{rule_run};
 ghost use Rattle.jr_pexpr.specs.StateView.{state_view};
 ghost use Rattle.jr_pexpr.specs.Ended.{filled};
-ghost use Rattle.jr_pexpr.specs.Parsing.{byte_of_item, IsFault};
+ghost use Rattle.jr_lex.specs.Depth.{AreWithin};
+ghost use Rattle.jr_grammar.specs.Expressions.{HasNoExpression, HasNoStatementExpression};
+ghost use Rattle.jr_pexpr.specs.Parsing.{IsFault, tokens_from, HasExpression, HasStatementExpression, IsExpressionFrom, IsNoExpressionFrom, IsStatementExpressionFrom, IsNoStatementExpressionFrom};
 ghost use Rattle.jr_pexpr.specs.Rules.{IsFrom, IsNoneFor};
 
 use crate::faults::ParseFault;
@@ -76,12 +79,12 @@ fn tree(
 }
 
 /// The first byte of the item of this number, or the file's end.
-fn byte_at(text: &Text, items: &[Item], number: usize) -> u32
-    ensures { result ≡ byte_of_item text.now items.now number }
+fn byte_at(items: &[Item], number: usize, end: u32) -> u32
+    ensures { result ≡ unwrap_or (option_map (λ (i : Item). i.span.from) (slice_get items.now number)) end }
 {
     match items.get(number) {
         Some(item) => item.span.from,
-        None => text.len(),
+        None => end,
     }
 }
 
@@ -100,6 +103,7 @@ fn read_from(
 {
     items_are_placed();
     marks_are_spans();
+    let end = text.len();
     let first = from as usize;
     let reach = walk(alloc, text, items, first, rule)?;
     match reach.end {
@@ -108,7 +112,53 @@ fn read_from(
             None => unreachable!(),
         },
         None => Err(ParseFault::Syntax {
-            at: byte_at(text, items, reach.stop),
+            at: byte_at(items, reach.stop, end),
         }),
     }
+}
+
+/// The longest expression (JLS 15) that begins at item number `from` of the text, the number of the item behind its last
+/// token, and the number of the item where reading stops: that of the first token from there on such that no expression
+/// begins with the tokens up to it and with it, or else the number of items.
+///
+/// `from` is the number of any item, blanks and comments too, or the number of items. Each node's mark is the span from its
+/// first token to its last. `Syntax` exactly where no tokens from there on are an expression: `at` is the first byte of the
+/// item where reading stops, or the file's end.
+pub fn parse_expr(
+    alloc: Global,
+    text: &Text,
+    items: &[Item],
+    from: u32,
+) -> Result<(Expr<Span>, u32, u32), ParseFault>
+    requires lexed { Lexes text.now items.now }
+    requires within { AreWithin items.now }
+    requires from { from ≤ length items.now }
+    ensures read { IfOk result (λ read. IsExpressionFrom text.now items.now from (expr_of read.0) read.1 read.2) }
+    ensures fault { IfErr result (IsFault (IsNoExpressionFrom text.now items.now from)) }
+
+    // Where the tokens begin with an expression one is read, and where they begin with none it is a fault, unless memory ran out.
+    ensures only_read { HasExpression (kinds (tokens_from text.now items.now from)) → IfErr result (λ fault. fault ≡ ParseFault.Memory) }
+    ensures only_fault { HasNoExpression (kinds (tokens_from text.now items.now from)) → IsErr result }
+{
+    read_from(alloc, text, items, from, Rule::Expression)
+}
+
+/// The same for statement expressions (JLS 14.8): assignments, `++` and `--`, calls, and `new`.
+pub fn parse_sexpr(
+    alloc: Global,
+    text: &Text,
+    items: &[Item],
+    from: u32,
+) -> Result<(Expr<Span>, u32, u32), ParseFault>
+    requires lexed { Lexes text.now items.now }
+    requires within { AreWithin items.now }
+    requires from { from ≤ length items.now }
+    ensures read { IfOk result (λ read. IsStatementExpressionFrom text.now items.now from (expr_of read.0) read.1 read.2) }
+    ensures fault { IfErr result (IsFault (IsNoStatementExpressionFrom text.now items.now from)) }
+
+    // Where the tokens begin with a statement expression one is read, and where they begin with none it is a fault, unless memory ran out.
+    ensures only_read { HasStatementExpression (kinds (tokens_from text.now items.now from)) → IfErr result (λ fault. fault ≡ ParseFault.Memory) }
+    ensures only_fault { HasNoStatementExpression (kinds (tokens_from text.now items.now from)) → IsErr result }
+{
+    read_from(alloc, text, items, from, Rule::StatementExpression)
 }
