@@ -15,3 +15,13 @@ pub mod Places
 pub mod Maps
 pub mod Marks
 pub mod Cases
+pub mod OwnMarks
+pub mod Stacks
+pub mod Rows
+pub mod Wholes
+pub mod Quotes
+pub mod Walking
+pub mod WalkLaws
+pub mod Few
+pub mod Finds
+pub mod Readings

@@ -102,13 +102,16 @@ state_stands _ e ps h k = absurd cc
 pub marks_stand : (ps : Tokens) (s : State Span) (e : Exp Span) → span_run (want []) ps ≡ Some s → span_whole s ≡ Some e → Stands e ps
 marks_stand ps s e h k = state_stands s e ps (at_some (span_run (want []) ps) s (λ (n : State Span). StandsState n ps) h (run_stands (want []) [] ps refl)) k
 
-bare_run_of : (ps : Tokens) (s : State Span) → span_run (want []) ps ≡ Some s → bare_run (want []) (kinds ps) ≡ Some (bare_state s)
+pub bare_run_of : (ps : Tokens) (s : State Span) → span_run (want []) ps ≡ Some s → bare_run (want []) (kinds ps) ≡ Some (bare_state s)
 bare_run_of ps s h =
     sym (run_map (State Span) (Placed Span) (Exp Span) (State Bare) Token (Exp Bare) span_step span_whole bare_step bare_whole bare_state (λ p. p.token) bare (λ s p. step-bare join s p.mark p.token) (λ s. whole-bare join s) (want []) ps)
     ∙ ap (option_map bare_state) h
 
-bare_whole_of : (s : State Span) (e : Exp Span) → span_whole s ≡ Some e → bare_whole (bare_state s) ≡ Some (bare e)
+pub bare_whole_of : (s : State Span) (e : Exp Span) → span_whole s ≡ Some e → bare_whole (bare_state s) ≡ Some (bare e)
 bare_whole_of s e h = sym (whole-bare join s) ∙ ap (option_map bare) h
+
+pub bare_statement_whole_of : (s : State Span) (e : Exp Span) → span_statement_whole s ≡ Some e → bare_statement_whole (bare_state s) ≡ Some (bare e)
+bare_statement_whole_of s e h = sym (statement_whole-bare join s) ∙ ap (option_map bare) h
 
 -- what holds of trees whatever their marks
 abbrev pub Ignores : Type 0
@@ -139,7 +142,7 @@ run_kept s (i ∷ ps) n e = go (λ m k. run_kept m ps n k) (both_some (λ (m : S
     go : ((m : State Span) → span_statement_run m ps ≡ Some n → span_run m ps ≡ Some n) → (m : State Span) × (span_statement_step s i ≡ Some m) × (span_statement_run m ps ≡ Some n) → span_run s (i ∷ ps) ≡ Some n
     go f b = ap (option_and_then (λ (m : State Span). span_run m ps)) (kept_some (span_step s i) b.0 b.1) ∙ f b.0 b.2
 
-kept_whole : (o : Option (Exp Span)) (e : Exp Span) → kept_statement o ≡ Some e → o ≡ Some e
+pub kept_whole : (o : Option (Exp Span)) (e : Exp Span) → kept_statement o ≡ Some e → o ≡ Some e
 kept_whole None e h = absurd cc
 kept_whole (Some d) e h = go (is_statement d) h
   where
@@ -147,7 +150,7 @@ kept_whole (Some d) e h = go (is_statement d) h
     go true q = q
     go false q = absurd cc
 
-bare_statement_run_of : (ps : Tokens) (s : State Span) → span_statement_run (want []) ps ≡ Some s → bare_statement_run (want []) (kinds ps) ≡ Some (bare_state s)
+pub bare_statement_run_of : (ps : Tokens) (s : State Span) → span_statement_run (want []) ps ≡ Some s → bare_statement_run (want []) (kinds ps) ≡ Some (bare_state s)
 bare_statement_run_of ps s h =
     sym (run_map (State Span) (Placed Span) (Exp Span) (State Bare) Token (Exp Bare) span_statement_step span_statement_whole bare_statement_step bare_statement_whole bare_state (λ p. p.token) bare (λ s p. statement_step-bare join s p.mark p.token)
     (λ s. statement_whole-bare join s) (want []) ps)
