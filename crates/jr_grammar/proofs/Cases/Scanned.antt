@@ -87,6 +87,11 @@ append_none : (cs : List ℕ) → cs ++ [] ≡ cs
 append_none [] = refl
 append_none (c ∷ cs) = λ i. c ∷ append_none cs i
 
+pub ascii_chars : (bytes : List ℕ) → are_ascii bytes ≡ true → scalars bytes ≡ true → chars bytes ≡ bytes
+ascii_chars bytes h s =
+    let same : encodes bytes ≡ bytes = front_ascii bytes [] (ap are_ascii (append_none bytes) ∙ h) in
+    sym (chars_from_encodes bytes bytes (bytes, (s, same)) same)
+
 pub lexes : (bytes : List ℕ) (items : List Item) → are_ascii bytes ≡ true → scalars bytes ≡ true → cut (length bytes) 0 bytes ≡ Some items → Lexes bytes items
 lexes bytes items h s e =
     let same : encodes bytes ≡ bytes = front_ascii bytes [] (ap are_ascii (append_none bytes) ∙ h) in
