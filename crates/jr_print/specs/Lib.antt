@@ -1,0 +1,3 @@
+pub mod ExpressionText
+pub mod StatementText
+pub mod MemberText

@@ -1,0 +1,2 @@
+//! Trees as text: what an expression, a statement or a member is printed as.
+#![tactic(auto)]
