@@ -4,14 +4,30 @@ use Rattle.std.specs.Prelude.{option_map}
 use Rattle.jr_ast.specs.declared.operators.UnOp.TheVariants.{Plus, Minus, Not}
 use Rattle.jr_ast.specs.declared.operators.BinOp.{BinOp}
 use Rattle.jr_ast.specs.declared.operators.BinOp.TheVariants.{Add, Sub}
-use Rattle.jr_ast.specs.Tree.{Word, TypeName, named, Exp, number, name, field, super_field, paren, bump, Exps, end, more}
+use Rattle.jr_ast.specs.Tree.{Word, TypeName, named, Exp, number, name, field, super_field, call, super_call, create, paren, bump, assign, compound, Exps, end, more}
 use Rattle.jr_ast.specs.Marks.{exp_mark}
-use Rattle.jr_pexpr.specs.Tokens.{Token}
-use Rattle.jr_pexpr.specs.Shape.{rank_of, level_of}
+use Rattle.jr_grammar.specs.Tokens.{Token}
+use Rattle.jr_grammar.specs.Shape.{rank_of, level_of}
 use Rattle.jr_pexpr.specs.Pieces.{Way, Atom, a_number, a_truth, a_null, a_string, a_this, Piece, a_word, an_atom, a_super, a_new, a_class, an_open, a_close, a_comma, a_dot, a_bang, a_bump, an_operator, an_equals, a_compound, piece_of}
 use Rattle.jr_pexpr.specs.Machine.{Head, call_head, super_head, create_head, Frame, in_unary, in_bump, in_assign, in_compound, in_paren, in_args, State, want, have, dotted, at_super, super_dotted, at_new, new_named, new_dotted, with_last, behind, binds, needed, behind_minus, plug, fits, applied, reduced, operated, closed, continued, at_most, atom_exp, atom_fits, signed, emptied, begun, name_type, cast_frame, cast_of, casted, opened, is_target, is_compound, assigned, bumped, extended, literal_of, member, behind_super, super_member, behind_new, new_outer, behind_new_name, new_inner, stepped, step, whole_of, whole, is_bottom, is_open, frames_of, kept_open, statement_step, is_statement, kept_statement, statement_whole}
-use Rattle.jr_pexpr.specs.Bare.{Bare, no_join, bare_word, bare_type, bare, bare_args, bare_head, bare_frame, bare_stack, bare_state, bare_step, bare_whole, bare_statement_step, bare_statement_whole}
-use Rattle.jr_pexpr.proofs.Erase.{level_of-bare, is_target-bare, is_statement-bare}
+use Rattle.jr_grammar.specs.Bare.{Bare, bare_word, bare_type, bare, bare_args}
+use Rattle.jr_pexpr.specs.BareMachine.{no_join, bare_head, bare_frame, bare_stack, bare_state, bare_step, bare_whole, bare_statement_step, bare_statement_whole}
+use Rattle.jr_grammar.proofs.Erase.{level_of-bare}
+
+pub is_target-bare : {A : Type 0} (e : Exp A) → is_target (bare e) ≡ is_target e
+is_target-bare (name m w) = refl
+is_target-bare (field m e w) = refl
+is_target-bare (super_field m w) = refl
+is_target-bare _ = refl
+
+pub is_statement-bare : {A : Type 0} (e : Exp A) → is_statement (bare e) ≡ is_statement e
+is_statement-bare (assign m t e) = refl
+is_statement-bare (compound m o t e) = refl
+is_statement-bare (bump m o e) = refl
+is_statement-bare (call m t w es) = refl
+is_statement-bare (super_call m w es) = refl
+is_statement-bare (create m t es) = refl
+is_statement-bare _ = refl
 
 abbrev pub bare_some : {A : Type 0} → Option (State A) → Option (State Bare)
 bare_some o = option_map bare_state o

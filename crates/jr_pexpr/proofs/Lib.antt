@@ -8,13 +8,9 @@ pub mod Sound
 pub mod Reading
 pub mod Opens
 pub mod Statements
-pub mod Erase
 pub mod EraseSteps
-pub mod Remarked
 pub mod Placing
 pub mod Places
 pub mod Maps
 pub mod Marks
 pub mod Cases
-pub mod Standing
-pub mod OneAnswer

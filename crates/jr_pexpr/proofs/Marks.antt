@@ -4,18 +4,20 @@ use Rattle.std.specs.Prelude.{option_and_then, option_map, MatchOption}
 use Rattle.std.proofs.lemmas.List.{append-nil}
 use Rattle.jr_text.specs.declared.spans.Span.{Span}
 use Rattle.jr_ast.specs.Tree.{Exp}
-use Rattle.jr_pexpr.specs.Tokens.{Token, Placed, kinds}
-use Rattle.jr_pexpr.specs.Spelling.{toks}
-use Rattle.jr_pexpr.specs.Shape.{Shaped, IsStatementForm, ShapedStatement}
-use Rattle.jr_pexpr.specs.Stands.{Tokens, Stands}
+use Rattle.jr_grammar.specs.Tokens.{Token, Placed, kinds}
+use Rattle.jr_grammar.specs.Spelling.{toks}
+use Rattle.jr_grammar.specs.Shape.{Shaped, IsStatementForm, ShapedStatement}
+use Rattle.jr_grammar.specs.Stands.{Tokens, Stands}
 use Rattle.jr_pexpr.specs.Machine.{State, want, have, whole_of, reduced}
-use Rattle.jr_pexpr.specs.Bare.{Bare, bare, bare_state, bare_step, bare_whole, bare_run, bare_statement_step, bare_statement_whole, bare_statement_run}
+use Rattle.jr_grammar.specs.Bare.{Bare, bare}
+use Rattle.jr_pexpr.specs.BareMachine.{bare_state, bare_step, bare_whole, bare_run, bare_statement_step, bare_statement_whole, bare_statement_run}
 use Rattle.jr_pexpr.specs.Marked.{join, span_step, span_whole, span_run, span_statement_step, span_statement_whole, span_statement_run}
-use Rattle.jr_pexpr.specs.Expressions.{ReadsExpression, ReadsStatementExpression, OneExpression, OneStatementExpression, LengthIsLongest, StatementLengthIsLongest, StopIsExact, StatementStopIsExact, StepsAlike, BuildsMarked, OneMarkedExpression, expression_length, statement_expression_length, HasNoExpression, HasNoStatementExpression, IsLongestExpression, IsLongestStatementExpression}
+use Rattle.jr_grammar.specs.Expressions.{IsMarkedExpression, IsMarkedStatementExpression, OneExpression, OneStatementExpression, HasNoExpression, HasNoStatementExpression, IsLongestExpression, IsLongestStatementExpression}
+use Rattle.jr_pexpr.specs.Expressions.{LengthIsLongest, StatementLengthIsLongest, StopIsExact, StatementStopIsExact, StepsAlike, BuildsMarked, OneMarkedExpression, expression_length, statement_expression_length}
 use Rattle.jr_pexpr.proofs.Found.{at_some, both_some, one_tree_of, longest_is, longest_none, stop_is}
 use Rattle.jr_pexpr.proofs.Reading.{start, reads, sound, closes}
 use Rattle.jr_pexpr.proofs.Statements.{statement_reads, statement_sound, statement_closes}
-use Rattle.jr_pexpr.proofs.Erase.{toks-bare, ShapedBehind-bare, IsStatementForm-bare}
+use Rattle.jr_grammar.proofs.Erase.{toks-bare, ShapedBehind-bare, IsStatementForm-bare}
 use Rattle.jr_pexpr.proofs.EraseSteps.{step-bare, statement_step-bare, whole-bare, statement_whole-bare}
 use Rattle.jr_pexpr.proofs.Maps.{run_map, stop_map, longest_map}
 use Rattle.jr_pexpr.proofs.Placing.{StandsState}
@@ -115,7 +117,7 @@ shaped_bare e h = subst (λ (X : Type 0). X) (sym (ShapedBehind-bare false e)) h
 pub form_marked : (e : Exp Span) → IsStatementForm (bare e) → IsStatementForm e
 form_marked e h = subst (λ (X : Type 0). X) (IsStatementForm-bare e) h
 
-builds_expression : (ps : Tokens) (s : State Span) (e : Exp Span) → span_run (want []) ps ≡ Some s → span_whole s ≡ Some e → ReadsExpression ps e
+builds_expression : (ps : Tokens) (s : State Span) (e : Exp Span) → span_run (want []) ps ≡ Some s → span_whole s ≡ Some e → IsMarkedExpression ps e
 builds_expression ps s e h k =
     let q = sound (kinds ps) (bare_state s) (bare e) (bare_run_of ps s h) (bare_whole_of s e k) in
     record { shaped = shaped_marked e q.0; spells = sym (toks-bare e) ∙ q.1; marks = marks_stand ps s e h k }
@@ -151,7 +153,7 @@ bare_statement_run_of ps s h =
     (λ s. statement_whole-bare join s) (want []) ps)
     ∙ ap (option_map bare_state) h
 
-builds_statement : (ps : Tokens) (s : State Span) (e : Exp Span) → span_statement_run (want []) ps ≡ Some s → span_statement_whole s ≡ Some e → ReadsStatementExpression ps e
+builds_statement : (ps : Tokens) (s : State Span) (e : Exp Span) → span_statement_run (want []) ps ≡ Some s → span_statement_whole s ≡ Some e → IsMarkedStatementExpression ps e
 builds_statement ps s e h k =
     let q = statement_sound (kinds ps) (bare_state s) (bare e) (bare_statement_run_of ps s h) (sym (statement_whole-bare join s) ∙ ap (option_map bare) k) in
     record {

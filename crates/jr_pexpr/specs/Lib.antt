@@ -1,12 +1,6 @@
-pub mod Tokens
-pub mod Spelling
-pub mod Shape
-pub mod Readings
 pub mod Pieces
 pub mod Machine
-pub mod Bare
-pub mod Stands
+pub mod BareMachine
 pub mod Marked
-pub mod Expressions
 pub mod Runs
-pub mod IgnoresMarks
+pub mod Expressions

@@ -8,8 +8,8 @@ use Rattle.jr_ast.specs.declared.operators.BumpOp.{BumpOp}
 use Rattle.jr_ast.specs.declared.operators.BumpOp.TheVariants.{PreInc, PreDec, PostInc, PostDec}
 use Rattle.jr_ast.specs.Tree.{Word, TypeName, named, Exp, number, truth, null, string, name, field, super_field, this, class_literal, call, super_call, create, paren, cast, unary, bump, binary, assign, compound, Target, no_target, on, Exps, end, more}
 use Rattle.jr_ast.specs.Marks.{exp_mark}
-use Rattle.jr_pexpr.specs.Tokens.{Token}
-use Rattle.jr_pexpr.specs.Shape.{rank_of, unary_level, level_of, greatest, is_minus}
+use Rattle.jr_grammar.specs.Tokens.{Token}
+use Rattle.jr_grammar.specs.Shape.{rank_of, unary_level, level_of, greatest, is_minus}
 use Rattle.jr_pexpr.specs.Pieces.{Way, up, down, Atom, a_number, a_truth, a_null, a_string, a_this, Piece, a_word, an_atom, a_super, a_new, a_class, an_open, a_close, a_comma, a_dot, a_bang, a_bump, an_operator, an_equals, a_compound, piece_of}
 
 -- what stands before the arguments of a call or of `new`

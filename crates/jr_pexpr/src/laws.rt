@@ -1,5 +1,5 @@
-ghost use Rattle.jr_pexpr.specs.Expressions.{OneExpression, OneStatementExpression, OneMarkedExpression, LengthIsLongest, StatementLengthIsLongest, StopIsExact, StatementStopIsExact, StepsAlike, BuildsMarked};
-ghost use Rattle.jr_pexpr.specs.IgnoresMarks.{ExpressionIgnoresMarks};
+ghost use Rattle.jr_grammar.specs.Expressions.{OneExpression, OneStatementExpression};
+ghost use Rattle.jr_pexpr.specs.Expressions.{OneMarkedExpression, LengthIsLongest, StatementLengthIsLongest, StopIsExact, StatementStopIsExact, StepsAlike, BuildsMarked};
 
 /// No two expressions spell the same tokens (JLS 15).
 pub fn one_expression()
@@ -44,9 +44,4 @@ pub fn marked_steps_alike()
 /// What the machine builds has the span of each node's tokens as that node's mark.
 pub fn marks_are_spans()
     ensures { BuildsMarked }
-{}
-
-/// What an expression spells, and whether it is one, doesn't depend on its marks.
-pub fn expression_ignores_marks<A, B>()
-    ensures { ExpressionIgnoresMarks A B }
 {}

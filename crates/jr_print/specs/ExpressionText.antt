@@ -9,7 +9,7 @@ use Rattle.jr_ast.specs.declared.operators.BinOp.{BinOp}
 use Rattle.jr_ast.specs.declared.operators.BumpOp.{BumpOp}
 use Rattle.jr_ast.specs.declared.operators.BumpOp.TheVariants.{PreInc, PreDec, PostInc, PostDec}
 use Rattle.jr_ast.specs.Tree.{Word, TypeName, int, boolean, named, Exp, number, truth, null, string, name, field, super_field, this, class_literal, call, super_call, create, paren, cast, unary, bump, binary, assign, compound, Target, no_target, on, Exps, end, more}
-use Rattle.jr_pexpr.specs.Spelling.{binary_symbol, compound_symbol}
+use Rattle.jr_grammar.specs.Spelling.{binary_symbol, compound_symbol}
 
 -- ---- names and types
 

@@ -3,7 +3,7 @@ use Rattle.std.specs.Prelude.{ℕ, codes, List, [], ◌∷◌, ◌++◌, Option,
 use Rattle.jr_lex.specs.Words.{keyword_text}
 use Rattle.jr_ast.specs.Tree.{TypeName, Exp, Exps}
 use Rattle.jr_ast.specs.MemberTree.{Modifier, Param, Class, class, Member, field, method, constructor, inner, Members, end, more}
-use Rattle.jr_punit.specs.MemberSpelling.{modifier_keyword}
+use Rattle.jr_grammar.specs.MemberSpelling.{modifier_keyword}
 use Rattle.jr_print.specs.ExpressionText.{printed_type, printed, printed_args}
 use Rattle.jr_print.specs.StatementText.{printed_final, printed_stmts}
 

@@ -10,16 +10,16 @@ use Rattle.jr_ast.specs.Tree.{Word, TypeName, int, boolean, named, Exp, Exps}
 use Rattle.jr_ast.specs.StatementTree as S
 use Rattle.jr_ast.specs.MemberTree as M
 use Rattle.jr_ast.specs.MemberTree.{Unit as UnitTree}
-use Rattle.jr_pexpr.specs.Tokens.{Token, word, keyword, symbol}
-use Rattle.jr_pexpr.specs.Spelling.{type_toks, toks}
-use Rattle.jr_pexpr.specs.Bare.{Bare}
+use Rattle.jr_grammar.specs.Tokens.{Token, word, keyword, symbol}
+use Rattle.jr_grammar.specs.Spelling.{type_toks, toks}
+use Rattle.jr_grammar.specs.Bare.{Bare}
 use Rattle.jr_pexpr.specs.Machine.{begun, extended}
 use Rattle.jr_pexpr.proofs.Statements.{statement_reads}
 use Rattle.jr_pexpr.proofs.Cases.Forms.{statement_of}
-use Rattle.jr_punit.specs.StatementSpelling.{final_toks, stmt_toks, stmts_toks}
-use Rattle.jr_punit.specs.StatementShape.{StmtShaped, StmtsShaped}
-use Rattle.jr_punit.specs.MemberSpelling.{modifier_keyword, super_toks, member_toks, members_toks, package_toks, classes_toks}
-use Rattle.jr_punit.specs.MemberShape.{OwnShaped, MembersShaped, ClassesShaped}
+use Rattle.jr_grammar.specs.StatementSpelling.{final_toks, stmt_toks, stmts_toks}
+use Rattle.jr_grammar.specs.StatementShape.{StmtShaped, StmtsShaped}
+use Rattle.jr_grammar.specs.MemberSpelling.{modifier_keyword, super_toks, member_toks, members_toks, package_toks, classes_toks}
+use Rattle.jr_grammar.specs.MemberShape.{OwnShaped, MembersShaped, ClassesShaped}
 
 -- ---- statement expressions: the tokens of one, with a semicolon behind it
 

@@ -1,5 +1,1 @@
-pub mod Parts
-pub mod Statements
-pub mod Classes
-pub mod Places
 pub mod NoTree

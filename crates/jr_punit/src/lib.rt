@@ -1,6 +1,2 @@
-//! Compilation units: which tokens statements, members, classes and units spell, and which trees are shaped.
+//! Compilation units: how tokens are read as statements, members, classes and units.
 #![tactic(auto)]
-
-mod laws;
-
-pub use laws::unit_ignores_marks;

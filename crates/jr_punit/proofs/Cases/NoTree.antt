@@ -7,12 +7,12 @@ use Rattle.jr_ast.specs.Tree.{int, number, super_call, call, no_target, end}
 use Rattle.jr_ast.specs.StatementTree as S
 use Rattle.jr_ast.specs.MemberTree as M
 use Rattle.jr_ast.specs.MemberTree.{Unit as UnitTree}
-use Rattle.jr_pexpr.specs.Tokens.{Token, word, keyword, integer, symbol}
-use Rattle.jr_pexpr.specs.Bare.{Bare}
-use Rattle.jr_pexpr.proofs.Cases.Forms.{w, ty}
-use Rattle.jr_punit.specs.MemberSpelling.{member_toks}
-use Rattle.jr_punit.specs.MemberShape.{OwnShaped}
-use Rattle.jr_punit.specs.Units.{IsNoUnit, IsUnitStop, IsListStop, IsMemberStop, HasNoMember, IsLongestMember}
+use Rattle.jr_grammar.specs.Tokens.{Token, word, keyword, integer, symbol}
+use Rattle.jr_grammar.specs.Bare.{Bare}
+use Rattle.jr_grammar.proofs.Cases.Forms.{w, ty}
+use Rattle.jr_grammar.specs.MemberSpelling.{member_toks}
+use Rattle.jr_grammar.specs.MemberShape.{OwnShaped}
+use Rattle.jr_grammar.specs.Units.{IsNoUnit, IsUnitStop, IsListStop, IsMemberStop, HasNoMember, IsLongestMember}
 use Rattle.jr_punit.proofs.Begins.{opened, method_first, constructor_first, named_first, body_of_local, body_of_super, super_behind_call, semicolon_first, package_ends, package_no_keyword, list_of_local, list_of_call_and_super, member_no_symbol, own_no_class}
 
 -- ---- units

@@ -1,0 +1,10 @@
+pub mod Forms
+pub mod Texts
+pub mod Operators
+pub mod Primaries
+pub mod StatementExpressions
+pub mod SideConditions
+pub mod Parts
+pub mod Statements
+pub mod Classes
+pub mod UnitPlaces

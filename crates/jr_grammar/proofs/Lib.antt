@@ -1,0 +1,9 @@
+pub mod OneAnswer
+pub mod Erase
+pub mod EraseSpelling
+pub mod EraseShape
+pub mod Remarked
+pub mod UnitRemarked
+pub mod Standing
+pub mod UnitStanding
+pub mod Cases

@@ -1,0 +1,16 @@
+pub mod Tokens
+pub mod Spelling
+pub mod StatementSpelling
+pub mod MemberSpelling
+pub mod Shape
+pub mod StatementShape
+pub mod MemberShape
+pub mod Bare
+pub mod BareTrees
+pub mod Stands
+pub mod StatementStands
+pub mod MemberStands
+pub mod Readings
+pub mod Expressions
+pub mod Units
+pub mod IgnoresMarks
