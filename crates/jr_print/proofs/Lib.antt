@@ -1,1 +1,14 @@
 pub mod Cases
+pub mod Measures
+pub mod StartLaws
+pub mod Puts
+pub mod TextParts
+pub mod Written
+pub mod Lexed
+pub mod Beside
+pub mod ExpressionParts
+pub mod ExpressionJoined
+pub mod ExpressionApart
+pub mod StatementParts
+pub mod StatementJoined
+pub mod StatementApart

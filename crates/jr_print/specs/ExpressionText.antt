@@ -36,11 +36,17 @@ printed_unary Minus text = signed 45 text
 printed_unary Not text = codes "!" ++ text
 
 -- `++` or `--` directly before its operand's text, or directly behind it
-abbrev pub printed_bump : BumpOp → List ℕ → List ℕ
-printed_bump PreInc text = codes "++" ++ text
-printed_bump PreDec text = codes "--" ++ text
-printed_bump PostInc text = text ++ codes "++"
-printed_bump PostDec text = text ++ codes "--"
+abbrev pub before_text : BumpOp → List ℕ
+before_text PreInc = codes "++"
+before_text PreDec = codes "--"
+before_text PostInc = []
+before_text PostDec = []
+
+abbrev pub behind_text : BumpOp → List ℕ
+behind_text PreInc = []
+behind_text PreDec = []
+behind_text PostInc = codes "++"
+behind_text PostDec = codes "--"
 
 -- a binary or an assignment operator, with one space on both sides
 abbrev pub printed_binary : BinOp → List ℕ
@@ -73,7 +79,7 @@ abbrev mutual
   printed (paren m e) = codes "(" ++ printed e ++ codes ")"
   printed (cast m t e) = codes "(" ++ printed_type t ++ codes ") " ++ printed e
   printed (unary m o e) = printed_unary o (printed e)
-  printed (bump m o e) = printed_bump o (printed e)
+  printed (bump m o e) = before_text o ++ printed e ++ behind_text o
   printed (binary m o l r) = printed l ++ printed_binary o ++ printed r
   printed (assign m t e) = printed t ++ codes " = " ++ printed e
   printed (compound m o t e) = printed t ++ printed_compound o ++ printed e
