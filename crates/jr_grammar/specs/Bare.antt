@@ -1,50 +1,43 @@
--- Trees without marks.
-use Rattle.std.specs.Prelude.{Option, Some, None}
-use Rattle.jr_ast.specs.Tree.{Word, TypeName, int, boolean, named, Exp, number, truth, null, string, name, field, super_field, this, class_literal, call, super_call, create, paren, cast, unary, bump, binary, assign, compound, Target, no_target, on, Exps, end, more}
+-- Trees without marks: each mark is mapped to nothing.
+use Rattle.jr_ast.specs.Tree.{Word, TypeName, Exp, Target, Exps}
+use Rattle.jr_ast.specs.StatementTree.{Stmt, Stmts}
+use Rattle.jr_ast.specs.MemberTree.{Class, Member, Unit as UnitTree}
+use Rattle.jr_ast.specs.Remarked.{map_word, map_type, map_exp, map_target, map_exps, map_stmt, map_stmts, map_class, map_member, map_unit}
 
 -- a mark that says nothing
 abbrev pub Bare : Type 0
 Bare = Unit {0}
 
-abbrev pub bare_word : {A : Type 0} → Word A → Word Bare
-bare_word w = record { mark = tt; text = w.text }
+abbrev pub no_mark : {A : Type 0} → A → Bare
+no_mark m = tt
 
-abbrev pub bare_outer : {A : Type 0} → Option (Word A) → Option (Word Bare)
-bare_outer None = None
-bare_outer (Some w) = Some (bare_word w)
+-- the tree without its marks, for each kind of tree
+abbrev pub bare_word : {A : Type 0} → Word A → Word Bare
+bare_word = map_word no_mark
 
 abbrev pub bare_type : {A : Type 0} → TypeName A → TypeName Bare
-bare_type (int m) = int tt
-bare_type (boolean m) = boolean tt
-bare_type (named m o w) = named tt (bare_outer o) (bare_word w)
+bare_type = map_type no_mark
 
-abbrev mutual
-  -- the tree without its marks
-  pub bare : {A : Type 0} → Exp A → Exp Bare
-  bare (number m n) = number tt n
-  bare (truth m b) = truth tt b
-  bare (null m) = null tt
-  bare (string m s) = string tt s
-  bare (name m w) = name tt (bare_word w)
-  bare (field m e w) = field tt (bare e) (bare_word w)
-  bare (super_field m w) = super_field tt (bare_word w)
-  bare (this m) = this tt
-  bare (class_literal m t) = class_literal tt (bare_type t)
-  bare (call m t w es) = call tt (bare_target t) (bare_word w) (bare_args es)
-  bare (super_call m w es) = super_call tt (bare_word w) (bare_args es)
-  bare (create m t es) = create tt (bare_type t) (bare_args es)
-  bare (paren m e) = paren tt (bare e)
-  bare (cast m t e) = cast tt (bare_type t) (bare e)
-  bare (unary m o e) = unary tt o (bare e)
-  bare (bump m o e) = bump tt o (bare e)
-  bare (binary m o l r) = binary tt o (bare l) (bare r)
-  bare (assign m t e) = assign tt (bare t) (bare e)
-  bare (compound m o t e) = compound tt o (bare t) (bare e)
+abbrev pub bare : {A : Type 0} → Exp A → Exp Bare
+bare = map_exp no_mark
 
-  pub bare_target : {A : Type 0} → Target A → Target Bare
-  bare_target no_target = no_target
-  bare_target (on e) = on (bare e)
+abbrev pub bare_target : {A : Type 0} → Target A → Target Bare
+bare_target = map_target no_mark
 
-  pub bare_args : {A : Type 0} → Exps A → Exps Bare
-  bare_args end = end
-  bare_args (more e es) = more (bare e) (bare_args es)
+abbrev pub bare_args : {A : Type 0} → Exps A → Exps Bare
+bare_args = map_exps no_mark
+
+abbrev pub bare_stmt : {A : Type 0} → Stmt A → Stmt Bare
+bare_stmt = map_stmt no_mark
+
+abbrev pub bare_stmts : {A : Type 0} → Stmts A → Stmts Bare
+bare_stmts = map_stmts no_mark
+
+abbrev pub bare_class : {A : Type 0} → Class A → Class Bare
+bare_class = map_class no_mark
+
+abbrev pub bare_member : {A : Type 0} → Member A → Member Bare
+bare_member = map_member no_mark
+
+abbrev pub bare_unit : {A : Type 0} → UnitTree A → UnitTree Bare
+bare_unit = map_unit no_mark

@@ -19,41 +19,30 @@ abbrev pub ShapedArgs : {A : Type 0} → Option (Exps A) → Type 0
 ShapedArgs None = Unit {0}
 ShapedArgs (Some es) = AllShaped es
 
--- a member that is no class, of the class that has the name
-abbrev pub OwnShaped : {A : Type 0} → List ℕ → Member A → Type 0
-OwnShaped name (field m ms t w init) = ShapedValue init
-OwnShaped name (method m ms t w ps body) = StmtsShaped body
-OwnShaped name (constructor m ms w ps args body) = IsNamedAs name w × ShapedArgs args × StmtsShaped body
-OwnShaped name (inner m c) = ⊥
+-- Whether a class may hold classes: one that is itself a member of a class may not.
+abbrev pub HoldsClasses : Bool → Type 0
+HoldsClasses true = ⊥
+HoldsClasses false = Unit {0}
 
-abbrev pub AllOwnShaped : {A : Type 0} → List ℕ → Members A → Type 0
-AllOwnShaped name end = Unit {0}
-AllOwnShaped name (more d ds) = OwnShaped name d × AllOwnShaped name ds
+-- `nested` says whether the class is itself a member of a class (JLS 8.5).
+abbrev mutual
+  pub ClassShaped : {A : Type 0} → Bool → Class A → Type 0
+  ClassShaped nested (class m ms w parent all) = IsParent parent × MembersShaped nested w.text all
 
--- A class inside a class holds no class.
-abbrev pub InnerShaped : {A : Type 0} → Class A → Type 0
-InnerShaped (class m ms w parent all) = IsParent parent × AllOwnShaped w.text all
+  -- a member of the class that has the name
+  pub MemberShaped : {A : Type 0} → Bool → List ℕ → Member A → Type 0
+  MemberShaped nested name (field m ms t w init) = ShapedValue init
+  MemberShaped nested name (method m ms t w ps body) = StmtsShaped body
+  MemberShaped nested name (constructor m ms w ps args body) = IsNamedAs name w × ShapedArgs args × StmtsShaped body
+  MemberShaped nested name (inner m c) = HoldsClasses nested × ClassShaped true c
 
--- a member of the top-level class that has the name
-abbrev pub MemberShaped : {A : Type 0} → List ℕ → Member A → Type 0
-MemberShaped name (inner m c) = InnerShaped c
-MemberShaped name d = OwnShaped name d
-
--- A member of the class that has the name; `nested` says whether that class is itself a member class (JLS 8.5).
-abbrev pub ShapedIn : {A : Type 0} → Bool → List ℕ → Member A → Type 0
-ShapedIn true name d = OwnShaped name d
-ShapedIn false name d = MemberShaped name d
-
-abbrev pub MembersShaped : {A : Type 0} → List ℕ → Members A → Type 0
-MembersShaped name end = Unit {0}
-MembersShaped name (more d ds) = MemberShaped name d × MembersShaped name ds
-
-abbrev pub ClassShaped : {A : Type 0} → Class A → Type 0
-ClassShaped (class m ms w parent all) = IsParent parent × MembersShaped w.text all
+  pub MembersShaped : {A : Type 0} → Bool → List ℕ → Members A → Type 0
+  MembersShaped nested name end = Unit {0}
+  MembersShaped nested name (more d ds) = MemberShaped nested name d × MembersShaped nested name ds
 
 abbrev pub ClassesShaped : {A : Type 0} → List (Class A) → Type 0
 ClassesShaped [] = Unit {0}
-ClassesShaped (c ∷ cs) = ClassShaped c × ClassesShaped cs
+ClassesShaped (c ∷ cs) = ClassShaped false c × ClassesShaped cs
 
 abbrev pub UnitShaped : {A : Type 0} → UnitTree A → Type 0
 UnitShaped u = ClassesShaped u.classes

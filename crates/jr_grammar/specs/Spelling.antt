@@ -44,7 +44,14 @@ compound_symbol Sub = MinusEquals
 compound_symbol Mul = StarEquals
 compound_symbol Div = SlashEquals
 compound_symbol Rem = PercentEquals
-compound_symbol o = binary_symbol o
+compound_symbol Or = binary_symbol Or
+compound_symbol And = binary_symbol And
+compound_symbol Eq = binary_symbol Eq
+compound_symbol Ne = binary_symbol Ne
+compound_symbol Lt = binary_symbol Lt
+compound_symbol Gt = binary_symbol Gt
+compound_symbol Le = binary_symbol Le
+compound_symbol Ge = binary_symbol Ge
 
 -- `++` or `--` in front of what is spelled so, or behind it (JLS 15.14.2, 15.14.3, 15.15.1, 15.15.2)
 abbrev pub bump_toks : BumpOp → List Token → List Token

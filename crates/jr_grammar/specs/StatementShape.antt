@@ -7,14 +7,25 @@ use Rattle.jr_grammar.specs.Shape.{Shaped, ShapedStatement}
 -- A declaration of a local stands directly in a block, and not behind `if`, `else` or `while` (JLS 14.4, 14.5).
 abbrev pub IsNoDeclaration : {A : Type 0} → Stmt A → Type 0
 IsNoDeclaration (local m f t w e) = ⊥
-IsNoDeclaration _ = Unit {0}
+IsNoDeclaration (eval m e) = Unit {0}
+IsNoDeclaration (branch m c first other) = Unit {0}
+IsNoDeclaration (loop m c body) = Unit {0}
+IsNoDeclaration (return m value) = Unit {0}
+IsNoDeclaration (block m body) = Unit {0}
+IsNoDeclaration (sync m e body) = Unit {0}
+IsNoDeclaration (empty m) = Unit {0}
 
 -- No `if` at its end could take an `else` that follows: what may stand before one (JLS 14.5, 14.9).
 abbrev mutual
   pub TakesNoElse : {A : Type 0} → Stmt A → Type 0
+  TakesNoElse (local m f t w e) = Unit {0}
+  TakesNoElse (eval m e) = Unit {0}
   TakesNoElse (branch m c first other) = EndsTaken other
   TakesNoElse (loop m c body) = TakesNoElse body
-  TakesNoElse _ = Unit {0}
+  TakesNoElse (return m value) = Unit {0}
+  TakesNoElse (block m body) = Unit {0}
+  TakesNoElse (sync m e body) = Unit {0}
+  TakesNoElse (empty m) = Unit {0}
 
   -- an `if` has its `else`, and no other could follow
   pub EndsTaken : {A : Type 0} → Else A → Type 0

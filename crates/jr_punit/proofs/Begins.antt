@@ -19,7 +19,7 @@ use Rattle.jr_pexpr.proofs.Cases.Forms.{statement_of}
 use Rattle.jr_grammar.specs.StatementSpelling.{final_toks, stmt_toks, stmts_toks}
 use Rattle.jr_grammar.specs.StatementShape.{StmtShaped, StmtsShaped}
 use Rattle.jr_grammar.specs.MemberSpelling.{modifier_keyword, super_toks, member_toks, members_toks, package_toks, classes_toks}
-use Rattle.jr_grammar.specs.MemberShape.{OwnShaped, MembersShaped, ClassesShaped}
+use Rattle.jr_grammar.specs.MemberShape.{MemberShaped, MembersShaped, ClassesShaped}
 
 -- ---- statement expressions: the tokens of one, with a semicolon behind it
 
@@ -184,7 +184,7 @@ member_no_symbol (M.inner m (M.class n (x ∷ xs) w parent all)) s q r h = cc
 member_no_symbol (M.inner m (M.class n [] w parent all)) s q r h = cc
 
 -- no member of a member class begins with `class`
-pub own_no_class : (name : List ℕ) (d : M.Member Bare) (q r : List Token) → OwnShaped name d → member_toks d ++ q ≡ keyword Class ∷ r → ⊥
+pub own_no_class : (name : List ℕ) (d : M.Member Bare) (q r : List Token) → MemberShaped true name d → member_toks d ++ q ≡ keyword Class ∷ r → ⊥
 own_no_class name (M.field m (x ∷ xs) t w init) q r k h = let e : modifier_keyword x.word ≡ Class = cc in modifier_is_no_class x.word e
 own_no_class name (M.field m [] (int i) w init) q r k h = cc
 own_no_class name (M.field m [] (boolean i) w init) q r k h = cc
@@ -198,14 +198,14 @@ own_no_class name (M.method m [] (Some (named i None c)) w ps body) q r k h = cc
 own_no_class name (M.method m [] (Some (named i (Some o) c)) w ps body) q r k h = cc
 own_no_class name (M.constructor m (x ∷ xs) w ps args body) q r k h = let e : modifier_keyword x.word ≡ Class = cc in modifier_is_no_class x.word e
 own_no_class name (M.constructor m [] w ps args body) q r k h = cc
-own_no_class name (M.inner m c) q r k h = k
+own_no_class name (M.inner m c) q r k h = k.0
 
 -- ---- a unit that begins `class A{`: what its first class holds
 
 pub record Opened (name : List ℕ) (ts : List Token) : Type 0 where
   pub all : M.Members Bare
   pub behind : List Token
-  pub shaped : MembersShaped name all
+  pub shaped : MembersShaped false name all
   pub spells : members_toks all ++ (symbol CloseBrace ∷ behind) ≡ ts
 
 pub opened : (name : List ℕ) (p : List (Word Bare)) (cs : List (M.Class Bare)) (ts : List Token) → ClassesShaped cs
@@ -217,7 +217,7 @@ opened name [] (M.class m [] w (Some t) all ∷ cs) ts k h = absurd cc
 opened name [] (M.class m [] w None all ∷ cs) ts k h = record {
   all = all;
   behind = classes_toks cs;
-  shaped = (let e : w.text ≡ name = cc in subst (λ (n : List ℕ). MembersShaped n all) e k.0.1);
+  shaped = (let e : w.text ≡ name = cc in subst (λ (n : List ℕ). MembersShaped false n all) e k.0.1);
   spells = (let e : (members_toks all ++ (symbol CloseBrace ∷ [])) ++ classes_toks cs ≡ ts = cc in sym (append_assoc (members_toks all) (symbol CloseBrace ∷ []) (classes_toks cs)) ∙ e);
 }
 
@@ -233,7 +233,7 @@ pub record Method (ts : List Token) : Type 0 where
   pub shaped : StmtsShaped body
   pub spells : stmts_toks body ++ (symbol CloseBrace ∷ behind) ≡ ts
 
-pub method_first : (name n : List ℕ) (all : M.Members Bare) (q ts : List Token) → MembersShaped name all
+pub method_first : (name n : List ℕ) (all : M.Members Bare) (q ts : List Token) → MembersShaped false name all
     → members_toks all ++ (symbol CloseBrace ∷ q) ≡ keyword Void ∷ word n ∷ symbol OpenParen ∷ symbol CloseParen ∷ symbol OpenBrace ∷ ts → Method ts
 method_first name n M.end q ts k h = absurd cc
 method_first name n (M.more (M.field m (x ∷ xs) t w init) ds) q ts k h = let e : modifier_keyword x.word ≡ Void = cc in absurd (modifier_is_no_void x.word e)
@@ -268,7 +268,7 @@ pub record Constructor (ts : List Token) : Type 0 where
   pub shaped : StmtsShaped body
   pub spells : super_toks args ++ (stmts_toks body ++ (symbol CloseBrace ∷ behind)) ≡ ts
 
-pub constructor_first : (name n : List ℕ) (all : M.Members Bare) (q ts : List Token) → MembersShaped name all
+pub constructor_first : (name n : List ℕ) (all : M.Members Bare) (q ts : List Token) → MembersShaped false name all
     → members_toks all ++ (symbol CloseBrace ∷ q) ≡ word n ∷ symbol OpenParen ∷ symbol CloseParen ∷ symbol OpenBrace ∷ ts → Constructor ts
 constructor_first name n M.end q ts k h = absurd cc
 constructor_first name n (M.more (M.field m (x ∷ xs) t w init) ds) q ts k h = absurd cc
@@ -298,7 +298,7 @@ constructor_first name n (M.more (M.inner m (M.class c (x ∷ xs) w parent all))
 constructor_first name n (M.more (M.inner m (M.class c [] w parent all)) ds) q ts k h = absurd cc
 
 -- a word with an opening parenthesis behind it begins a constructor, which is named as its class
-pub named_first : (name n : List ℕ) (all : M.Members Bare) (q ts : List Token) → MembersShaped name all → members_toks all ++ (symbol CloseBrace ∷ q) ≡ word n ∷ symbol OpenParen ∷ ts → n ≡ name
+pub named_first : (name n : List ℕ) (all : M.Members Bare) (q ts : List Token) → MembersShaped false name all → members_toks all ++ (symbol CloseBrace ∷ q) ≡ word n ∷ symbol OpenParen ∷ ts → n ≡ name
 named_first name n M.end q ts k h = absurd cc
 named_first name n (M.more (M.field m (x ∷ xs) t w init) ds) q ts k h = absurd cc
 named_first name n (M.more (M.field m [] (int i) w init) ds) q ts k h = absurd cc

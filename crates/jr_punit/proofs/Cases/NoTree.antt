@@ -11,7 +11,7 @@ use Rattle.jr_grammar.specs.Tokens.{Token, word, keyword, integer, symbol}
 use Rattle.jr_grammar.specs.Bare.{Bare}
 use Rattle.jr_grammar.proofs.Cases.Forms.{w, ty}
 use Rattle.jr_grammar.specs.MemberSpelling.{member_toks}
-use Rattle.jr_grammar.specs.MemberShape.{OwnShaped}
+use Rattle.jr_grammar.specs.MemberShape.{MemberShaped}
 use Rattle.jr_grammar.specs.Units.{IsNoUnit, IsUnitStop, IsListStop, IsMemberStop, HasNoMember, IsLongestMember}
 use Rattle.jr_punit.proofs.Begins.{opened, method_first, constructor_first, named_first, body_of_local, body_of_super, super_behind_call, semicolon_first, package_ends, package_no_keyword, list_of_local, list_of_call_and_super, member_no_symbol, own_no_class}
 
@@ -142,7 +142,7 @@ class_stops = record {
   at = λ n d b. own_no_class (codes "C") d [] (b.rest ++ []) b.meant (ap (λ (ts : List Token). ts ++ []) b.spells);
 }
 
-from_class : (name : List ℕ) (d : M.Member Bare) (m : ℕ) (r : List Token) → OwnShaped name d → member_toks d ≡ take m (keyword Class ∷ r) → ⊥
+from_class : (name : List ℕ) (d : M.Member Bare) (m : ℕ) (r : List Token) → MemberShaped true name d → member_toks d ≡ take m (keyword Class ∷ r) → ⊥
 from_class name d zero r k h = own_no_class name d (keyword Class ∷ []) [] k (ap (λ (ts : List Token). ts ++ (keyword Class ∷ [])) h)
 from_class name d (suc m) r k h = own_no_class name d [] (take m r ++ []) k (ap (λ (ts : List Token). ts ++ []) h)
 
