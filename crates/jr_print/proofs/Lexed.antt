@@ -3,10 +3,11 @@ use Rattle.std.proofs.Common.{◌≡◌, ℕ, ◌+◌, ◌-◌, List, [], ◌∷
 use Rattle.std.specs.List.{slice_range}
 use Rattle.std.proofs.lemmas.List.{append_assoc, length-append}
 use Rattle.std.proofs.Math.Seq.{drop-append_seam, take-append_seam}
+use Rattle.jr_lex.specs.declared.items.Item.{Item}
 use Rattle.jr_lex.specs.Lexes.{span_of, Lexes}
 use Rattle.jr_lex.specs.Beside.{ArePieces, AreApart, join_pieces, items_from, PiecesLex}
 use Rattle.jr_grammar.specs.Tokens.{Token, word, keyword, integer, text, symbol, token_of_kind, tokens_of}
-use Rattle.jr_print.specs.Lexical.{AreLexical, HasTokens}
+use Rattle.jr_grammar.specs.Lexical.{AreLexical}
 use Rattle.jr_print.proofs.TextParts.{Part, space, tok, token_text, token_kind, pieces_of, join, tokens, join-pieces}
 use Rattle.jr_print.proofs.Written.{pieces_are}
 
@@ -51,6 +52,12 @@ tokens_there (space ∷ ps) pre = behind (32 ∷ []) ps pre (tokens_there ps (pr
 tokens_there (tok t ∷ ps) pre = λ i. token_there t pre (join ps) i ∷ behind (token_text t) ps pre (tokens_there ps (pre ++ token_text t)) i
 
 -- ---- the law
+
+-- The text lexes, and its tokens are these.
+pub record HasTokens (bytes : List ℕ) (ts : List Token) : Type 0 where
+  pub items : List Item
+  pub lexes : Lexes bytes items
+  pub tokens_are : tokens_of bytes items ≡ ts
 
 pub parts_lex : PiecesLex → (ps : List Part) (bytes : List ℕ) (ts : List Token) → AreApart (pieces_of ps) → join ps ≡ bytes → tokens ps ≡ ts → AreLexical ts → HasTokens bytes ts
 parts_lex law ps bytes ts apart joined spelled lexical =

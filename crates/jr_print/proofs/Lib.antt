@@ -12,3 +12,7 @@ pub mod ExpressionApart
 pub mod StatementParts
 pub mod StatementJoined
 pub mod StatementApart
+pub mod MemberParts
+pub mod MemberJoined
+pub mod MemberApart
+pub mod Remarked

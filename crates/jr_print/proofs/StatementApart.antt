@@ -58,9 +58,11 @@ mutual
   stmt_apart (loop m c body) h rest a = (refl, condition_apart c h.0 (stmt_parts body rest) (space_before_stmt body _) (stmt_apart body h.2 rest a))
   stmt_apart (return m value) h rest a = return_apart value h rest a
   stmt_apart (block m body) h rest a = (behind_open_brace _, stmts_apart body h (space ∷ tok (symbol CloseBrace) ∷ rest) (closing_apart rest a))
-  stmt_apart (sync m e body) h rest a =
-      (refl, condition_apart e h.0 (tok (symbol OpenBrace) ∷ stmts_parts body (space ∷ tok (symbol CloseBrace) ∷ rest)) refl
-      (behind_open_brace _, stmts_apart body h.1 (space ∷ tok (symbol CloseBrace) ∷ rest) (closing_apart rest a)))
+  stmt_apart (sync m e body) h rest a = (
+    refl,
+    condition_apart e h.0 (tok (symbol OpenBrace) ∷ stmts_parts body (space ∷ tok (symbol CloseBrace) ∷ rest)) refl
+        (behind_open_brace _, stmts_apart body h.1 (space ∷ tok (symbol CloseBrace) ∷ rest) (closing_apart rest a)),
+  )
   stmt_apart (empty m) h rest a = (behind_semicolon rest, a)
 
   else_apart : {A : Type 0} (first : Stmt A) (o : Otherwise A) → ElseShaped first o → (rest : List Part) → Apart rest → Apart (else_parts o rest)

@@ -18,10 +18,9 @@ use Rattle.jr_print.proofs.StatementParts.{final_parts, return_parts, stmt_parts
 
 -- ---- the text
 
-final-join : (f : Bool) (rest : List Part) → join (final_parts f rest) ≡ printed_final f ++ join rest
+pub final-join : (f : Bool) (rest : List Part) → join (final_parts f rest) ≡ printed_final f ++ join rest
 final-join true rest = refl
 final-join false rest = refl
-
 
 local-text : (f t w e r : List ℕ) → f ++ (t ++ (32 ∷ (w ++ (32 ∷ 61 ∷ 32 ∷ (e ++ (59 ∷ r)))))) ≡ ((((((f ++ t) ++ 32 ∷ []) ++ w) ++ 32 ∷ 61 ∷ 32 ∷ []) ++ e) ++ 59 ∷ []) ++ r
 local-text f t w e r = simp append_assoc

@@ -20,7 +20,7 @@ use Rattle.jr_lex.specs.Lexemes.{IsLexeme}
 use Rattle.jr_lex.specs.Beside.{IsPiece, ArePieces}
 use Rattle.jr_grammar.specs.Tokens.{Token}
 use Rattle.jr_grammar.specs.Tokens as token
-use Rattle.jr_print.specs.Lexical.{IsLexical, AreLexical}
+use Rattle.jr_grammar.specs.Lexical.{IsLexical, AreLexical}
 use Rattle.jr_print.proofs.TextParts.{Part, space, tok, piece_of, pieces_of, tokens}
 
 -- ---- ASCII

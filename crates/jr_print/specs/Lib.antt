@@ -2,5 +2,4 @@ pub mod ExpressionText
 pub mod StatementText
 pub mod MemberText
 pub mod Starts
-pub mod Lexical
 pub mod ReadsBack

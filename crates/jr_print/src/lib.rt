@@ -10,5 +10,10 @@ mod starts;
 mod stmts;
 mod texts;
 
-pub use laws::{expression_reads_back, statement_reads_back};
+pub use laws::{
+    expression_reads_back, member_reads_back, printing_ignores_marks, statement_reads_back,
+};
 pub use texts::{expr_text, member_text, stmt_text};
+
+#[cfg(test)]
+mod tests;
