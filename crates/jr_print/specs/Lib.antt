@@ -1,0 +1,5 @@
+pub mod ExpressionText
+pub mod StatementText
+pub mod MemberText
+pub mod Starts
+pub mod ReadsBack
