@@ -19,3 +19,5 @@ pub mod Keyed
 pub mod Looking
 pub mod Sought
 pub mod Keeps
+pub mod Wanted
+pub mod Virtual

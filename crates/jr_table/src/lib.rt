@@ -2,13 +2,16 @@
 #![tactic(auto)]
 
 mod classes;
+mod climbing;
 mod copies;
 mod decls;
 mod entries;
 mod facts;
+mod first_wanted;
 mod found;
 mod keys;
 mod kinds;
+mod members;
 mod numbering;
 mod rows;
 mod rules;
@@ -16,6 +19,7 @@ mod sought;
 mod tables;
 mod type_lists;
 mod types;
+mod wanted;
 
 pub use classes::ClassKey;
 pub use decls::{Decl, LocalKey, MemberKey};
