@@ -29,7 +29,7 @@ if_none f P None k h = absurd cc
 if_none f P (Some x) k h = tt
 
 module _ (rows : List Entry) (Own : ℕ → ℕ → Type 0) where
-  member_declares : (chain : List ℕ) (j : ℕ) → MemberAmong rows Own chain j → (c : ℕ) × Own c j
+  pub member_declares : (chain : List ℕ) (j : ℕ) → MemberAmong rows Own chain j → (c : ℕ) × Own c j
   member_declares [] j h = absurd h
   member_declares (c ∷ cs) j (inl d) = (c, d)
   member_declares (c ∷ cs) j (inr (none, h, visible)) = member_declares cs j h
@@ -62,7 +62,7 @@ module _ (rows : List Row) where
     pub at : method_at rows j ≡ Some key
     pub row : IsRowOf rows (method_decl key) j
 
-  method_here : (name : List ℕ) (params : List Kind) (c j : ℕ) → DeclaresMethod (entries_of rows) name params c j → MethodHere j
+  pub method_here : (name : List ℕ) (params : List Kind) (c j : ℕ) → DeclaresMethod (entries_of rows) name params c j → MethodHere j
   method_here name params c j d =
       let r = row_at rows j d.row d.stands in
       let k = is_method_decl r.row.decl (sym (ap (λ (x : Entry). x.sort) r.is) ∙ d.method) in
@@ -116,7 +116,7 @@ module _ (rows : List Row) where
       }
 
   module _ (are : AreRows rows) where
-    same_number : (d : Decl) (i j : ℕ) → number_of rows d ≡ Some i → IsRowOf rows d j → j ≡ i
+    pub same_number : (d : Decl) (i j : ℕ) → number_of rows d ≡ Some i → IsRowOf rows d j → j ≡ i
     same_number d i j h r = some_inside (number_of rows d) j i (the_number rows are d j r) h
 
     -- subclasses

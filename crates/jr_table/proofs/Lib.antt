@@ -9,3 +9,5 @@ pub mod Testing
 pub mod OneEach
 pub mod StepsUp
 pub mod Border
+pub mod Gathered
+pub mod RowTests

@@ -12,11 +12,17 @@ mod found;
 mod keys;
 mod kinds;
 mod members;
+mod method_lists;
 mod numbering;
+mod prelude_rows;
 mod rows;
 mod rules;
+#[cfg(test)]
+mod sample;
 mod sought;
 mod tables;
+#[cfg(test)]
+mod tests;
 mod type_lists;
 mod types;
 mod wanted;
@@ -28,6 +34,7 @@ pub use facts::Facts;
 pub use found::Found;
 pub use keys::{CtorKey, FieldKey, MethodKey};
 pub use kinds::DeclKind;
+pub use prelude_rows::prelude;
 pub use rows::{Mods, Row};
 pub use rules::Rule;
 pub use tables::Table;

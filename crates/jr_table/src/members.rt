@@ -65,7 +65,7 @@ impl Table {
     }
 
     /// The method that a row declares.
-    fn method_at(&self, number: u32) -> Option<&MethodKey>
+    pub(crate) fn method_at(&self, number: u32) -> Option<&MethodKey>
         ensures { option_map (λ k. method_key_of k.now) result ≡ method_at self.now number }
     {
         match &self.rows().get(number as usize)?.decl {
