@@ -6,3 +6,8 @@ pub mod Ending
 pub mod RowLaws
 pub mod MemberLaws
 pub mod Testing
+pub mod OneEach
+pub mod StepsUp
+pub mod Border
+pub mod Gathered
+pub mod RowTests

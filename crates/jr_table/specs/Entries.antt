@@ -100,3 +100,18 @@ entry_of rows r = record {
 -- the rows by number
 unfoldable pub entries_of : List Row → List Entry
 entries_of rows = map (entry_of rows) rows
+
+-- the field, or the method, that a row declares
+abbrev pub field_of : Decl → Option FieldKey
+field_of (field_decl k) = Some k
+field_of _ = None
+
+abbrev pub method_of : Decl → Option MethodKey
+method_of (method_decl k) = Some k
+method_of _ = None
+
+abbrev pub field_at : List Row → ℕ → Option FieldKey
+field_at rows j = option_and_then (λ (r : Row). field_of r.decl) (slice_get rows j)
+
+abbrev pub method_at : List Row → ℕ → Option MethodKey
+method_at rows j = option_and_then (λ (r : Row). method_of r.decl) (slice_get rows j)

@@ -15,11 +15,15 @@ pub record IsSubclass (rows : List Row) (sub sup : ClassKey) : Type 0 where
   pub over : IsRowOf rows (class_decl sup) d
   pub climbs : IsSubclassAt (entries_of rows) c d
 
+-- null goes with every class, a class with its superclasses
+abbrev pub Widens : List Row → Ty → Ty → Type 0
+Widens rows null (class d) = Unit {0}
+Widens rows (class c) (class d) = IsSubclass rows c d
+Widens rows _ _ = ⊥
+
 -- a type is assignable to itself, a class to its superclasses, null to every class (JLS 5.2)
 abbrev pub IsAssignable : List Row → Ty → Ty → Type 0
-IsAssignable rows null (class d) = Unit {0}
-IsAssignable rows (class c) (class d) = (c ≡ d) ⊎ IsSubclass rows c d
-IsAssignable rows s t = s ≡ t
+IsAssignable rows s t = (s ≡ t) ⊎ Widens rows s t
 
 -- the class has the field as a member (JLS 8.3)
 pub record HasField (rows : List Row) (of : ClassKey) (k : FieldKey) : Type 0 where

@@ -16,6 +16,10 @@ pub mod Prelude
 pub mod Conditions
 pub mod Members
 pub mod Keyed
+pub mod MethodLists
 pub mod Looking
+pub mod Sample
 pub mod Sought
 pub mod Keeps
+pub mod Wanted
+pub mod Virtual

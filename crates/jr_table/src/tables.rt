@@ -73,6 +73,20 @@ impl Table {
         self.entries.as_slice()
     }
 
+    /// The row of a number.
+    pub fn entry(&self, number: u32) -> Option<&Entry>
+        ensures { option_map (λ e. e.now) result ≡ slice_get (entries_of self.now) number }
+    {
+        self.entries.as_slice().get(number as usize)
+    }
+
+    /// How many rows there are.
+    pub fn count(&self) -> u32
+        ensures { result ≡ length self.now }
+    {
+        self.rows.len() as u32
+    }
+
     /// The number of a class's row.
     pub fn class_number(&self, key: &ClassKey) -> Option<u32>
         ensures { result ≡ number_of self.now (class_decl (class_key_of key.now)) }
