@@ -20,3 +20,7 @@ pub mod TypedSteps
 pub mod TypedExps
 pub mod TypedStmts
 pub mod TypesKept
+mod Exchanging
+mod ReorderingCases
+pub mod Example
+mod TypedExample

@@ -21,3 +21,4 @@ pub mod Pairs
 pub mod Typing
 pub mod TypedRuns
 pub mod Laws
+pub mod Pieces
