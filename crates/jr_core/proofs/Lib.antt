@@ -20,6 +20,10 @@ pub mod TypedSteps
 pub mod TypedExps
 pub mod TypedStmts
 pub mod TypesKept
+pub mod TypedMatching
+pub mod TypedImages
+pub mod StartImages
+pub mod TypedPrograms
 mod Exchanging
 mod ReorderingCases
 pub mod Example
