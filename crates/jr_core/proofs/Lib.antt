@@ -3,6 +3,7 @@ mod ArithmeticCases
 mod OrderCases
 mod StatementCases
 mod ObjectCases
+mod CutCases
 mod TranslationCases
 pub mod Locals
 pub mod Undoing
