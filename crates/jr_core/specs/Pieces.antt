@@ -20,4 +20,5 @@ ReorderingsJoin C F M N A = Joins (λ (u : Trace (keys_of C F M N A)) (t : Trace
 
 -- such pieces change places, whatever stands in front of them and behind
 abbrev pub PiecesChangePlaces : (C F M N A : Type 0) → Type 0
-PiecesChangePlaces C F M N A = (front u v behind : Trace (keys_of C F M N A)) → AllFree u v → Reordered (front ++ (u ++ (v ++ behind))) (front ++ (v ++ (u ++ behind)))
+PiecesChangePlaces C F M N A = (front u v behind : Trace (keys_of C F M N A)) → AllFree u v
+    → Reordered (front ++ (u ++ (v ++ behind))) (front ++ (v ++ (u ++ behind)))
