@@ -3,6 +3,7 @@ mod ArithmeticCases
 mod OrderCases
 mod StatementCases
 mod ObjectCases
+mod CutCases
 mod TranslationCases
 pub mod Locals
 pub mod Undoing
@@ -20,3 +21,11 @@ pub mod TypedSteps
 pub mod TypedExps
 pub mod TypedStmts
 pub mod TypesKept
+pub mod TypedMatching
+pub mod TypedImages
+pub mod StartImages
+pub mod TypedPrograms
+mod Exchanging
+mod ReorderingCases
+pub mod Example
+mod TypedExample

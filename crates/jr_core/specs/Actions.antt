@@ -26,5 +26,8 @@ pub record Event (K : Keys) : Type 0 where
   pub at : At K
   pub action : Action K
 
+abbrev pub placed : {K : Keys} → At K → Action K → Event K
+placed at x = record { at = at; action = x }
+
 abbrev pub Trace : Keys → Type 0
 Trace K = List (Action K)

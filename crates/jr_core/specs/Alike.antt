@@ -17,12 +17,15 @@ pub record Alike {K : Keys} (r : KeyMap K) (W : Trace K → Trace K → Type 0) 
   pub ended_of_new : (c : Start K) → IsStart P.rows c → (t : Trace K) (e : Ending K) → Whole Q (start_image r c) t e
       → (u : Trace K) × (d : Ending K) × Whole P c u d × (e ≡ ending_image r d) × W (trace_image r u) t
   -- each run of P that ended or threw leads to one of Q
-  pub ended_of_old : (c : Start K) → IsStart P.rows c → (u : Trace K) (d : Ending K) → Whole P c u d → (t : Trace K) × Whole Q (start_image r c) t (ending_image r d) × W (trace_image r u) t
+  pub ended_of_old : (c : Start K) → IsStart P.rows c → (u : Trace K) (d : Ending K) → Whole P c u d
+      → (t : Trace K) × Whole Q (start_image r c) t (ending_image r d) × W (trace_image r u) t
   -- the same of bounded runs, when they have been continued
   pub bounded_of_new : (c : Start K) → IsStart P.rows c → (t : Trace K) → Bounded Q (start_image r c) t
-      → (more : Trace K) × (u : Trace K) × (length more ≤ n) × Bounded Q (start_image r c) (t ++ more) × Bounded P c u × W (trace_image r u) (t ++ more)
+      → (more : Trace K) × (u : Trace K) × (length more ≤ n) × Bounded Q (start_image r c) (t ++ more)
+      × Bounded P c u × W (trace_image r u) (t ++ more)
   pub bounded_of_old : (c : Start K) → IsStart P.rows c → (u : Trace K) → Bounded P c u
-      → (more : Trace K) × (t : Trace K) × (length more ≤ n) × Bounded P c (u ++ more) × Bounded Q (start_image r c) t × W (trace_image r (u ++ more)) t
+      → (more : Trace K) × (t : Trace K) × (length more ≤ n) × Bounded P c (u ++ more)
+      × Bounded Q (start_image r c) t × W (trace_image r (u ++ more)) t
 
 -- the same runs
 abbrev pub AlikeExactly : {K : Keys} → KeyMap K → Program K → Program K → Type 0

@@ -3,7 +3,7 @@ use Rattle.std.specs.Prelude.{ℕ, zero, suc, Bool, true, false, List, [], ◌�
 use Rattle.jr_plans.specs.Plan.{Plan, done, act, ask, call, and_then}
 use Rattle.jr_core.specs.Keys.{Keys, At}
 use Rattle.jr_core.specs.Values.{Value, int, truth, null, text, class_object, object}
-use Rattle.jr_core.specs.Actions.{Location, part, shared, load, store, enter, exit, create, start, Event}
+use Rattle.jr_core.specs.Actions.{Location, part, shared, load, store, enter, exit, create, start, Event, placed}
 use Rattle.jr_core.specs.Rows.{Rows}
 use Rattle.jr_core.specs.Fitting.{fits, is_truth, is_new, class_of, is_instance}
 use Rattle.jr_core.specs.Arithmetic.{null_reference, failed_cast, started_before, Out, value, thrown, calculate, number_of, operate, sign, bumped, bump_value}
@@ -89,10 +89,14 @@ pub data Slot (K : Keys) : Type 0 where
 
 -- A field's load answers what fits the field's type.
 abbrev pub load_field : {K : Keys} → Rows K → At K → Location K → K.field → Step K (Value K)
-load_field R at from f = ask (fits R (R.field_type f)) (λ v. record { at = at; action = load (R.field_kind f) from v }) (λ v. done (value v))
+load_field R at from f = ask (fits R (R.field_type f)) (λ v. record {
+  at = at;
+  action =
+      load (R.field_kind f) from v;
+}) (λ v. done (value v))
 
 abbrev pub store_field : {K : Keys} → Rows K → At K → Location K → K.field → Value K → Locals K → Step K (Locals K)
-store_field R at to f v l = act record { at = at; action = store (R.field_kind f) to v } (done (value l))
+store_field R at to f v l = act (placed at (store (R.field_kind f) to v)) (done (value l))
 
 -- A null receiver throws here: behind the evaluation of what is stored (JLS 15.26.1).
 abbrev pub load_from : {K : Keys} → Rows K → Slot K → Locals K → Step K (Value K)
@@ -137,22 +141,33 @@ abbrev mutual
   exp R me (core.literal at v) l = done (value (v, l))
   exp R me (core.this at) l = done (value (me, l))
   exp R me (core.read at t) l = next (target R me t l) (λ r. next (load_from R r.0 r.1) (λ v. done (value (v, r.1))))
-  exp R me (core.assign at t e) l = next (target R me t l) (λ r. next (exp R me e r.1) (λ s. next (store_to R r.0 s.0 s.1) (λ m. done (value (s.0, m)))))
-  exp R me (core.compound at op t e) l = next (target R me t l) (λ r. next (load_from R r.0 r.1) (λ old. next (exp R me e r.1) (λ s.
-      next (done (calculate op (number_of old) (number_of s.0))) (λ v. next (store_to R r.0 v s.1) (λ m. done (value (v, m)))))))
-  exp R me (core.bump at op t) l = next (target R me t l) (λ r. next (load_from R r.0 r.1) (λ old. next (store_to R r.0 (bumped op old) r.1) (λ m. done (value (bump_value op old (bumped op old), m)))))
+  exp R me (core.assign at t e) l = next (target R me t l) (λ r. next (exp R me e r.1) (λ s.
+      next (store_to R r.0 s.0 s.1) (λ m. done (value (s.0, m)))))
+  exp R me (core.compound at op t e) l = next (target R me t l) (λ r. next (load_from R r.0 r.1) (λ old.
+      next (exp R me e r.1) (λ s.
+      next (done (calculate op (number_of old) (number_of s.0))) (λ v. next (store_to R r.0 v s.1) (λ m.
+      done (value (v, m)))))))
+  exp R me (core.bump at op t) l = next (target R me t l) (λ r. next (load_from R r.0 r.1) (λ old.
+      next (store_to R r.0 (bumped op old) r.1) (λ m. done (value (bump_value op old (bumped op old), m)))))
   exp R me (core.signed at op e) l = next (exp R me e l) (λ r. done (value (sign op r.0, r.1)))
-  exp R me (core.binary at op a b) l = next (exp R me a l) (λ r. next (exp R me b r.1) (λ s. done (with_locals s.1 (operate R.same_class op r.0 s.0))))
-  exp R me (core.both at a b) l = next (exp R me a l) (λ r. on_truth r.0 (exp R me b r.1) (done (value (truth false, r.1))))
-  exp R me (core.either at a b) l = next (exp R me a l) (λ r. on_truth r.0 (done (value (truth true, r.1))) (exp R me b r.1))
-  exp R me (core.cast at c e) l = next (exp R me e l) (λ r. done (with_locals r.1 (cast_value (is_instance R c r.0) r.0)))
-  exp R me (core.static_call at m es) l = next (exps R me es l) (λ s. call (invoke m null s.0) (λ o. done (answer s.1 o)))
+  exp R me (core.binary at op a b) l = next (exp R me a l) (λ r. next (exp R me b r.1) (λ s.
+      done (with_locals s.1 (operate R.same_class op r.0 s.0))))
+  exp R me (core.both at a b) l = next (exp R me a l) (λ r.
+      on_truth r.0 (exp R me b r.1) (done (value (truth false, r.1))))
+  exp R me (core.either at a b) l = next (exp R me a l) (λ r.
+      on_truth r.0 (done (value (truth true, r.1))) (exp R me b r.1))
+  exp R me (core.cast at c e) l = next (exp R me e l) (λ r.
+      done (with_locals r.1 (cast_value (is_instance R c r.0) r.0)))
+  exp R me (core.static_call at m es) l = next (exps R me es l) (λ s. call (invoke m null s.0) (λ o.
+      done (answer s.1 o)))
   exp R me (core.instance_call at e m es) l = next (exp R me e l) (λ r. next (exps R me es r.1) (λ s.
       on_class (class_of R r.0) (λ c. call (invoke (unwrap_or (R.dispatch c m) m) r.0 s.0) (λ o. done (answer s.1 o)))))
-  exp R me (core.super_call at e m es) l = next (exp R me e l) (λ r. next (exps R me es r.1) (λ s. non_null r.0 (call (invoke m r.0 s.0) (λ o. done (answer s.1 o)))))
-  exp R me (core.create at c k es) l = ask (is_new R c) (λ o. record { at = at; action = create o }) (λ o.
+  exp R me (core.super_call at e m es) l = next (exp R me e l) (λ r. next (exps R me es r.1) (λ s.
+      non_null r.0 (call (invoke m r.0 s.0) (λ o. done (answer s.1 o)))))
+  exp R me (core.create at c k es) l = ask (is_new R c) (λ o. placed at (create o)) (λ o.
       next (exps R me es l) (λ s. call (construct k o s.0) (λ a. done (constructed o s.1 a))))
-  exp R me (core.super_constructor at e k es) l = next (exp R me e l) (λ r. next (exps R me es r.1) (λ s. non_null r.0 (call (construct k r.0 s.0) (λ a. done (constructed r.0 s.1 a)))))
+  exp R me (core.super_constructor at e k es) l = next (exp R me e l) (λ r. next (exps R me es r.1) (λ s.
+      non_null r.0 (call (construct k r.0 s.0) (λ a. done (constructed r.0 s.1 a)))))
 
   -- the receiver alone: neither the test for null nor the access
   pub target : {K : Keys} → Rows K → Value K → Target K → List (Value K) → Step K (Slot K × List (Value K))
@@ -163,7 +178,8 @@ abbrev mutual
   -- arguments, in their order (JLS 15.12.4.2)
   pub exps : {K : Keys} → Rows K → Value K → Exps K → List (Value K) → Step K (List (Value K) × List (Value K))
   exps R me core.Exps.end l = done (value ([], l))
-  exps R me (core.Exps.more e es) l = next (exp R me e l) (λ r. next (exps R me es r.1) (λ s. done (value (r.0 ∷ s.0, s.1))))
+  exps R me (core.Exps.more e es) l = next (exp R me e l) (λ r. next (exps R me es r.1) (λ s.
+      done (value (r.0 ∷ s.0, s.1))))
 
 abbrev pub on_flow : {K : Keys} → Flow K → (List (Value K) → Step K (Flow K)) → Step K (Flow K)
 on_flow (goes_on l) k = k l
@@ -171,7 +187,7 @@ on_flow (returns v) k = done (value (returns v))
 
 -- However the block comes to its end, the monitor is exited behind it (JLS 14.19).
 abbrev pub leaving : {K : Keys} {A : Type 0} → At K → Value K → Step K A → Step K A
-leaving at o p = and_then p (λ a. act record { at = at; action = exit o } (done a))
+leaving at o p = and_then p (λ a. act (placed at (exit o)) (done a))
 
 abbrev mutual
   pub stmt : {K : Keys} → Rows K → Value K → Stmt K → List (Value K) → Step K (Flow K)
@@ -182,7 +198,8 @@ abbrev mutual
   stmt R me (core.return at e) l = next (exp R me e l) (λ r. done (value (returns (Some r.0))))
   stmt R me (core.return_nothing at) l = done (value (returns None))
   stmt R me (core.block at ns b) l = stmts R me b (unset ns l)
-  stmt R me (core.sync entered exited e b) l = next (exp R me e l) (λ r. non_null r.0 (act record { at = entered; action = enter r.0 } (leaving exited r.0 (stmts R me b r.1))))
+  stmt R me (core.sync entered exited e b) l = next (exp R me e l) (λ r.
+      non_null r.0 (act (placed entered (enter r.0)) (leaving exited r.0 (stmts R me b r.1))))
   stmt R me (core.empty at) l = done (value (goes_on l))
 
   pub stmts : {K : Keys} → Rows K → Value K → Stmts K → List (Value K) → Step K (Flow K)
@@ -194,7 +211,8 @@ run_code R me c args = stmts R me c.body (first_locals c.params args)
 
 -- A start asks whether the thread was started before; if so it throws (JLS 17.2; java.lang.Thread.start).
 abbrev pub run_start : {K : Keys} → Value K → Step K (Flow K)
-run_start me = ask is_truth (λ v. record { at = None; action = start me v }) (λ v. on_truth v (done (thrown started_before)) (done (value (returns None))))
+run_start me = ask is_truth (λ v. placed None (start me v)) (λ v.
+    on_truth v (done (thrown started_before)) (done (value (returns None))))
 
 abbrev pub run_method : {K : Keys} → Rows K → Value K → Method K → List (Value K) → Step K (Flow K)
 run_method R me (written c) args = run_code R me c args
@@ -204,4 +222,5 @@ run_method R me starts args = run_start me
 abbrev pub table : {K : Keys} → Program K → Call K → Step K (Flow K)
 table P (invoke m me args) = run_method P.rows me (P.method m) args
 table P (construct k me args) = run_code P.rows me (P.constructor k) args
-table P (turn me c b l) = next (exp P.rows me c l) (λ r. on_truth r.0 (next (stmt P.rows me b r.1) (λ f. on_flow f (λ m. call (turn me c b m) (λ o. done o)))) (done (value (goes_on r.1))))
+table P (turn me c b l) = next (exp P.rows me c l) (λ r. on_truth r.0 (next (stmt P.rows me b r.1) (λ f.
+    on_flow f (λ m. call (turn me c b m) (λ o. done o)))) (done (value (goes_on r.1))))

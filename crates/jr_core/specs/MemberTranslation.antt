@@ -51,7 +51,8 @@ locked true entered exited lock b = core.Stmts.more (sync entered exited lock b)
 locked false entered exited lock b = b
 
 -- A method: its monitor is entered at its name and exited at its last brace.
-abbrev pub method_code : {K : Keys} {A : Type 0} → Facts K A → K.class → A → List (Modifier A) → Word A → List (Param A) → statement.Stmts A → Code K
+abbrev pub method_code : {K : Keys} {A : Type 0} → Facts K A → K.class → A → List (Modifier A) → Word A
+    → List (Param A) → statement.Stmts A → Code K
 method_code F c a modifiers name params body = record {
   params = length params;
   body = locked (is_synchronized modifiers) (Some (F.first name.mark)) (Some (F.last a)) (monitor c (is_static modifiers)) (stmts_code F body);
@@ -59,7 +60,8 @@ method_code F c a modifiers name params body = record {
 
 -- An instance field's initializer is a store to the field of `this`, at the field's name (JLS 8.3.2).
 abbrev pub initializer_code : {K : Keys} {A : Type 0} → Facts K A → K.field → Word A → tree.Exp A → Stmt K
-initializer_code F f name e = eval (Some (F.first name.mark)) (assign (Some (F.first name.mark)) (field_of (Some (F.first name.mark)) (this None) f) (exp_code F e))
+initializer_code F f name e =
+    eval (Some (F.first name.mark)) (assign (Some (F.first name.mark)) (field_of (Some (F.first name.mark)) (this None) f) (exp_code F e))
 
 -- what is known of a field by its member's mark: its key, and what binding says of its initializer
 pub record FieldFacts (K : Keys) (A : Type 0) : Type 0 where
@@ -73,7 +75,8 @@ unless_static false s b = s ∷ b
 -- the initializers of a class's instance fields, in text order; those of static fields are no actions of a run
 abbrev pub initializers : {K : Keys} {A : Type 0} → (A → FieldFacts K A) → Members A → List (Stmt K)
 initializers F member.Members.end = []
-initializers F (member.Members.more (member.field a modifiers t name (Some e)) ms) = unless_static (is_static modifiers) (initializer_code (F a).facts (F a).field name e) (initializers F ms)
+initializers F (member.Members.more (member.field a modifiers t name (Some e)) ms) =
+    unless_static (is_static modifiers) (initializer_code (F a).facts (F a).field name e) (initializers F ms)
 initializers F (member.Members.more (member.field a modifiers t name None) ms) = initializers F ms
 initializers F (member.Members.more (member.method a modifiers result name params body) ms) = initializers F ms
 initializers F (member.Members.more (member.constructor a modifiers name params args body) ms) = initializers F ms
@@ -94,10 +97,16 @@ parent_args F (Some es) = exps_code F es
 
 -- A constructor: the superclass's constructor, the field initializers, the body (JLS 12.5).
 abbrev pub constructed_by : {K : Keys} → Parent K → Exps K → List (Stmt K) → Stmts K → Stmts K
-constructed_by p args fields body = core.Stmts.more (eval p.at (super_constructor p.at (this None) p.constructor args)) (in_front fields body)
+constructed_by p args fields body =
+    core.Stmts.more (eval p.at (super_constructor p.at (this None) p.constructor args)) (in_front fields body)
 
-abbrev pub constructor_code : {K : Keys} {A : Type 0} → Facts K A → Parent K → List (Stmt K) → List (Param A) → Option (tree.Exps A) → statement.Stmts A → Code K
-constructor_code F p fields params args body = record { params = length params; body = constructed_by p (parent_args F args) fields (stmts_code F body) }
+abbrev pub constructor_code : {K : Keys} {A : Type 0} → Facts K A → Parent K → List (Stmt K) → List (Param A)
+    → Option (tree.Exps A) → statement.Stmts A → Code K
+constructor_code F p fields params args body = record {
+  params = length params;
+  body =
+      constructed_by p (parent_args F args) fields (stmts_code F body);
+}
 
 -- of a class that declares none (JLS 8.8.9)
 abbrev pub default_constructor : {K : Keys} → Parent K → List (Stmt K) → Code K

@@ -22,10 +22,12 @@ abbrev pub ImageOf : {K : Keys} → KeyMap K → Value K → Value K → Type 0
 ImageOf r v v' = v' ≡ value_image r v
 
 -- a value, and the locals behind it
-abbrev pub ResultRel : {K : Keys} → KeyMap K → Standing → List (Value K) → Value K × List (Value K) → Value K × List (Value K) → Type 0
+abbrev pub ResultRel : {K : Keys} → KeyMap K → Standing → List (Value K) → Value K × List (Value K) → Value K
+    × List (Value K) → Type 0
 ResultRel r s frame a b = ImageOf r a.0 b.0 × Shifted r s frame a.1 b.1
 
-abbrev pub ListRel : {K : Keys} → KeyMap K → Standing → List (Value K) → List (Value K) × List (Value K) → List (Value K) × List (Value K) → Type 0
+abbrev pub ListRel : {K : Keys} → KeyMap K → Standing → List (Value K) → List (Value K) × List (Value K)
+    → List (Value K) × List (Value K) → Type 0
 ListRel r s frame a b = (b.0 ≡ map (value_image r) a.0) × Shifted r s frame a.1 b.1
 
 abbrev pub SlotImage : {K : Keys} → KeyMap K → Standing → Slot K → Slot K → Type 0
@@ -39,7 +41,8 @@ SlotImage r s (in_static p f) (in_object q o' g) = ⊥
 SlotImage r s (in_object p o f) (in_local m) = ⊥
 SlotImage r s (in_object p o f) (in_static q g) = ⊥
 
-abbrev pub SlotRel : {K : Keys} → KeyMap K → Standing → List (Value K) → Slot K × List (Value K) → Slot K × List (Value K) → Type 0
+abbrev pub SlotRel : {K : Keys} → KeyMap K → Standing → List (Value K) → Slot K × List (Value K) → Slot K
+    × List (Value K) → Type 0
 SlotRel r s frame a b = SlotImage r s a.0 b.0 × Shifted r s frame a.1 b.1
 
 abbrev pub GivenImage : {K : Keys} → KeyMap K → Option (Value K) → Option (Value K) → Type 0
@@ -49,7 +52,8 @@ GivenImage r (Some v) None = ⊥
 GivenImage r None (Some v) = ⊥
 
 -- L: how the locals behind it are related; M: may the code return?
-abbrev pub FlowRel : {K : Keys} → KeyMap K → (List (Value K) → List (Value K) → Type 0) → Type 0 → Flow K → Flow K → Type 0
+abbrev pub FlowRel : {K : Keys} → KeyMap K → (List (Value K) → List (Value K) → Type 0) → Type 0 → Flow K
+    → Flow K → Type 0
 FlowRel r L M (goes_on l) (goes_on l') = L l l'
 FlowRel r L M (returns v) (returns v') = GivenImage r v v' × M
 FlowRel r L M (goes_on l) (returns v) = ⊥
@@ -81,7 +85,8 @@ abbrev mutual
   SomeReturns (core.Stmts.more a b) = Returns a ⊎ SomeReturns b
 
 -- a turn of a loop, and the turn of the new loop for it
-pub record TurnTo {K : Keys} (r : KeyMap K) (R : Rows K) (Spot : Standing → Stmts K → Stmts K → Type 0) (me : Value K) (c : Exp K) (b : Stmt K) (l : List (Value K)) (me' : Value K) (c' : Exp K) (b' : Stmt K) (l' : List (Value K)) : Type 0 where
+pub record TurnTo {K : Keys} (r : KeyMap K) (R : Rows K) (Spot : Standing → Stmts K → Stmts K
+    → Type 0) (me : Value K) (c : Exp K) (b : Stmt K) (l : List (Value K)) (me' : Value K) (c' : Exp K) (b' : Stmt K) (l' : List (Value K)) : Type 0 where
   pub at : Standing
   pub stands : Stands at
   pub frame : List (Value K)
@@ -91,8 +96,10 @@ pub record TurnTo {K : Keys} (r : KeyMap K) (R : Rows K) (Spot : Standing → St
   pub locals : Shifted r at frame l l'
 
 abbrev pub Pair : {K : Keys} → KeyMap K → Rows K → (Standing → Stmts K → Stmts K → Type 0) → Call K → Call K → Type 0
-Pair r R Spot (invoke m me args) (invoke m' me' args') = IsTrue (R.has_method m) × (m' ≡ r.method m) × (me' ≡ value_image r me) × (args' ≡ map (value_image r) args)
-Pair r R Spot (construct k me args) (construct k' me' args') = IsTrue (R.has_constructor k) × (k' ≡ r.constructor k) × (me' ≡ value_image r me) × (args' ≡ map (value_image r) args)
+Pair r R Spot (invoke m me args) (invoke m' me' args') = IsTrue (R.has_method m) × (m' ≡ r.method m)
+    × (me' ≡ value_image r me) × (args' ≡ map (value_image r) args)
+Pair r R Spot (construct k me args) (construct k' me' args') = IsTrue (R.has_constructor k)
+    × (k' ≡ r.constructor k) × (me' ≡ value_image r me) × (args' ≡ map (value_image r) args)
 Pair r R Spot (turn me c b l) (turn me' c' b' l') = TurnTo r R Spot me c b l me' c' b' l'
 Pair r R Spot (invoke m me args) (construct k' me' args') = ⊥
 Pair r R Spot (invoke m me args) (turn me' c' b' l') = ⊥
@@ -101,7 +108,8 @@ Pair r R Spot (construct k me args) (turn me' c' b' l') = ⊥
 Pair r R Spot (turn me c b l) (invoke m' me' args') = ⊥
 Pair r R Spot (turn me c b l) (construct k' me' args') = ⊥
 
-abbrev pub Post : {K : Keys} → (r : KeyMap K) (R : Rows K) (Spot : Standing → Stmts K → Stmts K → Type 0) (c c' : Call K) → Pair r R Spot c c' → Out (Flow K) → Out (Flow K) → Type 0
+abbrev pub Post : {K : Keys} → (r : KeyMap K) (R : Rows K) (Spot : Standing → Stmts K → Stmts K
+    → Type 0) (c c' : Call K) → Pair r R Spot c c' → Out (Flow K) → Out (Flow K) → Type 0
 Post r R Spot (invoke m me args) (invoke m' me' args') pair = AnswerRel r
 Post r R Spot (construct k me args) (construct k' me' args') pair = AnswerRel r
 Post r R Spot (turn me c b l) (turn me' c' b' l') pair = OutRel (FlowRel r (Shifted r pair.at pair.frame) (Returns b))

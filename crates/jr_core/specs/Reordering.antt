@@ -44,7 +44,8 @@ stores (start o v) = false
 -- The grid allows it for their kinds, in this order (`Still` never moves), and they are not two accesses of one location of which one stores.
 pub record Free {K : Keys} (first second : Action K) : Type 0 where
   pub allowed : is_allowed (kind_of first) (kind_of second) ≡ true
-  pub apart : (at : Location K) → location_of first ≡ Some at → location_of second ≡ Some at → (stores first ≡ false) × (stores second ≡ false)
+  pub apart : (at : Location K) → location_of first ≡ Some at → location_of second ≡ Some at
+      → (stores first ≡ false) × (stores second ≡ false)
 
 -- The second trace comes from the first by exchanges of free neighbours: from the old order to the new one.
 abbrev pub Reordered : {K : Keys} → Trace K → Trace K → Type 0

@@ -26,11 +26,13 @@ is_activation (construct k me args) = true
 is_activation (turn me c b l) = false
 
 -- The run, each action with its place and the number of its activation. The first activation has the number 0.
-abbrev pub run_of : {K : Keys} → Program K → Start K → List (Value K) → ℕ → NumberedRun (Value K) (Event K) (Out (Flow K))
+abbrev pub run_of : {K : Keys} → Program K → Start K → List (Value K) → ℕ
+    → NumberedRun (Value K) (Event K) (Out (Flow K))
 run_of P c answers fuel = numbered_runner is_activation (table P) fuel (call_of c) 0 0 answers
 
 -- The same without numbers, by which runs are compared.
-abbrev pub plain_run : {K : Keys} → Program K → Start K → List (Value K) → ℕ → Outcome (Value K) (Event K) (Out (Flow K))
+abbrev pub plain_run : {K : Keys} → Program K → Start K → List (Value K) → ℕ
+    → Outcome (Value K) (Event K) (Out (Flow K))
 plain_run P c answers fuel = runner (table P) fuel (call_of c) answers
 
 abbrev pub actions_of : {K : Keys} → List (Event K) → Trace K

@@ -20,4 +20,5 @@ ArgsFit R (T ∷ Ts) (v ∷ vs) = IsTrue (fits R T v) × ArgsFit R Ts vs
 
 abbrev pub IsStart : {K : Keys} → Rows K → Start K → Type 0
 IsStart R (of_method m me args) = IsTrue (R.has_method m) × IsReceiver R (R.owner m) me × ArgsFit R (R.params m) args
-IsStart R (of_constructor k me args) = IsTrue (R.has_constructor k) × IsTrue (is_instance R (R.constructor_class k) me) × ArgsFit R (R.constructor_params k) args
+IsStart R (of_constructor k me args) = IsTrue (R.has_constructor k)
+    × IsTrue (is_instance R (R.constructor_class k) me) × ArgsFit R (R.constructor_params k) args

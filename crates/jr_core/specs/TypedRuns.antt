@@ -58,7 +58,8 @@ ResultFits R T (returns v) = GivenFits R T v
 abbrev pub WellAnswered : {K : Keys} → Rows K → Call K → Out (Flow K) → Type 0
 WellAnswered R (invoke m me args) o = OutHas (ResultFits R (R.result m)) o
 WellAnswered R (construct k me args) o = OutHas (ResultFits R None) o
-WellAnswered R (turn me c b l) o = (t : TurnTyped R me c b l) → OutHas (FlowFits R t.context t.result (is_always c ≡ false)) o
+WellAnswered R (turn me c b l) o = (t : TurnTyped R me c b l)
+    → OutHas (FlowFits R t.context t.result (is_always c ≡ false)) o
 
 -- how a run of a method or constructor ends: by a throw, or with a value of the result's type, if there is one
 abbrev pub EndFits : {K : Keys} → Rows K → Start K → Ending K → Type 0

@@ -48,35 +48,54 @@ abbrev mutual
   HasType R G C (literal p v) (Some T) = IsTrue (fits R T v)
   HasType R G C (this p) T = ThisHas R C T
   HasType {K = K} R G C (read p t) T = (U : Ty K) × TargetHas R G C t U × Gives R (Some U) T
-  HasType {K = K} R G C (assign p t e) T = (U : Ty K) × TargetHas R G C t U × HasType R G C e (Some U) × Gives R (Some U) T
-  HasType R G C (compound p op t e) T = TargetHas R G C t int_type × HasType R G C e (Some int_type) × Gives R (Some int_type) T
+  HasType {K = K} R G C (assign p t e) T = (U : Ty K) × TargetHas R G C t U × HasType R G C e (Some U)
+      × Gives R (Some U) T
+  HasType R G C (compound p op t e) T = TargetHas R G C t int_type × HasType R G C e (Some int_type)
+      × Gives R (Some int_type) T
   HasType R G C (bump p op t) T = TargetHas R G C t int_type × Gives R (Some int_type) T
   HasType R G C (signed p plus e) T = HasType R G C e (Some int_type) × Gives R (Some int_type) T
   HasType R G C (signed p minus e) T = HasType R G C e (Some int_type) × Gives R (Some int_type) T
   HasType R G C (signed p complement e) T = HasType R G C e (Some boolean_type) × Gives R (Some boolean_type) T
-  HasType R G C (binary p (arithmetic op) a b) T = HasType R G C a (Some int_type) × HasType R G C b (Some int_type) × Gives R (Some int_type) T
-  HasType R G C (binary p (comparison op) a b) T = HasType R G C a (Some int_type) × HasType R G C b (Some int_type) × Gives R (Some boolean_type) T
-  HasType {K = K} R G C (binary p equal a b) T = (U : Ty K) × (V : Ty K) × HasType R G C a (Some U) × HasType R G C b (Some V) × Gives R (Some boolean_type) T
-  HasType {K = K} R G C (binary p different a b) T = (U : Ty K) × (V : Ty K) × HasType R G C a (Some U) × HasType R G C b (Some V) × Gives R (Some boolean_type) T
-  HasType R G C (both p a b) T = HasType R G C a (Some boolean_type) × HasType R G C b (Some boolean_type) × Gives R (Some boolean_type) T
-  HasType R G C (either p a b) T = HasType R G C a (Some boolean_type) × HasType R G C b (Some boolean_type) × Gives R (Some boolean_type) T
-  HasType {K = K} R G C (cast p c e) T = (d : K.class) × HasType R G C e (Some (reference d)) × Gives R (Some (reference c)) T
-  HasType R G C (static_call p m es) T = IsTrue (R.has_method m) × (R.owner m ≡ None) × HaveTypes R G C es (R.params m) × Gives R (R.result m) T
-  HasType {K = K} R G C (instance_call p e m es) T = (c : K.class) × IsTrue (R.has_method m) × (R.owner m ≡ Some c) × HasType R G C e (Some (reference c)) × HaveTypes R G C es (R.params m) × Gives R (R.result m) T
-  HasType {K = K} R G C (super_call p e m es) T = (c : K.class) × IsTrue (R.has_method m) × (R.owner m ≡ Some c) × HasType R G C e (Some (reference c)) × HaveTypes R G C es (R.params m) × Gives R (R.result m) T
-  HasType R G C (create p c k es) T = IsTrue (R.has_constructor k) × (R.constructor_class k ≡ c) × HaveTypes R G C es (R.constructor_params k) × Gives R (Some (reference c)) T
-  HasType R G C (super_constructor p e k es) T = IsTrue (R.has_constructor k) × HasType R G C e (Some (reference (R.constructor_class k))) × HaveTypes R G C es (R.constructor_params k) × Gives R (Some (reference (R.constructor_class k))) T
+  HasType R G C (binary p (arithmetic op) a b) T = HasType R G C a (Some int_type)
+      × HasType R G C b (Some int_type) × Gives R (Some int_type) T
+  HasType R G C (binary p (comparison op) a b) T = HasType R G C a (Some int_type)
+      × HasType R G C b (Some int_type) × Gives R (Some boolean_type) T
+  HasType {K = K} R G C (binary p equal a b) T = (U : Ty K) × (V : Ty K) × HasType R G C a (Some U)
+      × HasType R G C b (Some V) × Gives R (Some boolean_type) T
+  HasType {K = K} R G C (binary p different a b) T = (U : Ty K) × (V : Ty K) × HasType R G C a (Some U)
+      × HasType R G C b (Some V) × Gives R (Some boolean_type) T
+  HasType R G C (both p a b) T = HasType R G C a (Some boolean_type) × HasType R G C b (Some boolean_type)
+      × Gives R (Some boolean_type) T
+  HasType R G C (either p a b) T = HasType R G C a (Some boolean_type) × HasType R G C b (Some boolean_type)
+      × Gives R (Some boolean_type) T
+  HasType {K = K} R G C (cast p c e) T = (d : K.class) × HasType R G C e (Some (reference d))
+      × Gives R (Some (reference c)) T
+  HasType R G C (static_call p m es) T = IsTrue (R.has_method m) × (R.owner m ≡ None)
+      × HaveTypes R G C es (R.params m) × Gives R (R.result m) T
+  HasType {K = K} R G C (instance_call p e m es) T = (c : K.class) × IsTrue (R.has_method m)
+      × (R.owner m ≡ Some c) × HasType R G C e (Some (reference c)) × HaveTypes R G C es (R.params m)
+      × Gives R (R.result m) T
+  HasType {K = K} R G C (super_call p e m es) T = (c : K.class) × IsTrue (R.has_method m)
+      × (R.owner m ≡ Some c) × HasType R G C e (Some (reference c)) × HaveTypes R G C es (R.params m)
+      × Gives R (R.result m) T
+  HasType R G C (create p c k es) T = IsTrue (R.has_constructor k) × (R.constructor_class k ≡ c)
+      × HaveTypes R G C es (R.constructor_params k) × Gives R (Some (reference c)) T
+  HasType R G C (super_constructor p e k es) T = IsTrue (R.has_constructor k)
+      × HasType R G C e (Some (reference (R.constructor_class k)))
+      × HaveTypes R G C es (R.constructor_params k) × Gives R (Some (reference (R.constructor_class k))) T
 
   -- just this type
   pub TargetHas : {K : Keys} → Rows K → List (ℕ × Ty K) → Option K.class → Target K → Ty K → Type 0
   TargetHas R G C (local p n) U = type_of G n ≡ Some U
   TargetHas R G C (static_field p f) U = R.field_type f ≡ U
-  TargetHas {K = K} R G C (field_of p e f) U = (c : K.class) × HasType R G C e (Some (reference c)) × (R.field_type f ≡ U)
+  TargetHas {K = K} R G C (field_of p e f) U = (c : K.class) × HasType R G C e (Some (reference c))
+      × (R.field_type f ≡ U)
 
   -- one argument for each type
   pub HaveTypes : {K : Keys} → Rows K → List (ℕ × Ty K) → Option K.class → Exps K → List (Ty K) → Type 0
   HaveTypes R G C core.Exps.end Ts = Ts ≡ []
-  HaveTypes {K = K} R G C (core.Exps.more e es) Ts = (T : Ty K) × (Us : List (Ty K)) × (Ts ≡ T ∷ Us) × HasType R G C e (Some T) × HaveTypes R G C es Us
+  HaveTypes {K = K} R G C (core.Exps.more e es) Ts = (T : Ty K) × (Us : List (Ty K)) × (Ts ≡ T ∷ Us)
+      × HasType R G C e (Some T) × HaveTypes R G C es Us
 
 -- Is it the literal `true`? Such a loop ends only by a return or a throw (JLS 14.21).
 abbrev pub is_always : {K : Keys} → Exp K → Bool
@@ -117,20 +136,26 @@ abbrev mutual
 
 -- T: the member's result; D: the locals behind the statement. A local is declared once, and a block's locals are new.
 abbrev mutual
-  pub StmtTyped : {K : Keys} → Rows K → List (ℕ × Ty K) → Option K.class → Option (Ty K) → Stmt K → List (ℕ × Ty K) → Type 0
-  StmtTyped {K = K} R G C T (declare p n e) D = (U : Ty K) × HasType R G C e (Some U) × (type_of G n ≡ None) × (D ≡ (n, U) ∷ G)
+  pub StmtTyped : {K : Keys} → Rows K → List (ℕ × Ty K) → Option K.class → Option (Ty K) → Stmt K → List (ℕ
+      × Ty K) → Type 0
+  StmtTyped {K = K} R G C T (declare p n e) D = (U : Ty K) × HasType R G C e (Some U) × (type_of G n ≡ None)
+      × (D ≡ (n, U) ∷ G)
   StmtTyped R G C T (eval p e) D = HasType R G C e None × (D ≡ G)
-  StmtTyped {K = K} R G C T (branch p c a b) D = (E : List (ℕ × Ty K)) × (F : List (ℕ × Ty K)) × HasType R G C c (Some boolean_type) × StmtTyped R G C T a E × StmtTyped R G C T b F × (D ≡ G)
-  StmtTyped {K = K} R G C T (loop p c b) D = (E : List (ℕ × Ty K)) × HasType R G C c (Some boolean_type) × StmtTyped R G C T b E × (D ≡ G)
+  StmtTyped {K = K} R G C T (branch p c a b) D = (E : List (ℕ × Ty K)) × (F : List (ℕ × Ty K))
+      × HasType R G C c (Some boolean_type) × StmtTyped R G C T a E × StmtTyped R G C T b F × (D ≡ G)
+  StmtTyped {K = K} R G C T (loop p c b) D = (E : List (ℕ × Ty K)) × HasType R G C c (Some boolean_type)
+      × StmtTyped R G C T b E × (D ≡ G)
   StmtTyped {K = K} R G C T (return p e) D = (U : Ty K) × (T ≡ Some U) × HasType R G C e (Some U) × (D ≡ G)
   StmtTyped R G C T (return_nothing p) D = (T ≡ None) × (D ≡ G)
   StmtTyped R G C T (block p ns b) D = AreNew G ns × StmtsTyped R G C T b × (D ≡ G)
-  StmtTyped {K = K} R G C T (sync p q e b) D = (c : K.class) × HasType R G C e (Some (reference c)) × StmtsTyped R G C T b × (D ≡ G)
+  StmtTyped {K = K} R G C T (sync p q e b) D = (c : K.class) × HasType R G C e (Some (reference c))
+      × StmtsTyped R G C T b × (D ≡ G)
   StmtTyped R G C T (empty p) D = D ≡ G
 
   pub StmtsTyped : {K : Keys} → Rows K → List (ℕ × Ty K) → Option K.class → Option (Ty K) → Stmts K → Type 0
   StmtsTyped R G C T core.Stmts.end = Unit {0}
-  StmtsTyped {K = K} R G C T (core.Stmts.more a b) = (D : List (ℕ × Ty K)) × StmtTyped R G C T a D × StmtsTyped R D C T b
+  StmtsTyped {K = K} R G C T (core.Stmts.more a b) = (D : List (ℕ × Ty K)) × StmtTyped R G C T a D
+      × StmtsTyped R D C T b
 
 -- parameters are the first locals, from number n on
 abbrev pub param_context : {K : Keys} → ℕ → List (Ty K) → List (ℕ × Ty K)
@@ -153,10 +178,14 @@ pub record SoundRows {K : Keys} (R : Rows K) : Type 0 where
   pub itself : (c : K.class) → IsTrue (R.is_subclass c c)
   pub chain : (c d e : K.class) → IsTrue (R.is_subclass c d) → IsTrue (R.is_subclass d e) → IsTrue (R.is_subclass c e)
   -- What a class runs for a method stands in the class or above it, and has the same types (JLS 8.4.2, 8.4.8.3).
-  pub dispatch : (c d : K.class) (m found : K.method) → R.owner m ≡ Some c → IsTrue (R.is_subclass d c) → R.dispatch d m ≡ Some found → IsTrue (R.has_method m)
-      → IsTrue (R.has_method found) × ((e : K.class) × (R.owner found ≡ Some e) × IsTrue (R.is_subclass d e)) × (R.params found ≡ R.params m) × (R.result found ≡ R.result m)
+  pub dispatch : (c d : K.class) (m found : K.method) → R.owner m ≡ Some c → IsTrue (R.is_subclass d c)
+      → R.dispatch d m ≡ Some found → IsTrue (R.has_method m)
+      → IsTrue (R.has_method found) × ((e : K.class) × (R.owner found ≡ Some e) × IsTrue (R.is_subclass d e))
+      × (R.params found ≡ R.params m) × (R.result found ≡ R.result m)
 
 pub record WellTyped {K : Keys} (P : Program K) : Type 0 where
   pub rows : SoundRows P.rows
-  pub methods : (m : K.method) → IsTrue (P.rows.has_method m) → MethodTyped P.rows (P.rows.owner m) (P.rows.params m) (P.rows.result m) (P.method m)
-  pub constructors : (k : K.constructor) → IsTrue (P.rows.has_constructor k) → CodeTyped P.rows (Some (P.rows.constructor_class k)) (P.rows.constructor_params k) None (P.constructor k)
+  pub methods : (m : K.method) → IsTrue (P.rows.has_method m)
+      → MethodTyped P.rows (P.rows.owner m) (P.rows.params m) (P.rows.result m) (P.method m)
+  pub constructors : (k : K.constructor) → IsTrue (P.rows.has_constructor k)
+      → CodeTyped P.rows (Some (P.rows.constructor_class k)) (P.rows.constructor_params k) None (P.constructor k)

@@ -1,5 +1,6 @@
 //! The laws on runs of programs, each the contract of a function that does nothing. `C`, `F`, `M` and `N` are the keys of
 //! classes, fields, methods and constructors, and `A` the places of nodes.
+ghost use Rattle.jr_core.specs.Pieces.{PiecesChangePlaces, ReorderingsJoin};
 ghost use Rattle.jr_core.specs.Laws.{CallsAreMadeWell, EndsFit, RenamedProgramsAreAlike};
 
 /// A program and its image under a map of keys have the same runs, both ways, and bounded runs too.
@@ -12,4 +13,11 @@ pub fn renamed_programs_are_alike<C, F, M, N, A>()
 pub fn types_are_kept<C, F, M, N, A>()
     ensures calls { CallsAreMadeWell C F M N A }
     ensures ends { EndsFit C F M N A }
+{}
+
+/// What the reordering grid allows of two traces it allows of them joined, and pieces of which all pairs are free change
+/// places, whatever stands around them.
+pub fn reorderings_join<C, F, M, N, A>()
+    ensures joins { ReorderingsJoin C F M N A }
+    ensures pieces { PiecesChangePlaces C F M N A }
 {}

@@ -3,4 +3,4 @@
 
 mod laws;
 
-pub use laws::{renamed_programs_are_alike, types_are_kept};
+pub use laws::{renamed_programs_are_alike, reorderings_join, types_are_kept};
