@@ -3,3 +3,4 @@ pub mod CountLaws
 pub mod NameLaws
 pub mod StepLaws
 pub mod ElementLaws
+pub mod ReportLaws

@@ -6,10 +6,15 @@
 
 mod faults;
 mod members;
+mod refusals;
+mod reports;
 mod rows;
 mod scripts;
 #[cfg(test)]
 mod tests;
+mod texts;
 
 pub use faults::ScriptFault;
+pub use refusals::refusal_text;
+pub use reports::report_text;
 pub use scripts::{MAX_SCRIPT_LEN, MAX_STEPS, read_script};
