@@ -28,12 +28,12 @@ dot_parts (number m n) rest = space ∷ tok (symbol Dot) ∷ rest
 dot_parts _ rest = tok (symbol Dot) ∷ rest
 
 -- a sign before the parts of an operand with this text
-abbrev pub signed_parts : Symbol → ℕ → List ℕ → List Part → List Part
-signed_parts s sign operand rest = if first_passes (λ c. c == sign) operand then tok (symbol s) ∷ space ∷ rest else tok (symbol s) ∷ rest
+abbrev pub sign_parts : Symbol → ℕ → List ℕ → List Part → List Part
+sign_parts s sign operand rest = if first_passes (λ c. c == sign) operand then tok (symbol s) ∷ space ∷ rest else tok (symbol s) ∷ rest
 
 abbrev pub unary_parts : UnOp → List ℕ → List Part → List Part
-unary_parts Plus operand rest = signed_parts PlusSign 43 operand rest
-unary_parts Minus operand rest = signed_parts MinusSign 45 operand rest
+unary_parts Plus operand rest = sign_parts PlusSign 43 operand rest
+unary_parts Minus operand rest = sign_parts MinusSign 45 operand rest
 unary_parts Not operand rest = tok (symbol Bang) ∷ rest
 
 abbrev pub before_parts : BumpOp → List Part → List Part

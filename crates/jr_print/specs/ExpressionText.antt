@@ -26,13 +26,13 @@ printed_type (named m o w) = printed_name o w
 -- ---- operators
 
 -- The sign of the code, before its operand's text: no space between, but one where that text begins with the same sign.
-abbrev pub signed : ℕ → List ℕ → List ℕ
-signed sign text = if first_passes (λ c. c == sign) text then sign ∷ 32 ∷ text else sign ∷ text
+abbrev pub with_sign : ℕ → List ℕ → List ℕ
+with_sign sign text = if first_passes (λ c. c == sign) text then sign ∷ 32 ∷ text else sign ∷ text
 
 -- a sign, or `!`, which is none and takes no space, before its operand's text
 abbrev pub printed_unary : UnOp → List ℕ → List ℕ
-printed_unary Plus text = signed 43 text
-printed_unary Minus text = signed 45 text
+printed_unary Plus text = with_sign 43 text
+printed_unary Minus text = with_sign 45 text
 printed_unary Not text = codes "!" ++ text
 
 -- `++` or `--` directly before its operand's text, or directly behind it

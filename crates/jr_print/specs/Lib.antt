@@ -3,3 +3,4 @@ pub mod StatementText
 pub mod MemberText
 pub mod Starts
 pub mod ReadsBack
+pub mod Adds

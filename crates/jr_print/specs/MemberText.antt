@@ -5,7 +5,7 @@ use Rattle.jr_ast.specs.Tree.{TypeName, Exp, Exps}
 use Rattle.jr_ast.specs.MemberTree.{Modifier, Param, Class, class, Member, field, method, constructor, inner, Members, end, more}
 use Rattle.jr_grammar.specs.MemberSpelling.{modifier_keyword}
 use Rattle.jr_print.specs.ExpressionText.{printed_type, printed, printed_args}
-use Rattle.jr_print.specs.StatementText.{printed_final, printed_stmts}
+use Rattle.jr_print.specs.StatementText.{printed_variable, printed_stmts}
 
 -- each modifier with one space behind it
 abbrev pub printed_modifiers : {A : Type 0} → List (Modifier A) → List ℕ
@@ -13,7 +13,7 @@ printed_modifiers [] = []
 printed_modifiers (m ∷ ms) = keyword_text (modifier_keyword m.word) ++ codes " " ++ printed_modifiers ms
 
 abbrev pub printed_param : {A : Type 0} → Param A → List ℕ
-printed_param p = printed_final p.is_final ++ printed_type p.type ++ codes " " ++ p.name.text
+printed_param p = printed_variable p.is_final p.type p.name
 
 -- parameters behind others
 abbrev pub printed_more_params : {A : Type 0} → List (Param A) → List ℕ

@@ -1,6 +1,6 @@
 -- The text that statements are printed as.
 use Rattle.std.specs.Prelude.{ℕ, Bool, true, false, codes, List, [], ◌++◌, Option, Some, None}
-use Rattle.jr_ast.specs.Tree.{Exp}
+use Rattle.jr_ast.specs.Tree.{Word, TypeName, Exp}
 use Rattle.jr_ast.specs.StatementTree.{Stmt, local, eval, branch, loop, return, block, sync, empty, Else, no_else, otherwise, Stmts, end, more}
 use Rattle.jr_print.specs.ExpressionText.{printed_type, printed}
 
@@ -8,14 +8,18 @@ abbrev pub printed_final : Bool → List ℕ
 printed_final true = codes "final "
 printed_final false = []
 
--- with its value, if there is one
+-- a variable with its type, perhaps `final`
+abbrev pub printed_variable : {A : Type 0} → Bool → TypeName A → Word A → List ℕ
+printed_variable f t w = printed_final f ++ printed_type t ++ codes " " ++ w.text
+
+-- `return` with its value, if there is one
 abbrev pub printed_return : {A : Type 0} → Option (Exp A) → List ℕ
 printed_return None = codes "return;"
 printed_return (Some e) = codes "return " ++ printed e ++ codes ";"
 
 abbrev mutual
   pub printed_stmt : {A : Type 0} → Stmt A → List ℕ
-  printed_stmt (local m f t w e) = printed_final f ++ printed_type t ++ codes " " ++ w.text ++ codes " = " ++ printed e ++ codes ";"
+  printed_stmt (local m f t w e) = printed_variable f t w ++ codes " = " ++ printed e ++ codes ";"
   printed_stmt (eval m e) = printed e ++ codes ";"
   printed_stmt (branch m c first other) = codes "if (" ++ printed c ++ codes ") " ++ printed_stmt first ++ printed_else other
   printed_stmt (loop m c body) = codes "while (" ++ printed c ++ codes ") " ++ printed_stmt body

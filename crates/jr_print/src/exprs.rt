@@ -1,6 +1,7 @@
 //! Expressions as text (JLS 15).
-ghost use Rattle.std.specs.Prelude.{◌≡◌, ◌++◌, codes, OnOk, string_bytes};
+ghost use Rattle.std.specs.Prelude.{◌≡◌, ◌++◌, codes};
 ghost use Rattle.jr_ast.specs.View.{expr_of, exprs_of, target_of};
+ghost use Rattle.jr_print.specs.Adds.{Adds};
 ghost use Rattle.jr_print.specs.ExpressionText.{printed, printed_target, printed_args, printed_more};
 
 use crate::operators::{self, before_bumped, behind_bumped};
@@ -13,7 +14,7 @@ use std::alloc::AllocError;
 #[cycle(expr_texts)]
 #[tactic(auto, unfolding(jr_ast::specs::View::expr_kind))]
 pub(crate) fn expr<A>(out: &mut String, of: &Expr<A>) -> Result<(), AllocError>
-    ensures { OnOk result (string_bytes out.new ≡ string_bytes out.old ++ printed (expr_of of.now)) }
+    ensures { Adds result out.old out.new (printed (expr_of of.now)) }
 {
     match &of.kind {
         ExprKind::Int(value) => number(out, *value),
@@ -90,7 +91,7 @@ pub(crate) fn expr<A>(out: &mut String, of: &Expr<A>) -> Result<(), AllocError>
 
 #[cycle(expr_texts)]
 fn target<A>(out: &mut String, of: &Option<Box<Expr<A>>>) -> Result<(), AllocError>
-    ensures { OnOk result (string_bytes out.new ≡ string_bytes out.old ++ printed_target (target_of of.now)) }
+    ensures { Adds result out.old out.new (printed_target (target_of of.now)) }
 {
     match of {
         None => Ok(()),
@@ -104,7 +105,8 @@ fn target<A>(out: &mut String, of: &Option<Box<Expr<A>>>) -> Result<(), AllocErr
 /// Arguments in their parentheses (JLS 15.12, 15.9, 8.8.7.1).
 #[cycle(expr_texts)]
 pub(crate) fn arguments<A>(out: &mut String, parts: &[Expr<A>]) -> Result<(), AllocError>
-    ensures { OnOk result (string_bytes out.new ≡ string_bytes out.old ++ (codes "(" ++ printed_args (exprs_of parts.now) ++ codes ")")) }
+    ensures { Adds result out.old out.new
+        (codes "(" ++ printed_args (exprs_of parts.now) ++ codes ")") }
 {
     put(out, "(")?;
     list(out, parts)?;
@@ -114,7 +116,7 @@ pub(crate) fn arguments<A>(out: &mut String, parts: &[Expr<A>]) -> Result<(), Al
 /// Expressions with a comma between two.
 #[cycle(expr_texts)]
 fn list<A>(out: &mut String, parts: &[Expr<A>]) -> Result<(), AllocError>
-    ensures { OnOk result (string_bytes out.new ≡ string_bytes out.old ++ printed_args (exprs_of parts.now)) }
+    ensures { Adds result out.old out.new (printed_args (exprs_of parts.now)) }
 {
     match parts.split_first() {
         None => Ok(()),
@@ -128,7 +130,7 @@ fn list<A>(out: &mut String, parts: &[Expr<A>]) -> Result<(), AllocError>
 /// Expressions behind others, each with a comma in front of it.
 #[cycle(expr_texts)]
 fn more<A>(out: &mut String, parts: &[Expr<A>]) -> Result<(), AllocError>
-    ensures { OnOk result (string_bytes out.new ≡ string_bytes out.old ++ printed_more (exprs_of parts.now)) }
+    ensures { Adds result out.old out.new (printed_more (exprs_of parts.now)) }
 {
     for part in parts {
         put(out, ", ")?;

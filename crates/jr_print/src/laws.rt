@@ -1,5 +1,6 @@
 //! What holds of printed text.
-ghost use Rattle.jr_print.specs.ReadsBack.{ExpressionReadsBack, StatementReadsBack, MemberReadsBack, PrintingIgnoresMarks};
+ghost use Rattle.jr_print.specs.ReadsBack.{ExpressionReadsBack, StatementReadsBack};
+ghost use Rattle.jr_print.specs.ReadsBack.{MemberReadsBack, PrintingIgnoresMarks};
 
 use jr_lex::pieces_lex;
 

@@ -1,8 +1,12 @@
 //! Members and classes as text (JLS 8).
-ghost use Rattle.std.specs.Prelude.{◌≡◌, ◌++◌, codes, OnOk, string_bytes, option_map, map};
+ghost use Rattle.std.specs.Prelude.{◌≡◌, ◌++◌, codes, option_map, map};
 ghost use Rattle.jr_ast.specs.MemberTree as tree;
-ghost use Rattle.jr_ast.specs.View.{word_of, modifier_of, type_of, param_of, expr_of, args_of, stmts_of, class_of, member_of, members_of};
-ghost use Rattle.jr_print.specs.MemberText.{printed_params, printed_init, printed_result, printed_super, printed_extends, printed_class, printed_member, printed_members};
+ghost use Rattle.jr_ast.specs.View.{word_of, modifier_of, type_of, param_of, expr_of, args_of};
+ghost use Rattle.jr_ast.specs.View.{stmts_of, class_of, member_of, members_of};
+ghost use Rattle.jr_print.specs.Adds.{Adds};
+ghost use Rattle.jr_print.specs.MemberText.{printed_params, printed_init, printed_result};
+ghost use Rattle.jr_print.specs.MemberText.{printed_super, printed_extends, printed_class};
+ghost use Rattle.jr_print.specs.MemberText.{printed_member, printed_members};
 ghost use Rattle.jr_print.specs.StatementText.{printed_stmts};
 
 use crate::exprs::{arguments, expr};
@@ -13,7 +17,7 @@ use std::alloc::AllocError;
 
 /// The initializer of a field, if there is one (JLS 8.3.2).
 fn init<A>(out: &mut String, of: &Option<Expr<A>>) -> Result<(), AllocError>
-    ensures { OnOk result (string_bytes out.new ≡ string_bytes out.old ++ printed_init (option_map expr_of of.now)) }
+    ensures { Adds result out.old out.new (printed_init (option_map expr_of of.now)) }
 {
     match of {
         None => Ok(()),
@@ -26,7 +30,7 @@ fn init<A>(out: &mut String, of: &Option<Expr<A>>) -> Result<(), AllocError>
 
 /// A type, or `void` (JLS 8.4.5).
 fn result_type<A>(out: &mut String, of: &Option<TypeRef<A>>) -> Result<(), AllocError>
-    ensures { OnOk result (string_bytes out.new ≡ string_bytes out.old ++ printed_result (option_map type_of of.now)) }
+    ensures { Adds result out.old out.new (printed_result (option_map type_of of.now)) }
 {
     match of {
         None => put(out, "void"),
@@ -36,7 +40,7 @@ fn result_type<A>(out: &mut String, of: &Option<TypeRef<A>>) -> Result<(), Alloc
 
 /// A written `super(..)` as a body's first statement, if there is one (JLS 8.8.7.1).
 fn super_call<A>(out: &mut String, of: &Option<Vec<Expr<A>>>) -> Result<(), AllocError>
-    ensures { OnOk result (string_bytes out.new ≡ string_bytes out.old ++ printed_super (args_of of.now)) }
+    ensures { Adds result out.old out.new (printed_super (args_of of.now)) }
 {
     match of {
         None => Ok(()),
@@ -50,7 +54,7 @@ fn super_call<A>(out: &mut String, of: &Option<Vec<Expr<A>>>) -> Result<(), Allo
 
 /// The superclass of a class, if it is written (JLS 8.1.4).
 fn extends<A>(out: &mut String, of: &Option<TypeRef<A>>) -> Result<(), AllocError>
-    ensures { OnOk result (string_bytes out.new ≡ string_bytes out.old ++ printed_extends (option_map type_of of.now)) }
+    ensures { Adds result out.old out.new (printed_extends (option_map type_of of.now)) }
 {
     match of {
         None => Ok(()),
@@ -63,7 +67,8 @@ fn extends<A>(out: &mut String, of: &Option<TypeRef<A>>) -> Result<(), AllocErro
 
 /// The name and the parameters of a method or constructor, up to the brace of its body.
 fn signature<A>(out: &mut String, name: &Ident<A>, list: &[Param<A>]) -> Result<(), AllocError>
-    ensures { OnOk result (string_bytes out.new ≡ string_bytes out.old ++ ((word_of name.now).text ++ codes "(" ++ printed_params (map param_of list.now) ++ codes ") {")) }
+    ensures { Adds result out.old out.new
+        ((word_of name.now).text ++ codes "(" ++ printed_params (map param_of list.now) ++ codes ") {") }
 {
     word(out, name)?;
     put(out, "(")?;
@@ -73,7 +78,7 @@ fn signature<A>(out: &mut String, name: &Ident<A>, list: &[Param<A>]) -> Result<
 
 /// What stands in the braces of a body, and its last brace.
 fn body<A>(out: &mut String, parts: &[Stmt<A>]) -> Result<(), AllocError>
-    ensures { OnOk result (string_bytes out.new ≡ string_bytes out.old ++ (printed_stmts (stmts_of parts.now) ++ codes " }")) }
+    ensures { Adds result out.old out.new (printed_stmts (stmts_of parts.now) ++ codes " }") }
 {
     stmts(out, parts)?;
     put(out, " }")
@@ -83,7 +88,7 @@ fn body<A>(out: &mut String, parts: &[Stmt<A>]) -> Result<(), AllocError>
 #[cycle(member_texts)]
 #[tactic(auto, unfolding(jr_ast::specs::View::member_kind))]
 pub(crate) fn member<A>(out: &mut String, of: &Member<A>) -> Result<(), AllocError>
-    ensures { OnOk result (string_bytes out.new ≡ string_bytes out.old ++ printed_member (member_of of.now)) }
+    ensures { Adds result out.old out.new (printed_member (member_of of.now)) }
 {
     match &of.kind {
         MemberKind::Field {
@@ -131,7 +136,7 @@ pub(crate) fn member<A>(out: &mut String, of: &Member<A>) -> Result<(), AllocErr
 /// The text of a class is put behind `out`.
 #[cycle(member_texts)]
 fn class<A>(out: &mut String, of: &Class<A>) -> Result<(), AllocError>
-    ensures { OnOk result (string_bytes out.new ≡ string_bytes out.old ++ printed_class (class_of of.now)) }
+    ensures { Adds result out.old out.new (printed_class (class_of of.now)) }
 {
     modifiers(out, &of.modifiers)?;
     put(out, "class ")?;
@@ -145,7 +150,7 @@ fn class<A>(out: &mut String, of: &Class<A>) -> Result<(), AllocError>
 /// Members, each with a space in front of it.
 #[cycle(member_texts)]
 fn members<A>(out: &mut String, parts: &[Member<A>]) -> Result<(), AllocError>
-    ensures { OnOk result (string_bytes out.new ≡ string_bytes out.old ++ printed_members (members_of parts.now)) }
+    ensures { Adds result out.old out.new (printed_members (members_of parts.now)) }
 {
     for part in parts {
         put(out, " ")?;

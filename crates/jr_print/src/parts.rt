@@ -1,9 +1,10 @@
 //! The parts of a text that hold no expression.
-ghost use Rattle.std.specs.Prelude.{◌≡◌, ◌++◌, codes, OnOk, string_bytes, map};
+ghost use Rattle.std.specs.Prelude.{◌≡◌, ◌++◌, codes, map};
 ghost use Rattle.std.specs.Fmt.{decimal};
 ghost use Rattle.jr_ast.specs.View.{word_of, modifier_of, type_of, param_of, expr_of};
+ghost use Rattle.jr_print.specs.Adds.{Adds};
 ghost use Rattle.jr_print.specs.ExpressionText.{printed_type, printed_dot};
-ghost use Rattle.jr_print.specs.StatementText.{printed_final};
+ghost use Rattle.jr_print.specs.StatementText.{printed_variable};
 ghost use Rattle.jr_print.specs.MemberText.{printed_modifiers, printed_more_params, printed_params};
 
 use crate::operators;
@@ -12,21 +13,21 @@ use std::alloc::AllocError;
 
 /// A text is put behind `out`.
 pub(crate) fn put(out: &mut String, text: &str) -> Result<(), AllocError>
-    ensures { OnOk result (string_bytes out.new ≡ string_bytes out.old ++ text.now) }
+    ensures { Adds result out.old out.new text.now }
 {
     out.push_str(text)
 }
 
 /// A decimal integer literal (JLS 3.10.1).
 pub(crate) fn number(out: &mut String, value: u32) -> Result<(), AllocError>
-    ensures { OnOk result (string_bytes out.new ≡ string_bytes out.old ++ decimal value) }
+    ensures { Adds result out.old out.new (decimal value) }
 {
     write!(out, "{value}")
 }
 
 /// A string literal; `text` is as written (JLS 3.10.5).
 pub(crate) fn string(out: &mut String, text: &Name) -> Result<(), AllocError>
-    ensures { OnOk result (string_bytes out.new ≡ string_bytes out.old ++ (codes "\"" ++ text.now ++ codes "\"")) }
+    ensures { Adds result out.old out.new (codes "\"" ++ text.now ++ codes "\"") }
 {
     put(out, "\"")?;
     put(out, text.as_str())?;
@@ -35,14 +36,14 @@ pub(crate) fn string(out: &mut String, text: &Name) -> Result<(), AllocError>
 
 /// An identifier (JLS 3.8).
 pub(crate) fn word<A>(out: &mut String, of: &Ident<A>) -> Result<(), AllocError>
-    ensures { OnOk result (string_bytes out.new ≡ string_bytes out.old ++ (word_of of.now).text) }
+    ensures { Adds result out.old out.new (word_of of.now).text }
 {
     put(out, of.name.as_str())
 }
 
 /// A type as written (JLS 4.1, 6.5.5).
 pub(crate) fn ty<A>(out: &mut String, of: &TypeRef<A>) -> Result<(), AllocError>
-    ensures { OnOk result (string_bytes out.new ≡ string_bytes out.old ++ printed_type (type_of of.now)) }
+    ensures { Adds result out.old out.new (printed_type (type_of of.now)) }
 {
     match &of.kind {
         TypeKind::Int => put(out, "int"),
@@ -75,7 +76,7 @@ pub(crate) fn variable<A>(
     of_type: &TypeRef<A>,
     name: &Ident<A>,
 ) -> Result<(), AllocError>
-    ensures { OnOk result (string_bytes out.new ≡ string_bytes out.old ++ (printed_final is_final ++ printed_type (type_of of_type.now) ++ codes " " ++ (word_of name.now).text)) }
+    ensures { Adds result out.old out.new (printed_variable is_final (type_of of_type.now) (word_of name.now)) }
 {
     put(out, if is_final { "final " } else { "" })?;
     ty(out, of_type)?;
@@ -85,7 +86,7 @@ pub(crate) fn variable<A>(
 
 /// Modifiers, each with a space behind it (JLS 8.1.1, 8.3.1, 8.4.3, 8.8.3).
 pub(crate) fn modifiers<A>(out: &mut String, words: &[Modifier<A>]) -> Result<(), AllocError>
-    ensures { OnOk result (string_bytes out.new ≡ string_bytes out.old ++ printed_modifiers (map modifier_of words.now)) }
+    ensures { Adds result out.old out.new (printed_modifiers (map modifier_of words.now)) }
 {
     for word in words {
         put(out, operators::modifier(word.word))?;
@@ -95,7 +96,7 @@ pub(crate) fn modifiers<A>(out: &mut String, words: &[Modifier<A>]) -> Result<()
 
 /// Parameters behind others, each with a comma in front of it.
 fn more_params<A>(out: &mut String, list: &[Param<A>]) -> Result<(), AllocError>
-    ensures { OnOk result (string_bytes out.new ≡ string_bytes out.old ++ printed_more_params (map param_of list.now)) }
+    ensures { Adds result out.old out.new (printed_more_params (map param_of list.now)) }
 {
     for param in list {
         put(out, ", ")?;
@@ -106,7 +107,7 @@ fn more_params<A>(out: &mut String, list: &[Param<A>]) -> Result<(), AllocError>
 
 /// Parameters with a comma between two (JLS 8.4.1).
 pub(crate) fn params<A>(out: &mut String, list: &[Param<A>]) -> Result<(), AllocError>
-    ensures { OnOk result (string_bytes out.new ≡ string_bytes out.old ++ printed_params (map param_of list.now)) }
+    ensures { Adds result out.old out.new (printed_params (map param_of list.now)) }
 {
     match list.split_first() {
         None => Ok(()),

@@ -1,6 +1,7 @@
 //! Statements as text (JLS 14).
-ghost use Rattle.std.specs.Prelude.{◌≡◌, ◌++◌, codes, OnOk, string_bytes, option_map};
+ghost use Rattle.std.specs.Prelude.{◌≡◌, ◌++◌, codes, option_map};
 ghost use Rattle.jr_ast.specs.View.{expr_of, stmt_of, stmts_of, else_of};
+ghost use Rattle.jr_print.specs.Adds.{Adds};
 ghost use Rattle.jr_print.specs.ExpressionText.{printed};
 ghost use Rattle.jr_print.specs.StatementText.{printed_stmt, printed_else, printed_stmts, printed_return};
 
@@ -10,22 +11,22 @@ use jr_ast::{Expr, Stmt, StmtKind};
 use std::alloc::AllocError;
 
 /// An expression and the text behind it.
-fn ended<A>(out: &mut String, of: &Expr<A>, end: &str) -> Result<(), AllocError>
-    ensures { OnOk result (string_bytes out.new ≡ string_bytes out.old ++ (printed (expr_of of.now) ++ end.now)) }
+fn expr_then<A>(out: &mut String, of: &Expr<A>, end: &str) -> Result<(), AllocError>
+    ensures { Adds result out.old out.new (printed (expr_of of.now) ++ end.now) }
 {
     expr(out, of)?;
     put(out, end)
 }
 
 /// `return` with or without a value (JLS 14.17).
-fn returned<A>(out: &mut String, value: &Option<Expr<A>>) -> Result<(), AllocError>
-    ensures { OnOk result (string_bytes out.new ≡ string_bytes out.old ++ printed_return (option_map expr_of value.now)) }
+fn return_stmt<A>(out: &mut String, value: &Option<Expr<A>>) -> Result<(), AllocError>
+    ensures { Adds result out.old out.new (printed_return (option_map expr_of value.now)) }
 {
     match value {
         None => put(out, "return;"),
         Some(value) => {
             put(out, "return ")?;
-            ended(out, value, ";")
+            expr_then(out, value, ";")
         }
     }
 }
@@ -34,7 +35,7 @@ fn returned<A>(out: &mut String, value: &Option<Expr<A>>) -> Result<(), AllocErr
 #[cycle(stmt_texts)]
 #[tactic(auto, unfolding(jr_ast::specs::View::stmt_kind))]
 pub(crate) fn stmt<A>(out: &mut String, of: &Stmt<A>) -> Result<(), AllocError>
-    ensures { OnOk result (string_bytes out.new ≡ string_bytes out.old ++ printed_stmt (stmt_of of.now)) }
+    ensures { Adds result out.old out.new (printed_stmt (stmt_of of.now)) }
 {
     match &of.kind {
         StmtKind::Local {
@@ -45,25 +46,25 @@ pub(crate) fn stmt<A>(out: &mut String, of: &Stmt<A>) -> Result<(), AllocError>
         } => {
             variable(out, *is_final, ty, name)?;
             put(out, " = ")?;
-            ended(out, init, ";")
+            expr_then(out, init, ";")
         }
-        StmtKind::Eval(value) => ended(out, value, ";"),
+        StmtKind::Eval(value) => expr_then(out, value, ";"),
         StmtKind::If(condition, yes, no) => {
             put(out, "if (")?;
-            ended(out, condition, ") ")?;
+            expr_then(out, condition, ") ")?;
             stmt(out, yes)?;
             otherwise(out, no)
         }
         StmtKind::While(condition, body) => {
             put(out, "while (")?;
-            ended(out, condition, ") ")?;
+            expr_then(out, condition, ") ")?;
             stmt(out, body)
         }
-        StmtKind::Return(value) => returned(out, value),
+        StmtKind::Return(value) => return_stmt(out, value),
         StmtKind::Block(body) => block(out, body),
         StmtKind::Sync(lock, body) => {
             put(out, "synchronized (")?;
-            ended(out, lock, ") ")?;
+            expr_then(out, lock, ") ")?;
             block(out, body)
         }
         StmtKind::Empty => put(out, ";"),
@@ -72,7 +73,7 @@ pub(crate) fn stmt<A>(out: &mut String, of: &Stmt<A>) -> Result<(), AllocError>
 
 #[cycle(stmt_texts)]
 fn otherwise<A>(out: &mut String, of: &Option<Box<Stmt<A>>>) -> Result<(), AllocError>
-    ensures { OnOk result (string_bytes out.new ≡ string_bytes out.old ++ printed_else (else_of of.now)) }
+    ensures { Adds result out.old out.new (printed_else (else_of of.now)) }
 {
     match of {
         None => Ok(()),
@@ -86,7 +87,8 @@ fn otherwise<A>(out: &mut String, of: &Option<Box<Stmt<A>>>) -> Result<(), Alloc
 /// A block in its braces (JLS 14.2).
 #[cycle(stmt_texts)]
 fn block<A>(out: &mut String, body: &[Stmt<A>]) -> Result<(), AllocError>
-    ensures { OnOk result (string_bytes out.new ≡ string_bytes out.old ++ (codes "{" ++ printed_stmts (stmts_of body.now) ++ codes " }")) }
+    ensures { Adds result out.old out.new
+        (codes "{" ++ printed_stmts (stmts_of body.now) ++ codes " }") }
 {
     put(out, "{")?;
     stmts(out, body)?;
@@ -96,7 +98,7 @@ fn block<A>(out: &mut String, body: &[Stmt<A>]) -> Result<(), AllocError>
 /// Statements, each with a space in front of it.
 #[cycle(stmt_texts)]
 pub(crate) fn stmts<A>(out: &mut String, parts: &[Stmt<A>]) -> Result<(), AllocError>
-    ensures { OnOk result (string_bytes out.new ≡ string_bytes out.old ++ printed_stmts (stmts_of parts.now)) }
+    ensures { Adds result out.old out.new (printed_stmts (stmts_of parts.now)) }
 {
     for part in parts {
         put(out, " ")?;

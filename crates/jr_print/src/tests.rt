@@ -46,7 +46,7 @@ fn sum(alloc: Global) -> Made<Box<Expr<u8>>> {
 }
 
 // `return -(-a) + 1;`
-fn returned(alloc: Global) -> Made<Box<Stmt<u8>>> {
+fn return_of_the_sum(alloc: Global) -> Made<Box<Stmt<u8>>> {
     let value = Box::into_inner(sum(alloc)?);
     Ok(Box::new(alloc, Stmt::return_value(0, Some(value)))?)
 }
@@ -70,7 +70,7 @@ fn int_param(alloc: Global, text: &str) -> Made<Vec<Param<u8>>> {
 // `int m(int a) { return -(-a) + 1; }`
 fn method(alloc: Global) -> Made<Member<u8>> {
     let mut body = Vec::new(alloc);
-    body.push(Box::into_inner(returned(alloc)?))?;
+    body.push(Box::into_inner(return_of_the_sum(alloc)?))?;
     let params = int_param(alloc, "a")?;
     let name = word(alloc, "m")?;
     let int = TypeRef {
@@ -152,7 +152,7 @@ fn string(alloc: Global) -> Made<Box<Expr<u8>>> {
 // `if (a) return -(-a) + 1; else { }`
 fn branches(alloc: Global) -> Made<Box<Stmt<u8>>> {
     let condition = Box::into_inner(simple(alloc, "a")?);
-    let yes = returned(alloc)?;
+    let yes = return_of_the_sum(alloc)?;
     let no = Box::new(alloc, Stmt::block(0, Vec::new(alloc)))?;
     Ok(Box::new(alloc, Stmt::if_else(0, condition, yes, no))?)
 }
@@ -183,7 +183,7 @@ fn texts_are_those_of_the_layout(rt: HostRuntime) -> Result<(), Fail> {
         assert_eq!(rt; expr_text(alloc, expr)?.as_str(), *text);
     }
     let stmts = [
-        (returned(alloc)?, "return -(-a) + 1;"),
+        (return_of_the_sum(alloc)?, "return -(-a) + 1;"),
         (branches(alloc)?, "if (a) return -(-a) + 1; else { }"),
     ];
     for (stmt, text) in &stmts {

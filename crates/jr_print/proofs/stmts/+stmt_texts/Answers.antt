@@ -76,14 +76,14 @@ stmt-returns-in-Block g t c =
     let view = ap (λ d. printed_stmt (stmt_kind m d)) at.is ∙ ap printed_stmt (stmt_kind-Block _ m at.body) in
     on_ok_weaker c.block.result (λ e. put_one _ _ _ _ e (ap (λ ss. codes "{" ++ printed_stmts (stmts_of ss) ++ codes " }") c.deref-in-Block.ensures.value ∙ sym view)) c.block.ensures
 
-pub stmt-returns-in_ok-ended-in-Sync : goal.stmt-returns-in_ok-ended-in-Sync
+pub stmt-returns-in_ok-expr_then-in-Sync : goal.stmt-returns-in_ok-expr_then-in-Sync
 unfolding stmt_kind stmt_row held_else
-stmt-returns-in_ok-ended-in-Sync g t c =
+stmt-returns-in_ok-expr_then-in-Sync g t c =
     let at = c.in-Sync in
     let m = c.args.of.now.mark in
     let view = ap (λ d. printed_stmt (stmt_kind m d)) at.is ∙ ap printed_stmt (stmt_kind-Sync _ m at.lock at.body) in
     let text = ap (λ ss. codes "synchronized (" ++ ((printed (expr_of at.lock) ++ codes ") ") ++ (codes "{" ++ printed_stmts (stmts_of ss) ++ codes " }"))) c.deref-in-Sync.ensures.value in
-    on_ok_weaker c.block-in-Sync.result (λ e. put_three _ _ _ _ _ _ _ _ c.in_ok-put-in-Sync.ensures c.in_ok-ended-in-Sync.ensures e (text ∙ locked (printed (expr_of at.lock)) (printed_stmts (stmts_of at.body.items)) ∙ sym view)) c.block-in-Sync.ensures
+    on_ok_weaker c.block-in-Sync.result (λ e. put_three _ _ _ _ _ _ _ _ c.in_ok-put-in-Sync.ensures c.in_ok-expr_then-in-Sync.ensures e (text ∙ locked (printed (expr_of at.lock)) (printed_stmts (stmts_of at.body.items)) ∙ sym view)) c.block-in-Sync.ensures
 
 pub stmts-loop-part-preserved : goal.stmts-loop-part-preserved
 stmts-loop-part-preserved g t c =
