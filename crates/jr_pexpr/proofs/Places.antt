@@ -9,21 +9,21 @@ use Rattle.jr_lex.specs.declared.items.Symbol.TheVariants.{OpenParen, CloseParen
 use Rattle.jr_ast.specs.declared.operators.UnOp.TheVariants.{Plus, Minus, Not}
 use Rattle.jr_ast.specs.declared.operators.BinOp.{BinOp}
 use Rattle.jr_ast.specs.declared.operators.BinOp.TheVariants.{Add, Sub}
-use Rattle.jr_ast.specs.Tree.{Word, TypeName, named, Exp, name, field, super_field, class_literal, paren, bump, no_target, on, end}
+use Rattle.jr_ast.specs.Tree.{Word, TypeName, named, Exp, name, field, super_field, paren, bump, no_target, on, end}
 use Rattle.jr_ast.specs.Marks.{exp_mark}
-use Rattle.jr_grammar.specs.Tokens.{Token, word, keyword, symbol, Placed}
+use Rattle.jr_grammar.specs.Tokens.{Token, keyword, symbol, Placed}
 use Rattle.jr_grammar.specs.Spelling.{binary_symbol}
 use Rattle.jr_grammar.specs.Shape.{rank_of, level_of}
 use Rattle.jr_pexpr.specs.Pieces.{Way, up, down, way_symbol, Atom, a_number, a_truth, a_null, a_string, a_this, Piece, a_word, an_atom, a_super, a_new, a_class, an_open, a_close, a_comma, a_dot, a_bang, a_bump, an_operator, an_equals, a_compound, piece_of, piece_token}
-use Rattle.jr_pexpr.specs.Machine.{Head, call_head, super_head, create_head, Frame, in_unary, in_bump, in_assign, in_compound, in_paren, in_args, State, want, have, dotted, at_super, super_dotted, at_new, new_named, new_dotted, with_last, behind, binds, needed, behind_minus, plug, fits, reduced, operated, closed, continued, at_most, atom_exp, atom_fits, signed, emptied, begun, name_type, cast_frame, cast_of, casted, opened, is_target, is_compound, assigned, bumped, extended, literal_of, member, behind_super, super_member, behind_new, new_outer, behind_new_name, new_inner, stepped}
-use Rattle.jr_grammar.specs.Layout.{token, row, done, ◌then◌}
+use Rattle.jr_pexpr.specs.Machine.{Head, call_head, super_head, Frame, in_unary, in_bump, in_assign, in_compound, in_paren, in_args, State, want, have, dotted, at_super, super_dotted, at_new, new_named, new_dotted, with_last, behind, binds, needed, behind_minus, plug, fits, reduced, operated, closed, continued, at_most, atom_exp, atom_fits, signed, emptied, begun, name_type, cast_frame, cast_of, casted, opened, is_target, is_compound, assigned, bumped, extended, literal_of, member, behind_super, super_member, behind_new, new_outer, behind_new_name, new_inner, stepped}
+use Rattle.jr_grammar.specs.Layout.{token, done, ◌then◌}
 use Rattle.jr_grammar.specs.Stands as S
 use Rattle.jr_grammar.specs.Stands.{Tokens, first_from, span_of, InOrder, StandInOrder}
-use Rattle.jr_grammar.specs.ExpressionLayout.{word_layout, type_layout, exp_layout, target_layout}
+use Rattle.jr_grammar.specs.ExpressionLayout.{word_layout, type_layout, exp_layout}
 use Rattle.jr_pexpr.specs.Marked.{join, span_step}
 use Rattle.jr_pexpr.proofs.Levels.{rank_low}
 use Rattle.jr_pexpr.proofs.PieceTokens.{piece_back}
-use Rattle.jr_pexpr.proofs.Placing.{IsMore, more_append, more_after, first_from-append, to_last, stands_mark, Is, StandsWord, behind as in_front, one, alone, named_one, last, joined, Stands, Opened, StandsHead, StandsFrame, StandsStack, StandsState, stands_plug, args_last, done_last, applied_stands}
+use Rattle.jr_pexpr.proofs.Placing.{more_append, first_from-append, to_last, stands_mark, Is, StandsWord, behind as in_front, one, alone, named_one, joined, Stands, Opened, StandsHead, StandsFrame, StandsStack, StandsState, stands_plug, args_last, done_last, applied_stands}
 
 abbrev Spans : Type 0
 Spans = List (Frame Span)
@@ -285,20 +285,31 @@ literal_stands fs e i ps t h = go (name_type e) (name_stands e h.1 h.5.0)
   where
     go : (c : Option (TypeName Span)) → IfSome c (λ (c : TypeName Span). S.Stands (type_layout c) h.1) → After ps i (literal_of fs (join (exp_mark e) i.mark) c)
     go None k = tt
-    go (Some c) k = (h.0, h.1 ++ (h.2 ∷ i ∷ []), two_behind h.0 h.1 h.2 i ps h.3, h.4, (
-      record { mark = behind_mark e h.1 (h.2 ∷ []) i h.5; parts = in_front h.1 (h.2 ∷ i ∷ []) (h.1 ++ (h.2 ∷ i ∷ [])) refl k (one (symbol Dot) h.2 (i ∷ []) (h.2 ∷ i ∷ []) refl h.6 (alone (keyword Class) i t)) },
-      more_append h.1 (h.2 ∷ i ∷ []) h.5.1,
-    ))
+    go (Some c) k = (
+      h.0,
+      h.1 ++ (h.2 ∷ i ∷ []),
+      two_behind h.0 h.1 h.2 i ps h.3,
+      h.4,
+      (
+        record { mark = behind_mark e h.1 (h.2 ∷ []) i h.5; parts = in_front h.1 (h.2 ∷ i ∷ []) (h.1 ++ (h.2 ∷ i ∷ [])) refl k (one (symbol Dot) h.2 (i ∷ []) (h.2 ∷ i ∷ []) refl h.6 (alone (keyword Class) i t)) },
+        more_append h.1 (h.2 ∷ i ∷ []) h.5.1,
+      ),
+    )
 
 member_stands : (fs : Spans) (e : Exp Span) (i : Placed Span) (p : Piece) (ps : Tokens) → Is (piece_token p) i → StandsState (dotted fs e) ps → After ps i (member join fs e i.mark p)
-member_stands fs e i (a_word w) ps t h =
-    (h.0, h.1 ++ (h.2 ∷ i ∷ []), two_behind h.0 h.1 h.2 i ps h.3, h.4, (
-      record {
-        mark = behind_mark e h.1 (h.2 ∷ []) i h.5;
-        parts = in_front h.1 (h.2 ∷ i ∷ []) (h.1 ++ (h.2 ∷ i ∷ [])) refl h.5.0 (one (symbol Dot) h.2 (i ∷ []) (h.2 ∷ i ∷ []) refl h.6 (named_one (record { mark = i.mark; text = w }) i [] (i ∷ []) refl (t, refl) refl));
-      },
-      more_append h.1 (h.2 ∷ i ∷ []) h.5.1,
-    ))
+member_stands fs e i (a_word w) ps t h = (
+  h.0,
+  h.1 ++ (h.2 ∷ i ∷ []),
+  two_behind h.0 h.1 h.2 i ps h.3,
+  h.4,
+  (
+    record {
+      mark = behind_mark e h.1 (h.2 ∷ []) i h.5;
+      parts = in_front h.1 (h.2 ∷ i ∷ []) (h.1 ++ (h.2 ∷ i ∷ [])) refl h.5.0 (one (symbol Dot) h.2 (i ∷ []) (h.2 ∷ i ∷ []) refl h.6 (named_one (record { mark = i.mark; text = w }) i [] (i ∷ []) refl (t, refl) refl));
+    },
+    more_append h.1 (h.2 ∷ i ∷ []) h.5.1,
+  ),
+)
 member_stands fs e i a_class ps t h = literal_stands fs e i ps t h
 member_stands fs e i _ ps t h = tt
 
@@ -312,14 +323,19 @@ behind_super_stands fs m i a_dot ps t h = (h.0, h.1, i, one_more ps h.0 (h.1 ∷
 behind_super_stands fs m i _ ps t h = tt
 
 super_member_stands : (fs : Spans) (m : Span) (i : Placed Span) (p : Piece) (ps : Tokens) → Is (piece_token p) i → StandsState (super_dotted fs m) ps → After ps i (super_member join fs m i.mark p)
-super_member_stands fs m i (a_word w) ps t h =
-    (h.0, h.1 ∷ h.2 ∷ i ∷ [], one_more ps h.0 (h.1 ∷ h.2 ∷ []) i h.3, h.4, (
-      record {
-        mark = from_first m m h.1 i (h.2 ∷ []) h.6;
-        parts = one (keyword Super) h.1 (h.2 ∷ i ∷ []) (h.1 ∷ h.2 ∷ i ∷ []) refl h.5 (one (symbol Dot) h.2 (i ∷ []) (h.2 ∷ i ∷ []) refl h.7 (named_one (record { mark = i.mark; text = w }) i [] (i ∷ []) refl (t, refl) refl));
-      },
-      tt,
-    ))
+super_member_stands fs m i (a_word w) ps t h = (
+  h.0,
+  h.1 ∷ h.2 ∷ i ∷ [],
+  one_more ps h.0 (h.1 ∷ h.2 ∷ []) i h.3,
+  h.4,
+  (
+    record {
+      mark = from_first m m h.1 i (h.2 ∷ []) h.6;
+      parts = one (keyword Super) h.1 (h.2 ∷ i ∷ []) (h.1 ∷ h.2 ∷ i ∷ []) refl h.5 (one (symbol Dot) h.2 (i ∷ []) (h.2 ∷ i ∷ []) refl h.7 (named_one (record { mark = i.mark; text = w }) i [] (i ∷ []) refl (t, refl) refl));
+    },
+    tt,
+  ),
+)
 super_member_stands fs m i _ ps t h = tt
 
 behind_new_stands : (fs : Spans) (m : Span) (i : Placed Span) (p : Piece) (ps : Tokens) → Is (piece_token p) i → StandsState (at_new fs m) ps → After ps i (behind_new fs m i.mark p)

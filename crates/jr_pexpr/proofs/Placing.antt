@@ -5,11 +5,11 @@ use Rattle.jr_text.specs.declared.spans.Span.{Span}
 use Rattle.jr_lex.specs.declared.items.Keyword.TheVariants.{New, Super}
 use Rattle.jr_lex.specs.declared.items.Symbol.TheVariants.{OpenParen, CloseParen, Comma, Dot, Equals}
 use Rattle.jr_ast.specs.declared.operators.BumpOp.TheVariants.{PreInc, PreDec, PostInc, PostDec}
-use Rattle.jr_ast.specs.Tree.{Word, TypeName, Exp, number, truth, null, string, name, field, super_field, this, class_literal, call, super_call, create, paren, cast, unary, bump, binary, assign, compound, Target, no_target, on, Exps, end, more}
+use Rattle.jr_ast.specs.Tree.{Word, Exp, bump, Exps, end, more}
 use Rattle.jr_ast.specs.Marks.{exp_mark}
 use Rattle.jr_grammar.specs.Tokens.{Token, word, keyword, symbol, Placed}
 use Rattle.jr_grammar.specs.Spelling.{unary_symbol, binary_symbol, compound_symbol}
-use Rattle.jr_grammar.specs.Layout.{Layout, token, row, Layouts, done, ◌then◌}
+use Rattle.jr_grammar.specs.Layout.{token, Layouts, done, ◌then◌}
 use Rattle.jr_grammar.specs.Stands as S
 use Rattle.jr_grammar.specs.Stands.{Tokens, first_from, last_to, span_of, IsAlone, InOrder, StandInOrder}
 use Rattle.jr_grammar.specs.ExpressionLayout.{word_layout, type_layout, exp_layout, target_layout, args_layout, more_args_layout}
