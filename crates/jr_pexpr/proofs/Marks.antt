@@ -132,14 +132,14 @@ kept_some (Some s) m e = go (is_open (frames_of s)) e
     go true k = k
     go false k = absurd cc
 
-run_kept : (s : State Span) (ps : Tokens) (n : State Span) → span_statement_run s ps ≡ Some n → span_run s ps ≡ Some n
+pub run_kept : (s : State Span) (ps : Tokens) (n : State Span) → span_statement_run s ps ≡ Some n → span_run s ps ≡ Some n
 run_kept s [] n e = e
 run_kept s (i ∷ ps) n e = go (λ m k. run_kept m ps n k) (both_some (λ (m : State Span). span_statement_run m ps) (span_statement_step s i) n e)
   where
     go : ((m : State Span) → span_statement_run m ps ≡ Some n → span_run m ps ≡ Some n) → (m : State Span) × (span_statement_step s i ≡ Some m) × (span_statement_run m ps ≡ Some n) → span_run s (i ∷ ps) ≡ Some n
     go f b = ap (option_and_then (λ (m : State Span). span_run m ps)) (kept_some (span_step s i) b.0 b.1) ∙ f b.0 b.2
 
-kept_whole : (o : Option (Exp Span)) (e : Exp Span) → kept_statement o ≡ Some e → o ≡ Some e
+pub kept_whole : (o : Option (Exp Span)) (e : Exp Span) → kept_statement o ≡ Some e → o ≡ Some e
 kept_whole None e h = absurd cc
 kept_whole (Some d) e h = go (is_statement d) h
   where

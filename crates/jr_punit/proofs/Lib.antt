@@ -23,3 +23,6 @@ pub mod BareParts
 pub mod BareStatements
 pub mod BareMembers
 pub mod ReadsAlike
+pub mod Standing
+pub mod ExpressionStands
+pub mod StatementStands
