@@ -25,4 +25,5 @@ pub mod BareMembers
 pub mod ReadsAlike
 pub mod Standing
 pub mod ExpressionStands
+pub mod TypeStands
 pub mod StatementStands

@@ -24,10 +24,12 @@ use Rattle.jr_punit.specs.Inside.{inner}
 use Rattle.jr_punit.specs.TypeMachine as T
 use Rattle.jr_punit.specs.StatementMachine.{Frame, in_block, in_sync, in_then, in_else, in_loop, Head, if_head, while_head, sync_head, Slot, for_local, for_return, for_head, State, ready, done, headed, returning, in_exp, in_eval, locked, in_type, named, start, with_stmt, Place, ended, taken_by_if, may_declare, declared, list_closed, begin_modified, begin_primitive, begin_eval, from_ready, from_place, from_done, from_returning, behind_head, filled, from_exp, type_read, begin_local, evaluated, eval_ended, from_eval, local_named, from_type, cue_step, whole, whole_in}
 use Rattle.jr_punit.specs.Marked.{span_list_step, span_list_whole, span_list_run}
+use Rattle.jr_pexpr.proofs.Found.{at_some}
 use Rattle.jr_punit.proofs.CueTokens.{cue_back, semicolon_both, open_both, close_both, open_brace_both, equals_both}
 use Rattle.jr_punit.proofs.Inside.{inner_both}
 use Rattle.jr_punit.proofs.StatementSound.{head_keyword}
-use Rattle.jr_punit.proofs.Standing.{IsMore, more_append, more_after, behind, grow, absorb, joined, mapped, last_to-append, both, stand_both, stand_token, stand_one, stand_last, last_stands, stand_word, Whole, Open, open_one, open_more, open_end, open_ended, one_whole, whole_open}
+use Rattle.jr_punit.proofs.Standing.{IsMore, first_from-append, more_append, more_after, behind, grow, absorb, joined, mapped, last_to-append, both, stand_both, stand_token, stand_one, stand_last, last_stands, stand_word, Whole, Open, open_one, open_more, open_end, open_ended, one_whole, whole_open}
+use Rattle.jr_punit.proofs.TypeStands.{StoodType, StoodTyped, primitive_type, typed_more, typed_word}
 use Rattle.jr_punit.proofs.ExpressionStands.{span_run_one, exp_whole_stands, eval_whole_stands, type_read_stands}
 
 -- ---- what has been read
@@ -80,17 +82,8 @@ slot_parts (for_local m f t w) = local_parts f t w
 slot_parts (for_return m) = token (keyword Return) then nothing
 slot_parts (for_head m h) = token (keyword (head_keyword h)) then token (symbol OpenParen) then nothing
 
--- a type, as far as it has been read
-abbrev pub StoodType : T.State Span → Tokens → Type 0
-StoodType (T.want b) ps = ps ≡ []
-StoodType (T.have t) ps = Whole (type_layout t) (type_mark t) ps
-StoodType (T.dotted o) ps = InOrder (Whole (word_layout o) o.mark) (Stands (token (symbol Dot))) ps
-
--- `final` or nothing, and a type behind it
-pub record StoodLocal (m : Span) (f : Bool) (s : T.State Span) (ps : Tokens) : Type 0 where
-  pub parts : InOrder (Stands (final_layout f)) (StoodType s) ps
-  pub more : IsMore ps
-  pub from : m.from ≡ first_from ps
+abbrev StoodLocal : Span → Bool → T.State Span → Tokens → Type 0
+StoodLocal m f s ps = StoodTyped m (final_layout f) s ps
 
 abbrev pub Stood : State Span → Tokens → Type 0
 Stood (ready fs all) ps = StoodStack fs all ps
@@ -172,10 +165,6 @@ closed_stands (in_then m c ∷ fs) all i ps t h = tt
 closed_stands (in_else m c s ∷ fs) all i ps t h = tt
 closed_stands (in_loop m c ∷ fs) all i ps t h = tt
 
-primitive_type : (p : Primitive) (i : Placed Span) → i.token ≡ cue_token (a_primitive p) → StoodType (T.have (T.primitive_type i.mark p)) (i ∷ [])
-primitive_type an_int i t = one_whole (keyword Int) i t
-primitive_type a_boolean i t = one_whole (keyword Boolean) i t
-
 modified_stands : (fs : List (Frame Span)) (all : Stmts Span) (i : Placed Span) (w : ModWord) (ps : Tokens) → i.token ≡ cue_token (a_modifier w) → StoodStack fs all ps → After ps i (begin_modified fs all i.mark w)
 modified_stands fs all i Synchronized ps t h = behind ps (i ∷ []) h (open_one (keyword SynchronizedWord) i t)
 modified_stands fs all i Final ps t h =
@@ -252,3 +241,137 @@ filled_stands fs all (for_head m r) e i q ps u h = close_both q (behind_head fs 
     headed_stands if_head h c = grow (i ∷ []) h (λ b k. open_exp_more m (slot_parts (for_head m if_head)) e i b c k)
     headed_stands while_head h c = grow (i ∷ []) h (λ b k. open_exp_more m (slot_parts (for_head m while_head)) e i b c k)
     headed_stands sync_head h c = grow (i ∷ []) h (λ b k. open_exp_more m (slot_parts (for_head m sync_head)) e i b c k)
+
+exp_stands : (fs : List (Frame Span)) (all : Stmts Span) (slot : Slot Span) (s : E.State Span) (i : Placed Span) (q : Cue) (ps : Tokens) → i.token ≡ cue_token q → Stood (in_exp fs all slot s) ps
+    → After ps i (from_exp join fs all slot s i.mark i.token q)
+exp_stands fs all slot s i q ps t h =
+    inner_both (in_exp fs all slot) (option_and_then (filled join fs all slot i.mark q) (span_whole s)) (span_step s i) (After ps i)
+    (λ n e. grow (i ∷ []) h (λ b k. grow (i ∷ []) k (λ c g. span_run_one (E.State Span) (Exp Span) span_step span_whole (E.want []) s n c i g e)))
+    (λ _. go (span_whole s) refl)
+  where
+    go : (o : Option (Exp Span)) → span_whole s ≡ o → After ps i (option_and_then (filled join fs all slot i.mark q) o)
+    go None e = tt
+    go (Some d) e = filled_stands fs all slot d i q ps t (mapped h (λ b k. mapped k (λ c g. exp_whole_stands c s d g e)))
+
+returning_stands : (fs : List (Frame Span)) (all : Stmts Span) (m : Span) (i : Placed Span) (q : Cue) (ps : Tokens) → i.token ≡ cue_token q → Stood (returning fs all m) ps → After ps i (from_returning join fs all m i.mark i.token q)
+returning_stands fs all m i a_semicolon ps t h = grow (i ∷ []) h (λ b k. open_ended (symbol Semicolon) i k t)
+returning_stands fs all m i q ps t h = go (span_step (E.want []) i) refl
+  where
+    go : (o : Option (E.State Span)) → span_step (E.want []) i ≡ o → After ps i (option_map (in_exp fs all (for_return m)) o)
+    go None e = tt
+    go (Some n) e = grow (i ∷ []) h (λ b k. behind b (i ∷ []) k (one_run (span_step (E.want []) i) n e))
+
+-- ---- statement expressions, and locals of a named type
+
+eval_ended_stands : (fs : List (Frame Span)) (all : Stmts Span) (s : E.State Span) (i : Placed Span) (q : Cue) (ps : Tokens) → i.token ≡ cue_token q → Stood (in_eval fs all s) ps → After ps i (eval_ended join fs all s i.mark q)
+eval_ended_stands fs all s i a_semicolon ps t h = go (span_statement_whole s) refl
+  where
+    go : (o : Option (Exp Span)) → span_statement_whole s ≡ o → After ps i (option_map (evaluated join fs all i.mark) o)
+    go None e = tt
+    go (Some d) e = grow (i ∷ []) h (λ b k. open_ended (symbol Semicolon) i (whole_open (eval_whole_stands b s d k e)) t)
+eval_ended_stands fs all s i (a_word w) ps t h = go (type_read s) refl
+  where
+    read : (ty : TypeName Span) → type_read s ≡ Some ty → (b : Tokens) → span_statement_run (E.want []) b ≡ Some s → Open (type_mark ty) (named_parts false ty (E.marked i.mark w)) (b ++ (i ∷ []))
+    read ty e b k =
+        let n = type_read_stands b s ty k e in
+        let o = open_more (word_layout (E.marked i.mark w) then nothing) (i ∷ []) (whole_open n) (stand_last (word_layout (E.marked i.mark w)) (i ∷ []) (stand_word (E.marked i.mark w) i t refl)) in
+        record { parts = behind [] (b ++ (i ∷ [])) refl o.parts; more = o.more; from = o.from }
+
+    go : (o : Option (TypeName Span)) → type_read s ≡ o → After ps i (option_and_then (begin_local fs all (E.marked i.mark w)) o)
+    go None e = tt
+    go (Some ty) e = declared_stands fs (named fs all (type_mark ty) false ty (E.marked i.mark w)) i ps (grow (i ∷ []) h (read ty e))
+eval_ended_stands fs all s i _ ps t h = tt
+
+eval_stands : (fs : List (Frame Span)) (all : Stmts Span) (s : E.State Span) (i : Placed Span) (q : Cue) (ps : Tokens) → i.token ≡ cue_token q → Stood (in_eval fs all s) ps → After ps i (from_eval join fs all s i.mark i.token q)
+eval_stands fs all s i q ps t h =
+    inner_both (in_eval fs all) (eval_ended join fs all s i.mark q) (span_statement_step s i) (After ps i)
+    (λ n e. grow (i ∷ []) h (λ b k. span_run_one (E.State Span) (Exp Span) span_statement_step span_statement_whole (E.want []) s n b i k e))
+    (λ _. eval_ended_stands fs all s i q ps t h)
+
+-- ---- locals
+
+local_named_stands : (fs : List (Frame Span)) (all : Stmts Span) (m : Span) (f : Bool) (s : T.State Span) (i : Placed Span) (q : Cue) (ps : Tokens) → i.token ≡ cue_token q → Stood (in_type fs all m f s) ps
+    → After ps i (option_and_then (local_named fs all m f i.mark q) (T.whole s))
+local_named_stands fs all m f (T.have ty) i (a_word w) ps t h = grow (i ∷ []) h (λ b k. typed_word m (final_layout f) ty w i b t k)
+local_named_stands fs all m f (T.have ty) i _ ps t h = tt
+local_named_stands fs all m f (T.want c) i q ps t h = tt
+local_named_stands fs all m f (T.dotted o) i q ps t h = tt
+
+type_stands : (fs : List (Frame Span)) (all : Stmts Span) (m : Span) (f : Bool) (s : T.State Span) (i : Placed Span) (q : Cue) (ps : Tokens) → i.token ≡ cue_token q → Stood (in_type fs all m f s) ps
+    → After ps i (from_type join fs all m f s i.mark q)
+type_stands fs all m f s i q ps t h =
+    inner_both (in_type fs all m f) (option_and_then (local_named fs all m f i.mark q) (T.whole s)) (T.cue_step join s i.mark q) (After ps i)
+    (λ n e. grow (i ∷ []) h (λ b k. typed_more m (final_layout f) s n i q b t e k))
+    (λ _. local_named_stands fs all m f s i q ps t h)
+
+-- ---- the whole
+
+abbrev Next : Tokens → Placed Span → Token → Option (State Span) → Type 0
+Next ps i k o = i.token ≡ k → After ps i o
+
+cue_stands : (s : State Span) (i : Placed Span) (q : Cue) (ps : Tokens) → i.token ≡ cue_token q → Stood s ps → After ps i (cue_step join s i.mark i.token q)
+cue_stands (ready fs all) i q ps t h = ready_stands fs all i q ps t h
+cue_stands (done fs all s) i q ps t h = done_stands fs all s i q ps t h
+cue_stands (headed fs all m r) i q ps t h =
+    open_both q (in_exp fs all (for_head m r) (E.want [])) (Next ps i)
+    (λ c. grow (i ∷ []) h (λ b k. record {
+      front = b ++ (i ∷ []);
+      back = [];
+      whole = sym (append-nil (b ++ (i ∷ [])));
+      first = open_more (token (symbol OpenParen) then nothing) (i ∷ []) k (stand_one (symbol OpenParen) i c);
+      rest = refl;
+    }))
+    (λ k c. tt) t
+cue_stands (returning fs all m) i q ps t h = returning_stands fs all m i q ps t h
+cue_stands (in_exp fs all slot s) i q ps t h = exp_stands fs all slot s i q ps t h
+cue_stands (in_eval fs all s) i q ps t h = eval_stands fs all s i q ps t h
+cue_stands (locked fs all m e) i q ps t h =
+    open_brace_both q (ready (in_sync m e end ∷ fs) all) (Next ps i)
+    (λ c. grow (i ∷ []) h (λ b k. record {
+      front = b ++ (i ∷ []);
+      back = [];
+      whole = sym (append-nil (b ++ (i ∷ [])));
+      first = open_more (token (symbol OpenBrace) then nothing) (i ∷ []) k (stand_one (symbol OpenBrace) i c);
+      rest = refl;
+    }))
+    (λ k c. tt) t
+cue_stands (in_type fs all m f s) i q ps t h = type_stands fs all m f s i q ps t h
+cue_stands (named fs all m f ty w) i q ps t h =
+    equals_both q (in_exp fs all (for_local m f ty w) (E.want [])) (Next ps i)
+    (λ c. grow (i ∷ []) h (λ b k. record {
+      front = b ++ (i ∷ []);
+      back = [];
+      whole = sym (append-nil (b ++ (i ∷ [])));
+      first = open_more (token (symbol Equals) then nothing) (i ∷ []) k (stand_one (symbol Equals) i c);
+      rest = refl;
+    }))
+    (λ k c. tt) t
+
+step_stands : (s : State Span) (i : Placed Span) (ps : Tokens) → Stood s ps → After ps i (span_list_step s i)
+step_stands s i ps h = cue_stands s i (cue_of i.token) ps (sym (cue_back i.token)) h
+
+-- what a run has read stands there
+run_stands : (s : State Span) (ps is : Tokens) → Stood s ps → IfSome (span_list_run s is) (λ (n : State Span). Stood n (ps ++ is))
+run_stands s ps [] h = subst (Stood s) (sym (append-nil ps)) h
+run_stands s ps (i ∷ is) h = go (λ n k. run_stands n (ps ++ (i ∷ [])) is k) (span_list_step s i) (step_stands s i ps h)
+  where
+    onward : (o : Option (State Span)) → IfSome o (λ (n : State Span). Stood n ((ps ++ (i ∷ [])) ++ is)) → IfSome o (λ (n : State Span). Stood n (ps ++ (i ∷ is)))
+    onward None k = tt
+    onward (Some n) k = subst (Stood n) (append_assoc ps (i ∷ []) is) k
+
+    go : ((n : State Span) → Stood n (ps ++ (i ∷ [])) → IfSome (span_list_run n is) (λ (m : State Span). Stood m ((ps ++ (i ∷ [])) ++ is))) → (o : Option (State Span)) → After ps i o
+        → IfSome (option_and_then (λ (n : State Span). span_list_run n is) o) (λ (n : State Span). Stood n (ps ++ (i ∷ is)))
+    go f None k = tt
+    go f (Some n) k = onward (span_list_run n is) (f n k)
+
+pub list_stands : (ps : Tokens) (s : State Span) → span_list_run start ps ≡ Some s → Stood s ps
+list_stands ps s h = at_some (span_list_run start ps) s (λ (n : State Span). Stood n ps) h (run_stands start [] ps refl)
+
+whole_in_stands : (fs : List (Frame Span)) (all ss : Stmts Span) (ps : Tokens) → StoodStack fs all ps → whole_in fs all ≡ Some ss → Stands (stmts_layout ss) ps
+whole_in_stands [] all ss ps h k = subst (λ (r : Stmts Span). Stands (stmts_layout r) ps) (same_Some all ss k) h
+whole_in_stands (f ∷ fs) all ss ps h k = absurd cc
+
+pub list_whole_stands : (s : State Span) (ss : Stmts Span) (ps : Tokens) → Stood s ps → span_list_whole s ≡ Some ss → Stands (stmts_layout ss) ps
+list_whole_stands (ready fs all) ss ps h k = whole_in_stands fs all ss ps h k
+list_whole_stands (done fs all s) ss ps h k = let p = ended join fs all s in whole_in_stands p.on p.all ss ps (ended_stands fs all s ps h) k
+list_whole_stands _ ss ps h k = absurd cc
