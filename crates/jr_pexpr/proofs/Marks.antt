@@ -102,7 +102,7 @@ state_stands _ e ps h k = absurd cc
 pub marks_stand : (ps : Tokens) (s : State Span) (e : Exp Span) → span_run (want []) ps ≡ Some s → span_whole s ≡ Some e → Stands e ps
 marks_stand ps s e h k = state_stands s e ps (at_some (span_run (want []) ps) s (λ (n : State Span). StandsState n ps) h (run_stands (want []) [] ps refl)) k
 
-bare_run_of : (ps : Tokens) (s : State Span) → span_run (want []) ps ≡ Some s → bare_run (want []) (kinds ps) ≡ Some (bare_state s)
+pub bare_run_of : (ps : Tokens) (s : State Span) → span_run (want []) ps ≡ Some s → bare_run (want []) (kinds ps) ≡ Some (bare_state s)
 bare_run_of ps s h =
     sym (run_map (State Span) (Placed Span) (Exp Span) (State Bare) Token (Exp Bare) span_step span_whole bare_step bare_whole bare_state (λ p. p.token) bare (λ s p. step-bare join s p.mark p.token) (λ s. whole-bare join s) (want []) ps)
     ∙ ap (option_map bare_state) h

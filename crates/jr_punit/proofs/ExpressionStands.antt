@@ -7,7 +7,7 @@ use Rattle.jr_text.specs.declared.spans.Span.{Span}
 use Rattle.jr_ast.specs.Tree.{TypeName, named, Exp, name, field, bump}
 use Rattle.jr_ast.specs.Marks.{type_mark, exp_mark}
 use Rattle.jr_ast.specs.declared.operators.BumpOp.TheVariants.{PreInc, PreDec, PostInc, PostDec}
-use Rattle.jr_grammar.specs.Tokens.{Placed}
+use Rattle.jr_grammar.specs.Tokens.{Placed, kinds}
 use Rattle.jr_grammar.specs.Stands.{Tokens, span_of, InOrder, Stands}
 use Rattle.jr_grammar.specs.ExpressionLayout.{word_layout, type_layout, exp_layout}
 use Rattle.jr_pexpr.specs.Machine as E
@@ -15,7 +15,8 @@ use Rattle.jr_pexpr.specs.Marked.{span_step, span_whole, span_run, span_statemen
 use Rattle.jr_pexpr.specs.Runs as Runs
 use Rattle.jr_pexpr.proofs.Placed.{laid_out}
 use Rattle.jr_pexpr.proofs.Scans.{run-append}
-use Rattle.jr_pexpr.proofs.Marks.{marks_stand, run_kept, kept_whole}
+use Rattle.jr_pexpr.proofs.Marks.{marks_stand, run_kept, kept_whole, bare_run_of}
+use Rattle.jr_punit.proofs.Expressions.{exp_unread}
 use Rattle.jr_punit.specs.StatementMachine.{type_read}
 use Rattle.jr_punit.proofs.Standing.{IsMore, joined, Whole}
 
@@ -76,3 +77,11 @@ pub type_read_stands : (b : Tokens) (s : E.State Span) (t : TypeName Span) → s
 type_read_stands b (E.have [] e) t h k = named_stands e t b k (exp_whole_stands b (E.have [] e) e (run_kept (E.want []) b (E.have [] e) h) refl)
 type_read_stands b (E.have (f ∷ fs) e) t h k = absurd cc
 type_read_stands b _ t h k = absurd cc
+
+-- where nothing is begun, nothing was read
+pub no_kinds : (ps : Tokens) → kinds ps ≡ [] → ps ≡ []
+no_kinds [] h = refl
+no_kinds (p ∷ ps) h = absurd cc
+
+pub span_unread : (ps : Tokens) → span_run (E.want []) ps ≡ Some (E.want []) → ps ≡ []
+span_unread ps h = no_kinds ps (exp_unread (kinds ps) (bare_run_of ps (E.want []) h))

@@ -27,3 +27,4 @@ pub mod Standing
 pub mod ExpressionStands
 pub mod TypeStands
 pub mod StatementStands
+pub mod ParameterStands

@@ -123,3 +123,29 @@ one_whole t i h = record { stands = record { mark = refl; parts = stand_one t i 
 -- a whole node begins another
 pub whole_open : {x : Layout Span} {m : Span} {ps : Tokens} → Whole x m ps → Open m (x then done) ps
 whole_open {x = x} {ps = ps} h = record { parts = stand_last x ps h.stands; more = h.more; from = ap (λ (s : Span). s.from) h.mark }
+
+-- what has been read so far is all of the node
+pub open_closed : {m : Span} {xs : Layouts Span} {ps : Tokens} (n : Span) → Open m xs ps → n.to ≡ last_to ps → Whole (node (join m n) xs) (join m n) ps
+open_closed {m = m} {ps = ps} n h e = let s : join m n ≡ span_of ps = span_parts _ _ h.from e in record { stands = record { mark = s; parts = h.parts }; more = h.more; mark = s }
+
+-- what a node ends with, up to the token whose mark is n
+pub record Ended (n : Span) (ys : Layouts Span) (c : Tokens) : Type 0 where
+  pub parts : StandInOrder ys c
+  pub more : IsMore c
+  pub to : n.to ≡ last_to c
+
+pub ended_at : {ys : Layouts Span} (i : Placed Span) (b : Tokens) → StandInOrder ys (b ++ (i ∷ [])) → Ended i.mark ys (b ++ (i ∷ []))
+ended_at i b h = record { parts = h; more = more_after b (i ∷ []) tt; to = sym (last_to-append b (i ∷ []) tt) }
+
+pub closes : {m : Span} {xs : Layouts Span} {ps : Tokens} (n : Span) (ys : Layouts Span) → InOrder (Open m xs) (Ended n ys) ps → Whole (node (join m n) (both xs ys)) (join m n) ps
+closes {m = m} {xs = xs} n ys h = joined (Whole (node (join m n) (both xs ys)) (join m n)) h (λ b c f g. open_end n ys c f g.parts g.more g.to)
+
+pub opens : {m : Span} {xs : Layouts Span} {ps : Tokens} (ys : Layouts Span) → InOrder (Open m xs) (StandInOrder ys) ps → Open m (both xs ys) ps
+opens {m = m} {xs = xs} ys h = joined (Open m (both xs ys)) h (λ b c f g. open_more ys c f g)
+
+pub first_mapped : {P Q R : Tokens → Type 0} {ps : Tokens} → InOrder P Q ps → ((b : Tokens) → P b → R b) → InOrder R Q ps
+first_mapped h f = record { front = h.front; back = h.back; whole = h.whole; first = f h.front h.first; rest = h.rest }
+
+-- and nothing behind it
+pub alone : {P Q : Tokens → Type 0} {ps : Tokens} → P ps → Q [] → InOrder P Q ps
+alone {ps = ps} h k = record { front = ps; back = []; whole = sym (append-nil ps); first = h; rest = k }
