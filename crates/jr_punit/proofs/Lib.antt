@@ -28,3 +28,8 @@ pub mod ExpressionStands
 pub mod TypeStands
 pub mod StatementStands
 pub mod ParameterStands
+pub mod OwnStands
+pub mod ClassStands
+pub mod MemberStands
+pub mod UnitStands
+pub mod ReadsMarked
