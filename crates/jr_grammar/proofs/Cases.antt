@@ -1,4 +1,5 @@
 pub mod Forms
+pub mod Scanned
 pub mod Texts
 pub mod Operators
 pub mod Primaries
@@ -9,3 +10,5 @@ pub mod Parts
 pub mod Statements
 pub mod Classes
 pub mod UnitPlaces
+pub mod Widths
+pub mod Lexicals

@@ -47,6 +47,10 @@ pub record IsMember {A : Type 0} (nested : Bool) (name : List ℕ) (tokens : Lis
   pub shaped : MemberShaped nested name member
   pub spells : member_toks member ≡ tokens
 
+-- the tokens are no member
+abbrev pub IsNoMember : Bool → List ℕ → List Token → Type 0
+IsNoMember nested name tokens = (member : Member Bare) → IsMember nested name tokens member → ⊥
+
 -- The tokens are the member, and each mark is the span of its node's tokens.
 pub record IsMarkedMember (nested : Bool) (name : List ℕ) (tokens : Tokens) (member : Member Span) : Type 0 where
   pub shaped : MemberShaped nested name member
@@ -76,11 +80,24 @@ pub record IsStatement {A : Type 0} (tokens : List Token) (stmt : Stmt A) : Type
   pub shaped : StmtShaped stmt
   pub spells : stmt_toks stmt ≡ tokens
 
+-- the tokens are no statement
+abbrev pub IsNoStatement : List Token → Type 0
+IsNoStatement tokens = (stmt : Stmt Bare) → IsStatement tokens stmt → ⊥
+
 -- The tokens are the statement, and each mark is the span of its node's tokens.
 pub record IsMarkedStatement (tokens : Tokens) (stmt : Stmt Span) : Type 0 where
   pub shaped : StmtShaped stmt
   pub spells : stmt_toks stmt ≡ kinds tokens
   pub marks : Stands (stmt_layout stmt) tokens
+
+-- the tokens are the statements, one behind the other
+pub record AreStatements {A : Type 0} (tokens : List Token) (stmts : Stmts A) : Type 0 where
+  pub shaped : StmtsShaped stmts
+  pub spells : stmts_toks stmts ≡ tokens
+
+-- the tokens are no statements
+abbrev pub AreNoStatements : List Token → Type 0
+AreNoStatements tokens = (stmts : Stmts Bare) → AreStatements tokens stmts → ⊥
 
 -- The tokens are the statements, and each mark is the span of its node's tokens.
 pub record AreMarkedStatements (tokens : Tokens) (stmts : Stmts Span) : Type 0 where

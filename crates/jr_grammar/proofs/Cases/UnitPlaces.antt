@@ -23,7 +23,13 @@ use Rattle.jr_grammar.specs.Stands.{Tokens, Stands}
 use Rattle.jr_grammar.specs.Units.{IsMarkedUnit, IsMarkedMember}
 use Rattle.jr_grammar.specs.StatementLayout.{stmt_layout}
 use Rattle.jr_grammar.specs.MemberLayout.{member_layout, unit_layouts}
+use Rattle.jr_grammar.specs.Layout.{itself}
+use Rattle.jr_grammar.specs.Reads.{ReadsWithSpans}
 use Rattle.jr_grammar.proofs.Layouts.{lay_stands, lay_stand}
+use Rattle.jr_grammar.proofs.Cases.Scanned.{lexes}
+use Rattle.jr_lex.specs.Characters.{is_word_start, is_word_part}
+use Rattle.jr_lex.specs.Scan.{scan, extended, keyword_of}
+use Rattle.unicode_ident.proofs.Computing.{unicode_ident}
 
 -- ---- short names
 
@@ -57,6 +63,17 @@ items_of_package_and_constructor = blank 0 1 ∷ tk 1 8 (KeywordKind Package) �
 package_and_constructor : IsMarkedUnit (length (codes " package a . b; class A extends B { static class C { int d = 1; } A(int e) { super(e); final int f = e + 1; d = f; } } ")) (placed_of (codes " package a . b; class A extends B { static class C { int d = 1; } A(int e) { super(e); final int f = e + 1; d = f; } } ") items_of_package_and_constructor) tree_of_package_and_constructor
 package_and_constructor = record { shaped = grind arith; spells = refl; marks = lay_stand (unit_layouts tree_of_package_and_constructor) tokens_of_package_and_constructor refl; file = refl }
 
+package_and_constructor_read : ReadsWithSpans itself (codes " package a . b; class A extends B { static class C { int d = 1; } A(int e) { super(e); final int f = e + 1; d = f; } } ") tree_of_package_and_constructor
+unfolding scan extended keyword_of is_word_start is_word_part unicode_ident
+package_and_constructor_read =
+    record {
+      items = items_of_package_and_constructor;
+      lexes = lexes (codes " package a . b; class A extends B { static class C { int d = 1; } A(int e) { super(e); final int f = e + 1; d = f; } } ") items_of_package_and_constructor refl refl refl;
+      is = record { shaped = package_and_constructor.shaped; spells = package_and_constructor.spells };
+      spans = package_and_constructor.marks;
+      file = refl;
+    }
+
 -- ---- comments and bodies
 
 -- ·  /* two */ class A { private boolean a; public static A m(final B.C b, int c) { if (a) return this; else while (c < 1) c++; { } synchronized (b) { n(b, c); ; } return new A(); } void n() { return; } }  public class B { } // end·
@@ -71,6 +88,17 @@ items_of_comments_and_bodies = blank 0 2 ∷ comment 2 11 ∷ blank 11 12 ∷ tk
 
 comments_and_bodies : IsMarkedUnit (length (codes "  /* two */ class A { private boolean a; public static A m(final B.C b, int c) { if (a) return this; else while (c < 1) c++; { } synchronized (b) { n(b, c); ; } return new A(); } void n() { return; } }  public class B { } // end")) (placed_of (codes "  /* two */ class A { private boolean a; public static A m(final B.C b, int c) { if (a) return this; else while (c < 1) c++; { } synchronized (b) { n(b, c); ; } return new A(); } void n() { return; } }  public class B { } // end") items_of_comments_and_bodies) tree_of_comments_and_bodies
 comments_and_bodies = record { shaped = grind arith; spells = refl; marks = lay_stand (unit_layouts tree_of_comments_and_bodies) tokens_of_comments_and_bodies refl; file = refl }
+
+comments_and_bodies_read : ReadsWithSpans itself (codes "  /* two */ class A { private boolean a; public static A m(final B.C b, int c) { if (a) return this; else while (c < 1) c++; { } synchronized (b) { n(b, c); ; } return new A(); } void n() { return; } }  public class B { } // end") tree_of_comments_and_bodies
+unfolding scan extended keyword_of is_word_start is_word_part unicode_ident
+comments_and_bodies_read =
+    record {
+      items = items_of_comments_and_bodies;
+      lexes = lexes (codes "  /* two */ class A { private boolean a; public static A m(final B.C b, int c) { if (a) return this; else while (c < 1) c++; { } synchronized (b) { n(b, c); ; } return new A(); } void n() { return; } }  public class B { } // end") items_of_comments_and_bodies refl refl refl;
+      is = record { shaped = comments_and_bodies.shaped; spells = comments_and_bodies.spells };
+      spans = comments_and_bodies.marks;
+      file = refl;
+    }
 
 -- ---- constructor of member class
 

@@ -1,0 +1,12 @@
+pub mod Reaching
+pub mod Fuel
+pub mod Growth
+pub mod Linking
+pub mod Numbering
+pub mod Following
+pub mod BothWays
+pub mod MadeCalls
+pub mod Safety
+pub mod Resulting
+pub mod Swapping
+pub mod Calming

@@ -1,0 +1,9 @@
+pub mod Plan
+pub mod Run
+pub mod Numbered
+pub mod Reach
+pub mod Linked
+pub mod Follow
+pub mod Safe
+pub mod Calm
+pub mod Swaps
