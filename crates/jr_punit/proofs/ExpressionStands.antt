@@ -13,7 +13,6 @@ use Rattle.jr_grammar.specs.ExpressionLayout.{word_layout, type_layout, exp_layo
 use Rattle.jr_pexpr.specs.Machine as E
 use Rattle.jr_pexpr.specs.Marked.{span_step, span_whole, span_run, span_statement_step, span_statement_whole, span_statement_run}
 use Rattle.jr_pexpr.specs.Runs as Runs
-use Rattle.jr_pexpr.proofs.Placed.{laid_out}
 use Rattle.jr_pexpr.proofs.Scans.{run-append}
 use Rattle.jr_pexpr.proofs.Marks.{marks_stand, run_kept, kept_whole, bare_run_of}
 use Rattle.jr_punit.proofs.Expressions.{exp_unread}
@@ -42,7 +41,7 @@ run_more (i ∷ b) s e h k = tt
 
 pub exp_whole_stands : (b : Tokens) (s : E.State Span) (e : Exp Span) → span_run (E.want []) b ≡ Some s → span_whole s ≡ Some e → StoodExp e b
 exp_whole_stands b s e h k =
-    let l = laid_out e b (marks_stand b s e h k) in
+    let l = (marks_stand b s e h k).0 in
     record { stands = l; more = run_more b s e h k; mark = exp_node e b l }
 
 pub eval_whole_stands : (b : Tokens) (s : E.State Span) (e : Exp Span) → span_statement_run (E.want []) b ≡ Some s → span_statement_whole s ≡ Some e → StoodExp e b

@@ -15,7 +15,7 @@ use Rattle.jr_punit.specs.MemberMachine as Members
 use Rattle.jr_punit.specs.UnitMachine as Units
 use Rattle.jr_punit.specs.Machines.{list_read, member_read, unit_read}
 use Rattle.jr_punit.specs.Marked.{span_list_whole, span_list_run, span_list_read, span_member_whole, span_member_run, span_member_read, span_unit_whole, span_unit_run, span_unit_read}
-use Rattle.jr_punit.specs.Exact.{AreStatements, AreNoStatements, IsNoMember}
+use Rattle.jr_grammar.specs.Units.{AreStatements, AreNoStatements, IsNoMember}
 use Rattle.jr_punit.specs.MarkedAlike.{ReadsMarked}
 use Rattle.jr_punit.proofs.Readings.{list_is_read, member_is_read, unit_is_read}
 use Rattle.jr_punit.proofs.ReadsAlike.{reads_alike}

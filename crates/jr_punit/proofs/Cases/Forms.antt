@@ -20,7 +20,7 @@ use Rattle.jr_grammar.specs.Reads.{Reads}
 use Rattle.jr_grammar.specs.Bare.{Bare}
 use Rattle.jr_pexpr.proofs.Found.{both_some}
 use Rattle.jr_punit.specs.Machines.{list_read, list_stop, member_read, member_length, member_stop, unit_read, unit_stop}
-use Rattle.jr_punit.specs.Exact.{AreStatements, AreNoStatements, IsNoMember}
+use Rattle.jr_grammar.specs.Units.{AreStatements, AreNoStatements, IsNoMember}
 use Rattle.jr_punit.proofs.Readings.{list_is_read, list_stop_is_exact, member_is_read, member_is_longest, member_stop_is_exact, unit_is_read, unit_stop_is_exact}
 
 some_match : {T : Type 0} (o : Option T) (x : T) (P : Type 0) (Q : T → Type 0) → o ≡ Some x → MatchOption o P Q → Q x
