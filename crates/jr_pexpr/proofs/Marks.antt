@@ -134,7 +134,7 @@ kept_some (Some s) m e = go (is_open (frames_of s)) e
     go true k = k
     go false k = absurd cc
 
-run_kept : (s : State Span) (ps : Tokens) (n : State Span) → span_statement_run s ps ≡ Some n → span_run s ps ≡ Some n
+pub run_kept : (s : State Span) (ps : Tokens) (n : State Span) → span_statement_run s ps ≡ Some n → span_run s ps ≡ Some n
 run_kept s [] n e = e
 run_kept s (i ∷ ps) n e = go (λ m k. run_kept m ps n k) (both_some (λ (m : State Span). span_statement_run m ps) (span_statement_step s i) n e)
   where

@@ -189,10 +189,10 @@ own_cue-bare name (Own.behind_super k es) at t q = map-semicolon bare_own q (Own
 own_cue-bare name (Own.in_body b s) at t q = own_body-bare b s at t q
 own_cue-bare name (Own.done d) at t q = refl
 
-own_step-bare : (name : List ℕ) (s : Own.State Span) (at : Span) (t : Token) → option_map bare_own (Own.step join name s at t) ≡ Own.step no_join name (bare_own s) tt t
+pub own_step-bare : (name : List ℕ) (s : Own.State Span) (at : Span) (t : Token) → option_map bare_own (Own.step join name s at t) ≡ Own.step no_join name (bare_own s) tt t
 own_step-bare name s at t = own_cue-bare name s at t (cue_of t)
 
-own_whole-bare : (s : Own.State Span) → option_map bare_member (Own.whole s) ≡ Own.whole (bare_own s)
+pub own_whole-bare : (s : Own.State Span) → option_map bare_member (Own.whole s) ≡ Own.whole (bare_own s)
 own_whole-bare (Own.done d) = refl
 own_whole-bare _ = refl
 
@@ -352,15 +352,15 @@ member_start-bare (Member.in_class s) = refl
 
 -- ---- units
 
-abbrev bare_top : Unit.ClassState Span → Unit.ClassState Bare
+abbrev pub bare_top : Unit.ClassState Span → Unit.ClassState Bare
 bare_top = bare_class_state bare_member_state
 
-top_step-bare : (s : Unit.ClassState Span) (at : Span) (t : Token) → option_map bare_top (Unit.class_step join s at t) ≡ Unit.class_step no_join (bare_top s) tt t
+pub top_step-bare : (s : Unit.ClassState Span) (at : Span) (t : Token) → option_map bare_top (Unit.class_step join s at t) ≡ Unit.class_step no_join (bare_top s) tt t
 top_step-bare =
     class_step-bare (Member.State Span) (Member.State Bare) bare_member_state Member.start Member.start Member.is_start Member.is_start (Member.step join false) (Member.step no_join false) Member.whole Member.whole refl member_start-bare
     (member_step-bare false) member_whole-bare
 
-top_whole-bare : (s : Unit.ClassState Span) → option_map bare_class (C.whole s) ≡ C.whole (bare_top s)
+pub top_whole-bare : (s : Unit.ClassState Span) → option_map bare_class (C.whole s) ≡ C.whole (bare_top s)
 top_whole-bare =
     class_whole-bare (Member.State Span) (Member.State Bare) bare_member_state Member.start Member.start Member.is_start Member.is_start (Member.step join false) (Member.step no_join false) Member.whole Member.whole refl member_start-bare
     (member_step-bare false) member_whole-bare

@@ -23,3 +23,13 @@ pub mod BareParts
 pub mod BareStatements
 pub mod BareMembers
 pub mod ReadsAlike
+pub mod Standing
+pub mod ExpressionStands
+pub mod TypeStands
+pub mod StatementStands
+pub mod ParameterStands
+pub mod OwnStands
+pub mod ClassStands
+pub mod MemberStands
+pub mod UnitStands
+pub mod ReadsMarked

@@ -29,13 +29,13 @@ use Rattle.jr_punit.proofs.MemberReads.{member_laws}
 
 -- ---- top-level classes
 
-abbrev TopState : Type 0
+abbrev pub TopState : Type 0
 TopState = ClassState Bare
 
-abbrev top_step : TopState → Token → Option TopState
+abbrev pub top_step : TopState → Token → Option TopState
 top_step s t = Classes.class_step false (M.State Bare) M.start M.is_start (M.step no_join false) M.whole member_laws s t
 
-abbrev top_run : TopState → List Token → Option TopState
+abbrev pub top_run : TopState → List Token → Option TopState
 top_run s ts = Classes.class_run false (M.State Bare) M.start M.is_start (M.step no_join false) M.whole member_laws s ts
 
 top_reads : (c : Class Bare) → ClassShaped false c → top_run C.start (class_toks c) ≡ Some (C.done c)
@@ -50,7 +50,7 @@ top_closes = Classes.class_closes false (M.State Bare) M.start M.is_start (M.ste
 top_ended : (n : TopState) (c : Class Bare) (t : Token) → C.whole n ≡ Some c → top_step n t ≡ None
 top_ended = Classes.class_ended false (M.State Bare) M.start M.is_start (M.step no_join false) M.whole member_laws
 
-top_unread : (ts : List Token) → top_run C.start ts ≡ Some C.start → ts ≡ []
+pub top_unread : (ts : List Token) → top_run C.start ts ≡ Some C.start → ts ≡ []
 top_unread = Classes.class_unread false (M.State Bare) M.start M.is_start (M.step no_join false) M.whole member_laws
 
 -- ---- every unit is read

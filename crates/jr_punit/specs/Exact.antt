@@ -1,28 +1,10 @@
 -- What the machines answer is what the definitions mean.
-use Rattle.std.specs.Prelude.{◌≡◌, ℕ, Bool, List, MatchOption}
-use Rattle.jr_ast.specs.StatementTree.{Stmts}
+use Rattle.std.specs.Prelude.{ℕ, Bool, List, MatchOption}
 use Rattle.jr_ast.specs.MemberTree.{Member}
 use Rattle.jr_grammar.specs.Tokens.{Token}
-use Rattle.jr_grammar.specs.StatementSpelling.{stmts_toks}
-use Rattle.jr_grammar.specs.StatementShape.{StmtsShaped}
-use Rattle.jr_grammar.specs.Units.{IsUnit, IsNoUnit, IsUnitStop, IsMember, IsLongestMember, HasNoMember, IsMemberStop, IsListStop}
+use Rattle.jr_grammar.specs.Units.{IsUnit, IsNoUnit, IsUnitStop, IsMember, IsNoMember, AreStatements, AreNoStatements, IsLongestMember, HasNoMember, IsMemberStop, IsListStop}
 use Rattle.jr_grammar.specs.Bare.{Bare}
 use Rattle.jr_punit.specs.Machines.{list_read, list_stop, member_read, member_length, member_stop, unit_read, unit_stop}
-
--- ---- members and lists of statements that tokens are
-
--- the tokens are no member of it
-abbrev pub IsNoMember : Bool → List ℕ → List Token → Type 0
-IsNoMember nested name tokens = (member : Member Bare) → IsMember nested name tokens member → ⊥
-
--- the tokens are the statements
-pub record AreStatements (tokens : List Token) (stmts : Stmts Bare) : Type 0 where
-  pub shaped : StmtsShaped stmts
-  pub spells : stmts_toks stmts ≡ tokens
-
--- the tokens are no statements
-abbrev pub AreNoStatements : List Token → Type 0
-AreNoStatements tokens = (stmts : Stmts Bare) → AreStatements tokens stmts → ⊥
 
 -- ---- lists of statements
 

@@ -1,7 +1,10 @@
 ghost use Rattle.jr_grammar.specs.Units.{OneList, OneMember, OneUnit};
-ghost use Rattle.jr_punit.specs.MarkedAlike.{ReadsAlike};
+ghost use Rattle.jr_punit.specs.MarkedAlike.{ReadsAlike, ReadsMarked};
 ghost use Rattle.jr_punit.specs.StopPlaces.{StopsHavePlaces, StopsHaveOnePlace};
 ghost use Rattle.jr_punit.specs.Exact.{ListIsRead, ListStopIsExact, MemberIsRead, MemberLengthIsLongest, MemberStopIsExact, UnitIsRead, UnitStopIsExact};
+
+use jr_grammar::{member_ignores_marks, statement_ignores_marks, unit_ignores_marks};
+use jr_text::Span;
 
 /// No two lists of statements spell the same tokens (JLS 14.2).
 pub fn one_list()
@@ -64,3 +67,12 @@ pub fn stops_have_places()
 pub fn marked_reads_alike()
     ensures { ReadsAlike }
 {}
+
+/// What the machines read over tokens with places has the span of each node's tokens as that node's mark.
+pub fn marks_are_spans()
+    ensures { ReadsMarked }
+{
+    statement_ignores_marks::<Span, ()>();
+    member_ignores_marks::<Span, ()>();
+    unit_ignores_marks::<Span, ()>();
+}
