@@ -23,10 +23,10 @@ abbrev pub LacksName : Option Files → List ℕ → Type 0
 LacksName files name = IsSomeAnd files (λ held. map.get held name ≡ None)
 
 -- what is held, where it is known, once the name holds these bytes and each other name what it held before
-abbrev pub stored : Option Files → List ℕ → List ℕ → Option Files
-stored None name bytes = None
-stored (Some files) name bytes = Some (map.insert files name bytes)
+abbrev pub with_file : Option Files → List ℕ → List ℕ → Option Files
+with_file None name bytes = None
+with_file (Some files) name bytes = Some (map.insert files name bytes)
 
 -- what a store that failed may leave: all is as it was, or the name holds a prefix of the bytes and each other name what it held before
 abbrev pub StoredInPart : Option Files → Option Files → List ℕ → List ℕ → Type 0
-StoredInPart before after name bytes = (after ≡ before) ⊎ ((n : ℕ) × (after ≡ stored before name (take n bytes)))
+StoredInPart before after name bytes = (after ≡ before) ⊎ ((n : ℕ) × (after ≡ with_file before name (take n bytes)))

@@ -3,17 +3,17 @@ use Rattle.std.specs.Prelude.{◌≡◌, ℕ, Option, None, Some, List, ◌++◌
 use Rattle.jr_shelf.specs.Counts.{Rose}
 
 -- what was taken, where it is known, once these bytes came after it
-abbrev pub appended : Option (List ℕ) → List ℕ → Option (List ℕ)
-appended None bytes = None
-appended (Some taken) bytes = Some (taken ++ bytes)
+abbrev pub with_bytes : Option (List ℕ) → List ℕ → Option (List ℕ)
+with_bytes None bytes = None
+with_bytes (Some taken) bytes = Some (taken ++ bytes)
 
 -- what a put that failed may leave: a prefix of the bytes, maybe none or all of them, was appended
 abbrev pub AppendedInPart : Option (List ℕ) → Option (List ℕ) → List ℕ → Type 0
-AppendedInPart before after bytes = (n : ℕ) × (after ≡ appended before (take n bytes))
+AppendedInPart before after bytes = (n : ℕ) × (after ≡ with_bytes before (take n bytes))
 
 -- the bytes were appended, and no fault was counted
 pub record PutAll (before after : Option (List ℕ)) (faults_before faults_after : ℕ) (bytes : List ℕ) : Type 0 where
-  pub took : after ≡ appended before bytes
+  pub took : after ≡ with_bytes before bytes
   pub unfailed : faults_after ≡ faults_before
 
 -- a prefix of the bytes was appended, and a fault was counted

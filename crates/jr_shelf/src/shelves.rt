@@ -2,7 +2,7 @@ ghost use Rattle.std.specs.Prelude.{◌≡◌, ℕ, ◌^◌, ◌<◌, ◌≤◌,
 ghost use Rattle.jr_shelf.specs.Counts.{Rose, served_after};
 ghost use Rattle.jr_shelf.specs.Fetch.{OnFailed, OnTooLong, OnMemory, UnlessFailed, IsFailedOrMemory, missed_after};
 ghost use Rattle.jr_shelf.specs.Limits.{file_limit};
-ghost use Rattle.jr_shelf.specs.Shelf.{Files, Holds, HoldsTooMuch, LacksName, stored, StoredInPart};
+ghost use Rattle.jr_shelf.specs.Shelf.{Files, Holds, HoldsTooMuch, LacksName, with_file, StoredInPart};
 
 use crate::{Failed, FetchFault};
 use std::alloc::Global;
@@ -61,7 +61,7 @@ pub trait Shelf {
     /// `Failed` where the shelf failed: then the name holds a prefix of the bytes, or what it held
     /// before.
     fn store(&mut self, name: &str, bytes: &[u8]) -> Result<(), Failed>
-        ensures ok { OnOk result (holds self.new ≡ stored (holds self.old) name.now bytes.now) }
+        ensures ok { OnOk result (holds self.new ≡ with_file (holds self.old) name.now bytes.now) }
         ensures failed { OnErr result (Rose (faults self.old) (faults self.new)) }
         ensures in_part { OnErr result
             (StoredInPart (holds self.old) (holds self.new) name.now bytes.now) }

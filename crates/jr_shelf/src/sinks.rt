@@ -1,6 +1,6 @@
 ghost use Rattle.std.specs.Prelude.{◌≡◌, ℕ, ◌^◌, ◌<◌, ◌≤◌, List, Option, OnOk, OnErr};
 ghost use Rattle.jr_shelf.specs.Counts.{Rose};
-ghost use Rattle.jr_shelf.specs.Sink.{appended, AppendedInPart};
+ghost use Rattle.jr_shelf.specs.Sink.{with_bytes, AppendedInPart};
 
 use crate::Failed;
 
@@ -17,7 +17,7 @@ pub trait Sink {
     ///
     /// `Failed` where the sink failed: then a prefix of the bytes was appended.
     fn put(&mut self, bytes: &[u8]) -> Result<(), Failed>
-        ensures ok { OnOk result (taken self.new ≡ appended (taken self.old) bytes.now) }
+        ensures ok { OnOk result (taken self.new ≡ with_bytes (taken self.old) bytes.now) }
         ensures failed { OnErr result (Rose (faults self.old) (faults self.new)) }
         ensures in_part { OnErr result
             (AppendedInPart (taken self.old) (taken self.new) bytes.now) }

@@ -3,7 +3,7 @@
 ghost use Rattle.std.specs.Prelude.{◌≡◌, ℕ, ◌<◌, ◌≤◌, ◌↔◌, ◌++◌, length, take, IfOk, IsTrue, OnOk, OnErr, IfSome};
 ghost use Rattle.std.specs.Io.KnownBytes.{Appends};
 ghost use Rattle.std.specs.IoError.{error_kind};
-ghost use Rattle.jr_shelf.specs.Counts.{faults_after_write, raised};
+ghost use Rattle.jr_shelf.specs.Counts.{faults_after_write, one_more};
 ghost use Rattle.jr_shelf.specs.Fetch.{OnTooLong, faults_after};
 
 use crate::{Failed, FetchFault, MAX_FILE};
@@ -44,7 +44,7 @@ pub fn read_whole<R: Read>(
 
 /// One fault more.
 pub fn raise(faults: &mut u64)
-    ensures { faults.new ≡ raised faults.old }
+    ensures { faults.new ≡ one_more faults.old }
 {
     *faults = faults.saturating_add(1);
 }

@@ -2,7 +2,7 @@
 use Rattle.std.specs.Prelude.{◌≡◌, ℕ, ◌⊎◌, List, Option, Some, slice_get}
 use Rattle.jr_shelf.specs.Counts.{Rose}
 use Rattle.jr_shelf.specs.Shelf.{Files, Holds}
-use Rattle.jr_shelf.specs.Sink.{appended, AppendedInPart}
+use Rattle.jr_shelf.specs.Sink.{with_bytes, AppendedInPart}
 use Rattle.jr_text.specs.Texts.{IsText}
 use Rattle.jr_small.specs.Refusal.{Refusal}
 use Rattle.jr_small.specs.Answer.{Grants, Refuses}
@@ -64,7 +64,7 @@ Answer words files output = Grant words files output ⊎ Refuse words files outp
 pub record TookAll (Is : List ℕ → Type 0) (before after : Option (List ℕ)) : Type 0 where
   pub output : List ℕ
   pub is_output : Is output
-  pub took : after ≡ appended before output
+  pub took : after ≡ with_bytes before output
 
 -- a prefix of an output of which this is so
 pub record TookInPart (Is : List ℕ → Type 0) (before after : Option (List ℕ)) : Type 0 where

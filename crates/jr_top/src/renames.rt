@@ -1,6 +1,6 @@
 ghost use Rattle.std.specs.Prelude.{◌≡◌, ◌≤◌, ◌+◌, ◌⊎◌, IfErr, IfOk, OnErr, OnOk, OnSome, Some};
 ghost use Rattle.jr_shelf.specs.Counts.{Rose, RoseBy};
-ghost use Rattle.jr_shelf.specs.Sink.{AppendedInPart, appended};
+ghost use Rattle.jr_shelf.specs.Sink.{AppendedInPart, with_bytes};
 ghost use Rattle.jr_small.specs.Answer.{Grants};
 ghost use Rattle.jr_top.specs.Sources.{HoldsFault, HoldsNoText, HoldsText};
 ghost use Rattle.jr_top.specs.Statuses.{IsAfterSource, IsAnswerOrMemory, IsBadSourceOrMemory, IsBeforeSource, IsOfRename};
@@ -174,7 +174,7 @@ fn rename_in_source<K: Sink>(
 
 // Gives the sink the output, or says how the run ends where the sink failed.
 fn put<K: Sink>(sink: &mut K, output: &str) -> Result<(), Status>
-    ensures ok { OnOk result (K.taken sink.new ≡ appended (K.taken sink.old) output.now) }
+    ensures ok { OnOk result (K.taken sink.new ≡ with_bytes (K.taken sink.old) output.now) }
     ensures fault { IfErr result (λ status. status ≡ Status.WriteFault 0) }
     ensures failed { OnErr result (Rose (K.faults sink.old) (K.faults sink.new)) }
     ensures in_part { OnErr result

@@ -18,7 +18,7 @@ fn words_of(alloc: Global, line: &str) -> Result<Vec<String>, AllocError> {
 
 // How a run ends over the one file A.java, where calls of the shelf and puts of these numbers fail,
 // and what its sink took.
-fn ran(
+fn answer_of(
     rt: &impl Abort,
     alloc: Global,
     source: &[u8],
@@ -48,7 +48,7 @@ fn check(
     output: &str,
 ) -> Result<(), Fail> {
     let words = words_of(alloc, line)?;
-    let (ended, took) = ran(rt, alloc, source, words.as_slice(), (None, None))?;
+    let (ended, took) = answer_of(rt, alloc, source, words.as_slice(), (None, None))?;
     assert_eq!(rt; ended, status, "{line}");
     assert_eq!(rt; took.as_slice(), output.as_bytes(), "{line}");
     Ok(())
@@ -269,11 +269,11 @@ fn wrong_words(rt: HostRuntime) -> Result<(), Fail> {
     ] {
         let words = words_of(alloc, line)?;
         // The shelf's first call would fail.
-        let (status, took) = ran(&rt, alloc, b"", words.as_slice(), (Some(1), None))?;
+        let (status, took) = answer_of(&rt, alloc, b"", words.as_slice(), (Some(1), None))?;
         assert_eq!(rt; status, Status::Usage, "{line}");
         assert!(rt; took.is_empty());
     }
-    let (status, _) = ran(&rt, alloc, b"", &[], (Some(1), None))?;
+    let (status, _) = answer_of(&rt, alloc, b"", &[], (Some(1), None))?;
     assert_eq!(rt; status, Status::Usage);
     Ok(())
 }
@@ -285,7 +285,7 @@ fn too_many_words(rt: HostRuntime) -> Result<(), Fail> {
     for _ in 3..65_537 {
         words.push(String::from_str(alloc, "b")?)?;
     }
-    let (status, _) = ran(&rt, alloc, b"", words.as_slice(), (Some(1), None))?;
+    let (status, _) = answer_of(&rt, alloc, b"", words.as_slice(), (Some(1), None))?;
     assert_eq!(rt; status, Status::Usage);
     Ok(())
 }
@@ -339,7 +339,7 @@ fn faults(rt: HostRuntime) -> Result<(), Fail> {
     }
     let words = words_of(alloc, "rename A.java 41 b")?;
     let words = words.as_slice();
-    let (status, took) = ran(&rt, alloc, RENAMED.as_bytes(), words, (Some(1), None))?;
+    let (status, took) = answer_of(&rt, alloc, RENAMED.as_bytes(), words, (Some(1), None))?;
     assert_eq!(rt; status, Status::ReadFault { word: 1 });
     assert!(rt; took.is_empty());
     Ok(())
@@ -351,7 +351,7 @@ fn failing_put(rt: HostRuntime) -> Result<(), Fail> {
     for line in ["rename A.java 41 b", "rename A.java 999 b"] {
         let words = words_of(alloc, line)?;
         let source = RENAMED.as_bytes();
-        let (status, took) = ran(&rt, alloc, source, words.as_slice(), (None, Some(1)))?;
+        let (status, took) = answer_of(&rt, alloc, source, words.as_slice(), (None, Some(1)))?;
         assert_eq!(rt; status, Status::WriteFault { stored: 0 });
         assert!(rt; took.is_empty());
     }

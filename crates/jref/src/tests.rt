@@ -19,7 +19,7 @@ fn words_of(alloc: Global, line: &str) -> Result<Vec<String>, AllocError> {
 
 // What standard output and standard error got of these words, where the shelf holds the source as
 // A.java and bytes that are no text as B.java, and the put of this number fails.
-fn served(
+fn answer_of(
     rt: &impl Abort,
     alloc: Global,
     line: &str,
@@ -76,7 +76,7 @@ fn what_words_get(rt: HostRuntime) -> Result<(), Fail> {
             "jref: bad source B.java\n",
         ),
     ] {
-        let (ended, put, said) = served(&rt, alloc, line, failing)?;
+        let (ended, put, said) = answer_of(&rt, alloc, line, failing)?;
         assert_eq!(rt; ended, status, "{line}");
         assert_eq!(rt; put.as_slice(), output.as_bytes(), "{line}");
         assert_eq!(rt; said.as_slice(), reported.as_bytes(), "{line}");
