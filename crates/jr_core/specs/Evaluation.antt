@@ -89,11 +89,7 @@ pub data Slot (K : Keys) : Type 0 where
 
 -- A field's load answers what fits the field's type.
 abbrev pub load_field : {K : Keys} → Rows K → At K → Location K → K.field → Step K (Value K)
-load_field R at from f = ask (fits R (R.field_type f)) (λ v. record {
-  at = at;
-  action =
-      load (R.field_kind f) from v;
-}) (λ v. done (value v))
+load_field R at from f = ask (fits R (R.field_type f)) (λ v. placed at (load (R.field_kind f) from v)) (λ v. done (value v))
 
 abbrev pub store_field : {K : Keys} → Rows K → At K → Location K → K.field → Value K → Locals K → Step K (Locals K)
 store_field R at to f v l = act (placed at (store (R.field_kind f) to v)) (done (value l))

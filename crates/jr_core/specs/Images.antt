@@ -6,7 +6,7 @@ use Rattle.jr_core.specs.Rows.{Rows}
 use Rattle.jr_core.specs.Core as core
 use Rattle.jr_core.specs.Core.{Arithmetic, Operator, Sign, Bump, Exp, literal, this, read, assign, compound, bump, signed, binary, both, either, cast, static_call, instance_call, super_call, create, super_constructor, Target, local, static_field, field_of, Exps, Stmt, declare, eval, branch, loop, return, return_nothing, block, sync, empty, Stmts, Code, Method, written, starts, Program}
 use Rattle.jr_core.specs.KeyMaps.{KeyMap, value_image, type_image}
-use Rattle.jr_core.specs.Standing.{Self, itself, held, nobody, Standing, whole}
+use Rattle.jr_core.specs.Standing.{Self, itself, held, nobody, Renumbering, Standing, whole}
 
 abbrev pub SelfTo : {K : Keys} → Self → Exp K → Type 0
 SelfTo {K = K} itself e = (p : At K) × (e ≡ this p)
@@ -16,7 +16,7 @@ SelfTo {K = K} nobody e = (p : At K) × (e ≡ literal p null)
 -- The second expression is the first with keys by r and locals by s. The locals of the first are below the size, and what it
 -- calls is declared.
 mutual
-  pub data ExpTo {K : Keys} (r : KeyMap K) (R : Rows K) (s : Standing) : Exp K → Exp K → Type 0 where
+  pub data ExpTo {K : Keys} (r : KeyMap K) (R : Rows K) (s : Renumbering) : Exp K → Exp K → Type 0 where
     to_literal : (p q : At K) (v : Value K) → ExpTo r R s (literal p v) (literal q (value_image r v))
     to_this : (p : At K) (e : Exp K) → SelfTo s.self e → ExpTo r R s (this p) e
     to_read : (p q : At K) (t t' : Target K) → TargetTo r R s t t' → ExpTo r R s (read p t) (read q t')
@@ -51,13 +51,13 @@ mutual
         → IsTrue (R.has_constructor k) → ExpTo r R s e e' → ExpsTo r R s es es'
         → ExpTo r R s (super_constructor p e k es) (super_constructor q e' (r.constructor k) es')
 
-  pub data TargetTo {K : Keys} (r : KeyMap K) (R : Rows K) (s : Standing) : Target K → Target K → Type 0 where
+  pub data TargetTo {K : Keys} (r : KeyMap K) (R : Rows K) (s : Renumbering) : Target K → Target K → Type 0 where
     to_local : (p q : At K) (n : ℕ) → n < s.size → TargetTo r R s (local p n) (local q (s.at n))
     to_static_field : (p q : At K) (f : K.field) → TargetTo r R s (static_field p f) (static_field q (r.field f))
     to_field_of : (p q : At K) (e e' : Exp K) (f : K.field) → ExpTo r R s e e'
         → TargetTo r R s (field_of p e f) (field_of q e' (r.field f))
 
-  pub data ExpsTo {K : Keys} (r : KeyMap K) (R : Rows K) (s : Standing) : Exps K → Exps K → Type 0 where
+  pub data ExpsTo {K : Keys} (r : KeyMap K) (R : Rows K) (s : Renumbering) : Exps K → Exps K → Type 0 where
     to_end : ExpsTo r R s core.Exps.end core.Exps.end
     to_more : (e e' : Exp K) (es es' : Exps K) → ExpTo r R s e e' → ExpsTo r R s es es'
         → ExpsTo r R s (core.Exps.more e es) (core.Exps.more e' es')
@@ -70,18 +70,18 @@ NumbersBelow n (i ∷ is) = (i < n) × NumbersBelow n is
 mutual
   pub data StmtTo {K : Keys} (r : KeyMap K) (R : Rows K) (Spot : Standing → Stmts K → Stmts K
       → Type 0) (s : Standing) : Stmt K → Stmt K → Type 0 where
-    to_declare : (p q : At K) (n : ℕ) (e e' : Exp K) → n < s.size → ExpTo r R s e e'
-        → StmtTo r R Spot s (declare p n e) (declare q (s.at n) e')
-    to_eval : (p q : At K) (e e' : Exp K) → ExpTo r R s e e' → StmtTo r R Spot s (eval p e) (eval q e')
-    to_branch : (p q : At K) (c c' : Exp K) (a a' b b' : Stmt K) → ExpTo r R s c c' → StmtTo r R Spot s a a'
+    to_declare : (p q : At K) (n : ℕ) (e e' : Exp K) → n < s.code.size → ExpTo r R s.code e e'
+        → StmtTo r R Spot s (declare p n e) (declare q (s.code.at n) e')
+    to_eval : (p q : At K) (e e' : Exp K) → ExpTo r R s.code e e' → StmtTo r R Spot s (eval p e) (eval q e')
+    to_branch : (p q : At K) (c c' : Exp K) (a a' b b' : Stmt K) → ExpTo r R s.code c c' → StmtTo r R Spot s a a'
         → StmtTo r R Spot s b b' → StmtTo r R Spot s (branch p c a b) (branch q c' a' b')
-    to_loop : (p q : At K) (c c' : Exp K) (b b' : Stmt K) → ExpTo r R s c c' → StmtTo r R Spot s b b'
+    to_loop : (p q : At K) (c c' : Exp K) (b b' : Stmt K) → ExpTo r R s.code c c' → StmtTo r R Spot s b b'
         → StmtTo r R Spot s (loop p c b) (loop q c' b')
-    to_return : (p q : At K) (e e' : Exp K) → ExpTo r R s e e' → StmtTo r R Spot s (return p e) (return q e')
+    to_return : (p q : At K) (e e' : Exp K) → ExpTo r R s.code e e' → StmtTo r R Spot s (return p e) (return q e')
     to_return_nothing : (p q : At K) → StmtTo r R Spot s (return_nothing p) (return_nothing q)
-    to_block : (p q : At K) (ns : List ℕ) (b b' : Stmts K) → NumbersBelow s.size ns → StmtsTo r R Spot s b b'
-        → StmtTo r R Spot s (block p ns b) (block q (map s.at ns) b')
-    to_sync : (p q p' q' : At K) (e e' : Exp K) (b b' : Stmts K) → ExpTo r R s e e' → StmtsTo r R Spot s b b'
+    to_block : (p q : At K) (ns : List ℕ) (b b' : Stmts K) → NumbersBelow s.code.size ns → StmtsTo r R Spot s b b'
+        → StmtTo r R Spot s (block p ns b) (block q (map s.code.at ns) b')
+    to_sync : (p q p' q' : At K) (e e' : Exp K) (b b' : Stmts K) → ExpTo r R s.code e e' → StmtsTo r R Spot s b b'
         → StmtTo r R Spot s (sync p q e b) (sync p' q' e' b')
     to_empty : (p q : At K) → StmtTo r R Spot s (empty p) (empty q)
 
@@ -133,6 +133,10 @@ pub record ProgramTo {K : Keys} (r : KeyMap K) (Spot : Standing → Stmts K → 
   pub constructors : (k : K.constructor) → IsTrue (old.rows.has_constructor k)
       → CodeTo r old.rows Spot (old.constructor k) (new.constructor (r.constructor k))
 
+-- No statement list is changed.
+abbrev pub NoSpot : {K : Keys} → Standing → Stmts K → Stmts K → Type 0
+NoSpot s b b' = ⊥
+
 -- The new program is the image of the old one.
 abbrev pub Renamed : {K : Keys} → KeyMap K → Program K → Program K → Type 0
-Renamed {K = K} r P Q = ProgramTo r (λ (s : Standing) (b : Stmts K) (b' : Stmts K). ⊥) P Q
+Renamed {K = K} r P Q = ProgramTo r (NoSpot {K = K}) P Q

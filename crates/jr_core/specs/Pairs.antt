@@ -31,7 +31,7 @@ abbrev pub ListRel : {K : Keys} → KeyMap K → Standing → List (Value K) →
 ListRel r s frame a b = (b.0 ≡ map (value_image r) a.0) × Shifted r s frame a.1 b.1
 
 abbrev pub SlotImage : {K : Keys} → KeyMap K → Standing → Slot K → Slot K → Type 0
-SlotImage r s (in_local n) (in_local m) = (n < s.size) × (m ≡ s.at n)
+SlotImage r s (in_local n) (in_local m) = (n < s.code.size) × (m ≡ s.code.at n)
 SlotImage r s (in_static p f) (in_static q g) = g ≡ r.field f
 SlotImage r s (in_object p o f) (in_object q o' g) = ImageOf r o o' × (g ≡ r.field f)
 SlotImage r s (in_local n) (in_static q g) = ⊥
@@ -90,8 +90,8 @@ pub record TurnTo {K : Keys} (r : KeyMap K) (R : Rows K) (Spot : Standing → St
   pub at : Standing
   pub stands : Stands at
   pub frame : List (Value K)
-  pub self : SelfIs r at.self frame me me'
-  pub condition : ExpTo r R at c c'
+  pub self : SelfIs r at.code.self frame me me'
+  pub condition : ExpTo r R at.code c c'
   pub body : StmtTo r R Spot at b b'
   pub locals : Shifted r at frame l l'
 

@@ -11,12 +11,15 @@ pub data Self : Type 0 where
   held : (number : ℕ) → Self
   nobody : Self
 
-pub record Standing : Type 0 where
+-- what has become of the old code's locals, and of `this`
+pub record Renumbering : Type 0 where
   -- the old code's locals are below
   pub size : ℕ
-  -- what has become of each
   pub at : ℕ → ℕ
   pub self : Self
+
+pub record Standing : Type 0 where
+  pub code : Renumbering
   -- further locals of the new member, which the code leaves as they are
   pub others : List ℕ
 
@@ -31,13 +34,13 @@ SelfIn nobody ms = Unit {0}
 
 -- the old locals have become locals of their own
 pub record Stands (s : Standing) : Type 0 where
-  pub injective : (i j : ℕ) → i < s.size → j < s.size → s.at i ≡ s.at j → i ≡ j
-  pub apart : (i : ℕ) → i < s.size → In (s.at i) s.others → ⊥
-  pub self : SelfIn s.self s.others
+  pub injective : (i j : ℕ) → i < s.code.size → j < s.code.size → s.code.at i ≡ s.code.at j → i ≡ j
+  pub apart : (i : ℕ) → i < s.code.size → In (s.code.at i) s.others → ⊥
+  pub self : SelfIn s.code.self s.others
 
 -- a whole member: `this` is `this`, and there are no further locals
 abbrev pub whole : ℕ → (ℕ → ℕ) → Standing
-whole n f = record { size = n; at = f; self = itself; others = [] }
+whole n f = record { code = record { size = n; at = f; self = itself }; others = [] }
 
 -- frame: the values of the further locals. The receiver of the old member, and that of the new one or what stands for it.
 abbrev pub SelfIs : {K : Keys} → KeyMap K → Self → List (Value K) → Value K → Value K → Type 0
@@ -47,5 +50,5 @@ SelfIs r nobody frame me me' = me ≡ null
 
 -- the new locals have the image of each old local, and the further ones are as in the frame
 pub record Shifted {K : Keys} (r : KeyMap K) (s : Standing) (frame l l' : List (Value K)) : Type 0 where
-  pub moved : (i : ℕ) → i < s.size → local_at l' (s.at i) ≡ value_image r (local_at l i)
+  pub moved : (i : ℕ) → i < s.code.size → local_at l' (s.code.at i) ≡ value_image r (local_at l i)
   pub others : (j : ℕ) → In j s.others → local_at l' j ≡ local_at frame j
