@@ -17,6 +17,8 @@ pub mod Conditions
 pub mod Members
 pub mod Keyed
 pub mod MethodLists
+pub mod Sites
+pub mod Resolving
 pub mod Looking
 pub mod Sample
 pub mod Sought

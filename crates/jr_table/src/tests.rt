@@ -5,7 +5,6 @@ use crate::sample::{method_key, one_class, sample};
 use crate::{FieldKey, MethodKey, Table, Ty};
 use jr_ast::Name;
 use std::alloc::{AllocError, Global};
-use std::process::Abort;
 use std::test::Fail;
 
 /// A method's text: its class, a dot and its name.
@@ -55,21 +54,58 @@ fn methods(alloc: Global, table: &Table, class: &str, name: &str) -> Result<Stri
     Ok(text)
 }
 
+/// Whether one method without parameters overrides another.
 fn overrides(
     alloc: Global,
     table: &Table,
-    sub: &MethodKey,
-    of: &str,
+    sub: &str,
+    sup: &str,
     name: &str,
-) -> Result<bool, AllocError> {
-    let sup = method_key(alloc, of, name, Vec::new(alloc))?;
-    Ok(table.overrides(sub, &sup))
+) -> Result<String, AllocError> {
+    let sub = method_key(alloc, sub, name, Vec::new(alloc))?;
+    let sup = method_key(alloc, sup, name, Vec::new(alloc))?;
+    yes_or_no(alloc, table.overrides(&sub, &sup))
 }
 
-fn below(alloc: Global, table: &Table, sub: &str, sup: &str) -> Result<bool, AllocError> {
+/// Whether a method with the one class as its parameter overrides one with the other.
+fn overrides_with(
+    alloc: Global,
+    table: &Table,
+    sub: &str,
+    sup: &str,
+    name: &str,
+) -> Result<String, AllocError> {
+    let over = one_class(alloc, sub)?;
+    let under = one_class(alloc, sup)?;
+    let sub = method_key(alloc, sub, name, over)?;
+    let sup = method_key(alloc, sup, name, under)?;
+    yes_or_no(alloc, table.overrides(&sub, &sup))
+}
+
+fn below(alloc: Global, table: &Table, sub: &str, sup: &str) -> Result<String, AllocError> {
     let sub = top_key(alloc, sub)?;
     let sup = top_key(alloc, sup)?;
-    Ok(table.is_subclass(&sub, &sup))
+    yes_or_no(alloc, table.is_subclass(&sub, &sup))
+}
+
+/// A type by its text, a class by its name.
+fn ty(alloc: Global, text: &str) -> Result<Ty, AllocError> {
+    match text {
+        "int" => Ok(Ty::Int),
+        "boolean" => Ok(Ty::Boolean),
+        "null" => Ok(Ty::Null),
+        name => Ok(Ty::Class(top_key(alloc, name)?)),
+    }
+}
+
+fn assignable(alloc: Global, table: &Table, from: &str, to: &str) -> Result<String, AllocError> {
+    let from = ty(alloc, from)?;
+    let to = ty(alloc, to)?;
+    yes_or_no(alloc, table.is_assignable(&from, &to))
+}
+
+fn yes_or_no(alloc: Global, answer: bool) -> Result<String, AllocError> {
+    String::from_str(alloc, if answer { "yes" } else { "no" })
 }
 
 fn table(alloc: Global) -> Result<Table, AllocError> {
@@ -77,76 +113,71 @@ fn table(alloc: Global) -> Result<Table, AllocError> {
     Table::of_rows(alloc, rows)
 }
 
-fn is_text(text: &String, expected: &str) -> bool {
-    text.as_str() == expected
+/// What the table answers to a call and its arguments.
+fn answer(alloc: Global, table: &Table, asked: &[&str; 4]) -> Result<String, AllocError> {
+    let [call, first, second, third] = asked;
+    match *call {
+        "field" => field(alloc, table, first, second),
+        "methods" => methods(alloc, table, first, second),
+        "dispatch" => run(alloc, table, first, second, third),
+        "overrides" => overrides(alloc, table, first, second, third),
+        "overrides with" => overrides_with(alloc, table, first, second, third),
+        "below" => below(alloc, table, first, second),
+        _ => assignable(alloc, table, first, second),
+    }
 }
 
-fn expect_members(rt: &impl Abort, alloc: Global, table: &Table) -> Result<(), Fail> {
-    assert!(rt; is_text(&field(alloc, table, "A", "f")?, "A.f"));
-    assert!(rt; is_text(&field(alloc, table, "B", "f")?, "B.f"));
+/// Calls with their arguments, and what `javac` and the Java Language Specification say.
+const ROWS: [([&str; 4], &str); 35] = [
+    (["field", "A", "f", ""], "A.f"),
+    (["field", "B", "f", ""], "B.f"),
     // `B.f` is private: it hides `A.f` and isn't inherited itself (JLS 8.3).
-    assert!(rt; is_text(&field(alloc, table, "C", "f")?, "none"));
-    assert!(rt; is_text(&field(alloc, table, "A", "g")?, "A.g"));
-    assert!(rt; is_text(&field(alloc, table, "B", "g")?, "none"));
-    assert!(rt; is_text(&field(alloc, table, "D", "f")?, "none"));
-    assert!(rt; is_text(&methods(alloc, table, "C", "m")?, "B.m "));
-    assert!(rt; is_text(&methods(alloc, table, "C", "o")?, "A.o B.o "));
-    assert!(rt; is_text(&methods(alloc, table, "A", "p")?, "A.p "));
-    assert!(rt; is_text(&methods(alloc, table, "C", "p")?, "B.p "));
-    assert!(rt; is_text(&methods(alloc, table, "C", "f")?, ""));
-    Ok(())
-}
-
-fn expect_dispatch(rt: &impl Abort, alloc: Global, table: &Table) -> Result<(), Fail> {
-    assert!(rt; is_text(&run(alloc, table, "C", "A", "m")?, "B.m"));
-    assert!(rt; is_text(&run(alloc, table, "A", "A", "m")?, "A.m"));
+    (["field", "C", "f", ""], "none"),
+    (["field", "A", "g", ""], "A.g"),
+    (["field", "B", "g", ""], "none"),
+    (["field", "D", "f", ""], "none"),
+    (["methods", "C", "m", ""], "B.m "),
+    (["methods", "C", "o", ""], "A.o B.o "),
+    (["methods", "A", "p", ""], "A.p "),
+    (["methods", "C", "p", ""], "B.p "),
+    (["methods", "C", "f", ""], ""),
+    (["methods", "D", "m", ""], ""),
+    (["dispatch", "C", "A", "m"], "B.m"),
+    (["dispatch", "A", "A", "m"], "A.m"),
     // `A` is neither `B` nor below it.
-    assert!(rt; is_text(&run(alloc, table, "A", "B", "m")?, "none"));
+    (["dispatch", "A", "B", "m"], "none"),
     // A private method isn't overridden (JLS 8.4.8.1).
-    assert!(rt; is_text(&run(alloc, table, "C", "A", "p")?, "none"));
-    assert!(rt; is_text(&run(alloc, table, "C", "B", "p")?, "B.p"));
-    assert!(rt; is_text(&run(alloc, table, "Thread", "Thread", "run")?, "Thread.run"));
-    Ok(())
-}
-
-fn expect_overrides(rt: &impl Abort, alloc: Global, table: &Table) -> Result<(), Fail> {
-    let m = method_key(alloc, "B", "m", Vec::new(alloc))?;
-    assert!(rt; overrides(alloc, table, &m, "A", "m")?);
-    assert!(rt; !overrides(alloc, table, &m, "B", "m")?);
-    let p = method_key(alloc, "B", "p", Vec::new(alloc))?;
-    assert!(rt; !overrides(alloc, table, &p, "A", "p")?);
+    (["dispatch", "C", "A", "p"], "none"),
+    (["dispatch", "C", "B", "p"], "B.p"),
+    (["dispatch", "Thread", "Thread", "run"], "Thread.run"),
+    (["overrides", "B", "A", "m"], "yes"),
+    (["overrides", "A", "B", "m"], "no"),
+    (["overrides", "B", "B", "m"], "no"),
+    (["overrides", "B", "A", "p"], "no"),
     // Other parameter types overload, and don't override (JLS 8.4.9).
-    let o = method_key(alloc, "B", "o", one_class(alloc, "B")?)?;
-    let other = method_key(alloc, "A", "o", one_class(alloc, "A")?)?;
-    assert!(rt; !table.overrides(&o, &other));
-    Ok(())
-}
-
-fn expect_subclasses(rt: &impl Abort, alloc: Global, table: &Table) -> Result<(), Fail> {
-    assert!(rt; below(alloc, table, "C", "A")?);
-    assert!(rt; below(alloc, table, "C", "Object")?);
-    assert!(rt; below(alloc, table, "A", "A")?);
-    assert!(rt; !below(alloc, table, "A", "C")?);
-    assert!(rt; !below(alloc, table, "D", "D")?);
-    let a = Ty::Class(top_key(alloc, "A")?);
-    let c = Ty::Class(top_key(alloc, "C")?);
-    assert!(rt; table.is_assignable(&c, &a));
-    assert!(rt; !table.is_assignable(&a, &c));
-    assert!(rt; table.is_assignable(&Ty::Null, &c));
-    assert!(rt; table.is_assignable(&Ty::Null, &Ty::Null));
-    assert!(rt; table.is_assignable(&Ty::Int, &Ty::Int));
-    assert!(rt; !table.is_assignable(&Ty::Int, &Ty::Boolean));
-    assert!(rt; !table.is_assignable(&Ty::Null, &Ty::Int));
-    Ok(())
-}
+    (["overrides with", "B", "A", "o"], "no"),
+    (["below", "C", "A", ""], "yes"),
+    (["below", "C", "Object", ""], "yes"),
+    (["below", "A", "A", ""], "yes"),
+    (["below", "A", "C", ""], "no"),
+    (["below", "D", "D", ""], "no"),
+    (["assignable", "C", "A", ""], "yes"),
+    (["assignable", "A", "C", ""], "no"),
+    (["assignable", "null", "C", ""], "yes"),
+    (["assignable", "null", "null", ""], "yes"),
+    (["assignable", "int", "int", ""], "yes"),
+    (["assignable", "int", "boolean", ""], "no"),
+    (["assignable", "null", "int", ""], "no"),
+];
 
 #[test]
 fn a_small_program(rt: HostRuntime) -> Result<(), Fail> {
     let alloc = rt.alloc();
     let table = table(alloc)?;
     assert_eq!(rt; table.rows().len(), 20);
-    expect_members(&rt, alloc, &table)?;
-    expect_dispatch(&rt, alloc, &table)?;
-    expect_overrides(&rt, alloc, &table)?;
-    expect_subclasses(&rt, alloc, &table)
+    for (asked, expected) in &ROWS {
+        let text = answer(alloc, &table, asked)?;
+        assert!(rt; text.as_str() == *expected);
+    }
+    Ok(())
 }
