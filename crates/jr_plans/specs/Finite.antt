@@ -3,13 +3,13 @@ use Rattle.std.specs.Prelude.{ℕ, zero, suc, List, [], ◌∷◌, IsTrue}
 use Rattle.jr_plans.specs.Plan.{Plan, done, act, ask, call}
 
 -- It calls nothing, makes at most n actions, all of them with F, and for each question some answer fits.
-abbrev pub Calm : {V E S R A : Type 0} → (E → Type 0) → Plan V E S R A → ℕ → Type 0
-Calm F (done a) n = Unit {0}
-Calm F (act x p) zero = ⊥
-Calm F (act x p) (suc n) = F x × Calm F p n
-Calm F (ask f s p) zero = ⊥
-Calm {V = V} F (ask f s p) (suc n) = ((v : V) × IsTrue (f v)) × ((v : V) → IsTrue (f v) → F (s v) × Calm F (p v) n)
-Calm F (call c p) n = ⊥
+abbrev pub Finite : {V E S R A : Type 0} → (E → Type 0) → Plan V E S R A → ℕ → Type 0
+Finite F (done a) n = Unit {0}
+Finite F (act x p) zero = ⊥
+Finite F (act x p) (suc n) = F x × Finite F p n
+Finite F (ask f s p) zero = ⊥
+Finite {V = V} F (ask f s p) (suc n) = ((v : V) × IsTrue (f v)) × ((v : V) → IsTrue (f v) → F (s v) × Finite F (p v) n)
+Finite F (call c p) n = ⊥
 
 abbrev pub Each : {E : Type 0} → (E → Type 0) → List E → Type 0
 Each F [] = Unit {0}
