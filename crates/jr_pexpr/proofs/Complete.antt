@@ -9,12 +9,13 @@ use Rattle.jr_ast.specs.declared.operators.BinOp.{BinOp}
 use Rattle.jr_ast.specs.declared.operators.BinOp.TheVariants.{Or, Add, Sub, Mul, Div, Rem}
 use Rattle.jr_ast.specs.declared.operators.BumpOp.TheVariants.{PreInc, PreDec, PostInc, PostDec}
 use Rattle.jr_ast.specs.Tree.{Word, TypeName, int, boolean, named, Exp, number, truth, null, string, name, field, super_field, this, class_literal, call, super_call, create, paren, cast, unary, bump, binary, assign, compound, no_target, on, Exps, end, more}
-use Rattle.jr_pexpr.specs.Tokens.{Token, word, keyword, symbol}
-use Rattle.jr_pexpr.specs.Spelling.{binary_symbol, compound_symbol}
-use Rattle.jr_pexpr.specs.Shape.{rank_of, level_of, IsTarget, IsCompound, IsNamed, ShapedBehind, AllShaped, is_minus}
+use Rattle.jr_grammar.specs.Tokens.{Token, word, keyword, symbol}
+use Rattle.jr_grammar.specs.Spelling.{binary_symbol, compound_symbol}
+use Rattle.jr_grammar.specs.Shape.{rank_of, level_of, IsTarget, IsCompound, IsNamed, ShapedBehind, AllShaped, is_minus}
 use Rattle.jr_pexpr.specs.Pieces.{Way, up, down, way_symbol, a_number, a_truth, a_null, a_string, a_this, Piece, a_word, an_atom, a_super, a_new, an_open, a_bang}
 use Rattle.jr_pexpr.specs.Machine.{Head, call_head, super_head, create_head, Frame, in_unary, in_bump, in_binary, in_assign, in_compound, in_cast, in_paren, in_args, State, want, have, dotted, with_last, behind, binds, needs, needed, behind_minus, plug, fits, reduced, operated, closed, continued, applied, assigned, begun, cast_of, casted, name_type, extended}
-use Rattle.jr_pexpr.specs.Bare.{Bare, no_join, bare_step, bare_run}
+use Rattle.jr_grammar.specs.Bare.{Bare}
+use Rattle.jr_pexpr.specs.BareMachine.{no_join, bare_step, bare_run}
 use Rattle.jr_pexpr.proofs.Spell.{spell, spell_type, spell_args, spell_more}
 use Rattle.jr_pexpr.proofs.Levels.{rank_low, unary_low, bump_low, level_pos, needed_low, target_level, target_true, at_most_is, number_fits}
 

@@ -2,9 +2,9 @@
 use Rattle.std.proofs.Common.{◌≡◌, ℕ, suc, ◌+◌, ◌<◌, ◌≤◌, List, ◌++◌, length, take, drop, Option, Some, None, refl, sym, ap, subst, ◌∙◌, add-one}
 use Rattle.std.specs.Prelude.{option_and_then, IfSome}
 use Rattle.std.proofs.lemmas.List.{take-append-drop, length-take-le}
-use Rattle.jr_pexpr.specs.Tokens.{Token}
+use Rattle.jr_grammar.specs.Tokens.{Token}
 use Rattle.jr_pexpr.specs.Runs.{run, longest, stop_of}
-use Rattle.jr_pexpr.specs.Readings.{OneTree, Begins, IsPrefix, IsLongest, HasNone, IsStop}
+use Rattle.jr_grammar.specs.Readings.{OneTree, Begins, IsPrefix, IsLongest, HasNone, IsStop}
 use Rattle.jr_pexpr.proofs.Scans.{AtLeast, stop_reached, stop_within, stop_fails, Found, longest_found, longest_most}
 
 pub at_some : {A : Type 0} (o : Option A) (x : A) (P : A → Type 0) → o ≡ Some x → IfSome o P → P x

@@ -8,7 +8,7 @@ use Rattle.jr_ast.specs.declared.operators.BinOp.TheVariants.{Or, Add, Sub, Mul,
 use Rattle.jr_ast.specs.declared.operators.BumpOp.{BumpOp}
 use Rattle.jr_ast.specs.declared.operators.BumpOp.TheVariants.{PreInc, PreDec, PostInc, PostDec}
 use Rattle.jr_ast.specs.Tree.{Exp, number, name, field, super_field, cast, unary, bump, binary, assign, compound}
-use Rattle.jr_pexpr.specs.Shape.{rank_of, unary_level, bump_level, level_of, IsTarget, IsCompound, greatest, FitsInt}
+use Rattle.jr_grammar.specs.Shape.{rank_of, unary_level, bump_level, level_of, IsTarget, IsCompound, greatest, FitsInt}
 use Rattle.jr_pexpr.specs.Pieces.{a_number}
 use Rattle.jr_pexpr.specs.Machine.{Frame, in_unary, in_bump, in_binary, in_assign, in_compound, in_cast, in_paren, in_args, State, needed, is_target, is_compound, at_most, atom_fits}
 

@@ -7,8 +7,8 @@ use Rattle.jr_ast.specs.declared.operators.BinOp.{BinOp}
 use Rattle.jr_ast.specs.declared.operators.BinOp.TheVariants.{Add, Sub}
 use Rattle.jr_ast.specs.Tree.{Word, TypeName, named, Exp, name, field, super_field, bump, no_target, on, end}
 use Rattle.jr_ast.specs.Marks.{exp_mark}
-use Rattle.jr_pexpr.specs.Tokens.{Token}
-use Rattle.jr_pexpr.specs.Shape.{rank_of, level_of}
+use Rattle.jr_grammar.specs.Tokens.{Token}
+use Rattle.jr_grammar.specs.Shape.{rank_of, level_of}
 use Rattle.jr_pexpr.specs.Pieces.{Way, Piece, a_word, an_atom, a_super, a_new, a_class, an_open, a_close, a_comma, a_dot, a_bang, a_bump, an_operator, an_equals, a_compound, piece_of}
 use Rattle.jr_pexpr.specs.Machine.{call_head, super_head, create_head, Frame, in_unary, in_bump, in_assign, in_compound, in_paren, in_args, State, want, have, dotted, at_super, super_dotted, at_new, new_named, new_dotted, with_last, behind, binds, needed, behind_minus, plug, fits, reduced, operated, closed, continued, at_most, atom_exp, atom_fits, signed, emptied, begun, name_type, cast_of, casted, opened, is_target, is_compound, assigned, bumped, extended, literal_of, member, behind_super, super_member, behind_new, new_outer, behind_new_name, new_inner, stepped, step, is_bottom, is_open, frames_of}
 

@@ -4,7 +4,7 @@ use Rattle.jr_lex.specs.declared.items.Keyword.{Keyword}
 use Rattle.jr_lex.specs.declared.items.Keyword.TheVariants.{Class, New, Super, This, True, False, Null}
 use Rattle.jr_lex.specs.declared.items.Symbol.{Symbol}
 use Rattle.jr_lex.specs.declared.items.Symbol.TheVariants.{OpenParen}
-use Rattle.jr_pexpr.specs.Tokens.{Token, word, keyword, integer, text, symbol}
+use Rattle.jr_grammar.specs.Tokens.{Token, word, keyword, integer, text, symbol}
 use Rattle.jr_pexpr.specs.Pieces.{keyword_piece, symbol_piece, piece_of, piece_token}
 
 keyword_back : (k : Keyword) → piece_token (keyword_piece k) ≡ keyword k

@@ -6,13 +6,14 @@ use Rattle.std.proofs.lemmas.Bool.{cases_lt}
 use Rattle.jr_lex.specs.declared.items.Symbol.TheVariants.{OpenParen, CloseParen, Dot}
 use Rattle.jr_ast.specs.declared.operators.BumpOp.TheVariants.{PreInc, PreDec, PostInc, PostDec}
 use Rattle.jr_ast.specs.Tree.{Word, named, Exp, name, field, super_field, create, paren, cast, unary, bump, binary, assign, compound, end}
-use Rattle.jr_pexpr.specs.Tokens.{Token, word, symbol}
-use Rattle.jr_pexpr.specs.Spelling.{toks}
-use Rattle.jr_pexpr.specs.Shape.{level_of, IsTarget, ShapedBehind, Shaped, IsStatementForm}
-use Rattle.jr_pexpr.specs.Readings.{Begins}
+use Rattle.jr_grammar.specs.Tokens.{Token, word, symbol}
+use Rattle.jr_grammar.specs.Spelling.{toks}
+use Rattle.jr_grammar.specs.Shape.{level_of, IsTarget, ShapedBehind, Shaped, IsStatementForm}
+use Rattle.jr_grammar.specs.Readings.{Begins}
 use Rattle.jr_pexpr.specs.Pieces.{up, down}
 use Rattle.jr_pexpr.specs.Machine.{Frame, in_unary, in_bump, in_binary, in_assign, in_compound, in_cast, in_paren, in_args, State, want, have, dotted, at_super, super_dotted, at_new, new_named, new_dotted, with_last, needed, behind_minus, binds, plug, fits, applied, reduced, whole_of, is_bottom, is_open, frames_of}
-use Rattle.jr_pexpr.specs.Bare.{Bare, no_join, bare_run, bare_whole}
+use Rattle.jr_grammar.specs.Bare.{Bare}
+use Rattle.jr_pexpr.specs.BareMachine.{no_join, bare_run, bare_whole}
 use Rattle.jr_pexpr.proofs.Spell.{spell, spell-is}
 use Rattle.jr_pexpr.proofs.Levels.{rank_low, unary_low, level_pos, needed_low, target_true}
 use Rattle.jr_pexpr.proofs.Complete.{Frames, tops, tip, unwound, complete}

@@ -9,12 +9,13 @@ use Rattle.jr_ast.specs.declared.operators.BinOp.{BinOp}
 use Rattle.jr_ast.specs.declared.operators.BinOp.TheVariants.{Add, Sub}
 use Rattle.jr_ast.specs.declared.operators.BumpOp.TheVariants.{PreInc, PreDec, PostInc, PostDec}
 use Rattle.jr_ast.specs.Tree.{Word, TypeName, named, Exp, number, truth, null, string, name, field, super_field, this, class_literal, paren, cast, unary, bump, binary, assign, compound, Exps, end, more}
-use Rattle.jr_pexpr.specs.Tokens.{Token, word, keyword, integer, symbol}
-use Rattle.jr_pexpr.specs.Spelling.{unary_symbol, binary_symbol, compound_symbol}
-use Rattle.jr_pexpr.specs.Shape.{rank_of, unary_level, level_of, IsTarget, IsCompound, IsNamed, ShapedBehind, ShapedTarget, AllShaped, greatest}
+use Rattle.jr_grammar.specs.Tokens.{Token, word, keyword, integer, symbol}
+use Rattle.jr_grammar.specs.Spelling.{unary_symbol, binary_symbol, compound_symbol}
+use Rattle.jr_grammar.specs.Shape.{rank_of, unary_level, level_of, IsTarget, IsCompound, IsNamed, ShapedBehind, ShapedTarget, AllShaped, greatest}
 use Rattle.jr_pexpr.specs.Pieces.{Way, up, down, way_symbol, Atom, a_number, a_truth, a_null, a_string, a_this, Piece, a_word, an_atom, a_super, a_new, a_class, an_open, a_close, a_comma, a_dot, a_bang, a_bump, an_operator, an_equals, a_compound, piece_of, piece_token}
 use Rattle.jr_pexpr.specs.Machine.{Head, call_head, super_head, create_head, Frame, in_unary, in_bump, in_binary, in_assign, in_compound, in_cast, in_paren, in_args, State, want, have, dotted, at_super, super_dotted, at_new, new_named, new_dotted, with_last, binds, needs, needed, is_behind_minus, behind_minus, plug, fits, reduced, operated, closed, continued, applied, at_most, atom_exp, atom_fits, signed, emptied, is_target, is_compound, assigned, bumped, begun, cast_of, casted, opened, name_type, extended, literal_of, member, behind_super, super_member, behind_new, new_outer, behind_new_name, new_inner, stepped}
-use Rattle.jr_pexpr.specs.Bare.{Bare, no_join, bare_step, bare_run}
+use Rattle.jr_grammar.specs.Bare.{Bare}
+use Rattle.jr_pexpr.specs.BareMachine.{no_join, bare_step, bare_run}
 use Rattle.jr_pexpr.proofs.Spell.{spell, spell_type, spell_target, spell_args, spell_more}
 use Rattle.jr_pexpr.proofs.Levels.{rank_low, unary_low, needed_low, target_is, compound_is}
 use Rattle.jr_pexpr.proofs.Complete.{Frames}

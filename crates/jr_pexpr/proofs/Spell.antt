@@ -4,8 +4,8 @@ use Rattle.jr_lex.specs.declared.items.Keyword.TheVariants.{Int, Boolean, Class,
 use Rattle.jr_lex.specs.declared.items.Symbol.TheVariants.{OpenParen, CloseParen, Comma, Dot, Equals, PlusPlus, MinusMinus}
 use Rattle.jr_ast.specs.declared.operators.BumpOp.TheVariants.{PreInc, PreDec, PostInc, PostDec}
 use Rattle.jr_ast.specs.Tree.{Word, TypeName, int, boolean, named, Exp, number, truth, null, string, name, field, super_field, this, class_literal, call, super_call, create, paren, cast, unary, bump, binary, assign, compound, Target, no_target, on, Exps, end, more}
-use Rattle.jr_pexpr.specs.Tokens.{Token, word, keyword, integer, text, symbol}
-use Rattle.jr_pexpr.specs.Spelling.{unary_symbol, binary_symbol, compound_symbol, truth_keyword, name_toks, type_toks, toks, target_toks, args_toks, more_toks}
+use Rattle.jr_grammar.specs.Tokens.{Token, word, keyword, integer, text, symbol}
+use Rattle.jr_grammar.specs.Spelling.{unary_symbol, binary_symbol, compound_symbol, truth_keyword, name_toks, type_toks, toks, target_toks, args_toks, more_toks}
 
 abbrev pub spell_name : {A : Type 0} → Option (Word A) → Word A → List Token → List Token
 spell_name None w x = word w.text ∷ x

@@ -4,13 +4,14 @@ use Rattle.std.specs.Prelude.{option_and_then}
 use Rattle.jr_lex.specs.declared.items.Symbol.TheVariants.{OpenParen, CloseParen, Dot}
 use Rattle.jr_ast.specs.declared.operators.BumpOp.TheVariants.{PreInc, PreDec, PostInc, PostDec}
 use Rattle.jr_ast.specs.Tree.{Exp, call, super_call, create, cast, unary, bump, binary, assign, compound, on, end}
-use Rattle.jr_pexpr.specs.Tokens.{Token, word, symbol}
-use Rattle.jr_pexpr.specs.Spelling.{toks}
-use Rattle.jr_pexpr.specs.Shape.{Shaped, IsStatementForm, ShapedStatement}
-use Rattle.jr_pexpr.specs.Readings.{Begins}
+use Rattle.jr_grammar.specs.Tokens.{Token, word, symbol}
+use Rattle.jr_grammar.specs.Spelling.{toks}
+use Rattle.jr_grammar.specs.Shape.{Shaped, IsStatementForm, ShapedStatement}
+use Rattle.jr_grammar.specs.Readings.{Begins}
 use Rattle.jr_pexpr.specs.Pieces.{up, down}
 use Rattle.jr_pexpr.specs.Machine.{Frame, in_unary, in_bump, in_binary, in_assign, in_compound, in_cast, State, is_open, frames_of, kept_open, is_statement, kept_statement}
-use Rattle.jr_pexpr.specs.Bare.{Bare, no_join, bare_step, bare_run, bare_whole, bare_statement_step, bare_statement_run, bare_statement_whole}
+use Rattle.jr_grammar.specs.Bare.{Bare}
+use Rattle.jr_pexpr.specs.BareMachine.{no_join, bare_step, bare_run, bare_whole, bare_statement_step, bare_statement_run, bare_statement_whole}
 use Rattle.jr_pexpr.proofs.Complete.{Frames, tops}
 use Rattle.jr_pexpr.proofs.Opens.{Opens, step_opens}
 use Rattle.jr_pexpr.proofs.Reading.{start, after, toks_run, whole_after, sound, IsTop, a_word, state_ends, begins_of, run_good}

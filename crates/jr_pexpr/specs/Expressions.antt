@@ -1,60 +1,17 @@
--- What the expression and the statement expression are that tokens begin with, and where reading stops.
+-- What the machine answers of expressions, and its laws.
 use Rattle.std.specs.Prelude.{◌≡◌, ℕ, List, [], Option, Some, MatchOption, option_map}
 use Rattle.jr_text.specs.declared.spans.Span.{Span}
 use Rattle.jr_ast.specs.Tree.{Exp}
-use Rattle.jr_pexpr.specs.Tokens.{Token, Placed, kinds}
-use Rattle.jr_pexpr.specs.Spelling.{toks}
-use Rattle.jr_pexpr.specs.Shape.{Shaped, ShapedStatement}
-use Rattle.jr_pexpr.specs.Stands.{Tokens, Stands}
-use Rattle.jr_pexpr.specs.Readings as Readings
-use Rattle.jr_pexpr.specs.Bare.{Bare, bare, bare_state, bare_step, bare_whole, bare_statement_step, bare_statement_whole}
+use Rattle.jr_grammar.specs.Tokens.{Token, Placed, kinds}
+use Rattle.jr_grammar.specs.Spelling.{toks}
+use Rattle.jr_grammar.specs.Shape.{Shaped}
+use Rattle.jr_grammar.specs.Stands.{Tokens}
+use Rattle.jr_grammar.specs.Bare.{Bare, bare}
+use Rattle.jr_grammar.specs.Expressions.{IsMarkedExpression, IsMarkedStatementExpression, IsLongestExpression, IsLongestStatementExpression, HasNoExpression, HasNoStatementExpression, IsExpressionStop, IsStatementExpressionStop}
+use Rattle.jr_pexpr.specs.BareMachine.{bare_state, bare_step, bare_whole, bare_statement_step, bare_statement_whole}
 use Rattle.jr_pexpr.specs.Machine.{State, want}
 use Rattle.jr_pexpr.specs.Marked.{span_step, span_whole, span_run, span_statement_step, span_statement_whole, span_statement_run}
 use Rattle.jr_pexpr.specs.Runs as Runs
-
--- ---- what public clauses speak of
-
--- The tokens are those of the tree, it is an expression, and each mark is the span of its node's tokens.
-pub record ReadsExpression (tokens : Tokens) (tree : Exp Span) : Type 0 where
-  pub shaped : Shaped tree
-  pub spells : toks tree ≡ kinds tokens
-  pub marks : Stands tree tokens
-
--- and it is a statement expression
-pub record ReadsStatementExpression (tokens : Tokens) (tree : Exp Span) : Type 0 where
-  pub shaped : ShapedStatement tree
-  pub spells : toks tree ≡ kinds tokens
-  pub marks : Stands tree tokens
-
--- no two expressions spell the same tokens
-abbrev pub OneExpression : Type 0
-OneExpression = Readings.OneTree (Exp Bare) toks Shaped
-
-abbrev pub OneStatementExpression : Type 0
-OneStatementExpression = Readings.OneTree (Exp Bare) toks ShapedStatement
-
--- the first n tokens are the expression, and no more of them are one
-abbrev pub IsLongestExpression : List Token → ℕ → Exp Bare → Type 0
-IsLongestExpression tokens n tree = Readings.IsLongest (Exp Bare) toks Shaped tokens n tree
-
-abbrev pub IsLongestStatementExpression : List Token → ℕ → Exp Bare → Type 0
-IsLongestStatementExpression tokens n tree = Readings.IsLongest (Exp Bare) toks ShapedStatement tokens n tree
-
--- the tokens begin with no expression
-abbrev pub HasNoExpression : List Token → Type 0
-HasNoExpression tokens = Readings.HasNone (Exp Bare) toks Shaped tokens
-
-abbrev pub HasNoStatementExpression : List Token → Type 0
-HasNoStatementExpression tokens = Readings.HasNone (Exp Bare) toks ShapedStatement tokens
-
--- the first n tokens begin some expression, and with the one behind them they begin none
-abbrev pub IsExpressionStop : List Token → ℕ → Type 0
-IsExpressionStop tokens n = Readings.IsStop (Exp Bare) toks Shaped tokens n
-
-abbrev pub IsStatementExpressionStop : List Token → ℕ → Type 0
-IsStatementExpressionStop tokens n = Readings.IsStop (Exp Bare) toks ShapedStatement tokens n
-
--- ---- what the machine answers
 
 abbrev pub expression_length : List Token → Option ℕ
 expression_length tokens = Runs.longest (State Bare) Token (Exp Bare) bare_step bare_whole (want []) tokens
@@ -110,9 +67,14 @@ pub record StepsAlike : Type 0 where
 
 -- what the machine builds over tokens with their places
 pub record BuildsMarked : Type 0 where
-  pub expression : (tokens : Tokens) (s : State Span) (tree : Exp Span) → span_run (want []) tokens ≡ Some s → span_whole s ≡ Some tree → ReadsExpression tokens tree
-  pub statement : (tokens : Tokens) (s : State Span) (tree : Exp Span) → span_statement_run (want []) tokens ≡ Some s → span_statement_whole s ≡ Some tree → ReadsStatementExpression tokens tree
+  pub expression : (tokens : Tokens) (s : State Span) (tree : Exp Span) → span_run (want []) tokens ≡ Some s → span_whole s ≡ Some tree → IsMarkedExpression tokens tree
+  pub statement : (tokens : Tokens) (s : State Span) (tree : Exp Span) → span_statement_run (want []) tokens ≡ Some s → span_statement_whole s ≡ Some tree → IsMarkedStatementExpression tokens tree
 
 -- Trees with places that spell the same tokens are the same but for their marks.
 abbrev pub OneMarkedExpression : Type 0
 OneMarkedExpression = (a b : Exp Span) → Shaped a → Shaped b → toks a ≡ toks b → bare a ≡ bare b
+
+-- Trees that tokens with places are, each mark the span of its node's tokens, are equal, marks included.
+pub record OneMarked : Type 0 where
+  pub expression : (tokens : Tokens) (a b : Exp Span) → IsMarkedExpression tokens a → IsMarkedExpression tokens b → a ≡ b
+  pub statement : (tokens : Tokens) (a b : Exp Span) → IsMarkedStatementExpression tokens a → IsMarkedStatementExpression tokens b → a ≡ b

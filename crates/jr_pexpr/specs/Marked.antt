@@ -2,7 +2,7 @@
 use Rattle.std.specs.Prelude.{List, Option}
 use Rattle.jr_text.specs.declared.spans.Span.{Span}
 use Rattle.jr_ast.specs.Tree.{Exp}
-use Rattle.jr_pexpr.specs.Tokens.{Placed}
+use Rattle.jr_grammar.specs.Tokens.{Placed}
 use Rattle.jr_pexpr.specs.Machine.{State, step, whole, statement_step, statement_whole}
 use Rattle.jr_pexpr.specs.Runs.{run}
 

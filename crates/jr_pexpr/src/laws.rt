@@ -1,5 +1,8 @@
-ghost use Rattle.jr_pexpr.specs.Expressions.{OneExpression, OneStatementExpression, OneMarkedExpression, LengthIsLongest, StatementLengthIsLongest, StopIsExact, StatementStopIsExact, StepsAlike, BuildsMarked};
-ghost use Rattle.jr_pexpr.specs.IgnoresMarks.{ExpressionIgnoresMarks};
+ghost use Rattle.jr_grammar.specs.Expressions.{OneExpression, OneStatementExpression};
+ghost use Rattle.jr_pexpr.specs.Expressions.{OneMarkedExpression, OneMarked, LengthIsLongest, StatementLengthIsLongest, StopIsExact, StatementStopIsExact, StepsAlike, BuildsMarked};
+
+use jr_grammar::{expression_ignores_marks, marks_are_one};
+use jr_text::Span;
 
 /// No two expressions spell the same tokens (JLS 15).
 pub fn one_expression()
@@ -11,10 +14,15 @@ pub fn one_statement_expression()
     ensures { OneStatementExpression }
 {}
 
-/// Expressions with places that spell the same tokens are the same but for their marks.
+/// Expressions with places that spell the same tokens are the same but for their marks, and where each mark is the span
+/// of its node's tokens, marks included.
 pub fn one_marked_expression()
-    ensures { OneMarkedExpression }
-{}
+    ensures spelled { OneMarkedExpression }
+    ensures marked { OneMarked }
+{
+    expression_ignores_marks::<Span, ()>();
+    marks_are_one();
+}
 
 /// The machine finds the longest expression that tokens begin with, and finds none only where there is none.
 pub fn expression_is_longest()
@@ -44,9 +52,6 @@ pub fn marked_steps_alike()
 /// What the machine builds has the span of each node's tokens as that node's mark.
 pub fn marks_are_spans()
     ensures { BuildsMarked }
-{}
-
-/// What an expression spells, and whether it is one, doesn't depend on its marks.
-pub fn expression_ignores_marks<A, B>()
-    ensures { ExpressionIgnoresMarks A B }
-{}
+{
+    expression_ignores_marks::<Span, ()>();
+}

@@ -60,4 +60,5 @@ Grows more o o' = Keeps more o.trace o.end o.left o'
 
 -- With more fuel and more answers a trace only grows, and an end other than cut stays.
 abbrev pub RunsGrow : Type 0 → Type 0 → Type 0 → Type 0 → Type 0
-RunsGrow V E S R = (table : S → Plan V E S R R) (c : S) (n k : ℕ) (vs more : List V) → Grows more (runner table n c vs) (runner table (n + k) c (vs ++ more))
+RunsGrow V E S R = (table : S → Plan V E S R R) (c : S) (n k : ℕ) (vs more : List V)
+    → Grows more (runner table n c vs) (runner table (n + k) c (vs ++ more))

@@ -28,7 +28,8 @@ pub record UnfoldsAt {V E S R : Type 0} (table : S → Plan V E S R R) (X : Worl
   pub begins : (t : List E) → X.begins c t → Begins X (table c) t
 
 -- the same of all calls that are made so, for two programs
-pub record WellTables {V E S R S' R' : Type 0} (Pre : S → Type 0) (Pre' : S' → Type 0) (P : S → Plan V E S R R) (P' : S' → Plan V E S' R' R') (Z : Sides E S R S' R') : Type 0 where
+pub record WellTables {V E S R S' R' : Type 0} (Pre : S → Type 0) (Pre' : S' → Type 0) (P : S
+    → Plan V E S R R) (P' : S' → Plan V E S' R' R') (Z : Sides E S R S' R') : Type 0 where
   pub old_unfolds : (c : S) → Pre c → UnfoldsAt P Z.old_given c
   pub new_folds : (c : S') → Pre' c → FoldsAt P' Z.new_found c
   pub new_unfolds : (c : S') → Pre' c → UnfoldsAt P' Z.new_given c

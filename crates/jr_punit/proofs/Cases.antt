@@ -1,5 +1,7 @@
-pub mod Parts
-pub mod Statements
-pub mod Classes
-pub mod Places
-pub mod NoTree
+pub mod Forms
+pub mod ListStops
+pub mod MemberStops
+pub mod UnitStops
+pub mod NoStatements
+pub mod NoUnit
+pub mod Bytes

@@ -1,146 +1,151 @@
--- What stands over tokens spells them, and its mark is their span.
-use Rattle.std.proofs.Common.{◌≡◌, Bool, true, false, List, [], ◌∷◌, ◌++◌, map, Option, Some, None, sym, ap, ◌∙◌}
+-- Parts that stand one behind the other, and nodes that end.
+use Rattle.std.proofs.Common.{◌≡◌, List, [], ◌∷◌, ◌++◌, Option, Some, None, refl, sym, ap, subst, ◌∙◌, append_assoc}
+use Rattle.std.proofs.lemmas.List.{append-nil}
 use Rattle.jr_text.specs.declared.spans.Span.{Span}
-use Rattle.jr_lex.specs.declared.items.Keyword.TheVariants.{Final, Void}
-use Rattle.jr_lex.specs.declared.items.Symbol.TheVariants.{Semicolon}
-use Rattle.jr_ast.specs.Tree.{Word, TypeName, Exp, Exps}
-use Rattle.jr_ast.specs.StatementTree.{Stmt, local, eval, branch, loop, return, block, sync, empty, Else as Otherwise, no_else, otherwise, Stmts, end, more}
-use Rattle.jr_ast.specs.MemberTree as M
-use Rattle.jr_ast.specs.MemberTree.{Modifier, Param, Class, class, Member, field, method, constructor, inner, Members, Unit as UnitTree}
-use Rattle.jr_ast.specs.Marks.{stmt_mark, class_mark, member_mark}
-use Rattle.jr_pexpr.specs.Tokens.{keyword, symbol, Placed, kinds}
-use Rattle.jr_pexpr.specs.Stands.{Tokens, span_of}
-use Rattle.jr_pexpr.proofs.Standing.{both, alone, type_spells, stands_spells, args_spell}
-use Rattle.jr_punit.specs.StatementSpelling.{final_toks, stmt_toks, else_toks, stmts_toks}
-use Rattle.jr_punit.specs.MemberSpelling.{modifiers_toks, param_toks, more_params_toks, params_toks, init_toks, result_toks, super_toks, extends_toks, class_toks, member_toks, members_toks, more_words_toks, package_toks, classes_toks, unit_toks}
-use Rattle.jr_punit.specs.StatementStands.{StandsFinal, StandsStmt, StandsElse, StandsStmts}
-use Rattle.jr_punit.specs.MemberStands.{StandsModifiers, StandsParam, StandsMoreParams, StandsParams, StandsInit, StandsResult, StandsParentCall, StandsExtends, StandsClass, StandsMember, StandsMembers, StandsMoreWords, StandsPackage, StandClasses, StandsUnit}
+use Rattle.jr_ast.specs.Tree.{Word}
+use Rattle.jr_grammar.specs.Tokens.{Token, word, Placed}
+use Rattle.jr_grammar.specs.Layout.{Layout, token, node, row, Layouts, done, ◌then◌}
+use Rattle.jr_grammar.specs.Stands.{Tokens, first_from, last_to, span_of, IsAlone, InOrder, IsNode, Stands, StandInOrder}
+use Rattle.jr_grammar.specs.ExpressionLayout.{word_layout}
+use Rattle.jr_pexpr.specs.Marked.{join}
 
--- ---- marks
+abbrev pub IsMore : Tokens → Type 0
+IsMore [] = ⊥
+IsMore (i ∷ is) = Unit {0}
 
-pub stmt_stands_mark : (s : Stmt Span) (ps : Tokens) → StandsStmt s ps → stmt_mark s ≡ span_of ps
-stmt_stands_mark (return m None) ps h = h.0
-stmt_stands_mark (return m (Some e)) ps h = h.0
-stmt_stands_mark _ ps h = h.0
+pub more_append : (a b : Tokens) → IsMore a → IsMore (a ++ b)
+more_append [] b h = absurd h
+more_append (i ∷ a) b h = tt
 
-pub modifiers_stand_marks : (xs : List (Modifier Span)) (ps : Tokens) → StandsModifiers xs ps → map (λ (x : Modifier Span). x.mark) xs ≡ map (λ (p : Placed Span). p.mark) ps
-modifiers_stand_marks [] ps h = sym (ap (map (λ (p : Placed Span). p.mark)) h)
-modifiers_stand_marks (x ∷ xs) ps h = (λ n. h.4 n ∷ modifiers_stand_marks xs h.0 h.5 n) ∙ sym (ap (map (λ (p : Placed Span). p.mark)) h.2)
+pub more_after : (a b : Tokens) → IsMore b → IsMore (a ++ b)
+more_after [] b h = h
+more_after (i ∷ a) b h = tt
 
-pub param_stands_mark : (x : Param Span) (ps : Tokens) → StandsParam x ps → x.mark ≡ span_of ps
-param_stands_mark x ps h = h.0
+pub first_from-append : (a b : Tokens) → IsMore a → first_from (a ++ b) ≡ first_from a
+first_from-append [] b h = absurd h
+first_from-append (i ∷ a) b h = refl
 
-pub class_stands_mark : (c : Class Span) (ps : Tokens) → StandsClass c ps → class_mark c ≡ span_of ps
-class_stands_mark (class m ms w parent all) ps h = h.0
+last_to-cons : (i : Placed Span) (b : Tokens) → IsMore b → last_to (i ∷ b) ≡ last_to b
+last_to-cons i [] h = absurd h
+last_to-cons i (j ∷ b) h = refl
 
-pub member_stands_mark : (d : Member Span) (ps : Tokens) → StandsMember d ps → member_mark d ≡ span_of ps
-member_stands_mark (field m ms t w init) ps h = h.0
-member_stands_mark (method m ms t w xs body) ps h = h.0
-member_stands_mark (constructor m ms w xs args body) ps h = h.0
-member_stands_mark (inner m c) ps h = h.0
+pub last_to-append : (a b : Tokens) → IsMore b → last_to (a ++ b) ≡ last_to b
+last_to-append [] b h = refl
+last_to-append (i ∷ a) b h = last_to-cons i (a ++ b) (more_after a b h) ∙ last_to-append a b h
 
--- ---- statements
+pub span_parts : (m n : Span) → m.from ≡ n.from → m.to ≡ n.to → m ≡ n
+span_parts m n p q = λ i. record { from = p i; to = q i }
 
-final_spells : (f : Bool) (ps : Tokens) → StandsFinal f ps → kinds ps ≡ final_toks f
-final_spells true ps h = alone (keyword Final) ps h
-final_spells false ps h = ap kinds h
+-- ---- one behind the other
 
-mutual
-  pub stmt_spells : (s : Stmt Span) (ps : Tokens) → StandsStmt s ps → kinds ps ≡ stmt_toks s
-  stmt_spells (local m f t w e) ps h =
-      ap kinds h.1.6 ∙ both h.1.0 _ _ _ (final_spells f h.1.0 h.1.7) (both h.1.1 _ _ _ (type_spells t h.1.1 h.1.8)
-      (λ n. h.1.9.0 n ∷ h.1.10 n ∷ both h.1.2 (h.1.5 ∷ []) _ _ (stands_spells e h.1.2 h.1.11) (λ n. h.1.12 n ∷ []) n))
-  stmt_spells (eval m e) ps h = ap kinds h.1.2 ∙ both h.1.0 (h.1.1 ∷ []) _ _ (stands_spells e h.1.0 h.1.3) (λ n. h.1.4 n ∷ [])
-  stmt_spells (branch m c first other) ps h =
-      ap kinds h.1.6
-      ∙ (λ n. h.1.7 n ∷ h.1.8 n ∷ both h.1.0 (h.1.5 ∷ (h.1.1 ++ h.1.2)) _ _ (stands_spells c h.1.0 h.1.9) (λ n. h.1.10 n ∷ both h.1.1 h.1.2 _ _ (stmt_spells first h.1.1 h.1.11) (else_spells other h.1.2 h.1.12) n) n)
-  stmt_spells (loop m c body) ps h =
-      ap kinds h.1.5 ∙ (λ n. h.1.6 n ∷ h.1.7 n ∷ both h.1.0 (h.1.4 ∷ h.1.1) _ _ (stands_spells c h.1.0 h.1.8) (λ n. h.1.9 n ∷ stmt_spells body h.1.1 h.1.10 n) n)
-  stmt_spells (return m None) ps h = ap kinds h.1.2 ∙ (λ n. h.1.3 n ∷ h.1.4 n ∷ [])
-  stmt_spells (return m (Some e)) ps h = ap kinds h.1.3 ∙ (λ n. h.1.4 n ∷ both h.1.0 (h.1.2 ∷ []) _ _ (stands_spells e h.1.0 h.1.5) (λ n. h.1.6 n ∷ []) n)
-  stmt_spells (block m body) ps h = ap kinds h.1.3 ∙ (λ n. h.1.4 n ∷ both h.1.0 (h.1.2 ∷ []) _ _ (stmts_spell body h.1.0 h.1.5) (λ n. h.1.6 n ∷ []) n)
-  stmt_spells (sync m e body) ps h =
-      ap kinds h.1.7
-      ∙ (λ n. h.1.8 n ∷ h.1.9 n ∷ both h.1.0 (h.1.4 ∷ h.1.5 ∷ (h.1.1 ++ (h.1.6 ∷ []))) _ _ (stands_spells e h.1.0 h.1.10) (λ n. h.1.11 n ∷ h.1.12 n ∷ both h.1.1 (h.1.6 ∷ []) _ _ (stmts_spell body h.1.1 h.1.13) (λ n. h.1.14 n ∷ []) n) n)
-  stmt_spells (empty m) ps h = alone (symbol Semicolon) ps h.1
+-- a part, and others behind it
+pub behind : {P Q : Tokens → Type 0} (a b : Tokens) → P a → Q b → InOrder P Q (a ++ b)
+behind a b h k = record { front = a; back = b; whole = refl; first = h; rest = k }
 
-  else_spells : (o : Otherwise Span) (ps : Tokens) → StandsElse o ps → kinds ps ≡ else_toks o
-  else_spells no_else ps h = ap kinds h
-  else_spells (otherwise s) ps h = ap kinds h.2 ∙ (λ n. h.3 n ∷ stmt_spells s h.0 h.4 n)
+-- what is behind grows
+pub grow : {P Q R : Tokens → Type 0} {ps : Tokens} (c : Tokens) → InOrder P Q ps → ((b : Tokens) → Q b → R (b ++ c)) → InOrder P R (ps ++ c)
+grow c h f = record { front = h.front; back = h.back ++ c; whole = ap (λ (x : Tokens). x ++ c) h.whole ∙ append_assoc h.front h.back c; first = h.first; rest = f h.back h.rest }
 
-  pub stmts_spell : (ss : Stmts Span) (ps : Tokens) → StandsStmts ss ps → kinds ps ≡ stmts_toks ss
-  stmts_spell end ps h = ap kinds h
-  stmts_spell (more s ss) ps h = ap kinds h.2 ∙ both h.0 h.1 _ _ (stmt_spells s h.0 h.3) (stmts_spell ss h.1 h.4)
+-- what is behind takes what is behind that
+pub absorb : {P Q X R : Tokens → Type 0} {ps : Tokens} → InOrder (λ (b : Tokens). InOrder P Q b) X ps → ((b c : Tokens) → Q b → X c → R (b ++ c)) → InOrder P R ps
+absorb h f = record {
+  front = h.first.front;
+  back = h.first.back ++ h.back;
+  whole = h.whole ∙ ap (λ (x : Tokens). x ++ h.back) h.first.whole ∙ append_assoc h.first.front h.first.back h.back;
+  first = h.first.first;
+  rest = f h.first.back h.back h.first.rest h.rest;
+}
 
--- ---- members and classes
+-- a part in the place of two
+pub joined : (R : Tokens → Type 0) {P Q : Tokens → Type 0} {ps : Tokens} → InOrder P Q ps → ((b c : Tokens) → P b → Q c → R (b ++ c)) → R ps
+joined R h f = subst R (sym h.whole) (f h.front h.back h.first h.rest)
 
-modifiers_spell : (xs : List (Modifier Span)) (ps : Tokens) → StandsModifiers xs ps → kinds ps ≡ modifiers_toks xs
-modifiers_spell [] ps h = ap kinds h
-modifiers_spell (x ∷ xs) ps h = ap kinds h.2 ∙ (λ n. h.3 n ∷ modifiers_spell xs h.0 h.5 n)
+pub mapped : {P Q R : Tokens → Type 0} {ps : Tokens} → InOrder P Q ps → ((b : Tokens) → Q b → R b) → InOrder P R ps
+mapped h f = record { front = h.front; back = h.back; whole = h.whole; first = h.first; rest = f h.back h.rest }
 
-param_spells : (x : Param Span) (ps : Tokens) → StandsParam x ps → kinds ps ≡ param_toks x
-param_spells x ps h =
-    ap kinds h.1.3 ∙ both h.1.0 _ _ _ (final_spells x.is_final h.1.0 h.1.4) (both h.1.1 (h.1.2 ∷ []) _ _ (type_spells x.type h.1.1 h.1.5) (λ n. h.1.6.0 n ∷ []))
+abbrev pub both : Layouts Span → Layouts Span → Layouts Span
+both done ys = ys
+both (x then xs) ys = x then both xs ys
 
-more_params_spell : (xs : List (Param Span)) (ps : Tokens) → StandsMoreParams xs ps → kinds ps ≡ more_params_toks xs
-more_params_spell [] ps h = ap kinds h
-more_params_spell (x ∷ xs) ps h = ap kinds h.3 ∙ (λ n. h.4 n ∷ both h.0 h.1 _ _ (param_spells x h.0 h.5) (more_params_spell xs h.1 h.6) n)
+pub stand_both : (xs ys : Layouts Span) (a b : Tokens) → StandInOrder xs a → StandInOrder ys b → StandInOrder (both xs ys) (a ++ b)
+stand_both done ys a b h k = subst (λ (c : Tokens). StandInOrder ys (c ++ b)) (sym h) k
+stand_both (x then xs) ys a b h k = grow b h (λ c g. stand_both xs ys c b g k)
 
-params_spell : (xs : List (Param Span)) (ps : Tokens) → StandsParams xs ps → kinds ps ≡ params_toks xs
-params_spell [] ps h = ap kinds h
-params_spell (x ∷ xs) ps h = ap kinds h.2 ∙ both h.0 h.1 _ _ (param_spells x h.0 h.3) (more_params_spell xs h.1 h.4)
+pub stand_token : (t : Token) (i : Placed Span) → i.token ≡ t → Stands (token t) (i ∷ [])
+stand_token t i h = record { placed = i; alone = refl; is = h }
 
-init_spells : (o : Option (Exp Span)) (ps : Tokens) → StandsInit o ps → kinds ps ≡ init_toks o
-init_spells None ps h = ap kinds h
-init_spells (Some e) ps h = ap kinds h.2 ∙ (λ n. h.3 n ∷ stands_spells e h.0 h.4 n)
+pub stand_one : (t : Token) (i : Placed Span) → i.token ≡ t → StandInOrder (token t then done) (i ∷ [])
+stand_one t i h = behind (i ∷ []) [] (stand_token t i h) refl
 
-result_spells : (o : Option (TypeName Span)) (ps : Tokens) → StandsResult o ps → kinds ps ≡ result_toks o
-result_spells None ps h = alone (keyword Void) ps h
-result_spells (Some t) ps h = type_spells t ps h
+pub stand_last : (x : Layout Span) (a : Tokens) → Stands x a → StandInOrder (x then done) a
+stand_last x a h = record { front = a; back = []; whole = sym (append-nil a); first = h; rest = refl }
 
-parent_call_spells : (o : Option (Exps Span)) (ps : Tokens) → StandsParentCall o ps → kinds ps ≡ super_toks o
-parent_call_spells None ps h = ap kinds h
-parent_call_spells (Some es) ps h = ap kinds h.5 ∙ (λ n. h.6 n ∷ h.7 n ∷ both h.0 (h.3 ∷ h.4 ∷ []) _ _ (args_spell es h.0 h.8) (λ n. h.9 n ∷ h.10 n ∷ []) n)
+pub last_stands : (x : Layout Span) (a : Tokens) → StandInOrder (x then done) a → Stands x a
+last_stands x a h = subst (Stands x) (sym (h.whole ∙ ap (λ (b : Tokens). h.front ++ b) h.rest ∙ append-nil h.front)) h.first
 
-extends_spells : (o : Option (TypeName Span)) (ps : Tokens) → StandsExtends o ps → kinds ps ≡ extends_toks o
-extends_spells None ps h = ap kinds h
-extends_spells (Some t) ps h = ap kinds h.2 ∙ (λ n. h.3 n ∷ type_spells t h.0 h.4 n)
+pub stand_word : (w : Word Span) (i : Placed Span) → i.token ≡ word w.text → w.mark ≡ i.mark → Stands (word_layout w) (i ∷ [])
+stand_word w i h k = record { mark = k; parts = stand_one (word w.text) i h }
 
-mutual
-  pub class_spells : (c : Class Span) (ps : Tokens) → StandsClass c ps → kinds ps ≡ class_toks c
-  class_spells (class m ms w parent all) ps h =
-      ap kinds h.1.7 ∙ both h.1.0 _ _ _ (modifiers_spell ms h.1.0 h.1.8) (λ n. h.1.9 n ∷ h.1.10.0 n ∷ both h.1.1 (h.1.5 ∷ (h.1.2 ++ (h.1.6 ∷ []))) _ _ (extends_spells parent h.1.1 h.1.11)
-      (λ n. h.1.12 n ∷ both h.1.2 (h.1.6 ∷ []) _ _ (members_spell all h.1.2 h.1.13) (λ n. h.1.14 n ∷ []) n) n)
+-- ---- nodes
 
-  pub member_spells : (d : Member Span) (ps : Tokens) → StandsMember d ps → kinds ps ≡ member_toks d
-  member_spells (field m ms t w init) ps h =
-      ap kinds h.1.5 ∙ both h.1.0 _ _ _ (modifiers_spell ms h.1.0 h.1.6) (both h.1.1 _ _ _ (type_spells t h.1.1 h.1.7)
-      (λ n. h.1.8.0 n ∷ both h.1.2 (h.1.4 ∷ []) _ _ (init_spells init h.1.2 h.1.9) (λ n. h.1.10 n ∷ []) n))
-  member_spells (method m ms t w xs body) ps h =
-      ap kinds h.1.9 ∙ both h.1.0 _ _ _ (modifiers_spell ms h.1.0 h.1.10) (both h.1.1 _ _ _ (result_spells t h.1.1 h.1.11) (λ n. h.1.12.0 n ∷ h.1.13 n ∷ both h.1.2 (h.1.6 ∷ h.1.7 ∷ (h.1.3 ++ (h.1.8 ∷ []))) _ _ (params_spell xs h.1.2 h.1.14)
-      (λ n. h.1.15 n ∷ h.1.16 n ∷ both h.1.3 (h.1.8 ∷ []) _ _ (stmts_spell body h.1.3 h.1.17) (λ n. h.1.18 n ∷ []) n) n))
-  member_spells (constructor m ms w xs args body) ps h =
-      ap kinds h.1.9 ∙ both h.1.0 _ _ _ (modifiers_spell ms h.1.0 h.1.10) (λ n. h.1.11.0 n ∷ h.1.12 n ∷ both h.1.1 (h.1.6 ∷ h.1.7 ∷ (h.1.2 ++ (h.1.3 ++ (h.1.8 ∷ [])))) _ _ (params_spell xs h.1.1 h.1.13)
-      (λ n. h.1.14 n ∷ h.1.15 n ∷ both h.1.2 (h.1.3 ++ (h.1.8 ∷ [])) _ _ (parent_call_spells args h.1.2 h.1.16) (both h.1.3 (h.1.8 ∷ []) _ _ (stmts_spell body h.1.3 h.1.17) (λ n. h.1.18 n ∷ [])) n) n)
-  member_spells (inner m c) ps h = class_spells c ps h.1
+-- a node, over some tokens
+pub record Whole (x : Layout Span) (m : Span) (ps : Tokens) : Type 0 where
+  pub stands : Stands x ps
+  pub more : IsMore ps
+  pub mark : m ≡ span_of ps
 
-  pub members_spell : (ds : Members Span) (ps : Tokens) → StandsMembers ds ps → kinds ps ≡ members_toks ds
-  members_spell M.end ps h = ap kinds h
-  members_spell (M.more d ds) ps h = ap kinds h.2 ∙ both h.0 h.1 _ _ (member_spells d h.0 h.3) (members_spell ds h.1 h.4)
+-- what a node has so far, where it began at m
+pub record Open (m : Span) (xs : Layouts Span) (ps : Tokens) : Type 0 where
+  pub parts : StandInOrder xs ps
+  pub more : IsMore ps
+  pub from : m.from ≡ first_from ps
 
--- ---- units
+pub open_one : (t : Token) (i : Placed Span) → i.token ≡ t → Open i.mark (token t then done) (i ∷ [])
+open_one t i h = record { parts = stand_one t i h; more = tt; from = refl }
 
-more_words_spell : (ws : List (Word Span)) (ps : Tokens) → StandsMoreWords ws ps → kinds ps ≡ more_words_toks ws
-more_words_spell [] ps h = ap kinds h
-more_words_spell (w ∷ ws) ps h = ap kinds h.3 ∙ (λ n. h.4 n ∷ h.5.0 n ∷ more_words_spell ws h.0 h.6 n)
+pub open_more : {m : Span} {xs : Layouts Span} {ps : Tokens} (ys : Layouts Span) (c : Tokens) → Open m xs ps → StandInOrder ys c → Open m (both xs ys) (ps ++ c)
+open_more {xs = xs} {ps = ps} ys c h k = record { parts = stand_both xs ys ps c h.parts k; more = more_append ps c h.more; from = h.from ∙ sym (first_from-append ps c h.more) }
 
-package_spells : (ws : List (Word Span)) (ps : Tokens) → StandsPackage ws ps → kinds ps ≡ package_toks ws
-package_spells [] ps h = ap kinds h
-package_spells (w ∷ ws) ps h = ap kinds h.4 ∙ (λ n. h.5 n ∷ h.6.0 n ∷ both h.0 (h.3 ∷ []) _ _ (more_words_spell ws h.0 h.7) (λ n. h.8 n ∷ []) n)
+pub open_end : {m : Span} {xs : Layouts Span} {ps : Tokens} (n : Span) (ys : Layouts Span) (c : Tokens) → Open m xs ps → StandInOrder ys c → IsMore c → n.to ≡ last_to c
+    → Whole (node (join m n) (both xs ys)) (join m n) (ps ++ c)
+open_end {m = m} {xs = xs} {ps = ps} n ys c h k o e =
+    let s : join m n ≡ span_of (ps ++ c) = span_parts _ _ (h.from ∙ sym (first_from-append ps c h.more)) (e ∙ sym (last_to-append ps c o)) in
+    record { stands = record { mark = s; parts = stand_both xs ys ps c h.parts k }; more = more_append ps c h.more; mark = s }
 
-classes_spell : (cs : List (Class Span)) (ps : Tokens) → StandClasses cs ps → kinds ps ≡ classes_toks cs
-classes_spell [] ps h = ap kinds h
-classes_spell (c ∷ cs) ps h = ap kinds h.2 ∙ both h.0 h.1 _ _ (class_spells c h.0 h.3) (classes_spell cs h.1 h.4)
+-- ended by a token
+pub open_ended : {m : Span} {xs : Layouts Span} {ps : Tokens} (t : Token) (i : Placed Span) → Open m xs ps → i.token ≡ t → Whole (node (join m i.mark) (both xs (token t then done))) (join m i.mark) (ps ++ (i ∷ []))
+open_ended t i h e = open_end i.mark (token t then done) (i ∷ []) h (stand_one t i e) tt refl
 
-pub unit_spells : (u : UnitTree Span) (ps : Tokens) → StandsUnit u ps → kinds ps ≡ unit_toks u
-unit_spells u ps h = ap kinds h.2 ∙ both h.0 h.1 _ _ (package_spells u.package_name h.0 h.3) (classes_spell u.classes h.1 h.4)
+-- a node of one token
+pub one_whole : (t : Token) (i : Placed Span) → i.token ≡ t → Whole (node i.mark (token t then done)) i.mark (i ∷ [])
+one_whole t i h = record { stands = record { mark = refl; parts = stand_one t i h }; more = tt; mark = refl }
+
+-- a whole node begins another
+pub whole_open : {x : Layout Span} {m : Span} {ps : Tokens} → Whole x m ps → Open m (x then done) ps
+whole_open {x = x} {ps = ps} h = record { parts = stand_last x ps h.stands; more = h.more; from = ap (λ (s : Span). s.from) h.mark }
+
+-- what has been read so far is all of the node
+pub open_closed : {m : Span} {xs : Layouts Span} {ps : Tokens} (n : Span) → Open m xs ps → n.to ≡ last_to ps → Whole (node (join m n) xs) (join m n) ps
+open_closed {m = m} {ps = ps} n h e = let s : join m n ≡ span_of ps = span_parts _ _ h.from e in record { stands = record { mark = s; parts = h.parts }; more = h.more; mark = s }
+
+-- what a node ends with, up to the token whose mark is n
+pub record Ended (n : Span) (ys : Layouts Span) (c : Tokens) : Type 0 where
+  pub parts : StandInOrder ys c
+  pub more : IsMore c
+  pub to : n.to ≡ last_to c
+
+pub ended_at : {ys : Layouts Span} (i : Placed Span) (b : Tokens) → StandInOrder ys (b ++ (i ∷ [])) → Ended i.mark ys (b ++ (i ∷ []))
+ended_at i b h = record { parts = h; more = more_after b (i ∷ []) tt; to = sym (last_to-append b (i ∷ []) tt) }
+
+pub closes : {m : Span} {xs : Layouts Span} {ps : Tokens} (n : Span) (ys : Layouts Span) → InOrder (Open m xs) (Ended n ys) ps → Whole (node (join m n) (both xs ys)) (join m n) ps
+closes {m = m} {xs = xs} n ys h = joined (Whole (node (join m n) (both xs ys)) (join m n)) h (λ b c f g. open_end n ys c f g.parts g.more g.to)
+
+pub opens : {m : Span} {xs : Layouts Span} {ps : Tokens} (ys : Layouts Span) → InOrder (Open m xs) (StandInOrder ys) ps → Open m (both xs ys) ps
+opens {m = m} {xs = xs} ys h = joined (Open m (both xs ys)) h (λ b c f g. open_more ys c f g)
+
+pub first_mapped : {P Q R : Tokens → Type 0} {ps : Tokens} → InOrder P Q ps → ((b : Tokens) → P b → R b) → InOrder R Q ps
+first_mapped h f = record { front = h.front; back = h.back; whole = h.whole; first = f h.front h.first; rest = h.rest }
+
+-- and nothing behind it
+pub alone : {P Q : Tokens → Type 0} {ps : Tokens} → P ps → Q [] → InOrder P Q ps
+alone {ps = ps} h k = record { front = ps; back = []; whole = sym (append-nil ps); first = h; rest = k }

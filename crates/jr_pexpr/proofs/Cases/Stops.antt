@@ -4,10 +4,11 @@ use Rattle.std.specs.Prelude.{codes, MatchOption}
 use Rattle.jr_lex.specs.declared.items.Keyword.TheVariants.{Class, New, Super}
 use Rattle.jr_lex.specs.declared.items.Symbol.TheVariants.{CloseParen, Comma, Dot, Equals, Minus as MinusSign, OpenParen, PlusPlus, Plus as PlusSign, Semicolon}
 use Rattle.jr_ast.specs.Tree.{Exp}
-use Rattle.jr_pexpr.specs.Tokens.{Token, word, keyword, integer, symbol}
-use Rattle.jr_pexpr.specs.Bare.{Bare}
+use Rattle.jr_grammar.specs.Tokens.{Token, word, keyword, integer, symbol}
+use Rattle.jr_grammar.specs.Bare.{Bare}
 use Rattle.jr_pexpr.specs.Machine.{begun, extended}
-use Rattle.jr_pexpr.specs.Expressions.{HasNoExpression, HasNoStatementExpression, IsLongestExpression, IsLongestStatementExpression, IsExpressionStop, IsStatementExpressionStop, expression_length, expression_stop, statement_expression_length, statement_expression_stop}
+use Rattle.jr_grammar.specs.Expressions.{HasNoExpression, HasNoStatementExpression, IsLongestExpression, IsLongestStatementExpression, IsExpressionStop, IsStatementExpressionStop}
+use Rattle.jr_pexpr.specs.Expressions.{expression_length, expression_stop, statement_expression_length, statement_expression_stop}
 use Rattle.jr_pexpr.proofs.Marks.{length_is_longest, statement_length_is_longest, stop_is_exact, statement_stop_is_exact}
 
 expression_none : (ts : List Token) → expression_length ts ≡ None → HasNoExpression ts

@@ -1,0 +1,14 @@
+pub mod Forms
+pub mod Scanned
+pub mod Texts
+pub mod Operators
+pub mod Primaries
+pub mod StatementExpressions
+pub mod SideConditions
+pub mod Places
+pub mod Parts
+pub mod Statements
+pub mod Classes
+pub mod UnitPlaces
+pub mod Widths
+pub mod Lexicals

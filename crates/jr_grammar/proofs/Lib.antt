@@ -1,0 +1,14 @@
+pub mod OneAnswer
+pub mod Layouts
+pub mod ExpressionLayouts
+pub mod StatementLayouts
+pub mod MemberLayouts
+pub mod ExpressionMarks
+pub mod StatementMarks
+pub mod MemberMarks
+pub mod Marked
+pub mod Lexical
+pub mod Remarked
+pub mod RemarkedShape
+pub mod Reading
+pub mod Cases

@@ -1,5 +1,0 @@
-use Rattle.jr_pexpr.proofs.Remarked as Remarked
-use Rattle.jr_pexpr.proofs.laws.expression_ignores_marks.Goals as goal
-
-pub returns : goal.returns
-returns g c = Remarked.expression_ignores_marks

@@ -1,0 +1,4 @@
+pub mod Forms
+pub mod Expressions
+pub mod Statements
+pub mod Members
