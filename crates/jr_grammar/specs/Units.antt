@@ -90,6 +90,15 @@ pub record IsMarkedStatement (tokens : Tokens) (stmt : Stmt Span) : Type 0 where
   pub spells : stmt_toks stmt ≡ kinds tokens
   pub marks : Stands (stmt_layout stmt) tokens
 
+-- the tokens are the statements, one behind the other
+pub record AreStatements {A : Type 0} (tokens : List Token) (stmts : Stmts A) : Type 0 where
+  pub shaped : StmtsShaped stmts
+  pub spells : stmts_toks stmts ≡ tokens
+
+-- the tokens are no statements
+abbrev pub AreNoStatements : List Token → Type 0
+AreNoStatements tokens = (stmts : Stmts Bare) → AreStatements tokens stmts → ⊥
+
 -- The tokens are the statements, and each mark is the span of its node's tokens.
 pub record AreMarkedStatements (tokens : Tokens) (stmts : Stmts Span) : Type 0 where
   pub shaped : StmtsShaped stmts

@@ -8,7 +8,6 @@ use Rattle.jr_grammar.specs.Tokens.{Token, Placed, kinds}
 use Rattle.jr_grammar.specs.Spelling.{toks}
 use Rattle.jr_grammar.specs.Shape.{Shaped, ShapedStatement}
 use Rattle.jr_grammar.specs.Stands.{Tokens}
-use Rattle.jr_pexpr.proofs.Placed.{Stands, laid_out}
 use Rattle.jr_pexpr.specs.Machine.{State, want, have, whole_of, reduced}
 use Rattle.jr_grammar.specs.Bare.{Bare, no_mark, bare}
 use Rattle.jr_pexpr.specs.BareMachine.{bare_state, bare_step, bare_whole, bare_run, bare_statement_step, bare_statement_whole, bare_statement_run}
@@ -22,7 +21,7 @@ use Rattle.jr_grammar.specs.IgnoresMarks.{ExpressionIgnoresMarks}
 use Rattle.jr_grammar.specs.MarksAreOne.{MarksAreOne}
 use Rattle.jr_pexpr.proofs.EraseSteps.{step-bare, statement_step-bare, whole-bare, statement_whole-bare}
 use Rattle.jr_pexpr.proofs.Maps.{run_map, stop_map, longest_map}
-use Rattle.jr_pexpr.proofs.Placing.{StandsState}
+use Rattle.jr_pexpr.proofs.Placing.{Stands, StandsState}
 use Rattle.jr_pexpr.proofs.Places.{StandsSome, reduced_stands, step_stands}
 use Rattle.jr_pexpr.specs.Machine.{kept_open, is_open, frames_of, is_statement, kept_statement}
 use Rattle.std.proofs.Common.{true, cond, arith}
@@ -102,13 +101,16 @@ state_stands _ e ps h k = absurd cc
 pub marks_stand : (ps : Tokens) (s : State Span) (e : Exp Span) → span_run (want []) ps ≡ Some s → span_whole s ≡ Some e → Stands e ps
 marks_stand ps s e h k = state_stands s e ps (at_some (span_run (want []) ps) s (λ (n : State Span). StandsState n ps) h (run_stands (want []) [] ps refl)) k
 
-bare_run_of : (ps : Tokens) (s : State Span) → span_run (want []) ps ≡ Some s → bare_run (want []) (kinds ps) ≡ Some (bare_state s)
+pub bare_run_of : (ps : Tokens) (s : State Span) → span_run (want []) ps ≡ Some s → bare_run (want []) (kinds ps) ≡ Some (bare_state s)
 bare_run_of ps s h =
     sym (run_map (State Span) (Placed Span) (Exp Span) (State Bare) Token (Exp Bare) span_step span_whole bare_step bare_whole bare_state (λ p. p.token) bare (λ s p. step-bare join s p.mark p.token) (λ s. whole-bare join s) (want []) ps)
     ∙ ap (option_map bare_state) h
 
-bare_whole_of : (s : State Span) (e : Exp Span) → span_whole s ≡ Some e → bare_whole (bare_state s) ≡ Some (bare e)
+pub bare_whole_of : (s : State Span) (e : Exp Span) → span_whole s ≡ Some e → bare_whole (bare_state s) ≡ Some (bare e)
 bare_whole_of s e h = sym (whole-bare join s) ∙ ap (option_map bare) h
+
+pub bare_statement_whole_of : (s : State Span) (e : Exp Span) → span_statement_whole s ≡ Some e → bare_statement_whole (bare_state s) ≡ Some (bare e)
+bare_statement_whole_of s e h = sym (statement_whole-bare join s) ∙ ap (option_map bare) h
 
 -- what holds of trees whatever their marks
 abbrev pub Ignores : Type 0
@@ -120,7 +122,7 @@ no_span = no_mark
 builds_expression : Ignores → (ps : Tokens) (s : State Span) (e : Exp Span) → span_run (want []) ps ≡ Some s → span_whole s ≡ Some e → IsMarkedExpression ps e
 builds_expression g ps s e h k =
     let q = sound (kinds ps) (bare_state s) (bare e) (bare_run_of ps s h) (bare_whole_of s e k) in
-    record { shaped = (g.shape no_span e).0 q.0; spells = sym (g.spelling no_span e) ∙ q.1; marks = laid_out e ps (marks_stand ps s e h k) }
+    record { shaped = (g.shape no_span e).0 q.0; spells = sym (g.spelling no_span e) ∙ q.1; marks = (marks_stand ps s e h k).0 }
 
 -- ---- statement expressions: a run of the one is a run of the other
 
@@ -132,14 +134,14 @@ kept_some (Some s) m e = go (is_open (frames_of s)) e
     go true k = k
     go false k = absurd cc
 
-run_kept : (s : State Span) (ps : Tokens) (n : State Span) → span_statement_run s ps ≡ Some n → span_run s ps ≡ Some n
+pub run_kept : (s : State Span) (ps : Tokens) (n : State Span) → span_statement_run s ps ≡ Some n → span_run s ps ≡ Some n
 run_kept s [] n e = e
 run_kept s (i ∷ ps) n e = go (λ m k. run_kept m ps n k) (both_some (λ (m : State Span). span_statement_run m ps) (span_statement_step s i) n e)
   where
     go : ((m : State Span) → span_statement_run m ps ≡ Some n → span_run m ps ≡ Some n) → (m : State Span) × (span_statement_step s i ≡ Some m) × (span_statement_run m ps ≡ Some n) → span_run s (i ∷ ps) ≡ Some n
     go f b = ap (option_and_then (λ (m : State Span). span_run m ps)) (kept_some (span_step s i) b.0 b.1) ∙ f b.0 b.2
 
-kept_whole : (o : Option (Exp Span)) (e : Exp Span) → kept_statement o ≡ Some e → o ≡ Some e
+pub kept_whole : (o : Option (Exp Span)) (e : Exp Span) → kept_statement o ≡ Some e → o ≡ Some e
 kept_whole None e h = absurd cc
 kept_whole (Some d) e h = go (is_statement d) h
   where
@@ -147,7 +149,7 @@ kept_whole (Some d) e h = go (is_statement d) h
     go true q = q
     go false q = absurd cc
 
-bare_statement_run_of : (ps : Tokens) (s : State Span) → span_statement_run (want []) ps ≡ Some s → bare_statement_run (want []) (kinds ps) ≡ Some (bare_state s)
+pub bare_statement_run_of : (ps : Tokens) (s : State Span) → span_statement_run (want []) ps ≡ Some s → bare_statement_run (want []) (kinds ps) ≡ Some (bare_state s)
 bare_statement_run_of ps s h =
     sym (run_map (State Span) (Placed Span) (Exp Span) (State Bare) Token (Exp Bare) span_statement_step span_statement_whole bare_statement_step bare_statement_whole bare_state (λ p. p.token) bare (λ s p. statement_step-bare join s p.mark p.token)
     (λ s. statement_whole-bare join s) (want []) ps)
@@ -159,7 +161,7 @@ builds_statement g ps s e h k =
     record {
       shaped = (g.statement_shape no_span e).0 q.0;
       spells = sym (g.spelling no_span e) ∙ q.1;
-      marks = laid_out e ps (marks_stand ps s e (run_kept (want []) ps s h) (kept_whole (span_whole s) e k));
+      marks = (marks_stand ps s e (run_kept (want []) ps s h) (kept_whole (span_whole s) e k)).0;
     }
 
 pub builds_marked : Ignores → BuildsMarked

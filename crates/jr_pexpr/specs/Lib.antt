@@ -3,4 +3,14 @@ pub mod Machine
 pub mod BareMachine
 pub mod Marked
 pub mod Runs
+pub mod TokenView
+pub mod PieceView
+pub mod FrameView
+pub mod Stacks
+pub mod StackView
+pub mod StateView
+pub mod Ended
 pub mod Expressions
+pub mod Parsing
+pub mod Walks
+pub mod Rules

@@ -1,1 +1,7 @@
-pub mod NoTree
+pub mod Forms
+pub mod ListStops
+pub mod MemberStops
+pub mod UnitStops
+pub mod NoStatements
+pub mod NoUnit
+pub mod Bytes

@@ -1,7 +1,7 @@
 -- The definitions at worked examples.
 use Rattle.std.proofs.Common.{◌≡◌, true, false, [], ◌∷◌, refl, inr, arith}
 use Rattle.std.specs.FinMap.{empty}
-use Rattle.jr_shelf.specs.Counts.{Rose, raised, next_number, fails_next, greatest_count}
+use Rattle.jr_shelf.specs.Counts.{Rose, one_more, next_number, fails_next, greatest_count}
 use Rattle.jr_shelf.specs.Files.{names_differ}
 use Rattle.jr_shelf.specs.MemoryState.{new_state, store_fails}
 use Rattle.jr_shelf.specs.SinkState.{new_sink, put_fails}
@@ -13,10 +13,10 @@ stays rose = omega arith
 stays_at_greatest : Rose greatest_count greatest_count
 stays_at_greatest = inr refl
 
-raised_once : raised 3 ≡ 4
+raised_once : one_more 3 ≡ 4
 raised_once = refl
 
-raised_at_greatest : raised greatest_count ≡ greatest_count
+raised_at_greatest : one_more greatest_count ≡ greatest_count
 raised_at_greatest = refl
 
 -- calls are numbered from 1, and the number stays at the greatest u32

@@ -2,7 +2,7 @@
 use Rattle.std.specs.Prelude.{ℕ, Option, Some, Result, Ok, Err, List}
 use Rattle.jr_shelf.specs.declared.faults.FetchFault.{FetchFault}
 use Rattle.jr_shelf.specs.declared.faults.FetchFault.TheVariants.{Failed, TooLong, Memory}
-use Rattle.jr_shelf.specs.Counts.{raised}
+use Rattle.jr_shelf.specs.Counts.{one_more}
 
 -- a fact where the fetch answered `Failed`
 abbrev pub OnFailed : {T : Type 0} → Result T FetchFault → Type 0 → Type 0
@@ -25,6 +25,13 @@ OnMemory (Err Failed) P = Unit {0}
 OnMemory (Err TooLong) P = Unit {0}
 OnMemory (Err Memory) P = P
 
+-- a fact where the fetch didn't answer `Failed`
+abbrev pub UnlessFailed : {T : Type 0} → Result T FetchFault → Type 0 → Type 0
+UnlessFailed (Ok bytes) P = P
+UnlessFailed (Err Failed) P = Unit {0}
+UnlessFailed (Err TooLong) P = P
+UnlessFailed (Err Memory) P = P
+
 -- the fetch answered `Failed`, or found no memory
 abbrev pub IsFailedOrMemory : {T : Type 0} → Result T FetchFault → Type 0
 IsFailedOrMemory (Ok bytes) = ⊥
@@ -42,6 +49,6 @@ missed_after (Err Memory) name before = before
 -- how many faults a shelf of real files counts, once a fetch gave this answer: one more exactly after `Failed`
 abbrev pub faults_after : {T : Type 0} → Result T FetchFault → ℕ → ℕ
 faults_after (Ok bytes) before = before
-faults_after (Err Failed) before = raised before
+faults_after (Err Failed) before = one_more before
 faults_after (Err TooLong) before = before
 faults_after (Err Memory) before = before

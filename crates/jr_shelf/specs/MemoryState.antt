@@ -4,7 +4,7 @@ use Rattle.std.specs.FinMap as map
 use Rattle.jr_shelf.specs.declared.faults.FetchFault.{FetchFault}
 use Rattle.jr_shelf.specs.declared.faults.FetchFault.TheVariants.{Failed, TooLong, Memory}
 use Rattle.jr_shelf.specs.Limits.{file_limit, store_limit}
-use Rattle.jr_shelf.specs.Counts.{raised, next_number, fails_next}
+use Rattle.jr_shelf.specs.Counts.{one_more, next_number, fails_next}
 use Rattle.jr_shelf.specs.Shelf.{Files}
 
 pub record MemoryState : Type 0 where
@@ -41,8 +41,8 @@ FetchMayGive state name (Err Memory) = Unit {0}
 
 -- what a fetch of this name leaves, by its answer
 abbrev pub after_fetch : {T : Type 0} → MemoryState → List ℕ → Result T FetchFault → MemoryState
-after_fetch state name (Ok bytes) = record state { number = next_number state.number; served = raised state.served }
-after_fetch state name (Err Failed) = record state { number = next_number state.number; faults = raised state.faults; missed = Some name }
+after_fetch state name (Ok bytes) = record state { number = next_number state.number; served = one_more state.served }
+after_fetch state name (Err Failed) = record state { number = next_number state.number; faults = one_more state.faults; missed = Some name }
 after_fetch state name (Err TooLong) = record state { number = next_number state.number }
 after_fetch state name (Err Memory) = state
 
@@ -54,9 +54,9 @@ store_fails state name bytes = fails_next state.failing state.number || nat_lt s
 abbrev pub after_store : {T E : Type 0} → MemoryState → List ℕ → List ℕ → Result T E → MemoryState
 after_store state name bytes (Ok done) = record state {
   held = map.insert state.held name bytes;
-  served = raised state.served;
+  served = one_more state.served;
   number = next_number state.number;
   room = state.room - (length name + length bytes);
   stores = state.stores + 1;
 }
-after_store state name bytes (Err fault) = record state { number = next_number state.number; faults = raised state.faults }
+after_store state name bytes (Err fault) = record state { number = next_number state.number; faults = one_more state.faults }

@@ -1,6 +1,6 @@
 -- A sink in memory, as its callers see it: which of its puts fail, and what each put leaves.
 use Rattle.std.specs.Prelude.{ℕ, ◌-◌, ◌||◌, ◌++◌, Bool, List, [], length, nat_lt, Result, Ok, Err}
-use Rattle.jr_shelf.specs.Counts.{raised, next_number, fails_next}
+use Rattle.jr_shelf.specs.Counts.{one_more, next_number, fails_next}
 
 pub record SinkState : Type 0 where
   -- what it took, in order
@@ -25,4 +25,4 @@ put_fails state bytes = fails_next state.failing state.number || nat_lt state.ro
 -- what a put leaves, by its answer
 abbrev pub after_put : {T E : Type 0} → SinkState → List ℕ → Result T E → SinkState
 after_put state bytes (Ok done) = record state { taken = state.taken ++ bytes; number = next_number state.number; room = state.room - length bytes }
-after_put state bytes (Err fault) = record state { number = next_number state.number; faults = raised state.faults }
+after_put state bytes (Err fault) = record state { number = next_number state.number; faults = one_more state.faults }

@@ -5,11 +5,12 @@ use Rattle.std.proofs.lemmas.Str.{IsCharBoundary-at_seam}
 use Rattle.jr_text.specs.declared.spans.Span.{Span}
 use Rattle.jr_lex.specs.declared.items.Item.{Item}
 use Rattle.jr_lex.specs.Lexes.{Lexes, span_of}
-use Rattle.jr_small.specs.Placed.{IsCut, AreItemsFrom}
+use Rattle.jr_text.specs.Spans.{CanCut}
+use Rattle.jr_small.specs.Placed.{AreItemsFrom}
 use Rattle.jr_small.proofs.AgainItems.{Tiled, tiled_text, lexes_tiled}
 
 -- a piece of the text between two others can be cut out
-piece_cut : (p front rest : List ℕ) → IsUtf8 (front ++ rest) → IsUtf8 rest → IsCut (p ++ (front ++ rest)) (span_of (length p) (length p + length front))
+piece_cut : (p front rest : List ℕ) → IsUtf8 (front ++ rest) → IsUtf8 rest → CanCut (p ++ (front ++ rest)) (span_of (length p) (length p + length front))
 piece_cut p front rest u r =
     let text = p ++ (front ++ rest) in
     let start : IsCharBoundary text (length p) = IsCharBoundary-at_seam text p (front ++ rest) refl u in
@@ -28,7 +29,7 @@ items_from (item ∷ items) p bytes t u =
     let further : Tiled (length (p ++ front)) rest items = subst (λ (n : ℕ). Tiled n rest items) (sym (length-append p front)) t.4 in
     let later = subst (λ (text : List ℕ). AreItemsFrom text (length (p ++ front)) items) (append_assoc p front rest ∙ sym whole) (items_from items (p ++ front) rest further utf8_rest) in (
       let starts : item.span.from ≡ length p = ap (λ (s : Span). s.from) place in omega arith,
-      subst (λ (text : List ℕ). IsCut text item.span) (sym whole) (subst (IsCut (p ++ (front ++ rest))) (sym place) (piece_cut p front rest utf8_all utf8_rest)),
+      subst (λ (text : List ℕ). CanCut text item.span) (sym whole) (subst (CanCut (p ++ (front ++ rest))) (sym place) (piece_cut p front rest utf8_all utf8_rest)),
       subst (λ (n : ℕ). AreItemsFrom (p ++ bytes) n items) (length-append p front ∙ sym (ap (λ (s : Span). s.to) place)) later,
     )
 

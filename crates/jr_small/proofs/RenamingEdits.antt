@@ -13,7 +13,7 @@ use Rattle.jr_small.specs.declared.occurrences.Role.{Role}
 use Rattle.jr_small.specs.declared.occurrences.Occurrence as raw
 use Rattle.jr_small.specs.Source.{Name}
 use Rattle.jr_small.specs.Occurrence.{Occurrence}
-use Rattle.jr_small.specs.Placed.{IsCut, ArePlaced}
+use Rattle.jr_small.specs.Placed.{ArePlaced}
 use Rattle.jr_small.specs.Renaming.{is_behind, is_plain_behind, is_own_name, with_text, with_qualifier, renamed_at, changed_from, renamed_list}
 use Rattle.jr_small.specs.Answer.{spelling_of, AreEditsOf}
 use Rattle.jr_small.specs.Changes.{AreAscending, replacement_at, AreRenamingEdits}
@@ -159,7 +159,7 @@ one : (P : Entry → Type 0) (e : Entry) → P e → All P (e ∷ [])
 one P e p zero d h = p
 one P e p (suc k) d h = absurd (omega arith)
 
-length_of_name : (text : List ℕ) (span : Span) → IsCut text span → span.to ≡ span.from + length (slice_range text span.from span.to)
+length_of_name : (text : List ℕ) (span : Span) → CanCut text span → span.to ≡ span.from + length (slice_range text span.from span.to)
 length_of_name text span c =
     let a = length-take (span.to - span.from) (drop span.from text) in
     let b = length-drop span.from text in
@@ -173,16 +173,15 @@ pub replaced_one : (text : List ℕ) (all : List raw.Occurrence) (d : ℕ) (name
 replaced_one text all d name n es new h placed ascending plain ne a e =
     let o = get_or all n nobody in
     let entry = next_entry es o.name new in
-    let cut : IsCut text o.name = (placed n nobody h).name in
+    let cut : CanCut text o.name = (placed n nobody h).name in
     let r = respelled (at text all d) d name (at text all 0).name.text n (at text all n) new plain ne (λ (s : n ≡ d). ap (at text all) s) e in
     let replaces : Replaces (at text all n) (new_at text all d name n (at text all n)) entry = record { differs = r.differs; from = refl; to = length_of_name text o.name cut; text = r.is_text } in
-    let can_cut : CanCut text o.name = record { ordered = cut.ordered; within = cut.within; start = cut.start; stop = cut.stop } in
     record {
       made = more_made text all d name n (with_last es entry) h (replaced_more (front text all n) _ es (at text all n) _ entry a.made replaces);
       behind = λ j l w.
           let ends : o.name.to ≤ (get_or all j nobody).name.from = ascending n j o (get_or all j nobody) (omega arith) (slice_get-get_or all n nobody h) (slice_get-get_or all j nobody w) in
           All-append (λ (x : Entry). x.span.to ≤ (get_or all j nobody).name.from) es (entry ∷ []) (a.behind j (omega arith) w) (one (λ (x : Entry). x.span.to ≤ (get_or all j nobody).name.from) entry ends);
-      fits = All-append (λ (x : Entry). CanCut text x.span) es (entry ∷ []) a.fits (one (λ (x : Entry). CanCut text x.span) entry can_cut);
+      fits = All-append (λ (x : Entry). CanCut text x.span) es (entry ∷ []) a.fits (one (λ (x : Entry). CanCut text x.span) entry cut);
     }
 
 -- ---- the answer

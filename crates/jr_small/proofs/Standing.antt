@@ -4,7 +4,8 @@ use Rattle.std.specs.Prelude.{IfSome, Vec}
 use Rattle.std.proofs.lemmas.List.Elements.{All-append, All-cons, All-nil, All-pop}
 use Rattle.jr_text.specs.declared.spans.Span.{Span}
 use Rattle.jr_small.specs.declared.occurrences.Occurrence.{Occurrence}
-use Rattle.jr_small.specs.Placed.{IsCut, IsPlaced, AreStanding, Stand}
+use Rattle.jr_text.specs.Spans.{CanCut}
+use Rattle.jr_small.specs.Placed.{IsPlaced, AreStanding, Stand}
 use Rattle.jr_small.proofs.Walks.{get_more, get_front, get_last, get_within}
 
 pub stand_later : (text : List ℕ) (os : List Occurrence) (at later : ℕ) → AreStanding text os at → at ≤ later → AreStanding text os later
@@ -35,7 +36,7 @@ stand_front text os o at s = record {
 }
 
 -- the last becomes the qualifier of a name behind it
-pub stand_qualified : (text : List ℕ) (os : List Occurrence) (o : Occurrence) (at : ℕ) (w : Span) → AreStanding text (os ++ o ∷ []) at → at ≤ w.from → IsCut text w → AreStanding text (os ++ record o { qualifier = Some o.name; name = w } ∷ []) w.to
+pub stand_qualified : (text : List ℕ) (os : List Occurrence) (o : Occurrence) (at : ℕ) (w : Span) → AreStanding text (os ++ o ∷ []) at → at ≤ w.from → CanCut text w → AreStanding text (os ++ record o { qualifier = Some o.name; name = w } ∷ []) w.to
 stand_qualified text os o at w s h c =
     let p = (All-pop (IsPlaced text) (os ++ o ∷ []) os (Some o) refl s.placed).1 in
     let ended : o.name.to ≤ at = s.ended (length os) o (get_last os o) in

@@ -1,5 +1,6 @@
 ghost use Rattle.std.specs.Prelude.{◌≡◌, ℕ, List, ◌↔◌, ◌<◌, length, take, slice_get, IsTrue, IfOk, IfSome};
-ghost use Rattle.jr_small.specs.Placed.{IsCut, ArePlaced};
+ghost use Rattle.jr_text.specs.Spans.{CanCut};
+ghost use Rattle.jr_small.specs.Placed.{ArePlaced};
 ghost use Rattle.jr_small.specs.Binding.{IsVariable};
 ghost use Rattle.jr_small.specs.Sound.{Together, SameVariable};
 ghost use Rattle.jr_small.specs.Exact.{is_field, is_variable, IsMonotone, Records, Added, IsOwn, IsWellBound, IsNameRef, IsQualifiedRef, AreBound, Checked};
@@ -79,7 +80,7 @@ fn is_field_of_class(
 ) -> bool
     requires within { number < length all.now }
     requires placed { ArePlaced text.now all.now }
-    requires cut { IsCut text.now qualifier }
+    requires cut { CanCut text.now qualifier }
     requires fields { Records is_field (all_of text.now all.now) fields.now }
     requires variables { Records is_variable (all_of text.now (take number all.now)) variables.now }
     requires monotone { IsMonotone (all_of text.now all.now) }

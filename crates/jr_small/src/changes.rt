@@ -5,11 +5,12 @@ ghost use Rattle.jr_text.specs.Edits.{next_entry, with_last, EndBy, FitsIn};
 ghost use Rattle.jr_small.specs.Placed.{IsPlaced, ArePlaced};
 ghost use Rattle.jr_small.specs.Exact.{is_field};
 ghost use Rattle.jr_small.specs.Renaming.{is_behind, is_plain_behind, is_own_name};
-ghost use Rattle.jr_small.specs.Changes.{lost_by, is_variable_of, AreAscending, IsFirstLostOf, IsReplacementOf, AreRenamingEdits};
+ghost use Rattle.jr_small.specs.Changes.{lost_by, AreAscending, IsFirstLostOf, IsReplacementOf, AreRenamingEdits};
 ghost use Rattle.jr_small.specs.View.{occurrence_of, all_of};
 
 use crate::declared::part;
 use crate::occurrences::{Occurrence, Role};
+use crate::targets::is_variable_of;
 use jr_text::{EditFault, EditList, Span};
 use std::alloc::{AllocError, Global};
 
@@ -72,19 +73,6 @@ fn is_field_named(text: &str, occurrence: &Occurrence, name: &str) -> bool
     }
 }
 
-/// Whether it declares a parameter or local of this name in the member.
-fn is_variable_named(text: &str, occurrence: &Occurrence, name: &str, member: usize) -> bool
-    requires { IsPlaced text.now occurrence.now }
-    ensures { result ≡ is_variable_of name.now member (occurrence_of text.now occurrence.now) }
-{
-    match occurrence.role {
-        Role::Parameter | Role::Local => {
-            part(text, occurrence.name) == name && occurrence.member == member
-        }
-        _ => false,
-    }
-}
-
 /// Whether a reference has no spelling left, by whether the class is obscured where it stands.
 fn loses_spelling(text: &str, occurrence: &Occurrence, name: &str, obscured: bool) -> bool
     requires { IsPlaced text.now occurrence.now }
@@ -129,7 +117,7 @@ pub(crate) fn first_lost(text: &str, all: &[Occurrence], target: usize, name: &s
         {
             return Some(number);
         }
-        is_shadowed |= is_variable_named(text, occurrence, class, declaration.member);
+        is_shadowed |= is_variable_of(text, occurrence, declaration.member, class);
     }
     None
 }

@@ -1,6 +1,7 @@
 ghost use Rattle.std.specs.Prelude.{◌≡◌, ℕ, List, ◌↔◌, ◌<◌, length, take, slice_get, IsTrue, IfOk, IfSome, OnSome, slice_range};
 ghost use Rattle.std.specs.Option.{MatchOption};
-ghost use Rattle.jr_small.specs.Placed.{IsCut, IsPlaced, ArePlaced};
+ghost use Rattle.jr_text.specs.Spans.{CanCut};
+ghost use Rattle.jr_small.specs.Placed.{IsPlaced, ArePlaced};
 ghost use Rattle.jr_small.specs.Binding.{FindsVariable, NoneInScope};
 ghost use Rattle.jr_small.specs.Sound.{Together, SameField, SameVariable};
 ghost use Rattle.jr_small.specs.Exact.{is_field, is_variable, IsMonotone, Records, Added};
@@ -13,7 +14,7 @@ use std::alloc::{AllocError, Global};
 
 /// The bytes of the text at the span.
 pub(crate) fn part<'a>(text: &'a str, span: Span) -> &'a str
-    requires { IsCut text.now span }
+    requires { CanCut text.now span }
     ensures { result.now ≡ slice_range text.now span.from span.to }
 {
     &text[span.from as usize..span.to as usize]

@@ -1,18 +1,20 @@
-ghost use Rattle.std.specs.Prelude.{ℕ, List, ◌↔◌, ◌<◌, ◌≤◌, length, IsTrue};
+ghost use Rattle.std.specs.Prelude.{◌≡◌, ℕ, List, ◌↔◌, ◌<◌, ◌≤◌, length, IsTrue};
 ghost use Rattle.std.specs.Option.{MatchOption};
 ghost use Rattle.jr_small.specs.Placed.{IsPlaced, ArePlaced};
 ghost use Rattle.jr_small.specs.Binding.{FindsVariable, NoneInScope};
 ghost use Rattle.jr_small.specs.Rename.{Holds, IsTarget, Meets, Clashes};
 ghost use Rattle.jr_small.specs.Meant.{IsVariableOf, IsMeant, IsMeantAt};
+ghost use Rattle.jr_small.specs.Changes.{is_variable_of};
 ghost use Rattle.jr_small.specs.View.{occurrence_of, all_of};
 
 use crate::declared::part;
 use crate::occurrences::{Occurrence, Role};
 
 /// Whether the occurrence declares a parameter or local of the member with this name.
-fn is_variable_of(text: &str, occurrence: &Occurrence, member: usize, name: &str) -> bool
+pub(crate) fn is_variable_of(text: &str, occurrence: &Occurrence, member: usize, name: &str) -> bool
     requires { IsPlaced text.now occurrence.now }
-    ensures { IsTrue result ↔ IsVariableOf (occurrence_of text.now occurrence.now) member name.now }
+    ensures means { IsTrue result ↔ IsVariableOf (occurrence_of text.now occurrence.now) member name.now }
+    ensures exact { result ≡ is_variable_of name.now member (occurrence_of text.now occurrence.now) }
 {
     match occurrence.role {
         Role::Parameter | Role::Local => {

@@ -1,3 +1,4 @@
+pub mod PutLaws
 pub mod RunLaws
 pub mod SourceLaws
 pub mod WordLaws

@@ -13,7 +13,7 @@ all-taken bytes = take-length bytes
 pub no_text : (bytes : List ℕ) (valid : ℕ) → IsValidUpTo bytes valid → IsText bytes → ⊥
 no_text bytes valid invalid text = invalid.longest (length bytes) invalid.short (subst (λ front. IsUtf8 front) (sym (all-taken bytes)) text.utf8)
 
--- then the name that holds it is not told to hold a text
-pub holds_no_text : (told : Option Files) (name bytes : List ℕ) (valid : ℕ) → Holds told name bytes → IsValidUpTo bytes valid → HoldsText told name → ⊥
+-- then the name that holds it is not known to hold a text
+pub holds_no_text : (files : Option Files) (name bytes : List ℕ) (valid : ℕ) → Holds files name bytes → IsValidUpTo bytes valid → HoldsText files name → ⊥
 holds_no_text None name bytes valid held invalid text = text
 holds_no_text (Some files) name bytes valid held invalid text = no_text bytes valid invalid (subst (λ entry. IsSomeAnd entry IsText) held text)

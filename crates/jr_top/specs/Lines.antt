@@ -55,7 +55,7 @@ refusal_text file at name (lost_binding place declaration found) =
     codes "LostBinding " ++ place_text file place ++ codes " " ++ declaration_text declaration ++ codes " found " ++ declaration_text found
 refusal_text file at name (too_long len) = codes "TooLong " ++ decimal len
 
--- the line of a refusal, to the wish to give the local at a byte of the file the name: `refused NUMBER TEXT` and a line end
+-- the line of a refusal, to the request to give the local at a byte of the file the name: `refused NUMBER TEXT` and a line end
 abbrev pub refusal_line : List ℕ → ℕ → List ℕ → Refusal → List ℕ
 refusal_line file at name refusal =
     codes "refused " ++ decimal (number_of refusal) ++ codes " " ++ refusal_text file at name refusal ++ codes "\n"

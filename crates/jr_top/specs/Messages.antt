@@ -1,9 +1,10 @@
--- What is told of a status on standard error.
-use Rattle.std.specs.Prelude.{ℕ, ◌++◌, List, [], Option, None, Some, codes, decimal, slice_get, unwrap_or}
+-- What is reported of a status on standard error.
+use Rattle.std.specs.Prelude.{◌≡◌, ◌⊎◌, ℕ, ◌++◌, List, [], Option, None, Some, codes, decimal, slice_get, unwrap_or}
+use Rattle.jr_shelf.specs.Sink.{PutAll, PutInPart}
 use Rattle.jr_top.specs.declared.statuses.Status.{Status}
 use Rattle.jr_top.specs.declared.statuses.Status.TheVariants as status
 use Rattle.jr_top.specs.declared.messages.Message.{Message}
-use Rattle.jr_top.specs.declared.messages.Message.TheVariants as told
+use Rattle.jr_top.specs.declared.messages.Message.TheVariants as message
 
 -- the word of this number, empty where there is none
 abbrev pub word_at : List (List ℕ) → ℕ → List ℕ
@@ -21,8 +22,21 @@ status_text words status.NoMemory = Some (codes "jref: no memory")
 
 -- the text of a message
 abbrev pub message_text : Message → List ℕ
-message_text told.Usage = codes "jref: usage"
-message_text (told.ReadFault file) = codes "jref: cannot read " ++ file.now
-message_text (told.WriteFault stored) = codes "jref: write fault after " ++ decimal stored ++ codes " files"
-message_text (told.BadSource file) = codes "jref: bad source " ++ file.now
-message_text told.NoMemory = codes "jref: no memory"
+message_text message.Usage = codes "jref: usage"
+message_text (message.ReadFault file) = codes "jref: cannot read " ++ file.now
+message_text (message.WriteFault stored) = codes "jref: write fault after " ++ decimal stored ++ codes " files"
+message_text (message.BadSource file) = codes "jref: bad source " ++ file.now
+message_text message.NoMemory = codes "jref: no memory"
+
+-- two texts and a line end
+abbrev pub line_of : List ℕ → List ℕ → List ℕ
+line_of front back = front ++ back ++ codes "\n"
+
+-- a message and a line end
+abbrev pub message_line : Message → List ℕ
+message_line m = message_text m ++ codes "\n"
+
+-- what standard error got: nothing where there is no text, and else the text's line, or a prefix of it where a fault was counted
+abbrev pub IsReported : Option (List ℕ) → Option (List ℕ) → Option (List ℕ) → ℕ → ℕ → Type 0
+IsReported None before after faults_before faults_after = (after ≡ before) × (faults_after ≡ faults_before)
+IsReported (Some text) before after faults_before faults_after = PutAll before after faults_before faults_after (text ++ codes "\n") ⊎ PutInPart before after faults_before faults_after (text ++ codes "\n")

@@ -12,18 +12,18 @@ abbrev pub HasFault : List ℕ → SourceFault → Type 0
 HasFault bytes TooLong = text_limit < length bytes
 HasFault bytes (NotUtf8 valid) = (length bytes ≤ text_limit) × IsValidUpTo bytes valid
 
--- it is told what is held, and the name holds bytes of which this is so
+-- it is known what is held, and the name holds bytes of which this is so
 abbrev pub HoldsSome : Option Files → List ℕ → (List ℕ → Type 0) → Type 0
-HoldsSome told name P = IsSomeAnd told (λ files. IsSomeAnd (map.get files name) P)
+HoldsSome files name P = IsSomeAnd files (λ held. IsSomeAnd (map.get held name) P)
 
--- where it is told what is held, the name holds bytes with this fault
+-- where it is known what is held, the name holds bytes with this fault
 abbrev pub HoldsFault : Option Files → List ℕ → SourceFault → Type 0
-HoldsFault told name fault = OnSome told (HoldsSome told name (λ bytes. HasFault bytes fault))
+HoldsFault files name fault = OnSome files (HoldsSome files name (λ bytes. HasFault bytes fault))
 
--- the name is told to hold a text
+-- the name is known to hold a text
 abbrev pub HoldsText : Option Files → List ℕ → Type 0
-HoldsText told name = HoldsSome told name IsText
+HoldsText files name = HoldsSome files name IsText
 
--- the name is told to hold bytes that are no text
+-- the name is known to hold bytes that are no text
 abbrev pub HoldsNoText : Option Files → List ℕ → Type 0
-HoldsNoText told name = HoldsSome told name (λ bytes. IsText bytes → ⊥)
+HoldsNoText files name = HoldsSome files name (λ bytes. IsText bytes → ⊥)

@@ -6,8 +6,8 @@ ghost use Rattle.jr_top.specs.Lines.{refusal_line as line_of, refusal_text as te
 use jr_small::{Declaration, Refusal, SourceKind};
 use std::alloc::{AllocError, Global};
 
-/// The line `refused NUMBER TEXT`, with its line end, for the refusal to give the local at the byte `at` of the file
-/// the name.
+/// The line `refused NUMBER TEXT`, with its line end, for the refusal to give the local at the byte
+/// `at` of the file the name.
 pub fn refusal_line(
     alloc: Global,
     file: &str,
@@ -15,7 +15,8 @@ pub fn refusal_line(
     name: &str,
     refusal: &Refusal,
 ) -> Result<String, AllocError>
-    ensures { IfOk result (λ line. string_bytes line ≡ line_of file.now at name.now (refusal_of refusal.now)) }
+    ensures { IfOk result (λ line.
+        string_bytes line ≡ line_of file.now at name.now (refusal_of refusal.now)) }
 {
     let number = refusal_number(refusal);
     let text = refusal_text(alloc, file, at, name, refusal)?;
@@ -43,7 +44,8 @@ fn refusal_text(
     name: &str,
     refusal: &Refusal,
 ) -> Result<String, AllocError>
-    ensures { IfOk result (λ text. string_bytes text ≡ text_of file.now at name.now (refusal_of refusal.now)) }
+    ensures { IfOk result (λ text.
+        string_bytes text ≡ text_of file.now at name.now (refusal_of refusal.now)) }
 {
     match refusal {
         Refusal::BadPlace => format!(in alloc; "BadPlace {file}:{at}"),
@@ -86,7 +88,8 @@ fn kind_text(kind: SourceKind) -> &'static str
 
 // A class is `A`, a field `A.f`, and a parameter or local `A.m(int,int)#2`.
 fn declaration_text(alloc: Global, declaration: &Declaration) -> Result<String, AllocError>
-    ensures { IfOk result (λ text. string_bytes text ≡ text_of_declaration (declaration_of declaration.now)) }
+    ensures { IfOk result (λ text.
+        string_bytes text ≡ text_of_declaration (declaration_of declaration.now)) }
 {
     match declaration {
         Declaration::Class(name) => String::from_str(alloc, name.as_str()),

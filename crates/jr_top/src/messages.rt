@@ -1,11 +1,12 @@
-ghost use Rattle.std.specs.Prelude.{◌≡◌, option_map};
+ghost use Rattle.std.specs.Prelude.{◌≡◌, decimal, option_map};
+ghost use Rattle.jr_shelf.specs.Sink.{Puts, PutsBehind};
 ghost use Rattle.jr_top.specs.Words.{texts_of};
-ghost use Rattle.jr_top.specs.Messages.{message_text, status_text, word_at as text_at};
+ghost use Rattle.jr_top.specs.Messages.{line_of, message_line, message_text, status_text, word_at as text_at};
 
 use crate::statuses::Status;
-use std::fmt;
+use jr_shelf::{Failed, Sink};
 
-/// What is told of a status on standard error.
+/// What is reported of a status on standard error.
 #[derive(Clone, Copy, Debug)]
 pub enum Message<'a> {
     Usage,
@@ -19,7 +20,8 @@ pub enum Message<'a> {
 }
 
 impl<'a> Message<'a> {
-    /// What is told of the status of a run with these words. `Done` and `Refused` are told by their output alone.
+    /// What is reported of the status of a run with these words. `Done` and `Refused` have their
+    /// output alone.
     pub fn of(status: &Status, words: &'a [String]) -> Option<Message<'a>>
         ensures { option_map message_text result ≡ status_text (texts_of words.now) status.now }
     {
@@ -36,6 +38,24 @@ impl<'a> Message<'a> {
             Status::NoMemory => Some(Message::NoMemory),
         }
     }
+
+    /// Gives the sink the message and a line end. It takes no memory.
+    pub fn put<E: Sink>(&self, errors: &mut E) -> Result<(), Failed>
+        ensures { Puts result (E.taken errors.old) (E.taken errors.new)
+            (E.faults errors.old) (E.faults errors.new) (message_line self.now) }
+    {
+        match self {
+            Message::Usage => put_line(errors, b"jref: usage", ""),
+            Message::ReadFault { file } => put_line(errors, b"jref: cannot read ", file),
+            Message::WriteFault { stored } => {
+                let front = put_bytes(errors, b"jref: write fault after ");
+                let count = put_number(front, errors, *stored);
+                put_behind(count, errors, b" files\n")
+            }
+            Message::BadSource { file } => put_line(errors, b"jref: bad source ", file),
+            Message::NoMemory => put_line(errors, b"jref: no memory", ""),
+        }
+    }
 }
 
 // The word of this number, empty where there is none.
@@ -48,18 +68,47 @@ fn word_at(words: &[String], word: u32) -> &str
     }
 }
 
-impl fmt::Display for Message<'_> {
-    ghost use Rattle.std.specs.Prelude.{Some};
+// Gives the sink the bytes, the text and a line end.
+fn put_line<E: Sink>(errors: &mut E, front: &[u8], back: &str) -> Result<(), Failed>
+    ensures { Puts result (E.taken errors.old) (E.taken errors.new)
+        (E.faults errors.old) (E.faults errors.new) (line_of front.now back.now) }
+{
+    let front = put_bytes(errors, front);
+    let both = put_behind(front, errors, back.as_bytes());
+    put_behind(both, errors, b"\n")
+}
 
-    ghost output = { λ message. Some (message_text message) };
+fn put_bytes<E: Sink>(errors: &mut E, bytes: &[u8]) -> Result<(), Failed>
+    ensures { Puts result (E.taken errors.old) (E.taken errors.new)
+        (E.faults errors.old) (E.faults errors.new) bytes.now }
+{
+    errors.put(bytes)
+}
 
-    fn fmt<W: fmt::Write>(&self, f: &mut fmt::Formatter<W>) -> fmt::Result {
-        match self {
-            Message::Usage => f.write_str("jref: usage"),
-            Message::ReadFault { file } => write!(f, "jref: cannot read {file}"),
-            Message::WriteFault { stored } => write!(f, "jref: write fault after {stored} files"),
-            Message::BadSource { file } => write!(f, "jref: bad source {file}"),
-            Message::NoMemory => f.write_str("jref: no memory"),
-        }
+// Gives the sink the bytes behind others, where those were put.
+fn put_behind<E: Sink>(
+    first: Result<(), Failed>,
+    errors: &mut E,
+    bytes: &[u8],
+) -> Result<(), Failed>
+    ensures { PutsBehind first result (E.taken errors.old) (E.taken errors.new)
+        (E.faults errors.old) (E.faults errors.new) bytes.now }
+{
+    match first {
+        Ok(()) => put_bytes(errors, bytes),
+        Err(fault) => Err(fault),
     }
+}
+
+// Gives the sink the decimal digits of the number behind other bytes, where those were put.
+fn put_number<E: Sink>(first: Result<(), Failed>, errors: &mut E, number: u32) -> Result<(), Failed>
+    ensures { PutsBehind first result (E.taken errors.old) (E.taken errors.new)
+        (E.faults errors.old) (E.faults errors.new) (decimal number) }
+{
+    let digit = b'0' + (number % 10) as u8;
+    if number < 10 {
+        return put_behind(first, errors, &[digit]);
+    }
+    let front = put_number(first, errors, number / 10);
+    put_behind(front, errors, &[digit])
 }

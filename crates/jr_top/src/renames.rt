@@ -1,10 +1,10 @@
 ghost use Rattle.std.specs.Prelude.{◌≡◌, ◌≤◌, ◌+◌, ◌⊎◌, IfErr, IfOk, OnErr, OnOk, OnSome, Some};
 ghost use Rattle.jr_shelf.specs.Counts.{Rose, RoseBy};
-ghost use Rattle.jr_shelf.specs.Sink.{AppendedInPart, appended};
+ghost use Rattle.jr_shelf.specs.Sink.{AppendedInPart, with_bytes};
 ghost use Rattle.jr_small.specs.Answer.{Grants};
 ghost use Rattle.jr_top.specs.Sources.{HoldsFault, HoldsNoText, HoldsText};
 ghost use Rattle.jr_top.specs.Statuses.{IsAfterSource, IsAnswerOrMemory, IsBadSourceOrMemory, IsBeforeSource, IsOfRename};
-ghost use Rattle.jr_top.specs.Statuses.{OnBadSource, OnDone, OnNoReadFault, OnNothingWritten, OnReadFault, OnRefused, OnWriteFault, OnWriting};
+ghost use Rattle.jr_top.specs.Statuses.{OnAnswer, OnBadSource, OnDone, OnNoReadFault, OnNothingWritten, OnReadFault, OnRefused, OnWriteFault, OnWriting};
 ghost use Rattle.jr_top.specs.Runs.{HadNoFault, IsEither, IsNewText, IsNoNewText, IsRefusalLine, IsSource, TookAll, TookInPart};
 
 use crate::lines::refusal_line;
@@ -17,8 +17,8 @@ use std::alloc::Global;
 // The number of the word FILE.
 const FILE: u32 = 1;
 
-/// Fetches the file, renames the local at the byte `at` of its source, and gives the sink the new text, or the line of
-/// the refusal.
+/// Fetches the file, renames the local at the byte `at` of its source, and gives the sink the new
+/// text, or the line of the refusal.
 pub(crate) fn rename_in_file<S: Shelf, K: Sink>(
     alloc: Global,
     file: &str,
@@ -29,36 +29,49 @@ pub(crate) fn rename_in_file<S: Shelf, K: Sink>(
 ) -> Status
     ensures ends { IsOfRename result }
     ensures done { OnDone result
-        (TookAll (IsNewText (S.holds shelf.old) file.now at name.now) (K.taken sink.old) (K.taken sink.new)) }
+        (TookAll (IsNewText (S.holds shelf.old) file.now at name.now)
+        (K.taken sink.old) (K.taken sink.new)) }
     ensures refused { OnRefused result
-        (TookAll (IsNoNewText (S.holds shelf.old) file.now at name.now) (K.taken sink.old) (K.taken sink.new)) }
+        (TookAll (IsNoNewText (S.holds shelf.old) file.now at name.now)
+        (K.taken sink.old) (K.taken sink.new)) }
 
     ensures read_fault_word { OnReadFault result (λ word. word ≡ 1) }
-    ensures read_fault { OnReadFault result (λ word. Rose (S.faults shelf.old) (S.faults shelf.new)) }
+    ensures read_fault { OnReadFault result (λ word.
+        Rose (S.faults shelf.old) (S.faults shelf.new)) }
     ensures read_fault_missed { OnReadFault result (λ word.
         OnSome (S.holds shelf.old) (S.missed shelf.new ≡ Some file.now)) }
-    ensures read_fault_served { OnReadFault result (λ word. RoseBy 0 (S.served shelf.old) (S.served shelf.new)) }
+    ensures read_fault_served { OnReadFault result (λ word.
+        RoseBy 0 (S.served shelf.old) (S.served shelf.new)) }
 
     ensures write_fault_stored { OnWriteFault result (λ stored. stored ≡ 0) }
-    ensures write_fault { OnWriteFault result (λ stored. Rose (K.faults sink.old) (K.faults sink.new)) }
+    ensures write_fault { OnWriteFault result (λ stored.
+        Rose (K.faults sink.old) (K.faults sink.new)) }
     ensures write_fault_in_part { OnWriteFault result (λ stored.
-        TookInPart (IsEither (S.holds shelf.old) file.now at name.now) (K.taken sink.old) (K.taken sink.new)) }
+        TookInPart (IsEither (S.holds shelf.old) file.now at name.now)
+        (K.taken sink.old) (K.taken sink.new)) }
 
     ensures bad_source_word { OnBadSource result (λ word fault. word ≡ 1) }
-    ensures bad_source { OnBadSource result (λ word fault. HoldsFault (S.holds shelf.old) file.now fault) }
+    ensures bad_source { OnBadSource result (λ word fault.
+        HoldsFault (S.holds shelf.old) file.now fault) }
     ensures no_source { HoldsNoText (S.holds shelf.old) file.now
-        → HadNoFault (S.faults shelf.old) (S.faults shelf.new) (K.faults sink.old) (K.faults sink.new)
+        → HadNoFault (S.faults shelf.old) (S.faults shelf.new)
+        (K.faults sink.old) (K.faults sink.new)
         → IsBadSourceOrMemory result }
     ensures complete { HoldsText (S.holds shelf.old) file.now
-        → HadNoFault (S.faults shelf.old) (S.faults shelf.new) (K.faults sink.old) (K.faults sink.new)
+        → HadNoFault (S.faults shelf.old) (S.faults shelf.new)
+        (K.faults sink.old) (K.faults sink.new)
         → IsAnswerOrMemory result }
 
     ensures nothing_put { OnNothingWritten result (sink.new ≡ sink.old) }
     ensures keeps { S.holds shelf.new ≡ S.holds shelf.old }
-    ensures missed { OnNoReadFault result (OnSome (S.holds shelf.old) (S.missed shelf.new ≡ S.missed shelf.old)) }
-    ensures served { OnWriting result (λ stored. RoseBy (stored + 1) (S.served shelf.old) (S.served shelf.new)) }
+    ensures missed { OnNoReadFault result
+        (OnSome (S.holds shelf.old) (S.missed shelf.new ≡ S.missed shelf.old)) }
+    ensures served { OnWriting result (λ stored.
+        RoseBy (stored + 1) (S.served shelf.old) (S.served shelf.new)) }
     ensures shelf_faults { S.faults shelf.old ≤ S.faults shelf.new }
+    ensures shelf_faults_stay { OnNoReadFault result (S.faults shelf.new ≡ S.faults shelf.old) }
     ensures sink_faults { K.faults sink.old ≤ K.faults sink.new }
+    ensures sink_faults_stay { OnAnswer result (K.faults sink.new ≡ K.faults sink.old) }
 {
     match fetch_source(alloc, file, shelf) {
         Err(status) => status,
@@ -86,11 +99,15 @@ fn fetch_source<S: Shelf>(alloc: Global, file: &str, shelf: &mut S) -> Result<Te
         HoldsText (S.holds shelf.old) file.now → ⊥)) }
 
     ensures keeps { S.holds shelf.new ≡ S.holds shelf.old }
-    ensures missed_ok { OnOk result (OnSome (S.holds shelf.old) (S.missed shelf.new ≡ S.missed shelf.old)) }
+    ensures missed_ok { OnOk result
+        (OnSome (S.holds shelf.old) (S.missed shelf.new ≡ S.missed shelf.old)) }
     ensures missed_err { IfErr result (λ status. OnNoReadFault status
         (OnSome (S.holds shelf.old) (S.missed shelf.new ≡ S.missed shelf.old))) }
     ensures served { OnOk result (RoseBy 1 (S.served shelf.old) (S.served shelf.new)) }
     ensures faults { S.faults shelf.old ≤ S.faults shelf.new }
+    ensures faults_stay_ok { OnOk result (S.faults shelf.new ≡ S.faults shelf.old) }
+    ensures faults_stay_err { IfErr result (λ status.
+        OnNoReadFault status (S.faults shelf.new ≡ S.faults shelf.old)) }
 {
     let bytes = match shelf.fetch(alloc, file) {
         Ok(bytes) => bytes,
@@ -112,7 +129,8 @@ fn bad_source(fault: SourceFault) -> Status
     Status::BadSource { word: FILE, fault }
 }
 
-// Renames the local at the byte `at` of the source, and gives the sink the new text, or the line of the refusal.
+// Renames the local at the byte `at` of the source, and gives the sink the new text, or the line of
+// the refusal.
 fn rename_in_source<K: Sink>(
     alloc: Global,
     file: &str,
@@ -122,16 +140,21 @@ fn rename_in_source<K: Sink>(
     sink: &mut K,
 ) -> Status
     ensures ends { IsAfterSource result }
-    ensures done { OnDone result (TookAll (Grants source.now at name.now) (K.taken sink.old) (K.taken sink.new)) }
+    ensures done { OnDone result
+        (TookAll (Grants source.now at name.now) (K.taken sink.old) (K.taken sink.new)) }
     ensures refused { OnRefused result
-        (TookAll (IsRefusalLine file.now source.now at name.now) (K.taken sink.old) (K.taken sink.new)) }
+        (TookAll (IsRefusalLine file.now source.now at name.now)
+        (K.taken sink.old) (K.taken sink.new)) }
     ensures write_fault_stored { OnWriteFault result (λ stored. stored ≡ 0) }
-    ensures write_fault { OnWriteFault result (λ stored. Rose (K.faults sink.old) (K.faults sink.new)) }
+    ensures write_fault { OnWriteFault result (λ stored.
+        Rose (K.faults sink.old) (K.faults sink.new)) }
     ensures write_fault_in_part { OnWriteFault result (λ stored.
-        TookInPart (λ output. Grants source.now at name.now output ⊎ IsRefusalLine file.now source.now at name.now output)
+        TookInPart (λ output.
+        Grants source.now at name.now output ⊎ IsRefusalLine file.now source.now at name.now output)
         (K.taken sink.old) (K.taken sink.new)) }
     ensures nothing_put { OnNothingWritten result (sink.new ≡ sink.old) }
     ensures faults { K.faults sink.old ≤ K.faults sink.new }
+    ensures faults_stay { OnAnswer result (K.faults sink.new ≡ K.faults sink.old) }
 {
     match rename(alloc, source, at, name) {
         Err(_) => Status::NoMemory,
@@ -151,11 +174,13 @@ fn rename_in_source<K: Sink>(
 
 // Gives the sink the output, or says how the run ends where the sink failed.
 fn put<K: Sink>(sink: &mut K, output: &str) -> Result<(), Status>
-    ensures ok { OnOk result (K.taken sink.new ≡ appended (K.taken sink.old) output.now) }
+    ensures ok { OnOk result (K.taken sink.new ≡ with_bytes (K.taken sink.old) output.now) }
     ensures fault { IfErr result (λ status. status ≡ Status.WriteFault 0) }
     ensures failed { OnErr result (Rose (K.faults sink.old) (K.faults sink.new)) }
-    ensures in_part { OnErr result (AppendedInPart (K.taken sink.old) (K.taken sink.new) output.now) }
+    ensures in_part { OnErr result
+        (AppendedInPart (K.taken sink.old) (K.taken sink.new) output.now) }
     ensures faults { K.faults sink.old ≤ K.faults sink.new }
+    ensures faults_stay { OnOk result (K.faults sink.new ≡ K.faults sink.old) }
 {
     match sink.put(output.as_bytes()) {
         Ok(()) => Ok(()),

@@ -11,7 +11,7 @@ pub enum SourceFault {
 }
 
 /// How a run ended.
-#[derive(Clone, Copy, PartialEq, Eq, Debug)]
+#[derive(PartialEq, Eq, Debug, Drop)]
 pub enum Status {
     /// All was read and written.
     Done,

@@ -16,9 +16,9 @@ fn words_of(alloc: Global, line: &str) -> Result<Vec<String>, AllocError> {
     Ok(words)
 }
 
-// How a run ends over the one file A.java, where calls of the shelf and puts of these numbers fail, and what its sink
-// took.
-fn ran(
+// How a run ends over the one file A.java, where calls of the shelf and puts of these numbers fail,
+// and what its sink took.
+fn answer_of(
     rt: &impl Abort,
     alloc: Global,
     source: &[u8],
@@ -48,7 +48,7 @@ fn check(
     output: &str,
 ) -> Result<(), Fail> {
     let words = words_of(alloc, line)?;
-    let (ended, took) = ran(rt, alloc, source, words.as_slice(), (None, None))?;
+    let (ended, took) = answer_of(rt, alloc, source, words.as_slice(), (None, None))?;
     assert_eq!(rt; ended, status, "{line}");
     assert_eq!(rt; took.as_slice(), output.as_bytes(), "{line}");
     Ok(())
@@ -140,7 +140,8 @@ fn refuses(rt: HostRuntime) -> Result<(), Fail> {
     Ok(())
 }
 
-// Comments that are not closed, and then texts that are no sound source of one class without blocks.
+// Comments that are not closed, and then texts that are no sound source of one class without
+// blocks.
 #[test]
 fn refuses_sources(rt: HostRuntime) -> Result<(), Fail> {
     let unbuilt = "refused 4 SourceError A.java:0 Unbuilt\n";
@@ -178,8 +179,8 @@ fn refuses_sources(rt: HostRuntime) -> Result<(), Fail> {
     Ok(())
 }
 
-// A clash with a declaration in front, and lost references: one behind the name of the class, one behind a local that
-// obscures the class, and one where a field obscures it.
+// A clash with a declaration in front, and lost references: one behind the name of the class, one
+// behind a local that obscures the class, and one where a field obscures it.
 #[test]
 fn refuses_names(rt: HostRuntime) -> Result<(), Fail> {
     for (source, line, output) in [
@@ -268,11 +269,11 @@ fn wrong_words(rt: HostRuntime) -> Result<(), Fail> {
     ] {
         let words = words_of(alloc, line)?;
         // The shelf's first call would fail.
-        let (status, took) = ran(&rt, alloc, b"", words.as_slice(), (Some(1), None))?;
+        let (status, took) = answer_of(&rt, alloc, b"", words.as_slice(), (Some(1), None))?;
         assert_eq!(rt; status, Status::Usage, "{line}");
         assert!(rt; took.is_empty());
     }
-    let (status, _) = ran(&rt, alloc, b"", &[], (Some(1), None))?;
+    let (status, _) = answer_of(&rt, alloc, b"", &[], (Some(1), None))?;
     assert_eq!(rt; status, Status::Usage);
     Ok(())
 }
@@ -284,7 +285,7 @@ fn too_many_words(rt: HostRuntime) -> Result<(), Fail> {
     for _ in 3..65_537 {
         words.push(String::from_str(alloc, "b")?)?;
     }
-    let (status, _) = ran(&rt, alloc, b"", words.as_slice(), (Some(1), None))?;
+    let (status, _) = answer_of(&rt, alloc, b"", words.as_slice(), (Some(1), None))?;
     assert_eq!(rt; status, Status::Usage);
     Ok(())
 }
@@ -338,7 +339,7 @@ fn faults(rt: HostRuntime) -> Result<(), Fail> {
     }
     let words = words_of(alloc, "rename A.java 41 b")?;
     let words = words.as_slice();
-    let (status, took) = ran(&rt, alloc, RENAMED.as_bytes(), words, (Some(1), None))?;
+    let (status, took) = answer_of(&rt, alloc, RENAMED.as_bytes(), words, (Some(1), None))?;
     assert_eq!(rt; status, Status::ReadFault { word: 1 });
     assert!(rt; took.is_empty());
     Ok(())
@@ -350,7 +351,7 @@ fn failing_put(rt: HostRuntime) -> Result<(), Fail> {
     for line in ["rename A.java 41 b", "rename A.java 999 b"] {
         let words = words_of(alloc, line)?;
         let source = RENAMED.as_bytes();
-        let (status, took) = ran(&rt, alloc, source, words.as_slice(), (None, Some(1)))?;
+        let (status, took) = answer_of(&rt, alloc, source, words.as_slice(), (None, Some(1)))?;
         assert_eq!(rt; status, Status::WriteFault { stored: 0 });
         assert!(rt; took.is_empty());
     }
@@ -416,22 +417,33 @@ fn statuses(rt: HostRuntime) -> Result<(), Fail> {
     for (status, number, text) in [
         (Status::Done, 0, ""),
         (Status::Refused, 1, ""),
-        (Status::Usage, 2, "jref: usage"),
-        (Status::ReadFault { word: 1 }, 3, "jref: cannot read A.java"),
+        (Status::Usage, 2, "jref: usage\n"),
         (
-            Status::WriteFault { stored: 2 },
-            4,
-            "jref: write fault after 2 files",
+            Status::ReadFault { word: 1 },
+            3,
+            "jref: cannot read A.java\n",
         ),
-        (bad_source, 6, "jref: bad source A.java"),
-        (Status::NoMemory, 7, "jref: no memory"),
+        (
+            Status::WriteFault { stored: 0 },
+            4,
+            "jref: write fault after 0 files\n",
+        ),
+        (
+            Status::WriteFault {
+                stored: 4_294_967_295,
+            },
+            4,
+            "jref: write fault after 4294967295 files\n",
+        ),
+        (bad_source, 6, "jref: bad source A.java\n"),
+        (Status::NoMemory, 7, "jref: no memory\n"),
     ] {
         assert_eq!(rt; status.number(), number);
-        let told = match Message::of(&status, words.as_slice()) {
-            Some(message) => format!(in alloc; "{message}")?,
-            None => String::new(alloc),
-        };
-        assert_eq!(rt; told.as_str(), text);
+        let mut errors = MemorySink::new(alloc, Vec::new(alloc), 100)?;
+        if let Some(message) = Message::of(&status, words.as_slice()) {
+            message.put(&mut errors)?;
+        }
+        assert_eq!(rt; errors.bytes(), text.as_bytes());
     }
     Ok(())
 }

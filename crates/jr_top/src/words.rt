@@ -14,8 +14,8 @@ pub enum Command<'a> {
 
 /// The command that the words mean, if they mean one. It takes no memory.
 ///
-/// `rename FILE AT NAME` is the one command. AT is one or more decimal digits with a value up to 4,294,967,295. No
-/// word is empty, and none begins with `-`.
+/// `rename FILE AT NAME` is the one command. AT is one or more decimal digits with a value up to
+/// 4,294,967,295. No word is empty, and none begins with `-`.
 pub fn read_words(words: &[String]) -> Option<Command<'_>>
     ensures { MatchOption result (MeanNothing (texts_of words.now))
         (λ command. Mean (texts_of words.now) (command_of command)) }

@@ -1,8 +1,6 @@
 -- Which tokens a text may have.
-use Rattle.std.proofs.Common.{◌≡◌, ℕ, Bool, true, false, List, [], ◌∷◌, refl, sym, ap, subst, ◌∙◌, arith}
+use Rattle.std.proofs.Common.{◌≡◌, true, false, refl, sym, ap, subst, ◌∙◌, arith}
 use Rattle.std.specs.Prelude.{codes}
-use Rattle.std.specs.Str.{IsUtf8, chars}
-use Rattle.std.proofs.lemmas.Str.{chars-IsAscii}
 use Rattle.jr_lex.specs.declared.items.Keyword.TheVariants.{Class, Null}
 use Rattle.jr_lex.specs.Words.{IsWord}
 use Rattle.jr_lex.specs.Characters.{is_word_start}

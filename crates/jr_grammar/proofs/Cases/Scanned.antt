@@ -11,7 +11,7 @@ use Rattle.jr_lex.specs.Characters.{byte_len}
 use Rattle.jr_lex.specs.Lexes.{Cuts, IsEnd, Lexes, span_of}
 use Rattle.jr_lex.specs.Scan.{Scanned, scan}
 use Rattle.jr_lex.proofs.CutLaws.{one_lexing}
-use Rattle.jr_lex.proofs.ScanMeaning.{TakesItem, scan-item}
+use Rattle.jr_lex.proofs.ScanMeaning.{scan-item}
 use Rattle.jr_ast.specs.StatementTree.{Stmt}
 use Rattle.jr_ast.specs.MemberTree.{Member, Unit as UnitTree}
 use Rattle.jr_grammar.specs.Tokens.{tokens_of}

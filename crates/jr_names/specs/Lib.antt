@@ -1,0 +1,9 @@
+pub mod Sites
+pub mod SiteView
+pub mod Needs
+pub mod Refusals
+pub mod RefusalView
+pub mod RefusalNames
+pub mod Replies
+pub mod ReplyView
+pub mod DeclTexts

@@ -1,0 +1,26 @@
+//! What passes between a script, a session and a report.
+//!
+//! A [`Step`] is what a script asks for, a [`Reply`] what the session answers, and an [`Outcome`] what a refactoring
+//! plans. Contracts see them as the plain values of `specs/`, with keys as those of `jr_table`, and kept texts as
+//! their bytes. `decl_texts` writes declarations.
+#![tactic(auto)]
+
+mod decl_texts;
+mod lists;
+mod needs;
+mod refusals;
+mod replies;
+mod sites;
+mod steps;
+#[cfg(test)]
+mod tests;
+
+pub use decl_texts::{
+    class_text, constructor_text, decl_text, field_text, local_text, member_text, method_text,
+};
+pub use lists::{EditLists, Lines, Names, Renaming};
+pub use needs::Need;
+pub use refusals::Refusal;
+pub use replies::{Outcome, Reply};
+pub use sites::{DepPair, SiteAt};
+pub use steps::{Step, What};

@@ -1,0 +1,16 @@
+//! What was made, or want of memory.
+ghost use Rattle.std.specs.Prelude.{◌≡◌, IfOk};
+
+use jr_ast::Expr;
+use jr_text::Span;
+use std::alloc::{AllocError, Global};
+
+/// What a call makes that may want memory.
+pub(crate) type Made<T> = Result<T, AllocError>;
+
+/// In a box, at this type alone: at any type, each call of it would cost the check more.
+pub(crate) fn in_box(alloc: Global, expr: Expr<Span>) -> Made<Box<Expr<Span>>>
+    ensures { IfOk result (λ made. made.value ≡ expr) }
+{
+    Ok(Box::new(alloc, expr)?)
+}

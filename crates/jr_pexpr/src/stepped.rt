@@ -1,0 +1,132 @@
+//! One step of reading an expression, and what is whole.
+ghost use Rattle.std.specs.Prelude.{◌≡◌, [], IfOk, option_map, Some};
+ghost use Rattle.std.specs.Option.{is_some};
+ghost use Rattle.jr_pexpr.specs.TokenView.{token_view};
+ghost use Rattle.jr_pexpr.specs.PieceView.{piece_view};
+ghost use Rattle.jr_pexpr.specs.Machine as machine;
+ghost use Rattle.jr_pexpr.specs.Marked.{join, span_step, span_whole, span_statement_step, span_statement_whole};
+ghost use Rattle.jr_pexpr.specs.StackView.{stack};
+ghost use Rattle.jr_pexpr.specs.StateView.{state_view};
+ghost use Rattle.jr_pexpr.specs.Ended.{exp_in, filled, placed};
+
+use crate::begun::begun;
+use crate::ended::{Filled, reduced};
+use crate::extended::extended;
+use crate::kinds::{is_statement, is_target};
+use crate::members::{behind_new, behind_new_name, behind_super, member, new_inner, super_member};
+use crate::pieces::{Piece, piece_of};
+use crate::stack::Stack;
+use crate::state::{Mode, State, Stepped};
+use crate::tokens::Token;
+use jr_ast::Expr;
+use jr_text::Span;
+use std::alloc::{AllocError, Global};
+
+fn stepped(alloc: Global, state: State, at: Span, piece: Piece<'_>) -> Stepped
+    ensures { IfOk result (λ next. option_map state_view next ≡ machine.stepped join (state_view state) at (piece_view piece.entry)) }
+{
+    let State { on, mode } = state;
+    match mode {
+        Mode::Want => begun(alloc, on, at, piece),
+        Mode::Have(e) => extended(alloc, on, e, at, piece),
+        Mode::Dotted(e) => member(alloc, on, e, at, piece),
+        Mode::AtSuper(start) => behind_super(on, start, piece),
+        Mode::SuperDotted(start) => super_member(alloc, on, start, at, piece),
+        Mode::AtNew(start) => behind_new(alloc, on, start, at, piece),
+        Mode::NewNamed(start, ty) => behind_new_name(alloc, on, start, ty, piece),
+        Mode::NewDotted(start, outer) => new_inner(alloc, on, start, outer, at, piece),
+    }
+}
+
+/// The expression that comes of all that has been begun; `None` where a bracket is open.
+fn finished(alloc: Global, on: Stack, e: Box<Expr<Span>>) -> Filled
+    ensures { IfOk result (λ made. filled made ≡ machine.whole_of (machine.reduced join 1 (stack on) (exp_in e))) }
+{
+    match reduced(alloc, on, e, 1)? {
+        Some((on, e)) => {
+            if on.is_empty() {
+                Ok(Some(e))
+            } else {
+                Ok(None)
+            }
+        }
+        None => Ok(None),
+    }
+}
+
+/// The state where a statement expression can still come of it.
+fn kept_open(next: State) -> Option<State>
+    ensures { option_map state_view result ≡ machine.kept_open (Some (state_view next)) }
+{
+    if next.on.is_open() { Some(next) } else { None }
+}
+
+impl State {
+    /// Nothing has been read: an expression is to come.
+    pub fn new(alloc: Global) -> State
+        ensures { state_view result ≡ machine.want [] }
+    {
+        State {
+            on: Stack::new(alloc),
+            mode: Mode::Want,
+        }
+    }
+
+    /// The state behind a token at `at`; `None` exactly where no expression goes on with it.
+    pub fn step(
+        self,
+        alloc: Global,
+        at: Span,
+        token: Token<'_>,
+    ) -> Result<Option<State>, AllocError>
+        ensures { IfOk result (λ next. option_map state_view next ≡ span_step (state_view self) (placed at (token_view token.entry))) }
+    {
+        stepped(alloc, self, at, piece_of(token))
+    }
+
+    /// The state behind a token at `at`; `None` exactly where no statement expression goes on with it (JLS 14.8).
+    pub fn statement_step(
+        self,
+        alloc: Global,
+        at: Span,
+        token: Token<'_>,
+    ) -> Result<Option<State>, AllocError>
+        ensures { IfOk result (λ next. option_map state_view next ≡ span_statement_step (state_view self) (placed at (token_view token.entry))) }
+    {
+        match self.step(alloc, at, token)? {
+            Some(next) => Ok(kept_open(next)),
+            None => Ok(None),
+        }
+    }
+
+    /// Whether what has been read is an expression.
+    pub fn is_whole(&self) -> bool
+        ensures { result ≡ is_some (span_whole (state_view self.now)) }
+    {
+        match &self.mode {
+            Mode::Have(e) => self.on.ends(is_target(e)),
+            _ => false,
+        }
+    }
+
+    /// Whether what has been read is a statement expression (JLS 14.8).
+    pub fn is_statement(&self) -> bool
+        ensures { result ≡ is_some (span_statement_whole (state_view self.now)) }
+    {
+        match &self.mode {
+            Mode::Have(e) => self.on.ends(is_target(e)) && self.on.is_form(is_statement(e)),
+            _ => false,
+        }
+    }
+
+    /// The expression that has been read; `None` where it isn't whole.
+    pub fn finish(self, alloc: Global) -> Result<Option<Box<Expr<Span>>>, AllocError>
+        ensures { IfOk result (λ made. filled made ≡ span_whole (state_view self)) }
+    {
+        let State { on, mode } = self;
+        match mode {
+            Mode::Have(e) => finished(alloc, on, e),
+            _ => Ok(None),
+        }
+    }
+}

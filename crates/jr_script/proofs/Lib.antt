@@ -1,0 +1,6 @@
+pub mod MemberLaws
+pub mod CountLaws
+pub mod NameLaws
+pub mod StepLaws
+pub mod ElementLaws
+pub mod ReportLaws

@@ -1,0 +1,13 @@
+pub mod SameArms
+pub mod SameLists
+pub mod FirstLaws
+pub mod Chaining
+pub mod Ending
+pub mod RowLaws
+pub mod MemberLaws
+pub mod Testing
+pub mod OneEach
+pub mod StepsUp
+pub mod Border
+pub mod Gathered
+pub mod RowTests

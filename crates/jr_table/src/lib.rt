@@ -1,0 +1,42 @@
+//! The declarations of a program: keys, rows, the table.
+#![tactic(auto)]
+
+mod classes;
+mod climbing;
+mod copies;
+mod decls;
+mod entries;
+mod facts;
+mod first_wanted;
+mod found;
+mod keys;
+mod kinds;
+mod members;
+mod method_lists;
+mod numbering;
+mod prelude_rows;
+mod rows;
+mod rules;
+#[cfg(test)]
+mod sample;
+mod sought;
+mod tables;
+#[cfg(test)]
+mod tests;
+mod type_lists;
+mod types;
+mod wanted;
+
+pub use classes::ClassKey;
+pub use decls::{Decl, LocalKey, MemberKey};
+pub use entries::{Entry, Kind, Kinds, Sort};
+pub use facts::Facts;
+pub use found::Found;
+pub use keys::{CtorKey, FieldKey, MethodKey};
+pub use kinds::DeclKind;
+pub use prelude_rows::prelude;
+pub use rows::{Mods, Row};
+pub use rules::Rule;
+pub use tables::Table;
+pub use type_lists::Tys;
+pub use types::Ty;
