@@ -13,35 +13,73 @@ use jr_text::Place;
 #[derive(Drop)]
 pub enum Refusal {
     /// The session has no file of the name.
-    NoSuchFile { name: Name },
+    NoSuchFile {
+        name: Name,
+    },
     /// The offset is past the end of the file or inside a character, or is behind that of the end.
-    BadPlace { file: Name, at: u32 },
+    BadPlace {
+        file: Name,
+        at: u32,
+    },
     /// The new name is no identifier (JLS 3.8).
-    BadName { name: Name },
+    BadName {
+        name: Name,
+    },
     /// The sources have a fault: the first, by its place and the name of its kind.
-    SourceError { file: Name, at: u32, kind: Name },
+    SourceError {
+        file: Name,
+        at: u32,
+        kind: Name,
+    },
     /// At the place there isn't what the refactoring needs. `need` is the name of a [`Need`](crate::Need).
-    BadTarget { at: Place, need: Name },
+    BadTarget {
+        at: Place,
+        need: Name,
+    },
     /// A method of the prelude would change: its text, or the name that is one of Object's (JLS 4.3.2).
-    PreludeMethod { method: Name },
+    PreludeMethod {
+        method: Name,
+    },
     /// The code runs only where a condition says so: the `if`, `while`, `&&` or `||` at the place.
-    Conditional { at: Place },
+    Conditional {
+        at: Place,
+    },
     /// A `return` stands in the way.
-    HasReturn { at: Place },
+    HasReturn {
+        at: Place,
+    },
     /// The statements have two results.
-    TwoResults { first: LocalKey, second: LocalKey },
+    TwoResults {
+        first: LocalKey,
+        second: LocalKey,
+    },
     /// The call may reach another method (JLS 15.12.4).
-    ManyTargets { call: Place, method: MethodKey },
+    ManyTargets {
+        call: Place,
+        method: MethodKey,
+    },
     /// The receiver may be null.
-    MayBeNull { at: Place },
+    MayBeNull {
+        at: Place,
+    },
     /// The method calls itself.
-    Recursive { call: Place },
+    Recursive {
+        call: Place,
+    },
     /// The local is assigned.
-    Assigned { local: LocalKey, at: Place },
+    Assigned {
+        local: LocalKey,
+        at: Place,
+    },
     /// The new declaration collides with this one.
-    Clash { with: Decl },
+    Clash {
+        with: Decl,
+    },
     /// For the class the method would be dispatched elsewhere (JLS 15.12.4.4).
-    OverrideChanged { class: ClassKey, method: MethodKey },
+    OverrideChanged {
+        class: ClassKey,
+        method: MethodKey,
+    },
     /// A reference to the declaration has no spelling that is still bound to it. As it is spelled, it would be bound
     /// to what is found.
     LostBinding {
@@ -50,7 +88,10 @@ pub enum Refusal {
         found: Found,
     },
     /// The new sources break a rule, at a place of the new text.
-    WouldNotCompile { at: Place, rule: Name },
+    WouldNotCompile {
+        at: Place,
+        rule: Name,
+    },
     /// A dependence between two sites would be lost (JLS 17.4).
     LostDependence {
         kind: DepKind,
@@ -58,15 +99,25 @@ pub enum Refusal {
         second: SiteAt,
     },
     /// The span can't be cut out of the file.
-    BadSpan { from: u32, to: u32 },
+    BadSpan {
+        from: u32,
+        to: u32,
+    },
     /// A file, or all files together, would have `len` bytes, which are too many.
-    TooLong { len: u64 },
+    TooLong {
+        len: u64,
+    },
     NothingToUndo,
     NothingToRedo,
     /// All that was shown comes to `len` bytes, which are too many.
-    ReportFull { len: u64 },
+    ReportFull {
+        len: u64,
+    },
     /// The member has `count` sites, which are too many.
-    TooManySites { member: MemberKey, count: u32 },
+    TooManySites {
+        member: MemberKey,
+        count: u32,
+    },
 }
 
 impl Refusal {

@@ -32,11 +32,7 @@ fn method(alloc: Global, text: &str, params: Vec<Ty>) -> Result<MethodKey, Alloc
 fn declarations(alloc: Global) -> Result<Vec<(Decl, &'static str)>, AllocError> {
     let none = Vec::new(alloc);
     let mixed = vec![in alloc; Ty::Int, Ty::Class(class(alloc, "", "B")?)]?;
-    let inner = vec![in alloc;
-        Ty::Boolean,
-        Ty::Class(class(alloc, "O", "K")?),
-        Ty::Int
-    ]?;
+    let inner = vec![in alloc; Ty::Boolean, Ty::Class(class(alloc, "O", "K")?), Ty::Int]?;
     let int = vec![in alloc; Ty::Int]?;
     let first = LocalKey {
         member: MemberKey::Method(method(alloc, "m", Vec::new(alloc))?),

@@ -150,6 +150,7 @@ of_items-length (json.item j js) ds e = with_first (of_json j) (of_items js) ds 
     with_rest x None ds e h = absurd (cc)
     with_rest x (Some xs) [] e h = absurd (cc)
     with_rest x (Some xs) (d ∷ ds) e h = ap suc (h ds (cc))
+
     with_first : (first : Option Data) (more : Option Items) (ds : List Data) → option_and_then (λ d. option_map (item d) more) first ≡ Some (items_of ds) → ((rest : List Data) → more ≡ Some (items_of rest) → length rest ≡ json_len js) → length ds ≡ suc (json_len js)
     with_first None more ds e h = absurd (cc)
     with_first (Some x) more ds e h = with_rest x more ds e h
@@ -184,8 +185,8 @@ pub elements-short : (text : List ℕ) (ds : List Data) → read text ≡ Some (
 elements-short text ds e =
     option_and_then_some of_json (option_and_then (λ p. if_last p.0 p.1) (value max_depth (tokens text))) (array (items_of ds)) e
     (λ j is to.
-      let as_array = of_json-array j ds to in
-      let last = last_value (value max_depth (tokens text)) j is in
-      let found : value max_depth (tokens text) ≡ Some (json.array as_array.0, last.0) = last.1 ∙ ap (λ x. Some (x, last.0)) as_array.1 in
-      let short : json_len as_array.0 ≤ length (tokens text) = value-short 126 (tokens text) as_array.0 last.0 found in
-      omega (arith, of_items-length as_array.0 ds as_array.2, tokens-short text))
+    let as_array = of_json-array j ds to in
+    let last = last_value (value max_depth (tokens text)) j is in
+    let found : value max_depth (tokens text) ≡ Some (json.array as_array.0, last.0) = last.1 ∙ ap (λ x. Some (x, last.0)) as_array.1 in
+    let short : json_len as_array.0 ≤ length (tokens text) = value-short 126 (tokens text) as_array.0 last.0 found in
+    omega (arith, of_items-length as_array.0 ds as_array.2, tokens-short text))

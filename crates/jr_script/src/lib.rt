@@ -7,6 +7,8 @@
 mod faults;
 mod members;
 mod refusals;
+#[cfg(test)]
+mod report_tests;
 mod reports;
 mod rows;
 mod scripts;

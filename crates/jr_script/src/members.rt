@@ -36,11 +36,7 @@ pub(crate) fn str_at<'v>(element: &'v Value, name: &str) -> Option<&'v str>
 }
 
 // A member that takes any string.
-pub(crate) fn text_member(
-    alloc: Global,
-    element: &Value,
-    name: &str,
-) -> Result<Name, StepFault>
+pub(crate) fn text_member(alloc: Global, element: &Value, name: &str) -> Result<Name, StepFault>
     ensures ok { IfOk result (λ s. HasCell (view element.now) (text_at name.now s)) }
     ensures fault { IfErr result (Tells (IsMissing (view element.now) (column name.now text))) }
 {

@@ -12,9 +12,7 @@ ghost use Rattle.jr_script.specs.RefusalTexts as refusals;
 
 use crate::texts::{at_text, dep_kind_text, found_text, place_text, site_at_text};
 use jr_ast::Name;
-use jr_names::{
-    Refusal, SiteAt, class_text, decl_text, local_text, member_text, method_text,
-};
+use jr_names::{Refusal, SiteAt, class_text, decl_text, local_text, member_text, method_text};
 use jr_sync::DepKind;
 use jr_table::{ClassKey, Decl, Found, LocalKey, MemberKey, MethodKey};
 use jr_text::Place;
@@ -22,11 +20,7 @@ use std::alloc::{AllocError, Global};
 
 /// The text of a refusal: its name and then its fields, with one space between. A place is `FILE:AT`, with the byte
 /// counted from the start of the file, and the other fields are written as declarations, names and numbers are.
-pub fn refusal_text(
-    alloc: Global,
-    files: &[Name],
-    refusal: &Refusal,
-) -> Result<String, AllocError>
+pub fn refusal_text(alloc: Global, files: &[Name], refusal: &Refusal) -> Result<String, AllocError>
     requires { refusals.ArePlacesIn files.now (refusals.places_of (refusal_of refusal.now)) }
     ensures { IfOk result (λ text. string_bytes text
         ≡ refusals.refusal_text files.now (refusal_of refusal.now)) }

@@ -15,11 +15,7 @@ use serde_json::{Value, json};
 use std::alloc::{AllocError, Global};
 
 /// The text of a report: a JSON array with an object a reply, without spaces, and a line end.
-pub fn report_text(
-    alloc: Global,
-    files: &[Name],
-    replies: &[Reply],
-) -> Result<String, AllocError>
+pub fn report_text(alloc: Global, files: &[Name], replies: &[Reply]) -> Result<String, AllocError>
     requires { reports.AreRepliesIn files.now (map reply_of replies.now) }
     ensures { IfOk result (λ text. string_bytes text
         ≡ reports.report_text files.now (map reply_of replies.now)) }
@@ -30,11 +26,7 @@ pub fn report_text(
     Ok(text)
 }
 
-fn reply_values(
-    alloc: Global,
-    files: &[Name],
-    replies: &[Reply],
-) -> Result<Vec<Value>, AllocError>
+fn reply_values(alloc: Global, files: &[Name], replies: &[Reply]) -> Result<Vec<Value>, AllocError>
     requires { reports.AreRepliesIn files.now (map reply_of replies.now) }
     ensures { IfOk result (λ values. map view values.items
         ≡ map (reports.object_of files.now) (map reply_of replies.now)) }
@@ -70,11 +62,7 @@ fn word_value(alloc: Global, word: &str) -> Result<Value, AllocError>
     json!(in alloc; {"reply": word})
 }
 
-fn refactored_value(
-    alloc: Global,
-    changed: &[Name],
-    respelled: u32,
-) -> Result<Value, AllocError>
+fn refactored_value(alloc: Global, changed: &[Name], respelled: u32) -> Result<Value, AllocError>
     ensures { IfOk result (λ v. view v ≡ reports.refactored_object changed.now respelled) }
 {
     let files = strings_value(alloc, changed)?;

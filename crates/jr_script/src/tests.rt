@@ -101,7 +101,10 @@ fn scripts(rt: HostRuntime) -> Result<(), Fail> {
             "[{\"step\":\"rename\",\"file\":\"A.java\",\"at\":1,\"name\":\"b\"}]",
             "NotAScript 0 step",
         ),
-        ("[{\"step\":\"undo\"},{\"step\":\"do\",\"a\":1}]", "NotAScript 1 step"),
+        (
+            "[{\"step\":\"undo\"},{\"step\":\"do\",\"a\":1}]",
+            "NotAScript 1 step",
+        ),
         // The first member of the row that is missing or of the wrong kind.
         ("[{\"step\":\"edit\",\"a\":1}]", "NotAScript 0 file"),
         (
@@ -136,7 +139,10 @@ fn scripts(rt: HostRuntime) -> Result<(), Fail> {
             "[{\"step\":\"edit\",\"file\":\"A\",\"from\":0,\"to\":0,\"a\":1}]",
             "NotAScript 0 text",
         ),
-        ("[{\"step\":\"show\",\"what\":\"bindings\"}]", "NotAScript 0 file"),
+        (
+            "[{\"step\":\"show\",\"what\":\"bindings\"}]",
+            "NotAScript 0 file",
+        ),
         (
             "[{\"step\":\"show\",\"file\":\"A\",\"what\":\"dependences\"}]",
             "NotAScript 0 what",
@@ -159,7 +165,10 @@ fn scripts(rt: HostRuntime) -> Result<(), Fail> {
         let told = answer(alloc, script.as_bytes())?;
         assert_eq!(rt; told.as_str(), expected, "{script}");
     }
-    assert_eq!(rt; answer(alloc, b"[{\"step\":\"\xff\"}]")?.as_str(), "NotJson");
+    assert_eq!(rt;
+        answer(alloc, b"[{\"step\":\"\xff\"}]")?.as_str(),
+        "NotJson"
+    );
     Ok(())
 }
 
@@ -196,7 +205,10 @@ fn limits(rt: HostRuntime) -> Result<(), Fail> {
     // Arrays nest 127 deep at most.
     let deep = repeated(alloc, "[", "[", 126, "")?;
     let deep = repeated(alloc, deep.as_str(), "]", 127, "")?;
-    assert_eq!(rt; answer(alloc, deep.as_bytes())?.as_str(), "NotAScript 0 step");
+    assert_eq!(rt;
+        answer(alloc, deep.as_bytes())?.as_str(),
+        "NotAScript 0 step"
+    );
     let deeper = repeated(alloc, "[", "[", 127, "")?;
     let deeper = repeated(alloc, deeper.as_str(), "]", 128, "")?;
     assert_eq!(rt; answer(alloc, deeper.as_bytes())?.as_str(), "NotJson");

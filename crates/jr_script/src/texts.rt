@@ -23,11 +23,7 @@ pub(crate) fn at_text(alloc: Global, file: &Name, at: u32) -> Result<String, All
 }
 
 // The same of a place in one of the files.
-pub(crate) fn place_text(
-    alloc: Global,
-    files: &[Name],
-    place: Place,
-) -> Result<String, AllocError>
+pub(crate) fn place_text(alloc: Global, files: &[Name], place: Place) -> Result<String, AllocError>
     requires { place.file < length files.now }
     ensures { IfOk result (λ text. string_bytes text ≡ texts.place_text files.now place) }
 {

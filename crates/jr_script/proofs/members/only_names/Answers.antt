@@ -22,7 +22,7 @@ returns-then-not-is_among-clause-fault c =
     let left = c.next.new.self in
     let all : c.args.members.now.entries ≡ done ++ e ∷ left = c.loop-name.invariant.1 ∙ ap (λ es. done ++ es) c.in-Some.ensures.steps in
     let other = λ (h : Contains (texts_of c.args.names.now) (string_bytes e.0)).
-      true≢false (sym (c.is_among.ensures.1 (subst (Contains (texts_of c.args.names.now)) (sym c.as_str.ensures.value) h)) ∙ c.if-not-is_among.true) in
+    true≢false (sym (c.is_among.ensures.1 (subst (Contains (texts_of c.args.names.now)) (sym c.as_str.ensures.value) h)) ∙ c.if-not-is_among.true) in
     let first = IsFirstSurplus-at (object (members_view c.args.members.now.entries)) (texts_of c.args.names.now) done e left (ap (λ es. object (members_view es)) all)
     (subst (λ es. IsStrictlySortedBy string_cmp (keys_of es)) all c.iter-name-items.ensures.ordered) c.loop-name.invariant.2 other in
     Tells-weaker _ (IsFirstSurplus (object (members_view c.args.members.now.entries)) (texts_of c.args.names.now))
@@ -34,9 +34,12 @@ loop-name-preserved c =
     let done = c.loop-name.invariant.0 in
     let e : Entry = (c.in-Some.name.now, c.in-Some.«_value».now) in
     let left = c.next.new.self in
-    let all : c.args.members.now.entries ≡ done ++ e ∷ left = c.loop-name.invariant.1 ∙ ap (λ es. done ++ es) c.in-Some.ensures.steps in
-    (done ++ e ∷ [], all ∙ sym (append_assoc done (e ∷ []) left), AllAmong-push (texts_of c.args.names.now) done e c.loop-name.invariant.2
-    (subst (Contains (texts_of c.args.names.now)) c.as_str.ensures.value (c.is_among.ensures.0 c.if-not-is_among.false)))
+    let all : c.args.members.now.entries ≡ done ++ e ∷ left = c.loop-name.invariant.1 ∙ ap (λ es. done ++ es) c.in-Some.ensures.steps in (
+      done ++ e ∷ [],
+      all ∙ sym (append_assoc done (e ∷ []) left),
+      AllAmong-push (texts_of c.args.names.now) done e c.loop-name.invariant.2
+          (subst (Contains (texts_of c.args.names.now)) c.as_str.ensures.value (c.is_among.ensures.0 c.if-not-is_among.false)),
+    )
 
 pub returns-clause-ok : goal.returns-clause-ok
 returns-clause-ok c = HasOnly-members (object (members_view c.args.members.now.entries)) (texts_of c.args.names.now) c.args.members.now.entries refl
