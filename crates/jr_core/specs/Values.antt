@@ -7,8 +7,8 @@ pub data Value (K : Keys) : Type 0 where
   int : (number : ℤ) → Value K
   truth : (bool : Bool) → Value K
   null : Value K
-  -- a string literal's object: its characters. Literals of the same characters are one object (JLS 3.10.5).
-  text : (characters : List ℕ) → Value K
+  -- a string literal's object: its characters, as bytes of UTF-8. Literals of the same characters are one object (JLS 3.10.5).
+  text : (bytes : List ℕ) → Value K
   -- the Class object of a class (JLS 15.8.2)
   class_object : (of : K.class) → Value K
   -- an object is a number with a class
