@@ -4,6 +4,7 @@ use crate::{
     TypeRef, Unit,
 };
 use std::alloc::{AllocError, Global};
+use std::cell::Cell;
 use std::test::Fail;
 
 fn word(alloc: Global, mark: u32, text: &str) -> Result<Ident<u32>, AllocError> {
@@ -74,6 +75,18 @@ fn unit(alloc: Global) -> Result<Unit<u32>, AllocError> {
     let mut classes = Vec::new(alloc);
     classes.push(class(alloc)?)?;
     Ok(Unit::new(1, path, classes))
+}
+
+// `class A { m() { body } }`, with the marks 0 to 4.
+fn unit_of(alloc: Global, body: Vec<Stmt<u32>>) -> Result<Unit<u32>, AllocError> {
+    let name = word(alloc, 4, "m")?;
+    let method = Member::method(3, Vec::new(alloc), None, name, Vec::new(alloc), body);
+    let mut members = Vec::new(alloc);
+    members.push(method)?;
+    let name = word(alloc, 2, "A")?;
+    let mut classes = Vec::new(alloc);
+    classes.push(Class::new(1, Vec::new(alloc), name, None, members))?;
+    Ok(Unit::new(0, Vec::new(alloc), classes))
 }
 
 fn mark_of(node: &Node<'_, u32>) -> u32 {
@@ -206,13 +219,40 @@ fn marks_are_made_anew(rt: HostRuntime) -> Result<(), Fail> {
     Ok(())
 }
 
+// Names of these many bytes.
 #[test]
 fn names_are_their_bytes(rt: HostRuntime) -> Result<(), Fail> {
     let alloc = rt.alloc();
-    let name = Name::new(alloc, "ab")?;
-    assert_eq!(rt; name.as_str(), "ab");
-    assert!(rt; name == Name::new(alloc, "ab")?);
-    assert!(rt; name != Name::new(alloc, "a")?);
+    let other = Name::new(alloc, "ab")?;
+    for len in [0, 1, 255, 256, 65_536, 100_001, 1_048_576] {
+        let mut text = String::new(alloc);
+        for _ in 0..len {
+            text.push('a')?;
+        }
+        let name = Name::new(alloc, text.as_str())?;
+        assert!(rt; name.as_str() == text.as_str(), "{len} bytes");
+        assert!(rt; name == Name::new(alloc, text.as_str())?, "{len} bytes");
+        assert!(rt; name != other, "{len} bytes");
+    }
+    Ok(())
+}
+
+// Of more statements than sixteen bits count, the last one is copied and found.
+#[test]
+fn long_rows_are_copied(rt: HostRuntime) -> Result<(), Fail> {
+    let alloc = rt.alloc();
+    let mut body = Vec::new(alloc);
+    for _ in 0..65_537 {
+        body.push(Stmt::empty(7))?;
+    }
+    let copy = unit_of(alloc, body)?.with_marks(alloc, |mark| *mark ^ 64)?;
+    let table: [(&[u32], Marks); 2] = [
+        (&[0, 1, 65_537], [Some(71), None, Some(71), None]),
+        (&[0, 1, 65_538], [None, None, None, None]),
+    ];
+    for (steps, want) in table {
+        assert_eq!(rt; from_unit(alloc, &copy, steps)?, want);
+    }
     Ok(())
 }
 
@@ -220,41 +260,183 @@ fn names_are_their_bytes(rt: HostRuntime) -> Result<(), Fail> {
 // `if (x) ..`, whose four tokens count up to 300, and all of it has 500 words `else`.
 const DEEPEST: usize = 8_000;
 
-// `class A { m() { if (true) if (true) .. ; } }`
-fn deep_unit(alloc: Global) -> Result<Unit<u32>, AllocError> {
+// A statement around another.
+#[derive(Clone, Copy)]
+enum Level {
+    While,
+    Then,
+    ThenBeforeElse,
+    Else,
+    Block,
+}
+
+// Which child of the outer statement the inner one is.
+fn step_into(level: Level) -> u32 {
+    match level {
+        Level::While => 1,
+        Level::Then => 1,
+        Level::ThenBeforeElse => 1,
+        Level::Else => 2,
+        Level::Block => 0,
+    }
+}
+
+fn around(
+    alloc: Global,
+    level: Level,
+    inner: Box<Stmt<u32>>,
+) -> Result<Box<Stmt<u32>>, AllocError> {
+    let condition = Expr::truth(6, true);
+    let outer = match level {
+        Level::While => Stmt::while_loop(5, condition, inner),
+        Level::Then => Stmt::if_then(5, condition, inner),
+        Level::ThenBeforeElse => {
+            let no = Box::new(alloc, Stmt::empty(8))?;
+            Stmt::if_else(5, condition, inner, no)
+        }
+        Level::Else => {
+            let yes = Box::new(alloc, Stmt::empty(8))?;
+            Stmt::if_else(5, condition, yes, inner)
+        }
+        Level::Block => {
+            let mut body = Vec::new(alloc);
+            body.push(Box::into_inner(inner))?;
+            Stmt::block(5, body)
+        }
+    };
+    Ok(Box::new(alloc, outer)?)
+}
+
+// A unit whose one statement nests by these levels in turn.
+fn deep_unit(alloc: Global, levels: &[Level]) -> Result<Unit<u32>, AllocError> {
     let mut stmt = Box::new(alloc, Stmt::empty(7))?;
-    for _ in 0..DEEPEST {
-        stmt = Box::new(alloc, Stmt::if_then(5, Expr::truth(6, true), stmt))?;
+    for level in levels.iter().rev() {
+        stmt = around(alloc, *level, stmt)?;
     }
     let mut body = Vec::new(alloc);
     body.push(Box::into_inner(stmt))?;
-    let name = word(alloc, 4, "m")?;
-    let method = Member::method(3, Vec::new(alloc), None, name, Vec::new(alloc), body);
-    let mut members = Vec::new(alloc);
-    members.push(method)?;
-    let name = word(alloc, 2, "A")?;
-    let mut classes = Vec::new(alloc);
-    classes.push(Class::new(1, Vec::new(alloc), name, None, members))?;
-    Ok(Unit::new(0, Vec::new(alloc), classes))
+    unit_of(alloc, body)
+}
+
+// As many levels as a text has at most, of these in turn.
+fn levels_of(alloc: Global, turn: &[Level]) -> Result<Vec<Level>, AllocError> {
+    let mut levels = Vec::new(alloc);
+    let count = turn.len().max(1);
+    for i in 0..DEEPEST {
+        if let Some(level) = turn.get(i % count) {
+            levels.push(*level)?;
+        }
+    }
+    Ok(levels)
+}
+
+// To the statement inside all levels.
+fn path_down(alloc: Global, levels: &[Level]) -> Result<Path, AllocError> {
+    let mut steps = [0, 1, 1].to_vec(alloc)?;
+    for level in levels {
+        steps.push(step_into(*level))?;
+    }
+    Ok(Path { steps })
 }
 
 // As deep a tree as any text gives is walked, copied, changed and dropped on the stack that a
-// program has.
+// program has, whatever it nests.
 #[test]
-fn the_deepest_tree_fits_the_stack(rt: HostRuntime) -> Result<(), Fail> {
+fn the_deepest_trees_fit_the_stack(rt: HostRuntime) -> Result<(), Fail> {
     let alloc = rt.alloc();
-    let mut steps = Vec::new(alloc);
-    steps.push(0)?;
-    for _ in 0..DEEPEST + 2 {
-        steps.push(1)?;
+    let table: [&[Level]; 5] = [
+        &[Level::While],
+        &[Level::Then],
+        &[Level::Else],
+        &[Level::While, Level::Then, Level::Else],
+        &[
+            Level::Block,
+            Level::ThenBeforeElse,
+            Level::While,
+            Level::While,
+            Level::Then,
+            Level::Else,
+            Level::Then,
+            Level::While,
+            Level::While,
+            Level::Then,
+            Level::While,
+            Level::Then,
+            Level::Else,
+            Level::While,
+            Level::Then,
+            Level::Then,
+        ],
+    ];
+    for turn in table {
+        let levels = levels_of(alloc, turn)?;
+        let path = path_down(alloc, levels.as_slice())?;
+        let mut copy = deep_unit(alloc, levels.as_slice())?.with_marks(alloc, |mark| *mark ^ 64)?;
+        assert_eq!(rt; copy.stmt_at(&path).map(|stmt| stmt.mark), Some(71));
+        match copy.stmt_at_mut(&path) {
+            None => assert!(rt; false),
+            Some(stmt) => stmt.mark = 90,
+        }
+        assert_eq!(rt; copy.stmt_at(&path).map(|stmt| stmt.mark), Some(90));
     }
-    let path = Path { steps };
-    let mut copy = deep_unit(alloc)?.with_marks(alloc, |mark| *mark ^ 64)?;
-    assert_eq!(rt; copy.stmt_at(&path).map(|stmt| stmt.mark), Some(71));
-    match copy.stmt_at_mut(&path) {
-        None => assert!(rt; false),
-        Some(stmt) => stmt.mark = 90,
+    Ok(())
+}
+
+// A mark that is counted as long as it lives.
+struct Counted<'a>(&'a Cell<usize>);
+
+impl<'a> Counted<'a> {
+    fn new(live: &'a Cell<usize>) -> Counted<'a> {
+        live.set(live.get().wrapping_add(1));
+        Counted(live)
     }
-    assert_eq!(rt; copy.stmt_at(&path).map(|stmt| stmt.mark), Some(90));
+}
+
+impl Drop for Counted<'_> {
+    fn drop(self) {
+        let Counted(live) = self;
+        live.set(live.get().wrapping_sub(1));
+    }
+}
+
+// `while (true) m(x + 1);`, `if (true) m(x + 1);`, `if (true) m(x + 1); else m(x + 1);`
+fn branches(alloc: Global) -> Result<Vec<Stmt<u32>>, AllocError> {
+    let mut all = Vec::new(alloc);
+    let body = Box::new(alloc, call(alloc)?)?;
+    all.push(Stmt::while_loop(0, Expr::truth(0, true), body))?;
+    let yes = Box::new(alloc, call(alloc)?)?;
+    all.push(Stmt::if_then(0, Expr::truth(0, true), yes))?;
+    let yes = Box::new(alloc, call(alloc)?)?;
+    let no = Box::new(alloc, call(alloc)?)?;
+    all.push(Stmt::if_else(0, Expr::truth(0, true), yes, no))?;
+    Ok(all)
+}
+
+// `int x = 1;`, `m(x + 1);`, `return x + 1;`, `;`, and those of `branches` in a block and
+// synchronized.
+fn each_kind(alloc: Global) -> Result<Vec<Stmt<u32>>, AllocError> {
+    let mut all = Vec::new(alloc);
+    let name = word(alloc, 0, "x")?;
+    let ty = plain(0, TypeKind::Int);
+    all.push(Stmt::local(0, false, ty, name, Expr::number(0, 1)))?;
+    all.push(call(alloc)?)?;
+    all.push(Stmt::return_value(0, Some(sum(alloc)?)))?;
+    all.push(Stmt::empty(0))?;
+    all.push(Stmt::block(0, branches(alloc)?))?;
+    all.push(Stmt::sync(0, Expr::this(0), branches(alloc)?))?;
+    Ok(all)
+}
+
+// What is dropped frees all that it holds: `m(x + 1);` has seven marks, and the nodes of the rest
+// are counted by hand too.
+#[test]
+fn a_drop_frees_each_mark(rt: HostRuntime) -> Result<(), Fail> {
+    let alloc = rt.alloc();
+    let unit = unit_of(alloc, each_kind(alloc)?)?;
+    let live = Cell::new(0usize);
+    let copy = unit.with_marks(alloc, |_| Counted::new(&live))?;
+    assert_eq!(rt; live.get(), 5 + 4 + 7 + 5 + 1 + 1 + 2 + 2 * (9 + 9 + 16));
+    drop(copy);
+    assert_eq!(rt; live.get(), 0);
     Ok(())
 }

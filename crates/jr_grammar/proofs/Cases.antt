@@ -4,7 +4,9 @@ pub mod Operators
 pub mod Primaries
 pub mod StatementExpressions
 pub mod SideConditions
+pub mod Places
 pub mod Parts
+pub mod Scanned
 pub mod Statements
 pub mod Classes
 pub mod UnitPlaces

@@ -1,7 +1,14 @@
 pub mod OneAnswer
+pub mod Layouts
+pub mod ExpressionLayouts
+pub mod StatementLayouts
+pub mod MemberLayouts
+pub mod ExpressionMarks
+pub mod StatementMarks
+pub mod MemberMarks
+pub mod Marked
+pub mod Lexical
 pub mod Remarked
-pub mod RemarkedSpelling
 pub mod RemarkedShape
-pub mod Standing
-pub mod UnitStanding
+pub mod Reading
 pub mod Cases

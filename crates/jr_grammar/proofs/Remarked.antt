@@ -1,69 +1,19 @@
 -- What an expression spells, and its shape, don't depend on its marks.
-use Rattle.std.proofs.Common.{◌≡◌, ◌↔◌, ◌<◌, ◌≤◌, Bool, false, List, [], ◌∷◌, ◌++◌, Option, Some, None, option_map, refl, sym, subst, ap}
-use Rattle.jr_lex.specs.declared.items.Keyword.TheVariants.{Class, New, Super}
-use Rattle.jr_lex.specs.declared.items.Symbol.TheVariants.{OpenParen, CloseParen, Comma, Dot, Equals}
-use Rattle.jr_ast.specs.Tree.{Word, TypeName, int, boolean, named, Exp, number, truth, null, string, name, field, super_field, this, class_literal, call, super_call, create, paren, cast, unary, bump, binary, assign, compound, Target, no_target, on, Exps, end, more}
-use Rattle.jr_grammar.specs.Tokens.{Token, word, keyword, symbol}
-use Rattle.jr_grammar.specs.Spelling.{unary_symbol, binary_symbol, compound_symbol, bump_toks, name_toks, type_toks, toks, target_toks, args_toks, more_toks}
+use Rattle.std.proofs.Common.{◌≡◌, ◌↔◌, ◌<◌, ◌≤◌, Bool, false, refl, sym, subst, ap, ◌∙◌}
+use Rattle.jr_ast.specs.Tree.{TypeName, named, Exp, number, name, field, super_field, class_literal, call, super_call, create, paren, cast, unary, bump, binary, assign, compound, Target, no_target, on, Exps, end, more}
+use Rattle.jr_grammar.specs.Spelling.{toks}
+use Rattle.jr_grammar.specs.Layout.{laid}
+use Rattle.jr_grammar.specs.ExpressionLayout.{exp_layout}
+use Rattle.jr_grammar.proofs.Layouts.{laid-map}
+use Rattle.jr_grammar.proofs.ExpressionLayouts.{exp_laid, exp_layout-map}
 use Rattle.jr_grammar.specs.Shape.{rank_of, level_of, IsTarget, IsCompound, IsNamed, ShapedBehind, ShapedTarget, AllShaped, IsStatementForm, is_minus, behind_of}
-use Rattle.jr_ast.specs.Remarked.{map_word, map_type, map_exp, map_target, map_exps}
+use Rattle.jr_ast.specs.Remarked.{map_type, map_exp, map_target, map_exps}
 use Rattle.jr_grammar.specs.IgnoresMarks.{ExpressionIgnoresMarks}
 
 -- ---- spelling
 
-name_toks-map : {A B : Type 0} (h : A → B) (o : Option (Word A)) (w : Word A) → name_toks (option_map (map_word h) o) (map_word h w) ≡ name_toks o w
-unfolding map_exp map_exps map_target
-name_toks-map h None w = refl
-name_toks-map h (Some o) w = refl
-
-pub type_toks-map : {A B : Type 0} (h : A → B) (t : TypeName A) → type_toks (map_type h t) ≡ type_toks t
-unfolding map_exp map_exps map_target
-type_toks-map h (int m) = refl
-type_toks-map h (boolean m) = refl
-type_toks-map h (named m o w) = name_toks-map h o w
-
--- one part after another
-two : (a b c d : List Token) → a ≡ b → c ≡ d → a ++ c ≡ b ++ d
-two a b c d p q = λ i. p i ++ q i
-
-then : (a b c : List Token) → a ≡ b → a ++ c ≡ b ++ c
-then a b c p = λ i. p i ++ c
-
-mutual
-  unfolding map_exp map_exps map_target
-
-  pub toks-map : {A B : Type 0} (h : A → B) (e : Exp A) → toks (map_exp h e) ≡ toks e
-  toks-map h (number m n) = refl
-  toks-map h (truth m b) = refl
-  toks-map h (null m) = refl
-  toks-map h (string m s) = refl
-  toks-map h (name m w) = refl
-  toks-map h (field m e w) = then _ _ (symbol Dot ∷ word w.text ∷ []) (toks-map h e)
-  toks-map h (super_field m w) = refl
-  toks-map h (this m) = refl
-  toks-map h (class_literal m t) = then _ _ (symbol Dot ∷ keyword Class ∷ []) (type_toks-map h t)
-  toks-map h (call m t w es) = two _ _ _ _ (target_toks-map h t) (ap (λ (y : List Token). word w.text ∷ symbol OpenParen ∷ (y ++ (symbol CloseParen ∷ []))) (args_toks-map h es))
-  toks-map h (super_call m w es) = ap (λ (y : List Token). keyword Super ∷ symbol Dot ∷ word w.text ∷ symbol OpenParen ∷ (y ++ (symbol CloseParen ∷ []))) (args_toks-map h es)
-  toks-map h (create m t es) = ap (λ (y : List Token). keyword New ∷ y) (two _ _ _ _ (type_toks-map h t) (ap (λ (y : List Token). symbol OpenParen ∷ (y ++ (symbol CloseParen ∷ []))) (args_toks-map h es)))
-  toks-map h (paren m e) = ap (λ (y : List Token). symbol OpenParen ∷ (y ++ (symbol CloseParen ∷ []))) (toks-map h e)
-  toks-map h (cast m t e) = ap (λ (y : List Token). symbol OpenParen ∷ y) (two _ _ _ _ (type_toks-map h t) (ap (λ (y : List Token). symbol CloseParen ∷ y) (toks-map h e)))
-  toks-map h (unary m o e) = ap (λ (y : List Token). symbol (unary_symbol o) ∷ y) (toks-map h e)
-  toks-map h (bump m o e) = ap (bump_toks o) (toks-map h e)
-  toks-map h (binary m o l r) = two _ _ _ _ (toks-map h l) (ap (λ (y : List Token). symbol (binary_symbol o) ∷ y) (toks-map h r))
-  toks-map h (assign m t e) = two _ _ _ _ (toks-map h t) (ap (λ (y : List Token). symbol Equals ∷ y) (toks-map h e))
-  toks-map h (compound m o t e) = two _ _ _ _ (toks-map h t) (ap (λ (y : List Token). symbol (compound_symbol o) ∷ y) (toks-map h e))
-
-  target_toks-map : {A B : Type 0} (h : A → B) (t : Target A) → target_toks (map_target h t) ≡ target_toks t
-  target_toks-map h no_target = refl
-  target_toks-map h (on e) = then _ _ (symbol Dot ∷ []) (toks-map h e)
-
-  pub args_toks-map : {A B : Type 0} (h : A → B) (es : Exps A) → args_toks (map_exps h es) ≡ args_toks es
-  args_toks-map h end = refl
-  args_toks-map h (more e es) = two _ _ _ _ (toks-map h e) (more_toks-map h es)
-
-  more_toks-map : {A B : Type 0} (h : A → B) (es : Exps A) → more_toks (map_exps h es) ≡ more_toks es
-  more_toks-map h end = refl
-  more_toks-map h (more e es) = ap (λ (y : List Token). symbol Comma ∷ y) (two _ _ _ _ (toks-map h e) (more_toks-map h es))
+toks-map : {A B : Type 0} (h : A → B) (e : Exp A) → toks (map_exp h e) ≡ toks e
+toks-map h e = sym (exp_laid (map_exp h e)) ∙ ap laid (sym (exp_layout-map h e)) ∙ laid-map h (exp_layout e) ∙ exp_laid e
 
 -- ---- shape
 

@@ -1,5 +1,5 @@
 -- The shape of statements, members, classes and units doesn't depend on marks.
-use Rattle.std.proofs.Common.{◌≡◌, ℕ, Bool, true, false, List, [], ◌∷◌, Option, Some, None, map, option_map, refl}
+use Rattle.std.proofs.Common.{◌≡◌, ℕ, Bool, true, false, List, [], ◌∷◌, Option, Some, None, map, option_map, refl, sym, ap, ◌∙◌}
 use Rattle.jr_ast.specs.Tree.{TypeName, Exp, Exps}
 use Rattle.jr_ast.specs.StatementTree.{Stmt, local, eval, branch, loop, return, block, sync, empty, Else as Otherwise, no_else, otherwise, Stmts, end, more}
 use Rattle.jr_ast.specs.MemberTree as M
@@ -8,8 +8,15 @@ use Rattle.jr_grammar.proofs.Remarked.{holds_alike, IsNamed-map, IsStatementForm
 use Rattle.jr_grammar.specs.StatementShape.{IsNoDeclaration, TakesNoElse, EndsTaken, ShapedValue, StmtShaped, ElseShaped, StmtsShaped}
 use Rattle.jr_grammar.specs.MemberShape.{IsParent, IsNamedAs, ShapedArgs, HoldsClasses, ClassShaped, MemberShaped, MembersShaped, ClassesShaped, UnitShaped}
 use Rattle.jr_ast.specs.Remarked.{map_type, map_exp, map_exps, map_stmt, map_else, map_stmts, map_member, map_class, map_members, map_unit}
-use Rattle.jr_grammar.specs.IgnoresMarks.{UnitIgnoresMarks}
-use Rattle.jr_grammar.proofs.RemarkedSpelling.{unit_toks-map}
+use Rattle.jr_grammar.specs.IgnoresMarks.{StatementIgnoresMarks, MemberIgnoresMarks, UnitIgnoresMarks}
+use Rattle.jr_grammar.specs.Layout.{laid, all_laid}
+use Rattle.jr_grammar.specs.StatementSpelling.{stmt_toks, stmts_toks}
+use Rattle.jr_grammar.specs.MemberSpelling.{member_toks, unit_toks}
+use Rattle.jr_grammar.specs.StatementLayout.{stmt_layout, stmts_layout}
+use Rattle.jr_grammar.specs.MemberLayout.{member_layout, unit_layouts}
+use Rattle.jr_grammar.proofs.Layouts.{laid-map, all_laid-map}
+use Rattle.jr_grammar.proofs.StatementLayouts.{stmt_laid, stmts_laid, stmt_layout-map, stmts_layout-map}
+use Rattle.jr_grammar.proofs.MemberLayouts.{member_laid, unit_laid, member_layout-map, unit_layouts-map}
 
 -- ---- statements
 
@@ -92,7 +99,32 @@ pub UnitShaped-map : {A B : Type 0} (h : A → B) (u : UnitTree A) → UnitShape
 unfolding map_stmt map_else map_stmts map_class map_member map_members
 UnitShaped-map h u = ClassesShaped-map h u.classes
 
--- ---- the law
+-- ---- spelling
+
+stmt_toks-map : {A B : Type 0} (h : A → B) (s : Stmt A) → stmt_toks (map_stmt h s) ≡ stmt_toks s
+stmt_toks-map h s = sym (stmt_laid (map_stmt h s)) ∙ ap laid (sym (stmt_layout-map h s)) ∙ laid-map h (stmt_layout s) ∙ stmt_laid s
+
+stmts_toks-map : {A B : Type 0} (h : A → B) (ss : Stmts A) → stmts_toks (map_stmts h ss) ≡ stmts_toks ss
+stmts_toks-map h ss = sym (stmts_laid (map_stmts h ss)) ∙ ap laid (sym (stmts_layout-map h ss)) ∙ laid-map h (stmts_layout ss) ∙ stmts_laid ss
+
+member_toks-map : {A B : Type 0} (h : A → B) (d : Member A) → member_toks (map_member h d) ≡ member_toks d
+member_toks-map h d = sym (member_laid (map_member h d)) ∙ ap laid (sym (member_layout-map h d)) ∙ laid-map h (member_layout d) ∙ member_laid d
+
+unit_toks-map : {A B : Type 0} (h : A → B) (u : UnitTree A) → unit_toks (map_unit h u) ≡ unit_toks u
+unit_toks-map h u = sym (unit_laid (map_unit h u)) ∙ ap all_laid (sym (unit_layouts-map h u)) ∙ all_laid-map h (unit_layouts u) ∙ unit_laid u
+
+-- ---- the laws
+
+pub statement_ignores_marks : {A B : Type 0} → StatementIgnoresMarks A B
+statement_ignores_marks = record {
+  spelling = stmt_toks-map;
+  shape = λ h s. holds_alike _ _ (StmtShaped-map h s);
+  list_spelling = stmts_toks-map;
+  list_shape = λ h ss. holds_alike _ _ (StmtsShaped-map h ss);
+}
+
+pub member_ignores_marks : {A B : Type 0} → MemberIgnoresMarks A B
+member_ignores_marks = record { spelling = member_toks-map; shape = λ h nested name d. holds_alike _ _ (MemberShaped-map h nested name d) }
 
 pub unit_ignores_marks : {A B : Type 0} → UnitIgnoresMarks A B
 unit_ignores_marks = record { spelling = unit_toks-map; shape = λ h u. holds_alike _ _ (UnitShaped-map h u) }

@@ -34,3 +34,9 @@ module _ (Tree : Type 0) (spelled : Tree → List Token) (IsMeant : Tree → Typ
     pub within : n ≤ length tokens
     pub before : (tree : Tree) × Begins (take n tokens) tree
     pub at : n < length tokens → (tree : Tree) → Begins (take (n + 1) tokens) tree → ⊥
+
+  -- Tokens have one stop, and one longest tree or none.
+  pub record OneReading : Type 0 where
+    pub stop : (tokens : List Token) (n m : ℕ) → IsStop tokens n → IsStop tokens m → n ≡ m
+    pub longest : (tokens : List Token) (n m : ℕ) (a b : Tree) → IsLongest tokens n a → IsLongest tokens m b → n ≡ m
+    pub never_both : (tokens : List Token) (n : ℕ) (tree : Tree) → IsLongest tokens n tree → HasNone tokens → ⊥

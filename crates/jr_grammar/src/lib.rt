@@ -3,4 +3,7 @@
 
 mod laws;
 
-pub use laws::{expression_ignores_marks, unit_ignores_marks};
+pub use laws::{
+    expression_ignores_marks, marks_are_one, member_ignores_marks, readings_are_one,
+    reads_are_grammar, spans_are_one, statement_ignores_marks, unit_ignores_marks,
+};

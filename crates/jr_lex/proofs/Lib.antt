@@ -14,3 +14,5 @@ pub mod LocalLaws
 pub mod ReplaceLaws
 pub mod DepthLaws
 pub mod PlaceLaws
+pub mod EndLaws
+pub mod BesideLaws

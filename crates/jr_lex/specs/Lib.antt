@@ -13,3 +13,4 @@ pub mod Scan
 pub mod Front
 pub mod Answers
 pub mod Places
+pub mod Beside

@@ -44,7 +44,8 @@ pub(crate) fn is_word_part(c: char) -> bool
 
 /// The first character of a text, and what follows it. None exactly where the text is empty.
 pub(crate) fn split_first(text: &str) -> Option<(char, &str)>
-    ensures cases { MatchOption result (chars text.now ≡ []) (λ x. BeginsWith text.now x.0 x.1.now) }
+    ensures cases { MatchOption result (chars text.now ≡ []) (λ x.
+        BeginsWith text.now x.0 x.1.now) }
     ensures shorter { MatchOption result (text.now ≡ []) (λ x. length x.1.now < length text.now) }
 {
     let mut all = text.chars();

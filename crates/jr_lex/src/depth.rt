@@ -1,5 +1,5 @@
-//! Limits on a file's tokens: how many brackets may be open at once, how many tokens may stand between two of `;`, `{`
-//! and `}`, and how many may be `else`.
+//! Limits on a file's tokens: how many brackets may be open at once, how many tokens may stand
+//! between two of `;`, `{` and `}`, and how many may be `else`.
 
 ghost use Rattle.std.specs.Prelude.{◌≡◌, ◌≤◌, ◌<◌, ◌⊎◌, ◌↔◌, IsTrue, OnOk, IfErr, IsOk, IsErr, ℕ, false};
 ghost use Rattle.jr_lex.specs.Depth as spec;
@@ -108,25 +108,32 @@ impl Counts {
 
     /// Whether one of the limits is passed.
     fn are_beyond(self) -> bool
-        ensures beyond { IsTrue result → (MAX_UNCLOSED < self.unclosed) ⊎ (MAX_BETWEEN < self.since) ⊎ (MAX_ELSES < self.elses) }
-        ensures within { result ≡ false → (self.unclosed ≤ MAX_UNCLOSED) × (self.since ≤ MAX_BETWEEN) × (self.elses ≤ MAX_ELSES) }
+        ensures beyond { IsTrue result
+            → (MAX_UNCLOSED < self.unclosed) ⊎ (MAX_BETWEEN < self.since)
+            ⊎ (MAX_ELSES < self.elses) }
+        ensures within { result ≡ false
+            → (self.unclosed ≤ MAX_UNCLOSED) × (self.since ≤ MAX_BETWEEN)
+            × (self.elses ≤ MAX_ELSES) }
     {
         self.unclosed > MAX_UNCLOSED || self.since > MAX_BETWEEN || self.elses > MAX_ELSES
     }
 }
 
-/// Whether a file's items stay within the limits: 100 open brackets of `(`, `{` and `[`, 300 tokens since the last of `;`,
-/// `{` and `}` (or since the file's start), and 500 tokens `else`. A closing bracket closes the last one that is open,
-/// whatever its kind. Blanks and comments aren't counted.
+/// Whether a file's items stay within the limits: 100 open brackets of `(`, `{` and `[`, 300 tokens
+/// since the last of `;`, `{` and `}` (or since the file's start), and 500 tokens `else`. A closing
+/// bracket closes the last one that is open, whatever its kind. Blanks and comments aren't counted.
 ///
-/// An `Err` has the place of the first token with which one of the three counts is passed. No memory is taken.
+/// An `Err` has the place of the first token with which one of the three counts is passed. No
+/// memory is taken.
 pub fn measure(items: &[Item]) -> Result<(), TooDeep>
     ensures within { OnOk result (spec.AreWithin items.now) }
     ensures beyond { IfErr result (λ fault. spec.IsFirstBeyond items.now fault.at) }
 
-    // An answer says exactly this much: no items are within the limits and beyond them, nor first beyond them twice.
+    // An answer says exactly this much: no items are within the limits and beyond them, nor first
+    // beyond them twice.
     ensures only_within { spec.AreWithin items.now → IsOk result }
-    ensures only_beyond { (at : ℕ) → spec.IsFirstBeyond items.now at → IfErr result (λ fault. fault.at ≡ at) × IsErr result }
+    ensures only_beyond { (at : ℕ) → spec.IsFirstBeyond items.now at
+        → IfErr result (λ fault. fault.at ≡ at) × IsErr result }
 {
     let mut counts = Counts {
         unclosed: 0,

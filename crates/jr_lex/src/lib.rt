@@ -19,7 +19,7 @@ mod words;
 pub use depth::{TooDeep, measure};
 pub use faults::LexFault;
 pub use items::{Item, ItemKind, Keyword, Symbol, TokenKind};
-pub use laws::{items_are_placed, one_answer, words_may_be_replaced};
+pub use laws::{items_are_placed, one_answer, pieces_lex, words_may_be_replaced};
 pub use lexing::lex;
 pub use words::is_identifier;
 

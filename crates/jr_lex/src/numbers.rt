@@ -24,10 +24,12 @@ fn grown(number: u32, digit: char) -> u32
     next.min(u64::from(TOO_GREAT)) as u32
 }
 
-/// The number that the digits at the front spell behind those of `number`, or `TOO_GREAT`, and what follows them.
+/// The number that the digits at the front spell behind those of `number`, or `TOO_GREAT`, and what
+/// follows them.
 fn digits(mut number: u32, mut text: &str) -> (u32, &str)
     requires { number ≤ TOO_GREAT }
-    ensures number { result.0 ≡ min (number_from number (spec.front_of is_digit (chars text.entry.now))) TOO_GREAT }
+    ensures number { result.0
+        ≡ min (number_from number (spec.front_of is_digit (chars text.entry.now))) TOO_GREAT }
     ensures rest { chars result.1.now ≡ spec.rest_after is_digit (chars text.entry.now) }
 {
     while let Some((first, behind)) = split_first(text) {
@@ -63,7 +65,8 @@ fn begins_with_spoiler(text: &str) -> bool
 /// The number that begins with the digit `first` at the byte `at`, and what follows it.
 pub(crate) fn number(at: u32, first: char, behind: &str) -> Result<(ItemKind, &str), LexFault>
     requires { is_digit first ≡ true }
-    ensures { spec.Gives (λ x. (x.0, chars x.1.now)) result (spec.number_at at first (chars behind.now)) }
+    ensures { spec.Gives (λ x. (x.0, chars x.1.now)) result
+        (spec.number_at at first (chars behind.now)) }
 {
     let (value, rest) = digits(grown(0, first), behind);
     let is_padded = first == '0' && begins_with_digit(behind);

@@ -31,7 +31,8 @@ fn word<'a>(text: &str, first: char, behind: &'a str) -> (ItemKind, &'a str)
 
 /// A symbol that begins with `first`, and what follows it.
 fn mark(first: Symbol, behind: &str) -> (ItemKind, &str)
-    ensures { spec.marked (spec.grown first (chars behind.now)) ≡ Ok (result.0, chars result.1.now) }
+    ensures { spec.marked (spec.grown first (chars behind.now))
+        ≡ Ok (result.0, chars result.1.now) }
 {
     let (symbol, rest) = grown(first, behind);
     (ItemKind::Token(TokenKind::Mark(symbol)), rest)
@@ -60,7 +61,8 @@ fn backslash(at: u32, behind: &str) -> LexFault
     }
 }
 
-/// The item that the text at the byte `at` begins with, whose first character is `first`, and what follows it.
+/// The item that the text at the byte `at` begins with, whose first character is `first`, and what
+/// follows it.
 #[tactic(auto, unfolding(crate::specs::Scan::scan))]
 pub(crate) fn scan<'a>(
     at: u32,
@@ -70,7 +72,8 @@ pub(crate) fn scan<'a>(
 ) -> Result<(ItemKind, &'a str), LexFault>
     requires begins { BeginsWith text.now first behind.now }
     requires fits { at + 1 + length behind.now < 2 ^ 32 }
-    ensures { spec.Gives (λ x. (x.0, chars x.1.now)) result (spec.scan at first (chars behind.now)) }
+    ensures { spec.Gives (λ x. (x.0, chars x.1.now)) result
+        (spec.scan at first (chars behind.now)) }
 {
     if is_blank(first) {
         return Ok((ItemKind::Blank, after_blanks(behind)));

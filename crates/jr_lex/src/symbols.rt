@@ -134,7 +134,8 @@ fn after_two_dots(text: &str) -> Option<&str>
 
 /// The symbol that begins with a `.` at the byte `at`, and what follows it.
 pub(crate) fn dots(at: u32, behind: &str) -> Result<(ItemKind, &str), LexFault>
-    ensures { spec.Gives (λ x. (x.0, chars x.1.now)) result (spec.scanned_dot at (chars behind.now)) }
+    ensures { spec.Gives (λ x. (x.0, chars x.1.now)) result
+        (spec.scanned_dot at (chars behind.now)) }
 {
     if begins_with_digit(behind) {
         return Err(LexFault::BadNumber { at });

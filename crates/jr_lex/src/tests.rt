@@ -196,13 +196,80 @@ fn finds_first_faults(rt: HostRuntime) {
     }
 }
 
-/// The place at which so many copies of a text are too deep.
-fn deep_place(rt: &impl Abort, alloc: Global, piece: &str, count: u32) -> Option<TooDeep> {
+/// So many copies of a piece, and what is behind them.
+fn repeated(rt: &impl Abort, alloc: Global, piece: &str, count: u32, behind: &str) -> Text {
     let mut whole = String::new(alloc);
     for _ in 0..count {
         whole.push_str(piece).expect(rt, "memory");
     }
-    let items = lex(alloc, &text_of(rt, alloc, whole.as_str())).expect(rt, piece);
+    whole.push_str(behind).expect(rt, "memory");
+    text_of(rt, alloc, whole.as_str())
+}
+
+const SIZES: [u32; 9] = [
+    1, 255, 256, 65_535, 65_536, 65_537, 100_001, 524_288, 1_048_575,
+];
+
+/// Texts of each size up to the limit are cut, and their faults found: of many items and of one
+/// long one.
+#[test]
+fn sizes_up_to_the_limit(rt: HostRuntime) {
+    let alloc = rt.alloc();
+    for (piece, long) in [(";", false), ("a", true), (" ", true)] {
+        for count in SIZES {
+            let items = lex(alloc, &repeated(&rt, alloc, piece, count, ""));
+            let items = items.expect(&rt, piece);
+            let len = if long { 1 } else { count as usize };
+            assert_eq!(rt; items.len(), len, "{count} of {piece:?}");
+            let end = items.last().map(|item| item.span.to);
+            assert_eq!(rt; end, Some(count), "{count} of {piece:?}");
+            let fault = lex(alloc, &repeated(&rt, alloc, piece, count, "#")).err();
+            assert_eq!(rt;
+                fault,
+                Some(LexFault::BadByte { at: count }),
+                "{count} of {piece:?}"
+            );
+        }
+    }
+}
+
+#[test]
+fn faults_as_texts(rt: HostRuntime) {
+    let alloc = rt.alloc();
+    let table = [
+        (
+            LexFault::BadByte { at: 7 },
+            "no item begins with the character at byte 7",
+        ),
+        (
+            LexFault::OpenComment { at: 7 },
+            "the comment at byte 7 doesn't end",
+        ),
+        (
+            LexFault::OpenString { at: 7 },
+            "the string at byte 7 doesn't end",
+        ),
+        (
+            LexFault::Escape { at: 7 },
+            "the escape at byte 7 is none of this profile",
+        ),
+        (
+            LexFault::BadNumber { at: 7 },
+            "the number at byte 7 is none of this profile",
+        ),
+        (LexFault::Memory, "out of memory"),
+    ];
+    for (fault, text) in table {
+        let said = fault.to_string(alloc).expect(&rt, text);
+        assert_eq!(rt; said.as_str(), text);
+    }
+    let deep = TooDeep { at: 7 }.to_string(alloc).expect(&rt, "memory");
+    assert_eq!(rt; deep.as_str(), "the text is too deep at byte 7");
+}
+
+/// The place at which so many copies of a text are too deep.
+fn deep_place(rt: &impl Abort, alloc: Global, piece: &str, count: u32) -> Option<TooDeep> {
+    let items = lex(alloc, &repeated(rt, alloc, piece, count, "")).expect(rt, piece);
     measure(items.as_slice()).err()
 }
 

@@ -38,7 +38,8 @@ pub(crate) fn after_word(mut text: &str) -> &str
 
 /// The keyword of that spelling in a table.
 fn lookup(mut table: &[(&[u8], Keyword)], word: &[u8]) -> Option<Keyword>
-    ensures { result ≡ spec.lookup (map (λ entry. (entry.0.now, entry.1)) table.entry.now) word.now }
+    ensures { result
+        ≡ spec.lookup (map (λ entry. (entry.0.now, entry.1)) table.entry.now) word.now }
 {
     while let [entry, rest @ ..] = table {
         if entry.0 == word {

@@ -2,4 +2,3 @@ pub mod Forms
 pub mod Stops
 pub mod Refused
 pub mod StatementExpressions
-pub mod Places

@@ -7,17 +7,19 @@ use Rattle.jr_ast.specs.Tree.{Exp}
 use Rattle.jr_grammar.specs.Tokens.{Token, Placed, kinds}
 use Rattle.jr_grammar.specs.Spelling.{toks}
 use Rattle.jr_grammar.specs.Shape.{Shaped, ShapedStatement}
-use Rattle.jr_grammar.specs.Stands.{Tokens, Stands}
+use Rattle.jr_grammar.specs.Stands.{Tokens}
+use Rattle.jr_pexpr.proofs.Placed.{Stands, laid_out}
 use Rattle.jr_pexpr.specs.Machine.{State, want, have, whole_of, reduced}
 use Rattle.jr_grammar.specs.Bare.{Bare, no_mark, bare}
 use Rattle.jr_pexpr.specs.BareMachine.{bare_state, bare_step, bare_whole, bare_run, bare_statement_step, bare_statement_whole, bare_statement_run}
 use Rattle.jr_pexpr.specs.Marked.{join, span_step, span_whole, span_run, span_statement_step, span_statement_whole, span_statement_run}
 use Rattle.jr_grammar.specs.Expressions.{IsMarkedExpression, IsMarkedStatementExpression, OneExpression, OneStatementExpression, HasNoExpression, HasNoStatementExpression, IsLongestExpression, IsLongestStatementExpression}
-use Rattle.jr_pexpr.specs.Expressions.{LengthIsLongest, StatementLengthIsLongest, StopIsExact, StatementStopIsExact, StepsAlike, BuildsMarked, OneMarkedExpression, expression_length, statement_expression_length}
+use Rattle.jr_pexpr.specs.Expressions.{LengthIsLongest, StatementLengthIsLongest, StopIsExact, StatementStopIsExact, StepsAlike, BuildsMarked, OneMarkedExpression, OneMarked, expression_length, statement_expression_length}
 use Rattle.jr_pexpr.proofs.Found.{at_some, both_some, one_tree_of, longest_is, longest_none, stop_is}
 use Rattle.jr_pexpr.proofs.Reading.{start, reads, sound, closes}
 use Rattle.jr_pexpr.proofs.Statements.{statement_reads, statement_sound, statement_closes}
 use Rattle.jr_grammar.specs.IgnoresMarks.{ExpressionIgnoresMarks}
+use Rattle.jr_grammar.specs.MarksAreOne.{MarksAreOne}
 use Rattle.jr_pexpr.proofs.EraseSteps.{step-bare, statement_step-bare, whole-bare, statement_whole-bare}
 use Rattle.jr_pexpr.proofs.Maps.{run_map, stop_map, longest_map}
 use Rattle.jr_pexpr.proofs.Placing.{StandsState}
@@ -121,7 +123,7 @@ no_span = no_mark
 builds_expression : Ignores → (ps : Tokens) (s : State Span) (e : Exp Span) → span_run (want []) ps ≡ Some s → span_whole s ≡ Some e → IsMarkedExpression ps e
 builds_expression g ps s e h k =
     let q = sound (kinds ps) (bare_state s) (bare e) (bare_run_of ps s h) (bare_whole_of s e k) in
-    record { shaped = (g.shape no_span e).0 q.0; spells = sym (g.spelling no_span e) ∙ q.1; marks = marks_stand ps s e h k }
+    record { shaped = (g.shape no_span e).0 q.0; spells = sym (g.spelling no_span e) ∙ q.1; marks = laid_out e ps (marks_stand ps s e h k) }
 
 -- ---- statement expressions: a run of the one is a run of the other
 
@@ -160,7 +162,7 @@ builds_statement g ps s e h k =
     record {
       shaped = (g.statement_shape no_span e).0 q.0;
       spells = sym (g.spelling no_span e) ∙ q.1;
-      marks = marks_stand ps s e (run_kept (want []) ps s h) (kept_whole (span_whole s) e k);
+      marks = laid_out e ps (marks_stand ps s e (run_kept (want []) ps s h) (kept_whole (span_whole s) e k));
     }
 
 pub builds_marked : Ignores → BuildsMarked
@@ -169,3 +171,9 @@ builds_marked g = record { expression = builds_expression g; statement = builds_
 pub one_marked_expression : Ignores → OneMarkedExpression
 one_marked_expression g a b h k e =
     one_expression (bare a) (bare b) ((g.shape no_span a).1 h) ((g.shape no_span b).1 k) (g.spelling no_span a ∙ e ∙ sym (g.spelling no_span b))
+
+pub one_marked : Ignores → MarksAreOne → OneMarked
+one_marked g m = record {
+  expression = λ ts a b h k. m.expression a b ts (one_marked_expression g a b h.shaped k.shaped (h.spells ∙ sym k.spells)) h.marks k.marks;
+  statement = λ ts a b h k. m.expression a b ts (one_marked_expression g a b h.shaped.1 k.shaped.1 (h.spells ∙ sym k.spells)) h.marks k.marks;
+}

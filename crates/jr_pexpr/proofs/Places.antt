@@ -16,7 +16,8 @@ use Rattle.jr_grammar.specs.Spelling.{binary_symbol}
 use Rattle.jr_grammar.specs.Shape.{rank_of, level_of}
 use Rattle.jr_pexpr.specs.Pieces.{Way, up, down, way_symbol, Atom, a_number, a_truth, a_null, a_string, a_this, Piece, a_word, an_atom, a_super, a_new, a_class, an_open, a_close, a_comma, a_dot, a_bang, a_bump, an_operator, an_equals, a_compound, piece_of, piece_token}
 use Rattle.jr_pexpr.specs.Machine.{Frame, in_unary, in_bump, in_assign, in_compound, in_paren, in_args, State, want, have, dotted, at_super, super_dotted, at_new, new_named, new_dotted, with_last, behind, binds, needed, behind_minus, plug, fits, reduced, operated, closed, continued, at_most, atom_exp, atom_fits, signed, emptied, begun, name_type, cast_frame, cast_of, casted, opened, is_target, is_compound, assigned, bumped, extended, literal_of, member, behind_super, super_member, behind_new, new_outer, behind_new_name, new_inner, stepped}
-use Rattle.jr_grammar.specs.Stands.{Tokens, first_from, span_of, Is, StandsType, Stands}
+use Rattle.jr_grammar.specs.Stands.{Tokens, first_from, span_of}
+use Rattle.jr_pexpr.proofs.Placed.{Is, StandsType, Stands}
 use Rattle.jr_pexpr.specs.Marked.{join, span_step}
 use Rattle.jr_pexpr.proofs.Levels.{rank_low}
 use Rattle.jr_pexpr.proofs.PieceTokens.{piece_back}

@@ -11,7 +11,8 @@ use Rattle.jr_grammar.specs.Tokens.{keyword, symbol, Placed}
 use Rattle.jr_grammar.specs.Spelling.{unary_symbol, binary_symbol, compound_symbol}
 use Rattle.jr_pexpr.specs.Pieces.{up, down, way_symbol}
 use Rattle.jr_pexpr.specs.Machine.{Head, call_head, super_head, create_head, Frame, in_unary, in_bump, in_binary, in_assign, in_compound, in_cast, in_paren, in_args, State, want, have, dotted, at_super, super_dotted, at_new, new_named, new_dotted, with_last, binds, plug, applied}
-use Rattle.jr_grammar.specs.Stands.{Tokens, first_from, last_to, span_of, Is, StandsWord, StandsType, StandsCast, StandsSuper, StandsNew, Stands, StandsCall, StandArgs, StandMore}
+use Rattle.jr_grammar.specs.Stands.{Tokens, first_from, last_to, span_of}
+use Rattle.jr_pexpr.proofs.Placed.{Is, StandsWord, StandsType, StandsCast, StandsSuper, StandsNew, Stands, StandsCall, StandArgs, StandMore}
 use Rattle.jr_pexpr.specs.Marked.{join}
 
 -- ---- spans

@@ -73,3 +73,8 @@ pub record BuildsMarked : Type 0 where
 -- Trees with places that spell the same tokens are the same but for their marks.
 abbrev pub OneMarkedExpression : Type 0
 OneMarkedExpression = (a b : Exp Span) → Shaped a → Shaped b → toks a ≡ toks b → bare a ≡ bare b
+
+-- Trees that tokens with places are, each mark the span of its node's tokens, are equal, marks included.
+pub record OneMarked : Type 0 where
+  pub expression : (tokens : Tokens) (a b : Exp Span) → IsMarkedExpression tokens a → IsMarkedExpression tokens b → a ≡ b
+  pub statement : (tokens : Tokens) (a b : Exp Span) → IsMarkedStatementExpression tokens a → IsMarkedStatementExpression tokens b → a ≡ b

@@ -1,7 +1,7 @@
 ghost use Rattle.jr_grammar.specs.Expressions.{OneExpression, OneStatementExpression};
-ghost use Rattle.jr_pexpr.specs.Expressions.{OneMarkedExpression, LengthIsLongest, StatementLengthIsLongest, StopIsExact, StatementStopIsExact, StepsAlike, BuildsMarked};
+ghost use Rattle.jr_pexpr.specs.Expressions.{OneMarkedExpression, OneMarked, LengthIsLongest, StatementLengthIsLongest, StopIsExact, StatementStopIsExact, StepsAlike, BuildsMarked};
 
-use jr_grammar::expression_ignores_marks;
+use jr_grammar::{expression_ignores_marks, marks_are_one};
 use jr_text::Span;
 
 /// No two expressions spell the same tokens (JLS 15).
@@ -14,11 +14,14 @@ pub fn one_statement_expression()
     ensures { OneStatementExpression }
 {}
 
-/// Expressions with places that spell the same tokens are the same but for their marks.
+/// Expressions with places that spell the same tokens are the same but for their marks, and where each mark is the span
+/// of its node's tokens, marks included.
 pub fn one_marked_expression()
-    ensures { OneMarkedExpression }
+    ensures spelled { OneMarkedExpression }
+    ensures marked { OneMarked }
 {
     expression_ignores_marks::<Span, ()>();
+    marks_are_one();
 }
 
 /// The machine finds the longest expression that tokens begin with, and finds none only where there is none.

@@ -1,2 +1,9 @@
 //! Compilation units: how tokens are read as statements, members, classes and units.
 #![tactic(auto)]
+
+mod laws;
+
+pub use laws::{
+    list_is_read, list_stop_is_exact, member_is_longest, member_is_read, member_stop_is_exact,
+    one_list, one_member, one_unit, unit_is_read, unit_stop_is_exact,
+};

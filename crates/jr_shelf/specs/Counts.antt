@@ -1,5 +1,5 @@
 -- Counts that stay at the greatest u64, and the numbers of calls.
-use Rattle.std.specs.Prelude.{◌≡◌, ℕ, ◌+◌, ◌<◌, ◌==◌, ◌⊎◌, Bool, List, min}
+use Rattle.std.specs.Prelude.{◌≡◌, ℕ, ◌+◌, ◌<◌, ◌==◌, ◌⊎◌, Bool, List, min, Result, Ok, Err}
 use Rattle.std.specs.List.{list_any}
 
 -- the greatest u64, at which a count stays
@@ -17,6 +17,16 @@ RoseBy n before after = (after ≡ before + n) ⊎ (after ≡ greatest_count)
 -- a count that is raised by one, up to the greatest u64
 abbrev pub raised : ℕ → ℕ
 raised count = min (count + 1) greatest_count
+
+-- how many faults a place of real files counts, once a store or a put gave this answer: one more exactly after a failure
+abbrev pub faults_after_write : {T E : Type 0} → Result T E → ℕ → ℕ
+faults_after_write (Ok done) before = before
+faults_after_write (Err fault) before = raised before
+
+-- how many calls were served, once a call gave this answer: one more exactly after Ok
+abbrev pub served_after : {T E : Type 0} → Result T E → ℕ → ℕ
+served_after (Ok done) before = raised before
+served_after (Err fault) before = before
 
 -- the number of the call after the one of this number. The first has the number 1, as if after 0, and the number stays at the greatest u32
 abbrev pub next_number : ℕ → ℕ

@@ -25,6 +25,13 @@ OnMemory (Err Failed) P = Unit {0}
 OnMemory (Err TooLong) P = Unit {0}
 OnMemory (Err Memory) P = P
 
+-- a fact where the fetch didn't answer `Failed`
+abbrev pub UnlessFailed : {T : Type 0} → Result T FetchFault → Type 0 → Type 0
+UnlessFailed (Ok bytes) P = P
+UnlessFailed (Err Failed) P = Unit {0}
+UnlessFailed (Err TooLong) P = P
+UnlessFailed (Err Memory) P = P
+
 -- the fetch answered `Failed`, or found no memory
 abbrev pub IsFailedOrMemory : {T : Type 0} → Result T FetchFault → Type 0
 IsFailedOrMemory (Ok bytes) = ⊥

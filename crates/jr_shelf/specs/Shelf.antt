@@ -9,19 +9,20 @@ use Rattle.std.specs.FinMap as map
 abbrev pub Files : Type 0
 Files = map.FinMap (slice_cmp nat_cmp) (List ℕ)
 
--- where it is told what is held, the name holds exactly these bytes
+-- where it is known what is held, the name holds exactly these bytes
 abbrev pub Holds : Option Files → List ℕ → List ℕ → Type 0
-Holds told name bytes = IfSome told (λ files. map.get files name ≡ Some bytes)
+Holds files name bytes = IfSome files (λ held. map.get held name ≡ Some bytes)
 
--- it is told what is held, and the name holds more bytes than a file may have
+-- it is known what is held, and the name holds more bytes than a file may have
 abbrev pub HoldsTooMuch : Option Files → List ℕ → Type 0
-HoldsTooMuch told name = IsSomeAnd told (λ files. IsSomeAnd (map.get files name) (λ bytes. file_limit < length bytes))
+HoldsTooMuch files name =
+    IsSomeAnd files (λ held. IsSomeAnd (map.get held name) (λ bytes. file_limit < length bytes))
 
--- it is told what is held, and the name isn't there
+-- it is known what is held, and the name isn't there
 abbrev pub LacksName : Option Files → List ℕ → Type 0
-LacksName told name = IsSomeAnd told (λ files. map.get files name ≡ None)
+LacksName files name = IsSomeAnd files (λ held. map.get held name ≡ None)
 
--- what is held, where it is told, once the name holds these bytes and each other name what it held before
+-- what is held, where it is known, once the name holds these bytes and each other name what it held before
 abbrev pub stored : Option Files → List ℕ → List ℕ → Option Files
 stored None name bytes = None
 stored (Some files) name bytes = Some (map.insert files name bytes)

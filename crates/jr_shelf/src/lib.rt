@@ -1,9 +1,9 @@
 //! The outside: where sources are fetched and stored, and where output goes.
 //!
 //! A `Shelf` holds files by their names, and a `Sink` takes bytes. Both count their faults, so that
-//! a caller can tell a fault that happened in a call of its own. `DirShelf` and `OutSink` are the
+//! a caller knows a fault that happened in a call of its own. `DirShelf` and `OutSink` are the
 //! real ones, over files and standard output. `MemoryShelf` and `MemorySink` keep all in memory and
-//! fail where they are told to.
+//! fail at the calls that they were made with.
 #![tactic(auto)]
 
 mod dir_shelf;
@@ -15,6 +15,8 @@ mod memory_sink;
 mod out_sink;
 mod shelves;
 mod sinks;
+#[cfg(test)]
+mod slow_files;
 mod store_logs;
 #[cfg(test)]
 mod tests;

@@ -6,7 +6,7 @@ use crate::store_logs::{MAX_STORES, StoreLog};
 use crate::{Failed, FetchFault, MAX_FILE, Memory, Shelf};
 use std::alloc::Global;
 
-/// Files in memory, with calls that fail where they are told to.
+/// Files in memory, with calls that fail at chosen numbers.
 ///
 /// Its calls are numbered from 1, and the number stays at the greatest u32. A call fails exactly
 /// where its number is among those that it was made with, where it fetches a name that isn't
@@ -43,7 +43,8 @@ impl MemoryShelf {
         room: u32,
     ) -> Result<MemoryShelf, Memory>
         requires { IsTrue (names_differ (entries_of files.items)) }
-        ensures { IfOk result (λ shelf. state_of shelf ≡ new_state (from_entries (entries_of files.items)) failing.items room) }
+        ensures { IfOk result (λ shelf.
+            state_of shelf ≡ new_state (from_entries (entries_of files.items)) failing.items room) }
     {
         let log = StoreLog::with_room(alloc, room)?;
         Ok(MemoryShelf {
@@ -76,7 +77,8 @@ impl MemoryShelf {
 
     fn answer(&self, alloc: Global, name: &str) -> Result<Vec<u8>, FetchFault>
         ensures may { FetchMayGive (state_of self.now) name.now result }
-        ensures ok { IfOk result (λ bytes. get (state_of self.now).held name.now ≡ Some bytes.items) }
+        ensures ok { IfOk result (λ bytes.
+            get (state_of self.now).held name.now ≡ Some bytes.items) }
         ensures within { IfOk result (λ bytes. length bytes.items ≤ file_limit) }
     {
         if self.next_fails() {
@@ -114,7 +116,8 @@ impl Shelf for MemoryShelf {
     ghost served = { λ shelf. shelf.served_count };
 
     fn fetch(&mut self, alloc: Global, name: &str) -> Result<Vec<u8>, FetchFault>
-        ensures ok { IfOk result (λ bytes. Holds (Some (state_of self.old).held) name.now bytes.items) }
+        ensures ok { IfOk result (λ bytes.
+            Holds (Some (state_of self.old).held) name.now bytes.items) }
         ensures within { IfOk result (λ bytes. length bytes.items ≤ file_limit) }
         ensures not_served { HoldsTooMuch (Some (state_of self.old).held) name.now → IsErr result }
         ensures memory { OnMemory result (self.new ≡ self.old) }
@@ -147,7 +150,8 @@ impl Shelf for MemoryShelf {
     fn store(&mut self, name: &str, bytes: &[u8]) -> Result<(), Failed>
         // Exactly which stores fail, and all that a store leaves.
         ensures fails { is_err result ≡ store_fails (state_of self.old) name.now bytes.now }
-        ensures after { state_of self.new ≡ after_store (state_of self.old) name.now bytes.now result }
+        ensures after { state_of self.new
+            ≡ after_store (state_of self.old) name.now bytes.now result }
     {
         let fails = self.will_not_store(name, bytes);
         self.last_number = self.last_number.saturating_add(1);

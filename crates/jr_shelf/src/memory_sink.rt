@@ -4,7 +4,7 @@ use crate::in_place::append_in_place;
 use crate::{Failed, Memory, Sink};
 use std::alloc::Global;
 
-/// Output in memory, with puts that fail where they are told to.
+/// Output in memory, with puts that fail at chosen numbers.
 ///
 /// Its puts are numbered from 1, and the number stays at the greatest u32. A put fails exactly
 /// where its number is among those that it was made with, or where its bytes are more than there
@@ -66,7 +66,8 @@ impl Sink for MemorySink {
     fn put(&mut self, bytes: &[u8]) -> Result<(), Failed>
         // Exactly which puts fail, and all that a put leaves.
         ensures fails { is_err result ≡ put_fails (sink_state_of self.old) bytes.now }
-        ensures after { sink_state_of self.new ≡ after_put (sink_state_of self.old) bytes.now result }
+        ensures after { sink_state_of self.new
+            ≡ after_put (sink_state_of self.old) bytes.now result }
     {
         let fails = self.will_not_take(bytes);
         self.last_number = self.last_number.saturating_add(1);

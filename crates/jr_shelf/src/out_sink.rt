@@ -4,7 +4,8 @@ use crate::transfers::write_whole;
 use crate::{Failed, Sink};
 use std::io;
 
-/// Standard output. It tells nothing of what it took.
+/// An output of the process: standard output of a runtime, or standard error as `rt.stderr()` has
+/// it. Contracts don't know what it took.
 #[derive(Drop)]
 pub struct OutSink<R: Print + Drop> {
     rt: R,
@@ -13,7 +14,7 @@ pub struct OutSink<R: Print + Drop> {
 }
 
 impl<R: Print + Drop> OutSink<R> {
-    /// A sink over this runtime's standard output, with the count 0.
+    /// A sink over this output, with the count 0.
     pub fn new(rt: R) -> Self
         ensures faults { ⟦<OutSink<R> as Sink>⟧.faults result ≡ 0 }
     {
@@ -22,8 +23,7 @@ impl<R: Print + Drop> OutSink<R> {
 }
 
 impl<R: Print + Drop> Sink for OutSink<R> {
-    ghost use Rattle.std.specs.Prelude.{is_ok, if◌then◌else◌};
-    ghost use Rattle.jr_shelf.specs.Counts.{raised};
+    ghost use Rattle.jr_shelf.specs.Counts.{faults_after_write};
 
     ghost taken = { λ _. None };
 
@@ -31,15 +31,12 @@ impl<R: Print + Drop> Sink for OutSink<R> {
 
     fn put(&mut self, bytes: &[u8]) -> Result<(), Failed>
         // The count rises by one, and only at a fault.
-        ensures faults { self.new.fault_count ≡ (if is_ok result then self.old.fault_count else raised self.old.fault_count) }
+        ensures faults { self.new.fault_count ≡ faults_after_write result self.old.fault_count }
     {
-        match write_whole(&mut io::writer(&self.rt), bytes) {
-            Ok(()) => Ok(()),
-            Err(Failed) => {
-                self.fault_count = self.fault_count.saturating_add(1);
-                Err(Failed)
-            }
-        }
+        let mut faults = self.fault_count;
+        let answer = write_whole(&mut io::writer(&self.rt), bytes, &mut faults);
+        self.fault_count = faults;
+        answer
     }
 
     ghost faults_fit = { λ sink. sink.fault_count_fits };

@@ -1,6 +1,6 @@
-ghost use Rattle.std.specs.Prelude.{◌≡◌, ℕ, ◌^◌, ◌<◌, ◌≤◌, List, length, Option, IfOk, OnOk, OnErr, OnSome, IsErr, is_ok, if◌then◌else◌};
-ghost use Rattle.jr_shelf.specs.Counts.{Rose, raised};
-ghost use Rattle.jr_shelf.specs.Fetch.{OnFailed, OnTooLong, OnMemory, IsFailedOrMemory, missed_after};
+ghost use Rattle.std.specs.Prelude.{◌≡◌, ℕ, ◌^◌, ◌<◌, ◌≤◌, List, length, Option, IfOk, OnOk, OnErr, OnSome, IsErr};
+ghost use Rattle.jr_shelf.specs.Counts.{Rose, served_after};
+ghost use Rattle.jr_shelf.specs.Fetch.{OnFailed, OnTooLong, OnMemory, UnlessFailed, IsFailedOrMemory, missed_after};
 ghost use Rattle.jr_shelf.specs.Limits.{file_limit};
 ghost use Rattle.jr_shelf.specs.Shelf.{Files, Holds, HoldsTooMuch, LacksName, stored, StoredInPart};
 
@@ -15,11 +15,12 @@ pub const MAX_FILE: u32 = 1_048_576;
 /// It counts its faults and the calls that it served. A count "rose" where it is greater after a
 /// call than before it, or stands at the greatest u64.
 pub trait Shelf {
-    /// The files that it holds, where it tells them. A shelf that tells them goes on telling.
+    /// The files that it holds, where contracts know them. They are known after each call where
+    /// they were before it.
     ghost holds: { Self → Option Files };
 
     /// The name of the last fetch that answered `Failed`, if there was one. It means something
-    /// only where `holds` is told.
+    /// only where `holds` is known.
     ghost missed: { Self → Option (List ℕ) };
 
     /// How many faults there were, up to the greatest u64.
@@ -30,7 +31,7 @@ pub trait Shelf {
 
     /// The bytes that the name holds.
     ///
-    /// `Failed` where the shelf failed or, on a shelf that tells what it holds, the name isn't
+    /// `Failed` where the shelf failed or, on a shelf whose files are known, the name isn't
     /// there. `TooLong` where the name holds more than `MAX_FILE` bytes. `Memory` where there is no
     /// memory for the bytes, which leaves the shelf as it was.
     fn fetch(&mut self, alloc: Global, name: &str) -> Result<Vec<u8>, FetchFault>
@@ -42,15 +43,17 @@ pub trait Shelf {
         ensures failed { OnFailed result (Rose (faults self.old) (faults self.new)) }
         ensures absent { LacksName (holds self.old) name.now → IsFailedOrMemory result }
 
-        // `TooLong`: only where the name is told to hold too much, and then never Ok.
-        ensures too_long { OnTooLong result (OnSome (holds self.old) (HoldsTooMuch (holds self.old) name.now)) }
+        // `TooLong`: only where the name is known to hold too much, and then never Ok.
+        ensures too_long { OnTooLong result
+            (OnSome (holds self.old) (HoldsTooMuch (holds self.old) name.now)) }
         ensures not_served { HoldsTooMuch (holds self.old) name.now → IsErr result }
 
-        // What the call leaves.
+        // What the call leaves. The count of faults rises at no other answer than `Failed`.
         ensures faults { faults self.old ≤ faults self.new }
+        ensures faults_stay { UnlessFailed result (faults self.new ≡ faults self.old) }
         ensures missed { OnSome (holds self.old)
             (missed self.new ≡ missed_after result name.now (missed self.old)) }
-        ensures served { served self.new ≡ (if is_ok result then raised (served self.old) else served self.old) }
+        ensures served { served self.new ≡ served_after result (served self.old) }
         ensures memory { OnMemory result (self.new ≡ self.old) };
 
     /// Puts the bytes at the name, in place of what it held. It takes no memory.
@@ -60,10 +63,12 @@ pub trait Shelf {
     fn store(&mut self, name: &str, bytes: &[u8]) -> Result<(), Failed>
         ensures ok { OnOk result (holds self.new ≡ stored (holds self.old) name.now bytes.now) }
         ensures failed { OnErr result (Rose (faults self.old) (faults self.new)) }
-        ensures in_part { OnErr result (StoredInPart (holds self.old) (holds self.new) name.now bytes.now) }
+        ensures in_part { OnErr result
+            (StoredInPart (holds self.old) (holds self.new) name.now bytes.now) }
         ensures faults { faults self.old ≤ faults self.new }
+        ensures faults_stay { OnOk result (faults self.new ≡ faults self.old) }
         ensures missed { OnSome (holds self.old) (missed self.new ≡ missed self.old) }
-        ensures served { served self.new ≡ (if is_ok result then raised (served self.old) else served self.old) };
+        ensures served { served self.new ≡ served_after result (served self.old) };
 
     ghost faults_fit: { (shelf : Self) → faults shelf < 2 ^ 64 };
 

@@ -42,7 +42,11 @@ impl Model for StoreLog {
 
     ghost Value = { LogState };
 
-    ghost view = { λ log. record { entries = map (entry_in log.pool.items) log.entries.items; room = log.room } };
+    ghost view = { λ log. record {
+      entries = map
+          (entry_in log.pool.items) log.entries.items;
+      room = log.room;
+    } };
 
     ghost invariant = { λ log. (vec_len log.pool + log.room ≤ vec_capacity log.pool)
         × (MAX_STORES ≤ deque_capacity log.entries)
@@ -103,7 +107,8 @@ impl StoreLog {
 
 fn find_stored<'a>(entries: &VecDeque<Stored>, pool: &'a [u8], name: &str) -> Option<&'a [u8]>
     requires { IsTrue (list_all (lies_in (length pool.now)) entries.now.items) }
-    ensures { option_copied result ≡ find (slice_cmp nat_cmp) name.now (map (entry_in pool.now) entries.now.items) }
+    ensures { option_copied result
+        ≡ find (slice_cmp nat_cmp) name.now (map (entry_in pool.now) entries.now.items) }
 {
     for stored in entries {
         if name.as_bytes() == &pool[stored.start..stored.middle] {

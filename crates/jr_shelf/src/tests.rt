@@ -1,8 +1,11 @@
+use crate::slow_files::{SlowFiles, SlowOutput};
 use crate::transfers::{read_whole, write_whole};
 use crate::{
-    DirShelf, FetchFault, MAX_FILE, MAX_STORES, MemoryShelf, MemorySink, OutSink, Shelf, Sink,
-    names_differ,
+    DirShelf, Failed, FetchFault, MAX_FILE, MAX_STORES, Memory, MemoryShelf, MemorySink, OutSink,
+    Shelf, Sink, names_differ,
 };
+use std::alloc::{AllocError, Global};
+use std::cell::RefCell;
 use std::fmt::Display;
 use std::io::{Error, ErrorKind, Read, Result as IoResult, Write};
 use std::test::Fail;
@@ -90,36 +93,139 @@ fn memory_sink(rt: HostRuntime) -> Result<(), Fail> {
     Ok(())
 }
 
+fn blanks(alloc: Global, len: usize) -> Result<Vec<u8>, AllocError> {
+    vec![in alloc; b' '; len]
+}
+
+const SIZES: [usize; 9] = [0, 1, 2, 255, 65_535, 65_536, 65_537, 100_001, 1_048_576];
+
 // A file of its own in the folder for temporary files.
-#[test]
-fn real_files(rt: HostRuntime) -> Result<(), Fail> {
+fn own_name(rt: HostRuntime, what: &str) -> Result<String, Fail> {
     let alloc = rt.alloc();
     let mut path = env::temp_dir(&rt)?;
     let id = process::id(rt.process());
-    path.push(format!(in alloc; "jr_shelf_{id}.txt")?.as_str())?;
+    path.push(format!(in alloc; "jr_shelf_{id}_{what}.txt")?.as_str())?;
     let name = path.to_str().ok_or("the folder's name is no text")?;
+    Ok(String::from_str(alloc, name)?)
+}
+
+// Whether so many bytes come back as they were stored.
+fn comes_back<S: Shelf>(
+    alloc: Global,
+    shelf: &mut S,
+    name: &str,
+    len: usize,
+) -> Result<bool, AllocError> {
+    let bytes = blanks(alloc, len)?;
+    if shelf.store(name, bytes.as_slice()).is_err() {
+        return Ok(false);
+    }
+    match shelf.fetch(alloc, name) {
+        Ok(fetched) => Ok(fetched.as_slice() == bytes.as_slice()),
+        Err(_) => Ok(false),
+    }
+}
+
+#[test]
+fn real_files_of_each_size(rt: HostRuntime) -> Result<(), Fail> {
+    let alloc = rt.alloc();
+    let name = own_name(rt, "size")?;
     let mut shelf = DirShelf::new(rt);
-    let stored = shelf.store(name, b"class A{}");
-    let fetched = shelf.fetch(alloc, name);
-    let stored_long = shelf.store(
-        name,
-        vec![in alloc; b' '; MAX_FILE as usize + 1]?.as_slice(),
-    );
-    let long = shelf.fetch(alloc, name);
-    fs::remove_file(&rt, name)?;
-    let gone = shelf.fetch(alloc, name);
-    let in_no_folder = shelf.store(format!(in alloc; "{name}/A.java")?.as_str(), b"");
-    assert!(rt; stored.is_ok() && stored_long.is_ok());
-    assert_eq!(rt; fetched.ok().as_deref(), Some(b"class A{}".as_slice()));
-    assert_eq!(rt; text(&long), "TooLong");
-    assert_eq!(rt; text(&gone), "Failed");
-    assert!(rt; in_no_folder.is_err());
+    let mut lost = None;
+    for len in SIZES {
+        if !comes_back(alloc, &mut shelf, name.as_str(), len)? {
+            lost = Some(len);
+        }
+    }
+    let long = blanks(alloc, MAX_FILE as usize + 1)?;
+    let stored_long = shelf.store(name.as_str(), long.as_slice()).is_ok();
+    let fetched_long = shelf.fetch(alloc, name.as_str());
+    fs::remove_file(&rt, name.as_str())?;
+    assert_eq!(rt; lost, None);
+    assert!(rt; stored_long);
+    assert_eq!(rt; text(&fetched_long), "TooLong");
+    Ok(())
+}
+
+// No file has these names: one that is gone, an empty one, one in no folder, a folder's, and one
+// that is longer than a system takes.
+#[test]
+fn names_of_no_real_file(rt: HostRuntime) -> Result<(), Fail> {
+    let alloc = rt.alloc();
+    let gone = own_name(rt, "gone")?;
+    let in_no_folder = format!(in alloc; "{gone}/A.java")?;
+    let mut long = own_name(rt, "long")?;
+    for _ in 0..70_000 {
+        long.push('x')?;
+    }
+    let mut shelf = DirShelf::new(rt);
+    assert_eq!(rt; text(&shelf.fetch(alloc, gone.as_str())), "Failed");
+    for name in ["", in_no_folder.as_str(), "/", long.as_str()] {
+        assert_eq!(rt; text(&shelf.fetch(alloc, name)), "Failed", "{name}");
+        assert!(rt; shelf.store(name, b"x").is_err(), "{name}");
+    }
+    Ok(())
+}
+
+// Files and output that move a byte at a time.
+#[test]
+fn slow_pipes(rt: HostRuntime) -> Result<(), Fail> {
+    let alloc = rt.alloc();
+    let mut shelf = DirShelf::new(SlowFiles);
+    for (name, len) in [
+        ("0", 0),
+        ("1", 1),
+        ("300", 300),
+        ("65537", 65_537),
+        ("1048576", 1_048_576),
+    ] {
+        let fetched = shelf.fetch(alloc, name);
+        assert_eq!(rt; fetched.ok().map(|bytes| bytes.len()), Some(len), "{name}");
+        assert!(rt;
+            shelf.store(name, blanks(alloc, len)?.as_slice()).is_ok(),
+            "{name}"
+        );
+        let output = RefCell::new(Vec::new(alloc));
+        let put = OutSink::new(SlowOutput(&output)).put(blanks(alloc, len)?.as_slice());
+        assert!(rt; put.is_ok(), "{name}");
+        let taken = output.into_inner();
+        assert!(rt;
+            taken.as_slice() == blanks(alloc, len)?.as_slice(),
+            "{name}"
+        );
+    }
+    assert_eq!(rt; text(&shelf.fetch(alloc, "1048577")), "TooLong");
+    assert_eq!(rt; text(&shelf.fetch(alloc, "A.java")), "Failed");
+    Ok(())
+}
+
+#[test]
+fn faults_as_texts(rt: HostRuntime) -> Result<(), Fail> {
+    let alloc = rt.alloc();
+    let table = [
+        (
+            FetchFault::Failed.to_string(alloc)?,
+            "the file cannot be read",
+        ),
+        (
+            FetchFault::TooLong.to_string(alloc)?,
+            "the file is too long",
+        ),
+        (FetchFault::Memory.to_string(alloc)?, "out of memory"),
+        (Failed.to_string(alloc)?, "the bytes cannot be written"),
+        (Memory.to_string(alloc)?, "out of memory"),
+    ];
+    for (said, text) in &table {
+        assert_eq!(rt; said.as_str(), *text);
+    }
     Ok(())
 }
 
 #[test]
 fn standard_output(rt: HostRuntime) {
-    assert!(rt; OutSink::new(rt).put(b"put\n").is_ok());
+    assert!(rt; OutSink::new(rt).put(b"").is_ok());
+    assert!(rt; OutSink::new(rt).put(b"p").is_ok());
+    assert!(rt; OutSink::new(rt.stderr()).put(b"put\n").is_ok());
     assert!(rt; OutSink::new(Closed).put(b"put\n").is_err());
 }
 
@@ -210,19 +316,23 @@ fn interrupted_reads(rt: HostRuntime) -> Result<(), Fail> {
         Turn::Moves(1),
     ];
     let no_memory = [Turn::Moves(2), Turn::Fails(ErrorKind::OutOfMemory)];
-    let read = |turns| read_whole(
-        &mut Script {
+    for (turns, answer, faults) in [
+        (goes_on.as_slice(), "Ok", 4),
+        (fails.as_slice(), "Failed", 5),
+        (no_memory.as_slice(), "Memory", 4),
+    ] {
+        let mut script = Script {
             turns,
             moved: Vec::new(alloc),
-        },
-        alloc,
-    );
-    assert_eq!(rt;
-        read(goes_on.as_slice()).ok().as_deref(),
-        Some(b"xxx".as_slice())
-    );
-    assert_eq!(rt; text(&read(fails.as_slice())), "Failed");
-    assert_eq!(rt; text(&read(no_memory.as_slice())), "Memory");
+        };
+        let mut counted = 4;
+        let read = read_whole(&mut script, alloc, &mut counted);
+        assert_eq!(rt; text(&read), answer);
+        assert_eq!(rt; counted, faults, "{answer}");
+        if let Ok(bytes) = read {
+            assert_eq!(rt; bytes.as_slice(), b"xxx".as_slice());
+        }
+    }
     Ok(())
 }
 
@@ -245,7 +355,12 @@ fn interrupted_writes(rt: HostRuntime) -> Result<(), Fail> {
             turns: turns.as_slice(),
             moved: Vec::new(alloc),
         };
-        assert_eq!(rt; write_whole(&mut script, b"abc").is_ok(), whole);
+        let mut counted = 4;
+        assert_eq!(rt;
+            write_whole(&mut script, b"abc", &mut counted).is_ok(),
+            whole
+        );
+        assert_eq!(rt; counted, if whole { 4 } else { 5 });
         assert_eq!(rt;
             script.moved.as_slice(),
             if whole {

@@ -60,7 +60,8 @@ pub(crate) fn insert_edit(
 fn place_of(edits: &[Edit], from: u32) -> usize
     ensures within { result ≤ length edits.now }
     ensures behind { All (λ x. from < x.span.to) (drop result (entries_of edits.now)) }
-    ensures front { AreEdits (entries_of edits.now) → EndBy (take result (entries_of edits.now)) from }
+    ensures front { AreEdits (entries_of edits.now)
+        → EndBy (take result (entries_of edits.now)) from }
 {
     let mut at = edits.len();
     while at > 0 && edits[at - 1].span.to > from {

@@ -16,10 +16,11 @@ const MAX_ADDED: u64 = 0x7fff_ffff_ffff_ffff;
 
 /// A list of edits: spans of a text, each with the text that is to stand in its place.
 ///
-/// Its entries stand in the order of their starts, then of their ends, then of their pushing, and no two overlap.
+/// Its entries stand in the order of their starts, then of their ends, then of their pushing, and
+/// no two overlap.
 #[derive(Debug, Drop)]
 pub struct EditList {
-    edits: Vec<Edit>,
+    pub(crate) edits: Vec<Edit>,
     /// How many bytes the texts have together.
     added: u64,
 }
@@ -39,8 +40,8 @@ impl Model for EditList {
 /// Why an edit is not taken.
 #[derive(Debug, Drop, Error)]
 pub enum EditFault {
-    /// The span overlaps that of an entry: they have a byte in common, or one is empty and stands inside the other.
-    /// `earlier` is the first pushed span that does.
+    /// The span overlaps that of an entry: they have a byte in common, or one is empty and stands
+    /// inside the other. `earlier` is the first pushed span that does.
     #[error("the span overlaps {}..{}", .earlier.from, .earlier.to)]
     Overlaps { earlier: Span },
     #[error("out of memory")]
@@ -101,8 +102,8 @@ impl EditList {
         }
     }
 
-    /// Adds the edit that puts the text in the place of the span, at its place in the order. Only entries that end
-    /// behind the span's start are looked at.
+    /// Adds the edit that puts the text in the place of the span, at its place in the order. Only
+    /// entries that end behind the span's start are looked at.
     ///
     /// `Overlaps` where the span overlaps that of an entry. After a fault the list is as it was.
     pub fn push(&mut self, span: Span, text: &str) -> Result<(), EditFault>
@@ -112,7 +113,8 @@ impl EditList {
         // Behind all others it goes last, and nothing overlaps it.
         ensures behind { OnOk result (EndBy self.old span.from
             → self.new ≡ with_last self.old (next_entry self.old span text.now)) }
-        ensures clear { EndBy self.old span.from → IfErr result (λ fault. fault ≡ EditFault.Memory) }
+        ensures clear { EndBy self.old span.from → IfErr result (λ fault.
+            fault ≡ EditFault.Memory) }
         // Each fault comes only where it applies, and an overlap always comes.
         ensures fault { IfErr result (IsEditFault self.old span) }
         ensures err { OnErr result (self.new ≡ self.old) }
@@ -143,7 +145,8 @@ impl EditList {
         requires { FitsIn text.now self.now }
         ensures ok { IfOk result (λ new. new ≡ splice text.now self.now) }
         ensures valid { IfOk result IsText }
-        // Each fault comes only where it applies, and a splice that is too long always has its fault.
+        // Each fault comes only where it applies, and a splice that is too long always has its
+        // fault.
         ensures fault { IfErr result (IsApplyFault text.now self.now) }
     {
         let edits = self.edits.as_slice();

@@ -5,7 +5,8 @@ pub fn splice_is_join()
     ensures { SpliceIsJoin }
 {}
 
-/// Each byte that lies in no span stands in the new text, moved by the growth of the entries before it.
+/// Each byte that lies in no span stands in the new text, moved by the growth of the entries before
+/// it.
 pub fn untouched_bytes_move()
     ensures { UntouchedBytesMove }
 {}

@@ -12,148 +12,147 @@ use Rattle.jr_ast.specs.Tree.{int, boolean, number, this, super_call, create, pa
 use Rattle.jr_ast.specs.StatementTree as S
 use Rattle.jr_ast.specs.MemberTree as M
 use Rattle.jr_grammar.specs.Tokens.{word, keyword, integer, symbol}
-use Rattle.jr_grammar.proofs.Cases.Forms.{w, v, ty, tyin}
-use Rattle.jr_grammar.specs.Units.{IsUnit}
+use Rattle.jr_grammar.proofs.Cases.Forms.{BareUnit, w, v, ty, tyin}
 use Rattle.jr_grammar.proofs.Cases.Parts.{IsUnitRefused, modifier, par}
 
 --
-empty_unit : IsUnit ([])
+empty_unit : BareUnit ([])
     (record { mark = tt; package_name = []; classes = [] })
 empty_unit = record { shaped = grind arith; spells = refl }
 
 -- package a;
-package_alone : IsUnit (keyword Package ∷ word (codes "a") ∷ symbol Semicolon ∷ [])
+package_alone : BareUnit (keyword Package ∷ word (codes "a") ∷ symbol Semicolon ∷ [])
     (record { mark = tt; package_name = w (codes "a") ∷ []; classes = [] })
 package_alone = record { shaped = grind arith; spells = refl }
 
 -- package a.b.c;class A{}
-package_of_three_words : IsUnit (keyword Package ∷ word (codes "a") ∷ symbol Dot ∷ word (codes "b") ∷ symbol Dot ∷ word (codes "c") ∷ symbol Semicolon ∷ keyword Class ∷ word (codes "A") ∷ symbol OpenBrace ∷ symbol CloseBrace ∷ [])
+package_of_three_words : BareUnit (keyword Package ∷ word (codes "a") ∷ symbol Dot ∷ word (codes "b") ∷ symbol Dot ∷ word (codes "c") ∷ symbol Semicolon ∷ keyword Class ∷ word (codes "A") ∷ symbol OpenBrace ∷ symbol CloseBrace ∷ [])
     (record { mark = tt; package_name = w (codes "a") ∷ w (codes "b") ∷ w (codes "c") ∷ []; classes = (M.class tt [] (w (codes "A")) None M.end) ∷ [] })
 package_of_three_words = record { shaped = grind arith; spells = refl }
 
 -- class A{}
-class_alone : IsUnit (keyword Class ∷ word (codes "A") ∷ symbol OpenBrace ∷ symbol CloseBrace ∷ [])
+class_alone : BareUnit (keyword Class ∷ word (codes "A") ∷ symbol OpenBrace ∷ symbol CloseBrace ∷ [])
     (record { mark = tt; package_name = []; classes = (M.class tt [] (w (codes "A")) None M.end) ∷ [] })
 class_alone = record { shaped = grind arith; spells = refl }
 
 -- class A{}class B{}
-two_classes : IsUnit (keyword Class ∷ word (codes "A") ∷ symbol OpenBrace ∷ symbol CloseBrace ∷ keyword Class ∷ word (codes "B") ∷ symbol OpenBrace ∷ symbol CloseBrace ∷ [])
+two_classes : BareUnit (keyword Class ∷ word (codes "A") ∷ symbol OpenBrace ∷ symbol CloseBrace ∷ keyword Class ∷ word (codes "B") ∷ symbol OpenBrace ∷ symbol CloseBrace ∷ [])
     (record { mark = tt; package_name = []; classes = (M.class tt [] (w (codes "A")) None M.end) ∷ (M.class tt [] (w (codes "B")) None M.end) ∷ [] })
 two_classes = record { shaped = grind arith; spells = refl }
 
 -- public final class A{}
-public_final_class : IsUnit (keyword Public ∷ keyword Final ∷ keyword Class ∷ word (codes "A") ∷ symbol OpenBrace ∷ symbol CloseBrace ∷ [])
+public_final_class : BareUnit (keyword Public ∷ keyword Final ∷ keyword Class ∷ word (codes "A") ∷ symbol OpenBrace ∷ symbol CloseBrace ∷ [])
     (record { mark = tt; package_name = []; classes = (M.class tt (modifier PublicWord ∷ modifier FinalWord ∷ []) (w (codes "A")) None M.end) ∷ [] })
 public_final_class = record { shaped = grind arith; spells = refl }
 
 -- class A extends B{}
-superclass : IsUnit (keyword Class ∷ word (codes "A") ∷ keyword Extends ∷ word (codes "B") ∷ symbol OpenBrace ∷ symbol CloseBrace ∷ [])
+superclass : BareUnit (keyword Class ∷ word (codes "A") ∷ keyword Extends ∷ word (codes "B") ∷ symbol OpenBrace ∷ symbol CloseBrace ∷ [])
     (record { mark = tt; package_name = []; classes = (M.class tt [] (w (codes "A")) (Some (ty (codes "B"))) M.end) ∷ [] })
 superclass = record { shaped = grind arith; spells = refl }
 
 -- class A extends B.C{}
-superclass_of_two_words : IsUnit (keyword Class ∷ word (codes "A") ∷ keyword Extends ∷ word (codes "B") ∷ symbol Dot ∷ word (codes "C") ∷ symbol OpenBrace ∷ symbol CloseBrace ∷ [])
+superclass_of_two_words : BareUnit (keyword Class ∷ word (codes "A") ∷ keyword Extends ∷ word (codes "B") ∷ symbol Dot ∷ word (codes "C") ∷ symbol OpenBrace ∷ symbol CloseBrace ∷ [])
     (record { mark = tt; package_name = []; classes = (M.class tt [] (w (codes "A")) (Some (tyin (codes "B") (codes "C"))) M.end) ∷ [] })
 superclass_of_two_words = record { shaped = grind arith; spells = refl }
 
 -- class A extends A{}
-its_own_superclass : IsUnit (keyword Class ∷ word (codes "A") ∷ keyword Extends ∷ word (codes "A") ∷ symbol OpenBrace ∷ symbol CloseBrace ∷ [])
+its_own_superclass : BareUnit (keyword Class ∷ word (codes "A") ∷ keyword Extends ∷ word (codes "A") ∷ symbol OpenBrace ∷ symbol CloseBrace ∷ [])
     (record { mark = tt; package_name = []; classes = (M.class tt [] (w (codes "A")) (Some (ty (codes "A"))) M.end) ∷ [] })
 its_own_superclass = record { shaped = grind arith; spells = refl }
 
 -- class A{int a;}
-field : IsUnit (keyword Class ∷ word (codes "A") ∷ symbol OpenBrace ∷ keyword Int ∷ word (codes "a") ∷ symbol Semicolon ∷ symbol CloseBrace ∷ [])
+field : BareUnit (keyword Class ∷ word (codes "A") ∷ symbol OpenBrace ∷ keyword Int ∷ word (codes "a") ∷ symbol Semicolon ∷ symbol CloseBrace ∷ [])
     (record { mark = tt; package_name = []; classes = (M.class tt [] (w (codes "A")) None (M.more (M.field tt [] (int tt) (w (codes "a")) None) M.end)) ∷ [] })
 field = record { shaped = grind arith; spells = refl }
 
 -- class A{B.C a=new B.C(1);}
-field_with_value : IsUnit (keyword Class ∷ word (codes "A") ∷ symbol OpenBrace ∷ word (codes "B") ∷ symbol Dot ∷ word (codes "C") ∷ word (codes "a") ∷ symbol Equals ∷ keyword New ∷ word (codes "B") ∷ symbol Dot ∷ word (codes "C") ∷ symbol OpenParen ∷ integer 1 ∷ symbol CloseParen ∷ symbol Semicolon ∷ symbol CloseBrace ∷ [])
+field_with_value : BareUnit (keyword Class ∷ word (codes "A") ∷ symbol OpenBrace ∷ word (codes "B") ∷ symbol Dot ∷ word (codes "C") ∷ word (codes "a") ∷ symbol Equals ∷ keyword New ∷ word (codes "B") ∷ symbol Dot ∷ word (codes "C") ∷ symbol OpenParen ∷ integer 1 ∷ symbol CloseParen ∷ symbol Semicolon ∷ symbol CloseBrace ∷ [])
     (record { mark = tt; package_name = []; classes = (M.class tt [] (w (codes "A")) None (M.more (M.field tt [] (tyin (codes "B") (codes "C")) (w (codes "a")) (Some (create tt (tyin (codes "B") (codes "C")) (more (number tt 1) end)))) M.end)) ∷ [] })
 field_with_value = record { shaped = grind arith; spells = refl }
 
 -- class A{private static final boolean a=!b;}
-field_with_modifiers : IsUnit (keyword Class ∷ word (codes "A") ∷ symbol OpenBrace ∷ keyword Private ∷ keyword Static ∷ keyword Final ∷ keyword Boolean ∷ word (codes "a") ∷ symbol Equals ∷ symbol Bang ∷ word (codes "b") ∷ symbol Semicolon ∷ symbol CloseBrace ∷ [])
+field_with_modifiers : BareUnit (keyword Class ∷ word (codes "A") ∷ symbol OpenBrace ∷ keyword Private ∷ keyword Static ∷ keyword Final ∷ keyword Boolean ∷ word (codes "a") ∷ symbol Equals ∷ symbol Bang ∷ word (codes "b") ∷ symbol Semicolon ∷ symbol CloseBrace ∷ [])
     (record { mark = tt; package_name = []; classes = (M.class tt [] (w (codes "A")) None (M.more (M.field tt (modifier PrivateWord ∷ modifier StaticWord ∷ modifier FinalWord ∷ []) (boolean tt) (w (codes "a")) (Some (unary tt Not (v (codes "b"))))) M.end)) ∷ [] })
 field_with_modifiers = record { shaped = grind arith; spells = refl }
 
 -- class A{volatile int a;protected int b;}
-volatile_field : IsUnit (keyword Class ∷ word (codes "A") ∷ symbol OpenBrace ∷ keyword Volatile ∷ keyword Int ∷ word (codes "a") ∷ symbol Semicolon ∷ keyword Protected ∷ keyword Int ∷ word (codes "b") ∷ symbol Semicolon ∷ symbol CloseBrace ∷ [])
+volatile_field : BareUnit (keyword Class ∷ word (codes "A") ∷ symbol OpenBrace ∷ keyword Volatile ∷ keyword Int ∷ word (codes "a") ∷ symbol Semicolon ∷ keyword Protected ∷ keyword Int ∷ word (codes "b") ∷ symbol Semicolon ∷ symbol CloseBrace ∷ [])
     (record { mark = tt; package_name = []; classes = (M.class tt [] (w (codes "A")) None (M.more (M.field tt (modifier VolatileWord ∷ []) (int tt) (w (codes "a")) None) (M.more (M.field tt (modifier ProtectedWord ∷ []) (int tt) (w (codes "b")) None) M.end))) ∷ [] })
 volatile_field = record { shaped = grind arith; spells = refl }
 
 -- class A{void m(){}}
-method : IsUnit (keyword Class ∷ word (codes "A") ∷ symbol OpenBrace ∷ keyword Void ∷ word (codes "m") ∷ symbol OpenParen ∷ symbol CloseParen ∷ symbol OpenBrace ∷ symbol CloseBrace ∷ symbol CloseBrace ∷ [])
+method : BareUnit (keyword Class ∷ word (codes "A") ∷ symbol OpenBrace ∷ keyword Void ∷ word (codes "m") ∷ symbol OpenParen ∷ symbol CloseParen ∷ symbol OpenBrace ∷ symbol CloseBrace ∷ symbol CloseBrace ∷ [])
     (record { mark = tt; package_name = []; classes = (M.class tt [] (w (codes "A")) None (M.more (M.method tt [] None (w (codes "m")) ([]) S.end) M.end)) ∷ [] })
 method = record { shaped = grind arith; spells = refl }
 
 -- class A{int m(int a,final B.C b){return a;}}
-method_with_parameters : IsUnit (keyword Class ∷ word (codes "A") ∷ symbol OpenBrace ∷ keyword Int ∷ word (codes "m") ∷ symbol OpenParen ∷ keyword Int ∷ word (codes "a") ∷ symbol Comma ∷ keyword Final ∷ word (codes "B") ∷ symbol Dot ∷ word (codes "C") ∷ word (codes "b") ∷ symbol CloseParen ∷ symbol OpenBrace ∷ keyword Return ∷ word (codes "a") ∷ symbol Semicolon ∷ symbol CloseBrace ∷ symbol CloseBrace ∷ [])
+method_with_parameters : BareUnit (keyword Class ∷ word (codes "A") ∷ symbol OpenBrace ∷ keyword Int ∷ word (codes "m") ∷ symbol OpenParen ∷ keyword Int ∷ word (codes "a") ∷ symbol Comma ∷ keyword Final ∷ word (codes "B") ∷ symbol Dot ∷ word (codes "C") ∷ word (codes "b") ∷ symbol CloseParen ∷ symbol OpenBrace ∷ keyword Return ∷ word (codes "a") ∷ symbol Semicolon ∷ symbol CloseBrace ∷ symbol CloseBrace ∷ [])
     (record { mark = tt; package_name = []; classes = (M.class tt [] (w (codes "A")) None (M.more (M.method tt [] (Some (int tt)) (w (codes "m")) (par false (int tt) (codes "a") ∷ par true (tyin (codes "B") (codes "C")) (codes "b") ∷ []) (S.more (S.return tt (Some (v (codes "a")))) S.end)) M.end)) ∷ [] })
 method_with_parameters = record { shaped = grind arith; spells = refl }
 
 -- class A{public synchronized A m(A a){return this;}}
-method_with_modifiers : IsUnit (keyword Class ∷ word (codes "A") ∷ symbol OpenBrace ∷ keyword Public ∷ keyword Synchronized ∷ word (codes "A") ∷ word (codes "m") ∷ symbol OpenParen ∷ word (codes "A") ∷ word (codes "a") ∷ symbol CloseParen ∷ symbol OpenBrace ∷ keyword Return ∷ keyword This ∷ symbol Semicolon ∷ symbol CloseBrace ∷ symbol CloseBrace ∷ [])
+method_with_modifiers : BareUnit (keyword Class ∷ word (codes "A") ∷ symbol OpenBrace ∷ keyword Public ∷ keyword Synchronized ∷ word (codes "A") ∷ word (codes "m") ∷ symbol OpenParen ∷ word (codes "A") ∷ word (codes "a") ∷ symbol CloseParen ∷ symbol OpenBrace ∷ keyword Return ∷ keyword This ∷ symbol Semicolon ∷ symbol CloseBrace ∷ symbol CloseBrace ∷ [])
     (record { mark = tt; package_name = []; classes = (M.class tt [] (w (codes "A")) None (M.more (M.method tt (modifier PublicWord ∷ modifier SynchronizedWord ∷ []) (Some (ty (codes "A"))) (w (codes "m")) (par false (ty (codes "A")) (codes "a") ∷ []) (S.more (S.return tt (Some (this tt))) S.end)) M.end)) ∷ [] })
 method_with_modifiers = record { shaped = grind arith; spells = refl }
 
 -- class A{void A(){}}
-method_named_as_class : IsUnit (keyword Class ∷ word (codes "A") ∷ symbol OpenBrace ∷ keyword Void ∷ word (codes "A") ∷ symbol OpenParen ∷ symbol CloseParen ∷ symbol OpenBrace ∷ symbol CloseBrace ∷ symbol CloseBrace ∷ [])
+method_named_as_class : BareUnit (keyword Class ∷ word (codes "A") ∷ symbol OpenBrace ∷ keyword Void ∷ word (codes "A") ∷ symbol OpenParen ∷ symbol CloseParen ∷ symbol OpenBrace ∷ symbol CloseBrace ∷ symbol CloseBrace ∷ [])
     (record { mark = tt; package_name = []; classes = (M.class tt [] (w (codes "A")) None (M.more (M.method tt [] None (w (codes "A")) ([]) S.end) M.end)) ∷ [] })
 method_named_as_class = record { shaped = grind arith; spells = refl }
 
 -- class A{A(){}}
-constructor : IsUnit (keyword Class ∷ word (codes "A") ∷ symbol OpenBrace ∷ word (codes "A") ∷ symbol OpenParen ∷ symbol CloseParen ∷ symbol OpenBrace ∷ symbol CloseBrace ∷ symbol CloseBrace ∷ [])
+constructor : BareUnit (keyword Class ∷ word (codes "A") ∷ symbol OpenBrace ∷ word (codes "A") ∷ symbol OpenParen ∷ symbol CloseParen ∷ symbol OpenBrace ∷ symbol CloseBrace ∷ symbol CloseBrace ∷ [])
     (record { mark = tt; package_name = []; classes = (M.class tt [] (w (codes "A")) None (M.more (M.constructor tt [] (w (codes "A")) ([]) None S.end) M.end)) ∷ [] })
 constructor = record { shaped = grind arith; spells = refl }
 
 -- class A{public A(int a){b=a;}int b;}
-constructor_with_parameters : IsUnit (keyword Class ∷ word (codes "A") ∷ symbol OpenBrace ∷ keyword Public ∷ word (codes "A") ∷ symbol OpenParen ∷ keyword Int ∷ word (codes "a") ∷ symbol CloseParen ∷ symbol OpenBrace ∷ word (codes "b") ∷ symbol Equals ∷ word (codes "a") ∷ symbol Semicolon ∷ symbol CloseBrace ∷ keyword Int ∷ word (codes "b") ∷ symbol Semicolon ∷ symbol CloseBrace ∷ [])
+constructor_with_parameters : BareUnit (keyword Class ∷ word (codes "A") ∷ symbol OpenBrace ∷ keyword Public ∷ word (codes "A") ∷ symbol OpenParen ∷ keyword Int ∷ word (codes "a") ∷ symbol CloseParen ∷ symbol OpenBrace ∷ word (codes "b") ∷ symbol Equals ∷ word (codes "a") ∷ symbol Semicolon ∷ symbol CloseBrace ∷ keyword Int ∷ word (codes "b") ∷ symbol Semicolon ∷ symbol CloseBrace ∷ [])
     (record { mark = tt; package_name = []; classes = (M.class tt [] (w (codes "A")) None (M.more (M.constructor tt (modifier PublicWord ∷ []) (w (codes "A")) (par false (int tt) (codes "a") ∷ []) None (S.more (S.eval tt (assign tt (v (codes "b")) (v (codes "a")))) S.end)) (M.more (M.field tt [] (int tt) (w (codes "b")) None) M.end))) ∷ [] })
 constructor_with_parameters = record { shaped = grind arith; spells = refl }
 
 -- class A{A(int a){super(a);b=a;}}
-constructor_calls_super : IsUnit (keyword Class ∷ word (codes "A") ∷ symbol OpenBrace ∷ word (codes "A") ∷ symbol OpenParen ∷ keyword Int ∷ word (codes "a") ∷ symbol CloseParen ∷ symbol OpenBrace ∷ keyword Super ∷ symbol OpenParen ∷ word (codes "a") ∷ symbol CloseParen ∷ symbol Semicolon ∷ word (codes "b") ∷ symbol Equals ∷ word (codes "a") ∷ symbol Semicolon ∷ symbol CloseBrace ∷ symbol CloseBrace ∷ [])
+constructor_calls_super : BareUnit (keyword Class ∷ word (codes "A") ∷ symbol OpenBrace ∷ word (codes "A") ∷ symbol OpenParen ∷ keyword Int ∷ word (codes "a") ∷ symbol CloseParen ∷ symbol OpenBrace ∷ keyword Super ∷ symbol OpenParen ∷ word (codes "a") ∷ symbol CloseParen ∷ symbol Semicolon ∷ word (codes "b") ∷ symbol Equals ∷ word (codes "a") ∷ symbol Semicolon ∷ symbol CloseBrace ∷ symbol CloseBrace ∷ [])
     (record { mark = tt; package_name = []; classes = (M.class tt [] (w (codes "A")) None (M.more (M.constructor tt [] (w (codes "A")) (par false (int tt) (codes "a") ∷ []) (Some (more (v (codes "a")) end)) (S.more (S.eval tt (assign tt (v (codes "b")) (v (codes "a")))) S.end)) M.end)) ∷ [] })
 constructor_calls_super = record { shaped = grind arith; spells = refl }
 
 -- class A{A(){super();}}
-constructor_calls_super_alone : IsUnit (keyword Class ∷ word (codes "A") ∷ symbol OpenBrace ∷ word (codes "A") ∷ symbol OpenParen ∷ symbol CloseParen ∷ symbol OpenBrace ∷ keyword Super ∷ symbol OpenParen ∷ symbol CloseParen ∷ symbol Semicolon ∷ symbol CloseBrace ∷ symbol CloseBrace ∷ [])
+constructor_calls_super_alone : BareUnit (keyword Class ∷ word (codes "A") ∷ symbol OpenBrace ∷ word (codes "A") ∷ symbol OpenParen ∷ symbol CloseParen ∷ symbol OpenBrace ∷ keyword Super ∷ symbol OpenParen ∷ symbol CloseParen ∷ symbol Semicolon ∷ symbol CloseBrace ∷ symbol CloseBrace ∷ [])
     (record { mark = tt; package_name = []; classes = (M.class tt [] (w (codes "A")) None (M.more (M.constructor tt [] (w (codes "A")) ([]) (Some end) S.end) M.end)) ∷ [] })
 constructor_calls_super_alone = record { shaped = grind arith; spells = refl }
 
 -- class A{A(){super.m();}}
-constructor_calls_super_method : IsUnit (keyword Class ∷ word (codes "A") ∷ symbol OpenBrace ∷ word (codes "A") ∷ symbol OpenParen ∷ symbol CloseParen ∷ symbol OpenBrace ∷ keyword Super ∷ symbol Dot ∷ word (codes "m") ∷ symbol OpenParen ∷ symbol CloseParen ∷ symbol Semicolon ∷ symbol CloseBrace ∷ symbol CloseBrace ∷ [])
+constructor_calls_super_method : BareUnit (keyword Class ∷ word (codes "A") ∷ symbol OpenBrace ∷ word (codes "A") ∷ symbol OpenParen ∷ symbol CloseParen ∷ symbol OpenBrace ∷ keyword Super ∷ symbol Dot ∷ word (codes "m") ∷ symbol OpenParen ∷ symbol CloseParen ∷ symbol Semicolon ∷ symbol CloseBrace ∷ symbol CloseBrace ∷ [])
     (record { mark = tt; package_name = []; classes = (M.class tt [] (w (codes "A")) None (M.more (M.constructor tt [] (w (codes "A")) ([]) None (S.more (S.eval tt (super_call tt (w (codes "m")) end)) S.end)) M.end)) ∷ [] })
 constructor_calls_super_method = record { shaped = grind arith; spells = refl }
 
 -- class A{static class B{int a;}}
-member_class : IsUnit (keyword Class ∷ word (codes "A") ∷ symbol OpenBrace ∷ keyword Static ∷ keyword Class ∷ word (codes "B") ∷ symbol OpenBrace ∷ keyword Int ∷ word (codes "a") ∷ symbol Semicolon ∷ symbol CloseBrace ∷ symbol CloseBrace ∷ [])
+member_class : BareUnit (keyword Class ∷ word (codes "A") ∷ symbol OpenBrace ∷ keyword Static ∷ keyword Class ∷ word (codes "B") ∷ symbol OpenBrace ∷ keyword Int ∷ word (codes "a") ∷ symbol Semicolon ∷ symbol CloseBrace ∷ symbol CloseBrace ∷ [])
     (record { mark = tt; package_name = []; classes = (M.class tt [] (w (codes "A")) None (M.more (M.inner tt (M.class tt (modifier StaticWord ∷ []) (w (codes "B")) None (M.more (M.field tt [] (int tt) (w (codes "a")) None) M.end))) M.end)) ∷ [] })
 member_class = record { shaped = grind arith; spells = refl }
 
 -- class A{class B extends A{B(){super();}}A(){}}
-member_class_with_constructor : IsUnit (keyword Class ∷ word (codes "A") ∷ symbol OpenBrace ∷ keyword Class ∷ word (codes "B") ∷ keyword Extends ∷ word (codes "A") ∷ symbol OpenBrace ∷ word (codes "B") ∷ symbol OpenParen ∷ symbol CloseParen ∷ symbol OpenBrace ∷ keyword Super ∷ symbol OpenParen ∷ symbol CloseParen ∷ symbol Semicolon ∷ symbol CloseBrace ∷ symbol CloseBrace ∷ word (codes "A") ∷ symbol OpenParen ∷ symbol CloseParen ∷ symbol OpenBrace ∷ symbol CloseBrace ∷ symbol CloseBrace ∷ [])
+member_class_with_constructor : BareUnit (keyword Class ∷ word (codes "A") ∷ symbol OpenBrace ∷ keyword Class ∷ word (codes "B") ∷ keyword Extends ∷ word (codes "A") ∷ symbol OpenBrace ∷ word (codes "B") ∷ symbol OpenParen ∷ symbol CloseParen ∷ symbol OpenBrace ∷ keyword Super ∷ symbol OpenParen ∷ symbol CloseParen ∷ symbol Semicolon ∷ symbol CloseBrace ∷ symbol CloseBrace ∷ word (codes "A") ∷ symbol OpenParen ∷ symbol CloseParen ∷ symbol OpenBrace ∷ symbol CloseBrace ∷ symbol CloseBrace ∷ [])
     (record { mark = tt; package_name = []; classes = (M.class tt [] (w (codes "A")) None (M.more (M.inner tt (M.class tt [] (w (codes "B")) (Some (ty (codes "A"))) (M.more (M.constructor tt [] (w (codes "B")) ([]) (Some end) S.end) M.end))) (M.more (M.constructor tt [] (w (codes "A")) ([]) None S.end) M.end))) ∷ [] })
 member_class_with_constructor = record { shaped = grind arith; spells = refl }
 
 -- class A{class B{}class C{}}
-two_member_classes : IsUnit (keyword Class ∷ word (codes "A") ∷ symbol OpenBrace ∷ keyword Class ∷ word (codes "B") ∷ symbol OpenBrace ∷ symbol CloseBrace ∷ keyword Class ∷ word (codes "C") ∷ symbol OpenBrace ∷ symbol CloseBrace ∷ symbol CloseBrace ∷ [])
+two_member_classes : BareUnit (keyword Class ∷ word (codes "A") ∷ symbol OpenBrace ∷ keyword Class ∷ word (codes "B") ∷ symbol OpenBrace ∷ symbol CloseBrace ∷ keyword Class ∷ word (codes "C") ∷ symbol OpenBrace ∷ symbol CloseBrace ∷ symbol CloseBrace ∷ [])
     (record { mark = tt; package_name = []; classes = (M.class tt [] (w (codes "A")) None (M.more (M.inner tt (M.class tt [] (w (codes "B")) None M.end)) (M.more (M.inner tt (M.class tt [] (w (codes "C")) None M.end)) M.end))) ∷ [] })
 two_member_classes = record { shaped = grind arith; spells = refl }
 
 -- class A{final public static int a;}
-words_in_any_order : IsUnit (keyword Class ∷ word (codes "A") ∷ symbol OpenBrace ∷ keyword Final ∷ keyword Public ∷ keyword Static ∷ keyword Int ∷ word (codes "a") ∷ symbol Semicolon ∷ symbol CloseBrace ∷ [])
+words_in_any_order : BareUnit (keyword Class ∷ word (codes "A") ∷ symbol OpenBrace ∷ keyword Final ∷ keyword Public ∷ keyword Static ∷ keyword Int ∷ word (codes "a") ∷ symbol Semicolon ∷ symbol CloseBrace ∷ [])
     (record { mark = tt; package_name = []; classes = (M.class tt [] (w (codes "A")) None (M.more (M.field tt (modifier FinalWord ∷ modifier PublicWord ∷ modifier StaticWord ∷ []) (int tt) (w (codes "a")) None) M.end)) ∷ [] })
 words_in_any_order = record { shaped = grind arith; spells = refl }
 
 -- class A{public public int a;}
 -- javac's parser refuses a word that stands twice: "repeated modifier". Here any words may stand; which may is said with the declarations
-word_twice : IsUnit (keyword Class ∷ word (codes "A") ∷ symbol OpenBrace ∷ keyword Public ∷ keyword Public ∷ keyword Int ∷ word (codes "a") ∷ symbol Semicolon ∷ symbol CloseBrace ∷ [])
+word_twice : BareUnit (keyword Class ∷ word (codes "A") ∷ symbol OpenBrace ∷ keyword Public ∷ keyword Public ∷ keyword Int ∷ word (codes "a") ∷ symbol Semicolon ∷ symbol CloseBrace ∷ [])
     (record { mark = tt; package_name = []; classes = (M.class tt [] (w (codes "A")) None (M.more (M.field tt (modifier PublicWord ∷ modifier PublicWord ∷ []) (int tt) (w (codes "a")) None) M.end)) ∷ [] })
 word_twice = record { shaped = grind arith; spells = refl }
 
 -- class A{int m(){if(a)return 1;else{while(b)n();}return 2;}}
-bodies : IsUnit (keyword Class ∷ word (codes "A") ∷ symbol OpenBrace ∷ keyword Int ∷ word (codes "m") ∷ symbol OpenParen ∷ symbol CloseParen ∷ symbol OpenBrace ∷ keyword If ∷ symbol OpenParen ∷ word (codes "a") ∷ symbol CloseParen ∷ keyword Return ∷ integer 1 ∷ symbol Semicolon ∷ keyword Else ∷ symbol OpenBrace ∷ keyword While ∷ symbol OpenParen ∷ word (codes "b") ∷ symbol CloseParen ∷ word (codes "n") ∷ symbol OpenParen ∷ symbol CloseParen ∷ symbol Semicolon ∷ symbol CloseBrace ∷ keyword Return ∷ integer 2 ∷ symbol Semicolon ∷ symbol CloseBrace ∷ symbol CloseBrace ∷ [])
+bodies : BareUnit (keyword Class ∷ word (codes "A") ∷ symbol OpenBrace ∷ keyword Int ∷ word (codes "m") ∷ symbol OpenParen ∷ symbol CloseParen ∷ symbol OpenBrace ∷ keyword If ∷ symbol OpenParen ∷ word (codes "a") ∷ symbol CloseParen ∷ keyword Return ∷ integer 1 ∷ symbol Semicolon ∷ keyword Else ∷ symbol OpenBrace ∷ keyword While ∷ symbol OpenParen ∷ word (codes "b") ∷ symbol CloseParen ∷ word (codes "n") ∷ symbol OpenParen ∷ symbol CloseParen ∷ symbol Semicolon ∷ symbol CloseBrace ∷ keyword Return ∷ integer 2 ∷ symbol Semicolon ∷ symbol CloseBrace ∷ symbol CloseBrace ∷ [])
     (record { mark = tt; package_name = []; classes = (M.class tt [] (w (codes "A")) None (M.more (M.method tt [] (Some (int tt)) (w (codes "m")) ([]) (S.more (S.branch tt (v (codes "a")) (S.return tt (Some (number tt 1))) (S.otherwise (S.block tt (S.more (S.loop tt (v (codes "b")) (S.eval tt (call tt no_target (w (codes "n")) end))) S.end)))) (S.more (S.return tt (Some (number tt 2))) S.end))) M.end)) ∷ [] })
 bodies = record { shaped = grind arith; spells = refl }
 
@@ -200,7 +199,7 @@ body_no_statement : IsUnitRefused (keyword Class ∷ word (codes "A") ∷ symbol
 body_no_statement = record { spells = refl; not_shaped = λ h. grind arith }
 
 -- class A{void m(int a,int b,int c){}}
-method_with_three_parameters : IsUnit (keyword Class ∷ word (codes "A") ∷ symbol OpenBrace ∷ keyword Void ∷ word (codes "m") ∷ symbol OpenParen ∷ keyword Int ∷ word (codes "a") ∷ symbol Comma ∷ keyword Int ∷ word (codes "b") ∷ symbol Comma ∷ keyword Int ∷ word (codes "c") ∷ symbol CloseParen ∷ symbol OpenBrace ∷ symbol CloseBrace ∷ symbol CloseBrace ∷ [])
+method_with_three_parameters : BareUnit (keyword Class ∷ word (codes "A") ∷ symbol OpenBrace ∷ keyword Void ∷ word (codes "m") ∷ symbol OpenParen ∷ keyword Int ∷ word (codes "a") ∷ symbol Comma ∷ keyword Int ∷ word (codes "b") ∷ symbol Comma ∷ keyword Int ∷ word (codes "c") ∷ symbol CloseParen ∷ symbol OpenBrace ∷ symbol CloseBrace ∷ symbol CloseBrace ∷ [])
     (record { mark = tt; package_name = []; classes = (M.class tt [] (w (codes "A")) None (M.more (M.method tt [] None (w (codes "m")) (par false (int tt) (codes "a") ∷ par false (int tt) (codes "b") ∷ par false (int tt) (codes "c") ∷ []) S.end) M.end)) ∷ [] })
 method_with_three_parameters = record { shaped = grind arith; spells = refl }
 

@@ -12,13 +12,8 @@ use Rattle.jr_grammar.specs.StatementShape.{StmtShaped}
 use Rattle.jr_grammar.specs.MemberSpelling.{unit_toks}
 use Rattle.jr_grammar.specs.MemberShape.{UnitShaped}
 
--- the tokens are this statement
-pub record IsItem (tokens : List Token) (tree : Stmt Bare) : Type 0 where
-  pub shaped : StmtShaped tree
-  pub spells : stmt_toks tree ≡ tokens
-
 -- The tree spells the tokens, and is no statement. Of other trees that spell them this says nothing.
-pub record IsItemRefused (tokens : List Token) (tree : Stmt Bare) : Type 0 where
+pub record IsStatementRefused (tokens : List Token) (tree : Stmt Bare) : Type 0 where
   pub spells : stmt_toks tree ≡ tokens
   pub not_shaped : StmtShaped tree → ⊥
 

@@ -11,8 +11,10 @@ use Rattle.jr_lex.specs.declared.items.Symbol.TheVariants.{Equals, Plus as PlusS
 use Rattle.jr_ast.specs.Tree.{int, boolean}
 use Rattle.jr_grammar.specs.Tokens.{Token, word, keyword, integer, text, symbol, Placed, placed_of, tokens_of}
 use Rattle.jr_grammar.specs.Spelling.{type_toks}
-use Rattle.jr_grammar.specs.Stands.{StandsType}
+use Rattle.jr_grammar.specs.Stands.{Stands}
+use Rattle.jr_grammar.specs.ExpressionLayout.{type_layout}
 use Rattle.jr_grammar.specs.Bare.{Bare}
+use Rattle.jr_grammar.proofs.Layouts.{lay_stands}
 
 abbrev at : ℕ → ℕ → Span
 at a b = record { from = a; to = b }
@@ -49,12 +51,12 @@ empty_string = refl
 int_type : type_toks {A = Bare} (int tt) ≡ keyword Int ∷ []
 int_type = refl
 
-int_type_stands : StandsType (int (at 2 5)) (put 2 5 (keyword Int) ∷ [])
-int_type_stands = (refl, (put 2 5 (keyword Int), refl, refl))
+int_type_stands : Stands (type_layout (int (at 2 5))) (put 2 5 (keyword Int) ∷ [])
+int_type_stands = lay_stands (type_layout {A = Span} (int (at 2 5))) (put 2 5 (keyword Int) ∷ []) refl
 
 -- boolean
 boolean_type : type_toks {A = Bare} (boolean tt) ≡ keyword Boolean ∷ []
 boolean_type = refl
 
-boolean_type_stands : StandsType (boolean (at 2 9)) (put 2 9 (keyword Boolean) ∷ [])
-boolean_type_stands = (refl, (put 2 9 (keyword Boolean), refl, refl))
+boolean_type_stands : Stands (type_layout (boolean (at 2 9))) (put 2 9 (keyword Boolean) ∷ [])
+boolean_type_stands = lay_stands (type_layout {A = Span} (boolean (at 2 9))) (put 2 9 (keyword Boolean) ∷ []) refl

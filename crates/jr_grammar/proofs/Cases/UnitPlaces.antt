@@ -1,7 +1,7 @@
 -- Places: each mark is the span of its node's tokens, and a unit's is the whole file. The marks are those that javac's parser gives
 -- the nodes; of a name and of a modifier, for which it has none, they are where the word stands.
 -- In a case's comment `·` stands for the ends of a text that begins or ends with a blank.
-use Rattle.std.proofs.Common.{ℕ, ◌-◌, List, [], ◌∷◌, Some, None, true, false, refl, ap, arith, take, drop}
+use Rattle.std.proofs.Common.{ℕ, List, [], ◌∷◌, Some, None, true, false, refl, ap, arith, length}
 use Rattle.std.specs.Prelude.{codes}
 use Rattle.jr_text.specs.declared.spans.Span.{Span}
 use Rattle.jr_lex.specs.declared.items.Item.{Item}
@@ -18,10 +18,18 @@ use Rattle.jr_ast.specs.Tree.{int, boolean, named, number, name, field, this, ca
 use Rattle.jr_ast.specs.StatementTree as S
 use Rattle.jr_ast.specs.MemberTree as M
 use Rattle.jr_ast.specs.MemberTree.{Unit as UnitTree}
-use Rattle.jr_grammar.specs.Tokens.{Token, word, keyword, integer, symbol, Placed}
-use Rattle.jr_grammar.specs.Stands.{Tokens}
-use Rattle.jr_grammar.specs.StatementStands.{StandsStmt}
-use Rattle.jr_grammar.specs.Units.{ReadsUnit, IsMarkedMember}
+use Rattle.jr_grammar.specs.Tokens.{Token, word, keyword, integer, symbol, Placed, placed_of}
+use Rattle.jr_grammar.specs.Stands.{Tokens, Stands}
+use Rattle.jr_grammar.specs.Units.{IsMarkedUnit, IsMarkedMember}
+use Rattle.jr_grammar.specs.StatementLayout.{stmt_layout}
+use Rattle.jr_grammar.specs.MemberLayout.{member_layout, unit_layouts}
+use Rattle.jr_grammar.specs.Layout.{itself}
+use Rattle.jr_grammar.specs.Reads.{ReadsWithSpans}
+use Rattle.jr_grammar.proofs.Layouts.{lay_stands, lay_stand}
+use Rattle.jr_grammar.proofs.Cases.Scanned.{lexes}
+use Rattle.jr_lex.specs.Characters.{is_word_start, is_word_part}
+use Rattle.jr_lex.specs.Scan.{scan, extended, keyword_of}
+use Rattle.unicode_ident.proofs.Computing.{unicode_ident}
 
 -- ---- short names
 
@@ -40,18 +48,6 @@ blank a b = record { kind = Blank; span = at a b }
 abbrev comment : ℕ → ℕ → Item
 comment a b = record { kind = Comment; span = at a b }
 
--- the tokens from the one numbered i up to and without the one numbered j
-abbrev cut : Tokens → ℕ → ℕ → Tokens
-cut ps i j = take (j - i) (drop i ps)
-
-abbrev first : Tokens → Placed Span
-first [] = put 0 0 (symbol Dot)
-first (p ∷ ps) = p
-
--- the token numbered i
-abbrev tok : Tokens → ℕ → Placed Span
-tok ps i = first (drop i ps)
-
 -- ---- package and constructor
 
 -- · package a . b; class A extends B { static class C { int d = 1; } A(int e) { super(e); final int f = e + 1; d = f; } } ·
@@ -64,8 +60,19 @@ tree_of_package_and_constructor = (record { mark = at 0 119; package_name = (rec
 abbrev items_of_package_and_constructor : List Item
 items_of_package_and_constructor = blank 0 1 ∷ tk 1 8 (KeywordKind Package) ∷ blank 8 9 ∷ tk 9 10 WordKind ∷ blank 10 11 ∷ tk 11 12 (Mark Dot) ∷ blank 12 13 ∷ tk 13 14 WordKind ∷ tk 14 15 (Mark Semicolon) ∷ blank 15 16 ∷ tk 16 21 (KeywordKind Class) ∷ blank 21 22 ∷ tk 22 23 WordKind ∷ blank 23 24 ∷ tk 24 31 (KeywordKind Extends) ∷ blank 31 32 ∷ tk 32 33 WordKind ∷ blank 33 34 ∷ tk 34 35 (Mark OpenBrace) ∷ blank 35 36 ∷ tk 36 42 (KeywordKind Static) ∷ blank 42 43 ∷ tk 43 48 (KeywordKind Class) ∷ blank 48 49 ∷ tk 49 50 WordKind ∷ blank 50 51 ∷ tk 51 52 (Mark OpenBrace) ∷ blank 52 53 ∷ tk 53 56 (KeywordKind Int) ∷ blank 56 57 ∷ tk 57 58 WordKind ∷ blank 58 59 ∷ tk 59 60 (Mark Equals) ∷ blank 60 61 ∷ tk 61 62 (IntKind 1) ∷ tk 62 63 (Mark Semicolon) ∷ blank 63 64 ∷ tk 64 65 (Mark CloseBrace) ∷ blank 65 66 ∷ tk 66 67 WordKind ∷ tk 67 68 (Mark OpenParen) ∷ tk 68 71 (KeywordKind Int) ∷ blank 71 72 ∷ tk 72 73 WordKind ∷ tk 73 74 (Mark CloseParen) ∷ blank 74 75 ∷ tk 75 76 (Mark OpenBrace) ∷ blank 76 77 ∷ tk 77 82 (KeywordKind Super) ∷ tk 82 83 (Mark OpenParen) ∷ tk 83 84 WordKind ∷ tk 84 85 (Mark CloseParen) ∷ tk 85 86 (Mark Semicolon) ∷ blank 86 87 ∷ tk 87 92 (KeywordKind Final) ∷ blank 92 93 ∷ tk 93 96 (KeywordKind Int) ∷ blank 96 97 ∷ tk 97 98 WordKind ∷ blank 98 99 ∷ tk 99 100 (Mark Equals) ∷ blank 100 101 ∷ tk 101 102 WordKind ∷ blank 102 103 ∷ tk 103 104 (Mark PlusSign) ∷ blank 104 105 ∷ tk 105 106 (IntKind 1) ∷ tk 106 107 (Mark Semicolon) ∷ blank 107 108 ∷ tk 108 109 WordKind ∷ blank 109 110 ∷ tk 110 111 (Mark Equals) ∷ blank 111 112 ∷ tk 112 113 WordKind ∷ tk 113 114 (Mark Semicolon) ∷ blank 114 115 ∷ tk 115 116 (Mark CloseBrace) ∷ blank 116 117 ∷ tk 117 118 (Mark CloseBrace) ∷ blank 118 119 ∷ []
 
-package_and_constructor : ReadsUnit (codes " package a . b; class A extends B { static class C { int d = 1; } A(int e) { super(e); final int f = e + 1; d = f; } } ") items_of_package_and_constructor tree_of_package_and_constructor
-package_and_constructor = record { shaped = grind arith; spells = refl; marks = (cut tokens_of_package_and_constructor 0 5, cut tokens_of_package_and_constructor 5 45, refl, (cut tokens_of_package_and_constructor 2 4, tok tokens_of_package_and_constructor 0, tok tokens_of_package_and_constructor 1, tok tokens_of_package_and_constructor 4, refl, refl, (refl, refl), (cut tokens_of_package_and_constructor 4 4, tok tokens_of_package_and_constructor 2, tok tokens_of_package_and_constructor 3, refl, refl, (refl, refl), refl), refl), (cut tokens_of_package_and_constructor 5 45, cut tokens_of_package_and_constructor 45 45, refl, (refl, (cut tokens_of_package_and_constructor 5 5, cut tokens_of_package_and_constructor 7 9, cut tokens_of_package_and_constructor 10 44, tok tokens_of_package_and_constructor 5, tok tokens_of_package_and_constructor 6, tok tokens_of_package_and_constructor 9, tok tokens_of_package_and_constructor 44, refl, refl, refl, (refl, refl), (cut tokens_of_package_and_constructor 8 9, tok tokens_of_package_and_constructor 7, refl, refl, (refl, (tok tokens_of_package_and_constructor 8, refl, (refl, refl)))), refl, (cut tokens_of_package_and_constructor 10 20, cut tokens_of_package_and_constructor 20 44, refl, (refl, (refl, (cut tokens_of_package_and_constructor 10 11, cut tokens_of_package_and_constructor 13 13, cut tokens_of_package_and_constructor 14 19, tok tokens_of_package_and_constructor 11, tok tokens_of_package_and_constructor 12, tok tokens_of_package_and_constructor 13, tok tokens_of_package_and_constructor 19, refl, (cut tokens_of_package_and_constructor 11 11, tok tokens_of_package_and_constructor 10, refl, refl, refl, refl), refl, (refl, refl), refl, refl, (cut tokens_of_package_and_constructor 14 19, cut tokens_of_package_and_constructor 19 19, refl, (refl, (cut tokens_of_package_and_constructor 14 14, cut tokens_of_package_and_constructor 14 15, cut tokens_of_package_and_constructor 16 18, tok tokens_of_package_and_constructor 15, tok tokens_of_package_and_constructor 18, refl, refl, (refl, (tok tokens_of_package_and_constructor 14, refl, refl)), (refl, refl), (cut tokens_of_package_and_constructor 17 18, tok tokens_of_package_and_constructor 16, refl, refl, (refl, (tok tokens_of_package_and_constructor 17, refl, refl))), refl)), refl), refl))), (cut tokens_of_package_and_constructor 20 44, cut tokens_of_package_and_constructor 44 44, refl, (refl, (cut tokens_of_package_and_constructor 20 20, cut tokens_of_package_and_constructor 22 24, cut tokens_of_package_and_constructor 26 31, cut tokens_of_package_and_constructor 31 43, tok tokens_of_package_and_constructor 20, tok tokens_of_package_and_constructor 21, tok tokens_of_package_and_constructor 24, tok tokens_of_package_and_constructor 25, tok tokens_of_package_and_constructor 43, refl, refl, (refl, refl), refl, (cut tokens_of_package_and_constructor 22 24, cut tokens_of_package_and_constructor 24 24, refl, (refl, (cut tokens_of_package_and_constructor 22 22, cut tokens_of_package_and_constructor 22 23, tok tokens_of_package_and_constructor 23, refl, refl, (refl, (tok tokens_of_package_and_constructor 22, refl, refl)), (refl, refl))), refl), refl, refl, (cut tokens_of_package_and_constructor 28 29, tok tokens_of_package_and_constructor 26, tok tokens_of_package_and_constructor 27, tok tokens_of_package_and_constructor 29, tok tokens_of_package_and_constructor 30, refl, refl, refl, (cut tokens_of_package_and_constructor 28 29, cut tokens_of_package_and_constructor 29 29, refl, (refl, (tok tokens_of_package_and_constructor 28, refl, (refl, refl))), refl), refl, refl), (cut tokens_of_package_and_constructor 31 39, cut tokens_of_package_and_constructor 39 43, refl, (refl, (cut tokens_of_package_and_constructor 31 32, cut tokens_of_package_and_constructor 32 33, cut tokens_of_package_and_constructor 35 38, tok tokens_of_package_and_constructor 33, tok tokens_of_package_and_constructor 34, tok tokens_of_package_and_constructor 38, refl, (tok tokens_of_package_and_constructor 31, refl, refl), (refl, (tok tokens_of_package_and_constructor 32, refl, refl)), (refl, refl), refl, (refl, (cut tokens_of_package_and_constructor 35 36, cut tokens_of_package_and_constructor 37 38, tok tokens_of_package_and_constructor 36, refl, (refl, (tok tokens_of_package_and_constructor 35, refl, (refl, refl))), refl, (refl, (tok tokens_of_package_and_constructor 37, refl, refl)))), refl)), (cut tokens_of_package_and_constructor 39 43, cut tokens_of_package_and_constructor 43 43, refl, (refl, (cut tokens_of_package_and_constructor 39 42, tok tokens_of_package_and_constructor 42, refl, (refl, (cut tokens_of_package_and_constructor 39 40, cut tokens_of_package_and_constructor 41 42, tok tokens_of_package_and_constructor 40, refl, (refl, (tok tokens_of_package_and_constructor 39, refl, (refl, refl))), refl, (refl, (tok tokens_of_package_and_constructor 41, refl, (refl, refl))))), refl)), refl)), refl)), refl)), refl)), refl)); whole = refl }
+package_and_constructor : IsMarkedUnit (length (codes " package a . b; class A extends B { static class C { int d = 1; } A(int e) { super(e); final int f = e + 1; d = f; } } ")) (placed_of (codes " package a . b; class A extends B { static class C { int d = 1; } A(int e) { super(e); final int f = e + 1; d = f; } } ") items_of_package_and_constructor) tree_of_package_and_constructor
+package_and_constructor = record { shaped = grind arith; spells = refl; marks = lay_stand (unit_layouts tree_of_package_and_constructor) tokens_of_package_and_constructor refl; file = refl }
+
+package_and_constructor_read : ReadsWithSpans itself (codes " package a . b; class A extends B { static class C { int d = 1; } A(int e) { super(e); final int f = e + 1; d = f; } } ") tree_of_package_and_constructor
+unfolding scan extended keyword_of is_word_start is_word_part unicode_ident
+package_and_constructor_read =
+    record {
+      items = items_of_package_and_constructor;
+      lexes = lexes (codes " package a . b; class A extends B { static class C { int d = 1; } A(int e) { super(e); final int f = e + 1; d = f; } } ") items_of_package_and_constructor refl refl refl;
+      is = record { shaped = package_and_constructor.shaped; spells = package_and_constructor.spells };
+      spans = package_and_constructor.marks;
+      file = refl;
+    }
 
 -- ---- comments and bodies
 
@@ -79,8 +86,19 @@ tree_of_comments_and_bodies = (record { mark = at 0 228; package_name = []; clas
 abbrev items_of_comments_and_bodies : List Item
 items_of_comments_and_bodies = blank 0 2 ∷ comment 2 11 ∷ blank 11 12 ∷ tk 12 17 (KeywordKind Class) ∷ blank 17 18 ∷ tk 18 19 WordKind ∷ blank 19 20 ∷ tk 20 21 (Mark OpenBrace) ∷ blank 21 22 ∷ tk 22 29 (KeywordKind Private) ∷ blank 29 30 ∷ tk 30 37 (KeywordKind Boolean) ∷ blank 37 38 ∷ tk 38 39 WordKind ∷ tk 39 40 (Mark Semicolon) ∷ blank 40 41 ∷ tk 41 47 (KeywordKind Public) ∷ blank 47 48 ∷ tk 48 54 (KeywordKind Static) ∷ blank 54 55 ∷ tk 55 56 WordKind ∷ blank 56 57 ∷ tk 57 58 WordKind ∷ tk 58 59 (Mark OpenParen) ∷ tk 59 64 (KeywordKind Final) ∷ blank 64 65 ∷ tk 65 66 WordKind ∷ tk 66 67 (Mark Dot) ∷ tk 67 68 WordKind ∷ blank 68 69 ∷ tk 69 70 WordKind ∷ tk 70 71 (Mark Comma) ∷ blank 71 72 ∷ tk 72 75 (KeywordKind Int) ∷ blank 75 76 ∷ tk 76 77 WordKind ∷ tk 77 78 (Mark CloseParen) ∷ blank 78 79 ∷ tk 79 80 (Mark OpenBrace) ∷ blank 80 81 ∷ tk 81 83 (KeywordKind If) ∷ blank 83 84 ∷ tk 84 85 (Mark OpenParen) ∷ tk 85 86 WordKind ∷ tk 86 87 (Mark CloseParen) ∷ blank 87 88 ∷ tk 88 94 (KeywordKind Return) ∷ blank 94 95 ∷ tk 95 99 (KeywordKind This) ∷ tk 99 100 (Mark Semicolon) ∷ blank 100 101 ∷ tk 101 105 (KeywordKind Else) ∷ blank 105 106 ∷ tk 106 111 (KeywordKind While) ∷ blank 111 112 ∷ tk 112 113 (Mark OpenParen) ∷ tk 113 114 WordKind ∷ blank 114 115 ∷ tk 115 116 (Mark Less) ∷ blank 116 117 ∷ tk 117 118 (IntKind 1) ∷ tk 118 119 (Mark CloseParen) ∷ blank 119 120 ∷ tk 120 121 WordKind ∷ tk 121 123 (Mark PlusPlus) ∷ tk 123 124 (Mark Semicolon) ∷ blank 124 125 ∷ tk 125 126 (Mark OpenBrace) ∷ blank 126 127 ∷ tk 127 128 (Mark CloseBrace) ∷ blank 128 129 ∷ tk 129 141 (KeywordKind Synchronized) ∷ blank 141 142 ∷ tk 142 143 (Mark OpenParen) ∷ tk 143 144 WordKind ∷ tk 144 145 (Mark CloseParen) ∷ blank 145 146 ∷ tk 146 147 (Mark OpenBrace) ∷ blank 147 148 ∷ tk 148 149 WordKind ∷ tk 149 150 (Mark OpenParen) ∷ tk 150 151 WordKind ∷ tk 151 152 (Mark Comma) ∷ blank 152 153 ∷ tk 153 154 WordKind ∷ tk 154 155 (Mark CloseParen) ∷ tk 155 156 (Mark Semicolon) ∷ blank 156 157 ∷ tk 157 158 (Mark Semicolon) ∷ blank 158 159 ∷ tk 159 160 (Mark CloseBrace) ∷ blank 160 161 ∷ tk 161 167 (KeywordKind Return) ∷ blank 167 168 ∷ tk 168 171 (KeywordKind New) ∷ blank 171 172 ∷ tk 172 173 WordKind ∷ tk 173 174 (Mark OpenParen) ∷ tk 174 175 (Mark CloseParen) ∷ tk 175 176 (Mark Semicolon) ∷ blank 176 177 ∷ tk 177 178 (Mark CloseBrace) ∷ blank 178 179 ∷ tk 179 183 (KeywordKind Void) ∷ blank 183 184 ∷ tk 184 185 WordKind ∷ tk 185 186 (Mark OpenParen) ∷ tk 186 187 (Mark CloseParen) ∷ blank 187 188 ∷ tk 188 189 (Mark OpenBrace) ∷ blank 189 190 ∷ tk 190 196 (KeywordKind Return) ∷ tk 196 197 (Mark Semicolon) ∷ blank 197 198 ∷ tk 198 199 (Mark CloseBrace) ∷ blank 199 200 ∷ tk 200 201 (Mark CloseBrace) ∷ blank 201 203 ∷ tk 203 209 (KeywordKind Public) ∷ blank 209 210 ∷ tk 210 215 (KeywordKind Class) ∷ blank 215 216 ∷ tk 216 217 WordKind ∷ blank 217 218 ∷ tk 218 219 (Mark OpenBrace) ∷ blank 219 220 ∷ tk 220 221 (Mark CloseBrace) ∷ blank 221 222 ∷ comment 222 228 ∷ []
 
-comments_and_bodies : ReadsUnit (codes "  /* two */ class A { private boolean a; public static A m(final B.C b, int c) { if (a) return this; else while (c < 1) c++; { } synchronized (b) { n(b, c); ; } return new A(); } void n() { return; } }  public class B { } // end") items_of_comments_and_bodies tree_of_comments_and_bodies
-comments_and_bodies = record { shaped = grind arith; spells = refl; marks = (cut tokens_of_comments_and_bodies 0 0, cut tokens_of_comments_and_bodies 0 76, refl, refl, (cut tokens_of_comments_and_bodies 0 71, cut tokens_of_comments_and_bodies 71 76, refl, (refl, (cut tokens_of_comments_and_bodies 0 0, cut tokens_of_comments_and_bodies 2 2, cut tokens_of_comments_and_bodies 3 70, tok tokens_of_comments_and_bodies 0, tok tokens_of_comments_and_bodies 1, tok tokens_of_comments_and_bodies 2, tok tokens_of_comments_and_bodies 70, refl, refl, refl, (refl, refl), refl, refl, (cut tokens_of_comments_and_bodies 3 7, cut tokens_of_comments_and_bodies 7 70, refl, (refl, (cut tokens_of_comments_and_bodies 3 4, cut tokens_of_comments_and_bodies 4 5, cut tokens_of_comments_and_bodies 6 6, tok tokens_of_comments_and_bodies 5, tok tokens_of_comments_and_bodies 6, refl, (cut tokens_of_comments_and_bodies 4 4, tok tokens_of_comments_and_bodies 3, refl, refl, refl, refl), (refl, (tok tokens_of_comments_and_bodies 4, refl, refl)), (refl, refl), refl, refl)), (cut tokens_of_comments_and_bodies 7 62, cut tokens_of_comments_and_bodies 62 70, refl, (refl, (cut tokens_of_comments_and_bodies 7 9, cut tokens_of_comments_and_bodies 9 10, cut tokens_of_comments_and_bodies 12 20, cut tokens_of_comments_and_bodies 22 61, tok tokens_of_comments_and_bodies 10, tok tokens_of_comments_and_bodies 11, tok tokens_of_comments_and_bodies 20, tok tokens_of_comments_and_bodies 21, tok tokens_of_comments_and_bodies 61, refl, (cut tokens_of_comments_and_bodies 8 9, tok tokens_of_comments_and_bodies 7, refl, refl, refl, (cut tokens_of_comments_and_bodies 9 9, tok tokens_of_comments_and_bodies 8, refl, refl, refl, refl)), (refl, (tok tokens_of_comments_and_bodies 9, refl, (refl, refl))), (refl, refl), refl, (cut tokens_of_comments_and_bodies 12 17, cut tokens_of_comments_and_bodies 17 20, refl, (refl, (cut tokens_of_comments_and_bodies 12 13, cut tokens_of_comments_and_bodies 13 16, tok tokens_of_comments_and_bodies 16, refl, (tok tokens_of_comments_and_bodies 12, refl, refl), (refl, (tok tokens_of_comments_and_bodies 13, tok tokens_of_comments_and_bodies 14, tok tokens_of_comments_and_bodies 15, refl, (refl, refl), refl, (refl, refl))), (refl, refl))), (cut tokens_of_comments_and_bodies 18 20, cut tokens_of_comments_and_bodies 20 20, tok tokens_of_comments_and_bodies 17, refl, refl, (refl, (cut tokens_of_comments_and_bodies 18 18, cut tokens_of_comments_and_bodies 18 19, tok tokens_of_comments_and_bodies 19, refl, refl, (refl, (tok tokens_of_comments_and_bodies 18, refl, refl)), (refl, refl))), refl)), refl, refl, (cut tokens_of_comments_and_bodies 22 39, cut tokens_of_comments_and_bodies 39 61, refl, (refl, (cut tokens_of_comments_and_bodies 24 25, cut tokens_of_comments_and_bodies 26 29, cut tokens_of_comments_and_bodies 29 39, tok tokens_of_comments_and_bodies 22, tok tokens_of_comments_and_bodies 23, tok tokens_of_comments_and_bodies 25, refl, refl, refl, (refl, (tok tokens_of_comments_and_bodies 24, refl, (refl, refl))), refl, (refl, (cut tokens_of_comments_and_bodies 27 28, tok tokens_of_comments_and_bodies 26, tok tokens_of_comments_and_bodies 28, refl, refl, (refl, (tok tokens_of_comments_and_bodies 27, refl, refl)), refl)), (cut tokens_of_comments_and_bodies 30 39, tok tokens_of_comments_and_bodies 29, refl, refl, (refl, (cut tokens_of_comments_and_bodies 32 35, cut tokens_of_comments_and_bodies 36 39, tok tokens_of_comments_and_bodies 30, tok tokens_of_comments_and_bodies 31, tok tokens_of_comments_and_bodies 35, refl, refl, refl, (refl, (cut tokens_of_comments_and_bodies 32 33, cut tokens_of_comments_and_bodies 34 35, tok tokens_of_comments_and_bodies 33, refl, (refl, (tok tokens_of_comments_and_bodies 32, refl, (refl, refl))), refl, (refl, (tok tokens_of_comments_and_bodies 34, refl, refl)))), refl, (refl, (cut tokens_of_comments_and_bodies 36 38, tok tokens_of_comments_and_bodies 38, refl, (refl, (cut tokens_of_comments_and_bodies 36 37, tok tokens_of_comments_and_bodies 37, refl, (refl, (tok tokens_of_comments_and_bodies 36, refl, (refl, refl))), refl)), refl))))))), (cut tokens_of_comments_and_bodies 39 41, cut tokens_of_comments_and_bodies 41 61, refl, (refl, (cut tokens_of_comments_and_bodies 40 40, tok tokens_of_comments_and_bodies 39, tok tokens_of_comments_and_bodies 40, refl, refl, refl, refl)), (cut tokens_of_comments_and_bodies 41 55, cut tokens_of_comments_and_bodies 55 61, refl, (refl, (cut tokens_of_comments_and_bodies 43 44, cut tokens_of_comments_and_bodies 46 54, tok tokens_of_comments_and_bodies 41, tok tokens_of_comments_and_bodies 42, tok tokens_of_comments_and_bodies 44, tok tokens_of_comments_and_bodies 45, tok tokens_of_comments_and_bodies 54, refl, refl, refl, (refl, (tok tokens_of_comments_and_bodies 43, refl, (refl, refl))), refl, refl, (cut tokens_of_comments_and_bodies 46 53, cut tokens_of_comments_and_bodies 53 54, refl, (refl, (cut tokens_of_comments_and_bodies 46 52, tok tokens_of_comments_and_bodies 52, refl, (refl, (cut tokens_of_comments_and_bodies 46 48, cut tokens_of_comments_and_bodies 48 51, tok tokens_of_comments_and_bodies 51, refl, (tok tokens_of_comments_and_bodies 46, tok tokens_of_comments_and_bodies 47, refl, (refl, refl), refl), (cut tokens_of_comments_and_bodies 48 49, cut tokens_of_comments_and_bodies 49 51, refl, (refl, (tok tokens_of_comments_and_bodies 48, refl, (refl, refl))), (cut tokens_of_comments_and_bodies 50 51, cut tokens_of_comments_and_bodies 51 51, tok tokens_of_comments_and_bodies 49, refl, refl, (refl, (tok tokens_of_comments_and_bodies 50, refl, (refl, refl))), refl)), refl)), refl)), (cut tokens_of_comments_and_bodies 53 54, cut tokens_of_comments_and_bodies 54 54, refl, (refl, (tok tokens_of_comments_and_bodies 53, refl, refl)), refl)), refl)), (cut tokens_of_comments_and_bodies 55 61, cut tokens_of_comments_and_bodies 61 61, refl, (refl, (cut tokens_of_comments_and_bodies 56 60, tok tokens_of_comments_and_bodies 55, tok tokens_of_comments_and_bodies 60, refl, refl, (refl, (cut tokens_of_comments_and_bodies 56 59, cut tokens_of_comments_and_bodies 59 59, tok tokens_of_comments_and_bodies 59, refl, (cut tokens_of_comments_and_bodies 57 58, tok tokens_of_comments_and_bodies 56, tok tokens_of_comments_and_bodies 58, refl, refl, (refl, (tok tokens_of_comments_and_bodies 57, refl, (refl, refl))), refl), refl, refl)), refl)), refl)))), refl)), (cut tokens_of_comments_and_bodies 62 70, cut tokens_of_comments_and_bodies 70 70, refl, (refl, (cut tokens_of_comments_and_bodies 62 62, cut tokens_of_comments_and_bodies 62 63, cut tokens_of_comments_and_bodies 65 65, cut tokens_of_comments_and_bodies 67 69, tok tokens_of_comments_and_bodies 63, tok tokens_of_comments_and_bodies 64, tok tokens_of_comments_and_bodies 65, tok tokens_of_comments_and_bodies 66, tok tokens_of_comments_and_bodies 69, refl, refl, (tok tokens_of_comments_and_bodies 62, refl, refl), (refl, refl), refl, refl, refl, refl, (cut tokens_of_comments_and_bodies 67 69, cut tokens_of_comments_and_bodies 69 69, refl, (refl, (tok tokens_of_comments_and_bodies 67, tok tokens_of_comments_and_bodies 68, refl, refl, refl)), refl), refl)), refl))), refl)), (cut tokens_of_comments_and_bodies 71 76, cut tokens_of_comments_and_bodies 76 76, refl, (refl, (cut tokens_of_comments_and_bodies 71 72, cut tokens_of_comments_and_bodies 74 74, cut tokens_of_comments_and_bodies 75 75, tok tokens_of_comments_and_bodies 72, tok tokens_of_comments_and_bodies 73, tok tokens_of_comments_and_bodies 74, tok tokens_of_comments_and_bodies 75, refl, (cut tokens_of_comments_and_bodies 72 72, tok tokens_of_comments_and_bodies 71, refl, refl, refl, refl), refl, (refl, refl), refl, refl, refl, refl)), refl))); whole = refl }
+comments_and_bodies : IsMarkedUnit (length (codes "  /* two */ class A { private boolean a; public static A m(final B.C b, int c) { if (a) return this; else while (c < 1) c++; { } synchronized (b) { n(b, c); ; } return new A(); } void n() { return; } }  public class B { } // end")) (placed_of (codes "  /* two */ class A { private boolean a; public static A m(final B.C b, int c) { if (a) return this; else while (c < 1) c++; { } synchronized (b) { n(b, c); ; } return new A(); } void n() { return; } }  public class B { } // end") items_of_comments_and_bodies) tree_of_comments_and_bodies
+comments_and_bodies = record { shaped = grind arith; spells = refl; marks = lay_stand (unit_layouts tree_of_comments_and_bodies) tokens_of_comments_and_bodies refl; file = refl }
+
+comments_and_bodies_read : ReadsWithSpans itself (codes "  /* two */ class A { private boolean a; public static A m(final B.C b, int c) { if (a) return this; else while (c < 1) c++; { } synchronized (b) { n(b, c); ; } return new A(); } void n() { return; } }  public class B { } // end") tree_of_comments_and_bodies
+unfolding scan extended keyword_of is_word_start is_word_part unicode_ident
+comments_and_bodies_read =
+    record {
+      items = items_of_comments_and_bodies;
+      lexes = lexes (codes "  /* two */ class A { private boolean a; public static A m(final B.C b, int c) { if (a) return this; else while (c < 1) c++; { } synchronized (b) { n(b, c); ; } return new A(); } void n() { return; } }  public class B { } // end") items_of_comments_and_bodies refl refl refl;
+      is = record { shaped = comments_and_bodies.shaped; spells = comments_and_bodies.spells };
+      spans = comments_and_bodies.marks;
+      file = refl;
+    }
 
 -- ---- constructor of member class
 
@@ -92,7 +110,7 @@ abbrev tree_of_constructor_of_member_class : M.Member Span
 tree_of_constructor_of_member_class = (M.constructor (at 0 40) ((record { mark = (at 0 6); word = PublicWord }) ∷ []) (record { mark = (at 7 8); text = codes "C" }) ((record { mark = (at 9 14); is_final = false; type = (named (at 9 12) (Some (record { mark = (at 9 10); text = codes "A" })) (record { mark = (at 11 12); text = codes "B" })); name = (record { mark = (at 13 14); text = codes "a" }) }) ∷ []) (Some (more (name (at 24 25) (record { mark = (at 24 25); text = codes "a" })) (more (number (at 27 28) 2) end))) (S.more (S.return (at 31 38) None) S.end))
 
 constructor_of_member_class : IsMarkedMember true (codes "C") tokens_of_constructor_of_member_class tree_of_constructor_of_member_class
-constructor_of_member_class = record { shaped = grind arith; spells = refl; marks = (refl, (cut tokens_of_constructor_of_member_class 0 1, cut tokens_of_constructor_of_member_class 3 7, cut tokens_of_constructor_of_member_class 9 16, cut tokens_of_constructor_of_member_class 16 18, tok tokens_of_constructor_of_member_class 1, tok tokens_of_constructor_of_member_class 2, tok tokens_of_constructor_of_member_class 7, tok tokens_of_constructor_of_member_class 8, tok tokens_of_constructor_of_member_class 18, refl, (cut tokens_of_constructor_of_member_class 1 1, tok tokens_of_constructor_of_member_class 0, refl, refl, refl, refl), (refl, refl), refl, (cut tokens_of_constructor_of_member_class 3 7, cut tokens_of_constructor_of_member_class 7 7, refl, (refl, (cut tokens_of_constructor_of_member_class 3 3, cut tokens_of_constructor_of_member_class 3 6, tok tokens_of_constructor_of_member_class 6, refl, refl, (refl, (tok tokens_of_constructor_of_member_class 3, tok tokens_of_constructor_of_member_class 4, tok tokens_of_constructor_of_member_class 5, refl, (refl, refl), refl, (refl, refl))), (refl, refl))), refl), refl, refl, (cut tokens_of_constructor_of_member_class 11 14, tok tokens_of_constructor_of_member_class 9, tok tokens_of_constructor_of_member_class 10, tok tokens_of_constructor_of_member_class 14, tok tokens_of_constructor_of_member_class 15, refl, refl, refl, (cut tokens_of_constructor_of_member_class 11 12, cut tokens_of_constructor_of_member_class 12 14, refl, (refl, (tok tokens_of_constructor_of_member_class 11, refl, (refl, refl))), (cut tokens_of_constructor_of_member_class 13 14, cut tokens_of_constructor_of_member_class 14 14, tok tokens_of_constructor_of_member_class 12, refl, refl, (refl, (tok tokens_of_constructor_of_member_class 13, refl, refl)), refl)), refl, refl), (cut tokens_of_constructor_of_member_class 16 18, cut tokens_of_constructor_of_member_class 18 18, refl, (refl, (tok tokens_of_constructor_of_member_class 16, tok tokens_of_constructor_of_member_class 17, refl, refl, refl)), refl), refl)) }
+constructor_of_member_class = record { shaped = grind arith; spells = refl; marks = lay_stands (member_layout tree_of_constructor_of_member_class) tokens_of_constructor_of_member_class refl }
 
 -- ---- final local within
 
@@ -103,8 +121,8 @@ tokens_of_final_local_within = put 0 2 (keyword If) ∷ put 3 4 (symbol OpenPare
 abbrev tree_of_final_local_within : S.Stmt Span
 tree_of_final_local_within = (S.branch (at 0 37) (name (at 4 5) (record { mark = (at 4 5); text = codes "a" })) (S.block (at 7 27) (S.more (S.local (at 9 25) true (named (at 15 18) (Some (record { mark = (at 15 16); text = codes "A" })) (record { mark = (at 17 18); text = codes "B" })) (record { mark = (at 19 20); text = codes "b" }) (name (at 23 24) (record { mark = (at 23 24); text = codes "c" }))) S.end)) (S.otherwise (S.eval (at 33 37) (call (at 33 36) no_target (record { mark = (at 33 34); text = codes "m" }) end))))
 
-final_local_within : StandsStmt tree_of_final_local_within tokens_of_final_local_within
-final_local_within = (refl, (cut tokens_of_final_local_within 2 3, cut tokens_of_final_local_within 4 14, cut tokens_of_final_local_within 14 19, tok tokens_of_final_local_within 0, tok tokens_of_final_local_within 1, tok tokens_of_final_local_within 3, refl, refl, refl, (refl, (tok tokens_of_final_local_within 2, refl, (refl, refl))), refl, (refl, (cut tokens_of_final_local_within 5 13, tok tokens_of_final_local_within 4, tok tokens_of_final_local_within 13, refl, refl, (cut tokens_of_final_local_within 5 13, cut tokens_of_final_local_within 13 13, refl, (refl, (cut tokens_of_final_local_within 5 6, cut tokens_of_final_local_within 6 9, cut tokens_of_final_local_within 11 12, tok tokens_of_final_local_within 9, tok tokens_of_final_local_within 10, tok tokens_of_final_local_within 12, refl, (tok tokens_of_final_local_within 5, refl, refl), (refl, (tok tokens_of_final_local_within 6, tok tokens_of_final_local_within 7, tok tokens_of_final_local_within 8, refl, (refl, refl), refl, (refl, refl))), (refl, refl), refl, (refl, (tok tokens_of_final_local_within 11, refl, (refl, refl))), refl)), refl), refl)), (cut tokens_of_final_local_within 15 19, tok tokens_of_final_local_within 14, refl, refl, (refl, (cut tokens_of_final_local_within 15 18, tok tokens_of_final_local_within 18, refl, (refl, (cut tokens_of_final_local_within 15 17, cut tokens_of_final_local_within 17 17, tok tokens_of_final_local_within 17, refl, (tok tokens_of_final_local_within 15, tok tokens_of_final_local_within 16, refl, (refl, refl), refl), refl, refl)), refl)))))
+final_local_within : Stands (stmt_layout tree_of_final_local_within) tokens_of_final_local_within
+final_local_within = lay_stands (stmt_layout tree_of_final_local_within) tokens_of_final_local_within refl
 
 -- ---- method without parameters
 
@@ -116,7 +134,7 @@ abbrev tree_of_method_without_parameters : M.Member Span
 tree_of_method_without_parameters = (M.method (at 0 12) [] None (record { mark = (at 5 6); text = codes "m" }) ([]) S.end)
 
 method_without_parameters : IsMarkedMember true (codes "C") tokens_of_method_without_parameters tree_of_method_without_parameters
-method_without_parameters = record { shaped = grind arith; spells = refl; marks = (refl, (cut tokens_of_method_without_parameters 0 0, cut tokens_of_method_without_parameters 0 1, cut tokens_of_method_without_parameters 3 3, cut tokens_of_method_without_parameters 5 5, tok tokens_of_method_without_parameters 1, tok tokens_of_method_without_parameters 2, tok tokens_of_method_without_parameters 3, tok tokens_of_method_without_parameters 4, tok tokens_of_method_without_parameters 5, refl, refl, (tok tokens_of_method_without_parameters 0, refl, refl), (refl, refl), refl, refl, refl, refl, refl, refl)) }
+method_without_parameters = record { shaped = grind arith; spells = refl; marks = lay_stands (member_layout tree_of_method_without_parameters) tokens_of_method_without_parameters refl }
 
 -- ---- member class
 
@@ -128,7 +146,7 @@ abbrev tree_of_member_class : M.Member Span
 tree_of_member_class = (M.inner (at 0 11) (M.class (at 0 11) [] (record { mark = (at 6 7); text = codes "D" }) None M.end))
 
 member_class : IsMarkedMember false (codes "C") tokens_of_member_class tree_of_member_class
-member_class = record { shaped = grind arith; spells = refl; marks = (refl, (refl, (cut tokens_of_member_class 0 0, cut tokens_of_member_class 2 2, cut tokens_of_member_class 3 3, tok tokens_of_member_class 0, tok tokens_of_member_class 1, tok tokens_of_member_class 2, tok tokens_of_member_class 3, refl, refl, refl, (refl, refl), refl, refl, refl, refl))) }
+member_class = record { shaped = grind arith; spells = refl; marks = lay_stands (member_layout tree_of_member_class) tokens_of_member_class refl }
 
 -- ---- field with difference
 
@@ -140,7 +158,7 @@ abbrev tree_of_field_with_difference : M.Member Span
 tree_of_field_with_difference = (M.field (at 0 25) ((record { mark = (at 0 7); word = PrivateWord }) ∷ []) (int (at 8 11)) (record { mark = (at 12 13); text = codes "a" }) (Some (binary (at 16 24) Sub (field (at 16 19) (name (at 16 17) (record { mark = (at 16 17); text = codes "b" })) (record { mark = (at 18 19); text = codes "c" })) (unary (at 22 24) Minus (name (at 23 24) (record { mark = (at 23 24); text = codes "d" }))))))
 
 field_with_difference : IsMarkedMember false (codes "C") tokens_of_field_with_difference tree_of_field_with_difference
-field_with_difference = record { shaped = grind arith; spells = refl; marks = (refl, (cut tokens_of_field_with_difference 0 1, cut tokens_of_field_with_difference 1 2, cut tokens_of_field_with_difference 3 10, tok tokens_of_field_with_difference 2, tok tokens_of_field_with_difference 10, refl, (cut tokens_of_field_with_difference 1 1, tok tokens_of_field_with_difference 0, refl, refl, refl, refl), (refl, (tok tokens_of_field_with_difference 1, refl, refl)), (refl, refl), (cut tokens_of_field_with_difference 4 10, tok tokens_of_field_with_difference 3, refl, refl, (refl, (cut tokens_of_field_with_difference 4 7, cut tokens_of_field_with_difference 8 10, tok tokens_of_field_with_difference 7, refl, (refl, (cut tokens_of_field_with_difference 4 5, tok tokens_of_field_with_difference 5, tok tokens_of_field_with_difference 6, refl, (refl, (tok tokens_of_field_with_difference 4, refl, (refl, refl))), refl, (refl, refl))), refl, (refl, (cut tokens_of_field_with_difference 9 10, tok tokens_of_field_with_difference 8, refl, refl, (refl, (tok tokens_of_field_with_difference 9, refl, (refl, refl)))))))), refl)) }
+field_with_difference = record { shaped = grind arith; spells = refl; marks = lay_stands (member_layout tree_of_field_with_difference) tokens_of_field_with_difference refl }
 
 -- a member class holds no class; javac takes it
 member_class_within_another : IsMarkedMember true (codes "C") tokens_of_member_class tree_of_member_class → ⊥
@@ -152,15 +170,15 @@ abbrev end_of : Span → ℕ
 end_of s = s.to
 
 -- ·; ·
-statement_of_a_blank : StandsStmt (S.empty (at 0 2)) (put 0 1 (symbol Semicolon) ∷ []) → ⊥
-statement_of_a_blank h = omega (arith, ap end_of h.0)
+statement_of_a_blank : Stands (stmt_layout (S.empty (at 0 2))) (put 0 1 (symbol Semicolon) ∷ []) → ⊥
+statement_of_a_blank h = omega (arith, ap end_of h.mark)
 
 -- a++;
 -- a statement ends with its semicolon
-statement_without_its_semicolon : StandsStmt (S.eval (at 0 3) (bump (at 0 3) PostInc (name (at 0 1) (record { mark = at 0 1; text = codes "a" })))) (put 0 1 (word (codes "a")) ∷ put 1 3 (symbol PlusPlus) ∷ put 3 4 (symbol Semicolon) ∷ []) → ⊥
-statement_without_its_semicolon h = omega (arith, ap end_of h.0)
+statement_without_its_semicolon : Stands (stmt_layout (S.eval (at 0 3) (bump (at 0 3) PostInc (name (at 0 1) (record { mark = at 0 1; text = codes "a" }))))) (put 0 1 (word (codes "a")) ∷ put 1 3 (symbol PlusPlus) ∷ put 3 4 (symbol Semicolon) ∷ []) → ⊥
+statement_without_its_semicolon h = omega (arith, ap end_of h.mark)
 
 -- · class A{} ·
 -- a unit is the whole file, and not from its first token to its last
-unit_without_its_blanks : ReadsUnit (codes " class A{} ") (blank 0 1 ∷ tk 1 6 (KeywordKind Class) ∷ blank 6 7 ∷ tk 7 8 WordKind ∷ tk 8 9 (Mark OpenBrace) ∷ tk 9 10 (Mark CloseBrace) ∷ blank 10 11 ∷ []) (record { mark = at 1 10; package_name = []; classes = (M.class (at 1 10) [] (record { mark = at 7 8; text = codes "A" }) None M.end) ∷ [] }) → ⊥
-unit_without_its_blanks h = omega (arith, ap end_of h.whole)
+unit_without_its_blanks : IsMarkedUnit (length (codes " class A{} ")) (placed_of (codes " class A{} ") (blank 0 1 ∷ tk 1 6 (KeywordKind Class) ∷ blank 6 7 ∷ tk 7 8 WordKind ∷ tk 8 9 (Mark OpenBrace) ∷ tk 9 10 (Mark CloseBrace) ∷ blank 10 11 ∷ [])) (record { mark = at 1 10; package_name = []; classes = (M.class (at 1 10) [] (record { mark = at 7 8; text = codes "A" }) None M.end) ∷ [] }) → ⊥
+unit_without_its_blanks h = omega (arith, ap end_of h.file)

@@ -99,21 +99,13 @@ fn between(out: &mut Page, before: &str, of: &Expr<Span>, behind: &str) -> Shown
 }
 
 #[cycle(shown)]
-fn pair(out: &mut Page, left: &Expr<Span>, sign: &str, behind: &str, right: &Expr<Span>) -> Shown {
-    between(out, "[", left, " ")?;
-    out.put(sign)?;
-    between(out, behind, right, "]")
-}
-
-#[cycle(shown)]
 fn args(out: &mut Page, args: &[Expr<Span>]) -> Shown {
-    let mut before = "(";
-    for arg in args {
-        between(out, before, arg, "")?;
-        before = ", ";
-    }
-    if args.is_empty() {
-        out.put("(")?;
+    out.put("(")?;
+    for (i, arg) in args.iter().enumerate() {
+        if i > 0 {
+            out.put(", ")?;
+        }
+        expr(out, arg)?;
     }
     out.put(")")
 }
@@ -180,9 +172,20 @@ fn node(out: &mut Page, kind: &ExprKind<Span>) -> Shown {
             let (before, behind) = bump_signs(*op);
             between(out, before, part, behind)
         }
-        ExprKind::Binary(op, left, right) => pair(out, left, binary_sign(*op), " ", right),
-        ExprKind::Assign(to, value) => pair(out, to, "=", " ", value),
-        ExprKind::Compound(op, to, value) => pair(out, to, binary_sign(*op), "= ", value),
+        ExprKind::Binary(op, left, right) => {
+            between(out, "[", left, " ")?;
+            out.put(binary_sign(*op))?;
+            between(out, " ", right, "]")
+        }
+        ExprKind::Assign(to, value) => {
+            between(out, "[", to, " = ")?;
+            between(out, "", value, "]")
+        }
+        ExprKind::Compound(op, to, value) => {
+            between(out, "[", to, " ")?;
+            out.put(binary_sign(*op))?;
+            between(out, "= ", value, "]")
+        }
     }
 }
 

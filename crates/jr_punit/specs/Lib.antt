@@ -1,0 +1,12 @@
+pub mod Cues
+pub mod Inside
+pub mod TypeMachine
+pub mod ArgumentMachine
+pub mod ParameterMachine
+pub mod StatementMachine
+pub mod OwnMachine
+pub mod ClassMachine
+pub mod MemberMachine
+pub mod UnitMachine
+pub mod Machines
+pub mod Exact

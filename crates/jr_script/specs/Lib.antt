@@ -1,0 +1,5 @@
+pub mod Rows
+pub mod Steps
+pub mod StepFaults
+pub mod Scripts
+pub mod ScriptFaults

@@ -1,0 +1,108 @@
+//! Rows: what a program declares, one a class, field, method or constructor.
+ghost use Rattle.std.specs.Prelude.{◌≡◌, ◌↔◌, IfOk, IsTrue, Contains, option_map};
+ghost use Rattle.jr_table.specs.TypeView.{class_key_of, ty_of};
+ghost use Rattle.jr_table.specs.RowView.{row_of};
+
+use crate::classes::ClassKey;
+use crate::decls::Decl;
+use crate::types::Ty;
+use jr_ast::ModWord;
+use std::alloc::{AllocError, Global};
+use std::marker::Model;
+
+/// The modifiers of a declaration, as written. Contracts see the list.
+#[derive(Drop)]
+pub struct Mods {
+    words: Vec<ModWord>,
+}
+
+impl Model for Mods {
+    ghost use Rattle.std.specs.Prelude.{List};
+    ghost use Rattle.jr_ast.specs.declared.operators.ModWord.{ModWord};
+
+    ghost Value = { List ModWord };
+
+    ghost view = { λ m. m.words.items };
+}
+
+impl Mods {
+    /// The list of these words.
+    pub fn from_vec(words: Vec<ModWord>) -> Mods
+        ensures { result ≡ words.items }
+    {
+        Mods { words }
+    }
+
+    /// The words.
+    pub fn as_slice(&self) -> &[ModWord]
+        ensures { result.now ≡ self.now }
+    {
+        self.words.as_slice()
+    }
+
+    /// Whether the word is among them.
+    pub fn has(&self, word: ModWord) -> bool
+        ensures { IsTrue result ↔ Contains self.now word }
+    {
+        self.words.contains(&word)
+    }
+
+    /// The same list once more.
+    pub fn copy(&self, alloc: Global) -> Result<Mods, AllocError>
+        ensures { IfOk result (λ m. m ≡ self.now) }
+    {
+        let words = self.words.as_slice().to_vec(alloc)?;
+        Ok(Mods { words })
+    }
+}
+
+/// A declaration, its modifiers and its types.
+#[derive(Drop)]
+pub struct Row {
+    pub decl: Decl,
+    pub modifiers: Mods,
+    /// A field's type, or a method's result.
+    pub ty: Option<Ty>,
+    /// A class's superclass.
+    pub parent: Option<ClassKey>,
+    /// Whether it is a field with an initializer.
+    pub has_init: bool,
+}
+
+impl Row {
+    /// The same row once more.
+    pub fn copy(&self, alloc: Global) -> Result<Row, AllocError>
+        ensures { IfOk result (λ r. row_of r ≡ row_of self.now) }
+    {
+        let has_init = self.has_init;
+        let modifiers = self.modifiers.copy(alloc)?;
+        let parent = copy_maybe_class(alloc, &self.parent)?;
+        let ty = copy_maybe_ty(alloc, &self.ty)?;
+        let decl = self.decl.copy(alloc)?;
+        Ok(Row {
+            decl,
+            modifiers,
+            ty,
+            parent,
+            has_init,
+        })
+    }
+}
+
+fn copy_maybe_class(alloc: Global, key: &Option<ClassKey>) -> Result<Option<ClassKey>, AllocError>
+    ensures { IfOk result (λ k. option_map class_key_of k ≡ option_map class_key_of key.now) }
+{
+    match key {
+        None => Ok(None),
+        Some(key) => Ok(Some(key.copy(alloc)?)),
+    }
+}
+
+fn copy_maybe_ty(alloc: Global, ty: &Option<Ty>) -> Result<Option<Ty>, AllocError>
+    ensures { IfOk result (λ t. option_map ty_of t ≡ option_map ty_of ty.now) }
+{
+    match ty {
+        None => Ok(None),
+        Some(ty) => Ok(Some(ty.copy(alloc)?)),
+    }
+}

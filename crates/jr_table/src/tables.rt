@@ -1,0 +1,109 @@
+//! The table of a program's declarations.
+ghost use Rattle.std.specs.Prelude.{◌≡◌, map, length, IfOk, option_map, slice_get};
+
+use crate::classes::ClassKey;
+use crate::entries::{Entry, Kind};
+use crate::keys::MethodKey;
+use crate::numbering::entries;
+use crate::rows::Row;
+use crate::sought::{Sought, find};
+use std::alloc::{AllocError, Global};
+use std::marker::Model;
+
+/// The declarations of a program. Contracts see the rows.
+#[derive(Drop)]
+pub struct Table {
+    rows: Vec<Row>,
+    entries: Vec<Entry>,
+}
+
+impl Model for Table {
+    ghost use Rattle.std.specs.Prelude.{List, map};
+    ghost use Rattle.jr_table.specs.Rows as pure;
+    ghost use Rattle.jr_table.specs.RowView.{row_of};
+    ghost use Rattle.jr_table.specs.Keeps.{Keeps};
+
+    ghost Value = { List pure.Row };
+
+    ghost view = { λ t. map row_of t.rows.items };
+
+    ghost invariant = { λ t. Keeps (map row_of t.rows.items) t.entries.items };
+}
+
+impl Table {
+    ghost use Rattle.jr_table.specs.TypeView.{class_key_of};
+    ghost use Rattle.jr_table.specs.KeyView.{method_key_of};
+    ghost use Rattle.jr_table.specs.RowView.{row_of};
+    ghost use Rattle.jr_table.specs.Conditions.{AreRows};
+    ghost use Rattle.jr_table.specs.Decls.{class_decl, method_decl};
+    ghost use Rattle.jr_table.specs.Entries.{number_of, entries_of};
+    ghost use Rattle.jr_table.specs.Chains.{parent_of, outer_of};
+
+    /// The table that has exactly these rows, in this order.
+    ///
+    /// The prelude's rows stand in front, no two rows have one key, each class that a row names has a row, and no class
+    /// is its own superclass through others (JLS 8.1.4).
+    pub fn of_rows(alloc: Global, rows: Vec<Row>) -> Result<Table, AllocError>
+        requires { AreRows (map row_of rows.items) }
+        ensures { IfOk result (λ table. table ≡ map row_of rows.items) }
+    {
+        let entries = entries(alloc, &rows)?;
+        Ok(Table { rows, entries })
+    }
+
+    /// The rows, the prelude's in front.
+    pub fn rows(&self) -> &[Row]
+        ensures { map row_of result.now ≡ self.now }
+    {
+        self.rows.as_slice()
+    }
+
+    /// What its rows meet, for who needs it in a proof.
+    pub fn keeps_rows(&self)
+        ensures { AreRows self.now }
+    {
+        // The model's invariant is known once a field is read.
+        let _rows = self.rows.len();
+    }
+
+    /// The rows by number.
+    pub fn entries(&self) -> &[Entry]
+        ensures { result.now ≡ entries_of self.now }
+    {
+        self.entries.as_slice()
+    }
+
+    /// The number of a class's row.
+    pub fn class_number(&self, key: &ClassKey) -> Option<u32>
+        ensures { result ≡ number_of self.now (class_decl (class_key_of key.now)) }
+    {
+        find(&self.rows, &Sought::Class(key))
+    }
+
+    /// The number of a method's row.
+    pub fn method_number(&self, key: &MethodKey) -> Option<u32>
+        ensures { result ≡ number_of self.now (method_decl (method_key_of key.now)) }
+    {
+        find(&self.rows, &Sought::Method(key))
+    }
+
+    /// The superclass of a class.
+    pub fn parent_of(&self, class: u32) -> Option<u32>
+        ensures { result ≡ parent_of (entries_of self.now) class }
+    {
+        match self.entries.get(class as usize) {
+            None => None,
+            Some(entry) => entry.parent,
+        }
+    }
+
+    /// The class that a class is a member of.
+    pub fn outer_of(&self, class: u32) -> Option<u32>
+        ensures { result ≡ outer_of (entries_of self.now) class }
+    {
+        match self.entries.get(class as usize) {
+            None => None,
+            Some(entry) => entry.outer,
+        }
+    }
+}
