@@ -1,7 +1,8 @@
 ghost use Rattle.jr_grammar.specs.Expressions.{OneExpression, OneStatementExpression};
 ghost use Rattle.jr_pexpr.specs.Expressions.{OneMarkedExpression, OneMarked, LengthIsLongest, StatementLengthIsLongest, StopIsExact, StatementStopIsExact, StepsAlike, BuildsMarked};
+ghost use Rattle.jr_pexpr.specs.Parsing.{OneAnswer, IsExpressionFrom, IsNoExpressionFrom, IsStatementExpressionFrom, IsNoStatementExpressionFrom};
 
-use jr_grammar::{expression_ignores_marks, marks_are_one};
+use jr_grammar::{expression_ignores_marks, marks_are_one, readings_are_one};
 use jr_text::Span;
 
 /// No two expressions spell the same tokens (JLS 15).
@@ -54,4 +55,14 @@ pub fn marks_are_spans()
     ensures { BuildsMarked }
 {
     expression_ignores_marks::<Span, ()>();
+}
+
+/// What is read of a text from an item on is one: its tree with all marks, the item behind it and the stop, or the place
+/// of the fault, and never both.
+pub fn one_answer()
+    ensures expressions { OneAnswer IsExpressionFrom IsNoExpressionFrom }
+    ensures statement_expressions { OneAnswer IsStatementExpressionFrom IsNoStatementExpressionFrom }
+{
+    readings_are_one();
+    one_marked_expression();
 }

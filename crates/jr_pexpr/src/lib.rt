@@ -22,7 +22,7 @@ mod walks;
 pub use faults::ParseFault;
 pub use laws::{
     expression_is_longest, expression_stop_is_exact, marked_steps_alike, marks_are_spans,
-    one_expression, one_marked_expression, one_statement_expression,
+    one_answer, one_expression, one_marked_expression, one_statement_expression,
     statement_expression_is_longest, statement_expression_stop_is_exact,
 };
 pub use parsing::{parse_expr, parse_sexpr};
