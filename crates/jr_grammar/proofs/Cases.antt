@@ -1,4 +1,5 @@
 pub mod Forms
+pub mod Scanned
 pub mod Texts
 pub mod Operators
 pub mod Primaries
@@ -6,7 +7,8 @@ pub mod StatementExpressions
 pub mod SideConditions
 pub mod Places
 pub mod Parts
-pub mod Scanned
 pub mod Statements
 pub mod Classes
 pub mod UnitPlaces
+pub mod Widths
+pub mod Lexicals

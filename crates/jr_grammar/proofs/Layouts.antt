@@ -5,6 +5,8 @@ use Rattle.std.proofs.Math.Seq.{take-append_seam, drop-append_seam}
 use Rattle.jr_text.specs.declared.spans.Span.{Span}
 use Rattle.jr_grammar.specs.Tokens.{Token, Placed, kinds}
 use Rattle.jr_grammar.specs.Layout.{Layout, token, node, row, Layouts, done, ◌then◌, laid, all_laid, itself, spans_from, all_spans_from}
+use Rattle.jr_grammar.specs.Bare.{no_mark}
+use Rattle.jr_grammar.specs.MarksAreOne.{TellsApart}
 use Rattle.jr_grammar.specs.Stands.{Tokens, span_of, IsAlone, Stands, StandInOrder}
 
 -- ---- other marks
@@ -154,44 +156,87 @@ mutual
 
 -- ---- marks and parts of a layout
 
-abbrev pub mark_of : Layout Span → Span
-mark_of (token t) = record { from = 0; to = 0 }
-mark_of (node m parts) = m
-mark_of (row parts) = record { from = 0; to = 0 }
+-- `d` where there is none
+abbrev pub mark_of : {A : Type 0} → A → Layout A → A
+mark_of d (token t) = d
+mark_of d (node m parts) = m
+mark_of d (row parts) = d
 
-abbrev pub parts_of : Layout Span → Layouts Span
+abbrev pub parts_of : {A : Type 0} → Layout A → Layouts A
 parts_of (token t) = done
 parts_of (node m parts) = parts
 parts_of (row parts) = parts
 
-abbrev behind : Layouts Span → Layouts Span
+abbrev behind : {A : Type 0} → Layouts A → Layouts A
 behind done = done
 behind (x then xs) = xs
 
-abbrev pub part0 : Layouts Span → Layout Span
+abbrev pub part0 : {A : Type 0} → Layouts A → Layout A
 part0 done = row done
 part0 (x then xs) = x
 
-abbrev pub part1 : Layouts Span → Layout Span
+abbrev pub part1 : {A : Type 0} → Layouts A → Layout A
 part1 xs = part0 (behind xs)
 
-abbrev pub part2 : Layouts Span → Layout Span
+abbrev pub part2 : {A : Type 0} → Layouts A → Layout A
 part2 xs = part1 (behind xs)
 
-abbrev pub part3 : Layouts Span → Layout Span
+abbrev pub part3 : {A : Type 0} → Layouts A → Layout A
 part3 xs = part2 (behind xs)
 
-abbrev pub part4 : Layouts Span → Layout Span
+abbrev pub part4 : {A : Type 0} → Layouts A → Layout A
 part4 xs = part3 (behind xs)
 
-abbrev pub part5 : Layouts Span → Layout Span
+abbrev pub part5 : {A : Type 0} → Layouts A → Layout A
 part5 xs = part4 (behind xs)
 
-abbrev pub part6 : Layouts Span → Layout Span
+abbrev pub part6 : {A : Type 0} → Layouts A → Layout A
 part6 xs = part5 (behind xs)
 
-abbrev pub part7 : Layouts Span → Layout Span
+abbrev pub part7 : {A : Type 0} → Layouts A → Layout A
 part7 xs = part6 (behind xs)
 
-abbrev pub part8 : Layouts Span → Layout Span
-part8 xs = part7 (behind xs)
+-- ---- marks that tell their spans apart
+
+mutual
+  pub spans_from-map : {A : Type 0} (tells : A → ℕ → Span) (base : ℕ) (x : Layout A) → map_layout no_mark (spans_from tells base x) ≡ map_layout no_mark x
+  spans_from-map tells base (token t) = refl
+  spans_from-map tells base (node m parts) = λ i. node tt (all_spans_from-map tells (tells m base).from parts i)
+  spans_from-map tells base (row parts) = λ i. row (all_spans_from-map tells base parts i)
+
+  pub all_spans_from-map : {A : Type 0} (tells : A → ℕ → Span) (base : ℕ) (xs : Layouts A) → map_layouts no_mark (all_spans_from tells base xs) ≡ map_layouts no_mark xs
+  all_spans_from-map tells base done = refl
+  all_spans_from-map tells base (x then xs) = λ i. spans_from-map tells base x i then all_spans_from-map tells base xs i
+
+module _ {A : Type 0} (tells : A → ℕ → Span) (apart : TellsApart tells) where
+  mutual
+    pub told_apart : (base : ℕ) (x y : Layout A) → map_layout no_mark x ≡ map_layout no_mark y → spans_from tells base x ≡ spans_from tells base y → x ≡ y
+    told_apart base (token t) (token u) e s = let q : t ≡ u = cc in λ i. token (q i)
+    told_apart base (node m xs) (node n ys) e s =
+        let q : map_layouts no_mark xs ≡ map_layouts no_mark ys = cc in
+        let told : tells m base ≡ tells n base = cc in
+        let parts : all_spans_from tells (tells m base).from xs ≡ all_spans_from tells (tells n base).from ys = cc in
+        let k : m ≡ n = apart m n base told in
+        let more = all_told_apart (tells m base).from xs ys q (parts ∙ (λ i. all_spans_from tells (sym told i).from ys)) in
+        λ i. node (k i) (more i)
+    told_apart base (row xs) (row ys) e s =
+        let q : map_layouts no_mark xs ≡ map_layouts no_mark ys = cc in
+        let parts : all_spans_from tells base xs ≡ all_spans_from tells base ys = cc in
+        λ i. row (all_told_apart base xs ys q parts i)
+    told_apart base (token t) (node n ys) e s = absurd cc
+    told_apart base (token t) (row ys) e s = absurd cc
+    told_apart base (node m xs) (token u) e s = absurd cc
+    told_apart base (node m xs) (row ys) e s = absurd cc
+    told_apart base (row xs) (token u) e s = absurd cc
+    told_apart base (row xs) (node n ys) e s = absurd cc
+
+    pub all_told_apart : (base : ℕ) (xs ys : Layouts A) → map_layouts no_mark xs ≡ map_layouts no_mark ys → all_spans_from tells base xs ≡ all_spans_from tells base ys → xs ≡ ys
+    all_told_apart base done done e s = refl
+    all_told_apart base (x then xs) (y then ys) e s =
+        let p : map_layout no_mark x ≡ map_layout no_mark y = cc in
+        let q : map_layouts no_mark xs ≡ map_layouts no_mark ys = cc in
+        let first : spans_from tells base x ≡ spans_from tells base y = cc in
+        let more : all_spans_from tells base xs ≡ all_spans_from tells base ys = cc in
+        λ i. told_apart base x y p first i then all_told_apart base xs ys q more i
+    all_told_apart base done (y then ys) e s = absurd cc
+    all_told_apart base (x then xs) done e s = absurd cc

@@ -1,5 +1,5 @@
 -- What holds of each tree that a text reads as.
-use Rattle.std.proofs.Common.{◌≡◌, ℕ, List, refl, sym, ap, subst, ◌∙◌, length}
+use Rattle.std.proofs.Common.{◌≡◌, ℕ, List, sym, ap, subst, ◌∙◌, length}
 use Rattle.jr_text.specs.declared.spans.Span.{Span}
 use Rattle.jr_lex.specs.declared.items.Item.{Item}
 use Rattle.jr_lex.specs.Lexes.{Lexes}
@@ -18,9 +18,10 @@ use Rattle.jr_grammar.specs.ExpressionLayout.{exp_layout}
 use Rattle.jr_grammar.specs.StatementLayout.{stmt_layout}
 use Rattle.jr_grammar.specs.MemberLayout.{member_layout, unit_layouts}
 use Rattle.jr_grammar.specs.Lexical.{AreLexical}
+use Rattle.jr_grammar.specs.MarksAreOne.{TellsApart}
 use Rattle.jr_grammar.specs.ReadLaws.{ReadsAreGrammar, SpansAreOne, SpansAreThere}
 use Rattle.jr_grammar.proofs.Layouts.{spans_from-span, all_spans_from-span}
-use Rattle.jr_grammar.proofs.Marked.{marks_are_one, marks_are_there}
+use Rattle.jr_grammar.proofs.Marked.{one_expression, one_statement, one_member, one_unit, marks_are_there}
 use Rattle.jr_grammar.proofs.Lexical.{tokens_lexical}
 use Rattle.jr_grammar.proofs.Remarked.{expression_ignores_marks}
 use Rattle.jr_grammar.proofs.RemarkedShape.{statement_ignores_marks, member_ignores_marks, unit_ignores_marks}
@@ -44,25 +45,24 @@ reads_are_grammar placed = record {
 abbrev pub OneCut : Type 0
 OneCut = (bytes : List ℕ) (items others : List Item) → Lexes bytes items → Lexes bytes others → items ≡ others
 
-own : (x : Layout Span) (ps qs : Tokens) → ps ≡ qs → Stands (spans_from itself 0 x) ps → Stands x qs
-own x ps qs e h = subst (Stands x) e (subst (λ (y : Layout Span). Stands y ps) (spans_from-span 0 x) h)
-
-all_own : (xs : Layouts Span) (ps qs : Tokens) → ps ≡ qs → StandInOrder (all_spans_from itself 0 xs) ps → StandInOrder xs qs
-all_own xs ps qs e h = subst (StandInOrder xs) e (subst (λ (ys : Layouts Span). StandInOrder ys ps) (all_spans_from-span 0 xs) h)
-
 -- the tokens of two lists of items of one text
 same : OneCut → (bytes : List ℕ) (items others : List Item) → Lexes bytes items → Lexes bytes others → placed_of bytes items ≡ placed_of bytes others
 same cut bytes items others h k = ap (placed_of bytes) (cut bytes items others h k)
 
-pub spans_are_one : OneCut → SpansAreOne
-spans_are_one cut = record {
-  unit = λ bytes a b e h k.
-      marks_are_one.unit a b (placed_of bytes k.items) (h.file ∙ sym k.file) e (all_own (unit_layouts a) _ _ (same cut bytes h.items k.items h.lexes k.lexes) h.spans) (all_own (unit_layouts b) _ _ refl k.spans);
-  member = λ nested name bytes a b e h k.
-      marks_are_one.member a b (placed_of bytes k.items) e (own (member_layout a) _ _ (same cut bytes h.items k.items h.lexes k.lexes) h.spans) (own (member_layout b) _ _ refl k.spans);
-  statement = λ bytes a b e h k. marks_are_one.statement a b (placed_of bytes k.items) e (own (stmt_layout a) _ _ (same cut bytes h.items k.items h.lexes k.lexes) h.spans) (own (stmt_layout b) _ _ refl k.spans);
-  expression = λ bytes a b e h k. marks_are_one.expression a b (placed_of bytes k.items) e (own (exp_layout a) _ _ (same cut bytes h.items k.items h.lexes k.lexes) h.spans) (own (exp_layout b) _ _ refl k.spans);
-}
+module _ {A : Type 0} (tells : A → ℕ → Span) (apart : TellsApart tells) (cut : OneCut) where
+  stands_there : (x : Layout A) (ps qs : Tokens) → ps ≡ qs → Stands (spans_from tells 0 x) ps → Stands (spans_from tells 0 x) qs
+  stands_there x ps qs e h = subst (Stands (spans_from tells 0 x)) e h
+
+  pub spans_are_one : SpansAreOne tells
+  spans_are_one = record {
+    unit = λ bytes a b e h k.
+        one_unit tells apart a b (placed_of bytes k.items) (apart a.mark b.mark 0 (h.file ∙ sym k.file)) e
+        (subst (StandInOrder (all_spans_from tells 0 (unit_layouts a))) (same cut bytes h.items k.items h.lexes k.lexes) h.spans) k.spans;
+    member = λ nested name bytes a b e h k.
+        one_member tells apart a b (placed_of bytes k.items) e (stands_there (member_layout a) _ _ (same cut bytes h.items k.items h.lexes k.lexes) h.spans) k.spans;
+    statement = λ bytes a b e h k. one_statement tells apart a b (placed_of bytes k.items) e (stands_there (stmt_layout a) _ _ (same cut bytes h.items k.items h.lexes k.lexes) h.spans) k.spans;
+    expression = λ bytes a b e h k. one_expression tells apart a b (placed_of bytes k.items) e (stands_there (exp_layout a) _ _ (same cut bytes h.items k.items h.lexes k.lexes) h.spans) k.spans;
+  }
 
 told : (x : Layout Span) (ps : Tokens) → Stands x ps → Stands (spans_from itself 0 x) ps
 told x ps h = subst (λ (y : Layout Span). Stands y ps) (sym (spans_from-span 0 x)) h

@@ -15,6 +15,10 @@ use Rattle.jr_grammar.specs.ExpressionLayout.{exp_layout}
 use Rattle.jr_grammar.specs.StatementLayout.{stmt_layout, stmts_layout}
 use Rattle.jr_grammar.specs.MemberLayout.{member_layout, unit_layouts}
 
+-- Marks that tell one span of nodes whose parents begin at one place are equal.
+abbrev pub TellsApart : {A : Type 0} → (A → ℕ → Span) → Type 0
+TellsApart {A} tells = (m n : A) (base : ℕ) → tells m base ≡ tells n base → m ≡ n
+
 -- Two trees that are equal without their marks, and stand over the same tokens, are equal. A unit's own mark stands over none.
 pub record MarksAreOne : Type 0 where
   pub expression : (a b : Exp Span) (tokens : Tokens) → bare a ≡ bare b → Stands (exp_layout a) tokens → Stands (exp_layout b) tokens → a ≡ b

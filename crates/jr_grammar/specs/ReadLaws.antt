@@ -16,13 +16,13 @@ pub record ReadsAreGrammar (A : Type 0) : Type 0 where
   pub statement : (bytes : List ℕ) (stmt : Stmt A) → ReadsStatement bytes stmt → IsGrammarStatement stmt
   pub expression : (bytes : List ℕ) (tree : Exp A) → ReadsExpression bytes tree → IsGrammarExpression tree
 
--- Two trees with spans that a text reads as are equal, marks included, where they are without them.
-pub record SpansAreOne : Type 0 where
-  pub unit : (bytes : List ℕ) (a b : UnitTree Span) → bare_unit a ≡ bare_unit b → ReadsWithSpans itself bytes a → ReadsWithSpans itself bytes b → a ≡ b
-  pub member : (nested : Bool) (name : List ℕ) (bytes : List ℕ) (a b : Member Span) → bare_member a ≡ bare_member b
-      → ReadsMemberWithSpans itself nested name bytes a → ReadsMemberWithSpans itself nested name bytes b → a ≡ b
-  pub statement : (bytes : List ℕ) (a b : Stmt Span) → bare_stmt a ≡ bare_stmt b → ReadsStatementWithSpans itself bytes a → ReadsStatementWithSpans itself bytes b → a ≡ b
-  pub expression : (bytes : List ℕ) (a b : Exp Span) → bare a ≡ bare b → ReadsExpressionWithSpans itself bytes a → ReadsExpressionWithSpans itself bytes b → a ≡ b
+-- Two trees that a text reads as with their spans are equal, marks included, where they are without them.
+pub record SpansAreOne {A : Type 0} (tells : A → ℕ → Span) : Type 0 where
+  pub unit : (bytes : List ℕ) (a b : UnitTree A) → bare_unit a ≡ bare_unit b → ReadsWithSpans tells bytes a → ReadsWithSpans tells bytes b → a ≡ b
+  pub member : (nested : Bool) (name : List ℕ) (bytes : List ℕ) (a b : Member A) → bare_member a ≡ bare_member b
+      → ReadsMemberWithSpans tells nested name bytes a → ReadsMemberWithSpans tells nested name bytes b → a ≡ b
+  pub statement : (bytes : List ℕ) (a b : Stmt A) → bare_stmt a ≡ bare_stmt b → ReadsStatementWithSpans tells bytes a → ReadsStatementWithSpans tells bytes b → a ≡ b
+  pub expression : (bytes : List ℕ) (a b : Exp A) → bare a ≡ bare b → ReadsExpressionWithSpans tells bytes a → ReadsExpressionWithSpans tells bytes b → a ≡ b
 
 -- A tree that a text reads as has spans with which it does.
 pub record SpansAreThere : Type 0 where

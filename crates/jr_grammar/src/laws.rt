@@ -2,11 +2,12 @@
 
 ghost use Rattle.jr_grammar.specs.Expressions.{OneExpressionReading, OneStatementExpressionReading};
 ghost use Rattle.jr_grammar.specs.IgnoresMarks.{ExpressionIgnoresMarks, StatementIgnoresMarks, MemberIgnoresMarks, UnitIgnoresMarks};
-ghost use Rattle.jr_grammar.specs.MarksAreOne.{MarksAreOne, MarksAreThere, StandsSpells, SpansTellThemselves};
+ghost use Rattle.jr_grammar.specs.MarksAreOne.{TellsApart, MarksAreOne, MarksAreThere, StandsSpells, SpansTellThemselves};
 ghost use Rattle.jr_grammar.specs.ReadLaws.{ReadsAreGrammar, SpansAreOne, SpansAreThere};
 ghost use Rattle.jr_grammar.specs.Units.{OneListReading, OneMemberReading, OneUnitReading};
 
 use jr_lex::{items_are_placed, one_answer};
+use jr_text::Mark;
 
 /// What an expression spells, and whether it is one, doesn't depend on its marks.
 pub fn expression_ignores_marks<A, B>()
@@ -37,9 +38,10 @@ pub fn marks_are_one()
     ensures spans { SpansTellThemselves }
 {}
 
-/// A text reads as a tree with one choice of spans, and each tree that it reads as with some.
-pub fn spans_are_one()
-    ensures one { SpansAreOne }
+/// A text reads as a tree with one choice of marks, if they tell different spans, and each tree that it reads as with
+/// some, where they are spans.
+pub fn spans_are_one<A: Mark>()
+    ensures one { TellsApart A.span_from → SpansAreOne A.span_from }
     ensures there { SpansAreThere }
 {
     one_answer();

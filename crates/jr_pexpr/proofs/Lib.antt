@@ -9,7 +9,6 @@ pub mod Reading
 pub mod Opens
 pub mod Statements
 pub mod EraseSteps
-pub mod Placed
 pub mod Placing
 pub mod Places
 pub mod Maps

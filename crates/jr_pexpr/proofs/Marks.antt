@@ -8,7 +8,6 @@ use Rattle.jr_grammar.specs.Tokens.{Token, Placed, kinds}
 use Rattle.jr_grammar.specs.Spelling.{toks}
 use Rattle.jr_grammar.specs.Shape.{Shaped, ShapedStatement}
 use Rattle.jr_grammar.specs.Stands.{Tokens}
-use Rattle.jr_pexpr.proofs.Placed.{Stands, laid_out}
 use Rattle.jr_pexpr.specs.Machine.{State, want, have, whole_of, reduced}
 use Rattle.jr_grammar.specs.Bare.{Bare, no_mark, bare}
 use Rattle.jr_pexpr.specs.BareMachine.{bare_state, bare_step, bare_whole, bare_run, bare_statement_step, bare_statement_whole, bare_statement_run}
@@ -22,7 +21,7 @@ use Rattle.jr_grammar.specs.IgnoresMarks.{ExpressionIgnoresMarks}
 use Rattle.jr_grammar.specs.MarksAreOne.{MarksAreOne}
 use Rattle.jr_pexpr.proofs.EraseSteps.{step-bare, statement_step-bare, whole-bare, statement_whole-bare}
 use Rattle.jr_pexpr.proofs.Maps.{run_map, stop_map, longest_map}
-use Rattle.jr_pexpr.proofs.Placing.{StandsState}
+use Rattle.jr_pexpr.proofs.Placing.{Stands, StandsState}
 use Rattle.jr_pexpr.proofs.Places.{StandsSome, reduced_stands, step_stands}
 use Rattle.jr_pexpr.specs.Machine.{kept_open, is_open, frames_of, is_statement, kept_statement}
 use Rattle.std.proofs.Common.{true, cond, arith}
@@ -123,7 +122,7 @@ no_span = no_mark
 builds_expression : Ignores → (ps : Tokens) (s : State Span) (e : Exp Span) → span_run (want []) ps ≡ Some s → span_whole s ≡ Some e → IsMarkedExpression ps e
 builds_expression g ps s e h k =
     let q = sound (kinds ps) (bare_state s) (bare e) (bare_run_of ps s h) (bare_whole_of s e k) in
-    record { shaped = (g.shape no_span e).0 q.0; spells = sym (g.spelling no_span e) ∙ q.1; marks = laid_out e ps (marks_stand ps s e h k) }
+    record { shaped = (g.shape no_span e).0 q.0; spells = sym (g.spelling no_span e) ∙ q.1; marks = (marks_stand ps s e h k).0 }
 
 -- ---- statement expressions: a run of the one is a run of the other
 
@@ -162,7 +161,7 @@ builds_statement g ps s e h k =
     record {
       shaped = (g.statement_shape no_span e).0 q.0;
       spells = sym (g.spelling no_span e) ∙ q.1;
-      marks = laid_out e ps (marks_stand ps s e (run_kept (want []) ps s h) (kept_whole (span_whole s) e k));
+      marks = (marks_stand ps s e (run_kept (want []) ps s h) (kept_whole (span_whole s) e k)).0;
     }
 
 pub builds_marked : Ignores → BuildsMarked

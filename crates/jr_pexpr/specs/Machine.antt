@@ -9,7 +9,7 @@ use Rattle.jr_ast.specs.declared.operators.BumpOp.TheVariants.{PreInc, PreDec, P
 use Rattle.jr_ast.specs.Tree.{Word, TypeName, named, Exp, number, truth, null, string, name, field, super_field, this, class_literal, call, super_call, create, paren, cast, unary, bump, binary, assign, compound, Target, no_target, on, Exps, end, more}
 use Rattle.jr_ast.specs.Marks.{exp_mark}
 use Rattle.jr_grammar.specs.Tokens.{Token}
-use Rattle.jr_grammar.specs.Shape.{rank_of, unary_level, level_of, greatest, is_minus}
+use Rattle.jr_grammar.specs.Shape.{rank_of, unary_level, level_of, greatest, is_minus, assignment_level, sign_level, unsigned_level, primary_level}
 use Rattle.jr_pexpr.specs.Pieces.{Way, up, down, Atom, a_number, a_truth, a_null, a_string, a_this, Piece, a_word, an_atom, a_super, a_new, a_class, an_open, a_close, a_comma, a_dot, a_bang, a_bump, an_operator, an_equals, a_compound, piece_of}
 
 -- what stands before the arguments of a call or of `new`
@@ -64,27 +64,27 @@ behind down = PostDec
 -- the level of what the frame becomes; a bracket, which waits for its end, has 0
 abbrev pub binds : {A : Type 0} → Frame A → ℕ
 binds (in_unary m o) = unary_level o
-binds (in_bump m w) = 8
+binds (in_bump m w) = sign_level
 binds (in_binary o l) = rank_of o
-binds (in_assign t) = 1
-binds (in_compound o t) = 1
-binds (in_cast m t) = 9
+binds (in_assign t) = assignment_level
+binds (in_compound o t) = assignment_level
+binds (in_cast m t) = unsigned_level
 binds (in_paren m) = 0
 binds (in_args h es) = 0
 
 -- the least level of what may stand in it
 abbrev pub needs : {A : Type 0} → Frame A → ℕ
-needs (in_unary m o) = 8
-needs (in_bump m w) = 10
+needs (in_unary m o) = sign_level
+needs (in_bump m w) = primary_level
 needs (in_binary o l) = rank_of o + 1
-needs (in_assign t) = 1
-needs (in_compound o t) = 1
-needs (in_cast m t) = 9
-needs (in_paren m) = 1
-needs (in_args h es) = 1
+needs (in_assign t) = assignment_level
+needs (in_compound o t) = assignment_level
+needs (in_cast m t) = unsigned_level
+needs (in_paren m) = assignment_level
+needs (in_args h es) = assignment_level
 
 abbrev pub needed : {A : Type 0} → List (Frame A) → ℕ
-needed [] = 1
+needed [] = assignment_level
 needed (f ∷ fs) = needs f
 
 -- whether the last token is a unary minus
@@ -168,8 +168,8 @@ atom_fits minus (a_number n) = if nat_lt (greatest minus) n then false else true
 atom_fits minus _ = true
 
 abbrev pub signed : {A : Type 0} → List (Frame A) → A → BinOp → Option (State A)
-signed fs at Add = at_most 8 fs (want (in_unary at Plus ∷ fs))
-signed fs at Sub = at_most 8 fs (want (in_unary at Minus ∷ fs))
+signed fs at Add = at_most sign_level fs (want (in_unary at Plus ∷ fs))
+signed fs at Sub = at_most sign_level fs (want (in_unary at Minus ∷ fs))
 signed fs at _ = None
 
 -- no arguments
@@ -185,8 +185,8 @@ begun join fs at a_super = Some (at_super fs at)
 begun join fs at a_new = Some (at_new fs at)
 begun join fs at an_open = Some (want (in_paren at ∷ fs))
 begun join fs at a_close = emptied join at fs
-begun join fs at a_bang = at_most 9 fs (want (in_unary at Not ∷ fs))
-begun join fs at (a_bump w) = at_most 8 fs (want (in_bump at w ∷ fs))
+begun join fs at a_bang = at_most unsigned_level fs (want (in_unary at Not ∷ fs))
+begun join fs at (a_bump w) = at_most sign_level fs (want (in_bump at w ∷ fs))
 begun join fs at (an_operator o) = signed fs at o
 begun join fs at _ = None
 
@@ -209,7 +209,7 @@ cast_of _ = None
 
 -- behind a name in parentheses: they were a cast
 abbrev pub casted : {A : Type 0} → (A → A → A) → Option (Frame A) → List (Frame A) → A → Piece → Option (State A)
-casted join (Some f) fs at p = if nat_lt 9 (needed fs) then None else begun join (f ∷ fs) at p
+casted join (Some f) fs at p = if nat_lt unsigned_level (needed fs) then None else begun join (f ∷ fs) at p
 casted join None fs at p = None
 
 -- an opening parenthesis: behind a name or a field a call, behind a name in parentheses what is cast
@@ -220,19 +220,19 @@ opened join fs (super_field m w) at = Some (want (in_args (super_head m w) end �
 opened join fs e at = casted join (cast_of e) fs at an_open
 
 abbrev pub assigned : {A : Type 0} → List (Frame A) → Exp A → Frame A → Option (State A)
-assigned fs e f = if is_target e then at_most 1 fs (want (f ∷ fs)) else None
+assigned fs e f = if is_target e then at_most assignment_level fs (want (f ∷ fs)) else None
 
 abbrev pub bumped : {A : Type 0} → (A → A → A) → List (Frame A) → Exp A → A → Way → Option (State A)
-bumped join fs e at w = if is_target e then at_most 9 fs (have fs (bump (join (exp_mark e) at) (behind w) e)) else None
+bumped join fs e at w = if is_target e then at_most unsigned_level fs (have fs (bump (join (exp_mark e) at) (behind w) e)) else None
 
 unfoldable pub extended : {A : Type 0} → (A → A → A) → List (Frame A) → Exp A → A → Piece → Option (State A)
-extended join fs e at a_dot = if nat_lt (level_of e) 10 then None else Some (dotted fs e)
+extended join fs e at a_dot = if nat_lt (level_of e) primary_level then None else Some (dotted fs e)
 extended join fs e at (a_bump w) = bumped join fs e at w
 extended join fs e at (an_operator o) = operated o (reduced join (rank_of o) fs e)
 extended join fs e at an_equals = assigned fs e (in_assign e)
 extended join fs e at (a_compound o) = if is_compound o then assigned fs e (in_compound o e) else None
-extended join fs e at a_close = closed join at (reduced join 1 fs e)
-extended join fs e at a_comma = continued (reduced join 1 fs e)
+extended join fs e at a_close = closed join at (reduced join assignment_level fs e)
+extended join fs e at a_comma = continued (reduced join assignment_level fs e)
 extended join fs e at an_open = opened join fs e at
 extended join fs e at (a_word w) = casted join (cast_of e) fs at (a_word w)
 extended join fs e at (an_atom a) = casted join (cast_of e) fs at (an_atom a)
@@ -302,7 +302,7 @@ whole_of _ = None
 
 -- the whole expression, where it could end here
 abbrev pub whole : {A : Type 0} → (A → A → A) → State A → Option (Exp A)
-whole join (have fs e) = whole_of (reduced join 1 fs e)
+whole join (have fs e) = whole_of (reduced join assignment_level fs e)
 whole join _ = None
 
 -- ---- statement expressions

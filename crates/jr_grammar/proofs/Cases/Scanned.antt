@@ -11,7 +11,7 @@ use Rattle.jr_lex.specs.Characters.{byte_len}
 use Rattle.jr_lex.specs.Lexes.{Cuts, IsEnd, Lexes, span_of}
 use Rattle.jr_lex.specs.Scan.{Scanned, scan}
 use Rattle.jr_lex.proofs.CutLaws.{one_lexing}
-use Rattle.jr_lex.proofs.ScanMeaning.{TakesItem, scan-item}
+use Rattle.jr_lex.proofs.ScanMeaning.{scan-item}
 use Rattle.jr_ast.specs.StatementTree.{Stmt}
 use Rattle.jr_ast.specs.MemberTree.{Member, Unit as UnitTree}
 use Rattle.jr_grammar.specs.Tokens.{tokens_of}
@@ -86,6 +86,11 @@ cuts (suc n) at (c ∷ cs) items h e = go (scan at c cs) refl e (λ a t is k l. 
 append_none : (cs : List ℕ) → cs ++ [] ≡ cs
 append_none [] = refl
 append_none (c ∷ cs) = λ i. c ∷ append_none cs i
+
+pub ascii_chars : (bytes : List ℕ) → are_ascii bytes ≡ true → scalars bytes ≡ true → chars bytes ≡ bytes
+ascii_chars bytes h s =
+    let same : encodes bytes ≡ bytes = front_ascii bytes [] (ap are_ascii (append_none bytes) ∙ h) in
+    sym (chars_from_encodes bytes bytes (bytes, (s, same)) same)
 
 pub lexes : (bytes : List ℕ) (items : List Item) → are_ascii bytes ≡ true → scalars bytes ≡ true → cut (length bytes) 0 bytes ≡ Some items → Lexes bytes items
 lexes bytes items h s e =
