@@ -112,7 +112,7 @@ module _ (r : Rule) (bytes : List ℕ) (items : List Item) (from : ℕ) where
       let m = g.0 in
       let l : rule_length r (want []) ts ≡ Some (suc m) = length_want (Some m) g.1 in
       let f = at_some (rule_length r (want []) ts) (suc m) (Found (State Span) (Placed Span) (Exp Span) (rule_step r) (rule_whole r) (want []) ts) l
-          (longest_found (State Span) (Placed Span) (Exp Span) (rule_step r) (rule_whole r) (want []) ts) in
+      (longest_found (State Span) (Placed Span) (Exp Span) (rule_step r) (rule_whole r) (want []) ts) in
       let t = through bytes from is m d (omega (arith, f.within)) in
       let n : b - from ≡ t.count = omega (arith, g.2, t.number) in
       record {

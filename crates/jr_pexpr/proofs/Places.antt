@@ -285,20 +285,31 @@ literal_stands fs e i ps t h = go (name_type e) (name_stands e h.1 h.5.0)
   where
     go : (c : Option (TypeName Span)) → IfSome c (λ (c : TypeName Span). S.Stands (type_layout c) h.1) → After ps i (literal_of fs (join (exp_mark e) i.mark) c)
     go None k = tt
-    go (Some c) k = (h.0, h.1 ++ (h.2 ∷ i ∷ []), two_behind h.0 h.1 h.2 i ps h.3, h.4, (
-      record { mark = behind_mark e h.1 (h.2 ∷ []) i h.5; parts = in_front h.1 (h.2 ∷ i ∷ []) (h.1 ++ (h.2 ∷ i ∷ [])) refl k (one (symbol Dot) h.2 (i ∷ []) (h.2 ∷ i ∷ []) refl h.6 (alone (keyword Class) i t)) },
-      more_append h.1 (h.2 ∷ i ∷ []) h.5.1,
-    ))
+    go (Some c) k = (
+      h.0,
+      h.1 ++ (h.2 ∷ i ∷ []),
+      two_behind h.0 h.1 h.2 i ps h.3,
+      h.4,
+      (
+        record { mark = behind_mark e h.1 (h.2 ∷ []) i h.5; parts = in_front h.1 (h.2 ∷ i ∷ []) (h.1 ++ (h.2 ∷ i ∷ [])) refl k (one (symbol Dot) h.2 (i ∷ []) (h.2 ∷ i ∷ []) refl h.6 (alone (keyword Class) i t)) },
+        more_append h.1 (h.2 ∷ i ∷ []) h.5.1,
+      ),
+    )
 
 member_stands : (fs : Spans) (e : Exp Span) (i : Placed Span) (p : Piece) (ps : Tokens) → Is (piece_token p) i → StandsState (dotted fs e) ps → After ps i (member join fs e i.mark p)
-member_stands fs e i (a_word w) ps t h =
-    (h.0, h.1 ++ (h.2 ∷ i ∷ []), two_behind h.0 h.1 h.2 i ps h.3, h.4, (
-      record {
-        mark = behind_mark e h.1 (h.2 ∷ []) i h.5;
-        parts = in_front h.1 (h.2 ∷ i ∷ []) (h.1 ++ (h.2 ∷ i ∷ [])) refl h.5.0 (one (symbol Dot) h.2 (i ∷ []) (h.2 ∷ i ∷ []) refl h.6 (named_one (record { mark = i.mark; text = w }) i [] (i ∷ []) refl (t, refl) refl));
-      },
-      more_append h.1 (h.2 ∷ i ∷ []) h.5.1,
-    ))
+member_stands fs e i (a_word w) ps t h = (
+  h.0,
+  h.1 ++ (h.2 ∷ i ∷ []),
+  two_behind h.0 h.1 h.2 i ps h.3,
+  h.4,
+  (
+    record {
+      mark = behind_mark e h.1 (h.2 ∷ []) i h.5;
+      parts = in_front h.1 (h.2 ∷ i ∷ []) (h.1 ++ (h.2 ∷ i ∷ [])) refl h.5.0 (one (symbol Dot) h.2 (i ∷ []) (h.2 ∷ i ∷ []) refl h.6 (named_one (record { mark = i.mark; text = w }) i [] (i ∷ []) refl (t, refl) refl));
+    },
+    more_append h.1 (h.2 ∷ i ∷ []) h.5.1,
+  ),
+)
 member_stands fs e i a_class ps t h = literal_stands fs e i ps t h
 member_stands fs e i _ ps t h = tt
 
@@ -312,14 +323,19 @@ behind_super_stands fs m i a_dot ps t h = (h.0, h.1, i, one_more ps h.0 (h.1 ∷
 behind_super_stands fs m i _ ps t h = tt
 
 super_member_stands : (fs : Spans) (m : Span) (i : Placed Span) (p : Piece) (ps : Tokens) → Is (piece_token p) i → StandsState (super_dotted fs m) ps → After ps i (super_member join fs m i.mark p)
-super_member_stands fs m i (a_word w) ps t h =
-    (h.0, h.1 ∷ h.2 ∷ i ∷ [], one_more ps h.0 (h.1 ∷ h.2 ∷ []) i h.3, h.4, (
-      record {
-        mark = from_first m m h.1 i (h.2 ∷ []) h.6;
-        parts = one (keyword Super) h.1 (h.2 ∷ i ∷ []) (h.1 ∷ h.2 ∷ i ∷ []) refl h.5 (one (symbol Dot) h.2 (i ∷ []) (h.2 ∷ i ∷ []) refl h.7 (named_one (record { mark = i.mark; text = w }) i [] (i ∷ []) refl (t, refl) refl));
-      },
-      tt,
-    ))
+super_member_stands fs m i (a_word w) ps t h = (
+  h.0,
+  h.1 ∷ h.2 ∷ i ∷ [],
+  one_more ps h.0 (h.1 ∷ h.2 ∷ []) i h.3,
+  h.4,
+  (
+    record {
+      mark = from_first m m h.1 i (h.2 ∷ []) h.6;
+      parts = one (keyword Super) h.1 (h.2 ∷ i ∷ []) (h.1 ∷ h.2 ∷ i ∷ []) refl h.5 (one (symbol Dot) h.2 (i ∷ []) (h.2 ∷ i ∷ []) refl h.7 (named_one (record { mark = i.mark; text = w }) i [] (i ∷ []) refl (t, refl) refl));
+    },
+    tt,
+  ),
+)
 super_member_stands fs m i _ ps t h = tt
 
 behind_new_stands : (fs : Spans) (m : Span) (i : Placed Span) (p : Piece) (ps : Tokens) → Is (piece_token p) i → StandsState (at_new fs m) ps → After ps i (behind_new fs m i.mark p)

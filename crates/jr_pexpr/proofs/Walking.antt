@@ -31,7 +31,7 @@ drop_at items i h = rw add-one (drop-cons items i no_item h)
 pub placed_at : (bytes : List ℕ) (items : List Item) (i : ℕ) → ItemsPlaced → Lexes bytes items → i < length items → IsPlaced bytes (get_or items i no_item)
 placed_at bytes items i p l h =
     let split : items ≡ take i items ++ get_or items i no_item ∷ drop (i + 1) items =
-        sym (take-append-drop i items) ∙ ap (λ (is : List Item). take i items ++ is) (drop_at items i h) in
+    sym (take-append-drop i items) ∙ ap (λ (is : List Item). take i items ++ is) (drop_at items i h) in
     (p bytes (take i items) (get_or items i no_item) (drop (i + 1) items) (subst (Lexes bytes) split l)).0
 
 module _ (r : Rule) (bytes : List ℕ) (items : List Item) (i : ℕ) (s : State Span) (end : Option ℕ) where

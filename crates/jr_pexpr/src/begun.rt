@@ -65,7 +65,11 @@ fn atom_fits(minus: bool, atom: Atom<'_>) -> bool
 {
     match atom {
         Atom::Number(value) => {
-            let greatest = if minus { GREATEST_LITERAL } else { GREATEST_INT };
+            let greatest = if minus {
+                GREATEST_LITERAL
+            } else {
+                GREATEST_INT
+            };
             value <= greatest
         }
         Atom::Truth(_) => true,

@@ -120,13 +120,7 @@ fn continued(alloc: Global, on: Stack, e: Box<Expr<Span>>) -> Stepped
 }
 
 /// Behind a name in parentheses, which were a cast.
-fn cast(
-    alloc: Global,
-    mut on: Stack,
-    frame: Option<Operand>,
-    at: Span,
-    piece: Piece<'_>,
-) -> Stepped
+fn cast(alloc: Global, mut on: Stack, frame: Option<Operand>, at: Span, piece: Piece<'_>) -> Stepped
     ensures { IfOk result (λ next. option_map state_view next ≡ machine.casted join (option_map operand_view frame) (stack on) at (piece_view piece.entry)) }
 {
     let Some(frame) = frame else {
@@ -139,13 +133,7 @@ fn cast(
     begun(alloc, on, at, piece)
 }
 
-fn casted(
-    alloc: Global,
-    on: Stack,
-    e: Box<Expr<Span>>,
-    at: Span,
-    piece: Piece<'_>,
-) -> Stepped
+fn casted(alloc: Global, on: Stack, e: Box<Expr<Span>>, at: Span, piece: Piece<'_>) -> Stepped
     ensures { IfOk result (λ next. option_map state_view next ≡ machine.casted join (machine.cast_of (exp_in e)) (stack on) at (piece_view piece.entry)) }
 {
     cast(alloc, on, cast_of(e), at, piece)

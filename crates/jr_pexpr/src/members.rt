@@ -161,14 +161,7 @@ pub(crate) fn behind_new_name(
     }
 }
 
-fn inner(
-    alloc: Global,
-    on: Stack,
-    start: Span,
-    outer: Ident<Span>,
-    at: Span,
-    text: &str,
-) -> Stepped
+fn inner(alloc: Global, on: Stack, start: Span, outer: Ident<Span>, at: Span, text: &str) -> Stepped
     ensures { IfOk result (λ next. option_map state_view next ≡ Some (machine.new_named (stack on) start (tree.named (join outer.mark at) (Some (word_of outer)) (machine.marked at text.now)))) }
 {
     let mark = Span {

@@ -43,13 +43,7 @@ fn finished(alloc: Global, on: Stack, e: Box<Expr<Span>>) -> Filled
     ensures { IfOk result (λ made. filled made ≡ machine.whole_of (machine.reduced join 1 (stack on) (exp_in e))) }
 {
     match reduced(alloc, on, e, 1)? {
-        Some((on, e)) => {
-            if on.is_empty() {
-                Ok(Some(e))
-            } else {
-                Ok(None)
-            }
-        }
+        Some((on, e)) => { if on.is_empty() { Ok(Some(e)) } else { Ok(None) } }
         None => Ok(None),
     }
 }

@@ -119,12 +119,36 @@ const STATEMENT_EXPRESSIONS: [Row<'static>; 21] = [
 
 /// Expressions, with each mark behind what has it.
 const PLACES: [Row<'static>; 6] = [
-    ("f(a+b, -c)", 0, "f@0-1([a@2-3@2-3 + b@4-5@4-5]@2-5, [- c@8-9@8-9]@7-9)@0-10 10 10"),
-    (" ( a . b ) c", 0, "[cast a@3-4.b@7-8@3-8 c@11-12@11-12]@1-12 12 12"),
-    ("new A.B(1) .f", 0, "new A@4-5.B@6-7@4-7(1@8-9)@0-10.f@12-13@0-13 11 11"),
-    ("super.m() + x.y++", 0, "[super.m@6-7()@0-9 + [x@12-13@12-13.y@14-15@12-15 ++]@12-17]@0-17 12 12"),
-    ("a.b.class==null", 0, "[a@0-1.b@2-3@0-3.class@0-9 == null@11-15]@0-15 7 7"),
-    ("( x=\"s\" ).y", 0, "([x@2-3@2-3 = \"s\"@4-7]@2-7)@0-9.y@10-11@0-11 9 9"),
+    (
+        "f(a+b, -c)",
+        0,
+        "f@0-1([a@2-3@2-3 + b@4-5@4-5]@2-5, [- c@8-9@8-9]@7-9)@0-10 10 10",
+    ),
+    (
+        " ( a . b ) c",
+        0,
+        "[cast a@3-4.b@7-8@3-8 c@11-12@11-12]@1-12 12 12",
+    ),
+    (
+        "new A.B(1) .f",
+        0,
+        "new A@4-5.B@6-7@4-7(1@8-9)@0-10.f@12-13@0-13 11 11",
+    ),
+    (
+        "super.m() + x.y++",
+        0,
+        "[super.m@6-7()@0-9 + [x@12-13@12-13.y@14-15@12-15 ++]@12-17]@0-17 12 12",
+    ),
+    (
+        "a.b.class==null",
+        0,
+        "[a@0-1.b@2-3@0-3.class@0-9 == null@11-15]@0-15 7 7",
+    ),
+    (
+        "( x=\"s\" ).y",
+        0,
+        "([x@2-3@2-3 = \"s\"@4-7]@2-7)@0-9.y@10-11@0-11 9 9",
+    ),
 ];
 
 /// What is read of a text from an item on.
@@ -175,7 +199,12 @@ fn assert_deep(rt: &impl Abort, alloc: Global, before: &str, behind: &str, times
 fn texts_are_read(rt: HostRuntime) {
     let alloc = rt.alloc();
     assert_rows(&rt, alloc, &EXPRESSIONS, Want::Expression);
-    assert_rows(&rt, alloc, &STATEMENT_EXPRESSIONS, Want::StatementExpression);
+    assert_rows(
+        &rt,
+        alloc,
+        &STATEMENT_EXPRESSIONS,
+        Want::StatementExpression,
+    );
     assert_rows(&rt, alloc, &PLACES, Want::Places);
     assert_deep(&rt, alloc, "(", ")", 100, 201);
     assert_deep(&rt, alloc, "f(", ")", 99, 298);

@@ -84,7 +84,11 @@ pub(crate) fn walk(
             }
         }
     }
-    let whole = if rule.is_whole(&state) { Some(state) } else { None };
+    let whole = if rule.is_whole(&state) {
+        Some(state)
+    } else {
+        None
+    };
     Ok(Reach {
         end,
         stop: items.len(),
