@@ -11,7 +11,7 @@ use Rattle.jr_grammar.specs.Stands.{Tokens}
 use Rattle.jr_pexpr.specs.declared.rules.Rule.{Rule}
 use Rattle.jr_pexpr.specs.Machine.{State, want}
 use Rattle.jr_pexpr.specs.Runs.{best, one_more}
-use Rattle.jr_pexpr.specs.Ended.{placed}
+use Rattle.jr_pexpr.specs.ExpView.{placed}
 use Rattle.jr_pexpr.specs.Parsing.{with_number, token_numbers}
 use Rattle.jr_pexpr.specs.Walks.{rule_step, rule_whole, rule_run, rule_length, rule_stop, next_of, end_at, walk_end, walk_stop, walk_last}
 

@@ -16,7 +16,7 @@ use Rattle.jr_pexpr.specs.declared.rules.Rule.TheVariants.{Expression, Statement
 use Rattle.jr_pexpr.specs.Pieces.{Piece, a_close, a_comma, a_class, another, piece_of}
 use Rattle.jr_pexpr.specs.Machine.{Frame, State, have, reduced, whole_of, extended, closed, continued, stepped, kept_open, kept_statement}
 use Rattle.jr_pexpr.specs.Marked.{join, span_step, span_whole}
-use Rattle.jr_pexpr.specs.Ended.{placed}
+use Rattle.jr_pexpr.specs.ExpView.{placed}
 use Rattle.jr_pexpr.specs.Walks.{rule_step, rule_whole, rule_run, is_end, end_at, walk_end, walk_stop, walk_last}
 
 -- what stands for the item behind the last

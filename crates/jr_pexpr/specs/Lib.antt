@@ -9,7 +9,7 @@ pub mod FrameView
 pub mod Stacks
 pub mod StackView
 pub mod StateView
-pub mod Ended
+pub mod ExpView
 pub mod Expressions
 pub mod Parsing
 pub mod Walks

@@ -10,7 +10,7 @@ use Rattle.jr_pexpr.specs.declared.rules.Rule.{Rule}
 use Rattle.jr_pexpr.specs.declared.rules.Rule.TheVariants as rule
 use Rattle.jr_pexpr.specs.Pieces.{Piece, a_close, a_comma, a_class, another}
 use Rattle.jr_pexpr.specs.Machine.{State}
-use Rattle.jr_pexpr.specs.Ended.{placed}
+use Rattle.jr_pexpr.specs.ExpView.{placed}
 use Rattle.jr_pexpr.specs.Marked.{span_step, span_whole, span_statement_step, span_statement_whole}
 
 -- the machine of a rule

@@ -1,9 +1,8 @@
 //! Expressions: how tokens are read as trees, by a machine that reads one token at a time.
 #![tactic(auto)]
 
-mod begun;
-mod ended;
-mod extended;
+mod begin;
+mod extend;
 mod faults;
 mod frames;
 mod kinds;
@@ -12,10 +11,12 @@ mod made;
 mod members;
 mod parsing;
 mod pieces;
+mod ranks;
+mod reduce;
 mod rules;
 mod stack;
 mod state;
-mod stepped;
+mod steps;
 mod tokens;
 mod walks;
 

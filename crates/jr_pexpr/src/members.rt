@@ -8,9 +8,9 @@ ghost use Rattle.jr_pexpr.specs.Machine as machine;
 ghost use Rattle.jr_pexpr.specs.PieceView.{piece_view};
 ghost use Rattle.jr_pexpr.specs.StackView.{stack};
 ghost use Rattle.jr_pexpr.specs.StateView.{state_view};
-ghost use Rattle.jr_pexpr.specs.Ended.{exp_in};
+ghost use Rattle.jr_pexpr.specs.ExpView.{exp_in};
 
-use crate::begun::word;
+use crate::begin::word;
 use crate::frames::{Bracket, Frame, Head};
 use crate::kinds::name_type;
 use crate::made::{Made, in_box};
@@ -102,7 +102,7 @@ pub(crate) fn super_member(
     }
 }
 
-fn named(alloc: Global, on: Stack, start: Span, at: Span, text: &str) -> Stepped
+fn class_name(alloc: Global, on: Stack, start: Span, at: Span, text: &str) -> Stepped
     ensures { IfOk result (λ next. option_map state_view next ≡ Some (machine.new_named (stack on) start (tree.named at None (machine.marked at text.now)))) }
 {
     let name = word(alloc, at, text)?;
@@ -124,7 +124,7 @@ pub(crate) fn behind_new(
     ensures { IfOk result (λ next. option_map state_view next ≡ machine.behind_new (stack on) start at (piece_view piece.entry)) }
 {
     match piece {
-        Piece::Word(text) => named(alloc, on, start, at, text),
+        Piece::Word(text) => class_name(alloc, on, start, at, text),
         _ => Ok(None),
     }
 }

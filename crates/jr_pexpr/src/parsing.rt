@@ -8,7 +8,7 @@ ghost use Rattle.jr_pexpr.specs.Machine.{want};
 ghost use Rattle.jr_pexpr.specs.Marked.{span_whole};
 ghost use Rattle.jr_pexpr.specs.Walks.{rule_run};
 ghost use Rattle.jr_pexpr.specs.StateView.{state_view};
-ghost use Rattle.jr_pexpr.specs.Ended.{filled};
+ghost use Rattle.jr_pexpr.specs.ExpView.{filled};
 ghost use Rattle.jr_lex.specs.Depth.{AreWithin};
 ghost use Rattle.jr_grammar.specs.Expressions.{HasNoExpression, HasNoStatementExpression};
 ghost use Rattle.jr_pexpr.specs.Parsing.{IsFault, tokens_from, HasExpression, HasStatementExpression, IsExpressionFrom, IsNoExpressionFrom, IsStatementExpressionFrom, IsNoStatementExpressionFrom};

@@ -27,6 +27,16 @@ pub(crate) struct Reach {
     pub(crate) whole: Option<State>,
 }
 
+impl Reach {
+    ghost use Rattle.std.specs.Prelude.{◌≡◌};
+
+    fn new(end: Option<usize>, stop: usize, whole: Option<State>) -> Reach
+        ensures { result ≡ record { end = end; stop = stop; whole = whole } }
+    {
+        Reach { end, stop, whole }
+    }
+}
+
 /// Whether nothing whole goes on with the token.
 fn is_end(token: Token<'_>) -> bool
     ensures { result ≡ is_end (piece_of (token_view token.entry)) }
@@ -62,22 +72,11 @@ pub(crate) fn walk(
         let item = &items[i];
         if let Some(token) = token_at(text, item) {
             if is_end(token) && rule.is_whole(&state) {
-                let whole = Some(state);
-                return Ok(Reach {
-                    end,
-                    stop: i,
-                    whole,
-                });
+                return Ok(Reach::new(end, i, Some(state)));
             }
             match rule.step(alloc, state, item.span, token)? {
                 Some(next) => state = next,
-                None => {
-                    return Ok(Reach {
-                        end,
-                        stop: i,
-                        whole: None,
-                    });
-                }
+                None => return Ok(Reach::new(end, i, None)),
             }
             if rule.is_whole(&state) {
                 end = Some(i + 1);
@@ -89,9 +88,5 @@ pub(crate) fn walk(
     } else {
         None
     };
-    Ok(Reach {
-        end,
-        stop: items.len(),
-        whole,
-    })
+    Ok(Reach::new(end, items.len(), whole))
 }

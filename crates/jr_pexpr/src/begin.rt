@@ -8,12 +8,13 @@ ghost use Rattle.jr_pexpr.specs.PieceView.{way_view, atom_view, piece_view};
 ghost use Rattle.jr_pexpr.specs.FrameView.{frame_view};
 ghost use Rattle.jr_pexpr.specs.StackView.{stack};
 ghost use Rattle.jr_pexpr.specs.StateView.{state_view};
-ghost use Rattle.jr_pexpr.specs.Ended.{exp_in};
+ghost use Rattle.jr_pexpr.specs.ExpView.{exp_in};
 
-use crate::ended::applied;
 use crate::frames::{Bracket, Frame, Operand};
 use crate::made::{Made, in_box};
 use crate::pieces::{Atom, Piece, Way};
+use crate::ranks::{SIGN_LEVEL, UNSIGNED_LEVEL};
+use crate::reduce::apply;
 use crate::stack::Stack;
 use crate::state::{Mode, Stepped, have, to, want};
 use jr_ast::{BinOp, Expr, Ident, Name, UnOp};
@@ -105,12 +106,12 @@ fn unary(on: Stack, at: Span, op: UnOp, level: u32) -> Stepped
     at_most(level, on, Frame::Operand(Operand::Unary(at, op)))
 }
 
-fn signed(on: Stack, at: Span, op: BinOp) -> Stepped
+fn sign(on: Stack, at: Span, op: BinOp) -> Stepped
     ensures { IfOk result (λ next. option_map state_view next ≡ machine.signed (stack on) at op) }
 {
     match op {
-        BinOp::Add => unary(on, at, UnOp::Plus, 8),
-        BinOp::Sub => unary(on, at, UnOp::Minus, 8),
+        BinOp::Add => unary(on, at, UnOp::Plus, SIGN_LEVEL),
+        BinOp::Sub => unary(on, at, UnOp::Minus, SIGN_LEVEL),
         _ => Ok(None),
     }
 }
@@ -118,7 +119,7 @@ fn signed(on: Stack, at: Span, op: BinOp) -> Stepped
 fn bump(on: Stack, at: Span, way: Way) -> Stepped
     ensures { IfOk result (λ next. option_map state_view next ≡ machine.at_most 8 (stack on) (machine.want (machine.in_bump at (way_view way) ∷ stack on))) }
 {
-    at_most(8, on, Frame::Operand(Operand::Bump(at, way)))
+    at_most(SIGN_LEVEL, on, Frame::Operand(Operand::Bump(at, way)))
 }
 
 fn paren(on: Stack, at: Span) -> Stepped
@@ -128,7 +129,7 @@ fn paren(on: Stack, at: Span) -> Stepped
 }
 
 /// A call, or `new`, with no arguments.
-fn emptied(alloc: Global, mut on: Stack, at: Span) -> Stepped
+fn empty_args(alloc: Global, mut on: Stack, at: Span) -> Stepped
     ensures { IfOk result (λ next. option_map state_view next ≡ machine.emptied join at (stack on)) }
 {
     match on.pop_bracket() {
@@ -136,7 +137,7 @@ fn emptied(alloc: Global, mut on: Stack, at: Span) -> Stepped
             if !args.is_empty() {
                 return Ok(None);
             }
-            have(on, applied(alloc, head, args, at))
+            have(on, apply(alloc, head, args, at))
         }
         Some(Bracket::Paren(_)) => Ok(None),
         None => Ok(None),
@@ -145,7 +146,7 @@ fn emptied(alloc: Global, mut on: Stack, at: Span) -> Stepped
 
 /// A token that begins an expression, or ends an empty list of arguments.
 #[tactic(auto, unfolding(crate::specs::Machine::begun))]
-pub(crate) fn begun(alloc: Global, on: Stack, at: Span, piece: Piece<'_>) -> Stepped
+pub(crate) fn begin(alloc: Global, on: Stack, at: Span, piece: Piece<'_>) -> Stepped
     ensures { IfOk result (λ next. option_map state_view next ≡ machine.begun join (stack on) at (piece_view piece.entry)) }
 {
     match piece {
@@ -154,10 +155,10 @@ pub(crate) fn begun(alloc: Global, on: Stack, at: Span, piece: Piece<'_>) -> Ste
         Piece::Super => to(on, Mode::AtSuper(at)),
         Piece::New => to(on, Mode::AtNew(at)),
         Piece::Open => paren(on, at),
-        Piece::Close => emptied(alloc, on, at),
-        Piece::Bang => unary(on, at, UnOp::Not, 9),
+        Piece::Close => empty_args(alloc, on, at),
+        Piece::Bang => unary(on, at, UnOp::Not, UNSIGNED_LEVEL),
         Piece::Bump(way) => bump(on, at, way),
-        Piece::Operator(op) => signed(on, at, op),
+        Piece::Operator(op) => sign(on, at, op),
         _ => Ok(None),
     }
 }

@@ -8,7 +8,7 @@ ghost use Rattle.jr_pexpr.specs.Machine as machine;
 ghost use Rattle.jr_pexpr.specs.PieceView.{way_view};
 ghost use Rattle.jr_pexpr.specs.FrameView.{operand_view, head_view};
 ghost use Rattle.jr_pexpr.specs.StackView.{stack};
-ghost use Rattle.jr_pexpr.specs.Ended.{filled, exp_in, plugged, standing};
+ghost use Rattle.jr_pexpr.specs.ExpView.{filled, exp_in, plugged, standing};
 
 use crate::frames::{Head, Operand};
 use crate::kinds::is_target;
@@ -123,7 +123,7 @@ fn plug(alloc: Global, operand: Operand, e: Box<Expr<Span>>) -> Filled
 }
 
 /// Ends what binds at least so tightly; `None` where what stands in it doesn't fit.
-pub(crate) fn reduced(
+pub(crate) fn reduce(
     alloc: Global,
     mut on: Stack,
     mut e: Box<Expr<Span>>,
@@ -142,7 +142,7 @@ pub(crate) fn reduced(
 }
 
 /// The call, or `new`, with its arguments; `at` is its closing parenthesis.
-pub(crate) fn applied(
+pub(crate) fn apply(
     alloc: Global,
     head: Head,
     args: Vec<Expr<Span>>,

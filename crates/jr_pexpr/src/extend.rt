@@ -10,21 +10,22 @@ ghost use Rattle.jr_pexpr.specs.PieceView.{way_view, piece_view};
 ghost use Rattle.jr_pexpr.specs.FrameView.{operand_view, head_view};
 ghost use Rattle.jr_pexpr.specs.StackView.{stack};
 ghost use Rattle.jr_pexpr.specs.StateView.{state_view};
-ghost use Rattle.jr_pexpr.specs.Ended.{exp_in};
+ghost use Rattle.jr_pexpr.specs.ExpView.{exp_in};
 
-use crate::begun::{at_most, begun};
-use crate::ended::{applied, reduced};
-use crate::frames::{Bracket, Frame, Head, Operand, rank};
+use crate::begin::{at_most, begin};
+use crate::frames::{Bracket, Frame, Head, Operand};
 use crate::kinds::{cast_of, is_low, is_target};
 use crate::made::{Made, in_box};
 use crate::pieces::{Piece, Way};
+use crate::ranks::{ASSIGNMENT_LEVEL, UNSIGNED_LEVEL, rank};
+use crate::reduce::{apply, reduce};
 use crate::stack::Stack;
 use crate::state::{Mode, Stepped, have, to, want};
 use jr_ast::{BinOp, BumpOp, Expr, ExprKind};
 use jr_text::Span;
 use std::alloc::Global;
 
-fn dotted(on: Stack, e: Box<Expr<Span>>) -> Stepped
+fn dot(on: Stack, e: Box<Expr<Span>>) -> Stepped
     ensures { IfOk result (λ next. option_map state_view next ≡ (if nat_lt (level_of (exp_in e)) 10 then None else Some (machine.dotted (stack on) (exp_in e)))) }
 {
     if is_low(&e) {
@@ -34,10 +35,10 @@ fn dotted(on: Stack, e: Box<Expr<Span>>) -> Stepped
 }
 
 /// A binary operator.
-fn operated(alloc: Global, on: Stack, e: Box<Expr<Span>>, op: BinOp) -> Stepped
+fn operator(alloc: Global, on: Stack, e: Box<Expr<Span>>, op: BinOp) -> Stepped
     ensures { IfOk result (λ next. option_map state_view next ≡ machine.operated op (machine.reduced join (rank_of op) (stack on) (exp_in e))) }
 {
-    match reduced(alloc, on, e, rank(op))? {
+    match reduce(alloc, on, e, rank(op))? {
         Some((on, left)) => want(on, Frame::Operand(Operand::Binary(op, left))),
         None => Ok(None),
     }
@@ -72,11 +73,11 @@ fn call(
     ensures { IfOk result (λ made. exp_in made ≡ machine.applied join at (head_view head) (machine.with_last (exprs_of args.items) (exp_in e))) }
 {
     let args = with_last(args, e)?;
-    applied(alloc, head, args, at)
+    apply(alloc, head, args, at)
 }
 
 /// What waits for a closing parenthesis, at this one.
-fn close(alloc: Global, mut on: Stack, e: Box<Expr<Span>>, at: Span) -> Stepped
+fn close_bracket(alloc: Global, mut on: Stack, e: Box<Expr<Span>>, at: Span) -> Stepped
     ensures { IfOk result (λ next. option_map state_view next ≡ machine.closed join at (Some (machine.have (stack on) (exp_in e)))) }
 {
     match on.pop_bracket() {
@@ -87,11 +88,11 @@ fn close(alloc: Global, mut on: Stack, e: Box<Expr<Span>>, at: Span) -> Stepped
 }
 
 /// A closing parenthesis.
-fn closed(alloc: Global, on: Stack, e: Box<Expr<Span>>, at: Span) -> Stepped
+fn close_paren(alloc: Global, on: Stack, e: Box<Expr<Span>>, at: Span) -> Stepped
     ensures { IfOk result (λ next. option_map state_view next ≡ machine.closed join at (machine.reduced join 1 (stack on) (exp_in e))) }
 {
-    match reduced(alloc, on, e, 1)? {
-        Some((on, e)) => close(alloc, on, e, at),
+    match reduce(alloc, on, e, ASSIGNMENT_LEVEL)? {
+        Some((on, e)) => close_bracket(alloc, on, e, at),
         None => Ok(None),
     }
 }
@@ -110,10 +111,10 @@ fn next_argument(mut on: Stack, e: Box<Expr<Span>>) -> Stepped
 }
 
 /// A comma.
-fn continued(alloc: Global, on: Stack, e: Box<Expr<Span>>) -> Stepped
+fn comma(alloc: Global, on: Stack, e: Box<Expr<Span>>) -> Stepped
     ensures { IfOk result (λ next. option_map state_view next ≡ machine.continued (machine.reduced join 1 (stack on) (exp_in e))) }
 {
-    match reduced(alloc, on, e, 1)? {
+    match reduce(alloc, on, e, ASSIGNMENT_LEVEL)? {
         Some((on, e)) => next_argument(on, e),
         None => Ok(None),
     }
@@ -126,14 +127,14 @@ fn cast(alloc: Global, mut on: Stack, frame: Option<Operand>, at: Span, piece: P
     let Some(frame) = frame else {
         return Ok(None);
     };
-    if 9 < on.needed() {
+    if UNSIGNED_LEVEL < on.needed() {
         return Ok(None);
     }
     on.push(Frame::Operand(frame))?;
-    begun(alloc, on, at, piece)
+    begin(alloc, on, at, piece)
 }
 
-fn casted(alloc: Global, on: Stack, e: Box<Expr<Span>>, at: Span, piece: Piece<'_>) -> Stepped
+fn behind_name(alloc: Global, on: Stack, e: Box<Expr<Span>>, at: Span, piece: Piece<'_>) -> Stepped
     ensures { IfOk result (λ next. option_map state_view next ≡ machine.casted join (machine.cast_of (exp_in e)) (stack on) at (piece_view piece.entry)) }
 {
     cast(alloc, on, cast_of(e), at, piece)
@@ -148,11 +149,11 @@ fn args(alloc: Global, on: Stack, head: Head) -> Stepped
 
 /// An opening parenthesis: behind a name or a field a call, behind a name in parentheses what is cast.
 #[tactic(auto, unfolding(jr_ast::specs::View::expr_kind))]
-fn opened(alloc: Global, on: Stack, e: Box<Expr<Span>>, at: Span) -> Stepped
+fn open_paren(alloc: Global, on: Stack, e: Box<Expr<Span>>, at: Span) -> Stepped
     ensures { IfOk result (λ next. option_map state_view next ≡ machine.opened join (stack on) (exp_in e) at) }
 {
     if !is_target(&e) {
-        return casted(alloc, on, e, at, Piece::Open);
+        return behind_name(alloc, on, e, at, Piece::Open);
     }
     let Expr { mark, kind } = Box::into_inner(e);
     match kind {
@@ -164,13 +165,13 @@ fn opened(alloc: Global, on: Stack, e: Box<Expr<Span>>, at: Span) -> Stepped
 }
 
 /// `=`.
-fn assigned(on: Stack, e: Box<Expr<Span>>) -> Stepped
+fn assign_to(on: Stack, e: Box<Expr<Span>>) -> Stepped
     ensures { IfOk result (λ next. option_map state_view next ≡ machine.assigned (stack on) (exp_in e) (machine.in_assign (exp_in e))) }
 {
     if !is_target(&e) {
         return Ok(None);
     }
-    at_most(1, on, Frame::Operand(Operand::Assign(e)))
+    at_most(ASSIGNMENT_LEVEL, on, Frame::Operand(Operand::Assign(e)))
 }
 
 /// Whether the operator has a compound assignment (JLS 15.26.2).
@@ -190,7 +191,11 @@ fn compound(on: Stack, e: Box<Expr<Span>>, op: BinOp) -> Stepped
     if !is_compound(op) | !is_target(&e) {
         return Ok(None);
     }
-    at_most(1, on, Frame::Operand(Operand::Compound(op, e)))
+    at_most(
+        ASSIGNMENT_LEVEL,
+        on,
+        Frame::Operand(Operand::Compound(op, e)),
+    )
 }
 
 fn bump_op(way: Way) -> BumpOp
@@ -214,10 +219,10 @@ fn bump(alloc: Global, e: Box<Expr<Span>>, at: Span, way: Way) -> Made<Box<Expr<
 }
 
 /// `++` or `--`.
-fn bumped(alloc: Global, on: Stack, e: Box<Expr<Span>>, at: Span, way: Way) -> Stepped
+fn bump_behind(alloc: Global, on: Stack, e: Box<Expr<Span>>, at: Span, way: Way) -> Stepped
     ensures { IfOk result (λ next. option_map state_view next ≡ machine.bumped join (stack on) (exp_in e) at (way_view way)) }
 {
-    if !is_target(&e) | (9 < on.needed()) {
+    if !is_target(&e) | (UNSIGNED_LEVEL < on.needed()) {
         return Ok(None);
     }
     have(on, bump(alloc, e, at, way))
@@ -225,7 +230,7 @@ fn bumped(alloc: Global, on: Stack, e: Box<Expr<Span>>, at: Span, way: Way) -> S
 
 /// A token behind an expression.
 #[tactic(auto, unfolding(crate::specs::Machine::extended))]
-pub(crate) fn extended(
+pub(crate) fn extend(
     alloc: Global,
     on: Stack,
     e: Box<Expr<Span>>,
@@ -235,19 +240,19 @@ pub(crate) fn extended(
     ensures { IfOk result (λ next. option_map state_view next ≡ machine.extended join (stack on) (exp_in e) at (piece_view piece.entry)) }
 {
     match piece {
-        Piece::Dot => dotted(on, e),
-        Piece::Bump(way) => bumped(alloc, on, e, at, way),
-        Piece::Operator(op) => operated(alloc, on, e, op),
-        Piece::Equals => assigned(on, e),
+        Piece::Dot => dot(on, e),
+        Piece::Bump(way) => bump_behind(alloc, on, e, at, way),
+        Piece::Operator(op) => operator(alloc, on, e, op),
+        Piece::Equals => assign_to(on, e),
         Piece::Compound(op) => compound(on, e, op),
-        Piece::Close => closed(alloc, on, e, at),
-        Piece::Comma => continued(alloc, on, e),
-        Piece::Open => opened(alloc, on, e, at),
-        Piece::Word(_) => casted(alloc, on, e, at, piece),
-        Piece::Atom(_) => casted(alloc, on, e, at, piece),
-        Piece::Super => casted(alloc, on, e, at, piece),
-        Piece::New => casted(alloc, on, e, at, piece),
-        Piece::Bang => casted(alloc, on, e, at, piece),
+        Piece::Close => close_paren(alloc, on, e, at),
+        Piece::Comma => comma(alloc, on, e),
+        Piece::Open => open_paren(alloc, on, e, at),
+        Piece::Word(_) => behind_name(alloc, on, e, at, piece),
+        Piece::Atom(_) => behind_name(alloc, on, e, at, piece),
+        Piece::Super => behind_name(alloc, on, e, at, piece),
+        Piece::New => behind_name(alloc, on, e, at, piece),
+        Piece::Bang => behind_name(alloc, on, e, at, piece),
         Piece::Class => Ok(None),
         Piece::OtherKeyword(_) => Ok(None),
         Piece::OtherSymbol(_) => Ok(None),
