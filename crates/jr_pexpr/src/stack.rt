@@ -2,7 +2,9 @@
 ghost use Rattle.std.specs.Prelude.{◌≡◌, ◌≤◌, ◌∷◌, [], false, IfOk, MatchOption};
 ghost use Rattle.jr_pexpr.specs.Machine as machine;
 ghost use Rattle.jr_pexpr.specs.FrameView.{operand_view, bracket_view, frame_view};
-ghost use Rattle.jr_pexpr.specs.Stacks.{top_binds, IsEnded, has_bracket, is_nil, all_end, ends, is_form};
+ghost use Rattle.jr_pexpr.specs.Stacks.{top_binds, IsEnded, has_bracket, is_nil, ends, is_form};
+ghost use Rattle.std.specs.List.{count_by};
+ghost use Rattle.jr_pexpr.specs.Waiting.{waits};
 
 use crate::frames::{Bracket, Frame, Operand};
 use crate::made::Made;
@@ -12,11 +14,12 @@ use std::alloc::Global;
 #[derive(Drop)]
 pub(crate) struct Stack {
     frames: Vec<Frame>,
+    /// How many of them don't end with what is no target in them.
+    waiting: usize,
+    ghost counted: { waiting ≡ count_by waits frames.items },
 }
 
 impl Stack {
-    ghost use Rattle.std.specs.Prelude.{length, take};
-    ghost use Rattle.jr_pexpr.specs.FrameView.{frames_view};
     ghost use Rattle.jr_pexpr.specs.StackView.{stack};
 
     pub(crate) fn new(alloc: Global) -> Stack
@@ -24,20 +27,35 @@ impl Stack {
     {
         Stack {
             frames: Vec::new(alloc),
+            waiting: 0,
         }
     }
 
     pub(crate) fn push(&mut self, frame: Frame) -> Made<()>
         ensures { IfOk result (λ _. stack self.new ≡ frame_view frame ∷ stack self.old) }
     {
+        let waits = !frame.ends_when(false);
         self.frames.push(frame)?;
+        if waits {
+            self.waiting += 1;
+        }
         Ok(())
     }
 
     fn pop(&mut self) -> Option<Frame>
         ensures { MatchOption result ((stack self.old ≡ []) × (stack self.new ≡ [])) (λ f. stack self.old ≡ frame_view f ∷ stack self.new) }
     {
-        self.frames.pop()
+        match self.frames.pop() {
+            Some(frame) => {
+                if frame.ends_when(false) {
+                    Some(frame)
+                } else {
+                    self.waiting -= 1;
+                    Some(frame)
+                }
+            }
+            None => None,
+        }
     }
 
     /// How tightly the innermost binds; 0 where there is none.
@@ -123,27 +141,18 @@ impl Stack {
         }
     }
 
-    /// Whether each of the outermost `count` ends with what is no target in it.
-    fn do_end(&self, count: usize) -> bool
-        requires { count ≤ length self.now.frames.items }
-        ensures { result ≡ all_end (frames_view (take count self.now.frames.items)) }
-    {
-        let mut left = count;
-        while left > 0 {
-            left -= 1;
-            if !self.frames[left].ends_when(false) {
-                return false;
-            }
-        }
-        true
-    }
-
     /// Whether an expression can end here, where what stands there is a target or not.
     pub(crate) fn ends(&self, is_target: bool) -> bool
         ensures { result ≡ ends is_target (stack self.now) }
     {
         match self.frames.last() {
-            Some(frame) => frame.ends_when(is_target) && self.do_end(self.frames.len() - 1),
+            Some(frame) => {
+                if frame.ends_when(false) {
+                    self.waiting == 0
+                } else {
+                    frame.ends_when(is_target) & (self.waiting == 1)
+                }
+            }
             None => true,
         }
     }
