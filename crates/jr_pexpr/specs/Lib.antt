@@ -15,3 +15,4 @@ pub mod Expressions
 pub mod Parsing
 pub mod Walks
 pub mod Rules
+pub mod Answers

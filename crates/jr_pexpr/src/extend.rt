@@ -11,6 +11,7 @@ ghost use Rattle.jr_pexpr.specs.FrameView.{operand_view, head_view};
 ghost use Rattle.jr_pexpr.specs.StackView.{stack};
 ghost use Rattle.jr_pexpr.specs.StateView.{state_view};
 ghost use Rattle.jr_pexpr.specs.ExpView.{exp_in};
+ghost use Rattle.jr_pexpr.specs.Answers.{IsMade, IsNext};
 
 use crate::begin::{at_most, begin};
 use crate::frames::{Bracket, Frame, Head, Operand};
@@ -26,7 +27,8 @@ use jr_text::Span;
 use std::alloc::Global;
 
 fn dot(on: Stack, e: Box<Expr<Span>>) -> Stepped
-    ensures { IfOk result (λ next. option_map state_view next ≡ (if nat_lt (level_of (exp_in e)) 10 then None else Some (machine.dotted (stack on) (exp_in e)))) }
+    ensures { IsNext result (if nat_lt (level_of (exp_in e)) 10 then None else Some
+        (machine.dotted (stack on) (exp_in e))) }
 {
     if is_low(&e) {
         return Ok(None);
@@ -36,7 +38,8 @@ fn dot(on: Stack, e: Box<Expr<Span>>) -> Stepped
 
 /// A binary operator.
 fn operator(alloc: Global, on: Stack, e: Box<Expr<Span>>, op: BinOp) -> Stepped
-    ensures { IfOk result (λ next. option_map state_view next ≡ machine.operated op (machine.reduced join (rank_of op) (stack on) (exp_in e))) }
+    ensures { IsNext result (machine.operated op (machine.reduced join (rank_of op) (stack on)
+        (exp_in e))) }
 {
     match reduce(alloc, on, e, rank(op))? {
         Some((on, left)) => want(on, Frame::Operand(Operand::Binary(op, left))),
@@ -46,14 +49,15 @@ fn operator(alloc: Global, on: Stack, e: Box<Expr<Span>>, op: BinOp) -> Stepped
 
 /// The arguments with one more.
 fn with_last(mut args: Vec<Expr<Span>>, e: Box<Expr<Span>>) -> Made<Vec<Expr<Span>>>
-    ensures { IfOk result (λ made. exprs_of made.items ≡ machine.with_last (exprs_of args.items) (exp_in e)) }
+    ensures { IfOk result (λ made. exprs_of made.items
+        ≡ machine.with_last (exprs_of args.items) (exp_in e)) }
 {
     args.push(Box::into_inner(e))?;
     Ok(args)
 }
 
 fn paren(alloc: Global, start: Span, e: Box<Expr<Span>>, at: Span) -> Made<Box<Expr<Span>>>
-    ensures { IfOk result (λ made. exp_in made ≡ tree.paren (join start at) (exp_in e)) }
+    ensures { IsMade result (tree.paren (join start at) (exp_in e)) }
 {
     let mark = Span {
         from: start.from,
@@ -70,7 +74,8 @@ fn call(
     e: Box<Expr<Span>>,
     at: Span,
 ) -> Made<Box<Expr<Span>>>
-    ensures { IfOk result (λ made. exp_in made ≡ machine.applied join at (head_view head) (machine.with_last (exprs_of args.items) (exp_in e))) }
+    ensures { IsMade result (machine.applied join at (head_view head)
+        (machine.with_last (exprs_of args.items) (exp_in e))) }
 {
     let args = with_last(args, e)?;
     apply(alloc, head, args, at)
@@ -78,7 +83,7 @@ fn call(
 
 /// What waits for a closing parenthesis, at this one.
 fn close_bracket(alloc: Global, mut on: Stack, e: Box<Expr<Span>>, at: Span) -> Stepped
-    ensures { IfOk result (λ next. option_map state_view next ≡ machine.closed join at (Some (machine.have (stack on) (exp_in e)))) }
+    ensures { IsNext result (machine.closed join at (Some (machine.have (stack on) (exp_in e)))) }
 {
     match on.pop_bracket() {
         Some(Bracket::Paren(start)) => have(on, paren(alloc, start, e, at)),
@@ -89,7 +94,8 @@ fn close_bracket(alloc: Global, mut on: Stack, e: Box<Expr<Span>>, at: Span) -> 
 
 /// A closing parenthesis.
 fn close_paren(alloc: Global, on: Stack, e: Box<Expr<Span>>, at: Span) -> Stepped
-    ensures { IfOk result (λ next. option_map state_view next ≡ machine.closed join at (machine.reduced join 1 (stack on) (exp_in e))) }
+    ensures { IsNext result (machine.closed join at (machine.reduced join 1 (stack on)
+        (exp_in e))) }
 {
     match reduce(alloc, on, e, ASSIGNMENT_LEVEL)? {
         Some((on, e)) => close_bracket(alloc, on, e, at),
@@ -98,7 +104,7 @@ fn close_paren(alloc: Global, on: Stack, e: Box<Expr<Span>>, at: Span) -> Steppe
 }
 
 fn next_argument(mut on: Stack, e: Box<Expr<Span>>) -> Stepped
-    ensures { IfOk result (λ next. option_map state_view next ≡ machine.continued (Some (machine.have (stack on) (exp_in e)))) }
+    ensures { IsNext result (machine.continued (Some (machine.have (stack on) (exp_in e)))) }
 {
     match on.pop_bracket() {
         Some(Bracket::Args(head, args)) => {
@@ -112,7 +118,7 @@ fn next_argument(mut on: Stack, e: Box<Expr<Span>>) -> Stepped
 
 /// A comma.
 fn comma(alloc: Global, on: Stack, e: Box<Expr<Span>>) -> Stepped
-    ensures { IfOk result (λ next. option_map state_view next ≡ machine.continued (machine.reduced join 1 (stack on) (exp_in e))) }
+    ensures { IsNext result (machine.continued (machine.reduced join 1 (stack on) (exp_in e))) }
 {
     match reduce(alloc, on, e, ASSIGNMENT_LEVEL)? {
         Some((on, e)) => next_argument(on, e),
@@ -122,7 +128,8 @@ fn comma(alloc: Global, on: Stack, e: Box<Expr<Span>>) -> Stepped
 
 /// Behind a name in parentheses, which were a cast.
 fn cast(alloc: Global, mut on: Stack, frame: Option<Operand>, at: Span, piece: Piece<'_>) -> Stepped
-    ensures { IfOk result (λ next. option_map state_view next ≡ machine.casted join (option_map operand_view frame) (stack on) at (piece_view piece.entry)) }
+    ensures { IsNext result (machine.casted join (option_map operand_view frame) (stack on) at
+        (piece_view piece.entry)) }
 {
     let Some(frame) = frame else {
         return Ok(None);
@@ -135,22 +142,25 @@ fn cast(alloc: Global, mut on: Stack, frame: Option<Operand>, at: Span, piece: P
 }
 
 fn behind_name(alloc: Global, on: Stack, e: Box<Expr<Span>>, at: Span, piece: Piece<'_>) -> Stepped
-    ensures { IfOk result (λ next. option_map state_view next ≡ machine.casted join (machine.cast_of (exp_in e)) (stack on) at (piece_view piece.entry)) }
+    ensures { IsNext result (machine.casted join (machine.cast_of (exp_in e)) (stack on) at
+        (piece_view piece.entry)) }
 {
     cast(alloc, on, cast_of(e), at, piece)
 }
 
 /// The arguments of a call are to come.
 fn args(alloc: Global, on: Stack, head: Head) -> Stepped
-    ensures { IfOk result (λ next. option_map state_view next ≡ Some (machine.want (machine.in_args (head_view head) tree.end ∷ stack on))) }
+    ensures { IsNext result (Some (machine.want
+        (machine.in_args (head_view head) tree.end ∷ stack on))) }
 {
     want(on, Frame::Bracket(Bracket::Args(head, Vec::new(alloc))))
 }
 
-/// An opening parenthesis: behind a name or a field a call, behind a name in parentheses what is cast.
+/// An opening parenthesis: behind a name or a field a call, behind a name in parentheses what is
+/// cast.
 #[tactic(auto, unfolding(jr_ast::specs::View::expr_kind))]
 fn open_paren(alloc: Global, on: Stack, e: Box<Expr<Span>>, at: Span) -> Stepped
-    ensures { IfOk result (λ next. option_map state_view next ≡ machine.opened join (stack on) (exp_in e) at) }
+    ensures { IsNext result (machine.opened join (stack on) (exp_in e) at) }
 {
     if !is_target(&e) {
         return behind_name(alloc, on, e, at, Piece::Open);
@@ -166,7 +176,8 @@ fn open_paren(alloc: Global, on: Stack, e: Box<Expr<Span>>, at: Span) -> Stepped
 
 /// `=`.
 fn assign_to(on: Stack, e: Box<Expr<Span>>) -> Stepped
-    ensures { IfOk result (λ next. option_map state_view next ≡ machine.assigned (stack on) (exp_in e) (machine.in_assign (exp_in e))) }
+    ensures { IsNext result (machine.assigned (stack on) (exp_in e) (machine.in_assign
+        (exp_in e))) }
 {
     if !is_target(&e) {
         return Ok(None);
@@ -186,7 +197,8 @@ fn is_compound(op: BinOp) -> bool
 
 /// An operator with `=` behind it.
 fn compound(on: Stack, e: Box<Expr<Span>>, op: BinOp) -> Stepped
-    ensures { IfOk result (λ next. option_map state_view next ≡ (if machine.is_compound op then machine.assigned (stack on) (exp_in e) (machine.in_compound op (exp_in e)) else None)) }
+    ensures { IsNext result (if machine.is_compound op then machine.assigned (stack on)
+        (exp_in e) (machine.in_compound op (exp_in e)) else None) }
 {
     if !is_compound(op) | !is_target(&e) {
         return Ok(None);
@@ -209,7 +221,8 @@ fn bump_op(way: Way) -> BumpOp
 
 #[tactic(auto, using(crate::proofs::OwnMarks::mark_is))]
 fn bump(alloc: Global, e: Box<Expr<Span>>, at: Span, way: Way) -> Made<Box<Expr<Span>>>
-    ensures { IfOk result (λ made. exp_in made ≡ tree.bump (join (exp_mark (exp_in e)) at) (machine.behind (way_view way)) (exp_in e)) }
+    ensures { IsMade result (tree.bump (join (exp_mark (exp_in e)) at)
+        (machine.behind (way_view way)) (exp_in e)) }
 {
     let mark = Span {
         from: e.mark.from,
@@ -220,7 +233,7 @@ fn bump(alloc: Global, e: Box<Expr<Span>>, at: Span, way: Way) -> Made<Box<Expr<
 
 /// `++` or `--`.
 fn bump_behind(alloc: Global, on: Stack, e: Box<Expr<Span>>, at: Span, way: Way) -> Stepped
-    ensures { IfOk result (λ next. option_map state_view next ≡ machine.bumped join (stack on) (exp_in e) at (way_view way)) }
+    ensures { IsNext result (machine.bumped join (stack on) (exp_in e) at (way_view way)) }
 {
     if !is_target(&e) | (UNSIGNED_LEVEL < on.needed()) {
         return Ok(None);
@@ -237,7 +250,8 @@ pub(crate) fn extend(
     at: Span,
     piece: Piece<'_>,
 ) -> Stepped
-    ensures { IfOk result (λ next. option_map state_view next ≡ machine.extended join (stack on) (exp_in e) at (piece_view piece.entry)) }
+    ensures { IsNext result (machine.extended join (stack on) (exp_in e) at
+        (piece_view piece.entry)) }
 {
     match piece {
         Piece::Dot => dot(on, e),

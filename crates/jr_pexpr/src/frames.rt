@@ -169,7 +169,8 @@ impl Frame {
         }
     }
 
-    /// Whether it ends with a target in it, or with what is none; a bracket waits for its closing token.
+    /// Whether it ends with a target in it, or with what is none; a bracket waits for its closing
+    /// token.
     pub(crate) fn ends_when(&self, is_target: bool) -> bool
         ensures { result ≡ ends_when is_target (frame_view self.now) }
     {

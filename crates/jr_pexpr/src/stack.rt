@@ -43,7 +43,8 @@ impl Stack {
     }
 
     fn pop(&mut self) -> Option<Frame>
-        ensures { MatchOption result ((stack self.old ≡ []) × (stack self.new ≡ [])) (λ f. stack self.old ≡ frame_view f ∷ stack self.new) }
+        ensures { MatchOption result ((stack self.old ≡ []) × (stack self.new ≡ [])) (λ f.
+            stack self.old ≡ frame_view f ∷ stack self.new) }
     {
         match self.frames.pop() {
             Some(frame) => {
@@ -71,7 +72,9 @@ impl Stack {
     /// Takes the innermost where it waits for an operand and binds at least so tightly.
     pub(crate) fn pop_operand(&mut self, level: u32) -> Option<Operand>
         requires { 1 ≤ level }
-        ensures { MatchOption result (IsEnded level (stack self.old) × (stack self.new ≡ stack self.old)) (λ o. (stack self.old ≡ operand_view o ∷ stack self.new) × (level ≤ machine.binds (operand_view o))) }
+        ensures { MatchOption result (IsEnded level (stack self.old) × (stack self.new
+            ≡ stack self.old)) (λ o. (stack self.old ≡ operand_view o ∷ stack self.new)
+            × (level ≤ machine.binds (operand_view o))) }
     {
         if self.binds() < level {
             return None;
@@ -85,7 +88,8 @@ impl Stack {
 
     /// Takes the innermost where it waits for its closing token.
     pub(crate) fn pop_bracket(&mut self) -> Option<Bracket>
-        ensures { MatchOption result (has_bracket (stack self.old) ≡ false) (λ b. stack self.old ≡ bracket_view b ∷ stack self.new) }
+        ensures { MatchOption result (has_bracket (stack self.old) ≡ false) (λ b.
+            stack self.old ≡ bracket_view b ∷ stack self.new) }
     {
         match self.pop() {
             Some(Frame::Bracket(bracket)) => Some(bracket),
@@ -131,7 +135,8 @@ impl Stack {
         self.frames.is_empty()
     }
 
-    /// Whether what ends here is a statement expression, where the expression itself is one or isn't.
+    /// Whether what ends here is a statement expression, where the expression itself is one or
+    /// isn't.
     pub(crate) fn is_form(&self, is_statement: bool) -> bool
         ensures { result ≡ is_form is_statement (stack self.now) }
     {

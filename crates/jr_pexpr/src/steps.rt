@@ -8,6 +8,7 @@ ghost use Rattle.jr_pexpr.specs.Marked.{join, span_step, span_whole, span_statem
 ghost use Rattle.jr_pexpr.specs.StackView.{stack};
 ghost use Rattle.jr_pexpr.specs.StateView.{state_view};
 ghost use Rattle.jr_pexpr.specs.ExpView.{exp_in, filled, placed};
+ghost use Rattle.jr_pexpr.specs.Answers.{IsFilled, IsNext};
 
 use crate::begin::begin;
 use crate::extend::extend;
@@ -24,7 +25,7 @@ use jr_text::Span;
 use std::alloc::{AllocError, Global};
 
 fn step_piece(alloc: Global, state: State, at: Span, piece: Piece<'_>) -> Stepped
-    ensures { IfOk result (λ next. option_map state_view next ≡ machine.stepped join (state_view state) at (piece_view piece.entry)) }
+    ensures { IsNext result (machine.stepped join (state_view state) at (piece_view piece.entry)) }
 {
     let State { on, mode } = state;
     match mode {
@@ -41,7 +42,7 @@ fn step_piece(alloc: Global, state: State, at: Span, piece: Piece<'_>) -> Steppe
 
 /// The expression that comes of all that has been begun; `None` where a bracket is open.
 fn finish_on(alloc: Global, on: Stack, e: Box<Expr<Span>>) -> Filled
-    ensures { IfOk result (λ made. filled made ≡ machine.whole_of (machine.reduced join 1 (stack on) (exp_in e))) }
+    ensures { IsFilled result (machine.whole_of (machine.reduced join 1 (stack on) (exp_in e))) }
 {
     match reduce(alloc, on, e, ASSIGNMENT_LEVEL)? {
         Some((on, e)) => { if on.is_empty() { Ok(Some(e)) } else { Ok(None) } }
@@ -74,19 +75,21 @@ impl State {
         at: Span,
         token: Token<'_>,
     ) -> Result<Option<State>, AllocError>
-        ensures { IfOk result (λ next. option_map state_view next ≡ span_step (state_view self) (placed at (token_view token.entry))) }
+        ensures { IsNext result (span_step (state_view self) (placed at (token_view token.entry))) }
     {
         step_piece(alloc, self, at, piece_of(token))
     }
 
-    /// The state behind a token at `at`; `None` exactly where no statement expression goes on with it (JLS 14.8).
+    /// The state behind a token at `at`; `None` exactly where no statement expression goes on with
+    /// it (JLS 14.8).
     pub fn statement_step(
         self,
         alloc: Global,
         at: Span,
         token: Token<'_>,
     ) -> Result<Option<State>, AllocError>
-        ensures { IfOk result (λ next. option_map state_view next ≡ span_statement_step (state_view self) (placed at (token_view token.entry))) }
+        ensures { IsNext result (span_statement_step (state_view self)
+            (placed at (token_view token.entry))) }
     {
         match self.step(alloc, at, token)? {
             Some(next) => Ok(keep_open(next)),
@@ -116,7 +119,7 @@ impl State {
 
     /// The expression that has been read; `None` where it isn't whole.
     pub fn finish(self, alloc: Global) -> Result<Option<Box<Expr<Span>>>, AllocError>
-        ensures { IfOk result (λ made. filled made ≡ span_whole (state_view self)) }
+        ensures { IsFilled result (span_whole (state_view self)) }
     {
         let State { on, mode } = self;
         match mode {

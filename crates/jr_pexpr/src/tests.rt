@@ -1,4 +1,5 @@
-//! What texts are read as: trees, places and stops by the grammar, and by javac where it takes the whole text.
+//! What texts are read as: trees, places and stops by the grammar, and by javac where it takes the
+//! whole text.
 mod shown;
 
 use crate::{ParseFault, parse_expr, parse_sexpr};
@@ -8,7 +9,8 @@ use shown::shown;
 use std::alloc::Global;
 use std::process::Abort;
 
-/// A text, the item that reading begins at, and the answer: the tree, the item behind it and the stop, or a byte.
+/// A text, the item that reading begins at, and the answer: the tree, the item behind it and the
+/// stop, or a byte.
 type Row<'a> = (&'a str, u32, &'a str);
 
 #[derive(Clone, Copy)]
@@ -178,7 +180,8 @@ fn assert_rows(rt: &impl Abort, alloc: Global, rows: &[Row<'_>], want: Want) {
     }
 }
 
-/// So many times `before`, then `a`, and so many times `behind`, is read whole: its tree is as deep as the limits let it be.
+/// So many times `before`, then `a`, and so many times `behind`, is read whole: its tree is as deep
+/// as the limits let it be.
 fn assert_deep(rt: &impl Abort, alloc: Global, before: &str, behind: &str, times: u32, items: u32) {
     let mut text = String::new(alloc);
     for _ in 0..times {

@@ -27,16 +27,6 @@ pub(crate) struct Reach {
     pub(crate) whole: Option<State>,
 }
 
-impl Reach {
-    ghost use Rattle.std.specs.Prelude.{◌≡◌};
-
-    fn new(end: Option<usize>, stop: usize, whole: Option<State>) -> Reach
-        ensures { result ≡ record { end = end; stop = stop; whole = whole } }
-    {
-        Reach { end, stop, whole }
-    }
-}
-
 /// Whether nothing whole goes on with the token.
 fn is_end(token: Token<'_>) -> bool
     ensures { result ≡ is_end (piece_of (token_view token.entry)) }
@@ -61,9 +51,13 @@ pub(crate) fn walk(
 ) -> Made<Reach>
     requires lexed { Lexes text.now items.now }
     requires from { from ≤ length items.now }
-    ensures end { IfOk result (λ reach. reach.end ≡ walk_end rule text.now (want []) from None (drop from items.now)) }
-    ensures stop { IfOk result (λ reach. reach.stop ≡ walk_stop rule text.now (want []) from (drop from items.now)) }
-    ensures whole { IfOk result (λ reach. IfSome reach.whole (λ state. (state_view state ≡ walk_last rule text.now (want []) (drop from items.now)) × IsSome (rule_whole rule (state_view state)))) }
+    ensures end { IfOk result (λ reach. reach.end
+        ≡ walk_end rule text.now (want []) from None (drop from items.now)) }
+    ensures stop { IfOk result (λ reach.
+        reach.stop ≡ walk_stop rule text.now (want []) from (drop from items.now)) }
+    ensures whole { IfOk result (λ reach. IfSome reach.whole (λ state.
+        (state_view state ≡ walk_last rule text.now (want []) (drop from items.now))
+        × IsSome (rule_whole rule (state_view state)))) }
 {
     items_are_placed();
     let mut state = State::new(alloc);
@@ -72,11 +66,22 @@ pub(crate) fn walk(
         let item = &items[i];
         if let Some(token) = token_at(text, item) {
             if is_end(token) && rule.is_whole(&state) {
-                return Ok(Reach::new(end, i, Some(state)));
+                let whole = Some(state);
+                return Ok(Reach {
+                    end,
+                    stop: i,
+                    whole,
+                });
             }
             match rule.step(alloc, state, item.span, token)? {
                 Some(next) => state = next,
-                None => return Ok(Reach::new(end, i, None)),
+                None => {
+                    return Ok(Reach {
+                        end,
+                        stop: i,
+                        whole: None,
+                    });
+                }
             }
             if rule.is_whole(&state) {
                 end = Some(i + 1);
@@ -88,5 +93,9 @@ pub(crate) fn walk(
     } else {
         None
     };
-    Ok(Reach::new(end, items.len(), whole))
+    Ok(Reach {
+        end,
+        stop: items.len(),
+        whole,
+    })
 }
