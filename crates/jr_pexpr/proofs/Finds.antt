@@ -52,6 +52,9 @@ through bytes at (i ∷ is) m d h =
     go Blank m f l = let t = f m l in (t.count, more t.count m t.number, t.within, t.tokens)
     go Comment m f l = let t = f m l in (t.count, more t.count m t.number, t.within, t.tokens)
 
+through_to : (bytes : List ℕ) (at : ℕ) (is : List Item) (m d : ℕ) (t : Through bytes at is m d) (k : ℕ) → k ≡ t.count → placed_of bytes (take k is) ≡ take (suc m) (placed_of bytes is)
+through_to bytes at is m d t k e = ap (λ (k : ℕ). placed_of bytes (take k is)) e ∙ t.tokens
+
 -- a token's number is that of an item
 number_within : (at : ℕ) (is : List Item) (k d : ℕ) → at + length is ≤ d → get_or (token_numbers at is) k d ≤ d
 number_within at [] k d h = omega arith
@@ -112,7 +115,7 @@ module _ (r : Rule) (bytes : List ℕ) (items : List Item) (from : ℕ) where
       let m = g.0 in
       let l : rule_length r (want []) ts ≡ Some (suc m) = length_want (Some m) g.1 in
       let f = at_some (rule_length r (want []) ts) (suc m) (Found (State Span) (Placed Span) (Exp Span) (rule_step r) (rule_whole r) (want []) ts) l
-          (longest_found (State Span) (Placed Span) (Exp Span) (rule_step r) (rule_whole r) (want []) ts) in
+      (longest_found (State Span) (Placed Span) (Exp Span) (rule_step r) (rule_whole r) (want []) ts) in
       let t = through bytes from is m d (omega (arith, f.within)) in
       let n : b - from ≡ t.count = omega (arith, g.2, t.number) in
       record {
@@ -123,7 +126,7 @@ module _ (r : Rule) (bytes : List ℕ) (items : List Item) (from : ℕ) where
         tree = f.tree;
         run_to = f.run_to;
         is_whole = f.is_whole;
-        tokens = ap (λ (k : ℕ). placed_of bytes (take k is)) n ∙ t.tokens;
+        tokens = through_to bytes from is m d t (b - from) n;
         within = omega (arith, g.2, t.number, t.within, length-drop from items);
       }
 

@@ -24,3 +24,4 @@ pub mod WalkLaws
 pub mod Few
 pub mod Finds
 pub mod Readings
+pub mod OneAnswers

@@ -47,7 +47,7 @@ cut_inside bytes s u c t =
     let n : length part ≡ s.to - s.from = part_length bytes s c in
     let first : get_or bytes s.from 0 ≡ 34 = ap (λ (k : ℕ). get_or bytes k 0) (omega arith) ∙ sym (part_at bytes s c 0 (omega (arith, q.two))) ∙ q.first in
     let last : get_or bytes (s.to - 1) 0 ≡ 34 =
-        ap (λ (k : ℕ). get_or bytes k 0) (omega (arith, q.two)) ∙ sym (part_at bytes s c (length part - 1) (omega (arith, q.two))) ∙ q.last in (
+    ap (λ (k : ℕ). get_or bytes k 0) (omega (arith, q.two)) ∙ sym (part_at bytes s c (length part - 1) (omega (arith, q.two))) ∙ q.last in (
       omega (arith, q.two, n),
       IsCharBoundary-after_ascii bytes s.from u (omega (arith, q.two, c.within)) (omega (arith, first)),
       IsCharBoundary-before_ascii bytes (s.to - 1) (omega (arith, q.two, c.within)) (omega (arith, last)),

@@ -49,7 +49,7 @@ longest_statement : (ts : Tokens) (n : ℕ) (s : State Span) (e : Exp Span) → 
 longest_statement ts n s e h k w =
     let l = longest_is (State Bare) (Exp Bare) bare_statement_step bare_statement_whole start toks ShapedStatement statement_reads statement_sound statement_closes (kinds ts) n (sym (steps_alike.statement_length ts) ∙ h) in
     let same = one_end (bare_statement_run (want []) (kinds (take n ts))) l.2.0 (bare_state s) bare_statement_whole l.0 (bare e) (ap (bare_statement_run (want [])) (kinds-take n ts) ∙ l.2.1) (bare_statement_run_of (take n ts) s k) l.2.2
-        (bare_statement_whole_of s e w) in
+    (bare_statement_whole_of s e w) in
     subst (λ (d : Exp Bare). IsLongestStatementExpression (kinds ts) n d) same l.1
 
 -- ---- where reading stops

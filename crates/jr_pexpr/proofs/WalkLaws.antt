@@ -11,7 +11,7 @@ use Rattle.jr_grammar.specs.Stands.{Tokens}
 use Rattle.jr_pexpr.specs.declared.rules.Rule.{Rule}
 use Rattle.jr_pexpr.specs.Machine.{State, want}
 use Rattle.jr_pexpr.specs.Runs.{best, one_more}
-use Rattle.jr_pexpr.specs.Ended.{placed}
+use Rattle.jr_pexpr.specs.ExpView.{placed}
 use Rattle.jr_pexpr.specs.Parsing.{with_number, token_numbers}
 use Rattle.jr_pexpr.specs.Walks.{rule_step, rule_whole, rule_run, rule_length, rule_stop, next_of, end_at, walk_end, walk_stop, walk_last}
 
@@ -59,8 +59,8 @@ module _ (r : Rule) (bytes : List ℕ) where
 
       go : (k : ItemKind) → ((n : State Span) (e : Option ℕ) → walk_end r bytes n (at + 1) e is ≡ or_else e (behind d (token_numbers (at + 1) is) (later n (placed_of bytes is))))
           → unwrap_or
-              (option_map (λ (token : Token). unwrap_or (option_map (λ (n : State Span). walk_end r bytes n (at + 1) (end_at r bytes n (at + 1) end) is) (rule_step r s (placed i.span token))) end) (token_of bytes i.span k))
-              (walk_end r bytes s (at + 1) end is)
+          (option_map (λ (token : Token). unwrap_or (option_map (λ (n : State Span). walk_end r bytes n (at + 1) (end_at r bytes n (at + 1) end) is) (rule_step r s (placed i.span token))) end) (token_of bytes i.span k))
+          (walk_end r bytes s (at + 1) end is)
           ≡ or_else end (behind d (with_number k at (token_numbers (at + 1) is)) (later s (with_placed i.span (token_of bytes i.span k) (placed_of bytes is))))
       go (TokenItem k) f = let t = placed i.span (token_of_kind bytes i.span k) in stepped t (rule_step r s t) f
       go Blank f = f s end

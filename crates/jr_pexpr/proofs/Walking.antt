@@ -16,7 +16,7 @@ use Rattle.jr_pexpr.specs.declared.rules.Rule.TheVariants.{Expression, Statement
 use Rattle.jr_pexpr.specs.Pieces.{Piece, a_close, a_comma, a_class, another, piece_of}
 use Rattle.jr_pexpr.specs.Machine.{Frame, State, have, reduced, whole_of, extended, closed, continued, stepped, kept_open, kept_statement}
 use Rattle.jr_pexpr.specs.Marked.{join, span_step, span_whole}
-use Rattle.jr_pexpr.specs.Ended.{placed}
+use Rattle.jr_pexpr.specs.ExpView.{placed}
 use Rattle.jr_pexpr.specs.Walks.{rule_step, rule_whole, rule_run, is_end, end_at, walk_end, walk_stop, walk_last}
 
 -- what stands for the item behind the last
@@ -31,7 +31,7 @@ drop_at items i h = rw add-one (drop-cons items i no_item h)
 pub placed_at : (bytes : List ℕ) (items : List Item) (i : ℕ) → ItemsPlaced → Lexes bytes items → i < length items → IsPlaced bytes (get_or items i no_item)
 placed_at bytes items i p l h =
     let split : items ≡ take i items ++ get_or items i no_item ∷ drop (i + 1) items =
-        sym (take-append-drop i items) ∙ ap (λ (is : List Item). take i items ++ is) (drop_at items i h) in
+    sym (take-append-drop i items) ∙ ap (λ (is : List Item). take i items ++ is) (drop_at items i h) in
     (p bytes (take i items) (get_or items i no_item) (drop (i + 1) items) (subst (Lexes bytes) split l)).0
 
 module _ (r : Rule) (bytes : List ℕ) (items : List Item) (i : ℕ) (s : State Span) (end : Option ℕ) where

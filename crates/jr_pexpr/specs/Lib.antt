@@ -7,10 +7,12 @@ pub mod TokenView
 pub mod PieceView
 pub mod FrameView
 pub mod Stacks
+pub mod Waiting
 pub mod StackView
 pub mod StateView
-pub mod Ended
+pub mod ExpView
 pub mod Expressions
 pub mod Parsing
 pub mod Walks
 pub mod Rules
+pub mod Answers

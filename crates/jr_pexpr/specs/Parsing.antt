@@ -88,6 +88,16 @@ IsStatementExpressionFrom = IsReadFrom IsLongestStatementExpression HasNoStateme
 abbrev pub IsNoStatementExpressionFrom : List ℕ → List Item → ℕ → ℕ → Type 0
 IsNoStatementExpressionFrom = IsNoneFrom IsLongestStatementExpression HasNoStatementExpression IsStatementExpressionStop IsMarkedStatementExpression
 
+-- ---- one answer
+
+-- From an item on one tree is read at most, with one item behind it and one stop, or else one fault is told, and never both.
+pub record OneAnswer (IsRead : List ℕ → List Item → ℕ → Exp Span → ℕ → ℕ → Type 0) (IsNone : List ℕ → List Item → ℕ → ℕ → Type 0) : Type 0 where
+  pub tree : (bytes : List ℕ) (items : List Item) (from : ℕ) (a b : Exp Span) (i j m n : ℕ) → IsRead bytes items from a i m → IsRead bytes items from b j n → a ≡ b
+  pub behind : (bytes : List ℕ) (items : List Item) (from : ℕ) (a b : Exp Span) (i j m n : ℕ) → IsRead bytes items from a i m → IsRead bytes items from b j n → i ≡ j
+  pub stop : (bytes : List ℕ) (items : List Item) (from : ℕ) (a b : Exp Span) (i j m n : ℕ) → IsRead bytes items from a i m → IsRead bytes items from b j n → m ≡ n
+  pub fault : (bytes : List ℕ) (items : List Item) (from i j : ℕ) → IsNone bytes items from i → IsNone bytes items from j → i ≡ j
+  pub never_both : (bytes : List ℕ) (items : List Item) (from : ℕ) (a : Exp Span) (i m at : ℕ) → IsRead bytes items from a i m → IsNone bytes items from at → ⊥
+
 -- ---- faults
 
 -- the fault is want of memory, or one of syntax at a byte of which this holds

@@ -10,7 +10,7 @@ use Rattle.jr_pexpr.specs.declared.rules.Rule.{Rule}
 use Rattle.jr_pexpr.specs.declared.rules.Rule.TheVariants as rule
 use Rattle.jr_pexpr.specs.Pieces.{Piece, a_close, a_comma, a_class, another}
 use Rattle.jr_pexpr.specs.Machine.{State}
-use Rattle.jr_pexpr.specs.Ended.{placed}
+use Rattle.jr_pexpr.specs.ExpView.{placed}
 use Rattle.jr_pexpr.specs.Marked.{span_step, span_whole, span_statement_step, span_statement_whole}
 
 -- the machine of a rule
@@ -53,10 +53,10 @@ module _ (r : Rule) (bytes : List ℕ) where
   walk_end s at end [] = end
   walk_end s at end (i ∷ is) =
       unwrap_or
-          (option_map
-              (λ (token : Token). unwrap_or (option_map (λ (n : State Span). walk_end n (at + 1) (end_at n (at + 1) end) is) (rule_step r s (placed i.span token))) end)
-              (token_of bytes i.span i.kind))
-          (walk_end s (at + 1) end is)
+      (option_map
+      (λ (token : Token). unwrap_or (option_map (λ (n : State Span). walk_end n (at + 1) (end_at n (at + 1) end) is) (rule_step r s (placed i.span token))) end)
+      (token_of bytes i.span i.kind))
+      (walk_end s (at + 1) end is)
 
   -- the item of the first token that can't be read, or that behind all items
   abbrev pub walk_stop : State Span → ℕ → List Item → ℕ

@@ -1,11 +1,12 @@
 //! What has been begun, and waits for an expression.
 ghost use Rattle.std.specs.Prelude.{◌≡◌};
-ghost use Rattle.jr_grammar.specs.Shape.{rank_of, unary_level, is_minus};
+ghost use Rattle.jr_grammar.specs.Shape.{is_minus};
 ghost use Rattle.jr_pexpr.specs.Machine as machine;
 ghost use Rattle.jr_pexpr.specs.FrameView.{operand_view, frame_view};
 ghost use Rattle.jr_pexpr.specs.Stacks.{ends_when};
 
 use crate::pieces::Way;
+use crate::ranks::{ASSIGNMENT_LEVEL, PRIMARY_LEVEL, SIGN_LEVEL, UNSIGNED_LEVEL, rank, unary_rank};
 use jr_ast::{BinOp, Expr, Ident, TypeRef, UnOp};
 use jr_text::Span;
 
@@ -42,30 +43,6 @@ pub(crate) enum Frame {
     Bracket(Bracket),
 }
 
-/// How tightly an operator binds.
-pub(crate) fn rank(op: BinOp) -> u32
-    ensures { result ≡ rank_of op }
-{
-    match op {
-        BinOp::Or => 2,
-        BinOp::And => 3,
-        BinOp::Eq | BinOp::Ne => 4,
-        BinOp::Lt | BinOp::Gt | BinOp::Le | BinOp::Ge => 5,
-        BinOp::Add | BinOp::Sub => 6,
-        BinOp::Mul | BinOp::Div | BinOp::Rem => 7,
-    }
-}
-
-/// How tightly a sign or `!` binds.
-fn unary_rank(op: UnOp) -> u32
-    ensures { result ≡ unary_level op }
-{
-    match op {
-        UnOp::Plus | UnOp::Minus => 8,
-        UnOp::Not => 9,
-    }
-}
-
 impl Operand {
     /// How tightly it binds.
     fn binds(&self) -> u32
@@ -73,11 +50,11 @@ impl Operand {
     {
         match self {
             Operand::Unary(_, op) => unary_rank(*op),
-            Operand::Bump(_, _) => 8,
+            Operand::Bump(_, _) => SIGN_LEVEL,
             Operand::Binary(op, _) => rank(*op),
-            Operand::Assign(_) => 1,
-            Operand::Compound(_, _) => 1,
-            Operand::Cast(_, _) => 9,
+            Operand::Assign(_) => ASSIGNMENT_LEVEL,
+            Operand::Compound(_, _) => ASSIGNMENT_LEVEL,
+            Operand::Cast(_, _) => UNSIGNED_LEVEL,
         }
     }
 
@@ -86,12 +63,12 @@ impl Operand {
         ensures { result ≡ machine.needs (operand_view self.now) }
     {
         match self {
-            Operand::Unary(_, _) => 8,
-            Operand::Bump(_, _) => 10,
+            Operand::Unary(_, _) => SIGN_LEVEL,
+            Operand::Bump(_, _) => PRIMARY_LEVEL,
             Operand::Binary(op, _) => rank(*op) + 1,
-            Operand::Assign(_) => 1,
-            Operand::Compound(_, _) => 1,
-            Operand::Cast(_, _) => 9,
+            Operand::Assign(_) => ASSIGNMENT_LEVEL,
+            Operand::Compound(_, _) => ASSIGNMENT_LEVEL,
+            Operand::Cast(_, _) => UNSIGNED_LEVEL,
         }
     }
 
@@ -165,8 +142,8 @@ impl Frame {
     {
         match self {
             Frame::Operand(operand) => operand.needs(),
-            Frame::Bracket(Bracket::Paren(_)) => 1,
-            Frame::Bracket(Bracket::Args(_, _)) => 1,
+            Frame::Bracket(Bracket::Paren(_)) => ASSIGNMENT_LEVEL,
+            Frame::Bracket(Bracket::Args(_, _)) => ASSIGNMENT_LEVEL,
         }
     }
 
@@ -192,7 +169,8 @@ impl Frame {
         }
     }
 
-    /// Whether it ends with a target in it, or with what is none; a bracket waits for its closing token.
+    /// Whether it ends with a target in it, or with what is none; a bracket waits for its closing
+    /// token.
     pub(crate) fn ends_when(&self, is_target: bool) -> bool
         ensures { result ≡ ends_when is_target (frame_view self.now) }
     {

@@ -4,7 +4,7 @@ ghost use Rattle.jr_ast.specs.View.{type_of, expr_of};
 ghost use Rattle.jr_pexpr.specs.Machine as machine;
 ghost use Rattle.jr_grammar.specs.Shape.{level_of};
 ghost use Rattle.jr_pexpr.specs.FrameView.{operand_view};
-ghost use Rattle.jr_pexpr.specs.Ended.{exp_in};
+ghost use Rattle.jr_pexpr.specs.ExpView.{exp_in};
 
 use crate::frames::Operand;
 use jr_ast::{Expr, ExprKind, TypeKind, TypeRef};

@@ -1,7 +1,8 @@
 ghost use Rattle.jr_grammar.specs.Expressions.{OneExpression, OneStatementExpression};
 ghost use Rattle.jr_pexpr.specs.Expressions.{OneMarkedExpression, OneMarked, LengthIsLongest, StatementLengthIsLongest, StopIsExact, StatementStopIsExact, StepsAlike, BuildsMarked};
+ghost use Rattle.jr_pexpr.specs.Parsing.{OneAnswer, IsExpressionFrom, IsNoExpressionFrom, IsStatementExpressionFrom, IsNoStatementExpressionFrom};
 
-use jr_grammar::{expression_ignores_marks, marks_are_one};
+use jr_grammar::{expression_ignores_marks, marks_are_one, readings_are_one};
 use jr_text::Span;
 
 /// No two expressions spell the same tokens (JLS 15).
@@ -14,8 +15,8 @@ pub fn one_statement_expression()
     ensures { OneStatementExpression }
 {}
 
-/// Expressions with places that spell the same tokens are the same but for their marks, and where each mark is the span
-/// of its node's tokens, marks included.
+/// Expressions with places that spell the same tokens are the same but for their marks, and where
+/// each mark is the span of its node's tokens, marks included.
 pub fn one_marked_expression()
     ensures spelled { OneMarkedExpression }
     ensures marked { OneMarked }
@@ -24,7 +25,8 @@ pub fn one_marked_expression()
     marks_are_one();
 }
 
-/// The machine finds the longest expression that tokens begin with, and finds none only where there is none.
+/// The machine finds the longest expression that tokens begin with, and finds none only where there
+/// is none.
 pub fn expression_is_longest()
     ensures { LengthIsLongest }
 {}
@@ -34,7 +36,8 @@ pub fn statement_expression_is_longest()
     ensures { StatementLengthIsLongest }
 {}
 
-/// The machine stops at the first token such that no expression begins with the tokens up to and including it.
+/// The machine stops at the first token such that no expression begins with the tokens up to and
+/// including it.
 pub fn expression_stop_is_exact()
     ensures { StopIsExact }
 {}
@@ -54,4 +57,14 @@ pub fn marks_are_spans()
     ensures { BuildsMarked }
 {
     expression_ignores_marks::<Span, ()>();
+}
+
+/// What is read of a text from an item on is one: its tree with all marks, the item behind it and
+/// the stop, or the place of the fault, and never both.
+pub fn one_answer()
+    ensures expressions { OneAnswer IsExpressionFrom IsNoExpressionFrom }
+    ensures statement_expressions { OneAnswer IsStatementExpressionFrom IsNoStatementExpressionFrom }
+{
+    readings_are_one();
+    one_marked_expression();
 }

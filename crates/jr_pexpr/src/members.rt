@@ -4,13 +4,15 @@ ghost use Rattle.jr_ast.specs.Tree as tree;
 ghost use Rattle.jr_ast.specs.Marks.{exp_mark};
 ghost use Rattle.jr_ast.specs.View.{word_of, type_of};
 ghost use Rattle.jr_pexpr.specs.Marked.{join};
+ghost use Rattle.jr_pexpr.specs.Pieces as pure;
 ghost use Rattle.jr_pexpr.specs.Machine as machine;
 ghost use Rattle.jr_pexpr.specs.PieceView.{piece_view};
 ghost use Rattle.jr_pexpr.specs.StackView.{stack};
 ghost use Rattle.jr_pexpr.specs.StateView.{state_view};
-ghost use Rattle.jr_pexpr.specs.Ended.{exp_in};
+ghost use Rattle.jr_pexpr.specs.ExpView.{exp_in};
+ghost use Rattle.jr_pexpr.specs.Answers.{IsMade, IsNext};
 
-use crate::begun::word;
+use crate::begin::word;
 use crate::frames::{Bracket, Frame, Head};
 use crate::kinds::name_type;
 use crate::made::{Made, in_box};
@@ -23,7 +25,8 @@ use std::alloc::Global;
 
 #[tactic(auto, using(crate::proofs::OwnMarks::mark_is))]
 fn field(alloc: Global, e: Box<Expr<Span>>, at: Span, text: &str) -> Made<Box<Expr<Span>>>
-    ensures { IfOk result (λ made. exp_in made ≡ tree.field (join (exp_mark (exp_in e)) at) (exp_in e) (machine.marked at text.now)) }
+    ensures { IsMade result (tree.field (join (exp_mark (exp_in e)) at) (exp_in e)
+        (machine.marked at text.now)) }
 {
     let mark = Span {
         from: e.mark.from,
@@ -36,7 +39,8 @@ fn field(alloc: Global, e: Box<Expr<Span>>, at: Span, text: &str) -> Made<Box<Ex
 /// `.class`.
 #[tactic(auto, using(crate::proofs::OwnMarks::mark_is))]
 fn class_literal(alloc: Global, on: Stack, e: Box<Expr<Span>>, at: Span) -> Stepped
-    ensures { IfOk result (λ next. option_map state_view next ≡ machine.literal_of (stack on) (join (exp_mark (exp_in e)) at) (machine.name_type (exp_in e))) }
+    ensures { IsNext result (machine.literal_of (stack on) (join (exp_mark (exp_in e)) at)
+        (machine.name_type (exp_in e))) }
 {
     let mark = Span {
         from: e.mark.from,
@@ -56,7 +60,8 @@ pub(crate) fn member(
     at: Span,
     piece: Piece<'_>,
 ) -> Stepped
-    ensures { IfOk result (λ next. option_map state_view next ≡ machine.member join (stack on) (exp_in e) at (piece_view piece.entry)) }
+    ensures { IsNext result (machine.member join (stack on) (exp_in e) at
+        (piece_view piece.entry)) }
 {
     match piece {
         Piece::Word(text) => have(on, field(alloc, e, at, text)),
@@ -67,7 +72,7 @@ pub(crate) fn member(
 
 /// A token behind `super`.
 pub(crate) fn behind_super(on: Stack, start: Span, piece: Piece<'_>) -> Stepped
-    ensures { IfOk result (λ next. option_map state_view next ≡ machine.behind_super (stack on) start (piece_view piece.entry)) }
+    ensures { IsNext result (machine.behind_super (stack on) start (piece_view piece.entry)) }
 {
     match piece {
         Piece::Dot => to(on, Mode::SuperDotted(start)),
@@ -76,7 +81,7 @@ pub(crate) fn behind_super(on: Stack, start: Span, piece: Piece<'_>) -> Stepped
 }
 
 fn super_field(alloc: Global, start: Span, at: Span, text: &str) -> Made<Box<Expr<Span>>>
-    ensures { IfOk result (λ made. exp_in made ≡ tree.super_field (join start at) (machine.marked at text.now)) }
+    ensures { IsMade result (tree.super_field (join start at) (machine.marked at text.now)) }
 {
     let mark = Span {
         from: start.from,
@@ -94,7 +99,8 @@ pub(crate) fn super_member(
     at: Span,
     piece: Piece<'_>,
 ) -> Stepped
-    ensures { IfOk result (λ next. option_map state_view next ≡ machine.super_member join (stack on) start at (piece_view piece.entry)) }
+    ensures { IsNext result (machine.super_member join (stack on) start at
+        (piece_view piece.entry)) }
 {
     match piece {
         Piece::Word(text) => have(on, super_field(alloc, start, at, text)),
@@ -102,8 +108,8 @@ pub(crate) fn super_member(
     }
 }
 
-fn named(alloc: Global, on: Stack, start: Span, at: Span, text: &str) -> Stepped
-    ensures { IfOk result (λ next. option_map state_view next ≡ Some (machine.new_named (stack on) start (tree.named at None (machine.marked at text.now)))) }
+fn class_name(alloc: Global, on: Stack, start: Span, at: Span, text: &str) -> Stepped
+    ensures { IsNext result (machine.behind_new (stack on) start at (pure.a_word text.now)) }
 {
     let name = word(alloc, at, text)?;
     let ty = TypeRef {
@@ -121,17 +127,17 @@ pub(crate) fn behind_new(
     at: Span,
     piece: Piece<'_>,
 ) -> Stepped
-    ensures { IfOk result (λ next. option_map state_view next ≡ machine.behind_new (stack on) start at (piece_view piece.entry)) }
+    ensures { IsNext result (machine.behind_new (stack on) start at (piece_view piece.entry)) }
 {
     match piece {
-        Piece::Word(text) => named(alloc, on, start, at, text),
+        Piece::Word(text) => class_name(alloc, on, start, at, text),
         _ => Ok(None),
     }
 }
 
 /// A dot behind a class's name.
 fn outer(on: Stack, start: Span, ty: TypeRef<Span>) -> Stepped
-    ensures { IfOk result (λ next. option_map state_view next ≡ machine.new_outer (stack on) start (type_of ty)) }
+    ensures { IsNext result (machine.new_outer (stack on) start (type_of ty)) }
 {
     match ty.kind {
         TypeKind::Named(None, name) => to(on, Mode::NewDotted(start, name)),
@@ -149,7 +155,8 @@ pub(crate) fn behind_new_name(
     ty: TypeRef<Span>,
     piece: Piece<'_>,
 ) -> Stepped
-    ensures { IfOk result (λ next. option_map state_view next ≡ machine.behind_new_name (stack on) start (type_of ty) (piece_view piece.entry)) }
+    ensures { IsNext result (machine.behind_new_name (stack on) start (type_of ty)
+        (piece_view piece.entry)) }
 {
     match piece {
         Piece::Dot => outer(on, start, ty),
@@ -161,15 +168,9 @@ pub(crate) fn behind_new_name(
     }
 }
 
-fn inner(
-    alloc: Global,
-    on: Stack,
-    start: Span,
-    outer: Ident<Span>,
-    at: Span,
-    text: &str,
-) -> Stepped
-    ensures { IfOk result (λ next. option_map state_view next ≡ Some (machine.new_named (stack on) start (tree.named (join outer.mark at) (Some (word_of outer)) (machine.marked at text.now)))) }
+fn inner(alloc: Global, on: Stack, start: Span, outer: Ident<Span>, at: Span, text: &str) -> Stepped
+    ensures { IsNext result (machine.new_inner join
+        (stack on) start (word_of outer) at (pure.a_word text.now)) }
 {
     let mark = Span {
         from: outer.mark.from,
@@ -192,7 +193,8 @@ pub(crate) fn new_inner(
     at: Span,
     piece: Piece<'_>,
 ) -> Stepped
-    ensures { IfOk result (λ next. option_map state_view next ≡ machine.new_inner join (stack on) start (word_of outer) at (piece_view piece.entry)) }
+    ensures { IsNext result (machine.new_inner join (stack on) start (word_of outer) at
+        (piece_view piece.entry)) }
 {
     match piece {
         Piece::Word(text) => inner(alloc, on, start, outer, at, text),

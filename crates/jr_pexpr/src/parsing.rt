@@ -8,11 +8,12 @@ ghost use Rattle.jr_pexpr.specs.Machine.{want};
 ghost use Rattle.jr_pexpr.specs.Marked.{span_whole};
 ghost use Rattle.jr_pexpr.specs.Walks.{rule_run};
 ghost use Rattle.jr_pexpr.specs.StateView.{state_view};
-ghost use Rattle.jr_pexpr.specs.Ended.{filled};
+ghost use Rattle.jr_pexpr.specs.ExpView.{filled};
 ghost use Rattle.jr_lex.specs.Depth.{AreWithin};
 ghost use Rattle.jr_grammar.specs.Expressions.{HasNoExpression, HasNoStatementExpression};
 ghost use Rattle.jr_pexpr.specs.Parsing.{IsFault, tokens_from, HasExpression, HasStatementExpression, IsExpressionFrom, IsNoExpressionFrom, IsStatementExpressionFrom, IsNoStatementExpressionFrom};
 ghost use Rattle.jr_pexpr.specs.Rules.{IsFrom, IsNoneFor};
+ghost use Rattle.jr_pexpr.specs.Answers.{IsFilled};
 
 use crate::faults::ParseFault;
 use crate::laws::marks_are_spans;
@@ -37,7 +38,8 @@ fn run(
 ) -> Made<Option<State>>
     requires lexed { Lexes text.now items.now }
     requires within { to ≤ length items.now }
-    ensures { IfOk result (λ state. option_map state_view state ≡ rule_run rule (want []) (placed_of text.now (slice_range items.now from to))) }
+    ensures { IfOk result (λ state. option_map state_view state
+        ≡ rule_run rule (want []) (placed_of text.now (slice_range items.now from to))) }
 {
     items_are_placed();
     let mut state = State::new(alloc);
@@ -53,8 +55,8 @@ fn run(
     Ok(Some(state))
 }
 
-/// The tree that the items from number `from` up to number `to` spell; `whole` is what has been read of them, if it is
-/// still at hand.
+/// The tree that the items from number `from` up to number `to` spell; `whole` is what has been
+/// read of them, if it is still at hand.
 fn tree(
     alloc: Global,
     text: &Text,
@@ -66,8 +68,11 @@ fn tree(
 ) -> Made<Option<Box<Expr<Span>>>>
     requires lexed { Lexes text.now items.now }
     requires within { to ≤ length items.now }
-    requires whole { IfSome whole (λ state. rule_run rule (want []) (placed_of text.now (slice_range items.now from to)) ≡ Some (state_view state)) }
-    ensures { IfOk result (λ made. filled made ≡ option_and_then span_whole (rule_run rule (want []) (placed_of text.now (slice_range items.now from to)))) }
+    requires whole { IfSome whole (λ state.
+        rule_run rule (want []) (placed_of text.now (slice_range items.now from to))
+        ≡ Some (state_view state)) }
+    ensures { IsFilled result (option_and_then span_whole (rule_run rule (want [])
+        (placed_of text.now (slice_range items.now from to)))) }
 {
     match whole {
         Some(state) => state.finish(alloc),
@@ -80,7 +85,8 @@ fn tree(
 
 /// The first byte of the item of this number, or the file's end.
 fn byte_at(items: &[Item], number: usize, end: u32) -> u32
-    ensures { result ≡ unwrap_or (option_map (λ (i : Item). i.span.from) (slice_get items.now number)) end }
+    ensures { result
+        ≡ unwrap_or (option_map (λ (i : Item). i.span.from) (slice_get items.now number)) end }
 {
     match items.get(number) {
         Some(item) => item.span.from,
@@ -88,7 +94,8 @@ fn byte_at(items: &[Item], number: usize, end: u32) -> u32
     }
 }
 
-/// The longest tree from item number `from` on, the number of the item behind it, and that of the item where reading stops.
+/// The longest tree from item number `from` on, the number of the item behind it, and that of the
+/// item where reading stops.
 fn read_from(
     alloc: Global,
     text: &Text,
@@ -98,7 +105,8 @@ fn read_from(
 ) -> Result<(Expr<Span>, u32, u32), ParseFault>
     requires lexed { Lexes text.now items.now }
     requires from { from ≤ length items.now }
-    ensures read { IfOk result (λ read. IsFrom rule text.now items.now from (expr_of read.0) read.1 read.2) }
+    ensures read { IfOk result (λ read.
+        IsFrom rule text.now items.now from (expr_of read.0) read.1 read.2) }
     ensures fault { IfErr result (IsFault (IsNoneFor rule text.now items.now from)) }
 {
     items_are_placed();
@@ -117,13 +125,14 @@ fn read_from(
     }
 }
 
-/// The longest expression (JLS 15) that begins at item number `from` of the text, the number of the item behind its last
-/// token, and the number of the item where reading stops: that of the first token from there on such that no expression
-/// begins with the tokens up to it and with it, or else the number of items.
+/// The longest expression (JLS 15) that begins at item number `from` of the text, the number of the
+/// item behind its last token, and the number of the item where reading stops: that of the first
+/// token from there on such that no expression begins with the tokens up to it and with it, or else
+/// the number of items.
 ///
-/// `from` is the number of any item, blanks and comments too, or the number of items. Each node's mark is the span from its
-/// first token to its last. `Syntax` exactly where no tokens from there on are an expression: `at` is the first byte of the
-/// item where reading stops, or the file's end.
+/// `from` is the number of any item, blanks and comments too, or the number of items. Each node's
+/// mark is the span from its first token to its last. `Syntax` exactly where no tokens from there
+/// on are an expression: `at` is the first byte of the item where reading stops, or the file's end.
 pub fn parse_expr(
     alloc: Global,
     text: &Text,
@@ -133,12 +142,16 @@ pub fn parse_expr(
     requires lexed { Lexes text.now items.now }
     requires within { AreWithin items.now }
     requires from { from ≤ length items.now }
-    ensures read { IfOk result (λ read. IsExpressionFrom text.now items.now from (expr_of read.0) read.1 read.2) }
+    ensures read { IfOk result (λ read.
+        IsExpressionFrom text.now items.now from (expr_of read.0) read.1 read.2) }
     ensures fault { IfErr result (IsFault (IsNoExpressionFrom text.now items.now from)) }
 
-    // Where the tokens begin with an expression one is read, and where they begin with none it is a fault, unless memory ran out.
-    ensures only_read { HasExpression (kinds (tokens_from text.now items.now from)) → IfErr result (λ fault. fault ≡ ParseFault.Memory) }
-    ensures only_fault { HasNoExpression (kinds (tokens_from text.now items.now from)) → IsErr result }
+    // Where the tokens begin with an expression one is read, and where they begin with none it is a
+    // fault, unless memory ran out.
+    ensures only_read { HasExpression (kinds (tokens_from text.now items.now from))
+        → IfErr result (λ fault. fault ≡ ParseFault.Memory) }
+    ensures only_fault { HasNoExpression (kinds (tokens_from text.now items.now from))
+        → IsErr result }
 {
     read_from(alloc, text, items, from, Rule::Expression)
 }
@@ -153,12 +166,16 @@ pub fn parse_sexpr(
     requires lexed { Lexes text.now items.now }
     requires within { AreWithin items.now }
     requires from { from ≤ length items.now }
-    ensures read { IfOk result (λ read. IsStatementExpressionFrom text.now items.now from (expr_of read.0) read.1 read.2) }
+    ensures read { IfOk result (λ read.
+        IsStatementExpressionFrom text.now items.now from (expr_of read.0) read.1 read.2) }
     ensures fault { IfErr result (IsFault (IsNoStatementExpressionFrom text.now items.now from)) }
 
-    // Where the tokens begin with a statement expression one is read, and where they begin with none it is a fault, unless memory ran out.
-    ensures only_read { HasStatementExpression (kinds (tokens_from text.now items.now from)) → IfErr result (λ fault. fault ≡ ParseFault.Memory) }
-    ensures only_fault { HasNoStatementExpression (kinds (tokens_from text.now items.now from)) → IsErr result }
+    // Where the tokens begin with a statement expression one is read, and where they begin with
+    // none it is a fault, unless memory ran out.
+    ensures only_read { HasStatementExpression (kinds (tokens_from text.now items.now from))
+        → IfErr result (λ fault. fault ≡ ParseFault.Memory) }
+    ensures only_fault { HasNoStatementExpression (kinds (tokens_from text.now items.now from))
+        → IsErr result }
 {
     read_from(alloc, text, items, from, Rule::StatementExpression)
 }

@@ -3,7 +3,8 @@ ghost use Rattle.std.specs.Prelude.{◌≡◌, IfOk, option_map};
 ghost use Rattle.std.specs.Option.{is_some};
 ghost use Rattle.jr_pexpr.specs.TokenView.{token_view};
 ghost use Rattle.jr_pexpr.specs.StateView.{state_view};
-ghost use Rattle.jr_pexpr.specs.Ended.{placed};
+ghost use Rattle.jr_pexpr.specs.ExpView.{placed};
+ghost use Rattle.jr_pexpr.specs.Answers.{IsNext};
 
 use crate::state::{State, Stepped};
 use crate::tokens::Token;
@@ -24,7 +25,8 @@ impl Rule {
 
     /// The state behind a token at `at`; `None` exactly where nothing that is read goes on with it.
     pub(crate) fn step(self, alloc: Global, state: State, at: Span, token: Token<'_>) -> Stepped
-        ensures { IfOk result (λ next. option_map state_view next ≡ rule_step self (state_view state) (placed at (token_view token.entry))) }
+        ensures { IsNext result (rule_step self (state_view state)
+            (placed at (token_view token.entry))) }
     {
         match self {
             Rule::Expression => state.step(alloc, at, token),

@@ -2,7 +2,9 @@
 ghost use Rattle.std.specs.Prelude.{◌≡◌, ◌≤◌, ◌∷◌, [], false, IfOk, MatchOption};
 ghost use Rattle.jr_pexpr.specs.Machine as machine;
 ghost use Rattle.jr_pexpr.specs.FrameView.{operand_view, bracket_view, frame_view};
-ghost use Rattle.jr_pexpr.specs.Stacks.{top_binds, IsEnded, has_bracket, is_nil, all_end, ends, is_form};
+ghost use Rattle.jr_pexpr.specs.Stacks.{top_binds, IsEnded, has_bracket, is_nil, ends, is_form};
+ghost use Rattle.std.specs.List.{count_by};
+ghost use Rattle.jr_pexpr.specs.Waiting.{waits};
 
 use crate::frames::{Bracket, Frame, Operand};
 use crate::made::Made;
@@ -12,11 +14,12 @@ use std::alloc::Global;
 #[derive(Drop)]
 pub(crate) struct Stack {
     frames: Vec<Frame>,
+    /// How many of them don't end with what is no target in them.
+    waiting: usize,
+    ghost counted: { waiting ≡ count_by waits frames.items },
 }
 
 impl Stack {
-    ghost use Rattle.std.specs.Prelude.{length, take};
-    ghost use Rattle.jr_pexpr.specs.FrameView.{frames_view};
     ghost use Rattle.jr_pexpr.specs.StackView.{stack};
 
     pub(crate) fn new(alloc: Global) -> Stack
@@ -24,20 +27,36 @@ impl Stack {
     {
         Stack {
             frames: Vec::new(alloc),
+            waiting: 0,
         }
     }
 
     pub(crate) fn push(&mut self, frame: Frame) -> Made<()>
         ensures { IfOk result (λ _. stack self.new ≡ frame_view frame ∷ stack self.old) }
     {
+        let waits = !frame.ends_when(false);
         self.frames.push(frame)?;
+        if waits {
+            self.waiting += 1;
+        }
         Ok(())
     }
 
     fn pop(&mut self) -> Option<Frame>
-        ensures { MatchOption result ((stack self.old ≡ []) × (stack self.new ≡ [])) (λ f. stack self.old ≡ frame_view f ∷ stack self.new) }
+        ensures { MatchOption result ((stack self.old ≡ []) × (stack self.new ≡ [])) (λ f.
+            stack self.old ≡ frame_view f ∷ stack self.new) }
     {
-        self.frames.pop()
+        match self.frames.pop() {
+            Some(frame) => {
+                if frame.ends_when(false) {
+                    Some(frame)
+                } else {
+                    self.waiting -= 1;
+                    Some(frame)
+                }
+            }
+            None => None,
+        }
     }
 
     /// How tightly the innermost binds; 0 where there is none.
@@ -53,7 +72,9 @@ impl Stack {
     /// Takes the innermost where it waits for an operand and binds at least so tightly.
     pub(crate) fn pop_operand(&mut self, level: u32) -> Option<Operand>
         requires { 1 ≤ level }
-        ensures { MatchOption result (IsEnded level (stack self.old) × (stack self.new ≡ stack self.old)) (λ o. (stack self.old ≡ operand_view o ∷ stack self.new) × (level ≤ machine.binds (operand_view o))) }
+        ensures { MatchOption result (IsEnded level (stack self.old) × (stack self.new
+            ≡ stack self.old)) (λ o. (stack self.old ≡ operand_view o ∷ stack self.new)
+            × (level ≤ machine.binds (operand_view o))) }
     {
         if self.binds() < level {
             return None;
@@ -67,7 +88,8 @@ impl Stack {
 
     /// Takes the innermost where it waits for its closing token.
     pub(crate) fn pop_bracket(&mut self) -> Option<Bracket>
-        ensures { MatchOption result (has_bracket (stack self.old) ≡ false) (λ b. stack self.old ≡ bracket_view b ∷ stack self.new) }
+        ensures { MatchOption result (has_bracket (stack self.old) ≡ false) (λ b.
+            stack self.old ≡ bracket_view b ∷ stack self.new) }
     {
         match self.pop() {
             Some(Frame::Bracket(bracket)) => Some(bracket),
@@ -113,7 +135,8 @@ impl Stack {
         self.frames.is_empty()
     }
 
-    /// Whether what ends here is a statement expression, where the expression itself is one or isn't.
+    /// Whether what ends here is a statement expression, where the expression itself is one or
+    /// isn't.
     pub(crate) fn is_form(&self, is_statement: bool) -> bool
         ensures { result ≡ is_form is_statement (stack self.now) }
     {
@@ -123,27 +146,18 @@ impl Stack {
         }
     }
 
-    /// Whether each of the outermost `count` ends with what is no target in it.
-    fn do_end(&self, count: usize) -> bool
-        requires { count ≤ length self.now.frames.items }
-        ensures { result ≡ all_end (frames_view (take count self.now.frames.items)) }
-    {
-        let mut left = count;
-        while left > 0 {
-            left -= 1;
-            if !self.frames[left].ends_when(false) {
-                return false;
-            }
-        }
-        true
-    }
-
     /// Whether an expression can end here, where what stands there is a target or not.
     pub(crate) fn ends(&self, is_target: bool) -> bool
         ensures { result ≡ ends is_target (stack self.now) }
     {
         match self.frames.last() {
-            Some(frame) => frame.ends_when(is_target) && self.do_end(self.frames.len() - 1),
+            Some(frame) => {
+                if frame.ends_when(false) {
+                    self.waiting == 0
+                } else {
+                    frame.ends_when(is_target) & (self.waiting == 1)
+                }
+            }
             None => true,
         }
     }

@@ -5,7 +5,8 @@ ghost use Rattle.jr_pexpr.specs.Machine as machine;
 ghost use Rattle.jr_pexpr.specs.FrameView.{frame_view};
 ghost use Rattle.jr_pexpr.specs.StackView.{stack};
 ghost use Rattle.jr_pexpr.specs.StateView.{mode_view, state_view};
-ghost use Rattle.jr_pexpr.specs.Ended.{exp_in};
+ghost use Rattle.jr_pexpr.specs.ExpView.{exp_in};
+ghost use Rattle.jr_pexpr.specs.Answers.{IsNext};
 
 use crate::frames::Frame;
 use crate::made::Made;
@@ -42,14 +43,14 @@ pub struct State {
 pub(crate) type Stepped = Made<Option<State>>;
 
 pub(crate) fn to(on: Stack, mode: Mode) -> Stepped
-    ensures { IfOk result (λ next. option_map state_view next ≡ Some (mode_view (stack on) mode)) }
+    ensures { IsNext result (Some (mode_view (stack on) mode)) }
 {
     Ok(Some(State { on, mode }))
 }
 
 /// An expression is to come for the frame.
 pub(crate) fn want(mut on: Stack, frame: Frame) -> Stepped
-    ensures { IfOk result (λ next. option_map state_view next ≡ Some (machine.want (frame_view frame ∷ stack on))) }
+    ensures { IsNext result (Some (machine.want (frame_view frame ∷ stack on))) }
 {
     on.push(frame)?;
     to(on, Mode::Want)
@@ -57,7 +58,8 @@ pub(crate) fn want(mut on: Stack, frame: Frame) -> Stepped
 
 /// The expression that was made stands there.
 pub(crate) fn have(on: Stack, made: Made<Box<Expr<Span>>>) -> Stepped
-    ensures { IfOk result (λ next. IsOkAnd made (λ e. option_map state_view next ≡ Some (machine.have (stack on) (exp_in e)))) }
+    ensures { IfOk result (λ next. IsOkAnd made (λ e.
+        option_map state_view next ≡ Some (machine.have (stack on) (exp_in e)))) }
 {
     to(on, Mode::Have(made?))
 }

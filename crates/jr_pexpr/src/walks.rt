@@ -51,9 +51,13 @@ pub(crate) fn walk(
 ) -> Made<Reach>
     requires lexed { Lexes text.now items.now }
     requires from { from ≤ length items.now }
-    ensures end { IfOk result (λ reach. reach.end ≡ walk_end rule text.now (want []) from None (drop from items.now)) }
-    ensures stop { IfOk result (λ reach. reach.stop ≡ walk_stop rule text.now (want []) from (drop from items.now)) }
-    ensures whole { IfOk result (λ reach. IfSome reach.whole (λ state. (state_view state ≡ walk_last rule text.now (want []) (drop from items.now)) × IsSome (rule_whole rule (state_view state)))) }
+    ensures end { IfOk result (λ reach. reach.end
+        ≡ walk_end rule text.now (want []) from None (drop from items.now)) }
+    ensures stop { IfOk result (λ reach.
+        reach.stop ≡ walk_stop rule text.now (want []) from (drop from items.now)) }
+    ensures whole { IfOk result (λ reach. IfSome reach.whole (λ state.
+        (state_view state ≡ walk_last rule text.now (want []) (drop from items.now))
+        × IsSome (rule_whole rule (state_view state)))) }
 {
     items_are_placed();
     let mut state = State::new(alloc);
@@ -84,7 +88,11 @@ pub(crate) fn walk(
             }
         }
     }
-    let whole = if rule.is_whole(&state) { Some(state) } else { None };
+    let whole = if rule.is_whole(&state) {
+        Some(state)
+    } else {
+        None
+    };
     Ok(Reach {
         end,
         stop: items.len(),

@@ -8,7 +8,7 @@ use Rattle.jr_grammar.specs.Tokens.{placed_of}
 use Rattle.jr_pexpr.specs.declared.state.State.{State}
 use Rattle.jr_pexpr.specs.Machine.{want}
 use Rattle.jr_pexpr.specs.Marked.{span_whole}
-use Rattle.jr_pexpr.specs.Ended.{filled, exp_in}
+use Rattle.jr_pexpr.specs.ExpView.{filled, exp_in}
 use Rattle.jr_pexpr.specs.StateView.{state_view}
 use Rattle.jr_pexpr.specs.Rules.{IsFrom}
 use Rattle.jr_pexpr.specs.Walks.{rule_run, walk_end}

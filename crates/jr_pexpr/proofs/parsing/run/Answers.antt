@@ -26,12 +26,12 @@ loop-i-preserved c =
     let items = c.args.items.now in
     let i = c.loop-i.i in
     let left : rule_run r (state_view c.match-token_at.state) (placed_of bytes (slice_range items (i + 1) c.args.to)) ≡ rule_run r (state_view c.loop-i.state) (placed_of bytes (slice_range items i c.args.to)) =
-        elim c.match-token_at.branch [
-          | in-Some+in_ok-next+in-Some-2 w ↦
+    elim c.match-token_at.branch [
+      | in-Some+in_ok-next+in-Some-2 w ↦
           run_token r bytes items i c.args.to (state_view c.loop-i.state) (token_view w.in-Some.token) (state_view c.match-token_at.state) c.loop-i-test.true c.requires.within (sym w.in-Some.ensures)
-              (sym w.in_ok-next.ensures ∙ ap (option_map state_view) (w.in-Some-2.is ∙ ap (λ s. Some s) (sym w.state-is)))
-          | in_default w ↦
+          (sym w.in_ok-next.ensures ∙ ap (option_map state_view) (w.in-Some-2.is ∙ ap (λ s. Some s) (sym w.state-is)))
+      | in_default w ↦
           ap (λ s. rule_run r (state_view s) (placed_of bytes (slice_range items (i + 1) c.args.to))) w.state-is
-              ∙ run_blank r bytes items i c.args.to (state_view c.loop-i.state) c.loop-i-test.true c.requires.within (sym c.token_at.ensures ∙ ap (option_map token_view) w.in_default.is)
-        ] in
+          ∙ run_blank r bytes items i c.args.to (state_view c.loop-i.state) c.loop-i-test.true c.requires.within (sym c.token_at.ensures ∙ ap (option_map token_view) w.in_default.is)
+    ] in
     left ∙ c.loop-i.invariant

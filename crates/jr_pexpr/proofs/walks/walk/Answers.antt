@@ -45,15 +45,15 @@ goes_on c =
     let i = c.loop-i.i in
     elim c.match-token_at.branch [
       | in-Some+else-is_end+in_ok-next+in-Some-2+then-is_whole-2 w ↦
-      by_token r bytes items i (state_view c.loop-i.state) c.loop-i.end (token_view w.in-Some.token) (state_view c.match-token_at.state) c.match-token_at.end c.loop-i-test.true (sym w.in-Some.ensures)
+          by_token r bytes items i (state_view c.loop-i.state) c.loop-i.end (token_view w.in-Some.token) (state_view c.match-token_at.state) c.match-token_at.end c.loop-i-test.true (sym w.in-Some.ensures)
           (sym w.in_ok-next.ensures ∙ ap (option_map state_view) (w.in-Some-2.is ∙ ap (λ s. Some s) (sym w.state-is)))
           (w.end-is ∙ sym (end_by r bytes (state_view c.match-token_at.state) (i + 1) c.loop-i.end true (ap (λ s. is_some (rule_whole r (state_view s))) w.state-is ∙ sym w.is_whole-in-Some.ensures ∙ w.if-is_whole-2.true)))
       | in-Some+else-is_end+in_ok-next+in-Some-2+else-is_whole-2 w ↦
-      by_token r bytes items i (state_view c.loop-i.state) c.loop-i.end (token_view w.in-Some.token) (state_view c.match-token_at.state) c.match-token_at.end c.loop-i-test.true (sym w.in-Some.ensures)
+          by_token r bytes items i (state_view c.loop-i.state) c.loop-i.end (token_view w.in-Some.token) (state_view c.match-token_at.state) c.match-token_at.end c.loop-i-test.true (sym w.in-Some.ensures)
           (sym w.in_ok-next.ensures ∙ ap (option_map state_view) (w.in-Some-2.is ∙ ap (λ s. Some s) (sym w.state-is)))
           (w.end-is ∙ sym (end_by r bytes (state_view c.match-token_at.state) (i + 1) c.loop-i.end false (ap (λ s. is_some (rule_whole r (state_view s))) w.state-is ∙ sym w.is_whole-in-Some.ensures ∙ w.if-is_whole-2.false)))
       | in_default w ↦
-      subst (λ s. GoesOn r bytes items i (state_view c.loop-i.state) c.loop-i.end (state_view s) c.match-token_at.end) (sym w.state-is)
+          subst (λ s. GoesOn r bytes items i (state_view c.loop-i.state) c.loop-i.end (state_view s) c.match-token_at.end) (sym w.state-is)
           (subst (λ m. GoesOn r bytes items i (state_view c.loop-i.state) c.loop-i.end (state_view c.loop-i.state) m) (sym w.end-is)
           (by_blank r bytes items i (state_view c.loop-i.state) c.loop-i.end c.loop-i-test.true (sym c.token_at.ensures ∙ ap (option_map token_view) w.in_default.is)))
     ]

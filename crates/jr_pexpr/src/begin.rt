@@ -2,18 +2,21 @@
 ghost use Rattle.std.specs.Prelude.{◌≡◌, ◌∷◌, IfOk, option_map};
 ghost use Rattle.jr_ast.specs.View.{word_of};
 ghost use Rattle.jr_ast.specs.Tree as tree;
+ghost use Rattle.jr_grammar.specs.Shape.{sign_level};
 ghost use Rattle.jr_pexpr.specs.Marked.{join};
 ghost use Rattle.jr_pexpr.specs.Machine as machine;
 ghost use Rattle.jr_pexpr.specs.PieceView.{way_view, atom_view, piece_view};
 ghost use Rattle.jr_pexpr.specs.FrameView.{frame_view};
 ghost use Rattle.jr_pexpr.specs.StackView.{stack};
 ghost use Rattle.jr_pexpr.specs.StateView.{state_view};
-ghost use Rattle.jr_pexpr.specs.Ended.{exp_in};
+ghost use Rattle.jr_pexpr.specs.ExpView.{exp_in};
+ghost use Rattle.jr_pexpr.specs.Answers.{IsMade, IsNext};
 
-use crate::ended::applied;
 use crate::frames::{Bracket, Frame, Operand};
 use crate::made::{Made, in_box};
 use crate::pieces::{Atom, Piece, Way};
+use crate::ranks::{SIGN_LEVEL, UNSIGNED_LEVEL};
+use crate::reduce::apply;
 use crate::stack::Stack;
 use crate::state::{Mode, Stepped, have, to, want};
 use jr_ast::{BinOp, Expr, Ident, Name, UnOp};
@@ -22,7 +25,8 @@ use std::alloc::Global;
 
 const GREATEST_INT: u32 = 2_147_483_647;
 
-/// The greatest literal, which stands only behind a unary minus, is one more than the greatest `int` (JLS 3.10.1).
+/// The greatest literal, which stands only behind a unary minus, is one more than the greatest
+/// `int` (JLS 3.10.1).
 const GREATEST_LITERAL: u32 = 2_147_483_648;
 
 /// A word at a place.
@@ -34,21 +38,21 @@ pub(crate) fn word(alloc: Global, at: Span, text: &str) -> Made<Ident<Span>>
 }
 
 fn simple(alloc: Global, at: Span, text: &str) -> Made<Box<Expr<Span>>>
-    ensures { IfOk result (λ made. exp_in made ≡ tree.name at (machine.marked at text.now)) }
+    ensures { IsMade result (tree.name at (machine.marked at text.now)) }
 {
     let name = word(alloc, at, text)?;
     in_box(alloc, Expr::simple(at, name))
 }
 
 fn string(alloc: Global, at: Span, text: &str) -> Made<Box<Expr<Span>>>
-    ensures { IfOk result (λ made. exp_in made ≡ tree.string at text.now) }
+    ensures { IsMade result (tree.string at text.now) }
 {
     let text = Name::new(alloc, text)?;
     in_box(alloc, Expr::string(at, text))
 }
 
 fn atom_exp(alloc: Global, at: Span, atom: Atom<'_>) -> Made<Box<Expr<Span>>>
-    ensures { IfOk result (λ made. exp_in made ≡ machine.atom_exp at (atom_view atom.entry)) }
+    ensures { IsMade result (machine.atom_exp at (atom_view atom.entry)) }
 {
     match atom {
         Atom::Number(value) => in_box(alloc, Expr::number(at, value)),
@@ -65,7 +69,11 @@ fn atom_fits(minus: bool, atom: Atom<'_>) -> bool
 {
     match atom {
         Atom::Number(value) => {
-            let greatest = if minus { GREATEST_LITERAL } else { GREATEST_INT };
+            let greatest = if minus {
+                GREATEST_LITERAL
+            } else {
+                GREATEST_INT
+            };
             value <= greatest
         }
         Atom::Truth(_) => true,
@@ -77,7 +85,8 @@ fn atom_fits(minus: bool, atom: Atom<'_>) -> bool
 
 #[tactic(auto, unfolding(crate::specs::Machine::begun))]
 fn atom(alloc: Global, on: Stack, at: Span, atom: Atom<'_>) -> Stepped
-    ensures { IfOk result (λ next. option_map state_view next ≡ machine.begun join (stack on) at (piece_view (Piece.Atom atom.entry))) }
+    ensures { IsNext result (machine.begun join (stack on) at
+        (piece_view (Piece.Atom atom.entry))) }
 {
     if !atom_fits(on.is_behind_minus(), atom) {
         return Ok(None);
@@ -87,7 +96,8 @@ fn atom(alloc: Global, on: Stack, at: Span, atom: Atom<'_>) -> Stepped
 
 /// The frame, where what is to come may have so low a level.
 pub(crate) fn at_most(level: u32, on: Stack, frame: Frame) -> Stepped
-    ensures { IfOk result (λ next. option_map state_view next ≡ machine.at_most level (stack on) (machine.want (frame_view frame ∷ stack on))) }
+    ensures { IsNext result (machine.at_most level (stack on)
+        (machine.want (frame_view frame ∷ stack on))) }
 {
     if level < on.needed() {
         return Ok(None);
@@ -96,43 +106,45 @@ pub(crate) fn at_most(level: u32, on: Stack, frame: Frame) -> Stepped
 }
 
 fn unary(on: Stack, at: Span, op: UnOp, level: u32) -> Stepped
-    ensures { IfOk result (λ next. option_map state_view next ≡ machine.at_most level (stack on) (machine.want (machine.in_unary at op ∷ stack on))) }
+    ensures { IsNext result (machine.at_most level (stack on) (machine.want
+        (machine.in_unary at op ∷ stack on))) }
 {
     at_most(level, on, Frame::Operand(Operand::Unary(at, op)))
 }
 
-fn signed(on: Stack, at: Span, op: BinOp) -> Stepped
-    ensures { IfOk result (λ next. option_map state_view next ≡ machine.signed (stack on) at op) }
+fn sign(on: Stack, at: Span, op: BinOp) -> Stepped
+    ensures { IsNext result (machine.signed (stack on) at op) }
 {
     match op {
-        BinOp::Add => unary(on, at, UnOp::Plus, 8),
-        BinOp::Sub => unary(on, at, UnOp::Minus, 8),
+        BinOp::Add => unary(on, at, UnOp::Plus, SIGN_LEVEL),
+        BinOp::Sub => unary(on, at, UnOp::Minus, SIGN_LEVEL),
         _ => Ok(None),
     }
 }
 
 fn bump(on: Stack, at: Span, way: Way) -> Stepped
-    ensures { IfOk result (λ next. option_map state_view next ≡ machine.at_most 8 (stack on) (machine.want (machine.in_bump at (way_view way) ∷ stack on))) }
+    ensures { IsNext result (machine.at_most sign_level (stack on) (machine.want
+        (machine.in_bump at (way_view way) ∷ stack on))) }
 {
-    at_most(8, on, Frame::Operand(Operand::Bump(at, way)))
+    at_most(SIGN_LEVEL, on, Frame::Operand(Operand::Bump(at, way)))
 }
 
 fn paren(on: Stack, at: Span) -> Stepped
-    ensures { IfOk result (λ next. option_map state_view next ≡ Some (machine.want (machine.in_paren at ∷ stack on))) }
+    ensures { IsNext result (Some (machine.want (machine.in_paren at ∷ stack on))) }
 {
     want(on, Frame::Bracket(Bracket::Paren(at)))
 }
 
 /// A call, or `new`, with no arguments.
-fn emptied(alloc: Global, mut on: Stack, at: Span) -> Stepped
-    ensures { IfOk result (λ next. option_map state_view next ≡ machine.emptied join at (stack on)) }
+fn empty_args(alloc: Global, mut on: Stack, at: Span) -> Stepped
+    ensures { IsNext result (machine.emptied join at (stack on)) }
 {
     match on.pop_bracket() {
         Some(Bracket::Args(head, args)) => {
             if !args.is_empty() {
                 return Ok(None);
             }
-            have(on, applied(alloc, head, args, at))
+            have(on, apply(alloc, head, args, at))
         }
         Some(Bracket::Paren(_)) => Ok(None),
         None => Ok(None),
@@ -141,8 +153,8 @@ fn emptied(alloc: Global, mut on: Stack, at: Span) -> Stepped
 
 /// A token that begins an expression, or ends an empty list of arguments.
 #[tactic(auto, unfolding(crate::specs::Machine::begun))]
-pub(crate) fn begun(alloc: Global, on: Stack, at: Span, piece: Piece<'_>) -> Stepped
-    ensures { IfOk result (λ next. option_map state_view next ≡ machine.begun join (stack on) at (piece_view piece.entry)) }
+pub(crate) fn begin(alloc: Global, on: Stack, at: Span, piece: Piece<'_>) -> Stepped
+    ensures { IsNext result (machine.begun join (stack on) at (piece_view piece.entry)) }
 {
     match piece {
         Piece::Word(text) => have(on, simple(alloc, at, text)),
@@ -150,10 +162,10 @@ pub(crate) fn begun(alloc: Global, on: Stack, at: Span, piece: Piece<'_>) -> Ste
         Piece::Super => to(on, Mode::AtSuper(at)),
         Piece::New => to(on, Mode::AtNew(at)),
         Piece::Open => paren(on, at),
-        Piece::Close => emptied(alloc, on, at),
-        Piece::Bang => unary(on, at, UnOp::Not, 9),
+        Piece::Close => empty_args(alloc, on, at),
+        Piece::Bang => unary(on, at, UnOp::Not, UNSIGNED_LEVEL),
         Piece::Bump(way) => bump(on, at, way),
-        Piece::Operator(op) => signed(on, at, op),
+        Piece::Operator(op) => sign(on, at, op),
         _ => Ok(None),
     }
 }

@@ -7,14 +7,16 @@ ghost use Rattle.jr_pexpr.specs.Machine as machine;
 ghost use Rattle.jr_pexpr.specs.Marked.{join, span_step, span_whole, span_statement_step, span_statement_whole};
 ghost use Rattle.jr_pexpr.specs.StackView.{stack};
 ghost use Rattle.jr_pexpr.specs.StateView.{state_view};
-ghost use Rattle.jr_pexpr.specs.Ended.{exp_in, filled, placed};
+ghost use Rattle.jr_pexpr.specs.ExpView.{exp_in, filled, placed};
+ghost use Rattle.jr_pexpr.specs.Answers.{IsFilled, IsNext};
 
-use crate::begun::begun;
-use crate::ended::{Filled, reduced};
-use crate::extended::extended;
+use crate::begin::begin;
+use crate::extend::extend;
 use crate::kinds::{is_statement, is_target};
 use crate::members::{behind_new, behind_new_name, behind_super, member, new_inner, super_member};
 use crate::pieces::{Piece, piece_of};
+use crate::ranks::ASSIGNMENT_LEVEL;
+use crate::reduce::{Filled, reduce};
 use crate::stack::Stack;
 use crate::state::{Mode, State, Stepped};
 use crate::tokens::Token;
@@ -22,13 +24,13 @@ use jr_ast::Expr;
 use jr_text::Span;
 use std::alloc::{AllocError, Global};
 
-fn stepped(alloc: Global, state: State, at: Span, piece: Piece<'_>) -> Stepped
-    ensures { IfOk result (λ next. option_map state_view next ≡ machine.stepped join (state_view state) at (piece_view piece.entry)) }
+fn step_piece(alloc: Global, state: State, at: Span, piece: Piece<'_>) -> Stepped
+    ensures { IsNext result (machine.stepped join (state_view state) at (piece_view piece.entry)) }
 {
     let State { on, mode } = state;
     match mode {
-        Mode::Want => begun(alloc, on, at, piece),
-        Mode::Have(e) => extended(alloc, on, e, at, piece),
+        Mode::Want => begin(alloc, on, at, piece),
+        Mode::Have(e) => extend(alloc, on, e, at, piece),
         Mode::Dotted(e) => member(alloc, on, e, at, piece),
         Mode::AtSuper(start) => behind_super(on, start, piece),
         Mode::SuperDotted(start) => super_member(alloc, on, start, at, piece),
@@ -39,23 +41,17 @@ fn stepped(alloc: Global, state: State, at: Span, piece: Piece<'_>) -> Stepped
 }
 
 /// The expression that comes of all that has been begun; `None` where a bracket is open.
-fn finished(alloc: Global, on: Stack, e: Box<Expr<Span>>) -> Filled
-    ensures { IfOk result (λ made. filled made ≡ machine.whole_of (machine.reduced join 1 (stack on) (exp_in e))) }
+fn finish_on(alloc: Global, on: Stack, e: Box<Expr<Span>>) -> Filled
+    ensures { IsFilled result (machine.whole_of (machine.reduced join 1 (stack on) (exp_in e))) }
 {
-    match reduced(alloc, on, e, 1)? {
-        Some((on, e)) => {
-            if on.is_empty() {
-                Ok(Some(e))
-            } else {
-                Ok(None)
-            }
-        }
+    match reduce(alloc, on, e, ASSIGNMENT_LEVEL)? {
+        Some((on, e)) => { if on.is_empty() { Ok(Some(e)) } else { Ok(None) } }
         None => Ok(None),
     }
 }
 
 /// The state where a statement expression can still come of it.
-fn kept_open(next: State) -> Option<State>
+fn keep_open(next: State) -> Option<State>
     ensures { option_map state_view result ≡ machine.kept_open (Some (state_view next)) }
 {
     if next.on.is_open() { Some(next) } else { None }
@@ -79,22 +75,24 @@ impl State {
         at: Span,
         token: Token<'_>,
     ) -> Result<Option<State>, AllocError>
-        ensures { IfOk result (λ next. option_map state_view next ≡ span_step (state_view self) (placed at (token_view token.entry))) }
+        ensures { IsNext result (span_step (state_view self) (placed at (token_view token.entry))) }
     {
-        stepped(alloc, self, at, piece_of(token))
+        step_piece(alloc, self, at, piece_of(token))
     }
 
-    /// The state behind a token at `at`; `None` exactly where no statement expression goes on with it (JLS 14.8).
+    /// The state behind a token at `at`; `None` exactly where no statement expression goes on with
+    /// it (JLS 14.8).
     pub fn statement_step(
         self,
         alloc: Global,
         at: Span,
         token: Token<'_>,
     ) -> Result<Option<State>, AllocError>
-        ensures { IfOk result (λ next. option_map state_view next ≡ span_statement_step (state_view self) (placed at (token_view token.entry))) }
+        ensures { IsNext result (span_statement_step (state_view self)
+            (placed at (token_view token.entry))) }
     {
         match self.step(alloc, at, token)? {
-            Some(next) => Ok(kept_open(next)),
+            Some(next) => Ok(keep_open(next)),
             None => Ok(None),
         }
     }
@@ -121,11 +119,11 @@ impl State {
 
     /// The expression that has been read; `None` where it isn't whole.
     pub fn finish(self, alloc: Global) -> Result<Option<Box<Expr<Span>>>, AllocError>
-        ensures { IfOk result (λ made. filled made ≡ span_whole (state_view self)) }
+        ensures { IsFilled result (span_whole (state_view self)) }
     {
         let State { on, mode } = self;
         match mode {
-            Mode::Have(e) => finished(alloc, on, e),
+            Mode::Have(e) => finish_on(alloc, on, e),
             _ => Ok(None),
         }
     }

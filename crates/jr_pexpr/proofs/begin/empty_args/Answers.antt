@@ -5,7 +5,7 @@ use Rattle.jr_pexpr.specs.Marked.{join}
 use Rattle.jr_pexpr.specs.FrameView.{head_view}
 use Rattle.jr_pexpr.specs.StackView.{stack}
 use Rattle.jr_pexpr.proofs.Rows.{not_emptied}
-use Rattle.jr_pexpr.proofs.begun.emptied.Goals as goal
+use Rattle.jr_pexpr.proofs.begin.empty_args.Goals as goal
 
 pub returns-then-not-is_empty : goal.returns-then-not-is_empty
 returns-then-not-is_empty c =

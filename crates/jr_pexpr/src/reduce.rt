@@ -8,7 +8,8 @@ ghost use Rattle.jr_pexpr.specs.Machine as machine;
 ghost use Rattle.jr_pexpr.specs.PieceView.{way_view};
 ghost use Rattle.jr_pexpr.specs.FrameView.{operand_view, head_view};
 ghost use Rattle.jr_pexpr.specs.StackView.{stack};
-ghost use Rattle.jr_pexpr.specs.Ended.{filled, exp_in, plugged, standing};
+ghost use Rattle.jr_pexpr.specs.ExpView.{filled, exp_in, plugged, standing};
+ghost use Rattle.jr_pexpr.specs.Answers.{IsFilled, IsMade};
 
 use crate::frames::{Head, Operand};
 use crate::kinds::is_target;
@@ -24,14 +25,14 @@ pub(crate) type Filled = Made<Option<Box<Expr<Span>>>>;
 
 /// The expression in a box.
 fn fill(alloc: Global, expr: Expr<Span>) -> Filled
-    ensures { IfOk result (λ made. filled made ≡ Some (expr_of expr)) }
+    ensures { IsFilled result (Some (expr_of expr)) }
 {
     Ok(Some(in_box(alloc, expr)?))
 }
 
 #[tactic(auto, using(crate::proofs::OwnMarks::mark_is))]
 fn unary(alloc: Global, at: Span, op: UnOp, operand: Box<Expr<Span>>) -> Filled
-    ensures { IfOk result (λ made. filled made ≡ Some (tree.unary (join at (exp_mark (exp_in operand))) op (exp_in operand))) }
+    ensures { IsFilled result (plugged (machine.in_unary at op) (exp_in operand)) }
 {
     let mark = Span {
         from: at.from,
@@ -52,7 +53,7 @@ fn bump_op(way: Way) -> BumpOp
 
 #[tactic(auto, using(crate::proofs::OwnMarks::mark_is))]
 fn bump(alloc: Global, at: Span, way: Way, operand: Box<Expr<Span>>) -> Filled
-    ensures { IfOk result (λ made. filled made ≡ plugged (machine.in_bump at (way_view way)) (exp_in operand)) }
+    ensures { IsFilled result (plugged (machine.in_bump at (way_view way)) (exp_in operand)) }
 {
     if !is_target(&operand) {
         return Ok(None);
@@ -66,7 +67,7 @@ fn bump(alloc: Global, at: Span, way: Way, operand: Box<Expr<Span>>) -> Filled
 
 #[tactic(auto, using(crate::proofs::OwnMarks::mark_is))]
 fn binary(alloc: Global, op: BinOp, left: Box<Expr<Span>>, right: Box<Expr<Span>>) -> Filled
-    ensures { IfOk result (λ made. filled made ≡ Some (tree.binary (join (exp_mark (exp_in left)) (exp_mark (exp_in right))) op (exp_in left) (exp_in right))) }
+    ensures { IsFilled result (plugged (machine.in_binary op (exp_in left)) (exp_in right)) }
 {
     let mark = Span {
         from: left.mark.from,
@@ -77,7 +78,7 @@ fn binary(alloc: Global, op: BinOp, left: Box<Expr<Span>>, right: Box<Expr<Span>
 
 #[tactic(auto, using(crate::proofs::OwnMarks::mark_is))]
 fn assign(alloc: Global, to: Box<Expr<Span>>, value: Box<Expr<Span>>) -> Filled
-    ensures { IfOk result (λ made. filled made ≡ Some (tree.assign (join (exp_mark (exp_in to)) (exp_mark (exp_in value))) (exp_in to) (exp_in value))) }
+    ensures { IsFilled result (plugged (machine.in_assign (exp_in to)) (exp_in value)) }
 {
     let mark = Span {
         from: to.mark.from,
@@ -88,7 +89,7 @@ fn assign(alloc: Global, to: Box<Expr<Span>>, value: Box<Expr<Span>>) -> Filled
 
 #[tactic(auto, using(crate::proofs::OwnMarks::mark_is))]
 fn compound(alloc: Global, op: BinOp, to: Box<Expr<Span>>, value: Box<Expr<Span>>) -> Filled
-    ensures { IfOk result (λ made. filled made ≡ Some (tree.compound (join (exp_mark (exp_in to)) (exp_mark (exp_in value))) op (exp_in to) (exp_in value))) }
+    ensures { IsFilled result (plugged (machine.in_compound op (exp_in to)) (exp_in value)) }
 {
     let mark = Span {
         from: to.mark.from,
@@ -99,7 +100,7 @@ fn compound(alloc: Global, op: BinOp, to: Box<Expr<Span>>, value: Box<Expr<Span>
 
 #[tactic(auto, using(crate::proofs::OwnMarks::mark_is))]
 fn cast(alloc: Global, at: Span, ty: TypeRef<Span>, operand: Box<Expr<Span>>) -> Filled
-    ensures { IfOk result (λ made. filled made ≡ Some (tree.cast (join at (exp_mark (exp_in operand))) (type_of ty) (exp_in operand))) }
+    ensures { IsFilled result (plugged (machine.in_cast at (type_of ty)) (exp_in operand)) }
 {
     let mark = Span {
         from: at.from,
@@ -110,7 +111,7 @@ fn cast(alloc: Global, at: Span, ty: TypeRef<Span>, operand: Box<Expr<Span>>) ->
 
 /// The operand with `e` in its place, where it fits.
 fn plug(alloc: Global, operand: Operand, e: Box<Expr<Span>>) -> Filled
-    ensures { IfOk result (λ made. filled made ≡ plugged (operand_view operand) (exp_in e)) }
+    ensures { IsFilled result (plugged (operand_view operand) (exp_in e)) }
 {
     match operand {
         Operand::Unary(at, op) => unary(alloc, at, op, e),
@@ -123,14 +124,15 @@ fn plug(alloc: Global, operand: Operand, e: Box<Expr<Span>>) -> Filled
 }
 
 /// Ends what binds at least so tightly; `None` where what stands in it doesn't fit.
-pub(crate) fn reduced(
+pub(crate) fn reduce(
     alloc: Global,
     mut on: Stack,
     mut e: Box<Expr<Span>>,
     level: u32,
 ) -> Made<Option<(Stack, Box<Expr<Span>>)>>
     requires { 1 ≤ level }
-    ensures { IfOk result (λ made. option_map standing made ≡ machine.reduced join level (stack on) (exp_in e)) }
+    ensures { IfOk result (λ made. option_map standing made
+        ≡ machine.reduced join level (stack on) (exp_in e)) }
 {
     while let Some(operand) = on.pop_operand(level) {
         match plug(alloc, operand, e)? {
@@ -142,13 +144,13 @@ pub(crate) fn reduced(
 }
 
 /// The call, or `new`, with its arguments; `at` is its closing parenthesis.
-pub(crate) fn applied(
+pub(crate) fn apply(
     alloc: Global,
     head: Head,
     args: Vec<Expr<Span>>,
     at: Span,
 ) -> Made<Box<Expr<Span>>>
-    ensures { IfOk result (λ made. exp_in made ≡ machine.applied join at (head_view head) (exprs_of args.items)) }
+    ensures { IsMade result (machine.applied join at (head_view head) (exprs_of args.items)) }
 {
     match head {
         Head::Call(start, target, name) => {
