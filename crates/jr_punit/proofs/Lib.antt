@@ -33,3 +33,4 @@ pub mod ClassStands
 pub mod MemberStands
 pub mod UnitStands
 pub mod ReadsMarked
+pub mod OneReading

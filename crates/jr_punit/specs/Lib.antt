@@ -13,3 +13,4 @@ pub mod Exact
 pub mod StopPlaces
 pub mod Marked
 pub mod MarkedAlike
+pub mod OneReading

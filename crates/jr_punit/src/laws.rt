@@ -1,9 +1,11 @@
 ghost use Rattle.jr_grammar.specs.Units.{OneList, OneMember, OneUnit};
 ghost use Rattle.jr_punit.specs.MarkedAlike.{ReadsAlike, ReadsMarked};
+ghost use Rattle.jr_punit.specs.OneReading.{OneReading, OneMarkedTree};
 ghost use Rattle.jr_punit.specs.StopPlaces.{StopsHavePlaces, StopsHaveOnePlace};
 ghost use Rattle.jr_punit.specs.Exact.{ListIsRead, ListStopIsExact, MemberIsRead, MemberLengthIsLongest, MemberStopIsExact, UnitIsRead, UnitStopIsExact};
 
-use jr_grammar::{member_ignores_marks, statement_ignores_marks, unit_ignores_marks};
+use jr_grammar::{marks_are_one, member_ignores_marks, statement_ignores_marks, unit_ignores_marks};
+use jr_lex::one_answer;
 use jr_text::Span;
 
 /// No two lists of statements spell the same tokens (JLS 14.2).
@@ -72,6 +74,27 @@ pub fn marked_reads_alike()
 pub fn marks_are_spans()
     ensures { ReadsMarked }
 {
+    statement_ignores_marks::<Span, ()>();
+    member_ignores_marks::<Span, ()>();
+    unit_ignores_marks::<Span, ()>();
+}
+
+/// No text reads as two units, as two members of a class or as two statements, but for their marks.
+pub fn one_reading<A>()
+    ensures { OneReading A }
+{
+    one_answer();
+    statement_ignores_marks::<A, ()>();
+    member_ignores_marks::<A, ()>();
+    unit_ignores_marks::<A, ()>();
+}
+
+/// Tokens with places are one unit at most with its spans, one member of a class, one list of statements and one
+/// statement: the marks are one too.
+pub fn one_marked_tree()
+    ensures { OneMarkedTree }
+{
+    marks_are_one();
     statement_ignores_marks::<Span, ()>();
     member_ignores_marks::<Span, ()>();
     unit_ignores_marks::<Span, ()>();
