@@ -265,7 +265,7 @@ module _ (S S' : Type 0) (f : S → S') (fresh : S) (fresh' : S') (is_fresh : S 
   closed-bare h all s at q =
       go (is_fresh s)
       ∙ ap (λ (o : Option (C.State Bare S')). cond (is_fresh s) o None)
-          (map-close_brace (bare_class_state f) q (C.done (C.class_of join h at all)) ∙ ap (λ (c : Class Bare). at_close_brace q (C.done c)) (class_of-bare h at all))
+      (map-close_brace (bare_class_state f) q (C.done (C.class_of join h at all)) ∙ ap (λ (c : Class Bare). at_close_brace q (C.done c)) (class_of-bare h at all))
       ∙ ap (λ (b : Bool). cond b (at_close_brace q (C.done (C.class_of no_join (bare_class_head h) tt (map_members no_mark all)))) None) (sym (begins_alike s))
     where
       go : (b : Bool) → some_class (cond b (at_close_brace q (C.done (C.class_of join h at all))) None) ≡ cond b (some_class (at_close_brace q (C.done (C.class_of join h at all)))) None

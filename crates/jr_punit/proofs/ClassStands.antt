@@ -91,8 +91,8 @@ module _ (S : Type 0) (fresh : S) (is_fresh : S → Bool) (step : List ℕ → S
   behind_parent_stands l w (T.have ty) i q ps t h =
       open_brace_both q (C.opened Span S join fresh is_fresh step member_whole l w (Some ty)) (Next ps i)
       (λ c. opened_stands l w (Some ty) (ps ++ (i ∷ []))
-        (opens (extends_layout (Some ty) then token (symbol OpenBrace) then nothing)
-          (grow (i ∷ []) h (λ b k. behind b (i ∷ []) (mapped k (λ x m. stand_last (type_layout ty) x m.stands)) (stand_one (symbol OpenBrace) i c)))))
+      (opens (extends_layout (Some ty) then token (symbol OpenBrace) then nothing)
+      (grow (i ∷ []) h (λ b k. behind b (i ∷ []) (mapped k (λ x m. stand_last (type_layout ty) x m.stands)) (stand_one (symbol OpenBrace) i c)))))
       (λ k c. tt) t
   behind_parent_stands l w (T.want b) i q ps t h = tt
   behind_parent_stands l w (T.dotted o) i q ps t h = tt
@@ -121,18 +121,18 @@ module _ (S : Type 0) (fresh : S) (is_fresh : S → Bool) (step : List ℕ → S
       go None w = grow (i ∷ []) k (λ b g. grow (i ∷ []) g (λ c r. reached c r))
       go (Some d) w =
           grow (i ∷ []) k (λ b g. alone
-            (joined (Stands (members_layout (with_member all d)))
-              (grow {R = Stands (member_layout d)} (i ∷ []) g (λ c r. laws.builds h.word.text (c ++ (i ∷ [])) n d (reached c r) w))
-              (λ x y f r. members_with all d x y f r))
-            refl)
+          (joined (Stands (members_layout (with_member all d)))
+          (grow {R = Stands (member_layout d)} (i ∷ []) g (λ c r. laws.builds h.word.text (c ++ (i ∷ [])) n d (reached c r) w))
+          (λ x y f r. members_with all d x y f r))
+          refl)
 
   closed_stands : (h : Head Span) (all : Members Span) (s : S) (i : Placed Span) (q : Cue) (ps : Tokens) → i.token ≡ cue_token q → StoodClass (in_members h all s) ps
       → After ps i (C.closed Span S join fresh is_fresh step member_whole h all s i.mark q)
   closed_stands h all s i q ps t k =
       cond_both (is_fresh s) (at_close_brace q (done (class_of join h i.mark all))) None (After ps i)
       (λ f. close_brace_both q (done (class_of join h i.mark all)) (Next ps i)
-        (λ c. closes i.mark (members_layout all then token (symbol CloseBrace) then nothing) (grow (i ∷ []) k (λ b g. ended_at i b (behind b (i ∷ []) (whole_list f b g) (stand_one (symbol CloseBrace) i c)))))
-        (λ k c. tt) t)
+      (λ c. closes i.mark (members_layout all then token (symbol CloseBrace) then nothing) (grow (i ∷ []) k (λ b g. ended_at i b (behind b (i ∷ []) (whole_list f b g) (stand_one (symbol CloseBrace) i c)))))
+      (λ k c. tt) t)
       (λ _. tt)
     where
       whole_list : is_fresh s ≡ true → (b : Tokens) → InOrder (Stands (members_layout all)) (λ (b : Tokens). member_run h.word.text fresh b ≡ Some s) b → Stands (members_layout all) b

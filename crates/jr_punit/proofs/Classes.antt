@@ -109,7 +109,7 @@ module _ (nested : Bool) (S : Type 0) (fresh : S) (is_fresh : S → Bool) (step 
       let y = spell_members ds (symbol CloseBrace ∷ x) in
       ap (class_run (in_members h es fresh)) (spell_member-is d y)
       ∙ settles S (Member Bare) (State Bare S) (Class Bare) (member_step h.word.text) member_whole class_step whole (in_members h es) (λ d. in_members h (with_member es d) fresh) (closed h es) (λ s u. refl) (laws.ended h.word.text)
-          (member_toks d) fresh r.0 d y laws.fresh_none r.1 r.2
+      (member_toks d) fresh r.0 d y laws.fresh_none r.1 r.2
       ∙ members_read ds (with_member es d) h x k.1
       ∙ ap (λ (rs : Members Bare). class_run (done (class_of no_join h tt rs)) x) (joined-with_member es d ds)
 

@@ -21,7 +21,6 @@ module _ (S T : Type 0) (step : S → Token → Option S) (whole : S → Option 
 
 module _ (S T N U : Type 0) (step : S → Token → Option S) (whole : S → Option T) (out : N → Token → Option N) (out_whole : N → Option U) (within : S → N) (taken : S → Token → Option N)
     (steps : (s : S) (t : Token) → out (within s) t ≡ inner within (taken s t) (step s t)) where
-
   -- the other reads what is read inside
   pub driven : (ts : List Token) (s m : S) (x : List Token) → run S Token T step whole s ts ≡ Some m → run N Token U out out_whole (within s) (ts ++ x) ≡ run N Token U out out_whole (within m) x
   driven [] s m x h = ap (λ (k : S). run N Token U out out_whole (within k) x) (same_Some s m h)

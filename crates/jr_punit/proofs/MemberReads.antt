@@ -86,7 +86,7 @@ own_read nested name d h = record {
   last = own (Own.done d);
   runs = ap (member_run nested name start) (sym (append-nil (member_toks d)))
       ∙ driven (Own.State Bare) (Member Bare) (State Bare) (Member Bare) (own_step name) Own.whole (member_step nested name) member_whole own (λ s t. begin_class nested s tt (cue_of t)) (λ s t. refl)
-          (member_toks d) Own.start (Own.done d) [] (own_reads name d h);
+      (member_toks d) Own.start (Own.done d) [] (own_reads name d h);
   is_whole = refl;
 }
 
@@ -101,10 +101,10 @@ class_read name m (class k ms w parent all) h =
       last = in_class (C.done c);
       runs = ap (member_run false name start) (sym (append-nil (class_toks c)) ∙ sym (spell_class-is c []))
           ∙ driven (Own.State Bare) (Member Bare) (State Bare) (Member Bare) (own_step name) Own.whole (member_step false name) member_whole own (λ s t. begin_class false s tt (cue_of t)) (λ s t. refl)
-              (modifiers_toks ms) Own.start (Own.modified ms) (keyword ClassWord ∷ y) (modifiers_run name ms)
+          (modifiers_toks ms) Own.start (Own.modified ms) (keyword ClassWord ∷ y) (modifiers_run name ms)
           ∙ ap (member_run false name (in_class (C.at_class (lead ms)))) (sym (append-nil y))
           ∙ driven InnerState (Class Bare) (State Bare) (Member Bare) inner_step C.whole (member_step false name) member_whole in_class (λ s t. None) (λ s t. map_inner in_class (inner_step s t))
-              y (C.at_class (lead ms)) (C.done c) [] (inner_rest ms w parent all [] h.0 h.1);
+          y (C.at_class (lead ms)) (C.done c) [] (inner_rest ms w parent all [] h.0 h.1);
       is_whole = refl;
     }
 

@@ -29,7 +29,6 @@ abbrev mutual
   spell_members end x = x
   spell_members (more d ds) x = spell_member d (spell_members ds x)
 
-
 body_is : (ts us x : List Token) → ts ++ (symbol CloseParen ∷ symbol OpenBrace ∷ (us ++ (symbol CloseBrace ∷ x))) ≡ (ts ++ (symbol CloseParen ∷ symbol OpenBrace ∷ (us ++ (symbol CloseBrace ∷ [])))) ++ x
 body_is ts us x =
     parts ts (symbol CloseParen ∷ symbol OpenBrace ∷ (us ++ (symbol CloseBrace ∷ []))) x _ _ refl

@@ -48,9 +48,9 @@ own_builds name ps n d h k = own_whole_stands n d ps (run_stands (Own.State Span
 span_own_unread : (name : List ℕ) (ps : Tokens) → span_own_run name Own.start ps ≡ Some Own.start → ps ≡ []
 span_own_unread name ps h =
     no_kinds ps (own_unread name (kinds ps)
-      (sym (run_map (Own.State Span) (Placed Span) (Member Span) (Own.State Bare) Token (Member Bare) (span_own_step name) Own.whole (own_step name) Own.whole bare_own (λ p. p.token) bare_member (λ s p. own_step-bare name s p.mark p.token)
-        own_whole-bare Own.start ps)
-      ∙ ap (option_map bare_own) h))
+    (sym (run_map (Own.State Span) (Placed Span) (Member Span) (Own.State Bare) Token (Member Bare) (span_own_step name) Own.whole (own_step name) Own.whole bare_own (λ p. p.token) bare_member (λ s p. own_step-bare name s p.mark p.token)
+    own_whole-bare Own.start ps)
+    ∙ ap (option_map bare_own) h))
 
 own_start_is : (s : Own.State Span) → Own.is_start s ≡ true → s ≡ Own.start
 own_start_is (Own.modified []) h = refl
@@ -119,9 +119,9 @@ member_builds nested name ps n d h k =
 span_member_unread : (name : List ℕ) (ps : Tokens) → span_member_run false name start ps ≡ Some start → ps ≡ []
 span_member_unread name ps h =
     no_kinds ps (member_laws.unread name (kinds ps)
-      (sym (run_map (State Span) (Placed Span) (Member Span) (State Bare) Token (Member Bare) (span_member_step false name) span_member_whole (member_step false name) member_whole bare_member_state (λ p. p.token) bare_member
-        (λ s p. member_step-bare false name s p.mark p.token) member_whole-bare start ps)
-      ∙ ap (option_map bare_member_state) h))
+    (sym (run_map (State Span) (Placed Span) (Member Span) (State Bare) Token (Member Bare) (span_member_step false name) span_member_whole (member_step false name) member_whole bare_member_state (λ p. p.token) bare_member
+    (λ s p. member_step-bare false name s p.mark p.token) member_whole-bare start ps)
+    ∙ ap (option_map bare_member_state) h))
 
 start_is : (s : State Span) → is_start s ≡ true → s ≡ start
 start_is (own s) h = ap own (own_start_is s h)

@@ -53,7 +53,7 @@ module _ (A : Type 0) (g : Ignores A) where
   same_statement a b h k e =
       let f = g.statements.spelling no a ∙ e ∙ sym (g.statements.spelling no b) in
       let lists : more (bare_stmt a) end ≡ more (bare_stmt b) end =
-          one_list (more (bare_stmt a) end) (more (bare_stmt b) end) ((g.statements.shape no a).1 h, tt) ((g.statements.shape no b).1 k, tt) (ap (λ (ts : List Token). ts ++ []) f) in
+      one_list (more (bare_stmt a) end) (more (bare_stmt b) end) ((g.statements.shape no a).1 h, tt) ((g.statements.shape no b).1 k, tt) (ap (λ (ts : List Token). ts ++ []) f) in
       sym (first_is (bare_stmt a) end (bare_stmt a)) ∙ ap (λ (ss : Stmts Bare). first_stmt ss (bare_stmt a)) lists ∙ first_is (bare_stmt b) end (bare_stmt a)
 
   pub one_reading : OneLexing → OneReading A

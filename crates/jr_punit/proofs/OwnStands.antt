@@ -144,7 +144,7 @@ constructor_begun name l (boolean m) i ps t h = tt
 constructor_begun name l (named m None w) i ps t h =
     cond_both (bytes_eq w.text name) (Some w) None (λ (o : Option (Word Span)). After ps i (option_map (begin_constructor l) o))
     (λ _. params_begun (constructor_head l w) i ps
-      (open_more {xs = mods l then word_layout w then nothing} (token (symbol OpenParen) then nothing) (i ∷ []) (record { parts = mapped h.parts (λ b g. g.stands.parts); more = h.more; from = h.from }) (stand_one (symbol OpenParen) i t)))
+    (open_more {xs = mods l then word_layout w then nothing} (token (symbol OpenParen) then nothing) (i ∷ []) (record { parts = mapped h.parts (λ b g. g.stands.parts); more = h.more; from = h.from }) (stand_one (symbol OpenParen) i t)))
     (λ _. tt)
 constructor_begun name l (named m (Some o) w) i ps t h = tt
 
@@ -266,8 +266,8 @@ super_runs m b h =
 super_stands : (k : Constructor Span) (m : Span) (i : Placed Span) (q : Cue) (ps : Tokens) → i.token ≡ cue_token q → StoodOwn (at_super k m) ps → After ps i (from_super join k m i.mark i.token q)
 super_stands k m i an_open ps t h =
     grow (i ∷ []) h (λ b g. alone
-      (stand_both (token (keyword Super) then nothing) (token (symbol OpenParen) then nothing) b (i ∷ []) (subst (StandInOrder (token (keyword Super) then nothing)) (sym g.alone) (stand_one (keyword Super) g.placed g.is)) (stand_one (symbol OpenParen) i t))
-      refl)
+    (stand_both (token (keyword Super) then nothing) (token (symbol OpenParen) then nothing) b (i ∷ []) (subst (StandInOrder (token (keyword Super) then nothing)) (sym g.alone) (stand_one (keyword Super) g.placed g.is)) (stand_one (symbol OpenParen) i t))
+    refl)
 super_stands k m i q ps t h = body_stands (without_super k) (super_read m) i q ps t (mapped (first_mapped h (λ b g. plain_body k b g)) (λ b g. super_runs m b g))
 
 arguments_stands : (k : Constructor Span) (s : A.State Span) (i : Placed Span) (q : Cue) (ps : Tokens) → i.token ≡ cue_token q → StoodOwn (in_super k s) ps → After ps i (from_arguments join k s i.mark i.token q)
@@ -290,7 +290,7 @@ with_super_stands : (k : Constructor Span) (es : Exps Span) (i : Placed Span) (p
 with_super_stands k es i ps t h =
     alone
     (opens (parent_call_layout (Some es) then nothing)
-      (grow (i ∷ []) h (λ b g. stand_last (parent_call_layout (Some es)) (b ++ (i ∷ [])) (stand_both (super_closed es) (token (symbol Semicolon) then nothing) b (i ∷ []) g (stand_one (symbol Semicolon) i t)))))
+    (grow (i ∷ []) h (λ b g. stand_last (parent_call_layout (Some es)) (b ++ (i ∷ [])) (stand_both (super_closed es) (token (symbol Semicolon) then nothing) b (i ∷ []) g (stand_one (symbol Semicolon) i t)))))
     refl
 
 -- ---- the whole

@@ -98,8 +98,8 @@ param_named xs m f (T.have ty) i (a_word w) ps t h =
     let p = P.parameter join m f i.mark ty w in (
       some_params xs p,
       joined (Stands (params_layout (xs ++ (p ∷ []))))
-        (grow {R = Stands (param_layout p)} (i ∷ []) h (λ b k. (open_closed i.mark (typed_word m (final_layout f) ty w i b t k) (sym (last_to-append b (i ∷ []) tt))).stands))
-        (λ a b g l. params_one xs p a b g l),
+          (grow {R = Stands (param_layout p)} (i ∷ []) h (λ b k. (open_closed i.mark (typed_word m (final_layout f) ty w i b t k) (sym (last_to-append b (i ∷ []) tt))).stands))
+          (λ a b g l. params_one xs p a b g l),
     )
 param_named xs m f (T.have ty) i _ ps t h = tt
 param_named xs m f (T.want c) i q ps t h = tt
@@ -169,10 +169,10 @@ args_cue_stands s i q ps t h =
     go (Some d) e =
         comma_both q (A.in_argument (E.with_last s.args d) (E.want [])) (λ (k : Token) (o : Option (A.State Span)). i.token ≡ k → IfSome o (λ (n : A.State Span). StoodArgs n (ps ++ (i ∷ []))))
         (λ c. alone
-          (joined (StandInOrder (done_parts (E.with_last s.args d)))
-            (grow {R = StandInOrder (exp_layout d then token (symbol Comma) then nothing)} (i ∷ []) h (λ b k. behind b (i ∷ []) (exp_whole_stands b s.last d k e).stands (stand_one (symbol Comma) i c)))
-            (λ a b f g. done_one s.args d a b f g))
-          refl)
+        (joined (StandInOrder (done_parts (E.with_last s.args d)))
+        (grow {R = StandInOrder (exp_layout d then token (symbol Comma) then nothing)} (i ∷ []) h (λ b k. behind b (i ∷ []) (exp_whole_stands b s.last d k e).stands (stand_one (symbol Comma) i c)))
+        (λ a b f g. done_one s.args d a b f g))
+        refl)
         (λ k c. tt) t
 
 args_step_stands : (s : A.State Span) (i : Placed Span) (ps : Tokens) → StoodArgs s ps → IfSome (span_args_step s i) (λ (n : A.State Span). StoodArgs n (ps ++ (i ∷ [])))

@@ -49,7 +49,7 @@ member_marked : Ignores → (nested : Bool) (name : List ℕ) (ts : Tokens) (d :
 member_marked g nested name ts d h =
     let r = both_some span_member_whole (span_member_run nested name Members.start ts) d h in
     let q = some_match (member_read nested name (kinds ts)) (bare_member d) (IsNoMember nested name (kinds ts)) (IsMember nested name (kinds ts)) (sym (reads_alike.member nested name ts) ∙ ap (option_map bare_member) h)
-        (member_is_read nested name (kinds ts)) in
+    (member_is_read nested name (kinds ts)) in
     record {
       shaped = (g.members.shape no_span nested name d).0 q.shaped;
       spells = sym (g.members.spelling no_span d) ∙ q.spells;

@@ -238,6 +238,7 @@ list_at fs all y = list_run (ready fs all) y
 
 mutual
   unfolding from_ready
+
   pub complete : (s : Stmt Bare) (fs : Frames) (all : Stmts Bare) (x : List Token) → StmtShaped s → Admits fs s → list_run (ready fs all) (spell s x) ≡ list_run (done (tops fs s) all (tip s)) x
   complete (local m f t w e) fs all x h (inl d) = local_reads fs all f t w (symbol Equals ∷ (toks e ++ (symbol Semicolon ∷ x))) d ∙ exp_reads fs all (for_local tt f t w) e x h
   complete (local m f t w e) fs all x h (inr d) = absurd d
@@ -304,9 +305,9 @@ lists_read (more s (more t ss)) ds h =
     record {
       last = k.last;
       runs = complete s [] ds (spells (more t ss) []) h.0 (inl refl)
-        ∙ goes_on (tops [] s) ds (tip s) (spells (more t ss) []) (no_else_first t (spells ss []) h.1.0)
-        ∙ ap (λ (p : Place Bare). list_at p.on p.all (spells (more t ss) [])) (ended_tops s [] ds)
-        ∙ k.runs;
+          ∙ goes_on (tops [] s) ds (tip s) (spells (more t ss) []) (no_else_first t (spells ss []) h.1.0)
+          ∙ ap (λ (p : Place Bare). list_at p.on p.all (spells (more t ss) [])) (ended_tops s [] ds)
+          ∙ k.runs;
       is_whole = k.is_whole ∙ ap (λ (rs : Stmts Bare). Some rs) (joined-with_stmt ds s (more t ss));
       at_brace = k.at_brace;
     }

@@ -112,7 +112,6 @@ with_front : (fs : Frames) (all : Stmts Bare) (s : Stmt Bare) (xs : List Token �
     → ((y : List Token) → xs (front ++ y) ≡ spell_stack fs all (spell s y)) → Ends xs
 with_front fs all s xs front g h a e = let p = stack_ends fs all s g h a in record { rest = front ++ p.rest; tree = p.tree; shaped = p.shaped; spelled = e p.rest ∙ p.spelled }
 
-
 abbrev a_token : Token
 a_token = word (97 ∷ [])
 

@@ -49,13 +49,13 @@ StoodTop s ps = StoodClass (M.State Span) M.start M.is_start (M.step join false)
 top_builds : (ps : Tokens) (n : Top) (c : Class Span) → span_top_run C.start ps ≡ Some n → C.whole n ≡ Some c → Stands (class_layout c) ps
 top_builds ps n c h k =
     (class_whole_stands (M.State Span) M.start M.is_start (M.step join false) M.whole member_span_laws n c ps
-      (run_stands Top (Class Span) span_top_step C.whole StoodTop (class_step_stands (M.State Span) M.start M.is_start (M.step join false) M.whole member_span_laws) C.start n ps refl h)
-      k).stands
+    (run_stands Top (Class Span) span_top_step C.whole StoodTop (class_step_stands (M.State Span) M.start M.is_start (M.step join false) M.whole member_span_laws) C.start n ps refl h)
+    k).stands
 
 span_top_unread : (ps : Tokens) → span_top_run C.start ps ≡ Some C.start → ps ≡ []
 span_top_unread ps h =
     no_kinds ps (top_unread (kinds ps)
-      (sym (run_map Top (Placed Span) (Class Span) BareTop Token (Class Bare) span_top_step C.whole top_step C.whole bare_top (λ p. p.token) bare_class (λ s p. top_step-bare s p.mark p.token) top_whole-bare C.start ps) ∙ ap (option_map bare_top) h))
+    (sym (run_map Top (Placed Span) (Class Span) BareTop Token (Class Bare) span_top_step C.whole top_step C.whole bare_top (λ p. p.token) bare_class (λ s p. top_step-bare s p.mark p.token) top_whole-bare C.start ps) ∙ ap (option_map bare_top) h))
 
 -- ---- what has been read
 
@@ -142,8 +142,8 @@ read_stands ws cs s n i ps h e = go (C.whole n) refl
     go None w = grow (i ∷ []) h (λ b g. grow (i ∷ []) g (λ c r. reached c r))
     go (Some d) w =
         grow (i ∷ []) h (λ b g. alone
-          (joined (Stands (classes_layout (cs ++ (d ∷ [])))) (grow {R = Stands (class_layout d)} (i ∷ []) g (λ c r. top_builds (c ++ (i ∷ [])) n d (reached c r) w)) (λ x y f r. classes_one cs d x y f r))
-          refl)
+        (joined (Stands (classes_layout (cs ++ (d ∷ [])))) (grow {R = Stands (class_layout d)} (i ∷ []) g (λ c r. top_builds (c ++ (i ∷ [])) n d (reached c r) w)) (λ x y f r. classes_one cs d x y f r))
+        refl)
 
 classes_stands : (ws : Words) (cs : AllClasses) (s : Top) (i : Placed Span) (ps : Tokens) → Stood (in_classes ws cs s) ps → After ps i (from_classes join ws cs s i.mark i.token)
 classes_stands ws cs s i ps h = go (span_top_step s i) refl

@@ -4,7 +4,9 @@ ghost use Rattle.jr_punit.specs.OneReading.{OneReading, OneMarkedTree};
 ghost use Rattle.jr_punit.specs.StopPlaces.{StopsHavePlaces, StopsHaveOnePlace};
 ghost use Rattle.jr_punit.specs.Exact.{ListIsRead, ListStopIsExact, MemberIsRead, MemberLengthIsLongest, MemberStopIsExact, UnitIsRead, UnitStopIsExact};
 
-use jr_grammar::{marks_are_one, member_ignores_marks, statement_ignores_marks, unit_ignores_marks};
+use jr_grammar::{
+    marks_are_one, member_ignores_marks, statement_ignores_marks, unit_ignores_marks,
+};
 use jr_lex::one_answer;
 use jr_text::Span;
 

@@ -111,7 +111,13 @@ fn objects(alloc: Global) -> Result<Vec<Row>, AllocError>
     let mut rows = Vec::new(alloc);
     push_class(alloc, &mut rows, &[], "Object", None)?;
     push_ctor(alloc, &mut rows, "Object")?;
-    push_class(alloc, &mut rows, &[ModWord::Final], "String", Some("Object"))?;
+    push_class(
+        alloc,
+        &mut rows,
+        &[ModWord::Final],
+        "String",
+        Some("Object"),
+    )?;
     push_class(alloc, &mut rows, &[ModWord::Final], "Class", Some("Object"))?;
     Ok(rows)
 }

@@ -9,7 +9,7 @@ use Rattle.jr_pexpr.specs.Machine.{begun, extended}
 use Rattle.jr_punit.specs.StatementMachine.{from_ready}
 use Rattle.jr_punit.proofs.Cases.Forms.{unit_stops}
 
--- 
+--
 empty : IsUnitStop ([]) 0
 unfolding begun extended from_ready
 empty = unit_stops _ _ refl
