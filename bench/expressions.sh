@@ -12,7 +12,7 @@ for crate in jr_text jr_lex jr_ast jr_grammar jr_pexpr; do
 done
 grep -E '^(jr_text|jr_lex|jr_ast|jr_grammar|jr_pexpr):' "$top/crates.txt" > "$work/crates.txt"
 echo 'times: jr_pexpr jr_lex jr_text anyhow' >> "$work/crates.txt"
-cp "$top/bench/expressions/main.rt" "$work/crates/times/src/main.rt"
+cp "$top/bench/expressions.program" "$work/crates/times/src/main.rt"
 cd "$work/crates/times"
 git init -q "$work"
 rt run 2> "$work/said.txt" || { cat "$work/said.txt"; exit 1; }
