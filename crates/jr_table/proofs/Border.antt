@@ -165,7 +165,7 @@ module _ (rows : List Row) where
     the_entry : (of : ClassKey) (m k : MethodKey) (j : ℕ) (e : Entry) → number_of rows (method_decl m) ≡ Some j → virtual_entry (entries_of rows) j ≡ Some e → (d : DispatchesTo rows of m k) → d.virtual.declared.row ≡ e
     the_entry of m k j e at v d =
         some_inside (virtual_entry (entries_of rows) j) d.virtual.declared.row e
-            (sym (ap (virtual_entry (entries_of rows)) (same_number (method_decl m) j d.j at d.row)) ∙ is_virtual_at m.name (map (kind_of rows) m.params) d.d d.j d.virtual) v
+        (sym (ap (virtual_entry (entries_of rows)) (same_number (method_decl m) j d.j at d.row)) ∙ is_virtual_at m.name (map (kind_of rows) m.params) d.d d.j d.virtual) v
 
     pub not_below : (of : ClassKey) (m k : MethodKey) (i j : ℕ) (e : Entry) → number_of rows (class_decl of) ≡ Some i → number_of rows (method_decl m) ≡ Some j → virtual_entry (entries_of rows) j ≡ Some e
         → (IsSubclassAt (entries_of rows) i e.class → ⊥) → DispatchesTo rows of m k → ⊥
@@ -177,7 +177,7 @@ module _ (rows : List Row) where
     virtual_found : (name : List ℕ) (params : List Kind) (i : ℕ) (o : Option ℕ) → nearest (entries_of rows) (is_virtual name params) i ≡ o → Says (Dispatches (entries_of rows) name params i) o
     virtual_found name params i o h =
         subst (Says (Dispatches (entries_of rows) name params i)) h
-            (nearest_says (entries_of rows) (DeclaresVirtual (entries_of rows) name params) (is_virtual name params) (virtual_says (entries_of rows) name params) (one_virtual rows are name params) (acyclic_rows rows are) i)
+        (nearest_says (entries_of rows) (DeclaresVirtual (entries_of rows) name params) (is_virtual name params) (virtual_says (entries_of rows) name params) (one_virtual rows are name params) (acyclic_rows rows are) i)
 
     pub none_nearest : (of : ClassKey) (m k : MethodKey) (i j : ℕ) (e : Entry) → number_of rows (class_decl of) ≡ Some i → number_of rows (method_decl m) ≡ Some j → virtual_entry (entries_of rows) j ≡ Some e
         → nearest (entries_of rows) (is_virtual e.name e.params) i ≡ None → DispatchesTo rows of m k → ⊥
@@ -187,7 +187,7 @@ module _ (rows : List Row) where
         let params : map (kind_of rows) m.params ≡ e.params = sym d.virtual.declared.takes ∙ ap (λ (x : Entry). x.params) row in
         let no = virtual_found e.name e.params i None none in
         no d.k (subst (λ (x : ℕ). Dispatches (entries_of rows) e.name e.params x d.k) (same_number (class_decl of) i d.c at d.place)
-            (subst (λ (p : List Kind). Dispatches (entries_of rows) e.name p d.c d.k) params (subst (λ (n : List ℕ). Dispatches (entries_of rows) n (map (kind_of rows) m.params) d.c d.k) name d.nearest)))
+        (subst (λ (p : List Kind). Dispatches (entries_of rows) e.name p d.c d.k) params (subst (λ (n : List ℕ). Dispatches (entries_of rows) n (map (kind_of rows) m.params) d.c d.k) name d.nearest)))
 
     pub record MethodFound (of : ClassKey) (m : MethodKey) (k : ℕ) : Type 0 where
       pub key : MethodKey

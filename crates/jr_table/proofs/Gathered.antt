@@ -160,14 +160,16 @@ module _ (rows : List Row) where
           let d = member_declares (entries_of rows) (DeclaresMethod (entries_of rows) name o.3.0) member.chain o.0 member.among in
           let is : d.1.row ≡ entry_of rows r.row = some_inside (slice_get (entries_of rows) o.0) d.1.row (entry_of rows r.row) d.1.stands (entry_stands rows o.0 r.row r.stands) in
           let named : m.name ≡ name = sym (ap (λ (x : Entry). x.name) is ∙ ap name_of r.declares) ∙ d.1.named in
-          let takes : o.3.0 ≡ map (kind_of rows) m.params = sym d.1.takes ∙ ap (λ (x : Entry). x.params) is ∙ ap (λ x. map (kind_of rows) (params_of x)) r.declares in
-          (record {
-            c = c;
-            j = o.0;
-            place = number_stands rows (class_decl of) c at;
-            row = r;
-            member = subst (λ (p : List Kind). IsMemberMethod (entries_of rows) m.name p c o.0) takes (subst (λ (q : List ℕ). IsMemberMethod (entries_of rows) q o.3.0 c o.0) (sym named) member);
-          }, named)
+          let takes : o.3.0 ≡ map (kind_of rows) m.params = sym d.1.takes ∙ ap (λ (x : Entry). x.params) is ∙ ap (λ x. map (kind_of rows) (params_of x)) r.declares in (
+            record {
+              c = c;
+              j = o.0;
+              place = number_stands rows (class_decl of) c at;
+              row = r;
+              member = subst (λ (p : List Kind). IsMemberMethod (entries_of rows) m.name p c o.0) takes (subst (λ (q : List ℕ). IsMemberMethod (entries_of rows) q o.3.0 c o.0) (sym named) member);
+            },
+            named,
+          )
 
       inside : (j : ℕ) (m k : MethodKey) → method_at rows j ≡ Some m → method_at rows j ≡ Some k → Among keys k → Among keys m
       inside j m k e f h = subst (Among keys) (some_inside (method_at rows j) k m f e) h
@@ -176,8 +178,8 @@ module _ (rows : List Row) where
       back m (h, named) =
           let lt = within rows (method_decl m) h.j h.row in
           let member : IsMemberMethod (entries_of rows) name (map (kind_of rows) m.params) c h.j =
-              subst (λ (x : ℕ). IsMemberMethod (entries_of rows) name (map (kind_of rows) m.params) x h.j) (same_number rows are (class_decl of) c h.c at h.place)
-              (subst (λ (q : List ℕ). IsMemberMethod (entries_of rows) q (map (kind_of rows) m.params) h.c h.j) named h.member) in
+          subst (λ (x : ℕ). IsMemberMethod (entries_of rows) name (map (kind_of rows) m.params) x h.j) (same_number rows are (class_decl of) c h.c at h.place)
+          (subst (λ (q : List ℕ). IsMemberMethod (entries_of rows) q (map (kind_of rows) m.params) h.c h.j) named h.member) in
           let k = g.all h.j (omega (arith, lt, le)) (map (kind_of rows) m.params, member) in
           inside h.j m k.0 (row_method h.j m h.row) k.1 k.2
 

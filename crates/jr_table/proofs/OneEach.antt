@@ -112,9 +112,9 @@ module _ (rows : List Row) (are : AreRows rows) where
       let a = row_at rows i d.row d.stands in
       let b = row_at rows j e.row e.stands in
       fields i j a.row b.row a.stands b.stands
-          (sym (ap (λ (x : Entry). x.sort) a.is) ∙ d.field) (sym (ap (λ (x : Entry). x.sort) b.is) ∙ e.field)
-          (sym (ap (λ (x : Entry). x.class) a.is) ∙ d.class ∙ sym e.class ∙ ap (λ (x : Entry). x.class) b.is)
-          (sym (ap (λ (x : Entry). x.name) a.is) ∙ d.named ∙ sym e.named ∙ ap (λ (x : Entry). x.name) b.is)
+      (sym (ap (λ (x : Entry). x.sort) a.is) ∙ d.field) (sym (ap (λ (x : Entry). x.sort) b.is) ∙ e.field)
+      (sym (ap (λ (x : Entry). x.class) a.is) ∙ d.class ∙ sym e.class ∙ ap (λ (x : Entry). x.class) b.is)
+      (sym (ap (λ (x : Entry). x.name) a.is) ∙ d.named ∙ sym e.named ∙ ap (λ (x : Entry). x.name) b.is)
 
   methods : (i j : ℕ) (r s : Row) → slice_get rows i ≡ Some r → slice_get rows j ≡ Some s → sort_of r.decl ≡ sort.Method → sort_of s.decl ≡ sort.Method
       → class_number rows (class_of r.decl) ≡ class_number rows (class_of s.decl) → name_of r.decl ≡ name_of s.decl → map (kind_of rows) (params_of r.decl) ≡ map (kind_of rows) (params_of s.decl) → i ≡ j
@@ -130,10 +130,10 @@ module _ (rows : List Row) (are : AreRows rows) where
       let a = row_at rows i d.row d.stands in
       let b = row_at rows j e.row e.stands in
       methods i j a.row b.row a.stands b.stands
-          (sym (ap (λ (x : Entry). x.sort) a.is) ∙ d.method) (sym (ap (λ (x : Entry). x.sort) b.is) ∙ e.method)
-          (sym (ap (λ (x : Entry). x.class) a.is) ∙ d.class ∙ sym e.class ∙ ap (λ (x : Entry). x.class) b.is)
-          (sym (ap (λ (x : Entry). x.name) a.is) ∙ d.named ∙ sym e.named ∙ ap (λ (x : Entry). x.name) b.is)
-          (sym (ap (λ (x : Entry). x.params) a.is) ∙ d.takes ∙ sym e.takes ∙ ap (λ (x : Entry). x.params) b.is)
+      (sym (ap (λ (x : Entry). x.sort) a.is) ∙ d.method) (sym (ap (λ (x : Entry). x.sort) b.is) ∙ e.method)
+      (sym (ap (λ (x : Entry). x.class) a.is) ∙ d.class ∙ sym e.class ∙ ap (λ (x : Entry). x.class) b.is)
+      (sym (ap (λ (x : Entry). x.name) a.is) ∙ d.named ∙ sym e.named ∙ ap (λ (x : Entry). x.name) b.is)
+      (sym (ap (λ (x : Entry). x.params) a.is) ∙ d.takes ∙ sym e.takes ∙ ap (λ (x : Entry). x.params) b.is)
 
   pub one_virtual : (name : List ℕ) (params : List Kind) (c i j : ℕ) → DeclaresVirtual (entries_of rows) name params c i → DeclaresVirtual (entries_of rows) name params c j → i ≡ j
   one_virtual name params c i j d e = one_method name params c i j d.declared e.declared
@@ -163,6 +163,6 @@ module _ (rows : List Row) (are : AreRows rows) where
       let a = row_at rows i d.row d.stands in
       let b = row_at rows j e.row e.stands in
       types i j c a.row b.row a.stands b.stands
-          (sym (ap (λ (x : Entry). x.sort) a.is) ∙ d.type) (sym (ap (λ (x : Entry). x.sort) b.is) ∙ e.type)
-          (sym (ap (λ (x : Entry). x.outer) a.is) ∙ d.outer) (sym (ap (λ (x : Entry). x.outer) b.is) ∙ e.outer)
-          (sym (ap (λ (x : Entry). x.name) a.is) ∙ d.named ∙ sym e.named ∙ ap (λ (x : Entry). x.name) b.is)
+      (sym (ap (λ (x : Entry). x.sort) a.is) ∙ d.type) (sym (ap (λ (x : Entry). x.sort) b.is) ∙ e.type)
+      (sym (ap (λ (x : Entry). x.outer) a.is) ∙ d.outer) (sym (ap (λ (x : Entry). x.outer) b.is) ∙ e.outer)
+      (sym (ap (λ (x : Entry). x.name) a.is) ∙ d.named ∙ sym e.named ∙ ap (λ (x : Entry). x.name) b.is)

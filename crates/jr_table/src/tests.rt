@@ -1,8 +1,10 @@
-//! Members, overriding and dispatch in one small program. What is expected is what `javac` and the Java Language
-//! Specification say of its text.
+//! Members, overriding and dispatch in one small program. What is expected is what `javac` and the
+//! Java Language Specification say of its text.
 use crate::prelude_rows::top_key;
 use crate::sample::{method_key, one_class, sample};
-use crate::{ClassKey, CtorKey, Decl, FieldKey, LocalKey, MemberKey, MethodKey, Row, Table, Ty, Tys};
+use crate::{
+    ClassKey, CtorKey, Decl, FieldKey, LocalKey, MemberKey, MethodKey, Row, Table, Ty, Tys,
+};
 use jr_ast::Name;
 use std::alloc::{AllocError, Global};
 use std::test::Fail;
@@ -173,11 +175,13 @@ const ROWS: [([&str; 4], &str); 35] = [
 /// Whether a copy of the row is equal to it.
 fn is_copied(alloc: Global, row: &Row) -> Result<bool, AllocError> {
     let copy = row.copy(alloc)?;
-    Ok((copy.decl == row.decl)
-        & (copy.modifiers.as_slice() == row.modifiers.as_slice())
-        & (copy.ty == row.ty)
-        & (copy.parent == row.parent)
-        & (copy.has_init == row.has_init))
+    Ok(
+        (copy.decl == row.decl)
+            & (copy.modifiers.as_slice() == row.modifiers.as_slice())
+            & (copy.ty == row.ty)
+            & (copy.parent == row.parent)
+            & (copy.has_init == row.has_init),
+    )
 }
 
 /// The second parameter or local of `D.new()` for a member class `D` of `A`.

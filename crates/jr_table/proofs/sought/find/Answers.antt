@@ -17,7 +17,7 @@ returns-then-is_sought c =
     let test : raw.Row → Bool = λ x. same_decl (decl_of x.decl) (sought_decl c.args.sought.now) in
     let at = slice_get_read rows (length rows) c.loop-number.number c.index-rows-number.result refl c.loop-number-test.true c.index-rows-number.is in
     sym (first-map row_of (λ (r : Row). same_decl r.decl (sought_decl c.args.sought.now)) rows
-        ∙ first_at test rows c.loop-number.number c.index-rows-number.result at (sym c.is_sought.ensures ∙ c.if-is_sought.true) c.loop-number.invariant)
+    ∙ first_at test rows c.loop-number.number c.index-rows-number.result at (sym c.is_sought.ensures ∙ c.if-is_sought.true) c.loop-number.invariant)
 
 pub loop-number-preserved : goal.loop-number-preserved
 loop-number-preserved c =
@@ -32,4 +32,4 @@ returns c =
     let rows = c.args.rows.now in
     let test : raw.Row → Bool = λ x. same_decl (decl_of x.decl) (sought_decl c.args.sought.now) in
     sym (first-map row_of (λ (r : Row). same_decl r.decl (sought_decl c.args.sought.now)) rows
-        ∙ first_past test rows (λ j x at. let lt = slice_get_within rows j x at in c.loop-number.invariant j x (omega (arith, lt, c.loop-number-test.false)) at))
+    ∙ first_past test rows (λ j x at. let lt = slice_get_within rows j x at in c.loop-number.invariant j x (omega (arith, lt, c.loop-number-test.false)) at))

@@ -16,22 +16,22 @@ returns-in_default-clause-none c = λ k named h. number_none c.args.self.now (cl
 pub returns-in_default-member-clause-none : goal.returns-in_default-member-clause-none
 returns-in_default-member-clause-none c =
     no_field c.args.self.now c.keeps_rows.ensures (class_key_of c.args.class.now) c.args.name.now c.in-Some.class (sym c.in-Some.ensures)
-        (sym (λ t. member (entries_of c.args.self.now) (is_field (c.as_str.ensures t)) c.in-Some.class) ∙ sym c.in_default-member.ensures)
+    (sym (λ t. member (entries_of c.args.self.now) (is_field (c.as_str.ensures t)) c.in-Some.class) ∙ sym c.in_default-member.ensures)
 
 pub returns-clause-member : goal.returns-clause-member
 returns-clause-member c =
     let found = the_field c.args.self.now c.keeps_rows.ensures (class_key_of c.args.class.now) c.args.name.now c.in-Some.class c.in-Some-member.number (sym c.in-Some.ensures)
-        (sym (λ t. member (entries_of c.args.self.now) (is_field (c.as_str.ensures t)) c.in-Some.class) ∙ sym c.in-Some-member.ensures) in
+    (sym (λ t. member (entries_of c.args.self.now) (is_field (c.as_str.ensures t)) c.in-Some.class) ∙ sym c.in-Some-member.ensures) in
     if_some (λ k. field_key_of k.now) (HasField c.args.self.now (class_key_of c.args.class.now)) c.field_at.result found.key (c.field_at.ensures ∙ found.at) found.has
 
 pub returns-clause-named : goal.returns-clause-named
 returns-clause-named c =
     let found = the_field c.args.self.now c.keeps_rows.ensures (class_key_of c.args.class.now) c.args.name.now c.in-Some.class c.in-Some-member.number (sym c.in-Some.ensures)
-        (sym (λ t. member (entries_of c.args.self.now) (is_field (c.as_str.ensures t)) c.in-Some.class) ∙ sym c.in-Some-member.ensures) in
+    (sym (λ t. member (entries_of c.args.self.now) (is_field (c.as_str.ensures t)) c.in-Some.class) ∙ sym c.in-Some-member.ensures) in
     if_some (λ k. field_key_of k.now) (λ (k : FieldKey). k.name ≡ c.args.name.now) c.field_at.result found.key (c.field_at.ensures ∙ found.at) found.named
 
 pub returns-clause-none : goal.returns-clause-none
 returns-clause-none c =
     let found = the_field c.args.self.now c.keeps_rows.ensures (class_key_of c.args.class.now) c.args.name.now c.in-Some.class c.in-Some-member.number (sym c.in-Some.ensures)
-        (sym (λ t. member (entries_of c.args.self.now) (is_field (c.as_str.ensures t)) c.in-Some.class) ∙ sym c.in-Some-member.ensures) in
+    (sym (λ t. member (entries_of c.args.self.now) (is_field (c.as_str.ensures t)) c.in-Some.class) ∙ sym c.in-Some-member.ensures) in
     if_none (λ k. field_key_of k.now) _ c.field_at.result found.key (c.field_at.ensures ∙ found.at)

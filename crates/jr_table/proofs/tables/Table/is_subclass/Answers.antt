@@ -14,4 +14,4 @@ returns-in_default-class_number c = (λ t. absurd cc, λ s. absurd (number_none 
 pub returns : goal.returns
 returns c =
     is_below c.args.self.now c.keeps_rows.ensures (class_key_of c.args.sub.now) (class_key_of c.args.sup.now) c.in-Some.below c.in-Some-class_number.over c.is_subclass_at.result
-        (sym c.in-Some.ensures) (sym c.in-Some-class_number.ensures) c.is_subclass_at.ensures
+    (sym c.in-Some.ensures) (sym c.in-Some-class_number.ensures) c.is_subclass_at.ensures

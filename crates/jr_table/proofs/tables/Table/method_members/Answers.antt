@@ -11,20 +11,20 @@ use Rattle.jr_table.proofs.tables.Table.method_members.Goals.{then-is_member_met
 pub returns-in_default : goal.returns-in_default
 returns-in_default c =
     subst (AreMethods c.args.self.now (class_key_of c.args.class.now) c.args.name.now) (sym (ap (map method_key_of) c.new-keys.ensures.items))
-        (no_methods c.args.self.now (class_key_of c.args.class.now) c.args.name.now (λ n r. number_none c.args.self.now (class_decl (class_key_of c.args.class.now)) (sym c.in_default.ensures) n r))
+    (no_methods c.args.self.now (class_key_of c.args.class.now) c.args.name.now (λ n r. number_none c.args.self.now (class_decl (class_key_of c.args.class.now)) (sym c.in_default.ensures) n r))
 
 pub loop-number-preserved : goal.loop-number-preserved
 loop-number-preserved c = elim c.if-is_member_method.branch [
-    then-is_member_method+in_ok-push_method w ↦
+  | then-is_member_method+in_ok-push_method w ↦
       gathered_more c.args.self.now c.in-Some.class c.args.name.now c.loop-number.number (map method_key_of c.loop-number.keys.items) (map method_key_of c.if-is_member_method.keys.items)
-        c.loop-number.invariant (c.is_member_method.ensures.0 w.if-is_member_method.true) (ap (λ k. map method_key_of k.items) w.keys-is ∙ w.in_ok-push_method.ensures)
-    | else-is_member_method w ↦
+      c.loop-number.invariant (c.is_member_method.ensures.0 w.if-is_member_method.true) (ap (λ k. map method_key_of k.items) w.keys-is ∙ w.in_ok-push_method.ensures)
+  | else-is_member_method w ↦
       subst (Gathered c.args.self.now c.in-Some.class c.args.name.now (c.loop-number.number + 1)) (ap (λ k. map method_key_of k.items) (sym w.keys-is))
-        (gathered_same c.args.self.now c.in-Some.class c.args.name.now c.loop-number.number (map method_key_of c.loop-number.keys.items) c.loop-number.invariant
-          (λ h. let t = c.is_member_method.ensures.1 h in let f = w.if-is_member_method.false in absurd cc))
-  ]
+      (gathered_same c.args.self.now c.in-Some.class c.args.name.now c.loop-number.number (map method_key_of c.loop-number.keys.items) c.loop-number.invariant
+      (λ h. let t = c.is_member_method.ensures.1 h in let f = w.if-is_member_method.false in absurd cc))
+]
 
 pub returns : goal.returns
 returns c =
     are_methods c.args.self.now c.keeps_rows.ensures (class_key_of c.args.class.now) c.in-Some.class c.args.name.now c.loop-number.number (map method_key_of c.loop-number.keys.items)
-        (sym c.in-Some.ensures) (let e = c.count-number-end.ensures in let le = c.loop-number-test.false in omega (arith, e, le)) c.loop-number.invariant
+    (sym c.in-Some.ensures) (let e = c.count-number-end.ensures in let le = c.loop-number-test.false in omega (arith, e, le)) c.loop-number.invariant

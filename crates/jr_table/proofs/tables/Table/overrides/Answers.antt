@@ -22,4 +22,4 @@ returns-in_default-virtual_entry-2 c =
 pub returns : goal.returns
 returns c =
     is_over c.args.self.now c.keeps_rows.ensures (method_key_of c.args.sub.now) (method_key_of c.args.sup.now) c.in-Some.sub c.in-Some-method_number.sup c.in-Some-virtual_entry.over.now c.in-Some-virtual_entry-2.under.now
-        c.overrides_at.result (sym c.in-Some.ensures) (sym c.in-Some-method_number.ensures) (sym c.in-Some-virtual_entry.ensures) (sym c.in-Some-virtual_entry-2.ensures) c.overrides_at.ensures
+    c.overrides_at.result (sym c.in-Some.ensures) (sym c.in-Some-method_number.ensures) (sym c.in-Some-virtual_entry.ensures) (sym c.in-Some-virtual_entry-2.ensures) c.overrides_at.ensures
