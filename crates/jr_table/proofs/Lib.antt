@@ -11,3 +11,5 @@ pub mod StepsUp
 pub mod Border
 pub mod Gathered
 pub mod RowTests
+pub mod Cases
+pub mod SampleRows

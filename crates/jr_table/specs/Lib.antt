@@ -19,6 +19,8 @@ pub mod Keyed
 pub mod MethodLists
 pub mod Sites
 pub mod Resolving
+pub mod Faults
+pub mod ProgramRows
 pub mod Looking
 pub mod Sample
 pub mod Sought

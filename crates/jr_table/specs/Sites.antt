@@ -122,7 +122,7 @@ module _ {A : Type 0} (begins : A → ℕ → ℕ) where
   class_key outer name = record { outer = outer; name = name }
 
   -- what a member of a class declares, and what the members of a member class do
-  mutual
+  unfoldable mutual
     pub member_sites : ℕ → ClassKey → syntax.Member A → List Item
     member_sites base of (syntax.field m mods t w init) =
         field_item (record { at = word_at (begins m base) w; of = of; name = w.text; modifiers = words mods; type = written (begins m base) t; init = option_map (init_site (begins m base)) init }) ∷ []

@@ -21,7 +21,8 @@ impl Table {
         }
     }
 
-    /// Whether class `sub` is class `sup` or has it as a superclass, perhaps through others (JLS 8.1.4).
+    /// Whether class `sub` is class `sup` or has it as a superclass, perhaps through others
+    /// (JLS 8.1.4).
     pub fn is_subclass_at(&self, sub: u32, sup: u32) -> bool
         ensures { IsTrue result ↔ IsSubclassAt (entries_of self.now) sub sup }
     {

@@ -15,12 +15,15 @@ impl Table {
     ghost use Rattle.jr_table.specs.TypeView.{class_key_of, ty_of};
     ghost use Rattle.jr_table.specs.KeyView.{field_key_of, method_key_of};
     ghost use Rattle.jr_table.specs.Entries.{entries_of, field_at, method_at};
-    ghost use Rattle.jr_table.specs.Keyed.{IsSubclass, Widens, IsAssignable, HasField, Overrides, DispatchesTo};
+    ghost use Rattle.jr_table.specs.Keyed.{IsSubclass, Widens, IsAssignable};
+    ghost use Rattle.jr_table.specs.Keyed.{HasField, Overrides, DispatchesTo};
     ghost use Rattle.jr_table.specs.Virtual.{virtual_entry, IsOver};
 
-    /// Whether class `sub` is class `sup` or has it as a superclass, perhaps through others (JLS 8.1.4).
+    /// Whether class `sub` is class `sup` or has it as a superclass, perhaps through others
+    /// (JLS 8.1.4).
     pub fn is_subclass(&self, sub: &ClassKey, sup: &ClassKey) -> bool
-        ensures { IsTrue result ↔ IsSubclass self.now (class_key_of sub.now) (class_key_of sup.now) }
+        ensures { IsTrue result
+            ↔ IsSubclass self.now (class_key_of sub.now) (class_key_of sup.now) }
     {
         self.keeps_rows();
         let Some(below) = self.class_number(sub) else {
@@ -43,8 +46,8 @@ impl Table {
         }
     }
 
-    /// Whether a value of the one type may be assigned to a variable of the other: a type to itself, a class to its
-    /// superclasses, null to every class (JLS 5.2).
+    /// Whether a value of the one type may be assigned to a variable of the other: a type to
+    /// itself, a class to its superclasses, null to every class (JLS 5.2).
     pub fn is_assignable(&self, from: &Ty, to: &Ty) -> bool
         ensures { IsTrue result ↔ IsAssignable self.now (ty_of from.now) (ty_of to.now) }
     {
@@ -74,11 +77,14 @@ impl Table {
         }
     }
 
-    /// The class's member field of the name, declared or inherited; `None` exactly where it has none (JLS 8.3).
+    /// The class's member field of the name, declared or inherited; `None` exactly where it has
+    /// none (JLS 8.3).
     pub fn field_member(&self, class: &ClassKey, name: &Name) -> Option<&FieldKey>
-        ensures member { IfSome result (λ k. HasField self.now (class_key_of class.now) (field_key_of k.now)) }
+        ensures member { IfSome result
+            (λ k. HasField self.now (class_key_of class.now) (field_key_of k.now)) }
         ensures named { IfSome result (λ k. k.now.name ≡ name.now) }
-        ensures none { IfNone result ((k : keys.FieldKey) → k.name ≡ name.now → HasField self.now (class_key_of class.now) k → ⊥) }
+        ensures none { IfNone result ((k : keys.FieldKey) → k.name ≡ name.now
+            → HasField self.now (class_key_of class.now) k → ⊥) }
     {
         self.keeps_rows();
         let Some(class) = self.class_number(class) else {
@@ -102,14 +108,17 @@ impl Table {
         }
     }
 
-    /// The method that a call of this method on an object of the class runs: the nearest method of its name and
-    /// parameter types, from the class upwards, that is neither private nor static (JLS 15.12.4.4).
+    /// The method that a call of this method on an object of the class runs: the nearest method of
+    /// its name and parameter types, from the class upwards, that is neither private nor static
+    /// (JLS 15.12.4.4).
     ///
-    /// `None` exactly where the method is private or static or isn't there, or where the class isn't its class or a
-    /// subclass.
+    /// `None` exactly where the method is private or static or isn't there, or where the class
+    /// isn't its class or a subclass.
     pub fn dispatch(&self, class: &ClassKey, method: &MethodKey) -> Option<&MethodKey>
-        ensures found { IfSome result (λ k. DispatchesTo self.now (class_key_of class.now) (method_key_of method.now) (method_key_of k.now)) }
-        ensures none { IfNone result ((k : keys.MethodKey) → DispatchesTo self.now (class_key_of class.now) (method_key_of method.now) k → ⊥) }
+        ensures found { IfSome result (λ k. DispatchesTo self.now (class_key_of class.now)
+            (method_key_of method.now) (method_key_of k.now)) }
+        ensures none { IfNone result ((k : keys.MethodKey)
+            → DispatchesTo self.now (class_key_of class.now) (method_key_of method.now) k → ⊥) }
     {
         self.keeps_rows();
         let Some(class) = self.class_number(class) else {
@@ -147,10 +156,12 @@ impl Table {
         self.is_subclass_at(over.class, under.class)
     }
 
-    /// Whether one method overrides another: both are neither private nor static, have one name and the same parameter
-    /// types, and the class of the one is below that of the other (JLS 8.4.8.1).
+    /// Whether one method overrides another: both are neither private nor static, have one name
+    /// and the same parameter types, and the class of the one is below that of the other
+    /// (JLS 8.4.8.1).
     pub fn overrides(&self, sub: &MethodKey, sup: &MethodKey) -> bool
-        ensures { IsTrue result ↔ Overrides self.now (method_key_of sub.now) (method_key_of sup.now) }
+        ensures { IsTrue result
+            ↔ Overrides self.now (method_key_of sub.now) (method_key_of sup.now) }
     {
         self.keeps_rows();
         let Some(sub) = self.method_number(sub) else {

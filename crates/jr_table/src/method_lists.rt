@@ -18,7 +18,8 @@ impl Table {
 
     /// Whether a row is a member method of the name.
     fn is_member_method(&self, class: u32, name: &Name, number: u32) -> bool
-        ensures { IsTrue result ↔ ((params : List Kind) × IsMemberMethod (entries_of self.now) name.now params class number) }
+        ensures { IsTrue result ↔ ((params : List Kind)
+            × IsMemberMethod (entries_of self.now) name.now params class number) }
     {
         self.keeps_rows();
         let Some(entry) = self.entry(number) else {
@@ -41,7 +42,8 @@ impl Table {
         number: u32,
         keys: &mut Vec<MethodKey>,
     ) -> Result<(), AllocError>
-        ensures { OnOk result (map method_key_of keys.new.items ≡ map method_key_of keys.old.items ++ option_to_list (method_at self.now number)) }
+        ensures { OnOk result (map method_key_of keys.new.items
+            ≡ map method_key_of keys.old.items ++ option_to_list (method_at self.now number)) }
     {
         let Some(key) = self.method_at(number) else {
             return Ok(());
@@ -51,14 +53,16 @@ impl Table {
         Ok(())
     }
 
-    /// The class's member methods of the name, declared and inherited, in the order of their rows (JLS 8.4.8).
+    /// The class's member methods of the name, declared and inherited, in the order of their rows
+    /// (JLS 8.4.8).
     pub fn method_members(
         &self,
         alloc: Global,
         class: &ClassKey,
         name: &Name,
     ) -> Result<Vec<MethodKey>, AllocError>
-        ensures { IfOk result (λ keys. AreMethods self.now (class_key_of class.now) name.now (map method_key_of keys.items)) }
+        ensures { IfOk result (λ keys.
+            AreMethods self.now (class_key_of class.now) name.now (map method_key_of keys.items)) }
     {
         self.keeps_rows();
         let mut keys = Vec::new(alloc);

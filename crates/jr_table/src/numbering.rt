@@ -111,7 +111,8 @@ fn kinds(alloc: Global, rows: &[Row], tys: &[Ty]) -> Result<Kinds, AllocError>
 
 fn params(alloc: Global, rows: &[Row], decl: &Decl) -> Result<Kinds, AllocError>
     requires { length rows.now < 2 ^ 32 }
-    ensures { IfOk result (λ k. k ≡ map (pure.kind_of (map row_of rows.now)) (pure.params_of (decl_of decl.now))) }
+    ensures { IfOk result (λ k.
+        k ≡ map (pure.kind_of (map row_of rows.now)) (pure.params_of (decl_of decl.now))) }
 {
     match decl {
         Decl::Method(key) => kinds(alloc, rows, key.params.as_slice()),
@@ -124,7 +125,8 @@ fn params(alloc: Global, rows: &[Row], decl: &Decl) -> Result<Kinds, AllocError>
 
 fn parent(rows: &[Row], key: &Option<ClassKey>) -> Option<u32>
     requires { length rows.now < 2 ^ 32 }
-    ensures { result ≡ option_and_then (λ k. pure.number_of (map row_of rows.now) (class_decl k)) (option_map class_key_of key.now) }
+    ensures { result ≡ option_and_then
+        (λ k. pure.number_of (map row_of rows.now) (class_decl k)) (option_map class_key_of key.now) }
 {
     match key {
         None => None,
@@ -134,7 +136,8 @@ fn parent(rows: &[Row], key: &Option<ClassKey>) -> Option<u32>
 
 fn top(rows: &[Row], name: &Option<Name>) -> Option<u32>
     requires { length rows.now < 2 ^ 32 }
-    ensures { result ≡ option_and_then (λ n. pure.number_of (map row_of rows.now) (pure.top_class n)) name.now }
+    ensures { result ≡ option_and_then
+        (λ n. pure.number_of (map row_of rows.now) (pure.top_class n)) name.now }
 {
     match name {
         None => None,
@@ -144,7 +147,9 @@ fn top(rows: &[Row], name: &Option<Name>) -> Option<u32>
 
 fn outer(rows: &[Row], decl: &Decl) -> Option<u32>
     requires { length rows.now < 2 ^ 32 }
-    ensures { result ≡ option_and_then (λ n. pure.number_of (map row_of rows.now) (pure.top_class n)) (pure.outer_name (decl_of decl.now)) }
+    ensures { result ≡ option_and_then
+        (λ n. pure.number_of (map row_of rows.now) (pure.top_class n))
+        (pure.outer_name (decl_of decl.now)) }
 {
     match decl {
         Decl::Class(key) => top(rows, &key.outer),

@@ -22,7 +22,8 @@ pub(crate) fn top_key(alloc: Global, name: &str) -> Result<ClassKey, AllocError>
 }
 
 fn maybe_top_key(alloc: Global, name: Option<&str>) -> Result<Option<ClassKey>, AllocError>
-    ensures { IfOk result (λ k. option_map class_key_of k ≡ option_map (λ n. pure.top_key n.now) name.entry) }
+    ensures { IfOk result (λ k.
+        option_map class_key_of k ≡ option_map (λ n. pure.top_key n.now) name.entry) }
 {
     match name {
         None => Ok(None),
@@ -38,7 +39,9 @@ pub(crate) fn push_class(
     name: &str,
     parent: Option<&str>,
 ) -> Result<(), AllocError>
-    ensures { OnOk result (map row_of rows.new.items ≡ map row_of rows.old.items ++ pure.class_row words.now name.now (option_map (λ n. pure.top_key n.now) parent.entry) ∷ []) }
+    ensures { OnOk result (map row_of rows.new.items ≡ map row_of rows.old.items
+        ++ pure.class_row words.now name.now
+        (option_map (λ n. pure.top_key n.now) parent.entry) ∷ []) }
 {
     let parent = maybe_top_key(alloc, parent)?;
     let key = top_key(alloc, name)?;
@@ -55,7 +58,8 @@ pub(crate) fn push_class(
 
 /// Puts a constructor without parameters behind the rows.
 fn push_ctor(alloc: Global, rows: &mut Vec<Row>, name: &str) -> Result<(), AllocError>
-    ensures { OnOk result (map row_of rows.new.items ≡ map row_of rows.old.items ++ pure.ctor_row [] (pure.top_key name.now) ∷ []) }
+    ensures { OnOk result (map row_of rows.new.items
+        ≡ map row_of rows.old.items ++ pure.ctor_row [] (pure.top_key name.now) ∷ []) }
 {
     let class = top_key(alloc, name)?;
     let params = Tys::from_vec(Vec::new(alloc));
@@ -90,7 +94,8 @@ fn push_thread(
     words: &[ModWord],
     name: &str,
 ) -> Result<(), AllocError>
-    ensures { OnOk result (map row_of rows.new.items ≡ map row_of rows.old.items ++ pure.thread_row words.now name.now ∷ []) }
+    ensures { OnOk result (map row_of rows.new.items
+        ≡ map row_of rows.old.items ++ pure.thread_row words.now name.now ∷ []) }
 {
     let key = thread_key(alloc, name)?;
     let modifiers = Mods::from_vec(words.to_vec(alloc)?);

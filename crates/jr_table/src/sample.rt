@@ -24,7 +24,8 @@ fn push_field(
     class: &str,
     name: &str,
 ) -> Result<(), AllocError>
-    ensures { OnOk result (map row_of rows.new.items ≡ map row_of rows.old.items ++ pure.field_row words.now class.now name.now ∷ []) }
+    ensures { OnOk result (map row_of rows.new.items
+        ≡ map row_of rows.old.items ++ pure.field_row words.now class.now name.now ∷ []) }
 {
     let class = top_key(alloc, class)?;
     let name = Name::new(alloc, name)?;
@@ -46,7 +47,8 @@ pub(crate) fn method_key(
     name: &str,
     params: Vec<Ty>,
 ) -> Result<MethodKey, AllocError>
-    ensures { IfOk result (λ k. method_key_of k ≡ pure.method_key class.now name.now (map ty_of params.items)) }
+    ensures { IfOk result (λ k.
+        method_key_of k ≡ pure.method_key class.now name.now (map ty_of params.items)) }
 {
     let class = top_key(alloc, class)?;
     let name = Name::new(alloc, name)?;
@@ -67,7 +69,8 @@ fn push_method(
     name: &str,
     params: Vec<Ty>,
 ) -> Result<(), AllocError>
-    ensures { OnOk result (map row_of rows.new.items ≡ map row_of rows.old.items ++ pure.method_row words.now class.now name.now (map ty_of params.items) ∷ []) }
+    ensures { OnOk result (map row_of rows.new.items ≡ map row_of rows.old.items
+        ++ pure.method_row words.now class.now name.now (map ty_of params.items) ∷ []) }
 {
     let key = method_key(alloc, class, name, params)?;
     let modifiers = Mods::from_vec(words.to_vec(alloc)?);

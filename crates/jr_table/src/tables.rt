@@ -41,8 +41,8 @@ impl Table {
 
     /// The table that has exactly these rows, in this order.
     ///
-    /// The prelude's rows stand in front, no two rows have one key, each class that a row names has a row, and no class
-    /// is its own superclass through others (JLS 8.1.4).
+    /// The prelude's rows stand in front, no two rows have one key, each class that a row names has
+    /// a row, and no class is its own superclass through others (JLS 8.1.4).
     pub fn of_rows(alloc: Global, rows: Vec<Row>) -> Result<Table, AllocError>
         requires { AreRows (map row_of rows.items) }
         ensures { IfOk result (λ table. table ≡ map row_of rows.items) }

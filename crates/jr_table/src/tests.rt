@@ -1,8 +1,10 @@
-//! Members, overriding and dispatch in one small program. What is expected is what `javac` and the Java Language
-//! Specification say of its text.
+//! Members, overriding and dispatch in one small program. What is expected is what `javac` and the
+//! Java Language Specification say of its text.
 use crate::prelude_rows::top_key;
 use crate::sample::{method_key, one_class, sample};
-use crate::{FieldKey, MethodKey, Table, Ty};
+use crate::{
+    ClassKey, CtorKey, Decl, FieldKey, LocalKey, MemberKey, MethodKey, Row, Table, Ty, Tys,
+};
 use jr_ast::Name;
 use std::alloc::{AllocError, Global};
 use std::test::Fail;
@@ -169,6 +171,43 @@ const ROWS: [([&str; 4], &str); 35] = [
     (["assignable", "int", "boolean", ""], "no"),
     (["assignable", "null", "int", ""], "no"),
 ];
+
+/// Whether a copy of the row is equal to it.
+fn is_copied(alloc: Global, row: &Row) -> Result<bool, AllocError> {
+    let copy = row.copy(alloc)?;
+    Ok(
+        (copy.decl == row.decl)
+            & (copy.modifiers.as_slice() == row.modifiers.as_slice())
+            & (copy.ty == row.ty)
+            & (copy.parent == row.parent)
+            & (copy.has_init == row.has_init),
+    )
+}
+
+/// The second parameter or local of `D.new()` for a member class `D` of `A`.
+fn second_local(alloc: Global) -> Result<Decl, AllocError> {
+    let outer = Name::new(alloc, "A")?;
+    let name = Name::new(alloc, "D")?;
+    let class = ClassKey {
+        outer: Some(outer),
+        name,
+    };
+    let params = Tys::from_vec(Vec::new(alloc));
+    let member = MemberKey::Ctor(CtorKey { class, params });
+    Ok(Decl::Local(LocalKey { member, number: 1 }))
+}
+
+#[test]
+fn copies_are_equal(rt: HostRuntime) -> Result<(), Fail> {
+    let alloc = rt.alloc();
+    for row in &sample(alloc)? {
+        assert!(rt; is_copied(alloc, row)?);
+    }
+    let local = second_local(alloc)?;
+    let copy = local.copy(alloc)?;
+    assert!(rt; copy == local);
+    Ok(())
+}
 
 #[test]
 fn a_small_program(rt: HostRuntime) -> Result<(), Fail> {
