@@ -1,6 +1,6 @@
 -- What the machine for arguments reads.
 use Rattle.std.proofs.Common.{◌≡◌, List, [], ◌∷◌, ◌++◌, Option, Some, None, refl, sym, ap, subst, ◌∙◌, append_assoc}
-use Rattle.std.specs.Prelude.{option_and_then, option_map, IfSome}
+use Rattle.std.specs.Prelude.{option_and_then, IfSome}
 use Rattle.std.proofs.lemmas.List.{append-nil}
 use Rattle.std.proofs.lemmas.Option.{same_Some}
 use Rattle.jr_lex.specs.declared.items.Symbol.TheVariants.{CloseParen, Comma}
@@ -17,11 +17,10 @@ use Rattle.jr_pexpr.specs.BareMachine.{no_join, bare_step, bare_run, bare_whole}
 use Rattle.jr_pexpr.proofs.Found.{at_some}
 use Rattle.jr_punit.specs.Cues.{Cue, cue_of, cue_token}
 use Rattle.jr_punit.specs.Inside.{inner}
-use Rattle.jr_punit.specs.ArgumentMachine.{State, in_argument, start, next_argument, step, whole, whole_first, whole_none, whole_behind}
+use Rattle.jr_punit.specs.ArgumentMachine.{State, in_argument, start, next_argument, step, whole, whole_none, whole_behind}
 use Rattle.jr_punit.proofs.CueTokens.{cue_back, comma_both}
 use Rattle.jr_punit.proofs.Inside.{inner_both, run_one, driven, read_in}
 use Rattle.jr_punit.proofs.Expressions.{exp_read, exp_sound, exp_closes, exp_unread}
-use Rattle.jr_punit.proofs.StatementSpell.{parts}
 
 abbrev pub args_step : State Bare → Token → Option (State Bare)
 args_step s t = step no_join s tt t

@@ -1,20 +1,19 @@
 -- Members, classes and units: the machines with marks step as those without.
-use Rattle.std.proofs.Common.{◌≡◌, ℕ, Bool, true, false, cond, List, [], ◌∷◌, ◌++◌, Option, Some, None, refl, sym, ap, ◌∙◌}
+use Rattle.std.proofs.Common.{◌≡◌, ℕ, Bool, true, false, cond, List, [], ◌∷◌, Option, Some, None, refl, sym, ap, ◌∙◌}
 use Rattle.std.specs.Prelude.{map, option_map, option_and_then}
 use Rattle.std.specs.Str.{bytes_eq}
 use Rattle.jr_text.specs.declared.spans.Span.{Span}
-use Rattle.jr_ast.specs.Tree.{Word, TypeName, int, boolean, named, Exp, Exps}
+use Rattle.jr_ast.specs.Tree.{Word, TypeName, int, boolean, named, Exp}
 use Rattle.jr_ast.specs.StatementTree as S
-use Rattle.jr_ast.specs.MemberTree.{Modifier, Param, Class, class, Member, field, method, constructor, inner as inner_member, Members, end, more, Unit as UnitTree}
+use Rattle.jr_ast.specs.MemberTree.{Modifier, Param, Class, class, Member, field, Members, end, more}
 use Rattle.jr_ast.specs.Remarked.{map_modifier, map_word, map_class, map_exp, map_stmts, map_member, map_members}
-use Rattle.jr_ast.specs.Marks.{class_mark}
 use Rattle.jr_grammar.specs.Tokens.{Token}
 use Rattle.jr_grammar.specs.Bare.{Bare, no_mark, bare_word, bare_type, bare, bare_args, bare_stmts, bare_class, bare_member, bare_unit}
 use Rattle.jr_pexpr.specs.Machine as E
 use Rattle.jr_pexpr.specs.Marked.{join}
-use Rattle.jr_pexpr.specs.BareMachine.{no_join, bare_state, bare_step, bare_whole}
+use Rattle.jr_pexpr.specs.BareMachine.{no_join, bare_state, bare_whole}
 use Rattle.jr_punit.specs.Cues.{Cue, a_word, a_modifier, a_void, a_class, a_super, an_open, a_semicolon, an_equals, an_extends, an_open_brace, a_package, a_dot, at_open_brace, at_close_brace, cue_of}
-use Rattle.jr_punit.specs.Inside.{inner, settled}
+use Rattle.jr_punit.specs.Inside.{inner}
 use Rattle.jr_punit.specs.TypeMachine as T
 use Rattle.jr_punit.specs.ArgumentMachine as A
 use Rattle.jr_punit.specs.ParameterMachine as P

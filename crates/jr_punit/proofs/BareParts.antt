@@ -1,28 +1,24 @@
 -- Types, arguments, parameters and statements: the machines with marks step as those without.
-use Rattle.std.proofs.Common.{◌≡◌, Bool, true, false, cond, List, [], ◌∷◌, ◌++◌, Option, Some, None, refl, sym, ap, ◌∙◌}
-use Rattle.std.specs.Prelude.{map, option_map, option_and_then, if◌then◌else◌}
+use Rattle.std.proofs.Common.{◌≡◌, Bool, true, false, List, [], ◌∷◌, Option, Some, None, refl, ap, ◌∙◌}
+use Rattle.std.specs.Prelude.{map, option_map, option_and_then}
 use Rattle.jr_text.specs.declared.spans.Span.{Span}
 use Rattle.jr_ast.specs.declared.operators.ModWord.{ModWord}
-use Rattle.jr_ast.specs.declared.operators.ModWord.TheVariants.{Final, Synchronized}
-use Rattle.jr_ast.specs.Tree.{Word, TypeName, int, boolean, named as named_type, Exp, name, field, Exps, end, more}
-use Rattle.jr_ast.specs.StatementTree as S
+use Rattle.jr_ast.specs.declared.operators.ModWord.TheVariants.{Final}
+use Rattle.jr_ast.specs.Tree.{TypeName, int, boolean, named as named_type, Exp, Exps, end, more}
 use Rattle.jr_ast.specs.MemberTree.{Param}
-use Rattle.jr_ast.specs.Marks.{type_mark, exp_mark, stmt_mark}
-use Rattle.jr_ast.specs.Remarked.{map_param, map_exp, map_target, map_exps, map_stmt, map_else, map_stmts}
-use Rattle.jr_grammar.specs.Tokens.{Token, Placed}
-use Rattle.jr_grammar.specs.Bare.{Bare, no_mark, bare_word, bare_type, bare, bare_args, bare_stmt, bare_stmts}
+use Rattle.jr_ast.specs.Remarked.{map_param, map_exp}
+use Rattle.jr_grammar.specs.Tokens.{Token}
+use Rattle.jr_grammar.specs.Bare.{Bare, no_mark, bare_word, bare_type, bare, bare_args}
 use Rattle.jr_pexpr.specs.Machine as E
 use Rattle.jr_pexpr.specs.Marked.{join}
-use Rattle.jr_pexpr.specs.BareMachine.{no_join, bare_state, bare_step, bare_whole, bare_statement_step, bare_statement_whole}
-use Rattle.jr_punit.specs.Cues.{Primitive, an_int, a_boolean, Cue, a_word, a_primitive, a_modifier, an_if, an_else, a_while, a_return, an_open_brace, a_close_brace, a_semicolon, a_dot, at_comma, at_equals, at_open, at_close, at_open_brace, at_semicolon, cue_of}
+use Rattle.jr_pexpr.specs.BareMachine.{no_join, bare_state, bare_whole}
+use Rattle.jr_punit.specs.Cues.{an_int, a_boolean, Cue, a_word, a_primitive, a_modifier, a_dot, at_comma, cue_of}
 use Rattle.jr_punit.specs.Inside.{inner}
 use Rattle.jr_punit.specs.TypeMachine as T
 use Rattle.jr_punit.specs.ArgumentMachine as A
 use Rattle.jr_punit.specs.ParameterMachine as P
-use Rattle.jr_punit.specs.StatementMachine as M
-use Rattle.jr_punit.specs.StatementMachine.{from_ready}
-use Rattle.jr_punit.proofs.Expressions.{exp_step-bare, eval_step-bare, exp_whole-bare, eval_whole-bare}
-use Rattle.jr_punit.proofs.MapSteps.{map-one, map-inner, map-and_then, map-map, map-semicolon, map-open, map-close, map-open_brace, map-comma, map-equals}
+use Rattle.jr_punit.proofs.Expressions.{exp_step-bare, exp_whole-bare}
+use Rattle.jr_punit.proofs.MapSteps.{map-one, map-inner, map-and_then, map-map, map-comma}
 
 -- ---- types
 

@@ -4,16 +4,16 @@ use Rattle.std.specs.Prelude.{option_map, option_and_then}
 use Rattle.jr_text.specs.declared.spans.Span.{Span}
 use Rattle.jr_ast.specs.declared.operators.ModWord.{ModWord}
 use Rattle.jr_ast.specs.declared.operators.ModWord.TheVariants.{Final, Synchronized}
-use Rattle.jr_ast.specs.Tree.{Word, TypeName, Exp, name, field}
-use Rattle.jr_ast.specs.StatementTree.{Stmt, local, eval, branch, loop, return, block, sync, empty, no_else, otherwise, Stmts, end, more}
-use Rattle.jr_ast.specs.Marks.{type_mark, exp_mark, stmt_mark}
-use Rattle.jr_ast.specs.Remarked.{map_exp, map_stmt, map_else, map_stmts}
+use Rattle.jr_ast.specs.Tree.{Word, TypeName, Exp}
+use Rattle.jr_ast.specs.StatementTree.{Stmt, local, branch, loop, return, no_else, otherwise, Stmts, end, more}
+use Rattle.jr_ast.specs.Marks.{type_mark, stmt_mark}
+use Rattle.jr_ast.specs.Remarked.{map_stmt, map_stmts}
 use Rattle.jr_grammar.specs.Tokens.{Token}
 use Rattle.jr_grammar.specs.Bare.{Bare, bare_word, bare_type, bare, bare_stmt, bare_stmts}
 use Rattle.jr_pexpr.specs.Machine as E
 use Rattle.jr_pexpr.specs.Marked.{join}
-use Rattle.jr_pexpr.specs.BareMachine.{no_join, bare_state, bare_step, bare_whole, bare_statement_step, bare_statement_whole}
-use Rattle.jr_punit.specs.Cues.{Primitive, an_int, a_boolean, Cue, a_word, a_primitive, a_modifier, an_if, an_else, a_while, a_return, an_open_brace, a_close_brace, a_semicolon, at_semicolon, at_close, cue_of}
+use Rattle.jr_pexpr.specs.BareMachine.{no_join, bare_state, bare_whole}
+use Rattle.jr_punit.specs.Cues.{Primitive, an_int, a_boolean, Cue, a_word, a_primitive, a_modifier, an_if, an_else, a_while, a_return, an_open_brace, a_close_brace, a_semicolon, at_close, cue_of}
 use Rattle.jr_punit.specs.Inside.{inner}
 use Rattle.jr_punit.specs.TypeMachine as T
 use Rattle.jr_punit.specs.StatementMachine.{Frame, in_block, in_sync, in_then, in_else, in_loop, Head, if_head, while_head, sync_head, Slot, for_local, for_return, for_head, State, ready, done, headed, returning, in_exp, in_eval, locked, in_type, named, with_stmt, Place, place, ended, taken_by_if, may_declare, declared, list_closed, begin_modified, begin_primitive, begin_eval, from_ready, from_place, from_done, begin_value, from_returning, behind_head, filled, from_exp, type_read, begin_local, evaluated, eval_ended, from_eval, local_named, from_type, cue_step, step, whole, whole_in, whole_at}

@@ -1,5 +1,5 @@
 -- What the machine for classes builds over tokens with places has its spans, where what the machine for members builds has.
-use Rattle.std.proofs.Common.{◌≡◌, ℕ, Bool, true, false, cond, List, [], ◌∷◌, ◌++◌, Option, Some, None, refl, sym, ap, subst, ◌∙◌, append_assoc}
+use Rattle.std.proofs.Common.{◌≡◌, ℕ, Bool, true, List, [], ◌∷◌, ◌++◌, Option, Some, None, refl, sym, ap, subst, ◌∙◌}
 use Rattle.std.specs.Prelude.{option_and_then, option_map, unwrap_or, IfSome}
 use Rattle.std.proofs.lemmas.Bool.{cond_both}
 use Rattle.std.proofs.lemmas.List.{append-nil}
@@ -8,11 +8,11 @@ use Rattle.jr_text.specs.declared.spans.Span.{Span}
 use Rattle.jr_lex.specs.declared.items.Keyword.TheVariants.{Class as ClassWord, Extends}
 use Rattle.jr_lex.specs.declared.items.Symbol.TheVariants.{OpenBrace, CloseBrace}
 use Rattle.jr_ast.specs.Tree.{Word, TypeName}
-use Rattle.jr_ast.specs.MemberTree.{Modifier, Class, class, Member, Members, end, more}
+use Rattle.jr_ast.specs.MemberTree.{Modifier, Class, Member, Members, end, more}
 use Rattle.jr_ast.specs.Marks.{class_mark}
-use Rattle.jr_grammar.specs.Tokens.{Token, word, keyword, symbol, Placed}
-use Rattle.jr_grammar.specs.Layout.{Layout, token, node, row, Layouts, done as nothing, ◌then◌}
-use Rattle.jr_grammar.specs.Stands.{Tokens, InOrder, Stands, StandInOrder}
+use Rattle.jr_grammar.specs.Tokens.{Token, keyword, symbol, Placed}
+use Rattle.jr_grammar.specs.Layout.{Layout, token, Layouts, done as nothing, ◌then◌}
+use Rattle.jr_grammar.specs.Stands.{Tokens, InOrder, Stands}
 use Rattle.jr_grammar.specs.ExpressionLayout.{word_layout, type_layout}
 use Rattle.jr_grammar.specs.MemberLayout.{modifiers_layout, extends_layout, class_layout, member_layout, members_layout}
 use Rattle.jr_pexpr.specs.Machine as E
@@ -26,7 +26,7 @@ use Rattle.jr_punit.specs.ClassMachine as C
 use Rattle.jr_punit.specs.ClassMachine.{Head, State, modified, at_class, named, in_parent, in_members, done, start, with_member, head_of, class_of, from_modified, from_class, whole}
 use Rattle.jr_punit.proofs.CueTokens.{cue_back, open_brace_both, close_brace_both}
 use Rattle.jr_punit.proofs.Inside.{inner_both}
-use Rattle.jr_punit.proofs.Standing.{behind, grow, joined, mapped, both, stand_token, stand_one, stand_last, last_stands, stand_word, Whole, Open, open_more, closes, opens, ended_at, alone}
+use Rattle.jr_punit.proofs.Standing.{behind, grow, joined, mapped, stand_token, stand_one, stand_last, last_stands, stand_word, Whole, Open, open_more, closes, opens, ended_at, alone}
 use Rattle.jr_punit.proofs.TypeStands.{StoodType, type_step_stands}
 use Rattle.jr_punit.proofs.ExpressionStands.{span_run_one}
 use Rattle.jr_punit.proofs.OwnStands.{modifiers_one, lead_open}

@@ -1,7 +1,7 @@
 -- Classes, over any machine that reads members.
-use Rattle.std.proofs.Common.{◌≡◌, ℕ, Bool, true, false, cond, List, [], ◌∷◌, ◌++◌, Option, Some, None, refl, sym, ap, subst, ◌∙◌, append_assoc}
+use Rattle.std.proofs.Common.{◌≡◌, ℕ, Bool, true, false, List, [], ◌∷◌, ◌++◌, Option, Some, None, refl, sym, ap, subst, ◌∙◌, append_assoc}
 use Rattle.std.specs.Prelude.{option_and_then, option_map, unwrap_or, IfSome}
-use Rattle.std.proofs.lemmas.Bool.{cond_both, cond-true}
+use Rattle.std.proofs.lemmas.Bool.{cond_both}
 use Rattle.std.proofs.lemmas.List.{append-nil}
 use Rattle.std.proofs.lemmas.Option.{same_Some}
 use Rattle.jr_lex.specs.declared.items.Keyword.TheVariants.{Class as ClassWord, Extends}
@@ -20,7 +20,7 @@ use Rattle.jr_pexpr.specs.Runs as Runs
 use Rattle.jr_pexpr.specs.BareMachine.{no_join}
 use Rattle.jr_pexpr.proofs.Found.{at_some}
 use Rattle.jr_punit.specs.Cues.{Cue, a_word, a_modifier, a_class, an_extends, an_open_brace, cue_token, cue_of, at_close_brace}
-use Rattle.jr_punit.specs.Inside.{inner, settled}
+use Rattle.jr_punit.specs.Inside.{inner}
 use Rattle.jr_punit.specs.TypeMachine as T
 use Rattle.jr_punit.specs.OwnMachine.{Lead}
 use Rattle.jr_punit.specs.ClassMachine as C
@@ -29,7 +29,7 @@ use Rattle.jr_punit.proofs.CueTokens.{cue_back, open_brace_both, close_brace_bot
 use Rattle.jr_punit.proofs.Inside.{inner_both, run_one, read_in, settles}
 use Rattle.jr_punit.proofs.Types as Types
 use Rattle.jr_punit.proofs.Types.{type_step, named_read, a_name}
-use Rattle.jr_punit.proofs.MemberSpell.{spell_class, spell_member, spell_members, spell_class-is, spell_member-is, modifiers-one, members-with_member, shaped-with_member, joined_members, joined-with_member, joined_members-end}
+use Rattle.jr_punit.proofs.MemberSpell.{spell_class, spell_members, spell_class-is, spell_member-is, modifiers-one, members-with_member, shaped-with_member, joined_members, joined-with_member, joined_members-end}
 use Rattle.jr_punit.proofs.OwnComplete.{Modifiers, lead}
 use Rattle.jr_punit.proofs.OwnSound.{spell_lead}
 

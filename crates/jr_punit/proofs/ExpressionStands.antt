@@ -1,5 +1,5 @@
 -- What the machines for expressions build over tokens with places, as it is needed here.
-use Rattle.std.proofs.Common.{◌≡◌, List, [], ◌∷◌, ◌++◌, Option, Some, None, refl, sym, ap, subst, ◌∙◌}
+use Rattle.std.proofs.Common.{◌≡◌, [], ◌∷◌, ◌++◌, Option, Some, None, refl, sym, ap, subst, ◌∙◌}
 use Rattle.std.specs.Prelude.{option_and_then}
 use Rattle.std.proofs.lemmas.List.{append-nil}
 use Rattle.std.proofs.lemmas.Option.{none-some, same_Some}
@@ -8,10 +8,10 @@ use Rattle.jr_ast.specs.Tree.{TypeName, named, Exp, name, field, bump}
 use Rattle.jr_ast.specs.Marks.{type_mark, exp_mark}
 use Rattle.jr_ast.specs.declared.operators.BumpOp.TheVariants.{PreInc, PreDec, PostInc, PostDec}
 use Rattle.jr_grammar.specs.Tokens.{Placed, kinds}
-use Rattle.jr_grammar.specs.Stands.{Tokens, span_of, InOrder, Stands}
+use Rattle.jr_grammar.specs.Stands.{Tokens, span_of, Stands}
 use Rattle.jr_grammar.specs.ExpressionLayout.{word_layout, type_layout, exp_layout}
 use Rattle.jr_pexpr.specs.Machine as E
-use Rattle.jr_pexpr.specs.Marked.{span_step, span_whole, span_run, span_statement_step, span_statement_whole, span_statement_run}
+use Rattle.jr_pexpr.specs.Marked.{span_whole, span_run, span_statement_whole, span_statement_run}
 use Rattle.jr_pexpr.specs.Runs as Runs
 use Rattle.jr_pexpr.proofs.Scans.{run-append}
 use Rattle.jr_pexpr.proofs.Marks.{marks_stand, run_kept, kept_whole, bare_run_of}

@@ -1,6 +1,6 @@
 -- What is needed of the machines for expressions and statement expressions: each reads every tree, and stops at what stands behind
 -- one; each builds but what it read; and what it has read begins some tree.
-use Rattle.std.proofs.Common.{◌≡◌, false, List, [], ◌∷◌, ◌++◌, Option, Some, None, refl, sym, ap, ◌∙◌, arith}
+use Rattle.std.proofs.Common.{◌≡◌, false, List, [], Some, None, refl, sym, ap, ◌∙◌, arith}
 use Rattle.std.proofs.lemmas.List.{append-nil}
 use Rattle.std.specs.Prelude.{option_map}
 use Rattle.jr_text.specs.declared.spans.Span.{Span}

@@ -1,5 +1,5 @@
 -- One member, of a class of either kind: what the machine reads is the member, and what it has begun can be ended.
-use Rattle.std.proofs.Common.{◌≡◌, ℕ, Bool, true, false, cond, List, [], ◌∷◌, ◌++◌, Option, Some, None, refl, sym, ap, subst, ◌∙◌, append_assoc}
+use Rattle.std.proofs.Common.{◌≡◌, ℕ, Bool, true, false, List, [], ◌∷◌, ◌++◌, Option, Some, None, refl, sym, ap, subst, ◌∙◌, append_assoc}
 use Rattle.std.specs.Prelude.{option_and_then, option_map, IfSome}
 use Rattle.std.proofs.lemmas.Bool.{cond_both}
 use Rattle.std.proofs.lemmas.List.{append-nil}
@@ -14,16 +14,15 @@ use Rattle.jr_grammar.specs.MemberSpelling.{modifiers_toks, extends_toks, class_
 use Rattle.jr_grammar.specs.MemberShape.{IsParent, ClassShaped, MemberShaped, MembersShaped}
 use Rattle.jr_grammar.specs.Bare.{Bare}
 use Rattle.jr_pexpr.specs.BareMachine.{no_join}
-use Rattle.jr_pexpr.proofs.Found.{at_some, both_some}
+use Rattle.jr_pexpr.proofs.Found.{at_some}
 use Rattle.jr_punit.specs.Cues.{Cue, a_class, a_word, cue_token, cue_of}
-use Rattle.jr_punit.specs.Inside.{inner}
 use Rattle.jr_punit.specs.OwnMachine as Own
 use Rattle.jr_punit.specs.ClassMachine as C
 use Rattle.jr_punit.specs.MemberMachine.{State, own, in_class, start, class_begun, begin_class, class_member, step, whole, is_start}
 use Rattle.jr_punit.specs.Machines.{member_step, member_whole, member_run}
 use Rattle.jr_punit.proofs.CueTokens.{cue_back}
 use Rattle.jr_punit.proofs.Inside.{inner_both, run_one, driven, map_inner}
-use Rattle.jr_punit.proofs.MemberSpell.{spell_members, spell_class, spell_class-is}
+use Rattle.jr_punit.proofs.MemberSpell.{spell_members, spell_class-is}
 use Rattle.jr_punit.proofs.OwnComplete.{own_step, own_run, Modifiers, lead, modifiers_read, own_reads}
 use Rattle.jr_punit.proofs.OwnEnds.{own_run_is, own_whole_is, own_sound, own_ended, own_unread, own_closes}
 use Rattle.jr_punit.proofs.Classes as Classes

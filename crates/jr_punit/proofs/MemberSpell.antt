@@ -1,5 +1,5 @@
 -- The tokens of members and classes in front of others.
-use Rattle.std.proofs.Common.{◌≡◌, ℕ, Bool, List, [], ◌∷◌, ◌++◌, Option, Some, None, refl, sym, ap, ◌∙◌, append_assoc}
+use Rattle.std.proofs.Common.{◌≡◌, ℕ, Bool, List, [], ◌∷◌, ◌++◌, Some, refl, ap, append_assoc}
 use Rattle.jr_lex.specs.declared.items.Keyword.TheVariants.{Class as ClassWord, Super}
 use Rattle.jr_lex.specs.declared.items.Symbol.TheVariants.{OpenParen, CloseParen, OpenBrace, CloseBrace, Semicolon}
 use Rattle.jr_ast.specs.Tree.{Exps}

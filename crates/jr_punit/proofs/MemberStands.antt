@@ -1,22 +1,20 @@
 -- What the machine for members builds over tokens with places has its spans.
-use Rattle.std.proofs.Common.{◌≡◌, ℕ, Bool, true, false, cond, List, [], ◌∷◌, ◌++◌, Option, Some, None, refl, sym, ap, subst, ◌∙◌}
-use Rattle.std.specs.Prelude.{option_and_then, option_map, IfSome, map}
+use Rattle.std.proofs.Common.{◌≡◌, ℕ, Bool, true, false, List, [], ◌∷◌, ◌++◌, Option, Some, None, refl, sym, ap, subst, ◌∙◌}
+use Rattle.std.specs.Prelude.{option_map, IfSome}
 use Rattle.std.proofs.lemmas.Bool.{cond_both}
 use Rattle.std.proofs.lemmas.Option.{same_Some}
 use Rattle.jr_text.specs.declared.spans.Span.{Span}
 use Rattle.jr_lex.specs.declared.items.Keyword.TheVariants.{Class as ClassWord}
-use Rattle.jr_ast.specs.MemberTree.{Class, class, Member, inner as inner_member}
+use Rattle.jr_ast.specs.MemberTree.{Class, Member}
 use Rattle.jr_ast.specs.Marks.{class_mark}
 use Rattle.jr_grammar.specs.Tokens.{Token, keyword, Placed, kinds}
 use Rattle.jr_grammar.specs.Stands.{Tokens, Stands}
-use Rattle.jr_grammar.specs.MemberLayout.{modifiers_layout, class_layout, member_layout}
+use Rattle.jr_grammar.specs.MemberLayout.{class_layout, member_layout}
 use Rattle.jr_grammar.specs.Bare.{Bare, bare_member}
 use Rattle.jr_pexpr.specs.Marked.{join}
 use Rattle.jr_pexpr.specs.Runs as Runs
-use Rattle.jr_pexpr.specs.BareMachine.{no_join}
 use Rattle.jr_pexpr.proofs.Maps.{run_map}
 use Rattle.jr_punit.specs.Cues.{Cue, a_class, cue_token, cue_of}
-use Rattle.jr_punit.specs.Inside.{inner}
 use Rattle.jr_punit.specs.OwnMachine as Own
 use Rattle.jr_punit.specs.ClassMachine as C
 use Rattle.jr_punit.specs.MemberMachine.{State, own, in_class, start, class_begun, begin_class, inner_step, class_member, step, whole, is_start}

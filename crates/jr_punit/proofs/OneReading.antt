@@ -1,9 +1,9 @@
 -- Trees that spell the same tokens are the same but for their marks, and equal where they have the same spans.
-use Rattle.std.proofs.Common.{◌≡◌, ℕ, Bool, List, [], ◌∷◌, ◌++◌, refl, sym, ap, ◌∙◌}
+use Rattle.std.proofs.Common.{◌≡◌, ℕ, Bool, List, [], ◌++◌, refl, sym, ap, ◌∙◌}
 use Rattle.jr_text.specs.declared.spans.Span.{Span}
 use Rattle.jr_lex.specs.declared.items.Item.{Item}
 use Rattle.jr_lex.specs.Lexes.{Lexes}
-use Rattle.jr_ast.specs.StatementTree.{Stmt, empty, Stmts, end, more}
+use Rattle.jr_ast.specs.StatementTree.{Stmt, Stmts, end, more}
 use Rattle.jr_ast.specs.MemberTree.{Member, Unit as UnitTree}
 use Rattle.jr_grammar.specs.Tokens.{Token, tokens_of}
 use Rattle.jr_grammar.specs.StatementSpelling.{stmt_toks, stmts_toks}

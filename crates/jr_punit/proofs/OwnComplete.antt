@@ -1,20 +1,20 @@
 -- The machine reads every member that is no class.
-use Rattle.std.proofs.Common.{◌≡◌, ℕ, Bool, true, false, List, [], ◌∷◌, ◌++◌, Option, Some, None, refl, sym, ap, ◌∙◌, append_assoc}
+use Rattle.std.proofs.Common.{◌≡◌, ℕ, true, List, [], ◌∷◌, ◌++◌, Option, Some, None, refl, sym, ap, ◌∙◌, append_assoc}
 use Rattle.std.specs.Prelude.{option_and_then, option_map}
 use Rattle.std.specs.Str.{bytes_eq}
 use Rattle.std.proofs.lemmas.Slice.Eq.{bytes_eq-Decides}
 use Rattle.std.proofs.lemmas.Bool.{cond-true}
 use Rattle.std.proofs.lemmas.List.{append-nil}
 use Rattle.jr_lex.specs.declared.items.Keyword.TheVariants.{Super, Void}
-use Rattle.jr_lex.specs.declared.items.Symbol.TheVariants.{OpenParen, CloseParen, OpenBrace, CloseBrace, Semicolon, Equals}
+use Rattle.jr_lex.specs.declared.items.Symbol.TheVariants.{OpenParen, CloseParen, OpenBrace, CloseBrace, Semicolon}
 use Rattle.jr_ast.specs.declared.operators.ModWord.{ModWord}
 use Rattle.jr_ast.specs.declared.operators.ModWord.TheVariants.{Public, Protected, Private, Static, Final, Volatile, Synchronized}
 use Rattle.jr_ast.specs.Tree.{Word, TypeName, int, boolean, named, Exp, Exps}
 use Rattle.jr_ast.specs.StatementTree as S
-use Rattle.jr_ast.specs.MemberTree.{Modifier, Param, Member, field, method, constructor, inner as inner_member}
+use Rattle.jr_ast.specs.MemberTree.{Modifier, Member, field, method, constructor, inner as inner_member}
 use Rattle.jr_grammar.specs.Tokens.{Token, word, keyword, symbol}
 use Rattle.jr_grammar.specs.Spelling.{type_toks, toks, args_toks}
-use Rattle.jr_grammar.specs.Shape.{Shaped, AllShaped}
+use Rattle.jr_grammar.specs.Shape.{AllShaped}
 use Rattle.jr_grammar.specs.StatementSpelling.{stmts_toks}
 use Rattle.jr_grammar.specs.StatementShape.{StmtsShaped, ShapedValue}
 use Rattle.jr_grammar.specs.MemberSpelling.{modifier_keyword, modifiers_toks, params_toks, init_toks, result_toks, super_toks, member_toks}
@@ -25,12 +25,11 @@ use Rattle.jr_pexpr.specs.Machine as E
 use Rattle.jr_pexpr.specs.Machine.{begun}
 use Rattle.jr_pexpr.specs.BareMachine.{no_join, bare_step, bare_whole}
 use Rattle.jr_punit.specs.Cues.{cue_of}
-use Rattle.jr_punit.specs.TypeMachine as T
 use Rattle.jr_punit.specs.ArgumentMachine as Arguments
 use Rattle.jr_punit.specs.ParameterMachine as Parameters
 use Rattle.jr_punit.specs.StatementMachine as Statements
 use Rattle.jr_punit.specs.StatementMachine.{from_ready}
-use Rattle.jr_punit.specs.OwnMachine.{Lead, Head, method_head, constructor_head, Constructor, Body, method_body, constructor_body, State, modified, in_type, voided, worded, in_value, in_params, headed, in_constructor, at_super, in_super, behind_super, in_body, done, start, own_name, begin_constructor, field_with, behind_params, body_of, built, body_closed, without_super, super_read, arguments_closed, with_super, step, whole}
+use Rattle.jr_punit.specs.OwnMachine.{Lead, Head, method_head, constructor_head, Constructor, Body, method_body, constructor_body, State, modified, worded, in_value, in_params, headed, in_constructor, in_super, behind_super, in_body, done, start, own_name, begin_constructor, field_with, behind_params, body_of, built, body_closed, without_super, arguments_closed, with_super, step, whole}
 use Rattle.jr_punit.specs.Machines.{list_step, list_whole, list_run}
 use Rattle.jr_punit.proofs.Inside.{read_in}
 use Rattle.jr_punit.proofs.Expressions.{exp_read}

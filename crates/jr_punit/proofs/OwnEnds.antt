@@ -1,11 +1,11 @@
 -- Members that are no classes: what the machine reads is the member, and what it has begun can be ended.
-use Rattle.std.proofs.Common.{◌≡◌, ℕ, Bool, true, false, List, [], ◌∷◌, ◌++◌, Option, Some, None, refl, sym, ap, subst, ◌∙◌, append_assoc}
+use Rattle.std.proofs.Common.{◌≡◌, ℕ, true, List, [], ◌∷◌, ◌++◌, Option, Some, None, refl, sym, ap, ◌∙◌, append_assoc}
 use Rattle.std.specs.Prelude.{option_and_then, IfSome}
 use Rattle.std.proofs.lemmas.List.{append-nil}
 use Rattle.std.proofs.lemmas.Option.{same_Some}
 use Rattle.jr_lex.specs.declared.items.Keyword.TheVariants.{Super}
 use Rattle.jr_lex.specs.declared.items.Symbol.TheVariants.{OpenParen, CloseParen, OpenBrace, CloseBrace, Semicolon, Equals}
-use Rattle.jr_ast.specs.Tree.{Word, TypeName, named, Exp, Exps, end}
+use Rattle.jr_ast.specs.Tree.{TypeName, named, Exps, end}
 use Rattle.jr_ast.specs.StatementTree as S
 use Rattle.jr_ast.specs.MemberTree.{Param, Member, field, method, constructor}
 use Rattle.jr_grammar.specs.Tokens.{Token, word, keyword, symbol}
@@ -14,11 +14,11 @@ use Rattle.jr_grammar.specs.Shape.{AllShaped}
 use Rattle.jr_grammar.specs.Readings.{Begins}
 use Rattle.jr_grammar.specs.StatementSpelling.{stmts_toks}
 use Rattle.jr_grammar.specs.StatementShape.{StmtsShaped}
-use Rattle.jr_grammar.specs.MemberSpelling.{modifiers_toks, params_toks, super_toks, member_toks}
+use Rattle.jr_grammar.specs.MemberSpelling.{params_toks, super_toks, member_toks}
 use Rattle.jr_grammar.specs.MemberShape.{MemberShaped}
 use Rattle.jr_grammar.specs.Bare.{Bare}
 use Rattle.jr_pexpr.proofs.Found.{at_some}
-use Rattle.jr_punit.specs.OwnMachine.{Lead, Head, method_head, constructor_head, Constructor, Body, method_body, constructor_body, State, modified, in_type, voided, worded, in_value, in_params, headed, in_constructor, at_super, in_super, behind_super, in_body, done, start, built, whole}
+use Rattle.jr_punit.specs.OwnMachine.{Lead, Head, method_head, constructor_head, Constructor, Body, method_body, constructor_body, State, modified, in_type, voided, worded, in_value, in_params, headed, in_constructor, at_super, in_super, behind_super, in_body, done, start, whole}
 use Rattle.jr_punit.proofs.Expressions.{exp_closes}
 use Rattle.jr_punit.proofs.Types as Types
 use Rattle.jr_punit.proofs.Types.{a_name}
@@ -26,7 +26,7 @@ use Rattle.jr_punit.proofs.Arguments.{args_closes}
 use Rattle.jr_punit.proofs.Parameters as Params
 use Rattle.jr_punit.proofs.StatementEnds.{list_closes}
 use Rattle.jr_punit.proofs.MemberSpell.{spell_member, spell_member-is, super-is}
-use Rattle.jr_punit.proofs.OwnComplete.{own_step, own_run, own_reads}
+use Rattle.jr_punit.proofs.OwnComplete.{own_step, own_run}
 use Rattle.jr_punit.proofs.OwnSound.{spell_lead, spell_head, spell_constructor, spell_body, spell_state, GoodHead, GoodConstructor, GoodBody, Good, Sound, StepSound, step_sound}
 
 -- ---- runs

@@ -1,5 +1,5 @@
 -- What the machine has read of a member that is no class.
-use Rattle.std.proofs.Common.{◌≡◌, ℕ, Bool, true, false, cond, List, [], ◌∷◌, ◌++◌, Option, Some, None, refl, sym, ap, subst, ◌∙◌, append_assoc}
+use Rattle.std.proofs.Common.{◌≡◌, ℕ, true, List, [], ◌∷◌, ◌++◌, Option, Some, None, refl, sym, ap, subst, ◌∙◌, append_assoc}
 use Rattle.std.specs.Prelude.{option_and_then, option_map, IfSome}
 use Rattle.std.specs.Str.{bytes_eq}
 use Rattle.std.proofs.lemmas.Slice.Eq.{bytes_eq-Decides}
@@ -8,11 +8,10 @@ use Rattle.jr_lex.specs.declared.items.Keyword.TheVariants.{Super, Void}
 use Rattle.jr_lex.specs.declared.items.Symbol.TheVariants.{OpenParen, CloseParen, OpenBrace, CloseBrace, Semicolon, Equals}
 use Rattle.jr_ast.specs.Tree.{Word, TypeName, int, boolean, named, Exp, Exps}
 use Rattle.jr_ast.specs.StatementTree as S
-use Rattle.jr_ast.specs.MemberTree.{Modifier, Param, Member, field, method, constructor}
+use Rattle.jr_ast.specs.MemberTree.{Param, field}
 use Rattle.jr_grammar.specs.Tokens.{Token, word, keyword, symbol}
-use Rattle.jr_grammar.specs.Spelling.{type_toks, toks, args_toks}
+use Rattle.jr_grammar.specs.Spelling.{type_toks, args_toks}
 use Rattle.jr_grammar.specs.Shape.{AllShaped}
-use Rattle.jr_grammar.specs.StatementSpelling.{stmts_toks}
 use Rattle.jr_grammar.specs.MemberSpelling.{modifiers_toks, params_toks, result_toks, super_toks}
 use Rattle.jr_grammar.specs.MemberShape.{ShapedArgs, MemberShaped}
 use Rattle.jr_grammar.specs.Bare.{Bare}
@@ -26,7 +25,7 @@ use Rattle.jr_punit.specs.ArgumentMachine as Arguments
 use Rattle.jr_punit.specs.ParameterMachine as Parameters
 use Rattle.jr_punit.specs.StatementMachine as Statements
 use Rattle.jr_punit.specs.StatementMachine.{from_ready}
-use Rattle.jr_punit.specs.OwnMachine.{Lead, Head, method_head, constructor_head, Constructor, Body, method_body, constructor_body, State, modified, in_type, voided, worded, in_value, in_params, headed, in_constructor, at_super, in_super, behind_super, in_body, done, start, from_modified, own_name, begin_constructor, behind_type, from_type, from_voided, field_without, begin_value, from_worded, field_with, from_value, behind_params, from_params, body_of, built, body_closed, from_body, without_super, from_constructor, super_read, from_super, arguments_closed, from_arguments, with_super, cue_step, whole}
+use Rattle.jr_punit.specs.OwnMachine.{Lead, Head, method_head, constructor_head, Constructor, Body, method_body, constructor_body, State, modified, in_type, voided, worded, in_value, in_params, headed, in_constructor, at_super, in_super, behind_super, in_body, done, from_modified, own_name, begin_constructor, behind_type, from_type, from_voided, from_worded, field_with, from_value, behind_params, from_params, body_of, built, body_closed, from_body, without_super, from_constructor, super_read, from_super, arguments_closed, from_arguments, with_super, cue_step}
 use Rattle.jr_punit.specs.Machines.{list_step, list_whole, list_run}
 use Rattle.jr_punit.proofs.CueTokens.{cue_back, semicolon_both, close_both, open_brace_both, close_brace_both}
 use Rattle.jr_punit.proofs.Inside.{inner_both, run_one}
@@ -36,7 +35,7 @@ use Rattle.jr_punit.proofs.Arguments.{args_step, args_whole, args_run, args_soun
 use Rattle.jr_punit.proofs.Parameters as Params
 use Rattle.jr_punit.proofs.StatementEnds.{list_sound}
 use Rattle.jr_punit.proofs.MemberSpell.{spell_member, modifiers-one, super-is}
-use Rattle.jr_punit.proofs.OwnComplete.{own_step, own_run, Modifiers, lead}
+use Rattle.jr_punit.proofs.OwnComplete.{own_step, Modifiers, lead}
 
 -- ---- what has been read
 

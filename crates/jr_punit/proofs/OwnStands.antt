@@ -1,9 +1,8 @@
 -- What the machine for members that are no classes builds over tokens with places has its spans.
-use Rattle.std.proofs.Common.{◌≡◌, ℕ, Bool, true, false, cond, List, [], ◌∷◌, ◌++◌, Option, Some, None, refl, sym, ap, subst, ◌∙◌, append_assoc}
+use Rattle.std.proofs.Common.{◌≡◌, ℕ, true, List, [], ◌∷◌, ◌++◌, Option, Some, None, refl, sym, ap, subst, ◌∙◌, append_assoc}
 use Rattle.std.specs.Prelude.{option_and_then, option_map, IfSome}
 use Rattle.std.specs.Str.{bytes_eq}
 use Rattle.std.proofs.lemmas.Bool.{cond_both}
-use Rattle.std.proofs.lemmas.List.{append-nil}
 use Rattle.std.proofs.lemmas.Option.{same_Some}
 use Rattle.jr_text.specs.declared.spans.Span.{Span}
 use Rattle.jr_lex.specs.declared.items.Keyword.TheVariants.{Super, Void}
@@ -11,19 +10,18 @@ use Rattle.jr_lex.specs.declared.items.Symbol.TheVariants.{OpenParen, CloseParen
 use Rattle.jr_ast.specs.declared.operators.ModWord.{ModWord}
 use Rattle.jr_ast.specs.Tree.{Word, TypeName, int, boolean, named, Exp, Exps}
 use Rattle.jr_ast.specs.StatementTree as S
-use Rattle.jr_ast.specs.MemberTree.{Modifier, Param, Member, field, method, constructor}
+use Rattle.jr_ast.specs.MemberTree.{Modifier, Param, Member, field}
 use Rattle.jr_ast.specs.Marks.{member_mark}
 use Rattle.jr_grammar.specs.Tokens.{Token, word, keyword, symbol, Placed}
 use Rattle.jr_grammar.specs.MemberSpelling.{modifier_keyword}
-use Rattle.jr_grammar.specs.Layout.{Layout, token, node, row, Layouts, done as nothing, ◌then◌}
+use Rattle.jr_grammar.specs.Layout.{Layout, token, Layouts, done as nothing, ◌then◌}
 use Rattle.jr_grammar.specs.Stands.{Tokens, first_from, InOrder, Stands, StandInOrder}
 use Rattle.jr_grammar.specs.ExpressionLayout.{word_layout, type_layout, exp_layout, args_layout}
 use Rattle.jr_grammar.specs.StatementLayout.{stmts_layout}
-use Rattle.jr_grammar.specs.MemberLayout.{modifier_layout, modifiers_layout, params_layout, init_layout, result_layout, parent_call_layout, member_layout}
+use Rattle.jr_grammar.specs.MemberLayout.{modifiers_layout, params_layout, init_layout, result_layout, parent_call_layout, member_layout}
 use Rattle.jr_pexpr.specs.Machine as E
 use Rattle.jr_pexpr.specs.Machine.{begun}
 use Rattle.jr_pexpr.specs.Marked.{join, span_step, span_whole, span_run}
-use Rattle.jr_pexpr.specs.Runs as Runs
 use Rattle.jr_pexpr.proofs.Found.{at_some}
 use Rattle.jr_punit.specs.Cues.{Cue, a_word, a_modifier, a_void, a_super, an_open, a_semicolon, an_equals, cue_token, cue_of}
 use Rattle.jr_punit.specs.TypeMachine as T
@@ -31,13 +29,13 @@ use Rattle.jr_punit.specs.ArgumentMachine as A
 use Rattle.jr_punit.specs.ParameterMachine as P
 use Rattle.jr_punit.specs.StatementMachine as M
 use Rattle.jr_punit.specs.StatementMachine.{from_ready}
-use Rattle.jr_punit.specs.OwnMachine.{Lead, Head, method_head, constructor_head, Constructor, Body, method_body, constructor_body, State, modified, in_type, voided, worded, in_value, in_params, headed, in_constructor, at_super, in_super, behind_super, in_body, done, start, modifier, begins_at, lead_of, from_modified, own_name, begin_constructor, begin_params, behind_type, from_type, from_voided, field_without, begin_value, from_worded, field_with, from_value, behind_params, from_params, body_of, built, body_closed, from_body, without_super, from_constructor, super_read, from_super, arguments_closed, from_arguments, with_super, cue_step, step, whole}
+use Rattle.jr_punit.specs.OwnMachine.{Lead, Head, method_head, constructor_head, Constructor, Body, method_body, constructor_body, State, modified, in_type, voided, worded, in_value, in_params, headed, in_constructor, at_super, in_super, behind_super, in_body, done, modifier, begins_at, lead_of, from_modified, own_name, begin_constructor, begin_params, behind_type, from_type, from_voided, field_without, from_worded, field_with, from_value, behind_params, from_params, body_of, built, body_closed, from_body, without_super, from_constructor, super_read, from_super, arguments_closed, from_arguments, with_super, cue_step, step, whole}
 use Rattle.jr_punit.specs.Marked.{span_list_step, span_list_whole, span_list_run}
 use Rattle.jr_punit.proofs.CueTokens.{cue_back, semicolon_both, close_both, open_brace_both, close_brace_both}
 use Rattle.jr_punit.proofs.Inside.{inner_both}
 use Rattle.jr_punit.proofs.Standing.{IsMore, more_append, more_after, first_from-append, behind, grow, joined, mapped, first_mapped, both, stand_both, stand_token, stand_one, stand_last, last_stands, stand_word, Whole, Open, open_more, closes, opens, ended_at, alone}
 use Rattle.jr_punit.proofs.TypeStands.{StoodType, StoodTyped, type_begun, typed_more, typed_word}
-use Rattle.jr_punit.proofs.ParameterStands.{StoodParams, params_step_stands, params_whole_stands, span_args_step, span_args_whole, span_args_run, args_stand, run_stands}
+use Rattle.jr_punit.proofs.ParameterStands.{StoodParams, params_step_stands, params_whole_stands, span_args_step, span_args_whole, span_args_run, args_stand}
 use Rattle.jr_punit.proofs.StatementStands.{list_stands, list_whole_stands}
 use Rattle.jr_punit.proofs.ExpressionStands.{span_run_one, exp_whole_stands}
 

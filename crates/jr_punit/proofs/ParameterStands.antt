@@ -1,6 +1,6 @@
 -- What the machines for parameters and arguments build over tokens with places has its spans.
 use Rattle.std.proofs.Common.{◌≡◌, Bool, true, false, List, [], ◌∷◌, ◌++◌, Option, Some, None, refl, sym, ap, subst, ◌∙◌, append_assoc}
-use Rattle.std.specs.Prelude.{option_and_then, option_map, IfSome, map}
+use Rattle.std.specs.Prelude.{option_and_then, option_map, IfSome}
 use Rattle.std.proofs.lemmas.List.{append-nil}
 use Rattle.std.proofs.lemmas.Option.{same_Some}
 use Rattle.jr_text.specs.declared.spans.Span.{Span}
@@ -8,13 +8,12 @@ use Rattle.jr_lex.specs.declared.items.Keyword.TheVariants.{Final as FinalWord}
 use Rattle.jr_lex.specs.declared.items.Symbol.TheVariants.{Comma}
 use Rattle.jr_ast.specs.declared.operators.ModWord.{ModWord}
 use Rattle.jr_ast.specs.declared.operators.ModWord.TheVariants.{Final}
-use Rattle.jr_ast.specs.Tree.{TypeName, Exp, Exps, end, more}
+use Rattle.jr_ast.specs.Tree.{Exp, Exps, end, more}
 use Rattle.jr_ast.specs.MemberTree.{Param}
-use Rattle.jr_ast.specs.Marks.{exp_mark}
-use Rattle.jr_grammar.specs.Tokens.{Token, keyword, symbol, Placed, kinds}
-use Rattle.jr_grammar.specs.Layout.{Layout, token, node, row, Layouts, done as nothing, ◌then◌}
-use Rattle.jr_grammar.specs.Stands.{Tokens, last_to, InOrder, Stands, StandInOrder}
-use Rattle.jr_grammar.specs.ExpressionLayout.{word_layout, type_layout, exp_layout, args_layout, more_args_layout}
+use Rattle.jr_grammar.specs.Tokens.{Token, keyword, symbol, Placed}
+use Rattle.jr_grammar.specs.Layout.{token, row, Layouts, done as nothing, ◌then◌}
+use Rattle.jr_grammar.specs.Stands.{Tokens, InOrder, Stands, StandInOrder}
+use Rattle.jr_grammar.specs.ExpressionLayout.{exp_layout, args_layout, more_args_layout}
 use Rattle.jr_grammar.specs.StatementLayout.{final_layout}
 use Rattle.jr_grammar.specs.MemberLayout.{param_layout, params_layout, more_params_layout}
 use Rattle.jr_pexpr.specs.Machine as E
@@ -28,7 +27,7 @@ use Rattle.jr_punit.specs.ArgumentMachine as A
 use Rattle.jr_punit.specs.ParameterMachine as P
 use Rattle.jr_punit.proofs.CueTokens.{cue_back, comma_both}
 use Rattle.jr_punit.proofs.Inside.{inner_both}
-use Rattle.jr_punit.proofs.Standing.{IsMore, last_to-append, behind, grow, joined, mapped, stand_token, stand_one, stand_last, last_stands, Whole, open_closed, alone}
+use Rattle.jr_punit.proofs.Standing.{last_to-append, behind, grow, joined, stand_one, stand_last, last_stands, open_closed, alone}
 use Rattle.jr_punit.proofs.TypeStands.{StoodType, StoodTyped, type_begun, typed_more, typed_word}
 use Rattle.jr_punit.proofs.ExpressionStands.{span_run_one, exp_whole_stands, span_unread}
 

@@ -1,5 +1,5 @@
 -- What the machine for parameters reads.
-use Rattle.std.proofs.Common.{◌≡◌, Bool, true, false, List, [], ◌∷◌, ◌++◌, Option, Some, None, refl, sym, ap, subst, ◌∙◌, append_assoc}
+use Rattle.std.proofs.Common.{◌≡◌, Bool, true, false, List, [], ◌∷◌, ◌++◌, Option, Some, None, refl, sym, ap, ◌∙◌, append_assoc}
 use Rattle.std.specs.Prelude.{option_and_then, option_map, IfSome}
 use Rattle.std.proofs.lemmas.List.{append-nil}
 use Rattle.std.proofs.lemmas.Option.{same_Some}
@@ -15,11 +15,11 @@ use Rattle.jr_grammar.specs.MemberSpelling.{param_toks, params_toks, more_params
 use Rattle.jr_grammar.specs.Bare.{Bare}
 use Rattle.jr_pexpr.specs.Runs as Runs
 use Rattle.jr_pexpr.specs.BareMachine.{no_join}
-use Rattle.jr_punit.specs.Cues.{Cue, a_word, a_modifier, a_primitive, cue_token, cue_of}
+use Rattle.jr_punit.specs.Cues.{Cue, a_word, a_modifier, cue_token, cue_of}
 use Rattle.jr_punit.specs.Inside.{inner}
 use Rattle.jr_punit.specs.TypeMachine as T
-use Rattle.jr_punit.specs.ParameterMachine.{State, want, in_type, have, start, begin_type, begin_final, from_want, named, from_type, cue_step, step, whole, whole_none}
-use Rattle.jr_punit.proofs.CueTokens.{cue_back, comma_both}
+use Rattle.jr_punit.specs.ParameterMachine.{State, want, in_type, have, start, begin_type, begin_final, from_want, named, from_type, cue_step, step, whole}
+use Rattle.jr_punit.proofs.CueTokens.{comma_both}
 use Rattle.jr_punit.proofs.Inside.{read_in}
 use Rattle.jr_punit.proofs.Types as Types
 use Rattle.jr_punit.proofs.Types.{type_step, any_read, a_name}

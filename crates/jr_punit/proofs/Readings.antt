@@ -8,7 +8,7 @@ use Rattle.jr_grammar.specs.StatementSpelling.{stmts_toks}
 use Rattle.jr_grammar.specs.StatementShape.{StmtsShaped}
 use Rattle.jr_grammar.specs.MemberSpelling.{member_toks, unit_toks}
 use Rattle.jr_grammar.specs.MemberShape.{MemberShaped, UnitShaped}
-use Rattle.jr_grammar.specs.Units.{IsUnit, IsNoUnit, OneUnit, OneMember, IsLongestMember, HasNoMember, OneList}
+use Rattle.jr_grammar.specs.Units.{OneUnit, OneMember, IsLongestMember, HasNoMember, OneList}
 use Rattle.jr_grammar.specs.Bare.{Bare}
 use Rattle.jr_pexpr.specs.Runs.{run}
 use Rattle.jr_pexpr.proofs.Found.{both_some, one_tree_of, longest_is, longest_none, stop_is}

@@ -1,11 +1,11 @@
 -- Parts that stand one behind the other, and nodes that end.
-use Rattle.std.proofs.Common.{◌≡◌, List, [], ◌∷◌, ◌++◌, Option, Some, None, refl, sym, ap, subst, ◌∙◌, append_assoc}
+use Rattle.std.proofs.Common.{◌≡◌, [], ◌∷◌, ◌++◌, refl, sym, ap, subst, ◌∙◌, append_assoc}
 use Rattle.std.proofs.lemmas.List.{append-nil}
 use Rattle.jr_text.specs.declared.spans.Span.{Span}
 use Rattle.jr_ast.specs.Tree.{Word}
 use Rattle.jr_grammar.specs.Tokens.{Token, word, Placed}
-use Rattle.jr_grammar.specs.Layout.{Layout, token, node, row, Layouts, done, ◌then◌}
-use Rattle.jr_grammar.specs.Stands.{Tokens, first_from, last_to, span_of, IsAlone, InOrder, IsNode, Stands, StandInOrder}
+use Rattle.jr_grammar.specs.Layout.{Layout, token, node, Layouts, done, ◌then◌}
+use Rattle.jr_grammar.specs.Stands.{Tokens, first_from, last_to, span_of, InOrder, Stands, StandInOrder}
 use Rattle.jr_grammar.specs.ExpressionLayout.{word_layout}
 use Rattle.jr_pexpr.specs.Marked.{join}
 

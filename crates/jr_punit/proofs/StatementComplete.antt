@@ -1,27 +1,26 @@
 -- The machine reads every list of statements.
-use Rattle.std.proofs.Common.{◌≡◌, Bool, true, false, List, [], ◌∷◌, ◌++◌, Option, Some, None, refl, sym, ap, ◌∙◌, append_assoc, ◌⊎◌, inl, inr}
+use Rattle.std.proofs.Common.{◌≡◌, Bool, true, false, List, [], ◌∷◌, ◌++◌, Option, Some, None, refl, sym, ap, ◌∙◌, ◌⊎◌, inl, inr}
 use Rattle.std.specs.Prelude.{option_and_then, option_map}
 use Rattle.std.proofs.lemmas.List.{append-nil}
 use Rattle.std.proofs.lemmas.Bool.{cond-true}
 use Rattle.jr_lex.specs.declared.items.Keyword.TheVariants.{Boolean, Else, Final, If, Int, While, Return, Synchronized, Public, Protected, Private, Static, Volatile}
-use Rattle.jr_lex.specs.declared.items.Symbol.TheVariants.{OpenParen, CloseParen, OpenBrace, CloseBrace, Semicolon, Equals, Dot}
+use Rattle.jr_lex.specs.declared.items.Symbol.TheVariants.{CloseParen, OpenBrace, CloseBrace, Semicolon, Equals}
 use Rattle.jr_ast.specs.Tree.{Word, TypeName, int, boolean, named as named_type, Exp}
 use Rattle.jr_ast.specs.StatementTree.{Stmt, local, eval, branch, loop, return, block, sync, empty, Else as Otherwise, no_else, otherwise, Stmts, end, more}
 use Rattle.jr_grammar.specs.Tokens.{Token, word, keyword, symbol}
 use Rattle.jr_grammar.specs.Spelling.{type_toks, toks}
 use Rattle.jr_grammar.specs.Shape.{Shaped, ShapedStatement}
-use Rattle.jr_pexpr.specs.Runs.{run}
 use Rattle.jr_pexpr.specs.Machine as E
 use Rattle.jr_pexpr.specs.Machine.{begun, extended}
 use Rattle.jr_grammar.specs.Bare.{Bare}
-use Rattle.jr_pexpr.specs.BareMachine.{no_join, bare_step, bare_run, bare_whole, bare_statement_step, bare_statement_run, bare_statement_whole}
+use Rattle.jr_pexpr.specs.BareMachine.{no_join, bare_step, bare_whole, bare_statement_step, bare_statement_run, bare_statement_whole}
 use Rattle.jr_grammar.specs.StatementSpelling.{final_toks, stmts_toks}
 use Rattle.jr_grammar.specs.StatementShape.{IsNoDeclaration, TakesNoElse, EndsTaken, StmtShaped, ElseShaped, StmtsShaped}
 use Rattle.jr_punit.specs.Cues.{cue_of}
 use Rattle.jr_punit.specs.TypeMachine as T
-use Rattle.jr_punit.specs.StatementMachine.{Frame, in_block, in_sync, in_then, in_else, in_loop, Head, if_head, while_head, sync_head, Slot, for_local, for_return, for_head, State, ready, done, headed, returning, in_exp, in_eval, locked, in_type, named, start, with_stmt, Place, ended, taken_by_if, list_closed, may_declare, declared, from_ready, filled, behind_head, evaluated, eval_ended, local_named, whole_at}
+use Rattle.jr_punit.specs.StatementMachine.{Frame, in_block, in_sync, in_then, in_else, in_loop, if_head, while_head, sync_head, Slot, for_local, for_return, for_head, State, ready, done, returning, in_exp, in_eval, in_type, named, start, with_stmt, Place, ended, taken_by_if, list_closed, may_declare, declared, from_ready, filled, behind_head, evaluated, eval_ended, local_named, whole_at}
 use Rattle.jr_punit.specs.Machines.{list_step, list_whole, list_run}
-use Rattle.jr_punit.proofs.Inside.{driven, read_in, read_first}
+use Rattle.jr_punit.proofs.Inside.{read_in, read_first}
 use Rattle.jr_punit.proofs.Expressions.{exp_read, eval_read}
 use Rattle.jr_punit.proofs.Types.{type_step, any_read}
 use Rattle.jr_punit.proofs.StatementSpell.{spell, spell_else, spells, spells-is, joined, joined-with_stmt, joined-end}

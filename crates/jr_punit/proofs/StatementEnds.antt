@@ -1,23 +1,21 @@
 -- Lists of statements: what the machine reads is the list, and what it has begun can be ended.
-use Rattle.std.proofs.Common.{◌≡◌, Bool, true, false, List, [], ◌∷◌, ◌++◌, Option, Some, None, refl, sym, ap, subst, ◌∙◌, append_assoc, inl, inr}
+use Rattle.std.proofs.Common.{◌≡◌, true, List, [], ◌∷◌, ◌++◌, Option, Some, None, refl, sym, ap, subst, ◌∙◌, append_assoc, inl, inr}
 use Rattle.std.specs.Prelude.{option_and_then, IfSome}
 use Rattle.std.proofs.lemmas.List.{append-nil}
 use Rattle.std.proofs.lemmas.Option.{same_Some}
 use Rattle.jr_lex.specs.declared.items.Symbol.TheVariants.{OpenParen, CloseParen, OpenBrace, CloseBrace, Semicolon, Equals}
-use Rattle.jr_ast.specs.Tree.{Word, TypeName, Exp, name}
-use Rattle.jr_ast.specs.StatementTree.{Stmt, local, eval, branch, loop, return, block, sync, empty, no_else, otherwise, Stmts, end, more}
+use Rattle.jr_ast.specs.Tree.{Exp, name}
+use Rattle.jr_ast.specs.StatementTree.{Stmt, local, eval, branch, loop, return, block, sync, empty, no_else, otherwise, Stmts, end}
 use Rattle.jr_grammar.specs.Tokens.{Token, word, keyword, symbol}
-use Rattle.jr_grammar.specs.Spelling.{type_toks, toks}
+use Rattle.jr_grammar.specs.Spelling.{toks}
 use Rattle.jr_grammar.specs.Shape.{Shaped}
 use Rattle.jr_grammar.specs.Readings.{Begins}
 use Rattle.jr_grammar.specs.StatementSpelling.{final_toks, stmts_toks}
 use Rattle.jr_grammar.specs.StatementShape.{StmtShaped, StmtsShaped}
 use Rattle.jr_grammar.specs.Bare.{Bare}
-use Rattle.jr_pexpr.specs.Machine as E
-use Rattle.jr_pexpr.specs.BareMachine.{no_join, bare_run, bare_statement_run}
+use Rattle.jr_pexpr.specs.BareMachine.{no_join}
 use Rattle.jr_pexpr.proofs.Found.{at_some}
-use Rattle.jr_punit.specs.TypeMachine as T
-use Rattle.jr_punit.specs.StatementMachine.{Frame, in_block, in_sync, in_then, in_else, in_loop, Head, if_head, while_head, sync_head, Slot, for_local, for_return, for_head, State, ready, done, headed, returning, in_exp, in_eval, locked, in_type, named, start, with_stmt, ended, may_declare, whole_in}
+use Rattle.jr_punit.specs.StatementMachine.{in_block, in_sync, in_then, in_else, in_loop, Head, if_head, while_head, sync_head, Slot, for_local, for_return, for_head, State, ready, done, headed, returning, in_exp, in_eval, locked, in_type, named, start, with_stmt, ended, whole_in}
 use Rattle.jr_punit.specs.Machines.{list_step, list_whole, list_run}
 use Rattle.jr_punit.proofs.Expressions.{exp_closes, eval_closes}
 use Rattle.jr_punit.proofs.Types as Types

@@ -1,5 +1,5 @@
 -- What the machine has read of a list of statements is what stands on its stack.
-use Rattle.std.proofs.Common.{◌≡◌, Bool, true, false, cond, List, [], ◌∷◌, ◌++◌, Option, Some, None, refl, sym, ap, subst, ◌∙◌, append_assoc, ◌⊎◌, inl, inr}
+use Rattle.std.proofs.Common.{◌≡◌, Bool, true, false, List, [], ◌∷◌, ◌++◌, Option, Some, None, refl, sym, ap, subst, ◌∙◌, append_assoc, inl, inr}
 use Rattle.std.specs.Prelude.{option_and_then, option_map, IfSome}
 use Rattle.std.proofs.lemmas.Bool.{cond_both}
 use Rattle.jr_lex.specs.declared.items.Keyword.{Keyword}
@@ -7,8 +7,8 @@ use Rattle.jr_lex.specs.declared.items.Keyword.TheVariants.{Else, If, While, Ret
 use Rattle.jr_lex.specs.declared.items.Symbol.TheVariants.{OpenParen, CloseParen, OpenBrace, CloseBrace, Semicolon, Equals}
 use Rattle.jr_ast.specs.declared.operators.ModWord.{ModWord}
 use Rattle.jr_ast.specs.declared.operators.ModWord.TheVariants.{Final, Synchronized}
-use Rattle.jr_ast.specs.Tree.{Word, TypeName, Exp}
-use Rattle.jr_ast.specs.StatementTree.{Stmt, local, eval, branch, loop, return, block, sync, empty, no_else, otherwise, Stmts, end, more}
+use Rattle.jr_ast.specs.Tree.{TypeName, Exp}
+use Rattle.jr_ast.specs.StatementTree.{Stmt, local, branch, loop, return, no_else, otherwise, Stmts, end}
 use Rattle.jr_grammar.specs.Tokens.{Token, word, keyword, symbol}
 use Rattle.jr_grammar.specs.Spelling.{type_toks, toks}
 use Rattle.jr_grammar.specs.Shape.{Shaped}
@@ -20,8 +20,8 @@ use Rattle.jr_pexpr.specs.BareMachine.{no_join, bare_step, bare_run, bare_whole,
 use Rattle.jr_punit.specs.Cues.{Primitive, an_int, a_boolean, Cue, a_word, a_primitive, a_modifier, an_if, an_else, a_while, a_return, an_open_brace, a_close_brace, a_semicolon, cue_token, cue_of}
 use Rattle.jr_punit.specs.Inside.{inner}
 use Rattle.jr_punit.specs.TypeMachine as T
-use Rattle.jr_punit.specs.StatementMachine.{Frame, in_block, in_sync, in_then, in_else, in_loop, Head, if_head, while_head, sync_head, Slot, for_local, for_return, for_head, State, ready, done, headed, returning, in_exp, in_eval, locked, in_type, named, with_stmt, Place, ended, taken_by_if, may_declare, declared, list_closed, begin_modified, begin_eval, from_ready, from_place, from_done, from_returning, behind_head, filled, from_exp, type_read, begin_local, evaluated, eval_ended, from_eval, local_named, from_type, cue_step}
-use Rattle.jr_punit.specs.Machines.{list_step, list_whole, list_run}
+use Rattle.jr_punit.specs.StatementMachine.{Frame, in_block, in_sync, in_then, in_else, in_loop, Head, if_head, while_head, sync_head, Slot, for_local, for_return, for_head, State, ready, done, headed, returning, in_exp, in_eval, locked, in_type, named, Place, ended, taken_by_if, may_declare, declared, list_closed, begin_modified, from_ready, from_place, from_done, from_returning, behind_head, filled, from_exp, type_read, begin_local, evaluated, eval_ended, from_eval, local_named, from_type, cue_step}
+use Rattle.jr_punit.specs.Machines.{list_step}
 use Rattle.jr_punit.proofs.CueTokens.{cue_back, semicolon_both, open_both, close_both, open_brace_both, equals_both}
 use Rattle.jr_punit.proofs.Inside.{inner_both, run_one}
 use Rattle.jr_punit.proofs.Expressions.{exp_sound, eval_sound, eval_runs, name_toks}

@@ -1,35 +1,34 @@
 -- What the machine for statements builds over tokens with places has its spans.
-use Rattle.std.proofs.Common.{◌≡◌, ℕ, Bool, true, false, cond, List, [], ◌∷◌, ◌++◌, Option, Some, None, refl, sym, ap, subst, ◌∙◌, append_assoc}
+use Rattle.std.proofs.Common.{◌≡◌, Bool, true, false, List, [], ◌∷◌, ◌++◌, Option, Some, None, refl, sym, ap, subst, ◌∙◌, append_assoc}
 use Rattle.std.specs.Prelude.{option_and_then, option_map, IfSome}
 use Rattle.std.proofs.lemmas.Bool.{cond_both}
 use Rattle.std.proofs.lemmas.List.{append-nil}
-use Rattle.std.proofs.lemmas.Option.{none-some, same_Some}
+use Rattle.std.proofs.lemmas.Option.{same_Some}
 use Rattle.jr_text.specs.declared.spans.Span.{Span}
-use Rattle.jr_lex.specs.declared.items.Keyword.TheVariants.{Else, If, While, Return, Synchronized as SynchronizedWord, Final as FinalWord, Int, Boolean}
-use Rattle.jr_lex.specs.declared.items.Symbol.TheVariants.{OpenParen, CloseParen, OpenBrace, CloseBrace, Semicolon, Equals, Dot}
+use Rattle.jr_lex.specs.declared.items.Keyword.TheVariants.{Else, If, While, Return, Synchronized as SynchronizedWord, Final as FinalWord}
+use Rattle.jr_lex.specs.declared.items.Symbol.TheVariants.{OpenParen, CloseParen, OpenBrace, CloseBrace, Semicolon, Equals}
 use Rattle.jr_ast.specs.declared.operators.ModWord.{ModWord}
 use Rattle.jr_ast.specs.declared.operators.ModWord.TheVariants.{Final, Synchronized}
-use Rattle.jr_ast.specs.Tree.{Word, TypeName, int, boolean, named as named_type, Exp, name, field}
-use Rattle.jr_ast.specs.StatementTree.{Stmt, local, eval, branch, loop, return, block, sync, empty, no_else, otherwise, Stmts, end, more}
+use Rattle.jr_ast.specs.Tree.{Word, TypeName, Exp}
+use Rattle.jr_ast.specs.StatementTree.{Stmt, local, branch, loop, return, block, sync, no_else, otherwise, Stmts, end, more}
 use Rattle.jr_ast.specs.Marks.{type_mark, exp_mark, stmt_mark}
-use Rattle.jr_grammar.specs.Tokens.{Token, word, keyword, symbol, Placed}
-use Rattle.jr_grammar.specs.Layout.{Layout, token, node, row, Layouts, done as nothing, ◌then◌}
-use Rattle.jr_grammar.specs.Stands.{Tokens, first_from, last_to, span_of, InOrder, Stands, StandInOrder}
+use Rattle.jr_grammar.specs.Tokens.{Token, keyword, symbol, Placed}
+use Rattle.jr_grammar.specs.Layout.{token, node, row, Layouts, done as nothing, ◌then◌}
+use Rattle.jr_grammar.specs.Stands.{Tokens, InOrder, Stands, StandInOrder}
 use Rattle.jr_grammar.specs.ExpressionLayout.{word_layout, type_layout, exp_layout}
 use Rattle.jr_grammar.specs.StatementLayout.{final_layout, stmt_layout, else_layout, stmts_layout}
 use Rattle.jr_pexpr.specs.Machine as E
 use Rattle.jr_pexpr.specs.Marked.{join, span_step, span_whole, span_run, span_statement_step, span_statement_whole, span_statement_run}
-use Rattle.jr_punit.specs.Cues.{Primitive, an_int, a_boolean, Cue, a_word, a_primitive, a_modifier, an_if, an_else, a_while, a_return, an_open_brace, a_close_brace, a_semicolon, a_dot, cue_token, cue_of}
-use Rattle.jr_punit.specs.Inside.{inner}
+use Rattle.jr_punit.specs.Cues.{Primitive, Cue, a_word, a_primitive, a_modifier, an_if, an_else, a_while, a_return, an_open_brace, a_close_brace, a_semicolon, cue_token, cue_of}
 use Rattle.jr_punit.specs.TypeMachine as T
-use Rattle.jr_punit.specs.StatementMachine.{Frame, in_block, in_sync, in_then, in_else, in_loop, Head, if_head, while_head, sync_head, Slot, for_local, for_return, for_head, State, ready, done, headed, returning, in_exp, in_eval, locked, in_type, named, start, with_stmt, Place, ended, taken_by_if, may_declare, declared, list_closed, begin_modified, begin_primitive, begin_eval, from_ready, from_place, from_done, from_returning, behind_head, filled, from_exp, type_read, begin_local, evaluated, eval_ended, from_eval, local_named, from_type, cue_step, whole, whole_in}
+use Rattle.jr_punit.specs.StatementMachine.{Frame, in_block, in_sync, in_then, in_else, in_loop, Head, if_head, while_head, sync_head, Slot, for_local, for_return, for_head, State, ready, done, headed, returning, in_exp, in_eval, locked, in_type, named, start, with_stmt, Place, ended, taken_by_if, may_declare, declared, list_closed, begin_modified, begin_primitive, begin_eval, from_ready, from_place, from_done, from_returning, behind_head, filled, from_exp, type_read, begin_local, evaluated, eval_ended, from_eval, local_named, from_type, cue_step, whole_in}
 use Rattle.jr_punit.specs.Marked.{span_list_step, span_list_whole, span_list_run}
 use Rattle.jr_pexpr.proofs.Found.{at_some}
 use Rattle.jr_punit.proofs.CueTokens.{cue_back, semicolon_both, open_both, close_both, open_brace_both, equals_both}
 use Rattle.jr_punit.proofs.Inside.{inner_both}
 use Rattle.jr_punit.proofs.StatementSound.{head_keyword}
-use Rattle.jr_punit.proofs.Standing.{IsMore, first_from-append, more_append, more_after, behind, grow, absorb, joined, mapped, last_to-append, both, stand_both, stand_token, stand_one, stand_last, last_stands, stand_word, Whole, Open, open_one, open_more, open_end, open_ended, one_whole, whole_open}
-use Rattle.jr_punit.proofs.TypeStands.{StoodType, StoodTyped, primitive_type, typed_more, typed_word}
+use Rattle.jr_punit.proofs.Standing.{more_after, behind, grow, absorb, joined, mapped, last_to-append, both, stand_token, stand_one, stand_last, last_stands, stand_word, Whole, Open, open_one, open_more, open_end, open_ended, one_whole, whole_open}
+use Rattle.jr_punit.proofs.TypeStands.{StoodTyped, primitive_type, typed_more, typed_word}
 use Rattle.jr_punit.proofs.ExpressionStands.{span_run_one, exp_whole_stands, eval_whole_stands, type_read_stands}
 
 -- ---- what has been read

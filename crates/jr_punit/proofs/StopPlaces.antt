@@ -1,13 +1,12 @@
 -- Each stop has one place in a text.
-use Rattle.std.proofs.Common.{◌≡◌, ℕ, zero, suc, ◌≤◌, List, [], ◌∷◌, length, take, Some, None, refl, sym, ap, ◌∙◌, arith}
+use Rattle.std.proofs.Common.{◌≡◌, ℕ, zero, suc, ◌≤◌, List, [], ◌∷◌, length, take, refl, sym, ap, arith}
 use Rattle.std.specs.Prelude.{slice_get, MatchOption}
 use Rattle.jr_text.specs.declared.spans.Span.{Span}
-use Rattle.jr_lex.specs.declared.items.TokenKind.{TokenKind}
 use Rattle.jr_lex.specs.declared.items.ItemKind.{ItemKind}
 use Rattle.jr_lex.specs.declared.items.ItemKind.TheVariants.{Token as TokenItem, Blank, Comment}
 use Rattle.jr_lex.specs.declared.items.Item.{Item}
 use Rattle.jr_grammar.specs.Tokens.{Token, token_of_kind, tokens_of, placed_of}
-use Rattle.jr_punit.specs.StopPlaces.{IsTokenItem, StandsAt, byte_of, item_of, stop_byte, StopsHavePlaces, StopsHaveOnePlace}
+use Rattle.jr_punit.specs.StopPlaces.{IsTokenItem, byte_of, item_of, StopsHavePlaces, StopsHaveOnePlace}
 
 -- a place in a text of that size
 record At (size : ℕ) (bytes : List ℕ) (items : List Item) (n byte k : ℕ) : Type 0 where

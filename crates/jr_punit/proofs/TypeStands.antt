@@ -1,14 +1,14 @@
 -- What the machine for types builds over tokens with places has its spans.
 use Rattle.std.proofs.Common.{◌≡◌, ℕ, Bool, true, false, List, [], ◌∷◌, ◌++◌, Option, Some, None, refl, sym, ap, subst, ◌∙◌, append_assoc}
-use Rattle.std.specs.Prelude.{option_and_then, IfSome}
+use Rattle.std.specs.Prelude.{IfSome}
 use Rattle.jr_text.specs.declared.spans.Span.{Span}
 use Rattle.jr_lex.specs.declared.items.Keyword.TheVariants.{Int, Boolean}
 use Rattle.jr_lex.specs.declared.items.Symbol.TheVariants.{Dot}
 use Rattle.jr_ast.specs.Tree.{Word, TypeName, int, boolean, named as named_type}
 use Rattle.jr_ast.specs.Marks.{type_mark}
-use Rattle.jr_grammar.specs.Tokens.{Token, word, keyword, symbol, Placed}
-use Rattle.jr_grammar.specs.Layout.{Layout, token, node, Layouts, done as nothing, ◌then◌}
-use Rattle.jr_grammar.specs.Stands.{Tokens, first_from, last_to, InOrder, Stands, StandInOrder}
+use Rattle.jr_grammar.specs.Tokens.{word, keyword, symbol, Placed}
+use Rattle.jr_grammar.specs.Layout.{Layout, token, done as nothing, ◌then◌}
+use Rattle.jr_grammar.specs.Stands.{Tokens, first_from, InOrder, Stands}
 use Rattle.jr_grammar.specs.ExpressionLayout.{word_layout, type_layout}
 use Rattle.jr_pexpr.specs.Machine as E
 use Rattle.jr_pexpr.specs.Marked.{join}

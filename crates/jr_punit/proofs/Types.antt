@@ -1,16 +1,15 @@
 -- What the machine for types reads.
-use Rattle.std.proofs.Common.{◌≡◌, Bool, true, false, List, [], ◌∷◌, ◌++◌, Option, Some, None, refl, sym, ap, subst, ◌∙◌}
-use Rattle.std.specs.Prelude.{IfSome, option_and_then}
-use Rattle.jr_lex.specs.declared.items.Keyword.TheVariants.{Int, Boolean}
+use Rattle.std.proofs.Common.{◌≡◌, Bool, true, false, List, [], ◌∷◌, ◌++◌, Option, Some, None, refl, subst}
+use Rattle.std.specs.Prelude.{IfSome}
 use Rattle.jr_lex.specs.declared.items.Symbol.TheVariants.{Dot}
 use Rattle.jr_ast.specs.Tree.{Word, TypeName, int, boolean, named}
-use Rattle.jr_grammar.specs.Tokens.{Token, word, keyword, symbol}
+use Rattle.jr_grammar.specs.Tokens.{Token, word, symbol}
 use Rattle.jr_grammar.specs.Spelling.{type_toks}
 use Rattle.jr_grammar.specs.Shape.{IsNamed}
 use Rattle.jr_grammar.specs.Bare.{Bare}
 use Rattle.jr_pexpr.specs.BareMachine.{no_join}
 use Rattle.jr_pexpr.specs.Runs as Runs
-use Rattle.jr_punit.specs.Cues.{Primitive, an_int, a_boolean, Cue, a_word, a_primitive, a_dot, cue_token, cue_of}
+use Rattle.jr_punit.specs.Cues.{an_int, a_boolean, Cue, a_word, a_primitive, a_dot, cue_token, cue_of}
 use Rattle.jr_punit.specs.TypeMachine.{State, want, have, dotted, step, cue_step, whole, from_want, from_have, from_dotted, dot_behind}
 use Rattle.jr_punit.proofs.CueTokens.{cue_back}
 

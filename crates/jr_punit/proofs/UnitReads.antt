@@ -1,13 +1,12 @@
 -- Compilation units: what the machine reads is the unit, and what it has begun can be ended.
-use Rattle.std.proofs.Common.{◌≡◌, ℕ, Bool, true, false, cond, List, [], ◌∷◌, ◌++◌, Option, Some, None, refl, sym, ap, subst, ◌∙◌, append_assoc}
+use Rattle.std.proofs.Common.{◌≡◌, Bool, true, false, cond, List, [], ◌∷◌, ◌++◌, Option, Some, None, refl, sym, ap, subst, ◌∙◌, append_assoc}
 use Rattle.std.specs.Prelude.{option_and_then, option_map, unwrap_or, IfSome}
-use Rattle.std.proofs.lemmas.Bool.{cond_both}
 use Rattle.std.proofs.lemmas.List.{append-nil}
-use Rattle.std.proofs.lemmas.Option.{none-some, same_Some}
-use Rattle.jr_lex.specs.declared.items.Keyword.TheVariants.{Package, Class as ClassWord}
+use Rattle.std.proofs.lemmas.Option.{same_Some}
+use Rattle.jr_lex.specs.declared.items.Keyword.TheVariants.{Package}
 use Rattle.jr_lex.specs.declared.items.Symbol.TheVariants.{Dot, Semicolon}
 use Rattle.jr_ast.specs.Tree.{Word}
-use Rattle.jr_ast.specs.MemberTree.{Class, class, Member, Unit as UnitTree}
+use Rattle.jr_ast.specs.MemberTree.{Class, Unit as UnitTree}
 use Rattle.jr_grammar.specs.Tokens.{Token, word, keyword, symbol}
 use Rattle.jr_grammar.specs.Readings.{Begins}
 use Rattle.jr_grammar.specs.MemberSpelling.{class_toks, more_words_toks, package_toks, classes_toks, unit_toks}
@@ -16,10 +15,9 @@ use Rattle.jr_grammar.specs.Bare.{Bare}
 use Rattle.jr_pexpr.specs.BareMachine.{no_join}
 use Rattle.jr_pexpr.proofs.Found.{at_some}
 use Rattle.jr_punit.specs.Cues.{Cue, a_word, a_package, a_dot, a_semicolon, cue_token, cue_of}
-use Rattle.jr_punit.specs.Inside.{inner, settled}
 use Rattle.jr_punit.specs.ClassMachine as C
 use Rattle.jr_punit.specs.MemberMachine as M
-use Rattle.jr_punit.specs.UnitMachine.{ClassState, State, start, in_package, worded, in_classes, behind_class, class_read, from_classes, from_start, from_package, from_worded, cue_step, is_between, unit_of, whole}
+use Rattle.jr_punit.specs.UnitMachine.{ClassState, State, start, in_package, worded, in_classes, behind_class, class_read, from_classes, from_start, from_package, from_worded, cue_step, is_between, unit_of}
 use Rattle.jr_punit.specs.Machines.{unit_step, unit_whole, unit_run}
 use Rattle.jr_punit.proofs.CueTokens.{cue_back}
 use Rattle.jr_punit.proofs.Inside.{run_one, map_inner, settles}

@@ -1,15 +1,14 @@
 -- What the machine for units builds over tokens with places has its spans.
-use Rattle.std.proofs.Common.{◌≡◌, ℕ, Bool, true, false, cond, List, [], ◌∷◌, ◌++◌, Option, Some, None, refl, sym, ap, subst, ◌∙◌, append_assoc}
-use Rattle.std.specs.Prelude.{option_and_then, option_map, unwrap_or, IfSome, map}
-use Rattle.std.proofs.lemmas.List.{append-nil}
+use Rattle.std.proofs.Common.{◌≡◌, ℕ, Bool, true, false, cond, List, [], ◌∷◌, ◌++◌, Option, Some, None, refl, sym, ap, subst, ◌∙◌}
+use Rattle.std.specs.Prelude.{option_map, unwrap_or, IfSome}
 use Rattle.std.proofs.lemmas.Option.{same_Some}
 use Rattle.jr_text.specs.declared.spans.Span.{Span}
 use Rattle.jr_lex.specs.declared.items.Keyword.TheVariants.{Package}
 use Rattle.jr_lex.specs.declared.items.Symbol.TheVariants.{Dot, Semicolon}
 use Rattle.jr_ast.specs.Tree.{Word}
-use Rattle.jr_ast.specs.MemberTree.{Class, Member, Unit as UnitTree}
-use Rattle.jr_grammar.specs.Tokens.{Token, word, keyword, symbol, Placed, kinds}
-use Rattle.jr_grammar.specs.Layout.{Layout, token, node, row, Layouts, done as nothing, ◌then◌}
+use Rattle.jr_ast.specs.MemberTree.{Class, Unit as UnitTree}
+use Rattle.jr_grammar.specs.Tokens.{Token, keyword, symbol, Placed, kinds}
+use Rattle.jr_grammar.specs.Layout.{token, row, Layouts, done as nothing, ◌then◌}
 use Rattle.jr_grammar.specs.Stands.{Tokens, InOrder, Stands, StandInOrder}
 use Rattle.jr_grammar.specs.ExpressionLayout.{word_layout}
 use Rattle.jr_grammar.specs.MemberLayout.{class_layout, more_words_layout, package_layout, classes_layout, unit_layouts}
@@ -21,10 +20,10 @@ use Rattle.jr_pexpr.proofs.Maps.{run_map}
 use Rattle.jr_punit.specs.Cues.{Cue, a_word, a_package, a_dot, a_semicolon, cue_token, cue_of}
 use Rattle.jr_punit.specs.ClassMachine as C
 use Rattle.jr_punit.specs.MemberMachine as M
-use Rattle.jr_punit.specs.UnitMachine.{ClassState, State, start, in_package, worded, in_classes, class_step, behind_class, class_read, from_classes, from_start, from_package, from_worded, cue_step, is_between, unit_of, whole}
+use Rattle.jr_punit.specs.UnitMachine.{ClassState, State, start, in_package, worded, in_classes, class_step, behind_class, class_read, from_classes, from_start, from_package, from_worded, cue_step, is_between, unit_of}
 use Rattle.jr_punit.specs.Marked.{file_of, span_unit_step, span_unit_whole, span_unit_run}
 use Rattle.jr_punit.proofs.CueTokens.{cue_back}
-use Rattle.jr_punit.proofs.Standing.{behind, grow, joined, stand_token, stand_one, stand_last, last_stands, stand_word, stand_both, Whole, alone}
+use Rattle.jr_punit.proofs.Standing.{behind, grow, joined, stand_one, stand_last, last_stands, stand_word, stand_both, alone}
 use Rattle.jr_punit.proofs.ParameterStands.{run_stands}
 use Rattle.jr_punit.proofs.ExpressionStands.{span_run_one, no_kinds}
 use Rattle.jr_punit.proofs.ClassStands.{StoodClass, class_step_stands, class_whole_stands}

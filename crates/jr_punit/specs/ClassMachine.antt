@@ -1,5 +1,5 @@
 -- Reading a class, token by token, over a machine for its members (JLS 8.1).
-use Rattle.std.specs.Prelude.{ℕ, Bool, false, List, [], ◌∷◌, ◌++◌, Option, Some, None, if◌then◌else◌, option_map, option_and_then}
+use Rattle.std.specs.Prelude.{ℕ, Bool, false, List, [], ◌∷◌, ◌++◌, Option, Some, None, if◌then◌else◌, option_and_then}
 use Rattle.jr_ast.specs.Tree.{Word, TypeName}
 use Rattle.jr_ast.specs.MemberTree.{Modifier, Class, class, Member, Members, end, more}
 use Rattle.jr_grammar.specs.Tokens.{Token}

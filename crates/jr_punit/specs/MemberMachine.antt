@@ -1,6 +1,6 @@
 -- Reading one member, token by token: of the class that has the name. `nested` says whether that class is itself a member class,
 -- which holds no class (JLS 8.5).
-use Rattle.std.specs.Prelude.{ℕ, Bool, true, false, List, [], Option, Some, None, if◌then◌else◌, option_map}
+use Rattle.std.specs.Prelude.{ℕ, Bool, false, List, Option, Some, None, if◌then◌else◌, option_map}
 use Rattle.jr_ast.specs.MemberTree.{Class, Member, inner as inner_member}
 use Rattle.jr_ast.specs.Marks.{class_mark}
 use Rattle.jr_grammar.specs.Tokens.{Token}

@@ -7,7 +7,7 @@ use Rattle.jr_ast.specs.StatementTree as S
 use Rattle.jr_ast.specs.MemberTree.{Modifier, Param, Member, field, method, constructor}
 use Rattle.jr_grammar.specs.Tokens.{Token}
 use Rattle.jr_pexpr.specs.Machine as E
-use Rattle.jr_punit.specs.Cues.{Cue, a_word, a_modifier, a_void, a_super, an_open, a_semicolon, an_equals, at_semicolon, at_open, at_close, at_open_brace, at_close_brace, cue_of}
+use Rattle.jr_punit.specs.Cues.{Cue, a_word, a_modifier, a_void, a_super, an_open, a_semicolon, an_equals, at_semicolon, at_close, at_open_brace, at_close_brace, cue_of}
 use Rattle.jr_punit.specs.Inside.{inner}
 use Rattle.jr_punit.specs.TypeMachine as T
 use Rattle.jr_punit.specs.ArgumentMachine as Arguments

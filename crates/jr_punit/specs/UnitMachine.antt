@@ -1,5 +1,5 @@
 -- Reading a compilation unit, token by token (JLS 7.3, 7.4).
-use Rattle.std.specs.Prelude.{ℕ, Bool, true, false, List, [], ◌∷◌, ◌++◌, Option, Some, None, if◌then◌else◌, option_map}
+use Rattle.std.specs.Prelude.{Bool, true, false, List, [], ◌∷◌, ◌++◌, Option, Some, None, if◌then◌else◌, option_map}
 use Rattle.jr_ast.specs.Tree.{Word}
 use Rattle.jr_ast.specs.MemberTree.{Class, Unit as UnitTree}
 use Rattle.jr_grammar.specs.Tokens.{Token}
