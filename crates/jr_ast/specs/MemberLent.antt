@@ -1,5 +1,6 @@
 -- What classes, members and compilation units end as, once a `&mut` into them has ended.
-use Rattle.std.specs.Prelude.{◌≡◌, ◌≤◌, ◌*◌, ℕ, zero, suc, List, length, Option, Some, None, Vec, map, option_map, option_and_then}
+use Rattle.std.specs.Prelude.{◌≡◌, ◌≤◌, ◌*◌, ℕ, zero, suc, List, length, Option, Some, None, Vec}
+use Rattle.std.specs.Prelude.{map, option_map, option_and_then}
 use Rattle.std.specs.List.{slice_get}
 use Rattle.std.specs.Option.{OnSome}
 use Rattle.std.specs.Global.{Global}
@@ -25,8 +26,11 @@ use Rattle.jr_ast.specs.StatementTree as statement
 use Rattle.jr_ast.specs.MemberTree as declared
 use Rattle.jr_ast.specs.Nodes as pure
 use Rattle.jr_ast.specs.View as view
-use Rattle.jr_ast.specs.With.{first_member, first_init, first_parent_arg, first_in_constructor, first_in_method, with_exp_among, with_stmt_among, with_member_from, with_class_from, with_maybe, with_node}
-use Rattle.jr_ast.specs.With.{class_with_member, member_with_class, member_with_stmt, member_with_exp, unit_with_class}
+use Rattle.jr_ast.specs.With.{first_member, first_init, first_parent_arg, first_in_constructor}
+use Rattle.jr_ast.specs.With.{first_in_method, with_exp_among, with_stmt_among, with_member_from}
+use Rattle.jr_ast.specs.With.{with_class_from, with_maybe, with_node}
+use Rattle.jr_ast.specs.With.{class_with_member, member_with_class, member_with_stmt}
+use Rattle.jr_ast.specs.With.{member_with_exp, unit_with_class}
 
 -- what is left of a number once so many children are passed over
 abbrev pub left_of : (passed : ℕ) → ℕ → Option ℕ
@@ -55,12 +59,15 @@ module _ {A : Type 0} where
 
   -- which argument of a written `super(..)`, which statement of a body has this number
   abbrev pub args_place : declared.Member A → ℕ → Option ℕ
-  args_place (declared.constructor m mods w ps args body) number = left_of (first_parent_arg mods ps) number
+  args_place (declared.constructor m mods w ps args body) number =
+      left_of (first_parent_arg mods ps) number
   args_place _ number = None
 
   abbrev pub body_place : declared.Member A → ℕ → Option ℕ
-  body_place (declared.method m mods t w ps body) number = left_of (first_in_method mods t ps) number
-  body_place (declared.constructor m mods w ps args body) number = left_of (first_in_constructor mods ps args) number
+  body_place (declared.method m mods t w ps body) number =
+      left_of (first_in_method mods t ps) number
+  body_place (declared.constructor m mods w ps args body) number =
+      left_of (first_in_constructor mods ps args) number
   body_place _ number = None
 
   -- the row in which x stands at this place
@@ -75,64 +82,96 @@ module _ {A : Type 0} where
 
 module _ (A : RattleType) where
   -- a vector of members, of which the first is the child of the number `first`
-  abbrev pub lends_member_among : MutBor (Vec (Member A.Denot) Global) → ℕ → ℕ → Option (MutBor (Member A.Denot)) → Fml
-  lends_member_among s first number r = LendsSo (vec.the_row (member.the_row A) global.the_row global_impl.ghosts) (member.the_row A) s r
-      (λ n w. OnSome r (view.members_of n.items ≡ with_member_from first (view.members_of s.now.items) number (view.member_of w)))
+  abbrev pub lends_member_among : MutBor (Vec (Member A.Denot) Global) → ℕ → ℕ
+      → Option (MutBor (Member A.Denot)) → Fml
+  lends_member_among s first number r =
+      LendsSo (vec.the_row (member.the_row A) global.the_row global_impl.ghosts)
+      (member.the_row A) s r
+      (λ n w. OnSome r (view.members_of n.items
+      ≡ with_member_from first (view.members_of s.now.items) number (view.member_of w)))
       (λ n. n.items ≡ s.now.items)
 
   -- a member of a class
-  abbrev pub lends_member_of_class : MutBor (Class A.Denot) → ℕ → Option (MutBor (Member A.Denot)) → Fml
+  abbrev pub lends_member_of_class : MutBor (Class A.Denot) → ℕ
+      → Option (MutBor (Member A.Denot)) → Fml
   lends_member_of_class s number r = LendsSo (class.the_row A) (member.the_row A) s r
-      (λ n w. OnSome r (view.class_of n ≡ class_with_member (view.class_of s.now) number (view.member_of w)))
+      (λ n w. OnSome r (view.class_of n
+      ≡ class_with_member (view.class_of s.now) number (view.member_of w)))
       (λ n. view.class_of n ≡ view.class_of s.now)
 
   -- the class that a member is
-  abbrev pub lends_class_of_member : MutBor (MemberKind A.Denot) → ℕ → Option (MutBor (Class A.Denot)) → Fml
+  abbrev pub lends_class_of_member : MutBor (MemberKind A.Denot) → ℕ
+      → Option (MutBor (Class A.Denot)) → Fml
   lends_class_of_member s number r = LendsSo (member_kind.the_row A) (class.the_row A) s r
-      (λ n w. OnSome r ((m : A.Denot) → view.member_kind m n ≡ member_with_class (view.member_kind m s.now) number (view.class_of w)))
+      (λ n w. OnSome r ((m : A.Denot)
+      → view.member_kind m n ≡ member_with_class (view.member_kind m s.now) number
+      (view.class_of w)))
       (λ n. (m : A.Denot) → view.member_kind m n ≡ view.member_kind m s.now)
 
   -- a vector of classes, of which the first is the child of the number `first`
-  abbrev pub lends_class_among : MutBor (Vec (Class A.Denot) Global) → ℕ → ℕ → Option (MutBor (Class A.Denot)) → Fml
-  lends_class_among s first number r = LendsSo (vec.the_row (class.the_row A) global.the_row global_impl.ghosts) (class.the_row A) s r
-      (λ n w. OnSome r (map view.class_of n.items ≡ with_class_from first (map view.class_of s.now.items) number (view.class_of w)))
+  abbrev pub lends_class_among : MutBor (Vec (Class A.Denot) Global) → ℕ → ℕ
+      → Option (MutBor (Class A.Denot)) → Fml
+  lends_class_among s first number r =
+      LendsSo (vec.the_row (class.the_row A) global.the_row global_impl.ghosts)
+      (class.the_row A) s r
+      (λ n w. OnSome r (map view.class_of n.items
+      ≡ with_class_from first (map view.class_of s.now.items) number (view.class_of w)))
       (λ n. n.items ≡ s.now.items)
 
   -- a class of a compilation unit
   abbrev pub lends_class_of_unit : MutBor (Unit A.Denot) → ℕ → Option (MutBor (Class A.Denot)) → Fml
   lends_class_of_unit s number r = LendsSo (unit.the_row A) (class.the_row A) s r
-      (λ n w. OnSome r (view.unit_of n ≡ unit_with_class (view.unit_of s.now) number (view.class_of w)))
+      (λ n w. OnSome r (view.unit_of n
+      ≡ unit_with_class (view.unit_of s.now) number (view.class_of w)))
       (λ n. view.unit_of n ≡ view.unit_of s.now)
 
-  -- a statement at a place of a body, an argument at a place, an initial value that may be missing and has the number `first`
-  abbrev pub lends_stmt_left : MutBor (Vec (Stmt A.Denot) Global) → Option ℕ → Option (MutBor (Stmt A.Denot)) → Fml
-  lends_stmt_left s place r = LendsSo (vec.the_row (stmt.the_row A) global.the_row global_impl.ghosts) (stmt.the_row A) s r
-      (λ n w. OnSome r (view.stmts_of n.items ≡ with_stmt_left (view.stmts_of s.now.items) place (view.stmt_of w)))
+  -- a statement at a place of a body, an argument at a place, an initial value that may be missing
+  -- and has the number `first`
+  abbrev pub lends_stmt_left : MutBor (Vec (Stmt A.Denot) Global) → Option ℕ
+      → Option (MutBor (Stmt A.Denot)) → Fml
+  lends_stmt_left s place r = LendsSo
+      (vec.the_row (stmt.the_row A) global.the_row global_impl.ghosts) (stmt.the_row A) s r
+      (λ n w. OnSome r (view.stmts_of n.items
+      ≡ with_stmt_left (view.stmts_of s.now.items) place (view.stmt_of w)))
       (λ n. view.stmts_of n.items ≡ view.stmts_of s.now.items)
 
-  abbrev pub lends_arg_left : MutBor (Option (Vec (Expr A.Denot) Global)) → Option ℕ → Option (MutBor (Expr A.Denot)) → Fml
-  lends_arg_left s place r = LendsSo (option.the_row (vec.the_row (expr.the_row A) global.the_row global_impl.ghosts)) (expr.the_row A) s r
+  abbrev pub lends_arg_left : MutBor (Option (Vec (Expr A.Denot) Global)) → Option ℕ
+      → Option (MutBor (Expr A.Denot)) → Fml
+  lends_arg_left s place r = LendsSo
+      (option.the_row (vec.the_row (expr.the_row A) global.the_row global_impl.ghosts))
+      (expr.the_row A) s r
       (λ n w. OnSome r (view.args_of n ≡ with_arg_left (view.args_of s.now) place (view.expr_of w)))
       (λ n. view.args_of n ≡ view.args_of s.now)
 
-  abbrev pub lends_init : MutBor (Option (Expr A.Denot)) → ℕ → ℕ → Option (MutBor (Expr A.Denot)) → Fml
+  abbrev pub lends_init : MutBor (Option (Expr A.Denot)) → ℕ → ℕ
+      → Option (MutBor (Expr A.Denot)) → Fml
   lends_init s first number r = LendsSo (option.the_row (expr.the_row A)) (expr.the_row A) s r
-      (λ n w. OnSome r (option_map view.expr_of n ≡ with_maybe first (option_map view.expr_of s.now) number (view.expr_of w)))
+      (λ n w. OnSome r (option_map view.expr_of n
+      ≡ with_maybe first (option_map view.expr_of s.now) number (view.expr_of w)))
       (λ n. option_map view.expr_of n ≡ option_map view.expr_of s.now)
 
   -- a statement, an expression of a member
-  abbrev pub lends_stmt_of_member : MutBor (MemberKind A.Denot) → ℕ → Option (MutBor (Stmt A.Denot)) → Fml
+  abbrev pub lends_stmt_of_member : MutBor (MemberKind A.Denot) → ℕ
+      → Option (MutBor (Stmt A.Denot)) → Fml
   lends_stmt_of_member s number r = LendsSo (member_kind.the_row A) (stmt.the_row A) s r
-      (λ n w. OnSome r ((m : A.Denot) → view.member_kind m n ≡ member_with_stmt (view.member_kind m s.now) number (view.stmt_of w)))
+      (λ n w. OnSome r ((m : A.Denot)
+      → view.member_kind m n ≡ member_with_stmt (view.member_kind m s.now) number
+      (view.stmt_of w)))
       (λ n. (m : A.Denot) → view.member_kind m n ≡ view.member_kind m s.now)
 
-  abbrev pub lends_expr_of_member : MutBor (MemberKind A.Denot) → ℕ → Option (MutBor (Expr A.Denot)) → Fml
+  abbrev pub lends_expr_of_member : MutBor (MemberKind A.Denot) → ℕ
+      → Option (MutBor (Expr A.Denot)) → Fml
   lends_expr_of_member s number r = LendsSo (member_kind.the_row A) (expr.the_row A) s r
-      (λ n w. OnSome r ((m : A.Denot) → view.member_kind m n ≡ member_with_exp (view.member_kind m s.now) number (view.expr_of w)))
+      (λ n w. OnSome r ((m : A.Denot)
+      → view.member_kind m n ≡ member_with_exp (view.member_kind m s.now) number
+      (view.expr_of w)))
       (λ n. (m : A.Denot) → view.member_kind m n ≡ view.member_kind m s.now)
 
   -- a member below a class, where the path has no more than twice `reach` steps
-  abbrev pub lends_below_class : (reach : ℕ) → MutBor (Class A.Denot) → List ℕ → Option (MutBor (Member A.Denot)) → Fml
+  abbrev pub lends_below_class : (reach : ℕ) → MutBor (Class A.Denot) → List ℕ
+      → Option (MutBor (Member A.Denot)) → Fml
   lends_below_class reach s path r = LendsSo (class.the_row A) (member.the_row A) s r
-      (λ n w. OnSome r (length path ≤ 2 * reach → pure.class (view.class_of n) ≡ with_node (pure.class (view.class_of s.now)) path (pure.member (view.member_of w))))
+      (λ n w. OnSome r (length path ≤ 2 * reach
+      → pure.class (view.class_of n)
+      ≡ with_node (pure.class (view.class_of s.now)) path (pure.member (view.member_of w))))
       (λ n. length path ≤ 2 * reach → view.class_of n ≡ view.class_of s.now)

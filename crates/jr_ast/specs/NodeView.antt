@@ -2,7 +2,8 @@
 use Rattle.jr_ast.specs.declared.nodes.Node.{Node}
 use Rattle.jr_ast.specs.declared.nodes.Node.TheVariants as rust
 use Rattle.jr_ast.specs.Nodes as pure
-use Rattle.jr_ast.specs.View.{word_of, modifier_of, type_of, param_of, expr_of, stmt_of, class_of, member_of, unit_of}
+use Rattle.jr_ast.specs.View.{word_of, modifier_of, type_of, param_of, expr_of, stmt_of, class_of}
+use Rattle.jr_ast.specs.View.{member_of, unit_of}
 
 abbrev pub node_of : {A : Type 0} → Node A → pure.Node A
 node_of (rust.Unit r) = pure.unit (unit_of r.now)

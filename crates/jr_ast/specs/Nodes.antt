@@ -1,5 +1,7 @@
--- Nodes: the parts of a tree that have a mark. The children of a node are its parts that have a mark, numbered from 0 in the order of the text.
-use Rattle.std.specs.Prelude.{ℕ, List, [], ◌∷◌, ◌++◌, Option, Some, None, map, option_map, option_and_then}
+-- Nodes: the parts of a tree that have a mark. The children of a node are its parts that have a
+-- mark, numbered from 0 in the order of the text.
+use Rattle.std.specs.Prelude.{ℕ, List, [], ◌∷◌, ◌++◌, Option, Some, None, map, option_map}
+use Rattle.std.specs.Prelude.{option_and_then}
 use Rattle.std.specs.List.{slice_get}
 use Rattle.jr_ast.specs.Tree as tree
 use Rattle.jr_ast.specs.StatementTree as statement
@@ -95,7 +97,8 @@ module _ {A : Type 0} where
   args_children (Some es) = exps es
 
   unfoldable pub member_children : declared.Member A → List (Node A)
-  member_children (declared.field m mods t w e) = map modifier mods ++ (type t ∷ (word w ∷ maybe (option_map exp e)))
+  member_children (declared.field m mods t w e) =
+      map modifier mods ++ (type t ∷ (word w ∷ maybe (option_map exp e)))
   member_children (declared.method m mods t w ps body) =
       map modifier mods ++ (maybe (option_map type t) ++ (word w ∷ (map param ps ++ stmts body)))
   member_children (declared.constructor m mods w ps args body) =
@@ -103,7 +106,8 @@ module _ {A : Type 0} where
   member_children (declared.inner m c) = class c ∷ []
 
   unfoldable pub class_children : declared.Class A → List (Node A)
-  class_children (declared.class m mods w t ms) = map modifier mods ++ (word w ∷ (maybe (option_map type t) ++ members ms))
+  class_children (declared.class m mods w t ms) =
+      map modifier mods ++ (word w ∷ (maybe (option_map type t) ++ members ms))
 
   abbrev pub children_of : Node A → List (Node A)
   children_of (unit u) = map word u.package_name ++ map class u.classes

@@ -13,4 +13,5 @@ module _ {A : Type 0} where
 
 -- among the first `count` steps, the last at which the path leads somewhere; 0 where there is none
 abbrev pub IsLast : {X : Type 0} → (List ℕ → Option X) → List ℕ → (count last : ℕ) → Type 0
-IsLast at steps count last = (last ≤ count) × (1 ≤ last → IsSome (at (take last steps))) × ((k : ℕ) → last < k → k ≤ count → at (take k steps) ≡ None)
+IsLast at steps count last = (last ≤ count) × (1 ≤ last → IsSome (at (take last steps)))
+    × ((k : ℕ) → last < k → k ≤ count → at (take k steps) ≡ None)

@@ -1,4 +1,5 @@
--- What a tree ends as, once a `&mut` to the node at the end of a path has ended: with that node replaced by the last value behind the reference, or as before where nothing was lent.
+-- What a tree ends as, once a `&mut` to the node at the end of a path has ended: with that node
+-- replaced by the last value behind the reference, or as before where nothing was lent.
 use Rattle.std.specs.Prelude.{◌≡◌, ℕ, List, Option}
 use Rattle.std.specs.Option.{OnSome}
 use Rattle.std.specs.Borrow.{Fml, RattleType, MutBor, LendsSo}
@@ -19,32 +20,47 @@ use Rattle.jr_ast.specs.Nodes as pure
 use Rattle.jr_ast.specs.With.{with_node}
 
 module _ (A : RattleType) where
-  abbrev pub lends_expr_below_stmt : MutBor (StmtKind A.Denot) → List ℕ → Option (MutBor (Expr A.Denot)) → Fml
+  abbrev pub lends_expr_below_stmt : MutBor (StmtKind A.Denot) → List ℕ
+      → Option (MutBor (Expr A.Denot)) → Fml
   lends_expr_below_stmt s path r = LendsSo (stmt_kind.the_row A) (expr.the_row A) s r
-      (λ n w. OnSome r ((m : A.Denot) → pure.stmt (view.stmt_kind m n) ≡ with_node (pure.stmt (view.stmt_kind m s.now)) path (pure.exp (view.expr_of w))))
+      (λ n w. OnSome r ((m : A.Denot)
+      → pure.stmt (view.stmt_kind m n)
+      ≡ with_node (pure.stmt (view.stmt_kind m s.now)) path (pure.exp (view.expr_of w))))
       (λ n. (m : A.Denot) → view.stmt_kind m n ≡ view.stmt_kind m s.now)
 
-  abbrev pub lends_expr_below_member : MutBor (MemberKind A.Denot) → List ℕ → Option (MutBor (Expr A.Denot)) → Fml
+  abbrev pub lends_expr_below_member : MutBor (MemberKind A.Denot) → List ℕ
+      → Option (MutBor (Expr A.Denot)) → Fml
   lends_expr_below_member s path r = LendsSo (member_kind.the_row A) (expr.the_row A) s r
-      (λ n w. OnSome r ((m : A.Denot) → pure.member (view.member_kind m n) ≡ with_node (pure.member (view.member_kind m s.now)) path (pure.exp (view.expr_of w))))
+      (λ n w. OnSome r ((m : A.Denot)
+      → pure.member (view.member_kind m n)
+      ≡ with_node (pure.member (view.member_kind m s.now)) path (pure.exp (view.expr_of w))))
       (λ n. (m : A.Denot) → view.member_kind m n ≡ view.member_kind m s.now)
 
-  abbrev pub lends_stmt_below_member : MutBor (MemberKind A.Denot) → List ℕ → Option (MutBor (Stmt A.Denot)) → Fml
+  abbrev pub lends_stmt_below_member : MutBor (MemberKind A.Denot) → List ℕ
+      → Option (MutBor (Stmt A.Denot)) → Fml
   lends_stmt_below_member s path r = LendsSo (member_kind.the_row A) (stmt.the_row A) s r
-      (λ n w. OnSome r ((m : A.Denot) → pure.member (view.member_kind m n) ≡ with_node (pure.member (view.member_kind m s.now)) path (pure.stmt (view.stmt_of w))))
+      (λ n w. OnSome r ((m : A.Denot)
+      → pure.member (view.member_kind m n)
+      ≡ with_node (pure.member (view.member_kind m s.now)) path (pure.stmt (view.stmt_of w))))
       (λ n. (m : A.Denot) → view.member_kind m n ≡ view.member_kind m s.now)
 
-  abbrev pub lends_member_below_unit : MutBor (Unit A.Denot) → List ℕ → Option (MutBor (Member A.Denot)) → Fml
+  abbrev pub lends_member_below_unit : MutBor (Unit A.Denot) → List ℕ
+      → Option (MutBor (Member A.Denot)) → Fml
   lends_member_below_unit s path r = LendsSo (unit.the_row A) (member.the_row A) s r
-      (λ n w. OnSome r (pure.unit (view.unit_of n) ≡ with_node (pure.unit (view.unit_of s.now)) path (pure.member (view.member_of w))))
+      (λ n w. OnSome r (pure.unit (view.unit_of n)
+      ≡ with_node (pure.unit (view.unit_of s.now)) path (pure.member (view.member_of w))))
       (λ n. view.unit_of n ≡ view.unit_of s.now)
 
-  abbrev pub lends_stmt_below_unit : MutBor (Unit A.Denot) → List ℕ → Option (MutBor (Stmt A.Denot)) → Fml
+  abbrev pub lends_stmt_below_unit : MutBor (Unit A.Denot) → List ℕ
+      → Option (MutBor (Stmt A.Denot)) → Fml
   lends_stmt_below_unit s path r = LendsSo (unit.the_row A) (stmt.the_row A) s r
-      (λ n w. OnSome r (pure.unit (view.unit_of n) ≡ with_node (pure.unit (view.unit_of s.now)) path (pure.stmt (view.stmt_of w))))
+      (λ n w. OnSome r (pure.unit (view.unit_of n)
+      ≡ with_node (pure.unit (view.unit_of s.now)) path (pure.stmt (view.stmt_of w))))
       (λ n. view.unit_of n ≡ view.unit_of s.now)
 
-  abbrev pub lends_expr_below_unit : MutBor (Unit A.Denot) → List ℕ → Option (MutBor (Expr A.Denot)) → Fml
+  abbrev pub lends_expr_below_unit : MutBor (Unit A.Denot) → List ℕ
+      → Option (MutBor (Expr A.Denot)) → Fml
   lends_expr_below_unit s path r = LendsSo (unit.the_row A) (expr.the_row A) s r
-      (λ n w. OnSome r (pure.unit (view.unit_of n) ≡ with_node (pure.unit (view.unit_of s.now)) path (pure.exp (view.expr_of w))))
+      (λ n w. OnSome r (pure.unit (view.unit_of n)
+      ≡ with_node (pure.unit (view.unit_of s.now)) path (pure.exp (view.expr_of w))))
       (λ n. view.unit_of n ≡ view.unit_of s.now)

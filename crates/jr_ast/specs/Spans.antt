@@ -7,7 +7,9 @@ module _ {A S : Type 0} (tells : A → ℕ → S) (begins : S → ℕ) where
   abbrev pub span_from : Node A → ℕ → S
   span_from n base = tells (mark_of n) base
 
-  -- the span of the node to which a path leads, read downwards from a node whose parent begins at base
+  -- the span of the node to which a path leads, read downwards from a node whose parent begins at
+  -- base
   unfoldable pub span_at : Node A → List ℕ → ℕ → Option S
   span_at n [] base = Some (span_from n base)
-  span_at n (i ∷ is) base = option_and_then (λ c. span_at c is (begins (span_from n base))) (child_of n i)
+  span_at n (i ∷ is) base = option_and_then (λ c.
+      span_at c is (begins (span_from n base))) (child_of n i)

@@ -1,4 +1,5 @@
--- The pure tree that a Rust tree stands for. No other file knows the constructors that Rattle generates.
+-- The pure tree that a Rust tree stands for. No other file knows the constructors that Rattle
+-- generates.
 use Rattle.std.specs.Prelude.{List, [], ◌∷◌, Option, None, Some, Vec, map, option_map}
 use Rattle.std.specs.Global.{Global}
 use Rattle.std.specs.declared.boxed.Box.{Box}
@@ -12,7 +13,8 @@ use Rattle.jr_ast.specs.declared.exprs.Expr.{Expr}
 use Rattle.jr_ast.specs.declared.exprs.ExprKind as expr
 use Rattle.jr_ast.specs.declared.stmts.Stmt.{Stmt}
 use Rattle.jr_ast.specs.declared.stmts.StmtKind as stmt
-use Rattle.jr_ast.specs.declared.members.Class.{Class, Class', Row_of-Member, end_of-Member, more_of-Member}
+use Rattle.jr_ast.specs.declared.members.Class.{Class, Class', Row_of-Member, end_of-Member}
+use Rattle.jr_ast.specs.declared.members.Class.{more_of-Member}
 use Rattle.jr_ast.specs.declared.members.Member.{Member}
 use Rattle.jr_ast.specs.declared.members.MemberKind as kind
 use Rattle.jr_ast.specs.declared.members.Unit.{Unit}
@@ -36,7 +38,12 @@ module _ {A : Type 0} where
   type_of t = type_kind t.mark t.kind
 
   abbrev pub param_of : Param A → member.Param A
-  param_of p = record { mark = p.mark; is_final = p.is_final; type = type_of p.ty; name = word_of p.name }
+  param_of p = record {
+    mark = p.mark;
+    is_final = p.is_final;
+    type = type_of p.ty;
+    name = word_of p.name;
+  }
 
   unfoldable mutual
     pub expr_kind : A → expr.ExprKind A → tree.Exp A
@@ -58,7 +65,8 @@ module _ {A : Type 0} where
     expr_kind m (expr.Bump' op p n k) = tree.bump m op (expr_kind n k)
     expr_kind m (expr.Binary' op p n k q n' k') = tree.binary m op (expr_kind n k) (expr_kind n' k')
     expr_kind m (expr.Assign' p n k q n' k') = tree.assign m (expr_kind n k) (expr_kind n' k')
-    expr_kind m (expr.Compound' op p n k q n' k') = tree.compound m op (expr_kind n k) (expr_kind n' k')
+    expr_kind m (expr.Compound' op p n k q n' k') =
+        tree.compound m op (expr_kind n k) (expr_kind n' k')
 
     pub held_target : expr.Held-ExprKind-Call-0 A → tree.Target A
     held_target expr.None' = tree.no_target
@@ -117,13 +125,20 @@ module _ {A : Type 0} where
 
   unfoldable mutual
     pub member_kind : A → kind.MemberKind A → member.Member A
-    member_kind m (kind.Field mods t i x) = member.field m (map modifier_of mods.items) (type_of t) (word_of i) (option_map expr_of x)
-    member_kind m (kind.Method mods t i ps body) = member.method m (map modifier_of mods.items) (option_map type_of t) (word_of i) (map param_of ps.items) (stmts_of body.items)
-    member_kind m (kind.Ctor mods i ps args body) = member.constructor m (map modifier_of mods.items) (word_of i) (map param_of ps.items) (args_of args) (stmts_of body.items)
+    member_kind m (kind.Field mods t i x) =
+        member.field m (map modifier_of mods.items) (type_of t) (word_of i) (option_map expr_of x)
+    member_kind m (kind.Method mods t i ps body) =
+        member.method m (map modifier_of mods.items) (option_map type_of t) (word_of i)
+        (map param_of ps.items) (stmts_of body.items)
+    member_kind m (kind.Ctor mods i ps args body) =
+        member.constructor m (map modifier_of mods.items) (word_of i) (map param_of ps.items)
+        (args_of args) (stmts_of body.items)
     member_kind m (kind.Inner c) = member.inner m (class_of c)
 
     pub class_of : Class A → member.Class A
-    class_of (Class' m mods i t shape row) = member.class m (map modifier_of mods.items) (word_of i) (option_map type_of t) (member_row row)
+    class_of (Class' m mods i t shape row) =
+        member.class m (map modifier_of mods.items) (word_of i) (option_map type_of t)
+        (member_row row)
 
     pub member_row : {c : _} → Row_of-Member A c → member.Members A
     member_row end_of-Member = member.end
@@ -137,4 +152,8 @@ module _ {A : Type 0} where
   members_of (x ∷ xs) = member.more (member_of x) (members_of xs)
 
   abbrev pub unit_of : Unit A → member.Unit A
-  unit_of u = record { mark = u.mark; package_name = map word_of u.package.items; classes = map class_of u.classes.items }
+  unit_of u = record {
+    mark = u.mark;
+    package_name = map word_of u.package.items;
+    classes = map class_of u.classes.items;
+  }

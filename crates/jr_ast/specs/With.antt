@@ -1,10 +1,12 @@
--- A tree in which one node is another: the child of a number, or the node at the end of a path, is replaced by a node of its kind, and all else stays.
+-- A tree in which one node is another: the child of a number, or the node at the end of a path, is
+-- replaced by a node of its kind, and all else stays.
 use Rattle.std.specs.Prelude.{◌≡◌, ℕ, zero, suc, ◌+◌, List, [], ◌∷◌, Option, Some, None, length}
 use Rattle.std.specs.List.{slice_get, slice_set}
 use Rattle.jr_ast.specs.Tree as tree
 use Rattle.jr_ast.specs.StatementTree as statement
 use Rattle.jr_ast.specs.MemberTree as declared
-use Rattle.jr_ast.specs.Nodes.{Node, unit, class, member, stmt, exp, child_of, children_of, args_children}
+use Rattle.jr_ast.specs.Nodes.{Node, unit, class, member, stmt, exp, child_of, children_of}
+use Rattle.jr_ast.specs.Nodes.{args_children}
 
 -- what stands at this number, where the first has the number `first`
 abbrev pub get_from : {X : Type 0} → (first : ℕ) → List X → ℕ → Option X
@@ -30,7 +32,8 @@ module _ {A : Type 0} where
   with_stmt_among (statement.more s ss) zero x = statement.more x ss
   with_stmt_among (statement.more s ss) (suc i) x = statement.more s (with_stmt_among ss i x)
 
-  abbrev pub with_stmt_from : (first : ℕ) → statement.Stmts A → ℕ → statement.Stmt A → statement.Stmts A
+  abbrev pub with_stmt_from : (first : ℕ) → statement.Stmts A → ℕ → statement.Stmt A
+      → statement.Stmts A
   with_stmt_from zero ss i x = with_stmt_among ss i x
   with_stmt_from (suc first) ss zero x = ss
   with_stmt_from (suc first) ss (suc i) x = with_stmt_from first ss i x
@@ -40,12 +43,14 @@ module _ {A : Type 0} where
   with_member_among (declared.more m ms) zero x = declared.more x ms
   with_member_among (declared.more m ms) (suc i) x = declared.more m (with_member_among ms i x)
 
-  abbrev pub with_member_from : (first : ℕ) → declared.Members A → ℕ → declared.Member A → declared.Members A
+  abbrev pub with_member_from : (first : ℕ) → declared.Members A → ℕ → declared.Member A
+      → declared.Members A
   with_member_from zero ms i x = with_member_among ms i x
   with_member_from (suc first) ms zero x = ms
   with_member_from (suc first) ms (suc i) x = with_member_from first ms i x
 
-  abbrev pub with_class_from : (first : ℕ) → List (declared.Class A) → ℕ → declared.Class A → List (declared.Class A)
+  abbrev pub with_class_from : (first : ℕ) → List (declared.Class A) → ℕ → declared.Class A
+      → List (declared.Class A)
   with_class_from zero cs i x = slice_set cs i x
   with_class_from (suc first) cs zero x = cs
   with_class_from (suc first) cs (suc i) x = with_class_from first cs i x
@@ -75,7 +80,8 @@ module _ {A : Type 0} where
   -- the expression whose child of this number is the expression x
   unfoldable pub with_exp : tree.Exp A → ℕ → tree.Exp A → tree.Exp A
   with_exp (tree.field m e w) zero x = tree.field m x w
-  with_exp (tree.call m to w args) i x = tree.call m (with_target to i x) w (with_exp_from (first_argument to) args i x)
+  with_exp (tree.call m to w args) i x =
+      tree.call m (with_target to i x) w (with_exp_from (first_argument to) args i x)
   with_exp (tree.super_call m w args) i x = tree.super_call m w (with_exp_from 1 args i x)
   with_exp (tree.create m t args) i x = tree.create m t (with_exp_from 1 args i x)
   with_exp (tree.paren m e) zero x = tree.paren m x
@@ -114,35 +120,42 @@ module _ {A : Type 0} where
   stmt_with_stmt (statement.sync m e body) i x = statement.sync m e (with_stmt_from 1 body i x)
   stmt_with_stmt s i x = s
 
-  -- how many children stand in front of the initial value of a field, of the arguments of `super(..)`, and of a body
+  -- how many children stand in front of the initial value of a field, of the arguments of
+  -- `super(..)`, and of a body
   abbrev pub first_init : List (declared.Modifier A) → ℕ
   first_init mods = length mods + 2
 
   abbrev pub first_parent_arg : List (declared.Modifier A) → List (declared.Param A) → ℕ
   first_parent_arg mods ps = length mods + (1 + length ps)
 
-  abbrev pub first_in_constructor : List (declared.Modifier A) → List (declared.Param A) → Option (tree.Exps A) → ℕ
+  abbrev pub first_in_constructor : List (declared.Modifier A) → List (declared.Param A)
+      → Option (tree.Exps A) → ℕ
   first_in_constructor mods ps args = first_parent_arg mods ps + length (args_children args)
 
-  abbrev pub first_in_method : List (declared.Modifier A) → Option (tree.TypeName A) → List (declared.Param A) → ℕ
+  abbrev pub first_in_method : List (declared.Modifier A) → Option (tree.TypeName A)
+      → List (declared.Param A) → ℕ
   first_in_method mods None ps = length mods + (1 + length ps)
   first_in_method mods (Some t) ps = length mods + (2 + length ps)
 
-  abbrev pub with_parent_args : (first : ℕ) → Option (tree.Exps A) → ℕ → tree.Exp A → Option (tree.Exps A)
+  abbrev pub with_parent_args : (first : ℕ) → Option (tree.Exps A) → ℕ → tree.Exp A
+      → Option (tree.Exps A)
   with_parent_args first None i x = None
   with_parent_args first (Some args) i x = Some (with_exp_from first args i x)
 
   -- the member whose child of this number is the expression x, the statement x, the class x
   unfoldable pub member_with_exp : declared.Member A → ℕ → tree.Exp A → declared.Member A
-  member_with_exp (declared.field m mods t w e) i x = declared.field m mods t w (with_maybe (first_init mods) e i x)
+  member_with_exp (declared.field m mods t w e) i x =
+      declared.field m mods t w (with_maybe (first_init mods) e i x)
   member_with_exp (declared.constructor m mods w ps args body) i x =
       declared.constructor m mods w ps (with_parent_args (first_parent_arg mods ps) args i x) body
   member_with_exp m i x = m
 
   unfoldable pub member_with_stmt : declared.Member A → ℕ → statement.Stmt A → declared.Member A
-  member_with_stmt (declared.method m mods t w ps body) i x = declared.method m mods t w ps (with_stmt_from (first_in_method mods t ps) body i x)
+  member_with_stmt (declared.method m mods t w ps body) i x =
+      declared.method m mods t w ps (with_stmt_from (first_in_method mods t ps) body i x)
   member_with_stmt (declared.constructor m mods w ps args body) i x =
-      declared.constructor m mods w ps args (with_stmt_from (first_in_constructor mods ps args) body i x)
+      declared.constructor m mods w ps args
+      (with_stmt_from (first_in_constructor mods ps args) body i x)
   member_with_stmt m i x = m
 
   unfoldable pub member_with_class : declared.Member A → ℕ → declared.Class A → declared.Member A
@@ -155,12 +168,18 @@ module _ {A : Type 0} where
   first_member mods (Some t) = length mods + 2
 
   unfoldable pub class_with_member : declared.Class A → ℕ → declared.Member A → declared.Class A
-  class_with_member (declared.class m mods w t ms) i x = declared.class m mods w t (with_member_from (first_member mods t) ms i x)
+  class_with_member (declared.class m mods w t ms) i x =
+      declared.class m mods w t (with_member_from (first_member mods t) ms i x)
 
   abbrev pub unit_with_class : declared.Unit A → ℕ → declared.Class A → declared.Unit A
-  unit_with_class u i x = record { mark = u.mark; package_name = u.package_name; classes = with_class_from (length u.package_name) u.classes i x }
+  unit_with_class u i x = record {
+    mark = u.mark;
+    package_name = u.package_name;
+    classes = with_class_from (length u.package_name) u.classes i x;
+  }
 
-  -- the node whose child of this number is the node c, where that child is of the kind of c: an expression, a statement, a member or a class
+  -- the node whose child of this number is the node c, where that child is of the kind of c: an
+  -- expression, a statement, a member or a class
   abbrev pub with_child : Node A → ℕ → Node A → Node A
   with_child (exp e) i (exp x) = exp (with_exp e i x)
   with_child (stmt s) i (exp x) = stmt (stmt_with_exp s i x)
@@ -191,9 +210,12 @@ module _ {A : Type 0} where
   SameKind (class c) (class x) = Unit {0}
   SameKind c x = ⊥
 
--- a child replaced is one child: the node has the new one at that number, and its others as before; with its own child it is the node that it was;
--- and a child that is replaced again leaves no trace, so that a node's own child put back gives all of the node, its mark and its operator too
+-- a child replaced is one child: the node has the new one at that number, and its others as before;
+-- with its own child it is the node that it was; and a child that is replaced again leaves no
+-- trace, so that a node's own child put back gives all of the node, its mark and its operator too
 pub record OneChildReplaced (A : Type 0) : Type 0 where
-  pub others : (n c x : Node A) (i : ℕ) → child_of n i ≡ Some c → SameKind c x → children_of (with_child n i x) ≡ slice_set (children_of n) i x
+  pub others : (n c x : Node A) (i : ℕ) → child_of n i ≡ Some c → SameKind c x
+      → children_of (with_child n i x) ≡ slice_set (children_of n) i x
   pub same : (n c : Node A) (i : ℕ) → child_of n i ≡ Some c → with_child n i c ≡ n
-  pub again : (n x y : Node A) (i : ℕ) → SameKind x y → with_child (with_child n i x) i y ≡ with_child n i y
+  pub again : (n x y : Node A) (i : ℕ) → SameKind x y
+      → with_child (with_child n i x) i y ≡ with_child n i y

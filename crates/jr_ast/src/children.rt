@@ -2,7 +2,8 @@
 ghost use Rattle.std.specs.Prelude.{◌≡◌, ◌∷◌, ◌++◌, [], map, option_map};
 ghost use Rattle.std.specs.List.{slice_get};
 ghost use Rattle.jr_ast.specs.Nodes as pure;
-ghost use Rattle.jr_ast.specs.View.{word_of, modifier_of, type_of, param_of, expr_of, exprs_of, args_of};
+ghost use Rattle.jr_ast.specs.View.{word_of, modifier_of, type_of, param_of, expr_of, exprs_of};
+ghost use Rattle.jr_ast.specs.View.{args_of};
 ghost use Rattle.jr_ast.specs.View.{stmt_of, stmts_of, class_of, member_of, unit_of};
 ghost use Rattle.jr_ast.specs.NodeView.{node_of};
 
@@ -23,7 +24,8 @@ fn one<'a, A>(number: usize, node: Node<'a, A>) -> Option<Node<'a, A>>
 
 /// The child of this number, where these are the two.
 fn two<'a, A>(number: usize, first: Node<'a, A>, second: Node<'a, A>) -> Option<Node<'a, A>>
-    ensures { option_map node_of result ≡ slice_get (node_of first.entry ∷ (node_of second.entry ∷ [])) number }
+    ensures { option_map node_of result
+        ≡ slice_get (node_of first.entry ∷ (node_of second.entry ∷ [])) number }
 {
     match number {
         0 => Some(first),
@@ -39,7 +41,9 @@ fn three<'a, A>(
     second: Node<'a, A>,
     third: Node<'a, A>,
 ) -> Option<Node<'a, A>>
-    ensures { option_map node_of result ≡ slice_get (node_of first.entry ∷ (node_of second.entry ∷ (node_of third.entry ∷ []))) number }
+    ensures { option_map node_of result
+        ≡ slice_get (node_of first.entry
+        ∷ (node_of second.entry ∷ (node_of third.entry ∷ []))) number }
 {
     match number {
         0 => Some(first),
@@ -55,7 +59,8 @@ fn then_exprs<'a, A>(
     first: Node<'a, A>,
     others: &'a [Expr<A>],
 ) -> Option<Node<'a, A>>
-    ensures { option_map node_of result ≡ slice_get (node_of first.entry ∷ pure.exps (exprs_of others.now)) number }
+    ensures { option_map node_of result
+        ≡ slice_get (node_of first.entry ∷ pure.exps (exprs_of others.now)) number }
 {
     Seek::Left(number).then(first).exprs(others).end()
 }
@@ -68,7 +73,9 @@ fn two_then_exprs<'a, A>(
     second: Node<'a, A>,
     others: &'a [Expr<A>],
 ) -> Option<Node<'a, A>>
-    ensures { option_map node_of result ≡ slice_get (node_of first.entry ∷ (node_of second.entry ∷ pure.exps (exprs_of others.now))) number }
+    ensures { option_map node_of result
+        ≡ slice_get (node_of first.entry
+        ∷ (node_of second.entry ∷ pure.exps (exprs_of others.now))) number }
 {
     Seek::Left(number)
         .then(first)
@@ -83,7 +90,8 @@ fn then_stmts<'a, A>(
     first: Node<'a, A>,
     others: &'a [Stmt<A>],
 ) -> Option<Node<'a, A>>
-    ensures { option_map node_of result ≡ slice_get (node_of first.entry ∷ pure.stmts (stmts_of others.now)) number }
+    ensures { option_map node_of result
+        ≡ slice_get (node_of first.entry ∷ pure.stmts (stmts_of others.now)) number }
 {
     Seek::Left(number).then(first).stmts(others).end()
 }
@@ -161,7 +169,11 @@ fn field_child<'a, A>(
     name: &'a Ident<A>,
     init: &'a Option<Expr<A>>,
 ) -> Option<Node<'a, A>>
-    ensures { option_map node_of result ≡ slice_get (map pure.modifier (map modifier_of modifiers.now) ++ (pure.type (type_of ty.now) ∷ (pure.word (word_of name.now) ∷ pure.maybe (option_map pure.exp (option_map expr_of init.now))))) number }
+    ensures { option_map node_of result
+        ≡ slice_get (map pure.modifier (map modifier_of modifiers.now)
+        ++ (pure.type (type_of ty.now)
+        ∷ (pure.word (word_of name.now)
+        ∷ pure.maybe (option_map pure.exp (option_map expr_of init.now))))) number }
 {
     let seek = Seek::Left(number)
         .modifiers(modifiers)
@@ -181,7 +193,11 @@ fn method_child<'a, A>(
     params: &'a [Param<A>],
     body: &'a [Stmt<A>],
 ) -> Option<Node<'a, A>>
-    ensures { option_map node_of result ≡ slice_get (map pure.modifier (map modifier_of modifiers.now) ++ (pure.maybe (option_map pure.type (option_map type_of ret.now)) ++ (pure.word (word_of name.now) ∷ (map pure.param (map param_of params.now) ++ pure.stmts (stmts_of body.now))))) number }
+    ensures { option_map node_of result
+        ≡ slice_get (map pure.modifier (map modifier_of modifiers.now)
+        ++ (pure.maybe (option_map pure.type (option_map type_of ret.now))
+        ++ (pure.word (word_of name.now)
+        ∷ (map pure.param (map param_of params.now) ++ pure.stmts (stmts_of body.now))))) number }
 {
     Seek::Left(number)
         .modifiers(modifiers)
@@ -200,7 +216,12 @@ fn ctor_child<'a, A>(
     parent_args: &'a Option<Vec<Expr<A>>>,
     body: &'a [Stmt<A>],
 ) -> Option<Node<'a, A>>
-    ensures { option_map node_of result ≡ slice_get (map pure.modifier (map modifier_of modifiers.now) ++ (pure.word (word_of name.now) ∷ (map pure.param (map param_of params.now) ++ (pure.args_children (args_of parent_args.now) ++ pure.stmts (stmts_of body.now))))) number }
+    ensures { option_map node_of result
+        ≡ slice_get (map pure.modifier (map modifier_of modifiers.now)
+        ++ (pure.word (word_of name.now)
+        ∷ (map pure.param (map param_of params.now)
+        ++ (pure.args_children (args_of parent_args.now)
+        ++ pure.stmts (stmts_of body.now))))) number }
 {
     let seek = Seek::Left(number)
         .modifiers(modifiers)
@@ -214,7 +235,8 @@ fn ctor_child<'a, A>(
 
 #[tactic(auto, unfolding(crate::specs::View::member_kind, crate::specs::Nodes::member_children))]
 pub(crate) fn member_child<'a, A>(member: &'a Member<A>, number: usize) -> Option<Node<'a, A>>
-    ensures { option_map node_of result ≡ slice_get (pure.member_children (member_of member.now)) number }
+    ensures { option_map node_of result
+        ≡ slice_get (pure.member_children (member_of member.now)) number }
 {
     match &member.kind {
         MemberKind::Field {
@@ -243,7 +265,8 @@ pub(crate) fn member_child<'a, A>(member: &'a Member<A>, number: usize) -> Optio
 
 #[tactic(auto, unfolding(crate::specs::View::class_of, crate::specs::Nodes::class_children))]
 pub(crate) fn class_child<'a, A>(class: &'a Class<A>, number: usize) -> Option<Node<'a, A>>
-    ensures { option_map node_of result ≡ slice_get (pure.class_children (class_of class.now)) number }
+    ensures { option_map node_of result
+        ≡ slice_get (pure.class_children (class_of class.now)) number }
 {
     Seek::Left(number)
         .modifiers(&class.modifiers)

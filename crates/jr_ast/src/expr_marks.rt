@@ -18,7 +18,8 @@ pub(crate) fn expr<B: Drop, A, F: Fn(&A) -> B>(
     f: &F,
 ) -> Made<Box<Expr<B>>>
     requires { F.IsAlwaysCallable f.now }
-    ensures { IfOk result (λ x. same.SameExp (FnReturnsAt F.Fn f.now) (expr_of of.now) (expr_of x.value)) }
+    ensures { IfOk result (λ x. same.SameExp (FnReturnsAt F.Fn f.now) (expr_of of.now)
+        (expr_of x.value)) }
 {
     let mark = marked(&of.mark, f);
     match &of.kind {
@@ -87,7 +88,8 @@ fn target_expr<B: Drop, A, F: Fn(&A) -> B>(
     f: &F,
 ) -> Made<Option<Box<Expr<B>>>>
     requires { F.IsAlwaysCallable f.now }
-    ensures { IfOk result (λ x. same.SameTarget (FnReturnsAt F.Fn f.now) (target_of of.now) (target_of x)) }
+    ensures { IfOk result (λ x. same.SameTarget (FnReturnsAt F.Fn f.now) (target_of of.now)
+        (target_of x)) }
 {
     match of {
         None => Ok(None),
@@ -105,7 +107,8 @@ pub(crate) fn exprs<B: Drop, A, F: Fn(&A) -> B>(
     f: &F,
 ) -> Made<Vec<Expr<B>>>
     requires { F.IsAlwaysCallable f.now }
-    ensures { IfOk result (λ x. same.SameExps (FnReturnsAt F.Fn f.now) (exprs_of parts.now) (exprs_of x.items)) }
+    ensures { IfOk result (λ x. same.SameExps (FnReturnsAt F.Fn f.now) (exprs_of parts.now)
+        (exprs_of x.items)) }
 {
     let mut copies = Vec::new(alloc);
     for part in parts {
@@ -120,7 +123,8 @@ pub(crate) fn maybe_expr<B: Drop, A, F: Fn(&A) -> B>(
     f: &F,
 ) -> Made<Option<Box<Expr<B>>>>
     requires { F.IsAlwaysCallable f.now }
-    ensures { IfOk result (λ x. same.SameMaybeExp (FnReturnsAt F.Fn f.now) (option_map expr_of of.now) (option_map (λ b. expr_of b.value) x)) }
+    ensures { IfOk result (λ x. same.SameMaybeExp (FnReturnsAt F.Fn f.now)
+        (option_map expr_of of.now) (option_map (λ b. expr_of b.value) x)) }
 {
     match of {
         None => Ok(None),
@@ -137,7 +141,8 @@ pub(crate) fn maybe_args<B: Drop, A, F: Fn(&A) -> B>(
     f: &F,
 ) -> Made<Option<Vec<Expr<B>>>>
     requires { F.IsAlwaysCallable f.now }
-    ensures { IfOk result (λ x. same.SameMaybeExps (FnReturnsAt F.Fn f.now) (args_of of.now) (args_of x)) }
+    ensures { IfOk result (λ x. same.SameMaybeExps (FnReturnsAt F.Fn f.now)
+        (args_of of.now) (args_of x)) }
 {
     match of {
         None => Ok(None),

@@ -5,7 +5,8 @@ ghost use Rattle.jr_ast.specs.Nodes as pure;
 ghost use Rattle.jr_ast.specs.View as view;
 ghost use Rattle.jr_ast.specs.Reaches.{IsWithin};
 ghost use Rattle.jr_ast.specs.With.{arguments_begin, get_from};
-ghost use Rattle.jr_ast.specs.Lent.{lends_expr_among, lends_held, lends_expr_of_expr, lends_below_expr};
+ghost use Rattle.jr_ast.specs.Lent.{lends_expr_among, lends_held, lends_expr_of_expr};
+ghost use Rattle.jr_ast.specs.Lent.{lends_below_expr};
 
 use crate::exprs::{Expr, ExprKind};
 use crate::reaches::{One, Twice};
@@ -17,7 +18,8 @@ pub(crate) fn nth_expr<A>(
     number: usize,
 ) -> Option<&mut Expr<A>>
     ensures* writes_back { sem 𝓛 (lends_expr_among A.row among.entry first number result) }
-    ensures value { option_map (λ x. view.expr_of x.now) result ≡ get_from first (map view.expr_of among.entry.now.items) number }
+    ensures value { option_map (λ x. view.expr_of x.now) result
+        ≡ get_from first (map view.expr_of among.entry.now.items) number }
 {
     if number < first {
         return None;
@@ -27,7 +29,8 @@ pub(crate) fn nth_expr<A>(
 
 fn held<A>(of: &mut Option<Box<Expr<A>>>) -> Option<&mut Expr<A>>
     ensures* writes_back { sem 𝓛 (lends_held A.row of.entry result) }
-    ensures value { option_map (λ x. view.expr_of x.now) result ≡ option_map (λ b. view.expr_of b.value) of.entry.now }
+    ensures value { option_map (λ x. view.expr_of x.now) result
+        ≡ option_map (λ b. view.expr_of b.value) of.entry.now }
 {
     match of {
         Some(of) => Some(&mut **of),
@@ -68,7 +71,9 @@ impl<A> ExprKind<A> {
     /// The expression that is the child of this number, if it is one.
     pub(crate) fn expr_mut(&mut self, number: usize) -> Option<&mut Expr<A>>
         ensures* writes_back { sem 𝓛 (lends_expr_of_expr A.row self.entry number result) }
-        ensures value { (m : A) → option_map (λ x. view.expr_of x.now) result ≡ option_and_then pure.as_exp (pure.child_of (pure.exp (view.expr_kind m self.entry.now)) number) }
+        ensures value { (m : A) → option_map (λ x. view.expr_of x.now) result
+            ≡ option_and_then pure.as_exp (pure.child_of
+            (pure.exp (view.expr_kind m self.entry.now)) number) }
     {
         let first = self.arguments_begin();
         match (self, number) {
@@ -109,8 +114,8 @@ impl<A> ExprKind<A> {
 
 /// A way down from an expression to one below it, in trees with marks of this type.
 ///
-/// The mark is `Self`, so that a call of the way has it where the caller has it: elsewhere the check
-/// compares whole types.
+/// The mark is `Self`, so that a call of the way has it where the caller has it: elsewhere the
+/// check compares whole types.
 pub(crate) trait ExprLevel<L>: Sized {
     ghost use Rattle.std.specs.Prelude.{ℕ};
 
@@ -118,7 +123,9 @@ pub(crate) trait ExprLevel<L>: Sized {
 
     fn below<'k>(kind: &'k mut ExprKind<Self>, steps: &[u32]) -> Option<&'k mut Expr<Self>>
         ensures* writes_back { sem 𝓛 (lends_below_expr Self.row reach kind.entry steps.now result) }
-        ensures value { IsWithin reach steps.now → (m : Self) → option_map (λ x. view.expr_of x.now) result ≡ pure.exp_at (pure.exp (view.expr_kind m kind.entry.now)) steps.now };
+        ensures value { IsWithin reach steps.now → (m : Self)
+            → option_map (λ x. view.expr_of x.now) result
+            ≡ pure.exp_at (pure.exp (view.expr_kind m kind.entry.now)) steps.now };
 }
 
 impl<A> ExprLevel<One> for A {

@@ -145,7 +145,8 @@ impl<A> Expr<A> {
     /// `name(args)` (JLS 15.12).
     #[tactic(auto, unfolding(crate::specs::View::expr_kind))]
     pub fn call(mark: A, name: Ident<A>, args: Vec<Expr<A>>) -> Expr<A>
-        ensures { expr_of result ≡ tree.call mark tree.no_target (word_of name) (exprs_of args.items) }
+        ensures { expr_of result ≡ tree.call mark tree.no_target (word_of name)
+            (exprs_of args.items) }
     {
         Expr {
             mark,
@@ -156,7 +157,8 @@ impl<A> Expr<A> {
     /// `target.name(args)` (JLS 15.12).
     #[tactic(auto, unfolding(crate::specs::View::expr_kind))]
     pub fn call_on(mark: A, target: Box<Expr<A>>, name: Ident<A>, args: Vec<Expr<A>>) -> Expr<A>
-        ensures { expr_of result ≡ tree.call mark (tree.on (expr_of target.value)) (word_of name) (exprs_of args.items) }
+        ensures { expr_of result ≡ tree.call mark (tree.on (expr_of target.value)) (word_of name)
+            (exprs_of args.items) }
     {
         Expr {
             mark,

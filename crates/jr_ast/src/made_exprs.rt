@@ -48,7 +48,8 @@ pub(crate) fn this<B: Drop>(alloc: Global, mark: B) -> Made<Box<Expr<B>>>
 
 /// A simple name.
 pub(crate) fn simple<B: Drop>(alloc: Global, mark: B, name: Made<Ident<B>>) -> Made<Box<Expr<B>>>
-    ensures { IfOk result (λ x. IsOkAnd name (λ name'. expr_of x.value ≡ tree.name mark (word_of name'))) }
+    ensures { IfOk result (λ x. IsOkAnd name (λ name'.
+        expr_of x.value ≡ tree.name mark (word_of name'))) }
 {
     in_box(alloc, Expr::simple(mark, name?))
 }
@@ -59,7 +60,8 @@ pub(crate) fn super_field<B: Drop>(
     mark: B,
     name: Made<Ident<B>>,
 ) -> Made<Box<Expr<B>>>
-    ensures { IfOk result (λ x. IsOkAnd name (λ name'. expr_of x.value ≡ tree.super_field mark (word_of name'))) }
+    ensures { IfOk result (λ x. IsOkAnd name (λ name'.
+        expr_of x.value ≡ tree.super_field mark (word_of name'))) }
 {
     in_box(alloc, Expr::super_field(mark, name?))
 }
@@ -70,7 +72,8 @@ pub(crate) fn class_literal<B: Drop>(
     mark: B,
     ty: Made<TypeRef<B>>,
 ) -> Made<Box<Expr<B>>>
-    ensures { IfOk result (λ x. IsOkAnd ty (λ ty'. expr_of x.value ≡ tree.class_literal mark (type_of ty'))) }
+    ensures { IfOk result (λ x. IsOkAnd ty (λ ty'.
+        expr_of x.value ≡ tree.class_literal mark (type_of ty'))) }
 {
     in_box(alloc, Expr::class_literal(mark, ty?))
 }
@@ -82,7 +85,9 @@ pub(crate) fn field<B: Drop>(
     of: Made<Box<Expr<B>>>,
     name: Made<Ident<B>>,
 ) -> Made<Box<Expr<B>>>
-    ensures { IfOk result (λ x. IsOkAnd of (λ of'. IsOkAnd name (λ name'. expr_of x.value ≡ tree.field mark (expr_of of'.value) (word_of name')))) }
+    ensures { IfOk result (λ x. IsOkAnd of (λ of'.
+        IsOkAnd name (λ name'. expr_of x.value
+        ≡ tree.field mark (expr_of of'.value) (word_of name')))) }
 {
     in_box(alloc, Expr::field(mark, of?, name?))
 }
@@ -94,7 +99,9 @@ pub(crate) fn super_call<B: Drop>(
     name: Made<Ident<B>>,
     args: Made<Vec<Expr<B>>>,
 ) -> Made<Box<Expr<B>>>
-    ensures { IfOk result (λ x. IsOkAnd name (λ name'. IsOkAnd args (λ args'. expr_of x.value ≡ tree.super_call mark (word_of name') (exprs_of args'.items)))) }
+    ensures { IfOk result (λ x. IsOkAnd name (λ name'.
+        IsOkAnd args (λ args'. expr_of x.value
+        ≡ tree.super_call mark (word_of name') (exprs_of args'.items)))) }
 {
     in_box(alloc, Expr::super_call(mark, name?, args?))
 }
@@ -106,14 +113,17 @@ pub(crate) fn create<B: Drop>(
     ty: Made<TypeRef<B>>,
     args: Made<Vec<Expr<B>>>,
 ) -> Made<Box<Expr<B>>>
-    ensures { IfOk result (λ x. IsOkAnd ty (λ ty'. IsOkAnd args (λ args'. expr_of x.value ≡ tree.create mark (type_of ty') (exprs_of args'.items)))) }
+    ensures { IfOk result (λ x. IsOkAnd ty (λ ty'.
+        IsOkAnd args (λ args'. expr_of x.value
+        ≡ tree.create mark (type_of ty') (exprs_of args'.items)))) }
 {
     in_box(alloc, Expr::create(mark, ty?, args?))
 }
 
 /// `(of)`.
 pub(crate) fn paren<B: Drop>(alloc: Global, mark: B, of: Made<Box<Expr<B>>>) -> Made<Box<Expr<B>>>
-    ensures { IfOk result (λ x. IsOkAnd of (λ of'. expr_of x.value ≡ tree.paren mark (expr_of of'.value))) }
+    ensures { IfOk result (λ x. IsOkAnd of (λ of'.
+        expr_of x.value ≡ tree.paren mark (expr_of of'.value))) }
 {
     in_box(alloc, Expr::paren(mark, of?))
 }
@@ -125,7 +135,8 @@ pub(crate) fn cast<B: Drop>(
     ty: Made<TypeRef<B>>,
     of: Made<Box<Expr<B>>>,
 ) -> Made<Box<Expr<B>>>
-    ensures { IfOk result (λ x. IsOkAnd ty (λ ty'. IsOkAnd of (λ of'. expr_of x.value ≡ tree.cast mark (type_of ty') (expr_of of'.value)))) }
+    ensures { IfOk result (λ x. IsOkAnd ty (λ ty'.
+        IsOkAnd of (λ of'. expr_of x.value ≡ tree.cast mark (type_of ty') (expr_of of'.value)))) }
 {
     in_box(alloc, Expr::cast(mark, ty?, of?))
 }
@@ -137,7 +148,8 @@ pub(crate) fn unary<B: Drop>(
     op: UnOp,
     of: Made<Box<Expr<B>>>,
 ) -> Made<Box<Expr<B>>>
-    ensures { IfOk result (λ x. IsOkAnd of (λ of'. expr_of x.value ≡ tree.unary mark op (expr_of of'.value))) }
+    ensures { IfOk result (λ x. IsOkAnd of (λ of'.
+        expr_of x.value ≡ tree.unary mark op (expr_of of'.value))) }
 {
     in_box(alloc, Expr::unary(mark, op, of?))
 }
@@ -149,7 +161,8 @@ pub(crate) fn bump<B: Drop>(
     op: BumpOp,
     of: Made<Box<Expr<B>>>,
 ) -> Made<Box<Expr<B>>>
-    ensures { IfOk result (λ x. IsOkAnd of (λ of'. expr_of x.value ≡ tree.bump mark op (expr_of of'.value))) }
+    ensures { IfOk result (λ x. IsOkAnd of (λ of'.
+        expr_of x.value ≡ tree.bump mark op (expr_of of'.value))) }
 {
     in_box(alloc, Expr::bump(mark, op, of?))
 }
@@ -162,7 +175,9 @@ pub(crate) fn binary<B: Drop>(
     left: Made<Box<Expr<B>>>,
     right: Made<Box<Expr<B>>>,
 ) -> Made<Box<Expr<B>>>
-    ensures { IfOk result (λ x. IsOkAnd left (λ left'. IsOkAnd right (λ right'. expr_of x.value ≡ tree.binary mark op (expr_of left'.value) (expr_of right'.value)))) }
+    ensures { IfOk result (λ x. IsOkAnd left (λ left'.
+        IsOkAnd right (λ right'. expr_of x.value
+        ≡ tree.binary mark op (expr_of left'.value) (expr_of right'.value)))) }
 {
     in_box(alloc, Expr::binary(mark, op, left?, right?))
 }
@@ -174,7 +189,9 @@ pub(crate) fn assign<B: Drop>(
     to: Made<Box<Expr<B>>>,
     value: Made<Box<Expr<B>>>,
 ) -> Made<Box<Expr<B>>>
-    ensures { IfOk result (λ x. IsOkAnd to (λ to'. IsOkAnd value (λ value'. expr_of x.value ≡ tree.assign mark (expr_of to'.value) (expr_of value'.value)))) }
+    ensures { IfOk result (λ x. IsOkAnd to (λ to'.
+        IsOkAnd value (λ value'. expr_of x.value
+        ≡ tree.assign mark (expr_of to'.value) (expr_of value'.value)))) }
 {
     in_box(alloc, Expr::assign(mark, to?, value?))
 }
@@ -187,7 +204,9 @@ pub(crate) fn compound<B: Drop>(
     to: Made<Box<Expr<B>>>,
     value: Made<Box<Expr<B>>>,
 ) -> Made<Box<Expr<B>>>
-    ensures { IfOk result (λ x. IsOkAnd to (λ to'. IsOkAnd value (λ value'. expr_of x.value ≡ tree.compound mark op (expr_of to'.value) (expr_of value'.value)))) }
+    ensures { IfOk result (λ x. IsOkAnd to (λ to'.
+        IsOkAnd value (λ value'. expr_of x.value
+        ≡ tree.compound mark op (expr_of to'.value) (expr_of value'.value)))) }
 {
     in_box(alloc, Expr::compound(mark, op, to?, value?))
 }
@@ -208,7 +227,10 @@ pub(crate) fn call<B: Drop>(
     name: Made<Ident<B>>,
     args: Made<Vec<Expr<B>>>,
 ) -> Made<Box<Expr<B>>>
-    ensures { IfOk result (λ x. IsOkAnd target (λ target'. IsOkAnd name (λ name'. IsOkAnd args (λ args'. expr_of x.value ≡ tree.call mark (target_of target') (word_of name') (exprs_of args'.items))))) }
+    ensures { IfOk result (λ x. IsOkAnd target (λ target'.
+        IsOkAnd name (λ name'. IsOkAnd args (λ args'.
+        expr_of x.value ≡ tree.call mark (target_of target') (word_of name')
+        (exprs_of args'.items))))) }
 {
     let name = name?;
     let args = args?;

@@ -27,7 +27,10 @@ pub(crate) fn local<B: Drop>(
     name: Made<Ident<B>>,
     init: Made<Box<Expr<B>>>,
 ) -> Made<Box<Stmt<B>>>
-    ensures { IfOk result (λ x. IsOkAnd ty (λ ty'. IsOkAnd name (λ name'. IsOkAnd init (λ init'. stmt_of x.value ≡ tree.local mark is_final (type_of ty') (word_of name') (expr_of init'.value))))) }
+    ensures { IfOk result (λ x. IsOkAnd ty (λ ty'.
+        IsOkAnd name (λ name'. IsOkAnd init (λ init'.
+        stmt_of x.value ≡ tree.local mark is_final (type_of ty') (word_of name')
+        (expr_of init'.value))))) }
 {
     let name = name?;
     let init = init?;
@@ -40,7 +43,8 @@ pub(crate) fn local<B: Drop>(
 
 /// `of;`.
 pub(crate) fn eval<B: Drop>(alloc: Global, mark: B, of: Made<Box<Expr<B>>>) -> Made<Box<Stmt<B>>>
-    ensures { IfOk result (λ x. IsOkAnd of (λ of'. stmt_of x.value ≡ tree.eval mark (expr_of of'.value))) }
+    ensures { IfOk result (λ x. IsOkAnd of (λ of'.
+        stmt_of x.value ≡ tree.eval mark (expr_of of'.value))) }
 {
     in_box(alloc, Stmt::eval(mark, Box::into_inner(of?)))
 }
@@ -52,7 +56,9 @@ pub(crate) fn while_loop<B: Drop>(
     condition: Made<Box<Expr<B>>>,
     body: Made<Box<Stmt<B>>>,
 ) -> Made<Box<Stmt<B>>>
-    ensures { IfOk result (λ x. IsOkAnd condition (λ condition'. IsOkAnd body (λ body'. stmt_of x.value ≡ tree.loop mark (expr_of condition'.value) (stmt_of body'.value)))) }
+    ensures { IfOk result (λ x. IsOkAnd condition (λ condition'.
+        IsOkAnd body (λ body'. stmt_of x.value
+        ≡ tree.loop mark (expr_of condition'.value) (stmt_of body'.value)))) }
 {
     let condition = condition?;
     let body = body?;
@@ -64,7 +70,8 @@ pub(crate) fn while_loop<B: Drop>(
 
 /// `{ body }`.
 pub(crate) fn block<B: Drop>(alloc: Global, mark: B, body: Made<Vec<Stmt<B>>>) -> Made<Box<Stmt<B>>>
-    ensures { IfOk result (λ x. IsOkAnd body (λ body'. stmt_of x.value ≡ tree.block mark (stmts_of body'.items))) }
+    ensures { IfOk result (λ x. IsOkAnd body (λ body'.
+        stmt_of x.value ≡ tree.block mark (stmts_of body'.items))) }
 {
     in_box(alloc, Stmt::block(mark, body?))
 }
@@ -76,7 +83,9 @@ pub(crate) fn sync<B: Drop>(
     lock: Made<Box<Expr<B>>>,
     body: Made<Vec<Stmt<B>>>,
 ) -> Made<Box<Stmt<B>>>
-    ensures { IfOk result (λ x. IsOkAnd lock (λ lock'. IsOkAnd body (λ body'. stmt_of x.value ≡ tree.sync mark (expr_of lock'.value) (stmts_of body'.items)))) }
+    ensures { IfOk result (λ x. IsOkAnd lock (λ lock'.
+        IsOkAnd body (λ body'. stmt_of x.value
+        ≡ tree.sync mark (expr_of lock'.value) (stmts_of body'.items)))) }
 {
     let lock = lock?;
     let body = body?;
@@ -96,7 +105,8 @@ pub(crate) fn returned<B: Drop>(
     mark: B,
     value: Made<Option<Box<Expr<B>>>>,
 ) -> Made<Box<Stmt<B>>>
-    ensures { IfOk result (λ x. IsOkAnd value (λ value'. stmt_of x.value ≡ tree.«return» mark (option_map (λ b. expr_of b.value) value'))) }
+    ensures { IfOk result (λ x. IsOkAnd value (λ value'.
+        stmt_of x.value ≡ tree.«return» mark (option_map (λ b. expr_of b.value) value'))) }
 {
     let value = value?;
     match value {
@@ -116,7 +126,10 @@ pub(crate) fn conditional<B: Drop>(
     yes: Made<Box<Stmt<B>>>,
     no: Made<Option<Box<Stmt<B>>>>,
 ) -> Made<Box<Stmt<B>>>
-    ensures { IfOk result (λ x. IsOkAnd condition (λ condition'. IsOkAnd yes (λ yes'. IsOkAnd no (λ no'. stmt_of x.value ≡ tree.branch mark (expr_of condition'.value) (stmt_of yes'.value) (else_of no'))))) }
+    ensures { IfOk result (λ x. IsOkAnd condition (λ condition'.
+        IsOkAnd yes (λ yes'. IsOkAnd no (λ no'.
+        stmt_of x.value ≡ tree.branch mark (expr_of condition'.value) (stmt_of yes'.value)
+        (else_of no'))))) }
 {
     let condition = condition?;
     let yes = yes?;

@@ -21,7 +21,8 @@ pub(crate) fn word<B: Drop, A, F: Fn(&A) -> B>(
     f: &F,
 ) -> Result<Ident<B>, AllocError>
     requires { F.IsAlwaysCallable f.now }
-    ensures { IfOk result (λ w. same.SameWord (FnReturnsAt F.Fn f.now) (word_of word.now) (word_of w)) }
+    ensures { IfOk result (λ w. same.SameWord (FnReturnsAt F.Fn f.now)
+        (word_of word.now) (word_of w)) }
 {
     let name = Name::new(alloc, word.name.as_str())?;
     let mark = marked(&word.mark, f);
@@ -34,7 +35,8 @@ pub(crate) fn ty<B: Drop, A, F: Fn(&A) -> B>(
     f: &F,
 ) -> Result<TypeRef<B>, AllocError>
     requires { F.IsAlwaysCallable f.now }
-    ensures { IfOk result (λ t. same.SameType (FnReturnsAt F.Fn f.now) (type_of ty.now) (type_of t)) }
+    ensures { IfOk result (λ t. same.SameType (FnReturnsAt F.Fn f.now)
+        (type_of ty.now) (type_of t)) }
 {
     match &ty.kind {
         TypeKind::Int => Ok(TypeRef {
@@ -70,7 +72,8 @@ pub(crate) fn param<B: Drop, A, F: Fn(&A) -> B>(
     f: &F,
 ) -> Result<Param<B>, AllocError>
     requires { F.IsAlwaysCallable f.now }
-    ensures { IfOk result (λ p. same.SameParam (FnReturnsAt F.Fn f.now) (param_of param.now) (param_of p)) }
+    ensures { IfOk result (λ p. same.SameParam (FnReturnsAt F.Fn f.now) (param_of param.now)
+        (param_of p)) }
 {
     let name = word(alloc, &param.name, f)?;
     let ty = ty(alloc, &param.ty, f)?;
@@ -89,7 +92,8 @@ pub(crate) fn maybe_ty<B: Drop, A, F: Fn(&A) -> B>(
     f: &F,
 ) -> Result<Option<TypeRef<B>>, AllocError>
     requires { F.IsAlwaysCallable f.now }
-    ensures { IfOk result (λ x. same.SameMaybeType (FnReturnsAt F.Fn f.now) (option_map type_of of.now) (option_map type_of x)) }
+    ensures { IfOk result (λ x. same.SameMaybeType (FnReturnsAt F.Fn f.now)
+        (option_map type_of of.now) (option_map type_of x)) }
 {
     match of {
         None => Ok(None),
@@ -102,7 +106,8 @@ pub(crate) fn maybe_ty<B: Drop, A, F: Fn(&A) -> B>(
 
 fn modifier<B: Drop, A, F: Fn(&A) -> B>(modifier: &Modifier<A>, f: &F) -> Modifier<B>
     requires { F.IsAlwaysCallable f.now }
-    ensures { same.SameModifier (FnReturnsAt F.Fn f.now) (modifier_of modifier.now) (modifier_of result) }
+    ensures { same.SameModifier (FnReturnsAt F.Fn f.now) (modifier_of modifier.now)
+        (modifier_of result) }
 {
     let mark = marked(&modifier.mark, f);
     Modifier {
@@ -117,7 +122,8 @@ pub(crate) fn modifiers<B: Drop, A, F: Fn(&A) -> B>(
     f: &F,
 ) -> Result<Vec<Modifier<B>>, AllocError>
     requires { F.IsAlwaysCallable f.now }
-    ensures { IfOk result (λ x. same.SameModifiers (FnReturnsAt F.Fn f.now) (map modifier_of parts.now) (map modifier_of x.items)) }
+    ensures { IfOk result (λ x. same.SameModifiers (FnReturnsAt F.Fn f.now)
+        (map modifier_of parts.now) (map modifier_of x.items)) }
 {
     let mut copies = Vec::new(alloc);
     for part in parts {
@@ -132,7 +138,8 @@ pub(crate) fn words<B: Drop, A, F: Fn(&A) -> B>(
     f: &F,
 ) -> Result<Vec<Ident<B>>, AllocError>
     requires { F.IsAlwaysCallable f.now }
-    ensures { IfOk result (λ x. same.SameWords (FnReturnsAt F.Fn f.now) (map word_of parts.now) (map word_of x.items)) }
+    ensures { IfOk result (λ x. same.SameWords (FnReturnsAt F.Fn f.now) (map word_of parts.now)
+        (map word_of x.items)) }
 {
     let mut copies = Vec::new(alloc);
     for part in parts {
@@ -147,7 +154,8 @@ pub(crate) fn params<B: Drop, A, F: Fn(&A) -> B>(
     f: &F,
 ) -> Result<Vec<Param<B>>, AllocError>
     requires { F.IsAlwaysCallable f.now }
-    ensures { IfOk result (λ x. same.SameParams (FnReturnsAt F.Fn f.now) (map param_of parts.now) (map param_of x.items)) }
+    ensures { IfOk result (λ x. same.SameParams (FnReturnsAt F.Fn f.now) (map param_of parts.now)
+        (map param_of x.items)) }
 {
     let mut copies = Vec::new(alloc);
     for part in parts {

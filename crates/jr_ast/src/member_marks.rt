@@ -4,7 +4,8 @@ ghost use Rattle.std.specs.Fn.{FnReturnsAt};
 ghost use Rattle.jr_ast.specs.Remarked as same;
 ghost use Rattle.jr_ast.specs.declared.members.Class.{out-Class};
 ghost use Rattle.jr_ast.specs.MemberTree as tree;
-ghost use Rattle.jr_ast.specs.View.{word_of, modifier_of, type_of, param_of, expr_of, args_of, stmts_of, class_of, member_of, members_of, unit_of};
+ghost use Rattle.jr_ast.specs.View.{word_of, modifier_of, type_of, param_of, expr_of, args_of};
+ghost use Rattle.jr_ast.specs.View.{stmts_of, class_of, member_of, members_of, unit_of};
 
 use crate::expr_marks::{maybe_args, maybe_expr};
 use crate::exprs::Expr;
@@ -33,9 +34,14 @@ fn signature<B: Drop, A, F: Fn(&A) -> B>(
     f: &F,
 ) -> Made<(Vec<Modifier<B>>, Ident<B>, Vec<Param<B>>)>
     requires { F.IsAlwaysCallable f.now }
-    ensures words { IfOk result (λ all. same.SameModifiers (FnReturnsAt F.Fn f.now) (map modifier_of words.now) (map modifier_of all.0.items)) }
-    ensures name { IfOk result (λ all. same.SameWord (FnReturnsAt F.Fn f.now) (word_of name.now) (word_of all.1)) }
-    ensures list { IfOk result (λ all. same.SameParams (FnReturnsAt F.Fn f.now) (map param_of list.now) (map param_of all.2.items)) }
+    ensures words { IfOk result (λ all.
+        same.SameModifiers (FnReturnsAt F.Fn f.now) (map modifier_of words.now)
+        (map modifier_of all.0.items)) }
+    ensures name { IfOk result (λ all.
+        same.SameWord (FnReturnsAt F.Fn f.now) (word_of name.now) (word_of all.1)) }
+    ensures list { IfOk result (λ all.
+        same.SameParams (FnReturnsAt F.Fn f.now) (map param_of list.now)
+        (map param_of all.2.items)) }
 {
     let words = modifiers(alloc, words, f)?;
     let name = word(alloc, name, f)?;
@@ -53,7 +59,9 @@ fn field<B: Drop, A, F: Fn(&A) -> B>(
     f: &F,
 ) -> Made<Box<Member<B>>>
     requires { F.IsAlwaysCallable f.now }
-    ensures { IfOk result (λ x. same.SameMember (FnReturnsAt F.Fn f.now) (tree.field mark.now (map modifier_of words.now) (type_of of_type.now) (word_of name.now) (option_map expr_of init.now)) (member_of x.value)) }
+    ensures { IfOk result (λ x. same.SameMember (FnReturnsAt F.Fn f.now)
+        (tree.field mark.now (map modifier_of words.now) (type_of of_type.now) (word_of name.now)
+        (option_map expr_of init.now)) (member_of x.value)) }
 {
     let words = modifiers(alloc, words, f)?;
     let name = word(alloc, name, f)?;
@@ -85,7 +93,9 @@ fn method<B: Drop, A, F: Fn(&A) -> B>(
     f: &F,
 ) -> Made<Box<Member<B>>>
     requires { F.IsAlwaysCallable f.now }
-    ensures { IfOk result (λ x. same.SameMember (FnReturnsAt F.Fn f.now) (tree.method mark.now (map modifier_of words.now) (option_map type_of ret.now) (word_of name.now) (map param_of list.now) (stmts_of body.now)) (member_of x.value)) }
+    ensures { IfOk result (λ x. same.SameMember (FnReturnsAt F.Fn f.now)
+        (tree.method mark.now (map modifier_of words.now) (option_map type_of ret.now)
+        (word_of name.now) (map param_of list.now) (stmts_of body.now)) (member_of x.value)) }
 {
     let head = signature(alloc, words, name, list, f)?;
     let body = stmts(alloc, body, f)?;
@@ -107,7 +117,10 @@ fn ctor<B: Drop, A, F: Fn(&A) -> B>(
     f: &F,
 ) -> Made<Box<Member<B>>>
     requires { F.IsAlwaysCallable f.now }
-    ensures { IfOk result (λ x. same.SameMember (FnReturnsAt F.Fn f.now) (tree.constructor mark.now (map modifier_of words.now) (word_of name.now) (map param_of list.now) (args_of parent_args.now) (stmts_of body.now)) (member_of x.value)) }
+    ensures { IfOk result (λ x. same.SameMember (FnReturnsAt F.Fn f.now)
+        (tree.constructor mark.now (map modifier_of words.now) (word_of name.now)
+        (map param_of list.now) (args_of parent_args.now) (stmts_of body.now))
+        (member_of x.value)) }
 {
     let head = signature(alloc, words, name, list, f)?;
     let body = stmts(alloc, body, f)?;
@@ -126,7 +139,10 @@ fn inner<B: Drop, A, F: Fn(&A) -> B>(
     f: &F,
 ) -> Made<Box<Member<B>>>
     requires { F.IsAlwaysCallable f.now }
-    ensures { (t : tree.Class A) → IfOk class (λ c. same.SameClass (FnReturnsAt F.Fn f.now) t (class_of c.value)) → IfOk result (λ x. same.SameMember (FnReturnsAt F.Fn f.now) (tree.inner mark.now t) (member_of x.value)) }
+    ensures { (t : tree.Class A) → IfOk class (λ c.
+        same.SameClass (FnReturnsAt F.Fn f.now) t (class_of c.value))
+        → IfOk result (λ x. same.SameMember (FnReturnsAt F.Fn f.now) (tree.inner mark.now t)
+        (member_of x.value)) }
 {
     let class = class?;
     in_box(
@@ -143,7 +159,10 @@ fn class_with<B: Drop, A, F: Fn(&A) -> B>(
     f: &F,
 ) -> Made<Box<Class<B>>>
     requires { F.IsAlwaysCallable f.now }
-    ensures { IfOk members (λ ms. same.SameMembers (FnReturnsAt F.Fn f.now) (members_of (out-Class _ of.now).members.items) (members_of ms.items)) → IfOk result (λ x. same.SameClass (FnReturnsAt F.Fn f.now) (class_of of.now) (class_of x.value)) }
+    ensures { IfOk members (λ ms. same.SameMembers (FnReturnsAt F.Fn f.now)
+        (members_of (out-Class _ of.now).members.items) (members_of ms.items))
+        → IfOk result (λ x. same.SameClass (FnReturnsAt F.Fn f.now) (class_of of.now)
+        (class_of x.value)) }
 {
     let all = members?;
     let words = modifiers(alloc, &of.modifiers, f)?;
@@ -157,7 +176,8 @@ fn class_with<B: Drop, A, F: Fn(&A) -> B>(
 #[cycle(member_marks)]
 fn member<B: Drop, A, F: Fn(&A) -> B>(alloc: Global, of: &Member<A>, f: &F) -> Made<Box<Member<B>>>
     requires { F.IsAlwaysCallable f.now }
-    ensures { IfOk result (λ x. same.SameMember (FnReturnsAt F.Fn f.now) (member_of of.now) (member_of x.value)) }
+    ensures { IfOk result (λ x. same.SameMember (FnReturnsAt F.Fn f.now) (member_of of.now)
+        (member_of x.value)) }
 {
     match &of.kind {
         MemberKind::Field {
@@ -199,7 +219,8 @@ fn member<B: Drop, A, F: Fn(&A) -> B>(alloc: Global, of: &Member<A>, f: &F) -> M
 #[cycle(member_marks)]
 fn class<B: Drop, A, F: Fn(&A) -> B>(alloc: Global, of: &Class<A>, f: &F) -> Made<Box<Class<B>>>
     requires { F.IsAlwaysCallable f.now }
-    ensures { IfOk result (λ x. same.SameClass (FnReturnsAt F.Fn f.now) (class_of of.now) (class_of x.value)) }
+    ensures { IfOk result (λ x. same.SameClass (FnReturnsAt F.Fn f.now) (class_of of.now)
+        (class_of x.value)) }
 {
     class_with(alloc, of, members(alloc, &of.members, f), f)
 }
@@ -211,7 +232,8 @@ fn members<B: Drop, A, F: Fn(&A) -> B>(
     f: &F,
 ) -> Made<Vec<Member<B>>>
     requires { F.IsAlwaysCallable f.now }
-    ensures { IfOk result (λ x. same.SameMembers (FnReturnsAt F.Fn f.now) (members_of parts.now) (members_of x.items)) }
+    ensures { IfOk result (λ x. same.SameMembers (FnReturnsAt F.Fn f.now) (members_of parts.now)
+        (members_of x.items)) }
 {
     let mut copies = Vec::new(alloc);
     for part in parts {
@@ -226,7 +248,8 @@ pub(crate) fn classes<B: Drop, A, F: Fn(&A) -> B>(
     f: &F,
 ) -> Made<Vec<Class<B>>>
     requires { F.IsAlwaysCallable f.now }
-    ensures { IfOk result (λ x. same.SameClasses (FnReturnsAt F.Fn f.now) (map class_of parts.now) (map class_of x.items)) }
+    ensures { IfOk result (λ x. same.SameClasses (FnReturnsAt F.Fn f.now) (map class_of parts.now)
+        (map class_of x.items)) }
 {
     let mut copies = Vec::new(alloc);
     for part in parts {
@@ -241,7 +264,8 @@ fn unit<B: Drop, A, F: Fn(&A) -> B>(
     f: &F,
 ) -> Result<Unit<B>, AllocError>
     requires { F.IsAlwaysCallable f.now }
-    ensures { IfOk result (λ x. same.SameUnit (FnReturnsAt F.Fn f.now) (unit_of of.now) (unit_of x)) }
+    ensures { IfOk result (λ x. same.SameUnit (FnReturnsAt F.Fn f.now)
+        (unit_of of.now) (unit_of x)) }
 {
     let path = words(alloc, &of.package, f)?;
     let all = classes(alloc, &of.classes, f)?;
@@ -249,8 +273,8 @@ fn unit<B: Drop, A, F: Fn(&A) -> B>(
 }
 
 impl<A> Unit<A> {
-    /// The same tree but for its marks. Where `f` has one answer for each mark, a node's new mark is
-    /// the answer for its old one.
+    /// The same tree but for its marks. Where `f` has one answer for each mark, a node's new mark
+    /// is the answer for its old one.
     ///
     /// `Err` comes only where memory runs out.
     pub fn with_marks<B: Drop, F: Fn(&A) -> B + Drop>(
@@ -259,7 +283,8 @@ impl<A> Unit<A> {
         f: F,
     ) -> Result<Unit<B>, AllocError>
         requires { F.IsAlwaysCallable f }
-        ensures { IfOk result (λ u. same.SameUnit (FnReturnsAt F.Fn f) (unit_of self.now) (unit_of u)) }
+        ensures { IfOk result (λ u. same.SameUnit (FnReturnsAt F.Fn f)
+            (unit_of self.now) (unit_of u)) }
     {
         unit(alloc, self, &f)
     }

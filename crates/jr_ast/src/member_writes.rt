@@ -4,9 +4,14 @@ ghost use Rattle.std.specs.Borrow.{sem};
 ghost use Rattle.jr_ast.specs.Nodes as pure;
 ghost use Rattle.jr_ast.specs.View as view;
 ghost use Rattle.jr_ast.specs.With.{get_from};
-ghost use Rattle.jr_ast.specs.MemberLent.{members_begin, init_begins, left_of, names_of, at_place, body_place, args_place};
-ghost use Rattle.jr_ast.specs.MemberLent.{lends_member_among, lends_member_of_class, lends_class_of_member, lends_class_among, lends_class_of_unit};
-ghost use Rattle.jr_ast.specs.MemberLent.{lends_stmt_left, lends_arg_left, lends_init, lends_stmt_of_member, lends_expr_of_member, lends_below_class};
+ghost use Rattle.jr_ast.specs.MemberLent.{members_begin, init_begins, left_of, names_of, at_place};
+ghost use Rattle.jr_ast.specs.MemberLent.{body_place, args_place};
+ghost use Rattle.jr_ast.specs.MemberLent.{lends_member_among, lends_member_of_class};
+ghost use Rattle.jr_ast.specs.MemberLent.{lends_class_of_member, lends_class_among};
+ghost use Rattle.jr_ast.specs.MemberLent.{lends_class_of_unit};
+ghost use Rattle.jr_ast.specs.MemberLent.{lends_stmt_left, lends_arg_left, lends_init};
+ghost use Rattle.jr_ast.specs.MemberLent.{lends_stmt_of_member, lends_expr_of_member};
+ghost use Rattle.jr_ast.specs.MemberLent.{lends_below_class};
 
 use crate::expr_writes::nth_expr;
 use crate::exprs::Expr;
@@ -23,7 +28,8 @@ pub(crate) fn nth_member<A>(
     number: usize,
 ) -> Option<&mut Member<A>>
     ensures* writes_back { sem 𝓛 (lends_member_among A.row among.entry first number result) }
-    ensures value { option_map (λ x. view.member_of x.now) result ≡ get_from first (map view.member_of among.entry.now.items) number }
+    ensures value { option_map (λ x. view.member_of x.now) result
+        ≡ get_from first (map view.member_of among.entry.now.items) number }
 {
     if number < first {
         return None;
@@ -34,7 +40,8 @@ pub(crate) fn nth_member<A>(
 /// The class of this number, where the first of the row has the number `first`.
 fn nth_class<A>(among: &mut Vec<Class<A>>, first: usize, number: usize) -> Option<&mut Class<A>>
     ensures* writes_back { sem 𝓛 (lends_class_among A.row among.entry first number result) }
-    ensures value { option_map (λ x. view.class_of x.now) result ≡ get_from first (map view.class_of among.entry.now.items) number }
+    ensures value { option_map (λ x. view.class_of x.now) result
+        ≡ get_from first (map view.class_of among.entry.now.items) number }
 {
     if number < first {
         return None;
@@ -80,7 +87,8 @@ fn given<A>(args: &Option<Vec<Expr<A>>>) -> usize
 
 fn stmt_left<A>(body: &mut Vec<Stmt<A>>, left: Option<usize>) -> Option<&mut Stmt<A>>
     ensures* writes_back { sem 𝓛 (lends_stmt_left A.row body.entry left result) }
-    ensures value { option_map (λ x. view.stmt_of x.now) result ≡ at_place pure.as_stmt (pure.stmts (view.stmts_of body.entry.now.items)) left }
+    ensures value { option_map (λ x. view.stmt_of x.now) result
+        ≡ at_place pure.as_stmt (pure.stmts (view.stmts_of body.entry.now.items)) left }
 {
     match left {
         Some(left) => nth_stmt(body, 0, left),
@@ -90,7 +98,8 @@ fn stmt_left<A>(body: &mut Vec<Stmt<A>>, left: Option<usize>) -> Option<&mut Stm
 
 fn arg_left<A>(args: &mut Option<Vec<Expr<A>>>, left: Option<usize>) -> Option<&mut Expr<A>>
     ensures* writes_back { sem 𝓛 (lends_arg_left A.row args.entry left result) }
-    ensures value { option_map (λ x. view.expr_of x.now) result ≡ at_place pure.as_exp (pure.args_children (view.args_of args.entry.now)) left }
+    ensures value { option_map (λ x. view.expr_of x.now) result
+        ≡ at_place pure.as_exp (pure.args_children (view.args_of args.entry.now)) left }
 {
     match (args, left) {
         (Some(args), Some(left)) => nth_expr(args, 0, left),
@@ -102,7 +111,9 @@ fn arg_left<A>(args: &mut Option<Vec<Expr<A>>>, left: Option<usize>) -> Option<&
 /// The expression that may be missing, where it has the number `first`.
 fn init_mut<A>(init: &mut Option<Expr<A>>, first: usize, number: usize) -> Option<&mut Expr<A>>
     ensures* writes_back { sem 𝓛 (lends_init A.row init.entry first number result) }
-    ensures value { option_map (λ x. view.expr_of x.now) result ≡ option_and_then pure.as_exp (get_from first (pure.maybe (option_map pure.exp (option_map view.expr_of init.entry.now))) number) }
+    ensures value { option_map (λ x. view.expr_of x.now) result
+        ≡ option_and_then pure.as_exp (get_from first
+        (pure.maybe (option_map pure.exp (option_map view.expr_of init.entry.now))) number) }
 {
     if number != first {
         return None;
@@ -124,7 +135,9 @@ impl<A> Class<A> {
     /// The member that is the child of this number, if it is one.
     pub(crate) fn member_mut(&mut self, number: usize) -> Option<&mut Member<A>>
         ensures* writes_back { sem 𝓛 (lends_member_of_class A.row self.entry number result) }
-        ensures value { option_map (λ x. view.member_of x.now) result ≡ option_and_then pure.as_member (pure.child_of (pure.class (view.class_of self.entry.now)) number) }
+        ensures value { option_map (λ x. view.member_of x.now) result
+            ≡ option_and_then pure.as_member
+            (pure.child_of (pure.class (view.class_of self.entry.now)) number) }
     {
         let first = self.members_begin();
         nth_member(&mut self.members, first, number)
@@ -135,7 +148,9 @@ impl<A> MemberKind<A> {
     /// The class that this member is, if it is the child of this number.
     pub(crate) fn inner_mut(&mut self, number: usize) -> Option<&mut Class<A>>
         ensures* writes_back { sem 𝓛 (lends_class_of_member A.row self.entry number result) }
-        ensures value { (m : A) → option_map (λ x. view.class_of x.now) result ≡ option_and_then pure.as_class (pure.child_of (pure.member (view.member_kind m self.entry.now)) number) }
+        ensures value { (m : A) → option_map (λ x. view.class_of x.now) result
+            ≡ option_and_then pure.as_class
+            (pure.child_of (pure.member (view.member_kind m self.entry.now)) number) }
     {
         match (self, number) {
             (MemberKind::Inner(class), 0) => Some(class),
@@ -200,7 +215,9 @@ impl<A> MemberKind<A> {
     /// The statement that is the child of this number, if it is one.
     pub(crate) fn stmt_mut(&mut self, number: usize) -> Option<&mut Stmt<A>>
         ensures* writes_back { sem 𝓛 (lends_stmt_of_member A.row self.entry number result) }
-        ensures value { (m : A) → option_map (λ x. view.stmt_of x.now) result ≡ option_and_then pure.as_stmt (pure.child_of (pure.member (view.member_kind m self.entry.now)) number) }
+        ensures value { (m : A) → option_map (λ x. view.stmt_of x.now) result
+            ≡ option_and_then pure.as_stmt
+            (pure.child_of (pure.member (view.member_kind m self.entry.now)) number) }
     {
         let left = self.body_place(number);
         match self {
@@ -214,7 +231,9 @@ impl<A> MemberKind<A> {
     /// The expression that is the child of this number, if it is one.
     pub(crate) fn expr_mut(&mut self, number: usize) -> Option<&mut Expr<A>>
         ensures* writes_back { sem 𝓛 (lends_expr_of_member A.row self.entry number result) }
-        ensures value { (m : A) → option_map (λ x. view.expr_of x.now) result ≡ option_and_then pure.as_exp (pure.child_of (pure.member (view.member_kind m self.entry.now)) number) }
+        ensures value { (m : A) → option_map (λ x. view.expr_of x.now) result
+            ≡ option_and_then pure.as_exp (pure.child_of
+            (pure.member (view.member_kind m self.entry.now)) number) }
     {
         let first = self.init_begins();
         let left = self.args_place(number);
@@ -231,7 +250,9 @@ impl<A> Unit<A> {
     /// The class that is the child of this number, if it is one.
     pub(crate) fn class_mut(&mut self, number: usize) -> Option<&mut Class<A>>
         ensures* writes_back { sem 𝓛 (lends_class_of_unit A.row self.entry number result) }
-        ensures value { option_map (λ x. view.class_of x.now) result ≡ option_and_then pure.as_class (pure.child_of (pure.unit (view.unit_of self.entry.now)) number) }
+        ensures value { option_map (λ x. view.class_of x.now) result
+            ≡ option_and_then pure.as_class
+            (pure.child_of (pure.unit (view.unit_of self.entry.now)) number) }
     {
         let first = self.package.len();
         nth_class(&mut self.classes, first, number)
@@ -240,16 +261,19 @@ impl<A> Unit<A> {
 
 /// A way down from a class to a member below it, in trees with marks of this type.
 ///
-/// The mark is `Self`, so that a call of the way has it where the caller has it: elsewhere the check
-/// compares whole types.
+/// The mark is `Self`, so that a call of the way has it where the caller has it: elsewhere the
+/// check compares whole types.
 pub(crate) trait ClassLevel<L>: Sized {
     ghost use Rattle.std.specs.Prelude.{ℕ};
 
     ghost reach: { ℕ };
 
     fn below<'k>(class: &'k mut Class<Self>, steps: &[u32]) -> Option<&'k mut Member<Self>>
-        ensures* writes_back { sem 𝓛 (lends_below_class Self.row reach class.entry steps.now result) }
-        ensures value { length steps.now ≤ 2 * reach → option_map (λ x. view.member_of x.now) result ≡ pure.member_at (pure.class (view.class_of class.entry.now)) steps.now };
+        ensures* writes_back { sem 𝓛 (lends_below_class Self.row reach class.entry
+            steps.now result) }
+        ensures value { length steps.now ≤ 2 * reach
+            → option_map (λ x. view.member_of x.now) result
+            ≡ pure.member_at (pure.class (view.class_of class.entry.now)) steps.now };
 }
 
 impl<A> ClassLevel<One> for A {

@@ -1,7 +1,8 @@
 //! Members, classes and compilation units (JLS 7.3, 8).
 ghost use Rattle.std.specs.Prelude.{◌≡◌, option_map, map};
 ghost use Rattle.jr_ast.specs.MemberTree as tree;
-ghost use Rattle.jr_ast.specs.View.{word_of, modifier_of, type_of, param_of, expr_of, args_of, stmts_of, class_of, member_of, members_of, unit_of};
+ghost use Rattle.jr_ast.specs.View.{word_of, modifier_of, type_of, param_of, expr_of, args_of};
+ghost use Rattle.jr_ast.specs.View.{stmts_of, class_of, member_of, members_of, unit_of};
 
 use crate::exprs::Expr;
 use crate::names::Ident;
@@ -74,7 +75,8 @@ impl<A> Class<A> {
         parent: Option<TypeRef<A>>,
         members: Vec<Member<A>>,
     ) -> Class<A>
-        ensures { class_of result ≡ tree.class mark (map modifier_of modifiers.items) (word_of name) (option_map type_of parent) (members_of members.items) }
+        ensures { class_of result ≡ tree.class mark (map modifier_of modifiers.items) (word_of name)
+            (option_map type_of parent) (members_of members.items) }
     {
         Class {
             mark,
@@ -96,7 +98,8 @@ impl<A> Member<A> {
         name: Ident<A>,
         init: Option<Expr<A>>,
     ) -> Member<A>
-        ensures { member_of result ≡ tree.field mark (map modifier_of modifiers.items) (type_of ty) (word_of name) (option_map expr_of init) }
+        ensures { member_of result ≡ tree.field mark (map modifier_of modifiers.items) (type_of ty)
+            (word_of name) (option_map expr_of init) }
     {
         Member {
             mark,
@@ -119,7 +122,9 @@ impl<A> Member<A> {
         params: Vec<Param<A>>,
         body: Vec<Stmt<A>>,
     ) -> Member<A>
-        ensures { member_of result ≡ tree.method mark (map modifier_of modifiers.items) (option_map type_of ret) (word_of name) (map param_of params.items) (stmts_of body.items) }
+        ensures { member_of result ≡ tree.method mark (map modifier_of modifiers.items)
+            (option_map type_of ret) (word_of name) (map param_of params.items)
+            (stmts_of body.items) }
     {
         Member {
             mark,
@@ -143,7 +148,8 @@ impl<A> Member<A> {
         parent_args: Option<Vec<Expr<A>>>,
         body: Vec<Stmt<A>>,
     ) -> Member<A>
-        ensures { member_of result ≡ tree.constructor mark (map modifier_of modifiers.items) (word_of name) (map param_of params.items) (args_of parent_args) (stmts_of body.items) }
+        ensures { member_of result ≡ tree.constructor mark (map modifier_of modifiers.items)
+            (word_of name) (map param_of params.items) (args_of parent_args) (stmts_of body.items) }
     {
         Member {
             mark,
@@ -173,7 +179,11 @@ impl<A> Unit<A> {
     /// A compilation unit of these parts (JLS 7.3).
     #[tactic(auto, unfolding(crate::specs::View::member_kind))]
     pub fn new(mark: A, package: Vec<Ident<A>>, classes: Vec<Class<A>>) -> Unit<A>
-        ensures { unit_of result ≡ record { mark = mark; package_name = map word_of «package».items; classes = map class_of classes.items } }
+        ensures { unit_of result ≡ record {
+          mark = mark;
+          package_name = map word_of «package».items;
+          classes = map class_of classes.items;
+        } }
     {
         Unit {
             mark,

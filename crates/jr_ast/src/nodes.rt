@@ -63,7 +63,8 @@ impl<'a, A> Node<'a, A> {
 
     /// The node to which the path leads from this one, if there is one.
     pub fn at(self, path: &Path) -> Option<Node<'a, A>>
-        ensures { option_map node_of result ≡ pure.node_at (node_of self.entry) path.now.steps.items }
+        ensures { option_map node_of result
+            ≡ pure.node_at (node_of self.entry) path.now.steps.items }
     {
         self.down(path.steps.as_slice())
     }

@@ -17,21 +17,24 @@ pub struct Path {
 impl<A> Unit<A> {
     /// The expression to which the path leads; `None` exactly where it leads to no expression.
     pub fn expr_at(&self, path: &Path) -> Option<&Expr<A>>
-        ensures { option_map (λ x. expr_of x.now) result ≡ pure.exp_at (pure.unit (unit_of self.now)) path.now.steps.items }
+        ensures { option_map (λ x. expr_of x.now) result
+            ≡ pure.exp_at (pure.unit (unit_of self.now)) path.now.steps.items }
     {
         Node::Unit(self).at(path)?.as_expr()
     }
 
     /// The statement to which the path leads; `None` exactly where it leads to no statement.
     pub fn stmt_at(&self, path: &Path) -> Option<&Stmt<A>>
-        ensures { option_map (λ x. stmt_of x.now) result ≡ pure.stmt_at (pure.unit (unit_of self.now)) path.now.steps.items }
+        ensures { option_map (λ x. stmt_of x.now) result
+            ≡ pure.stmt_at (pure.unit (unit_of self.now)) path.now.steps.items }
     {
         Node::Unit(self).at(path)?.as_stmt()
     }
 
     /// The member to which the path leads; `None` exactly where it leads to no member.
     pub fn member_at(&self, path: &Path) -> Option<&Member<A>>
-        ensures { option_map (λ x. member_of x.now) result ≡ pure.member_at (pure.unit (unit_of self.now)) path.now.steps.items }
+        ensures { option_map (λ x. member_of x.now) result
+            ≡ pure.member_at (pure.unit (unit_of self.now)) path.now.steps.items }
     {
         Node::Unit(self).at(path)?.as_member()
     }
@@ -41,7 +44,8 @@ impl<A> Member<A> {
     /// The expression to which the path leads from the member; `None` exactly where it leads to no
     /// expression.
     pub fn expr_at(&self, path: &Path) -> Option<&Expr<A>>
-        ensures { option_map (λ x. expr_of x.now) result ≡ pure.exp_at (pure.member (member_of self.now)) path.now.steps.items }
+        ensures { option_map (λ x. expr_of x.now) result
+            ≡ pure.exp_at (pure.member (member_of self.now)) path.now.steps.items }
     {
         Node::Member(self).at(path)?.as_expr()
     }
@@ -49,7 +53,8 @@ impl<A> Member<A> {
     /// The statement to which the path leads from the member; `None` exactly where it leads to no
     /// statement.
     pub fn stmt_at(&self, path: &Path) -> Option<&Stmt<A>>
-        ensures { option_map (λ x. stmt_of x.now) result ≡ pure.stmt_at (pure.member (member_of self.now)) path.now.steps.items }
+        ensures { option_map (λ x. stmt_of x.now) result
+            ≡ pure.stmt_at (pure.member (member_of self.now)) path.now.steps.items }
     {
         Node::Member(self).at(path)?.as_stmt()
     }

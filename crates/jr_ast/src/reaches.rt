@@ -1,5 +1,5 @@
-//! Ways down a tree, which reach twice as far from level to level. A path of any length is walked by
-//! halves, since no recursion hands a `&mut` on.
+//! Ways down a tree, which reach twice as far from level to level. A path of any length is walked
+//! by halves, since no recursion hands a `&mut` on.
 use std::marker::PhantomData;
 
 /// One step.

@@ -2,7 +2,8 @@
 ghost use Rattle.std.specs.Prelude.{◌≡◌, ◌++◌, List, ◌∷◌, [], map, option_map};
 ghost use Rattle.std.specs.Option.{option_copied};
 ghost use Rattle.jr_ast.specs.Nodes as pure;
-ghost use Rattle.jr_ast.specs.View.{word_of, modifier_of, type_of, param_of, exprs_of, stmts_of, members_of, class_of};
+ghost use Rattle.jr_ast.specs.View.{word_of, modifier_of, type_of, param_of, exprs_of, stmts_of};
+ghost use Rattle.jr_ast.specs.View.{members_of, class_of};
 ghost use Rattle.jr_ast.specs.NodeView.{node_of};
 ghost use Rattle.jr_ast.specs.Seeks.{sought};
 
@@ -41,7 +42,8 @@ impl<'a, A> Seek<'a, A> {
 
     /// The next part is this node.
     pub(crate) fn then(self, node: Node<'a, A>) -> Seek<'a, A>
-        ensures { (rest : List (pure.Node A)) → sought result rest ≡ sought self.entry (node_of node.entry ∷ rest) }
+        ensures { (rest : List (pure.Node A))
+            → sought result rest ≡ sought self.entry (node_of node.entry ∷ rest) }
     {
         match self {
             Seek::Found(found) => Seek::Found(found),
@@ -52,7 +54,10 @@ impl<'a, A> Seek<'a, A> {
 
     /// The next part is this type, if there is one.
     pub(crate) fn then_type(self, ty: Option<&'a TypeRef<A>>) -> Seek<'a, A>
-        ensures { (rest : List (pure.Node A)) → sought result rest ≡ sought self.entry (pure.maybe (option_map pure.type (option_map type_of (option_copied ty.entry))) ++ rest) }
+        ensures { (rest : List (pure.Node A))
+            → sought result rest ≡ sought self.entry
+            (pure.maybe (option_map pure.type
+            (option_map type_of (option_copied ty.entry))) ++ rest) }
     {
         match ty {
             Some(ty) => self.then(Node::Type(ty)),
@@ -62,7 +67,9 @@ impl<'a, A> Seek<'a, A> {
 
     /// The next parts are these.
     pub(crate) fn words(self, parts: &'a [Ident<A>]) -> Seek<'a, A>
-        ensures { (rest : List (pure.Node A)) → sought result rest ≡ sought self.entry (map pure.word (map word_of parts.now) ++ rest) }
+        ensures { (rest : List (pure.Node A))
+            → sought result rest ≡ sought self.entry
+            (map pure.word (map word_of parts.now) ++ rest) }
     {
         match self {
             Seek::Found(found) => Seek::Found(found),
@@ -78,7 +85,9 @@ impl<'a, A> Seek<'a, A> {
 
     /// The next parts are these.
     pub(crate) fn classes(self, parts: &'a [Class<A>]) -> Seek<'a, A>
-        ensures { (rest : List (pure.Node A)) → sought result rest ≡ sought self.entry (map pure.class (map class_of parts.now) ++ rest) }
+        ensures { (rest : List (pure.Node A))
+            → sought result rest ≡ sought self.entry
+            (map pure.class (map class_of parts.now) ++ rest) }
     {
         match self {
             Seek::Found(found) => Seek::Found(found),
@@ -94,7 +103,9 @@ impl<'a, A> Seek<'a, A> {
 
     /// The next parts are these.
     pub(crate) fn modifiers(self, parts: &'a [Modifier<A>]) -> Seek<'a, A>
-        ensures { (rest : List (pure.Node A)) → sought result rest ≡ sought self.entry (map pure.modifier (map modifier_of parts.now) ++ rest) }
+        ensures { (rest : List (pure.Node A))
+            → sought result rest ≡ sought self.entry
+            (map pure.modifier (map modifier_of parts.now) ++ rest) }
     {
         match self {
             Seek::Found(found) => Seek::Found(found),
@@ -110,7 +121,9 @@ impl<'a, A> Seek<'a, A> {
 
     /// The next parts are these.
     pub(crate) fn params(self, parts: &'a [Param<A>]) -> Seek<'a, A>
-        ensures { (rest : List (pure.Node A)) → sought result rest ≡ sought self.entry (map pure.param (map param_of parts.now) ++ rest) }
+        ensures { (rest : List (pure.Node A))
+            → sought result rest ≡ sought self.entry
+            (map pure.param (map param_of parts.now) ++ rest) }
     {
         match self {
             Seek::Found(found) => Seek::Found(found),
@@ -126,7 +139,8 @@ impl<'a, A> Seek<'a, A> {
 
     /// The next parts are these.
     pub(crate) fn members(self, parts: &'a [Member<A>]) -> Seek<'a, A>
-        ensures { (rest : List (pure.Node A)) → sought result rest ≡ sought self.entry (pure.members (members_of parts.now) ++ rest) }
+        ensures { (rest : List (pure.Node A))
+            → sought result rest ≡ sought self.entry (pure.members (members_of parts.now) ++ rest) }
     {
         match self {
             Seek::Found(found) => Seek::Found(found),
@@ -142,7 +156,8 @@ impl<'a, A> Seek<'a, A> {
 
     /// The next parts are these.
     pub(crate) fn stmts(self, parts: &'a [Stmt<A>]) -> Seek<'a, A>
-        ensures { (rest : List (pure.Node A)) → sought result rest ≡ sought self.entry (pure.stmts (stmts_of parts.now) ++ rest) }
+        ensures { (rest : List (pure.Node A))
+            → sought result rest ≡ sought self.entry (pure.stmts (stmts_of parts.now) ++ rest) }
     {
         match self {
             Seek::Found(found) => Seek::Found(found),
@@ -158,7 +173,8 @@ impl<'a, A> Seek<'a, A> {
 
     /// The next parts are these.
     pub(crate) fn exprs(self, parts: &'a [Expr<A>]) -> Seek<'a, A>
-        ensures { (rest : List (pure.Node A)) → sought result rest ≡ sought self.entry (pure.exps (exprs_of parts.now) ++ rest) }
+        ensures { (rest : List (pure.Node A))
+            → sought result rest ≡ sought self.entry (pure.exps (exprs_of parts.now) ++ rest) }
     {
         match self {
             Seek::Found(found) => Seek::Found(found),

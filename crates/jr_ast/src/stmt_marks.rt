@@ -19,7 +19,8 @@ pub(crate) fn stmt<B: Drop, A, F: Fn(&A) -> B>(
     f: &F,
 ) -> Made<Box<Stmt<B>>>
     requires { F.IsAlwaysCallable f.now }
-    ensures { IfOk result (λ x. same.SameStmt (FnReturnsAt F.Fn f.now) (stmt_of of.now) (stmt_of x.value)) }
+    ensures { IfOk result (λ x. same.SameStmt (FnReturnsAt F.Fn f.now) (stmt_of of.now)
+        (stmt_of x.value)) }
 {
     let mark = marked(&of.mark, f);
     match &of.kind {
@@ -63,7 +64,8 @@ fn else_stmt<B: Drop, A, F: Fn(&A) -> B>(
     f: &F,
 ) -> Made<Option<Box<Stmt<B>>>>
     requires { F.IsAlwaysCallable f.now }
-    ensures { IfOk result (λ x. same.SameElse (FnReturnsAt F.Fn f.now) (else_of of.now) (else_of x)) }
+    ensures { IfOk result (λ x. same.SameElse (FnReturnsAt F.Fn f.now)
+        (else_of of.now) (else_of x)) }
 {
     match of {
         None => Ok(None),
@@ -81,7 +83,8 @@ pub(crate) fn stmts<B: Drop, A, F: Fn(&A) -> B>(
     f: &F,
 ) -> Made<Vec<Stmt<B>>>
     requires { F.IsAlwaysCallable f.now }
-    ensures { IfOk result (λ x. same.SameStmts (FnReturnsAt F.Fn f.now) (stmts_of parts.now) (stmts_of x.items)) }
+    ensures { IfOk result (λ x. same.SameStmts (FnReturnsAt F.Fn f.now) (stmts_of parts.now)
+        (stmts_of x.items)) }
 {
     let mut copies = Vec::new(alloc);
     for part in parts {

@@ -5,7 +5,8 @@ ghost use Rattle.jr_ast.specs.Nodes as pure;
 ghost use Rattle.jr_ast.specs.View as view;
 ghost use Rattle.jr_ast.specs.Reaches.{IsWithin};
 ghost use Rattle.jr_ast.specs.With.{get_from};
-ghost use Rattle.jr_ast.specs.StmtLent.{lends_stmt_among, lends_held_stmt, lends_held_expr, lends_stmt_of_stmt, lends_expr_of_stmt, lends_below_stmt};
+ghost use Rattle.jr_ast.specs.StmtLent.{lends_stmt_among, lends_held_stmt, lends_held_expr};
+ghost use Rattle.jr_ast.specs.StmtLent.{lends_stmt_of_stmt, lends_expr_of_stmt, lends_below_stmt};
 
 use crate::exprs::Expr;
 use crate::reaches::{One, Twice};
@@ -18,7 +19,8 @@ pub(crate) fn nth_stmt<A>(
     number: usize,
 ) -> Option<&mut Stmt<A>>
     ensures* writes_back { sem 𝓛 (lends_stmt_among A.row among.entry first number result) }
-    ensures value { option_map (λ x. view.stmt_of x.now) result ≡ get_from first (map view.stmt_of among.entry.now.items) number }
+    ensures value { option_map (λ x. view.stmt_of x.now) result
+        ≡ get_from first (map view.stmt_of among.entry.now.items) number }
 {
     if number < first {
         return None;
@@ -28,7 +30,8 @@ pub(crate) fn nth_stmt<A>(
 
 fn held_stmt<A>(of: &mut Option<Box<Stmt<A>>>) -> Option<&mut Stmt<A>>
     ensures* writes_back { sem 𝓛 (lends_held_stmt A.row of.entry result) }
-    ensures value { option_map (λ x. view.stmt_of x.now) result ≡ option_map (λ b. view.stmt_of b.value) of.entry.now }
+    ensures value { option_map (λ x. view.stmt_of x.now) result
+        ≡ option_map (λ b. view.stmt_of b.value) of.entry.now }
 {
     match of {
         Some(of) => Some(&mut **of),
@@ -38,7 +41,8 @@ fn held_stmt<A>(of: &mut Option<Box<Stmt<A>>>) -> Option<&mut Stmt<A>>
 
 pub(crate) fn held_expr<A>(of: &mut Option<Expr<A>>) -> Option<&mut Expr<A>>
     ensures* writes_back { sem 𝓛 (lends_held_expr A.row of.entry result) }
-    ensures value { option_map (λ x. view.expr_of x.now) result ≡ option_map view.expr_of of.entry.now }
+    ensures value { option_map (λ x. view.expr_of x.now) result
+        ≡ option_map view.expr_of of.entry.now }
 {
     match of {
         Some(of) => Some(of),
@@ -50,7 +54,9 @@ impl<A> StmtKind<A> {
     /// The statement that is the child of this number, if it is one.
     pub(crate) fn stmt_mut(&mut self, number: usize) -> Option<&mut Stmt<A>>
         ensures* writes_back { sem 𝓛 (lends_stmt_of_stmt A.row self.entry number result) }
-        ensures value { (m : A) → option_map (λ x. view.stmt_of x.now) result ≡ option_and_then pure.as_stmt (pure.child_of (pure.stmt (view.stmt_kind m self.entry.now)) number) }
+        ensures value { (m : A) → option_map (λ x. view.stmt_of x.now) result
+            ≡ option_and_then pure.as_stmt
+            (pure.child_of (pure.stmt (view.stmt_kind m self.entry.now)) number) }
     {
         match (self, number) {
             (StmtKind::If(_, yes, _), 1) => Some(&mut **yes),
@@ -70,7 +76,9 @@ impl<A> StmtKind<A> {
     /// The expression that is the child of this number, if it is one.
     pub(crate) fn expr_mut(&mut self, number: usize) -> Option<&mut Expr<A>>
         ensures* writes_back { sem 𝓛 (lends_expr_of_stmt A.row self.entry number result) }
-        ensures value { (m : A) → option_map (λ x. view.expr_of x.now) result ≡ option_and_then pure.as_exp (pure.child_of (pure.stmt (view.stmt_kind m self.entry.now)) number) }
+        ensures value { (m : A) → option_map (λ x. view.expr_of x.now) result
+            ≡ option_and_then pure.as_exp (pure.child_of
+            (pure.stmt (view.stmt_kind m self.entry.now)) number) }
     {
         match (self, number) {
             (StmtKind::Local { init, .. }, 2) => Some(init),
@@ -93,8 +101,8 @@ impl<A> StmtKind<A> {
 
 /// A way down from a statement to one below it, in trees with marks of this type.
 ///
-/// The mark is `Self`, so that a call of the way has it where the caller has it: elsewhere the check
-/// compares whole types.
+/// The mark is `Self`, so that a call of the way has it where the caller has it: elsewhere the
+/// check compares whole types.
 pub(crate) trait StmtLevel<L>: Sized {
     ghost use Rattle.std.specs.Prelude.{ℕ};
 
@@ -102,7 +110,9 @@ pub(crate) trait StmtLevel<L>: Sized {
 
     fn below<'k>(kind: &'k mut StmtKind<Self>, steps: &[u32]) -> Option<&'k mut Stmt<Self>>
         ensures* writes_back { sem 𝓛 (lends_below_stmt Self.row reach kind.entry steps.now result) }
-        ensures value { IsWithin reach steps.now → (m : Self) → option_map (λ x. view.stmt_of x.now) result ≡ pure.stmt_at (pure.stmt (view.stmt_kind m kind.entry.now)) steps.now };
+        ensures value { IsWithin reach steps.now → (m : Self)
+            → option_map (λ x. view.stmt_of x.now) result
+            ≡ pure.stmt_at (pure.stmt (view.stmt_kind m kind.entry.now)) steps.now };
 }
 
 impl<A> StmtLevel<One> for A {

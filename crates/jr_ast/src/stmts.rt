@@ -72,7 +72,8 @@ impl<A> Stmt<A> {
     /// `ty name = init;`, perhaps `final` (JLS 14.4).
     #[tactic(auto, unfolding(crate::specs::View::stmt_kind))]
     pub fn local(mark: A, is_final: bool, ty: TypeRef<A>, name: Ident<A>, init: Expr<A>) -> Stmt<A>
-        ensures { stmt_of result ≡ tree.local mark is_final (type_of ty) (word_of name) (expr_of init) }
+        ensures { stmt_of result ≡ tree.local mark is_final (type_of ty) (word_of name)
+            (expr_of init) }
     {
         Stmt {
             mark,
@@ -99,7 +100,8 @@ impl<A> Stmt<A> {
     /// `if (condition) yes` (JLS 14.9.1).
     #[tactic(auto, unfolding(crate::specs::View::stmt_kind))]
     pub fn if_then(mark: A, condition: Expr<A>, yes: Box<Stmt<A>>) -> Stmt<A>
-        ensures { stmt_of result ≡ tree.branch mark (expr_of condition) (stmt_of yes.value) tree.no_else }
+        ensures { stmt_of result ≡ tree.branch mark (expr_of condition)
+            (stmt_of yes.value) tree.no_else }
     {
         Stmt {
             mark,
@@ -110,7 +112,8 @@ impl<A> Stmt<A> {
     /// `if (condition) yes else no` (JLS 14.9.2).
     #[tactic(auto, unfolding(crate::specs::View::stmt_kind))]
     pub fn if_else(mark: A, condition: Expr<A>, yes: Box<Stmt<A>>, no: Box<Stmt<A>>) -> Stmt<A>
-        ensures { stmt_of result ≡ tree.branch mark (expr_of condition) (stmt_of yes.value) (tree.otherwise (stmt_of no.value)) }
+        ensures { stmt_of result ≡ tree.branch mark (expr_of condition) (stmt_of yes.value)
+            (tree.otherwise (stmt_of no.value)) }
     {
         Stmt {
             mark,

@@ -103,141 +103,198 @@ fn mark_of(node: &Node<'_, u32>) -> u32 {
     }
 }
 
-// The marks of what the path leads to: of the node, and of it as an expression, a statement and a
+// The marks of what a path leads to: of the node, and of it as an expression, a statement and a
 // member.
 type Marks = [Option<u32>; 4];
 
-fn from_unit(alloc: Global, unit: &Unit<u32>, steps: &[u32]) -> Result<Marks, AllocError> {
-    let path = path(alloc, steps)?;
-    Ok([
-        Node::Unit(unit).at(&path).map(|node| mark_of(&node)),
-        unit.expr_at(&path).map(|expr| expr.mark),
-        unit.stmt_at(&path).map(|stmt| stmt.mark),
-        unit.member_at(&path).map(|member| member.mark),
-    ])
+type Row = (&'static [u32], Marks);
+
+fn from_unit(unit: &Unit<u32>, path: &Path) -> Marks {
+    [
+        Node::Unit(unit).at(path).map(|node| mark_of(&node)),
+        unit.expr_at(path).map(|expr| expr.mark),
+        unit.stmt_at(path).map(|stmt| stmt.mark),
+        unit.member_at(path).map(|member| member.mark),
+    ]
 }
 
-fn from_member(alloc: Global, member: &Member<u32>, steps: &[u32]) -> Result<Marks, AllocError> {
-    let path = path(alloc, steps)?;
-    Ok([
-        Node::Member(member).at(&path).map(|node| mark_of(&node)),
-        member.expr_at(&path).map(|expr| expr.mark),
-        member.stmt_at(&path).map(|stmt| stmt.mark),
+fn from_member(member: &Member<u32>, path: &Path) -> Marks {
+    [
+        Node::Member(member).at(path).map(|node| mark_of(&node)),
+        member.expr_at(path).map(|expr| expr.mark),
+        member.stmt_at(path).map(|stmt| stmt.mark),
         None,
-    ])
+    ]
 }
 
-// Each kind of node is reached by a path, and what lies past a tree's edge is not. A member is
-// where its own paths begin.
+// Whether each path leads to what its row says.
+fn leads(alloc: Global, unit: &Unit<u32>, rows: &[Row]) -> Result<bool, AllocError> {
+    let mut all = true;
+    for (steps, want) in rows {
+        all = all & (from_unit(unit, &path(alloc, steps)?) == *want);
+    }
+    Ok(all)
+}
+
+// Each kind of node is reached by a path, and what lies past a tree's edge is not.
+const PATHS: [Row; 14] = [
+    (&[], [Some(1), None, None, None]),
+    (&[0], [Some(2), None, None, None]),
+    (&[1], [Some(10), None, None, None]),
+    (&[1, 0], [Some(11), None, None, None]),
+    (&[1, 1, 0], [Some(13), None, None, None]),
+    (&[1, 2], [Some(20), None, None, Some(20)]),
+    (&[1, 2, 0], [Some(21), None, None, None]),
+    (&[1, 2, 2, 0], [Some(24), None, None, None]),
+    (&[1, 2, 3], [Some(27), None, Some(27), None]),
+    (&[1, 2, 3, 0, 1], [Some(30), Some(30), None, None]),
+    (&[1, 2, 3, 0, 1, 1], [Some(33), Some(33), None, None]),
+    (&[2], [None, None, None, None]),
+    (&[1, 2, 4], [None, None, None, None]),
+    (&[1, 2, 3, 0, 1, 1, 0], [None, None, None, None]),
+];
+
 #[test]
 fn paths_lead_to_nodes(rt: HostRuntime) -> Result<(), Fail> {
     let alloc = rt.alloc();
     let unit = unit(alloc)?;
-    let table: [(&[u32], Marks); 14] = [
-        (&[], [Some(1), None, None, None]),
-        (&[0], [Some(2), None, None, None]),
-        (&[1], [Some(10), None, None, None]),
-        (&[1, 0], [Some(11), None, None, None]),
-        (&[1, 1, 0], [Some(13), None, None, None]),
-        (&[1, 2], [Some(20), None, None, Some(20)]),
-        (&[1, 2, 0], [Some(21), None, None, None]),
-        (&[1, 2, 2, 0], [Some(24), None, None, None]),
-        (&[1, 2, 3], [Some(27), None, Some(27), None]),
-        (&[1, 2, 3, 0, 1], [Some(30), Some(30), None, None]),
-        (&[1, 2, 3, 0, 1, 1], [Some(33), Some(33), None, None]),
-        (&[2], [None, None, None, None]),
-        (&[1, 2, 4], [None, None, None, None]),
-        (&[1, 2, 3, 0, 1, 1, 0], [None, None, None, None]),
-    ];
-    for (steps, want) in table {
-        assert_eq!(rt; from_unit(alloc, &unit, steps)?, want);
-    }
+    assert!(rt; leads(alloc, &unit, &PATHS)?);
     Ok(())
 }
+
+// A member is where its own paths begin.
+const MEMBER_PATHS: [Row; 3] = [
+    (&[3], [Some(27), None, Some(27), None]),
+    (&[3, 0], [Some(28), Some(28), None, None]),
+    (&[3, 0, 1], [Some(30), Some(30), None, None]),
+];
 
 #[test]
 fn a_member_is_where_its_paths_begin(rt: HostRuntime) -> Result<(), Fail> {
     let alloc = rt.alloc();
     let member = Box::new(alloc, method(alloc)?)?;
-    let table: [(&[u32], Marks); 3] = [
-        (&[3], [Some(27), None, Some(27), None]),
-        (&[3, 0], [Some(28), Some(28), None, None]),
-        (&[3, 0, 1], [Some(30), Some(30), None, None]),
-    ];
-    for (steps, want) in table {
-        assert_eq!(rt; from_member(alloc, &member, steps)?, want);
+    for (steps, want) in MEMBER_PATHS {
+        assert!(rt; from_member(&member, &path(alloc, steps)?) == want);
     }
     Ok(())
 }
 
+fn write_expr(unit: &mut Unit<u32>, path: &Path, mark: u32) -> bool {
+    match unit.expr_at_mut(path) {
+        None => false,
+        Some(expr) => {
+            expr.mark = mark;
+            true
+        }
+    }
+}
+
+fn write_stmt(unit: &mut Unit<u32>, path: &Path, mark: u32) -> bool {
+    match unit.stmt_at_mut(path) {
+        None => false,
+        Some(stmt) => {
+            stmt.mark = mark;
+            true
+        }
+    }
+}
+
+fn write_member(unit: &mut Unit<u32>, path: &Path, mark: u32) -> bool {
+    match unit.member_at_mut(path) {
+        None => false,
+        Some(member) => {
+            member.mark = mark;
+            true
+        }
+    }
+}
+
+// As what the node at a path can be changed: as an expression, a statement, a member. Its mark is
+// another then.
+const WRITES: [(&'static [u32], u32, [bool; 3]); 5] = [
+    (&[1, 2, 3, 0, 1, 0], 90, [true, false, false]),
+    (&[1, 2, 3], 91, [false, true, false]),
+    (&[1, 2], 92, [false, false, true]),
+    (&[1, 2, 3, 0], 93, [true, false, false]),
+    (&[1, 2, 3, 0, 0], 94, [false, false, false]),
+];
+
+// Whether each of these writes is lent as its row says.
+fn writes(alloc: Global, unit: &mut Unit<u32>) -> Result<bool, AllocError> {
+    let mut all = true;
+    for (steps, mark, want) in WRITES {
+        let path = path(alloc, steps)?;
+        let lent = [
+            write_expr(unit, &path, mark),
+            write_stmt(unit, &path, mark),
+            write_member(unit, &path, mark),
+        ];
+        all = all & (lent == want);
+    }
+    Ok(all)
+}
+
 // A write through a path is seen at its end and not beside it. Where no node of the kind stands,
 // nothing is lent.
+const WRITTEN: [Row; 8] = [
+    (&[1], [Some(10), None, None, None]),
+    (&[1, 2], [Some(92), None, None, Some(92)]),
+    (&[1, 2, 3], [Some(91), None, Some(91), None]),
+    (&[1, 2, 3, 0], [Some(93), Some(93), None, None]),
+    (&[1, 2, 3, 0, 0], [Some(29), None, None, None]),
+    (&[1, 2, 3, 0, 1], [Some(30), Some(30), None, None]),
+    (&[1, 2, 3, 0, 1, 0], [Some(90), Some(90), None, None]),
+    (&[1, 2, 3, 0, 1, 1], [Some(33), Some(33), None, None]),
+];
+
 #[test]
 fn writes_land_at_the_end_of_a_path(rt: HostRuntime) -> Result<(), Fail> {
     let alloc = rt.alloc();
     let mut unit = unit(alloc)?;
-    match unit.expr_at_mut(&path(alloc, &[1, 2, 3, 0, 1, 0])?) {
-        None => assert!(rt; false),
-        Some(expr) => expr.mark = 90,
-    }
-    match unit.stmt_at_mut(&path(alloc, &[1, 2, 3])?) {
-        None => assert!(rt; false),
-        Some(stmt) => stmt.mark = 91,
-    }
-    match unit.member_at_mut(&path(alloc, &[1, 2])?) {
-        None => assert!(rt; false),
-        Some(member) => member.mark = 92,
-    }
-    assert!(rt; unit.expr_at_mut(&path(alloc, &[1, 2, 3, 0, 0])?).is_none());
-    assert!(rt; unit.stmt_at_mut(&path(alloc, &[1, 2, 3, 0])?).is_none());
-    assert!(rt; unit.member_at_mut(&path(alloc, &[1, 2, 3])?).is_none());
-    let table: [(&[u32], Marks); 6] = [
-        (&[1], [Some(10), None, None, None]),
-        (&[1, 2], [Some(92), None, None, Some(92)]),
-        (&[1, 2, 3], [Some(91), None, Some(91), None]),
-        (&[1, 2, 3, 0, 1], [Some(30), Some(30), None, None]),
-        (&[1, 2, 3, 0, 1, 0], [Some(90), Some(90), None, None]),
-        (&[1, 2, 3, 0, 1, 1], [Some(33), Some(33), None, None]),
-    ];
-    for (steps, want) in table {
-        assert_eq!(rt; from_unit(alloc, &unit, steps)?, want);
-    }
+    let are_lent = writes(alloc, &mut unit)?;
+    assert!(rt; are_lent & leads(alloc, &unit, &WRITTEN)?);
     Ok(())
 }
+
+const MARKED: [Row; 2] = [
+    (&[1, 1, 0], [Some(77), None, None, None]),
+    (&[1, 2, 3, 0, 1, 1], [Some(97), Some(97), None, None]),
+];
 
 #[test]
 fn marks_are_made_anew(rt: HostRuntime) -> Result<(), Fail> {
     let alloc = rt.alloc();
     let copy = unit(alloc)?.with_marks(alloc, |mark| *mark ^ 64)?;
-    let table: [(&[u32], Marks); 2] = [
-        (&[1, 1, 0], [Some(77), None, None, None]),
-        (&[1, 2, 3, 0, 1, 1], [Some(97), Some(97), None, None]),
-    ];
-    for (steps, want) in table {
-        assert_eq!(rt; from_unit(alloc, &copy, steps)?, want);
-    }
+    assert!(rt; leads(alloc, &copy, &MARKED)?);
     Ok(())
 }
 
-// Names of these many bytes.
+// Whether a name of so many bytes is its bytes, and no other.
+fn is_its_bytes(alloc: Global, len: u32) -> Result<bool, AllocError> {
+    let mut text = String::new(alloc);
+    for _ in 0..len {
+        text.push('a')?;
+    }
+    let name = Name::new(alloc, text.as_str())?;
+    let same = Name::new(alloc, text.as_str())?;
+    let other = Name::new(alloc, "ab")?;
+    Ok((name.as_str() == text.as_str()) & (name == same) & (name != other))
+}
+
 #[test]
 fn names_are_their_bytes(rt: HostRuntime) -> Result<(), Fail> {
-    let alloc = rt.alloc();
-    let other = Name::new(alloc, "ab")?;
     for len in [0, 1, 255, 256, 65_536, 100_001, 1_048_576] {
-        let mut text = String::new(alloc);
-        for _ in 0..len {
-            text.push('a')?;
-        }
-        let name = Name::new(alloc, text.as_str())?;
-        assert!(rt; name.as_str() == text.as_str(), "{len} bytes");
-        assert!(rt; name == Name::new(alloc, text.as_str())?, "{len} bytes");
-        assert!(rt; name != other, "{len} bytes");
+        assert!(rt; is_its_bytes(rt.alloc(), len)?);
     }
     Ok(())
 }
 
 // Of more statements than sixteen bits count, the last one is copied and found.
+const LAST: [Row; 2] = [
+    (&[0, 1, 65_537], [Some(71), None, Some(71), None]),
+    (&[0, 1, 65_538], [None, None, None, None]),
+];
+
 #[test]
 fn long_rows_are_copied(rt: HostRuntime) -> Result<(), Fail> {
     let alloc = rt.alloc();
@@ -246,13 +303,7 @@ fn long_rows_are_copied(rt: HostRuntime) -> Result<(), Fail> {
         body.push(Stmt::empty(7))?;
     }
     let copy = unit_of(alloc, body)?.with_marks(alloc, |mark| *mark ^ 64)?;
-    let table: [(&[u32], Marks); 2] = [
-        (&[0, 1, 65_537], [Some(71), None, Some(71), None]),
-        (&[0, 1, 65_538], [None, None, None, None]),
-    ];
-    for (steps, want) in table {
-        assert_eq!(rt; from_unit(alloc, &copy, steps)?, want);
-    }
+    assert!(rt; leads(alloc, &copy, &LAST)?);
     Ok(())
 }
 
@@ -281,103 +332,101 @@ fn step_into(level: Level) -> u32 {
     }
 }
 
-fn around(
-    alloc: Global,
-    level: Level,
-    inner: Box<Stmt<u32>>,
-) -> Result<Box<Stmt<u32>>, AllocError> {
-    let condition = Expr::truth(6, true);
-    let outer = match level {
-        Level::While => Stmt::while_loop(5, condition, inner),
-        Level::Then => Stmt::if_then(5, condition, inner),
-        Level::ThenBeforeElse => {
-            let no = Box::new(alloc, Stmt::empty(8))?;
-            Stmt::if_else(5, condition, inner, no)
-        }
-        Level::Else => {
-            let yes = Box::new(alloc, Stmt::empty(8))?;
-            Stmt::if_else(5, condition, yes, inner)
-        }
-        Level::Block => {
-            let mut body = Vec::new(alloc);
-            body.push(Box::into_inner(inner))?;
-            Stmt::block(5, body)
-        }
-    };
-    Ok(Box::new(alloc, outer)?)
+fn before_else(alloc: Global, yes: Box<Stmt<u32>>) -> Result<Stmt<u32>, AllocError> {
+    let no = Box::new(alloc, Stmt::empty(8))?;
+    Ok(Stmt::if_else(5, Expr::truth(6, true), yes, no))
 }
 
-// A unit whose one statement nests by these levels in turn.
-fn deep_unit(alloc: Global, levels: &[Level]) -> Result<Unit<u32>, AllocError> {
+fn behind_else(alloc: Global, no: Box<Stmt<u32>>) -> Result<Stmt<u32>, AllocError> {
+    let yes = Box::new(alloc, Stmt::empty(8))?;
+    Ok(Stmt::if_else(5, Expr::truth(6, true), yes, no))
+}
+
+fn in_block(alloc: Global, inner: Box<Stmt<u32>>) -> Result<Stmt<u32>, AllocError> {
+    let mut body = Vec::new(alloc);
+    body.push(Box::into_inner(inner))?;
+    Ok(Stmt::block(5, body))
+}
+
+fn around(alloc: Global, level: Level, inner: Box<Stmt<u32>>) -> Result<Stmt<u32>, AllocError> {
+    match level {
+        Level::While => Ok(Stmt::while_loop(5, Expr::truth(6, true), inner)),
+        Level::Then => Ok(Stmt::if_then(5, Expr::truth(6, true), inner)),
+        Level::ThenBeforeElse => before_else(alloc, inner),
+        Level::Else => behind_else(alloc, inner),
+        Level::Block => in_block(alloc, inner),
+    }
+}
+
+// The level of this number, counted from outside, where these levels follow each other in turn.
+fn level_at(turn: &[Level], number: usize) -> Level {
+    match turn.get(number % turn.len().max(1)) {
+        None => Level::While,
+        Some(level) => *level,
+    }
+}
+
+// A unit whose one statement nests as deep as any text does, by these levels in turn.
+fn deep_unit(alloc: Global, turn: &[Level]) -> Result<Unit<u32>, AllocError> {
     let mut stmt = Box::new(alloc, Stmt::empty(7))?;
-    for level in levels.iter().rev() {
-        stmt = around(alloc, *level, stmt)?;
+    for i in 0..DEEPEST {
+        stmt = Box::new(alloc, around(alloc, level_at(turn, DEEPEST - 1 - i), stmt)?)?;
     }
     let mut body = Vec::new(alloc);
     body.push(Box::into_inner(stmt))?;
     unit_of(alloc, body)
 }
 
-// As many levels as a text has at most, of these in turn.
-fn levels_of(alloc: Global, turn: &[Level]) -> Result<Vec<Level>, AllocError> {
-    let mut levels = Vec::new(alloc);
-    let count = turn.len().max(1);
-    for i in 0..DEEPEST {
-        if let Some(level) = turn.get(i % count) {
-            levels.push(*level)?;
-        }
-    }
-    Ok(levels)
-}
-
 // To the statement inside all levels.
-fn path_down(alloc: Global, levels: &[Level]) -> Result<Path, AllocError> {
+fn path_down(alloc: Global, turn: &[Level]) -> Result<Path, AllocError> {
     let mut steps = [0, 1, 1].to_vec(alloc)?;
-    for level in levels {
-        steps.push(step_into(*level))?;
+    for i in 0..DEEPEST {
+        steps.push(step_into(level_at(turn, i)))?;
     }
     Ok(Path { steps })
 }
+
+// Whether such a unit is walked, copied and changed. It is dropped here too.
+fn fits_the_stack(alloc: Global, turn: &[Level]) -> Result<bool, AllocError> {
+    let path = path_down(alloc, turn)?;
+    let mut copy = deep_unit(alloc, turn)?.with_marks(alloc, |mark| *mark ^ 64)?;
+    let copied = copy.stmt_at(&path).map(|stmt| stmt.mark);
+    let is_lent = write_stmt(&mut copy, &path, 90);
+    let changed = copy.stmt_at(&path).map(|stmt| stmt.mark);
+    Ok((copied == Some(71)) & is_lent & (changed == Some(90)))
+}
+
+const TURNS: [&'static [Level]; 5] = [
+    &[Level::While],
+    &[Level::Then],
+    &[Level::Else],
+    &[Level::While, Level::Then, Level::Else],
+    &[
+        Level::Block,
+        Level::ThenBeforeElse,
+        Level::While,
+        Level::While,
+        Level::Then,
+        Level::Else,
+        Level::Then,
+        Level::While,
+        Level::While,
+        Level::Then,
+        Level::While,
+        Level::Then,
+        Level::Else,
+        Level::While,
+        Level::Then,
+        Level::Then,
+    ],
+];
 
 // As deep a tree as any text gives is walked, copied, changed and dropped on the stack that a
 // program has, whatever it nests.
 #[test]
 fn the_deepest_trees_fit_the_stack(rt: HostRuntime) -> Result<(), Fail> {
-    let alloc = rt.alloc();
-    let table: [&[Level]; 5] = [
-        &[Level::While],
-        &[Level::Then],
-        &[Level::Else],
-        &[Level::While, Level::Then, Level::Else],
-        &[
-            Level::Block,
-            Level::ThenBeforeElse,
-            Level::While,
-            Level::While,
-            Level::Then,
-            Level::Else,
-            Level::Then,
-            Level::While,
-            Level::While,
-            Level::Then,
-            Level::While,
-            Level::Then,
-            Level::Else,
-            Level::While,
-            Level::Then,
-            Level::Then,
-        ],
-    ];
-    for turn in table {
-        let levels = levels_of(alloc, turn)?;
-        let path = path_down(alloc, levels.as_slice())?;
-        let mut copy = deep_unit(alloc, levels.as_slice())?.with_marks(alloc, |mark| *mark ^ 64)?;
-        assert_eq!(rt; copy.stmt_at(&path).map(|stmt| stmt.mark), Some(71));
-        match copy.stmt_at_mut(&path) {
-            None => assert!(rt; false),
-            Some(stmt) => stmt.mark = 90,
-        }
-        assert_eq!(rt; copy.stmt_at(&path).map(|stmt| stmt.mark), Some(90));
+    for turn in TURNS {
+        assert!(rt; fits_the_stack(rt.alloc(), turn)?);
     }
     Ok(())
 }
@@ -427,16 +476,19 @@ fn each_kind(alloc: Global) -> Result<Vec<Stmt<u32>>, AllocError> {
     Ok(all)
 }
 
-// What is dropped frees all that it holds: `m(x + 1);` has seven marks, and the nodes of the rest
-// are counted by hand too.
+// The marks of `unit_of` around `each_kind`: `m(x + 1);` has seven, and the nodes of the rest are
+// counted by hand too.
+const MARKS: usize = 5 + 4 + 7 + 5 + 1 + 1 + 2 + 2 * (9 + 9 + 16);
+
+// What is dropped frees all that it holds.
 #[test]
 fn a_drop_frees_each_mark(rt: HostRuntime) -> Result<(), Fail> {
     let alloc = rt.alloc();
     let unit = unit_of(alloc, each_kind(alloc)?)?;
     let live = Cell::new(0usize);
     let copy = unit.with_marks(alloc, |_| Counted::new(&live))?;
-    assert_eq!(rt; live.get(), 5 + 4 + 7 + 5 + 1 + 1 + 2 + 2 * (9 + 9 + 16));
+    let held = live.get();
     drop(copy);
-    assert_eq!(rt; live.get(), 0);
+    assert!(rt; (held == MARKS) & (live.get() == 0));
     Ok(())
 }

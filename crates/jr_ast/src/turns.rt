@@ -16,8 +16,10 @@ pub(crate) struct Turns {
 
 /// What the path passes, as far as it leads.
 pub(crate) fn turns_of<A>(unit: &Unit<A>, steps: &[u32]) -> Turns
-    ensures members { IsLast (pure.member_at (pure.unit (unit_of unit.now))) steps.now (length steps.now) result.members }
-    ensures stmts { IsLast (pure.stmt_at (pure.unit (unit_of unit.now))) steps.now (length steps.now) result.stmts }
+    ensures members { IsLast (pure.member_at (pure.unit (unit_of unit.now))) steps.now
+        (length steps.now) result.members }
+    ensures stmts { IsLast (pure.stmt_at (pure.unit (unit_of unit.now))) steps.now
+        (length steps.now) result.stmts }
 {
     let mut node = Node::Unit(unit);
     let mut members = 0;
