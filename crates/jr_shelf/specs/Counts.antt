@@ -18,7 +18,8 @@ RoseBy n before after = (after ≡ before + n) ⊎ (after ≡ greatest_count)
 abbrev pub one_more : ℕ → ℕ
 one_more count = min (count + 1) greatest_count
 
--- how many faults a place of real files counts, once a store or a put gave this answer: one more exactly after a failure
+-- how many faults a place of real files counts, once a store or a put gave this answer: one more
+-- exactly after a failure
 abbrev pub faults_after_write : {T E : Type 0} → Result T E → ℕ → ℕ
 faults_after_write (Ok done) before = before
 faults_after_write (Err fault) before = one_more before
@@ -28,7 +29,8 @@ abbrev pub served_after : {T E : Type 0} → Result T E → ℕ → ℕ
 served_after (Ok done) before = one_more before
 served_after (Err fault) before = before
 
--- the number of the call after the one of this number. The first has the number 1, as if after 0, and the number stays at the greatest u32
+-- the number of the call after the one of this number. The first has the number 1, as if after 0,
+-- and the number stays at the greatest u32
 abbrev pub next_number : ℕ → ℕ
 next_number number = min (number + 1) 4294967295
 

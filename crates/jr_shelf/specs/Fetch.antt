@@ -40,13 +40,15 @@ IsFailedOrMemory (Err TooLong) = ⊥
 IsFailedOrMemory (Err Memory) = Unit {0}
 
 -- the name of the last fetch that answered `Failed`, once a fetch of this name gave this answer
-abbrev pub missed_after : {T : Type 0} → Result T FetchFault → List ℕ → Option (List ℕ) → Option (List ℕ)
+abbrev pub missed_after : {T : Type 0} → Result T FetchFault → List ℕ → Option (List ℕ)
+    → Option (List ℕ)
 missed_after (Ok bytes) name before = before
 missed_after (Err Failed) name before = Some name
 missed_after (Err TooLong) name before = before
 missed_after (Err Memory) name before = before
 
--- how many faults a shelf of real files counts, once a fetch gave this answer: one more exactly after `Failed`
+-- how many faults a shelf of real files counts, once a fetch gave this answer: one more exactly
+-- after `Failed`
 abbrev pub faults_after : {T : Type 0} → Result T FetchFault → ℕ → ℕ
 faults_after (Ok bytes) before = before
 faults_after (Err Failed) before = one_more before

@@ -16,13 +16,21 @@ pub record SinkState : Type 0 where
 
 -- a sink that was made with these failing puts and room
 abbrev pub new_sink : List ℕ → ℕ → SinkState
-new_sink failing room = record { taken = []; faults = 0; number = 0; failing = failing; room = room }
+new_sink failing room =
+    record { taken = []; faults = 0; number = 0; failing = failing; room = room }
 
--- whether a put of these bytes fails: its number is among the failing ones, or there is no room for them
+-- whether a put of these bytes fails: its number is among the failing ones, or there is no room for
+-- them
 abbrev pub put_fails : SinkState → List ℕ → Bool
 put_fails state bytes = fails_next state.failing state.number || nat_lt state.room (length bytes)
 
 -- what a put leaves, by its answer
 abbrev pub after_put : {T E : Type 0} → SinkState → List ℕ → Result T E → SinkState
-after_put state bytes (Ok done) = record state { taken = state.taken ++ bytes; number = next_number state.number; room = state.room - length bytes }
-after_put state bytes (Err fault) = record state { number = next_number state.number; faults = one_more state.faults }
+after_put state bytes (Ok done) =
+    record state {
+      taken = state.taken ++ bytes;
+      number = next_number state.number;
+      room = state.room - length bytes;
+    }
+after_put state bytes (Err fault) =
+    record state { number = next_number state.number; faults = one_more state.faults }

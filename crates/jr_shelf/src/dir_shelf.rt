@@ -1,4 +1,5 @@
-ghost use Rattle.std.specs.Prelude.{◌≡◌, ℕ, ◌^◌, ◌<◌, ◌≤◌, List, Option, None, length, IfOk, IfSome};
+ghost use Rattle.std.specs.Prelude.{◌≡◌, ℕ, ◌^◌, ◌<◌, ◌≤◌, List, Option, None, length, IfOk};
+ghost use Rattle.std.specs.Prelude.{IfSome};
 ghost use Rattle.jr_shelf.specs.Counts.{faults_after_write};
 ghost use Rattle.jr_shelf.specs.Fetch.{OnTooLong, faults_after};
 ghost use Rattle.jr_shelf.specs.Limits.{file_limit};

@@ -104,7 +104,8 @@ impl Shelf for MemoryShelf {
     ghost use Rattle.std.specs.Prelude.{IfOk, IsErr, is_err, length, ◌≤◌};
     ghost use Rattle.jr_shelf.specs.Fetch.{OnMemory};
     ghost use Rattle.jr_shelf.specs.Shelf.{Holds, HoldsTooMuch};
-    ghost use Rattle.jr_shelf.specs.MemoryState.{store_fails, FetchMayGive, after_fetch, after_store};
+    ghost use Rattle.jr_shelf.specs.MemoryState.{store_fails, FetchMayGive, after_fetch};
+    ghost use Rattle.jr_shelf.specs.MemoryState.{after_store};
     ghost use Rattle.jr_shelf.specs.MemoryShelf.{state_of};
 
     ghost holds = { λ shelf. Some (state_of shelf).held };

@@ -1,4 +1,5 @@
-ghost use Rattle.std.specs.Prelude.{◌≡◌, ◌+◌, ◌^◌, ◌<◌, ◌≤◌, Option, Some, List, ℕ, vec_len, vec_capacity};
+ghost use Rattle.std.specs.Prelude.{◌≡◌, ◌+◌, ◌^◌, ◌<◌, ◌≤◌, Option, Some, List, ℕ, vec_len};
+ghost use Rattle.std.specs.Prelude.{vec_capacity};
 
 use crate::in_place::append_in_place;
 use crate::{Failed, Memory, Sink};

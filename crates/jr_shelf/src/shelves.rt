@@ -1,8 +1,11 @@
-ghost use Rattle.std.specs.Prelude.{◌≡◌, ℕ, ◌^◌, ◌<◌, ◌≤◌, List, length, Option, IfOk, OnOk, OnErr, OnSome, IsErr};
+ghost use Rattle.std.specs.Prelude.{◌≡◌, ℕ, ◌^◌, ◌<◌, ◌≤◌, List, length, Option, IfOk, OnOk, OnErr};
+ghost use Rattle.std.specs.Prelude.{OnSome, IsErr};
 ghost use Rattle.jr_shelf.specs.Counts.{Rose, served_after};
-ghost use Rattle.jr_shelf.specs.Fetch.{OnFailed, OnTooLong, OnMemory, UnlessFailed, IsFailedOrMemory, missed_after};
+ghost use Rattle.jr_shelf.specs.Fetch.{OnFailed, OnTooLong, OnMemory, UnlessFailed};
+ghost use Rattle.jr_shelf.specs.Fetch.{IsFailedOrMemory, missed_after};
 ghost use Rattle.jr_shelf.specs.Limits.{file_limit};
-ghost use Rattle.jr_shelf.specs.Shelf.{Files, Holds, HoldsTooMuch, LacksName, with_file, StoredInPart};
+ghost use Rattle.jr_shelf.specs.Shelf.{Files, Holds, HoldsTooMuch, LacksName, with_file};
+ghost use Rattle.jr_shelf.specs.Shelf.{StoredInPart};
 
 use crate::{Failed, FetchFault};
 use std::alloc::Global;
