@@ -24,10 +24,11 @@ fn release_moves(second: Kind) -> bool
     }
 }
 
-/// Whether `first` and then `second`, neighbours in one thread, may become `second` and then `first`.
+/// Whether `first` and then `second`, neighbours in one thread, may become `second` and then
+/// `first`.
 ///
-/// The answer is not symmetric: a plain access may move into a monitor, but not out of one. What is `Still` never moves.
-/// Whether the two are accesses of one location is another question.
+/// The answer is not symmetric: a plain access may move into a monitor, but not out of one. What is
+/// `Still` never moves. Whether the two are accesses of one location is another question.
 pub fn allowed(first: Kind, second: Kind) -> bool
     ensures grid { result ≡ is_allowed first second }
 {

@@ -1,4 +1,5 @@
-//! What may change places with what: kinds of accesses, sites of a piece of code, and the reordering grid.
+//! What may change places with what: kinds of accesses, sites of a piece of code, and the
+//! reordering grid.
 #![tactic(auto)]
 
 mod grid;

@@ -1,6 +1,7 @@
 use crate::{Kind, allowed};
 
-/// The grid as the table has it: a row for each first kind, a column for each second one, in this order.
+/// The grid as the table has it: a row for each first kind, a column for each second one, in this
+/// order.
 #[test]
 fn answers_as_the_table(rt: HostRuntime) {
     let kinds = [
