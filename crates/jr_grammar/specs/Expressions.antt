@@ -52,7 +52,8 @@ abbrev pub IsLongestExpression : List Token → ℕ → Exp Bare → Type 0
 IsLongestExpression tokens n tree = Readings.IsLongest (Exp Bare) toks Shaped tokens n tree
 
 abbrev pub IsLongestStatementExpression : List Token → ℕ → Exp Bare → Type 0
-IsLongestStatementExpression tokens n tree = Readings.IsLongest (Exp Bare) toks ShapedStatement tokens n tree
+IsLongestStatementExpression tokens n tree =
+    Readings.IsLongest (Exp Bare) toks ShapedStatement tokens n tree
 
 -- the tokens begin with no expression
 abbrev pub HasNoExpression : List Token → Type 0

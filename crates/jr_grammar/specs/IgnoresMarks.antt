@@ -27,7 +27,8 @@ pub record StatementIgnoresMarks (A B : Type 0) : Type 0 where
 -- the member of a class
 pub record MemberIgnoresMarks (A B : Type 0) : Type 0 where
   pub spelling : (h : A → B) (d : Member A) → member_toks (map_member h d) ≡ member_toks d
-  pub shape : (h : A → B) (nested : Bool) (name : List ℕ) (d : Member A) → MemberShaped nested name (map_member h d) ↔ MemberShaped nested name d
+  pub shape : (h : A → B) (nested : Bool) (name : List ℕ) (d : Member A)
+      → MemberShaped nested name (map_member h d) ↔ MemberShaped nested name d
 
 -- the unit
 pub record UnitIgnoresMarks (A B : Type 0) : Type 0 where

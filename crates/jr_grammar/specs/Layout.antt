@@ -1,4 +1,5 @@
--- What a tree spells, part by part: the parts of each node, one behind the other, are tokens of its own and further nodes.
+-- What a tree spells, part by part: the parts of each node, one behind the other, are tokens of its
+-- own and further nodes.
 use Rattle.std.specs.Prelude.{ℕ, List, [], ◌∷◌, ◌++◌}
 use Rattle.jr_text.specs.declared.spans.Span.{Span}
 use Rattle.jr_grammar.specs.Tokens.{Token}

@@ -1,4 +1,5 @@
--- Trees that may stand in a text: each word is an identifier, each string has right escapes, and each number is within its limit.
+-- Trees that may stand in a text: each word is an identifier, each string has right escapes, and
+-- each number is within its limit.
 use Rattle.std.specs.Prelude.{◌≡◌, ◌≤◌, ℕ, Bool, true, List, [], ◌∷◌}
 use Rattle.std.specs.Str.{IsUtf8, chars}
 use Rattle.jr_lex.specs.Replacing.{IsName}
@@ -42,7 +43,8 @@ pub record IsGrammarStatement {A : Type 0} (stmt : Stmt A) : Type 0 where
   pub lexical : AreLexical (stmt_toks stmt)
 
 -- of the class that has the name; `nested` says whether that class is itself a member class
-pub record IsGrammarMember {A : Type 0} (nested : Bool) (name : List ℕ) (member : Member A) : Type 0 where
+pub record IsGrammarMember {A : Type 0} (nested : Bool) (name : List ℕ)
+    (member : Member A) : Type 0 where
   pub shaped : MemberShaped nested name member
   pub lexical : AreLexical (member_toks member)
 

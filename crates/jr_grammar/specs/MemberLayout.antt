@@ -1,10 +1,14 @@
 -- The parts of members, classes and compilation units (JLS 7.3, 8).
 use Rattle.std.specs.Prelude.{List, [], ◌∷◌, Option, Some, None}
-use Rattle.jr_lex.specs.declared.items.Keyword.TheVariants.{Class as ClassWord, Extends, Package, Super, Void}
-use Rattle.jr_lex.specs.declared.items.Symbol.TheVariants.{OpenParen, CloseParen, OpenBrace, CloseBrace, Semicolon, Comma, Dot, Equals}
+use Rattle.jr_lex.specs.declared.items.Keyword.TheVariants.{Class as ClassWord, Extends, Package}
+use Rattle.jr_lex.specs.declared.items.Keyword.TheVariants.{Super, Void}
+use Rattle.jr_lex.specs.declared.items.Symbol.TheVariants.{OpenParen, CloseParen, OpenBrace}
+use Rattle.jr_lex.specs.declared.items.Symbol.TheVariants.{CloseBrace, Semicolon, Comma, Dot}
+use Rattle.jr_lex.specs.declared.items.Symbol.TheVariants.{Equals}
 use Rattle.jr_ast.specs.Tree.{Word, TypeName, Exp, Exps}
 use Rattle.jr_ast.specs.MemberTree as M
-use Rattle.jr_ast.specs.MemberTree.{Modifier, Param, Class, class, Member, field, method, constructor, inner, Members, Unit as UnitTree}
+use Rattle.jr_ast.specs.MemberTree.{Modifier, Param, Class, class, Member, field, method}
+use Rattle.jr_ast.specs.MemberTree.{constructor, inner, Members, Unit as UnitTree}
 use Rattle.jr_grammar.specs.Tokens.{keyword, symbol}
 use Rattle.jr_grammar.specs.Layout.{Layout, token, node, row, Layouts, done, ◌then◌}
 use Rattle.jr_grammar.specs.MemberSpelling.{modifier_keyword}
@@ -19,12 +23,14 @@ modifiers_layout [] = row done
 modifiers_layout (x ∷ xs) = row (modifier_layout x then modifiers_layout xs then done)
 
 abbrev pub param_layout : {A : Type 0} → Param A → Layout A
-param_layout x = node x.mark (final_layout x.is_final then type_layout x.type then word_layout x.name then done)
+param_layout x =
+    node x.mark (final_layout x.is_final then type_layout x.type then word_layout x.name then done)
 
 -- parameters behind others
 abbrev pub more_params_layout : {A : Type 0} → List (Param A) → Layout A
 more_params_layout [] = row done
-more_params_layout (x ∷ xs) = row (token (symbol Comma) then param_layout x then more_params_layout xs then done)
+more_params_layout (x ∷ xs) = row (token (symbol Comma) then param_layout x
+    then more_params_layout xs then done)
 
 -- with a comma between two
 abbrev pub params_layout : {A : Type 0} → List (Param A) → Layout A
@@ -45,7 +51,8 @@ result_layout (Some t) = row (type_layout t then done)
 abbrev pub parent_call_layout : {A : Type 0} → Option (Exps A) → Layout A
 parent_call_layout None = row done
 parent_call_layout (Some es) =
-    row (token (keyword Super) then token (symbol OpenParen) then args_layout es then token (symbol CloseParen)
+    row (token (keyword Super) then token (symbol OpenParen) then args_layout es
+    then token (symbol CloseParen)
     then token (symbol Semicolon) then done)
 
 -- JLS 8.1.4
@@ -56,19 +63,24 @@ extends_layout (Some t) = row (token (keyword Extends) then type_layout t then d
 abbrev mutual
   pub class_layout : {A : Type 0} → Class A → Layout A
   class_layout (class m ms w parent all) =
-      node m (modifiers_layout ms then token (keyword ClassWord) then word_layout w then extends_layout parent
-      then token (symbol OpenBrace) then members_layout all then token (symbol CloseBrace) then done)
+      node m (modifiers_layout ms then token (keyword ClassWord) then word_layout w
+      then extends_layout parent
+      then token (symbol OpenBrace) then members_layout all
+      then token (symbol CloseBrace) then done)
 
   pub member_layout : {A : Type 0} → Member A → Layout A
   member_layout (field m ms t w init) =
       node m (modifiers_layout ms then type_layout t then word_layout w then init_layout init
       then token (symbol Semicolon) then done)
   member_layout (method m ms t w xs body) =
-      node m (modifiers_layout ms then result_layout t then word_layout w then token (symbol OpenParen)
-      then params_layout xs then token (symbol CloseParen) then token (symbol OpenBrace) then stmts_layout body
+      node m (modifiers_layout ms then result_layout t then word_layout w
+      then token (symbol OpenParen)
+      then params_layout xs then token (symbol CloseParen) then token (symbol OpenBrace)
+      then stmts_layout body
       then token (symbol CloseBrace) then done)
   member_layout (constructor m ms w xs args body) =
-      node m (modifiers_layout ms then word_layout w then token (symbol OpenParen) then params_layout xs
+      node m (modifiers_layout ms then word_layout w then token (symbol OpenParen)
+      then params_layout xs
       then token (symbol CloseParen) then token (symbol OpenBrace) then parent_call_layout args
       then stmts_layout body then token (symbol CloseBrace) then done)
   member_layout (inner m c) = node m (class_layout c then done)
@@ -82,13 +94,15 @@ abbrev mutual
 -- words behind others
 abbrev pub more_words_layout : {A : Type 0} → List (Word A) → Layout A
 more_words_layout [] = row done
-more_words_layout (w ∷ ws) = row (token (symbol Dot) then word_layout w then more_words_layout ws then done)
+more_words_layout (w ∷ ws) = row (token (symbol Dot) then word_layout w
+    then more_words_layout ws then done)
 
 -- a package's declaration; no words stand for none (JLS 7.4)
 abbrev pub package_layout : {A : Type 0} → List (Word A) → Layout A
 package_layout [] = row done
 package_layout (w ∷ ws) =
-    row (token (keyword Package) then word_layout w then more_words_layout ws then token (symbol Semicolon)
+    row (token (keyword Package) then word_layout w then more_words_layout ws
+    then token (symbol Semicolon)
     then done)
 
 abbrev pub classes_layout : {A : Type 0} → List (Class A) → Layout A

@@ -1,7 +1,8 @@
 -- Which trees are members, classes and compilation units: the side conditions (JLS 7.3, 8).
 use Rattle.std.specs.Prelude.{◌≡◌, ℕ, Bool, true, false, List, [], ◌∷◌, Option, Some, None}
 use Rattle.jr_ast.specs.Tree.{Word, TypeName, Exps}
-use Rattle.jr_ast.specs.MemberTree.{Class, class, Member, field, method, constructor, inner, Members, end, more, Unit as UnitTree}
+use Rattle.jr_ast.specs.MemberTree.{Class, class, Member, field, method, constructor, inner}
+use Rattle.jr_ast.specs.MemberTree.{Members, end, more, Unit as UnitTree}
 use Rattle.jr_grammar.specs.Shape.{IsNamed, AllShaped}
 use Rattle.jr_grammar.specs.StatementShape.{ShapedValue, StmtsShaped}
 
@@ -33,7 +34,8 @@ abbrev mutual
   pub MemberShaped : {A : Type 0} → Bool → List ℕ → Member A → Type 0
   MemberShaped nested name (field m ms t w init) = ShapedValue init
   MemberShaped nested name (method m ms t w ps body) = StmtsShaped body
-  MemberShaped nested name (constructor m ms w ps args body) = IsNamedAs name w × ShapedArgs args × StmtsShaped body
+  MemberShaped nested name (constructor m ms w ps args body) =
+      IsNamedAs name w × ShapedArgs args × StmtsShaped body
   MemberShaped nested name (inner m c) = HoldsClasses nested × ClassShaped true c
 
   pub MembersShaped : {A : Type 0} → Bool → List ℕ → Members A → Type 0

@@ -1,5 +1,5 @@
--- How far tokens can be read: what begins a spelling, where reading stops, and the longest that is whole. They are said of any
--- kind of tree, by what it spells and by which trees are meant.
+-- How far tokens can be read: what begins a spelling, where reading stops, and the longest that is
+-- whole. They are said of any kind of tree, by what it spells and by which trees are meant.
 use Rattle.std.specs.Prelude.{◌≡◌, ℕ, ◌+◌, ◌≤◌, ◌<◌, List, ◌++◌, length, take}
 use Rattle.jr_grammar.specs.Tokens.{Token}
 
@@ -29,7 +29,8 @@ module _ (Tree : Type 0) (spelled : Tree → List Token) (IsMeant : Tree → Typ
   abbrev pub HasNone : List Token → Type 0
   HasNone tokens = (m : ℕ) (tree : Tree) → IsPrefix tokens m tree → ⊥
 
-  -- The first n tokens begin the spelling of some tree, and with the token behind them they begin none.
+  -- The first n tokens begin the spelling of some tree, and with the token behind them they begin
+  -- none.
   pub record IsStop (tokens : List Token) (n : ℕ) : Type 0 where
     pub within : n ≤ length tokens
     pub before : (tree : Tree) × Begins (take n tokens) tree
@@ -38,5 +39,7 @@ module _ (Tree : Type 0) (spelled : Tree → List Token) (IsMeant : Tree → Typ
   -- Tokens have one stop, and one longest tree or none.
   pub record OneReading : Type 0 where
     pub stop : (tokens : List Token) (n m : ℕ) → IsStop tokens n → IsStop tokens m → n ≡ m
-    pub longest : (tokens : List Token) (n m : ℕ) (a b : Tree) → IsLongest tokens n a → IsLongest tokens m b → n ≡ m
-    pub never_both : (tokens : List Token) (n : ℕ) (tree : Tree) → IsLongest tokens n tree → HasNone tokens → ⊥
+    pub longest : (tokens : List Token) (n m : ℕ) (a b : Tree) → IsLongest tokens n a
+        → IsLongest tokens m b → n ≡ m
+    pub never_both : (tokens : List Token) (n : ℕ) (tree : Tree) → IsLongest tokens n tree
+        → HasNone tokens → ⊥

@@ -15,7 +15,8 @@ use Rattle.jr_grammar.specs.MemberLayout.{member_layout, unit_layouts}
 use Rattle.jr_grammar.specs.Expressions.{IsExpression}
 use Rattle.jr_grammar.specs.Units.{IsStatement, IsMember, IsUnit}
 
--- ---- whatever the tree's marks: the text has items, and their tokens are the tree's, which is shaped
+-- ---- whatever the tree's marks: the text has items, and their tokens are the tree's, which is
+-- shaped
 
 -- a compilation unit (JLS 7.3)
 pub record Reads {A : Type 0} (bytes : List ℕ) (unit : UnitTree A) : Type 0 where
@@ -23,8 +24,10 @@ pub record Reads {A : Type 0} (bytes : List ℕ) (unit : UnitTree A) : Type 0 wh
   pub lexes : Lexes bytes items
   pub is : IsUnit (tokens_of bytes items) unit
 
--- a member of the class that has the name; `nested` says whether that class is itself a member class (JLS 8)
-pub record ReadsMember {A : Type 0} (nested : Bool) (name : List ℕ) (bytes : List ℕ) (member : Member A) : Type 0 where
+-- a member of the class that has the name; `nested` says whether that class is itself a member
+-- class (JLS 8)
+pub record ReadsMember {A : Type 0} (nested : Bool) (name : List ℕ) (bytes : List ℕ)
+    (member : Member A) : Type 0 where
   pub items : List Item
   pub lexes : Lexes bytes items
   pub is : IsMember nested name (tokens_of bytes items) member
@@ -41,8 +44,8 @@ pub record ReadsExpression {A : Type 0} (bytes : List ℕ) (tree : Exp A) : Type
   pub lexes : Lexes bytes items
   pub is : IsExpression (tokens_of bytes items) tree
 
--- ---- and with its spans: what each mark tells, where the parent begins so, is the span of its node's tokens. The root's parent
--- begins at 0, and a unit is the whole file.
+-- ---- and with its spans: what each mark tells, where the parent begins so, is the span of its
+-- node's tokens. The root's parent begins at 0, and a unit is the whole file.
 
 module _ {A : Type 0} (tells : A → ℕ → Span) where
   pub record ReadsWithSpans (bytes : List ℕ) (unit : UnitTree A) : Type 0 where
@@ -52,7 +55,8 @@ module _ {A : Type 0} (tells : A → ℕ → Span) where
     pub spans : StandInOrder (all_spans_from tells 0 (unit_layouts unit)) (placed_of bytes items)
     pub file : tells unit.mark 0 ≡ record { from = 0; to = length bytes }
 
-  pub record ReadsMemberWithSpans (nested : Bool) (name : List ℕ) (bytes : List ℕ) (member : Member A) : Type 0 where
+  pub record ReadsMemberWithSpans (nested : Bool) (name : List ℕ) (bytes : List ℕ)
+      (member : Member A) : Type 0 where
     pub items : List Item
     pub lexes : Lexes bytes items
     pub is : IsMember nested name (tokens_of bytes items) member

@@ -3,10 +3,14 @@ use Rattle.std.specs.Prelude.{ℕ, ◌≤◌, ◌<◌, Bool, true, false, if◌t
 use Rattle.jr_ast.specs.declared.operators.UnOp.{UnOp}
 use Rattle.jr_ast.specs.declared.operators.UnOp.TheVariants.{Plus, Minus, Not}
 use Rattle.jr_ast.specs.declared.operators.BinOp.{BinOp}
-use Rattle.jr_ast.specs.declared.operators.BinOp.TheVariants.{Or, And, Eq, Ne, Lt, Gt, Le, Ge, Add, Sub, Mul, Div, Rem}
+use Rattle.jr_ast.specs.declared.operators.BinOp.TheVariants.{Or, And, Eq, Ne, Lt, Gt, Le, Ge, Add}
+use Rattle.jr_ast.specs.declared.operators.BinOp.TheVariants.{Sub, Mul, Div, Rem}
 use Rattle.jr_ast.specs.declared.operators.BumpOp.{BumpOp}
 use Rattle.jr_ast.specs.declared.operators.BumpOp.TheVariants.{PreInc, PreDec, PostInc, PostDec}
-use Rattle.jr_ast.specs.Tree.{TypeName, int, boolean, named, Exp, number, truth, null, string, name, field, super_field, this, class_literal, call, super_call, create, paren, cast, unary, bump, binary, assign, compound, Target, no_target, on, Exps, end, more}
+use Rattle.jr_ast.specs.Tree.{TypeName, int, boolean, named, Exp, number, truth, null, string, name}
+use Rattle.jr_ast.specs.Tree.{field, super_field, this, class_literal, call, super_call, create}
+use Rattle.jr_ast.specs.Tree.{paren, cast, unary, bump, binary, assign, compound, Target, no_target}
+use Rattle.jr_ast.specs.Tree.{on, Exps, end, more}
 
 -- ---- levels: how tightly a form binds, the loosest first
 
@@ -35,7 +39,8 @@ product_level = 7
 abbrev pub sign_level : ℕ
 sign_level = 8
 
--- a unary expression that begins with no sign and no `++` or `--`, and so may stand behind a cast (JLS 15.15)
+-- a unary expression that begins with no sign and no `++` or `--`, and so may stand behind a cast
+-- (JLS 15.15)
 abbrev pub unsigned_level : ℕ
 unsigned_level = 9
 
@@ -64,7 +69,8 @@ unary_level Plus = sign_level
 unary_level Minus = sign_level
 unary_level Not = unsigned_level
 
--- In front of its operand it is a unary expression, behind it one that may stand behind a cast (JLS 15.14, 15.15).
+-- In front of its operand it is a unary expression, behind it one that may stand behind a cast (JLS
+-- 15.14, 15.15).
 abbrev pub bump_level : BumpOp → ℕ
 bump_level PreInc = sign_level
 bump_level PreDec = sign_level
@@ -106,13 +112,15 @@ IsUnaryOperand e = sign_level ≤ level_of e
 abbrev pub IsCastOperand : {A : Type 0} → Exp A → Type 0
 IsCastOperand e = unsigned_level ≤ level_of e
 
--- Operators of one rank group to the left (JLS 15.17 to 15.24), and those of a higher rank bind more tightly (JLS 15.7.3).
+-- Operators of one rank group to the left (JLS 15.17 to 15.24), and those of a higher rank bind
+-- more tightly (JLS 15.7.3).
 abbrev pub GroupsLeft : {A : Type 0} → BinOp → Exp A → Exp A → Type 0
 GroupsLeft o l r = (rank_of o ≤ level_of l) × (rank_of o < level_of r)
 
--- What is assigned (JLS 15.26), and what `++` and `--` take (JLS 15.14.2, 15.14.3, 15.15.1, 15.15.2): a name, or a field of a
--- primary or of `super`. That no parentheses stand around it is a rule of this profile: a parenthesized variable is a variable
--- (JLS 15.8.5), and javac takes `(a)++` and `(a)=3`.
+-- What is assigned (JLS 15.26), and what `++` and `--` take (JLS 15.14.2, 15.14.3, 15.15.1,
+-- 15.15.2): a name, or a field of a primary or of `super`. That no parentheses stand around it is a
+-- rule of this profile: a parenthesized variable is a variable (JLS 15.8.5), and javac takes
+-- `(a)++` and `(a)=3`.
 abbrev pub IsTarget : {A : Type 0} → Exp A → Type 0
 IsTarget (number m n) = ⊥
 IsTarget (truth m b) = ⊥
@@ -150,15 +158,17 @@ IsCompound Mul = Unit {0}
 IsCompound Div = Unit {0}
 IsCompound Rem = Unit {0}
 
--- a class's name: what may stand in a cast, before `.class` and behind `new` (JLS 15.16, 15.8.2, 15.9)
+-- a class's name: what may stand in a cast, before `.class` and behind `new` (JLS 15.16, 15.8.2,
+-- 15.9)
 abbrev pub IsNamed : {A : Type 0} → TypeName A → Type 0
 IsNamed (int m) = ⊥
 IsNamed (boolean m) = ⊥
 IsNamed (named m o w) = Unit {0}
 
--- 2147483648 stands only where the token directly before it is a unary minus, and no greater literal stands anywhere. The
--- language makes the literal the minus's own operand (JLS 3.10.1); this profile asks for the token alone, and so lets in
--- `-2147483648 .x`, where the operand is the field.
+-- 2147483648 stands only where the token directly before it is a unary minus, and no greater
+-- literal stands anywhere. The language makes the literal the minus's own operand (JLS 3.10.1);
+-- this profile asks for the token alone, and so lets in `-2147483648 .x`, where the operand is the
+-- field.
 abbrev pub greatest : Bool → ℕ
 greatest minus = if minus then 2147483648 else 2147483647
 
@@ -198,9 +208,11 @@ abbrev mutual
   ShapedBehind minus (cast m t e) = IsNamed t × IsCastOperand e × ShapedBehind false e
   ShapedBehind minus (unary m o e) = IsUnaryOperand e × ShapedBehind (is_minus o) e
   ShapedBehind minus (bump m o e) = IsTarget e × ShapedBehind (behind_of minus o) e
-  ShapedBehind minus (binary m o l r) = GroupsLeft o l r × ShapedBehind minus l × ShapedBehind false r
+  ShapedBehind minus (binary m o l r) =
+      GroupsLeft o l r × ShapedBehind minus l × ShapedBehind false r
   ShapedBehind minus (assign m t e) = IsTarget t × ShapedBehind minus t × ShapedBehind false e
-  ShapedBehind minus (compound m o t e) = IsCompound o × IsTarget t × ShapedBehind minus t × ShapedBehind false e
+  ShapedBehind minus (compound m o t e) =
+      IsCompound o × IsTarget t × ShapedBehind minus t × ShapedBehind false e
 
   -- a call is made on a primary
   pub ShapedTarget : {A : Type 0} → Bool → Target A → Type 0

@@ -1,16 +1,28 @@
 -- The tokens that names, types and expressions spell (JLS 6.5, 4.1, 15).
 use Rattle.std.specs.Prelude.{Bool, true, false, List, [], ◌∷◌, ◌++◌, Option, Some, None}
 use Rattle.jr_lex.specs.declared.items.Keyword.{Keyword}
-use Rattle.jr_lex.specs.declared.items.Keyword.TheVariants.{Int, Boolean, Class, New, Super, This, True, False, Null}
+use Rattle.jr_lex.specs.declared.items.Keyword.TheVariants.{Int, Boolean, Class, New, Super, This}
+use Rattle.jr_lex.specs.declared.items.Keyword.TheVariants.{True, False, Null}
 use Rattle.jr_lex.specs.declared.items.Symbol.{Symbol}
-use Rattle.jr_lex.specs.declared.items.Symbol.TheVariants.{OpenParen, CloseParen, Comma, Dot, Equals, Bang, Plus as PlusSign, Minus as MinusSign, PlusPlus, MinusMinus, BarBar, AndAnd, EqualEqual, NotEqual, Less, Greater, LessEqual, GreaterEqual, Star, Slash, Percent, PlusEquals, MinusEquals, StarEquals, SlashEquals, PercentEquals}
+use Rattle.jr_lex.specs.declared.items.Symbol.TheVariants.{OpenParen, CloseParen, Comma, Dot}
+use Rattle.jr_lex.specs.declared.items.Symbol.TheVariants.{Equals, Bang, Plus as PlusSign}
+use Rattle.jr_lex.specs.declared.items.Symbol.TheVariants.{Minus as MinusSign, PlusPlus, MinusMinus}
+use Rattle.jr_lex.specs.declared.items.Symbol.TheVariants.{BarBar, AndAnd, EqualEqual, NotEqual}
+use Rattle.jr_lex.specs.declared.items.Symbol.TheVariants.{Less, Greater, LessEqual, GreaterEqual}
+use Rattle.jr_lex.specs.declared.items.Symbol.TheVariants.{Star, Slash, Percent, PlusEquals}
+use Rattle.jr_lex.specs.declared.items.Symbol.TheVariants.{MinusEquals, StarEquals, SlashEquals}
+use Rattle.jr_lex.specs.declared.items.Symbol.TheVariants.{PercentEquals}
 use Rattle.jr_ast.specs.declared.operators.UnOp.{UnOp}
 use Rattle.jr_ast.specs.declared.operators.UnOp.TheVariants.{Plus, Minus, Not}
 use Rattle.jr_ast.specs.declared.operators.BinOp.{BinOp}
-use Rattle.jr_ast.specs.declared.operators.BinOp.TheVariants.{Or, And, Eq, Ne, Lt, Gt, Le, Ge, Add, Sub, Mul, Div, Rem}
+use Rattle.jr_ast.specs.declared.operators.BinOp.TheVariants.{Or, And, Eq, Ne, Lt, Gt, Le, Ge, Add}
+use Rattle.jr_ast.specs.declared.operators.BinOp.TheVariants.{Sub, Mul, Div, Rem}
 use Rattle.jr_ast.specs.declared.operators.BumpOp.{BumpOp}
 use Rattle.jr_ast.specs.declared.operators.BumpOp.TheVariants.{PreInc, PreDec, PostInc, PostDec}
-use Rattle.jr_ast.specs.Tree.{Word, TypeName, int, boolean, named, Exp, number, truth, null, string, name, field, super_field, this, class_literal, call, super_call, create, paren, cast, unary, bump, binary, assign, compound, Target, no_target, on, Exps, end, more}
+use Rattle.jr_ast.specs.Tree.{Word, TypeName, int, boolean, named, Exp, number, truth, null, string}
+use Rattle.jr_ast.specs.Tree.{name, field, super_field, this, class_literal, call, super_call}
+use Rattle.jr_ast.specs.Tree.{create, paren, cast, unary, bump, binary, assign, compound, Target}
+use Rattle.jr_ast.specs.Tree.{no_target, on, Exps, end, more}
 use Rattle.jr_grammar.specs.Tokens.{Token, word, keyword, integer, text, symbol}
 
 -- ---- operators
@@ -37,7 +49,8 @@ binary_symbol Mul = Star
 binary_symbol Div = Slash
 binary_symbol Rem = Percent
 
--- The operator with `=` behind it (JLS 15.26.2). The other operators have no such form here: the shape refuses them.
+-- The operator with `=` behind it (JLS 15.26.2). The other operators have no such form here: the
+-- shape refuses them.
 abbrev pub compound_symbol : BinOp → Symbol
 compound_symbol Add = PlusEquals
 compound_symbol Sub = MinusEquals
@@ -53,7 +66,8 @@ compound_symbol Gt = binary_symbol Gt
 compound_symbol Le = binary_symbol Le
 compound_symbol Ge = binary_symbol Ge
 
--- `++` or `--` in front of what is spelled so, or behind it (JLS 15.14.2, 15.14.3, 15.15.1, 15.15.2)
+-- `++` or `--` in front of what is spelled so, or behind it (JLS 15.14.2, 15.14.3, 15.15.1,
+-- 15.15.2)
 abbrev pub bump_toks : BumpOp → List Token → List Token
 bump_toks PreInc x = symbol PlusPlus ∷ x
 bump_toks PreDec x = symbol MinusMinus ∷ x
@@ -89,9 +103,12 @@ abbrev mutual
   toks (super_field m w) = keyword Super ∷ symbol Dot ∷ word w.text ∷ []
   toks (this m) = keyword This ∷ []
   toks (class_literal m t) = type_toks t ++ (symbol Dot ∷ keyword Class ∷ [])
-  toks (call m t w es) = target_toks t ++ (word w.text ∷ symbol OpenParen ∷ (args_toks es ++ (symbol CloseParen ∷ [])))
-  toks (super_call m w es) = keyword Super ∷ symbol Dot ∷ word w.text ∷ symbol OpenParen ∷ (args_toks es ++ (symbol CloseParen ∷ []))
-  toks (create m t es) = keyword New ∷ (type_toks t ++ (symbol OpenParen ∷ (args_toks es ++ (symbol CloseParen ∷ []))))
+  toks (call m t w es) = target_toks t
+      ++ (word w.text ∷ symbol OpenParen ∷ (args_toks es ++ (symbol CloseParen ∷ [])))
+  toks (super_call m w es) = keyword Super ∷ symbol Dot ∷ word w.text ∷ symbol OpenParen
+      ∷ (args_toks es ++ (symbol CloseParen ∷ []))
+  toks (create m t es) = keyword New
+      ∷ (type_toks t ++ (symbol OpenParen ∷ (args_toks es ++ (symbol CloseParen ∷ []))))
   toks (paren m e) = symbol OpenParen ∷ (toks e ++ (symbol CloseParen ∷ []))
   toks (cast m t e) = symbol OpenParen ∷ (type_toks t ++ (symbol CloseParen ∷ toks e))
   toks (unary m o e) = symbol (unary_symbol o) ∷ toks e

@@ -1,5 +1,5 @@
--- Layouts over tokens with places: the parts stand one behind the other, and each mark is the span from the first of its node's
--- tokens to the last.
+-- Layouts over tokens with places: the parts stand one behind the other, and each mark is the span
+-- from the first of its node's tokens to the last.
 use Rattle.std.specs.Prelude.{◌≡◌, ℕ, List, [], ◌∷◌, ◌++◌}
 use Rattle.jr_text.specs.declared.spans.Span.{Span}
 use Rattle.jr_grammar.specs.Tokens.{Token, Placed}

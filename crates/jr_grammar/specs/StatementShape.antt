@@ -1,10 +1,12 @@
 -- Which trees are statements: the side conditions (JLS 14).
 use Rattle.std.specs.Prelude.{Option, Some, None}
 use Rattle.jr_ast.specs.Tree.{Exp}
-use Rattle.jr_ast.specs.StatementTree.{Stmt, local, eval, branch, loop, return, block, sync, empty, Else, no_else, otherwise, Stmts, end, more}
+use Rattle.jr_ast.specs.StatementTree.{Stmt, local, eval, branch, loop, return, block, sync, empty}
+use Rattle.jr_ast.specs.StatementTree.{Else, no_else, otherwise, Stmts, end, more}
 use Rattle.jr_grammar.specs.Shape.{Shaped, ShapedStatement}
 
--- A declaration of a local stands directly in a block, and not behind `if`, `else` or `while` (JLS 14.4, 14.5).
+-- A declaration of a local stands directly in a block, and not behind `if`, `else` or `while` (JLS
+-- 14.4, 14.5).
 abbrev pub IsNoDeclaration : {A : Type 0} → Stmt A → Type 0
 IsNoDeclaration (local m f t w e) = ⊥
 IsNoDeclaration (eval m e) = Unit {0}
@@ -41,7 +43,8 @@ abbrev mutual
   StmtShaped (local m f t w e) = Shaped e
   -- JLS 14.8
   StmtShaped (eval m e) = ShapedStatement e
-  StmtShaped (branch m c first other) = Shaped c × IsNoDeclaration first × StmtShaped first × ElseShaped first other
+  StmtShaped (branch m c first other) =
+      Shaped c × IsNoDeclaration first × StmtShaped first × ElseShaped first other
   StmtShaped (loop m c body) = Shaped c × IsNoDeclaration body × StmtShaped body
   StmtShaped (return m value) = ShapedValue value
   StmtShaped (block m body) = StmtsShaped body

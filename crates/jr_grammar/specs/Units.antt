@@ -25,7 +25,8 @@ pub record IsUnit {A : Type 0} (tokens : List Token) (unit : UnitTree A) : Type 
 abbrev pub IsNoUnit : List Token → Type 0
 IsNoUnit tokens = (unit : UnitTree Bare) → IsUnit tokens unit → ⊥
 
--- The tokens are the unit, each mark is the span of its node's tokens, and the unit's is its file, which has so many bytes.
+-- The tokens are the unit, each mark is the span of its node's tokens, and the unit's is its file,
+-- which has so many bytes.
 pub record IsMarkedUnit (size : ℕ) (tokens : Tokens) (unit : UnitTree Span) : Type 0 where
   pub shaped : UnitShaped unit
   pub spells : unit_toks unit ≡ kinds tokens
@@ -40,10 +41,12 @@ OneUnit = Readings.OneTree (UnitTree Bare) unit_toks UnitShaped
 abbrev pub IsUnitStop : List Token → ℕ → Type 0
 IsUnitStop tokens n = Readings.IsStop (UnitTree Bare) unit_toks UnitShaped tokens n
 
--- ---- members of the class that has the name; `nested` says whether that class is itself a member class
+-- ---- members of the class that has the name; `nested` says whether that class is itself a member
+-- class
 
 -- the tokens are the member
-pub record IsMember {A : Type 0} (nested : Bool) (name : List ℕ) (tokens : List Token) (member : Member A) : Type 0 where
+pub record IsMember {A : Type 0} (nested : Bool) (name : List ℕ) (tokens : List Token)
+    (member : Member A) : Type 0 where
   pub shaped : MemberShaped nested name member
   pub spells : member_toks member ≡ tokens
 
@@ -52,26 +55,31 @@ abbrev pub IsNoMember : Bool → List ℕ → List Token → Type 0
 IsNoMember nested name tokens = (member : Member Bare) → IsMember nested name tokens member → ⊥
 
 -- The tokens are the member, and each mark is the span of its node's tokens.
-pub record IsMarkedMember (nested : Bool) (name : List ℕ) (tokens : Tokens) (member : Member Span) : Type 0 where
+pub record IsMarkedMember (nested : Bool) (name : List ℕ) (tokens : Tokens)
+    (member : Member Span) : Type 0 where
   pub shaped : MemberShaped nested name member
   pub spells : member_toks member ≡ kinds tokens
   pub marks : Stands (member_layout member) tokens
 
 -- no two members spell the same tokens
 abbrev pub OneMember : Type 0
-OneMember = (nested : Bool) (name : List ℕ) → Readings.OneTree (Member Bare) member_toks (MemberShaped nested name)
+OneMember = (nested : Bool) (name : List ℕ)
+    → Readings.OneTree (Member Bare) member_toks (MemberShaped nested name)
 
 -- the first n tokens are the member, and no more of them are one
 abbrev pub IsLongestMember : Bool → List ℕ → List Token → ℕ → Member Bare → Type 0
-IsLongestMember nested name tokens n member = Readings.IsLongest (Member Bare) member_toks (MemberShaped nested name) tokens n member
+IsLongestMember nested name tokens n member =
+    Readings.IsLongest (Member Bare) member_toks (MemberShaped nested name) tokens n member
 
 -- the tokens begin with no member
 abbrev pub HasNoMember : Bool → List ℕ → List Token → Type 0
-HasNoMember nested name tokens = Readings.HasNone (Member Bare) member_toks (MemberShaped nested name) tokens
+HasNoMember nested name tokens =
+    Readings.HasNone (Member Bare) member_toks (MemberShaped nested name) tokens
 
 -- the first n tokens begin some member, and with the one behind them they begin none
 abbrev pub IsMemberStop : Bool → List ℕ → List Token → ℕ → Type 0
-IsMemberStop nested name tokens n = Readings.IsStop (Member Bare) member_toks (MemberShaped nested name) tokens n
+IsMemberStop nested name tokens n =
+    Readings.IsStop (Member Bare) member_toks (MemberShaped nested name) tokens n
 
 -- ---- statements, and lists of them
 
@@ -117,7 +125,8 @@ abbrev pub OneListReading : Type 0
 OneListReading = Readings.OneReading (Stmts Bare) stmts_toks StmtsShaped
 
 abbrev pub OneMemberReading : Type 0
-OneMemberReading = (nested : Bool) (name : List ℕ) → Readings.OneReading (Member Bare) member_toks (MemberShaped nested name)
+OneMemberReading = (nested : Bool) (name : List ℕ)
+    → Readings.OneReading (Member Bare) member_toks (MemberShaped nested name)
 
 abbrev pub OneUnitReading : Type 0
 OneUnitReading = Readings.OneReading (UnitTree Bare) unit_toks UnitShaped

@@ -1,4 +1,5 @@
-//! The grammar: which tokens a tree spells, which trees are shaped, over which tokens a tree stands, and what a text reads as.
+//! The grammar: which tokens a tree spells, which trees are shaped, over which tokens a tree
+//! stands, and what a text reads as.
 #![tactic(auto)]
 
 mod laws;
