@@ -1,5 +1,6 @@
 -- The text that names, types and expressions are printed as: bytes.
-use Rattle.std.specs.Prelude.{ℕ, true, false, ◌==◌, if◌then◌else◌, codes, List, [], ◌∷◌, ◌++◌, Option, Some, None}
+use Rattle.std.specs.Prelude.{ℕ, true, false, ◌==◌, if◌then◌else◌, codes, List, [], ◌∷◌, ◌++◌}
+use Rattle.std.specs.Prelude.{Option, Some, None}
 use Rattle.std.specs.Fmt.{decimal}
 use Rattle.jr_lex.specs.Characters.{first_passes}
 use Rattle.jr_lex.specs.Symbols.{symbol_text}
@@ -8,7 +9,10 @@ use Rattle.jr_ast.specs.declared.operators.UnOp.TheVariants.{Plus, Minus, Not}
 use Rattle.jr_ast.specs.declared.operators.BinOp.{BinOp}
 use Rattle.jr_ast.specs.declared.operators.BumpOp.{BumpOp}
 use Rattle.jr_ast.specs.declared.operators.BumpOp.TheVariants.{PreInc, PreDec, PostInc, PostDec}
-use Rattle.jr_ast.specs.Tree.{Word, TypeName, int, boolean, named, Exp, number, truth, null, string, name, field, super_field, this, class_literal, call, super_call, create, paren, cast, unary, bump, binary, assign, compound, Target, no_target, on, Exps, end, more}
+use Rattle.jr_ast.specs.Tree.{Word, TypeName, int, boolean, named, Exp, number, truth, null, string}
+use Rattle.jr_ast.specs.Tree.{name, field, super_field, this, class_literal, call, super_call}
+use Rattle.jr_ast.specs.Tree.{create, paren, cast, unary, bump, binary, assign, compound, Target}
+use Rattle.jr_ast.specs.Tree.{no_target, on, Exps, end, more}
 use Rattle.jr_grammar.specs.Spelling.{binary_symbol, compound_symbol}
 
 -- ---- names and types
@@ -25,7 +29,8 @@ printed_type (named m o w) = printed_name o w
 
 -- ---- operators
 
--- The sign of the code, before its operand's text: no space between, but one where that text begins with the same sign.
+-- The sign of the code, before its operand's text: no space between, but one where that text begins
+-- with the same sign.
 abbrev pub with_sign : ℕ → List ℕ → List ℕ
 with_sign sign text = if first_passes (λ c. c == sign) text then sign ∷ 32 ∷ text else sign ∷ text
 
@@ -57,7 +62,8 @@ printed_compound o = codes " " ++ symbol_text (compound_symbol o) ++ codes " "
 
 -- ---- expressions
 
--- The dot behind an expression: directly behind it, but one space behind an integer literal, which `1.` would make a bad number.
+-- The dot behind an expression: directly behind it, but one space behind an integer literal, which
+-- `1.` would make a bad number.
 abbrev pub printed_dot : {A : Type 0} → Exp A → List ℕ
 printed_dot (number m n) = codes " ."
 printed_dot _ = codes "."
@@ -74,8 +80,10 @@ abbrev mutual
   printed (this m) = codes "this"
   printed (class_literal m t) = printed_type t ++ codes ".class"
   printed (call m t w es) = printed_target t ++ w.text ++ codes "(" ++ printed_args es ++ codes ")"
-  printed (super_call m w es) = codes "super." ++ w.text ++ codes "(" ++ printed_args es ++ codes ")"
-  printed (create m t es) = codes "new " ++ printed_type t ++ codes "(" ++ printed_args es ++ codes ")"
+  printed (super_call m w es) = codes "super." ++ w.text ++ codes "("
+      ++ printed_args es ++ codes ")"
+  printed (create m t es) = codes "new " ++ printed_type t ++ codes "("
+      ++ printed_args es ++ codes ")"
   printed (paren m e) = codes "(" ++ printed e ++ codes ")"
   printed (cast m t e) = codes "(" ++ printed_type t ++ codes ") " ++ printed e
   printed (unary m o e) = printed_unary o (printed e)

@@ -2,7 +2,8 @@
 use Rattle.std.specs.Prelude.{ℕ, codes, List, [], ◌∷◌, ◌++◌, Option, Some, None}
 use Rattle.jr_lex.specs.Words.{keyword_text}
 use Rattle.jr_ast.specs.Tree.{TypeName, Exp, Exps}
-use Rattle.jr_ast.specs.MemberTree.{Modifier, Param, Class, class, Member, field, method, constructor, inner, Members, end, more}
+use Rattle.jr_ast.specs.MemberTree.{Modifier, Param, Class, class, Member, field, method}
+use Rattle.jr_ast.specs.MemberTree.{constructor, inner, Members, end, more}
 use Rattle.jr_grammar.specs.MemberSpelling.{modifier_keyword}
 use Rattle.jr_print.specs.ExpressionText.{printed_type, printed, printed_args}
 use Rattle.jr_print.specs.StatementText.{printed_variable, printed_stmts}
@@ -10,7 +11,8 @@ use Rattle.jr_print.specs.StatementText.{printed_variable, printed_stmts}
 -- each modifier with one space behind it
 abbrev pub printed_modifiers : {A : Type 0} → List (Modifier A) → List ℕ
 printed_modifiers [] = []
-printed_modifiers (m ∷ ms) = keyword_text (modifier_keyword m.word) ++ codes " " ++ printed_modifiers ms
+printed_modifiers (m ∷ ms) = keyword_text (modifier_keyword m.word) ++ codes " "
+    ++ printed_modifiers ms
 
 abbrev pub printed_param : {A : Type 0} → Param A → List ℕ
 printed_param p = printed_variable p.is_final p.type p.name
@@ -46,14 +48,20 @@ printed_extends (Some t) = codes " extends " ++ printed_type t
 
 abbrev mutual
   pub printed_class : {A : Type 0} → Class A → List ℕ
-  printed_class (class m ms w parent all) = printed_modifiers ms ++ codes "class " ++ w.text ++ printed_extends parent ++ codes " {" ++ printed_members all ++ codes " }"
+  printed_class (class m ms w parent all) =
+      printed_modifiers ms ++ codes "class " ++ w.text ++ printed_extends parent ++ codes " {"
+      ++ printed_members all ++ codes " }"
 
   pub printed_member : {A : Type 0} → Member A → List ℕ
-  printed_member (field m ms t w init) = printed_modifiers ms ++ printed_type t ++ codes " " ++ w.text ++ printed_init init ++ codes ";"
+  printed_member (field m ms t w init) =
+      printed_modifiers ms ++ printed_type t ++ codes " " ++ w.text
+      ++ printed_init init ++ codes ";"
   printed_member (method m ms t w ps body) =
-      printed_modifiers ms ++ printed_result t ++ codes " " ++ w.text ++ codes "(" ++ printed_params ps ++ codes ") {" ++ printed_stmts body ++ codes " }"
+      printed_modifiers ms ++ printed_result t ++ codes " " ++ w.text ++ codes "("
+      ++ printed_params ps ++ codes ") {" ++ printed_stmts body ++ codes " }"
   printed_member (constructor m ms w ps args body) =
-      printed_modifiers ms ++ w.text ++ codes "(" ++ printed_params ps ++ codes ") {" ++ printed_super args ++ printed_stmts body ++ codes " }"
+      printed_modifiers ms ++ w.text ++ codes "(" ++ printed_params ps ++ codes ") {"
+      ++ printed_super args ++ printed_stmts body ++ codes " }"
   printed_member (inner m c) = printed_class c
 
   -- what stands in a class's body, which has one space before each member and one before its `}`

@@ -12,14 +12,18 @@ use Rattle.jr_print.specs.MemberText.{printed_member}
 
 -- The text of an expression of the grammar reads as that expression.
 abbrev pub ExpressionReadsBack : Type 0 → Type 0
-ExpressionReadsBack A = (tree : Exp A) → IsGrammarExpression tree → ReadsExpression (printed tree) tree
+ExpressionReadsBack A =
+    (tree : Exp A) → IsGrammarExpression tree → ReadsExpression (printed tree) tree
 
 abbrev pub StatementReadsBack : Type 0 → Type 0
-StatementReadsBack A = (stmt : Stmt A) → IsGrammarStatement stmt → ReadsStatement (printed_stmt stmt) stmt
+StatementReadsBack A =
+    (stmt : Stmt A) → IsGrammarStatement stmt → ReadsStatement (printed_stmt stmt) stmt
 
--- a member of the class that has the name; `nested` says whether that class is itself a member class
+-- a member of the class that has the name; `nested` says whether that class is itself a member
+-- class
 abbrev pub MemberReadsBack : Type 0 → Type 0
-MemberReadsBack A = (nested : Bool) (name : List ℕ) (member : Member A) → IsGrammarMember nested name member → ReadsMember nested name (printed_member member) member
+MemberReadsBack A = (nested : Bool) (name : List ℕ) (member : Member A)
+    → IsGrammarMember nested name member → ReadsMember nested name (printed_member member) member
 
 -- a tree with its marks mapped by h is printed alike
 pub record PrintingIgnoresMarks (A B : Type 0) : Type 0 where

@@ -2,7 +2,8 @@
 ghost use Rattle.std.specs.Prelude.{◌≡◌, ◌++◌, codes};
 ghost use Rattle.jr_ast.specs.View.{expr_of, exprs_of, target_of};
 ghost use Rattle.jr_print.specs.Adds.{Adds};
-ghost use Rattle.jr_print.specs.ExpressionText.{printed, printed_target, printed_args, printed_more};
+ghost use Rattle.jr_print.specs.ExpressionText.{printed, printed_target, printed_args};
+ghost use Rattle.jr_print.specs.ExpressionText.{printed_more};
 
 use crate::operators::{self, before_bumped, behind_bumped};
 use crate::parts::{dot, number, put, string, ty, word};

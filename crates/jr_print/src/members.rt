@@ -68,7 +68,8 @@ fn extends<A>(out: &mut String, of: &Option<TypeRef<A>>) -> Result<(), AllocErro
 /// The name and the parameters of a method or constructor, up to the brace of its body.
 fn signature<A>(out: &mut String, name: &Ident<A>, list: &[Param<A>]) -> Result<(), AllocError>
     ensures { Adds result out.old out.new
-        ((word_of name.now).text ++ codes "(" ++ printed_params (map param_of list.now) ++ codes ") {") }
+        ((word_of name.now).text ++ codes "(" ++ printed_params (map param_of list.now)
+        ++ codes ") {") }
 {
     word(out, name)?;
     put(out, "(")?;

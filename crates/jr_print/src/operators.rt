@@ -2,7 +2,8 @@
 ghost use Rattle.std.specs.Prelude.{◌≡◌, ◌++◌, if◌then◌else◌, codes};
 ghost use Rattle.jr_lex.specs.Words.{keyword_text};
 ghost use Rattle.jr_grammar.specs.MemberSpelling.{modifier_keyword};
-ghost use Rattle.jr_print.specs.ExpressionText.{before_text, behind_text, printed_binary, printed_compound};
+ghost use Rattle.jr_print.specs.ExpressionText.{before_text, behind_text, printed_binary};
+ghost use Rattle.jr_print.specs.ExpressionText.{printed_compound};
 
 use jr_ast::{BinOp, BumpOp, ModWord};
 

@@ -57,7 +57,8 @@ pub(crate) fn ty<A>(out: &mut String, of: &TypeRef<A>) -> Result<(), AllocError>
     }
 }
 
-/// The dot behind an expression (JLS 15.11, 15.12): behind a number with a space, since `1.` begins no token.
+/// The dot behind an expression (JLS 15.11, 15.12): behind a number with a space, since `1.` begins
+/// no token.
 #[tactic(auto, unfolding(jr_ast::specs::View::expr_kind))]
 pub(crate) fn dot<A>(of: &Expr<A>) -> &'static str
     ensures { result.now ≡ printed_dot (expr_of of.now) }
@@ -76,7 +77,8 @@ pub(crate) fn variable<A>(
     of_type: &TypeRef<A>,
     name: &Ident<A>,
 ) -> Result<(), AllocError>
-    ensures { Adds result out.old out.new (printed_variable is_final (type_of of_type.now) (word_of name.now)) }
+    ensures { Adds result out.old out.new
+        (printed_variable is_final (type_of of_type.now) (word_of name.now)) }
 {
     put(out, if is_final { "final " } else { "" })?;
     ty(out, of_type)?;

@@ -65,7 +65,8 @@ fn expr_starts<A>(of: &Expr<A>, sign: u8) -> Option<bool>
     }
 }
 
-/// What stands in front of an operand's text (JLS 15.15.3, 15.15.4, 15.15.6): two signs of one kind are kept apart.
+/// What stands in front of an operand's text (JLS 15.15.3, 15.15.4, 15.15.6): two signs of one kind
+/// are kept apart.
 pub(crate) fn before_operand<A>(op: UnOp, of: &Expr<A>) -> &'static str
     ensures { result.now ++ printed (expr_of of.now)
         ≡ printed_unary op (printed (expr_of of.now)) }

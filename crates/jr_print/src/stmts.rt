@@ -3,7 +3,8 @@ ghost use Rattle.std.specs.Prelude.{◌≡◌, ◌++◌, codes, option_map};
 ghost use Rattle.jr_ast.specs.View.{expr_of, stmt_of, stmts_of, else_of};
 ghost use Rattle.jr_print.specs.Adds.{Adds};
 ghost use Rattle.jr_print.specs.ExpressionText.{printed};
-ghost use Rattle.jr_print.specs.StatementText.{printed_stmt, printed_else, printed_stmts, printed_return};
+ghost use Rattle.jr_print.specs.StatementText.{printed_stmt, printed_else, printed_stmts};
+ghost use Rattle.jr_print.specs.StatementText.{printed_return};
 
 use crate::exprs::expr;
 use crate::parts::{put, variable};
