@@ -1,8 +1,10 @@
 -- How declarations are written.
 use Rattle.std.specs.Prelude.{ℕ, List, [], ◌++◌, map, Option, Some, None, codes, decimal}
 use Rattle.std.specs.List.{join_with_byte}
-use Rattle.jr_table.specs.Keys.{ClassKey, Ty, int, boolean, void, null, class, FieldKey, MethodKey, CtorKey}
-use Rattle.jr_table.specs.Decls.{MemberKey, head, field, method, constructor, LocalKey, Decl, class_decl, field_decl, method_decl, constructor_decl, local_decl}
+use Rattle.jr_table.specs.Keys.{ClassKey, Ty, int, boolean, void, null, class, FieldKey, MethodKey}
+use Rattle.jr_table.specs.Keys.{CtorKey}
+use Rattle.jr_table.specs.Decls.{MemberKey, head, field, method, constructor, LocalKey, Decl}
+use Rattle.jr_table.specs.Decls.{class_decl, field_decl, method_decl, constructor_decl, local_decl}
 
 -- the class that a class is a member of, and a dot
 abbrev pub outer_text : Option (List ℕ) → List ℕ
@@ -30,7 +32,8 @@ field_text key = class_text key.class ++ codes "." ++ key.name
 
 -- `K.m(int,B)`
 abbrev pub method_text : MethodKey → List ℕ
-method_text key = class_text key.class ++ codes "." ++ key.name ++ codes "(" ++ types_text key.params ++ codes ")"
+method_text key = class_text key.class ++ codes "." ++ key.name ++ codes "("
+    ++ types_text key.params ++ codes ")"
 
 -- `K.new(int)`
 abbrev pub constructor_text : CtorKey → List ℕ

@@ -1,7 +1,10 @@
 -- The names of what refactorings need.
 use Rattle.std.specs.Prelude.{ℕ, List, codes}
 use Rattle.jr_names.specs.declared.needs.Need.{Need}
-use Rattle.jr_names.specs.declared.needs.Need.TheVariants.{Declaration, Value, Local, OneUse, Statements, Call, VoidCall, LocalReceiver, Method, OtherClass, Parent, NoInitializer}
+use Rattle.jr_names.specs.declared.needs.Need.TheVariants.{Declaration, Value, Local, OneUse}
+use Rattle.jr_names.specs.declared.needs.Need.TheVariants.{Statements, Call, VoidCall}
+use Rattle.jr_names.specs.declared.needs.Need.TheVariants.{LocalReceiver, Method, OtherClass}
+use Rattle.jr_names.specs.declared.needs.Need.TheVariants.{Parent, NoInitializer}
 
 abbrev pub need_name : Need → List ℕ
 need_name Declaration = codes "Declaration"

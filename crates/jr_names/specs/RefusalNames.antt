@@ -1,6 +1,11 @@
 -- The number of each refusal, in the order in which they are checked, and its name.
 use Rattle.std.specs.Prelude.{ℕ, List, codes}
-use Rattle.jr_names.specs.Refusals.{Refusal, no_such_file, bad_place, bad_name, source_error, bad_target, prelude_method, conditional, has_return, two_results, many_targets, may_be_null, recursive, assigned, clash, override_changed, lost_binding, would_not_compile, lost_dependence, bad_span, too_long, nothing_to_undo, nothing_to_redo, report_full, too_many_sites}
+use Rattle.jr_names.specs.Refusals.{Refusal, no_such_file, bad_place, bad_name, source_error}
+use Rattle.jr_names.specs.Refusals.{bad_target, prelude_method, conditional, has_return}
+use Rattle.jr_names.specs.Refusals.{two_results, many_targets, may_be_null, recursive, assigned}
+use Rattle.jr_names.specs.Refusals.{clash, override_changed, lost_binding, would_not_compile}
+use Rattle.jr_names.specs.Refusals.{lost_dependence, bad_span, too_long, nothing_to_undo}
+use Rattle.jr_names.specs.Refusals.{nothing_to_redo, report_full, too_many_sites}
 
 abbrev pub refusal_number : Refusal → ℕ
 refusal_number (no_such_file name) = 1

@@ -5,7 +5,12 @@ use Rattle.jr_table.specs.FoundView.{found_of}
 use Rattle.jr_names.specs.declared.refusals.Refusal as raw
 use Rattle.jr_names.specs.declared.refusals.Refusal.TheVariants as shown
 use Rattle.jr_names.specs.SiteView.{site_at_of}
-use Rattle.jr_names.specs.Refusals.{Refusal, no_such_file, bad_place, bad_name, source_error, bad_target, prelude_method, conditional, has_return, two_results, many_targets, may_be_null, recursive, assigned, clash, override_changed, lost_binding, would_not_compile, lost_dependence, bad_span, too_long, nothing_to_undo, nothing_to_redo, report_full, too_many_sites}
+use Rattle.jr_names.specs.Refusals.{Refusal, no_such_file, bad_place, bad_name, source_error}
+use Rattle.jr_names.specs.Refusals.{bad_target, prelude_method, conditional, has_return}
+use Rattle.jr_names.specs.Refusals.{two_results, many_targets, may_be_null, recursive, assigned}
+use Rattle.jr_names.specs.Refusals.{clash, override_changed, lost_binding, would_not_compile}
+use Rattle.jr_names.specs.Refusals.{lost_dependence, bad_span, too_long, nothing_to_undo}
+use Rattle.jr_names.specs.Refusals.{nothing_to_redo, report_full, too_many_sites}
 
 abbrev pub refusal_of : raw.Refusal → Refusal
 refusal_of (shown.NoSuchFile name) = no_such_file name
@@ -22,10 +27,13 @@ refusal_of (shown.MayBeNull at) = may_be_null at
 refusal_of (shown.Recursive call) = recursive call
 refusal_of (shown.Assigned local at) = assigned (local_key_of local) at
 refusal_of (shown.Clash with) = clash (decl_of with)
-refusal_of (shown.OverrideChanged class method) = override_changed (class_key_of class) (method_key_of method)
-refusal_of (shown.LostBinding reference declaration found) = lost_binding reference (decl_of declaration) (found_of found)
+refusal_of (shown.OverrideChanged class method) =
+    override_changed (class_key_of class) (method_key_of method)
+refusal_of (shown.LostBinding reference declaration found) =
+    lost_binding reference (decl_of declaration) (found_of found)
 refusal_of (shown.WouldNotCompile at rule) = would_not_compile at rule
-refusal_of (shown.LostDependence kind first second) = lost_dependence kind (site_at_of first) (site_at_of second)
+refusal_of (shown.LostDependence kind first second) =
+    lost_dependence kind (site_at_of first) (site_at_of second)
 refusal_of (shown.BadSpan from to) = bad_span from to
 refusal_of (shown.TooLong len) = too_long len
 refusal_of shown.NothingToUndo = nothing_to_undo

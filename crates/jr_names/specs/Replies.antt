@@ -14,5 +14,6 @@ pub data Reply : Type 0 where
   refused : (refusal : Refusal) → Reply
 
 pub data Outcome : Type 0 where
-  planned : (edits : List (List Entry)) (renaming : List (Decl × Decl)) (respelled : ℕ) (lost : Option DepPair) → Outcome
+  planned : (edits : List (List Entry)) (renaming : List (Decl × Decl)) (respelled : ℕ)
+      (lost : Option DepPair) → Outcome
   not_planned : (refusal : Refusal) → Outcome

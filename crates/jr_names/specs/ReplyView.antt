@@ -6,7 +6,8 @@ use Rattle.jr_names.specs.declared.replies.Outcome as raw_outcome
 use Rattle.jr_names.specs.declared.replies.Outcome.TheVariants as outcome
 use Rattle.jr_names.specs.SiteView.{pair_of}
 use Rattle.jr_names.specs.RefusalView.{refusal_of}
-use Rattle.jr_names.specs.Replies.{Reply, edited, refactored, shown, undone, redone, refused, Outcome, planned, not_planned}
+use Rattle.jr_names.specs.Replies.{Reply, edited, refactored, shown, undone, redone, refused}
+use Rattle.jr_names.specs.Replies.{Outcome, planned, not_planned}
 
 abbrev pub reply_of : raw_reply.Reply → Reply
 reply_of reply.Edited = edited
@@ -17,5 +18,6 @@ reply_of reply.Redone = redone
 reply_of (reply.Refused x) = refused (refusal_of x)
 
 abbrev pub outcome_of : raw_outcome.Outcome → Outcome
-outcome_of (outcome.Planned edits renaming respelled lost) = planned edits renaming respelled (option_map pair_of lost)
+outcome_of (outcome.Planned edits renaming respelled lost) =
+    planned edits renaming respelled (option_map pair_of lost)
 outcome_of (outcome.Refused x) = not_planned (refusal_of x)

@@ -1,7 +1,8 @@
 //! How declarations are written.
 ghost use Rattle.std.specs.Prelude.{◌≡◌, ◌∷◌, ◌++◌, map, codes, IfOk, string_bytes};
 ghost use Rattle.jr_table.specs.TypeView.{class_key_of, ty_of};
-ghost use Rattle.jr_table.specs.KeyView.{field_key_of, method_key_of, ctor_key_of, member_key_of, local_key_of, decl_of};
+ghost use Rattle.jr_table.specs.KeyView.{field_key_of, method_key_of, ctor_key_of, member_key_of};
+ghost use Rattle.jr_table.specs.KeyView.{local_key_of, decl_of};
 ghost use Rattle.jr_names.specs.DeclTexts as texts;
 
 use jr_ast::Name;
@@ -82,7 +83,8 @@ pub fn method_text(alloc: Global, key: &MethodKey) -> Result<String, AllocError>
 
 /// The text of a constructor: `K.new(int)`.
 pub fn constructor_text(alloc: Global, key: &CtorKey) -> Result<String, AllocError>
-    ensures { IfOk result (λ text. string_bytes text ≡ texts.constructor_text (ctor_key_of key.now)) }
+    ensures { IfOk result (λ text.
+        string_bytes text ≡ texts.constructor_text (ctor_key_of key.now)) }
 {
     let class = class_text(alloc, &key.class)?;
     let types = types_text(alloc, key.params.as_slice())?;

@@ -1,8 +1,8 @@
 //! What passes between a script, a session and a report.
 //!
-//! A [`Step`] is what a script asks for, a [`Reply`] what the session answers, and an [`Outcome`] what a refactoring
-//! plans. Contracts see them as the plain values of `specs/`, with keys as those of `jr_table`, and kept texts as
-//! their bytes. `decl_texts` writes declarations.
+//! A [`Step`] is what a script asks for, a [`Reply`] what the session answers, and an [`Outcome`]
+//! what a refactoring plans. Contracts see them as the plain values of `specs/`, with keys as those
+//! of `jr_table`, and kept texts as their bytes. `decl_texts` writes declarations.
 #![tactic(auto)]
 
 mod decl_texts;

@@ -31,12 +31,14 @@ pub enum Refusal {
         at: u32,
         kind: Name,
     },
-    /// At the place there isn't what the refactoring needs. `need` is the name of a [`Need`](crate::Need).
+    /// At the place there isn't what the refactoring needs. `need` is the name of a
+    /// [`Need`](crate::Need).
     BadTarget {
         at: Place,
         need: Name,
     },
-    /// A method of the prelude would change: its text, or the name that is one of Object's (JLS 4.3.2).
+    /// A method of the prelude would change: its text, or the name that is one of Object's (JLS
+    /// 4.3.2).
     PreludeMethod {
         method: Name,
     },
@@ -80,8 +82,8 @@ pub enum Refusal {
         class: ClassKey,
         method: MethodKey,
     },
-    /// A reference to the declaration has no spelling that is still bound to it. As it is spelled, it would be bound
-    /// to what is found.
+    /// A reference to the declaration has no spelling that is still bound to it. As it is spelled,
+    /// it would be bound to what is found.
     LostBinding {
         reference: Place,
         declaration: Decl,

@@ -8,8 +8,8 @@ use crate::sites::DepPair;
 #[derive(Drop)]
 pub enum Reply {
     Edited,
-    /// The files whose text has changed, in the order of the session, and how many references are spelled otherwise
-    /// than they were, but for their new names.
+    /// The files whose text has changed, in the order of the session, and how many references are
+    /// spelled otherwise than they were, but for their new names.
     Refactored { files: Names, respelled: u32 },
     Shown(Lines),
     Undone,
@@ -20,8 +20,8 @@ pub enum Reply {
 /// What a refactoring plans, or why it doesn't.
 #[derive(Drop)]
 pub enum Outcome {
-    /// The edits of each file, what declarations become, how many references are spelled otherwise, and the
-    /// dependence that would be lost, where there is one.
+    /// The edits of each file, what declarations become, how many references are spelled otherwise,
+    /// and the dependence that would be lost, where there is one.
     Planned {
         edits: EditLists,
         renaming: Renaming,

@@ -62,7 +62,8 @@ pub enum Step {
         at: u32,
         class: Name,
     },
-    /// The method's body goes to the class as a static method, with a parameter of the name for `this`.
+    /// The method's body goes to the class as a static method, with a parameter of the name for
+    /// `this`.
     MoveInstance {
         file: Name,
         at: u32,
