@@ -3,11 +3,17 @@ use Rattle.std.specs.Prelude.{ℕ, ◌<◌, List, [], ◌∷◌, ◌++◌, lengt
 use Rattle.std.specs.List.{join_with_byte}
 use Rattle.jr_text.specs.declared.spans.Place.{Place}
 use Rattle.jr_names.specs.DeclTexts.{class_text, method_text, member_text, local_text, decl_text}
-use Rattle.jr_names.specs.Refusals.{Refusal, no_such_file, bad_place, bad_name, source_error, bad_target, prelude_method, conditional, has_return, two_results, many_targets, may_be_null, recursive, assigned, clash, override_changed, lost_binding, would_not_compile, lost_dependence, bad_span, too_long, nothing_to_undo, nothing_to_redo, report_full, too_many_sites}
+use Rattle.jr_names.specs.Refusals.{Refusal, no_such_file, bad_place, bad_name, source_error}
+use Rattle.jr_names.specs.Refusals.{bad_target, prelude_method, conditional, has_return}
+use Rattle.jr_names.specs.Refusals.{two_results, many_targets, may_be_null, recursive, assigned}
+use Rattle.jr_names.specs.Refusals.{clash, override_changed, lost_binding, would_not_compile}
+use Rattle.jr_names.specs.Refusals.{lost_dependence, bad_span, too_long, nothing_to_undo}
+use Rattle.jr_names.specs.Refusals.{nothing_to_redo, report_full, too_many_sites}
 use Rattle.jr_names.specs.RefusalNames.{refusal_name}
 use Rattle.jr_script.specs.Texts.{at_text, place_text, found_text, dep_kind_text, site_at_text}
 
--- the fields in their order; a file and a place in it are one, and a word stands before what was found and between two sites
+-- the fields in their order; a file and a place in it are one, and a word stands before what was
+-- found and between two sites
 abbrev pub fields_of : List (List ℕ) → Refusal → List (List ℕ)
 fields_of files (no_such_file name) = name ∷ []
 fields_of files (bad_place file at) = at_text file at ∷ []
@@ -24,9 +30,11 @@ fields_of files (recursive call) = place_text files call ∷ []
 fields_of files (assigned local at) = local_text local ∷ place_text files at ∷ []
 fields_of files (clash with) = decl_text with ∷ []
 fields_of files (override_changed class method) = class_text class ∷ method_text method ∷ []
-fields_of files (lost_binding reference declaration found) = place_text files reference ∷ decl_text declaration ∷ codes "found" ∷ found_text found ∷ []
+fields_of files (lost_binding reference declaration found) =
+    place_text files reference ∷ decl_text declaration ∷ codes "found" ∷ found_text found ∷ []
 fields_of files (would_not_compile at rule) = place_text files at ∷ rule ∷ []
-fields_of files (lost_dependence kind first second) = dep_kind_text kind ∷ site_at_text files first ∷ codes "before" ∷ site_at_text files second ∷ []
+fields_of files (lost_dependence kind first second) =
+    dep_kind_text kind ∷ site_at_text files first ∷ codes "before" ∷ site_at_text files second ∷ []
 fields_of files (bad_span from to) = decimal from ∷ decimal to ∷ []
 fields_of files (too_long len) = decimal len ∷ []
 fields_of files nothing_to_undo = []

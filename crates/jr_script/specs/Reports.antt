@@ -18,15 +18,20 @@ word_object word = object (member (codes "reply") (string word) no_members)
 
 abbrev pub refactored_object : List (List ℕ) → ℕ → Data
 refactored_object changed respelled =
-    object (member (codes "files") (strings changed) (member (codes "reply") (string (codes "refactored")) (member (codes "respelled") (number (unsigned respelled)) no_members)))
+    object (member (codes "files") (strings changed)
+    (member (codes "reply") (string (codes "refactored"))
+    (member (codes "respelled") (number (unsigned respelled)) no_members)))
 
 abbrev pub shown_object : List (List ℕ) → Data
-shown_object lines = object (member (codes "lines") (strings lines) (member (codes "reply") (string (codes "shown")) no_members))
+shown_object lines = object (member (codes "lines") (strings lines)
+    (member (codes "reply") (string (codes "shown")) no_members))
 
 -- the number and the text of a refusal
 abbrev pub refused_object : ℕ → List ℕ → Data
 refused_object n text =
-    object (member (codes "number") (number (unsigned n)) (member (codes "refusal") (string text) (member (codes "reply") (string (codes "refused")) no_members)))
+    object (member (codes "number") (number (unsigned n))
+    (member (codes "refusal") (string text)
+    (member (codes "reply") (string (codes "refused")) no_members)))
 
 -- a reply's object; the members of each stand in byte order
 abbrev pub object_of : List (List ℕ) → Reply → Data
@@ -35,11 +40,13 @@ object_of files (refactored changed respelled) = refactored_object changed respe
 object_of files (shown lines) = shown_object lines
 object_of files undone = word_object (codes "undone")
 object_of files redone = word_object (codes "redone")
-object_of files (refused refusal) = refused_object (refusal_number refusal) (refusal_text files refusal)
+object_of files (refused refusal) =
+    refused_object (refusal_number refusal) (refusal_text files refusal)
 
 -- the compact text of the replies' objects, and a line end
 abbrev pub report_text : List (List ℕ) → List Reply → List ℕ
-report_text files replies = compact_text (array (items_of (map (object_of files) replies))) ++ codes "\n"
+report_text files replies =
+    compact_text (array (items_of (map (object_of files) replies))) ++ codes "\n"
 
 abbrev pub reply_places : Reply → List Place
 reply_places edited = []

@@ -8,7 +8,8 @@ pub data Kind : Type 0 where
   offset : Kind
   shown : Kind
 
--- An offset is a whole number that isn't negative, as `serde_json` keeps it. Of what may be shown, `bindings` is built.
+-- An offset is a whole number that isn't negative, as `serde_json` keeps it. Of what may be shown,
+-- `bindings` is built.
 abbrev pub IsOf : Kind → Data → Type 0
 IsOf text value = (s : List ℕ) × (value ≡ string s)
 IsOf offset value = (n : ℕ) × (n ≤ 4294967295) × (value ≡ number (unsigned n))
@@ -31,7 +32,8 @@ abbrev pub row : List ℕ → List Column → Row
 row word columns = record { word = word; columns = columns }
 
 abbrev pub edit_row : Row
-edit_row = row (codes "edit") (column (codes "file") text ∷ column (codes "from") offset ∷ column (codes "to") offset ∷ column (codes "text") text ∷ [])
+edit_row = row (codes "edit") (column (codes "file") text ∷ column (codes "from") offset
+    ∷ column (codes "to") offset ∷ column (codes "text") text ∷ [])
 
 abbrev pub show_row : Row
 show_row = row (codes "show") (column (codes "file") text ∷ column (codes "what") shown ∷ [])

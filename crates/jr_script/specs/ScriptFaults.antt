@@ -5,7 +5,8 @@ use Rattle.serde_json.specs.Find.{as_array}
 use Rattle.serde_json.specs.View.{items_of}
 use Rattle.jr_names.specs.declared.steps.Step.{Step}
 use Rattle.jr_script.specs.declared.faults.ScriptFault.{ScriptFault}
-use Rattle.jr_script.specs.declared.faults.ScriptFault.TheVariants.{TooLong, NotJson, NotAList, TooMany, NotAScript, Memory}
+use Rattle.jr_script.specs.declared.faults.ScriptFault.TheVariants.{TooLong, NotJson, NotAList}
+use Rattle.jr_script.specs.declared.faults.ScriptFault.TheVariants.{TooMany, NotAScript, Memory}
 use Rattle.jr_script.specs.Steps.{Means}
 use Rattle.jr_script.specs.StepFaults.{IsBad}
 use Rattle.jr_script.specs.Scripts.{script_limit, step_limit, HasValue}
@@ -20,16 +21,21 @@ pub record IsFirstBad (elements : List Data) (place : ℕ) (member : List ℕ) :
   pub steps : All (λ d. (s : Step) × Means d s) front
   pub bad : IsBad element member
 
--- In this order: too long, no JSON, no array, too many elements, an element that is no step. Memory is wanted only for
--- bytes that aren't too long.
+-- In this order: too long, no JSON, no array, too many elements, an element that is no step. Memory
+-- is wanted only for bytes that aren't too long.
 abbrev pub IsScriptFault : List ℕ → ScriptFault → Type 0
 IsScriptFault bytes TooLong = script_limit < length bytes
 IsScriptFault bytes NotJson = (length bytes ≤ script_limit) × ((d : Data) → ¬ HasValue bytes d)
-IsScriptFault bytes NotAList = (length bytes ≤ script_limit) × ((d : Data) × HasValue bytes d × (as_array d ≡ None))
+IsScriptFault bytes NotAList =
+    (length bytes ≤ script_limit) × ((d : Data) × HasValue bytes d × (as_array d ≡ None))
 IsScriptFault bytes (TooMany count) =
-    (length bytes ≤ script_limit) × ((elements : List Data) × HasValue bytes (array (items_of elements)) × (step_limit < length elements) × (count ≡ length elements))
+    (length bytes ≤ script_limit) × ((elements : List Data)
+    × HasValue bytes (array (items_of elements)) × (step_limit < length elements)
+    × (count ≡ length elements))
 IsScriptFault bytes (NotAScript step member) =
-    (length bytes ≤ script_limit) × ((elements : List Data) × HasValue bytes (array (items_of elements)) × (length elements ≤ step_limit) × IsFirstBad elements step member)
+    (length bytes ≤ script_limit) × ((elements : List Data)
+    × HasValue bytes (array (items_of elements)) × (length elements ≤ step_limit)
+    × IsFirstBad elements step member)
 IsScriptFault bytes Memory = length bytes ≤ script_limit
 
 -- ---- for private clauses

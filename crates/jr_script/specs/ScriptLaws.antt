@@ -8,12 +8,15 @@ use Rattle.jr_script.specs.ScriptFaults.{IsScriptFault}
 
 -- bytes mean one list of steps at most
 abbrev pub MeansOneList : Type 0
-MeansOneList = (bytes : List ℕ) (steps others : List Step) → IsScript bytes steps → IsScript bytes others → steps ≡ others
+MeansOneList = (bytes : List ℕ) (steps others : List Step) → IsScript bytes steps
+    → IsScript bytes others → steps ≡ others
 
 -- a script has no fault, but that memory may be wanted
 abbrev pub ScriptHasNoFault : Type 0
-ScriptHasNoFault = (bytes : List ℕ) (steps : List Step) (fault : ScriptFault) → IsScript bytes steps → IsScriptFault bytes fault → fault ≡ Memory
+ScriptHasNoFault = (bytes : List ℕ) (steps : List Step) (fault : ScriptFault) → IsScript bytes steps
+    → IsScriptFault bytes fault → fault ≡ Memory
 
 -- other bytes have one fault at most beside that
 abbrev pub HasOneFault : Type 0
-HasOneFault = (bytes : List ℕ) (fault other : ScriptFault) → IsScriptFault bytes fault → IsScriptFault bytes other → (fault ≡ Memory) ⊎ ((other ≡ Memory) ⊎ (fault ≡ other))
+HasOneFault = (bytes : List ℕ) (fault other : ScriptFault) → IsScriptFault bytes fault
+    → IsScriptFault bytes other → (fault ≡ Memory) ⊎ ((other ≡ Memory) ⊎ (fault ≡ other))

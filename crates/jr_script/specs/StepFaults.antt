@@ -33,15 +33,18 @@ pub record IsFirstMissing (d : Data) (columns : List Column) (name : List ℕ) :
 pub record IsFirstSurplus (d : Data) (names : List (List ℕ)) (name : List ℕ) : Type 0 where
   pub there : IsSome (get name d)
   pub surplus : ¬ Contains names name
-  pub least : (other : List ℕ) → IsSome (get other d) → ¬ Contains names other → slice_cmp nat_cmp other name ≢ Less
+  pub least : (other : List ℕ) → IsSome (get other d) → ¬ Contains names other
+      → slice_cmp nat_cmp other name ≢ Less
 
 -- a member of the row that is missing or of the wrong kind comes before each surplus one
 abbrev pub IsRowFault : Data → Row → List ℕ → Type 0
-IsRowFault d r name = IsFirstMissing d r.columns name ⊎ (All (HasColumn d) r.columns × IsFirstSurplus d (names_of r.columns) name)
+IsRowFault d r name = IsFirstMissing d r.columns name
+    ⊎ (All (HasColumn d) r.columns × IsFirstSurplus d (names_of r.columns) name)
 
 -- the name is told of the value
 abbrev pub IsBad : Data → List ℕ → Type 0
-IsBad d name = (IsUnknown d × (name ≡ word_name)) ⊎ ((r : Row) × Contains rows r × HasWord d r.word × IsRowFault d r name)
+IsBad d name = (IsUnknown d × (name ≡ word_name))
+    ⊎ ((r : Row) × Contains rows r × HasWord d r.word × IsRowFault d r name)
 
 -- ---- for private clauses
 

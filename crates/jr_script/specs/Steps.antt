@@ -5,8 +5,12 @@ use Rattle.serde_json.specs.Find.{get}
 use Rattle.jr_names.specs.declared.steps.What.{What}
 use Rattle.jr_names.specs.declared.steps.What.TheVariants.{Bindings, Dependences}
 use Rattle.jr_names.specs.declared.steps.Step.{Step}
-use Rattle.jr_names.specs.declared.steps.Step.TheVariants.{Edit, Rename, ExtractLocal, ExtractMethod, InlineLocal, InlineMethod, PullUp, MoveStatic, MoveInstance, Show, Undo, Redo}
-use Rattle.jr_script.specs.Rows.{text, offset, shown, IsOf, Column, column, row, rows, word_name, names_of}
+use Rattle.jr_names.specs.declared.steps.Step.TheVariants.{Edit, Rename, ExtractLocal}
+use Rattle.jr_names.specs.declared.steps.Step.TheVariants.{ExtractMethod, InlineLocal, InlineMethod}
+use Rattle.jr_names.specs.declared.steps.Step.TheVariants.{PullUp, MoveStatic, MoveInstance, Show}
+use Rattle.jr_names.specs.declared.steps.Step.TheVariants.{Undo, Redo}
+use Rattle.jr_script.specs.Rows.{text, offset, shown, IsOf, Column, column, row, rows, word_name}
+use Rattle.jr_script.specs.Rows.{names_of}
 
 -- a member, and the value that stands there
 pub record Cell : Type 0 where
@@ -42,15 +46,25 @@ word_of Redo = codes "redo"
 
 -- the members of a step beside its word, in the order of its row
 abbrev pub cells_of : Step → List Cell
-cells_of (Edit file from to new) = text_at (codes "file") file ∷ offset_at (codes "from") from ∷ offset_at (codes "to") to ∷ text_at (codes "text") new ∷ []
-cells_of (Rename file at name) = text_at (codes "file") file ∷ offset_at (codes "at") at ∷ text_at (codes "name") name ∷ []
-cells_of (ExtractLocal file from to name) = text_at (codes "file") file ∷ offset_at (codes "from") from ∷ offset_at (codes "to") to ∷ text_at (codes "name") name ∷ []
-cells_of (ExtractMethod file from to name) = text_at (codes "file") file ∷ offset_at (codes "from") from ∷ offset_at (codes "to") to ∷ text_at (codes "name") name ∷ []
+cells_of (Edit file from to new) =
+    text_at (codes "file") file ∷ offset_at (codes "from") from ∷ offset_at (codes "to") to
+    ∷ text_at (codes "text") new ∷ []
+cells_of (Rename file at name) =
+    text_at (codes "file") file ∷ offset_at (codes "at") at ∷ text_at (codes "name") name ∷ []
+cells_of (ExtractLocal file from to name) =
+    text_at (codes "file") file ∷ offset_at (codes "from") from ∷ offset_at (codes "to") to
+    ∷ text_at (codes "name") name ∷ []
+cells_of (ExtractMethod file from to name) =
+    text_at (codes "file") file ∷ offset_at (codes "from") from ∷ offset_at (codes "to") to
+    ∷ text_at (codes "name") name ∷ []
 cells_of (InlineLocal file at) = text_at (codes "file") file ∷ offset_at (codes "at") at ∷ []
 cells_of (InlineMethod file at) = text_at (codes "file") file ∷ offset_at (codes "at") at ∷ []
 cells_of (PullUp file at) = text_at (codes "file") file ∷ offset_at (codes "at") at ∷ []
-cells_of (MoveStatic file at class) = text_at (codes "file") file ∷ offset_at (codes "at") at ∷ text_at (codes "class") class ∷ []
-cells_of (MoveInstance file at class name) = text_at (codes "file") file ∷ offset_at (codes "at") at ∷ text_at (codes "class") class ∷ text_at (codes "name") name ∷ []
+cells_of (MoveStatic file at class) =
+    text_at (codes "file") file ∷ offset_at (codes "at") at ∷ text_at (codes "class") class ∷ []
+cells_of (MoveInstance file at class name) =
+    text_at (codes "file") file ∷ offset_at (codes "at") at ∷ text_at (codes "class") class
+    ∷ text_at (codes "name") name ∷ []
 cells_of (Show file what) = text_at (codes "file") file ∷ shown_at (codes "what") what ∷ []
 cells_of Undo = []
 cells_of Redo = []
@@ -66,7 +80,8 @@ HasCell d c = (get c.column.name d ≡ Some c.value) × IsOf c.column.kind c.val
 abbrev pub HasOnly : Data → List (List ℕ) → Type 0
 HasOnly d names = (name : List ℕ) → IsSome (get name d) → Contains names name
 
--- the value is the step's object: its word is built, and it has exactly the members of its row, with the step's values
+-- the value is the step's object: its word is built, and it has exactly the members of its row,
+-- with the step's values
 pub record Means (d : Data) (s : Step) : Type 0 where
   pub built : Contains rows (row (word_of s) (columns_of s))
   pub word : get word_name d ≡ Some (string (word_of s))

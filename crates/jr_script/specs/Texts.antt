@@ -2,7 +2,8 @@
 use Rattle.std.specs.Prelude.{ℕ, List, [], ◌++◌, Option, Some, None, codes, decimal, slice_index_or}
 use Rattle.jr_text.specs.declared.spans.Place.{Place}
 use Rattle.jr_sync.specs.declared.kinds.Kind.{Kind}
-use Rattle.jr_sync.specs.declared.kinds.Kind.TheVariants.{Load, Store, VolatileLoad, VolatileStore, Enter, Exit, Still}
+use Rattle.jr_sync.specs.declared.kinds.Kind.TheVariants.{Load, Store, VolatileLoad, VolatileStore}
+use Rattle.jr_sync.specs.declared.kinds.Kind.TheVariants.{Enter, Exit, Still}
 use Rattle.jr_sync.specs.declared.sites.DepKind.{DepKind}
 use Rattle.jr_sync.specs.declared.sites.DepKind.TheVariants as dep
 use Rattle.jr_sync.specs.declared.sites.Site.{Site}

@@ -20,9 +20,9 @@ pub enum ScriptFault {
     /// The array has more than [`MAX_STEPS`](crate::MAX_STEPS) elements: `count` of them.
     #[error("{count} steps are too many")]
     TooMany { count: u32 },
-    /// The element of the number `step`, counted from 0, is the first that is no step. `member` is `step` where it is
-    /// no object or has no known word there, else the first member of its row that is missing or of the wrong kind,
-    /// else the first surplus member in byte order.
+    /// The element of the number `step`, counted from 0, is the first that is no step. `member` is
+    /// `step` where it is no object or has no known word there, else the first member of its row
+    /// that is missing or of the wrong kind, else the first surplus member in byte order.
     #[error("step {step} is none, by its member {}", .member.as_str())]
     NotAScript { step: u32, member: Name },
     #[error("out of memory")]

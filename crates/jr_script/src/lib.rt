@@ -1,7 +1,8 @@
 //! Scripts and reports: JSON text to steps, and replies to JSON text.
 //!
-//! What bytes mean as JSON is `serde_json`'s reading. `specs/Rows.antt` has the table of the steps, and says which
-//! object is which step; `specs/Scripts.antt` says which bytes are a script, and which fault they have otherwise.
+//! What bytes mean as JSON is `serde_json`'s reading. `specs/Rows.antt` has the table of the steps,
+//! and says which object is which step; `specs/Scripts.antt` says which bytes are a script, and
+//! which fault they have otherwise.
 #![tactic(auto)]
 
 mod faults;

@@ -18,8 +18,9 @@ use jr_table::{ClassKey, Decl, Found, LocalKey, MemberKey, MethodKey};
 use jr_text::Place;
 use std::alloc::{AllocError, Global};
 
-/// The text of a refusal: its name and then its fields, with one space between. A place is `FILE:AT`, with the byte
-/// counted from the start of the file, and the other fields are written as declarations, names and numbers are.
+/// The text of a refusal: its name and then its fields, with one space between. A place is
+/// `FILE:AT`, with the byte counted from the start of the file, and the other fields are written as
+/// declarations, names and numbers are.
 pub fn refusal_text(alloc: Global, files: &[Name], refusal: &Refusal) -> Result<String, AllocError>
     requires { refusals.ArePlacesIn files.now (refusals.places_of (refusal_of refusal.now)) }
     ensures { IfOk result (λ text. string_bytes text

@@ -1,4 +1,5 @@
-//! One place for each row of the table of steps: the words that are built, and how each row's object is read.
+//! One place for each row of the table of steps: the words that are built, and how each row's
+//! object is read.
 
 ghost use Rattle.std.specs.Prelude.{◌≡◌, codes, IfOk, IfErr};
 ghost use Rattle.serde_json.specs.View.{view};

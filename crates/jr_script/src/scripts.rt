@@ -19,8 +19,8 @@ pub const MAX_SCRIPT_LEN: u32 = 1_048_576;
 /// How many steps a script has at most.
 pub const MAX_STEPS: u32 = 1_000;
 
-/// The steps that the bytes of a script ask for: a JSON array of objects, each with exactly the members of its row.
-/// Offsets are bytes from the start of a file.
+/// The steps that the bytes of a script ask for: a JSON array of objects, each with exactly the
+/// members of its row. Offsets are bytes from the start of a file.
 ///
 /// The first fault is told, in the order in which [`ScriptFault`] has them.
 pub fn read_script(alloc: Global, bytes: &[u8]) -> Result<Vec<Step>, ScriptFault>

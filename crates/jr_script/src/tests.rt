@@ -55,7 +55,8 @@ fn step_text(alloc: Global, step: &Step) -> Result<String, AllocError> {
     }
 }
 
-// Each expected answer is that of the table of steps, or of RFC 8259 as serde_json 1.0 documents its reading.
+// Each expected answer is that of the table of steps, or of RFC 8259 as serde_json 1.0 documents
+// its reading.
 #[test]
 fn scripts(rt: HostRuntime) -> Result<(), Fail> {
     let alloc = rt.alloc();
