@@ -8,7 +8,7 @@ use Rattle.jr_lex.specs.declared.items.ItemKind.{ItemKind}
 use Rattle.jr_lex.specs.declared.items.ItemKind.TheVariants.{Token, Blank, Comment}
 use Rattle.jr_lex.specs.declared.items.TokenKind.{TokenKind}
 use Rattle.jr_lex.specs.Lexes.{span_of}
-use Rattle.jr_lex.specs.Replacing.{moved}
+use Rattle.jr_lex.specs.Replacing.{moved_items}
 use Rattle.jr_small.specs.declared.tokens.Shape.{Shape}
 use Rattle.jr_small.specs.declared.tokens.Shape.TheVariants as shape
 use Rattle.jr_small.specs.Source.{Name}
@@ -124,25 +124,25 @@ piece_moved gone come p q f x k e = go (shape_in k)
     go (shape.Fixed y) = refl
 
 moved_step : (gone come : ℕ) (p q f x : List ℕ) (item : Item) (items : List Item) → length q + gone ≡ length p + come → item.span ≡ span_of (length p) (length p + length f)
-    → pieces_of (q ++ (f ++ x)) (moved gone come items) ≡ map (moved_piece gone come) (pieces_of (p ++ (f ++ x)) items)
-    → pieces_of (q ++ (f ++ x)) (moved gone come (item ∷ items)) ≡ map (moved_piece gone come) (pieces_of (p ++ (f ++ x)) (item ∷ items))
+    → pieces_of (q ++ (f ++ x)) (moved_items gone come items) ≡ map (moved_piece gone come) (pieces_of (p ++ (f ++ x)) items)
+    → pieces_of (q ++ (f ++ x)) (moved_items gone come (item ∷ items)) ≡ map (moved_piece gone come) (pieces_of (p ++ (f ++ x)) (item ∷ items))
 moved_step gone come p q f x item items e place h =
-    subst (λ (at : Span). pieces_of (q ++ (f ++ x)) (moved gone come (record { kind = item.kind; span = at } ∷ items)) ≡ map (moved_piece gone come) (pieces_of (p ++ (f ++ x)) (record { kind = item.kind; span = at } ∷ items))) (sym place)
-    (pieces_step (moved_piece gone come) (p ++ (f ++ x)) (q ++ (f ++ x)) (span_of (length p) (length p + length f)) (span_of (length p + come - gone) (length p + length f + come - gone)) item.kind items (moved gone come items)
+    subst (λ (at : Span). pieces_of (q ++ (f ++ x)) (moved_items gone come (record { kind = item.kind; span = at } ∷ items)) ≡ map (moved_piece gone come) (pieces_of (p ++ (f ++ x)) (record { kind = item.kind; span = at } ∷ items))) (sym place)
+    (pieces_step (moved_piece gone come) (p ++ (f ++ x)) (q ++ (f ++ x)) (span_of (length p) (length p + length f)) (span_of (length p + come - gone) (length p + length f + come - gone)) item.kind items (moved_items gone come items)
     (λ k. piece_moved gone come p q f x k e) h)
 
 -- the items behind what is longer or shorter now
 pub pieces_behind : (gone come : ℕ) (items : List Item) (p q bytes : List ℕ) → length q + gone ≡ length p + come → Tiled (length p) bytes items
-    → pieces_of (q ++ bytes) (moved gone come items) ≡ map (moved_piece gone come) (pieces_of (p ++ bytes) items)
+    → pieces_of (q ++ bytes) (moved_items gone come items) ≡ map (moved_piece gone come) (pieces_of (p ++ bytes) items)
 pieces_behind gone come [] p q bytes e t = refl
 pieces_behind gone come (item ∷ items) p q bytes e t =
     let f = t.0 in
     let rest = t.1 in
     let e' : length (q ++ f) + gone ≡ length (p ++ f) + come = omega (arith, length-append q f, length-append p f) in
     let behind = pieces_behind gone come items (p ++ f) (q ++ f) rest e' (subst (λ (n : ℕ). Tiled n rest items) (sym (length-append p f)) t.4) in
-    let same : pieces_of (q ++ (f ++ rest)) (moved gone come items) ≡ map (moved_piece gone come) (pieces_of (p ++ (f ++ rest)) items) =
-    ap (λ (x : List ℕ). pieces_of x (moved gone come items)) (sym (append_assoc q f rest)) ∙ behind ∙ ap (λ (x : List ℕ). map (moved_piece gone come) (pieces_of x items)) (append_assoc p f rest) in
-    subst (λ (bs : List ℕ). pieces_of (q ++ bs) (moved gone come (item ∷ items)) ≡ map (moved_piece gone come) (pieces_of (p ++ bs) (item ∷ items))) (sym t.2)
+    let same : pieces_of (q ++ (f ++ rest)) (moved_items gone come items) ≡ map (moved_piece gone come) (pieces_of (p ++ (f ++ rest)) items) =
+    ap (λ (x : List ℕ). pieces_of x (moved_items gone come items)) (sym (append_assoc q f rest)) ∙ behind ∙ ap (λ (x : List ℕ). map (moved_piece gone come) (pieces_of x items)) (append_assoc p f rest) in
+    subst (λ (bs : List ℕ). pieces_of (q ++ bs) (moved_items gone come (item ∷ items)) ≡ map (moved_piece gone come) (pieces_of (p ++ bs) (item ∷ items))) (sym t.2)
     (moved_step gone come p q f rest item items e t.3.place same)
 
 -- items behind others

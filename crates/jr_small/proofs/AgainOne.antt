@@ -4,7 +4,7 @@ use Rattle.std.specs.Prelude.{map}
 use Rattle.jr_text.specs.Splices.{replaced}
 use Rattle.jr_lex.specs.declared.items.Item.{Item}
 use Rattle.jr_lex.specs.Lexes.{Lexes, span_of}
-use Rattle.jr_lex.specs.Replacing.{IsName, word_at, dot_at, moved, WordSwapped, WordQualified}
+use Rattle.jr_lex.specs.Replacing.{IsName, word_at, dot_at, moved_items, WordSwapped, WordQualified}
 use Rattle.jr_small.specs.declared.tokens.Fixed.TheVariants as fixed
 use Rattle.jr_small.specs.Source.{Name}
 use Rattle.jr_small.specs.Token.{Piece, word, number, fixed_token, name_at, pieces_of}
@@ -95,14 +95,14 @@ place_of ss text os o ps h q =
 put : (ss : List Slot) (text : List ℕ) (os : List Occurrence) (o : Occurrence) (ps : List Occurrence) (h : Place ss text os o ps) (middle : List ℕ) (come : ℕ) (between : List Item) (n : Occurrence)
     → length middle ≡ come
     → (let new = h.inside.left ++ middle ++ h.inside.right in
-    Lexes new (h.inside.before ++ (between ++ moved (length o.name.text) come h.inside.after)) → pieces_of new between ≡ spell_occurrence n
+    Lexes new (h.inside.before ++ (between ++ moved_items (length o.name.text) come h.inside.after)) → pieces_of new between ≡ spell_occurrence n
     → ReadsAs ss (replaced text (span_of o.name.at (o.name.at + length o.name.text)) middle) (os ++ n ∷ map (moved_occurrence (length o.name.text) come) ps))
 put ss text os o ps h middle come between n len lexes spelled =
     let i = h.inside in
     let a = h.around in
     let gone = length o.name.text in
     let new = i.left ++ middle ++ i.right in
-    let behind = moved gone come i.after in
+    let behind = moved_items gone come i.after in
     let new_is : replaced text (span_of o.name.at (o.name.at + gone)) middle ≡ new = ap (λ (x : List ℕ). x ++ middle ++ drop (o.name.at + gone) text) (sym i.left_is) ∙ ap (λ (x : List ℕ). i.left ++ middle ++ x) (sym i.right_is) in
     let first : pieces_of new i.before ≡ a.front =
     ap (λ (x : List ℕ). pieces_of x i.before) (append_assoc i.left middle i.right)

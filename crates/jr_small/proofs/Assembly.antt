@@ -50,7 +50,7 @@ is_clash text at name all d w with m c s = record {
   target = m.target;
   other = w;
   clashes = subst (λ (os : List Occurrence). Clashes os d name w) (sym m.names) c;
-  told = subst (λ (os : List Occurrence). Shows os w with) (sym m.names) s;
+  reported = subst (λ (os : List Occurrence). Shows os w with) (sym m.names) s;
 }
 
 pub is_free : (text : List ℕ) (at : ℕ) (name : List ℕ) (all : List raw.Occurrence) (d : ℕ) → Means text at name all d → ((w : ℕ) → Meets (all_of text all) d name w → ⊥) → IsFree text at name all d

@@ -1,4 +1,4 @@
--- The first reference that the test marks is the first lost one, and told so.
+-- The first reference that the test marks is the first lost one, and reported so.
 use Rattle.std.proofs.Common.{◌≡◌, ℕ, ◌<◌, ◌≤◌, List, Option, Some, None, true, false, refl, arith}
 use Rattle.std.specs.Prelude.{slice_get}
 use Rattle.jr_small.specs.declared.occurrences.Role.TheVariants.{Class, Field}
@@ -28,7 +28,7 @@ lost_declaration (Some q) class name = refusal.class class
 shows_class : (all : List Occurrence) (class target : Occurrence) (d : ℕ) (name : List ℕ) → IsReady all class target d name → HasName all 0 (λ o. o.role ≡ Class) class.name.text
 shows_class all class target d name r = record { occurrence = class; stands = r.class_stands; holds = r.class_role; named = refl }
 
--- what is told of a lost reference, and of the variable that it finds
+-- what is reported of a lost reference, and of the variable that it finds
 pub tells_lost : (all : List Occurrence) (class target : Occurrence) (d : ℕ) (name : List ℕ) (k : ℕ) (o a : Occurrence) (found : Declaration) → IsReady all class target d name → slice_get all k ≡ Some o → slice_get (asked_list all target d name) k ≡ Some a → Lost all (asked_list all target d name) k → Shows all d found
     → TellsLost all (asked_list all target d name) k a o.qualifier (lost_declaration o.qualifier class.name.text name) found
 tells_lost all class target d name k o a found r e f l shown = go o.qualifier refl
@@ -59,7 +59,7 @@ first_lost all class target d name k o found r e t before shown = record {
   place_is = refl;
   new = asked_at target d name k o;
   asked_as = asked;
-  told = tells_lost all class target d name k o (asked_at target d name k o) found r e asked lost shown;
+  reported = tells_lost all class target d name k o (asked_at target d name k o) found r e asked lost shown;
 }
   where
     lost : Lost all (asked_list all target d name) k

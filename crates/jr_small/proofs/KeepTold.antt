@@ -1,4 +1,4 @@
--- The test of lost references is right both ways, and what is told of the first one.
+-- The test of lost references is right both ways, and what is reported of the first one.
 use Rattle.std.proofs.Common.{◌≡◌, ℕ, List, Option, Some, None, Bool, true, false, refl, sym, ap, subst, ◌∙◌, inl, inr}
 use Rattle.std.specs.Prelude.{slice_get, ◌&&◌, ◌==◌, ◌↔◌, if◌then◌else◌}
 use Rattle.std.specs.Str.{bytes_eq}
@@ -138,7 +138,7 @@ marked_is_lost all class target d name k o r e t = by_qualifier o.qualifier plai
 pub lost_iff_marked : (all : List Occurrence) (class target : Occurrence) (d : ℕ) (name : List ℕ) (k : ℕ) (o : Occurrence) → IsReady all class target d name → slice_get all k ≡ Some o → Lost all (asked_list all target d name) k ↔ (is_lost_at all target d name class.name.text k o ≡ true)
 lost_iff_marked all class target d name k o r e = (lost_is_marked all class target d name k o r e, marked_is_lost all class target d name k o r e)
 
--- ---- what is told of a lost reference
+-- ---- what is reported of a lost reference
 
 -- without a qualifier: it meant a field, of the new name
 pub lost_field : (all : List Occurrence) (class target : Occurrence) (d : ℕ) (name : List ℕ) (k : ℕ) (o : Occurrence) → IsReady all class target d name → slice_get all k ≡ Some o → o.qualifier ≡ None → Lost all (asked_list all target d name) k → (j : ℕ) × Binds all k j × DeclaresField all name j

@@ -49,7 +49,7 @@ role_variable Local h = refl
 role_variable r (inl h) = ap is_variable_role h
 role_variable r (inr h) = ap is_variable_role h
 
-and_true : (a b : Bool) → a ≡ true → b ≡ true → (a && b) ≡ true
+pub and_true : (a b : Bool) → a ≡ true → b ≡ true → (a && b) ≡ true
 and_true true b h k = k
 and_true false b h k = absurd cc
 

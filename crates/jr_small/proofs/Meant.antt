@@ -1,8 +1,9 @@
 -- Which variable a place of the text means.
 use Rattle.std.proofs.Common.{◌≡◌, ℕ, ◌<◌, ◌≤◌, length, get_or, List, Option, Some, None, refl, sym, ap, subst, ◌∙◌, arith, inl, inr}
-use Rattle.std.specs.Prelude.{slice_get}
+use Rattle.std.specs.Prelude.{slice_get, Bool, IsTrue, ◌==◌}
 use Rattle.std.specs.Option.{MatchOption}
 use Rattle.std.proofs.lemmas.List.{length-map}
+use Rattle.std.proofs.lemmas.Bool.{eq-eqb, eqb-true}
 use Rattle.jr_small.specs.declared.occurrences.Role.{Role}
 use Rattle.jr_small.specs.declared.occurrences.Role.TheVariants.{Field, Parameter, Local, Reference}
 use Rattle.jr_small.specs.declared.occurrences.Occurrence as raw
@@ -10,14 +11,34 @@ use Rattle.jr_small.specs.Source.{Name}
 use Rattle.jr_small.specs.Occurrence.{Occurrence}
 use Rattle.jr_small.specs.Binding.{IsVariable, InScope, NoneInScope, FindsVariable, DeclaresField, FindsName}
 use Rattle.jr_small.specs.Rename.{Holds, DeclaresVariable, IsOf, IsTarget, Meets, Clashes}
-use Rattle.jr_small.specs.Meant.{IsVariableOf, IsMeant, IsMeantAt}
-use Rattle.jr_small.specs.Exact.{IsNameRef, IsQualifiedRef}
+use Rattle.jr_small.specs.Meant.{IsMeant, IsMeantAt}
+use Rattle.jr_small.specs.Exact.{is_variable, IsNameRef, IsQualifiedRef}
+use Rattle.jr_small.specs.Changes.{is_variable_of}
 use Rattle.jr_small.specs.View.{occurrence_of, all_of}
 use Rattle.jr_small.proofs.Walks.{get_within}
-use Rattle.jr_small.proofs.Lookups.{nobody, at, at_number}
+use Rattle.jr_small.proofs.Lookups.{nobody, at, at_number, and_both, and_true}
+use Rattle.jr_small.proofs.Lookups.{passes_variable, variable_passes}
 use Rattle.jr_small.proofs.WellBound.{same_at, binds_name, name_binds, binds_qualified}
 
 -- ---- the variables of a member
+
+-- what the test finds: a parameter or local of the member with this name
+pub record IsVariableOf (o : Occurrence) (m : ℕ) (text : List ℕ) : Type 0 where
+  pub variable : IsVariable o.role
+  pub member : o.member ≡ m
+  pub named : o.name.text ≡ text
+
+pub variable_found : (o : Occurrence) (m : ℕ) (q : List ℕ) (b : Bool) → b ≡ is_variable_of q m o
+    → IsTrue b → IsVariableOf o m q
+variable_found o m q b e h =
+    let both = and_both (is_variable q o) (o.member == m) (sym e ∙ h) in
+    let parts = passes_variable q o both.0 in
+    record { variable = parts.0; member = eqb-true o.member m both.1; named = parts.1 }
+
+pub variable_passed : (o : Occurrence) (m : ℕ) (q : List ℕ) (b : Bool) → b ≡ is_variable_of q m o
+    → IsVariableOf o m q → IsTrue b
+variable_passed o m q b e v = e ∙ and_true (is_variable q o) (o.member == m)
+    (variable_passes q o v.variable v.named) (eq-eqb o.member m v.member)
 
 pub within_all : (text : List ℕ) (all : List raw.Occurrence) (i : ℕ) (o : Occurrence) → slice_get (all_of text all) i ≡ Some o → i < length all
 within_all text all i o e = omega (arith, get_within (all_of text all) i o e, length-map all (occurrence_of text))

@@ -1,4 +1,4 @@
--- Each wish has one answer at most.
+-- Each request has one answer at most.
 use Rattle.std.proofs.Common.{◌≡◌, ℕ, ◌<◌, List, [], ◌∷◌, ◌++◌, length, refl, sym, ap, subst, ◌∙◌, append_assoc, arith, inl, inr}
 use Rattle.jr_lex.specs.declared.items.Item.{Item}
 use Rattle.jr_lex.specs.declared.faults.LexFault.{LexFault}
@@ -68,16 +68,16 @@ one_kind (lexical.BadNumber at) p p' k k' h g = (h.0 ∙ sym g.0, h.1 ∙ sym g.
 one_kind lexical.Memory p p' k k' h g = absurd h
 
 one_fault : (lex : Lexing) (text : List ℕ) (p p' : ℕ) (k k' : SourceKind) → HasSourceFault text p k → HasSourceFault text p' k' → (p ≡ p') × (k ≡ k')
-one_fault lex text p p' k k' (inl h) (inl g) = one_kind g.fault p p' k k' (subst (λ (f : LexFault). IsKindAt f p k) (lex.fault text h.fault g.fault h.first g.first) h.told) g.told
+one_fault lex text p p' k k' (inl h) (inl g) = one_kind g.fault p p' k k' (subst (λ (f : LexFault). IsKindAt f p k) (lex.fault text h.fault g.fault h.first g.first) h.reported) g.reported
 one_fault lex text p p' k k' (inl h) (inr (inl g)) = absurd (lex.never_both text g.items h.fault g.lexes h.first)
 one_fault lex text p p' k k' (inl h) (inr (inr g)) = absurd (lex.never_both text g.items h.fault g.lexes h.first)
 one_fault lex text p p' k k' (inr (inl h)) (inl g) = absurd (lex.never_both text h.items g.fault h.lexes g.first)
 one_fault lex text p p' k k' (inr (inl h)) (inr (inl g)) =
-    (one_beyond g.items p p' (subst (λ (xs : List Item). IsFirstBeyond xs p) (lex.items text h.items g.items h.lexes g.lexes) h.first) g.first, h.told ∙ sym g.told)
+    (one_beyond g.items p p' (subst (λ (xs : List Item). IsFirstBeyond xs p) (lex.items text h.items g.items h.lexes g.lexes) h.first) g.first, h.reported ∙ sym g.reported)
 one_fault lex text p p' k k' (inr (inl h)) (inr (inr g)) = absurd (not_within g.items p (subst (λ (xs : List Item). IsFirstBeyond xs p) (lex.items text h.items g.items h.lexes g.lexes) h.first) g.within)
 one_fault lex text p p' k k' (inr (inr h)) (inl g) = absurd (lex.never_both text h.items g.fault h.lexes g.first)
 one_fault lex text p p' k k' (inr (inr h)) (inr (inl g)) = absurd (not_within h.items p' (subst (λ (xs : List Item). IsFirstBeyond xs p') (lex.items text g.items h.items g.lexes h.lexes) g.first) h.within)
-one_fault lex text p p' k k' (inr (inr h)) (inr (inr g)) = (h.start ∙ sym g.start, h.told ∙ sym g.told)
+one_fault lex text p p' k k' (inr (inr h)) (inr (inr g)) = (h.start ∙ sym g.start, h.reported ∙ sym g.reported)
 
 -- ---- sound sources
 
@@ -115,19 +115,19 @@ same_target lex text at name u v d e h g =
     record { names = names; number = one_target text u at d e h.reads.reads h.reads.sound h.target (subst (λ (os : List Occurrence). IsTarget os at e) (sym names) g.target) }
 
 -- what is said of the other's names and target, of the one's
-moved : (P : List Occurrence → ℕ → Type 0) (u v : Tree) (d e : ℕ) → SameTarget u v d e → P (occurrences v) e → P (occurrences u) d
-moved P u v d e s h = subst (P (occurrences u)) (sym s.number) (subst (λ (os : List Occurrence). P os e) (sym s.names) h)
+at_same_target : (P : List Occurrence → ℕ → Type 0) (u v : Tree) (d e : ℕ) → SameTarget u v d e → P (occurrences v) e → P (occurrences u) d
+at_same_target P u v d e s h = subst (P (occurrences u)) (sym s.number) (subst (λ (os : List Occurrence). P os e) (sym s.names) h)
 
 free_clash : (lex : Lexing) (text : List ℕ) (at : ℕ) (name : List ℕ) (w : Declaration) (u : Tree) (d : ℕ) → CanBeNamed text at name u d → IsClash text at name w → ⊥
 free_clash lex text at name w u d h g =
     let s = same_target lex text at name u g.tree d g.number h.target g.target in
-    h.free g.other (moved (λ os i. Meets os i name g.other) u g.tree d g.number s g.clashes.meets)
+    h.free g.other (at_same_target (λ os i. Meets os i name g.other) u g.tree d g.number s g.clashes.meets)
 
 one_clash_told : (lex : Lexing) (text : List ℕ) (at : ℕ) (name : List ℕ) (w w' : Declaration) → IsClash text at name w → IsClash text at name w' → w ≡ w'
 one_clash_told lex text at name w w' h g =
     let s = same_target lex text at name h.tree g.tree h.number g.number h.target g.target in
-    let other = one_clash (occurrences h.tree) h.number name h.other g.other h.clashes (moved (λ os i. Clashes os i name g.other) h.tree g.tree h.number g.number s g.clashes) in
-    one_told (occurrences h.tree) g.other w w' (one_method h.tree) (subst (λ (i : ℕ). Shows (occurrences h.tree) i w) other h.told) (subst (λ (os : List Occurrence). Shows os g.other w') (sym s.names) g.told)
+    let other = one_clash (occurrences h.tree) h.number name h.other g.other h.clashes (at_same_target (λ os i. Clashes os i name g.other) h.tree g.tree h.number g.number s g.clashes) in
+    one_told (occurrences h.tree) g.other w w' (one_method h.tree) (subst (λ (i : ℕ). Shows (occurrences h.tree) i w) other h.reported) (subst (λ (os : List Occurrence). Shows os g.other w') (sym s.names) g.reported)
 
 -- ---- renamings
 
@@ -138,13 +138,13 @@ one_lost : (lex : Lexing) (text : List ℕ) (at : ℕ) (name : List ℕ) (p p' :
 one_lost lex text at name p p' x y x' y' h g =
     let s = same_target lex text at name h.tree g.tree h.number g.number h.target.target g.target.target in
     one_first_lost (occurrences h.tree) (declared Class 0 0 h.tree.name) h.target.target.target.variable.declaration h.number name h.asked g.asked p p' x y x' y' (ready text at name h.tree h.number h.target) (one_method h.tree)
-    h.asks (moved (λ os i. Asks os i name g.asked) h.tree g.tree h.number g.number s g.asks) h.first (subst (λ (os : List Occurrence). IsFirstLost os g.asked p' x' y') (sym s.names) g.first)
+    h.asks (at_same_target (λ os i. Asks os i name g.asked) h.tree g.tree h.number g.number s g.asks) h.first (subst (λ (os : List Occurrence). IsFirstLost os g.asked p' x' y') (sym s.names) g.first)
 
 lost_spliced : (lex : Lexing) (text : List ℕ) (at : ℕ) (name : List ℕ) (p : ℕ) (x y : Declaration) (new : List ℕ) → IsLost text at name p x y → IsSpliced text at name new → ⊥
 lost_spliced lex text at name p x y new h g =
     let s = same_target lex text at name h.tree g.tree h.number g.number h.target.target g.target.target in
     lost_not_renamed (occurrences h.tree) (declared Class 0 0 h.tree.name) h.target.target.target.variable.declaration h.number name h.asked (occurrences g.renamed.tree) h.first.number (ready text at name h.tree h.number h.target) h.asks
-    (moved (λ os i. Renames os i name (occurrences g.renamed.tree)) h.tree g.tree h.number g.number s g.renamed.renames) h.first.lost
+    (at_same_target (λ os i. Renames os i name (occurrences g.renamed.tree)) h.tree g.tree h.number g.number s g.renamed.renames) h.first.lost
 
 one_spliced : (lex : Lexing) (text : List ℕ) (at : ℕ) (name new other : List ℕ) → IsSpliced text at name new → IsSpliced text at name other → new ≡ other
 one_spliced lex text at name new other h g =

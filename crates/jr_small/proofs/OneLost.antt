@@ -1,4 +1,4 @@
--- The first lost reference is told in one way, and where one is lost there is no renamed source.
+-- The first lost reference is reported in one way, and where one is lost there is no renamed source.
 use Rattle.std.proofs.Common.{◌≡◌, ℕ, List, Option, Some, None, refl, sym, ap, subst, ◌∙◌, arith, inl, inr}
 use Rattle.std.specs.Prelude.{slice_get, map}
 use Rattle.jr_small.specs.Source.{Name}
@@ -52,7 +52,7 @@ one_of_found all class target d name xs ys m n k s t i j x y r one h g em es v a
     let same : i ≡ j = one_found all class target d name m k s i j r first moved in
     one_told all j x y one (subst (λ (z : ℕ). Shows all z x) same a) b
 
--- ---- what is told
+-- ---- what is reported
 
 one_tells : (all : List Occurrence) (class target : Occurrence) (d : ℕ) (name : List ℕ) (xs ys : List Occurrence) (k : ℕ) (a b : Occurrence) (q : Option Name) (x y x' y' : Declaration) → IsReady all class target d name → OneMethod all
     → map plain xs ≡ map plain (asked_list all target d name) → map plain ys ≡ map plain (asked_list all target d name) → a.member ≡ b.member → a.name.text ≡ b.name.text
@@ -66,7 +66,7 @@ one_tells all class target d name xs ys k a b (Some q) x y x' y' r one h g em es
   one_of_found all class target d name xs ys a.member b.member k q.text q.text s.1.0 t.1.0 y y' r one h g em refl s.1.1 s.1.2 t.1.1 t.1.2,
 )
 
--- what is told of the first lost reference
+-- what is reported of the first lost reference
 pub record SameTold (at at' : ℕ) (x x' y y' : Declaration) : Type 0 where
   pub place : at ≡ at'
   pub declaration : x ≡ x'
@@ -85,9 +85,9 @@ one_first_lost all class target d name xs ys place place' x y x' y' r one a b s 
     let new : l.other ≡ t.new = same_at ys t.number l.other t.new l.stands t.asked_as in
     let member : s.new.member ≡ t.new.member = sym (member_of l.other s.new l.alike) ∙ ap (λ (o : Occurrence). o.member) new in
     let text : s.new.name.text ≡ t.new.name.text = sym (text_of l.other s.new l.alike) ∙ ap (λ (o : Occurrence). o.name.text) new in
-    let at_number = subst (λ (z : ℕ). TellsLost all xs z s.new s.reference.qualifier x y) number s.told in
+    let at_number = subst (λ (z : ℕ). TellsLost all xs z s.new s.reference.qualifier x y) number s.reported in
     let told = subst (λ (o : Occurrence). TellsLost all xs t.number s.new o.qualifier x y) reference at_number in
-    let both = one_tells all class target d name xs ys t.number s.new t.new t.reference.qualifier x y x' y' r one h g member text told t.told in
+    let both = one_tells all class target d name xs ys t.number s.new t.new t.reference.qualifier x y x' y' r one h g member text told t.reported in
     record { place = s.place_is ∙ ap reference_place reference ∙ sym t.place_is; declaration = both.0; found = both.1 }
 
 -- ---- names that are the same but for qualifiers and places

@@ -80,7 +80,7 @@ unbuilt text items i none = inr (inr (record {
   within = i.within;
   no_source = λ u r. none u (ap (pieces_of text) (sym (i.only r.reads.items r.reads.lexes)) ∙ r.reads.spelled) r.sound;
   start = refl;
-  told = refl;
+  reported = refl;
 }))
 
 pub unread : (text : List ℕ) (items : List Item) (found : Option (Vec raw.Occurrence Global)) → HasItems text items → found ≡ None → option_map (λ (v : Vec raw.Occurrence Global). all_of text v.items) found ≡ read (pieces_of text items) → HasSourceFault text 0 Unbuilt

@@ -11,7 +11,7 @@ use Rattle.jr_small.specs.declared.phases.Action.{Action}
 use Rattle.jr_small.specs.declared.occurrences.Occurrence.{Occurrence}
 use Rattle.jr_small.specs.Source.{Name}
 use Rattle.jr_small.specs.Token.{name_at, shaped_piece}
-use Rattle.jr_small.specs.Machine.{State, transition_of, acted, moved, step, qualified}
+use Rattle.jr_small.specs.Machine.{State, transition_of, after_action, after_transition, step, qualified}
 use Rattle.jr_small.specs.View.{occurrence_of, all_of}
 
 -- the last name becomes the qualifier of this one
@@ -23,7 +23,7 @@ qualified_of (p ∷ q ∷ os) o w text = ap (λ (xs : List _). occurrence_of tex
 -- the action of a token that is no word reads no name
 abbrev IsUnnamed : Option (Phase × Action) → Type 0
 IsUnnamed None = Unit {0}
-IsUnnamed (Some t) = (w v : Name) (s : State) → acted t.1 w s ≡ acted t.1 v s
+IsUnnamed (Some t) = (w v : Name) (s : State) → after_action t.1 w s ≡ after_action t.1 v s
 
 abbrev Unnamed : Phase → Shape → Type 0
 Unnamed p shape.Word = Unit {0}
@@ -74,21 +74,21 @@ unnamed phase.AtomEnd (shape.Fixed fixed.Plus) = λ w v s. refl
 unnamed phase.AtomEnd (shape.Fixed fixed.Semicolon) = λ w v s. refl
 unnamed _ _ = tt
 
-taken_unnamed : (s : State) (w v : Name) (t : Phase × Action) (o : Option (Phase × Action)) → o ≡ Some t → IsUnnamed o → moved s v t ≡ moved s w t
+taken_unnamed : (s : State) (w v : Name) (t : Phase × Action) (o : Option (Phase × Action)) → o ≡ Some t → IsUnnamed o → after_transition s v t ≡ after_transition s w t
 taken_unnamed s w v t None e h = absurd cc
 taken_unnamed s w v t (Some u) e h =
     let same : u ≡ t = cc in
-    let f : (a b : Name) (x : State) → acted t.1 a x ≡ acted t.1 b x = subst (λ (k : Phase × Action). (a b : Name) (x : State) → acted k.1 a x ≡ acted k.1 b x) same h in
+    let f : (a b : Name) (x : State) → after_action t.1 a x ≡ after_action t.1 b x = subst (λ (k : Phase × Action). (a b : Name) (x : State) → after_action k.1 a x ≡ after_action k.1 b x) same h in
     ap (λ (x : State). record x { phase = t.0 }) (f v w s)
 
-pub step_taken : (s : State) (text : List ℕ) (span : Span) (value : ℕ) (sh : Shape) (t : Phase × Action) → transition_of s.phase sh ≡ Some t → step s (shaped_piece text span value sh) ≡ Some (moved s (name_at text span) t)
-step_taken s text span value shape.Word t e = ap (option_and_then (λ (t : Phase × Action). Some (moved s (name_at text span) t))) e
+pub step_taken : (s : State) (text : List ℕ) (span : Span) (value : ℕ) (sh : Shape) (t : Phase × Action) → transition_of s.phase sh ≡ Some t → step s (shaped_piece text span value sh) ≡ Some (after_transition s (name_at text span) t)
+step_taken s text span value shape.Word t e = ap (option_and_then (λ (t : Phase × Action). Some (after_transition s (name_at text span) t))) e
 step_taken s text span value shape.Number t e =
-    ap (option_and_then (λ (t : Phase × Action). Some (moved s (record { at = 0; text = [] }) t))) e ∙ ap Some (taken_unnamed s (name_at text span) (record { at = 0; text = [] }) t _ e (unnamed s.phase shape.Number))
+    ap (option_and_then (λ (t : Phase × Action). Some (after_transition s (record { at = 0; text = [] }) t))) e ∙ ap Some (taken_unnamed s (name_at text span) (record { at = 0; text = [] }) t _ e (unnamed s.phase shape.Number))
 step_taken s text span value (shape.Fixed f) t e =
-    ap (option_and_then (λ (t : Phase × Action). Some (moved s (record { at = 0; text = [] }) t))) e ∙ ap Some (taken_unnamed s (name_at text span) (record { at = 0; text = [] }) t _ e (unnamed s.phase (shape.Fixed f)))
+    ap (option_and_then (λ (t : Phase × Action). Some (after_transition s (record { at = 0; text = [] }) t))) e ∙ ap Some (taken_unnamed s (name_at text span) (record { at = 0; text = [] }) t _ e (unnamed s.phase (shape.Fixed f)))
 
 pub step_refused : (s : State) (text : List ℕ) (span : Span) (value : ℕ) (sh : Shape) → transition_of s.phase sh ≡ None → step s (shaped_piece text span value sh) ≡ None
-step_refused s text span value shape.Word e = ap (option_and_then (λ (t : Phase × Action). Some (moved s (name_at text span) t))) e
-step_refused s text span value shape.Number e = ap (option_and_then (λ (t : Phase × Action). Some (moved s (record { at = 0; text = [] }) t))) e
-step_refused s text span value (shape.Fixed f) e = ap (option_and_then (λ (t : Phase × Action). Some (moved s (record { at = 0; text = [] }) t))) e
+step_refused s text span value shape.Word e = ap (option_and_then (λ (t : Phase × Action). Some (after_transition s (name_at text span) t))) e
+step_refused s text span value shape.Number e = ap (option_and_then (λ (t : Phase × Action). Some (after_transition s (record { at = 0; text = [] }) t))) e
+step_refused s text span value (shape.Fixed f) e = ap (option_and_then (λ (t : Phase × Action). Some (after_transition s (record { at = 0; text = [] }) t))) e

@@ -1,4 +1,4 @@
--- What a name means is a declaration, as `told` asks for.
+-- What a name means is a declaration, as `reported_declaration` asks for.
 use Rattle.std.proofs.Common.{◌≡◌, ℕ, ◌<◌, length, List, Option, Some, None, refl, inl, inr}
 use Rattle.std.specs.Prelude.{slice_get, IfSome}
 use Rattle.jr_small.specs.declared.occurrences.Role.TheVariants.{Class}

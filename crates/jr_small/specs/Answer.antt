@@ -1,5 +1,6 @@
--- What is answered to the wish that the parameter or local at a byte of a text gets a name.
-use Rattle.std.specs.Prelude.{◌≡◌, ◌≢◌, ℕ, ◌+◌, ◌<◌, ◌≤◌, List, [], ◌∷◌, ◌++◌, length, take, count_by, ◌&&◌, ◌==◌, slice_get, Option, Some, None, ◌⊎◌}
+-- What is answered to the request that the parameter or local at a byte of a text gets a name.
+use Rattle.std.specs.Prelude.{◌≡◌, ◌≢◌, ℕ, ◌+◌, ◌<◌, ◌≤◌, List, [], ◌∷◌, ◌++◌, length, take}
+use Rattle.std.specs.Prelude.{count_by, ◌&&◌, ◌==◌, slice_get, Option, Some, None, ◌⊎◌}
 use Rattle.std.specs.Str.{IsCharBoundary}
 use Rattle.jr_text.specs.Edits.{Entry}
 use Rattle.jr_text.specs.Splices.{splice}
@@ -26,7 +27,8 @@ use Rattle.jr_small.specs.Refusal.{Refusal, Declaration}
 
 -- ---- sources
 
--- the text reads as the tree: its tokens, blanks and comments left out, are those that the tree spells, each name where it stands
+-- the text reads as the tree: its tokens, blanks and comments left out, are those that the tree
+-- spells, each name where it stands
 pub record Reads (text : List ℕ) (u : Tree) : Type 0 where
   pub items : List Item
   pub lexes : Lexes text items
@@ -41,34 +43,39 @@ pub record ReadsSound (text : List ℕ) (u : Tree) : Type 0 where
 abbrev pub IsShallow : List ℕ → Type 0
 IsShallow text = (items : List Item) → Lexes text items → AreWithin items
 
--- ---- declarations as they are told
+-- ---- declarations as they are reported
 
 -- how many parameters and locals of the member are declared in front
 abbrev pub variables_before : List Occurrence → ℕ → ℕ → ℕ
 variables_before all m j = count_by (λ o. is_variable_role o.role && (o.member == m)) (take j all)
 
 -- occurrence j has this role and this name
-pub record HasName (all : List Occurrence) (j : ℕ) (P : Occurrence → Type 0) (text : List ℕ) : Type 0 where
+pub record HasName (all : List Occurrence) (j : ℕ) (P : Occurrence → Type 0)
+    (text : List ℕ) : Type 0 where
   pub occurrence : Occurrence
   pub stands : slice_get all j ≡ Some occurrence
   pub holds : P occurrence
   pub named : occurrence.name.text ≡ text
 
--- declaration j is told so
-pub record ShowsVariable (all : List Occurrence) (j : ℕ) (of method : List ℕ) (parameters number : ℕ) : Type 0 where
+-- declaration j is reported so
+pub record ShowsVariable (all : List Occurrence) (j : ℕ) (of method : List ℕ)
+    (parameters number : ℕ) : Type 0 where
   pub declaration : Occurrence
   pub stands : slice_get all j ≡ Some declaration
   pub variable : IsVariable declaration.role
   pub class : HasName all 0 (λ o. o.role ≡ Class) of
   pub method_at : ℕ
-  pub its_method : HasName all method_at (λ o. (o.role ≡ Method) × (o.member ≡ declaration.member)) method
+  pub its_method : HasName all method_at (λ o.
+      (o.role ≡ Method) × (o.member ≡ declaration.member)) method
   pub parameter_number : parameters ≡ parameter_count all declaration.member
   pub own_number : number ≡ variables_before all declaration.member j
 
 abbrev pub Shows : List Occurrence → ℕ → Declaration → Type 0
 Shows all j (refusal.class name) = HasName all j (λ o. o.role ≡ Class) name
-Shows all j (refusal.field of name) = HasName all 0 (λ o. o.role ≡ Class) of × HasName all j (λ o. o.role ≡ Field) name
-Shows all j (refusal.variable of method parameters number) = ShowsVariable all j of method parameters number
+Shows all j (refusal.field of name) =
+    HasName all 0 (λ o. o.role ≡ Class) of × HasName all j (λ o. o.role ≡ Field) name
+Shows all j (refusal.variable of method parameters number) =
+    ShowsVariable all j of method parameters number
 
 -- ---- what is wrong with a source
 
@@ -84,14 +91,14 @@ IsKindAt lexical.Memory place k = ⊥
 pub record HasLexicalFault (text : List ℕ) (place : ℕ) (k : SourceKind) : Type 0 where
   pub fault : LexFault
   pub first : IsFirstFault text fault
-  pub told : IsKindAt fault place k
+  pub reported : IsKindAt fault place k
 
 -- or else where it goes beyond the limits
 pub record IsTooDeep (text : List ℕ) (place : ℕ) (k : SourceKind) : Type 0 where
   pub items : List Item
   pub lexes : Lexes text items
   pub first : IsFirstBeyond items place
-  pub told : k ≡ kind.Deep
+  pub reported : k ≡ kind.Deep
 
 -- or else it is no sound small source
 pub record IsUnbuilt (text : List ℕ) (place : ℕ) (k : SourceKind) : Type 0 where
@@ -100,14 +107,15 @@ pub record IsUnbuilt (text : List ℕ) (place : ℕ) (k : SourceKind) : Type 0 w
   pub within : AreWithin items
   pub no_source : (u : Tree) → ReadsSound text u → ⊥
   pub start : place ≡ 0
-  pub told : k ≡ kind.Unbuilt
+  pub reported : k ≡ kind.Unbuilt
 
 abbrev pub HasSourceFault : List ℕ → ℕ → SourceKind → Type 0
-HasSourceFault text place k = HasLexicalFault text place k ⊎ (IsTooDeep text place k ⊎ IsUnbuilt text place k)
+HasSourceFault text place k =
+    HasLexicalFault text place k ⊎ (IsTooDeep text place k ⊎ IsUnbuilt text place k)
 
 -- ---- lost references
 
--- where the reference begins that is told
+-- where the reference begins that is reported
 abbrev pub reference_place : Occurrence → ℕ
 reference_place o = place_of o.qualifier
   where
@@ -115,15 +123,18 @@ reference_place o = place_of o.qualifier
     place_of None = o.name.at
     place_of (Some q) = q.at
 
--- the declaration of the reference that is told, and what its asked spelling finds. Behind a qualifier that means the
--- class no more, it is the class that is told.
-abbrev pub TellsLost : List Occurrence → List Occurrence → ℕ → Occurrence → Option Name → Declaration → Declaration → Type 0
+-- the declaration of the reference that is reported, and what its asked spelling finds. Behind a
+-- qualifier that means the class no more, it is the class that is reported.
+abbrev pub TellsLost : List Occurrence → List Occurrence → ℕ → Occurrence → Option Name
+    → Declaration → Declaration → Type 0
 TellsLost all asked k a None declaration found =
-    ((j : ℕ) × Binds all k j × Shows all j declaration) × ((f : ℕ) × FindsName asked a.member k a.name.text f × Shows all f found)
+    ((j : ℕ) × Binds all k j × Shows all j declaration)
+    × ((f : ℕ) × FindsName asked a.member k a.name.text f × Shows all f found)
 TellsLost all asked k a (Some q) declaration found =
     Shows all 0 declaration × ((f : ℕ) × FindsName asked a.member k q.text f × Shows all f found)
 
-pub record IsFirstLost (all asked : List Occurrence) (place : ℕ) (declaration found : Declaration) : Type 0 where
+pub record IsFirstLost (all asked : List Occurrence) (place : ℕ)
+    (declaration found : Declaration) : Type 0 where
   pub number : ℕ
   pub lost : Lost all asked number
   pub first : (k : ℕ) → Lost all asked k → number ≤ k
@@ -132,7 +143,7 @@ pub record IsFirstLost (all asked : List Occurrence) (place : ℕ) (declaration 
   pub place_is : place ≡ reference_place reference
   pub new : Occurrence
   pub asked_as : slice_get asked number ≡ Some new
-  pub told : TellsLost all asked number new reference.qualifier declaration found
+  pub reported : TellsLost all asked number new reference.qualifier declaration found
 
 -- ---- the renamed source
 
@@ -145,13 +156,16 @@ spelling_of o = spelled o.qualifier
     -- the class, a dot and the name
     spelled (Some q) = q.text ++ 46 ∷ o.name.text
 
--- One edit for each name that is spelled otherwise than before, in text order: the name's bytes are replaced. A name
--- behind a qualifier stays.
+-- One edit for each name that is spelled otherwise than before, in text order: the name's bytes are
+-- replaced. A name behind a qualifier stays.
 abbrev pub AreEditsOf : List Occurrence → List Occurrence → List Entry → Type 0
 AreEditsOf [] [] es = es ≡ []
 AreEditsOf (o ∷ os) (m ∷ ms) es =
     ((spelling_of o ≡ spelling_of m) × AreEditsOf os ms es)
-    ⊎ ((spelling_of o ≢ spelling_of m) × ((e : Entry) × (rest : List Entry) × (es ≡ e ∷ rest) × (e.span.from ≡ o.name.at) × (e.span.to ≡ o.name.at + length o.name.text) × (e.text ≡ spelling_of m) × AreEditsOf os ms rest))
+    ⊎ ((spelling_of o ≢ spelling_of m)
+    × ((e : Entry) × (rest : List Entry) × (es ≡ e ∷ rest) × (e.span.from ≡ o.name.at)
+    × (e.span.to ≡ o.name.at + length o.name.text) × (e.text ≡ spelling_of m)
+    × AreEditsOf os ms rest))
 AreEditsOf [] (m ∷ ms) es = ⊥
 AreEditsOf (o ∷ os) [] es = ⊥
 
@@ -197,9 +211,10 @@ pub record IsClash (text : List ℕ) (at : ℕ) (name : List ℕ) (with : Declar
   pub target : HasTarget text at name tree number
   pub other : ℕ
   pub clashes : Clashes (occurrences tree) number name other
-  pub told : Shows (occurrences tree) other with
+  pub reported : Shows (occurrences tree) other with
 
-pub record IsLost (text : List ℕ) (at : ℕ) (name : List ℕ) (place : ℕ) (declaration found : Declaration) : Type 0 where
+pub record IsLost (text : List ℕ) (at : ℕ) (name : List ℕ) (place : ℕ)
+    (declaration found : Declaration) : Type 0 where
   pub tree : Tree
   pub number : ℕ
   pub target : CanBeNamed text at name tree number
@@ -214,17 +229,23 @@ pub record IsSpliced (text : List ℕ) (at : ℕ) (name new : List ℕ) : Type 0
   pub target : CanBeNamed text at name tree number
   pub renamed : IsRenamed text tree number name new
 
--- the wish is refused so, since nothing that comes before it refuses it
+-- the request is refused so, since nothing that comes before it refuses it
 abbrev pub Refuses : List ℕ → ℕ → List ℕ → Refusal → Type 0
 Refuses text at name refusal.bad_place = (at ≤ length text) × IsCharBoundary text at → ⊥
-Refuses text at name refusal.bad_name = ((at ≤ length text) × IsCharBoundary text at) × (IsName name → ⊥)
-Refuses text at name (refusal.source_error place k) = IsAsked text at name × HasSourceFault text place k
-Refuses text at name refusal.bad_target = (u : Tree) × (IsAsked text at name × IsShallow text × ReadsSound text u) × ((d : ℕ) → IsTarget (occurrences u) at d → ⊥)
+Refuses text at name refusal.bad_name =
+    ((at ≤ length text) × IsCharBoundary text at) × (IsName name → ⊥)
+Refuses text at name (refusal.source_error place k) =
+    IsAsked text at name × HasSourceFault text place k
+Refuses text at name refusal.bad_target =
+    (u : Tree) × (IsAsked text at name × IsShallow text × ReadsSound text u)
+    × ((d : ℕ) → IsTarget (occurrences u) at d → ⊥)
 Refuses text at name (refusal.clash with) = IsClash text at name with
-Refuses text at name (refusal.lost_binding place declaration found) = IsLost text at name place declaration found
-Refuses text at name (refusal.too_long len) = (new : List ℕ) × IsSpliced text at name new × (text_limit < length new) × (len ≡ length new)
+Refuses text at name (refusal.lost_binding place declaration found) =
+    IsLost text at name place declaration found
+Refuses text at name (refusal.too_long len) =
+    (new : List ℕ) × IsSpliced text at name new × (text_limit < length new) × (len ≡ length new)
 
--- the wish is granted so
+-- the request is granted so
 pub record Grants (text : List ℕ) (at : ℕ) (name new : List ℕ) : Type 0 where
   pub spliced : IsSpliced text at name new
   pub within : length new ≤ text_limit

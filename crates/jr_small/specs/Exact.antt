@@ -1,5 +1,6 @@
 -- Which occurrence a table by name has: the last one that passes a test.
-use Rattle.std.specs.Prelude.{◌≡◌, ◌≤◌, ◌<◌, ◌⊎◌, slice_get, ℕ, ◌+◌, List, [], ◌∷◌, ◌++◌, Option, Some, None, Bool, true, false, ◌&&◌, if◌then◌else◌}
+use Rattle.std.specs.Prelude.{◌≡◌, ◌≤◌, ◌<◌, ◌⊎◌, slice_get, ℕ, ◌+◌, List, [], ◌∷◌, ◌++◌, Option}
+use Rattle.std.specs.Prelude.{Some, None, Bool, true, false, ◌&&◌, if◌then◌else◌}
 use Rattle.std.specs.Str.{bytes_eq}
 use Rattle.jr_small.specs.declared.occurrences.Role.{Role}
 use Rattle.jr_small.specs.declared.occurrences.Role.TheVariants.{Field, Parameter, Local, Reference}
@@ -39,21 +40,24 @@ is_variable text o = is_variable_role o.role && bytes_eq o.name.text text
 
 -- members are numbered in text order
 abbrev pub IsMonotone : List Occurrence → Type 0
-IsMonotone all = (i j : ℕ) (a b : Occurrence) → i ≤ j → slice_get all i ≡ Some a → slice_get all j ≡ Some b → a.member ≤ b.member
+IsMonotone all = (i j : ℕ) (a b : Occurrence) → i ≤ j → slice_get all i ≡ Some a
+    → slice_get all j ≡ Some b → a.member ≤ b.member
 
 -- the table has of each name the last occurrence that passes the test with it
 abbrev pub Records : (List ℕ → Occurrence → Bool) → List Occurrence → Table → Type 0
 Records test all t = (q : List ℕ) → found t q ≡ last_where (test q) all
 
 -- a pair with one of the occurrences in front
-pub record Pairs (P : Occurrence → Occurrence → Type 0) (front : List Occurrence) (o : Occurrence) : Type 0 where
+pub record Pairs (P : Occurrence → Occurrence → Type 0) (front : List Occurrence)
+    (o : Occurrence) : Type 0 where
   pub number : ℕ
   pub other : Occurrence
   pub stands : slice_get front number ≡ Some other
   pub pair : P other o
 
 -- whether one more was put into the table, and none of those in front pairs with it
-abbrev pub Added : (Occurrence → Occurrence → Type 0) → (List ℕ → Occurrence → Bool) → List Occurrence → Occurrence → Bool → Table → Type 0
+abbrev pub Added : (Occurrence → Occurrence → Type 0) → (List ℕ → Occurrence → Bool)
+    → List Occurrence → Occurrence → Bool → Table → Type 0
 Added P test front o true new = (Pairs P front o → ⊥) × Records test (front ++ o ∷ []) new
 Added P test front o false new = Pairs P front o
 
@@ -84,11 +88,15 @@ pub record IsQualifiedRef (o : Occurrence) (q : Name) : Type 0 where
 
 -- each of the first n occurrences that is a reference is well bound
 abbrev pub AreBound : List Occurrence → ℕ → Type 0
-AreBound all n = (k : ℕ) (o : Occurrence) → k < n → slice_get all k ≡ Some o → o.role ≡ Reference → IsWellBound all k
+AreBound all n = (k : ℕ) (o : Occurrence) → k < n → slice_get all k ≡ Some o → o.role ≡ Reference
+    → IsWellBound all k
 
--- whether occurrence o, which stands behind these, is a variable that none of them pairs with, or a well bound
--- reference, or neither; and the table with it
+-- whether occurrence o, which stands behind these, is a variable that none of them pairs with, or a
+-- well bound reference, or neither; and the table with it
 abbrev pub Checked : List Occurrence → ℕ → List Occurrence → Occurrence → Bool → Table → Type 0
 Checked all number front o true new =
-    Records is_variable (front ++ o ∷ []) new × (IsVariable o.role → Pairs SameVariable front o → ⊥) × (o.role ≡ Reference → IsWellBound all number)
-Checked all number front o false new = (IsVariable o.role × Pairs SameVariable front o) ⊎ ((o.role ≡ Reference) × (IsWellBound all number → ⊥))
+    Records is_variable (front ++ o ∷ []) new × (IsVariable o.role → Pairs SameVariable front o → ⊥)
+    × (o.role ≡ Reference → IsWellBound all number)
+Checked all number front o false new =
+    (IsVariable o.role × Pairs SameVariable front o)
+    ⊎ ((o.role ≡ Reference) × (IsWellBound all number → ⊥))

@@ -22,24 +22,36 @@ body_transition_of phase.Atom shape.Number = Some (phase.AtomEnd, action.Nothing
 body_transition_of phase.Atom shape.Word = Some (phase.AtomName, action.Refer)
 body_transition_of phase.AtomName (shape.Fixed fixed.Dot) = Some (phase.AtomField, action.Nothing)
 body_transition_of phase.AtomName (shape.Fixed fixed.Plus) = Some (phase.Atom, action.Nothing)
-body_transition_of phase.AtomName (shape.Fixed fixed.Semicolon) = Some (phase.Statements, action.EndStatement)
+body_transition_of phase.AtomName (shape.Fixed fixed.Semicolon) =
+    Some (phase.Statements, action.EndStatement)
 body_transition_of phase.AtomField shape.Word = Some (phase.AtomEnd, action.Qualify)
 body_transition_of phase.AtomEnd (shape.Fixed fixed.Plus) = Some (phase.Atom, action.Nothing)
-body_transition_of phase.AtomEnd (shape.Fixed fixed.Semicolon) = Some (phase.Statements, action.EndStatement)
+body_transition_of phase.AtomEnd (shape.Fixed fixed.Semicolon) =
+    Some (phase.Statements, action.EndStatement)
 body_transition_of _ _ = None
 
 abbrev pub method_transition_of : Phase → Shape → Option (Phase × Action)
-method_transition_of phase.OpenParameters (shape.Fixed fixed.OpenParen) = Some (phase.FirstParameter, action.Nothing)
-method_transition_of phase.FirstParameter (shape.Fixed fixed.Int) = Some (phase.ParameterName, action.Nothing)
-method_transition_of phase.FirstParameter (shape.Fixed fixed.CloseParen) = Some (phase.OpenBlock, action.Nothing)
-method_transition_of phase.ParameterName shape.Word = Some (phase.ParameterEnd, action.Declare role.Parameter)
-method_transition_of phase.ParameterEnd (shape.Fixed fixed.Comma) = Some (phase.NextParameter, action.Nothing)
-method_transition_of phase.ParameterEnd (shape.Fixed fixed.CloseParen) = Some (phase.OpenBlock, action.Nothing)
-method_transition_of phase.NextParameter (shape.Fixed fixed.Int) = Some (phase.ParameterName, action.Nothing)
-method_transition_of phase.OpenBlock (shape.Fixed fixed.OpenBrace) = Some (phase.Statements, action.Nothing)
-method_transition_of phase.Statements (shape.Fixed fixed.Int) = Some (phase.LocalName, action.Nothing)
+method_transition_of phase.OpenParameters (shape.Fixed fixed.OpenParen) =
+    Some (phase.FirstParameter, action.Nothing)
+method_transition_of phase.FirstParameter (shape.Fixed fixed.Int) =
+    Some (phase.ParameterName, action.Nothing)
+method_transition_of phase.FirstParameter (shape.Fixed fixed.CloseParen) =
+    Some (phase.OpenBlock, action.Nothing)
+method_transition_of phase.ParameterName shape.Word =
+    Some (phase.ParameterEnd, action.Declare role.Parameter)
+method_transition_of phase.ParameterEnd (shape.Fixed fixed.Comma) =
+    Some (phase.NextParameter, action.Nothing)
+method_transition_of phase.ParameterEnd (shape.Fixed fixed.CloseParen) =
+    Some (phase.OpenBlock, action.Nothing)
+method_transition_of phase.NextParameter (shape.Fixed fixed.Int) =
+    Some (phase.ParameterName, action.Nothing)
+method_transition_of phase.OpenBlock (shape.Fixed fixed.OpenBrace) =
+    Some (phase.Statements, action.Nothing)
+method_transition_of phase.Statements (shape.Fixed fixed.Int) =
+    Some (phase.LocalName, action.Nothing)
 method_transition_of phase.Statements shape.Word = Some (phase.Target, action.Refer)
-method_transition_of phase.Statements (shape.Fixed fixed.CloseBrace) = Some (phase.Members, action.EndMember)
+method_transition_of phase.Statements (shape.Fixed fixed.CloseBrace) =
+    Some (phase.Members, action.EndMember)
 method_transition_of p s = body_transition_of p s
 
 abbrev pub transition_of : Phase → Shape → Option (Phase × Action)
@@ -67,13 +79,17 @@ qualified [] w = []
 qualified (o ∷ []) w = record o { qualifier = Some o.name; name = w } ∷ []
 qualified (o ∷ p ∷ os) w = o ∷ qualified (p ∷ os) w
 
-abbrev pub acted : Action → Name → State → State
-acted action.Nothing w s = s
-acted (action.Declare role) w s = record s { occurrences = s.occurrences ++ declared role s.member s.statement w ∷ [] }
-acted action.Refer w s = record s { occurrences = s.occurrences ++ referred s.member s.statement (record { qualifier = None; name = w }) ∷ [] }
-acted action.Qualify w s = record s { occurrences = qualified s.occurrences w }
-acted action.EndMember w s = record s { member = s.member + 1; statement = 0 }
-acted action.EndStatement w s = record s { statement = s.statement + 1 }
+abbrev pub after_action : Action → Name → State → State
+after_action action.Nothing w s = s
+after_action (action.Declare role) w s =
+    record s { occurrences = s.occurrences ++ declared role s.member s.statement w ∷ [] }
+after_action action.Refer w s = record s {
+  occurrences = s.occurrences
+      ++ referred s.member s.statement (record { qualifier = None; name = w }) ∷ [];
+}
+after_action action.Qualify w s = record s { occurrences = qualified s.occurrences w }
+after_action action.EndMember w s = record s { member = s.member + 1; statement = 0 }
+after_action action.EndStatement w s = record s { statement = s.statement + 1 }
 
 abbrev pub shape_of : Piece → Shape
 shape_of (word w) = shape.Word
@@ -85,11 +101,12 @@ abbrev pub name_of : Piece → Name
 name_of (word w) = w
 name_of _ = record { at = 0; text = [] }
 
-abbrev pub moved : State → Name → Phase × Action → State
-moved s w t = record (acted t.1 w s) { phase = t.0 }
+abbrev pub after_transition : State → Name → Phase × Action → State
+after_transition s w t = record (after_action t.1 w s) { phase = t.0 }
 
 abbrev pub step : State → Piece → Option State
-step s p = option_and_then (λ (t : Phase × Action). Some (moved s (name_of p) t)) (transition_of s.phase (shape_of p))
+step s p = option_and_then (λ (t : Phase × Action).
+    Some (after_transition s (name_of p) t)) (transition_of s.phase (shape_of p))
 
 abbrev pub run : State → List Piece → Option State
 run s [] = Some s

@@ -1,14 +1,7 @@
 -- Which variable an occurrence declares or means.
-use Rattle.std.specs.Prelude.{◌≡◌, ℕ, List}
+use Rattle.std.specs.Prelude.{ℕ, List}
 use Rattle.jr_small.specs.Occurrence.{Occurrence}
-use Rattle.jr_small.specs.Binding.{IsVariable}
 use Rattle.jr_small.specs.Rename.{DeclaresVariable, StandsAt, IsOf}
-
--- it declares a parameter or local of the member with this name
-pub record IsVariableOf (o : Occurrence) (m : ℕ) (text : List ℕ) : Type 0 where
-  pub variable : IsVariable o.role
-  pub member : o.member ≡ m
-  pub named : o.name.text ≡ text
 
 -- occurrence k declares the variable d, or is bound to it
 pub record IsMeant (all : List Occurrence) (k d : ℕ) : Type 0 where

@@ -1,7 +1,8 @@
 -- The names of a source in text order, each with what it does there.
 use Rattle.std.specs.Prelude.{ℕ, ◌+◌, List, [], ◌∷◌, ◌++◌, Option, None, map}
 use Rattle.jr_small.specs.declared.occurrences.Role.{Role}
-use Rattle.jr_small.specs.declared.occurrences.Role.TheVariants.{Class, Field, Method, Parameter, Local, Reference}
+use Rattle.jr_small.specs.declared.occurrences.Role.TheVariants.{Class, Field, Method, Parameter}
+use Rattle.jr_small.specs.declared.occurrences.Role.TheVariants.{Local, Reference}
 use Rattle.jr_small.specs.Source as tree
 use Rattle.jr_small.specs.Spelling.{Tree}
 
@@ -19,7 +20,8 @@ abbrev pub declared : Role → ℕ → ℕ → tree.Name → Occurrence
 declared role m s w = record { role = role; qualifier = None; name = w; member = m; statement = s }
 
 abbrev pub referred : ℕ → ℕ → tree.Reference → Occurrence
-referred m s r = record { role = Reference; qualifier = r.qualifier; name = r.name; member = m; statement = s }
+referred m s r =
+    record { role = Reference; qualifier = r.qualifier; name = r.name; member = m; statement = s }
 
 abbrev pub in_atoms : ℕ → ℕ → List (tree.Atom tree.Reference) → List Occurrence
 in_atoms m s [] = []
@@ -40,7 +42,8 @@ in_body m s (x ∷ xs) = in_statement m s x ++ in_body m (s + 1) xs
 
 abbrev pub in_member : ℕ → tree.Member tree.Name tree.Reference → List Occurrence
 in_member m (tree.field w) = declared Field m 0 w ∷ []
-in_member m (tree.method w ps body) = declared Method m 0 w ∷ (map (declared Parameter m 0) ps ++ in_body m 0 body)
+in_member m (tree.method w ps body) =
+    declared Method m 0 w ∷ (map (declared Parameter m 0) ps ++ in_body m 0 body)
 
 -- the members from number m on
 abbrev pub in_members : ℕ → List (tree.Member tree.Name tree.Reference) → List Occurrence

@@ -19,17 +19,21 @@ ArePlaced text os = All (IsPlaced text) os
 -- The names stand in the text one behind the other, and all of them end by the place.
 pub record AreStanding (text : List ℕ) (os : List Occurrence) (at : ℕ) : Type 0 where
   pub placed : ArePlaced text os
-  pub ascending : (i j : ℕ) (a b : Occurrence) → i < j → slice_get os i ≡ Some a → slice_get os j ≡ Some b → a.name.to ≤ b.name.from
+  pub ascending : (i j : ℕ) (a b : Occurrence) → i < j → slice_get os i ≡ Some a
+      → slice_get os j ≡ Some b → a.name.to ≤ b.name.from
   pub ended : (i : ℕ) (a : Occurrence) → slice_get os i ≡ Some a → a.name.to ≤ at
 
 -- Items that stand in the text one behind the other, from the place on.
 abbrev pub AreItemsFrom : List ℕ → ℕ → List Item → Type 0
 AreItemsFrom text at [] = Unit {0}
-AreItemsFrom text at (item ∷ items) = (at ≤ item.span.from) × CanCut text item.span × AreItemsFrom text item.span.to items
+AreItemsFrom text at (item ∷ items) =
+    (at ≤ item.span.from) × CanCut text item.span × AreItemsFrom text item.span.to items
 
--- Where the old names stand and end by the place, and the span stands behind it, the new ones stand and end by its end.
+-- Where the old names stand and end by the place, and the span stands behind it, the new ones stand
+-- and end by its end.
 abbrev pub Stands : List ℕ → ℕ → Span → List Occurrence → List Occurrence → Type 0
-Stands text at span old new = AreStanding text old at → at ≤ span.from → CanCut text span → AreStanding text new span.to
+Stands text at span old new =
+    AreStanding text old at → at ≤ span.from → CanCut text span → AreStanding text new span.to
 
 -- the names stand in the text one behind the other
 abbrev pub Stand : List ℕ → List Occurrence → Type 0

@@ -8,14 +8,16 @@ use Rattle.jr_small.specs.View.{all_of}
 use Rattle.jr_small.specs.Answer.{HasTarget, CanBeNamed}
 
 -- these are the names of the text's source, in which the place means declaration d
-pub record Means (text : List ℕ) (at : ℕ) (name : List ℕ) (all : List Occurrence) (d : ℕ) : Type 0 where
+pub record Means (text : List ℕ) (at : ℕ) (name : List ℕ) (all : List Occurrence)
+    (d : ℕ) : Type 0 where
   pub tree : Tree
   pub names : pure.occurrences tree ≡ all_of text all
   pub stands : Stand text all
   pub target : HasTarget text at name tree d
 
 -- and d meets no other declaration
-pub record IsFree (text : List ℕ) (at : ℕ) (name : List ℕ) (all : List Occurrence) (d : ℕ) : Type 0 where
+pub record IsFree (text : List ℕ) (at : ℕ) (name : List ℕ) (all : List Occurrence)
+    (d : ℕ) : Type 0 where
   pub tree : Tree
   pub names : pure.occurrences tree ≡ all_of text all
   pub stands : Stand text all

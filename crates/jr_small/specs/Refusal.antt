@@ -23,7 +23,8 @@ pub data Refusal : Type 0 where
 abbrev pub declaration_of : raw_declaration.Declaration → Declaration
 declaration_of (shown_as.Class name) = class (string_bytes name)
 declaration_of (shown_as.Field of name) = field (string_bytes of) (string_bytes name)
-declaration_of (shown_as.Variable of method parameters number) = variable (string_bytes of) (string_bytes method) parameters number
+declaration_of (shown_as.Variable of method parameters number) =
+    variable (string_bytes of) (string_bytes method) parameters number
 
 abbrev pub refusal_of : raw_refusal.Refusal → Refusal
 refusal_of refused_as.BadPlace = bad_place
@@ -31,5 +32,6 @@ refusal_of refused_as.BadName = bad_name
 refusal_of (refused_as.SourceError at kind) = source_error at kind
 refusal_of refused_as.BadTarget = bad_target
 refusal_of (refused_as.Clash with) = clash (declaration_of with)
-refusal_of (refused_as.LostBinding at declaration found) = lost_binding at (declaration_of declaration) (declaration_of found)
+refusal_of (refused_as.LostBinding at declaration found) =
+    lost_binding at (declaration_of declaration) (declaration_of found)
 refusal_of (refused_as.TooLong len) = too_long len

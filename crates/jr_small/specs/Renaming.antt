@@ -1,6 +1,7 @@
--- Which names a renaming changes in a sound source, by tests on each occurrence alone. Occurrence d, the target, declares
--- the variable.
-use Rattle.std.specs.Prelude.{ℕ, ◌+◌, ◌==◌, ◌&&◌, ◌||◌, not, nat_lt, List, [], ◌∷◌, Option, Some, None, Bool, true, false, is_none, if◌then◌else◌, take, option_map}
+-- Which names a renaming changes in a sound source, by tests on each occurrence alone. Occurrence
+-- d, the target, declares the variable.
+use Rattle.std.specs.Prelude.{ℕ, ◌+◌, ◌==◌, ◌&&◌, ◌||◌, not, nat_lt, List, [], ◌∷◌, Option, Some}
+use Rattle.std.specs.Prelude.{None, Bool, true, false, is_none, if◌then◌else◌, take, option_map}
 use Rattle.std.specs.List.{list_any}
 use Rattle.std.specs.Str.{bytes_eq}
 use Rattle.jr_small.specs.declared.occurrences.Role.{Role}
@@ -19,7 +20,8 @@ is_behind target d k o = is_reference_role o.role && (o.member == target.member)
 
 -- such a reference without a qualifier, with this name
 abbrev pub is_plain_behind : Occurrence → ℕ → List ℕ → ℕ → Occurrence → Bool
-is_plain_behind target d text k o = is_behind target d k o && is_none o.qualifier && bytes_eq o.name.text text
+is_plain_behind target d text k o =
+    is_behind target d k o && is_none o.qualifier && bytes_eq o.name.text text
 
 -- the target itself, or a reference bound to it
 abbrev pub is_own_name : Occurrence → ℕ → ℕ → Occurrence → Bool
@@ -37,7 +39,8 @@ asked_at target d name k o = if is_own_name target d k o then with_text o name e
 -- a captured reference is spelled through the class
 abbrev pub renamed_at : Occurrence → ℕ → List ℕ → List ℕ → ℕ → Occurrence → Occurrence
 renamed_at target d name class k o =
-    if is_own_name target d k o then with_text o name else (if is_plain_behind target d name k o then with_qualifier o class else o)
+    if is_own_name target d k o then with_text o name
+    else (if is_plain_behind target d name k o then with_qualifier o class else o)
 
 -- the occurrences from number n on, each changed by its number
 abbrev pub changed_from : ℕ → (ℕ → Occurrence → Occurrence) → List Occurrence → List Occurrence
@@ -50,10 +53,13 @@ asked_list all target d name = changed_from 0 (asked_at target d name) all
 abbrev pub renamed_list : List Occurrence → Occurrence → ℕ → List ℕ → List ℕ → List Occurrence
 renamed_list all target d name class = changed_from 0 (renamed_at target d name class) all
 
--- the class can't be named at k once the target has the name: the target, a field, or another variable has its name there
+-- the class can't be named at k once the target has the name: the target, a field, or another
+-- variable has its name there
 abbrev pub is_class_obscured : List Occurrence → Occurrence → List ℕ → List ℕ → ℕ → Bool
 is_class_obscured all target name class k =
-    bytes_eq class name || list_any (is_field class) all || (not (bytes_eq target.name.text class) && list_any (λ o. is_variable class o && (o.member == target.member)) (take k all))
+    bytes_eq class name || list_any (is_field class) all
+    || (not (bytes_eq target.name.text class)
+    && list_any (λ o. is_variable class o && (o.member == target.member)) (take k all))
 
 -- reference k has no spelling left
 abbrev pub is_lost_at : List Occurrence → Occurrence → ℕ → List ℕ → List ℕ → ℕ → Occurrence → Bool
@@ -72,4 +78,10 @@ pub record Plain : Type 0 where
   pub statement : ℕ
 
 abbrev pub plain : Occurrence → Plain
-plain o = record { role = o.role; qualifier = option_map (λ (q : Name). q.text) o.qualifier; text = o.name.text; member = o.member; statement = o.statement }
+plain o = record {
+  role = o.role;
+  qualifier = option_map (λ (q : Name). q.text) o.qualifier;
+  text = o.name.text;
+  member = o.member;
+  statement = o.statement;
+}

@@ -1,5 +1,6 @@
--- Small sources as trees: a class of static fields and static methods. W is what stands for a declared name, R for a
--- reference, so that trees can be compared with and without the places of their names.
+-- Small sources as trees: a class of static fields and static methods. W is what stands for a
+-- declared name, R for a reference, so that trees can be compared with and without the places of
+-- their names.
 use Rattle.std.specs.Prelude.{ℕ, List, Option, map}
 
 -- a name, and its first byte in the text

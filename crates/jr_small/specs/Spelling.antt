@@ -2,7 +2,8 @@
 use Rattle.std.specs.Prelude.{List, [], ◌∷◌, ◌++◌, Option, Some, None}
 use Rattle.jr_small.specs.declared.tokens.Fixed.{Fixed}
 use Rattle.jr_small.specs.declared.tokens.Fixed.TheVariants as fixed
-use Rattle.jr_small.specs.Source.{Name, Reference, Atom, number, named, Sum, Statement, declares, assigns, Member, field, method, Source}
+use Rattle.jr_small.specs.Source.{Name, Reference, Atom, number, named, Sum, Statement, declares}
+use Rattle.jr_small.specs.Source.{assigns, Member, field, method, Source}
 use Rattle.jr_small.specs.Token as token
 
 -- a source as it is read, each name with its place
@@ -29,7 +30,8 @@ spell_more (a ∷ as') = mark fixed.Plus ∷ (spell_atom a ++ spell_more as')
 
 -- a value, and the `;` behind it
 abbrev pub spell_value : Sum Reference → List token.Piece
-spell_value s = mark fixed.Equals ∷ (spell_atom s.first ++ (spell_more s.more ++ (mark fixed.Semicolon ∷ [])))
+spell_value s =
+    mark fixed.Equals ∷ (spell_atom s.first ++ (spell_more s.more ++ (mark fixed.Semicolon ∷ [])))
 
 abbrev pub spell_statement : Statement Name Reference → List token.Piece
 spell_statement (declares w s) = mark fixed.Int ∷ token.word w ∷ spell_value s
@@ -48,14 +50,17 @@ spell_parameters [] = []
 spell_parameters (p ∷ ps) = mark fixed.Int ∷ token.word p ∷ spell_later ps
 
 abbrev pub spell_member : Member Name Reference → List token.Piece
-spell_member (field w) = mark fixed.Static ∷ mark fixed.Int ∷ token.word w ∷ mark fixed.Semicolon ∷ []
+spell_member (field w) = mark fixed.Static ∷ mark fixed.Int ∷ token.word w
+    ∷ mark fixed.Semicolon ∷ []
 spell_member (method w ps body) =
     mark fixed.Static ∷ mark fixed.Void ∷ token.word w ∷ mark fixed.OpenParen
-    ∷ (spell_parameters ps ++ (mark fixed.CloseParen ∷ mark fixed.OpenBrace ∷ (spell_body body ++ (mark fixed.CloseBrace ∷ []))))
+    ∷ (spell_parameters ps ++ (mark fixed.CloseParen ∷ mark fixed.OpenBrace
+    ∷ (spell_body body ++ (mark fixed.CloseBrace ∷ []))))
 
 abbrev pub spell_members : List (Member Name Reference) → List token.Piece
 spell_members [] = []
 spell_members (m ∷ ms) = spell_member m ++ spell_members ms
 
 abbrev pub spell : Tree → List token.Piece
-spell u = mark fixed.Class ∷ token.word u.name ∷ mark fixed.OpenBrace ∷ (spell_members u.members ++ (mark fixed.CloseBrace ∷ []))
+spell u = mark fixed.Class ∷ token.word u.name ∷ mark fixed.OpenBrace
+    ∷ (spell_members u.members ++ (mark fixed.CloseBrace ∷ []))

@@ -25,7 +25,8 @@ pub record HasMethod (all : List Occurrence) (m : ℕ) : Type 0 where
 
 -- parameters and locals are those of methods (JLS 8.4.1, 14.4)
 abbrev pub HasMethods : List Occurrence → Type 0
-HasMethods all = (k : ℕ) (o : Occurrence) → slice_get all k ≡ Some o → IsVariable o.role → HasMethod all o.member
+HasMethods all = (k : ℕ) (o : Occurrence) → slice_get all k ≡ Some o → IsVariable o.role
+    → HasMethod all o.member
 
 -- how many parameters and locals of the member these are
 abbrev pub variables_in : List Occurrence → ℕ → ℕ

@@ -10,4 +10,5 @@ found t q = get_by (λ k. bytes_eq q k.now) t.numbers
 
 -- new has this number under the name, and the others as they were
 abbrev pub PutsNumber : Table → List ℕ → ℕ → Table → Type 0
-PutsNumber old name number new = (q : List ℕ) → found new q ≡ (if bytes_eq name q then Some number else found old q)
+PutsNumber old name number new =
+    (q : List ℕ) → found new q ≡ (if bytes_eq name q then Some number else found old q)

@@ -7,13 +7,24 @@ use Rattle.jr_small.specs.Occurrence as pure
 use Rattle.jr_small.specs.Machine.{State}
 
 abbrev pub occurrence_of : List ℕ → Occurrence → pure.Occurrence
-occurrence_of text o = record { role = o.role; qualifier = option_map (name_at text) o.qualifier; name = name_at text o.name; member = o.member; statement = o.statement }
+occurrence_of text o = record {
+  role = o.role;
+  qualifier = option_map (name_at text) o.qualifier;
+  name = name_at text o.name;
+  member = o.member;
+  statement = o.statement;
+}
 
 abbrev pub all_of : List ℕ → List Occurrence → List pure.Occurrence
 all_of text os = map (occurrence_of text) os
 
 abbrev pub state_of : List ℕ → Reader → State
-state_of text r = record { phase = r.phase; member = r.member; statement = r.statement; occurrences = all_of text r.occurrences.items }
+state_of text r = record {
+  phase = r.phase;
+  member = r.member;
+  statement = r.statement;
+  occurrences = all_of text r.occurrences.items;
+}
 
 -- whether a step was taken, and the state after it
 abbrev pub Steps : Option State → Bool → State → Type 0

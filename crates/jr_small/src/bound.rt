@@ -1,9 +1,11 @@
-ghost use Rattle.std.specs.Prelude.{◌≡◌, ℕ, List, ◌↔◌, ◌<◌, length, take, slice_get, IsTrue, IfOk, IfSome};
+ghost use Rattle.std.specs.Prelude.{◌≡◌, ℕ, List, ◌↔◌, ◌<◌, length, take, slice_get, IsTrue, IfOk};
+ghost use Rattle.std.specs.Prelude.{IfSome};
 ghost use Rattle.jr_text.specs.Spans.{CanCut};
 ghost use Rattle.jr_small.specs.Placed.{ArePlaced};
 ghost use Rattle.jr_small.specs.Binding.{IsVariable};
 ghost use Rattle.jr_small.specs.Sound.{Together, SameVariable};
-ghost use Rattle.jr_small.specs.Exact.{is_field, is_variable, IsMonotone, Records, Added, IsOwn, IsWellBound, IsNameRef, IsQualifiedRef, AreBound, Checked};
+ghost use Rattle.jr_small.specs.Exact.{is_field, is_variable, IsMonotone, Records, Added, IsOwn};
+ghost use Rattle.jr_small.specs.Exact.{IsWellBound, IsNameRef, IsQualifiedRef, AreBound, Checked};
 ghost use Rattle.jr_small.specs.Token.{name_at};
 ghost use Rattle.jr_small.specs.View.{all_of};
 
@@ -24,7 +26,9 @@ fn put_variable<'a>(
     requires placed { ArePlaced text.now all.now }
     requires records { Records is_variable (all_of text.now (take number all.now)) variables.old }
     requires monotone { IsMonotone (all_of text.now all.now) }
-    ensures { IfOk result (λ new. IfSome (slice_get (all_of text.now all.now) number) (λ o. IsVariable o.role → Added SameVariable is_variable (all_of text.now (take number all.now)) o new variables.new)) }
+    ensures { IfOk result (λ new. IfSome (slice_get (all_of text.now all.now) number) (λ o.
+        IsVariable o.role → Added SameVariable is_variable (all_of text.now (take number all.now)) o
+        new variables.new)) }
 {
     let occurrence = &all[number];
     let name = part(text, occurrence.name);
@@ -59,7 +63,8 @@ fn is_name_bound(
     requires fields { Records is_field (all_of text.now all.now) fields.now }
     requires variables { Records is_variable (all_of text.now (take number all.now)) variables.now }
     requires monotone { IsMonotone (all_of text.now all.now) }
-    ensures { IfSome (slice_get (all_of text.now all.now) number) (λ o. IsNameRef o → (IsTrue result ↔ IsWellBound (all_of text.now all.now) number)) }
+    ensures { IfSome (slice_get (all_of text.now all.now) number) (λ o.
+        IsNameRef o → (IsTrue result ↔ IsWellBound (all_of text.now all.now) number)) }
 {
     let occurrence = &all[number];
     let name = part(text, occurrence.name);
@@ -84,7 +89,9 @@ fn is_field_of_class(
     requires fields { Records is_field (all_of text.now all.now) fields.now }
     requires variables { Records is_variable (all_of text.now (take number all.now)) variables.now }
     requires monotone { IsMonotone (all_of text.now all.now) }
-    ensures { IfSome (slice_get (all_of text.now all.now) number) (λ o. IsQualifiedRef o (name_at text.now qualifier) → (IsTrue result ↔ IsWellBound (all_of text.now all.now) number)) }
+    ensures { IfSome (slice_get (all_of text.now all.now) number) (λ o.
+        IsQualifiedRef o (name_at text.now qualifier)
+        → (IsTrue result ↔ IsWellBound (all_of text.now all.now) number)) }
 {
     let occurrence = &all[number];
     let class = part(text, qualifier);
@@ -108,7 +115,10 @@ fn check<'a>(
     requires fields { Records is_field (all_of text.now all.now) fields.now }
     requires variables { Records is_variable (all_of text.now (take number all.now)) variables.old }
     requires monotone { IsMonotone (all_of text.now all.now) }
-    ensures { IfOk result (λ fine. IfSome (slice_get (all_of text.now all.now) number) (λ o. Checked (all_of text.now all.now) number (all_of text.now (take number all.now)) o fine variables.new)) }
+    ensures { IfOk result (λ fine.
+        IfSome (slice_get (all_of text.now all.now) number) (λ o.
+        Checked (all_of text.now all.now) number (all_of text.now (take number all.now)) o fine
+        variables.new)) }
 {
     let occurrence = &all[number];
     match occurrence.role {
@@ -133,7 +143,9 @@ pub(crate) fn are_bound(
     requires placed { ArePlaced text.now all.now }
     requires fields { Records is_field (all_of text.now all.now) fields.now }
     requires monotone { IsMonotone (all_of text.now all.now) }
-    ensures { IfOk result (λ bound. IsTrue bound ↔ (Together (all_of text.now all.now) SameVariable × AreBound (all_of text.now all.now) (length all.now))) }
+    ensures { IfOk result (λ bound.
+        IsTrue bound ↔ (Together (all_of text.now all.now) SameVariable
+        × AreBound (all_of text.now all.now) (length all.now))) }
 {
     let mut variables = Table::new(alloc);
     for number in 0..all.len() {

@@ -1,11 +1,13 @@
-ghost use Rattle.std.specs.Prelude.{◌≡◌, ◌≢◌, ℕ, List, ◌∷◌, ◌++◌, ◌<◌, ◌≤◌, length, None, slice_get, option_map, IfOk, OnOk, IfSome};
+ghost use Rattle.std.specs.Prelude.{◌≡◌, ◌≢◌, ℕ, List, ◌∷◌, ◌++◌, ◌<◌, ◌≤◌, length, None};
+ghost use Rattle.std.specs.Prelude.{slice_get, option_map, IfOk, OnOk, IfSome};
 ghost use Rattle.std.specs.List.{list_any};
 ghost use Rattle.std.specs.String.{string_bytes};
 ghost use Rattle.jr_text.specs.Edits.{next_entry, with_last, EndBy, FitsIn};
 ghost use Rattle.jr_small.specs.Placed.{IsPlaced, ArePlaced};
 ghost use Rattle.jr_small.specs.Exact.{is_field};
 ghost use Rattle.jr_small.specs.Renaming.{is_behind, is_plain_behind, is_own_name};
-ghost use Rattle.jr_small.specs.Changes.{lost_by, AreAscending, IsFirstLostOf, IsReplacementOf, AreRenamingEdits};
+ghost use Rattle.jr_small.specs.Changes.{lost_by, AreAscending, IsFirstLostOf, IsReplacementOf};
+ghost use Rattle.jr_small.specs.Changes.{AreRenamingEdits};
 ghost use Rattle.jr_small.specs.View.{occurrence_of, all_of};
 
 use crate::declared::part;
@@ -21,7 +23,9 @@ fn is_behind(
     number: usize,
     occurrence: &Occurrence,
 ) -> bool
-    ensures { (text : List ℕ) → result ≡ is_behind (occurrence_of text declaration.now) target number (occurrence_of text occurrence.now) }
+    ensures { (text : List ℕ) → result
+        ≡ is_behind (occurrence_of text declaration.now) target number
+        (occurrence_of text occurrence.now) }
 {
     match occurrence.role {
         Role::Reference => occurrence.member == declaration.member && target < number,
@@ -39,7 +43,8 @@ fn is_plain_behind(
     name: &str,
 ) -> bool
     requires { IsPlaced text.now occurrence.now }
-    ensures { result ≡ is_plain_behind (occurrence_of text.now declaration.now) target name.now number (occurrence_of text.now occurrence.now) }
+    ensures { result ≡ is_plain_behind (occurrence_of text.now declaration.now) target name.now
+        number (occurrence_of text.now occurrence.now) }
 {
     is_behind(declaration, target, number, occurrence)
         && occurrence.qualifier.is_none()
@@ -56,7 +61,8 @@ fn is_own_name(
 ) -> bool
     requires target { IsPlaced text.now declaration.now }
     requires occurrence { IsPlaced text.now occurrence.now }
-    ensures { result ≡ is_own_name (occurrence_of text.now declaration.now) target number (occurrence_of text.now occurrence.now) }
+    ensures { result ≡ is_own_name (occurrence_of text.now declaration.now) target number
+        (occurrence_of text.now occurrence.now) }
 {
     let name = part(text, declaration.name);
     number == target || is_plain_behind(text, declaration, target, number, occurrence, name)
@@ -76,7 +82,8 @@ fn is_field_named(text: &str, occurrence: &Occurrence, name: &str) -> bool
 /// Whether a reference has no spelling left, by whether the class is obscured where it stands.
 fn loses_spelling(text: &str, occurrence: &Occurrence, name: &str, obscured: bool) -> bool
     requires { IsPlaced text.now occurrence.now }
-    ensures { result ≡ lost_by (occurrence_of text.now occurrence.now).qualifier (occurrence_of text.now occurrence.now).name.text name.now obscured }
+    ensures { result ≡ lost_by (occurrence_of text.now occurrence.now).qualifier
+        (occurrence_of text.now occurrence.now).name.text name.now obscured }
 {
     match occurrence.qualifier {
         None => part(text, occurrence.name) == name && obscured,
@@ -97,8 +104,8 @@ fn has_field(text: &str, all: &[Occurrence], name: &str) -> bool
     false
 }
 
-/// The first reference without a spelling once the target has the name: one that means another declaration then, and
-/// can't be spelled through the class either.
+/// The first reference without a spelling once the target has the name: one that means another
+/// declaration then, and can't be spelled through the class either.
 pub(crate) fn first_lost(text: &str, all: &[Occurrence], target: usize, name: &str) -> Option<usize>
     requires within { target < length all.now }
     requires placed { ArePlaced text.now all.now }
@@ -144,7 +151,8 @@ fn replacement(
     requires target { target < length all.now }
     requires number { number < length all.now }
     requires placed { ArePlaced text.now all.now }
-    ensures { IfOk result (λ new. IsReplacementOf (all_of text.now all.now) target name.now number (option_map (λ s. string_bytes s) new)) }
+    ensures { IfOk result (λ new. IsReplacementOf (all_of text.now all.now) target name.now number
+        (option_map (λ s. string_bytes s) new)) }
 {
     let declaration = &all[target];
     let occurrence = &all[number];
@@ -184,7 +192,8 @@ pub(crate) fn edits_of(
     requires placed { ArePlaced text.now all.now }
     requires ascending { AreAscending all.now }
     requires plain { IfSome (slice_get (all_of text.now all.now) target) (λ t. t.qualifier ≡ None) }
-    requires new { IfSome (slice_get (all_of text.now all.now) target) (λ t. t.name.text ≢ name.now) }
+    requires new { IfSome (slice_get (all_of text.now all.now) target) (λ t.
+        t.name.text ≢ name.now) }
     ensures edits { IfOk result (AreRenamingEdits (all_of text.now all.now) target name.now) }
     ensures fits { IfOk result (FitsIn text.now) }
 {

@@ -35,7 +35,8 @@ fn count_variables(front: &[Occurrence], member: usize) -> usize
 fn method_name<'a>(text: &'a str, all: &[Occurrence], member: usize) -> &'a str
     requires placed { ArePlaced text.now all.now }
     requires method { HasMethod (all_of text.now all.now) member }
-    ensures { (i : ℕ) × HasName (all_of text.now all.now) i (λ o. (o.role ≡ Method) × (o.member ≡ member)) result.now }
+    ensures { (i : ℕ) × HasName (all_of text.now all.now) i (λ o.
+        (o.role ≡ Method) × (o.member ≡ member)) result.now }
 {
     for i in 0..all.len() {
         if all[i].role == Role::Method && all[i].member == member {
@@ -45,8 +46,8 @@ fn method_name<'a>(text: &'a str, all: &[Occurrence], member: usize) -> &'a str
     unreachable!()
 }
 
-/// The parameter or local as it is told.
-fn variable_told(
+/// The parameter or local as it is reported.
+fn reported_variable(
     alloc: Global,
     text: &str,
     all: &[Occurrence],
@@ -54,7 +55,8 @@ fn variable_told(
 ) -> Result<Declaration, AllocError>
     requires within { number < length all.now }
     requires placed { ArePlaced text.now all.now }
-    requires variable { IfSome (slice_get (all_of text.now all.now) number) (λ o. IsVariable o.role) }
+    requires variable { IfSome (slice_get (all_of text.now all.now) number) (λ o.
+        IsVariable o.role) }
     requires first { IfSome (slice_get (all_of text.now all.now) 0) (λ o. o.role ≡ Class) }
     requires methods { HasMethods (all_of text.now all.now) }
     ensures { IfOk result (λ d. Shows (all_of text.now all.now) number (declaration_of d)) }
@@ -68,8 +70,8 @@ fn variable_told(
     })
 }
 
-/// The declaration as it is told.
-pub(crate) fn told(
+/// The declaration as it is reported.
+pub(crate) fn reported_declaration(
     alloc: Global,
     text: &str,
     all: &[Occurrence],
@@ -77,7 +79,8 @@ pub(crate) fn told(
 ) -> Result<Declaration, AllocError>
     requires within { number < length all.now }
     requires placed { ArePlaced text.now all.now }
-    requires declaration { IfSome (slice_get (all_of text.now all.now) number) (λ o. IsDeclaration o.role) }
+    requires declaration { IfSome (slice_get (all_of text.now all.now) number) (λ o.
+        IsDeclaration o.role) }
     requires first { IfSome (slice_get (all_of text.now all.now) 0) (λ o. o.role ≡ Class) }
     requires methods { HasMethods (all_of text.now all.now) }
     ensures { IfOk result (λ d. Shows (all_of text.now all.now) number (declaration_of d)) }
@@ -92,6 +95,6 @@ pub(crate) fn told(
             class: String::from_str(alloc, part(text, all[0].name))?,
             name: String::from_str(alloc, part(text, declaration.name))?,
         }),
-        _ => variable_told(alloc, text, all, number),
+        _ => reported_variable(alloc, text, all, number),
     }
 }

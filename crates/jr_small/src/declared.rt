@@ -1,4 +1,5 @@
-ghost use Rattle.std.specs.Prelude.{◌≡◌, ℕ, List, ◌↔◌, ◌<◌, length, take, slice_get, IsTrue, IfOk, IfSome, OnSome, slice_range};
+ghost use Rattle.std.specs.Prelude.{◌≡◌, ℕ, List, ◌↔◌, ◌<◌, length, take, slice_get, IsTrue, IfOk};
+ghost use Rattle.std.specs.Prelude.{IfSome, OnSome, slice_range};
 ghost use Rattle.std.specs.Option.{MatchOption};
 ghost use Rattle.jr_text.specs.Spans.{CanCut};
 ghost use Rattle.jr_small.specs.Placed.{IsPlaced, ArePlaced};
@@ -28,7 +29,9 @@ fn put_field<'a>(
     number: usize,
 ) -> Result<bool, AllocError>
     requires { IsPlaced text.now occurrence.now }
-    ensures { IfOk result (λ new. (front : List _) → length front ≡ number → Records is_field front fields.old → Added SameField is_field front (occurrence_of text.now occurrence.now) new fields.new) }
+    ensures { IfOk result (λ new. (front : List _) → length front ≡ number
+        → Records is_field front fields.old
+        → Added SameField is_field front (occurrence_of text.now occurrence.now) new fields.new) }
 {
     match occurrence.role {
         Role::Field => {
@@ -46,7 +49,10 @@ pub(crate) fn fields_of<'a>(
     all: &[Occurrence],
 ) -> Result<Option<Table<'a>>, AllocError>
     requires { ArePlaced text.now all.now }
-    ensures { IfOk result (λ fields. MatchOption fields (Together (all_of text.now all.now) SameField → ⊥) (λ t. Together (all_of text.now all.now) SameField × Records is_field (all_of text.now all.now) t)) }
+    ensures { IfOk result (λ fields.
+        MatchOption fields (Together (all_of text.now all.now) SameField → ⊥) (λ t.
+        Together (all_of text.now all.now) SameField
+        × Records is_field (all_of text.now all.now) t)) }
 {
     let mut fields = Table::new(alloc);
     for (number, occurrence) in all.iter().enumerate() {
@@ -57,7 +63,8 @@ pub(crate) fn fields_of<'a>(
     Ok(Some(fields))
 }
 
-/// The parameter or local that the name means at a place of a member, by the table of those in front of it.
+/// The parameter or local that the name means at a place of a member, by the table of those in
+/// front of it.
 pub(crate) fn variable_at(
     variables: &Table<'_>,
     text: &str,
@@ -70,7 +77,8 @@ pub(crate) fn variable_at(
     requires within { number < length all.now }
     requires records { Records is_variable (all_of text.now (take number all.now)) variables.now }
     requires monotone { IsMonotone (all_of text.now all.now) }
-    ensures { MatchOption result (NoneInScope (all_of text.now all.now) member number name.now) (FindsVariable (all_of text.now all.now) member number name.now) }
+    ensures { MatchOption result (NoneInScope (all_of text.now all.now) member number name.now)
+        (FindsVariable (all_of text.now all.now) member number name.now) }
 {
     let Some(declared) = variables.find(name) else {
         return None;

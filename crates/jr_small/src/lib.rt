@@ -1,5 +1,5 @@
-//! Small sources: one class of static `int` fields and static `void` methods without nesting. They are read, checked
-//! and bound here, and one of their locals is renamed.
+//! Small sources: one class of static `int` fields and static `void` methods without nesting. They
+//! are read, checked and bound here, and one of their locals is renamed.
 #![tactic(auto)]
 
 mod bound;
@@ -22,7 +22,7 @@ mod targets;
 mod tests;
 mod tokens;
 
-pub use laws::wish_has_one_answer;
+pub use laws::request_has_one_answer;
 pub use occurrences::{Occurrence, Role};
 pub use plans::{Outcome, rename};
 pub use refusals::{Declaration, Refusal, SourceKind};

@@ -1,6 +1,7 @@
 ghost use Rattle.std.specs.Prelude.{◌≡◌, ℕ, List, ◌↔◌, IsTrue, IfOk, Contains};
 ghost use Rattle.jr_small.specs.Placed.{IsPlaced, ArePlaced};
-ghost use Rattle.jr_small.specs.Sound.{Together, SameMethod, IsObjects, NoObjectMethod, object_methods, prelude_names, parameter_count};
+ghost use Rattle.jr_small.specs.Sound.{Together, SameMethod, IsObjects, NoObjectMethod};
+ghost use Rattle.jr_small.specs.Sound.{object_methods, prelude_names, parameter_count};
 ghost use Rattle.jr_small.specs.Signature.{Counts, Knows, AddedMethod};
 ghost use Rattle.jr_small.specs.View.{occurrence_of, all_of};
 
@@ -18,7 +19,8 @@ pub(crate) fn count_parameters(all: &[Occurrence], member: usize) -> usize
         .count()
 }
 
-/// Puts the signature of a method among those of the methods in front of it; false where it is one of them.
+/// Puts the signature of a method among those of the methods in front of it; false where it is one
+/// of them.
 fn put_method<'a>(
     signatures: &mut Signatures<'a>,
     counts: &ParameterCounts,
@@ -26,7 +28,9 @@ fn put_method<'a>(
     occurrence: &Occurrence,
 ) -> Result<bool, AllocError>
     requires { IsPlaced text.now occurrence.now }
-    ensures { IfOk result (λ new. (all front : List _) → Counts all counts.now → Knows all front signatures.old → AddedMethod all front (occurrence_of text.now occurrence.now) new signatures.new) }
+    ensures { IfOk result (λ new. (all front : List _) → Counts all counts.now
+        → Knows all front signatures.old
+        → AddedMethod all front (occurrence_of text.now occurrence.now) new signatures.new) }
 {
     match occurrence.role {
         Role::Method => signatures.put(part(text, occurrence.name), counts.at(occurrence.member)),
@@ -41,7 +45,8 @@ pub(crate) fn methods_differ(
     all: &[Occurrence],
 ) -> Result<bool, AllocError>
     requires { ArePlaced text.now all.now }
-    ensures { IfOk result (λ differ. IsTrue differ ↔ Together (all_of text.now all.now) (SameMethod (all_of text.now all.now))) }
+    ensures { IfOk result (λ differ.
+        IsTrue differ ↔ Together (all_of text.now all.now) (SameMethod (all_of text.now all.now))) }
 {
     let counts = ParameterCounts::of(alloc, all)?;
     let mut signatures = Signatures::new(alloc);

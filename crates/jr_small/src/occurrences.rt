@@ -17,7 +17,8 @@ pub enum Role {
     Reference,
 }
 
-/// A name of a source, where it stands and what it does there. A reference with its qualifier is one occurrence.
+/// A name of a source, where it stands and what it does there. A reference with its qualifier is
+/// one occurrence.
 #[derive(Clone, Copy, PartialEq, Eq, Debug)]
 pub struct Occurrence {
     pub role: Role,

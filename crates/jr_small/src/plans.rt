@@ -9,7 +9,7 @@ ghost use Rattle.jr_small.specs.Readings.{AreNamesOf};
 ghost use Rattle.jr_small.specs.Plans.{Means, IsFree};
 
 use crate::changes::{edits_of, first_lost};
-use crate::declarations::told;
+use crate::declarations::reported_declaration;
 use crate::declared::part;
 use crate::occurrences::Occurrence;
 use crate::readings::{Reading, read};
@@ -19,7 +19,7 @@ use jr_lex::{is_identifier, words_may_be_replaced};
 use jr_text::{ApplyFault, Span, Text};
 use std::alloc::{AllocError, Global};
 
-/// What becomes of the wish to rename a local.
+/// What becomes of the request to rename a local.
 #[derive(Drop)]
 pub enum Outcome {
     /// The new text.
@@ -44,7 +44,7 @@ fn lost_refusal(
     ensures { IfOk result (λ r. Refuses text.now at name.now (refusal_of r)) }
 {
     let source = text.as_str();
-    let found = told(alloc, source, all, target)?;
+    let found = reported_declaration(alloc, source, all, target)?;
     let class = String::from_str(alloc, part(source, all[0].name))?;
     let reference = &all[lost];
     match reference.qualifier {
@@ -104,7 +104,7 @@ fn rename_in(
     };
     if let Some(other) = clash_of(source, all, target, name) {
         return Ok(Outcome::Refused(Refusal::Clash {
-            with: told(alloc, source, all, other)?,
+            with: reported_declaration(alloc, source, all, other)?,
         }));
     }
     match first_lost(source, all, target, name) {
@@ -113,11 +113,12 @@ fn rename_in(
     }
 }
 
-/// Gives the parameter or local that the identifier at the byte `at` declares or means the name, in a source of one
-/// class of static `int` fields and static `void` methods.
+/// Gives the parameter or local that the identifier at the byte `at` declares or means the name, in
+/// a source of one class of static `int` fields and static `void` methods.
 ///
-/// The declaration and each reference bound to it get the name. A reference to a field that the new name would capture
-/// is spelled through the class (JLS 6.4.1, 6.5.6). What is refused is told by the first refusal that applies.
+/// The declaration and each reference bound to it get the name. A reference to a field that the new
+/// name would capture is spelled through the class (JLS 6.4.1, 6.5.6). What is refused is reported
+/// by the first refusal that applies.
 pub fn rename(alloc: Global, text: &Text, at: u32, name: &str) -> Result<Outcome, AllocError>
     ensures answers { IfOk result (Answers text.now at name.now) }
 {

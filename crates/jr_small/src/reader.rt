@@ -23,11 +23,12 @@ pub(crate) struct Reader {
 }
 
 impl Reader {
-    ghost use Rattle.std.specs.Prelude.{◌≡◌, ℕ, ◌+◌, ◌^◌, ◌<◌, ◌≤◌, List, [], ◌∷◌, Some, None, IfOk, OnOk, IfSome, option_map, Vec};
+    ghost use Rattle.std.specs.Prelude.{◌≡◌, ℕ, ◌+◌, ◌^◌, ◌<◌, ◌≤◌, List, [], ◌∷◌, Some, None};
+    ghost use Rattle.std.specs.Prelude.{IfOk, OnOk, IfSome, option_map, Vec};
     ghost use Rattle.std.specs.Global.{Global};
     ghost use Rattle.jr_lex.specs.declared.items.Item.{Item};
     ghost use Rattle.jr_small.specs.Token.{name_at, shaped_piece, pieces_of};
-    ghost use Rattle.jr_small.specs.Machine.{start, acted, step, run, whole};
+    ghost use Rattle.jr_small.specs.Machine.{start, after_action, step, run, whole};
     ghost use Rattle.jr_small.specs.Placed.{Stands};
     ghost use Rattle.jr_small.specs.View.{all_of, state_of, Steps, Leads};
 
@@ -46,8 +47,11 @@ impl Reader {
     }
 
     fn add(&mut self, role: Role, name: Span) -> Result<(), AllocError>
-        ensures added { OnOk result ((text : List ℕ) → state_of text self.new ≡ acted (Action.Declare role) (name_at text name) (state_of text self.old)) }
-        ensures stands { OnOk result ((text : List ℕ) (at : ℕ) → Stands text at name self.old.occurrences.items self.new.occurrences.items) }
+        ensures added { OnOk result ((text : List ℕ)
+            → state_of text self.new ≡ after_action (Action.Declare role) (name_at text name)
+            (state_of text self.old)) }
+        ensures stands { OnOk result ((text : List ℕ) (at : ℕ)
+            → Stands text at name self.old.occurrences.items self.new.occurrences.items) }
         ensures members { self.new.member ≡ self.old.member }
         ensures statements { self.new.statement ≡ self.old.statement }
     {
@@ -63,8 +67,11 @@ impl Reader {
 
     /// Makes the last name the qualifier of this one.
     fn qualify(&mut self, name: Span) -> Result<(), AllocError>
-        ensures qualified { OnOk result ((text : List ℕ) → state_of text self.new ≡ acted Action.Qualify (name_at text name) (state_of text self.old)) }
-        ensures stands { OnOk result ((text : List ℕ) (at : ℕ) → Stands text at name self.old.occurrences.items self.new.occurrences.items) }
+        ensures qualified { OnOk result ((text : List ℕ)
+            → state_of text self.new ≡ after_action Action.Qualify (name_at text name)
+            (state_of text self.old)) }
+        ensures stands { OnOk result ((text : List ℕ) (at : ℕ)
+            → Stands text at name self.old.occurrences.items self.new.occurrences.items) }
         ensures members { self.new.member ≡ self.old.member }
         ensures statements { self.new.statement ≡ self.old.statement }
     {
@@ -81,8 +88,11 @@ impl Reader {
     fn act(&mut self, action: Action, name: Span) -> Result<(), AllocError>
         requires members { self.old.member < 2 ^ 63 }
         requires statements { self.old.statement < 2 ^ 63 }
-        ensures acted { OnOk result ((text : List ℕ) → state_of text self.new ≡ acted action (name_at text name) (state_of text self.old)) }
-        ensures stands { OnOk result ((text : List ℕ) (at : ℕ) → Stands text at name self.old.occurrences.items self.new.occurrences.items) }
+        ensures after_action { OnOk result ((text : List ℕ)
+            → state_of text self.new ≡ after_action action (name_at text name)
+            (state_of text self.old)) }
+        ensures stands { OnOk result ((text : List ℕ) (at : ℕ)
+            → Stands text at name self.old.occurrences.items self.new.occurrences.items) }
         ensures members { self.new.member ≤ self.old.member + 1 }
         ensures statements { self.new.statement ≤ self.old.statement + 1 }
     {
@@ -107,8 +117,12 @@ impl Reader {
     fn step(&mut self, shape: Shape, span: Span) -> Result<bool, AllocError>
         requires members { self.old.member < 2 ^ 63 }
         requires statements { self.old.statement < 2 ^ 63 }
-        ensures taken { IfOk result (λ taken. (text : List ℕ) (value : ℕ) → Steps (step (state_of text self.old) (shaped_piece text span value shape)) taken (state_of text self.new)) }
-        ensures stands { OnOk result ((text : List ℕ) (at : ℕ) → Stands text at span self.old.occurrences.items self.new.occurrences.items) }
+        ensures taken { IfOk result (λ taken.
+            (text : List ℕ) (value : ℕ) → Steps
+            (step (state_of text self.old) (shaped_piece text span value shape)) taken
+            (state_of text self.new)) }
+        ensures stands { OnOk result ((text : List ℕ) (at : ℕ)
+            → Stands text at span self.old.occurrences.items self.new.occurrences.items) }
         ensures members { self.new.member ≤ self.old.member + 1 }
         ensures statements { self.new.statement ≤ self.old.statement + 1 }
     {
@@ -126,8 +140,12 @@ impl Reader {
     fn take(&mut self, item: &Item) -> Result<bool, AllocError>
         requires members { self.old.member < 2 ^ 63 }
         requires statements { self.old.statement < 2 ^ 63 }
-        ensures taken { IfOk result (λ taken. (text : List ℕ) (rest : List Item) → Leads (run (state_of text self.old) (pieces_of text (item.now ∷ rest))) taken (run (state_of text self.new) (pieces_of text rest))) }
-        ensures stands { OnOk result ((text : List ℕ) (at : ℕ) → Stands text at item.now.span self.old.occurrences.items self.new.occurrences.items) }
+        ensures taken { IfOk result (λ taken.
+            (text : List ℕ) (rest : List Item)
+            → Leads (run (state_of text self.old) (pieces_of text (item.now
+            ∷ rest))) taken (run (state_of text self.new) (pieces_of text rest))) }
+        ensures stands { OnOk result ((text : List ℕ) (at : ℕ)
+            → Stands text at item.now.span self.old.occurrences.items self.new.occurrences.items) }
         ensures members { self.new.member ≤ self.old.member + 1 }
         ensures statements { self.new.statement ≤ self.old.statement + 1 }
     {
@@ -138,7 +156,9 @@ impl Reader {
     }
 
     fn finish(self) -> Option<Vec<Occurrence>>
-        ensures whole { (text : List ℕ) → option_map (λ (v : Vec Occurrence Global). all_of text v.items) result ≡ whole (state_of text self) }
+        ensures whole { (text : List ℕ)
+            → option_map (λ (v : Vec Occurrence Global). all_of text v.items) result
+            ≡ whole (state_of text self) }
         ensures names { IfSome result (λ v. v.items ≡ self.occurrences.items) }
     {
         match self.phase {
@@ -148,11 +168,15 @@ impl Reader {
     }
 }
 
-/// The names of the source that the items spell, in text order, or None where they spell no small source.
+/// The names of the source that the items spell, in text order, or None where they spell no small
+/// source.
 pub(crate) fn names_of(alloc: Global, items: &[Item]) -> Result<Option<Vec<Occurrence>>, AllocError>
     requires { length items.now < 2 ^ 63 }
-    ensures read { IfOk result (λ found. (text : List ℕ) → option_map (λ (v : Vec Occurrence Global). all_of text v.items) found ≡ read (pieces_of text items.now)) }
-    ensures stand { IfOk result (λ found. IfSome found (λ v. (text : List ℕ) → AreItemsFrom text 0 items.now → Stand text v.items)) }
+    ensures read { IfOk result (λ found.
+        (text : List ℕ) → option_map (λ (v : Vec Occurrence Global). all_of text v.items) found
+        ≡ read (pieces_of text items.now)) }
+    ensures stand { IfOk result (λ found.
+        IfSome found (λ v. (text : List ℕ) → AreItemsFrom text 0 items.now → Stand text v.items)) }
 {
     let mut reader = Reader::new(alloc);
     for item in items {

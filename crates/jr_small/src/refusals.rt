@@ -1,4 +1,4 @@
-/// What a name declares, by the names that it is told by.
+/// What a name declares, by the names that it is reported by.
 #[derive(Debug, Drop)]
 pub enum Declaration {
     /// The class of this name.
@@ -8,8 +8,8 @@ pub enum Declaration {
         class: String,
         name: String,
     },
-    /// The parameter or local of this number of a method with so many parameters, each of type `int`. Parameters come
-    /// first, then locals in text order, from 0.
+    /// The parameter or local of this number of a method with so many parameters, each of type
+    /// `int`. Parameters come first, then locals in text order, from 0.
     Variable {
         class: String,
         method: String,
@@ -44,13 +44,16 @@ pub enum Refusal {
         at: u32,
         kind: SourceKind,
     },
-    /// The identifier at the place is absent, or neither declares a parameter or local nor is bound to one.
+    /// The identifier at the place is absent, or neither declares a parameter or local nor is bound
+    /// to one.
     BadTarget,
-    /// The new name meets this declaration: the target itself, or another variable of its method (JLS 6.4).
+    /// The new name meets this declaration: the target itself, or another variable of its method
+    /// (JLS 6.4).
     Clash {
         with: Declaration,
     },
-    /// The reference at the byte `at` has no spelling that means its declaration; what it finds as asked.
+    /// The reference at the byte `at` has no spelling that means its declaration; what it finds as
+    /// asked.
     LostBinding {
         at: u32,
         declaration: Declaration,

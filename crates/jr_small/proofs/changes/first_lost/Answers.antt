@@ -36,7 +36,7 @@ loop-number-preserved c =
     ] in
     record {
       shadowed = sym (any_more (is_variable_of (at text all 0).name.text (at text all d).member) text all k c.loop-number.is_shadowed c.is_variable_of-is_shadowed.result c.loop-number-test.true (sym c.loop-number.invariant.shadowed)
-          (ap (λ w. is_variable_of w (at text all d).member (at text all k)) (sym c.part-class.ensures) ∙ sym c.is_variable_of-is_shadowed.ensures.exact));
+          (ap (λ w. is_variable_of w (at text all d).member (at text all k)) (sym c.part-class.ensures) ∙ sym c.is_variable_of-is_shadowed.ensures));
       none = below_more _ _ c.loop-number.invariant.none kept;
     }
 

@@ -17,11 +17,11 @@ use Rattle.jr_small.proofs.KeepFirst.{lost_declaration}
 use Rattle.jr_small.proofs.Assembly.{is_lost}
 use Rattle.jr_small.proofs.plans.lost_refusal.Goals as goal
 
-pub told-requires-clause-methods : goal.told-requires-clause-methods
-told-requires-clause-methods c =
+pub reported_declaration-requires-clause-methods : goal.reported_declaration-requires-clause-methods
+reported_declaration-requires-clause-methods c =
     subst (λ (text : List ℕ). HasMethods (all_of text c.args.all.now)) (sym c.as_str-source.ensures.whole) (subst HasMethods c.requires.free.names (has_methods c.requires.free.tree))
 
--- what is told of a reference, by its qualifier
+-- what is reported of a reference, by its qualifier
 abbrev Told : List ℕ → ℕ → List ℕ → Occurrence → List ℕ → Declaration → Option Span → Type 0
 Told text place name o class found q = IsLost text place name (reference_place (record o { qualifier = option_map (name_at text) q })) (lost_declaration (option_map (name_at text) q) class name) found
 

@@ -16,13 +16,13 @@ returns-in_default c =
 pub clash_of-requires-clause-within : goal.clash_of-requires-clause-within
 clash_of-requires-clause-within c = declares_within c.as_str-source.result.now c.args.all.now c.in-Some.target (variable_declares (all_of c.as_str-source.result.now c.args.all.now) c.in-Some.target c.in-Some.ensures.variable)
 
-pub told-requires-clause-within : goal.told-requires-clause-within
-told-requires-clause-within c =
+pub reported_declaration-requires-clause-within : goal.reported_declaration-requires-clause-within
+reported_declaration-requires-clause-within c =
     let source = c.as_str-source.result.now in
     declares_within source c.args.all.now c.in-Some-clash_of.other (met_declares (all_of source c.args.all.now) c.in-Some.target c.args.name.now c.in-Some-clash_of.other c.in-Some-clash_of.ensures.meets)
 
-pub told-requires-clause-methods : goal.told-requires-clause-methods
-told-requires-clause-methods c =
+pub reported_declaration-requires-clause-methods : goal.reported_declaration-requires-clause-methods
+reported_declaration-requires-clause-methods c =
     subst (λ (text : List ℕ). HasMethods (all_of text c.args.all.now)) (sym c.as_str-source.ensures.whole) (subst HasMethods c.requires.names.names (has_methods c.requires.names.tree))
 
 pub first_lost-requires-clause-within : goal.first_lost-requires-clause-within

@@ -1,5 +1,5 @@
 use Rattle.std.proofs.Common.{◌<◌, ℕ}
-use Rattle.jr_small.specs.Meant.{IsVariableOf}
+use Rattle.jr_small.proofs.Meant.{IsVariableOf}
 use Rattle.jr_small.proofs.Lookups.{at}
 use Rattle.jr_small.proofs.targets.clash_of.Given as goal
 

@@ -6,7 +6,7 @@ use Rattle.jr_small.specs.Answer.{HasName}
 use Rattle.jr_small.specs.Structure.{variables_in}
 use Rattle.jr_small.specs.View.{occurrence_of, all_of}
 use Rattle.jr_small.proofs.Lookups.{nobody, at, at_number, if_some_at}
-use Rattle.jr_small.proofs.declarations.variable_told.Goals as goal
+use Rattle.jr_small.proofs.declarations.reported_variable.Goals as goal
 
 pub returns : goal.returns
 returns c =

@@ -1,5 +1,5 @@
 use Rattle.jr_small.proofs.OneAnswer.{Lexing, one_grant, one_refusal, not_both}
-use Rattle.jr_small.proofs.laws.wish_has_one_answer.Goals as goal
+use Rattle.jr_small.proofs.laws.request_has_one_answer.Goals as goal
 
 pub returns : goal.returns
 returns c =
