@@ -1,6 +1,6 @@
 #!/usr/bin/env bash
-# How long reading a script and writing a report take, outside the gate: bench/scripts.sh, in a clone whose crates are
-# proved. It makes a program of its own in a copy of the repository, since no program of this one reads scripts alone.
+# How long reading a script and writing a report take, outside the gate: bench/scripts.sh, best where the crates
+# are proved already. It makes a program of its own in a copy of the repository, since no program of this one reads scripts alone.
 #
 # Scripts have 1,000 steps, a half and a quarter as many, with texts that make the longest nearly 1 MiB. Reports show lines
 # of 63 bytes, which come to 8 MiB, a half and a quarter of that.
@@ -8,7 +8,8 @@ set -eu
 top=$(cd "$(dirname "$0")/.." && pwd)
 work=$(mktemp -d)
 trap 'rm -rf "$work"' EXIT
-cp -r "$top/crates" "$top/crates.txt" "$top/HANDLES" "$work"
+tar -C "$top" -c --exclude=out crates crates.txt HANDLES | tar -C "$work" -x
+git init -q "$work"
 mkdir -p "$work/crates/script_times/src"
 echo "script_times: jr_script jr_names jr_ast" >> "$work/crates.txt"
 cat > "$work/crates/script_times/src/main.rt" <<'END'
