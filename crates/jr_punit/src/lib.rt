@@ -2,8 +2,6 @@
 #![tactic(auto)]
 
 mod laws;
-#[cfg(test)]
-mod printing_tests;
 
 pub use laws::{
     list_is_read, list_stop_is_exact, marked_reads_alike, marks_are_spans, member_is_longest,
