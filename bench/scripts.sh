@@ -1,6 +1,7 @@
 #!/usr/bin/env bash
-# How long reading a script and writing a report take, outside the gate: bench/scripts.sh, best where the crates
-# are proved already. It makes a program of its own in a copy of the repository, since no program of this one reads scripts alone.
+# How long reading a script and writing a report take, outside the gate: bench/scripts.sh, soonest where the crates are
+# proved already. It makes a program of its own in a copy of the repository, since no program of this one reads scripts
+# alone.
 #
 # Scripts have 1,000 steps, a half and a quarter as many, with texts that make the longest nearly 1 MiB. Reports show lines
 # of 63 bytes, which come to 8 MiB, a half and a quarter of that.
