@@ -8,8 +8,9 @@ work=$(mktemp -d)
 trap 'rm -rf "$work"' EXIT
 mkdir -p "$work/crates/times/src"
 for crate in jr_text jr_lex jr_ast jr_grammar jr_pexpr; do
-    cp -r "$top/crates/$crate" "$work/crates/$crate"
+    tar -C "$top" -c --exclude=out "crates/$crate" | tar -C "$work" -x
 done
+cp "$top/HANDLES" "$work"
 grep -E '^(jr_text|jr_lex|jr_ast|jr_grammar|jr_pexpr):' "$top/crates.txt" > "$work/crates.txt"
 echo 'times: jr_pexpr jr_lex jr_text anyhow' >> "$work/crates.txt"
 cp "$top/bench/expressions.program" "$work/crates/times/src/main.rt"

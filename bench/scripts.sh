@@ -1,14 +1,16 @@
 #!/usr/bin/env bash
-# How long reading a script and writing a report take, outside the gate: bench/scripts.sh, in a clone whose crates are
-# proved. It makes a program of its own in a copy of the repository, since no program of this one reads scripts alone.
+# How long reading a script and writing a report take, outside the gate: bench/scripts.sh, soonest where the crates are
+# proved already. It makes a program of its own in a copy of the repository, since no program of this one reads scripts
+# alone.
 #
-# Scripts have 1,000 edits, or half as many, with texts that make them nearly 1 MiB, or half as long. Reports show lines of
-# 63 bytes, which come to 8 MiB, or to half of that.
+# Scripts have 1,000 steps, a half and a quarter as many, with texts that make the longest nearly 1 MiB. Reports show lines
+# of 63 bytes, which come to 8 MiB, a half and a quarter of that.
 set -eu
 top=$(cd "$(dirname "$0")/.." && pwd)
 work=$(mktemp -d)
 trap 'rm -rf "$work"' EXIT
-cp -r "$top/crates" "$top/crates.txt" "$top/HANDLES" "$work"
+tar -C "$top" -c --exclude=out crates crates.txt HANDLES | tar -C "$work" -x
+git init -q "$work"
 mkdir -p "$work/crates/script_times/src"
 echo "script_times: jr_script jr_names jr_ast" >> "$work/crates.txt"
 cat > "$work/crates/script_times/src/main.rt" <<'END'
@@ -112,10 +114,11 @@ best() {
 }
 
 echo "a script of one step: $(best read 1 0) microseconds"
-echo "500 steps, $((499 * 1043 + 17)) bytes: $(best read 500 985) microseconds"
-echo "1000 steps, $((999 * 1043 + 17)) bytes: $(best read 1000 985) microseconds"
+for steps in 250 500 1000; do
+    echo "$steps steps, $(((steps - 1) * 1043 + 17)) bytes: $(best read $steps 985) microseconds"
+done
 echo "a report of one line: $(best write 1 63) microseconds"
-for lines in 63550 127100; do
+for lines in 31775 63550 127100; do
     spent=$(best write $lines 63)
     echo "$lines lines, a report of $(cat "$work/out.txt") bytes: $spent microseconds"
 done

@@ -38,14 +38,12 @@ fn fields_text(alloc: Global, files: &[Name], refusal: &Refusal) -> Result<Strin
         ≡ refusals.spaced (refusals.fields_of files.now (refusal_of refusal.now))) }
 {
     match refusal {
-        Refusal::NoSuchFile { name } => name_field(alloc, name),
+        Refusal::NoSuchFile { name } | Refusal::BadName { name } => name_field(alloc, name),
         Refusal::BadPlace { file, at } => at_field(alloc, file, *at),
-        Refusal::BadName { name } => name_field(alloc, name),
         Refusal::SourceError { file, at, kind } => source_fields(alloc, file, *at, kind),
         Refusal::BadTarget { at, need } => place_and_name(alloc, files, *at, need),
         Refusal::PreludeMethod { method } => name_field(alloc, method),
-        Refusal::Conditional { at } => place_field(alloc, files, *at),
-        Refusal::HasReturn { at } => place_field(alloc, files, *at),
+        Refusal::Conditional { at } | Refusal::HasReturn { at } => place_field(alloc, files, *at),
         Refusal::TwoResults { first, second } => two_locals(alloc, first, second),
         Refusal::ManyTargets { call, method } => place_and_method(alloc, files, *call, method),
         Refusal::MayBeNull { at } => place_field(alloc, files, *at),
@@ -65,10 +63,8 @@ fn fields_text(alloc: Global, files: &[Name], refusal: &Refusal) -> Result<Strin
             second,
         } => dependence_fields(alloc, files, *kind, first, second),
         Refusal::BadSpan { from, to } => two_numbers(alloc, *from, *to),
-        Refusal::TooLong { len } => number_field(alloc, *len),
-        Refusal::NothingToUndo => Ok(String::new(alloc)),
-        Refusal::NothingToRedo => Ok(String::new(alloc)),
-        Refusal::ReportFull { len } => number_field(alloc, *len),
+        Refusal::TooLong { len } | Refusal::ReportFull { len } => number_field(alloc, *len),
+        Refusal::NothingToUndo | Refusal::NothingToRedo => Ok(String::new(alloc)),
         Refusal::TooManySites { member, count } => member_and_number(alloc, member, *count),
     }
 }
