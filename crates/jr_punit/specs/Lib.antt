@@ -20,3 +20,5 @@ pub mod FrameView
 pub mod Blocks
 pub mod PlaceView
 pub mod ListView
+pub mod StatementView
+pub mod Slots
