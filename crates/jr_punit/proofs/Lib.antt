@@ -37,3 +37,4 @@ pub mod OneReading
 pub mod StatementMarks
 pub mod ListFrames
 pub mod Closers
+pub mod PartAnswers
