@@ -20,8 +20,8 @@ returns-then-is_type c =
     (ap (λ w. option_and_then (begin_local fs below w) (type_read s)) c.in_ok-name.ensures ∙ type_ends fs below s c.args.at c.args.text.now (sym c.is_type.ensures ∙ c.if-is_type.true))
     c.begin_local.ensures
 
-pub returns-else-is_type : goal.returns-else-is_type
-returns-else-is_type c =
+pub returns : goal.returns
+returns c =
     let fs = on c.args.place in
     let below = all c.args.place in
     over_part c.in_eval.result c.statement_step.result c.in_eval.ensures c.statement_step.ensures

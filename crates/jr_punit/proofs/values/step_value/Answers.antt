@@ -25,8 +25,8 @@ returns-then-ends c =
     (ap (closes slot) (sym c.cue_of.ensures) ∙ sym c.closes.ensures ∙ b.0) (sym c.is_whole.ensures ∙ b.1))
     c.finish_in.ensures
 
-pub returns-else-ends : goal.returns-else-ends
-returns-else-ends c =
+pub returns : goal.returns
+returns c =
     let slot = slot_view c.args.slot in
     let s = state_view c.args.state in
     let q : cue_of (token_view c.args.token) ≡ _ = sym c.cue_of.ensures in
