@@ -1,7 +1,7 @@
 -- What a token can't be where an expression is whole: a part of it.
-use Rattle.std.proofs.Common.{◌≡◌, ◌&&◌, Bool, true, false, List, [], ◌∷◌, ℕ, Option, Some, None, refl, sym, ap, subst, ◌∙◌}
+use Rattle.std.proofs.Common.{◌≡◌, ◌&&◌, Bool, true, false, List, [], ◌∷◌, ℕ, Option, Some, None, refl, sym, ap, ◌∙◌}
 use Rattle.std.specs.Prelude.{is_some, option_map, option_and_then}
-use Rattle.jr_lex.specs.declared.items.Symbol.TheVariants.{Semicolon, CloseParen}
+use Rattle.jr_lex.specs.declared.items.Symbol.TheVariants.{Semicolon}
 use Rattle.jr_text.specs.declared.spans.Span.{Span}
 use Rattle.jr_ast.specs.StatementTree.{Stmts}
 use Rattle.jr_ast.specs.Tree.{Exp, TypeName, name, field}

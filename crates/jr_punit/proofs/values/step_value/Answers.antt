@@ -1,17 +1,16 @@
-use Rattle.std.proofs.Common.{◌≡◌, ◌∙◌, ◌&&◌, Bool, true, false, Option, sym, ap, subst}
+use Rattle.std.proofs.Common.{◌≡◌, ◌∙◌, ◌&&◌, Bool, false, sym, ap, subst}
 use Rattle.std.specs.Prelude.{is_some, option_map}
 use Rattle.std.specs.Result.{IfOk}
 use Rattle.jr_pexpr.specs.Machine as E
 use Rattle.jr_pexpr.specs.Marked.{join}
 use Rattle.jr_pexpr.specs.StateView.{state_view}
 use Rattle.jr_pexpr.specs.TokenView.{token_view}
-use Rattle.jr_text.specs.declared.spans.Span.{Span}
-use Rattle.jr_punit.specs.Cues.{Cue, cue_of}
+use Rattle.jr_punit.specs.Cues.{cue_of}
 use Rattle.jr_punit.specs.FrameView.{slot_view}
 use Rattle.jr_punit.specs.ListView.{list_state}
 use Rattle.jr_punit.specs.PlaceView.{on, all}
 use Rattle.jr_punit.specs.Slots.{closes}
-use Rattle.jr_punit.specs.StatementMachine.{State, from_exp, in_exp}
+use Rattle.jr_punit.specs.StatementMachine.{in_exp}
 use Rattle.jr_punit.proofs.Closers.{value_ends, value_goes_on}
 use Rattle.jr_punit.proofs.PartAnswers.{over_part, both_true}
 use Rattle.jr_punit.proofs.values.step_value.Goals as goal
