@@ -34,3 +34,7 @@ pub mod MemberStands
 pub mod UnitStands
 pub mod ReadsMarked
 pub mod OneReading
+pub mod StatementMarks
+pub mod ListFrames
+pub mod Closers
+pub mod PartAnswers

@@ -14,3 +14,11 @@ pub mod StopPlaces
 pub mod Marked
 pub mod MarkedAlike
 pub mod OneReading
+pub mod CueView
+pub mod TypeStateView
+pub mod FrameView
+pub mod Blocks
+pub mod PlaceView
+pub mod ListView
+pub mod StatementView
+pub mod Slots

@@ -1,7 +1,20 @@
 //! Compilation units: how tokens are read as statements, members, classes and units.
 #![tactic(auto)]
 
+mod begin;
+mod behind;
+mod cues;
+mod ends;
+mod frames;
 mod laws;
+mod list_steps;
+mod lists;
+mod locals;
+mod made;
+mod places;
+mod statements;
+mod type_state;
+mod values;
 
 pub use laws::{
     list_is_read, list_stop_is_exact, marked_reads_alike, marks_are_spans, member_is_longest,
