@@ -1,10 +1,16 @@
 pub mod Cues
+pub mod CueView
+pub mod CueTests
 pub mod Inside
 pub mod TypeMachine
+pub mod TypeStateView
 pub mod ArgumentMachine
+pub mod ArgView
 pub mod ParameterMachine
+pub mod ParamView
 pub mod StatementMachine
 pub mod OwnMachine
+pub mod LeadView
 pub mod ClassMachine
 pub mod MemberMachine
 pub mod UnitMachine

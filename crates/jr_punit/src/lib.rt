@@ -1,7 +1,14 @@
 //! Compilation units: how tokens are read as statements, members, classes and units.
 #![tactic(auto)]
 
+mod args;
+mod cue_tests;
+mod cues;
 mod laws;
+mod leads;
+mod made;
+mod params;
+mod type_state;
 
 pub use laws::{
     list_is_read, list_stop_is_exact, marked_reads_alike, marks_are_spans, member_is_longest,
