@@ -9,8 +9,14 @@ pub mod ArgView
 pub mod ParameterMachine
 pub mod ParamView
 pub mod StatementMachine
+pub mod FrameView
+pub mod Blocks
+pub mod PlaceView
+pub mod ListView
 pub mod OwnMachine
 pub mod LeadView
+pub mod HeadView
+pub mod OwnView
 pub mod ClassMachine
 pub mod MemberMachine
 pub mod UnitMachine

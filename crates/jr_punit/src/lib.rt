@@ -4,10 +4,15 @@
 mod args;
 mod cue_tests;
 mod cues;
+mod frames;
+mod heads;
 mod laws;
 mod leads;
+mod lists;
 mod made;
+mod own;
 mod params;
+mod places;
 mod type_state;
 
 pub use laws::{
