@@ -1,6 +1,6 @@
--- Whether a token is one at which what stands before it ends.
+-- Whether a token is that one.
 use Rattle.std.specs.Prelude.{Bool, true, false}
-use Rattle.jr_punit.specs.Cues.{Cue, a_semicolon, a_comma, a_close, a_close_brace}
+use Rattle.jr_punit.specs.Cues.{Cue, a_semicolon, a_comma, an_open, a_close, a_close_brace, a_super}
 
 abbrev pub is_semicolon : Cue → Bool
 is_semicolon a_semicolon = true
@@ -17,3 +17,11 @@ is_close _ = false
 abbrev pub is_close_brace : Cue → Bool
 is_close_brace a_close_brace = true
 is_close_brace _ = false
+
+abbrev pub is_open : Cue → Bool
+is_open an_open = true
+is_open _ = false
+
+abbrev pub is_super : Cue → Bool
+is_super a_super = true
+is_super _ = false

@@ -1,4 +1,4 @@
-//! Whether a token is one at which what stands before it ends.
+//! Whether a token is that one.
 ghost use Rattle.std.specs.Prelude.{◌≡◌};
 ghost use Rattle.jr_pexpr.specs.TokenView.{token_view};
 ghost use Rattle.jr_punit.specs.Cues.{cue_of};
@@ -39,6 +39,24 @@ pub(crate) fn is_close_brace(token: Token<'_>) -> bool
 {
     match cue_of(token) {
         Cue::CloseBrace => true,
+        _ => false,
+    }
+}
+
+pub(crate) fn is_open(token: Token<'_>) -> bool
+    ensures { result ≡ pure.is_open (cue_of (token_view token.entry)) }
+{
+    match cue_of(token) {
+        Cue::Open => true,
+        _ => false,
+    }
+}
+
+pub(crate) fn is_super(token: Token<'_>) -> bool
+    ensures { result ≡ pure.is_super (cue_of (token_view token.entry)) }
+{
+    match cue_of(token) {
+        Cue::Super => true,
         _ => false,
     }
 }

@@ -1,17 +1,11 @@
 //! What stands before the parts of a member that are read by machines of their own.
-ghost use Rattle.std.specs.Prelude.{◌≡◌};
-ghost use Rattle.jr_ast.specs.View.{stmts_of, member_of};
-ghost use Rattle.jr_pexpr.specs.Marked.{join};
-ghost use Rattle.jr_punit.specs.OwnMachine as machine;
-ghost use Rattle.jr_punit.specs.HeadView.{body_view};
-
 use crate::leads::Lead;
 use jr_ast::{Expr, Ident, Member, Param, Stmt, TypeRef};
 use jr_text::Span;
 
 /// A field or method up to its name (JLS 8.3, 8.4).
 #[derive(Drop)]
-pub(crate) struct Declared {
+pub(crate) struct MemberHead {
     pub(crate) lead: Lead,
     /// No result is `void`.
     pub(crate) result: Option<TypeRef<Span>>,
@@ -20,14 +14,14 @@ pub(crate) struct Declared {
 
 /// A constructor up to its name (JLS 8.8).
 #[derive(Drop)]
-pub(crate) struct Begun {
+pub(crate) struct ConstructorHead {
     pub(crate) lead: Lead,
     pub(crate) name: Ident<Span>,
 }
 
 /// A field up to its `=` (JLS 8.3).
 #[derive(Drop)]
-pub(crate) struct Field {
+pub(crate) struct FieldHead {
     pub(crate) lead: Lead,
     pub(crate) ty: TypeRef<Span>,
     pub(crate) name: Ident<Span>,
@@ -44,14 +38,14 @@ pub(crate) struct Constructor {
 /// What stands before parameters.
 #[derive(Drop)]
 pub(crate) enum Head {
-    Method(Box<Declared>),
-    Constructor(Box<Begun>),
+    Method(Box<MemberHead>),
+    Constructor(Box<ConstructorHead>),
 }
 
 /// What stands before the statements of a body; of a constructor also the arguments of a written
 /// `super(..)`, if there is one.
 #[derive(Drop)]
 pub(crate) enum Body {
-    Method(Box<Declared>, Vec<Param<Span>>),
+    Method(Box<MemberHead>, Vec<Param<Span>>),
     Constructor(Box<Constructor>, Option<Vec<Expr<Span>>>),
 }

@@ -2,8 +2,12 @@
 #![tactic(auto)]
 
 mod args;
+mod beginnings;
+mod bodies;
+mod constructors;
 mod cue_tests;
 mod cues;
+mod fields;
 mod frames;
 mod heads;
 mod laws;

@@ -9,7 +9,12 @@ ghost use Rattle.jr_punit.specs.OwnMachine as machine;
 ghost use Rattle.jr_punit.specs.OwnView.{own_state, IsNextOwn, begun};
 
 use crate::args::ArgState;
-use crate::heads::{Body, Constructor, Declared, Field, Head};
+use crate::beginnings::{from_modified, from_type, from_voided};
+use crate::bodies::{from_body, from_headed, from_params};
+use crate::constructors::{behind_super, from_arguments, from_constructor, from_super};
+use crate::cues::cue_of;
+use crate::fields::{from_value, from_worded};
+use crate::heads::{Body, Constructor, FieldHead, Head, MemberHead};
 use crate::leads::Lead;
 use crate::lists::ListState;
 use crate::made::Made;
@@ -18,7 +23,7 @@ use crate::type_state::TypeState;
 use jr_ast::{Expr, Member, Modifier, Param};
 use jr_pexpr::{State, Token};
 use jr_text::Span;
-use std::alloc::{AllocError, Global};
+use std::alloc::Global;
 
 /// How far a member that is no class has been read.
 #[derive(Drop)]
@@ -30,9 +35,9 @@ pub(crate) enum OwnState {
     /// Behind `void`.
     Voided(Lead),
     /// Behind the name of a field or method.
-    Worded(Box<Declared>),
+    Worded(Box<MemberHead>),
     /// In the value of a field.
-    InValue(Box<Field>, State),
+    InValue(Box<FieldHead>, State),
     /// Between the parentheses.
     InParams(Head, ParamState),
     /// And behind them.
@@ -72,7 +77,21 @@ impl OwnState {
         ensures { IsNextOwn result
             (machine.step join name.now (own_state self) at (token_view token.entry)) }
     {
-        Err(AllocError)
+        match self {
+            OwnState::Modified(modifiers) => from_modified(alloc, modifiers, at, cue_of(token)),
+            OwnState::InType(lead, ty) => from_type(alloc, name, lead, ty, at, cue_of(token)),
+            OwnState::Voided(lead) => from_voided(alloc, lead, at, cue_of(token)),
+            OwnState::Worded(head) => from_worded(alloc, head, at, cue_of(token)),
+            OwnState::InValue(head, value) => from_value(alloc, head, value, at, token),
+            OwnState::InParams(head, ps) => from_params(alloc, head, ps, at, cue_of(token)),
+            OwnState::Headed(head, params) => from_headed(alloc, head, params, cue_of(token)),
+            OwnState::InConstructor(of) => from_constructor(alloc, of, at, token),
+            OwnState::AtSuper(of, start) => from_super(alloc, of, start, at, token),
+            OwnState::InSuper(of, args) => from_arguments(alloc, of, args, at, token),
+            OwnState::BehindSuper(of, args) => behind_super(alloc, of, args, cue_of(token)),
+            OwnState::InBody(body, items) => from_body(alloc, body, items, at, token),
+            OwnState::Done(_) => Ok(None),
+        }
     }
 
     /// Whether nothing has been read.
