@@ -35,3 +35,6 @@ pub mod MemberStands
 pub mod UnitStands
 pub mod ReadsMarked
 pub mod OneReading
+pub mod StatementMarks
+pub mod ListFrames
+pub mod Closers

@@ -26,3 +26,5 @@ pub mod StopPlaces
 pub mod Marked
 pub mod MarkedAlike
 pub mod OneReading
+pub mod StatementView
+pub mod Slots

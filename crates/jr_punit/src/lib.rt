@@ -2,22 +2,29 @@
 #![tactic(auto)]
 
 mod args;
+mod begin;
 mod beginnings;
+mod behind;
 mod bodies;
 mod constructors;
 mod cue_tests;
 mod cues;
+mod ends;
 mod fields;
 mod frames;
 mod heads;
 mod laws;
 mod leads;
+mod list_steps;
 mod lists;
+mod locals;
 mod made;
 mod own;
 mod params;
 mod places;
+mod statements;
 mod type_state;
+mod values;
 
 pub use laws::{
     list_is_read, list_stop_is_exact, marked_reads_alike, marks_are_spans, member_is_longest,
