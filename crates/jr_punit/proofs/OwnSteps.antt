@@ -1,18 +1,25 @@
 -- What is inside goes on, or is taken where it ends: what the code does at a token is the step of the machine.
-use Rattle.std.proofs.Common.{◌≡◌, ◌∙◌, ◌&&◌, Bool, true, false, List, [], ◌∷◌, Option, Some, None, refl, sym, ap}
-use Rattle.std.specs.Prelude.{is_some, option_map, option_and_then}
+use Rattle.std.proofs.Common.{◌≡◌, ◌∙◌, ◌&&◌, ◌||◌, ◌==◌, ◌++◌, ℕ, Bool, true, false, List, [], ◌∷◌, length, Option, Some, None, refl, sym, ap, arith}
+use Rattle.std.proofs.lemmas.Bool.{ne_eqb}
+use Rattle.std.specs.Prelude.{is_some, option_map, option_and_then, Bor}
 use Rattle.jr_text.specs.declared.spans.Span.{Span}
 use Rattle.jr_lex.specs.declared.items.Symbol.TheVariants.{CloseParen, CloseBrace, Semicolon, Comma}
+use Rattle.jr_ast.specs.declared.exprs.Expr.{Expr}
 use Rattle.jr_ast.specs.Tree.{Word, TypeName, Exp, Exps, end, more}
+use Rattle.jr_ast.specs.View.{expr_of, exprs_of}
 use Rattle.jr_ast.specs.StatementTree.{Stmts}
 use Rattle.jr_ast.specs.MemberTree.{Param}
 use Rattle.jr_grammar.specs.Tokens.{Token, symbol}
 use Rattle.jr_pexpr.specs.Machine as E
 use Rattle.jr_pexpr.specs.Machine.{begun, extended}
+use Rattle.jr_pexpr.specs.Stacks.{is_start}
 use Rattle.jr_pexpr.specs.Marked.{join}
 use Rattle.jr_pexpr.specs.declared.rules.Rule.TheVariants.{Expression}
 use Rattle.jr_pexpr.proofs.Walking.{halted}
 use Rattle.jr_punit.specs.Cues.{Cue, a_word, a_modifier, an_open, a_close, a_close_brace, a_semicolon, a_comma, a_super, cue_of, cue_token, at_semicolon}
+use Rattle.jr_punit.specs.declared.cues.Cue.{Cue as RustCue}
+use Rattle.jr_punit.specs.declared.cues.Cue.TheVariants as rust
+use Rattle.jr_punit.specs.CueView.{cue_view}
 use Rattle.jr_punit.specs.CueTests.{is_semicolon, is_comma, is_open, is_close, is_close_brace, is_super}
 use Rattle.jr_punit.specs.Inside.{inner}
 use Rattle.jr_punit.specs.TypeMachine as T
@@ -67,13 +74,35 @@ goes_on within taken n h = map_inner within n ∙ ap (λ t. inner within t n) (s
 pub taken_where : {S N : Type 0} (within : S → N) (taken : Option N) (n : Option S) → n ≡ None → taken ≡ inner within taken n
 taken_where within taken n h = ap (λ m. inner within taken m) (sym h)
 
-left_of : (a b : Bool) → a && b ≡ true → a ≡ true
+left_of : (a b : Bool) → (a && b) ≡ true → a ≡ true
 left_of true b h = refl
 left_of false b h = absurd cc
 
-right_of : (a b : Bool) → a && b ≡ true → b ≡ true
+right_of : (a b : Bool) → (a && b) ≡ true → b ≡ true
 right_of true b h = h
 right_of false b h = absurd cc
+
+-- where the code has left out some tokens
+
+abbrev pub is_word : Cue → Bool
+is_word (a_word w) = true
+is_word _ = false
+
+pub not_word : (q : RustCue) → ((w : Bor (List ℕ)) → q ≡ rust.Word w → ⊥) → is_word (cue_view q) ≡ false
+not_word (rust.Word w) n = absurd (n w refl)
+not_word _ n = refl
+
+pub not_open : (q : RustCue) → (q ≡ rust.Open → ⊥) → is_open (cue_view q) ≡ false
+not_open rust.Open n = absurd (n refl)
+not_open _ n = refl
+
+pub not_close : (q : RustCue) → (q ≡ rust.Close → ⊥) → is_close (cue_view q) ≡ false
+not_close rust.Close n = absurd (n refl)
+not_close _ n = refl
+
+-- two tests at once, as the machine has them
+pub both_are : {a b c d : Bool} → a ≡ c → b ≡ d → (c && d) ≡ (a && b)
+both_are {a} {b} {c} {d} h k = sym (ap (λ (x : Bool). x && b) h ∙ ap (λ (x : Bool). c && x) k)
 
 -- ---- the value of a field
 
@@ -100,20 +129,24 @@ module _ (l : M.Lead Span) (t : TypeName Span) (w : Word Span) (s : E.State Span
 
 -- ---- arguments
 
+pub exprs-append : (es : List (Expr Span)) (e : Expr Span) → exprs_of (es ++ e ∷ []) ≡ E.with_last (exprs_of es) (expr_of e)
+exprs-append [] e = refl
+exprs-append (d ∷ es) e = ap (more (expr_of d)) (exprs-append es e)
+
 module _ (es : Exps Span) (s : E.State Span) (at : Span) (k : Token) where
-  pub argument_ends : is_comma (cue_of k) && is_some (E.whole join s) ≡ true → option_and_then (A.next_argument es a_comma) (E.whole join s) ≡ A.step join (A.in_argument es s) at k
+  pub argument_ends : (is_comma (cue_of k) && is_some (E.whole join s)) ≡ true → option_and_then (A.next_argument es a_comma) (E.whole join s) ≡ A.step join (A.in_argument es s) at k
   argument_ends h =
       let c = comma_is (cue_of k) (left_of _ _ h) in
       taken_where (A.in_argument es) (option_and_then (A.next_argument es a_comma) (E.whole join s)) (E.step join s at k)
       (ap (E.step join s at) (token_is k a_comma c) ∙ halted Expression s at (symbol Comma) refl (right_of _ _ h))
       ∙ ap (λ (q : Cue). inner (A.in_argument es) (option_and_then (A.next_argument es q) (E.whole join s)) (E.step join s at k)) (sym c)
 
-  no_comma : (c : Cue) (o : Option (Exp Span)) → is_comma c && is_some o ≡ false → option_and_then (A.next_argument es c) o ≡ None
+  no_comma : (c : Cue) (o : Option (Exp Span)) → (is_comma c && is_some o) ≡ false → option_and_then (A.next_argument es c) o ≡ None
   no_comma c None h = refl
   no_comma a_comma (Some e) h = absurd cc
   no_comma _ (Some e) h = refl
 
-  pub argument_goes : is_comma (cue_of k) && is_some (E.whole join s) ≡ false → option_map (A.in_argument es) (E.step join s at k) ≡ A.step join (A.in_argument es s) at k
+  pub argument_goes : (is_comma (cue_of k) && is_some (E.whole join s)) ≡ false → option_map (A.in_argument es) (E.step join s at k) ≡ A.step join (A.in_argument es s) at k
   argument_goes h = goes_on (A.in_argument es) (option_and_then (A.next_argument es (cue_of k)) (E.whole join s)) (E.step join s at k) (no_comma (cue_of k) (E.whole join s) h)
 
 -- none at all don't go on with a closing parenthesis
@@ -139,19 +172,19 @@ no_arguments s at h =
     ∙ none_then (A.next_argument s.args a_close) (E.whole join s.last) (λ e. refl)
 
 module _ (of : M.Constructor Span) (s : A.State Span) (at : Span) (k : Token) where
-  pub arguments_end : is_close (cue_of k) && is_some (A.whole join s) ≡ true → option_and_then (M.arguments_closed of a_close) (A.whole join s) ≡ M.from_arguments join of s at k (cue_of k)
+  pub arguments_end : (is_close (cue_of k) && is_some (A.whole join s)) ≡ true → option_and_then (M.arguments_closed of a_close) (A.whole join s) ≡ M.from_arguments join of s at k (cue_of k)
   arguments_end h =
       let c = close_is (cue_of k) (left_of _ _ h) in
       taken_where (M.in_super of) (option_and_then (M.arguments_closed of a_close) (A.whole join s)) (A.step join s at k)
       (ap (A.step join s at) (token_is k a_close c) ∙ no_arguments s at (right_of _ _ h))
       ∙ ap (M.from_arguments join of s at k) (sym c)
 
-  not_closed : (c : Cue) (o : Option (Exps Span)) → is_close c && is_some o ≡ false → option_and_then (M.arguments_closed of c) o ≡ None
+  not_closed : (c : Cue) (o : Option (Exps Span)) → (is_close c && is_some o) ≡ false → option_and_then (M.arguments_closed of c) o ≡ None
   not_closed c None h = refl
   not_closed a_close (Some es) h = absurd cc
   not_closed _ (Some es) h = refl
 
-  pub arguments_go : is_close (cue_of k) && is_some (A.whole join s) ≡ false → option_map (M.in_super of) (A.step join s at k) ≡ M.from_arguments join of s at k (cue_of k)
+  pub arguments_go : (is_close (cue_of k) && is_some (A.whole join s)) ≡ false → option_map (M.in_super of) (A.step join s at k) ≡ M.from_arguments join of s at k (cue_of k)
   arguments_go h = goes_on (M.in_super of) (option_and_then (M.arguments_closed of (cue_of k)) (A.whole join s)) (A.step join s at k) (not_closed (cue_of k) (A.whole join s) h)
 
 -- ---- parameters
@@ -181,6 +214,23 @@ not_behind h _ (Some ps) k = refl
 pub params_go : (h : M.Head Span) (s : P.State Span) (at : Span) (c : Cue) → is_close c ≡ false → option_map (M.in_params h) (P.cue_step join s at c) ≡ M.from_params join h s at c
 params_go h s at c k = goes_on (M.in_params h) (option_and_then (M.behind_params h c) (P.whole s)) (P.cue_step join s at c) (not_behind h c (P.whole s) k)
 
+-- ---- types
+
+no_name : (ps : List (Param Span)) (m : Span) (f : Bool) (at : Span) (c : Cue) (t : TypeName Span) → is_word c ≡ false → P.named join ps m f at c t ≡ None
+no_name ps m f at (a_word w) t h = absurd cc
+no_name ps m f at _ t h = refl
+
+pub param_goes : (ps : List (Param Span)) (m : Span) (f : Bool) (s : T.State Span) (at : Span) (c : Cue) → is_word c ≡ false → option_map (P.in_type ps m f) (T.cue_step join s at c) ≡ P.from_type join ps m f s at c
+param_goes ps m f s at c h = goes_on (P.in_type ps m f) (option_and_then (P.named join ps m f at c) (T.whole s)) (T.cue_step join s at c) (none_then (P.named join ps m f at c) (T.whole s) (λ t. no_name ps m f at c t h))
+
+nothing_behind : (name : List ℕ) (l : M.Lead Span) (at : Span) (c : Cue) (t : TypeName Span) → is_word c ≡ false → is_open c ≡ false → M.behind_type name l at c t ≡ None
+nothing_behind name l at (a_word w) t h k = absurd cc
+nothing_behind name l at an_open t h k = absurd cc
+nothing_behind name l at _ t h k = refl
+
+pub type_goes : (name : List ℕ) (l : M.Lead Span) (s : T.State Span) (at : Span) (c : Cue) → is_word c ≡ false → is_open c ≡ false → option_map (M.in_type l) (T.cue_step join s at c) ≡ M.from_type join name l s at c
+type_goes name l s at c h k = goes_on (M.in_type l) (option_and_then (M.behind_type name l at c) (T.whole s)) (T.cue_step join s at c) (none_then (M.behind_type name l at c) (T.whole s) (λ t. nothing_behind name l at c t h k))
+
 -- ---- bodies
 
 no_place : (fs : List (S.Frame Span)) (all : Stmts Span) (at : Span) → is_some (S.whole_in fs all) ≡ true → S.from_ready join fs all at (symbol CloseBrace) a_close_brace ≡ None
@@ -195,19 +245,19 @@ no_list (S.done fs all d) at h = no_place (S.ended join fs all d).on (S.ended jo
 no_list _ at h = absurd cc
 
 module _ (b : M.Body Span) (s : S.State Span) (at : Span) (k : Token) where
-  pub body_ends : is_close_brace (cue_of k) && is_some (S.whole join s) ≡ true → option_and_then (M.body_closed join b at a_close_brace) (S.whole join s) ≡ M.from_body join b s at k (cue_of k)
+  pub body_ends : (is_close_brace (cue_of k) && is_some (S.whole join s)) ≡ true → option_and_then (M.body_closed join b at a_close_brace) (S.whole join s) ≡ M.from_body join b s at k (cue_of k)
   body_ends h =
       let c = close_brace_is (cue_of k) (left_of _ _ h) in
       taken_where (M.in_body b) (option_and_then (M.body_closed join b at a_close_brace) (S.whole join s)) (S.step join s at k)
       (ap (S.step join s at) (token_is k a_close_brace c) ∙ no_list s at (right_of _ _ h))
       ∙ ap (M.from_body join b s at k) (sym c)
 
-  no_brace : (c : Cue) (o : Option (Stmts Span)) → is_close_brace c && is_some o ≡ false → option_and_then (M.body_closed join b at c) o ≡ None
+  no_brace : (c : Cue) (o : Option (Stmts Span)) → (is_close_brace c && is_some o) ≡ false → option_and_then (M.body_closed join b at c) o ≡ None
   no_brace c None h = refl
   no_brace a_close_brace (Some ss) h = absurd cc
   no_brace _ (Some ss) h = refl
 
-  pub body_goes : is_close_brace (cue_of k) && is_some (S.whole join s) ≡ false → option_map (M.in_body b) (S.step join s at k) ≡ M.from_body join b s at k (cue_of k)
+  pub body_goes : (is_close_brace (cue_of k) && is_some (S.whole join s)) ≡ false → option_map (M.in_body b) (S.step join s at k) ≡ M.from_body join b s at k (cue_of k)
   body_goes h = goes_on (M.in_body b) (option_and_then (M.body_closed join b at (cue_of k)) (S.whole join s)) (S.step join s at k) (no_brace (cue_of k) (S.whole join s) h)
 
 -- ---- `super` first in a body
@@ -222,37 +272,40 @@ open_goes of m at k _ h = refl
 
 -- ---- whether arguments are whole
 
-no_list_whole : (s : E.State Span) (o : Option (Exp Span)) → is_some o || is_start s ≡ is_some (A.whole_first o s)
-no_list_whole s (Some e) = refl
-no_list_whole (E.want []) None = refl
-no_list_whole (E.want (f ∷ fs)) None = refl
-no_list_whole _ None = refl
+abbrev pub is_none : List (Expr Span) → Bool
+is_none [] = true
+is_none (e ∷ es) = false
 
-no_others : (e : Bool) → e || false ≡ e
-no_others true = refl
-no_others false = refl
+pub none_is : (es : List (Expr Span)) (n : ℕ) → n ≡ length es → (n == 0) ≡ is_none es
+none_is [] n h = ap (λ (k : ℕ). k == 0) h
+none_is (e ∷ es) n h = ne_eqb n 0 (λ k. absurd (omega arith))
 
-pub whole_where : (es : List (Expr Span)) (n : ℕ) (s : E.State Span) (o : Option (Exp Span)) → n ≡ length es → is_some o || (n == 0) && is_start s ≡ is_some (A.whole_behind (exprs_of es) o s)
-whole_where [] n s o h = rw h (no_list_whole s o)
-whole_where (e ∷ es) n s o h = rw h go o
-  where
-    go : (o : Option (Exp Span)) → is_some o || false ≡ is_some (option_map (E.with_last (more (expr_of e) (exprs_of es))) o)
-    go (Some d) = refl
-    go None = refl
+first_whole : (s : E.State Span) (o : Option (Exp Span)) → (is_some o || is_start s) ≡ is_some (A.whole_first o s)
+first_whole s (Some e) = refl
+first_whole (E.want []) None = refl
+first_whole (E.want (f ∷ fs)) None = refl
+first_whole _ None = refl
 
-pub last_where : (es : List (Expr Span)) (n : ℕ) (s : E.State Span) → n ≡ length es → (n == 0) && is_start s ≡ false → option_map (E.with_last (exprs_of es)) (E.whole join s) ≡ A.whole join (A.in_argument (exprs_of es) s)
-last_where [] n (E.want []) h k = absurd cc
-last_where [] n (E.want (f ∷ fs)) h k = refl
-last_where [] n (E.have fs e) h k = go (E.whole join (E.have fs e))
-  where
-    go : (o : Option (Exp Span)) → option_map (E.with_last end) o ≡ A.whole_first o (E.have fs e)
-    go (Some d) = refl
-    go None = refl
-last_where [] n _ h k = refl
-last_where (e ∷ es) n s h k = refl
+behind_whole : (es : Exps Span) (e : Exp Span) (s : E.State Span) (o : Option (Exp Span)) → (is_some o || false) ≡ is_some (A.whole_behind (more e es) o s)
+behind_whole es e s (Some d) = refl
+behind_whole es e s None = refl
 
-pub none_where : (es : List (Expr Span)) (n : ℕ) (s : E.State Span) → n ≡ length es → (n == 0) && is_start s ≡ true → Some (exprs_of es) ≡ A.whole join (A.in_argument (exprs_of es) s)
-none_where [] n (E.want []) h k = refl
-none_where [] n (E.want (f ∷ fs)) h k = absurd cc
-none_where [] n _ h k = absurd cc
-none_where (e ∷ es) n s h k = absurd cc
+pub whole_where : (es : List (Expr Span)) (s : E.State Span) (o : Option (Exp Span)) → (is_some o || (is_none es && is_start s)) ≡ is_some (A.whole_behind (exprs_of es) o s)
+whole_where [] s o = first_whole s o
+whole_where (e ∷ es) s o = behind_whole (exprs_of es) (expr_of e) s o
+
+first_last : (s : E.State Span) (o : Option (Exp Span)) → is_start s ≡ false → option_map (E.with_last end) o ≡ A.whole_first o s
+first_last s (Some e) h = refl
+first_last (E.want []) None h = absurd cc
+first_last (E.want (f ∷ fs)) None h = refl
+first_last _ None h = refl
+
+pub last_where : (es : List (Expr Span)) (s : E.State Span) → (is_none es && is_start s) ≡ false → option_map (E.with_last (exprs_of es)) (E.whole join s) ≡ A.whole join (A.in_argument (exprs_of es) s)
+last_where [] s h = first_last s (E.whole join s) h
+last_where (e ∷ es) s h = refl
+
+pub none_where : (es : List (Expr Span)) (s : E.State Span) → (is_none es && is_start s) ≡ true → Some (exprs_of es) ≡ A.whole join (A.in_argument (exprs_of es) s)
+none_where [] (E.want []) h = refl
+none_where [] (E.want (f ∷ fs)) h = absurd cc
+none_where [] _ h = absurd cc
+none_where (e ∷ es) s h = absurd cc

@@ -107,7 +107,8 @@ impl ArgState {
             (machine.step join (arg_state self) at (token_view token.entry)) }
     {
         let ArgState { args, last } = self;
-        if is_comma(token) & last.is_whole() {
+        let ends = is_comma(token) & last.is_whole();
+        if ends {
             return next_argument(alloc, args, last);
         }
         argument_goes_on(alloc, args, last, at, token)
@@ -125,7 +126,8 @@ impl ArgState {
         ensures { IfOk result (λ made. args_of made ≡ machine.whole join (arg_state self)) }
     {
         let ArgState { args, last } = self;
-        if args.is_empty() & last.is_start() {
+        let none = args.is_empty() & last.is_start();
+        if none {
             return Ok(Some(args));
         }
         finish_last(alloc, args, last)

@@ -208,7 +208,8 @@ pub(crate) fn from_body(
     ensures { IsNextOwn result (machine.from_body join (body_view body.value) (list_state items)
         at (token_view token.entry) (pure.cue_of (token_view token.entry))) }
 {
-    if is_close_brace(token) & items.is_whole() {
+    let ends = is_close_brace(token) & items.is_whole();
+    if ends {
         return end_body(alloc, body, items, at);
     }
     body_goes_on(alloc, body, items, at, token)

@@ -132,7 +132,8 @@ pub(crate) fn from_arguments(
     ensures { IsNextOwn result (machine.from_arguments join (constructor_view of.value)
         (arg_state args) at (token_view token.entry) (pure.cue_of (token_view token.entry))) }
 {
-    if is_close(token) & args.is_whole() {
+    let ends = is_close(token) & args.is_whole();
+    if ends {
         return end_arguments(alloc, of, args);
     }
     arguments_go_on(alloc, of, args, at, token)
