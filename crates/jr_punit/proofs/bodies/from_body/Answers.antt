@@ -17,8 +17,8 @@ returns-then-ends c =
     (body_ends (body_view c.args.body.value) (list_state c.args.items) c.args.at (token_view c.args.token) (both_are c.is_close_brace.ensures c.is_whole.ensures ∙ c.if-ends.true))
     c.end_body.ensures
 
-pub returns-else-ends : goal.returns-else-ends
-returns-else-ends c =
+pub returns : goal.returns
+returns c =
     subst (λ n. IsNextOwn c.body_goes_on.result n)
     (body_goes (body_view c.args.body.value) (list_state c.args.items) c.args.at (token_view c.args.token) (both_are c.is_close_brace.ensures c.is_whole.ensures ∙ c.if-ends.false))
     c.body_goes_on.ensures

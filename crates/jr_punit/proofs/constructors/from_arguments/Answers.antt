@@ -12,8 +12,8 @@ returns-then-ends c =
     (arguments_end (constructor_view c.args.of.value) (arg_state c.args.args) c.args.at (token_view c.args.token) (both_are c.is_close.ensures c.is_whole.ensures ∙ c.if-ends.true))
     c.end_arguments.ensures
 
-pub returns-else-ends : goal.returns-else-ends
-returns-else-ends c =
+pub returns : goal.returns
+returns c =
     subst (λ n. IsNextOwn c.arguments_go_on.result n)
     (arguments_go (constructor_view c.args.of.value) (arg_state c.args.args) c.args.at (token_view c.args.token) (both_are c.is_close.ensures c.is_whole.ensures ∙ c.if-ends.false))
     c.arguments_go_on.ensures

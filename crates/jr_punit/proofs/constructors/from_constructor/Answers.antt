@@ -13,8 +13,8 @@ returns-then-is_super c =
     let t = token_view c.args.token in
     sym (ap (from_constructor join (constructor_view c.args.of.value) c.args.at t) (super_is (cue_of t) (sym c.is_super.ensures ∙ c.if-is_super.true)))
 
-pub returns-else-is_super : goal.returns-else-is_super
-returns-else-is_super c =
+pub returns : goal.returns
+returns c =
     let t = token_view c.args.token in
     subst (λ n. IsNextOwn c.first_in_body.result n)
     (super_goes (constructor_view c.args.of.value) c.args.at t (cue_of t) (sym c.is_super.ensures ∙ c.if-is_super.false))

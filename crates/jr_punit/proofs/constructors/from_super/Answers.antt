@@ -14,8 +14,8 @@ returns-then-is_open c =
     ap (λ s. Some s) (ap (λ a. in_super (constructor_view c.args.of.value) a) c.new.ensures)
     ∙ sym (ap (from_super join (constructor_view c.args.of.value) c.args.start c.args.at t) (open_is (cue_of t) (sym c.is_open.ensures ∙ c.if-is_open.true)))
 
-pub returns-else-is_open : goal.returns-else-is_open
-returns-else-is_open c =
+pub returns : goal.returns
+returns c =
     let t = token_view c.args.token in
     subst (λ n. IsNextOwn c.second_in_body.result n)
     (open_goes (constructor_view c.args.of.value) c.args.start c.args.at t (cue_of t) (sym c.is_open.ensures ∙ c.if-is_open.false))

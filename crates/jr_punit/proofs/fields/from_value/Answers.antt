@@ -14,8 +14,8 @@ returns-then-is_semicolon c =
     (value_ends (lead_view h.lead) (type_of h.ty) (word_of h.name) (state_view c.args.value) c.args.at (token_view c.args.token) (sym c.is_semicolon.ensures ∙ c.if-is_semicolon.true))
     c.end_value.ensures
 
-pub returns-else-is_semicolon : goal.returns-else-is_semicolon
-returns-else-is_semicolon c =
+pub returns : goal.returns
+returns c =
     let h = c.args.head.value in
     subst (λ n. IsNextOwn c.value_goes_on.result n)
     (value_goes (lead_view h.lead) (type_of h.ty) (word_of h.name) (state_view c.args.value) c.args.at (token_view c.args.token) (sym c.is_semicolon.ensures ∙ c.if-is_semicolon.false))

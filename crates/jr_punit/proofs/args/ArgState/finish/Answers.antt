@@ -2,16 +2,11 @@ use Rattle.std.proofs.Common.{◌≡◌, ◌∙◌, subst}
 use Rattle.std.specs.Prelude.{IfOk}
 use Rattle.jr_ast.specs.View.{args_of}
 use Rattle.jr_pexpr.specs.StateView.{state_view}
-use Rattle.jr_punit.proofs.OwnSteps.{none_is, both_are, none_where, last_where}
+use Rattle.jr_punit.proofs.OwnSteps.{none_is, both_are, last_where}
 use Rattle.jr_punit.proofs.args.ArgState.finish.Goals as goal
 
-pub returns-then-none : goal.returns-then-none
-returns-then-none c =
-    let v = c.args.self.args in
-    none_where v.items (state_view c.args.self.last) (both_are (c.is_empty.ensures ∙ none_is v.items v.len v.ok.0) c.is_start.ensures ∙ c.if-none.true)
-
-pub returns-else-none : goal.returns-else-none
-returns-else-none c =
+pub returns : goal.returns
+returns c =
     let v = c.args.self.args in
     subst (λ n. IfOk c.finish_last.result (λ made. args_of made ≡ n))
     (last_where v.items (state_view c.args.self.last) (both_are (c.is_empty.ensures ∙ none_is v.items v.len v.ok.0) c.is_start.ensures ∙ c.if-none.false))

@@ -12,8 +12,8 @@ returns-then-ends c =
     (argument_ends (exprs_of c.args.self.args.items) (state_view c.args.self.last) c.args.at (token_view c.args.token) (both_are c.is_comma.ensures c.is_whole.ensures ∙ c.if-ends.true))
     c.next_argument.ensures
 
-pub returns-else-ends : goal.returns-else-ends
-returns-else-ends c =
+pub returns : goal.returns
+returns c =
     subst (λ n. IsNextArg c.argument_goes_on.result n)
     (argument_goes (exprs_of c.args.self.args.items) (state_view c.args.self.last) c.args.at (token_view c.args.token) (both_are c.is_comma.ensures c.is_whole.ensures ∙ c.if-ends.false))
     c.argument_goes_on.ensures
