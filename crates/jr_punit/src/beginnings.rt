@@ -1,5 +1,5 @@
 //! A member up to its name (JLS 8.3, 8.4, 8.8).
-ghost use Rattle.std.specs.Prelude.{◌≡◌, ◌∷◌, ◌++◌, [], Some, option_map};
+ghost use Rattle.std.specs.Prelude.{◌≡◌, ◌∷◌, ◌++◌, [], true, Some, option_map};
 ghost use Rattle.jr_ast.specs.View.{word_of, type_of};
 ghost use Rattle.jr_pexpr.specs.Marked.{join};
 ghost use Rattle.jr_pexpr.specs.Machine.{marked};
