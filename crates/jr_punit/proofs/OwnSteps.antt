@@ -1,14 +1,14 @@
 -- What is inside goes on, or is taken where it ends: what the code does at a token is the step of the machine.
-use Rattle.std.proofs.Common.{◌≡◌, ◌∙◌, ◌&&◌, ◌||◌, ◌==◌, ◌++◌, ℕ, Bool, true, false, List, [], ◌∷◌, length, Option, Some, None, refl, sym, ap, arith}
+use Rattle.std.proofs.Common.{◌≡◌, ◌∙◌, ◌&&◌, ◌||◌, ◌==◌, ◌++◌, ℕ, Bool, true, false, List, [], ◌∷◌, length, Bor, Option, Some, None, refl, sym, ap, arith}
 use Rattle.std.proofs.lemmas.Bool.{ne_eqb}
-use Rattle.std.specs.Prelude.{is_some, option_map, option_and_then, Bor}
+use Rattle.std.specs.Prelude.{is_some, option_map, option_and_then}
 use Rattle.jr_text.specs.declared.spans.Span.{Span}
 use Rattle.jr_lex.specs.declared.items.Symbol.TheVariants.{CloseParen, CloseBrace, Semicolon, Comma}
 use Rattle.jr_ast.specs.declared.exprs.Expr.{Expr}
 use Rattle.jr_ast.specs.Tree.{Word, TypeName, Exp, Exps, end, more}
 use Rattle.jr_ast.specs.View.{expr_of, exprs_of}
 use Rattle.jr_ast.specs.StatementTree.{Stmts}
-use Rattle.jr_ast.specs.MemberTree.{Param}
+use Rattle.jr_ast.specs.MemberTree.{Param, field}
 use Rattle.jr_grammar.specs.Tokens.{Token, symbol}
 use Rattle.jr_pexpr.specs.Machine as E
 use Rattle.jr_pexpr.specs.Machine.{begun, extended}
@@ -16,7 +16,7 @@ use Rattle.jr_pexpr.specs.Stacks.{is_start}
 use Rattle.jr_pexpr.specs.Marked.{join}
 use Rattle.jr_pexpr.specs.declared.rules.Rule.TheVariants.{Expression}
 use Rattle.jr_pexpr.proofs.Walking.{halted}
-use Rattle.jr_punit.specs.Cues.{Cue, a_word, a_modifier, an_open, a_close, a_close_brace, a_semicolon, a_comma, a_super, cue_of, cue_token, at_semicolon}
+use Rattle.jr_punit.specs.Cues.{Cue, a_word, an_open, a_close, a_close_brace, a_semicolon, a_comma, a_super, cue_of, cue_token, at_semicolon}
 use Rattle.jr_punit.specs.declared.cues.Cue.{Cue as RustCue}
 use Rattle.jr_punit.specs.declared.cues.Cue.TheVariants as rust
 use Rattle.jr_punit.specs.CueView.{cue_view}
@@ -101,8 +101,8 @@ not_close rust.Close n = absurd (n refl)
 not_close _ n = refl
 
 -- two tests at once, as the machine has them
-pub both_are : {a b c d : Bool} → a ≡ c → b ≡ d → (c && d) ≡ (a && b)
-both_are {a} {b} {c} {d} h k = sym (ap (λ (x : Bool). x && b) h ∙ ap (λ (x : Bool). c && x) k)
+pub both_are : (a b c d : Bool) → a ≡ c → b ≡ d → (c && d) ≡ (a && b)
+both_are a b c d h k = sym (ap (λ (x : Bool). x && b) h ∙ ap (λ (x : Bool). c && x) k)
 
 -- ---- the value of a field
 
@@ -125,7 +125,7 @@ module _ (l : M.Lead Span) (t : TypeName Span) (w : Word Span) (s : E.State Span
   pub value_goes : is_semicolon (cue_of k) ≡ false → option_map (M.in_value l t w) (E.step join s at k) ≡ M.from_value join l t w s at k (cue_of k)
   value_goes h =
       goes_on (M.in_value l t w) (option_and_then (M.field_with join l t w at (cue_of k)) (E.whole join s)) (E.step join s at k)
-      (none_then (M.field_with join l t w at (cue_of k)) (E.whole join s) (λ e. not_semicolon (cue_of k) _ h))
+      (none_then (M.field_with join l t w at (cue_of k)) (E.whole join s) (λ e. not_semicolon (cue_of k) (M.done (field (join l.start at) l.modifiers t w (Some e))) h))
 
 -- ---- arguments
 
@@ -136,9 +136,9 @@ exprs-append (d ∷ es) e = ap (more (expr_of d)) (exprs-append es e)
 module _ (es : Exps Span) (s : E.State Span) (at : Span) (k : Token) where
   pub argument_ends : (is_comma (cue_of k) && is_some (E.whole join s)) ≡ true → option_and_then (A.next_argument es a_comma) (E.whole join s) ≡ A.step join (A.in_argument es s) at k
   argument_ends h =
-      let c = comma_is (cue_of k) (left_of _ _ h) in
+      let c = comma_is (cue_of k) (left_of (is_comma (cue_of k)) (is_some (E.whole join s)) h) in
       taken_where (A.in_argument es) (option_and_then (A.next_argument es a_comma) (E.whole join s)) (E.step join s at k)
-      (ap (E.step join s at) (token_is k a_comma c) ∙ halted Expression s at (symbol Comma) refl (right_of _ _ h))
+      (ap (E.step join s at) (token_is k a_comma c) ∙ halted Expression s at (symbol Comma) refl (right_of (is_comma (cue_of k)) (is_some (E.whole join s)) h))
       ∙ ap (λ (q : Cue). inner (A.in_argument es) (option_and_then (A.next_argument es q) (E.whole join s)) (E.step join s at k)) (sym c)
 
   no_comma : (c : Cue) (o : Option (Exp Span)) → (is_comma c && is_some o) ≡ false → option_and_then (A.next_argument es c) o ≡ None
@@ -174,9 +174,9 @@ no_arguments s at h =
 module _ (of : M.Constructor Span) (s : A.State Span) (at : Span) (k : Token) where
   pub arguments_end : (is_close (cue_of k) && is_some (A.whole join s)) ≡ true → option_and_then (M.arguments_closed of a_close) (A.whole join s) ≡ M.from_arguments join of s at k (cue_of k)
   arguments_end h =
-      let c = close_is (cue_of k) (left_of _ _ h) in
+      let c = close_is (cue_of k) (left_of (is_close (cue_of k)) (is_some (A.whole join s)) h) in
       taken_where (M.in_super of) (option_and_then (M.arguments_closed of a_close) (A.whole join s)) (A.step join s at k)
-      (ap (A.step join s at) (token_is k a_close c) ∙ no_arguments s at (right_of _ _ h))
+      (ap (A.step join s at) (token_is k a_close c) ∙ no_arguments s at (right_of (is_close (cue_of k)) (is_some (A.whole join s)) h))
       ∙ ap (M.from_arguments join of s at k) (sym c)
 
   not_closed : (c : Cue) (o : Option (Exps Span)) → (is_close c && is_some o) ≡ false → option_and_then (M.arguments_closed of c) o ≡ None
@@ -247,9 +247,9 @@ no_list _ at h = absurd cc
 module _ (b : M.Body Span) (s : S.State Span) (at : Span) (k : Token) where
   pub body_ends : (is_close_brace (cue_of k) && is_some (S.whole join s)) ≡ true → option_and_then (M.body_closed join b at a_close_brace) (S.whole join s) ≡ M.from_body join b s at k (cue_of k)
   body_ends h =
-      let c = close_brace_is (cue_of k) (left_of _ _ h) in
+      let c = close_brace_is (cue_of k) (left_of (is_close_brace (cue_of k)) (is_some (S.whole join s)) h) in
       taken_where (M.in_body b) (option_and_then (M.body_closed join b at a_close_brace) (S.whole join s)) (S.step join s at k)
-      (ap (S.step join s at) (token_is k a_close_brace c) ∙ no_list s at (right_of _ _ h))
+      (ap (S.step join s at) (token_is k a_close_brace c) ∙ no_list s at (right_of (is_close_brace (cue_of k)) (is_some (S.whole join s)) h))
       ∙ ap (M.from_body join b s at k) (sym c)
 
   no_brace : (c : Cue) (o : Option (Stmts Span)) → (is_close_brace c && is_some o) ≡ false → option_and_then (M.body_closed join b at c) o ≡ None

@@ -14,11 +14,11 @@ use Rattle.jr_punit.proofs.bodies.from_body.Goals as goal
 pub returns-then-ends : goal.returns-then-ends
 returns-then-ends c =
     subst (λ n. IsNextOwn c.end_body.result n)
-    (body_ends (body_view c.args.body.value) (list_state c.args.items) c.args.at (token_view c.args.token) (both_are c.is_close_brace.ensures c.is_whole.ensures ∙ c.if-ends.true))
+    (body_ends (body_view c.args.body.value) (list_state c.args.items) c.args.at (token_view c.args.token) (both_are _ _ _ _ c.is_close_brace.ensures c.is_whole.ensures ∙ c.if-ends.true))
     c.end_body.ensures
 
 pub returns : goal.returns
 returns c =
     subst (λ n. IsNextOwn c.body_goes_on.result n)
-    (body_goes (body_view c.args.body.value) (list_state c.args.items) c.args.at (token_view c.args.token) (both_are c.is_close_brace.ensures c.is_whole.ensures ∙ c.if-ends.false))
+    (body_goes (body_view c.args.body.value) (list_state c.args.items) c.args.at (token_view c.args.token) (both_are _ _ _ _ c.is_close_brace.ensures c.is_whole.ensures ∙ c.if-ends.false))
     c.body_goes_on.ensures

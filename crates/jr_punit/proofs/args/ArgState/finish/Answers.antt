@@ -9,5 +9,5 @@ pub returns : goal.returns
 returns c =
     let v = c.args.self.args in
     subst (λ n. IfOk c.finish_last.result (λ made. args_of made ≡ n))
-    (last_where v.items (state_view c.args.self.last) (both_are (c.is_empty.ensures ∙ none_is v.items v.len v.ok.0) c.is_start.ensures ∙ c.if-none.false))
+    (last_where v.items (state_view c.args.self.last) (both_are _ _ _ _ (c.is_empty.ensures ∙ none_is v.items v.len v.ok.0) c.is_start.ensures ∙ c.if-none.false))
     c.finish_last.ensures

@@ -9,11 +9,11 @@ use Rattle.jr_punit.proofs.args.ArgState.step.Goals as goal
 pub returns-then-ends : goal.returns-then-ends
 returns-then-ends c =
     subst (λ n. IsNextArg c.next_argument.result n)
-    (argument_ends (exprs_of c.args.self.args.items) (state_view c.args.self.last) c.args.at (token_view c.args.token) (both_are c.is_comma.ensures c.is_whole.ensures ∙ c.if-ends.true))
+    (argument_ends (exprs_of c.args.self.args.items) (state_view c.args.self.last) c.args.at (token_view c.args.token) (both_are _ _ _ _ c.is_comma.ensures c.is_whole.ensures ∙ c.if-ends.true))
     c.next_argument.ensures
 
 pub returns : goal.returns
 returns c =
     subst (λ n. IsNextArg c.argument_goes_on.result n)
-    (argument_goes (exprs_of c.args.self.args.items) (state_view c.args.self.last) c.args.at (token_view c.args.token) (both_are c.is_comma.ensures c.is_whole.ensures ∙ c.if-ends.false))
+    (argument_goes (exprs_of c.args.self.args.items) (state_view c.args.self.last) c.args.at (token_view c.args.token) (both_are _ _ _ _ c.is_comma.ensures c.is_whole.ensures ∙ c.if-ends.false))
     c.argument_goes_on.ensures
