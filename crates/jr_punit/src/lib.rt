@@ -26,9 +26,6 @@ mod statements;
 mod type_state;
 mod values;
 
-#[cfg(test)]
-mod own_tests;
-
 pub use laws::{
     list_is_read, list_stop_is_exact, marked_reads_alike, marks_are_spans, member_is_longest,
     member_is_read, member_stop_is_exact, one_list, one_marked_tree, one_member, one_reading,
