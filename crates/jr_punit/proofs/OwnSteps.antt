@@ -11,11 +11,9 @@ use Rattle.jr_ast.specs.StatementTree.{Stmts}
 use Rattle.jr_ast.specs.MemberTree.{Param, field}
 use Rattle.jr_grammar.specs.Tokens.{Token, symbol}
 use Rattle.jr_pexpr.specs.Machine as E
-use Rattle.jr_pexpr.specs.Machine.{begun, extended}
+use Rattle.jr_pexpr.specs.Machine.{begun, extended, have, closed, continued, reduced, whole_of}
 use Rattle.jr_pexpr.specs.Stacks.{is_start}
 use Rattle.jr_pexpr.specs.Marked.{join}
-use Rattle.jr_pexpr.specs.declared.rules.Rule.TheVariants.{Expression}
-use Rattle.jr_pexpr.proofs.Walking.{halted}
 use Rattle.jr_punit.specs.Cues.{Cue, a_word, an_open, a_close, a_close_brace, a_semicolon, a_comma, a_super, cue_of, cue_token, at_semicolon}
 use Rattle.jr_punit.specs.declared.cues.Cue.{Cue as RustCue}
 use Rattle.jr_punit.specs.declared.cues.Cue.TheVariants as rust
@@ -133,12 +131,36 @@ pub exprs-append : (es : List (Expr Span)) (e : Expr Span) → exprs_of (es ++ e
 exprs-append [] e = refl
 exprs-append (d ∷ es) e = ap (more (expr_of d)) (exprs-append es e)
 
+-- no whole expression goes on with a closing parenthesis or a comma
+
+closed_none : (at : Span) (o : Option (E.State Span)) → is_some (whole_of o) ≡ true → closed join at o ≡ None
+closed_none at (Some (have [] e)) h = refl
+closed_none at (Some (have (f ∷ fs) e)) h = absurd cc
+closed_none at (Some _) h = absurd cc
+closed_none at None h = refl
+
+continued_none : (o : Option (E.State Span)) → is_some (whole_of o) ≡ true → continued o ≡ None
+continued_none (Some (have [] e)) h = refl
+continued_none (Some (have (f ∷ fs) e)) h = absurd cc
+continued_none (Some _) h = absurd cc
+continued_none None h = refl
+
+no_close_behind : (s : E.State Span) (at : Span) → is_some (E.whole join s) ≡ true → E.step join s at (symbol CloseParen) ≡ None
+unfolding extended
+no_close_behind (have fs e) at h = closed_none at (reduced join 1 fs e) h
+no_close_behind _ at h = absurd cc
+
+no_comma_behind : (s : E.State Span) (at : Span) → is_some (E.whole join s) ≡ true → E.step join s at (symbol Comma) ≡ None
+unfolding extended
+no_comma_behind (have fs e) at h = continued_none (reduced join 1 fs e) h
+no_comma_behind _ at h = absurd cc
+
 module _ (es : Exps Span) (s : E.State Span) (at : Span) (k : Token) where
   pub argument_ends : (is_comma (cue_of k) && is_some (E.whole join s)) ≡ true → option_and_then (A.next_argument es a_comma) (E.whole join s) ≡ A.step join (A.in_argument es s) at k
   argument_ends h =
       let c = comma_is (cue_of k) (left_of (is_comma (cue_of k)) (is_some (E.whole join s)) h) in
       taken_where (A.in_argument es) (option_and_then (A.next_argument es a_comma) (E.whole join s)) (E.step join s at k)
-      (ap (E.step join s at) (token_is k a_comma c) ∙ halted Expression s at (symbol Comma) refl (right_of (is_comma (cue_of k)) (is_some (E.whole join s)) h))
+      (ap (E.step join s at) (token_is k a_comma c) ∙ no_comma_behind s at (right_of (is_comma (cue_of k)) (is_some (E.whole join s)) h))
       ∙ ap (λ (q : Cue). inner (A.in_argument es) (option_and_then (A.next_argument es q) (E.whole join s)) (E.step join s at k)) (sym c)
 
   no_comma : (c : Cue) (o : Option (Exp Span)) → (is_comma c && is_some o) ≡ false → option_and_then (A.next_argument es c) o ≡ None
@@ -157,12 +179,12 @@ none_closed (E.want (f ∷ fs)) at h = absurd cc
 none_closed _ at h = absurd cc
 
 first_closed : (s : E.State Span) (at : Span) (o : Option (Exp Span)) → E.whole join s ≡ o → is_some (A.whole_first o s) ≡ true → E.step join s at (symbol CloseParen) ≡ None
-first_closed s at (Some e) q h = halted Expression s at (symbol CloseParen) refl (ap is_some q)
+first_closed s at (Some e) q h = no_close_behind s at (ap is_some q)
 first_closed s at None q h = none_closed s at h
 
 behind_closed : (es : Exps Span) (s : E.State Span) (at : Span) (o : Option (Exp Span)) → E.whole join s ≡ o → is_some (A.whole_behind es o s) ≡ true → E.step join s at (symbol CloseParen) ≡ None
 behind_closed end s at o q h = first_closed s at o q h
-behind_closed (more d es) s at (Some e) q h = halted Expression s at (symbol CloseParen) refl (ap is_some q)
+behind_closed (more d es) s at (Some e) q h = no_close_behind s at (ap is_some q)
 behind_closed (more d es) s at None q h = absurd cc
 
 -- whole arguments don't go on with a closing parenthesis
