@@ -1,16 +1,26 @@
 //! Compilation units: how tokens are read as statements, members, classes and units.
 #![tactic(auto)]
 
+mod args;
 mod begin;
+mod beginnings;
 mod behind;
+mod bodies;
+mod constructors;
+mod cue_tests;
 mod cues;
 mod ends;
+mod fields;
 mod frames;
+mod heads;
 mod laws;
+mod leads;
 mod list_steps;
 mod lists;
 mod locals;
 mod made;
+mod own;
+mod params;
 mod places;
 mod statements;
 mod type_state;
