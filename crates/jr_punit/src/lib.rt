@@ -2,9 +2,13 @@
 #![tactic(auto)]
 
 mod laws;
+mod made;
+mod parsing;
+mod unit_state;
 
 pub use laws::{
     list_is_read, list_stop_is_exact, marked_reads_alike, marks_are_spans, member_is_longest,
     member_is_read, member_stop_is_exact, one_list, one_marked_tree, one_member, one_reading,
     one_unit, stops_have_places, unit_is_read, unit_stop_is_exact,
 };
+pub use parsing::parse_unit;

@@ -1,0 +1,6 @@
+//! What was made, or want of memory.
+
+use std::alloc::AllocError;
+
+/// What a call makes that may want memory.
+pub(crate) type Made<T> = Result<T, AllocError>;
