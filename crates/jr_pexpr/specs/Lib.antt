@@ -7,6 +7,7 @@ pub mod TokenView
 pub mod PieceView
 pub mod FrameView
 pub mod Stacks
+pub mod Starts
 pub mod Waiting
 pub mod StackView
 pub mod StateView

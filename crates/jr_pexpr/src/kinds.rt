@@ -5,6 +5,8 @@ ghost use Rattle.jr_pexpr.specs.Machine as machine;
 ghost use Rattle.jr_grammar.specs.Shape.{level_of};
 ghost use Rattle.jr_pexpr.specs.FrameView.{operand_view};
 ghost use Rattle.jr_pexpr.specs.ExpView.{exp_in};
+ghost use Rattle.jr_pexpr.specs.Starts.{is_simple};
+ghost use Rattle.std.specs.Option.{is_some};
 
 use crate::frames::Operand;
 use jr_ast::{Expr, ExprKind, TypeKind, TypeRef};
@@ -49,6 +51,29 @@ pub(crate) fn is_statement(e: &Expr<Span>) -> bool
         ExprKind::Call(_, _, _) => true,
         ExprKind::SuperCall(_, _) => true,
         ExprKind::New(_, _) => true,
+        _ => false,
+    }
+}
+
+/// Whether it is a name of one word.
+#[tactic(auto, unfolding(jr_ast::specs::View::expr_kind))]
+fn is_simple(e: &Expr<Span>) -> bool
+    ensures { result ≡ is_simple (expr_of e.now) }
+{
+    match &e.kind {
+        ExprKind::Simple(_) => true,
+        _ => false,
+    }
+}
+
+/// Whether it is a name of one or two words.
+#[tactic(auto, unfolding(jr_ast::specs::View::expr_kind))]
+pub(crate) fn is_name_type(e: &Expr<Span>) -> bool
+    ensures { result ≡ is_some (machine.name_type (expr_of e.now)) }
+{
+    match &e.kind {
+        ExprKind::Simple(_) => true,
+        ExprKind::Field(of, _) => is_simple(of),
         _ => false,
     }
 }

@@ -15,6 +15,7 @@ mod ranks;
 mod reduce;
 mod rules;
 mod stack;
+mod starts;
 mod state;
 mod steps;
 mod tokens;

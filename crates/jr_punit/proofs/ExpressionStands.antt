@@ -16,7 +16,7 @@ use Rattle.jr_pexpr.specs.Runs as Runs
 use Rattle.jr_pexpr.proofs.Scans.{run-append}
 use Rattle.jr_pexpr.proofs.Marks.{marks_stand, run_kept, kept_whole, bare_run_of}
 use Rattle.jr_punit.proofs.Expressions.{exp_unread}
-use Rattle.jr_punit.specs.StatementMachine.{type_read}
+use Rattle.jr_pexpr.specs.Starts.{type_read}
 use Rattle.jr_punit.proofs.Standing.{IsMore, joined, Whole}
 
 -- one token more

@@ -17,3 +17,9 @@ pub mod OneReading
 pub mod UnitView
 pub mod UnitAnswers
 pub mod Parsing
+pub mod CueView
+pub mod TypeStateView
+pub mod FrameView
+pub mod Blocks
+pub mod PlaceView
+pub mod ListView

@@ -8,6 +8,7 @@ use Rattle.jr_ast.specs.StatementTree.{Stmt, local, eval, branch, loop, return, 
 use Rattle.jr_ast.specs.Marks.{type_mark, exp_mark, stmt_mark}
 use Rattle.jr_grammar.specs.Tokens.{Token}
 use Rattle.jr_pexpr.specs.Machine as E
+use Rattle.jr_pexpr.specs.Starts.{type_read}
 use Rattle.jr_punit.specs.Cues.{Primitive, Cue, a_word, a_primitive, a_modifier, an_if, an_else, a_while, a_return, an_open_brace, a_close_brace, a_semicolon, at_semicolon, at_open, at_close, at_open_brace, at_equals, cue_of}
 use Rattle.jr_punit.specs.Inside.{inner}
 use Rattle.jr_punit.specs.TypeMachine as T
@@ -165,11 +166,6 @@ abbrev pub from_exp : {A : Type 0} → (A → A → A) → List (Frame A) → St
 from_exp join fs all slot s at t c = inner (in_exp fs all slot) (option_and_then (filled join fs all slot at c) (E.whole join s)) (E.step join s at t)
 
 -- ---- statement expressions, and locals of a named type
-
--- what was read, as the type of a local
-abbrev pub type_read : {A : Type 0} → E.State A → Option (TypeName A)
-type_read (E.have [] e) = E.name_type e
-type_read _ = None
 
 abbrev pub begin_local : {A : Type 0} → List (Frame A) → Stmts A → Word A → TypeName A → Option (State A)
 begin_local fs all w t = declared fs (named fs all (type_mark t) false t w)

@@ -1,10 +1,15 @@
 //! Compilation units: how tokens are read as statements, members, classes and units.
 #![tactic(auto)]
 
+mod cues;
+mod frames;
 mod laws;
 mod made;
 mod parsing;
 mod unit_state;
+mod lists;
+mod places;
+mod type_state;
 
 pub use laws::{
     list_is_read, list_stop_is_exact, marked_reads_alike, marks_are_spans, member_is_longest,

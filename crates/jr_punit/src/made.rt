@@ -1,5 +1,4 @@
 //! What was made, or want of memory.
-
 use std::alloc::AllocError;
 
 /// What a call makes that may want memory.
