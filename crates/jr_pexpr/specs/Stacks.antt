@@ -1,11 +1,16 @@
 -- Stacks of what has been begun: what is asked of the innermost, and whether an expression can end there.
 use Rattle.std.specs.Prelude.{ℕ, ◌<◌, ◌&&◌, Bool, true, false, List, [], ◌∷◌}
-use Rattle.jr_pexpr.specs.Machine.{Frame, in_bump, in_paren, in_args, binds, is_open}
+use Rattle.jr_pexpr.specs.Machine.{Frame, in_bump, in_paren, in_args, State, want, binds, is_open}
 
 module _ {A : Type 0} where
   abbrev pub is_nil : List (Frame A) → Bool
   is_nil [] = true
   is_nil (f ∷ fs) = false
+
+  -- nothing is read: an expression is to come, and nothing has been begun
+  abbrev pub is_start : State A → Bool
+  is_start (want fs) = is_nil fs
+  is_start _ = false
 
   -- how tightly the innermost binds, or 0
   abbrev pub top_binds : List (Frame A) → ℕ

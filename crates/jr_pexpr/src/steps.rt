@@ -6,6 +6,7 @@ ghost use Rattle.jr_pexpr.specs.PieceView.{piece_view};
 ghost use Rattle.jr_pexpr.specs.Machine as machine;
 ghost use Rattle.jr_pexpr.specs.Marked.{join, span_step, span_whole, span_statement_step, span_statement_whole};
 ghost use Rattle.jr_pexpr.specs.StackView.{stack};
+ghost use Rattle.jr_pexpr.specs.Stacks.{is_start};
 ghost use Rattle.jr_pexpr.specs.StateView.{state_view};
 ghost use Rattle.jr_pexpr.specs.ExpView.{exp_in, filled, placed};
 ghost use Rattle.jr_pexpr.specs.Answers.{IsFilled, IsNext};
@@ -94,6 +95,16 @@ impl State {
         match self.step(alloc, at, token)? {
             Some(next) => Ok(keep_open(next)),
             None => Ok(None),
+        }
+    }
+
+    /// Whether nothing has been read.
+    pub fn is_start(&self) -> bool
+        ensures { result ≡ is_start (state_view self.now) }
+    {
+        match &self.mode {
+            Mode::Want => self.on.is_empty(),
+            _ => false,
         }
     }
 

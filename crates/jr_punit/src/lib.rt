@@ -1,13 +1,23 @@
 //! Compilation units: how tokens are read as statements, members, classes and units.
 #![tactic(auto)]
 
+mod args;
+mod beginnings;
+mod bodies;
+mod constructors;
+mod cue_tests;
 mod cues;
+mod fields;
 mod frames;
+mod heads;
 mod laws;
 mod made;
 mod parsing;
 mod unit_state;
 mod lists;
+mod leads;
+mod own;
+mod params;
 mod places;
 mod type_state;
 
