@@ -34,3 +34,7 @@ pub mod MemberStands
 pub mod UnitStands
 pub mod ReadsMarked
 pub mod OneReading
+pub mod ClassSteps
+pub mod UnitWalks
+pub mod UnitParses
+pub mod UnitAnswers

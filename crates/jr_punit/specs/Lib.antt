@@ -26,6 +26,6 @@ pub mod StopPlaces
 pub mod Marked
 pub mod MarkedAlike
 pub mod OneReading
+pub mod ClassView
 pub mod UnitView
-pub mod UnitAnswers
 pub mod Parsing

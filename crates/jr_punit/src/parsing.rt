@@ -1,5 +1,5 @@
 //! Compilation units are read (JLS 7.3).
-ghost use Rattle.std.specs.Prelude.{◌≡◌, IfOk, IfErr, IsErr, length};
+ghost use Rattle.std.specs.Prelude.{◌≡◌, IfOk, IfErr, OnOk, IsErr};
 ghost use Rattle.jr_lex.specs.Depth.{AreWithin};
 ghost use Rattle.jr_lex.specs.Lexes.{Lexes};
 ghost use Rattle.jr_ast.specs.View.{unit_of};
@@ -31,6 +31,7 @@ pub fn parse_unit(
     requires within { AreWithin items.now }
     ensures read { IfOk result (λ unit. IsUnitOf text.now items.now (unit_of unit)) }
     ensures reads { IfOk result (λ unit. Reads text.now (unit_of unit)) }
+    ensures unit { OnOk result (AreUnit (tokens_of text.now items.now)) }
     ensures fault { IfErr result (IsFault (IsNoUnitAt text.now items.now)) }
 
     // Where the tokens are a unit one is read, and where they are none it is a fault, unless memory
@@ -56,7 +57,7 @@ pub fn parse_unit(
         }
     }
     let end = text.len();
-    match state.finish(alloc, Span { from: 0, to: end })? {
+    match state.finish(alloc, Span { from: 0, to: end }) {
         Some(unit) => Ok(unit),
         None => Err(ParseFault::Syntax { at: end }),
     }
