@@ -38,3 +38,6 @@ pub mod ClassSteps
 pub mod UnitWalks
 pub mod UnitParses
 pub mod UnitAnswers
+pub mod StatementMarks
+pub mod ListFrames
+pub mod Closers

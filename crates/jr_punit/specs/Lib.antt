@@ -29,3 +29,5 @@ pub mod OneReading
 pub mod ClassView
 pub mod UnitView
 pub mod Parsing
+pub mod StatementView
+pub mod Slots

@@ -1,10 +1,7 @@
 -- How far a list of statements has been read, as the machine has it.
-use Rattle.std.specs.Prelude.{◌≡◌, Option, option_map, Result, IfOk, Vec}
-use Rattle.std.specs.Global.{Global}
+use Rattle.std.specs.Prelude.{◌≡◌, Option, option_map, Result, IfOk}
 use Rattle.jr_text.specs.declared.spans.Span.{Span}
-use Rattle.jr_ast.specs.declared.stmts.Stmt.{Stmt}
-use Rattle.jr_ast.specs.StatementTree.{Stmts}
-use Rattle.jr_ast.specs.View.{word_of, type_of, expr_of, stmt_of, stmts_of}
+use Rattle.jr_ast.specs.View.{word_of, type_of, expr_of, stmt_of}
 use Rattle.jr_pexpr.specs.StateView.{state_view}
 use Rattle.jr_punit.specs.declared.lists.Mode.{Mode}
 use Rattle.jr_punit.specs.declared.lists.Mode.TheVariants as mode
@@ -27,9 +24,6 @@ mode_view p (mode.Named at is_final type name) = machine.named p.on p.all at is_
 
 abbrev pub list_state : ListState → machine.State Span
 list_state s = mode_view (place_view s.place) s.mode
-
-abbrev pub stmts_in : Vec (Stmt Span) Global → Stmts Span
-stmts_in v = stmts_of v.items
 
 -- the next state, or that there is none
 abbrev pub IsNextList : {E : Type 0} → Result (Option ListState) E → Option (machine.State Span) → Type 0

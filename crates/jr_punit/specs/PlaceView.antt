@@ -1,5 +1,5 @@
 -- Where a statement stands, as the machine has it.
-use Rattle.std.specs.Prelude.{List}
+use Rattle.std.specs.Prelude.{◌≡◌, List, Result, IfOk}
 use Rattle.jr_text.specs.declared.spans.Span.{Span}
 use Rattle.jr_ast.specs.View.{stmts_of}
 use Rattle.jr_ast.specs.StatementTree.{Stmts}
@@ -13,7 +13,11 @@ on p = frames_view p.frames.items
 
 -- the list below it
 abbrev pub all : Place → Stmts Span
-all p = stmts_of p.all.items
+all p = stmts_of p.stmts.items
 
 abbrev pub place_view : Place → machine.Place Span
 place_view p = machine.place (on p) (all p)
+
+-- the place
+abbrev pub IsPlace : {E : Type 0} → Result Place E → machine.Place Span → Type 0
+IsPlace result p = IfOk result (λ made. place_view made ≡ p)

@@ -10,20 +10,27 @@ mod constructors;
 mod cue_tests;
 mod cues;
 mod fields;
+mod begin;
+mod behind;
+mod ends;
 mod frames;
 mod heads;
 mod inner_class;
 mod laws;
 mod leads;
+mod list_steps;
 mod lists;
+mod locals;
 mod made;
 mod member_state;
 mod own;
 mod params;
 mod parsing;
 mod places;
+mod statements;
 mod type_state;
 mod unit_state;
+mod values;
 
 pub use laws::{
     list_is_read, list_stop_is_exact, marked_reads_alike, marks_are_spans, member_is_longest,

@@ -1,20 +1,22 @@
 //! How far a list of statements has been read (JLS 14.2).
-ghost use Rattle.std.specs.Prelude.{◌≡◌, IfOk, option_map};
-ghost use Rattle.std.specs.Option.{is_some};
-ghost use Rattle.jr_pexpr.specs.Marked.{join};
-ghost use Rattle.jr_pexpr.specs.TokenView.{token_view};
+ghost use Rattle.std.specs.Prelude.{◌≡◌, Some, IfOk, option_map};
+ghost use Rattle.std.specs.Result.{IsOkAnd};
+ghost use Rattle.jr_pexpr.specs.StateView.{state_view};
+ghost use Rattle.jr_punit.specs.FrameView.{slot_view};
+ghost use Rattle.jr_punit.specs.ListView.{list_state, mode_view, IsNextList};
 ghost use Rattle.jr_punit.specs.OwnMachine.{super_read};
+ghost use Rattle.jr_punit.specs.PlaceView.{on, all, place_view};
 ghost use Rattle.jr_punit.specs.StatementMachine as machine;
-ghost use Rattle.jr_punit.specs.ListView.{list_state, stmts_in, IsNextList};
+ghost use Rattle.jr_punit.specs.StatementView.{stmt_in};
 
 use crate::frames::{Head, Slot};
 use crate::made::Made;
 use crate::places::Place;
 use crate::type_state::TypeState;
 use jr_ast::{Expr, Ident, Stmt, TypeRef};
-use jr_pexpr::{State, Token};
+use jr_pexpr::State;
 use jr_text::Span;
-use std::alloc::{AllocError, Global};
+use std::alloc::Global;
 
 /// What may come next.
 #[derive(Drop)]
@@ -46,6 +48,43 @@ pub(crate) struct ListState {
     pub(crate) mode: Mode,
 }
 
+/// The state behind a token; `None` where the token can't stand there.
+pub(crate) type Listed = Made<Option<ListState>>;
+
+pub(crate) fn to(place: Place, mode: Mode) -> Listed
+    ensures { IsNextList result (Some (mode_view (place_view place) mode)) }
+{
+    Ok(Some(ListState { place, mode }))
+}
+
+/// A statement may come.
+pub(crate) fn ready(made: Made<Place>) -> Listed
+    ensures { IfOk result (λ next. IsOkAnd made (λ p.
+        option_map list_state next ≡ Some (machine.ready (on p) (all p)))) }
+{
+    to(made?, Mode::Ready)
+}
+
+/// The statement that was made stands there.
+pub(crate) fn done(place: Place, made: Made<Box<Stmt<Span>>>) -> Listed
+    ensures { IfOk result (λ next. IsOkAnd made (λ s.
+        option_map list_state next ≡ Some (machine.done (on place) (all place) (stmt_in s)))) }
+{
+    to(place, Mode::Done(made?))
+}
+
+/// In the expression, if it goes on.
+pub(crate) fn in_expr(place: Place, slot: Slot, next: Made<Option<State>>) -> Listed
+    ensures { IfOk result (λ to. IsOkAnd next (λ s. option_map list_state to
+        ≡ option_map (machine.in_exp (on place) (all place) (slot_view slot))
+        (option_map state_view s))) }
+{
+    match next? {
+        Some(state) => to(place, Mode::InExpr(slot, state)),
+        None => Ok(None),
+    }
+}
+
 impl ListState {
     /// Nothing has been read.
     pub(crate) fn new(alloc: Global) -> ListState
@@ -65,37 +104,5 @@ impl ListState {
             place: Place::new(alloc),
             mode: Mode::InEval(State::behind_super(alloc, at)),
         }
-    }
-
-    /// The state behind a token at `at`; `None` exactly where no list goes on with it.
-    pub(crate) fn step(
-        self,
-        alloc: Global,
-        at: Span,
-        token: Token<'_>,
-    ) -> Made<Option<ListState>>
-        ensures { IsNextList result
-            (machine.step join (list_state self) at (token_view token.entry)) }
-    {
-        Err(AllocError)
-    }
-
-    /// Whether what has been read is a list of statements.
-    pub(crate) fn is_whole(&self) -> bool
-        ensures { result ≡ is_some (machine.whole join (list_state self.now)) }
-    {
-        match &self.mode {
-            Mode::Ready => self.place.frames.is_empty(),
-            Mode::Done(_) => self.place.lists == 0,
-            _ => false,
-        }
-    }
-
-    /// The statements that have been read; `None` where the list isn't whole.
-    pub(crate) fn finish(self, alloc: Global) -> Made<Option<Vec<Stmt<Span>>>>
-        ensures { IfOk result (λ made. option_map stmts_in made
-            ≡ machine.whole join (list_state self)) }
-    {
-        Err(AllocError)
     }
 }

@@ -69,8 +69,24 @@ fn inner(alloc: Global, outer: Ident<Span>, at: Span, text: &str) -> Made<Option
     })))
 }
 
+/// A token behind a word and a dot.
+pub(crate) fn behind_dot(
+    alloc: Global,
+    outer: Ident<Span>,
+    at: Span,
+    cue: Cue<'_>,
+) -> Made<Option<TypeState>>
+    ensures { IsNextType result
+        (machine.from_dotted join (word_of outer) at (cue_view cue.entry)) }
+{
+    match cue {
+        Cue::Word(text) => inner(alloc, outer, at, text),
+        _ => Ok(None),
+    }
+}
+
 /// A dot behind a type.
-fn dot(ty: TypeRef<Span>) -> Option<TypeState>
+pub(crate) fn behind_outer(ty: TypeRef<Span>) -> Option<TypeState>
     ensures { option_map type_state result ≡ machine.dot_behind (type_of ty) }
 {
     match ty.kind {
@@ -78,6 +94,16 @@ fn dot(ty: TypeRef<Span>) -> Option<TypeState>
         TypeKind::Named(Some(_), _) => None,
         TypeKind::Int => None,
         TypeKind::Boolean => None,
+    }
+}
+
+/// A token behind a type.
+fn behind_type(ty: TypeRef<Span>, cue: Cue<'_>) -> Made<Option<TypeState>>
+    ensures { IsNextType result (machine.from_have (type_of ty) (cue_view cue.entry)) }
+{
+    match cue {
+        Cue::Dot => Ok(behind_outer(ty)),
+        _ => Ok(None),
     }
 }
 
@@ -111,14 +137,8 @@ impl TypeState {
     {
         match self {
             TypeState::Want(primitive) => TypeState::begin(alloc, primitive, at, cue),
-            TypeState::Have(ty) => match cue {
-                Cue::Dot => Ok(dot(ty)),
-                _ => Ok(None),
-            },
-            TypeState::Dotted(outer) => match cue {
-                Cue::Word(text) => inner(alloc, outer, at, text),
-                _ => Ok(None),
-            },
+            TypeState::Have(ty) => behind_type(ty, cue),
+            TypeState::Dotted(outer) => behind_dot(alloc, outer, at, cue),
         }
     }
 

@@ -1,0 +1,87 @@
+//! One step of reading a list of statements, and what is whole.
+ghost use Rattle.std.specs.Prelude.{◌≡◌, IfOk, option_map};
+ghost use Rattle.std.specs.Option.{is_some};
+ghost use Rattle.jr_pexpr.specs.Marked.{join};
+ghost use Rattle.jr_pexpr.specs.TokenView.{token_view};
+ghost use Rattle.jr_punit.specs.CueView.{cue_view};
+ghost use Rattle.jr_punit.specs.ListView.{list_state, IsNextList};
+ghost use Rattle.jr_punit.specs.PlaceView.{on, all};
+ghost use Rattle.jr_punit.specs.StatementMachine as machine;
+ghost use Rattle.jr_punit.specs.StatementView.{stmt_in, stmts_in};
+
+use crate::begin::begin;
+use crate::behind::behind_stmt;
+use crate::cues::cue_of;
+use crate::ends::end;
+use crate::lists::{ListState, Mode};
+use crate::locals::{step_eval, step_type};
+use crate::made::Made;
+use crate::places::Place;
+use crate::values::{begin_init, behind_lock, behind_return, open_head, step_value};
+use jr_ast::Stmt;
+use jr_pexpr::Token;
+use jr_text::Span;
+use std::alloc::Global;
+
+/// The list behind its last statement.
+fn finish_behind(
+    alloc: Global,
+    place: Place,
+    stmt: Box<Stmt<Span>>,
+) -> Made<Option<Vec<Stmt<Span>>>>
+    ensures { IfOk result (λ made. option_map stmts_in made
+        ≡ machine.whole_at (machine.ended join (on place) (all place) (stmt_in stmt))) }
+{
+    let place = end(alloc, place, stmt)?;
+    Ok(place.into_stmts())
+}
+
+impl ListState {
+    /// The state behind a token at `at`; `None` exactly where no list goes on with it.
+    pub(crate) fn step(self, alloc: Global, at: Span, token: Token<'_>) -> Made<Option<ListState>>
+        ensures { IsNextList result
+            (machine.step join (list_state self) at (token_view token.entry)) }
+    {
+        let ListState { place, mode } = self;
+        let cue = cue_of(token);
+        match mode {
+            Mode::Ready => begin(alloc, place, at, token, cue),
+            Mode::Done(stmt) => behind_stmt(alloc, place, stmt, at, token, cue),
+            Mode::Headed(start, head) => open_head(alloc, place, start, head, cue),
+            Mode::Returning(start) => behind_return(alloc, place, start, at, token, cue),
+            Mode::InExpr(slot, state) => step_value(alloc, place, slot, state, at, token),
+            Mode::InEval(state) => step_eval(alloc, place, state, at, token),
+            Mode::Locked(start, lock) => behind_lock(alloc, place, start, lock, cue),
+            Mode::InType(start, is_final, ty) => {
+                step_type(alloc, place, start, is_final, ty, at, cue)
+            }
+            Mode::Named(start, is_final, ty, name) => {
+                begin_init(alloc, place, start, is_final, ty, name, cue)
+            }
+        }
+    }
+
+    /// Whether what has been read is a list of statements.
+    pub(crate) fn is_whole(&self) -> bool
+        ensures { result ≡ is_some (machine.whole join (list_state self.now)) }
+    {
+        match &self.mode {
+            Mode::Ready => self.place.is_empty(),
+            Mode::Done(_) => self.place.has_no_list(),
+            _ => false,
+        }
+    }
+
+    /// The statements that have been read; `None` where the list isn't whole.
+    pub(crate) fn finish(self, alloc: Global) -> Made<Option<Vec<Stmt<Span>>>>
+        ensures { IfOk result (λ made. option_map stmts_in made
+            ≡ machine.whole join (list_state self)) }
+    {
+        let ListState { place, mode } = self;
+        match mode {
+            Mode::Ready => Ok(place.into_stmts()),
+            Mode::Done(stmt) => finish_behind(alloc, place, stmt),
+            _ => Ok(None),
+        }
+    }
+}
