@@ -29,6 +29,7 @@ pub mod TypeStands
 pub mod StatementStands
 pub mod ParameterStands
 pub mod OwnStands
+pub mod OwnSteps
 pub mod ClassStands
 pub mod MemberStands
 pub mod UnitStands

@@ -2,7 +2,9 @@
 #![tactic(auto)]
 
 mod args;
+mod begin;
 mod beginnings;
+mod behind;
 mod bodies;
 mod class_heads;
 mod class_state;
@@ -10,8 +12,6 @@ mod constructors;
 mod cue_tests;
 mod cues;
 mod fields;
-mod begin;
-mod behind;
 mod ends;
 mod frames;
 mod heads;
