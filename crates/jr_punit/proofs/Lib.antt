@@ -35,6 +35,10 @@ pub mod MemberStands
 pub mod UnitStands
 pub mod ReadsMarked
 pub mod OneReading
+pub mod ClassSteps
+pub mod UnitWalks
+pub mod UnitParses
+pub mod UnitAnswers
 pub mod StatementMarks
 pub mod ListFrames
 pub mod Closers

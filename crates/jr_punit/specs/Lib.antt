@@ -26,5 +26,9 @@ pub mod StopPlaces
 pub mod Marked
 pub mod MarkedAlike
 pub mod OneReading
+pub mod ClassView
+pub mod UnitView
+pub mod Parsing
 pub mod StatementView
 pub mod Slots
+pub mod Unread

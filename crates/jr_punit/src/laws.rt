@@ -1,11 +1,13 @@
 ghost use Rattle.jr_grammar.specs.Units.{OneList, OneMember, OneUnit};
 ghost use Rattle.jr_punit.specs.MarkedAlike.{ReadsAlike, ReadsMarked};
 ghost use Rattle.jr_punit.specs.OneReading.{OneReading, OneMarkedTree};
+ghost use Rattle.jr_punit.specs.Parsing.{OneAnswer};
 ghost use Rattle.jr_punit.specs.StopPlaces.{StopsHavePlaces, StopsHaveOnePlace};
 ghost use Rattle.jr_punit.specs.Exact.{ListIsRead, ListStopIsExact, MemberIsRead, MemberLengthIsLongest, MemberStopIsExact, UnitIsRead, UnitStopIsExact};
 
 use jr_grammar::{
-    marks_are_one, member_ignores_marks, statement_ignores_marks, unit_ignores_marks,
+    marks_are_one, member_ignores_marks, readings_are_one, statement_ignores_marks,
+    unit_ignores_marks,
 };
 use jr_lex::one_answer;
 use jr_text::Span;
@@ -99,5 +101,15 @@ pub fn one_marked_tree()
     marks_are_one();
     statement_ignores_marks::<Span, ()>();
     member_ignores_marks::<Span, ()>();
+    unit_ignores_marks::<Span, ()>();
+}
+
+/// A text is one unit at most with its spans, or has one place where none can be, and never both.
+pub fn unit_has_one_answer()
+    ensures { OneAnswer }
+{
+    one_marked_tree();
+    stops_have_places();
+    readings_are_one();
     unit_ignores_marks::<Span, ()>();
 }

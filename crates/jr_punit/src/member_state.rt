@@ -1,0 +1,178 @@
+//! How far a member of a class has been read (JLS 8.2): a field, method, constructor or class.
+ghost use Rattle.std.specs.Prelude.{◌≡◌, Some, option_map};
+ghost use Rattle.std.specs.Option.{is_some};
+ghost use Rattle.jr_ast.specs.View.{class_of, member_of};
+ghost use Rattle.jr_pexpr.specs.Marked.{join};
+ghost use Rattle.jr_pexpr.specs.TokenView.{token_view};
+ghost use Rattle.jr_punit.specs.Cues as Cues;
+ghost use Rattle.jr_punit.specs.OwnMachine as Own;
+ghost use Rattle.jr_punit.specs.OwnView.{own_state, begun};
+ghost use Rattle.jr_punit.specs.ClassMachine as Classes;
+ghost use Rattle.jr_punit.specs.MemberMachine as machine;
+ghost use Rattle.jr_punit.specs.ClassView.{inner_class, member_state, is_modified as is_pure, is_class as is_cue, begins_class, IsNextMember};
+
+use crate::class_heads::ClassStart;
+use crate::cues::{Cue, cue_of};
+use crate::inner_class::InnerClass;
+use crate::made::Made;
+use crate::own::OwnState;
+use jr_ast::{Class, Member};
+use jr_pexpr::Token;
+use jr_text::Span;
+use std::alloc::Global;
+
+/// How far a member has been read.
+#[derive(Drop)]
+pub(crate) enum MemberState {
+    /// A member that is no class, or modifiers alone.
+    Own(OwnState),
+    InClass(InnerClass),
+}
+
+/// The state behind a token; `None` where the token can't stand there.
+type MemberStepped = Made<Option<MemberState>>;
+
+fn is_class(token: Token<'_>) -> bool
+    ensures { result ≡ is_cue (Cues.cue_of (token_view token.entry)) }
+{
+    match cue_of(token) {
+        Cue::Class => true,
+        _ => false,
+    }
+}
+
+/// Whether modifiers alone have been read.
+fn is_modified(own: &OwnState) -> bool
+    ensures { result ≡ is_pure (own_state own.now) }
+{
+    match own {
+        OwnState::Modified(_) => true,
+        _ => false,
+    }
+}
+
+/// Whether a class begins with the token: no class stands in a member class.
+fn begins(nested: bool, own: &OwnState, token: Token<'_>) -> bool
+    ensures { result ≡ begins_class nested (own_state own.now) (token_view token.entry) }
+{
+    !nested & is_modified(own) & is_class(token)
+}
+
+/// Behind `class`, which is at `at`.
+fn class_begun(own: OwnState, at: Span) -> Option<MemberState>
+    ensures { option_map member_state result
+        ≡ option_map (λ l. machine.in_class (Classes.at_class l)) (begun (own_state own) at) }
+{
+    match own.into_lead(at) {
+        Some(lead) => Some(MemberState::InClass(InnerClass::Start(ClassStart::AtClass(lead)))),
+        None => None,
+    }
+}
+
+/// The member that is no class goes on.
+fn own_on(alloc: Global, name: &str, own: OwnState, at: Span, token: Token<'_>) -> MemberStepped
+    ensures { IsNextMember result (option_map machine.own
+        (Own.step join name.now (own_state own) at (token_view token.entry))) }
+{
+    match own.step(alloc, name, at, token)? {
+        Some(next) => Ok(Some(MemberState::Own(next))),
+        None => Ok(None),
+    }
+}
+
+fn from_own(
+    alloc: Global,
+    nested: bool,
+    name: &str,
+    own: OwnState,
+    at: Span,
+    token: Token<'_>,
+) -> MemberStepped
+    ensures { IsNextMember result (machine.step join nested name.now
+        (machine.own (own_state own)) at (token_view token.entry)) }
+{
+    if begins(nested, &own, token) {
+        Ok(class_begun(own, at))
+    } else {
+        own_on(alloc, name, own, at, token)
+    }
+}
+
+fn from_class(alloc: Global, class: InnerClass, at: Span, token: Token<'_>) -> MemberStepped
+    ensures { IsNextMember result (option_map machine.in_class
+        (machine.inner_step join (inner_class class) at (token_view token.entry))) }
+{
+    match class.step(alloc, at, token)? {
+        Some(next) => Ok(Some(MemberState::InClass(next))),
+        None => Ok(None),
+    }
+}
+
+/// A class as a member.
+fn class_member(class: Class<Span>) -> Member<Span>
+    ensures { member_of result ≡ machine.class_member (class_of class) }
+{
+    let mark = class.mark;
+    Member::inner(mark, class)
+}
+
+impl MemberState {
+    /// Nothing has been read.
+    pub(crate) fn new(alloc: Global) -> MemberState
+        ensures { member_state result ≡ machine.start }
+    {
+        MemberState::Own(OwnState::new(alloc))
+    }
+
+    /// The state behind a token at `at`; `None` exactly where no member of the class that is called
+    /// `name` goes on with it. `nested` says whether that class is itself a member class.
+    pub(crate) fn step(
+        self,
+        alloc: Global,
+        nested: bool,
+        name: &str,
+        at: Span,
+        token: Token<'_>,
+    ) -> Made<Option<MemberState>>
+        ensures { IsNextMember result (machine.step join nested name.now (member_state self) at
+            (token_view token.entry)) }
+    {
+        match self {
+            MemberState::Own(own) => from_own(alloc, nested, name, own, at, token),
+            MemberState::InClass(class) => from_class(alloc, class, at, token),
+        }
+    }
+
+    /// Whether nothing has been read.
+    pub(crate) fn is_start(&self) -> bool
+        ensures { result ≡ machine.is_start (member_state self.now) }
+    {
+        match self {
+            MemberState::Own(own) => own.is_start(),
+            MemberState::InClass(_) => false,
+        }
+    }
+
+    /// Whether what has been read is a member.
+    pub(crate) fn is_done(&self) -> bool
+        ensures { result ≡ is_some (machine.whole (member_state self.now)) }
+    {
+        match self {
+            MemberState::Own(own) => own.is_done(),
+            MemberState::InClass(class) => class.is_done(),
+        }
+    }
+
+    /// The member that has been read; `None` where it isn't whole.
+    pub(crate) fn finish(self) -> Option<Member<Span>>
+        ensures { option_map member_of result ≡ machine.whole (member_state self) }
+    {
+        match self {
+            MemberState::Own(own) => own.finish(),
+            MemberState::InClass(class) => match class.finish() {
+                Some(class) => Some(class_member(class)),
+                None => None,
+            },
+        }
+    }
+}
