@@ -25,3 +25,4 @@ pub mod Few
 pub mod Finds
 pub mod Readings
 pub mod OneAnswers
+pub mod StartReads

@@ -121,7 +121,7 @@ extended_none fs e at a_class h w = refl
 extended_none fs e at (another t) h w = refl
 extended_none fs e at _ h w = absurd cc
 
-step_none : (s : State Span) (at : Span) (t : Token) → is_end (piece_of t) ≡ true → is_some (span_whole s) ≡ true → span_step s (placed at t) ≡ None
+pub step_none : (s : State Span) (at : Span) (t : Token) → is_end (piece_of t) ≡ true → is_some (span_whole s) ≡ true → span_step s (placed at t) ≡ None
 step_none (have fs e) at t h w = extended_none fs e at (piece_of t) h w
 step_none _ at t h w = absurd cc
 

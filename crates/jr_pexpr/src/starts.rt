@@ -3,15 +3,27 @@ ghost use Rattle.std.specs.Prelude.{◌≡◌, [], Some, None, option_map};
 ghost use Rattle.std.specs.Option.{is_some};
 ghost use Rattle.jr_ast.specs.View.{type_of};
 ghost use Rattle.jr_pexpr.specs.Machine as machine;
+ghost use Rattle.jr_pexpr.specs.ExpView.{exp_in};
+ghost use Rattle.jr_pexpr.specs.StackView.{stack};
 ghost use Rattle.jr_pexpr.specs.StateView.{state_view};
 ghost use Rattle.jr_pexpr.specs.Starts.{type_read};
 
 use crate::kinds::{is_name_type, name_type};
 use crate::stack::Stack;
 use crate::state::{Mode, State};
-use jr_ast::TypeRef;
+use jr_ast::{Expr, TypeRef};
 use jr_text::Span;
 use std::alloc::Global;
+
+/// A name that nothing has been begun around, as a type.
+fn lone_type(on: Stack, e: Box<Expr<Span>>) -> Option<TypeRef<Span>>
+    ensures { option_map type_of result ≡ type_read (machine.have (stack on) (exp_in e)) }
+{
+    if !on.is_empty() {
+        return None;
+    }
+    name_type(e)
+}
 
 impl State {
     /// Behind `super` as the first token, which is at `at`.
@@ -40,7 +52,7 @@ impl State {
     {
         let State { on, mode } = self;
         match mode {
-            Mode::Have(e) => { if on.is_empty() { name_type(e) } else { None } }
+            Mode::Have(e) => lone_type(on, e),
             _ => None,
         }
     }

@@ -1,12 +1,11 @@
 -- What a token can't be where an expression is whole: a part of it.
-use Rattle.std.proofs.Common.{◌≡◌, ◌&&◌, Bool, true, false, List, [], ◌∷◌, ℕ, Option, Some, None, refl, sym, ap, subst, ◌∙◌}
+use Rattle.std.proofs.Common.{◌≡◌, ◌&&◌, Bool, true, false, List, [], ◌∷◌, ℕ, Option, Some, None, refl, sym, ap, ◌∙◌}
 use Rattle.std.specs.Prelude.{is_some, option_map, option_and_then}
-use Rattle.jr_lex.specs.declared.items.Symbol.TheVariants.{Semicolon, CloseParen}
+use Rattle.jr_lex.specs.declared.items.Symbol.TheVariants.{Semicolon}
 use Rattle.jr_text.specs.declared.spans.Span.{Span}
 use Rattle.jr_ast.specs.StatementTree.{Stmts}
 use Rattle.jr_ast.specs.Tree.{Exp, TypeName, name, field}
 use Rattle.jr_grammar.specs.Tokens.{Token, word, symbol}
-use Rattle.jr_pexpr.specs.declared.rules.Rule.TheVariants.{Expression}
 use Rattle.jr_pexpr.specs.Machine as E
 use Rattle.jr_pexpr.specs.Machine.{begun, extended}
 use Rattle.jr_pexpr.specs.Marked.{join}
@@ -14,7 +13,7 @@ use Rattle.jr_pexpr.specs.Pieces.{piece_of}
 use Rattle.jr_pexpr.specs.Pieces as Pieces
 use Rattle.jr_pexpr.specs.Starts.{type_read}
 use Rattle.jr_pexpr.specs.Walks.{is_end}
-use Rattle.jr_pexpr.proofs.Walking.{halted}
+use Rattle.jr_pexpr.proofs.Walking.{step_none}
 use Rattle.jr_punit.specs.Cues.{Cue, a_word, a_close, a_semicolon, at_semicolon, at_close, cue_of, cue_token}
 use Rattle.jr_punit.specs.Inside.{inner}
 use Rattle.jr_punit.specs.Slots.{is_semicolon, is_close, closer, closes}
@@ -63,7 +62,7 @@ module _ (fs : List (Frame Span)) (all : Stmts Span) (slot : Slot Span) (s : E.S
   value_ends t h w =
       let c : cue_of t ≡ closer slot = closer_is slot (cue_of t) h in
       let e : t ≡ cue_token (closer slot) = token_is t (closer slot) c in
-      let n : E.step join s at t ≡ None = halted Expression s at t (ap (λ (t : Token). is_end (piece_of t)) e ∙ closer_ends slot) w in
+      let n : E.step join s at t ≡ None = step_none s at t (ap (λ (t : Token). is_end (piece_of t)) e ∙ closer_ends slot) w in
       ap (λ (c : Cue). option_and_then (filled join fs all slot at c) (E.whole join s)) (sym c)
       ∙ ap (inner (in_exp fs all slot) (option_and_then (filled join fs all slot at (cue_of t)) (E.whole join s))) (sym n)
 

@@ -38,3 +38,4 @@ pub mod OneReading
 pub mod StatementMarks
 pub mod ListFrames
 pub mod Closers
+pub mod PartAnswers

@@ -188,7 +188,8 @@ pub(crate) fn step_value(
         (state_view state) at (token_view token.entry)
         (pure.cue_of (token_view token.entry))) }
 {
-    if closes(&slot, cue_of(token)) & state.is_whole() {
+    let ends = closes(&slot, cue_of(token)) & state.is_whole();
+    if ends {
         return finish_in(alloc, place, slot, state, at);
     }
     in_expr(place, slot, state.step(alloc, at, token))
