@@ -107,7 +107,14 @@ both_are a b c d h k = sym (ap (λ (x : Bool). x && b) h ∙ ap (λ (x : Bool). 
 -- no expression goes on with a semicolon
 no_value : (s : E.State Span) (at : Span) → E.step join s at (symbol Semicolon) ≡ None
 unfolding begun extended
-no_value _ at = refl
+no_value (E.want fs) at = refl
+no_value (E.have fs e) at = refl
+no_value (E.dotted fs e) at = refl
+no_value (E.at_super fs m) at = refl
+no_value (E.super_dotted fs m) at = refl
+no_value (E.at_new fs m) at = refl
+no_value (E.new_named fs m t) at = refl
+no_value (E.new_dotted fs m o) at = refl
 
 not_semicolon : {N : Type 0} (c : Cue) (n : N) → is_semicolon c ≡ false → at_semicolon c n ≡ None
 not_semicolon a_semicolon n h = absurd cc
