@@ -106,7 +106,7 @@ FindsCall rows c is_static name args (NotAccessible j) =
 FindsCall rows c is_static name args Nothing =
     NoneAround rows (HasMethodNamed rows name) c
     ⊎ ((e : ℕ) × IsInnermost rows (HasMethodNamed rows name) c e
-        × FindsMethod rows c e name args Nothing)
+    × FindsMethod rows c e name args Nothing)
 
 -- exact
 

@@ -32,7 +32,7 @@ ByKeys rows Finds f = (a : Answer) × Finds a × Shows rows a f
 abbrev pub FindsVariable : List Row → Scope → (name : List ℕ) → Found → Type 0
 FindsVariable rows s name f = ((k : LocalKey) × FindsLocal s.locals name k × (f ≡ one (local_decl k)))
     ⊎ (HasNoLocal s.locals name
-        × ByKeys rows (FindsField (entries_of rows) (class_number rows s.class) s.is_static name) f)
+    × ByKeys rows (FindsField (entries_of rows) (class_number rows s.class) s.is_static name) f)
 
 -- a simple name as a type (JLS 6.5.5.1)
 abbrev pub FindsTypeNamed : List Row → Scope → (name : List ℕ) → Found → Type 0
@@ -55,21 +55,21 @@ abbrev pub FindsMethodNamed : List Row → Scope → (name : List ℕ) → (args
 FindsMethodNamed rows s name args =
     ByKeys rows
     (FindsCall (entries_of rows) (class_number rows s.class) s.is_static name
-        (map (kind_of rows) args))
+    (map (kind_of rows) args))
 
 -- a call on a class or on an expression of its type, or by `super` on the superclass (JLS 15.12.1)
 abbrev pub FindsMethodOf : List Row → Scope → ClassKey → (name : List ℕ) → (args : List Ty) → Found → Type 0
 FindsMethodOf rows s of name args =
     ByKeys rows
     (FindsMethod (entries_of rows) (class_number rows s.class) (class_number rows of) name
-        (map (kind_of rows) args))
+    (map (kind_of rows) args))
 
 -- a creation, or a `super(..)` call (JLS 15.9.3, 8.8.7.1)
 abbrev pub FindsCtorOf : List Row → Scope → ClassKey → (args : List Ty) → Found → Type 0
 FindsCtorOf rows s of args =
     ByKeys rows
     (FindsCtor (entries_of rows) (class_number rows s.class) (class_number rows of)
-        (map (kind_of rows) args))
+    (map (kind_of rows) args))
 
 -- The left part of a dotted name (JLS 6.4.2, 6.5.2): a simple name before a dot is a variable where a
 -- variable is found, one without an object included; else a type.
@@ -126,14 +126,14 @@ find_field_in rows s of name =
 unfoldable pub find_method_named : List Row → Scope → (name : List ℕ) → (args : List Ty) → Found
 find_method_named rows s name args =
     shown rows (find_call (entries_of rows) (class_number rows s.class) s.is_static name
-        (map (kind_of rows) args))
+    (map (kind_of rows) args))
 
 unfoldable pub find_method_of : List Row → Scope → ClassKey → (name : List ℕ) → (args : List Ty) → Found
 find_method_of rows s of name args =
     shown rows (find_method (entries_of rows) (class_number rows s.class) (class_number rows of) name
-        (map (kind_of rows) args))
+    (map (kind_of rows) args))
 
 unfoldable pub find_ctor_of : List Row → Scope → ClassKey → (args : List Ty) → Found
 find_ctor_of rows s of args =
     shown rows (find_ctor (entries_of rows) (class_number rows s.class) (class_number rows of)
-        (map (kind_of rows) args))
+    (map (kind_of rows) args))

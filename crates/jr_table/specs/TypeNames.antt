@@ -19,9 +19,9 @@ HasTypeNamed rows name e = (j : ℕ) × IsMemberType rows name e j
 abbrev pub FindsType : List Row → (c : ℕ) (name : List ℕ) → Answer → Type 0
 FindsType rows c name (One j) =
     ((e : ℕ) × IsInnermost (entries_of rows) (HasTypeNamed (entries_of rows) name) c e
-        × IsMemberType (entries_of rows) name e j)
+    × IsMemberType (entries_of rows) name e j)
     ⊎ (NoneAround (entries_of rows) (HasTypeNamed (entries_of rows) name) c
-        × IsRowOf rows (top_class name) j)
+    × IsRowOf rows (top_class name) j)
 FindsType rows c name Nothing =
     NoneAround (entries_of rows) (HasTypeNamed (entries_of rows) name) c
     × ((j : ℕ) → IsRowOf rows (top_class name) j → ⊥)
@@ -40,5 +40,5 @@ one_or_nothing (Some j) = One j
 unfoldable pub find_type : List Row → (c : ℕ) (name : List ℕ) → Answer
 find_type rows c name =
     one_or_nothing (first_of (member (entries_of rows) (is_type name) c)
-        (first_of (member_in (entries_of rows) name (outer_of (entries_of rows) c))
-            (number_of rows (top_class name))))
+    (first_of (member_in (entries_of rows) name (outer_of (entries_of rows) c))
+    (number_of rows (top_class name))))
