@@ -1,6 +1,6 @@
 -- The tests of assignability decide it, and types that are assignable both ways are the same.
 use Rattle.std.proofs.Common.{◌≡◌, ℕ, ◌<◌, List, [], ◌∷◌, length, Option, Some, None, Bool, true, false, refl, sym, ap, subst, ◌∙◌, inl, inr, arith, eq-eqb, eqb-true}
-use Rattle.std.specs.Prelude.{◌⊎◌, ◌↔◌, ◌&&◌, ◌||◌, ◌==◌, slice_get}
+use Rattle.std.specs.Prelude.{◌⊎◌, ◌↔◌, ◌&&◌, ◌||◌, ◌==◌, slice_get, IsTrue}
 use Rattle.std.specs.List.{list_any}
 use Rattle.jr_table.specs.declared.entries.Kind.{Kind}
 use Rattle.jr_table.specs.declared.entries.Kind.TheVariants.{Int, Boolean, Void, Null, Class}
@@ -81,6 +81,15 @@ module _ (rows : List Entry) (acyclic : IsAcyclic rows) where
       back : IsSubclassAt rows c d → list_any (λ x. x == d) (chain_of rows c) ≡ true
       back s = in_any (λ x. x == d) (chain_of rows c) d (subst (λ (cs : List ℕ). In cs d) (one_chain rows c s.chain (chain_of rows c) s.goes_up (acyclic c)) s.among) (eq-eqb d d refl)
   widens_is _ _ = (λ h. absurd cc, λ h. absurd h)
+
+  -- a test that decides it is the exact one
+  pub widens_by : (c d : ℕ) (b : Bool) → (IsTrue b ↔ IsSubclassAt rows c d) → b ≡ widens rows (Class c) (Class d)
+  widens_by c d true h = sym ((widens_is (Class c) (Class d)).1 (h.0 refl))
+  widens_by c d false h = by (widens rows (Class c) (Class d)) refl
+    where
+      by : (x : Bool) → widens rows (Class c) (Class d) ≡ x → false ≡ x
+      by true e = let t = h.1 ((widens_is (Class c) (Class d)).0 e) in absurd cc
+      by false e = refl
 
   pub assignable_is : (s t : Kind) → (assignable rows s t ≡ true) ↔ IsAssignableAt rows s t
   unfolding assignable

@@ -195,11 +195,11 @@ module _ (rows : List Row) (are : AreRows rows) where
             ap (λ o. one_or_nothing (first_of o (first_of (member_in es name (outer_of es c)) (number_of rows (top_class name))))) (no_member es Kept kept (says_type name) (one_type_of name) c none)
             ∙ ap (λ o. one_or_nothing (first_of o (number_of rows (top_class name)))) (ap (member_in es name) is ∙ there)
     one_type_found (One j) (inr (none, r)) = up_to_top none ∙ ap one_or_nothing (the_number rows are (top_class name) j r)
-    one_type_found Nothing (none, no) = up_to_top none ∙ by (number_of rows (top_class name)) refl
+    one_type_found Nothing (none, missing) = up_to_top none ∙ by (number_of rows (top_class name)) refl
       where
         by : (o : Option ℕ) → number_of rows (top_class name) ≡ o → one_or_nothing o ≡ Nothing
         by None h = refl
-        by (Some j) h = absurd (no j (number_stands rows (top_class name) j h))
+        by (Some j) h = absurd (missing j (number_stands rows (top_class name) j h))
     one_type_found (Many j k) h = absurd h
     one_type_found (NotAccessible j) h = absurd h
     one_type_found (FromStatic j) h = absurd h
