@@ -1,0 +1,4 @@
+pub mod Walking
+pub mod Returning
+pub mod Marking
+pub mod Around

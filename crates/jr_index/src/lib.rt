@@ -1,0 +1,10 @@
+//! Numbers, their parents and their names: which lie on a cycle, and which stands under a name.
+#![tactic(auto)]
+
+mod cycles;
+mod index;
+mod names;
+
+pub use cycles::first_on_cycle;
+pub use index::Index;
+pub use names::Names;
