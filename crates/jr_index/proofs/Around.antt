@@ -5,6 +5,7 @@ use Rattle.std.proofs.lemmas.Option.{slice_get_within}
 use Rattle.jr_index.specs.Parents.{up, next, Returns}
 use Rattle.jr_index.specs.Walked.{Walked}
 use Rattle.jr_index.specs.Cycles.{AreMarked}
+use Rattle.jr_index.proofs.Parity.{parity}
 use Rattle.jr_index.proofs.Returning.{returns_along, leads_back, never_ends, along, all_steps}
 use Rattle.jr_index.proofs.Marking as marking
 
@@ -97,6 +98,15 @@ module _ (parents : List (Option ℕ)) (start : ℕ) (old new last : List ℕ) (
       of : ComesBack → least ≤ x
       of (back e s ends lt there) = all_steps parents (λ y. least ≤ y) c e v.steps s ends there lt each (n + 1) n x (omega arith) at
 
+  round_stamped : (n x : ℕ) → up n parents c ≡ Some x → slice_get last x ≡ Some (2 * start + 2)
+  round_stamped n x at = of comes_back
+    where
+      each : (s x : ℕ) → s < v.steps → up s parents c ≡ Some x → slice_get last x ≡ Some (2 * start + 2)
+      each s x lt at = let p = v.passes s lt in subst (λ (y : ℕ). slice_get last y ≡ Some (2 * start + 2)) (number_of p.class x (sym p.reached ∙ at)) p.stamped
+
+      of : ComesBack → slice_get last x ≡ Some (2 * start + 2)
+      of (back e s ends lt there) = all_steps parents (λ y. slice_get last y ≡ Some (2 * start + 2)) c e v.steps s ends there lt each (n + 1) n x (omega arith) at
+
   some_step : 0 < v.steps
   some_step = of comes_back
     where
@@ -136,9 +146,23 @@ module _ (parents : List (Option ℕ)) (start : ℕ) (old new last : List ℕ) (
     closed = λ j p h n. to_last p (new_closed j p (to_new j h) n);
     done = λ j lt. to_last j (marking.done parents start old new first met low size m w j lt);
     covered = λ j h within r. cover j r (marking.came parents start old new first met low size m w j) (to_new j h) within;
+    even = λ j k h. even j k h (came j) (marking.came parents start old new first met low size m w j);
+    odd = λ j k h r. odd j k h r (came j) (marking.came parents start old new first met low size m w j);
     sound = sound_lower first f lower m.sound;
   }
     where
+      even : (j k : ℕ) → slice_get last j ≡ Some (2 * k + 2) → Came j → marking.Came parents start old new first met low size m w j → Returns parents j
+      even j k h (passed s lt at was is under) before = returns_along parents s c j returns_c at
+      even j k h (kept same) (marking.kept also) = m.even j k (sym also ∙ sym same ∙ h)
+      even j k h (kept same) (marking.passed s lt at was is under) = absurd (parity k start (number_of (2 * k + 2) (2 * start + 1) (sym h ∙ same ∙ is)))
+
+      odd : (j k : ℕ) → slice_get last j ≡ Some (2 * k + 1) → Returns parents j → Came j → marking.Came parents start old new first met low size m w j → ⊥
+      odd j k h r (passed s lt at was is under) before = parity start k (sym (number_of (2 * k + 1) (2 * start + 2) (sym h ∙ is)))
+      odd j k h r (kept same) (marking.kept also) = m.odd j k (sym also ∙ sym same ∙ h) r
+      odd j k h r (kept same) (marking.passed s lt at was is under) =
+          let leads = leads_back parents (w.steps - s) j c r (marking.end_of parents start old new first met low size m w s j lt at ∙ there) in
+          parity start k (sym (number_of (2 * k + 1) (2 * start + 2) (sym h ∙ round_stamped leads.0 j leads.1)))
+
       stamp : (j k : ℕ) → slice_get last j ≡ Some k → Came j → k < 2 * (start + 1) + 1
       stamp j k h (kept same) = let l = marking.stamps parents start old new first met low size m w j k (sym same ∙ h) in omega (arith, l)
       stamp j k h (passed s lt at was is under) = let n = number_of k (2 * start + 2) (sym h ∙ is) in omega (arith, n)

@@ -2,3 +2,5 @@ pub mod Walking
 pub mod Returning
 pub mod Marking
 pub mod Around
+pub mod Early
+pub mod Parity

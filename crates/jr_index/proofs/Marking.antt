@@ -4,6 +4,7 @@ use Rattle.std.specs.Prelude.{◌⊎◌, slice_get, MatchOption}
 use Rattle.jr_index.specs.Parents.{up, next, Returns}
 use Rattle.jr_index.specs.Walked.{Walked}
 use Rattle.jr_index.specs.Cycles.{AreMarked}
+use Rattle.jr_index.proofs.Parity.{parity}
 use Rattle.jr_index.proofs.Returning.{up-rest, up-one, leads_back, never_ends, along}
 
 apart : (a b : ℕ) → a ≢ b → Some a ≢ Some b
@@ -135,9 +136,19 @@ module _ (parents : List (Option ℕ)) (start : ℕ) (old new : List ℕ) (first
     closed = closed;
     done = done;
     covered = covered none;
+    even = λ j k h. even j k h (came j);
+    odd = λ j k h r. odd j k h r (came j);
     sound = sound first m.sound;
   }
     where
+      even : (j k : ℕ) → slice_get new j ≡ Some (2 * k + 2) → Came j → Returns parents j
+      even j k h (kept same) = m.even j k (sym same ∙ h)
+      even j k h (passed s lt at was is least) = let e : Some (2 * k + 2) ≡ Some (2 * start + 1) = sym h ∙ is in let n : 2 * k + 2 ≡ 2 * start + 1 = cc in absurd (parity k start n)
+
+      odd : (j k : ℕ) → slice_get new j ≡ Some (2 * k + 1) → Returns parents j → Came j → ⊥
+      odd j k h r (kept same) = m.odd j k (sym same ∙ h) r
+      odd j k h r (passed s lt at was is least) = none s j lt at was r
+
       sound : (o : Option ℕ) → MatchOption o (Unit {0}) (λ f. (f < length old) × Returns parents f) → MatchOption o (Unit {0}) (λ f. (f < length new) × Returns parents f)
       sound None h = h
       sound (Some f) h = let n = h.0 in (omega (arith, n, size), h.1)

@@ -21,3 +21,7 @@ Leads parents j k = (steps : ℕ) × (up steps parents j ≡ Some k)
 -- the way up from j comes back: j is on a cycle
 abbrev pub Returns : List (Option ℕ) → ℕ → Type 0
 Returns parents j = (steps : ℕ) × (up (suc steps) parents j ≡ Some j)
+
+-- what the way up from one of the first n numbers ever comes to, it comes to in fewer than n steps
+abbrev pub ComesEarly : List (Option ℕ) → ℕ → Type 0
+ComesEarly parents n = (steps j k : ℕ) → j < n → up steps parents j ≡ Some k → (s : ℕ) × (s < n) × (up s parents j ≡ Some k)

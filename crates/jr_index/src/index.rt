@@ -29,20 +29,14 @@ impl<'a> Index<'a> {
     /// One owner more, with no names.
     pub fn add_owner(&mut self) -> Result<(), AllocError>
         ensures owners { OnOk result (owners self.new ≡ owners self.old + 1) }
-        ensures found {
-            OnOk result ((c : ℕ) (q : List ℕ) → found self.new c q ≡ found self.old c q) }
+        ensures found { OnOk result ((c : ℕ) (q : List ℕ) → found self.new c q ≡ found self.old c q) }
     {
         self.by_owner.push(HashMap::new(self.alloc))?;
         Ok(())
     }
 
     /// Puts the number under the owner and the name, and answers the one before.
-    pub fn put(
-        &mut self,
-        owner: u32,
-        name: &'a str,
-        number: u32,
-    ) -> Result<Option<u32>, AllocError>
+    pub fn put(&mut self, owner: u32, name: &'a str, number: u32) -> Result<Option<u32>, AllocError>
         requires { owner < owners self.old }
         ensures owners { OnOk result (owners self.new ≡ owners self.old) }
         ensures before { IfOk result (λ before. before ≡ found self.old owner name.now) }

@@ -10,4 +10,7 @@ all_marked parents n marks None size past m = λ i lt r. m.covered i (m.done i (
 all_marked parents n marks (Some f) size past m = (let l = m.sound.0 in omega (arith, l, size), m.sound.1, λ i lt r. let within = m.sound.0 in let l = m.covered i (m.done i (omega (arith, lt, within, size))) (omega (arith, lt, within)) r in omega (arith, l, lt))
 
 pub returns : goal.returns
-returns c = all_marked c.args.parents.now c.loop-start.start c.loop-start.marks.items c.loop-start.first c.loop-start.invariant.size c.loop-start-test.false c.loop-start.invariant.marked
+returns c =
+    let k = c.in_ok-known.known in
+    let m = c.in_ok-known.ensures.marked in
+    all_marked c.args.parents.now m.0 k.marks.items k.first c.in_ok-known.ensures.size m.1 m.2
