@@ -1,9 +1,0 @@
-use Rattle.std.proofs.Common.{◌≡◌, length}
-use Rattle.jr_index.specs.Cycles.{AreMarked}
-use Rattle.jr_index.proofs.cycles.first_on_cycle.Given as goal
-
-abbrev pub invariant-loop-start : goal.invariant-loop-start
-invariant-loop-start l = record {
-  size : length l.marks.items ≡ length l.parents;
-  marked : AreMarked l.parents l.start l.marks.items l.first;
-}
