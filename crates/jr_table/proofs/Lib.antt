@@ -13,3 +13,15 @@ pub mod Gathered
 pub mod RowTests
 pub mod Cases
 pub mod SampleRows
+pub mod Accessing
+pub mod Inward
+pub mod FieldLaws
+pub mod Assigning
+pub mod Ascending
+pub mod Choosing
+pub mod OneCtor
+pub mod CallLaws
+pub mod ScopeLaws
+pub mod ShowingLaws
+pub mod LookupLaws
+pub mod LookupCases

@@ -31,7 +31,7 @@ true_not : (b : Bool) → (b ≡ true → ⊥) → not b ≡ true
 true_not true h = absurd (h refl)
 true_not false h = refl
 
-sort_is : (a b : Sort) → is_sort a b ≡ true → a ≡ b
+pub sort_is : (a b : Sort) → is_sort a b ≡ true → a ≡ b
 sort_is sort.Class sort.Class h = refl
 sort_is sort.Field sort.Field h = refl
 sort_is sort.Method sort.Method h = refl
@@ -46,7 +46,7 @@ is_same_sort sort.Method = refl
 is_same_sort sort.Ctor = refl
 is_same_sort sort.Local = refl
 
-is_sort_is : (a b : Sort) → a ≡ b → is_sort a b ≡ true
+pub is_sort_is : (a b : Sort) → a ≡ b → is_sort a b ≡ true
 is_sort_is a b e = subst (λ (s : Sort). is_sort a s ≡ true) e (is_same_sort a)
 
 pub kind_same : (a b : Kind) → (same_kind a b ≡ true) ↔ (a ≡ b)
@@ -66,11 +66,11 @@ kinds_same (a ∷ xs) (b ∷ ys) = (
   λ h. let e : a ≡ b = cc in let f : xs ≡ ys = cc in and_true _ _ ((kind_same a b).1 e) ((kinds_same xs ys).1 f),
 )
 
-number_is : (o : Option ℕ) (c : ℕ) → is_number o c ≡ true → o ≡ Some c
+pub number_is : (o : Option ℕ) (c : ℕ) → is_number o c ≡ true → o ≡ Some c
 number_is None c h = absurd cc
 number_is (Some d) c h = ap Some (eqb-true d c h)
 
-is_number_is : (o : Option ℕ) (c : ℕ) → o ≡ Some c → is_number o c ≡ true
+pub is_number_is : (o : Option ℕ) (c : ℕ) → o ≡ Some c → is_number o c ≡ true
 is_number_is None c h = absurd cc
 is_number_is (Some d) c h = let e : d ≡ c = cc in eq-eqb d c e
 

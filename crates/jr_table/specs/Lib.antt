@@ -27,3 +27,13 @@ pub mod Sought
 pub mod Keeps
 pub mod Wanted
 pub mod Virtual
+pub mod Access
+pub mod Innermost
+pub mod Fields
+pub mod TypeNames
+pub mod Choice
+pub mod Calls
+pub mod Scope
+pub mod Lookup
+pub mod LookupLaws
+pub mod LookupSample

@@ -41,7 +41,7 @@ impl Table {
 
     /// The row that declares in the class what is looked for.
     #[tactic(auto, unfolding(crate::specs::Looking::own_row))]
-    pub(crate) fn own(&self, class: u32, wanted: &Wanted<'_>) -> Option<u32>
+    pub fn own(&self, class: u32, wanted: &Wanted<'_>) -> Option<u32>
         ensures { result ≡ own_row (entries_of self.now) (passes wanted.now) class }
     {
         self.keeps_rows();
@@ -49,7 +49,7 @@ impl Table {
     }
 
     /// The row that declares what is looked for in the nearest class upwards.
-    pub(crate) fn nearest(&self, class: u32, wanted: &Wanted<'_>) -> Option<u32>
+    pub fn nearest(&self, class: u32, wanted: &Wanted<'_>) -> Option<u32>
         ensures { result ≡ nearest (entries_of self.now) (passes wanted.now) class }
     {
         self.keeps_rows();
@@ -82,7 +82,7 @@ impl Table {
     }
 
     /// The row of the member that is looked for.
-    pub(crate) fn member(&self, class: u32, wanted: &Wanted<'_>) -> Option<u32>
+    pub fn member(&self, class: u32, wanted: &Wanted<'_>) -> Option<u32>
         ensures { result ≡ member (entries_of self.now) (passes wanted.now) class }
     {
         self.keeps_rows();

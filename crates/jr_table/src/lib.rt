@@ -1,6 +1,7 @@
 //! The declarations of a program: keys, rows, the table.
 #![tactic(auto)]
 
+mod answers;
 mod classes;
 mod climbing;
 mod copies;
@@ -11,22 +12,27 @@ mod first_wanted;
 mod found;
 mod keys;
 mod kinds;
+mod lookup_laws;
 mod members;
 mod method_lists;
 mod numbering;
+mod overloads;
 mod prelude_rows;
 mod rows;
 mod rules;
 #[cfg(test)]
 mod sample;
 mod sought;
+mod table_kinds;
 mod tables;
 #[cfg(test)]
 mod tests;
 mod type_lists;
 mod types;
 mod wanted;
+mod widening;
 
+pub use answers::Answer;
 pub use classes::ClassKey;
 pub use decls::{Decl, LocalKey, MemberKey};
 pub use entries::{Entry, Kind, Kinds, Sort};
@@ -34,9 +40,11 @@ pub use facts::Facts;
 pub use found::Found;
 pub use keys::{CtorKey, FieldKey, MethodKey};
 pub use kinds::DeclKind;
+pub use lookup_laws::lookups_are_exact;
 pub use prelude_rows::prelude;
 pub use rows::{Mods, Row};
 pub use rules::Rule;
 pub use tables::Table;
 pub use type_lists::Tys;
 pub use types::Ty;
+pub use wanted::Wanted;

@@ -75,7 +75,7 @@ fn class_number(rows: &[Row], key: &ClassKey) -> u32
     }
 }
 
-fn kind(rows: &[Row], ty: &Ty) -> Kind
+pub(crate) fn kind(rows: &[Row], ty: &Ty) -> Kind
     requires { length rows.now < 2 ^ 32 }
     ensures { result ≡ pure.kind_of (map row_of rows.now) (ty_of ty.now) }
 {
@@ -98,7 +98,7 @@ fn maybe_kind(rows: &[Row], ty: &Option<Ty>) -> Option<Kind>
     }
 }
 
-fn kinds(alloc: Global, rows: &[Row], tys: &[Ty]) -> Result<Kinds, AllocError>
+pub(crate) fn kinds(alloc: Global, rows: &[Row], tys: &[Ty]) -> Result<Kinds, AllocError>
     requires { length rows.now < 2 ^ 32 }
     ensures { IfOk result (λ k. k ≡ map (pure.kind_of (map row_of rows.now)) (map ty_of tys.now)) }
 {

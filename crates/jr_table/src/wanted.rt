@@ -7,7 +7,7 @@ use crate::entries::{Entry, Kind, Sort};
 
 /// What is looked for among the members of a class.
 #[derive(Clone, Copy, Drop)]
-pub(crate) enum Wanted<'a> {
+pub enum Wanted<'a> {
     Field(&'a str),
     /// A member type.
     Inner(&'a str),
@@ -16,7 +16,7 @@ pub(crate) enum Wanted<'a> {
     Virtual(&'a str, &'a [Kind]),
 }
 
-fn same_kind(left: Kind, right: Kind) -> bool
+pub(crate) fn same_kind(left: Kind, right: Kind) -> bool
     ensures { result ≡ looking.same_kind left right }
 {
     match (left, right) {

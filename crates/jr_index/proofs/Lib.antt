@@ -1,0 +1,6 @@
+pub mod Walking
+pub mod Returning
+pub mod Marking
+pub mod Around
+pub mod Early
+pub mod Parity

@@ -1,0 +1,6 @@
+pub mod Firsts
+pub mod Parents
+pub mod Walked
+pub mod Cycles
+pub mod Names
+pub mod Index
