@@ -5,6 +5,7 @@ ghost use Rattle.jr_small.specs.Refusal.{Refusal};
 ghost use Rattle.jr_small.specs.Answer.{Grants, Refuses};
 
 use jr_lex::one_answer;
+use jr_punit::unit_has_one_answer;
 
 /// Each wish has one answer: it is granted with one text, or refused by one refusal, and never both.
 pub fn wish_has_one_answer()
@@ -13,4 +14,5 @@ pub fn wish_has_one_answer()
     ensures never_both { (text : List ℕ) (at : ℕ) (name new : List ℕ) (refusal : Refusal) → Grants text at name new → Refuses text at name refusal → ⊥ }
 {
     one_answer();
+    unit_has_one_answer();
 }
