@@ -165,7 +165,7 @@ fn refuses_sources(rt: HostRuntime) -> Result<(), Fail> {
         (
             "class A{static void m(){if(b)int a=1;}}",
             33,
-            "refused 4 SourceError A.java:33 Syntax\n",
+            "refused 4 SourceError A.java:29 Syntax\n",
         ),
         ("class A{static int f;}class B{static int f;}", 42, unbuilt),
         ("class A{static void m(){{int a=1;}}}", 29, unbuilt),
