@@ -8,7 +8,10 @@ use Rattle.jr_ast.specs.MemberTree as tree
 use Rattle.jr_ast.specs.View.{member_of, members_of}
 use Rattle.jr_grammar.specs.Tokens.{Token}
 use Rattle.jr_pexpr.specs.Marked.{join}
-use Rattle.jr_punit.specs.Cues.{Cue, a_word, a_modifier, a_class, a_close_brace, an_open_brace, a_package, cue_of, at_close_brace}
+use Rattle.jr_punit.specs.declared.cues.Cue as rust
+use Rattle.jr_punit.specs.declared.cues.Cue.TheVariants as cue
+use Rattle.jr_punit.specs.CueView.{cue_view}
+use Rattle.jr_punit.specs.Cues.{Cue, a_word, a_modifier, a_class, a_close_brace, an_open_brace, a_package, cue_of, at_close_brace, at_open_brace}
 use Rattle.jr_punit.specs.CueTests.{is_close_brace}
 use Rattle.jr_punit.specs.Inside.{inner, settled}
 use Rattle.jr_punit.specs.TypeMachine as T
@@ -18,7 +21,7 @@ use Rattle.jr_punit.specs.MemberMachine as Members
 use Rattle.jr_punit.specs.UnitMachine as Units
 use Rattle.jr_punit.specs.UnitView.{is_package}
 use Rattle.jr_punit.specs.OwnView.{begun}
-use Rattle.jr_punit.specs.ClassView.{inner_read, inner_members, top_read, top_members, is_modified, is_class, begins_class}
+use Rattle.jr_punit.specs.ClassView.{inner_read, inner_members, top_read, top_members, is_modified, is_class, begins_class, inner_parent, top_parent}
 
 pub members-append : (ds : List (Member Span)) (d : Member Span) → members_of (ds ++ d ∷ []) ≡ Classes.with_member (members_of ds) (member_of d)
 members-append [] d = refl
@@ -40,10 +43,42 @@ stays {S} {T} {N} within behind whole s h = go (whole s) h
     go (Some t) h = absurd cc
     go None h = refl
 
+-- in a member, and behind it, of a member class and of a top-level one
+abbrev pub inner_within : Classes.Head Span → tree.Members Span → Own.State Span → Classes.State Span (Own.State Span)
+inner_within h all s = Classes.in_members h all s
+
+abbrev pub inner_behind : Classes.Head Span → tree.Members Span → tree.Member Span → Classes.State Span (Own.State Span)
+inner_behind h all d = Classes.in_members h (Classes.with_member all d) Own.start
+
+abbrev pub top_within : Classes.Head Span → tree.Members Span → Members.State Span → Units.ClassState Span
+top_within h all s = Classes.in_members h all s
+
+abbrev pub top_behind : Classes.Head Span → tree.Members Span → tree.Member Span → Units.ClassState Span
+top_behind h all d = Classes.in_members h (Classes.with_member all d) Members.start
+
 -- where nothing is taken, only what is inside goes on
 pub no_taking : {S N : Type 0} (within : S → N) (o : Option S) (taken : Option N) → taken ≡ None → inner within taken o ≡ option_map within o
 no_taking within (Some s) taken h = refl
 no_taking within None taken h = h
+
+-- ---- the name of a superclass
+
+not_open : {N : Type 0} (c : rust.Cue) (n : N) → (c ≡ cue.OpenBrace → ⊥) → at_open_brace (cue_view c) n ≡ None
+not_open cue.OpenBrace n h = absurd (h refl)
+not_open (cue.Word w) n h = refl
+not_open _ n h = refl
+
+no_head : {S N : Type 0} (o : Option S) (f : S → Option N) → ((s : S) → f s ≡ None) → option_and_then f o ≡ None
+no_head (Some s) f h = h s
+no_head None f h = refl
+
+pub inner_parent_goes : (l : Own.Lead Span) (w : Word Span) (s : T.State Span) (at : Span) (c : rust.Cue) → (c ≡ cue.OpenBrace → ⊥)
+    → inner_parent l w s at (cue_view c) ≡ option_map (Classes.in_parent l w) (T.cue_step join s at (cue_view c))
+inner_parent_goes l w s at c h = no_taking (Classes.in_parent l w) (T.cue_step join s at (cue_view c)) _ (no_head (T.whole s) _ (λ t. not_open c _ h))
+
+pub top_parent_goes : (l : Own.Lead Span) (w : Word Span) (s : T.State Span) (at : Span) (c : rust.Cue) → (c ≡ cue.OpenBrace → ⊥)
+    → top_parent l w s at (cue_view c) ≡ option_map (Classes.in_parent l w) (T.cue_step join s at (cue_view c))
+top_parent_goes l w s at c h = no_taking (Classes.in_parent l w) (T.cue_step join s at (cue_view c)) _ (no_head (T.whole s) _ (λ t. not_open c _ h))
 
 -- ---- the `}` of a class
 

@@ -1,16 +1,22 @@
 -- What was read is the unit, and else there is none, by the laws of the machine.
 use Rattle.std.proofs.Common.{◌≡◌, ℕ, List, Option, Some, None, refl, sym, ap, subst, ◌∙◌}
-use Rattle.std.specs.Prelude.{length, option_map, option_and_then, MatchOption}
+use Rattle.std.specs.Prelude.{length, option_map, option_and_then, MatchOption, Result, Ok, Err, IfOk, IfErr, OnOk, IsErr}
 use Rattle.jr_text.specs.declared.spans.Span.{Span}
 use Rattle.jr_lex.specs.declared.items.Item.{Item}
 use Rattle.jr_lex.specs.Lexes.{Lexes}
+use Rattle.jr_ast.specs.declared.members.Unit.{Unit}
 use Rattle.jr_ast.specs.MemberTree.{Unit as UnitTree}
+use Rattle.jr_ast.specs.View.{unit_of}
 use Rattle.jr_grammar.specs.Tokens.{Token, kinds, tokens_of, placed_of}
 use Rattle.jr_grammar.specs.Bare.{Bare, no_mark, bare_unit}
 use Rattle.jr_grammar.specs.Units.{IsUnit, IsNoUnit, IsMarkedUnit, OneUnitReading}
 use Rattle.jr_grammar.specs.Reads.{Reads}
 use Rattle.jr_grammar.specs.IgnoresMarks.{UnitIgnoresMarks}
 use Rattle.jr_punit.specs.OneReading.{OneMarkedTree}
+use Rattle.jr_pexpr.specs.declared.faults.ParseFault.{ParseFault}
+use Rattle.jr_pexpr.specs.declared.faults.ParseFault.TheVariants.{Syntax, Memory}
+use Rattle.jr_pexpr.specs.Parsing.{IsFault}
+use Rattle.jr_punit.specs.Unread.{IsUnread}
 use Rattle.jr_punit.specs.Exact.{UnitIsRead, UnitStopIsExact}
 use Rattle.jr_punit.specs.Machines.{unit_read, unit_stop}
 use Rattle.jr_punit.specs.Marked.{span_unit_read, span_unit_stop}
@@ -88,3 +94,56 @@ one_answer trees places stops marks = record {
       let no : Span → Bare = (λ m. no_mark m) in
       k.none (bare_unit a) (record { shaped = (marks.shape no a).1 h.shaped; spells = marks.spelling no a ∙ h.spells });
 }
+
+-- ---- what code answers
+
+module _ (laws : Laws) (bytes : List ℕ) (items : List Item) (result : Result (Unit Span) ParseFault) where
+  abbrev Read : Type 0
+  Read = IfOk result (λ unit. span_unit_read (length bytes) (placed_of bytes items) ≡ Some (unit_of unit))
+
+  abbrev Unread : Type 0
+  Unread = IfErr result (IsFault (IsUnread bytes items))
+
+  pub read_answer : Read → IfOk result (λ unit. IsUnitOf bytes items (unit_of unit))
+  read_answer h = go result h
+    where
+      go : (r : Result (Unit Span) ParseFault) → IfOk r (λ unit. span_unit_read (length bytes) (placed_of bytes items) ≡ Some (unit_of unit)) → IfOk r (λ unit. IsUnitOf bytes items (unit_of unit))
+      go (Ok unit) h = is_unit laws bytes items (unit_of unit) h
+      go (Err f) h = tt
+
+  pub reads_answer : Lexes bytes items → Read → IfOk result (λ unit. Reads bytes (unit_of unit))
+  reads_answer l h = go result h
+    where
+      go : (r : Result (Unit Span) ParseFault) → IfOk r (λ unit. span_unit_read (length bytes) (placed_of bytes items) ≡ Some (unit_of unit)) → IfOk r (λ unit. Reads bytes (unit_of unit))
+      go (Ok unit) h = reads_unit laws bytes items l (unit_of unit) h
+      go (Err f) h = tt
+
+  pub unit_answer : Read → OnOk result (AreUnit (tokens_of bytes items))
+  unit_answer h = go result h
+    where
+      go : (r : Result (Unit Span) ParseFault) → IfOk r (λ unit. span_unit_read (length bytes) (placed_of bytes items) ≡ Some (unit_of unit)) → OnOk r (AreUnit (tokens_of bytes items))
+      go (Ok unit) h = are_unit laws bytes items (unit_of unit) h
+      go (Err f) h = tt
+
+  pub fault_answer : Unread → IfErr result (IsFault (IsNoUnitAt bytes items))
+  fault_answer h = go result h
+    where
+      go : (r : Result (Unit Span) ParseFault) → IfErr r (IsFault (IsUnread bytes items)) → IfErr r (IsFault (IsNoUnitAt bytes items))
+      go (Ok unit) h = tt
+      go (Err (Syntax at)) h = no_unit_at laws bytes items at h.read h.byte
+      go (Err Memory) h = tt
+
+  pub only_read_answer : Unread → AreUnit (tokens_of bytes items) → IfErr result (λ fault. fault ≡ Memory)
+  only_read_answer h u = go result h
+    where
+      go : (r : Result (Unit Span) ParseFault) → IfErr r (IsFault (IsUnread bytes items)) → IfErr r (λ fault. fault ≡ Memory)
+      go (Ok unit) h = tt
+      go (Err (Syntax at)) h = absurd (never_a_unit laws bytes items h.read u)
+      go (Err Memory) h = refl
+
+  pub only_fault_answer : Read → IsNoUnit (tokens_of bytes items) → IsErr result
+  only_fault_answer h none = go result h
+    where
+      go : (r : Result (Unit Span) ParseFault) → IfOk r (λ unit. span_unit_read (length bytes) (placed_of bytes items) ≡ Some (unit_of unit)) → IsErr r
+      go (Ok unit) h = absurd (some_unit laws bytes items (unit_of unit) h none)
+      go (Err f) h = refl

@@ -1,11 +1,12 @@
 -- The way through a text by the machine for units.
-use Rattle.std.proofs.Common.{◌≡◌, ℕ, ◌≤◌, List, length, drop, Option, Some, None, refl, sym, ap, subst, ◌∙◌, arith}
+use Rattle.std.proofs.Common.{◌≡◌, ℕ, ◌<◌, ◌≤◌, List, [], length, drop, get_or, Option, Some, None, refl, sym, ap, subst, ◌∙◌, arith}
 use Rattle.std.proofs.lemmas.List.{drop_all}
 use Rattle.std.specs.Prelude.{option_and_then}
 use Rattle.jr_text.specs.declared.spans.Span.{Span}
 use Rattle.jr_lex.specs.declared.items.Item.{Item}
 use Rattle.jr_ast.specs.MemberTree.{Unit as UnitTree}
-use Rattle.jr_grammar.specs.Tokens.{Placed, placed_of}
+use Rattle.jr_grammar.specs.Tokens.{Token, token_of, placed_of}
+use Rattle.jr_pexpr.specs.ExpView.{placed}
 use Rattle.jr_punit.specs.Marked.{span_unit_step, span_unit_whole, span_unit_read, span_unit_stop}
 use Rattle.jr_punit.specs.StopPlaces.{byte_of}
 use Rattle.jr_punit.specs.UnitMachine.{State, start}
@@ -25,14 +26,19 @@ Goes bytes items i s n = W.GoesOn (State Span) (UnitTree Span) span_unit_step (s
 abbrev pub Stops : List ℕ → List Item → ℕ → State Span → Type 0
 Stops bytes items i s = W.Halts (State Span) (UnitTree Span) span_unit_step (span_unit_whole (length bytes)) bytes items i s (length bytes)
 
-pub goes : (bytes : List ℕ) (items : List Item) (i : ℕ) (s : State Span) → _
-goes bytes items i s = W.by_token (State Span) (UnitTree Span) span_unit_step (span_unit_whole (length bytes)) bytes items i s (length bytes)
+abbrev pub item_at : List Item → ℕ → Item
+item_at items i = get_or items i W.no_item
 
-pub skips : (bytes : List ℕ) (items : List Item) (i : ℕ) (s : State Span) → _
+pub goes : (bytes : List ℕ) (items : List Item) (i : ℕ) (s : State Span) (t : Token) (n : State Span) → i < length items → token_of bytes (item_at items i).span (item_at items i).kind ≡ Some t
+    → span_unit_step s (placed (item_at items i).span t) ≡ Some n → Goes bytes items i s n
+goes bytes items i s t n = W.by_token (State Span) (UnitTree Span) span_unit_step (span_unit_whole (length bytes)) bytes items i s (length bytes) t n
+
+pub skips : (bytes : List ℕ) (items : List Item) (i : ℕ) (s : State Span) → i < length items → token_of bytes (item_at items i).span (item_at items i).kind ≡ None → Goes bytes items i s s
 skips bytes items i s = W.by_blank (State Span) (UnitTree Span) span_unit_step (span_unit_whole (length bytes)) bytes items i s (length bytes)
 
-pub stops : (bytes : List ℕ) (items : List Item) (i : ℕ) (s : State Span) → _
-stops bytes items i s = W.by_halt (State Span) (UnitTree Span) span_unit_step (span_unit_whole (length bytes)) bytes items i s (length bytes)
+pub stops : (bytes : List ℕ) (items : List Item) (i : ℕ) (s : State Span) (t : Token) → i < length items → token_of bytes (item_at items i).span (item_at items i).kind ≡ Some t
+    → span_unit_step s (placed (item_at items i).span t) ≡ None → Stops bytes items i s
+stops bytes items i s t = W.by_halt (State Span) (UnitTree Span) span_unit_step (span_unit_whole (length bytes)) bytes items i s (length bytes) t
 
 -- ---- at the end
 

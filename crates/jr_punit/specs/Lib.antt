@@ -31,3 +31,4 @@ pub mod UnitView
 pub mod Parsing
 pub mod StatementView
 pub mod Slots
+pub mod Unread

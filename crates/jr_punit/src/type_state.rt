@@ -1,5 +1,5 @@
 //! How far a type has been read (JLS 4.2, 4.3, 6.5.5).
-ghost use Rattle.std.specs.Prelude.{◌≡◌, Some, IfOk, option_map};
+ghost use Rattle.std.specs.Prelude.{◌≡◌, Some, false, IfOk, option_map};
 ghost use Rattle.std.specs.Option.{is_some};
 ghost use Rattle.jr_ast.specs.View.{word_of, type_of};
 ghost use Rattle.jr_pexpr.specs.Marked.{join};

@@ -1,9 +1,8 @@
-use Rattle.std.proofs.Common.{◌≡◌, ◌≤◌, length, drop}
-use Rattle.jr_punit.specs.Marked.{span_unit_run, span_unit_stop}
+use Rattle.std.proofs.Common.{◌≡◌}
 use Rattle.jr_punit.specs.UnitMachine.{start}
 use Rattle.jr_punit.specs.UnitView.{unit_state}
 use Rattle.jr_punit.proofs.UnitParses.{read_on, byte_on}
-use Rattle.jr_punit.proofs.parsing.parse_unit.Given as goal
+use Rattle.jr_punit.proofs.parsing.read_unit.Given as goal
 
 -- what is read from here on, and the byte where reading stops, are those from the first item on
 abbrev pub invariant-loop-i : goal.invariant-loop-i

@@ -1,0 +1,19 @@
+use Rattle.std.proofs.Common.{◌∙◌, sym, ap, subst, Some}
+use Rattle.jr_ast.specs.View.{members_of}
+use Rattle.jr_pexpr.specs.TokenView.{token_view}
+use Rattle.jr_punit.specs.OwnView.{own_state}
+use Rattle.jr_punit.specs.ClassMachine as Classes
+use Rattle.jr_punit.specs.ClassView.{class_head, IsNextInner}
+use Rattle.jr_punit.proofs.ClassSteps.{inner_ends, inner_goes}
+use Rattle.jr_punit.proofs.inner_class.from_members.Goals as goal
+
+pub returns-then-ends : goal.returns-then-ends
+returns-then-ends c =
+    ap (λ k. Some (Classes.done k)) c.in_ok-class.ensures
+    ∙ sym (inner_ends (class_head c.args.head.value) (members_of c.args.all.items) (own_state c.args.member) c.args.at (token_view c.args.token) (sym c.ends.ensures ∙ c.if-ends.true))
+
+pub returns-else-ends : goal.returns-else-ends
+returns-else-ends c =
+    subst (IsNextInner c.member_on.result)
+    (sym (inner_goes (class_head c.args.head.value) (members_of c.args.all.items) (own_state c.args.member) c.args.at (token_view c.args.token) (sym c.ends.ensures ∙ c.if-ends.false)))
+    c.member_on.ensures

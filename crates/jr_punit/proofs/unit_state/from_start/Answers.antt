@@ -1,0 +1,15 @@
+use Rattle.std.proofs.Common.{◌∙◌, sym, ap, subst}
+use Rattle.jr_pexpr.specs.Marked.{join}
+use Rattle.jr_pexpr.specs.TokenView.{token_view}
+use Rattle.jr_punit.specs.Cues.{Cue, cue_of}
+use Rattle.jr_punit.specs.UnitMachine as machine
+use Rattle.jr_punit.specs.UnitView.{IsNextUnit}
+use Rattle.jr_punit.proofs.ClassSteps.{package_is, no_package}
+use Rattle.jr_punit.proofs.unit_state.from_start.Goals as goal
+
+pub returns-then-is_package : goal.returns-then-is_package
+returns-then-is_package c = sym (ap (machine.from_start join c.args.at (token_view c.args.token)) (package_is (cue_of (token_view c.args.token)) (sym c.is_package.ensures ∙ c.if-is_package.true)))
+
+pub returns-else-is_package : goal.returns-else-is_package
+returns-else-is_package c =
+    subst (IsNextUnit c.from_classes.result) (sym (no_package join c.args.at (token_view c.args.token) (cue_of (token_view c.args.token)) (sym c.is_package.ensures ∙ c.if-is_package.false))) c.from_classes.ensures
