@@ -88,12 +88,7 @@ fn from_class(alloc: Global, lead: Lead, at: Span, cue: Cue<'_>) -> Begun
 }
 
 /// Behind the `{` of the class.
-fn opened(
-    alloc: Global,
-    lead: Lead,
-    name: Ident<Span>,
-    parent: Option<TypeRef<Span>>,
-) -> Begun
+fn opened(alloc: Global, lead: Lead, name: Ident<Span>, parent: Option<TypeRef<Span>>) -> Begun
     ensures inner { IsBegun (Own.start {A = Span}) result (Some (machine.in_members
         (machine.head_of (lead_view lead) (word_of name) (option_map type_of parent))
         tree.end Own.start)) }

@@ -70,13 +70,7 @@ fn class_begun(own: OwnState, at: Span) -> Option<MemberState>
 }
 
 /// The member that is no class goes on.
-fn own_on(
-    alloc: Global,
-    name: &str,
-    own: OwnState,
-    at: Span,
-    token: Token<'_>,
-) -> MemberStepped
+fn own_on(alloc: Global, name: &str, own: OwnState, at: Span, token: Token<'_>) -> MemberStepped
     ensures { IsNextMember result (option_map machine.own
         (Own.step join name.now (own_state own) at (token_view token.entry))) }
 {

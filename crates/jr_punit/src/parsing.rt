@@ -36,9 +36,7 @@ fn read_unit(alloc: Global, text: &Text, items: &[Item]) -> Result<Unit<Span>, P
             match state.step(alloc, item.span, token)? {
                 Some(next) => state = next,
                 None => {
-                    return Err(ParseFault::Syntax {
-                        at: item.span.from,
-                    });
+                    return Err(ParseFault::Syntax { at: item.span.from });
                 }
             }
         }
@@ -55,11 +53,7 @@ fn read_unit(alloc: Global, text: &Text, items: &[Item]) -> Result<Unit<Span>, P
 ///
 /// `Syntax` exactly where the tokens are no unit: `at` is the first byte of the first token such
 /// that no unit begins with the tokens up to it and with it, or the text's end. Memory may run out.
-pub fn parse_unit(
-    alloc: Global,
-    text: &Text,
-    items: &[Item],
-) -> Result<Unit<Span>, ParseFault>
+pub fn parse_unit(alloc: Global, text: &Text, items: &[Item]) -> Result<Unit<Span>, ParseFault>
     requires lexed { Lexes text.now items.now }
     requires within { AreWithin items.now }
     ensures read { IfOk result (λ unit. IsUnitOf text.now items.now (unit_of unit)) }

@@ -132,12 +132,7 @@ fn from_start(alloc: Global, at: Span, token: Token<'_>) -> UnitStepped
     }
 }
 
-fn from_package(
-    alloc: Global,
-    words: Vec<Ident<Span>>,
-    at: Span,
-    cue: Cue<'_>,
-) -> UnitStepped
+fn from_package(alloc: Global, words: Vec<Ident<Span>>, at: Span, cue: Cue<'_>) -> UnitStepped
     ensures { IsNextUnit result (machine.from_package (words_view words) at
         (cue_view cue.entry)) }
 {

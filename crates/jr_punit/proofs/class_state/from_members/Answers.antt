@@ -1,7 +1,6 @@
 use Rattle.std.proofs.Common.{◌∙◌, sym, ap, subst, Some}
 use Rattle.jr_ast.specs.View.{members_of}
 use Rattle.jr_pexpr.specs.TokenView.{token_view}
-
 use Rattle.jr_punit.specs.ClassMachine as Classes
 use Rattle.jr_punit.specs.ClassView.{class_head, member_state, IsNextClass}
 use Rattle.jr_punit.proofs.ClassSteps.{top_ends, top_goes}

@@ -4,7 +4,6 @@ use Rattle.jr_text.specs.declared.spans.Span.{Span}
 use Rattle.jr_ast.specs.MemberTree.{Member}
 use Rattle.jr_ast.specs.View.{members_of}
 use Rattle.jr_punit.specs.MemberMachine as Members
-
 use Rattle.jr_punit.specs.ClassMachine as Classes
 use Rattle.jr_punit.specs.ClassView.{class_head, member_state, IsNextClass}
 use Rattle.jr_punit.proofs.ClassSteps.{top_within, top_behind, settles, stays}
