@@ -1,5 +1,5 @@
 //! How far a top-level class has been read (JLS 7.6, 8.1).
-ghost use Rattle.std.specs.Prelude.{◌≡◌, ◌&&◌, Some, IfOk, option_map};
+ghost use Rattle.std.specs.Prelude.{◌≡◌, ◌&&◌, Some, false, IfOk, option_map};
 ghost use Rattle.std.specs.Option.{is_some};
 ghost use Rattle.jr_ast.specs.View.{class_of, member_of, members_of};
 ghost use Rattle.jr_pexpr.specs.Marked.{join};
