@@ -109,7 +109,6 @@ fn from_class(alloc: Global, class: InnerClass, at: Span, token: Token<'_>) -> M
 }
 
 /// A class as a member.
-#[tactic(auto, unfolding(jr_ast::specs::View::member_kind))]
 fn class_member(class: Class<Span>) -> Member<Span>
     ensures { member_of result ≡ machine.class_member (class_of class) }
 {
