@@ -195,7 +195,8 @@ impl ClassState {
     {
         match self {
             ClassState::Done(class) => Some(Box::into_inner(class)),
-            _ => None,
+            ClassState::Start(_) => None,
+            ClassState::Members(_, _, _) => None,
         }
     }
 }

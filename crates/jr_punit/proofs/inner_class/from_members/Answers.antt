@@ -7,8 +7,8 @@ use Rattle.jr_punit.specs.ClassView.{class_head, IsNextInner}
 use Rattle.jr_punit.proofs.ClassSteps.{inner_ends, inner_goes}
 use Rattle.jr_punit.proofs.inner_class.from_members.Goals as goal
 
-pub returns-then-ends : goal.returns-then-ends
-returns-then-ends c =
+pub returns-in_ok-class : goal.returns-in_ok-class
+returns-in_ok-class c =
     ap (λ k. Some (Classes.done k)) c.in_ok-class.ensures
     ∙ sym (inner_ends (class_head c.args.head.value) (members_of c.args.all.items) (own_state c.args.member) c.args.at (token_view c.args.token) (sym c.ends.ensures ∙ c.if-ends.true))
 
