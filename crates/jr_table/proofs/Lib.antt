@@ -25,3 +25,7 @@ pub mod ScopeLaws
 pub mod ShowingLaws
 pub mod LookupLaws
 pub mod LookupCases
+pub mod RowTypes
+pub mod Typing
+pub mod BindingSamples
+pub mod BindingCases
