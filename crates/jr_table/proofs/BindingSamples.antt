@@ -1,9 +1,8 @@
 -- Small programs for cases of binding. A node's mark is the place of its first byte. The rows are those of the classes, where
 -- each type is a class of the program or the prelude by its simple name, or a member class of the class around.
 use Rattle.std.proofs.Common.{ℕ, List, [], ◌∷◌, Option, Some, None, Bool, true, false, map}
-use Rattle.std.specs.Prelude.{◌&&◌, ◌||◌, ◌==◌, ◌++◌, nat_lt, filter, if◌then◌else◌}
+use Rattle.std.specs.Prelude.{◌&&◌, ◌||◌, ◌==◌, ◌++◌, nat_lt, filter, is_some, unwrap_or, if◌then◌else◌}
 use Rattle.std.specs.List.{list_any}
-use Rattle.std.specs.Option.{is_some}
 use Rattle.jr_ast.specs.declared.operators.ModWord.{ModWord}
 use Rattle.jr_ast.specs.Tree as tree
 use Rattle.jr_ast.specs.StatementTree as statement
@@ -46,8 +45,7 @@ class_keys [] = []
 class_keys (syntax.class m mods v t ms ∷ cs) = key_in None v.text ∷ (member_keys v.text ms ++ class_keys cs)
 
 abbrev pub outer_or_own : ClassKey → List ℕ
-outer_or_own (record { outer = None; name = n }) = n
-outer_or_own (record { outer = Some o; name = n }) = o
+outer_or_own k = unwrap_or k.outer k.name
 
 abbrev pub resolved : List ClassKey → ClassKey → Option (tree.Word ℕ) → List ℕ → ClassKey
 resolved ks k (Some o) name = key_in (Some o.text) name

@@ -29,3 +29,6 @@ pub mod RowTypes
 pub mod Typing
 pub mod BindingSamples
 pub mod BindingCases
+pub mod Referring
+pub mod TypeTests
+pub mod Breaking

@@ -1,7 +1,6 @@
 -- Exact: what binding notes of one expression, statement, list or head itself.
-use Rattle.std.specs.Prelude.{ℕ, List, [], ◌∷◌, ◌++◌, Option, Some, None, option_and_then, Bool, true, false, not, ◌&&◌, ◌||◌, nat_lt, codes, if◌then◌else◌}
+use Rattle.std.specs.Prelude.{ℕ, List, [], ◌∷◌, ◌++◌, Option, Some, None, option_and_then, is_some, Bool, true, false, not, ◌&&◌, ◌||◌, nat_lt, ◌==◌, codes, if◌then◌else◌, ◌≡◌, ◌⊎◌}
 use Rattle.std.specs.List.{list_any}
-use Rattle.std.specs.Option.{is_some}
 use Rattle.std.specs.Str.{bytes_eq}
 use Rattle.jr_ast.specs.declared.operators.UnOp.{UnOp}
 use Rattle.jr_ast.specs.declared.operators.UnOp.TheVariants as sign
@@ -16,9 +15,9 @@ use Rattle.jr_table.specs.Decls.{MemberKey, head, field, method, constructor, Lo
 use Rattle.jr_table.specs.SameKeys.{same_class, same_ty}
 use Rattle.jr_table.specs.SameDecls.{same_local}
 use Rattle.jr_table.specs.Rows.{Row}
-use Rattle.jr_table.specs.Entries.{number_of, class_number, kind_of, entries_of, is_static_word}
+use Rattle.jr_table.specs.Entries.{number_of, entries_of, is_static_word}
 use Rattle.jr_table.specs.Found.{Found, one, nothing, many, not_accessible, from_static}
-use Rattle.jr_table.specs.Calls.{assignable}
+use Rattle.jr_table.specs.Chains.{chain_of}
 use Rattle.jr_table.specs.Scope.{last_named}
 use Rattle.jr_table.specs.Lookup.{find_variable}
 use Rattle.jr_table.specs.Context.{Local, Context, scope_of, in_own, local_of, is_final_word}
@@ -31,6 +30,11 @@ use Rattle.jr_table.specs.declared.rules.Rule.TheVariants as rule
 pub data Note : Type 0 where
   refers : (at : ℕ) (decl : Decl) → Note
   breaks : (at : ℕ) (rule : Rule) → Note
+
+-- a note is in a log
+abbrev pub Has : List Note → Note → Type 0
+Has [] n = ⊥
+Has (x ∷ xs) n = (x ≡ n) ⊎ Has xs n
 
 -- the rule that is broken where nothing is found
 abbrev pub missing_rule : Sought → Rule
@@ -72,14 +76,19 @@ is_reference null = true
 is_reference (class k) = true
 is_reference _ = false
 
--- a type to itself, null to every class, a class with a row to its superclasses
+-- whether a class of this number is, or has as a superclass, the class of that one
+abbrev pub is_below : List Row → Option ℕ → Option ℕ → Bool
+is_below rows (Some c) (Some d) = list_any (λ x. x == d) (chain_of (entries_of rows) c)
+is_below rows _ _ = false
+
+-- null goes with every class, a class with its superclasses
+abbrev pub widens : List Row → Ty → Ty → Bool
+widens rows null (class d) = true
+widens rows (class c) (class d) = is_below rows (number_of rows (class_decl c)) (number_of rows (class_decl d))
+widens rows _ _ = false
+
 abbrev pub assigns : List Row → Ty → Ty → Bool
-assigns rows s t = same_ty s t || widens_to s t
-  where
-    widens_to : Ty → Ty → Bool
-    widens_to null (class d) = true
-    widens_to (class c) (class d) = is_some (number_of rows (class_decl c)) && is_some (number_of rows (class_decl d)) && assignable (entries_of rows) (kind_of rows (class c)) (kind_of rows (class d))
-    widens_to _ _ = false
+assigns rows s t = same_ty s t || widens rows s t
 
 abbrev pub suits : List Row → Option Ty → Option Ty → Bool
 suits rows (Some s) (Some t) = assigns rows s t
