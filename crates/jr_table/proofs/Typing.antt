@@ -182,13 +182,13 @@ module _ (rows : List Row) (fit : AreRows rows) (found : KeysAreFound rows) (c :
       typed (tree.name m w) t = typed_by (find_variable rows (scope_of c) w.text) (FindsVariable rows (scope_of c) w.text) (found.variable (scope_of c) w.text) t
       typed (tree.field m e w) t = typed_by (field_found rows c (on_class (class_name_of rows c e) (type_of rows c e)) w.text) _
           (field_iff (on_class (class_name_of rows c e) (type_of rows c e)) (On (λ k. IsClassName rows c e k) (λ u. HasType rows c e u)) w.text
-              (on_iff (class_name_of rows c e) (type_of rows c e) (λ k. IsClassName rows c e k) (λ u. HasType rows c e u) (named e) (typed e))) t
+              (on_iff (class_name_of rows c e) (type_of rows c e) (λ k. IsClassName rows c e k) (λ u. HasType rows c e u) (λ k. named e k) (λ u. typed e u))) t
       typed (tree.super_field m w) t = typed_by (field_found rows c (own_superclass rows c) w.text) _ (field_iff (own_superclass rows c) (IsSuperclass rows (scope_of c).class) w.text own_super_iff) t
       typed (tree.call m to w args) t = typed_by (target_found rows c to w.text (types_of rows c args)) (λ f. TargetFinds rows c to w.text (λ ts. HaveTypes rows c args ts) f)
-          (target to w.text (types_of rows c args) (λ ts. HaveTypes rows c args ts) (types args)) t
+          (target to w.text (types_of rows c args) (λ ts. HaveTypes rows c args ts) (λ us. types args us)) t
       typed (tree.super_call m w args) t = typed_by (call_found rows c (own_superclass rows c) w.text (types_of rows c args)) _
-          (method_iff (own_superclass rows c) (IsSuperclass rows (scope_of c).class) w.text (types_of rows c args) (λ ts. HaveTypes rows c args ts) own_super_iff (types args)) t
-      typed (tree.create m of args) t = creation_iff of (types_of rows c args) (λ ts. HaveTypes rows c args ts) (types args) t
+          (method_iff (own_superclass rows c) (IsSuperclass rows (scope_of c).class) w.text (types_of rows c args) (λ ts. HaveTypes rows c args ts) own_super_iff (λ us. types args us)) t
+      typed (tree.create m of args) t = creation_iff of (types_of rows c args) (λ ts. HaveTypes rows c args ts) (λ us. types args us) t
       typed (tree.paren m e) t = typed e t
       typed (tree.cast m of e) t = written_iff rows fit found (scope_of c) of t
       typed (tree.unary m o e) t = some_iff (sign_type o) t
@@ -225,7 +225,7 @@ module _ (rows : List Row) (fit : AreRows rows) (found : KeysAreFound rows) (c :
           → Decided (target_found rows c to name ts) (λ f. TargetFinds rows c to name Types f)
       target tree.no_target name ts Types are = plain_iff name ts Types are
       target (tree.on e) name ts Types are = method_iff (on_class (class_name_of rows c e) (type_of rows c e)) (On (λ k. IsClassName rows c e k) (λ u. HasType rows c e u)) name ts Types
-          (on_iff (class_name_of rows c e) (type_of rows c e) (λ k. IsClassName rows c e k) (λ u. HasType rows c e u) (named e) (typed e)) are
+          (on_iff (class_name_of rows c e) (type_of rows c e) (λ k. IsClassName rows c e k) (λ u. HasType rows c e u) (λ k. named e k) (λ u. typed e u)) are
 
       pub types : (args : tree.Exps A) (ts : List Ty) → (types_of rows c args ≡ Some ts) ↔ HaveTypes rows c args ts
       types tree.end ts = some_iff [] ts
