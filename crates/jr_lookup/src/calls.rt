@@ -89,7 +89,15 @@ fn call_around(
         return Ok(Answer::Nothing);
     };
     let methods = table.methods_named(alloc, class, name)?;
-    call_in(alloc, table, place, is_static, args, class, methods.as_slice())
+    call_in(
+        alloc,
+        table,
+        place,
+        is_static,
+        args,
+        class,
+        methods.as_slice(),
+    )
 }
 
 /// What a call without a target finds at a place of a class: the innermost enclosing class that
@@ -111,5 +119,13 @@ pub fn call_at(
     if methods.is_empty() {
         return call_around(alloc, table, place, is_static, name, args);
     }
-    call_in(alloc, table, place, is_static, args, place, methods.as_slice())
+    call_in(
+        alloc,
+        table,
+        place,
+        is_static,
+        args,
+        place,
+        methods.as_slice(),
+    )
 }

@@ -1,5 +1,5 @@
 //! The choice among methods or constructors (JLS 15.12.2.1, 15.12.2.2, 15.12.2.5).
-ghost use Rattle.std.specs.Prelude.{◌≡◌, ◌∷◌, IfOk, filter};
+ghost use Rattle.std.specs.Prelude.{◌≡◌, ◌∷◌, ◌++◌, [], IfOk, OnOk, filter, if◌then◌else◌};
 ghost use Rattle.jr_table.specs.Entries.{entries_of};
 ghost use Rattle.jr_table.specs.Access as access;
 ghost use Rattle.jr_table.specs.Choice as choice;
@@ -31,6 +31,17 @@ fn as_specific(table: &Table, left: u32, right: u32) -> bool
     }
 }
 
+/// Puts a number behind the others, if it passes.
+fn push_if(numbers: &mut Vec<u32>, number: u32, passes: bool) -> Result<(), AllocError>
+    ensures { OnOk result (numbers.new.items
+        ≡ numbers.old.items ++ (if passes then number ∷ [] else [])) }
+{
+    if passes {
+        numbers.push(number)?;
+    }
+    Ok(())
+}
+
 /// Those to which the arguments fit.
 fn fitting(
     alloc: Global,
@@ -47,9 +58,7 @@ fn fitting(
         match rest.split_first() {
             None => return Ok(kept),
             Some((number, others)) => {
-                if takes(table, args, *number) {
-                    kept.push(*number)?;
-                }
+                push_if(&mut kept, *number, takes(table, args, *number))?;
                 rest = others;
             }
         }
@@ -72,9 +81,7 @@ fn accessible(
         match rest.split_first() {
             None => return Ok(kept),
             Some((number, others)) => {
-                if is_accessible(table, place, *number) {
-                    kept.push(*number)?;
-                }
+                push_if(&mut kept, *number, is_accessible(table, place, *number))?;
                 rest = others;
             }
         }

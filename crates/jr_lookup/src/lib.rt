@@ -14,8 +14,6 @@ mod type_names;
 
 pub use calls::{call_at, ctor_at, method_at};
 pub use fields::{field_at, field_in_at, member_type_at};
-pub use lookups::{
-    ctor_of, field_of, member_type, method_named, method_of, type_named, variable,
-};
+pub use lookups::{ctor_of, field_of, member_type, method_named, method_of, type_named, variable};
 pub use scopes::{Scope, ScopeLocal, ScopeLocals};
 pub use type_names::type_at;

@@ -9,14 +9,10 @@ use jr_ast::Name;
 use jr_table::LocalKey;
 
 /// This local's key if it has the name, else what was there.
-fn later<'a>(
-    last: Option<&'a LocalKey>,
-    local: &'a ScopeLocal,
-    name: &Name,
-) -> Option<&'a LocalKey>
+fn later<'a>(last: Option<&'a LocalKey>, local: &'a ScopeLocal, name: &Name) -> Option<&'a LocalKey>
     ensures { option_map (λ k. local_key_of k.now) result
         ≡ or_later (key_if_named name.now (local_of local.now))
-            (option_map (λ k. local_key_of k.now) last) }
+        (option_map (λ k. local_key_of k.now) last) }
 {
     if local.name.as_str() == name.as_str() {
         Some(&local.key)

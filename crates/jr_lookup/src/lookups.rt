@@ -36,7 +36,11 @@ pub fn variable(
         return Ok(Found::One(Decl::Local(key.copy(alloc)?)));
     }
     let place = table.number_or_none(&scope.class);
-    shown(alloc, table, field_at(table, place, scope.is_static, name.as_str()))
+    shown(
+        alloc,
+        table,
+        field_at(table, place, scope.is_static, name.as_str()),
+    )
 }
 
 /// The type that a simple name finds (JLS 6.4.1, 6.5.5.1): the member type of the innermost
@@ -75,7 +79,11 @@ pub fn member_type(
     lookups_are_exact();
     let place = table.number_or_none(&scope.class);
     let class = table.number_or_none(class);
-    shown(alloc, table, member_type_at(table, place, class, name.as_str()))
+    shown(
+        alloc,
+        table,
+        member_type_at(table, place, class, name.as_str()),
+    )
 }
 
 /// The member field of a class, declared or inherited (JLS 15.11.1). `NotAccessible` where it is
@@ -96,7 +104,11 @@ pub fn field_of(
     lookups_are_exact();
     let place = table.number_or_none(&scope.class);
     let class = table.number_or_none(class);
-    shown(alloc, table, field_in_at(table, place, class, name.as_str()))
+    shown(
+        alloc,
+        table,
+        field_in_at(table, place, class, name.as_str()),
+    )
 }
 
 /// What a call without a target finds, for arguments of these types (JLS 15.12.1, 15.12.2).

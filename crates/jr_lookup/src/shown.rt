@@ -9,11 +9,7 @@ use jr_table::{Answer, Decl, Found, Table};
 use std::alloc::{AllocError, Global};
 
 /// The declaration of a row.
-fn decl_at(
-    alloc: Global,
-    table: &Table,
-    number: u32,
-) -> Result<Option<Decl>, AllocError>
+fn decl_at(alloc: Global, table: &Table, number: u32) -> Result<Option<Decl>, AllocError>
     ensures { IfOk result (λ d. option_map decl_of d ≡ pure.decl_at table.now number) }
 {
     match table.rows().get(number as usize) {

@@ -247,7 +247,7 @@ module _ (rows : List Row) (are : AreRows rows) where
     searched e (inl (is, has)) = subst (λ (x : ℕ). call_from es c is_static name args (methods_named es name c) ≡ from_object es c is_static x (choose_at es c args (methods_named es name x))) (sym is) (of (methods_named es name c) refl)
       where
         of : (js : List ℕ) → methods_named es name c ≡ js → call_from es c is_static name args js ≡ from_object es c is_static c (choose_at es c args js)
-        of [] h = absurd (none_named name c h (subst (HasMethodNamed es name) is has))
+        of [] h = absurd (none_named name c h has)
         of (j ∷ js) h = refl
     searched e (inr (none, is, has)) = ap (call_from es c is_static name args) (no_named name c none) ∙ ap (call_around es c is_static name args) is
 

@@ -1,5 +1,5 @@
 -- What is chosen is what the relation says, for any tests that decide the properties.
-use Rattle.std.proofs.Common.{◌≡◌, ℕ, ◌≤◌, List, [], ◌∷◌, Option, Some, None, Bool, true, false, cond, refl, sym, ap, subst, ◌∙◌, inl, inr, eq-eqb, eqb-true, arith}
+use Rattle.std.proofs.Common.{◌≡◌, ℕ, suc, ◌≤◌, List, [], ◌∷◌, Option, Some, None, Bool, true, false, cond, refl, sym, ap, subst, ◌∙◌, inl, inr, eq-eqb, eqb-true, arith}
 use Rattle.std.specs.Prelude.{◌⊎◌, ◌↔◌, ◌&&◌, ◌||◌, ◌==◌, filter}
 use Rattle.std.specs.List.{list_all}
 use Rattle.jr_table.specs.declared.answers.Answer.{Answer}

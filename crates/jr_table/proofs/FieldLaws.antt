@@ -105,7 +105,7 @@ module _ (rows : List Row) (are : AreRows rows) where
 
         out : sought c ≡ None → (o : Option ℕ) → outer_of es c ≡ o → FindsField es c is_static name (field_around es c is_static name o)
         out none None is = none_out es Sought sought (says_field name) (one_field_of name) c none is
-        out none (Some e) is = inside c e none is (sought e) refl
+        out none (Some e) is = inside e none is (sought e) refl
 
         from : (o : Option ℕ) → sought c ≡ o → FindsField es c is_static name (field_from es c is_static name o)
         from None h = out h (outer_of es c) refl

@@ -1,4 +1,5 @@
--- Where a declaration may be named: access (JLS 6.6.1), and instance members from static contexts (JLS 8.1.3, 15.12.3).
+-- Where a declaration may be named: access (JLS 6.6.1), and instance members from static contexts
+-- (JLS 8.1.3, 15.12.3).
 use Rattle.std.specs.Prelude.{◌≡◌, ◌≢◌, ℕ, List, Option, Some, None, Bool, true, false, not, ◌==◌, ◌&&◌, ◌||◌, ◌⊎◌, slice_get, unwrap_or}
 use Rattle.jr_table.specs.declared.entries.Entry.{Entry}
 use Rattle.jr_table.specs.Chains.{outer_of}
@@ -17,8 +18,8 @@ pub record IsWithin (rows : List Entry) (place j : ℕ) : Type 0 where
   pub around_row : IsTopAround rows row.class top
   pub around_place : IsTopAround rows place top
 
--- A private member is accessible throughout the body of its top-level class and nowhere else; all others are accessible
--- everywhere.
+-- A private member is accessible throughout the body of its top-level class and nowhere else; all
+-- others are accessible everywhere.
 abbrev pub IsAccessible : List Entry → (place : ℕ) → ℕ → Type 0
 IsAccessible rows place j = IsPrivate rows j → IsWithin rows place j
 
@@ -28,10 +29,11 @@ pub record IsInstance (rows : List Entry) (j : ℕ) : Type 0 where
   pub stands : slice_get rows j ≡ Some row
   pub instance : row.is_static ≡ false
 
--- Member j of class e has no object at a place of class `place`: the place is in a static context, or the member is one of
--- the class around, as a member class is static.
+-- Member j of class e has no object at a place of class `place`: the place is in a static context,
+-- or the member is one of the class around, as a member class is static.
 abbrev pub LacksObject : List Entry → (place : ℕ) (is_static : Bool) → ℕ → ℕ → Type 0
-LacksObject rows place is_static e j = IsInstance rows j × ((is_static ≡ true) ⊎ (e ≢ place))
+LacksObject rows place is_static e j =
+    IsInstance rows j × ((is_static ≡ true) ⊎ (e ≢ place))
 
 -- exact
 
@@ -56,4 +58,5 @@ abbrev pub is_instance_at : List Entry → ℕ → Bool
 is_instance_at rows j = is_instance_entry (slice_get rows j)
 
 unfoldable pub lacks_object : List Entry → (place : ℕ) (is_static : Bool) → ℕ → ℕ → Bool
-lacks_object rows place is_static e j = is_instance_at rows j && (is_static || not (e == place))
+lacks_object rows place is_static e j =
+    is_instance_at rows j && (is_static || not (e == place))

@@ -1,5 +1,5 @@
--- What a call or a creation finds (JLS 15.12.1 to 15.12.2.5, 15.9.3, without conversions of primitive types), by the
--- numbers of rows.
+-- What a call or a creation finds (JLS 15.12.1 to 15.12.2.5, 15.9.3, without conversions of primitive
+-- types), by the numbers of rows.
 use Rattle.std.specs.Prelude.{◌≡◌, ℕ, zero, suc, length, List, [], ◌∷◌, ◌++◌, Option, Some, None, Bool, true, false, ◌&&◌, ◌||◌, ◌==◌, slice_get, filter, ◌⊎◌, if◌then◌else◌}
 use Rattle.std.specs.List.{list_any}
 use Rattle.std.specs.Str.{bytes_eq}
@@ -46,8 +46,8 @@ pub record IsAsSpecific (rows : List Entry) (j k : ℕ) : Type 0 where
   pub has_right : HasParams rows k right
   pub fit : Fit rows left right
 
--- Row j may be called with the arguments. `Own params j`: row j is a method or constructor of those that are looked among,
--- with these parameter types.
+-- Row j may be called with the arguments. `Own params j`: row j is a method or constructor of those
+-- that are looked among, with these parameter types.
 pub record IsCandidate (rows : List Entry) (Own : List Kind → ℕ → Type 0) (args : List Kind) (j : ℕ) : Type 0 where
   pub params : List Kind
   pub own : Own params j
@@ -55,7 +55,8 @@ pub record IsCandidate (rows : List Entry) (Own : List Kind → ℕ → Type 0) 
 
 -- a member method of the class, of the name, to which the arguments fit
 abbrev pub IsMethodCandidate : List Entry → (c : ℕ) (name : List ℕ) (args : List Kind) → ℕ → Type 0
-IsMethodCandidate rows c name args = IsCandidate rows (λ params j. IsMemberMethod rows name params c j) args
+IsMethodCandidate rows c name args =
+    IsCandidate rows (λ params j. IsMemberMethod rows name params c j) args
 
 -- row j declares a constructor of class c with these parameter types
 pub record DeclaresCtor (rows : List Entry) (params : List Kind) (c j : ℕ) : Type 0 where
@@ -71,10 +72,12 @@ IsCtorCandidate rows c args = IsCandidate rows (λ params j. DeclaresCtor rows p
 
 -- what is chosen of candidates at a place of class `place`
 abbrev pub ChoosesAt : List Entry → (place : ℕ) (Candidate : ℕ → Type 0) → Answer → Type 0
-ChoosesAt rows place Candidate = Chooses Candidate (λ j. Candidate j × IsAccessible rows place j) (IsAsSpecific rows)
+ChoosesAt rows place Candidate =
+    Chooses Candidate (λ j. Candidate j × IsAccessible rows place j) (IsAsSpecific rows)
 
 -- a call on a class or on an expression of its type, or by `super` on the superclass
-abbrev pub FindsMethod : List Entry → (place c : ℕ) (name : List ℕ) (args : List Kind) → Answer → Type 0
+abbrev pub FindsMethod : List Entry
+    → (place c : ℕ) (name : List ℕ) (args : List Kind) → Answer → Type 0
 FindsMethod rows place c name args = ChoosesAt rows place (IsMethodCandidate rows c name args)
 
 abbrev pub FindsCtor : List Entry → (place c : ℕ) (args : List Kind) → Answer → Type 0
@@ -84,14 +87,26 @@ FindsCtor rows place c args = ChoosesAt rows place (IsCtorCandidate rows c args)
 abbrev pub HasMethodNamed : List Entry → List ℕ → ℕ → Type 0
 HasMethodNamed rows name e = (params : List Kind) × (j : ℕ) × IsMemberMethod rows name params e j
 
--- A call without a target at a place of class c: the class searched is the innermost that has a member method of the name,
--- whatever its parameters are (JLS 15.12.1).
-abbrev pub FindsCall : List Entry → (c : ℕ) (is_static : Bool) (name : List ℕ) (args : List Kind) → Answer → Type 0
-FindsCall rows c is_static name args (One j) = (e : ℕ) × IsInnermost rows (HasMethodNamed rows name) c e × FindsMethod rows c e name args (One j) × (LacksObject rows c is_static e j → ⊥)
-FindsCall rows c is_static name args (FromStatic j) = (e : ℕ) × IsInnermost rows (HasMethodNamed rows name) c e × FindsMethod rows c e name args (One j) × LacksObject rows c is_static e j
-FindsCall rows c is_static name args (Many j k) = (e : ℕ) × IsInnermost rows (HasMethodNamed rows name) c e × FindsMethod rows c e name args (Many j k)
-FindsCall rows c is_static name args (NotAccessible j) = (e : ℕ) × IsInnermost rows (HasMethodNamed rows name) c e × FindsMethod rows c e name args (NotAccessible j)
-FindsCall rows c is_static name args Nothing = NoneAround rows (HasMethodNamed rows name) c ⊎ ((e : ℕ) × IsInnermost rows (HasMethodNamed rows name) c e × FindsMethod rows c e name args Nothing)
+-- A call without a target at a place of class c: the class searched is the innermost that has a
+-- member method of the name, whatever its parameters are (JLS 15.12.1).
+abbrev pub FindsCall : List Entry
+    → (c : ℕ) (is_static : Bool) (name : List ℕ) (args : List Kind) → Answer → Type 0
+FindsCall rows c is_static name args (One j) =
+    (e : ℕ) × IsInnermost rows (HasMethodNamed rows name) c e
+    × FindsMethod rows c e name args (One j) × (LacksObject rows c is_static e j → ⊥)
+FindsCall rows c is_static name args (FromStatic j) =
+    (e : ℕ) × IsInnermost rows (HasMethodNamed rows name) c e
+    × FindsMethod rows c e name args (One j) × LacksObject rows c is_static e j
+FindsCall rows c is_static name args (Many j k) =
+    (e : ℕ) × IsInnermost rows (HasMethodNamed rows name) c e
+    × FindsMethod rows c e name args (Many j k)
+FindsCall rows c is_static name args (NotAccessible j) =
+    (e : ℕ) × IsInnermost rows (HasMethodNamed rows name) c e
+    × FindsMethod rows c e name args (NotAccessible j)
+FindsCall rows c is_static name args Nothing =
+    NoneAround rows (HasMethodNamed rows name) c
+    ⊎ ((e : ℕ) × IsInnermost rows (HasMethodNamed rows name) c e
+    × FindsMethod rows c e name args Nothing)
 
 -- exact
 
@@ -125,7 +140,8 @@ passing test (suc n) = passing test n ++ (if test n then n ∷ [] else [])
 
 abbrev pub is_named_entry : List Entry → List ℕ → (c j : ℕ) → Option Entry → Bool
 is_named_entry rows name c j None = false
-is_named_entry rows name c j (Some e) = bytes_eq e.name name && is_number (member rows (is_method name e.params) c) j
+is_named_entry rows name c j (Some e) =
+    bytes_eq e.name name && is_number (member rows (is_method name e.params) c) j
 
 -- whether row j is a member method of the name
 unfoldable pub is_named : List Entry → List ℕ → (c j : ℕ) → Bool
@@ -151,7 +167,9 @@ fitting rows args js = filter (λ j. fits rows args (params_at rows j)) js
 
 -- what is chosen of these at a place
 unfoldable pub choose_at : List Entry → (place : ℕ) (args : List Kind) → List ℕ → Answer
-choose_at rows place args js = choose (as_specific rows) (fitting rows args js) (filter (is_accessible rows place) (fitting rows args js))
+choose_at rows place args js =
+    choose (as_specific rows) (fitting rows args js)
+    (filter (is_accessible rows place) (fitting rows args js))
 
 unfoldable pub find_method : List Entry → (place c : ℕ) (name : List ℕ) (args : List Kind) → Answer
 find_method rows place c name args = choose_at rows place args (methods_named rows name c)
@@ -161,19 +179,27 @@ find_ctor rows place c args = choose_at rows place args (ctors_in rows c)
 
 -- a call without a target that is answered so in class e
 abbrev pub from_object : List Entry → (c : ℕ) (is_static : Bool) → ℕ → Answer → Answer
-from_object rows c is_static e (One j) = if lacks_object rows c is_static e j then FromStatic j else One j
+from_object rows c is_static e (One j) =
+    if lacks_object rows c is_static e j then FromStatic j else One j
 from_object rows c is_static e a = a
 
-abbrev pub call_in : List Entry → (c : ℕ) (is_static : Bool) (args : List Kind) → ℕ → List ℕ → Answer
+abbrev pub call_in : List Entry
+    → (c : ℕ) (is_static : Bool) (args : List Kind) → ℕ → List ℕ → Answer
 call_in rows c is_static args e js = from_object rows c is_static e (choose_at rows c args js)
 
-abbrev pub call_around : List Entry → (c : ℕ) (is_static : Bool) (name : List ℕ) (args : List Kind) → Option ℕ → Answer
+abbrev pub call_around : List Entry
+    → (c : ℕ) (is_static : Bool) (name : List ℕ) (args : List Kind) → Option ℕ → Answer
 call_around rows c is_static name args None = Nothing
-call_around rows c is_static name args (Some e) = call_in rows c is_static args e (methods_named rows name e)
+call_around rows c is_static name args (Some e) =
+    call_in rows c is_static args e (methods_named rows name e)
 
-abbrev pub call_from : List Entry → (c : ℕ) (is_static : Bool) (name : List ℕ) (args : List Kind) → List ℕ → Answer
-call_from rows c is_static name args [] = call_around rows c is_static name args (outer_of rows c)
+abbrev pub call_from : List Entry
+    → (c : ℕ) (is_static : Bool) (name : List ℕ) (args : List Kind) → List ℕ → Answer
+call_from rows c is_static name args [] =
+    call_around rows c is_static name args (outer_of rows c)
 call_from rows c is_static name args (j ∷ js) = call_in rows c is_static args c (j ∷ js)
 
-unfoldable pub find_call : List Entry → (c : ℕ) (is_static : Bool) (name : List ℕ) (args : List Kind) → Answer
-find_call rows c is_static name args = call_from rows c is_static name args (methods_named rows name c)
+unfoldable pub find_call : List Entry
+    → (c : ℕ) (is_static : Bool) (name : List ℕ) (args : List Kind) → Answer
+find_call rows c is_static name args =
+    call_from rows c is_static name args (methods_named rows name c)

@@ -11,7 +11,8 @@ IsLeast P a = P a × ((i : ℕ) → P i → a ≤ i)
 abbrev pub AreTwoLeast : (ℕ → Type 0) → ℕ → ℕ → Type 0
 AreTwoLeast P a b = P a × P b × (a < b) × ((i : ℕ) → P i → (i ≡ a) ⊎ (b ≤ i))
 
--- Of the candidates, some are accessible. `IsAsSpecific j k`: the parameter types of j are assignable to those of k.
+-- Of the candidates, some are accessible. `IsAsSpecific j k`: the parameter types of j are assignable
+-- to those of k.
 module _ (Candidate Accessible : ℕ → Type 0) (IsAsSpecific : ℕ → ℕ → Type 0) where
   -- j is accessible, and as specific as every other that is
   pub record IsBest (j : ℕ) : Type 0 where
@@ -23,8 +24,8 @@ module _ (Candidate Accessible : ℕ → Type 0) (IsAsSpecific : ℕ → ℕ →
     pub best : IsBest j
     pub only : (k : ℕ) → IsBest k → k ≡ j
 
-  -- The one that is chosen; the first two that are accessible where none is; the first candidate where none is accessible.
-  -- Rows stand in text order.
+  -- The one that is chosen; the first two that are accessible where none is; the first candidate
+  -- where none is accessible. Rows stand in text order.
   abbrev pub Chooses : Answer → Type 0
   Chooses (One j) = IsChosen j
   Chooses (Many j k) = AreTwoLeast Accessible j k × ((i : ℕ) → IsChosen i → ⊥)
@@ -51,7 +52,8 @@ module _ (before : ℕ → ℕ → Bool) where
   is_best opens j = list_all (λ k. (k == j) || before j k) opens
 
   abbrev pub choose_best : ℕ → List ℕ → Answer
-  choose_best d ds = if is_best (d ∷ ds) (winner d ds) then One (winner d ds) else Many d (second_of d ds)
+  choose_best d ds =
+      if is_best (d ∷ ds) (winner d ds) then One (winner d ds) else Many d (second_of d ds)
 
   abbrev pub choose_open : ℕ → List ℕ → Answer
   choose_open c [] = NotAccessible c

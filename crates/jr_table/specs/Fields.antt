@@ -13,11 +13,15 @@ use Rattle.jr_table.specs.Innermost.{IsInnermost, NoneAround}
 abbrev pub HasFieldNamed : List Entry → List ℕ → ℕ → Type 0
 HasFieldNamed rows name e = (j : ℕ) × IsMemberField rows name e j
 
--- A simple name at a place of class c, where no local has the name: the member field of the innermost enclosing class that
--- has one.
+-- A simple name at a place of class c, where no local has the name: the member field of the
+-- innermost enclosing class that has one.
 abbrev pub FindsField : List Entry → (c : ℕ) (is_static : Bool) (name : List ℕ) → Answer → Type 0
-FindsField rows c is_static name (One j) = (e : ℕ) × IsInnermost rows (HasFieldNamed rows name) c e × IsMemberField rows name e j × (LacksObject rows c is_static e j → ⊥)
-FindsField rows c is_static name (FromStatic j) = (e : ℕ) × IsInnermost rows (HasFieldNamed rows name) c e × IsMemberField rows name e j × LacksObject rows c is_static e j
+FindsField rows c is_static name (One j) =
+    (e : ℕ) × IsInnermost rows (HasFieldNamed rows name) c e × IsMemberField rows name e j
+    × (LacksObject rows c is_static e j → ⊥)
+FindsField rows c is_static name (FromStatic j) =
+    (e : ℕ) × IsInnermost rows (HasFieldNamed rows name) c e × IsMemberField rows name e j
+    × LacksObject rows c is_static e j
 FindsField rows c is_static name Nothing = NoneAround rows (HasFieldNamed rows name) c
 FindsField rows c is_static name _ = ⊥
 
@@ -35,7 +39,8 @@ FindsFieldOf rows place c name = FindsMember rows place (IsMemberField rows name
 -- exact
 
 abbrev pub object_answer : List Entry → (c : ℕ) (is_static : Bool) → ℕ → ℕ → Answer
-object_answer rows c is_static e j = if lacks_object rows c is_static e j then FromStatic j else One j
+object_answer rows c is_static e j =
+    if lacks_object rows c is_static e j then FromStatic j else One j
 
 abbrev pub field_in : List Entry → (c : ℕ) (is_static : Bool) → ℕ → Option ℕ → Answer
 field_in rows c is_static e None = Nothing
@@ -43,7 +48,8 @@ field_in rows c is_static e (Some j) = object_answer rows c is_static e j
 
 abbrev pub field_around : List Entry → (c : ℕ) (is_static : Bool) (name : List ℕ) → Option ℕ → Answer
 field_around rows c is_static name None = Nothing
-field_around rows c is_static name (Some e) = field_in rows c is_static e (member rows (is_field name) e)
+field_around rows c is_static name (Some e) =
+    field_in rows c is_static e (member rows (is_field name) e)
 
 abbrev pub field_from : List Entry → (c : ℕ) (is_static : Bool) (name : List ℕ) → Option ℕ → Answer
 field_from rows c is_static name (Some j) = object_answer rows c is_static c j

@@ -1,5 +1,6 @@
--- Lookup by keys, of any rows, scope, class, name and argument types: what the public calls answer (JLS 6.4, 6.5, 6.6, 15.9.3,
--- 15.11, 15.12). A class that has no row has no members, and no top-level class around it.
+-- Lookup by keys, of any rows, scope, class, name and argument types: what the public calls answer
+-- (JLS 6.4, 6.5, 6.6, 15.9.3, 15.11, 15.12). A class that has no row has no members, and no class
+-- around it.
 use Rattle.std.specs.Prelude.{◌≡◌, ◌≢◌, ℕ, List, map, Option, Some, None, option_map, slice_get, ◌⊎◌}
 use Rattle.jr_table.specs.declared.answers.Answer.{Answer}
 use Rattle.jr_table.specs.declared.answers.Answer.TheVariants as number
@@ -26,11 +27,12 @@ Shows rows _ _ = ⊥
 abbrev pub ByKeys : List Row → (Finds : Answer → Type 0) → Found → Type 0
 ByKeys rows Finds f = (a : Answer) × Finds a × Shows rows a f
 
--- A simple name as a variable: the local or parameter in scope; or else the member field of the innermost enclosing class
--- that has one (JLS 6.4.1).
+-- A simple name as a variable: the local or parameter in scope; or else the member field of the
+-- innermost enclosing class that has one (JLS 6.4.1).
 abbrev pub FindsVariable : List Row → Scope → (name : List ℕ) → Found → Type 0
 FindsVariable rows s name f = ((k : LocalKey) × FindsLocal s.locals name k × (f ≡ one (local_decl k)))
-    ⊎ (HasNoLocal s.locals name × ByKeys rows (FindsField (entries_of rows) (class_number rows s.class) s.is_static name) f)
+    ⊎ (HasNoLocal s.locals name
+    × ByKeys rows (FindsField (entries_of rows) (class_number rows s.class) s.is_static name) f)
 
 -- a simple name as a type (JLS 6.5.5.1)
 abbrev pub FindsTypeNamed : List Row → Scope → (name : List ℕ) → Found → Type 0
@@ -38,33 +40,48 @@ FindsTypeNamed rows s name = ByKeys rows (FindsType rows (class_number rows s.cl
 
 -- the member type of a class (JLS 6.5.5.2)
 abbrev pub FindsTypeOf : List Row → Scope → ClassKey → (name : List ℕ) → Found → Type 0
-FindsTypeOf rows s of name = ByKeys rows (FindsMemberType (entries_of rows) (class_number rows s.class) (class_number rows of) name)
+FindsTypeOf rows s of name =
+    ByKeys rows
+    (FindsMemberType (entries_of rows) (class_number rows s.class) (class_number rows of) name)
 
 -- the field of a class type, or of the superclass by `super` (JLS 15.11)
 abbrev pub FindsFieldIn : List Row → Scope → ClassKey → (name : List ℕ) → Found → Type 0
-FindsFieldIn rows s of name = ByKeys rows (FindsFieldOf (entries_of rows) (class_number rows s.class) (class_number rows of) name)
+FindsFieldIn rows s of name =
+    ByKeys rows
+    (FindsFieldOf (entries_of rows) (class_number rows s.class) (class_number rows of) name)
 
 -- a call without a target (JLS 15.12.1)
 abbrev pub FindsMethodNamed : List Row → Scope → (name : List ℕ) → (args : List Ty) → Found → Type 0
-FindsMethodNamed rows s name args = ByKeys rows (FindsCall (entries_of rows) (class_number rows s.class) s.is_static name (map (kind_of rows) args))
+FindsMethodNamed rows s name args =
+    ByKeys rows
+    (FindsCall (entries_of rows) (class_number rows s.class) s.is_static name
+    (map (kind_of rows) args))
 
 -- a call on a class or on an expression of its type, or by `super` on the superclass (JLS 15.12.1)
 abbrev pub FindsMethodOf : List Row → Scope → ClassKey → (name : List ℕ) → (args : List Ty) → Found → Type 0
-FindsMethodOf rows s of name args = ByKeys rows (FindsMethod (entries_of rows) (class_number rows s.class) (class_number rows of) name (map (kind_of rows) args))
+FindsMethodOf rows s of name args =
+    ByKeys rows
+    (FindsMethod (entries_of rows) (class_number rows s.class) (class_number rows of) name
+    (map (kind_of rows) args))
 
--- a creation, or a `super(..)` call of the superclass's constructor (JLS 15.9.3, 8.8.7.1)
+-- a creation, or a `super(..)` call (JLS 15.9.3, 8.8.7.1)
 abbrev pub FindsCtorOf : List Row → Scope → ClassKey → (args : List Ty) → Found → Type 0
-FindsCtorOf rows s of args = ByKeys rows (FindsCtor (entries_of rows) (class_number rows s.class) (class_number rows of) (map (kind_of rows) args))
+FindsCtorOf rows s of args =
+    ByKeys rows
+    (FindsCtor (entries_of rows) (class_number rows s.class) (class_number rows of)
+    (map (kind_of rows) args))
 
--- The left part of a dotted name (JLS 6.4.2, 6.5.2): a simple name before a dot is a variable where a variable is found, one
--- without an object included; else a type.
+-- The left part of a dotted name (JLS 6.4.2, 6.5.2): a simple name before a dot is a variable where a
+-- variable is found, one without an object included; else a type.
 abbrev pub FindsLeft : List Row → Scope → (name : List ℕ) → Found → Type 0
-FindsLeft rows s name f = (FindsVariable rows s name f × (f ≢ nothing)) ⊎ (FindsVariable rows s name nothing × FindsTypeNamed rows s name f)
+FindsLeft rows s name f = (FindsVariable rows s name f × (f ≢ nothing))
+    ⊎ (FindsVariable rows s name nothing × FindsTypeNamed rows s name f)
 
--- `a.b` before a dot, with a a class: its member field b where it has one, one that isn't accessible included; else its
--- member type b. Methods called b aren't looked at.
+-- `a.b` before a dot, with a a class: its member field b where it has one, one that isn't accessible
+-- included; else its member type b. Methods called b aren't looked at.
 abbrev pub FindsLeftOf : List Row → Scope → ClassKey → (name : List ℕ) → Found → Type 0
-FindsLeftOf rows s of name f = (FindsFieldIn rows s of name f × (f ≢ nothing)) ⊎ (FindsFieldIn rows s of name nothing × FindsTypeOf rows s of name f)
+FindsLeftOf rows s of name f = (FindsFieldIn rows s of name f × (f ≢ nothing))
+    ⊎ (FindsFieldIn rows s of name nothing × FindsTypeOf rows s of name f)
 
 -- exact
 
@@ -91,22 +108,32 @@ local_or rows a (Some k) = one (local_decl k)
 local_or rows a None = shown rows a
 
 unfoldable pub find_variable : List Row → Scope → (name : List ℕ) → Found
-find_variable rows s name = local_or rows (find_field (entries_of rows) (class_number rows s.class) s.is_static name) (last_named name s.locals)
+find_variable rows s name =
+    local_or rows (find_field (entries_of rows) (class_number rows s.class) s.is_static name)
+    (last_named name s.locals)
 
 unfoldable pub find_type_named : List Row → Scope → (name : List ℕ) → Found
 find_type_named rows s name = shown rows (find_type rows (class_number rows s.class) name)
 
 unfoldable pub find_type_of : List Row → Scope → ClassKey → (name : List ℕ) → Found
-find_type_of rows s of name = shown rows (find_member_type (entries_of rows) (class_number rows s.class) (class_number rows of) name)
+find_type_of rows s of name =
+    shown rows (find_member_type (entries_of rows) (class_number rows s.class) (class_number rows of) name)
 
 unfoldable pub find_field_in : List Row → Scope → ClassKey → (name : List ℕ) → Found
-find_field_in rows s of name = shown rows (find_field_of (entries_of rows) (class_number rows s.class) (class_number rows of) name)
+find_field_in rows s of name =
+    shown rows (find_field_of (entries_of rows) (class_number rows s.class) (class_number rows of) name)
 
 unfoldable pub find_method_named : List Row → Scope → (name : List ℕ) → (args : List Ty) → Found
-find_method_named rows s name args = shown rows (find_call (entries_of rows) (class_number rows s.class) s.is_static name (map (kind_of rows) args))
+find_method_named rows s name args =
+    shown rows (find_call (entries_of rows) (class_number rows s.class) s.is_static name
+    (map (kind_of rows) args))
 
 unfoldable pub find_method_of : List Row → Scope → ClassKey → (name : List ℕ) → (args : List Ty) → Found
-find_method_of rows s of name args = shown rows (find_method (entries_of rows) (class_number rows s.class) (class_number rows of) name (map (kind_of rows) args))
+find_method_of rows s of name args =
+    shown rows (find_method (entries_of rows) (class_number rows s.class) (class_number rows of) name
+    (map (kind_of rows) args))
 
 unfoldable pub find_ctor_of : List Row → Scope → ClassKey → (args : List Ty) → Found
-find_ctor_of rows s of args = shown rows (find_ctor (entries_of rows) (class_number rows s.class) (class_number rows of) (map (kind_of rows) args))
+find_ctor_of rows s of args =
+    shown rows (find_ctor (entries_of rows) (class_number rows s.class) (class_number rows of)
+    (map (kind_of rows) args))

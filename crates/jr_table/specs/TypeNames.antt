@@ -14,12 +14,17 @@ use Rattle.jr_table.specs.Innermost.{IsInnermost, NoneAround}
 abbrev pub HasTypeNamed : List Entry → List ℕ → ℕ → Type 0
 HasTypeNamed rows name e = (j : ℕ) × IsMemberType rows name e j
 
--- At a place of class c: the member type of the innermost enclosing class that has one; or else the top-level class or the
--- prelude's, of which no two have one name.
+-- At a place of class c: the member type of the innermost enclosing class that has one; or else the
+-- top-level class or the prelude's, of which no two have one name.
 abbrev pub FindsType : List Row → (c : ℕ) (name : List ℕ) → Answer → Type 0
-FindsType rows c name (One j) = ((e : ℕ) × IsInnermost (entries_of rows) (HasTypeNamed (entries_of rows) name) c e × IsMemberType (entries_of rows) name e j)
-    ⊎ (NoneAround (entries_of rows) (HasTypeNamed (entries_of rows) name) c × IsRowOf rows (top_class name) j)
-FindsType rows c name Nothing = NoneAround (entries_of rows) (HasTypeNamed (entries_of rows) name) c × ((j : ℕ) → IsRowOf rows (top_class name) j → ⊥)
+FindsType rows c name (One j) =
+    ((e : ℕ) × IsInnermost (entries_of rows) (HasTypeNamed (entries_of rows) name) c e
+    × IsMemberType (entries_of rows) name e j)
+    ⊎ (NoneAround (entries_of rows) (HasTypeNamed (entries_of rows) name) c
+    × IsRowOf rows (top_class name) j)
+FindsType rows c name Nothing =
+    NoneAround (entries_of rows) (HasTypeNamed (entries_of rows) name) c
+    × ((j : ℕ) → IsRowOf rows (top_class name) j → ⊥)
 FindsType rows c name _ = ⊥
 
 -- exact
@@ -33,4 +38,7 @@ one_or_nothing None = Nothing
 one_or_nothing (Some j) = One j
 
 unfoldable pub find_type : List Row → (c : ℕ) (name : List ℕ) → Answer
-find_type rows c name = one_or_nothing (first_of (member (entries_of rows) (is_type name) c) (first_of (member_in (entries_of rows) name (outer_of (entries_of rows) c)) (number_of rows (top_class name))))
+find_type rows c name =
+    one_or_nothing (first_of (member (entries_of rows) (is_type name) c)
+    (first_of (member_in (entries_of rows) name (outer_of (entries_of rows) c))
+    (number_of rows (top_class name))))

@@ -7,5 +7,4 @@ pub fn lookups_are_exact()
     ensures numbers { NumbersFound }
     ensures keys { KeysFound }
     ensures one { OneAnswer }
-{
-}
+{}

@@ -1,10 +1,21 @@
 //! The methods of a name, and the constructors, of a class, by the numbers of rows.
-ghost use Rattle.std.specs.Prelude.{◌≡◌, IfOk};
+ghost use Rattle.std.specs.Prelude.{◌≡◌, IfOk, OnOk, ◌++◌, ◌∷◌, [], if◌then◌else◌};
 
 use crate::entries::Sort;
 use crate::tables::Table;
 use crate::wanted::Wanted;
 use std::alloc::{AllocError, Global};
+
+/// Puts a number behind the others, if it passes.
+fn push_if(numbers: &mut Vec<u32>, number: u32, passes: bool) -> Result<(), AllocError>
+    ensures { OnOk result (numbers.new.items
+        ≡ numbers.old.items ++ (if passes then number ∷ [] else [])) }
+{
+    if passes {
+        numbers.push(number)?;
+    }
+    Ok(())
+}
 
 impl Table {
     ghost use Rattle.jr_table.specs.Entries.{entries_of};
@@ -42,9 +53,7 @@ impl Table {
     {
         let mut numbers = Vec::new(alloc);
         for number in 0..self.count() {
-            if self.is_named(class, name, number) {
-                numbers.push(number)?;
-            }
+            push_if(&mut numbers, number, self.is_named(class, name, number))?;
         }
         Ok(numbers)
     }
@@ -70,9 +79,7 @@ impl Table {
     {
         let mut numbers = Vec::new(alloc);
         for number in 0..self.count() {
-            if self.is_ctor(class, number) {
-                numbers.push(number)?;
-            }
+            push_if(&mut numbers, number, self.is_ctor(class, number))?;
         }
         Ok(numbers)
     }
