@@ -32,3 +32,4 @@ pub mod BindingCases
 pub mod Referring
 pub mod TypeTests
 pub mod Breaking
+pub mod DeclarationTests
