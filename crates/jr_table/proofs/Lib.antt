@@ -29,6 +29,7 @@ pub mod RowTypes
 pub mod Typing
 pub mod BindingSamples
 pub mod BindingCases
+pub mod ReferenceLaws
 pub mod Referring
 pub mod TypeTests
 pub mod Breaking

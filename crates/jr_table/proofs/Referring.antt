@@ -18,7 +18,8 @@ use Rattle.jr_table.specs.Meanings.{class_found, find_in, find_left, field_found
 use Rattle.jr_table.specs.Meanings as meanings
 use Rattle.jr_table.specs.Notes.{Note, refers, breaks, Has, missing_rule, found_note, reference_notes}
 use Rattle.jr_table.proofs.RowTypes.{chain, class_found_iff}
-use Rattle.jr_table.proofs.Typing.{in_iff, for_iff, on_iff, left_iff, left_of_iff, own_super_iff, field_iff, method_iff, ctors_iff, created_class_iff, typed, named, target, types}
+use Rattle.jr_table.proofs.Typing.{in_iff, left_iff, left_of_iff, named}
+use Rattle.jr_table.proofs.ReferenceLaws.{field_finds, super_field_finds, call_finds, super_call_finds, creation_finds}
 
 -- a reference of the list stands there and finds this
 abbrev pub InReferences : List Reference → ℕ → Sought → Found → Type 0
@@ -90,28 +91,9 @@ module _ (rows : List Row) (fit : AreRows rows) (found : KeysAreFound rows) (c :
     name_iff value here name at q f = nest (only_iff here variable (find_variable rows (scope_of c) name) (FindsVariable rows (scope_of c) name) (found.variable (scope_of c) name) at q f)
     name_iff sought.statement here name at q f = nest (only_iff here variable (find_variable rows (scope_of c) name) (FindsVariable rows (scope_of c) name) (found.variable (scope_of c) name) at q f)
 
-    on_class_iff : (e : tree.Exp A) (k : ClassKey) → (class_on rows c e ≡ Some k) ↔ IsOn rows c e k
-    on_class_iff e k = on_iff (class_name_of rows c e) (type_of rows c e) (λ j. IsClassName rows c e j) (λ t. HasType rows c e t) (named rows fit found c e) (typed rows fit found c e) k
-
-    pub field_finds : (e : tree.Exp A) (name : List ℕ) → Decided (field_found rows c (class_on rows c e) name) (FieldFinds rows c e name)
-    field_finds e name = field_iff rows fit found c (class_on rows c e) (IsOn rows c e) name (on_class_iff e)
-
-    pub super_field_finds : (name : List ℕ) → Decided (field_found rows c (own_superclass rows c) name) (SuperFieldFinds rows c name)
-    super_field_finds name = field_iff rows fit found c (own_superclass rows c) (IsSuperclass rows (scope_of c).class) name (own_super_iff rows fit found c)
-
-    pub call_finds : (to : tree.Target A) (name : List ℕ) (args : tree.Exps A) → Decided (target_found rows c to name (types_of rows c args)) (CallFinds rows c to name args)
-    call_finds to name args = target rows fit found c to name (types_of rows c args) (HaveTypes rows c args) (types rows fit found c args)
-
-    pub super_call_finds : (name : List ℕ) (args : tree.Exps A) → Decided (call_found rows c (own_superclass rows c) name (types_of rows c args)) (SuperCallFinds rows c name args)
-    super_call_finds name args = method_iff rows fit found c (own_superclass rows c) (IsSuperclass rows (scope_of c).class) name (types_of rows c args) (HaveTypes rows c args) (own_super_iff rows fit found c) (types rows fit found c args)
-
-    pub creation_finds : (of : tree.TypeName A) (args : tree.Exps A) → Decided (ctor_found rows c (created_class rows c of) (types_of rows c args)) (CreationFinds rows c of args)
-    creation_finds of args = in_iff (created_class rows c of) (λ k. meanings.find_for (types_of rows c args) (λ ts. lookup.find_ctor_of rows (scope_of c) k ts)) (λ k. WritesType rows (scope_of c) of (class k))
-        _ (created_class_iff rows fit found c of) (λ k. ctors_iff rows fit found c k (types_of rows c args) (HaveTypes rows c args) (types rows fit found c args))
-
     left_reference_iff : (e : tree.Exp A) (here : ℕ) (name : List ℕ) (o : Option ClassKey) → ((k : ClassKey) → (o ≡ Some k) ↔ IsClassName rows c e k)
         → (at : ℕ) (q : Sought) (f : Found) → InReferences (left_reference rows c here o (class_on rows c e) name ∷ []) at q f ↔ ((at ≡ here) × DottedFinds rows c left e name q f)
-    left_reference_iff e here name None is at q f = chain (only_iff here variable (field_found rows c (class_on rows c e) name) (FieldFinds rows c e name) (field_finds e name) at q f) (to, back)
+    left_reference_iff e here name None is at q f = chain (only_iff here variable (field_found rows c (class_on rows c e) name) (FieldFinds rows c e name) (field_finds rows fit found c e name) at q f) (to, back)
       where
         to : ((at ≡ here) × (q ≡ variable) × FieldFinds rows c e name f) → (at ≡ here) × DottedFinds rows c left e name q f
         to h = (h.0, inr (λ k n. let x = (is k).1 n in absurd cc, h.1, h.2))
@@ -130,8 +112,8 @@ module _ (rows : List Row) (fit : AreRows rows) (found : KeysAreFound rows) (c :
 
     dotted_iff : (role : Role) (here : ℕ) (e : tree.Exp A) (name : List ℕ) (at : ℕ) (q : Sought) (f : Found) → InReferences (dotted_reference rows c role here e name ∷ []) at q f ↔ ((at ≡ here) × DottedFinds rows c role e name q f)
     dotted_iff left here e name at q f = left_reference_iff e here name (class_name_of rows c e) (named rows fit found c e) at q f
-    dotted_iff value here e name at q f = nest (only_iff here variable (field_found rows c (class_on rows c e) name) (FieldFinds rows c e name) (field_finds e name) at q f)
-    dotted_iff sought.statement here e name at q f = nest (only_iff here variable (field_found rows c (class_on rows c e) name) (FieldFinds rows c e name) (field_finds e name) at q f)
+    dotted_iff value here e name at q f = nest (only_iff here variable (field_found rows c (class_on rows c e) name) (FieldFinds rows c e name) (field_finds rows fit found c e name) at q f)
+    dotted_iff sought.statement here e name at q f = nest (only_iff here variable (field_found rows c (class_on rows c e) name) (FieldFinds rows c e name) (field_finds rows fit found c e name) at q f)
 
     -- the references that are computed are those of the expression
     pub references_iff : (role : Role) (base : ℕ) (e : tree.Exp A) (at : ℕ) (q : Sought) (f : Found) → InReferences (references begins rows c role base e) at q f ↔ Refers begins rows c role base e at q f
@@ -142,11 +124,11 @@ module _ (rows : List Row) (fit : AreRows rows) (found : KeysAreFound rows) (c :
     references_iff role base (tree.this m) at q f = none_iff at q f
     references_iff role base (tree.name m w) at q f = name_iff role (word_at begins m base w) w.text at q f
     references_iff role base (tree.field m e w) at q f = dotted_iff role (word_at begins m base w) e w.text at q f
-    references_iff role base (tree.super_field m w) at q f = only_iff (word_at begins m base w) variable (field_found rows c (own_superclass rows c) w.text) (SuperFieldFinds rows c w.text) (super_field_finds w.text) at q f
+    references_iff role base (tree.super_field m w) at q f = only_iff (word_at begins m base w) variable (field_found rows c (own_superclass rows c) w.text) (SuperFieldFinds rows c w.text) (super_field_finds rows fit found c w.text) at q f
     references_iff role base (tree.class_literal m of) at q f = type_iff (begins m base) of at q f
-    references_iff role base (tree.call m to w args) at q f = only_iff (word_at begins m base w) sought.method (target_found rows c to w.text (types_of rows c args)) (CallFinds rows c to w.text args) (call_finds to w.text args) at q f
-    references_iff role base (tree.super_call m w args) at q f = only_iff (word_at begins m base w) sought.method (call_found rows c (own_superclass rows c) w.text (types_of rows c args)) (SuperCallFinds rows c w.text args) (super_call_finds w.text args) at q f
-    references_iff role base (tree.create m of args) at q f = first_iff (begins m base) sought.method (ctor_found rows c (created_class rows c of) (types_of rows c args)) (CreationFinds rows c of args) (creation_finds of args)
+    references_iff role base (tree.call m to w args) at q f = only_iff (word_at begins m base w) sought.method (target_found rows c to w.text (types_of rows c args)) (CallFinds rows c to w.text args) (call_finds rows fit found c to w.text args) at q f
+    references_iff role base (tree.super_call m w args) at q f = only_iff (word_at begins m base w) sought.method (call_found rows c (own_superclass rows c) w.text (types_of rows c args)) (SuperCallFinds rows c w.text args) (super_call_finds rows fit found c w.text args) at q f
+    references_iff role base (tree.create m of args) at q f = first_iff (begins m base) sought.method (ctor_found rows c (created_class rows c of) (types_of rows c args)) (CreationFinds rows c of args) (creation_finds rows fit found c of args)
         (type_references begins rows c (begins m base) of) (λ a p g. (p ≡ type) × TypeRefers begins rows c (begins m base) of a g) (type_iff (begins m base) of) at q f
     references_iff role base (tree.paren m e) at q f = none_iff at q f
     references_iff role base (tree.cast m of e) at q f = type_iff (begins m base) of at q f

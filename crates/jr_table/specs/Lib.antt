@@ -49,3 +49,4 @@ pub mod Meanings
 pub mod Notes
 pub mod HeadNotes
 pub mod Walks
+pub mod BindingLaws
