@@ -34,3 +34,4 @@ pub mod Referring
 pub mod TypeTests
 pub mod Breaking
 pub mod DeclarationTests
+pub mod Noting

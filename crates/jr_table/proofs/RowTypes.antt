@@ -1,7 +1,6 @@
 -- What rows and scopes know of a declaration: what is looked up is what the relations say.
 use Rattle.std.proofs.Common.{◌≡◌, ◌≢◌, ℕ, zero, suc, ◌<◌, List, [], ◌∷◌, Option, Some, None, Bool, true, false, refl, sym, ap, subst, ◌∙◌, arith, inl, inr}
 use Rattle.std.specs.Prelude.{◌⊎◌, ◌↔◌, slice_get, option_and_then, option_map, if◌then◌else◌}
-use Rattle.std.specs.Option.{option_or}
 use Rattle.jr_ast.specs.Tree as tree
 use Rattle.jr_table.specs.Keys.{ClassKey, Ty, int, boolean, void, null, class}
 use Rattle.jr_table.specs.Decls.{LocalKey, Decl, class_decl, field_decl, method_decl, constructor_decl, local_decl}
@@ -14,7 +13,7 @@ use Rattle.jr_table.specs.Scope.{Scope}
 use Rattle.jr_table.specs.Lookup.{FindsTypeNamed, find_type_named, FindsTypeOf, find_type_of}
 use Rattle.jr_table.specs.LookupLaws.{KeysAreFound}
 use Rattle.jr_table.specs.Context.{LocalType, known, written, Local, Context, scope_of, outer_text, NamesClass, WritesType, IsLocalType, Knows, IsTypeOf, IsSuperclass}
-use Rattle.jr_table.specs.Meanings.{row_of, test_row, class_found, named_class, written_type, type_of_local, local_of_key, type_of_decl, superclass_of, class_in}
+use Rattle.jr_table.specs.Meanings.{first_some, row_of, test_row, class_found, named_class, written_type, type_of_local, local_of_key, type_of_decl, superclass_of, class_in}
 use Rattle.jr_table.proofs.RowLaws.{number_stands, number_none}
 
 pub chain : {P Q R : Type 0} → (P ↔ Q) → (Q ↔ R) → P ↔ R
@@ -53,9 +52,6 @@ class_in_iff (Some (class j)) k = (λ e. let i : j ≡ k = cc in ap (λ x. Some 
 
 -- locals
 
-later_local : (l : Local) (ls : List Local) (k : LocalKey) (x : Local) → local_of_key k ls ≡ Some x → local_of_key k (l ∷ ls) ≡ Some x
-later_local l ls k x e = ap (λ o. option_or o (if same_local l.key k then Some l else None)) e
-
 -- the last local of the key stands at some place
 record LastAt (ls : List Local) (k : LocalKey) (l : Local) : Type 0 where
   pub number : ℕ
@@ -71,7 +67,7 @@ none_of_key (l ∷ ls) k e i other at = of (local_of_key k ls) refl (same_local 
     later none differs zero at = λ same. let i : l ≡ other = cc in let t = (local_decides l.key k).1 (ap (λ (x : Local). x.key) i ∙ same) in absurd cc
     later none differs (suc i) at = none_of_key ls k none i other at
 
-    of : (o : Option Local) → local_of_key k ls ≡ o → (b : Bool) → same_local l.key k ≡ b → option_or o (if b then Some l else None) ≡ None → other.key ≢ k
+    of : (o : Option Local) → local_of_key k ls ≡ o → (b : Bool) → same_local l.key k ≡ b → first_some o (if b then Some l else None) ≡ None → other.key ≢ k
     of (Some x) oe b be h = absurd cc
     of None oe true be h = absurd cc
     of None oe false be h = later oe be i at
@@ -94,7 +90,7 @@ some_of_key (x ∷ ls) k l e = of (local_of_key k ls) refl (same_local x.key k) 
         after zero other lt at = absurd (omega arith)
         after (suc i) other lt at = none_of_key ls k none i other at
 
-    of : (o : Option Local) → local_of_key k ls ≡ o → (b : Bool) → same_local x.key k ≡ b → option_or o (if b then Some x else None) ≡ Some l → LastAt (x ∷ ls) k l
+    of : (o : Option Local) → local_of_key k ls ≡ o → (b : Bool) → same_local x.key k ≡ b → first_some o (if b then Some x else None) ≡ Some l → LastAt (x ∷ ls) k l
     of (Some y) oe b be h = onward (some_of_key ls k l (oe ∙ h))
     of None oe true be h = here oe be cc
     of None oe false be h = absurd cc

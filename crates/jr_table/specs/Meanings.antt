@@ -1,6 +1,5 @@
 -- Exact: which type an expression has, and what its references find.
 use Rattle.std.specs.Prelude.{ℕ, List, [], ◌∷◌, Option, Some, None, option_and_then, option_map, Bool, false, slice_get, codes, if◌then◌else◌}
-use Rattle.std.specs.Option.{option_or}
 use Rattle.jr_ast.specs.Tree as tree
 use Rattle.jr_table.specs.Keys.{ClassKey, Ty, int, boolean, void, null, class}
 use Rattle.jr_table.specs.Decls.{LocalKey, Decl, class_decl, local_decl}
@@ -17,6 +16,10 @@ use Rattle.jr_table.specs.Binding as sought
 
 unfoldable pub row_of : List Row → Decl → Option Row
 row_of rows d = option_and_then (λ j. slice_get rows j) (number_of rows d)
+
+abbrev pub first_some : {X : Type 0} → Option X → Option X → Option X
+first_some None later = later
+first_some (Some x) later = Some x
 
 -- a test of a declaration's row
 abbrev pub test_row : (Row → Bool) → Option Row → Bool
@@ -44,7 +47,7 @@ type_of_local rows s (written outer name) = option_map class (named_class rows s
 -- the last local of the key
 abbrev pub local_of_key : LocalKey → List Local → Option Local
 local_of_key k [] = None
-local_of_key k (l ∷ ls) = option_or (local_of_key k ls) (if same_local l.key k then Some l else None)
+local_of_key k (l ∷ ls) = first_some (local_of_key k ls) (if same_local l.key k then Some l else None)
 
 abbrev pub type_of_decl : List Row → Context → Decl → Option Ty
 type_of_decl rows c (local_decl k) = option_and_then (λ (l : Local). type_of_local rows (scope_of c) l.type) (local_of_key k c.locals)
@@ -64,7 +67,7 @@ class_in _ = None
 
 -- the class of a name, or that of a value's type
 abbrev pub on_class : Option ClassKey → Option Ty → Option ClassKey
-on_class name t = option_or name (class_in t)
+on_class name t = first_some name (class_in t)
 
 -- what is found in a class, if there is one; and with argument types, if there are
 abbrev pub find_in : Option ClassKey → (ClassKey → Found) → Found

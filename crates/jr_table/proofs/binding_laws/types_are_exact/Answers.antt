@@ -1,3 +1,10 @@
+use Rattle.jr_table.specs.Errors as errors
+use Rattle.jr_table.proofs.Noting as noting
+use Rattle.jr_table.proofs.Referring as referring
+use Rattle.jr_table.proofs.TypeTests as type_tests
+use Rattle.jr_table.proofs.Breaking as breaking
+use Rattle.jr_table.proofs.DeclarationTests as declaration_tests
+use Rattle.jr_table.proofs.BindingCases as binding_cases
 use Rattle.jr_table.specs.BindingLaws.{IsBound, AreBound}
 use Rattle.jr_table.proofs.Typing.{typed, named}
 use Rattle.jr_table.proofs.ReferenceLaws.{field_finds, super_field_finds, call_finds, super_call_finds, creation_finds}
