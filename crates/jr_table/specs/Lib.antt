@@ -50,3 +50,4 @@ pub mod Notes
 pub mod HeadNotes
 pub mod Walks
 pub mod BindingLaws
+pub mod TypesAt

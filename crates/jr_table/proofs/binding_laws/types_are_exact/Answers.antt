@@ -1,3 +1,4 @@
+use Rattle.jr_table.specs.TypesAt as types_at
 use Rattle.jr_table.specs.Errors as errors
 use Rattle.jr_table.proofs.Noting as noting
 use Rattle.jr_table.proofs.Referring as referring
