@@ -25,3 +25,13 @@ pub mod ScopeLaws
 pub mod ShowingLaws
 pub mod LookupLaws
 pub mod LookupCases
+pub mod RowTypes
+pub mod Typing
+pub mod BindingSamples
+pub mod BindingCases
+pub mod ReferenceLaws
+pub mod Referring
+pub mod TypeTests
+pub mod Breaking
+pub mod DeclarationTests
+pub mod Noting
