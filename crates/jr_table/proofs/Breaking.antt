@@ -24,20 +24,20 @@ has_append [] ys n = (λ h. inr h, back)
     back : (⊥ ⊎ Has ys n) → Has ys n
     back (inl h) = absurd h
     back (inr h) = h
-has_append (x ∷ xs) ys n = (to, back)
+has_append (x ∷ xs) ys n = (to (has_append xs ys n), back (has_append xs ys n))
   where
-    to : ((x ≡ n) ⊎ Has (xs ++ ys) n) → ((x ≡ n) ⊎ Has xs n) ⊎ Has ys n
-    to (inl e) = inl (inl e)
-    to (inr h) = later ((has_append xs ys n).0 h)
-      where
-        later : (Has xs n ⊎ Has ys n) → ((x ≡ n) ⊎ Has xs n) ⊎ Has ys n
-        later (inl k) = inl (inr k)
-        later (inr k) = inr k
+    later : (Has xs n ⊎ Has ys n) → ((x ≡ n) ⊎ Has xs n) ⊎ Has ys n
+    later (inl k) = inl (inr k)
+    later (inr k) = inr k
 
-    back : (((x ≡ n) ⊎ Has xs n) ⊎ Has ys n) → (x ≡ n) ⊎ Has (xs ++ ys) n
-    back (inl (inl e)) = inl e
-    back (inl (inr h)) = inr ((has_append xs ys n).1 (inl h))
-    back (inr h) = inr ((has_append xs ys n).1 (inr h))
+    to : (Has (xs ++ ys) n ↔ (Has xs n ⊎ Has ys n)) → ((x ≡ n) ⊎ Has (xs ++ ys) n) → ((x ≡ n) ⊎ Has xs n) ⊎ Has ys n
+    to again (inl e) = inl (inl e)
+    to again (inr h) = later (again.0 h)
+
+    back : (Has (xs ++ ys) n ↔ (Has xs n ⊎ Has ys n)) → (((x ≡ n) ⊎ Has xs n) ⊎ Has ys n) → (x ≡ n) ⊎ Has (xs ++ ys) n
+    back again (inl (inl e)) = inl e
+    back again (inl (inr h)) = inr (again.1 (inl h))
+    back again (inr h) = inr (again.1 (inr h))
 
 -- one note of a broken rule
 one_iff : (here at : ℕ) (q r : Rule) → Has (breaks here q ∷ []) (breaks at r) ↔ ((at ≡ here) × (r ≡ q))

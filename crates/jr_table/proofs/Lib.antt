@@ -28,7 +28,11 @@ pub mod LookupCases
 pub mod RowTypes
 pub mod Typing
 pub mod BindingSamples
-pub mod BindingCases
+pub mod BindingCasesClasses
+pub mod BindingCasesFlow
+pub mod BindingCasesNames
+pub mod BindingCasesTypes
+pub mod BindingCasesVariables
 pub mod ReferenceLaws
 pub mod Referring
 pub mod TypeTests

@@ -46,7 +46,7 @@ module _ {A : Type 0} (begins : A → ℕ → ℕ) (rows : List Row) (n : Note) 
       unfolding notes_of target_notes args_notes Somewhere InTarget InRow
 
       pub noted : (r : Role) (base : ℕ) (e : tree.Exp A) → Has (notes_of begins rows c r base e) n ↔ Somewhere begins (λ s b x. Own c s b x) r base e
-      noted r base (tree.number m n) = same (own_notes begins rows c r base (tree.number m n)) n
+      noted r base (tree.number m v) = same (own_notes begins rows c r base (tree.number m v)) n
       noted r base (tree.truth m b) = same (own_notes begins rows c r base (tree.truth m b)) n
       noted r base (tree.null m) = same (own_notes begins rows c r base (tree.null m)) n
       noted r base (tree.string m s) = same (own_notes begins rows c r base (tree.string m s)) n
@@ -79,7 +79,7 @@ module _ {A : Type 0} (begins : A → ℕ → ℕ) (rows : List Row) (n : Note) 
   noted_maybe c at (Some e) = noted c value at e
 
   mutual
-    unfolding stmt_notes else_notes stmts_notes InStmt InElse InList InStmts
+    unfolding stmt_notes else_notes stmts_notes InStmt InElse InStmts
 
     pub noted_stmt : (number : ℕ) (c : Context) (base : ℕ) (x : statement.Stmt A) → Has (stmt_notes begins rows number c base x) n ↔ InStmt begins Own OwnStmt OwnList number c base x
     noted_stmt number c base (statement.local m f t w e) = two (own_stmt_notes begins rows number c base (statement.local m f t w e)) (notes_of begins rows (in_own c (local_of c number f t w)) value (begins m base) e) n _ _ (same (own_stmt_notes begins rows number c base (statement.local m f t w e)) n) (noted (in_own c (local_of c number f t w)) value (begins m base) e)
@@ -102,5 +102,4 @@ module _ {A : Type 0} (begins : A → ℕ → ℕ) (rows : List Row) (n : Note) 
 
   -- a body
   pub noted_body : (number : ℕ) (c : Context) (base : ℕ) (xs : statement.Stmts A) → Has (body_notes begins rows number c base xs) n ↔ InList begins Own OwnStmt OwnList number c base xs
-  unfolding InList
   noted_body number c base xs = two (list_notes begins base xs) (stmts_notes begins rows number c base xs) n _ _ (same (list_notes begins base xs) n) (noted_stmts number c base xs)

@@ -86,31 +86,31 @@ module _ (rows : List Row) (fit : AreRows rows) (found : KeysAreFound rows) (c :
         back (s, inl h) = inl (h.0, s, h.1)
         back (s, inr h) = inr (h.0, s, h.1)
 
-    name_iff : (role : Role) (here : ℕ) (name : List ℕ) (at : ℕ) (q : Sought) (f : Found) → InReferences (name_reference rows c role here name ∷ []) at q f ↔ ((at ≡ here) × NameFinds rows c role name q f)
+    name_iff : (role : Role) (here : ℕ) (name : List ℕ) (at : ℕ) (q : Sought) (f : Found) → InReferences (name_reference begins rows c role here name ∷ []) at q f ↔ ((at ≡ here) × NameFinds begins rows c role name q f)
     name_iff left here name at q f = nest (only_iff here type (find_left rows (scope_of c) name) (FindsLeft rows (scope_of c) name) (left_iff rows fit found c name) at q f)
     name_iff value here name at q f = nest (only_iff here variable (find_variable rows (scope_of c) name) (FindsVariable rows (scope_of c) name) (found.variable (scope_of c) name) at q f)
     name_iff sought.statement here name at q f = nest (only_iff here variable (find_variable rows (scope_of c) name) (FindsVariable rows (scope_of c) name) (found.variable (scope_of c) name) at q f)
 
     left_reference_iff : (e : tree.Exp A) (here : ℕ) (name : List ℕ) (o : Option ClassKey) → ((k : ClassKey) → (o ≡ Some k) ↔ IsClassName rows c e k)
-        → (at : ℕ) (q : Sought) (f : Found) → InReferences (left_reference rows c here o (class_on rows c e) name ∷ []) at q f ↔ ((at ≡ here) × DottedFinds rows c left e name q f)
+        → (at : ℕ) (q : Sought) (f : Found) → InReferences (left_reference begins rows c here o (class_on rows c e) name ∷ []) at q f ↔ ((at ≡ here) × DottedFinds begins rows c left e name q f)
     left_reference_iff e here name None is at q f = chain (only_iff here variable (field_found rows c (class_on rows c e) name) (FieldFinds rows c e name) (field_finds rows fit found c e name) at q f) (to, back)
       where
-        to : ((at ≡ here) × (q ≡ variable) × FieldFinds rows c e name f) → (at ≡ here) × DottedFinds rows c left e name q f
+        to : ((at ≡ here) × (q ≡ variable) × FieldFinds rows c e name f) → (at ≡ here) × DottedFinds begins rows c left e name q f
         to h = (h.0, inr (λ k n. let x = (is k).1 n in absurd cc, h.1, h.2))
 
-        back : ((at ≡ here) × DottedFinds rows c left e name q f) → (at ≡ here) × (q ≡ variable) × FieldFinds rows c e name f
+        back : ((at ≡ here) × DottedFinds begins rows c left e name q f) → (at ≡ here) × (q ≡ variable) × FieldFinds rows c e name f
         back (a, inl h) = let x = (is h.0).1 h.1 in absurd cc
         back (a, inr h) = (a, h.1, h.2)
     left_reference_iff e here name (Some o) is at q f = chain (only_iff here type (meanings.find_left_of rows (scope_of c) o name) _ (left_of_iff rows fit found c o name) at q f) (to, back)
       where
-        to : ((at ≡ here) × (q ≡ type) × lookup.FindsLeftOf rows (scope_of c) o name f) → (at ≡ here) × DottedFinds rows c left e name q f
+        to : ((at ≡ here) × (q ≡ type) × lookup.FindsLeftOf rows (scope_of c) o name f) → (at ≡ here) × DottedFinds begins rows c left e name q f
         to h = (h.0, inl (o, (is o).0 refl, h.1, h.2))
 
-        back : ((at ≡ here) × DottedFinds rows c left e name q f) → (at ≡ here) × (q ≡ type) × lookup.FindsLeftOf rows (scope_of c) o name f
+        back : ((at ≡ here) × DottedFinds begins rows c left e name q f) → (at ≡ here) × (q ≡ type) × lookup.FindsLeftOf rows (scope_of c) o name f
         back (a, inl h) = let x = (is h.0).1 h.1 in let same : o ≡ h.0 = cc in (a, h.2, subst (λ k. lookup.FindsLeftOf rows (scope_of c) k name f) (sym same) h.3)
         back (a, inr h) = absurd (h.0 o ((is o).0 refl))
 
-    dotted_iff : (role : Role) (here : ℕ) (e : tree.Exp A) (name : List ℕ) (at : ℕ) (q : Sought) (f : Found) → InReferences (dotted_reference rows c role here e name ∷ []) at q f ↔ ((at ≡ here) × DottedFinds rows c role e name q f)
+    dotted_iff : (role : Role) (here : ℕ) (e : tree.Exp A) (name : List ℕ) (at : ℕ) (q : Sought) (f : Found) → InReferences (dotted_reference begins rows c role here e name ∷ []) at q f ↔ ((at ≡ here) × DottedFinds begins rows c role e name q f)
     dotted_iff left here e name at q f = left_reference_iff e here name (class_name_of rows c e) (named rows fit found c e) at q f
     dotted_iff value here e name at q f = nest (only_iff here variable (field_found rows c (class_on rows c e) name) (FieldFinds rows c e name) (field_finds rows fit found c e name) at q f)
     dotted_iff sought.statement here e name at q f = nest (only_iff here variable (field_found rows c (class_on rows c e) name) (FieldFinds rows c e name) (field_finds rows fit found c e name) at q f)

@@ -62,19 +62,22 @@ record LastAt (ls : List Local) (k : LocalKey) (l : Local) : Type 0 where
 none_of_key : (ls : List Local) (k : LocalKey) → local_of_key k ls ≡ None → (i : ℕ) (other : Local) → slice_get ls i ≡ Some other → other.key ≢ k
 none_of_key [] k e i other at = absurd cc
 none_of_key (l ∷ ls) k e i other at = of (local_of_key k ls) refl (same_local l.key k) refl e
+    (λ none j there. none_of_key ls k none j other there)
   where
-    later : local_of_key k ls ≡ None → same_local l.key k ≡ false → (i : ℕ) → slice_get (l ∷ ls) i ≡ Some other → other.key ≢ k
-    later none differs zero at = λ same. let i : l ≡ other = cc in let t = (local_decides l.key k).1 (ap (λ (x : Local). x.key) i ∙ same) in absurd cc
-    later none differs (suc i) at = none_of_key ls k none i other at
+    later : (again : local_of_key k ls ≡ None → (j : ℕ) → slice_get ls j ≡ Some other → other.key ≢ k)
+        → local_of_key k ls ≡ None → same_local l.key k ≡ false → (i : ℕ) → slice_get (l ∷ ls) i ≡ Some other → other.key ≢ k
+    later again none differs zero at = λ same. let i : l ≡ other = cc in let t = (local_decides l.key k).1 (ap (λ (x : Local). x.key) i ∙ same) in absurd cc
+    later again none differs (suc i) at = again none i at
 
-    of : (o : Option Local) → local_of_key k ls ≡ o → (b : Bool) → same_local l.key k ≡ b → first_some o (if b then Some l else None) ≡ None → other.key ≢ k
-    of (Some x) oe b be h = absurd cc
-    of None oe true be h = absurd cc
-    of None oe false be h = later oe be i at
+    of : (o : Option Local) → local_of_key k ls ≡ o → (b : Bool) → same_local l.key k ≡ b → first_some o (if b then Some l else None) ≡ None
+        → (again : local_of_key k ls ≡ None → (j : ℕ) → slice_get ls j ≡ Some other → other.key ≢ k) → other.key ≢ k
+    of (Some x) oe b be h again = absurd cc
+    of None oe true be h again = absurd cc
+    of None oe false be h again = later again oe be i at
 
 some_of_key : (ls : List Local) (k : LocalKey) (l : Local) → local_of_key k ls ≡ Some l → LastAt ls k l
 some_of_key [] k l e = absurd cc
-some_of_key (x ∷ ls) k l e = of (local_of_key k ls) refl (same_local x.key k) refl e
+some_of_key (x ∷ ls) k l e = of (local_of_key k ls) refl (same_local x.key k) refl e (λ later. some_of_key ls k l later)
   where
     onward : (h : LastAt ls k l) → LastAt (x ∷ ls) k l
     onward h = record { number = suc h.number; stands = h.stands; is = h.is; last = after }
@@ -90,10 +93,11 @@ some_of_key (x ∷ ls) k l e = of (local_of_key k ls) refl (same_local x.key k) 
         after zero other lt at = absurd (omega arith)
         after (suc i) other lt at = none_of_key ls k none i other at
 
-    of : (o : Option Local) → local_of_key k ls ≡ o → (b : Bool) → same_local x.key k ≡ b → first_some o (if b then Some x else None) ≡ Some l → LastAt (x ∷ ls) k l
-    of (Some y) oe b be h = onward (some_of_key ls k l (oe ∙ h))
-    of None oe true be h = here oe be cc
-    of None oe false be h = absurd cc
+    of : (o : Option Local) → local_of_key k ls ≡ o → (b : Bool) → same_local x.key k ≡ b → first_some o (if b then Some x else None) ≡ Some l
+        → (again : local_of_key k ls ≡ Some l → LastAt ls k l) → LastAt (x ∷ ls) k l
+    of (Some y) oe b be h again = onward (again (oe ∙ h))
+    of None oe true be h again = here oe be cc
+    of None oe false be h again = absurd cc
 
 -- two that stand last are one
 one_last : (ls : List Local) (k : LocalKey) (x y : Local) → LastAt ls k x → LastAt ls k y → x ≡ y

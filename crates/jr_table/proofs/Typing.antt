@@ -168,6 +168,17 @@ module _ (rows : List Row) (fit : AreRows rows) (found : KeysAreFound rows) (c :
       back (k, d, e, h, i) = let is = (created_class_iff of k).1 e in (k, d, is, ap (λ o. ctor_found rows c o ts) is ∙ (ctors_iff k ts Types are (one d)).1 h, i)
 
   module _ {A : Type 0} where
+    -- of the target of a call: the class on which it calls
+    abbrev IsPlaced : tree.Target A → Type 0
+    IsPlaced tree.no_target = Unit {0}
+    IsPlaced (tree.on e) = (k : ClassKey) → (on_class (class_name_of rows c e) (type_of rows c e) ≡ Some k) ↔ On (λ o. IsClassName rows c e o) (λ u. HasType rows c e u) k
+
+    target_by : (to : tree.Target A) → IsPlaced to → (name : List ℕ) (ts : Option (List Ty)) (Types : List Ty → Type 0) → ((us : List Ty) → (ts ≡ Some us) ↔ Types us)
+        → Decided (target_found rows c to name ts) (λ f. TargetFinds rows c to name Types f)
+    unfolding target_found TargetFinds
+    target_by tree.no_target at name ts Types are = plain_iff name ts Types are
+    target_by (tree.on e) at name ts Types are = method_iff (on_class (class_name_of rows c e) (type_of rows c e)) (On (λ k. IsClassName rows c e k) (λ u. HasType rows c e u)) name ts Types at are
+
     mutual
       unfolding type_of HasType class_name_of IsClassName target_found TargetFinds types_of HaveTypes
 
@@ -185,7 +196,7 @@ module _ (rows : List Row) (fit : AreRows rows) (found : KeysAreFound rows) (c :
               (on_iff (class_name_of rows c e) (type_of rows c e) (λ k. IsClassName rows c e k) (λ u. HasType rows c e u) (λ k. named e k) (λ u. typed e u))) t
       typed (tree.super_field m w) t = typed_by (field_found rows c (own_superclass rows c) w.text) _ (field_iff (own_superclass rows c) (IsSuperclass rows (scope_of c).class) w.text own_super_iff) t
       typed (tree.call m to w args) t = typed_by (target_found rows c to w.text (types_of rows c args)) (λ f. TargetFinds rows c to w.text (λ ts. HaveTypes rows c args ts) f)
-          (target to w.text (types_of rows c args) (λ ts. HaveTypes rows c args ts) (λ us. types args us)) t
+          (target_by to (placed to) w.text (types_of rows c args) (λ ts. HaveTypes rows c args ts) (λ us. types args us)) t
       typed (tree.super_call m w args) t = typed_by (call_found rows c (own_superclass rows c) w.text (types_of rows c args)) _
           (method_iff (own_superclass rows c) (IsSuperclass rows (scope_of c).class) w.text (types_of rows c args) (λ ts. HaveTypes rows c args ts) own_super_iff (λ us. types args us)) t
       typed (tree.create m of args) t = creation_iff of (types_of rows c args) (λ ts. HaveTypes rows c args ts) (λ us. types args us) t
@@ -221,13 +232,15 @@ module _ (rows : List Row) (fit : AreRows rows) (found : KeysAreFound rows) (c :
       named (tree.assign m l r) k = no_class k
       named (tree.compound m o l r) k = no_class k
 
-      pub target : (to : tree.Target A) (name : List ℕ) (ts : Option (List Ty)) (Types : List Ty → Type 0) → ((us : List Ty) → (ts ≡ Some us) ↔ Types us)
-          → Decided (target_found rows c to name ts) (λ f. TargetFinds rows c to name Types f)
-      target tree.no_target name ts Types are = plain_iff name ts Types are
-      target (tree.on e) name ts Types are = method_iff (on_class (class_name_of rows c e) (type_of rows c e)) (On (λ k. IsClassName rows c e k) (λ u. HasType rows c e u)) name ts Types
-          (on_iff (class_name_of rows c e) (type_of rows c e) (λ k. IsClassName rows c e k) (λ u. HasType rows c e u) (λ k. named e k) (λ u. typed e u)) are
+      placed : (to : tree.Target A) → IsPlaced to
+      placed tree.no_target = tt
+      placed (tree.on e) = on_iff (class_name_of rows c e) (type_of rows c e) (λ k. IsClassName rows c e k) (λ u. HasType rows c e u) (λ k. named e k) (λ u. typed e u)
 
       pub types : (args : tree.Exps A) (ts : List Ty) → (types_of rows c args ≡ Some ts) ↔ HaveTypes rows c args ts
       types tree.end ts = some_iff [] ts
       types (tree.more e es) [] = (λ h. absurd (first_none (type_of rows c e) (types_of rows c es) h), λ h. absurd h)
       types (tree.more e es) (t ∷ ts) = chain (first_iff (type_of rows c e) (types_of rows c es) t ts) (λ h. ((typed e t).0 h.0, (types es ts).0 h.1), λ h. ((typed e t).1 h.0, (types es ts).1 h.1))
+
+    pub target : (to : tree.Target A) (name : List ℕ) (ts : Option (List Ty)) (Types : List Ty → Type 0) → ((us : List Ty) → (ts ≡ Some us) ↔ Types us)
+        → Decided (target_found rows c to name ts) (λ f. TargetFinds rows c to name Types f)
+    target to name ts Types are = target_by to (placed to) name ts Types are

@@ -57,18 +57,18 @@ module _ {A : Type 0} (begins : A → ℕ → ℕ) (OnExp : Context → Role →
         ⊎ (InExp c value (begins m base) e ⊎ (InStmt number c (begins m base) x ⊎ InElse (number + locals_in x) c (begins m base) other))
     InStmt number c base (statement.loop m e x) = OnStmt number c base (statement.loop m e x) ⊎ (InExp c value (begins m base) e ⊎ InStmt number c (begins m base) x)
     InStmt number c base (statement.return m e) = OnStmt number c base (statement.return m e) ⊎ InMaybe c (begins m base) e
-    InStmt number c base (statement.block m body) = OnStmt number c base (statement.block m body) ⊎ InList number c (begins m base) body
-    InStmt number c base (statement.sync m e body) = OnStmt number c base (statement.sync m e body) ⊎ (InExp c value (begins m base) e ⊎ InList number c (begins m base) body)
+    InStmt number c base (statement.block m body) = OnStmt number c base (statement.block m body) ⊎ (OnList (begins m base) body ⊎ InStmts number c (begins m base) body)
+    InStmt number c base (statement.sync m e body) = OnStmt number c base (statement.sync m e body) ⊎ (InExp c value (begins m base) e ⊎ (OnList (begins m base) body ⊎ InStmts number c (begins m base) body))
     InStmt number c base (statement.empty m) = OnStmt number c base (statement.empty m)
 
     pub InElse : (number : ℕ) → Context → (base : ℕ) → statement.Else A → Type 0
     InElse number c base statement.no_else = ⊥
     InElse number c base (statement.otherwise x) = InStmt number c base x
 
-    pub InList : (number : ℕ) → Context → (base : ℕ) → statement.Stmts A → Type 0
-    InList number c base xs = OnList base xs ⊎ InStmts number c base xs
-
     -- each statement in what is known behind those before it
     pub InStmts : (number : ℕ) → Context → (base : ℕ) → statement.Stmts A → Type 0
     InStmts number c base statement.end = ⊥
     InStmts number c base (statement.more x xs) = InStmt number c base x ⊎ InStmts (number + locals_in x) (after number c x) base xs
+
+  abbrev pub InList : (number : ℕ) → Context → (base : ℕ) → statement.Stmts A → Type 0
+  InList number c base xs = OnList base xs ⊎ InStmts number c base xs

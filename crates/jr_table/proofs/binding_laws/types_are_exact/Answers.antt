@@ -1,11 +1,3 @@
-use Rattle.jr_table.specs.TypesAt as types_at
-use Rattle.jr_table.specs.Errors as errors
-use Rattle.jr_table.proofs.Noting as noting
-use Rattle.jr_table.proofs.Referring as referring
-use Rattle.jr_table.proofs.TypeTests as type_tests
-use Rattle.jr_table.proofs.Breaking as breaking
-use Rattle.jr_table.proofs.DeclarationTests as declaration_tests
-use Rattle.jr_table.proofs.BindingCases as binding_cases
 use Rattle.jr_table.specs.BindingLaws.{IsBound, AreBound}
 use Rattle.jr_table.proofs.Typing.{typed, named}
 use Rattle.jr_table.proofs.ReferenceLaws.{field_finds, super_field_finds, call_finds, super_call_finds, creation_finds}
@@ -22,5 +14,5 @@ bound A rows fit found c = record {
   creations = λ of args. creation_finds rows fit found c of args;
 }
 
-pub returns-clause-bound : goal.returns-clause-bound
-returns-clause-bound g c = bound _
+pub returns : goal.returns
+returns g c = record { bound = bound _ }
