@@ -14,17 +14,12 @@ use Rattle.jr_table.specs.LookupLaws.{Decided, KeysAreFound}
 use Rattle.jr_table.specs.Context.{Context, scope_of, WritesType, IsSuperclass}
 use Rattle.jr_table.specs.Binding.{HasType, IsClassName, HaveTypes, IsOn, On, FindsIn, FieldFinds, SuperFieldFinds, CallFinds, SuperCallFinds, CreationFinds, TargetFinds, Role, value, left, Sought, variable, type, word_at, TypeRefers, NameFinds, DottedFinds, Refers}
 use Rattle.jr_table.specs.Binding as sought
-use Rattle.jr_table.specs.Meanings.{class_found, find_in, find_left, field_found, call_found, ctor_found, own_superclass, created_class, type_of, class_name_of, target_found, types_of, class_on, on_class, Reference, reference, type_references, name_reference, left_reference, dotted_reference, references}
+use Rattle.jr_table.specs.Meanings.{class_found, find_in, find_left, field_found, call_found, ctor_found, own_superclass, created_class, type_of, class_name_of, target_found, types_of, class_on, on_class, Reference, reference, InReferences, type_references, name_reference, left_reference, dotted_reference, references}
 use Rattle.jr_table.specs.Meanings as meanings
 use Rattle.jr_table.specs.Notes.{Note, refers, breaks, Has, missing_rule, found_note, reference_notes}
 use Rattle.jr_table.proofs.RowTypes.{chain, class_found_iff}
 use Rattle.jr_table.proofs.Typing.{in_iff, left_iff, left_of_iff, named}
 use Rattle.jr_table.proofs.ReferenceLaws.{field_finds, super_field_finds, call_finds, super_call_finds, creation_finds}
-
--- a reference of the list stands there and finds this
-abbrev pub InReferences : List Reference → ℕ → Sought → Found → Type 0
-InReferences [] at q f = ⊥
-InReferences (x ∷ xs) at q f = ((at ≡ x.at) × (q ≡ x.sought) × (x.found ≡ f)) ⊎ InReferences xs at q f
 
 first_iff : (here : ℕ) (s : Sought) (g : Found) (Finds : Found → Type 0) → Decided g Finds → (rest : List Reference) (Rest : ℕ → Sought → Found → Type 0)
     → ((at : ℕ) (q : Sought) (f : Found) → InReferences rest at q f ↔ Rest at q f)

@@ -1,6 +1,7 @@
 -- Where a declaration may be named: access (JLS 6.6.1), and instance members from static contexts
 -- (JLS 8.1.3, 15.12.3).
-use Rattle.std.specs.Prelude.{◌≡◌, ◌≢◌, ℕ, List, Option, Some, None, Bool, true, false, not, ◌==◌, ◌&&◌, ◌||◌, ◌⊎◌, slice_get, unwrap_or}
+use Rattle.std.specs.Prelude.{◌≡◌, ◌≢◌, ℕ, List, Option, Some, None, Bool, true, false, not, ◌==◌,
+    ◌&&◌, ◌||◌, ◌⊎◌, slice_get, unwrap_or}
 use Rattle.jr_table.specs.declared.entries.Entry.{Entry}
 use Rattle.jr_table.specs.Chains.{outer_of}
 use Rattle.jr_table.specs.Members.{IsPrivate}

@@ -1,6 +1,7 @@
--- What a call or a creation finds (JLS 15.12.1 to 15.12.2.5, 15.9.3, without conversions of primitive
--- types), by the numbers of rows.
-use Rattle.std.specs.Prelude.{◌≡◌, ℕ, zero, suc, length, List, [], ◌∷◌, ◌++◌, Option, Some, None, Bool, true, false, ◌&&◌, ◌||◌, ◌==◌, slice_get, filter, ◌⊎◌, if◌then◌else◌}
+-- What a call or a creation finds (JLS 15.12.1 to 15.12.2.5, 15.9.3, without conversions of
+-- primitive types), by the numbers of rows.
+use Rattle.std.specs.Prelude.{◌≡◌, ℕ, zero, suc, length, List, [], ◌∷◌, ◌++◌, Option, Some, None,
+    Bool, true, false, ◌&&◌, ◌||◌, ◌==◌, slice_get, filter, ◌⊎◌, if◌then◌else◌}
 use Rattle.std.specs.List.{list_any}
 use Rattle.std.specs.Str.{bytes_eq}
 use Rattle.jr_table.specs.declared.entries.Kind.{Kind}
@@ -8,7 +9,8 @@ use Rattle.jr_table.specs.declared.entries.Kind.TheVariants.{Int, Boolean, Void,
 use Rattle.jr_table.specs.declared.entries.Sort.TheVariants as sort
 use Rattle.jr_table.specs.declared.entries.Entry.{Entry}
 use Rattle.jr_table.specs.declared.answers.Answer.{Answer}
-use Rattle.jr_table.specs.declared.answers.Answer.TheVariants.{One, Nothing, Many, NotAccessible, FromStatic}
+use Rattle.jr_table.specs.declared.answers.Answer.TheVariants.{One, Nothing, Many, NotAccessible,
+    FromStatic}
 use Rattle.jr_table.specs.Chains.{IsSubclassAt, chain_of, outer_of}
 use Rattle.jr_table.specs.Members.{IsMemberMethod}
 use Rattle.jr_table.specs.Looking.{same_kind, is_sort, is_number, is_method, member}
@@ -48,7 +50,8 @@ pub record IsAsSpecific (rows : List Entry) (j k : ℕ) : Type 0 where
 
 -- Row j may be called with the arguments. `Own params j`: row j is a method or constructor of those
 -- that are looked among, with these parameter types.
-pub record IsCandidate (rows : List Entry) (Own : List Kind → ℕ → Type 0) (args : List Kind) (j : ℕ) : Type 0 where
+pub record IsCandidate (rows : List Entry) (Own : List Kind → ℕ → Type 0) (args : List Kind)
+    (j : ℕ) : Type 0 where
   pub params : List Kind
   pub own : Own params j
   pub fit : Fit rows args params

@@ -1,5 +1,6 @@
 -- Superclasses (JLS 8.1.4). Classes go by the numbers of their rows.
-use Rattle.std.specs.Prelude.{◌≡◌, ℕ, zero, suc, ◌<◌, List, [], ◌∷◌, length, Option, Some, None, slice_get, option_and_then, ◌⊎◌}
+use Rattle.std.specs.Prelude.{◌≡◌, ℕ, zero, suc, ◌<◌, List, [], ◌∷◌, length, Option, Some, None,
+    slice_get, option_and_then, ◌⊎◌}
 use Rattle.jr_table.specs.declared.entries.Entry.{Entry}
 
 -- the direct superclass of a class

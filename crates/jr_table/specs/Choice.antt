@@ -2,7 +2,8 @@
 use Rattle.std.specs.Prelude.{◌≡◌, ℕ, ◌<◌, ◌≤◌, ◌||◌, List, [], ◌∷◌, Bool, ◌==◌, ◌⊎◌, if◌then◌else◌}
 use Rattle.std.specs.List.{list_all}
 use Rattle.jr_table.specs.declared.answers.Answer.{Answer}
-use Rattle.jr_table.specs.declared.answers.Answer.TheVariants.{One, Nothing, Many, NotAccessible, FromStatic}
+use Rattle.jr_table.specs.declared.answers.Answer.TheVariants.{One, Nothing, Many, NotAccessible,
+    FromStatic}
 
 -- the least of the numbers that have a property, and the two least
 abbrev pub IsLeast : (ℕ → Type 0) → ℕ → Type 0
@@ -11,8 +12,8 @@ IsLeast P a = P a × ((i : ℕ) → P i → a ≤ i)
 abbrev pub AreTwoLeast : (ℕ → Type 0) → ℕ → ℕ → Type 0
 AreTwoLeast P a b = P a × P b × (a < b) × ((i : ℕ) → P i → (i ≡ a) ⊎ (b ≤ i))
 
--- Of the candidates, some are accessible. `IsAsSpecific j k`: the parameter types of j are assignable
--- to those of k.
+-- Of the candidates, some are accessible. `IsAsSpecific j k`: the parameter types of j are
+-- assignable to those of k.
 module _ (Candidate Accessible : ℕ → Type 0) (IsAsSpecific : ℕ → ℕ → Type 0) where
   -- j is accessible, and as specific as every other that is
   pub record IsBest (j : ℕ) : Type 0 where

@@ -1,6 +1,7 @@
--- What is known at a place of a member: the locals in scope with what is declared of them (JLS 6.3), whether there is an
--- object (JLS 8.1.3), and whose initializer it is.
-use Rattle.std.specs.Prelude.{◌≡◌, ◌≢◌, ℕ, suc, ◌+◌, ◌<◌, List, [], ◌∷◌, ◌++◌, map, Option, Some, None, option_map, Bool, true, false, slice_get}
+-- What is known at a place of a member: the locals in scope with what is declared of them (JLS
+-- 6.3), whether there is an object (JLS 8.1.3), and whose initializer it is.
+use Rattle.std.specs.Prelude.{◌≡◌, ◌≢◌, ℕ, suc, ◌+◌, ◌<◌, List, [], ◌∷◌, ◌++◌, map, Option, Some,
+    None, option_map, Bool, true, false, slice_get}
 use Rattle.std.specs.List.{list_any}
 use Rattle.jr_ast.specs.declared.operators.ModWord.{ModWord}
 use Rattle.jr_ast.specs.declared.operators.ModWord.TheVariants as word
@@ -42,13 +43,16 @@ scope_local l = record { name = l.name; key = l.key }
 
 -- what lookup sees
 abbrev pub scope_of : Context → Scope
-scope_of c = record { class = class_of_member c.member; is_static = c.is_static; locals = map scope_local c.locals }
+scope_of c = record { class = class_of_member c.member; is_static = c.is_static; locals =
+    map scope_local c.locals }
 
--- A type's name in front of a dot or alone, and the type that it is: what isn't accessible, or isn't found, is none
--- (JLS 6.5.5).
+-- A type's name in front of a dot or alone, and the type that it is: what isn't accessible, or
+-- isn't found, is none (JLS 6.5.5).
 abbrev pub NamesClass : List Row → Scope → Option (List ℕ) → List ℕ → ClassKey → Type 0
 NamesClass rows s None name k = FindsTypeNamed rows s name (one (decl.class_decl k))
-NamesClass rows s (Some outer) name k = (o : ClassKey) × FindsTypeNamed rows s outer (one (decl.class_decl o)) × FindsTypeOf rows s o name (one (decl.class_decl k))
+NamesClass rows s (Some outer) name k = (o : ClassKey)
+    × FindsTypeNamed rows s outer (one (decl.class_decl o))
+    × FindsTypeOf rows s o name (one (decl.class_decl k))
 
 module _ {A : Type 0} where
   abbrev pub outer_text : Option (tree.Word A) → Option (List ℕ)
@@ -58,7 +62,8 @@ module _ {A : Type 0} where
   abbrev pub WritesType : List Row → Scope → tree.TypeName A → Ty → Type 0
   WritesType rows s (tree.int m) t = t ≡ int
   WritesType rows s (tree.boolean m) t = t ≡ boolean
-  WritesType rows s (tree.named m outer w) t = (k : ClassKey) × NamesClass rows s (outer_text outer) w.text k × (t ≡ class k)
+  WritesType rows s (tree.named m outer w) t =
+      (k : ClassKey) × NamesClass rows s (outer_text outer) w.text k × (t ≡ class k)
 
   abbrev pub local_type : tree.TypeName A → LocalType
   local_type (tree.int m) = known int
@@ -68,18 +73,21 @@ module _ {A : Type 0} where
 -- the type of a local
 abbrev pub IsLocalType : List Row → Scope → LocalType → Ty → Type 0
 IsLocalType rows s (known u) t = t ≡ u
-IsLocalType rows s (written outer name) t = (k : ClassKey) × NamesClass rows s outer name k × (t ≡ class k)
+IsLocalType rows s (written outer name) t =
+    (k : ClassKey) × NamesClass rows s outer name k × (t ≡ class k)
 
 -- this is known of the local of this key, the last in scope that has it
 pub record Knows (c : Context) (k : LocalKey) (l : Local) : Type 0 where
   pub number : ℕ
   pub stands : slice_get c.locals number ≡ Some l
   pub is : l.key ≡ k
-  pub last : (i : ℕ) (other : Local) → number < i → slice_get c.locals i ≡ Some other → other.key ≢ k
+  pub last : (i : ℕ) (other : Local) → number < i → slice_get c.locals i ≡ Some other
+      → other.key ≢ k
 
 -- the declared type of a variable, or the result of a method (JLS 4.12, 8.4.5)
 abbrev pub IsTypeOf : List Row → Context → Decl → Ty → Type 0
-IsTypeOf rows c (local_decl k) t = (l : Local) × Knows c k l × IsLocalType rows (scope_of c) l.type t
+IsTypeOf rows c (local_decl k) t =
+    (l : Local) × Knows c k l × IsLocalType rows (scope_of c) l.type t
 IsTypeOf rows c d t = (j : ℕ) × (i : IsRowOf rows d j) × (i.row.type ≡ Some t)
 
 -- the declaration has the word among its modifiers
@@ -110,7 +118,9 @@ IsSuperclass rows c p = (j : ℕ) × (i : IsRowOf rows (decl.class_decl c) j) ×
 
 -- the member is a method that isn't `void`, with this result (JLS 8.4.5)
 abbrev pub Returns : List Row → MemberKey → Ty → Type 0
-Returns rows (method k) t = IsTypeOf rows (record { member = method k; is_static = false; locals = []; own = None }) (method_decl k) t × (t ≢ void)
+Returns rows (method k) t = IsTypeOf rows (record
+    { member = method k; is_static = false; locals = []; own = None }) (method_decl k) t
+    × (t ≢ void)
 Returns rows _ t = ⊥
 
 -- How scopes grow.
@@ -119,15 +129,18 @@ abbrev pub local_key : Context → ℕ → LocalKey
 local_key c number = record { member = c.member; number = number }
 
 abbrev pub with_local : Context → Local → Context
-with_local c l = record { member = c.member; is_static = c.is_static; locals = c.locals ++ l ∷ []; own = None }
+with_local c l =
+    record { member = c.member; is_static = c.is_static; locals = c.locals ++ l ∷ []; own = None }
 
 -- in the initializer of a local, which is in scope there
 abbrev pub in_own : Context → Local → Context
-in_own c l = record { member = c.member; is_static = c.is_static; locals = c.locals ++ l ∷ []; own = Some l.key }
+in_own c l = record { member = c.member; is_static = c.is_static; locals = c.locals ++ l ∷ []; own =
+    Some l.key }
 
 module _ {A : Type 0} where
   abbrev pub local_of : Context → ℕ → Bool → tree.TypeName A → tree.Word A → Local
-  local_of c number is_final t w = record { name = w.text; key = local_key c number; is_final = is_final; type = local_type t; has_init = true }
+  local_of c number is_final t w = record { name = w.text; key = local_key c number; is_final =
+      is_final; type = local_type t; has_init = true }
 
   unfoldable mutual
     -- how many locals are declared in a statement
@@ -156,5 +169,7 @@ module _ {A : Type 0} where
 
   -- the parameters, which have numbers from this one on and the types of the member's key
   abbrev pub parameters : MemberKey → ℕ → List (syntax.Param A) → List Ty → List Local
-  parameters k number (p ∷ ps) (t ∷ ts) = record { name = p.name.text; key = record { member = k; number = number }; is_final = p.is_final; type = known t; has_init = false } ∷ parameters k (suc number) ps ts
+  parameters k number (p ∷ ps) (t ∷ ts) = record
+      { name = p.name.text; key = record { member = k; number = number }; is_final = p.is_final;
+      type = known t; has_init = false } ∷ parameters k (suc number) ps ts
   parameters k number _ _ = []

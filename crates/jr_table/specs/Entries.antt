@@ -1,5 +1,6 @@
 -- Rows by number: each class that a row names goes by the number of its row.
-use Rattle.std.specs.Prelude.{◌≡◌, ℕ, List, [], Option, Some, None, Bool, true, false, map, length, unwrap_or, option_map, option_and_then, slice_get}
+use Rattle.std.specs.Prelude.{◌≡◌, ℕ, List, [], Option, Some, None, Bool, true, false, map, length,
+    unwrap_or, option_map, option_and_then, slice_get}
 use Rattle.std.specs.List.{list_any}
 use Rattle.jr_ast.specs.declared.operators.ModWord.{ModWord}
 use Rattle.jr_ast.specs.declared.operators.ModWord.TheVariants as word
@@ -8,8 +9,10 @@ use Rattle.jr_table.specs.declared.entries.Kind.TheVariants as kind
 use Rattle.jr_table.specs.declared.entries.Sort.{Sort}
 use Rattle.jr_table.specs.declared.entries.Sort.TheVariants as sort
 use Rattle.jr_table.specs.declared.entries.Entry.{Entry}
-use Rattle.jr_table.specs.Keys.{ClassKey, FieldKey, MethodKey, CtorKey, Ty, int, boolean, void, null, class}
-use Rattle.jr_table.specs.Decls.{MemberKey, head, field, method, constructor, LocalKey, Decl, class_decl, field_decl, method_decl, constructor_decl, local_decl}
+use Rattle.jr_table.specs.Keys.{ClassKey, FieldKey, MethodKey, CtorKey, Ty, int, boolean, void,
+    null, class}
+use Rattle.jr_table.specs.Decls.{MemberKey, head, field, method, constructor, LocalKey, Decl,
+    class_decl, field_decl, method_decl, constructor_decl, local_decl}
 use Rattle.jr_table.specs.Rows.{Row}
 use Rattle.jr_table.specs.SameDecls.{same_decl}
 use Rattle.jr_table.specs.Firsts.{first_that}

@@ -1,5 +1,6 @@
 -- The errors of a member, and sound programs.
-use Rattle.std.specs.Prelude.{◌≡◌, ℕ, ◌<◌, ◌+◌, List, [], ◌∷◌, length, map, Option, Some, None, true, false, ◌⊎◌, ◌↔◌}
+use Rattle.std.specs.Prelude.{◌≡◌, ℕ, ◌<◌, ◌+◌, List, [], ◌∷◌, length, map, Option, Some, None,
+    true, false, ◌⊎◌, ◌↔◌}
 use Rattle.jr_ast.specs.Tree as tree
 use Rattle.jr_ast.specs.StatementTree as statement
 use Rattle.jr_ast.specs.MemberTree as syntax
@@ -15,23 +16,32 @@ use Rattle.jr_table.specs.Binding.{Role, value, BindsItself}
 use Rattle.jr_table.specs.Somewhere.{InExp, InMaybe, InRow, InList}
 use Rattle.jr_table.specs.ExpressionRules.{ExpBreaks}
 use Rattle.jr_table.specs.StatementRules.{StmtBreaks, ListBreaks, StmtBindsItself}
-use Rattle.jr_table.specs.HeadRules.{plain, with_parameters, is_static_member, HeadRefers, HeadBreaks, DeclarationRefers, DeclarationBreaks}
+use Rattle.jr_table.specs.HeadRules.{plain, with_parameters, is_static_member, HeadRefers,
+    HeadBreaks, DeclarationRefers, DeclarationBreaks}
 use Rattle.jr_table.specs.declared.rules.Rule.{Rule}
 use Rattle.jr_table.specs.declared.rules.Rule.TheVariants as rule
 
 -- Some expression, statement or list of a member has the property of its kind.
-module _ {A : Type 0} (begins : A → ℕ → ℕ) (OnExp : Context → Role → (base : ℕ) → tree.Exp A → Type 0)
-    (OnStmt : (number : ℕ) → Context → (base : ℕ) → statement.Stmt A → Type 0) (OnList : (base : ℕ) → statement.Stmts A → Type 0) where
+module _ {A : Type 0} (begins : A → ℕ → ℕ) (OnExp : Context → Role → (base : ℕ) → tree.Exp A
+    → Type 0)
+    (OnStmt : (number : ℕ) → Context → (base : ℕ) → statement.Stmt A → Type 0)
+    (OnList : (base : ℕ) → statement.Stmts A → Type 0) where
   -- the arguments of a written `super(..)` stand in a static context
   abbrev pub InSuper : Context → (base : ℕ) → Option (tree.Exps A) → Type 0
   InSuper c base None = ⊥
   InSuper c base (Some args) = InRow begins (OnExp c) base args
 
   abbrev pub InMember : MemberKey → (base : ℕ) → syntax.Member A → Type 0
-  InMember k base (syntax.field m mods t w init) = InMaybe begins OnExp OnStmt OnList (plain k (is_static_member begins mods)) (begins m base) init
-  InMember k base (syntax.method m mods t w ps body) = InList begins OnExp OnStmt OnList (length ps) (with_parameters k (is_static_member begins mods) ps) (begins m base) body
-  InMember k base (syntax.constructor m mods w ps args body) = InSuper (with_parameters k true ps) (begins m base) args
-      ⊎ InList begins OnExp OnStmt OnList (length ps) (with_parameters k false ps) (begins m base) body
+  InMember k base (syntax.field m mods t w init) =
+      InMaybe begins OnExp OnStmt OnList (plain k (is_static_member begins mods)) (begins m base)
+      init
+  InMember k base (syntax.method m mods t w ps body) =
+      InList begins OnExp OnStmt OnList (length ps)
+      (with_parameters k (is_static_member begins mods) ps) (begins m base) body
+  InMember k base (syntax.constructor m mods w ps args body) =
+      InSuper (with_parameters k true ps) (begins m base) args
+      ⊎ InList begins OnExp OnStmt OnList (length ps) (with_parameters k false ps) (begins m base)
+      body
   InMember k base (syntax.inner m of) = ⊥
 
 -- a part of a program that is a member of its own
@@ -49,35 +59,47 @@ module _ {A : Type 0} (begins : A → ℕ → ℕ) (rows : List Row) (super_at :
   abbrev pub Breaks : MemberKey → (base : ℕ) → Part A → (at : ℕ) → Rule → Type 0
   Breaks (head k) base (class_part c) at r = HeadBreaks begins rows k base c at r
   Breaks k base (member_part x) at r = DeclarationBreaks begins rows super_at k base x at r
-      ⊎ InMember begins (λ c role b e. ExpBreaks begins rows c role b e at r) (λ n c b s. StmtBreaks begins rows n c b s at r) (λ b ss. ListBreaks begins b ss at r) k base x
+      ⊎ InMember begins (λ c role b e. ExpBreaks begins rows c role b e at r)
+      (λ n c b s. StmtBreaks begins rows n c b s at r) (λ b ss. ListBreaks begins b ss at r) k base
+      x
   Breaks _ base _ at r = ⊥
 
   -- a reference of a member that begins there is bound to the declaration
   abbrev pub Binds : MemberKey → (base : ℕ) → Part A → (at : ℕ) → Decl → Type 0
   Binds (head k) base (class_part c) at d = HeadRefers begins rows k base c at (one d)
   Binds k base (member_part x) at d = DeclarationRefers begins rows super_at k base x at (one d)
-      ⊎ InMember begins (λ c role b e. BindsItself begins rows c role b e at d) (λ n c b s. StmtBindsItself begins rows n c b s at d) (λ b ss. ⊥) k base x
+      ⊎ InMember begins (λ c role b e. BindsItself begins rows c role b e at d)
+      (λ n c b s. StmtBindsItself begins rows n c b s at d) (λ b ss. ⊥) k base x
   Binds _ base _ at d = ⊥
 
 -- Where members are written.
 module _ {A : Type 0} (begins : A → ℕ → ℕ) (sites : List Site) where
   -- the member that this declares in a class, whose parent begins at base
   abbrev pub Declares : (base : ℕ) → ClassKey → syntax.Member A → MemberKey → Type 0
-  Declares base of (syntax.field m mods t w init) k = k ≡ field (record { class = of; name = w.text })
-  Declares base of (syntax.method m mods t w ps body) k = (ts : List Ty) × MeanTypes sites of (map (param_site begins (begins m base)) ps) ts × (k ≡ method (record { class = of; name = w.text; params = ts }))
-  Declares base of (syntax.constructor m mods w ps args body) k = (ts : List Ty) × MeanTypes sites of (map (param_site begins (begins m base)) ps) ts × (k ≡ constructor (record { class = of; params = ts }))
+  Declares base of (syntax.field m mods t w init) k =
+      k ≡ field (record { class = of; name = w.text })
+  Declares base of (syntax.method m mods t w ps body) k = (ts : List Ty)
+      × MeanTypes sites of (map (param_site begins (begins m base)) ps) ts
+      × (k ≡ method (record { class = of; name = w.text; params = ts }))
+  Declares base of (syntax.constructor m mods w ps args body) k =
+      (ts : List Ty) × MeanTypes sites of (map (param_site begins (begins m base)) ps) ts
+      × (k ≡ constructor (record { class = of; params = ts }))
   Declares base of (syntax.inner m of') k = ⊥
 
   module _ (P : MemberKey → (base : ℕ) → Part A → Type 0) where
     -- the member of this key is written, and has the property
     unfoldable mutual
       pub InClass : (base : ℕ) → Option (List ℕ) → syntax.Class A → MemberKey → Type 0
-      InClass base outer (syntax.class m mods w t ms) k = ((k ≡ head (class_key begins outer w.text)) × P k base (class_part (syntax.class m mods w t ms)))
+      InClass base outer (syntax.class m mods w t ms) k =
+          ((k ≡ head (class_key begins outer w.text))
+          × P k base (class_part (syntax.class m mods w t ms)))
           ⊎ InMembers (begins m base) (class_key begins outer w.text) ms k
 
       pub InMembers : (base : ℕ) → ClassKey → syntax.Members A → MemberKey → Type 0
       InMembers base of syntax.end k = ⊥
-      InMembers base of (syntax.more x xs) k = ((Declares base of x k × P k base (member_part x)) ⊎ InInner base of x k) ⊎ InMembers base of xs k
+      InMembers base of (syntax.more x xs) k =
+          ((Declares base of x k × P k base (member_part x)) ⊎ InInner base of x k)
+          ⊎ InMembers base of xs k
 
       pub InInner : (base : ℕ) → ClassKey → syntax.Member A → MemberKey → Type 0
       InInner base of (syntax.inner m c) k = InClass (begins m base) (Some of.name) c k
@@ -98,10 +120,13 @@ pub record Error : Type 0 where
   pub at : ℕ
   pub rule : Rule
 
-module _ {A : Type 0} (begins : A → ℕ → ℕ) (rows : List Row) (super_at : MemberKey → ℕ) (units : List (syntax.Unit A)) where
+module _ {A : Type 0} (begins : A → ℕ → ℕ) (rows : List Row) (super_at : MemberKey → ℕ)
+    (units : List (syntax.Unit A)) where
   -- the member has the error
   abbrev pub HasError : MemberKey → Error → Type 0
-  HasError k e = InUnits begins (sites_of begins units) (λ k base part. Breaks begins rows (super_at k) k base part (begins (part_mark part) base + e.at) e.rule) units k
+  HasError k e = InUnits begins (sites_of begins units)
+      (λ k base part. Breaks begins rows (super_at k) k base part
+      (begins (part_mark part) base + e.at) e.rule) units k
 
   -- no member breaks a rule
   abbrev pub IsSound : Type 0

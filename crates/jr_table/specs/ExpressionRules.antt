@@ -1,4 +1,5 @@
--- The rules of a sound program that an expression may break: each with its place, apart from the walk (JLS 6, 8, 15).
+-- The rules of a sound program that an expression may break: each with its place, apart from the
+-- walk (JLS 6, 8, 15).
 use Rattle.std.specs.Prelude.{◌≡◌, ◌≢◌, ℕ, List, Option, Some, None, true, false, codes, ◌⊎◌}
 use Rattle.jr_ast.specs.declared.operators.UnOp.{UnOp}
 use Rattle.jr_ast.specs.declared.operators.UnOp.TheVariants as sign
@@ -13,16 +14,21 @@ use Rattle.jr_table.specs.Entries.{IsRowOf}
 use Rattle.jr_table.specs.Keyed.{IsAssignable}
 use Rattle.jr_table.specs.Found.{Found, one, nothing, many, not_accessible, from_static}
 use Rattle.jr_table.specs.Lookup.{FindsVariable}
-use Rattle.jr_table.specs.Context.{Context, Local, Knows, scope_of, WritesType, IsTypeOf, IsStaticDecl, IsInstanceDecl, IsFinal}
-use Rattle.jr_table.specs.Binding.{HasType, IsClassName, FieldFinds, SuperFieldFinds, CallFinds, SuperCallFinds, Role, statement, Sought, variable, type, method, word_at, Refers}
+use Rattle.jr_table.specs.Context.{Context, Local, Knows, scope_of, WritesType, IsTypeOf,
+    IsStaticDecl, IsInstanceDecl, IsFinal}
+use Rattle.jr_table.specs.Binding.{HasType, IsClassName, FieldFinds, SuperFieldFinds, CallFinds,
+    SuperCallFinds, Role, statement, Sought, variable, type, method, word_at, Refers}
 use Rattle.jr_table.specs.declared.rules.Rule.{Rule}
 use Rattle.jr_table.specs.declared.rules.Rule.TheVariants as rule
 use Rattle.std.specs.Prelude.{◌≤◌}
 
 -- the nine methods of Object that no program declares or calls (JLS 4.3.2)
 abbrev pub IsObjectMethod : List ℕ → Type 0
-IsObjectMethod name = (name ≡ codes "equals") ⊎ ((name ≡ codes "hashCode") ⊎ ((name ≡ codes "toString") ⊎ ((name ≡ codes "getClass") ⊎ ((name ≡ codes "notify")
-    ⊎ ((name ≡ codes "notifyAll") ⊎ ((name ≡ codes "wait") ⊎ ((name ≡ codes "clone") ⊎ (name ≡ codes "finalize"))))))))
+IsObjectMethod name = (name ≡ codes "equals")
+    ⊎ ((name ≡ codes "hashCode") ⊎ ((name ≡ codes "toString")
+    ⊎ ((name ≡ codes "getClass") ⊎ ((name ≡ codes "notify")
+    ⊎ ((name ≡ codes "notifyAll") ⊎ ((name ≡ codes "wait")
+    ⊎ ((name ≡ codes "clone") ⊎ (name ≡ codes "finalize"))))))))
 
 -- a class type, or that of null (JLS 4.1, 4.3)
 abbrev pub IsReference : Ty → Type 0
@@ -31,11 +37,12 @@ IsReference (class k) = Unit {0}
 IsReference _ = ⊥
 
 abbrev pub AreComparable : List Row → Ty → Ty → Type 0
-AreComparable rows t u = IsReference t × IsReference u × (IsAssignable rows t u ⊎ IsAssignable rows u t)
+AreComparable rows t u =
+    IsReference t × IsReference u × (IsAssignable rows t u ⊎ IsAssignable rows u t)
 
 module _ (rows : List Row) (c : Context) where
-  -- A final field may be assigned in a constructor of its class, where it is an instance field without an initializer
-  -- (JLS 8.3.1.2, 16).
+  -- A final field may be assigned in a constructor of its class, where it is an instance field
+  -- without an initializer (JLS 8.3.1.2, 16).
   pub record IsBlank (k : FieldKey) : Type 0 where
     pub place : CtorKey
     pub within : c.member ≡ constructor place
@@ -68,7 +75,8 @@ module _ {A : Type 0} (rows : List Row) (c : Context) where
 
   -- the one may be compared with the other (JLS 15.21)
   abbrev pub Equates : tree.Exp A → tree.Exp A → Type 0
-  Equates l r = Both int l r ⊎ (Both boolean l r ⊎ ((t : Ty) × (u : Ty) × HasType rows c l t × HasType rows c r u × AreComparable rows t u))
+  Equates l r = Both int l r ⊎ (Both boolean l r
+      ⊎ ((t : Ty) × (u : Ty) × HasType rows c l t × HasType rows c r u × AreComparable rows t u))
 
   -- what an operator takes (JLS 15.15 to 15.24)
   abbrev pub Takes : BinOp → tree.Exp A → tree.Exp A → Type 0
@@ -97,19 +105,24 @@ module _ {A : Type 0} (rows : List Row) (c : Context) where
 
   -- the operand may be of the class that is written (JLS 5.5)
   abbrev pub Casts : tree.TypeName A → tree.Exp A → Type 0
-  Casts of e = (t : Ty) × (u : Ty) × WritesType rows (scope_of c) of t × HasType rows c e u × AreComparable rows t u
+  Casts of e = (t : Ty) × (u : Ty) × WritesType rows (scope_of c) of t × HasType rows c e u
+      × AreComparable rows t u
 
   -- a member is named through a value, `this` or `super`, or through a class
   abbrev pub ThroughValue : tree.Exp A → Decl → Type 0
-  ThroughValue (tree.field m e w) d = FieldFinds rows c e w.text (one d) × ((k : ClassKey) → IsClassName rows c e k → ⊥)
+  ThroughValue (tree.field m e w) d =
+      FieldFinds rows c e w.text (one d) × ((k : ClassKey) → IsClassName rows c e k → ⊥)
   ThroughValue (tree.super_field m w) d = SuperFieldFinds rows c w.text (one d)
-  ThroughValue (tree.call m (tree.on e) w args) d = CallFinds rows c (tree.on e) w.text args (one d) × ((k : ClassKey) → IsClassName rows c e k → ⊥)
+  ThroughValue (tree.call m (tree.on e) w args) d = CallFinds rows c (tree.on e) w.text args (one d)
+      × ((k : ClassKey) → IsClassName rows c e k → ⊥)
   ThroughValue (tree.super_call m w args) d = SuperCallFinds rows c w.text args (one d)
   ThroughValue _ d = ⊥
 
   abbrev pub ThroughClass : tree.Exp A → Decl → Type 0
-  ThroughClass (tree.field m e w) d = FieldFinds rows c e w.text (one d) × ((k : ClassKey) × IsClassName rows c e k)
-  ThroughClass (tree.call m (tree.on e) w args) d = CallFinds rows c (tree.on e) w.text args (one d) × ((k : ClassKey) × IsClassName rows c e k)
+  ThroughClass (tree.field m e w) d =
+      FieldFinds rows c e w.text (one d) × ((k : ClassKey) × IsClassName rows c e k)
+  ThroughClass (tree.call m (tree.on e) w args) d =
+      CallFinds rows c (tree.on e) w.text args (one d) × ((k : ClassKey) × IsClassName rows c e k)
   ThroughClass _ d = ⊥
 
   -- a final variable is what this target names
@@ -117,15 +130,17 @@ module _ {A : Type 0} (rows : List Row) (c : Context) where
   FinalBehind (tree.this m) d = IsFixed rows c d
   FinalBehind _ d = IsFinal rows c d
 
-  -- Every leaf is a literal or a final variable with an initializer; a cast is looked through. What is reached through a value
-  -- is none, nor is a class literal.
+  -- Every leaf is a literal or a final variable with an initializer; a cast is looked through. What
+  -- is reached through a value is none, nor is a class literal.
   unfoldable pub IsConstant : tree.Exp A → Type 0
   IsConstant (tree.number m n) = Unit {0}
   IsConstant (tree.truth m b) = Unit {0}
   IsConstant (tree.null m) = Unit {0}
   IsConstant (tree.string m text) = Unit {0}
-  IsConstant (tree.name m w) = (d : Decl) × FindsVariable rows (scope_of c) w.text (one d) × IsConstantVariable rows c d
-  IsConstant (tree.field m e w) = (k : ClassKey) × (d : Decl) × IsClassName rows c e k × FieldFinds rows c e w.text (one d) × IsConstantVariable rows c d
+  IsConstant (tree.name m w) =
+      (d : Decl) × FindsVariable rows (scope_of c) w.text (one d) × IsConstantVariable rows c d
+  IsConstant (tree.field m e w) = (k : ClassKey) × (d : Decl) × IsClassName rows c e k
+      × FieldFinds rows c e w.text (one d) × IsConstantVariable rows c d
   IsConstant (tree.paren m e) = IsConstant e
   IsConstant (tree.cast m of e) = IsConstant e
   IsConstant (tree.unary m o e) = IsConstant e
@@ -152,8 +167,9 @@ IsFromStatic (from_static d) = Unit {0}
 IsFromStatic _ = ⊥
 
 module _ (rows : List Row) (c : Context) where
-  -- the declaration isn't to be named by a simple name yet: the local itself in its own initializer, and in an instance field's
-  -- initializer the instance fields of its class from itself on (JLS 8.3.3, 16)
+  -- the declaration isn't to be named by a simple name yet: the local itself in its own
+  -- initializer, and in an instance field's initializer the instance fields of its class from
+  -- itself on (JLS 8.3.3, 16)
   pub record IsLater (k q : FieldKey) : Type 0 where
     pub same : k.class ≡ q.class
     pub instance : IsInstanceDecl rows (field_decl q)
@@ -165,10 +181,12 @@ module _ (rows : List Row) (c : Context) where
 
   abbrev pub IsForward : Decl → Type 0
   IsForward (local_decl k) = c.own ≡ Some k
-  IsForward (field_decl q) = (k : FieldKey) × (c.member ≡ field k) × (c.is_static ≡ false) × IsLater k q
+  IsForward (field_decl q) =
+      (k : FieldKey) × (c.member ≡ field k) × (c.is_static ≡ false) × IsLater k q
   IsForward _ = ⊥
 
-module _ {A : Type 0} (begins : A → ℕ → ℕ) (rows : List Row) (c : Context) (role : Role) (base : ℕ) where
+module _ {A : Type 0} (begins : A → ℕ → ℕ) (rows : List Row) (c : Context) (role : Role) (base : ℕ)
+    where
   -- a reference of this sort finds what has the property
   abbrev pub Meets : tree.Exp A → (at : ℕ) → Sought → (Found → Type 0) → Type 0
   Meets e at q Is = (f : Found) × Refers begins rows c role base e at q f × Is f
@@ -212,21 +230,25 @@ module _ {A : Type 0} (begins : A → ℕ → ℕ) (rows : List Row) (c : Contex
   abbrev pub Private : tree.Exp A → (at : ℕ) → Type 0
   Private e at = MeetsAny e at IsNotAccessible
 
-  -- S6: one finds an instance member where there is no object; or `this` or `super` stands where there is none
+  -- S6: one finds an instance member where there is no object; or `this` or `super` stands where
+  -- there is none
   abbrev pub StaticContext : tree.Exp A → (at : ℕ) → Type 0
   StaticContext e at = MeetsAny e at IsFromStatic ⊎ ((c.is_static ≡ true) × NamesObject e at)
 
   -- S7: a static member is named through an expression, `this` or `super`
   abbrev pub StaticThroughValue : tree.Exp A → (at : ℕ) → Type 0
-  StaticThroughValue e at = IsWordAt e at × ((d : Decl) × ThroughValue rows c e d × IsStaticDecl rows d)
+  StaticThroughValue e at =
+      IsWordAt e at × ((d : Decl) × ThroughValue rows c e d × IsStaticDecl rows d)
 
   -- S8: an instance member is named through a class
   abbrev pub InstanceThroughType : tree.Exp A → (at : ℕ) → Type 0
-  InstanceThroughType e at = IsWordAt e at × ((d : Decl) × ThroughClass rows c e d × IsInstanceDecl rows d)
+  InstanceThroughType e at =
+      IsWordAt e at × ((d : Decl) × ThroughClass rows c e d × IsInstanceDecl rows d)
 
   -- S9, of an assignment: the right side isn't assignable; the place is the right side's
   abbrev pub Mismatches : tree.Exp A → (at : ℕ) → Type 0
-  Mismatches (tree.assign m l r) at = (at ≡ begins (exp_mark r) (begins m base)) × (Suits rows c r (HasType rows c l) → ⊥)
+  Mismatches (tree.assign m l r) at =
+      (at ≡ begins (exp_mark r) (begins m base)) × (Suits rows c r (HasType rows c l) → ⊥)
   Mismatches _ at = ⊥
 
   -- S10: an operator doesn't take its operands
@@ -242,11 +264,15 @@ module _ {A : Type 0} (begins : A → ℕ → ℕ) (rows : List Row) (c : Contex
   BadCast (tree.cast m of e) at = (at ≡ begins m base) × (Casts rows c of e → ⊥)
   BadCast _ at = ⊥
 
-  -- S12: a final variable is assigned; the place is its name's, in a target whose parent begins at `from`
+  -- S12: a final variable is assigned; the place is its name's, in a target whose parent begins at
+  -- `from`
   abbrev pub FinalTarget : (from : ℕ) → Option (tree.Exp A) → (at : ℕ) → Type 0
-  FinalTarget from (Some (tree.name m w)) at = (at ≡ word_at begins m from w) × ((d : Decl) × FindsVariable rows (scope_of c) w.text (one d) × IsFixed rows c d)
-  FinalTarget from (Some (tree.field m e w)) at = (at ≡ word_at begins m from w) × ((d : Decl) × FieldFinds rows c e w.text (one d) × FinalBehind rows c e d)
-  FinalTarget from (Some (tree.super_field m w)) at = (at ≡ word_at begins m from w) × ((d : Decl) × SuperFieldFinds rows c w.text (one d) × IsFinal rows c d)
+  FinalTarget from (Some (tree.name m w)) at = (at ≡ word_at begins m from w)
+      × ((d : Decl) × FindsVariable rows (scope_of c) w.text (one d) × IsFixed rows c d)
+  FinalTarget from (Some (tree.field m e w)) at = (at ≡ word_at begins m from w)
+      × ((d : Decl) × FieldFinds rows c e w.text (one d) × FinalBehind rows c e d)
+  FinalTarget from (Some (tree.super_field m w)) at = (at ≡ word_at begins m from w)
+      × ((d : Decl) × SuperFieldFinds rows c w.text (one d) × IsFinal rows c d)
   FinalTarget from _ at = ⊥
 
   abbrev pub FinalAssigned : tree.Exp A → (at : ℕ) → Type 0
@@ -254,7 +280,8 @@ module _ {A : Type 0} (begins : A → ℕ → ℕ) (rows : List Row) (c : Contex
 
   -- S14
   abbrev pub Forward : tree.Exp A → (at : ℕ) → Type 0
-  Forward (tree.name m w) at = (at ≡ word_at begins m base w) × ((d : Decl) × FindsVariable rows (scope_of c) w.text (one d) × IsForward rows c d)
+  Forward (tree.name m w) at = (at ≡ word_at begins m base w)
+      × ((d : Decl) × FindsVariable rows (scope_of c) w.text (one d) × IsForward rows c d)
   Forward _ at = ⊥
 
   -- S15: a call that gives no value is used as one; the place is the call's name
@@ -268,8 +295,10 @@ module _ {A : Type 0} (begins : A → ℕ → ℕ) (rows : List Row) (c : Contex
 
   -- S23, of a call: one of Object's methods is called
   abbrev pub ObjectMethodCalled : tree.Exp A → (at : ℕ) → Type 0
-  ObjectMethodCalled (tree.call m to w args) at = (at ≡ word_at begins m base w) × IsObjectMethod w.text
-  ObjectMethodCalled (tree.super_call m w args) at = (at ≡ word_at begins m base w) × IsObjectMethod w.text
+  ObjectMethodCalled (tree.call m to w args) at =
+      (at ≡ word_at begins m base w) × IsObjectMethod w.text
+  ObjectMethodCalled (tree.super_call m w args) at =
+      (at ≡ word_at begins m base w) × IsObjectMethod w.text
   ObjectMethodCalled _ at = ⊥
 
   -- the expression itself breaks the rule there

@@ -2,7 +2,8 @@
 use Rattle.std.specs.Prelude.{◌≡◌, ℕ, List, Option, Some, None, Bool, if◌then◌else◌}
 use Rattle.jr_table.specs.declared.entries.Entry.{Entry}
 use Rattle.jr_table.specs.declared.answers.Answer.{Answer}
-use Rattle.jr_table.specs.declared.answers.Answer.TheVariants.{One, Nothing, Many, NotAccessible, FromStatic}
+use Rattle.jr_table.specs.declared.answers.Answer.TheVariants.{One, Nothing, Many, NotAccessible,
+    FromStatic}
 use Rattle.jr_table.specs.Chains.{outer_of}
 use Rattle.jr_table.specs.Members.{IsMemberField, IsMemberType}
 use Rattle.jr_table.specs.Looking.{is_field, is_type, member}
@@ -25,7 +26,8 @@ FindsField rows c is_static name (FromStatic j) =
 FindsField rows c is_static name Nothing = NoneAround rows (HasFieldNamed rows name) c
 FindsField rows c is_static name _ = ⊥
 
--- A member of a class, named at a place of class `place`. `Member j`: row j is the class's member of the name.
+-- A member of a class, named at a place of class `place`. `Member j`: row j is the class's member
+-- of the name.
 abbrev pub FindsMember : List Entry → (place : ℕ) (Member : ℕ → Type 0) → Answer → Type 0
 FindsMember rows place Member (One j) = Member j × IsAccessible rows place j
 FindsMember rows place Member (NotAccessible j) = Member j × (IsAccessible rows place j → ⊥)
@@ -46,7 +48,8 @@ abbrev pub field_in : List Entry → (c : ℕ) (is_static : Bool) → ℕ → Op
 field_in rows c is_static e None = Nothing
 field_in rows c is_static e (Some j) = object_answer rows c is_static e j
 
-abbrev pub field_around : List Entry → (c : ℕ) (is_static : Bool) (name : List ℕ) → Option ℕ → Answer
+abbrev pub field_around : List Entry → (c : ℕ) (is_static : Bool) (name : List ℕ) → Option ℕ
+    → Answer
 field_around rows c is_static name None = Nothing
 field_around rows c is_static name (Some e) =
     field_in rows c is_static e (member rows (is_field name) e)

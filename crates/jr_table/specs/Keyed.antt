@@ -5,7 +5,8 @@ use Rattle.jr_table.specs.Decls.{class_decl, field_decl, method_decl}
 use Rattle.jr_table.specs.Rows.{Row}
 use Rattle.jr_table.specs.Entries.{IsRowOf, entries_of, kind_of}
 use Rattle.jr_table.specs.Chains.{IsSubclassAt}
-use Rattle.jr_table.specs.Members.{IsMemberField, IsMemberMethod, DeclaresVirtual, Dispatches, OverridesAt}
+use Rattle.jr_table.specs.Members.{IsMemberField, IsMemberMethod, DeclaresVirtual, Dispatches,
+    OverridesAt}
 
 -- sub is sup, or has it as a superclass, perhaps through others (JLS 8.1.4)
 pub record IsSubclass (rows : List Row) (sub sup : ClassKey) : Type 0 where

@@ -1,5 +1,6 @@
 -- Exact functions: what is found by looking for it, class by class.
-use Rattle.std.specs.Prelude.{◌≡◌, ℕ, List, [], ◌∷◌, Option, Some, None, Bool, true, false, not, ◌==◌, ◌&&◌, slice_get, option_and_then, if◌then◌else◌}
+use Rattle.std.specs.Prelude.{◌≡◌, ℕ, List, [], ◌∷◌, Option, Some, None, Bool, true, false, not,
+    ◌==◌, ◌&&◌, slice_get, option_and_then, if◌then◌else◌}
 use Rattle.std.specs.Str.{bytes_eq}
 use Rattle.jr_table.specs.declared.entries.Kind.{Kind}
 use Rattle.jr_table.specs.declared.entries.Kind.TheVariants.{Int, Boolean, Void, Null, Class}
@@ -38,7 +39,8 @@ abbrev pub is_field : List ℕ → ℕ → Entry → Bool
 is_field name c e = is_sort e.sort sort.Field && (e.class == c) && bytes_eq e.name name
 
 abbrev pub is_method : List ℕ → List Kind → ℕ → Entry → Bool
-is_method name params c e = is_sort e.sort sort.Method && (e.class == c) && bytes_eq e.name name && same_kinds e.params params
+is_method name params c e = is_sort e.sort sort.Method && (e.class == c) && bytes_eq e.name name
+    && same_kinds e.params params
 
 abbrev pub is_type : List ℕ → ℕ → Entry → Bool
 is_type name c e = is_sort e.sort sort.Class && is_number e.outer c && bytes_eq e.name name

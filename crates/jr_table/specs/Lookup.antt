@@ -1,7 +1,8 @@
 -- Lookup by keys, of any rows, scope, class, name and argument types: what the public calls answer
 -- (JLS 6.4, 6.5, 6.6, 15.9.3, 15.11, 15.12). A class that has no row has no members, and no class
 -- around it.
-use Rattle.std.specs.Prelude.{◌≡◌, ◌≢◌, ℕ, List, map, Option, Some, None, option_map, slice_get, ◌⊎◌}
+use Rattle.std.specs.Prelude.{◌≡◌, ◌≢◌, ℕ, List, map, Option, Some, None, option_map, slice_get,
+    ◌⊎◌}
 use Rattle.jr_table.specs.declared.answers.Answer.{Answer}
 use Rattle.jr_table.specs.declared.answers.Answer.TheVariants as number
 use Rattle.jr_table.specs.Keys.{ClassKey, Ty}
@@ -10,9 +11,11 @@ use Rattle.jr_table.specs.Rows.{Row}
 use Rattle.jr_table.specs.Found.{Found, one, nothing, many, not_accessible, from_static}
 use Rattle.jr_table.specs.Entries.{IsRowOf, class_number, kind_of, entries_of}
 use Rattle.jr_table.specs.Scope.{Scope, FindsLocal, HasNoLocal, last_named}
-use Rattle.jr_table.specs.Fields.{FindsField, find_field, FindsFieldOf, find_field_of, FindsMemberType, find_member_type}
+use Rattle.jr_table.specs.Fields.{FindsField, find_field, FindsFieldOf, find_field_of,
+    FindsMemberType, find_member_type}
 use Rattle.jr_table.specs.TypeNames.{FindsType, find_type}
-use Rattle.jr_table.specs.Calls.{FindsMethod, find_method, FindsCall, find_call, FindsCtor, find_ctor}
+use Rattle.jr_table.specs.Calls.{FindsMethod, find_method, FindsCall, find_call, FindsCtor,
+    find_ctor}
 
 -- an answer by the numbers of rows, and the declarations of these rows
 abbrev pub Shows : List Row → Answer → Found → Type 0
@@ -30,7 +33,8 @@ ByKeys rows Finds f = (a : Answer) × Finds a × Shows rows a f
 -- A simple name as a variable: the local or parameter in scope; or else the member field of the
 -- innermost enclosing class that has one (JLS 6.4.1).
 abbrev pub FindsVariable : List Row → Scope → (name : List ℕ) → Found → Type 0
-FindsVariable rows s name f = ((k : LocalKey) × FindsLocal s.locals name k × (f ≡ one (local_decl k)))
+FindsVariable rows s name f =
+    ((k : LocalKey) × FindsLocal s.locals name k × (f ≡ one (local_decl k)))
     ⊎ (HasNoLocal s.locals name
     × ByKeys rows (FindsField (entries_of rows) (class_number rows s.class) s.is_static name) f)
 
@@ -58,7 +62,8 @@ FindsMethodNamed rows s name args =
     (map (kind_of rows) args))
 
 -- a call on a class or on an expression of its type, or by `super` on the superclass (JLS 15.12.1)
-abbrev pub FindsMethodOf : List Row → Scope → ClassKey → (name : List ℕ) → (args : List Ty) → Found → Type 0
+abbrev pub FindsMethodOf : List Row → Scope → ClassKey → (name : List ℕ) → (args : List Ty) → Found
+    → Type 0
 FindsMethodOf rows s of name args =
     ByKeys rows
     (FindsMethod (entries_of rows) (class_number rows s.class) (class_number rows of) name
@@ -71,14 +76,14 @@ FindsCtorOf rows s of args =
     (FindsCtor (entries_of rows) (class_number rows s.class) (class_number rows of)
     (map (kind_of rows) args))
 
--- The left part of a dotted name (JLS 6.4.2, 6.5.2): a simple name before a dot is a variable where a
--- variable is found, one without an object included; else a type.
+-- The left part of a dotted name (JLS 6.4.2, 6.5.2): a simple name before a dot is a variable where
+-- a variable is found, one without an object included; else a type.
 abbrev pub FindsLeft : List Row → Scope → (name : List ℕ) → Found → Type 0
 FindsLeft rows s name f = (FindsVariable rows s name f × (f ≢ nothing))
     ⊎ (FindsVariable rows s name nothing × FindsTypeNamed rows s name f)
 
--- `a.b` before a dot, with a a class: its member field b where it has one, one that isn't accessible
--- included; else its member type b. Methods called b aren't looked at.
+-- `a.b` before a dot, with a a class: its member field b where it has one, one that isn't
+-- accessible included; else its member type b. Methods called b aren't looked at.
 abbrev pub FindsLeftOf : List Row → Scope → ClassKey → (name : List ℕ) → Found → Type 0
 FindsLeftOf rows s of name f = (FindsFieldIn rows s of name f × (f ≢ nothing))
     ⊎ (FindsFieldIn rows s of name nothing × FindsTypeOf rows s of name f)
@@ -117,20 +122,24 @@ find_type_named rows s name = shown rows (find_type rows (class_number rows s.cl
 
 unfoldable pub find_type_of : List Row → Scope → ClassKey → (name : List ℕ) → Found
 find_type_of rows s of name =
-    shown rows (find_member_type (entries_of rows) (class_number rows s.class) (class_number rows of) name)
+    shown rows (find_member_type (entries_of rows) (class_number rows s.class)
+    (class_number rows of) name)
 
 unfoldable pub find_field_in : List Row → Scope → ClassKey → (name : List ℕ) → Found
 find_field_in rows s of name =
-    shown rows (find_field_of (entries_of rows) (class_number rows s.class) (class_number rows of) name)
+    shown rows (find_field_of (entries_of rows) (class_number rows s.class) (class_number rows of)
+    name)
 
 unfoldable pub find_method_named : List Row → Scope → (name : List ℕ) → (args : List Ty) → Found
 find_method_named rows s name args =
     shown rows (find_call (entries_of rows) (class_number rows s.class) s.is_static name
     (map (kind_of rows) args))
 
-unfoldable pub find_method_of : List Row → Scope → ClassKey → (name : List ℕ) → (args : List Ty) → Found
+unfoldable pub find_method_of : List Row → Scope → ClassKey → (name : List ℕ) → (args : List Ty)
+    → Found
 find_method_of rows s of name args =
-    shown rows (find_method (entries_of rows) (class_number rows s.class) (class_number rows of) name
+    shown rows (find_method (entries_of rows) (class_number rows s.class) (class_number rows of)
+    name
     (map (kind_of rows) args))
 
 unfoldable pub find_ctor_of : List Row → Scope → ClassKey → (args : List Ty) → Found

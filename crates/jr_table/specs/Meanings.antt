@@ -1,5 +1,6 @@
 -- Exact: which type an expression has, and what its references find.
-use Rattle.std.specs.Prelude.{ℕ, List, [], ◌∷◌, Option, Some, None, option_and_then, option_map, Bool, false, slice_get, codes, if◌then◌else◌}
+use Rattle.std.specs.Prelude.{◌≡◌, ◌⊎◌, ℕ, List, [], ◌∷◌, Option, Some, None, option_and_then,
+    option_map, Bool, false, slice_get, codes, if◌then◌else◌}
 use Rattle.jr_ast.specs.Tree as tree
 use Rattle.jr_table.specs.Keys.{ClassKey, Ty, int, boolean, void, null, class}
 use Rattle.jr_table.specs.Decls.{LocalKey, Decl, class_decl, local_decl}
@@ -9,9 +10,11 @@ use Rattle.jr_table.specs.Prelude.{top_key}
 use Rattle.jr_table.specs.SameDecls.{same_local}
 use Rattle.jr_table.specs.Found.{Found, one, nothing, many, not_accessible, from_static}
 use Rattle.jr_table.specs.Scope.{Scope}
-use Rattle.jr_table.specs.Lookup.{find_variable, find_type_named, find_type_of, find_field_in, find_method_named, find_method_of, find_ctor_of}
+use Rattle.jr_table.specs.Lookup.{find_variable, find_type_named, find_type_of, find_field_in,
+    find_method_named, find_method_of, find_ctor_of}
 use Rattle.jr_table.specs.Context.{LocalType, known, written, Local, Context, scope_of, outer_text}
-use Rattle.jr_table.specs.Binding.{sign_type, operator_type, Role, value, left, statement, Sought, variable, type}
+use Rattle.jr_table.specs.Binding.{sign_type, operator_type, Role, value, left, statement, Sought,
+    variable, type}
 use Rattle.jr_table.specs.Binding as sought
 
 unfoldable pub row_of : List Row → Decl → Option Row
@@ -33,12 +36,14 @@ class_found _ = None
 
 abbrev pub named_class : List Row → Scope → Option (List ℕ) → List ℕ → Option ClassKey
 named_class rows s None name = class_found (find_type_named rows s name)
-named_class rows s (Some outer) name = option_and_then (λ o. class_found (find_type_of rows s o name)) (class_found (find_type_named rows s outer))
+named_class rows s (Some outer) name = option_and_then
+    (λ o. class_found (find_type_of rows s o name)) (class_found (find_type_named rows s outer))
 
 abbrev pub written_type : {A : Type 0} → List Row → Scope → tree.TypeName A → Option Ty
 written_type rows s (tree.int m) = Some int
 written_type rows s (tree.boolean m) = Some boolean
-written_type rows s (tree.named m outer w) = option_map class (named_class rows s (outer_text outer) w.text)
+written_type rows s (tree.named m outer w) =
+    option_map class (named_class rows s (outer_text outer) w.text)
 
 abbrev pub type_of_local : List Row → Scope → LocalType → Option Ty
 type_of_local rows s (known t) = Some t
@@ -47,10 +52,12 @@ type_of_local rows s (written outer name) = option_map class (named_class rows s
 -- the last local of the key
 abbrev pub local_of_key : LocalKey → List Local → Option Local
 local_of_key k [] = None
-local_of_key k (l ∷ ls) = first_some (local_of_key k ls) (if same_local l.key k then Some l else None)
+local_of_key k (l ∷ ls) =
+    first_some (local_of_key k ls) (if same_local l.key k then Some l else None)
 
 abbrev pub type_of_decl : List Row → Context → Decl → Option Ty
-type_of_decl rows c (local_decl k) = option_and_then (λ (l : Local). type_of_local rows (scope_of c) l.type) (local_of_key k c.locals)
+type_of_decl rows c (local_decl k) = option_and_then
+    (λ (l : Local). type_of_local rows (scope_of c) l.type) (local_of_key k c.locals)
 type_of_decl rows c d = option_and_then (λ (r : Row). r.type) (row_of rows d)
 
 abbrev pub superclass_of : List Row → ClassKey → Option ClassKey
@@ -102,7 +109,8 @@ module _ (rows : List Row) (c : Context) where
   field_found o name = find_in o (λ k. find_field_in rows (scope_of c) k name)
 
   abbrev pub call_found : Option ClassKey → List ℕ → Option (List Ty) → Found
-  call_found o name types = find_in o (λ k. find_for types (λ ts. find_method_of rows (scope_of c) k name ts))
+  call_found o name types =
+      find_in o (λ k. find_for types (λ ts. find_method_of rows (scope_of c) k name ts))
 
   abbrev pub plain_call_found : List ℕ → Option (List Ty) → Found
   plain_call_found name types = find_for types (λ ts. find_method_named rows (scope_of c) name ts)
@@ -126,11 +134,15 @@ module _ {A : Type 0} (rows : List Row) (c : Context) where
     type_of (tree.this m) = Some (class (scope_of c).class)
     type_of (tree.class_literal m of) = Some (class (top_key (codes "Class")))
     type_of (tree.name m w) = type_of_found rows c (find_variable rows (scope_of c) w.text)
-    type_of (tree.field m e w) = type_of_found rows c (field_found rows c (on_class (class_name_of e) (type_of e)) w.text)
-    type_of (tree.super_field m w) = type_of_found rows c (field_found rows c (own_superclass rows c) w.text)
+    type_of (tree.field m e w) =
+        type_of_found rows c (field_found rows c (on_class (class_name_of e) (type_of e)) w.text)
+    type_of (tree.super_field m w) =
+        type_of_found rows c (field_found rows c (own_superclass rows c) w.text)
     type_of (tree.call m to w args) = type_of_found rows c (target_found to w.text (types_of args))
-    type_of (tree.super_call m w args) = type_of_found rows c (call_found rows c (own_superclass rows c) w.text (types_of args))
-    type_of (tree.create m of args) = created (created_class rows c of) (ctor_found rows c (created_class rows c of) (types_of args))
+    type_of (tree.super_call m w args) =
+        type_of_found rows c (call_found rows c (own_superclass rows c) w.text (types_of args))
+    type_of (tree.create m of args) = created (created_class rows c of)
+        (ctor_found rows c (created_class rows c of) (types_of args))
     type_of (tree.paren m e) = type_of e
     type_of (tree.cast m of e) = written_type rows (scope_of c) of
     type_of (tree.unary m o e) = Some (sign_type o)
@@ -142,7 +154,8 @@ module _ {A : Type 0} (rows : List Row) (c : Context) where
     -- the class whose name it is before a dot
     pub class_name_of : tree.Exp A → Option ClassKey
     class_name_of (tree.name m w) = class_found (find_left rows (scope_of c) w.text)
-    class_name_of (tree.field m e w) = option_and_then (λ o. class_found (find_left_of rows (scope_of c) o w.text)) (class_name_of e)
+    class_name_of (tree.field m e w) = option_and_then
+        (λ o. class_found (find_left_of rows (scope_of c) o w.text)) (class_name_of e)
     class_name_of (tree.number m n) = None
     class_name_of (tree.truth m b) = None
     class_name_of (tree.null m) = None
@@ -163,7 +176,8 @@ module _ {A : Type 0} (rows : List Row) (c : Context) where
 
     pub target_found : tree.Target A → List ℕ → Option (List Ty) → Found
     target_found tree.no_target name types = plain_call_found rows c name types
-    target_found (tree.on e) name types = call_found rows c (on_class (class_name_of e) (type_of e)) name types
+    target_found (tree.on e) name types =
+        call_found rows c (on_class (class_name_of e) (type_of e)) name types
 
     pub types_of : tree.Exps A → Option (List Ty)
     types_of tree.end = Some []
@@ -182,6 +196,12 @@ pub record Reference : Type 0 where
 abbrev pub reference : ℕ → Sought → Found → Reference
 reference at q f = record { at = at; sought = q; found = f }
 
+-- a reference of the list stands there and finds this
+abbrev pub InReferences : List Reference → (at : ℕ) → Sought → Found → Type 0
+InReferences [] at q f = ⊥
+InReferences (x ∷ xs) at q f =
+    ((at ≡ x.at) × (q ≡ x.sought) × (x.found ≡ f)) ⊎ InReferences xs at q f
+
 abbrev pub at_word : {A : Type 0} → (begins : A → ℕ → ℕ) → A → ℕ → tree.Word A → ℕ
 at_word begins m base w = begins w.mark (begins m base)
 
@@ -189,9 +209,13 @@ module _ {A : Type 0} (begins : A → ℕ → ℕ) (rows : List Row) (c : Contex
   abbrev pub type_references : (base : ℕ) → tree.TypeName A → List Reference
   type_references base (tree.int m) = []
   type_references base (tree.boolean m) = []
-  type_references base (tree.named m None w) = reference (at_word begins m base w) type (find_type_named rows (scope_of c) w.text) ∷ []
-  type_references base (tree.named m (Some o) w) = reference (at_word begins m base o) type (find_type_named rows (scope_of c) o.text)
-      ∷ reference (at_word begins m base w) type (find_in (class_found (find_type_named rows (scope_of c) o.text)) (λ k. find_type_of rows (scope_of c) k w.text))
+  type_references base (tree.named m None w) =
+      reference (at_word begins m base w) type (find_type_named rows (scope_of c) w.text) ∷ []
+  type_references base (tree.named m (Some o) w) =
+      reference (at_word begins m base o) type (find_type_named rows (scope_of c) o.text)
+      ∷ reference (at_word begins m base w) type
+      (find_in (class_found (find_type_named rows (scope_of c) o.text))
+      (λ k. find_type_of rows (scope_of c) k w.text))
       ∷ []
 
   abbrev pub name_reference : Role → ℕ → List ℕ → Reference
@@ -204,18 +228,31 @@ module _ {A : Type 0} (begins : A → ℕ → ℕ) (rows : List Row) (c : Contex
   left_reference at None on name = reference at variable (field_found rows c on name)
 
   abbrev pub dotted_reference : Role → ℕ → tree.Exp A → List ℕ → Reference
-  dotted_reference left at e name = left_reference at (class_name_of rows c e) (class_on rows c e) name
-  dotted_reference value at e name = reference at variable (field_found rows c (class_on rows c e) name)
-  dotted_reference statement at e name = reference at variable (field_found rows c (class_on rows c e) name)
+  dotted_reference left at e name =
+      left_reference at (class_name_of rows c e) (class_on rows c e) name
+  dotted_reference value at e name =
+      reference at variable (field_found rows c (class_on rows c e) name)
+  dotted_reference statement at e name =
+      reference at variable (field_found rows c (class_on rows c e) name)
 
   -- the references of an expression itself
   abbrev pub references : Role → (base : ℕ) → tree.Exp A → List Reference
   references role base (tree.name m w) = name_reference role (at_word begins m base w) w.text ∷ []
-  references role base (tree.field m e w) = dotted_reference role (at_word begins m base w) e w.text ∷ []
-  references role base (tree.super_field m w) = reference (at_word begins m base w) variable (field_found rows c (own_superclass rows c) w.text) ∷ []
+  references role base (tree.field m e w) =
+      dotted_reference role (at_word begins m base w) e w.text ∷ []
+  references role base (tree.super_field m w) =
+      reference (at_word begins m base w) variable
+      (field_found rows c (own_superclass rows c) w.text) ∷ []
   references role base (tree.class_literal m of) = type_references (begins m base) of
-  references role base (tree.call m to w args) = reference (at_word begins m base w) sought.method (target_found rows c to w.text (types_of rows c args)) ∷ []
-  references role base (tree.super_call m w args) = reference (at_word begins m base w) sought.method (call_found rows c (own_superclass rows c) w.text (types_of rows c args)) ∷ []
-  references role base (tree.create m of args) = reference (begins m base) sought.method (ctor_found rows c (created_class rows c of) (types_of rows c args)) ∷ type_references (begins m base) of
+  references role base (tree.call m to w args) =
+      reference (at_word begins m base w) sought.method
+      (target_found rows c to w.text (types_of rows c args)) ∷ []
+  references role base (tree.super_call m w args) =
+      reference (at_word begins m base w) sought.method
+      (call_found rows c (own_superclass rows c) w.text (types_of rows c args)) ∷ []
+  references role base (tree.create m of args) =
+      reference (begins m base) sought.method
+      (ctor_found rows c (created_class rows c of) (types_of rows c args))
+      ∷ type_references (begins m base) of
   references role base (tree.cast m of e) = type_references (begins m base) of
   references role base _ = []

@@ -1,6 +1,7 @@
--- Members of a class, its own and inherited ones (JLS 8.2, 8.3, 8.4.8, 8.5), overriding and dispatch (JLS 8.4.8.1,
--- 15.12.4.4). Declarations go by the numbers of their rows.
-use Rattle.std.specs.Prelude.{◌≡◌, ◌≢◌, ℕ, List, [], ◌∷◌, Option, Some, None, Bool, true, false, slice_get, ◌⊎◌}
+-- Members of a class, its own and inherited ones (JLS 8.2, 8.3, 8.4.8, 8.5), overriding and
+-- dispatch (JLS 8.4.8.1, 15.12.4.4). Declarations go by the numbers of their rows.
+use Rattle.std.specs.Prelude.{◌≡◌, ◌≢◌, ℕ, List, [], ◌∷◌, Option, Some, None, Bool, true, false,
+    slice_get, ◌⊎◌}
 use Rattle.jr_table.specs.declared.entries.Kind.{Kind}
 use Rattle.jr_table.specs.declared.entries.Entry.{Entry}
 use Rattle.jr_table.specs.declared.entries.Sort.TheVariants as sort
@@ -15,7 +16,8 @@ pub record DeclaresField (rows : List Entry) (name : List ℕ) (c j : ℕ) : Typ
   pub named : row.name ≡ name
 
 -- row j declares a method of this name and these parameter types in class c
-pub record DeclaresMethod (rows : List Entry) (name : List ℕ) (params : List Kind) (c j : ℕ) : Type 0 where
+pub record DeclaresMethod (rows : List Entry) (name : List ℕ) (params : List Kind) (c j : ℕ) : Type
+    0 where
   pub row : Entry
   pub stands : slice_get rows j ≡ Some row
   pub method : row.sort ≡ sort.Method
@@ -43,11 +45,12 @@ pub record IsStatic (rows : List Entry) (j : ℕ) : Type 0 where
 
 -- `Own c j`: row j declares in class c what is looked for
 module _ (rows : List Entry) (Own : ℕ → ℕ → Type 0) where
-  -- The member that is looked for, where these classes are a class and its superclasses: what the class declares hides
-  -- or overrides what it would inherit, and what is private isn't inherited.
+  -- The member that is looked for, where these classes are a class and its superclasses: what the
+  -- class declares hides or overrides what it would inherit, and what is private isn't inherited.
   abbrev pub MemberAmong : (chain : List ℕ) → ℕ → Type 0
   MemberAmong [] j = ⊥
-  MemberAmong (c ∷ cs) j = Own c j ⊎ (((i : ℕ) → Own c i → ⊥) × MemberAmong cs j × (IsPrivate rows j → ⊥))
+  MemberAmong (c ∷ cs) j =
+      Own c j ⊎ (((i : ℕ) → Own c i → ⊥) × MemberAmong cs j × (IsPrivate rows j → ⊥))
 
   pub record IsMember (c j : ℕ) : Type 0 where
     pub chain : List ℕ
@@ -73,13 +76,16 @@ IsMemberType rows name = IsMember rows (DeclaresType rows name)
 abbrev pub IsMemberMethod : List Entry → List ℕ → List Kind → ℕ → ℕ → Type 0
 IsMemberMethod rows name params = IsMember rows (DeclaresMethod rows name params)
 
--- row j declares in class c a method of this name and these parameter types that is neither private nor static
-pub record DeclaresVirtual (rows : List Entry) (name : List ℕ) (params : List Kind) (c j : ℕ) : Type 0 where
+-- row j declares in class c a method of this name and these parameter types that is neither private
+-- nor static
+pub record DeclaresVirtual (rows : List Entry) (name : List ℕ) (params : List Kind) (c j : ℕ) : Type
+    0 where
   pub declared : DeclaresMethod rows name params c j
   pub visible : IsPrivate rows j → ⊥
   pub instance : IsStatic rows j → ⊥
 
--- the nearest method of the name and parameter types, from the class upwards, that is neither private nor static
+-- the nearest method of the name and parameter types, from the class upwards, that is neither
+-- private nor static
 abbrev pub Dispatches : List Entry → List ℕ → List Kind → ℕ → ℕ → Type 0
 Dispatches rows name params = IsNearest rows (DeclaresVirtual rows name params)
 

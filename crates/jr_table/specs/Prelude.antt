@@ -15,11 +15,13 @@ object_key = top_key (codes "Object")
 
 -- a class, and its superclass
 abbrev pub class_row : List ModWord → List ℕ → Option ClassKey → Row
-class_row words name parent = record { decl = class_decl (top_key name); modifiers = words; type = None; parent = parent; has_init = false }
+class_row words name parent = record { decl = class_decl (top_key name); modifiers = words; type =
+    None; parent = parent; has_init = false }
 
 -- a constructor without parameters
 abbrev pub ctor_row : List ModWord → ClassKey → Row
-ctor_row words of = record { decl = constructor_decl (record { class = of; params = [] }); modifiers = words; type = None; parent = None; has_init = false }
+ctor_row words of = record { decl = constructor_decl (record { class = of; params = [] });
+    modifiers = words; type = None; parent = None; has_init = false }
 
 abbrev pub thread_key : List ℕ → MethodKey
 thread_key name = record { class = top_key (codes "Thread"); name = name; params = [] }

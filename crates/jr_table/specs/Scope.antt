@@ -1,6 +1,7 @@
--- What a place of a member sees besides the program's rows, as contracts see it, and the local that a
--- name finds there (JLS 6.3, 6.4.1). No Rust type stands here.
-use Rattle.std.specs.Prelude.{◌≡◌, ◌≢◌, ℕ, ◌<◌, List, [], ◌∷◌, Option, Some, None, Bool, slice_get, if◌then◌else◌}
+-- What a place of a member sees besides the program's rows, as contracts see it, and the local that
+-- a name finds there (JLS 6.3, 6.4.1). No Rust type stands here.
+use Rattle.std.specs.Prelude.{◌≡◌, ◌≢◌, ℕ, ◌<◌, List, [], ◌∷◌, Option, Some, None, Bool, slice_get,
+    if◌then◌else◌}
 use Rattle.std.specs.Str.{bytes_eq}
 use Rattle.jr_table.specs.Keys.{ClassKey}
 use Rattle.jr_table.specs.Decls.{LocalKey}

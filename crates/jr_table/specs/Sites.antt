@@ -1,5 +1,6 @@
 -- Where a program declares something: one list, in file and text order.
-use Rattle.std.specs.Prelude.{ℕ, suc, List, [], ◌∷◌, ◌++◌, Option, Some, None, Bool, true, false, ◌&&◌, ◌||◌, map, option_map, codes}
+use Rattle.std.specs.Prelude.{ℕ, suc, List, [], ◌∷◌, ◌++◌, Option, Some, None, Bool, true, false,
+    ◌&&◌, ◌||◌, map, option_map, codes}
 use Rattle.jr_ast.specs.declared.operators.ModWord.{ModWord}
 use Rattle.jr_ast.specs.declared.operators.UnOp.TheVariants.{Minus}
 use Rattle.jr_ast.specs.declared.operators.UnOp.{UnOp}
@@ -76,13 +77,15 @@ module _ {A : Type 0} (begins : A → ℕ → ℕ) where
   abbrev pub written : ℕ → tree.TypeName A → Written
   written base (tree.int m) = int
   written base (tree.boolean m) = boolean
-  written base (tree.named m outer w) = named (begins m base) (option_map (λ (o : tree.Word A). o.text) outer) w.text
+  written base (tree.named m outer w) =
+      named (begins m base) (option_map (λ (o : tree.Word A). o.text) outer) w.text
 
   abbrev pub words : List (syntax.Modifier A) → List ModWord
   words ms = map (λ (m : syntax.Modifier A). m.word) ms
 
   abbrev pub param_site : ℕ → syntax.Param A → ParamSite
-  param_site base p = let here = begins p.mark base in record { at = word_at here p.name; name = p.name.text; type = written here p.type }
+  param_site base p = let here = begins p.mark base in record
+      { at = word_at here p.name; name = p.name.text; type = written here p.type }
 
   abbrev pub is_minus : UnOp → Bool
   is_minus Minus = true
@@ -100,7 +103,8 @@ module _ {A : Type 0} (begins : A → ℕ → ℕ) where
   has_none tree.end = true
   has_none (tree.more e es) = false
 
-  -- an int literal, a minus and an int literal, a boolean, string or `null` literal, or `new Object()`
+  -- an int literal, a minus and an int literal, a boolean, string or `null` literal, or `new
+  -- Object()`
   abbrev pub is_simple : tree.Exp A → Bool
   is_simple (tree.number m n) = true
   is_simple (tree.truth m b) = true
@@ -125,16 +129,23 @@ module _ {A : Type 0} (begins : A → ℕ → ℕ) where
   unfoldable mutual
     pub member_sites : ℕ → ClassKey → syntax.Member A → List Item
     member_sites base of (syntax.field m mods t w init) =
-        field_item (record { at = word_at (begins m base) w; of = of; name = w.text; modifiers = words mods; type = written (begins m base) t; init = option_map (init_site (begins m base)) init }) ∷ []
+        field_item (record { at = word_at (begins m base) w; of = of; name = w.text; modifiers =
+        words mods; type = written (begins m base) t; init =
+        option_map (init_site (begins m base)) init }) ∷ []
     member_sites base of (syntax.method m mods t w ps body) =
-        method_item (record { at = word_at (begins m base) w; of = of; name = w.text; modifiers = words mods; result = option_map (written (begins m base)) t; params = map (param_site (begins m base)) ps }) ∷ []
+        method_item (record { at = word_at (begins m base) w; of = of; name = w.text; modifiers =
+        words mods; result = option_map (written (begins m base)) t; params =
+        map (param_site (begins m base)) ps }) ∷ []
     member_sites base of (syntax.constructor m mods w ps args body) =
-        ctor_item (record { at = word_at (begins m base) w; of = of; modifiers = words mods; params = map (param_site (begins m base)) ps }) ∷ []
+        ctor_item (record { at = word_at (begins m base) w; of = of; modifiers = words mods;
+        params = map (param_site (begins m base)) ps }) ∷ []
     member_sites base of (syntax.inner m c) = class_sites (begins m base) (Some of.name) c
 
     pub class_sites : ℕ → Option (List ℕ) → syntax.Class A → List Item
     class_sites base outer (syntax.class m mods w t ms) =
-        class_item (record { at = word_at (begins m base) w; key = class_key outer w.text; modifiers = words mods; parent = option_map (written (begins m base)) t; has_ctor = writes_ctor ms })
+        class_item (record { at = word_at (begins m base) w; key = class_key outer w.text;
+        modifiers = words mods; parent = option_map (written (begins m base)) t; has_ctor =
+        writes_ctor ms })
         ∷ members_sites (begins m base) (class_key outer w.text) ms
 
     pub members_sites : ℕ → ClassKey → syntax.Members A → List Item
@@ -147,7 +158,8 @@ module _ {A : Type 0} (begins : A → ℕ → ℕ) where
 
   abbrev pub sites_from : (file : ℕ) → List (syntax.Unit A) → List Site
   sites_from file [] = []
-  sites_from file (u ∷ us) = map (λ i. record { file = file; item = i }) (classes_sites (begins u.mark 0) u.classes) ++ sites_from (suc file) us
+  sites_from file (u ∷ us) = map (λ i. record { file = file; item = i })
+      (classes_sites (begins u.mark 0) u.classes) ++ sites_from (suc file) us
 
   -- the sites of a program's files
   unfoldable pub sites_of : List (syntax.Unit A) → List Site

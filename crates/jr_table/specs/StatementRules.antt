@@ -1,4 +1,5 @@
--- The rules of a sound program that a statement may break: each with its place, apart from the walk (JLS 14).
+-- The rules of a sound program that a statement may break: each with its place, apart from the walk
+-- (JLS 14).
 use Rattle.std.specs.Prelude.{◌≡◌, ℕ, List, Option, Some, None, false, ◌⊎◌}
 use Rattle.jr_ast.specs.Tree as tree
 use Rattle.jr_ast.specs.StatementTree as statement
@@ -15,7 +16,8 @@ use Rattle.jr_table.specs.Completing.{IsTrueLiteral, UnreachedIn}
 use Rattle.jr_table.specs.declared.rules.Rule.{Rule}
 use Rattle.jr_table.specs.declared.rules.Rule.TheVariants as rule
 
-module _ {A : Type 0} (begins : A → ℕ → ℕ) (rows : List Row) (number : ℕ) (c : Context) (base : ℕ) where
+module _ {A : Type 0} (begins : A → ℕ → ℕ) (rows : List Row) (number : ℕ) (c : Context) (base : ℕ)
+    where
   -- the first byte of an expression straight below a node with the mark
   abbrev pub value_at : A → tree.Exp A → ℕ
   value_at m e = begins (exp_mark e) (begins m base)
@@ -40,29 +42,37 @@ module _ {A : Type 0} (begins : A → ℕ → ℕ) (rows : List Row) (number : �
   abbrev pub ReturnMismatches : tree.Exp A → Type 0
   ReturnMismatches e = (t : Ty) × Returns rows c.member t × (Suits rows c e (λ u. u ≡ t) → ⊥)
 
-  -- S9: an initializer or returned value isn't assignable, a condition isn't boolean, a lock isn't of a class type
+  -- S9: an initializer or returned value isn't assignable, a condition isn't boolean, a lock isn't
+  -- of a class type
   abbrev pub StmtMismatches : statement.Stmt A → (at : ℕ) → Type 0
-  StmtMismatches (statement.local m f t w e) at = (at ≡ value_at m e) × (Suits rows (in_own c (local_of c number f t w)) e (WritesType rows (scope_of c) t) → ⊥)
-  StmtMismatches (statement.branch m e x other) at = (at ≡ value_at m e) × (HasType rows c e boolean → ⊥)
+  StmtMismatches (statement.local m f t w e) at = (at ≡ value_at m e)
+      × (Suits rows (in_own c (local_of c number f t w)) e (WritesType rows (scope_of c) t) → ⊥)
+  StmtMismatches (statement.branch m e x other) at =
+      (at ≡ value_at m e) × (HasType rows c e boolean → ⊥)
   StmtMismatches (statement.loop m e x) at = (at ≡ value_at m e) × (HasType rows c e boolean → ⊥)
   StmtMismatches (statement.return m (Some e)) at = (at ≡ value_at m e) × ReturnMismatches e
-  StmtMismatches (statement.sync m e body) at = (at ≡ value_at m e) × ((k : ClassKey) → HasType rows c e (class k) → ⊥)
+  StmtMismatches (statement.sync m e body) at =
+      (at ≡ value_at m e) × ((k : ClassKey) → HasType rows c e (class k) → ⊥)
   StmtMismatches _ at = ⊥
 
   -- S13: a local or parameter of the name is in scope; the place is the declared name (JLS 6.4)
   abbrev pub Redeclared : statement.Stmt A → (at : ℕ) → Type 0
-  Redeclared (statement.local m f t w e) at = (at ≡ begins w.mark (begins m base)) × ((k : LocalKey) × FindsLocal (scope_of c).locals w.text k)
+  Redeclared (statement.local m f t w e) at = (at ≡ begins w.mark (begins m base))
+      × ((k : LocalKey) × FindsLocal (scope_of c).locals w.text k)
   Redeclared _ at = ⊥
 
   -- S16: a value is returned where none is due, or none where one is (JLS 14.17)
   abbrev pub ReturnForm : statement.Stmt A → (at : ℕ) → Type 0
-  ReturnForm (statement.return m (Some e)) at = (at ≡ begins m base) × ((t : Ty) → Returns rows c.member t → ⊥)
-  ReturnForm (statement.return m None) at = (at ≡ begins m base) × ((t : Ty) × Returns rows c.member t)
+  ReturnForm (statement.return m (Some e)) at =
+      (at ≡ begins m base) × ((t : Ty) → Returns rows c.member t → ⊥)
+  ReturnForm (statement.return m None) at =
+      (at ≡ begins m base) × ((t : Ty) × Returns rows c.member t)
   ReturnForm _ at = ⊥
 
   -- S19: a condition isn't `true`, and all its leaves are constant
   abbrev pub ConstantCondition : statement.Stmt A → (at : ℕ) → Type 0
-  ConstantCondition (statement.loop m e x) at = (at ≡ value_at m e) × (IsTrueLiteral e → ⊥) × IsConstant rows c e
+  ConstantCondition (statement.loop m e x) at =
+      (at ≡ value_at m e) × (IsTrueLiteral e → ⊥) × IsConstant rows c e
   ConstantCondition _ at = ⊥
 
   -- the statement itself breaks the rule there

@@ -2,7 +2,8 @@
 use Rattle.std.specs.Prelude.{◌≡◌, ℕ, List, Option, Some, None, ◌⊎◌}
 use Rattle.jr_table.specs.declared.entries.Entry.{Entry}
 use Rattle.jr_table.specs.declared.answers.Answer.{Answer}
-use Rattle.jr_table.specs.declared.answers.Answer.TheVariants.{One, Nothing, Many, NotAccessible, FromStatic}
+use Rattle.jr_table.specs.declared.answers.Answer.TheVariants.{One, Nothing, Many, NotAccessible,
+    FromStatic}
 use Rattle.jr_table.specs.Rows.{Row}
 use Rattle.jr_table.specs.Entries.{IsRowOf, number_of, top_class, entries_of}
 use Rattle.jr_table.specs.Chains.{outer_of}

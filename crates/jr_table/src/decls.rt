@@ -80,7 +80,9 @@ impl PartialEq for MemberKey {
 
     ghost eq = { on member_key_of same_member };
 
-    ghost laws = { order.partial_equiv_from_equiv (order.on_equiv member_key_of same_member_equiv) };
+    ghost laws = {
+        order.partial_equiv_from_equiv (order.on_equiv member_key_of same_member_equiv)
+    };
 
     fn eq(&self, other: &MemberKey) -> bool
         ensures { IsTrue result ↔ (member_key_of self.now ≡ member_key_of other.now) }

@@ -101,7 +101,9 @@ impl PartialEq for MethodKey {
 
     ghost eq = { on method_key_of same_method };
 
-    ghost laws = { order.partial_equiv_from_equiv (order.on_equiv method_key_of same_method_equiv) };
+    ghost laws = {
+        order.partial_equiv_from_equiv (order.on_equiv method_key_of same_method_equiv)
+    };
 
     fn eq(&self, other: &MethodKey) -> bool
         ensures { IsTrue result ↔ (method_key_of self.now ≡ method_key_of other.now) }
