@@ -68,9 +68,9 @@ module _ (rows : List Row) (fit : AreRows rows) (found : KeysAreFound rows) (c :
         (λ h. (h.1, (h.0, h.2)), λ h. (h.1.0, h.0, h.1.1))
     type_iff base (tree.named m (Some o) w) at q f = chain
         (first_iff (word_at begins m base o) type (find_type_named rows (scope_of c) o.text) (FindsTypeNamed rows (scope_of c) o.text) (found.type_named (scope_of c) o.text)
-            (reference (word_at begins m base w) type (find_in (class_found (find_type_named rows (scope_of c) o.text)) (λ k. find_type_of rows (scope_of c) k w.text)) ∷ [])
-            (λ a p g. (a ≡ word_at begins m base w) × (p ≡ type) × Within o w g)
-            (only_iff (word_at begins m base w) type (find_in (class_found (find_type_named rows (scope_of c) o.text)) (λ k. find_type_of rows (scope_of c) k w.text)) (Within o w) (within o w)) at q f)
+        (reference (word_at begins m base w) type (find_in (class_found (find_type_named rows (scope_of c) o.text)) (λ k. find_type_of rows (scope_of c) k w.text)) ∷ [])
+        (λ a p g. (a ≡ word_at begins m base w) × (p ≡ type) × Within o w g)
+        (only_iff (word_at begins m base w) type (find_in (class_found (find_type_named rows (scope_of c) o.text)) (λ k. find_type_of rows (scope_of c) k w.text)) (Within o w) (within o w)) at q f)
         (to, back)
       where
         to : (((at ≡ word_at begins m base o) × (q ≡ type) × FindsTypeNamed rows (scope_of c) o.text f) ⊎ ((at ≡ word_at begins m base w) × (q ≡ type) × Within o w f)) → (q ≡ type) × TypeRefers begins rows c base (tree.named m (Some o) w) at f

@@ -64,8 +64,11 @@ module _ (rows : List Row) (fit : AreRows rows) where
       to (Some c) (Some d) ce de h =
           let m = any_in (λ x. x == d) (chain_of (entries_of rows) c) h in
           record {
-            c = c; d = d; below = number_stands rows (class_decl sub) c ce; over = number_stands rows (class_decl sup) d de;
-            climbs = record { chain = chain_of (entries_of rows) c; goes_up = acyclic_rows rows fit c; among = subst (In (chain_of (entries_of rows) c)) (eqb-true m.0 d m.2) m.1 }
+            c = c;
+            d = d;
+            below = number_stands rows (class_decl sub) c ce;
+            over = number_stands rows (class_decl sup) d de;
+            climbs = record { chain = chain_of (entries_of rows) c; goes_up = acyclic_rows rows fit c; among = subst (In (chain_of (entries_of rows) c)) (eqb-true m.0 d m.2) m.1 };
           }
 
       same_chain : (s : IsSubclass rows sub sup) (c d : ℕ) → c ≡ s.c → d ≡ s.d → list_any (λ x. x == d) (chain_of (entries_of rows) c) ≡ true

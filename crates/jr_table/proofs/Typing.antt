@@ -156,7 +156,7 @@ module _ (rows : List Row) (fit : AreRows rows) (found : KeysAreFound rows) (c :
 
   creation_iff : {A : Type 0} (of : tree.TypeName A) (ts : Option (List Ty)) (Types : List Ty → Type 0) (are : (us : List Ty) → (ts ≡ Some us) ↔ Types us) (t : Ty)
       → (created (created_class rows c of) (ctor_found rows c (created_class rows c of) ts) ≡ Some t)
-          ↔ ((k : ClassKey) × (d : Decl) × WritesType rows (scope_of c) of (class k) × FindsFor Types (λ us f. FindsCtorOf rows (scope_of c) k us f) (one d) × (t ≡ class k))
+      ↔ ((k : ClassKey) × (d : Decl) × WritesType rows (scope_of c) of (class k) × FindsFor Types (λ us f. FindsCtorOf rows (scope_of c) k us f) (one d) × (t ≡ class k))
   creation_iff of ts Types are t = chain (created_iff (created_class rows c of) (ctor_found rows c (created_class rows c of) ts) t) (to, back)
     where
       to : ((k : ClassKey) × (d : Decl) × (created_class rows c of ≡ Some k) × (ctor_found rows c (created_class rows c of) ts ≡ one d) × (t ≡ class k))
@@ -193,7 +193,7 @@ module _ (rows : List Row) (fit : AreRows rows) (found : KeysAreFound rows) (c :
       typed (tree.name m w) t = typed_by (find_variable rows (scope_of c) w.text) (FindsVariable rows (scope_of c) w.text) (found.variable (scope_of c) w.text) t
       typed (tree.field m e w) t = typed_by (field_found rows c (on_class (class_name_of rows c e) (type_of rows c e)) w.text) _
           (field_iff (on_class (class_name_of rows c e) (type_of rows c e)) (On (λ k. IsClassName rows c e k) (λ u. HasType rows c e u)) w.text
-              (on_iff (class_name_of rows c e) (type_of rows c e) (λ k. IsClassName rows c e k) (λ u. HasType rows c e u) (λ k. named e k) (λ u. typed e u))) t
+          (on_iff (class_name_of rows c e) (type_of rows c e) (λ k. IsClassName rows c e k) (λ u. HasType rows c e u) (λ k. named e k) (λ u. typed e u))) t
       typed (tree.super_field m w) t = typed_by (field_found rows c (own_superclass rows c) w.text) _ (field_iff (own_superclass rows c) (IsSuperclass rows (scope_of c).class) w.text own_super_iff) t
       typed (tree.call m to w args) t = typed_by (target_found rows c to w.text (types_of rows c args)) (λ f. TargetFinds rows c to w.text (λ ts. HaveTypes rows c args ts) f)
           (target_by to (placed to) w.text (types_of rows c args) (λ ts. HaveTypes rows c args ts) (λ us. types args us)) t
@@ -211,9 +211,10 @@ module _ (rows : List Row) (fit : AreRows rows) (found : KeysAreFound rows) (c :
       -- the class whose name it is before a dot
       pub named : (e : tree.Exp A) (k : ClassKey) → (class_name_of rows c e ≡ Some k) ↔ IsClassName rows c e k
       named (tree.name m w) k = chain (class_found_iff (find_left rows (scope_of c) w.text) k) (left_iff w.text (one (class_decl k)))
-      named (tree.field m e w) k = chain (then_iff (class_name_of rows c e) (λ o. class_found (find_left_of rows (scope_of c) o w.text)) k)
-          (λ h. (h.0, (named e h.0).0 h.1, (left_of_iff h.0 w.text (one (class_decl k))).0 ((class_found_iff (find_left_of rows (scope_of c) h.0 w.text) k).0 h.2))
-          , λ h. (h.0, (named e h.0).1 h.1, (class_found_iff (find_left_of rows (scope_of c) h.0 w.text) k).1 ((left_of_iff h.0 w.text (one (class_decl k))).1 h.2)))
+      named (tree.field m e w) k = chain (then_iff (class_name_of rows c e) (λ o. class_found (find_left_of rows (scope_of c) o w.text)) k) (
+        λ h. (h.0, (named e h.0).0 h.1, (left_of_iff h.0 w.text (one (class_decl k))).0 ((class_found_iff (find_left_of rows (scope_of c) h.0 w.text) k).0 h.2)),
+        λ h. (h.0, (named e h.0).1 h.1, (class_found_iff (find_left_of rows (scope_of c) h.0 w.text) k).1 ((left_of_iff h.0 w.text (one (class_decl k))).1 h.2)),
+      )
       named (tree.number m n) k = no_class k
       named (tree.truth m b) k = no_class k
       named (tree.null m) k = no_class k

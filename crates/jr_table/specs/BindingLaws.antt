@@ -8,10 +8,32 @@ use Rattle.jr_table.specs.Found.{Found}
 use Rattle.jr_table.specs.Conditions.{AreRows}
 use Rattle.jr_table.specs.LookupLaws.{Decided, KeysAreFound}
 use Rattle.jr_table.specs.Context.{Context}
-use Rattle.jr_table.specs.Binding.{HasType, IsClassName, FieldFinds, SuperFieldFinds, CallFinds,
-    SuperCallFinds, CreationFinds, Role, Sought, Refers}
-use Rattle.jr_table.specs.Meanings.{type_of, class_name_of, class_on, types_of, field_found,
-    call_found, target_found, ctor_found, own_superclass, created_class, InReferences, references}
+use Rattle.jr_table.specs.Binding.{
+  HasType,
+  IsClassName,
+  FieldFinds,
+  SuperFieldFinds,
+  CallFinds,
+  SuperCallFinds,
+  CreationFinds,
+  Role,
+  Sought,
+  Refers,
+}
+use Rattle.jr_table.specs.Meanings.{
+  type_of,
+  class_name_of,
+  class_on,
+  types_of,
+  field_found,
+  call_found,
+  target_found,
+  ctor_found,
+  own_superclass,
+  created_class,
+  InReferences,
+  references,
+}
 use Rattle.jr_table.specs.Somewhere.{Somewhere, InList}
 use Rattle.jr_table.specs.Notes.{Note, Has, own_notes, own_stmt_notes, list_notes}
 use Rattle.jr_table.specs.Walks.{notes_of, body_notes}

@@ -14,10 +14,33 @@ use Rattle.jr_table.specs.Entries.{IsRowOf}
 use Rattle.jr_table.specs.Keyed.{IsAssignable}
 use Rattle.jr_table.specs.Found.{Found, one, nothing, many, not_accessible, from_static}
 use Rattle.jr_table.specs.Lookup.{FindsVariable}
-use Rattle.jr_table.specs.Context.{Context, Local, Knows, scope_of, WritesType, IsTypeOf,
-    IsStaticDecl, IsInstanceDecl, IsFinal}
-use Rattle.jr_table.specs.Binding.{HasType, IsClassName, FieldFinds, SuperFieldFinds, CallFinds,
-    SuperCallFinds, Role, statement, Sought, variable, type, method, word_at, Refers}
+use Rattle.jr_table.specs.Context.{
+  Context,
+  Local,
+  Knows,
+  scope_of,
+  WritesType,
+  IsTypeOf,
+  IsStaticDecl,
+  IsInstanceDecl,
+  IsFinal,
+}
+use Rattle.jr_table.specs.Binding.{
+  HasType,
+  IsClassName,
+  FieldFinds,
+  SuperFieldFinds,
+  CallFinds,
+  SuperCallFinds,
+  Role,
+  statement,
+  Sought,
+  variable,
+  type,
+  method,
+  word_at,
+  Refers,
+}
 use Rattle.jr_table.specs.declared.rules.Rule.{Rule}
 use Rattle.jr_table.specs.declared.rules.Rule.TheVariants as rule
 use Rattle.std.specs.Prelude.{◌≤◌}
@@ -186,144 +209,144 @@ module _ (rows : List Row) (c : Context) where
   IsForward _ = ⊥
 
 module _ {A : Type 0} (begins : A → ℕ → ℕ) (rows : List Row) (c : Context) (role : Role) (base : ℕ)
-    where
-  -- a reference of this sort finds what has the property
-  abbrev pub Meets : tree.Exp A → (at : ℕ) → Sought → (Found → Type 0) → Type 0
-  Meets e at q Is = (f : Found) × Refers begins rows c role base e at q f × Is f
+  where
+    -- a reference of this sort finds what has the property
+    abbrev pub Meets : tree.Exp A → (at : ℕ) → Sought → (Found → Type 0) → Type 0
+    Meets e at q Is = (f : Found) × Refers begins rows c role base e at q f × Is f
 
-  abbrev pub MeetsAny : tree.Exp A → (at : ℕ) → (Found → Type 0) → Type 0
-  MeetsAny e at Is = (q : Sought) × Meets e at q Is
+    abbrev pub MeetsAny : tree.Exp A → (at : ℕ) → (Found → Type 0) → Type 0
+    MeetsAny e at Is = (q : Sought) × Meets e at q Is
 
-  -- `this` or `super` stands there
-  abbrev pub NamesObject : tree.Exp A → (at : ℕ) → Type 0
-  NamesObject (tree.this m) at = at ≡ begins m base
-  NamesObject (tree.super_field m w) at = at ≡ begins m base
-  NamesObject (tree.super_call m w args) at = at ≡ begins m base
-  NamesObject _ at = ⊥
+    -- `this` or `super` stands there
+    abbrev pub NamesObject : tree.Exp A → (at : ℕ) → Type 0
+    NamesObject (tree.this m) at = at ≡ begins m base
+    NamesObject (tree.super_field m w) at = at ≡ begins m base
+    NamesObject (tree.super_call m w args) at = at ≡ begins m base
+    NamesObject _ at = ⊥
 
-  -- the word of the reference of a field or a method
-  abbrev pub IsWordAt : tree.Exp A → (at : ℕ) → Type 0
-  IsWordAt (tree.name m w) at = at ≡ word_at begins m base w
-  IsWordAt (tree.field m e w) at = at ≡ word_at begins m base w
-  IsWordAt (tree.super_field m w) at = at ≡ word_at begins m base w
-  IsWordAt (tree.call m to w args) at = at ≡ word_at begins m base w
-  IsWordAt (tree.super_call m w args) at = at ≡ word_at begins m base w
-  IsWordAt _ at = ⊥
+    -- the word of the reference of a field or a method
+    abbrev pub IsWordAt : tree.Exp A → (at : ℕ) → Type 0
+    IsWordAt (tree.name m w) at = at ≡ word_at begins m base w
+    IsWordAt (tree.field m e w) at = at ≡ word_at begins m base w
+    IsWordAt (tree.super_field m w) at = at ≡ word_at begins m base w
+    IsWordAt (tree.call m to w args) at = at ≡ word_at begins m base w
+    IsWordAt (tree.super_call m w args) at = at ≡ word_at begins m base w
+    IsWordAt _ at = ⊥
 
-  -- S1: the name or field of a value finds nothing
-  abbrev pub NoVariable : tree.Exp A → (at : ℕ) → Type 0
-  NoVariable e at = Meets e at variable (λ f. f ≡ nothing)
+    -- S1: the name or field of a value finds nothing
+    abbrev pub NoVariable : tree.Exp A → (at : ℕ) → Type 0
+    NoVariable e at = Meets e at variable (λ f. f ≡ nothing)
 
-  -- S2: the name of a type finds nothing
-  abbrev pub NoType : tree.Exp A → (at : ℕ) → Type 0
-  NoType e at = Meets e at type (λ f. f ≡ nothing)
+    -- S2: the name of a type finds nothing
+    abbrev pub NoType : tree.Exp A → (at : ℕ) → Type 0
+    NoType e at = Meets e at type (λ f. f ≡ nothing)
 
-  -- S3: a call or constructor finds nothing
-  abbrev pub NoMethod : tree.Exp A → (at : ℕ) → Type 0
-  NoMethod e at = Meets e at method (λ f. f ≡ nothing)
+    -- S3: a call or constructor finds nothing
+    abbrev pub NoMethod : tree.Exp A → (at : ℕ) → Type 0
+    NoMethod e at = Meets e at method (λ f. f ≡ nothing)
 
-  -- S4: one finds several
-  abbrev pub Ambiguous : tree.Exp A → (at : ℕ) → Type 0
-  Ambiguous e at = MeetsAny e at IsMany
+    -- S4: one finds several
+    abbrev pub Ambiguous : tree.Exp A → (at : ℕ) → Type 0
+    Ambiguous e at = MeetsAny e at IsMany
 
-  -- S5: one finds what isn't accessible
-  abbrev pub Private : tree.Exp A → (at : ℕ) → Type 0
-  Private e at = MeetsAny e at IsNotAccessible
+    -- S5: one finds what isn't accessible
+    abbrev pub Private : tree.Exp A → (at : ℕ) → Type 0
+    Private e at = MeetsAny e at IsNotAccessible
 
-  -- S6: one finds an instance member where there is no object; or `this` or `super` stands where
-  -- there is none
-  abbrev pub StaticContext : tree.Exp A → (at : ℕ) → Type 0
-  StaticContext e at = MeetsAny e at IsFromStatic ⊎ ((c.is_static ≡ true) × NamesObject e at)
+    -- S6: one finds an instance member where there is no object; or `this` or `super` stands where
+    -- there is none
+    abbrev pub StaticContext : tree.Exp A → (at : ℕ) → Type 0
+    StaticContext e at = MeetsAny e at IsFromStatic ⊎ ((c.is_static ≡ true) × NamesObject e at)
 
-  -- S7: a static member is named through an expression, `this` or `super`
-  abbrev pub StaticThroughValue : tree.Exp A → (at : ℕ) → Type 0
-  StaticThroughValue e at =
-      IsWordAt e at × ((d : Decl) × ThroughValue rows c e d × IsStaticDecl rows d)
+    -- S7: a static member is named through an expression, `this` or `super`
+    abbrev pub StaticThroughValue : tree.Exp A → (at : ℕ) → Type 0
+    StaticThroughValue e at =
+        IsWordAt e at × ((d : Decl) × ThroughValue rows c e d × IsStaticDecl rows d)
 
-  -- S8: an instance member is named through a class
-  abbrev pub InstanceThroughType : tree.Exp A → (at : ℕ) → Type 0
-  InstanceThroughType e at =
-      IsWordAt e at × ((d : Decl) × ThroughClass rows c e d × IsInstanceDecl rows d)
+    -- S8: an instance member is named through a class
+    abbrev pub InstanceThroughType : tree.Exp A → (at : ℕ) → Type 0
+    InstanceThroughType e at =
+        IsWordAt e at × ((d : Decl) × ThroughClass rows c e d × IsInstanceDecl rows d)
 
-  -- S9, of an assignment: the right side isn't assignable; the place is the right side's
-  abbrev pub Mismatches : tree.Exp A → (at : ℕ) → Type 0
-  Mismatches (tree.assign m l r) at =
-      (at ≡ begins (exp_mark r) (begins m base)) × (Suits rows c r (HasType rows c l) → ⊥)
-  Mismatches _ at = ⊥
+    -- S9, of an assignment: the right side isn't assignable; the place is the right side's
+    abbrev pub Mismatches : tree.Exp A → (at : ℕ) → Type 0
+    Mismatches (tree.assign m l r) at =
+        (at ≡ begins (exp_mark r) (begins m base)) × (Suits rows c r (HasType rows c l) → ⊥)
+    Mismatches _ at = ⊥
 
-  -- S10: an operator doesn't take its operands
-  abbrev pub Operands : tree.Exp A → (at : ℕ) → Type 0
-  Operands (tree.unary m o e) at = (at ≡ begins m base) × (TakesOne rows c o e → ⊥)
-  Operands (tree.bump m o e) at = (at ≡ begins m base) × (HasType rows c e int → ⊥)
-  Operands (tree.binary m o l r) at = (at ≡ begins m base) × (Takes rows c o l r → ⊥)
-  Operands (tree.compound m o l r) at = (at ≡ begins m base) × (Both rows c int l r → ⊥)
-  Operands _ at = ⊥
+    -- S10: an operator doesn't take its operands
+    abbrev pub Operands : tree.Exp A → (at : ℕ) → Type 0
+    Operands (tree.unary m o e) at = (at ≡ begins m base) × (TakesOne rows c o e → ⊥)
+    Operands (tree.bump m o e) at = (at ≡ begins m base) × (HasType rows c e int → ⊥)
+    Operands (tree.binary m o l r) at = (at ≡ begins m base) × (Takes rows c o l r → ⊥)
+    Operands (tree.compound m o l r) at = (at ≡ begins m base) × (Both rows c int l r → ⊥)
+    Operands _ at = ⊥
 
-  -- S11: neither type is assignable to the other, or the operand is no reference
-  abbrev pub BadCast : tree.Exp A → (at : ℕ) → Type 0
-  BadCast (tree.cast m of e) at = (at ≡ begins m base) × (Casts rows c of e → ⊥)
-  BadCast _ at = ⊥
+    -- S11: neither type is assignable to the other, or the operand is no reference
+    abbrev pub BadCast : tree.Exp A → (at : ℕ) → Type 0
+    BadCast (tree.cast m of e) at = (at ≡ begins m base) × (Casts rows c of e → ⊥)
+    BadCast _ at = ⊥
 
-  -- S12: a final variable is assigned; the place is its name's, in a target whose parent begins at
-  -- `from`
-  abbrev pub FinalTarget : (from : ℕ) → Option (tree.Exp A) → (at : ℕ) → Type 0
-  FinalTarget from (Some (tree.name m w)) at = (at ≡ word_at begins m from w)
-      × ((d : Decl) × FindsVariable rows (scope_of c) w.text (one d) × IsFixed rows c d)
-  FinalTarget from (Some (tree.field m e w)) at = (at ≡ word_at begins m from w)
-      × ((d : Decl) × FieldFinds rows c e w.text (one d) × FinalBehind rows c e d)
-  FinalTarget from (Some (tree.super_field m w)) at = (at ≡ word_at begins m from w)
-      × ((d : Decl) × SuperFieldFinds rows c w.text (one d) × IsFinal rows c d)
-  FinalTarget from _ at = ⊥
+    -- S12: a final variable is assigned; the place is its name's, in a target whose parent begins
+    -- at `from`
+    abbrev pub FinalTarget : (from : ℕ) → Option (tree.Exp A) → (at : ℕ) → Type 0
+    FinalTarget from (Some (tree.name m w)) at = (at ≡ word_at begins m from w)
+        × ((d : Decl) × FindsVariable rows (scope_of c) w.text (one d) × IsFixed rows c d)
+    FinalTarget from (Some (tree.field m e w)) at = (at ≡ word_at begins m from w)
+        × ((d : Decl) × FieldFinds rows c e w.text (one d) × FinalBehind rows c e d)
+    FinalTarget from (Some (tree.super_field m w)) at = (at ≡ word_at begins m from w)
+        × ((d : Decl) × SuperFieldFinds rows c w.text (one d) × IsFinal rows c d)
+    FinalTarget from _ at = ⊥
 
-  abbrev pub FinalAssigned : tree.Exp A → (at : ℕ) → Type 0
-  FinalAssigned e at = FinalTarget (begins (exp_mark e) base) (target_of e) at
+    abbrev pub FinalAssigned : tree.Exp A → (at : ℕ) → Type 0
+    FinalAssigned e at = FinalTarget (begins (exp_mark e) base) (target_of e) at
 
-  -- S14
-  abbrev pub Forward : tree.Exp A → (at : ℕ) → Type 0
-  Forward (tree.name m w) at = (at ≡ word_at begins m base w)
-      × ((d : Decl) × FindsVariable rows (scope_of c) w.text (one d) × IsForward rows c d)
-  Forward _ at = ⊥
+    -- S14
+    abbrev pub Forward : tree.Exp A → (at : ℕ) → Type 0
+    Forward (tree.name m w) at = (at ≡ word_at begins m base w)
+        × ((d : Decl) × FindsVariable rows (scope_of c) w.text (one d) × IsForward rows c d)
+    Forward _ at = ⊥
 
-  -- S15: a call that gives no value is used as one; the place is the call's name
-  abbrev pub IsCall : tree.Exp A → Type 0
-  IsCall (tree.call m to w args) = Unit {0}
-  IsCall (tree.super_call m w args) = Unit {0}
-  IsCall _ = ⊥
+    -- S15: a call that gives no value is used as one; the place is the call's name
+    abbrev pub IsCall : tree.Exp A → Type 0
+    IsCall (tree.call m to w args) = Unit {0}
+    IsCall (tree.super_call m w args) = Unit {0}
+    IsCall _ = ⊥
 
-  abbrev pub VoidValue : tree.Exp A → (at : ℕ) → Type 0
-  VoidValue e at = IsCall e × IsWordAt e at × (role ≢ statement) × HasType rows c e void
+    abbrev pub VoidValue : tree.Exp A → (at : ℕ) → Type 0
+    VoidValue e at = IsCall e × IsWordAt e at × (role ≢ statement) × HasType rows c e void
 
-  -- S23, of a call: one of Object's methods is called
-  abbrev pub ObjectMethodCalled : tree.Exp A → (at : ℕ) → Type 0
-  ObjectMethodCalled (tree.call m to w args) at =
-      (at ≡ word_at begins m base w) × IsObjectMethod w.text
-  ObjectMethodCalled (tree.super_call m w args) at =
-      (at ≡ word_at begins m base w) × IsObjectMethod w.text
-  ObjectMethodCalled _ at = ⊥
+    -- S23, of a call: one of Object's methods is called
+    abbrev pub ObjectMethodCalled : tree.Exp A → (at : ℕ) → Type 0
+    ObjectMethodCalled (tree.call m to w args) at =
+        (at ≡ word_at begins m base w) × IsObjectMethod w.text
+    ObjectMethodCalled (tree.super_call m w args) at =
+        (at ≡ word_at begins m base w) × IsObjectMethod w.text
+    ObjectMethodCalled _ at = ⊥
 
-  -- the expression itself breaks the rule there
-  abbrev pub ExpBreaks : tree.Exp A → (at : ℕ) → Rule → Type 0
-  ExpBreaks e at rule.NoVariable = NoVariable e at
-  ExpBreaks e at rule.NoType = NoType e at
-  ExpBreaks e at rule.NoMethod = NoMethod e at
-  ExpBreaks e at rule.Ambiguous = Ambiguous e at
-  ExpBreaks e at rule.Private = Private e at
-  ExpBreaks e at rule.StaticContext = StaticContext e at
-  ExpBreaks e at rule.StaticThroughValue = StaticThroughValue e at
-  ExpBreaks e at rule.InstanceThroughType = InstanceThroughType e at
-  ExpBreaks e at rule.TypeMismatch = Mismatches e at
-  ExpBreaks e at rule.Operands = Operands e at
-  ExpBreaks e at rule.BadCast = BadCast e at
-  ExpBreaks e at rule.FinalAssigned = FinalAssigned e at
-  ExpBreaks e at rule.Redeclared = ⊥
-  ExpBreaks e at rule.Forward = Forward e at
-  ExpBreaks e at rule.VoidValue = VoidValue e at
-  ExpBreaks e at rule.ReturnForm = ⊥
-  ExpBreaks e at rule.MissingReturn = ⊥
-  ExpBreaks e at rule.Unreachable = ⊥
-  ExpBreaks e at rule.ConstantCondition = ⊥
-  ExpBreaks e at rule.Override = ⊥
-  ExpBreaks e at rule.SuperCtor = ⊥
-  ExpBreaks e at rule.FinalClass = ⊥
-  ExpBreaks e at rule.ObjectMethod = ObjectMethodCalled e at
-  ExpBreaks e at rule.Deep = ⊥
+    -- the expression itself breaks the rule there
+    abbrev pub ExpBreaks : tree.Exp A → (at : ℕ) → Rule → Type 0
+    ExpBreaks e at rule.NoVariable = NoVariable e at
+    ExpBreaks e at rule.NoType = NoType e at
+    ExpBreaks e at rule.NoMethod = NoMethod e at
+    ExpBreaks e at rule.Ambiguous = Ambiguous e at
+    ExpBreaks e at rule.Private = Private e at
+    ExpBreaks e at rule.StaticContext = StaticContext e at
+    ExpBreaks e at rule.StaticThroughValue = StaticThroughValue e at
+    ExpBreaks e at rule.InstanceThroughType = InstanceThroughType e at
+    ExpBreaks e at rule.TypeMismatch = Mismatches e at
+    ExpBreaks e at rule.Operands = Operands e at
+    ExpBreaks e at rule.BadCast = BadCast e at
+    ExpBreaks e at rule.FinalAssigned = FinalAssigned e at
+    ExpBreaks e at rule.Redeclared = ⊥
+    ExpBreaks e at rule.Forward = Forward e at
+    ExpBreaks e at rule.VoidValue = VoidValue e at
+    ExpBreaks e at rule.ReturnForm = ⊥
+    ExpBreaks e at rule.MissingReturn = ⊥
+    ExpBreaks e at rule.Unreachable = ⊥
+    ExpBreaks e at rule.ConstantCondition = ⊥
+    ExpBreaks e at rule.Override = ⊥
+    ExpBreaks e at rule.SuperCtor = ⊥
+    ExpBreaks e at rule.FinalClass = ⊥
+    ExpBreaks e at rule.ObjectMethod = ObjectMethodCalled e at
+    ExpBreaks e at rule.Deep = ⊥

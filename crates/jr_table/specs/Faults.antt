@@ -1,13 +1,50 @@
 -- The faults of a program's declarations, ten kinds, each with its place; and the first fault.
-use Rattle.std.specs.Prelude.{◌≡◌, ◌≢◌, ℕ, zero, suc, ◌<◌, ◌≤◌, List, [], ◌∷◌, Option, Some, None,
-    Bool, true, false, codes, slice_get, map, ◌⊎◌, option_map}
+use Rattle.std.specs.Prelude.{
+  ◌≡◌,
+  ◌≢◌,
+  ℕ,
+  zero,
+  suc,
+  ◌<◌,
+  ◌≤◌,
+  List,
+  [],
+  ◌∷◌,
+  Option,
+  Some,
+  None,
+  Bool,
+  true,
+  false,
+  codes,
+  slice_get,
+  map,
+  ◌⊎◌,
+  option_map,
+}
 use Rattle.jr_ast.specs.declared.operators.ModWord.{ModWord}
 use Rattle.jr_ast.specs.declared.operators.ModWord.TheVariants as word
 use Rattle.jr_table.specs.declared.kinds.DeclKind.{DeclKind}
 use Rattle.jr_table.specs.declared.kinds.DeclKind.TheVariants as kind
 use Rattle.jr_table.specs.Keys.{ClassKey, Ty}
-use Rattle.jr_table.specs.Sites.{Written, int, boolean, named, ParamSite, InitSite, ClassSite,
-    FieldSite, MethodSite, CtorSite, Item, class_item, field_item, method_item, ctor_item, Site}
+use Rattle.jr_table.specs.Sites.{
+  Written,
+  int,
+  boolean,
+  named,
+  ParamSite,
+  InitSite,
+  ClassSite,
+  FieldSite,
+  MethodSite,
+  CtorSite,
+  Item,
+  class_item,
+  field_item,
+  method_item,
+  ctor_item,
+  Site,
+}
 use Rattle.jr_table.specs.Resolving.{HasWord, IsPreludeClass, IsParent, Climbs, Means}
 
 -- a place in the files of a program

@@ -1,15 +1,42 @@
 -- Exact: what binding notes of the head of a class, and of the declaration of a field, method or
 -- constructor.
-use Rattle.std.specs.Prelude.{ℕ, List, [], ◌∷◌, ◌++◌, Option, Some, None, is_some, Bool, true,
-    false, not, ◌&&◌, ◌||◌, nat_lt, length, if◌then◌else◌}
+use Rattle.std.specs.Prelude.{
+  ℕ,
+  List,
+  [],
+  ◌∷◌,
+  ◌++◌,
+  Option,
+  Some,
+  None,
+  is_some,
+  Bool,
+  true,
+  false,
+  not,
+  ◌&&◌,
+  ◌||◌,
+  nat_lt,
+  length,
+  if◌then◌else◌,
+}
 use Rattle.std.specs.List.{list_any}
 use Rattle.jr_ast.specs.Tree as tree
 use Rattle.jr_ast.specs.StatementTree as statement
 use Rattle.jr_ast.specs.MemberTree as syntax
 use Rattle.jr_ast.specs.Marks.{exp_mark, type_mark}
 use Rattle.jr_table.specs.Keys.{ClassKey, MethodKey, Ty}
-use Rattle.jr_table.specs.Decls.{MemberKey, head, field, method, constructor, Decl, class_decl,
-    field_decl, method_decl}
+use Rattle.jr_table.specs.Decls.{
+  MemberKey,
+  head,
+  field,
+  method,
+  constructor,
+  Decl,
+  class_decl,
+  field_decl,
+  method_decl,
+}
 use Rattle.jr_table.specs.SameKeys.{same_name, same_class, same_ty, same_types}
 use Rattle.jr_table.specs.Rows.{Row}
 use Rattle.jr_table.specs.Entries.{number_of, top_class, is_static_word, is_private_word}
@@ -21,10 +48,34 @@ use Rattle.jr_table.specs.Context.{Context, scope_of, is_final_word}
 use Rattle.jr_table.specs.Binding.{type}
 use Rattle.jr_table.specs.Binding as sought
 use Rattle.jr_table.specs.HeadRules.{access_of, plain, with_parameters, is_static_member}
-use Rattle.jr_table.specs.Meanings.{row_of, test_row, type_of_decl, type_of, types_of,
-    superclass_of, find_in, ctor_found, own_superclass, Reference, reference, type_references}
-use Rattle.jr_table.specs.Notes.{Note, refers, breaks, reference_notes, unless, when, has_word,
-    is_below, suits, test_found, list_completes, is_object_method}
+use Rattle.jr_table.specs.Meanings.{
+  row_of,
+  test_row,
+  type_of_decl,
+  type_of,
+  types_of,
+  superclass_of,
+  find_in,
+  ctor_found,
+  own_superclass,
+  Reference,
+  reference,
+  type_references,
+}
+use Rattle.jr_table.specs.Notes.{
+  Note,
+  refers,
+  breaks,
+  reference_notes,
+  unless,
+  when,
+  has_word,
+  is_below,
+  suits,
+  test_found,
+  list_completes,
+  is_object_method,
+}
 use Rattle.jr_table.specs.declared.rules.Rule.TheVariants as rule
 
 -- whether a class is another's superclass, perhaps through others

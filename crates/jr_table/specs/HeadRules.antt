@@ -1,7 +1,22 @@
 -- The rules of a sound program that the heads of classes, fields, methods and constructors may
 -- break (JLS 8.1.4, 8.4.5, 8.4.8, 8.8.7), apart from what stands in their bodies.
-use Rattle.std.specs.Prelude.{◌≡◌, ◌≢◌, ℕ, ◌<◌, List, [], ◌∷◌, map, Option, Some, None, Bool, true,
-    false, ◌⊎◌}
+use Rattle.std.specs.Prelude.{
+  ◌≡◌,
+  ◌≢◌,
+  ℕ,
+  ◌<◌,
+  List,
+  [],
+  ◌∷◌,
+  map,
+  Option,
+  Some,
+  None,
+  Bool,
+  true,
+  false,
+  ◌⊎◌,
+}
 use Rattle.std.specs.List.{list_any}
 use Rattle.jr_ast.specs.declared.operators.ModWord.{ModWord}
 use Rattle.jr_ast.specs.declared.operators.ModWord.TheVariants as word
@@ -10,18 +25,39 @@ use Rattle.jr_ast.specs.StatementTree as statement
 use Rattle.jr_ast.specs.MemberTree as syntax
 use Rattle.jr_ast.specs.Marks.{exp_mark, type_mark}
 use Rattle.jr_table.specs.Keys.{ClassKey, MethodKey, CtorKey, Ty}
-use Rattle.jr_table.specs.Decls.{MemberKey, head, field, method, constructor, Decl, class_decl,
-    field_decl, method_decl}
+use Rattle.jr_table.specs.Decls.{
+  MemberKey,
+  head,
+  field,
+  method,
+  constructor,
+  Decl,
+  class_decl,
+  field_decl,
+  method_decl,
+}
 use Rattle.jr_table.specs.Rows.{Row}
-use Rattle.jr_table.specs.Entries.{IsRowOf, top_class, is_static_word, is_private_word,
-    class_of_member}
+use Rattle.jr_table.specs.Entries.{
+  IsRowOf,
+  top_class,
+  is_static_word,
+  is_private_word,
+  class_of_member,
+}
 use Rattle.jr_table.specs.Prelude.{top_key}
 use Rattle.jr_table.specs.Keyed.{IsSubclass}
 use Rattle.jr_table.specs.Sites.{words, writes_ctor}
 use Rattle.jr_table.specs.Found.{Found, one, nothing, many, not_accessible}
 use Rattle.jr_table.specs.Lookup.{FindsCtorOf}
-use Rattle.jr_table.specs.Context.{Context, scope_of, parameters, IsSuperclass, IsTypeOf, HasWordAt,
-    is_final_word}
+use Rattle.jr_table.specs.Context.{
+  Context,
+  scope_of,
+  parameters,
+  IsSuperclass,
+  IsTypeOf,
+  HasWordAt,
+  is_final_word,
+}
 use Rattle.jr_table.specs.Binding.{HasType, TypeRefers, FindsIn, SuperCtorFinds}
 use Rattle.jr_table.specs.ExpressionRules.{Suits, IsObjectMethod}
 use Rattle.jr_table.specs.Completing.{ListCompletes}
@@ -76,8 +112,13 @@ types_of (constructor k) = k.params
 types_of _ = []
 
 abbrev pub with_parameters : {A : Type 0} → MemberKey → Bool → List (syntax.Param A) → Context
-with_parameters k is_static ps = record { member = k; is_static = is_static; locals =
-    parameters k 0 ps (types_of k); own = None }
+with_parameters k is_static ps = record {
+  member = k;
+  is_static = is_static;
+  locals =
+      parameters k 0 ps (types_of k);
+  own = None;
+}
 
 module _ {A : Type 0} (begins : A → ℕ → ℕ) where
   abbrev pub is_static_member : List (syntax.Modifier A) → Bool
