@@ -82,7 +82,6 @@ fn kind_text(kind: SourceKind) -> &'static str
         SourceKind::Escape => "Escape",
         SourceKind::BadNumber => "BadNumber",
         SourceKind::Deep => "Deep",
-        SourceKind::Syntax => "Syntax",
         SourceKind::Unbuilt => "Unbuilt",
     }
 }
