@@ -1,0 +1,2 @@
+pub mod LocalView
+pub mod ScopeView
