@@ -25,3 +25,17 @@ pub mod ScopeLaws
 pub mod ShowingLaws
 pub mod LookupLaws
 pub mod LookupCases
+pub mod RowTypes
+pub mod Typing
+pub mod BindingSamples
+pub mod BindingCasesClasses
+pub mod BindingCasesFlow
+pub mod BindingCasesNames
+pub mod BindingCasesTypes
+pub mod BindingCasesVariables
+pub mod ReferenceLaws
+pub mod Referring
+pub mod TypeTests
+pub mod Breaking
+pub mod DeclarationTests
+pub mod Noting

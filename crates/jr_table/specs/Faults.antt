@@ -1,11 +1,50 @@
 -- The faults of a program's declarations, ten kinds, each with its place; and the first fault.
-use Rattle.std.specs.Prelude.{◌≡◌, ◌≢◌, ℕ, zero, suc, ◌<◌, ◌≤◌, List, [], ◌∷◌, Option, Some, None, Bool, true, false, codes, slice_get, map, ◌⊎◌, option_map}
+use Rattle.std.specs.Prelude.{
+  ◌≡◌,
+  ◌≢◌,
+  ℕ,
+  zero,
+  suc,
+  ◌<◌,
+  ◌≤◌,
+  List,
+  [],
+  ◌∷◌,
+  Option,
+  Some,
+  None,
+  Bool,
+  true,
+  false,
+  codes,
+  slice_get,
+  map,
+  ◌⊎◌,
+  option_map,
+}
 use Rattle.jr_ast.specs.declared.operators.ModWord.{ModWord}
 use Rattle.jr_ast.specs.declared.operators.ModWord.TheVariants as word
 use Rattle.jr_table.specs.declared.kinds.DeclKind.{DeclKind}
 use Rattle.jr_table.specs.declared.kinds.DeclKind.TheVariants as kind
 use Rattle.jr_table.specs.Keys.{ClassKey, Ty}
-use Rattle.jr_table.specs.Sites.{Written, int, boolean, named, ParamSite, InitSite, ClassSite, FieldSite, MethodSite, CtorSite, Item, class_item, field_item, method_item, ctor_item, Site}
+use Rattle.jr_table.specs.Sites.{
+  Written,
+  int,
+  boolean,
+  named,
+  ParamSite,
+  InitSite,
+  ClassSite,
+  FieldSite,
+  MethodSite,
+  CtorSite,
+  Item,
+  class_item,
+  field_item,
+  method_item,
+  ctor_item,
+  Site,
+}
 use Rattle.jr_table.specs.Resolving.{HasWord, IsPreludeClass, IsParent, Climbs, Means}
 
 -- a place in the files of a program
@@ -53,7 +92,8 @@ IsAccess word.Protected = Unit {0}
 IsAccess word.Private = Unit {0}
 IsAccess _ = ⊥
 
--- the words that a top-level class, a member class, a field, a method and a constructor may have (JLS 8.1.1, 8.3.1, 8.4.3, 8.8.3)
+-- the words that a top-level class, a member class, a field, a method and a constructor may have
+-- (JLS 8.1.1, 8.3.1, 8.4.3, 8.8.3)
 abbrev pub TopWord : ModWord → Type 0
 TopWord word.Public = Unit {0}
 TopWord word.Final = Unit {0}
@@ -79,7 +119,8 @@ MethodWord w = IsAccess w
 -- a word twice, two access words, a word not among these, `final` with `volatile`
 abbrev pub AreBad : (ModWord → Type 0) → List ModWord → Type 0
 AreBad May ws = ((w : ModWord) × IsTwice ws w)
-    ⊎ (((v : ModWord) × (w : ModWord) × (v ≢ w) × IsAccess v × IsAccess w × HasWord ws v × HasWord ws w)
+    ⊎ (((v : ModWord) × (w : ModWord) × (v ≢ w) × IsAccess v × IsAccess w × HasWord ws v
+    × HasWord ws w)
     ⊎ (((w : ModWord) × HasWord ws w × (May w → ⊥))
     ⊎ (HasWord ws word.Final × HasWord ws word.Volatile)))
 
@@ -116,13 +157,15 @@ module _ (sites : List Site) where
   -- the types of two lists of parameters are the same
   abbrev pub SameTypes : ClassKey → List ParamSite → List ParamSite → Type 0
   SameTypes k [] [] = Unit {0}
-  SameTypes k (p ∷ ps) (q ∷ qs) = ((t : Ty) × Means sites k p.type t × Means sites k q.type t) × SameTypes k ps qs
+  SameTypes k (p ∷ ps) (q ∷ qs) =
+      ((t : Ty) × Means sites k p.type t × Means sites k q.type t) × SameTypes k ps qs
   SameTypes k _ _ = ⊥
 
   -- the later of two members declares what the earlier does
   abbrev pub SameMember : Item → Item → Type 0
   SameMember (field_item f) (field_item g) = (f.of ≡ g.of) × (f.name ≡ g.name)
-  SameMember (method_item m) (method_item n) = (m.of ≡ n.of) × (m.name ≡ n.name) × SameTypes m.of m.params n.params
+  SameMember (method_item m) (method_item n) =
+      (m.of ≡ n.of) × (m.name ≡ n.name) × SameTypes m.of m.params n.params
   SameMember (ctor_item c) (ctor_item d) = (c.of ≡ d.of) × SameTypes c.of c.params d.params
   SameMember _ _ = ⊥
 
@@ -151,27 +194,40 @@ HasItsName k _ = ⊥
 
 -- a static field has an initializer of another form there
 abbrev pub InitIsBad : Item → ℕ → Type 0
-InitIsBad (field_item f) at = HasWord f.modifiers word.Static × ((i : InitSite) × (f.init ≡ Some i) × (i.is_simple ≡ false) × (i.at ≡ at))
+InitIsBad (field_item f) at = HasWord f.modifiers word.Static
+    × ((i : InitSite) × (f.init ≡ Some i) × (i.is_simple ≡ false) × (i.at ≡ at))
 InitIsBad _ at = ⊥
 
 module _ (packages : List (Option PackageLine)) (sites : List Site) where
   -- a fault of the kind stands there
   abbrev pub HasFault : DeclKind → Place → Type 0
-  HasFault kind.PackageDiffers p = (first : Option PackageLine) × (own : Option PackageLine) × (slice_get packages 0 ≡ Some first) × (slice_get packages p.file ≡ Some own)
+  HasFault kind.PackageDiffers p = (first : Option PackageLine) × (own : Option PackageLine)
+      × (slice_get packages 0 ≡ Some first) × (slice_get packages p.file ≡ Some own)
       × (names_of own ≢ names_of first) × (p.at ≡ line_at own)
-  HasFault kind.PreludeName p = (i : ℕ) × (c : ClassSite) × At sites i p.file (class_item c) × IsReserved c.key.name × (p.at ≡ c.at)
-  HasFault kind.TwiceClass p = (j : ℕ) × (c : ClassSite) × At sites j p.file (class_item c) × (p.at ≡ c.at)
-      × (((i : ℕ) × (file : ℕ) × (d : ClassSite) × (i < j) × At sites i file (class_item d) × (d.key ≡ c.key)) ⊎ IsNamedAsOuter c.key)
-  HasFault kind.NoSuperclass p = (i : ℕ) × (c : ClassSite) × (outer : Option (List ℕ)) × (name : List ℕ) × At sites i p.file (class_item c) × (c.parent ≡ Some (named p.at outer name))
+  HasFault kind.PreludeName p = (i : ℕ) × (c : ClassSite) × At sites i p.file (class_item c)
+      × IsReserved c.key.name × (p.at ≡ c.at)
+  HasFault kind.TwiceClass p =
+      (j : ℕ) × (c : ClassSite) × At sites j p.file (class_item c) × (p.at ≡ c.at)
+      × (((i : ℕ) × (file : ℕ) × (d : ClassSite) × (i < j) × At sites i file (class_item d)
+      × (d.key ≡ c.key)) ⊎ IsNamedAsOuter c.key)
+  HasFault kind.NoSuperclass p = (i : ℕ) × (c : ClassSite) × (outer : Option (List ℕ))
+      × (name : List ℕ) × At sites i p.file (class_item c)
+      × (c.parent ≡ Some (named p.at outer name))
       × ((q : ClassKey) → IsParent sites c.key q → ⊥)
-  HasFault kind.Cycle p = (i : ℕ) × (c : ClassSite) × (steps : ℕ) × At sites i p.file (class_item c) × Climbs sites (suc steps) c.key c.key × (p.at ≡ c.at)
-  HasFault kind.NoTy p = (i : ℕ) × (item : Item) × (k : ClassKey) × (outer : Option (List ℕ)) × (name : List ℕ) × At sites i p.file item × WritesType item k (named p.at outer name)
+  HasFault kind.Cycle p = (i : ℕ) × (c : ClassSite) × (steps : ℕ) × At sites i p.file (class_item c)
+      × Climbs sites (suc steps) c.key c.key × (p.at ≡ c.at)
+  HasFault kind.NoTy p = (i : ℕ) × (item : Item) × (k : ClassKey) × (outer : Option (List ℕ))
+      × (name : List ℕ) × At sites i p.file item × WritesType item k (named p.at outer name)
       × ((t : Ty) → Means sites k (named p.at outer name) t → ⊥)
   HasFault kind.TwiceMember p = (j : ℕ) × (m : Item) × At sites j p.file m
-      × (((i : ℕ) × (file : ℕ) × (l : Item) × (i < j) × At sites i file l × SameMember sites l m × (p.at ≡ name_at m)) ⊎ ParamTwice (params_of m) p.at)
-  HasFault kind.MemberTypeName p = (i : ℕ) × (j : ℕ) × (file : ℕ) × (c : ClassSite) × (m : Item) × At sites i p.file (class_item c) × At sites j file m × HasItsName c.key m × (p.at ≡ c.at)
-  HasFault kind.BadModifiers p = (i : ℕ) × (item : Item) × At sites i p.file item × WordsBad item × (p.at ≡ name_at item)
-  HasFault kind.StaticInit p = (i : ℕ) × (item : Item) × At sites i p.file item × InitIsBad item p.at
+      × (((i : ℕ) × (file : ℕ) × (l : Item) × (i < j) × At sites i file l × SameMember sites l m
+      × (p.at ≡ name_at m)) ⊎ ParamTwice (params_of m) p.at)
+  HasFault kind.MemberTypeName p = (i : ℕ) × (j : ℕ) × (file : ℕ) × (c : ClassSite) × (m : Item)
+      × At sites i p.file (class_item c) × At sites j file m × HasItsName c.key m × (p.at ≡ c.at)
+  HasFault kind.BadModifiers p =
+      (i : ℕ) × (item : Item) × At sites i p.file item × WordsBad item × (p.at ≡ name_at item)
+  HasFault kind.StaticInit p =
+      (i : ℕ) × (item : Item) × At sites i p.file item × InitIsBad item p.at
 
   -- the order of the kinds
   abbrev pub rank_of : DeclKind → ℕ

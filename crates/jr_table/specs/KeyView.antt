@@ -8,7 +8,20 @@ use Rattle.jr_table.specs.declared.decls.LocalKey as raw_local
 use Rattle.jr_table.specs.declared.decls.Decl as raw_decl
 use Rattle.jr_table.specs.declared.decls.Decl.TheVariants as shown
 use Rattle.jr_table.specs.Keys.{FieldKey, MethodKey, CtorKey}
-use Rattle.jr_table.specs.Decls.{MemberKey, head, field, method, constructor, LocalKey, Decl, class_decl, field_decl, method_decl, constructor_decl, local_decl}
+use Rattle.jr_table.specs.Decls.{
+  MemberKey,
+  head,
+  field,
+  method,
+  constructor,
+  LocalKey,
+  Decl,
+  class_decl,
+  field_decl,
+  method_decl,
+  constructor_decl,
+  local_decl,
+}
 use Rattle.jr_table.specs.TypeView.{class_key_of}
 
 abbrev pub field_key_of : raw_field.FieldKey → FieldKey

@@ -37,3 +37,17 @@ pub mod Scope
 pub mod Lookup
 pub mod LookupLaws
 pub mod LookupSample
+pub mod Context
+pub mod Binding
+pub mod Somewhere
+pub mod ExpressionRules
+pub mod Completing
+pub mod StatementRules
+pub mod HeadRules
+pub mod Errors
+pub mod Meanings
+pub mod Notes
+pub mod HeadNotes
+pub mod Walks
+pub mod BindingLaws
+pub mod TypesAt

@@ -1,12 +1,9 @@
--- The rows of a small program, for cases of lookup:
---     class A { int f; static int sf; private int p; void m() {} private void q() {} static class T {} }
---     class O { static int x; int y; int f; private static int s; void m(int a) {} void n() {} static void g() {}
---         static class K {}
---         private static class H { private int h; private H(int i) {} }
---         static class C extends A { int w; } }
---     class D extends O {}
---     class Q extends A {}
---     class M { void b(A a) {} void b(Q q) {} void c(A a, Q q) {} void c(Q q, A a) {} void c(A a, A b) {} void d(int i) {}
+-- The rows of a small program, for cases of lookup:     class A { int f; static int sf; private int
+-- p; void m() {} private void q() {} static class T {} }     class O { static int x; int y; int f;
+-- private static int s; void m(int a) {} void n() {} static void g() {}         static class K {}
+--       private static class H { private int h; private H(int i) {} }         static class C
+-- extends A { int w; } }     class D extends O {}     class Q extends A {}     class M { void b(A
+-- a) {} void b(Q q) {} void c(A a, Q q) {} void c(Q q, A a) {} void c(A a, A b) {} void d(int i) {}
 --         private void e(Q q) {} void e(A a) {} private void h(int i) {} }
 use Rattle.std.specs.Prelude.{ℕ, List, [], ◌∷◌, ◌++◌, Option, Some, None, Bool, false, codes}
 use Rattle.jr_ast.specs.declared.operators.ModWord.{ModWord}
@@ -59,18 +56,44 @@ ctor_of of params = constructor_decl (record { class = of; params = params })
 
 -- rows
 abbrev pub class_at : List ModWord → ClassKey → ClassKey → Row
-class_at words of parent = record { decl = class_decl of; modifiers = words; type = None; parent = Some parent; has_init = false }
+class_at words of parent = record {
+  decl = class_decl of;
+  modifiers = words;
+  type = None;
+  parent =
+      Some parent;
+  has_init = false;
+}
 
 -- a field of type int
 abbrev pub field_at : List ModWord → ClassKey → List ℕ → Row
-field_at words of name = record { decl = field_of of name; modifiers = words; type = Some int; parent = None; has_init = false }
+field_at words of name = record {
+  decl = field_of of name;
+  modifiers = words;
+  type = Some int;
+  parent = None;
+  has_init = false;
+}
 
 -- a method without result
 abbrev pub method_at : List ModWord → ClassKey → List ℕ → List Ty → Row
-method_at words of name params = record { decl = method_of of name params; modifiers = words; type = Some void; parent = None; has_init = false }
+method_at words of name params = record {
+  decl = method_of of name params;
+  modifiers = words;
+  type =
+      Some void;
+  parent = None;
+  has_init = false;
+}
 
 abbrev pub ctor_at : List ModWord → ClassKey → List Ty → Row
-ctor_at words of params = record { decl = ctor_of of params; modifiers = words; type = None; parent = None; has_init = false }
+ctor_at words of params = record {
+  decl = ctor_of of params;
+  modifiers = words;
+  type = None;
+  parent = None;
+  has_init = false;
+}
 
 abbrev pub a_rows : List Row
 a_rows =

@@ -13,9 +13,11 @@ Among (k ∷ ks) m = (k ≡ m) ⊎ Among ks m
 -- The rows of these methods stand one behind the other, the first at this number or behind it.
 abbrev pub StandInOrder : List Row → ℕ → List MethodKey → Type 0
 StandInOrder rows from [] = Unit {0}
-StandInOrder rows from (k ∷ ks) = (j : ℕ) × (from ≤ j) × IsRowOf rows (method_decl k) j × StandInOrder rows (suc j) ks
+StandInOrder rows from (k ∷ ks) =
+    (j : ℕ) × (from ≤ j) × IsRowOf rows (method_decl k) j × StandInOrder rows (suc j) ks
 
 -- exactly the class's member methods of the name, each once, in the order of the rows
-pub record AreMethods (rows : List Row) (of : ClassKey) (name : List ℕ) (keys : List MethodKey) : Type 0 where
+pub record AreMethods (rows : List Row) (of : ClassKey) (name : List ℕ)
+    (keys : List MethodKey) : Type 0 where
   pub in_order : StandInOrder rows 0 keys
   pub exact : (m : MethodKey) → Among keys m ↔ (HasMethod rows of m × (m.name ≡ name))

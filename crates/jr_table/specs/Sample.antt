@@ -12,14 +12,26 @@ use Rattle.jr_table.specs.Prelude.{prelude_rows, class_row, top_key}
 
 -- a field of type int
 abbrev pub field_row : List ModWord → List ℕ → List ℕ → Row
-field_row words of name = record { decl = field_decl (record { class = top_key of; name = name }); modifiers = words; type = Some int; parent = None; has_init = false }
+field_row words of name = record {
+  decl = field_decl (record { class = top_key of; name = name });
+  modifiers = words;
+  type = Some int;
+  parent = None;
+  has_init = false;
+}
 
 -- a method without result, whose parameters are of these classes
 abbrev pub method_key : List ℕ → List ℕ → List Ty → MethodKey
 method_key of name params = record { class = top_key of; name = name; params = params }
 
 abbrev pub method_row : List ModWord → List ℕ → List ℕ → List Ty → Row
-method_row words of name params = record { decl = method_decl (method_key of name params); modifiers = words; type = Some void; parent = None; has_init = false }
+method_row words of name params = record {
+  decl = method_decl (method_key of name params);
+  modifiers = words;
+  type = Some void;
+  parent = None;
+  has_init = false;
+}
 
 abbrev pub a_rows : List Row
 a_rows =

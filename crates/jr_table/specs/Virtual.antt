@@ -1,5 +1,18 @@
 -- Exact functions: methods that are neither private nor static.
-use Rattle.std.specs.Prelude.{◌≡◌, ◌≢◌, ℕ, List, Option, Some, None, Bool, ◌||◌, slice_get, option_and_then, if◌then◌else◌}
+use Rattle.std.specs.Prelude.{
+  ◌≡◌,
+  ◌≢◌,
+  ℕ,
+  List,
+  Option,
+  Some,
+  None,
+  Bool,
+  ◌||◌,
+  slice_get,
+  option_and_then,
+  if◌then◌else◌,
+}
 use Rattle.jr_table.specs.declared.entries.Entry.{Entry}
 use Rattle.jr_table.specs.Chains.{IsSubclassAt}
 

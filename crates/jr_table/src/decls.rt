@@ -74,13 +74,13 @@ impl Decl {
 
 impl PartialEq for MemberKey {
     ghost use Rattle.std.specs.Ordering.{on};
-    ghost use Rattle.std.specs.Cmp as order;
+    ghost use Rattle.std.specs.Cmp as cmp;
     ghost use Rattle.jr_table.specs.KeyView.{member_key_of};
     ghost use Rattle.jr_table.specs.SameDecls.{same_member, same_member_equiv};
 
     ghost eq = { on member_key_of same_member };
 
-    ghost laws = { order.partial_equiv_from_equiv (order.on_equiv member_key_of same_member_equiv) };
+    ghost laws = { cmp.partial_equiv_from_equiv (cmp.on_equiv member_key_of same_member_equiv) };
 
     fn eq(&self, other: &MemberKey) -> bool
         ensures { IsTrue result ↔ (member_key_of self.now ≡ member_key_of other.now) }

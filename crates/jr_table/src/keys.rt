@@ -95,13 +95,13 @@ impl Eq for FieldKey {
 
 impl PartialEq for MethodKey {
     ghost use Rattle.std.specs.Ordering.{on};
-    ghost use Rattle.std.specs.Cmp as order;
+    ghost use Rattle.std.specs.Cmp as cmp;
     ghost use Rattle.jr_table.specs.KeyView.{method_key_of};
     ghost use Rattle.jr_table.specs.SameKeys.{same_method, same_method_equiv};
 
     ghost eq = { on method_key_of same_method };
 
-    ghost laws = { order.partial_equiv_from_equiv (order.on_equiv method_key_of same_method_equiv) };
+    ghost laws = { cmp.partial_equiv_from_equiv (cmp.on_equiv method_key_of same_method_equiv) };
 
     fn eq(&self, other: &MethodKey) -> bool
         ensures { IsTrue result ↔ (method_key_of self.now ≡ method_key_of other.now) }

@@ -1,5 +1,6 @@
 //! All member methods of a name.
-ghost use Rattle.std.specs.Prelude.{◌≡◌, ◌↔◌, ℕ, List, IsTrue, IfOk, OnOk, map, ◌++◌, option_to_list};
+ghost use Rattle.std.specs.Prelude.{◌≡◌, ◌↔◌, ℕ, List, IsTrue, IfOk, OnOk};
+ghost use Rattle.std.specs.Prelude.{map, ◌++◌, option_to_list};
 
 use crate::classes::ClassKey;
 use crate::keys::MethodKey;

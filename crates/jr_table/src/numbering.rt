@@ -126,7 +126,8 @@ fn params(alloc: Global, rows: &[Row], decl: &Decl) -> Result<Kinds, AllocError>
 fn parent(rows: &[Row], key: &Option<ClassKey>) -> Option<u32>
     requires { length rows.now < 2 ^ 32 }
     ensures { result ≡ option_and_then
-        (λ k. pure.number_of (map row_of rows.now) (class_decl k)) (option_map class_key_of key.now) }
+        (λ k. pure.number_of (map row_of rows.now) (class_decl k))
+        (option_map class_key_of key.now) }
 {
     match key {
         None => None,

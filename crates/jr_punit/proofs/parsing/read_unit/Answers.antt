@@ -56,21 +56,21 @@ loop-i-preserved c =
 finished : (bytes : List ℕ) (end : ℕ) (s : machine.State Span) (o : Option (UnitTree Span)) → end ≡ length bytes → o ≡ machine.whole (record { from = 0; to = end }) s → span_unit_whole (length bytes) s ≡ o
 finished bytes end s o e h = ap (λ (n : ℕ). machine.whole (file_of n) s) (sym e) ∙ sym h
 
-pub returns-in-Some-3-clause-read : goal.returns-in-Some-3-clause-read
-returns-in-Some-3-clause-read c =
+pub returns-in-Some-finish-clause-read : goal.returns-in-Some-finish-clause-read
+returns-in-Some-finish-clause-read c =
     let bytes = c.args.text.now in
     read_whole bytes c.args.items.now c.loop-i.i (unit_state c.loop-i.state) (omega (arith, c.loop-i-test.false)) c.loop-i.invariant.read
     ∙ finished bytes c.len-end.result (unit_state c.loop-i.state) (option_map unit_of c.finish.result) c.len-end.ensures.len c.finish.ensures
-    ∙ ap (option_map unit_of) c.in-Some-3.is
+    ∙ ap (option_map unit_of) c.in-Some-finish.is
 
-pub returns-in-None-2-clause-fault : goal.returns-in-None-2-clause-fault
-returns-in-None-2-clause-fault c =
+pub returns-in-None-finish-clause-fault : goal.returns-in-None-finish-clause-fault
+returns-in-None-finish-clause-fault c =
     let bytes = c.args.text.now in
     let items = c.args.items.now in
     record {
       read =
           read_whole bytes items c.loop-i.i (unit_state c.loop-i.state) (omega (arith, c.loop-i-test.false)) c.loop-i.invariant.read
           ∙ finished bytes c.len-end.result (unit_state c.loop-i.state) (option_map unit_of c.finish.result) c.len-end.ensures.len c.finish.ensures
-          ∙ ap (option_map unit_of) c.in-None-2.is;
+          ∙ ap (option_map unit_of) c.in-None-finish.is;
       byte = c.len-end.ensures.len ∙ byte_whole bytes items c.loop-i.i (unit_state c.loop-i.state) (omega (arith, c.loop-i-test.false)) c.loop-i.invariant.byte;
     }
