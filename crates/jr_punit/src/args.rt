@@ -75,14 +75,10 @@ fn argument_goes_on(
 }
 
 /// The last argument, where it is whole.
-fn finish_last(
-    alloc: Global,
-    args: Vec<Expr<Span>>,
-    last: State,
-) -> Made<Option<Vec<Expr<Span>>>>
+fn finish_last(alloc: Global, args: Vec<Expr<Span>>, last: State) -> Made<Option<Vec<Expr<Span>>>>
     ensures { IfOk result (λ made. args_of made
         ≡ option_map (expressions.with_last (exprs_of args.items))
-            (expressions.whole join (state_view last))) }
+        (expressions.whole join (state_view last))) }
 {
     match last.finish(alloc)? {
         Some(e) => Ok(Some(with_last(args, e)?)),

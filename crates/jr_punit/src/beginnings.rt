@@ -32,15 +32,10 @@ fn modifier(modifiers: Vec<Modifier<Span>>, at: Span, word: ModWord) -> OwnStepp
 }
 
 /// The first token of a type.
-fn begin_type(
-    alloc: Global,
-    modifiers: Vec<Modifier<Span>>,
-    at: Span,
-    cue: Cue<'_>,
-) -> OwnStepped
+fn begin_type(alloc: Global, modifiers: Vec<Modifier<Span>>, at: Span, cue: Cue<'_>) -> OwnStepped
     ensures { IsNextOwn result
         (option_map (machine.in_type (machine.lead_of (modifiers_view modifiers) at))
-            (types.from_want true at (cue_view cue.entry))) }
+        (types.from_want true at (cue_view cue.entry))) }
 {
     match TypeState::begin(alloc, true, at, cue)? {
         Some(ty) => Ok(Some(OwnState::InType(Lead::new(modifiers, at), ty))),
@@ -133,13 +128,7 @@ fn open_type(alloc: Global, name: &str, lead: Lead, ty: TypeRef<Span>) -> OwnSte
 }
 
 /// An opening parenthesis behind what has been read of a type.
-fn open_behind(
-    alloc: Global,
-    name: &str,
-    lead: Lead,
-    ty: TypeState,
-    at: Span,
-) -> OwnStepped
+fn open_behind(alloc: Global, name: &str, lead: Lead, ty: TypeState, at: Span) -> OwnStepped
     ensures { IsNextOwn result (machine.from_type join name.now (lead_view lead)
         (type_state ty) at pure.an_open) }
 {
@@ -151,13 +140,7 @@ fn open_behind(
 }
 
 /// The type goes on.
-fn type_goes_on(
-    alloc: Global,
-    lead: Lead,
-    ty: TypeState,
-    at: Span,
-    cue: Cue<'_>,
-) -> OwnStepped
+fn type_goes_on(alloc: Global, lead: Lead, ty: TypeState, at: Span, cue: Cue<'_>) -> OwnStepped
     ensures { IsNextOwn result (option_map (machine.in_type (lead_view lead))
         (types.cue_step join (type_state ty) at (cue_view cue.entry))) }
 {

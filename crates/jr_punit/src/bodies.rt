@@ -28,13 +28,7 @@ use jr_text::Span;
 use std::alloc::Global;
 
 /// The parameters go on.
-fn params_go_on(
-    alloc: Global,
-    head: Head,
-    params: ParamState,
-    at: Span,
-    cue: Cue<'_>,
-) -> OwnStepped
+fn params_go_on(alloc: Global, head: Head, params: ParamState, at: Span, cue: Cue<'_>) -> OwnStepped
     ensures { IsNextOwn result (option_map (machine.in_params (head_view head))
         (parameters.cue_step join (param_state params) at (cue_view cue.entry))) }
 {
@@ -81,11 +75,7 @@ pub(crate) fn in_body(alloc: Global, body: Body) -> OwnStepped
 }
 
 /// The body of a constructor is to come.
-fn in_constructor(
-    alloc: Global,
-    head: Box<ConstructorHead>,
-    params: Vec<Param<Span>>,
-) -> OwnStepped
+fn in_constructor(alloc: Global, head: Box<ConstructorHead>, params: Vec<Param<Span>>) -> OwnStepped
     ensures { IsNextOwn result
         (Some (machine.body_of (head_view (Head.Constructor head)) (params_view params))) }
 {

@@ -72,7 +72,13 @@ fn second_in_body(
         (token_view token.entry) (pure.cue_of (token_view token.entry))) }
 {
     let body = without_super(alloc, of)?;
-    from_body(alloc, body, ListState::behind_super(alloc, start), at, token)
+    from_body(
+        alloc,
+        body,
+        ListState::behind_super(alloc, start),
+        at,
+        token,
+    )
 }
 
 /// A token behind `super`, which is the first token of a constructor's body.

@@ -66,12 +66,7 @@ fn field_without(alloc: Global, head: Box<MemberHead>, at: Span) -> OwnStepped
 }
 
 /// The value of a field is to come.
-fn in_value(
-    alloc: Global,
-    lead: Lead,
-    ty: TypeRef<Span>,
-    name: Ident<Span>,
-) -> OwnStepped
+fn in_value(alloc: Global, lead: Lead, ty: TypeRef<Span>, name: Ident<Span>) -> OwnStepped
     ensures { IsNextOwn result
         (Some (machine.begin_value (lead_view lead) (word_of name) (type_of ty))) }
 {

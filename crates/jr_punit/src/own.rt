@@ -67,13 +67,7 @@ impl OwnState {
 
     /// The state behind a token at `at`; `None` exactly where no member of the class that is called
     /// `name` goes on with it.
-    pub(crate) fn step(
-        self,
-        alloc: Global,
-        name: &str,
-        at: Span,
-        token: Token<'_>,
-    ) -> OwnStepped
+    pub(crate) fn step(self, alloc: Global, name: &str, at: Span, token: Token<'_>) -> OwnStepped
         ensures { IsNextOwn result
             (machine.step join name.now (own_state self) at (token_view token.entry)) }
     {

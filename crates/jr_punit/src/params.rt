@@ -89,12 +89,15 @@ fn at_word(
         to: at.to,
     };
     let name = word(alloc, at, text)?;
-    with_param(params, Param {
-        mark,
-        is_final,
-        ty,
-        name,
-    })
+    with_param(
+        params,
+        Param {
+            mark,
+            is_final,
+            ty,
+            name,
+        },
+    )
 }
 
 /// The type goes on.
@@ -109,7 +112,7 @@ fn type_goes_on(
 ) -> Stepped
     ensures { IsNextParam result
         (option_map (machine.in_type (params_view params) start is_final)
-            (types.cue_step join (type_state ty) at (cue_view cue.entry))) }
+        (types.cue_step join (type_state ty) at (cue_view cue.entry))) }
 {
     match ty.step(alloc, at, cue)? {
         Some(ty) => Ok(Some(ParamState::InType(params, start, is_final, ty))),
