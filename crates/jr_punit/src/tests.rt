@@ -41,19 +41,46 @@ const UNITS: [(&str, &str); 24] = [
     ("", "0-0 0:"),
     (" /*c*/ ", "0-7 0:"),
     ("package a . b ;", "0-15 2:"),
-    ("package a;class A{}class B extends A{}", "0-38 1: class A { } class B extends A { }"),
-    ("public final class A{int f;}", "0-28 0: public final class A { int f; }"),
+    (
+        "package a;class A{}class B extends A{}",
+        "0-38 1: class A { } class B extends A { }",
+    ),
+    (
+        "public final class A{int f;}",
+        "0-28 0: public final class A { int f; }",
+    ),
     (
         "class A{private static final int f=1;boolean g=true;O.K h;}",
         "0-59 0: class A { private static final int f = 1; boolean g = true; O.K h; }",
     ),
-    ("class A{int m(int a){return -(-a)+1;}}", "0-38 0: class A { int m(int a) { return -(-a) + 1; } }"),
-    ("class A{synchronized void m(final B a,int b){}}", "0-47 0: class A { synchronized void m(final B a, int b) { } }"),
-    ("class A{A(){}A(int a){super(a);}}", "0-33 0: class A { A() { } A(int a) { super(a); } }"),
-    ("class A{A(){super();a=1;}}", "0-26 0: class A { A() { super(); a = 1; } }"),
-    ("class A{A(){super.m();}}", "0-24 0: class A { A() { super.m(); } }"),
-    ("class A{A(){this.a=1;;}}", "0-24 0: class A { A() { this.a = 1; ; } }"),
-    ("class A{A m(){return null;}}", "0-28 0: class A { A m() { return null; } }"),
+    (
+        "class A{int m(int a){return -(-a)+1;}}",
+        "0-38 0: class A { int m(int a) { return -(-a) + 1; } }",
+    ),
+    (
+        "class A{synchronized void m(final B a,int b){}}",
+        "0-47 0: class A { synchronized void m(final B a, int b) { } }",
+    ),
+    (
+        "class A{A(){}A(int a){super(a);}}",
+        "0-33 0: class A { A() { } A(int a) { super(a); } }",
+    ),
+    (
+        "class A{A(){super();a=1;}}",
+        "0-26 0: class A { A() { super(); a = 1; } }",
+    ),
+    (
+        "class A{A(){super.m();}}",
+        "0-24 0: class A { A() { super.m(); } }",
+    ),
+    (
+        "class A{A(){this.a=1;;}}",
+        "0-24 0: class A { A() { this.a = 1; ; } }",
+    ),
+    (
+        "class A{A m(){return null;}}",
+        "0-28 0: class A { A m() { return null; } }",
+    ),
     ("class A{A a;A(){}}", "0-18 0: class A { A a; A() { } }"),
     (
         "class A{static class K extends B.C{K(){super(1,a);}int f;}int g;}",
@@ -75,10 +102,22 @@ const UNITS: [(&str, &str); 24] = [
         "class A{void m(){int a=1;final B b=c;B.C d=(B.C)e;}}",
         "0-52 0: class A { void m() { int a = 1; final B b = c; B.C d = (B.C) e; } }",
     ),
-    ("class A{void m(){a.b();a=b;a++;--a;new A();}}", "0-45 0: class A { void m() { a.b(); a = b; a++; --a; new A(); } }"),
-    ("class A{void m(){{int a=1;}{}}}", "0-31 0: class A { void m() { { int a = 1; } { } } }"),
-    ("class A{String s=\"x\\ty\";}", "0-25 0: class A { String s = \"x\\ty\"; }"),
-    ("class A{int f=-2147483648;}", "0-27 0: class A { int f = -2147483648; }"),
+    (
+        "class A{void m(){a.b();a=b;a++;--a;new A();}}",
+        "0-45 0: class A { void m() { a.b(); a = b; a++; --a; new A(); } }",
+    ),
+    (
+        "class A{void m(){{int a=1;}{}}}",
+        "0-31 0: class A { void m() { { int a = 1; } { } } }",
+    ),
+    (
+        "class A{String s=\"x\\ty\";}",
+        "0-25 0: class A { String s = \"x\\ty\"; }",
+    ),
+    (
+        "class A{int f=-2147483648;}",
+        "0-27 0: class A { int f = -2147483648; }",
+    ),
     ("class A{class A{}}", "0-18 0: class A { class A { } }"),
 ];
 
