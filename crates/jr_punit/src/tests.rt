@@ -252,3 +252,14 @@ fn the_deepest_unit_is_read(rt: HostRuntime) {
     let unit = parse_unit(alloc, &text, &items).expect(&rt, "a unit");
     assert_eq!(rt; unit.classes.len(), 1);
 }
+
+#[test]
+fn printed_units_are_read_again(rt: HostRuntime) {
+    let alloc = rt.alloc();
+    for (_, expected) in &UNITS {
+        if let Some((_, classes)) = expected.split_once(": ") {
+            let again = read(&rt, alloc, classes);
+            assert!(rt; again.as_str().ends_with(classes), "{classes:?}");
+        }
+    }
+}
