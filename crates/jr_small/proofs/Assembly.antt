@@ -33,14 +33,14 @@ use Rattle.jr_small.proofs.AgainRenaming.{renamed_reads, renamed_edits}
 -- ---- targets and clashes
 
 pub no_target : (text : List ℕ) (at : ℕ) (name : List ℕ) (all : List raw.Occurrence) → IsAsked text at name → AreNamesOf text all → ((d : ℕ) → IsTarget (all_of text all) at d → ⊥) → Refuses text at name refusal.bad_target
-no_target text at name all a n none = (n.tree, (a, n.shallow, n.reads), λ d t. none d (subst (λ (os : List Occurrence). IsTarget os at d) n.names t))
+no_target text at name all a n none = (n.tree, (a, n.unit, n.reads), λ d t. none d (subst (λ (os : List Occurrence). IsTarget os at d) n.names t))
 
 pub means : (text : List ℕ) (at : ℕ) (name : List ℕ) (all : List raw.Occurrence) (d : ℕ) → IsAsked text at name → AreNamesOf text all → IsTarget (all_of text all) at d → Means text at name all d
 means text at name all d a n t = record {
   tree = n.tree;
   names = n.names;
   stands = n.stands;
-  target = record { asked = a; shallow = n.shallow; reads = n.reads; target = subst (λ (os : List Occurrence). IsTarget os at d) (sym n.names) t };
+  target = record { asked = a; unit = n.unit; reads = n.reads; target = subst (λ (os : List Occurrence). IsTarget os at d) (sym n.names) t };
 }
 
 pub is_clash : (text : List ℕ) (at : ℕ) (name : List ℕ) (all : List raw.Occurrence) (d w : ℕ) (with : Declaration) → Means text at name all d → Clashes (all_of text all) d name w → Shows (all_of text all) w with → IsClash text at name with

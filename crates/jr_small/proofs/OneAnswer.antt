@@ -5,6 +5,8 @@ use Rattle.jr_lex.specs.declared.faults.LexFault.{LexFault}
 use Rattle.jr_lex.specs.declared.faults.LexFault.TheVariants as lexical
 use Rattle.jr_lex.specs.Lexes.{Lexes, IsFirstFault}
 use Rattle.jr_lex.specs.Depth.{AreWithin, IsFirstBeyond}
+use Rattle.jr_grammar.specs.Tokens.{tokens_of}
+use Rattle.jr_punit.specs.Parsing.{AreUnit, IsNoUnitAt}
 use Rattle.jr_small.specs.declared.refusals.SourceKind.{SourceKind}
 use Rattle.jr_small.specs.declared.occurrences.Role.TheVariants.{Class}
 use Rattle.jr_small.specs.Spelling.{Tree}
@@ -12,7 +14,7 @@ use Rattle.jr_small.specs.Occurrence.{Occurrence, occurrences, declared}
 use Rattle.jr_small.specs.Rename.{IsTarget, Meets, Clashes, Asks, Renames}
 use Rattle.jr_small.specs.Refusal as refusal
 use Rattle.jr_small.specs.Refusal.{Declaration, Refusal}
-use Rattle.jr_small.specs.Answer.{ReadsSound, IsShallow, Shows, IsKindAt, HasSourceFault, IsFirstLost, IsRenamed, IsAsked, HasTarget, CanBeNamed, IsClash, IsLost, IsSpliced, Refuses, Grants}
+use Rattle.jr_small.specs.Answer.{ReadsSound, IsUnitText, Shows, IsKindAt, HasSourceFault, IsFirstLost, IsRenamed, IsAsked, HasTarget, CanBeNamed, IsClash, IsLost, IsSpliced, Refuses, Grants}
 use Rattle.jr_small.proofs.KeepNames.{IsReady, same_if}
 use Rattle.jr_small.proofs.KeepTree.{tree_ready}
 use Rattle.jr_small.proofs.OneReading.{OneLexing, one_reading, one_target, one_clash}
@@ -25,6 +27,7 @@ pub record Lexing : Type 0 where
   pub items : OneLexing
   pub fault : (bytes : List ℕ) (fault other : LexFault) → IsFirstFault bytes fault → IsFirstFault bytes other → fault ≡ other
   pub never_both : (bytes : List ℕ) (items : List Item) (fault : LexFault) → Lexes bytes items → IsFirstFault bytes fault → ⊥
+  pub stop : (bytes : List ℕ) (items : List Item) (i j : ℕ) → IsNoUnitAt bytes items i → IsNoUnitAt bytes items j → i ≡ j
 
 -- ---- depth
 
@@ -67,37 +70,52 @@ one_kind (lexical.Escape at) p p' k k' h g = (h.0 ∙ sym g.0, h.1 ∙ sym g.1)
 one_kind (lexical.BadNumber at) p p' k k' h g = (h.0 ∙ sym g.0, h.1 ∙ sym g.1)
 one_kind lexical.Memory p p' k k' h g = absurd h
 
+-- the tokens are a unit, or reading them stops
+no_unit : (lex : Lexing) (text : List ℕ) (p : ℕ) (items others : List Item) → Lexes text items → Lexes text others → IsNoUnitAt text items p → AreUnit (tokens_of text others) → ⊥
+no_unit lex text p items others l m h u =
+    let v : AreUnit (tokens_of text items) = subst (λ (is : List Item). AreUnit (tokens_of text is)) (lex.items text others items m l) u in
+    h.none v.0 v.1
+
 one_fault : (lex : Lexing) (text : List ℕ) (p p' : ℕ) (k k' : SourceKind) → HasSourceFault text p k → HasSourceFault text p' k' → (p ≡ p') × (k ≡ k')
 one_fault lex text p p' k k' (inl h) (inl g) = one_kind g.fault p p' k k' (subst (λ (f : LexFault). IsKindAt f p k) (lex.fault text h.fault g.fault h.first g.first) h.reported) g.reported
 one_fault lex text p p' k k' (inl h) (inr (inl g)) = absurd (lex.never_both text g.items h.fault g.lexes h.first)
-one_fault lex text p p' k k' (inl h) (inr (inr g)) = absurd (lex.never_both text g.items h.fault g.lexes h.first)
+one_fault lex text p p' k k' (inl h) (inr (inr (inl g))) = absurd (lex.never_both text g.items h.fault g.lexes h.first)
+one_fault lex text p p' k k' (inl h) (inr (inr (inr g))) = absurd (lex.never_both text g.items h.fault g.lexes h.first)
 one_fault lex text p p' k k' (inr (inl h)) (inl g) = absurd (lex.never_both text h.items g.fault h.lexes g.first)
 one_fault lex text p p' k k' (inr (inl h)) (inr (inl g)) =
     (one_beyond g.items p p' (subst (λ (xs : List Item). IsFirstBeyond xs p) (lex.items text h.items g.items h.lexes g.lexes) h.first) g.first, h.reported ∙ sym g.reported)
-one_fault lex text p p' k k' (inr (inl h)) (inr (inr g)) = absurd (not_within g.items p (subst (λ (xs : List Item). IsFirstBeyond xs p) (lex.items text h.items g.items h.lexes g.lexes) h.first) g.within)
-one_fault lex text p p' k k' (inr (inr h)) (inl g) = absurd (lex.never_both text h.items g.fault h.lexes g.first)
-one_fault lex text p p' k k' (inr (inr h)) (inr (inl g)) = absurd (not_within h.items p' (subst (λ (xs : List Item). IsFirstBeyond xs p') (lex.items text g.items h.items g.lexes h.lexes) g.first) h.within)
-one_fault lex text p p' k k' (inr (inr h)) (inr (inr g)) = (h.start ∙ sym g.start, h.reported ∙ sym g.reported)
+one_fault lex text p p' k k' (inr (inl h)) (inr (inr (inl g))) = absurd (not_within g.items p (subst (λ (xs : List Item). IsFirstBeyond xs p) (lex.items text h.items g.items h.lexes g.lexes) h.first) g.within)
+one_fault lex text p p' k k' (inr (inl h)) (inr (inr (inr g))) = absurd (not_within g.items p (subst (λ (xs : List Item). IsFirstBeyond xs p) (lex.items text h.items g.items h.lexes g.lexes) h.first) g.within)
+one_fault lex text p p' k k' (inr (inr (inl h))) (inl g) = absurd (lex.never_both text h.items g.fault h.lexes g.first)
+one_fault lex text p p' k k' (inr (inr (inr h))) (inl g) = absurd (lex.never_both text h.items g.fault h.lexes g.first)
+one_fault lex text p p' k k' (inr (inr (inl h))) (inr (inl g)) = absurd (not_within h.items p' (subst (λ (xs : List Item). IsFirstBeyond xs p') (lex.items text g.items h.items g.lexes h.lexes) g.first) h.within)
+one_fault lex text p p' k k' (inr (inr (inr h))) (inr (inl g)) = absurd (not_within h.items p' (subst (λ (xs : List Item). IsFirstBeyond xs p') (lex.items text g.items h.items g.lexes h.lexes) g.first) h.within)
+one_fault lex text p p' k k' (inr (inr (inl h))) (inr (inr (inl g))) =
+    (lex.stop text g.items p p' (subst (λ (xs : List Item). IsNoUnitAt text xs p) (lex.items text h.items g.items h.lexes g.lexes) h.stops) g.stops, h.reported ∙ sym g.reported)
+one_fault lex text p p' k k' (inr (inr (inl h))) (inr (inr (inr g))) = absurd (no_unit lex text p h.items g.items h.lexes g.lexes h.stops g.unit)
+one_fault lex text p p' k k' (inr (inr (inr h))) (inr (inr (inl g))) = absurd (no_unit lex text p' g.items h.items g.lexes h.lexes g.stops h.unit)
+one_fault lex text p p' k k' (inr (inr (inr h))) (inr (inr (inr g))) = (h.start ∙ sym g.start, h.reported ∙ sym g.reported)
 
 -- ---- sound sources
 
 record Sound (text : List ℕ) (at : ℕ) (name : List ℕ) : Type 0 where
   pub asked : IsAsked text at name
   pub tree : Tree
-  pub shallow : IsShallow text
+  pub unit : IsUnitText text
   pub reads : ReadsSound text tree
 
 sound_of : (text : List ℕ) (at : ℕ) (name : List ℕ) (u : Tree) (d : ℕ) → HasTarget text at name u d → Sound text at name
-sound_of text at name u d h = record { asked = h.asked; tree = u; shallow = h.shallow; reads = h.reads }
+sound_of text at name u d h = record { asked = h.asked; tree = u; unit = h.unit; reads = h.reads }
 
 sound_target : (text : List ℕ) (at : ℕ) (name : List ℕ) → Refuses text at name refusal.bad_target → Sound text at name
-sound_target text at name h = record { asked = h.1.0; tree = h.0; shallow = h.1.1; reads = h.1.2 }
+sound_target text at name h = record { asked = h.1.0; tree = h.0; unit = h.1.1; reads = h.1.2 }
 
 -- a sound source has no fault
 no_fault : (lex : Lexing) (text : List ℕ) (at : ℕ) (name : List ℕ) (p : ℕ) (k : SourceKind) → Sound text at name → HasSourceFault text p k → ⊥
 no_fault lex text at name p k s (inl h) = lex.never_both text s.reads.reads.items h.fault s.reads.reads.lexes h.first
-no_fault lex text at name p k s (inr (inl h)) = not_within h.items p h.first (s.shallow h.items h.lexes)
-no_fault lex text at name p k s (inr (inr h)) = h.no_source s.tree s.reads
+no_fault lex text at name p k s (inr (inl h)) = not_within h.items p h.first (s.unit.shallow h.items h.lexes)
+no_fault lex text at name p k s (inr (inr (inl h))) = no_unit lex text p h.items h.items h.lexes h.lexes h.stops (s.unit.unit h.items h.lexes)
+no_fault lex text at name p k s (inr (inr (inr h))) = h.no_source s.tree s.reads
 
 -- ---- targets
 

@@ -16,7 +16,9 @@ use Rattle.jr_small.specs.Machine.{read}
 use Rattle.jr_small.specs.Placed.{AreItemsFrom, Stand}
 use Rattle.jr_small.specs.Exact.{IsMonotone}
 use Rattle.jr_small.specs.View.{occurrence_of, all_of}
-use Rattle.jr_small.specs.Answer.{IsShallow, HasSourceFault}
+use Rattle.jr_grammar.specs.Tokens.{tokens_of}
+use Rattle.jr_punit.specs.Parsing.{AreUnit}
+use Rattle.jr_small.specs.Answer.{IsUnitText, HasSourceFault}
 use Rattle.jr_small.specs.Readings.{AreNamesOf}
 use Rattle.jr_small.proofs.Reading.{Spells, read_spells, read_none, spelled_alike}
 use Rattle.jr_small.proofs.Reached.{lexes_from}
@@ -60,28 +62,33 @@ pub record HasItems (text : List ℕ) (items : List Item) : Type 0 where
   pub lexes : Lexes text items
   pub only : (others : List Item) → Lexes text others → others ≡ items
   pub within : AreWithin items
+  pub unit : AreUnit (tokens_of text items)
 
-pub is_shallow : (text : List ℕ) (items : List Item) → HasItems text items → IsShallow text
-is_shallow text items h others l = subst AreWithin (sym (h.only others l)) h.within
+pub is_unit_text : (text : List ℕ) (items : List Item) → HasItems text items → IsUnitText text
+is_unit_text text items h = record {
+  shallow = λ others l. subst AreWithin (sym (h.only others l)) h.within;
+  unit = λ others l. subst (λ (is : List Item). AreUnit (tokens_of text is)) (sym (h.only others l)) h.unit;
+}
 
 pub names_read : (text : List ℕ) (items : List Item) (all : List raw.Occurrence) → HasItems text items → HasNames text items all → IsSound (all_of text all) → AreNamesOf text all
 names_read text items all i h s = record {
   tree = h.tree;
-  shallow = is_shallow text items i;
+  unit = is_unit_text text items i;
   reads = record { reads = record { items = items; lexes = i.lexes; spelled = h.spelled }; sound = subst IsSound (sym h.names) s };
   names = h.names;
   stands = h.stands;
 }
 
 unbuilt : (text : List ℕ) (items : List Item) → HasItems text items → ((u : Tree) → pieces_of text items ≡ spell u → IsSound (occurrences u) → ⊥) → HasSourceFault text 0 Unbuilt
-unbuilt text items i none = inr (inr (record {
+unbuilt text items i none = inr (inr (inr (record {
   items = items;
   lexes = i.lexes;
   within = i.within;
+  unit = i.unit;
   no_source = λ u r. none u (ap (pieces_of text) (sym (i.only r.reads.items r.reads.lexes)) ∙ r.reads.spelled) r.sound;
   start = refl;
   reported = refl;
-}))
+})))
 
 pub unread : (text : List ℕ) (items : List Item) (found : Option (Vec raw.Occurrence Global)) → HasItems text items → found ≡ None → option_map (λ (v : Vec raw.Occurrence Global). all_of text v.items) found ≡ read (pieces_of text items) → HasSourceFault text 0 Unbuilt
 unread text items found i e r = unbuilt text items i (λ u s _. read_none (pieces_of text items) (sym r ∙ ap (option_map (shown text)) e) u s)

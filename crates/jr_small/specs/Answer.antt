@@ -11,6 +11,8 @@ use Rattle.jr_lex.specs.declared.faults.LexFault.TheVariants as lexical
 use Rattle.jr_lex.specs.Lexes.{Lexes, IsFirstFault}
 use Rattle.jr_lex.specs.Depth.{IsFirstBeyond, AreWithin}
 use Rattle.jr_lex.specs.Replacing.{IsName}
+use Rattle.jr_grammar.specs.Tokens.{tokens_of}
+use Rattle.jr_punit.specs.Parsing.{AreUnit, IsNoUnitAt}
 use Rattle.jr_small.specs.declared.occurrences.Role.TheVariants.{Class, Field, Method}
 use Rattle.jr_small.specs.declared.refusals.SourceKind.{SourceKind}
 use Rattle.jr_small.specs.declared.refusals.SourceKind.TheVariants as kind
@@ -42,6 +44,11 @@ pub record ReadsSound (text : List ℕ) (u : Tree) : Type 0 where
 -- it stays within the limits of depth and length
 abbrev pub IsShallow : List ℕ → Type 0
 IsShallow text = (items : List Item) → Lexes text items → AreWithin items
+
+-- and its tokens are a compilation unit
+pub record IsUnitText (text : List ℕ) : Type 0 where
+  pub shallow : IsShallow text
+  pub unit : (items : List Item) → Lexes text items → AreUnit (tokens_of text items)
 
 -- ---- declarations as they are reported
 
@@ -100,18 +107,28 @@ pub record IsTooDeep (text : List ℕ) (place : ℕ) (k : SourceKind) : Type 0 w
   pub first : IsFirstBeyond items place
   pub reported : k ≡ kind.Deep
 
+-- or else its tokens are no unit: the place is where reading them stops
+pub record IsNoUnitText (text : List ℕ) (place : ℕ) (k : SourceKind) : Type 0 where
+  pub items : List Item
+  pub lexes : Lexes text items
+  pub within : AreWithin items
+  pub stops : IsNoUnitAt text items place
+  pub reported : k ≡ kind.Syntax
+
 -- or else it is no sound small source
 pub record IsUnbuilt (text : List ℕ) (place : ℕ) (k : SourceKind) : Type 0 where
   pub items : List Item
   pub lexes : Lexes text items
   pub within : AreWithin items
+  pub unit : AreUnit (tokens_of text items)
   pub no_source : (u : Tree) → ReadsSound text u → ⊥
   pub start : place ≡ 0
   pub reported : k ≡ kind.Unbuilt
 
 abbrev pub HasSourceFault : List ℕ → ℕ → SourceKind → Type 0
 HasSourceFault text place k =
-    HasLexicalFault text place k ⊎ (IsTooDeep text place k ⊎ IsUnbuilt text place k)
+    HasLexicalFault text place k
+    ⊎ (IsTooDeep text place k ⊎ (IsNoUnitText text place k ⊎ IsUnbuilt text place k))
 
 -- ---- lost references
 
@@ -196,7 +213,7 @@ pub record IsAsked (text : List ℕ) (at : ℕ) (name : List ℕ) : Type 0 where
 -- the source, and the declaration that the place means
 pub record HasTarget (text : List ℕ) (at : ℕ) (name : List ℕ) (u : Tree) (d : ℕ) : Type 0 where
   pub asked : IsAsked text at name
-  pub shallow : IsShallow text
+  pub unit : IsUnitText text
   pub reads : ReadsSound text u
   pub target : IsTarget (occurrences u) at d
 
@@ -237,7 +254,7 @@ Refuses text at name refusal.bad_name =
 Refuses text at name (refusal.source_error place k) =
     IsAsked text at name × HasSourceFault text place k
 Refuses text at name refusal.bad_target =
-    (u : Tree) × (IsAsked text at name × IsShallow text × ReadsSound text u)
+    (u : Tree) × (IsAsked text at name × IsUnitText text × ReadsSound text u)
     × ((d : ℕ) → IsTarget (occurrences u) at d → ⊥)
 Refuses text at name (refusal.clash with) = IsClash text at name with
 Refuses text at name (refusal.lost_binding place declaration found) =

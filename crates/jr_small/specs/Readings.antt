@@ -7,12 +7,12 @@ use Rattle.jr_small.specs.Placed.{Stand}
 use Rattle.jr_small.specs.Spelling.{Tree}
 use Rattle.jr_small.specs.Occurrence as pure
 use Rattle.jr_small.specs.View.{all_of}
-use Rattle.jr_small.specs.Answer.{ReadsSound, IsShallow, HasSourceFault}
+use Rattle.jr_small.specs.Answer.{ReadsSound, IsUnitText, HasSourceFault}
 
 -- these are the names of the sound source that the text reads as
 pub record AreNamesOf (text : List ℕ) (all : List Occurrence) : Type 0 where
   pub tree : Tree
-  pub shallow : IsShallow text
+  pub unit : IsUnitText text
   pub reads : ReadsSound text tree
   pub names : pure.occurrences tree ≡ all_of text all
   pub stands : Stand text all

@@ -5,6 +5,7 @@ ghost use Rattle.jr_small.specs.Refusal.{Refusal};
 ghost use Rattle.jr_small.specs.Answer.{Grants, Refuses};
 
 use jr_lex::one_answer;
+use jr_punit::unit_has_one_answer;
 
 /// Each request has one answer: it is granted with one text, or refused by one refusal, and never
 /// both.
@@ -17,4 +18,5 @@ pub fn request_has_one_answer()
         → Grants text at name new → Refuses text at name refusal → ⊥ }
 {
     one_answer();
+    unit_has_one_answer();
 }

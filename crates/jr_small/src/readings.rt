@@ -1,8 +1,10 @@
-ghost use Rattle.std.specs.Prelude.{◌≡◌, ℕ, ◌^◌, ◌<◌, List, length, IfOk};
+ghost use Rattle.std.specs.Prelude.{◌≡◌, ℕ, ◌^◌, ◌<◌, List, length, MatchOption, IfOk};
 ghost use Rattle.jr_lex.specs.declared.items.Item.{Item};
 ghost use Rattle.jr_lex.specs.Lexes.{Lexes};
 ghost use Rattle.jr_lex.specs.Answers.{IsFault};
 ghost use Rattle.jr_lex.specs.Depth.{AreWithin};
+ghost use Rattle.jr_grammar.specs.Tokens.{tokens_of};
+ghost use Rattle.jr_punit.specs.Parsing.{AreUnit, IsNoUnitAt};
 ghost use Rattle.jr_small.specs.Readings.{IsReading};
 
 use crate::occurrences::Occurrence;
@@ -10,6 +12,8 @@ use crate::reader::names_of;
 use crate::refusals::SourceKind;
 use crate::sound::is_sound;
 use jr_lex::{Item, LexFault, lex, measure};
+use jr_pexpr::ParseFault;
+use jr_punit::parse_unit;
 use jr_text::Text;
 use std::alloc::{AllocError, Global};
 
@@ -39,6 +43,7 @@ fn source_of(alloc: Global, text: &Text, items: &[Item]) -> Result<Reading, Allo
     requires lexes { Lexes text.now items.now }
     requires only { (others : List Item) → Lexes text.now others → others ≡ items.now }
     requires within { AreWithin items.now }
+    requires unit { AreUnit (tokens_of text.now items.now) }
     requires few { length items.now < 2 ^ 63 }
     ensures { IfOk result (IsReading text.now) }
 {
@@ -49,6 +54,37 @@ fn source_of(alloc: Global, text: &Text, items: &[Item]) -> Result<Reading, Allo
         return Ok(Reading::Source(all));
     }
     Ok(Reading::unbuilt())
+}
+
+/// The byte where the items of a text can be read as no unit; `None` where they are one.
+fn stop_of(alloc: Global, text: &Text, items: &[Item]) -> Result<Option<u32>, AllocError>
+    requires lexes { Lexes text.now items.now }
+    requires within { AreWithin items.now }
+    ensures { IfOk result (λ stop. MatchOption stop
+        (AreUnit (tokens_of text.now items.now)) (IsNoUnitAt text.now items.now)) }
+{
+    match parse_unit(alloc, text, items) {
+        Ok(_) => Ok(None),
+        Err(ParseFault::Syntax { at }) => Ok(Some(at)),
+        Err(ParseFault::Memory) => Err(AllocError),
+    }
+}
+
+/// What a text with these items reads as: it has to be a unit first.
+fn unit_of(alloc: Global, text: &Text, items: &[Item]) -> Result<Reading, AllocError>
+    requires lexes { Lexes text.now items.now }
+    requires only { (others : List Item) → Lexes text.now others → others ≡ items.now }
+    requires within { AreWithin items.now }
+    requires few { length items.now < 2 ^ 63 }
+    ensures { IfOk result (IsReading text.now) }
+{
+    match stop_of(alloc, text, items)? {
+        Some(at) => Ok(Reading::Fault {
+            at,
+            kind: SourceKind::Syntax,
+        }),
+        None => source_of(alloc, text, items),
+    }
 }
 
 /// What is wrong with a text that has no items.
@@ -91,7 +127,7 @@ pub(crate) fn read(alloc: Global, text: &Text) -> Result<Reading, AllocError>
                 at: deep.at,
                 kind: SourceKind::Deep,
             }),
-            Ok(()) => source_of(alloc, text, items.as_slice()),
+            Ok(()) => unit_of(alloc, text, items.as_slice()),
         },
     }
 }

@@ -28,6 +28,8 @@ pub enum SourceKind {
     BadNumber,
     /// It is beyond the limits of depth and length.
     Deep,
+    /// Its tokens are no compilation unit.
+    Syntax,
     /// It is no sound small source.
     Unbuilt,
 }

@@ -1,7 +1,7 @@
 -- Refusals as text.
 use Rattle.std.specs.Prelude.{ℕ, suc, zero, List, [], ◌++◌, codes, decimal}
 use Rattle.jr_small.specs.declared.refusals.SourceKind.{SourceKind}
-use Rattle.jr_small.specs.declared.refusals.SourceKind.TheVariants.{BadByte, OpenComment, OpenString, Escape, BadNumber, Deep, Unbuilt}
+use Rattle.jr_small.specs.declared.refusals.SourceKind.TheVariants.{BadByte, OpenComment, OpenString, Escape, BadNumber, Deep, Syntax, Unbuilt}
 use Rattle.jr_small.specs.Refusal.{Refusal, Declaration, class, field, variable, bad_place, bad_name, source_error, bad_target, clash, lost_binding, too_long}
 
 -- the number of a refusal
@@ -25,6 +25,7 @@ kind_text OpenString = codes "OpenString"
 kind_text Escape = codes "Escape"
 kind_text BadNumber = codes "BadNumber"
 kind_text Deep = codes "Deep"
+kind_text Syntax = codes "Syntax"
 kind_text Unbuilt = codes "Unbuilt"
 
 -- the type of parameter n, counted from 0: each is `int`, with a comma in front of all but the first

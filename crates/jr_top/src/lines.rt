@@ -82,6 +82,7 @@ fn kind_text(kind: SourceKind) -> &'static str
         SourceKind::Escape => "Escape",
         SourceKind::BadNumber => "BadNumber",
         SourceKind::Deep => "Deep",
+        SourceKind::Syntax => "Syntax",
         SourceKind::Unbuilt => "Unbuilt",
     }
 }

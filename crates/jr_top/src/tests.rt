@@ -140,8 +140,8 @@ fn refuses(rt: HostRuntime) -> Result<(), Fail> {
     Ok(())
 }
 
-// Comments that are not closed, and then texts that are no sound source of one class without
-// blocks.
+// Comments that are not closed, texts that are no unit, and then units that are no sound source of
+// one class without blocks.
 #[test]
 fn refuses_sources(rt: HostRuntime) -> Result<(), Fail> {
     let unbuilt = "refused 4 SourceError A.java:0 Unbuilt\n";
@@ -152,6 +152,21 @@ fn refuses_sources(rt: HostRuntime) -> Result<(), Fail> {
             "refused 4 SourceError A.java:8 OpenComment\n",
         ),
         ("/*", 0, "refused 4 SourceError A.java:0 OpenComment\n"),
+        (
+            "class A{int f=1 2;}",
+            6,
+            "refused 4 SourceError A.java:16 Syntax\n",
+        ),
+        (
+            "class A{int f=1;",
+            6,
+            "refused 4 SourceError A.java:16 Syntax\n",
+        ),
+        (
+            "class A{static void m(){if(b)int a=1;}}",
+            33,
+            "refused 4 SourceError A.java:29 Syntax\n",
+        ),
         ("class A{static int f;}class B{static int f;}", 42, unbuilt),
         ("class A{static void m(){{int a=1;}}}", 29, unbuilt),
         (

@@ -11,7 +11,7 @@ use Rattle.jr_small.proofs.readings.source_of.Goals as goal
 pub returns-in_default : goal.returns-in_default
 returns-in_default c =
     subst (IsReading c.args.text.now) (sym c.unbuilt.ensures)
-    (unread c.args.text.now c.args.items.now c.in_ok-all.field-0 (record { lexes = c.requires.lexes; only = c.requires.only; within = c.requires.within }) c.in_default.is (c.in_ok-all.ensures.read c.args.text.now))
+    (unread c.args.text.now c.args.items.now c.in_ok-all.field-0 (record { lexes = c.requires.lexes; only = c.requires.only; within = c.requires.within; unit = c.requires.unit }) c.in_default.is (c.in_ok-all.ensures.read c.args.text.now))
 
 pub is_sound-requires-clause-some : goal.is_sound-requires-clause-some
 is_sound-requires-clause-some c =
@@ -33,7 +33,7 @@ pub returns-then-branch : goal.returns-then-branch
 returns-then-branch c =
     let h = has_names c.args.text.now c.args.items.now c.in_ok-all.field-0 c.in-Some.all c.requires.lexes c.in-Some.is (c.in_ok-all.ensures.read c.args.text.now) c.in_ok-all.ensures.stand in
     let sound = subst (λ (text : List ℕ). IsSound (all_of text c.as_slice.result.now)) c.as_str.ensures.whole (c.in_ok-is_sound.ensures.0 c.if-branch.true) in
-    names_read c.args.text.now c.args.items.now c.in-Some.all.items (record { lexes = c.requires.lexes; only = c.requires.only; within = c.requires.within }) h
+    names_read c.args.text.now c.args.items.now c.in-Some.all.items (record { lexes = c.requires.lexes; only = c.requires.only; within = c.requires.within; unit = c.requires.unit }) h
     (subst (λ (os : List Occurrence). IsSound (all_of c.args.text.now os)) c.as_slice.ensures.value sound)
 
 pub returns : goal.returns
@@ -42,4 +42,4 @@ returns c =
     let back : IsSound (all_of c.args.text.now c.in-Some.all.items) → IsSound (all_of c.as_str.result.now c.as_slice.result.now) =
     λ s. subst (λ (text : List ℕ). IsSound (all_of text c.as_slice.result.now)) (sym c.as_str.ensures.whole) (subst (λ (os : List Occurrence). IsSound (all_of c.args.text.now os)) (sym c.as_slice.ensures.value) s) in
     subst (IsReading c.args.text.now) (sym c.unbuilt-2.ensures)
-    (unsound c.args.text.now c.args.items.now c.in-Some.all.items (record { lexes = c.requires.lexes; only = c.requires.only; within = c.requires.within }) h (λ s. let bad : false ≡ true = sym c.if-branch.false ∙ c.in_ok-is_sound.ensures.1 (back s) in cc))
+    (unsound c.args.text.now c.args.items.now c.in-Some.all.items (record { lexes = c.requires.lexes; only = c.requires.only; within = c.requires.within; unit = c.requires.unit }) h (λ s. let bad : false ≡ true = sym c.if-branch.false ∙ c.in_ok-is_sound.ensures.1 (back s) in cc))
