@@ -63,7 +63,8 @@ pub fn marks_are_spans()
 /// the stop, or the place of the fault, and never both.
 pub fn one_answer()
     ensures expressions { OneAnswer IsExpressionFrom IsNoExpressionFrom }
-    ensures statement_expressions { OneAnswer IsStatementExpressionFrom IsNoStatementExpressionFrom }
+    ensures statement_expressions { OneAnswer IsStatementExpressionFrom
+        IsNoStatementExpressionFrom }
 {
     readings_are_one();
     one_marked_expression();
