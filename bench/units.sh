@@ -1,0 +1,66 @@
+#!/usr/bin/env bash
+# How long a compilation unit takes to be read, outside the gate: bench/units.sh JREF, where JREF is the built program.
+#
+# The words ask for a rename in a file that is a unit, but not in the small language. It is read, lexed, measured and
+# parsed whole, its tree is dropped, and it is refused at its first token that doesn't fit. The same words over an empty
+# class say how long the rest takes. Four shapes at three sizes; javac's parser reads the same files.
+set -eu
+jref=$(realpath "$1")
+here=$(cd "$(dirname "$0")" && pwd)
+work=$(mktemp -d)
+trap 'rm -rf "$work"' EXIT
+cd "$work"
+
+# A file of at most so many bytes: what stands in front, pieces with their number in place of #, what stands behind.
+file() {
+    awk -v most="$2" -v front="$3" -v piece="$4" -v behind="$5" -v times="$6" 'BEGIN {
+        printf "%s", front
+        so_far = length(front) + length(behind)
+        for (i = 0; i < times; i++) {
+            text = piece
+            gsub(/#/, i, text)
+            if (so_far + length(text) > most) break
+            so_far += length(text)
+            printf "%s", text
+        }
+        printf "%s", behind
+    }' > "$1"
+}
+
+best() {
+    local least=999999999 before after spent
+    for _ in 1 2 3 4 5 6 7 8 9 10; do
+        before=$(date +%s%N)
+        "$@" > out.txt 2>&1 || true
+        after=$(date +%s%N)
+        spent=$(((after - before) / 1000))
+        [ "$spent" -lt "$least" ] && least=$spent
+    done
+    echo "$least"
+}
+
+repeat() { printf "%${2}s" "" | sed "s/ /$1/g"; }
+
+printf 'class A{int f=1;}' > Small.java
+for size in 65536 262144 1048576; do
+    file "members$size.java" $size "class A{" \
+        "int f#=#;int m#(int a,A b){int c=a+b.f#*#;if(c<a)return c-1;b.m#(a,this);return c;}" "}" 1000000
+    file "method$size.java" $size "class A{void m(int a){" "int v#=(a+#)*3-a;a=v#;m(a-#);" "}}" 1000000
+    file "blocks$size.java" $size "class A{void m(int a){" \
+        "$(repeat 'while(a<#){' 90)a=a+#;$(repeat '}' 90)" "}}" 1000000
+    branch="if(a<#){$(repeat 'a=a+#*2;' $((size / 5200)))}else "
+    file "else$size.java" $size "class A{void m(int a){" "$branch" ";}}" 499
+done
+
+echo "cores: $(nproc)"
+echo "jref over a small class: $(best "$jref" rename Small.java 0 b) microseconds: $(cat out.txt)"
+for shape in members method blocks else; do
+    for size in 65536 262144 1048576; do
+        name=$shape$size.java
+        echo "jref over $name, $(wc -c < $name) bytes: $(best "$jref" rename $name 0 b) microseconds: $(cat out.txt)"
+    done
+done
+if command -v javac > javac.txt; then
+    javac -proc:none -d parser "$here/Parse.java"
+    java -Xss64m -cp parser Parse members*.java method*.java blocks*.java else*.java
+fi
