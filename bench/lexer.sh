@@ -31,17 +31,7 @@ awk 'BEGIN {
 }' > Big.java
 printf '{}' > Small.java
 
-best() {
-    local least=999999999 before after spent
-    for _ in 1 2 3 4 5 6 7 8 9 10; do
-        before=$(date +%s%N)
-        "$@" > out.txt 2>&1 || true
-        after=$(date +%s%N)
-        spent=$(((after - before) / 1000))
-        [ "$spent" -lt "$least" ] && least=$spent
-    done
-    echo "$least"
-}
+. "$here/best.sh"
 
 echo "cores: $(nproc)"
 echo "bytes: $(wc -c < Big.java)"
