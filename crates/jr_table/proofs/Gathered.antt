@@ -67,7 +67,7 @@ module _ (rows : List Row) where
   stand from n [] h = tt
   stand from n (k ∷ ks) (j, le, r, more) = (j, le, r, stand (suc j) n ks more)
 
-  method_row : (j : ℕ) (m : MethodKey) → method_at rows j ≡ Some m → IsRowOf rows (method_decl m) j
+  pub method_row : (j : ℕ) (m : MethodKey) → method_at rows j ≡ Some m → IsRowOf rows (method_decl m) j
   method_row j m h = by (slice_get rows j) refl h
     where
       is : (d : Decl) → method_of d ≡ Some m → d ≡ method_decl m
@@ -81,7 +81,7 @@ module _ (rows : List Row) where
       by None is' h = absurd cc
       by (Some r) is' h = record { row = r; stands = is'; declares = is r.decl h }
 
-  row_method : (j : ℕ) (m : MethodKey) → IsRowOf rows (method_decl m) j → method_at rows j ≡ Some m
+  pub row_method : (j : ℕ) (m : MethodKey) → IsRowOf rows (method_decl m) j → method_at rows j ≡ Some m
   row_method j m r = ap (option_and_then (λ (x : Row). method_of x.decl)) r.stands ∙ ap method_of r.declares
 
   -- a member method of the name is a method's row

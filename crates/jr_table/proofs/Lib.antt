@@ -39,3 +39,9 @@ pub mod TypeTests
 pub mod Breaking
 pub mod DeclarationTests
 pub mod Noting
+pub mod Walking
+pub mod ClassLaws
+pub mod SameMaps
+pub mod MemberWalk
+pub mod WantedPlaces
+pub mod MethodPlaces

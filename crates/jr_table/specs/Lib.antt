@@ -23,7 +23,6 @@ pub mod Faults
 pub mod ProgramRows
 pub mod Looking
 pub mod Sample
-pub mod Sought
 pub mod Keeps
 pub mod Wanted
 pub mod Virtual
@@ -51,3 +50,5 @@ pub mod HeadNotes
 pub mod Walks
 pub mod BindingLaws
 pub mod TypesAt
+pub mod ClassIndex
+pub mod MemberIndex

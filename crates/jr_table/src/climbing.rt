@@ -45,7 +45,7 @@ impl Table {
         ensures { result ≡ own_row (entries_of self.now) (passes wanted.now) class }
     {
         self.keeps_rows();
-        first_wanted(self.entries(), class, wanted)
+        first_wanted(self.members(), self.entries(), class, wanted)
     }
 
     /// The row that declares what is looked for in the nearest class upwards.

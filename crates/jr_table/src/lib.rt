@@ -3,6 +3,7 @@
 
 mod answers;
 mod binding_laws;
+mod class_index;
 mod classes;
 mod climbing;
 mod copies;
@@ -14,8 +15,10 @@ mod found;
 mod keys;
 mod kinds;
 mod lookup_laws;
+mod member_index;
 mod members;
 mod method_lists;
+mod method_number;
 mod numbering;
 mod overloads;
 mod prelude_rows;
@@ -23,7 +26,6 @@ mod rows;
 mod rules;
 #[cfg(test)]
 mod sample;
-mod sought;
 mod table_kinds;
 mod tables;
 #[cfg(test)]
