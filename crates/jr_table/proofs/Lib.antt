@@ -45,3 +45,9 @@ pub mod SameMaps
 pub mod MemberWalk
 pub mod WantedPlaces
 pub mod MethodPlaces
+pub mod SameKinds
+pub mod GatherLaws
+pub mod GatherWalk
+pub mod InOrder
+pub mod CollectWalk
+pub mod CtorPlaces

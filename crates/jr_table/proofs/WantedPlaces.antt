@@ -17,7 +17,7 @@ use Rattle.jr_table.proofs.Testing.{and_both, and_true, sort_is, number_is}
 placed : (e : Entry) (c : ℕ) (name : List ℕ) → owner_by e.sort e.class e.outer ≡ Some c → bytes_eq e.name name ≡ true → is_at c name (member_place e) ≡ true
 placed e c name owner named = and_true _ _ (ap (λ o. is_owner o c) owner ∙ eq-eqb c c (λ i. c)) named
 
-method_placed : (name : List ℕ) (params : List Kind) (c : ℕ) (e : Entry) → is_method name params c e ≡ true → is_at c name (member_place e) ≡ true
+pub method_placed : (name : List ℕ) (params : List Kind) (c : ℕ) (e : Entry) → is_method name params c e ≡ true → is_at c name (member_place e) ≡ true
 method_placed name params c e h =
     let s = and_both (is_sort e.sort sort.Method && (e.class == c) && bytes_eq e.name name) (same_kinds e.params params) h in
     let a = and_both (is_sort e.sort sort.Method && (e.class == c)) (bytes_eq e.name name) s.0 in

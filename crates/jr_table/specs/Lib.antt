@@ -52,3 +52,4 @@ pub mod BindingLaws
 pub mod TypesAt
 pub mod ClassIndex
 pub mod MemberIndex
+pub mod Gathering

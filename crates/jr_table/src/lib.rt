@@ -12,6 +12,7 @@ mod entries;
 mod facts;
 mod first_wanted;
 mod found;
+mod gathering;
 mod keys;
 mod kinds;
 mod lookup_laws;
@@ -26,6 +27,7 @@ mod rows;
 mod rules;
 #[cfg(test)]
 mod sample;
+mod signatures;
 mod table_kinds;
 mod tables;
 #[cfg(test)]
