@@ -50,4 +50,5 @@ pub mod Notes
 pub mod HeadNotes
 pub mod Walks
 pub mod BindingLaws
+pub mod NotingLaws
 pub mod TypesAt
