@@ -54,3 +54,5 @@ pub mod BreakingDeclarations
 pub mod BindingDeclarations
 pub mod Everywhere
 pub mod MemberNotes
+pub mod ErrorOrder
+pub mod ErrorLaws

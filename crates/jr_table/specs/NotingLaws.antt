@@ -12,10 +12,20 @@ use Rattle.jr_table.specs.LookupLaws.{KeysAreFound}
 use Rattle.jr_table.specs.Context.{Context}
 use Rattle.jr_table.specs.StatementRules.{StmtBreaks, ListBreaks, StmtBindsItself}
 use Rattle.jr_table.specs.HeadRules.{HeadRefers, HeadBreaks, DeclarationRefers, DeclarationBreaks}
-use Rattle.jr_table.specs.Errors.{Part, Breaks, Binds}
+use Rattle.jr_table.specs.Errors.{
+  Part,
+  part_mark,
+  Breaks,
+  Binds,
+  Error,
+  AreInOrder,
+  Among,
+  AreErrors,
+}
 use Rattle.jr_table.specs.Notes.{Note, refers, breaks, Has, own_stmt_notes, list_notes}
 use Rattle.jr_table.specs.HeadNotes.{head_notes, declaration_notes}
 use Rattle.jr_table.specs.Walks.{part_notes}
+use Rattle.jr_table.specs.ErrorLists.{AreSorted, each_once, errors_of_log}
 use Rattle.jr_table.specs.declared.rules.Rule.{Rule}
 
 module _ {A : Type 0} (begins : A → ℕ → ℕ) where
@@ -84,3 +94,22 @@ abbrev pub PartsAreNoted : Type 0 → Type 0
 PartsAreNoted A = (begins : A → ℕ → ℕ) (rows : List Row) → AreRows rows → KeysAreFound rows
     → (super_at : ℕ) (k : MemberKey) (base : ℕ) (part : Part A)
     → PartIsNoted begins rows super_at k base part
+
+-- The errors of a log, with places counted from a first byte. What a sort and one walk make of the
+-- same errors in any order is that list.
+pub record AreErrorsOfLogs : Type 0 where
+  pub told : (start : ℕ) (log : List Note)
+      → AreErrors (λ e. Has log (breaks (start + e.at) e.rule)) (errors_of_log start log)
+  pub walked : (es : List Error) → AreSorted es → AreInOrder (each_once es)
+  pub same : (es : List Error) (e : Error) → Among (each_once es) e ↔ Among es e
+  -- two lists in order that have the same errors are one
+  pub only : (es fs : List Error) → AreInOrder es → AreInOrder fs
+      → ((e : Error) → Among es e ↔ Among fs e) → es ≡ fs
+
+-- the errors of a member, or of the head of a class, with places counted from its first byte
+abbrev pub PartsHaveErrors : Type 0 → Type 0
+PartsHaveErrors A = (begins : A → ℕ → ℕ) (rows : List Row) → AreRows rows → KeysAreFound rows
+    → (super_at : ℕ) (k : MemberKey) (base : ℕ) (part : Part A)
+    → AreErrors (λ e. Breaks begins rows super_at k base part (begins (part_mark part) base + e.at)
+    e.rule)
+    (errors_of_log (begins (part_mark part) base) (part_notes begins rows super_at k base part))

@@ -45,7 +45,8 @@ pub use keys::{CtorKey, FieldKey, MethodKey};
 pub use kinds::DeclKind;
 pub use lookup_laws::lookups_are_exact;
 pub use noting_laws::{
-    declarations_are_noted, heads_are_noted, lists_are_noted, parts_are_noted, statements_are_noted,
+    declarations_are_noted, errors_are_told, heads_are_noted, lists_are_noted, parts_are_noted,
+    parts_have_errors, statements_are_noted,
 };
 pub use prelude_rows::prelude;
 pub use rows::{Mods, Row};

@@ -5,6 +5,8 @@ ghost use Rattle.jr_table.specs.NotingLaws.{
   HeadsAreNoted,
   DeclarationsAreNoted,
   PartsAreNoted,
+  AreErrorsOfLogs,
+  PartsHaveErrors,
 };
 
 use jr_text::Mark;
@@ -35,4 +37,15 @@ pub fn declarations_are_noted<A: Mark>()
 /// place, and what each reference is bound to, and nothing else.
 pub fn parts_are_noted<A: Mark>()
     ensures parts { PartsAreNoted A }
+{}
+
+/// The errors of a log are told by place and rule, each once, and no others. A sort and one walk make
+/// that list, whatever the order in which they were noted.
+pub fn errors_are_told()
+    ensures errors { AreErrorsOfLogs }
+{}
+
+/// The errors of a whole member, or of the head of a class, are those of its log.
+pub fn parts_have_errors<A: Mark>()
+    ensures errors { PartsHaveErrors A }
 {}

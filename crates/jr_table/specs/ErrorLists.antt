@@ -1,0 +1,65 @@
+-- Exact: the errors of a log, by place and rule, each once; by a sort and one walk.
+use Rattle.std.specs.Prelude.{
+  ◌≡◌,
+  ℕ,
+  ◌-◌,
+  ◌<◌,
+  List,
+  [],
+  ◌∷◌,
+  ◌++◌,
+  Bool,
+  ◌&&◌,
+  ◌||◌,
+  nat_lt,
+  ◌==◌,
+  ◌⊎◌,
+  if◌then◌else◌,
+}
+use Rattle.jr_table.specs.Errors.{Error, ComesBefore, rule_rank}
+use Rattle.jr_table.specs.Notes.{Note, refers, breaks}
+
+-- The error that a note tells, its place counted from `start`. No rule is broken before the first
+-- byte of a member; what would stand there is left out.
+abbrev pub error_of : (start : ℕ) → Note → List Error
+error_of start (refers at d) = []
+error_of start (breaks at r) =
+    if nat_lt at start then [] else record { at = at - start; rule = r } ∷ []
+
+abbrev pub errors_in : (start : ℕ) → List Note → List Error
+errors_in start [] = []
+errors_in start (n ∷ ns) = error_of start n ++ errors_in start ns
+
+abbrev pub comes_before : Error → Error → Bool
+comes_before e f =
+    nat_lt e.at f.at || ((e.at == f.at) && nat_lt (rule_rank e.rule) (rule_rank f.rule))
+
+abbrev pub same_error : Error → Error → Bool
+same_error e f = (e.at == f.at) && (rule_rank e.rule == rule_rank f.rule)
+
+-- each comes before the next one, or is the same
+abbrev pub AreSorted : List Error → Type 0
+AreSorted [] = Unit {0}
+AreSorted (e ∷ []) = Unit {0}
+AreSorted (e ∷ f ∷ es) = ((e ≡ f) ⊎ ComesBefore e f) × AreSorted (f ∷ es)
+
+-- an error put in front of the first that doesn't come before it
+abbrev pub put : Error → List Error → List Error
+put e [] = e ∷ []
+put e (x ∷ xs) = if comes_before x e then x ∷ put e xs else e ∷ x ∷ xs
+
+abbrev pub sorted : List Error → List Error
+sorted [] = []
+sorted (e ∷ es) = put e (sorted es)
+
+-- the last one that was kept, and of those behind it each that isn't the one kept before it
+abbrev pub kept : Error → List Error → List Error
+kept e [] = e ∷ []
+kept e (x ∷ xs) = if same_error e x then kept e xs else e ∷ kept x xs
+
+abbrev pub each_once : List Error → List Error
+each_once [] = []
+each_once (e ∷ es) = kept e es
+
+unfoldable pub errors_of_log : (start : ℕ) → List Note → List Error
+errors_of_log start ns = each_once (sorted (errors_in start ns))
