@@ -12,9 +12,9 @@ use Rattle.jr_table.specs.Found.{Found, one}
 use Rattle.jr_table.specs.LookupLaws.{KeysAreFound}
 use Rattle.jr_table.specs.Binding.{Sought, TypeRefers, SuperCtorFinds}
 use Rattle.jr_table.specs.Binding as sought
-use Rattle.jr_table.specs.HeadRules.{plain, with_parameters, is_static_member, ParamsRefer, MaybeTypeRefers, DeclarationRefers}
+use Rattle.jr_table.specs.HeadRules.{plain, with_parameters, is_static_member, ParamsRefer, DeclarationRefers}
 use Rattle.jr_table.specs.Meanings.{type_of, type_of_decl, reference, type_references}
-use Rattle.jr_table.specs.Notes.{Note, refers, breaks, Has, reference_notes, when, unless, suits, list_completes, is_object_method}
+use Rattle.jr_table.specs.Notes.{Note, refers, breaks, Has, when, suits, list_completes, is_object_method}
 use Rattle.jr_table.specs.HeadNotes.{overrides_badly, lacks_super_ctor, override_notes, declared_notes, param_references, result_references, init_notes, missing_return_notes, super_notes, declaration_notes}
 use Rattle.jr_table.proofs.RowTypes.{chain}
 use Rattle.jr_table.proofs.Referring.{type_iff}

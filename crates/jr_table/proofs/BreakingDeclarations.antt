@@ -1,37 +1,32 @@
 -- Rules that the declaration of a member breaks, and what its references are bound to: what is noted is what the relations say.
-use Rattle.std.proofs.Common.{◌≡◌, ℕ, List, [], ◌∷◌, ◌++◌, Option, Some, None, Bool, true, false, refl, sym, ap, subst, ◌∙◌, inl, inr}
+use Rattle.std.proofs.Common.{◌≡◌, ℕ, List, [], ◌∷◌, ◌++◌, Option, Some, None, true, false, refl, sym, subst, inl, inr}
 use Rattle.std.specs.Prelude.{◌⊎◌, ◌↔◌}
-use Rattle.std.specs.List.{list_any}
-use Rattle.std.specs.Str.{bytes_eq}
 use Rattle.jr_ast.specs.Tree as tree
 use Rattle.jr_ast.specs.StatementTree as statement
 use Rattle.jr_ast.specs.MemberTree as syntax
 use Rattle.jr_ast.specs.Marks.{exp_mark}
-use Rattle.jr_table.specs.Keys.{ClassKey, MethodKey}
 use Rattle.jr_table.specs.Decls.{MemberKey, head, field, method, constructor, Decl, field_decl}
 use Rattle.jr_table.specs.Rows.{Row}
 use Rattle.jr_table.specs.Conditions.{AreRows}
 use Rattle.jr_table.specs.Found.{Found, one, nothing, many, not_accessible, from_static}
-use Rattle.jr_table.specs.Lookup.{find_ctor_of}
-use Rattle.jr_table.specs.LookupLaws.{Decided, KeysAreFound}
-use Rattle.jr_table.specs.Context.{Context, scope_of, IsTypeOf, IsSuperclass}
+use Rattle.jr_table.specs.LookupLaws.{KeysAreFound}
+use Rattle.jr_table.specs.Context.{Context, IsTypeOf}
 use Rattle.jr_table.specs.Binding.{HasType, HaveTypes, FindsIn, Sought, type, TypeRefers, SuperCtorFinds}
 use Rattle.jr_table.specs.Binding as sought
 use Rattle.jr_table.specs.ExpressionRules.{Suits, IsObjectMethod}
 use Rattle.jr_table.specs.Completing.{ListCompletes}
-use Rattle.jr_table.specs.HeadRules.{plain, with_parameters, is_static_member, LacksSuperCtor, OverridesBadly, ParamsRefer, MaybeTypeRefers, WrittenSuperFinds, DeclarationRefers, SuperNoMethod, SuperAmbiguous, DeclarationPrivate, FieldMismatches, MissingReturn, Override, CtorSuperCtor, ObjectMethodDeclared, DeclarationBreaks}
-use Rattle.jr_table.specs.Meanings.{type_of, types_of, type_of_decl, find_for, own_superclass, ctor_found, Reference, reference, InReferences, type_references}
-use Rattle.jr_table.specs.Notes.{Note, refers, breaks, Has, reference_notes, when, unless, suits, list_completes, is_object_method}
-use Rattle.jr_table.specs.HeadNotes.{overrides_badly, lacks_super_ctor, override_notes, declared_notes, param_references, result_references, init_notes, missing_return_notes, super_notes, declaration_notes}
+use Rattle.jr_table.specs.HeadRules.{plain, with_parameters, is_static_member, LacksSuperCtor, OverridesBadly, ParamsRefer, SuperNoMethod, SuperAmbiguous, DeclarationPrivate, FieldMismatches, MissingReturn, Override, CtorSuperCtor, ObjectMethodDeclared, DeclarationBreaks}
+use Rattle.jr_table.specs.Meanings.{type_of, type_of_decl, Reference, reference, type_references}
+use Rattle.jr_table.specs.Notes.{Note, breaks, Has, reference_notes, suits, list_completes, is_object_method}
+use Rattle.jr_table.specs.HeadNotes.{overrides_badly, lacks_super_ctor, override_notes, declared_notes, param_references, result_references, init_notes, missing_return_notes, declaration_notes}
 use Rattle.jr_table.proofs.RowTypes.{chain, decl_type_iff}
 use Rattle.jr_table.proofs.Typing.{typed}
 use Rattle.jr_table.proofs.DeclarationTests.{object_method_iff}
 use Rattle.jr_table.proofs.TypeTests.{suits_iff}
 use Rattle.jr_table.proofs.Referring.{type_iff}
-use Rattle.jr_table.proofs.Breaking.{two, unless_iff, rule_when, unless_binds_none, when_binds_none}
-use Rattle.jr_table.proofs.BindingNothing.{none_of}
-use Rattle.jr_table.proofs.BreakingReferences.{references_break, references_bind, IsRuleOf}
-use Rattle.jr_table.proofs.TypeNotes.{declared_breaks, declared_binds}
+use Rattle.jr_table.proofs.Breaking.{two, unless_iff, rule_when}
+use Rattle.jr_table.proofs.BreakingReferences.{references_break, IsRuleOf}
+use Rattle.jr_table.proofs.TypeNotes.{declared_breaks}
 use Rattle.jr_table.proofs.DeclaredReferences.{params_iff, MethodRefers, method_iff, written_super, only_super, super_answer}
 use Rattle.jr_table.proofs.FlowTests.{list_test}
 use Rattle.jr_table.proofs.OverrideTests.{overrides_iff}
@@ -110,19 +105,19 @@ module _ {A : Type 0} (begins : A → ℕ → ℕ) (rows : List Row) (super_at :
     abbrev field_init : A → List (syntax.Modifier A) → Option (tree.Exp A) → List Note
     field_init m mods init = init_notes begins rows k (is_static_member begins mods) (begins m base) init
 
-    inits : (j : MemberKey) (m : A) (mods : List (syntax.Modifier A)) (t : tree.TypeName A) (w : tree.Word A) (init : Option (tree.Exp A)) (at : ℕ) (r : Rule)
+    init_iff : (j : MemberKey) (m : A) (mods : List (syntax.Modifier A)) (t : tree.TypeName A) (w : tree.Word A) (init : Option (tree.Exp A)) (at : ℕ) (r : Rule)
         → Has (init_notes begins rows j (is_static_member begins mods) (begins m base) init) (breaks at r) ↔ ((r ≡ rule.TypeMismatch) × FieldMismatches begins rows j base (syntax.field m mods t w init) at)
-    inits (field f) m mods t w (Some e) at r = chain
+    init_iff (field f) m mods t w (Some e) at r = chain
         (unless_iff (suits rows (type_of rows c e) (type_of_decl rows c (field_decl f))) (Suits rows c e (IsTypeOf rows c (field_decl f)))
         (suits_iff rows fit (type_of rows c e) (type_of_decl rows c (field_decl f)) (HasType rows c e) (IsTypeOf rows c (field_decl f)) (typed rows fit found c e) (decl_type_iff rows fit found c (field_decl f))) (begins (exp_mark e) (begins m base)) at rule.TypeMismatch r)
         (λ h. (h.1, (h.0, h.2)), λ h. (h.1.0, h.0, h.1.1))
       where
         c : Context
         c = plain (field f) (is_static_member begins mods)
-    inits (field f) m mods t w None at r = (λ h. absurd h, λ h. h.1)
-    inits (head f) m mods t w init at r = (λ h. absurd h, λ h. h.1)
-    inits (method f) m mods t w init at r = (λ h. absurd h, λ h. h.1)
-    inits (constructor f) m mods t w init at r = (λ h. absurd h, λ h. h.1)
+    init_iff (field f) m mods t w None at r = (λ h. absurd h, λ h. h.1)
+    init_iff (head f) m mods t w init at r = (λ h. absurd h, λ h. h.1)
+    init_iff (method f) m mods t w init at r = (λ h. absurd h, λ h. h.1)
+    init_iff (constructor f) m mods t w init at r = (λ h. absurd h, λ h. h.1)
 
     -- what isn't accessible, of references that are those of a relation
     abbrev Hides : (ℕ → Found → Type 0) → ℕ → Rule → Type 0
@@ -135,7 +130,7 @@ module _ {A : Type 0} (begins : A → ℕ → ℕ) (rows : List Row) (super_at :
         → Has (declaration_notes begins rows super_at k base (syntax.field m mods t w init)) (breaks at r) ↔ DeclarationRule (syntax.field m mods t w init) at r
     field_rules m mods t w init at r = chain
         (two (declared_notes (type_references begins rows (plain k false) (begins m base) t)) (field_init m mods init) (breaks at r) (Hides (FieldRefers m t) at r) ((r ≡ rule.TypeMismatch) × FieldMismatches begins rows k base (syntax.field m mods t w init) at)
-        (declared_breaks (type_references begins rows (plain k false) (begins m base) t) (FieldRefers m t) (type_iff rows fit found (plain k false) begins (begins m base) t) at r) (inits k m mods t w init at r)) (to, back)
+        (declared_breaks (type_references begins rows (plain k false) (begins m base) t) (FieldRefers m t) (type_iff rows fit found (plain k false) begins (begins m base) t) at r) (init_iff k m mods t w init at r)) (to, back)
       where
         to : (Hides (FieldRefers m t) at r ⊎ ((r ≡ rule.TypeMismatch) × FieldMismatches begins rows k base (syntax.field m mods t w init) at)) → DeclarationRule (syntax.field m mods t w init) at r
         to (inl h) = hidden h.0 h.1
@@ -156,20 +151,20 @@ module _ {A : Type 0} (begins : A → ℕ → ℕ) (rows : List Row) (super_at :
     abbrev EndRule : syntax.Member A → ℕ → Rule → Type 0
     EndRule x at r = (r ≡ rule.MissingReturn) × MissingReturn begins rows base x at
 
-    returns_missing : (m : A) (mods : List (syntax.Modifier A)) (t : Option (tree.TypeName A)) (w : tree.Word A) (ps : List (syntax.Param A)) (body : statement.Stmts A) (at : ℕ) (r : Rule)
+    missing_iff : (m : A) (mods : List (syntax.Modifier A)) (t : Option (tree.TypeName A)) (w : tree.Word A) (ps : List (syntax.Param A)) (body : statement.Stmts A) (at : ℕ) (r : Rule)
         → Has (missing_return_notes begins rows (begins w.mark (begins m base)) t body) (breaks at r) ↔ EndRule (syntax.method m mods t w ps body) at r
-    returns_missing m mods None w ps body at r = (λ h. absurd h, λ h. h.1)
-    returns_missing m mods (Some t) w ps body at r = rule_when (list_completes body) (ListCompletes body) (list_test body) (begins w.mark (begins m base)) at rule.MissingReturn r
+    missing_iff m mods None w ps body at r = (λ h. absurd h, λ h. h.1)
+    missing_iff m mods (Some t) w ps body at r = rule_when (list_completes body) (ListCompletes body) (list_test body) (begins w.mark (begins m base)) at rule.MissingReturn r
 
     abbrev UnderRule : MemberKey → syntax.Member A → ℕ → Rule → Type 0
     UnderRule j x at r = (r ≡ rule.Override) × Override begins rows j base x at
 
-    overriding : (j : MemberKey) (m : A) (mods : List (syntax.Modifier A)) (t : Option (tree.TypeName A)) (w : tree.Word A) (ps : List (syntax.Param A)) (body : statement.Stmts A) (at : ℕ) (r : Rule)
+    override_iff : (j : MemberKey) (m : A) (mods : List (syntax.Modifier A)) (t : Option (tree.TypeName A)) (w : tree.Word A) (ps : List (syntax.Param A)) (body : statement.Stmts A) (at : ℕ) (r : Rule)
         → Has (override_notes rows j (begins w.mark (begins m base))) (breaks at r) ↔ UnderRule j (syntax.method m mods t w ps body) at r
-    overriding (method f) m mods t w ps body at r = rule_when (overrides_badly rows f) (OverridesBadly rows f) (overrides_iff rows fit f) (begins w.mark (begins m base)) at rule.Override r
-    overriding (head f) m mods t w ps body at r = (λ h. absurd h, λ h. h.1)
-    overriding (field f) m mods t w ps body at r = (λ h. absurd h, λ h. h.1)
-    overriding (constructor f) m mods t w ps body at r = (λ h. absurd h, λ h. h.1)
+    override_iff (method f) m mods t w ps body at r = rule_when (overrides_badly rows f) (OverridesBadly rows f) (overrides_iff rows fit f) (begins w.mark (begins m base)) at rule.Override r
+    override_iff (head f) m mods t w ps body at r = (λ h. absurd h, λ h. h.1)
+    override_iff (field f) m mods t w ps body at r = (λ h. absurd h, λ h. h.1)
+    override_iff (constructor f) m mods t w ps body at r = (λ h. absurd h, λ h. h.1)
 
     abbrev MemberRefers : A → Option (tree.TypeName A) → List (syntax.Param A) → ℕ → Found → Type 0
     MemberRefers m t ps at f = MethodRefers rows fit found begins (plain k false) (begins m base) t ps at f
@@ -182,8 +177,8 @@ module _ {A : Type 0} (begins : A → ℕ → ℕ) (rows : List Row) (super_at :
     method_rules m mods t w ps body at r = chain
         (two (declared_notes (result_references begins rows (plain k false) (begins m base) t ++ param_references begins rows (plain k false) (begins m base) ps)) _ (breaks at r) (Hides (MemberRefers m t ps) at r) (NameRules x at r)
         (declared_breaks _ (MemberRefers m t ps) (method_iff rows fit found begins (plain k false) (begins m base) t ps) at r)
-        (two (missing_return_notes begins rows here t body) _ (breaks at r) (EndRule x at r) _ (returns_missing m mods t w ps body at r)
-        (two (override_notes rows k here) _ (breaks at r) (UnderRule k x at r) _ (overriding k m mods t w ps body at r)
+        (two (missing_return_notes begins rows here t body) _ (breaks at r) (EndRule x at r) _ (missing_iff m mods t w ps body at r)
+        (two (override_notes rows k here) _ (breaks at r) (UnderRule k x at r) _ (override_iff k m mods t w ps body at r)
         (rule_when (is_object_method w.text) (IsObjectMethod w.text) (object_method_iff w.text) here at rule.ObjectMethod r)))) (to, back)
       where
         here : ℕ

@@ -1,14 +1,14 @@
 -- Rules that the head of a class breaks, and what its superclass's name is bound to: what is noted is what the relations say.
-use Rattle.std.proofs.Common.{◌≡◌, ℕ, List, [], ◌∷◌, ◌++◌, Option, Some, None, Bool, true, false, refl, sym, ap, subst, ◌∙◌, inl, inr}
+use Rattle.std.proofs.Common.{◌≡◌, ℕ, List, [], ◌++◌, Option, Some, None, true, false, refl, sym, subst, inl, inr}
 use Rattle.std.specs.Prelude.{◌⊎◌, ◌↔◌, ◌&&◌, not, is_some, if◌then◌else◌}
 use Rattle.jr_ast.specs.Tree as tree
 use Rattle.jr_ast.specs.MemberTree as syntax
 use Rattle.jr_ast.specs.Marks.{type_mark}
 use Rattle.jr_table.specs.Keys.{ClassKey}
-use Rattle.jr_table.specs.Decls.{MemberKey, head, Decl, class_decl}
+use Rattle.jr_table.specs.Decls.{head, Decl, class_decl}
 use Rattle.jr_table.specs.Rows.{Row}
 use Rattle.jr_table.specs.Conditions.{AreRows}
-use Rattle.jr_table.specs.Entries.{IsRowOf, number_of, top_class}
+use Rattle.jr_table.specs.Entries.{number_of, top_class}
 use Rattle.jr_table.specs.Prelude.{top_key}
 use Rattle.jr_table.specs.Sites.{writes_ctor}
 use Rattle.jr_table.specs.Found.{Found, one, nothing, not_accessible}
@@ -25,7 +25,7 @@ use Rattle.jr_table.proofs.RowTypes.{chain, test_iff, superclass_iff}
 use Rattle.jr_table.proofs.Typing.{in_iff, own_super_iff}
 use Rattle.jr_table.proofs.TypeTests.{and_iff, not_iff}
 use Rattle.jr_table.proofs.DeclarationTests.{found_test, not_false}
-use Rattle.jr_table.proofs.Referring.{none_iff, only_iff, type_iff}
+use Rattle.jr_table.proofs.Referring.{only_iff, type_iff}
 use Rattle.jr_table.proofs.Breaking.{has_append, when_iff, when_binds_none}
 use Rattle.jr_table.proofs.TypeNotes.{declared_breaks, declared_binds}
 use Rattle.jr_table.specs.declared.rules.Rule.{Rule}

@@ -1,5 +1,5 @@
 -- Rules that a statement breaks itself, and what its references are bound to: what is noted is what the relations say, kind by kind.
-use Rattle.std.proofs.Common.{◌≡◌, ◌≢◌, ℕ, List, [], ◌∷◌, ◌++◌, Option, Some, None, Bool, true, false, refl, sym, ap, subst, ◌∙◌, inl, inr}
+use Rattle.std.proofs.Common.{◌≡◌, ◌≢◌, ℕ, List, [], ◌++◌, Option, Some, None, Bool, true, false, refl, sym, ap, subst, ◌∙◌, inl, inr}
 use Rattle.std.specs.Prelude.{◌⊎◌, ◌↔◌, ◌&&◌, not, is_some, option_and_then, if◌then◌else◌}
 use Rattle.jr_ast.specs.Tree as tree
 use Rattle.jr_ast.specs.StatementTree as statement
@@ -8,7 +8,7 @@ use Rattle.jr_table.specs.Keys.{ClassKey, Ty, int, boolean, void, null, class}
 use Rattle.jr_table.specs.Decls.{MemberKey, head, field, method, constructor, LocalKey, Decl, method_decl}
 use Rattle.jr_table.specs.SameKeys.{same_ty, ty_decides}
 use Rattle.jr_table.specs.Rows.{Row}
-use Rattle.jr_table.specs.Found.{Found, one, nothing, not_accessible}
+use Rattle.jr_table.specs.Found.{one}
 use Rattle.jr_table.specs.Conditions.{AreRows}
 use Rattle.jr_table.specs.Scope.{ScopeLocal, FindsLocal, last_named}
 use Rattle.jr_table.specs.LookupLaws.{KeysAreFound}
@@ -16,10 +16,10 @@ use Rattle.jr_table.specs.Context.{Context, scope_of, in_own, local_of, WritesTy
 use Rattle.jr_table.specs.Binding.{HasType, TypeRefers}
 use Rattle.jr_table.specs.ExpressionRules.{Suits, IsConstant}
 use Rattle.jr_table.specs.Completing.{IsTrueLiteral}
-use Rattle.jr_table.specs.StatementRules.{value_at, LocalRefers, StmtBindsItself, LocalNoType, LocalPrivate, ReturnMismatches, StmtMismatches, Redeclared, ReturnForm, ConstantCondition, StmtBreaks}
+use Rattle.jr_table.specs.StatementRules.{value_at, StmtBindsItself, LocalNoType, LocalPrivate, StmtMismatches, Redeclared, ReturnForm, ConstantCondition, StmtBreaks}
 use Rattle.jr_table.specs.Meanings.{row_of, type_of, written_type, type_references}
-use Rattle.jr_table.specs.Notes.{Note, refers, breaks, Has, reference_notes, unless, when, is_ty, suits, is_constant, is_true_literal, value_type, returned_type, is_class_type, value_return_notes, return_notes, condition_notes, own_stmt_notes}
-use Rattle.jr_table.proofs.ScopeLaws.{the_local, no_local, last_is, SaysLast}
+use Rattle.jr_table.specs.Notes.{Note, refers, breaks, Has, reference_notes, unless, when, is_ty, suits, is_constant, is_true_literal, value_type, returned_type, is_class_type, value_return_notes, condition_notes, own_stmt_notes}
+use Rattle.jr_table.proofs.ScopeLaws.{the_local, last_is, SaysLast}
 use Rattle.jr_table.proofs.RowTypes.{chain, some_iff, part_iff, written_iff}
 use Rattle.jr_table.proofs.Typing.{typed}
 use Rattle.jr_table.proofs.TypeTests.{and_iff, not_iff, is_ty_iff, suits_iff}

@@ -1,9 +1,8 @@
 -- References in the declaration of a member: those that are computed are those of the relations.
-use Rattle.std.proofs.Common.{◌≡◌, ℕ, List, [], ◌∷◌, ◌++◌, Option, Some, None, true, false, refl, sym, subst, inl, inr}
+use Rattle.std.proofs.Common.{◌≡◌, ℕ, List, [], ◌∷◌, ◌++◌, Option, Some, None, true, false, inl, inr}
 use Rattle.std.specs.Prelude.{◌⊎◌, ◌↔◌}
 use Rattle.jr_ast.specs.Tree as tree
 use Rattle.jr_ast.specs.MemberTree as syntax
-use Rattle.jr_table.specs.declared.answers.Answer.{Answer}
 use Rattle.jr_table.specs.declared.answers.Answer.TheVariants as number
 use Rattle.jr_table.specs.Keys.{ClassKey, Ty}
 use Rattle.jr_table.specs.Decls.{MemberKey, Decl}

@@ -1,10 +1,10 @@
--- Errors of a log: they are told in order, each once, and no others.
-use Rattle.std.proofs.Common.{◌≡◌, ◌≢◌, ℕ, ◌+◌, ◌-◌, ◌<◌, ◌≤◌, List, [], ◌∷◌, ◌++◌, Bool, true, false, refl, sym, ap, subst, ◌∙◌, arith, inl, inr}
+-- Errors of a log: they are error_iff in order, each once, and no others.
+use Rattle.std.proofs.Common.{◌≡◌, ℕ, ◌+◌, ◌-◌, ◌<◌, ◌≤◌, List, [], ◌∷◌, ◌++◌, Bool, true, false, refl, sym, ap, subst, ◌∙◌, arith, inl, inr}
 use Rattle.std.proofs.lemmas.Bool.{ltb-true, ltb-false}
 use Rattle.std.specs.Prelude.{◌⊎◌, ◌↔◌, nat_lt, if◌then◌else◌}
 use Rattle.jr_table.specs.Errors.{Error, ComesBefore, AreInOrder, Among, AreErrors}
 use Rattle.jr_table.specs.Notes.{Note, refers, breaks, Has}
-use Rattle.jr_table.specs.ErrorLists.{error_of, errors_in, comes_before, same_error, AreSorted, put, sorted, kept, each_once, errors_of_log}
+use Rattle.jr_table.specs.ErrorLists.{error_of, errors_in, comes_before, same_error, AreSorted, insert_error, sort_errors, drop_repeats, each_once, errors_of_log}
 use Rattle.jr_table.proofs.RowTypes.{chain}
 use Rattle.jr_table.proofs.ErrorOrder.{before_iff, same_iff, before_trans, not_before, IsUpTo, up_to_trans, before_up_to, up_to_not}
 use Rattle.jr_table.specs.declared.rules.Rule.{Rule}
@@ -61,8 +61,8 @@ same_members e f same g P = (to, back)
     back (inr (inl i)) = inl (same ∙ i)
     back (inr (inr p)) = inr p
 
-behind : {P Q R : Type 0} → (Q ↔ R) → (P ⊎ Q) ↔ (P ⊎ R)
-behind {P} {Q} {R} f = (to, back)
+right_iff : {P Q R : Type 0} → (Q ↔ R) → (P ⊎ Q) ↔ (P ⊎ R)
+right_iff {P} {Q} {R} f = (to, back)
   where
     to : (P ⊎ Q) → P ⊎ R
     to (inl p) = inl p
@@ -72,18 +72,18 @@ behind {P} {Q} {R} f = (to, back)
     back (inl p) = inl p
     back (inr r) = inr (f.1 r)
 
-kept_members : (e : Error) (es : List Error) (g : Error) → Among (kept e es) g ↔ ((e ≡ g) ⊎ Among es g)
-kept_members e [] g = (λ h. h, λ h. h)
-kept_members e (x ∷ xs) g = of (same_error e x) refl (kept_members e xs g) (kept_members x xs g)
+repeats_members : (e : Error) (es : List Error) (g : Error) → Among (drop_repeats e es) g ↔ ((e ≡ g) ⊎ Among es g)
+repeats_members e [] g = (λ h. h, λ h. h)
+repeats_members e (x ∷ xs) g = of (same_error e x) refl (repeats_members e xs g) (repeats_members x xs g)
   where
-    of : (b : Bool) → same_error e x ≡ b → (Among (kept e xs) g ↔ ((e ≡ g) ⊎ Among xs g)) → (Among (kept x xs) g ↔ ((x ≡ g) ⊎ Among xs g))
-        → Among (if b then kept e xs else e ∷ kept x xs) g ↔ ((e ≡ g) ⊎ ((x ≡ g) ⊎ Among xs g))
+    of : (b : Bool) → same_error e x ≡ b → (Among (drop_repeats e xs) g ↔ ((e ≡ g) ⊎ Among xs g)) → (Among (drop_repeats x xs) g ↔ ((x ≡ g) ⊎ Among xs g))
+        → Among (if b then drop_repeats e xs else e ∷ drop_repeats x xs) g ↔ ((e ≡ g) ⊎ ((x ≡ g) ⊎ Among xs g))
     of true is here next = chain here (same_members e x ((same_iff e x).0 is) g (Among xs g))
-    of false is here next = behind next
+    of false is here next = right_iff next
 
-kept_order : (e : Error) (es : List Error) → AllUpTo (e ∷ es) → AllBefore (kept e es)
-kept_order e [] h = (λ f i. absurd i, tt)
-kept_order e (x ∷ xs) h = of (same_error e x) refl (kept_order e xs) (kept_order x xs)
+repeats_order : (e : Error) (es : List Error) → AllUpTo (e ∷ es) → AllBefore (drop_repeats e es)
+repeats_order e [] h = (λ f i. absurd i, tt)
+repeats_order e (x ∷ xs) h = of (same_error e x) refl (repeats_order e xs) (repeats_order x xs)
   where
     apart : (same_error e x ≡ false) → IsUpTo e x → ComesBefore e x
     apart is (inl i) = let t = (same_iff e x).1 i in absurd cc
@@ -93,17 +93,17 @@ kept_order e (x ∷ xs) h = of (same_error e x) refl (kept_order e xs) (kept_ord
     each b f (inl i) = subst (ComesBefore e) i b
     each b f (inr i) = before_up_to e x f b (h.1.0 f i)
 
-    of : (b : Bool) → same_error e x ≡ b → (AllUpTo (e ∷ xs) → AllBefore (kept e xs)) → (AllUpTo (x ∷ xs) → AllBefore (kept x xs)) → AllBefore (if b then kept e xs else e ∷ kept x xs)
+    of : (b : Bool) → same_error e x ≡ b → (AllUpTo (e ∷ xs) → AllBefore (drop_repeats e xs)) → (AllUpTo (x ∷ xs) → AllBefore (drop_repeats x xs)) → AllBefore (if b then drop_repeats e xs else e ∷ drop_repeats x xs)
     of true is here next = here (λ f i. h.0 f (inr i), h.1.1)
-    of false is here next = (λ f i. each (apart is (h.0 x (inl refl))) f ((kept_members x xs f).0 i), next h.1)
+    of false is here next = (λ f i. each (apart is (h.0 x (inl refl))) f ((repeats_members x xs f).0 i), next h.1)
 
 pub once_members : (es : List Error) (g : Error) → Among (each_once es) g ↔ Among es g
 once_members [] g = (λ h. h, λ h. h)
-once_members (e ∷ es) g = kept_members e es g
+once_members (e ∷ es) g = repeats_members e es g
 
 once_before : (es : List Error) → AllUpTo es → AllBefore (each_once es)
 once_before [] h = tt
-once_before (e ∷ es) h = kept_order e es h
+once_before (e ∷ es) h = repeats_order e es h
 
 -- of a sorted list the walk makes one that is in order
 pub once_order : (es : List Error) → AreSorted es → AreInOrder (each_once es)
@@ -111,9 +111,9 @@ once_order es h = in_order (each_once es) (once_before es (all_up_to es h))
 
 -- the sort
 
-put_members : (e : Error) (es : List Error) (g : Error) → Among (put e es) g ↔ ((e ≡ g) ⊎ Among es g)
-put_members e [] g = (λ h. h, λ h. h)
-put_members e (x ∷ xs) g = of (comes_before x e) (put_members e xs g)
+insert_members : (e : Error) (es : List Error) (g : Error) → Among (insert_error e es) g ↔ ((e ≡ g) ⊎ Among es g)
+insert_members e [] g = (λ h. h, λ h. h)
+insert_members e (x ∷ xs) g = of (comes_before x e) (insert_members e xs g)
   where
     swapped : ((x ≡ g) ⊎ ((e ≡ g) ⊎ Among xs g)) ↔ ((e ≡ g) ⊎ ((x ≡ g) ⊎ Among xs g))
     swapped = (to, back)
@@ -128,13 +128,13 @@ put_members e (x ∷ xs) g = of (comes_before x e) (put_members e xs g)
         back (inr (inl i)) = inl i
         back (inr (inr i)) = inr (inr i)
 
-    of : (b : Bool) → (Among (put e xs) g ↔ ((e ≡ g) ⊎ Among xs g)) → Among (if b then x ∷ put e xs else e ∷ x ∷ xs) g ↔ ((e ≡ g) ⊎ ((x ≡ g) ⊎ Among xs g))
-    of true again = chain (behind again) swapped
+    of : (b : Bool) → (Among (insert_error e xs) g ↔ ((e ≡ g) ⊎ Among xs g)) → Among (if b then x ∷ insert_error e xs else e ∷ x ∷ xs) g ↔ ((e ≡ g) ⊎ ((x ≡ g) ⊎ Among xs g))
+    of true again = chain (right_iff again) swapped
     of false again = (λ h. h, λ h. h)
 
-put_order : (e : Error) (es : List Error) → AllUpTo es → AllUpTo (put e es)
-put_order e [] h = (λ f i. absurd i, tt)
-put_order e (x ∷ xs) h = of (comes_before x e) refl (put_order e xs h.1)
+insert_order : (e : Error) (es : List Error) → AllUpTo es → AllUpTo (insert_error e es)
+insert_order e [] h = (λ f i. absurd i, tt)
+insert_order e (x ∷ xs) h = of (comes_before x e) refl (insert_order e xs h.1)
   where
     before : ComesBefore x e → (f : Error) → ((e ≡ f) ⊎ Among xs f) → IsUpTo x f
     before b f (inl i) = inr (subst (ComesBefore x) i b)
@@ -144,22 +144,22 @@ put_order e (x ∷ xs) h = of (comes_before x e) refl (put_order e xs h.1)
     after b f (inl i) = subst (IsUpTo e) i b
     after b f (inr i) = up_to_trans e x f b (h.0 f i)
 
-    of : (b : Bool) → comes_before x e ≡ b → AllUpTo (put e xs) → AllUpTo (if b then x ∷ put e xs else e ∷ x ∷ xs)
-    of true is again = (λ f i. before ((before_iff x e).0 is) f ((put_members e xs f).0 i), again)
+    of : (b : Bool) → comes_before x e ≡ b → AllUpTo (insert_error e xs) → AllUpTo (if b then x ∷ insert_error e xs else e ∷ x ∷ xs)
+    of true is again = (λ f i. before ((before_iff x e).0 is) f ((insert_members e xs f).0 i), again)
     of false is again = (λ f i. after (up_to_not e x (λ b. let t = (before_iff x e).1 b in absurd cc)) f i, h)
 
-sorted_members : (es : List Error) (g : Error) → Among (sorted es) g ↔ Among es g
-sorted_members [] g = (λ h. h, λ h. h)
-sorted_members (e ∷ es) g = chain (put_members e (sorted es) g) (behind (sorted_members es g))
+sort_members : (es : List Error) (g : Error) → Among (sort_errors es) g ↔ Among es g
+sort_members [] g = (λ h. h, λ h. h)
+sort_members (e ∷ es) g = chain (insert_members e (sort_errors es) g) (right_iff (sort_members es g))
 
-sorted_order : (es : List Error) → AllUpTo (sorted es)
-sorted_order [] = tt
-sorted_order (e ∷ es) = put_order e (sorted es) (sorted_order es)
+sort_order : (es : List Error) → AllUpTo (sort_errors es)
+sort_order [] = tt
+sort_order (e ∷ es) = insert_order e (sort_errors es) (sort_order es)
 
 -- the errors of a log
 
-told : (start at : ℕ) (r : Rule) (e : Error) (P : Type 0) (rest : List Error) → (Among rest e ↔ P) → Among (error_of start (breaks at r) ++ rest) e ↔ ((breaks at r ≡ breaks (start + e.at) e.rule) ⊎ P)
-told start at r e P rest is = of (nat_lt at start) refl
+error_iff : (start at : ℕ) (r : Rule) (e : Error) (P : Type 0) (rest : List Error) → (Among rest e ↔ P) → Among (error_of start (breaks at r) ++ rest) e ↔ ((breaks at r ≡ breaks (start + e.at) e.rule) ⊎ P)
+error_iff start at r e P rest is = of (nat_lt at start) refl
   where
     none : at < start → (breaks at r ≡ breaks (start + e.at) e.rule) → ⊥
     none lt h = let i : at ≡ start + e.at = cc in omega (arith, lt, i)
@@ -196,13 +196,13 @@ log_members start (refers at d ∷ ns) e = chain (log_members start ns e) (λ h.
     back : ((refers at d ≡ breaks (start + e.at) e.rule) ⊎ Has ns (breaks (start + e.at) e.rule)) → Has ns (breaks (start + e.at) e.rule)
     back (inl i) = absurd cc
     back (inr h) = h
-log_members start (breaks at r ∷ ns) e = told start at r e (Has ns (breaks (start + e.at) e.rule)) (errors_in start ns) (log_members start ns e)
+log_members start (breaks at r ∷ ns) e = error_iff start at r e (Has ns (breaks (start + e.at) e.rule)) (errors_in start ns) (log_members start ns e)
 
 pub log_errors : (start : ℕ) (ns : List Note) → AreErrors (λ e. Has ns (breaks (start + e.at) e.rule)) (errors_of_log start ns)
 unfolding errors_of_log
 log_errors start ns = record {
-  in_order = in_order (each_once (sorted (errors_in start ns))) (once_before (sorted (errors_in start ns)) (sorted_order (errors_in start ns)));
-  exact = λ e. chain (once_members (sorted (errors_in start ns)) e) (chain (sorted_members (errors_in start ns) e) (log_members start ns e));
+  in_order = in_order (each_once (sort_errors (errors_in start ns))) (once_before (sort_errors (errors_in start ns)) (sort_order (errors_in start ns)));
+  exact = λ e. chain (once_members (sort_errors (errors_in start ns)) e) (chain (sort_members (errors_in start ns) e) (log_members start ns e));
 }
 
 -- two lists in order that have the same errors are one

@@ -1,7 +1,7 @@
 -- The order of errors: one comes before another, or is it, or the other comes before it.
-use Rattle.std.proofs.Common.{◌≡◌, ◌≢◌, ℕ, ◌+◌, ◌<◌, ◌≤◌, List, [], ◌∷◌, Option, Some, None, Bool, true, false, refl, sym, ap, subst, ◌∙◌, arith, inl, inr, eq-eqb, eqb-true}
+use Rattle.std.proofs.Common.{◌≡◌, ℕ, ◌<◌, List, [], ◌∷◌, Some, true, refl, sym, ap, subst, ◌∙◌, arith, inl, inr, eq-eqb, eqb-true}
 use Rattle.std.proofs.lemmas.Bool.{ltb-true, lt-ltb}
-use Rattle.std.specs.Prelude.{◌⊎◌, ◌↔◌, ◌&&◌, ◌||◌, nat_lt, ◌==◌, slice_get}
+use Rattle.std.specs.Prelude.{◌⊎◌, ◌↔◌, nat_lt, ◌==◌, slice_get}
 use Rattle.jr_table.specs.Errors.{Error, ComesBefore, rule_rank}
 use Rattle.jr_table.specs.ErrorLists.{comes_before, same_error}
 use Rattle.jr_table.proofs.TypeTests.{and_iff, or_iff}

@@ -1,7 +1,7 @@
 -- The walk over a member keeps what holds of each node: where one property is as good as another at each expression, statement and
 -- list, it is so of the whole.
 use Rattle.std.proofs.Common.{ℕ, ◌+◌, Option, Some, None, true, false, length, inl, inr}
-use Rattle.std.specs.Prelude.{◌⊎◌, ◌↔◌}
+use Rattle.std.specs.Prelude.{◌⊎◌}
 use Rattle.jr_ast.specs.Tree as tree
 use Rattle.jr_ast.specs.StatementTree as statement
 use Rattle.jr_ast.specs.MemberTree as syntax

@@ -1,6 +1,6 @@
 -- Conditions, completing normally and what isn't reached: the tests and notes are what the relations say.
-use Rattle.std.proofs.Common.{◌≡◌, ℕ, List, [], ◌∷◌, ◌++◌, Option, Some, None, Bool, true, false, refl, sym, ap, subst, ◌∙◌, inl, inr}
-use Rattle.std.specs.Prelude.{◌⊎◌, ◌↔◌, ◌&&◌, ◌||◌, not, is_some}
+use Rattle.std.proofs.Common.{◌≡◌, ℕ, List, Option, Some, None, Bool, true, false, refl, inl, inr}
+use Rattle.std.specs.Prelude.{◌⊎◌, ◌↔◌, ◌&&◌, is_some}
 use Rattle.jr_ast.specs.Tree as tree
 use Rattle.jr_ast.specs.StatementTree as statement
 use Rattle.jr_ast.specs.Marks.{stmt_mark}
@@ -17,7 +17,7 @@ use Rattle.jr_table.specs.ExpressionRules.{IsConstantVariable, IsConstant}
 use Rattle.jr_table.specs.Completing.{IsTrueLiteral, Completes, ElseCompletes, ListCompletes, StandsIn, UnreachedIn}
 use Rattle.jr_table.specs.StatementRules.{ListBreaks}
 use Rattle.jr_table.specs.Meanings.{class_name_of, class_on, field_found}
-use Rattle.jr_table.specs.Notes.{Note, refers, breaks, Has, unless, is_final_decl, has_init_decl, test_found, is_constant_found, is_constant, is_true_literal, completes, else_completes, list_completes, unreached, list_notes}
+use Rattle.jr_table.specs.Notes.{refers, breaks, Has, unless, is_final_decl, has_init_decl, is_constant_found, is_constant, is_true_literal, completes, else_completes, list_completes, unreached, list_notes}
 use Rattle.jr_table.proofs.RowTypes.{chain}
 use Rattle.jr_table.proofs.Typing.{named}
 use Rattle.jr_table.proofs.ReferenceLaws.{field_finds}
@@ -132,8 +132,8 @@ module _ {A : Type 0} where
       abbrev IsNoted : Bool → statement.Stmts A → Type 0
       IsNoted b xs = Has (unreached begins base b xs) (breaks at r) ↔ Unreached b xs
 
-      reached : (x : statement.Stmt A) (xs : statement.Stmts A) → IsNoted (completes x) xs → IsNoted true (statement.more x xs)
-      reached x xs again = (λ h. to (again.0 h), λ h. again.1 (back h))
+      more_reached : (x : statement.Stmt A) (xs : statement.Stmts A) → IsNoted (completes x) xs → IsNoted true (statement.more x xs)
+      more_reached x xs again = (λ h. to (again.0 h), λ h. again.1 (back h))
         where
           to : Unreached (completes x) xs → Unreached true (statement.more x xs)
           to (e, inl (f, s)) = (e, inr (inl ((incomplete x).0 f, s)))
@@ -144,8 +144,8 @@ module _ {A : Type 0} where
           back (e, inr (inl (n, s))) = (e, inl ((incomplete x).1 n, s))
           back (e, inr (inr u)) = (e, inr u)
 
-      passed : (x : statement.Stmt A) (xs : statement.Stmts A) → IsNoted false xs → IsNoted false (statement.more x xs)
-      passed x xs again = chain (has_append (unless false (breaks (begins (stmt_mark x) base) rule.Unreachable)) (unreached begins base false xs) (breaks at r)) (to, back)
+      more_unreached : (x : statement.Stmt A) (xs : statement.Stmts A) → IsNoted false xs → IsNoted false (statement.more x xs)
+      more_unreached x xs again = chain (has_append (unless false (breaks (begins (stmt_mark x) base) rule.Unreachable)) (unreached begins base false xs) (breaks at r)) (to, back)
         where
           here : Has (unless false (breaks (begins (stmt_mark x) base) rule.Unreachable)) (breaks at r) ↔ ((at ≡ begins (stmt_mark x) base) × (r ≡ rule.Unreachable))
           here = one_iff (begins (stmt_mark x) base) at rule.Unreachable r
@@ -170,8 +170,8 @@ module _ {A : Type 0} where
           back : Unreached b statement.end → ⊥
           back (e, inl h) = h.1
           back (e, inr h) = h
-      unreached_noted true (statement.more x xs) = reached x xs (unreached_noted (completes x) xs)
-      unreached_noted false (statement.more x xs) = passed x xs (unreached_noted false xs)
+      unreached_noted true (statement.more x xs) = more_reached x xs (unreached_noted (completes x) xs)
+      unreached_noted false (statement.more x xs) = more_unreached x xs (unreached_noted false xs)
 
       -- what is noted of a list is what isn't reached in it
       pub list_breaks : (xs : statement.Stmts A) → Has (list_notes begins base xs) (breaks at r) ↔ ListBreaks begins base xs at r

@@ -1,6 +1,6 @@
 -- The log of a whole member, or of the head of a class: it holds the rules that are broken, each with its place, and what each
 -- reference is bound to.
-use Rattle.std.proofs.Common.{◌≡◌, ℕ, List, [], ◌∷◌, ◌++◌, Option, Some, None, true, false, length, inl, inr}
+use Rattle.std.proofs.Common.{ℕ, List, ◌++◌, Option, Some, None, true, false, length, inl, inr}
 use Rattle.std.specs.Prelude.{◌⊎◌, ◌↔◌}
 use Rattle.jr_ast.specs.Tree as tree
 use Rattle.jr_ast.specs.StatementTree as statement

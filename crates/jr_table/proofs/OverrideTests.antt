@@ -1,5 +1,5 @@
 -- A method under one of a superclass's: the test is true exactly where the relation holds.
-use Rattle.std.proofs.Common.{◌≡◌, ◌≢◌, ℕ, zero, suc, ◌<◌, List, [], ◌∷◌, Option, Some, None, Bool, true, false, refl, sym, ap, ◌∙◌, inl, inr}
+use Rattle.std.proofs.Common.{◌≡◌, ◌≢◌, ℕ, suc, ◌<◌, List, [], ◌∷◌, Option, Some, None, Bool, true, false, refl, ap, ◌∙◌}
 use Rattle.std.proofs.lemmas.Bool.{ltb-true, lt-ltb}
 use Rattle.std.proofs.lemmas.Map.Keys.{any_passes_from_place}
 use Rattle.std.specs.Prelude.{◌⊎◌, ◌↔◌, ◌&&◌, ◌||◌, not, nat_lt, slice_get}
@@ -7,13 +7,13 @@ use Rattle.std.specs.List.{list_any}
 use Rattle.std.specs.Cmp.Lexicographic.{bytes_decides}
 use Rattle.jr_table.specs.Keys.{ClassKey, MethodKey, Ty}
 use Rattle.jr_table.specs.Decls.{Decl, class_decl, field_decl, method_decl, constructor_decl, local_decl}
-use Rattle.jr_table.specs.SameKeys.{same_name, same_class, same_ty, same_types, class_decides, ty_decides, types_decide}
+use Rattle.jr_table.specs.SameKeys.{same_name, same_class, same_types, class_decides, ty_decides, types_decide}
 use Rattle.jr_table.specs.Rows.{Row}
 use Rattle.jr_table.specs.Conditions.{AreRows}
 use Rattle.jr_table.specs.Entries.{IsRowOf, number_of, is_static_word, is_private_word}
 use Rattle.jr_table.specs.Keyed.{IsSubclass}
 use Rattle.jr_table.specs.Context.{is_final_word}
-use Rattle.jr_table.specs.HeadRules.{access_of, StandsOver, OverridesBadly}
+use Rattle.jr_table.specs.HeadRules.{access_of, OverridesBadly}
 use Rattle.jr_table.specs.Notes.{has_word, is_below}
 use Rattle.jr_table.specs.HeadNotes.{is_strictly_below, same_type, same_bool, clashes, stands_over, overrides_badly}
 use Rattle.jr_table.proofs.FirstLaws.{PassesAt}

@@ -1,11 +1,10 @@
 -- Notes on types' names: in a body, and in a declaration, where nothing that is found is no note.
-use Rattle.std.proofs.Common.{◌≡◌, ℕ, List, [], ◌∷◌, ◌++◌, Option, Some, None, refl, sym, ap, subst, ◌∙◌, inl, inr}
+use Rattle.std.proofs.Common.{◌≡◌, ℕ, List, [], ◌∷◌, Some, None, refl, sym, ap, subst, inl, inr}
 use Rattle.std.specs.Prelude.{◌⊎◌, ◌↔◌}
 use Rattle.jr_ast.specs.Tree as tree
-use Rattle.jr_table.specs.declared.answers.Answer.{Answer}
 use Rattle.jr_table.specs.declared.answers.Answer.TheVariants as number
 use Rattle.jr_table.specs.Keys.{ClassKey}
-use Rattle.jr_table.specs.Decls.{Decl, class_decl}
+use Rattle.jr_table.specs.Decls.{Decl}
 use Rattle.jr_table.specs.Rows.{Row}
 use Rattle.jr_table.specs.Conditions.{AreRows}
 use Rattle.jr_table.specs.Found.{Found, one, nothing, many, not_accessible, from_static}
@@ -15,7 +14,7 @@ use Rattle.jr_table.specs.LookupLaws.{KeysAreFound}
 use Rattle.jr_table.specs.Context.{Context, scope_of}
 use Rattle.jr_table.specs.Binding.{FindsIn, Sought, variable, type, method, TypeRefers}
 use Rattle.jr_table.specs.Meanings.{Reference, InReferences, type_references}
-use Rattle.jr_table.specs.Notes.{Note, refers, breaks, Has, reference_notes}
+use Rattle.jr_table.specs.Notes.{refers, breaks, Has, reference_notes}
 use Rattle.jr_table.specs.HeadNotes.{declared_note, declared_notes}
 use Rattle.jr_table.proofs.RowTypes.{chain}
 use Rattle.jr_table.proofs.Breaking.{has_append, one_iff}
@@ -135,9 +134,9 @@ module _ (xs : List Reference) (Refer : ℕ → Found → Type 0) (are : (at : �
   abbrev Hidden : List Reference → (at : ℕ) → Rule → Type 0
   Hidden ys at r = (r ≡ rule.Private) × ((q : Sought) × (d : Decl) × InReferences ys at q (not_accessible d))
 
-  hidden : (ys : List Reference) (at : ℕ) (r : Rule) → Has (declared_notes ys) (breaks at r) ↔ Hidden ys at r
-  hidden [] at r = (λ h. absurd h, λ h. absurd h.1.2)
-  hidden (y ∷ ys) at r = chain (has_append (declared_note y.at y.found) (declared_notes ys) (breaks at r)) (to (hidden ys at r), back (hidden ys at r))
+  hidden_iff : (ys : List Reference) (at : ℕ) (r : Rule) → Has (declared_notes ys) (breaks at r) ↔ Hidden ys at r
+  hidden_iff [] at r = (λ h. absurd h, λ h. absurd h.1.2)
+  hidden_iff (y ∷ ys) at r = chain (has_append (declared_note y.at y.found) (declared_notes ys) (breaks at r)) (to (hidden_iff ys at r), back (hidden_iff ys at r))
     where
       to : (Has (declared_notes ys) (breaks at r) ↔ Hidden ys at r) → (Has (declared_note y.at y.found) (breaks at r) ⊎ Has (declared_notes ys) (breaks at r)) → Hidden (y ∷ ys) at r
       to again (inl h) = let g = (declared_break_one y.at y.found at r).0 h in (g.0, (y.sought, g.1.0, inl (g.1.1, refl, g.1.2)))
@@ -150,9 +149,9 @@ module _ (xs : List Reference) (Refer : ℕ → Found → Type 0) (are : (at : �
   abbrev Bound : List Reference → (at : ℕ) → Decl → Type 0
   Bound ys at d = (q : Sought) × InReferences ys at q (one d)
 
-  bound : (ys : List Reference) (at : ℕ) (d : Decl) → Has (declared_notes ys) (refers at d) ↔ Bound ys at d
-  bound [] at d = (λ h. absurd h, λ h. absurd h.1)
-  bound (y ∷ ys) at d = chain (has_append (declared_note y.at y.found) (declared_notes ys) (refers at d)) (to (bound ys at d), back (bound ys at d))
+  bound_iff : (ys : List Reference) (at : ℕ) (d : Decl) → Has (declared_notes ys) (refers at d) ↔ Bound ys at d
+  bound_iff [] at d = (λ h. absurd h, λ h. absurd h.1)
+  bound_iff (y ∷ ys) at d = chain (has_append (declared_note y.at y.found) (declared_notes ys) (refers at d)) (to (bound_iff ys at d), back (bound_iff ys at d))
     where
       to : (Has (declared_notes ys) (refers at d) ↔ Bound ys at d) → (Has (declared_note y.at y.found) (refers at d) ⊎ Has (declared_notes ys) (refers at d)) → Bound (y ∷ ys) at d
       to again (inl h) = let g = (declared_bind_one y.at y.found at d).0 h in (y.sought, inl (g.0, refl, g.1))
@@ -163,7 +162,7 @@ module _ (xs : List Reference) (Refer : ℕ → Found → Type 0) (are : (at : �
       back again (q, inr h) = inr (again.1 (q, h))
 
   pub declared_breaks : (at : ℕ) (r : Rule) → Has (declared_notes xs) (breaks at r) ↔ ((r ≡ rule.Private) × ((d : Decl) × Refer at (not_accessible d)))
-  declared_breaks at r = chain (hidden xs at r) (λ h. (h.0, (h.1.1, ((are at h.1.0 (not_accessible h.1.1)).0 h.1.2).1)), λ h. (h.0, (type, h.1.0, (are at type (not_accessible h.1.0)).1 (refl, h.1.1))))
+  declared_breaks at r = chain (hidden_iff xs at r) (λ h. (h.0, (h.1.1, ((are at h.1.0 (not_accessible h.1.1)).0 h.1.2).1)), λ h. (h.0, (type, h.1.0, (are at type (not_accessible h.1.0)).1 (refl, h.1.1))))
 
   pub declared_binds : (at : ℕ) (d : Decl) → Has (declared_notes xs) (refers at d) ↔ Refer at (one d)
-  declared_binds at d = chain (bound xs at d) (λ h. ((are at h.0 (one d)).0 h.1).1, λ h. (type, (are at type (one d)).1 (refl, h)))
+  declared_binds at d = chain (bound_iff xs at d) (λ h. ((are at h.0 (one d)).0 h.1).1, λ h. (type, (are at type (one d)).1 (refl, h)))

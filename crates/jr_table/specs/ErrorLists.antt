@@ -3,7 +3,6 @@ use Rattle.std.specs.Prelude.{
   ◌≡◌,
   ℕ,
   ◌-◌,
-  ◌<◌,
   List,
   [],
   ◌∷◌,
@@ -44,22 +43,22 @@ AreSorted (e ∷ []) = Unit {0}
 AreSorted (e ∷ f ∷ es) = ((e ≡ f) ⊎ ComesBefore e f) × AreSorted (f ∷ es)
 
 -- an error put in front of the first that doesn't come before it
-abbrev pub put : Error → List Error → List Error
-put e [] = e ∷ []
-put e (x ∷ xs) = if comes_before x e then x ∷ put e xs else e ∷ x ∷ xs
+abbrev pub insert_error : Error → List Error → List Error
+insert_error e [] = e ∷ []
+insert_error e (x ∷ xs) = if comes_before x e then x ∷ insert_error e xs else e ∷ x ∷ xs
 
-abbrev pub sorted : List Error → List Error
-sorted [] = []
-sorted (e ∷ es) = put e (sorted es)
+abbrev pub sort_errors : List Error → List Error
+sort_errors [] = []
+sort_errors (e ∷ es) = insert_error e (sort_errors es)
 
--- the last one that was kept, and of those behind it each that isn't the one kept before it
-abbrev pub kept : Error → List Error → List Error
-kept e [] = e ∷ []
-kept e (x ∷ xs) = if same_error e x then kept e xs else e ∷ kept x xs
+-- an error, and of those behind it each that isn't the one before it
+abbrev pub drop_repeats : Error → List Error → List Error
+drop_repeats e [] = e ∷ []
+drop_repeats e (x ∷ xs) = if same_error e x then drop_repeats e xs else e ∷ drop_repeats x xs
 
 abbrev pub each_once : List Error → List Error
 each_once [] = []
-each_once (e ∷ es) = kept e es
+each_once (e ∷ es) = drop_repeats e es
 
 unfoldable pub errors_of_log : (start : ℕ) → List Note → List Error
-errors_of_log start ns = each_once (sorted (errors_in start ns))
+errors_of_log start ns = each_once (sort_errors (errors_in start ns))

@@ -1,5 +1,5 @@
 use Rattle.std.proofs.Common.{◌+◌}
-use Rattle.jr_table.specs.Errors.{part_mark, AreErrors}
+use Rattle.jr_table.specs.Errors.{part_mark}
 use Rattle.jr_table.specs.NotingLaws.{PartsHaveErrors}
 use Rattle.jr_table.specs.Walks.{part_notes}
 use Rattle.jr_table.proofs.RowTypes.{chain}
