@@ -19,6 +19,7 @@ mod method_lists;
 mod numbering;
 mod overloads;
 mod prelude_rows;
+mod row_laws;
 mod rows;
 mod rules;
 #[cfg(test)]
@@ -44,6 +45,7 @@ pub use keys::{CtorKey, FieldKey, MethodKey};
 pub use kinds::DeclKind;
 pub use lookup_laws::lookups_are_exact;
 pub use prelude_rows::prelude;
+pub use row_laws::tested_rows_are_rows;
 pub use rows::{Mods, Row};
 pub use rules::Rule;
 pub use tables::Table;
