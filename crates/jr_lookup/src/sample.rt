@@ -193,7 +193,14 @@ fn push_o(alloc: Global, rows: &mut Vec<Row>) -> Result<(), AllocError>
     push_field(alloc, rows, &[ModWord::Static], None, "O", "x")?;
     push_field(alloc, rows, &[], None, "O", "y")?;
     push_field(alloc, rows, &[], None, "O", "f")?;
-    push_field(alloc, rows, &[ModWord::Private, ModWord::Static], None, "O", "s")?;
+    push_field(
+        alloc,
+        rows,
+        &[ModWord::Private, ModWord::Static],
+        None,
+        "O",
+        "s",
+    )?;
     push_method(alloc, rows, &[], "O", "m", one_int(alloc)?)?;
     push_method(alloc, rows, &[], "O", "n", Vec::new(alloc))?;
     push_method(alloc, rows, &[ModWord::Static], "O", "g", Vec::new(alloc))
@@ -205,9 +212,23 @@ fn push_inner(alloc: Global, rows: &mut Vec<Row>) -> Result<(), AllocError>
 {
     push_class(alloc, rows, &[ModWord::Static], Some("O"), "K", "Object")?;
     push_ctor(alloc, rows, &[], Some("O"), "K", Vec::new(alloc))?;
-    push_class(alloc, rows, &[ModWord::Private, ModWord::Static], Some("O"), "H", "Object")?;
+    push_class(
+        alloc,
+        rows,
+        &[ModWord::Private, ModWord::Static],
+        Some("O"),
+        "H",
+        "Object",
+    )?;
     push_field(alloc, rows, &[ModWord::Private], Some("O"), "H", "h")?;
-    push_ctor(alloc, rows, &[ModWord::Private], Some("O"), "H", one_int(alloc)?)?;
+    push_ctor(
+        alloc,
+        rows,
+        &[ModWord::Private],
+        Some("O"),
+        "H",
+        one_int(alloc)?,
+    )?;
     push_class(alloc, rows, &[ModWord::Static], Some("O"), "C", "A")?;
     push_ctor(alloc, rows, &[], Some("O"), "C", Vec::new(alloc))?;
     push_field(alloc, rows, &[], Some("O"), "C", "w")?;
@@ -228,7 +249,14 @@ fn push_m(alloc: Global, rows: &mut Vec<Row>) -> Result<(), AllocError>
     push_method(alloc, rows, &[], "M", "c", two_classes(alloc, "Q", "A")?)?;
     push_method(alloc, rows, &[], "M", "c", two_classes(alloc, "A", "A")?)?;
     push_method(alloc, rows, &[], "M", "d", one_int(alloc)?)?;
-    push_method(alloc, rows, &[ModWord::Private], "M", "e", one_class(alloc, "Q")?)?;
+    push_method(
+        alloc,
+        rows,
+        &[ModWord::Private],
+        "M",
+        "e",
+        one_class(alloc, "Q")?,
+    )?;
     push_method(alloc, rows, &[], "M", "e", one_class(alloc, "A")?)?;
     push_method(alloc, rows, &[ModWord::Private], "M", "h", one_int(alloc)?)
 }

@@ -161,12 +161,18 @@ const ROWS: [(Asked<'static>, &str); 52] = [
     (("type_named", "A", false, "", "K", &[]), "nothing"),
     // Through a subclass (JLS 8.5).
     (("member_type", "A", false, "D", "K", &[]), "K"),
-    (("member_type", "A", false, "O", "H", &[]), "not accessible: H"),
+    (
+        ("member_type", "A", false, "O", "H", &[]),
+        "not accessible: H",
+    ),
     (("member_type", "C", false, "O", "H", &[]), "H"),
     (("member_type", "D", false, "D", "H", &[]), "nothing"),
     (("field_of", "Q", false, "C", "f", &[]), "A.f"),
     // Private, from another top-level class and from the same (JLS 6.6.1).
-    (("field_of", "A", false, "O", "s", &[]), "not accessible: O.s"),
+    (
+        ("field_of", "A", false, "O", "s", &[]),
+        "not accessible: O.s",
+    ),
     (("field_of", "C", false, "O", "s", &[]), "O.s"),
     (("field_of", "O", false, "H", "h", &[]), "H.h"),
     (("field_of", "A", false, "Q", "p", &[]), "nothing"),
@@ -174,27 +180,48 @@ const ROWS: [(Asked<'static>, &str); 52] = [
     // C has a method m, so the m of O isn't looked at (JLS 15.12.1).
     (("method_named", "C", false, "", "m", &["int"]), "nothing"),
     (("method_named", "C", true, "", "g", &[]), "O.g"),
-    (("method_named", "C", false, "", "n", &[]), "from static: O.n"),
-    (("method_named", "C", true, "", "m", &[]), "from static: A.m"),
+    (
+        ("method_named", "C", false, "", "n", &[]),
+        "from static: O.n",
+    ),
+    (
+        ("method_named", "C", true, "", "m", &[]),
+        "from static: A.m",
+    ),
     (("method_named", "C", false, "", "q", &[]), "nothing"),
     // The more specific of two (JLS 15.12.2.5).
     (("method_of", "A", false, "M", "b", &["null"]), "M.b Q"),
     (("method_of", "A", false, "M", "b", &["Q"]), "M.b Q"),
     (("method_of", "A", false, "M", "b", &["A"]), "M.b A"),
-    (("method_of", "A", false, "M", "c", &["Q", "Q"]), "many: M.c A Q, M.c Q A"),
-    (("method_named", "M", true, "", "c", &["Q", "Q"]), "many: M.c A Q, M.c Q A"),
+    (
+        ("method_of", "A", false, "M", "c", &["Q", "Q"]),
+        "many: M.c A Q, M.c Q A",
+    ),
+    (
+        ("method_named", "M", true, "", "c", &["Q", "Q"]),
+        "many: M.c A Q, M.c Q A",
+    ),
     (("method_of", "A", false, "M", "c", &["A", "Q"]), "M.c A Q"),
     (("method_of", "A", false, "M", "d", &["null"]), "nothing"),
     (("method_of", "A", false, "M", "d", &["int"]), "M.d int"),
-    (("method_of", "A", false, "M", "d", &["int", "int"]), "nothing"),
+    (
+        ("method_of", "A", false, "M", "d", &["int", "int"]),
+        "nothing",
+    ),
     // The more specific one is private.
     (("method_of", "A", false, "M", "e", &["Q"]), "M.e A"),
     (("method_of", "M", false, "M", "e", &["Q"]), "M.e Q"),
-    (("method_of", "A", false, "M", "h", &["int"]), "not accessible: M.h int"),
+    (
+        ("method_of", "A", false, "M", "h", &["int"]),
+        "not accessible: M.h int",
+    ),
     (("ctor_of", "A", false, "A", "", &[]), "A.new"),
     (("ctor_of", "A", false, "A", "", &["int"]), "nothing"),
     (("ctor_of", "C", false, "H", "", &["int"]), "H.new int"),
-    (("ctor_of", "A", false, "H", "", &["int"]), "not accessible: H.new int"),
+    (
+        ("ctor_of", "A", false, "H", "", &["int"]),
+        "not accessible: H.new int",
+    ),
     (("ctor_of", "C", false, "H", "", &["null"]), "nothing"),
 ];
 
