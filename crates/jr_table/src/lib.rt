@@ -35,7 +35,7 @@ mod wanted;
 mod widening;
 
 pub use answers::Answer;
-pub use binding_laws::{references_are_exact, types_are_exact, walks_are_exact};
+pub use binding_laws::{notes_are_exact, references_are_exact, types_are_exact, walks_are_exact};
 pub use classes::ClassKey;
 pub use decls::{Decl, LocalKey, MemberKey};
 pub use entries::{Entry, Kind, Kinds, Sort};
