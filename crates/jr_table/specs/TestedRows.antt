@@ -1,5 +1,29 @@
--- A test that rows can pass only where they are the rows of a program. It computes at a concrete list.
-use Rattle.std.specs.Prelude.{◌≡◌, ℕ, zero, suc, ◌^◌, List, [], ◌∷◌, ◌++◌, length, Option, Some, None, Bool, true, false, nat_lt, not, ◌&&◌, is_some, option_to_list, option_map}
+-- A test that rows can pass only where they are the rows of a program. It computes at a concrete
+-- list.
+use Rattle.std.specs.Prelude.{
+  ◌≡◌,
+  ℕ,
+  zero,
+  suc,
+  ◌^◌,
+  List,
+  [],
+  ◌∷◌,
+  ◌++◌,
+  length,
+  Option,
+  Some,
+  None,
+  Bool,
+  true,
+  false,
+  nat_lt,
+  not,
+  ◌&&◌,
+  is_some,
+  option_to_list,
+  option_map,
+}
 use Rattle.std.specs.List.{list_all}
 use Rattle.jr_table.specs.declared.entries.Entry.{Entry}
 use Rattle.jr_table.specs.Keys.{ClassKey, Ty, int, boolean, void, null, class}
