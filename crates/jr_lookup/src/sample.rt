@@ -1,5 +1,6 @@
 //! The rows of a small program, for tests (`LookupSample` of `jr_table` has its text).
-ghost use Rattle.std.specs.Prelude.{◌≡◌, IfOk, OnOk, Some, None, map, ◌++◌, [], ◌∷◌, option_map};
+ghost use Rattle.std.specs.Prelude.{◌≡◌, IfOk, OnOk, Some, None, map, ◌++◌, [], ◌∷◌};
+ghost use Rattle.std.specs.Prelude.{option_map, take, drop};
 ghost use Rattle.jr_table.specs.TypeView.{class_key_of, ty_of};
 ghost use Rattle.jr_table.specs.RowView.{row_of};
 ghost use Rattle.jr_table.specs.Keys as keys;
@@ -171,28 +172,57 @@ fn two_classes(alloc: Global, first: &str, second: &str) -> Result<Vec<Ty>, Allo
     Ok(tys)
 }
 
-fn push_a(alloc: Global, rows: &mut Vec<Row>) -> Result<(), AllocError>
-    ensures { OnOk result (map row_of rows.new.items ≡ map row_of rows.old.items ++ pure.a_rows) }
+fn push_first_a(alloc: Global, rows: &mut Vec<Row>) -> Result<(), AllocError>
+    ensures { OnOk result (map row_of rows.new.items
+        ≡ map row_of rows.old.items ++ take 5 pure.a_rows) }
 {
     push_class(alloc, rows, &[], None, "A", "Object")?;
     push_ctor(alloc, rows, &[], None, "A", Vec::new(alloc))?;
     push_field(alloc, rows, &[], None, "A", "f")?;
     push_field(alloc, rows, &[ModWord::Static], None, "A", "sf")?;
-    push_field(alloc, rows, &[ModWord::Private], None, "A", "p")?;
+    push_field(alloc, rows, &[ModWord::Private], None, "A", "p")
+}
+
+fn push_second_a(alloc: Global, rows: &mut Vec<Row>) -> Result<(), AllocError>
+    ensures { OnOk result (map row_of rows.new.items
+        ≡ map row_of rows.old.items ++ take 2 (drop 5 pure.a_rows)) }
+{
     push_method(alloc, rows, &[], "A", "m", Vec::new(alloc))?;
-    push_method(alloc, rows, &[ModWord::Private], "A", "q", Vec::new(alloc))?;
+    push_method(alloc, rows, &[ModWord::Private], "A", "q", Vec::new(alloc))
+}
+
+fn push_third_a(alloc: Global, rows: &mut Vec<Row>) -> Result<(), AllocError>
+    ensures { OnOk result (map row_of rows.new.items
+        ≡ map row_of rows.old.items ++ drop 7 pure.a_rows) }
+{
     push_class(alloc, rows, &[ModWord::Static], Some("A"), "T", "Object")?;
     push_ctor(alloc, rows, &[], Some("A"), "T", Vec::new(alloc))
 }
 
-fn push_o(alloc: Global, rows: &mut Vec<Row>) -> Result<(), AllocError>
-    ensures { OnOk result (map row_of rows.new.items ≡ map row_of rows.old.items ++ pure.o_rows) }
+fn push_a(alloc: Global, rows: &mut Vec<Row>) -> Result<(), AllocError>
+    ensures { OnOk result (map row_of rows.new.items
+        ≡ map row_of rows.old.items ++ pure.a_rows) }
+{
+    push_first_a(alloc, rows)?;
+    push_second_a(alloc, rows)?;
+    push_third_a(alloc, rows)
+}
+
+fn push_first_o(alloc: Global, rows: &mut Vec<Row>) -> Result<(), AllocError>
+    ensures { OnOk result (map row_of rows.new.items
+        ≡ map row_of rows.old.items ++ take 5 pure.o_rows) }
 {
     push_class(alloc, rows, &[], None, "O", "Object")?;
     push_ctor(alloc, rows, &[], None, "O", Vec::new(alloc))?;
     push_field(alloc, rows, &[ModWord::Static], None, "O", "x")?;
     push_field(alloc, rows, &[], None, "O", "y")?;
-    push_field(alloc, rows, &[], None, "O", "f")?;
+    push_field(alloc, rows, &[], None, "O", "f")
+}
+
+fn push_second_o(alloc: Global, rows: &mut Vec<Row>) -> Result<(), AllocError>
+    ensures { OnOk result (map row_of rows.new.items
+        ≡ map row_of rows.old.items ++ drop 5 pure.o_rows) }
+{
     push_field(
         alloc,
         rows,
@@ -206,9 +236,17 @@ fn push_o(alloc: Global, rows: &mut Vec<Row>) -> Result<(), AllocError>
     push_method(alloc, rows, &[ModWord::Static], "O", "g", Vec::new(alloc))
 }
 
-fn push_inner(alloc: Global, rows: &mut Vec<Row>) -> Result<(), AllocError>
+fn push_o(alloc: Global, rows: &mut Vec<Row>) -> Result<(), AllocError>
     ensures { OnOk result (map row_of rows.new.items
-        ≡ map row_of rows.old.items ++ pure.inner_rows) }
+        ≡ map row_of rows.old.items ++ pure.o_rows) }
+{
+    push_first_o(alloc, rows)?;
+    push_second_o(alloc, rows)
+}
+
+fn push_first_inner(alloc: Global, rows: &mut Vec<Row>) -> Result<(), AllocError>
+    ensures { OnOk result (map row_of rows.new.items
+        ≡ map row_of rows.old.items ++ take 5 pure.inner_rows) }
 {
     push_class(alloc, rows, &[ModWord::Static], Some("O"), "K", "Object")?;
     push_ctor(alloc, rows, &[], Some("O"), "K", Vec::new(alloc))?;
@@ -228,26 +266,66 @@ fn push_inner(alloc: Global, rows: &mut Vec<Row>) -> Result<(), AllocError>
         Some("O"),
         "H",
         one_int(alloc)?,
-    )?;
+    )
+}
+
+fn push_second_inner(alloc: Global, rows: &mut Vec<Row>) -> Result<(), AllocError>
+    ensures { OnOk result (map row_of rows.new.items
+        ≡ map row_of rows.old.items ++ take 3 (drop 5 pure.inner_rows)) }
+{
     push_class(alloc, rows, &[ModWord::Static], Some("O"), "C", "A")?;
     push_ctor(alloc, rows, &[], Some("O"), "C", Vec::new(alloc))?;
-    push_field(alloc, rows, &[], Some("O"), "C", "w")?;
+    push_field(alloc, rows, &[], Some("O"), "C", "w")
+}
+
+fn push_third_inner(alloc: Global, rows: &mut Vec<Row>) -> Result<(), AllocError>
+    ensures { OnOk result (map row_of rows.new.items
+        ≡ map row_of rows.old.items ++ drop 8 pure.inner_rows) }
+{
     push_class(alloc, rows, &[], None, "D", "O")?;
     push_ctor(alloc, rows, &[], None, "D", Vec::new(alloc))?;
     push_class(alloc, rows, &[], None, "Q", "A")?;
     push_ctor(alloc, rows, &[], None, "Q", Vec::new(alloc))
 }
 
-fn push_m(alloc: Global, rows: &mut Vec<Row>) -> Result<(), AllocError>
-    ensures { OnOk result (map row_of rows.new.items ≡ map row_of rows.old.items ++ pure.m_rows) }
+fn push_inner(alloc: Global, rows: &mut Vec<Row>) -> Result<(), AllocError>
+    ensures { OnOk result (map row_of rows.new.items
+        ≡ map row_of rows.old.items ++ pure.inner_rows) }
+{
+    push_first_inner(alloc, rows)?;
+    push_second_inner(alloc, rows)?;
+    push_third_inner(alloc, rows)
+}
+
+fn push_head_m(alloc: Global, rows: &mut Vec<Row>) -> Result<(), AllocError>
+    ensures { OnOk result (map row_of rows.new.items
+        ≡ map row_of rows.old.items ++ take 2 pure.m_rows) }
 {
     push_class(alloc, rows, &[], None, "M", "Object")?;
-    push_ctor(alloc, rows, &[], None, "M", Vec::new(alloc))?;
+    push_ctor(alloc, rows, &[], None, "M", Vec::new(alloc))
+}
+
+fn push_first_m(alloc: Global, rows: &mut Vec<Row>) -> Result<(), AllocError>
+    ensures { OnOk result (map row_of rows.new.items
+        ≡ map row_of rows.old.items ++ take 2 (drop 2 pure.m_rows)) }
+{
     push_method(alloc, rows, &[], "M", "b", one_class(alloc, "A")?)?;
-    push_method(alloc, rows, &[], "M", "b", one_class(alloc, "Q")?)?;
+    push_method(alloc, rows, &[], "M", "b", one_class(alloc, "Q")?)
+}
+
+fn push_second_m(alloc: Global, rows: &mut Vec<Row>) -> Result<(), AllocError>
+    ensures { OnOk result (map row_of rows.new.items
+        ≡ map row_of rows.old.items ++ take 3 (drop 4 pure.m_rows)) }
+{
     push_method(alloc, rows, &[], "M", "c", two_classes(alloc, "A", "Q")?)?;
     push_method(alloc, rows, &[], "M", "c", two_classes(alloc, "Q", "A")?)?;
-    push_method(alloc, rows, &[], "M", "c", two_classes(alloc, "A", "A")?)?;
+    push_method(alloc, rows, &[], "M", "c", two_classes(alloc, "A", "A")?)
+}
+
+fn push_third_m(alloc: Global, rows: &mut Vec<Row>) -> Result<(), AllocError>
+    ensures { OnOk result (map row_of rows.new.items
+        ≡ map row_of rows.old.items ++ drop 7 pure.m_rows) }
+{
     push_method(alloc, rows, &[], "M", "d", one_int(alloc)?)?;
     push_method(
         alloc,
@@ -259,6 +337,16 @@ fn push_m(alloc: Global, rows: &mut Vec<Row>) -> Result<(), AllocError>
     )?;
     push_method(alloc, rows, &[], "M", "e", one_class(alloc, "A")?)?;
     push_method(alloc, rows, &[ModWord::Private], "M", "h", one_int(alloc)?)
+}
+
+fn push_m(alloc: Global, rows: &mut Vec<Row>) -> Result<(), AllocError>
+    ensures { OnOk result (map row_of rows.new.items
+        ≡ map row_of rows.old.items ++ pure.m_rows) }
+{
+    push_head_m(alloc, rows)?;
+    push_first_m(alloc, rows)?;
+    push_second_m(alloc, rows)?;
+    push_third_m(alloc, rows)
 }
 
 /// The rows of the program, the prelude's in front.

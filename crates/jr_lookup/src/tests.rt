@@ -132,8 +132,10 @@ fn answer(alloc: Global, table: &Table, asked: &Asked<'_>) -> Result<Found, Allo
     }
 }
 
-/// Calls, and what they find.
-const ROWS: [(Asked<'static>, &str); 52] = [
+type Row = (Asked<'static>, &'static str);
+
+/// Simple names as variables, and what they find.
+const VARIABLES: [Row; 12] = [
     // The last local of a name, before any field (JLS 6.4).
     (("variable", "C", false, "", "i", &[]), "local 0"),
     (("variable", "C", false, "", "k", &[]), "local 2"),
@@ -151,6 +153,10 @@ const ROWS: [(Asked<'static>, &str); 52] = [
     (("variable", "D", false, "", "y", &[]), "O.y"),
     // A class isn't a variable.
     (("variable", "O", false, "", "K", &[]), "nothing"),
+];
+
+/// Names of types, and what they find.
+const TYPES: [Row; 12] = [
     (("type_named", "C", false, "", "T", &[]), "T"),
     (("type_named", "C", false, "", "K", &[]), "K"),
     (("type_named", "C", false, "", "A", &[]), "A"),
@@ -167,6 +173,10 @@ const ROWS: [(Asked<'static>, &str); 52] = [
     ),
     (("member_type", "C", false, "O", "H", &[]), "H"),
     (("member_type", "D", false, "D", "H", &[]), "nothing"),
+];
+
+/// Fields of a class, and what is found.
+const FIELDS: [Row; 5] = [
     (("field_of", "Q", false, "C", "f", &[]), "A.f"),
     // Private, from another top-level class and from the same (JLS 6.6.1).
     (
@@ -176,6 +186,10 @@ const ROWS: [(Asked<'static>, &str); 52] = [
     (("field_of", "C", false, "O", "s", &[]), "O.s"),
     (("field_of", "O", false, "H", "h", &[]), "H.h"),
     (("field_of", "A", false, "Q", "p", &[]), "nothing"),
+];
+
+/// Calls without a target, and what they find.
+const CALLS: [Row; 7] = [
     (("method_named", "C", false, "", "m", &[]), "A.m"),
     // C has a method m, so the m of O isn't looked at (JLS 15.12.1).
     (("method_named", "C", false, "", "m", &["int"]), "nothing"),
@@ -189,16 +203,20 @@ const ROWS: [(Asked<'static>, &str); 52] = [
         "from static: A.m",
     ),
     (("method_named", "C", false, "", "q", &[]), "nothing"),
+    (
+        ("method_named", "M", true, "", "c", &["Q", "Q"]),
+        "many: M.c A Q, M.c Q A",
+    ),
+];
+
+/// Methods of a class, and what is found.
+const METHODS: [Row; 11] = [
     // The more specific of two (JLS 15.12.2.5).
     (("method_of", "A", false, "M", "b", &["null"]), "M.b Q"),
     (("method_of", "A", false, "M", "b", &["Q"]), "M.b Q"),
     (("method_of", "A", false, "M", "b", &["A"]), "M.b A"),
     (
         ("method_of", "A", false, "M", "c", &["Q", "Q"]),
-        "many: M.c A Q, M.c Q A",
-    ),
-    (
-        ("method_named", "M", true, "", "c", &["Q", "Q"]),
         "many: M.c A Q, M.c Q A",
     ),
     (("method_of", "A", false, "M", "c", &["A", "Q"]), "M.c A Q"),
@@ -215,6 +233,10 @@ const ROWS: [(Asked<'static>, &str); 52] = [
         ("method_of", "A", false, "M", "h", &["int"]),
         "not accessible: M.h int",
     ),
+];
+
+/// Constructors, and what is found.
+const CTORS: [Row; 5] = [
     (("ctor_of", "A", false, "A", "", &[]), "A.new"),
     (("ctor_of", "A", false, "A", "", &["int"]), "nothing"),
     (("ctor_of", "C", false, "H", "", &["int"]), "H.new int"),
@@ -231,14 +253,61 @@ fn table(alloc: Global) -> Result<Table, AllocError> {
     Table::of_rows(alloc, rows)
 }
 
+/// Whether a call finds what is expected.
+fn finds(
+    alloc: Global,
+    table: &Table,
+    asked: &Asked<'_>,
+    expected: &str,
+) -> Result<bool, AllocError> {
+    let found = answer(alloc, table, asked)?;
+    let text = found_text(alloc, &found)?;
+    Ok(text.as_str() == expected)
+}
+
+/// Whether each call finds what is expected.
+fn all_find(alloc: Global, table: &Table, rows: &[Row]) -> Result<bool, AllocError> {
+    for (asked, expected) in rows {
+        if !finds(alloc, table, asked, expected)? {
+            return Ok(false);
+        }
+    }
+    Ok(true)
+}
+
+fn variables(alloc: Global, table: &Table) -> Result<bool, AllocError> {
+    all_find(alloc, table, &VARIABLES)
+}
+
+fn types(alloc: Global, table: &Table) -> Result<bool, AllocError> {
+    all_find(alloc, table, &TYPES)
+}
+
+fn fields(alloc: Global, table: &Table) -> Result<bool, AllocError> {
+    all_find(alloc, table, &FIELDS)
+}
+
+fn calls(alloc: Global, table: &Table) -> Result<bool, AllocError> {
+    all_find(alloc, table, &CALLS)
+}
+
+fn methods(alloc: Global, table: &Table) -> Result<bool, AllocError> {
+    all_find(alloc, table, &METHODS)
+}
+
+fn ctors(alloc: Global, table: &Table) -> Result<bool, AllocError> {
+    all_find(alloc, table, &CTORS)
+}
+
 #[test]
 fn names_of_a_small_program(rt: HostRuntime) -> Result<(), Fail> {
     let alloc = rt.alloc();
     let table = table(alloc)?;
-    for (asked, expected) in &ROWS {
-        let found = answer(alloc, &table, asked)?;
-        let text = found_text(alloc, &found)?;
-        assert!(rt; text.as_str() == *expected);
-    }
+    assert!(rt; variables(alloc, &table)?);
+    assert!(rt; types(alloc, &table)?);
+    assert!(rt; fields(alloc, &table)?);
+    assert!(rt; calls(alloc, &table)?);
+    assert!(rt; methods(alloc, &table)?);
+    assert!(rt; ctors(alloc, &table)?);
     Ok(())
 }
