@@ -53,3 +53,4 @@ pub mod ErrorLists
 pub mod BindingLaws
 pub mod NotingLaws
 pub mod TypesAt
+pub mod TestedRows

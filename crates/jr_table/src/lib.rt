@@ -20,6 +20,7 @@ mod noting_laws;
 mod numbering;
 mod overloads;
 mod prelude_rows;
+mod row_laws;
 mod rows;
 mod rules;
 #[cfg(test)]
@@ -49,6 +50,7 @@ pub use noting_laws::{
     parts_have_errors, statements_are_noted,
 };
 pub use prelude_rows::prelude;
+pub use row_laws::tested_rows_are_rows;
 pub use rows::{Mods, Row};
 pub use rules::Rule;
 pub use tables::Table;
