@@ -1,12 +1,15 @@
--- Errors of a log: they are error_iff in order, each once, and no others.
-use Rattle.std.proofs.Common.{◌≡◌, ℕ, ◌+◌, ◌-◌, ◌<◌, ◌≤◌, List, [], ◌∷◌, ◌++◌, Bool, true, false, refl, sym, ap, subst, ◌∙◌, arith, inl, inr}
+-- Errors of a log: they are told in order, each once, and no others.
+use Rattle.std.proofs.Common.{◌≡◌, ℕ, zero, suc, ◌+◌, ◌-◌, ◌<◌, ◌≤◌, List, [], ◌∷◌, ◌++◌, Bool, true, false, refl, sym, ap, subst, ◌∙◌, arith, inl, inr}
 use Rattle.std.proofs.lemmas.Bool.{ltb-true, ltb-false}
+use Rattle.std.proofs.lemmas.List.Sorted.{Contains-permutation, IsPermutation-sym}
+use Rattle.std.specs.List.{Contains}
+use Rattle.std.specs.List.Sorted.{IsPermutation, IsNonDecreasingBy}
 use Rattle.std.specs.Prelude.{◌⊎◌, ◌↔◌, nat_lt, if◌then◌else◌}
 use Rattle.jr_table.specs.Errors.{Error, ComesBefore, AreInOrder, Among, AreErrors}
 use Rattle.jr_table.specs.Notes.{Note, refers, breaks, Has}
-use Rattle.jr_table.specs.ErrorLists.{error_of, errors_in, comes_before, same_error, AreSorted, insert_error, sort_errors, drop_repeats, each_once, errors_of_log}
+use Rattle.jr_table.specs.ErrorLists.{error_of, errors_in, comes_before, same_error, order_number, insert_error, sort_errors, drop_repeats, each_once, errors_of_log}
 use Rattle.jr_table.proofs.RowTypes.{chain}
-use Rattle.jr_table.proofs.ErrorOrder.{before_iff, same_iff, before_trans, not_before, IsUpTo, up_to_trans, before_up_to, up_to_not}
+use Rattle.jr_table.proofs.ErrorOrder.{rank_small, before_iff, same_iff, before_trans, not_before, IsUpTo, up_to_trans, before_up_to, up_to_not}
 use Rattle.jr_table.specs.declared.rules.Rule.{Rule}
 
 -- each is before all that stand behind it; each is up to them
@@ -35,17 +38,17 @@ in_order [] h = tt
 in_order (e ∷ []) h = tt
 in_order (e ∷ f ∷ es) h = (h.0 f (inl refl), in_order (f ∷ es) h.1)
 
-all_up_to : (es : List Error) → AreSorted es → AllUpTo es
-all_up_to [] h = tt
-all_up_to (e ∷ []) h = (λ f i. absurd i, tt)
-all_up_to (e ∷ f ∷ es) h = from (all_up_to (f ∷ es) h.1)
-  where
-    from : AllUpTo (f ∷ es) → AllUpTo (e ∷ f ∷ es)
-    from rest = (each, rest)
-      where
-        each : (g : Error) → Among (f ∷ es) g → IsUpTo e g
-        each g (inl i) = subst (IsUpTo e) i h.0
-        each g (inr i) = up_to_trans e f g h.0 (rest.0 g i)
+-- an error of a list stands at some place
+
+among_contains : (es : List Error) (e : Error) → Among es e → Contains es e
+among_contains [] e i = absurd i
+among_contains (x ∷ xs) e (inl i) = (0, omega arith, i)
+among_contains (x ∷ xs) e (inr i) = let c = among_contains xs e i in (suc c.0, let lt = c.1 in omega (arith, lt), c.2)
+
+contains_among : (es : List Error) (e : Error) → Contains es e → Among es e
+contains_among [] e (k, lt, is) = absurd (omega (arith, lt))
+contains_among (x ∷ xs) e (zero, lt, is) = inl is
+contains_among (x ∷ xs) e (suc k, lt, is) = inr (contains_among xs e (k, omega (arith, lt), is))
 
 -- one walk: what is kept
 
@@ -104,10 +107,6 @@ once_members (e ∷ es) g = repeats_members e es g
 once_before : (es : List Error) → AllUpTo es → AllBefore (each_once es)
 once_before [] h = tt
 once_before (e ∷ es) h = repeats_order e es h
-
--- of a sorted list the walk makes one that is in order
-pub once_order : (es : List Error) → AreSorted es → AreInOrder (each_once es)
-once_order es h = in_order (each_once es) (once_before es (all_up_to es h))
 
 -- the sort
 
@@ -240,3 +239,36 @@ one_list (x ∷ xs) (y ∷ ys) f g same = join first (one_list xs ys f.1 g.1 (λ
 
 pub only_list : (xs ys : List Error) → AreInOrder xs → AreInOrder ys → ((e : Error) → Among xs e ↔ Among ys e) → xs ≡ ys
 only_list xs ys f g same = one_list xs ys (all_before xs f) (all_before ys g) same
+
+-- what a sort by number and the walk make
+
+number_order : (e f : Error) → order_number e ≤ order_number f → IsUpTo e f
+number_order e f le = up_to_not e f none
+  where
+    none : ComesBefore f e → ⊥
+    none (inl lt) = let a = rank_small e.rule in let b = rank_small f.rule in omega (arith, le, lt, a, b)
+    none (inr (same, lt)) = omega (arith, le, same, lt)
+
+each_up_to : (e : Error) (es : List Error) → IsNonDecreasingBy order_number (e ∷ es) → (f : Error) → Among es f → IsUpTo e f
+each_up_to e es h f i = number_order e f (by (among_contains es f i))
+  where
+    by : Contains es f → order_number e ≤ order_number f
+    by (k, lt, is) = subst (λ x. order_number e ≤ order_number x) is (h 0 (suc k) f (omega arith) (omega (arith, lt)))
+
+numbers_order : (es : List Error) → IsNonDecreasingBy order_number es → AllUpTo es
+numbers_order [] h = tt
+numbers_order (e ∷ es) h = (each_up_to e es h, numbers_order es (λ i j d le lt. h (suc i) (suc j) d (omega (arith, le)) (omega (arith, lt))))
+
+pub computed_errors : (start : ℕ) (ns : List Note) (es : List Error) → IsPermutation (errors_in start ns) es → IsNonDecreasingBy order_number es → each_once es ≡ errors_of_log start ns
+unfolding errors_of_log
+computed_errors start ns es p h = one_list (each_once es) (each_once (sort_errors (errors_in start ns))) (once_before es (numbers_order es h)) (once_before (sort_errors (errors_in start ns)) (sort_order (errors_in start ns)))
+    (λ e. chain (once_members es e) (chain (moved e) (chain (back (sort_members (errors_in start ns) e)) (back (once_members (sort_errors (errors_in start ns)) e)))))
+  where
+    back : {P Q : Type 0} → (P ↔ Q) → Q ↔ P
+    back f = (f.1, f.0)
+
+    moved : (e : Error) → Among es e ↔ Among (errors_in start ns) e
+    moved e = (
+      λ i. contains_among (errors_in start ns) e (Contains-permutation es (errors_in start ns) e (IsPermutation-sym (errors_in start ns) es p) (among_contains es e i)),
+      λ i. contains_among es e (Contains-permutation (errors_in start ns) es e p (among_contains (errors_in start ns) e i)),
+    )

@@ -45,6 +45,10 @@ rule_of rule.Deep = refl
 one_rank : (q r : Rule) → rule_rank q ≡ rule_rank r → q ≡ r
 one_rank q r e = let s : Some q ≡ Some r = sym (rule_of q) ∙ ap (slice_get rule_at) e ∙ rule_of r in cc
 
+pub rank_small : (r : Rule) → rule_rank r < 32
+rank_small rule.NoVariable = omega arith
+rank_small _ = omega arith
+
 same_parts : (e f : Error) → e.at ≡ f.at → rule_rank e.rule ≡ rule_rank f.rule → e ≡ f
 same_parts e f a r = let q = one_rank e.rule f.rule r in λ i. record { at = a i; rule = q i }
 

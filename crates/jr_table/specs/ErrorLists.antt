@@ -1,8 +1,9 @@
 -- Exact: the errors of a log, by place and rule, each once; by a sort and one walk.
 use Rattle.std.specs.Prelude.{
-  ◌≡◌,
   ℕ,
+  ◌+◌,
   ◌-◌,
+  ◌*◌,
   List,
   [],
   ◌∷◌,
@@ -12,10 +13,9 @@ use Rattle.std.specs.Prelude.{
   ◌||◌,
   nat_lt,
   ◌==◌,
-  ◌⊎◌,
   if◌then◌else◌,
 }
-use Rattle.jr_table.specs.Errors.{Error, ComesBefore, rule_rank}
+use Rattle.jr_table.specs.Errors.{Error, rule_rank}
 use Rattle.jr_table.specs.Notes.{Note, refers, breaks}
 
 -- The error that a note tells, its place counted from `start`. No rule is broken before the first
@@ -36,11 +36,9 @@ comes_before e f =
 abbrev pub same_error : Error → Error → Bool
 same_error e f = (e.at == f.at) && (rule_rank e.rule == rule_rank f.rule)
 
--- each comes before the next one, or is the same
-abbrev pub AreSorted : List Error → Type 0
-AreSorted [] = Unit {0}
-AreSorted (e ∷ []) = Unit {0}
-AreSorted (e ∷ f ∷ es) = ((e ≡ f) ⊎ ComesBefore e f) × AreSorted (f ∷ es)
+-- a number by which errors are in order, since there are fewer than thirty-two rules
+abbrev pub order_number : Error → ℕ
+order_number e = e.at * 32 + rule_rank e.rule
 
 -- an error put in front of the first that doesn't come before it
 abbrev pub insert_error : Error → List Error → List Error

@@ -1,6 +1,7 @@
 -- Laws of what binding notes, as statements: the notes are what the rules of a sound program and the
 -- lookup of references say (JLS 6, 8, 14, 15).
 use Rattle.std.specs.Prelude.{◌≡◌, ℕ, ◌+◌, ◌↔◌, List}
+use Rattle.std.specs.List.Sorted.{IsPermutation, IsNonDecreasingBy}
 use Rattle.jr_ast.specs.StatementTree as statement
 use Rattle.jr_ast.specs.MemberTree as syntax
 use Rattle.jr_table.specs.Keys.{ClassKey}
@@ -25,7 +26,7 @@ use Rattle.jr_table.specs.Errors.{
 use Rattle.jr_table.specs.Notes.{Note, refers, breaks, Has, own_stmt_notes, list_notes}
 use Rattle.jr_table.specs.HeadNotes.{head_notes, declaration_notes}
 use Rattle.jr_table.specs.Walks.{part_notes}
-use Rattle.jr_table.specs.ErrorLists.{AreSorted, each_once, errors_of_log}
+use Rattle.jr_table.specs.ErrorLists.{errors_in, order_number, each_once, errors_of_log}
 use Rattle.jr_table.specs.declared.rules.Rule.{Rule}
 
 module _ {A : Type 0} (begins : A → ℕ → ℕ) where
@@ -95,13 +96,14 @@ PartsAreNoted A = (begins : A → ℕ → ℕ) (rows : List Row) → AreRows row
     → (super_at : ℕ) (k : MemberKey) (base : ℕ) (part : Part A)
     → PartIsNoted begins rows super_at k base part
 
--- The errors of a log, with places counted from a first byte. What a sort and one walk make of the
--- same errors in any order is that list.
+-- the errors of a log, with places counted from a first byte
 pub record AreErrorsOfLogs : Type 0 where
   pub told : (start : ℕ) (log : List Note)
       → AreErrors (λ e. Has log (breaks (start + e.at) e.rule)) (errors_of_log start log)
-  pub walked : (es : List Error) → AreSorted es → AreInOrder (each_once es)
-  pub same : (es : List Error) (e : Error) → Among (each_once es) e ↔ Among es e
+  -- they are what a sort by that number and one walk make
+  pub computed : (start : ℕ) (log : List Note) (es : List Error)
+      → IsPermutation (errors_in start log) es → IsNonDecreasingBy order_number es
+      → each_once es ≡ errors_of_log start log
   -- two lists in order that have the same errors are one
   pub only : (es fs : List Error) → AreInOrder es → AreInOrder fs
       → ((e : Error) → Among es e ↔ Among fs e) → es ≡ fs
