@@ -48,8 +48,12 @@ pub mod Meanings
 pub mod Notes
 pub mod HeadNotes
 pub mod Walks
+pub mod ErrorLists
 pub mod BindingLaws
+pub mod NotingLaws
 pub mod TypesAt
 pub mod ClassIndex
 pub mod MemberIndex
 pub mod Gathering
+pub mod Spans
+pub mod TestedRows

@@ -128,7 +128,7 @@ impl Table {
     }
 
     /// The rows of the class's member methods of the name, in some order.
-    pub(crate) fn gathered(
+    pub(crate) fn gather_methods(
         &self,
         alloc: Global,
         class: u32,

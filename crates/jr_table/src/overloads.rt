@@ -21,7 +21,7 @@ impl Table {
         ensures { IfOk result (λ v.
             v.items ≡ calls.methods_named (entries_of self.now) name.now class) }
     {
-        let mut numbers = self.gathered(alloc, class, name)?;
+        let mut numbers = self.gather_methods(alloc, class, name)?;
         numbers.sort_unstable();
         Ok(numbers)
     }

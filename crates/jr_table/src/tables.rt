@@ -7,6 +7,7 @@ use crate::entries::{Entry, Kind};
 use crate::member_index::members;
 use crate::numbering::entries;
 use crate::rows::Row;
+use crate::spans::Spans;
 use jr_index::Linked;
 use std::alloc::{AllocError, Global};
 use std::marker::Model;
@@ -18,6 +19,7 @@ pub struct Table {
     entries: Vec<Entry>,
     classes: ClassIndex,
     members: Linked,
+    spans: Spans,
 }
 
 impl Model for Table {
@@ -30,7 +32,7 @@ impl Model for Table {
 
     ghost view = { λ t. map row_of t.rows.items };
 
-    ghost invariant = { λ t. Keeps (map row_of t.rows.items) t.entries.items t.classes t.members };
+    ghost invariant = { λ t. Keeps (map row_of t.rows.items) t.entries.items t.classes t.members t.spans };
 }
 
 impl Table {
@@ -42,6 +44,7 @@ impl Table {
     ghost use Rattle.jr_table.specs.Chains.{parent_of, outer_of};
     ghost use Rattle.jr_table.specs.ClassIndex.{FindsClasses};
     ghost use Rattle.jr_table.specs.MemberIndex.{LinksMembers};
+    ghost use Rattle.jr_table.specs.Spans.{AreSpans};
 
     /// The table that has exactly these rows, in this order.
     ///
@@ -54,11 +57,13 @@ impl Table {
         let classes = ClassIndex::of_rows(alloc, &rows)?;
         let entries = entries(alloc, &rows, &classes)?;
         let members = members(alloc, &entries)?;
+        let spans = Spans::of_rows(alloc, &entries)?;
         Ok(Table {
             rows,
             entries,
             classes,
             members,
+            spans,
         })
     }
 
@@ -110,6 +115,13 @@ impl Table {
         ensures { LinksMembers (entries_of self.now) result.now }
     {
         &self.members
+    }
+
+    /// The classes within their superclasses.
+    pub(crate) fn spans(&self) -> &Spans
+        ensures { AreSpans (entries_of self.now) result.now }
+    {
+        &self.spans
     }
 
     /// The number of a class's row.
