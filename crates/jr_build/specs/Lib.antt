@@ -1,0 +1,2 @@
+pub mod SiteView
+pub mod Places
