@@ -1,0 +1,9 @@
+pub mod SiteLists
+pub mod Earliest
+pub mod SiteFaultLaws
+pub mod Indexed
+pub mod WordLaws
+pub mod PackageLaws
+pub mod CtorLaws
+pub mod KeyLaws
+pub mod ClassParts

@@ -2,7 +2,14 @@
 #![tactic(auto)]
 
 mod faults;
+mod gathering;
+mod key_index;
+mod member_words;
+mod packages;
 mod places;
+mod site_faults;
+mod site_parts;
 mod sites;
+mod twice_classes;
 
 pub use faults::BuildFault;

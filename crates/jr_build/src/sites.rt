@@ -17,8 +17,8 @@ pub(crate) enum Written<'a> {
 /// A class: its name, behind that of the class that it is a member of.
 #[derive(Clone, Copy, PartialEq, Eq, Hash, Drop)]
 pub(crate) struct SiteKey<'a> {
-    pub(crate) outer: Option<&'a str>,
     pub(crate) name: &'a str,
+    pub(crate) outer: Option<&'a str>,
 }
 
 #[derive(Clone, Copy, Drop)]
