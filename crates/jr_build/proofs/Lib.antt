@@ -7,3 +7,5 @@ pub mod PackageLaws
 pub mod CtorLaws
 pub mod KeyLaws
 pub mod ClassParts
+pub mod Least
+pub mod TypeFaultLaws

@@ -3,6 +3,7 @@
 
 mod faults;
 mod gathering;
+mod hierarchies;
 mod key_index;
 mod member_words;
 mod packages;
@@ -11,5 +12,6 @@ mod site_faults;
 mod site_parts;
 mod sites;
 mod twice_classes;
+mod type_faults;
 
 pub use faults::BuildFault;

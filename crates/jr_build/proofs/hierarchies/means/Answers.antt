@@ -1,0 +1,4 @@
+use Rattle.jr_build.proofs.hierarchies.means.Goals as goal
+
+pub returns : goal.returns
+returns c = ?
