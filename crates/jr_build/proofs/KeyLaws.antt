@@ -12,7 +12,7 @@ use Rattle.jr_build.specs.SiteView.{text_of, site_key_of}
 -- the test of a borrowed key is that of the pure one
 module _ (same : Bor (List ℕ) → Bor (List ℕ) → Bool)
     (is : (x y : Bor (List ℕ)) → same x y ≡ pointwise nat_eq x.now y.now) where
-  outer_tests : (x y : Option (Bor (List ℕ))) → option_eq same x y
+  pub outer_tests : (x y : Option (Bor (List ℕ))) → option_eq same x y
       ≡ option_eq (pointwise nat_eq) (option_map text_of x) (option_map text_of y)
   outer_tests None None = refl
   outer_tests None (Some y) = refl

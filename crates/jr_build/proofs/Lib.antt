@@ -9,3 +9,5 @@ pub mod KeyLaws
 pub mod ClassParts
 pub mod Least
 pub mod TypeFaultLaws
+pub mod SignatureLaws
+pub mod Knowing

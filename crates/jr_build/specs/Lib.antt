@@ -9,3 +9,4 @@ pub mod Hierarchies
 pub mod HierarchyView
 pub mod Superclasses
 pub mod TypeFaults
+pub mod Signatures

@@ -10,6 +10,7 @@ mod packages;
 mod places;
 mod site_faults;
 mod site_parts;
+mod signatures;
 mod sites;
 mod twice_classes;
 mod type_faults;
