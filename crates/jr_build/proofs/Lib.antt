@@ -11,3 +11,5 @@ pub mod Least
 pub mod TypeFaultLaws
 pub mod SignatureLaws
 pub mod Knowing
+pub mod TwiceParamLaws
+pub mod TwiceMemberLaws

@@ -1,9 +1,15 @@
 -- Types that mean nothing, by what is known of a program's classes: exact.
-use Rattle.std.specs.Prelude.{◌≡◌, ℕ, List, Option, Some, None, min}
-use Rattle.jr_table.specs.Keys.{ClassKey}
-use Rattle.jr_table.specs.Sites.{Written, named, ParamSite, Item}
+use Rattle.std.specs.Prelude.{◌≡◌, ℕ, List, Option, Some, None, min, ◌↔◌}
+use Rattle.jr_table.specs.Keys.{ClassKey, Ty}
+use Rattle.jr_table.specs.Resolving.{Means}
+use Rattle.jr_table.specs.Sites.{Written, named, ParamSite, Item, Site}
 use Rattle.jr_table.specs.Faults.{Writes, WritesType}
 use Rattle.jr_build.specs.Hierarchies.{Hierarchy, meaning}
+
+-- the meanings of types are known
+abbrev pub KnowsMeanings : List Site → Hierarchy → Type 0
+KnowsMeanings sites h =
+    (k : ClassKey) (w : Written) (t : Ty) → (meaning h k w ≡ Some t) ↔ Means sites k w t
 
 -- the lesser of two numbers, where there is one
 abbrev pub lesser : Option ℕ → Option ℕ → Option ℕ

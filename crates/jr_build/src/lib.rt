@@ -13,6 +13,7 @@ mod site_parts;
 mod signatures;
 mod sites;
 mod twice_classes;
+mod twice_members;
 mod type_faults;
 
 pub use faults::BuildFault;

@@ -8,9 +8,8 @@ ghost use Rattle.jr_build.specs.SiteFaults.{IsLeastAt};
 ghost use Rattle.jr_build.specs.SiteView.{site_key_of, written_of, param_site_of};
 ghost use Rattle.jr_build.specs.SiteView.{method_site_of, item_of, site_of};
 ghost use Rattle.jr_table.specs.Sites.{method_item};
-ghost use Rattle.jr_build.specs.Superclasses.{IsHierarchy};
 ghost use Rattle.jr_build.specs.TypeFaults.{lesser, MeansNothing, MaybeNothing};
-ghost use Rattle.jr_build.specs.TypeFaults.{AnyNothing, NothingAt};
+ghost use Rattle.jr_build.specs.TypeFaults.{AnyNothing, NothingAt, KnowsMeanings};
 
 use crate::hierarchies::{Hierarchy, means};
 use crate::places::{earlier, in_file};
@@ -18,7 +17,7 @@ use crate::sites::{MethodSite, ParamSite, Site, SiteItem, SiteKey, Written};
 use jr_text::Place;
 
 /// The lesser of two numbers, where there is one.
-fn lesser_of(first: Option<u32>, second: Option<u32>) -> Option<u32>
+pub(crate) fn lesser_of(first: Option<u32>, second: Option<u32>) -> Option<u32>
     ensures { result ≡ lesser first second }
 {
     match (first, second) {
@@ -93,7 +92,7 @@ fn item_nothing_at<'a>(h: &Hierarchy<'a>, item: &SiteItem<'a>) -> Option<u32>
 
 /// The earliest type that means nothing.
 pub(crate) fn no_type<'a>(sites: &[Site<'a>], h: &Hierarchy<'a>) -> Option<Place>
-    requires { IsHierarchy (map site_of sites.now) (hierarchy_of h.now) }
+    requires { KnowsMeanings (map site_of sites.now) (hierarchy_of h.now) }
     ensures { (packages : List (Option PackageLine)) →
         IsEarliest (HasFault packages (map site_of sites.now) kind.NoTy)
         (option_map place_of result) }

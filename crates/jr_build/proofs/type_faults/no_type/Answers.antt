@@ -27,6 +27,6 @@ loop-site-preserved c =
 
 pub returns : goal.returns
 returns c = λ packages. no_types packages (map site_of c.args.sites.now)
-    (hierarchy_of c.args.h.now) (λ k w t. ?) c.loop-site.site-index
+    (hierarchy_of c.args.h.now) c.requires c.loop-site.site-index
     (laws.past c.args.sites.now c.loop-site.site-index c.loop-site-test.false)
     (option_map place_of c.loop-site.first) c.loop-site.invariant
