@@ -8,8 +8,8 @@ use Rattle.std.proofs.lemmas.List.{append_assoc, append-nil, drop_all}
 use Rattle.std.proofs.Math.Seq.{drop-cons}
 use Rattle.jr_table.specs.Keys.{ClassKey, Ty}
 use Rattle.jr_table.specs.SameKeys.{same_class, same_ty, same_types}
-use Rattle.jr_build.specs.declared.hierarchies.Meaning as raw_meaning
-use Rattle.jr_build.specs.declared.hierarchies.Meaning.TheVariants as meaning_case
+use Rattle.jr_build.specs.declared.meanings.Meaning as raw_meaning
+use Rattle.jr_build.specs.declared.meanings.Meaning.TheVariants as meaning_case
 use Rattle.jr_build.specs.declared.signatures.Signature as raw
 use Rattle.jr_build.specs.declared.signatures.SignatureIndex.{SignatureIndex}
 use Rattle.jr_build.specs.declared.sites.SiteKey.{SiteKey}

@@ -18,6 +18,7 @@ use Rattle.std.specs.Prelude.{
   length,
   map,
   slice_get,
+  slice_set,
   option_and_then,
   option_map,
   unwrap_or,
@@ -26,6 +27,7 @@ use Rattle.std.specs.Prelude.{
 use Rattle.std.specs.List.{list_any}
 use Rattle.jr_index.specs.Parents.{next}
 use Rattle.jr_table.specs.Entries.{is_private_word}
+use Rattle.jr_build.specs.KeyIndex.{class_key_at}
 use Rattle.jr_table.specs.Keys.{ClassKey, Ty, class}
 use Rattle.jr_table.specs.Keys as keys
 use Rattle.jr_table.specs.Prelude.{top_key, object_key}
@@ -56,6 +58,9 @@ pub record Hierarchy : Type 0 where
 
 -- the numbers of a program's classes
 
+abbrev pub one_class : List ℕ → List (Option ClassKey)
+one_class name = Some (top_key name) ∷ []
+
 abbrev pub prelude_classes : List (Option ClassKey)
 prelude_classes = Some object_key
     ∷ Some (top_key (codes "String"))
@@ -63,15 +68,11 @@ prelude_classes = Some object_key
     ∷ Some (top_key (codes "Thread"))
     ∷ []
 
-abbrev pub class_of : Item → Option ClassKey
-class_of (class_item c) = Some c.key
-class_of (field_item f) = None
-class_of (method_item m) = None
-class_of (ctor_item c) = None
+abbrev pub site_keys : List Site → List (Option ClassKey)
+site_keys ss = map (λ (s : Site). class_key_at s.item) ss
 
 abbrev pub class_keys : List Site → List (Option ClassKey)
-class_keys [] = prelude_classes
-class_keys (s ∷ ss) = class_of s.item ∷ class_keys ss
+class_keys ss = site_keys ss ++ prelude_classes
 
 abbrev pub is_private_item : Item → Bool
 is_private_item (class_item c) = list_any is_private_word c.modifiers
@@ -84,8 +85,11 @@ privates_of ss = map (λ (s : Site). is_private_item s.item) ss
 
 -- lookup
 
+abbrev pub class_in : List (Option ClassKey) → ℕ → Option ClassKey
+class_in keys j = option_and_then (λ k. k) (slice_get keys j)
+
 abbrev pub key_at : Hierarchy → ℕ → Option ClassKey
-key_at h j = option_and_then (λ k. k) (slice_get h.keys j)
+key_at h j = class_in h.keys j
 
 abbrev pub parent_at : Hierarchy → ℕ → Option ℕ
 parent_at h j = next h.parents j
@@ -125,6 +129,10 @@ inherited h (Some m) = cond (is_private_at h m) None (Some m)
 abbrev pub parent_of : Hierarchy → ClassKey → Option ℕ
 parent_of h k = option_and_then (λ j. parent_at h j) (h.number k)
 
+-- the superclass of a class
+abbrev pub parent_key : Hierarchy → ClassKey → Option ClassKey
+parent_key h k = option_and_then (λ p. key_at h p) (parent_of h k)
+
 abbrev pub nearest_above : Hierarchy → (name : List ℕ) → Option ℕ → Option ℕ
 nearest_above h name p = option_and_then (λ q. nearest (length h.keys) h name q) p
 
@@ -132,9 +140,11 @@ nearest_above h name p = option_and_then (λ q. nearest (length h.keys) h name q
 abbrev pub member_type : Hierarchy → ClassKey → (name : List ℕ) → Option ℕ
 member_type h k name = first_of (own h k name) (inherited h (nearest_above h name (parent_of h k)))
 
+abbrev pub member_type_at : Hierarchy → ℕ → (name : List ℕ) → Option ℕ
+member_type_at h j name = option_and_then (λ k. member_type h k name) (key_at h j)
+
 abbrev pub member_type_of : Hierarchy → Option ℕ → (name : List ℕ) → Option ℕ
-member_type_of h o name =
-    option_and_then (λ k. member_type h k name) (option_and_then (λ j. key_at h j) o)
+member_type_of h o name = option_and_then (λ j. member_type_at h j name) o
 
 -- what a simple name means in a top-level class, outside its member classes
 abbrev pub found_in_top : Hierarchy → (outer name : List ℕ) → Option ℕ
@@ -192,12 +202,12 @@ parent_of_item h (method_item m) = None
 parent_of_item h (ctor_item c) = None
 
 -- that of a top-level class alone
+abbrev pub parent_of_outer : Hierarchy → Option (List ℕ) → Option Written → Option ℕ
+parent_of_outer h None written = parent_of_top h written
+parent_of_outer h (Some outer) written = None
+
 abbrev pub parent_of_outer_item : Hierarchy → Item → Option ℕ
-parent_of_outer_item h (class_item c) = at_top c.key.outer
-  where
-    at_top : Option (List ℕ) → Option ℕ
-    at_top None = parent_of_top h c.parent
-    at_top (Some outer) = None
+parent_of_outer_item h (class_item c) = parent_of_outer h c.key.outer c.parent
 parent_of_outer_item h (field_item f) = None
 parent_of_outer_item h (method_item m) = None
 parent_of_outer_item h (ctor_item c) = None
@@ -205,7 +215,29 @@ parent_of_outer_item h (ctor_item c) = None
 abbrev pub prelude_parents : Hierarchy → List (Option ℕ)
 prelude_parents h = None ∷ h.number object_key ∷ h.number object_key ∷ h.number object_key ∷ []
 
+abbrev pub site_parents : Hierarchy → List Site → List (Option ℕ)
+site_parents h ss = map (λ (s : Site). parent_of_outer_item h s.item) ss
+
 -- the superclasses of top-level and prelude classes
 abbrev pub top_parents : Hierarchy → List Site → List (Option ℕ)
-top_parents h [] = prelude_parents h
-top_parents h (s ∷ ss) = parent_of_outer_item h s.item ∷ top_parents h ss
+top_parents h ss = site_parents h ss ++ prelude_parents h
+
+-- a superclass more
+
+abbrev pub first_told : Option ℕ → Option ℕ → Option ℕ
+first_told None told = told
+first_told (Some p) told = None
+
+-- what is told of the superclass of number j, where it isn't known
+abbrev pub tells : Hierarchy → ℕ → Item → Option ℕ
+tells h j item = first_told (parent_at h j) (parent_of_item h item)
+
+abbrev pub with_parent : Hierarchy → ℕ → Option ℕ → Hierarchy
+with_parent h j None = h
+with_parent h j (Some p) = record h { parents = slice_set h.parents j (Some p) }
+
+-- how many superclasses aren't known
+abbrev pub unknown : List (Option ℕ) → ℕ
+unknown [] = 0
+unknown (None ∷ ps) = suc (unknown ps)
+unknown (Some p ∷ ps) = unknown ps

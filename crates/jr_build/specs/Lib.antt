@@ -10,3 +10,4 @@ pub mod HierarchyView
 pub mod Superclasses
 pub mod TypeFaults
 pub mod Signatures
+pub mod ExactRows

@@ -1,6 +1,7 @@
 -- What a hierarchy has of a program's classes.
 use Rattle.std.specs.Prelude.{
   ◌≡◌,
+  ◌<◌,
   ℕ,
   suc,
   List,
@@ -8,6 +9,9 @@ use Rattle.std.specs.Prelude.{
   Option,
   Some,
   None,
+  Bool,
+  true,
+  false,
   length,
   slice_get,
 }
@@ -15,11 +19,24 @@ use Rattle.std.specs.Option.{MatchOption}
 use Rattle.jr_table.specs.declared.kinds.DeclKind.TheVariants as kind
 use Rattle.jr_table.specs.Keys.{ClassKey}
 use Rattle.jr_table.specs.Prelude.{top_key}
-use Rattle.jr_table.specs.Sites.{ClassSite, class_item, Site, int, boolean}
+use Rattle.jr_table.specs.Sites.{
+  Written,
+  int,
+  boolean,
+  named,
+  ClassSite,
+  Item,
+  class_item,
+  field_item,
+  method_item,
+  ctor_item,
+  Site,
+}
 use Rattle.jr_table.specs.Resolving.{TopParent, IsParent, Climbs, DeclaresClass}
 use Rattle.jr_table.specs.Faults.{Place, At, HasFault}
 use Rattle.jr_build.specs.Hierarchies.{
   Hierarchy,
+  class_in,
   class_keys,
   privates_of,
   key_at,
@@ -31,6 +48,12 @@ use Rattle.jr_build.specs.Hierarchies.{
 pub record AreUnique (sites : List Site) : Type 0 where
   pub unreserved : (p : Place) → HasFault [] sites kind.PreludeName p → ⊥
   pub once : (p : Place) → HasFault [] sites kind.TwiceClass p → ⊥
+
+-- the first n classes are found by these numbers
+abbrev pub IsNumbering : List (Option ClassKey) → (n : ℕ) → (ClassKey → Option ℕ) → Type 0
+IsNumbering keys n number = (k : ClassKey) → MatchOption (number k)
+    ((i : ℕ) → i < n → class_in keys i ≡ Some k → ⊥)
+    (λ i. class_in keys i ≡ Some k)
 
 -- the classes, whatever is known of superclasses
 pub record HasClasses (sites : List Site) (h : Hierarchy) : Type 0 where
@@ -71,6 +94,34 @@ IsSettled sites h = (j file : ℕ) (c : ClassSite) (outer : List ℕ) → At sit
 pub record IsHierarchy (sites : List Site) (h : Hierarchy) : Type 0 where
   pub tops : KnowsTops sites h
   pub all : (j : ℕ) (k p : ClassKey) → key_at h j ≡ Some k → IsParent sites k p → HasParent h j p
+
+-- faults of single sites
+
+-- the class names a superclass there that it hasn't
+abbrev pub UnparentedAt : List Site → Item → ℕ → Type 0
+UnparentedAt sites (class_item c) at = (outer : Option (List ℕ)) × (name : List ℕ)
+    × (c.parent ≡ Some (named at outer name)) × ((q : ClassKey) → IsParent sites c.key q → ⊥)
+UnparentedAt sites _ at = ⊥
+
+-- the class is its own superclass through others
+abbrev pub OnCycleAt : List Site → Item → ℕ → Type 0
+OnCycleAt sites (class_item c) at =
+    (at ≡ c.at) × ((steps : ℕ) × Climbs sites (suc steps) c.key c.key)
+OnCycleAt sites _ at = ⊥
+
+-- exact: where they are, by what is known of the superclass
+
+abbrev pub unparented_in : Option Written → Option ℕ → Option ℕ
+unparented_in (Some (named at outer name)) None = Some at
+unparented_in _ _ = None
+
+abbrev pub unparented_of : Item → Option ℕ → Option ℕ
+unparented_of (class_item c) parent = unparented_in c.parent parent
+unparented_of _ parent = None
+
+abbrev pub on_cycle_of : Item → Bool → Option ℕ
+on_cycle_of (class_item c) true = Some c.at
+on_cycle_of _ _ = None
 
 -- laws of programs in which each class has its superclass, and none is on a cycle
 

@@ -5,7 +5,8 @@ ghost use Rattle.jr_build.specs.HierarchyView.{hierarchy_of, meaning_of};
 ghost use Rattle.jr_build.specs.Signatures.{signature_view, meanings, signature_of};
 ghost use Rattle.jr_build.specs.SiteView.{text_of, site_key_of, param_site_of, item_of};
 
-use crate::hierarchies::{Hierarchy, Meaning, means};
+use crate::hierarchies::Hierarchy;
+use crate::meanings::{Meaning, means};
 use crate::sites::{ParamSite, SiteItem, SiteKey};
 use std::alloc::{AllocError, Global};
 use std::collections::HashMap;
@@ -20,7 +21,7 @@ pub(crate) struct Signature<'a> {
 }
 
 /// What the types of parameters mean in a class, if each means something.
-fn meanings_of<'a>(
+pub(crate) fn meanings_of<'a>(
     alloc: Global,
     h: &Hierarchy<'a>,
     of: &SiteKey<'a>,

@@ -11,7 +11,8 @@ ghost use Rattle.jr_table.specs.Sites.{method_item};
 ghost use Rattle.jr_build.specs.TypeFaults.{lesser, MeansNothing, MaybeNothing};
 ghost use Rattle.jr_build.specs.TypeFaults.{AnyNothing, NothingAt, KnowsMeanings};
 
-use crate::hierarchies::{Hierarchy, means};
+use crate::hierarchies::Hierarchy;
+use crate::meanings::means;
 use crate::places::{earlier, in_file};
 use crate::sites::{MethodSite, ParamSite, Site, SiteItem, SiteKey, Written};
 use jr_text::Place;

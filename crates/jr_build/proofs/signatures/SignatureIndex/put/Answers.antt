@@ -1,10 +1,10 @@
 use Rattle.std.proofs.Common.{◌≡◌, ◌∙◌, Option, Some, ap, sym, subst, refl}
 use Rattle.std.specs.Prelude.{option_and_then}
 use Rattle.jr_table.specs.SameKeys.{same_ty}
-use Rattle.jr_build.specs.contracts.hierarchies.MeaningPartialEq.TheImpl as meaning_impl
+use Rattle.jr_build.specs.contracts.meanings.MeaningPartialEq.TheImpl as meaning_impl
 use Rattle.jr_build.specs.contracts.signatures.SignaturePartialEq.TheImpl as signature_impl
-use Rattle.jr_build.specs.declared.hierarchies.Meaning as raw_meaning
-use Rattle.jr_build.specs.declared.hierarchies.Meaning.TheVariants as case
+use Rattle.jr_build.specs.declared.meanings.Meaning as raw_meaning
+use Rattle.jr_build.specs.declared.meanings.Meaning.TheVariants as case
 use Rattle.jr_build.specs.declared.signatures.Signature as raw
 use Rattle.jr_build.specs.HierarchyView.{meaning_of}
 use Rattle.jr_build.specs.Signatures.{number_under, PutsSignature, signature_view, same_signature}
