@@ -7,7 +7,7 @@ use Rattle.jr_ast.specs.View.{member_of, members_of}
 use Rattle.jr_table.specs.Sites.{writes_ctor}
 use Rattle.jr_build.proofs.SiteLists.{rest_is}
 
-first_is : {A : Type 0} (b : A → ℕ → ℕ) (m : syntax.Member A) (ms : syntax.Members A) → writes_ctor b (syntax.more m syntax.end) ≡ true → writes_ctor b (syntax.more m ms) ≡ true
+pub first_is : {A : Type 0} (b : A → ℕ → ℕ) (m : syntax.Member A) (ms : syntax.Members A) → writes_ctor b (syntax.more m syntax.end) ≡ true → writes_ctor b (syntax.more m ms) ≡ true
 first_is b (syntax.constructor m mods w ps args body) ms e = refl
 first_is b (syntax.field m mods t w init) ms e = absurd cc
 first_is b (syntax.method m mods t w ps body) ms e = absurd cc

@@ -13,3 +13,4 @@ pub mod SignatureLaws
 pub mod Knowing
 pub mod TwiceParamLaws
 pub mod TwiceMemberLaws
+pub mod Heading

@@ -11,3 +11,4 @@ pub mod Superclasses
 pub mod TypeFaults
 pub mod Signatures
 pub mod ExactRows
+pub mod Heads

@@ -1,6 +1,7 @@
 //! The table of a program, from its trees: sites, faults of declarations, rows.
 #![tactic(auto)]
 
+mod build_laws;
 mod faults;
 mod gathering;
 mod hierarchies;

@@ -1,0 +1,11 @@
+//! Laws that no call's clause can carry.
+ghost use Rattle.std.specs.Prelude.{ℕ, List};
+ghost use Rattle.jr_ast.specs.MemberTree as syntax;
+ghost use Rattle.jr_table.specs.Sites.{sites_of};
+ghost use Rattle.jr_build.specs.Heads.{UnitsHeads, AreHeaded};
+
+/// Members' classes are declared, and what the grammar says of heads holds of sites.
+pub(crate) fn sites_are_headed<A>()
+    ensures { (begins : A → ℕ → ℕ) (us : List (syntax.Unit A)) → UnitsHeads us
+        → AreHeaded (sites_of begins us) }
+{}
