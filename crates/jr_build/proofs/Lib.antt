@@ -14,3 +14,5 @@ pub mod Knowing
 pub mod TwiceParamLaws
 pub mod TwiceMemberLaws
 pub mod Heading
+pub mod Apart
+pub mod OwnRows
