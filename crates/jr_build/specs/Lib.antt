@@ -5,3 +5,6 @@ pub mod Fitting
 pub mod Packages
 pub mod KeyIndex
 pub mod SiteFaults
+pub mod Hierarchies
+pub mod HierarchyView
+pub mod Superclasses
