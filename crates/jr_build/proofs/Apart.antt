@@ -55,9 +55,10 @@ one_each (r ∷ rs) apart d (suc i) (suc j) x y = ap suc (one_each rs apart.1 d 
 
 pub apart_join : (xs ys : List Row) → Apart xs → Apart ys → ((x y : Row) → In xs x → In ys y → x.decl ≡ y.decl → ⊥) → Apart (xs ++ ys)
 apart_join [] ys a b cross = b
-apart_join (x ∷ xs) ys a b cross =
-    ((λ y h e. elim (in_either xs ys y h) [ inl l ↦ a.0 y l e | inr r ↦ cross x y (inl refl) r e ]),
-    apart_join xs ys a.1 b (λ u v h k. cross u v (inr h) k))
+apart_join (x ∷ xs) ys a b cross = (
+  (λ y h e. elim (in_either xs ys y h) [ inl l ↦ a.0 y l e | inr r ↦ cross x y (inl refl) r e ]),
+  apart_join xs ys a.1 b (λ u v h k. cross u v (inr h) k),
+)
 
 -- by a test
 none_same : Decl → List Row → Bool

@@ -109,28 +109,31 @@ module _ {A : Type 0} (begins : A → ℕ → ℕ) where
         → (c : syntax.Class A) → ClassHeads nested c → ((x : Item) → In (class_sites begins base outer c) x → In all x)
         → (x : Item) → In (class_sites begins base outer c) x → Meets all x
     class_items all base nested outer top around (syntax.class m mods w t ms) heads within x h =
-        elim h
-        [ inl e ↦ subst (Meets all) e (class_meets all _ around (parent_named (begins m base) t heads.0))
-        | inr r ↦ members_items all (begins m base) nested _ (within _ (inl refl)) top ms heads.1 (λ e. e) (λ y k. within y (inr k)) x r ]
+        elim h [
+          | inl e ↦ subst (Meets all) e (class_meets all _ around (parent_named (begins m base) t heads.0))
+          | inr r ↦ members_items all (begins m base) nested _ (within _ (inl refl)) top ms heads.1 (λ e. e) (λ y k. within y (inr k)) x r
+        ]
 
     members_items : (all : List Item) (base : ℕ) (nested : Bool) (d : ClassSite) → In all (class_item d) → top_or_nested nested d.key.outer
         → (ms : syntax.Members A) → MembersHeads nested ms → (writes_ctor begins ms ≡ true → d.has_ctor ≡ true)
         → ((x : Item) → In (members_sites begins base d.key ms) x → In all x) → (x : Item) → In (members_sites begins base d.key ms) x → Meets all x
     members_items all base nested d stands top syntax.end heads has within x h = absurd h
     members_items all base nested d stands top (syntax.more m ms) heads has within x h =
-        elim (in_either (member_sites begins base d.key m) (members_sites begins base d.key ms) x h)
-        [ inl l ↦ member_items all base nested d stands top m heads.0 (λ e. has (first_is begins m ms e))
-            (λ y k. within y (in_left (member_sites begins base d.key m) (members_sites begins base d.key ms) y k)) x l
-        | inr r ↦ members_items all base nested d stands top ms heads.1 (λ e. has (writes_rest m ms e))
-            (λ y k. within y (in_right (member_sites begins base d.key m) (members_sites begins base d.key ms) y k)) x r ]
+        elim (in_either (member_sites begins base d.key m) (members_sites begins base d.key ms) x h) [
+          | inl l ↦ member_items all base nested d stands top m heads.0 (λ e. has (first_is begins m ms e))
+              (λ y k. within y (in_left (member_sites begins base d.key m) (members_sites begins base d.key ms) y k)) x l
+          | inr r ↦ members_items all base nested d stands top ms heads.1 (λ e. has (writes_rest m ms e))
+              (λ y k. within y (in_right (member_sites begins base d.key m) (members_sites begins base d.key ms) y k)) x r
+        ]
 
   classes_items : (all : List Item) (base : ℕ) (cs : List (syntax.Class A)) → ClassesHeads cs → ((x : Item) → In (classes_sites begins base cs) x → In all x)
       → (x : Item) → In (classes_sites begins base cs) x → Meets all x
   classes_items all base [] heads within x h = absurd h
   classes_items all base (c ∷ cs) heads within x h =
-      elim (in_either (class_sites begins base None c) (classes_sites begins base cs) x h)
-      [ inl l ↦ class_items all base false None refl (λ o e. absurd cc) c heads.0 (λ y k. within y (in_left (class_sites begins base None c) (classes_sites begins base cs) y k)) x l
-      | inr r ↦ classes_items all base cs heads.1 (λ y k. within y (in_right (class_sites begins base None c) (classes_sites begins base cs) y k)) x r ]
+      elim (in_either (class_sites begins base None c) (classes_sites begins base cs) x h) [
+        | inl l ↦ class_items all base false None refl (λ o e. absurd cc) c heads.0 (λ y k. within y (in_left (class_sites begins base None c) (classes_sites begins base cs) y k)) x l
+        | inr r ↦ classes_items all base cs heads.1 (λ y k. within y (in_right (class_sites begins base None c) (classes_sites begins base cs) y k)) x r
+      ]
 
   abbrev items_of : List Site → List Item
   items_of ss = map (λ (s : Site). s.item) ss
@@ -146,9 +149,10 @@ module _ {A : Type 0} (begins : A → ℕ → ℕ) where
       let own = classes_sites begins (begins u.mark 0) u.classes in
       let rest = sites_from begins (suc file) us in
       let join : items_of (in_file file own ++ rest) ≡ own ++ items_of rest = items_join file own rest in
-      elim (in_either own (items_of rest) x (subst (λ ys. In ys x) join h))
-      [ inl l ↦ classes_items all (begins u.mark 0) u.classes heads.0 (λ y k. within y (subst (λ ys. In ys y) (sym join) (in_left own (items_of rest) y k))) x l
-      | inr r ↦ units_items all (suc file) us heads.1 (λ y k. within y (subst (λ ys. In ys y) (sym join) (in_right own (items_of rest) y k))) x r ]
+      elim (in_either own (items_of rest) x (subst (λ ys. In ys x) join h)) [
+        | inl l ↦ classes_items all (begins u.mark 0) u.classes heads.0 (λ y k. within y (subst (λ ys. In ys y) (sym join) (in_left own (items_of rest) y k))) x l
+        | inr r ↦ units_items all (suc file) us heads.1 (λ y k. within y (subst (λ ys. In ys y) (sym join) (in_right own (items_of rest) y k))) x r
+      ]
 
   at_in : (ss : List Site) (i file : ℕ) (x : Item) → slice_get ss i ≡ Some (record { file = file; item = x }) → In (items_of ss) x
   at_in [] i file x e = absurd cc

@@ -25,9 +25,10 @@ use Rattle.jr_build.proofs.TwiceMemberLaws.{same_member}
 module _ (h : Hierarchy) where
   pub item_of_row : (ss : List Site) (r : Row) → In (rows_of_sites h ss) r → (i : ℕ) × (s : Site) × (slice_get ss i ≡ Some s) × In (rows_of_item h s.item) r
   item_of_row [] r k = absurd k
-  item_of_row (s ∷ ss) r k = elim (in_either (rows_of_item h s.item) (rows_of_sites h ss) r k)
-      [ inl l ↦ (0, s, refl, l)
-      | inr m ↦ (let p = item_of_row ss r m in (suc p.0, p.1, p.2, p.3)) ]
+  item_of_row (s ∷ ss) r k = elim (in_either (rows_of_item h s.item) (rows_of_sites h ss) r k) [
+    | inl l ↦ (0, s, refl, l)
+    | inr m ↦ (let p = item_of_row ss r m in (suc p.0, p.1, p.2, p.3))
+  ]
 
   pub row_of_site : (ss : List Site) (i : ℕ) (s : Site) → slice_get ss i ≡ Some s → (r : Row) → In (rows_of_item h s.item) r → In (rows_of_sites h ss) r
   row_of_site [] i s e r k = absurd cc
@@ -75,10 +76,11 @@ module _ (packages : List (Option PackageLine)) (sites : List Site) (h : Hierarc
 
   -- a class is declared once
   pub one_class : (i j f g : ℕ) (c d : ClassSite) → At sites i f (class_item c) → At sites j g (class_item d) → c.key ≡ d.key → i ≡ j
-  one_class i j f g c d at_c at_d e = elim (order i j)
-      [ inl lt ↦ absurd (clean kind.TwiceClass (record { file = g; at = d.at }) (j, d, at_d, refl, inl (i, f, c, lt, at_c, e)))
-      | inr (inl same) ↦ same
-      | inr (inr lt) ↦ absurd (clean kind.TwiceClass (record { file = f; at = c.at }) (i, c, at_c, refl, inl (j, g, d, lt, at_d, sym e))) ]
+  one_class i j f g c d at_c at_d e = elim (order i j) [
+    | inl lt ↦ absurd (clean kind.TwiceClass (record { file = g; at = d.at }) (j, d, at_d, refl, inl (i, f, c, lt, at_c, e)))
+    | inr (inl same) ↦ same
+    | inr (inr lt) ↦ absurd (clean kind.TwiceClass (record { file = f; at = c.at }) (i, c, at_c, refl, inl (j, g, d, lt, at_d, sym e)))
+  ]
 
   -- a member is declared once
   not_twice : (i j f g : ℕ) (l m : Item) → i < j → At sites i f l → At sites j g m → SameMember sites l m → ⊥
@@ -102,22 +104,28 @@ module _ (packages : List (Option PackageLine)) (sites : List Site) (h : Hierarc
     -- two items declare different things
     class_apart : (i f : ℕ) (c : ClassSite) → At sites i f (class_item c) → (j g : ℕ) (m : Item) → At sites j g m → (i ≡ j → ⊥)
         → (r s : Row) → In (rows_of_item h (class_item c)) r → In (rows_of_item h m) s → r.decl ≡ s.decl → ⊥
-    class_apart i f c at j g (class_item d) at_d differ r s k l e = elim (in_class_rows h c c.has_ctor r k)
-        [ inl a ↦ elim (in_class_rows h d d.has_ctor s l)
-            [ inl b ↦ (let z = ap (λ (x : Row). x.decl) a ∙ e ∙ sym (ap (λ (x : Row). x.decl) b) in differ (one_class i j f g c d at at_d cc))
-            | inr b ↦ (let z = ap (λ (x : Row). x.decl) a ∙ e ∙ sym (ap (λ (x : Row). x.decl) b.1) in absurd cc) ]
-        | inr a ↦ elim (in_class_rows h d d.has_ctor s l)
-            [ inl b ↦ (let z = ap (λ (x : Row). x.decl) a.1 ∙ e ∙ sym (ap (λ (x : Row). x.decl) b) in absurd cc)
-            | inr b ↦ (let z = ap (λ (x : Row). x.decl) a.1 ∙ e ∙ sym (ap (λ (x : Row). x.decl) b.1) in differ (one_class i j f g c d at at_d (ap (λ (x : Decl). class_of x) z))) ] ]
-    class_apart i f c at j g (field_item m) at_m differ r s k l e = elim (in_class_rows h c c.has_ctor r k)
-        [ inl a ↦ (let z = ap (λ (x : Row). x.decl) a ∙ e ∙ sym (ap (λ (x : Row). x.decl) (only h (field_row h m) s l)) in absurd cc)
-        | inr a ↦ (let z = ap (λ (x : Row). x.decl) a.1 ∙ e ∙ sym (ap (λ (x : Row). x.decl) (only h (field_row h m) s l)) in absurd cc) ]
-    class_apart i f c at j g (method_item m) at_m differ r s k l e = elim (in_class_rows h c c.has_ctor r k)
-        [ inl a ↦ (let z = ap (λ (x : Row). x.decl) a ∙ e ∙ sym (ap (λ (x : Row). x.decl) (only h (method_row h m) s l)) in absurd cc)
-        | inr a ↦ (let z = ap (λ (x : Row). x.decl) a.1 ∙ e ∙ sym (ap (λ (x : Row). x.decl) (only h (method_row h m) s l)) in absurd cc) ]
-    class_apart i f c at j g (ctor_item m) at_m differ r s k l e = elim (in_class_rows h c c.has_ctor r k)
-        [ inl a ↦ (let z = ap (λ (x : Row). x.decl) a ∙ e ∙ sym (ap (λ (x : Row). x.decl) (only h (ctor_row h m) s l)) in absurd cc)
-        | inr a ↦ (let z = ap (λ (x : Row). x.decl) a.1 ∙ e ∙ sym (ap (λ (x : Row). x.decl) (only h (ctor_row h m) s l)) in class_says i f c at a.0 j g m at_m (ap (λ (x : Decl). class_of x) z)) ]
+    class_apart i f c at j g (class_item d) at_d differ r s k l e = elim (in_class_rows h c c.has_ctor r k) [
+      | inl a ↦ elim (in_class_rows h d d.has_ctor s l) [
+        | inl b ↦ (let z = ap (λ (x : Row). x.decl) a ∙ e ∙ sym (ap (λ (x : Row). x.decl) b) in differ (one_class i j f g c d at at_d cc))
+        | inr b ↦ (let z = ap (λ (x : Row). x.decl) a ∙ e ∙ sym (ap (λ (x : Row). x.decl) b.1) in absurd cc)
+      ]
+      | inr a ↦ elim (in_class_rows h d d.has_ctor s l) [
+        | inl b ↦ (let z = ap (λ (x : Row). x.decl) a.1 ∙ e ∙ sym (ap (λ (x : Row). x.decl) b) in absurd cc)
+        | inr b ↦ (let z = ap (λ (x : Row). x.decl) a.1 ∙ e ∙ sym (ap (λ (x : Row). x.decl) b.1) in differ (one_class i j f g c d at at_d (ap (λ (x : Decl). class_of x) z)))
+      ]
+    ]
+    class_apart i f c at j g (field_item m) at_m differ r s k l e = elim (in_class_rows h c c.has_ctor r k) [
+      | inl a ↦ (let z = ap (λ (x : Row). x.decl) a ∙ e ∙ sym (ap (λ (x : Row). x.decl) (only h (field_row h m) s l)) in absurd cc)
+      | inr a ↦ (let z = ap (λ (x : Row). x.decl) a.1 ∙ e ∙ sym (ap (λ (x : Row). x.decl) (only h (field_row h m) s l)) in absurd cc)
+    ]
+    class_apart i f c at j g (method_item m) at_m differ r s k l e = elim (in_class_rows h c c.has_ctor r k) [
+      | inl a ↦ (let z = ap (λ (x : Row). x.decl) a ∙ e ∙ sym (ap (λ (x : Row). x.decl) (only h (method_row h m) s l)) in absurd cc)
+      | inr a ↦ (let z = ap (λ (x : Row). x.decl) a.1 ∙ e ∙ sym (ap (λ (x : Row). x.decl) (only h (method_row h m) s l)) in absurd cc)
+    ]
+    class_apart i f c at j g (ctor_item m) at_m differ r s k l e = elim (in_class_rows h c c.has_ctor r k) [
+      | inl a ↦ (let z = ap (λ (x : Row). x.decl) a ∙ e ∙ sym (ap (λ (x : Row). x.decl) (only h (ctor_row h m) s l)) in absurd cc)
+      | inr a ↦ (let z = ap (λ (x : Row). x.decl) a.1 ∙ e ∙ sym (ap (λ (x : Row). x.decl) (only h (ctor_row h m) s l)) in class_says i f c at a.0 j g m at_m (ap (λ (x : Decl). class_of x) z))
+    ]
 
     field_key_of : (x y : FieldKey) → field_decl x ≡ field_decl y → x ≡ y
     field_key_of x y e = cc
@@ -196,7 +204,7 @@ module _ (packages : List (Option PackageLine)) (sites : List Site) (h : Hierarc
     rest_apart n (s ∷ ss) stands = apart_join (rows_of_item h s.item) (rows_of_sites h ss) (own_apart_item s.item)
         (rest_apart (n + 1) ss (λ i t e. subst (λ m. slice_get sites m ≡ Some t) (omega arith) (stands (suc i) t e)))
         (λ r t k l e. let p = item_of_row h ss t l in
-            items_apart (n + 0) (n + suc p.0) s.file p.1.file s.item p.1.item (omega arith) (record { stands = stands 0 s refl }) (record { stands = stands (suc p.0) p.1 p.2 }) r t k p.3 e)
+        items_apart (n + 0) (n + suc p.0) s.file p.1.file s.item p.1.item (omega arith) (record { stands = stands 0 s refl }) (record { stands = stands (suc p.0) p.1 p.2 }) r t k p.3 e)
 
     -- whose rows are of which classes
     owner_of_row : (i f : ℕ) (item : Item) → At sites i f item → (r : Row) → In (rows_of_item h item) r → IsDeclared sites (class_of r.decl)
@@ -212,8 +220,13 @@ module _ (packages : List (Option PackageLine)) (sites : List Site) (h : Hierarc
 
     -- no class of the program has a name of the prelude
     unreserved : (k : ClassKey) → IsDeclared sites k → IsPreludeClass k.name → ⊥
-    unreserved k (c, d) p = clean kind.PreludeName (record { file = d.file; at = c.at }) (d.number, c, record { stands = d.stands },
-        inl (subst (λ (x : ClassKey). IsPreludeClass x.name) (sym d.is) p), refl)
+    unreserved k (c, d) p = clean kind.PreludeName (record { file = d.file; at = c.at }) (
+      d.number,
+      c,
+      record { stands = d.stands },
+      inl (subst (λ (x : ClassKey). IsPreludeClass x.name) (sym d.is) p),
+      refl,
+    )
 
     pub rows_apart : Apart (prelude_rows ++ rows_of_sites h sites)
     rows_apart = apart_join prelude_rows (rows_of_sites h sites) prelude_apart (rest_apart 0 sites (λ i s e. subst (λ m. slice_get sites m ≡ Some s) (omega arith) e))

@@ -77,19 +77,21 @@ module _ (sites : List Site) (h : Hierarchy) (means : (k : ClassKey) (w : Writte
       let y = pairs_of (meaning h k q.type) (meanings h k qs) ts f in
       let same = x.4 ∙ sym y.4 in
       let head : x.0 ≡ y.0 = cc in
-      let rest : x.1 ≡ y.1 = cc in
-      ((x.0, (means k p.type x.0).0 x.2, (means k q.type x.0).0 (y.2 ∙ ap Some (sym head))),
-      same_types_of k ps qs x.1 x.3 (y.3 ∙ ap Some (sym rest)))
+      let rest : x.1 ≡ y.1 = cc in (
+        (x.0, (means k p.type x.0).0 x.2, (means k q.type x.0).0 (y.2 ∙ ap Some (sym head))),
+        same_types_of k ps qs x.1 x.3 (y.3 ∙ ap Some (sym rest)),
+      )
 
   types_same : (k : ClassKey) (ps qs : List ParamSite) → SameTypes sites k ps qs → (ts : List Ty) × (meanings h k ps ≡ Some ts) × (meanings h k qs ≡ Some ts)
   types_same k [] [] s = ([], refl, refl)
   types_same k [] (q ∷ qs) s = absurd s
   types_same k (p ∷ ps) [] s = absurd s
   types_same k (p ∷ ps) (q ∷ qs) ((t, m, n), s) =
-      let r = types_same k ps qs s in
-      (t ∷ r.0,
-      (λ i. option_and_then (λ t. option_map (λ us. t ∷ us) (r.1 i)) ((means k p.type t).1 m i)),
-      (λ i. option_and_then (λ t. option_map (λ us. t ∷ us) (r.2 i)) ((means k q.type t).1 n i)))
+      let r = types_same k ps qs s in (
+        t ∷ r.0,
+        (λ i. option_and_then (λ t. option_map (λ us. t ∷ us) (r.1 i)) ((means k p.type t).1 m i)),
+        (λ i. option_and_then (λ t. option_map (λ us. t ∷ us) (r.2 i)) ((means k q.type t).1 n i)),
+      )
 
   pub same_member : (l m : Item) (s : Signature) → signature_of h l ≡ Some s → signature_of h m ≡ Some s → SameMember sites l m
   same_member (class_item c) m s e f = absurd cc
@@ -101,9 +103,11 @@ module _ (sites : List Site) (h : Hierarchy) (means : (k : ClassKey) (w : Writte
       let y = made_of _ (meanings h n.of n.params) s f in
       let both = x.2 ∙ sym y.2 in
       let of = ap (λ (x : Signature). x.of) both in
-      let types = inside _ _ (ap (λ (x : Signature). x.params) both) in
-      (of, inside _ _ (ap (λ (x : Signature). x.name) both),
-      same_types_of m.of m.params n.params x.0 x.1 (ap (λ k. meanings h k n.params) of ∙ y.1 ∙ ap Some (sym types)))
+      let types = inside _ _ (ap (λ (x : Signature). x.params) both) in (
+        of,
+        inside _ _ (ap (λ (x : Signature). x.name) both),
+        same_types_of m.of m.params n.params x.0 x.1 (ap (λ k. meanings h k n.params) of ∙ y.1 ∙ ap Some (sym types)),
+      )
   same_member (ctor_item c) (ctor_item d) s e f =
       let x = made_of _ (meanings h c.of c.params) s e in
       let y = made_of _ (meanings h d.of d.params) s f in
@@ -123,20 +127,25 @@ module _ (sites : List Site) (h : Hierarchy) (means : (k : ClassKey) (w : Writte
       let z = ap (λ (x : Signature). x.name) (x.2 ∙ sym y.2) in absurd cc
 
   pub member_same : (l m : Item) → SameMember sites l m → (s : Signature) × (signature_of h l ≡ Some s) × (signature_of h m ≡ Some s)
-  member_same (field_item f) (field_item g) (of, name) = (record { of = f.of; name = Some f.name; params = None }, refl,
-      λ i. Some (record { of = sym of i; name = Some (sym name i); params = None }))
+  member_same (field_item f) (field_item g) (of, name) = (
+    record { of = f.of; name = Some f.name; params = None },
+    refl,
+    λ i. Some (record { of = sym of i; name = Some (sym name i); params = None }),
+  )
   member_same (method_item m) (method_item n) (of, name, types) =
-      let r = types_same m.of m.params n.params types in
-      (record { of = m.of; name = Some m.name; params = Some r.0 },
-      ap (option_map (λ ts. record { of = m.of; name = Some m.name; params = Some ts })) r.1,
-      (λ i. option_map (λ ts. record { of = sym of i; name = Some (sym name i); params = Some ts }) (meanings h (sym of i) n.params))
-      ∙ ap (option_map (λ ts. record { of = m.of; name = Some m.name; params = Some ts })) r.2)
+      let r = types_same m.of m.params n.params types in (
+        record { of = m.of; name = Some m.name; params = Some r.0 },
+        ap (option_map (λ ts. record { of = m.of; name = Some m.name; params = Some ts })) r.1,
+        (λ i. option_map (λ ts. record { of = sym of i; name = Some (sym name i); params = Some ts }) (meanings h (sym of i) n.params))
+            ∙ ap (option_map (λ ts. record { of = m.of; name = Some m.name; params = Some ts })) r.2,
+      )
   member_same (ctor_item c) (ctor_item d) (of, types) =
-      let r = types_same c.of c.params d.params types in
-      (record { of = c.of; name = None; params = Some r.0 },
-      ap (option_map (λ ts. record { of = c.of; name = None; params = Some ts })) r.1,
-      (λ i. option_map (λ ts. record { of = sym of i; name = None; params = Some ts }) (meanings h (sym of i) d.params))
-      ∙ ap (option_map (λ ts. record { of = c.of; name = None; params = Some ts })) r.2)
+      let r = types_same c.of c.params d.params types in (
+        record { of = c.of; name = None; params = Some r.0 },
+        ap (option_map (λ ts. record { of = c.of; name = None; params = Some ts })) r.1,
+        (λ i. option_map (λ ts. record { of = sym of i; name = None; params = Some ts }) (meanings h (sym of i) d.params))
+            ∙ ap (option_map (λ ts. record { of = c.of; name = None; params = Some ts })) r.2,
+      )
   member_same (class_item c) m s = absurd s
   member_same (field_item f) (class_item c) s = absurd s
   member_same (field_item f) (method_item n) s = absurd s

@@ -64,8 +64,10 @@ module _ (ps : List ParamSite) where
       by at t (inr e) =
           let second = inside t.twice.second x (sym t.twice.other ∙ ap (slice_get ps) e ∙ here) in
           let before = t.twice.before in
-          inr ((t.twice.i, t.twice.first, omega (arith, before, e), t.twice.one, ap Some (t.twice.same ∙ ap (λ (p : ParamSite). p.name) second)),
-          sym t.twice.place ∙ ap (λ (p : ParamSite). p.at) second)
+          inr (
+            (t.twice.i, t.twice.first, omega (arith, before, e), t.twice.one, ap Some (t.twice.same ∙ ap (λ (p : ParamSite). p.name) second)),
+            sym t.twice.place ∙ ap (λ (p : ParamSite). p.at) second,
+          )
 
       from : (at : ℕ) → TwiceIn (n + 1) at → TwiceIn n at ⊎ (Has n x.name × (at ≡ x.at))
       from at t = by at t (split t.twice.j n t.within)

@@ -82,7 +82,7 @@ module _ (h : Hierarchy) where
   signature_of (field_item f) = Some (record { of = f.of; name = Some f.name; params = None })
   signature_of (method_item m) =
       option_map (λ ts. record { of = m.of; name = Some m.name; params = Some ts })
-          (meanings m.of m.params)
+      (meanings m.of m.params)
   signature_of (ctor_item c) =
       option_map (λ ts. record { of = c.of; name = None; params = Some ts }) (meanings c.of c.params)
 

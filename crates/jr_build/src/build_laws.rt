@@ -16,9 +16,3 @@ pub(crate) fn sites_are_headed<A>()
     ensures { (begins : A → ℕ → ℕ) (us : List (syntax.Unit A)) → UnitsHeads us
         → AreHeaded (sites_of begins us) }
 {}
-
-/// TRY
-pub(crate) fn rows_are_apart()
-    ensures { (packages : List (Option PackageLine)) (sites : List Site) (h : Hierarchy) → IsClean packages sites → KnowsMeanings sites h → AreHeaded sites
-        → (d : Decl) (i j : ℕ) → IsRowOf (prelude_rows ++ rows_of_sites h sites) d i → IsRowOf (prelude_rows ++ rows_of_sites h sites) d j → i ≡ j }
-{}

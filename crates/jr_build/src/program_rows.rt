@@ -11,11 +11,13 @@ ghost use Rattle.jr_build.specs.SiteView.{ctor_site_of, item_of, site_of};
 
 use crate::hierarchies::Hierarchy;
 use crate::meanings::{means, parent};
-use crate::owned::{access_words, maybe_owned_key, maybe_owned_type, owned_key, owned_types};
-use crate::owned::owned_words;
+use crate::owned::{
+    access_words, maybe_owned_key, maybe_owned_type, owned_key, owned_types, owned_words,
+};
 use crate::signatures::meanings_of;
-use crate::sites::{ClassSite, CtorSite, FieldSite, MethodSite, ParamSite, Site, SiteItem};
-use crate::sites::{SiteKey, Written};
+use crate::sites::{
+    ClassSite, CtorSite, FieldSite, MethodSite, ParamSite, Site, SiteItem, SiteKey, Written,
+};
 use jr_ast::Name;
 use jr_table::{CtorKey, Decl, FieldKey, MethodKey, Row, Ty, Tys, prelude};
 use std::alloc::{AllocError, Global};

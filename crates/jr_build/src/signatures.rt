@@ -47,9 +47,9 @@ fn with_params<'a>(
     params: Option<Vec<Meaning<'a>>>,
 ) -> Option<Signature<'a>>
     ensures { option_map signature_view result ≡ option_map (λ ts. record {
-        of = site_key_of of.now;
-        name = option_map text_of name.entry;
-        params = Some ts;
+      of = site_key_of of.now;
+      name = option_map text_of name.entry;
+      params = Some ts;
     }) (option_map (λ v. map meaning_of v.items) params.entry) }
 {
     match params {
@@ -115,8 +115,7 @@ impl<'a> SignatureIndex<'a> {
         signature: Option<Signature<'a>>,
         number: u32,
     ) -> Result<Option<u32>, AllocError>
-        ensures before {
-            IfOk result (λ before. before ≡ option_and_then (number_under self.old) signature.entry) }
+        ensures before { IfOk result (λ before. before ≡ option_and_then (number_under self.old) signature.entry) }
         ensures put { OnOk result (PutsSignature self.old signature.entry number self.new) }
     {
         let Some(signature) = signature else {

@@ -75,7 +75,7 @@ pub(crate) fn twice_member<'a>(
     requires known { KnowsMeanings (map site_of sites.now) (hierarchy_of h.now) }
     ensures { IfOk result (λ place. (packages : List (Option PackageLine)) →
         IsEarliest (HasFault packages (map site_of sites.now) kind.TwiceMember)
-            (option_map place_of place)) }
+        (option_map place_of place)) }
 {
     let mut index = SignatureIndex::new(alloc);
     let mut first = None;

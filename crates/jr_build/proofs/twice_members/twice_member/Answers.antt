@@ -30,12 +30,12 @@ loop-number-preserved c =
     let item = item_of site.item in
     let at = earliest.map_stands site_of c.args.sites.now n site c.loop-number-test.true c.index-sites-number.is in
     let again = members.again_or_not sites h c.requires.known n item c.in_ok-signature.signature c.loop-number.index c.in_ok-before.before
-        c.in_ok-signature.ensures c.in_ok-before.ensures.before c.loop-number.invariant.index in
+    c.in_ok-signature.ensures c.in_ok-before.ensures.before c.loop-number.invariant.index in
     let in_params = subst (λ ps. IsLeastAt (ParamTwice ps) c.in_ok-in_params.in_params) c.params_of.ensures c.in_ok-in_params.ensures in
     let own = subst (IsLeastAt (TwiceMemberAt sites n item)) (sym (c.lesser_of-at.ensures ∙ ap (λ o. lesser o c.in_ok-in_params.in_params) c.member_twice_at.ensures))
-        (members.twice_or_not sites h c.requires.known n item (member_twice item c.in_ok-before.before) c.in_ok-in_params.in_params again in_params) in
+    (members.twice_or_not sites h c.requires.known n item (member_twice item c.in_ok-before.before) c.in_ok-in_params.in_params again in_params) in
     let E : Option Place → Type 0 = λ o. IsEarlier (option_map place_of c.loop-number.first) o
-        (option_map place_of c.earlier-first.result) in
+    (option_map place_of c.earlier-first.result) in
     record {
       first = earliest.one_more sites (TwiceMemberAt sites) n site.file item (option_map place_of c.loop-number.first)
           c.lesser_of-at.result (option_map place_of c.earlier-first.result) at c.loop-number.invariant.first own

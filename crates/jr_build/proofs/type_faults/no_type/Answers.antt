@@ -17,7 +17,7 @@ pub loop-site-preserved : goal.loop-site-preserved
 loop-site-preserved c =
     let site = c.site-item.result in
     let E : Option Place → Type 0 = λ o. IsEarlier (option_map place_of c.loop-site.first) o
-        (option_map place_of c.earlier-first.result) in
+    (option_map place_of c.earlier-first.result) in
     earliest.one_more (map site_of c.args.sites.now) (λ _. NothingAt (hierarchy_of c.args.h.now))
     c.loop-site.site-index site.file (item_of site.item) (option_map place_of c.loop-site.first)
     c.item_nothing_at.result (option_map place_of c.earlier-first.result)
