@@ -1,0 +1,5 @@
+pub mod References
+pub mod ReferenceView
+pub mod Spellings
+pub mod Binds
+pub mod Taken

@@ -1,0 +1,18 @@
+//! Spellings: the first one of a kept reference that still means its declaration.
+#![tactic(auto)]
+
+mod binding;
+mod classes;
+mod declaring;
+mod members;
+mod references;
+mod respelling;
+mod shown;
+mod spellings;
+mod superclasses;
+mod texts;
+mod variables;
+
+pub use references::{Operand, RefForm, Reference};
+pub use respelling::respell;
+pub use spellings::{Form, Spelling};
