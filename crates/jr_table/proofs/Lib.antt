@@ -38,4 +38,9 @@ pub mod Referring
 pub mod TypeTests
 pub mod Breaking
 pub mod DeclarationTests
+pub mod BreakingReferences
+pub mod BreakingMembers
+pub mod BreakingFinals
+pub mod BindingNothing
+pub mod BreakingExpressions
 pub mod Noting

@@ -51,3 +51,4 @@ pub mod HeadNotes
 pub mod Walks
 pub mod BindingLaws
 pub mod TypesAt
+pub mod TestedRows

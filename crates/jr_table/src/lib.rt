@@ -19,6 +19,7 @@ mod method_lists;
 mod numbering;
 mod overloads;
 mod prelude_rows;
+mod row_laws;
 mod rows;
 mod rules;
 #[cfg(test)]
@@ -34,7 +35,7 @@ mod wanted;
 mod widening;
 
 pub use answers::Answer;
-pub use binding_laws::{references_are_exact, types_are_exact, walks_are_exact};
+pub use binding_laws::{notes_are_exact, references_are_exact, types_are_exact, walks_are_exact};
 pub use classes::ClassKey;
 pub use decls::{Decl, LocalKey, MemberKey};
 pub use entries::{Entry, Kind, Kinds, Sort};
@@ -44,6 +45,7 @@ pub use keys::{CtorKey, FieldKey, MethodKey};
 pub use kinds::DeclKind;
 pub use lookup_laws::lookups_are_exact;
 pub use prelude_rows::prelude;
+pub use row_laws::tested_rows_are_rows;
 pub use rows::{Mods, Row};
 pub use rules::Rule;
 pub use tables::Table;
