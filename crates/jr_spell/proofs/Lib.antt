@@ -1,0 +1,6 @@
+mod Parents
+mod Deciding
+mod Founds
+mod StaticWords
+mod Dots
+mod Trying

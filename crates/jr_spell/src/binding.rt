@@ -349,9 +349,7 @@ fn as_asked(
             is_method_named(alloc, table, scope, &reference.args, asked, target)
         }
         RefForm::MethodOn => on_operand(alloc, table, scope, reference, target),
-        RefForm::ClassName => {
-            is_type_text(alloc, table, scope, asked, declaring_class(target))
-        }
+        RefForm::ClassName => { is_type_text(alloc, table, scope, asked, declaring_class(target)) }
         RefForm::AsAsked => alone(alloc, table, scope, reference, target),
     }
 }

@@ -89,13 +89,7 @@ pub(crate) fn leads_simply(table: &Table, scope: &Scope, name: &Name, class: &Cl
 }
 
 /// Whether the class is the member type of the name of a class, which has no field of the name.
-fn leads_in(
-    table: &Table,
-    scope: &Scope,
-    around: &ClassKey,
-    name: &Name,
-    class: &ClassKey,
-) -> bool
+fn leads_in(table: &Table, scope: &Scope, around: &ClassKey, name: &Name, class: &ClassKey) -> bool
     ensures { IsTrue result ↔ LeadsIn table.now (scope_of scope.now) (class_key_of around.now)
         name.now (class_key_of class.now) }
 {
