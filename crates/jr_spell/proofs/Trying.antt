@@ -1,16 +1,7 @@
 -- Forms are tried one after the other.
 use Rattle.std.proofs.Common.{◌≡◌, ℕ, zero, suc, ◌+◌, ◌<◌, ◌≤◌, List, [], ◌∷◌, Some, None, refl, sym, ap, subst, ◌∙◌, length, get_or, arith, inl, inr}
 use Rattle.std.specs.Prelude.{slice_get, ◌⊎◌}
-
-pub element_at : {X : Type 0} (xs : List X) (i : ℕ) (d : X) → i < length xs → slice_get xs i ≡ Some (get_or xs i d)
-element_at [] i d below = absurd (omega (arith, below))
-element_at (x ∷ xs) zero d below = refl
-element_at (x ∷ xs) (suc i) d below = element_at xs i d (omega (arith, below))
-
-pub within : {X : Type 0} (xs : List X) (i : ℕ) (x : X) → slice_get xs i ≡ Some x → i < length xs
-within [] i x at = absurd cc
-within (y ∷ ys) zero x at = omega arith
-within (y ∷ ys) (suc i) x at = let less = within ys i x at in omega (arith, less)
+use Rattle.std.proofs.lemmas.Option.{slice_get-get_or}
 
 module _ {X : Type 0} (P : X → Type 0) (xs : List X) where
   -- none of those below a number has the property
@@ -26,6 +17,6 @@ module _ {X : Type 0} (P : X → Type 0) (xs : List X) where
       by : ((i < n) ⊎ (i ≡ n)) → P x → ⊥
       by (inl l) = before i x l at
       by (inr is) =
-          let e : Some (get_or xs n d) ≡ Some x = sym (element_at xs n d below) ∙ ap (slice_get xs) (sym is) ∙ at in
+          let e : Some (get_or xs n d) ≡ Some x = sym (slice_get-get_or xs n d below) ∙ ap (slice_get xs) (sym is) ∙ at in
           let same : get_or xs n d ≡ x = cc in
           subst (λ y. P y → ⊥) same here

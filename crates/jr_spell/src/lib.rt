@@ -7,9 +7,13 @@ mod declaring;
 mod members;
 mod references;
 mod respelling;
+#[cfg(test)]
+mod sample;
 mod shown;
 mod spellings;
 mod superclasses;
+#[cfg(test)]
+mod tests;
 mod texts;
 mod variables;
 
