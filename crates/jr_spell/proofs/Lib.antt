@@ -4,3 +4,5 @@ mod Founds
 mod StaticWords
 mod Dots
 mod Trying
+mod Shapes
+mod Rebinding

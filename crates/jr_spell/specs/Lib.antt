@@ -4,3 +4,4 @@ pub mod Spellings
 pub mod Binds
 pub mod Taken
 pub mod SpellingSample
+pub mod Rebound

@@ -4,6 +4,7 @@
 mod binding;
 mod classes;
 mod declaring;
+mod laws;
 mod members;
 mod references;
 mod respelling;
@@ -17,6 +18,7 @@ mod tests;
 mod texts;
 mod variables;
 
+pub use laws::spellings_rebind;
 pub use references::{Operand, RefForm, Reference};
 pub use respelling::respell;
 pub use spellings::{Form, Spelling};
