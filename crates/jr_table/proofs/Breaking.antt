@@ -52,7 +52,7 @@ two xs ys n P Q f g = chain (has_append xs ys n) (to, back)
     back (inr h) = inr (g.1 h)
 
 -- one note of a broken rule
-one_iff : (here at : ℕ) (q r : Rule) → Has (breaks here q ∷ []) (breaks at r) ↔ ((at ≡ here) × (r ≡ q))
+pub one_iff : (here at : ℕ) (q r : Rule) → Has (breaks here q ∷ []) (breaks at r) ↔ ((at ≡ here) × (r ≡ q))
 one_iff here at q r = (to, λ h. inl (λ i. breaks (sym h.0 i) (sym h.1 i)))
   where
     to : ((breaks here q ≡ breaks at r) ⊎ ⊥) → (at ≡ here) × (r ≡ q)

@@ -35,7 +35,7 @@ found_test (many a b) Finds is test P holds = (λ h. absurd cc, λ h. let e = (i
 found_test (not_accessible a) Finds is test P holds = (λ h. absurd cc, λ h. let e = (is (one h.0)).1 h.1 in absurd cc)
 found_test (from_static a) Finds is test P holds = (λ h. absurd cc, λ h. let e = (is (one h.0)).1 h.1 in absurd cc)
 
-not_false : (b : Bool) → (not b ≡ true) ↔ (b ≡ false)
+pub not_false : (b : Bool) → (not b ≡ true) ↔ (b ≡ false)
 not_false true = (λ h. absurd cc, λ h. absurd cc)
 not_false false = (λ h. refl, λ h. refl)
 

@@ -44,3 +44,15 @@ pub mod BreakingFinals
 pub mod BindingNothing
 pub mod BreakingExpressions
 pub mod Noting
+pub mod TypeNotes
+pub mod FlowTests
+pub mod BreakingStatements
+pub mod OverrideTests
+pub mod BreakingHeads
+pub mod DeclaredReferences
+pub mod BreakingDeclarations
+pub mod BindingDeclarations
+pub mod Everywhere
+pub mod MemberNotes
+pub mod ErrorOrder
+pub mod ErrorLaws

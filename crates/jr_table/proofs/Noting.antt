@@ -19,13 +19,13 @@ nothing_noted : (n : Note) → Has [] n ↔ ⊥
 nothing_noted n = (λ h. h, λ h. h)
 
 module _ {A : Type 0} (begins : A → ℕ → ℕ) (rows : List Row) (n : Note) where
-  abbrev Own : Context → Role → (base : ℕ) → tree.Exp A → Type 0
+  abbrev pub Own : Context → Role → (base : ℕ) → tree.Exp A → Type 0
   Own c r b x = Has (own_notes begins rows c r b x) n
 
-  abbrev OwnStmt : (number : ℕ) → Context → (base : ℕ) → statement.Stmt A → Type 0
+  abbrev pub OwnStmt : (number : ℕ) → Context → (base : ℕ) → statement.Stmt A → Type 0
   OwnStmt number c b x = Has (own_stmt_notes begins rows number c b x) n
 
-  abbrev OwnList : (base : ℕ) → statement.Stmts A → Type 0
+  abbrev pub OwnList : (base : ℕ) → statement.Stmts A → Type 0
   OwnList b xs = Has (list_notes begins b xs) n
 
   module _ (c : Context) where

@@ -49,6 +49,8 @@ pub mod Meanings
 pub mod Notes
 pub mod HeadNotes
 pub mod Walks
+pub mod ErrorLists
 pub mod BindingLaws
+pub mod NotingLaws
 pub mod TypesAt
 pub mod TestedRows

@@ -16,6 +16,7 @@ mod kinds;
 mod lookup_laws;
 mod members;
 mod method_lists;
+mod noting_laws;
 mod numbering;
 mod overloads;
 mod prelude_rows;
@@ -44,6 +45,10 @@ pub use found::Found;
 pub use keys::{CtorKey, FieldKey, MethodKey};
 pub use kinds::DeclKind;
 pub use lookup_laws::lookups_are_exact;
+pub use noting_laws::{
+    declarations_are_noted, errors_are_told, heads_are_noted, lists_are_noted, parts_are_noted,
+    parts_have_errors, statements_are_noted,
+};
 pub use prelude_rows::prelude;
 pub use row_laws::tested_rows_are_rows;
 pub use rows::{Mods, Row};
