@@ -6,3 +6,4 @@ mod Dots
 mod Trying
 mod Shapes
 mod Rebinding
+mod Cases

@@ -18,7 +18,7 @@ use Rattle.jr_spell.specs.declared.spellings.Form.{Form}
 use Rattle.jr_spell.specs.declared.spellings.Form.TheVariants.{Asked, OnThis, OnSuper, OnCastThis, OnCastOperand, OnClass, OnOuterClass, Class, OuterClass}
 use Rattle.jr_spell.specs.References.{Operand, Reference, class_of_type, class_of_operand, text_of_operand}
 use Rattle.jr_spell.specs.Binds.{LeadsTo, FindsMember, ThroughValue, ThroughClass, ThroughCast, ThroughSuperclass, BindsAlone, BindsAsked, Binds, front_word, last_word}
-use Rattle.jr_spell.specs.Rebound.{IsVariable, IsCall, IsMemberOn, IsMemberOfSuper, IsThis, IsCast, IsClassWords, IsTypeWords, IsAloneTree, IsAskedTree, IsTree, IsAskedType, IsTypeTree, Fits, IsRebound}
+use Rattle.jr_spell.specs.Rebound.{IsVariable, IsCall, IsMemberOn, IsMemberOfSuper, IsThis, IsCast, IsClassWords, IsTypeWords, IsAloneTree, IsAskedTree, IsTree, IsAskedType, IsTypeTree, Fits, IsRebound, AreFronts}
 use Rattle.jr_spell.proofs.Shapes.{name_rebound, call_rebound, field_rebound, call_on_rebound, class_field_rebound, class_call_rebound, super_field_rebound, super_call_rebound}
 
 module _ {A : Type 0} (rows : List Row) (c : Context) where
@@ -197,3 +197,10 @@ module _ {A : Type 0} (rows : List Row) (c : Context) (r : Reference) (d : Decl)
   class_rebinds OnCastOperand u named words = absurd words
   class_rebinds OnClass u named words = absurd words
   class_rebinds OnOuterClass u named words = absurd words
+
+pub fronts_rebind : {A : Type 0} (rows : List Row) (c : Context) → AreFronts A rows c
+fronts_rebind {A} rows c = record {
+  words = λ outer name k y leads shape. words_name rows c outer name k y leads shape;
+  type = λ k e y named cast. cast_type rows c k e y named cast;
+  value = λ name e y cast k named. cast_no_class rows c name e y cast k named;
+}

@@ -13,7 +13,7 @@ use Rattle.jr_table.specs.Decls.{
 use Rattle.jr_table.specs.Rows.{Row}
 use Rattle.jr_table.specs.Entries.{class_of}
 use Rattle.jr_table.specs.Conditions.{AreRows}
-use Rattle.jr_table.specs.Context.{Context, scope_of, WritesType}
+use Rattle.jr_table.specs.Context.{Context, scope_of, NamesClass, WritesType}
 use Rattle.jr_table.specs.Binding.{HasType, IsClassName, HaveTypes, Role, BindsItself}
 use Rattle.jr_table.specs.ExpressionRules.{StaticContext, StaticThroughValue, InstanceThroughType}
 use Rattle.jr_spell.specs.declared.references.RefForm.{RefForm}
@@ -31,7 +31,7 @@ use Rattle.jr_spell.specs.declared.spellings.Form.TheVariants.{
   OuterClass,
 }
 use Rattle.jr_spell.specs.References.{Operand, Reference, text_of_operand}
-use Rattle.jr_spell.specs.Binds.{Binds, front_word, last_word}
+use Rattle.jr_spell.specs.Binds.{LeadsTo, Binds, front_word, last_word}
 
 module _ {A : Type 0} where
   -- a simple name
@@ -166,3 +166,18 @@ abbrev pub ClassesRebind : Type 0 → Type 0
 ClassesRebind A = (rows : List Row) (c : Context) (r : Reference) (d : Decl) (f : Form)
     (u : tree.TypeName A) → Binds rows (scope_of c) r d f → IsTypeTree r d f u
     → WritesType rows (scope_of c) u (class (class_of d))
+
+-- what a spelling puts in front of a dot
+pub record AreFronts (A : Type 0) (rows : List Row) (c : Context) : Type 0 where
+  -- the words of a class are that class's name
+  pub words : (outer : Option (List ℕ)) (name : List ℕ) (k : ClassKey) (y : tree.Exp A)
+      → LeadsTo rows (scope_of c) outer name k → IsClassWords outer name y
+      → IsClassName rows c y k
+  -- a cast in parentheses has the class's type, and is no class's name
+  pub type : (k : ClassKey) (e y : tree.Exp A) → NamesClass rows (scope_of c) None k.name k
+      → IsCast k.name e y → HasType rows c y (class k)
+  pub value : (name : List ℕ) (e y : tree.Exp A) → IsCast name e y → (k : ClassKey)
+      → IsClassName rows c y k → ⊥
+
+abbrev pub FrontsRebind : Type 0 → Type 0
+FrontsRebind A = (rows : List Row) (c : Context) → AreFronts A rows c

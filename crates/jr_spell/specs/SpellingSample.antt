@@ -74,11 +74,15 @@ private_rows =
     ∷ ctor_at [] (member_class (codes "O") (codes "Q")) []
     ∷ []
 
-abbrev pub inner_rows : List Row
-inner_rows =
+abbrev pub n_rows : List Row
+n_rows =
     class_at (word.Static ∷ []) (member_class (codes "O") (codes "N")) (top_key (codes "A"))
     ∷ ctor_at [] (member_class (codes "O") (codes "N")) []
-    ∷ class_at (word.Private ∷ word.Static ∷ []) (member_class (codes "O") (codes "H")) (top_key (codes "Object"))
+    ∷ []
+
+abbrev pub h_rows : List Row
+h_rows =
+    class_at (word.Private ∷ word.Static ∷ []) (member_class (codes "O") (codes "H")) (top_key (codes "Object"))
     ∷ ctor_at (word.Private ∷ []) (member_class (codes "O") (codes "H")) []
     ∷ []
 
@@ -93,7 +97,11 @@ abbrev pub e_rows : List Row
 e_rows =
     class_at [] (top_key (codes "E")) (top_key (codes "O"))
     ∷ ctor_at [] (top_key (codes "E")) []
-    ∷ class_at (word.Static ∷ []) (member_class (codes "E") (codes "B")) (top_key (codes "Object"))
+    ∷ []
+
+abbrev pub e_b_rows : List Row
+e_b_rows =
+    class_at (word.Static ∷ []) (member_class (codes "E") (codes "B")) (top_key (codes "Object"))
     ∷ ctor_at [] (member_class (codes "E") (codes "B")) []
     ∷ []
 
@@ -101,7 +109,11 @@ abbrev pub z_rows : List Row
 z_rows =
     class_at [] (top_key (codes "Z")) (top_key (codes "O"))
     ∷ ctor_at [] (top_key (codes "Z")) []
-    ∷ class_at (word.Static ∷ []) (member_class (codes "Z") (codes "O")) (top_key (codes "Object"))
+    ∷ []
+
+abbrev pub z_o_rows : List Row
+z_o_rows =
+    class_at (word.Static ∷ []) (member_class (codes "Z") (codes "O")) (top_key (codes "Object"))
     ∷ ctor_at [] (member_class (codes "Z") (codes "O")) []
     ∷ []
 
@@ -113,10 +125,13 @@ own_rows =
     ++ (o_rows
     ++ (i_rows
     ++ (private_rows
-    ++ (inner_rows
+    ++ (n_rows
+    ++ (h_rows
     ++ (d_rows
     ++ (e_rows
-    ++ (z_rows)))))))))
+    ++ (e_b_rows
+    ++ (z_rows
+    ++ (z_o_rows))))))))))))
 
 abbrev pub spelling_rows : List Row
 spelling_rows = prelude_rows ++ own_rows

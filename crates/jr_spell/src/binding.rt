@@ -57,10 +57,11 @@ fn on_this(
     ensures { IfOk result (λ b. IsTrue b ↔ BindsOnThis table.now (scope_of scope.now)
         (reference_of reference.now) (decl_of target.now)) }
 {
-    if scope.is_static {
-        Ok(false)
-    } else {
+    let has_object = !scope.is_static;
+    if has_object {
         is_on_value(alloc, table, scope, &reference.args, &scope.class, target)
+    } else {
+        Ok(false)
     }
 }
 

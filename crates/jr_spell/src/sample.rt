@@ -231,12 +231,18 @@ fn push_private(alloc: Global, rows: &mut Vec<Row>) -> Result<(), AllocError>
     push_ctor(alloc, rows, &[], Some("O"), "Q")
 }
 
-fn push_inner(alloc: Global, rows: &mut Vec<Row>) -> Result<(), AllocError>
+fn push_n(alloc: Global, rows: &mut Vec<Row>) -> Result<(), AllocError>
     ensures { OnOk result (map row_of rows.new.items
-        ≡ map row_of rows.old.items ++ pure.inner_rows) }
+        ≡ map row_of rows.old.items ++ pure.n_rows) }
 {
     push_class(alloc, rows, &[ModWord::Static], Some("O"), "N", None, "A")?;
-    push_ctor(alloc, rows, &[], Some("O"), "N")?;
+    push_ctor(alloc, rows, &[], Some("O"), "N")
+}
+
+fn push_h(alloc: Global, rows: &mut Vec<Row>) -> Result<(), AllocError>
+    ensures { OnOk result (map row_of rows.new.items
+        ≡ map row_of rows.old.items ++ pure.h_rows) }
+{
     push_class(
         alloc,
         rows,
@@ -263,7 +269,13 @@ fn push_e(alloc: Global, rows: &mut Vec<Row>) -> Result<(), AllocError>
         ≡ map row_of rows.old.items ++ pure.e_rows) }
 {
     push_class(alloc, rows, &[], None, "E", None, "O")?;
-    push_ctor(alloc, rows, &[], None, "E")?;
+    push_ctor(alloc, rows, &[], None, "E")
+}
+
+fn push_e_b(alloc: Global, rows: &mut Vec<Row>) -> Result<(), AllocError>
+    ensures { OnOk result (map row_of rows.new.items
+        ≡ map row_of rows.old.items ++ pure.e_b_rows) }
+{
     push_class(
         alloc,
         rows,
@@ -281,7 +293,13 @@ fn push_z(alloc: Global, rows: &mut Vec<Row>) -> Result<(), AllocError>
         ≡ map row_of rows.old.items ++ pure.z_rows) }
 {
     push_class(alloc, rows, &[], None, "Z", None, "O")?;
-    push_ctor(alloc, rows, &[], None, "Z")?;
+    push_ctor(alloc, rows, &[], None, "Z")
+}
+
+fn push_z_o(alloc: Global, rows: &mut Vec<Row>) -> Result<(), AllocError>
+    ensures { OnOk result (map row_of rows.new.items
+        ≡ map row_of rows.old.items ++ pure.z_o_rows) }
+{
     push_class(
         alloc,
         rows,
@@ -305,9 +323,12 @@ pub(crate) fn sample(alloc: Global) -> Result<Vec<Row>, AllocError>
     push_o(alloc, &mut rows)?;
     push_i(alloc, &mut rows)?;
     push_private(alloc, &mut rows)?;
-    push_inner(alloc, &mut rows)?;
+    push_n(alloc, &mut rows)?;
+    push_h(alloc, &mut rows)?;
     push_d(alloc, &mut rows)?;
     push_e(alloc, &mut rows)?;
+    push_e_b(alloc, &mut rows)?;
     push_z(alloc, &mut rows)?;
+    push_z_o(alloc, &mut rows)?;
     Ok(rows)
 }

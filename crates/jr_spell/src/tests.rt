@@ -46,12 +46,12 @@ fn local(alloc: Global, place: &str, number: u32) -> Result<LocalKey, AllocError
     Ok(LocalKey { member, number })
 }
 
-/// A place of a class where locals of these names are in scope.
+/// A place of a class where locals of these names, two at most, are in scope.
 fn scope(alloc: Global, place: &str, is_static: bool, names: &[&str]) -> Result<Scope, AllocError> {
     let mut locals = Vec::new(alloc);
-    for (number, name) in names.iter().enumerate() {
+    for (name, number) in names.iter().zip([0, 1].iter()) {
         let name = Name::new(alloc, name)?;
-        let key = local(alloc, place, number as u32)?;
+        let key = local(alloc, place, *number)?;
         locals.push(ScopeLocal { name, key })?;
     }
     let locals = ScopeLocals::from_vec(locals);
