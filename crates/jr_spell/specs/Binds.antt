@@ -57,8 +57,8 @@ use Rattle.jr_spell.specs.declared.spellings.Form.TheVariants.{
 }
 use Rattle.jr_spell.specs.References.{Reference, class_of_operand, text_of_operand}
 
--- The words of a class's name as it is written: that in front of the dot, if there is a dot, and the
--- last.
+-- The words of a class's name as it is written: that in front of the first dot, if there is one,
+-- and the last.
 
 abbrev pub is_dot : ℕ → Bool
 is_dot b = b == 46
@@ -72,8 +72,8 @@ front_word text = if has_dot text then Some (before_first is_dot text) else None
 abbrev pub last_word : List ℕ → List ℕ
 last_word text = if has_dot text then after_first is_dot text else text
 
--- behind the name of class o and in front of a dot, the word is the class's name, and no field's (JLS
--- 6.5.2)
+-- behind the name of class o and in front of a dot, the word is the class's name, and no field's
+-- (JLS 6.5.2)
 abbrev pub LeadsIn : List Row → Scope → ClassKey → List ℕ → ClassKey → Type 0
 LeadsIn rows s o name k =
     FindsFieldIn rows s o name nothing × FindsTypeOf rows s o name (one (class_decl k))

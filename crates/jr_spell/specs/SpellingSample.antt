@@ -70,7 +70,8 @@ private_rows =
     class_at (word.Static ∷ []) (member_class (codes "O") (codes "P")) (top_key (codes "Object"))
     ∷ ctor_at [] (member_class (codes "O") (codes "P")) []
     ∷ field_at (word.Private ∷ []) (member_class (codes "O") (codes "P")) (codes "v")
-    ∷ class_at (word.Static ∷ []) (member_class (codes "O") (codes "Q")) (member_class (codes "O") (codes "P"))
+    ∷ class_at (word.Static ∷ []) (member_class (codes "O") (codes "Q"))
+    (member_class (codes "O") (codes "P"))
     ∷ ctor_at [] (member_class (codes "O") (codes "Q")) []
     ∷ []
 
@@ -82,7 +83,8 @@ n_rows =
 
 abbrev pub h_rows : List Row
 h_rows =
-    class_at (word.Private ∷ word.Static ∷ []) (member_class (codes "O") (codes "H")) (top_key (codes "Object"))
+    class_at (word.Private ∷ word.Static ∷ []) (member_class (codes "O") (codes "H"))
+    (top_key (codes "Object"))
     ∷ ctor_at (word.Private ∷ []) (member_class (codes "O") (codes "H")) []
     ∷ []
 

@@ -1,12 +1,12 @@
 //! Whether a spelling binds.
 ghost use Rattle.std.specs.Prelude.{◌≡◌, ◌↔◌, IsTrue, IfOk, None, option_map};
-ghost use Rattle.jr_table.specs.Keys as keys;
 ghost use Rattle.jr_table.specs.TypeView.{class_key_of, ty_of};
 ghost use Rattle.jr_table.specs.KeyView.{decl_of};
 ghost use Rattle.jr_lookup.specs.ScopeView.{scope_of};
 ghost use Rattle.jr_spell.specs.References.{class_of_type, class_of_operand};
 ghost use Rattle.jr_spell.specs.ReferenceView.{operand_of, reference_of};
-ghost use Rattle.jr_spell.specs.Binds.{ThroughCast, ThroughSuperclass, ThroughWritten, BindsOnThis, BindsOnSuper, BindsOnOperand};
+ghost use Rattle.jr_spell.specs.Binds.{ThroughCast, ThroughSuperclass, ThroughWritten};
+ghost use Rattle.jr_spell.specs.Binds.{BindsOnThis, BindsOnSuper, BindsOnOperand};
 ghost use Rattle.jr_spell.specs.Binds.{BindsOnCastThis, BindsOnCastOperand, BindsOnAskedClass};
 ghost use Rattle.jr_spell.specs.Binds.{BindsOnClass, BindsOnOuterClass, BindsAsClass};
 ghost use Rattle.jr_spell.specs.Binds.{BindsAsOuterClass, BindsConstructor, BindsAlone};
