@@ -20,6 +20,7 @@ mod type_names;
 
 pub use calls::{call_at, ctor_at, method_at};
 pub use fields::{field_at, field_in_at, member_type_at};
+pub use locals::last_local;
 pub use lookups::{ctor_of, field_of, member_type, method_named, method_of, type_named, variable};
 pub use scope_local::ScopeLocal;
 pub use scope_locals::ScopeLocals;

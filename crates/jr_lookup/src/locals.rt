@@ -23,7 +23,7 @@ fn later<'a>(last: Option<&'a LocalKey>, local: &'a ScopeLocal, name: &Name) -> 
 
 /// The last local that has the name (JLS 6.3, 6.4).
 #[tactic(auto, using(crate::proofs::Lasts::or_or), unfolding(jr_table::specs::Scope::last_named))]
-pub(crate) fn last_local<'a>(locals: &'a [ScopeLocal], name: &Name) -> Option<&'a LocalKey>
+pub fn last_local<'a>(locals: &'a [ScopeLocal], name: &Name) -> Option<&'a LocalKey>
     ensures { option_map (λ k. local_key_of k.now) result
         ≡ last_named name.now (map local_of locals.now) }
 {

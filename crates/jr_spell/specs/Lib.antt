@@ -1,0 +1,7 @@
+pub mod References
+pub mod ReferenceView
+pub mod Spellings
+pub mod Binds
+pub mod Taken
+pub mod SpellingSample
+pub mod Rebound

@@ -1,0 +1,24 @@
+//! Spellings: the first one of a kept reference that still means its declaration.
+#![tactic(auto)]
+
+mod binding;
+mod classes;
+mod declaring;
+mod laws;
+mod members;
+mod references;
+mod respelling;
+#[cfg(test)]
+mod sample;
+mod shown;
+mod spellings;
+mod superclasses;
+#[cfg(test)]
+mod tests;
+mod texts;
+mod variables;
+
+pub use laws::spellings_rebind;
+pub use references::{Operand, RefForm, Reference};
+pub use respelling::respell;
+pub use spellings::{Form, Spelling};
