@@ -1,0 +1,4 @@
+pub mod SourceLaws
+pub mod Entries
+pub mod Histories
+pub mod Totals
