@@ -15,7 +15,11 @@ use Rattle.std.proofs.lemmas.List.{map-append}
 use Rattle.std.proofs.lemmas.List.Quantifiers.{position-Some}
 use Rattle.indexmap.specs.IndexMap.{insert_entry}
 use Rattle.indexmap.specs.Layout.{set_value_at}
-use Rattle.jr_session.specs.Sources.{Source, names_of, texts_of, LacksFile, HasName, with_text}
+use Rattle.std.proofs.Common.{append_assoc, length-append}
+use Rattle.std.proofs.lemmas.List.{append-nil}
+use Rattle.jr_session.specs.Beginning.{HaveSameName}
+use Rattle.jr_session.specs.Sources.{Source, names_of, texts_of, LacksFile, HasName, Differ, with_text}
+use Rattle.jr_session.proofs.SourceLaws.{same_name}
 use Rattle.jr_session.specs.SourceView.{source_of, sources_of}
 
 pub sources-set : {Y : Type 0} (es : List (String Y × List ℕ)) (i : ℕ) (w : List ℕ) → sources_of (set_value_at es i w) ≡ with_text (sources_of es) i w
@@ -76,3 +80,43 @@ inserted (e ∷ es) k v h =
 
 pub sources-inserted : {Y : Type 0} (es : List (String Y × List ℕ)) (k : String Y) (v : List ℕ) → LacksFile (sources_of es) (string_bytes k) → sources_of (insert_entry string_eq es k v) ≡ sources_of es ++ source_of (k, v) ∷ []
 sources-inserted {Y} es k v h = ap sources_of (inserted es k v h) ∙ map-append source_of es ((k, v) ∷ [])
+
+-- the first files are gathered, and those that are left come behind them
+pub record Gathered {Y : Type 0} (files done left : List (String Y × List ℕ)) (sources : List Source) : Type 0 where
+  pub are : sources ≡ sources_of done
+  pub all : files ≡ done ++ left
+
+pub length-sources : {Y : Type 0} (es : List (String Y × List ℕ)) → length (sources_of es) ≡ length es
+length-sources [] = refl
+length-sources (e ∷ es) = ap suc (length-sources es)
+
+module _ {Y : Type 0} (files : List (String Y × List ℕ)) where
+  pub none_gathered : Gathered files [] files []
+  none_gathered = record { are = refl; all = refl }
+
+  module _ (done left : List (String Y × List ℕ)) (sources : List Source) (g : Gathered files done left sources) where
+    pub gathered_all : left ≡ [] → sources ≡ sources_of files
+    gathered_all e = g.are ∙ ap sources_of (sym (g.all ∙ ap (λ l. done ++ l) e ∙ append-nil done))
+
+    module _ (x : String Y × List ℕ) (rest : List (String Y × List ℕ)) (is : left ≡ x ∷ rest) where
+      pub gathered_more : (next : List Source) → next ≡ sources ++ source_of x ∷ [] → Gathered files (done ++ x ∷ []) rest next
+      gathered_more next e = record {
+        are = e ∙ ap (λ (ss : List Source). ss ++ source_of x ∷ []) g.are ∙ sym (map-append source_of done (x ∷ []));
+        all = g.all ∙ ap (λ l. done ++ l) is ∙ sym (append_assoc done (x ∷ []) rest);
+      }
+
+      split : sources_of files ≡ sources ++ source_of x ∷ sources_of rest
+      split = ap sources_of (g.all ∙ ap (λ l. done ++ l) is) ∙ map-append source_of done (x ∷ rest) ∙ ap (λ (ss : List Source). ss ++ source_of x ∷ sources_of rest) (sym g.are)
+
+      pub room_for_more : (n : ℕ) → length files ≤ n → length sources < n
+      room_for_more n few =
+          let a = length-sources files in
+          let b = ap (λ (ss : List Source). length ss) split in
+          let c = length-append sources (source_of x ∷ sources_of rest) in
+          omega arith
+
+      pub gathered_same : (first second : ℕ) → Differ sources → HasName sources first (string_bytes x.0) → second ≡ length sources → HaveSameName (sources_of files) first second
+      gathered_same first second differ h e =
+          subst (λ (k : ℕ). HaveSameName (sources_of files) first k) (sym e)
+          (subst (λ (ss : List Source). HaveSameName ss first (length sources)) (sym split)
+          (same_name sources (sources_of rest) (source_of x) first differ h))

@@ -55,8 +55,9 @@ impl Sources {
 
     /// The number of the file of the name.
     pub fn find(&self, name: &str) -> Option<u32>
-        ensures { MatchOption result (LacksFile self.now name.now)
+        ensures found { MatchOption result (LacksFile self.now name.now)
             (λ number. HasName self.now number name.now) }
+        ensures valid { AreSources self.now }
     {
         match self.files.get_index_of(name) {
             None => None,
