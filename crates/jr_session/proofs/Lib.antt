@@ -1,0 +1,14 @@
+pub mod SourceLaws
+pub mod Entries
+pub mod Histories
+pub mod Totals
+pub mod Places
+pub mod KeptLaws
+pub mod StateLaws
+pub mod LengthLaws
+pub mod RefusalCases
+pub mod EditLaws
+pub mod SessionSteps
+pub mod AllRead
+pub mod StepCases
+pub mod FirstTokens

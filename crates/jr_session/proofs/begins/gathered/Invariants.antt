@@ -1,0 +1,7 @@
+use Rattle.std.proofs.Common.{◌≡◌, ◌++◌}
+use Rattle.jr_session.specs.SourceView.{sources_of}
+use Rattle.jr_session.proofs.Entries.{Gathered}
+use Rattle.jr_session.proofs.begins.gathered.Given as goal
+
+abbrev pub invariant-loop-name : goal.invariant-loop-name
+invariant-loop-name l = Gathered l.fn.files.items l.yielded l.name-iterator.rest.items l.sources

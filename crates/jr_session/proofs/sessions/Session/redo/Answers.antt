@@ -1,0 +1,31 @@
+use Rattle.std.proofs.Common.{◌≡◌, ℕ, List, [], length, sym, ap, subst, ◌∙◌}
+use Rattle.jr_names.specs.declared.steps.Step.TheVariants as step
+use Rattle.jr_names.specs.Replies.{redone}
+use Rattle.jr_session.specs.Sources.{texts_of}
+use Rattle.jr_session.specs.States.{State}
+use Rattle.jr_session.specs.Turns.{IsTurn}
+use Rattle.jr_session.specs.Stepping.{Steps}
+use Rattle.jr_session.proofs.Histories.{no_history}
+use Rattle.jr_session.proofs.StateLaws.{state_of, redone_state, kept_turned}
+use Rattle.jr_session.proofs.SessionSteps.{redone_step}
+use Rattle.jr_session.proofs.sessions.Session.redo.Goals as goal
+
+pub returns-in_err-turned-clause-nothing : goal.returns-in_err-turned-clause-nothing
+returns-in_err-turned-clause-nothing c = λ none.
+    let empty : c.self.inside.redo.items ≡ [] = no_history (texts_of c.self.inside.sources) c.self.inside.redo.items (ap (λ (s : State). s.redo) c.self.view_is ∙ none) in
+    let e = c.in_err-turned.ensures.empty empty in
+    cc
+
+pub invariant_of-self-2 : goal.invariant_of-self-2
+invariant_of-self-2 c =
+    let turn = c.in_ok-turned.ensures.turn c.if-not-turned.false in
+    let changes = kept_turned c.self.inside.sources c.turn_back.new.sources c.self.inside.redo.items c.turn_back.new.from.items c.self.inside.undo.items c.turn_back.new.onto.items turn c.self.invariant.redo c.self.invariant.undo in
+    record { readings = c.in_ok-turned.ensures.readings; redo = changes.0; undo = changes.1 }
+
+pub returns-clause-step : goal.returns-clause-step
+returns-clause-step c =
+    let turn = c.in_ok-turned.ensures.turn c.if-not-turned.false in
+    let now : State = state_of c.turn_back.new.sources c.turn_back.new.onto.items c.turn_back.new.from.items c.self.inside.shown in
+    subst (λ (s : State). Steps s step.Redo redone now) c.self.view_is
+    (redone_step (state_of c.self.inside.sources c.self.inside.undo.items c.self.inside.redo.items c.self.inside.shown) now
+    (redone_state c.self.inside.sources c.turn_back.new.sources c.self.inside.undo.items c.turn_back.new.onto.items c.self.inside.redo.items c.turn_back.new.from.items c.self.inside.shown turn))

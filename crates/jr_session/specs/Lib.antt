@@ -1,0 +1,17 @@
+pub mod Sources
+pub mod SourceView
+pub mod States
+pub mod Changes
+pub mod Lengths
+pub mod FaultNames
+pub mod ReadingFaults
+pub mod Kept
+pub mod Turns
+pub mod Splicing
+pub mod Beginning
+pub mod FirstFault
+pub mod Lines
+pub mod Refusing
+pub mod Stepping
+pub mod ReadingLaws
+pub mod FirstOf

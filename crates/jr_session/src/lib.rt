@@ -1,0 +1,27 @@
+//! Sessions: the sources of a program, edits of them, and what can be undone.
+//!
+//! A [`Session`] holds files, each with a name of its own and a text. What each text reads as is
+//! kept beside it. Contracts see a session as the `State` of `specs/States.antt`, and what a step
+//! does as the relation of `specs/Stepping.antt`; why it is refused is in `specs/Refusing.antt`.
+#![tactic(auto)]
+
+mod begins;
+mod changes;
+mod edits;
+mod faults;
+mod first_faults;
+mod kept;
+mod laws;
+mod readings;
+mod sessions;
+mod sources;
+mod splices;
+#[cfg(test)]
+mod tests;
+mod turns;
+
+pub use begins::BeginFault;
+pub use faults::{FaultKind, ReadingFault};
+pub use laws::text_has_one_reading;
+pub use sessions::Session;
+pub use sources::{MAX_FILES, MAX_TOTAL_LEN};
