@@ -4,6 +4,7 @@ ghost use Rattle.std.specs.Option.{is_some};
 ghost use Rattle.jr_pexpr.specs.Marked.{join};
 ghost use Rattle.jr_pexpr.specs.TokenView.{token_view};
 ghost use Rattle.jr_punit.specs.CueView.{cue_view};
+ghost use Rattle.jr_punit.specs.InPlace.{GoesTo};
 ghost use Rattle.jr_punit.specs.ListView.{list_state, IsNextList};
 ghost use Rattle.jr_punit.specs.PlaceView.{on, all};
 ghost use Rattle.jr_punit.specs.StatementMachine as machine;
@@ -22,6 +23,7 @@ use jr_ast::Stmt;
 use jr_pexpr::Token;
 use jr_text::Span;
 use std::alloc::Global;
+use std::mem;
 
 /// The list behind its last statement.
 fn finish_behind(
@@ -38,7 +40,7 @@ fn finish_behind(
 
 impl ListState {
     /// The state behind a token at `at`; `None` exactly where no list goes on with it.
-    pub(crate) fn step(self, alloc: Global, at: Span, token: Token<'_>) -> Made<Option<ListState>>
+    fn behind(self, alloc: Global, at: Span, token: Token<'_>) -> Made<Option<ListState>>
         ensures { IsNextList result
             (machine.step join (list_state self) at (token_view token.entry)) }
     {
@@ -58,6 +60,21 @@ impl ListState {
             Mode::Named(start, is_final, ty, name) => {
                 begin_init(alloc, place, start, is_final, ty, name, cue)
             }
+        }
+    }
+
+    /// Goes on with a token at `at`; `false` exactly where no list goes on with it.
+    pub(crate) fn step(&mut self, alloc: Global, at: Span, token: Token<'_>) -> Made<bool>
+        ensures { GoesTo result (list_state self.new)
+            (machine.step join (list_state self.old) at (token_view token.entry)) }
+    {
+        let list = mem::replace(self, ListState::new(alloc));
+        match list.behind(alloc, at, token)? {
+            Some(next) => {
+                *self = next;
+                Ok(true)
+            }
+            None => Ok(false),
         }
     }
 

@@ -7,7 +7,7 @@ use Rattle.jr_punit.specs.ListView.{list_state, mode_view}
 use Rattle.jr_punit.specs.PlaceView.{on, all, place_view}
 use Rattle.jr_punit.specs.StatementMachine.{step, from_type}
 use Rattle.jr_punit.specs.TypeStateView.{type_state}
-use Rattle.jr_punit.proofs.lists.ListState.step.Goals as goal
+use Rattle.jr_punit.proofs.lists.ListState.behind.Goals as goal
 
 pub returns-in-InType : goal.returns-in-InType
 returns-in-InType c =
