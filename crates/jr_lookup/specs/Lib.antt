@@ -1,2 +1,3 @@
 pub mod LocalView
 pub mod ScopeView
+pub mod NamedClass

@@ -249,3 +249,48 @@ case_156 : errors 0 ((syntax.class 0 ([]) (w 6 (codes "A")) None (syntax.more (s
     breaks 39 rule.TypeMismatch ∷ breaks 41 rule.NoType ∷ breaks 43 rule.NoVariable ∷ []
 unfolding is_accessible lacks_object assignable as_specific is_named is_ctor methods_named ctors_in choose_at find_method find_ctor find_call find_field find_field_of find_member_type last_named find_type shown find_variable find_type_named find_type_of find_field_in find_method_named find_method_of find_ctor_of own_row nearest member number_of entries_of chain_of row_of find_left find_left_of type_of class_name_of target_found types_of own_notes is_constant is_true_literal completes else_completes list_completes own_stmt_notes notes_of target_notes args_notes stmt_notes else_notes stmts_notes member_notes locals_in locals_in_else locals_in_row class_rows members_rows member_rows class_notes members_notes one_notes
 case_156 = refl
+
+-- `class A{Z f;Z m(Z a){return a;}}`: javac refuses it, as a fault of the declarations; no rule of a member is broken
+case_157 : errors 0 ((syntax.class 0 ([]) (w 6 (codes "A")) None (syntax.more (syntax.field 8 ([])
+    (tree.named 8 None (w 8 (codes "Z"))) (w 10 (codes "f")) None) (syntax.more (syntax.method 12
+    ([]) (Some (tree.named 12 None (w 12 (codes "Z")))) (w 14 (codes "m")) ((param 16 false
+    (tree.named 16 None (w 16 (codes "Z"))) (w 18 (codes "a"))) ∷ []) (statement.more
+    (statement.return 21 (Some (tree.name 28 (w 28 (codes "a"))))) statement.end)) syntax.end))) ∷
+    []) ≡ []
+unfolding is_accessible lacks_object assignable as_specific is_named is_ctor methods_named ctors_in choose_at find_method find_ctor find_call find_field find_field_of find_member_type last_named find_type shown find_variable find_type_named find_type_of find_field_in find_method_named find_method_of find_ctor_of own_row nearest member number_of entries_of chain_of row_of find_left find_left_of type_of class_name_of target_found types_of own_notes is_constant is_true_literal completes else_completes list_completes own_stmt_notes notes_of target_notes args_notes stmt_notes else_notes stmts_notes member_notes locals_in locals_in_else locals_in_row class_rows members_rows member_rows class_notes members_notes one_notes
+case_157 = refl
+
+-- `class O{private static class K{}}class A{O.K f;O.K m(O.K a){return a;}}`: javac refuses it
+case_158 : errors 0 ((syntax.class 0 ([]) (w 6 (codes "O")) None (syntax.more (syntax.inner 8
+    (syntax.class 8 ((modifier 8 word.Private) ∷ (modifier 16 word.Static) ∷ []) (w 29 (codes
+    "K")) None syntax.end)) syntax.end)) ∷ (syntax.class 33 ([]) (w 39 (codes "A")) None
+    (syntax.more (syntax.field 41 ([]) (tree.named 41 (Some (w 41 (codes "O"))) (w 43 (codes
+    "K"))) (w 45 (codes "f")) None) (syntax.more (syntax.method 47 ([]) (Some (tree.named 47 (Some
+    (w 47 (codes "O"))) (w 49 (codes "K")))) (w 51 (codes "m")) ((param 53 false (tree.named 53
+    (Some (w 53 (codes "O"))) (w 55 (codes "K"))) (w 57 (codes "a"))) ∷ []) (statement.more
+    (statement.return 60 (Some (tree.name 67 (w 67 (codes "a"))))) statement.end)) syntax.end))) ∷
+    []) ≡ breaks 43 rule.Private ∷ breaks 49 rule.Private ∷ breaks 55 rule.Private ∷ []
+unfolding is_accessible lacks_object assignable as_specific is_named is_ctor methods_named ctors_in choose_at find_method find_ctor find_call find_field find_field_of find_member_type last_named find_type shown find_variable find_type_named find_type_of find_field_in find_method_named find_method_of find_ctor_of own_row nearest member number_of entries_of chain_of row_of find_left find_left_of type_of class_name_of target_found types_of own_notes is_constant is_true_literal completes else_completes list_completes own_stmt_notes notes_of target_notes args_notes stmt_notes else_notes stmts_notes member_notes locals_in locals_in_else locals_in_row class_rows members_rows member_rows class_notes members_notes one_notes
+case_158 = refl
+
+-- `class O{private static class K{}static class L{K f;K m(K a){return a;}}}`: javac takes it
+case_159 : errors 0 ((syntax.class 0 ([]) (w 6 (codes "O")) None (syntax.more (syntax.inner 8
+    (syntax.class 8 ((modifier 8 word.Private) ∷ (modifier 16 word.Static) ∷ []) (w 29 (codes
+    "K")) None syntax.end)) (syntax.more (syntax.inner 32 (syntax.class 32 ((modifier 32
+    word.Static) ∷ []) (w 45 (codes "L")) None (syntax.more (syntax.field 47 ([]) (tree.named 47
+    None (w 47 (codes "K"))) (w 49 (codes "f")) None) (syntax.more (syntax.method 51 ([]) (Some
+    (tree.named 51 None (w 51 (codes "K")))) (w 53 (codes "m")) ((param 55 false (tree.named 55
+    None (w 55 (codes "K"))) (w 57 (codes "a"))) ∷ []) (statement.more (statement.return 60 (Some
+    (tree.name 67 (w 67 (codes "a"))))) statement.end)) syntax.end)))) syntax.end))) ∷ []) ≡ []
+unfolding is_accessible lacks_object assignable as_specific is_named is_ctor methods_named ctors_in choose_at find_method find_ctor find_call find_field find_field_of find_member_type last_named find_type shown find_variable find_type_named find_type_of find_field_in find_method_named find_method_of find_ctor_of own_row nearest member number_of entries_of chain_of row_of find_left find_left_of type_of class_name_of target_found types_of own_notes is_constant is_true_literal completes else_completes list_completes own_stmt_notes notes_of target_notes args_notes stmt_notes else_notes stmts_notes member_notes locals_in locals_in_else locals_in_row class_rows members_rows member_rows class_notes members_notes one_notes
+case_159 = refl
+
+-- `class O{private static class K{}}class A{static class B extends O.K{}}`: javac refuses it
+case_160 : errors 0 ((syntax.class 0 ([]) (w 6 (codes "O")) None (syntax.more (syntax.inner 8
+    (syntax.class 8 ((modifier 8 word.Private) ∷ (modifier 16 word.Static) ∷ []) (w 29 (codes
+    "K")) None syntax.end)) syntax.end)) ∷ (syntax.class 33 ([]) (w 39 (codes "A")) None
+    (syntax.more (syntax.inner 41 (syntax.class 41 ((modifier 41 word.Static) ∷ []) (w 54 (codes
+    "B")) (Some (tree.named 64 (Some (w 64 (codes "O"))) (w 66 (codes "K")))) syntax.end))
+    syntax.end)) ∷ []) ≡ breaks 54 rule.SuperCtor ∷ breaks 66 rule.Private ∷ []
+unfolding is_accessible lacks_object assignable as_specific is_named is_ctor methods_named ctors_in choose_at find_method find_ctor find_call find_field find_field_of find_member_type last_named find_type shown find_variable find_type_named find_type_of find_field_in find_method_named find_method_of find_ctor_of own_row nearest member number_of entries_of chain_of row_of find_left find_left_of type_of class_name_of target_found types_of own_notes is_constant is_true_literal completes else_completes list_completes own_stmt_notes notes_of target_notes args_notes stmt_notes else_notes stmts_notes member_notes locals_in locals_in_else locals_in_row class_rows members_rows member_rows class_notes members_notes one_notes
+case_160 = refl

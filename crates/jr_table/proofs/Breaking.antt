@@ -39,8 +39,20 @@ has_append (x ∷ xs) ys n = (to (has_append xs ys n), back (has_append xs ys n)
     back again (inl (inr h)) = inr (again.1 (inl h))
     back again (inr h) = inr (again.1 (inr h))
 
+-- a note in two logs, one behind the other
+pub two : (xs ys : List Note) (n : Note) (P Q : Type 0) → (Has xs n ↔ P) → (Has ys n ↔ Q) → Has (xs ++ ys) n ↔ (P ⊎ Q)
+two xs ys n P Q f g = chain (has_append xs ys n) (to, back)
+  where
+    to : (Has xs n ⊎ Has ys n) → P ⊎ Q
+    to (inl h) = inl (f.0 h)
+    to (inr h) = inr (g.0 h)
+
+    back : (P ⊎ Q) → Has xs n ⊎ Has ys n
+    back (inl h) = inl (f.1 h)
+    back (inr h) = inr (g.1 h)
+
 -- one note of a broken rule
-one_iff : (here at : ℕ) (q r : Rule) → Has (breaks here q ∷ []) (breaks at r) ↔ ((at ≡ here) × (r ≡ q))
+pub one_iff : (here at : ℕ) (q r : Rule) → Has (breaks here q ∷ []) (breaks at r) ↔ ((at ≡ here) × (r ≡ q))
 one_iff here at q r = (to, λ h. inl (λ i. breaks (sym h.0 i) (sym h.1 i)))
   where
     to : ((breaks here q ≡ breaks at r) ⊎ ⊥) → (at ≡ here) × (r ≡ q)
@@ -66,7 +78,11 @@ when_binds_none false here at q d h = h
 when_binds_none true here at q d (inl e) = cc
 when_binds_none true here at q d (inr h) = h
 
-no_note : (at : ℕ) (r : Rule) (P : Type 0) → (P → ⊥) → Has [] (breaks at r) ↔ P
+-- a rule with what breaks it at a place
+pub rule_when : (b : Bool) (P : Type 0) → ((b ≡ true) ↔ P) → (here at : ℕ) (q r : Rule) → Has (when b (breaks here q)) (breaks at r) ↔ ((r ≡ q) × ((at ≡ here) × P))
+rule_when b P f here at q r = chain (when_iff b P f here at q r) (λ h. (h.1, (h.0, h.2)), λ h. (h.1.0, h.0, h.1.1))
+
+pub no_note : (at : ℕ) (r : Rule) (P : Type 0) → (P → ⊥) → Has [] (breaks at r) ↔ P
 no_note at r P none = (λ h. absurd h, λ p. none p)
 
 module _ (rows : List Row) (fit : AreRows rows) (found : KeysAreFound rows) (c : Context) where
@@ -94,7 +110,7 @@ module _ (rows : List Row) (fit : AreRows rows) (found : KeysAreFound rows) (c :
     objects (tree.compound m o x y) at r = no_note at r _ (λ h. h.0)
 
     -- operators, assignments and casts
-    abbrev OperandRules : tree.Exp A → ℕ → Rule → Type 0
+    abbrev pub OperandRules : tree.Exp A → ℕ → Rule → Type 0
     OperandRules e at r = ((r ≡ rule.TypeMismatch) × Mismatches begins rows c role base e at) ⊎ (((r ≡ rule.Operands) × Operands begins rows c role base e at) ⊎ ((r ≡ rule.BadCast) × BadCast begins rows c role base e at))
 
     no_operands : (e : tree.Exp A) (at : ℕ) (r : Rule) → (Mismatches begins rows c role base e at → ⊥) → (Operands begins rows c role base e at → ⊥) → (BadCast begins rows c role base e at → ⊥)

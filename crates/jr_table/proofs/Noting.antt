@@ -1,6 +1,6 @@
 -- The log of the walk: a note is in it exactly where an expression, a statement or a list has it itself.
-use Rattle.std.proofs.Common.{◌≡◌, ℕ, ◌+◌, List, [], ◌∷◌, ◌++◌, Option, Some, None, inl, inr}
-use Rattle.std.specs.Prelude.{◌⊎◌, ◌↔◌}
+use Rattle.std.proofs.Common.{ℕ, ◌+◌, List, [], Option, Some, None}
+use Rattle.std.specs.Prelude.{◌↔◌}
 use Rattle.jr_ast.specs.Tree as tree
 use Rattle.jr_ast.specs.StatementTree as statement
 use Rattle.jr_table.specs.Rows.{Row}
@@ -10,20 +10,7 @@ use Rattle.jr_table.specs.Binding as role
 use Rattle.jr_table.specs.Somewhere.{Somewhere, InTarget, InRow, InMaybe, InStmt, InElse, InList, InStmts}
 use Rattle.jr_table.specs.Notes.{Note, Has, own_notes, own_stmt_notes, list_notes}
 use Rattle.jr_table.specs.Walks.{notes_of, target_notes, args_notes, maybe_notes, stmt_notes, else_notes, stmts_notes, body_notes}
-use Rattle.jr_table.proofs.RowTypes.{chain}
-use Rattle.jr_table.proofs.Breaking.{has_append}
-
--- a note in two logs, one behind the other
-two : (xs ys : List Note) (n : Note) (P Q : Type 0) → (Has xs n ↔ P) → (Has ys n ↔ Q) → Has (xs ++ ys) n ↔ (P ⊎ Q)
-two xs ys n P Q f g = chain (has_append xs ys n) (to, back)
-  where
-    to : (Has xs n ⊎ Has ys n) → P ⊎ Q
-    to (inl h) = inl (f.0 h)
-    to (inr h) = inr (g.0 h)
-
-    back : (P ⊎ Q) → Has xs n ⊎ Has ys n
-    back (inl h) = inl (f.1 h)
-    back (inr h) = inr (g.1 h)
+use Rattle.jr_table.proofs.Breaking.{two}
 
 same : (xs : List Note) (n : Note) → Has xs n ↔ Has xs n
 same xs n = (λ h. h, λ h. h)
@@ -32,13 +19,13 @@ nothing_noted : (n : Note) → Has [] n ↔ ⊥
 nothing_noted n = (λ h. h, λ h. h)
 
 module _ {A : Type 0} (begins : A → ℕ → ℕ) (rows : List Row) (n : Note) where
-  abbrev Own : Context → Role → (base : ℕ) → tree.Exp A → Type 0
+  abbrev pub Own : Context → Role → (base : ℕ) → tree.Exp A → Type 0
   Own c r b x = Has (own_notes begins rows c r b x) n
 
-  abbrev OwnStmt : (number : ℕ) → Context → (base : ℕ) → statement.Stmt A → Type 0
+  abbrev pub OwnStmt : (number : ℕ) → Context → (base : ℕ) → statement.Stmt A → Type 0
   OwnStmt number c b x = Has (own_stmt_notes begins rows number c b x) n
 
-  abbrev OwnList : (base : ℕ) → statement.Stmts A → Type 0
+  abbrev pub OwnList : (base : ℕ) → statement.Stmts A → Type 0
   OwnList b xs = Has (list_notes begins b xs) n
 
   module _ (c : Context) where

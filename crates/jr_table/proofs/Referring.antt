@@ -40,10 +40,10 @@ Two Q R = Q × R
 nest : {X P Q R : Type 0} → (X ↔ (P × Q × R)) → X ↔ (P × Two Q R)
 nest f = (λ x. let h = f.0 x in (h.0, (h.1, h.2)), λ h. f.1 (h.0, h.1.0, h.1.1))
 
-none_iff : (at : ℕ) (q : Sought) (f : Found) → InReferences [] at q f ↔ ⊥
+pub none_iff : (at : ℕ) (q : Sought) (f : Found) → InReferences [] at q f ↔ ⊥
 none_iff at q f = (λ h. h, λ h. h)
 
-only_iff : (here : ℕ) (s : Sought) (g : Found) (Finds : Found → Type 0) → Decided g Finds
+pub only_iff : (here : ℕ) (s : Sought) (g : Found) (Finds : Found → Type 0) → Decided g Finds
     → (at : ℕ) (q : Sought) (f : Found) → InReferences (reference here s g ∷ []) at q f ↔ ((at ≡ here) × (q ≡ s) × Finds f)
 only_iff here s g Finds is at q f = chain (first_iff here s g Finds is [] (λ a b d. ⊥) none_iff at q f) (to, λ h. inl h)
   where
@@ -61,7 +61,7 @@ module _ (rows : List Row) (fit : AreRows rows) (found : KeysAreFound rows) (c :
         (λ k h. FindsTypeOf rows (scope_of c) k w.text h)
         (λ k. chain (class_found_iff (find_type_named rows (scope_of c) o.text) k) (found.type_named (scope_of c) o.text (one (class_decl k)))) (λ k. found.type_of (scope_of c) k w.text)
 
-    type_iff : (base : ℕ) (t : tree.TypeName A) (at : ℕ) (q : Sought) (f : Found) → InReferences (type_references begins rows c base t) at q f ↔ ((q ≡ type) × TypeRefers begins rows c base t at f)
+    pub type_iff : (base : ℕ) (t : tree.TypeName A) (at : ℕ) (q : Sought) (f : Found) → InReferences (type_references begins rows c base t) at q f ↔ ((q ≡ type) × TypeRefers begins rows c base t at f)
     type_iff base (tree.int m) at q f = (λ h. absurd h, λ h. h.1)
     type_iff base (tree.boolean m) at q f = (λ h. absurd h, λ h. h.1)
     type_iff base (tree.named m None w) at q f = chain (only_iff (word_at begins m base w) type (find_type_named rows (scope_of c) w.text) (FindsTypeNamed rows (scope_of c) w.text) (found.type_named (scope_of c) w.text) at q f)

@@ -1,5 +1,10 @@
 //! Laws of binding that no call's clause can carry.
-ghost use Rattle.jr_table.specs.BindingLaws.{AreBound, AreReferred, AreNoted};
+ghost use Rattle.jr_table.specs.BindingLaws.{
+  AreBound,
+  AreReferred,
+  AreNoted,
+  ExpressionsAreNoted,
+};
 
 use jr_text::Mark;
 
@@ -18,4 +23,10 @@ pub fn references_are_exact<A: Mark>()
 /// The log of a walk holds exactly what an expression, a statement or a list in it notes itself.
 pub fn walks_are_exact<A: Mark>()
     ensures noted { AreNoted A }
+{}
+
+/// What an expression notes itself is what the relations say: the rules that it breaks itself, each
+/// with its place, and what its references are bound to (JLS 6, 8, 15), whatever the marks are.
+pub fn notes_are_exact<A: Mark>()
+    ensures expressions { ExpressionsAreNoted A }
 {}
