@@ -21,7 +21,9 @@ use Rattle.jr_punit.specs.MemberMachine as Members
 use Rattle.jr_punit.specs.UnitMachine as Units
 use Rattle.jr_punit.specs.UnitView.{is_package}
 use Rattle.jr_punit.specs.OwnView.{begun}
-use Rattle.jr_punit.specs.ClassView.{inner_read, inner_members, top_read, top_members, is_modified, is_class, begins_class, inner_parent, top_parent}
+use Rattle.jr_punit.specs.declared.class_heads.ClassStart.{ClassStart}
+use Rattle.jr_punit.specs.declared.class_heads.ClassStart.TheVariants as starts
+use Rattle.jr_punit.specs.ClassView.{class_start, closed_at, inner_read, inner_members, top_read, top_members, is_modified, is_class, begins_class, inner_parent, top_parent}
 
 pub members-append : (ds : List (Member Span)) (d : Member Span) → members_of (ds ++ d ∷ []) ≡ Classes.with_member (members_of ds) (member_of d)
 members-append [] d = refl
@@ -144,6 +146,13 @@ pub top_ends : (h : Classes.Head Span) (all : tree.Members Span) (s : Members.St
 top_ends h all s at t n =
     let p = both (Members.is_start s) (is_close_brace (cue_of t)) n in
     ap (λ (s : Members.State Span). top_members h all s at t (cue_of t)) (member_start s p.0) ∙ top_start h all at t (cue_of t) refl (brace (cue_of t) p.1)
+
+-- where no member has been begun, the class doesn't end
+pub unclosed : {S : Type 0} (start : ClassStart) (at : Span) → closed_at {S = S} (class_start start) at ≡ None
+unclosed (starts.Modified ms) at = refl
+unclosed (starts.AtClass lead) at = refl
+unclosed (starts.Named lead name) at = refl
+unclosed (starts.InParent lead name type) at = refl
 
 -- ---- `class` in a class
 

@@ -15,9 +15,10 @@ use Rattle.jr_pexpr.specs.Starts.{type_read}
 use Rattle.jr_pexpr.specs.Walks.{is_end}
 use Rattle.jr_pexpr.proofs.Walking.{step_none}
 use Rattle.jr_punit.specs.Cues.{Cue, a_word, a_close, a_semicolon, at_semicolon, at_close, cue_of, cue_token}
+use Rattle.jr_punit.specs.CueTests.{ends_eval}
 use Rattle.jr_punit.specs.Inside.{inner}
 use Rattle.jr_punit.specs.Slots.{is_semicolon, is_close, closer, closes}
-use Rattle.jr_punit.specs.StatementMachine.{Frame, State, Slot, for_local, for_return, for_head, filled, in_exp, in_eval, from_exp, from_eval, evaluated, begin_local}
+use Rattle.jr_punit.specs.StatementMachine.{Frame, State, Slot, for_local, for_return, for_head, filled, in_exp, in_eval, from_exp, from_eval, eval_ended, evaluated, begin_local}
 use Rattle.jr_punit.proofs.CueTokens.{cue_back}
 use Rattle.jr_punit.proofs.Inside.{map_inner}
 
@@ -123,3 +124,13 @@ module _ (fs : List (Frame Span)) (all : Stmts Span) (s : E.State Span) (at : Sp
           → inner (in_eval fs all) None (E.statement_step join s at (word w)) ≡ inner (in_eval fs all) (option_and_then (begin_local fs all (E.marked at w)) o) (E.statement_step join s at (word w))
       go None h = refl
       go (Some t) h = absurd cc
+
+  pub eval_goes : (t : Token) → ends_eval (cue_of t) ≡ false → option_map (in_eval fs all) (E.statement_step join s at t) ≡ from_eval join fs all s at t (cue_of t)
+  eval_goes t h =
+      map_inner (in_eval fs all) (E.statement_step join s at t)
+      ∙ ap (λ (o : Option (State Span)). inner (in_eval fs all) o (E.statement_step join s at t)) (sym (no_end (cue_of t) h))
+    where
+      no_end : (c : Cue) → ends_eval c ≡ false → eval_ended join fs all s at c ≡ None
+      no_end a_semicolon h = absurd cc
+      no_end (a_word w) h = absurd cc
+      no_end _ h = refl

@@ -1,5 +1,6 @@
 pub mod Cases
 pub mod Inside
+pub mod InPlace
 pub mod Expressions
 pub mod CueTokens
 pub mod Types

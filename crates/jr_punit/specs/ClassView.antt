@@ -1,5 +1,5 @@
 -- How far classes, members of any kind and what holds them have been read, as the machines have it.
-use Rattle.std.specs.Prelude.{◌≡◌, Bool, true, false, ◌&&◌, not, Option, option_map, Result, IfOk}
+use Rattle.std.specs.Prelude.{◌≡◌, Bool, true, false, ◌&&◌, not, Option, Some, None, option_map, Result, IfOk}
 use Rattle.jr_text.specs.declared.spans.Span.{Span}
 use Rattle.jr_ast.specs.Tree.{Word}
 use Rattle.jr_ast.specs.MemberTree as tree
@@ -59,6 +59,15 @@ inner_parent = Classes.from_parent Span (Own.State Span) join Own.start Own.is_s
 abbrev pub top_parent : Own.Lead Span → Word Span → T.State Span → Span → Cue → Option (Units.ClassState Span)
 top_parent = Classes.from_parent Span (Members.State Span) join Members.start Members.is_start (Members.step join false) Members.whole
 
+-- the class, which ends behind its members
+abbrev pub closed_at : {S : Type 0} → Classes.State Span S → Span → Option (Classes.State Span S)
+closed_at (Classes.in_members head all m) at = Some (Classes.done (Classes.class_of join head at all))
+closed_at (Classes.modified ms) at = None
+closed_at (Classes.at_class lead) at = None
+closed_at (Classes.named lead name) at = None
+closed_at (Classes.in_parent lead name type) at = None
+closed_at (Classes.done of) at = None
+
 -- ---- member classes
 
 abbrev pub inner_class : InnerClass → Classes.State Span (Own.State Span)
@@ -81,9 +90,6 @@ inner_members = Classes.from_members Span (Own.State Span) join Own.start Own.is
 abbrev pub member_state : MemberState → Members.State Span
 member_state (member.Own s) = Members.own (own_state s)
 member_state (member.InClass s) = Members.in_class (inner_class s)
-
-abbrev pub IsNextMember : {E : Type 0} → Result (Option MemberState) E → Option (Members.State Span) → Type 0
-IsNextMember result next = IfOk result (λ s. option_map member_state s ≡ next)
 
 -- ---- top-level classes
 

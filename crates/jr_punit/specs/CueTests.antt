@@ -1,6 +1,6 @@
 -- Whether a token is that one.
 use Rattle.std.specs.Prelude.{Bool, true, false}
-use Rattle.jr_punit.specs.Cues.{Cue, a_semicolon, a_comma, an_open, a_close, a_close_brace, a_super}
+use Rattle.jr_punit.specs.Cues.{Cue, a_word, a_semicolon, a_comma, an_open, a_close, a_close_brace, a_super}
 
 abbrev pub is_semicolon : Cue → Bool
 is_semicolon a_semicolon = true
@@ -25,3 +25,9 @@ is_open _ = false
 abbrev pub is_super : Cue → Bool
 is_super a_super = true
 is_super _ = false
+
+-- a statement expression, or the type of a local, may end with it
+abbrev pub ends_eval : Cue → Bool
+ends_eval a_semicolon = true
+ends_eval (a_word w) = true
+ends_eval _ = false

@@ -2,6 +2,7 @@ pub mod Cues
 pub mod CueView
 pub mod CueTests
 pub mod Inside
+pub mod InPlace
 pub mod TypeMachine
 pub mod TypeStateView
 pub mod ArgumentMachine

@@ -1,8 +1,10 @@
 //! The parameters and the body of a method or constructor (JLS 8.4.1, 8.4.7, 8.8.7).
-ghost use Rattle.std.specs.Prelude.{◌≡◌, IfOk, Some, option_map, option_and_then};
+ghost use Rattle.std.specs.Prelude.{◌≡◌, ◌&&◌, IfOk, Some, option_map, option_and_then};
+ghost use Rattle.std.specs.Option.{is_some};
 ghost use Rattle.jr_ast.specs.View.{stmts_of, member_of};
 ghost use Rattle.jr_pexpr.specs.Marked.{join};
 ghost use Rattle.jr_pexpr.specs.TokenView.{token_view};
+ghost use Rattle.jr_punit.specs.CueTests.{is_close_brace as is_brace};
 ghost use Rattle.jr_punit.specs.CueView.{cue_view};
 ghost use Rattle.jr_punit.specs.Cues as pure;
 ghost use Rattle.jr_punit.specs.ListView.{list_state};
@@ -174,17 +176,26 @@ fn end_body(alloc: Global, body: Box<Body>, items: ListState, at: Span) -> OwnSt
 fn body_goes_on(
     alloc: Global,
     body: Box<Body>,
-    items: ListState,
+    mut items: ListState,
     at: Span,
     token: Token<'_>,
 ) -> OwnStepped
     ensures { IsNextOwn result (option_map (machine.in_body (body_view body.value))
         (statements.step join (list_state items) at (token_view token.entry))) }
 {
-    match items.step(alloc, at, token)? {
-        Some(items) => Ok(Some(OwnState::InBody(body, items))),
-        None => Ok(None),
+    if items.step(alloc, at, token)? {
+        Ok(Some(OwnState::InBody(body, items)))
+    } else {
+        Ok(None)
     }
+}
+
+/// Whether the body ends with the token: its closing brace, behind what is a whole list.
+pub(crate) fn ends_body(items: &ListState, token: Token<'_>) -> bool
+    ensures { result ≡ (is_brace (pure.cue_of (token_view token.entry))
+        && is_some (statements.whole join (list_state items.now))) }
+{
+    is_close_brace(token) & items.is_whole()
 }
 
 /// A token among the statements of a body, or its closing brace.
@@ -198,9 +209,9 @@ pub(crate) fn from_body(
     ensures { IsNextOwn result (machine.from_body join (body_view body.value) (list_state items)
         at (token_view token.entry) (pure.cue_of (token_view token.entry))) }
 {
-    let ends = is_close_brace(token) & items.is_whole();
-    if ends {
-        return end_body(alloc, body, items, at);
+    if ends_body(&items, token) {
+        end_body(alloc, body, items, at)
+    } else {
+        body_goes_on(alloc, body, items, at, token)
     }
-    body_goes_on(alloc, body, items, at, token)
 }

@@ -9,17 +9,19 @@ ghost use Rattle.jr_punit.specs.Cues.{cue_of};
 ghost use Rattle.jr_punit.specs.ClassMachine as Classes;
 ghost use Rattle.jr_punit.specs.MemberMachine as Members;
 ghost use Rattle.jr_punit.specs.UnitMachine as machine;
-ghost use Rattle.jr_punit.specs.ClassView.{class_head, member_state, class_start, begun_class, class_state, top_read, top_members, IsNextClass};
+ghost use Rattle.jr_punit.specs.ClassView.{class_head, member_state, class_start, begun_class, class_state, top_read, closed_at, IsNextClass};
+ghost use Rattle.jr_punit.specs.InPlace.{GoesTo};
 
 use crate::class_heads::{BegunClass, ClassHead, ClassStart};
 use crate::cue_tests::is_close_brace;
-use crate::inner_class::{whole_class, with_member};
+use crate::inner_class::{add_member, whole_class};
 use crate::made::Made;
 use crate::member_state::MemberState;
 use jr_ast::{Class, Member};
 use jr_pexpr::Token;
 use jr_text::Span;
 use std::alloc::Global;
+use std::mem;
 
 /// How far a top-level class has been read.
 #[derive(Drop)]
@@ -47,39 +49,33 @@ fn begun(alloc: Global, next: Option<BegunClass>) -> Option<ClassState>
     }
 }
 
-/// Behind a member that has become whole.
-fn behind(
-    alloc: Global,
-    head: Box<ClassHead>,
-    all: Vec<Member<Span>>,
-    member: Option<Member<Span>>,
-) -> ClassStepped
-    ensures { IsNextClass result (option_map (λ d. Classes.in_members (class_head head.value)
-        (Classes.with_member (members_of all.items) d) Members.start) (option_map member_of member)) }
+/// The member that has become whole is one of the class, and the next one may come; `false` where
+/// it isn't whole.
+fn take_member(alloc: Global, all: &mut Vec<Member<Span>>, member: &mut MemberState) -> Made<bool>
+    ensures { (h : Classes.Head Span) → GoesTo result
+        (Classes.in_members h (members_of all.new.items) (member_state member.new))
+        (option_map (λ d. Classes.in_members h (Classes.with_member (members_of all.old.items) d)
+        Members.start) (Members.whole (member_state member.old))) }
 {
-    match member {
-        Some(member) => {
-            let all = with_member(all, member)?;
-            Ok(Some(ClassState::Members(head, all, MemberState::new(alloc))))
+    match mem::replace(member, MemberState::new(alloc)).finish() {
+        Some(whole) => {
+            add_member(all, whole)?;
+            Ok(true)
         }
-        None => Ok(None),
+        None => Ok(false),
     }
 }
 
 /// Where the member has become whole, the next one may come.
-fn settle(
-    alloc: Global,
-    head: Box<ClassHead>,
-    all: Vec<Member<Span>>,
-    member: MemberState,
-) -> ClassStepped
-    ensures { IsNextClass result (Some
-        (top_read (class_head head.value) (members_of all.items) (member_state member))) }
+fn settle(alloc: Global, all: &mut Vec<Member<Span>>, member: &mut MemberState) -> Made<bool>
+    ensures { (h : Classes.Head Span) → GoesTo result
+        (Classes.in_members h (members_of all.new.items) (member_state member.new))
+        (Some (top_read h (members_of all.old.items) (member_state member.old))) }
 {
     if member.is_done() {
-        behind(alloc, head, all, member.finish())
+        take_member(alloc, all, member)
     } else {
-        Ok(Some(ClassState::Members(head, all, member)))
+        Ok(true)
     }
 }
 
@@ -94,46 +90,31 @@ fn ends(member: &MemberState, token: Token<'_>) -> bool
 /// The member at hand goes on.
 fn member_on(
     alloc: Global,
-    head: Box<ClassHead>,
-    all: Vec<Member<Span>>,
-    member: MemberState,
+    head: &ClassHead,
+    all: &mut Vec<Member<Span>>,
+    member: &mut MemberState,
     at: Span,
     token: Token<'_>,
-) -> ClassStepped
-    ensures { IsNextClass result (option_map
-        (top_read (class_head head.value) (members_of all.items))
-        (Members.step join false (class_head head.value).word.text (member_state member) at
+) -> Made<bool>
+    ensures { GoesTo result (Classes.in_members (class_head head.now) (members_of all.new.items)
+        (member_state member.new)) (option_map
+        (top_read (class_head head.now) (members_of all.old.items))
+        (Members.step join false (class_head head.now).word.text (member_state member.old) at
         (token_view token.entry))) }
 {
-    match member.step(alloc, false, head.name.name.as_str(), at, token)? {
-        Some(next) => settle(alloc, head, all, next),
-        None => Ok(None),
-    }
-}
-
-fn from_members(
-    alloc: Global,
-    head: Box<ClassHead>,
-    all: Vec<Member<Span>>,
-    member: MemberState,
-    at: Span,
-    token: Token<'_>,
-) -> ClassStepped
-    ensures { IsNextClass result (top_members (class_head head.value) (members_of all.items)
-        (member_state member) at (token_view token.entry) (cue_of (token_view token.entry))) }
-{
-    if ends(&member, token) {
-        let class = whole_class(alloc, head, all, at)?;
-        Ok(Some(ClassState::Done(class)))
+    if member.step(alloc, false, head.name.name.as_str(), at, token)? {
+        settle(alloc, all, member)
     } else {
-        member_on(alloc, head, all, member, at, token)
+        Ok(false)
     }
 }
 
-fn from_start(alloc: Global, start: ClassStart, at: Span, token: Token<'_>) -> ClassStepped
+/// In front of the members. What had been read is taken.
+fn from_start(alloc: Global, start: &mut ClassStart, at: Span, token: Token<'_>) -> ClassStepped
     ensures { IsNextClass result
-        (machine.class_step join (class_start start) at (token_view token.entry)) }
+        (machine.class_step join (class_start start.old) at (token_view token.entry)) }
 {
+    let start = mem::replace(start, ClassStart::Modified(Vec::new(alloc)));
     Ok(begun(alloc, start.step(alloc, at, token)?))
 }
 
@@ -155,17 +136,45 @@ impl ClassState {
         ClassState::Start(ClassStart::Modified(Vec::new(alloc)))
     }
 
-    /// The state behind a token at `at`; `None` exactly where no top-level class goes on with it.
-    pub(crate) fn step(self, alloc: Global, at: Span, token: Token<'_>) -> Made<Option<ClassState>>
-        ensures { IsNextClass result
-            (machine.class_step join (class_state self) at (token_view token.entry)) }
+    /// The class ends with its `}`, which is at `at`; `false` where it stands at no member.
+    fn close(&mut self, alloc: Global, at: Span) -> Made<bool>
+        ensures { GoesTo result (class_state self.new) (closed_at (class_state self.old) at) }
+    {
+        match mem::replace(
+            self,
+            ClassState::Start(ClassStart::Modified(Vec::new(alloc))),
+        ) {
+            ClassState::Members(head, all, _) => {
+                let class = whole_class(alloc, head, all, at)?;
+                *self = ClassState::Done(class);
+                Ok(true)
+            }
+            ClassState::Start(_) => Ok(false),
+            ClassState::Done(_) => Ok(false),
+        }
+    }
+
+    /// Goes on with a token at `at`; `false` exactly where no top-level class goes on with it.
+    pub(crate) fn step(&mut self, alloc: Global, at: Span, token: Token<'_>) -> Made<bool>
+        ensures { GoesTo result (class_state self.new)
+            (machine.class_step join (class_state self.old) at (token_view token.entry)) }
     {
         match self {
-            ClassState::Start(start) => from_start(alloc, start, at, token),
+            ClassState::Start(start) => match from_start(alloc, start, at, token)? {
+                Some(next) => {
+                    *self = next;
+                    Ok(true)
+                }
+                None => Ok(false),
+            },
             ClassState::Members(head, all, member) => {
-                from_members(alloc, head, all, member, at, token)
+                if ends(member, token) {
+                    self.close(alloc, at)
+                } else {
+                    member_on(alloc, head, all, member, at, token)
+                }
             }
-            ClassState::Done(_) => Ok(None),
+            ClassState::Done(_) => Ok(false),
         }
     }
 

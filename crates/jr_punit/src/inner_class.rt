@@ -10,7 +10,8 @@ ghost use Rattle.jr_punit.specs.OwnMachine as Own;
 ghost use Rattle.jr_punit.specs.OwnView.{own_state};
 ghost use Rattle.jr_punit.specs.ClassMachine as Classes;
 ghost use Rattle.jr_punit.specs.MemberMachine as machine;
-ghost use Rattle.jr_punit.specs.ClassView.{class_head, class_start, begun_class, inner_class, inner_read, inner_members, IsNextInner};
+ghost use Rattle.jr_punit.specs.ClassView.{class_head, class_start, begun_class, inner_class, inner_read, closed_at, IsNextInner};
+ghost use Rattle.jr_punit.specs.InPlace.{GoesTo};
 
 use crate::class_heads::{BegunClass, ClassHead, ClassStart};
 use crate::cue_tests::is_close_brace;
@@ -21,6 +22,7 @@ use jr_ast::{Class, Member};
 use jr_pexpr::Token;
 use jr_text::Span;
 use std::alloc::Global;
+use std::mem;
 
 /// How far a member class has been read.
 #[derive(Drop)]
@@ -35,16 +37,13 @@ pub(crate) enum InnerClass {
 /// The state behind a token; `None` where the token can't stand there.
 type InnerStepped = Made<Option<InnerClass>>;
 
-/// The members with one more.
-pub(crate) fn with_member(
-    mut all: Vec<Member<Span>>,
-    member: Member<Span>,
-) -> Made<Vec<Member<Span>>>
-    ensures { IfOk result (λ made. members_of made.items
-        ≡ Classes.with_member (members_of all.items) (member_of member)) }
+/// The members have one more.
+pub(crate) fn add_member(all: &mut Vec<Member<Span>>, member: Member<Span>) -> Made<()>
+    ensures { IfOk result (λ _. members_of all.new.items
+        ≡ Classes.with_member (members_of all.old.items) (member_of member)) }
 {
     all.push(member)?;
-    Ok(all)
+    Ok(())
 }
 
 /// The class, whose `}` is at `at`.
@@ -79,39 +78,33 @@ fn begun(alloc: Global, next: Option<BegunClass>) -> Option<InnerClass>
     }
 }
 
-/// Behind a member that has become whole.
-fn behind(
-    alloc: Global,
-    head: Box<ClassHead>,
-    all: Vec<Member<Span>>,
-    member: Option<Member<Span>>,
-) -> InnerStepped
-    ensures { IsNextInner result (option_map (λ d. Classes.in_members (class_head head.value)
-        (Classes.with_member (members_of all.items) d) Own.start) (option_map member_of member)) }
+/// The member that has become whole is one of the class, and the next one may come; `false` where
+/// it isn't whole.
+fn take_member(alloc: Global, all: &mut Vec<Member<Span>>, member: &mut OwnState) -> Made<bool>
+    ensures { (h : Classes.Head Span) → GoesTo result
+        (Classes.in_members h (members_of all.new.items) (own_state member.new))
+        (option_map (λ d. Classes.in_members h (Classes.with_member (members_of all.old.items) d)
+        Own.start) (Own.whole (own_state member.old))) }
 {
-    match member {
-        Some(member) => {
-            let all = with_member(all, member)?;
-            Ok(Some(InnerClass::Members(head, all, OwnState::new(alloc))))
+    match mem::replace(member, OwnState::new(alloc)).finish() {
+        Some(whole) => {
+            add_member(all, whole)?;
+            Ok(true)
         }
-        None => Ok(None),
+        None => Ok(false),
     }
 }
 
 /// Where the member has become whole, the next one may come.
-fn settle(
-    alloc: Global,
-    head: Box<ClassHead>,
-    all: Vec<Member<Span>>,
-    member: OwnState,
-) -> InnerStepped
-    ensures { IsNextInner result (Some
-        (inner_read (class_head head.value) (members_of all.items) (own_state member))) }
+fn settle(alloc: Global, all: &mut Vec<Member<Span>>, member: &mut OwnState) -> Made<bool>
+    ensures { (h : Classes.Head Span) → GoesTo result
+        (Classes.in_members h (members_of all.new.items) (own_state member.new))
+        (Some (inner_read h (members_of all.old.items) (own_state member.old))) }
 {
     if member.is_done() {
-        behind(alloc, head, all, member.finish())
+        take_member(alloc, all, member)
     } else {
-        Ok(Some(InnerClass::Members(head, all, member)))
+        Ok(true)
     }
 }
 
@@ -126,61 +119,74 @@ fn ends(member: &OwnState, token: Token<'_>) -> bool
 /// The member at hand goes on.
 fn member_on(
     alloc: Global,
-    head: Box<ClassHead>,
-    all: Vec<Member<Span>>,
-    member: OwnState,
+    head: &ClassHead,
+    all: &mut Vec<Member<Span>>,
+    member: &mut OwnState,
     at: Span,
     token: Token<'_>,
-) -> InnerStepped
-    ensures { IsNextInner result (option_map
-        (inner_read (class_head head.value) (members_of all.items))
-        (Own.step join (class_head head.value).word.text (own_state member) at
+) -> Made<bool>
+    ensures { GoesTo result (Classes.in_members (class_head head.now) (members_of all.new.items)
+        (own_state member.new)) (option_map
+        (inner_read (class_head head.now) (members_of all.old.items))
+        (Own.step join (class_head head.now).word.text (own_state member.old) at
         (token_view token.entry))) }
 {
-    match member.step(alloc, head.name.name.as_str(), at, token)? {
-        Some(next) => settle(alloc, head, all, next),
-        None => Ok(None),
-    }
-}
-
-fn from_members(
-    alloc: Global,
-    head: Box<ClassHead>,
-    all: Vec<Member<Span>>,
-    member: OwnState,
-    at: Span,
-    token: Token<'_>,
-) -> InnerStepped
-    ensures { IsNextInner result (inner_members (class_head head.value) (members_of all.items)
-        (own_state member) at (token_view token.entry) (cue_of (token_view token.entry))) }
-{
-    if ends(&member, token) {
-        let class = whole_class(alloc, head, all, at)?;
-        Ok(Some(InnerClass::Done(class)))
+    if member.step(alloc, head.name.name.as_str(), at, token)? {
+        settle(alloc, all, member)
     } else {
-        member_on(alloc, head, all, member, at, token)
+        Ok(false)
     }
 }
 
-fn from_start(alloc: Global, start: ClassStart, at: Span, token: Token<'_>) -> InnerStepped
+/// In front of the members. What had been read is taken.
+fn from_start(alloc: Global, start: &mut ClassStart, at: Span, token: Token<'_>) -> InnerStepped
     ensures { IsNextInner result
-        (machine.inner_step join (class_start start) at (token_view token.entry)) }
+        (machine.inner_step join (class_start start.old) at (token_view token.entry)) }
 {
+    let start = mem::replace(start, ClassStart::Modified(Vec::new(alloc)));
     Ok(begun(alloc, start.step(alloc, at, token)?))
 }
 
 impl InnerClass {
-    /// The state behind a token at `at`; `None` exactly where no member class goes on with it.
-    pub(crate) fn step(self, alloc: Global, at: Span, token: Token<'_>) -> Made<Option<InnerClass>>
-        ensures { IsNextInner result
-            (machine.inner_step join (inner_class self) at (token_view token.entry)) }
+    /// The class ends with its `}`, which is at `at`; `false` where it stands at no member.
+    fn close(&mut self, alloc: Global, at: Span) -> Made<bool>
+        ensures { GoesTo result (inner_class self.new) (closed_at (inner_class self.old) at) }
+    {
+        match mem::replace(
+            self,
+            InnerClass::Start(ClassStart::Modified(Vec::new(alloc))),
+        ) {
+            InnerClass::Members(head, all, _) => {
+                let class = whole_class(alloc, head, all, at)?;
+                *self = InnerClass::Done(class);
+                Ok(true)
+            }
+            InnerClass::Start(_) => Ok(false),
+            InnerClass::Done(_) => Ok(false),
+        }
+    }
+
+    /// Goes on with a token at `at`; `false` exactly where no member class goes on with it.
+    pub(crate) fn step(&mut self, alloc: Global, at: Span, token: Token<'_>) -> Made<bool>
+        ensures { GoesTo result (inner_class self.new)
+            (machine.inner_step join (inner_class self.old) at (token_view token.entry)) }
     {
         match self {
-            InnerClass::Start(start) => from_start(alloc, start, at, token),
+            InnerClass::Start(start) => match from_start(alloc, start, at, token)? {
+                Some(next) => {
+                    *self = next;
+                    Ok(true)
+                }
+                None => Ok(false),
+            },
             InnerClass::Members(head, all, member) => {
-                from_members(alloc, head, all, member, at, token)
+                if ends(member, token) {
+                    self.close(alloc, at)
+                } else {
+                    member_on(alloc, head, all, member, at, token)
+                }
             }
-            InnerClass::Done(_) => Ok(None),
+            InnerClass::Done(_) => Ok(false),
         }
     }
 

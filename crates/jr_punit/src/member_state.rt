@@ -9,7 +9,8 @@ ghost use Rattle.jr_punit.specs.OwnMachine as Own;
 ghost use Rattle.jr_punit.specs.OwnView.{own_state, begun};
 ghost use Rattle.jr_punit.specs.ClassMachine as Classes;
 ghost use Rattle.jr_punit.specs.MemberMachine as machine;
-ghost use Rattle.jr_punit.specs.ClassView.{inner_class, member_state, is_modified as is_pure, is_class as is_cue, begins_class, IsNextMember};
+ghost use Rattle.jr_punit.specs.ClassView.{inner_class, member_state, is_modified as is_pure, is_class as is_cue, begins_class};
+ghost use Rattle.jr_punit.specs.InPlace.{GoesTo};
 
 use crate::class_heads::ClassStart;
 use crate::cues::{Cue, cue_of};
@@ -20,6 +21,7 @@ use jr_ast::{Class, Member};
 use jr_pexpr::Token;
 use jr_text::Span;
 use std::alloc::Global;
+use std::mem;
 
 /// How far a member has been read.
 #[derive(Drop)]
@@ -28,9 +30,6 @@ pub(crate) enum MemberState {
     Own(OwnState),
     InClass(InnerClass),
 }
-
-/// The state behind a token; `None` where the token can't stand there.
-type MemberStepped = Made<Option<MemberState>>;
 
 fn is_class(token: Token<'_>) -> bool
     ensures { result ≡ is_cue (Cues.cue_of (token_view token.entry)) }
@@ -58,53 +57,14 @@ fn begins(nested: bool, own: &OwnState, token: Token<'_>) -> bool
     !nested & is_modified(own) & is_class(token)
 }
 
-/// Behind `class`, which is at `at`.
-fn class_begun(own: OwnState, at: Span) -> Option<MemberState>
+/// Behind `class`, which is at `at`. What had been read is taken.
+fn class_begun(alloc: Global, own: &mut OwnState, at: Span) -> Option<MemberState>
     ensures { option_map member_state result
-        ≡ option_map (λ l. machine.in_class (Classes.at_class l)) (begun (own_state own) at) }
+        ≡ option_map (λ l. machine.in_class (Classes.at_class l)) (begun (own_state own.old) at) }
 {
-    match own.into_lead(at) {
+    match mem::replace(own, OwnState::new(alloc)).into_lead(at) {
         Some(lead) => Some(MemberState::InClass(InnerClass::Start(ClassStart::AtClass(lead)))),
         None => None,
-    }
-}
-
-/// The member that is no class goes on.
-fn own_on(alloc: Global, name: &str, own: OwnState, at: Span, token: Token<'_>) -> MemberStepped
-    ensures { IsNextMember result (option_map machine.own
-        (Own.step join name.now (own_state own) at (token_view token.entry))) }
-{
-    match own.step(alloc, name, at, token)? {
-        Some(next) => Ok(Some(MemberState::Own(next))),
-        None => Ok(None),
-    }
-}
-
-fn from_own(
-    alloc: Global,
-    nested: bool,
-    name: &str,
-    own: OwnState,
-    at: Span,
-    token: Token<'_>,
-) -> MemberStepped
-    ensures { IsNextMember result (machine.step join nested name.now
-        (machine.own (own_state own)) at (token_view token.entry)) }
-{
-    if begins(nested, &own, token) {
-        Ok(class_begun(own, at))
-    } else {
-        own_on(alloc, name, own, at, token)
-    }
-}
-
-fn from_class(alloc: Global, class: InnerClass, at: Span, token: Token<'_>) -> MemberStepped
-    ensures { IsNextMember result (option_map machine.in_class
-        (machine.inner_step join (inner_class class) at (token_view token.entry))) }
-{
-    match class.step(alloc, at, token)? {
-        Some(next) => Ok(Some(MemberState::InClass(next))),
-        None => Ok(None),
     }
 }
 
@@ -124,22 +84,34 @@ impl MemberState {
         MemberState::Own(OwnState::new(alloc))
     }
 
-    /// The state behind a token at `at`; `None` exactly where no member of the class that is called
+    /// Goes on with a token at `at`; `false` exactly where no member of the class that is called
     /// `name` goes on with it. `nested` says whether that class is itself a member class.
     pub(crate) fn step(
-        self,
+        &mut self,
         alloc: Global,
         nested: bool,
         name: &str,
         at: Span,
         token: Token<'_>,
-    ) -> Made<Option<MemberState>>
-        ensures { IsNextMember result (machine.step join nested name.now (member_state self) at
-            (token_view token.entry)) }
+    ) -> Made<bool>
+        ensures { GoesTo result (member_state self.new) (machine.step join nested name.now
+            (member_state self.old) at (token_view token.entry)) }
     {
         match self {
-            MemberState::Own(own) => from_own(alloc, nested, name, own, at, token),
-            MemberState::InClass(class) => from_class(alloc, class, at, token),
+            MemberState::Own(own) => {
+                if begins(nested, own, token) {
+                    match class_begun(alloc, own, at) {
+                        Some(next) => {
+                            *self = next;
+                            Ok(true)
+                        }
+                        None => Ok(false),
+                    }
+                } else {
+                    own.step(alloc, name, at, token)
+                }
+            }
+            MemberState::InClass(class) => class.step(alloc, at, token),
         }
     }
 

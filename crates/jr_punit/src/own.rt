@@ -4,13 +4,14 @@ ghost use Rattle.std.specs.Option.{is_some};
 ghost use Rattle.jr_ast.specs.View.{member_of};
 ghost use Rattle.jr_pexpr.specs.Marked.{join};
 ghost use Rattle.jr_pexpr.specs.TokenView.{token_view};
+ghost use Rattle.jr_punit.specs.InPlace.{GoesTo};
 ghost use Rattle.jr_punit.specs.LeadView.{lead_view};
 ghost use Rattle.jr_punit.specs.OwnMachine as machine;
 ghost use Rattle.jr_punit.specs.OwnView.{own_state, IsNextOwn, begun};
 
 use crate::args::ArgState;
 use crate::beginnings::{from_modified, from_type, from_voided};
-use crate::bodies::{from_body, from_headed, from_params};
+use crate::bodies::{ends_body, from_body, from_headed, from_params};
 use crate::constructors::{behind_super, from_arguments, from_constructor, from_super};
 use crate::cues::cue_of;
 use crate::fields::{from_value, from_worded};
@@ -24,6 +25,7 @@ use jr_ast::{Expr, Member, Modifier, Param};
 use jr_pexpr::{State, Token};
 use jr_text::Span;
 use std::alloc::Global;
+use std::mem;
 
 /// How far a member that is no class has been read.
 #[derive(Drop)]
@@ -67,7 +69,7 @@ impl OwnState {
 
     /// The state behind a token at `at`; `None` exactly where no member of the class that is called
     /// `name` goes on with it.
-    pub(crate) fn step(self, alloc: Global, name: &str, at: Span, token: Token<'_>) -> OwnStepped
+    fn behind(self, alloc: Global, name: &str, at: Span, token: Token<'_>) -> OwnStepped
         ensures { IsNextOwn result
             (machine.step join name.now (own_state self) at (token_view token.entry)) }
     {
@@ -85,6 +87,45 @@ impl OwnState {
             OwnState::BehindSuper(of, args) => behind_super(alloc, of, args, cue_of(token)),
             OwnState::InBody(body, items) => from_body(alloc, body, items, at, token),
             OwnState::Done(_) => Ok(None),
+        }
+    }
+
+    /// Goes on as `behind` does, with a state that is moved out and in.
+    fn replace(&mut self, alloc: Global, name: &str, at: Span, token: Token<'_>) -> Made<bool>
+        ensures { GoesTo result (own_state self.new)
+            (machine.step join name.now (own_state self.old) at (token_view token.entry)) }
+    {
+        let own = mem::replace(self, OwnState::new(alloc));
+        match own.behind(alloc, name, at, token)? {
+            Some(next) => {
+                *self = next;
+                Ok(true)
+            }
+            None => Ok(false),
+        }
+    }
+
+    /// Goes on with a token at `at`; `false` exactly where no member of the class that is called
+    /// `name` goes on with it. Most tokens stand in bodies, where nothing is moved but the list.
+    pub(crate) fn step(
+        &mut self,
+        alloc: Global,
+        name: &str,
+        at: Span,
+        token: Token<'_>,
+    ) -> Made<bool>
+        ensures { GoesTo result (own_state self.new)
+            (machine.step join name.now (own_state self.old) at (token_view token.entry)) }
+    {
+        match self {
+            OwnState::InBody(_, items) => {
+                if ends_body(items, token) {
+                    self.replace(alloc, name, at, token)
+                } else {
+                    items.step(alloc, at, token)
+                }
+            }
+            _ => self.replace(alloc, name, at, token),
         }
     }
 

@@ -33,11 +33,8 @@ fn read_unit(alloc: Global, text: &Text, items: &[Item]) -> Result<Unit<Span>, P
     for i in 0..items.len() {
         let item = &items[i];
         if let Some(token) = token_at(text, item) {
-            match state.step(alloc, item.span, token)? {
-                Some(next) => state = next,
-                None => {
-                    return Err(ParseFault::Syntax { at: item.span.from });
-                }
+            if !state.step(alloc, item.span, token)? {
+                return Err(ParseFault::Syntax { at: item.span.from });
             }
         }
     }

@@ -1,12 +1,15 @@
 //! How far a compilation unit has been read (JLS 7.3, 7.4).
-ghost use Rattle.std.specs.Prelude.{◌≡◌, ◌++◌, ◌∷◌, [], Some, IfOk, option_map, map};
+ghost use Rattle.std.specs.Prelude.{◌≡◌, ◌++◌, ◌∷◌, [], List, Option, Some, IfOk, option_map};
+ghost use Rattle.jr_ast.specs.Tree.{Word};
 ghost use Rattle.jr_ast.specs.View.{class_of, unit_of, word_of};
 ghost use Rattle.jr_pexpr.specs.Machine.{marked};
 ghost use Rattle.jr_pexpr.specs.Marked.{join};
 ghost use Rattle.jr_pexpr.specs.TokenView.{token_view};
 ghost use Rattle.jr_punit.specs.CueView.{cue_view};
 ghost use Rattle.jr_punit.specs.Cues as pure;
+ghost use Rattle.jr_punit.specs.ClassMachine as Classes;
 ghost use Rattle.jr_punit.specs.ClassView.{class_state};
+ghost use Rattle.jr_punit.specs.InPlace.{GoesTo};
 ghost use Rattle.jr_punit.specs.UnitMachine as machine;
 ghost use Rattle.jr_punit.specs.UnitView.{unit_state, words_view, classes_view, is_package as is_package_word, IsNextUnit};
 
@@ -18,6 +21,7 @@ use jr_ast::{Class, Ident, Unit};
 use jr_pexpr::Token;
 use jr_text::Span;
 use std::alloc::Global;
+use std::mem;
 
 /// How far a unit has been read.
 #[derive(Drop)]
@@ -35,12 +39,12 @@ pub(crate) enum UnitState {
 /// The state behind a token; `None` where the token can't stand there.
 type UnitStepped = Made<Option<UnitState>>;
 
-fn with_class(mut classes: Vec<Class<Span>>, class: Class<Span>) -> Made<Vec<Class<Span>>>
-    ensures { IfOk result (λ made. classes_view made
-        ≡ classes_view classes ++ (class_of class ∷ [])) }
+fn add_class(classes: &mut Vec<Class<Span>>, class: Class<Span>) -> Made<()>
+    ensures { IfOk result (λ _. classes_view classes.new
+        ≡ classes_view classes.old ++ (class_of class ∷ [])) }
 {
     classes.push(class)?;
-    Ok(classes)
+    Ok(())
 }
 
 fn with_word(
@@ -57,57 +61,53 @@ fn with_word(
     Ok(words)
 }
 
-/// Behind a class that has become whole.
-fn behind(
-    alloc: Global,
-    words: Vec<Ident<Span>>,
-    classes: Vec<Class<Span>>,
-    class: Option<Class<Span>>,
-) -> UnitStepped
-    ensures { IsNextUnit result (option_map
-        (machine.behind_class (words_view words) (classes_view classes))
-        (option_map class_of class)) }
+/// The class that has become whole is one of the unit, and the next one may come; `false` where it
+/// isn't whole.
+fn take_class(alloc: Global, classes: &mut Vec<Class<Span>>, class: &mut ClassState) -> Made<bool>
+    ensures { (ws : List (Word Span)) → GoesTo result
+        (machine.in_classes ws (classes_view classes.new) (class_state class.new))
+        (option_map (machine.behind_class ws (classes_view classes.old))
+        (Classes.whole (class_state class.old))) }
 {
-    match class {
-        Some(class) => {
-            let classes = with_class(classes, class)?;
-            Ok(Some(UnitState::InClasses(words, classes, ClassState::new(alloc))))
+    match mem::replace(class, ClassState::new(alloc)).finish() {
+        Some(whole) => {
+            add_class(classes, whole)?;
+            Ok(true)
         }
-        None => Ok(None),
+        None => Ok(false),
     }
 }
 
 /// Where the class has become whole, the next one may come.
-fn settle(
-    alloc: Global,
-    words: Vec<Ident<Span>>,
-    classes: Vec<Class<Span>>,
-    class: ClassState,
-) -> UnitStepped
-    ensures { IsNextUnit result (Some (machine.class_read (words_view words)
-        (classes_view classes) (class_state class))) }
+fn settle(alloc: Global, classes: &mut Vec<Class<Span>>, class: &mut ClassState) -> Made<bool>
+    ensures { (ws : List (Word Span)) → GoesTo result
+        (machine.in_classes ws (classes_view classes.new) (class_state class.new))
+        (Some (machine.class_read ws (classes_view classes.old) (class_state class.old))) }
 {
     if class.is_done() {
-        behind(alloc, words, classes, class.finish())
+        take_class(alloc, classes, class)
     } else {
-        Ok(Some(UnitState::InClasses(words, classes, class)))
+        Ok(true)
     }
 }
 
-fn from_classes(
+/// The class at hand goes on.
+fn class_on(
     alloc: Global,
-    words: Vec<Ident<Span>>,
-    classes: Vec<Class<Span>>,
-    class: ClassState,
+    classes: &mut Vec<Class<Span>>,
+    class: &mut ClassState,
     at: Span,
     token: Token<'_>,
-) -> UnitStepped
-    ensures { IsNextUnit result (machine.from_classes join (words_view words)
-        (classes_view classes) (class_state class) at (token_view token.entry)) }
+) -> Made<bool>
+    ensures { (ws : List (Word Span)) → GoesTo result
+        (machine.in_classes ws (classes_view classes.new) (class_state class.new))
+        (machine.from_classes join ws (classes_view classes.old) (class_state class.old) at
+        (token_view token.entry)) }
 {
-    match class.step(alloc, at, token)? {
-        Some(next) => settle(alloc, words, classes, next),
-        None => Ok(None),
+    if class.step(alloc, at, token)? {
+        settle(alloc, classes, class)
+    } else {
+        Ok(false)
     }
 }
 
@@ -120,6 +120,20 @@ fn is_package(token: Token<'_>) -> bool
     }
 }
 
+/// The first token of the first class, in a file that names no package.
+fn first_class(alloc: Global, at: Span, token: Token<'_>) -> UnitStepped
+    ensures { IsNextUnit result
+        (machine.from_classes join [] [] Classes.start at (token_view token.entry)) }
+{
+    let mut classes = Vec::new(alloc);
+    let mut class = ClassState::new(alloc);
+    if class_on(alloc, &mut classes, &mut class, at, token)? {
+        Ok(Some(UnitState::InClasses(Vec::new(alloc), classes, class)))
+    } else {
+        Ok(None)
+    }
+}
+
 fn from_start(alloc: Global, at: Span, token: Token<'_>) -> UnitStepped
     ensures { IsNextUnit result (machine.from_start join at (token_view token.entry)
         (pure.cue_of (token_view token.entry))) }
@@ -127,15 +141,16 @@ fn from_start(alloc: Global, at: Span, token: Token<'_>) -> UnitStepped
     if is_package(token) {
         Ok(Some(UnitState::InPackage(Vec::new(alloc))))
     } else {
-        let class = ClassState::new(alloc);
-        from_classes(alloc, Vec::new(alloc), Vec::new(alloc), class, at, token)
+        first_class(alloc, at, token)
     }
 }
 
-fn from_package(alloc: Global, words: Vec<Ident<Span>>, at: Span, cue: Cue<'_>) -> UnitStepped
-    ensures { IsNextUnit result (machine.from_package (words_view words) at
+/// Behind a word of the package's name, or a dot. What had been read is taken.
+fn from_package(alloc: Global, words: &mut Vec<Ident<Span>>, at: Span, cue: Cue<'_>) -> UnitStepped
+    ensures { IsNextUnit result (machine.from_package (words_view words.old) at
         (cue_view cue.entry)) }
 {
+    let words = mem::replace(words, Vec::new(alloc));
     match cue {
         Cue::Word(text) => {
             let words = with_word(alloc, words, at, text)?;
@@ -145,9 +160,11 @@ fn from_package(alloc: Global, words: Vec<Ident<Span>>, at: Span, cue: Cue<'_>) 
     }
 }
 
-fn from_worded(alloc: Global, words: Vec<Ident<Span>>, cue: Cue<'_>) -> UnitStepped
-    ensures { IsNextUnit result (machine.from_worded (words_view words) (cue_view cue.entry)) }
+fn from_worded(alloc: Global, words: &mut Vec<Ident<Span>>, cue: Cue<'_>) -> UnitStepped
+    ensures { IsNextUnit result (machine.from_worded (words_view words.old)
+        (cue_view cue.entry)) }
 {
+    let words = mem::replace(words, Vec::new(alloc));
     match cue {
         Cue::Dot => Ok(Some(UnitState::InPackage(words))),
         Cue::Semicolon => {
@@ -174,6 +191,20 @@ fn unit(
     }
 }
 
+/// The next state stands there, if there is one.
+fn put(to: &mut UnitState, next: UnitStepped) -> Made<bool>
+    ensures { (n : Option (machine.State Span)) → IsNextUnit next n
+        → GoesTo result (unit_state to.new) n }
+{
+    match next? {
+        Some(next) => {
+            *to = next;
+            Ok(true)
+        }
+        None => Ok(false),
+    }
+}
+
 impl UnitState {
     /// Nothing has been read.
     pub(crate) fn new() -> UnitState
@@ -182,17 +213,22 @@ impl UnitState {
         UnitState::Start
     }
 
-    /// The state behind a token at `at`; `None` exactly where no unit goes on with it.
-    pub(crate) fn step(self, alloc: Global, at: Span, token: Token<'_>) -> Made<Option<UnitState>>
-        ensures { IsNextUnit result (machine.step join (unit_state self) at (token_view token.entry)) }
+    /// Goes on with a token at `at`; `false` exactly where no unit goes on with it.
+    pub(crate) fn step(&mut self, alloc: Global, at: Span, token: Token<'_>) -> Made<bool>
+        ensures { GoesTo result (unit_state self.new)
+            (machine.step join (unit_state self.old) at (token_view token.entry)) }
     {
         match self {
-            UnitState::Start => from_start(alloc, at, token),
-            UnitState::InPackage(words) => from_package(alloc, words, at, cue_of(token)),
-            UnitState::Worded(words) => from_worded(alloc, words, cue_of(token)),
-            UnitState::InClasses(words, classes, class) => {
-                from_classes(alloc, words, classes, class, at, token)
+            UnitState::Start => put(self, from_start(alloc, at, token)),
+            UnitState::InPackage(words) => {
+                let next = from_package(alloc, words, at, cue_of(token));
+                put(self, next)
             }
+            UnitState::Worded(words) => {
+                let next = from_worded(alloc, words, cue_of(token));
+                put(self, next)
+            }
+            UnitState::InClasses(_, classes, class) => class_on(alloc, classes, class, at, token),
         }
     }
 

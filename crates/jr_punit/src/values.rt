@@ -1,5 +1,6 @@
 //! A token in an expression that is a part of a statement, and in front of one.
-ghost use Rattle.std.specs.Prelude.{◌≡◌, ◌∷◌, [], Some, option_and_then};
+ghost use Rattle.std.specs.Prelude.{◌≡◌, ◌&&◌, ◌∷◌, [], Some, option_and_then};
+ghost use Rattle.std.specs.Option.{is_some};
 ghost use Rattle.jr_ast.specs.StatementTree as tree;
 ghost use Rattle.jr_ast.specs.View.{type_of, word_of};
 ghost use Rattle.jr_pexpr.specs.ExpView.{exp_in};
@@ -175,6 +176,14 @@ fn closes(slot: &Slot, cue: Cue<'_>) -> bool
     }
 }
 
+/// Whether the token ends the expression there, which is whole.
+pub(crate) fn ends_value(slot: &Slot, state: &State, token: Token<'_>) -> bool
+    ensures { result ≡ (closes (slot_view slot.now) (pure.cue_of (token_view token.entry))
+        && is_some (expressions.whole join (state_view state.now))) }
+{
+    closes(slot, cue_of(token)) & state.is_whole()
+}
+
 /// A token in the expression, or behind it.
 pub(crate) fn step_value(
     alloc: Global,
@@ -188,9 +197,9 @@ pub(crate) fn step_value(
         (state_view state) at (token_view token.entry)
         (pure.cue_of (token_view token.entry))) }
 {
-    let ends = closes(&slot, cue_of(token)) & state.is_whole();
-    if ends {
-        return finish_in(alloc, place, slot, state, at);
+    if ends_value(&slot, &state, token) {
+        finish_in(alloc, place, slot, state, at)
+    } else {
+        in_expr(place, slot, state.step(alloc, at, token))
     }
-    in_expr(place, slot, state.step(alloc, at, token))
 }

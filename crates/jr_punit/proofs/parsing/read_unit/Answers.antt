@@ -8,20 +8,21 @@ use Rattle.jr_pexpr.specs.TokenView.{token_view}
 use Rattle.jr_punit.specs.Marked.{file_of, span_unit_read, span_unit_whole}
 use Rattle.jr_punit.specs.UnitMachine as machine
 use Rattle.jr_punit.specs.UnitView.{unit_state}
+use Rattle.jr_punit.proofs.InPlace.{went, stayed}
 use Rattle.jr_punit.proofs.UnitWalks.{placed_at}
 use Rattle.jr_punit.proofs.UnitParses.{Goes, Stops, goes, skips, stops, read_whole, byte_whole, read_none}
 use Rattle.jr_punit.proofs.parsing.read_unit.Goals as goal
-use Rattle.jr_punit.proofs.parsing.read_unit.Goals.{in-Some+in_ok-next+in-Some-2, in_default}
+use Rattle.jr_punit.proofs.parsing.read_unit.Goals.{in-Some+in_ok-step+else-not-branch, in_default}
 
 pub token_at-requires : goal.token_at-requires
 token_at-requires c = placed_at c.args.text.now c.args.items.now c.loop-i.i c.items_are_placed.ensures.items c.requires.lexed c.loop-i-test.true
 
-pub returns-in-None-clause-fault : goal.returns-in-None-clause-fault
-returns-in-None-clause-fault c =
+pub returns-then-not-branch-clause-fault : goal.returns-then-not-branch-clause-fault
+returns-then-not-branch-clause-fault c =
     let bytes = c.args.text.now in
     let items = c.args.items.now in
     let h : Stops bytes items c.loop-i.i (unit_state c.loop-i.state) =
-    stops bytes items c.loop-i.i (unit_state c.loop-i.state) (token_view c.in-Some.token) c.loop-i-test.true (sym c.in-Some.ensures) (sym c.in_ok-next.ensures ∙ ap (option_map unit_state) c.in-None.is) in
+    stops bytes items c.loop-i.i (unit_state c.loop-i.state) (token_view c.in-Some.token) c.loop-i-test.true (sym c.in-Some.ensures) (stayed c.in_ok-step.field-0 (unit_state c.step.new.self) _ c.in_ok-step.ensures c.if-not-branch.true) in
     record {
       read = read_none bytes items c.loop-i.i (unit_state c.loop-i.state) h c.loop-i.invariant.read;
       byte = h.byte ∙ c.loop-i.invariant.byte;
@@ -36,9 +37,10 @@ goes_on c =
     let items = c.args.items.now in
     let i = c.loop-i.i in
     elim c.match-token_at.branch [
-      | in-Some+in_ok-next+in-Some-2 w ↦
-          goes bytes items i (unit_state c.loop-i.state) (token_view w.in-Some.token) (unit_state c.match-token_at.state) c.loop-i-test.true (sym w.in-Some.ensures)
-          (sym w.in_ok-next.ensures ∙ ap (option_map unit_state) (w.in-Some-2.is ∙ ap (λ s. Some s) (sym w.state-is)))
+      | in-Some+in_ok-step+else-not-branch w ↦
+          subst (λ s. Goes bytes items i (unit_state c.loop-i.state) (unit_state s)) (sym w.state-is)
+          (goes bytes items i (unit_state c.loop-i.state) (token_view w.in-Some.token) (unit_state w.step.new.self) c.loop-i-test.true (sym w.in-Some.ensures)
+          (went w.in_ok-step.field-0 (unit_state w.step.new.self) _ w.in_ok-step.ensures w.if-not-branch.false))
       | in_default w ↦
           subst (λ s. Goes bytes items i (unit_state c.loop-i.state) (unit_state s)) (sym w.state-is)
           (skips bytes items i (unit_state c.loop-i.state) c.loop-i-test.true (sym c.token_at.ensures ∙ ap (option_map token_view) w.in_default.is))
@@ -63,14 +65,14 @@ returns-in-Some-finish-clause-read c =
     ∙ finished bytes c.len-end.result (unit_state c.loop-i.state) (option_map unit_of c.finish.result) c.len-end.ensures.len c.finish.ensures
     ∙ ap (option_map unit_of) c.in-Some-finish.is
 
-pub returns-in-None-finish-clause-fault : goal.returns-in-None-finish-clause-fault
-returns-in-None-finish-clause-fault c =
+pub returns-in-None-clause-fault : goal.returns-in-None-clause-fault
+returns-in-None-clause-fault c =
     let bytes = c.args.text.now in
     let items = c.args.items.now in
     record {
       read =
           read_whole bytes items c.loop-i.i (unit_state c.loop-i.state) (omega (arith, c.loop-i-test.false)) c.loop-i.invariant.read
           ∙ finished bytes c.len-end.result (unit_state c.loop-i.state) (option_map unit_of c.finish.result) c.len-end.ensures.len c.finish.ensures
-          ∙ ap (option_map unit_of) c.in-None-finish.is;
+          ∙ ap (option_map unit_of) c.in-None.is;
       byte = c.len-end.ensures.len ∙ byte_whole bytes items c.loop-i.i (unit_state c.loop-i.state) (omega (arith, c.loop-i-test.false)) c.loop-i.invariant.byte;
     }

@@ -1,8 +1,8 @@
 use Rattle.std.proofs.Common.{◌∙◌, sym, ap, subst, Some, map}
-use Rattle.jr_ast.specs.View.{word_of, class_of}
+use Rattle.jr_ast.specs.View.{word_of}
 use Rattle.jr_pexpr.specs.Marked.{join}
 use Rattle.jr_pexpr.specs.TokenView.{token_view}
-use Rattle.jr_punit.specs.Cues.{Cue, cue_of}
+use Rattle.jr_punit.specs.Cues.{cue_of}
 use Rattle.jr_punit.specs.UnitMachine as machine
 use Rattle.jr_punit.specs.UnitView.{IsNextUnit}
 use Rattle.jr_punit.proofs.ClassSteps.{package_is, no_package}
@@ -15,7 +15,6 @@ returns-then-is_package c =
 
 pub returns-else-is_package : goal.returns-else-is_package
 returns-else-is_package c =
-    subst (IsNextUnit c.from_classes.result)
-    ((λ i. machine.from_classes join (map word_of (c.new-else-is_package.ensures.items i)) (map class_of (c.new-else-is_package-2.ensures.items i)) (c.new-class.ensures i) c.args.at (token_view c.args.token))
-    ∙ sym (no_package join c.args.at (token_view c.args.token) (cue_of (token_view c.args.token)) (sym c.is_package.ensures ∙ c.if-is_package.false)))
-    c.from_classes.ensures
+    subst (IsNextUnit c.first_class.result)
+    (sym (no_package join c.args.at (token_view c.args.token) (cue_of (token_view c.args.token)) (sym c.is_package.ensures ∙ c.if-is_package.false)))
+    c.first_class.ensures

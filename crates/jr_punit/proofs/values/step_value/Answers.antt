@@ -1,4 +1,4 @@
-use Rattle.std.proofs.Common.{◌≡◌, ◌∙◌, ◌&&◌, Bool, false, sym, ap, subst}
+use Rattle.std.proofs.Common.{◌≡◌, ◌∙◌, ◌&&◌, false, sym, ap, subst}
 use Rattle.std.specs.Prelude.{is_some, option_map}
 use Rattle.std.specs.Result.{IfOk}
 use Rattle.jr_pexpr.specs.Machine as E
@@ -15,21 +15,19 @@ use Rattle.jr_punit.proofs.Closers.{value_ends, value_goes_on}
 use Rattle.jr_punit.proofs.PartAnswers.{over_part, both_true}
 use Rattle.jr_punit.proofs.values.step_value.Goals as goal
 
-pub returns-then-ends : goal.returns-then-ends
-returns-then-ends c =
-    let slot = slot_view c.args.slot in
-    let b = both_true _ _ c.if-ends.true in
-    subst (λ e. IfOk c.finish_in.result (λ x. option_map list_state x ≡ e))
-    (value_ends (on c.args.place) (all c.args.place) slot (state_view c.args.state) c.args.at (token_view c.args.token)
-    (ap (closes slot) (sym c.cue_of.ensures) ∙ sym c.closes.ensures ∙ b.0) (sym c.is_whole.ensures ∙ b.1))
-    c.finish_in.ensures
-
-pub returns : goal.returns
-returns c =
+pub returns-then-ends_value : goal.returns-then-ends_value
+returns-then-ends_value c =
     let slot = slot_view c.args.slot in
     let s = state_view c.args.state in
-    let q : cue_of (token_view c.args.token) ≡ _ = sym c.cue_of.ensures in
-    let no : (closes slot (cue_of (token_view c.args.token)) && is_some (E.whole join s)) ≡ false =
-    ap (λ (b : Bool). b && is_some (E.whole join s)) (ap (closes slot) q ∙ sym c.closes.ensures) ∙ ap (λ (b : Bool). c.closes.result && b) (sym c.is_whole.ensures) ∙ c.if-ends.false in
+    let b = both_true (closes slot (cue_of (token_view c.args.token))) (is_some (E.whole join s)) (sym c.ends_value.ensures ∙ c.if-ends_value.true) in
+    subst (λ e. IfOk c.finish_in.result (λ x. option_map list_state x ≡ e))
+    (value_ends (on c.args.place) (all c.args.place) slot s c.args.at (token_view c.args.token) b.0 b.1)
+    c.finish_in.ensures
+
+pub returns-else-ends_value : goal.returns-else-ends_value
+returns-else-ends_value c =
+    let slot = slot_view c.args.slot in
+    let s = state_view c.args.state in
+    let no : (closes slot (cue_of (token_view c.args.token)) && is_some (E.whole join s)) ≡ false = sym c.ends_value.ensures ∙ c.if-ends_value.false in
     over_part c.in_expr.result c.step.result c.in_expr.ensures c.step.ensures
     (λ to next h k. h ∙ ap (option_map (in_exp (on c.args.place) (all c.args.place) slot)) k ∙ value_goes_on (on c.args.place) (all c.args.place) slot s c.args.at (token_view c.args.token) no)

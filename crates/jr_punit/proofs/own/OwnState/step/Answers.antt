@@ -1,15 +1,20 @@
 use Rattle.std.proofs.Common.{◌∙◌, sym, ap, subst}
 use Rattle.jr_pexpr.specs.Marked.{join}
 use Rattle.jr_pexpr.specs.TokenView.{token_view}
-use Rattle.jr_punit.specs.TypeStateView.{type_state}
-use Rattle.jr_punit.specs.LeadView.{lead_view}
-use Rattle.jr_punit.specs.OwnView.{own_state, IsNextOwn}
-use Rattle.jr_punit.specs.OwnMachine as M
+use Rattle.jr_punit.specs.InPlace.{GoesTo}
+use Rattle.jr_punit.specs.ListView.{list_state}
+use Rattle.jr_punit.specs.HeadView.{body_view}
+use Rattle.jr_punit.specs.OwnView.{own_state}
+use Rattle.jr_punit.specs.OwnMachine as machine
+use Rattle.jr_punit.proofs.OwnSteps.{body_goes}
+use Rattle.jr_punit.proofs.InPlace.{goes_within}
 use Rattle.jr_punit.proofs.own.OwnState.step.Goals as goal
 
-pub returns-in-InType : goal.returns-in-InType
-returns-in-InType c =
-    subst (λ n. IsNextOwn c.from_type.result n)
-    (ap (M.from_type join c.args.name.now (lead_view c.in-InType.lead) (type_state c.in-InType.ty) c.args.at) c.cue_of-in-InType.ensures
-    ∙ ap (λ s. M.step join c.args.name.now (own_state s) c.args.at (token_view c.args.token)) (sym c.in-InType.is))
-    c.from_type.ensures
+pub returns-else-ends_body : goal.returns-else-ends_body
+returns-else-ends_body c =
+    let b = body_view c.in-InBody.field-0.value in
+    let s = list_state c.in-InBody.items in
+    subst (GoesTo c.step.result (machine.in_body b (list_state c.step.new.self)))
+    (body_goes b s c.args.at (token_view c.args.token) (sym c.ends_body.ensures ∙ c.if-ends_body.false)
+    ∙ ap (λ o. machine.step join c.args.name.now (own_state o) c.args.at (token_view c.args.token)) (sym c.in-InBody.is))
+    (goes_within (machine.in_body b) c.step.result (list_state c.step.new.self) _ c.step.ensures)
