@@ -31,3 +31,6 @@ pub mod MeaningLaws
 pub mod Cycling
 pub mod Unparented
 pub mod CleanClasses
+pub mod NamedRows
+pub mod RowCycles
+pub mod ProgramRows
