@@ -34,3 +34,4 @@ pub mod CleanClasses
 pub mod NamedRows
 pub mod RowCycles
 pub mod ProgramRows
+pub mod Cleaning

@@ -2,6 +2,7 @@
 #![tactic(auto)]
 
 mod build_laws;
+mod builds;
 mod class_faults;
 mod class_numbers;
 mod faults;
@@ -25,4 +26,5 @@ mod twice_classes;
 mod twice_members;
 mod type_faults;
 
+pub use builds::build;
 pub use faults::BuildFault;
