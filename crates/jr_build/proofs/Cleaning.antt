@@ -1,5 +1,5 @@
 -- Kinds of faults, one after another.
-use Rattle.std.proofs.Common.{◌≡◌, ℕ, ◌+◌, ◌<◌, ◌≤◌, List, Option, Some, None, refl, sym, ap, subst, ◌∙◌, inl, inr, arith}
+use Rattle.std.proofs.Common.{◌≡◌, ℕ, zero, suc, ◌+◌, ◌<◌, ◌≤◌, List, Option, Some, None, refl, sym, ap, subst, ◌∙◌, inl, inr, arith}
 use Rattle.std.specs.Prelude.{◌⊎◌, Result, Ok, Err, OnOk, IfOk, IfErr}
 use Rattle.jr_build.specs.declared.faults.BuildFault.{BuildFault}
 use Rattle.jr_table.specs.declared.kinds.DeclKind.{DeclKind}
@@ -12,15 +12,15 @@ use Rattle.jr_build.specs.Places.{IsEarliest}
 module _ (packages : List (Option PackageLine)) (sites : List Site) where
   -- each rank is of one kind
   kind_of : ℕ → DeclKind
-  kind_of 1 = kind.PackageDiffers
-  kind_of 2 = kind.PreludeName
-  kind_of 3 = kind.TwiceClass
-  kind_of 4 = kind.NoSuperclass
-  kind_of 5 = kind.Cycle
-  kind_of 6 = kind.NoTy
-  kind_of 7 = kind.TwiceMember
-  kind_of 8 = kind.MemberTypeName
-  kind_of 9 = kind.BadModifiers
+  kind_of (suc zero) = kind.PackageDiffers
+  kind_of (suc (suc zero)) = kind.PreludeName
+  kind_of (suc (suc (suc zero))) = kind.TwiceClass
+  kind_of (suc (suc (suc (suc zero)))) = kind.NoSuperclass
+  kind_of (suc (suc (suc (suc (suc zero))))) = kind.Cycle
+  kind_of (suc (suc (suc (suc (suc (suc zero)))))) = kind.NoTy
+  kind_of (suc (suc (suc (suc (suc (suc (suc zero))))))) = kind.TwiceMember
+  kind_of (suc (suc (suc (suc (suc (suc (suc (suc zero)))))))) = kind.MemberTypeName
+  kind_of (suc (suc (suc (suc (suc (suc (suc (suc (suc zero))))))))) = kind.BadModifiers
   kind_of _ = kind.StaticInit
 
   of_rank : (k : DeclKind) → kind_of (rank_of packages sites k) ≡ k

@@ -6,7 +6,7 @@ ghost use Rattle.jr_table.specs.Conditions.{AreRows};
 ghost use Rattle.jr_table.specs.Faults.{PackageLine, HasFault, IsClean, rank_of};
 ghost use Rattle.jr_table.specs.Prelude.{prelude_rows};
 ghost use Rattle.jr_table.specs.ProgramRows.{AreProgramRows};
-ghost use Rattle.jr_table.specs.Sites.{Site, sites_of};
+ghost use Rattle.jr_table.specs.Sites as pure;
 ghost use Rattle.jr_build.specs.declared.faults.BuildFault.TheVariants as fault;
 ghost use Rattle.jr_build.specs.Builds.{IsFoundFault, IsCleanBelow};
 ghost use Rattle.jr_build.specs.ExactRows.{rows_of_sites};
@@ -39,11 +39,11 @@ use std::alloc::Global;
 
 /// There is no fault of the kind, or this is its earliest place.
 fn none_of(kind: DeclKind, place: Option<Place>) -> Result<(), BuildFault>
-    ensures clean { (packages : List (Option PackageLine)) (sites : List Site)
+    ensures clean { (packages : List (Option PackageLine)) (sites : List pure.Site)
         → IsCleanBelow packages sites (rank_of packages sites kind)
         → IsEarliest (HasFault packages sites kind) (option_map place_of place)
         → OnOk result (IsCleanBelow packages sites (rank_of packages sites kind + 1)) }
-    ensures fault { (packages : List (Option PackageLine)) (sites : List Site)
+    ensures fault { (packages : List (Option PackageLine)) (sites : List pure.Site)
         → IsCleanBelow packages sites (rank_of packages sites kind)
         → IsEarliest (HasFault packages sites kind) (option_map place_of place)
         → IfErr result (IsFoundFault packages sites) }
@@ -163,19 +163,19 @@ fn clean_table<A>(
 /// The table of a program: its rows, the prelude's in front.
 ///
 /// `words` has the place of each file's first token, which is the word `package` where the file has
-/// a package line. Where there is a fault, the first is told: of the lowest kind that occurs, at its
-/// first place in file and text order.
+/// a package line. Where there is a fault, the first is told: of the lowest kind that occurs, at
+/// its first place in file and text order.
 pub fn build<A: Mark>(alloc: Global, units: &[Unit<A>], words: &[u32]) -> Result<Table, BuildFault>
     requires few { length units.now < 2 ^ 32 }
     requires words { length words.now ≡ length units.now }
     requires fits { UnitsFit (begins_by A.span_from) A.fits_at (map unit_of units.now) }
     requires heads { UnitsHeads (map unit_of units.now) }
     ensures clean { OnOk result (IsClean (lines_of words.now (map unit_of units.now))
-        (sites_of (begins_by A.span_from) (map unit_of units.now))) }
+        (pure.sites_of (begins_by A.span_from) (map unit_of units.now))) }
     ensures rows { IfOk result (λ table.
-        AreProgramRows (sites_of (begins_by A.span_from) (map unit_of units.now)) table) }
+        AreProgramRows (pure.sites_of (begins_by A.span_from) (map unit_of units.now)) table) }
     ensures fault { IfErr result (IsFoundFault (lines_of words.now (map unit_of units.now))
-        (sites_of (begins_by A.span_from) (map unit_of units.now))) }
+        (pure.sites_of (begins_by A.span_from) (map unit_of units.now))) }
 {
     sites_are_headed::<A>();
     let sites = program_sites(alloc, units)?;

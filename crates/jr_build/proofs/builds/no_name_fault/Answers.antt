@@ -23,16 +23,23 @@ pub returns-in_err-none_of-2 : goal.returns-in_err-none_of-2
 returns-in_err-none_of-2 g c =
     let pk = lines_of c.args.words.now (map unit_of c.args.units.now) in
     let ss = map site_of c.args.sites.now in
-    let p = err_from_is_err_and c.from_residual.result c.from_residual.ensures.1 in
+    let p = err_from_is_err_and c.from_residual-in_err-none_of-2.result c.from_residual-in_err-none_of-2.ensures.1 in
     let b2 = c.in_ok-none_of.ensures.clean pk ss (none_first pk ss) (c.package_differs.ensures ss) in
     record {
-      clean = err_clean c.from_residual.result _ p.0 p.1;
-      fault = err_fault c.from_residual.result (IsFoundFault pk ss) _ p.0 p.1 p.2
+      clean = err_clean c.from_residual-in_err-none_of-2.result _ p.0 p.1;
+      fault = err_fault c.from_residual-in_err-none_of-2.result (IsFoundFault pk ss) _ p.0 p.1 p.2
           (c.in_err-none_of-2.ensures.fault pk ss b2 (c.prelude_name.ensures pk));
     }
 
 pub returns-in_err-twice_class : goal.returns-in_err-twice_class
-returns-in_err-twice_class g c = ?
+returns-in_err-twice_class g c =
+    let pk = lines_of c.args.words.now (map unit_of c.args.units.now) in
+    let ss = map site_of c.args.sites.now in
+    let p = err_from_is_err_and c.from_residual-in_err-twice_class.result c.from_residual-in_err-twice_class.ensures.1 in
+    record {
+      clean = err_clean c.from_residual-in_err-twice_class.result _ p.0 p.1;
+      fault = err_fault c.from_residual-in_err-twice_class.result (IsFoundFault pk ss) _ p.0 p.1 p.2 tt;
+    }
 
 pub returns : goal.returns
 returns g c =
