@@ -101,7 +101,7 @@ impl<'a> Hierarchy<'a> {
     }
 
     /// What a class hands down: nothing, where it is private (JLS 8.5).
-    pub(crate) fn inherited(&self, class: Option<u32>) -> Option<u32>
+    pub(crate) fn inherited_class(&self, class: Option<u32>) -> Option<u32>
         ensures { result ≡ pure.inherited (hierarchy_of self.now) class }
     {
         match class {

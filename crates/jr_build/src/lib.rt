@@ -3,6 +3,8 @@
 
 mod class_faults;
 mod class_numbers;
+#[cfg(test)]
+mod class_tests;
 mod faults;
 mod gathering;
 mod hierarchies;
@@ -11,6 +13,7 @@ mod laws;
 mod meanings;
 mod member_types;
 mod member_words;
+mod named_parents;
 mod packages;
 mod places;
 mod site_faults;

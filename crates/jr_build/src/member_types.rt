@@ -45,7 +45,7 @@ impl<'a> Hierarchy<'a> {
     {
         match self.own(class, name) {
             Some(own) => Some(own),
-            None => self.inherited(self.nearest_above(self.parent_of(class), name)),
+            None => self.inherited_class(self.nearest_above(self.parent_of(class), name)),
         }
     }
 
