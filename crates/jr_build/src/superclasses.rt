@@ -5,7 +5,7 @@ ghost use Rattle.jr_build.specs.HierarchyView.{hierarchy_of};
 ghost use Rattle.jr_build.specs.Hierarchies as pure;
 ghost use Rattle.jr_build.specs.Superclasses.{AreUnique, HasClasses, KnowsTops, IsHierarchy};
 
-use crate::class_numbers::{class_keys, numbers, privates};
+use crate::class_numbers::{class_keys, inner_names, numbers, privates};
 use crate::hierarchies::Hierarchy;
 use crate::sites::{Site, SiteItem};
 use std::alloc::{AllocError, Global};
@@ -117,10 +117,12 @@ fn classes<'a>(alloc: Global, sites: &[Site<'a>]) -> Result<Hierarchy<'a>, Alloc
     let keys = class_keys(alloc, sites)?;
     let privates = privates(alloc, sites)?;
     let index = numbers(alloc, &keys)?;
+    let inner = inner_names(alloc, &keys)?;
     Ok(Hierarchy {
         keys,
         privates,
         index,
+        inner,
         parents: Vec::new(alloc),
     })
 }
