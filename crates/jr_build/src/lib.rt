@@ -14,6 +14,7 @@ mod meanings;
 mod member_types;
 mod member_words;
 mod named_parents;
+mod order;
 mod packages;
 mod places;
 mod site_faults;

@@ -59,7 +59,7 @@ impl<'a> Hierarchy<'a> {
     }
 
     /// Keeps what is told of the superclass of a number, and answers whether something is.
-    fn tell(&mut self, number: u32, item: &SiteItem<'a>) -> bool
+    pub(crate) fn tell(&mut self, number: u32, item: &SiteItem<'a>) -> bool
         requires { number < length self.old.parents.items }
         ensures told { hierarchy_of self.new ≡ pure.with_parent (hierarchy_of self.old) number
             (pure.tells (hierarchy_of self.old) number (item_of item.now)) }
@@ -93,7 +93,8 @@ impl<'a> Hierarchy<'a> {
         found
     }
 
-    /// Finds the superclasses of member classes, round by round, until a round finds none.
+    /// Finds what is left of superclasses of member classes, round by round, until a round finds
+    /// none: mostly the first.
     fn settle(&mut self, sites: &[Site<'a>])
         requires few { length sites.now + 4 < 2 ^ 32 }
         requires knows { KnowsTops (map site_of sites.now) (hierarchy_of self.old) }
@@ -145,6 +146,7 @@ pub(crate) fn hierarchy<'a>(alloc: Global, sites: &[Site<'a>]) -> Result<Hierarc
     ensures { IfOk result (λ h. IsHierarchy (map site_of sites.now) (hierarchy_of h)) }
 {
     let mut hierarchy = with_tops(alloc, sites)?;
+    hierarchy.tell_in_order(alloc, sites)?;
     hierarchy.settle(sites);
     Ok(hierarchy)
 }
