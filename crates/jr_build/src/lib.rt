@@ -5,6 +5,8 @@ mod build_laws;
 mod builds;
 mod class_faults;
 mod class_numbers;
+#[cfg(test)]
+mod class_tests;
 mod faults;
 mod gathering;
 mod hierarchies;
@@ -13,6 +15,8 @@ mod laws;
 mod meanings;
 mod member_types;
 mod member_words;
+mod named_parents;
+mod order;
 mod owned;
 mod packages;
 mod places;
