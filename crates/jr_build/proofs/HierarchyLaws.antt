@@ -7,10 +7,11 @@ use Rattle.jr_index.proofs.Early.{early}
 use Rattle.jr_table.specs.Sites.{Site}
 use Rattle.jr_build.specs.declared.hierarchies.Hierarchy.{Hierarchy}
 use Rattle.jr_build.specs.declared.sites.SiteKey.{SiteKey}
+use Rattle.jr_index.specs.Names.{named}
 use Rattle.jr_build.specs.KeyIndex.{number_at}
 use Rattle.jr_build.specs.Hierarchies.{class_keys, privates_of, top_parents}
-use Rattle.jr_build.specs.Superclasses.{AreUnique, IsNumbering, HasClasses, KnowsTops, IsHierarchy}
-use Rattle.jr_build.proofs.Numbering.{all_numbered}
+use Rattle.jr_build.specs.Superclasses.{AreUnique, IsNumbering, HasInner, HasClasses, KnowsTops, IsHierarchy}
+use Rattle.jr_build.proofs.Numbering.{all_numbered, all_inner}
 use Rattle.jr_build.proofs.MemberTypes.{within_keys}
 use Rattle.jr_build.proofs.Tops.{tops_known}
 use Rattle.jr_build.specs.SiteView.{site_key_of}
@@ -26,15 +27,18 @@ comes_early parents n within = early parents n within
 
 -- no superclass is known yet
 pub has_classes : (sites : List Site) (h : Hierarchy) (row : List (Option SiteKey)) → AreUnique sites → keys_of h.keys.items ≡ class_keys sites → h.privates.items ≡ privates_of sites
-    → row ≡ h.keys.items → IsNumbering (keys_of row) (length row) (number_at h.index) → HasClasses sites (hierarchy_of h)
+    → row ≡ h.keys.items → IsNumbering (keys_of row) (length row) (number_at h.index)
+    → (again : List (Option SiteKey)) → again ≡ h.keys.items → HasInner (keys_of again) (length again) (named h.inner) → HasClasses sites (hierarchy_of h)
 unfolding hierarchy_of
-has_classes sites h row unique keys privates same numbering =
+has_classes sites h row unique keys privates same numbering again same' inner =
     let mine : IsNumbering (keys_of h.keys.items) (length h.keys.items) (number_at h.index) =
     subst (λ (r : List (Option SiteKey)). IsNumbering (keys_of r) (length r) (number_at h.index)) same numbering in
     record {
       unique = unique;
       keys = keys;
       privates = privates;
+      inner = all_inner (keys_of h.keys.items) (length h.keys.items) (named h.inner) (simp length-map (omega arith))
+          (subst (λ (r : List (Option SiteKey)). HasInner (keys_of r) (length r) (named h.inner)) same' inner);
       finds = all_numbered (keys_of h.keys.items) (length h.keys.items) (number_at h.index) (simp length-map (omega arith)) mine;
     }
 
@@ -44,16 +48,19 @@ parents_size h n lt = lt
 
 -- the superclasses of top-level classes are put in
 pub knows_tops : (sites : List Site) (h : Hierarchy) (parents : Vec (Option ℕ) Global) → HasClasses sites (hierarchy_of h) → parents.items ≡ top_parents (hierarchy_of h) sites
-    → KnowsTops sites (hierarchy_of (record { keys = h.keys; privates = h.privates; index = h.index; parents = parents }))
+    → KnowsTops sites (hierarchy_of (record { keys = h.keys; privates = h.privates; index = h.index; inner = h.inner; parents = parents }))
 unfolding hierarchy_of
 knows_tops sites h parents has row =
-    tops_known sites (hierarchy_of (record { keys = h.keys; privates = h.privates; index = h.index; parents = parents }))
-    (record { unique = has.unique; keys = has.keys; privates = has.privates; finds = has.finds }) row
+    tops_known sites (hierarchy_of (record { keys = h.keys; privates = h.privates; index = h.index; inner = h.inner; parents = parents }))
+    (record { unique = has.unique; keys = has.keys; privates = has.privates; inner = has.inner; finds = has.finds }) row
 
 -- how many numbers there are
 counted : (sites : List Site) → length (class_keys sites) ≡ length sites + 4
 counted [] = refl
 counted (s ∷ ss) = let e = counted ss in omega (arith, e)
+
+pub keys_counted : (sites : List Site) (row : List (Option SiteKey)) → keys_of row ≡ class_keys sites → length row ≡ length sites + 4
+keys_counted sites row e = sym (length-map row (option_map site_key_of)) ∙ ap length e ∙ counted sites
 
 module _ (sites : List Site) (h : Hierarchy) (is : IsHierarchy sites (hierarchy_of h)) where
   pub parents_counted : length h.parents.items ≡ length sites + 4

@@ -31,3 +31,7 @@ pub mod MeaningLaws
 pub mod Cycling
 pub mod Unparented
 pub mod CleanClasses
+pub mod NamedRows
+pub mod RowCycles
+pub mod ProgramRows
+pub mod Cleaning

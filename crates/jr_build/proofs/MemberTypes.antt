@@ -7,7 +7,7 @@ use Rattle.jr_table.specs.Keys.{ClassKey}
 use Rattle.jr_table.specs.Prelude.{top_key, object_key}
 use Rattle.jr_table.specs.Sites.{ClassSite, Site}
 use Rattle.jr_table.specs.Resolving.{IsDeclared, IsTopClass, TopParent, IsPrivateClass, IsPreludeSubclass, member_key, TopMemberType, HasTopMemberType, FindsInTop, HasMemberType, IsParent}
-use Rattle.jr_build.specs.Hierarchies.{Hierarchy, key_at, parent_at, is_private_at, first_of, inner_key, own, own_at, nearest, inherited, parent_of, nearest_above, member_type, found_in_top}
+use Rattle.jr_build.specs.Hierarchies.{Hierarchy, key_at, parent_at, is_private_at, first_of, inner_key, own, own_at, nearest, inherited, parent_of, only_if, nearest_from, nearest_above, member_type, found_in_top}
 use Rattle.jr_build.specs.Superclasses.{HasClasses, KnowsTops, IsParentAt, HasParent}
 use Rattle.jr_build.proofs.ClassNumbers.{inside, same_number, number_has, number_is, number_none, is_declared, declares_class, inner_declared, top_class, top_number, private_class, class_private}
 use Rattle.jr_build.proofs.Nearest.{Comes, comes, enough}
@@ -65,6 +65,18 @@ module _ (sites : List Site) (h : Hierarchy) (has : HasClasses sites h) where
   pub nearest_key : (t : ℕ) (name : List ℕ) (j m : ℕ) → nearest t h name j ≡ Some m → (q : ClassKey) × (key_at h m ≡ Some q)
   nearest_key t name j m e = let c = comes h name t j m e in found_own (key_at h c.2.at) name m c.2.declares
 
+  found_inner : (o : Option ClassKey) (name : List ℕ) (m : ℕ) → option_and_then (λ k. own h k name) o ≡ Some m → h.inner name ≡ None → ⊥
+  found_inner None name m e none = absurd cc
+  found_inner (Some k) name m e none = has.inner m k.name name (own_key k name m e).1 none
+
+  -- what is found is looked for
+  pub looked_for : (t : ℕ) (name : List ℕ) (p m : ℕ) → nearest t h name p ≡ Some m → (o : Option ℕ) → nearest_from h name o ≡ Some m → nearest_above h name o ≡ Some m
+  looked_for t name p m e o f = by (h.inner name) refl
+    where
+      by : (i : Option ℕ) → h.inner name ≡ i → nearest_above h name o ≡ Some m
+      by None none = let c = comes h name t p m e in absurd (found_inner (key_at h c.2.at) name m c.2.declares none)
+      by (Some x) some = ap (λ i. only_if i (nearest_from h name o)) some ∙ f
+
   open_class : (m : ℕ) (q : ClassKey) → key_at h m ≡ Some q → is_private_at h m ≡ false → IsPrivateClass sites q → ⊥
   open_class m q is none private = let t = class_private sites h has m q is private in absurd cc
 
@@ -117,11 +129,11 @@ module _ (sites : List Site) (h : Hierarchy) (early : (parents : List (Option �
       let j = of_parent sites h knows.classes k p parent in
       let at = knows.each j.0 p j.2 in
       let f = all_turns t name p m at.parent at.is_parent found in
-      let above : nearest_above h name (parent_of h k) ≡ Some m = ap (nearest_above h name) parent ∙ f in
+      let above : nearest_above h name (parent_of h k) ≡ Some m = looked_for sites h knows.classes t name p m found (parent_of h k) (ap (nearest_from h name) parent ∙ f) in
       (λ i. first_of (none i) (inherited h (above i))) ∙ ap (λ b. cond b None (Some m)) shared
 
   pub is_has : (k : ClassKey) (name : List ℕ) (m : ℕ) → member_type h k name ≡ Some m → Has h k name m
-  is_has k name m e = by (own h k name) refl (parent_of h k) refl e
+  is_has k name m e = by (own h k name) refl (h.inner name) (parent_of h k) refl e
     where
       kept : (x : ℕ) (b : Bool) → is_private_at h x ≡ b → inherited h (Some x) ≡ Some m → (x ≡ m) × (is_private_at h m ≡ false)
       kept x true p e = let f : inherited h (Some x) ≡ None = ap (λ b. cond b None (Some x)) p in absurd cc
@@ -136,10 +148,11 @@ module _ (sites : List Site) (h : Hierarchy) (early : (parents : List (Option �
           let r = kept x (is_private_at h x) refl e in
           (length h.keys, f ∙ ap Some r.0, r.1)
 
-      by : (o : Option ℕ) → own h k name ≡ o → (p : Option ℕ) → parent_of h k ≡ p → first_of o (inherited h (nearest_above h name p)) ≡ Some m → Has h k name m
-      by (Some x) o p g e = inl (o ∙ e)
-      by None o None g e = absurd cc
-      by None o (Some p) g e = let a = above p (nearest (length h.keys) h name p) refl e in inr (o, (p, a.0, g, a.1, a.2))
+      by : (o : Option ℕ) → own h k name ≡ o → (i p : Option ℕ) → parent_of h k ≡ p → first_of o (inherited h (only_if i (nearest_from h name p))) ≡ Some m → Has h k name m
+      by (Some x) o i p g e = inl (o ∙ e)
+      by None o None p g e = absurd cc
+      by None o (Some x) None g e = absurd cc
+      by None o (Some x) (Some p) g e = let a = above p (nearest (length h.keys) h name p) refl e in inr (o, (p, a.0, g, a.1, a.2))
 
   pub member_key_of : (k : ClassKey) (name : List ℕ) (m : ℕ) → member_type h k name ≡ Some m → (q : ClassKey) × (key_at h m ≡ Some q)
   member_key_of k name m e = by (is_has k name m e)

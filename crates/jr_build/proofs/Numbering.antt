@@ -2,6 +2,8 @@
 use Rattle.std.proofs.Common.{◌≡◌, ℕ, suc, ◌+◌, ◌<◌, ◌≤◌, List, length, Option, Some, None, Bool, true, false, cond, get_or, map, option_map, refl, sym, ap, subst, ◌∙◌, inl, inr, arith}
 use Rattle.std.specs.Prelude.{slice_get, option_and_then, ◌⊎◌}
 use Rattle.std.specs.Option.{MatchOption}
+use Rattle.std.specs.Str.{bytes_eq}
+use Rattle.std.specs.Cmp.Lexicographic.{bytes_decides}
 use Rattle.std.proofs.lemmas.Option.{slice_get_within, slice_get-get_or, slice_get-map}
 use Rattle.jr_build.specs.declared.sites.SiteKey.{SiteKey}
 use Rattle.jr_build.specs.SiteView.{site_key_of}
@@ -10,8 +12,8 @@ use Rattle.jr_table.specs.Keys.{ClassKey}
 use Rattle.jr_table.specs.SameKeys.{same_class, class_decides}
 use Rattle.jr_build.specs.KeyIndex.{number_at, PutsMaybe}
 use Rattle.jr_build.specs.declared.key_index.KeyIndex.{KeyIndex}
-use Rattle.jr_build.specs.Hierarchies.{class_in}
-use Rattle.jr_build.specs.Superclasses.{IsNumbering}
+use Rattle.jr_build.specs.Hierarchies.{class_in, inner_key}
+use Rattle.jr_build.specs.Superclasses.{IsNumbering, HasInner, PutsInner, PutsUnder}
 use Rattle.jr_build.proofs.ClassNumbers.{inside}
 
 module _ (keys : List (Option ClassKey)) where
@@ -70,6 +72,47 @@ module _ (keys : List (Option ClassKey)) where
       by k None none = λ i lt e. none i e
       by k (Some i) e = e
 
+-- member classes by their names alone
+module _ (keys : List (Option ClassKey)) where
+  pub no_inner_yet : (f : List ℕ → Option ℕ) → HasInner keys 0 f
+  no_inner_yet f = λ i outer name lt e none. omega (arith, lt)
+
+  -- what is put under a name hides nothing
+  put_some : (name q : List ℕ) (n : ℕ) (old : Option ℕ) (same : Bool) → bytes_eq name q ≡ same → cond same (Some n) old ≡ None → old ≡ None
+  put_some name q n old true e none = absurd cc
+  put_some name q n old false e none = none
+
+  put_own : (name : List ℕ) (n : ℕ) (old : Option ℕ) (same : Bool) → bytes_eq name name ≡ same → cond same (Some n) old ≡ None → ⊥
+  put_own name n old true e none = absurd cc
+  put_own name n old false e none = let t = (bytes_decides name name).1 refl in absurd cc
+
+  old_none : (own : Option ClassKey) (n : ℕ) (f g : List ℕ → Option ℕ) → PutsInner f own n g → (q : List ℕ) → g q ≡ None → f q ≡ None
+  old_none None n f g puts q e = sym (puts q) ∙ e
+  old_none (Some k) n f g puts q e = by k.outer puts
+    where
+      by : (o : Option (List ℕ)) → PutsUnder o k.name f n g → f q ≡ None
+      by None puts = sym (puts q) ∙ e
+      by (Some outer) puts = put_some k.name q n (f q) (bytes_eq k.name q) refl (sym (puts q) ∙ e)
+
+  pub one_inner : (n : ℕ) (own : Option ClassKey) (f g : List ℕ → Option ℕ) → class_in keys n ≡ own → PutsInner f own n g → HasInner keys n f → HasInner keys (n + 1) g
+  one_inner n own f g is puts h = λ i outer name lt e none. by i outer name e none (split keys i n lt)
+    where
+      mine : (outer name : List ℕ) → own ≡ Some (inner_key outer name) → g name ≡ None → ⊥
+      mine outer name e none =
+          let p : PutsInner f (Some (inner_key outer name)) n g = subst (λ o. PutsInner f o n g) e puts in
+          put_own name n (f name) (bytes_eq name name) refl (sym (p name) ∙ none)
+
+      by : (i : ℕ) (outer name : List ℕ) → class_in keys i ≡ Some (inner_key outer name) → g name ≡ None → ((i < n) ⊎ (i ≡ n)) → ⊥
+      by i outer name e none (inl l) = h i outer name l e (old_none own n f g puts name none)
+      by i outer name e none (inr same) = mine outer name (sym is ∙ ap (class_in keys) (sym same) ∙ e) none
+
+  pub all_inner : (n : ℕ) (f : List ℕ → Option ℕ) → length keys ≤ n → HasInner keys n f
+      → (i : ℕ) (outer name : List ℕ) → class_in keys i ≡ Some (inner_key outer name) → f name ≡ None → ⊥
+  all_inner n f past h = λ i outer name e none. h i outer name (let l = class_within keys i (inner_key outer name) e in omega (arith, l, past)) e none
+
+  pub inner_to : (n m : ℕ) (f : List ℕ → Option ℕ) → length keys ≤ n → HasInner keys n f → HasInner keys m f
+  inner_to n m f past h = λ i outer name lt e none. all_inner n f past h i outer name e none
+
 -- the class of a number of a row
 class_of_row : (row : List (Option SiteKey)) (n : ℕ) (d : Option SiteKey) → n < length row → class_in (keys_of row) n ≡ option_map site_key_of (get_or row n d)
 class_of_row row n d lt = ap (λ o. option_and_then (λ k. k) o) (slice_get-map (option_map site_key_of) row n ∙ ap (option_map (option_map site_key_of)) (slice_get-get_or row n d lt))
@@ -77,3 +120,7 @@ class_of_row row n d lt = ap (λ o. option_and_then (λ k. k) o) (slice_get-map 
 pub more_of_row : (row : List (Option SiteKey)) (n : ℕ) (d : Option SiteKey) (old new : KeyIndex) → n < length row → PutsMaybe old (option_map site_key_of (get_or row n d)) n new
     → IsNumbering (keys_of row) n (number_at old) → IsNumbering (keys_of row) (n + 1) (number_at new)
 more_of_row row n d old new lt puts h = one_more (keys_of row) n (option_map site_key_of (get_or row n d)) old new (class_of_row row n d lt) puts h
+
+pub more_inner : (row : List (Option SiteKey)) (n : ℕ) (d : Option SiteKey) (f g : List ℕ → Option ℕ) → n < length row → PutsInner f (option_map site_key_of (get_or row n d)) n g
+    → HasInner (keys_of row) n f → HasInner (keys_of row) (n + 1) g
+more_inner row n d f g lt puts h = one_inner (keys_of row) n (option_map site_key_of (get_or row n d)) f g (class_of_row row n d lt) puts h

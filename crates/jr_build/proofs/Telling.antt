@@ -64,7 +64,7 @@ module _ (sites : List Site) (early : (parents : List (Option ℕ)) (n : ℕ) �
     with_one : KnowsTops sites (with_parent h j (Some p))
     unfolding h'
     with_one = record {
-      classes = record { unique = knows.classes.unique; keys = knows.classes.keys; privates = knows.classes.privates; finds = knows.classes.finds };
+      classes = record { unique = knows.classes.unique; keys = knows.classes.keys; privates = knows.classes.privates; inner = knows.classes.inner; finds = knows.classes.finds };
       size = same_size h.parents j (Some p) ∙ knows.size;
       each = λ i q e. each i q e (order i j);
       tops = λ i name q e t. tops i (knows.tops i name q e t) (order i j);

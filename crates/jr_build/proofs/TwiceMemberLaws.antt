@@ -37,11 +37,11 @@ signature_decides s t = Decides-like (same_signature s t)
     (maybe_name_decides s.name t.name) (maybe_types_decide s.params t.params)))
 
 -- of what a partial value is made
-made_of : {X Y : Type 0} (f : X → Y) (o : Option X) (y : Y) → option_map f o ≡ Some y → (x : X) × (o ≡ Some x) × (f x ≡ y)
+pub made_of : {X Y : Type 0} (f : X → Y) (o : Option X) (y : Y) → option_map f o ≡ Some y → (x : X) × (o ≡ Some x) × (f x ≡ y)
 made_of f None y e = absurd cc
 made_of f (Some x) y e = (x, refl, inside (f x) y e)
 
-pairs_of : (o : Option Ty) (m : Option (List Ty)) (ts : List Ty) → option_and_then (λ t. option_map (λ us. t ∷ us) m) o ≡ Some ts
+pub pairs_of : (o : Option Ty) (m : Option (List Ty)) (ts : List Ty) → option_and_then (λ t. option_map (λ us. t ∷ us) m) o ≡ Some ts
     → (t : Ty) × (us : List Ty) × (o ≡ Some t) × (m ≡ Some us) × (t ∷ us ≡ ts)
 pairs_of None m ts e = absurd cc
 pairs_of (Some t) m ts e = let u = made_of (λ us. t ∷ us) m ts e in (t, u.0, refl, u.1, u.2)

@@ -53,6 +53,8 @@ pub record Hierarchy : Type 0 where
   pub privates : List Bool
   -- the number of a class
   pub number : ClassKey → Option ℕ
+  -- a member class of the name, whatever class it is a member of
+  pub inner : List ℕ → Option ℕ
   -- the superclass of each number, as far as it is known
   pub parents : List (Option ℕ)
 
@@ -133,8 +135,16 @@ parent_of h k = option_and_then (λ j. parent_at h j) (h.number k)
 abbrev pub parent_key : Hierarchy → ClassKey → Option ClassKey
 parent_key h k = option_and_then (λ p. key_at h p) (parent_of h k)
 
+-- where no member class has the name, none is looked for
+abbrev pub only_if : Option ℕ → Option ℕ → Option ℕ
+only_if None found = None
+only_if (Some m) found = found
+
+abbrev pub nearest_from : Hierarchy → (name : List ℕ) → Option ℕ → Option ℕ
+nearest_from h name p = option_and_then (λ q. nearest (length h.keys) h name q) p
+
 abbrev pub nearest_above : Hierarchy → (name : List ℕ) → Option ℕ → Option ℕ
-nearest_above h name p = option_and_then (λ q. nearest (length h.keys) h name q) p
+nearest_above h name p = only_if (h.inner name) (nearest_from h name p)
 
 -- the member type of a class
 abbrev pub member_type : Hierarchy → ClassKey → (name : List ℕ) → Option ℕ

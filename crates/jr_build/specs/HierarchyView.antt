@@ -5,6 +5,7 @@ use Rattle.jr_build.specs.declared.hierarchies.Hierarchy as raw
 use Rattle.jr_build.specs.declared.meanings.Meaning as raw_meaning
 use Rattle.jr_build.specs.declared.meanings.Meaning.TheVariants as meant
 use Rattle.jr_build.specs.declared.sites.SiteKey.{SiteKey}
+use Rattle.jr_index.specs.Names.{named}
 use Rattle.jr_build.specs.KeyIndex.{number_at}
 use Rattle.jr_build.specs.SiteView.{site_key_of}
 use Rattle.jr_build.specs.Hierarchies.{Hierarchy}
@@ -17,6 +18,7 @@ hierarchy_of h = record {
   keys = keys_of h.keys.items;
   privates = h.privates.items;
   number = number_at h.index;
+  inner = named h.inner;
   parents = h.parents.items;
 }
 

@@ -12,3 +12,4 @@ pub mod TypeFaults
 pub mod Signatures
 pub mod ExactRows
 pub mod Heads
+pub mod Builds

@@ -14,8 +14,10 @@ use Rattle.std.specs.Prelude.{
   false,
   length,
   slice_get,
+  if◌then◌else◌,
 }
 use Rattle.std.specs.Option.{MatchOption}
+use Rattle.std.specs.Str.{bytes_eq}
 use Rattle.jr_table.specs.declared.kinds.DeclKind.TheVariants as kind
 use Rattle.jr_table.specs.Keys.{ClassKey}
 use Rattle.jr_table.specs.Prelude.{top_key}
@@ -38,6 +40,7 @@ use Rattle.jr_build.specs.Hierarchies.{
   Hierarchy,
   class_in,
   class_keys,
+  inner_key,
   privates_of,
   key_at,
   parent_at,
@@ -55,11 +58,30 @@ IsNumbering keys n number = (k : ClassKey) → MatchOption (number k)
     ((i : ℕ) → i < n → class_in keys i ≡ Some k → ⊥)
     (λ i. class_in keys i ≡ Some k)
 
+-- the number is put under the name of a member class
+abbrev pub PutsUnder : Option (List ℕ) → (name : List ℕ) → (old : List ℕ → Option ℕ) → (n : ℕ)
+    → (new : List ℕ → Option ℕ) → Type 0
+PutsUnder None name old n new = (q : List ℕ) → new q ≡ old q
+PutsUnder (Some outer) name old n new =
+    (q : List ℕ) → new q ≡ (if bytes_eq name q then Some n else old q)
+
+abbrev pub PutsInner : (old : List ℕ → Option ℕ) → Option ClassKey → (n : ℕ)
+    → (new : List ℕ → Option ℕ) → Type 0
+PutsInner old None n new = (q : List ℕ) → new q ≡ old q
+PutsInner old (Some k) n new = PutsUnder k.outer k.name old n new
+
+-- the member classes among the first n are found by their names alone
+abbrev pub HasInner : List (Option ClassKey) → (n : ℕ) → (List ℕ → Option ℕ) → Type 0
+HasInner keys n inner = (i : ℕ) (outer name : List ℕ) → i < n
+    → class_in keys i ≡ Some (inner_key outer name) → inner name ≡ None → ⊥
+
 -- the classes, whatever is known of superclasses
 pub record HasClasses (sites : List Site) (h : Hierarchy) : Type 0 where
   pub unique : AreUnique sites
   pub keys : h.keys ≡ class_keys sites
   pub privates : h.privates ≡ privates_of sites
+  pub inner : (j : ℕ) (outer name : List ℕ) → key_at h j ≡ Some (inner_key outer name)
+      → h.inner name ≡ None → ⊥
   pub finds : (k : ClassKey)
       → MatchOption (h.number k) ((i : ℕ) → key_at h i ≡ Some k → ⊥) (λ i. key_at h i ≡ Some k)
 

@@ -1,18 +1,34 @@
 //! Laws that no call's clause can carry.
-ghost use Rattle.std.specs.Prelude.{◌≡◌, ◌++◌, ℕ, List, Option};
-ghost use Rattle.jr_table.specs.Decls.{Decl};
-ghost use Rattle.jr_table.specs.Entries.{IsRowOf};
+ghost use Rattle.std.specs.Prelude.{◌≡◌, ◌++◌, ◌<◌, ◌^◌, ◌↔◌, ℕ, List, Option, Some, length};
+ghost use Rattle.jr_ast.specs.MemberTree as syntax;
+ghost use Rattle.jr_table.specs.Conditions.{AreRows};
 ghost use Rattle.jr_table.specs.Faults.{PackageLine, IsClean};
 ghost use Rattle.jr_table.specs.Prelude.{prelude_rows};
-ghost use Rattle.jr_build.specs.ExactRows.{rows_of_sites};
-ghost use Rattle.jr_build.specs.Hierarchies.{Hierarchy};
-ghost use Rattle.jr_build.specs.TypeFaults.{KnowsMeanings};
-ghost use Rattle.jr_ast.specs.MemberTree as syntax;
+ghost use Rattle.jr_table.specs.ProgramRows.{AreProgramRows};
 ghost use Rattle.jr_table.specs.Sites.{Site, sites_of};
+ghost use Rattle.jr_build.specs.ExactRows.{rows_of_sites};
 ghost use Rattle.jr_build.specs.Heads.{UnitsHeads, AreHeaded};
+ghost use Rattle.jr_build.specs.Hierarchies.{Hierarchy};
+ghost use Rattle.jr_build.specs.Superclasses.{IsHierarchy};
+
+use crate::laws::{hierarchies_are_exact, superclasses_are_sound};
 
 /// Members' classes are declared, and what the grammar says of heads holds of sites.
 pub(crate) fn sites_are_headed<A>()
     ensures { (begins : A → ℕ → ℕ) (us : List (syntax.Unit A)) → UnitsHeads us
         → AreHeaded (sites_of begins us) }
 {}
+
+/// Where there is no fault, these are the rows of the program, and they meet what rows must.
+pub(crate) fn clean_rows_are_sound()
+    ensures rows { (packages : List (Option PackageLine)) (sites : List Site) (h : Hierarchy)
+        → IsHierarchy sites h → AreHeaded sites → IsClean packages sites
+        → AreProgramRows sites (prelude_rows ++ rows_of_sites h sites) }
+    ensures meet { (packages : List (Option PackageLine)) (sites : List Site) (h : Hierarchy)
+        → IsHierarchy sites h → AreHeaded sites → IsClean packages sites
+        → length (prelude_rows ++ rows_of_sites h sites) < 2 ^ 32
+        → AreRows (prelude_rows ++ rows_of_sites h sites) }
+{
+    hierarchies_are_exact();
+    superclasses_are_sound();
+}

@@ -1,11 +1,13 @@
 //! Classes whose superclass isn't found, and classes that are their own superclass through others.
-ghost use Rattle.std.specs.Prelude.{◌≡◌, ◌<◌, ◌+◌, ◌^◌, IfOk, List, Option, Some, length, map, option_map};
+ghost use Rattle.std.specs.Prelude.{◌≡◌, ◌<◌, ◌+◌, ◌^◌, IfOk, Some};
+ghost use Rattle.std.specs.Prelude.{List, Option, length, map, option_map};
 ghost use Rattle.jr_table.specs.declared.kinds.DeclKind.TheVariants as kind;
 ghost use Rattle.jr_table.specs.Faults.{PackageLine, HasFault};
 ghost use Rattle.jr_build.specs.Places.{place_of, IsEarliest};
 ghost use Rattle.jr_build.specs.SiteView.{item_of, site_of, written_of};
 ghost use Rattle.jr_build.specs.HierarchyView.{hierarchy_of};
-ghost use Rattle.jr_build.specs.Superclasses.{IsHierarchy, unparented_in, unparented_of, on_cycle_of};
+ghost use Rattle.jr_build.specs.Superclasses.{IsHierarchy};
+ghost use Rattle.jr_build.specs.Superclasses.{unparented_in, unparented_of, on_cycle_of};
 
 use crate::hierarchies::Hierarchy;
 use crate::places::{earlier, in_file};
@@ -14,6 +16,7 @@ use jr_index::on_cycle;
 use jr_text::Place;
 use std::alloc::{AllocError, Global};
 
+/// Where a class writes its superclass, if it has none.
 fn unparented_in(written: &Option<Written<'_>>, parent: Option<u32>) -> Option<u32>
     ensures { result ≡ unparented_in (option_map written_of written.now) parent }
 {
@@ -23,7 +26,7 @@ fn unparented_in(written: &Option<Written<'_>>, parent: Option<u32>) -> Option<u
     }
 }
 
-/// Where a superclass is written, if there is none.
+/// Where that superclass is written, if there is none.
 fn named_without(written: &Written<'_>, parent: Option<u32>) -> Option<u32>
     ensures { result ≡ unparented_in (Some (written_of written.now)) parent }
 {

@@ -6,12 +6,15 @@ ghost use Rattle.jr_build.specs.KeyIndex.{number_at};
 ghost use Rattle.jr_build.specs.SiteView.{item_of, site_of};
 ghost use Rattle.jr_build.specs.HierarchyView.{keys_of};
 ghost use Rattle.jr_build.specs.Hierarchies as pure;
-ghost use Rattle.jr_build.specs.Superclasses.{IsNumbering};
+ghost use Rattle.jr_index.specs.Names.{named};
+ghost use Rattle.jr_build.specs.SiteView.{site_key_of};
+ghost use Rattle.jr_build.specs.Superclasses.{IsNumbering, HasInner, PutsInner};
 
 use crate::key_index::KeyIndex;
 use crate::sites::{Site, SiteItem, SiteKey};
 use crate::twice_classes::class_key;
 use jr_ast::ModWord;
+use jr_index::Names;
 use std::alloc::{AllocError, Global};
 
 /// The class that each site declares.
@@ -86,6 +89,42 @@ pub(crate) fn privates(alloc: Global, sites: &[Site<'_>]) -> Result<Vec<bool>, A
         privates.push(is_private(&site.item))?;
     }
     Ok(privates)
+}
+
+/// Puts the number under the name of a member class.
+fn put_inner<'a>(
+    inner: &mut Names<'a>,
+    key: &Option<SiteKey<'a>>,
+    number: u32,
+) -> Result<(), AllocError>
+    ensures { OnOk result (PutsInner (named inner.old) (option_map site_key_of key.now) number
+        (named inner.new)) }
+{
+    match key {
+        None => Ok(()),
+        Some(key) => match key.outer {
+            None => Ok(()),
+            Some(_) => {
+                let _before = inner.put(key.name, number)?;
+                Ok(())
+            }
+        },
+    }
+}
+
+/// The member classes by their names alone.
+pub(crate) fn inner_names<'a>(
+    alloc: Global,
+    keys: &[Option<SiteKey<'a>>],
+) -> Result<Names<'a>, AllocError>
+    requires { length keys.now < 2 ^ 32 }
+    ensures { IfOk result (λ inner. HasInner (keys_of keys.now) (length keys.now) (named inner)) }
+{
+    let mut inner = Names::new(alloc);
+    for (number, key) in keys.iter().enumerate() {
+        put_inner(&mut inner, key, number as u32)?;
+    }
+    Ok(inner)
 }
 
 /// The numbers by classes.

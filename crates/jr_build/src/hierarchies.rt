@@ -1,6 +1,7 @@
 //! Classes by numbers, with the superclass of each.
 use crate::key_index::KeyIndex;
 use crate::sites::SiteKey;
+use jr_index::Names;
 
 /// The classes of a program and the prelude.
 ///
@@ -11,6 +12,8 @@ pub(crate) struct Hierarchy<'a> {
     pub(crate) keys: Vec<Option<SiteKey<'a>>>,
     pub(crate) privates: Vec<bool>,
     pub(crate) index: KeyIndex<'a>,
+    /// Member classes by their names alone.
+    pub(crate) inner: Names<'a>,
     /// The superclass of each class, as far as it is known.
     pub(crate) parents: Vec<Option<u32>>,
 }
@@ -45,6 +48,14 @@ impl<'a> Hierarchy<'a> {
             outer: Some(outer),
             name,
         })
+    }
+
+    /// Whether a member class has the name.
+    #[tactic(auto, unfolding(crate::specs::HierarchyView::hierarchy_of))]
+    pub(crate) fn some_inner(&self, name: &'a str) -> Option<u32>
+        ensures { result ≡ (hierarchy_of self.now).inner name.now }
+    {
+        self.inner.find(name)
     }
 
     /// The class of a number.
@@ -101,7 +112,7 @@ impl<'a> Hierarchy<'a> {
     }
 
     /// What a class hands down: nothing, where it is private (JLS 8.5).
-    pub(crate) fn inherited(&self, class: Option<u32>) -> Option<u32>
+    pub(crate) fn inherited_class(&self, class: Option<u32>) -> Option<u32>
         ensures { result ≡ pure.inherited (hierarchy_of self.now) class }
     {
         match class {

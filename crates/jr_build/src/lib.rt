@@ -2,8 +2,11 @@
 #![tactic(auto)]
 
 mod build_laws;
+mod builds;
 mod class_faults;
 mod class_numbers;
+#[cfg(test)]
+mod class_tests;
 mod faults;
 mod gathering;
 mod hierarchies;
@@ -12,6 +15,8 @@ mod laws;
 mod meanings;
 mod member_types;
 mod member_words;
+mod named_parents;
+mod order;
 mod owned;
 mod packages;
 mod places;
@@ -25,4 +30,5 @@ mod twice_classes;
 mod twice_members;
 mod type_faults;
 
+pub use builds::build;
 pub use faults::BuildFault;

@@ -28,13 +28,25 @@ impl<'a> Hierarchy<'a> {
         None
     }
 
-    /// The member class of the name that a superclass declares nearest.
-    fn nearest_above(&self, parent: Option<u32>, name: &'a str) -> Option<u32>
-        ensures { result ≡ pure.nearest_above (hierarchy_of self.now) name.now parent }
+    /// The member class of the name that is declared nearest upwards from a superclass.
+    fn nearest_from(&self, parent: Option<u32>, name: &'a str) -> Option<u32>
+        ensures { result ≡ pure.nearest_from (hierarchy_of self.now) name.now parent }
     {
         match parent {
             None => None,
             Some(parent) => self.nearest(parent, name),
+        }
+    }
+
+    /// The member class of the name that a superclass declares nearest.
+    ///
+    /// Most names are those of no member class: for them no class is looked at.
+    fn nearest_above(&self, parent: Option<u32>, name: &'a str) -> Option<u32>
+        ensures { result ≡ pure.nearest_above (hierarchy_of self.now) name.now parent }
+    {
+        match self.some_inner(name) {
+            None => None,
+            Some(_) => self.nearest_from(parent, name),
         }
     }
 
@@ -45,7 +57,7 @@ impl<'a> Hierarchy<'a> {
     {
         match self.own(class, name) {
             Some(own) => Some(own),
-            None => self.inherited(self.nearest_above(self.parent_of(class), name)),
+            None => self.inherited_class(self.nearest_above(self.parent_of(class), name)),
         }
     }
 

@@ -1,0 +1,27 @@
+use Rattle.std.proofs.Common.{◌++◌, refl}
+use Rattle.jr_table.specs.declared.kinds.DeclKind.TheVariants as kind
+use Rattle.jr_table.specs.Prelude.{prelude_rows}
+use Rattle.jr_build.specs.ExactRows.{rows_of_sites}
+use Rattle.jr_build.proofs.Apart.{one_each}
+use Rattle.jr_build.proofs.NamedRows.{all_named}
+use Rattle.jr_build.proofs.OwnRows.{rows_apart}
+use Rattle.jr_build.proofs.ProgramRows.{program_rows}
+use Rattle.jr_build.proofs.RowCycles.{no_cycle}
+use Rattle.jr_build.proofs.build_laws.clean_rows_are_sound.Goals as goal
+
+pub returns : goal.returns
+returns c = record {
+  rows = λ packages sites h is headed clean. program_rows packages sites h clean
+      (c.hierarchies_are_exact.ensures.means sites h is) (c.hierarchies_are_exact.ensures.extends sites h is)
+      (c.superclasses_are_sound.ensures.parents packages sites h is (clean kind.NoSuperclass)) headed;
+  meet = λ packages sites h is headed clean few. record {
+    own = rows_of_sites h sites;
+    prelude = refl;
+    one_each = one_each (prelude_rows ++ rows_of_sites h sites)
+        (rows_apart packages sites h clean (c.hierarchies_are_exact.ensures.means sites h is) headed);
+    named = all_named sites h is.tops.classes.keys headed;
+    no_cycle = no_cycle sites h (c.hierarchies_are_exact.ensures.extends sites h is)
+        (c.superclasses_are_sound.ensures.acyclic packages sites h is (clean kind.Cycle));
+    few = few;
+  };
+}

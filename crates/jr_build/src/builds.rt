@@ -1,0 +1,183 @@
+//! The table of a program is made, or the first fault of its declarations is told.
+ghost use Rattle.std.specs.Prelude.{◌≡◌, ◌<◌, ◌+◌, ◌++◌, ◌^◌, List, Option, length, map};
+ghost use Rattle.std.specs.Prelude.{option_map, IfOk, IfErr, OnOk};
+ghost use Rattle.jr_ast.specs.View.{unit_of};
+ghost use Rattle.jr_table.specs.Conditions.{AreRows};
+ghost use Rattle.jr_table.specs.Faults.{PackageLine, HasFault, IsClean, rank_of};
+ghost use Rattle.jr_table.specs.Prelude.{prelude_rows};
+ghost use Rattle.jr_table.specs.ProgramRows.{AreProgramRows};
+ghost use Rattle.jr_table.specs.Sites as pure;
+ghost use Rattle.jr_build.specs.declared.faults.BuildFault.TheVariants as fault;
+ghost use Rattle.jr_build.specs.Builds.{IsFoundFault, IsCleanBelow};
+ghost use Rattle.jr_build.specs.ExactRows.{rows_of_sites};
+ghost use Rattle.jr_build.specs.Fitting.{begins_by, UnitsFit};
+ghost use Rattle.jr_build.specs.Heads.{UnitsHeads, AreHeaded};
+ghost use Rattle.jr_build.specs.HierarchyView.{hierarchy_of};
+ghost use Rattle.jr_build.specs.Packages.{lines_of};
+ghost use Rattle.jr_build.specs.Places.{place_of, IsEarliest};
+ghost use Rattle.jr_build.specs.SiteView.{site_of};
+ghost use Rattle.jr_build.specs.Superclasses.{IsHierarchy};
+
+use crate::build_laws::{clean_rows_are_sound, sites_are_headed};
+use crate::class_faults::{cycle, no_superclass};
+use crate::faults::BuildFault;
+use crate::gathering::program_sites;
+use crate::hierarchies::Hierarchy;
+use crate::laws::hierarchies_are_exact;
+use crate::packages::package_differs;
+use crate::program_rows::program_rows;
+use crate::site_faults::{bad_modifiers, prelude_name, static_init};
+use crate::sites::Site;
+use crate::superclasses::hierarchy;
+use crate::twice_classes::{member_type_name, twice_class};
+use crate::twice_members::twice_member;
+use crate::type_faults::no_type;
+use jr_ast::Unit;
+use jr_table::{DeclKind, Table};
+use jr_text::{Mark, Place};
+use std::alloc::Global;
+
+/// There is no fault of the kind, or this is its earliest place.
+fn none_of(kind: DeclKind, place: Option<Place>) -> Result<(), BuildFault>
+    ensures clean { (packages : List (Option PackageLine)) (sites : List pure.Site)
+        → IsCleanBelow packages sites (rank_of packages sites kind)
+        → IsEarliest (HasFault packages sites kind) (option_map place_of place)
+        → OnOk result (IsCleanBelow packages sites (rank_of packages sites kind + 1)) }
+    ensures fault { (packages : List (Option PackageLine)) (sites : List pure.Site)
+        → IsCleanBelow packages sites (rank_of packages sites kind)
+        → IsEarliest (HasFault packages sites kind) (option_map place_of place)
+        → IfErr result (IsFoundFault packages sites) }
+{
+    match place {
+        None => Ok(()),
+        Some(place) => Err(BuildFault::At {
+            file: place.file,
+            at: place.at,
+            kind,
+        }),
+    }
+}
+
+/// There is no fault of names of packages and classes, or this is the first.
+fn no_name_fault<A>(
+    alloc: Global,
+    units: &[Unit<A>],
+    words: &[u32],
+    sites: &[Site<'_>],
+) -> Result<(), BuildFault>
+    requires units { length units.now < 2 ^ 32 }
+    requires words { length words.now ≡ length units.now }
+    requires few { length sites.now < 2 ^ 32 }
+    ensures clean { OnOk result (IsCleanBelow (lines_of words.now (map unit_of units.now))
+        (map site_of sites.now) 4) }
+    ensures fault { IfErr result (IsFoundFault (lines_of words.now (map unit_of units.now))
+        (map site_of sites.now)) }
+{
+    none_of(DeclKind::PackageDiffers, package_differs(units, words))?;
+    none_of(DeclKind::PreludeName, prelude_name(sites))?;
+    none_of(DeclKind::TwiceClass, twice_class(alloc, sites)?)
+}
+
+/// There is no fault of superclasses and of types, or this is the first.
+fn no_type_fault<'a>(alloc: Global, sites: &[Site<'a>], h: &Hierarchy<'a>) -> Result<(), BuildFault>
+    requires few { length sites.now + 4 < 2 ^ 32 }
+    requires known { IsHierarchy (map site_of sites.now) (hierarchy_of h.now) }
+    ensures clean { (packages : List (Option PackageLine))
+        → IsCleanBelow packages (map site_of sites.now) 4
+        → OnOk result (IsCleanBelow packages (map site_of sites.now) 8) }
+    ensures fault { (packages : List (Option PackageLine))
+        → IsCleanBelow packages (map site_of sites.now) 4
+        → IfErr result (IsFoundFault packages (map site_of sites.now)) }
+{
+    hierarchies_are_exact();
+    none_of(DeclKind::NoSuperclass, no_superclass(sites, h))?;
+    none_of(DeclKind::Cycle, cycle(alloc, sites, h)?)?;
+    none_of(DeclKind::NoTy, no_type(sites, h))?;
+    none_of(DeclKind::TwiceMember, twice_member(alloc, sites, h)?)
+}
+
+/// There is no fault of member types' names, of modifiers and of initializers, or this is the
+/// first.
+fn no_site_fault(alloc: Global, sites: &[Site<'_>]) -> Result<(), BuildFault>
+    requires few { length sites.now < 2 ^ 32 }
+    ensures clean { (packages : List (Option PackageLine))
+        → IsCleanBelow packages (map site_of sites.now) 8
+        → OnOk result (IsCleanBelow packages (map site_of sites.now) 11) }
+    ensures fault { (packages : List (Option PackageLine))
+        → IsCleanBelow packages (map site_of sites.now) 8
+        → IfErr result (IsFoundFault packages (map site_of sites.now)) }
+{
+    none_of(DeclKind::MemberTypeName, member_type_name(alloc, sites)?)?;
+    none_of(DeclKind::BadModifiers, bad_modifiers(sites))?;
+    none_of(DeclKind::StaticInit, static_init(sites))
+}
+
+/// The table of a program without faults.
+///
+/// Rows have numbers of 32 bits, and more of them are more than memory holds.
+fn table_of<'a>(alloc: Global, sites: &[Site<'a>], h: &Hierarchy<'a>) -> Result<Table, BuildFault>
+    requires { length (prelude_rows ++ rows_of_sites (hierarchy_of h.now) (map site_of sites.now))
+        < 2 ^ 32
+        → AreRows (prelude_rows ++ rows_of_sites (hierarchy_of h.now) (map site_of sites.now)) }
+    ensures ok { IfOk result (λ table. table
+        ≡ prelude_rows ++ rows_of_sites (hierarchy_of h.now) (map site_of sites.now)) }
+    ensures memory { IfErr result (λ e. e ≡ fault.Memory) }
+{
+    let rows = program_rows(alloc, sites, h)?;
+    if rows.len() > u32::MAX as usize {
+        return Err(BuildFault::Memory);
+    }
+    Ok(Table::of_rows(alloc, rows)?)
+}
+
+/// How many sites have numbers, so that the prelude's classes have numbers behind them.
+const MOST_SITES: usize = 4_294_967_291;
+
+/// The table of a program of these sites, or its first fault.
+fn clean_table<A>(
+    alloc: Global,
+    units: &[Unit<A>],
+    words: &[u32],
+    sites: &[Site<'_>],
+) -> Result<Table, BuildFault>
+    requires units { length units.now < 2 ^ 32 }
+    requires words { length words.now ≡ length units.now }
+    requires headed { AreHeaded (map site_of sites.now) }
+    ensures clean { OnOk result (IsClean (lines_of words.now (map unit_of units.now))
+        (map site_of sites.now)) }
+    ensures rows { IfOk result (λ table. AreProgramRows (map site_of sites.now) table) }
+    ensures fault { IfErr result (IsFoundFault (lines_of words.now (map unit_of units.now))
+        (map site_of sites.now)) }
+{
+    if sites.len() > MOST_SITES {
+        return Err(BuildFault::Memory);
+    }
+    no_name_fault(alloc, units, words, sites)?;
+    let h = hierarchy(alloc, sites)?;
+    no_type_fault(alloc, sites, &h)?;
+    no_site_fault(alloc, sites)?;
+    clean_rows_are_sound();
+    table_of(alloc, sites, &h)
+}
+
+/// The table of a program: its rows, the prelude's in front.
+///
+/// `words` has the place of each file's first token, which is the word `package` where the file has
+/// a package line. Where there is a fault, the first is told: of the lowest kind that occurs, at
+/// its first place in file and text order.
+pub fn build<A: Mark>(alloc: Global, units: &[Unit<A>], words: &[u32]) -> Result<Table, BuildFault>
+    requires few { length units.now < 2 ^ 32 }
+    requires words { length words.now ≡ length units.now }
+    requires fits { UnitsFit (begins_by A.span_from) A.fits_at (map unit_of units.now) }
+    requires heads { UnitsHeads (map unit_of units.now) }
+    ensures clean { OnOk result (IsClean (lines_of words.now (map unit_of units.now))
+        (pure.sites_of (begins_by A.span_from) (map unit_of units.now))) }
+    ensures rows { IfOk result (λ table.
+        AreProgramRows (pure.sites_of (begins_by A.span_from) (map unit_of units.now)) table) }
+    ensures fault { IfErr result (IsFoundFault (lines_of words.now (map unit_of units.now))
+        (pure.sites_of (begins_by A.span_from) (map unit_of units.now))) }
+{
+    sites_are_headed::<A>();
+    let sites = program_sites(alloc, units)?;
+    clean_table(alloc, units, words, &sites)
+}
