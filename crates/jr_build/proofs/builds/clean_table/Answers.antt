@@ -41,6 +41,15 @@ returns-in_err-no_site_fault-clause-fault g c =
     err_fault c.from_residual-in_err-no_site_fault.result (IsFoundFault pk ss) _ p.0 p.1 p.2
     (c.in_err-no_site_fault.ensures.fault pk b8)
 
+pub returns-in_err-no_type_fault-clause-fault : goal.returns-in_err-no_type_fault-clause-fault
+returns-in_err-no_type_fault-clause-fault g c =
+    let pk = lines_of c.args.words.now (map unit_of c.args.units.now) in
+    let ss = map site_of c.args.sites.now in
+    let p = err_from_is_err_and c.from_residual-in_err-no_type_fault.result
+    c.from_residual-in_err-no_type_fault.ensures.1 in
+    err_fault c.from_residual-in_err-no_type_fault.result (IsFoundFault pk ss) _ p.0 p.1 p.2
+    (c.in_err-no_type_fault.ensures.fault pk c.in_ok-no_name_fault.ensures.clean)
+
 pub returns : goal.returns
 returns g c =
     let pk = lines_of c.args.words.now (map unit_of c.args.units.now) in
