@@ -16,8 +16,6 @@ mod readings;
 mod sessions;
 mod sources;
 mod splices;
-#[cfg(test)]
-mod tests;
 mod turns;
 
 pub use begins::BeginFault;
