@@ -1,0 +1,6 @@
+pub mod Lasts
+pub mod Scoped
+pub mod Numbers
+pub mod TypeTests
+pub mod Abouting
+pub mod Adding
