@@ -4,3 +4,5 @@ pub mod Numbers
 pub mod TypeTests
 pub mod Abouting
 pub mod Adding
+pub mod Naming
+pub mod Showing

@@ -15,6 +15,7 @@ use Rattle.jr_table.specs.Found.{Found, one, nothing, many, not_accessible, from
 use Rattle.jr_table.specs.Scope.{Scope}
 use Rattle.jr_table.specs.Lookup.{decl_at, shown_one, shown_two, shown, find_type_named, find_type_of, find_field_in, find_method_named, find_method_of, find_ctor_of}
 use Rattle.jr_table.specs.Fields.{find_field_of, find_member_type}
+use Rattle.jr_table.specs.TypeNames.{find_type}
 use Rattle.jr_table.specs.Calls.{find_call, find_method, find_ctor}
 use Rattle.jr_table.specs.Meanings as pure
 use Rattle.jr_table.specs.Meanings.{class_found, find_in, find_for}
@@ -116,6 +117,10 @@ module _ (rows : List Row) where
     unfolding shown find_field_in
     fields_are None name = refl
     fields_are (Some k) name = λ i. shown rows (find_field_of (entries_of rows) (sym here i) (class_number rows k) name)
+
+    pub named_is : (name : List ℕ) → shown rows (find_type rows p name) ≡ find_type_named rows s name
+    unfolding find_type_named
+    named_is name = λ i. shown rows (find_type rows (sym here i) name)
 
     pub types_are : (o : Option ClassKey) (name : List ℕ) → shown rows (in_class (option_map (class_number rows) o) (λ c. find_member_type (entries_of rows) p c name)) ≡ find_in o (λ k. find_type_of rows s k name)
     unfolding shown find_type_of

@@ -6,3 +6,6 @@ pub mod ArgsView
 pub mod Abouts
 pub mod Means
 pub mod Logs
+pub mod Fits
+pub mod Named
+pub mod Arms

@@ -1,6 +1,7 @@
 -- What an expression means to what stands around it.
 use Rattle.std.specs.Prelude.{◌≡◌, ℕ, List, [], ◌∷◌, Option, Some, None, option_map, Bool}
 use Rattle.jr_ast.specs.Tree as tree
+use Rattle.jr_ast.specs.Marks.{exp_mark}
 use Rattle.jr_table.specs.Rows.{Row}
 use Rattle.jr_table.specs.Entries.{class_number, kind_of}
 use Rattle.jr_table.specs.Context.{Context}
@@ -25,6 +26,7 @@ fixed_notes (Some at) = breaks at rule.FinalAssigned ∷ []
 -- an expression in one whose place is `from`
 pub record Means {A : Type 0} (begins : A → ℕ → ℕ) (rows : List Row) (c : Context) (from : ℕ)
     (e : tree.Exp A) (m : Meaning) : Type 0 where
+  pub at : m.at ≡ begins (exp_mark e) from
   pub kind : m.kind ≡ option_map (kind_of rows) (type_of rows c e)
   pub class : m.class ≡ option_map (class_number rows) (class_name_of rows c e)
   pub fixed : fixed_notes m.fixed ≡ final_notes begins rows c pure.value 0 from e

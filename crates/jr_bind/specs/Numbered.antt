@@ -49,6 +49,10 @@ abbrev pub class_in : Option Kind → Option ℕ
 class_in (Some (Class c)) = Some c
 class_in _ = None
 
+abbrev pub class_kind : Option ℕ → Option Kind
+class_kind None = None
+class_kind (Some c) = Some (Class c)
+
 -- the class of a name, or that of a value's type
 abbrev pub on_class : Option ℕ → Option Kind → Option ℕ
 on_class None t = class_in t

@@ -5,12 +5,18 @@
 mod abouts;
 mod args;
 mod calls;
+mod fields;
 mod findings;
 mod helds;
+mod invocations;
 mod kinds;
 mod meanings;
+mod names;
+mod notes;
+mod operators;
 mod places;
 mod rows;
+mod type_names;
 mod variables;
 
 pub use findings::{Finding, Note, Sought};
