@@ -6,3 +6,4 @@ pub mod Abouting
 pub mod Adding
 pub mod Naming
 pub mod Showing
+pub mod Telling

@@ -9,3 +9,5 @@ pub mod Logs
 pub mod Fits
 pub mod Named
 pub mod Arms
+pub mod ErrorView
+pub mod Flow

@@ -5,6 +5,8 @@
 mod abouts;
 mod args;
 mod calls;
+mod completing;
+mod errors;
 mod fields;
 mod findings;
 mod helds;
@@ -19,6 +21,7 @@ mod rows;
 mod type_names;
 mod variables;
 
+pub use errors::BindError;
 pub use findings::{Finding, Note, Sought};
 pub use helds::{Held, HeldType};
 pub use places::Place;
