@@ -6,3 +6,6 @@ pub mod Abouting
 pub mod Adding
 pub mod Naming
 pub mod Showing
+pub mod Rowing
+pub mod Meant
+pub mod Noted
