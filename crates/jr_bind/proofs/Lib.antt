@@ -9,3 +9,5 @@ pub mod Showing
 pub mod Rowing
 pub mod Meant
 pub mod Noted
+pub mod Steps
+pub mod Oks

@@ -18,6 +18,7 @@ mod places;
 mod rows;
 mod type_names;
 mod variables;
+mod walk;
 
 pub use findings::{Finding, Note, Sought};
 pub use helds::{Held, HeldType};
