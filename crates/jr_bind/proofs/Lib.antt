@@ -7,3 +7,8 @@ pub mod Adding
 pub mod Naming
 pub mod Showing
 pub mod Telling
+pub mod Rowing
+pub mod Meant
+pub mod Noted
+pub mod Steps
+pub mod Oks

@@ -27,7 +27,7 @@ module _ (rows : List Row) where
   class_here : AreRows rows → (j : ℕ) (r : Row) → slice_get rows j ≡ Some r → (k : ClassKey) → r.decl ≡ class_decl k → class_number rows k ≡ j
   class_here are j r at k is = ap (λ (o : Option ℕ). unwrap_or o (length rows)) (the_number rows are (class_decl k) j (record { row = r; stands = at; declares = is }))
 
-  row_here : (j : ℕ) (d : Decl) → decl_at rows j ≡ Some d → (r : Row) × (slice_get rows j ≡ Some r) × (r.decl ≡ d)
+  pub row_here : (j : ℕ) (d : Decl) → decl_at rows j ≡ Some d → (r : Row) × (slice_get rows j ≡ Some r) × (r.decl ≡ d)
   row_here j d h = by (slice_get rows j) refl h
     where
       by : (o : Option Row) → slice_get rows j ≡ o → option_map (λ (r : Row). r.decl) o ≡ Some d → (r : Row) × (slice_get rows j ≡ Some r) × (r.decl ≡ d)

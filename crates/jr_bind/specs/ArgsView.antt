@@ -10,3 +10,8 @@ kinds_of a = if a.is_typed then Some a.kinds.items else None
 abbrev pub with_last : Option (List Kind) → Option Kind → Option (List Kind)
 with_last (Some ts) (Some t) = Some (ts ++ t ∷ [])
 with_last _ _ = None
+
+-- types behind types
+abbrev pub joined : Option (List Kind) → Option (List Kind) → Option (List Kind)
+joined (Some ts) (Some us) = Some (ts ++ us)
+joined _ _ = None

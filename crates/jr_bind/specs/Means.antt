@@ -31,3 +31,10 @@ pub record Means {A : Type 0} (begins : A → ℕ → ℕ) (rows : List Row) (c 
   pub class : m.class ≡ option_map (class_number rows) (class_name_of rows c e)
   pub fixed : fixed_notes m.fixed ≡ final_notes begins rows c pure.value 0 from e
   pub constant : m.is_constant ≡ is_constant rows c e
+
+-- what a call is made on, in a call whose place is `from`
+abbrev pub TargetMeans : {A : Type 0} (begins : A → ℕ → ℕ) (rows : List Row) (c : Context)
+    (from : ℕ) → tree.Target A → Option Meaning → Type 0
+TargetMeans begins rows c from tree.no_target None = Unit {0}
+TargetMeans begins rows c from (tree.on e) (Some m) = Means begins rows c from e m
+TargetMeans begins rows c from _ _ = ⊥

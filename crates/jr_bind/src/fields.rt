@@ -139,12 +139,12 @@ pub(crate) fn super_field(
     requires { Knows table.now place.now }
     ensures says { IfOk result (λ m.
         let v = pure.field_at table.now place.now.class
-            (parent_of (entries_of table.now) place.now.class) name.now in
+        (parent_of (entries_of table.now) place.now.class) name.now in
         pure.Says table.now (context_of place.now) begin at v None
-            (test_found (is_final_decl table.now (context_of place.now)) v) false m) }
+        (test_found (is_final_decl table.now (context_of place.now)) v) false m) }
     ensures notes { IfOk result (λ _.
         let v = pure.field_at table.now place.now.class
-            (parent_of (entries_of table.now) place.now.class) name.now in
+        (parent_of (entries_of table.now) place.now.class) name.now in
         notes_of table.now (member_of place.now) log.new.items
         ≡ notes_of table.now (member_of place.now) log.old.items
         ++ pure.super_notes table.now place.now.is_static begin at v) }
@@ -154,7 +154,14 @@ pub(crate) fn super_field(
     let about = about_finding(table, place, Finding::Rows(field));
     let note = variable_note(at, field);
     log.push(note)?;
-    put_when(table, place, place.is_static, begin, Rule::StaticContext, log)?;
+    put_when(
+        table,
+        place,
+        place.is_static,
+        begin,
+        Rule::StaticContext,
+        log,
+    )?;
     put_through(table, place, at, None, field, log)?;
     Ok(Meaning {
         at: begin,

@@ -194,7 +194,14 @@ pub(crate) fn super_call(
     let answer = method_in(alloc, table, place.class, parent, name.as_str(), args)?;
     let about = about_finding(table, place, Finding::Rows(answer));
     put_method(table, place, at, answer, log)?;
-    put_when(table, place, place.is_static, begin, Rule::StaticContext, log)?;
+    put_when(
+        table,
+        place,
+        place.is_static,
+        begin,
+        Rule::StaticContext,
+        log,
+    )?;
     put_through(table, place, at, None, answer, log)?;
     put_called(table, place, role, at, name, about.kind, log)?;
     Ok(plain(begin, about.kind, false))

@@ -20,6 +20,7 @@ mod places;
 mod rows;
 mod type_names;
 mod variables;
+mod walk;
 
 pub use errors::BindError;
 pub use findings::{Finding, Note, Sought};

@@ -18,12 +18,7 @@ use jr_table::{Answer, Rule, Table};
 use std::alloc::AllocError;
 
 /// Notes a rule, where it is broken.
-fn put_raw(
-    is_broken: bool,
-    at: u32,
-    rule: Rule,
-    log: &mut Vec<Note>,
-) -> Result<(), AllocError>
+fn put_raw(is_broken: bool, at: u32, rule: Rule, log: &mut Vec<Note>) -> Result<(), AllocError>
     ensures { IfOk result (λ _. pure.PutsWhen is_broken at rule log.old.items log.new.items) }
 {
     if is_broken {

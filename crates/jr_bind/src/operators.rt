@@ -7,7 +7,9 @@ ghost use Rattle.jr_bind.specs.Numbered.{sign_kind, operator_kind};
 ghost use Rattle.jr_bind.specs.Arms as pure;
 
 use crate::findings::Note;
-use crate::kinds::{are_int, comparable, is_int, operator_kind, sign_kind, suits, takes, takes_one};
+use crate::kinds::{
+    are_int, comparable, is_int, operator_kind, sign_kind, suits, takes, takes_one,
+};
 use crate::meanings::{Meaning, plain};
 use crate::notes::{put_fixed, put_unless};
 use crate::places::Place;

@@ -45,4 +45,4 @@ returns-clause-notes c =
     let note = c.named_note-note.ensures rows k ∙ (λ i. named_note (role_of c.args.role) at (e i) (left i)) in
     let forward = c.about_finding-about.ensures.forward ∙ ap (test_found (is_forward rows ctx)) e in
     puts rows k c.named_note-note.result _ _ c.args.log.now.items c.push.new.self.items _ c.in_ok-push.ensures.items note
-        (c.in_ok-put_when.ensures ∙ ap (λ b. notes_of rows k c.push.new.self.items ++ when b (breaks at rule.Forward)) forward)
+    (c.in_ok-put_when.ensures ∙ ap (λ b. notes_of rows k c.push.new.self.items ++ when b (breaks at rule.Forward)) forward)

@@ -28,7 +28,7 @@ returns-in_ok-class-in-Some-clause-class g c =
     let outer = c.in-Some.outer.name in
     let is : c.in_ok-class-in-Some.class ≡ option_map (class_number rows) (class_found (find_type_named rows s outer)) = c.in_ok-class-in-Some.ensures.class in
     let same = inner_class_is rows s p.class (place_class rows p c.requires.knows) outer name c.in_ok-class-in-Some.class is
-        ∙ sym (ap (λ (o : Option (Ident g.row.A.Denot)). option_map (class_number rows) (named_class rows s (outer_text (option_map word_of o)) name)) c.in-Some.is) in
+    ∙ sym (ap (λ (o : Option (Ident g.row.A.Denot)). option_map (class_number rows) (named_class rows s (outer_text (option_map word_of o)) name)) c.in-Some.is) in
     IfOk-weaker c.inner_class.result _ _ (λ k h. h ∙ same) c.inner_class.ensures.class
 
 pub returns-in_ok-class-in-Some-clause-notes : goal.returns-in_ok-class-in-Some-clause-notes
@@ -51,7 +51,7 @@ returns-in_ok-class-in-Some-clause-notes g c =
     let same = (λ i. first (from_outer i) ++ found_note (from i) type (found i) ∷ []) ∙ sym (ap (λ (x : Option (Ident g.row.A.Denot)). named_notes B rows s c.args.at (option_map word_of x) (word_of w)) c.in-Some.is) in
     IfOk-weaker c.inner_class.result _ _
     (λ u h. put_is rows k c.span-at_name-in-Some.result.from sought.Type answer c.plain_class-in-Some.new.log.items c.inner_class.new.log.items h
-        ∙ ap (λ xs. xs ++ found_note c.span-at_name-in-Some.result.from type (shown rows answer) ∷ []) c.in_ok-class-in-Some.ensures.notes
-        ∙ append_assoc old (first c.span-at_outer.result.from) (found_note c.span-at_name-in-Some.result.from type (shown rows answer) ∷ [])
-        ∙ ap (λ more. old ++ more) same)
+    ∙ ap (λ xs. xs ++ found_note c.span-at_name-in-Some.result.from type (shown rows answer) ∷ []) c.in_ok-class-in-Some.ensures.notes
+    ∙ append_assoc old (first c.span-at_outer.result.from) (found_note c.span-at_name-in-Some.result.from type (shown rows answer) ∷ [])
+    ∙ ap (λ more. old ++ more) same)
     c.inner_class.ensures.notes
