@@ -12,3 +12,7 @@ pub mod Meant
 pub mod Noted
 pub mod Steps
 pub mod Oks
+pub mod StmtArming
+pub mod Passing
+pub mod Bodies
+pub mod LocalSteps

@@ -78,7 +78,7 @@ module _ (rows : List Row) (are : AreRows rows) where
   written_rowed s (tree.named m outer w) = named_rowed s (outer_text outer) w.text
 
   -- the type of a row
-  row_rowed : (d : Decl) → IsRowedIf rows (option_and_then (λ (r : Row). r.type) (row_of rows d))
+  pub row_rowed : (d : Decl) → IsRowedIf rows (option_and_then (λ (r : Row). r.type) (row_of rows d))
   unfolding row_of
   row_rowed d = by (number_of rows d) refl
     where

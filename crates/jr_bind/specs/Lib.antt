@@ -11,3 +11,4 @@ pub mod Named
 pub mod Arms
 pub mod ErrorView
 pub mod Flow
+pub mod StmtArms

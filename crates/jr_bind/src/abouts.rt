@@ -137,7 +137,7 @@ fn is_final_word(word: &ModWord) -> bool
     }
 }
 
-fn has_final(words: &Mods) -> bool
+pub(crate) fn has_final(words: &Mods) -> bool
     ensures { result ≡ list_any is_final_word words.now }
 {
     words.as_slice().iter().any(is_final_word)
@@ -176,7 +176,7 @@ fn is_instance_of(table: &Table, number: u32, class: u32) -> bool
     }
 }
 
-fn kind_at(table: &Table, number: u32) -> Option<Kind>
+pub(crate) fn kind_at(table: &Table, number: u32) -> Option<Kind>
     ensures { result ≡ pure.kind_at (slice_get (entries.entries_of table.now) number) }
 {
     match table.entry(number) {

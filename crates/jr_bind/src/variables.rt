@@ -25,7 +25,7 @@ fn later(last: Option<u32>, local: &Held<'_>, name: &Name) -> Option<u32>
 }
 
 /// The number of the last local that has the name.
-fn last_number(locals: &[Held<'_>], name: &Name) -> Option<u32>
+pub(crate) fn last_number(locals: &[Held<'_>], name: &Name) -> Option<u32>
     ensures { result ≡ last_number name.now (map held_of locals.now) }
 {
     let mut last = None;
