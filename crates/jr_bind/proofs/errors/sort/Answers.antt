@@ -1,0 +1,8 @@
+use Rattle.std.proofs.Common.{rules}
+use Rattle.std.proofs.lemmas.List.Sorted.{IsNonDecreasingBy-from_sort_by_key}
+use Rattle.jr_table.specs.ErrorLists.{order_number}
+use Rattle.jr_bind.specs.ErrorView.{error_of}
+use Rattle.jr_bind.proofs.errors.sort.Goals as goal
+
+pub returns-clause-in_order : goal.returns-clause-in_order
+returns-clause-in_order c = IsNonDecreasingBy-from_sort_by_key (λ e. order_number (error_of e)) _ c.in_ok-sort_by_key.ensures.sorted (λ a r q k. search rules)

@@ -1,0 +1,20 @@
+use Rattle.std.proofs.Common.{◌≡◌, ℕ, None, subst, sym}
+use Rattle.jr_ast.specs.View.{word_of, type_of, expr_of}
+use Rattle.jr_bind.specs.declared.completing.Behind.{Behind}
+use Rattle.jr_bind.specs.StmtArms.{LocalPasses}
+use Rattle.jr_bind.proofs.LocalSteps.{with_held, local_whole}
+use Rattle.jr_bind.proofs.locals.local.Goals as goal
+
+pub returns : goal.returns
+returns g c =
+    let B = λ (m : g.row.A.Denot) (b : ℕ). (g.A.Mark.span_from m b).from in
+    let rows = c.args.table.now in
+    let p = c.args.place.now in
+    let q = c.declare.new.place in
+    let t = type_of c.args.ty.now in
+    let w = word_of c.args.name.now in
+    let e = expr_of c.args.init.now in
+    let old = c.args.log.now.items in
+    subst (λ (b : Behind). LocalPasses B rows p c.args.at c.args.number c.args.is_final t w e old b (with_held q q.locals None) c.local_init.new.log.items) (sym c.reached.ensures)
+    (local_whole B rows c.keeps_rows.ensures p q c.args.at c.args.number c.args.is_final t w e c.in_ok-kind.kind c.in_ok-next.next old c.local_head.new.log.items c.local_init.new.log.items
+    c.in_ok-next.ensures c.in_ok-kind.ensures.kind c.in_ok-kind.ensures.notes c.in_ok-declare.ensures.context c.in_ok-declare.ensures.knows c.in_ok-local_init.ensures)

@@ -1,0 +1,468 @@
+use Rattle.std.proofs.Common.{◌≡◌, ◌+◌, ◌*◌, ◌≤◌, ℕ, List, Option, ap, sym, refl, subst, ◌∙◌, drop, take, length, arith}
+use Rattle.std.proofs.lemmas.Result.{IfOk-weaker}
+use Rattle.std.specs.Prelude.{option_map}
+use Rattle.jr_text.specs.declared.spans.Span.{Span}
+use Rattle.jr_ast.specs.StatementTree as statement
+use Rattle.jr_ast.specs.declared.stmts.Stmt.{Stmt}
+use Rattle.jr_ast.specs.View.{word_of, type_of, expr_of, stmt_of, stmts_of, else_of, stmt_kind, stmt_row, held_else}
+use Rattle.jr_ast.proofs.Rows.{stmt_kind-If, stmt_kind-Block, stmt_kind-Sync}
+use Rattle.jr_ast.proofs.Sizes.{stmt_size, stmts_size, else_size}
+use Rattle.jr_bind.specs.declared.completing.Behind.{Behind}
+use Rattle.jr_bind.specs.Places.{member_of, context_of, Knows}
+use Rattle.jr_bind.specs.Fits.{FitsType, FitsExp, FitsMaybe, FitsStmt, FitsElse, FitsStmts}
+use Rattle.jr_bind.specs.Flow.{reached, unreached, behind_branches, behind_loop, behind_both, StmtPasses, InnerPasses, ElsePasses, BodyPasses, ItemPasses}
+use Rattle.jr_bind.proofs.Passing.{empty_passes, eval_passes, return_passes, local_passes, loop_passes, branch_passes, block_passes, sync_passes, none_passes, some_passes, inner_passes, item_passes}
+use Rattle.jr_bind.proofs.Bodies.{own_fits_stmt, shown_fits_stmt, shown_fits_body, left_fits_stmt, falls_first, falls_second, falls_only, falls_list, falls_held, falls_item, Going, going_start, item_goes, list_ends}
+use Rattle.jr_bind.proofs.statements.+stmt_walk.Goals as goal
+
+pub stmt-span-at-requires : goal.stmt-span-at-requires
+stmt-span-at-requires g t c = own_fits_stmt (λ (m : g.row.A.Denot) (b : ℕ). (g.A.Mark.span_from m b).from) g.A.Mark.fits_at c.args.base c.args.of.now c.requires.fits
+
+pub stmt-local-requires-clause-fits : goal.stmt-local-requires-clause-fits
+unfolding stmt_size stmts_size else_size stmt_kind stmt_row held_else FitsStmt FitsElse FitsStmts
+stmt-local-requires-clause-fits g t c =
+    let B = λ (m : g.row.A.Denot) (b : ℕ). (g.A.Mark.span_from m b).from in
+    let F = g.A.Mark.fits_at in
+    let rows = c.args.table.now in
+    let p = c.args.place.now in
+    let n = c.args.number in
+    let base = c.args.base in
+    let m = c.args.of.now.mark in
+    let start = ap (λ (z : Span). z.from) c.span-at.ensures in
+    let old = c.args.log.now.items in
+    let f = subst (λ (x : statement.Stmt g.row.A.Denot). FitsStmt B F base x) (ap (stmt_kind m) c.in-Local.is) c.requires.fits in
+    subst (λ (a : ℕ). FitsType B F a (type_of c.in-Local.ty)) (sym start) f.1
+
+pub stmt-local-requires-clause-fits_name : goal.stmt-local-requires-clause-fits_name
+unfolding stmt_size stmts_size else_size stmt_kind stmt_row held_else FitsStmt FitsElse FitsStmts
+stmt-local-requires-clause-fits_name g t c =
+    let B = λ (m : g.row.A.Denot) (b : ℕ). (g.A.Mark.span_from m b).from in
+    let F = g.A.Mark.fits_at in
+    let rows = c.args.table.now in
+    let p = c.args.place.now in
+    let n = c.args.number in
+    let base = c.args.base in
+    let m = c.args.of.now.mark in
+    let start = ap (λ (z : Span). z.from) c.span-at.ensures in
+    let old = c.args.log.now.items in
+    let f = subst (λ (x : statement.Stmt g.row.A.Denot). FitsStmt B F base x) (ap (stmt_kind m) c.in-Local.is) c.requires.fits in
+    subst (λ (a : ℕ). F c.in-Local.name.mark a) (sym start) f.2
+
+pub stmt-local-requires-clause-fits_init : goal.stmt-local-requires-clause-fits_init
+unfolding stmt_size stmts_size else_size stmt_kind stmt_row held_else FitsStmt FitsElse FitsStmts
+stmt-local-requires-clause-fits_init g t c =
+    let B = λ (m : g.row.A.Denot) (b : ℕ). (g.A.Mark.span_from m b).from in
+    let F = g.A.Mark.fits_at in
+    let rows = c.args.table.now in
+    let p = c.args.place.now in
+    let n = c.args.number in
+    let base = c.args.base in
+    let m = c.args.of.now.mark in
+    let start = ap (λ (z : Span). z.from) c.span-at.ensures in
+    let old = c.args.log.now.items in
+    let f = subst (λ (x : statement.Stmt g.row.A.Denot). FitsStmt B F base x) (ap (stmt_kind m) c.in-Local.is) c.requires.fits in
+    subst (λ (a : ℕ). FitsExp B F a (expr_of c.in-Local.init)) (sym start) f.3
+
+pub stmt-eval-requires-clause-fits : goal.stmt-eval-requires-clause-fits
+unfolding stmt_size stmts_size else_size stmt_kind stmt_row held_else FitsStmt FitsElse FitsStmts
+stmt-eval-requires-clause-fits g t c =
+    let B = λ (m : g.row.A.Denot) (b : ℕ). (g.A.Mark.span_from m b).from in
+    let F = g.A.Mark.fits_at in
+    let rows = c.args.table.now in
+    let p = c.args.place.now in
+    let n = c.args.number in
+    let base = c.args.base in
+    let m = c.args.of.now.mark in
+    let start = ap (λ (z : Span). z.from) c.span-at.ensures in
+    let old = c.args.log.now.items in
+    let f = subst (λ (x : statement.Stmt g.row.A.Denot). FitsStmt B F base x) (ap (stmt_kind m) c.in-Eval.is) c.requires.fits in
+    subst (λ (a : ℕ). FitsExp B F a (expr_of c.in-Eval.value)) (sym start) f.1
+
+pub stmt-condition-requires-clause-fits : goal.stmt-condition-requires-clause-fits
+unfolding stmt_size stmts_size else_size stmt_kind stmt_row held_else FitsStmt FitsElse FitsStmts
+stmt-condition-requires-clause-fits g t c =
+    let B = λ (m : g.row.A.Denot) (b : ℕ). (g.A.Mark.span_from m b).from in
+    let F = g.A.Mark.fits_at in
+    let rows = c.args.table.now in
+    let p = c.args.place.now in
+    let n = c.args.number in
+    let base = c.args.base in
+    let m = c.args.of.now.mark in
+    let start = ap (λ (z : Span). z.from) c.span-at.ensures in
+    let old = c.args.log.now.items in
+    let f = subst (λ (x : statement.Stmt g.row.A.Denot). FitsStmt B F base x) (ap (stmt_kind m) c.in-If.is ∙ stmt_kind-If _ m c.in-If.test c.in-If.yes c.in-If.no) c.requires.fits in
+    subst (λ (a : ℕ). FitsExp B F a (expr_of c.in-If.test)) (sym start) f.1
+
+pub stmt-loop_condition-requires-clause-fits : goal.stmt-loop_condition-requires-clause-fits
+unfolding stmt_size stmts_size else_size stmt_kind stmt_row held_else FitsStmt FitsElse FitsStmts
+stmt-loop_condition-requires-clause-fits g t c =
+    let B = λ (m : g.row.A.Denot) (b : ℕ). (g.A.Mark.span_from m b).from in
+    let F = g.A.Mark.fits_at in
+    let rows = c.args.table.now in
+    let p = c.args.place.now in
+    let n = c.args.number in
+    let base = c.args.base in
+    let m = c.args.of.now.mark in
+    let start = ap (λ (z : Span). z.from) c.span-at.ensures in
+    let old = c.args.log.now.items in
+    let f = subst (λ (x : statement.Stmt g.row.A.Denot). FitsStmt B F base x) (ap (stmt_kind m) c.in-While.is) c.requires.fits in
+    subst (λ (a : ℕ). FitsExp B F a (expr_of c.in-While.test)) (sym start) f.1
+
+pub stmt-lock-requires-clause-fits : goal.stmt-lock-requires-clause-fits
+unfolding stmt_size stmts_size else_size stmt_kind stmt_row held_else FitsStmt FitsElse FitsStmts
+stmt-lock-requires-clause-fits g t c =
+    let B = λ (m : g.row.A.Denot) (b : ℕ). (g.A.Mark.span_from m b).from in
+    let F = g.A.Mark.fits_at in
+    let rows = c.args.table.now in
+    let p = c.args.place.now in
+    let n = c.args.number in
+    let base = c.args.base in
+    let m = c.args.of.now.mark in
+    let start = ap (λ (z : Span). z.from) c.span-at.ensures in
+    let old = c.args.log.now.items in
+    let f = subst (λ (x : statement.Stmt g.row.A.Denot). FitsStmt B F base x) (ap (stmt_kind m) c.in-Sync.is ∙ stmt_kind-Sync _ m c.in-Sync.object c.in-Sync.body) c.requires.fits in
+    subst (λ (a : ℕ). FitsExp B F a (expr_of c.in-Sync.object)) (sym start) f.1
+
+pub stmt-returned-requires-clause-fits : goal.stmt-returned-requires-clause-fits
+unfolding stmt_size stmts_size else_size stmt_kind stmt_row held_else FitsStmt FitsElse FitsStmts
+stmt-returned-requires-clause-fits g t c =
+    let B = λ (m : g.row.A.Denot) (b : ℕ). (g.A.Mark.span_from m b).from in
+    let F = g.A.Mark.fits_at in
+    let rows = c.args.table.now in
+    let p = c.args.place.now in
+    let n = c.args.number in
+    let base = c.args.base in
+    let m = c.args.of.now.mark in
+    let start = ap (λ (z : Span). z.from) c.span-at.ensures in
+    let old = c.args.log.now.items in
+    let f = subst (λ (x : statement.Stmt g.row.A.Denot). FitsStmt B F base x) (ap (stmt_kind m) c.in-Return.is) c.requires.fits in
+    subst (λ (a : ℕ). FitsMaybe B F a (option_map expr_of c.in-Return.value)) (sym start) f.1
+
+pub stmt-inner-requires : goal.stmt-inner-requires
+unfolding stmt_size stmts_size else_size stmt_kind stmt_row held_else FitsStmt FitsElse FitsStmts
+stmt-inner-requires g t c =
+    let B = λ (m : g.row.A.Denot) (b : ℕ). (g.A.Mark.span_from m b).from in
+    let F = g.A.Mark.fits_at in
+    let rows = c.args.table.now in
+    let p = c.args.place.now in
+    let n = c.args.number in
+    let base = c.args.base in
+    let m = c.args.of.now.mark in
+    let start = ap (λ (z : Span). z.from) c.span-at.ensures in
+    let old = c.args.log.now.items in
+    let f = subst (λ (x : statement.Stmt g.row.A.Denot). FitsStmt B F base x) (ap (stmt_kind m) c.in-If.is ∙ stmt_kind-If _ m c.in-If.test c.in-If.yes c.in-If.no) c.requires.fits in
+    let size = ap (λ (x : Stmt g.row.A.Denot). stmt_size (stmt_of x)) c.deref.ensures in
+    let w = ap stmt_size (ap (stmt_kind m) c.in-If.is ∙ stmt_kind-If _ m c.in-If.test c.in-If.yes c.in-If.no) in
+    λ κs o. (falls_first _ _ _ _ t size w c.decreases, (o, (c.requires.knows, shown_fits_stmt B F _ _ _ _ start c.deref.ensures f.2)))
+
+pub stmt-inner-requires-in-While : goal.stmt-inner-requires-in-While
+unfolding stmt_size stmts_size else_size stmt_kind stmt_row held_else FitsStmt FitsElse FitsStmts
+stmt-inner-requires-in-While g t c =
+    let B = λ (m : g.row.A.Denot) (b : ℕ). (g.A.Mark.span_from m b).from in
+    let F = g.A.Mark.fits_at in
+    let rows = c.args.table.now in
+    let p = c.args.place.now in
+    let n = c.args.number in
+    let base = c.args.base in
+    let m = c.args.of.now.mark in
+    let start = ap (λ (z : Span). z.from) c.span-at.ensures in
+    let old = c.args.log.now.items in
+    let f = subst (λ (x : statement.Stmt g.row.A.Denot). FitsStmt B F base x) (ap (stmt_kind m) c.in-While.is) c.requires.fits in
+    let size = ap (λ (x : Stmt g.row.A.Denot). stmt_size (stmt_of x)) c.deref-in-While.ensures in
+    let w = ap stmt_size (ap (stmt_kind m) c.in-While.is) in
+    λ κs o. (falls_only _ _ _ t size w c.decreases, (o, (c.requires.knows, shown_fits_stmt B F _ _ _ _ start c.deref-in-While.ensures f.2)))
+
+pub stmt-otherwise-requires : goal.stmt-otherwise-requires
+unfolding stmt_size stmts_size else_size stmt_kind stmt_row held_else FitsStmt FitsElse FitsStmts
+stmt-otherwise-requires g t c =
+    let B = λ (m : g.row.A.Denot) (b : ℕ). (g.A.Mark.span_from m b).from in
+    let F = g.A.Mark.fits_at in
+    let rows = c.args.table.now in
+    let p = c.args.place.now in
+    let n = c.args.number in
+    let base = c.args.base in
+    let m = c.args.of.now.mark in
+    let start = ap (λ (z : Span). z.from) c.span-at.ensures in
+    let old = c.args.log.now.items in
+    let f = subst (λ (x : statement.Stmt g.row.A.Denot). FitsStmt B F base x) (ap (stmt_kind m) c.in-If.is ∙ stmt_kind-If _ m c.in-If.test c.in-If.yes c.in-If.no) c.requires.fits in
+    let w = ap stmt_size (ap (stmt_kind m) c.in-If.is ∙ stmt_kind-If _ m c.in-If.test c.in-If.yes c.in-If.no) in
+    λ κs o. (falls_second _ _ _ _ t refl w c.decreases, (o, (c.in_ok-yes-in-If.ensures.knows, subst (λ (a : ℕ). FitsElse B F a (else_of c.in-If.no)) (sym start) f.3)))
+
+pub stmt-stmts-requires : goal.stmt-stmts-requires
+unfolding stmt_size stmts_size else_size stmt_kind stmt_row held_else FitsStmt FitsElse FitsStmts
+stmt-stmts-requires g t c =
+    let B = λ (m : g.row.A.Denot) (b : ℕ). (g.A.Mark.span_from m b).from in
+    let F = g.A.Mark.fits_at in
+    let rows = c.args.table.now in
+    let p = c.args.place.now in
+    let n = c.args.number in
+    let base = c.args.base in
+    let m = c.args.of.now.mark in
+    let start = ap (λ (z : Span). z.from) c.span-at.ensures in
+    let old = c.args.log.now.items in
+    let f = subst (λ (x : statement.Stmt g.row.A.Denot). FitsStmt B F base x) (ap (stmt_kind m) c.in-Block.is ∙ stmt_kind-Block _ m c.in-Block.body) c.requires.fits in
+    let size = ap (λ (xs : List (Stmt g.row.A.Denot)). stmts_size (stmts_of xs)) c.deref-in-Block.ensures.value in
+    let w = ap stmt_size (ap (stmt_kind m) c.in-Block.is ∙ stmt_kind-Block _ m c.in-Block.body) in
+    λ κs o. (falls_list _ _ _ t size w c.decreases, (o, (c.requires.knows, shown_fits_body B F _ _ _ _ start c.deref-in-Block.ensures.value f.1)))
+
+pub stmt-stmts-requires-in-Sync : goal.stmt-stmts-requires-in-Sync
+unfolding stmt_size stmts_size else_size stmt_kind stmt_row held_else FitsStmt FitsElse FitsStmts
+stmt-stmts-requires-in-Sync g t c =
+    let B = λ (m : g.row.A.Denot) (b : ℕ). (g.A.Mark.span_from m b).from in
+    let F = g.A.Mark.fits_at in
+    let rows = c.args.table.now in
+    let p = c.args.place.now in
+    let n = c.args.number in
+    let base = c.args.base in
+    let m = c.args.of.now.mark in
+    let start = ap (λ (z : Span). z.from) c.span-at.ensures in
+    let old = c.args.log.now.items in
+    let f = subst (λ (x : statement.Stmt g.row.A.Denot). FitsStmt B F base x) (ap (stmt_kind m) c.in-Sync.is ∙ stmt_kind-Sync _ m c.in-Sync.object c.in-Sync.body) c.requires.fits in
+    let size = ap (λ (xs : List (Stmt g.row.A.Denot)). stmts_size (stmts_of xs)) c.deref-in-Sync.ensures.value in
+    let w = ap stmt_size (ap (stmt_kind m) c.in-Sync.is ∙ stmt_kind-Sync _ m c.in-Sync.object c.in-Sync.body) in
+    λ κs o. (falls_list _ _ _ t size w c.decreases, (o, (c.requires.knows, shown_fits_body B F _ _ _ _ start c.deref-in-Sync.ensures.value f.2)))
+
+pub stmt-returns-in-Local : goal.stmt-returns-in-Local
+unfolding stmt_kind stmt_row held_else
+stmt-returns-in-Local g t c =
+    let B = λ (m : g.row.A.Denot) (b : ℕ). (g.A.Mark.span_from m b).from in
+    let F = g.A.Mark.fits_at in
+    let rows = c.args.table.now in
+    let p = c.args.place.now in
+    let n = c.args.number in
+    let base = c.args.base in
+    let m = c.args.of.now.mark in
+    let start = ap (λ (z : Span). z.from) c.span-at.ensures in
+    let old = c.args.log.now.items in
+    IfOk-weaker c.local.result _ _ (λ b h. subst (λ (x : statement.Stmt g.row.A.Denot). StmtPasses B rows n p base x old b c.local.new.place c.local.new.log.items) (sym (ap (stmt_kind m) c.in-Local.is))
+    (local_passes B rows n p c.requires.knows base c.span-at.result.from m start c.in-Local.is_final (type_of c.in-Local.ty) (word_of c.in-Local.name) (expr_of c.in-Local.init) b _ old _ h)) c.local.ensures
+
+pub stmt-returns-in_ok-eval-in-Eval : goal.stmt-returns-in_ok-eval-in-Eval
+unfolding stmt_kind stmt_row held_else
+stmt-returns-in_ok-eval-in-Eval g t c =
+    let B = λ (m : g.row.A.Denot) (b : ℕ). (g.A.Mark.span_from m b).from in
+    let F = g.A.Mark.fits_at in
+    let rows = c.args.table.now in
+    let p = c.args.place.now in
+    let n = c.args.number in
+    let base = c.args.base in
+    let m = c.args.of.now.mark in
+    let start = ap (λ (z : Span). z.from) c.span-at.ensures in
+    let old = c.args.log.now.items in
+    subst (λ (b : Behind). StmtPasses B rows n p base (stmt_of c.args.of.now) old b p c.eval.new.log.items) (sym c.reached.ensures)
+    (subst (λ (x : statement.Stmt g.row.A.Denot). StmtPasses B rows n p base x old (reached n) p c.eval.new.log.items) (sym (ap (stmt_kind m) c.in-Eval.is)) (eval_passes B rows n p c.requires.knows base c.span-at.result.from m start (expr_of c.in-Eval.value) old _ c.in_ok-eval-in-Eval.ensures))
+
+pub stmt-returns-in_ok-returned-in-Return : goal.stmt-returns-in_ok-returned-in-Return
+unfolding stmt_kind stmt_row held_else
+stmt-returns-in_ok-returned-in-Return g t c =
+    let B = λ (m : g.row.A.Denot) (b : ℕ). (g.A.Mark.span_from m b).from in
+    let F = g.A.Mark.fits_at in
+    let rows = c.args.table.now in
+    let p = c.args.place.now in
+    let n = c.args.number in
+    let base = c.args.base in
+    let m = c.args.of.now.mark in
+    let start = ap (λ (z : Span). z.from) c.span-at.ensures in
+    let old = c.args.log.now.items in
+    subst (λ (b : Behind). StmtPasses B rows n p base (stmt_of c.args.of.now) old b p c.returned.new.log.items) (sym c.unreached.ensures)
+    (subst (λ (x : statement.Stmt g.row.A.Denot). StmtPasses B rows n p base x old (unreached n) p c.returned.new.log.items) (sym (ap (stmt_kind m) c.in-Return.is)) (return_passes B rows n p c.requires.knows base c.span-at.result.from m start (option_map expr_of c.in-Return.value) old _ c.in_ok-returned-in-Return.ensures))
+
+pub stmt-returns-in-Empty : goal.stmt-returns-in-Empty
+unfolding stmt_kind stmt_row held_else
+stmt-returns-in-Empty g t c =
+    let B = λ (m : g.row.A.Denot) (b : ℕ). (g.A.Mark.span_from m b).from in
+    let F = g.A.Mark.fits_at in
+    let rows = c.args.table.now in
+    let p = c.args.place.now in
+    let n = c.args.number in
+    let base = c.args.base in
+    let m = c.args.of.now.mark in
+    let start = ap (λ (z : Span). z.from) c.span-at.ensures in
+    let old = c.args.log.now.items in
+    subst (λ (b : Behind). StmtPasses B rows n p base (stmt_of c.args.of.now) old b p old) (sym c.reached-in-Empty.ensures)
+    (subst (λ (x : statement.Stmt g.row.A.Denot). StmtPasses B rows n p base x old (reached n) p old) (sym (ap (stmt_kind m) c.in-Empty.is)) (empty_passes B rows n p c.requires.knows base c.span-at.result.from m start old))
+
+pub stmt-returns-in_ok-no-in-If : goal.stmt-returns-in_ok-no-in-If
+unfolding stmt_kind stmt_row held_else
+stmt-returns-in_ok-no-in-If g t c =
+    let B = λ (m : g.row.A.Denot) (b : ℕ). (g.A.Mark.span_from m b).from in
+    let F = g.A.Mark.fits_at in
+    let rows = c.args.table.now in
+    let p = c.args.place.now in
+    let n = c.args.number in
+    let base = c.args.base in
+    let m = c.args.of.now.mark in
+    let start = ap (λ (z : Span). z.from) c.span-at.ensures in
+    let old = c.args.log.now.items in
+    let shown = subst (λ (x : Stmt g.row.A.Denot). InnerPasses B rows n p c.span-at.result.from (stmt_of x) c.condition.new.log.items c.in_ok-yes-in-If.yes c.inner.new.place c.inner.new.log.items) c.deref.ensures c.in_ok-yes-in-If.ensures in
+    subst (λ (b : Behind). StmtPasses B rows n p base (stmt_of c.args.of.now) old b c.otherwise.new.place c.otherwise.new.log.items) (sym c.behind_branches.ensures)
+    (subst (λ (x : statement.Stmt g.row.A.Denot). StmtPasses B rows n p base x old (behind_branches c.in_ok-yes-in-If.yes c.in_ok-no-in-If.no) c.otherwise.new.place c.otherwise.new.log.items) (sym (ap (stmt_kind m) c.in-If.is ∙ stmt_kind-If _ m c.in-If.test c.in-If.yes c.in-If.no)) (branch_passes B rows n p c.requires.knows base c.span-at.result.from m start (expr_of c.in-If.test) (stmt_of c.in-If.yes.value) (else_of c.in-If.no) c.in_ok-yes-in-If.yes c.in_ok-no-in-If.no c.inner.new.place c.otherwise.new.place old c.condition.new.log.items c.inner.new.log.items c.otherwise.new.log.items c.in_ok-condition-in-If.ensures shown c.in_ok-no-in-If.ensures))
+
+pub stmt-returns-in_ok-body-in-While : goal.stmt-returns-in_ok-body-in-While
+unfolding stmt_kind stmt_row held_else
+stmt-returns-in_ok-body-in-While g t c =
+    let B = λ (m : g.row.A.Denot) (b : ℕ). (g.A.Mark.span_from m b).from in
+    let F = g.A.Mark.fits_at in
+    let rows = c.args.table.now in
+    let p = c.args.place.now in
+    let n = c.args.number in
+    let base = c.args.base in
+    let m = c.args.of.now.mark in
+    let start = ap (λ (z : Span). z.from) c.span-at.ensures in
+    let old = c.args.log.now.items in
+    let shown = subst (λ (x : Stmt g.row.A.Denot). InnerPasses B rows n p c.span-at.result.from (stmt_of x) c.loop_condition.new.log.items c.in_ok-body-in-While.body c.inner-in-While.new.place c.inner-in-While.new.log.items) c.deref-in-While.ensures c.in_ok-body-in-While.ensures in
+    subst (λ (b : Behind). StmtPasses B rows n p base (stmt_of c.args.of.now) old b c.inner-in-While.new.place c.inner-in-While.new.log.items) (sym c.behind_loop.ensures)
+    (subst (λ (x : statement.Stmt g.row.A.Denot). StmtPasses B rows n p base x old (behind_loop c.in_ok-body-in-While.body c.is_true.result) c.inner-in-While.new.place c.inner-in-While.new.log.items) (sym (ap (stmt_kind m) c.in-While.is)) (loop_passes B rows n p c.requires.knows base c.span-at.result.from m start (expr_of c.in-While.test) (stmt_of c.in-While.body.value) c.in_ok-body-in-While.body c.inner-in-While.new.place c.is_true.result old c.loop_condition.new.log.items c.inner-in-While.new.log.items c.in_ok-loop_condition-in-While.ensures shown c.is_true.ensures))
+
+pub stmt-returns-in-Block : goal.stmt-returns-in-Block
+unfolding stmt_kind stmt_row held_else
+stmt-returns-in-Block g t c =
+    let B = λ (m : g.row.A.Denot) (b : ℕ). (g.A.Mark.span_from m b).from in
+    let F = g.A.Mark.fits_at in
+    let rows = c.args.table.now in
+    let p = c.args.place.now in
+    let n = c.args.number in
+    let base = c.args.base in
+    let m = c.args.of.now.mark in
+    let start = ap (λ (z : Span). z.from) c.span-at.ensures in
+    let old = c.args.log.now.items in
+    IfOk-weaker c.stmts.result _ _ (λ b h. subst (λ (x : statement.Stmt g.row.A.Denot). StmtPasses B rows n p base x old b c.stmts.new.place c.stmts.new.log.items) (sym (ap (stmt_kind m) c.in-Block.is ∙ stmt_kind-Block _ m c.in-Block.body))
+    (block_passes B rows n p c.requires.knows base c.span-at.result.from m start (stmts_of c.in-Block.body.items) b _ old _ (subst (λ (xs : List (Stmt g.row.A.Denot)). BodyPasses B rows n p c.span-at.result.from (stmts_of xs) old b c.stmts.new.place c.stmts.new.log.items) c.deref-in-Block.ensures.value h))) c.stmts.ensures
+
+pub stmt-returns-in_ok-lock-in-Sync : goal.stmt-returns-in_ok-lock-in-Sync
+unfolding stmt_kind stmt_row held_else
+stmt-returns-in_ok-lock-in-Sync g t c =
+    let B = λ (m : g.row.A.Denot) (b : ℕ). (g.A.Mark.span_from m b).from in
+    let F = g.A.Mark.fits_at in
+    let rows = c.args.table.now in
+    let p = c.args.place.now in
+    let n = c.args.number in
+    let base = c.args.base in
+    let m = c.args.of.now.mark in
+    let start = ap (λ (z : Span). z.from) c.span-at.ensures in
+    let old = c.args.log.now.items in
+    IfOk-weaker c.stmts-in-Sync.result _ _ (λ b h. subst (λ (x : statement.Stmt g.row.A.Denot). StmtPasses B rows n p base x old b c.stmts-in-Sync.new.place c.stmts-in-Sync.new.log.items) (sym (ap (stmt_kind m) c.in-Sync.is ∙ stmt_kind-Sync _ m c.in-Sync.object c.in-Sync.body))
+    (sync_passes B rows n p c.requires.knows base c.span-at.result.from m start (expr_of c.in-Sync.object) (stmts_of c.in-Sync.body.items) b _ old _ _ c.in_ok-lock-in-Sync.ensures (subst (λ (xs : List (Stmt g.row.A.Denot)). BodyPasses B rows n p c.span-at.result.from (stmts_of xs) c.lock.new.log.items b c.stmts-in-Sync.new.place c.stmts-in-Sync.new.log.items) c.deref-in-Sync.ensures.value h))) c.stmts-in-Sync.ensures
+
+pub inner-stmt-requires : goal.inner-stmt-requires
+inner-stmt-requires g t c = λ κs o. (omega (arith, c.decreases), (o, (c.requires.knows, c.requires.fits)))
+
+pub inner-returns : goal.inner-returns
+inner-returns g t c =
+    let B = λ (m : g.row.A.Denot) (b : ℕ). (g.A.Mark.span_from m b).from in
+    let F = g.A.Mark.fits_at in
+    let rows = c.args.table.now in
+    let p = c.args.place.now in
+    let old = c.args.log.now.items in
+    let depth : c.len-depth.result ≡ length p.locals.items = omega (arith, c.len-depth.ensures, p.locals.ok) in
+    inner_passes B rows c.args.number p c.args.base (stmt_of c.args.of.now) old c.in_ok-behind.behind c.stmt.new.place c.stmt.new.log.items c.len-depth.result c.truncate.new.self depth c.truncate.ensures.items c.in_ok-behind.ensures
+
+pub otherwise-inner-requires : goal.otherwise-inner-requires
+unfolding stmt_size stmts_size else_size stmt_kind stmt_row held_else FitsStmt FitsElse FitsStmts
+otherwise-inner-requires g t c =
+    let B = λ (m : g.row.A.Denot) (b : ℕ). (g.A.Mark.span_from m b).from in
+    let F = g.A.Mark.fits_at in
+    let rows = c.args.table.now in
+    let p = c.args.place.now in
+    let old = c.args.log.now.items in
+    let f = subst (λ (o : _). FitsElse B F c.args.at (else_of o)) c.in-Some.is c.requires.fits in
+    let size = ap (λ (x : Stmt g.row.A.Denot). stmt_size (stmt_of x)) c.deref.ensures ∙ sym (ap (λ o. else_size (else_of o)) c.in-Some.is) in
+    λ κs o. (falls_held _ _ t size c.decreases, (o, (c.requires.knows, shown_fits_stmt B F _ _ _ _ refl c.deref.ensures f)))
+
+pub otherwise-returns-in-None : goal.otherwise-returns-in-None
+unfolding stmt_kind stmt_row held_else
+otherwise-returns-in-None g t c =
+    let B = λ (m : g.row.A.Denot) (b : ℕ). (g.A.Mark.span_from m b).from in
+    let F = g.A.Mark.fits_at in
+    let rows = c.args.table.now in
+    let p = c.args.place.now in
+    let old = c.args.log.now.items in
+    subst (λ (b : Behind). ElsePasses B rows c.args.number p c.args.at (else_of c.args.of.now) old b p old) (sym c.reached.ensures)
+    (subst (λ o. ElsePasses B rows c.args.number p c.args.at (else_of o) old (reached c.args.number) p old) (sym c.in-None.is) (none_passes B rows c.args.number p c.requires.knows c.args.at old))
+
+pub otherwise-returns-in-Some : goal.otherwise-returns-in-Some
+unfolding stmt_kind stmt_row held_else
+otherwise-returns-in-Some g t c =
+    let B = λ (m : g.row.A.Denot) (b : ℕ). (g.A.Mark.span_from m b).from in
+    let F = g.A.Mark.fits_at in
+    let rows = c.args.table.now in
+    let p = c.args.place.now in
+    let old = c.args.log.now.items in
+    IfOk-weaker c.inner.result _ _ (λ b h. subst (λ o. ElsePasses B rows c.args.number p c.args.at (else_of o) old b c.inner.new.place c.inner.new.log.items) (sym c.in-Some.is)
+    (some_passes B rows c.args.number p c.args.at (stmt_of c.in-Some.of.value) old b _ _ (subst (λ (x : Stmt g.row.A.Denot). InnerPasses B rows c.args.number p c.args.at (stmt_of x) old b c.inner.new.place c.inner.new.log.items) c.deref.ensures h))) c.inner.ensures
+
+pub item-span-begin-requires : goal.item-span-begin-requires
+item-span-begin-requires g t c = own_fits_stmt (λ (m : g.row.A.Denot) (b : ℕ). (g.A.Mark.span_from m b).from) g.A.Mark.fits_at c.args.at c.args.of.now c.requires.fits
+
+pub item-stmt-requires : goal.item-stmt-requires
+item-stmt-requires g t c = λ κs o. (omega (arith, c.decreases), (o, (c.requires.knows, c.requires.fits)))
+
+pub item-returns : goal.item-returns
+item-returns g t c =
+    let B = λ (m : g.row.A.Denot) (b : ℕ). (g.A.Mark.span_from m b).from in
+    let F = g.A.Mark.fits_at in
+    let rows = c.args.table.now in
+    let p = c.args.place.now in
+    let old = c.args.log.now.items in
+    subst (λ (b : Behind). ItemPasses B rows c.args.before.number p c.args.at c.args.before.completes (stmt_of c.args.of.now) old b c.stmt.new.place c.stmt.new.log.items) (sym c.behind_both.ensures)
+    (item_passes B rows c.args.before p c.args.at c.args.of.now c.span-begin.result.from (ap (λ (z : Span). z.from) c.span-begin.ensures) old c.put_unless.new.log.items c.stmt.new.log.items c.in_ok-behind.behind c.stmt.new.place c.in_ok-put_unless.ensures c.in_ok-behind.ensures)
+
+pub stmts-loop-of-init : goal.stmts-loop-of-init
+stmts-loop-of-init g t c =
+    let B = λ (m : g.row.A.Denot) (b : ℕ). (g.A.Mark.span_from m b).from in
+    let F = g.A.Mark.fits_at in
+    let rows = c.args.table.now in
+    let p = c.args.place.now in
+    let old = c.args.log.now.items in
+    let depth : c.len-depth.result ≡ length p.locals.items = omega (arith, c.len-depth.ensures, p.locals.ok) in
+    record {
+      depth = depth;
+      own = refl;
+      fits = c.requires.fits;
+      going = subst (λ (b : Behind). Going B rows c.args.number p c.args.at (stmts_of c.args.body.now) old b p old (stmts_of c.args.body.now)) (sym c.reached-behind.ensures) (going_start B rows c.args.number p c.args.at (stmts_of c.args.body.now) old c.requires.knows);
+    }
+
+pub stmts-item-requires : goal.stmts-item-requires
+stmts-item-requires g t c =
+    let B = λ (m : g.row.A.Denot) (b : ℕ). (g.A.Mark.span_from m b).from in
+    let F = g.A.Mark.fits_at in
+    let rows = c.args.table.now in
+    let p = c.args.place.now in
+    let old = c.args.log.now.items in
+    let i = c.loop-of.of-index in
+    let body = c.args.body.now in
+    let x = c.of-item.result in
+    let lt = c.loop-of-test.true in
+    let is = c.of-item.is in
+    let inv = c.loop-of.invariant in
+    λ κs o. (falls_item body i x t lt is c.decreases, (o, (inv.going.knows, (left_fits_stmt B F c.args.at body i x lt is inv.fits).0)))
+
+pub stmts-loop-of-preserved : goal.stmts-loop-of-preserved
+stmts-loop-of-preserved g t c =
+    let B = λ (m : g.row.A.Denot) (b : ℕ). (g.A.Mark.span_from m b).from in
+    let F = g.A.Mark.fits_at in
+    let rows = c.args.table.now in
+    let p = c.args.place.now in
+    let old = c.args.log.now.items in
+    let i = c.loop-of.of-index in
+    let body = c.args.body.now in
+    let x = c.of-item.result in
+    let lt = c.loop-of-test.true in
+    let is = c.of-item.is in
+    let inv = c.loop-of.invariant in
+    record {
+      depth = inv.depth;
+      own = inv.own;
+      fits = (left_fits_stmt B F c.args.at body i x lt is inv.fits).1;
+      going = item_goes B rows c.args.number p c.args.at body old i x lt is c.loop-of.behind c.in_ok-behind.behind c.loop-of.place c.item.new.place c.loop-of.log.items c.item.new.log.items inv.going c.in_ok-behind.ensures;
+    }
+
+pub stmts-returns : goal.stmts-returns
+stmts-returns g t c =
+    let B = λ (m : g.row.A.Denot) (b : ℕ). (g.A.Mark.span_from m b).from in
+    let F = g.A.Mark.fits_at in
+    let rows = c.args.table.now in
+    let p = c.args.place.now in
+    let old = c.args.log.now.items in
+    let inv = c.loop-of.invariant in
+    list_ends B rows c.args.number p c.args.at c.args.body.now old c.loop-of.of-index c.loop-of-test.false c.loop-of.behind c.loop-of.place c.loop-of.log.items inv.going c.truncate.new.self (c.truncate.ensures.items ∙ ap (λ (d : ℕ). take d c.loop-of.place.locals.items) inv.depth)

@@ -1,0 +1,32 @@
+use Rattle.std.proofs.Common.{◌+◌, ◌*◌, ◌≡◌, List, drop, map}
+use Rattle.std.specs.Prelude.{option_map}
+use Rattle.jr_ast.specs.View.{expr_of, exprs_of, target_of}
+use Rattle.jr_ast.proofs.Sizes.{exp_size, exps_size, target_size}
+use Rattle.jr_table.specs.Entries.{kind_of}
+use Rattle.jr_table.specs.Meanings.{types_of}
+use Rattle.jr_table.specs.Notes.{Note}
+use Rattle.jr_table.specs.Walks.{args_notes}
+use Rattle.jr_bind.specs.Places.{context_of, member_of}
+use Rattle.jr_bind.specs.Fits.{FitsExps}
+use Rattle.jr_bind.specs.Logs.{notes_of, Adds}
+use Rattle.jr_bind.specs.ArgsView.{kinds_of, joined}
+use Rattle.jr_bind.proofs.walk.+walk.Given as goal
+
+abbrev pub decreases-expr : goal.decreases-expr
+decreases-expr g l = 3 * exp_size (expr_of l.of.now)
+
+abbrev pub decreases-target_expr : goal.decreases-target_expr
+decreases-target_expr g l = 3 * target_size (target_of l.of.now) + 1
+
+abbrev pub decreases-exprs : goal.decreases-exprs
+decreases-exprs g l = 3 * exps_size (exprs_of l.parts.now) + 1
+
+-- what is left fits, and what adds its notes to those so far adds all to those before
+abbrev pub invariant-exprs-loop-part : goal.invariant-exprs-loop-part
+invariant-exprs-loop-part g l = record {
+  fits : FitsExps (λ m b. (g.A.Mark.span_from m b).from) g.A.Mark.fits_at l.at (exprs_of (drop l.part-index l.parts));
+  notes : (last : List Note) → Adds (notes_of l.table (member_of l.place) l.log.items) (args_notes (λ m b. (g.A.Mark.span_from m b).from) l.table (context_of l.place) l.at (exprs_of (drop l.part-index l.parts))) last
+      → Adds (notes_of l.table (member_of l.place) l.fn.log.items) (args_notes (λ m b. (g.A.Mark.span_from m b).from) l.table (context_of l.place) l.at (exprs_of l.parts)) last;
+  kinds : joined (kinds_of l.kinds) (option_map (map (kind_of l.table)) (types_of l.table (context_of l.place) (exprs_of (drop l.part-index l.parts))))
+      ≡ option_map (map (kind_of l.table)) (types_of l.table (context_of l.place) (exprs_of l.parts));
+}

@@ -1,0 +1,149 @@
+//! The expressions of statements, and what these note on them (JLS 14).
+ghost use Rattle.std.specs.Prelude.{◌≡◌, ◌++◌, IfOk, option_map};
+ghost use Rattle.jr_ast.specs.View.{expr_of};
+ghost use Rattle.jr_table.specs.Walks as walks;
+ghost use Rattle.jr_table.specs.Binding.{value, statement};
+ghost use Rattle.jr_bind.specs.Places.{context_of, member_of, Knows};
+ghost use Rattle.jr_bind.specs.Fits.{FitsExp, FitsMaybe};
+ghost use Rattle.jr_bind.specs.Logs.{notes_of, Adds};
+ghost use Rattle.jr_bind.specs.StmtArms as pure;
+
+use crate::completing::is_true;
+use crate::findings::Note;
+use crate::meanings::Role;
+use crate::places::Place;
+use crate::stmt_notes::{due, put_condition, put_lock, put_loop, put_no_value, put_value};
+use crate::walk::expr;
+use jr_ast::Expr;
+use jr_table::Table;
+use jr_text::Mark;
+use std::alloc::{AllocError, Global};
+
+/// The condition of an `if`.
+pub(crate) fn condition<A: Mark>(
+    alloc: Global,
+    table: &Table,
+    place: &Place<'_>,
+    at: u32,
+    of: &Expr<A>,
+    log: &mut Vec<Note>,
+) -> Result<(), AllocError>
+    requires knows { Knows table.now place.now }
+    requires fits { FitsExp (λ m b. (A.span_from m b).from) A.fits_at at (expr_of of.now) }
+    ensures { IfOk result (λ _. Adds (notes_of table.now (member_of place.now) log.old.items)
+        (pure.checked_notes (λ m b. (A.span_from m b).from) table.now (context_of place.now)
+        at (expr_of of.now) ++ walks.notes_of (λ m b. (A.span_from m b).from) table.now
+        (context_of place.now) value at (expr_of of.now))
+        (notes_of table.now (member_of place.now) log.new.items)) }
+{
+    let value = expr(alloc, table, place, Role::Value, at, of, log)?;
+    put_condition(table, place, value, log)
+}
+
+/// The condition of a loop.
+pub(crate) fn loop_condition<A: Mark>(
+    alloc: Global,
+    table: &Table,
+    place: &Place<'_>,
+    at: u32,
+    of: &Expr<A>,
+    log: &mut Vec<Note>,
+) -> Result<(), AllocError>
+    requires knows { Knows table.now place.now }
+    requires fits { FitsExp (λ m b. (A.span_from m b).from) A.fits_at at (expr_of of.now) }
+    ensures { IfOk result (λ _. Adds (notes_of table.now (member_of place.now) log.old.items)
+        (pure.looped_notes (λ m b. (A.span_from m b).from) table.now (context_of place.now)
+        at (expr_of of.now) ++ walks.notes_of (λ m b. (A.span_from m b).from) table.now
+        (context_of place.now) value at (expr_of of.now))
+        (notes_of table.now (member_of place.now) log.new.items)) }
+{
+    let value = expr(alloc, table, place, Role::Value, at, of, log)?;
+    put_loop(table, place, value, is_true(of), log)
+}
+
+/// What is locked.
+pub(crate) fn lock<A: Mark>(
+    alloc: Global,
+    table: &Table,
+    place: &Place<'_>,
+    at: u32,
+    of: &Expr<A>,
+    log: &mut Vec<Note>,
+) -> Result<(), AllocError>
+    requires knows { Knows table.now place.now }
+    requires fits { FitsExp (λ m b. (A.span_from m b).from) A.fits_at at (expr_of of.now) }
+    ensures { IfOk result (λ _. Adds (notes_of table.now (member_of place.now) log.old.items)
+        (pure.locked_notes (λ m b. (A.span_from m b).from) table.now (context_of place.now)
+        at (expr_of of.now) ++ walks.notes_of (λ m b. (A.span_from m b).from) table.now
+        (context_of place.now) value at (expr_of of.now))
+        (notes_of table.now (member_of place.now) log.new.items)) }
+{
+    let value = expr(alloc, table, place, Role::Value, at, of, log)?;
+    put_lock(table, place, value, log)
+}
+
+/// A value that is returned.
+fn returned_value<A: Mark>(
+    alloc: Global,
+    table: &Table,
+    place: &Place<'_>,
+    at: u32,
+    of: &Expr<A>,
+    log: &mut Vec<Note>,
+) -> Result<(), AllocError>
+    requires knows { Knows table.now place.now }
+    requires fits { FitsExp (λ m b. (A.span_from m b).from) A.fits_at at (expr_of of.now) }
+    ensures { IfOk result (λ _. Adds (notes_of table.now (member_of place.now) log.old.items)
+        (pure.value_returned_notes (λ m b. (A.span_from m b).from) table.now
+        (context_of place.now) at (expr_of of.now) ++ walks.notes_of
+        (λ m b. (A.span_from m b).from) table.now (context_of place.now) value at
+        (expr_of of.now)) (notes_of table.now (member_of place.now) log.new.items)) }
+{
+    table.keeps_rows();
+    let value = expr(alloc, table, place, Role::Value, at, of, log)?;
+    put_value(table, place, at, due(table, place), value, log)
+}
+
+/// What is returned.
+pub(crate) fn returned<A: Mark>(
+    alloc: Global,
+    table: &Table,
+    place: &Place<'_>,
+    at: u32,
+    of: &Option<Expr<A>>,
+    log: &mut Vec<Note>,
+) -> Result<(), AllocError>
+    requires knows { Knows table.now place.now }
+    requires fits { FitsMaybe (λ m b. (A.span_from m b).from) A.fits_at at
+        (option_map expr_of of.now) }
+    ensures { IfOk result (λ _. Adds (notes_of table.now (member_of place.now) log.old.items)
+        (pure.returned_notes (λ m b. (A.span_from m b).from) table.now (context_of place.now)
+        at (option_map expr_of of.now) ++ walks.maybe_notes (λ m b. (A.span_from m b).from)
+        table.now (context_of place.now) at (option_map expr_of of.now))
+        (notes_of table.now (member_of place.now) log.new.items)) }
+{
+    match of {
+        None => put_no_value(table, place, at, due(table, place), log),
+        Some(of) => returned_value(alloc, table, place, at, of, log),
+    }
+}
+
+/// An expression that is a statement.
+pub(crate) fn eval<A: Mark>(
+    alloc: Global,
+    table: &Table,
+    place: &Place<'_>,
+    at: u32,
+    of: &Expr<A>,
+    log: &mut Vec<Note>,
+) -> Result<(), AllocError>
+    requires knows { Knows table.now place.now }
+    requires fits { FitsExp (λ m b. (A.span_from m b).from) A.fits_at at (expr_of of.now) }
+    ensures { IfOk result (λ _. Adds (notes_of table.now (member_of place.now) log.old.items)
+        (walks.notes_of (λ m b. (A.span_from m b).from) table.now (context_of place.now)
+        statement at (expr_of of.now))
+        (notes_of table.now (member_of place.now) log.new.items)) }
+{
+    expr(alloc, table, place, Role::Statement, at, of, log)?;
+    Ok(())
+}
