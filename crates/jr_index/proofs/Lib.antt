@@ -4,3 +4,5 @@ pub mod Marking
 pub mod Around
 pub mod Early
 pub mod Parity
+pub mod Setting
+pub mod Linking

@@ -4,3 +4,5 @@ pub mod Walked
 pub mod Cycles
 pub mod Names
 pub mod Index
+pub mod NameTable
+pub mod Linked

@@ -4,9 +4,15 @@
 mod cycles;
 mod index;
 mod laws;
+mod linked;
+mod name_table;
 mod names;
+#[cfg(test)]
+mod tests;
 
 pub use cycles::{first_on_cycle, on_cycle};
 pub use index::Index;
 pub use laws::ways_come_early;
+pub use linked::{Linked, Place};
+pub use name_table::NameTable;
 pub use names::Names;

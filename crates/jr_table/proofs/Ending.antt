@@ -5,11 +5,8 @@ use Rattle.std.specs.List.{list_any, IsDistinct, AllByRecursion}
 use Rattle.std.proofs.lemmas.Option.{slice_get_within}
 use Rattle.std.proofs.lemmas.Map.Steps.{length-le_from_distinct_below}
 use Rattle.jr_table.specs.declared.entries.Entry.{Entry}
+use Rattle.jr_table.specs.Spans.{ParentsStand}
 use Rattle.jr_table.specs.Chains.{parent_of, IsChain, GoesUp, above, climb, chain_of, Climbs, HasNoCycle, IsAcyclic}
-
--- each superclass has a row
-abbrev pub ParentsStand : List Entry → Type 0
-ParentsStand rows = (c p : ℕ) → parent_of rows c ≡ Some p → p < length rows
 
 -- what is nowhere in a list is unlike each that is
 none_is : (c : ℕ) (xs : List ℕ) → (list_any (eqb c) xs ≡ true → ⊥) → AllByRecursion (λ y. eqb c y ≡ false) xs

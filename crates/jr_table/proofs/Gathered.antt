@@ -1,5 +1,5 @@
 -- Member methods of a name, gathered row by row.
-use Rattle.std.proofs.Common.{◌≡◌, ℕ, suc, ◌+◌, ◌<◌, ◌≤◌, List, [], ◌∷◌, ◌++◌, map, Option, Some, None, refl, sym, ap, subst, ◌∙◌, inl, inr, arith, length}
+use Rattle.std.proofs.Common.{◌≡◌, Bool, true, false, cond, append_assoc, ℕ, zero, suc, ◌+◌, ◌<◌, ◌≤◌, List, [], ◌∷◌, ◌++◌, map, Option, Some, None, refl, sym, ap, subst, ◌∙◌, inl, inr, arith, length}
 use Rattle.std.specs.Prelude.{slice_get, option_to_list, option_and_then, option_map, ◌⊎◌, ◌↔◌}
 use Rattle.std.proofs.lemmas.Option.{slice_get_within}
 use Rattle.jr_table.specs.declared.entries.Kind.{Kind}
@@ -13,11 +13,15 @@ use Rattle.jr_table.specs.Members.{DeclaresMethod, IsMemberMethod, IsMember, Mem
 use Rattle.jr_table.specs.Keyed.{HasMethod}
 use Rattle.jr_table.specs.MethodLists.{Among, StandInOrder, AreMethods}
 use Rattle.jr_table.proofs.RowLaws.{number_stands, RowAt, row_at, entry_stands, some_inside, within}
-use Rattle.jr_table.specs.Looking.{is_method, member}
+use Rattle.std.specs.Str.{bytes_eq}
+use Rattle.std.proofs.lemmas.Slice.Eq.{bytes_eq-Decides}
+use Rattle.jr_table.specs.Calls as calls
+use Rattle.jr_table.specs.Looking.{is_method, is_number, member}
+use Rattle.jr_table.proofs.GatherLaws.{named_member}
 use Rattle.jr_table.proofs.RowLaws.{acyclic_rows}
 use Rattle.jr_table.proofs.OneEach.{one_method}
 use Rattle.jr_table.proofs.MemberLaws.{Says, member_says, one_member}
-use Rattle.jr_table.proofs.Testing.{method_says}
+use Rattle.jr_table.proofs.Testing.{method_says, and_true, is_number_is}
 use Rattle.jr_table.proofs.Border.{member_declares, MethodHere, method_here, same_number}
 
 -- a member method of the name
@@ -67,7 +71,7 @@ module _ (rows : List Row) where
   stand from n [] h = tt
   stand from n (k ∷ ks) (j, le, r, more) = (j, le, r, stand (suc j) n ks more)
 
-  method_row : (j : ℕ) (m : MethodKey) → method_at rows j ≡ Some m → IsRowOf rows (method_decl m) j
+  pub method_row : (j : ℕ) (m : MethodKey) → method_at rows j ≡ Some m → IsRowOf rows (method_decl m) j
   method_row j m h = by (slice_get rows j) refl h
     where
       is : (d : Decl) → method_of d ≡ Some m → d ≡ method_decl m
@@ -81,7 +85,7 @@ module _ (rows : List Row) where
       by None is' h = absurd cc
       by (Some r) is' h = record { row = r; stands = is'; declares = is r.decl h }
 
-  row_method : (j : ℕ) (m : MethodKey) → IsRowOf rows (method_decl m) j → method_at rows j ≡ Some m
+  pub row_method : (j : ℕ) (m : MethodKey) → IsRowOf rows (method_decl m) j → method_at rows j ≡ Some m
   row_method j m r = ap (option_and_then (λ (x : Row). method_of x.decl)) r.stands ∙ ap method_of r.declares
 
   -- a member method of the name is a method's row
@@ -186,3 +190,46 @@ module _ (rows : List Row) where
   -- a class without a row has no members
   pub no_methods : (of : ClassKey) (name : List ℕ) → ((n : ℕ) → IsRowOf rows (class_decl of) n → ⊥) → AreMethods rows of name []
   no_methods of name none = record { in_order = tt; exact = λ m. (λ h. absurd h, λ h. absurd (none h.0.c h.0.place)) }
+
+-- the keys of the methods at these numbers
+abbrev pub keys_at : List Row → List ℕ → List MethodKey
+keys_at rows [] = []
+keys_at rows (j ∷ js) = option_to_list (method_at rows j) ++ keys_at rows js
+
+pub keys_more : (rows : List Row) (js : List ℕ) (j : ℕ) → keys_at rows (js ++ j ∷ []) ≡ keys_at rows js ++ option_to_list (method_at rows j)
+keys_more rows [] j = nothing (option_to_list (method_at rows j))
+  where
+    nothing : (ks : List MethodKey) → ks ++ [] ≡ ks
+    nothing [] = refl
+    nothing (k ∷ ks) = ap (λ ls. k ∷ ls) (nothing ks)
+keys_more rows (i ∷ js) j = ap (λ ks. option_to_list (method_at rows i) ++ ks) (keys_more rows js j) ∙ sym (append_assoc (option_to_list (method_at rows i)) (keys_at rows js) (option_to_list (method_at rows j)))
+
+module _ (rows : List Row) (are : AreRows rows) (c : ℕ) (name : List ℕ) where
+  tests_named : (j : ℕ) → calls.is_named (entries_of rows) name c j ≡ true → IsNamed rows c name j
+  tests_named j h = is_named rows are c name (calls.params_at (entries_of rows) j) j (named_member rows are name c j h)
+
+  named_tests : (j : ℕ) → IsNamed rows c name j → calls.is_named (entries_of rows) name c j ≡ true
+  unfolding calls.is_named
+  named_tests j h =
+      let e = named_entry rows are c name j h in
+      ap (calls.is_named_entry (entries_of rows) name c j) e.stands
+      ∙ and_true (bytes_eq e.entry.name name) (is_number (member (entries_of rows) (is_method name e.entry.params) c) j) ((bytes_eq-Decides e.entry.name name).1 e.named) (is_number_is (member (entries_of rows) (is_method name e.entry.params) c) j e.found)
+
+  -- those that pass are gathered
+  pub passing_gathered : (n : ℕ) → Gathered rows c name n (keys_at rows (calls.passing (calls.is_named (entries_of rows) name c) n))
+  passing_gathered zero = gathered_none rows c name
+  passing_gathered (suc n) = by (calls.is_named (entries_of rows) name c n) refl (passing_gathered n)
+    where
+      js : List ℕ
+      js = calls.passing (calls.is_named (entries_of rows) name c) n
+
+      next : (m k : ℕ) (ks : List MethodKey) → m ≡ k → Gathered rows c name m ks → Gathered rows c name k ks
+      next m k ks e g = subst (λ n. Gathered rows c name n ks) e g
+
+      none_more : (js : List ℕ) → js ++ [] ≡ js
+      none_more [] = refl
+      none_more (j ∷ js) = ap (λ ks. j ∷ ks) (none_more js)
+
+      by : (b : Bool) → calls.is_named (entries_of rows) name c n ≡ b → Gathered rows c name n (keys_at rows js) → Gathered rows c name (suc n) (keys_at rows (js ++ cond b (n ∷ []) []))
+      by true e g = next (n + 1) (suc n) _ (omega arith) (gathered_more rows c name n (keys_at rows js) (keys_at rows (js ++ n ∷ [])) g (tests_named n e) (keys_more rows js n))
+      by false e g = next (n + 1) (suc n) _ (omega arith) (subst (Gathered rows c name (n + 1)) (ap (keys_at rows) (sym (none_more js))) (gathered_same rows c name n (keys_at rows js) g (λ h. let t = named_tests n h in absurd cc)))

@@ -12,7 +12,8 @@ use Rattle.jr_table.specs.Entries.{IsRowOf, number_of, entry_of, entries_of}
 use Rattle.jr_table.specs.Conditions.{AreRows}
 use Rattle.jr_table.specs.Chains.{parent_of, IsAcyclic}
 use Rattle.jr_table.proofs.FirstLaws.{first_is, first_none, get-map}
-use Rattle.jr_table.proofs.Ending.{ParentsStand, acyclic}
+use Rattle.jr_table.specs.Spans.{ParentsStand}
+use Rattle.jr_table.proofs.Ending.{acyclic}
 
 pub some_inside : {A : Type 0} (o : Option A) (a b : A) → o ≡ Some a → o ≡ Some b → a ≡ b
 some_inside o a b h k = let e : Some a ≡ Some b = sym h ∙ k in cc

@@ -23,7 +23,6 @@ pub mod Faults
 pub mod ProgramRows
 pub mod Looking
 pub mod Sample
-pub mod Sought
 pub mod Keeps
 pub mod Wanted
 pub mod Virtual
@@ -53,4 +52,8 @@ pub mod ErrorLists
 pub mod BindingLaws
 pub mod NotingLaws
 pub mod TypesAt
+pub mod ClassIndex
+pub mod MemberIndex
+pub mod Gathering
+pub mod Spans
 pub mod TestedRows

@@ -26,6 +26,16 @@ impl Table {
     pub fn is_subclass_at(&self, sub: u32, sup: u32) -> bool
         ensures { IsTrue result ↔ IsSubclassAt (entries_of self.now) sub sup }
     {
+        match self.spans().is_within(sub, sup) {
+            None => self.climbs_to(sub, sup),
+            Some(is_within) => is_within,
+        }
+    }
+
+    /// The same, by climbing.
+    fn climbs_to(&self, sub: u32, sup: u32) -> bool
+        ensures { IsTrue result ↔ IsSubclassAt (entries_of self.now) sub sup }
+    {
         self.keeps_rows();
         let mut class = sub;
         loop {
@@ -45,7 +55,7 @@ impl Table {
         ensures { result ≡ own_row (entries_of self.now) (passes wanted.now) class }
     {
         self.keeps_rows();
-        first_wanted(self.entries(), class, wanted)
+        first_wanted(self.members(), self.entries(), class, wanted)
     }
 
     /// The row that declares what is looked for in the nearest class upwards.

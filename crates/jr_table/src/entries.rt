@@ -3,7 +3,7 @@ use jr_ast::Name;
 use std::marker::Model;
 
 /// A type (JLS 4.1), `void`, or the type of `null`.
-#[derive(Clone, Copy, PartialEq, Eq, Debug, Drop)]
+#[derive(Clone, Copy, PartialEq, Eq, Hash, Debug, Drop)]
 pub enum Kind {
     Int,
     Boolean,

@@ -3,6 +3,7 @@
 
 mod answers;
 mod binding_laws;
+mod class_index;
 mod classes;
 mod climbing;
 mod copies;
@@ -11,12 +12,16 @@ mod entries;
 mod facts;
 mod first_wanted;
 mod found;
+mod gathering;
 mod keys;
 mod kinds;
 mod lookup_laws;
+mod member_index;
 mod members;
 mod method_lists;
+mod method_number;
 mod noting_laws;
+mod numbered;
 mod numbering;
 mod overloads;
 mod prelude_rows;
@@ -25,7 +30,8 @@ mod rows;
 mod rules;
 #[cfg(test)]
 mod sample;
-mod sought;
+mod signatures;
+mod spans;
 mod table_kinds;
 mod tables;
 #[cfg(test)]

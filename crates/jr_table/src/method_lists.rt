@@ -1,40 +1,18 @@
 //! All member methods of a name.
-ghost use Rattle.std.specs.Prelude.{◌≡◌, ◌↔◌, ℕ, List, IsTrue, IfOk, OnOk};
+ghost use Rattle.std.specs.Prelude.{◌≡◌, IfOk, OnOk};
 ghost use Rattle.std.specs.Prelude.{map, ◌++◌, option_to_list};
 
 use crate::classes::ClassKey;
 use crate::keys::MethodKey;
 use crate::tables::Table;
-use crate::wanted::Wanted;
 use jr_ast::Name;
 use std::alloc::{AllocError, Global};
 
 impl Table {
-    ghost use Rattle.jr_table.specs.declared.entries.Kind.{Kind};
     ghost use Rattle.jr_table.specs.TypeView.{class_key_of};
     ghost use Rattle.jr_table.specs.KeyView.{method_key_of};
-    ghost use Rattle.jr_table.specs.Entries.{entries_of, method_at};
-    ghost use Rattle.jr_table.specs.Members.{IsMemberMethod};
+    ghost use Rattle.jr_table.specs.Entries.{method_at};
     ghost use Rattle.jr_table.specs.MethodLists.{AreMethods};
-
-    /// Whether a row is a member method of the name.
-    fn is_member_method(&self, class: u32, name: &Name, number: u32) -> bool
-        ensures { IsTrue result ↔ ((params : List Kind)
-            × IsMemberMethod (entries_of self.now) name.now params class number) }
-    {
-        self.keeps_rows();
-        let Some(entry) = self.entry(number) else {
-            return false;
-        };
-        if entry.name != *name {
-            return false;
-        }
-        let wanted = Wanted::Method(name.as_str(), entry.params.as_slice());
-        match self.member(class, &wanted) {
-            None => false,
-            Some(found) => found == number,
-        }
-    }
 
     /// Puts the key of a method's row behind the others.
     fn push_method(
@@ -70,10 +48,9 @@ impl Table {
         let Some(class) = self.class_number(class) else {
             return Ok(keys);
         };
-        for number in 0..self.count() {
-            if self.is_member_method(class, name, number) {
-                self.push_method(alloc, number, &mut keys)?;
-            }
+        let numbers = self.methods_named(alloc, class, name.as_str())?;
+        for number in &numbers {
+            self.push_method(alloc, *number, &mut keys)?;
         }
         Ok(keys)
     }

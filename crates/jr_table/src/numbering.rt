@@ -6,13 +6,14 @@ ghost use Rattle.jr_table.specs.TypeView.{class_key_of, ty_of};
 ghost use Rattle.jr_table.specs.KeyView.{decl_of, member_key_of};
 ghost use Rattle.jr_table.specs.RowView.{row_of};
 ghost use Rattle.jr_table.specs.Entries as pure;
+ghost use Rattle.jr_table.specs.ClassIndex.{FindsClasses};
 
+use crate::class_index::ClassIndex;
 use crate::classes::ClassKey;
 use crate::copies::copy_name;
 use crate::decls::{Decl, MemberKey};
 use crate::entries::{Entry, Kind, Kinds, Sort};
 use crate::rows::{Mods, Row};
-use crate::sought::{Sought, find};
 use crate::types::Ty;
 use jr_ast::{ModWord, Name};
 use std::alloc::{AllocError, Global};
@@ -65,18 +66,20 @@ fn name(alloc: Global, decl: &Decl) -> Result<Name, AllocError>
 }
 
 /// The number of a class; where it has no row, a number that no row has.
-fn class_number(rows: &[Row], key: &ClassKey) -> u32
-    requires { length rows.now < 2 ^ 32 }
+fn class_number(rows: &[Row], classes: &ClassIndex, key: &ClassKey) -> u32
+    requires few { length rows.now < 2 ^ 32 }
+    requires found { FindsClasses (map row_of rows.now) classes.now }
     ensures { result ≡ pure.class_number (map row_of rows.now) (class_key_of key.now) }
 {
-    match find(rows, &Sought::Class(key)) {
+    match classes.find(key) {
         None => rows.len() as u32,
         Some(number) => number,
     }
 }
 
-pub(crate) fn kind(rows: &[Row], ty: &Ty) -> Kind
-    requires { length rows.now < 2 ^ 32 }
+pub(crate) fn kind(rows: &[Row], classes: &ClassIndex, ty: &Ty) -> Kind
+    requires few { length rows.now < 2 ^ 32 }
+    requires found { FindsClasses (map row_of rows.now) classes.now }
     ensures { result ≡ pure.kind_of (map row_of rows.now) (ty_of ty.now) }
 {
     match ty {
@@ -84,76 +87,89 @@ pub(crate) fn kind(rows: &[Row], ty: &Ty) -> Kind
         Ty::Boolean => Kind::Boolean,
         Ty::Void => Kind::Void,
         Ty::Null => Kind::Null,
-        Ty::Class(key) => Kind::Class(class_number(rows, key)),
+        Ty::Class(key) => Kind::Class(class_number(rows, classes, key)),
     }
 }
 
-fn maybe_kind(rows: &[Row], ty: &Option<Ty>) -> Option<Kind>
-    requires { length rows.now < 2 ^ 32 }
+fn maybe_kind(rows: &[Row], classes: &ClassIndex, ty: &Option<Ty>) -> Option<Kind>
+    requires few { length rows.now < 2 ^ 32 }
+    requires found { FindsClasses (map row_of rows.now) classes.now }
     ensures { result ≡ option_map (pure.kind_of (map row_of rows.now)) (option_map ty_of ty.now) }
 {
     match ty {
         None => None,
-        Some(ty) => Some(kind(rows, ty)),
+        Some(ty) => Some(kind(rows, classes, ty)),
     }
 }
 
-pub(crate) fn kinds(alloc: Global, rows: &[Row], tys: &[Ty]) -> Result<Kinds, AllocError>
-    requires { length rows.now < 2 ^ 32 }
+pub(crate) fn kinds(
+    alloc: Global,
+    rows: &[Row],
+    classes: &ClassIndex,
+    tys: &[Ty],
+) -> Result<Kinds, AllocError>
+    requires few { length rows.now < 2 ^ 32 }
+    requires found { FindsClasses (map row_of rows.now) classes.now }
     ensures { IfOk result (λ k. k ≡ map (pure.kind_of (map row_of rows.now)) (map ty_of tys.now)) }
 {
     let mut kinds = Vec::new(alloc);
     for ty in tys {
-        kinds.push(kind(rows, ty))?;
+        kinds.push(kind(rows, classes, ty))?;
     }
     Ok(Kinds::from_vec(kinds))
 }
 
-fn params(alloc: Global, rows: &[Row], decl: &Decl) -> Result<Kinds, AllocError>
-    requires { length rows.now < 2 ^ 32 }
+fn params(
+    alloc: Global,
+    rows: &[Row],
+    classes: &ClassIndex,
+    decl: &Decl,
+) -> Result<Kinds, AllocError>
+    requires few { length rows.now < 2 ^ 32 }
+    requires found { FindsClasses (map row_of rows.now) classes.now }
     ensures { IfOk result (λ k.
         k ≡ map (pure.kind_of (map row_of rows.now)) (pure.params_of (decl_of decl.now))) }
 {
     match decl {
-        Decl::Method(key) => kinds(alloc, rows, key.params.as_slice()),
-        Decl::Ctor(key) => kinds(alloc, rows, key.params.as_slice()),
+        Decl::Method(key) => kinds(alloc, rows, classes, key.params.as_slice()),
+        Decl::Ctor(key) => kinds(alloc, rows, classes, key.params.as_slice()),
         Decl::Class(_) => Ok(Kinds::from_vec(Vec::new(alloc))),
         Decl::Field(_) => Ok(Kinds::from_vec(Vec::new(alloc))),
         Decl::Local(_) => Ok(Kinds::from_vec(Vec::new(alloc))),
     }
 }
 
-fn parent(rows: &[Row], key: &Option<ClassKey>) -> Option<u32>
-    requires { length rows.now < 2 ^ 32 }
+fn parent(rows: &[Row], classes: &ClassIndex, key: &Option<ClassKey>) -> Option<u32>
+    requires found { FindsClasses (map row_of rows.now) classes.now }
     ensures { result ≡ option_and_then
         (λ k. pure.number_of (map row_of rows.now) (class_decl k))
         (option_map class_key_of key.now) }
 {
     match key {
         None => None,
-        Some(key) => find(rows, &Sought::Class(key)),
+        Some(key) => classes.find(key),
     }
 }
 
-fn top(rows: &[Row], name: &Option<Name>) -> Option<u32>
-    requires { length rows.now < 2 ^ 32 }
+fn top(rows: &[Row], classes: &ClassIndex, name: &Option<Name>) -> Option<u32>
+    requires found { FindsClasses (map row_of rows.now) classes.now }
     ensures { result ≡ option_and_then
         (λ n. pure.number_of (map row_of rows.now) (pure.top_class n)) name.now }
 {
     match name {
         None => None,
-        Some(name) => find(rows, &Sought::Top(name)),
+        Some(name) => classes.find_top(name),
     }
 }
 
-fn outer(rows: &[Row], decl: &Decl) -> Option<u32>
-    requires { length rows.now < 2 ^ 32 }
+fn outer(rows: &[Row], classes: &ClassIndex, decl: &Decl) -> Option<u32>
+    requires found { FindsClasses (map row_of rows.now) classes.now }
     ensures { result ≡ option_and_then
         (λ n. pure.number_of (map row_of rows.now) (pure.top_class n))
         (pure.outer_name (decl_of decl.now)) }
 {
     match decl {
-        Decl::Class(key) => top(rows, &key.outer),
+        Decl::Class(key) => top(rows, classes, &key.outer),
         Decl::Field(_) => None,
         Decl::Method(_) => None,
         Decl::Ctor(_) => None,
@@ -192,20 +208,21 @@ fn is_private(words: &Mods) -> bool
 }
 
 /// The entry of a row among these.
-fn entry(alloc: Global, rows: &[Row], row: &Row) -> Result<Entry, AllocError>
-    requires { length rows.now < 2 ^ 32 }
+fn entry(alloc: Global, rows: &[Row], classes: &ClassIndex, row: &Row) -> Result<Entry, AllocError>
+    requires few { length rows.now < 2 ^ 32 }
+    requires found { FindsClasses (map row_of rows.now) classes.now }
     ensures { IfOk result (λ e. e ≡ pure.entry_of (map row_of rows.now) (row_of row.now)) }
 {
     let name = name(alloc, &row.decl)?;
-    let params = params(alloc, rows, &row.decl)?;
+    let params = params(alloc, rows, classes, &row.decl)?;
     Ok(Entry {
         sort: sort(&row.decl),
-        class: class_number(rows, class_of(&row.decl)),
+        class: class_number(rows, classes, class_of(&row.decl)),
         name,
         params,
-        kind: maybe_kind(rows, &row.ty),
-        parent: parent(rows, &row.parent),
-        outer: outer(rows, &row.decl),
+        kind: maybe_kind(rows, classes, &row.ty),
+        parent: parent(rows, classes, &row.parent),
+        outer: outer(rows, classes, &row.decl),
         is_static: is_static(&row.modifiers),
         is_private: is_private(&row.modifiers),
     })
@@ -213,13 +230,18 @@ fn entry(alloc: Global, rows: &[Row], row: &Row) -> Result<Entry, AllocError>
 
 /// The entries of the rows.
 #[tactic(auto, unfolding(crate::specs::Entries::entries_of))]
-pub(crate) fn entries(alloc: Global, rows: &[Row]) -> Result<Vec<Entry>, AllocError>
-    requires { length rows.now < 2 ^ 32 }
+pub(crate) fn entries(
+    alloc: Global,
+    rows: &[Row],
+    classes: &ClassIndex,
+) -> Result<Vec<Entry>, AllocError>
+    requires few { length rows.now < 2 ^ 32 }
+    requires found { FindsClasses (map row_of rows.now) classes.now }
     ensures { IfOk result (λ entries. entries.items ≡ pure.entries_of (map row_of rows.now)) }
 {
     let mut entries = Vec::new(alloc);
     for row in rows {
-        let entry = entry(alloc, rows, row)?;
+        let entry = entry(alloc, rows, classes, row)?;
         entries.push(entry)?;
     }
     Ok(entries)

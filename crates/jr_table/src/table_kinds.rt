@@ -4,7 +4,6 @@ ghost use Rattle.std.specs.Prelude.{◌≡◌, IfOk, map};
 use crate::classes::ClassKey;
 use crate::entries::{Kind, Kinds};
 use crate::numbering::{kind, kinds};
-use crate::sought::{Sought, find};
 use crate::tables::Table;
 use crate::types::Ty;
 use jr_ast::Name;
@@ -19,7 +18,7 @@ impl Table {
         ensures { result ≡ kind_of self.now (ty_of ty.now) }
     {
         self.keeps_rows();
-        kind(self.rows(), ty)
+        kind(self.rows(), self.classes(), ty)
     }
 
     /// The types, by the numbers of their classes.
@@ -27,7 +26,7 @@ impl Table {
         ensures { IfOk result (λ k. k ≡ map (kind_of self.now) (map ty_of tys.now)) }
     {
         self.keeps_rows();
-        kinds(alloc, self.rows(), tys)
+        kinds(alloc, self.rows(), self.classes(), tys)
     }
 
     /// The number of a class's row; where it has none, a number that no row has.
@@ -44,7 +43,6 @@ impl Table {
     pub fn top_number(&self, name: &Name) -> Option<u32>
         ensures { result ≡ number_of self.now (top_class name.now) }
     {
-        self.keeps_rows();
-        find(self.rows(), &Sought::Top(name))
+        self.classes().find_top(name)
     }
 }

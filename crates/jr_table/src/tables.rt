@@ -1,12 +1,14 @@
 //! The table of a program's declarations.
 ghost use Rattle.std.specs.Prelude.{◌≡◌, map, length, IfOk, option_map, slice_get};
 
+use crate::class_index::ClassIndex;
 use crate::classes::ClassKey;
 use crate::entries::{Entry, Kind};
-use crate::keys::MethodKey;
+use crate::member_index::members;
 use crate::numbering::entries;
 use crate::rows::Row;
-use crate::sought::{Sought, find};
+use crate::spans::Spans;
+use jr_index::Linked;
 use std::alloc::{AllocError, Global};
 use std::marker::Model;
 
@@ -15,6 +17,9 @@ use std::marker::Model;
 pub struct Table {
     rows: Vec<Row>,
     entries: Vec<Entry>,
+    classes: ClassIndex,
+    members: Linked,
+    spans: Spans,
 }
 
 impl Model for Table {
@@ -27,17 +32,19 @@ impl Model for Table {
 
     ghost view = { λ t. map row_of t.rows.items };
 
-    ghost invariant = { λ t. Keeps (map row_of t.rows.items) t.entries.items };
+    ghost invariant = { λ t. Keeps (map row_of t.rows.items) t.entries.items t.classes t.members t.spans };
 }
 
 impl Table {
     ghost use Rattle.jr_table.specs.TypeView.{class_key_of};
-    ghost use Rattle.jr_table.specs.KeyView.{method_key_of};
     ghost use Rattle.jr_table.specs.RowView.{row_of};
     ghost use Rattle.jr_table.specs.Conditions.{AreRows};
-    ghost use Rattle.jr_table.specs.Decls.{class_decl, method_decl};
+    ghost use Rattle.jr_table.specs.Decls.{class_decl};
     ghost use Rattle.jr_table.specs.Entries.{number_of, entries_of};
     ghost use Rattle.jr_table.specs.Chains.{parent_of, outer_of};
+    ghost use Rattle.jr_table.specs.ClassIndex.{FindsClasses};
+    ghost use Rattle.jr_table.specs.MemberIndex.{LinksMembers};
+    ghost use Rattle.jr_table.specs.Spans.{AreSpans};
 
     /// The table that has exactly these rows, in this order.
     ///
@@ -47,8 +54,17 @@ impl Table {
         requires { AreRows (map row_of rows.items) }
         ensures { IfOk result (λ table. table ≡ map row_of rows.items) }
     {
-        let entries = entries(alloc, &rows)?;
-        Ok(Table { rows, entries })
+        let classes = ClassIndex::of_rows(alloc, &rows)?;
+        let entries = entries(alloc, &rows, &classes)?;
+        let members = members(alloc, &entries)?;
+        let spans = Spans::of_rows(alloc, &entries)?;
+        Ok(Table {
+            rows,
+            entries,
+            classes,
+            members,
+            spans,
+        })
     }
 
     /// The rows, the prelude's in front.
@@ -87,18 +103,32 @@ impl Table {
         self.rows.len() as u32
     }
 
+    /// The classes by their keys.
+    pub(crate) fn classes(&self) -> &ClassIndex
+        ensures { FindsClasses self.now result.now }
+    {
+        &self.classes
+    }
+
+    /// The members of each class by name.
+    pub(crate) fn members(&self) -> &Linked
+        ensures { LinksMembers (entries_of self.now) result.now }
+    {
+        &self.members
+    }
+
+    /// The classes within their superclasses.
+    pub(crate) fn spans(&self) -> &Spans
+        ensures { AreSpans (entries_of self.now) result.now }
+    {
+        &self.spans
+    }
+
     /// The number of a class's row.
     pub fn class_number(&self, key: &ClassKey) -> Option<u32>
         ensures { result ≡ number_of self.now (class_decl (class_key_of key.now)) }
     {
-        find(&self.rows, &Sought::Class(key))
-    }
-
-    /// The number of a method's row.
-    pub fn method_number(&self, key: &MethodKey) -> Option<u32>
-        ensures { result ≡ number_of self.now (method_decl (method_key_of key.now)) }
-    {
-        find(&self.rows, &Sought::Method(key))
+        self.classes.find(key)
     }
 
     /// The superclass of a class.

@@ -1,0 +1,76 @@
+-- Parts of the hierarchy that a value stands for.
+use Rattle.std.proofs.Common.{◌≡◌, ◌<◌, ◌≤◌, ◌+◌, ℕ, Bool, List, [], ◌∷◌, refl, Option, Vec, Global, length, map, option_map, subst, ap, sym, ◌∙◌, arith}
+use Rattle.std.proofs.lemmas.List.{length-map}
+use Rattle.jr_index.specs.Parents.{AreWithin, ComesEarly}
+use Rattle.jr_index.specs.Cycles.{AreOnCycle}
+use Rattle.jr_index.proofs.Early.{early}
+use Rattle.jr_table.specs.Sites.{Site}
+use Rattle.jr_build.specs.declared.hierarchies.Hierarchy.{Hierarchy}
+use Rattle.jr_build.specs.declared.sites.SiteKey.{SiteKey}
+use Rattle.jr_build.specs.KeyIndex.{number_at}
+use Rattle.jr_build.specs.Hierarchies.{class_keys, privates_of, top_parents}
+use Rattle.jr_build.specs.Superclasses.{AreUnique, IsNumbering, HasClasses, KnowsTops, IsHierarchy}
+use Rattle.jr_build.proofs.Numbering.{all_numbered}
+use Rattle.jr_build.proofs.MemberTypes.{within_keys}
+use Rattle.jr_build.proofs.Tops.{tops_known}
+use Rattle.jr_build.specs.SiteView.{site_key_of}
+use Rattle.jr_build.specs.HierarchyView.{keys_of, hierarchy_of}
+
+pub size_is : (h : Hierarchy) → length (hierarchy_of h).keys ≡ length h.keys.items
+unfolding hierarchy_of
+size_is h = length-map h.keys.items (option_map site_key_of)
+
+-- ways upwards come early to what they ever come to
+pub comes_early : (parents : List (Option ℕ)) (n : ℕ) → AreWithin parents n → ComesEarly parents n
+comes_early parents n within = early parents n within
+
+-- no superclass is known yet
+pub has_classes : (sites : List Site) (h : Hierarchy) (row : List (Option SiteKey)) → AreUnique sites → keys_of h.keys.items ≡ class_keys sites → h.privates.items ≡ privates_of sites
+    → row ≡ h.keys.items → IsNumbering (keys_of row) (length row) (number_at h.index) → HasClasses sites (hierarchy_of h)
+unfolding hierarchy_of
+has_classes sites h row unique keys privates same numbering =
+    let mine : IsNumbering (keys_of h.keys.items) (length h.keys.items) (number_at h.index) =
+    subst (λ (r : List (Option SiteKey)). IsNumbering (keys_of r) (length r) (number_at h.index)) same numbering in
+    record {
+      unique = unique;
+      keys = keys;
+      privates = privates;
+      finds = all_numbered (keys_of h.keys.items) (length h.keys.items) (number_at h.index) (simp length-map (omega arith)) mine;
+    }
+
+pub parents_size : (h : Hierarchy) (n : ℕ) → n < length (hierarchy_of h).parents → n < length h.parents.items
+unfolding hierarchy_of
+parents_size h n lt = lt
+
+-- the superclasses of top-level classes are put in
+pub knows_tops : (sites : List Site) (h : Hierarchy) (parents : Vec (Option ℕ) Global) → HasClasses sites (hierarchy_of h) → parents.items ≡ top_parents (hierarchy_of h) sites
+    → KnowsTops sites (hierarchy_of (record { keys = h.keys; privates = h.privates; index = h.index; parents = parents }))
+unfolding hierarchy_of
+knows_tops sites h parents has row =
+    tops_known sites (hierarchy_of (record { keys = h.keys; privates = h.privates; index = h.index; parents = parents }))
+    (record { unique = has.unique; keys = has.keys; privates = has.privates; finds = has.finds }) row
+
+-- how many numbers there are
+counted : (sites : List Site) → length (class_keys sites) ≡ length sites + 4
+counted [] = refl
+counted (s ∷ ss) = let e = counted ss in omega (arith, e)
+
+module _ (sites : List Site) (h : Hierarchy) (is : IsHierarchy sites (hierarchy_of h)) where
+  pub parents_counted : length h.parents.items ≡ length sites + 4
+  unfolding hierarchy_of
+  parents_counted = is.tops.size ∙ ap length is.tops.classes.keys ∙ counted sites
+
+  pub parents_within : AreWithin h.parents.items (length h.parents.items)
+  unfolding hierarchy_of
+  parents_within = λ j p e. let l = within_keys sites (hierarchy_of h) comes_early is.tops j p e in let s = is.tops.size in omega (arith, l, s)
+
+  -- of a row that is the superclasses
+  pub row_within : (row : List (Option ℕ)) → row ≡ h.parents.items → AreWithin row (length row)
+  row_within row same = subst (λ (r : List (Option ℕ)). AreWithin r (length r)) (sym same) parents_within
+
+  pub row_counted : (row : List (Option ℕ)) → row ≡ h.parents.items → length row ≡ length sites + 4
+  row_counted row same = ap length same ∙ parents_counted
+
+  pub row_on_cycle : (row : List (Option ℕ)) (on : List Bool) → row ≡ h.parents.items → AreOnCycle row on → AreOnCycle (hierarchy_of h).parents on
+  unfolding hierarchy_of
+  row_on_cycle row on same k = subst (λ (r : List (Option ℕ)). AreOnCycle r on) same k

@@ -1,0 +1,14 @@
+pub mod SiteView
+pub mod Places
+pub mod Gathers
+pub mod Fitting
+pub mod Packages
+pub mod KeyIndex
+pub mod SiteFaults
+pub mod Hierarchies
+pub mod HierarchyView
+pub mod Superclasses
+pub mod TypeFaults
+pub mod Signatures
+pub mod ExactRows
+pub mod Heads

@@ -1,0 +1,128 @@
+//! Classes by numbers, with the superclass of each.
+use crate::key_index::KeyIndex;
+use crate::sites::SiteKey;
+
+/// The classes of a program and the prelude.
+///
+/// A class of the program has the number of its site, and the prelude's stand behind all sites.
+#[derive(Drop)]
+pub(crate) struct Hierarchy<'a> {
+    /// The class of each number; none where the site declares no class.
+    pub(crate) keys: Vec<Option<SiteKey<'a>>>,
+    pub(crate) privates: Vec<bool>,
+    pub(crate) index: KeyIndex<'a>,
+    /// The superclass of each class, as far as it is known.
+    pub(crate) parents: Vec<Option<u32>>,
+}
+
+impl<'a> Hierarchy<'a> {
+    ghost use Rattle.std.specs.Prelude.{◌≡◌, option_map};
+    ghost use Rattle.jr_table.specs.Prelude.{top_key};
+    ghost use Rattle.jr_build.specs.SiteView.{site_key_of};
+    ghost use Rattle.jr_build.specs.HierarchyView.{hierarchy_of};
+    ghost use Rattle.jr_build.specs.Hierarchies as pure;
+
+    /// The number of a class.
+    #[tactic(auto, unfolding(crate::specs::HierarchyView::hierarchy_of))]
+    pub(crate) fn number(&self, class: &SiteKey<'a>) -> Option<u32>
+        ensures { result ≡ (hierarchy_of self.now).number (site_key_of class.now) }
+    {
+        self.index.find(class)
+    }
+
+    /// The number of a class that is no member class.
+    pub(crate) fn top(&self, name: &'a str) -> Option<u32>
+        ensures { result ≡ (hierarchy_of self.now).number (top_key name.now) }
+    {
+        self.number(&SiteKey { outer: None, name })
+    }
+
+    /// The number of a member class.
+    pub(crate) fn inner(&self, outer: &'a str, name: &'a str) -> Option<u32>
+        ensures { result ≡ (hierarchy_of self.now).number (pure.inner_key outer.now name.now) }
+    {
+        self.number(&SiteKey {
+            outer: Some(outer),
+            name,
+        })
+    }
+
+    /// The class of a number.
+    #[tactic(auto, unfolding(crate::specs::HierarchyView::hierarchy_of))]
+    pub(crate) fn key_at(&self, number: u32) -> Option<SiteKey<'a>>
+        ensures { option_map site_key_of result ≡ pure.key_at (hierarchy_of self.now) number }
+    {
+        match self.keys.get(number as usize) {
+            None => None,
+            Some(key) => *key,
+        }
+    }
+
+    /// The superclass of a number, as far as it is known.
+    #[tactic(auto, unfolding(crate::specs::HierarchyView::hierarchy_of))]
+    pub(crate) fn parent_at(&self, number: u32) -> Option<u32>
+        ensures { result ≡ pure.parent_at (hierarchy_of self.now) number }
+    {
+        match self.parents.get(number as usize) {
+            None => None,
+            Some(parent) => *parent,
+        }
+    }
+
+    /// Whether a class is private.
+    #[tactic(auto, unfolding(crate::specs::HierarchyView::hierarchy_of))]
+    fn is_private_at(&self, number: u32) -> bool
+        ensures { result ≡ pure.is_private_at (hierarchy_of self.now) number }
+    {
+        match self.privates.get(number as usize) {
+            None => false,
+            Some(is_private) => *is_private,
+        }
+    }
+
+    /// The member class that a class declares, where that is a top-level class.
+    pub(crate) fn own(&self, class: &SiteKey<'a>, name: &'a str) -> Option<u32>
+        ensures { result ≡ pure.own (hierarchy_of self.now) (site_key_of class.now) name.now }
+    {
+        match class.outer {
+            None => self.inner(class.name, name),
+            Some(_) => None,
+        }
+    }
+
+    /// The member class that the class of a number declares.
+    pub(crate) fn own_at(&self, class: u32, name: &'a str) -> Option<u32>
+        ensures { result ≡ pure.own_at (hierarchy_of self.now) name.now class }
+    {
+        match self.key_at(class) {
+            None => None,
+            Some(class) => self.own(&class, name),
+        }
+    }
+
+    /// What a class hands down: nothing, where it is private (JLS 8.5).
+    pub(crate) fn inherited(&self, class: Option<u32>) -> Option<u32>
+        ensures { result ≡ pure.inherited (hierarchy_of self.now) class }
+    {
+        match class {
+            None => None,
+            Some(class) => {
+                if self.is_private_at(class) {
+                    None
+                } else {
+                    Some(class)
+                }
+            }
+        }
+    }
+
+    /// The superclass of a class, as far as it is known.
+    pub(crate) fn parent_of(&self, class: &SiteKey<'a>) -> Option<u32>
+        ensures { result ≡ pure.parent_of (hierarchy_of self.now) (site_key_of class.now) }
+    {
+        match self.number(class) {
+            None => None,
+            Some(class) => self.parent_at(class),
+        }
+    }
+}

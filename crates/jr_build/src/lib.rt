@@ -1,0 +1,28 @@
+//! The table of a program, from its trees: sites, faults of declarations, rows.
+#![tactic(auto)]
+
+mod build_laws;
+mod class_faults;
+mod class_numbers;
+mod faults;
+mod gathering;
+mod hierarchies;
+mod key_index;
+mod laws;
+mod meanings;
+mod member_types;
+mod member_words;
+mod owned;
+mod packages;
+mod places;
+mod program_rows;
+mod signatures;
+mod site_faults;
+mod site_parts;
+mod sites;
+mod superclasses;
+mod twice_classes;
+mod twice_members;
+mod type_faults;
+
+pub use faults::BuildFault;

@@ -1,0 +1,127 @@
+//! What members are told apart by, and numbers by it.
+ghost use Rattle.std.specs.Prelude.{◌≡◌, IfOk, Option, Some, map, option_map};
+ghost use Rattle.jr_build.specs.Hierarchies.{meaning};
+ghost use Rattle.jr_build.specs.HierarchyView.{hierarchy_of, meaning_of};
+ghost use Rattle.jr_build.specs.Signatures.{signature_view, meanings, signature_of};
+ghost use Rattle.jr_build.specs.SiteView.{text_of, site_key_of, param_site_of, item_of};
+
+use crate::hierarchies::Hierarchy;
+use crate::meanings::{Meaning, means};
+use crate::sites::{ParamSite, SiteItem, SiteKey};
+use std::alloc::{AllocError, Global};
+use std::collections::HashMap;
+
+/// A member's class, its name and the types of its parameters. A constructor has no name, and a
+/// field no parameters.
+#[derive(PartialEq, Eq, Hash, Drop)]
+pub(crate) struct Signature<'a> {
+    of: SiteKey<'a>,
+    name: Option<&'a str>,
+    params: Option<Vec<Meaning<'a>>>,
+}
+
+/// What the types of parameters mean in a class, if each means something.
+pub(crate) fn meanings_of<'a>(
+    alloc: Global,
+    h: &Hierarchy<'a>,
+    of: &SiteKey<'a>,
+    params: &[ParamSite<'a>],
+) -> Result<Option<Vec<Meaning<'a>>>, AllocError>
+    ensures { IfOk result (λ r. option_map (λ v. map meaning_of v.items) r
+        ≡ meanings (hierarchy_of h.now) (site_key_of of.now) (map param_site_of params.now)) }
+{
+    let mut list = Vec::new(alloc);
+    for param in params {
+        let Some(meaning) = means(h, of, &param.written) else {
+            return Ok(None);
+        };
+        list.push(meaning)?;
+    }
+    Ok(Some(list))
+}
+
+/// The signature of a member with these parameters, if each of their types means something.
+fn with_params<'a>(
+    of: &SiteKey<'a>,
+    name: Option<&'a str>,
+    params: Option<Vec<Meaning<'a>>>,
+) -> Option<Signature<'a>>
+    ensures { option_map signature_view result ≡ option_map (λ ts. record {
+      of = site_key_of of.now;
+      name = option_map text_of name.entry;
+      params = Some ts;
+    }) (option_map (λ v. map meaning_of v.items) params.entry) }
+{
+    match params {
+        None => None,
+        Some(params) => Some(Signature {
+            of: *of,
+            name,
+            params: Some(params),
+        }),
+    }
+}
+
+/// The signature of a field, a method or a constructor, if each type in it means something.
+pub(crate) fn item_signature<'a>(
+    alloc: Global,
+    h: &Hierarchy<'a>,
+    item: &SiteItem<'a>,
+) -> Result<Option<Signature<'a>>, AllocError>
+    ensures { IfOk result (λ s. option_map signature_view s
+        ≡ signature_of (hierarchy_of h.now) (item_of item.now)) }
+{
+    match item {
+        SiteItem::Class(_) => Ok(None),
+        SiteItem::Field(field) => Ok(Some(Signature {
+            of: field.of,
+            name: Some(field.name),
+            params: None,
+        })),
+        SiteItem::Method(method) => {
+            let params = meanings_of(alloc, h, &method.of, &method.params)?;
+            Ok(with_params(&method.of, Some(method.name), params))
+        }
+        SiteItem::Ctor(ctor) => {
+            let params = meanings_of(alloc, h, &ctor.of, &ctor.params)?;
+            Ok(with_params(&ctor.of, None, params))
+        }
+    }
+}
+
+/// Numbers by signatures.
+#[derive(Drop)]
+pub(crate) struct SignatureIndex<'a> {
+    numbers: HashMap<Signature<'a>, u32>,
+}
+
+impl<'a> SignatureIndex<'a> {
+    ghost use Rattle.std.specs.Prelude.{◌≡◌, None, IfOk, OnOk, option_map, option_and_then};
+    ghost use Rattle.jr_build.specs.declared.signatures.Signature as raw;
+    ghost use Rattle.jr_build.specs.Signatures.{number_under, PutsSignature};
+
+    /// No signatures.
+    pub(crate) fn new(alloc: Global) -> SignatureIndex<'a>
+        ensures { (s : raw.Signature) → number_under result s ≡ None }
+    {
+        SignatureIndex {
+            numbers: HashMap::new(alloc),
+        }
+    }
+
+    /// Puts the number under the signature, if there is one, and answers the one before.
+    pub(crate) fn put(
+        &mut self,
+        signature: Option<Signature<'a>>,
+        number: u32,
+    ) -> Result<Option<u32>, AllocError>
+        ensures before { IfOk result (λ before. before ≡ option_and_then (number_under self.old) signature.entry) }
+        ensures put { OnOk result (PutsSignature self.old signature.entry number self.new) }
+    {
+        let Some(signature) = signature else {
+            return Ok(None);
+        };
+        let before = self.numbers.insert(signature, number)?;
+        Ok(before)
+    }
+}

@@ -1,0 +1,148 @@
+//! Classes that are declared twice, and classes that have the name of a field or method beside them.
+ghost use Rattle.std.specs.Prelude.{◌≡◌, ◌<◌, ◌^◌, ◌↔◌, IsTrue, IfOk, List, Option, length, map, option_map};
+ghost use Rattle.jr_table.specs.declared.kinds.DeclKind.TheVariants as kind;
+ghost use Rattle.jr_table.specs.Faults.{PackageLine, HasFault, IsNamedAsOuter};
+ghost use Rattle.jr_build.specs.KeyIndex.{class_key_at, key_in, name_key_at, IsIndexOf};
+ghost use Rattle.jr_build.specs.Places.{place_of, IsEarliest};
+ghost use Rattle.jr_build.specs.SiteFaults.{named_twice, twice_of, member_named};
+ghost use Rattle.jr_build.specs.SiteView.{site_key_of, item_of, site_of};
+
+use crate::key_index::KeyIndex;
+use crate::places::{earlier, in_file};
+use crate::sites::{Site, SiteItem, SiteKey};
+use jr_text::Place;
+use std::alloc::{AllocError, Global};
+
+/// Whether a class has the name of the class that it is a member of.
+fn is_named_as_outer(key: &SiteKey<'_>) -> bool
+    ensures { IsTrue result ↔ IsNamedAsOuter (site_key_of key.now) }
+{
+    match key.outer {
+        None => false,
+        Some(outer) => outer == key.name,
+    }
+}
+
+/// Where a class is at fault of which another was under its key before, or wasn't.
+fn class_twice_at(key: &SiteKey<'_>, at: u32, before: Option<u32>) -> Option<u32>
+    ensures { result ≡ named_twice (site_key_of key.now) at before }
+{
+    match before {
+        Some(_) => Some(at),
+        None => {
+            if is_named_as_outer(key) {
+                Some(at)
+            } else {
+                None
+            }
+        }
+    }
+}
+
+/// Where an item is a class that is declared twice.
+fn twice_at(item: &SiteItem<'_>, before: Option<u32>) -> Option<u32>
+    ensures { result ≡ twice_of (item_of item.now) before }
+{
+    match item {
+        SiteItem::Class(class) => class_twice_at(&class.key, class.at, before),
+        SiteItem::Field(_) | SiteItem::Method(_) | SiteItem::Ctor(_) => None,
+    }
+}
+
+/// The class that an item declares.
+pub(crate) fn class_key<'a>(item: &SiteItem<'a>) -> Option<SiteKey<'a>>
+    ensures { option_map site_key_of result ≡ class_key_at (item_of item.now) }
+{
+    match item {
+        SiteItem::Class(class) => Some(class.key),
+        SiteItem::Field(_) | SiteItem::Method(_) | SiteItem::Ctor(_) => None,
+    }
+}
+
+/// The earliest class that is declared a second time, or that has the name of the class around it.
+pub(crate) fn twice_class(alloc: Global, sites: &[Site<'_>]) -> Result<Option<Place>, AllocError>
+    requires { length sites.now < 2 ^ 32 }
+    ensures { IfOk result (λ place. (packages : List (Option PackageLine)) →
+        IsEarliest (HasFault packages (map site_of sites.now) kind.TwiceClass)
+        (option_map place_of place)) }
+{
+    let mut index = KeyIndex::new(alloc);
+    let mut first = None;
+    for (number, site) in sites.iter().enumerate() {
+        let before = index.put_maybe(&class_key(&site.item), number as u32)?;
+        first = earlier(first, in_file(site.file, twice_at(&site.item, before)));
+    }
+    Ok(first)
+}
+
+/// The key that a member class of this name would have, where the class around it is this one.
+fn member_key<'a>(of: &SiteKey<'a>, name: &'a str) -> Option<SiteKey<'a>>
+    ensures { option_map site_key_of result
+        ≡ key_in (site_key_of of.now).outer (site_key_of of.now).name name.now }
+{
+    match of.outer {
+        None => Some(SiteKey {
+            outer: Some(of.name),
+            name,
+        }),
+        Some(_) => None,
+    }
+}
+
+/// The key that a member class of a field's or method's name would have.
+fn name_key<'a>(item: &SiteItem<'a>) -> Option<SiteKey<'a>>
+    ensures { option_map site_key_of result ≡ name_key_at (item_of item.now) }
+{
+    match item {
+        SiteItem::Field(field) => member_key(&field.of, field.name),
+        SiteItem::Method(method) => member_key(&method.of, method.name),
+        SiteItem::Class(_) | SiteItem::Ctor(_) => None,
+    }
+}
+
+/// The fields and methods of top-level classes by their names.
+fn names_of_members<'a>(alloc: Global, sites: &[Site<'a>]) -> Result<KeyIndex<'a>, AllocError>
+    requires { length sites.now < 2 ^ 32 }
+    ensures { IfOk result (λ index.
+        IsIndexOf name_key_at (map site_of sites.now) (length sites.now) index) }
+{
+    let mut index = KeyIndex::new(alloc);
+    for (number, site) in sites.iter().enumerate() {
+        index.put_maybe(&name_key(&site.item), number as u32)?;
+    }
+    Ok(index)
+}
+
+/// Where an item is a class that has the name of a field or method of the class around it.
+fn member_named_at<'a>(index: &KeyIndex<'a>, item: &SiteItem<'a>) -> Option<u32>
+    ensures { result ≡ member_named index.now (item_of item.now) }
+{
+    match item {
+        SiteItem::Class(class) => match index.find(&class.key) {
+            None => None,
+            Some(_) => Some(class.at),
+        },
+        SiteItem::Field(_) | SiteItem::Method(_) | SiteItem::Ctor(_) => None,
+    }
+}
+
+/// The earliest member class that has the name of a field or method of the class around it.
+pub(crate) fn member_type_name(
+    alloc: Global,
+    sites: &[Site<'_>],
+) -> Result<Option<Place>, AllocError>
+    requires { length sites.now < 2 ^ 32 }
+    ensures { IfOk result (λ place. (packages : List (Option PackageLine)) →
+        IsEarliest (HasFault packages (map site_of sites.now) kind.MemberTypeName)
+        (option_map place_of place)) }
+{
+    let index = names_of_members(alloc, sites)?;
+    let mut first = None;
+    for site in sites {
+        first = earlier(
+            first,
+            in_file(site.file, member_named_at(&index, &site.item)),
+        );
+    }
+    Ok(first)
+}

@@ -1,0 +1,90 @@
+//! Members that are declared twice, and parameters of one name.
+ghost use Rattle.std.specs.Prelude.{◌≡◌, ◌<◌, ◌^◌, IfOk, List, Option, length, map, option_map};
+ghost use Rattle.jr_table.specs.declared.kinds.DeclKind.TheVariants as kind;
+ghost use Rattle.jr_table.specs.Faults as faults;
+ghost use Rattle.jr_table.specs.Faults.{PackageLine, HasFault, ParamTwice};
+ghost use Rattle.jr_build.specs.HierarchyView.{hierarchy_of};
+ghost use Rattle.jr_build.specs.Places.{place_of, IsEarliest};
+ghost use Rattle.jr_build.specs.Signatures.{member_twice};
+ghost use Rattle.jr_build.specs.SiteFaults.{IsLeastAt};
+ghost use Rattle.jr_build.specs.SiteView.{param_site_of, item_of, site_of};
+ghost use Rattle.jr_build.specs.TypeFaults.{KnowsMeanings};
+
+use crate::hierarchies::Hierarchy;
+use crate::places::{earlier, in_file};
+use crate::signatures::{SignatureIndex, item_signature};
+use crate::site_faults::name_place;
+use crate::sites::{ParamSite, Site, SiteItem};
+use crate::type_faults::lesser_of;
+use jr_index::Names;
+use jr_text::Place;
+use std::alloc::{AllocError, Global};
+
+/// Where an item is at fault of which another was under its signature before, or wasn't.
+fn member_twice_at(item: &SiteItem<'_>, before: Option<u32>) -> Option<u32>
+    ensures { result ≡ member_twice (item_of item.now) before }
+{
+    match before {
+        None => None,
+        Some(_) => Some(name_place(item)),
+    }
+}
+
+/// The place, if there is a number.
+fn place_if(before: Option<u32>, at: u32) -> Option<u32>
+    ensures { result ≡ option_map (λ w. at) before }
+{
+    match before {
+        None => None,
+        Some(_) => Some(at),
+    }
+}
+
+/// Where the first parameter stands that has the name of an earlier one.
+fn param_twice(alloc: Global, params: &[ParamSite<'_>]) -> Result<Option<u32>, AllocError>
+    ensures { IfOk result (λ at. IsLeastAt (ParamTwice (map param_site_of params.now)) at) }
+{
+    let mut names = Names::new(alloc);
+    let mut least = None;
+    for param in params {
+        let before = names.put(param.name, param.at)?;
+        least = lesser_of(least, place_if(before, param.at));
+    }
+    Ok(least)
+}
+
+/// The parameters of an item.
+fn params_of<'s, 'a>(item: &'s SiteItem<'a>) -> &'s [ParamSite<'a>]
+    ensures { map param_site_of result.now ≡ faults.params_of (item_of item.now) }
+{
+    match item {
+        SiteItem::Method(method) => &method.params,
+        SiteItem::Ctor(ctor) => &ctor.params,
+        SiteItem::Class(_) | SiteItem::Field(_) => &[],
+    }
+}
+
+/// The earliest member that declares what an earlier one does, or parameter that has the name of
+/// an earlier one.
+pub(crate) fn twice_member<'a>(
+    alloc: Global,
+    sites: &[Site<'a>],
+    h: &Hierarchy<'a>,
+) -> Result<Option<Place>, AllocError>
+    requires few { length sites.now < 2 ^ 32 }
+    requires known { KnowsMeanings (map site_of sites.now) (hierarchy_of h.now) }
+    ensures { IfOk result (λ place. (packages : List (Option PackageLine)) →
+        IsEarliest (HasFault packages (map site_of sites.now) kind.TwiceMember)
+        (option_map place_of place)) }
+{
+    let mut index = SignatureIndex::new(alloc);
+    let mut first = None;
+    for (number, site) in sites.iter().enumerate() {
+        let signature = item_signature(alloc, h, &site.item)?;
+        let before = index.put(signature, number as u32)?;
+        let in_params = param_twice(alloc, params_of(&site.item))?;
+        let at = lesser_of(member_twice_at(&site.item, before), in_params);
+        first = earlier(first, in_file(site.file, at));
+    }
+    Ok(first)
+}
