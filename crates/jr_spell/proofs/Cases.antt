@@ -1,10 +1,9 @@
 -- The table, the texts and the words, on small examples.
-use Rattle.std.proofs.Common.{◌≡◌, List, [], ◌∷◌, Some, None, refl}
+use Rattle.std.proofs.Common.{◌≡◌, [], ◌∷◌, Some, None, refl}
 use Rattle.std.specs.Prelude.{codes}
 use Rattle.jr_table.specs.Keys.{class}
-use Rattle.jr_table.specs.Decls.{Decl, class_decl, field_decl, method_decl}
+use Rattle.jr_table.specs.Decls.{Decl, class_decl, field_decl}
 use Rattle.jr_table.specs.Prelude.{top_key}
-use Rattle.jr_spell.specs.declared.references.RefForm.{RefForm}
 use Rattle.jr_spell.specs.declared.references.RefForm.TheVariants as ref
 use Rattle.jr_spell.specs.declared.spellings.Form.TheVariants.{Asked, OnThis, OnSuper, OnCastThis, OnCastOperand, OnClass, OnOuterClass, Class, OuterClass}
 use Rattle.jr_spell.specs.References.{Reference}

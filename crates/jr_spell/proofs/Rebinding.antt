@@ -1,23 +1,22 @@
 -- Spellings that bind, bound again.
 use Rattle.std.proofs.Common.{◌≡◌, ℕ, List, Option, Some, None, false, refl, sym, ap, subst, ◌∙◌, inl, inr}
-use Rattle.std.specs.Prelude.{◌⊎◌}
 use Rattle.jr_ast.specs.Tree as tree
 use Rattle.jr_table.specs.Keys.{ClassKey, Ty, int, boolean, void, null, class}
 use Rattle.jr_table.specs.Decls.{Decl, class_decl, field_decl, method_decl, constructor_decl, local_decl}
 use Rattle.jr_table.specs.Rows.{Row}
 use Rattle.jr_table.specs.Entries.{class_of}
-use Rattle.jr_table.specs.Found.{Found, one, nothing}
+use Rattle.jr_table.specs.Found.{one}
 use Rattle.jr_table.specs.Lookup.{FindsVariable, FindsFieldIn, FindsMethodNamed, FindsMethodOf, FindsLeft, FindsLeftOf}
 use Rattle.jr_table.specs.LookupLaws.{EachHasOne}
-use Rattle.jr_table.specs.Context.{Context, scope_of, NamesClass, WritesType, IsStaticDecl, IsInstanceDecl, IsSuperclass}
-use Rattle.jr_table.specs.Binding.{HasType, IsClassName, HaveTypes, TargetFinds, FieldFinds, CallFinds, SuperFieldFinds, SuperCallFinds}
+use Rattle.jr_table.specs.Context.{Context, scope_of, NamesClass, WritesType, IsSuperclass}
+use Rattle.jr_table.specs.Binding.{HasType, IsClassName, HaveTypes, TargetFinds, CallFinds}
 use Rattle.jr_table.specs.BindingLaws.{IsBound}
 use Rattle.jr_spell.specs.declared.references.RefForm.{RefForm}
 use Rattle.jr_spell.specs.declared.references.RefForm.TheVariants as ref
 use Rattle.jr_spell.specs.declared.spellings.Form.{Form}
 use Rattle.jr_spell.specs.declared.spellings.Form.TheVariants.{Asked, OnThis, OnSuper, OnCastThis, OnCastOperand, OnClass, OnOuterClass, Class, OuterClass}
 use Rattle.jr_spell.specs.References.{Operand, Reference, class_of_type, class_of_operand, text_of_operand}
-use Rattle.jr_spell.specs.Binds.{LeadsTo, FindsMember, ThroughValue, ThroughClass, ThroughCast, ThroughSuperclass, BindsAlone, BindsAsked, Binds, front_word, last_word}
+use Rattle.jr_spell.specs.Binds.{LeadsTo, ThroughValue, ThroughClass, ThroughCast, ThroughSuperclass, BindsAlone, BindsAsked, Binds, front_word, last_word}
 use Rattle.jr_spell.specs.Rebound.{IsVariable, IsCall, IsMemberOn, IsMemberOfSuper, IsThis, IsCast, IsClassWords, IsTypeWords, IsAloneTree, IsAskedTree, IsTree, IsAskedType, IsTypeTree, Fits, IsRebound, AreFronts}
 use Rattle.jr_spell.proofs.Shapes.{name_rebound, call_rebound, field_rebound, call_on_rebound, class_field_rebound, class_call_rebound, super_field_rebound, super_call_rebound}
 

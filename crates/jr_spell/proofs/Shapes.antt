@@ -1,18 +1,16 @@
 -- Each shape of a reference, bound again.
-use Rattle.std.proofs.Common.{◌≡◌, ℕ, List, Option, Some, None, Bool, true, false, refl, sym, ap, subst, ◌∙◌, inl, inr}
-use Rattle.std.specs.Prelude.{◌⊎◌, ◌↔◌}
+use Rattle.std.proofs.Common.{◌≡◌, ℕ, List, Some, true, false, refl, sym, subst, ◌∙◌, inl, inr}
 use Rattle.jr_ast.specs.Tree as tree
-use Rattle.jr_table.specs.Keys.{ClassKey, Ty, class}
-use Rattle.jr_table.specs.Decls.{Decl, class_decl}
+use Rattle.jr_table.specs.Keys.{ClassKey}
+use Rattle.jr_table.specs.Decls.{Decl}
 use Rattle.jr_table.specs.Rows.{Row}
 use Rattle.jr_table.specs.Found.{Found, one, nothing}
-use Rattle.jr_table.specs.Lookup.{FindsVariable, FindsFieldIn, FindsMethodNamed, FindsMethodOf, FindsLeft, FindsLeftOf}
-use Rattle.jr_table.specs.LookupLaws.{Decided, HasOne, EachHasOne}
-use Rattle.jr_table.specs.Context.{Context, scope_of, IsStaticDecl, IsInstanceDecl, IsSuperclass}
-use Rattle.jr_table.specs.Binding.{HasType, IsClassName, HaveTypes, TargetFinds, IsOn, FieldFinds, SuperFieldFinds, CallFinds, SuperCallFinds, Role, value, left, statement, Sought, variable, type, method, word_at, DottedFinds, Refers, BindsItself}
-use Rattle.jr_table.specs.Meanings.{class_name_of, class_on, types_of, field_found, call_found, target_found, own_superclass}
+use Rattle.jr_table.specs.Lookup.{FindsVariable, FindsFieldIn, FindsLeft, FindsLeftOf}
+use Rattle.jr_table.specs.LookupLaws.{Decided, EachHasOne}
+use Rattle.jr_table.specs.Context.{Context, scope_of, IsStaticDecl, IsInstanceDecl}
+use Rattle.jr_table.specs.Binding.{IsClassName, FieldFinds, SuperFieldFinds, CallFinds, SuperCallFinds, Role, value, left, statement, Sought, variable, type, method, word_at, DottedFinds, Refers, BindsItself}
 use Rattle.jr_table.specs.BindingLaws.{IsBound}
-use Rattle.jr_table.specs.ExpressionRules.{IsFromStatic, NamesObject, StaticContext, StaticThroughValue, InstanceThroughType}
+use Rattle.jr_table.specs.ExpressionRules.{IsFromStatic, NamesObject, StaticContext}
 use Rattle.jr_spell.specs.Rebound.{IsRebound}
 
 -- two answers of what is decided are one

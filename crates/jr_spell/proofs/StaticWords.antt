@@ -1,10 +1,10 @@
 -- Whether the row that is found declares an instance member.
-use Rattle.std.proofs.Common.{◌≡◌, ℕ, zero, suc, List, [], ◌∷◌, Option, Some, None, Bool, true, false, refl, sym, ap, subst, ◌∙◌, map}
+use Rattle.std.proofs.Common.{◌≡◌, ℕ, zero, suc, List, [], ◌∷◌, Option, Some, None, Bool, true, false, refl, sym, ap, ◌∙◌, map}
 use Rattle.std.specs.Prelude.{◌↔◌, ◌&&◌, not, IsTrue, slice_get, option_map}
 use Rattle.std.specs.List.{list_any}
 use Rattle.jr_table.specs.Decls.{Decl}
 use Rattle.jr_table.specs.Rows.{Row}
-use Rattle.jr_table.specs.Found.{one, nothing}
+use Rattle.jr_table.specs.Found.{one}
 use Rattle.jr_table.specs.Entries.{IsRowOf, entry_of, entries_of, is_static_word}
 use Rattle.jr_table.specs.Access.{is_instance_entry, is_instance_at}
 use Rattle.jr_table.specs.Lookup.{shown_one, decl_at}

@@ -1,7 +1,7 @@
 -- A spelling read again: its tree, and what binding says of that.
 use Rattle.std.specs.Prelude.{◌≡◌, ℕ, List, Option, Some, None}
 use Rattle.jr_ast.specs.Tree as tree
-use Rattle.jr_table.specs.Keys.{ClassKey, Ty, class}
+use Rattle.jr_table.specs.Keys.{ClassKey, class}
 use Rattle.jr_table.specs.Decls.{
   Decl,
   class_decl,

@@ -1,14 +1,11 @@
-use Rattle.std.proofs.Common.{◌≡◌, ◌↔◌, IsTrue, Option, Some, None, refl, sym, ap, subst, ◌∙◌, map}
-use Rattle.std.specs.Prelude.{option_map}
-use Rattle.jr_table.specs.TypeView.{class_key_of, ty_of}
-use Rattle.jr_table.specs.KeyView.{decl_of, local_key_of}
-use Rattle.jr_table.specs.Entries.{entries_of, class_number, class_of}
-use Rattle.jr_table.specs.Found.{one, nothing}
+use Rattle.std.proofs.Common.{◌≡◌, Some, sym, ap, subst, ◌∙◌}
+use Rattle.jr_table.specs.TypeView.{class_key_of}
+use Rattle.jr_table.specs.KeyView.{decl_of}
+use Rattle.jr_table.specs.Entries.{class_of}
 use Rattle.jr_lookup.specs.ScopeView.{scope_of}
-use Rattle.std.specs.Result.{IfOk}
 use Rattle.jr_table.specs.Keys.{ClassKey}
 use Rattle.jr_spell.specs.ReferenceView.{reference_of}
-use Rattle.jr_spell.proofs.Deciding.{never, ok_along, refuted, both_true, along}
+use Rattle.jr_spell.proofs.Deciding.{never, ok_along, refuted}
 use Rattle.jr_spell.specs.Binds.{LeadsTo, ThroughClass, BindsOnOuterClass}
 use Rattle.jr_spell.proofs.binding.on_outer_class.Goals as goal
 

@@ -1,15 +1,8 @@
-use Rattle.std.proofs.Common.{◌≡◌, ◌↔◌, IsTrue, Option, Some, None, refl, sym, ap, subst, ◌∙◌, map}
-use Rattle.std.specs.Prelude.{option_map}
-use Rattle.jr_table.specs.TypeView.{class_key_of, ty_of}
-use Rattle.jr_table.specs.KeyView.{decl_of, local_key_of}
-use Rattle.jr_table.specs.Entries.{entries_of, class_number, class_of}
-use Rattle.jr_table.specs.Found.{one, nothing}
+use Rattle.jr_table.specs.TypeView.{class_key_of}
 use Rattle.jr_lookup.specs.ScopeView.{scope_of}
-use Rattle.jr_table.specs.Keys.{ClassKey}
-use Rattle.jr_table.specs.Decls.{class_decl}
-use Rattle.jr_table.specs.Lookup.{find_type_named, find_type_of, FindsTypeNamed, FindsTypeOf, FindsVariable, FindsFieldIn}
+use Rattle.jr_table.specs.Lookup.{find_type_named, FindsTypeNamed}
 use Rattle.jr_spell.proofs.Deciding.{never, along, and_also}
-use Rattle.jr_spell.proofs.Founds.{decided_class, of_the_class, the_class, no_class}
+use Rattle.jr_spell.proofs.Founds.{of_the_class, the_class, no_class}
 use Rattle.jr_spell.specs.Binds.{LeadsIn}
 use Rattle.jr_spell.proofs.classes.leads_dotted.Goals as goal
 

@@ -1,11 +1,11 @@
-use Rattle.std.proofs.Common.{◌≡◌, ◌<◌, ◌↔◌, IsTrue, Option, Some, None, sym, ap, subst, ◌∙◌, arith, length}
+use Rattle.std.proofs.Common.{◌≡◌, ◌<◌, ◌↔◌, IsTrue, Some, None, sym, ap, subst, ◌∙◌, arith, length}
 use Rattle.std.specs.Prelude.{MatchOption}
 use Rattle.std.specs.List.{position_or_len, before_first, after_first}
 use Rattle.std.proofs.lemmas.Str.Pattern.{split_once_first}
 use Rattle.jr_table.specs.TypeView.{class_key_of}
 use Rattle.jr_lookup.specs.ScopeView.{scope_of}
 use Rattle.jr_spell.specs.Binds.{LeadsTo}
-use Rattle.jr_spell.specs.Binds.{is_dot, front_word, last_word}
+use Rattle.jr_spell.specs.Binds.{is_dot, last_word}
 use Rattle.jr_spell.proofs.Dots.{no_front, whole, front, last}
 use Rattle.jr_spell.proofs.classes.text_leads.Goals as goal
 

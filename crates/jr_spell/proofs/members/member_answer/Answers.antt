@@ -1,11 +1,8 @@
-use Rattle.std.proofs.Common.{◌≡◌, ◌↔◌, IsTrue, Option, Some, None, refl, sym, ap, subst, ◌∙◌, map}
-use Rattle.std.specs.Prelude.{option_map}
-use Rattle.jr_table.specs.TypeView.{class_key_of, ty_of}
-use Rattle.jr_table.specs.KeyView.{decl_of, local_key_of}
-use Rattle.jr_table.specs.Entries.{entries_of, class_number, class_of}
-use Rattle.jr_table.specs.Found.{one, nothing}
+use Rattle.std.proofs.Common.{◌≡◌, ◌↔◌, sym, subst}
+use Rattle.jr_table.specs.TypeView.{class_key_of}
+use Rattle.jr_table.specs.KeyView.{decl_of}
+use Rattle.jr_table.specs.Found.{one}
 use Rattle.jr_lookup.specs.ScopeView.{scope_of}
-use Rattle.std.specs.Result.{IfOk}
 use Rattle.std.proofs.lemmas.Result.{IfOk-weaker}
 use Rattle.jr_table.specs.declared.answers.Answer.TheVariants as number
 use Rattle.jr_table.specs.Lookup.{shown, find_field_in, find_method_of, FindsFieldIn, FindsMethodOf}

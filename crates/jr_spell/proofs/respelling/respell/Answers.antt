@@ -1,11 +1,10 @@
-use Rattle.std.proofs.Common.{◌≡◌, ℕ, ◌+◌, ◌<◌, Some, None, sym, ap, subst, ◌∙◌, length, get_or, arith}
-use Rattle.std.specs.Prelude.{IsTrue, slice_get}
+use Rattle.std.proofs.Common.{◌≡◌, ℕ, Some, sym, ap, subst, ◌∙◌, get_or, arith}
+use Rattle.std.specs.Prelude.{slice_get}
 use Rattle.jr_table.specs.KeyView.{decl_of}
 use Rattle.jr_lookup.specs.ScopeView.{scope_of}
 use Rattle.jr_spell.specs.declared.spellings.Form.{Form}
 use Rattle.jr_spell.specs.declared.spellings.Form.TheVariants as variant
 use Rattle.jr_spell.specs.ReferenceView.{reference_of}
-use Rattle.jr_spell.specs.Spellings.{forms}
 use Rattle.jr_spell.specs.Binds.{Binds}
 use Rattle.std.proofs.lemmas.Option.{slice_get-get_or, slice_get_within}
 use Rattle.jr_spell.proofs.Deciding.{refuted}

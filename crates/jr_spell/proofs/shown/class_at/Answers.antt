@@ -1,10 +1,4 @@
-use Rattle.std.proofs.Common.{◌≡◌, ◌↔◌, IsTrue, Option, Some, None, refl, sym, ap, subst, ◌∙◌, map}
-use Rattle.std.specs.Prelude.{option_map}
-use Rattle.jr_table.specs.TypeView.{class_key_of, ty_of}
-use Rattle.jr_table.specs.KeyView.{decl_of, local_key_of}
-use Rattle.jr_table.specs.Entries.{entries_of, class_number, class_of}
-use Rattle.jr_table.specs.Found.{one, nothing}
-use Rattle.jr_lookup.specs.ScopeView.{scope_of}
+use Rattle.std.proofs.Common.{sym, ap, ◌∙◌}
 use Rattle.jr_table.specs.Lookup.{shown}
 use Rattle.jr_table.specs.Meanings.{class_found}
 use Rattle.jr_spell.proofs.Founds.{one_shown, no_class_nothing, no_class_many, no_class_not_accessible, no_class_from_static}

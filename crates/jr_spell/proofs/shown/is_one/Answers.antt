@@ -1,10 +1,6 @@
-use Rattle.std.proofs.Common.{◌≡◌, ◌↔◌, IsTrue, Option, Some, None, refl, sym, ap, subst, ◌∙◌, map}
-use Rattle.std.specs.Prelude.{option_map}
-use Rattle.jr_table.specs.TypeView.{class_key_of, ty_of}
-use Rattle.jr_table.specs.KeyView.{decl_of, local_key_of}
-use Rattle.jr_table.specs.Entries.{entries_of, class_number, class_of}
-use Rattle.jr_table.specs.Found.{one, nothing}
-use Rattle.jr_lookup.specs.ScopeView.{scope_of}
+use Rattle.std.proofs.Common.{◌≡◌, ◌↔◌, IsTrue, sym, subst}
+use Rattle.jr_table.specs.KeyView.{decl_of}
+use Rattle.jr_table.specs.Found.{one}
 use Rattle.jr_table.specs.Lookup.{shown}
 use Rattle.jr_spell.proofs.Deciding.{never}
 use Rattle.jr_spell.proofs.Founds.{nothing_shown, many_shown, closed_shown, static_shown}

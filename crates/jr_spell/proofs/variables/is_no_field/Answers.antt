@@ -1,11 +1,7 @@
-use Rattle.std.proofs.Common.{◌≡◌, ◌↔◌, IsTrue, Option, Some, None, refl, sym, ap, subst, ◌∙◌, map}
-use Rattle.std.specs.Prelude.{option_map}
-use Rattle.jr_table.specs.TypeView.{class_key_of, ty_of}
-use Rattle.jr_table.specs.KeyView.{decl_of, local_key_of}
-use Rattle.jr_table.specs.Entries.{entries_of, class_number, class_of}
-use Rattle.jr_table.specs.Found.{one, nothing}
+use Rattle.std.proofs.Common.{sym, ◌∙◌}
+use Rattle.jr_table.specs.TypeView.{class_key_of}
+use Rattle.jr_table.specs.Entries.{entries_of, class_number}
 use Rattle.jr_lookup.specs.ScopeView.{scope_of}
-use Rattle.jr_table.specs.declared.answers.Answer.TheVariants as number
 use Rattle.jr_table.specs.Fields.{find_field_of, FindsFieldOf}
 use Rattle.jr_spell.proofs.Deciding.{along}
 use Rattle.jr_spell.proofs.Founds.{nothing_is}

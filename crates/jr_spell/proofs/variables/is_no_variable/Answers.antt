@@ -1,15 +1,13 @@
-use Rattle.std.proofs.Common.{◌≡◌, ◌↔◌, IsTrue, Option, Some, None, refl, sym, ap, subst, ◌∙◌, map}
+use Rattle.std.proofs.Common.{◌≡◌, Some, None, sym, ap, ◌∙◌}
 use Rattle.std.specs.Prelude.{option_map}
-use Rattle.jr_table.specs.TypeView.{class_key_of, ty_of}
-use Rattle.jr_table.specs.KeyView.{decl_of, local_key_of}
-use Rattle.jr_table.specs.Entries.{entries_of, class_number, class_of}
+use Rattle.jr_table.specs.KeyView.{local_key_of}
+use Rattle.jr_table.specs.Entries.{entries_of, class_number}
 use Rattle.jr_table.specs.Found.{one, nothing}
 use Rattle.jr_lookup.specs.ScopeView.{scope_of}
-use Rattle.jr_table.specs.declared.answers.Answer.TheVariants as number
 use Rattle.jr_table.specs.Decls.{local_decl}
 use Rattle.jr_table.specs.Fields.{find_field, FindsField}
 use Rattle.jr_table.specs.Scope.{last_named}
-use Rattle.jr_table.specs.Lookup.{local_or, find_variable, shown, FindsVariable}
+use Rattle.jr_table.specs.Lookup.{local_or, find_variable, shown}
 use Rattle.std.proofs.Common.{inl, inr}
 use Rattle.jr_spell.proofs.Deciding.{never, along}
 use Rattle.jr_spell.proofs.Founds.{nothing_is}
