@@ -4,8 +4,12 @@
 mod binding;
 mod classes;
 mod declaring;
+#[cfg(test)]
+mod field_rows;
 mod laws;
 mod members;
+#[cfg(test)]
+mod other_rows;
 mod references;
 mod respelling;
 #[cfg(test)]
