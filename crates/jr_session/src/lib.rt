@@ -16,6 +16,8 @@ mod readings;
 mod sessions;
 mod sources;
 mod splices;
+#[cfg(test)]
+mod tests;
 mod turns;
 
 pub use begins::BeginFault;
