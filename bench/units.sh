@@ -1,11 +1,16 @@
 #!/usr/bin/env bash
-# How long a compilation unit takes to be read, outside the gate: bench/units.sh JREF, where JREF is the built program.
+# How long a compilation unit takes to be read, outside the gate: bench/units.sh JREF, where JREF is
+# the built program, or bench/units.sh PROGRAM alone, where PROGRAM is units.program, built as a crate
+# that stands on jr_punit, jr_shelf, jr_lex, jr_text and anyhow.
 #
-# The words ask for a rename in a file that is a unit, but not in the small language. It is read, lexed, measured and
-# parsed whole, its tree is dropped, and it is refused at its first token that doesn't fit. The same words over an empty
-# class say how long the rest takes. Four shapes at three sizes; javac's parser reads the same files.
+# The words ask for a rename in a file that is a unit, but not in the small language. It is read,
+# lexed, measured and parsed whole, its tree is dropped, and it is refused at its first token that
+# doesn't fit. The same words over an empty class say how long the rest takes. Four shapes at three
+# sizes; javac's parser reads the same files. All times are a processor's: of the whole process, and
+# of the thread that parses.
 set -eu
 jref=$(realpath "$1")
+if [ "${2:-}" = alone ]; then words="FILE"; else words="rename FILE 0 b"; fi
 here=$(cd "$(dirname "$0")" && pwd)
 work=$(mktemp -d)
 trap 'rm -rf "$work"' EXIT
@@ -43,11 +48,12 @@ for size in 65536 262144 1048576; do
 done
 
 echo "cores: $(nproc)"
-echo "jref over a small class: $(best "$jref" rename Small.java 0 b) microseconds: $(cat out.txt)"
+echo "jref over a small class: $(processor 12 "$jref" ${words/FILE/Small.java}) ms: $(cat out.txt)"
 for shape in members method blocks else; do
     for size in 65536 262144 1048576; do
         name=$shape$size.java
-        echo "jref over $name, $(wc -c < $name) bytes: $(best "$jref" rename $name 0 b) microseconds: $(cat out.txt)"
+        least=$(processor 12 "$jref" ${words/FILE/$name})
+        echo "jref over $name, $(wc -c < $name) bytes: $least ms: $(cat out.txt)"
     done
 done
 if command -v javac > javac.txt; then

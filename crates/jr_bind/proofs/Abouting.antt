@@ -1,15 +1,12 @@
 -- What is known of a variable, by numbers, is what is said by keys.
-use Rattle.std.proofs.Common.{◌≡◌, ◌≢◌, ℕ, List, [], ◌∷◌, map, length, Option, Some, None, Bool, true, false, cond, refl, sym, ap, subst, ◌∙◌}
+use Rattle.std.proofs.Common.{◌≡◌, ◌≢◌, ℕ, List, [], ◌∷◌, map, Option, Some, None, Bool, true, false, cond, refl, sym, ap, subst, ◌∙◌}
 use Rattle.std.specs.Prelude.{slice_get, option_map, option_and_then, ◌==◌, ◌&&◌, not, nat_lt}
-use Rattle.std.specs.List.{list_any}
-use Rattle.jr_table.specs.declared.entries.Kind.{Kind}
-use Rattle.jr_table.specs.declared.entries.Entry.{Entry}
-use Rattle.jr_table.specs.Keys.{ClassKey, FieldKey, MethodKey, CtorKey, Ty, class}
+use Rattle.jr_table.specs.Keys.{ClassKey, FieldKey, MethodKey, CtorKey, class}
 use Rattle.jr_table.specs.Decls.{MemberKey, head, field, method, constructor, LocalKey, Decl, class_decl, field_decl, method_decl, constructor_decl, local_decl}
 use Rattle.jr_table.specs.Rows.{Row}
 use Rattle.jr_table.specs.SameKeys.{same_class}
-use Rattle.jr_table.specs.SameDecls.{same_local, same_member, local_decides, member_decides}
-use Rattle.jr_table.specs.Entries.{IsRowOf, number_of, class_number, kind_of, entry_of, entries_of, class_of, class_of_member, is_static_word}
+use Rattle.jr_table.specs.SameDecls.{same_local, local_decides, member_decides}
+use Rattle.jr_table.specs.Entries.{number_of, class_number, kind_of, entry_of, entries_of, class_of, class_of_member, is_static_word}
 use Rattle.jr_table.specs.Conditions.{AreRows, as_declarer}
 use Rattle.jr_table.specs.Found.{Found, one, many, not_accessible, from_static}
 use Rattle.jr_table.specs.Found as found
@@ -20,14 +17,14 @@ use Rattle.jr_table.specs.TypeNames.{find_type}
 use Rattle.jr_table.specs.Fields.{find_member_type}
 use Rattle.jr_table.specs.Lookup.{decl_at, shown_one, shown_two, shown, find_type_named, find_type_of}
 use Rattle.jr_table.specs.Context.{LocalType, known, written, Local, Context, scope_of, is_final_word}
-use Rattle.jr_table.specs.Meanings.{first_some, row_of, test_row, class_found, named_class, type_of_local, local_of_key, type_of_decl, type_of_found}
+use Rattle.jr_table.specs.Meanings.{first_some, row_of, test_row, class_found, type_of_local, local_of_key}
 use Rattle.jr_table.specs.Notes as pure
 use Rattle.jr_table.specs.Notes.{test_local, has_word}
-use Rattle.jr_table.proofs.RowLaws.{number_stands, the_number, entry_stands}
+use Rattle.jr_table.proofs.RowLaws.{the_number, entry_stands}
 use Rattle.jr_bind.specs.declared.places.Place.{Place}
-use Rattle.jr_bind.specs.declared.abouts.About.{About}
-use Rattle.jr_bind.specs.Helds.{Held, held_of, key_of, local_of, or_later, if_numbered, numbered}
-use Rattle.jr_bind.specs.Places.{member_of, context_of, decl_of, IsRowed, IsRowedIf, bare, IsTyped, AreTyped, Knows}
+use Rattle.jr_locals.specs.Tracked.{locals_of}
+use Rattle.jr_locals.specs.Helds.{Held, held_of, key_of, local_of, or_later, numbered}
+use Rattle.jr_bind.specs.Places.{member_of, context_of, decl_of, bare, IsTyped, AreTyped, Knows}
 use Rattle.jr_bind.specs.Abouts.{IsAbout, nothing, is_own, facts_of, about_local, about_field, about_other, is_ctor, is_field, is_instance_of, kind_at, has_final}
 use Rattle.jr_bind.proofs.Scoped.{class_is}
 use Rattle.jr_bind.proofs.TypeTests.{classes_are}
@@ -92,13 +89,13 @@ module _ (rows : List Row) where
   bare_type s k e (written (Some outer) name) = λ i. option_map class (option_and_then (λ o. class_found (shown rows (find_member_type (entries_of rows) (class_number rows (e i)) (class_number rows o) name))) (class_found (shown rows (find_type rows (class_number rows (e i)) outer))))
 
   module _ (p : Place) (knows : Knows rows p) where
-    pub local_about : (n : ℕ) → IsAbout rows (context_of p) (one (local_decl (key_of (member_of p) n))) (about_local (is_own p.own n) (option_map facts_of (numbered n (map held_of p.locals.items))))
+    pub local_about : (n : ℕ) → IsAbout rows (context_of p) (one (local_decl (key_of (member_of p) n))) (about_local (is_own p.own n) (option_map facts_of (numbered n (map held_of (locals_of p.locals)))))
     unfolding context_of
-    local_about n = by (numbered n (map held_of p.locals.items)) refl
+    local_about n = by (numbered n (map held_of (locals_of p.locals))) refl
       where
-        by : (o : Option Held) → numbered n (map held_of p.locals.items) ≡ o → IsAbout rows (context_of p) (one (local_decl (key_of (member_of p) n))) (about_local (is_own p.own n) (option_map facts_of o))
+        by : (o : Option Held) → numbered n (map held_of (locals_of p.locals)) ≡ o → IsAbout rows (context_of p) (one (local_decl (key_of (member_of p) n))) (about_local (is_own p.own n) (option_map facts_of o))
         by None e =
-            let found = numbered_is (member_of p) n (map held_of p.locals.items) ∙ ap (option_map (local_of (member_of p))) e in
+            let found = numbered_is (member_of p) n (map held_of (locals_of p.locals)) ∙ ap (option_map (local_of (member_of p))) e in
             record {
               kind = sym (ap (λ x. option_map (kind_of rows) (option_and_then (λ (l : Local). type_of_local rows (scope_of (context_of p)) l.type) x)) found);
               final = sym (ap (test_local (λ l. l.is_final)) found);
@@ -107,8 +104,8 @@ module _ (rows : List Row) where
               forward = own_is (member_of p) p.own n;
             }
         by (Some h) e =
-            let found = numbered_is (member_of p) n (map held_of p.locals.items) ∙ ap (option_map (local_of (member_of p))) e in
-            let typed = typed_at (member_of p) (map held_of p.locals.items) knows.typed n h e in
+            let found = numbered_is (member_of p) n (map held_of (locals_of p.locals)) ∙ ap (option_map (local_of (member_of p))) e in
+            let typed = typed_at (member_of p) (map held_of (locals_of p.locals)) knows.typed n h e in
             record {
               kind = typed.kind ∙ sym (ap (option_map (kind_of rows)) (bare_type (scope_of (context_of p)) (member_of p) refl h.type)) ∙ sym (ap (λ x. option_map (kind_of rows) (option_and_then (λ (l : Local). type_of_local rows (scope_of (context_of p)) l.type) x)) found);
               final = sym (ap (test_local (λ l. l.is_final)) found);
@@ -120,7 +117,7 @@ module _ (rows : List Row) where
     pub foreign_about : (q : LocalKey) → q.member ≢ member_of p → IsAbout rows (context_of p) (one (local_decl q)) nothing
     unfolding context_of
     foreign_about q differs =
-        let found = foreign (member_of p) q differs (map held_of p.locals.items) in
+        let found = foreign (member_of p) q differs (map held_of (locals_of p.locals)) in
         record {
           kind = sym (ap (λ x. option_map (kind_of rows) (option_and_then (λ (l : Local). type_of_local rows (scope_of (context_of p)) l.type) x)) found);
           final = sym (ap (test_local (λ l. l.is_final)) found);

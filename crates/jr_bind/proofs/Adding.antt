@@ -1,5 +1,5 @@
 -- Notes upon notes.
-use Rattle.std.proofs.Common.{◌≡◌, List, [], ◌∷◌, ◌++◌, refl, sym, ap, subst, ◌∙◌, inl, inr}
+use Rattle.std.proofs.Common.{◌≡◌, List, [], ◌++◌, sym, subst, inl, inr}
 use Rattle.std.specs.Prelude.{◌⊎◌, ◌↔◌}
 use Rattle.jr_table.specs.Notes.{Note, Has}
 use Rattle.jr_table.proofs.Breaking.{has_append}

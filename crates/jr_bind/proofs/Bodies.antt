@@ -1,8 +1,7 @@
 -- A list of statements, walked one by one.
-use Rattle.std.proofs.Common.{◌≡◌, ℕ, zero, suc, ◌+◌, ◌*◌, ◌<◌, ◌≤◌, List, [], ◌∷◌, ◌++◌, length, get_or, drop, take, map, Option, Vec, Bool, true, false, refl, ap, sym, subst, ◌∙◌, arith, length-append, inl, inr}
+use Rattle.std.proofs.Common.{◌≡◌, ℕ, zero, suc, ◌+◌, ◌*◌, ◌<◌, ◌≤◌, List, [], ◌∷◌, ◌++◌, length, get_or, drop, take, map, Option, Bool, true, false, refl, ap, sym, subst, ◌∙◌, arith, length-append, inl, inr}
 use Rattle.std.proofs.lemmas.List.{drop_all, drop_more, take_all, take-append-le, take-map, length-map}
 use Rattle.std.specs.Prelude.{option_map, ◌&&◌, ◌⊎◌, ◌↔◌}
-use Rattle.std.specs.Global.{Global}
 use Rattle.jr_ast.specs.StatementTree as statement
 use Rattle.jr_ast.specs.declared.stmts.Stmt.{Stmt}
 use Rattle.jr_ast.specs.View.{stmt_of, stmts_of}
@@ -19,14 +18,15 @@ use Rattle.jr_table.specs.declared.rules.Rule.TheVariants as rule
 use Rattle.jr_table.proofs.Breaking.{has_append}
 use Rattle.jr_bind.specs.declared.completing.Behind.{Behind}
 use Rattle.jr_bind.specs.declared.places.Place.{Place}
-use Rattle.jr_bind.specs.declared.helds.Held as raw_held
+use Rattle.jr_locals.specs.declared.locals.Locals.{Locals}
 use Rattle.jr_bind.specs.declared.findings.Note as raw
-use Rattle.jr_bind.specs.Helds.{Held, held_of, key_of, local_of}
+use Rattle.jr_locals.specs.Helds.{Held, held_of, key_of, local_of}
+use Rattle.jr_locals.specs.Tracked.{Tracked, locals_of}
 use Rattle.jr_bind.specs.Places.{member_of, context_of, AreTyped, Knows}
 use Rattle.jr_bind.specs.Fits.{FitsStmt, FitsElse, FitsStmts}
 use Rattle.jr_bind.specs.Logs.{Adds}
 use Rattle.jr_bind.specs.Logs as logs
-use Rattle.jr_bind.specs.Flow.{reached, Passes, ItemPasses, BodyPasses}
+use Rattle.jr_bind.specs.Flow.{reached, ItemPasses, BodyPasses}
 
 pub falls_first : (whole n size shown t : ℕ) → shown ≡ size → whole ≡ suc (size + n) → 4 * whole ≡ t → 4 * shown + 1 < t
 falls_first whole n size shown t e w h = omega arith
@@ -173,23 +173,23 @@ inside_after number c d (statement.sync m e body) h = h
 inside_after number c d (statement.empty m) h = h
 
 -- the place behind a list, its locals cut back
-abbrev pub cut_back : Place → Vec raw_held.Held Global → Option ℕ → Place
+abbrev pub cut_back : Place → Locals → Option ℕ → Place
 cut_back q v own = record { member = q.member; row = q.row; class = q.class; is_static = q.is_static; locals = v; own = own }
 
 pub inside_member : (p q : Place) → Inside (context_of p) (context_of q) → member_of q ≡ member_of p
 unfolding context_of
 inside_member p q h = h.member_is
 
-pub cut_context : (p q : Place) (v : Vec raw_held.Held Global) → Inside (context_of p) (context_of q) → v.items ≡ take (length p.locals.items) q.locals.items → context_of (cut_back q v p.own) ≡ context_of p
+pub cut_context : (p q : Place) (v : Locals) → Inside (context_of p) (context_of q) → locals_of v ≡ take (length (locals_of p.locals)) (locals_of q.locals) → context_of (cut_back q v p.own) ≡ context_of p
 unfolding context_of
 cut_context p q v h is =
     let k = member_of q in
-    let long : length (map (local_of (member_of p)) (map held_of p.locals.items)) ≡ length p.locals.items = length-map (map held_of p.locals.items) (local_of (member_of p)) ∙ length-map p.locals.items held_of in
-    let cut : map (local_of k) (map held_of v.items) ≡ map (local_of (member_of p)) (map held_of p.locals.items) =
+    let long : length (map (local_of (member_of p)) (map held_of (locals_of p.locals))) ≡ length (locals_of p.locals) = length-map (map held_of (locals_of p.locals)) (local_of (member_of p)) ∙ length-map (locals_of p.locals) held_of in
+    let cut : map (local_of k) (map held_of (locals_of v)) ≡ map (local_of (member_of p)) (map held_of (locals_of p.locals)) =
     ap (λ xs. map (local_of k) (map held_of xs)) is
-    ∙ ap (map (local_of k)) (sym (take-map held_of (length p.locals.items) q.locals.items))
-    ∙ sym (take-map (local_of k) (length p.locals.items) (map held_of q.locals.items))
-    ∙ ap (λ n. take n (map (local_of k) (map held_of q.locals.items))) (sym long)
+    ∙ ap (map (local_of k)) (sym (take-map held_of (length (locals_of p.locals)) (locals_of q.locals)))
+    ∙ sym (take-map (local_of k) (length (locals_of p.locals)) (map held_of (locals_of q.locals)))
+    ∙ ap (λ n. take n (map (local_of k) (map held_of (locals_of q.locals)))) (sym long)
     ∙ h.front in
     λ i. record { member = h.member_is i; is_static = h.static_is i; locals = cut i; own = option_map (key_of (h.member_is i)) p.own }
 
@@ -198,11 +198,12 @@ typed_take rows k zero hs h = tt
 typed_take rows k (suc n) [] h = tt
 typed_take rows k (suc n) (x ∷ hs) h = (h.0, typed_take rows k n hs h.1)
 
-pub cut_knows : (rows : List Row) (q : Place) (v : Vec raw_held.Held Global) (n : ℕ) (own : Option ℕ) → v.items ≡ take n q.locals.items → Knows rows q → Knows rows (cut_back q v own)
-cut_knows rows q v n own is h = record {
+pub cut_knows : (rows : List Row) (q : Place) (v : Locals) (n : ℕ) (own : Option ℕ) → locals_of v ≡ take n (locals_of q.locals) → Tracked v → Knows rows q → Knows rows (cut_back q v own)
+cut_knows rows q v n own is tracked h = record {
   row = h.row;
   class = h.class;
-  typed = subst (λ hs. AreTyped rows (member_of q) hs) (take-map held_of n q.locals.items ∙ ap (map held_of) (sym is)) (typed_take rows (member_of q) n (map held_of q.locals.items) h.typed);
+  typed = subst (λ hs. AreTyped rows (member_of q) hs) (take-map held_of n (locals_of q.locals) ∙ ap (map held_of) (sym is)) (typed_take rows (member_of q) n (map held_of (locals_of q.locals)) h.typed);
+  tracked = tracked;
 }
 
 -- the walk over a list
@@ -263,16 +264,16 @@ module _ {A : Type 0} (B : A → ℕ → ℕ) (rows : List Row) (number : ℕ) (
       }
 
   pub going_end : (b : Behind) (q : Place) (log : List raw.Note) → Going b q log statement.end
-      → (v : Vec raw_held.Held Global) → v.items ≡ take (length p.locals.items) q.locals.items
+      → (v : Locals) → locals_of v ≡ take (length (locals_of p.locals)) (locals_of q.locals) → Tracked v
       → BodyPasses B rows number p at whole first b (cut_back q v p.own) log
   unfolding locals_in locals_in_else locals_in_row completes else_completes list_completes stmt_notes else_notes stmts_notes
-  going_end b q log g v is =
+  going_end b q log g v is tracked =
       let n = g.count in
       record {
         number_is = omega (arith, n);
         completes_is = sym (and_true b.completes) ∙ g.reach;
         context = cut_context p q v g.inside is;
-        knows = cut_knows rows q v (length p.locals.items) p.own is g.knows;
+        knows = cut_knows rows q v (length (locals_of p.locals)) p.own is tracked g.knows;
         notes = left_end (N first) (body_notes B rows number (context_of p) at whole) (N log) g.noted;
       }
 
@@ -286,7 +287,7 @@ module _ {A : Type 0} (B : A → ℕ → ℕ) (rows : List Row) (number : ℕ) (
 
   pub list_ends : (i : ℕ) → length body ≤ i → (b : Behind) (q : Place) (log : List raw.Note)
       → Going B rows number p at (stmts_of body) first b q log (stmts_of (drop i body))
-      → (v : Vec raw_held.Held Global) → v.items ≡ take (length p.locals.items) q.locals.items
+      → (v : Locals) → locals_of v ≡ take (length (locals_of p.locals)) (locals_of q.locals) → Tracked v
       → BodyPasses B rows number p at (stmts_of body) first b (cut_back q v p.own) log
-  list_ends i past b q log g v is = going_end B rows number p at (stmts_of body) first b q log
-      (subst (λ (z : List (Stmt A)). Going B rows number p at (stmts_of body) first b q log (stmts_of z)) (drop_all i body past) g) v is
+  list_ends i past b q log g v is tracked = going_end B rows number p at (stmts_of body) first b q log
+      (subst (λ (z : List (Stmt A)). Going B rows number p at (stmts_of body) first b q log (stmts_of z)) (drop_all i body past) g) v is tracked

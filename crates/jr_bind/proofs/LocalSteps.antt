@@ -1,12 +1,10 @@
 -- Locals come into scope.
-use Rattle.std.proofs.Common.{◌≡◌, ℕ, ◌+◌, List, [], ◌∷◌, ◌++◌, map, Option, Some, None, Vec, Bool, true, refl, sym, ap, subst, ◌∙◌, append_assoc}
+use Rattle.std.proofs.Common.{◌≡◌, ℕ, ◌+◌, List, [], ◌∷◌, ◌++◌, map, Option, Some, None, Bool, true, refl, sym, ap, subst, ◌∙◌, append_assoc}
 use Rattle.std.proofs.lemmas.List.{map-append}
 use Rattle.std.specs.Prelude.{option_map, is_some}
-use Rattle.std.specs.Global.{Global}
 use Rattle.jr_ast.specs.Tree as tree
 use Rattle.jr_table.specs.declared.rules.Rule.TheVariants as rule
 use Rattle.jr_table.specs.declared.entries.Kind.{Kind}
-use Rattle.jr_table.specs.Keys.{Ty}
 use Rattle.jr_table.specs.Decls.{MemberKey}
 use Rattle.jr_table.specs.Rows.{Row}
 use Rattle.jr_table.specs.Conditions.{AreRows}
@@ -18,17 +16,18 @@ use Rattle.jr_table.specs.Binding.{value}
 use Rattle.jr_table.specs.Meanings.{written_type, type_of_local, type_of, type_references}
 use Rattle.jr_table.specs.Notes.{Note, reference_notes, unless, suits, breaks}
 use Rattle.jr_table.specs.Walks.{notes_of}
-use Rattle.jr_table.specs.Lookup.{find_type_named, find_type_of}
 use Rattle.jr_ast.specs.Marks.{exp_mark}
 use Rattle.jr_bind.specs.declared.places.Place.{Place}
-use Rattle.jr_bind.specs.declared.helds.Held as raw_held
+use Rattle.jr_locals.specs.declared.helds.Held as raw_held
+use Rattle.jr_locals.specs.declared.locals.Locals.{Locals}
+use Rattle.jr_locals.specs.Tracked.{Tracked, locals_of}
 use Rattle.jr_bind.specs.declared.findings.Note as raw
-use Rattle.jr_bind.specs.Helds.{Held, held_of, key_of, local_of, last_number, type_of as held_type_of}
+use Rattle.jr_locals.specs.Helds.{Held, held_of, key_of, local_of, last_number, type_of as held_type_of}
 use Rattle.jr_bind.specs.Places.{member_of, context_of, IsRowedIf, bare, IsTyped, AreTyped, Knows}
 use Rattle.jr_bind.specs.Logs.{Adds}
 use Rattle.jr_bind.specs.Logs as logs
 use Rattle.jr_bind.specs.Flow.{reached}
-use Rattle.jr_bind.specs.StmtArms.{redeclared_notes, local_notes, InitAdds, LocalPasses}
+use Rattle.jr_bind.specs.StmtArms.{redeclared_notes, InitAdds, LocalPasses}
 use Rattle.jr_bind.proofs.Lasts.{last_is}
 use Rattle.jr_bind.proofs.Abouting.{bare_type}
 use Rattle.jr_bind.proofs.Rowing.{written_rowed}
@@ -39,9 +38,9 @@ is_some_of f None = refl
 is_some_of f (Some x) = refl
 
 -- whether a local of the name is in scope
-pub held_is : (p : Place) (name : List ℕ) → is_some (last_number name (map held_of p.locals.items)) ≡ is_some (last_named name (scope_of (context_of p)).locals)
+pub held_is : (p : Place) (name : List ℕ) → is_some (last_number name (map held_of (locals_of p.locals))) ≡ is_some (last_named name (scope_of (context_of p)).locals)
 unfolding context_of
-held_is p name = sym (ap is_some (last_is (member_of p) name (map held_of p.locals.items)) ∙ is_some_of (key_of (member_of p)) (last_number name (map held_of p.locals.items)))
+held_is p name = sym (ap is_some (last_is (member_of p) name (map held_of (locals_of p.locals))) ∙ is_some_of (key_of (member_of p)) (last_number name (map held_of (locals_of p.locals))))
 
 -- the type that is written is the local's
 written_local : {A : Type 0} (rows : List Row) (s : Scope) (t : tree.TypeName A) → written_type rows s t ≡ type_of_local rows s (local_type t)
@@ -53,10 +52,10 @@ typed_push : (rows : List Row) (k : MemberKey) (hs : List Held) (h : Held) → A
 typed_push rows k [] h all is = (is, tt)
 typed_push rows k (x ∷ hs) h all is = (all.0, typed_push rows k hs h all.1 is)
 
-abbrev pub with_held : Place → Vec raw_held.Held Global → Option ℕ → Place
+abbrev pub with_held : Place → Locals → Option ℕ → Place
 with_held p v own = record { member = p.member; row = p.row; class = p.class; is_static = p.is_static; locals = v; own = own }
 
-module _ {A : Type 0} (p : Place) (v : Vec raw_held.Held Global) (h : raw_held.Held) (pushed : v.items ≡ p.locals.items ++ h ∷ []) (t : tree.TypeName A) (typed : held_type_of h.ty ≡ local_type t) where
+module _ {A : Type 0} (p : Place) (v : Locals) (h : raw_held.Held) (pushed : locals_of v ≡ locals_of p.locals ++ h ∷ []) (t : tree.TypeName A) (typed : held_type_of h.ty ≡ local_type t) where
   pub declared_context : (w : tree.Word A) → h.name.now ≡ w.text → h.has_init ≡ true
       → context_of (with_held p v (Some h.number)) ≡ in_own (context_of p) (context.local_of (context_of p) h.number h.is_final t w)
   unfolding context_of
@@ -64,17 +63,17 @@ module _ {A : Type 0} (p : Place) (v : Vec raw_held.Held Global) (h : raw_held.H
       let k = member_of p in
       let last : local_of k (held_of h) ≡ context.local_of (context_of p) h.number h.is_final t w =
       λ i. record { name = name i; key = key_of k h.number; is_final = h.is_final; type = typed i; has_init = init i } in
-      let all : map (local_of k) (map held_of v.items) ≡ map (local_of k) (map held_of p.locals.items) ++ context.local_of (context_of p) h.number h.is_final t w ∷ [] =
+      let all : map (local_of k) (map held_of (locals_of v)) ≡ map (local_of k) (map held_of (locals_of p.locals)) ++ context.local_of (context_of p) h.number h.is_final t w ∷ [] =
       ap (λ xs. map (local_of k) (map held_of xs)) pushed
-      ∙ ap (map (local_of k)) (map-append held_of p.locals.items (h ∷ []))
-      ∙ map-append (local_of k) (map held_of p.locals.items) (held_of h ∷ [])
-      ∙ ap (λ l. map (local_of k) (map held_of p.locals.items) ++ l ∷ []) last in
+      ∙ ap (map (local_of k)) (map-append held_of (locals_of p.locals) (h ∷ []))
+      ∙ map-append (local_of k) (map held_of (locals_of p.locals)) (held_of h ∷ [])
+      ∙ ap (λ l. map (local_of k) (map held_of (locals_of p.locals)) ++ l ∷ []) last in
       λ i. record { member = k; is_static = p.is_static; locals = all i; own = Some (key_of k h.number) }
 
-  pub declared_knows : (rows : List Row) → AreRows rows → Knows rows p → (own : Option ℕ)
+  pub declared_knows : (rows : List Row) → AreRows rows → Tracked v → Knows rows p → (own : Option ℕ)
       → h.kind ≡ option_map (kind_of rows) (written_type rows (scope_of (context_of p)) t) → Knows rows (with_held p v own)
   unfolding context_of
-  declared_knows rows are knows own kind =
+  declared_knows rows are tracked knows own kind =
       let k = member_of p in
       let s = scope_of (context_of p) in
       let same : written_type rows s t ≡ type_of_local rows (bare k) (held_of h).type =
@@ -83,7 +82,8 @@ module _ {A : Type 0} (p : Place) (v : Vec raw_held.Held Global) (h : raw_held.H
       record {
         row = knows.row;
         class = knows.class;
-        typed = subst (AreTyped rows k) (sym (map-append held_of p.locals.items (h ∷ [])) ∙ ap (map held_of) (sym pushed)) (typed_push rows k (map held_of p.locals.items) (held_of h) knows.typed one);
+        typed = subst (AreTyped rows k) (sym (map-append held_of (locals_of p.locals) (h ∷ [])) ∙ ap (map held_of) (sym pushed)) (typed_push rows k (map held_of (locals_of p.locals)) (held_of h) knows.typed one);
+        tracked = tracked;
       }
 
 abbrev without_own : Context → Context
@@ -124,7 +124,7 @@ module _ {A : Type 0} (B : A → ℕ → ℕ) (rows : List Row) (are : AreRows r
         number_is = step;
         completes_is = refl;
         context = ap without_own here;
-        knows = record { row = knows.row; class = knows.class; typed = knows.typed };
+        knows = record { row = knows.row; class = knows.class; typed = knows.typed; tracked = knows.tracked };
         notes = subst (λ (ns : List Note). Adds (logs.notes_of rows k old) ns (logs.notes_of rows k new)) (regroup refs held own (notes_of B rows c value at e))
             (adds_then _ _ _ _ _ (adds_exact _ _ _ head) there);
       }

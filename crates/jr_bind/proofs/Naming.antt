@@ -1,15 +1,14 @@
 -- Written types: what their names find, and the notes on them.
-use Rattle.std.proofs.Common.{◌≡◌, ℕ, List, [], ◌∷◌, ◌++◌, map, Option, Some, None, refl, sym, ap, ◌∙◌, append_assoc}
+use Rattle.std.proofs.Common.{◌≡◌, ℕ, List, [], ◌∷◌, ◌++◌, map, Option, Some, None, refl, ap, ◌∙◌, append_assoc}
 use Rattle.std.proofs.lemmas.List.{map-append}
 use Rattle.std.specs.Prelude.{option_map, option_and_then}
 use Rattle.jr_table.specs.declared.answers.Answer.{Answer}
 use Rattle.jr_table.specs.Keys.{ClassKey}
 use Rattle.jr_table.specs.Decls.{MemberKey}
 use Rattle.jr_table.specs.Rows.{Row}
-use Rattle.jr_table.specs.Entries.{class_number, entries_of}
+use Rattle.jr_table.specs.Entries.{class_number}
 use Rattle.jr_table.specs.Found.{Found}
 use Rattle.jr_table.specs.Scope.{Scope}
-use Rattle.jr_table.specs.Fields.{find_member_type}
 use Rattle.jr_table.specs.Lookup.{shown, find_type_named, find_type_of}
 use Rattle.jr_table.specs.Meanings.{class_found, named_class, find_in}
 use Rattle.jr_table.specs.Notes.{Note, found_note}
@@ -19,7 +18,6 @@ use Rattle.jr_bind.specs.declared.findings.Finding.TheVariants as finding
 use Rattle.jr_bind.specs.declared.findings.Note.TheVariants.{Finds}
 use Rattle.jr_bind.specs.Findings.{sought_of, note_of}
 use Rattle.jr_bind.specs.Logs.{notes_of}
-use Rattle.jr_bind.specs.Numbered.{in_class}
 use Rattle.jr_bind.specs.Named.{PutsFound, inner_answer}
 use Rattle.jr_bind.proofs.Numbers.{types_are}
 

@@ -1,28 +1,21 @@
 -- What each kind of expression notes, after what its parts note.
-use Rattle.std.proofs.Common.{◌≡◌, ℕ, List, [], ◌∷◌, ◌++◌, map, Option, Some, None, Bool, true, false, refl, sym, ap, subst, ◌∙◌, append_assoc}
+use Rattle.std.proofs.Common.{◌≡◌, ℕ, List, [], ◌∷◌, ◌++◌, Option, Some, None, Bool, refl, sym, ap, subst, ◌∙◌, append_assoc}
 use Rattle.std.proofs.lemmas.List.{append-nil}
-use Rattle.std.specs.Prelude.{option_map, option_and_then, is_some, not, ◌&&◌, codes, if◌then◌else◌}
+use Rattle.std.specs.Prelude.{option_map, not, ◌&&◌}
 use Rattle.jr_ast.specs.Tree as tree
 use Rattle.jr_ast.specs.Marks.{exp_mark}
 use Rattle.jr_ast.specs.declared.operators.UnOp.{UnOp}
 use Rattle.jr_ast.specs.declared.operators.BinOp.{BinOp}
 use Rattle.jr_ast.specs.declared.operators.BumpOp.{BumpOp}
-use Rattle.jr_table.specs.declared.answers.Answer.{Answer}
-use Rattle.jr_table.specs.declared.entries.Entry.{Entry}
 use Rattle.jr_table.specs.declared.entries.Kind.{Kind}
-use Rattle.jr_table.specs.declared.entries.Kind.TheVariants as kind
-use Rattle.jr_table.specs.Keys.{ClassKey, Ty, int, boolean, null, class}
-use Rattle.jr_table.specs.Decls.{Decl, class_decl}
+use Rattle.jr_table.specs.Keys.{ClassKey, Ty, int}
 use Rattle.jr_table.specs.Rows.{Row}
-use Rattle.jr_table.specs.Prelude.{top_key}
 use Rattle.jr_table.specs.Chains.{parent_of}
 use Rattle.jr_table.specs.Conditions.{AreRows}
 use Rattle.jr_table.specs.Entries.{class_number, kind_of, entries_of}
-use Rattle.jr_table.specs.Fields.{find_field_of, find_member_type}
-use Rattle.jr_table.specs.Calls.{find_call, find_method, find_ctor}
-use Rattle.jr_table.specs.Found.{Found, one, nothing, many, not_accessible, from_static}
+use Rattle.jr_table.specs.Found.{Found}
 use Rattle.jr_table.specs.Scope.{Scope}
-use Rattle.jr_table.specs.Lookup.{shown, find_variable, find_type_of, find_field_in}
+use Rattle.jr_table.specs.Lookup.{find_variable}
 use Rattle.jr_table.specs.Context.{Context, scope_of}
 use Rattle.jr_table.specs.Binding.{Role, value, left, statement, variable, type, sign_type, operator_type}
 use Rattle.jr_table.specs.Binding as sought
@@ -32,21 +25,19 @@ use Rattle.jr_table.specs.Notes.{Note, breaks, found_note, reference_notes, unle
 use Rattle.jr_table.specs.Notes as notes
 use Rattle.jr_table.specs.Walks as walks
 use Rattle.jr_table.specs.declared.rules.Rule.TheVariants as rule
-use Rattle.jr_table.proofs.RowLaws.{the_number}
 use Rattle.jr_bind.specs.declared.places.Place.{Place}
 use Rattle.jr_bind.specs.declared.meanings.Meaning.{Meaning}
-use Rattle.jr_bind.specs.Places.{context_of, member_of, Knows}
+use Rattle.jr_bind.specs.Places.{context_of, Knows}
 use Rattle.jr_bind.specs.Logs.{Adds}
 use Rattle.jr_bind.proofs.Adding.{adds_exact, adds_none, adds_then, adds_before}
-use Rattle.jr_bind.proofs.Meant.{field_is, left_is, left_here, super_field_is, call_is, super_call_is, ctor_is}
-use Rattle.jr_bind.specs.Numbered.{in_class, for_kinds, class_in, class_kind, on_class, is_int, is_void, are_int, suits, comparable, takes, takes_one, sign_kind, operator_kind}
-use Rattle.jr_bind.specs.Means.{fixed_notes, Means, TargetMeans}
+use Rattle.jr_bind.proofs.Meant.{field_is, left_here, super_field_is}
+use Rattle.jr_bind.specs.Numbered.{on_class, is_int, is_void, are_int, suits, comparable, takes, takes_one}
+use Rattle.jr_bind.specs.Means.{Means, TargetMeans}
 use Rattle.jr_bind.specs.Arms as arm
 use Rattle.jr_bind.specs.Arms.{Says, NameSays, FieldSays, plain, field_at, left_at, call_answer, super_answer, ctor_answer, one_decl, created}
-use Rattle.jr_bind.proofs.Scoped.{class_is, place_class}
-use Rattle.jr_bind.proofs.Numbers.{in_class_is, class_in_is, on_class_is, fields_are, types_are, methods_are, ctors_are, calls_are}
-use Rattle.jr_bind.proofs.TypeTests.{int_is, void_is, ints_are, suits_is, comparable_is, takes_is, takes_one_is, sign_is, operator_is}
-use Rattle.jr_bind.proofs.Rowing.{rowed, written_rowed, string_row, class_row, parent_is}
+use Rattle.jr_bind.proofs.Scoped.{place_class}
+use Rattle.jr_bind.proofs.TypeTests.{int_is, void_is, ints_are, suits_is, comparable_is, takes_is, takes_one_is}
+use Rattle.jr_bind.proofs.Rowing.{rowed, written_rowed}
 
 -- one note more of a kind, with what is nothing behind it
 exactly : (old more own new : List Note) → new ≡ old ++ more → more ≡ own → Adds old own new

@@ -1,17 +1,15 @@
 -- What is computed by numbers is what is said by keys.
-use Rattle.std.proofs.Common.{◌≡◌, ℕ, List, [], ◌∷◌, map, length, Option, Some, None, Bool, true, false, refl, sym, ap, subst, ◌∙◌}
-use Rattle.std.specs.Prelude.{slice_get, option_map, option_and_then, unwrap_or}
+use Rattle.std.proofs.Common.{◌≡◌, ℕ, List, map, length, Option, Some, None, true, false, refl, sym, ap, ◌∙◌}
+use Rattle.std.specs.Prelude.{slice_get, option_map, unwrap_or}
 use Rattle.jr_table.specs.declared.answers.Answer.{Answer}
-use Rattle.jr_table.specs.declared.answers.Answer.TheVariants.{One, Nothing, Many, NotAccessible, FromStatic}
+use Rattle.jr_table.specs.declared.answers.Answer.TheVariants.{One, Many, NotAccessible, FromStatic}
 use Rattle.jr_table.specs.declared.entries.Kind.{Kind}
-use Rattle.jr_table.specs.declared.entries.Kind.TheVariants as kind
-use Rattle.jr_table.specs.declared.entries.Entry.{Entry}
 use Rattle.jr_table.specs.Keys.{ClassKey, Ty, int, boolean, void, null, class}
 use Rattle.jr_table.specs.Decls.{Decl, class_decl, field_decl, method_decl, constructor_decl, local_decl}
 use Rattle.jr_table.specs.Rows.{Row}
-use Rattle.jr_table.specs.Entries.{IsRowOf, number_of, class_number, kind_of, entry_of, entries_of}
+use Rattle.jr_table.specs.Entries.{class_number, kind_of, entries_of}
 use Rattle.jr_table.specs.Conditions.{AreRows}
-use Rattle.jr_table.specs.Found.{Found, one, nothing, many, not_accessible, from_static}
+use Rattle.jr_table.specs.Found.{one, not_accessible, from_static}
 use Rattle.jr_table.specs.Scope.{Scope}
 use Rattle.jr_table.specs.Lookup.{decl_at, shown_one, shown_two, shown, find_type_named, find_type_of, find_field_in, find_method_named, find_method_of, find_ctor_of}
 use Rattle.jr_table.specs.Fields.{find_field_of, find_member_type}

@@ -1,24 +1,23 @@
 -- What a walk knows behind each kind of statement, from what it knows behind its parts.
-use Rattle.std.proofs.Common.{◌≡◌, ℕ, ◌+◌, List, ◌++◌, Option, Some, None, Vec, Bool, true, length, take, refl, sym, ap, subst, ◌∙◌, append_assoc, arith}
-use Rattle.std.specs.Global.{Global}
+use Rattle.std.proofs.Common.{◌≡◌, ℕ, ◌+◌, List, ◌++◌, Option, Some, None, Bool, true, length, take, refl, sym, ap, subst, ◌∙◌, append_assoc, arith}
 use Rattle.std.specs.Prelude.{not, ◌&&◌, ◌||◌}
 use Rattle.jr_ast.specs.Tree as tree
 use Rattle.jr_ast.specs.StatementTree as statement
 use Rattle.jr_ast.specs.declared.stmts.Stmt.{Stmt}
 use Rattle.jr_ast.specs.View.{stmt_of}
-use Rattle.jr_ast.specs.Marks.{stmt_mark}
 use Rattle.jr_ast.proofs.Rows.{stmt_mark_is}
 use Rattle.jr_table.specs.Decls.{MemberKey}
 use Rattle.jr_table.specs.Rows.{Row}
-use Rattle.jr_table.specs.Context.{Context, local_of, in_own, with_local, after, locals_in, locals_in_else, locals_in_row}
+use Rattle.jr_table.specs.Context.{Context, local_of, in_own, with_local, locals_in, locals_in_else, locals_in_row}
 use Rattle.jr_table.specs.Binding.{value}
 use Rattle.jr_table.specs.Binding as role
 use Rattle.jr_table.specs.declared.rules.Rule.TheVariants as rule
-use Rattle.jr_table.specs.Notes.{Note, breaks, unless, own_stmt_notes, list_notes, is_true_literal, completes, else_completes, list_completes}
+use Rattle.jr_table.specs.Notes.{Note, breaks, unless, own_stmt_notes, is_true_literal, completes, else_completes, list_completes}
 use Rattle.jr_table.specs.Walks.{notes_of, maybe_notes, stmt_notes, else_notes, stmts_notes, body_notes}
 use Rattle.jr_bind.specs.declared.completing.Behind.{Behind}
 use Rattle.jr_bind.specs.declared.places.Place.{Place}
-use Rattle.jr_bind.specs.declared.helds.Held as raw_held
+use Rattle.jr_locals.specs.declared.locals.Locals.{Locals}
+use Rattle.jr_locals.specs.Tracked.{Tracked, locals_of}
 use Rattle.jr_bind.specs.declared.findings.Note as raw
 use Rattle.jr_bind.specs.Places.{member_of, context_of, Knows}
 use Rattle.jr_bind.specs.Logs.{Adds}
@@ -185,17 +184,17 @@ module _ {A : Type 0} (B : A → ℕ → ℕ) (rows : List Row) (number : ℕ) (
     notes = h.notes;
   }
 
-  pub inner_passes : (at : ℕ) (x : statement.Stmt A) (old : List raw.Note) (b : Behind) (q : Place) (new : List raw.Note) (depth : ℕ) (v : Vec raw_held.Held Global)
-      → depth ≡ length p.locals.items → v.items ≡ take depth q.locals.items
+  pub inner_passes : (at : ℕ) (x : statement.Stmt A) (old : List raw.Note) (b : Behind) (q : Place) (new : List raw.Note) (depth : ℕ) (v : Locals)
+      → depth ≡ length (locals_of p.locals) → locals_of v ≡ take depth (locals_of q.locals) → Tracked v
       → StmtPasses B rows number p at x old b q new → InnerPasses B rows number p at x old b (cut_back q v p.own) new
-  inner_passes at x old b q new depth v deep is h =
+  inner_passes at x old b q new depth v deep is tracked h =
       let inside = subst (λ (d : Context). Inside (context_of p) d) (sym h.context) (inside_after number (context_of p) (context_of p) x (inside_same (context_of p))) in
-      let cut = is ∙ ap (λ (n : ℕ). take n q.locals.items) deep in
+      let cut = is ∙ ap (λ (n : ℕ). take n (locals_of q.locals)) deep in
       record {
         number_is = h.number_is;
         completes_is = h.completes_is;
         context = cut_context p q v inside cut;
-        knows = cut_knows rows q v (length p.locals.items) p.own cut h.knows;
+        knows = cut_knows rows q v (length (locals_of p.locals)) p.own cut tracked h.knows;
         notes = h.notes;
       }
 

@@ -1,5 +1,5 @@
 -- The class of each type has a row.
-use Rattle.std.proofs.Common.{◌≡◌, ℕ, List, [], ◌∷◌, ◌++◌, map, Option, Some, None, Bool, true, false, cond, refl, sym, ap, subst, ◌∙◌}
+use Rattle.std.proofs.Common.{◌≡◌, ℕ, List, [], ◌∷◌, map, Option, Some, None, Bool, true, false, cond, refl, sym, ap, subst, ◌∙◌}
 use Rattle.std.specs.Prelude.{slice_get, option_map, option_and_then, codes}
 use Rattle.jr_ast.specs.Tree as tree
 use Rattle.jr_ast.specs.declared.operators.UnOp.{UnOp}
@@ -8,7 +8,7 @@ use Rattle.jr_ast.specs.declared.operators.BinOp.{BinOp}
 use Rattle.jr_ast.specs.declared.operators.BinOp.TheVariants as op
 use Rattle.jr_table.specs.declared.answers.Answer.{Answer}
 use Rattle.jr_table.specs.declared.answers.Answer.TheVariants.{One, Nothing, Many, NotAccessible, FromStatic}
-use Rattle.jr_table.specs.Keys.{ClassKey, FieldKey, MethodKey, CtorKey, Ty, int, boolean, void, null, class}
+use Rattle.jr_table.specs.Keys.{ClassKey, Ty, int, boolean, void, null, class}
 use Rattle.jr_table.specs.Decls.{MemberKey, LocalKey, Decl, class_decl, field_decl, method_decl, constructor_decl, local_decl}
 use Rattle.jr_table.specs.Rows.{Row}
 use Rattle.jr_table.specs.Prelude.{top_key}
@@ -19,14 +19,15 @@ use Rattle.jr_table.specs.Entries.{IsRowOf, number_of, class_number, entries_of,
 use Rattle.jr_table.specs.Conditions.{AreRows, as_type, as_superclass}
 use Rattle.jr_table.specs.Found.{Found, one, nothing, many, not_accessible, from_static}
 use Rattle.jr_table.specs.Scope.{Scope}
-use Rattle.jr_table.specs.Lookup.{decl_at, shown_one, shown_two, shown, find_type_named, find_type_of, find_variable}
-use Rattle.jr_table.specs.Context.{LocalType, Local, Context, scope_of, outer_text}
+use Rattle.jr_table.specs.Lookup.{decl_at, shown_one, shown_two, shown, find_type_named, find_type_of}
+use Rattle.jr_table.specs.Context.{LocalType, Local, scope_of, outer_text}
 use Rattle.jr_table.specs.Binding.{sign_type, operator_type}
-use Rattle.jr_table.specs.Meanings.{first_some, row_of, class_found, named_class, written_type, type_of_local, local_of_key, type_of_decl, type_of_found, class_in, created, type_of, types_of, class_name_of, target_found, created_class, ctor_found, own_superclass}
+use Rattle.jr_table.specs.Meanings.{first_some, row_of, class_found, named_class, written_type, type_of_local, local_of_key, type_of_found, class_in, created, type_of, types_of, class_name_of, target_found, created_class, ctor_found, own_superclass}
 use Rattle.jr_table.proofs.RowLaws.{the_number, number_stands, entry_stands}
 use Rattle.jr_bind.specs.declared.places.Place.{Place}
-use Rattle.jr_bind.specs.Helds.{Held, held_of, key_of, local_of}
-use Rattle.jr_bind.specs.Places.{member_of, context_of, IsRowed, IsRowedIf, bare, IsTyped, AreTyped, Knows}
+use Rattle.jr_locals.specs.Tracked.{locals_of}
+use Rattle.jr_locals.specs.Helds.{Held, held_of, key_of, local_of}
+use Rattle.jr_bind.specs.Places.{member_of, context_of, IsRowed, IsRowedIf, bare, AreTyped, Knows}
 use Rattle.jr_bind.proofs.Scoped.{class_is}
 use Rattle.jr_bind.proofs.Numbers.{row_here}
 use Rattle.jr_bind.proofs.Abouting.{bare_type}
@@ -135,7 +136,7 @@ module _ (rows : List Row) (are : AreRows rows) where
   module _ (p : Place) (knows : Knows rows p) where
     found_rowed : (f : Found) → IsRowedIf rows (type_of_found rows (context_of p) f)
     unfolding context_of
-    found_rowed (one (local_decl k)) = local_rowed (member_of p) (scope_of (context_of p)) (bare_type rows (scope_of (context_of p)) (member_of p) refl) (map held_of p.locals.items) knows.typed k
+    found_rowed (one (local_decl k)) = local_rowed (member_of p) (scope_of (context_of p)) (bare_type rows (scope_of (context_of p)) (member_of p) refl) (map held_of (locals_of p.locals)) knows.typed k
     found_rowed (one (class_decl k)) = row_rowed (class_decl k)
     found_rowed (one (field_decl k)) = row_rowed (field_decl k)
     found_rowed (one (method_decl k)) = row_rowed (method_decl k)

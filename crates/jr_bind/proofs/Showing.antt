@@ -1,7 +1,6 @@
 -- What an answer shows.
 use Rattle.std.proofs.Common.{◌≡◌, ℕ, List, Option, Some, None, Bool, true, false, refl, sym, ap, ◌∙◌}
-use Rattle.std.specs.Prelude.{slice_get, option_map, option_and_then, is_some, not, ◌&&◌}
-use Rattle.jr_table.specs.declared.answers.Answer.{Answer}
+use Rattle.std.specs.Prelude.{slice_get, option_map, is_some, not, ◌&&◌}
 use Rattle.jr_table.specs.declared.answers.Answer.TheVariants.{One, Nothing, Many, NotAccessible, FromStatic}
 use Rattle.jr_table.specs.Decls.{Decl}
 use Rattle.jr_table.specs.Rows.{Row}

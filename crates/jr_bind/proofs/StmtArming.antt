@@ -1,5 +1,5 @@
 -- What statements note by numbers is what is said by keys.
-use Rattle.std.proofs.Common.{◌≡◌, ℕ, List, [], ◌∷◌, ◌++◌, Option, Some, None, Bool, true, false, refl, sym, ap, subst, ◌∙◌}
+use Rattle.std.proofs.Common.{◌≡◌, ℕ, List, ◌++◌, Option, Some, None, Bool, refl, sym, ap, ◌∙◌}
 use Rattle.std.specs.Prelude.{slice_get, option_map, option_and_then, is_some, not, ◌&&◌}
 use Rattle.jr_ast.specs.Tree as tree
 use Rattle.jr_ast.specs.Marks.{exp_mark}

@@ -1,8 +1,7 @@
 -- The errors of a log, as a walk over it, a sort and a second walk find them.
-use Rattle.std.proofs.Common.{◌≡◌, ℕ, List, [], ◌∷◌, ◌++◌, ◌+◌, ◌<◌, ◌≤◌, length, get_or, map, Option, Some, None, Bool, true, false, cond, refl, sym, ap, subst, ◌∙◌, append_assoc, arith}
+use Rattle.std.proofs.Common.{◌≡◌, ℕ, List, [], ◌∷◌, ◌++◌, ◌<◌, ◌≤◌, length, get_or, map, Option, Some, None, Bool, true, false, cond, refl, sym, ap, subst, ◌∙◌, append_assoc, arith}
 use Rattle.std.proofs.lemmas.List.{append-nil, map-append, length-map, get_or-map}
 use Rattle.std.specs.List.Sorted.{IsNonDecreasingBy}
-use Rattle.jr_table.specs.declared.answers.Answer.{Answer}
 use Rattle.jr_table.specs.declared.answers.Answer.TheVariants.{One, Nothing, Many, NotAccessible, FromStatic}
 use Rattle.jr_table.specs.declared.rules.Rule.{Rule}
 use Rattle.jr_table.specs.declared.rules.Rule.TheVariants as rule
@@ -11,7 +10,6 @@ use Rattle.jr_table.specs.Rows.{Row}
 use Rattle.jr_table.specs.Found.{Found, one, nothing, many, not_accessible, from_static}
 use Rattle.jr_table.specs.Lookup.{decl_at, shown_one, shown_two, shown}
 use Rattle.jr_table.specs.Binding.{Sought}
-use Rattle.jr_table.specs.Errors.{Error}
 use Rattle.jr_table.specs.Notes.{missing_rule, found_note, breaks}
 use Rattle.jr_table.specs.ErrorLists.{error_of, same_error, drop_repeats, order_number}
 use Rattle.jr_bind.specs.Arms.{is_nothing}

@@ -1,17 +1,16 @@
 -- Tests of types: by number they say what they say by key, where each class has a row.
-use Rattle.std.proofs.Common.{◌≡◌, ℕ, List, length, Option, Some, None, Bool, true, false, refl, sym, ap, subst, ◌∙◌, eq-eqb, eqb-true}
-use Rattle.std.specs.Prelude.{◌&&◌, ◌||◌, ◌==◌, option_map, unwrap_or, slice_get}
+use Rattle.std.proofs.Common.{◌≡◌, ℕ, List, Option, Some, None, Bool, true, false, refl, sym, ap, ◌∙◌, eq-eqb, eqb-true}
+use Rattle.std.specs.Prelude.{◌&&◌, ◌||◌, ◌==◌, option_map, slice_get}
 use Rattle.std.specs.List.{list_any}
 use Rattle.jr_ast.specs.declared.operators.UnOp.{UnOp}
 use Rattle.jr_ast.specs.declared.operators.UnOp.TheVariants as sign
 use Rattle.jr_ast.specs.declared.operators.BinOp.{BinOp}
 use Rattle.jr_ast.specs.declared.operators.BinOp.TheVariants as op
-use Rattle.jr_table.specs.declared.entries.Kind.{Kind}
 use Rattle.jr_table.specs.Keys.{ClassKey, Ty, int, boolean, void, null, class}
-use Rattle.jr_table.specs.Decls.{Decl, class_decl}
+use Rattle.jr_table.specs.Decls.{class_decl}
 use Rattle.jr_table.specs.Rows.{Row}
-use Rattle.jr_table.specs.SameKeys.{same_class, same_ty, class_decides}
-use Rattle.jr_table.specs.Entries.{IsRowOf, number_of, class_number, kind_of, entries_of}
+use Rattle.jr_table.specs.SameKeys.{same_class, class_decides}
+use Rattle.jr_table.specs.Entries.{number_of, kind_of, entries_of}
 use Rattle.jr_table.specs.Chains.{chain_of}
 use Rattle.jr_table.specs.Calls.{assignable}
 use Rattle.jr_table.specs.Binding.{sign_type, operator_type}

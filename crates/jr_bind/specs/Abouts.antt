@@ -28,7 +28,7 @@ use Rattle.jr_table.specs.Meanings.{type_of_found}
 use Rattle.jr_table.specs.Notes.{test_found, is_final_decl, is_fixed, is_constant_found, is_forward}
 use Rattle.jr_bind.specs.declared.abouts.About.{About}
 use Rattle.jr_bind.specs.declared.abouts.LocalFacts.{LocalFacts}
-use Rattle.jr_bind.specs.Helds.{Held}
+use Rattle.jr_locals.specs.Helds.{Held}
 
 -- this is known of what is found
 pub record IsAbout (rows : List Row) (c : Context) (f : Found) (a : About) : Type 0 where

@@ -1,29 +1,9 @@
 -- What an expression notes and means, from what its parts mean: exact. A found declaration is by
 -- keys, a class or type by number.
-use Rattle.std.specs.Prelude.{
-  ◌≡◌,
-  ℕ,
-  List,
-  [],
-  ◌∷◌,
-  ◌++◌,
-  map,
-  Option,
-  Some,
-  None,
-  option_map,
-  is_some,
-  Bool,
-  true,
-  false,
-  not,
-  ◌&&◌,
-  if◌then◌else◌,
-}
+use Rattle.std.specs.Prelude.{◌≡◌, ℕ, List, [], ◌∷◌, ◌++◌, Option, Some, None, option_map, is_some, Bool, true, false, not, ◌&&◌, if◌then◌else◌}
 use Rattle.jr_ast.specs.declared.operators.UnOp.{UnOp}
 use Rattle.jr_ast.specs.declared.operators.BinOp.{BinOp}
 use Rattle.jr_table.specs.declared.answers.Answer.{Answer}
-use Rattle.jr_table.specs.declared.answers.Answer.TheVariants.{Nothing}
 use Rattle.jr_table.specs.declared.entries.Kind.{Kind}
 use Rattle.jr_table.specs.declared.entries.Entry.{Entry}
 use Rattle.jr_table.specs.Keys.{ClassKey}
@@ -139,7 +119,8 @@ field_at rows p on name =
 -- as a class before a dot
 abbrev pub left_at : List Row → ℕ → Option ℕ → Found → List ℕ → Found
 left_at rows p None f name = nothing
-left_at rows p (Some c) f name = or_type f (shown rows (find_member_type (entries_of rows) p c name))
+left_at rows p (Some c) f name =
+    or_type f (shown rows (find_member_type (entries_of rows) p c name))
 
 abbrev pub dotted_note : Role → ℕ → Option ℕ → (var type : Found) → Note
 dotted_note left at (Some c) v t = found_note at type t

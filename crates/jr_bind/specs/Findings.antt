@@ -1,5 +1,5 @@
 -- What is found, and noted, by keys.
-use Rattle.std.specs.Prelude.{ℕ, List, [], ◌∷◌, map}
+use Rattle.std.specs.Prelude.{List}
 use Rattle.jr_table.specs.Decls.{MemberKey, local_decl}
 use Rattle.jr_table.specs.Rows.{Row}
 use Rattle.jr_table.specs.Found.{Found, one}
@@ -12,7 +12,7 @@ use Rattle.jr_bind.specs.declared.findings.Sought as raw_sought
 use Rattle.jr_bind.specs.declared.findings.Sought.TheVariants as sought
 use Rattle.jr_bind.specs.declared.findings.Note as raw_note
 use Rattle.jr_bind.specs.declared.findings.Note.TheVariants as note
-use Rattle.jr_bind.specs.Helds.{key_of}
+use Rattle.jr_locals.specs.Helds.{key_of}
 
 abbrev pub found_of : List Row → MemberKey → raw.Finding → Found
 found_of rows k (finding.Local number) = one (local_decl (key_of k number))

@@ -1,4 +1,3 @@
-pub mod Helds
 pub mod Places
 pub mod Findings
 pub mod Numbered
@@ -12,3 +11,15 @@ pub mod Arms
 pub mod ErrorView
 pub mod Flow
 pub mod StmtArms
+pub mod DeclaredTypes
+pub mod Heads
+pub mod DeclarationArms
+pub mod Parameters
+pub mod Supers
+pub mod PartFits
+pub mod PartNotes
+pub mod Bounds
+pub mod BoundView
+pub mod BoundLogs
+pub mod SuperPlaces
+pub mod Programs

@@ -1,5 +1,5 @@
 -- The log of a walk.
-use Rattle.std.specs.Prelude.{ℕ, List, map, ◌⊎◌, ◌↔◌}
+use Rattle.std.specs.Prelude.{List, map, ◌⊎◌, ◌↔◌}
 use Rattle.jr_table.specs.Decls.{MemberKey}
 use Rattle.jr_table.specs.Rows.{Row}
 use Rattle.jr_table.specs.Notes.{Note, Has}

@@ -1,22 +1,6 @@
 -- Exact, by numbers: classes, types and what is found in a class, as the arms of a walk compute
 -- them. A number is the image of a key, and `None` stands where there is no class or type.
-use Rattle.std.specs.Prelude.{
-  ℕ,
-  List,
-  [],
-  ◌∷◌,
-  ◌++◌,
-  map,
-  Option,
-  Some,
-  None,
-  option_map,
-  Bool,
-  true,
-  false,
-  ◌&&◌,
-  ◌||◌,
-}
+use Rattle.std.specs.Prelude.{ℕ, List, ◌∷◌, Option, Some, None, Bool, true, false, ◌&&◌, ◌||◌}
 use Rattle.jr_ast.specs.declared.operators.UnOp.{UnOp}
 use Rattle.jr_ast.specs.declared.operators.UnOp.TheVariants as sign
 use Rattle.jr_ast.specs.declared.operators.BinOp.{BinOp}

@@ -12,7 +12,6 @@ use Rattle.std.specs.Prelude.{
   option_map,
   false,
 }
-use Rattle.jr_table.specs.declared.entries.Kind.{Kind}
 use Rattle.jr_table.specs.Keys.{Ty, class}
 use Rattle.jr_table.specs.Decls.{
   MemberKey,
@@ -27,13 +26,14 @@ use Rattle.jr_table.specs.Decls.{
   constructor_decl,
 }
 use Rattle.jr_table.specs.Rows.{Row}
-use Rattle.jr_table.specs.Entries.{number_of, class_number, kind_of, class_of_member}
+use Rattle.jr_table.specs.Entries.{number_of, kind_of, class_of_member}
 use Rattle.jr_table.specs.KeyView.{member_key_of}
 use Rattle.jr_table.specs.Scope.{Scope}
 use Rattle.jr_table.specs.Context.{Context}
 use Rattle.jr_table.specs.Meanings.{type_of_local}
 use Rattle.jr_bind.specs.declared.places.Place as raw
-use Rattle.jr_bind.specs.Helds.{Held, held_of, key_of, local_of}
+use Rattle.jr_locals.specs.Helds.{Held, key_of, local_of}
+use Rattle.jr_locals.specs.Tracked.{Tracked, helds_of}
 
 abbrev pub member_of : raw.Place → MemberKey
 member_of p = member_key_of p.member.now
@@ -42,7 +42,7 @@ unfoldable pub context_of : raw.Place → Context
 context_of p = record {
   member = member_of p;
   is_static = p.is_static;
-  locals = map (local_of (member_of p)) (map held_of p.locals.items);
+  locals = map (local_of (member_of p)) (helds_of p.locals);
   own = option_map (key_of (member_of p)) p.own;
 }
 
@@ -78,4 +78,5 @@ AreTyped rows k (h ∷ hs) = IsTyped rows k h × AreTyped rows k hs
 pub record Knows (rows : List Row) (p : raw.Place) : Type 0 where
   pub row : number_of rows (decl_of (member_of p)) ≡ Some p.row
   pub class : number_of rows (class_decl (class_of_member (member_of p))) ≡ Some p.class
-  pub typed : AreTyped rows (member_of p) (map held_of p.locals.items)
+  pub typed : AreTyped rows (member_of p) (helds_of p.locals)
+  pub tracked : Tracked p.locals

@@ -1,5 +1,5 @@
 //! What is known of a variable that is found.
-ghost use Rattle.std.specs.Prelude.{◌≡◌, map, option_map, slice_get};
+ghost use Rattle.std.specs.Prelude.{◌≡◌, option_map, slice_get};
 ghost use Rattle.std.specs.List.{list_any};
 ghost use Rattle.jr_table.specs.RowView.{row_of};
 ghost use Rattle.jr_table.specs.KeyView.{local_key_of, member_key_of};
@@ -8,16 +8,17 @@ ghost use Rattle.jr_table.specs.Context.{is_final_word};
 ghost use Rattle.jr_table.specs.Found.{one};
 ghost use Rattle.jr_table.specs.Decls.{local_decl};
 ghost use Rattle.jr_table.specs.Lookup.{shown};
-ghost use Rattle.jr_bind.specs.Helds.{held_of, or_later, if_numbered, numbered};
+ghost use Rattle.jr_locals.specs.Helds.{numbered};
+ghost use Rattle.jr_locals.specs.Tracked.{Tracked, helds_of};
 ghost use Rattle.jr_bind.specs.Places.{context_of, member_of, Knows};
 ghost use Rattle.jr_bind.specs.Findings.{found_of};
 ghost use Rattle.jr_bind.specs.Abouts as pure;
 
 use crate::findings::Finding;
-use crate::helds::Held;
 use crate::places::Place;
 use crate::rows::row_at;
 use jr_ast::ModWord;
+use jr_locals::Locals;
 use jr_table::{Answer, Decl, Kind, LocalKey, MemberKey, Mods, Row, Table};
 
 /// What is known of a variable, or of whatever else is found.
@@ -55,31 +56,19 @@ struct LocalFacts {
     has_init: bool,
 }
 
-/// This local's facts if it has the number, else what was there.
-fn later(last: Option<LocalFacts>, local: &Held<'_>, number: u32) -> Option<LocalFacts>
-    ensures { result
-        ≡ or_later (option_map pure.facts_of (if_numbered number (held_of local.now))) last }
+/// What is known of the last local that has the number.
+fn facts_of_local(locals: &Locals<'_>, number: u32) -> Option<LocalFacts>
+    requires { Tracked locals.now }
+    ensures { result ≡ option_map pure.facts_of (numbered number (helds_of locals.now)) }
 {
-    if local.number == number {
-        Some(LocalFacts {
+    match locals.held_numbered(number) {
+        None => None,
+        Some(local) => Some(LocalFacts {
             kind: local.kind,
             is_final: local.is_final,
             has_init: local.has_init,
-        })
-    } else {
-        last
+        }),
     }
-}
-
-/// What is known of the last local that has the number.
-fn facts_of_local(locals: &[Held<'_>], number: u32) -> Option<LocalFacts>
-    ensures { result ≡ option_map pure.facts_of (numbered number (map held_of locals.now)) }
-{
-    let mut last = None;
-    for local in locals {
-        last = later(last, local, number);
-    }
-    last
 }
 
 fn is_own(own: Option<u32>, number: u32) -> bool
@@ -93,11 +82,12 @@ fn is_own(own: Option<u32>, number: u32) -> bool
 
 /// The local of the member that has the number.
 fn about_local(place: &Place<'_>, number: u32) -> About
+    requires { Tracked place.now.locals }
     ensures { result ≡ pure.about_local (pure.is_own place.now.own number)
-        (option_map pure.facts_of (numbered number (map held_of place.now.locals.items))) }
+        (option_map pure.facts_of (numbered number (helds_of place.now.locals))) }
 {
     let is_forward = is_own(place.own, number);
-    match facts_of_local(place.locals.as_slice(), number) {
+    match facts_of_local(&place.locals, number) {
         None => About {
             kind: None,
             is_final: false,

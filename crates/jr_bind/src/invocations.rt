@@ -35,7 +35,7 @@ fn is_statement(role: Role) -> bool
 }
 
 /// Whether `Object` has a method of the name in Java, which the prelude's doesn't.
-fn is_object_method(name: &str) -> bool
+pub(crate) fn is_object_method(name: &str) -> bool
     ensures { result ≡ is_object_method name.now }
 {
     (name == "equals")
@@ -70,7 +70,7 @@ fn put_called(
 }
 
 /// Notes which method is found.
-fn put_method(
+pub(crate) fn put_method(
     table: &Table,
     place: &Place<'_>,
     at: u32,

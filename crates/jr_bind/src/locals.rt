@@ -8,7 +8,7 @@ ghost use Rattle.jr_table.specs.Notes.{reference_notes};
 ghost use Rattle.jr_table.specs.Context.{scope_of, outer_text, local_type, local_of};
 ghost use Rattle.jr_table.specs.Context.{in_own, with_local};
 ghost use Rattle.jr_table.specs.Walks as walks;
-ghost use Rattle.jr_bind.specs.Helds.{type_of};
+ghost use Rattle.jr_locals.specs.Helds.{type_of};
 ghost use Rattle.jr_bind.specs.Places.{context_of, member_of, Knows};
 ghost use Rattle.jr_bind.specs.Fits.{FitsType, FitsExp};
 ghost use Rattle.jr_bind.specs.Logs.{notes_of, Adds};
@@ -17,15 +17,14 @@ ghost use Rattle.jr_bind.specs.StmtArms as pure;
 
 use crate::completing::{Behind, reached};
 use crate::findings::Note;
-use crate::helds::{Held, HeldType};
 use crate::meanings::Role;
 use crate::notes::put_when;
 use crate::places::Place;
 use crate::stmt_notes::put_init;
 use crate::type_names::written;
-use crate::variables::last_number;
 use crate::walk::expr;
 use jr_ast::{Expr, Ident, Name, TypeKind, TypeRef};
+use jr_locals::{Held, HeldType};
 use jr_table::{Kind, Rule, Table};
 use jr_text::Mark;
 use std::alloc::{AllocError, Global};
@@ -51,7 +50,7 @@ fn held_type<'a, A>(of: &'a TypeRef<A>) -> HeldType<'a>
 }
 
 /// The number behind this one. More locals than numbers don't fit any memory.
-fn next(number: u32) -> Result<u32, AllocError>
+pub(crate) fn next(number: u32) -> Result<u32, AllocError>
     ensures { IfOk result (λ n. n ≡ number + 1) }
 {
     match number.checked_add(1) {
@@ -68,14 +67,15 @@ fn put_redeclared<A: Mark>(
     name: &Ident<A>,
     log: &mut Vec<Note>,
 ) -> Result<(), AllocError>
-    requires { A.fits_at name.now.mark at }
+    requires knows { Knows table.now place.now }
+    requires fits { A.fits_at name.now.mark at }
     ensures { IfOk result (λ _. notes_of table.now (member_of place.now) log.new.items
         ≡ notes_of table.now (member_of place.now) log.old.items
         ++ pure.redeclared_notes (λ m b. (A.span_from m b).from) table.now
         (context_of place.now) at (view.word_of name.now)) }
 {
     let at_name = name.mark.span(at).from;
-    let is_held = last_number(place.locals.as_slice(), &name.name).is_some();
+    let is_held = place.locals.number_named(&name.name).is_some();
     put_when(table, place, is_held, at_name, Rule::Redeclared, log)
 }
 
@@ -138,7 +138,7 @@ fn local_head<A: Mark>(
 }
 
 /// A local's initializer, in whose scope the local is.
-fn local_init<A: Mark>(
+pub(crate) fn local_init<A: Mark>(
     alloc: Global,
     table: &Table,
     place: &Place<'_>,

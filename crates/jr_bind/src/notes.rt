@@ -18,7 +18,12 @@ use jr_table::{Answer, Rule, Table};
 use std::alloc::AllocError;
 
 /// Notes a rule, where it is broken.
-fn put_raw(is_broken: bool, at: u32, rule: Rule, log: &mut Vec<Note>) -> Result<(), AllocError>
+pub(crate) fn put_raw(
+    is_broken: bool,
+    at: u32,
+    rule: Rule,
+    log: &mut Vec<Note>,
+) -> Result<(), AllocError>
     ensures { IfOk result (λ _. pure.PutsWhen is_broken at rule log.old.items log.new.items) }
 {
     if is_broken {
@@ -125,7 +130,7 @@ fn is_instance_row(table: &Table, number: u32) -> bool
 }
 
 /// The row, where one declaration is found.
-fn one_row(answer: Answer) -> Option<u32>
+pub(crate) fn one_row(answer: Answer) -> Option<u32>
     ensures { (rows : List Row) → option_and_then (decl_at rows) result
         ≡ pure.one_decl (shown rows answer) }
 {

@@ -1,5 +1,5 @@
 //! Places in a member.
-use crate::helds::Held;
+use jr_locals::Locals;
 use jr_table::MemberKey;
 
 /// What is known at a place of a member besides the table.
@@ -13,7 +13,7 @@ pub struct Place<'a> {
     /// Whether there is no object (JLS 8.1.3).
     pub is_static: bool,
     /// The locals and parameters in scope, the last declared at the end (JLS 6.3).
-    pub locals: Vec<Held<'a>>,
+    pub locals: Locals<'a>,
     /// The local in whose initializer the place stands.
     pub own: Option<u32>,
 }

@@ -92,7 +92,7 @@ fn inner<'a, A: Mark>(
     let depth = place.locals.len();
     let own = place.own;
     let behind = stmt(alloc, table, place, base, number, of, log)?;
-    place.locals.truncate(depth);
+    place.locals.truncate(depth)?;
     place.own = own;
     Ok(behind)
 }
@@ -171,7 +171,7 @@ pub(crate) fn stmts<'a, A: Mark>(
     for of in body {
         behind = item(alloc, table, place, at, behind, of, log)?;
     }
-    place.locals.truncate(depth);
+    place.locals.truncate(depth)?;
     place.own = own;
     Ok(behind)
 }

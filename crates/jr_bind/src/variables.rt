@@ -1,39 +1,15 @@
 //! Variables by simple names (JLS 6.3, 6.4.1).
-ghost use Rattle.std.specs.Prelude.{◌≡◌, map};
+ghost use Rattle.std.specs.Prelude.{◌≡◌};
 ghost use Rattle.jr_table.specs.Context.{scope_of};
 ghost use Rattle.jr_table.specs.Lookup.{find_variable};
-ghost use Rattle.jr_bind.specs.Helds.{held_of, or_later, number_if_named, last_number};
 ghost use Rattle.jr_bind.specs.Places.{context_of, member_of, Knows};
 ghost use Rattle.jr_bind.specs.Findings.{found_of};
 
 use crate::findings::Finding;
-use crate::helds::Held;
 use crate::places::Place;
 use jr_ast::Name;
 use jr_lookup::field_at;
 use jr_table::Table;
-
-/// This local's number if it has the name, else what was there.
-fn later(last: Option<u32>, local: &Held<'_>, name: &Name) -> Option<u32>
-    ensures { result ≡ or_later (number_if_named name.now (held_of local.now)) last }
-{
-    if local.name.as_str() == name.as_str() {
-        Some(local.number)
-    } else {
-        last
-    }
-}
-
-/// The number of the last local that has the name.
-pub(crate) fn last_number(locals: &[Held<'_>], name: &Name) -> Option<u32>
-    ensures { result ≡ last_number name.now (map held_of locals.now) }
-{
-    let mut last = None;
-    for local in locals {
-        last = later(last, local, name);
-    }
-    last
-}
 
 /// What a simple name finds as a variable: the local or parameter in scope; or else the member
 /// field of the innermost enclosing class that has one (JLS 6.4.1).
@@ -43,7 +19,7 @@ pub(crate) fn variable(table: &Table, place: &Place<'_>, name: &Name) -> Finding
     ensures { found_of table.now (member_of place.now) result
         ≡ find_variable table.now (scope_of (context_of place.now)) name.now }
 {
-    match last_number(place.locals.as_slice(), name) {
+    match place.locals.number_named(name) {
         Some(number) => Finding::Local(number),
         None => Finding::Rows(field_at(table, place.class, place.is_static, name.as_str())),
     }

@@ -51,7 +51,8 @@ fn this(
     begin: u32,
     log: &mut Vec<Note>,
 ) -> Result<Meaning, AllocError>
-    ensures says { IfOk result (λ m. m ≡ pure.plain begin (Some (Kind.Class place.now.class)) false) }
+    ensures says { IfOk result (λ m.
+        m ≡ pure.plain begin (Some (Kind.Class place.now.class)) false) }
     ensures notes { IfOk result (λ _. notes_of table.now (member_of place.now) log.new.items
         ≡ notes_of table.now (member_of place.now) log.old.items
         ++ when place.now.is_static (breaks begin Rule.StaticContext)) }

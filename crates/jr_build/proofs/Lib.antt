@@ -34,4 +34,5 @@ pub mod CleanClasses
 pub mod NamedRows
 pub mod RowCycles
 pub mod ProgramRows
+pub mod OneRows
 pub mod Cleaning

@@ -1,4 +1,5 @@
--- The marks of what a program declares tell places below 2^32, read downwards from the root, whose parent begins at 0.
+-- The marks of what a program declares tell places below 2^32, read downwards from the root,
+-- whose parent begins at 0.
 use Rattle.std.specs.Prelude.{ℕ, List, [], ◌∷◌, Option, Some, None}
 use Rattle.jr_text.specs.declared.spans.Span.{Span}
 use Rattle.jr_ast.specs.Tree as tree
@@ -36,13 +37,17 @@ module _ {A : Type 0} (begins : A → ℕ → ℕ) (fits : A → ℕ → Type 0)
 
   unfoldable mutual
     pub MemberFits : ℕ → syntax.Member A → Type 0
-    MemberFits base (syntax.field m mods t w init) = fits m base × WordFits (begins m base) w × TypeFits (begins m base) t × InitFits (begins m base) init
-    MemberFits base (syntax.method m mods t w ps body) = fits m base × WordFits (begins m base) w × MaybeTypeFits (begins m base) t × ParamsFit (begins m base) ps
-    MemberFits base (syntax.constructor m mods w ps args body) = fits m base × WordFits (begins m base) w × ParamsFit (begins m base) ps
+    MemberFits base (syntax.field m mods t w init) = fits m base × WordFits (begins m base) w
+        × TypeFits (begins m base) t × InitFits (begins m base) init
+    MemberFits base (syntax.method m mods t w ps body) = fits m base × WordFits (begins m base) w
+        × MaybeTypeFits (begins m base) t × ParamsFit (begins m base) ps
+    MemberFits base (syntax.constructor m mods w ps args body) = fits m base
+        × WordFits (begins m base) w × ParamsFit (begins m base) ps
     MemberFits base (syntax.inner m c) = fits m base × ClassFits (begins m base) c
 
     pub ClassFits : ℕ → syntax.Class A → Type 0
-    ClassFits base (syntax.class m mods w t ms) = fits m base × WordFits (begins m base) w × MaybeTypeFits (begins m base) t × MembersFit (begins m base) ms
+    ClassFits base (syntax.class m mods w t ms) = fits m base × WordFits (begins m base) w
+        × MaybeTypeFits (begins m base) t × MembersFit (begins m base) ms
 
     pub MembersFit : ℕ → syntax.Members A → Type 0
     MembersFit base syntax.end = Unit {0}

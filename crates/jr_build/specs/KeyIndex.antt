@@ -15,7 +15,8 @@ number_at t k = get_by (λ x. same_class k (site_key_of x)) t.numbers
 
 -- new has this number under the key, and the others as they were
 abbrev pub PutsKey : KeyIndex → ClassKey → ℕ → KeyIndex → Type 0
-PutsKey old key number new = (k : ClassKey) → number_at new k ≡ (if same_class key k then Some number else number_at old k)
+PutsKey old key number new = (k : ClassKey) →
+    number_at new k ≡ (if same_class key k then Some number else number_at old k)
 
 abbrev pub PutsMaybe : KeyIndex → Option ClassKey → ℕ → KeyIndex → Type 0
 PutsMaybe old None number new = (k : ClassKey) → number_at new k ≡ number_at old k
@@ -26,7 +27,8 @@ abbrev pub class_key_at : Item → Option ClassKey
 class_key_at (class_item c) = Some c.key
 class_key_at _ = None
 
--- the key that a member class of a field's or method's name would have, where a top-level class declares it
+-- the key that a member class of a field's or method's name would have, where a top-level class
+-- declares it
 abbrev pub key_in : Option (List ℕ) → List ℕ → List ℕ → Option ClassKey
 key_in None of name = Some (record { outer = Some of; name = name })
 key_in (Some outer) of name = None
@@ -39,8 +41,10 @@ name_key_at _ = None
 module _ (key_of : Item → Option ClassKey) (sites : List Site) where
   -- site i, among the first n, has the key
   abbrev pub HasKey : ℕ → ClassKey → ℕ → Type 0
-  HasKey n k i = (file : ℕ) × (item : Item) × (i < n) × At sites i file item × (key_of item ≡ Some k)
+  HasKey n k i = (file : ℕ) × (item : Item) × (i < n) × At sites i file item
+      × (key_of item ≡ Some k)
 
   -- the index has, of each key, a site among the first n that has it, if one has
   abbrev pub IsIndexOf : ℕ → KeyIndex → Type 0
-  IsIndexOf n t = (k : ClassKey) → MatchOption (number_at t k) ((i : ℕ) → HasKey n k i → ⊥) (HasKey n k)
+  IsIndexOf n t = (k : ClassKey) →
+      MatchOption (number_at t k) ((i : ℕ) → HasKey n k i → ⊥) (HasKey n k)

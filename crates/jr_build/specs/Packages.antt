@@ -1,4 +1,5 @@
--- The package lines of a program's files (JLS 7.4). A tree has the names; the place of the word `package` is told beside it.
+-- The package lines of a program's files (JLS 7.4). A tree has the names; the place of the word
+-- `package` is told beside it.
 use Rattle.std.specs.Prelude.{ℕ, List, [], ◌∷◌, Option, Some, None, map}
 use Rattle.jr_ast.specs.Tree as tree
 use Rattle.jr_ast.specs.MemberTree as syntax

@@ -84,7 +84,12 @@ module _ (h : Hierarchy) where
       option_map (λ ts. record { of = m.of; name = Some m.name; params = Some ts })
       (meanings m.of m.params)
   signature_of (ctor_item c) =
-      option_map (λ ts. record { of = c.of; name = None; params = Some ts }) (meanings c.of c.params)
+      option_map (λ ts. record {
+        of = c.of;
+        name = None;
+        params =
+            Some ts;
+      }) (meanings c.of c.params)
 
 -- an earlier site declares what the item does
 abbrev pub HasEarlierMember : List Site → ℕ → Item → Type 0

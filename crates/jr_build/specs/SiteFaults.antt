@@ -1,5 +1,20 @@
 -- The faults that a site has by itself, each at its place.
-use Rattle.std.specs.Prelude.{◌≡◌, ◌≢◌, ◌<◌, ◌≤◌, ℕ, List, Option, Some, None, slice_get, ◌⊎◌, nat_eq, if◌then◌else◌, option_map}
+use Rattle.std.specs.Prelude.{
+  ◌≡◌,
+  ◌≢◌,
+  ◌<◌,
+  ◌≤◌,
+  ℕ,
+  List,
+  Option,
+  Some,
+  None,
+  slice_get,
+  ◌⊎◌,
+  nat_eq,
+  if◌then◌else◌,
+  option_map,
+}
 use Rattle.std.specs.Cmp.Lexicographic.{pointwise}
 use Rattle.std.specs.Option.{option_eq}
 use Rattle.jr_ast.specs.declared.operators.ModWord.{ModWord}
@@ -9,7 +24,21 @@ use Rattle.jr_table.specs.Keys.{ClassKey}
 use Rattle.jr_table.specs.Sites.{Item, class_item, ClassSite, Site}
 use Rattle.jr_build.specs.KeyIndex.{number_at}
 use Rattle.jr_build.specs.declared.key_index.KeyIndex.{KeyIndex}
-use Rattle.jr_table.specs.Faults.{IsReserved, WordsBad, InitIsBad, name_at, TopWord, InnerWord, FieldWord, MethodWord, IsAccess, IsTwice, IsNamedAsOuter, HasItsName, At}
+use Rattle.jr_table.specs.Faults.{
+  IsReserved,
+  WordsBad,
+  InitIsBad,
+  name_at,
+  TopWord,
+  InnerWord,
+  FieldWord,
+  MethodWord,
+  IsAccess,
+  IsTwice,
+  IsNamedAsOuter,
+  HasItsName,
+  At,
+}
 use Rattle.jr_build.specs.declared.member_words.Allowed.{Allowed}
 use Rattle.jr_build.specs.declared.member_words.Allowed.TheVariants as allowed
 
@@ -25,7 +54,8 @@ abbrev pub HasTwice : List ModWord → Type 0
 HasTwice ws = (w : ModWord) × IsTwice ws w
 
 abbrev pub HasTwoAccesses : List ModWord → Type 0
-HasTwoAccesses ws = (v : ModWord) × (w : ModWord) × (v ≢ w) × IsAccess v × IsAccess w × HasWord ws v × HasWord ws w
+HasTwoAccesses ws = (v : ModWord) × (w : ModWord) × (v ≢ w) × IsAccess v × IsAccess w × HasWord ws v
+    × HasWord ws w
 
 abbrev pub HasOther : (ModWord → Type 0) → List ModWord → Type 0
 HasOther May ws = (w : ModWord) × HasWord ws w × (May w → ⊥)
@@ -46,18 +76,22 @@ IsLeastAt P (Some a) = P a × ((b : ℕ) → P b → a ≤ b)
 
 -- an earlier site declares a class of this key
 abbrev pub HasEarlier : List Site → ℕ → ClassKey → Type 0
-HasEarlier sites n k = (i : ℕ) × (file : ℕ) × (d : ClassSite) × (i < n) × At sites i file (class_item d) × (d.key ≡ k)
+HasEarlier sites n k = (i : ℕ) × (file : ℕ) × (d : ClassSite) × (i < n)
+    × At sites i file (class_item d) × (d.key ≡ k)
 
 abbrev pub TwiceClassAt : List Site → ℕ → Item → ℕ → Type 0
-TwiceClassAt sites j (class_item c) at = (at ≡ c.at) × (HasEarlier sites j c.key ⊎ IsNamedAsOuter c.key)
+TwiceClassAt sites j (class_item c) at = (at ≡ c.at)
+    × (HasEarlier sites j c.key ⊎ IsNamedAsOuter c.key)
 TwiceClassAt sites j _ at = ⊥
 
 abbrev pub MemberNamedAt : List Site → Item → ℕ → Type 0
-MemberNamedAt sites (class_item c) at = (at ≡ c.at) × ((j : ℕ) × (file : ℕ) × (m : Item) × At sites j file m × HasItsName c.key m)
+MemberNamedAt sites (class_item c) at = (at ≡ c.at)
+    × ((j : ℕ) × (file : ℕ) × (m : Item) × At sites j file m × HasItsName c.key m)
 MemberNamedAt sites _ at = ⊥
 
 -- one of the first n sites, `number`, has the fault there
-pub record Among (sites : List Site) (Fault : ℕ → Item → ℕ → Type 0) (n : ℕ) (p : Place) : Type 0 where
+pub record Among (sites : List Site) (Fault : ℕ → Item → ℕ →
+    Type 0) (n : ℕ) (p : Place) : Type 0 where
   pub number : ℕ
   pub below : number < n
   pub item : Item

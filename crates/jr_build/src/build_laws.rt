@@ -5,6 +5,7 @@ ghost use Rattle.jr_table.specs.Conditions.{AreRows};
 ghost use Rattle.jr_table.specs.Faults.{PackageLine, IsClean};
 ghost use Rattle.jr_table.specs.Prelude.{prelude_rows};
 ghost use Rattle.jr_table.specs.ProgramRows.{AreProgramRows};
+ghost use Rattle.jr_table.specs.Rows.{Row};
 ghost use Rattle.jr_table.specs.Sites.{Site, sites_of};
 ghost use Rattle.jr_build.specs.ExactRows.{rows_of_sites};
 ghost use Rattle.jr_build.specs.Heads.{UnitsHeads, AreHeaded};
@@ -28,6 +29,10 @@ pub(crate) fn clean_rows_are_sound()
         → IsHierarchy sites h → AreHeaded sites → IsClean packages sites
         → length (prelude_rows ++ rows_of_sites h sites) < 2 ^ 32
         → AreRows (prelude_rows ++ rows_of_sites h sites) }
+    // No others are.
+    ensures only { (sites : List Site) (h : Hierarchy) → IsHierarchy sites h
+        → (rows others : List Row) → AreProgramRows sites rows → AreProgramRows sites others
+        → rows ≡ others }
 {
     hierarchies_are_exact();
     superclasses_are_sound();

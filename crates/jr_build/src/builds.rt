@@ -6,6 +6,7 @@ ghost use Rattle.jr_table.specs.Conditions.{AreRows};
 ghost use Rattle.jr_table.specs.Faults.{PackageLine, HasFault, IsClean, rank_of};
 ghost use Rattle.jr_table.specs.Prelude.{prelude_rows};
 ghost use Rattle.jr_table.specs.ProgramRows.{AreProgramRows};
+ghost use Rattle.jr_table.specs.Rows.{Row};
 ghost use Rattle.jr_table.specs.Sites as pure;
 ghost use Rattle.jr_build.specs.declared.faults.BuildFault.TheVariants as fault;
 ghost use Rattle.jr_build.specs.Builds.{IsFoundFault, IsCleanBelow};
@@ -146,6 +147,8 @@ fn clean_table<A>(
     ensures clean { OnOk result (IsClean (lines_of words.now (map unit_of units.now))
         (map site_of sites.now)) }
     ensures rows { IfOk result (λ table. AreProgramRows (map site_of sites.now) table) }
+    ensures only { IfOk result (λ table. (rows : List Row)
+        → AreProgramRows (map site_of sites.now) rows → rows ≡ table) }
     ensures fault { IfErr result (IsFoundFault (lines_of words.now (map unit_of units.now))
         (map site_of sites.now)) }
 {
@@ -174,6 +177,10 @@ pub fn build<A: Mark>(alloc: Global, units: &[Unit<A>], words: &[u32]) -> Result
         (pure.sites_of (begins_by A.span_from) (map unit_of units.now))) }
     ensures rows { IfOk result (λ table.
         AreProgramRows (pure.sites_of (begins_by A.span_from) (map unit_of units.now)) table) }
+    // No other list is the rows of the program.
+    ensures only { IfOk result (λ table. (rows : List Row)
+        → AreProgramRows (pure.sites_of (begins_by A.span_from) (map unit_of units.now)) rows
+        → rows ≡ table) }
     ensures fault { IfErr result (IsFoundFault (lines_of words.now (map unit_of units.now))
         (pure.sites_of (begins_by A.span_from) (map unit_of units.now))) }
 {

@@ -1,5 +1,6 @@
 //! The sites of a program, from its trees.
-ghost use Rattle.std.specs.Prelude.{◌≡◌, ◌++◌, [], ◌∷◌, ◌<◌, ◌^◌, length, OnOk, IfOk, Some, map, option_map};
+ghost use Rattle.std.specs.Prelude.{◌≡◌, ◌++◌, [], ◌∷◌, ◌<◌, ◌^◌, length, OnOk, IfOk, Some, map};
+ghost use Rattle.std.specs.Prelude.{option_map};
 ghost use Rattle.jr_ast.specs.View.{word_of, modifier_of, type_of, param_of, expr_of};
 ghost use Rattle.jr_ast.specs.View.{class_of, member_of, members_of, unit_of};
 ghost use Rattle.jr_table.specs.Sites.{word_at, written, words, param_site, init_site, writes_ctor};
@@ -40,7 +41,8 @@ fn push_field<'a, A: Mark>(
 ) -> Result<(), AllocError>
     requires name { WordFits (begins_by A.span_from) A.fits_at at.base (word_of name.now) }
     requires ty { TypeFits (begins_by A.span_from) A.fits_at at.base (type_of ty.now) }
-    requires init { InitFits (begins_by A.span_from) A.fits_at at.base (option_map expr_of init.now) }
+    requires init { InitFits (begins_by A.span_from) A.fits_at at.base
+        (option_map expr_of init.now) }
     ensures { Gathers result sites.old.items sites.new.items (in_file at.file (field_item (record {
       at = word_at (begins_by A.span_from) at.base (word_of name.now);
       of = site_key_of of.now;
@@ -77,8 +79,10 @@ fn push_method<'a, A: Mark>(
     params: &'a [Param<A>],
 ) -> Result<(), AllocError>
     requires name { WordFits (begins_by A.span_from) A.fits_at at.base (word_of name.now) }
-    requires ret { MaybeTypeFits (begins_by A.span_from) A.fits_at at.base (option_map type_of ret.now) }
-    requires params { ParamsFit (begins_by A.span_from) A.fits_at at.base (map param_of params.now) }
+    requires ret { MaybeTypeFits (begins_by A.span_from) A.fits_at at.base
+        (option_map type_of ret.now) }
+    requires params { ParamsFit (begins_by A.span_from) A.fits_at at.base
+        (map param_of params.now) }
     ensures { Gathers result sites.old.items sites.new.items (in_file at.file (method_item (record {
       at = word_at (begins_by A.span_from) at.base (word_of name.now);
       of = site_key_of of.now;
@@ -115,7 +119,8 @@ fn push_ctor<'a, A: Mark>(
     params: &'a [Param<A>],
 ) -> Result<(), AllocError>
     requires name { WordFits (begins_by A.span_from) A.fits_at at.base (word_of name.now) }
-    requires params { ParamsFit (begins_by A.span_from) A.fits_at at.base (map param_of params.now) }
+    requires params { ParamsFit (begins_by A.span_from) A.fits_at at.base
+        (map param_of params.now) }
     ensures { Gathers result sites.old.items sites.new.items (in_file at.file (ctor_item (record {
       at = word_at (begins_by A.span_from) at.base (word_of name.now);
       of = site_key_of of.now;
@@ -149,7 +154,8 @@ fn push_head<'a, A: Mark>(
     members: &[Member<A>],
 ) -> Result<(), AllocError>
     requires name { WordFits (begins_by A.span_from) A.fits_at at.base (word_of name.now) }
-    requires parent { MaybeTypeFits (begins_by A.span_from) A.fits_at at.base (option_map type_of parent.now) }
+    requires parent { MaybeTypeFits (begins_by A.span_from) A.fits_at at.base
+        (option_map type_of parent.now) }
     ensures { Gathers result sites.old.items sites.new.items (in_file at.file (class_item (record {
       at = word_at (begins_by A.span_from) at.base (word_of name.now);
       key = site_key_of key.now;
@@ -185,7 +191,8 @@ fn member<'a, A: Mark>(
 ) -> Result<(), AllocError>
     requires { MemberFits (begins_by A.span_from) A.fits_at at.base (member_of member.now) }
     ensures { Gathers result sites.old.items sites.new.items (in_file at.file
-        (member_sites (begins_by A.span_from) at.base (site_key_of of.now) (member_of member.now))) }
+        (member_sites (begins_by A.span_from) at.base (site_key_of of.now)
+        (member_of member.now))) }
 {
     let here = Within {
         file: at.file,
@@ -227,7 +234,8 @@ fn class<'a, A: Mark>(
 ) -> Result<(), AllocError>
     requires { ClassFits (begins_by A.span_from) A.fits_at at.base (class_of class.now) }
     ensures { Gathers result sites.old.items sites.new.items (in_file at.file
-        (class_sites (begins_by A.span_from) at.base (option_map text_of outer.now) (class_of class.now))) }
+        (class_sites (begins_by A.span_from) at.base (option_map text_of outer.now)
+        (class_of class.now))) }
 {
     let here = Within {
         file: at.file,
@@ -261,7 +269,8 @@ fn members<'a, A: Mark>(
 ) -> Result<(), AllocError>
     requires { MembersFit (begins_by A.span_from) A.fits_at at.base (members_of members.now) }
     ensures { Gathers result sites.old.items sites.new.items (in_file at.file
-        (members_sites (begins_by A.span_from) at.base (site_key_of of.now) (members_of members.now))) }
+        (members_sites (begins_by A.span_from) at.base (site_key_of of.now)
+        (members_of members.now))) }
 {
     for part in members {
         member(alloc, sites, at, of, part)?;

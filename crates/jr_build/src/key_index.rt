@@ -41,7 +41,8 @@ impl<'a> KeyIndex<'a> {
     ) -> Result<Option<u32>, AllocError>
         ensures before { IfOk result (λ before.
             before ≡ option_and_then (number_at self.old) (option_map site_key_of key.now)) }
-        ensures put { OnOk result (PutsMaybe self.old (option_map site_key_of key.now) number self.new) }
+        ensures put { OnOk result
+            (PutsMaybe self.old (option_map site_key_of key.now) number self.new) }
     {
         match key {
             None => Ok(None),

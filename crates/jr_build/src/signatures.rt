@@ -115,7 +115,8 @@ impl<'a> SignatureIndex<'a> {
         signature: Option<Signature<'a>>,
         number: u32,
     ) -> Result<Option<u32>, AllocError>
-        ensures before { IfOk result (λ before. before ≡ option_and_then (number_under self.old) signature.entry) }
+        ensures before { IfOk result (λ before.
+            before ≡ option_and_then (number_under self.old) signature.entry) }
         ensures put { OnOk result (PutsSignature self.old signature.entry number self.new) }
     {
         let Some(signature) = signature else {

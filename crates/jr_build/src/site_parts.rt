@@ -1,6 +1,7 @@
 //! The parts of sites, from the trees that write them.
 ghost use Rattle.std.specs.Prelude.{◌≡◌, IfOk, map, option_map, [], ◌∷◌, ◌&&◌};
-ghost use Rattle.jr_ast.specs.View.{word_of, modifier_of, type_of, param_of, expr_of, exprs_of, members_of};
+ghost use Rattle.jr_ast.specs.View.{word_of, modifier_of, type_of, param_of, expr_of, exprs_of};
+ghost use Rattle.jr_ast.specs.View.{members_of};
 ghost use Rattle.jr_table.specs.Sites.{word_at, written, words, param_site, init_site};
 ghost use Rattle.jr_table.specs.Sites.{is_minus, is_number, is_object, has_none, is_simple};
 ghost use Rattle.jr_table.specs.Sites.{writes_ctor};
@@ -49,7 +50,8 @@ pub(crate) fn written_type<'a, A: Mark>(ty: &'a TypeRef<A>, base: u32) -> Writte
 
 /// The text of a word, if there is one.
 fn maybe_text<'a, A>(word: &'a Option<Ident<A>>) -> Option<&'a str>
-    ensures { option_map (λ n. n.now) result ≡ option_map (λ w. w.text) (option_map word_of word.now) }
+    ensures { option_map (λ n. n.now) result
+        ≡ option_map (λ w. w.text) (option_map word_of word.now) }
 {
     match word {
         None => None,
@@ -140,7 +142,8 @@ fn is_literal<A: Mark>(of: &Expr<A>) -> bool
 
 /// Whether it is `-` before an int literal.
 fn is_negative<A: Mark>(op: UnOp, operand: &Expr<A>) -> bool
-    ensures { result ≡ (is_minus (begins_by A.span_from) op && is_number (begins_by A.span_from) (expr_of operand.now)) }
+    ensures { result ≡ (is_minus (begins_by A.span_from) op
+        && is_number (begins_by A.span_from) (expr_of operand.now)) }
 {
     match op {
         UnOp::Minus => is_literal(operand),

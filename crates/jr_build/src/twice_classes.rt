@@ -1,5 +1,7 @@
-//! Classes that are declared twice, and classes that have the name of a field or method beside them.
-ghost use Rattle.std.specs.Prelude.{◌≡◌, ◌<◌, ◌^◌, ◌↔◌, IsTrue, IfOk, List, Option, length, map, option_map};
+//! Classes that are declared twice, and classes that have the name of a field or method beside
+//! them.
+ghost use Rattle.std.specs.Prelude.{◌≡◌, ◌<◌, ◌^◌, ◌↔◌, IsTrue, IfOk, List, Option, length, map};
+ghost use Rattle.std.specs.Prelude.{option_map};
 ghost use Rattle.jr_table.specs.declared.kinds.DeclKind.TheVariants as kind;
 ghost use Rattle.jr_table.specs.Faults.{PackageLine, HasFault, IsNamedAsOuter};
 ghost use Rattle.jr_build.specs.KeyIndex.{class_key_at, key_in, name_key_at, IsIndexOf};

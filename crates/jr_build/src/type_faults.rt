@@ -31,7 +31,8 @@ pub(crate) fn lesser_of(first: Option<u32>, second: Option<u32>) -> Option<u32>
 
 /// Where a type stands that means nothing in a class.
 fn nothing_at<'a>(h: &Hierarchy<'a>, of: &SiteKey<'a>, written: &Written<'a>) -> Option<u32>
-    ensures { IsLeastAt (MeansNothing (hierarchy_of h.now) (site_key_of of.now) (written_of written.now))
+    ensures { IsLeastAt
+        (MeansNothing (hierarchy_of h.now) (site_key_of of.now) (written_of written.now))
         result }
 {
     match means(h, of, written) {
@@ -72,7 +73,8 @@ fn any_nothing_at<'a>(h: &Hierarchy<'a>, of: &SiteKey<'a>, params: &[ParamSite<'
 
 /// Where the first type of a method stands that means nothing.
 fn method_nothing_at<'a>(h: &Hierarchy<'a>, method: &MethodSite<'a>) -> Option<u32>
-    ensures { IsLeastAt (NothingAt (hierarchy_of h.now) (method_item (method_site_of method.now))) result }
+    ensures { IsLeastAt
+        (NothingAt (hierarchy_of h.now) (method_item (method_site_of method.now))) result }
 {
     let in_result = maybe_nothing_at(h, &method.of, &method.result);
     let in_params = any_nothing_at(h, &method.of, &method.params);

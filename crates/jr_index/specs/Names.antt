@@ -10,4 +10,5 @@ named t q = get_by (λ k. bytes_eq q k.now) t.numbers
 
 -- new has this number under the name, and the others as they were
 abbrev pub PutsNumber : Names → List ℕ → ℕ → Names → Type 0
-PutsNumber old name number new = (q : List ℕ) → named new q ≡ (if bytes_eq name q then Some number else named old q)
+PutsNumber old name number new = (q : List ℕ) →
+    named new q ≡ (if bytes_eq name q then Some number else named old q)

@@ -1,5 +1,16 @@
 -- Ways upwards among numbers, each of which has a parent or none.
-use Rattle.std.specs.Prelude.{◌≡◌, ℕ, zero, suc, ◌<◌, List, Option, Some, slice_get, option_and_then}
+use Rattle.std.specs.Prelude.{
+  ◌≡◌,
+  ℕ,
+  zero,
+  suc,
+  ◌<◌,
+  List,
+  Option,
+  Some,
+  slice_get,
+  option_and_then,
+}
 
 -- the parent of j
 abbrev pub next : List (Option ℕ) → ℕ → Option ℕ
@@ -24,4 +35,5 @@ Returns parents j = (steps : ℕ) × (up (suc steps) parents j ≡ Some j)
 
 -- what the way up from one of the first n numbers ever comes to, it comes to in fewer than n steps
 abbrev pub ComesEarly : List (Option ℕ) → ℕ → Type 0
-ComesEarly parents n = (steps j k : ℕ) → j < n → up steps parents j ≡ Some k → (s : ℕ) × (s < n) × (up s parents j ≡ Some k)
+ComesEarly parents n = (steps j k : ℕ) → j < n → up steps parents j ≡ Some k → (s : ℕ) × (s < n)
+    × (up s parents j ≡ Some k)

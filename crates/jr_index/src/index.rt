@@ -29,7 +29,8 @@ impl<'a> Index<'a> {
     /// One owner more, with no names.
     pub fn add_owner(&mut self) -> Result<(), AllocError>
         ensures owners { OnOk result (owners self.new ≡ owners self.old + 1) }
-        ensures found { OnOk result ((c : ℕ) (q : List ℕ) → found self.new c q ≡ found self.old c q) }
+        ensures found { OnOk result
+            ((c : ℕ) (q : List ℕ) → found self.new c q ≡ found self.old c q) }
     {
         self.by_owner.push(HashMap::new(self.alloc))?;
         Ok(())

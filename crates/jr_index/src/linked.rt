@@ -22,7 +22,8 @@ impl Linked {
     ghost use Rattle.std.specs.Prelude.{◌≡◌, ◌<◌, ◌+◌, ◌^◌, ℕ, suc, List, Option, Some};
     ghost use Rattle.std.specs.Prelude.{IfOk, OnOk, IfSome, slice_get};
     ghost use Rattle.jr_index.specs.NameTable.{owners};
-    ghost use Rattle.jr_index.specs.Linked.{place_of, first_of, next_of, ends, AreOwned, AreLinkedFrom};
+    ghost use Rattle.jr_index.specs.Linked.{place_of, first_of, next_of, ends, AreOwned};
+    ghost use Rattle.jr_index.specs.Linked.{AreLinkedFrom};
 
     /// So many owners and numbers, with no names.
     fn without_names(alloc: Global, owners: usize, count: usize) -> Result<Linked, AllocError>

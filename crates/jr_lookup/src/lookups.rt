@@ -119,10 +119,10 @@ pub fn field_of(
 /// The innermost enclosing class that has a member method of the name is searched. Candidates are
 /// its member methods of the name with as many parameters as arguments, each argument's type
 /// assignable to the parameter's. Of those that are accessible the one is found whose parameter
-/// types are assignable to those of every other. `NotAccessible` where there are candidates and none
-/// is accessible: the first. `Many` where none is most specific: the first two that are accessible,
-/// in text order. `FromStatic` where an instance method is found, and the place is in a static
-/// context or the class isn't the place's own. `Nothing` where there is no candidate.
+/// types are assignable to those of every other. `NotAccessible` where there are candidates and
+/// none is accessible: the first. `Many` where none is most specific: the first two that are
+/// accessible, in text order. `FromStatic` where an instance method is found, and the place is in a
+/// static context or the class isn't the place's own. `Nothing` where there is no candidate.
 #[tactic(auto, unfolding(jr_table::specs::Lookup::find_method_named))]
 pub fn method_named(
     alloc: Global,

@@ -1,4 +1,5 @@
--- What code answers, or want of memory: states, expressions in boxes, and expressions where they fit.
+-- What code answers, or want of memory: states, expressions in boxes, and expressions where they
+-- fit.
 use Rattle.std.specs.Prelude.{◌≡◌, Option, option_map, Result, IfOk}
 use Rattle.std.specs.Global.{Global}
 use Rattle.std.specs.declared.boxed.Box.{Box}
@@ -19,5 +20,6 @@ abbrev pub IsMade : {E : Type 0} → Result (Box (Expr Span) Global) E → Exp S
 IsMade result e = IfOk result (λ made. exp_in made ≡ e)
 
 -- the expression, or that there is none
-abbrev pub IsFilled : {E : Type 0} → Result (Option (Box (Expr Span) Global)) E → Option (Exp Span) → Type 0
+abbrev pub IsFilled : {E : Type 0} → Result (Option (Box (Expr Span) Global)) E →
+    Option (Exp Span) → Type 0
 IsFilled result e = IfOk result (λ made. filled made ≡ e)

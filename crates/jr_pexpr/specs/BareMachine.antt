@@ -3,7 +3,34 @@ use Rattle.std.specs.Prelude.{List, [], ◌∷◌, Option}
 use Rattle.jr_ast.specs.Tree.{Exp}
 use Rattle.jr_grammar.specs.Tokens.{Token}
 use Rattle.jr_grammar.specs.Bare.{Bare, bare_word, bare_type, bare, bare_target, bare_args}
-use Rattle.jr_pexpr.specs.Machine.{Head, call_head, super_head, create_head, Frame, in_unary, in_bump, in_binary, in_assign, in_compound, in_cast, in_paren, in_args, State, want, have, dotted, at_super, super_dotted, at_new, new_named, new_dotted, step, whole, statement_step, statement_whole}
+use Rattle.jr_pexpr.specs.Machine.{
+  Head,
+  call_head,
+  super_head,
+  create_head,
+  Frame,
+  in_unary,
+  in_bump,
+  in_binary,
+  in_assign,
+  in_compound,
+  in_cast,
+  in_paren,
+  in_args,
+  State,
+  want,
+  have,
+  dotted,
+  at_super,
+  super_dotted,
+  at_new,
+  new_named,
+  new_dotted,
+  step,
+  whole,
+  statement_step,
+  statement_whole,
+}
 use Rattle.jr_pexpr.specs.Runs.{run}
 
 abbrev pub no_join : Bare → Bare → Bare
@@ -26,7 +53,8 @@ abbrev pub bare_statement_whole : State Bare → Option (Exp Bare)
 bare_statement_whole s = statement_whole no_join s
 
 abbrev pub bare_statement_run : State Bare → List Token → Option (State Bare)
-bare_statement_run s ts = run (State Bare) Token (Exp Bare) bare_statement_step bare_statement_whole s ts
+bare_statement_run s ts =
+    run (State Bare) Token (Exp Bare) bare_statement_step bare_statement_whole s ts
 
 -- ---- states without marks
 

@@ -1,16 +1,97 @@
--- Reading an expression token by token: what has been begun stands on a stack. The marks are any that can be joined.
-use Rattle.std.specs.Prelude.{ℕ, ◌+◌, List, [], ◌∷◌, Option, Some, None, nat_lt, if◌then◌else◌, Bool, true, false}
+-- Reading an expression token by token: what has been begun stands on a stack. The marks are any
+-- that can be joined.
+use Rattle.std.specs.Prelude.{
+  ℕ,
+  ◌+◌,
+  List,
+  [],
+  ◌∷◌,
+  Option,
+  Some,
+  None,
+  nat_lt,
+  if◌then◌else◌,
+  Bool,
+  true,
+  false,
+}
 use Rattle.jr_ast.specs.declared.operators.UnOp.{UnOp}
 use Rattle.jr_ast.specs.declared.operators.UnOp.TheVariants.{Plus, Minus, Not}
 use Rattle.jr_ast.specs.declared.operators.BinOp.{BinOp}
 use Rattle.jr_ast.specs.declared.operators.BinOp.TheVariants.{Add, Sub, Mul, Div, Rem}
 use Rattle.jr_ast.specs.declared.operators.BumpOp.{BumpOp}
 use Rattle.jr_ast.specs.declared.operators.BumpOp.TheVariants.{PreInc, PreDec, PostInc, PostDec}
-use Rattle.jr_ast.specs.Tree.{Word, TypeName, named, Exp, number, truth, null, string, name, field, super_field, this, class_literal, call, super_call, create, paren, cast, unary, bump, binary, assign, compound, Target, no_target, on, Exps, end, more}
+use Rattle.jr_ast.specs.Tree.{
+  Word,
+  TypeName,
+  named,
+  Exp,
+  number,
+  truth,
+  null,
+  string,
+  name,
+  field,
+  super_field,
+  this,
+  class_literal,
+  call,
+  super_call,
+  create,
+  paren,
+  cast,
+  unary,
+  bump,
+  binary,
+  assign,
+  compound,
+  Target,
+  no_target,
+  on,
+  Exps,
+  end,
+  more,
+}
 use Rattle.jr_ast.specs.Marks.{exp_mark}
 use Rattle.jr_grammar.specs.Tokens.{Token}
-use Rattle.jr_grammar.specs.Shape.{rank_of, unary_level, level_of, greatest, is_minus, assignment_level, sign_level, unsigned_level, primary_level}
-use Rattle.jr_pexpr.specs.Pieces.{Way, up, down, Atom, a_number, a_truth, a_null, a_string, a_this, Piece, a_word, an_atom, a_super, a_new, a_class, an_open, a_close, a_comma, a_dot, a_bang, a_bump, an_operator, an_equals, a_compound, piece_of}
+use Rattle.jr_grammar.specs.Shape.{
+  rank_of,
+  unary_level,
+  level_of,
+  greatest,
+  is_minus,
+  assignment_level,
+  sign_level,
+  unsigned_level,
+  primary_level,
+}
+use Rattle.jr_pexpr.specs.Pieces.{
+  Way,
+  up,
+  down,
+  Atom,
+  a_number,
+  a_truth,
+  a_null,
+  a_string,
+  a_this,
+  Piece,
+  a_word,
+  an_atom,
+  a_super,
+  a_new,
+  a_class,
+  an_open,
+  a_close,
+  a_comma,
+  a_dot,
+  a_bang,
+  a_bump,
+  an_operator,
+  an_equals,
+  a_compound,
+  piece_of,
+}
 
 -- what stands before the arguments of a call or of `new`
 pub data Head (A : Type 0) : Type 0 where
@@ -135,7 +216,8 @@ plug join _ e = e
 -- ends what binds at least so tightly; None where what stands in it does not fit
 abbrev pub reduced : {A : Type 0} → (A → A → A) → ℕ → List (Frame A) → Exp A → Option (State A)
 reduced join k [] e = Some (have [] e)
-reduced join k (f ∷ fs) e = if nat_lt (binds f) k then Some (have (f ∷ fs) e) else (if fits f e then reduced join k fs (plug join f e) else None)
+reduced join k (f ∷ fs) e = if nat_lt (binds f) k then Some (have (f ∷ fs) e)
+    else (if fits f e then reduced join k fs (plug join f e) else None)
 
 abbrev pub operated : {A : Type 0} → BinOp → Option (State A) → Option (State A)
 operated o (Some (have fs e)) = Some (want (in_binary o e ∷ fs))
@@ -143,7 +225,8 @@ operated o _ = None
 
 abbrev pub closed : {A : Type 0} → (A → A → A) → A → Option (State A) → Option (State A)
 closed join at (Some (have (in_paren m ∷ fs) e)) = Some (have fs (paren (join m at) e))
-closed join at (Some (have (in_args h es ∷ fs) e)) = Some (have fs (applied join at h (with_last es e)))
+closed join at (Some (have (in_args h es ∷ fs) e)) =
+    Some (have fs (applied join at h (with_last es e)))
 closed join at _ = None
 
 abbrev pub continued : {A : Type 0} → Option (State A) → Option (State A)
@@ -180,7 +263,8 @@ emptied join at _ = None
 -- a token that begins an expression
 unfoldable pub begun : {A : Type 0} → (A → A → A) → List (Frame A) → A → Piece → Option (State A)
 begun join fs at (a_word w) = Some (have fs (name at (marked at w)))
-begun join fs at (an_atom a) = if atom_fits (behind_minus fs) a then Some (have fs (atom_exp at a)) else None
+begun join fs at (an_atom a) = if atom_fits (behind_minus fs) a then Some (have fs (atom_exp at a))
+    else None
 begun join fs at a_super = Some (at_super fs at)
 begun join fs at a_new = Some (at_new fs at)
 begun join fs at an_open = Some (want (in_paren at ∷ fs))
@@ -208,11 +292,14 @@ cast_of (paren m e) = cast_frame m (name_type e)
 cast_of _ = None
 
 -- behind a name in parentheses: they were a cast
-abbrev pub casted : {A : Type 0} → (A → A → A) → Option (Frame A) → List (Frame A) → A → Piece → Option (State A)
-casted join (Some f) fs at p = if nat_lt unsigned_level (needed fs) then None else begun join (f ∷ fs) at p
+abbrev pub casted : {A : Type 0} → (A → A → A) → Option (Frame A) → List (Frame A) → A → Piece →
+    Option (State A)
+casted join (Some f) fs at p = if nat_lt unsigned_level (needed fs) then None
+    else begun join (f ∷ fs) at p
 casted join None fs at p = None
 
--- an opening parenthesis: behind a name or a field a call, behind a name in parentheses what is cast
+-- an opening parenthesis: behind a name or a field a call, behind a name in parentheses what is
+-- cast
 abbrev pub opened : {A : Type 0} → (A → A → A) → List (Frame A) → Exp A → A → Option (State A)
 opened join fs (name m w) at = Some (want (in_args (call_head m no_target w) end ∷ fs))
 opened join fs (field m e w) at = Some (want (in_args (call_head m (on e) w) end ∷ fs))
@@ -223,14 +310,17 @@ abbrev pub assigned : {A : Type 0} → List (Frame A) → Exp A → Frame A → 
 assigned fs e f = if is_target e then at_most assignment_level fs (want (f ∷ fs)) else None
 
 abbrev pub bumped : {A : Type 0} → (A → A → A) → List (Frame A) → Exp A → A → Way → Option (State A)
-bumped join fs e at w = if is_target e then at_most unsigned_level fs (have fs (bump (join (exp_mark e) at) (behind w) e)) else None
+bumped join fs e at w = if is_target e
+    then at_most unsigned_level fs (have fs (bump (join (exp_mark e) at) (behind w) e)) else None
 
-unfoldable pub extended : {A : Type 0} → (A → A → A) → List (Frame A) → Exp A → A → Piece → Option (State A)
+unfoldable pub extended : {A : Type 0} → (A → A → A) → List (Frame A) → Exp A → A → Piece →
+    Option (State A)
 extended join fs e at a_dot = if nat_lt (level_of e) primary_level then None else Some (dotted fs e)
 extended join fs e at (a_bump w) = bumped join fs e at w
 extended join fs e at (an_operator o) = operated o (reduced join (rank_of o) fs e)
 extended join fs e at an_equals = assigned fs e (in_assign e)
-extended join fs e at (a_compound o) = if is_compound o then assigned fs e (in_compound o e) else None
+extended join fs e at (a_compound o) = if is_compound o then assigned fs e (in_compound o e)
+    else None
 extended join fs e at a_close = closed join at (reduced join assignment_level fs e)
 extended join fs e at a_comma = continued (reduced join assignment_level fs e)
 extended join fs e at an_open = opened join fs e at
@@ -247,7 +337,8 @@ abbrev pub literal_of : {A : Type 0} → List (Frame A) → A → Option (TypeNa
 literal_of fs m (Some t) = Some (have fs (class_literal m t))
 literal_of fs m None = None
 
-abbrev pub member : {A : Type 0} → (A → A → A) → List (Frame A) → Exp A → A → Piece → Option (State A)
+abbrev pub member : {A : Type 0} → (A → A → A) → List (Frame A) → Exp A → A → Piece →
+    Option (State A)
 member join fs e at (a_word w) = Some (have fs (field (join (exp_mark e) at) e (marked at w)))
 member join fs e at a_class = literal_of fs (join (exp_mark e) at) (name_type e)
 member join fs e at _ = None
@@ -258,7 +349,8 @@ abbrev pub behind_super : {A : Type 0} → List (Frame A) → A → Piece → Op
 behind_super fs m a_dot = Some (super_dotted fs m)
 behind_super fs m _ = None
 
-abbrev pub super_member : {A : Type 0} → (A → A → A) → List (Frame A) → A → A → Piece → Option (State A)
+abbrev pub super_member : {A : Type 0} → (A → A → A) → List (Frame A) → A → A → Piece →
+    Option (State A)
 super_member join fs m at (a_word w) = Some (have fs (super_field (join m at) (marked at w)))
 super_member join fs m at _ = None
 
@@ -270,13 +362,16 @@ abbrev pub new_outer : {A : Type 0} → List (Frame A) → A → TypeName A → 
 new_outer fs m (named n None w) = Some (new_dotted fs m w)
 new_outer fs m _ = None
 
-abbrev pub behind_new_name : {A : Type 0} → List (Frame A) → A → TypeName A → Piece → Option (State A)
+abbrev pub behind_new_name : {A : Type 0} → List (Frame A) → A → TypeName A → Piece →
+    Option (State A)
 behind_new_name fs m t a_dot = new_outer fs m t
 behind_new_name fs m t an_open = Some (want (in_args (create_head m t) end ∷ fs))
 behind_new_name fs m t _ = None
 
-abbrev pub new_inner : {A : Type 0} → (A → A → A) → List (Frame A) → A → Word A → A → Piece → Option (State A)
-new_inner join fs m o at (a_word w) = Some (new_named fs m (named (join o.mark at) (Some o) (marked at w)))
+abbrev pub new_inner : {A : Type 0} → (A → A → A) → List (Frame A) → A → Word A → A → Piece →
+    Option (State A)
+new_inner join fs m o at (a_word w) =
+    Some (new_named fs m (named (join o.mark at) (Some o) (marked at w)))
 new_inner join fs m o at _ = None
 
 -- ---- one step

@@ -26,4 +26,5 @@ abbrev pub span_statement_whole : State Span → Option (Exp Span)
 span_statement_whole s = statement_whole join s
 
 abbrev pub span_statement_run : State Span → List (Placed Span) → Option (State Span)
-span_statement_run s ps = run (State Span) (Placed Span) (Exp Span) span_statement_step span_statement_whole s ps
+span_statement_run s ps =
+    run (State Span) (Placed Span) (Exp Span) span_statement_step span_statement_whole s ps

@@ -1,11 +1,60 @@
 -- Tokens by what they can be in an expression.
 use Rattle.std.specs.Prelude.{ℕ, Bool, true, false, List}
 use Rattle.jr_lex.specs.declared.items.Keyword.{Keyword}
-use Rattle.jr_lex.specs.declared.items.Keyword.TheVariants.{Class, New, Super, This, True, False, Null}
+use Rattle.jr_lex.specs.declared.items.Keyword.TheVariants.{
+  Class,
+  New,
+  Super,
+  This,
+  True,
+  False,
+  Null,
+}
 use Rattle.jr_lex.specs.declared.items.Symbol.{Symbol}
-use Rattle.jr_lex.specs.declared.items.Symbol.TheVariants.{OpenParen, CloseParen, Comma, Dot, Equals, Bang, Plus, Minus, PlusPlus, MinusMinus, BarBar, AndAnd, EqualEqual, NotEqual, Less, Greater, LessEqual, GreaterEqual, Star, Slash, Percent, PlusEquals, MinusEquals, StarEquals, SlashEquals, PercentEquals}
+use Rattle.jr_lex.specs.declared.items.Symbol.TheVariants.{
+  OpenParen,
+  CloseParen,
+  Comma,
+  Dot,
+  Equals,
+  Bang,
+  Plus,
+  Minus,
+  PlusPlus,
+  MinusMinus,
+  BarBar,
+  AndAnd,
+  EqualEqual,
+  NotEqual,
+  Less,
+  Greater,
+  LessEqual,
+  GreaterEqual,
+  Star,
+  Slash,
+  Percent,
+  PlusEquals,
+  MinusEquals,
+  StarEquals,
+  SlashEquals,
+  PercentEquals,
+}
 use Rattle.jr_ast.specs.declared.operators.BinOp.{BinOp}
-use Rattle.jr_ast.specs.declared.operators.BinOp.TheVariants.{Or, And, Eq, Ne, Lt, Gt, Le, Ge, Add, Sub, Mul, Div, Rem}
+use Rattle.jr_ast.specs.declared.operators.BinOp.TheVariants.{
+  Or,
+  And,
+  Eq,
+  Ne,
+  Lt,
+  Gt,
+  Le,
+  Ge,
+  Add,
+  Sub,
+  Mul,
+  Div,
+  Rem,
+}
 use Rattle.jr_grammar.specs.Tokens.{Token, word, keyword, integer, text, symbol}
 use Rattle.jr_grammar.specs.Spelling.{binary_symbol, compound_symbol, truth_keyword}
 

@@ -1,5 +1,16 @@
 -- How far a machine comes that reads one thing at a time.
-use Rattle.std.specs.Prelude.{ℕ, suc, List, [], ◌∷◌, Option, Some, None, option_map, option_and_then}
+use Rattle.std.specs.Prelude.{
+  ℕ,
+  suc,
+  List,
+  [],
+  ◌∷◌,
+  Option,
+  Some,
+  None,
+  option_map,
+  option_and_then,
+}
 
 -- the longest up to here, or one further on
 abbrev pub best : {T : Type 0} → Option T → Option ℕ → Option ℕ

@@ -1,4 +1,5 @@
--- Stacks of what has been begun: what is asked of the innermost, and whether an expression can end there.
+-- Stacks of what has been begun: what is asked of the innermost, and whether an expression can end
+-- there.
 use Rattle.std.specs.Prelude.{ℕ, ◌<◌, ◌&&◌, Bool, true, false, List, [], ◌∷◌}
 use Rattle.jr_pexpr.specs.Machine.{Frame, in_bump, in_paren, in_args, State, want, binds, is_open}
 

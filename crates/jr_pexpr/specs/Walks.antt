@@ -1,5 +1,22 @@
--- How the items of a text are walked: the item behind the longest tree, the item where reading stops, and the state there.
-use Rattle.std.specs.Prelude.{ℕ, ◌+◌, Bool, true, false, List, [], ◌∷◌, Option, Some, None, is_some, option_map, unwrap_or, if◌then◌else◌}
+-- How the items of a text are walked: the item behind the longest tree, the item where reading
+-- stops, and the state there.
+use Rattle.std.specs.Prelude.{
+  ℕ,
+  ◌+◌,
+  Bool,
+  true,
+  false,
+  List,
+  [],
+  ◌∷◌,
+  Option,
+  Some,
+  None,
+  is_some,
+  option_map,
+  unwrap_or,
+  if◌then◌else◌,
+}
 use Rattle.jr_text.specs.declared.spans.Span.{Span}
 use Rattle.jr_lex.specs.declared.items.Item.{Item}
 use Rattle.jr_ast.specs.Tree.{Exp}
@@ -48,22 +65,31 @@ module _ (r : Rule) (bytes : List ℕ) where
   abbrev pub end_at : State Span → ℕ → Option ℕ → Option ℕ
   end_at s at end = if is_some (rule_whole r s) then Some at else end
 
-  -- the item behind the last token with which what has been read was whole; `end` where there is none
+  -- the item behind the last token with which what has been read was whole; `end` where there is
+  -- none
   abbrev pub walk_end : State Span → ℕ → Option ℕ → List Item → Option ℕ
   walk_end s at end [] = end
   walk_end s at end (i ∷ is) =
       unwrap_or
       (option_map
-      (λ (token : Token). unwrap_or (option_map (λ (n : State Span). walk_end n (at + 1) (end_at n (at + 1) end) is) (rule_step r s (placed i.span token))) end)
+      (λ (token : Token). unwrap_or
+      (option_map (λ (n : State Span). walk_end n (at + 1) (end_at n (at + 1) end) is)
+      (rule_step r s (placed i.span token))) end)
       (token_of bytes i.span i.kind))
       (walk_end s (at + 1) end is)
 
   -- the item of the first token that can't be read, or that behind all items
   abbrev pub walk_stop : State Span → ℕ → List Item → ℕ
   walk_stop s at [] = at
-  walk_stop s at (i ∷ is) = unwrap_or (option_map (λ (n : State Span). walk_stop n (at + 1) is) (next_of r s i.span (token_of bytes i.span i.kind))) at
+  walk_stop s at (i ∷ is) =
+      unwrap_or
+      (option_map (λ (n : State Span). walk_stop n (at + 1) is)
+      (next_of r s i.span (token_of bytes i.span i.kind))) at
 
   -- the state there
   abbrev pub walk_last : State Span → List Item → State Span
   walk_last s [] = s
-  walk_last s (i ∷ is) = unwrap_or (option_map (λ (n : State Span). walk_last n is) (next_of r s i.span (token_of bytes i.span i.kind))) s
+  walk_last s (i ∷ is) =
+      unwrap_or
+      (option_map (λ (n : State Span). walk_last n is)
+      (next_of r s i.span (token_of bytes i.span i.kind))) s

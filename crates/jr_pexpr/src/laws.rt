@@ -1,6 +1,9 @@
 ghost use Rattle.jr_grammar.specs.Expressions.{OneExpression, OneStatementExpression};
-ghost use Rattle.jr_pexpr.specs.Expressions.{OneMarkedExpression, OneMarked, LengthIsLongest, StatementLengthIsLongest, StopIsExact, StatementStopIsExact, StepsAlike, BuildsMarked};
-ghost use Rattle.jr_pexpr.specs.Parsing.{OneAnswer, IsExpressionFrom, IsNoExpressionFrom, IsStatementExpressionFrom, IsNoStatementExpressionFrom};
+ghost use Rattle.jr_pexpr.specs.Expressions.{OneMarkedExpression, OneMarked, LengthIsLongest};
+ghost use Rattle.jr_pexpr.specs.Expressions.{StatementLengthIsLongest, StopIsExact};
+ghost use Rattle.jr_pexpr.specs.Expressions.{StatementStopIsExact, StepsAlike, BuildsMarked};
+ghost use Rattle.jr_pexpr.specs.Parsing.{OneAnswer, IsExpressionFrom, IsNoExpressionFrom};
+ghost use Rattle.jr_pexpr.specs.Parsing.{IsStatementExpressionFrom, IsNoStatementExpressionFrom};
 
 use jr_grammar::{expression_ignores_marks, marks_are_one, readings_are_one};
 use jr_text::Span;

@@ -1,5 +1,6 @@
 //! The longest expression, or statement expression, that begins at an item of a text.
-ghost use Rattle.std.specs.Prelude.{◌≡◌, ◌≤◌, [], Some, IfOk, IfErr, IsErr, IfSome, length, slice_get, slice_range, option_map, option_and_then, unwrap_or};
+ghost use Rattle.std.specs.Prelude.{◌≡◌, ◌≤◌, [], Some, IfOk, IfErr, IsErr, IfSome, length};
+ghost use Rattle.std.specs.Prelude.{slice_get, slice_range, option_map, option_and_then, unwrap_or};
 ghost use Rattle.jr_lex.specs.declared.items.Item.{Item};
 ghost use Rattle.jr_lex.specs.Lexes.{Lexes};
 ghost use Rattle.jr_ast.specs.View.{expr_of};
@@ -11,7 +12,10 @@ ghost use Rattle.jr_pexpr.specs.StateView.{state_view};
 ghost use Rattle.jr_pexpr.specs.ExpView.{filled};
 ghost use Rattle.jr_lex.specs.Depth.{AreWithin};
 ghost use Rattle.jr_grammar.specs.Expressions.{HasNoExpression, HasNoStatementExpression};
-ghost use Rattle.jr_pexpr.specs.Parsing.{IsFault, tokens_from, HasExpression, HasStatementExpression, IsExpressionFrom, IsNoExpressionFrom, IsStatementExpressionFrom, IsNoStatementExpressionFrom};
+ghost use Rattle.jr_pexpr.specs.Parsing.{IsFault, tokens_from, HasExpression};
+ghost use Rattle.jr_pexpr.specs.Parsing.{HasStatementExpression, IsExpressionFrom};
+ghost use Rattle.jr_pexpr.specs.Parsing.{IsNoExpressionFrom, IsStatementExpressionFrom};
+ghost use Rattle.jr_pexpr.specs.Parsing.{IsNoStatementExpressionFrom};
 ghost use Rattle.jr_pexpr.specs.Rules.{IsFrom, IsNoneFor};
 ghost use Rattle.jr_pexpr.specs.Answers.{IsFilled};
 

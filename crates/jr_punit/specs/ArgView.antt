@@ -10,5 +10,6 @@ abbrev pub arg_state : ArgState → machine.State Span
 arg_state s = machine.in_argument (exprs_of s.args.items) (state_view s.last)
 
 -- the next state, or that there is none
-abbrev pub IsNextArg : {E : Type 0} → Result (Option ArgState) E → Option (machine.State Span) → Type 0
+abbrev pub IsNextArg : {E : Type 0} → Result (Option ArgState) E → Option (machine.State Span) →
+    Type 0
 IsNextArg result next = IfOk result (λ s. option_map arg_state s ≡ next)

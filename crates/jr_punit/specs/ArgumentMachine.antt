@@ -22,7 +22,10 @@ abbrev pub next_argument : {A : Type 0} → Exps A → Cue → Exp A → Option 
 next_argument es c e = at_comma c (in_argument (E.with_last es e) (E.want []))
 
 abbrev pub step : {A : Type 0} → (A → A → A) → State A → A → Token → Option (State A)
-step join s at t = inner (in_argument s.args) (option_and_then (next_argument s.args (cue_of t)) (E.whole join s.last)) (E.step join s.last at t)
+step join s at t =
+    inner (in_argument s.args)
+    (option_and_then (next_argument s.args (cue_of t)) (E.whole join s.last))
+    (E.step join s.last at t)
 
 -- no argument at all
 abbrev pub whole_none : {A : Type 0} → E.State A → Option (Exps A)

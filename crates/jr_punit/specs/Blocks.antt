@@ -1,4 +1,5 @@
--- What has been begun: which of it are lists, and what comes of the rest with a statement behind it.
+-- What has been begun: which of it are lists, and what comes of the rest with a statement behind
+-- it.
 use Rattle.std.specs.Prelude.{Bool, true, false, ◌&&◌, not, List, [], ◌∷◌}
 use Rattle.jr_ast.specs.StatementTree.{Stmt, branch, loop, no_else, otherwise}
 use Rattle.jr_ast.specs.Marks.{stmt_mark}

@@ -1,10 +1,33 @@
 -- Reading a class, token by token, over a machine for its members (JLS 8.1).
-use Rattle.std.specs.Prelude.{ℕ, Bool, false, List, [], ◌∷◌, ◌++◌, Option, Some, None, if◌then◌else◌, option_and_then}
+use Rattle.std.specs.Prelude.{
+  ℕ,
+  Bool,
+  false,
+  List,
+  [],
+  ◌∷◌,
+  ◌++◌,
+  Option,
+  Some,
+  None,
+  if◌then◌else◌,
+  option_and_then,
+}
 use Rattle.jr_ast.specs.Tree.{Word, TypeName}
 use Rattle.jr_ast.specs.MemberTree.{Modifier, Class, class, Member, Members, end, more}
 use Rattle.jr_grammar.specs.Tokens.{Token}
 use Rattle.jr_pexpr.specs.Machine.{marked}
-use Rattle.jr_punit.specs.Cues.{Cue, a_word, a_modifier, a_class, an_extends, an_open_brace, at_open_brace, at_close_brace, cue_of}
+use Rattle.jr_punit.specs.Cues.{
+  Cue,
+  a_word,
+  a_modifier,
+  a_class,
+  an_extends,
+  an_open_brace,
+  at_open_brace,
+  at_close_brace,
+  cue_of,
+}
 use Rattle.jr_punit.specs.Inside.{inner, settled}
 use Rattle.jr_punit.specs.TypeMachine as T
 use Rattle.jr_punit.specs.OwnMachine.{Lead, lead_of, modifier}
@@ -53,7 +76,8 @@ abbrev pub from_class : {A S : Type 0} → Lead A → A → Cue → Option (Stat
 from_class l at (a_word w) = Some (named l (marked at w))
 from_class l at _ = None
 
-module _ (A S : Type 0) (join : A → A → A) (fresh : S) (is_fresh : S → Bool) (member_step : List ℕ → S → A → Token → Option S) (member_whole : S → Option (Member A)) where
+module _ (A S : Type 0) (join : A → A → A) (fresh : S) (is_fresh : S → Bool) (member_step : List ℕ →
+    S → A → Token → Option S) (member_whole : S → Option (Member A)) where
   abbrev pub opened : Lead A → Word A → Option (TypeName A) → State A S
   opened l w parent = in_members (head_of l w parent) end fresh
 
@@ -66,7 +90,9 @@ module _ (A S : Type 0) (join : A → A → A) (fresh : S) (is_fresh : S → Boo
   behind_parent l w c t = at_open_brace c (opened l w (Some t))
 
   abbrev pub from_parent : Lead A → Word A → T.State A → A → Cue → Option (State A S)
-  from_parent l w s at c = inner (in_parent l w) (option_and_then (behind_parent l w c) (T.whole s)) (T.cue_step join s at c)
+  from_parent l w s at c =
+      inner (in_parent l w) (option_and_then (behind_parent l w c) (T.whole s))
+      (T.cue_step join s at c)
 
   -- ---- members
 
@@ -78,10 +104,12 @@ module _ (A S : Type 0) (join : A → A → A) (fresh : S) (is_fresh : S → Boo
   member_read h all s = settled (in_members h all) (behind_member h all) member_whole s
 
   abbrev pub closed : Head A → Members A → S → A → Cue → Option (State A S)
-  closed h all s at c = if is_fresh s then at_close_brace c (done (class_of join h at all)) else None
+  closed h all s at c = if is_fresh s then at_close_brace c (done (class_of join h at all))
+      else None
 
   abbrev pub from_members : Head A → Members A → S → A → Token → Cue → Option (State A S)
-  from_members h all s at t c = inner (member_read h all) (closed h all s at c) (member_step h.word.text s at t)
+  from_members h all s at t c =
+      inner (member_read h all) (closed h all s at c) (member_step h.word.text s at t)
 
   -- ---- one step
 

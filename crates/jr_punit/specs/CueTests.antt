@@ -1,6 +1,15 @@
 -- Whether a token is that one.
 use Rattle.std.specs.Prelude.{Bool, true, false}
-use Rattle.jr_punit.specs.Cues.{Cue, a_word, a_semicolon, a_comma, an_open, a_close, a_close_brace, a_super}
+use Rattle.jr_punit.specs.Cues.{
+  Cue,
+  a_word,
+  a_semicolon,
+  a_comma,
+  an_open,
+  a_close,
+  a_close_brace,
+  a_super,
+}
 
 abbrev pub is_semicolon : Cue → Bool
 is_semicolon a_semicolon = true

@@ -1,11 +1,48 @@
--- Tokens by what they can be in statements, members, classes and units, outside of their expressions.
+-- Tokens by what they can be in statements, members, classes and units, outside of their
+-- expressions.
 use Rattle.jr_lex.specs.declared.items.Keyword.{Keyword}
-use Rattle.jr_lex.specs.declared.items.Keyword.TheVariants.{Boolean, Class, Else, Extends, If, Int, Package, Return, Super, Void, While, Public as PublicWord, Protected as ProtectedWord, Private as PrivateWord, Static as StaticWord, Final as FinalWord, Volatile as VolatileWord, Synchronized as SynchronizedWord}
+use Rattle.jr_lex.specs.declared.items.Keyword.TheVariants.{
+  Boolean,
+  Class,
+  Else,
+  Extends,
+  If,
+  Int,
+  Package,
+  Return,
+  Super,
+  Void,
+  While,
+  Public as PublicWord,
+  Protected as ProtectedWord,
+  Private as PrivateWord,
+  Static as StaticWord,
+  Final as FinalWord,
+  Volatile as VolatileWord,
+  Synchronized as SynchronizedWord,
+}
 use Rattle.jr_lex.specs.declared.items.Symbol.{Symbol}
-use Rattle.jr_lex.specs.declared.items.Symbol.TheVariants.{OpenParen, CloseParen, OpenBrace, CloseBrace, Semicolon, Comma, Dot, Equals}
+use Rattle.jr_lex.specs.declared.items.Symbol.TheVariants.{
+  OpenParen,
+  CloseParen,
+  OpenBrace,
+  CloseBrace,
+  Semicolon,
+  Comma,
+  Dot,
+  Equals,
+}
 use Rattle.std.specs.Prelude.{ℕ, List, Option, Some, None}
 use Rattle.jr_ast.specs.declared.operators.ModWord.{ModWord}
-use Rattle.jr_ast.specs.declared.operators.ModWord.TheVariants.{Public, Protected, Private, Static, Final, Volatile, Synchronized}
+use Rattle.jr_ast.specs.declared.operators.ModWord.TheVariants.{
+  Public,
+  Protected,
+  Private,
+  Static,
+  Final,
+  Volatile,
+  Synchronized,
+}
 use Rattle.jr_grammar.specs.Tokens.{Token, word, keyword, integer, text, symbol}
 use Rattle.jr_grammar.specs.MemberSpelling.{modifier_keyword}
 

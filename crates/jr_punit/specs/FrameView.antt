@@ -20,18 +20,21 @@ head_view head.While = machine.while_head
 head_view head.Sync = machine.sync_head
 
 abbrev pub slot_view : Slot → machine.Slot Span
-slot_view (slot.Local at is_final type name) = machine.for_local at is_final (type_of type) (word_of name)
+slot_view (slot.Local at is_final type name) =
+    machine.for_local at is_final (type_of type) (word_of name)
 slot_view (slot.Return at) = machine.for_return at
 slot_view (slot.Head at head) = machine.for_head at (head_view head)
 
 abbrev pub branch_view : Branch → machine.Frame Span
 branch_view (branch.Then at condition) = machine.in_then at (expr_of condition.value)
-branch_view (branch.Else at condition first) = machine.in_else at (expr_of condition.value) (stmt_of first.value)
+branch_view (branch.Else at condition first) =
+    machine.in_else at (expr_of condition.value) (stmt_of first.value)
 branch_view (branch.Loop at condition) = machine.in_loop at (expr_of condition.value)
 
 abbrev pub block_view : Block → machine.Frame Span
 block_view (block.Plain at stmts) = machine.in_block at (stmts_of stmts.items)
-block_view (block.Sync at lock stmts) = machine.in_sync at (expr_of lock.value) (stmts_of stmts.items)
+block_view (block.Sync at lock stmts) =
+    machine.in_sync at (expr_of lock.value) (stmts_of stmts.items)
 
 abbrev pub frame_view : Frame → machine.Frame Span
 frame_view (frame.Branch b) = branch_view b

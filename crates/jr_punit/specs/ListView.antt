@@ -19,12 +19,15 @@ mode_view p (mode.Returning at) = machine.returning p.on p.all at
 mode_view p (mode.InExpr slot state) = machine.in_exp p.on p.all (slot_view slot) (state_view state)
 mode_view p (mode.InEval state) = machine.in_eval p.on p.all (state_view state)
 mode_view p (mode.Locked at lock) = machine.locked p.on p.all at (expr_of lock.value)
-mode_view p (mode.InType at is_final type) = machine.in_type p.on p.all at is_final (type_state type)
-mode_view p (mode.Named at is_final type name) = machine.named p.on p.all at is_final (type_of type) (word_of name)
+mode_view p (mode.InType at is_final type) =
+    machine.in_type p.on p.all at is_final (type_state type)
+mode_view p (mode.Named at is_final type name) =
+    machine.named p.on p.all at is_final (type_of type) (word_of name)
 
 abbrev pub list_state : ListState → machine.State Span
 list_state s = mode_view (place_view s.place) s.mode
 
 -- the next state, or that there is none
-abbrev pub IsNextList : {E : Type 0} → Result (Option ListState) E → Option (machine.State Span) → Type 0
+abbrev pub IsNextList : {E : Type 0} → Result (Option ListState) E → Option (machine.State Span) →
+    Type 0
 IsNextList result next = IfOk result (λ s. option_map list_state s ≡ next)

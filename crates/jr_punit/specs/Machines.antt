@@ -26,7 +26,9 @@ abbrev pub list_read : List Token → Option (Stmts Bare)
 list_read tokens = option_and_then list_whole (list_run Statements.start tokens)
 
 abbrev pub list_stop : List Token → ℕ
-list_stop tokens = Runs.stop_of (Statements.State Bare) Token (Stmts Bare) list_step list_whole Statements.start tokens
+list_stop tokens =
+    Runs.stop_of (Statements.State Bare) Token (Stmts Bare) list_step list_whole Statements.start
+    tokens
 
 -- ---- members of the class that has the name
 
@@ -36,18 +38,25 @@ member_step nested name s t = Members.step no_join nested name s tt t
 abbrev pub member_whole : Members.State Bare → Option (Member Bare)
 member_whole s = Members.whole s
 
-abbrev pub member_run : Bool → List ℕ → Members.State Bare → List Token → Option (Members.State Bare)
-member_run nested name s ts = Runs.run (Members.State Bare) Token (Member Bare) (member_step nested name) member_whole s ts
+abbrev pub member_run : Bool → List ℕ → Members.State Bare → List Token →
+    Option (Members.State Bare)
+member_run nested name s ts =
+    Runs.run (Members.State Bare) Token (Member Bare) (member_step nested name) member_whole s ts
 
 -- the member that the tokens are, if any
 abbrev pub member_read : Bool → List ℕ → List Token → Option (Member Bare)
-member_read nested name tokens = option_and_then member_whole (member_run nested name Members.start tokens)
+member_read nested name tokens =
+    option_and_then member_whole (member_run nested name Members.start tokens)
 
 abbrev pub member_length : Bool → List ℕ → List Token → Option ℕ
-member_length nested name tokens = Runs.longest (Members.State Bare) Token (Member Bare) (member_step nested name) member_whole Members.start tokens
+member_length nested name tokens =
+    Runs.longest (Members.State Bare) Token (Member Bare) (member_step nested name) member_whole
+    Members.start tokens
 
 abbrev pub member_stop : Bool → List ℕ → List Token → ℕ
-member_stop nested name tokens = Runs.stop_of (Members.State Bare) Token (Member Bare) (member_step nested name) member_whole Members.start tokens
+member_stop nested name tokens =
+    Runs.stop_of (Members.State Bare) Token (Member Bare) (member_step nested name) member_whole
+    Members.start tokens
 
 -- ---- units
 
@@ -65,4 +74,5 @@ abbrev pub unit_read : List Token → Option (UnitTree Bare)
 unit_read tokens = option_and_then unit_whole (unit_run Units.start tokens)
 
 abbrev pub unit_stop : List Token → ℕ
-unit_stop tokens = Runs.stop_of (Units.State Bare) Token (UnitTree Bare) unit_step unit_whole Units.start tokens
+unit_stop tokens =
+    Runs.stop_of (Units.State Bare) Token (UnitTree Bare) unit_step unit_whole Units.start tokens

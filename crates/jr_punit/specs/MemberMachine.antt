@@ -1,5 +1,5 @@
--- Reading one member, token by token: of the class that has the name. `nested` says whether that class is itself a member class,
--- which holds no class (JLS 8.5).
+-- Reading one member, token by token: of the class that has the name. `nested` says whether that
+-- class is itself a member class, which holds no class (JLS 8.5).
 use Rattle.std.specs.Prelude.{ℕ, Bool, false, List, Option, Some, None, if◌then◌else◌, option_map}
 use Rattle.jr_ast.specs.MemberTree.{Class, Member, inner as inner_member}
 use Rattle.jr_ast.specs.Marks.{class_mark}
@@ -27,11 +27,15 @@ abbrev pub begin_class : {A : Type 0} → Bool → Own.State A → A → Cue →
 begin_class nested s at a_class = if nested then None else class_begun s at
 begin_class nested s at _ = None
 
-abbrev pub inner_step : {A : Type 0} → (A → A → A) → Classes.State A (Own.State A) → A → Token → Option (Classes.State A (Own.State A))
-inner_step {A} join s at t = Classes.step A (Own.State A) join Own.start Own.is_start (Own.step join) Own.whole s at t
+abbrev pub inner_step : {A : Type 0} → (A → A → A) → Classes.State A (Own.State A) → A → Token →
+    Option (Classes.State A (Own.State A))
+inner_step {A} join s at t =
+    Classes.step A (Own.State A) join Own.start Own.is_start (Own.step join) Own.whole s at t
 
-abbrev pub step : {A : Type 0} → (A → A → A) → Bool → List ℕ → State A → A → Token → Option (State A)
-step join nested name (own s) at t = inner own (begin_class nested s at (cue_of t)) (Own.step join name s at t)
+abbrev pub step : {A : Type 0} → (A → A → A) → Bool → List ℕ → State A → A → Token →
+    Option (State A)
+step join nested name (own s) at t =
+    inner own (begin_class nested s at (cue_of t)) (Own.step join name s at t)
 step join nested name (in_class s) at t = option_map in_class (inner_step join s at t)
 
 abbrev pub class_member : {A : Type 0} → Class A → Member A

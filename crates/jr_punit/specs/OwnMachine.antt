@@ -1,5 +1,21 @@
--- Reading a member that is no class, token by token (JLS 8.3, 8.4, 8.8). The machine is told the name of the member's class.
-use Rattle.std.specs.Prelude.{ℕ, Bool, true, false, List, [], ◌∷◌, ◌++◌, Option, Some, None, if◌then◌else◌, option_map, option_and_then}
+-- Reading a member that is no class, token by token (JLS 8.3, 8.4, 8.8). The machine is told the
+-- name of the member's class.
+use Rattle.std.specs.Prelude.{
+  ℕ,
+  Bool,
+  true,
+  false,
+  List,
+  [],
+  ◌∷◌,
+  ◌++◌,
+  Option,
+  Some,
+  None,
+  if◌then◌else◌,
+  option_map,
+  option_and_then,
+}
 use Rattle.std.specs.Str.{bytes_eq}
 use Rattle.jr_ast.specs.declared.operators.ModWord.{ModWord}
 use Rattle.jr_ast.specs.Tree.{Word, TypeName, int, boolean, named, Exp, Exps}
@@ -7,7 +23,21 @@ use Rattle.jr_ast.specs.StatementTree as S
 use Rattle.jr_ast.specs.MemberTree.{Modifier, Param, Member, field, method, constructor}
 use Rattle.jr_grammar.specs.Tokens.{Token}
 use Rattle.jr_pexpr.specs.Machine as E
-use Rattle.jr_punit.specs.Cues.{Cue, a_word, a_modifier, a_void, a_super, an_open, a_semicolon, an_equals, at_semicolon, at_close, at_open_brace, at_close_brace, cue_of}
+use Rattle.jr_punit.specs.Cues.{
+  Cue,
+  a_word,
+  a_modifier,
+  a_void,
+  a_super,
+  an_open,
+  a_semicolon,
+  an_equals,
+  at_semicolon,
+  at_close,
+  at_open_brace,
+  at_close_brace,
+  cue_of,
+}
 use Rattle.jr_punit.specs.Inside.{inner}
 use Rattle.jr_punit.specs.TypeMachine as T
 use Rattle.jr_punit.specs.ArgumentMachine as Arguments
@@ -32,7 +62,8 @@ pub record Constructor (A : Type 0) : Type 0 where
 
 -- what stands before the statements of a body
 pub data Body (A : Type 0) : Type 0 where
-  method_body : (lead : Lead A) (result : Option (TypeName A)) (word : Word A) (params : List (Param A)) → Body A
+  method_body : (lead : Lead A) (result : Option (TypeName A)) (word : Word A)
+      (params : List (Param A)) → Body A
   constructor_body : (of : Constructor A) (parent_args : Option (Exps A)) → Body A
 
 pub data State (A : Type 0) : Type 0 where
@@ -103,8 +134,10 @@ behind_type name l at (a_word w) t = Some (worded l (Some t) (E.marked at w))
 behind_type name l at an_open t = option_map (begin_constructor l) (own_name name t)
 behind_type name l at _ t = None
 
-abbrev pub from_type : {A : Type 0} → (A → A → A) → List ℕ → Lead A → T.State A → A → Cue → Option (State A)
-from_type join name l s at c = inner (in_type l) (option_and_then (behind_type name l at c) (T.whole s)) (T.cue_step join s at c)
+abbrev pub from_type : {A : Type 0} → (A → A → A) → List ℕ → Lead A → T.State A → A → Cue →
+    Option (State A)
+from_type join name l s at c =
+    inner (in_type l) (option_and_then (behind_type name l at c) (T.whole s)) (T.cue_step join s at c)
 
 abbrev pub from_voided : {A : Type 0} → Lead A → A → Cue → Option (State A)
 from_voided l at (a_word w) = Some (worded l None (E.marked at w))
@@ -119,25 +152,34 @@ abbrev pub begin_value : {A : Type 0} → Lead A → Word A → TypeName A → S
 begin_value l w t = in_value l t w (E.want [])
 
 -- no field has the type `void`
-abbrev pub from_worded : {A : Type 0} → (A → A → A) → Lead A → Option (TypeName A) → Word A → A → Cue → Option (State A)
+abbrev pub from_worded : {A : Type 0} → (A → A → A) → Lead A → Option (TypeName A) → Word A → A →
+    Cue → Option (State A)
 from_worded join l result w at a_semicolon = option_map (field_without join l w at) result
 from_worded join l result w at an_equals = option_map (begin_value l w) result
 from_worded join l result w at an_open = Some (begin_params (method_head l result w))
 from_worded join l result w at _ = None
 
-abbrev pub field_with : {A : Type 0} → (A → A → A) → Lead A → TypeName A → Word A → A → Cue → Exp A → Option (State A)
-field_with join l t w at c e = at_semicolon c (done (field (join l.start at) l.modifiers t w (Some e)))
+abbrev pub field_with : {A : Type 0} → (A → A → A) → Lead A → TypeName A → Word A → A → Cue →
+    Exp A → Option (State A)
+field_with join l t w at c e =
+    at_semicolon c (done (field (join l.start at) l.modifiers t w (Some e)))
 
-abbrev pub from_value : {A : Type 0} → (A → A → A) → Lead A → TypeName A → Word A → E.State A → A → Token → Cue → Option (State A)
-from_value join l t w s at k c = inner (in_value l t w) (option_and_then (field_with join l t w at c) (E.whole join s)) (E.step join s at k)
+abbrev pub from_value : {A : Type 0} → (A → A → A) → Lead A → TypeName A → Word A → E.State A → A →
+    Token → Cue → Option (State A)
+from_value join l t w s at k c =
+    inner (in_value l t w) (option_and_then (field_with join l t w at c) (E.whole join s))
+    (E.step join s at k)
 
 -- ---- parameters
 
 abbrev pub behind_params : {A : Type 0} → Head A → Cue → List (Param A) → Option (State A)
 behind_params h c ps = at_close c (headed h ps)
 
-abbrev pub from_params : {A : Type 0} → (A → A → A) → Head A → Parameters.State A → A → Cue → Option (State A)
-from_params join h s at c = inner (in_params h) (option_and_then (behind_params h c) (Parameters.whole s)) (Parameters.cue_step join s at c)
+abbrev pub from_params : {A : Type 0} → (A → A → A) → Head A → Parameters.State A → A → Cue →
+    Option (State A)
+from_params join h s at c =
+    inner (in_params h) (option_and_then (behind_params h c) (Parameters.whole s))
+    (Parameters.cue_step join s at c)
 
 abbrev pub body_of : {A : Type 0} → Head A → List (Param A) → State A
 body_of (method_head l result w) ps = in_body (method_body l result w ps) Statements.start
@@ -146,21 +188,28 @@ body_of (constructor_head l w) ps = in_constructor (record { lead = l; word = w;
 -- ---- bodies
 
 abbrev pub built : {A : Type 0} → (A → A → A) → Body A → A → S.Stmts A → Member A
-built join (method_body l result w ps) at body = method (join l.start at) l.modifiers result w ps body
-built join (constructor_body k args) at body = constructor (join k.lead.start at) k.lead.modifiers k.word k.params args body
+built join (method_body l result w ps) at body =
+    method (join l.start at) l.modifiers result w ps body
+built join (constructor_body k args) at body =
+    constructor (join k.lead.start at) k.lead.modifiers k.word k.params args body
 
-abbrev pub body_closed : {A : Type 0} → (A → A → A) → Body A → A → Cue → S.Stmts A → Option (State A)
+abbrev pub body_closed : {A : Type 0} → (A → A → A) → Body A → A → Cue → S.Stmts A →
+    Option (State A)
 body_closed join b at c body = at_close_brace c (done (built join b at body))
 
-abbrev pub from_body : {A : Type 0} → (A → A → A) → Body A → Statements.State A → A → Token → Cue → Option (State A)
-from_body join b s at t c = inner (in_body b) (option_and_then (body_closed join b at c) (Statements.whole join s)) (Statements.step join s at t)
+abbrev pub from_body : {A : Type 0} → (A → A → A) → Body A → Statements.State A → A → Token → Cue →
+    Option (State A)
+from_body join b s at t c =
+    inner (in_body b) (option_and_then (body_closed join b at c) (Statements.whole join s))
+    (Statements.step join s at t)
 
 -- ---- `super(..);` first in a constructor
 
 abbrev pub without_super : {A : Type 0} → Constructor A → Body A
 without_super k = constructor_body k None
 
-abbrev pub from_constructor : {A : Type 0} → (A → A → A) → Constructor A → A → Token → Cue → Option (State A)
+abbrev pub from_constructor : {A : Type 0} → (A → A → A) → Constructor A → A → Token → Cue →
+    Option (State A)
 from_constructor join k at t a_super = Some (at_super k at)
 from_constructor join k at t c = from_body join (without_super k) Statements.start at t c
 
@@ -168,22 +217,27 @@ from_constructor join k at t c = from_body join (without_super k) Statements.sta
 abbrev pub super_read : {A : Type 0} → A → Statements.State A
 super_read m = Statements.in_eval [] S.end (E.at_super [] m)
 
-abbrev pub from_super : {A : Type 0} → (A → A → A) → Constructor A → A → A → Token → Cue → Option (State A)
+abbrev pub from_super : {A : Type 0} → (A → A → A) → Constructor A → A → A → Token → Cue →
+    Option (State A)
 from_super join k m at t an_open = Some (in_super k Arguments.start)
 from_super join k m at t c = from_body join (without_super k) (super_read m) at t c
 
 abbrev pub arguments_closed : {A : Type 0} → Constructor A → Cue → Exps A → Option (State A)
 arguments_closed k c es = at_close c (behind_super k es)
 
-abbrev pub from_arguments : {A : Type 0} → (A → A → A) → Constructor A → Arguments.State A → A → Token → Cue → Option (State A)
-from_arguments join k s at t c = inner (in_super k) (option_and_then (arguments_closed k c) (Arguments.whole join s)) (Arguments.step join s at t)
+abbrev pub from_arguments : {A : Type 0} → (A → A → A) → Constructor A → Arguments.State A → A →
+    Token → Cue → Option (State A)
+from_arguments join k s at t c =
+    inner (in_super k) (option_and_then (arguments_closed k c) (Arguments.whole join s))
+    (Arguments.step join s at t)
 
 abbrev pub with_super : {A : Type 0} → Constructor A → Exps A → State A
 with_super k es = in_body (constructor_body k (Some es)) Statements.start
 
 -- ---- one step
 
-abbrev pub cue_step : {A : Type 0} → (A → A → A) → List ℕ → State A → A → Token → Cue → Option (State A)
+abbrev pub cue_step : {A : Type 0} → (A → A → A) → List ℕ → State A → A → Token → Cue →
+    Option (State A)
 cue_step join name (modified ms) at t c = from_modified ms at c
 cue_step join name (in_type l s) at t c = from_type join name l s at c
 cue_step join name (voided l) at t c = from_voided l at c

@@ -15,9 +15,11 @@ params_view ps = map param_of ps.items
 
 abbrev pub param_state : ParamState → machine.State Span
 param_state (rust.Want ps) = machine.want (params_view ps)
-param_state (rust.InType ps start is_final type) = machine.in_type (params_view ps) start is_final (type_state type)
+param_state (rust.InType ps start is_final type) =
+    machine.in_type (params_view ps) start is_final (type_state type)
 param_state (rust.Have ps) = machine.have (params_view ps)
 
 -- the next state, or that there is none
-abbrev pub IsNextParam : {E : Type 0} → Result (Option ParamState) E → Option (machine.State Span) → Type 0
+abbrev pub IsNextParam : {E : Type 0} → Result (Option ParamState) E → Option (machine.State Span) →
+    Type 0
 IsNextParam result next = IfOk result (λ s. option_map param_state s ≡ next)

@@ -1,5 +1,19 @@
 -- Reading parameters, token by token (JLS 8.4.1).
-use Rattle.std.specs.Prelude.{ℕ, Bool, true, false, List, [], ◌∷◌, ◌++◌, Option, Some, None, option_map, option_and_then}
+use Rattle.std.specs.Prelude.{
+  ℕ,
+  Bool,
+  true,
+  false,
+  List,
+  [],
+  ◌∷◌,
+  ◌++◌,
+  Option,
+  Some,
+  None,
+  option_map,
+  option_and_then,
+}
 use Rattle.jr_ast.specs.declared.operators.ModWord.{ModWord}
 use Rattle.jr_ast.specs.declared.operators.ModWord.TheVariants.{Final}
 use Rattle.jr_ast.specs.Tree.{TypeName}
@@ -36,12 +50,16 @@ abbrev pub parameter : {A : Type 0} → (A → A → A) → A → Bool → A →
 parameter join m f at t w = record { mark = join m at; is_final = f; type = t; name = marked at w }
 
 -- the parameter's word
-abbrev pub named : {A : Type 0} → (A → A → A) → List (Param A) → A → Bool → A → Cue → TypeName A → Option (State A)
+abbrev pub named : {A : Type 0} → (A → A → A) → List (Param A) → A → Bool → A → Cue → TypeName A →
+    Option (State A)
 named join ps m f at (a_word w) t = Some (have (ps ++ (parameter join m f at t w ∷ [])))
 named join ps m f at _ t = None
 
-abbrev pub from_type : {A : Type 0} → (A → A → A) → List (Param A) → A → Bool → T.State A → A → Cue → Option (State A)
-from_type join ps m f s at c = inner (in_type ps m f) (option_and_then (named join ps m f at c) (T.whole s)) (T.cue_step join s at c)
+abbrev pub from_type : {A : Type 0} → (A → A → A) → List (Param A) → A → Bool → T.State A → A →
+    Cue → Option (State A)
+from_type join ps m f s at c =
+    inner (in_type ps m f) (option_and_then (named join ps m f at c) (T.whole s))
+    (T.cue_step join s at c)
 
 abbrev pub cue_step : {A : Type 0} → (A → A → A) → State A → A → Cue → Option (State A)
 cue_step join (want ps) at c = from_want ps at c

@@ -1,5 +1,18 @@
 -- Where a stop stands in a text: its byte and its item.
-use Rattle.std.specs.Prelude.{◌≡◌, ℕ, zero, suc, ◌≤◌, List, [], ◌∷◌, length, take, slice_get, MatchOption}
+use Rattle.std.specs.Prelude.{
+  ◌≡◌,
+  ℕ,
+  zero,
+  suc,
+  ◌≤◌,
+  List,
+  [],
+  ◌∷◌,
+  length,
+  take,
+  slice_get,
+  MatchOption,
+}
 use Rattle.jr_lex.specs.declared.items.ItemKind.{ItemKind}
 use Rattle.jr_lex.specs.declared.items.ItemKind.TheVariants.{Token as TokenItem, Blank, Comment}
 use Rattle.jr_lex.specs.declared.items.Item.{Item}
@@ -13,12 +26,13 @@ IsTokenItem (TokenItem k) = Unit {0}
 IsTokenItem Blank = ⊥
 IsTokenItem Comment = ⊥
 
--- In front of the item numbered k stand the text's first n tokens. The item is a token, and begins at the byte; or there is none,
--- and the byte is the text's length.
+-- In front of the item numbered k stand the text's first n tokens. The item is a token, and begins
+-- at the byte; or there is none, and the byte is the text's length.
 pub record StandsAt (bytes : List ℕ) (items : List Item) (n byte k : ℕ) : Type 0 where
   pub within : k ≤ length items
   pub before : tokens_of bytes (take k items) ≡ take n (tokens_of bytes items)
-  pub there : MatchOption (slice_get items k) (byte ≡ length bytes) (λ i. IsTokenItem i.kind × (i.span.from ≡ byte))
+  pub there : MatchOption (slice_get items k) (byte ≡ length bytes) (λ i. IsTokenItem i.kind
+      × (i.span.from ≡ byte))
 
 -- ---- how it is found
 
@@ -46,9 +60,12 @@ stop_byte bytes items n = byte_of (length bytes) (placed_of bytes items) n
 
 -- each number of tokens, up to all of them, has its place
 abbrev pub StopsHavePlaces : Type 0
-StopsHavePlaces = (bytes : List ℕ) (items : List Item) (n : ℕ) → n ≤ length (tokens_of bytes items) → StandsAt bytes items n (stop_byte bytes items n) (item_of items n)
+StopsHavePlaces = (bytes : List ℕ) (items : List Item) (n : ℕ) →
+    n ≤ length (tokens_of bytes items) →
+    StandsAt bytes items n (stop_byte bytes items n) (item_of items n)
 
 -- and no other
 abbrev pub StopsHaveOnePlace : Type 0
-StopsHaveOnePlace = (bytes : List ℕ) (items : List Item) (n byte k : ℕ) → n ≤ length (tokens_of bytes items) → StandsAt bytes items n byte k
+StopsHaveOnePlace = (bytes : List ℕ) (items : List Item) (n byte k : ℕ) →
+    n ≤ length (tokens_of bytes items) → StandsAt bytes items n byte k
     → (byte ≡ stop_byte bytes items n) × (k ≡ item_of items n)

@@ -3,7 +3,16 @@ use Rattle.std.specs.Prelude.{Bool, Option, Some, None, if◌then◌else◌}
 use Rattle.jr_ast.specs.Tree.{Word, TypeName, int, boolean, named}
 use Rattle.jr_grammar.specs.Tokens.{Token}
 use Rattle.jr_pexpr.specs.Machine.{marked}
-use Rattle.jr_punit.specs.Cues.{Primitive, an_int, a_boolean, Cue, a_word, a_primitive, a_dot, cue_of}
+use Rattle.jr_punit.specs.Cues.{
+  Primitive,
+  an_int,
+  a_boolean,
+  Cue,
+  a_word,
+  a_primitive,
+  a_dot,
+  cue_of,
+}
 
 pub data State (A : Type 0) : Type 0 where
   -- a type is to come; `primitive` says whether it may be `int` or `boolean`
@@ -18,7 +27,8 @@ primitive_type at a_boolean = boolean at
 
 abbrev pub from_want : {A : Type 0} → Bool → A → Cue → Option (State A)
 from_want primitive at (a_word w) = Some (have (named at None (marked at w)))
-from_want primitive at (a_primitive p) = if primitive then Some (have (primitive_type at p)) else None
+from_want primitive at (a_primitive p) = if primitive then Some (have (primitive_type at p))
+    else None
 from_want primitive at _ = None
 
 -- a dot behind a type of one word

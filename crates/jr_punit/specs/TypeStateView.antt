@@ -12,5 +12,6 @@ type_state (rust.Have type) = machine.have (type_of type)
 type_state (rust.Dotted outer) = machine.dotted (word_of outer)
 
 -- the next state, or that there is none
-abbrev pub IsNextType : {E : Type 0} → Result (Option TypeState) E → Option (machine.State Span) → Type 0
+abbrev pub IsNextType : {E : Type 0} → Result (Option TypeState) E → Option (machine.State Span) →
+    Type 0
 IsNextType result next = IfOk result (λ s. option_map type_state s ≡ next)

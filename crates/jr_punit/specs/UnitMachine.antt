@@ -1,5 +1,18 @@
 -- Reading a compilation unit, token by token (JLS 7.3, 7.4).
-use Rattle.std.specs.Prelude.{Bool, true, false, List, [], ◌∷◌, ◌++◌, Option, Some, None, if◌then◌else◌, option_map}
+use Rattle.std.specs.Prelude.{
+  Bool,
+  true,
+  false,
+  List,
+  [],
+  ◌∷◌,
+  ◌++◌,
+  Option,
+  Some,
+  None,
+  if◌then◌else◌,
+  option_map,
+}
 use Rattle.jr_ast.specs.Tree.{Word}
 use Rattle.jr_ast.specs.MemberTree.{Class, Unit as UnitTree}
 use Rattle.jr_grammar.specs.Tokens.{Token}
@@ -23,8 +36,11 @@ pub data State (A : Type 0) : Type 0 where
   -- among the classes
   in_classes : (words : List (Word A)) (classes : List (Class A)) (of : ClassState A) → State A
 
-abbrev pub class_step : {A : Type 0} → (A → A → A) → ClassState A → A → Token → Option (ClassState A)
-class_step {A} join s at t = Classes.step A (Members.State A) join Members.start Members.is_start (Members.step join false) Members.whole s at t
+abbrev pub class_step : {A : Type 0} → (A → A → A) → ClassState A → A → Token →
+    Option (ClassState A)
+class_step {A} join s at t =
+    Classes.step A (Members.State A) join Members.start Members.is_start (Members.step join false)
+    Members.whole s at t
 
 abbrev pub behind_class : {A : Type 0} → List (Word A) → List (Class A) → Class A → State A
 behind_class ws cs c = in_classes ws (cs ++ (c ∷ [])) Classes.start
@@ -33,7 +49,8 @@ behind_class ws cs c = in_classes ws (cs ++ (c ∷ [])) Classes.start
 abbrev pub class_read : {A : Type 0} → List (Word A) → List (Class A) → ClassState A → State A
 class_read ws cs s = settled (in_classes ws cs) (behind_class ws cs) Classes.whole s
 
-abbrev pub from_classes : {A : Type 0} → (A → A → A) → List (Word A) → List (Class A) → ClassState A → A → Token → Option (State A)
+abbrev pub from_classes : {A : Type 0} → (A → A → A) → List (Word A) → List (Class A) →
+    ClassState A → A → Token → Option (State A)
 from_classes join ws cs s at t = option_map (class_read ws cs) (class_step join s at t)
 
 abbrev pub from_start : {A : Type 0} → (A → A → A) → A → Token → Cue → Option (State A)

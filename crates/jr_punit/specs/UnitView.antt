@@ -1,5 +1,17 @@
 -- How far a unit has been read, as the machine has it.
-use Rattle.std.specs.Prelude.{◌≡◌, Bool, true, false, List, Vec, Option, option_map, Result, IfOk, map}
+use Rattle.std.specs.Prelude.{
+  ◌≡◌,
+  Bool,
+  true,
+  false,
+  List,
+  Vec,
+  Option,
+  option_map,
+  Result,
+  IfOk,
+  map,
+}
 use Rattle.std.specs.Global.{Global}
 use Rattle.jr_text.specs.declared.spans.Span.{Span}
 use Rattle.jr_ast.specs.declared.names.Ident.{Ident}
@@ -23,10 +35,12 @@ abbrev pub unit_state : UnitState → machine.State Span
 unit_state rust.Start = machine.start
 unit_state (rust.InPackage words) = machine.in_package (words_view words)
 unit_state (rust.Worded words) = machine.worded (words_view words)
-unit_state (rust.InClasses words classes of) = machine.in_classes (words_view words) (classes_view classes) (class_state of)
+unit_state (rust.InClasses words classes of) =
+    machine.in_classes (words_view words) (classes_view classes) (class_state of)
 
 -- the next state, or that there is none
-abbrev pub IsNextUnit : {E : Type 0} → Result (Option UnitState) E → Option (machine.State Span) → Type 0
+abbrev pub IsNextUnit : {E : Type 0} → Result (Option UnitState) E → Option (machine.State Span) →
+    Type 0
 IsNextUnit result next = IfOk result (λ s. option_map unit_state s ≡ next)
 
 abbrev pub is_package : Cue → Bool

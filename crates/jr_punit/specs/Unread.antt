@@ -8,4 +8,5 @@ use Rattle.jr_punit.specs.StopPlaces.{byte_of}
 -- it reads no unit, and stops at the byte
 pub record IsUnread (bytes : List ℕ) (items : List Item) (at : ℕ) : Type 0 where
   pub read : span_unit_read (length bytes) (placed_of bytes items) ≡ None
-  pub byte : at ≡ byte_of (length bytes) (placed_of bytes items) (span_unit_stop (length bytes) (placed_of bytes items))
+  pub byte : at ≡ byte_of (length bytes) (placed_of bytes items)
+      (span_unit_stop (length bytes) (placed_of bytes items))

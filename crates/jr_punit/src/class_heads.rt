@@ -12,7 +12,8 @@ ghost use Rattle.jr_punit.specs.OwnMachine as Own;
 ghost use Rattle.jr_punit.specs.ClassMachine as machine;
 ghost use Rattle.jr_punit.specs.MemberMachine as Members;
 ghost use Rattle.jr_punit.specs.UnitMachine as Units;
-ghost use Rattle.jr_punit.specs.ClassView.{class_start, IsBegun, inner_named, top_named, inner_parent, top_parent};
+ghost use Rattle.jr_punit.specs.ClassView.{class_start, IsBegun, inner_named, top_named};
+ghost use Rattle.jr_punit.specs.ClassView.{inner_parent, top_parent};
 
 use crate::cues::{Cue, cue_of};
 use crate::leads::{Lead, with_modifier};

@@ -9,7 +9,8 @@ ghost use Rattle.jr_punit.specs.Cues.{cue_of};
 ghost use Rattle.jr_punit.specs.ClassMachine as Classes;
 ghost use Rattle.jr_punit.specs.MemberMachine as Members;
 ghost use Rattle.jr_punit.specs.UnitMachine as machine;
-ghost use Rattle.jr_punit.specs.ClassView.{class_head, member_state, class_start, begun_class, class_state, top_read, closed_at, IsNextClass};
+ghost use Rattle.jr_punit.specs.ClassView.{class_head, member_state, class_start, begun_class};
+ghost use Rattle.jr_punit.specs.ClassView.{class_state, top_read, closed_at, IsNextClass};
 ghost use Rattle.jr_punit.specs.InPlace.{GoesTo};
 
 use crate::class_heads::{BegunClass, ClassHead, ClassStart};

@@ -10,7 +10,8 @@ ghost use Rattle.jr_punit.specs.OwnMachine as Own;
 ghost use Rattle.jr_punit.specs.OwnView.{own_state};
 ghost use Rattle.jr_punit.specs.ClassMachine as Classes;
 ghost use Rattle.jr_punit.specs.MemberMachine as machine;
-ghost use Rattle.jr_punit.specs.ClassView.{class_head, class_start, begun_class, inner_class, inner_read, closed_at, IsNextInner};
+ghost use Rattle.jr_punit.specs.ClassView.{class_head, class_start, begun_class, inner_class};
+ghost use Rattle.jr_punit.specs.ClassView.{inner_read, closed_at, IsNextInner};
 ghost use Rattle.jr_punit.specs.InPlace.{GoesTo};
 
 use crate::class_heads::{BegunClass, ClassHead, ClassStart};

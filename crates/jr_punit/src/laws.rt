@@ -3,7 +3,9 @@ ghost use Rattle.jr_punit.specs.MarkedAlike.{ReadsAlike, ReadsMarked};
 ghost use Rattle.jr_punit.specs.OneReading.{OneReading, OneMarkedTree};
 ghost use Rattle.jr_punit.specs.Parsing.{OneAnswer};
 ghost use Rattle.jr_punit.specs.StopPlaces.{StopsHavePlaces, StopsHaveOnePlace};
-ghost use Rattle.jr_punit.specs.Exact.{ListIsRead, ListStopIsExact, MemberIsRead, MemberLengthIsLongest, MemberStopIsExact, UnitIsRead, UnitStopIsExact};
+ghost use Rattle.jr_punit.specs.Exact.{ListIsRead, ListStopIsExact, MemberIsRead};
+ghost use Rattle.jr_punit.specs.Exact.{MemberLengthIsLongest, MemberStopIsExact, UnitIsRead};
+ghost use Rattle.jr_punit.specs.Exact.{UnitStopIsExact};
 
 use jr_grammar::{
     marks_are_one, member_ignores_marks, readings_are_one, statement_ignores_marks,
@@ -17,7 +19,8 @@ pub fn one_list()
     ensures { OneList }
 {}
 
-/// The machine for lists of statements reads the list that tokens are, and none only where they are none.
+/// The machine for lists of statements reads the list that tokens are, and none only where they are
+/// none.
 pub fn list_is_read()
     ensures { ListIsRead }
 {}
@@ -62,8 +65,8 @@ pub fn unit_stop_is_exact()
     ensures { UnitStopIsExact }
 {}
 
-/// Each number of tokens of a text, as a stop is, has a place there: the first byte of the token behind them and
-/// its item, or the text's length. It has no other.
+/// Each number of tokens of a text, as a stop is, has a place there: the first byte of the token
+/// behind them and its item, or the text's length. It has no other.
 pub fn stops_have_places()
     ensures place { StopsHavePlaces }
     ensures one { StopsHaveOnePlace }
@@ -74,7 +77,8 @@ pub fn marked_reads_alike()
     ensures { ReadsAlike }
 {}
 
-/// What the machines read over tokens with places has the span of each node's tokens as that node's mark.
+/// What the machines read over tokens with places has the span of each node's tokens as that node's
+/// mark.
 pub fn marks_are_spans()
     ensures { ReadsMarked }
 {
@@ -93,8 +97,8 @@ pub fn one_reading<A>()
     unit_ignores_marks::<A, ()>();
 }
 
-/// Tokens with places are one unit at most with its spans, one member of a class, one list of statements and one
-/// statement: the marks are one too.
+/// Tokens with places are one unit at most with its spans, one member of a class, one list of
+/// statements and one statement: the marks are one too.
 pub fn one_marked_tree()
     ensures { OneMarkedTree }
 {

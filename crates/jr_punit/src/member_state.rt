@@ -9,7 +9,8 @@ ghost use Rattle.jr_punit.specs.OwnMachine as Own;
 ghost use Rattle.jr_punit.specs.OwnView.{own_state, begun};
 ghost use Rattle.jr_punit.specs.ClassMachine as Classes;
 ghost use Rattle.jr_punit.specs.MemberMachine as machine;
-ghost use Rattle.jr_punit.specs.ClassView.{inner_class, member_state, is_modified as is_pure, is_class as is_cue, begins_class};
+ghost use Rattle.jr_punit.specs.ClassView.{inner_class, member_state, is_modified as is_pure};
+ghost use Rattle.jr_punit.specs.ClassView.{is_class as is_cue, begins_class};
 ghost use Rattle.jr_punit.specs.InPlace.{GoesTo};
 
 use crate::class_heads::ClassStart;

@@ -196,8 +196,8 @@ fn read(rt: &impl Abort, alloc: Global, text: &str) -> String {
     }
 }
 
-/// The deepest statements of a text within the limits: blocks in blocks with `if` before each, and a
-/// chain of `else` inside.
+/// The deepest statements of a text within the limits: blocks in blocks with `if` before each, and
+/// a chain of `else` inside.
 fn deep(rt: &impl Abort, alloc: Global) -> String {
     let mut text = String::new(alloc);
     text.push_str("class A{void m(){").expect(rt, "memory");

@@ -11,7 +11,8 @@ ghost use Rattle.jr_punit.specs.ClassMachine as Classes;
 ghost use Rattle.jr_punit.specs.ClassView.{class_state};
 ghost use Rattle.jr_punit.specs.InPlace.{GoesTo};
 ghost use Rattle.jr_punit.specs.UnitMachine as machine;
-ghost use Rattle.jr_punit.specs.UnitView.{unit_state, words_view, classes_view, is_package as is_package_word, IsNextUnit};
+ghost use Rattle.jr_punit.specs.UnitView.{unit_state, words_view, classes_view};
+ghost use Rattle.jr_punit.specs.UnitView.{is_package as is_package_word, IsNextUnit};
 
 use crate::class_state::ClassState;
 use crate::cues::{Cue, cue_of};

@@ -14,16 +14,16 @@ use Rattle.jr_session.specs.ReadingLaws.{HasOneReading}
 use Rattle.jr_session.specs.Sources.{Source, texts_of}
 use Rattle.jr_session.specs.Kept.{AreReadings}
 use Rattle.jr_session.specs.FirstFault.{AreRead, IsFileFault}
-use Rattle.jr_session.specs.FirstOf.{HaveNone, IsFirstOf, AreAllRead, IsFileFaultAt}
+use Rattle.jr_session.specs.FirstOf.{HaveNone, IsFirstOf, IsFileFaultAt}
 use Rattle.jr_session.proofs.SourceLaws.{length-texts}
 
 -- an element within
-element : {X : Type 0} (xs : List X) (i : ℕ) → i < length xs → (x : X) × (slice_get xs i ≡ Some x)
+pub element : {X : Type 0} (xs : List X) (i : ℕ) → i < length xs → (x : X) × (slice_get xs i ≡ Some x)
 element [] i h = absurd (omega arith)
 element (x ∷ xs) zero h = (x, refl)
 element (x ∷ xs) (suc i) h = element xs i (omega arith)
 
-text_there : (ss : List Source) (i : ℕ) (s : Source) → slice_get ss i ≡ Some s → slice_get (texts_of ss) i ≡ Some s.text
+pub text_there : (ss : List Source) (i : ℕ) (s : Source) → slice_get ss i ≡ Some s → slice_get (texts_of ss) i ≡ Some s.text
 text_there [] i s h = absurd (none-some s h)
 text_there (x ∷ xs) zero s h = ap (λ (o : Source). Some o.text) (same_Some x s h)
 text_there (x ∷ xs) (suc i) s h = text_there xs i s h
@@ -57,17 +57,14 @@ module _ (sources : List Source) (r : Readings) (h : AreReadings (texts_of sourc
       let w = element r.words.items i (omega arith) in
       (u.0, w.0, h.each i s.text u.0 w.0 f (text_there sources i s a) u.1 w.1 b)
 
-  pub all_read : HaveNone r.faults.items → AreAllRead sources
-  all_read none =
+  pub read_units : HaveNone r.faults.items → AreRead sources (map unit_of r.units.items) r.words.items
+  read_units none =
       let lt = length-texts sources in
-      let hf = h.faults in (
-        map unit_of r.units.items,
-        r.words.items,
-        each_read sources r.units.items r.words.items (h.units ∙ lt) (h.words ∙ lt)
-            (λ i s u w a b c.
-            let in' = slice_get_within sources i s a in
-            h.each i s.text u w None (text_there sources i s a) b c (none i (omega arith))),
-      )
+      let hf = h.faults in
+      each_read sources r.units.items r.words.items (h.units ∙ lt) (h.words ∙ lt)
+      (λ i s u w a b c.
+      let in' = slice_get_within sources i s a in
+      h.each i s.text u w None (text_there sources i s a) b c (none i (omega arith)))
 
   pub fault_at : HasOneReading → (number : ℕ) (f : ReadingFault) → IsFirstOf r.faults.items number f → IsFileFaultAt sources number f
   fault_at law number f first =

@@ -6,7 +6,7 @@ use Rattle.std.specs.declared.string.String.{String}
 use Rattle.std.specs.String.{string_eq}
 use Rattle.std.specs.Str.{bytes_eq}
 use Rattle.std.proofs.lemmas.Slice.Eq.{bytes_eq-Decides}
-use Rattle.std.proofs.lemmas.Option.{slice_get-map, slice_get-get_or, none-some}
+use Rattle.std.proofs.lemmas.Option.{slice_get-map, slice_get-get_or, none-some, same_Some}
 use Rattle.std.specs.List.{position_from}
 use Rattle.std.proofs.lemmas.Bool.{false_from_ne_true, cond-false}
 use Rattle.std.proofs.lemmas.Iterator.Adapters.{position_from-zero}
@@ -34,6 +34,11 @@ texts-values (e ∷ es) = ap (λ (l : List (List ℕ)). e.1 ∷ l) (texts-values
 pub names-keys : {Y : Type 0} (es : List (String Y × List ℕ)) → names_of (sources_of es) ≡ map (λ (k : String Y). string_bytes k) (map (λ e. e.0) es)
 names-keys [] = refl
 names-keys (e ∷ es) = ap (λ (l : List (List ℕ)). string_bytes e.0 ∷ l) (names-keys es)
+
+pub name_at : {Y : Type 0} (es : List (String Y × List ℕ)) (i : ℕ) (e : String Y × List ℕ) → slice_get es i ≡ Some e → HasName (sources_of es) i (string_bytes e.0)
+name_at [] i e h = absurd (none-some e h)
+name_at (x ∷ xs) zero e h = ap (λ o. Some (string_bytes o.0)) (same_Some x e h)
+name_at (x ∷ xs) (suc i) e h = name_at xs i e h
 
 -- the first element that passes a test, and that none does
 at_position : {X : Type 0} (p : X → Bool) (xs : List X) (i : ℕ) → position p xs ≡ Some i → (x : X) × (slice_get xs i ≡ Some x) × (p x ≡ true)

@@ -12,3 +12,16 @@ pub mod SessionSteps
 pub mod AllRead
 pub mod StepCases
 pub mod FirstTokens
+pub mod Heads
+pub mod Spans
+pub mod PartsFit
+pub mod InFiles
+pub mod SiteFiles
+pub mod Analysing
+pub mod Lexing
+pub mod ShownLines
+pub mod ShowSteps
+pub mod StepLaws
+pub mod SourceFaults
+pub mod ReadUnits
+pub mod Showing

@@ -1,13 +1,14 @@
 -- The states behind an exchange of texts.
 use Rattle.std.proofs.Common.{◌≡◌, ℕ, ◌+◌, ◌<◌, List, [], ◌∷◌, ◌++◌, set, length, refl, sym, ap, subst, ◌∙◌, arith}
 use Rattle.std.specs.List.{slice_get, All}
-use Rattle.std.specs.Prelude.{Some}
+use Rattle.std.specs.Prelude.{Some, None}
 use Rattle.std.proofs.lemmas.List.Elements.{All-push, All-pop, All-append}
 use Rattle.jr_session.specs.declared.changes.Change.{Change}
 use Rattle.jr_session.specs.declared.kept.Readings.{Readings}
 use Rattle.jr_session.specs.Sources.{Source, names_of, texts_of, with_text}
 use Rattle.jr_session.specs.States.{State, changed, IsUndone, IsRedone}
 use Rattle.jr_session.specs.Changes.{history, AreChanges}
+use Rattle.jr_session.specs.Analysed.{IsKeptAnalysis}
 use Rattle.jr_session.specs.Kept.{AreReadings, IsKept}
 use Rattle.jr_session.specs.Turns.{IsChanged, IsTurn}
 use Rattle.jr_session.proofs.SourceLaws.{names-with_text, texts-with_text, length-with_text}
@@ -78,11 +79,16 @@ more_changes : (n number : ℕ) (old : List ℕ) (cs cs' : List Change) → cs' 
 more_changes n number old cs cs' e within h =
     subst (λ (xs : List Change). AreChanges n xs) (sym e) (All-push (λ (c : Change). c.file < n) cs (record { file = number; text = old }) h within)
 
-pub kept_edited : (sources sources' : List Source) (readings' : Readings) (undo undo' redo' : List Change) (number : ℕ) (text : List ℕ) → IsChanged sources undo number text sources' undo' → redo' ≡ [] → number < length sources → AreChanges (length sources) undo → AreReadings (texts_of sources') readings' → IsKept sources' readings' undo' redo'
+-- nothing was analysed
+pub nothing_kept : (sources : List Source) → IsKeptAnalysis sources None
+nothing_kept sources a e = cc
+
+pub kept_edited : (sources sources' : List Source) (readings' : Readings) (undo undo' redo' : List Change) (number : ℕ) (text : List ℕ) → IsChanged sources undo number text sources' undo' → redo' ≡ [] → number < length sources → AreChanges (length sources) undo → AreReadings (texts_of sources') readings' → IsKept sources' readings' undo' redo' None
 kept_edited sources sources' readings' undo undo' redo' number text h none within changes readings = record {
   readings = readings;
   undo = still_changes sources sources' number text undo' h.becomes (more_changes (length sources) number h.old undo undo' h.kept within changes);
   redo = subst (λ (xs : List Change). AreChanges (length sources') xs) (sym none) (λ k d l. absurd (omega arith));
+  analysed = nothing_kept sources';
 }
 
 front_changes : (n : ℕ) (cs cs' : List Change) (change : Change) → cs ≡ cs' ++ change ∷ [] → AreChanges n cs → AreChanges n cs' × (change.file < n)

@@ -18,7 +18,7 @@ use Rattle.jr_session.specs.States.{State, begun, changed, IsUndone, IsRedone}
 use Rattle.jr_session.specs.Lengths.{AreTooLong}
 use Rattle.jr_session.specs.ReadingFaults.{first_token_at}
 use Rattle.jr_session.specs.Refusing.{IsFirstRefusal, rank_of}
-use Rattle.jr_session.specs.Lines.{Line, reference, broken, line_text, bytes_of, ComesBefore, AreInOrder}
+use Rattle.jr_shown.specs.Lines.{Line, reference, broken, line_text, bytes_of, ComesBefore, AreInOrder}
 use Rattle.jr_session.proofs.EditLaws.{first_bad_span}
 
 -- ---- lines

@@ -20,14 +20,11 @@ use Rattle.jr_table.specs.declared.kinds.DeclKind.{DeclKind}
 use Rattle.jr_table.specs.Names.{kind_name}
 use Rattle.jr_table.specs.Sites.{sites_of}
 use Rattle.jr_table.specs.Faults.{Place, PackageLine, IsFirstFault, IsClean}
+use Rattle.jr_places.specs.FileParts.{begins}
 use Rattle.jr_session.specs.declared.faults.ReadingFault.{ReadingFault}
 use Rattle.jr_session.specs.FaultNames.{fault_name}
 use Rattle.jr_session.specs.ReadingFaults.{HasFault, ReadsAs}
 use Rattle.jr_session.specs.Sources.{Source}
-
--- where a node with its span as its mark begins, wherever its parent does
-abbrev pub begins : Span → ℕ → ℕ
-begins m base = m.from
 
 -- each source reads as its unit, and its first token begins at its place
 abbrev pub AreRead : List Source → List (UnitTree Span) → List ℕ → Type 0

@@ -13,5 +13,8 @@ pub mod FirstFault
 pub mod Lines
 pub mod Refusing
 pub mod Stepping
+pub mod Serving
+pub mod Work
+pub mod Analysed
 pub mod ReadingLaws
 pub mod FirstOf

@@ -39,7 +39,8 @@ use Rattle.jr_session.specs.Sources.{IsFile, LacksFile, texts_of, with_text, tot
 use Rattle.jr_session.specs.States.{State}
 use Rattle.jr_session.specs.Lengths.{AreTooLong}
 use Rattle.jr_session.specs.FirstFault.{IsFirstFaultOf}
-use Rattle.jr_session.specs.Lines.{AreLineTexts, bytes_of}
+use Rattle.jr_shown.specs.Lines.{bytes_of}
+use Rattle.jr_session.specs.Lines.{AreLineTexts}
 
 -- ---- steps
 

@@ -1,6 +1,6 @@
 -- The state of a session, as contracts see it: its files, the texts that can come back, and how
--- many bytes were shown. The last entry of a list is the one that comes back first. No Rust type stands
--- here.
+-- many bytes were shown. The last entry of a list is the one that comes back first. No Rust type
+-- stands here.
 use Rattle.std.specs.Prelude.{◌≡◌, ℕ, List, [], ◌∷◌, ◌++◌}
 use Rattle.jr_session.specs.Sources.{Source, names_of, texts_of, with_text}
 

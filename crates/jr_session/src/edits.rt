@@ -15,8 +15,8 @@ use jr_names::{Refusal, Reply};
 use jr_text::Span;
 use std::alloc::{AllocError, Global};
 
-// The refusal of a step of a file that isn't there.
-fn no_such_file(alloc: Global, file: &Name) -> Result<Reply, AllocError>
+/// The refusal of a step of a file that isn't there.
+pub(crate) fn no_such_file(alloc: Global, file: &Name) -> Result<Reply, AllocError>
     ensures { IfOk result (λ reply. reply_of reply ≡ refused (missing file.now)) }
 {
     let name = Name::new(alloc, file.as_str())?;
@@ -59,6 +59,7 @@ impl Session {
                             number,
                             new,
                         )?;
+                        self.analysed = None;
                         Ok(Reply::Edited)
                     }
                 }
@@ -85,6 +86,7 @@ impl Session {
         if !turned {
             return Ok(Reply::Refused(Refusal::NothingToUndo));
         }
+        self.analysed = None;
         Ok(Reply::Undone)
     }
 
@@ -107,6 +109,7 @@ impl Session {
         if !turned {
             return Ok(Reply::Refused(Refusal::NothingToRedo));
         }
+        self.analysed = None;
         Ok(Reply::Redone)
     }
 }

@@ -5,6 +5,7 @@
 //! does as the relation of `specs/Stepping.antt`; why it is refused is in `specs/Refusing.antt`.
 #![tactic(auto)]
 
+mod analyses;
 mod begins;
 mod changes;
 mod edits;
@@ -12,10 +13,15 @@ mod faults;
 mod first_faults;
 mod kept;
 mod laws;
+#[cfg(test)]
+mod program_tests;
+mod programs;
 mod readings;
 mod sessions;
+mod shows;
 mod sources;
 mod splices;
+mod steps;
 #[cfg(test)]
 mod tests;
 mod turns;
@@ -24,4 +30,5 @@ pub use begins::BeginFault;
 pub use faults::{FaultKind, ReadingFault};
 pub use laws::text_has_one_reading;
 pub use sessions::Session;
+pub use shows::MAX_SHOWN_LEN;
 pub use sources::{MAX_FILES, MAX_TOTAL_LEN};

@@ -6,6 +6,7 @@ ghost use Rattle.jr_session.specs.SourceView.{sources_of};
 ghost use Rattle.jr_session.specs.Sources.{IsFile, LacksFile};
 ghost use Rattle.jr_session.specs.States.{begun};
 
+use crate::analyses::Analysis;
 use crate::begins::{BeginFault, readings_of, sources_from};
 use crate::changes::Change;
 use crate::kept::Readings;
@@ -17,13 +18,16 @@ use std::marker::Model;
 /// The sources of a program while they are changed.
 ///
 /// What each file reads as is kept beside its text, and is what reading that text from scratch
-/// gives. A change keeps the text that was there before it, not the texts of the other files.
+/// gives; so is what was analysed of all of them, which an edit, an undoing and a redoing drop. A
+/// change keeps the text that was there before it, not the texts of the other files.
 #[derive(Drop)]
 pub struct Session {
     pub(crate) sources: Sources,
     pub(crate) readings: Readings,
     pub(crate) undo: Vec<Change>,
     pub(crate) redo: Vec<Change>,
+    // What was analysed of these sources, for all members or for none.
+    pub(crate) analysed: Option<Analysis>,
     // How many bytes of lines were shown.
     pub(crate) shown: u64,
 }
@@ -43,7 +47,7 @@ impl Model for Session {
       shown = s.shown;
     } };
 
-    ghost invariant = { λ s. IsKept s.sources s.readings s.undo.items s.redo.items };
+    ghost invariant = { λ s. IsKept s.sources s.readings s.undo.items s.redo.items s.analysed };
 }
 
 impl Session {
@@ -65,6 +69,7 @@ impl Session {
             readings,
             undo: Vec::new(alloc),
             redo: Vec::new(alloc),
+            analysed: None,
             shown: 0,
         })
     }

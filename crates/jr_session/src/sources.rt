@@ -1,6 +1,6 @@
 //! The files of a session, by name and by position.
 ghost use Rattle.std.specs.Prelude.{◌≡◌, ◌<◌, ◌++◌, ◌∷◌, [], length, MatchOption, Some, slice_get};
-ghost use Rattle.std.specs.Prelude.{IfOk, OnErr, All, ◌≤◌, string_bytes};
+ghost use Rattle.std.specs.Prelude.{IfOk, IfSome, IsSome, OnErr, All, ◌≤◌, string_bytes};
 ghost use Rattle.jr_text.specs.Texts.{text_limit};
 ghost use Rattle.jr_session.specs.Sources.{AreSources, LacksFile, HasName, file_limit};
 ghost use Rattle.jr_session.specs.Sources.{texts_of, total_of, with_text};
@@ -71,6 +71,17 @@ impl Sources {
         ensures { slice_get (texts_of self.now) number ≡ Some result.now }
     {
         &self.files[number as usize]
+    }
+
+    /// The name of the file of the number.
+    pub fn name(&self, number: u32) -> Option<&str>
+        ensures name { IfSome result (λ name. HasName self.now number name.now) }
+        ensures within { number < length self.now → IsSome result }
+    {
+        match self.files.get_index(number as usize) {
+            None => None,
+            Some((name, _)) => Some(name.as_str()),
+        }
     }
 
     /// Puts a file behind the others, unless one has its name: then that one's number is answered.

@@ -1,5 +1,5 @@
--- Laws of what binding notes, as statements: the notes are what the rules of a sound program and the
--- lookup of references say (JLS 6, 8, 14, 15).
+-- Laws of what binding notes, as statements: the notes are what the rules of a sound program and
+-- the lookup of references say (JLS 6, 8, 14, 15).
 use Rattle.std.specs.Prelude.{◌≡◌, ℕ, ◌+◌, ◌↔◌, List}
 use Rattle.std.specs.List.Sorted.{IsPermutation, IsNonDecreasingBy}
 use Rattle.jr_ast.specs.StatementTree as statement
@@ -67,7 +67,8 @@ module _ {A : Type 0} (begins : A → ℕ → ℕ) where
   -- all of a member, or of the head of a class
   pub record PartIsNoted (rows : List Row) (super_at : ℕ) (k : MemberKey) (base : ℕ) (part : Part A)
       : Type 0 where
-    pub rules : (at : ℕ) (r : Rule) → Has (part_notes begins rows super_at k base part) (breaks at r)
+    pub rules : (at : ℕ) (r : Rule) →
+        Has (part_notes begins rows super_at k base part) (breaks at r)
         ↔ Breaks begins rows super_at k base part at r
     pub bindings : (at : ℕ) (d : Decl)
         → Has (part_notes begins rows super_at k base part) (refers at d)

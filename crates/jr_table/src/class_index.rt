@@ -5,7 +5,8 @@ ghost use Rattle.jr_table.specs.TypeView.{class_key_of};
 ghost use Rattle.jr_table.specs.KeyView.{decl_of};
 ghost use Rattle.jr_table.specs.RowView.{row_of};
 ghost use Rattle.jr_table.specs.Entries.{number_of, top_class};
-ghost use Rattle.jr_table.specs.ClassIndex.{top_owner, top_place, class_owner, class_place, place_in};
+ghost use Rattle.jr_table.specs.ClassIndex.{top_owner, top_place, class_owner, class_place};
+ghost use Rattle.jr_table.specs.ClassIndex.{place_in};
 
 use crate::classes::ClassKey;
 use crate::decls::Decl;

@@ -33,14 +33,14 @@ pub fn declarations_are_noted<A: Mark>()
     ensures declarations { DeclarationsAreNoted A }
 {}
 
-/// The log of a whole member, or of the head of a class, holds the rules that it breaks, each with its
-/// place, and what each reference is bound to, and nothing else.
+/// The log of a whole member, or of the head of a class, holds the rules that it breaks, each
+/// with its place, and what each reference is bound to, and nothing else.
 pub fn parts_are_noted<A: Mark>()
     ensures parts { PartsAreNoted A }
 {}
 
-/// The errors of a log are told by place and rule, each once, and no others. A sort and one walk make
-/// that list, whatever the order in which they were noted.
+/// The errors of a log are told by place and rule, each once, and no others. A sort and one walk
+/// make that list, whatever the order in which they were noted.
 pub fn errors_are_told()
     ensures errors { AreErrorsOfLogs }
 {}

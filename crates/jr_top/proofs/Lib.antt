@@ -1,4 +1,16 @@
-pub mod PutLaws
-pub mod RunLaws
-pub mod SourceLaws
-pub mod WordLaws
+mod Beginning
+mod Changed
+mod Ending
+mod Following
+mod InputLaws
+mod PutLaws
+mod RenameEnds
+mod Replying
+mod RunEnds
+mod RunClauses
+mod RunLaws
+mod Served
+mod Settled
+mod Unwritten
+mod WordPlaces
+mod Writing

@@ -1,6 +1,9 @@
-pub mod Words
 pub mod Statuses
 pub mod Lines
 pub mod Messages
-pub mod Sources
+pub mod Outputs
+pub mod OutputView
+pub mod Renames
+pub mod Scripts
+pub mod Ends
 pub mod Runs

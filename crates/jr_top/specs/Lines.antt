@@ -1,8 +1,30 @@
 -- Refusals as text.
 use Rattle.std.specs.Prelude.{ℕ, suc, zero, List, [], ◌++◌, codes, decimal}
 use Rattle.jr_small.specs.declared.refusals.SourceKind.{SourceKind}
-use Rattle.jr_small.specs.declared.refusals.SourceKind.TheVariants.{BadByte, OpenComment, OpenString, Escape, BadNumber, Deep, Syntax, Unbuilt}
-use Rattle.jr_small.specs.Refusal.{Refusal, Declaration, class, field, variable, bad_place, bad_name, source_error, bad_target, clash, lost_binding, too_long}
+use Rattle.jr_small.specs.declared.refusals.SourceKind.TheVariants.{
+  BadByte,
+  OpenComment,
+  OpenString,
+  Escape,
+  BadNumber,
+  Deep,
+  Syntax,
+  Unbuilt,
+}
+use Rattle.jr_small.specs.Refusal.{
+  Refusal,
+  Declaration,
+  class,
+  field,
+  variable,
+  bad_place,
+  bad_name,
+  source_error,
+  bad_target,
+  clash,
+  lost_binding,
+  too_long,
+}
 
 -- the number of a refusal
 abbrev pub number_of : Refusal → ℕ
@@ -28,7 +50,8 @@ kind_text Deep = codes "Deep"
 kind_text Syntax = codes "Syntax"
 kind_text Unbuilt = codes "Unbuilt"
 
--- the type of parameter n, counted from 0: each is `int`, with a comma in front of all but the first
+-- the type of parameter n, counted from 0: each is `int`, with a comma in front of all but the
+-- first
 abbrev pub type_text : ℕ → List ℕ
 type_text zero = codes "int"
 type_text (suc n) = codes ",int"
@@ -38,7 +61,8 @@ abbrev pub types_text : ℕ → List ℕ
 types_text zero = []
 types_text (suc n) = types_text n ++ type_text n
 
--- a class is `A`, a field `A.f`, and a parameter or local its method's text, `#` and its number: `A.m(int,int)#2`
+-- a class is `A`, a field `A.f`, and a parameter or local its method's text, `#` and its number:
+-- `A.m(int,int)#2`
 abbrev pub declaration_text : Declaration → List ℕ
 declaration_text (class name) = name
 declaration_text (field of name) = of ++ codes "." ++ name
@@ -49,14 +73,19 @@ declaration_text (variable of method parameters number) =
 abbrev pub refusal_text : List ℕ → ℕ → List ℕ → Refusal → List ℕ
 refusal_text file at name bad_place = codes "BadPlace " ++ place_text file at
 refusal_text file at name bad_name = codes "BadName " ++ name
-refusal_text file at name (source_error place kind) = codes "SourceError " ++ place_text file place ++ codes " " ++ kind_text kind
-refusal_text file at name bad_target = codes "BadTarget " ++ place_text file at ++ codes " Declaration"
+refusal_text file at name (source_error place kind) = codes "SourceError " ++ place_text file place
+    ++ codes " " ++ kind_text kind
+refusal_text file at name bad_target = codes "BadTarget " ++ place_text file at
+    ++ codes " Declaration"
 refusal_text file at name (clash with) = codes "Clash " ++ declaration_text with
 refusal_text file at name (lost_binding place declaration found) =
-    codes "LostBinding " ++ place_text file place ++ codes " " ++ declaration_text declaration ++ codes " found " ++ declaration_text found
+    codes "LostBinding " ++ place_text file place ++ codes " " ++ declaration_text declaration
+    ++ codes " found " ++ declaration_text found
 refusal_text file at name (too_long len) = codes "TooLong " ++ decimal len
 
--- the line of a refusal, to the request to give the local at a byte of the file the name: `refused NUMBER TEXT` and a line end
+-- the line of a refusal, to the request to give the local at a byte of the file the name: `refused
+-- NUMBER TEXT` and a line end
 abbrev pub refusal_line : List ℕ → ℕ → List ℕ → Refusal → List ℕ
 refusal_line file at name refusal =
-    codes "refused " ++ decimal (number_of refusal) ++ codes " " ++ refusal_text file at name refusal ++ codes "\n"
+    codes "refused " ++ decimal (number_of refusal) ++ codes " "
+    ++ refusal_text file at name refusal ++ codes "\n"

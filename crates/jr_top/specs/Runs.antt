@@ -1,100 +1,76 @@
 -- What a run does.
-use Rattle.std.specs.Prelude.{◌≡◌, ℕ, ◌⊎◌, List, Option, Some, slice_get}
+use Rattle.std.specs.Prelude.{◌≡◌, ℕ, ◌≤◌, ◌⊎◌, List, [], Option, Some, IsSome, OnSome, slice_get}
 use Rattle.jr_shelf.specs.Counts.{Rose}
-use Rattle.jr_shelf.specs.Shelf.{Files, Holds}
-use Rattle.jr_shelf.specs.Sink.{with_bytes, AppendedInPart}
-use Rattle.jr_text.specs.Texts.{IsText}
-use Rattle.jr_small.specs.Refusal.{Refusal}
-use Rattle.jr_small.specs.Answer.{Grants, Refuses}
-use Rattle.jr_top.specs.declared.statuses.SourceFault.{SourceFault}
-use Rattle.jr_top.specs.Lines.{refusal_line}
-use Rattle.jr_top.specs.Sources.{HoldsFault, HoldsText, HoldsNoText}
-use Rattle.jr_top.specs.Words.{rename, Mean}
+use Rattle.jr_shelf.specs.Shelf.{Files}
+use Rattle.jr_names.specs.Replies.{Reply}
+use Rattle.jr_script.specs.declared.faults.ScriptFault.{ScriptFault}
+use Rattle.jr_words.specs.Words.{Command, Operand, rename, run, Mean, MeanNothing, MayWantMemory}
+use Rattle.jr_words.specs.Words.{fetched_of}
+use Rattle.jr_files.specs.declared.faults.SourceFault.{SourceFault}
+use Rattle.jr_top.specs.declared.statuses.Status.{Status}
+use Rattle.jr_top.specs.declared.statuses.Status.TheVariants as status
+use Rattle.jr_top.specs.Outputs.{Output, WroteAll, WroteInPart}
+use Rattle.jr_top.specs.Renames.{IsNewText, IsNoNewText}
+use Rattle.jr_top.specs.Scripts.{HasNoRefusal, HasRefusal, IsRunOutput}
+use Rattle.jr_top.specs.Ends.{EndsUnwritten, HasBadScript, HasBadSource, HasGoodInput}
+use Rattle.jr_top.specs.Statuses.{IsAnswerOrMemory, IsBadScriptOrMemory, IsBadSourceOrMemory}
+use Rattle.jr_top.specs.Statuses.{IsOfRun, OnAnswer, OnDone, OnNoFileFault, OnNoReadFault}
+use Rattle.jr_top.specs.Statuses.{OnNothingWritten, OnRefused, OnWriteFault}
 
 -- ---- outputs
 
--- a text that the file holds, where it is known what is held
-pub record IsSource (files : Option Files) (file source : List ℕ) : Type 0 where
-  pub held : Holds files file source
-  pub text : IsText source
+-- what is asked for is done, and this is its output: a rename gives the new text, and a run the
+-- report of replies of which none is a refusal
+abbrev pub Grants : Option Files → Command → Output → Type 0
+Grants files (rename file at name) output =
+    (output.stores ≡ []) × IsNewText files file at name output.report
+Grants files (run out script operands) output =
+    (replies : List Reply) × HasNoRefusal replies
+    × IsRunOutput files out script operands replies output
 
--- the line of the refusal to give the local at a byte of the source the name
-pub record IsRefusalLine (file source : List ℕ) (at : ℕ) (name output : List ℕ) : Type 0 where
-  pub refusal : Refusal
-  pub refuses : Refuses source at name refusal
-  pub line : output ≡ refusal_line file at name refusal
+-- what is asked for is refused, and this is its output: of a rename the line of the refusal, of a
+-- run the report of replies of which one is a refusal
+abbrev pub Refuses : Option Files → Command → Output → Type 0
+Refuses files (rename file at name) output =
+    (output.stores ≡ []) × IsNoNewText files file at name output.report
+Refuses files (run out script operands) output =
+    (replies : List Reply) × HasRefusal replies
+    × IsRunOutput files out script operands replies output
 
--- the new text of the file's source
-pub record IsNewText (files : Option Files) (file : List ℕ) (at : ℕ) (name output : List ℕ) : Type 0 where
-  pub source : List ℕ
-  pub is_source : IsSource files file source
-  pub grants : Grants source at name output
+abbrev pub Answers : Option Files → Command → Output → Type 0
+Answers files command output = Grants files command output ⊎ Refuses files command output
 
--- the line of the refusal to make one
-pub record IsNoNewText (files : Option Files) (file : List ℕ) (at : ℕ) (name output : List ℕ) : Type 0 where
-  pub source : List ℕ
-  pub is_source : IsSource files file source
-  pub line : IsRefusalLine file source at name output
+-- ---- words
 
-abbrev pub IsEither : Option Files → List ℕ → ℕ → List ℕ → List ℕ → Type 0
-IsEither files file at name output = IsNewText files file at name output ⊎ IsNoNewText files file at name output
+-- the words mean a command of which this is so
+abbrev pub Ask : List (List ℕ) → (Command → Type 0) → Type 0
+Ask words P = (command : Command) × Mean words command × P command
 
--- the words ask for a new text, and it is this
-pub record Grant (words : List (List ℕ)) (files : Option Files) (output : List ℕ) : Type 0 where
-  pub file : List ℕ
-  pub at : ℕ
-  pub name : List ℕ
-  pub mean : Mean words (rename file at name)
-  pub granted : IsNewText files file at name output
+-- they mean one that fetches the file of this word, once `number` others are fetched
+abbrev pub FetchesAt : List (List ℕ) → (word number : ℕ) → Type 0
+FetchesAt words word number = Ask words (λ command. (operand : Operand)
+    × (slice_get (fetched_of command) number ≡ Some operand) × (operand.word ≡ word))
 
--- the words ask for a new text, which is refused by this line
-pub record Refuse (words : List (List ℕ)) (files : Option Files) (output : List ℕ) : Type 0 where
-  pub file : List ℕ
-  pub at : ℕ
-  pub name : List ℕ
-  pub mean : Mean words (rename file at name)
-  pub refused : IsNoNewText files file at name output
+-- words that mean nothing are told as such, or there was no memory to read those of a run
+abbrev pub IsMisuse : List (List ℕ) → Status → Type 0
+IsMisuse words s = (s ≡ status.Usage) ⊎ ((s ≡ status.NoMemory) × MayWantMemory words)
 
-abbrev pub Answer : List (List ℕ) → Option Files → List ℕ → Type 0
-Answer words files output = Grant words files output ⊎ Refuse words files output
+-- ---- what is held
 
--- ---- what a sink took
+-- it is known what is held, and the words ask for what the held bytes are no script for
+abbrev pub AskOfNoScript : List (List ℕ) → Option Files → Type 0
+AskOfNoScript words files = IsSome files
+    × Ask words (λ command. (fault : ScriptFault) × HasBadScript files command fault)
 
--- an output of which this is so
-pub record TookAll (Is : List ℕ → Type 0) (before after : Option (List ℕ)) : Type 0 where
-  pub output : List ℕ
-  pub is_output : Is output
-  pub took : after ≡ with_bytes before output
+-- it is known what is held, and a file that the words name is no source
+abbrev pub AskOfNoSource : List (List ℕ) → Option Files → Type 0
+AskOfNoSource words files = IsSome files
+    × Ask words (λ command. (word : ℕ) × (fault : SourceFault)
+    × HasBadSource files command word fault)
 
--- a prefix of an output of which this is so
-pub record TookInPart (Is : List ℕ → Type 0) (before after : Option (List ℕ)) : Type 0 where
-  pub output : List ℕ
-  pub is_output : Is output
-  pub took : AppendedInPart before after output
-
--- ---- the file
-
--- the words ask for a new text of a file that is known to hold a text
-pub record AskOfText (words : List (List ℕ)) (files : Option Files) : Type 0 where
-  pub file : List ℕ
-  pub at : ℕ
-  pub name : List ℕ
-  pub mean : Mean words (rename file at name)
-  pub holds : HoldsText files file
-
--- the words ask for a new text of a file that is known to hold no text
-pub record AskOfNoText (words : List (List ℕ)) (files : Option Files) : Type 0 where
-  pub file : List ℕ
-  pub at : ℕ
-  pub name : List ℕ
-  pub mean : Mean words (rename file at name)
-  pub holds : HoldsNoText files file
-
--- the word of this number names a file, and where it is known what is held, that file has this fault
-pub record NamesFault (words : List (List ℕ)) (files : Option Files) (word : ℕ) (fault : SourceFault) : Type 0 where
-  pub file : List ℕ
-  pub named : slice_get words word ≡ Some file
-  pub has_fault : HoldsFault files file fault
+-- it is known what is held, and all that the words name is there and has no fault
+abbrev pub AskOfGoodInput : List (List ℕ) → Option Files → Type 0
+AskOfGoodInput words files = IsSome files × Ask words (HasGoodInput files)
 
 -- ---- faults
 
@@ -102,3 +78,31 @@ pub record NamesFault (words : List (List ℕ)) (files : Option Files) (word : �
 pub record HadNoFault (shelf_before shelf_after sink_before sink_after : ℕ) : Type 0 where
   pub shelf : Rose shelf_before shelf_after → ⊥
   pub sink : Rose sink_before sink_after → ⊥
+
+-- ---- for private clauses
+
+-- all that is known of a run of the command which ended by this status
+pub record Comes (command : Command) (end : Status) (files files' : Option Files)
+    (missed missed' : Option (List ℕ)) (faults faults' served served' : ℕ)
+    (taken taken' : Option (List ℕ)) (put_faults put_faults' : ℕ) : Type 0 where
+  pub of_run : IsOfRun end
+  pub unwritten : OnNothingWritten end (EndsUnwritten command end files files' missed missed'
+      faults faults' served served')
+  pub done : OnDone end (WroteAll command (Grants files command) files files' served served'
+      taken taken')
+  pub refused : OnRefused end (WroteAll command (Refuses files command) files files' served served'
+      taken taken')
+  pub write_fault : OnWriteFault end (λ stored. WroteInPart command (Answers files command) stored
+      files files' served served' faults faults' taken taken' put_faults put_faults')
+  pub no_script : (fault : ScriptFault) → IsSome files → HasBadScript files command fault
+      → HadNoFault faults faults' put_faults put_faults' → IsBadScriptOrMemory end
+  pub no_source : (word : ℕ) (fault : SourceFault) → IsSome files
+      → HasBadSource files command word fault → HadNoFault faults faults' put_faults put_faults'
+      → IsBadSourceOrMemory end
+  pub complete : IsSome files → HasGoodInput files command
+      → HadNoFault faults faults' put_faults put_faults' → IsAnswerOrMemory end
+  pub missed_stays : OnNoReadFault end (OnSome files (missed' ≡ missed))
+  pub faults_grow : faults ≤ faults'
+  pub faults_stay : OnNoFileFault end (faults' ≡ faults)
+  pub put_grow : put_faults ≤ put_faults'
+  pub put_stay : OnAnswer end (put_faults' ≡ put_faults)

@@ -1,7 +1,9 @@
 ghost use Rattle.std.specs.Prelude.{◌≡◌, IfOk, string_bytes};
 ghost use Rattle.jr_small.specs.Refusal.{declaration_of, refusal_of};
-ghost use Rattle.jr_top.specs.Lines.{declaration_text as text_of_declaration, kind_text as text_of_kind, number_of};
-ghost use Rattle.jr_top.specs.Lines.{refusal_line as line_of, refusal_text as text_of, type_text as text_of_type, types_text as text_of_types};
+ghost use Rattle.jr_top.specs.Lines.{declaration_text as text_of_declaration};
+ghost use Rattle.jr_top.specs.Lines.{kind_text as text_of_kind, number_of};
+ghost use Rattle.jr_top.specs.Lines.{refusal_line as line_of, refusal_text as text_of};
+ghost use Rattle.jr_top.specs.Lines.{type_text as text_of_type, types_text as text_of_types};
 
 use jr_small::{Declaration, Refusal, SourceKind};
 use std::alloc::{AllocError, Global};

@@ -1,7 +1,8 @@
 ghost use Rattle.std.specs.Prelude.{◌≡◌, decimal, option_map};
 ghost use Rattle.jr_shelf.specs.Sink.{Puts, PutsBehind};
-ghost use Rattle.jr_top.specs.Words.{texts_of};
-ghost use Rattle.jr_top.specs.Messages.{line_of, message_line, message_text, status_text, word_at as text_at};
+ghost use Rattle.jr_words.specs.Words.{texts_of};
+ghost use Rattle.jr_top.specs.Messages.{line_of, message_line, message_text, status_text};
+ghost use Rattle.jr_top.specs.Messages.{word_at as text_at};
 
 use crate::statuses::Status;
 use jr_shelf::{Failed, Sink};
@@ -14,6 +15,8 @@ pub enum Message<'a> {
     ReadFault { file: &'a str },
     /// Writing failed after so many files.
     WriteFault { stored: u32 },
+    /// What the file holds is no script.
+    BadScript,
     /// What the file holds is no source.
     BadSource { file: &'a str },
     NoMemory,
@@ -32,6 +35,7 @@ impl<'a> Message<'a> {
                 file: word_at(words, *word),
             }),
             Status::WriteFault { stored } => Some(Message::WriteFault { stored: *stored }),
+            Status::BadScript(_) => Some(Message::BadScript),
             Status::BadSource { word, .. } => Some(Message::BadSource {
                 file: word_at(words, *word),
             }),
@@ -52,6 +56,7 @@ impl<'a> Message<'a> {
                 let count = put_number(front, errors, *stored);
                 put_behind(count, errors, b" files\n")
             }
+            Message::BadScript => put_line(errors, b"jref: bad script", ""),
             Message::BadSource { file } => put_line(errors, b"jref: bad source ", file),
             Message::NoMemory => put_line(errors, b"jref: no memory", ""),
         }

@@ -2,13 +2,20 @@ ghost use Rattle.std.specs.Prelude.{◌≡◌, ◌≤◌, ◌+◌, ◌⊎◌, If
 ghost use Rattle.jr_shelf.specs.Counts.{Rose, RoseBy};
 ghost use Rattle.jr_shelf.specs.Sink.{AppendedInPart, with_bytes};
 ghost use Rattle.jr_small.specs.Answer.{Grants};
-ghost use Rattle.jr_top.specs.Sources.{HoldsFault, HoldsNoText, HoldsText};
-ghost use Rattle.jr_top.specs.Statuses.{IsAfterSource, IsAnswerOrMemory, IsBadSourceOrMemory, IsBeforeSource, IsOfRename};
-ghost use Rattle.jr_top.specs.Statuses.{OnAnswer, OnBadSource, OnDone, OnNoReadFault, OnNothingWritten, OnReadFault, OnRefused, OnWriteFault, OnWriting};
-ghost use Rattle.jr_top.specs.Runs.{HadNoFault, IsEither, IsNewText, IsNoNewText, IsRefusalLine, IsSource, TookAll, TookInPart};
+ghost use Rattle.jr_files.specs.Sources.{HoldsFault, HoldsNoText, HoldsText, IsSource};
+ghost use Rattle.jr_top.specs.Statuses.{IsAfterSource, IsAnswerOrMemory, IsBadSourceOrMemory};
+ghost use Rattle.jr_top.specs.Statuses.{IsBeforeSource, IsOfRename};
+ghost use Rattle.jr_top.specs.Statuses.{OnAnswer, OnBadSource, OnDone, OnNoReadFault};
+ghost use Rattle.jr_top.specs.Statuses.{OnNothingWritten, OnReadFault, OnRefused, OnWriteFault};
+ghost use Rattle.jr_top.specs.Statuses.{OnWriting};
+ghost use Rattle.jr_top.specs.Renames.{IsEither, IsNewText, IsNoNewText, IsRefusalLine};
+ghost use Rattle.jr_top.specs.Renames.{TookAll, TookInPart};
+ghost use Rattle.jr_top.specs.Runs.{Comes, HadNoFault};
+ghost use Rattle.jr_words.specs.Words.{rename as pure_rename};
 
 use crate::lines::refusal_line;
-use crate::statuses::{SourceFault, Status};
+use crate::statuses::Status;
+use jr_files::SourceFault;
 use jr_shelf::{FetchFault, Shelf, Sink};
 use jr_small::{Outcome, rename};
 use jr_text::{Text, TextFault};
@@ -19,7 +26,25 @@ const FILE: u32 = 1;
 
 /// Fetches the file, renames the local at the byte `at` of its source, and gives the sink the new
 /// text, or the line of the refusal.
-pub(crate) fn rename_in_file<S: Shelf, K: Sink>(
+pub(crate) fn rename_file<S: Shelf, K: Sink>(
+    alloc: Global,
+    file: &str,
+    at: u32,
+    name: &str,
+    shelf: &mut S,
+    sink: &mut K,
+) -> Status
+    ensures comes { Comes (pure_rename file.now at name.now) result
+        (S.holds shelf.old) (S.holds shelf.new) (S.missed shelf.old) (S.missed shelf.new)
+        (S.faults shelf.old) (S.faults shelf.new) (S.served shelf.old) (S.served shelf.new)
+        (K.taken sink.old) (K.taken sink.new) (K.faults sink.old) (K.faults sink.new) }
+    ensures nothing_put { OnNothingWritten result (sink.new ≡ sink.old) }
+{
+    rename_in_file(alloc, file, at, name, shelf, sink)
+}
+
+// The same, in the words of a rename.
+fn rename_in_file<S: Shelf, K: Sink>(
     alloc: Global,
     file: &str,
     at: u32,
@@ -52,7 +77,7 @@ pub(crate) fn rename_in_file<S: Shelf, K: Sink>(
 
     ensures bad_source_word { OnBadSource result (λ word fault. word ≡ 1) }
     ensures bad_source { OnBadSource result (λ word fault.
-        HoldsFault (S.holds shelf.old) file.now fault) }
+        HoldsFault 0 (S.holds shelf.old) file.now fault) }
     ensures no_source { HoldsNoText (S.holds shelf.old) file.now
         → HadNoFault (S.faults shelf.old) (S.faults shelf.new)
         (K.faults sink.old) (K.faults sink.new)
@@ -94,7 +119,7 @@ fn fetch_source<S: Shelf>(alloc: Global, file: &str, shelf: &mut S) -> Result<Te
 
     ensures bad_source_word { IfErr result (λ status. OnBadSource status (λ word fault. word ≡ 1)) }
     ensures bad_source { IfErr result (λ status. OnBadSource status (λ word fault.
-        HoldsFault (S.holds shelf.old) file.now fault)) }
+        HoldsFault 0 (S.holds shelf.old) file.now fault)) }
     ensures bad_source_only { IfErr result (λ status. OnBadSource status (λ word fault.
         HoldsText (S.holds shelf.old) file.now → ⊥)) }
 

@@ -1,17 +1,11 @@
 ghost use Rattle.std.specs.Prelude.{◌≡◌};
 ghost use Rattle.jr_top.specs.Statuses.{number_of};
 
-/// Why the bytes of a file are no source.
-#[derive(Clone, Copy, PartialEq, Eq, Debug)]
-pub enum SourceFault {
-    /// There are more than 1,048,576.
-    TooLong,
-    /// They aren't UTF-8. The longest prefix that is has `valid` bytes.
-    NotUtf8 { valid: u32 },
-}
+use jr_files::SourceFault;
+use jr_script::ScriptFault;
 
 /// How a run ended.
-#[derive(PartialEq, Eq, Debug, Drop)]
+#[derive(Debug, Drop)]
 pub enum Status {
     /// All was read and written.
     Done,
@@ -23,6 +17,8 @@ pub enum Status {
     ReadFault { word: u32 },
     /// A file or the output can't be written. `stored` files were written before.
     WriteFault { stored: u32 },
+    /// What the file that the word SCRIPT names holds is no script.
+    BadScript(ScriptFault),
     /// What the file that the word `word` names holds is no source.
     BadSource { word: u32, fault: SourceFault },
     /// There was no memory. Nothing was written.
@@ -40,6 +36,7 @@ impl Status {
             Status::Usage => 2,
             Status::ReadFault { .. } => 3,
             Status::WriteFault { .. } => 4,
+            Status::BadScript(_) => 5,
             Status::BadSource { .. } => 6,
             Status::NoMemory => 7,
         }

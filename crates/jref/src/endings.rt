@@ -1,13 +1,18 @@
 //! From words to the end of the process.
-ghost use Rattle.std.specs.Prelude.{◌≡◌, ◌≢◌, ◌≤◌, ◌+◌, ◌↔◌, OnSome, slice_get, Some};
+ghost use Rattle.std.specs.Prelude.{◌≡◌, ◌≢◌, ℕ, ◌≤◌, OnSome, slice_get};
 ghost use Rattle.std.specs.IoError.{error_kind};
 ghost use Rattle.std.specs.Process.{exit_status};
 ghost use Rattle.jr_shelf.specs.Counts.{Rose, RoseBy};
-ghost use Rattle.jr_top.specs.Words.{MeanNothing, texts_of};
+ghost use Rattle.jr_words.specs.Words.{MeanNothing, texts_of};
+ghost use Rattle.jr_top.specs.Ends.{HasBadScript, HasBadSource};
 ghost use Rattle.jr_top.specs.Messages.{IsReported, status_text};
-ghost use Rattle.jr_top.specs.Statuses.{IsAnswerOrMemory, IsBadSourceOrMemory, number_of};
-ghost use Rattle.jr_top.specs.Statuses.{OnAnswer, OnBadSource, OnDone, OnNoReadFault, OnNothingWritten, OnReadFault, OnRefused, OnWriteFault, OnWriting};
-ghost use Rattle.jr_top.specs.Runs.{Answer, AskOfNoText, AskOfText, Grant, HadNoFault, NamesFault, Refuse, TookAll, TookInPart};
+ghost use Rattle.jr_top.specs.Outputs.{WroteAll, WroteInPart};
+ghost use Rattle.jr_top.specs.Runs.{Answers, Ask, AskOfGoodInput, AskOfNoScript, AskOfNoSource};
+ghost use Rattle.jr_top.specs.Runs.{FetchesAt, Grants, HadNoFault, IsMisuse, Refuses};
+ghost use Rattle.jr_top.specs.Statuses.{IsAnswerOrMemory, IsBadScriptOrMemory};
+ghost use Rattle.jr_top.specs.Statuses.{IsBadSourceOrMemory, OnAnswer, OnBadScript, OnBadSource};
+ghost use Rattle.jr_top.specs.Statuses.{OnDone, OnNoFileFault, OnNoReadFault, OnNothingWritten};
+ghost use Rattle.jr_top.specs.Statuses.{OnReadFault, OnRefused, OnWriteFault, number_of};
 
 use jr_shelf::{Shelf, Sink};
 use jr_top::{Message, Status, run};
@@ -37,45 +42,54 @@ pub fn serve<S: Shelf, K: Sink, E: Sink>(
         (E.taken errors.old) (E.taken errors.new) (E.faults errors.old) (E.faults errors.new) }
 
     // The status is that of a run: all that `run` promises of its answer holds of it.
-    ensures usage { (result.status ≡ Status.Usage) ↔ MeanNothing (texts_of words.now) }
+    ensures usage { result.status ≡ Status.Usage → MeanNothing (texts_of words.now) }
+    ensures misuse { MeanNothing (texts_of words.now)
+        → IsMisuse (texts_of words.now) result.status }
     ensures unread { MeanNothing (texts_of words.now) → shelf.new ≡ shelf.old }
-    ensures done { OnDone result.status (TookAll (Grant (texts_of words.now) (S.holds shelf.old))
-        (K.taken sink.old) (K.taken sink.new)) }
+    ensures done { OnDone result.status
+        (Ask (texts_of words.now) (λ command. WroteAll command (Grants (S.holds shelf.old) command)
+        (S.holds shelf.old) (S.holds shelf.new) (S.served shelf.old) (S.served shelf.new)
+        (K.taken sink.old) (K.taken sink.new))) }
     ensures refused { OnRefused result.status
-        (TookAll (Refuse (texts_of words.now) (S.holds shelf.old))
-        (K.taken sink.old) (K.taken sink.new)) }
-    ensures read_fault_word { OnReadFault result.status (λ word. word ≡ 1) }
+        (Ask (texts_of words.now) (λ command. WroteAll command (Refuses (S.holds shelf.old) command)
+        (S.holds shelf.old) (S.holds shelf.new) (S.served shelf.old) (S.served shelf.new)
+        (K.taken sink.old) (K.taken sink.new))) }
     ensures read_fault { OnReadFault result.status (λ word.
         Rose (S.faults shelf.old) (S.faults shelf.new)) }
     ensures read_fault_missed { OnReadFault result.status (λ word.
         OnSome (S.holds shelf.old) (S.missed shelf.new ≡ slice_get (texts_of words.now) word)) }
     ensures read_fault_served { OnReadFault result.status (λ word.
-        RoseBy 0 (S.served shelf.old) (S.served shelf.new)) }
-    ensures write_fault_stored { OnWriteFault result.status (λ stored. stored ≡ 0) }
+        (number : ℕ) × FetchesAt (texts_of words.now) word number
+        × RoseBy number (S.served shelf.old) (S.served shelf.new)) }
     ensures write_fault { OnWriteFault result.status (λ stored.
-        Rose (K.faults sink.old) (K.faults sink.new)) }
-    ensures write_fault_in_part { OnWriteFault result.status (λ stored.
-        TookInPart (Answer (texts_of words.now) (S.holds shelf.old))
-        (K.taken sink.old) (K.taken sink.new)) }
-    ensures bad_source_word { OnBadSource result.status (λ word fault. word ≡ 1) }
-    ensures bad_source { OnBadSource result.status
-        (NamesFault (texts_of words.now) (S.holds shelf.old)) }
-    ensures no_source { AskOfNoText (texts_of words.now) (S.holds shelf.old)
+        Ask (texts_of words.now) (λ command.
+        WroteInPart command (Answers (S.holds shelf.old) command) stored
+        (S.holds shelf.old) (S.holds shelf.new) (S.served shelf.old) (S.served shelf.new)
+        (S.faults shelf.old) (S.faults shelf.new) (K.taken sink.old) (K.taken sink.new)
+        (K.faults sink.old) (K.faults sink.new))) }
+    ensures bad_script { OnBadScript result.status (λ fault.
+        Ask (texts_of words.now) (λ command. HasBadScript (S.holds shelf.old) command fault)) }
+    ensures no_script { AskOfNoScript (texts_of words.now) (S.holds shelf.old)
+        → HadNoFault (S.faults shelf.old) (S.faults shelf.new)
+        (K.faults sink.old) (K.faults sink.new)
+        → IsBadScriptOrMemory result.status }
+    ensures bad_source { OnBadSource result.status (λ word fault.
+        Ask (texts_of words.now) (λ command. HasBadSource (S.holds shelf.old) command word fault)) }
+    ensures no_source { AskOfNoSource (texts_of words.now) (S.holds shelf.old)
         → HadNoFault (S.faults shelf.old) (S.faults shelf.new)
         (K.faults sink.old) (K.faults sink.new)
         → IsBadSourceOrMemory result.status }
-    ensures complete { AskOfText (texts_of words.now) (S.holds shelf.old)
+    ensures complete { AskOfGoodInput (texts_of words.now) (S.holds shelf.old)
         → HadNoFault (S.faults shelf.old) (S.faults shelf.new)
         (K.faults sink.old) (K.faults sink.new)
         → IsAnswerOrMemory result.status }
+    ensures nothing_stored { OnNothingWritten result.status
+        (S.holds shelf.new ≡ S.holds shelf.old) }
     ensures nothing_put { OnNothingWritten result.status (sink.new ≡ sink.old) }
-    ensures keeps { S.holds shelf.new ≡ S.holds shelf.old }
     ensures missed { OnNoReadFault result.status
         (OnSome (S.holds shelf.old) (S.missed shelf.new ≡ S.missed shelf.old)) }
-    ensures served { OnWriting result.status (λ stored.
-        RoseBy (stored + 1) (S.served shelf.old) (S.served shelf.new)) }
     ensures shelf_faults { S.faults shelf.old ≤ S.faults shelf.new }
-    ensures shelf_faults_stay { OnNoReadFault result.status
+    ensures shelf_faults_stay { OnNoFileFault result.status
         (S.faults shelf.new ≡ S.faults shelf.old) }
     ensures sink_faults { K.faults sink.old ≤ K.faults sink.new }
     ensures sink_faults_stay { OnAnswer result.status (K.faults sink.new ≡ K.faults sink.old) }

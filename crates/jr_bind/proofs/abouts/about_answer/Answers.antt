@@ -1,4 +1,4 @@
-use Rattle.std.proofs.Common.{◌≡◌, sym, subst, ◌∙◌}
+use Rattle.std.proofs.Common.{sym, subst}
 use Rattle.jr_table.specs.Lookup.{shown}
 use Rattle.jr_bind.specs.Places.{context_of}
 use Rattle.jr_bind.specs.Abouts.{IsAbout}

@@ -1,7 +1,7 @@
-use Rattle.std.proofs.Common.{◌≡◌, sym, ap, subst, ◌∙◌}
+use Rattle.std.proofs.Common.{sym, subst}
 use Rattle.jr_table.specs.Decls.{local_decl}
 use Rattle.jr_table.specs.Found.{one}
-use Rattle.jr_bind.specs.Helds.{key_of}
+use Rattle.jr_locals.specs.Helds.{key_of}
 use Rattle.jr_bind.specs.Places.{context_of, member_of}
 use Rattle.jr_bind.specs.Findings.{found_of}
 use Rattle.jr_bind.specs.Abouts.{IsAbout}

@@ -1,8 +1,8 @@
-use Rattle.std.proofs.Common.{◌≡◌, sym, ap, subst, ◌∙◌}
-use Rattle.jr_table.specs.KeyView.{local_key_of, member_key_of}
+use Rattle.std.proofs.Common.{◌≡◌, sym, ap, subst}
+use Rattle.jr_table.specs.KeyView.{local_key_of}
 use Rattle.jr_table.specs.Decls.{LocalKey, MemberKey, local_decl}
 use Rattle.jr_table.specs.Found.{one}
-use Rattle.jr_bind.specs.Helds.{key_of}
+use Rattle.jr_locals.specs.Helds.{key_of}
 use Rattle.jr_bind.specs.Places.{context_of, member_of}
 use Rattle.jr_bind.specs.Abouts.{IsAbout}
 use Rattle.jr_bind.proofs.Abouting.{local_about, foreign_about}

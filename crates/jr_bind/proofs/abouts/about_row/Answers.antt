@@ -1,8 +1,7 @@
-use Rattle.std.proofs.Common.{◌≡◌, Some, refl, sym, ap, subst, ◌∙◌}
+use Rattle.std.proofs.Common.{sym, ap, subst}
 use Rattle.jr_table.specs.RowView.{row_of}
 use Rattle.jr_table.specs.KeyView.{decl_of}
 use Rattle.jr_table.specs.Lookup.{shown}
-use Rattle.jr_table.specs.Found.{one}
 use Rattle.jr_bind.specs.Places.{context_of}
 use Rattle.jr_bind.specs.Abouts.{IsAbout}
 use Rattle.jr_bind.proofs.Abouting.{shown_is, field_about, class_about, method_about, ctor_about}

@@ -1,4 +1,4 @@
-use Rattle.std.proofs.Common.{◌≡◌, ◌++◌, ◌+◌, ◌∷◌, [], map, drop, sym, ap, ◌∙◌, append_assoc}
+use Rattle.std.proofs.Common.{◌++◌, ◌+◌, ◌∷◌, [], map, drop, sym, ap, ◌∙◌}
 use Rattle.std.proofs.lemmas.List.{map-append, drop_all, drop_more}
 use Rattle.jr_table.specs.ErrorLists.{drop_repeats}
 use Rattle.jr_bind.specs.ErrorView.{error_of}

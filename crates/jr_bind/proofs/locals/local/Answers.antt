@@ -1,4 +1,4 @@
-use Rattle.std.proofs.Common.{◌≡◌, ℕ, None, subst, sym}
+use Rattle.std.proofs.Common.{ℕ, None, subst, sym}
 use Rattle.jr_ast.specs.View.{word_of, type_of, expr_of}
 use Rattle.jr_bind.specs.declared.completing.Behind.{Behind}
 use Rattle.jr_bind.specs.StmtArms.{LocalPasses}

@@ -1,4 +1,4 @@
-use Rattle.std.proofs.Common.{◌≡◌, ℕ, List, ◌++◌, map, ap, sym, ◌∙◌}
+use Rattle.std.proofs.Common.{◌≡◌, ℕ, ◌++◌, ap, ◌∙◌}
 use Rattle.std.proofs.lemmas.Result.{IfOk-weaker}
 use Rattle.std.specs.Prelude.{is_some}
 use Rattle.jr_text.specs.declared.spans.Span.{Span}
@@ -7,7 +7,6 @@ use Rattle.jr_table.specs.Notes.{when, breaks}
 use Rattle.jr_table.specs.Scope.{last_named}
 use Rattle.jr_table.specs.Context.{scope_of}
 use Rattle.jr_table.specs.declared.rules.Rule.TheVariants as rule
-use Rattle.jr_bind.specs.Helds.{held_of, last_number}
 use Rattle.jr_bind.specs.Places.{context_of, member_of}
 use Rattle.jr_bind.specs.Logs.{notes_of}
 use Rattle.jr_bind.proofs.LocalSteps.{held_is}
@@ -20,6 +19,6 @@ returns g c =
     let p = c.args.place.now in
     let w = word_of c.args.name.now in
     let held : c.is_some-is_held.result ≡ is_some (last_named w.text (scope_of (context_of p)).locals) =
-    c.is_some-is_held.ensures ∙ ap is_some (c.last_number.ensures ∙ ap (λ xs. last_number w.text (map held_of xs)) c.as_slice.ensures.value) ∙ held_is p w.text in
+    c.is_some-is_held.ensures ∙ ap is_some c.number_named.ensures ∙ held_is p w.text in
     let place : c.span-at_name.result.from ≡ B w.mark c.args.at = ap (λ (z : Span). z.from) c.span-at_name.ensures in
     IfOk-weaker c.put_when.result _ _ (λ u h. h ∙ (λ i. notes_of rows (member_of p) c.args.log.now.items ++ when (held i) (breaks (place i) rule.Redeclared))) c.put_when.ensures

@@ -1,10 +1,10 @@
-use Rattle.std.proofs.Common.{◌≡◌, ◌++◌, ◌∷◌, [], refl, sym, ap, ◌∙◌}
+use Rattle.std.proofs.Common.{◌++◌, refl, ap, ◌∙◌}
 use Rattle.std.specs.Prelude.{option_map}
 use Rattle.jr_table.specs.declared.rules.Rule.TheVariants as rule
 use Rattle.jr_table.specs.Entries.{class_number, kind_of}
 use Rattle.jr_table.specs.Found.{Found}
 use Rattle.jr_table.specs.Context.{scope_of}
-use Rattle.jr_table.specs.Lookup.{find_variable, find_type_named}
+use Rattle.jr_table.specs.Lookup.{find_type_named}
 use Rattle.jr_table.specs.Meanings.{class_found, type_of_found, or_type, find_left}
 use Rattle.jr_table.specs.Notes.{breaks, when, test_found, is_fixed, is_forward, is_constant_found}
 use Rattle.jr_bind.specs.Places.{context_of, member_of}

@@ -1,4 +1,4 @@
-use Rattle.std.proofs.Common.{◌≡◌, sym, ap, ◌∙◌}
+use Rattle.std.proofs.Common.{sym, ap, ◌∙◌}
 use Rattle.jr_table.specs.declared.answers.Answer.{Answer}
 use Rattle.jr_table.specs.Lookup.{shown}
 use Rattle.jr_bind.specs.Arms.{one_decl}

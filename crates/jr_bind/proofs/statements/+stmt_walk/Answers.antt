@@ -1,4 +1,4 @@
-use Rattle.std.proofs.Common.{◌≡◌, ◌+◌, ◌*◌, ◌≤◌, ℕ, List, Option, ap, sym, refl, subst, ◌∙◌, drop, take, length, arith}
+use Rattle.std.proofs.Common.{◌≡◌, ℕ, List, ap, sym, refl, subst, ◌∙◌, take, length, arith}
 use Rattle.std.proofs.lemmas.Result.{IfOk-weaker}
 use Rattle.std.specs.Prelude.{option_map}
 use Rattle.jr_text.specs.declared.spans.Span.{Span}
@@ -7,10 +7,10 @@ use Rattle.jr_ast.specs.declared.stmts.Stmt.{Stmt}
 use Rattle.jr_ast.specs.View.{word_of, type_of, expr_of, stmt_of, stmts_of, else_of, stmt_kind, stmt_row, held_else}
 use Rattle.jr_ast.proofs.Rows.{stmt_kind-If, stmt_kind-Block, stmt_kind-Sync}
 use Rattle.jr_ast.proofs.Sizes.{stmt_size, stmts_size, else_size}
+use Rattle.jr_locals.specs.Tracked.{locals_of}
 use Rattle.jr_bind.specs.declared.completing.Behind.{Behind}
-use Rattle.jr_bind.specs.Places.{member_of, context_of, Knows}
 use Rattle.jr_bind.specs.Fits.{FitsType, FitsExp, FitsMaybe, FitsStmt, FitsElse, FitsStmts}
-use Rattle.jr_bind.specs.Flow.{reached, unreached, behind_branches, behind_loop, behind_both, StmtPasses, InnerPasses, ElsePasses, BodyPasses, ItemPasses}
+use Rattle.jr_bind.specs.Flow.{reached, unreached, behind_branches, behind_loop, StmtPasses, InnerPasses, ElsePasses, BodyPasses, ItemPasses}
 use Rattle.jr_bind.proofs.Passing.{empty_passes, eval_passes, return_passes, local_passes, loop_passes, branch_passes, block_passes, sync_passes, none_passes, some_passes, inner_passes, item_passes}
 use Rattle.jr_bind.proofs.Bodies.{own_fits_stmt, shown_fits_stmt, shown_fits_body, left_fits_stmt, falls_first, falls_second, falls_only, falls_list, falls_held, falls_item, Going, going_start, item_goes, list_ends}
 use Rattle.jr_bind.proofs.statements.+stmt_walk.Goals as goal
@@ -347,6 +347,9 @@ stmt-returns-in_ok-lock-in-Sync g t c =
 pub inner-stmt-requires : goal.inner-stmt-requires
 inner-stmt-requires g t c = λ κs o. (omega (arith, c.decreases), (o, (c.requires.knows, c.requires.fits)))
 
+pub inner-truncate-requires : goal.inner-truncate-requires
+inner-truncate-requires g t c = c.in_ok-behind.ensures.knows.tracked
+
 pub inner-returns : goal.inner-returns
 inner-returns g t c =
     let B = λ (m : g.row.A.Denot) (b : ℕ). (g.A.Mark.span_from m b).from in
@@ -354,8 +357,8 @@ inner-returns g t c =
     let rows = c.args.table.now in
     let p = c.args.place.now in
     let old = c.args.log.now.items in
-    let depth : c.len-depth.result ≡ length p.locals.items = omega (arith, c.len-depth.ensures, p.locals.ok) in
-    inner_passes B rows c.args.number p c.args.base (stmt_of c.args.of.now) old c.in_ok-behind.behind c.stmt.new.place c.stmt.new.log.items c.len-depth.result c.truncate.new.self depth c.truncate.ensures.items c.in_ok-behind.ensures
+    let depth : c.len-depth.result ≡ length (locals_of p.locals) = c.len-depth.ensures in
+    inner_passes B rows c.args.number p c.args.base (stmt_of c.args.of.now) old c.in_ok-behind.behind c.stmt.new.place c.stmt.new.log.items c.len-depth.result c.truncate.new.self depth c.in_ok-truncate.ensures.locals c.in_ok-truncate.ensures.tracked c.in_ok-behind.ensures
 
 pub otherwise-inner-requires : goal.otherwise-inner-requires
 unfolding stmt_size stmts_size else_size stmt_kind stmt_row held_else FitsStmt FitsElse FitsStmts
@@ -414,7 +417,7 @@ stmts-loop-of-init g t c =
     let rows = c.args.table.now in
     let p = c.args.place.now in
     let old = c.args.log.now.items in
-    let depth : c.len-depth.result ≡ length p.locals.items = omega (arith, c.len-depth.ensures, p.locals.ok) in
+    let depth : c.len-depth.result ≡ length (locals_of p.locals) = c.len-depth.ensures in
     record {
       depth = depth;
       own = refl;
@@ -457,6 +460,9 @@ stmts-loop-of-preserved g t c =
       going = item_goes B rows c.args.number p c.args.at body old i x lt is c.loop-of.behind c.in_ok-behind.behind c.loop-of.place c.item.new.place c.loop-of.log.items c.item.new.log.items inv.going c.in_ok-behind.ensures;
     }
 
+pub stmts-truncate-requires : goal.stmts-truncate-requires
+stmts-truncate-requires g t c = c.loop-of.invariant.going.knows.tracked
+
 pub stmts-returns : goal.stmts-returns
 stmts-returns g t c =
     let B = λ (m : g.row.A.Denot) (b : ℕ). (g.A.Mark.span_from m b).from in
@@ -465,4 +471,4 @@ stmts-returns g t c =
     let p = c.args.place.now in
     let old = c.args.log.now.items in
     let inv = c.loop-of.invariant in
-    list_ends B rows c.args.number p c.args.at c.args.body.now old c.loop-of.of-index c.loop-of-test.false c.loop-of.behind c.loop-of.place c.loop-of.log.items inv.going c.truncate.new.self (c.truncate.ensures.items ∙ ap (λ (d : ℕ). take d c.loop-of.place.locals.items) inv.depth)
+    list_ends B rows c.args.number p c.args.at c.args.body.now old c.loop-of.of-index c.loop-of-test.false c.loop-of.behind c.loop-of.place c.loop-of.log.items inv.going c.truncate.new.self (c.in_ok-truncate.ensures.locals ∙ ap (λ (d : ℕ). take d (locals_of c.loop-of.place.locals)) inv.depth) c.in_ok-truncate.ensures.tracked

@@ -1,4 +1,4 @@
-use Rattle.std.proofs.Common.{◌≡◌, ℕ, List, ◌++◌, sym, ap, subst, ◌∙◌}
+use Rattle.std.proofs.Common.{ℕ, List, ◌++◌, subst}
 use Rattle.std.proofs.lemmas.Result.{IfOk-weaker}
 use Rattle.jr_ast.specs.View.{expr_of}
 use Rattle.jr_table.specs.Binding.{value}
@@ -6,7 +6,6 @@ use Rattle.jr_table.specs.Notes.{Note}
 use Rattle.jr_table.specs.Walks as walks
 use Rattle.jr_bind.specs.Places.{context_of, member_of}
 use Rattle.jr_bind.specs.Logs.{notes_of, Adds}
-use Rattle.jr_bind.specs.StmtArms as pure
 use Rattle.jr_bind.proofs.Adding.{adds_exact, adds_before}
 use Rattle.jr_bind.proofs.StmtArming.{looped_is}
 use Rattle.jr_bind.proofs.stmt_parts.loop_condition.Goals as goal

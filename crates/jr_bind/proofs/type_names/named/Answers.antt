@@ -1,8 +1,7 @@
-use Rattle.std.proofs.Common.{◌≡◌, ℕ, List, Option, Some, [], ◌∷◌, ◌++◌, sym, ap, ◌∙◌, append_assoc}
+use Rattle.std.proofs.Common.{◌≡◌, ℕ, List, Option, [], ◌∷◌, ◌++◌, sym, ap, ◌∙◌, append_assoc}
 use Rattle.std.specs.Prelude.{option_map}
 use Rattle.std.proofs.lemmas.Result.{IfOk-weaker}
 use Rattle.jr_text.specs.declared.spans.Span.{Span}
-use Rattle.jr_ast.specs.Tree as tree
 use Rattle.jr_ast.specs.declared.names.Ident.{Ident}
 use Rattle.jr_ast.specs.View.{word_of}
 use Rattle.jr_table.specs.Entries.{class_number}
@@ -14,7 +13,7 @@ use Rattle.jr_table.specs.Notes.{Note, found_note}
 use Rattle.jr_bind.specs.declared.findings.Sought.TheVariants as sought
 use Rattle.jr_bind.specs.Places.{context_of, member_of}
 use Rattle.jr_bind.specs.Logs.{notes_of}
-use Rattle.jr_bind.specs.Named.{PutsFound, inner_answer, plain_notes, named_notes}
+use Rattle.jr_bind.specs.Named.{inner_answer, plain_notes, named_notes}
 use Rattle.jr_bind.proofs.Scoped.{place_class}
 use Rattle.jr_bind.proofs.Naming.{put_is, inner_is, inner_class_is}
 use Rattle.jr_bind.proofs.type_names.named.Goals as goal

@@ -1,4 +1,4 @@
-use Rattle.std.proofs.Common.{◌≡◌, ap, ◌∙◌}
+use Rattle.std.proofs.Common.{ap, ◌∙◌}
 use Rattle.jr_table.specs.Context.{scope_of}
 use Rattle.jr_table.specs.Lookup.{shown}
 use Rattle.jr_bind.specs.Places.{context_of}

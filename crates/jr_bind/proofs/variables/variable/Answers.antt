@@ -1,10 +1,11 @@
-use Rattle.std.proofs.Common.{◌≡◌, map, Some, None, sym, ap, ◌∙◌}
+use Rattle.std.proofs.Common.{map, sym, ap, ◌∙◌}
 use Rattle.std.specs.Prelude.{option_map}
 use Rattle.jr_table.specs.Entries.{class_of_member, entries_of}
 use Rattle.jr_table.specs.Fields.{find_field}
 use Rattle.jr_table.specs.Context.{scope_of}
 use Rattle.jr_table.specs.Lookup.{shown}
-use Rattle.jr_bind.specs.Helds.{held_of, key_of, last_number}
+use Rattle.jr_locals.specs.Helds.{held_of, key_of}
+use Rattle.jr_locals.specs.Tracked.{locals_of}
 use Rattle.jr_bind.specs.Places.{context_of, member_of}
 use Rattle.jr_bind.proofs.Lasts.{last_is}
 use Rattle.jr_bind.proofs.Scoped.{class_is, finds_local, finds_field}
@@ -17,7 +18,7 @@ returns-in-Some c =
     let p = c.args.place.now in
     let k = member_of p in
     let name = c.args.name.now in
-    let last = last_is k name (map held_of p.locals.items) ∙ ap (λ hs. option_map (key_of k) (last_number name (map held_of hs))) (sym c.as_slice.ensures.value) ∙ ap (option_map (key_of k)) (sym c.last_number.ensures ∙ c.in-Some.is) in
+    let last = last_is k name (map held_of (locals_of p.locals)) ∙ ap (option_map (key_of k)) (sym c.number_named.ensures ∙ c.in-Some.is) in
     finds_local rows (scope_of (context_of p)) name (key_of k c.in-Some.number) last
 
 pub returns-in-None : goal.returns-in-None
@@ -27,5 +28,5 @@ returns-in-None c =
     let p = c.args.place.now in
     let k = member_of p in
     let name = c.args.name.now in
-    let last = last_is k name (map held_of p.locals.items) ∙ ap (λ hs. option_map (key_of k) (last_number name (map held_of hs))) (sym c.as_slice.ensures.value) ∙ ap (option_map (key_of k)) (sym c.last_number.ensures ∙ c.in-None.is) in
+    let last = last_is k name (map held_of (locals_of p.locals)) ∙ ap (option_map (key_of k)) (sym c.number_named.ensures ∙ c.in-None.is) in
     ap (shown rows) (c.field_at.ensures ∙ (λ i. find_field (entries_of rows) p.class p.is_static (c.as_str.ensures i))) ∙ finds_field rows (scope_of (context_of p)) name p.class last (class_is rows (class_of_member k) p.class c.requires.class)

@@ -1,4 +1,4 @@
-use Rattle.std.proofs.Common.{◌≡◌, ◌++◌, ◌+◌, ◌∷◌, [], ℕ, List, Option, Some, None, ap, sym, refl, subst, ◌∙◌, append_assoc, drop, map}
+use Rattle.std.proofs.Common.{◌≡◌, ◌+◌, ℕ, List, ap, sym, refl, subst, ◌∙◌, drop, map}
 use Rattle.std.proofs.lemmas.Result.{IfOk-weaker}
 use Rattle.std.specs.Prelude.{option_map}
 use Rattle.jr_text.specs.declared.spans.Span.{Span}
@@ -9,13 +9,11 @@ use Rattle.jr_ast.proofs.Rows.{expr_kind-Call_to, expr_kind-SuperCall, expr_kind
 use Rattle.jr_ast.proofs.Sizes.{exp_size, exps_size, target_size}
 use Rattle.jr_ast.proofs.Marking.{falls_further, falls_left, falls_right, falls_whole_row, falls_item, falls_held}
 use Rattle.jr_table.specs.Entries.{kind_of}
-use Rattle.jr_table.specs.Context.{scope_of}
 use Rattle.jr_table.specs.Lookup.{shown}
-use Rattle.jr_table.specs.Meanings.{types_of, written_type, type_references}
+use Rattle.jr_table.specs.Meanings.{types_of}
 use Rattle.jr_table.specs.Binding.{value, left}
-use Rattle.jr_table.specs.Notes.{Note, reference_notes, is_this}
+use Rattle.jr_table.specs.Notes.{Note, is_this}
 use Rattle.jr_table.specs.Walks as walks
-use Rattle.jr_bind.specs.declared.meanings.Meaning.{Meaning}
 use Rattle.jr_bind.specs.Places.{context_of, member_of}
 use Rattle.jr_bind.specs.Fits.{FitsType, FitsExp, FitsTarget, FitsExps}
 use Rattle.jr_bind.specs.Logs.{notes_of, Adds}

@@ -1,10 +1,12 @@
-use Rattle.std.proofs.Common.{◌++◌, refl}
+use Rattle.std.proofs.Common.{◌≡◌, ◌++◌, ◌∙◌, refl, sym}
+use Rattle.std.proofs.lemmas.Option.{same_Some}
 use Rattle.jr_table.specs.declared.kinds.DeclKind.TheVariants as kind
 use Rattle.jr_table.specs.Prelude.{prelude_rows}
 use Rattle.jr_build.specs.ExactRows.{rows_of_sites}
 use Rattle.jr_build.proofs.Apart.{one_each}
 use Rattle.jr_build.proofs.NamedRows.{all_named}
 use Rattle.jr_build.proofs.OwnRows.{rows_apart}
+use Rattle.jr_build.proofs.OneRows.{program_once}
 use Rattle.jr_build.proofs.ProgramRows.{program_rows}
 use Rattle.jr_build.proofs.RowCycles.{no_cycle}
 use Rattle.jr_build.proofs.build_laws.clean_rows_are_sound.Goals as goal
@@ -24,4 +26,7 @@ returns c = record {
         (c.superclasses_are_sound.ensures.acyclic packages sites h is (clean kind.Cycle));
     few = few;
   };
+  only = λ sites h is rows others. program_once sites
+      (λ k w t u a b. same_Some t u (sym ((c.hierarchies_are_exact.ensures.means sites h is k w t).1 a) ∙ (c.hierarchies_are_exact.ensures.means sites h is k w u).1 b))
+      (λ k p q a b. same_Some p q (sym ((c.hierarchies_are_exact.ensures.extends sites h is k p).1 a) ∙ (c.hierarchies_are_exact.ensures.extends sites h is k q).1 b)) rows others;
 }

@@ -1,8 +1,9 @@
-use Rattle.std.proofs.Common.{◌≡◌, map, sym, ap, subst, ◌∙◌}
+use Rattle.std.proofs.Common.{◌≡◌, List, map, sym, ap, subst, ◌∙◌}
 use Rattle.std.specs.Prelude.{OnOk, IfOk, IfErr}
 use Rattle.jr_ast.specs.View.{unit_of}
 use Rattle.jr_table.specs.Faults.{IsClean}
 use Rattle.jr_table.specs.ProgramRows.{AreProgramRows}
+use Rattle.jr_table.specs.Rows.{Row}
 use Rattle.jr_table.specs.Sites.{sites_of}
 use Rattle.jr_build.specs.Builds.{IsFoundFault}
 use Rattle.jr_build.specs.Fitting.{begins_by}
@@ -27,5 +28,6 @@ returns g c =
     record {
       clean = subst (λ ss. OnOk c.clean_table.result (IsClean pk ss)) same c.clean_table.ensures.clean;
       rows = subst (λ ss. IfOk c.clean_table.result (AreProgramRows ss)) same c.clean_table.ensures.rows;
+      only = subst (λ ss. IfOk c.clean_table.result (λ t. (rs : List Row) → AreProgramRows ss rs → rs ≡ t)) same c.clean_table.ensures.only;
       fault = subst (λ ss. IfErr c.clean_table.result (IsFoundFault pk ss)) same c.clean_table.ensures.fault;
     }

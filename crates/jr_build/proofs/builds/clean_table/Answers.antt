@@ -1,10 +1,11 @@
-use Rattle.std.proofs.Common.{◌≡◌, ◌++◌, map, sym, ap, subst, arith}
+use Rattle.std.proofs.Common.{◌≡◌, ◌++◌, List, map, sym, ap, subst, arith}
 use Rattle.std.proofs.lemmas.Result.{err_from_is_err_and}
 use Rattle.jr_ast.specs.View.{unit_of}
 use Rattle.jr_table.specs.declared.kinds.DeclKind.TheVariants as kind
 use Rattle.jr_table.specs.Faults.{IsClean}
 use Rattle.jr_table.specs.Prelude.{prelude_rows}
 use Rattle.jr_table.specs.ProgramRows.{AreProgramRows}
+use Rattle.jr_table.specs.Rows.{Row}
 use Rattle.jr_build.specs.declared.faults.BuildFault.TheVariants as fault
 use Rattle.jr_build.specs.Builds.{IsCleanBelow, IsFoundFault}
 use Rattle.jr_build.specs.ExactRows.{rows_of_sites}
@@ -63,6 +64,8 @@ returns g c =
       clean = on_ok_any c.table_of.result (IsClean pk ss) clean;
       rows = if_ok_is c.table_of.result (λ t. t ≡ prelude_rows ++ rows_of_sites h ss) (AreProgramRows ss)
           (λ t e. subst (AreProgramRows ss) (sym e) rows) c.table_of.ensures.ok;
+      only = if_ok_is c.table_of.result (λ t. t ≡ prelude_rows ++ rows_of_sites h ss) (λ t. (rs : List Row) → AreProgramRows ss rs → rs ≡ t)
+          (λ t e rs are. c.clean_rows_are_sound.ensures.only ss h c.in_ok-h.ensures rs t are (subst (AreProgramRows ss) (sym e) rows)) c.table_of.ensures.ok;
       fault = if_err_is c.table_of.result (λ e. e ≡ fault.Memory) (IsFoundFault pk ss)
           (λ e is. subst (IsFoundFault pk ss) (sym is) tt) c.table_of.ensures.memory;
     }

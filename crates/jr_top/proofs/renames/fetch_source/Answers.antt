@@ -1,7 +1,7 @@
 use Rattle.std.proofs.Common.{subst, sym}
 use Rattle.std.specs.Str.{IsValidUpTo}
 use Rattle.jr_text.specs.TextFaults.{IsTextFault}
-use Rattle.jr_top.proofs.SourceLaws.{holds_no_text}
+use Rattle.jr_top.proofs.InputLaws.{holds_no_text}
 use Rattle.jr_top.proofs.renames.fetch_source.Goals as goal
 
 pub returns-in-Err-NotUtf8-clause-bad_source_only : goal.returns-in-Err-NotUtf8-clause-bad_source_only

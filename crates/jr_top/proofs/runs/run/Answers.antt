@@ -1,27 +1,29 @@
-use Rattle.std.proofs.Common.{inl, inr}
-use Rattle.jr_top.proofs.RunLaws.{OnDone-map, OnWriteFault-map, TookAll-map, TookInPart-map}
-use Rattle.jr_top.proofs.WordLaws.{parts_of}
+use Rattle.std.proofs.Common.{◌≡◌, ◌<◌, ◌^◌, arith, length, map, subst, sym}
+use Rattle.std.proofs.lemmas.List.{length-map}
+use Rattle.jr_words.specs.Asked.{command_of, operand_of}
+use Rattle.jr_words.specs.Words.{Mean, run, texts_of}
+use Rattle.jr_top.specs.OutputView.{dir_of}
+use Rattle.jr_top.proofs.RunClauses.{no_source_of, read_missed_of}
+use Rattle.jr_top.proofs.WordPlaces.{few_files}
 use Rattle.jr_top.proofs.runs.run.Goals as goal
 
-pub returns-in_default-clause-no_source : goal.returns-in_default-clause-no_source
-returns-in_default-clause-no_source g c = λ ask no_fault. c.in_default.ensures _ ask.mean
+pub run_script-requires-clause-count : goal.run_script-requires-clause-count
+run_script-requires-clause-count g c =
+    let mean = subst (λ k. Mean (texts_of c.args.words.now) (command_of k)) c.in-Ok-Run.field-0-is c.in-Ok-Run.ensures.ok in
+    let few = few_files (texts_of c.args.words.now) (dir_of c.in-Ok-Run.out) (operand_of c.in-Ok-Run.script) (map operand_of c.in-Ok-Run.files.items) mean in
+    let same = length-map c.in-Ok-Run.files.items operand_of in
+    subst (λ xs. length xs < 2 ^ 32) (sym c.as_slice.ensures.value) (omega (arith, few, same))
 
-pub returns-in_default-clause-complete : goal.returns-in_default-clause-complete
-returns-in_default-clause-complete g c = λ ask no_fault. c.in_default.ensures _ ask.mean
+pub returns-in-Ok-Run-clause-read_fault_missed : goal.returns-in-Ok-Run-clause-read_fault_missed
+returns-in-Ok-Run-clause-read_fault_missed g c =
+    let mean = subst (λ k. Mean (texts_of c.args.words.now) (command_of k)) c.in-Ok-Run.field-0-is c.in-Ok-Run.ensures.ok in
+    let command = run (dir_of c.in-Ok-Run.out) (operand_of c.in-Ok-Run.script) (map operand_of c.as_slice.result.now) in
+    let mean_now = subst (λ xs. Mean (texts_of c.args.words.now) (run (dir_of c.in-Ok-Run.out) (operand_of c.in-Ok-Run.script) (map operand_of xs))) (sym c.as_slice.ensures.value) mean in
+    read_missed_of (texts_of c.args.words.now) command mean_now c.run_script.result c.run_script.ensures.comes
 
-pub returns-clause-done : goal.returns-clause-done
-returns-clause-done g c =
-    let parts = parts_of c.in-Some.command in
-    let mean = rw parts.is at c.in-Some.ensures in
-    let done = rw parts.is at c.rename_in_file.ensures.done in
-    OnDone-map _ _ _ (TookAll-map _ _ (λ output granted. record { file = _; at = _; name = _; mean = mean; granted = granted })) done
-
-pub returns-clause-write_fault_in_part : goal.returns-clause-write_fault_in_part
-returns-clause-write_fault_in_part g c =
-    let parts = parts_of c.in-Some.command in
-    let mean = rw parts.is at c.in-Some.ensures in
-    let in_part = rw parts.is at c.rename_in_file.ensures.write_fault_in_part in
-    OnWriteFault-map _ _ _ (λ stored. TookInPart-map _ _ (λ output answer. elim answer [
-      | inl granted ↦ inl (record { file = _; at = _; name = _; mean = mean; granted = granted })
-      | inr refused ↦ inr (record { file = _; at = _; name = _; mean = mean; refused = refused })
-    ])) in_part
+pub returns-in-Ok-Run-clause-no_source : goal.returns-in-Ok-Run-clause-no_source
+returns-in-Ok-Run-clause-no_source g c =
+    let mean = subst (λ k. Mean (texts_of c.args.words.now) (command_of k)) c.in-Ok-Run.field-0-is c.in-Ok-Run.ensures.ok in
+    let command = run (dir_of c.in-Ok-Run.out) (operand_of c.in-Ok-Run.script) (map operand_of c.as_slice.result.now) in
+    let mean_now = subst (λ xs. Mean (texts_of c.args.words.now) (run (dir_of c.in-Ok-Run.out) (operand_of c.in-Ok-Run.script) (map operand_of xs))) (sym c.as_slice.ensures.value) mean in
+    no_source_of (texts_of c.args.words.now) command mean_now c.words_mean_one_command.ensures c.run_script.result c.run_script.ensures.comes

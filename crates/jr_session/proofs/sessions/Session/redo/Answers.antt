@@ -6,7 +6,7 @@ use Rattle.jr_session.specs.States.{State}
 use Rattle.jr_session.specs.Turns.{IsTurn}
 use Rattle.jr_session.specs.Stepping.{Steps}
 use Rattle.jr_session.proofs.Histories.{no_history}
-use Rattle.jr_session.proofs.StateLaws.{state_of, redone_state, kept_turned}
+use Rattle.jr_session.proofs.StateLaws.{state_of, redone_state, nothing_kept, kept_turned}
 use Rattle.jr_session.proofs.SessionSteps.{redone_step}
 use Rattle.jr_session.proofs.sessions.Session.redo.Goals as goal
 
@@ -20,7 +20,7 @@ pub invariant_of-self-2 : goal.invariant_of-self-2
 invariant_of-self-2 c =
     let turn = c.in_ok-turned.ensures.turn c.if-not-turned.false in
     let changes = kept_turned c.self.inside.sources c.turn_back.new.sources c.self.inside.redo.items c.turn_back.new.from.items c.self.inside.undo.items c.turn_back.new.onto.items turn c.self.invariant.redo c.self.invariant.undo in
-    record { readings = c.in_ok-turned.ensures.readings; redo = changes.0; undo = changes.1 }
+    record { readings = c.in_ok-turned.ensures.readings; redo = changes.0; undo = changes.1; analysed = nothing_kept c.turn_back.new.sources }
 
 pub returns-clause-step : goal.returns-clause-step
 returns-clause-step c =

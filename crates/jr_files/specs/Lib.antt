@@ -1,0 +1,4 @@
+pub mod Sources
+pub mod Fetching
+pub mod Storing
+pub mod Views

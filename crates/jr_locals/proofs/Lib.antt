@@ -1,0 +1,3 @@
+pub mod LastPlaces
+pub mod Tracking
+pub mod Looking

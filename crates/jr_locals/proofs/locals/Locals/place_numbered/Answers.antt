@@ -1,0 +1,20 @@
+use Rattle.std.proofs.Common.{sym, ◌∙◌}
+use Rattle.jr_locals.specs.Numbers.{placed}
+use Rattle.jr_locals.specs.Tracked.{number_in, same_number}
+use Rattle.jr_locals.proofs.Tracking.{none_found, here_found, elsewhere_found}
+use Rattle.jr_locals.proofs.locals.Locals.place_numbered.Goals as goal
+
+pub returns-in-None : goal.returns-in-None
+returns-in-None c =
+    let l = c.args.self.now in
+    none_found number_in same_number (λ k. k.numbered) (placed l.numbers) l.known.items c.requires.numbers c.args.number c.in-None.ensures
+
+pub returns-then-is_numbered : goal.returns-then-is_numbered
+returns-then-is_numbered c =
+    let l = c.args.self.now in
+    here_found number_in same_number (λ k. k.numbered) (placed l.numbers) l.known.items c.requires.numbers c.args.number c.in-Some.place c.in-Some.ensures (sym c.is_numbered.ensures ∙ c.if-is_numbered.true)
+
+pub returns-else-is_numbered : goal.returns-else-is_numbered
+returns-else-is_numbered c =
+    let l = c.args.self.now in
+    elsewhere_found number_in same_number (λ k. k.numbered) (placed l.numbers) l.known.items c.requires.numbers c.args.number c.in-Some.place c.in-Some.ensures (sym c.is_numbered.ensures ∙ c.if-is_numbered.false)

@@ -1,0 +1,5 @@
+pub mod Numbers
+pub mod Helds
+pub mod Tracked
+pub mod Restoring
+pub mod Places

@@ -1,0 +1,12 @@
+//! Locals and parameters in scope (JLS 6.3), found by name and by number.
+#![tactic(auto)]
+
+mod helds;
+mod locals;
+mod numbers;
+mod restoring;
+#[cfg(test)]
+mod tests;
+
+pub use helds::{Held, HeldType};
+pub use locals::Locals;

@@ -1,0 +1,8 @@
+pub mod Meaning
+pub mod SiteRows
+pub mod Walking
+pub mod UnitsWalked
+pub mod PartLists
+pub mod CtorLaws
+pub mod Anywhere
+pub mod KeyedSteps

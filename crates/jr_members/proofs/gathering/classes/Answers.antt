@@ -1,0 +1,25 @@
+use Rattle.std.proofs.Common.{map, refl}
+use Rattle.jr_ast.specs.View.{class_of}
+use Rattle.jr_members.specs.Fitting.{begins_by, ClassFits, ClassesFit}
+use Rattle.jr_members.specs.Parts.{class_parts, classes_parts}
+use Rattle.jr_members.proofs.PartLists as lists
+use Rattle.jr_members.proofs.gathering.classes.Goals as goal
+
+pub class-requires : goal.class-requires
+class-requires g c =
+    let B = begins_by g.A.Mark.span_from in
+    lists.each_meets (λ xs. ClassesFit B g.A.Mark.fits_at c.args.at.base (map class_of xs)) (λ x. ClassFits B g.A.Mark.fits_at c.args.at.base (class_of x)) (λ x xs h. h)
+    c.args.classes.now c.loop-part.part-index c.part-item.result c.loop-part-test.true c.part-item.is c.requires
+
+pub loop-part-preserved : goal.loop-part-preserved
+loop-part-preserved g c =
+    let B = begins_by g.A.Mark.span_from in
+    lists.one_more (λ xs. classes_parts B c.args.at.file c.args.at.base (map class_of xs)) (λ x. class_parts B c.args.at.file c.args.at.base (class_of x)) (λ x xs. refl)
+    _ _ _ c.args.classes.now c.loop-part.part-index c.part-item.result
+    c.loop-part-test.true c.part-item.is c.in_ok-class.ensures c.loop-part.invariant
+
+pub returns : goal.returns
+returns g c =
+    let B = begins_by g.A.Mark.span_from in
+    lists.none_left (λ xs. classes_parts B c.args.at.file c.args.at.base (map class_of xs)) (λ x. class_parts B c.args.at.file c.args.at.base (class_of x)) (λ x xs. refl)
+    _ _ c.args.classes.now c.loop-part.part-index c.loop-part-test.false refl c.loop-part.invariant

@@ -1,8 +1,0 @@
--- not checked yet: the names of the last argument are a guess
-use Rattle.std.proofs.Common.{map}
-use Rattle.jr_ast.specs.View.{unit_of}
-use Rattle.jr_program.proofs.Spans.{units_fit}
-use Rattle.jr_program.proofs.tests.answer.Goals as goal
-
-pub build-requires-clause-fits : goal.build-requires-clause-fits
-build-requires-clause-fits g c = units_fit _ (map unit_of c.deref-2.result.now)

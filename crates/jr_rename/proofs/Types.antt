@@ -1,0 +1,176 @@
+-- Written types go to their images.
+use Rattle.std.proofs.Common.{◌≡◌, ℕ, zero, suc, List, [], ◌∷◌, ◌++◌, Option, Some, None, refl, sym, ap, subst, ◌∙◌, inl, inr}
+use Rattle.std.specs.Prelude.{slice_get, if◌then◌else◌}
+use Rattle.jr_text.specs.declared.spans.Span.{Span}
+use Rattle.jr_ast.specs.Tree as tree
+use Rattle.jr_table.specs.Keys.{ClassKey, Ty, int, boolean, class}
+use Rattle.jr_table.specs.Decls.{Decl, class_decl}
+use Rattle.jr_table.specs.Rows.{Row}
+use Rattle.jr_table.specs.Entries.{IsRowOf}
+use Rattle.jr_table.specs.Found.{Found, one}
+use Rattle.jr_table.specs.Scope.{Scope}
+use Rattle.jr_table.specs.Lookup.{FindsTypeNamed, FindsTypeOf, Shows}
+use Rattle.jr_table.specs.declared.answers.Answer.{Answer}
+use Rattle.jr_table.specs.declared.answers.Answer.TheVariants as number
+use Rattle.jr_table.specs.Context.{Context, scope_of, NamesClass, WritesType}
+use Rattle.jr_spell.specs.declared.references.RefForm.TheVariants as ref
+use Rattle.jr_spell.specs.declared.spellings.Form.{Form}
+use Rattle.jr_spell.specs.declared.spellings.Form.TheVariants.{Asked, Class, OuterClass}
+use Rattle.jr_spell.specs.References.{Reference}
+use Rattle.jr_spell.specs.Binds.{Binds, front_word, last_word}
+use Rattle.jr_spell.specs.Rebound.{IsTypeTree, IsTypeWords}
+use Rattle.jr_rewrite.specs.Respellings.{Front, Choice, front_of, text_of}
+use Rattle.jr_rewrite.specs.Rewritten.{Rewritten, word_to, qualifier_to, new_word, losses_of, drops_qualifier}
+use Rattle.jr_rewrite.specs.Rewrites.{RewritesType}
+use Rattle.jr_rename.specs.Images.{Renaming, class_to, type_to, decl_to, rows_to, scope_to}
+use Rattle.jr_rename.specs.Spelling.{renamed, spelled, reference, dotted, outer_type, spelling, TypeSpells, QualifierSpells}
+use Rattle.jr_rename.proofs.Chosen.{renamed_text, renamed_front, lost_some, left_none, right_none, outer_type_is}
+use Rattle.jr_rename.proofs.Dotted.{IsWhole, whole_front, whole_last, dotted_front, dotted_last}
+use Rattle.jr_rename.proofs.Forms.{with_name}
+use Rattle.jr_rename.proofs.Places.{scope_image}
+use Rattle.jr_rename.proofs.World.{World}
+
+pub class_forms : (P : Form → Type 0) → P Asked → P Class → P OuterClass → (n : ℕ) (f : Form) → slice_get (Asked ∷ Class ∷ OuterClass ∷ []) n ≡ Some f → P f
+class_forms P a b c zero f q = let p : Asked ≡ f = cc in subst P p a
+class_forms P a b c (suc zero) f q = let p : Class ≡ f = cc in subst P p b
+class_forms P a b c (suc (suc zero)) f q = let p : OuterClass ≡ f = cc in subst P p c
+class_forms P a b c (suc (suc (suc n))) f q = absurd cc
+
+-- what is found has a row
+found_row : (rows : List Row) (a : Answer) (x : Decl) → Shows rows a (one x) → (j : ℕ) × IsRowOf rows x j
+found_row rows (number.One j) x h = (j, h)
+found_row rows number.Nothing x h = absurd h
+found_row rows (number.Many j k) x h = absurd h
+found_row rows (number.NotAccessible j) x h = absurd h
+found_row rows (number.FromStatic j) x h = absurd h
+
+module _ {A : Type 0} (tells : A → ℕ → Span) (rows : List Row) (g : Renaming) (c d : Context) (w : World A rows g c d) where
+  pub to_scope : (r : Reference) (x : Decl) (f : Form) → Binds (rows_to g rows) (scope_to g c) r x f → Binds (rows_to g rows) (scope_of d) r x f
+  to_scope r x f h = subst (λ s. Binds (rows_to g rows) s r x f) (sym (scope_image g rows c d w.stand)) h
+
+  -- a simple name
+  module _ (m n : A) (old : List ℕ) (k : ClassKey) (whole : IsWhole (class_to g k).name) where
+    abbrev simple_type : Reference
+    simple_type = reference ref.ClassName (class_to g k).name None []
+
+    abbrev SimpleTo : Form → Type 0
+    SimpleTo f = Binds (rows_to g rows) (scope_of d) simple_type (class_decl (class_to g k)) f
+        → WritesType (rows_to g rows) (scope_of d) (tree.named m (qualifier_to m (front_of (spelled old (class_to g k).name (class_to g k) f)) None)
+        (word_to (spelled old (class_to g k).name (class_to g k) f) (record { mark = n; text = old }))) (class (class_to g k))
+
+    asked_simple : SimpleTo Asked
+    asked_simple binds = subst (λ (u : tree.TypeName A). WritesType (rows_to g rows) (scope_of d) u (class (class_to g k)))
+        (sym (with_name (λ front v. tree.named m (qualifier_to m front None) v) old (class_to g k).name n))
+        (w.classes (rows_to g rows) d simple_type (class_decl (class_to g k)) Asked (tree.named m None (record { mark = n; text = (class_to g k).name })) binds
+        (subst (λ (o : Option (List ℕ)). IsTypeWords o (last_word (class_to g k).name) (tree.named m None (record { mark = n; text = (class_to g k).name }))) (sym (whole_front (class_to g k).name whole))
+        (m, record { mark = n; text = (class_to g k).name }, sym (whole_last (class_to g k).name whole), refl)))
+
+    simple_type_kept : (place : ℕ) (f : Form) → slice_get (Asked ∷ Class ∷ OuterClass ∷ []) place ≡ Some f → SimpleTo f
+    simple_type_kept place f there = class_forms SimpleTo asked_simple
+        (λ binds. w.classes (rows_to g rows) d simple_type (class_decl (class_to g k)) Class (tree.named m None (record { mark = n; text = (class_to g k).name })) binds
+        (m, record { mark = n; text = (class_to g k).name }, refl, refl))
+        (λ binds. subst (λ (front : Front). WritesType (rows_to g rows) (scope_of d) (tree.named m (qualifier_to m front None) (record { mark = n; text = (class_to g k).name })) (class (class_to g k)))
+        (sym (outer_type_is (class_to g k).outer (class_to g k).name binds.0 binds.1))
+        (w.classes (rows_to g rows) d simple_type (class_decl (class_to g k)) OuterClass (tree.named m (Some (new_word m binds.0)) (record { mark = n; text = (class_to g k).name })) binds
+        (binds.0, binds.1, (m, new_word m binds.0, record { mark = n; text = (class_to g k).name }, refl, refl, refl))))
+        place f there
+
+  -- a name behind that of the class around it, or of one below that
+  module _ (m n : A) (old : List ℕ) (v : tree.Word A) (o k : ClassKey) (whole : IsWhole (class_to g o).name) where
+    abbrev qualified_type : Reference
+    qualified_type = reference ref.ClassName (dotted (class_to g o).name (class_to g k).name) None []
+
+    abbrev QualifiedTo : Form → Type 0
+    QualifiedTo f = (f ≡ Asked → v.text ≡ (class_to g o).name) → Binds (rows_to g rows) (scope_of d) qualified_type (class_decl (class_to g k)) f
+        → WritesType (rows_to g rows) (scope_of d) (tree.named m (qualifier_to m (front_of (spelled old (class_to g k).name (class_to g k) f)) (Some v))
+        (word_to (spelled old (class_to g k).name (class_to g k) f) (record { mark = n; text = old }))) (class (class_to g k))
+
+    asked_qualified : QualifiedTo Asked
+    asked_qualified text binds = subst (λ (u : tree.TypeName A). WritesType (rows_to g rows) (scope_of d) u (class (class_to g k)))
+        (sym (with_name (λ front z. tree.named m (qualifier_to m front (Some v)) z) old (class_to g k).name n))
+        (w.classes (rows_to g rows) d qualified_type (class_decl (class_to g k)) Asked (tree.named m (Some v) (record { mark = n; text = (class_to g k).name })) binds
+        (subst (λ (x : Option (List ℕ)). IsTypeWords x (last_word (dotted (class_to g o).name (class_to g k).name)) (tree.named m (Some v) (record { mark = n; text = (class_to g k).name })))
+        (sym (dotted_front (class_to g o).name (class_to g k).name whole))
+        (m, v, record { mark = n; text = (class_to g k).name }, text refl, sym (dotted_last (class_to g o).name (class_to g k).name whole), refl)))
+
+    qualified_type_kept : (place : ℕ) (f : Form) → slice_get (Asked ∷ Class ∷ OuterClass ∷ []) place ≡ Some f → QualifiedTo f
+    qualified_type_kept place f there = class_forms QualifiedTo asked_qualified
+        (λ text binds. w.classes (rows_to g rows) d qualified_type (class_decl (class_to g k)) Class (tree.named m None (record { mark = n; text = (class_to g k).name })) binds
+        (m, record { mark = n; text = (class_to g k).name }, refl, refl))
+        (λ text binds. subst (λ (front : Front). WritesType (rows_to g rows) (scope_of d) (tree.named m (qualifier_to m front (Some v)) (record { mark = n; text = (class_to g k).name })) (class (class_to g k)))
+        (sym (outer_type_is (class_to g k).outer (class_to g k).name binds.0 binds.1))
+        (w.classes (rows_to g rows) d qualified_type (class_decl (class_to g k)) OuterClass (tree.named m (Some (new_word m binds.0)) (record { mark = n; text = (class_to g k).name })) binds
+        (binds.0, binds.1, (m, new_word m binds.0, record { mark = n; text = (class_to g k).name }, refl, refl, refl))))
+        place f there
+
+  -- ---- all written types
+
+  one_class : (s : Scope) (name : List ℕ) (j k : ClassKey) → FindsTypeNamed rows s name (one (class_decl j)) → FindsTypeNamed rows s name (one (class_decl k)) → j ≡ k
+  one_class s name j k a b = let p = w.one_old.type_named s name (one (class_decl j)) (one (class_decl k)) a b in cc
+
+  one_inner : (s : Scope) (o : ClassKey) (name : List ℕ) (j k : ClassKey) → FindsTypeOf rows s o name (one (class_decl j)) → FindsTypeOf rows s o name (one (class_decl k)) → j ≡ k
+  one_inner s o name j k a b = let p = w.one_old.type_of s o name (one (class_decl j)) (one (class_decl k)) a b in cc
+
+  as_image : (u : Ty) (j k : ClassKey) (y : tree.TypeName A) → u ≡ class j → k ≡ j → WritesType (rows_to g rows) (scope_of d) y (class (class_to g k)) → WritesType (rows_to g rows) (scope_of d) y (type_to g u)
+  as_image u j k y is same h = subst (λ (t : Ty). WritesType (rows_to g rows) (scope_of d) y t) (ap (λ (z : ClassKey). class (class_to g z)) same ∙ sym (ap (type_to g) is)) h
+
+  module _ (super_at : Context → ℕ) (base : ℕ) where
+    abbrev TypeTo : tree.TypeName A → tree.TypeName A → Type 0
+    TypeTo t y = (u : Ty) → WritesType rows (scope_of c) t u → WritesType (rows_to g rows) (scope_of d) y (type_to g u)
+
+    row_of_class : (name : List ℕ) (k : ClassKey) → FindsTypeNamed rows (scope_of c) name (one (class_decl k)) → (j : ℕ) × IsRowOf rows (class_decl k) j
+    row_of_class name k (a, finds, shows) = found_row rows a (class_decl k) shows
+
+    whole_class : (name : List ℕ) (k : ClassKey) → FindsTypeNamed rows (scope_of c) name (one (class_decl k)) → IsWhole (class_to g k).name
+    whole_class name k finds = let r = row_of_class name k finds in w.whole k r.0 r.1
+
+    simple_case : (m : A) (v : tree.Word A) (h : Choice) → TypeSpells (λ m b. (tells m b).from) rows g c base (tree.named m None v) h → losses_of h ≡ []
+        → TypeTo (tree.named m None v) (tree.named m (qualifier_to m (front_of h) None) (word_to h v))
+    simple_case m v h (k, named, inl (f, taken, is)) none u (j, other, type) = as_image u j k (tree.named m (qualifier_to m (front_of h) None) (word_to h v)) type (one_class (scope_of c) v.text k j named other)
+        (subst (λ (x : Choice). WritesType (rows_to g rows) (scope_of d) (tree.named m (qualifier_to m (front_of x) None) (word_to x v)) (class (class_to g k))) (sym is)
+        (simple_type_kept m v.mark v.text k (whole_class v.text k named) taken.place f taken.stands
+        (to_scope (reference ref.ClassName (class_to g k).name None []) (class_decl (class_to g k)) f taken.binds)))
+    simple_case m v h (k, named, inr (none_binds, (f, finds, is))) none u other = absurd (lost_some _ (sym (ap losses_of is) ∙ none))
+
+    -- the name in front has the class's new name, unless it is lost
+    front_text : (m : A) (z v : tree.Word A) (q : Choice) (o : ClassKey) → FindsTypeNamed rows (scope_of c) z.text (one (class_decl o))
+        → QualifierSpells (λ m b. (tells m b).from) rows g c base (tree.named m (Some z) v) q → losses_of q ≡ [] → text_of q z.text ≡ (class_to g o).name
+    front_text m z v q o named (i, other, inl (leads, is)) none = ap (λ (x : Choice). text_of x z.text) is ∙ renamed_text z.text (class_to g i).name
+        ∙ ap (λ (x : ClassKey). (class_to g x).name) (one_class (scope_of c) z.text i o other named)
+    front_text m z v q o named (i, other, inr (not_leads, (f, finds, is))) none = absurd (lost_some _ (sym (ap losses_of is) ∙ none))
+
+    qualified_case : (m : A) (z v : tree.Word A) (q h : Choice) → QualifierSpells (λ m b. (tells m b).from) rows g c base (tree.named m (Some z) v) q
+        → TypeSpells (λ m b. (tells m b).from) rows g c base (tree.named m (Some z) v) h
+        → (if drops_qualifier tells (front_of h) then [] else losses_of q) ++ losses_of h ≡ []
+        → TypeTo (tree.named m (Some z) v) (tree.named m (qualifier_to m (front_of h) (Some (word_to q z))) (word_to h v))
+    qualified_case m z v q h qualifier (o, k, named, inner, inr (none_binds, (f, finds, is))) none u other =
+        absurd (lost_some _ (sym (ap losses_of is) ∙ right_none (if drops_qualifier tells (front_of h) then [] else losses_of q) (losses_of h) none))
+    qualified_case m z v q h qualifier (o, k, named, inner, inl (f, taken, is)) none u (j, (i, front, back), type) =
+        let same_outer = one_class (scope_of c) z.text i o front named in
+        let same = one_inner (scope_of c) o v.text k j inner (subst (λ (x : ClassKey). FindsTypeOf rows (scope_of c) x v.text (one (class_decl j))) same_outer back) in
+        let left : (if drops_qualifier tells (front_of h) then [] else losses_of q) ≡ [] = left_none (if drops_qualifier tells (front_of h) then [] else losses_of q) (losses_of h) none in
+        as_image u j k (tree.named m (qualifier_to m (front_of h) (Some (word_to q z))) (word_to h v)) type same
+        (subst (λ (x : Choice). WritesType (rows_to g rows) (scope_of d) (tree.named m (qualifier_to m (front_of x) (Some (word_to q z))) (word_to x v)) (class (class_to g k))) (sym is)
+        (qualified_type_kept m v.mark v.text (word_to q z) o k (whole_class z.text o named) taken.place f taken.stands
+        (λ asked. front_text m z v q o named qualifier
+        (sym (ap (λ (front : Front). if drops_qualifier tells front then [] else losses_of q)
+        (ap front_of (is ∙ ap (spelled v.text (class_to g k).name (class_to g k)) asked) ∙ renamed_front v.text (class_to g k).name)) ∙ left))
+        (to_scope (reference ref.ClassName (dotted (class_to g o).name (class_to g k).name) None []) (class_decl (class_to g k)) f taken.binds)))
+
+    -- a written type goes to its image
+    pub type_kept : (t : tree.TypeName A) (p : Rewritten (tree.TypeName A)) → RewritesType tells (spelling (λ m b. (tells m b).from) rows g super_at) c base t p → p.losses ≡ [] → TypeTo t p.tree
+    type_kept (tree.int m) p is none u type = subst (λ (q : Rewritten (tree.TypeName A)). WritesType (rows_to g rows) (scope_of d) q.tree (type_to g u)) (sym is) (ap (type_to g) type)
+    type_kept (tree.boolean m) p is none u type = subst (λ (q : Rewritten (tree.TypeName A)). WritesType (rows_to g rows) (scope_of d) q.tree (type_to g u)) (sym is) (ap (type_to g) type)
+    type_kept (tree.named m None v) p (h, spells, is) none u type = subst (λ (q : Rewritten (tree.TypeName A)). WritesType (rows_to g rows) (scope_of d) q.tree (type_to g u)) (sym is)
+        (simple_case m v h spells (sym (ap (λ (q : Rewritten (tree.TypeName A)). q.losses) is) ∙ none) u type)
+    type_kept (tree.named m (Some z) v) p (q, h, qualifier, spells, is) none u type = subst (λ (x : Rewritten (tree.TypeName A)). WritesType (rows_to g rows) (scope_of d) x.tree (type_to g u)) (sym is)
+        (qualified_case m z v q h qualifier spells (sym (ap (λ (x : Rewritten (tree.TypeName A)). x.losses) is) ∙ none) u type)
+
+  -- a written type is one type
+  pub writes_one : (t : tree.TypeName A) (j k : ClassKey) → WritesType rows (scope_of c) t (class j) → WritesType rows (scope_of c) t (class k) → j ≡ k
+  writes_one (tree.int m) j k a b = absurd cc
+  writes_one (tree.boolean m) j k a b = absurd cc
+  writes_one (tree.named m None v) j k (x, found, is) (y, other, was) = let p : x ≡ y = one_class (scope_of c) v.text x y found other in cc
+  writes_one (tree.named m (Some z) v) j k (x, (o, front, back), is) (y, (i, first, last), was) =
+      let q : i ≡ o = one_class (scope_of c) z.text i o first front in
+      let p : x ≡ y = one_inner (scope_of c) o v.text x y back (subst (λ (u : ClassKey). FindsTypeOf rows (scope_of c) u v.text (one (class_decl y))) q last) in cc

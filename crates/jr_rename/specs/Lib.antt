@@ -1,0 +1,17 @@
+pub mod Targets
+pub mod Words
+pub mod Families
+pub mod Images
+pub mod ImageView
+pub mod Spelling
+pub mod Clashes
+pub mod Refusals
+pub mod Renames
+pub mod Standing
+pub mod Keeping
+pub mod RenameLaws
+pub mod OneLocal
+pub mod TextLaws
+pub mod RowClashes
+pub mod Beside
+pub mod ImageLaws

@@ -1,0 +1,51 @@
+-- The law on renamed texts, as a statement: the changes of a renamed file are edits that fit its
+-- text, and the new text reads as the new tree.
+use Rattle.std.specs.Prelude.{ℕ, List, Option, Some, None}
+use Rattle.jr_text.specs.declared.spans.Span.{Span}
+use Rattle.jr_lex.specs.Replacing.{IsName}
+use Rattle.jr_ast.specs.MemberTree.{Unit as UnitTree}
+use Rattle.jr_grammar.specs.Reads.{ReadsWithSpans}
+use Rattle.jr_table.specs.Keys.{ClassKey}
+use Rattle.jr_table.specs.Decls.{
+  Decl,
+  class_decl,
+  field_decl,
+  method_decl,
+  constructor_decl,
+  local_decl,
+}
+use Rattle.jr_table.specs.Rows.{Row}
+use Rattle.jr_table.specs.Entries.{IsRowOf}
+use Rattle.jr_table.specs.Sites.{Site}
+use Rattle.jr_table.specs.Context.{Context}
+use Rattle.jr_rewrite.specs.Rewritten.{Rewritten}
+use Rattle.jr_rewrite.specs.Rewrites.{RewritesUnit}
+use Rattle.jr_rewrite.specs.RewriteLaws.{IsRewritten}
+use Rattle.jr_rename.specs.Images.{Renaming}
+use Rattle.jr_rename.specs.Spelling.{spelling}
+
+abbrev pub IsOuterName : Option (List ℕ) → Type 0
+IsOuterName None = Unit {0}
+IsOuterName (Some o) = IsName o
+
+abbrev pub IsNamedClass : ClassKey → Type 0
+IsNamedClass k = IsOuterName k.outer × IsName k.name
+
+-- the words of a declaration's key are identifiers (JLS 3.8)
+abbrev pub IsNamedDecl : Decl → Type 0
+IsNamedDecl (class_decl k) = IsNamedClass k
+IsNamedDecl (field_decl k) = IsNamedClass k.class × IsName k.name
+IsNamedDecl (method_decl k) = IsNamedClass k.class × IsName k.name
+IsNamedDecl (constructor_decl k) = IsNamedClass k.class
+IsNamedDecl (local_decl k) = Unit {0}
+
+abbrev pub AreNamed : List Row → Type 0
+AreNamed rows = (d : Decl) (j : ℕ) → IsRowOf rows d j → IsNamedDecl d
+
+abbrev pub RenamedTextsRead : Type 0 → Type 0
+RenamedTextsRead A = (tells : A → ℕ → Span) (rows : List Row) (g : Renaming)
+    (super_at : Context → ℕ) (sites : List Site) (bytes : List ℕ) (unit : UnitTree A)
+    (o : Rewritten (UnitTree A)) → AreNamed rows → IsName g.name
+    → ReadsWithSpans tells bytes unit
+    → RewritesUnit tells (spelling (λ m b. (tells m b).from) rows g super_at) sites unit o
+    → IsRewritten bytes o

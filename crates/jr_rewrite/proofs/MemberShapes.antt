@@ -1,0 +1,159 @@
+-- Rewritten statements, members and units are shaped where the old ones are.
+use Rattle.std.proofs.Common.{◌≡◌, ℕ, ◌+◌, Bool, true, false, List, [], ◌∷◌, length, Option, Some, None, sym, ap, ◌∙◌, subst}
+use Rattle.jr_text.specs.declared.spans.Span.{Span}
+use Rattle.jr_ast.specs.Tree as tree
+use Rattle.jr_ast.specs.StatementTree as statement
+use Rattle.jr_ast.specs.MemberTree as syntax
+use Rattle.jr_grammar.specs.StatementShape.{IsNoDeclaration, TakesNoElse, EndsTaken, ShapedValue, StmtShaped, ElseShaped, StmtsShaped}
+use Rattle.jr_grammar.specs.MemberShape.{IsParent, ShapedArgs, ClassShaped, MemberShaped, MembersShaped, ClassesShaped, UnitShaped}
+use Rattle.jr_table.specs.Keys.{ClassKey}
+use Rattle.jr_table.specs.Decls.{MemberKey, Decl, class_decl}
+use Rattle.jr_table.specs.Binding.{value}
+use Rattle.jr_table.specs.Binding as role
+use Rattle.jr_table.specs.Context.{Context, local_of, in_own, after, locals_in}
+use Rattle.jr_table.specs.HeadRules.{plain as no_locals, with_parameters, is_static_member}
+use Rattle.jr_table.specs.Sites.{Site, class_key}
+use Rattle.jr_rewrite.specs.Respellings.{Choice, text_of}
+use Rattle.jr_rewrite.specs.Rewritten.{Rewritten}
+use Rattle.jr_rewrite.specs.Suitable.{AreSuitable}
+use Rattle.jr_rewrite.specs.Rewrites.{declared_by, Choosing, begins, RewritesMaybe, RewritesSuper, RewritesStmt, RewritesElse, RewritesStmts, RewritesParent, RewritesClass, RewritesMembers, RewritesOne, RewritesClasses, RewritesUnit}
+use Rattle.jr_rewrite.proofs.ExpressionShapes.{type_named, exp_form, exp_shaped, row_shaped}
+
+module _ {A : Type 0} (tells : A → ℕ → Span) (C : Choosing A) where
+  -- ---- statements
+
+  no_declaration : (n : ℕ) (c : Context) (base : ℕ) (s : statement.Stmt A) (o : Rewritten (statement.Stmt A)) → RewritesStmt tells C n c base s o → IsNoDeclaration s → IsNoDeclaration o.tree
+  unfolding RewritesStmt RewritesElse RewritesStmts
+  no_declaration n c base (statement.local m f t v e) o w h = absurd h
+  no_declaration n c base (statement.eval m e) o w h = subst (λ z. IsNoDeclaration z.tree) (sym w.2) tt
+  no_declaration n c base (statement.branch m e x other) o w h = subst (λ z. IsNoDeclaration z.tree) (sym w.6) tt
+  no_declaration n c base (statement.loop m e x) o w h = subst (λ z. IsNoDeclaration z.tree) (sym w.4) tt
+  no_declaration n c base (statement.return m e) o w h = subst (λ z. IsNoDeclaration z.tree) (sym w.2) tt
+  no_declaration n c base (statement.block m body) o w h = subst (λ z. IsNoDeclaration z.tree) (sym w.2) tt
+  no_declaration n c base (statement.sync m e body) o w h = subst (λ z. IsNoDeclaration z.tree) (sym w.4) tt
+  no_declaration n c base (statement.empty m) o w h = subst (λ z. IsNoDeclaration z.tree) (sym w) tt
+
+  mutual
+    unfolding RewritesStmt RewritesElse RewritesStmts
+
+    no_else : (n : ℕ) (c : Context) (base : ℕ) (s : statement.Stmt A) (o : Rewritten (statement.Stmt A)) → RewritesStmt tells C n c base s o → TakesNoElse s → TakesNoElse o.tree
+    no_else n c base (statement.local m f t v e) o w h = subst (λ z. TakesNoElse z.tree) (sym w.6) tt
+    no_else n c base (statement.eval m e) o w h = subst (λ z. TakesNoElse z.tree) (sym w.2) tt
+    no_else n c base (statement.branch m e x other) o w h = subst (λ z. TakesNoElse z.tree) (sym w.6) (ends_taken (n + locals_in x) c (tells m base).from other w.2 w.5 h)
+    no_else n c base (statement.loop m e x) o w h = subst (λ z. TakesNoElse z.tree) (sym w.4) (no_else n c (tells m base).from x w.1 w.3 h)
+    no_else n c base (statement.return m e) o w h = subst (λ z. TakesNoElse z.tree) (sym w.2) tt
+    no_else n c base (statement.block m body) o w h = subst (λ z. TakesNoElse z.tree) (sym w.2) tt
+    no_else n c base (statement.sync m e body) o w h = subst (λ z. TakesNoElse z.tree) (sym w.4) tt
+    no_else n c base (statement.empty m) o w h = subst (λ z. TakesNoElse z.tree) (sym w) tt
+
+    ends_taken : (n : ℕ) (c : Context) (base : ℕ) (s : statement.Else A) (o : Rewritten (statement.Else A)) → RewritesElse tells C n c base s o → EndsTaken s → EndsTaken o.tree
+    ends_taken n c base statement.no_else o w h = absurd h
+    ends_taken n c base (statement.otherwise x) o w h = subst (λ z. EndsTaken z.tree) (sym w.2) (no_else n c base x w.0 w.1 h)
+
+  module _ (fit : AreSuitable C) where
+    maybe_shaped : (c : Context) (at : ℕ) (e : Option (tree.Exp A)) (o : Rewritten (Option (tree.Exp A))) → RewritesMaybe tells C c at e o → ShapedValue e → ShapedValue o.tree
+    maybe_shaped c at None o w h = subst (λ z. ShapedValue z.tree) (sym w) tt
+    maybe_shaped c at (Some e) o w h = subst (λ z. ShapedValue z.tree) (sym w.2) (exp_shaped tells C fit false c value at e w.0 w.1 h)
+
+    mutual
+      unfolding RewritesStmt RewritesElse RewritesStmts
+
+      stmt_shaped : (n : ℕ) (c : Context) (base : ℕ) (s : statement.Stmt A) (o : Rewritten (statement.Stmt A)) → RewritesStmt tells C n c base s o → StmtShaped s → StmtShaped o.tree
+      stmt_shaped n c base (statement.local m f t v e) o w h =
+          subst (λ z. StmtShaped z.tree) (sym w.6) (exp_shaped tells C fit false (in_own c (local_of c n f t v)) value (tells m base).from e w.2 w.5 h)
+      stmt_shaped n c base (statement.eval m e) o w h =
+          subst (λ z. StmtShaped z.tree) (sym w.2)
+          (exp_form tells C c role.statement (tells m base).from e w.0 w.1 h.0, exp_shaped tells C fit false c role.statement (tells m base).from e w.0 w.1 h.1)
+      stmt_shaped n c base (statement.branch m e x other) o w h =
+          let at : ℕ = (tells m base).from in
+          subst (λ z. StmtShaped z.tree) (sym w.6) (
+            exp_shaped tells C fit false c value at e w.0 w.3 h.0,
+            no_declaration n c at x w.1 w.4 h.1,
+            stmt_shaped n c at x w.1 w.4 h.2,
+            else_shaped n c at x w.1 w.4 (n + locals_in x) other w.2 w.5 h.3,
+          )
+      stmt_shaped n c base (statement.loop m e x) o w h =
+          let at : ℕ = (tells m base).from in
+          subst (λ z. StmtShaped z.tree) (sym w.4) (exp_shaped tells C fit false c value at e w.0 w.2 h.0, no_declaration n c at x w.1 w.3 h.1, stmt_shaped n c at x w.1 w.3 h.2)
+      stmt_shaped n c base (statement.return m e) o w h = subst (λ z. StmtShaped z.tree) (sym w.2) (maybe_shaped c (tells m base).from e w.0 w.1 h)
+      stmt_shaped n c base (statement.block m body) o w h = subst (λ z. StmtShaped z.tree) (sym w.2) (stmts_shaped n c (tells m base).from body w.0 w.1 h)
+      stmt_shaped n c base (statement.sync m e body) o w h =
+          subst (λ z. StmtShaped z.tree) (sym w.4) (exp_shaped tells C fit false c value (tells m base).from e w.0 w.2 h.0, stmts_shaped n c (tells m base).from body w.1 w.3 h.1)
+      stmt_shaped n c base (statement.empty m) o w h = subst (λ z. StmtShaped z.tree) (sym w) tt
+
+      else_shaped : (n : ℕ) (c : Context) (base : ℕ) (x : statement.Stmt A) (p : Rewritten (statement.Stmt A)) → RewritesStmt tells C n c base x p → (k : ℕ) (s : statement.Else A)
+          (o : Rewritten (statement.Else A)) → RewritesElse tells C k c base s o → ElseShaped x s → ElseShaped p.tree o.tree
+      else_shaped n c base x p r k statement.no_else o w h = subst (λ z. ElseShaped p.tree z.tree) (sym w) tt
+      else_shaped n c base x p r k (statement.otherwise s) o w h =
+          subst (λ z. ElseShaped p.tree z.tree) (sym w.2) (no_else n c base x p r h.0, no_declaration k c base s w.0 w.1 h.1, stmt_shaped k c base s w.0 w.1 h.2)
+
+      stmts_shaped : (n : ℕ) (c : Context) (base : ℕ) (s : statement.Stmts A) (o : Rewritten (statement.Stmts A)) → RewritesStmts tells C n c base s o → StmtsShaped s → StmtsShaped o.tree
+      stmts_shaped n c base statement.end o w h = subst (λ z. StmtsShaped z.tree) (sym w) tt
+      stmts_shaped n c base (statement.more x xs) o w h =
+          subst (λ z. StmtsShaped z.tree) (sym w.4) (stmt_shaped n c base x w.0 w.2 h.0, stmts_shaped (n + locals_in x) (after n c x) base xs w.1 w.3 h.1)
+
+    -- ---- members
+
+    super_call_shaped : (c : Context) (base : ℕ) (args : Option (tree.Exps A)) (o : Rewritten (Option (tree.Exps A))) → RewritesSuper tells C c base args o → ShapedArgs args → ShapedArgs o.tree
+    super_call_shaped c base None o w h = subst (λ z. ShapedArgs z.tree) (sym w) tt
+    super_call_shaped c base (Some args) o w h = subst (λ z. ShapedArgs z.tree) (sym w.4) (row_shaped tells C fit c base args w.1 w.3 h)
+
+    parent_shaped : (outer : Option (List ℕ)) (base : ℕ) (t : Option (tree.TypeName A)) (o : Rewritten (Option (tree.TypeName A))) → RewritesParent tells C outer base t o → IsParent t → IsParent o.tree
+    parent_shaped outer base None o w h = subst (λ z. IsParent z.tree) (sym w) tt
+    parent_shaped outer base (Some t) o w h = subst (λ z. IsParent z.tree) (sym w.2) (type_named tells C (C.parent_qualifier outer base t) (C.parent outer base t) base t w.0 w.1 h)
+
+    module _ (sites : List Site) where
+      -- The class's own word, and each that a constructor of it has, become one.
+      abbrev Renames : ClassKey → (name new : List ℕ) → Type 0
+      Renames of name new = (v : tree.Word A) (g : Choice) → v.text ≡ name → C.declared (class_decl of) v g → text_of g v.text ≡ new
+
+      mutual
+        unfolding RewritesClass RewritesMembers RewritesOne
+
+        class_shaped : (nested : Bool) (base : ℕ) (outer : Option (List ℕ)) (x : syntax.Class A) (o : Rewritten (syntax.Class A)) → RewritesClass tells C sites base outer x o
+            → ClassShaped nested x → ClassShaped nested o.tree
+        class_shaped nested base outer (syntax.class m mods v t ms) o w h =
+            let at : ℕ = (tells m base).from in
+            let of : ClassKey = class_key (begins tells C) outer v.text in
+            let head = w.2 in
+            let named = head.2 in
+            let new : List ℕ = text_of named.0 v.text in
+            let renames : Renames of v.text new = λ u g same declared. fit.one_name of u v g named.0 same declared named.1 in
+            let members : MembersShaped nested new w.1.tree = members_shaped nested v.text new at of renames ms w.1 w.3 h.1 in
+            subst (λ z. ClassShaped nested z.tree) (sym w.4)
+            (subst (λ (z : Rewritten (tree.Word A × Option (tree.TypeName A))). ClassShaped nested (syntax.class m mods z.tree.0 z.tree.1 w.1.tree)) (sym head.4)
+            (parent_shaped outer at t head.1 head.3 h.0, subst (λ (z : Rewritten (tree.Word A)). MembersShaped nested z.tree.text w.1.tree) (sym named.2) members))
+
+        members_shaped : (nested : Bool) (name new : List ℕ) → (base : ℕ) (of : ClassKey) → Renames of name new → (xs : syntax.Members A) (o : Rewritten (syntax.Members A))
+            → RewritesMembers tells C sites base of xs o → MembersShaped nested name xs → MembersShaped nested new o.tree
+        members_shaped nested name new base of renames syntax.end o w h = subst (λ z. MembersShaped nested new z.tree) (sym w) tt
+        members_shaped nested name new base of renames (syntax.more x xs) o w h =
+            subst (λ z. MembersShaped nested new z.tree) (sym w.4)
+            (one_shaped nested name new base of renames x w.0 w.2 h.0, members_shaped nested name new base of renames xs w.1 w.3 h.1)
+
+        one_shaped : (nested : Bool) (name new : List ℕ) → (base : ℕ) (of : ClassKey) → Renames of name new → (x : syntax.Member A) (o : Rewritten (syntax.Member A))
+            → RewritesOne tells C sites base of x o → MemberShaped nested name x → MemberShaped nested new o.tree
+        one_shaped nested name new base of renames (syntax.inner m c) o w h =
+            subst (λ z. MemberShaped nested new z.tree) (sym w.2) (h.0, class_shaped true (tells m base).from (Some of.name) c w.0 w.1 h.1)
+        one_shaped nested name new base of renames (syntax.field m mods t v init) o w h =
+            let r = w.2 in
+            subst (λ z. MemberShaped nested new z.tree) (sym r.6) (maybe_shaped (no_locals w.0 (is_static_member (begins tells C) mods)) (tells m base).from init r.2 r.5 h)
+        one_shaped nested name new base of renames (syntax.method m mods t v ps body) o w h =
+            let r = w.2 in
+            subst (λ z. MemberShaped nested new z.tree) (sym r.8) (stmts_shaped (length ps) (with_parameters w.0 (is_static_member (begins tells C) mods) ps) (tells m base).from body r.3 r.7 h)
+        one_shaped nested name new base of renames (syntax.constructor m mods v ps args body) o w h =
+            let at : ℕ = (tells m base).from in
+            let k : MemberKey = w.0 in
+            let r = w.2 in
+            let named = r.4 in
+            let declared : C.declared (class_decl of) v named.0 = subst (λ (d : Decl). C.declared d v named.0) (ap declared_by w.1.2) named.1 in
+            let text : r.0.tree.text ≡ new = ap (λ (z : Rewritten (tree.Word A)). z.tree.text) named.2 ∙ renames v named.0 h.0 declared in
+            subst (λ z. MemberShaped nested new z.tree) (sym r.8)
+            (text, super_call_shaped (with_parameters k true ps) at args r.2 r.6 h.1, stmts_shaped (length ps) (with_parameters k false ps) at body r.3 r.7 h.2)
+
+      classes_shaped : (base : ℕ) (xs : List (syntax.Class A)) (o : Rewritten (List (syntax.Class A))) → RewritesClasses tells C sites base xs o → ClassesShaped xs → ClassesShaped o.tree
+      classes_shaped base [] o w h = subst (λ z. ClassesShaped z.tree) (sym w) tt
+      classes_shaped base (x ∷ xs) o w h = subst (λ z. ClassesShaped z.tree) (sym w.4) (class_shaped false base None x w.0 w.2 h.0, classes_shaped base xs w.1 w.3 h.1)
+
+      pub unit_shaped : (u : syntax.Unit A) (o : Rewritten (syntax.Unit A)) → RewritesUnit tells C sites u o → UnitShaped u → UnitShaped o.tree
+      unit_shaped u o w h = subst (λ z. UnitShaped z.tree) (sym w.2) (classes_shaped (begins tells C u.mark 0) u.classes w.0 w.1 h)

@@ -1,0 +1,11 @@
+pub mod Respellings
+pub mod Rewritten
+pub mod Rewrites
+pub mod Along
+pub mod Suitable
+pub mod Edited
+pub mod RewriteLaws
+pub mod RespellingView
+pub mod Puts
+pub mod ChangeView
+pub mod AlongMembers

@@ -1,0 +1,9 @@
+//! Counters of steps: what a call costs is told by its contract, and nothing is counted when it
+//! runs.
+#![tactic(auto)]
+
+mod counters;
+#[cfg(test)]
+mod tests;
+
+pub use counters::Steps;

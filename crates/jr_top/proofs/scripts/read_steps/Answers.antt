@@ -1,0 +1,15 @@
+use Rattle.jr_shelf.specs.Counts.{Rose}
+use Rattle.jr_words.specs.Asked.{operand_of}
+use Rattle.jr_words.specs.Words.{run}
+use Rattle.jr_top.proofs.Ending.{ends_unread, script_unread, where_failed, where_missed}
+use Rattle.jr_top.proofs.scripts.read_steps.Goals as goal
+
+pub returns-in-Err-Failed-clause-err : goal.returns-in-Err-Failed-clause-err
+returns-in-Err-Failed-clause-err g c = λ out files.
+    let is = c.in-Err-Failed.field-0-is in
+    ends_unread (run out (operand_of c.args.script.now) files) c.args.script.now.word
+    (script_unread (g.S.Shelf.holds c.args.shelf.now) (operand_of c.args.script.now) files (g.S.Shelf.missed c.fetch.new.self) (g.S.Shelf.faults c.args.shelf.now) (g.S.Shelf.faults c.fetch.new.self) (g.S.Shelf.served c.args.shelf.now) (g.S.Shelf.served c.fetch.new.self)
+    (where_failed c.fetch.result (Rose (g.S.Shelf.faults c.args.shelf.now) (g.S.Shelf.faults c.fetch.new.self)) c.in-Err-Failed.field-0 is c.in-Err-Failed.ensures.failed)
+    (where_missed c.fetch.result (g.S.Shelf.holds c.args.shelf.now) (g.S.Shelf.missed c.args.shelf.now) (g.S.Shelf.missed c.fetch.new.self) c.args.script.now.text.now c.in-Err-Failed.field-0 is c.in-Err-Failed.ensures.missed)
+    c.in-Err-Failed.ensures.served)
+    c.in-Err-Failed.ensures.keeps c.in-Err-Failed.ensures.faults

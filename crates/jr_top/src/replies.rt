@@ -1,0 +1,70 @@
+//! The steps of a script, done by a session.
+ghost use Rattle.std.specs.Prelude.{◌≡◌, ◌<◌, ◌↔◌, All, map, IfOk, IsTrue};
+ghost use Rattle.jr_names.specs.ReplyView.{reply_of};
+ghost use Rattle.jr_session.specs.Serving.{IsServed};
+ghost use Rattle.jr_top.specs.Scripts.{Follow, HasNoRefusal, HasRefusal, IsRefusal};
+ghost use Rattle.jr_top.specs.Statuses.{IsAnswer, OnDone, OnRefused};
+
+use crate::statuses::Status;
+use jr_names::{Reply, Step};
+use jr_session::Session;
+use jr_steps::Steps;
+use std::alloc::{AllocError, Global};
+use std::marker::Brand;
+use std::sync::ledger::{Blank, Ledger};
+
+/// What the session answers to the steps, one after another. A refused one is followed by the next.
+pub(crate) fn take_steps(
+    alloc: Global,
+    session: &mut Session,
+    steps: &[Step],
+) -> Result<Vec<Reply>, AllocError>
+    requires { All IsServed steps.now }
+    ensures { IfOk result (λ replies.
+        Follow session.old steps.now (map reply_of replies.items) session.new) }
+{
+    take_counted::<Brand>(alloc, session, steps, Blank::new(1))
+}
+
+// The same, with a counter of what is bound, of which nothing is asked.
+fn take_counted<L: Ledger>(
+    alloc: Global,
+    session: &mut Session,
+    steps: &[Step],
+    blank: Blank,
+) -> Result<Vec<Reply>, AllocError>
+    requires served { All IsServed steps.now }
+    requires name { blank.name ≡ L.name }
+    requires parts { blank.parts ≡ L.parts }
+    requires some { 0 < L.parts }
+    ensures { IfOk result (λ replies.
+        Follow session.old steps.now (map reply_of replies.items) session.new) }
+{
+    let mut replies = Vec::with_capacity(alloc, steps.len())?;
+    let mut counter = Steps::<L>::new(blank);
+    for step in steps {
+        let reply = session.step(alloc, step, &mut counter)?;
+        replies.push(reply)?;
+    }
+    Ok(replies)
+}
+
+/// How a run ends whose steps have these replies, once all is written.
+pub(crate) fn status_of(replies: &[Reply]) -> Status
+    ensures answer { IsAnswer result }
+    ensures done { OnDone result (HasNoRefusal (map reply_of replies.now)) }
+    ensures refused { OnRefused result (HasRefusal (map reply_of replies.now)) }
+{
+    for reply in replies {
+        if is_refusal(reply) {
+            return Status::Refused;
+        }
+    }
+    Status::Done
+}
+
+fn is_refusal(reply: &Reply) -> bool
+    ensures { IsTrue result ↔ IsRefusal (reply_of reply.now) }
+{
+    matches!(reply, Reply::Refused(_))
+}

@@ -1,0 +1,5 @@
+pub mod Slots
+pub mod Trees
+pub mod SlotView
+pub mod TypedTrees
+pub mod TypedLaws

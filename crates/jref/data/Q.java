@@ -1,0 +1,1 @@
+class O{static int x;static class C extends B{int m(){return x;}}}
