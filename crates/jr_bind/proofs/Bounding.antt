@@ -1,10 +1,11 @@
 -- What is known of a member, from its log.
-use Rattle.std.proofs.Common.{◌≡◌, ℕ, zero, suc, ◌+◌, ◌-◌, ◌≤◌, List, [], ◌∷◌, ◌++◌, Some, Bool, true, false, refl, sym, ap, subst, ◌∙◌, inl, inr, arith}
-use Rattle.std.specs.Prelude.{◌⊎◌, nat_lt, ◌==◌, if◌then◌else◌}
+use Rattle.std.proofs.Common.{◌≡◌, ℕ, zero, suc, ◌+◌, ◌-◌, ◌≤◌, List, [], ◌∷◌, ◌++◌, Option, Some, Bool, true, false, refl, sym, ap, subst, ◌∙◌, inl, inr, arith}
+use Rattle.std.specs.Prelude.{◌⊎◌, ◌↔◌, nat_lt, ◌==◌, if◌then◌else◌}
 use Rattle.std.specs.List.{Contains}
 use Rattle.std.specs.List.Sorted.{IsPermutation}
 use Rattle.std.proofs.lemmas.Bool.{eqb-true, eq-eqb, ltb-false, le-ltb}
 use Rattle.std.proofs.lemmas.List.Sorted.{Contains-permutation, IsPermutation-sym}
+use Rattle.jr_table.specs.Keys.{Ty}
 use Rattle.jr_table.specs.Decls.{MemberKey, Decl}
 use Rattle.jr_table.specs.Rows.{Row}
 use Rattle.jr_table.specs.Found.{Found, one, nothing, many, not_accessible, from_static}
@@ -15,7 +16,8 @@ use Rattle.jr_table.specs.Errors.{Part, part_mark, Binds, Breaks, Error, AreErro
 use Rattle.jr_table.specs.NotingLaws.{PartIsNoted, AreErrorsOfLogs}
 use Rattle.jr_bind.specs.Arms.{one_decl}
 use Rattle.jr_bind.specs.Logs.{Adds}
-use Rattle.jr_bind.specs.Bounds.{Reference, decl_in, Bound, BindsOnce, IsBound}
+use Rattle.jr_types.specs.Slots.{Slot, find_type}
+use Rattle.jr_bind.specs.Bounds.{Reference, decl_in, Bound, TypeInPart, BindsOnce, IsBound}
 use Rattle.jr_bind.specs.BoundLogs.{reference_at, found_references, note_references, references_in, IsBoundOfLog}
 
 -- elements of a list
@@ -141,8 +143,9 @@ module _ {A : Type 0} (begins : A → ℕ → ℕ) (rows : List Row) (super_at :
   one_each : (at : ℕ) (d e : Decl) → Has log (refers at d) → Has log (refers at e) → d ≡ e
   one_each at d e h i = once at d e (bound_of at d h) (bound_of at e i)
 
-  pub is_bound : AreErrorsOfLogs → (start : ℕ) → start ≡ begins (part_mark part) base → (b : Bound) → IsBoundOfLog k start log b → IsBound begins rows super_at k base part b
-  is_bound told start at b of = record {
+  pub is_bound : AreErrorsOfLogs → (start : ℕ) → start ≡ begins (part_mark part) base → (slots : List Slot) → ((path : List ℕ) (t : Ty) → (find_type slots path ≡ Some t) ↔ TypeInPart begins rows k part path t)
+      → (b : Bound) → IsBoundOfLog k start log slots b → IsBound begins rows super_at k base part b
+  is_bound told start at slots typed b of = record {
     member = of.member;
     declarations = λ n d. (
       λ e. subst (λ s. Binds begins rows super_at k base part (s + n) d) at (bound_of (start + n) d (declared start log b.references of.references one_each n d e)),
@@ -159,6 +162,7 @@ module _ {A : Type 0} (begins : A → ℕ → ℕ) (rows : List Row) (super_at :
             λ h. subst (λ xs. Among xs e) (sym same) ((es.exact e).1 (in_log (breaks (start + e.at) e.rule) ((are.rules (start + e.at) e.rule).1 h))),
           );
         });
+    types = λ path t. subst (λ (f : List ℕ → Option Ty). (f path ≡ Some t) ↔ TypeInPart begins rows k part path t) (sym of.types) (typed path t);
   }
 
 -- the reference of a note of what is found

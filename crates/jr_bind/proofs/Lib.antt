@@ -24,3 +24,8 @@ pub mod Parting
 pub mod Bounding
 pub mod Searching
 pub mod MemberFound
+pub mod TypedParts
+pub mod TypedKinds
+pub mod TypedPassing
+pub mod TypedDeclaring
+pub mod TypedBounds

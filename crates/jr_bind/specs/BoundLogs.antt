@@ -17,6 +17,7 @@ use Rattle.std.specs.List.Sorted.{IsPermutation}
 use Rattle.jr_table.specs.Decls.{MemberKey, Decl}
 use Rattle.jr_table.specs.Notes.{Note, refers, breaks}
 use Rattle.jr_table.specs.ErrorLists.{errors_of_log}
+use Rattle.jr_types.specs.Slots.{Slot, find_type}
 use Rattle.jr_bind.specs.Bounds.{Reference, Bound}
 
 -- No reference stands before the first byte of a member; one that would is left out.
@@ -35,8 +36,10 @@ abbrev pub references_in : (start : ℕ) → List Note → List Reference
 references_in start [] = []
 references_in start (n ∷ ns) = note_references start n ++ references_in start ns
 
--- what such a log tells of a member that begins there
-pub record IsBoundOfLog (k : MemberKey) (start : ℕ) (log : List Note) (b : Bound) : Type 0 where
+-- what such a log tells of a member that begins there, with the types that these slots hold
+pub record IsBoundOfLog (k : MemberKey) (start : ℕ) (log : List Note) (slots : List Slot)
+    (b : Bound) : Type 0 where
   pub member : b.member ≡ k
   pub references : IsPermutation (references_in start log) b.references
   pub errors : b.errors ≡ errors_of_log start log
+  pub types : b.types ≡ find_type slots

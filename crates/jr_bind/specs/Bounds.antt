@@ -13,9 +13,20 @@ use Rattle.std.specs.Prelude.{
   None,
   if◌then◌else◌,
 }
+use Rattle.jr_table.specs.Keys.{Ty}
 use Rattle.jr_table.specs.Decls.{MemberKey, Decl}
 use Rattle.jr_table.specs.Rows.{Row}
-use Rattle.jr_table.specs.Errors.{Part, part_mark, Binds, Breaks, Error, AreErrors}
+use Rattle.jr_table.specs.Errors.{
+  Part,
+  class_part,
+  member_part,
+  part_mark,
+  Binds,
+  Breaks,
+  Error,
+  AreErrors,
+}
+use Rattle.jr_table.specs.TypesAt.{TypeAt}
 use Rattle.jr_bind.specs.PartFits.{FitsPart}
 
 -- a reference, by the place of its first byte, and what it means
@@ -33,6 +44,14 @@ pub record Bound : Type 0 where
   pub member : MemberKey
   pub references : List Reference
   pub errors : List Error
+  -- the type of the expression to which a path leads, if it leads to one that has one
+  pub types : List ℕ → Option Ty
+
+-- a path leads from a part to an expression that has the type; in the head of a class stands none
+abbrev pub TypeInPart : {A : Type 0} (begins : A → ℕ → ℕ) → List Row → MemberKey → Part A
+    → List ℕ → Ty → Type 0
+TypeInPart begins rows k (class_part of) path t = ⊥
+TypeInPart begins rows k (member_part x) path t = TypeAt begins rows k x path t
 
 -- a member whose parent begins at base, and whose written `super(..)` stands at super_at
 module _ {A : Type 0} (begins : A → ℕ → ℕ) (rows : List Row) (super_at : ℕ) (k : MemberKey)
@@ -42,13 +61,16 @@ module _ {A : Type 0} (begins : A → ℕ → ℕ) (rows : List Row) (super_at :
   BindsOnce = (at : ℕ) (d e : Decl) → Binds begins rows super_at k base part at d
       → Binds begins rows super_at k base part at e → d ≡ e
 
-  -- what is known of it is what its references are bound to, and which rules it breaks
+  -- what is known of it is what its references are bound to, which rules it breaks, and which types
+  -- its expressions have
   pub record IsBound (b : Bound) : Type 0 where
     pub member : b.member ≡ k
     pub declarations : (at : ℕ) (d : Decl) → (decl_in b.references at ≡ Some d)
         ↔ Binds begins rows super_at k base part (begins (part_mark part) base + at) d
     pub errors : AreErrors (λ e. Breaks begins rows super_at k base part
         (begins (part_mark part) base + e.at) e.rule) b.errors
+    pub types : (path : List ℕ) (t : Ty) → (b.types path ≡ Some t)
+        ↔ TypeInPart begins rows k part path t
 
 -- the places of a whole part fit, those of its own mark too
 abbrev pub FitsWhole : {A : Type 0} (begins : A → ℕ → ℕ) (Fits : A → ℕ → Type 0) → (base : ℕ)

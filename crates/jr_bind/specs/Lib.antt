@@ -23,3 +23,5 @@ pub mod BoundView
 pub mod BoundLogs
 pub mod SuperPlaces
 pub mod Programs
+pub mod TypedSlots
+pub mod TypedFlow

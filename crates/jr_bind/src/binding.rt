@@ -1,4 +1,5 @@
-//! Members are bound: one walk, its errors in order, and its references by their places.
+//! Members are bound: one walk, its errors in order, its references by their places, and a second
+//! walk for the types of its expressions.
 ghost use Rattle.std.specs.Prelude.{◌≡◌, ◌+◌, ◌<◌, ◌^◌, Some, length, map, slice_get, Contains};
 ghost use Rattle.std.specs.Prelude.{IfOk, MatchOption};
 ghost use Rattle.std.specs.List.Sorted.{IsPermutation};
@@ -22,12 +23,14 @@ use crate::bounds::Bound;
 use crate::errors::errors_of_log;
 use crate::findings::Note;
 use crate::part_notes::note_part;
+use crate::part_typing::types_of_part;
 use crate::references::references_of_log;
 use jr_ast::{Class, Member, Unit};
 use jr_members::{PartRef, WrittenMember, members_are_written, written_members};
 use jr_steps::Steps;
 use jr_table::{MemberKey, Table, errors_are_told, lookups_are_exact, parts_are_noted};
 use jr_text::Mark;
+use jr_types::{Types, paths_lead_to_types, types_are_at};
 use std::alloc::{AllocError, Global};
 use std::sync::ledger::Ledger;
 
@@ -58,16 +61,17 @@ fn first_byte<A: Mark>(part: &PartRef<'_, A>, base: u32) -> u32
     }
 }
 
-/// What a log tells of a member that begins at `start`.
+/// What a log tells of a member that begins at `start`, with the types of its expressions.
 fn bound_of_log(
     alloc: Global,
     table: &Table,
     member: &MemberKey,
     start: u32,
     log: &[Note],
+    types: Types,
 ) -> Result<Bound, AllocError>
     ensures { IfOk result (IsBoundOfLog (member_key_of member.now) start
-        (notes_of table.now (member_key_of member.now) log.now)) }
+        (notes_of table.now (member_key_of member.now) log.now) types) }
 {
     let references = references_of_log(alloc, table, member, start, log)?;
     let errors = errors_of_log(alloc, table, start, log)?;
@@ -76,6 +80,7 @@ fn bound_of_log(
         member,
         references,
         errors,
+        types,
     })
 }
 
@@ -99,6 +104,8 @@ fn bind_uncounted<A: Mark>(
     lookups_are_exact();
     parts_are_noted::<A>();
     errors_are_told();
+    paths_lead_to_types();
+    types_are_at::<A>();
     let start = first_byte(&written.part, written.base);
     let mut log = Vec::new(alloc);
     note_part(
@@ -111,10 +118,19 @@ fn bind_uncounted<A: Mark>(
         &written.part,
         &mut log,
     )?;
-    bound_of_log(alloc, table, &written.key, start, log.as_slice())
+    let types = types_of_part(
+        alloc,
+        table,
+        &written.key,
+        written.row,
+        written.base,
+        &written.part,
+    )?;
+    bound_of_log(alloc, table, &written.key, start, log.as_slice(), types)
 }
 
-/// What a written member's references mean, and which rules it breaks (JLS 6, 8, 14, 15).
+/// What a written member's references mean, which types its expressions have, and which rules it
+/// breaks (JLS 6, 8, 14, 15).
 ///
 /// A written `super(..)` of a constructor stands at `super_at`, a byte of the file, since trees
 /// keep no place of the word. Each call counts one step.

@@ -10,6 +10,7 @@ ghost use Rattle.jr_bind.specs.Bounds.{decl_in};
 use crate::errors::BindError;
 use jr_ast::Path;
 use jr_table::{Decl, Facts, MemberKey, Ty};
+use jr_types::Types;
 use std::marker::Model;
 
 /// A reference, by its place from the member's first byte, and what it means.
@@ -27,6 +28,7 @@ pub struct Bound {
     /// By their places.
     pub(crate) references: Vec<Reference>,
     pub(crate) errors: Vec<BindError>,
+    pub(crate) types: Types,
 }
 
 impl Model for Bound {
@@ -37,7 +39,7 @@ impl Model for Bound {
 
     ghost Value = { pure.Bound };
 
-    ghost view = { λ b. bound_of b.member b.references.items b.errors.items };
+    ghost view = { λ b. bound_of b.member b.references.items b.errors.items b.types };
 
     ghost invariant = { λ b. IsNonDecreasingBy (λ r. r.at) b.references.items };
 }
@@ -85,14 +87,13 @@ impl Bound {
 }
 
 impl Facts for Bound {
-    ghost use Rattle.std.specs.Prelude.{None};
     ghost use Rattle.jr_bind.specs.Bounds.{decl_in};
 
     ghost key = { λ b. b.member };
 
     ghost decls = { λ b at. decl_in b.references at };
 
-    ghost types = { λ b path. None };
+    ghost types = { λ b path. b.types path };
 
     fn member(&self) -> &MemberKey {
         &self.member
@@ -102,7 +103,7 @@ impl Facts for Bound {
         found(self.references.as_slice(), at)
     }
 
-    fn ty(&self, _path: &Path) -> Option<&Ty> {
-        None
+    fn ty(&self, path: &Path) -> Option<&Ty> {
+        self.types.ty(path)
     }
 }

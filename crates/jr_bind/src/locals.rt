@@ -80,7 +80,7 @@ fn put_redeclared<A: Mark>(
 }
 
 /// Brings a local into scope, in whose initializer the place is then (JLS 6.3).
-fn declare<'a, A>(
+pub(crate) fn declare<'a, A>(
     table: &Table,
     place: &mut Place<'a>,
     number: u32,

@@ -37,7 +37,7 @@ fn is_static_word(word: ModWord) -> bool
 }
 
 /// Whether a member is static.
-fn is_static_member<A: Mark>(modifiers: &[Modifier<A>]) -> bool
+pub(crate) fn is_static_member<A: Mark>(modifiers: &[Modifier<A>]) -> bool
     ensures { result ≡ is_static_member (λ m b. (A.span_from m b).from)
         (map modifier_of modifiers.now) }
 {
