@@ -1,5 +1,5 @@
 -- What is known of a member, from its log.
-use Rattle.std.proofs.Common.{◌≡◌, ℕ, zero, suc, ◌+◌, ◌-◌, ◌≤◌, List, [], ◌∷◌, ◌++◌, Option, Some, Bool, true, false, refl, sym, ap, subst, ◌∙◌, inl, inr, arith}
+use Rattle.std.proofs.Common.{◌≡◌, ℕ, zero, suc, ◌+◌, ◌-◌, ◌≤◌, List, [], ◌∷◌, ◌++◌, Some, Bool, true, false, refl, sym, ap, subst, ◌∙◌, inl, inr, arith}
 use Rattle.std.specs.Prelude.{◌⊎◌, ◌↔◌, nat_lt, ◌==◌, if◌then◌else◌}
 use Rattle.std.specs.List.{Contains}
 use Rattle.std.specs.List.Sorted.{IsPermutation}
@@ -162,7 +162,7 @@ module _ {A : Type 0} (begins : A → ℕ → ℕ) (rows : List Row) (super_at :
             λ h. subst (λ xs. Among xs e) (sym same) ((es.exact e).1 (in_log (breaks (start + e.at) e.rule) ((are.rules (start + e.at) e.rule).1 h))),
           );
         });
-    types = λ path t. subst (λ (f : List ℕ → Option Ty). (f path ≡ Some t) ↔ TypeInPart begins rows k part path t) (sym of.types) (typed path t);
+    types = λ path t. subst (λ (s : List Slot). (find_type s path ≡ Some t) ↔ TypeInPart begins rows k part path t) (sym of.types) (typed path t);
   }
 
 -- the reference of a note of what is found

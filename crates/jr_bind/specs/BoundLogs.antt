@@ -17,7 +17,7 @@ use Rattle.std.specs.List.Sorted.{IsPermutation}
 use Rattle.jr_table.specs.Decls.{MemberKey, Decl}
 use Rattle.jr_table.specs.Notes.{Note, refers, breaks}
 use Rattle.jr_table.specs.ErrorLists.{errors_of_log}
-use Rattle.jr_types.specs.Slots.{Slot, find_type}
+use Rattle.jr_types.specs.Slots.{Slot}
 use Rattle.jr_bind.specs.Bounds.{Reference, Bound}
 
 -- No reference stands before the first byte of a member; one that would is left out.
@@ -42,4 +42,4 @@ pub record IsBoundOfLog (k : MemberKey) (start : ℕ) (log : List Note) (slots :
   pub member : b.member ≡ k
   pub references : IsPermutation (references_in start log) b.references
   pub errors : b.errors ≡ errors_of_log start log
-  pub types : b.types ≡ find_type slots
+  pub types : b.types ≡ slots

@@ -2,7 +2,7 @@
 use Rattle.std.specs.Prelude.{List, map}
 use Rattle.jr_table.specs.KeyView.{member_key_of, decl_of}
 use Rattle.jr_table.specs.declared.decls.MemberKey.{MemberKey}
-use Rattle.jr_types.specs.Slots.{Slot, find_type}
+use Rattle.jr_types.specs.Slots.{Slot}
 use Rattle.jr_bind.specs.declared.errors.BindError.{BindError}
 use Rattle.jr_bind.specs.declared.bounds.Reference as raw
 use Rattle.jr_bind.specs.ErrorView.{error_of}
@@ -16,5 +16,5 @@ bound_of member references errors slots = record {
   member = member_key_of member;
   references = map reference_of references;
   errors = map error_of errors;
-  types = find_type slots;
+  types = slots;
 }

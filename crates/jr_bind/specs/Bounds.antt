@@ -27,6 +27,7 @@ use Rattle.jr_table.specs.Errors.{
   AreErrors,
 }
 use Rattle.jr_table.specs.TypesAt.{TypeAt}
+use Rattle.jr_types.specs.Slots.{Slot, find_type}
 use Rattle.jr_bind.specs.PartFits.{FitsPart}
 
 -- a reference, by the place of its first byte, and what it means
@@ -44,8 +45,8 @@ pub record Bound : Type 0 where
   pub member : MemberKey
   pub references : List Reference
   pub errors : List Error
-  -- the type of the expression to which a path leads, if it leads to one that has one
-  pub types : List ℕ → Option Ty
+  -- a tree of types, in which a path finds one
+  pub types : List Slot
 
 -- a path leads from a part to an expression that has the type; in the head of a class stands none
 abbrev pub TypeInPart : {A : Type 0} (begins : A → ℕ → ℕ) → List Row → MemberKey → Part A
@@ -69,7 +70,7 @@ module _ {A : Type 0} (begins : A → ℕ → ℕ) (rows : List Row) (super_at :
         ↔ Binds begins rows super_at k base part (begins (part_mark part) base + at) d
     pub errors : AreErrors (λ e. Breaks begins rows super_at k base part
         (begins (part_mark part) base + e.at) e.rule) b.errors
-    pub types : (path : List ℕ) (t : Ty) → (b.types path ≡ Some t)
+    pub types : (path : List ℕ) (t : Ty) → (find_type b.types path ≡ Some t)
         ↔ TypeInPart begins rows k part path t
 
 -- the places of a whole part fit, those of its own mark too

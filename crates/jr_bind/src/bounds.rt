@@ -88,12 +88,13 @@ impl Bound {
 
 impl Facts for Bound {
     ghost use Rattle.jr_bind.specs.Bounds.{decl_in};
+    ghost use Rattle.jr_types.specs.Slots.{find_type};
 
     ghost key = { λ b. b.member };
 
     ghost decls = { λ b at. decl_in b.references at };
 
-    ghost types = { λ b path. b.types path };
+    ghost types = { λ b path. find_type b.types path };
 
     fn member(&self) -> &MemberKey {
         &self.member
