@@ -28,20 +28,27 @@ fn or_call<A: Numbered>(alloc: Global, yes: Box<Stmt<A>>) -> Result<Stmt<A>, All
     Ok(Stmt::if_else(A::of(0), Expr::truth(A::of(0), true), yes, no))
 }
 
+#[derive(Clone, Copy)]
+enum Branching {
+    While,
+    Then,
+    Else,
+}
+
 // `while (true) m(x + 1);`, `if (true) m(x + 1);`, `if (true) m(x + 1); else m(x + 1);`
-fn branch<A: Numbered>(alloc: Global, number: u32) -> Result<Stmt<A>, AllocError> {
+fn branch<A: Numbered>(alloc: Global, branching: Branching) -> Result<Stmt<A>, AllocError> {
     let first = Box::new(alloc, call(alloc)?)?;
-    match number {
-        0 => Ok(Stmt::while_loop(A::of(0), Expr::truth(A::of(0), true), first)),
-        1 => Ok(Stmt::if_then(A::of(0), Expr::truth(A::of(0), true), first)),
-        _ => or_call(alloc, first),
+    match branching {
+        Branching::While => Ok(Stmt::while_loop(A::of(0), Expr::truth(A::of(0), true), first)),
+        Branching::Then => Ok(Stmt::if_then(A::of(0), Expr::truth(A::of(0), true), first)),
+        Branching::Else => or_call(alloc, first),
     }
 }
 
 fn branches<A: Numbered>(alloc: Global) -> Result<Vec<Stmt<A>>, AllocError> {
     let mut all = Vec::new(alloc);
-    for number in 0..3 {
-        all.push(branch(alloc, number)?)?;
+    for branching in [Branching::While, Branching::Then, Branching::Else] {
+        all.push(branch(alloc, branching)?)?;
     }
     Ok(all)
 }
@@ -53,31 +60,50 @@ fn local<A: Numbered>(alloc: Global) -> Result<Stmt<A>, AllocError> {
     Ok(Stmt::local(A::of(0), false, ty, name, Expr::number(A::of(0), 1)))
 }
 
+#[derive(Clone, Copy)]
+enum Form {
+    Local,
+    Call,
+    Return,
+    Empty,
+    Block,
+    Sync,
+}
+
 // `int x = 1;`, `m(x + 1);`, `return x + 1;`, `;`, and those of `branches` in a block and
 // synchronized.
-fn kind<A: Numbered>(alloc: Global, number: u32) -> Result<Stmt<A>, AllocError> {
-    match number {
-        0 => local(alloc),
-        1 => call(alloc),
-        2 => Ok(Stmt::return_value(A::of(0), Some(sum(alloc)?))),
-        3 => Ok(Stmt::empty(A::of(0))),
-        4 => Ok(Stmt::block(A::of(0), branches(alloc)?)),
-        _ => {
+fn statement<A: Numbered>(alloc: Global, form: Form) -> Result<Stmt<A>, AllocError> {
+    match form {
+        Form::Local => local(alloc),
+        Form::Call => call(alloc),
+        Form::Return => Ok(Stmt::return_value(A::of(0), Some(sum(alloc)?))),
+        Form::Empty => Ok(Stmt::empty(A::of(0))),
+        Form::Block => Ok(Stmt::block(A::of(0), branches(alloc)?)),
+        Form::Sync => {
             let body = branches(alloc)?;
             Ok(Stmt::sync(A::of(0), Expr::this(A::of(0)), body))
         }
     }
 }
 
-fn each_kind<A: Numbered>(alloc: Global) -> Result<Vec<Stmt<A>>, AllocError> {
+const FORMS: [Form; 6] = [
+    Form::Local,
+    Form::Call,
+    Form::Return,
+    Form::Empty,
+    Form::Block,
+    Form::Sync,
+];
+
+fn each_form<A: Numbered>(alloc: Global) -> Result<Vec<Stmt<A>>, AllocError> {
     let mut all = Vec::new(alloc);
-    for number in 0..6 {
-        all.push(kind(alloc, number)?)?;
+    for form in FORMS {
+        all.push(statement(alloc, form)?)?;
     }
     Ok(all)
 }
 
-// The marks of `unit_of` around `each_kind`: `m(x + 1);` has seven, and the nodes of the rest are
+// The marks of `unit_of` around `each_form`: `m(x + 1);` has seven, and the nodes of the rest are
 // counted by hand too.
 const MARKS: usize = 5 + 4 + 7 + 5 + 1 + 1 + 2 + 2 * (9 + 9 + 16);
 
@@ -89,7 +115,7 @@ fn freed<A: Numbered, B: Drop, F: Fn(&A) -> B + Drop>(
 ) -> Result<(usize, usize), AllocError>
     requires { F.IsAlwaysCallable f }
 {
-    let unit: Unit<A> = unit_of(alloc, each_kind(alloc)?)?;
+    let unit: Unit<A> = unit_of(alloc, each_form(alloc)?)?;
     let copy: Unit<B> = unit.with_marks(alloc, f)?;
     let held = live.get();
     drop(copy);

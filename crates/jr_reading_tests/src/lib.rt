@@ -8,6 +8,8 @@ mod deepest;
 #[cfg(test)]
 mod drops;
 #[cfg(test)]
+mod expressions;
+#[cfg(test)]
 mod lexing;
 #[cfg(test)]
 mod limits;
@@ -16,4 +18,14 @@ mod names;
 #[cfg(test)]
 mod paths;
 #[cfg(test)]
+mod printing;
+#[cfg(test)]
+mod reading;
+#[cfg(test)]
 mod samples;
+#[cfg(test)]
+mod shown;
+#[cfg(test)]
+mod small;
+#[cfg(test)]
+mod units;

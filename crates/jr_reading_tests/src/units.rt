@@ -1,17 +1,21 @@
 //! What texts are read as: units by the grammar and by javac, shown as they are printed, and places
 //! of faults. What is printed is read again. Each expected text is that of the layout in
 //! docs/DEFINITIONS.md.
-use crate::parse_unit;
-use jr_ast::Member;
-use jr_lex::{lex, measure};
+use crate::reading::{items_of, put_times};
+use jr_ast::{Class, Member, Unit};
 use jr_pexpr::{ParseFault, parse_expr};
 use jr_print::{expr_text, member_text};
-use jr_text::Text;
-use std::alloc::Global;
+use jr_punit::parse_unit;
+use jr_text::{Span, Text};
+use std::alloc::{AllocError, Global};
 use std::process::Abort;
+use std::test::Fail;
+
+/// A source, and what it is printed as.
+type Row = (&'static str, &'static str);
 
 /// A source of an expression, and what it is printed as.
-const EXPRESSIONS: [(&str, &str); 22] = [
+const EXPRESSIONS: [Row; 22] = [
     ("-(-a)+1", "-(-a) + 1"),
     ("- -a", "- -a"),
     ("+/* not a bump */+a", "+ +a"),
@@ -37,7 +41,7 @@ const EXPRESSIONS: [(&str, &str); 22] = [
 ];
 
 /// A source of a unit, and what its classes are printed as, with the unit's mark in front.
-const UNITS: [(&str, &str); 24] = [
+const UNITS: [Row; 24] = [
     ("", "0-0 0:"),
     (" /*c*/ ", "0-7 0:"),
     ("package a . b ;", "0-15 2:"),
@@ -122,7 +126,7 @@ const UNITS: [(&str, &str); 24] = [
 ];
 
 /// A text that is no unit, and the byte where reading stops.
-const STOPS: [(&str, u32); 36] = [
+const STOPS: [(&'static str, u32); 36] = [
     ("class A{int f=1 2;}", 16),
     ("class", 5),
     ("class A", 7),
@@ -162,104 +166,121 @@ const STOPS: [(&str, u32); 36] = [
 ];
 
 /// The text of the expression that the whole text is.
-fn printed(rt: &impl Abort, alloc: Global, text: &str) -> String {
-    let text = Text::new(alloc, text.as_bytes()).expect(rt, "a text");
-    let items = lex(alloc, &text).expect(rt, "items");
-    measure(&items).expect(rt, "tokens within the limits");
-    let (tree, behind, _stop) = parse_expr(alloc, &text, &items, 0).expect(rt, "an expression");
-    assert_eq!(rt; behind as usize, items.len());
-    expr_text(alloc, &tree).expect(rt, "memory")
+fn printed(rt: &impl Abort, alloc: Global, text: &str) -> Result<String, Fail> {
+    let text = Text::new(alloc, text.as_bytes())?;
+    let items = items_of(alloc, &text)?;
+    let (tree, behind, _stop) = parse_expr(alloc, &text, &items, 0)?;
+    assert!(rt; behind as usize == items.len());
+    Ok(expr_text(alloc, &tree)?)
 }
 
-/// The unit that the text is: its mark, how many words its package has, and its classes; or the
-/// byte where reading stops.
-fn read(rt: &impl Abort, alloc: Global, text: &str) -> String {
-    let text = Text::new(alloc, text.as_bytes()).expect(rt, "a text");
-    let items = lex(alloc, &text).expect(rt, "items");
-    measure(&items).expect(rt, "tokens within the limits");
-    match parse_unit(alloc, &text, &items) {
-        Ok(unit) => {
-            let mark = unit.mark;
-            let words = unit.package.len();
-            let (from, to) = (mark.from, mark.to);
-            let mut shown = format!(in alloc; "{from}-{to} {words}:").expect(rt, "memory");
-            for class in unit.classes {
-                let member = Member::inner(mark, class);
-                let class = member_text(alloc, &member).expect(rt, "memory");
-                shown.push_str(" ").expect(rt, "memory");
-                shown.push_str(class.as_str()).expect(rt, "memory");
-            }
-            shown
-        }
-        Err(ParseFault::Syntax { at }) => format!(in alloc; "at {at}").expect(rt, "memory"),
-        Err(ParseFault::Memory) => String::new(alloc),
+fn assert_printed(rt: &impl Abort, alloc: Global, rows: &[Row]) -> Result<(), Fail> {
+    for (source, expected) in rows {
+        let once = printed(rt, alloc, source)?;
+        assert!(rt; once.as_str() == *expected, "{source:?}");
+        let again = printed(rt, alloc, once.as_str())?;
+        assert!(rt; again.as_str() == *expected, "{source:?}");
     }
+    Ok(())
+}
+
+#[test]
+fn printed_expressions_are_read_again(rt: HostRuntime) -> Result<(), Fail> {
+    assert_printed(&rt, rt.alloc(), &EXPRESSIONS)
+}
+
+/// The unit's mark, how many words its package has, and its classes.
+fn shown(alloc: Global, unit: Unit<Span>) -> Result<String, AllocError> {
+    let mark = unit.mark;
+    let words = unit.package.len();
+    let (from, to) = (mark.from, mark.to);
+    let mut text = format!(in alloc; "{from}-{to} {words}:")?;
+    for class in unit.classes {
+        text.push_str(" ")?;
+        let class = class_text(alloc, mark, class)?;
+        text.push_str(class.as_str())?;
+    }
+    Ok(text)
+}
+
+fn class_text<A: Drop>(alloc: Global, mark: A, class: Class<A>) -> Result<String, AllocError> {
+    member_text(alloc, &Member::inner(mark, class))
+}
+
+/// The unit that the text is, or the byte where reading stops.
+fn read(alloc: Global, text: &str) -> Result<String, Fail> {
+    let text = Text::new(alloc, text.as_bytes())?;
+    let items = items_of(alloc, &text)?;
+    match parse_unit(alloc, &text, &items) {
+        Ok(unit) => Ok(shown(alloc, unit)?),
+        Err(ParseFault::Syntax { at }) => Ok(format!(in alloc; "at {at}")?),
+        Err(ParseFault::Memory) => Ok(String::new(alloc)),
+    }
+}
+
+fn assert_read(rt: &impl Abort, alloc: Global, rows: &[Row]) -> Result<(), Fail> {
+    for (source, expected) in rows {
+        let shown = read(alloc, source)?;
+        assert!(rt; shown.as_str() == *expected, "{source:?}");
+    }
+    Ok(())
+}
+
+fn assert_stops(rt: &impl Abort, alloc: Global, rows: &[(&'static str, u32)]) -> Result<(), Fail> {
+    for (source, at) in rows {
+        let shown = read(alloc, source)?;
+        let expected = format!(in alloc; "at {at}")?;
+        assert!(rt; shown.as_str() == expected.as_str(), "{source:?}");
+    }
+    Ok(())
+}
+
+#[test]
+fn units_are_read(rt: HostRuntime) -> Result<(), Fail> {
+    assert_read(&rt, rt.alloc(), &UNITS)
+}
+
+#[test]
+fn units_are_read_to_their_stops(rt: HostRuntime) -> Result<(), Fail> {
+    assert_stops(&rt, rt.alloc(), &STOPS)
+}
+
+fn assert_read_again(rt: &impl Abort, alloc: Global, rows: &[Row]) -> Result<(), Fail> {
+    for (_, expected) in rows {
+        if let Some((_, classes)) = expected.split_once(": ") {
+            let again = read(alloc, classes)?;
+            assert!(rt; again.as_str().ends_with(classes), "{classes:?}");
+        }
+    }
+    Ok(())
+}
+
+#[test]
+fn printed_units_are_read_again(rt: HostRuntime) -> Result<(), Fail> {
+    assert_read_again(&rt, rt.alloc(), &UNITS)
 }
 
 /// The deepest statements of a text within the limits: blocks in blocks with `if` before each, and
 /// a chain of `else` inside.
-fn deep(rt: &impl Abort, alloc: Global) -> String {
+fn deep(alloc: Global) -> Result<Text, Fail> {
     let mut text = String::new(alloc);
-    text.push_str("class A{void m(){").expect(rt, "memory");
+    text.push_str("class A{void m(){")?;
     for _ in 0..97 {
-        for _ in 0..74 {
-            text.push_str("if(a)").expect(rt, "memory");
-        }
-        text.push_str("{").expect(rt, "memory");
+        put_times(&mut text, "if(a)", 74)?;
+        text.push_str("{")?;
     }
-    for _ in 0..500 {
-        text.push_str("if(a);else ").expect(rt, "memory");
-    }
-    text.push_str(";").expect(rt, "memory");
-    for _ in 0..99 {
-        text.push_str("}").expect(rt, "memory");
-    }
-    text
+    put_times(&mut text, "if(a);else ", 500)?;
+    text.push_str(";")?;
+    put_times(&mut text, "}", 99)?;
+    Ok(Text::new(alloc, text.as_bytes())?)
 }
 
 #[test]
-fn printed_expressions_are_read_again(rt: HostRuntime) {
+fn the_deepest_unit_is_read(rt: HostRuntime) -> Result<(), Fail> {
     let alloc = rt.alloc();
-    for (source, expected) in &EXPRESSIONS {
-        let once = printed(&rt, alloc, source);
-        assert_eq!(rt; once.as_str(), *expected, "{source:?}");
-        let again = printed(&rt, alloc, once.as_str());
-        assert_eq!(rt; again.as_str(), *expected, "{source:?}");
-    }
-}
-
-#[test]
-fn units_are_read(rt: HostRuntime) {
-    let alloc = rt.alloc();
-    for (source, expected) in &UNITS {
-        let shown = read(&rt, alloc, source);
-        assert_eq!(rt; shown.as_str(), *expected, "{source:?}");
-    }
-    for (source, at) in &STOPS {
-        let shown = read(&rt, alloc, source);
-        let expected = format!(in alloc; "at {at}").expect(&rt, "memory");
-        assert_eq!(rt; shown.as_str(), expected.as_str(), "{source:?}");
-    }
-}
-
-#[test]
-fn the_deepest_unit_is_read(rt: HostRuntime) {
-    let alloc = rt.alloc();
-    let text = deep(&rt, alloc);
-    let text = Text::new(alloc, text.as_bytes()).expect(&rt, "a text");
-    let items = lex(alloc, &text).expect(&rt, "items");
-    measure(&items).expect(&rt, "tokens within the limits");
-    let unit = parse_unit(alloc, &text, &items).expect(&rt, "a unit");
-    assert_eq!(rt; unit.classes.len(), 1);
-}
-
-#[test]
-fn printed_units_are_read_again(rt: HostRuntime) {
-    let alloc = rt.alloc();
-    for (_, expected) in &UNITS {
-        if let Some((_, classes)) = expected.split_once(": ") {
-            let again = read(&rt, alloc, classes);
-            assert!(rt; again.as_str().ends_with(classes), "{classes:?}");
-        }
-    }
+    let text = deep(alloc)?;
+    let items = items_of(alloc, &text)?;
+    let unit = parse_unit(alloc, &text, &items)?;
+    assert!(rt; unit.classes.len() == 1);
+    Ok(())
 }

@@ -1,17 +1,19 @@
 //! What texts are read as: trees, places and stops by the grammar, and by javac where it takes the
 //! whole text.
-mod shown;
-
-use crate::{ParseFault, parse_expr, parse_sexpr};
-use jr_lex::{lex, measure};
-use jr_text::Text;
-use shown::shown;
-use std::alloc::Global;
+use crate::reading::{items_of, put_times};
+use crate::shown::shown;
+use jr_ast::Expr;
+use jr_pexpr::{ParseFault, parse_expr, parse_sexpr};
+use jr_text::{Span, Text};
+use std::alloc::{AllocError, Global};
 use std::process::Abort;
+use std::test::Fail;
 
 /// A text, the item that reading begins at, and the answer: the tree, the item behind it and the
 /// stop, or a byte.
-type Row<'a> = (&'a str, u32, &'a str);
+type Row = (&'static str, u32, &'static str);
+
+type Answer = Result<(Expr<Span>, u32, u32), ParseFault>;
 
 #[derive(Clone, Copy)]
 enum Want {
@@ -21,7 +23,7 @@ enum Want {
 }
 
 /// Expressions.
-const EXPRESSIONS: [Row<'static>; 70] = [
+const EXPRESSIONS: [Row; 70] = [
     ("a", 0, "a 1 1"),
     ("a+b*c", 0, "[a + [b * c]] 5 5"),
     ("a*b+c", 0, "[[a * b] + c] 5 5"),
@@ -95,7 +97,7 @@ const EXPRESSIONS: [Row<'static>; 70] = [
 ];
 
 /// Statement expressions.
-const STATEMENT_EXPRESSIONS: [Row<'static>; 21] = [
+const STATEMENT_EXPRESSIONS: [Row; 21] = [
     ("f()", 0, "f() 3 3"),
     ("a.f(b) ;", 0, "a.f(b) 6 7"),
     ("a=b+c", 0, "[a = [b + c]] 5 5"),
@@ -120,7 +122,7 @@ const STATEMENT_EXPRESSIONS: [Row<'static>; 21] = [
 ];
 
 /// Expressions, with each mark behind what has it.
-const PLACES: [Row<'static>; 6] = [
+const PLACES: [Row; 6] = [
     (
         "f(a+b, -c)",
         0,
@@ -153,66 +155,105 @@ const PLACES: [Row<'static>; 6] = [
     ),
 ];
 
+/// The tree, the item behind it and the stop.
+fn told(
+    alloc: Global,
+    tree: &Expr<Span>,
+    behind: u32,
+    stop: u32,
+    places: bool,
+) -> Result<String, AllocError> {
+    let tree = shown(alloc, tree, places)?;
+    format!(in alloc; "{tree} {behind} {stop}")
+}
+
+fn answered(alloc: Global, answer: Answer, places: bool) -> Result<String, AllocError> {
+    match answer {
+        Ok((tree, behind, stop)) => told(alloc, &tree, behind, stop, places),
+        Err(ParseFault::Syntax { at }) => format!(in alloc; "at {at}"),
+        Err(ParseFault::Memory) => Ok(String::new(alloc)),
+    }
+}
+
 /// What is read of a text from an item on.
-fn read(rt: &impl Abort, alloc: Global, text: &str, from: u32, want: Want) -> String {
-    let text = Text::new(alloc, text.as_bytes()).expect(rt, "a text");
-    let items = lex(alloc, &text).expect(rt, "items");
-    measure(&items).expect(rt, "tokens within the limits");
+fn read(rt: &impl Abort, alloc: Global, text: &str, from: u32, want: Want) -> Result<String, Fail> {
+    let text = Text::new(alloc, text.as_bytes())?;
+    let items = items_of(alloc, &text)?;
     assert!(rt; from as usize <= items.len());
     let answer = match want {
         Want::StatementExpression => parse_sexpr(alloc, &text, &items, from),
-        _ => parse_expr(alloc, &text, &items, from),
+        Want::Expression => parse_expr(alloc, &text, &items, from),
+        Want::Places => parse_expr(alloc, &text, &items, from),
     };
-    match answer {
-        Ok((tree, behind, stop)) => {
-            let tree = shown(alloc, &tree, matches!(want, Want::Places)).expect(rt, "memory");
-            format!(in alloc; "{tree} {behind} {stop}").expect(rt, "memory")
-        }
-        Err(ParseFault::Syntax { at }) => format!(in alloc; "at {at}").expect(rt, "memory"),
-        Err(ParseFault::Memory) => String::new(alloc),
-    }
+    Ok(answered(alloc, answer, matches!(want, Want::Places))?)
 }
 
-fn assert_rows(rt: &impl Abort, alloc: Global, rows: &[Row<'_>], want: Want) {
+fn assert_rows(rt: &impl Abort, alloc: Global, rows: &[Row], want: Want) -> Result<(), Fail> {
     for (text, from, expected) in rows {
-        let answer = read(rt, alloc, text, *from, want);
-        assert_eq!(rt; answer.as_str(), *expected, "{text:?}");
+        let answer = read(rt, alloc, text, *from, want)?;
+        assert!(rt; answer.as_str() == *expected, "{text:?}");
     }
-}
-
-/// So many times `before`, then `a`, and so many times `behind`, is read whole: its tree is as deep
-/// as the limits let it be.
-fn assert_deep(rt: &impl Abort, alloc: Global, before: &str, behind: &str, times: u32, items: u32) {
-    let mut text = String::new(alloc);
-    for _ in 0..times {
-        text.push_str(before).expect(rt, "memory");
-    }
-    text.push_str("a").expect(rt, "memory");
-    for _ in 0..times {
-        text.push_str(behind).expect(rt, "memory");
-    }
-    let text = Text::new(alloc, text.as_bytes()).expect(rt, "a text");
-    let found = lex(alloc, &text).expect(rt, "items");
-    measure(&found).expect(rt, "tokens within the limits");
-    let (_tree, end, stop) = parse_expr(alloc, &text, &found, 0).expect(rt, "an expression");
-    assert_eq!(rt; (end, stop), (items, items));
+    Ok(())
 }
 
 #[test]
-fn texts_are_read(rt: HostRuntime) {
-    let alloc = rt.alloc();
-    assert_rows(&rt, alloc, &EXPRESSIONS, Want::Expression);
+fn expressions_are_read(rt: HostRuntime) -> Result<(), Fail> {
+    assert_rows(&rt, rt.alloc(), &EXPRESSIONS, Want::Expression)
+}
+
+#[test]
+fn statement_expressions_are_read(rt: HostRuntime) -> Result<(), Fail> {
     assert_rows(
         &rt,
-        alloc,
+        rt.alloc(),
         &STATEMENT_EXPRESSIONS,
         Want::StatementExpression,
-    );
-    assert_rows(&rt, alloc, &PLACES, Want::Places);
-    assert_deep(&rt, alloc, "(", ")", 100, 201);
-    assert_deep(&rt, alloc, "f(", ")", 99, 298);
-    assert_deep(&rt, alloc, "!", "", 299, 300);
-    assert_deep(&rt, alloc, "a=", "", 149, 299);
-    assert_deep(&rt, alloc, "", "+a", 149, 299);
-    assert_deep(&rt, alloc, "", ".a", 149, 299);
+    )
+}
+
+#[test]
+fn places_are_read(rt: HostRuntime) -> Result<(), Fail> {
+    assert_rows(&rt, rt.alloc(), &PLACES, Want::Places)
+}
+
+/// So many times `before`, then `a`, and so many times `behind`.
+fn around(alloc: Global, before: &str, behind: &str, times: u32) -> Result<Text, Fail> {
+    let mut text = String::new(alloc);
+    put_times(&mut text, before, times)?;
+    text.push_str("a")?;
+    put_times(&mut text, behind, times)?;
+    Ok(Text::new(alloc, text.as_bytes())?)
+}
+
+/// Whether such a text is read whole, of so many items.
+fn is_read_whole(
+    alloc: Global,
+    before: &str,
+    behind: &str,
+    times: u32,
+    len: u32,
+) -> Result<bool, Fail> {
+    let text = around(alloc, before, behind, times)?;
+    let items = items_of(alloc, &text)?;
+    let (_tree, end, stop) = parse_expr(alloc, &text, &items, 0)?;
+    Ok((end == len) & (stop == len))
+}
+
+/// What stands before and behind `a`, how many times, and how many items this makes: trees as deep
+/// as the limits let them be.
+const DEEPEST: [(&'static str, &'static str, u32, u32); 6] = [
+    ("(", ")", 100, 201),
+    ("f(", ")", 99, 298),
+    ("!", "", 299, 300),
+    ("a=", "", 149, 299),
+    ("", "+a", 149, 299),
+    ("", ".a", 149, 299),
+];
+
+#[test]
+fn the_deepest_expressions_are_read(rt: HostRuntime) -> Result<(), Fail> {
+    for (before, behind, times, len) in &DEEPEST {
+        assert!(rt; is_read_whole(rt.alloc(), before, behind, *times, *len)?);
+    }
+    Ok(())
 }

@@ -190,7 +190,7 @@ fn node(out: &mut Page, kind: &ExprKind<Span>) -> Shown {
 }
 
 /// The tree in brackets, with its marks or without.
-pub fn shown(alloc: Global, tree: &Expr<Span>, places: bool) -> Result<String, AllocError> {
+pub(crate) fn shown(alloc: Global, tree: &Expr<Span>, places: bool) -> Result<String, AllocError> {
     let mut out = Page {
         text: String::new(alloc),
         places,

@@ -1,4 +1,5 @@
-use crate::{Outcome, Refusal, SourceKind, rename};
+//! Renames of a local in small sources.
+use jr_small::{Outcome, Refusal, SourceKind, rename};
 use jr_text::Text;
 use std::alloc::Global;
 use std::process::Abort;
