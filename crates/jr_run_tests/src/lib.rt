@@ -1,4 +1,4 @@
-//! Tests of command lines, files, scripts and reports, over public calls alone.
+//! Tests of command lines, files, scripts, reports and sessions, over public calls alone.
 //!
 //! They stand in a crate of their own, so that the crates which they test are proved once.
 #![tactic(auto)]
@@ -11,5 +11,9 @@ mod memory;
 mod reports;
 #[cfg(test)]
 mod scripts;
+#[cfg(test)]
+mod sessions;
+#[cfg(test)]
+mod shows;
 #[cfg(test)]
 mod words;

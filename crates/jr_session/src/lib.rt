@@ -22,8 +22,6 @@ mod shows;
 mod sources;
 mod splices;
 mod steps;
-#[cfg(test)]
-mod tests;
 mod turns;
 
 pub use begins::BeginFault;
