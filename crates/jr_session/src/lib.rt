@@ -20,8 +20,6 @@ mod shows;
 mod sources;
 mod splices;
 mod steps;
-#[cfg(test)]
-mod tests;
 mod turns;
 
 pub use begins::BeginFault;

@@ -1,23 +1,11 @@
-use crate::{FilesFault, SourceFault, Store, StoreFault, fetch_sources, store_all};
-use jr_shelf::{MemoryShelf, names_differ};
+//! Files that are fetched and stored.
+use crate::memory::shelf_of;
+use jr_files::{FilesFault, SourceFault, Store, StoreFault, fetch_sources, store_all};
+use jr_shelf::MemoryShelf;
 use jr_words::Operand;
 use std::alloc::Global;
 use std::process::Abort;
 use std::test::Fail;
-
-fn shelf_of(
-    rt: &impl Abort,
-    alloc: Global,
-    held: &[(&str, &[u8])],
-    calls: &[u32],
-) -> Result<MemoryShelf, Fail> {
-    let mut files = Vec::new(alloc);
-    for (name, bytes) in held {
-        files.push((String::from_str(alloc, name)?, bytes.to_vec(alloc)?))?;
-    }
-    assert!(rt; names_differ(files.as_slice()));
-    Ok(MemoryShelf::new(alloc, files, calls.to_vec(alloc)?, 1_000)?)
-}
 
 const A: Operand = Operand { word: 2, text: "A" };
 

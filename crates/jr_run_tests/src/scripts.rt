@@ -1,5 +1,6 @@
-use super::*;
+//! What scripts are read as.
 use jr_names::{Step, What};
+use jr_script::{ScriptFault, read_script};
 use std::alloc::{AllocError, Global};
 use std::test::Fail;
 

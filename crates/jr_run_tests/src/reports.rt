@@ -1,8 +1,9 @@
+//! The texts of refusals and reports.
 ghost use Rattle.std.specs.Prelude.{◌≡◌};
 
-use super::*;
 use jr_ast::Name;
 use jr_names::{Lines, Names, Need, Refusal, Reply, SiteAt};
+use jr_script::{refusal_text, report_text};
 use jr_sync::{DepKind, Kind, Site};
 use jr_table::{ClassKey, Decl, FieldKey, Found, LocalKey, MemberKey, MethodKey, Ty, Tys};
 use jr_text::Place;

@@ -1,7 +1,7 @@
-use super::*;
-use crate::readings::read;
+//! Sessions: how they begin, their steps and their refusals.
 use jr_ast::Name;
 use jr_names::{Refusal, Reply};
+use jr_session::{BeginFault, Session};
 use jr_text::Text;
 use std::alloc::{AllocError, Global};
 use std::test::Fail;
@@ -174,127 +174,5 @@ fn beginnings(rt: HostRuntime) -> Result<(), Fail> {
     assert!(rt; matches!(fault, Err(BeginFault::TooMany { count: 257 })));
     let empty = Session::begin(alloc, Vec::new(alloc))?;
     assert!(rt; empty.text("a").is_none());
-    Ok(())
-}
-
-// What each text has of faults by itself, and where its first token begins.
-const TEXTS: [(&str, Option<ReadingFault>, u32); 12] = [
-    ("class A{}", None, 0),
-    (" /* a */ package p;class A{}", None, 9),
-    ("", None, 0),
-    (
-        "class A {",
-        Some(ReadingFault {
-            at: 9,
-            kind: FaultKind::Syntax,
-        }),
-        0,
-    ),
-    (
-        "class class A{} #",
-        Some(ReadingFault {
-            at: 16,
-            kind: FaultKind::BadByte,
-        }),
-        0,
-    ),
-    (
-        "/*",
-        Some(ReadingFault {
-            at: 0,
-            kind: FaultKind::OpenComment,
-        }),
-        0,
-    ),
-    (
-        "a \"b",
-        Some(ReadingFault {
-            at: 2,
-            kind: FaultKind::OpenString,
-        }),
-        0,
-    ),
-    (
-        "\"\\q\"",
-        Some(ReadingFault {
-            at: 1,
-            kind: FaultKind::Escape,
-        }),
-        0,
-    ),
-    (
-        "a 2147483649",
-        Some(ReadingFault {
-            at: 2,
-            kind: FaultKind::BadNumber,
-        }),
-        0,
-    ),
-    (
-        "a 2147483648",
-        Some(ReadingFault {
-            at: 0,
-            kind: FaultKind::Syntax,
-        }),
-        0,
-    ),
-    (
-        "class A{static int f=2147483648;}",
-        Some(ReadingFault {
-            at: 21,
-            kind: FaultKind::Syntax,
-        }),
-        0,
-    ),
-    (
-        "class A{} class",
-        Some(ReadingFault {
-            at: 15,
-            kind: FaultKind::Syntax,
-        }),
-        0,
-    ),
-];
-
-#[test]
-fn readings(rt: HostRuntime) -> Result<(), Fail> {
-    let alloc = rt.alloc();
-    for (text, fault, word) in TEXTS {
-        let reading = read(alloc, &Text::new(alloc, text.as_bytes())?)?;
-        assert!(rt; reading.fault == fault, "{text}");
-        assert!(rt; reading.word == word, "{text}");
-    }
-    Ok(())
-}
-
-// `class A{int f=` with so many parentheses around a number.
-fn nested(alloc: Global, count: u32) -> Result<Text, Fail> {
-    let mut text = String::from_str(alloc, "class A{int f=")?;
-    for _ in 0..count {
-        text.push_str("(")?;
-    }
-    text.push_str("1")?;
-    for _ in 0..count {
-        text.push_str(")")?;
-    }
-    text.push_str(";}")?;
-    Ok(Text::new(alloc, text.as_str().as_bytes())?)
-}
-
-// The brace is the first that is open, so 99 more may be.
-#[test]
-fn depths(rt: HostRuntime) -> Result<(), Fail> {
-    let alloc = rt.alloc();
-    let within = read(alloc, &nested(alloc, 99)?)?;
-    assert!(rt; within.fault.is_none());
-    let beyond = read(alloc, &nested(alloc, 100)?)?;
-    assert!(rt;
-        beyond.fault
-            == Some(ReadingFault {
-                at: 113,
-                kind: FaultKind::Deep
-            })
-    );
-    assert_eq!(rt; FaultKind::Deep.name(), "Deep");
     Ok(())
 }

@@ -1,15 +1,8 @@
-use crate::{Command, WordsFault, read_words};
+//! What words mean.
+use crate::memory::words_of;
+use jr_words::{Command, WordsFault, read_words};
 use std::alloc::{AllocError, Global};
 use std::test::Fail;
-
-// The words that single spaces part.
-fn words_of(alloc: Global, line: &str) -> Result<Vec<String>, AllocError> {
-    let mut words = Vec::new(alloc);
-    for word in line.split(' ') {
-        words.push(String::from_str(alloc, word)?)?;
-    }
-    Ok(words)
-}
 
 // What the words mean, as a text: operands with the numbers of their words.
 fn told(alloc: Global, words: &[String]) -> Result<String, AllocError> {
