@@ -13,8 +13,6 @@ mod faults;
 mod first_faults;
 mod kept;
 mod laws;
-#[cfg(test)]
-mod program_tests;
 mod programs;
 mod readings;
 mod sessions;
