@@ -23,4 +23,7 @@ returns-else-ends c =
     ∙ ap (λ s. Members.inner_step join (inner_class s) c.args.at (token_view c.args.token)) (sym c.in-Members.is))
     (subst (λ b. GoesTo c.member_on.result (Classes.in_members (class_head b) (members_of c.member_on.new.all.items) (own_state c.member_on.new.member))
     (option_map (inner_read (class_head b) all) (Own.step join (class_head b).word.text (own_state c.in-Members.member.value) c.args.at (token_view c.args.token))))
-    c.deref-2.ensures c.member_on.ensures)
+    c.deref-else-ends.ensures
+    (subst (λ o. GoesTo c.member_on.result (Classes.in_members (class_head c.deref-else-ends.result.now) (members_of c.member_on.new.all.items) (own_state c.member_on.new.member))
+    (option_map (inner_read (class_head c.deref-else-ends.result.now) all) (Own.step join (class_head c.deref-else-ends.result.now).word.text (own_state o) c.args.at (token_view c.args.token))))
+    c.deref_mut.ensures.value c.member_on.ensures))
