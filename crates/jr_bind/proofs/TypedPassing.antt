@@ -11,7 +11,7 @@ use Rattle.jr_table.specs.Context.{Context, local_of, in_own, after, locals_in, 
 use Rattle.jr_locals.specs.declared.locals.Locals.{Locals}
 use Rattle.jr_locals.specs.Tracked.{Tracked, locals_of}
 use Rattle.jr_types.specs.Slots.{Slot}
-use Rattle.jr_types.specs.Trees.{Tree, node, Parts, none, put, count, flat, flats}
+use Rattle.jr_types.specs.Trees.{Tree, Parts, none, put, count, flat, flats}
 use Rattle.jr_types.specs.TypedTrees.{leaf, put_leaf, exp_tree, put_maybe, stmt_parts, put_else, put_stmts, stmt_tree}
 use Rattle.jr_bind.specs.declared.places.Place.{Place}
 use Rattle.jr_bind.specs.Places.{context_of, Knows}

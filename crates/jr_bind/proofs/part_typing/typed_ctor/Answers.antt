@@ -1,4 +1,4 @@
-use Rattle.std.proofs.Common.{◌++◌, ◌+◌, None, true, false, map, length, ap, ◌∙◌, arith}
+use Rattle.std.proofs.Common.{◌++◌, None, true, false, map, length, ap, ◌∙◌, arith}
 use Rattle.std.proofs.lemmas.Result.{IfOk-weaker}
 use Rattle.jr_ast.specs.View.{param_of, args_of, stmts_of}
 use Rattle.jr_table.specs.HeadRules.{with_parameters}

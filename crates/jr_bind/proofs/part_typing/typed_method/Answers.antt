@@ -1,4 +1,4 @@
-use Rattle.std.proofs.Common.{◌++◌, ◌+◌, None, map, length, ◌∙◌, arith}
+use Rattle.std.proofs.Common.{◌++◌, None, map, length, ◌∙◌, arith}
 use Rattle.std.proofs.lemmas.Result.{IfOk-weaker}
 use Rattle.jr_ast.specs.View.{param_of, stmts_of}
 use Rattle.jr_table.specs.HeadRules.{with_parameters}
