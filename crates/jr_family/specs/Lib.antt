@@ -1,0 +1,4 @@
+pub mod Highest
+pub mod Changes
+pub mod Moves
+pub mod Keys
