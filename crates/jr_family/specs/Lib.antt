@@ -2,3 +2,4 @@ pub mod Highest
 pub mod Changes
 pub mod Moves
 pub mod Keys
+pub mod Told

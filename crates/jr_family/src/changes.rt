@@ -14,7 +14,7 @@ ghost use Rattle.jr_family.specs.Changes.{
 
 use crate::moves::moves;
 use crate::parts::{differ, parted_classes};
-use crate::tops::virtual_entry;
+use crate::tops::{is_own, virtual_like};
 use jr_table::{Sort, Table, Wanted};
 use std::alloc::{AllocError, Global};
 
@@ -71,10 +71,12 @@ fn first_low(table: &Table, lows: &[u32]) -> Option<u32>
 
 /// Whether dispatch of the method of a row changes on an object of the class.
 fn changes_at(old: &Table, new: &Table, class: u32, number: u32) -> bool
-    requires alike { AreAlike (entries_of old.now) (entries_of new.now) }
+    requires { AreAlike (entries_of old.now) (entries_of new.now) }
     ensures { IsTrue result ↔ ChangesAt (entries_of old.now) (entries_of new.now) class number }
 {
-    let Some(entry) = virtual_entry(old, number) else {
+    old.keeps_rows();
+    new.keeps_rows();
+    let Some(entry) = old.entry(number) else {
         return false;
     };
     let Some(image) = new.entry(number) else {
@@ -83,14 +85,17 @@ fn changes_at(old: &Table, new: &Table, class: u32, number: u32) -> bool
     if !old.is_subclass_at(class, entry.class) {
         return false;
     }
-    let was = Wanted::Virtual(entry.name.as_str(), entry.params.as_slice());
-    let now = Wanted::Virtual(image.name.as_str(), image.params.as_slice());
+    let was = virtual_like(entry);
+    let now = virtual_like(image);
+    if !is_own(old, entry.class, &was, number) {
+        return false;
+    }
     differ(old.nearest(class, &was), new.nearest(class, &now))
 }
 
 /// The first method of which dispatch changes on an object of the class.
 fn first_method(old: &Table, new: &Table, class: u32) -> Option<u32>
-    requires alike { AreAlike (entries_of old.now) (entries_of new.now) }
+    requires { AreAlike (entries_of old.now) (entries_of new.now) }
     ensures some { IfSome result
         (IsFirst (ChangesAt (entries_of old.now) (entries_of new.now) class)) }
     ensures none { IfNone result ((j : ℕ)
@@ -135,7 +140,7 @@ pub(crate) fn first_change(
     old: &Table,
     new: &Table,
 ) -> Result<Option<(u32, u32)>, AllocError>
-    requires alike { AreAlike (entries_of old.now) (entries_of new.now) }
+    requires { AreAlike (entries_of old.now) (entries_of new.now) }
     ensures some { IfOk result (λ o. IfSome o (λ p.
         IsFirstChangeAt (entries_of old.now) (entries_of new.now) p.0 p.1)) }
     ensures none { IfOk result (λ o. IfNone o ((c j : ℕ) → IsClassAt (entries_of old.now) c

@@ -56,16 +56,16 @@ pub fn dispatch_change(
     old.keeps_rows();
     new.keeps_rows();
     let found = first_change(alloc, old, new)?;
-    let Some((class, method)) = found else {
+    let Some(place) = found else {
         return Ok(None);
     };
-    let Some(class) = class_of_row(old, class) else {
+    let Some(class) = class_of_row(old, place.0) else {
         return Ok(None);
     };
-    let Some(method) = method_of_row(old, method) else {
+    let Some(method) = method_of_row(old, place.1) else {
         return Ok(None);
     };
-    let class = class.copy(alloc)?;
-    let method = method.copy(alloc)?;
-    Ok(Some((class, method)))
+    let of = class.copy(alloc)?;
+    let key = method.copy(alloc)?;
+    Ok(Some((of, key)))
 }

@@ -1,14 +1,16 @@
 //! The declarations that are renamed with one.
 ghost use Rattle.std.specs.Prelude.{◌≡◌, ◌↔◌, ◌⊎◌, ◌∷◌, [], IsTrue, IfOk, OnOk, map, length};
+ghost use Rattle.std.specs.Prelude.{option_map, slice_get};
 ghost use Rattle.jr_table.specs.Decls.{method_decl};
 ghost use Rattle.jr_table.specs.Decls as pure;
 ghost use Rattle.jr_table.specs.Entries.{IsRowOf, entries_of};
 ghost use Rattle.jr_table.specs.KeyView.{method_key_of, decl_of};
+ghost use Rattle.jr_table.specs.RowView.{row_of};
 ghost use Rattle.jr_rename.specs.Families.{Among, AreRenamed};
 ghost use Rattle.jr_family.specs.Highest.{IsBelow, HasBelow};
 
 use crate::tops::{highest, is_own, virtual_entry};
-use jr_table::{Decl, Entry, MethodKey, Table, Wanted};
+use jr_table::{Decl, Entry, MethodKey, Row, Table, Wanted};
 use std::alloc::{AllocError, Global};
 
 /// The declaration alone.
@@ -40,6 +42,12 @@ fn is_below(table: &Table, over: &Entry, top: u32, number: u32) -> bool
     table.is_subclass_at(entry.class, top)
 }
 
+fn row_at(table: &Table, number: u32) -> Option<&Row>
+    ensures { option_map (λ r. row_of r.now) result ≡ slice_get table.now number }
+{
+    table.rows().get(number as usize)
+}
+
 /// Puts the declaration of a row behind the others, if it is such a method.
 fn push_below(
     alloc: Global,
@@ -57,7 +65,7 @@ fn push_below(
     if !is_below(table, over, top, number) {
         return Ok(());
     }
-    let Some(row) = table.rows().get(number as usize) else {
+    let Some(row) = row_at(table, number) else {
         return Ok(());
     };
     let decl = row.decl.copy(alloc)?;

@@ -1,14 +1,16 @@
 //! Names that rows have in one program and not in another.
-ghost use Rattle.std.specs.Prelude.{◌≡◌, ◌↔◌, ◌⊎◌, ℕ, suc, List, IsTrue, IfOk, OnOk, length};
+ghost use Rattle.std.specs.Prelude.{◌≡◌, ◌+◌, IfOk, OnOk, length};
+ghost use Rattle.std.specs.List.{list_any};
 ghost use Rattle.jr_table.specs.Entries.{entries_of};
-ghost use Rattle.jr_family.specs.Moves.{IsNamed, GoesFrom, OneGoes, AreMoves, IsAsked};
+ghost use Rattle.jr_family.specs.Moves as pure;
+ghost use Rattle.jr_family.specs.Moves.{AreMoves};
 
 use jr_table::Table;
 use std::alloc::{AllocError, Global};
 
 /// Whether the row has the name.
 fn is_named(table: &Table, name: &str, number: u32) -> bool
-    ensures { IsTrue result ↔ IsNamed (entries_of table.now) name.now number }
+    ensures { result ≡ pure.is_named (entries_of table.now) name.now number }
 {
     match table.entry(number) {
         None => false,
@@ -18,23 +20,20 @@ fn is_named(table: &Table, name: &str, number: u32) -> bool
 
 /// Whether the row has the one name in the old program and the other in the new one.
 fn goes_from(old: &Table, new: &Table, was: &str, now: &str, number: u32) -> bool
-    ensures { IsTrue result
-        ↔ GoesFrom (entries_of old.now) (entries_of new.now) was.now now.now number }
+    ensures { result
+        ≡ pure.goes_from (entries_of old.now) (entries_of new.now) was.now now.now number }
 {
     is_named(old, was, number) & is_named(new, now, number)
 }
 
 /// Whether one of these rows has the two names.
 fn one_goes(old: &Table, new: &Table, was: &str, now: &str, numbers: &[u32]) -> bool
-    ensures { IsTrue result
-        ↔ OneGoes (entries_of old.now) (entries_of new.now) was.now now.now numbers.now }
+    ensures { result ≡ list_any
+        (pure.goes_from (entries_of old.now) (entries_of new.now) was.now now.now) numbers.now }
 {
-    for number in numbers {
-        if goes_from(old, new, was, now, *number) {
-            return true;
-        }
-    }
-    false
+    numbers
+        .iter()
+        .any(|number| goes_from(old, new, was, now, *number))
 }
 
 /// Puts a row behind the others, if its name changes as that of none of them does.
@@ -46,7 +45,7 @@ fn push_move(
 ) -> Result<(), AllocError>
     ensures { OnOk result
         (AreMoves (entries_of old.now) (entries_of new.now) number numbers.old.items
-        → AreMoves (entries_of old.now) (entries_of new.now) (suc number) numbers.new.items) }
+        → AreMoves (entries_of old.now) (entries_of new.now) (number + 1) numbers.new.items) }
 {
     let Some(entry) = old.entry(number) else {
         return Ok(());
@@ -79,15 +78,19 @@ pub(crate) fn moves(alloc: Global, old: &Table, new: &Table) -> Result<Vec<u32>,
     Ok(numbers)
 }
 
+fn is_either(old: &Table, new: &Table, name: &str, number: u32) -> bool
+    ensures { result
+        ≡ pure.is_either (entries_of old.now) (entries_of new.now) name.now number }
+{
+    is_named(old, name, number) | is_named(new, name, number)
+}
+
 /// Whether one of these rows has the name in one of the programs.
 pub(crate) fn is_asked(old: &Table, new: &Table, moves: &[u32], name: &str) -> bool
-    ensures { IsTrue result
-        ↔ IsAsked (entries_of old.now) (entries_of new.now) moves.now name.now }
+    ensures { result
+        ≡ pure.is_asked (entries_of old.now) (entries_of new.now) moves.now name.now }
 {
-    for number in moves {
-        if is_named(old, name, *number) | is_named(new, name, *number) {
-            return true;
-        }
-    }
-    false
+    moves
+        .iter()
+        .any(|number| is_either(old, new, name, *number))
 }

@@ -8,7 +8,7 @@ ghost use Rattle.jr_family.specs.Changes.{AreAlike, DiffersAbove, IsParted, AreP
 ghost use Rattle.jr_family.specs.Moves.{AreMoves};
 
 use crate::moves::is_asked;
-use crate::tops::virtual_entry;
+use crate::tops::{is_own, virtual_like};
 use jr_table::{Table, Wanted};
 use std::alloc::{AllocError, Global};
 
@@ -80,7 +80,7 @@ fn push_parted(
 {
     old.keeps_rows();
     new.keeps_rows();
-    let Some(entry) = virtual_entry(old, number) else {
+    let Some(entry) = old.entry(number) else {
         return Ok(());
     };
     if !is_asked(old, new, moves, entry.name.as_str()) {
@@ -89,8 +89,11 @@ fn push_parted(
     let Some(image) = new.entry(number) else {
         return Ok(());
     };
-    let was = Wanted::Virtual(entry.name.as_str(), entry.params.as_slice());
-    let now = Wanted::Virtual(image.name.as_str(), image.params.as_slice());
+    let was = virtual_like(entry);
+    let now = virtual_like(image);
+    if !is_own(old, entry.class, &was, number) {
+        return Ok(());
+    }
     if !differs_above(old, new, &was, &now, entry.class) {
         return Ok(());
     }

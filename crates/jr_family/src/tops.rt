@@ -2,7 +2,7 @@
 ghost use Rattle.std.specs.Prelude.{◌≡◌, ◌↔◌, IsTrue, Some, option_map};
 ghost use Rattle.jr_table.specs.Entries.{entries_of};
 ghost use Rattle.jr_table.specs.Virtual.{virtual_entry};
-ghost use Rattle.jr_table.specs.Looking.{own_row};
+ghost use Rattle.jr_table.specs.Looking.{own_row, is_virtual};
 ghost use Rattle.jr_table.specs.Wanted.{passes};
 ghost use Rattle.jr_family.specs.Highest.{IsHighest, highest_of};
 
@@ -29,6 +29,13 @@ pub(crate) fn is_own(table: &Table, class: u32, wanted: &Wanted<'_>, number: u32
         None => false,
         Some(own) => own == number,
     }
+}
+
+/// What looks for methods like this one, neither private nor static.
+pub(crate) fn virtual_like(entry: &Entry) -> Wanted<'_>
+    ensures { passes result ≡ is_virtual entry.now.name entry.now.params }
+{
+    Wanted::Virtual(entry.name.as_str(), entry.params.as_slice())
 }
 
 /// A class, if it declares what is looked for; else another.
