@@ -103,8 +103,8 @@ module _ (g : Renaming) (rows : List Row) (are : AreRows rows) (news : AreRows (
       let like = same_row new image.0 to.name params (map (kind_of (rows_to g rows)) to.params) o.d n.d o.j image.1 here in
       let after = subst (λ (d : ℕ). DeclaresVirtual new to.name params d o.j) like.class (subst (λ (p : List Kind). DeclaresVirtual new to.name p n.d o.j) like.takes here) in
       let near = subst (λ (c : ℕ). Dispatches new to.name params c n.k) same_class (subst (λ (p : List Kind). Dispatches new to.name p n.c n.k) like.takes n.nearest) in
-      let was = nearest_is old programs.old_acyclic programs.one_old m.name params o.c o.k o.nearest in
-      let now = nearest_is new programs.new_acyclic programs.one_new to.name params o.c n.k near in
+      let old_found = nearest_is old programs.old_acyclic programs.one_old m.name params o.c o.k o.nearest in
+      let new_found = nearest_is new programs.new_acyclic programs.one_new to.name params o.c n.k near in
       record {
         c = o.c;
         j = o.j;
@@ -118,7 +118,7 @@ module _ (g : Renaming) (rows : List Row) (are : AreRows rows) (news : AreRows (
           names = record { before = o.virtual; after = after };
           below = o.below;
           differs = λ e.
-              let z : Some o.k ≡ Some n.k = sym was ∙ e ∙ now in
+              let z : Some o.k ≡ Some n.k = sym old_found ∙ e ∙ new_found in
               let k : n.k ≡ o.k = cc in
               h.changed (one_key (rows_to g rows) news h.now (method_to g h.was) n.k o.k n.found_row (row_goes g rows (method_decl h.was) o.k o.found_row) k);
         };
@@ -137,17 +137,17 @@ module _ (g : Renaming) (rows : List Row) (are : AreRows rows) (news : AreRows (
       let below = subclass_goes old new programs.alike.parents c h.class h.below in
       let k = nearest_some old programs.old_acyclic programs.one_old h.was h.params c h.class j h.below h.names.before in
       let n = nearest_some new programs.new_acyclic programs.one_new h.now h.params c h.class j below h.names.after in
-      let was = found rows are of m c h.class j k.0 h.was h.params class method h.names.before h.below k.1 in
-      let now = found (rows_to g rows) news (class_to g of) (method_to g m) c h.class j n.0 h.now h.params (row_goes g rows (class_decl of) c class) (row_goes g rows (method_decl m) j method) h.names.after below n.1 in
+      let before = found rows are of m c h.class j k.0 h.was h.params class method h.names.before h.below k.1 in
+      let later = found (rows_to g rows) news (class_to g of) (method_to g m) c h.class j n.0 h.now h.params (row_goes g rows (class_decl of) c class) (row_goes g rows (method_decl m) j method) h.names.after below n.1 in
       record {
-        was = was.key;
-        now = now.key;
-        old = was.is;
-        new = now.is;
+        was = before.key;
+        now = later.key;
+        old = before.is;
+        new = later.is;
         changed = λ e.
-            let a = row_goes g rows (method_decl was.key) k.0 (method_row rows k.0 was.key was.at) in
-            let b = method_row (rows_to g rows) n.0 now.key now.at in
-            let same : k.0 ≡ n.0 = news.one_each (method_decl (method_to g was.key)) k.0 n.0 a (subst (λ (x : MethodKey). IsRowOf (rows_to g rows) (method_decl x) n.0) e b) in
+            let a = row_goes g rows (method_decl before.key) k.0 (method_row rows k.0 before.key before.at) in
+            let b = method_row (rows_to g rows) n.0 later.key later.at in
+            let same : k.0 ≡ n.0 = news.one_each (method_decl (method_to g before.key)) k.0 n.0 a (subst (λ (x : MethodKey). IsRowOf (rows_to g rows) (method_decl x) n.0) e b) in
             h.differs (k.1 ∙ ap Some same ∙ sym n.1);
       }
 

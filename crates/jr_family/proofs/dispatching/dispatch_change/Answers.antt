@@ -12,20 +12,20 @@ first_change-requires c = are_alike (renaming_of c.args.g.now) c.args.old.now c.
 pub returns-in_default-clause-none : goal.returns-in_default-clause-none
 returns-in_default-clause-none c =
     no_change (renaming_of c.args.g.now) c.args.old.now c.args.new.now c.keeps_rows.ensures c.keeps_rows-2.ensures c.requires
-    (subst (λ o. IfNone o ((d j : ℕ) → IsClassAt (entries_of c.args.old.now) d → ChangesAt (entries_of c.args.old.now) (entries_of c.args.new.now) d j → ⊥)) c.in_default.is c.in_ok-found.ensures.none)
+    (subst (λ (o : Option (ℕ × ℕ)). IfNone o ((d j : ℕ) → IsClassAt (entries_of c.args.old.now) d → ChangesAt (entries_of c.args.old.now) (entries_of c.args.new.now) d j → ⊥)) c.in_default.is c.in_ok-found.ensures.none)
 
 pub returns-in_default-class_of_row-clause-none : goal.returns-in_default-class_of_row-clause-none
 returns-in_default-class_of_row-clause-none c = λ k m x.
-    let first = subst (λ o. IfSome o (λ p. IsFirstChangeAt (entries_of c.args.old.now) (entries_of c.args.new.now) p.0 p.1)) c.in-Some.is c.in_ok-found.ensures.some in
+    let first = subst (λ (o : Option (ℕ × ℕ)). IfSome o (λ p. IsFirstChangeAt (entries_of c.args.old.now) (entries_of c.args.new.now) p.0 p.1)) c.in-Some.is c.in_ok-found.ensures.some in
     shows_class (renaming_of c.args.g.now) c.args.old.now c.args.new.now c.keeps_rows.ensures c.keeps_rows-2.ensures c.requires c.in-Some.place.0 c.in-Some.place.1 first c.in_default-class_of_row.ensures
 
 pub returns-in_default-method_of_row-clause-none : goal.returns-in_default-method_of_row-clause-none
 returns-in_default-method_of_row-clause-none c = λ k m x.
-    let first = subst (λ o. IfSome o (λ p. IsFirstChangeAt (entries_of c.args.old.now) (entries_of c.args.new.now) p.0 p.1)) c.in-Some.is c.in_ok-found.ensures.some in
+    let first = subst (λ (o : Option (ℕ × ℕ)). IfSome o (λ p. IsFirstChangeAt (entries_of c.args.old.now) (entries_of c.args.new.now) p.0 p.1)) c.in-Some.is c.in_ok-found.ensures.some in
     shows_method (renaming_of c.args.g.now) c.args.old.now c.args.new.now c.keeps_rows.ensures c.keeps_rows-2.ensures c.requires c.in-Some.place.0 c.in-Some.place.1 first c.in_default-method_of_row.ensures
 
 pub returns-clause-first : goal.returns-clause-first
 returns-clause-first c =
-    let first = subst (λ o. IfSome o (λ p. IsFirstChangeAt (entries_of c.args.old.now) (entries_of c.args.new.now) p.0 p.1)) c.in-Some.is c.in_ok-found.ensures.some in
+    let first = subst (λ (o : Option (ℕ × ℕ)). IfSome o (λ p. IsFirstChangeAt (entries_of c.args.old.now) (entries_of c.args.new.now) p.0 p.1)) c.in-Some.is c.in_ok-found.ensures.some in
     first_of (renaming_of c.args.g.now) c.args.old.now c.args.new.now c.keeps_rows.ensures c.keeps_rows-2.ensures c.requires c.in-Some.place.0 c.in-Some.place.1 first _ _
     (sym c.in-Some-class_of_row.ensures ∙ ap Some (sym c.in_ok-of.ensures)) (sym c.in-Some-method_of_row.ensures ∙ ap Some (sym c.in_ok-key.ensures))
