@@ -139,8 +139,7 @@ module _ (rows : List Row) (are : AreRows rows) where
 
     below_is : (d : Decl) (i : ℕ) → IsRowOf rows d i → Below i → IsRenamedWith rows (method_decl k) d
     below_is d i r b =
-        let here = method_here rows e.name e.params b.class i b.declared.declared in
-        (
+        let here = method_here rows e.name e.params b.class i b.declared.declared in (
           here.key,
           one_decl d (method_decl here.key) i r here.row,
           to_top here.key (over_top k j own itself_below) (from_top here.key (over_top here.key i here.row b)),

@@ -66,9 +66,9 @@ module _ (old new : List Entry) where
     pub is_there : list_any (goes_from old new before after) xs ≡ true → AreMoves old new n xs → AreMoves old new (n + 1) xs
     is_there h = next n xs xs (λ j i. i)
         (λ was now g differs.
-            let s = names_are was now before after n e f at bt a b g in
-            let m = any_in (goes_from old new before after) xs h in
-            (m.0, m.1, subst (λ (q : List ℕ). GoesFrom old new was q m.0) s.1 (subst (λ (q : List ℕ). GoesFrom old new q after m.0) s.0 (goes_is before after m.0 m.2))))
+        let s = names_are was now before after n e f at bt a b g in
+        let m = any_in (goes_from old new before after) xs h in
+        (m.0, m.1, subst (λ (q : List ℕ). GoesFrom old new was q m.0) s.1 (subst (λ (q : List ℕ). GoesFrom old new q after m.0) s.0 (goes_is before after m.0 m.2))))
 
     pub is_put : (ys : List ℕ) → ys ≡ xs ++ n ∷ [] → AreMoves old new n xs → AreMoves old new (n + 1) ys
     is_put ys is = next n xs ys (λ j i. subst (λ (l : List ℕ). In l j) (sym is) (in_left xs (n ∷ []) j i))

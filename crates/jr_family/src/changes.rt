@@ -36,7 +36,8 @@ fn is_class(table: &Table, number: u32) -> bool
 
 /// Whether a row is below one of these classes.
 fn is_below_one(table: &Table, class: u32, lows: &[u32]) -> bool
-    ensures { IsTrue result ↔ ((d : ℕ) × In lows.now d × IsSubclassAt (entries_of table.now) class d) }
+    ensures { IsTrue result
+        ↔ ((d : ℕ) × In lows.now d × IsSubclassAt (entries_of table.now) class d) }
 {
     for low in lows {
         if table.is_subclass_at(class, *low) {

@@ -74,12 +74,7 @@ fn push_below(
 }
 
 /// All such methods, in the order of their rows.
-fn all_below(
-    alloc: Global,
-    table: &Table,
-    over: &Entry,
-    top: u32,
-) -> Result<Vec<Decl>, AllocError>
+fn all_below(alloc: Global, table: &Table, over: &Entry, top: u32) -> Result<Vec<Decl>, AllocError>
     ensures { IfOk result (λ ds. (e : pure.Decl) → Among (map decl_of ds.items) e
         ↔ HasBelow table.now over.now.name over.now.params top (length table.now) e) }
 {

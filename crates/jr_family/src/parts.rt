@@ -26,13 +26,7 @@ pub(crate) fn differ(left: Option<u32>, right: Option<u32>) -> bool
 
 /// Whether the class declares in the old program another row of the one kind than of the other
 /// kind in the new one.
-fn differs_at(
-    old: &Table,
-    new: &Table,
-    was: &Wanted<'_>,
-    now: &Wanted<'_>,
-    class: u32,
-) -> bool
+fn differs_at(old: &Table, new: &Table, was: &Wanted<'_>, now: &Wanted<'_>, class: u32) -> bool
     ensures { IsTrue result ↔ (own_row (entries_of old.now) (passes was.now) class
         ≢ own_row (entries_of new.now) (passes now.now) class) }
 {
@@ -40,13 +34,7 @@ fn differs_at(
 }
 
 /// Whether a class does so, from this one upwards.
-fn differs_above(
-    old: &Table,
-    new: &Table,
-    was: &Wanted<'_>,
-    now: &Wanted<'_>,
-    class: u32,
-) -> bool
+fn differs_above(old: &Table, new: &Table, was: &Wanted<'_>, now: &Wanted<'_>, class: u32) -> bool
     ensures { IsTrue result ↔ DiffersAbove (entries_of old.now) (entries_of new.now)
         (passes was.now) (passes now.now) class }
 {

@@ -20,10 +20,10 @@ returns-then-not-is_asked c =
     let new = entries_of c.args.new.now in
     none_parted_here old new c.args.number c.args.lows.now.items
     (λ d h.
-        let t = asked c.args.old.now c.args.new.now c.keeps_rows.ensures c.keeps_rows-2.ensures c.requires.alike c.args.moves.now c.requires.moves c.args.number d c.in-Some.entry.now (sym c.in-Some.ensures) h in
-        let s = c.is_asked.ensures ∙ ap (is_asked old new c.args.moves.now) c.as_str.ensures ∙ t in
-        let f = c.if-not-is_asked.true in
-        absurd cc)
+    let t = asked c.args.old.now c.args.new.now c.keeps_rows.ensures c.keeps_rows-2.ensures c.requires.alike c.args.moves.now c.requires.moves c.args.number d c.in-Some.entry.now (sym c.in-Some.ensures) h in
+    let s = c.is_asked.ensures ∙ ap (is_asked old new c.args.moves.now) c.as_str.ensures ∙ t in
+    let f = c.if-not-is_asked.true in
+    absurd cc)
 
 pub returns-in_default-entry : goal.returns-in_default-entry
 returns-in_default-entry c =
@@ -39,10 +39,10 @@ returns-then-not-is_own c =
     let e = c.in-Some.entry.now in
     none_parted_here old new c.args.number c.args.lows.now.items
     (λ d h.
-        let own = names_own old new ps c.args.number e c.in-Some-entry.image.now (sym c.in-Some.ensures) (sym c.in-Some-entry.ensures) h.was h.now h.params d h.names in
-        let t = c.is_own.ensures.1 (ap (λ (x : ℕ → Entry → Bool). own_row old x e.class) c.virtual_like-was.ensures ∙ own) in
-        let f = c.if-not-is_own.true in
-        absurd cc)
+    let own = names_own old new ps c.args.number e c.in-Some-entry.image.now (sym c.in-Some.ensures) (sym c.in-Some-entry.ensures) h.was h.now h.params d h.names in
+    let t = c.is_own.ensures.1 (ap (λ (x : ℕ → Entry → Bool). own_row old x e.class) c.virtual_like-was.ensures ∙ own) in
+    let f = c.if-not-is_own.true in
+    absurd cc)
 
 pub returns-then-not-differs_above : goal.returns-then-not-differs_above
 returns-then-not-differs_above c =
@@ -52,12 +52,12 @@ returns-then-not-differs_above c =
     let e = c.in-Some.entry.now in
     none_parted_here old new c.args.number c.args.lows.now.items
     (λ d h.
-        let x = parted_differs old new ps c.args.number e c.in-Some-entry.image.now (sym c.in-Some.ensures) (sym c.in-Some-entry.ensures) d h in
-        let f = c.in-Some-entry.image.now in
-        let y = subst (λ (t : ℕ → Entry → Bool). DiffersAbove old new t (is_virtual f.name f.params) e.class) (sym c.virtual_like-was.ensures) x in
-        let t = c.differs_above.ensures.1 (subst (λ (u : ℕ → Entry → Bool). DiffersAbove old new (passes c.virtual_like-was.result) u e.class) (sym c.virtual_like-now.ensures) y) in
-        let q = c.if-not-differs_above.true in
-        absurd cc)
+    let x = parted_differs old new ps c.args.number e c.in-Some-entry.image.now (sym c.in-Some.ensures) (sym c.in-Some-entry.ensures) d h in
+    let f = c.in-Some-entry.image.now in
+    let y = subst (λ (t : ℕ → Entry → Bool). DiffersAbove old new t (is_virtual f.name f.params) e.class) (sym c.virtual_like-was.ensures) x in
+    let t = c.differs_above.ensures.1 (subst (λ (u : ℕ → Entry → Bool). DiffersAbove old new (passes c.virtual_like-was.result) u e.class) (sym c.virtual_like-now.ensures) y) in
+    let q = c.if-not-differs_above.true in
+    absurd cc)
 
 pub returns : goal.returns
 returns c =
