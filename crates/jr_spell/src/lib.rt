@@ -17,6 +17,7 @@ mod sample;
 mod shown;
 mod spellings;
 mod superclasses;
+mod taking;
 #[cfg(test)]
 mod tests;
 mod texts;
@@ -26,3 +27,4 @@ pub use laws::spellings_rebind;
 pub use references::{Operand, RefForm, Reference};
 pub use respelling::respell;
 pub use spellings::{Form, Spelling};
+pub use taking::taken;

@@ -1,0 +1,6 @@
+pub mod Scopes
+pub mod ChoiceView
+pub mod Chosen
+pub mod Taking
+pub mod Near
+pub mod Finding

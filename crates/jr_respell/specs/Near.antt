@@ -1,0 +1,18 @@
+-- A scope in which three names find the locals that they find in another.
+use Rattle.std.specs.Prelude.{◌≡◌, ℕ, List, Some, None, unwrap_or}
+use Rattle.jr_table.specs.Keys.{ClassKey}
+use Rattle.jr_table.specs.Scope.{Scope, last_named}
+use Rattle.jr_spell.specs.Binds.{front_word, last_word}
+
+-- a name, and those of a class and of the class that it is a member of
+pub record IsNear (near s : Scope) (first : List ℕ) (k : ClassKey) : Type 0 where
+  pub class : near.class ≡ s.class
+  pub is_static : near.is_static ≡ s.is_static
+  pub first : last_named first near.locals ≡ last_named first s.locals
+  pub name : last_named k.name near.locals ≡ last_named k.name s.locals
+  pub outer : (o : List ℕ) → k.outer ≡ Some o
+      → last_named o near.locals ≡ last_named o s.locals
+
+-- the first word of a class's name as it is written
+abbrev pub first_word : List ℕ → List ℕ
+first_word text = unwrap_or (front_word text) (last_word text)

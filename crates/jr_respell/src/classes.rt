@@ -1,0 +1,226 @@
+//! Classes in front of a dot, and superclasses of top-level classes (JLS 6.5.2, 8.1.4).
+ghost use Rattle.std.specs.Prelude.{◌≡◌, IfOk, option_map};
+ghost use Rattle.jr_table.specs.TypeView.{class_key_of};
+ghost use Rattle.jr_respell.specs.Scopes.{
+  AreImages,
+  IsKept,
+  rows_in,
+  renaming_in,
+  rows_of,
+  naming_of,
+  context_of,
+};
+ghost use Rattle.jr_respell.specs.ChoiceView.{choice_of};
+ghost use Rattle.jr_respell.specs.Chosen as chosen;
+
+use crate::choices::Choice;
+use crate::choosing::{lost, renamed};
+use crate::finding::{class_found, is_class, is_nothing};
+use crate::near::near;
+use crate::programs::Programs;
+use crate::scopes::Scopes;
+use jr_ast::Name;
+use jr_lookup::{Scope, field_of, member_type, type_named, variable};
+use jr_rename::class_to;
+use jr_table::{ClassKey, Decl, Found, Table};
+use std::alloc::{AllocError, Global};
+
+/// The new name where the image is found, or else the loss.
+fn renamed_or_lost(
+    alloc: Global,
+    at: u32,
+    old: &Name,
+    key: ClassKey,
+    image: &ClassKey,
+    found: Found,
+) -> Result<Choice, AllocError> {
+    if is_class(&found, image) {
+        renamed(alloc, old, &image.name)
+    } else {
+        Ok(lost(at, Decl::Class(key), found))
+    }
+}
+
+fn leading(
+    alloc: Global,
+    scopes: &Scopes<'_>,
+    at: u32,
+    old: &Name,
+    key: ClassKey,
+) -> Result<Choice, AllocError> {
+    let table = scopes.programs.after;
+    let image = class_to(alloc, scopes.programs.name, &key)?;
+    let scope = near(alloc, scopes, &image.name, &image)?;
+    let found = variable(alloc, table, &scope, &image.name)?;
+    if is_nothing(&found) {
+        let found = type_named(alloc, table, &scope, &image.name)?;
+        renamed_or_lost(alloc, at, old, key, &image, found)
+    } else {
+        Ok(lost(at, Decl::Class(key), found))
+    }
+}
+
+fn type_by_name(
+    alloc: Global,
+    scopes: &Scopes<'_>,
+    at: u32,
+    name: &Name,
+) -> Result<Option<Choice>, AllocError> {
+    let found = type_named(alloc, scopes.programs.before, &scopes.before, name)?;
+    match class_found(found) {
+        None => Ok(None),
+        Some(key) => Ok(Some(leading(alloc, scopes, at, name, key)?)),
+    }
+}
+
+/// The choice for a class in front of a dot, where no variable has the name.
+pub fn left_class(
+    alloc: Global,
+    scopes: &Scopes<'_>,
+    at: u32,
+    name: &Name,
+) -> Result<Option<Choice>, AllocError>
+    requires { IsKept scopes.now }
+    ensures { IfOk result (λ o. chosen.ClassIsChosen (rows_of scopes.now) (naming_of scopes.now)
+        (context_of scopes.now) at name.now (option_map choice_of o)) }
+{
+    let found = variable(alloc, scopes.programs.before, &scopes.before, name)?;
+    match scopes.locals.number_named(name) {
+        Some(_) => Ok(None),
+        None => {
+            if is_nothing(&found) {
+                type_by_name(alloc, scopes, at, name)
+            } else {
+                Ok(None)
+            }
+        }
+    }
+}
+
+fn leading_in(
+    alloc: Global,
+    scopes: &Scopes<'_>,
+    at: u32,
+    class: &ClassKey,
+    old: &Name,
+    key: ClassKey,
+) -> Result<Choice, AllocError> {
+    let table = scopes.programs.after;
+    let on = class_to(alloc, scopes.programs.name, class)?;
+    let image = class_to(alloc, scopes.programs.name, &key)?;
+    let found = field_of(alloc, table, &scopes.after, &on, &image.name)?;
+    if is_nothing(&found) {
+        let found = member_type(alloc, table, &scopes.after, &on, &image.name)?;
+        renamed_or_lost(alloc, at, old, key, &image, found)
+    } else {
+        Ok(lost(at, Decl::Class(key), found))
+    }
+}
+
+fn member_by_name(
+    alloc: Global,
+    scopes: &Scopes<'_>,
+    at: u32,
+    class: &ClassKey,
+    name: &Name,
+) -> Result<Option<Choice>, AllocError> {
+    let table = scopes.programs.before;
+    let found = member_type(alloc, table, &scopes.before, class, name)?;
+    match class_found(found) {
+        None => Ok(None),
+        Some(key) => Ok(Some(leading_in(alloc, scopes, at, class, name, key)?)),
+    }
+}
+
+/// The choice for a member class of the class in front of a further dot, where no field has the
+/// name.
+pub fn member_class(
+    alloc: Global,
+    scopes: &Scopes<'_>,
+    at: u32,
+    class: &ClassKey,
+    name: &Name,
+) -> Result<Option<Choice>, AllocError>
+    requires { IsKept scopes.now }
+    ensures { IfOk result (λ o. chosen.MemberClassIsChosen (rows_of scopes.now)
+        (naming_of scopes.now) (context_of scopes.now) at (class_key_of class.now) name.now
+        (option_map choice_of o)) }
+{
+    let found = field_of(alloc, scopes.programs.before, &scopes.before, class, name)?;
+    if is_nothing(&found) {
+        member_by_name(alloc, scopes, at, class, name)
+    } else {
+        Ok(None)
+    }
+}
+
+fn qualifying(
+    alloc: Global,
+    scopes: &Scopes<'_>,
+    at: u32,
+    old: &Name,
+    key: ClassKey,
+) -> Result<Choice, AllocError> {
+    let image = class_to(alloc, scopes.programs.name, &key)?;
+    let found = type_named(alloc, scopes.programs.after, &scopes.after, &image.name)?;
+    renamed_or_lost(alloc, at, old, key, &image, found)
+}
+
+/// The choice for the class in front of the dot in a type.
+pub fn qualifier(
+    alloc: Global,
+    scopes: &Scopes<'_>,
+    at: u32,
+    name: &Name,
+) -> Result<Option<Choice>, AllocError>
+    requires { IsKept scopes.now }
+    ensures { IfOk result (λ o. chosen.QualifierIsChosen (rows_of scopes.now)
+        (naming_of scopes.now) (context_of scopes.now) at name.now (option_map choice_of o)) }
+{
+    let found = type_named(alloc, scopes.programs.before, &scopes.before, name)?;
+    match class_found(found) {
+        None => Ok(None),
+        Some(key) => Ok(Some(qualifying(alloc, scopes, at, name, key)?)),
+    }
+}
+
+/// The class of the name that is no member class.
+fn top_found(alloc: Global, table: &Table, name: &Name) -> Result<Found, AllocError> {
+    match table.top_number(name) {
+        None => Ok(Found::Nothing),
+        Some(_) => {
+            let name = Name::new(alloc, name.as_str())?;
+            Ok(Found::One(Decl::Class(ClassKey { outer: None, name })))
+        }
+    }
+}
+
+fn extended(
+    alloc: Global,
+    programs: &Programs<'_>,
+    at: u32,
+    old: &Name,
+    key: ClassKey,
+) -> Result<Choice, AllocError> {
+    let image = class_to(alloc, programs.name, &key)?;
+    let found = top_found(alloc, programs.after, &image.name)?;
+    renamed_or_lost(alloc, at, old, key, &image, found)
+}
+
+/// The choice for the superclass of a top-level class.
+pub fn top_parent(
+    alloc: Global,
+    programs: &Programs<'_>,
+    at: u32,
+    name: &Name,
+) -> Result<Option<Choice>, AllocError>
+    requires { AreImages programs.now }
+    ensures { IfOk result (λ o. chosen.TopParentIsChosen (rows_in programs.now)
+        (renaming_in programs.now) at name.now (option_map choice_of o)) }
+{
+    let found = top_found(alloc, programs.before, name)?;
+    match class_found(found) {
+        None => Ok(None),
+        Some(key) => Ok(Some(extended(alloc, programs, at, name, key)?)),
+    }
+}

@@ -1,0 +1,28 @@
+//! How each reference of a program is spelled where declarations get another name: the choice for
+//! one reference at a time.
+#![tactic(auto)]
+
+mod calls;
+mod choices;
+mod choosing;
+mod classes;
+mod declared;
+mod fields;
+mod finding;
+mod near;
+mod programs;
+mod references;
+mod scopes;
+mod superclasses;
+mod types;
+mod variables;
+
+pub use calls::{call, creation, simple_call, static_call, super_call, super_ctor};
+pub use choices::{Choice, Chosen, ChosenFront, Lost};
+pub use classes::{left_class, member_class, qualifier, top_parent};
+pub use declared::declared;
+pub use fields::{field, static_field, super_field};
+pub use programs::Programs;
+pub use scopes::Scopes;
+pub use types::{qualified_type, simple_type};
+pub use variables::variable;

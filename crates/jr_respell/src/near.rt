@@ -1,0 +1,78 @@
+//! A scope of the new program with no locals but those that can bear on one reference.
+ghost use Rattle.std.specs.Prelude.{◌≡◌, IfOk};
+ghost use Rattle.jr_table.specs.TypeView.{class_key_of};
+ghost use Rattle.jr_lookup.specs.ScopeView.{scope_of};
+ghost use Rattle.jr_rename.specs.Images.{scope_to};
+ghost use Rattle.jr_respell.specs.Scopes.{IsKept, naming_of, context_of};
+ghost use Rattle.jr_respell.specs.Near.{IsNear, first_word};
+
+use crate::scopes::Scopes;
+use jr_ast::Name;
+use jr_lookup::{Scope, ScopeLocal, ScopeLocals};
+use jr_table::{ClassKey, LocalKey};
+use std::alloc::{AllocError, Global};
+
+/// Puts the local that the name finds behind the others, if there is one.
+fn put_named(
+    alloc: Global,
+    scopes: &Scopes<'_>,
+    name: &Name,
+    locals: &mut Vec<ScopeLocal>,
+) -> Result<(), AllocError> {
+    match scopes.renamed.number_named(name) {
+        None => Ok(()),
+        Some(number) => {
+            let member = scopes.image.copy(alloc)?;
+            let key = LocalKey { member, number };
+            let name = Name::new(alloc, name.as_str())?;
+            locals.push(ScopeLocal { name, key })?;
+            Ok(())
+        }
+    }
+}
+
+fn put_maybe_named(
+    alloc: Global,
+    scopes: &Scopes<'_>,
+    name: &Option<Name>,
+    locals: &mut Vec<ScopeLocal>,
+) -> Result<(), AllocError> {
+    match name {
+        None => Ok(()),
+        Some(name) => put_named(alloc, scopes, name, locals),
+    }
+}
+
+/// The place in the new program, with the locals that a name finds, and the names of a class and
+/// of the class that it is a member of: so that a reference costs no walk over all locals.
+pub(crate) fn near(
+    alloc: Global,
+    scopes: &Scopes<'_>,
+    first: &Name,
+    class: &ClassKey,
+) -> Result<Scope, AllocError>
+    requires { IsKept scopes.now }
+    ensures { IfOk result (λ s. IsNear (scope_of s)
+        (scope_to (naming_of scopes.now) (context_of scopes.now)) first.now
+        (class_key_of class.now)) }
+{
+    let mut locals = Vec::new(alloc);
+    put_named(alloc, scopes, first, &mut locals)?;
+    put_named(alloc, scopes, &class.name, &mut locals)?;
+    put_maybe_named(alloc, scopes, &class.outer, &mut locals)?;
+    Ok(Scope {
+        class: scopes.after.class.copy(alloc)?,
+        is_static: scopes.after.is_static,
+        locals: ScopeLocals::from_vec(locals),
+    })
+}
+
+/// The first word of a class's name as it is written.
+pub(crate) fn first_word(alloc: Global, text: &Name) -> Result<Name, AllocError>
+    ensures { IfOk result (λ n. n ≡ first_word text.now) }
+{
+    match text.as_str().split_once('.') {
+        None => Name::new(alloc, text.as_str()),
+        Some((front, _)) => Name::new(alloc, front),
+    }
+}
