@@ -1,7 +1,11 @@
 -- A scope in which three names find the locals that they find in another.
-use Rattle.std.specs.Prelude.{◌≡◌, ℕ, List, Some, None, unwrap_or}
+use Rattle.std.specs.Prelude.{◌≡◌, ℕ, List, [], ◌∷◌, Option, Some, None, unwrap_or}
 use Rattle.jr_table.specs.Keys.{ClassKey}
-use Rattle.jr_table.specs.Scope.{Scope, last_named}
+use Rattle.jr_table.specs.Decls.{LocalKey}
+use Rattle.jr_table.specs.Scope.{Scope, ScopeLocal, last_named}
+use Rattle.jr_spell.specs.declared.references.RefForm.{RefForm}
+use Rattle.jr_spell.specs.declared.references.RefForm.TheVariants as ref
+use Rattle.jr_spell.specs.References.{Reference, text_of_operand}
 use Rattle.jr_spell.specs.Binds.{front_word, last_word}
 
 -- a name, and those of a class and of the class that it is a member of
@@ -16,3 +20,17 @@ pub record IsNear (near s : Scope) (first : List ℕ) (k : ClassKey) : Type 0 wh
 -- the first word of a class's name as it is written
 abbrev pub first_word : List ℕ → List ℕ
 first_word text = unwrap_or (front_word text) (last_word text)
+
+-- the word of a reference that may be a local's name as it is asked
+abbrev pub asked_word : RefForm → Reference → List ℕ
+asked_word ref.ThroughClass r = first_word (text_of_operand r.operand)
+asked_word _ r = r.asked
+
+-- the local that a name finds, as a list
+abbrev pub if_found : (name : List ℕ) → Option LocalKey → List ScopeLocal
+if_found name None = []
+if_found name (Some k) = record { name = name; key = k } ∷ []
+
+abbrev pub if_maybe_found : Option (List ℕ) → List ScopeLocal → List ScopeLocal
+if_maybe_found None ls = []
+if_maybe_found (Some name) ls = if_found name (last_named name ls)

@@ -6,11 +6,12 @@ use Rattle.jr_table.specs.Rows.{Row}
 use Rattle.jr_table.specs.Entries.{class_of_member}
 use Rattle.jr_table.specs.TypeView.{class_key_of}
 use Rattle.jr_table.specs.KeyView.{member_key_of}
-use Rattle.jr_table.specs.Scope.{ScopeLocal}
+use Rattle.jr_table.specs.Scope.{Scope, ScopeLocal}
 use Rattle.jr_table.specs.Context.{Context}
 use Rattle.jr_locals.specs.Helds.{Held, key_of, local_of}
 use Rattle.jr_locals.specs.Tracked.{Tracked, helds_of}
-use Rattle.jr_rename.specs.Images.{Renaming, name_to, class_to, member_to, rows_to}
+use Rattle.jr_rename.specs.Images.{Renaming, name_to, class_to, member_to, scope_to}
+use Rattle.jr_rename.specs.Images as images
 use Rattle.jr_rename.specs.ImageView.{renaming_of}
 use Rattle.jr_respell.specs.declared.programs.Programs as raw_programs
 use Rattle.jr_respell.specs.declared.scopes.Scopes as raw
@@ -23,13 +24,17 @@ renaming_in p = renaming_of p.name.now
 
 -- the rows of the one program are the images of those of the other
 abbrev pub AreImages : raw_programs.Programs → Type 0
-AreImages p = p.after.now ≡ rows_to (renaming_in p) (rows_in p)
+AreImages p = p.after.now ≡ images.rows_to (renaming_in p) (rows_in p)
 
 abbrev pub rows_of : raw.Scopes → List Row
 rows_of s = rows_in s.programs
 
 abbrev pub naming_of : raw.Scopes → Renaming
 naming_of s = renaming_in s.programs
+
+-- the rows of the new program
+abbrev pub rows_to : raw.Scopes → List Row
+rows_to s = images.rows_to (naming_of s) (rows_of s)
 
 abbrev pub member_of : raw.Scopes → MemberKey
 member_of s = member_key_of s.member.now
@@ -45,6 +50,10 @@ context_of s = record {
   locals = map (local_of (member_of s)) (locals_in s);
   own = option_map (key_of (member_of s)) s.own;
 }
+
+-- what lookup sees there in the new one
+abbrev pub place_to : raw.Scopes → Scope
+place_to s = scope_to (naming_of s) (context_of s)
 
 -- a local by its name and number
 abbrev pub seen : MemberKey → Held → ScopeLocal

@@ -1,23 +1,61 @@
-//! Calls and creations (JLS 15.9, 15.12).
+//! Calls (JLS 15.12).
 ghost use Rattle.std.specs.Prelude.{◌≡◌, IfOk, option_map};
+ghost use Rattle.jr_table.specs.Decls.{method_decl};
 ghost use Rattle.jr_table.specs.TypeView.{class_key_of};
-ghost use Rattle.jr_respell.specs.Scopes.{IsKept, rows_of, naming_of, context_of};
+ghost use Rattle.jr_table.specs.KeyView.{method_key_of};
+ghost use Rattle.jr_table.specs.Lookup.{FindsMethodNamed, FindsMethodOf};
+ghost use Rattle.jr_table.specs.Context.{IsSuperclass};
+ghost use Rattle.jr_table.specs.Binding.{FindsIn};
+ghost use Rattle.jr_respell.specs.Scopes.{
+  IsKept,
+  rows_of,
+  naming_of,
+  context_of,
+  rows_to,
+  place_to,
+};
 ghost use Rattle.jr_respell.specs.ChoiceView.{choice_of};
+ghost use Rattle.jr_respell.specs.Taking.{asked_of, SpellsAt};
 ghost use Rattle.jr_respell.specs.Chosen as chosen;
 
 use crate::choices::Choice;
 use crate::choosing::{choose, lost};
-use crate::finding::{ctor_found, method_found};
-use crate::near::{first_word, near};
-use crate::references::{on_value, plain, through, words};
+use crate::finding::method_found;
+use crate::references::{Asked, method_on, method_through, plain_method, words};
 use crate::scopes::Scopes;
-use crate::superclasses::{super_ctor_found, super_method_found};
+use crate::superclasses::super_method_found;
 use jr_ast::Name;
-use jr_lookup::{ctor_of, method_named, method_of};
-use jr_rename::{class_to, ctor_to, method_to, types_to};
+use jr_lookup::{method_named, method_of};
+use jr_rename::{class_to, types_to};
 use jr_spell::RefForm;
-use jr_table::{ClassKey, CtorKey, Decl, MethodKey, Tys};
+use jr_table::{ClassKey, Decl, MethodKey, Tys, lookups_are_exact};
 use std::alloc::{AllocError, Global};
+
+/// What is taken, or else what a call without a target finds.
+fn taken_named(
+    alloc: Global,
+    scopes: &Scopes<'_>,
+    at: u32,
+    old: &Name,
+    asked: &Asked,
+    key: MethodKey,
+) -> Result<Choice, AllocError>
+    requires { IsKept scopes.now }
+    ensures { IfOk result (λ h. SpellsAt (rows_to scopes.now) (place_to scopes.now)
+        (asked_of asked.now) at old.now (method_decl (method_key_of key))
+        (FindsMethodNamed (rows_to scopes.now) (place_to scopes.now) asked.now.name
+        asked.now.reference.args) (choice_of h)) }
+{
+    match choose(alloc, scopes, asked, old)? {
+        Some(choice) => Ok(choice),
+        None => {
+            let table = scopes.programs.after;
+            let args = asked.reference.args.as_slice();
+            let found = method_named(alloc, table, &scopes.after, &asked.name, args)?;
+            Ok(lost(at, Decl::Method(key), found))
+        }
+    }
+}
 
 fn by_name(
     alloc: Global,
@@ -26,21 +64,16 @@ fn by_name(
     old: &Name,
     args: &Tys,
     key: MethodKey,
-) -> Result<Choice, AllocError> {
-    let table = scopes.programs.after;
-    let image = method_to(alloc, scopes.programs.name, &key)?;
-    let name = Name::new(alloc, image.name.as_str())?;
-    let args = types_to(alloc, scopes.programs.name, args)?;
-    let scope = near(alloc, scopes, &name, &image.class)?;
-    let target = Decl::Method(image);
-    let reference = plain(alloc, RefForm::MethodSimple, &name, args)?;
-    match choose(alloc, table, &scope, &reference, &target, old, &name)? {
-        Some(choice) => Ok(choice),
-        None => {
-            let found = method_named(alloc, table, &scope, &name, reference.args.as_slice())?;
-            Ok(lost(at, Decl::Method(key), found))
-        }
-    }
+) -> Result<Choice, AllocError>
+    requires { IsKept scopes.now }
+    ensures { IfOk result (λ h. chosen.SimpleCallSpells (rows_of scopes.now)
+        (naming_of scopes.now) (context_of scopes.now) at old.now args.now (method_key_of key)
+        (choice_of h)) }
+{
+    let g = scopes.programs.name;
+    let images = types_to(alloc, g, args)?;
+    let asked = plain_method(alloc, g, RefForm::MethodSimple, &images, &key)?;
+    taken_named(alloc, scopes, at, old, &asked, key)
 }
 
 /// The choice for a call without a target.
@@ -57,6 +90,8 @@ pub fn simple_call(
         (option_map choice_of o)) }
 {
     let table = scopes.programs.before;
+    table.keeps_rows();
+    lookups_are_exact();
     let found = method_named(alloc, table, &scopes.before, name, args.as_slice())?;
     match method_found(found) {
         None => Ok(None),
@@ -64,7 +99,34 @@ pub fn simple_call(
     }
 }
 
-fn on_class(
+/// What is taken, or else what the class has by the name.
+fn taken_in(
+    alloc: Global,
+    scopes: &Scopes<'_>,
+    at: u32,
+    old: &Name,
+    on: &ClassKey,
+    asked: &Asked,
+    key: MethodKey,
+) -> Result<Choice, AllocError>
+    requires { IsKept scopes.now }
+    ensures { IfOk result (λ h. SpellsAt (rows_to scopes.now) (place_to scopes.now)
+        (asked_of asked.now) at old.now (method_decl (method_key_of key))
+        (FindsMethodOf (rows_to scopes.now) (place_to scopes.now) (class_key_of on.now)
+        asked.now.name asked.now.reference.args) (choice_of h)) }
+{
+    match choose(alloc, scopes, asked, old)? {
+        Some(choice) => Ok(choice),
+        None => {
+            let table = scopes.programs.after;
+            let args = asked.reference.args.as_slice();
+            let found = method_of(alloc, table, &scopes.after, on, &asked.name, args)?;
+            Ok(lost(at, Decl::Method(key), found))
+        }
+    }
+}
+
+fn on_value(
     alloc: Global,
     scopes: &Scopes<'_>,
     at: u32,
@@ -72,22 +134,17 @@ fn on_class(
     old: &Name,
     args: &Tys,
     key: MethodKey,
-) -> Result<Choice, AllocError> {
-    let table = scopes.programs.after;
-    let image = method_to(alloc, scopes.programs.name, &key)?;
-    let name = Name::new(alloc, image.name.as_str())?;
-    let target = Decl::Method(image);
-    let args = types_to(alloc, scopes.programs.name, args)?;
-    let on = class_to(alloc, scopes.programs.name, class)?;
-    let reference = on_value(alloc, RefForm::MethodOn, &name, &on, args)?;
-    match choose(alloc, table, &scopes.after, &reference, &target, old, &name)? {
-        Some(choice) => Ok(choice),
-        None => {
-            let args = reference.args.as_slice();
-            let found = method_of(alloc, table, &scopes.after, &on, &name, args)?;
-            Ok(lost(at, Decl::Method(key), found))
-        }
-    }
+) -> Result<Choice, AllocError>
+    requires { IsKept scopes.now }
+    ensures { IfOk result (λ h. chosen.CallSpells (rows_of scopes.now) (naming_of scopes.now)
+        (context_of scopes.now) at (class_key_of class.now) old.now args.now (method_key_of key)
+        (choice_of h)) }
+{
+    let g = scopes.programs.name;
+    let on = class_to(alloc, g, class)?;
+    let images = types_to(alloc, g, args)?;
+    let asked = method_on(alloc, g, &on, &images, &key)?;
+    taken_in(alloc, scopes, at, old, &on, &asked, key)
 }
 
 /// The choice for a call on a value of the class.
@@ -105,14 +162,38 @@ pub fn call(
         (option_map choice_of o)) }
 {
     let table = scopes.programs.before;
+    table.keeps_rows();
+    lookups_are_exact();
     let found = method_of(alloc, table, &scopes.before, class, name, args.as_slice())?;
     match method_found(found) {
         None => Ok(None),
-        Some(key) => Ok(Some(on_class(alloc, scopes, at, class, name, args, key)?)),
+        Some(key) => Ok(Some(on_value(alloc, scopes, at, class, name, args, key)?)),
     }
 }
 
-fn through_class(
+fn through(
+    alloc: Global,
+    scopes: &Scopes<'_>,
+    at: u32,
+    text: &Name,
+    class: &ClassKey,
+    old: &Name,
+    args: &Tys,
+    key: MethodKey,
+) -> Result<Choice, AllocError>
+    requires { IsKept scopes.now }
+    ensures { IfOk result (λ h. chosen.StaticCallSpells (rows_of scopes.now)
+        (naming_of scopes.now) (context_of scopes.now) at text.now (class_key_of class.now) old.now
+        args.now (method_key_of key) (choice_of h)) }
+{
+    let g = scopes.programs.name;
+    let on = class_to(alloc, g, class)?;
+    let images = types_to(alloc, g, args)?;
+    let asked = method_through(alloc, g, text, &on, &images, &key)?;
+    taken_in(alloc, scopes, at, old, &on, &asked, key)
+}
+
+fn through_words(
     alloc: Global,
     scopes: &Scopes<'_>,
     at: u32,
@@ -121,25 +202,16 @@ fn through_class(
     old: &Name,
     args: &Tys,
     key: MethodKey,
-) -> Result<Choice, AllocError> {
-    let table = scopes.programs.after;
-    let image = method_to(alloc, scopes.programs.name, &key)?;
-    let name = Name::new(alloc, image.name.as_str())?;
-    let args = types_to(alloc, scopes.programs.name, args)?;
-    let on = class_to(alloc, scopes.programs.name, class)?;
-    let text = words(alloc, scopes.programs.name, outer, &on)?;
-    let first = first_word(alloc, &text)?;
-    let scope = near(alloc, scopes, &first, &image.class)?;
-    let target = Decl::Method(image);
-    let reference = through(alloc, &text, &name, &on, args)?;
-    match choose(alloc, table, &scope, &reference, &target, old, &name)? {
-        Some(choice) => Ok(choice),
-        None => {
-            let args = reference.args.as_slice();
-            let found = method_of(alloc, table, &scope, &on, &name, args)?;
-            Ok(lost(at, Decl::Method(key), found))
-        }
-    }
+) -> Result<Choice, AllocError>
+    requires { IsKept scopes.now }
+    ensures { IfOk result (λ h. chosen.StaticCallSpells (rows_of scopes.now)
+        (naming_of scopes.now) (context_of scopes.now) at
+        (chosen.words_of (naming_of scopes.now) (option_map (λ k. class_key_of k.now) outer.entry)
+        (class_key_of class.now)) (class_key_of class.now) old.now args.now (method_key_of key)
+        (choice_of h)) }
+{
+    let text = words(alloc, scopes.programs.name, outer, class)?;
+    through(alloc, scopes, at, &text, class, old, args, key)
 }
 
 /// The choice for a call through the class, whose name stands behind that of the outer one, if it
@@ -161,12 +233,42 @@ pub fn static_call(
         (option_map choice_of o)) }
 {
     let table = scopes.programs.before;
+    table.keeps_rows();
+    lookups_are_exact();
     let found = method_of(alloc, table, &scopes.before, class, name, args.as_slice())?;
     match method_found(found) {
         None => Ok(None),
-        Some(key) => Ok(Some(through_class(
-            alloc, scopes, at, outer, class, name, args, key,
-        )?)),
+        Some(key) => {
+            let choice = through_words(alloc, scopes, at, outer, class, name, args, key)?;
+            Ok(Some(choice))
+        }
+    }
+}
+
+/// What is taken, or else what the superclass has by the name.
+fn taken_above(
+    alloc: Global,
+    scopes: &Scopes<'_>,
+    at: u32,
+    old: &Name,
+    asked: &Asked,
+    key: MethodKey,
+) -> Result<Choice, AllocError>
+    requires { IsKept scopes.now }
+    ensures { IfOk result (λ h. SpellsAt (rows_to scopes.now) (place_to scopes.now)
+        (asked_of asked.now) at old.now (method_decl (method_key_of key))
+        (FindsIn (IsSuperclass (rows_to scopes.now) (place_to scopes.now).class)
+        (λ k x. FindsMethodOf (rows_to scopes.now) (place_to scopes.now) k asked.now.name
+        asked.now.reference.args x)) (choice_of h)) }
+{
+    match choose(alloc, scopes, asked, old)? {
+        Some(choice) => Ok(choice),
+        None => {
+            let table = scopes.programs.after;
+            let args = &asked.reference.args;
+            let found = super_method_found(alloc, table, &scopes.after, &asked.name, args)?;
+            Ok(lost(at, Decl::Method(key), found))
+        }
     }
 }
 
@@ -177,20 +279,16 @@ fn on_super(
     old: &Name,
     args: &Tys,
     key: MethodKey,
-) -> Result<Choice, AllocError> {
-    let table = scopes.programs.after;
-    let image = method_to(alloc, scopes.programs.name, &key)?;
-    let name = Name::new(alloc, image.name.as_str())?;
-    let target = Decl::Method(image);
-    let args = types_to(alloc, scopes.programs.name, args)?;
-    let reference = plain(alloc, RefForm::AsAsked, &name, args)?;
-    match choose(alloc, table, &scopes.after, &reference, &target, old, &name)? {
-        Some(choice) => Ok(choice),
-        None => {
-            let found = super_method_found(alloc, table, &scopes.after, &name, &reference.args)?;
-            Ok(lost(at, Decl::Method(key), found))
-        }
-    }
+) -> Result<Choice, AllocError>
+    requires { IsKept scopes.now }
+    ensures { IfOk result (λ h. chosen.SuperCallSpells (rows_of scopes.now)
+        (naming_of scopes.now) (context_of scopes.now) at old.now args.now (method_key_of key)
+        (choice_of h)) }
+{
+    let g = scopes.programs.name;
+    let images = types_to(alloc, g, args)?;
+    let asked = plain_method(alloc, g, RefForm::AsAsked, &images, &key)?;
+    taken_above(alloc, scopes, at, old, &asked, key)
 }
 
 /// The choice for a call behind `super`.
@@ -207,109 +305,11 @@ pub fn super_call(
         (option_map choice_of o)) }
 {
     let table = scopes.programs.before;
+    table.keeps_rows();
+    lookups_are_exact();
     let found = super_method_found(alloc, table, &scopes.before, name, args)?;
     match method_found(found) {
         None => Ok(None),
         Some(key) => Ok(Some(on_super(alloc, scopes, at, name, args, key)?)),
-    }
-}
-
-fn created(
-    alloc: Global,
-    scopes: &Scopes<'_>,
-    at: u32,
-    class: &ClassKey,
-    args: &Tys,
-    key: CtorKey,
-) -> Result<Choice, AllocError> {
-    let table = scopes.programs.after;
-    let target = Decl::Ctor(ctor_to(alloc, scopes.programs.name, &key)?);
-    let no_name = Name::new(alloc, "")?;
-    let args = types_to(alloc, scopes.programs.name, args)?;
-    let on = class_to(alloc, scopes.programs.name, class)?;
-    let reference = on_value(alloc, RefForm::AsAsked, &no_name, &on, args)?;
-    match choose(
-        alloc,
-        table,
-        &scopes.after,
-        &reference,
-        &target,
-        &no_name,
-        &no_name,
-    )? {
-        Some(choice) => Ok(choice),
-        None => {
-            let args = reference.args.as_slice();
-            let found = ctor_of(alloc, table, &scopes.after, &on, args)?;
-            Ok(lost(at, Decl::Ctor(key), found))
-        }
-    }
-}
-
-/// The choice for the constructor of a creation of the class; `new` stands at `at`.
-pub fn creation(
-    alloc: Global,
-    scopes: &Scopes<'_>,
-    at: u32,
-    class: &ClassKey,
-    args: &Tys,
-) -> Result<Option<Choice>, AllocError>
-    requires { IsKept scopes.now }
-    ensures { IfOk result (λ o. chosen.CreationIsChosen (rows_of scopes.now) (naming_of scopes.now)
-        (context_of scopes.now) at (class_key_of class.now) args.now (option_map choice_of o)) }
-{
-    let table = scopes.programs.before;
-    let found = ctor_of(alloc, table, &scopes.before, class, args.as_slice())?;
-    match ctor_found(found) {
-        None => Ok(None),
-        Some(key) => Ok(Some(created(alloc, scopes, at, class, args, key)?)),
-    }
-}
-
-fn begun(
-    alloc: Global,
-    scopes: &Scopes<'_>,
-    at: u32,
-    args: &Tys,
-    key: CtorKey,
-) -> Result<Choice, AllocError> {
-    let table = scopes.programs.after;
-    let target = Decl::Ctor(ctor_to(alloc, scopes.programs.name, &key)?);
-    let no_name = Name::new(alloc, "")?;
-    let args = types_to(alloc, scopes.programs.name, args)?;
-    let reference = plain(alloc, RefForm::AsAsked, &no_name, args)?;
-    match choose(
-        alloc,
-        table,
-        &scopes.after,
-        &reference,
-        &target,
-        &no_name,
-        &no_name,
-    )? {
-        Some(choice) => Ok(choice),
-        None => {
-            let found = super_ctor_found(alloc, table, &scopes.after, &reference.args)?;
-            Ok(lost(at, Decl::Ctor(key), found))
-        }
-    }
-}
-
-/// The choice for the constructor of a written `super(..)`, whose word stands at `at`.
-pub fn super_ctor(
-    alloc: Global,
-    scopes: &Scopes<'_>,
-    at: u32,
-    args: &Tys,
-) -> Result<Option<Choice>, AllocError>
-    requires { IsKept scopes.now }
-    ensures { IfOk result (λ o. chosen.SuperCtorIsChosen (rows_of scopes.now)
-        (naming_of scopes.now) (context_of scopes.now) at args.now (option_map choice_of o)) }
-{
-    let table = scopes.programs.before;
-    let found = super_ctor_found(alloc, table, &scopes.before, args)?;
-    match ctor_found(found) {
-        None => Ok(None),
-        Some(key) => Ok(Some(begun(alloc, scopes, at, args, key)?)),
     }
 }

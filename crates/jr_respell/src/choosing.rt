@@ -1,22 +1,26 @@
 //! The spelling that is taken, as a choice.
-ghost use Rattle.std.specs.Prelude.{◌≡◌, IfOk, option_map};
+ghost use Rattle.std.specs.Prelude.{◌≡◌, None, IfOk, IfSome, option_map};
 ghost use Rattle.jr_table.specs.Entries.{class_of};
 ghost use Rattle.jr_table.specs.TypeView.{class_key_of};
 ghost use Rattle.jr_table.specs.KeyView.{decl_of};
 ghost use Rattle.jr_table.specs.FoundView.{found_of};
-ghost use Rattle.jr_lookup.specs.ScopeView.{scope_of};
-ghost use Rattle.jr_spell.specs.ReferenceView.{reference_of};
+ghost use Rattle.jr_spell.specs.References.{text_of_operand};
+ghost use Rattle.jr_spell.specs.ReferenceView.{reference_of, operand_of};
+ghost use Rattle.jr_spell.specs.Taken.{IsTaken, NoneBinds};
 ghost use Rattle.jr_rewrite.specs.Respellings.{loses};
 ghost use Rattle.jr_rename.specs.Spelling as pure;
 ghost use Rattle.jr_respell.specs.ChoiceView.{front_of, choice_of};
-ghost use Rattle.jr_respell.specs.Taking.{Takes};
+ghost use Rattle.jr_respell.specs.Near.{first_word, asked_word};
+ghost use Rattle.jr_respell.specs.Scopes.{IsKept, rows_to, place_to};
+ghost use Rattle.jr_respell.specs.Taking.{Takes, asked_of};
 
 use crate::choices::{Choice, Chosen, ChosenFront, Lost};
-use crate::scopes::class_of_member;
+use crate::nearby::{first_word, near};
+use crate::references::Asked;
+use crate::scopes::{Scopes, class_of_member};
 use jr_ast::Name;
-use jr_lookup::Scope;
-use jr_spell::{Form, Reference, taken};
-use jr_table::{ClassKey, Decl, Found, Table};
+use jr_spell::{Form, Operand, RefForm, Reference, taken};
+use jr_table::{ClassKey, Decl, Found, lookups_are_exact};
 use std::alloc::{AllocError, Global};
 
 /// The word with this in front of it.
@@ -144,25 +148,69 @@ pub(crate) fn declaring_class(decl: &Decl) -> &ClassKey
     }
 }
 
+/// The word of a reference that may be a local's name as it is asked.
+fn asked_word(alloc: Global, reference: &Reference) -> Result<Name, AllocError>
+    ensures { IfOk result (λ n. n ≡ asked_word (reference_of reference.now).form
+        (reference_of reference.now)) }
+{
+    match reference.form {
+        RefForm::ThroughClass => operand_word(alloc, &reference.operand),
+        RefForm::FieldSimple => Name::new(alloc, reference.asked.as_str()),
+        RefForm::FieldOn => Name::new(alloc, reference.asked.as_str()),
+        RefForm::FieldSuper => Name::new(alloc, reference.asked.as_str()),
+        RefForm::MethodSimple => Name::new(alloc, reference.asked.as_str()),
+        RefForm::MethodOn => Name::new(alloc, reference.asked.as_str()),
+        RefForm::ClassName => Name::new(alloc, reference.asked.as_str()),
+        RefForm::AsAsked => Name::new(alloc, reference.asked.as_str()),
+    }
+}
+
+fn operand_word(alloc: Global, operand: &Option<Operand>) -> Result<Name, AllocError>
+    ensures { IfOk result (λ n. n
+        ≡ first_word (text_of_operand (option_map operand_of operand.now))) }
+{
+    match operand {
+        None => first_word(alloc, ""),
+        Some(operand) => first_word(alloc, operand.text.as_str()),
+    }
+}
+
+/// The form of the first spelling that binds at the place in the new program, if one does.
+fn form_taken(
+    alloc: Global,
+    scopes: &Scopes<'_>,
+    asked: &Asked,
+) -> Result<Option<Form>, AllocError>
+    requires { IsKept scopes.now }
+    ensures some { IfOk result (λ o. IfSome o (IsTaken (rows_to scopes.now) (place_to scopes.now)
+        (asked_of asked.now).reference (asked_of asked.now).target)) }
+    ensures none { IfOk result (λ o. o ≡ None → NoneBinds (rows_to scopes.now)
+        (place_to scopes.now) (asked_of asked.now).reference (asked_of asked.now).target) }
+{
+    let table = scopes.programs.after;
+    table.keeps_rows();
+    lookups_are_exact();
+    let first = asked_word(alloc, &asked.reference)?;
+    let scope = near(alloc, scopes, &first, declaring_class(&asked.target))?;
+    taken(alloc, table, &scope, &asked.reference, &asked.target)
+}
+
 /// The choice of the first spelling that binds to the declaration, if one does.
 pub(crate) fn choose(
     alloc: Global,
-    table: &Table,
-    scope: &Scope,
-    reference: &Reference,
-    target: &Decl,
+    scopes: &Scopes<'_>,
+    asked: &Asked,
     old: &Name,
-    name: &Name,
 ) -> Result<Option<Choice>, AllocError>
-    ensures { IfOk result (λ o. Takes table.now (scope_of scope.now)
-        (reference_of reference.now) (decl_of target.now) old.now name.now
-        (option_map choice_of o)) }
+    requires { IsKept scopes.now }
+    ensures { IfOk result (λ o. Takes (rows_to scopes.now) (place_to scopes.now)
+        (asked_of asked.now) old.now (option_map choice_of o)) }
 {
-    match taken(alloc, table, scope, reference, target)? {
+    match form_taken(alloc, scopes, asked)? {
         None => Ok(None),
         Some(form) => {
-            let class = declaring_class(target);
-            Ok(Some(spelled(alloc, old, name, class, form)?))
+            let class = declaring_class(&asked.target);
+            Ok(Some(spelled(alloc, old, &asked.name, class, form)?))
         }
     }
 }

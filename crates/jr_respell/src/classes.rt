@@ -1,6 +1,12 @@
 //! Classes in front of a dot, and superclasses of top-level classes (JLS 6.5.2, 8.1.4).
-ghost use Rattle.std.specs.Prelude.{◌≡◌, IfOk, option_map};
+ghost use Rattle.std.specs.Prelude.{◌≡◌, None, IfOk, option_map};
+ghost use Rattle.jr_table.specs.Decls.{class_decl};
 ghost use Rattle.jr_table.specs.TypeView.{class_key_of};
+ghost use Rattle.jr_table.specs.FoundView.{found_of};
+ghost use Rattle.jr_table.specs.Found.{one, nothing};
+ghost use Rattle.jr_table.specs.Lookup.{FindsVariable, FindsFieldIn};
+ghost use Rattle.jr_table.specs.HeadRules.{TopFinds};
+ghost use Rattle.jr_table.specs.Context.{scope_of};
 ghost use Rattle.jr_respell.specs.Scopes.{
   AreImages,
   IsKept,
@@ -11,18 +17,19 @@ ghost use Rattle.jr_respell.specs.Scopes.{
   context_of,
 };
 ghost use Rattle.jr_respell.specs.ChoiceView.{choice_of};
+ghost use Rattle.jr_respell.specs.Taking.{RenamesOrLoses};
 ghost use Rattle.jr_respell.specs.Chosen as chosen;
 
 use crate::choices::Choice;
 use crate::choosing::{lost, renamed};
 use crate::finding::{class_found, is_class, is_nothing};
-use crate::near::near;
 use crate::programs::Programs;
 use crate::scopes::Scopes;
+use crate::variables::{variable_of, variable_to};
 use jr_ast::Name;
-use jr_lookup::{Scope, field_of, member_type, type_named, variable};
+use jr_lookup::{field_of, member_type, type_named};
 use jr_rename::class_to;
-use jr_table::{ClassKey, Decl, Found, Table};
+use jr_table::{ClassKey, Decl, Found, Table, lookups_are_exact};
 use std::alloc::{AllocError, Global};
 
 /// The new name where the image is found, or else the loss.
@@ -33,7 +40,10 @@ fn renamed_or_lost(
     key: ClassKey,
     image: &ClassKey,
     found: Found,
-) -> Result<Choice, AllocError> {
+) -> Result<Choice, AllocError>
+    ensures { IfOk result (λ h. RenamesOrLoses at old.now (class_key_of key)
+        (class_key_of image.now) (found_of found) (choice_of h)) }
+{
     if is_class(&found, image) {
         renamed(alloc, old, &image.name)
     } else {
@@ -41,19 +51,25 @@ fn renamed_or_lost(
     }
 }
 
+/// The choice for a class that is found, where no variable is.
 fn leading(
     alloc: Global,
     scopes: &Scopes<'_>,
     at: u32,
     old: &Name,
     key: ClassKey,
-) -> Result<Choice, AllocError> {
+) -> Result<Choice, AllocError>
+    requires { IsKept scopes.now }
+    ensures { IfOk result (λ h. chosen.ClassSpells (rows_of scopes.now) (naming_of scopes.now)
+        (context_of scopes.now) at old.now (class_key_of key) (choice_of h)) }
+{
     let table = scopes.programs.after;
+    table.keeps_rows();
+    lookups_are_exact();
     let image = class_to(alloc, scopes.programs.name, &key)?;
-    let scope = near(alloc, scopes, &image.name, &image)?;
-    let found = variable(alloc, table, &scope, &image.name)?;
+    let found = variable_to(alloc, scopes, &image.name)?;
     if is_nothing(&found) {
-        let found = type_named(alloc, table, &scope, &image.name)?;
+        let found = type_named(alloc, table, &scopes.after, &image.name)?;
         renamed_or_lost(alloc, at, old, key, &image, found)
     } else {
         Ok(lost(at, Decl::Class(key), found))
@@ -65,8 +81,17 @@ fn type_by_name(
     scopes: &Scopes<'_>,
     at: u32,
     name: &Name,
-) -> Result<Option<Choice>, AllocError> {
-    let found = type_named(alloc, scopes.programs.before, &scopes.before, name)?;
+) -> Result<Option<Choice>, AllocError>
+    requires kept { IsKept scopes.now }
+    requires free { FindsVariable (rows_of scopes.now) (scope_of (context_of scopes.now)) name.now
+        nothing }
+    ensures { IfOk result (λ o. chosen.ClassIsChosen (rows_of scopes.now) (naming_of scopes.now)
+        (context_of scopes.now) at name.now (option_map choice_of o)) }
+{
+    let table = scopes.programs.before;
+    table.keeps_rows();
+    lookups_are_exact();
+    let found = type_named(alloc, table, &scopes.before, name)?;
     match class_found(found) {
         None => Ok(None),
         Some(key) => Ok(Some(leading(alloc, scopes, at, name, key)?)),
@@ -84,16 +109,13 @@ pub fn left_class(
     ensures { IfOk result (λ o. chosen.ClassIsChosen (rows_of scopes.now) (naming_of scopes.now)
         (context_of scopes.now) at name.now (option_map choice_of o)) }
 {
-    let found = variable(alloc, scopes.programs.before, &scopes.before, name)?;
-    match scopes.locals.number_named(name) {
-        Some(_) => Ok(None),
-        None => {
-            if is_nothing(&found) {
-                type_by_name(alloc, scopes, at, name)
-            } else {
-                Ok(None)
-            }
-        }
+    scopes.programs.before.keeps_rows();
+    lookups_are_exact();
+    let found = variable_of(alloc, scopes, name)?;
+    if is_nothing(&found) {
+        type_by_name(alloc, scopes, at, name)
+    } else {
+        Ok(None)
     }
 }
 
@@ -104,8 +126,15 @@ fn leading_in(
     class: &ClassKey,
     old: &Name,
     key: ClassKey,
-) -> Result<Choice, AllocError> {
+) -> Result<Choice, AllocError>
+    requires { IsKept scopes.now }
+    ensures { IfOk result (λ h. chosen.MemberClassSpells (rows_of scopes.now)
+        (naming_of scopes.now) (context_of scopes.now) at (class_key_of class.now) old.now
+        (class_key_of key) (choice_of h)) }
+{
     let table = scopes.programs.after;
+    table.keeps_rows();
+    lookups_are_exact();
     let on = class_to(alloc, scopes.programs.name, class)?;
     let image = class_to(alloc, scopes.programs.name, &key)?;
     let found = field_of(alloc, table, &scopes.after, &on, &image.name)?;
@@ -123,8 +152,17 @@ fn member_by_name(
     at: u32,
     class: &ClassKey,
     name: &Name,
-) -> Result<Option<Choice>, AllocError> {
+) -> Result<Option<Choice>, AllocError>
+    requires kept { IsKept scopes.now }
+    requires free { FindsFieldIn (rows_of scopes.now) (scope_of (context_of scopes.now))
+        (class_key_of class.now) name.now nothing }
+    ensures { IfOk result (λ o. chosen.MemberClassIsChosen (rows_of scopes.now)
+        (naming_of scopes.now) (context_of scopes.now) at (class_key_of class.now) name.now
+        (option_map choice_of o)) }
+{
     let table = scopes.programs.before;
+    table.keeps_rows();
+    lookups_are_exact();
     let found = member_type(alloc, table, &scopes.before, class, name)?;
     match class_found(found) {
         None => Ok(None),
@@ -146,7 +184,10 @@ pub fn member_class(
         (naming_of scopes.now) (context_of scopes.now) at (class_key_of class.now) name.now
         (option_map choice_of o)) }
 {
-    let found = field_of(alloc, scopes.programs.before, &scopes.before, class, name)?;
+    let table = scopes.programs.before;
+    table.keeps_rows();
+    lookups_are_exact();
+    let found = field_of(alloc, table, &scopes.before, class, name)?;
     if is_nothing(&found) {
         member_by_name(alloc, scopes, at, class, name)
     } else {
@@ -160,9 +201,16 @@ fn qualifying(
     at: u32,
     old: &Name,
     key: ClassKey,
-) -> Result<Choice, AllocError> {
+) -> Result<Choice, AllocError>
+    requires { IsKept scopes.now }
+    ensures { IfOk result (λ h. chosen.QualifierSpells (rows_of scopes.now) (naming_of scopes.now)
+        (context_of scopes.now) at old.now (class_key_of key) (choice_of h)) }
+{
+    let table = scopes.programs.after;
+    table.keeps_rows();
+    lookups_are_exact();
     let image = class_to(alloc, scopes.programs.name, &key)?;
-    let found = type_named(alloc, scopes.programs.after, &scopes.after, &image.name)?;
+    let found = type_named(alloc, table, &scopes.after, &image.name)?;
     renamed_or_lost(alloc, at, old, key, &image, found)
 }
 
@@ -177,7 +225,10 @@ pub fn qualifier(
     ensures { IfOk result (λ o. chosen.QualifierIsChosen (rows_of scopes.now)
         (naming_of scopes.now) (context_of scopes.now) at name.now (option_map choice_of o)) }
 {
-    let found = type_named(alloc, scopes.programs.before, &scopes.before, name)?;
+    let table = scopes.programs.before;
+    table.keeps_rows();
+    lookups_are_exact();
+    let found = type_named(alloc, table, &scopes.before, name)?;
     match class_found(found) {
         None => Ok(None),
         Some(key) => Ok(Some(qualifying(alloc, scopes, at, name, key)?)),
@@ -185,7 +236,10 @@ pub fn qualifier(
 }
 
 /// The class of the name that is no member class.
-fn top_found(alloc: Global, table: &Table, name: &Name) -> Result<Found, AllocError> {
+fn top_found(alloc: Global, table: &Table, name: &Name) -> Result<Found, AllocError>
+    ensures { IfOk result (λ f. TopFinds table.now name.now (found_of f)) }
+{
+    table.keeps_rows();
     match table.top_number(name) {
         None => Ok(Found::Nothing),
         Some(_) => {
@@ -201,7 +255,11 @@ fn extended(
     at: u32,
     old: &Name,
     key: ClassKey,
-) -> Result<Choice, AllocError> {
+) -> Result<Choice, AllocError>
+    requires { AreImages programs.now }
+    ensures { IfOk result (λ h. chosen.TopParentSpells (rows_in programs.now)
+        (renaming_in programs.now) at old.now (class_key_of key) (choice_of h)) }
+{
     let image = class_to(alloc, programs.name, &key)?;
     let found = top_found(alloc, programs.after, &image.name)?;
     renamed_or_lost(alloc, at, old, key, &image, found)

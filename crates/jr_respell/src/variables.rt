@@ -1,29 +1,88 @@
 //! Variables by their simple names (JLS 6.5.6.1).
-ghost use Rattle.std.specs.Prelude.{◌≡◌, [], None, IfOk, option_map};
-ghost use Rattle.jr_table.specs.TypeView.{class_key_of};
-ghost use Rattle.jr_table.specs.KeyView.{field_key_of, local_key_of};
-ghost use Rattle.jr_table.specs.Decls.{local_decl, field_decl};
+ghost use Rattle.std.specs.Prelude.{◌≡◌, None, IfOk, option_map};
+ghost use Rattle.jr_table.specs.Decls.{local_decl};
+ghost use Rattle.jr_table.specs.Found.{one};
+ghost use Rattle.jr_table.specs.KeyView.{decl_of, member_key_of, field_key_of};
+ghost use Rattle.jr_table.specs.FoundView.{found_of};
 ghost use Rattle.jr_table.specs.Lookup.{FindsVariable};
-ghost use Rattle.jr_locals.specs.Helds.{key_of};
-ghost use Rattle.jr_spell.specs.declared.references.RefForm.TheVariants as ref;
-ghost use Rattle.jr_rename.specs.Images as images;
-ghost use Rattle.jr_rename.specs.Spelling as pure;
-ghost use Rattle.jr_respell.specs.Scopes.{IsKept, rows_of, naming_of, member_of, context_of};
+ghost use Rattle.jr_table.specs.Context.{scope_of};
+ghost use Rattle.jr_locals.specs.Helds.{key_of, last_number};
+ghost use Rattle.jr_respell.specs.Scopes.{
+  IsKept,
+  rows_of,
+  naming_of,
+  member_of,
+  locals_in,
+  context_of,
+  rows_to,
+  place_to,
+};
 ghost use Rattle.jr_respell.specs.ChoiceView.{choice_of};
+ghost use Rattle.jr_respell.specs.Taking.{asked_of, SpellsAt};
 ghost use Rattle.jr_respell.specs.Chosen as chosen;
 
 use crate::choices::Choice;
-use crate::choosing::{choose, declaring_class, lost};
+use crate::choosing::{choose, lost};
 use crate::finding::field_found;
-use crate::near::near;
-use crate::references::{no_types, plain};
+use crate::references::{Asked, local_asked, plain_field};
 use crate::scopes::{Scopes, local_name};
 use jr_ast::Name;
-use jr_lookup::variable as found_variable;
-use jr_rename::{field_to, local_to};
+use jr_lookup::variable as bare_variable;
 use jr_spell::RefForm;
-use jr_table::{Decl, FieldKey, LocalKey};
+use jr_table::{Decl, FieldKey, Found, LocalKey, MemberKey, lookups_are_exact};
 use std::alloc::{AllocError, Global};
+
+/// A local is found.
+fn local_found(alloc: Global, member: &MemberKey, number: u32) -> Result<Found, AllocError>
+    ensures { IfOk result (λ f. found_of f ≡ one (local_decl (key_of (member_key_of member.now)
+        number))) }
+{
+    let member = member.copy(alloc)?;
+    Ok(Found::One(Decl::Local(LocalKey { member, number })))
+}
+
+/// What a simple name finds in the new program.
+pub(crate) fn variable_to(
+    alloc: Global,
+    scopes: &Scopes<'_>,
+    name: &Name,
+) -> Result<Found, AllocError>
+    requires { IsKept scopes.now }
+    ensures { IfOk result (λ f.
+        FindsVariable (rows_to scopes.now) (place_to scopes.now) name.now (found_of f)) }
+{
+    let table = scopes.programs.after;
+    table.keeps_rows();
+    lookups_are_exact();
+    match scopes.renamed.number_named(name) {
+        Some(number) => local_found(alloc, &scopes.image, number),
+        None => bare_variable(alloc, table, &scopes.after, name),
+    }
+}
+
+/// What is taken, or else what the name finds.
+fn taken_here(
+    alloc: Global,
+    scopes: &Scopes<'_>,
+    at: u32,
+    old: &Name,
+    asked: &Asked,
+    declaration: Decl,
+) -> Result<Choice, AllocError>
+    requires { IsKept scopes.now }
+    ensures { IfOk result (λ h. SpellsAt (rows_to scopes.now) (place_to scopes.now)
+        (asked_of asked.now) at old.now (decl_of declaration)
+        (FindsVariable (rows_to scopes.now) (place_to scopes.now) asked.now.name)
+        (choice_of h)) }
+{
+    match choose(alloc, scopes, asked, old)? {
+        Some(choice) => Ok(choice),
+        None => {
+            let found = variable_to(alloc, scopes, &asked.name)?;
+            Ok(lost(at, declaration, found))
+        }
+    }
+}
 
 /// The choice for a local or parameter.
 fn local(
@@ -34,29 +93,16 @@ fn local(
     number: u32,
 ) -> Result<Choice, AllocError>
     requires { IsKept scopes.now }
-    ensures { IfOk result (λ h.
-        let k = key_of (member_of scopes.now) number in
-        let name = images.name_to (naming_of scopes.now) (local_decl k) old.now in
-        chosen.Spells (rows_of scopes.now) (naming_of scopes.now) (context_of scopes.now)
-        at old.now name (local_decl k) (pure.reference ref.AsAsked name None [])
-        (FindsVariable (images.rows_to (naming_of scopes.now) (rows_of scopes.now))
-        (images.scope_to (naming_of scopes.now) (context_of scopes.now)) name) (choice_of h)) }
+    ensures { IfOk result (λ h. chosen.LocalSpells (rows_of scopes.now) (naming_of scopes.now)
+        (context_of scopes.now) at old.now (key_of (member_of scopes.now) number)
+        (choice_of h)) }
 {
     let g = scopes.programs.name;
-    let table = scopes.programs.after;
     let member = scopes.member.copy(alloc)?;
     let key = LocalKey { member, number };
     let name = local_name(g, scopes.member, number, old);
-    let target = Decl::Local(local_to(alloc, g, &key)?);
-    let scope = near(alloc, scopes, name, declaring_class(&target))?;
-    let reference = plain(alloc, RefForm::AsAsked, name, no_types(alloc))?;
-    match choose(alloc, table, &scope, &reference, &target, old, name)? {
-        Some(choice) => Ok(choice),
-        None => {
-            let found = found_variable(alloc, table, &scope, name)?;
-            Ok(lost(at, Decl::Local(key), found))
-        }
-    }
+    let asked = local_asked(alloc, g, &key, name)?;
+    taken_here(alloc, scopes, at, old, &asked, Decl::Local(key))
 }
 
 /// The choice for a field by its simple name.
@@ -68,37 +114,48 @@ fn own_field(
     key: FieldKey,
 ) -> Result<Choice, AllocError>
     requires { IsKept scopes.now }
-    ensures { IfOk result (λ h.
-        let k = field_key_of key in
-        let name = (images.field_to (naming_of scopes.now) k).name in
-        chosen.Spells (rows_of scopes.now) (naming_of scopes.now) (context_of scopes.now)
-        at old.now name (field_decl k) (pure.reference ref.FieldSimple name None [])
-        (FindsVariable (images.rows_to (naming_of scopes.now) (rows_of scopes.now))
-        (images.scope_to (naming_of scopes.now) (context_of scopes.now)) name) (choice_of h)) }
+    ensures { IfOk result (λ h. chosen.OwnFieldSpells (rows_of scopes.now)
+        (naming_of scopes.now) (context_of scopes.now) at old.now (field_key_of key)
+        (choice_of h)) }
 {
-    let table = scopes.programs.after;
-    let image = field_to(alloc, scopes.programs.name, &key)?;
-    let name = Name::new(alloc, image.name.as_str())?;
-    let scope = near(alloc, scopes, &name, &image.class)?;
-    let reference = plain(alloc, RefForm::FieldSimple, &name, no_types(alloc))?;
-    let target = Decl::Field(image);
-    match choose(alloc, table, &scope, &reference, &target, old, &name)? {
-        Some(choice) => Ok(choice),
-        None => {
-            let found = found_variable(alloc, table, &scope, &name)?;
-            Ok(lost(at, Decl::Field(key), found))
-        }
+    let asked = plain_field(alloc, scopes.programs.name, RefForm::FieldSimple, &key)?;
+    taken_here(alloc, scopes, at, old, &asked, Decl::Field(key))
+}
+
+/// What a simple name finds in the old program.
+pub(crate) fn variable_of(
+    alloc: Global,
+    scopes: &Scopes<'_>,
+    name: &Name,
+) -> Result<Found, AllocError>
+    requires { IsKept scopes.now }
+    ensures { IfOk result (λ f. FindsVariable (rows_of scopes.now)
+        (scope_of (context_of scopes.now)) name.now (found_of f)) }
+{
+    let table = scopes.programs.before;
+    table.keeps_rows();
+    lookups_are_exact();
+    match scopes.locals.number_named(name) {
+        Some(number) => local_found(alloc, scopes.member, number),
+        None => bare_variable(alloc, table, &scopes.before, name),
     }
 }
 
-/// The choice for a simple name that finds no local.
+/// The choice for a name that finds no local.
 fn field_by_name(
     alloc: Global,
     scopes: &Scopes<'_>,
     at: u32,
     name: &Name,
-) -> Result<Option<Choice>, AllocError> {
-    let found = found_variable(alloc, scopes.programs.before, &scopes.before, name)?;
+) -> Result<Option<Choice>, AllocError>
+    requires kept { IsKept scopes.now }
+    requires free { last_number name.now (locals_in scopes.now) ≡ None }
+    ensures { IfOk result (λ o. chosen.VariableIsChosen (rows_of scopes.now)
+        (naming_of scopes.now) (context_of scopes.now) at name.now (option_map choice_of o)) }
+{
+    scopes.programs.before.keeps_rows();
+    lookups_are_exact();
+    let found = variable_of(alloc, scopes, name)?;
     match field_found(found) {
         None => Ok(None),
         Some(key) => Ok(Some(own_field(alloc, scopes, at, name, key)?)),
@@ -116,6 +173,8 @@ pub fn variable(
     ensures { IfOk result (λ o. chosen.VariableIsChosen (rows_of scopes.now)
         (naming_of scopes.now) (context_of scopes.now) at name.now (option_map choice_of o)) }
 {
+    scopes.programs.before.keeps_rows();
+    lookups_are_exact();
     match scopes.locals.number_named(name) {
         Some(number) => Ok(Some(local(alloc, scopes, at, name, number)?)),
         None => field_by_name(alloc, scopes, at, name),

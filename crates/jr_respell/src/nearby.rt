@@ -1,10 +1,11 @@
 //! A scope of the new program with no locals but those that can bear on one reference.
-ghost use Rattle.std.specs.Prelude.{◌≡◌, IfOk};
+ghost use Rattle.std.specs.Prelude.{◌≡◌, ◌++◌, map, OnOk, IfOk};
 ghost use Rattle.jr_table.specs.TypeView.{class_key_of};
+ghost use Rattle.jr_table.specs.Scope.{last_named};
+ghost use Rattle.jr_lookup.specs.LocalView.{local_of};
 ghost use Rattle.jr_lookup.specs.ScopeView.{scope_of};
-ghost use Rattle.jr_rename.specs.Images.{scope_to};
-ghost use Rattle.jr_respell.specs.Scopes.{IsKept, naming_of, context_of};
-ghost use Rattle.jr_respell.specs.Near.{IsNear, first_word};
+ghost use Rattle.jr_respell.specs.Scopes.{IsKept, place_to};
+ghost use Rattle.jr_respell.specs.Near.{IsNear, first_word, if_found, if_maybe_found};
 
 use crate::scopes::Scopes;
 use jr_ast::Name;
@@ -18,7 +19,11 @@ fn put_named(
     scopes: &Scopes<'_>,
     name: &Name,
     locals: &mut Vec<ScopeLocal>,
-) -> Result<(), AllocError> {
+) -> Result<(), AllocError>
+    requires { IsKept scopes.now }
+    ensures { OnOk result (map local_of locals.new.items ≡ map local_of locals.old.items
+        ++ if_found name.now (last_named name.now (place_to scopes.now).locals)) }
+{
     match scopes.renamed.number_named(name) {
         None => Ok(()),
         Some(number) => {
@@ -36,7 +41,11 @@ fn put_maybe_named(
     scopes: &Scopes<'_>,
     name: &Option<Name>,
     locals: &mut Vec<ScopeLocal>,
-) -> Result<(), AllocError> {
+) -> Result<(), AllocError>
+    requires { IsKept scopes.now }
+    ensures { OnOk result (map local_of locals.new.items ≡ map local_of locals.old.items
+        ++ if_maybe_found name.now (place_to scopes.now).locals) }
+{
     match name {
         None => Ok(()),
         Some(name) => put_named(alloc, scopes, name, locals),
@@ -52,8 +61,7 @@ pub(crate) fn near(
     class: &ClassKey,
 ) -> Result<Scope, AllocError>
     requires { IsKept scopes.now }
-    ensures { IfOk result (λ s. IsNear (scope_of s)
-        (scope_to (naming_of scopes.now) (context_of scopes.now)) first.now
+    ensures { IfOk result (λ s. IsNear (scope_of s) (place_to scopes.now) first.now
         (class_key_of class.now)) }
 {
     let mut locals = Vec::new(alloc);
@@ -68,11 +76,11 @@ pub(crate) fn near(
 }
 
 /// The first word of a class's name as it is written.
-pub(crate) fn first_word(alloc: Global, text: &Name) -> Result<Name, AllocError>
+pub(crate) fn first_word(alloc: Global, text: &str) -> Result<Name, AllocError>
     ensures { IfOk result (λ n. n ≡ first_word text.now) }
 {
-    match text.as_str().split_once('.') {
-        None => Name::new(alloc, text.as_str()),
+    match text.split_once('.') {
+        None => Name::new(alloc, text),
         Some((front, _)) => Name::new(alloc, front),
     }
 }

@@ -1,0 +1,6 @@
+mod NearLocals
+mod NearScopes
+mod Kept
+mod Founds
+mod Spells
+mod Parents
