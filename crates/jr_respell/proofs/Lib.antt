@@ -1,6 +1,12 @@
 mod NearLocals
 mod NearScopes
 mod Kept
+mod Growing
 mod Founds
 mod Spells
 mod Parents
+mod Dots
+mod Imaging
+mod Oks
+mod Changing
+mod Above

@@ -93,17 +93,16 @@ module _ (ls : List ScopeLocal) where
       by (inr e) = e
 
   pub now_found : (xs : List ScopeLocal) (p : List ℕ) → Sound xs → Found (xs ++ if_found p (last_named p ls)) p
+  unfolding last_named
   now_found xs p sound = by (last_named p ls) refl (sound p)
     where
       whole : (o : Option LocalKey) → last_named p ls ≡ o → last_named p (xs ++ if_found p (last_named p ls)) ≡ or_later (last_named p (if_found p o)) (last_named p xs)
       whole o e = last_append p xs (if_found p (last_named p ls)) ∙ ap (λ o. or_later (last_named p (if_found p o)) (last_named p xs)) e
 
       own : (k : LocalKey) → last_named p (if_found p (Some k)) ≡ Some k
-      unfolding last_named
       own k = ap (λ b. cond b (Some k) None) ((bytes_decides p p).1 refl)
 
       empty : last_named p (if_found p None) ≡ None
-      unfolding last_named
       empty = refl
 
       by : (o : Option LocalKey) → last_named p ls ≡ o → (last_named p xs ≡ last_named p ls) ⊎ (last_named p xs ≡ None) → Found (xs ++ if_found p (last_named p ls)) p

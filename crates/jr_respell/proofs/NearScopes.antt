@@ -81,10 +81,14 @@ module _ (rows : List Row) (keys : KeysAreFound rows) (s : Scope) (ls ms : List 
     asked ref.FieldSimple same h = variable r.asked same (one d) h
     asked ref.FieldOn same (o, is, v) = (o, is, value r.args o d v)
     asked ref.FieldSuper same (object, p, super, v) = (object, p, super, value r.args p d v)
-    asked ref.ThroughClass same (b, is, w) = (b, is, record {
-      leads = leads (front_word (text_of_operand r.operand)) (last_word (text_of_operand r.operand)) b same w.leads;
-      member = through r.args b d w.member;
-    })
+    asked ref.ThroughClass same (b, is, w) = (
+      b,
+      is,
+      record {
+        leads = leads (front_word (text_of_operand r.operand)) (last_word (text_of_operand r.operand)) b same w.leads;
+        member = through r.args b d w.member;
+      },
+    )
     asked ref.MethodSimple same h = h
     asked ref.MethodOn same (o, is, v) = (o, is, value r.args o d v)
     asked ref.ClassName same h = names (front_word r.asked) (last_word r.asked) (class_of d) h

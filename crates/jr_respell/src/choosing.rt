@@ -176,11 +176,7 @@ fn operand_word(alloc: Global, operand: &Option<Operand>) -> Result<Name, AllocE
 }
 
 /// The form of the first spelling that binds at the place in the new program, if one does.
-fn form_taken(
-    alloc: Global,
-    scopes: &Scopes<'_>,
-    asked: &Asked,
-) -> Result<Option<Form>, AllocError>
+fn form_taken(alloc: Global, scopes: &Scopes<'_>, asked: &Asked) -> Result<Option<Form>, AllocError>
     requires { IsKept scopes.now }
     ensures some { IfOk result (λ o. IfSome o (IsTaken (rows_to scopes.now) (place_to scopes.now)
         (asked_of asked.now).reference (asked_of asked.now).target)) }

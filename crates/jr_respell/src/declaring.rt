@@ -36,12 +36,7 @@ fn name_of<'a>(g: &'a NewName, decl: &Decl, name: &'a Name) -> &'a Name
 }
 
 /// The choice for the word that declares a declaration.
-pub fn declared(
-    alloc: Global,
-    g: &NewName,
-    decl: &Decl,
-    name: &Name,
-) -> Result<Choice, AllocError>
+pub fn declared(alloc: Global, g: &NewName, decl: &Decl, name: &Name) -> Result<Choice, AllocError>
     ensures { IfOk result (λ h. choice_of h ≡ pure.renamed name.now
         (images.name_to (renaming_of g.now) (decl_of decl.now) name.now)) }
 {

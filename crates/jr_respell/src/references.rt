@@ -39,12 +39,7 @@ fn no_types(alloc: Global) -> Tys
 }
 
 /// Without an operand.
-fn plain(
-    alloc: Global,
-    form: RefForm,
-    asked: &Name,
-    args: Tys,
-) -> Result<Reference, AllocError>
+fn plain(alloc: Global, form: RefForm, asked: &Name, args: Tys) -> Result<Reference, AllocError>
     ensures { IfOk result (λ r. reference_of r ≡ pure.reference form asked.now None args) }
 {
     let asked = Name::new(alloc, asked.as_str())?;
@@ -347,11 +342,7 @@ pub(crate) fn plain_ctor(
 }
 
 /// A class as a type, by its name.
-pub(crate) fn class_asked(
-    alloc: Global,
-    g: &NewName,
-    key: &ClassKey,
-) -> Result<Asked, AllocError>
+pub(crate) fn class_asked(alloc: Global, g: &NewName, key: &ClassKey) -> Result<Asked, AllocError>
     ensures { IfOk result (λ a.
         let k = images.class_to (renaming_of g.now) (class_key_of key.now) in
         asked_of a ≡ asked (pure.reference variant.ClassName k.name None []) (class_decl k)
