@@ -1,9 +1,9 @@
 -- The declaration of a kind that is found.
 use Rattle.std.proofs.Common.{◌≡◌, Some, None, refl, sym, ap, ◌∙◌}
 use Rattle.jr_table.specs.Keys.{ClassKey, FieldKey, MethodKey, CtorKey}
-use Rattle.jr_table.specs.Decls.{class_decl, field_decl, method_decl, constructor_decl, local_decl}
+use Rattle.jr_table.specs.Decls.{Decl, class_decl, field_decl, method_decl, constructor_decl, local_decl}
 use Rattle.jr_table.specs.Found.{Found, one, nothing, many, not_accessible, from_static}
-use Rattle.jr_respell.specs.Finding.{class_found, field_found, method_found, ctor_found}
+use Rattle.jr_respell.specs.Finding.{decl_found, class_found, field_found, method_found, ctor_found}
 
 pub class_is : (f : Found) (k : ClassKey) → Some k ≡ class_found f → f ≡ one (class_decl k)
 class_is (one (class_decl c)) k e = let same : c ≡ k = cc in ap (λ x. one (class_decl x)) same
@@ -60,3 +60,13 @@ ctor_is (from_static a) k e = absurd cc
 
 pub no_ctor : (f : Found) → None ≡ ctor_found f → (k : CtorKey) → f ≡ one (constructor_decl k) → ⊥
 no_ctor f none k is = let e : None ≡ Some k = none ∙ ap ctor_found is in cc
+
+pub decl_is : (f : Found) (d : Decl) → Some d ≡ decl_found f → f ≡ one d
+decl_is (one c) d e = let same : c ≡ d = cc in ap one same
+decl_is nothing d e = absurd cc
+decl_is (many a b) d e = absurd cc
+decl_is (not_accessible a) d e = absurd cc
+decl_is (from_static a) d e = absurd cc
+
+pub no_decl : (f : Found) → None ≡ decl_found f → (d : Decl) → f ≡ one d → ⊥
+no_decl f none d is = let e : None ≡ Some d = none ∙ ap decl_found is in cc

@@ -10,3 +10,7 @@ mod Imaging
 mod Oks
 mod Changing
 mod Above
+mod Variables
+mod Leading
+mod Refuting
+mod TopFounds

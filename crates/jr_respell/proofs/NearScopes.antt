@@ -29,9 +29,9 @@ abbrev pub SameLast : (ls ms : List ScopeLocal) → List ℕ → Type 0
 SameLast ls ms name = last_named name ls ≡ last_named name ms
 
 record Agree (ls ms : List ScopeLocal) (first : List ℕ) (k : ClassKey) : Type 0 where
-  first : SameLast ls ms first
-  name : SameLast ls ms k.name
-  outer : (o : List ℕ) → k.outer ≡ Some o → SameLast ls ms o
+  of_first : SameLast ls ms first
+  of_name : SameLast ls ms k.name
+  of_outer : (o : List ℕ) → k.outer ≡ Some o → SameLast ls ms o
 
 module _ (rows : List Row) (keys : KeysAreFound rows) (s : Scope) (ls ms : List ScopeLocal) where
   same_variable : (name : List ℕ) → SameLast ls ms name → find_variable rows (with_locals s ms) name ≡ find_variable rows (with_locals s ls) name
@@ -95,27 +95,27 @@ module _ (rows : List Row) (keys : KeysAreFound rows) (s : Scope) (ls ms : List 
     asked ref.AsAsked same h = alone d same h
 
     binds : Agree ls ms (asked_word r.form r) (class_of d) → (f : Form) → Binds rows (with_locals s ls) r d f → Binds rows (with_locals s ms) r d f
-    binds agree Asked h = asked r.form agree.first h
+    binds agree Asked h = asked r.form agree.of_first h
     binds agree OnThis (object, v) = (object, value r.args s.class d v)
     binds agree OnSuper (object, p, super, v) = (object, p, super, value r.args p d v)
     binds agree OnCastThis (object, v) = (object, cast r.args s.class d v)
     binds agree OnCastOperand (o, is, v) = (o, is, cast r.args o d v)
-    binds agree OnClass (to, v) = (leads None (class_of d).name (class_of d) agree.name to, through r.args (class_of d) d v)
-    binds agree OnOuterClass (outer, is, to, v) = (outer, is, leads (Some outer) (class_of d).name (class_of d) (agree.outer outer is) to, through r.args (class_of d) d v)
+    binds agree OnClass (to, v) = (leads None (class_of d).name (class_of d) agree.of_name to, through r.args (class_of d) d v)
+    binds agree OnOuterClass (outer, is, to, v) = (outer, is, leads (Some outer) (class_of d).name (class_of d) (agree.of_outer outer is) to, through r.args (class_of d) d v)
     binds agree Class h = h
     binds agree OuterClass h = h
 
 agree_back : (ls ms : List ScopeLocal) (first : List ℕ) (k : ClassKey) → Agree ls ms first k → Agree ms ls first k
 agree_back ls ms first k agree = record {
-  first = sym agree.first;
-  name = sym agree.name;
-  outer = λ o is. sym (agree.outer o is);
+  of_first = sym agree.of_first;
+  of_name = sym agree.of_name;
+  of_outer = λ o is. sym (agree.of_outer o is);
 }
 
 module _ (rows : List Row) (keys : KeysAreFound rows) (near s : Scope) (r : Reference) (d : Decl)
     (is_near : IsNear near s (asked_word r.form r) (class_of d)) where
   agree : Agree near.locals s.locals (asked_word r.form r) (class_of d)
-  agree = record { first = is_near.first; name = is_near.name; outer = is_near.outer }
+  agree = record { of_first = is_near.of_first; of_name = is_near.of_name; of_outer = is_near.of_outer }
 
   there : near ≡ with_locals s near.locals
   there = λ i. record { class = is_near.class i; is_static = is_near.is_static i; locals = near.locals }
@@ -146,7 +146,7 @@ module _ (rows : List Row) (keys : KeysAreFound rows) (near s : Scope) (r : Refe
 
   -- what the first name finds as a variable
   pub near_variable : (f : Found) → FindsVariable rows near (asked_word r.form r) f → FindsVariable rows s (asked_word r.form r) f
-  near_variable f h = variable rows keys s near.locals s.locals (asked_word r.form r) is_near.first f (subst (λ x. FindsVariable rows x (asked_word r.form r) f) there h)
+  near_variable f h = variable rows keys s near.locals s.locals (asked_word r.form r) is_near.of_first f (subst (λ x. FindsVariable rows x (asked_word r.form r) f) there h)
 
 -- what a name finds as a variable that finds the same local in both
 pub same_local_variable : (rows : List Row) (keys : KeysAreFound rows) (near s : Scope) (name : List ℕ) → near.class ≡ s.class → near.is_static ≡ s.is_static

@@ -65,14 +65,14 @@ module _ {X : Type 0} (test : X → Bool) where
 
 module _ (rows : List Row) where
   -- the row of a number that is found
-  row_stands : (d : Decl) (j : ℕ) → number_of rows d ≡ Some j → IsRowOf rows d j
+  pub row_stands : (d : Decl) (j : ℕ) → number_of rows d ≡ Some j → IsRowOf rows d j
   unfolding number_of
   row_stands d j h =
       let found = first_stands (λ (r : Row). same_decl r.decl d) rows j h in
       record { row = found.element; stands = found.stands; declares = (decl_decides found.element.decl d).0 found.passes }
 
   -- a declaration's row is the one that is found
-  the_number : AreRows rows → (d : Decl) (j : ℕ) → IsRowOf rows d j → number_of rows d ≡ Some j
+  pub the_number : AreRows rows → (d : Decl) (j : ℕ) → IsRowOf rows d j → number_of rows d ≡ Some j
   unfolding number_of
   the_number are d j row =
       let first = first_of_any (λ (r : Row). same_decl r.decl d) rows j row.row row.stands ((decl_decides row.row.decl d).1 row.declares) in

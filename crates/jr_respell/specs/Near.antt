@@ -12,9 +12,9 @@ use Rattle.jr_spell.specs.Binds.{front_word, last_word}
 pub record IsNear (near s : Scope) (first : List ℕ) (k : ClassKey) : Type 0 where
   pub class : near.class ≡ s.class
   pub is_static : near.is_static ≡ s.is_static
-  pub first : last_named first near.locals ≡ last_named first s.locals
-  pub name : last_named k.name near.locals ≡ last_named k.name s.locals
-  pub outer : (o : List ℕ) → k.outer ≡ Some o
+  pub of_first : last_named first near.locals ≡ last_named first s.locals
+  pub of_name : last_named k.name near.locals ≡ last_named k.name s.locals
+  pub of_outer : (o : List ℕ) → k.outer ≡ Some o
       → last_named o near.locals ≡ last_named o s.locals
 
 -- the first word of a class's name as it is written

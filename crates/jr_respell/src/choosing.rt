@@ -8,6 +8,7 @@ ghost use Rattle.jr_spell.specs.References.{text_of_operand};
 ghost use Rattle.jr_spell.specs.ReferenceView.{reference_of, operand_of};
 ghost use Rattle.jr_spell.specs.Taken.{IsTaken, NoneBinds};
 ghost use Rattle.jr_rewrite.specs.Respellings.{loses};
+ghost use Rattle.jr_rewrite.specs.Respellings as fronts;
 ghost use Rattle.jr_rename.specs.Spelling as pure;
 ghost use Rattle.jr_respell.specs.ChoiceView.{front_of, choice_of};
 ghost use Rattle.jr_respell.specs.Near.{first_word, asked_word};
@@ -55,7 +56,7 @@ pub(crate) fn lost(at: u32, declaration: Decl, found: Found) -> Choice
 }
 
 fn by_class(alloc: Global, class: &ClassKey) -> Result<ChosenFront, AllocError>
-    ensures { IfOk result (λ f. front_of f ≡ pure.by_class (class_key_of class.now).name) }
+    ensures { IfOk result (λ f. front_of f ≡ fronts.by_class (class_key_of class.now).name) }
 {
     let name = Name::new(alloc, class.name.as_str())?;
     Ok(ChosenFront::ByClass(name))
@@ -63,7 +64,7 @@ fn by_class(alloc: Global, class: &ClassKey) -> Result<ChosenFront, AllocError>
 
 fn by_outer(alloc: Global, outer: &Name, class: &ClassKey) -> Result<ChosenFront, AllocError>
     ensures { IfOk result (λ f. front_of f
-        ≡ pure.by_outer_class outer.now (class_key_of class.now).name) }
+        ≡ fronts.by_outer_class outer.now (class_key_of class.now).name) }
 {
     let outer = Name::new(alloc, outer.as_str())?;
     let name = Name::new(alloc, class.name.as_str())?;
@@ -81,7 +82,7 @@ fn outer_front(alloc: Global, class: &ClassKey) -> Result<ChosenFront, AllocErro
 }
 
 fn by_name(alloc: Global, name: &Name) -> Result<ChosenFront, AllocError>
-    ensures { IfOk result (λ f. front_of f ≡ pure.by_class name.now) }
+    ensures { IfOk result (λ f. front_of f ≡ fronts.by_class name.now) }
 {
     let name = Name::new(alloc, name.as_str())?;
     Ok(ChosenFront::ByClass(name))
@@ -98,14 +99,14 @@ fn outer_type(alloc: Global, class: &ClassKey) -> Result<ChosenFront, AllocError
 }
 
 fn by_cast_this(alloc: Global, class: &ClassKey) -> Result<ChosenFront, AllocError>
-    ensures { IfOk result (λ f. front_of f ≡ pure.by_cast_this (class_key_of class.now).name) }
+    ensures { IfOk result (λ f. front_of f ≡ fronts.by_cast_this (class_key_of class.now).name) }
 {
     let name = Name::new(alloc, class.name.as_str())?;
     Ok(ChosenFront::ByCastThis(name))
 }
 
 fn by_cast(alloc: Global, class: &ClassKey) -> Result<ChosenFront, AllocError>
-    ensures { IfOk result (λ f. front_of f ≡ pure.by_cast (class_key_of class.now).name) }
+    ensures { IfOk result (λ f. front_of f ≡ fronts.by_cast (class_key_of class.now).name) }
 {
     let name = Name::new(alloc, class.name.as_str())?;
     Ok(ChosenFront::ByCast(name))

@@ -67,12 +67,12 @@ fn leading(
     table.keeps_rows();
     lookups_are_exact();
     let image = class_to(alloc, scopes.programs.name, &key)?;
-    let found = variable_to(alloc, scopes, &image.name)?;
-    if is_nothing(&found) {
+    let hiding = variable_to(alloc, scopes, &image.name)?;
+    if is_nothing(&hiding) {
         let found = type_named(alloc, table, &scopes.after, &image.name)?;
         renamed_or_lost(alloc, at, old, key, &image, found)
     } else {
-        Ok(lost(at, Decl::Class(key), found))
+        Ok(lost(at, Decl::Class(key), hiding))
     }
 }
 
@@ -137,12 +137,12 @@ fn leading_in(
     lookups_are_exact();
     let on = class_to(alloc, scopes.programs.name, class)?;
     let image = class_to(alloc, scopes.programs.name, &key)?;
-    let found = field_of(alloc, table, &scopes.after, &on, &image.name)?;
-    if is_nothing(&found) {
+    let hiding = field_of(alloc, table, &scopes.after, &on, &image.name)?;
+    if is_nothing(&hiding) {
         let found = member_type(alloc, table, &scopes.after, &on, &image.name)?;
         renamed_or_lost(alloc, at, old, key, &image, found)
     } else {
-        Ok(lost(at, Decl::Class(key), found))
+        Ok(lost(at, Decl::Class(key), hiding))
     }
 }
 

@@ -1,7 +1,7 @@
 //! The one declaration of a kind that is found.
 ghost use Rattle.std.specs.Prelude.{◌≡◌, ◌↔◌, IsTrue, option_map};
 ghost use Rattle.jr_table.specs.TypeView.{class_key_of};
-ghost use Rattle.jr_table.specs.KeyView.{field_key_of, method_key_of, ctor_key_of};
+ghost use Rattle.jr_table.specs.KeyView.{decl_of, field_key_of, method_key_of, ctor_key_of};
 ghost use Rattle.jr_table.specs.FoundView.{found_of};
 ghost use Rattle.jr_table.specs.Decls.{class_decl};
 ghost use Rattle.jr_table.specs.Found.{one, nothing};
@@ -48,7 +48,8 @@ fn is_decl_of(decl: &Decl, class: &ClassKey) -> bool
     }
 }
 
-fn one_of(found: Found) -> Option<Decl>
+/// The declaration that is found.
+pub(crate) fn decl_found(found: Found) -> Option<Decl>
     ensures { option_map decl_of result ≡ pure.decl_found (found_of found) }
 {
     match found {
@@ -112,7 +113,7 @@ fn as_ctor(decl: Decl) -> Option<CtorKey>
 pub(crate) fn class_found(found: Found) -> Option<ClassKey>
     ensures { option_map class_key_of result ≡ pure.class_found (found_of found) }
 {
-    match one_of(found) {
+    match decl_found(found) {
         None => None,
         Some(decl) => as_class(decl),
     }
@@ -122,7 +123,7 @@ pub(crate) fn class_found(found: Found) -> Option<ClassKey>
 pub(crate) fn field_found(found: Found) -> Option<FieldKey>
     ensures { option_map field_key_of result ≡ pure.field_found (found_of found) }
 {
-    match one_of(found) {
+    match decl_found(found) {
         None => None,
         Some(decl) => as_field(decl),
     }
@@ -132,7 +133,7 @@ pub(crate) fn field_found(found: Found) -> Option<FieldKey>
 pub(crate) fn method_found(found: Found) -> Option<MethodKey>
     ensures { option_map method_key_of result ≡ pure.method_found (found_of found) }
 {
-    match one_of(found) {
+    match decl_found(found) {
         None => None,
         Some(decl) => as_method(decl),
     }
@@ -142,7 +143,7 @@ pub(crate) fn method_found(found: Found) -> Option<MethodKey>
 pub(crate) fn ctor_found(found: Found) -> Option<CtorKey>
     ensures { option_map ctor_key_of result ≡ pure.ctor_found (found_of found) }
 {
-    match one_of(found) {
+    match decl_found(found) {
         None => None,
         Some(decl) => as_ctor(decl),
     }

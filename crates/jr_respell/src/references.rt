@@ -9,7 +9,7 @@ ghost use Rattle.jr_table.specs.Decls.{
 };
 ghost use Rattle.jr_table.specs.TypeView.{class_key_of};
 ghost use Rattle.jr_table.specs.KeyView.{local_key_of, field_key_of, method_key_of, ctor_key_of};
-ghost use Rattle.jr_spell.specs.declared.references.variant.TheVariants as variant;
+ghost use Rattle.jr_spell.specs.declared.references.RefForm.TheVariants as variant;
 ghost use Rattle.jr_spell.specs.ReferenceView.{reference_of};
 ghost use Rattle.jr_rename.specs.Images as images;
 ghost use Rattle.jr_rename.specs.ImageView.{renaming_of};

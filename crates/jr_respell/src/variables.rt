@@ -1,18 +1,16 @@
 //! Variables by their simple names (JLS 6.5.6.1).
-ghost use Rattle.std.specs.Prelude.{◌≡◌, None, IfOk, option_map};
+ghost use Rattle.std.specs.Prelude.{◌≡◌, IfOk, option_map};
 ghost use Rattle.jr_table.specs.Decls.{local_decl};
 ghost use Rattle.jr_table.specs.Found.{one};
-ghost use Rattle.jr_table.specs.KeyView.{decl_of, member_key_of, field_key_of};
+ghost use Rattle.jr_table.specs.KeyView.{decl_of, member_key_of, field_key_of, local_key_of};
 ghost use Rattle.jr_table.specs.FoundView.{found_of};
 ghost use Rattle.jr_table.specs.Lookup.{FindsVariable};
 ghost use Rattle.jr_table.specs.Context.{scope_of};
-ghost use Rattle.jr_locals.specs.Helds.{key_of, last_number};
+ghost use Rattle.jr_locals.specs.Helds.{key_of};
 ghost use Rattle.jr_respell.specs.Scopes.{
   IsKept,
   rows_of,
   naming_of,
-  member_of,
-  locals_in,
   context_of,
   rows_to,
   place_to,
@@ -23,7 +21,7 @@ ghost use Rattle.jr_respell.specs.Chosen as chosen;
 
 use crate::choices::Choice;
 use crate::choosing::{choose, lost};
-use crate::finding::field_found;
+use crate::finding::decl_found;
 use crate::references::{Asked, local_asked, plain_field};
 use crate::scopes::{Scopes, local_name};
 use jr_ast::Name;
@@ -90,17 +88,14 @@ fn local(
     scopes: &Scopes<'_>,
     at: u32,
     old: &Name,
-    number: u32,
+    key: LocalKey,
 ) -> Result<Choice, AllocError>
     requires { IsKept scopes.now }
     ensures { IfOk result (λ h. chosen.LocalSpells (rows_of scopes.now) (naming_of scopes.now)
-        (context_of scopes.now) at old.now (key_of (member_of scopes.now) number)
-        (choice_of h)) }
+        (context_of scopes.now) at old.now (local_key_of key) (choice_of h)) }
 {
     let g = scopes.programs.name;
-    let member = scopes.member.copy(alloc)?;
-    let key = LocalKey { member, number };
-    let name = local_name(g, scopes.member, number, old);
+    let name = local_name(g, &key.member, key.number, old);
     let asked = local_asked(alloc, g, &key, name)?;
     taken_here(alloc, scopes, at, old, &asked, Decl::Local(key))
 }
@@ -141,24 +136,28 @@ pub(crate) fn variable_of(
     }
 }
 
-/// The choice for a name that finds no local.
-fn field_by_name(
+/// The choice for what is found by a simple name.
+fn by_decl(
     alloc: Global,
     scopes: &Scopes<'_>,
     at: u32,
     name: &Name,
+    decl: Decl,
 ) -> Result<Option<Choice>, AllocError>
     requires kept { IsKept scopes.now }
-    requires free { last_number name.now (locals_in scopes.now) ≡ None }
+    requires finds { FindsVariable (rows_of scopes.now) (scope_of (context_of scopes.now)) name.now
+        (one (decl_of decl)) }
     ensures { IfOk result (λ o. chosen.VariableIsChosen (rows_of scopes.now)
         (naming_of scopes.now) (context_of scopes.now) at name.now (option_map choice_of o)) }
 {
     scopes.programs.before.keeps_rows();
     lookups_are_exact();
-    let found = variable_of(alloc, scopes, name)?;
-    match field_found(found) {
-        None => Ok(None),
-        Some(key) => Ok(Some(own_field(alloc, scopes, at, name, key)?)),
+    match decl {
+        Decl::Local(key) => Ok(Some(local(alloc, scopes, at, name, key)?)),
+        Decl::Field(key) => Ok(Some(own_field(alloc, scopes, at, name, key)?)),
+        Decl::Class(_) => Ok(None),
+        Decl::Method(_) => Ok(None),
+        Decl::Ctor(_) => Ok(None),
     }
 }
 
@@ -175,8 +174,9 @@ pub fn variable(
 {
     scopes.programs.before.keeps_rows();
     lookups_are_exact();
-    match scopes.locals.number_named(name) {
-        Some(number) => Ok(Some(local(alloc, scopes, at, name, number)?)),
-        None => field_by_name(alloc, scopes, at, name),
+    let found = variable_of(alloc, scopes, name)?;
+    match decl_found(found) {
+        None => Ok(None),
+        Some(decl) => by_decl(alloc, scopes, at, name, decl),
     }
 }

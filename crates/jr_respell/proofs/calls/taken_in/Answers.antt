@@ -18,7 +18,7 @@ use Rattle.jr_rename.specs.Images.{class_to, field_to, method_to, ctor_to, types
 use Rattle.jr_rename.specs.Spelling.{reference, operand_of, dotted}
 use Rattle.jr_respell.specs.Scopes.{rows_of, naming_of, context_of, rows_to, place_to}
 use Rattle.jr_respell.specs.ChoiceView.{choice_of}
-use Rattle.jr_respell.specs.Taking.{Asked, asked, asked_of}
+use Rattle.jr_respell.specs.Taking.{Asked, asked, asked_of, SpellsAt}
 use Rattle.jr_respell.specs.Chosen as chosen
 use Rattle.jr_lookup.specs.ScopeView as view
 use Rattle.jr_respell.proofs.Above.{super_one}

@@ -1,15 +1,13 @@
-use Rattle.jr_respell.proofs.Growing.{push_image, take_images, map_push}
-use Rattle.jr_respell.proofs.Kept.{moved, moved_old}
-use Rattle.jr_respell.proofs.Spells.{taken_spells, lost_spells, chooses, chooses_none}
-use Rattle.jr_respell.proofs.Founds.{class_is, no_class, field_is, no_field, method_is, no_method, ctor_is, no_ctor}
-use Rattle.jr_respell.proofs.Parents.{the_superclass, no_superclass}
+use Rattle.std.proofs.Common.{◌≡◌, refl, ap, ◌∙◌}
+use Rattle.jr_locals.specs.Helds.{held_of}
+use Rattle.jr_locals.specs.Tracked.{locals_of}
+use Rattle.jr_respell.specs.Scopes.{naming_of, member_of}
+use Rattle.jr_respell.proofs.Growing.{push_image, map_push}
 use Rattle.jr_respell.proofs.scopes.Scopes.push.Goals as goal
 
 pub returns-clause-kept : goal.returns-clause-kept
 returns-clause-kept c =
-    let a = push_image in
-    let b = moved in
-    let d = taken_spells in
-    let e = class_is in
-    let f = the_superclass in
+    let s = c.args.self.now in
+    let kept = c.requires in
+    let a = push_image (naming_of s) (member_of s) (locals_of s.renamed) (locals_of s.locals) in
     ?
