@@ -34,6 +34,10 @@ pub own_last : (s : raw.Scopes) (q : List ℕ) → last_named q (scope_of (conte
 unfolding context_of
 own_last s q = ap (last_named q) (locals_seen (member_of s) (locals_in s)) ∙ last_is (member_of s) q (locals_in s)
 
+pub end : (xs : List ScopeLocal) → xs ++ [] ≡ xs
+end [] = refl
+end (x ∷ xs) = ap (λ ys. x ∷ ys) (end xs)
+
 -- three names, one after the other
 module _ (ls : List ScopeLocal) (first name : List ℕ) (outer : Option (List ℕ)) where
   abbrev one : List ScopeLocal
@@ -50,10 +54,6 @@ module _ (ls : List ScopeLocal) (first name : List ℕ) (outer : Option (List �
 
   sound_two : Sound ls two
   sound_two = sound_step ls one name sound_one
-
-  end : (xs : List ScopeLocal) → xs ++ [] ≡ xs
-  end [] = refl
-  end (x ∷ xs) = ap (λ ys. x ∷ ys) (end xs)
 
   maybe : (q : List ℕ) → last_named q two ≡ last_named q ls → (o : Option (List ℕ)) → last_named q (two ++ if_maybe_found o ls) ≡ last_named q ls
   maybe q found None = ap (last_named q) (end two) ∙ found

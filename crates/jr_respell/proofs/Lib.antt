@@ -10,7 +10,7 @@ mod Imaging
 mod Oks
 mod Changing
 mod Above
-mod Variables
+mod SimpleNames
 mod Leading
 mod Refuting
 mod TopFounds

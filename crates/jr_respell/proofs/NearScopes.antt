@@ -72,7 +72,7 @@ module _ (rows : List Row) (keys : KeysAreFound rows) (s : Scope) (ls ms : List 
 
     alone : (e : Decl) → SameLast ls ms r.asked → BindsAlone rows (with_locals s ls) r d e → BindsAlone rows (with_locals s ms) r d e
     alone (local_decl k) same h = variable r.asked same (one d) h
-    alone (method_decl k) same (object, p, super, v) = (object, p, super, value r.args p d v)
+    alone (method_decl k) same (object, (p, super, v)) = (object, (p, super, value r.args p d v))
     alone (constructor_decl k) same h = constructor (class_of_operand r.operand) h
     alone (class_decl k) same h = absurd h
     alone (field_decl k) same h = absurd h
@@ -80,7 +80,7 @@ module _ (rows : List Row) (keys : KeysAreFound rows) (s : Scope) (ls ms : List 
     asked : (f : RefForm) → SameLast ls ms (asked_word f r) → BindsAsked rows (with_locals s ls) r d f → BindsAsked rows (with_locals s ms) r d f
     asked ref.FieldSimple same h = variable r.asked same (one d) h
     asked ref.FieldOn same (o, is, v) = (o, is, value r.args o d v)
-    asked ref.FieldSuper same (object, p, super, v) = (object, p, super, value r.args p d v)
+    asked ref.FieldSuper same (object, (p, super, v)) = (object, (p, super, value r.args p d v))
     asked ref.ThroughClass same (b, is, w) = (
       b,
       is,
@@ -97,7 +97,7 @@ module _ (rows : List Row) (keys : KeysAreFound rows) (s : Scope) (ls ms : List 
     binds : Agree ls ms (asked_word r.form r) (class_of d) → (f : Form) → Binds rows (with_locals s ls) r d f → Binds rows (with_locals s ms) r d f
     binds agree Asked h = asked r.form agree.of_first h
     binds agree OnThis (object, v) = (object, value r.args s.class d v)
-    binds agree OnSuper (object, p, super, v) = (object, p, super, value r.args p d v)
+    binds agree OnSuper (object, (p, super, v)) = (object, (p, super, value r.args p d v))
     binds agree OnCastThis (object, v) = (object, cast r.args s.class d v)
     binds agree OnCastOperand (o, is, v) = (o, is, cast r.args o d v)
     binds agree OnClass (to, v) = (leads None (class_of d).name (class_of d) agree.of_name to, through r.args (class_of d) d v)

@@ -43,4 +43,4 @@ pub returns-in_ok-name-in-Some : goal.returns-in_ok-name-in-Some
 returns-in_ok-name-in-Some c =
     let rows = c.args.table.now in
     let name = c.args.name.now in
-    subst (λ n. TopFinds rows name (one (top_class n))) (sym c.in_ok-name-in-Some.ensures) (a_top rows name c.in-Some.field-0 c.in-Some.ensures)
+    subst (λ n. TopFinds rows name (one (top_class n))) (sym (c.in_ok-name-in-Some.ensures ∙ c.as_str.ensures)) (a_top rows name c.in-Some.field-0 c.in-Some.ensures)

@@ -34,7 +34,7 @@ use Rattle.jr_locals.specs.Helds.{key_of}
 use Rattle.jr_rename.specs.Images.{member_to, local_to, name_to}
 use Rattle.jr_respell.specs.Scopes.{member_of, locals_in}
 use Rattle.jr_respell.proofs.Kept.{image_last, own_last, bare_to, bare_of}
-use Rattle.jr_respell.proofs.Variables.{finds_local, finds_bare}
+use Rattle.jr_respell.proofs.SimpleNames.{finds_local, finds_bare}
 use Rattle.jr_respell.proofs.Spells.{taken_spells, lost_spells}
 use Rattle.jr_respell.proofs.variables.variable_to.Goals as goal
 
