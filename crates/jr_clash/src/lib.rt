@@ -1,0 +1,6 @@
+//! Declarations with which a new name collides.
+#![tactic(auto)]
+
+mod clashes;
+
+pub use clashes::clash;
