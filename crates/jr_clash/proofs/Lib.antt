@@ -1,0 +1,12 @@
+mod Nowhere
+mod Least
+mod Contexts
+mod WalkLaws
+mod NamedLaws
+mod Scoping
+mod Params
+mod Leaves
+mod Codes
+mod Parts
+mod Programs
+mod RowLaws

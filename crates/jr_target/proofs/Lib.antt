@@ -1,0 +1,6 @@
+mod Nowhere
+mod SearchLaws
+mod Loops
+mod Declaring
+mod Finding
+mod Asking

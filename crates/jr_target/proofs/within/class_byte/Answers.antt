@@ -1,0 +1,7 @@
+use Rattle.std.proofs.Common.{sym, ap}
+use Rattle.jr_ast.specs.Marks.{class_mark}
+use Rattle.jr_ast.proofs.Rows.{class_of-out}
+use Rattle.jr_target.proofs.within.class_byte.Goals as goal
+
+pub returns : goal.returns
+returns c = sym (ap (λ d. (class_mark d).from) (class_of-out _ c.args.class.now))
