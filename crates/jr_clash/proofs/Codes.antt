@@ -20,6 +20,9 @@ use Rattle.jr_clash.proofs.Params.{ParamNames, ParamMeets, params_next, params_n
 use Rattle.jr_clash.proofs.Scoping.{stmts_map, stmts_of, stmts_scoped}
 use Rattle.jr_clash.proofs.Leaves.{Leaf, stmts_leaf, at_leaf}
 
+from_zero : (n : ℕ) → n ≡ 0 + n
+from_zero n = omega arith
+
 module _ {A : Type 0} (begins : A → ℕ → ℕ) (is_static : Bool) (ps : List (syntax.Param A)) (base : ℕ) (body : statement.Stmts A) where
   -- what is known in front of the body of a member
   abbrev known : MemberKey → Context
@@ -76,7 +79,8 @@ module _ {A : Type 0} (begins : A → ℕ → ℕ) (is_static : Bool) (ps : List
       scoped name (i, l, at, is, named) =
           let r = param_at m 0 ps (types_of m) i l at in
           let key : numbered m (0 + i) ≡ k = sym r.2 ∙ is in
-          let place : i ≡ k.number = ap (λ (z : LocalKey). z.number) key in
+          let e = ap (λ (z : LocalKey). z.number) key in
+          let place : i ≡ k.number = omega (arith, e) in
           inl (sym (ap (λ (z : LocalKey). z.member) key), (r.0, subst (λ (n : ℕ). slice_get ps n ≡ Some r.0) place r.1, sym r.3 ∙ named))
 
   -- ---- of one local and a name
@@ -101,7 +105,7 @@ module _ {A : Type 0} (begins : A → ℕ → ℕ) (is_static : Bool) (ps : List
     next_is = let e = params_next k new is_param types start ps in omega (arith, e)
 
     pub code_named : CodeNames k.member k new → walk.is_named ≡ true
-    code_named (inl h) = stmts_stay begins k new before body (params_named k new is_param types start ps (k.number, h.1.0, h.1.1, refl, h.1.2))
+    code_named (inl h) = stmts_stay begins k new before body (params_named k new is_param types start ps (k.number, h.1.0, h.1.1, from_zero k.number, h.1.2))
     code_named (inr h) = stmts_named begins k new before (known k.member) base body (subst (λ (n : ℕ). StmtsName begins k new n (known k.member) base body) (sym next_is) h)
 
     pub code_names : walk.is_named ≡ true → CodeNames k.member k new
@@ -137,7 +141,7 @@ module _ {A : Type 0} (begins : A → ℕ → ℕ) (is_static : Bool) (ps : List
         (other, (q.0.name.text, inl (inl (refl, of, (q.0, q.1, refl), (p, subst (λ (n : ℕ). slice_get ps n ≡ Some p) place at, named)))))
 
     meets_param : (j : LocalKey) (old : List ℕ) → k ≢ j → OfParameters begins ps k.member k old j new → ParamMeets k new is_param types 0 ps j
-    meets_param j old other (here, of, (q, at, was), (p, at', named)) = (other, is_there (length ps) (slice_get_within ps k.number q at), of, (j.number, p, at', refl, named))
+    meets_param j old other (here, of, (q, at, was), (p, at', named)) = (other, is_there (length ps) (slice_get_within ps k.number q at), of, (j.number, p, at', from_zero j.number, named))
 
     abbrev Meets : ℕ → LocalKey → Type 0
     Meets n j = StmtsMeet begins k new j n (known k.member) base body

@@ -46,17 +46,17 @@ pub is_number : (m n : ℕ) → m ≡ n → (m == n) ≡ true
 is_number m n e = (Decides-eqb m n).1 e
 
 pub not_number : (m n : ℕ) → not (m == n) ≡ true → m ≡ n → ⊥
-not_number m n e is = by (m == n) refl e (is_number m n is)
+not_number m n e is = by (m == n) e (is_number m n is)
   where
-    by : (b : Bool) → (m == n) ≡ b → not (m == n) ≡ true → (m == n) ≡ true → ⊥
-    by true f g h = absurd cc
-    by false f g h = absurd cc
+    by : (b : Bool) → not b ≡ true → b ≡ true → ⊥
+    by true g h = absurd cc
+    by false g h = absurd cc
 
 pub number_not : (m n : ℕ) → (m ≡ n → ⊥) → not (m == n) ≡ true
-number_not m n no = by (m == n) refl
+number_not m n lacks = by (m == n) refl
   where
     by : (b : Bool) → (m == n) ≡ b → not b ≡ true
-    by true f = absurd (no (number_is m n f))
+    by true f = absurd (lacks (number_is m n f))
     by false f = refl
 
 -- ---- one declaration
@@ -113,15 +113,16 @@ module _ {A : Type 0} (begins : A → ℕ → ℕ) (k : LocalKey) (new : List �
       back j (inr (other, (suc i, x, e, is, named))) = inr (other, (i, x, e, is, named))
 
   -- whether the local is in scope
+  held_more : (l : Local) (ls : List Local) → l.key.member ≡ k.member → (has_number k.number (map held_local ls) ≡ true → (name : List ℕ) × Among ls k name)
+      → (b : Bool) → (l.key.number == k.number) ≡ b → (b || has_number k.number (map held_local ls)) ≡ true → (name : List ℕ) × Among (l ∷ ls) k name
+  held_more l ls of go true is e = (l.name, (0, l, refl, (λ i. record { member = of i; number = number_is l.key.number k.number is i }), refl))
+  held_more l ls of go false is e =
+      let r = go e in
+      (r.0, (suc r.1.0, r.1.1, r.1.2, r.1.3, r.1.4))
+
   held_among : (ls : List Local) → ((i : ℕ) (l : Local) → slice_get ls i ≡ Some l → l.key.member ≡ k.member) → has_number k.number (map held_local ls) ≡ true → (name : List ℕ) × Among ls k name
   held_among [] each e = absurd cc
-  held_among (l ∷ ls) each e = by (l.key.number == k.number) refl e
-    where
-      by : (b : Bool) → (l.key.number == k.number) ≡ b → (b || has_number k.number (map held_local ls)) ≡ true → (name : List ℕ) × Among (l ∷ ls) k name
-      by true is e = (l.name, (0, l, refl, (λ i. record { member = each 0 l refl i; number = number_is l.key.number k.number is i }), refl))
-      by false is e =
-          let r = held_among ls (λ i x h. each (suc i) x h) e in
-          (r.0, (suc r.1.0, r.1.1, r.1.2, r.1.3, r.1.4))
+  held_among (l ∷ ls) each e = held_more l ls (each 0 l refl) (λ h. held_among ls (λ i x g. each (suc i) x g) h) (l.key.number == k.number) refl e
 
   or_true : (a b : Bool) → b ≡ true → (a || b) ≡ true
   or_true true b e = refl
@@ -159,16 +160,16 @@ module _ {A : Type 0} (begins : A → ℕ → ℕ) (k : LocalKey) (new : List �
         back j (other, (old, inr (declared, named, there))) = absurd (other (sym (key_is is) ∙ declared))
 
     other_met : (n ≡ k.number → ⊥) → LeastOf k.member (λ j. MeetsAt j n c s) (if_so (same_name w.text new && has_number k.number scope) n)
-    other_met no = least_one k.member (λ j. MeetsAt j n c s) (same_name w.text new && has_number k.number scope) n to back
+    other_met lacks = least_one k.member (λ j. MeetsAt j n c s) (same_name w.text new && has_number k.number scope) n to back
       where
         to : (same_name w.text new && has_number k.number scope) ≡ true → MeetsAt (numbered k.member n) n c s
         to is =
             let r = both_true (same_name w.text new) (has_number k.number scope) is in
             let h = held_among c.locals beside.each (ap (has_number k.number) beside.locals ∙ r.1) in
-            (λ same. no (ap (λ (x : LocalKey). x.number) (sym same)), (h.0, inr ((λ i. record { member = beside.member i; number = n }), same_to w.text new r.0, h.1)))
+            (λ same. lacks (ap (λ (x : LocalKey). x.number) (sym same)), (h.0, inr ((λ i. record { member = beside.member i; number = n }), same_to w.text new r.0, h.1)))
 
         back : (j : LocalKey) → MeetsAt j n c s → ((same_name w.text new && has_number k.number scope) ≡ true) × (j.number ≡ n)
-        back j (other, (old, inl (declared, named, there))) = absurd (no (ap (λ (x : LocalKey). x.number) declared))
+        back j (other, (old, inl (declared, named, there))) = absurd (lacks (ap (λ (x : LocalKey). x.number) declared))
         back j (other, (old, inr (declared, named, there))) = (
           true_both (same_name w.text new) (has_number k.number scope) (to_same w.text new named) (ap (has_number k.number) (sym beside.locals) ∙ among_held c.locals old there),
           ap (λ (x : LocalKey). x.number) (sym declared),

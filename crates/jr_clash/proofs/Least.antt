@@ -34,4 +34,4 @@ module _ (m : MemberKey) where
 
   -- where none has the other
   pub least_left : (P Q : LocalKey → Type 0) (o : Option ℕ) → ((j : LocalKey) → Q j → ⊥) → LeastOf P o → LeastOf (λ j. P j ⊎ Q j) o
-  least_left P Q o no h = least_to P (λ j. P j ⊎ Q j) o (λ j p. inl p) (λ j q. elim q [ inl p ↦ p | inr q ↦ absurd (no j q) ]) h
+  least_left P Q o lacks h = least_to P (λ j. P j ⊎ Q j) o (λ j p. inl p) (λ j q. elim q [ inl p ↦ p | inr q ↦ absurd (lacks j q) ]) h

@@ -10,3 +10,4 @@ mod Codes
 mod Parts
 mod Programs
 mod RowLaws
+mod Listing

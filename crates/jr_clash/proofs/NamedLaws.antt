@@ -114,12 +114,12 @@ module _ {A : Type 0} (begins : A → ℕ → ℕ) (k : LocalKey) (new : List �
 
     pub stmt_names : (w : Walk) (c : Context) (base : ℕ) (s : statement.Stmt A) → c.member ≡ k.member → (in_stmt a w s).is_named ≡ true → (w.is_named ≡ true) ⊎ StmtNames w.next c base s
     stmt_names w c base (statement.local m f t i e) of h = elim (either w.is_named (is_declared a w.next i.text) h) [
-      inl g ↦ inl g
+      | inl g ↦ inl g
       | inr g ↦ (let r = declared_to begins k new w.next i.text g in inr (inl ((λ j. record { member = of j; number = r.0 j }), r.1)))
     ]
     stmt_names w c base (statement.eval m e) of h = inl h
     stmt_names w c base (statement.branch m e x other) of h = elim (else_names (restored w (in_stmt a w x)) c (begins m base) other of h) [
-      inl g ↦ (elim (stmt_names w c (begins m base) x of g) [ inl y ↦ inl y | inr y ↦ inr (inr (inr (inl y))) ])
+      | inl g ↦ (elim (stmt_names w c (begins m base) x of g) [ inl y ↦ inl y | inr y ↦ inr (inr (inr (inl y))) ])
       | inr g ↦ inr (inr (inr (inr (subst (λ (n : ℕ). ElseNames n c (begins m base) other) (stmt_next a w x) g))))
     ]
     stmt_names w c base (statement.loop m e x) of h = elim (stmt_names w c (begins m base) x of h) [ inl y ↦ inl y | inr y ↦ inr (inr (inr y)) ]
@@ -135,6 +135,6 @@ module _ {A : Type 0} (begins : A → ℕ → ℕ) (k : LocalKey) (new : List �
     pub stmts_names : (w : Walk) (c : Context) (base : ℕ) (s : statement.Stmts A) → c.member ≡ k.member → (in_stmts a w s).is_named ≡ true → (w.is_named ≡ true) ⊎ StmtsName w.next c base s
     stmts_names w c base statement.end of h = inl h
     stmts_names w c base (statement.more x xs) of h = elim (stmts_names (in_stmt a w x) (after w.next c x) base xs (after_member w.next c x ∙ of) h) [
-      inl g ↦ (elim (stmt_names w c base x of g) [ inl y ↦ inl y | inr y ↦ inr (inl y) ])
+      | inl g ↦ (elim (stmt_names w c base x of g) [ inl y ↦ inl y | inr y ↦ inr (inl y) ])
       | inr g ↦ inr (inr (subst (λ (n : ℕ). StmtsName n (after w.next c x) base xs) (stmt_next a w x) g))
     ]

@@ -71,7 +71,7 @@ module _ {A : Type 0} (k : LocalKey) (new : List ℕ) (is_param : Bool) (types :
     where
       by : ((w.is_named || is_declared a w.next p.name.text) ≡ true) ⊎ ParamNames (suc w.next) ps → (w.is_named ≡ true) ⊎ ParamNames w.next (p ∷ ps)
       by (inl g) = elim (either w.is_named (is_declared a w.next p.name.text) g) [
-        inl y ↦ inl y
+        | inl y ↦ inl y
         | inr y ↦ (let r = declared_to (λ (m : A) (b : ℕ). b) k new w.next p.name.text y in let n = r.0 in inr (0, p, refl, omega (arith, n), r.1))
       ]
       by (inr (x, q, e, is, named)) = inr (suc x, q, e, omega (arith, is), named)
@@ -123,6 +123,9 @@ module _ {A : Type 0} (k : LocalKey) (new : List ℕ) (is_param : Bool) (types :
 
 -- ---- the context behind the parameters
 
+from_zero : (n : ℕ) → n ≡ 0 + n
+from_zero n = omega arith
+
 pub param_at : {A : Type 0} (m : MemberKey) (n : ℕ) (ps : List (syntax.Param A)) (ts : List Ty) (i : ℕ) (l : Local) → slice_get (parameters m n ps ts) i ≡ Some l
     → (p : syntax.Param A) × (slice_get ps i ≡ Some p) × (l.key ≡ numbered m (n + i)) × (l.name ≡ p.name.text)
 param_at m n [] ts i l e = absurd (none-some l e)
@@ -140,6 +143,6 @@ pub params_beside : {A : Type 0} (k : LocalKey) (new : List ℕ) (is_param is_st
     → Beside k.member (with_parameters k.member is_static ps) (in_params (asked_local k new) is_param (length (types_of k.member)) start ps).scope
 params_beside k new is_param is_static ps = record {
   member = refl;
-  locals = sym (params_scope k new is_param (length (types_of k.member)) k.member start ps (types_of k.member) refl);
+  locals = sym (params_scope k new is_param (length (types_of k.member)) k.member start ps (types_of k.member) (from_zero (length (types_of k.member))));
   each = λ i l e. let r = param_at k.member 0 ps (types_of k.member) i l e in ap (λ (x : LocalKey). x.member) r.2;
 }

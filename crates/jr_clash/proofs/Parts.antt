@@ -138,8 +138,8 @@ module _ {A : Type 0} (begins : A → ℕ → ℕ) where
     part_names base (member_part (syntax.inner m of)) h = absurd cc
 
     nothing : (base : ℕ) (part : Part A) → ((i j : LocalKey) (x y : List ℕ) → IsUnder begins i x j y k.member base part → ⊥) → LeastOf k.member (PartMeets base part) None
-    nothing base part no j (other, (old, inl h)) = no k j old new h
-    nothing base part no j (other, (old, inr h)) = no j k new old h
+    nothing base part lacks j (other, (old, inl h)) = lacks k j old new h
+    nothing base part lacks j (other, (old, inr h)) = lacks j k new old h
 
     method_to : (base : ℕ) (m : A) (mods : List (syntax.Modifier A)) (t : Option (tree.TypeName A)) (w : tree.Word A) (ps : List (syntax.Param A)) (body : statement.Stmts A) (j : LocalKey)
         → CodeMeets begins (is_static_member begins mods) ps (begins m base) body k new j → PartMeets base (member_part (syntax.method m mods t w ps body)) j

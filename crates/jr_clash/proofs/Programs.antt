@@ -22,7 +22,7 @@ module _ {A : Type 0} (begins : A → ℕ → ℕ) (rows : List Row) (units : Li
   -- ---- no member has the key
 
   pub none_told : ((w : WrittenMember A) → Contains ws w → w.key ≡ k.member → ⊥) → Tells begins rows units target new None
-  none_told no = record {
+  none_told lacks = record {
     other = λ h. unnamed new h;
     alone = λ d h. unnamed h.1.old h.1.named;
   }
@@ -31,7 +31,7 @@ module _ {A : Type 0} (begins : A → ℕ → ℕ) (rows : List Row) (units : Li
       unnamed name h =
           let r = member_written begins units (λ i base part. HasLocal begins k name i base part) h.0 h.1 in
           let w = are.all r.0 h.0 r.1 r.2 r.3 in
-          no w.0 w.1 (w.3 ∙ sym (part_of begins k name h.0 r.1 r.2 r.4))
+          lacks w.0 w.1 (w.3 ∙ sym (part_of begins k name h.0 r.1 r.2 r.4))
 
   -- ---- one has it
 
@@ -83,8 +83,8 @@ module _ {A : Type 0} (begins : A → ℕ → ℕ) (rows : List Row) (units : Li
 
     by_least : (IsLocalNamed begins rows units k new → ⊥) → (o : Option ℕ) → LeastOf k.member (PartMeets begins k new w.base w.part) o
         → Tells begins rows units target new (option_map (λ (n : ℕ). local_decl (record { member = k.member; number = n })) o)
-    by_least no None h = record { other = no; alone = λ d c. h c.0 (clashes_meets c.0 c.1) }
-    by_least no (Some n) h = inr (no, record {
+    by_least lacks None h = record { other = lacks; alone = λ d c. h c.0 (clashes_meets c.0 c.1) }
+    by_least lacks (Some n) h = inr (lacks, record {
       collides = (numbered k.member n, meets_clashes (numbered k.member n) h.0, refl);
       place = n;
       stands = refl;

@@ -41,18 +41,18 @@ module _ {A : Type 0} (begins : A → ℕ → ℕ) (rows : List Row) (units : Li
   -- ---- places
 
   pub place_of : (d : Decl) (i : ℕ) → (IsLocal d → ⊥) → IsRowOf rows d i → HasPlace begins rows units d (suc i)
-  place_of (class_decl k) i no row = inl (i, row, refl)
-  place_of (field_decl k) i no row = inl (i, row, refl)
-  place_of (method_decl k) i no row = inl (i, row, refl)
-  place_of (constructor_decl k) i no row = inl (i, row, refl)
-  place_of (local_decl k) i no row = absurd (no (k, refl))
+  place_of (class_decl k) i lacks row = inl (i, row, refl)
+  place_of (field_decl k) i lacks row = inl (i, row, refl)
+  place_of (method_decl k) i lacks row = inl (i, row, refl)
+  place_of (constructor_decl k) i lacks row = inl (i, row, refl)
+  place_of (local_decl k) i lacks row = absurd (lacks (k, refl))
 
   pub row_of : (d : Decl) (n : ℕ) → (IsLocal d → ⊥) → HasRow begins rows units d → HasPlace begins rows units d n → (i : ℕ) × IsRowOf rows d i × (n ≡ suc i)
-  row_of (class_decl k) n no has h = elim h [ inl r ↦ r | inr r ↦ absurd (r.0 has) ]
-  row_of (field_decl k) n no has h = elim h [ inl r ↦ r | inr r ↦ absurd (r.0 has) ]
-  row_of (method_decl k) n no has h = elim h [ inl r ↦ r | inr r ↦ absurd (r.0 has) ]
-  row_of (constructor_decl k) n no has h = elim h [ inl r ↦ r | inr r ↦ absurd (r.0 has) ]
-  row_of (local_decl k) n no has h = absurd (no (k, refl))
+  row_of (class_decl k) n lacks has h = elim h [ inl r ↦ r | inr r ↦ absurd (r.0 has) ]
+  row_of (field_decl k) n lacks has h = elim h [ inl r ↦ r | inr r ↦ absurd (r.0 has) ]
+  row_of (method_decl k) n lacks has h = elim h [ inl r ↦ r | inr r ↦ absurd (r.0 has) ]
+  row_of (constructor_decl k) n lacks has h = elim h [ inl r ↦ r | inr r ↦ absurd (r.0 has) ]
+  row_of (local_decl k) n lacks has h = absurd (lacks (k, refl))
 
   -- ---- fields and methods
 
@@ -88,23 +88,36 @@ module _ {A : Type 0} (begins : A → ℕ → ℕ) (rows : List Row) (units : Li
 
   pub member_tells : (target : Decl) (renamed : List Decl) → AreRenamed rows target renamed → IsOfMember target → (name_of target ≡ new → ⊥)
       → (o : Option Decl) → IsFirstOf rows (OneTakesPlace renamed new) o → Tells begins rows units target new o
-  member_tells (class_decl k) renamed are is no o h = absurd is
-  member_tells (field_decl k) renamed are is no o h = members_tell (field_decl k) renamed are (λ d x. x) (λ d x. x) no o h
-  member_tells (method_decl k) renamed are is no o h = members_tell (method_decl k) renamed are (λ d x. x) (λ d x. x) no o h
-  member_tells (constructor_decl k) renamed are is no o h = members_tell (constructor_decl k) renamed are (λ d x. x) (λ d x. x) no o h
-  member_tells (local_decl k) renamed are is no o h = absurd is
+  member_tells (class_decl k) renamed are is lacks o h = absurd is
+  member_tells (field_decl k) renamed are is lacks o h = members_tell (field_decl k) renamed are (λ d x. x) (λ d x. x) lacks o h
+  member_tells (method_decl k) renamed are is lacks o h = members_tell (method_decl k) renamed are (λ d x. x) (λ d x. x) lacks o h
+  member_tells (constructor_decl k) renamed are is lacks o h = members_tell (constructor_decl k) renamed are (λ d x. x) (λ d x. x) lacks o h
+  member_tells (local_decl k) renamed are is lacks o h = absurd is
 
   -- the declaration itself has the name
-  pub itself_told : (target : Decl) → (IsLocal target → ⊥) → name_of target ≡ new → Tells begins rows units target new (Some target)
-  itself_told (class_decl k) no e = inl (e, refl)
-  itself_told (field_decl k) no e = inl (e, refl)
-  itself_told (method_decl k) no e = inl (e, refl)
-  itself_told (constructor_decl k) no e = inl (e, refl)
-  itself_told (local_decl k) no e = absurd (no (k, refl))
+  itself_told : (target : Decl) → (IsLocal target → ⊥) → name_of target ≡ new → Tells begins rows units target new (Some target)
+  itself_told (class_decl k) lacks e = inl (e, refl)
+  itself_told (field_decl k) lacks e = inl (e, refl)
+  itself_told (method_decl k) lacks e = inl (e, refl)
+  itself_told (constructor_decl k) lacks e = inl (e, refl)
+  itself_told (local_decl k) lacks e = absurd (lacks (k, refl))
+
+  is_no_local : (d : Decl) → IsOfMember d → IsLocal d → ⊥
+  is_no_local (class_decl k) is l = is
+  is_no_local (field_decl k) is (j, e) = absurd cc
+  is_no_local (method_decl k) is (j, e) = absurd cc
+  is_no_local (constructor_decl k) is (j, e) = absurd cc
+  is_no_local (local_decl k) is l = is
+
+  pub member_named : (target : Decl) → IsOfMember target → name_of target ≡ new → (o : Option Decl) → o ≡ Some target → Tells begins rows units target new o
+  member_named target is e o same = subst (λ (x : Option Decl). Tells begins rows units target new x) (sym same) (itself_told target (is_no_local target is) e)
+
+  pub class_named : (target : Decl) (k : ClassKey) → target ≡ class_decl k → name_of target ≡ new → (o : Option Decl) → o ≡ Some target → Tells begins rows units target new o
+  class_named target k is e o same = subst (λ (x : Option Decl). Tells begins rows units target new x) (sym same) (itself_told target (reserved_no_local target k is) e)
 
   -- ---- classes
 
-  module _ (k : ClassKey) (no : k.name ≡ new → ⊥) where
+  module _ (k : ClassKey) (lacks : k.name ≡ new → ⊥) where
     abbrev Has : Decl → Type 0
     Has d = ClassClashes k new d
 
@@ -113,7 +126,7 @@ module _ {A : Type 0} (begins : A → ℕ → ℕ) (rows : List Row) (units : Li
 
     -- where that class has a row, it clashes as every class does
     runnable_clashes : (d : Decl) → d ≡ class_decl runnable → new ≡ codes "Runnable" → Has d
-    runnable_clashes d e is = subst Has (sym e) (sym is, λ same. no (ap (λ (c : ClassKey). c.name) (sym same) ∙ sym is))
+    runnable_clashes d e is = subst Has (sym e) (sym is, λ same. lacks (ap (λ (c : ClassKey). c.name) (sym same) ∙ sym is))
 
     row_clashes : ((e : Decl) → IsReservedHere rows new e → ⊥) → (d : Decl) → HasRow begins rows units d → Collides begins rows units (class_decl k) new d → Has d
     row_clashes free d has (inl h) = runnable_clashes d h.0 h.1
@@ -140,18 +153,18 @@ module _ {A : Type 0} (begins : A → ℕ → ℕ) (rows : List Row) (units : Li
     before (local_decl c) e none = absurd cc
 
     pub class_tells : (o : Option Decl) → TellsClass rows k new o → Tells begins rows units (class_decl k) new o
-    class_tells None (free, none) = record { other = no; alone = alone }
+    class_tells None (free, none) = record { other = lacks; alone = alone }
       where
         alone : (d : Decl) → Collides begins rows units (class_decl k) new d → ⊥
         alone d (inl h) = free d (h.0, h.1, λ n row. none d n row (runnable_clashes d h.0 h.1))
         alone d (inr h) = none d h.0.0 h.0.1 h.1
-    class_tells (Some d) (inl reserved) = inr (no, record {
+    class_tells (Some d) (inl reserved) = inr (lacks, record {
       collides = inl (reserved.0, reserved.1);
       place = 0;
       stands = before d reserved.0 (λ r. reserved.2 r.0 r.1);
       first = λ e n c at. omega arith;
     })
-    class_tells (Some d) (inr (free, h)) = inr (no, record {
+    class_tells (Some d) (inr (free, h)) = inr (lacks, record {
       collides = inr ((h.number, h.stands), h.has);
       place = suc h.number;
       stands = place_of d h.number (class_no_local k new d h.has) h.stands;

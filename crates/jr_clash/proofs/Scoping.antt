@@ -108,7 +108,7 @@ module _ {A : Type 0} (begins : A → ℕ → ℕ) (k : LocalKey) (Whole : List 
       → ((name : List ℕ) → Declared name n c base (statement.local m g t w e) → Whole name) → Scoped c → Scoped (after n c (statement.local m g t w e))
   unfolding InStmt InElse InStmts
   scoped_local n c base m g t w e up scoped name (i, l, at, is, named) = elim (last_or c.locals (local_of c n g t w) i l at) [
-    inl h ↦ scoped name (i, l, h, is, named)
+    | inl h ↦ scoped name (i, l, h, is, named)
     | inr h ↦ up name (inl (ap (λ (x : Local). x.key) h ∙ is, ap (λ (x : Local). x.name) h ∙ named))
   ]
 

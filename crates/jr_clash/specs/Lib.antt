@@ -3,3 +3,4 @@ pub mod Walks
 pub mod LocalAnswers
 pub mod Answered
 pub mod RowAnswers
+pub mod Nothing

@@ -5,6 +5,7 @@
 #![tactic(auto)]
 
 mod clashes;
+mod laws;
 mod locals;
 mod rows;
 mod walks;

@@ -114,7 +114,8 @@ pub(crate) fn local_clash<A: Mark, V: View<A>>(
     view.keeps_program();
     members_are_written::<A>();
     let members = written_members(alloc, view.table(), view.units())?;
-    match member_of_key(members.as_slice(), &target.member) {
+    let found = member_of_key(members.as_slice(), &target.member);
+    match found {
         None => Ok(None),
         Some(written) => told_in(alloc, written, target, new),
     }

@@ -1,5 +1,5 @@
 -- The written members of a file, asked one after another, have what its words name.
-use Rattle.std.proofs.Common.{◌≡◌, ℕ, zero, suc, ◌+◌, ◌<◌, ◌≤◌, List, [], ◌∷◌, Option, Some, None, Bool, true, false, length, map, get_or, refl, sym, ap, subst, ◌∙◌, inl, inr, arith}
+use Rattle.std.proofs.Common.{◌≡◌, ℕ, zero, suc, ◌+◌, ◌-◌, ◌<◌, ◌≤◌, List, [], ◌∷◌, Option, Some, None, Bool, true, false, length, map, get_or, refl, sym, ap, subst, ◌∙◌, inl, inr, arith}
 use Rattle.std.specs.Prelude.{◌⊎◌, ◌↔◌, slice_get, Contains, option_map}
 use Rattle.std.proofs.lemmas.Option.{none-some, same_Some, slice_get-map, slice_get_within, slice_get-get_or, get_or_from_slice_get}
 use Rattle.jr_text.specs.declared.spans.Span.{Span}
@@ -43,7 +43,7 @@ contains_at xs x (k, lt, is) = (k, slice_get-get_or xs k x lt ∙ ap Some is)
 pub at_contains : {X : Type 0} (xs : List X) (n : ℕ) (x : X) → slice_get xs n ≡ Some x → Contains xs x
 at_contains xs n x e = (n, slice_get_within xs n x e, get_or_from_slice_get xs n x x e)
 
-map_some : {X Y : Type 0} (f : X → Y) (o : Option X) (y : Y) → option_map f o ≡ Some y → (x : X) × (o ≡ Some x) × (f x ≡ y)
+pub map_some : {X Y : Type 0} (f : X → Y) (o : Option X) (y : Y) → option_map f o ≡ Some y → (x : X) × (o ≡ Some x) × (f x ≡ y)
 map_some f None y e = absurd (none-some y e)
 map_some f (Some x) y e = (x, refl, same_Some (f x) y e)
 
@@ -156,7 +156,7 @@ module _ (p : Program Span) (is : IsProgram itself (λ m b. Unit {0}) p) (writte
     AllNames d = Names begins p.rows p.super_at units file at d
 
     listed_names : (d : Decl) → HasListed p members file at d → AllNames d
-    listed_names d (n, w, stands, of, b, there, has) =
+    listed_names d (n, (w, stands, (of, (b, there, has)))) =
         let e : slice_get ws n ≡ Some (written_of w) = ap (λ (xs : List (WrittenMember Span)). slice_get xs n) (sym are) ∙ slice_get-map written_of members n ∙ ap (option_map written_of) stands in
         let q = bound_at p.rows p.super_at ws p.bounds is.bound n (written_of w) e in
         let known = subst (λ (x : Bound). IsBound begins p.rows (p.super_at (written_of w).key) (written_of w).key (written_of w).base (written_of w).part x) (same_Some q.0 b (sym q.1 ∙ there)) q.2 in
@@ -179,20 +179,8 @@ module _ (p : Program Span) (is : IsProgram itself (λ m b. Unit {0}) p) (writte
         let q = bound_at p.rows p.super_at ws p.bounds is.bound there.0 w there.1 in
         let found = has_found w m.1 q.0 q.2 at d has own in
         let r = map_some written_of (slice_get members there.0) w (sym (slice_get-map written_of members there.0) ∙ ap (λ (xs : List (WrittenMember Span)). slice_get xs there.0) are ∙ there.1) in
-        (
-          found.0,
-          (
-            there.0,
-            (
-              r.0,
-              (
-                r.1,
-                subst (λ (x : WrittenMember Span). HasInFile p file at there.0 x found.0) (sym r.2) (m.2, (q.0, (q.1, found.1))),
-              ),
-            ),
-          ),
-          found.2,
-        )
+        let held = subst (λ (x : WrittenMember Span). HasInFile p file at there.0 x found.0) (sym r.2) (m.2, (q.0, q.1, found.1)) in
+        (found.0, (there.0, (r.0, r.1, held)), found.2)
 
     pub listed_finds : (o : Option Decl) → Finds p.rows (HasListed p members file at) o → Finds p.rows (Names begins p.rows p.super_at (units_of p) file at) o
     listed_finds o h = finds_to p.rows (HasListed p members file at) AllNames o listed_names names_listed h

@@ -4,3 +4,6 @@ mod Loops
 mod Declaring
 mod Finding
 mod Asking
+mod Holders
+mod Telling
+mod Numbering

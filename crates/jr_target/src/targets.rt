@@ -12,6 +12,7 @@ ghost use Rattle.jr_target.specs.ProgramTargets.{HasTargetAt, LacksTargetAt};
 
 use crate::within::has_there;
 use jr_bind::View;
+use jr_lex::{items_are_placed, one_answer};
 use jr_members::{WrittenMember, members_are_written, written_members};
 use jr_places::parts_are_placed;
 use jr_rename::identifier_at;
@@ -120,7 +121,10 @@ pub fn target<V: View<Span>>(
         (λ d. HasTargetAt (V.program view.now) file at (decl_of d))) }
 {
     view.keeps_program();
-    match identifier_at(alloc, view.text(file), at)? {
+    items_are_placed();
+    one_answer();
+    let begins = identifier_at(alloc, view.text(file), at)?;
+    match begins {
         None => Ok(None),
         Some(from) => named(alloc, view, file, from),
     }

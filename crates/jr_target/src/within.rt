@@ -83,6 +83,7 @@ fn has_within(
     ensures { IfOk result (λ o. Finds table.now (HasWithin at (written_of written.now) bound.now)
         (option_map decl_of o)) }
 {
+    table.keeps_rows();
     match local_there(alloc, at, &written.key, &written.part)? {
         Some(decl) => Ok(Some(decl)),
         None => {
