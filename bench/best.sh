@@ -18,7 +18,7 @@ processor() {
     shift
     local TIMEFORMAT='%3U %3S'
     for _ in $(seq "$runs"); do
-        { time "$@" > out.txt 2> /dev/null || true; } 2> time.txt
+        { time "$@" > out.txt 2> errors.txt || true; } 2> time.txt
         read -r user system < time.txt
         spent=$((10#${user/./} + 10#${system/./}))
         [ "$spent" -lt "$least" ] && least=$spent

@@ -35,6 +35,3 @@ pub use operators::{BinOp, BumpOp, ModWord, UnOp};
 pub use parts::{Modifier, Param, TypeKind, TypeRef};
 pub use paths::Path;
 pub use stmts::{Stmt, StmtKind};
-
-#[cfg(test)]
-mod tests;

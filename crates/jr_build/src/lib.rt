@@ -5,8 +5,6 @@ mod build_laws;
 mod builds;
 mod class_faults;
 mod class_numbers;
-#[cfg(test)]
-mod class_tests;
 mod faults;
 mod gathering;
 mod hierarchies;

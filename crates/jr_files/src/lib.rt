@@ -7,8 +7,6 @@
 mod faults;
 mod fetches;
 mod stores;
-#[cfg(test)]
-mod tests;
 
 pub use faults::{FilesFault, SourceFault, StoreFault};
 pub use fetches::{Fetched, MAX_FILES, MAX_TOTAL_LEN, fetch_sources};

@@ -5,8 +5,6 @@ mod helds;
 mod locals;
 mod numbers;
 mod restoring;
-#[cfg(test)]
-mod tests;
 
 pub use helds::{Held, HeldType};
 pub use locals::Locals;

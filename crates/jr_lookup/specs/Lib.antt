@@ -1,3 +1,2 @@
 pub mod LocalView
 pub mod ScopeView
-pub mod NamedClass

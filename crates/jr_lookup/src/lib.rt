@@ -8,14 +8,10 @@ mod choice;
 mod fields;
 mod locals;
 mod lookups;
-#[cfg(test)]
-mod sample;
 mod scope_local;
 mod scope_locals;
 mod scopes;
 mod shown;
-#[cfg(test)]
-mod tests;
 mod type_names;
 
 pub use calls::{call_at, ctor_at, method_at};

@@ -12,8 +12,6 @@ mod refusals;
 mod replies;
 mod sites;
 mod steps;
-#[cfg(test)]
-mod tests;
 
 pub use decl_texts::{
     class_text, constructor_text, decl_text, field_text, local_text, member_text, method_text,

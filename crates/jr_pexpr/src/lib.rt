@@ -30,6 +30,3 @@ pub use laws::{
 pub use parsing::{parse_expr, parse_sexpr};
 pub use state::State;
 pub use tokens::{Token, token_at};
-
-#[cfg(test)]
-mod tests;

@@ -14,6 +14,3 @@ pub use laws::{
     expression_reads_back, member_reads_back, printing_ignores_marks, statement_reads_back,
 };
 pub use texts::{expr_text, member_text, stmt_text};
-
-#[cfg(test)]
-mod tests;

@@ -99,7 +99,7 @@ closed_at (Classes.done of) at = None
 abbrev pub inner_class : InnerClass → Classes.State Span (Own.State Span)
 inner_class (inner.Start s) = class_start s
 inner_class (inner.Members head all m) =
-    Classes.in_members (class_head head.value) (members_of all.items) (own_state m)
+    Classes.in_members (class_head head.value) (members_of all.items) (own_state m.value)
 inner_class (inner.Done c) = Classes.done (class_of c.value)
 
 abbrev pub IsNextInner : {E : Type 0} → Result (Option InnerClass) E →
@@ -120,7 +120,7 @@ inner_members =
 -- ---- members
 
 abbrev pub member_state : MemberState → Members.State Span
-member_state (member.Own s) = Members.own (own_state s)
+member_state (member.Own s) = Members.own (own_state s.value)
 member_state (member.InClass s) = Members.in_class (inner_class s)
 
 -- ---- top-level classes

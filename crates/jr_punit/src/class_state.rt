@@ -38,15 +38,16 @@ pub(crate) enum ClassState {
 type ClassStepped = Made<Option<ClassState>>;
 
 /// Behind the first tokens of the class.
-fn begun(alloc: Global, next: Option<BegunClass>) -> Option<ClassState>
-    ensures { option_map class_state result ≡ option_map (begun_class Members.start) next }
+fn begun(alloc: Global, next: Option<BegunClass>) -> ClassStepped
+    ensures { IsNextClass result (option_map (begun_class Members.start) next) }
 {
     match next {
-        Some(BegunClass::Start(start)) => Some(ClassState::Start(start)),
+        Some(BegunClass::Start(start)) => Ok(Some(ClassState::Start(start))),
         Some(BegunClass::Opened(head)) => {
-            Some(ClassState::Members(head, Vec::new(alloc), MemberState::new(alloc)))
+            let member = MemberState::new(alloc)?;
+            Ok(Some(ClassState::Members(head, Vec::new(alloc), member)))
         }
-        None => None,
+        None => Ok(None),
     }
 }
 
@@ -58,7 +59,8 @@ fn take_member(alloc: Global, all: &mut Vec<Member<Span>>, member: &mut MemberSt
         (option_map (λ d. Classes.in_members h (Classes.with_member (members_of all.old.items) d)
         Members.start) (Members.whole (member_state member.old))) }
 {
-    match mem::replace(member, MemberState::new(alloc)).finish() {
+    let fresh = MemberState::new(alloc)?;
+    match mem::replace(member, fresh).finish() {
         Some(whole) => {
             add_member(all, whole)?;
             Ok(true)
@@ -116,7 +118,8 @@ fn from_start(alloc: Global, start: &mut ClassStart, at: Span, token: Token<'_>)
         (machine.class_step join (class_start start.old) at (token_view token.entry)) }
 {
     let start = mem::replace(start, ClassStart::Modified(Vec::new(alloc)));
-    Ok(begun(alloc, start.step(alloc, at, token)?))
+    let next = start.step(alloc, at, token)?;
+    begun(alloc, next)
 }
 
 /// Whether nothing has been read.

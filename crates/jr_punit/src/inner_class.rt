@@ -31,7 +31,7 @@ pub(crate) enum InnerClass {
     /// In front of its `{`.
     Start(ClassStart),
     /// Behind these members, in one more, of which perhaps nothing has been read.
-    Members(Box<ClassHead>, Vec<Member<Span>>, OwnState),
+    Members(Box<ClassHead>, Vec<Member<Span>>, Box<OwnState>),
     Done(Box<Class<Span>>),
 }
 
@@ -67,15 +67,16 @@ pub(crate) fn whole_class(
 }
 
 /// Behind the first tokens of the class.
-fn begun(alloc: Global, next: Option<BegunClass>) -> Option<InnerClass>
-    ensures { option_map inner_class result ≡ option_map (begun_class Own.start) next }
+fn begun(alloc: Global, next: Option<BegunClass>) -> InnerStepped
+    ensures { IsNextInner result (option_map (begun_class Own.start) next) }
 {
     match next {
-        Some(BegunClass::Start(start)) => Some(InnerClass::Start(start)),
+        Some(BegunClass::Start(start)) => Ok(Some(InnerClass::Start(start))),
         Some(BegunClass::Opened(head)) => {
-            Some(InnerClass::Members(head, Vec::new(alloc), OwnState::new(alloc)))
+            let member = Box::new(alloc, OwnState::new(alloc))?;
+            Ok(Some(InnerClass::Members(head, Vec::new(alloc), member)))
         }
-        None => None,
+        None => Ok(None),
     }
 }
 
@@ -145,7 +146,8 @@ fn from_start(alloc: Global, start: &mut ClassStart, at: Span, token: Token<'_>)
         (machine.inner_step join (class_start start.old) at (token_view token.entry)) }
 {
     let start = mem::replace(start, ClassStart::Modified(Vec::new(alloc)));
-    Ok(begun(alloc, start.step(alloc, at, token)?))
+    let next = start.step(alloc, at, token)?;
+    begun(alloc, next)
 }
 
 impl InnerClass {

@@ -38,6 +38,3 @@ pub use laws::{
     one_unit, stops_have_places, unit_has_one_answer, unit_is_read, unit_stop_is_exact,
 };
 pub use parsing::parse_unit;
-
-#[cfg(test)]
-mod tests;

@@ -1,5 +1,5 @@
 //! How far a member of a class has been read (JLS 8.2): a field, method, constructor or class.
-ghost use Rattle.std.specs.Prelude.{◌≡◌, Some, option_map};
+ghost use Rattle.std.specs.Prelude.{◌≡◌, Some, IfOk, option_map};
 ghost use Rattle.std.specs.Option.{is_some};
 ghost use Rattle.jr_ast.specs.View.{class_of, member_of};
 ghost use Rattle.jr_pexpr.specs.Marked.{join};
@@ -28,7 +28,7 @@ use std::mem;
 #[derive(Drop)]
 pub(crate) enum MemberState {
     /// A member that is no class, or modifiers alone.
-    Own(OwnState),
+    Own(Box<OwnState>),
     InClass(InnerClass),
 }
 
@@ -79,10 +79,11 @@ fn class_member(class: Class<Span>) -> Member<Span>
 
 impl MemberState {
     /// Nothing has been read.
-    pub(crate) fn new(alloc: Global) -> MemberState
-        ensures { member_state result ≡ machine.start }
+    pub(crate) fn new(alloc: Global) -> Made<MemberState>
+        ensures { IfOk result (λ s. member_state s ≡ machine.start) }
     {
-        MemberState::Own(OwnState::new(alloc))
+        let own = Box::new(alloc, OwnState::new(alloc))?;
+        Ok(MemberState::Own(own))
     }
 
     /// Goes on with a token at `at`; `false` exactly where no member of the class that is called
@@ -141,7 +142,7 @@ impl MemberState {
         ensures { option_map member_of result ≡ machine.whole (member_state self) }
     {
         match self {
-            MemberState::Own(own) => own.finish(),
+            MemberState::Own(own) => Box::into_inner(own).finish(),
             MemberState::InClass(class) => match class.finish() {
                 Some(class) => Some(class_member(class)),
                 None => None,

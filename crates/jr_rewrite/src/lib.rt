@@ -11,6 +11,3 @@ pub use changes::{Change, edits};
 pub use laws::{changes_are_parts, rewritings_are_one, rewritings_read};
 pub use puts::{put_before, put_behind, put_class, put_super, put_word};
 pub use respellings::{Front, Respelling};
-
-#[cfg(test)]
-mod tests;

@@ -9,13 +9,9 @@ mod faults;
 mod laws;
 mod members;
 mod refusals;
-#[cfg(test)]
-mod report_tests;
 mod reports;
 mod rows;
 mod scripts;
-#[cfg(test)]
-mod tests;
 mod texts;
 
 pub use faults::ScriptFault;

@@ -13,8 +13,6 @@ mod faults;
 mod first_faults;
 mod kept;
 mod laws;
-#[cfg(test)]
-mod program_tests;
 mod programs;
 mod readings;
 mod sessions;
@@ -22,8 +20,6 @@ mod shows;
 mod sources;
 mod splices;
 mod steps;
-#[cfg(test)]
-mod tests;
 mod turns;
 
 pub use begins::BeginFault;

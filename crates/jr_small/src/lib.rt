@@ -18,8 +18,6 @@ mod signatures;
 mod sound;
 mod tables;
 mod targets;
-#[cfg(test)]
-mod tests;
 mod tokens;
 
 pub use laws::request_has_one_answer;

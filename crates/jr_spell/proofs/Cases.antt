@@ -1,7 +1,7 @@
 -- The table, the texts and the words, on small examples.
-use Rattle.std.proofs.Common.{◌≡◌, [], ◌∷◌, Some, None, refl}
+use Rattle.std.proofs.Common.{◌≡◌, ℕ, List, [], ◌∷◌, Some, None, refl}
 use Rattle.std.specs.Prelude.{codes}
-use Rattle.jr_table.specs.Keys.{class}
+use Rattle.jr_table.specs.Keys.{ClassKey, class}
 use Rattle.jr_table.specs.Decls.{Decl, class_decl, field_decl}
 use Rattle.jr_table.specs.Prelude.{top_key}
 use Rattle.jr_spell.specs.declared.references.RefForm.TheVariants as ref
@@ -9,7 +9,9 @@ use Rattle.jr_spell.specs.declared.spellings.Form.TheVariants.{Asked, OnThis, On
 use Rattle.jr_spell.specs.References.{Reference}
 use Rattle.jr_spell.specs.Spellings.{forms, text_of}
 use Rattle.jr_spell.specs.Binds.{front_word, last_word}
-use Rattle.jr_spell.specs.SpellingSample.{member_class}
+
+abbrev member_class : (outer name : List ℕ) → ClassKey
+member_class outer name = record { outer = Some outer; name = name }
 
 -- the field t of the member class I of O, and that class
 abbrev t : Decl

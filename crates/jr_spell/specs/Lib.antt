@@ -3,5 +3,4 @@ pub mod ReferenceView
 pub mod Spellings
 pub mod Binds
 pub mod Taken
-pub mod SpellingSample
 pub mod Rebound

@@ -4,21 +4,13 @@
 mod binding;
 mod classes;
 mod declaring;
-#[cfg(test)]
-mod field_rows;
 mod laws;
 mod members;
-#[cfg(test)]
-mod other_rows;
 mod references;
 mod respelling;
-#[cfg(test)]
-mod sample;
 mod shown;
 mod spellings;
 mod superclasses;
-#[cfg(test)]
-mod tests;
 mod texts;
 mod variables;
 

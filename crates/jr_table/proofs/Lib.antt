@@ -12,7 +12,6 @@ pub mod Border
 pub mod Gathered
 pub mod RowTests
 pub mod Cases
-pub mod SampleRows
 pub mod Accessing
 pub mod Inward
 pub mod FieldLaws

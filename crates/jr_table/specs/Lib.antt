@@ -22,7 +22,6 @@ pub mod Resolving
 pub mod Faults
 pub mod ProgramRows
 pub mod Looking
-pub mod Sample
 pub mod Keeps
 pub mod Wanted
 pub mod Virtual

@@ -28,14 +28,10 @@ mod prelude_rows;
 mod row_laws;
 mod rows;
 mod rules;
-#[cfg(test)]
-mod sample;
 mod signatures;
 mod spans;
 mod table_kinds;
 mod tables;
-#[cfg(test)]
-mod tests;
 mod type_lists;
 mod types;
 mod wanted;

@@ -14,7 +14,7 @@ use crate::types::Ty;
 use jr_ast::{ModWord, Name};
 use std::alloc::{AllocError, Global};
 
-pub(crate) fn top_key(alloc: Global, name: &str) -> Result<ClassKey, AllocError>
+fn top_key(alloc: Global, name: &str) -> Result<ClassKey, AllocError>
     ensures { IfOk result (λ k. class_key_of k ≡ pure.top_key name.now) }
 {
     let name = Name::new(alloc, name)?;
@@ -32,7 +32,7 @@ fn maybe_top_key(alloc: Global, name: Option<&str>) -> Result<Option<ClassKey>, 
 }
 
 /// Puts a class behind the rows.
-pub(crate) fn push_class(
+fn push_class(
     alloc: Global,
     rows: &mut Vec<Row>,
     words: &[ModWord],

@@ -7,8 +7,6 @@
 #![tactic(auto)]
 
 mod laws;
-#[cfg(test)]
-mod tests;
 mod types;
 
 pub use laws::{paths_lead_to_types, types_are_at};

@@ -7,8 +7,6 @@
 mod arguments;
 mod laws;
 mod operands;
-#[cfg(test)]
-mod tests;
 mod words;
 
 pub use laws::words_mean_one_command;

@@ -1,0 +1,19 @@
+//! Tests of command lines, files, scripts, reports and sessions, over public calls alone.
+//!
+//! They stand in a crate of their own, so that the crates which they test are proved once.
+#![tactic(auto)]
+
+#[cfg(test)]
+mod files;
+#[cfg(test)]
+mod memory;
+#[cfg(test)]
+mod reports;
+#[cfg(test)]
+mod scripts;
+#[cfg(test)]
+mod sessions;
+#[cfg(test)]
+mod shows;
+#[cfg(test)]
+mod words;
