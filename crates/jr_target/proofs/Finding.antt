@@ -39,7 +39,6 @@ front n [] ys lt = absurd (omega (arith, lt))
 front zero (x ∷ xs) ys lt = refl
 front (suc n) (x ∷ xs) ys lt = front n xs ys (omega (arith, lt))
 
-
 prelude_declares : (n : ℕ) (r : Row) → slice_get prelude_rows n ≡ Some r → (k : LocalKey) → r.decl ≡ local_decl k → ⊥
 prelude_declares zero r e k is = let s = ap (λ (x : Row). x.decl) (same_Some _ r e) in let t = s ∙ is in absurd cc
 prelude_declares (suc zero) r e k is = let s = ap (λ (x : Row). x.decl) (same_Some _ r e) in let t = s ∙ is in absurd cc
@@ -59,7 +58,6 @@ local_foreign rows fit k h =
     prelude_declares h.0 row.row there k row.declares
 
 -- ---- what is bound there, by its place in a member
-
 
 pub bound_within : (at from : ℕ) (rs : List Reference) (d : Decl) → bound_there at from rs ≡ Some d → (n : ℕ) × (from + n ≡ at) × (decl_in rs n ≡ Some d)
 bound_within at from rs d e = by (nat_lt at from) refl e

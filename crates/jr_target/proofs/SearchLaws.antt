@@ -134,8 +134,7 @@ module _ (at : ℕ) where
     stmt_none b (statement.eval m e) is = (is, λ c base d h. neither (λ x. x) (exp_none begins _ _ e) h)
     stmt_none b (statement.branch m e x other) is =
         let r = else_none (in_stmt at b x) other is in
-        let q = stmt_none b x r.0 in
-        (
+        let q = stmt_none b x r.0 in (
           q.0,
           λ c base d h. neither (λ y. y) (neither (exp_none begins _ _ e) (neither (q.1 c (begins m base) d) (λ y. r.1 c (begins m base) d (subst (λ (n : ℕ). Else_has d n c (begins m base) other) (sym (stmt_next b x)) y)))) h,
         )
@@ -162,8 +161,7 @@ module _ (at : ℕ) where
     stmts_none b statement.end is = (is, λ c base d h. h)
     stmts_none b (statement.more x xs) is =
         let r = stmts_none (in_stmt at b x) xs is in
-        let q = stmt_none b x r.0 in
-        (
+        let q = stmt_none b x r.0 in (
           q.0,
           λ c base d h. neither (q.1 c base d) (λ y. r.1 (after b.next c x) base d (subst (λ (n : ℕ). Stmts_have d n (after b.next c x) base xs) (sym (stmt_next b x)) y)) h,
         )

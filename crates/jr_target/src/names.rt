@@ -47,11 +47,7 @@ fn declared(alloc: Global, key: &MemberKey) -> Result<Decl, AllocError>
     }
 }
 
-fn class_there(
-    alloc: Global,
-    is_there: bool,
-    key: &ClassKey,
-) -> Result<Option<Decl>, AllocError>
+fn class_there(alloc: Global, is_there: bool, key: &ClassKey) -> Result<Option<Decl>, AllocError>
     ensures { IfOk result (λ o. option_map decl_of o
         ≡ (if is_there then Some (decls.class_decl (class_key_of key.now)) else None)) }
 {
@@ -62,11 +58,7 @@ fn class_there(
     }
 }
 
-fn member_there(
-    alloc: Global,
-    is_there: bool,
-    key: &MemberKey,
-) -> Result<Option<Decl>, AllocError>
+fn member_there(alloc: Global, is_there: bool, key: &MemberKey) -> Result<Option<Decl>, AllocError>
     ensures { IfOk result (λ o. option_map decl_of o
         ≡ (if is_there then Some (declared_by (member_key_of key.now)) else None)) }
 {
@@ -113,11 +105,7 @@ pub(crate) fn own_name(
 
 // ---- the name of a parameter or local
 
-fn local_of(
-    alloc: Global,
-    key: &MemberKey,
-    number: Option<u32>,
-) -> Result<Option<Decl>, AllocError>
+fn local_of(alloc: Global, key: &MemberKey, number: Option<u32>) -> Result<Option<Decl>, AllocError>
     ensures { IfOk result (λ o. option_map decl_of o ≡ option_map
         (λ n. decls.local_decl (record { member = member_key_of key.now; number = n })) number) }
 {

@@ -107,11 +107,7 @@ fn in_stmt(at: u32, before: Search, of: &Stmt<Span>) -> Result<Search, AllocErro
 /// Behind what stands behind `else`, if anything.
 #[cycle(search_walk)]
 #[tactic(auto, unfolding(crate::specs::Searches::in_else))]
-fn in_else(
-    at: u32,
-    before: Search,
-    of: &Option<Box<Stmt<Span>>>,
-) -> Result<Search, AllocError>
+fn in_else(at: u32, before: Search, of: &Option<Box<Stmt<Span>>>) -> Result<Search, AllocError>
     ensures { IfOk result (λ s. s ≡ pure.in_else at before (else_of of.now)) }
 {
     match of {
@@ -132,11 +128,7 @@ fn in_stmts(at: u32, before: Search, body: &[Stmt<Span>]) -> Result<Search, Allo
     Ok(search)
 }
 
-fn in_code(
-    at: u32,
-    params: &[Param<Span>],
-    body: &[Stmt<Span>],
-) -> Result<Option<u32>, AllocError>
+fn in_code(at: u32, params: &[Param<Span>], body: &[Stmt<Span>]) -> Result<Option<u32>, AllocError>
     ensures { IfOk result (λ n. n ≡ pure.in_code at (map param_of params.now) (stmts_of body.now)) }
 {
     let behind = in_params(at, start(), params)?;

@@ -56,12 +56,7 @@ fn bound_at(alloc: Global, bound: &Bound, at: u32) -> Result<Option<Decl>, Alloc
 }
 
 /// The same of a byte of the file, where the member begins at `from`.
-fn bound_there(
-    alloc: Global,
-    bound: &Bound,
-    at: u32,
-    from: u32,
-) -> Result<Option<Decl>, AllocError>
+fn bound_there(alloc: Global, bound: &Bound, at: u32, from: u32) -> Result<Option<Decl>, AllocError>
     ensures { IfOk result (λ o. option_map decl_of o
         ≡ pure.bound_there at from bound.now.references) }
 {

@@ -1,6 +1,5 @@
 use Rattle.std.proofs.Common.{◌≡◌, List, subst}
 use Rattle.std.specs.Prelude.{option_map}
-use Rattle.std.proofs.lemmas.Bool.Decides.{Decides-eqb}
 use Rattle.std.proofs.lemmas.Result.{IfOk-weaker}
 use Rattle.jr_table.specs.Rows.{Row}
 use Rattle.jr_table.specs.KeyView.{decl_of}
@@ -16,5 +15,5 @@ returns-then-written-file g c =
     let b = c.bound.result.now in
     let at = c.args.at in
     IfOk-weaker c.has_there.result _ _ (λ o h.
-    file_finds p c.args.file at c.args.number w b c.bound.ensures ((Decides-eqb w.file c.args.file).0 c.if-written-file.true) (option_map decl_of o)
+    file_finds p c.args.file at c.args.number w b c.bound.ensures c.if-written-file.true (option_map decl_of o)
     (subst (λ (rows : List Row). Finds rows (HasThere at w b) (option_map decl_of o)) c.table.ensures h)) c.has_there.ensures
