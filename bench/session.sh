@@ -57,7 +57,7 @@ figures() {
     echo "$files files, $(cat $names | wc -c) bytes"
     for steps in "0 1 0" "1000 $files 0" "1000 1 0" "0 1 1" "999 $files 1"; do
         script $steps > s.json
-        /usr/bin/time -o time.txt -f '%M %U %S' "$jref" run s.json $names > out.txt
+        env time -o time.txt -f '%M %U %S' "$jref" run s.json $names > out.txt
         awk -v name="$steps" '{ printf "edits, of files, shows %s: %d MiB, %.1f s", name, $1 / 1024, $2 + $3 }' time.txt
         echo ", $(grep -o refused out.txt | wc -l) refused"
     done

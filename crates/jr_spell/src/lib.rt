@@ -11,6 +11,7 @@ mod respelling;
 mod shown;
 mod spellings;
 mod superclasses;
+mod taking;
 mod texts;
 mod variables;
 
@@ -18,3 +19,4 @@ pub use laws::spellings_rebind;
 pub use references::{Operand, RefForm, Reference};
 pub use respelling::respell;
 pub use spellings::{Form, Spelling};
+pub use taking::taken;

@@ -81,7 +81,7 @@ fn to_other(row: &'static [Form], target: &Decl) -> &'static [Form]
 }
 
 /// How a reference can be spelled, in the order in which it is tried.
-fn forms(form: RefForm, target: &Decl) -> &'static [Form]
+pub(crate) fn forms(form: RefForm, target: &Decl) -> &'static [Form]
     ensures { result.now ≡ table.forms form (decl_of target.now) }
 {
     match form {

@@ -1,0 +1,12 @@
+pub mod Upwards
+pub mod Climbing
+pub mod Connected
+pub mod Parting
+pub mod Rounds
+pub mod Moving
+pub mod Asking
+pub mod Belows
+pub mod ImageEntries
+pub mod KeyedChanges
+pub mod Telling
+pub mod Lows

@@ -1,0 +1,7 @@
+use Rattle.jr_table.specs.Entries.{entries_of}
+use Rattle.jr_family.proofs.Rounds.{ArePartedBefore}
+use Rattle.jr_family.proofs.parts.parted_classes.Given as goal
+
+-- those of the rows so far
+abbrev pub invariant-loop-number : goal.invariant-loop-number
+invariant-loop-number l = ArePartedBefore (entries_of l.old) (entries_of l.new) l.number l.lows.items

@@ -1,0 +1,5 @@
+pub mod Highest
+pub mod Changes
+pub mod Moves
+pub mod Keys
+pub mod Told

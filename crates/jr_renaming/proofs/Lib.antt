@@ -1,0 +1,4 @@
+mod Joining
+mod Ordered
+mod Assembling
+mod FilesRewritten

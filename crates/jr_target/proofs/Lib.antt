@@ -1,0 +1,9 @@
+mod Nowhere
+mod SearchLaws
+mod Loops
+mod Declaring
+mod Finding
+mod Asking
+mod Holders
+mod Telling
+mod Numbering

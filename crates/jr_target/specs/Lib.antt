@@ -1,0 +1,4 @@
+pub mod ProgramTargets
+pub mod Searches
+pub mod Names
+pub mod Listed

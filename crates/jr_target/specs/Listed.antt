@@ -1,0 +1,19 @@
+-- The same of a list of written members.
+use Rattle.std.specs.Prelude.{◌≡◌, ℕ, List, Some, slice_get}
+use Rattle.jr_text.specs.declared.spans.Span.{Span}
+use Rattle.jr_table.specs.Decls.{Decl}
+use Rattle.jr_members.specs.declared.keyed.WrittenMember as raw
+use Rattle.jr_members.specs.PartView.{written_of}
+use Rattle.jr_bind.specs.Programs.{Program}
+use Rattle.jr_target.specs.Names.{HasInFile}
+
+-- the member of the number has it
+abbrev pub HasNumbered : Program Span → List (raw.WrittenMember Span) → (file at : ℕ)
+    → (number : ℕ) → Decl → Type 0
+HasNumbered p members file at n d = (w : raw.WrittenMember Span)
+    × (slice_get members n ≡ Some w) × HasInFile p file at n (written_of w) d
+
+-- one of them has it
+abbrev pub HasListed : Program Span → List (raw.WrittenMember Span) → (file at : ℕ) → Decl
+    → Type 0
+HasListed p members file at d = (n : ℕ) × HasNumbered p members file at n d
