@@ -1,4 +1,4 @@
-//! Tests of command lines, files, scripts, reports and sessions, over public calls alone.
+//! Tests of command lines, scripts, reports, sessions and runs, over public calls alone.
 //!
 //! They stand in a crate of their own, so that the crates which they test are proved once.
 #![tactic(auto)]
@@ -8,7 +8,11 @@ mod files;
 #[cfg(test)]
 mod memory;
 #[cfg(test)]
+mod renames;
+#[cfg(test)]
 mod reports;
+#[cfg(test)]
+mod runs;
 #[cfg(test)]
 mod scripts;
 #[cfg(test)]

@@ -49,6 +49,14 @@ pub(crate) fn run_line(
     run_words(rt, alloc, held, words.as_slice(), calls, puts)
 }
 
+// Whether the shelf holds this text under the name.
+fn holds(shelf: &MemoryShelf, name: &str, text: &str) -> bool {
+    match shelf.bytes_of(name) {
+        Some(bytes) => bytes == text.as_bytes(),
+        None => false,
+    }
+}
+
 const P: &str = "class B{}";
 
 const Q: &str = "class O{static int x;static class C extends B{int m(){return x;}}}";
@@ -73,9 +81,8 @@ fn shows_what_an_edit_changes(rt: HostRuntime) -> Result<(), Fail> {
     assert_eq!(rt; end.status.as_str(), "Done");
     let report = format!(in alloc; "{SHOWN}\n")?;
     assert_eq!(rt; end.output.as_str(), report.as_str());
-    let stored = end.shelf.bytes_of("P.java");
-    assert_eq!(rt; stored, Some(b"class B{int x;}".as_slice()));
-    assert_eq!(rt; end.shelf.bytes_of("Q.java"), Some(Q.as_bytes()));
+    assert!(rt; holds(&end.shelf, "P.java", "class B{int x;}"));
+    assert!(rt; holds(&end.shelf, "Q.java", Q));
     Ok(())
 }
 
@@ -149,8 +156,7 @@ fn scripts_over_one_file(rt: HostRuntime) -> Result<(), Fail> {
         let end = run_line(&rt, alloc, held.as_slice(), line, &[call], &[])?;
         assert_eq!(rt; end.status.as_str(), status, "{script}");
         assert_eq!(rt; end.output.trim_end(), report, "{script}");
-        let kept = end.shelf.bytes_of("A.java");
-        assert_eq!(rt; kept, Some(text.as_bytes()), "{script}");
+        assert!(rt; holds(&end.shelf, "A.java", text), "{script}");
     }
     Ok(())
 }
@@ -253,7 +259,7 @@ fn stores_in_a_folder(rt: HostRuntime) -> Result<(), Fail> {
     let end = run_line(&rt, alloc, held.as_slice(), "run s A --out d B C", &[], &[])?;
     assert_eq!(rt; end.status.as_str(), "Done");
     for (name, text) in [("A", "a"), ("d/A", "1a"), ("d/B", "2b"), ("d/C", "3c")] {
-        assert_eq!(rt; end.shelf.bytes_of(name), Some(text.as_bytes()), "{name}");
+        assert!(rt; holds(&end.shelf, name, text), "{name}");
     }
     Ok(())
 }
