@@ -6,13 +6,7 @@
 # last declaration is at fault, that is found behind all others. Eight shapes at three sizes, in
 # milliseconds of a processor for a whole process, and in each how long reading alone takes: the same
 # texts, of which the small file doesn't read.
-set -eu
-jref=$(realpath "$1")
-here=$(cd "$(dirname "$0")" && pwd)
-work=$(mktemp -d)
-trap 'rm -rf "$work"' EXIT
-cd "$work"
-. "$here/best.sh"
+. "$(dirname "$0")/work.sh"
 
 # So many times a piece, with its number in place of #, the number before in place of ~, and, in
 # place of @ and %, the number's two digits to the base that is handed over.

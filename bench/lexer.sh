@@ -4,12 +4,7 @@
 # The words ask for a rename in a file that isn't in the small language. It is read, lexed whole, measured, and refused
 # at its first token that doesn't fit, so that nearly all of the time is the lexer's. The same words over a file of two
 # bytes say how long the rest takes. javac, and its scanner alone, read the same file.
-set -eu
-jref=$(realpath "$1")
-here=$(cd "$(dirname "$0")" && pwd)
-work=$(mktemp -d)
-trap 'rm -rf "$work"' EXIT
-cd "$work"
+. "$(dirname "$0")/work.sh"
 
 awk 'BEGIN {
     print "class Big {"
@@ -31,7 +26,6 @@ awk 'BEGIN {
 }' > Big.java
 printf '{}' > Small.java
 
-. "$here/best.sh"
 
 echo "cores: $(nproc)"
 echo "bytes: $(wc -c < Big.java)"

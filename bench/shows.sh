@@ -7,13 +7,7 @@
 # of which one doesn't read (reading alone), and of which the last declaration is at fault (reading
 # and the table). javac's front end to its flow phase on the same files: the first time in a process,
 # and the least of ten, for the thread that does it.
-set -eu
-jref=$(realpath "$1")
-here=$(cd "$(dirname "$0")" && pwd)
-work=$(mktemp -d)
-trap 'rm -rf "$work"' EXIT
-cd "$work"
-. "$here/best.sh"
+. "$(dirname "$0")/work.sh"
 
 # Members with numbers from the first number on, of at most so many bytes.
 members() {

@@ -1,11 +1,17 @@
 // The class files of programs, without names of locals: a line a program, each class with a digest
-// of its file, or `refused`. A program is a line of names and texts, with tabs between them.
+// of its file and one of what stands in it, or `refused`. A program is a line: what is renamed, then
+// names and texts, with tabs between them. What is renamed (`class K L`, `field K x y`,
+// `method K m (I)V k`, with `,` between two) has its new name in what the second digest is of, and
+// each field and method there has the class that declares it.
 import java.io.*;
 import java.net.URI;
 import java.nio.file.*;
 import java.security.MessageDigest;
 import java.util.*;
 import javax.tools.*;
+import jdk.internal.org.objectweb.asm.*;
+import jdk.internal.org.objectweb.asm.commons.*;
+import jdk.internal.org.objectweb.asm.util.*;
 
 public class Classes {
     static class Source extends SimpleJavaFileObject {
@@ -55,11 +61,118 @@ public class Classes {
         }
     }
 
-    static String digest(Made made) throws Exception {
-        byte[] all = MessageDigest.getInstance("SHA-1").digest(made.bytes.toByteArray());
+    static String digest(byte[] bytes) throws Exception {
+        byte[] all = MessageDigest.getInstance("SHA-1").digest(bytes);
         StringBuilder out = new StringBuilder();
         for (int i = 0; i < 8; i++) out.append(String.format("%02x", all[i]));
         return out.toString();
+    }
+
+    // The classes of a program: each with its superclass and the members that it declares. A bridge
+    // is javac's own, for the method of its name above.
+    static class Declared extends ClassVisitor {
+        final Map<String, String> above = new HashMap<>();
+        final Set<String> members = new HashSet<>();
+        String now;
+
+        Declared() {
+            super(Opcodes.ASM8);
+        }
+
+        @Override
+        public void visit(int v, int access, String name, String s, String above, String[] i) {
+            now = name;
+            this.above.put(name, above);
+        }
+
+        @Override
+        public FieldVisitor visitField(int access, String name, String desc, String s, Object v) {
+            members.add(now + " " + name + " " + desc);
+            return null;
+        }
+
+        @Override
+        public MethodVisitor visitMethod(int a, String name, String desc, String s, String[] x) {
+            if ((a & Opcodes.ACC_BRIDGE) == 0) members.add(now + " " + name + " " + desc);
+            return null;
+        }
+
+        // The class that declares what is found in this one (JVMS 5.4.3).
+        String owner(String in, String name, String desc) {
+            for (String one = in; one != null; one = above.get(one))
+                if (members.contains(one + " " + name + " " + desc)) return one;
+            return in;
+        }
+    }
+
+    static class Renames extends Remapper {
+        final Declared declared;
+        final Map<String, String> names = new HashMap<>();
+
+        Renames(Declared declared, String all) {
+            this.declared = declared;
+            for (String one : all.split(",")) {
+                int at = one.lastIndexOf(' ');
+                if (at > 0) names.put(one.substring(0, at), one.substring(at + 1));
+            }
+        }
+
+        @Override
+        public String map(String name) {
+            return names.getOrDefault("class " + name, name);
+        }
+
+        @Override
+        public String mapFieldName(String owner, String name, String desc) {
+            String in = declared.owner(owner, name, desc);
+            return names.getOrDefault("field " + in + " " + name, name);
+        }
+
+        @Override
+        public String mapMethodName(String owner, String name, String desc) {
+            String in = declared.owner(owner, name, desc);
+            return names.getOrDefault("method " + in + " " + name + " " + desc, name);
+        }
+    }
+
+    // Each field and method that is named has the class that declares it. Which classes are inner
+    // ones is left out: the file tells it of those that it names.
+    static class Owners extends ClassVisitor {
+        final Declared declared;
+
+        Owners(Declared declared, ClassVisitor to) {
+            super(Opcodes.ASM8, to);
+            this.declared = declared;
+        }
+
+        @Override
+        public void visitInnerClass(String name, String outer, String inner, int access) {}
+
+        @Override
+        public MethodVisitor visitMethod(int a, String n, String d, String s, String[] x) {
+            return new MethodVisitor(Opcodes.ASM8, super.visitMethod(a, n, d, s, x)) {
+                @Override
+                public void visitFieldInsn(int code, String in, String name, String desc) {
+                    super.visitFieldInsn(code, declared.owner(in, name, desc), name, desc);
+                }
+
+                @Override
+                public void visitMethodInsn(
+                    int code, String in, String name, String desc, boolean is
+                ) {
+                    super.visitMethodInsn(code, declared.owner(in, name, desc), name, desc, is);
+                }
+            };
+        }
+    }
+
+    static String shape(Made made, Declared declared, Renames renames) throws Exception {
+        StringWriter text = new StringWriter();
+        ClassVisitor printed = new TraceClassVisitor(null, new Textifier(), new PrintWriter(text));
+        ClassVisitor all = new Owners(declared, new ClassRemapper(printed, renames));
+        new ClassReader(made.bytes.toByteArray()).accept(
+            all, ClassReader.SKIP_DEBUG | ClassReader.SKIP_FRAMES);
+        return text.toString();
     }
 
     public static void main(String[] words) throws Exception {
@@ -71,16 +184,29 @@ public class Classes {
         for (String line : Files.readAllLines(Paths.get(words[0]))) {
             String[] parts = line.split("\t", -1);
             List<Source> sources = new ArrayList<>();
-            for (int i = 0; i + 1 < parts.length; i += 2)
+            for (int i = 1; i + 1 < parts.length; i += 2)
                 sources.add(new Source(parts[i], parts[i + 1]));
             Memory memory = new Memory(files);
             StringWriter said = new StringWriter();
             JavaCompiler.CompilationTask task =
                 compiler.getTask(said, memory, d -> {}, options, null, sources);
             StringBuilder out = new StringBuilder(task.call() ? "ok" : "refused");
-            if (out.length() == 2)
-                for (Map.Entry<String, Made> one : memory.made.entrySet())
-                    out.append("\t" + one.getKey() + " " + digest(one.getValue()));
+            if (out.length() == 2) {
+                Declared declared = new Declared();
+                for (Made one : memory.made.values())
+                    new ClassReader(one.bytes.toByteArray()).accept(declared, 0);
+                Renames renames = new Renames(declared, parts[0]);
+                TreeMap<String, String> all = new TreeMap<>();
+                for (Map.Entry<String, Made> one : memory.made.entrySet()) {
+                    String name = renames.map(one.getKey().replace('.', '/'));
+                    String shape = shape(one.getValue(), declared, renames);
+                    if (words.length > 1) System.err.println(shape);
+                    all.put(name, digest(one.getValue().bytes.toByteArray())
+                        + " " + digest(shape.getBytes("UTF-8")));
+                }
+                for (Map.Entry<String, String> one : all.entrySet())
+                    out.append("\t" + one.getKey() + " " + one.getValue());
+            }
             System.out.println(out);
         }
     }

@@ -1,8 +1,8 @@
 #!/usr/bin/env python3
 """Random programs, put to a second reading of the rules, to javac and to the built program.
 
-bindings.py [--jref BINARY] [--javac] [--kind bindings|declarations|sessions] [--first SEED]
-    [--programs N] [--examples N]
+bindings.py [--jref BINARY] [--javac] [--kind bindings|declarations|sessions|renamings]
+    [--first SEED] [--programs N] [--examples N]
 
 The reading says for each file its lines, or the fault of the program. With --jref the program's
 report has to be that, byte for byte. With --javac each program is sound here exactly where javac
@@ -21,7 +21,7 @@ from declarations import DeclarationMaker
 from programs import Maker
 from reading.binding import first_error, lines
 from reading.program import Program, SourceFault
-from sessions import SessionMaker, replies
+from sessions import RenamingMaker, SessionMaker, replies
 
 HERE = os.path.dirname(os.path.abspath(__file__))
 
@@ -133,15 +133,18 @@ def against_jref(binary, programs, seen):
                 seen.add("jref: the same")
 
 
-def javac_lines(source, programs):
-    """What a program of this folder says of each program."""
+def javac_lines(source, programs, options=()):
+    """What a program of this folder says of each program: a list of files, or a word and one."""
     with tempfile.TemporaryDirectory() as folder:
         path = os.path.join(folder, "programs")
         with open(path, "w", encoding="utf-8") as file:
             for files in programs:
-                file.write("\t".join(part for one in files for part in one) + "\n")
+                word, files = files if isinstance(files, tuple) else (None, files)
+                parts = [part for one in files for part in one]
+                file.write("\t".join(([] if word is None else [word]) + parts) + "\n")
         done = subprocess.run(
-            ["java", "-Xmx600m", "-XX:ActiveProcessorCount=1", os.path.join(HERE, source), path],
+            ["java", "-Xmx600m", "-XX:ActiveProcessorCount=1", *options,
+             os.path.join(HERE, source), path],
             capture_output=True, text=True, check=True,
         )
         return done.stdout.rstrip("\n").split("\n")
@@ -196,7 +199,7 @@ def main():
     words = argparse.ArgumentParser()
     words.add_argument("--jref")
     words.add_argument("--javac", action="store_true")
-    kinds = ["bindings", "declarations", "sessions"]
+    kinds = ["bindings", "declarations", "sessions", "renamings"]
     words.add_argument("--kind", default="bindings", choices=kinds)
     words.add_argument("--first", type=int, default=0)
     words.add_argument("--programs", type=int, default=1000)
@@ -204,8 +207,9 @@ def main():
     words = words.parse_args()
     seen = Differences(words.examples)
     seeds = range(words.first, words.first + words.programs)
-    if words.kind == "sessions":
-        programs = [SessionMaker(seed).session() for seed in seeds]
+    if words.kind in ("sessions", "renamings"):
+        maker = SessionMaker if words.kind == "sessions" else RenamingMaker
+        programs = [maker(seed).session() for seed in seeds]
         wanted = [(files, steps, *replies(files, steps)) for files, steps in programs]
     else:
         maker = Maker if words.kind == "bindings" else DeclarationMaker
@@ -213,7 +217,7 @@ def main():
         wanted = [(files, *shows(files), files) for files in programs]
     if words.jref:
         against_jref(os.path.abspath(words.jref), wanted, seen)
-    if words.javac and words.kind != "sessions":
+    if words.javac and words.kind not in ("sessions", "renamings"):
         against_javac(programs, seen)
     seen.show()
     sys.exit(any(not key.startswith(("jref: the same", "both", "known")) for key in seen.counts))

@@ -1,8 +1,12 @@
-"""Random sessions: edits, undone and done again, with shows between them, and their replies."""
+"""Random sessions: edits and renames, undone and done again, with shows between them, and their
+replies."""
+import re
+
 from programs import Maker
-from reading.binding import lines
+from reading.binding import first_error, lines
 from reading.program import Program, SourceFault
 from reading.renaming import Refused, plan
+from thinning import thinned
 
 LIMIT, TOTAL = 1_048_576, 8_388_608
 PIECES = [
@@ -101,3 +105,29 @@ class SessionMaker(Maker):
     def session(self):
         files = self.files()
         return files, [self.step(files) for _ in range(self.pick([2, 6, 12]))]
+
+
+class RenamingMaker(SessionMaker):
+    """Sessions in sound programs, mostly of renames."""
+
+    def __init__(self, seed):
+        super().__init__(seed, wild=0.0)
+
+    def files(self):
+        for _ in range(8):
+            files = thinned(super().files(), self.random, 9)
+            try:
+                if first_error(Program(files)) is None:
+                    return files
+            except SourceFault:
+                pass
+        return files
+
+    def step(self, files):
+        if self.pick([True, False, False]):
+            return super().step(files)
+        name, text = self.pick(files)
+        places = [one.start() for one in re.finditer("[A-Za-z_]+", text)]
+        at = len(text[: self.pick(places or [0])].encode("utf-8"))
+        new = self.pick(["a", "b", "f", "g", "h", "k", "m", "x", "A", "B", "K", "L", "Z"])
+        return {"step": "rename", "file": name, "at": at, "name": new}

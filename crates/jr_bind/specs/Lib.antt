@@ -1,13 +1,3 @@
-pub mod Places
-pub mod Findings
-pub mod Numbered
-pub mod ArgsView
-pub mod Abouts
-pub mod Means
-pub mod Logs
-pub mod Fits
-pub mod Named
-pub mod Arms
 pub mod ErrorView
 pub mod Flow
 pub mod StmtArms
@@ -23,5 +13,4 @@ pub mod BoundView
 pub mod BoundLogs
 pub mod SuperPlaces
 pub mod Programs
-pub mod TypedSlots
 pub mod TypedFlow

@@ -1,6 +1,5 @@
--- What the walk that makes trees of types knows behind a statement: exact.
+-- The slots and the numbers of parts of statements: exact.
 use Rattle.std.specs.Prelude.{
-  ◌≡◌,
   ℕ,
   suc,
   ◌+◌,
@@ -15,22 +14,11 @@ use Rattle.std.specs.Prelude.{
 use Rattle.jr_ast.specs.Tree as tree
 use Rattle.jr_ast.specs.StatementTree as statement
 use Rattle.jr_table.specs.Rows.{Row}
-use Rattle.jr_table.specs.Context.{
-  Context,
-  local_of,
-  in_own,
-  with_local,
-  after,
-  locals_in,
-  locals_in_else,
-  locals_in_row,
-}
+use Rattle.jr_table.specs.Context.{Context, local_of, in_own, after, locals_in}
 use Rattle.jr_types.specs.Slots.{Slot}
-use Rattle.jr_types.specs.Trees.{node, none, put, flat}
+use Rattle.jr_types.specs.Trees.{Parts, none, put, flat}
 use Rattle.jr_types.specs.TypedTrees.{put_leaf, exp_tree, stmt_tree}
-use Rattle.jr_bind.specs.declared.places.Place.{Place}
-use Rattle.jr_bind.specs.Places.{context_of, Knows}
-use Rattle.jr_bind.specs.TypedSlots.{row_slots, row_count}
+use Rattle.jr_notes.specs.TypedSlots.{row_slots, row_count}
 
 module _ {A : Type 0} where
   abbrev pub maybe_count : Option (tree.Exp A) → ℕ
@@ -73,45 +61,7 @@ module _ {A : Type 0} (rows : List Row) where
       ++ body_slots (number + locals_in x) (after number c x) xs
 
   -- of a local, whose mark tells nothing
-  abbrev pub local_slots : (number : ℕ) → Context → Bool → tree.TypeName A → tree.Word A
-      → tree.Exp A → List Slot
-  local_slots number c f t w e = flat (node None (put (put_leaf (put_leaf none))
-      (exp_tree rows (in_own c (local_of c number f t w)) e)))
-
--- Behind a statement or a list: the next local has this number, this is known there, and there are
--- these slots more.
-pub record TypedPasses (rows : List Row) (number : ℕ) (c : Context) (old more : List Slot) (n : ℕ)
-    (p : Place) (new : List Slot) : Type 0 where
-  pub number_is : n ≡ number
-  pub context : context_of p ≡ c
-  pub knows : Knows rows p
-  pub slots : new ≡ old ++ more
-
-module _ {A : Type 0} (rows : List Row) (number : ℕ) (p : Place) where
-  -- behind a statement of a list, which is walked from this place
-  abbrev pub TypedStmt : statement.Stmt A → (old : List Slot) → ℕ → Place → (new : List Slot)
-      → Type 0
-  TypedStmt x old n q new = TypedPasses rows (number + locals_in x)
-      (after number (context_of p) x) old (flat (stmt_tree rows number (context_of p) x)) n q new
-
-  -- behind a statement that is no element of a list: what it declares is gone
-  abbrev pub TypedInner : statement.Stmt A → (old : List Slot) → ℕ → Place → (new : List Slot)
-      → Type 0
-  TypedInner x old n q new = TypedPasses rows (number + locals_in x) (context_of p) old
-      (flat (stmt_tree rows number (context_of p) x)) n q new
-
-  abbrev pub TypedElse : statement.Else A → (old : List Slot) → ℕ → Place → (new : List Slot)
-      → Type 0
-  TypedElse x old n q new = TypedPasses rows (number + locals_in_else x) (context_of p) old
-      (else_slots rows number (context_of p) x) n q new
-
-  abbrev pub TypedBody : statement.Stmts A → (old : List Slot) → ℕ → Place → (new : List Slot)
-      → Type 0
-  TypedBody xs old n q new = TypedPasses rows (number + locals_in_row xs) (context_of p) old
-      (body_slots rows number (context_of p) xs) n q new
-
-  abbrev pub TypedLocal : Bool → tree.TypeName A → tree.Word A → tree.Exp A → (old : List Slot)
-      → ℕ → Place → (new : List Slot) → Type 0
-  TypedLocal f t w e old n q new = TypedPasses rows (number + 1)
-      (with_local (context_of p) (local_of (context_of p) number f t w)) old
-      (local_slots rows number (context_of p) f t w e) n q new
+  abbrev pub local_parts : (number : ℕ) → Context → Bool → tree.TypeName A → tree.Word A
+      → tree.Exp A → Parts
+  local_parts number c f t w e = put (put_leaf (put_leaf none))
+      (exp_tree rows (in_own c (local_of c number f t w)) e)

@@ -17,16 +17,15 @@ ghost use Rattle.jr_members.specs.PartView.{part_of};
 ghost use Rattle.jr_members.specs.WrittenMembers.{decl_of_member};
 ghost use Rattle.jr_bind.specs.BoundLogs.{IsBoundOfLog};
 ghost use Rattle.jr_bind.specs.Bounds.{BindsOnce, IsBound, FitsWhole};
-ghost use Rattle.jr_bind.specs.Logs.{notes_of};
+ghost use Rattle.jr_notes.specs.Logs.{notes_of};
 
 use crate::bounds::Bound;
 use crate::errors::errors_of_log;
-use crate::findings::Note;
 use crate::part_notes::note_part;
-use crate::part_typing::types_of_part;
 use crate::references::references_of_log;
 use jr_ast::{Class, Member, Unit};
 use jr_members::{PartRef, WrittenMember, members_are_written, written_members};
+use jr_notes::Note;
 use jr_steps::Steps;
 use jr_table::{MemberKey, Table, errors_are_told, lookups_are_exact, parts_are_noted};
 use jr_text::Mark;
@@ -108,6 +107,7 @@ fn bind_uncounted<A: Mark>(
     types_are_at::<A>();
     let start = first_byte(&written.part, written.base);
     let mut log = Vec::new(alloc);
+    let mut types = Types::new(alloc);
     note_part(
         alloc,
         table,
@@ -117,14 +117,7 @@ fn bind_uncounted<A: Mark>(
         written.base,
         &written.part,
         &mut log,
-    )?;
-    let types = types_of_part(
-        alloc,
-        table,
-        &written.key,
-        written.row,
-        written.base,
-        &written.part,
+        &mut types,
     )?;
     bound_of_log(alloc, table, &written.key, start, log.as_slice(), types)
 }

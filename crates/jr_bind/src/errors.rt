@@ -7,12 +7,11 @@ ghost use Rattle.jr_table.specs.Errors.{rule_rank};
 ghost use Rattle.jr_table.specs.Notes.{missing_rule};
 ghost use Rattle.jr_table.specs.Notes as notes;
 ghost use Rattle.jr_table.specs.ErrorLists as lists;
-ghost use Rattle.jr_bind.specs.Findings.{note_of, sought_of};
-ghost use Rattle.jr_bind.specs.Logs.{notes_of};
+ghost use Rattle.jr_notes.specs.Findings.{note_of, sought_of};
+ghost use Rattle.jr_notes.specs.Logs.{notes_of};
 ghost use Rattle.jr_bind.specs.ErrorView.{error_of, found_rule};
 
-use crate::findings::{Finding, Note, Sought};
-use crate::notes::is_nothing;
+use jr_notes::{Finding, Note, Sought, is_nothing};
 use jr_table::{Answer, Rule, Table, errors_are_told};
 use std::alloc::{AllocError, Global};
 

@@ -8,25 +8,24 @@ ghost use Rattle.jr_table.specs.Notes.{reference_notes};
 ghost use Rattle.jr_table.specs.Context.{scope_of, outer_text, local_type, local_of};
 ghost use Rattle.jr_table.specs.Context.{in_own, with_local};
 ghost use Rattle.jr_table.specs.Walks as walks;
+ghost use Rattle.jr_types.specs.Trees.{flat, flats};
+ghost use Rattle.jr_types.specs.TypedTrees.{exp_tree};
 ghost use Rattle.jr_locals.specs.Helds.{type_of};
-ghost use Rattle.jr_bind.specs.Places.{context_of, member_of, Knows};
-ghost use Rattle.jr_bind.specs.Fits.{FitsType, FitsExp};
-ghost use Rattle.jr_bind.specs.Logs.{notes_of, Adds};
+ghost use Rattle.jr_notes.specs.Places.{context_of, member_of, Knows};
+ghost use Rattle.jr_notes.specs.Fits.{FitsType, FitsExp};
+ghost use Rattle.jr_notes.specs.Logs.{notes_of, Adds};
 ghost use Rattle.jr_bind.specs.Flow.{Passes};
 ghost use Rattle.jr_bind.specs.StmtArms as pure;
+ghost use Rattle.jr_bind.specs.TypedFlow.{local_parts};
 
 use crate::completing::{Behind, reached};
-use crate::findings::Note;
-use crate::meanings::Role;
-use crate::notes::put_when;
-use crate::places::Place;
 use crate::stmt_notes::put_init;
-use crate::type_names::written;
-use crate::walk::expr;
 use jr_ast::{Expr, Ident, Name, TypeKind, TypeRef};
 use jr_locals::{Held, HeldType};
+use jr_notes::{Note, Place, Role, put_leaf, put_when, walk_expr, written};
 use jr_table::{Kind, Rule, Table};
 use jr_text::Mark;
+use jr_types::Types;
 use std::alloc::{AllocError, Global};
 
 fn outer_name<'a, A>(of: &'a Option<Ident<A>>) -> Option<&'a Name>
@@ -146,16 +145,19 @@ pub(crate) fn local_init<A: Mark>(
     kind: Option<Kind>,
     of: &Expr<A>,
     log: &mut Vec<Note>,
+    types: &mut Types,
 ) -> Result<(), AllocError>
     requires knows { Knows table.now place.now }
     requires fits { FitsExp (λ m b. (A.span_from m b).from) A.fits_at at (view.expr_of of.now) }
-    ensures { IfOk result (λ _. pure.InitAdds (λ m b. (A.span_from m b).from) table.now
+    ensures notes { IfOk result (λ _. pure.InitAdds (λ m b. (A.span_from m b).from) table.now
         (context_of place.now) at kind (view.expr_of of.now)
         (notes_of table.now (member_of place.now) log.old.items)
         (notes_of table.now (member_of place.now) log.new.items)) }
+    ensures slots { IfOk result (λ _. types.new ≡ types.old
+        ++ flat (exp_tree table.now (context_of place.now) (view.expr_of of.now))) }
 {
     table.keeps_rows();
-    let value = expr(alloc, table, place, Role::Value, at, of, log)?;
+    let value = walk_expr(alloc, table, place, Role::Value, at, of, log, types)?;
     put_init(table, place, kind, value, log)
 }
 
@@ -171,21 +173,27 @@ pub(crate) fn local<'a, A: Mark>(
     name: &'a Ident<A>,
     init: &'a Expr<A>,
     log: &mut Vec<Note>,
+    types: &mut Types,
 ) -> Result<Behind, AllocError>
     requires knows { Knows table.now place.now }
     requires fits { FitsType (λ m b. (A.span_from m b).from) A.fits_at at (view.type_of ty.now) }
     requires fits_name { A.fits_at name.now.mark at }
     requires fits_init { FitsExp (λ m b. (A.span_from m b).from) A.fits_at at
         (view.expr_of init.now) }
-    ensures { IfOk result (λ b. pure.LocalPasses (λ m b. (A.span_from m b).from) table.now
+    ensures passes { IfOk result (λ b. pure.LocalPasses (λ m b. (A.span_from m b).from) table.now
         place.old at number is_final (view.type_of ty.now) (view.word_of name.now)
         (view.expr_of init.now) log.old.items b place.new log.new.items) }
+    ensures slots { IfOk result (λ _. types.new ≡ types.old ++ flats (local_parts table.now number
+        (context_of place.old) is_final (view.type_of ty.now) (view.word_of name.now)
+        (view.expr_of init.now))) }
 {
     table.keeps_rows();
     let next = next(number)?;
     let kind = local_head(table, place, at, ty, name, log)?;
     declare(table, place, number, is_final, ty, name, kind)?;
-    local_init(alloc, table, place, at, kind, init, log)?;
+    put_leaf(types)?;
+    put_leaf(types)?;
+    local_init(alloc, table, place, at, kind, init, log, types)?;
     place.own = None;
     Ok(reached(next))
 }

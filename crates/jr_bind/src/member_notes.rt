@@ -1,30 +1,38 @@
-//! The walk over a field, method or constructor.
-ghost use Rattle.std.specs.Prelude.{◌≡◌, Some, IfOk, map, option_map};
+//! The walk over a field, method or constructor: its notes and its tree of types.
+ghost use Rattle.std.specs.Prelude.{◌≡◌, ◌++◌, Some, None, true, false, length, IfOk, map};
+ghost use Rattle.std.specs.Prelude.{option_map};
 ghost use Rattle.jr_ast.specs.View.{word_of, modifier_of, type_of, param_of, expr_of, args_of};
 ghost use Rattle.jr_ast.specs.View.{stmts_of, member_of};
 ghost use Rattle.jr_table.specs.KeyView.{member_key_of};
 ghost use Rattle.jr_table.specs.Entries as entries;
 ghost use Rattle.jr_table.specs.Entries.{number_of};
-ghost use Rattle.jr_table.specs.HeadRules.{is_static_member};
+ghost use Rattle.jr_table.specs.HeadRules.{is_static_member, plain, with_parameters};
+ghost use Rattle.jr_table.specs.Errors.{member_part};
 ghost use Rattle.jr_table.specs.Walks as walks;
-ghost use Rattle.jr_bind.specs.Places.{decl_of};
-ghost use Rattle.jr_bind.specs.Fits.{FitsType, FitsMaybe, FitsStmts};
+ghost use Rattle.jr_types.specs.Trees.{none, node, flat};
+ghost use Rattle.jr_types.specs.TypedTrees.{put_leaves, put_args, put_maybe, put_stmts, part_tree};
+ghost use Rattle.jr_notes.specs.Places.{decl_of};
+ghost use Rattle.jr_notes.specs.Fits.{FitsType, FitsMaybe, FitsStmts};
 ghost use Rattle.jr_bind.specs.DeclaredTypes.{FitsMaybeType, FitsParams};
-ghost use Rattle.jr_bind.specs.Logs.{notes_of, Adds};
+ghost use Rattle.jr_notes.specs.Logs.{notes_of, Adds};
 ghost use Rattle.jr_bind.specs.PartFits.{FitsMaybeArgs, FitsMember};
 ghost use Rattle.jr_bind.specs.PartNotes as pure;
+ghost use Rattle.jr_bind.specs.TypedFlow.{named_count, args_count};
 
 use crate::declared::{put_params, put_type};
-use crate::findings::Note;
+use crate::fronts::{named_parts, put_front};
 use crate::initializers::put_initializer;
 use crate::member_places::{make_instance, place_with, plain_place};
 use crate::methods::put_declared_method;
 use crate::parameters::count;
 use crate::statements::stmts;
+use crate::stmt_nodes::maybe_parts;
 use crate::supers::put_super;
 use jr_ast::{Expr, Ident, Member, MemberKind, ModWord, Modifier, Param, Stmt, TypeRef};
+use jr_notes::{Note, joined, put_leaf};
 use jr_table::{MemberKey, Table};
 use jr_text::Mark;
+use jr_types::Types;
 use std::alloc::{AllocError, Global};
 
 fn is_static_word(word: ModWord) -> bool
@@ -57,22 +65,32 @@ fn note_field<'a, A: Mark>(
     row: u32,
     at: u32,
     is_static: bool,
+    modifiers: usize,
     ty: &TypeRef<A>,
     init: &Option<Expr<A>>,
     log: &mut Vec<Note>,
+    types: &mut Types,
 ) -> Result<(), AllocError>
     requires row { number_of table.now (decl_of (member_key_of key.now)) ≡ Some row }
     requires fits { FitsType (λ m b. (A.span_from m b).from) A.fits_at at (type_of ty.now) }
     requires fits_init { FitsMaybe (λ m b. (A.span_from m b).from) A.fits_at at
         (option_map expr_of init.now) }
-    ensures { IfOk result (λ _. Adds (notes_of table.now (member_key_of key.now) log.old.items)
+    ensures notes { IfOk result (λ _. Adds
+        (notes_of table.now (member_key_of key.now) log.old.items)
         (pure.field_notes (λ m b. (A.span_from m b).from) table.now (member_key_of key.now) at
         is_static (type_of ty.now) (option_map expr_of init.now))
         (notes_of table.now (member_key_of key.now) log.new.items)) }
+    ensures slots { IfOk result (λ _. types.new ≡ types.old ++ flat (node None
+        (put_maybe table.now (plain (member_key_of key.now) is_static)
+        (put_leaves 2 (put_leaves modifiers none)) (option_map expr_of init.now)))) }
 {
+    let before = types.count();
+    let first = put_front(modifiers, 2, 0, types)?;
+    let parts = joined(first, maybe_parts(init))?;
     let place = plain_place(alloc, table, key, row, is_static);
     put_type(table, place.class, at, ty, log)?;
-    put_initializer(alloc, table, &place, at, init, log)
+    put_initializer(alloc, table, &place, at, init, log, types)?;
+    types.close(before, parts, None)
 }
 
 /// A method (JLS 8.4).
@@ -83,11 +101,13 @@ fn note_method<'a, A: Mark>(
     row: u32,
     at: u32,
     is_static: bool,
+    modifiers: usize,
     ret: &Option<TypeRef<A>>,
     name: &Ident<A>,
     params: &'a [Param<A>],
     body: &'a [Stmt<A>],
     log: &mut Vec<Note>,
+    types: &mut Types,
 ) -> Result<(), AllocError>
     requires row { number_of table.now (decl_of (member_key_of key.now)) ≡ Some row }
     requires fits { FitsMaybeType (λ m b. (A.span_from m b).from) A.fits_at at
@@ -97,15 +117,37 @@ fn note_method<'a, A: Mark>(
         (map param_of params.now) }
     requires fits_body { FitsStmts (λ m b. (A.span_from m b).from) A.fits_at at
         (stmts_of body.now) }
-    ensures { IfOk result (λ _. Adds (notes_of table.now (member_key_of key.now) log.old.items)
+    ensures notes { IfOk result (λ _. Adds
+        (notes_of table.now (member_key_of key.now) log.old.items)
         (pure.method_notes (λ m b. (A.span_from m b).from) table.now (member_key_of key.now) at
         is_static (option_map type_of ret.now) (word_of name.now) (map param_of params.now)
         (stmts_of body.now)) (notes_of table.now (member_key_of key.now) log.new.items)) }
+    ensures slots { IfOk result (λ _. types.new ≡ types.old ++ flat (node None
+        (put_stmts table.now
+        (put_leaves (length params.now)
+        (put_leaves (named_count (option_map type_of ret.now)) (put_leaves modifiers none)))
+        (length params.now)
+        (with_parameters (member_key_of key.now) is_static (map param_of params.now))
+        (stmts_of body.now)))) }
 {
+    let before = types.count();
     let number = count(params)?;
+    let first = put_front(modifiers, named_parts(ret), params.len(), types)?;
+    let parts = joined(first, body.len())?;
     let mut place = place_with(alloc, table, key, row, is_static, params)?;
-    let behind = stmts(alloc, table, &mut place, at, number, body, log)?;
+    let behind = stmts(alloc, table, &mut place, at, number, body, log, types)?;
+    types.close(before, parts, None)?;
     put_declared_method(table, &place, at, ret, name, params, behind.completes, log)
+}
+
+/// How many parts the arguments of a written `super(..)` are.
+fn super_parts<A>(args: &Option<Vec<Expr<A>>>) -> usize
+    ensures { result ≡ args_count (args_of args.now) }
+{
+    match args {
+        None => 0,
+        Some(args) => args.len(),
+    }
 }
 
 /// A constructor (JLS 8.8).
@@ -116,11 +158,13 @@ fn note_ctor<'a, A: Mark>(
     row: u32,
     super_at: u32,
     at: u32,
+    modifiers: usize,
     name: &Ident<A>,
     params: &'a [Param<A>],
     args: &Option<Vec<Expr<A>>>,
     body: &'a [Stmt<A>],
     log: &mut Vec<Note>,
+    types: &mut Types,
 ) -> Result<(), AllocError>
     requires row { number_of table.now (decl_of (member_key_of key.now)) ≡ Some row }
     requires fits_name { A.fits_at name.now.mark at }
@@ -130,19 +174,35 @@ fn note_ctor<'a, A: Mark>(
         (args_of args.now) }
     requires fits_body { FitsStmts (λ m b. (A.span_from m b).from) A.fits_at at
         (stmts_of body.now) }
-    ensures { IfOk result (λ _. Adds (notes_of table.now (member_key_of key.now) log.old.items)
+    ensures notes { IfOk result (λ _. Adds
+        (notes_of table.now (member_key_of key.now) log.old.items)
         (pure.ctor_notes (λ m b. (A.span_from m b).from) table.now (member_key_of key.now) at
         super_at (word_of name.now) (map param_of params.now) (args_of args.now)
         (stmts_of body.now)) (notes_of table.now (member_key_of key.now) log.new.items)) }
+    ensures slots { IfOk result (λ _. types.new ≡ types.old ++ flat (node None
+        (put_stmts table.now
+        (put_args table.now
+        (with_parameters (member_key_of key.now) true (map param_of params.now))
+        (put_leaves (length params.now) (put_leaves 1 (put_leaves modifiers none)))
+        (args_of args.now))
+        (length params.now)
+        (with_parameters (member_key_of key.now) false (map param_of params.now))
+        (stmts_of body.now)))) }
 {
+    let before = types.count();
     let number = count(params)?;
+    let front = put_front(modifiers, 1, params.len(), types)?;
+    let first = joined(front, super_parts(args))?;
+    let parts = joined(first, body.len())?;
     let mut place = place_with(alloc, table, key, row, true, params)?;
     put_params(table, place.class, at, params, log)?;
     let at_name = name.mark.span(at).from;
-    put_super(alloc, table, &place, super_at, at, at_name, args, log)?;
+    put_super(
+        alloc, table, &place, super_at, at, at_name, args, log, types,
+    )?;
     make_instance(&mut place);
-    stmts(alloc, table, &mut place, at, number, body, log)?;
-    Ok(())
+    stmts(alloc, table, &mut place, at, number, body, log, types)?;
+    types.close(before, parts, None)
 }
 
 /// A field, method or constructor. A member class is a part of its own.
@@ -156,14 +216,19 @@ pub(crate) fn note_member<'a, A: Mark>(
     base: u32,
     of: &'a Member<A>,
     log: &mut Vec<Note>,
+    types: &mut Types,
 ) -> Result<(), AllocError>
     requires row { number_of table.now (decl_of (member_key_of key.now)) ≡ Some row }
     requires fits { FitsMember (λ m b. (A.span_from m b).from) A.fits_at base
         (member_of of.now) }
-    ensures { IfOk result (λ _. Adds (notes_of table.now (member_key_of key.now) log.old.items)
+    ensures notes { IfOk result (λ _. Adds
+        (notes_of table.now (member_key_of key.now) log.old.items)
         (walks.member_notes (λ m b. (A.span_from m b).from) table.now super_at
         (member_key_of key.now) base (member_of of.now))
         (notes_of table.now (member_key_of key.now) log.new.items)) }
+    ensures slots { IfOk result (λ _. types.new ≡ types.old ++ flat (part_tree
+        (λ m b. (A.span_from m b).from) table.now (member_key_of key.now)
+        (member_part (member_of of.now)))) }
 {
     match &of.kind {
         MemberKind::Field {
@@ -174,7 +239,10 @@ pub(crate) fn note_member<'a, A: Mark>(
         } => {
             let at = of.mark.span(base).from;
             let is_static = is_static_member(modifiers.as_slice());
-            note_field(alloc, table, key, row, at, is_static, ty, init, log)
+            let words = modifiers.len();
+            note_field(
+                alloc, table, key, row, at, is_static, words, ty, init, log, types,
+            )
         }
         MemberKind::Method {
             modifiers,
@@ -185,22 +253,24 @@ pub(crate) fn note_member<'a, A: Mark>(
         } => {
             let at = of.mark.span(base).from;
             let is_static = is_static_member(modifiers.as_slice());
+            let words = modifiers.len();
             note_method(
-                alloc, table, key, row, at, is_static, ret, name, params, body, log,
+                alloc, table, key, row, at, is_static, words, ret, name, params, body, log, types,
             )
         }
         MemberKind::Ctor {
-            modifiers: _,
+            modifiers,
             name,
             params,
             parent_args: args,
             body,
         } => {
             let at = of.mark.span(base).from;
+            let words = modifiers.len();
             note_ctor(
-                alloc, table, key, row, super_at, at, name, params, args, body, log,
+                alloc, table, key, row, super_at, at, words, name, params, args, body, log, types,
             )
         }
-        MemberKind::Inner(_) => Ok(()),
+        MemberKind::Inner(_) => put_leaf(types),
     }
 }

@@ -1,23 +1,26 @@
 //! The walk over a part of a program.
-ghost use Rattle.std.specs.Prelude.{◌≡◌, Some, IfOk};
+ghost use Rattle.std.specs.Prelude.{◌≡◌, ◌++◌, Some, IfOk};
 ghost use Rattle.jr_ast.specs.View.{class_of};
 ghost use Rattle.jr_table.specs.KeyView.{member_key_of};
 ghost use Rattle.jr_table.specs.Entries.{number_of};
 ghost use Rattle.jr_table.specs.Errors.{class_part};
 ghost use Rattle.jr_table.specs.Walks as walks;
+ghost use Rattle.jr_types.specs.Trees.{flat};
+ghost use Rattle.jr_types.specs.TypedTrees.{part_tree};
 ghost use Rattle.jr_members.specs.PartView.{part_of};
-ghost use Rattle.jr_bind.specs.Places.{decl_of};
+ghost use Rattle.jr_notes.specs.Places.{decl_of};
 ghost use Rattle.jr_bind.specs.Heads.{FitsHead};
-ghost use Rattle.jr_bind.specs.Logs.{notes_of, Adds};
+ghost use Rattle.jr_notes.specs.Logs.{notes_of, Adds};
 ghost use Rattle.jr_bind.specs.PartFits.{FitsPart};
 
-use crate::findings::Note;
 use crate::heads::put_head;
 use crate::member_notes::note_member;
 use jr_ast::Class;
 use jr_members::PartRef;
+use jr_notes::{Note, put_leaf};
 use jr_table::{MemberKey, Table};
 use jr_text::Mark;
+use jr_types::Types;
 use std::alloc::{AllocError, Global};
 
 /// The head of a class, where the key is that of a class.
@@ -47,7 +50,8 @@ fn note_head<A: Mark>(
 }
 
 /// Notes what a part of a program finds and breaks: its head or declaration, and all that stands in
-/// it. `row` is the row of its key. A written `super(..)` stands at `super_at`.
+/// it; and makes its tree of types. `row` is the row of its key. A written `super(..)` stands at
+/// `super_at`.
 pub(crate) fn note_part<'a, A: Mark>(
     alloc: Global,
     table: &Table,
@@ -57,18 +61,25 @@ pub(crate) fn note_part<'a, A: Mark>(
     base: u32,
     of: &PartRef<'a, A>,
     log: &mut Vec<Note>,
+    types: &mut Types,
 ) -> Result<(), AllocError>
     requires row { number_of table.now (decl_of (member_key_of key.now)) ≡ Some row }
     requires fits { FitsPart (λ m b. (A.span_from m b).from) A.fits_at base (part_of of.now) }
-    ensures { IfOk result (λ _. Adds (notes_of table.now (member_key_of key.now) log.old.items)
+    ensures notes { IfOk result (λ _. Adds
+        (notes_of table.now (member_key_of key.now) log.old.items)
         (walks.part_notes (λ m b. (A.span_from m b).from) table.now super_at
         (member_key_of key.now) base (part_of of.now))
         (notes_of table.now (member_key_of key.now) log.new.items)) }
+    ensures slots { IfOk result (λ _. types.new ≡ types.old ++ flat (part_tree
+        (λ m b. (A.span_from m b).from) table.now (member_key_of key.now) (part_of of.now))) }
 {
     match *of {
-        PartRef::Head(class) => note_head(alloc, table, key, row, super_at, base, class, log),
+        PartRef::Head(class) => {
+            put_leaf(types)?;
+            note_head(alloc, table, key, row, super_at, base, class, log)
+        }
         PartRef::Member(member) => {
-            note_member(alloc, table, key, row, super_at, base, member, log)
+            note_member(alloc, table, key, row, super_at, base, member, log, types)
         }
     }
 }

@@ -4,17 +4,15 @@ ghost use Rattle.std.specs.List.Sorted.{IsPermutation, IsNonDecreasingBy};
 ghost use Rattle.jr_table.specs.Decls.{local_decl};
 ghost use Rattle.jr_table.specs.KeyView.{member_key_of, decl_of};
 ghost use Rattle.jr_table.specs.Lookup.{shown};
-ghost use Rattle.jr_bind.specs.Arms.{one_decl};
+ghost use Rattle.jr_notes.specs.Arms.{one_decl};
 ghost use Rattle.jr_bind.specs.BoundLogs as logs;
 ghost use Rattle.jr_bind.specs.BoundView.{reference_of};
-ghost use Rattle.jr_bind.specs.Findings.{note_of};
+ghost use Rattle.jr_notes.specs.Findings.{note_of};
 ghost use Rattle.jr_locals.specs.Helds.{key_of};
-ghost use Rattle.jr_bind.specs.Logs.{notes_of};
+ghost use Rattle.jr_notes.specs.Logs.{notes_of};
 
 use crate::bounds::Reference;
-use crate::findings::{Finding, Note};
-use crate::notes::one_row;
-use crate::rows::decl_at;
+use jr_notes::{Finding, Note, decl_at, one_row};
 use jr_table::{Answer, Decl, LocalKey, MemberKey, Table};
 use std::alloc::{AllocError, Global};
 

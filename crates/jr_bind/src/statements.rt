@@ -1,25 +1,28 @@
-//! The walk over statements (JLS 14).
-ghost use Rattle.std.specs.Prelude.{IfOk};
+//! The walk over statements (JLS 14): notes and trees of types.
+ghost use Rattle.std.specs.Prelude.{◌≡◌, ◌++◌, IfOk};
 ghost use Rattle.jr_ast.specs.View.{stmt_of, stmts_of, else_of};
-ghost use Rattle.jr_bind.specs.Places.{Knows};
-ghost use Rattle.jr_bind.specs.Fits.{FitsStmt, FitsElse, FitsStmts};
+ghost use Rattle.jr_types.specs.Trees.{flat, flats};
+ghost use Rattle.jr_types.specs.TypedTrees.{stmt_parts, stmt_tree};
+ghost use Rattle.jr_notes.specs.Places.{context_of, Knows};
+ghost use Rattle.jr_notes.specs.Fits.{FitsStmt, FitsElse, FitsStmts};
 ghost use Rattle.jr_bind.specs.Flow as flow;
+ghost use Rattle.jr_bind.specs.TypedFlow.{else_slots, body_slots};
 
 use crate::completing::{
     Behind, behind_both, behind_branches, behind_loop, is_true, reached, unreached,
 };
-use crate::findings::Note;
 use crate::locals::local;
-use crate::notes::put_unless;
-use crate::places::Place;
+use crate::stmt_nodes::close_stmt;
 use crate::stmt_parts::{condition, eval, lock, loop_condition, returned};
 use jr_ast::{Stmt, StmtKind};
+use jr_notes::{Note, Place, put_unless};
 use jr_table::{Rule, Table};
 use jr_text::Mark;
+use jr_types::Types;
 use std::alloc::{AllocError, Global};
 
-/// Notes what a statement breaks, and what its parts find and break. A local that it declares stays
-/// in scope.
+/// Notes what a statement breaks, and what its parts find and break, and makes the trees of its
+/// parts. A local that it declares stays in scope.
 #[cycle(stmt_walk)]
 pub(crate) fn stmt<'a, A: Mark>(
     alloc: Global,
@@ -29,11 +32,14 @@ pub(crate) fn stmt<'a, A: Mark>(
     number: u32,
     of: &'a Stmt<A>,
     log: &mut Vec<Note>,
+    types: &mut Types,
 ) -> Result<Behind, AllocError>
     requires knows { Knows table.now place.now }
     requires fits { FitsStmt (λ m b. (A.span_from m b).from) A.fits_at base (stmt_of of.now) }
-    ensures { IfOk result (λ b. flow.StmtPasses (λ m b. (A.span_from m b).from) table.now number
-        place.old base (stmt_of of.now) log.old.items b place.new log.new.items) }
+    ensures passes { IfOk result (λ b. flow.StmtPasses (λ m b. (A.span_from m b).from) table.now
+        number place.old base (stmt_of of.now) log.old.items b place.new log.new.items) }
+    ensures slots { IfOk result (λ _. types.new ≡ types.old
+        ++ flats (stmt_parts table.now number (context_of place.old) (stmt_of of.now))) }
 {
     let at = of.mark.span(base).from;
     match &of.kind {
@@ -43,37 +49,37 @@ pub(crate) fn stmt<'a, A: Mark>(
             name,
             init,
         } => local(
-            alloc, table, place, at, number, *is_final, ty, name, init, log,
+            alloc, table, place, at, number, *is_final, ty, name, init, log, types,
         ),
         StmtKind::Eval(value) => {
-            eval(alloc, table, place, at, value, log)?;
+            eval(alloc, table, place, at, value, log, types)?;
             Ok(reached(number))
         }
         StmtKind::If(test, yes, no) => {
-            condition(alloc, table, place, at, test, log)?;
-            let yes = inner(alloc, table, place, at, number, yes, log)?;
-            let no = otherwise(alloc, table, place, at, yes.number, no, log)?;
+            condition(alloc, table, place, at, test, log, types)?;
+            let yes = inner(alloc, table, place, at, number, yes, log, types)?;
+            let no = otherwise(alloc, table, place, at, yes.number, no, log, types)?;
             Ok(behind_branches(yes, no))
         }
         StmtKind::While(test, body) => {
-            loop_condition(alloc, table, place, at, test, log)?;
-            let body = inner(alloc, table, place, at, number, body, log)?;
+            loop_condition(alloc, table, place, at, test, log, types)?;
+            let body = inner(alloc, table, place, at, number, body, log, types)?;
             Ok(behind_loop(body, is_true(test)))
         }
         StmtKind::Return(value) => {
-            returned(alloc, table, place, at, value, log)?;
+            returned(alloc, table, place, at, value, log, types)?;
             Ok(unreached(number))
         }
-        StmtKind::Block(body) => stmts(alloc, table, place, at, number, body, log),
+        StmtKind::Block(body) => stmts(alloc, table, place, at, number, body, log, types),
         StmtKind::Sync(object, body) => {
-            lock(alloc, table, place, at, object, log)?;
-            stmts(alloc, table, place, at, number, body, log)
+            lock(alloc, table, place, at, object, log, types)?;
+            stmts(alloc, table, place, at, number, body, log, types)
         }
         StmtKind::Empty => Ok(reached(number)),
     }
 }
 
-/// A statement that is no element of a list: what it declares is gone behind it.
+/// A statement that is no element of a list, and its tree: what it declares is gone behind it.
 #[cycle(stmt_walk)]
 fn inner<'a, A: Mark>(
     alloc: Global,
@@ -83,15 +89,20 @@ fn inner<'a, A: Mark>(
     number: u32,
     of: &'a Stmt<A>,
     log: &mut Vec<Note>,
+    types: &mut Types,
 ) -> Result<Behind, AllocError>
     requires knows { Knows table.now place.now }
     requires fits { FitsStmt (λ m b. (A.span_from m b).from) A.fits_at base (stmt_of of.now) }
-    ensures { IfOk result (λ b. flow.InnerPasses (λ m b. (A.span_from m b).from) table.now number
-        place.old base (stmt_of of.now) log.old.items b place.new log.new.items) }
+    ensures passes { IfOk result (λ b. flow.InnerPasses (λ m b. (A.span_from m b).from) table.now
+        number place.old base (stmt_of of.now) log.old.items b place.new log.new.items) }
+    ensures slots { IfOk result (λ _. types.new ≡ types.old
+        ++ flat (stmt_tree table.now number (context_of place.old) (stmt_of of.now))) }
 {
     let depth = place.locals.len();
     let own = place.own;
-    let behind = stmt(alloc, table, place, base, number, of, log)?;
+    let before = types.count();
+    let behind = stmt(alloc, table, place, base, number, of, log, types)?;
+    close_stmt(before, of, types)?;
     place.locals.truncate(depth)?;
     place.own = own;
     Ok(behind)
@@ -107,19 +118,22 @@ fn otherwise<'a, A: Mark>(
     number: u32,
     of: &'a Option<Box<Stmt<A>>>,
     log: &mut Vec<Note>,
+    types: &mut Types,
 ) -> Result<Behind, AllocError>
     requires knows { Knows table.now place.now }
     requires fits { FitsElse (λ m b. (A.span_from m b).from) A.fits_at at (else_of of.now) }
-    ensures { IfOk result (λ b. flow.ElsePasses (λ m b. (A.span_from m b).from) table.now number
-        place.old at (else_of of.now) log.old.items b place.new log.new.items) }
+    ensures passes { IfOk result (λ b. flow.ElsePasses (λ m b. (A.span_from m b).from) table.now
+        number place.old at (else_of of.now) log.old.items b place.new log.new.items) }
+    ensures slots { IfOk result (λ _. types.new ≡ types.old
+        ++ else_slots table.now number (context_of place.old) (else_of of.now)) }
 {
     match of {
         None => Ok(reached(number)),
-        Some(of) => inner(alloc, table, place, at, number, of, log),
+        Some(of) => inner(alloc, table, place, at, number, of, log, types),
     }
 }
 
-/// A statement of a list.
+/// A statement of a list, and its tree.
 #[cycle(stmt_walk)]
 fn item<'a, A: Mark>(
     alloc: Global,
@@ -129,12 +143,15 @@ fn item<'a, A: Mark>(
     before: Behind,
     of: &'a Stmt<A>,
     log: &mut Vec<Note>,
+    types: &mut Types,
 ) -> Result<Behind, AllocError>
     requires knows { Knows table.now place.now }
     requires fits { FitsStmt (λ m b. (A.span_from m b).from) A.fits_at at (stmt_of of.now) }
-    ensures { IfOk result (λ b. flow.ItemPasses (λ m b. (A.span_from m b).from) table.now
+    ensures passes { IfOk result (λ b. flow.ItemPasses (λ m b. (A.span_from m b).from) table.now
         before.number place.old at before.completes (stmt_of of.now) log.old.items b place.new
         log.new.items) }
+    ensures slots { IfOk result (λ _. types.new ≡ types.old
+        ++ flat (stmt_tree table.now before.number (context_of place.old) (stmt_of of.now))) }
 {
     let begin = of.mark.span(at).from;
     put_unless(
@@ -145,7 +162,9 @@ fn item<'a, A: Mark>(
         Rule::Unreachable,
         log,
     )?;
-    let behind = stmt(alloc, table, place, at, before.number, of, log)?;
+    let begun = types.count();
+    let behind = stmt(alloc, table, place, at, before.number, of, log, types)?;
+    close_stmt(begun, of, types)?;
     Ok(behind_both(before, behind))
 }
 
@@ -159,17 +178,20 @@ pub(crate) fn stmts<'a, A: Mark>(
     number: u32,
     body: &'a [Stmt<A>],
     log: &mut Vec<Note>,
+    types: &mut Types,
 ) -> Result<Behind, AllocError>
     requires knows { Knows table.now place.now }
     requires fits { FitsStmts (λ m b. (A.span_from m b).from) A.fits_at at (stmts_of body.now) }
-    ensures { IfOk result (λ b. flow.BodyPasses (λ m b. (A.span_from m b).from) table.now number
-        place.old at (stmts_of body.now) log.old.items b place.new log.new.items) }
+    ensures passes { IfOk result (λ b. flow.BodyPasses (λ m b. (A.span_from m b).from) table.now
+        number place.old at (stmts_of body.now) log.old.items b place.new log.new.items) }
+    ensures slots { IfOk result (λ _. types.new ≡ types.old
+        ++ body_slots table.now number (context_of place.old) (stmts_of body.now)) }
 {
     let depth = place.locals.len();
     let own = place.own;
     let mut behind = reached(number);
     for of in body {
-        behind = item(alloc, table, place, at, behind, of, log)?;
+        behind = item(alloc, table, place, at, behind, of, log, types)?;
     }
     place.locals.truncate(depth)?;
     place.own = own;

@@ -3,20 +3,21 @@ ghost use Rattle.std.specs.Prelude.{◌≡◌, ◌++◌, IfOk, option_map};
 ghost use Rattle.jr_ast.specs.View.{expr_of};
 ghost use Rattle.jr_table.specs.Walks as walks;
 ghost use Rattle.jr_table.specs.Binding.{value, statement};
-ghost use Rattle.jr_bind.specs.Places.{context_of, member_of, Knows};
-ghost use Rattle.jr_bind.specs.Fits.{FitsExp, FitsMaybe};
-ghost use Rattle.jr_bind.specs.Logs.{notes_of, Adds};
+ghost use Rattle.jr_types.specs.Trees.{flat};
+ghost use Rattle.jr_types.specs.TypedTrees.{exp_tree};
+ghost use Rattle.jr_notes.specs.Places.{context_of, member_of, Knows};
+ghost use Rattle.jr_notes.specs.Fits.{FitsExp, FitsMaybe};
+ghost use Rattle.jr_notes.specs.Logs.{notes_of, Adds};
 ghost use Rattle.jr_bind.specs.StmtArms as pure;
+ghost use Rattle.jr_bind.specs.TypedFlow.{maybe_slots};
 
 use crate::completing::is_true;
-use crate::findings::Note;
-use crate::meanings::Role;
-use crate::places::Place;
 use crate::stmt_notes::{due, put_condition, put_lock, put_loop, put_no_value, put_value};
-use crate::walk::expr;
 use jr_ast::Expr;
+use jr_notes::{Note, Place, Role, walk_expr};
 use jr_table::Table;
 use jr_text::Mark;
+use jr_types::Types;
 use std::alloc::{AllocError, Global};
 
 /// The condition of an `if`.
@@ -27,16 +28,19 @@ pub(crate) fn condition<A: Mark>(
     at: u32,
     of: &Expr<A>,
     log: &mut Vec<Note>,
+    types: &mut Types,
 ) -> Result<(), AllocError>
     requires knows { Knows table.now place.now }
     requires fits { FitsExp (λ m b. (A.span_from m b).from) A.fits_at at (expr_of of.now) }
-    ensures { IfOk result (λ _. Adds (notes_of table.now (member_of place.now) log.old.items)
+    ensures notes { IfOk result (λ _. Adds (notes_of table.now (member_of place.now) log.old.items)
         (pure.checked_notes (λ m b. (A.span_from m b).from) table.now (context_of place.now)
         at (expr_of of.now) ++ walks.notes_of (λ m b. (A.span_from m b).from) table.now
         (context_of place.now) value at (expr_of of.now))
         (notes_of table.now (member_of place.now) log.new.items)) }
+    ensures slots { IfOk result (λ _. types.new ≡ types.old
+        ++ flat (exp_tree table.now (context_of place.now) (expr_of of.now))) }
 {
-    let value = expr(alloc, table, place, Role::Value, at, of, log)?;
+    let value = walk_expr(alloc, table, place, Role::Value, at, of, log, types)?;
     put_condition(table, place, value, log)
 }
 
@@ -48,16 +52,19 @@ pub(crate) fn loop_condition<A: Mark>(
     at: u32,
     of: &Expr<A>,
     log: &mut Vec<Note>,
+    types: &mut Types,
 ) -> Result<(), AllocError>
     requires knows { Knows table.now place.now }
     requires fits { FitsExp (λ m b. (A.span_from m b).from) A.fits_at at (expr_of of.now) }
-    ensures { IfOk result (λ _. Adds (notes_of table.now (member_of place.now) log.old.items)
+    ensures notes { IfOk result (λ _. Adds (notes_of table.now (member_of place.now) log.old.items)
         (pure.looped_notes (λ m b. (A.span_from m b).from) table.now (context_of place.now)
         at (expr_of of.now) ++ walks.notes_of (λ m b. (A.span_from m b).from) table.now
         (context_of place.now) value at (expr_of of.now))
         (notes_of table.now (member_of place.now) log.new.items)) }
+    ensures slots { IfOk result (λ _. types.new ≡ types.old
+        ++ flat (exp_tree table.now (context_of place.now) (expr_of of.now))) }
 {
-    let value = expr(alloc, table, place, Role::Value, at, of, log)?;
+    let value = walk_expr(alloc, table, place, Role::Value, at, of, log, types)?;
     put_loop(table, place, value, is_true(of), log)
 }
 
@@ -69,16 +76,19 @@ pub(crate) fn lock<A: Mark>(
     at: u32,
     of: &Expr<A>,
     log: &mut Vec<Note>,
+    types: &mut Types,
 ) -> Result<(), AllocError>
     requires knows { Knows table.now place.now }
     requires fits { FitsExp (λ m b. (A.span_from m b).from) A.fits_at at (expr_of of.now) }
-    ensures { IfOk result (λ _. Adds (notes_of table.now (member_of place.now) log.old.items)
+    ensures notes { IfOk result (λ _. Adds (notes_of table.now (member_of place.now) log.old.items)
         (pure.locked_notes (λ m b. (A.span_from m b).from) table.now (context_of place.now)
         at (expr_of of.now) ++ walks.notes_of (λ m b. (A.span_from m b).from) table.now
         (context_of place.now) value at (expr_of of.now))
         (notes_of table.now (member_of place.now) log.new.items)) }
+    ensures slots { IfOk result (λ _. types.new ≡ types.old
+        ++ flat (exp_tree table.now (context_of place.now) (expr_of of.now))) }
 {
-    let value = expr(alloc, table, place, Role::Value, at, of, log)?;
+    let value = walk_expr(alloc, table, place, Role::Value, at, of, log, types)?;
     put_lock(table, place, value, log)
 }
 
@@ -90,17 +100,20 @@ fn returned_value<A: Mark>(
     at: u32,
     of: &Expr<A>,
     log: &mut Vec<Note>,
+    types: &mut Types,
 ) -> Result<(), AllocError>
     requires knows { Knows table.now place.now }
     requires fits { FitsExp (λ m b. (A.span_from m b).from) A.fits_at at (expr_of of.now) }
-    ensures { IfOk result (λ _. Adds (notes_of table.now (member_of place.now) log.old.items)
+    ensures notes { IfOk result (λ _. Adds (notes_of table.now (member_of place.now) log.old.items)
         (pure.value_returned_notes (λ m b. (A.span_from m b).from) table.now
         (context_of place.now) at (expr_of of.now) ++ walks.notes_of
         (λ m b. (A.span_from m b).from) table.now (context_of place.now) value at
         (expr_of of.now)) (notes_of table.now (member_of place.now) log.new.items)) }
+    ensures slots { IfOk result (λ _. types.new ≡ types.old
+        ++ flat (exp_tree table.now (context_of place.now) (expr_of of.now))) }
 {
     table.keeps_rows();
-    let value = expr(alloc, table, place, Role::Value, at, of, log)?;
+    let value = walk_expr(alloc, table, place, Role::Value, at, of, log, types)?;
     put_value(table, place, at, due(table, place), value, log)
 }
 
@@ -112,19 +125,22 @@ pub(crate) fn returned<A: Mark>(
     at: u32,
     of: &Option<Expr<A>>,
     log: &mut Vec<Note>,
+    types: &mut Types,
 ) -> Result<(), AllocError>
     requires knows { Knows table.now place.now }
     requires fits { FitsMaybe (λ m b. (A.span_from m b).from) A.fits_at at
         (option_map expr_of of.now) }
-    ensures { IfOk result (λ _. Adds (notes_of table.now (member_of place.now) log.old.items)
+    ensures notes { IfOk result (λ _. Adds (notes_of table.now (member_of place.now) log.old.items)
         (pure.returned_notes (λ m b. (A.span_from m b).from) table.now (context_of place.now)
         at (option_map expr_of of.now) ++ walks.maybe_notes (λ m b. (A.span_from m b).from)
         table.now (context_of place.now) at (option_map expr_of of.now))
         (notes_of table.now (member_of place.now) log.new.items)) }
+    ensures slots { IfOk result (λ _. types.new ≡ types.old
+        ++ maybe_slots table.now (context_of place.now) (option_map expr_of of.now)) }
 {
     match of {
         None => put_no_value(table, place, at, due(table, place), log),
-        Some(of) => returned_value(alloc, table, place, at, of, log),
+        Some(of) => returned_value(alloc, table, place, at, of, log, types),
     }
 }
 
@@ -136,14 +152,17 @@ pub(crate) fn eval<A: Mark>(
     at: u32,
     of: &Expr<A>,
     log: &mut Vec<Note>,
+    types: &mut Types,
 ) -> Result<(), AllocError>
     requires knows { Knows table.now place.now }
     requires fits { FitsExp (λ m b. (A.span_from m b).from) A.fits_at at (expr_of of.now) }
-    ensures { IfOk result (λ _. Adds (notes_of table.now (member_of place.now) log.old.items)
+    ensures notes { IfOk result (λ _. Adds (notes_of table.now (member_of place.now) log.old.items)
         (walks.notes_of (λ m b. (A.span_from m b).from) table.now (context_of place.now)
         statement at (expr_of of.now))
         (notes_of table.now (member_of place.now) log.new.items)) }
+    ensures slots { IfOk result (λ _. types.new ≡ types.old
+        ++ flat (exp_tree table.now (context_of place.now) (expr_of of.now))) }
 {
-    expr(alloc, table, place, Role::Statement, at, of, log)?;
+    walk_expr(alloc, table, place, Role::Statement, at, of, log, types)?;
     Ok(())
 }

@@ -5,21 +5,20 @@ ghost use Rattle.jr_table.specs.HeadRules.{plain};
 ghost use Rattle.jr_table.specs.Notes.{when, breaks};
 ghost use Rattle.jr_table.specs.HeadNotes as heads;
 ghost use Rattle.jr_table.specs.Walks as walks;
-ghost use Rattle.jr_bind.specs.Places.{context_of, member_of, Knows};
-ghost use Rattle.jr_bind.specs.Fits.{FitsExps};
-ghost use Rattle.jr_bind.specs.Logs.{notes_of, Adds};
+ghost use Rattle.jr_notes.specs.Places.{context_of, member_of, Knows};
+ghost use Rattle.jr_notes.specs.Fits.{FitsExps};
+ghost use Rattle.jr_notes.specs.Logs.{notes_of, Adds};
 ghost use Rattle.jr_bind.specs.PartFits.{FitsMaybeArgs};
 ghost use Rattle.jr_bind.specs.Supers as pure;
+ghost use Rattle.jr_bind.specs.TypedFlow.{args_slots};
+ghost use Rattle.jr_notes.specs.TypedSlots.{row_slots};
 
-use crate::findings::Note;
 use crate::heads::{lacks_super_ctor, super_ctor};
-use crate::invocations::put_method;
-use crate::notes::put_when;
-use crate::places::Place;
-use crate::walk::exprs;
 use jr_ast::Expr;
+use jr_notes::{Note, Place, put_method, put_when, walk_args};
 use jr_table::{Rule, Table};
 use jr_text::Mark;
+use jr_types::Types;
 use std::alloc::{AllocError, Global};
 
 /// A written `super(..)`: its arguments, and the constructor that it finds.
@@ -31,15 +30,18 @@ fn put_written<A: Mark>(
     at: u32,
     args: &[Expr<A>],
     log: &mut Vec<Note>,
+    types: &mut Types,
 ) -> Result<(), AllocError>
     requires knows { Knows table.now place.now }
     requires fits { FitsExps (λ m b. (A.span_from m b).from) A.fits_at at (exprs_of args.now) }
-    ensures { IfOk result (λ _. Adds (notes_of table.now (member_of place.now) log.old.items)
+    ensures notes { IfOk result (λ _. Adds (notes_of table.now (member_of place.now) log.old.items)
         (pure.written_notes table.now (context_of place.now) super_at (exprs_of args.now)
         ++ walks.args_notes (λ m b. (A.span_from m b).from) table.now (context_of place.now)
         at (exprs_of args.now)) (notes_of table.now (member_of place.now) log.new.items)) }
+    ensures slots { IfOk result (λ _. types.new ≡ types.old
+        ++ row_slots table.now (context_of place.now) (exprs_of args.now)) }
 {
-    let kinds = exprs(alloc, table, place, at, args, log)?;
+    let kinds = walk_args(alloc, table, place, at, args, log, types)?;
     let answer = super_ctor(alloc, table, place.class, &kinds)?;
     put_method(table, place, super_at, answer, log)
 }
@@ -72,18 +74,30 @@ pub(crate) fn put_super<A: Mark>(
     at_name: u32,
     args: &Option<Vec<Expr<A>>>,
     log: &mut Vec<Note>,
+    types: &mut Types,
 ) -> Result<(), AllocError>
     requires knows { Knows table.now place.now }
     requires fits { FitsMaybeArgs (λ m b. (A.span_from m b).from) A.fits_at at
         (args_of args.now) }
-    ensures { IfOk result (λ _. Adds (notes_of table.now (member_of place.now) log.old.items)
+    ensures notes { IfOk result (λ _. Adds (notes_of table.now (member_of place.now) log.old.items)
         (pure.super_notes table.now (context_of place.now) super_at at_name (args_of args.now)
         ++ walks.super_args_notes (λ m b. (A.span_from m b).from) table.now
         (context_of place.now) at (args_of args.now))
         (notes_of table.now (member_of place.now) log.new.items)) }
+    ensures slots { IfOk result (λ _. types.new ≡ types.old
+        ++ args_slots table.now (context_of place.now) (args_of args.now)) }
 {
     match args {
         None => put_implicit(alloc, table, place, at_name, log),
-        Some(args) => put_written(alloc, table, place, super_at, at, args.as_slice(), log),
+        Some(args) => put_written(
+            alloc,
+            table,
+            place,
+            super_at,
+            at,
+            args.as_slice(),
+            log,
+            types,
+        ),
     }
 }

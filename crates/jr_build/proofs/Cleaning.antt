@@ -36,7 +36,7 @@ module _ (packages : List (Option PackageLine)) (sites : List Site) where
   of_rank kind.BadModifiers = refl
   of_rank kind.StaticInit = refl
 
-  same_kind : (j k : DeclKind) → rank_of packages sites j ≡ rank_of packages sites k → j ≡ k
+  pub same_kind : (j k : DeclKind) → rank_of packages sites j ≡ rank_of packages sites k → j ≡ k
   same_kind j k e = sym (of_rank j) ∙ ap kind_of e ∙ of_rank k
 
   split : (m n : ℕ) → m < n + 1 → (m < n) ⊎ (m ≡ n)

@@ -14,7 +14,7 @@ use Rattle.jr_files.specs.declared.faults.FilesFault.{FilesFault}
 use Rattle.jr_files.specs.declared.faults.FilesFault.TheVariants.{Unread, BadSource, Memory}
 use Rattle.jr_files.specs.declared.faults.SourceFault.{SourceFault}
 use Rattle.jr_files.specs.declared.faults.SourceFault.TheVariants.{TooMany, TooLong, NotUtf8, TotalTooLong}
-use Rattle.jr_files.specs.Fetching.{IsFilesFault, IsOneFault, IsUnread, OnUnread}
+use Rattle.jr_files.specs.Fetching.{IsFilesFault, IsInOrder, IsOneFault, IsUnread, OnUnread}
 use Rattle.jr_files.specs.Sources.{AreFetched, AreSources, AreTooMany, HasFault, HoldsFault, IsFirstBad, IsSource, file_limit, total_limit, total_of}
 
 sources_more : (files : Option Files) (operands : List Operand) (texts : List (List ℕ)) (o : Operand) (t : List ℕ) → AreSources files operands texts → IsSource files o.text t
@@ -117,6 +117,25 @@ module _ {Y Z : Type 0} where
     within = subst (λ n. n ≤ total_limit) so_far.counted so_far.within;
     has = has;
   }
+
+  -- the next file is the first that can't be read
+  pub first_unread : (files files' : Option Files) (operands : List raw.Operand) (i : ℕ) (d : raw.Operand) (sources : List (String Y × List ℕ)) (bytes : List (Vec ℕ Z)) (total : ℕ) → i < length operands
+      → SoFar files operands i sources bytes total → (missed : Option (List ℕ)) (faults faults' served served' : ℕ)
+      → (fault : FilesFault) → OnUnread fault (λ word. (word ≡ (get_or operands i d).word) × Rose faults faults' × OnSome files' (missed ≡ Some (get_or operands i d).text.now) × (served' ≡ served))
+      → OnUnread fault (IsInOrder files (map operand_of operands))
+  first_unread files files' operands i d sources bytes total below so_far missed faults faults' served served' (Unread word) failed = record {
+    few = subst (λ n. n ≤ file_limit) (sym (length-map operands operand_of)) so_far.few;
+    front = map operand_of (take i operands);
+    operand = operand_of (get_or operands i d);
+    back = map operand_of (drop (suc i) operands);
+    split = parts operands i d below;
+    told = failed.0;
+    texts = map (λ s. s.1) sources;
+    sources = so_far.are;
+    within = subst (λ n. n ≤ total_limit) so_far.counted so_far.within;
+  }
+  first_unread files files' operands i d sources bytes total below so_far missed faults faults' served served' (BadSource word fault) failed = tt
+  first_unread files files' operands i d sources bytes total below so_far missed faults faults' served served' Memory failed = tt
 
   pub one_bad : (files files' : Option Files) → files' ≡ files → (operands : List raw.Operand) (i : ℕ) (d : raw.Operand) (sources : List (String Y × List ℕ)) (bytes : List (Vec ℕ Z)) (total : ℕ) → i < length operands
       → SoFar files operands i sources bytes total → (fault : FilesFault) → IsOneFault fault files' (operand_of (get_or operands i d)) → IsFilesFault files (map operand_of operands) fault

@@ -1,5 +1,5 @@
 -- What fetches leave of a shelf, and how they end.
-use Rattle.std.specs.Prelude.{◌≡◌, ℕ, List, Option, Some, OnSome, slice_get}
+use Rattle.std.specs.Prelude.{◌≡◌, ℕ, ◌≤◌, List, ◌∷◌, ◌++◌, length, Option, Some, OnSome, slice_get}
 use Rattle.jr_shelf.specs.Counts.{Rose, RoseBy}
 use Rattle.jr_shelf.specs.Shelf.{Files}
 use Rattle.jr_words.specs.Words.{Operand}
@@ -12,7 +12,8 @@ use Rattle.jr_files.specs.declared.faults.SourceFault.TheVariants.{
   NotUtf8,
   TotalTooLong,
 }
-use Rattle.jr_files.specs.Sources.{HoldsFault, IsBadSource}
+use Rattle.jr_files.specs.Sources.{AreSources, HoldsFault, IsBadSource}
+use Rattle.jr_files.specs.Sources.{file_limit, total_limit, total_of}
 
 -- n calls were served, none failed, and the shelf holds what it held
 pub record Served (n : ℕ) (files files' : Option Files) (missed missed' : Option (List ℕ))
@@ -33,6 +34,19 @@ pub record IsUnread (files : Option Files) (operands : List Operand) (word : ℕ
   pub rose : Rose faults faults'
   pub names : OnSome files (missed' ≡ Some operand.text)
   pub count : RoseBy number served served'
+
+-- nothing in front of this word's file has a fault: there aren't too many operands, and the files
+-- of those in front hold texts, of not too many bytes
+pub record IsInOrder (files : Option Files) (operands : List Operand) (word : ℕ) : Type 0 where
+  pub few : length operands ≤ file_limit
+  pub front : List Operand
+  pub operand : Operand
+  pub back : List Operand
+  pub split : operands ≡ front ++ operand ∷ back
+  pub told : word ≡ operand.word
+  pub texts : List (List ℕ)
+  pub sources : AreSources files front texts
+  pub within : total_of texts ≤ total_limit
 
 -- a fact of the word whose file can't be read
 abbrev pub OnUnread : FilesFault → (ℕ → Type 0) → Type 0

@@ -3,8 +3,8 @@ ghost use Rattle.std.specs.Prelude.{◌≡◌, ◌<◌, ◌≤◌, ◌^◌, map,
 ghost use Rattle.std.specs.Prelude.{Some};
 ghost use Rattle.jr_shelf.specs.Counts.{Rose};
 ghost use Rattle.jr_words.specs.Asked.{operand_of};
-ghost use Rattle.jr_files.specs.Fetching.{IsFilesFault, IsOneFault, IsUnread, OnUnread};
-ghost use Rattle.jr_files.specs.Fetching.{Served, UnlessUnread};
+ghost use Rattle.jr_files.specs.Fetching.{IsFilesFault, IsInOrder, IsOneFault, IsUnread};
+ghost use Rattle.jr_files.specs.Fetching.{OnUnread, Served, UnlessUnread};
 ghost use Rattle.jr_files.specs.Sources.{AreFetched, IsSource};
 ghost use Rattle.jr_files.specs.Views.{AreOf, texts_of};
 
@@ -47,6 +47,8 @@ pub fn fetch_sources<S: Shelf>(
     ensures unread { IfErr result (λ fault. OnUnread fault (λ word.
         IsUnread (S.holds shelf.old) (map operand_of files.now) word (S.missed shelf.new)
         (S.faults shelf.old) (S.faults shelf.new) (S.served shelf.old) (S.served shelf.new))) }
+    ensures in_order { IfErr result (λ fault. OnUnread fault
+        (IsInOrder (S.holds shelf.old) (map operand_of files.now))) }
 
     // What the shelf is behind it.
     ensures served { OnOk result (Served (length files.now)

@@ -29,7 +29,8 @@ fn ascend(
     requires differ { free ≢ stamp }
     requires size { length marks.old ≡ length parents.now }
     ensures within { IfSome result.met (λ c. c < length marks.old) }
-    ensures walked { Walked parents.now from free stamp marks.old marks.new result.met result.least }
+    ensures walked { Walked parents.now from free stamp marks.old marks.new
+        result.met result.least }
 {
     let mut class = from;
     let mut least = from;

@@ -33,7 +33,8 @@ impl NameTable {
         ensures owners { OnOk result (owners self.new ≡ owners self.old) }
         ensures before { IfOk result (λ before. before ≡ number_at self.old owner name.now) }
         ensures found { OnOk result ((c : ℕ) (q : List ℕ) → number_at self.new c q
-            ≡ (if (owner == c) && bytes_eq name.now q then Some number else number_at self.old c q)) }
+            ≡ (if (owner == c) && bytes_eq name.now q then Some number
+            else number_at self.old c q)) }
     {
         let name = String::from_str(self.alloc, name)?;
         let names = &mut self.by_owner[owner as usize];

@@ -8,13 +8,23 @@ ghost use Rattle.jr_table.specs.Lookup as pure;
 use jr_table::{Answer, Decl, Found, Table};
 use std::alloc::{AllocError, Global};
 
-/// The declaration of a row.
+/// The declaration of a row, where there is the row.
+fn row_decl(table: &Table, number: u32) -> Option<&Decl>
+    ensures { option_map (λ d. decl_of d.now) result ≡ pure.decl_at table.now number }
+{
+    match table.rows().get(number as usize) {
+        None => None,
+        Some(row) => Some(&row.decl),
+    }
+}
+
+/// A copy of the declaration of a row.
 fn decl_at(alloc: Global, table: &Table, number: u32) -> Result<Option<Decl>, AllocError>
     ensures { IfOk result (λ d. option_map decl_of d ≡ pure.decl_at table.now number) }
 {
-    match table.rows().get(number as usize) {
+    match row_decl(table, number) {
         None => Ok(None),
-        Some(row) => Ok(Some(row.decl.copy(alloc)?)),
+        Some(decl) => Ok(Some(decl.copy(alloc)?)),
     }
 }
 
@@ -48,26 +58,25 @@ fn from_static(alloc: Global, table: &Table, number: u32) -> Result<Found, Alloc
     }
 }
 
-/// Both, if there are two.
-fn both(first: Option<Decl>, second: Option<Decl>) -> Found
-    ensures { found_of result
-        ≡ pure.shown_two (option_map decl_of first) (option_map decl_of second) }
+fn both(alloc: Global, first: &Decl, second: &Decl) -> Result<Found, AllocError>
+    ensures { IfOk result (λ f. found_of f ≡ found.many (decl_of first.now) (decl_of second.now)) }
 {
-    match (first, second) {
-        (Some(first), Some(second)) => Found::Many(first, second),
-        (None, Some(_)) => Found::Nothing,
-        (Some(_), None) => Found::Nothing,
-        (None, None) => Found::Nothing,
-    }
+    let first = first.copy(alloc)?;
+    let second = second.copy(alloc)?;
+    Ok(Found::Many(first, second))
 }
 
+/// Both, if there are two.
 fn many(alloc: Global, table: &Table, first: u32, second: u32) -> Result<Found, AllocError>
     ensures { IfOk result (λ f. found_of f
         ≡ pure.shown_two (pure.decl_at table.now first) (pure.decl_at table.now second)) }
 {
-    let first = decl_at(alloc, table, first)?;
-    let second = decl_at(alloc, table, second)?;
-    Ok(both(first, second))
+    match (row_decl(table, first), row_decl(table, second)) {
+        (Some(first), Some(second)) => both(alloc, first, second),
+        (None, Some(_)) => Ok(Found::Nothing),
+        (Some(_), None) => Ok(Found::Nothing),
+        (None, None) => Ok(Found::Nothing),
+    }
 }
 
 /// The answer, with the declarations of its rows.

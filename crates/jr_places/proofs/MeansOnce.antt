@@ -11,7 +11,7 @@ use Rattle.jr_table.specs.Decls.{method, constructor}
 use Rattle.jr_table.specs.LookupLaws.{HasOne}
 use Rattle.jr_table.specs.Prelude.{top_key}
 use Rattle.jr_table.specs.Sites.{Written, int, boolean, named, ClassSite, ParamSite, Site, class_item, param_site}
-use Rattle.jr_table.specs.Resolving.{DeclaresClass, IsDeclared, IsPreludeClass, TopNames, TopParent, TopMemberType, HasTopMemberType, FindsInTop, MemberNames, TypeWithin, HasMemberType, FindsAround, FindsType, Means}
+use Rattle.jr_table.specs.Resolving.{DeclaresClass, IsDeclared, IsPreludeClass, TopNames, TopParent, TopMemberType, HasTopMemberType, FindsInTop, MemberNames, TypeWithin, HasMemberType, IsParent, FindsAround, FindsType, Means}
 use Rattle.jr_table.specs.ProgramRows.{MeanTypes}
 use Rattle.jr_table.specs.Faults.{PackageLine, IsClean}
 use Rattle.jr_table.specs.Errors.{Declares}
@@ -108,7 +108,7 @@ module _ (packages : List (Option PackageLine)) (sites : List Site) (clean : IsC
   finds_type_once c name q r (inr x) (inl y) = absurd (x.0 r y)
   finds_type_once c name q r (inr x) (inr y) = around_once c.outer name q r x.1 y.1
 
-  means_once : (c : ClassKey) (w : Written) → HasOne (Means sites c w)
+  pub means_once : (c : ClassKey) (w : Written) → HasOne (Means sites c w)
   means_once c int t u x y = x ∙ sym y
   means_once c boolean t u x y = x ∙ sym y
   means_once c (named at None name) t u x y = x.1 ∙ ap class (finds_type_once c name x.0 y.0 x.2 y.2) ∙ sym y.1
@@ -116,6 +116,16 @@ module _ (packages : List (Option PackageLine)) (sites : List Site) (clean : IsC
       let outer = finds_type_once c l x.0 y.0 x.3 y.3 in
       let same = has_member_once x.0 name x.1 y.1 x.4 (subst (λ (o : ClassKey). HasMemberType sites o name y.1) (sym outer) y.4) in
       x.2 ∙ ap class same ∙ sym y.2
+
+  pub parent_once : (c : ClassKey) → HasOne (IsParent sites c)
+  parent_once c p q (inl x) (inl y) = top_parent_once c.name p q x.1 y.1
+  parent_once c p q (inl x) (inr y) = let never : None ≡ Some y.0 = sym x.0 ∙ y.2 in absurd cc
+  parent_once c p q (inr x) (inl y) = let never : None ≡ Some x.0 = sym y.0 ∙ x.2 in absurd cc
+  parent_once c p q (inr x) (inr y) =
+      let outer : x.0 ≡ y.0 = same_Some x.0 y.0 (sym x.2 ∙ y.2) in
+      let site : x.1 ≡ y.1 = one_site c x.1 y.1 x.3 y.3 in
+      member_names_once (HasMemberType sites) (HasMemberType sites) (λ d name s t. has_member_once d name s t) y.0 y.1.parent p q
+      (subst (λ (at : ClassSite). MemberNames sites (HasMemberType sites) y.0 at.parent p) site (subst (λ (o : List ℕ). MemberNames sites (HasMemberType sites) o x.1.parent p) outer x.4)) y.4
 
   mean_types_once : (k : ClassKey) (ps : List ParamSite) → HasOne (MeanTypes sites k ps)
   mean_types_once k [] [] [] x y = refl

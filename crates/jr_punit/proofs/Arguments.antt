@@ -15,11 +15,11 @@ use Rattle.jr_pexpr.specs.Machine as E
 use Rattle.jr_pexpr.specs.Machine.{with_last, begun}
 use Rattle.jr_pexpr.specs.BareMachine.{no_join, bare_step, bare_run, bare_whole}
 use Rattle.jr_pexpr.proofs.Found.{at_some}
-use Rattle.jr_punit.specs.Cues.{Cue, cue_of, cue_token}
-use Rattle.jr_punit.specs.Inside.{inner}
-use Rattle.jr_punit.specs.ArgumentMachine.{State, in_argument, start, next_argument, step, whole, whole_none, whole_behind}
-use Rattle.jr_punit.proofs.CueTokens.{cue_back, comma_both}
-use Rattle.jr_punit.proofs.Inside.{inner_both, run_one, driven, read_in}
+use Rattle.jr_pstmt.specs.Cues.{Cue, cue_of, cue_token}
+use Rattle.jr_pstmt.specs.Inside.{inner}
+use Rattle.jr_pstmt.specs.ArgumentMachine.{State, in_argument, start, next_argument, step, whole, whole_none, whole_behind}
+use Rattle.jr_pstmt.proofs.CueTokens.{cue_back, comma_both}
+use Rattle.jr_pstmt.proofs.Inside.{inner_both, run_one, driven, read_in}
 use Rattle.jr_punit.proofs.Expressions.{exp_read, exp_sound, exp_closes, exp_unread}
 
 abbrev pub args_step : State Bare → Token → Option (State Bare)

@@ -12,14 +12,14 @@ use Rattle.jr_grammar.specs.Bare.{Bare, no_mark, bare_word, bare_type, bare, bar
 use Rattle.jr_pexpr.specs.Machine as E
 use Rattle.jr_pexpr.specs.Marked.{join}
 use Rattle.jr_pexpr.specs.BareMachine.{no_join, bare_state, bare_whole}
-use Rattle.jr_punit.specs.Cues.{Cue, a_word, a_modifier, a_void, a_class, a_super, an_open, a_semicolon, an_equals, an_extends, an_open_brace, a_package, a_dot, at_open_brace, at_close_brace, cue_of}
-use Rattle.jr_punit.specs.Inside.{inner}
-use Rattle.jr_punit.specs.TypeMachine as T
-use Rattle.jr_punit.specs.ArgumentMachine as A
-use Rattle.jr_punit.specs.ParameterMachine as P
-use Rattle.jr_punit.specs.StatementMachine as M
-use Rattle.jr_punit.specs.OwnMachine as Own
-use Rattle.jr_punit.specs.OwnMachine.{Lead, lead_of}
+use Rattle.jr_pstmt.specs.Cues.{Cue, a_word, a_modifier, a_void, a_class, a_super, an_open, a_semicolon, an_equals, an_extends, an_open_brace, a_package, a_dot, at_open_brace, at_close_brace, cue_of}
+use Rattle.jr_pstmt.specs.Inside.{inner}
+use Rattle.jr_pstmt.specs.TypeMachine as T
+use Rattle.jr_pstmt.specs.ArgumentMachine as A
+use Rattle.jr_pstmt.specs.ParameterMachine as P
+use Rattle.jr_pstmt.specs.StatementMachine as M
+use Rattle.jr_pstmt.specs.OwnMachine as Own
+use Rattle.jr_pstmt.specs.OwnMachine.{Lead, lead_of}
 use Rattle.jr_punit.specs.ClassMachine as C
 use Rattle.jr_punit.specs.MemberMachine as Member
 use Rattle.jr_punit.specs.UnitMachine as Unit

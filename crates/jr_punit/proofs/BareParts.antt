@@ -12,11 +12,11 @@ use Rattle.jr_grammar.specs.Bare.{Bare, no_mark, bare_word, bare_type, bare, bar
 use Rattle.jr_pexpr.specs.Machine as E
 use Rattle.jr_pexpr.specs.Marked.{join}
 use Rattle.jr_pexpr.specs.BareMachine.{no_join, bare_state, bare_whole}
-use Rattle.jr_punit.specs.Cues.{an_int, a_boolean, Cue, a_word, a_primitive, a_modifier, a_dot, at_comma, cue_of}
-use Rattle.jr_punit.specs.Inside.{inner}
-use Rattle.jr_punit.specs.TypeMachine as T
-use Rattle.jr_punit.specs.ArgumentMachine as A
-use Rattle.jr_punit.specs.ParameterMachine as P
+use Rattle.jr_pstmt.specs.Cues.{an_int, a_boolean, Cue, a_word, a_primitive, a_modifier, a_dot, at_comma, cue_of}
+use Rattle.jr_pstmt.specs.Inside.{inner}
+use Rattle.jr_pstmt.specs.TypeMachine as T
+use Rattle.jr_pstmt.specs.ArgumentMachine as A
+use Rattle.jr_pstmt.specs.ParameterMachine as P
 use Rattle.jr_punit.proofs.Expressions.{exp_step-bare, exp_whole-bare}
 use Rattle.jr_punit.proofs.MapSteps.{map-one, map-inner, map-and_then, map-map, map-comma}
 

@@ -13,11 +13,11 @@ use Rattle.jr_grammar.specs.Bare.{Bare, bare_word, bare_type, bare, bare_stmt, b
 use Rattle.jr_pexpr.specs.Machine as E
 use Rattle.jr_pexpr.specs.Marked.{join}
 use Rattle.jr_pexpr.specs.BareMachine.{no_join, bare_state, bare_whole}
-use Rattle.jr_punit.specs.Cues.{Primitive, an_int, a_boolean, Cue, a_word, a_primitive, a_modifier, an_if, an_else, a_while, a_return, an_open_brace, a_close_brace, a_semicolon, at_close, cue_of}
-use Rattle.jr_punit.specs.Inside.{inner}
-use Rattle.jr_punit.specs.TypeMachine as T
+use Rattle.jr_pstmt.specs.Cues.{Primitive, an_int, a_boolean, Cue, a_word, a_primitive, a_modifier, an_if, an_else, a_while, a_return, an_open_brace, a_close_brace, a_semicolon, at_close, cue_of}
+use Rattle.jr_pstmt.specs.Inside.{inner}
+use Rattle.jr_pstmt.specs.TypeMachine as T
 use Rattle.jr_pexpr.specs.Starts.{type_read}
-use Rattle.jr_punit.specs.StatementMachine.{Frame, in_block, in_sync, in_then, in_else, in_loop, Head, if_head, while_head, sync_head, Slot, for_local, for_return, for_head, State, ready, done, headed, returning, in_exp, in_eval, locked, in_type, named, with_stmt, Place, place, ended, taken_by_if, may_declare, declared, list_closed, begin_modified, begin_primitive, begin_eval, from_ready, from_place, from_done, begin_value, from_returning, behind_head, filled, from_exp, begin_local, evaluated, eval_ended, from_eval, local_named, from_type, cue_step, step, whole, whole_in, whole_at}
+use Rattle.jr_pstmt.specs.StatementMachine.{Frame, in_block, in_sync, in_then, in_else, in_loop, Head, if_head, while_head, sync_head, Slot, for_local, for_return, for_head, State, ready, done, headed, returning, in_exp, in_eval, locked, in_type, named, with_stmt, Place, place, ended, taken_by_if, may_declare, declared, list_closed, begin_modified, begin_primitive, begin_eval, from_ready, from_place, from_done, begin_value, from_returning, behind_head, filled, from_exp, begin_local, evaluated, eval_ended, from_eval, local_named, from_type, cue_step, step, whole, whole_in, whole_at}
 use Rattle.jr_punit.proofs.Expressions.{exp_step-bare, eval_step-bare, exp_whole-bare, eval_whole-bare, name_type-bare}
 use Rattle.jr_punit.proofs.MapSteps.{map-inner, map-and_then, map-map, map-semicolon, map-open, map-close, map-open_brace, map-equals}
 use Rattle.jr_punit.proofs.BareParts.{bare_type_state, type_step-bare, type_whole-bare}

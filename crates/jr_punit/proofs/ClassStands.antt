@@ -19,13 +19,13 @@ use Rattle.jr_pexpr.specs.Machine as E
 use Rattle.jr_pexpr.specs.Marked.{join}
 use Rattle.jr_pexpr.specs.Runs as Runs
 use Rattle.jr_pexpr.proofs.Found.{at_some}
-use Rattle.jr_punit.specs.Cues.{Cue, a_word, a_modifier, a_class, an_extends, an_open_brace, at_close_brace, cue_token, cue_of}
-use Rattle.jr_punit.specs.TypeMachine as T
-use Rattle.jr_punit.specs.OwnMachine.{Lead}
+use Rattle.jr_pstmt.specs.Cues.{Cue, a_word, a_modifier, a_class, an_extends, an_open_brace, at_close_brace, cue_token, cue_of}
+use Rattle.jr_pstmt.specs.TypeMachine as T
+use Rattle.jr_pstmt.specs.OwnMachine.{Lead}
 use Rattle.jr_punit.specs.ClassMachine as C
 use Rattle.jr_punit.specs.ClassMachine.{Head, State, modified, at_class, named, in_parent, in_members, done, start, with_member, head_of, class_of, from_modified, from_class, whole}
-use Rattle.jr_punit.proofs.CueTokens.{cue_back, open_brace_both, close_brace_both}
-use Rattle.jr_punit.proofs.Inside.{inner_both}
+use Rattle.jr_pstmt.proofs.CueTokens.{cue_back, open_brace_both, close_brace_both}
+use Rattle.jr_pstmt.proofs.Inside.{inner_both}
 use Rattle.jr_punit.proofs.Standing.{behind, grow, joined, mapped, stand_token, stand_one, stand_last, last_stands, stand_word, Whole, Open, open_more, closes, opens, ended_at, alone}
 use Rattle.jr_punit.proofs.TypeStands.{StoodType, type_step_stands}
 use Rattle.jr_punit.proofs.ExpressionStands.{span_run_one}

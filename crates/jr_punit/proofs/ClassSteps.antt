@@ -8,14 +8,14 @@ use Rattle.jr_ast.specs.MemberTree as tree
 use Rattle.jr_ast.specs.View.{member_of, members_of}
 use Rattle.jr_grammar.specs.Tokens.{Token}
 use Rattle.jr_pexpr.specs.Marked.{join}
-use Rattle.jr_punit.specs.declared.cues.Cue as rust
-use Rattle.jr_punit.specs.declared.cues.Cue.TheVariants as cue
-use Rattle.jr_punit.specs.CueView.{cue_view}
-use Rattle.jr_punit.specs.Cues.{Cue, a_word, a_modifier, a_class, a_close_brace, an_open_brace, a_package, cue_of, at_close_brace, at_open_brace}
-use Rattle.jr_punit.specs.CueTests.{is_close_brace}
-use Rattle.jr_punit.specs.Inside.{inner, settled}
-use Rattle.jr_punit.specs.TypeMachine as T
-use Rattle.jr_punit.specs.OwnMachine as Own
+use Rattle.jr_pstmt.specs.declared.cues.Cue as rust
+use Rattle.jr_pstmt.specs.declared.cues.Cue.TheVariants as cue
+use Rattle.jr_pstmt.specs.CueView.{cue_view}
+use Rattle.jr_pstmt.specs.Cues.{Cue, a_word, a_modifier, a_class, a_close_brace, an_open_brace, a_package, cue_of, at_close_brace, at_open_brace}
+use Rattle.jr_pstmt.specs.CueTests.{is_close_brace}
+use Rattle.jr_pstmt.specs.Inside.{inner, settled}
+use Rattle.jr_pstmt.specs.TypeMachine as T
+use Rattle.jr_pstmt.specs.OwnMachine as Own
 use Rattle.jr_punit.specs.ClassMachine as Classes
 use Rattle.jr_punit.specs.MemberMachine as Members
 use Rattle.jr_punit.specs.UnitMachine as Units

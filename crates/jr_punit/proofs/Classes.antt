@@ -19,14 +19,14 @@ use Rattle.jr_grammar.specs.Bare.{Bare}
 use Rattle.jr_pexpr.specs.Runs as Runs
 use Rattle.jr_pexpr.specs.BareMachine.{no_join}
 use Rattle.jr_pexpr.proofs.Found.{at_some}
-use Rattle.jr_punit.specs.Cues.{Cue, a_word, a_modifier, a_class, an_extends, an_open_brace, cue_token, cue_of, at_close_brace}
-use Rattle.jr_punit.specs.Inside.{inner}
-use Rattle.jr_punit.specs.TypeMachine as T
-use Rattle.jr_punit.specs.OwnMachine.{Lead}
+use Rattle.jr_pstmt.specs.Cues.{Cue, a_word, a_modifier, a_class, an_extends, an_open_brace, cue_token, cue_of, at_close_brace}
+use Rattle.jr_pstmt.specs.Inside.{inner}
+use Rattle.jr_pstmt.specs.TypeMachine as T
+use Rattle.jr_pstmt.specs.OwnMachine.{Lead}
 use Rattle.jr_punit.specs.ClassMachine as C
 use Rattle.jr_punit.specs.ClassMachine.{Head, State, modified, at_class, named, in_parent, in_members, done, start, with_member, head_of, class_of, from_modified, from_class, whole}
-use Rattle.jr_punit.proofs.CueTokens.{cue_back, open_brace_both, close_brace_both}
-use Rattle.jr_punit.proofs.Inside.{inner_both, run_one, read_in, settles}
+use Rattle.jr_pstmt.proofs.CueTokens.{cue_back, open_brace_both, close_brace_both}
+use Rattle.jr_pstmt.proofs.Inside.{inner_both, run_one, read_in, settles}
 use Rattle.jr_punit.proofs.Types as Types
 use Rattle.jr_punit.proofs.Types.{type_step, named_read, a_name}
 use Rattle.jr_punit.proofs.MemberSpell.{spell_class, spell_members, spell_class-is, spell_member-is, modifiers-one, members-with_member, shaped-with_member, joined_members, joined-with_member, joined_members-end}

@@ -1,8 +1,5 @@
 pub mod Cases
-pub mod Inside
-pub mod InPlace
 pub mod Expressions
-pub mod CueTokens
 pub mod Types
 pub mod StatementSpell
 pub mod StatementComplete
@@ -40,7 +37,3 @@ pub mod ClassSteps
 pub mod UnitWalks
 pub mod UnitParses
 pub mod UnitAnswers
-pub mod StatementMarks
-pub mod ListFrames
-pub mod Closers
-pub mod PartAnswers

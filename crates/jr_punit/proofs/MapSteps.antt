@@ -1,8 +1,8 @@
 -- What becomes of the steps of a machine where its states are mapped.
 use Rattle.std.proofs.Common.{◌≡◌, List, [], ◌∷◌, ◌++◌, Option, Some, None, refl, ap, ◌∙◌}
 use Rattle.std.specs.Prelude.{map, option_map, option_and_then, unwrap_or}
-use Rattle.jr_punit.specs.Cues.{Cue, an_open, a_close, an_open_brace, a_close_brace, a_semicolon, a_comma, an_equals, at_semicolon, at_open, at_close, at_open_brace, at_close_brace, at_comma, at_equals}
-use Rattle.jr_punit.specs.Inside.{inner, settled}
+use Rattle.jr_pstmt.specs.Cues.{Cue, an_open, a_close, an_open_brace, a_close_brace, a_semicolon, a_comma, an_equals, at_semicolon, at_open, at_close, at_open_brace, at_close_brace, at_comma, at_equals}
+use Rattle.jr_pstmt.specs.Inside.{inner, settled}
 
 pub map-one : {A B : Type 0} (f : A → B) (xs : List A) (x : A) → map f (xs ++ (x ∷ [])) ≡ map f xs ++ (f x ∷ [])
 map-one f [] x = refl

@@ -15,13 +15,13 @@ use Rattle.jr_grammar.specs.MemberShape.{IsParent, ClassShaped, MemberShaped, Me
 use Rattle.jr_grammar.specs.Bare.{Bare}
 use Rattle.jr_pexpr.specs.BareMachine.{no_join}
 use Rattle.jr_pexpr.proofs.Found.{at_some}
-use Rattle.jr_punit.specs.Cues.{Cue, a_class, a_word, cue_token, cue_of}
-use Rattle.jr_punit.specs.OwnMachine as Own
+use Rattle.jr_pstmt.specs.Cues.{Cue, a_class, a_word, cue_token, cue_of}
+use Rattle.jr_pstmt.specs.OwnMachine as Own
 use Rattle.jr_punit.specs.ClassMachine as C
 use Rattle.jr_punit.specs.MemberMachine.{State, own, in_class, start, class_begun, begin_class, class_member, step, whole, is_start}
 use Rattle.jr_punit.specs.Machines.{member_step, member_whole, member_run}
-use Rattle.jr_punit.proofs.CueTokens.{cue_back}
-use Rattle.jr_punit.proofs.Inside.{inner_both, run_one, driven, map_inner}
+use Rattle.jr_pstmt.proofs.CueTokens.{cue_back}
+use Rattle.jr_pstmt.proofs.Inside.{inner_both, run_one, driven, map_inner}
 use Rattle.jr_punit.proofs.MemberSpell.{spell_members, spell_class-is}
 use Rattle.jr_punit.proofs.OwnComplete.{own_step, own_run, Modifiers, lead, modifiers_read, own_reads}
 use Rattle.jr_punit.proofs.OwnEnds.{own_run_is, own_whole_is, own_sound, own_ended, own_unread, own_closes}

@@ -14,14 +14,14 @@ use Rattle.jr_grammar.specs.Bare.{Bare, bare_member}
 use Rattle.jr_pexpr.specs.Marked.{join}
 use Rattle.jr_pexpr.specs.Runs as Runs
 use Rattle.jr_pexpr.proofs.Maps.{run_map}
-use Rattle.jr_punit.specs.Cues.{Cue, a_class, cue_token, cue_of}
-use Rattle.jr_punit.specs.OwnMachine as Own
+use Rattle.jr_pstmt.specs.Cues.{Cue, a_class, cue_token, cue_of}
+use Rattle.jr_pstmt.specs.OwnMachine as Own
 use Rattle.jr_punit.specs.ClassMachine as C
 use Rattle.jr_punit.specs.MemberMachine.{State, own, in_class, start, class_begun, begin_class, inner_step, class_member, step, whole, is_start}
 use Rattle.jr_punit.specs.Machines.{member_step, member_whole}
 use Rattle.jr_punit.specs.Marked.{span_member_step, span_member_whole, span_member_run}
-use Rattle.jr_punit.proofs.CueTokens.{cue_back}
-use Rattle.jr_punit.proofs.Inside.{inner_both}
+use Rattle.jr_pstmt.proofs.CueTokens.{cue_back}
+use Rattle.jr_pstmt.proofs.Inside.{inner_both}
 use Rattle.jr_punit.proofs.OwnComplete.{own_step}
 use Rattle.jr_punit.proofs.OwnEnds.{own_unread}
 use Rattle.jr_punit.proofs.MemberReads.{member_laws}

@@ -24,14 +24,14 @@ use Rattle.jr_pexpr.specs.Runs as Runs
 use Rattle.jr_pexpr.specs.Machine as E
 use Rattle.jr_pexpr.specs.Machine.{begun}
 use Rattle.jr_pexpr.specs.BareMachine.{no_join, bare_step, bare_whole}
-use Rattle.jr_punit.specs.Cues.{cue_of}
-use Rattle.jr_punit.specs.ArgumentMachine as Arguments
-use Rattle.jr_punit.specs.ParameterMachine as Parameters
-use Rattle.jr_punit.specs.StatementMachine as Statements
-use Rattle.jr_punit.specs.StatementMachine.{from_ready}
-use Rattle.jr_punit.specs.OwnMachine.{Lead, Head, method_head, constructor_head, Constructor, Body, method_body, constructor_body, State, modified, worded, in_value, in_params, headed, in_constructor, in_super, behind_super, in_body, done, start, own_name, begin_constructor, field_with, behind_params, body_of, built, body_closed, without_super, arguments_closed, with_super, step, whole}
+use Rattle.jr_pstmt.specs.Cues.{cue_of}
+use Rattle.jr_pstmt.specs.ArgumentMachine as Arguments
+use Rattle.jr_pstmt.specs.ParameterMachine as Parameters
+use Rattle.jr_pstmt.specs.StatementMachine as Statements
+use Rattle.jr_pstmt.specs.StatementMachine.{from_ready}
+use Rattle.jr_pstmt.specs.OwnMachine.{Lead, Head, method_head, constructor_head, Constructor, Body, method_body, constructor_body, State, modified, worded, in_value, in_params, headed, in_constructor, in_super, behind_super, in_body, done, start, own_name, begin_constructor, field_with, behind_params, body_of, built, body_closed, without_super, arguments_closed, with_super, step, whole}
 use Rattle.jr_punit.specs.Machines.{list_step, list_whole, list_run}
-use Rattle.jr_punit.proofs.Inside.{read_in}
+use Rattle.jr_pstmt.proofs.Inside.{read_in}
 use Rattle.jr_punit.proofs.Expressions.{exp_read}
 use Rattle.jr_punit.proofs.Arguments.{args_step, args_whole, args_read}
 use Rattle.jr_punit.proofs.Parameters.{Params, params_step, params_read}

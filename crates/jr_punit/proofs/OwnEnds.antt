@@ -18,7 +18,7 @@ use Rattle.jr_grammar.specs.MemberSpelling.{params_toks, super_toks, member_toks
 use Rattle.jr_grammar.specs.MemberShape.{MemberShaped}
 use Rattle.jr_grammar.specs.Bare.{Bare}
 use Rattle.jr_pexpr.proofs.Found.{at_some}
-use Rattle.jr_punit.specs.OwnMachine.{Lead, Head, method_head, constructor_head, Constructor, Body, method_body, constructor_body, State, modified, in_type, voided, worded, in_value, in_params, headed, in_constructor, at_super, in_super, behind_super, in_body, done, start, whole}
+use Rattle.jr_pstmt.specs.OwnMachine.{Lead, Head, method_head, constructor_head, Constructor, Body, method_body, constructor_body, State, modified, in_type, voided, worded, in_value, in_params, headed, in_constructor, at_super, in_super, behind_super, in_body, done, start, whole}
 use Rattle.jr_punit.proofs.Expressions.{exp_closes}
 use Rattle.jr_punit.proofs.Types as Types
 use Rattle.jr_punit.proofs.Types.{a_name}

@@ -18,17 +18,17 @@ use Rattle.jr_grammar.specs.Bare.{Bare}
 use Rattle.jr_pexpr.specs.Machine as E
 use Rattle.jr_pexpr.specs.Machine.{begun}
 use Rattle.jr_pexpr.specs.BareMachine.{no_join, bare_step, bare_run, bare_whole}
-use Rattle.jr_punit.specs.Cues.{Cue, a_word, a_modifier, a_void, a_super, an_open, a_semicolon, an_equals, cue_token, cue_of}
-use Rattle.jr_punit.specs.Inside.{inner}
-use Rattle.jr_punit.specs.TypeMachine as T
-use Rattle.jr_punit.specs.ArgumentMachine as Arguments
-use Rattle.jr_punit.specs.ParameterMachine as Parameters
-use Rattle.jr_punit.specs.StatementMachine as Statements
-use Rattle.jr_punit.specs.StatementMachine.{from_ready}
-use Rattle.jr_punit.specs.OwnMachine.{Lead, Head, method_head, constructor_head, Constructor, Body, method_body, constructor_body, State, modified, in_type, voided, worded, in_value, in_params, headed, in_constructor, at_super, in_super, behind_super, in_body, done, from_modified, own_name, begin_constructor, behind_type, from_type, from_voided, from_worded, field_with, from_value, behind_params, from_params, body_of, built, body_closed, from_body, without_super, from_constructor, super_read, from_super, arguments_closed, from_arguments, with_super, cue_step}
+use Rattle.jr_pstmt.specs.Cues.{Cue, a_word, a_modifier, a_void, a_super, an_open, a_semicolon, an_equals, cue_token, cue_of}
+use Rattle.jr_pstmt.specs.Inside.{inner}
+use Rattle.jr_pstmt.specs.TypeMachine as T
+use Rattle.jr_pstmt.specs.ArgumentMachine as Arguments
+use Rattle.jr_pstmt.specs.ParameterMachine as Parameters
+use Rattle.jr_pstmt.specs.StatementMachine as Statements
+use Rattle.jr_pstmt.specs.StatementMachine.{from_ready}
+use Rattle.jr_pstmt.specs.OwnMachine.{Lead, Head, method_head, constructor_head, Constructor, Body, method_body, constructor_body, State, modified, in_type, voided, worded, in_value, in_params, headed, in_constructor, at_super, in_super, behind_super, in_body, done, from_modified, own_name, begin_constructor, behind_type, from_type, from_voided, from_worded, field_with, from_value, behind_params, from_params, body_of, built, body_closed, from_body, without_super, from_constructor, super_read, from_super, arguments_closed, from_arguments, with_super, cue_step}
 use Rattle.jr_punit.specs.Machines.{list_step, list_whole, list_run}
-use Rattle.jr_punit.proofs.CueTokens.{cue_back, semicolon_both, close_both, open_brace_both, close_brace_both}
-use Rattle.jr_punit.proofs.Inside.{inner_both, run_one}
+use Rattle.jr_pstmt.proofs.CueTokens.{cue_back, semicolon_both, close_both, open_brace_both, close_brace_both}
+use Rattle.jr_pstmt.proofs.Inside.{inner_both, run_one}
 use Rattle.jr_punit.proofs.Expressions.{exp_sound}
 use Rattle.jr_punit.proofs.Types as Types
 use Rattle.jr_punit.proofs.Arguments.{args_step, args_whole, args_run, args_sound}

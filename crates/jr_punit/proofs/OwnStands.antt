@@ -23,16 +23,16 @@ use Rattle.jr_pexpr.specs.Machine as E
 use Rattle.jr_pexpr.specs.Machine.{begun}
 use Rattle.jr_pexpr.specs.Marked.{join, span_step, span_whole, span_run}
 use Rattle.jr_pexpr.proofs.Found.{at_some}
-use Rattle.jr_punit.specs.Cues.{Cue, a_word, a_modifier, a_void, a_super, an_open, a_semicolon, an_equals, cue_token, cue_of}
-use Rattle.jr_punit.specs.TypeMachine as T
-use Rattle.jr_punit.specs.ArgumentMachine as A
-use Rattle.jr_punit.specs.ParameterMachine as P
-use Rattle.jr_punit.specs.StatementMachine as M
-use Rattle.jr_punit.specs.StatementMachine.{from_ready}
-use Rattle.jr_punit.specs.OwnMachine.{Lead, Head, method_head, constructor_head, Constructor, Body, method_body, constructor_body, State, modified, in_type, voided, worded, in_value, in_params, headed, in_constructor, at_super, in_super, behind_super, in_body, done, modifier, begins_at, lead_of, from_modified, own_name, begin_constructor, begin_params, behind_type, from_type, from_voided, field_without, from_worded, field_with, from_value, behind_params, from_params, body_of, built, body_closed, from_body, without_super, from_constructor, super_read, from_super, arguments_closed, from_arguments, with_super, cue_step, step, whole}
+use Rattle.jr_pstmt.specs.Cues.{Cue, a_word, a_modifier, a_void, a_super, an_open, a_semicolon, an_equals, cue_token, cue_of}
+use Rattle.jr_pstmt.specs.TypeMachine as T
+use Rattle.jr_pstmt.specs.ArgumentMachine as A
+use Rattle.jr_pstmt.specs.ParameterMachine as P
+use Rattle.jr_pstmt.specs.StatementMachine as M
+use Rattle.jr_pstmt.specs.StatementMachine.{from_ready}
+use Rattle.jr_pstmt.specs.OwnMachine.{Lead, Head, method_head, constructor_head, Constructor, Body, method_body, constructor_body, State, modified, in_type, voided, worded, in_value, in_params, headed, in_constructor, at_super, in_super, behind_super, in_body, done, modifier, begins_at, lead_of, from_modified, own_name, begin_constructor, begin_params, behind_type, from_type, from_voided, field_without, from_worded, field_with, from_value, behind_params, from_params, body_of, built, body_closed, from_body, without_super, from_constructor, super_read, from_super, arguments_closed, from_arguments, with_super, cue_step, step, whole}
 use Rattle.jr_punit.specs.Marked.{span_list_step, span_list_whole, span_list_run}
-use Rattle.jr_punit.proofs.CueTokens.{cue_back, semicolon_both, close_both, open_brace_both, close_brace_both}
-use Rattle.jr_punit.proofs.Inside.{inner_both}
+use Rattle.jr_pstmt.proofs.CueTokens.{cue_back, semicolon_both, close_both, open_brace_both, close_brace_both}
+use Rattle.jr_pstmt.proofs.Inside.{inner_both}
 use Rattle.jr_punit.proofs.Standing.{IsMore, more_append, more_after, first_from-append, behind, grow, joined, mapped, first_mapped, both, stand_both, stand_token, stand_one, stand_last, last_stands, stand_word, Whole, Open, open_more, closes, opens, ended_at, alone}
 use Rattle.jr_punit.proofs.TypeStands.{StoodType, StoodTyped, type_begun, typed_more, typed_word}
 use Rattle.jr_punit.proofs.ParameterStands.{StoodParams, params_step_stands, params_whole_stands, span_args_step, span_args_whole, span_args_run, args_stand}

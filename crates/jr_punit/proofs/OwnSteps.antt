@@ -14,20 +14,20 @@ use Rattle.jr_pexpr.specs.Machine as E
 use Rattle.jr_pexpr.specs.Machine.{begun, extended, have, closed, continued, reduced, whole_of}
 use Rattle.jr_pexpr.specs.Stacks.{is_start}
 use Rattle.jr_pexpr.specs.Marked.{join}
-use Rattle.jr_punit.specs.Cues.{Cue, a_word, an_open, a_close, a_close_brace, a_semicolon, a_comma, a_super, cue_of, cue_token, at_semicolon}
-use Rattle.jr_punit.specs.declared.cues.Cue.{Cue as RustCue}
-use Rattle.jr_punit.specs.declared.cues.Cue.TheVariants as rust
-use Rattle.jr_punit.specs.CueView.{cue_view}
-use Rattle.jr_punit.specs.CueTests.{is_semicolon, is_comma, is_open, is_close, is_close_brace, is_super}
-use Rattle.jr_punit.specs.Inside.{inner}
-use Rattle.jr_punit.specs.TypeMachine as T
-use Rattle.jr_punit.specs.ArgumentMachine as A
-use Rattle.jr_punit.specs.ParameterMachine as P
-use Rattle.jr_punit.specs.StatementMachine as S
-use Rattle.jr_punit.specs.StatementMachine.{from_ready}
-use Rattle.jr_punit.specs.OwnMachine as M
-use Rattle.jr_punit.proofs.CueTokens.{cue_back}
-use Rattle.jr_punit.proofs.Inside.{map_inner}
+use Rattle.jr_pstmt.specs.Cues.{Cue, a_word, an_open, a_close, a_close_brace, a_semicolon, a_comma, a_super, cue_of, cue_token, at_semicolon}
+use Rattle.jr_pstmt.specs.declared.cues.Cue.{Cue as RustCue}
+use Rattle.jr_pstmt.specs.declared.cues.Cue.TheVariants as rust
+use Rattle.jr_pstmt.specs.CueView.{cue_view}
+use Rattle.jr_pstmt.specs.CueTests.{is_semicolon, is_comma, is_open, is_close, is_close_brace, is_super}
+use Rattle.jr_pstmt.specs.Inside.{inner}
+use Rattle.jr_pstmt.specs.TypeMachine as T
+use Rattle.jr_pstmt.specs.ArgumentMachine as A
+use Rattle.jr_pstmt.specs.ParameterMachine as P
+use Rattle.jr_pstmt.specs.StatementMachine as S
+use Rattle.jr_pstmt.specs.StatementMachine.{from_ready}
+use Rattle.jr_pstmt.specs.OwnMachine as M
+use Rattle.jr_pstmt.proofs.CueTokens.{cue_back}
+use Rattle.jr_pstmt.proofs.Inside.{map_inner}
 
 -- ---- tokens
 

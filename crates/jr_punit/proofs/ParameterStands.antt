@@ -20,13 +20,13 @@ use Rattle.jr_pexpr.specs.Machine as E
 use Rattle.jr_pexpr.specs.Marked.{join, span_step, span_whole, span_run}
 use Rattle.jr_pexpr.specs.Runs as Runs
 use Rattle.jr_pexpr.proofs.Found.{at_some}
-use Rattle.jr_punit.specs.Cues.{Cue, a_word, a_modifier, cue_token, cue_of}
-use Rattle.jr_punit.specs.Inside.{inner}
-use Rattle.jr_punit.specs.TypeMachine as T
-use Rattle.jr_punit.specs.ArgumentMachine as A
-use Rattle.jr_punit.specs.ParameterMachine as P
-use Rattle.jr_punit.proofs.CueTokens.{cue_back, comma_both}
-use Rattle.jr_punit.proofs.Inside.{inner_both}
+use Rattle.jr_pstmt.specs.Cues.{Cue, a_word, a_modifier, cue_token, cue_of}
+use Rattle.jr_pstmt.specs.Inside.{inner}
+use Rattle.jr_pstmt.specs.TypeMachine as T
+use Rattle.jr_pstmt.specs.ArgumentMachine as A
+use Rattle.jr_pstmt.specs.ParameterMachine as P
+use Rattle.jr_pstmt.proofs.CueTokens.{cue_back, comma_both}
+use Rattle.jr_pstmt.proofs.Inside.{inner_both}
 use Rattle.jr_punit.proofs.Standing.{last_to-append, behind, grow, joined, stand_one, stand_last, last_stands, open_closed, alone}
 use Rattle.jr_punit.proofs.TypeStands.{StoodType, StoodTyped, type_begun, typed_more, typed_word}
 use Rattle.jr_punit.proofs.ExpressionStands.{span_run_one, exp_whole_stands, span_unread}

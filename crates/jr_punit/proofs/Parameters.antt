@@ -15,12 +15,12 @@ use Rattle.jr_grammar.specs.MemberSpelling.{param_toks, params_toks, more_params
 use Rattle.jr_grammar.specs.Bare.{Bare}
 use Rattle.jr_pexpr.specs.Runs as Runs
 use Rattle.jr_pexpr.specs.BareMachine.{no_join}
-use Rattle.jr_punit.specs.Cues.{Cue, a_word, a_modifier, cue_token, cue_of}
-use Rattle.jr_punit.specs.Inside.{inner}
-use Rattle.jr_punit.specs.TypeMachine as T
-use Rattle.jr_punit.specs.ParameterMachine.{State, want, in_type, have, start, begin_type, begin_final, from_want, named, from_type, cue_step, step, whole}
-use Rattle.jr_punit.proofs.CueTokens.{comma_both}
-use Rattle.jr_punit.proofs.Inside.{read_in}
+use Rattle.jr_pstmt.specs.Cues.{Cue, a_word, a_modifier, cue_token, cue_of}
+use Rattle.jr_pstmt.specs.Inside.{inner}
+use Rattle.jr_pstmt.specs.TypeMachine as T
+use Rattle.jr_pstmt.specs.ParameterMachine.{State, want, in_type, have, start, begin_type, begin_final, from_want, named, from_type, cue_step, step, whole}
+use Rattle.jr_pstmt.proofs.CueTokens.{comma_both}
+use Rattle.jr_pstmt.proofs.Inside.{read_in}
 use Rattle.jr_punit.proofs.Types as Types
 use Rattle.jr_punit.proofs.Types.{type_step, any_read, a_name}
 

@@ -12,7 +12,7 @@ use Rattle.jr_grammar.specs.Units.{OneUnit, OneMember, IsLongestMember, HasNoMem
 use Rattle.jr_grammar.specs.Bare.{Bare}
 use Rattle.jr_pexpr.specs.Runs.{run}
 use Rattle.jr_pexpr.proofs.Found.{both_some, one_tree_of, longest_is, longest_none, stop_is}
-use Rattle.jr_punit.specs.StatementMachine as Statements
+use Rattle.jr_pstmt.specs.StatementMachine as Statements
 use Rattle.jr_punit.specs.MemberMachine as Members
 use Rattle.jr_punit.specs.UnitMachine as Units
 use Rattle.jr_punit.specs.Machines.{list_step, list_whole, list_read, member_step, member_whole, member_read, member_length, unit_step, unit_whole, unit_read}

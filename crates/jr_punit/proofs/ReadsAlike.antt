@@ -10,7 +10,7 @@ use Rattle.jr_grammar.specs.Stands.{Tokens}
 use Rattle.jr_grammar.specs.Bare.{Bare, bare_stmts, bare_member, bare_unit}
 use Rattle.jr_pexpr.specs.Runs.{run}
 use Rattle.jr_pexpr.proofs.Maps.{run_map, stop_map, longest_map}
-use Rattle.jr_punit.specs.StatementMachine as Statements
+use Rattle.jr_pstmt.specs.StatementMachine as Statements
 use Rattle.jr_punit.specs.MemberMachine as Members
 use Rattle.jr_punit.specs.UnitMachine as Units
 use Rattle.jr_punit.specs.Machines.{list_step, list_whole, member_step, member_whole, unit_step, unit_whole}

@@ -10,7 +10,7 @@ use Rattle.jr_grammar.specs.Bare.{Bare, no_mark, bare_stmts, bare_member, bare_u
 use Rattle.jr_grammar.specs.IgnoresMarks.{StatementIgnoresMarks, MemberIgnoresMarks, UnitIgnoresMarks}
 use Rattle.jr_grammar.specs.Units.{IsMarkedUnit, IsMarkedMember, AreMarkedStatements, IsUnit, IsNoUnit, IsMember}
 use Rattle.jr_pexpr.proofs.Found.{both_some}
-use Rattle.jr_punit.specs.StatementMachine as Statements
+use Rattle.jr_pstmt.specs.StatementMachine as Statements
 use Rattle.jr_punit.specs.MemberMachine as Members
 use Rattle.jr_punit.specs.UnitMachine as Units
 use Rattle.jr_punit.specs.Machines.{list_read, member_read, unit_read}

@@ -16,11 +16,11 @@ use Rattle.jr_grammar.specs.Bare.{Bare}
 use Rattle.jr_pexpr.specs.BareMachine.{no_join, bare_step, bare_whole, bare_statement_step, bare_statement_run, bare_statement_whole}
 use Rattle.jr_grammar.specs.StatementSpelling.{final_toks, stmts_toks}
 use Rattle.jr_grammar.specs.StatementShape.{IsNoDeclaration, TakesNoElse, EndsTaken, StmtShaped, ElseShaped, StmtsShaped}
-use Rattle.jr_punit.specs.Cues.{cue_of}
-use Rattle.jr_punit.specs.TypeMachine as T
-use Rattle.jr_punit.specs.StatementMachine.{Frame, in_block, in_sync, in_then, in_else, in_loop, if_head, while_head, sync_head, Slot, for_local, for_return, for_head, State, ready, done, returning, in_exp, in_eval, in_type, named, start, with_stmt, Place, ended, taken_by_if, list_closed, may_declare, declared, from_ready, filled, behind_head, evaluated, eval_ended, local_named, whole_at}
+use Rattle.jr_pstmt.specs.Cues.{cue_of}
+use Rattle.jr_pstmt.specs.TypeMachine as T
+use Rattle.jr_pstmt.specs.StatementMachine.{Frame, in_block, in_sync, in_then, in_else, in_loop, if_head, while_head, sync_head, Slot, for_local, for_return, for_head, State, ready, done, returning, in_exp, in_eval, in_type, named, start, with_stmt, Place, ended, taken_by_if, list_closed, may_declare, declared, from_ready, filled, behind_head, evaluated, eval_ended, local_named, whole_at}
 use Rattle.jr_punit.specs.Machines.{list_step, list_whole, list_run}
-use Rattle.jr_punit.proofs.Inside.{read_in, read_first}
+use Rattle.jr_pstmt.proofs.Inside.{read_in, read_first}
 use Rattle.jr_punit.proofs.Expressions.{exp_read, eval_read}
 use Rattle.jr_punit.proofs.Types.{type_step, any_read}
 use Rattle.jr_punit.proofs.StatementSpell.{spell, spell_else, spells, spells-is, joined, joined-with_stmt, joined-end}

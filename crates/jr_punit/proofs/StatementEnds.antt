@@ -15,7 +15,7 @@ use Rattle.jr_grammar.specs.StatementShape.{StmtShaped, StmtsShaped}
 use Rattle.jr_grammar.specs.Bare.{Bare}
 use Rattle.jr_pexpr.specs.BareMachine.{no_join}
 use Rattle.jr_pexpr.proofs.Found.{at_some}
-use Rattle.jr_punit.specs.StatementMachine.{in_block, in_sync, in_then, in_else, in_loop, Head, if_head, while_head, sync_head, Slot, for_local, for_return, for_head, State, ready, done, headed, returning, in_exp, in_eval, locked, in_type, named, start, with_stmt, ended, whole_in}
+use Rattle.jr_pstmt.specs.StatementMachine.{in_block, in_sync, in_then, in_else, in_loop, Head, if_head, while_head, sync_head, Slot, for_local, for_return, for_head, State, ready, done, headed, returning, in_exp, in_eval, locked, in_type, named, start, with_stmt, ended, whole_in}
 use Rattle.jr_punit.specs.Machines.{list_step, list_whole, list_run}
 use Rattle.jr_punit.proofs.Expressions.{exp_closes, eval_closes}
 use Rattle.jr_punit.proofs.Types as Types

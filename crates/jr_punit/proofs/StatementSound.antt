@@ -17,14 +17,14 @@ use Rattle.jr_grammar.specs.StatementShape.{IsNoDeclaration, TakesNoElse, StmtSh
 use Rattle.jr_grammar.specs.Bare.{Bare}
 use Rattle.jr_pexpr.specs.Machine as E
 use Rattle.jr_pexpr.specs.BareMachine.{no_join, bare_step, bare_run, bare_whole, bare_statement_step, bare_statement_run, bare_statement_whole}
-use Rattle.jr_punit.specs.Cues.{Primitive, an_int, a_boolean, Cue, a_word, a_primitive, a_modifier, an_if, an_else, a_while, a_return, an_open_brace, a_close_brace, a_semicolon, cue_token, cue_of}
-use Rattle.jr_punit.specs.Inside.{inner}
-use Rattle.jr_punit.specs.TypeMachine as T
+use Rattle.jr_pstmt.specs.Cues.{Primitive, an_int, a_boolean, Cue, a_word, a_primitive, a_modifier, an_if, an_else, a_while, a_return, an_open_brace, a_close_brace, a_semicolon, cue_token, cue_of}
+use Rattle.jr_pstmt.specs.Inside.{inner}
+use Rattle.jr_pstmt.specs.TypeMachine as T
 use Rattle.jr_pexpr.specs.Starts.{type_read}
-use Rattle.jr_punit.specs.StatementMachine.{Frame, in_block, in_sync, in_then, in_else, in_loop, Head, if_head, while_head, sync_head, Slot, for_local, for_return, for_head, State, ready, done, headed, returning, in_exp, in_eval, locked, in_type, named, Place, ended, taken_by_if, may_declare, declared, list_closed, begin_modified, from_ready, from_place, from_done, from_returning, behind_head, filled, from_exp, begin_local, evaluated, eval_ended, from_eval, local_named, from_type, cue_step}
+use Rattle.jr_pstmt.specs.StatementMachine.{Frame, in_block, in_sync, in_then, in_else, in_loop, Head, if_head, while_head, sync_head, Slot, for_local, for_return, for_head, State, ready, done, headed, returning, in_exp, in_eval, locked, in_type, named, Place, ended, taken_by_if, may_declare, declared, list_closed, begin_modified, from_ready, from_place, from_done, from_returning, behind_head, filled, from_exp, begin_local, evaluated, eval_ended, from_eval, local_named, from_type, cue_step}
 use Rattle.jr_punit.specs.Machines.{list_step}
-use Rattle.jr_punit.proofs.CueTokens.{cue_back, semicolon_both, open_both, close_both, open_brace_both, equals_both}
-use Rattle.jr_punit.proofs.Inside.{inner_both, run_one}
+use Rattle.jr_pstmt.proofs.CueTokens.{cue_back, semicolon_both, open_both, close_both, open_brace_both, equals_both}
+use Rattle.jr_pstmt.proofs.Inside.{inner_both, run_one}
 use Rattle.jr_punit.proofs.Expressions.{exp_sound, eval_sound, eval_runs, name_toks}
 use Rattle.jr_punit.proofs.Types as Types
 use Rattle.jr_punit.proofs.StatementSpell.{spell, spells, spells-with_stmt, shaped-with_stmt}

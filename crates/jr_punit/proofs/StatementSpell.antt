@@ -7,7 +7,7 @@ use Rattle.jr_grammar.specs.Tokens.{Token, word, keyword, symbol}
 use Rattle.jr_grammar.specs.Spelling.{type_toks, toks}
 use Rattle.jr_grammar.specs.Bare.{Bare}
 use Rattle.jr_grammar.specs.StatementSpelling.{final_toks, stmt_toks, else_toks, stmts_toks}
-use Rattle.jr_punit.specs.StatementMachine.{with_stmt}
+use Rattle.jr_pstmt.specs.StatementMachine.{with_stmt}
 use Rattle.jr_grammar.specs.StatementShape.{StmtShaped, StmtsShaped}
 
 abbrev mutual

@@ -19,14 +19,14 @@ use Rattle.jr_grammar.specs.ExpressionLayout.{word_layout, type_layout, exp_layo
 use Rattle.jr_grammar.specs.StatementLayout.{final_layout, stmt_layout, else_layout, stmts_layout}
 use Rattle.jr_pexpr.specs.Machine as E
 use Rattle.jr_pexpr.specs.Marked.{join, span_step, span_whole, span_run, span_statement_step, span_statement_whole, span_statement_run}
-use Rattle.jr_punit.specs.Cues.{Primitive, Cue, a_word, a_primitive, a_modifier, an_if, an_else, a_while, a_return, an_open_brace, a_close_brace, a_semicolon, cue_token, cue_of}
-use Rattle.jr_punit.specs.TypeMachine as T
+use Rattle.jr_pstmt.specs.Cues.{Primitive, Cue, a_word, a_primitive, a_modifier, an_if, an_else, a_while, a_return, an_open_brace, a_close_brace, a_semicolon, cue_token, cue_of}
+use Rattle.jr_pstmt.specs.TypeMachine as T
 use Rattle.jr_pexpr.specs.Starts.{type_read}
-use Rattle.jr_punit.specs.StatementMachine.{Frame, in_block, in_sync, in_then, in_else, in_loop, Head, if_head, while_head, sync_head, Slot, for_local, for_return, for_head, State, ready, done, headed, returning, in_exp, in_eval, locked, in_type, named, start, with_stmt, Place, ended, taken_by_if, may_declare, declared, list_closed, begin_modified, begin_primitive, begin_eval, from_ready, from_place, from_done, from_returning, behind_head, filled, from_exp, begin_local, evaluated, eval_ended, from_eval, local_named, from_type, cue_step, whole_in}
+use Rattle.jr_pstmt.specs.StatementMachine.{Frame, in_block, in_sync, in_then, in_else, in_loop, Head, if_head, while_head, sync_head, Slot, for_local, for_return, for_head, State, ready, done, headed, returning, in_exp, in_eval, locked, in_type, named, start, with_stmt, Place, ended, taken_by_if, may_declare, declared, list_closed, begin_modified, begin_primitive, begin_eval, from_ready, from_place, from_done, from_returning, behind_head, filled, from_exp, begin_local, evaluated, eval_ended, from_eval, local_named, from_type, cue_step, whole_in}
 use Rattle.jr_punit.specs.Marked.{span_list_step, span_list_whole, span_list_run}
 use Rattle.jr_pexpr.proofs.Found.{at_some}
-use Rattle.jr_punit.proofs.CueTokens.{cue_back, semicolon_both, open_both, close_both, open_brace_both, equals_both}
-use Rattle.jr_punit.proofs.Inside.{inner_both}
+use Rattle.jr_pstmt.proofs.CueTokens.{cue_back, semicolon_both, open_both, close_both, open_brace_both, equals_both}
+use Rattle.jr_pstmt.proofs.Inside.{inner_both}
 use Rattle.jr_punit.proofs.StatementSound.{head_keyword}
 use Rattle.jr_punit.proofs.Standing.{more_after, behind, grow, absorb, joined, mapped, last_to-append, both, stand_token, stand_one, stand_last, last_stands, stand_word, Whole, Open, open_one, open_more, open_end, open_ended, one_whole, whole_open}
 use Rattle.jr_punit.proofs.TypeStands.{StoodTyped, primitive_type, typed_more, typed_word}

@@ -13,8 +13,8 @@ use Rattle.jr_grammar.specs.ExpressionLayout.{word_layout, type_layout}
 use Rattle.jr_pexpr.specs.Machine as E
 use Rattle.jr_pexpr.specs.Marked.{join}
 use Rattle.jr_pexpr.proofs.Found.{at_some}
-use Rattle.jr_punit.specs.Cues.{Primitive, an_int, a_boolean, Cue, a_word, a_primitive, a_dot, cue_token}
-use Rattle.jr_punit.specs.TypeMachine as T
+use Rattle.jr_pstmt.specs.Cues.{Primitive, an_int, a_boolean, Cue, a_word, a_primitive, a_dot, cue_token}
+use Rattle.jr_pstmt.specs.TypeMachine as T
 use Rattle.jr_punit.proofs.Standing.{IsMore, more_append, more_after, first_from-append, last_to-append, behind, grow, stand_token, stand_last, last_stands, stand_word, Whole, Open, open_end, one_whole, whole_open}
 
 -- a type, as far as it has been read

@@ -9,9 +9,9 @@ use Rattle.jr_grammar.specs.Shape.{IsNamed}
 use Rattle.jr_grammar.specs.Bare.{Bare}
 use Rattle.jr_pexpr.specs.BareMachine.{no_join}
 use Rattle.jr_pexpr.specs.Runs as Runs
-use Rattle.jr_punit.specs.Cues.{an_int, a_boolean, Cue, a_word, a_primitive, a_dot, cue_token, cue_of}
-use Rattle.jr_punit.specs.TypeMachine.{State, want, have, dotted, step, cue_step, whole, from_want, from_have, from_dotted, dot_behind}
-use Rattle.jr_punit.proofs.CueTokens.{cue_back}
+use Rattle.jr_pstmt.specs.Cues.{an_int, a_boolean, Cue, a_word, a_primitive, a_dot, cue_token, cue_of}
+use Rattle.jr_pstmt.specs.TypeMachine.{State, want, have, dotted, step, cue_step, whole, from_want, from_have, from_dotted, dot_behind}
+use Rattle.jr_pstmt.proofs.CueTokens.{cue_back}
 
 abbrev pub type_step : State Bare → Token → Option (State Bare)
 type_step s t = step no_join s tt t

@@ -14,13 +14,13 @@ use Rattle.jr_grammar.specs.MemberShape.{ClassShaped, ClassesShaped, UnitShaped}
 use Rattle.jr_grammar.specs.Bare.{Bare}
 use Rattle.jr_pexpr.specs.BareMachine.{no_join}
 use Rattle.jr_pexpr.proofs.Found.{at_some}
-use Rattle.jr_punit.specs.Cues.{Cue, a_word, a_package, a_dot, a_semicolon, cue_token, cue_of}
+use Rattle.jr_pstmt.specs.Cues.{Cue, a_word, a_package, a_dot, a_semicolon, cue_token, cue_of}
 use Rattle.jr_punit.specs.ClassMachine as C
 use Rattle.jr_punit.specs.MemberMachine as M
 use Rattle.jr_punit.specs.UnitMachine.{ClassState, State, start, in_package, worded, in_classes, behind_class, class_read, from_classes, from_start, from_package, from_worded, cue_step, is_between, unit_of}
 use Rattle.jr_punit.specs.Machines.{unit_step, unit_whole, unit_run}
-use Rattle.jr_punit.proofs.CueTokens.{cue_back}
-use Rattle.jr_punit.proofs.Inside.{run_one, map_inner, settles}
+use Rattle.jr_pstmt.proofs.CueTokens.{cue_back}
+use Rattle.jr_pstmt.proofs.Inside.{run_one, map_inner, settles}
 use Rattle.jr_punit.proofs.Types.{a_name}
 use Rattle.jr_punit.proofs.Classes as Classes
 use Rattle.jr_punit.proofs.MemberReads.{member_laws}

@@ -17,12 +17,12 @@ use Rattle.jr_pexpr.specs.Machine as E
 use Rattle.jr_pexpr.specs.Marked.{join}
 use Rattle.jr_pexpr.specs.Runs as Runs
 use Rattle.jr_pexpr.proofs.Maps.{run_map}
-use Rattle.jr_punit.specs.Cues.{Cue, a_word, a_package, a_dot, a_semicolon, cue_token, cue_of}
+use Rattle.jr_pstmt.specs.Cues.{Cue, a_word, a_package, a_dot, a_semicolon, cue_token, cue_of}
 use Rattle.jr_punit.specs.ClassMachine as C
 use Rattle.jr_punit.specs.MemberMachine as M
 use Rattle.jr_punit.specs.UnitMachine.{ClassState, State, start, in_package, worded, in_classes, class_step, behind_class, class_read, from_classes, from_start, from_package, from_worded, cue_step, is_between, unit_of}
 use Rattle.jr_punit.specs.Marked.{file_of, span_unit_step, span_unit_whole, span_unit_run}
-use Rattle.jr_punit.proofs.CueTokens.{cue_back}
+use Rattle.jr_pstmt.proofs.CueTokens.{cue_back}
 use Rattle.jr_punit.proofs.Standing.{behind, grow, joined, stand_one, stand_last, last_stands, stand_word, stand_both, alone}
 use Rattle.jr_punit.proofs.ParameterStands.{run_stands}
 use Rattle.jr_punit.proofs.ExpressionStands.{span_run_one, no_kinds}

@@ -4,7 +4,7 @@ use Rattle.jr_text.specs.declared.spans.Span.{Span}
 use Rattle.jr_ast.specs.View.{exprs_of}
 use Rattle.jr_pexpr.specs.StateView.{state_view}
 use Rattle.jr_punit.specs.declared.args.ArgState.{ArgState}
-use Rattle.jr_punit.specs.ArgumentMachine as machine
+use Rattle.jr_pstmt.specs.ArgumentMachine as machine
 
 abbrev pub arg_state : ArgState → machine.State Span
 arg_state s = machine.in_argument (exprs_of s.args.items) (state_view s.last)

@@ -17,7 +17,7 @@ use Rattle.jr_ast.specs.Tree.{Word, TypeName}
 use Rattle.jr_ast.specs.MemberTree.{Modifier, Class, class, Member, Members, end, more}
 use Rattle.jr_grammar.specs.Tokens.{Token}
 use Rattle.jr_pexpr.specs.Machine.{marked}
-use Rattle.jr_punit.specs.Cues.{
+use Rattle.jr_pstmt.specs.Cues.{
   Cue,
   a_word,
   a_modifier,
@@ -28,9 +28,9 @@ use Rattle.jr_punit.specs.Cues.{
   at_close_brace,
   cue_of,
 }
-use Rattle.jr_punit.specs.Inside.{inner, settled}
-use Rattle.jr_punit.specs.TypeMachine as T
-use Rattle.jr_punit.specs.OwnMachine.{Lead, lead_of, modifier}
+use Rattle.jr_pstmt.specs.Inside.{inner, settled}
+use Rattle.jr_pstmt.specs.TypeMachine as T
+use Rattle.jr_pstmt.specs.OwnMachine.{Lead, lead_of, modifier}
 
 -- a class up to its members
 pub record Head (A : Type 0) : Type 0 where

@@ -10,7 +10,7 @@ use Rattle.jr_punit.specs.declared.heads.Body.{Body}
 use Rattle.jr_punit.specs.declared.heads.Body.TheVariants as body
 use Rattle.jr_punit.specs.LeadView.{lead_view}
 use Rattle.jr_punit.specs.ParamView.{params_view}
-use Rattle.jr_punit.specs.OwnMachine as machine
+use Rattle.jr_pstmt.specs.OwnMachine as machine
 
 abbrev pub head_view : Head → machine.Head Span
 head_view (head.Method b) =

@@ -6,7 +6,7 @@ use Rattle.jr_ast.specs.declared.parts.Modifier.{Modifier}
 use Rattle.jr_ast.specs.MemberTree as tree
 use Rattle.jr_ast.specs.View.{modifier_of}
 use Rattle.jr_punit.specs.declared.leads.Lead.{Lead}
-use Rattle.jr_punit.specs.OwnMachine as machine
+use Rattle.jr_pstmt.specs.OwnMachine as machine
 
 abbrev pub modifiers_view : Vec (Modifier Span) Global → List (tree.Modifier Span)
 modifiers_view ms = map modifier_of ms.items

@@ -1,20 +1,5 @@
-pub mod Cues
-pub mod CueView
-pub mod CueTests
-pub mod Inside
-pub mod InPlace
-pub mod TypeMachine
-pub mod TypeStateView
-pub mod ArgumentMachine
 pub mod ArgView
-pub mod ParameterMachine
 pub mod ParamView
-pub mod StatementMachine
-pub mod FrameView
-pub mod Blocks
-pub mod PlaceView
-pub mod ListView
-pub mod OwnMachine
 pub mod LeadView
 pub mod HeadView
 pub mod OwnView
@@ -30,6 +15,4 @@ pub mod OneReading
 pub mod ClassView
 pub mod UnitView
 pub mod Parsing
-pub mod StatementView
-pub mod Slots
 pub mod Unread

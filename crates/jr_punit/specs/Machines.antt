@@ -6,7 +6,7 @@ use Rattle.jr_grammar.specs.Tokens.{Token}
 use Rattle.jr_grammar.specs.Bare.{Bare}
 use Rattle.jr_pexpr.specs.BareMachine.{no_join}
 use Rattle.jr_pexpr.specs.Runs as Runs
-use Rattle.jr_punit.specs.StatementMachine as Statements
+use Rattle.jr_pstmt.specs.StatementMachine as Statements
 use Rattle.jr_punit.specs.MemberMachine as Members
 use Rattle.jr_punit.specs.UnitMachine as Units
 

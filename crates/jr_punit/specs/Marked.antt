@@ -7,7 +7,7 @@ use Rattle.jr_grammar.specs.Tokens.{Placed}
 use Rattle.jr_grammar.specs.Stands.{Tokens}
 use Rattle.jr_pexpr.specs.Marked.{join}
 use Rattle.jr_pexpr.specs.Runs as Runs
-use Rattle.jr_punit.specs.StatementMachine as Statements
+use Rattle.jr_pstmt.specs.StatementMachine as Statements
 use Rattle.jr_punit.specs.MemberMachine as Members
 use Rattle.jr_punit.specs.UnitMachine as Units
 
@@ -73,7 +73,8 @@ span_unit_whole size s = Units.whole (file_of size) s
 
 abbrev pub span_unit_run : ℕ → Units.State Span → Tokens → Option (Units.State Span)
 span_unit_run size s ps =
-    Runs.run (Units.State Span) (Placed Span) (UnitTree Span) span_unit_step (span_unit_whole size) s
+    Runs.run (Units.State Span) (Placed Span) (UnitTree Span) span_unit_step
+    (span_unit_whole size) s
     ps
 
 abbrev pub span_unit_read : ℕ → Tokens → Option (UnitTree Span)

@@ -4,9 +4,9 @@ use Rattle.std.specs.Prelude.{ℕ, Bool, false, List, Option, Some, None, if◌t
 use Rattle.jr_ast.specs.MemberTree.{Class, Member, inner as inner_member}
 use Rattle.jr_ast.specs.Marks.{class_mark}
 use Rattle.jr_grammar.specs.Tokens.{Token}
-use Rattle.jr_punit.specs.Cues.{Cue, a_class, cue_of}
-use Rattle.jr_punit.specs.Inside.{inner}
-use Rattle.jr_punit.specs.OwnMachine as Own
+use Rattle.jr_pstmt.specs.Cues.{Cue, a_class, cue_of}
+use Rattle.jr_pstmt.specs.Inside.{inner}
+use Rattle.jr_pstmt.specs.OwnMachine as Own
 use Rattle.jr_punit.specs.ClassMachine as Classes
 
 pub data State (A : Type 0) : Type 0 where

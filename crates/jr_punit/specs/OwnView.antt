@@ -5,20 +5,21 @@ use Rattle.jr_ast.specs.View.{word_of, type_of, exprs_of, member_of}
 use Rattle.jr_pexpr.specs.StateView.{state_view}
 use Rattle.jr_punit.specs.declared.own.OwnState.{OwnState}
 use Rattle.jr_punit.specs.declared.own.OwnState.TheVariants as rust
-use Rattle.jr_punit.specs.TypeStateView.{type_state}
+use Rattle.jr_pstmt.specs.TypeStateView.{type_state}
 use Rattle.jr_punit.specs.ArgView.{arg_state}
 use Rattle.jr_punit.specs.ParamView.{params_view, param_state}
-use Rattle.jr_punit.specs.ListView.{list_state}
+use Rattle.jr_pstmt.specs.ListView.{list_state}
 use Rattle.jr_punit.specs.LeadView.{modifiers_view, lead_view}
 use Rattle.jr_punit.specs.HeadView.{head_view, constructor_view, body_view}
-use Rattle.jr_punit.specs.OwnMachine as machine
+use Rattle.jr_pstmt.specs.OwnMachine as machine
 
 abbrev pub own_state : OwnState → machine.State Span
 own_state (rust.Modified ms) = machine.modified (modifiers_view ms)
 own_state (rust.InType lead type) = machine.in_type (lead_view lead) (type_state type)
 own_state (rust.Voided lead) = machine.voided (lead_view lead)
 own_state (rust.Worded b) =
-    machine.worded (lead_view b.value.lead) (option_map type_of b.value.result) (word_of b.value.name)
+    machine.worded (lead_view b.value.lead) (option_map type_of b.value.result)
+    (word_of b.value.name)
 own_state (rust.InValue b value) =
     machine.in_value (lead_view b.value.lead) (type_of b.value.ty) (word_of b.value.name)
     (state_view value)

@@ -7,8 +7,8 @@ use Rattle.jr_ast.specs.MemberTree as tree
 use Rattle.jr_ast.specs.View.{param_of}
 use Rattle.jr_punit.specs.declared.params.ParamState.{ParamState}
 use Rattle.jr_punit.specs.declared.params.ParamState.TheVariants as rust
-use Rattle.jr_punit.specs.TypeStateView.{type_state}
-use Rattle.jr_punit.specs.ParameterMachine as machine
+use Rattle.jr_pstmt.specs.TypeStateView.{type_state}
+use Rattle.jr_pstmt.specs.ParameterMachine as machine
 
 abbrev pub params_view : Vec (Param Span) Global → List (tree.Param Span)
 params_view ps = map param_of ps.items

@@ -17,8 +17,8 @@ use Rattle.jr_ast.specs.Tree.{Word}
 use Rattle.jr_ast.specs.MemberTree.{Class, Unit as UnitTree}
 use Rattle.jr_grammar.specs.Tokens.{Token}
 use Rattle.jr_pexpr.specs.Machine.{marked}
-use Rattle.jr_punit.specs.Cues.{Cue, a_word, a_package, a_dot, a_semicolon, cue_of}
-use Rattle.jr_punit.specs.Inside.{settled}
+use Rattle.jr_pstmt.specs.Cues.{Cue, a_word, a_package, a_dot, a_semicolon, cue_of}
+use Rattle.jr_pstmt.specs.Inside.{settled}
 use Rattle.jr_punit.specs.ClassMachine as Classes
 use Rattle.jr_punit.specs.MemberMachine as Members
 

@@ -22,7 +22,7 @@ use Rattle.jr_ast.specs.View.{word_of, class_of}
 use Rattle.jr_punit.specs.declared.unit_state.UnitState.{UnitState}
 use Rattle.jr_punit.specs.declared.unit_state.UnitState.TheVariants as rust
 use Rattle.jr_punit.specs.ClassView.{class_state}
-use Rattle.jr_punit.specs.Cues.{Cue, a_package}
+use Rattle.jr_pstmt.specs.Cues.{Cue, a_package}
 use Rattle.jr_punit.specs.UnitMachine as machine
 
 abbrev pub words_view : Vec (Ident Span) Global → List (Word Span)

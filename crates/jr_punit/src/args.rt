@@ -6,14 +6,13 @@ ghost use Rattle.jr_pexpr.specs.Marked.{join};
 ghost use Rattle.jr_pexpr.specs.Machine as expressions;
 ghost use Rattle.jr_pexpr.specs.StateView.{state_view};
 ghost use Rattle.jr_pexpr.specs.TokenView.{token_view};
-ghost use Rattle.jr_punit.specs.Cues.{a_comma};
-ghost use Rattle.jr_punit.specs.ArgumentMachine as machine;
+ghost use Rattle.jr_pstmt.specs.Cues.{a_comma};
+ghost use Rattle.jr_pstmt.specs.ArgumentMachine as machine;
 ghost use Rattle.jr_punit.specs.ArgView.{arg_state, IsNextArg};
 
-use crate::cue_tests::is_comma;
-use crate::made::Made;
 use jr_ast::Expr;
 use jr_pexpr::{State, Token};
+use jr_pstmt::{Made, is_comma};
 use jr_text::Span;
 use std::alloc::Global;
 

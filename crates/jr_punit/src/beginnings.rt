@@ -3,22 +3,21 @@ ghost use Rattle.std.specs.Prelude.{◌≡◌, ◌∷◌, ◌++◌, [], true, So
 ghost use Rattle.jr_ast.specs.View.{word_of, type_of};
 ghost use Rattle.jr_pexpr.specs.Marked.{join};
 ghost use Rattle.jr_pexpr.specs.Machine.{marked};
-ghost use Rattle.jr_punit.specs.CueView.{cue_view};
-ghost use Rattle.jr_punit.specs.Cues as pure;
-ghost use Rattle.jr_punit.specs.TypeMachine as types;
-ghost use Rattle.jr_punit.specs.TypeStateView.{type_state};
+ghost use Rattle.jr_pstmt.specs.CueView.{cue_view};
+ghost use Rattle.jr_pstmt.specs.Cues as pure;
+ghost use Rattle.jr_pstmt.specs.TypeMachine as types;
+ghost use Rattle.jr_pstmt.specs.TypeStateView.{type_state};
 ghost use Rattle.jr_punit.specs.LeadView.{modifiers_view, lead_view};
 ghost use Rattle.jr_punit.specs.HeadView.{head_view};
-ghost use Rattle.jr_punit.specs.OwnMachine as machine;
+ghost use Rattle.jr_pstmt.specs.OwnMachine as machine;
 ghost use Rattle.jr_punit.specs.OwnView.{own_state, IsNextOwn};
 
-use crate::cues::Cue;
 use crate::heads::{ConstructorHead, Head, MemberHead};
 use crate::leads::{Lead, with_modifier};
 use crate::own::{OwnState, OwnStepped};
 use crate::params::ParamState;
-use crate::type_state::{TypeState, word};
 use jr_ast::{Ident, ModWord, Modifier, TypeKind, TypeRef};
+use jr_pstmt::{Cue, TypeState, word};
 use jr_text::Span;
 use std::alloc::Global;
 

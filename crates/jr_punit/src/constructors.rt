@@ -3,25 +3,22 @@ ghost use Rattle.std.specs.Prelude.{◌≡◌, IfOk, Some, option_map, option_an
 ghost use Rattle.jr_ast.specs.View.{exprs_of};
 ghost use Rattle.jr_pexpr.specs.Marked.{join};
 ghost use Rattle.jr_pexpr.specs.TokenView.{token_view};
-ghost use Rattle.jr_punit.specs.CueView.{cue_view};
-ghost use Rattle.jr_punit.specs.Cues as pure;
+ghost use Rattle.jr_pstmt.specs.CueView.{cue_view};
+ghost use Rattle.jr_pstmt.specs.Cues as pure;
 ghost use Rattle.jr_punit.specs.ArgView.{arg_state};
 ghost use Rattle.jr_punit.specs.HeadView.{constructor_view, body_view};
-ghost use Rattle.jr_punit.specs.ArgumentMachine as arguments;
-ghost use Rattle.jr_punit.specs.StatementMachine as statements;
-ghost use Rattle.jr_punit.specs.OwnMachine as machine;
+ghost use Rattle.jr_pstmt.specs.ArgumentMachine as arguments;
+ghost use Rattle.jr_pstmt.specs.StatementMachine as statements;
+ghost use Rattle.jr_pstmt.specs.OwnMachine as machine;
 ghost use Rattle.jr_punit.specs.OwnView.{own_state, IsNextOwn};
 
 use crate::args::ArgState;
 use crate::bodies::{from_body, in_body};
-use crate::cue_tests::{is_close, is_open, is_super};
-use crate::cues::Cue;
 use crate::heads::{Body, Constructor};
-use crate::lists::ListState;
-use crate::made::Made;
 use crate::own::{OwnState, OwnStepped};
 use jr_ast::Expr;
 use jr_pexpr::Token;
+use jr_pstmt::{Cue, ListState, Made, is_close, is_open, is_super};
 use jr_text::Span;
 use std::alloc::Global;
 

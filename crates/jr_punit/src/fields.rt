@@ -6,20 +6,19 @@ ghost use Rattle.jr_pexpr.specs.Marked.{join};
 ghost use Rattle.jr_pexpr.specs.Machine as expressions;
 ghost use Rattle.jr_pexpr.specs.StateView.{state_view};
 ghost use Rattle.jr_pexpr.specs.TokenView.{token_view};
-ghost use Rattle.jr_punit.specs.CueView.{cue_view};
-ghost use Rattle.jr_punit.specs.Cues as pure;
+ghost use Rattle.jr_pstmt.specs.CueView.{cue_view};
+ghost use Rattle.jr_pstmt.specs.Cues as pure;
 ghost use Rattle.jr_punit.specs.LeadView.{lead_view};
-ghost use Rattle.jr_punit.specs.OwnMachine as machine;
+ghost use Rattle.jr_pstmt.specs.OwnMachine as machine;
 ghost use Rattle.jr_punit.specs.OwnView.{own_state, IsNextOwn};
 
 use crate::beginnings::begin_params;
-use crate::cue_tests::is_semicolon;
-use crate::cues::Cue;
 use crate::heads::{FieldHead, Head, MemberHead};
 use crate::leads::Lead;
 use crate::own::{OwnState, OwnStepped};
 use jr_ast::{Expr, Ident, Member, TypeRef};
 use jr_pexpr::{State, Token};
+use jr_pstmt::{Cue, is_semicolon};
 use jr_text::Span;
 use std::alloc::Global;
 

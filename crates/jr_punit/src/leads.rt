@@ -1,11 +1,11 @@
 //! Where a member or class begins, and its modifiers (JLS 8.1.1, 8.3.1, 8.4.3, 8.8.3).
 ghost use Rattle.std.specs.Prelude.{◌≡◌, ◌∷◌, ◌++◌, [], IfOk, map};
 ghost use Rattle.jr_ast.specs.View.{modifier_of};
-ghost use Rattle.jr_punit.specs.OwnMachine as machine;
+ghost use Rattle.jr_pstmt.specs.OwnMachine as machine;
 ghost use Rattle.jr_punit.specs.LeadView.{modifiers_view, lead_view};
 
-use crate::made::Made;
 use jr_ast::{ModWord, Modifier};
+use jr_pstmt::Made;
 use jr_text::Span;
 
 /// Where a member or class begins, and its modifiers.

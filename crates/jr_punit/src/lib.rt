@@ -1,36 +1,22 @@
-//! Compilation units: how tokens are read as statements, members, classes and units.
+//! Compilation units: how tokens are read as members, classes and units (JLS 7, 8).
 #![tactic(auto)]
 
 mod args;
-mod begin;
 mod beginnings;
-mod behind;
 mod bodies;
 mod class_heads;
 mod class_state;
 mod constructors;
-mod cue_tests;
-mod cues;
-mod ends;
 mod fields;
-mod frames;
 mod heads;
 mod inner_class;
 mod laws;
 mod leads;
-mod list_steps;
-mod lists;
-mod locals;
-mod made;
 mod member_state;
 mod own;
 mod params;
 mod parsing;
-mod places;
-mod statements;
-mod type_state;
 mod unit_state;
-mod values;
 
 pub use laws::{
     list_is_read, list_stop_is_exact, marked_reads_alike, marks_are_spans, member_is_longest,

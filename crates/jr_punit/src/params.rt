@@ -3,17 +3,15 @@ ghost use Rattle.std.specs.Prelude.{◌≡◌, ◌∷◌, ◌++◌, [], Some, If
 ghost use Rattle.std.specs.Option.{is_some};
 ghost use Rattle.jr_ast.specs.View.{type_of, param_of};
 ghost use Rattle.jr_pexpr.specs.Marked.{join};
-ghost use Rattle.jr_punit.specs.CueView.{cue_view};
-ghost use Rattle.jr_punit.specs.Cues as pure;
-ghost use Rattle.jr_punit.specs.TypeMachine as types;
-ghost use Rattle.jr_punit.specs.TypeStateView.{type_state};
-ghost use Rattle.jr_punit.specs.ParameterMachine as machine;
+ghost use Rattle.jr_pstmt.specs.CueView.{cue_view};
+ghost use Rattle.jr_pstmt.specs.Cues as pure;
+ghost use Rattle.jr_pstmt.specs.TypeMachine as types;
+ghost use Rattle.jr_pstmt.specs.TypeStateView.{type_state};
+ghost use Rattle.jr_pstmt.specs.ParameterMachine as machine;
 ghost use Rattle.jr_punit.specs.ParamView.{params_view, param_state, IsNextParam};
 
-use crate::cues::Cue;
-use crate::made::Made;
-use crate::type_state::{TypeState, word};
 use jr_ast::{ModWord, Param, TypeRef};
+use jr_pstmt::{Cue, Made, TypeState, word};
 use jr_text::Span;
 use std::alloc::Global;
 

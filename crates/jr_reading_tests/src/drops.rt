@@ -1,9 +1,11 @@
 //! What a drop frees.
-use crate::samples::{Numbered, call, plain, sum, unit_of, word};
-use jr_ast::{Expr, Stmt, TypeKind, Unit};
-use std::alloc::{AllocError, Global};
+use crate::deepest::{around, branches};
+use crate::samples::{call, sum};
+use crate::trees::{Numbered, boxed_stmt, put_stmt, unit_of, word};
+use jr_ast::{Expr, Stmt, TypeKind, TypeRef, Unit};
+use std::alloc::Global;
 use std::cell::Cell;
-use std::test::Fail;
+use std::process::Abort;
 
 // A mark that is counted as long as it lives.
 struct Counted<'a>(&'a Cell<usize>);
@@ -22,85 +24,40 @@ impl Drop for Counted<'_> {
     }
 }
 
-// `if (true) .. else m(x + 1);`
-fn or_call<A: Numbered>(alloc: Global, yes: Box<Stmt<A>>) -> Result<Stmt<A>, AllocError> {
-    let no = Box::new(alloc, call(alloc)?)?;
-    Ok(Stmt::if_else(A::of(0), Expr::truth(A::of(0), true), yes, no))
-}
-
-#[derive(Clone, Copy)]
-enum Branching {
-    While,
-    Then,
-    Else,
-}
-
-// `while (true) m(x + 1);`, `if (true) m(x + 1);`, `if (true) m(x + 1); else m(x + 1);`
-fn branch<A: Numbered>(alloc: Global, branching: Branching) -> Result<Stmt<A>, AllocError> {
-    let first = Box::new(alloc, call(alloc)?)?;
-    match branching {
-        Branching::While => Ok(Stmt::while_loop(A::of(0), Expr::truth(A::of(0), true), first)),
-        Branching::Then => Ok(Stmt::if_then(A::of(0), Expr::truth(A::of(0), true), first)),
-        Branching::Else => or_call(alloc, first),
-    }
-}
-
-fn branches<A: Numbered>(alloc: Global) -> Result<Vec<Stmt<A>>, AllocError> {
+// `while (true) m(x + 1); if (true) m(x + 1); if (true) m(x + 1); else m(x + 1);`
+fn nested<A: Numbered>(rt: &impl Abort, alloc: Global) -> Vec<Stmt<A>> {
     let mut all = Vec::new(alloc);
-    for branching in [Branching::While, Branching::Then, Branching::Else] {
-        all.push(branch(alloc, branching)?)?;
-    }
-    Ok(all)
+    put_stmt(rt, &mut all, around(rt, alloc, b'w', call(rt, alloc)));
+    put_stmt(rt, &mut all, around(rt, alloc, b't', call(rt, alloc)));
+    let both = branches(call(rt, alloc), call(rt, alloc));
+    put_stmt(rt, &mut all, boxed_stmt(rt, alloc, both));
+    all
 }
 
 // `int x = 1;`
-fn local<A: Numbered>(alloc: Global) -> Result<Stmt<A>, AllocError> {
-    let name = word(alloc, 0, "x")?;
-    let ty = plain(0, TypeKind::Int);
-    Ok(Stmt::local(A::of(0), false, ty, name, Expr::number(A::of(0), 1)))
+fn local<A: Numbered>(rt: &impl Abort, alloc: Global) -> Stmt<A> {
+    let name = word(rt, alloc, 0, "x");
+    let ty = TypeRef {
+        mark: A::of(0),
+        kind: TypeKind::Int,
+    };
+    Stmt::local(A::of(0), false, ty, name, Expr::number(A::of(0), 1))
 }
 
-#[derive(Clone, Copy)]
-enum Form {
-    Local,
-    Call,
-    Return,
-    Empty,
-    Block,
-    Sync,
-}
-
-// `int x = 1;`, `m(x + 1);`, `return x + 1;`, `;`, and those of `branches` in a block and
-// synchronized.
-fn statement<A: Numbered>(alloc: Global, form: Form) -> Result<Stmt<A>, AllocError> {
-    match form {
-        Form::Local => local(alloc),
-        Form::Call => call(alloc),
-        Form::Return => Ok(Stmt::return_value(A::of(0), Some(sum(alloc)?))),
-        Form::Empty => Ok(Stmt::empty(A::of(0))),
-        Form::Block => Ok(Stmt::block(A::of(0), branches(alloc)?)),
-        Form::Sync => {
-            let body = branches(alloc)?;
-            Ok(Stmt::sync(A::of(0), Expr::this(A::of(0)), body))
-        }
-    }
-}
-
-const FORMS: [Form; 6] = [
-    Form::Local,
-    Form::Call,
-    Form::Return,
-    Form::Empty,
-    Form::Block,
-    Form::Sync,
-];
-
-fn each_form<A: Numbered>(alloc: Global) -> Result<Vec<Stmt<A>>, AllocError> {
+// `int x = 1; m(x + 1); return x + 1; ;`, and those of `nested` in a block and synchronized.
+fn each_form<A: Numbered>(rt: &impl Abort, alloc: Global) -> Vec<Stmt<A>> {
     let mut all = Vec::new(alloc);
-    for form in FORMS {
-        all.push(statement(alloc, form)?)?;
-    }
-    Ok(all)
+    put_stmt(rt, &mut all, boxed_stmt(rt, alloc, local(rt, alloc)));
+    put_stmt(rt, &mut all, call(rt, alloc));
+    let value = Box::into_inner(sum(rt, alloc));
+    let returned = Stmt::return_value(A::of(0), Some(value));
+    put_stmt(rt, &mut all, boxed_stmt(rt, alloc, returned));
+    put_stmt(rt, &mut all, boxed_stmt(rt, alloc, Stmt::empty(A::of(0))));
+    let block = Stmt::block(A::of(0), nested(rt, alloc));
+    put_stmt(rt, &mut all, boxed_stmt(rt, alloc, block));
+    let sync = Stmt::sync(A::of(0), Expr::this(A::of(0)), nested(rt, alloc));
+    put_stmt(rt, &mut all, boxed_stmt(rt, alloc, sync));
+    all
 }
 
 // The marks of `unit_of` around `each_form`: `m(x + 1);` has seven, and the nodes of the rest are
@@ -109,24 +66,24 @@ const MARKS: usize = 5 + 4 + 7 + 5 + 1 + 1 + 2 + 2 * (9 + 9 + 16);
 
 // How many marks live before and after a copy with such marks is dropped.
 fn freed<A: Numbered, B: Drop, F: Fn(&A) -> B + Drop>(
+    rt: &impl Abort,
     alloc: Global,
     f: F,
     live: &Cell<usize>,
-) -> Result<(usize, usize), AllocError>
+) -> (usize, usize)
     requires { F.IsAlwaysCallable f }
 {
-    let unit: Unit<A> = unit_of(alloc, each_form(alloc)?)?;
-    let copy: Unit<B> = unit.with_marks(alloc, f)?;
+    let unit: Unit<A> = unit_of(rt, alloc, each_form(rt, alloc));
+    let copy: Unit<B> = unit.with_marks(alloc, f).expect(rt, "memory");
     let held = live.get();
     drop(copy);
-    Ok((held, live.get()))
+    (held, live.get())
 }
 
 // What is dropped frees all that it holds.
 #[test]
-fn a_drop_frees_each_mark(rt: HostRuntime) -> Result<(), Fail> {
+fn a_drop_frees_each_mark(rt: HostRuntime) {
     let live = Cell::new(0usize);
-    let counts = freed::<u32, _, _>(rt.alloc(), |_| Counted::new(&live), &live)?;
+    let counts = freed::<u32, _, _>(&rt, rt.alloc(), |_| Counted::new(&live), &live);
     assert!(rt; counts == (MARKS, 0));
-    Ok(())
 }

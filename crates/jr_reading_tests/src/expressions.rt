@@ -1,259 +1,169 @@
 //! What texts are read as: trees, places and stops by the grammar, and by javac where it takes the
 //! whole text.
-use crate::reading::{items_of, put_times};
+use crate::reading::{items_of, put_times, text_of};
+use crate::rows::{cut, number};
 use crate::shown::shown;
 use jr_ast::Expr;
 use jr_pexpr::{ParseFault, parse_expr, parse_sexpr};
-use jr_text::{Span, Text};
-use std::alloc::{AllocError, Global};
+use jr_text::Span;
+use std::alloc::Global;
 use std::process::Abort;
-use std::test::Fail;
 
-/// A text, the item that reading begins at, and the answer: the tree, the item behind it and the
-/// stop, or a byte.
-type Row = (&'static str, u32, &'static str);
+pub(crate) const ROWS: &'static str = "
+~# Expressions: the item that reading begins at, a text, and the answer: the tree, the item behind
+~# it and the stop, or a byte.
+~expression 0 a => a 1 1
+~expression 0 a+b*c => [a + [b * c]] 5 5
+~expression 0 a*b+c => [[a * b] + c] 5 5
+~expression 0 a-b-c => [[a - b] - c] 5 5
+~expression 0 a/b%c => [[a / b] % c] 5 5
+~expression 0 a<b==c>=d => [[a < b] == [c >= d]] 7 7
+~expression 0 a||b&&c!=d => [a || [b && [c != d]]] 7 7
+~expression 0 a=b=c => [a = [b = c]] 5 5
+~expression 0 a+=b*=c => [a += [b *= c]] 5 5
+~expression 0 a=b+c => [a = [b + c]] 5 5
+~expression 0 a+b=c => [a + b] 3 3
+~expression 0 -2147483648 => [- 2147483648] 2 2
+~expression 0 - -2147483648 => [- [- 2147483648]] 4 4
+~expression 0 -(2147483648) => at 2
+~expression 0 a-2147483648 => a 1 2
+~expression 0 2147483648 => at 0
+~expression 0 2147483647 => 2147483647 1 1
+~expression 0 (a)-b => [(a) - b] 5 5
+~expression 0 (a)!b => [cast a [! b]] 5 5
+~expression 0 (A)(b) => [cast A (b)] 6 6
+~expression 0 (a.b)c => [cast a.b c] 6 6
+~expression 0 (a.b.c)d => (a.b.c) 7 7
+~expression 0 (A)(B)c*d => [[cast A [cast B c]] * d] 9 9
+~expression 0 (A)b++ => [cast A [b ++]] 5 5
+~expression 0 (A)++b => (A) 3 3
+~expression 0 (A)2147483648 => (A) 3 3
+~expression 0 ((a))=1 => ((a)) 5 5
+~expression 0 a+++b => [[a ++] + b] 4 4
+~expression 0 a+ ++b => [a + [++ b]] 5 5
+~expression 0 ++a++ => [++ a] 2 2
+~expression 0 ++f() => [++ f] 2 4
+~expression 0 -a.b-- => [- [a.b --]] 5 5
+~expression 0 !a&&b => [[! a] && b] 4 4
+~expression 0 +a => [+ a] 2 2
+~expression 0 new A.B(1,2).f => new A.B(1, 2).f 12 12
+~expression 0 new A.B.C() => at 7
+~expression 0 new int() => at 4
+~expression 0 new A => at 5
+~expression 0 new => at 3
+~expression 0 super.m() => super.m() 5 5
+~expression 0 super.x=this => [super.x = this] 5 5
+~expression 0 super. => at 6
+~expression 0 super => at 5
+~expression 0 a.b.class => a.b.class 5 5
+~expression 0 a.b.c.class => a.b.c 5 6
+~expression 0 a.b(c).d(e,f) => a.b(c).d(e, f) 13 13
+~expression 0 f(a)(b) => f(a) 4 4
+~expression 0 f()=a => f() 3 3
+~expression 0 \"x\\\"y\"+null => [\"x\\\"y\" + null] 3 3
+~expression 0 true==false => [true == false] 3 3
+~expression 0 a. => a 1 2
+~expression 0 f( => f 1 2
+~expression 0 f(a, => f 1 4
+~expression 0 f(a,) => f 1 4
+~expression 0 f(,a) => f 1 2
+~expression 0 a+b* => [a + b] 3 4
+~expression 0 a b => a 1 2
+~expression 0 a?b => a 1 1
+~expression 0 (a => at 2
+~expression 0 ) => at 0
+~expression 0 int => at 0
+~expression 0  => at 0
+~expression 0  //c => at 4
+~expression 0 /*c*/ a => a 3 3
+~expression 0 a+b //c => [a + b] 3 5
+~expression 0 a /*c*/ ; => a 1 4
+~expression 1 x ; a => at 2
+~expression 3 x ; a => a 5 5
+~expression 5 x ; a => at 5
+~expression 1 a/*c*/b => b 3 3
+~# Statement expressions.
+~statement 0 f() => f() 3 3
+~statement 0 a.f(b) ; => a.f(b) 6 7
+~statement 0 a=b+c => [a = [b + c]] 5 5
+~statement 0 a.b-=c; => [a.b -= c] 5 5
+~statement 0 a++ => [a ++] 2 2
+~statement 0 --a => [-- a] 2 2
+~statement 0 ++a+b => [++ a] 2 2
+~statement 0 new A() => new A() 5 5
+~statement 0 super.m() => super.m() 5 5
+~statement 0 f().g => f() 3 5
+~statement 0 f()+1 => f() 3 3
+~statement 0 (a).f() => (a).f() 7 7
+~statement 0 a => at 1
+~statement 0 a+b => at 1
+~statement 0 a.b => at 3
+~statement 0 (a) => at 3
+~statement 0 (A)b => at 3
+~statement 0 -a => at 0
+~statement 0 !a => at 0
+~statement 0 1 => at 1
+~statement 0  => at 0
+~# Expressions, with each mark behind what has it.
+~places 0 f(a+b, -c) => f@0-1([a@2-3@2-3 + b@4-5@4-5]@2-5, [- c@8-9@8-9]@7-9)@0-10 10 10
+~places 0  ( a . b ) c => [cast a@3-4.b@7-8@3-8 c@11-12@11-12]@1-12 12 12
+~places 0 new A.B(1) .f => new A@4-5.B@6-7@4-7(1@8-9)@0-10.f@12-13@0-13 11 11
+~places 0 super.m() + x.y++ => \
+    [super.m@6-7()@0-9 + [x@12-13@12-13.y@14-15@12-15 ++]@12-17]@0-17 12 12
+~places 0 a.b.class==null => [a@0-1.b@2-3@0-3.class@0-9 == null@11-15]@0-15 7 7
+~places 0 ( x=\"s\" ).y => ([x@2-3@2-3 = \"s\"@4-7]@2-7)@0-9.y@10-11@0-11 9 9
+~# How many times what stands before and behind `a`, and the items that this makes, all of which
+~# are read: trees as deep as the limits let them be.
+~whole 100 (_) => 201 201
+~whole 99 f(_) => 298 298
+~whole 299 !_ => 300 300
+~whole 149 a=_ => 299 299
+~whole 149 _+a => 299 299
+~whole 149 _.a => 299 299
+";
 
-type Answer = Result<(Expr<Span>, u32, u32), ParseFault>;
-
-#[derive(Clone, Copy)]
-enum Want {
-    Expression,
-    StatementExpression,
-    Places,
-}
-
-/// Expressions.
-const EXPRESSIONS: [Row; 70] = [
-    ("a", 0, "a 1 1"),
-    ("a+b*c", 0, "[a + [b * c]] 5 5"),
-    ("a*b+c", 0, "[[a * b] + c] 5 5"),
-    ("a-b-c", 0, "[[a - b] - c] 5 5"),
-    ("a/b%c", 0, "[[a / b] % c] 5 5"),
-    ("a<b==c>=d", 0, "[[a < b] == [c >= d]] 7 7"),
-    ("a||b&&c!=d", 0, "[a || [b && [c != d]]] 7 7"),
-    ("a=b=c", 0, "[a = [b = c]] 5 5"),
-    ("a+=b*=c", 0, "[a += [b *= c]] 5 5"),
-    ("a=b+c", 0, "[a = [b + c]] 5 5"),
-    ("a+b=c", 0, "[a + b] 3 3"),
-    ("-2147483648", 0, "[- 2147483648] 2 2"),
-    ("- -2147483648", 0, "[- [- 2147483648]] 4 4"),
-    ("-(2147483648)", 0, "at 2"),
-    ("a-2147483648", 0, "a 1 2"),
-    ("2147483648", 0, "at 0"),
-    ("2147483647", 0, "2147483647 1 1"),
-    ("(a)-b", 0, "[(a) - b] 5 5"),
-    ("(a)!b", 0, "[cast a [! b]] 5 5"),
-    ("(A)(b)", 0, "[cast A (b)] 6 6"),
-    ("(a.b)c", 0, "[cast a.b c] 6 6"),
-    ("(a.b.c)d", 0, "(a.b.c) 7 7"),
-    ("(A)(B)c*d", 0, "[[cast A [cast B c]] * d] 9 9"),
-    ("(A)b++", 0, "[cast A [b ++]] 5 5"),
-    ("(A)++b", 0, "(A) 3 3"),
-    ("(A)2147483648", 0, "(A) 3 3"),
-    ("((a))=1", 0, "((a)) 5 5"),
-    ("a+++b", 0, "[[a ++] + b] 4 4"),
-    ("a+ ++b", 0, "[a + [++ b]] 5 5"),
-    ("++a++", 0, "[++ a] 2 2"),
-    ("++f()", 0, "[++ f] 2 4"),
-    ("-a.b--", 0, "[- [a.b --]] 5 5"),
-    ("!a&&b", 0, "[[! a] && b] 4 4"),
-    ("+a", 0, "[+ a] 2 2"),
-    ("new A.B(1,2).f", 0, "new A.B(1, 2).f 12 12"),
-    ("new A.B.C()", 0, "at 7"),
-    ("new int()", 0, "at 4"),
-    ("new A", 0, "at 5"),
-    ("new", 0, "at 3"),
-    ("super.m()", 0, "super.m() 5 5"),
-    ("super.x=this", 0, "[super.x = this] 5 5"),
-    ("super.", 0, "at 6"),
-    ("super", 0, "at 5"),
-    ("a.b.class", 0, "a.b.class 5 5"),
-    ("a.b.c.class", 0, "a.b.c 5 6"),
-    ("a.b(c).d(e,f)", 0, "a.b(c).d(e, f) 13 13"),
-    ("f(a)(b)", 0, "f(a) 4 4"),
-    ("f()=a", 0, "f() 3 3"),
-    ("\"x\\\"y\"+null", 0, "[\"x\\\"y\" + null] 3 3"),
-    ("true==false", 0, "[true == false] 3 3"),
-    ("a.", 0, "a 1 2"),
-    ("f(", 0, "f 1 2"),
-    ("f(a,", 0, "f 1 4"),
-    ("f(a,)", 0, "f 1 4"),
-    ("f(,a)", 0, "f 1 2"),
-    ("a+b*", 0, "[a + b] 3 4"),
-    ("a b", 0, "a 1 2"),
-    ("a?b", 0, "a 1 1"),
-    ("(a", 0, "at 2"),
-    (")", 0, "at 0"),
-    ("int", 0, "at 0"),
-    ("", 0, "at 0"),
-    (" //c", 0, "at 4"),
-    ("/*c*/ a", 0, "a 3 3"),
-    ("a+b //c", 0, "[a + b] 3 5"),
-    ("a /*c*/ ;", 0, "a 1 4"),
-    ("x ; a", 1, "at 2"),
-    ("x ; a", 3, "a 5 5"),
-    ("x ; a", 5, "at 5"),
-    ("a/*c*/b", 1, "b 3 3"),
-];
-
-/// Statement expressions.
-const STATEMENT_EXPRESSIONS: [Row; 21] = [
-    ("f()", 0, "f() 3 3"),
-    ("a.f(b) ;", 0, "a.f(b) 6 7"),
-    ("a=b+c", 0, "[a = [b + c]] 5 5"),
-    ("a.b-=c;", 0, "[a.b -= c] 5 5"),
-    ("a++", 0, "[a ++] 2 2"),
-    ("--a", 0, "[-- a] 2 2"),
-    ("++a+b", 0, "[++ a] 2 2"),
-    ("new A()", 0, "new A() 5 5"),
-    ("super.m()", 0, "super.m() 5 5"),
-    ("f().g", 0, "f() 3 5"),
-    ("f()+1", 0, "f() 3 3"),
-    ("(a).f()", 0, "(a).f() 7 7"),
-    ("a", 0, "at 1"),
-    ("a+b", 0, "at 1"),
-    ("a.b", 0, "at 3"),
-    ("(a)", 0, "at 3"),
-    ("(A)b", 0, "at 3"),
-    ("-a", 0, "at 0"),
-    ("!a", 0, "at 0"),
-    ("1", 0, "at 1"),
-    ("", 0, "at 0"),
-];
-
-/// Expressions, with each mark behind what has it.
-const PLACES: [Row; 6] = [
-    (
-        "f(a+b, -c)",
-        0,
-        "f@0-1([a@2-3@2-3 + b@4-5@4-5]@2-5, [- c@8-9@8-9]@7-9)@0-10 10 10",
-    ),
-    (
-        " ( a . b ) c",
-        0,
-        "[cast a@3-4.b@7-8@3-8 c@11-12@11-12]@1-12 12 12",
-    ),
-    (
-        "new A.B(1) .f",
-        0,
-        "new A@4-5.B@6-7@4-7(1@8-9)@0-10.f@12-13@0-13 11 11",
-    ),
-    (
-        "super.m() + x.y++",
-        0,
-        "[super.m@6-7()@0-9 + [x@12-13@12-13.y@14-15@12-15 ++]@12-17]@0-17 12 12",
-    ),
-    (
-        "a.b.class==null",
-        0,
-        "[a@0-1.b@2-3@0-3.class@0-9 == null@11-15]@0-15 7 7",
-    ),
-    (
-        "( x=\"s\" ).y",
-        0,
-        "([x@2-3@2-3 = \"s\"@4-7]@2-7)@0-9.y@10-11@0-11 9 9",
-    ),
-];
-
-/// The tree, the item behind it and the stop.
+/// The tree, the item behind it and the stop; or the byte of the fault.
 fn told(
+    rt: &impl Abort,
     alloc: Global,
-    tree: &Expr<Span>,
-    behind: u32,
-    stop: u32,
+    answer: Result<(Expr<Span>, u32, u32), ParseFault>,
     places: bool,
-) -> Result<String, AllocError> {
-    let tree = shown(alloc, tree, places)?;
-    format!(in alloc; "{tree} {behind} {stop}")
-}
-
-fn answered(alloc: Global, answer: Answer, places: bool) -> Result<String, AllocError> {
+) -> String {
     match answer {
-        Ok((tree, behind, stop)) => told(alloc, &tree, behind, stop, places),
-        Err(ParseFault::Syntax { at }) => format!(in alloc; "at {at}"),
-        Err(ParseFault::Memory) => Ok(String::new(alloc)),
+        Ok((tree, behind, stop)) => {
+            let tree = shown(rt, alloc, &tree, places);
+            format!(in alloc; "{tree} {behind} {stop}").expect(rt, "memory")
+        }
+        Err(ParseFault::Syntax { at }) => format!(in alloc; "at {at}").expect(rt, "memory"),
+        Err(ParseFault::Memory) => String::new(alloc),
     }
 }
 
 /// What is read of a text from an item on.
-fn read(rt: &impl Abort, alloc: Global, text: &str, from: u32, want: Want) -> Result<String, Fail> {
-    let text = Text::new(alloc, text.as_bytes())?;
-    let items = items_of(alloc, &text)?;
+pub(crate) fn read_expression(rt: &impl Abort, alloc: Global, kind: &str, asked: &str) -> String {
+    let (from, source) = cut(asked, " ");
+    let from = number(rt, from);
+    let text = text_of(rt, alloc, source);
+    let items = items_of(rt, alloc, &text);
     assert!(rt; from as usize <= items.len());
-    let answer = match want {
-        Want::StatementExpression => parse_sexpr(alloc, &text, &items, from),
-        Want::Expression => parse_expr(alloc, &text, &items, from),
-        Want::Places => parse_expr(alloc, &text, &items, from),
-    };
-    Ok(answered(alloc, answer, matches!(want, Want::Places))?)
-}
-
-fn assert_rows(rt: &impl Abort, alloc: Global, rows: &[Row], want: Want) -> Result<(), Fail> {
-    for (text, from, expected) in rows {
-        let answer = read(rt, alloc, text, *from, want)?;
-        assert!(rt; answer.as_str() == *expected, "{text:?}");
+    match kind {
+        "statement" => told(rt, alloc, parse_sexpr(alloc, &text, &items, from), false),
+        "expression" => told(rt, alloc, parse_expr(alloc, &text, &items, from), false),
+        _ => told(rt, alloc, parse_expr(alloc, &text, &items, from), true),
     }
-    Ok(())
 }
 
-#[test]
-fn expressions_are_read(rt: HostRuntime) -> Result<(), Fail> {
-    assert_rows(&rt, rt.alloc(), &EXPRESSIONS, Want::Expression)
-}
-
-#[test]
-fn statement_expressions_are_read(rt: HostRuntime) -> Result<(), Fail> {
-    assert_rows(
-        &rt,
-        rt.alloc(),
-        &STATEMENT_EXPRESSIONS,
-        Want::StatementExpression,
-    )
-}
-
-#[test]
-fn places_are_read(rt: HostRuntime) -> Result<(), Fail> {
-    assert_rows(&rt, rt.alloc(), &PLACES, Want::Places)
-}
-
-/// So many times `before`, then `a`, and so many times `behind`.
-fn around(alloc: Global, before: &str, behind: &str, times: u32) -> Result<Text, Fail> {
+/// The item behind what is read of such a text, and the stop.
+pub(crate) fn read_whole(rt: &impl Abort, alloc: Global, asked: &str) -> String {
+    let (times, around) = cut(asked, " ");
+    let (before, behind) = around.split_once("_").expect(rt, "a place");
+    let times = number(rt, times);
     let mut text = String::new(alloc);
-    put_times(&mut text, before, times)?;
-    text.push_str("a")?;
-    put_times(&mut text, behind, times)?;
-    Ok(Text::new(alloc, text.as_bytes())?)
-}
-
-/// Whether such a text is read whole, of so many items.
-fn is_read_whole(
-    alloc: Global,
-    before: &str,
-    behind: &str,
-    times: u32,
-    len: u32,
-) -> Result<bool, Fail> {
-    let text = around(alloc, before, behind, times)?;
-    let items = items_of(alloc, &text)?;
-    let (_tree, end, stop) = parse_expr(alloc, &text, &items, 0)?;
-    Ok((end == len) & (stop == len))
-}
-
-/// What stands before and behind `a`, how many times, and how many items this makes: trees as deep
-/// as the limits let them be.
-const DEEPEST: [(&'static str, &'static str, u32, u32); 6] = [
-    ("(", ")", 100, 201),
-    ("f(", ")", 99, 298),
-    ("!", "", 299, 300),
-    ("a=", "", 149, 299),
-    ("", "+a", 149, 299),
-    ("", ".a", 149, 299),
-];
-
-#[test]
-fn the_deepest_expressions_are_read(rt: HostRuntime) -> Result<(), Fail> {
-    for (before, behind, times, len) in &DEEPEST {
-        assert!(rt; is_read_whole(rt.alloc(), before, behind, *times, *len)?);
-    }
-    Ok(())
+    put_times(rt, &mut text, before, times);
+    put_times(rt, &mut text, "a", 1);
+    put_times(rt, &mut text, behind, times);
+    let text = text_of(rt, alloc, text.as_str());
+    let items = items_of(rt, alloc, &text);
+    let (_tree, end, stop) = parse_expr(alloc, &text, &items, 0).expect(rt, "an expression");
+    format!(in alloc; "{end} {stop}").expect(rt, "memory")
 }

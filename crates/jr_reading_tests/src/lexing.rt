@@ -1,238 +1,174 @@
 //! What texts are cut into, and what is told of texts that have no items, by the Java Language
 //! Specification and this profile.
-use jr_lex::{ItemKind, Keyword, LexFault, Symbol, TokenKind, TooDeep, is_identifier, lex};
-use jr_text::{Span, Text};
+use crate::reading::{repeated, text_of};
+use crate::rows::{assert_same, cut, number};
+use jr_lex::{Item, LexFault, TooDeep, is_identifier, lex, measure};
 use std::alloc::Global;
 use std::process::Abort;
-use std::test::Fail;
 
-const BLANK: ItemKind = ItemKind::Blank;
+pub(crate) const ROWS: &'static str = "
+~# A text, how many items it is cut into, and their kinds with the bytes of each.
+~lex  => 0 items
+~lex class A{} => \
+    5 items Token(Keyword(Class)) 0-5 Blank 5-6 Token(Word) 6-7 Token(Mark(OpenBrace)) 7-8 \
+    Token(Mark(CloseBrace)) 8-9
+~lex /*/*/; => 2 items Comment 0-5 Token(Mark(Semicolon)) 5-6
+~lex /**/; => 2 items Comment 0-4 Token(Mark(Semicolon)) 4-5
+~lex /* */ */; => \
+    5 items Comment 0-5 Blank 5-6 Token(Mark(Star)) 6-7 Token(Mark(Slash)) 7-8 \
+    Token(Mark(Semicolon)) 8-9
+~lex ;// => 2 items Token(Mark(Semicolon)) 0-1 Comment 1-3
+~lex // a\r\n; => 3 items Comment 0-4 Blank 4-6 Token(Mark(Semicolon)) 6-7
+~lex //\r; => 3 items Comment 0-2 Blank 2-3 Token(Mark(Semicolon)) 3-4
+~lex // \\\\u => 1 items Comment 0-6
+~lex /* \\\\u */ => 1 items Comment 0-9
+~lex \"\\\\u\\\"\\'\" => 1 items Token(Text) 0-9
+~lex 0 2147483648 => 3 items Token(Int(0)) 0-1 Blank 1-2 Token(Int(2147483648)) 2-12
+~lex .... => 2 items Token(Mark(Ellipsis)) 0-3 Token(Mark(Dot)) 3-4
+~lex ..a => 3 items Token(Mark(Dot)) 0-1 Token(Mark(Dot)) 1-2 Token(Word) 2-3
+~lex ...5 => 2 items Token(Mark(Ellipsis)) 0-3 Token(Int(5)) 3-4
+~lex >>>=>>> => \
+    2 items Token(Mark(UnsignedShiftRightEquals)) 0-4 Token(Mark(UnsignedShiftRight)) 4-7
+~lex ->= => 2 items Token(Mark(Arrow)) 0-2 Token(Mark(Equals)) 2-3
+~lex :::=== => \
+    4 items Token(Mark(DoubleColon)) 0-2 Token(Mark(Colon)) 2-3 Token(Mark(EqualEqual)) 3-5 \
+    Token(Mark(Equals)) 5-6
+~lex λέξη=$1_é => 3 items Token(Word) 0-8 Token(Mark(Equals)) 8-9 Token(Word) 9-14
+~lex classes null => 3 items Token(Word) 0-7 Blank 7-8 Token(Keyword(Null)) 8-12
+~# A text, and its first fault.
+~lex /*/ => OpenComment { at: 0 }
+~lex class A{/*/} => OpenComment { at: 8 }
+~lex /* \\u => OpenComment { at: 0 }
+~lex \" => OpenString { at: 0 }
+~lex  \"a\n\" => OpenString { at: 1 }
+~lex  \"a\\\" => OpenString { at: 1 }
+~lex \"\\ => OpenString { at: 0 }
+~lex \"\\\n => OpenString { at: 0 }
+~lex \"a\\\n\" => Escape { at: 2 }
+~lex \"\\\r\n\" => OpenString { at: 0 }
+~lex \"\\\\\\u0041\" => Escape { at: 3 }
+~lex \"\\0 \\q\" => Escape { at: 1 }
+~lex // é\\u => Escape { at: 5 }
+~lex // \\\\\\u => Escape { at: 5 }
+~lex /*\\ \\u*/ => Escape { at: 4 }
+~lex ;\\u => Escape { at: 1 }
+~lex ;\\\\u => BadByte { at: 1 }
+~lex a\\ => BadByte { at: 1 }
+~lex a# => BadByte { at: 1 }
+~lex 'a' => BadByte { at: 0 }
+~lex  \u{b} => BadByte { at: 1 }
+~lex é\u{1a} => BadByte { at: 2 }
+~lex a\u{a0} => BadByte { at: 1 }
+~lex  08 => BadNumber { at: 1 }
+~lex 00 => BadNumber { at: 0 }
+~lex 1. => BadNumber { at: 0 }
+~lex 1a => BadNumber { at: 0 }
+~lex 1é => BadNumber { at: 0 }
+~lex a .5 => BadNumber { at: 2 }
+~lex ..5 => BadNumber { at: 1 }
+~lex 2147483649 => BadNumber { at: 0 }
+~lex 99999999999999999999999999 => BadNumber { at: 0 }
+~lex 0x1 => BadNumber { at: 0 }
+~lex 1_0 => BadNumber { at: 0 }
+~lex 1L # /* => BadNumber { at: 0 }
+~# Whether a text is an identifier.
+~identifier a => true
+~identifier $1 => true
+~identifier _ => true
+~identifier classes => true
+~identifier λέξη => true
+~identifier Null => true
+~identifier  => false
+~identifier 1a => false
+~identifier class => false
+~identifier null => false
+~identifier true => false
+~identifier a.b => false
+~identifier a  => false
+~identifier é- => false
+~# How many copies of a piece, and the byte at which so many are too deep.
+~depth 100 ( => None
+~depth 101 ( => Some(100)
+~depth 50 [{ => None
+~depth 51 [{ => Some(100)
+~depth 149 () => None
+~depth 300 a  => None
+~depth 301 a  => Some(600)
+~depth 500 else; => None
+~depth 501 else; => Some(2500)
+~depth 1000 }; => None
+";
 
-const COMMENT: ItemKind = ItemKind::Comment;
-
-const WORD: ItemKind = ItemKind::Token(TokenKind::Word);
-
-const TEXT: ItemKind = ItemKind::Token(TokenKind::Text);
-
-const CLASS: ItemKind = ItemKind::Token(TokenKind::Keyword(Keyword::Class));
-
-const NULL: ItemKind = ItemKind::Token(TokenKind::Keyword(Keyword::Null));
-
-const ZERO: ItemKind = ItemKind::Token(TokenKind::Int(0));
-
-const FIVE: ItemKind = ItemKind::Token(TokenKind::Int(5));
-
-const GREATEST: ItemKind = ItemKind::Token(TokenKind::Int(2_147_483_648));
-
-const SEMICOLON: ItemKind = ItemKind::Token(TokenKind::Mark(Symbol::Semicolon));
-
-const OPEN_BRACE: ItemKind = ItemKind::Token(TokenKind::Mark(Symbol::OpenBrace));
-
-const CLOSE_BRACE: ItemKind = ItemKind::Token(TokenKind::Mark(Symbol::CloseBrace));
-
-const STAR: ItemKind = ItemKind::Token(TokenKind::Mark(Symbol::Star));
-
-const SLASH: ItemKind = ItemKind::Token(TokenKind::Mark(Symbol::Slash));
-
-const DOT: ItemKind = ItemKind::Token(TokenKind::Mark(Symbol::Dot));
-
-const ELLIPSIS: ItemKind = ItemKind::Token(TokenKind::Mark(Symbol::Ellipsis));
-
-const SHIFT: ItemKind = ItemKind::Token(TokenKind::Mark(Symbol::UnsignedShiftRight));
-
-const SHIFT_EQUALS: ItemKind = ItemKind::Token(TokenKind::Mark(Symbol::UnsignedShiftRightEquals));
-
-const ARROW: ItemKind = ItemKind::Token(TokenKind::Mark(Symbol::Arrow));
-
-const EQUALS: ItemKind = ItemKind::Token(TokenKind::Mark(Symbol::Equals));
-
-const EQUAL_EQUAL: ItemKind = ItemKind::Token(TokenKind::Mark(Symbol::EqualEqual));
-
-const COLON: ItemKind = ItemKind::Token(TokenKind::Mark(Symbol::Colon));
-
-const DOUBLE_COLON: ItemKind = ItemKind::Token(TokenKind::Mark(Symbol::DoubleColon));
-
-/// A text, and the kinds of its items with the byte behind each.
-type Row = (&'static str, &'static [(ItemKind, u32)]);
-
-const PIECES: [Row; 20] = [
-    ("", &[]),
-    (
-        "class A{}",
-        &[
-            (CLASS, 5),
-            (BLANK, 6),
-            (WORD, 7),
-            (OPEN_BRACE, 8),
-            (CLOSE_BRACE, 9),
-        ],
-    ),
-    ("/*/*/;", &[(COMMENT, 5), (SEMICOLON, 6)]),
-    ("/**/;", &[(COMMENT, 4), (SEMICOLON, 5)]),
-    (
-        "/* */ */;",
-        &[
-            (COMMENT, 5),
-            (BLANK, 6),
-            (STAR, 7),
-            (SLASH, 8),
-            (SEMICOLON, 9),
-        ],
-    ),
-    (";//", &[(SEMICOLON, 1), (COMMENT, 3)]),
-    ("// a\r\n;", &[(COMMENT, 4), (BLANK, 6), (SEMICOLON, 7)]),
-    ("//\r;", &[(COMMENT, 2), (BLANK, 3), (SEMICOLON, 4)]),
-    ("// \\\\u", &[(COMMENT, 6)]),
-    ("/* \\\\u */", &[(COMMENT, 9)]),
-    ("\"\\\\u\\\"\\'\"", &[(TEXT, 9)]),
-    ("0 2147483648", &[(ZERO, 1), (BLANK, 2), (GREATEST, 12)]),
-    ("....", &[(ELLIPSIS, 3), (DOT, 4)]),
-    ("..a", &[(DOT, 1), (DOT, 2), (WORD, 3)]),
-    ("...5", &[(ELLIPSIS, 3), (FIVE, 4)]),
-    (">>>=>>>", &[(SHIFT_EQUALS, 4), (SHIFT, 7)]),
-    ("->=", &[(ARROW, 2), (EQUALS, 3)]),
-    (
-        ":::===",
-        &[(DOUBLE_COLON, 2), (COLON, 3), (EQUAL_EQUAL, 5), (EQUALS, 6)],
-    ),
-    ("λέξη=$1_é", &[(WORD, 8), (EQUALS, 9), (WORD, 14)]),
-    ("classes null", &[(WORD, 7), (BLANK, 8), (NULL, 12)]),
-];
-
-/// Whether the items of a text are of these kinds, and end at these bytes.
-fn is_cut(alloc: Global, text: &str, pieces: &[(ItemKind, u32)]) -> Result<bool, Fail> {
-    let text = Text::new(alloc, text.as_bytes())?;
-    let items = lex(alloc, &text)?;
-    let mut from = 0;
-    let mut is_cut = items.len() == pieces.len();
-    for (item, (kind, to)) in items.iter().zip(pieces) {
-        let span = Span { from, to: *to };
-        is_cut = is_cut & (item.kind == *kind) & (item.span == span);
-        from = *to;
+fn items_text(rt: &impl Abort, alloc: Global, items: &[Item]) -> String {
+    let mut text = format!(in alloc; "{} items", items.len()).expect(rt, "memory");
+    for item in items {
+        let (from, to) = (item.span.from, item.span.to);
+        write!(text, " {:?} {from}-{to}", item.kind).expect(rt, "memory");
     }
-    Ok(is_cut)
+    text
 }
 
-fn assert_cut(rt: &impl Abort, alloc: Global, rows: &[Row]) -> Result<(), Fail> {
-    for (text, pieces) in rows {
-        assert!(rt; is_cut(alloc, text, pieces)?, "{text:?}");
+/// The items of a text, or its first fault.
+pub(crate) fn lexed(rt: &impl Abort, alloc: Global, source: &str) -> String {
+    let text = text_of(rt, alloc, source);
+    match lex(alloc, &text) {
+        Ok(items) => items_text(rt, alloc, &items),
+        Err(fault) => format!(in alloc; "{fault:?}").expect(rt, "memory"),
     }
-    Ok(())
+}
+
+/// Whether a text is an identifier.
+pub(crate) fn identified(rt: &impl Abort, alloc: Global, source: &str) -> String {
+    let is_identifier = is_identifier(source);
+    format!(in alloc; "{is_identifier}").expect(rt, "memory")
+}
+
+/// The byte at which so many copies of a piece are too deep.
+pub(crate) fn too_deep(rt: &impl Abort, alloc: Global, asked: &str) -> String {
+    let (times, piece) = cut(asked, " ");
+    let text = repeated(rt, alloc, piece, number(rt, times), "");
+    let items = lex(alloc, &text).expect(rt, "items");
+    let at = match measure(&items) {
+        Ok(()) => None,
+        Err(TooDeep { at }) => Some(at),
+    };
+    format!(in alloc; "{at:?}").expect(rt, "memory")
+}
+
+fn assert_told(rt: &impl Abort, alloc: Global, fault: LexFault, expected: &str) {
+    let told = fault.to_string(alloc).expect(rt, "memory");
+    assert_same(rt, told.as_str(), expected);
 }
 
 #[test]
-fn cuts_texts(rt: HostRuntime) -> Result<(), Fail> {
-    assert_cut(&rt, rt.alloc(), &PIECES)
-}
-
-const FAULTS: [(&'static str, LexFault); 35] = [
-    ("/*/", LexFault::OpenComment { at: 0 }),
-    ("class A{/*/}", LexFault::OpenComment { at: 8 }),
-    ("/* \\u", LexFault::OpenComment { at: 0 }),
-    ("\"", LexFault::OpenString { at: 0 }),
-    (" \"a\n\"", LexFault::OpenString { at: 1 }),
-    (" \"a\\\"", LexFault::OpenString { at: 1 }),
-    ("\"\\", LexFault::OpenString { at: 0 }),
-    ("\"\\\n", LexFault::OpenString { at: 0 }),
-    ("\"a\\\n\"", LexFault::Escape { at: 2 }),
-    ("\"\\\r\n\"", LexFault::OpenString { at: 0 }),
-    ("\"\\\\\\u0041\"", LexFault::Escape { at: 3 }),
-    ("\"\\0 \\q\"", LexFault::Escape { at: 1 }),
-    ("// é\\u", LexFault::Escape { at: 5 }),
-    ("// \\\\\\u", LexFault::Escape { at: 5 }),
-    ("/*\\ \\u*/", LexFault::Escape { at: 4 }),
-    (";\\u", LexFault::Escape { at: 1 }),
-    (";\\\\u", LexFault::BadByte { at: 1 }),
-    ("a\\", LexFault::BadByte { at: 1 }),
-    ("a#", LexFault::BadByte { at: 1 }),
-    ("'a'", LexFault::BadByte { at: 0 }),
-    (" \u{b}", LexFault::BadByte { at: 1 }),
-    ("é\u{1a}", LexFault::BadByte { at: 2 }),
-    ("a\u{a0}", LexFault::BadByte { at: 1 }),
-    (" 08", LexFault::BadNumber { at: 1 }),
-    ("00", LexFault::BadNumber { at: 0 }),
-    ("1.", LexFault::BadNumber { at: 0 }),
-    ("1a", LexFault::BadNumber { at: 0 }),
-    ("1é", LexFault::BadNumber { at: 0 }),
-    ("a .5", LexFault::BadNumber { at: 2 }),
-    ("..5", LexFault::BadNumber { at: 1 }),
-    ("2147483649", LexFault::BadNumber { at: 0 }),
-    ("99999999999999999999999999", LexFault::BadNumber { at: 0 }),
-    ("0x1", LexFault::BadNumber { at: 0 }),
-    ("1_0", LexFault::BadNumber { at: 0 }),
-    ("1L # /*", LexFault::BadNumber { at: 0 }),
-];
-
-/// Whether this is the first fault of a text.
-fn is_fault(alloc: Global, text: &str, fault: LexFault) -> Result<bool, Fail> {
-    let text = Text::new(alloc, text.as_bytes())?;
-    Ok(lex(alloc, &text).err() == Some(fault))
-}
-
-fn assert_faults(
-    rt: &impl Abort,
-    alloc: Global,
-    rows: &[(&'static str, LexFault)],
-) -> Result<(), Fail> {
-    for (text, fault) in rows {
-        assert!(rt; is_fault(alloc, text, *fault)?, "{text:?}");
-    }
-    Ok(())
-}
-
-#[test]
-fn finds_first_faults(rt: HostRuntime) -> Result<(), Fail> {
-    assert_faults(&rt, rt.alloc(), &FAULTS)
-}
-
-const TOLD: [(LexFault, &'static str); 6] = [
-    (
-        LexFault::BadByte { at: 7 },
+fn faults_as_texts(rt: HostRuntime) {
+    let alloc = rt.alloc();
+    let byte = LexFault::BadByte { at: 7 };
+    assert_told(
+        &rt,
+        alloc,
+        byte,
         "no item begins with the character at byte 7",
-    ),
-    (
-        LexFault::OpenComment { at: 7 },
-        "the comment at byte 7 doesn't end",
-    ),
-    (
-        LexFault::OpenString { at: 7 },
-        "the string at byte 7 doesn't end",
-    ),
-    (
-        LexFault::Escape { at: 7 },
+    );
+    let comment = LexFault::OpenComment { at: 7 };
+    assert_told(&rt, alloc, comment, "the comment at byte 7 doesn't end");
+    let string = LexFault::OpenString { at: 7 };
+    assert_told(&rt, alloc, string, "the string at byte 7 doesn't end");
+    let escape = LexFault::Escape { at: 7 };
+    assert_told(
+        &rt,
+        alloc,
+        escape,
         "the escape at byte 7 is none of this profile",
-    ),
-    (
-        LexFault::BadNumber { at: 7 },
+    );
+    let number = LexFault::BadNumber { at: 7 };
+    assert_told(
+        &rt,
+        alloc,
+        number,
         "the number at byte 7 is none of this profile",
-    ),
-    (LexFault::Memory, "out of memory"),
-];
-
-fn is_told(alloc: Global, fault: LexFault, told: &str) -> Result<bool, Fail> {
-    Ok(fault.to_string(alloc)?.as_str() == told)
-}
-
-#[test]
-fn faults_as_texts(rt: HostRuntime) -> Result<(), Fail> {
-    for (fault, told) in &TOLD {
-        assert!(rt; is_told(rt.alloc(), *fault, told)?);
-    }
-    let deep = TooDeep { at: 7 }.to_string(rt.alloc())?;
-    assert!(rt; deep.as_str() == "the text is too deep at byte 7");
-    Ok(())
-}
-
-const IDENTIFIERS: [&'static str; 6] = ["a", "$1", "_", "classes", "λέξη", "Null"];
-
-const OTHERS: [&'static str; 8] = ["", "1a", "class", "null", "true", "a.b", "a ", "é-"];
-
-#[test]
-fn knows_identifiers(rt: HostRuntime) {
-    for name in IDENTIFIERS {
-        assert!(rt; is_identifier(name), "{name:?}");
-    }
-    for name in OTHERS {
-        assert!(rt; !is_identifier(name), "{name:?}");
-    }
+    );
+    assert_told(&rt, alloc, LexFault::Memory, "out of memory");
+    let deep = TooDeep { at: 7 }.to_string(alloc).expect(&rt, "memory");
+    assert_same(&rt, deep.as_str(), "the text is too deep at byte 7");
 }

@@ -1,77 +1,58 @@
-//! Texts of each size up to the limit, and texts at the limits of depth.
-use jr_lex::{LexFault, TooDeep, lex, measure};
-use jr_text::Text;
+//! Texts of each size up to the limit, and names of each size.
+use crate::reading::{put_times, repeated};
+use jr_ast::Name;
+use jr_lex::{Item, ItemKind, LexFault, Symbol, TokenKind, lex};
+use jr_text::Span;
 use std::alloc::Global;
-use std::test::Fail;
+use std::process::Abort;
 
-/// So many copies of a piece, and what is behind them.
-fn repeated(alloc: Global, piece: &str, count: u32, behind: &str) -> Result<Text, Fail> {
-    let mut whole = String::new(alloc);
-    for _ in 0..count {
-        whole.push_str(piece)?;
-    }
-    whole.push_str(behind)?;
-    Ok(Text::new(alloc, whole.as_bytes())?)
-}
-
-const SIZES: [u32; 9] = [
-    1, 255, 256, 65_535, 65_536, 65_537, 100_001, 524_288, 1_048_575,
-];
-
-/// Whether so many pieces are cut to their end, into one item or into as many.
-fn is_cut(alloc: Global, piece: &str, count: u32, is_one: bool) -> Result<bool, Fail> {
-    let items = lex(alloc, &repeated(alloc, piece, count, "")?)?;
-    let len = if is_one { 1 } else { count as usize };
-    let end = items.last().map(|item| item.span.to);
-    Ok((items.len() == len) & (end == Some(count)))
+/// Whether so many pieces are cut to their end, into one item or into as many, of which this kind
+/// is the last one's.
+fn is_cut(rt: &impl Abort, alloc: Global, piece: &str, kind: ItemKind, times: u32) -> bool {
+    let text = repeated(rt, alloc, piece, times, "");
+    let items = lex(alloc, &text).expect(rt, "items");
+    let is_one = piece != ";";
+    let len = if is_one { 1 } else { times as usize };
+    let from = if is_one { 0 } else { times.wrapping_sub(1) };
+    let span = Span { from, to: times };
+    let last = items.last().copied();
+    (items.len() == len) & (last == Some(Item { kind, span }))
 }
 
 /// Whether the fault behind so many pieces of a byte is found.
-fn is_found(alloc: Global, piece: &str, count: u32) -> Result<bool, Fail> {
-    let fault = lex(alloc, &repeated(alloc, piece, count, "#")?).err();
-    Ok(fault == Some(LexFault::BadByte { at: count }))
+fn is_found(rt: &impl Abort, alloc: Global, piece: &str, times: u32) -> bool {
+    let text = repeated(rt, alloc, piece, times, "#");
+    lex(alloc, &text).err() == Some(LexFault::BadByte { at: times })
 }
 
-/// Texts of each size up to the limit are cut, and their faults found: of many items and of one
-/// long one.
+/// Texts of each size up to the limit are cut, and their faults found.
+fn assert_sizes(rt: &impl Abort, alloc: Global, piece: &str, kind: ItemKind) {
+    for times in [
+        1, 255, 256, 65_535, 65_536, 65_537, 100_001, 524_288, 1_048_575,
+    ] {
+        assert!(rt; is_cut(rt, alloc, piece, kind, times));
+        assert!(rt; is_found(rt, alloc, piece, times));
+    }
+}
+
+/// Whether a name of so many bytes is its bytes, and no other.
+fn is_its_bytes(rt: &impl Abort, alloc: Global, len: u32) -> bool {
+    let mut text = String::new(alloc);
+    put_times(rt, &mut text, "a", len);
+    let name = Name::new(alloc, text.as_str()).expect(rt, "memory");
+    let same = Name::new(alloc, text.as_str()).expect(rt, "memory");
+    let other = Name::new(alloc, "ab").expect(rt, "memory");
+    (name.as_str() == text.as_str()) & (name == same) & (name != other)
+}
+
+/// Of many items and of one long one.
 #[test]
-fn sizes_up_to_the_limit(rt: HostRuntime) -> Result<(), Fail> {
-    for (piece, is_one) in [(";", false), ("a", true), (" ", true)] {
-        for count in SIZES {
-            assert!(rt; is_cut(rt.alloc(), piece, count, is_one)?);
-            assert!(rt; is_found(rt.alloc(), piece, count)?);
-        }
+fn sizes_up_to_the_limit(rt: HostRuntime) {
+    for len in [0, 1, 255, 256, 65_536, 100_001, 1_048_576] {
+        assert!(rt; is_its_bytes(&rt, rt.alloc(), len));
     }
-    Ok(())
-}
-
-/// Pieces, how many, and the byte at which so many are too deep.
-const DEPTHS: [(&'static str, u32, Option<u32>); 10] = [
-    ("(", 100, None),
-    ("(", 101, Some(100)),
-    ("[{", 50, None),
-    ("[{", 51, Some(100)),
-    ("()", 149, None),
-    ("a ", 300, None),
-    ("a ", 301, Some(600)),
-    ("else;", 500, None),
-    ("else;", 501, Some(2500)),
-    ("};", 1000, None),
-];
-
-/// The place at which so many copies of a text are too deep.
-fn deep_place(alloc: Global, piece: &str, count: u32) -> Result<Option<u32>, Fail> {
-    let items = lex(alloc, &repeated(alloc, piece, count, "")?)?;
-    match measure(&items) {
-        Ok(()) => Ok(None),
-        Err(TooDeep { at }) => Ok(Some(at)),
-    }
-}
-
-#[test]
-fn measures_depth(rt: HostRuntime) -> Result<(), Fail> {
-    for (piece, count, at) in &DEPTHS {
-        assert!(rt; deep_place(rt.alloc(), piece, *count)? == *at);
-    }
-    Ok(())
+    let semicolon = ItemKind::Token(TokenKind::Mark(Symbol::Semicolon));
+    assert_sizes(&rt, rt.alloc(), ";", semicolon);
+    assert_sizes(&rt, rt.alloc(), "a", ItemKind::Token(TokenKind::Word));
+    assert_sizes(&rt, rt.alloc(), " ", ItemKind::Blank);
 }

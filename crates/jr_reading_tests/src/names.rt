@@ -1,24 +1,44 @@
-//! Names of each size.
-use jr_ast::Name;
-use std::alloc::{AllocError, Global};
-use std::test::Fail;
+//! How declarations are written, and what is needed at a place.
+use crate::keys::{ctor_key, decl, method_key};
+use crate::rows::{assert_same, cut};
+use jr_names::{Need, decl_text};
+use jr_table::{Decl, LocalKey, MemberKey};
+use std::alloc::Global;
+use std::process::Abort;
 
-// Whether a name of so many bytes is its bytes, and no other.
-fn is_its_bytes(alloc: Global, len: u32) -> Result<bool, AllocError> {
-    let mut text = String::new(alloc);
-    for _ in 0..len {
-        text.push('a')?;
-    }
-    let name = Name::new(alloc, text.as_str())?;
-    let same = Name::new(alloc, text.as_str())?;
-    let other = Name::new(alloc, "ab")?;
-    Ok((name.as_str() == text.as_str()) & (name == same) & (name != other))
+/// A declaration's kind, class, name and parameters, and how the formats write it out.
+pub(crate) const ROWS: &'static str = "
+~text class K - => K
+~text class O.K - => O.K
+~text field K x => K.x
+~text method K m => K.m()
+~text method K m int B => K.m(int,B)
+~text method K n boolean O.K int => K.n(boolean,O.K,int)
+~text ctor K - int => K.new(int)
+";
+
+/// How a declaration is written.
+pub(crate) fn written(rt: &impl Abort, alloc: Global, asked: &str) -> String {
+    let (kind, rest) = cut(asked, " ");
+    let (class, rest) = cut(rest, " ");
+    let (name, params) = cut(rest, " ");
+    let decl = decl(rt, alloc, kind, class, name, params);
+    let text = decl_text(alloc, &decl).expect(rt, "memory");
+    String::from_str(alloc, text.as_str()).expect(rt, "memory")
+}
+
+fn assert_local(rt: &impl Abort, alloc: Global, member: MemberKey, number: u32, expected: &str) {
+    let decl = Box::new(alloc, Decl::Local(LocalKey { member, number })).expect(rt, "memory");
+    let text = decl_text(alloc, &decl).expect(rt, "memory");
+    assert_same(rt, text.as_str(), expected);
 }
 
 #[test]
-fn names_are_their_bytes(rt: HostRuntime) -> Result<(), Fail> {
-    for len in [0, 1, 255, 256, 65_536, 100_001, 1_048_576] {
-        assert!(rt; is_its_bytes(rt.alloc(), len)?);
-    }
-    Ok(())
+fn texts_of_locals(rt: HostRuntime) {
+    let alloc = rt.alloc();
+    let method = MemberKey::Method(method_key(&rt, alloc, "K", "m", ""));
+    assert_local(&rt, alloc, method, 0, "K.m()#0");
+    let ctor = MemberKey::Ctor(ctor_key(&rt, alloc, "O.K", ""));
+    assert_local(&rt, alloc, ctor, 12, "O.K.new()#12");
+    assert_same(&rt, Need::OneUse.name(), "OneUse");
 }

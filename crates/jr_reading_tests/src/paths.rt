@@ -1,8 +1,10 @@
-//! What paths lead to in trees, and what is written through them.
-use crate::samples::{Numbered, method, path, unit};
-use jr_ast::{Member, Node, Path, Unit};
-use std::alloc::{AllocError, Global};
-use std::test::Fail;
+//! What paths lead to in trees and in their copies, and what is written through them.
+use crate::rows::{assert_same, cut, number};
+use crate::samples::{method, unit};
+use crate::trees::{Numbered, unit_of};
+use jr_ast::{Expr, Member, Node, Path, Stmt, Unit};
+use std::alloc::Global;
+use std::process::Abort;
 
 fn mark_of<A: Numbered>(node: &Node<'_, A>) -> u32 {
     match node {
@@ -20,90 +22,159 @@ fn mark_of<A: Numbered>(node: &Node<'_, A>) -> u32 {
 
 // The marks of what a path leads to: of the node, and of it as an expression, a statement and a
 // member.
-pub(crate) type Marks = [Option<u32>; 4];
+type Marks = [Option<u32>; 4];
 
-pub(crate) type Row = (&'static [u32], Marks);
+fn node_mark<A: Numbered>(node: Option<Node<'_, A>>) -> Option<u32> {
+    match node {
+        None => None,
+        Some(node) => Some(mark_of(&node)),
+    }
+}
+
+fn expr_mark<A: Numbered>(expr: Option<&Expr<A>>) -> Option<u32> {
+    match expr {
+        None => None,
+        Some(expr) => Some(expr.mark.number()),
+    }
+}
+
+pub(crate) fn stmt_mark<A: Numbered>(stmt: Option<&Stmt<A>>) -> Option<u32> {
+    match stmt {
+        None => None,
+        Some(stmt) => Some(stmt.mark.number()),
+    }
+}
+
+fn member_mark<A: Numbered>(member: Option<&Member<A>>) -> Option<u32> {
+    match member {
+        None => None,
+        Some(member) => Some(member.mark.number()),
+    }
+}
 
 fn from_unit<A: Numbered>(unit: &Unit<A>, path: &Path) -> Marks {
     [
-        Node::Unit(unit).at(path).map(|node| mark_of(&node)),
-        unit.expr_at(path).map(|expr| expr.mark.number()),
-        unit.stmt_at(path).map(|stmt| stmt.mark.number()),
-        unit.member_at(path).map(|member| member.mark.number()),
+        node_mark(Node::Unit(unit).at(path)),
+        expr_mark(unit.expr_at(path)),
+        stmt_mark(unit.stmt_at(path)),
+        member_mark(unit.member_at(path)),
     ]
 }
 
 fn from_member<A: Numbered>(member: &Member<A>, path: &Path) -> Marks {
     [
-        Node::Member(member).at(path).map(|node| mark_of(&node)),
-        member.expr_at(path).map(|expr| expr.mark.number()),
-        member.stmt_at(path).map(|stmt| stmt.mark.number()),
+        node_mark(Node::Member(member).at(path)),
+        expr_mark(member.expr_at(path)),
+        stmt_mark(member.stmt_at(path)),
         None,
     ]
 }
 
-// Whether each path leads to what its row says.
-pub(crate) fn leads<A: Numbered>(
+// The path whose steps single spaces part.
+fn path_in(rt: &impl Abort, alloc: Global, text: &str) -> Path {
+    let mut steps = Vec::new(alloc);
+    for step in text.split(' ') {
+        if !step.is_empty() {
+            steps.push(number(rt, step)).expect(rt, "memory");
+        }
+    }
+    Path { steps }
+}
+
+fn assert_marks(rt: &impl Abort, alloc: Global, marks: Marks, expected: &str) {
+    let [node, expr, stmt, member] = marks;
+    let told = format!(in alloc; "{node:?} {expr:?} {stmt:?} {member:?}").expect(rt, "memory");
+    assert_same(rt, told.as_str(), expected);
+}
+
+// Asserts that each path leads to what its row says, and that there are so many rows.
+fn assert_leads<A: Numbered>(
+    rt: &impl Abort,
     alloc: Global,
     unit: &Unit<A>,
-    rows: &[Row],
-) -> Result<bool, AllocError> {
-    let mut all = true;
-    for (steps, want) in rows {
-        all = all & (from_unit(unit, &path(alloc, steps)?) == *want);
+    rows: &str,
+    count: u32,
+) {
+    let mut seen = 0u32;
+    for row in rows.split('~') {
+        if let Some((steps, expected)) = row.split_once(" => ") {
+            let path = path_in(rt, alloc, steps);
+            assert_marks(rt, alloc, from_unit(unit, &path), expected.trim_end());
+            seen = seen.wrapping_add(1);
+        }
     }
-    Ok(all)
+    assert!(rt; seen == count);
 }
 
 // Each kind of node is reached by a path, and what lies past a tree's edge is not.
-const PATHS: [Row; 14] = [
-    (&[], [Some(1), None, None, None]),
-    (&[0], [Some(2), None, None, None]),
-    (&[1], [Some(10), None, None, None]),
-    (&[1, 0], [Some(11), None, None, None]),
-    (&[1, 1, 0], [Some(13), None, None, None]),
-    (&[1, 2], [Some(20), None, None, Some(20)]),
-    (&[1, 2, 0], [Some(21), None, None, None]),
-    (&[1, 2, 2, 0], [Some(24), None, None, None]),
-    (&[1, 2, 3], [Some(27), None, Some(27), None]),
-    (&[1, 2, 3, 0, 1], [Some(30), Some(30), None, None]),
-    (&[1, 2, 3, 0, 1, 1], [Some(33), Some(33), None, None]),
-    (&[2], [None, None, None, None]),
-    (&[1, 2, 4], [None, None, None, None]),
-    (&[1, 2, 3, 0, 1, 1, 0], [None, None, None, None]),
-];
+const PATHS: &'static str = "
+~ => Some(1) None None None
+~0 => Some(2) None None None
+~1 => Some(10) None None None
+~1 0 => Some(11) None None None
+~1 1 0 => Some(13) None None None
+~1 2 => Some(20) None None Some(20)
+~1 2 0 => Some(21) None None None
+~1 2 2 0 => Some(24) None None None
+~1 2 3 => Some(27) None Some(27) None
+~1 2 3 0 1 => Some(30) Some(30) None None
+~1 2 3 0 1 1 => Some(33) Some(33) None None
+~2 => None None None None
+~1 2 4 => None None None None
+~1 2 3 0 1 1 0 => None None None None
+";
 
-#[test]
-fn paths_lead_to_nodes(rt: HostRuntime) -> Result<(), Fail> {
-    assert!(rt; paths_lead::<u32>(rt.alloc())?);
-    Ok(())
+// The tree with other marks.
+pub(crate) fn copied<A: Numbered>(rt: &impl Abort, alloc: Global, unit: &Unit<A>) -> Unit<A> {
+    unit.with_marks(alloc, |mark| A::of(mark.number() ^ 64))
+        .expect(rt, "memory")
 }
 
-fn paths_lead<A: Numbered>(alloc: Global) -> Result<bool, AllocError> {
-    let unit: Unit<A> = unit(alloc)?;
-    leads(alloc, &unit, &PATHS)
+const MARKED: &'static str = "
+~1 1 0 => Some(77) None None None
+~1 2 3 0 1 1 => Some(97) Some(97) None None
+";
+
+fn assert_paths<A: Numbered>(rt: &impl Abort, alloc: Global) {
+    let unit: Unit<A> = unit(rt, alloc);
+    assert_leads(rt, alloc, &unit, PATHS, 14);
+    let copy = copied(rt, alloc, &unit);
+    assert_leads(rt, alloc, &copy, MARKED, 2);
+}
+
+fn assert_from_member<A: Numbered>(
+    rt: &impl Abort,
+    alloc: Global,
+    member: &Member<A>,
+    steps: &str,
+    expected: &str,
+) {
+    let path = path_in(rt, alloc, steps);
+    assert_marks(rt, alloc, from_member(member, &path), expected);
 }
 
 // A member is where its own paths begin.
-const MEMBER_PATHS: [Row; 3] = [
-    (&[3], [Some(27), None, Some(27), None]),
-    (&[3, 0], [Some(28), Some(28), None, None]),
-    (&[3, 0, 1], [Some(30), Some(30), None, None]),
-];
-
-#[test]
-fn a_member_is_where_its_paths_begin(rt: HostRuntime) -> Result<(), Fail> {
-    assert!(rt; member_paths_lead::<u32>(rt.alloc())?);
-    Ok(())
+fn assert_member<A: Numbered>(rt: &impl Abort, alloc: Global) {
+    let member: Box<Member<A>> = Box::new(alloc, method(rt, alloc)).expect(rt, "memory");
+    assert_from_member(rt, alloc, &member, "3", "Some(27) None Some(27) None");
+    assert_from_member(rt, alloc, &member, "3 0", "Some(28) Some(28) None None");
+    assert_from_member(rt, alloc, &member, "3 0 1", "Some(30) Some(30) None None");
 }
 
-fn member_paths_lead<A: Numbered>(alloc: Global) -> Result<bool, AllocError> {
-    let member: Box<Member<A>> = Box::new(alloc, method(alloc)?)?;
-    let mut all = true;
-    for (steps, want) in MEMBER_PATHS {
-        all = all & (from_member(&member, &path(alloc, steps)?) == want);
+// Of more statements than sixteen bits count, the last one is copied and found.
+const LAST: &'static str = "
+~0 1 65537 => Some(71) None Some(71) None
+~0 1 65538 => None None None None
+";
+
+fn assert_long_row<A: Numbered>(rt: &impl Abort, alloc: Global) {
+    let mut body: Vec<Stmt<A>> = Vec::new(alloc);
+    for _ in 0..65_537 {
+        body.push(Stmt::empty(A::of(7))).expect(rt, "memory");
     }
-    Ok(all)
+    let unit = unit_of(rt, alloc, body);
+    let copy = copied(rt, alloc, &unit);
+    assert_leads(rt, alloc, &copy, LAST, 2);
 }
 
 fn write_expr<A: Numbered>(unit: &mut Unit<A>, path: &Path, mark: u32) -> bool {
@@ -136,52 +207,74 @@ fn write_member<A: Numbered>(unit: &mut Unit<A>, path: &Path, mark: u32) -> bool
     }
 }
 
-// As what the node at a path can be changed: as an expression, a statement, a member. Its mark is
-// another then.
-const WRITES: [(&'static [u32], u32, [bool; 3]); 5] = [
-    (&[1, 2, 3, 0, 1, 0], 90, [true, false, false]),
-    (&[1, 2, 3], 91, [false, true, false]),
-    (&[1, 2], 92, [false, false, true]),
-    (&[1, 2, 3, 0], 93, [true, false, false]),
-    (&[1, 2, 3, 0, 0], 94, [false, false, false]),
-];
+// A mark and a path, and as what the node there can be changed: as an expression, a statement, a
+// member. Its mark is that one then.
+const WRITES: &'static str = "
+~90 1 2 3 0 1 0 => true false false
+~91 1 2 3 => false true false
+~92 1 2 => false false true
+~93 1 2 3 0 => true false false
+~94 1 2 3 0 0 => false false false
+";
 
-// Whether each of these writes is lent as its row says.
-fn writes<A: Numbered>(alloc: Global, unit: &mut Unit<A>) -> Result<bool, AllocError> {
-    let mut all = true;
-    for (steps, mark, want) in WRITES {
-        let path = path(alloc, steps)?;
-        let lent = [
-            write_expr(unit, &path, mark),
-            write_stmt(unit, &path, mark),
-            write_member(unit, &path, mark),
-        ];
-        all = all & (lent == want);
+// Makes each of these writes, and asserts that it is lent as its row says.
+fn assert_lent<A: Numbered>(
+    rt: &impl Abort,
+    alloc: Global,
+    unit: &mut Unit<A>,
+    row: &str,
+    expected: &str,
+) {
+    let (mark, steps) = cut(row, " ");
+    let mark = number(rt, mark);
+    let path = path_in(rt, alloc, steps);
+    let expr = write_expr(unit, &path, mark);
+    let stmt = write_stmt(unit, &path, mark);
+    let member = write_member(unit, &path, mark);
+    let told = format!(in alloc; "{expr} {stmt} {member}").expect(rt, "memory");
+    assert_same(rt, told.as_str(), expected);
+}
+
+fn write_all<A: Numbered>(
+    rt: &impl Abort,
+    alloc: Global,
+    unit: &mut Unit<A>,
+    rows: &str,
+    count: u32,
+) {
+    let mut seen = 0u32;
+    for row in rows.split('~') {
+        if let Some((asked, expected)) = row.split_once(" => ") {
+            assert_lent(rt, alloc, unit, asked, expected.trim_end());
+            seen = seen.wrapping_add(1);
+        }
     }
-    Ok(all)
+    assert!(rt; seen == count);
 }
 
 // A write through a path is seen at its end and not beside it. Where no node of the kind stands,
 // nothing is lent.
-const WRITTEN: [Row; 8] = [
-    (&[1], [Some(10), None, None, None]),
-    (&[1, 2], [Some(92), None, None, Some(92)]),
-    (&[1, 2, 3], [Some(91), None, Some(91), None]),
-    (&[1, 2, 3, 0], [Some(93), Some(93), None, None]),
-    (&[1, 2, 3, 0, 0], [Some(29), None, None, None]),
-    (&[1, 2, 3, 0, 1], [Some(30), Some(30), None, None]),
-    (&[1, 2, 3, 0, 1, 0], [Some(90), Some(90), None, None]),
-    (&[1, 2, 3, 0, 1, 1], [Some(33), Some(33), None, None]),
-];
+const WRITTEN: &'static str = "
+~1 => Some(10) None None None
+~1 2 => Some(92) None None Some(92)
+~1 2 3 => Some(91) None Some(91) None
+~1 2 3 0 => Some(93) Some(93) None None
+~1 2 3 0 0 => Some(29) None None None
+~1 2 3 0 1 => Some(30) Some(30) None None
+~1 2 3 0 1 0 => Some(90) Some(90) None None
+~1 2 3 0 1 1 => Some(33) Some(33) None None
+";
 
-#[test]
-fn writes_land_at_the_end_of_a_path(rt: HostRuntime) -> Result<(), Fail> {
-    assert!(rt; writes_land::<u32>(rt.alloc())?);
-    Ok(())
+fn assert_writes<A: Numbered>(rt: &impl Abort, alloc: Global) {
+    let mut unit: Unit<A> = unit(rt, alloc);
+    write_all(rt, alloc, &mut unit, WRITES, 5);
+    assert_leads(rt, alloc, &unit, WRITTEN, 8);
 }
 
-fn writes_land<A: Numbered>(alloc: Global) -> Result<bool, AllocError> {
-    let mut unit: Unit<A> = unit(alloc)?;
-    let are_lent = writes(alloc, &mut unit)?;
-    Ok(are_lent & leads(alloc, &unit, &WRITTEN)?)
+#[test]
+fn paths_lead_to_nodes(rt: HostRuntime) {
+    assert_paths::<u32>(&rt, rt.alloc());
+    assert_member::<u32>(&rt, rt.alloc());
+    assert_long_row::<u32>(&rt, rt.alloc());
+    assert_writes::<u32>(&rt, rt.alloc());
 }

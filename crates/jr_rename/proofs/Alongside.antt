@@ -1,6 +1,6 @@
 -- Old and new expressions side by side: each reference is kept, and each written type.
-use Rattle.std.proofs.Common.{◌≡◌, ℕ, zero, suc, List, [], ◌∷◌, ◌++◌, Option, Some, None, Bool, true, false, refl, sym, ap, subst, ◌∙◌, inl, inr}
-use Rattle.std.specs.Prelude.{◌⊎◌, slice_get, if◌then◌else◌}
+use Rattle.std.proofs.Common.{◌≡◌, ℕ, List, [], ◌∷◌, ◌++◌, Option, Some, None, false, refl, sym, ap, subst, ◌∙◌, inl, inr}
+use Rattle.std.specs.Prelude.{◌⊎◌, slice_get}
 use Rattle.jr_text.specs.declared.spans.Span.{Span}
 use Rattle.jr_ast.specs.Tree as tree
 use Rattle.jr_table.specs.Keys.{ClassKey}
@@ -9,12 +9,12 @@ use Rattle.jr_table.specs.Context.{Context}
 use Rattle.jr_table.specs.Binding.{Role, value, left}
 use Rattle.jr_spell.specs.declared.spellings.Form.{Form}
 use Rattle.jr_spell.specs.declared.spellings.Form.TheVariants.{Asked, OnThis, OnCastOperand, OnClass, OnOuterClass}
-use Rattle.jr_rewrite.specs.Respellings.{Front, same, by_this, by_class, by_outer_class, by_cast, Choice, front_of, Loss}
-use Rattle.jr_rewrite.specs.Rewritten.{Rewritten, within, joined, word_to, variable_on, operand_to, target_of, drops_operand, losses_of, new_word, cast_tree, word_out, name_out, field_out, super_field_out, simple_call_out, dotted_call_out, operand_losses, Called}
-use Rattle.jr_rewrite.specs.Rewrites.{Choosing, RewritesExp, RewritesTarget, RewritesRow, RewritesType}
-use Rattle.jr_rewrite.specs.Along.{Along, AlongTarget, AlongRow, AlongMaybe, OperandAlong, IsClassWords}
+use Rattle.jr_rewrite.specs.Respellings.{Front, same, by_this, by_class, by_outer_class, by_cast, Choice, front_of}
+use Rattle.jr_rewrite.specs.Rewritten.{Rewritten, within, joined, word_to, variable_on, operand_to, target_of, drops_operand, losses_of, new_word, cast_tree, word_out, field_out, simple_call_out, dotted_call_out, operand_losses, Called}
+use Rattle.jr_rewrite.specs.Rewrites.{Choosing, RewritesExp, RewritesTarget, RewritesRow}
+use Rattle.jr_rewrite.specs.Along.{Along, AlongTarget, AlongRow, OperandAlong}
 use Rattle.jr_rename.specs.Images.{Renaming, class_to, field_to, method_to}
-use Rattle.jr_rename.specs.Spelling.{renamed, spelled, outer_front, spelling, FieldSpells, MemberClassSpells, SimpleCallSpells, CallSpells}
+use Rattle.jr_rename.specs.Spelling.{spelled, outer_front, spelling, FieldSpells, MemberClassSpells, SimpleCallSpells, CallSpells}
 use Rattle.jr_rename.specs.Keeping.{IsKept, IsWritten}
 use Rattle.jr_rename.proofs.Chosen.{renamed_front, lost_some, left_none, right_none}
 use Rattle.jr_rename.proofs.Forms.{two_forms, three_forms, four_forms}

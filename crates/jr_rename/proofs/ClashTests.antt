@@ -1,9 +1,8 @@
 -- The tests of clashes among rows tell what they are to tell, and the first row that passes is the
 -- first that has the property.
 use Rattle.std.proofs.Common.{◌≡◌, ℕ, ◌<◌, ◌≤◌, List, [], ◌∷◌, Option, Some, None, Bool, true, false, not, map, refl, sym, ap, subst, ◌∙◌, inl, inr, arith}
-use Rattle.std.specs.Prelude.{◌⊎◌, ◌&&◌, ◌||◌, Decides, IfSome, nat_eq, option_map, slice_get}
+use Rattle.std.specs.Prelude.{◌⊎◌, ◌||◌, Decides, IfSome, nat_eq, option_map, slice_get}
 use Rattle.std.specs.List.{list_any}
-use Rattle.std.specs.Option.{option_eq}
 use Rattle.std.specs.Cmp.Lexicographic.{pointwise, bytes_decides}
 use Rattle.std.proofs.lemmas.Bool.Decides.{Decides-and, Decides-or, Decides-not, Decides-like}
 use Rattle.std.proofs.lemmas.Option.{slice_get-map}
@@ -15,7 +14,6 @@ use Rattle.jr_table.specs.KeyView.{decl_of}
 use Rattle.jr_table.specs.Rows.{Row}
 use Rattle.jr_table.specs.RowView.{row_of}
 use Rattle.jr_table.specs.Entries.{IsRowOf}
-use Rattle.jr_rename.specs.Families.{Among}
 use Rattle.jr_rename.specs.Clashes.{TakesPlace, ClassClashes, member_class}
 use Rattle.jr_rename.specs.RowClashes.{has_none, is_outer, is_member_class, takes_place, is_within, class_clashes, one_takes_place, OneTakesPlace, IsFirstRow, NoRowHas}
 

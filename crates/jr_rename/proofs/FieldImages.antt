@@ -17,7 +17,7 @@ use Rattle.jr_rename.proofs.Apart.{members_apart}
 use Rattle.jr_rename.proofs.StillImages.{still_images}
 
 module _ (rows : List Row) (k : FieldKey) (g : Renaming) (are : AreRenamed rows (field_decl k) g.decls) where
-  field_still : IsStill g
+  pub field_still : IsStill g
   field_still = record {
     class = λ j. without_target rows (field_decl k) g are (class_decl j) (λ e. absurd cc);
     run = without_target rows (field_decl k) g are (method_decl (thread_key (codes "run"))) (λ e. absurd cc);
@@ -27,7 +27,7 @@ module _ (rows : List Row) (k : FieldKey) (g : Renaming) (are : AreRenamed rows 
   the_field : (f : FieldKey) → is_renamed g (field_decl f) ≡ true → f ≡ k
   the_field f h = let e : field_decl f ≡ field_decl k = with_target rows (field_decl k) g are (field_decl f) h in let p : f ≡ k = cc in p
 
-  of_field : {A : Type 0} (begins : A → ℕ → ℕ) (units : List (syntax.Unit A)) → IsClear begins rows units (field_decl k) g.name → OfMembers g rows
+  pub of_field : {A : Type 0} (begins : A → ℕ → ℕ) (units : List (syntax.Unit A)) → IsClear begins rows units (field_decl k) g.name → OfMembers g rows
   of_field begins units clear = record {
     local = λ l. without_target rows (field_decl k) g are (local_decl l) (λ e. absurd cc);
     fields = λ f h p q. ap (λ (z : FieldKey). z.name) (the_field f p ∙ sym (the_field h q));

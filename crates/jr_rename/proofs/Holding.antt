@@ -1,10 +1,10 @@
 -- Identifiers among the items of a text.
-use Rattle.std.proofs.Common.{◌≡◌, ℕ, ◌<◌, ◌≤◌, List, length, Some, refl, sym, subst, arith}
-use Rattle.std.specs.Prelude.{◌⊎◌, slice_get}
+use Rattle.std.proofs.Common.{◌≡◌, ℕ, ◌≤◌, List, Some, sym, subst}
+use Rattle.std.specs.Prelude.{slice_get}
 use Rattle.jr_lex.specs.declared.items.Item.{Item}
 use Rattle.jr_lex.specs.Lexes.{Lexes}
 use Rattle.jr_rename.specs.Targets.{HoldsIdentifier}
-use Rattle.jr_rename.specs.Words.{Holds, IsHolder}
+use Rattle.jr_rename.specs.Words.{IsHolder}
 
 pub held : (text : List ℕ) (items : List Item) (at from : ℕ) → Lexes text items → IsHolder items at from → HoldsIdentifier text at from
 held text items at from l h = record {

@@ -1,21 +1,20 @@
 -- Expressions: their types go to their images, and each reference stays bound to the image of what
 -- it was bound to.
-use Rattle.std.proofs.Common.{◌≡◌, ℕ, zero, suc, List, [], ◌∷◌, ◌++◌, Option, Some, None, Bool, true, false, refl, sym, ap, subst, ◌∙◌, inl, inr}
-use Rattle.std.specs.Prelude.{slice_get, map, codes, if◌then◌else◌}
+use Rattle.std.proofs.Common.{◌≡◌, ℕ, List, [], ◌∷◌, ◌++◌, Some, None, Bool, false, refl, sym, ap, subst, ◌∙◌, inl, inr}
+use Rattle.std.specs.Prelude.{slice_get, if◌then◌else◌}
 use Rattle.jr_text.specs.declared.spans.Span.{Span}
 use Rattle.jr_ast.specs.Tree as tree
 use Rattle.jr_ast.specs.declared.operators.UnOp.{UnOp}
 use Rattle.jr_ast.specs.declared.operators.UnOp.TheVariants as sign
 use Rattle.jr_ast.specs.declared.operators.BinOp.{BinOp}
 use Rattle.jr_ast.specs.declared.operators.BinOp.TheVariants as op
-use Rattle.jr_table.specs.Keys.{ClassKey, FieldKey, MethodKey, CtorKey, Ty, int, boolean, null, class}
+use Rattle.jr_table.specs.Keys.{ClassKey, FieldKey, CtorKey, Ty, class}
 use Rattle.jr_table.specs.Decls.{Decl, class_decl, field_decl, method_decl, constructor_decl, local_decl, LocalKey}
 use Rattle.jr_table.specs.Rows.{Row}
 use Rattle.jr_table.specs.Entries.{class_of}
-use Rattle.jr_table.specs.Prelude.{top_key}
-use Rattle.jr_table.specs.Found.{Found, one, nothing}
+use Rattle.jr_table.specs.Found.{one, nothing}
 use Rattle.jr_table.specs.Scope.{Scope}
-use Rattle.jr_table.specs.Lookup.{FindsVariable, FindsTypeNamed, FindsTypeOf, FindsFieldIn, FindsLeft, FindsLeftOf, FindsCtorOf}
+use Rattle.jr_table.specs.Lookup.{FindsVariable, FindsTypeOf, FindsFieldIn, FindsLeft, FindsLeftOf, FindsCtorOf}
 use Rattle.jr_table.specs.Context.{Context, scope_of, IsTypeOf, WritesType}
 use Rattle.jr_table.specs.Binding.{HasType, IsClassName, TargetFinds, HaveTypes, FieldFinds, SuperFieldFinds, CallFinds, SuperCallFinds, CreationFinds, method, Role, value, left, statement, BindsItself, sign_type, operator_type}
 use Rattle.jr_table.specs.Binding as binding
@@ -24,10 +23,10 @@ use Rattle.jr_spell.specs.declared.spellings.Form.{Form}
 use Rattle.jr_spell.specs.declared.spellings.Form.TheVariants.{Asked, OnCastOperand, OnClass, OnOuterClass}
 use Rattle.jr_spell.specs.References.{Reference}
 use Rattle.jr_spell.specs.Binds.{Binds}
-use Rattle.jr_rewrite.specs.Respellings.{Front, Loss, Choice, front_of, text_of}
-use Rattle.jr_rewrite.specs.Rewritten.{Rewritten, plain, within, joined, word_to, variable_to, variable_on, operand_to, super_to, target_of, drops_operand, losses_of, word_out, name_out, field_out, super_field_out, simple_call_out, dotted_call_out, operand_losses, Called}
-use Rattle.jr_rewrite.specs.Rewrites.{Choosing, RewritesExp, RewritesTarget, RewritesRow, RewritesType}
-use Rattle.jr_rename.specs.Images.{Renaming, class_to, type_to, types_to, field_to, method_to, ctor_to, decl_to, local_to, name_to, rows_to, scope_to}
+use Rattle.jr_rewrite.specs.Respellings.{Loss, Choice, front_of}
+use Rattle.jr_rewrite.specs.Rewritten.{Rewritten, within, joined, word_to, variable_to, variable_on, operand_to, super_to, target_of, drops_operand, losses_of, word_out, name_out, field_out, super_field_out, simple_call_out, dotted_call_out, operand_losses, Called}
+use Rattle.jr_rewrite.specs.Rewrites.{Choosing, RewritesExp, RewritesTarget, RewritesRow}
+use Rattle.jr_rename.specs.Images.{Renaming, class_to, type_to, types_to, field_to, method_to, ctor_to, decl_to, local_to, name_to, rows_to}
 use Rattle.jr_rename.specs.Spelling.{renamed, spelled, reference, operand_of, dotted, spelling, LocalSpells, OwnFieldSpells, ClassSpells, FieldSpells, MemberClassSpells, SuperFieldSpells, SimpleCallSpells, CallSpells, SuperCallSpells, CreationSpells}
 use Rattle.jr_rename.specs.Keeping.{IsKept, IsBoundTo}
 use Rattle.jr_rename.proofs.Chosen.{renamed_front, lost_some, left_none, right_none}
@@ -35,7 +34,7 @@ use Rattle.jr_rename.proofs.Forms.{one_form, two_forms, with_name}
 use Rattle.jr_rename.proofs.Places.{scope_image, type_image}
 use Rattle.jr_rename.proofs.World.{World}
 use Rattle.jr_rename.proofs.Types.{to_scope, writes_one, type_kept}
-use Rattle.jr_rename.proofs.OneBound.{one_decl, not_nothing, class_one, has_one_type, name_only, field_only, super_field_only, call_only, super_call_only, name_type, name_no_class, field_type, field_no_class, super_field_type, call_type, super_call_type}
+use Rattle.jr_rename.proofs.OneBound.{one_decl, not_nothing, class_one, name_only, field_only, super_field_only, call_only, super_call_only, name_type, name_no_class, field_type, field_no_class, super_field_type, call_type, super_call_type}
 use Rattle.jr_rename.proofs.Rebound.{IsNamed, Stands, simple_local, simple_field, field_on_value, field_by_super, field_through, call_by_name, call_on_value, call_through_class, call_by_super}
 
 sign_stays : (g : Renaming) (o : UnOp) → type_to g (sign_type o) ≡ sign_type o

@@ -39,3 +39,6 @@ mod Apart
 mod Planned
 mod FairClasses
 mod ClassFair
+mod RenamingFair
+mod IdentifierNames
+mod RowNames

@@ -12,7 +12,7 @@ use Rattle.jr_rename.proofs.Apart.{unrenamed_apart}
 use Rattle.jr_rename.proofs.LocalNames.{local_names}
 use Rattle.jr_rename.proofs.StillImages.{still_images}
 
-still_of : (rows : List Row) (k : LocalKey) (g : Renaming) → AreRenamed rows (local_decl k) g.decls → IsStill g
+pub still_of : (rows : List Row) (k : LocalKey) (g : Renaming) → AreRenamed rows (local_decl k) g.decls → IsStill g
 still_of rows k g are = record {
   class = λ j. without_target rows (local_decl k) g are (class_decl j) (λ e. absurd cc);
   run = without_target rows (local_decl k) g are (method_decl (thread_key (codes "run"))) (λ e. absurd cc);

@@ -1,32 +1,30 @@
 -- Members, classes and files side by side.
-use Rattle.std.proofs.Common.{◌≡◌, ℕ, zero, suc, ◌+◌, List, [], ◌∷◌, ◌++◌, Option, Some, None, Bool, true, false, refl, sym, ap, subst, ◌∙◌, inl, inr}
+use Rattle.std.proofs.Common.{◌≡◌, ℕ, zero, suc, List, [], ◌∷◌, ◌++◌, Option, Some, None, Bool, true, false, refl, sym, ap, subst, ◌∙◌, inl, inr}
 use Rattle.std.specs.Prelude.{slice_get, map, length}
 use Rattle.jr_text.specs.declared.spans.Span.{Span}
 use Rattle.jr_ast.specs.Tree as tree
 use Rattle.jr_ast.specs.StatementTree as statement
 use Rattle.jr_ast.specs.MemberTree as syntax
-use Rattle.jr_table.specs.Keys.{ClassKey, CtorKey, Ty}
+use Rattle.jr_table.specs.Keys.{ClassKey, Ty}
 use Rattle.jr_table.specs.Decls.{MemberKey, head, Decl, class_decl, constructor_decl, LocalKey, local_decl}
 use Rattle.jr_table.specs.Decls as member
 use Rattle.jr_table.specs.Rows.{Row}
 use Rattle.jr_table.specs.Prelude.{top_key}
-use Rattle.jr_table.specs.Found.{Found, one}
+use Rattle.jr_table.specs.Found.{one}
 use Rattle.jr_table.specs.Scope.{Scope}
 use Rattle.jr_table.specs.Sites.{Site, class_key}
-use Rattle.jr_table.specs.Context.{Context, Local, scope_of, parameters, WritesType, IsSuperclass}
-use Rattle.jr_table.specs.Lookup.{FindsCtorOf}
+use Rattle.jr_table.specs.Context.{Context, Local, scope_of, parameters}
 use Rattle.jr_table.specs.HeadRules.{plain as no_locals, with_parameters, types_of, is_static_member, TopFinds}
-use Rattle.jr_table.specs.Binding.{Role, value, HaveTypes, SuperCtorFinds}
+use Rattle.jr_table.specs.Binding.{Role, HaveTypes, SuperCtorFinds}
 use Rattle.jr_spell.specs.declared.references.RefForm.TheVariants as ref
-use Rattle.jr_spell.specs.declared.spellings.Form.{Form}
 use Rattle.jr_spell.specs.Binds.{Binds}
 use Rattle.jr_rewrite.specs.Respellings.{Choice, front_of, text_of}
-use Rattle.jr_rewrite.specs.Rewritten.{Rewritten, plain, within, joined, word_to, word_out, losses_of, qualifier_to, simple_type_out}
-use Rattle.jr_rewrite.specs.Rewrites.{Choosing, TypeOut, RewritesType, RewritesRow, RewritesParams, RewritesResult, RewritesSuper, RewritesMember, RewritesParent, RewritesHead, RewritesOne, RewritesMembers, RewritesClass, RewritesClasses, RewritesUnit, RewritesUnits, ByKey}
+use Rattle.jr_rewrite.specs.Rewritten.{Rewritten, within, joined, word_to, losses_of, qualifier_to, simple_type_out}
+use Rattle.jr_rewrite.specs.Rewrites.{Choosing, TypeOut, RewritesType, RewritesParams, RewritesResult, RewritesSuper, RewritesMember, RewritesParent, RewritesOne, RewritesMembers, RewritesClass, RewritesClasses, RewritesUnit, RewritesUnits}
 use Rattle.jr_rewrite.specs.AlongMembers.{AlongParams, AlongResult, AlongSuper, AlongMember, AlongParent, AlongOne, AlongMembers, AlongClass, AlongClasses, AlongUnit, AlongUnits}
 use Rattle.jr_rename.specs.Images.{Renaming, class_to, ctor_to, name_to, type_to, types_to, member_to, rows_to}
-use Rattle.jr_rename.specs.Spelling.{renamed, reference, spelling, SuperCtorSpells, ParentSpells}
-use Rattle.jr_rename.specs.Standing.{LocalTo, LocalsTo, ContextTo}
+use Rattle.jr_rename.specs.Spelling.{reference, spelling, SuperCtorSpells, ParentSpells}
+use Rattle.jr_rename.specs.Standing.{LocalsTo, ContextTo}
 use Rattle.jr_rename.specs.Keeping.{IsKept, IsWritten, IsSuperKept, IsTopKept, IsParentKept}
 use Rattle.jr_rename.proofs.Chosen.{renamed_text, renamed_front, lost_some, left_none, right_none}
 use Rattle.jr_rename.proofs.Forms.{one_form}
@@ -34,7 +32,7 @@ use Rattle.jr_rename.proofs.World.{World}
 use Rattle.jr_rename.proofs.Types.{to_scope, type_kept}
 use Rattle.jr_rename.proofs.Kept.{kept_row}
 use Rattle.jr_rename.proofs.Alongside.{along_row}
-use Rattle.jr_rename.proofs.Sides.{gone, maybe_along, stmts_along}
+use Rattle.jr_rename.proofs.Sides.{maybe_along, stmts_along}
 
 types_of_image : (g : Renaming) (k : MemberKey) → types_of (member_to g k) ≡ types_to g (types_of k)
 types_of_image g (member.head k) = refl

@@ -52,7 +52,7 @@ module _ (rows : List Row) (k : MethodKey) (g : Renaming) (are : AreRenamed rows
       let same : m ≡ r.0 = cc in
       family_named rows k r.0 r.2 ∙ ap (λ (z : MethodKey). z.name) (sym same)
 
-  of_method : {A : Type 0} (begins : A → ℕ → ℕ) (units : List (syntax.Unit A)) → IsClear begins rows units (method_decl k) g.name → OfMembers g rows
+  pub of_method : {A : Type 0} (begins : A → ℕ → ℕ) (units : List (syntax.Unit A)) → IsClear begins rows units (method_decl k) g.name → OfMembers g rows
   of_method begins units clear = record {
     local = λ l. without_target rows (method_decl k) g are (local_decl l) (λ h. absurd (let e = h.1 in cc));
     fields = λ f h p q. absurd (let r = with_target rows (method_decl k) g are (field_decl f) p in let e = r.1 in cc);
@@ -78,7 +78,7 @@ module _ (rows : List Row) (k : MethodKey) (g : Renaming) (are : AreRenamed rows
     start_row : IsOfPrelude rows (method_decl (thread_key (codes "start")))
     start_row = (7, early 7 8 refl (omega arith), record { row = thread_row (word.Public ∷ []) (codes "start"); stands = ap (λ (xs : List Row). slice_get xs 7) of_rows.prelude; declares = refl })
 
-    method_still : IsStill g
+    pub method_still : IsStill g
     method_still = record {
       class = λ j. without_target rows (method_decl k) g are (class_decl j) (λ h. absurd (let e = h.1 in cc));
       run = apart (thread_key (codes "run")) run_row;

@@ -1,12 +1,12 @@
 -- A reference that is spelled as it is taken is bound to the declaration: of any rows and place.
-use Rattle.std.proofs.Common.{◌≡◌, ◌≢◌, ℕ, List, [], ◌∷◌, Option, Some, None, refl, sym, ap, subst, ◌∙◌, inl, inr}
+use Rattle.std.proofs.Common.{◌≡◌, ℕ, List, [], ◌∷◌, Option, Some, None, refl, sym, subst, inl, inr}
 use Rattle.std.specs.Prelude.{slice_get}
 use Rattle.jr_ast.specs.Tree as tree
 use Rattle.jr_table.specs.Keys.{ClassKey, FieldKey, MethodKey, Ty, class}
 use Rattle.jr_table.specs.Decls.{Decl, class_decl, field_decl, method_decl, local_decl, LocalKey}
 use Rattle.jr_table.specs.Rows.{Row}
 use Rattle.jr_table.specs.Conditions.{AreRows}
-use Rattle.jr_table.specs.Found.{Found, one, nothing}
+use Rattle.jr_table.specs.Found.{one, nothing}
 use Rattle.jr_table.specs.Lookup.{FindsVariable, FindsFieldIn, FindsMethodOf, FindsLeftOf}
 use Rattle.jr_table.specs.LookupLaws.{EachHasOne}
 use Rattle.jr_table.specs.Context.{Context, scope_of, IsTypeOf}
@@ -16,12 +16,12 @@ use Rattle.jr_spell.specs.declared.references.RefForm.{RefForm}
 use Rattle.jr_spell.specs.declared.references.RefForm.TheVariants as ref
 use Rattle.jr_spell.specs.declared.spellings.Form.{Form}
 use Rattle.jr_spell.specs.declared.spellings.Form.TheVariants.{Asked, OnThis, OnSuper, OnCastThis, OnCastOperand, OnClass, OnOuterClass}
-use Rattle.jr_spell.specs.References.{Operand, Reference}
+use Rattle.jr_spell.specs.References.{Reference}
 use Rattle.jr_spell.specs.Binds.{Binds}
 use Rattle.jr_spell.specs.Rebound.{IsTree, Fits, SpellingsRebind, AreFronts}
 use Rattle.jr_rewrite.specs.Respellings.{Front, front_of}
 use Rattle.jr_rewrite.specs.Rewritten.{word_to, operand_to, variable_on, variable_to, super_to, target_of, new_word, cast_tree}
-use Rattle.jr_rename.specs.Spelling.{renamed, spelled, outer_front, dotted}
+use Rattle.jr_rename.specs.Spelling.{renamed, spelled, dotted}
 use Rattle.jr_rename.proofs.Chosen.{outer_front_is}
 use Rattle.jr_rename.proofs.Forms.{two_forms, three_forms, four_forms, six_forms, with_name}
 

@@ -1,26 +1,25 @@
 -- Statements side by side: what is known at a place goes to what is known at its image.
-use Rattle.std.proofs.Common.{◌≡◌, ℕ, zero, suc, ◌+◌, List, [], ◌∷◌, ◌++◌, Option, Some, None, Bool, true, false, refl, sym, ap, subst, ◌∙◌, inl, inr}
-use Rattle.std.specs.Prelude.{slice_get, codes}
+use Rattle.std.proofs.Common.{◌≡◌, ℕ, zero, suc, ◌+◌, List, [], ◌∷◌, ◌++◌, Option, Some, None, Bool, refl, sym, ap, subst, ◌∙◌}
+use Rattle.std.specs.Prelude.{slice_get}
 use Rattle.jr_text.specs.declared.spans.Span.{Span}
 use Rattle.jr_ast.specs.Tree as tree
 use Rattle.jr_ast.specs.StatementTree as statement
-use Rattle.jr_table.specs.Keys.{ClassKey, Ty}
-use Rattle.jr_table.specs.Decls.{MemberKey, LocalKey, local_decl}
+use Rattle.jr_table.specs.Keys.{Ty}
+use Rattle.jr_table.specs.Decls.{MemberKey, local_decl}
 use Rattle.jr_table.specs.Rows.{Row}
 use Rattle.jr_table.specs.Scope.{Scope}
 use Rattle.jr_table.specs.Context.{Context, Local, LocalType, known, written, scope_of, local_of, local_key, local_type, with_local, in_own, after, locals_in, IsLocalType, WritesType}
 use Rattle.jr_table.specs.Binding.{Role, value, left}
 use Rattle.jr_table.specs.Binding as role
 use Rattle.jr_rewrite.specs.Respellings.{Choice, text_of}
-use Rattle.jr_rewrite.specs.Rewritten.{Rewritten, within, joined, word_to, word_out, losses_of}
-use Rattle.jr_rewrite.specs.Rewrites.{Choosing, RewritesExp, RewritesType, RewritesMaybe, RewritesStmt, RewritesElse, RewritesStmts, DeclaredOut}
+use Rattle.jr_rewrite.specs.Rewritten.{Rewritten, within, joined, word_to}
+use Rattle.jr_rewrite.specs.Rewrites.{Choosing, RewritesExp, RewritesType, RewritesMaybe, RewritesStmt, RewritesElse, RewritesStmts}
 use Rattle.jr_rewrite.specs.Along.{Along, AlongMaybe, AlongStmt, AlongElse, AlongStmts}
-use Rattle.jr_rename.specs.Images.{Renaming, name_to, type_to, member_to, local_to, rows_to}
+use Rattle.jr_rename.specs.Images.{Renaming, name_to, type_to, rows_to}
 use Rattle.jr_rename.specs.Spelling.{renamed, spelling}
 use Rattle.jr_rename.specs.Standing.{LocalTo, LocalsTo, ContextTo}
 use Rattle.jr_rename.specs.Keeping.{IsKept, IsWritten}
 use Rattle.jr_rename.proofs.Chosen.{renamed_text, left_none, right_none}
-use Rattle.jr_rename.proofs.Places.{scope_image}
 use Rattle.jr_rename.proofs.World.{World}
 use Rattle.jr_rename.proofs.Types.{type_kept}
 use Rattle.jr_rename.proofs.Alongside.{along}

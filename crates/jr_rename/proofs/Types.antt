@@ -3,27 +3,27 @@ use Rattle.std.proofs.Common.{◌≡◌, ℕ, zero, suc, List, [], ◌∷◌, �
 use Rattle.std.specs.Prelude.{slice_get, if◌then◌else◌}
 use Rattle.jr_text.specs.declared.spans.Span.{Span}
 use Rattle.jr_ast.specs.Tree as tree
-use Rattle.jr_table.specs.Keys.{ClassKey, Ty, int, boolean, class}
+use Rattle.jr_table.specs.Keys.{ClassKey, Ty, class}
 use Rattle.jr_table.specs.Decls.{Decl, class_decl}
 use Rattle.jr_table.specs.Rows.{Row}
 use Rattle.jr_table.specs.Entries.{IsRowOf}
-use Rattle.jr_table.specs.Found.{Found, one}
+use Rattle.jr_table.specs.Found.{one}
 use Rattle.jr_table.specs.Scope.{Scope}
 use Rattle.jr_table.specs.Lookup.{FindsTypeNamed, FindsTypeOf, Shows}
 use Rattle.jr_table.specs.declared.answers.Answer.{Answer}
 use Rattle.jr_table.specs.declared.answers.Answer.TheVariants as number
-use Rattle.jr_table.specs.Context.{Context, scope_of, NamesClass, WritesType}
+use Rattle.jr_table.specs.Context.{Context, scope_of, WritesType}
 use Rattle.jr_spell.specs.declared.references.RefForm.TheVariants as ref
 use Rattle.jr_spell.specs.declared.spellings.Form.{Form}
 use Rattle.jr_spell.specs.declared.spellings.Form.TheVariants.{Asked, Class, OuterClass}
 use Rattle.jr_spell.specs.References.{Reference}
-use Rattle.jr_spell.specs.Binds.{Binds, front_word, last_word}
-use Rattle.jr_spell.specs.Rebound.{IsTypeTree, IsTypeWords}
+use Rattle.jr_spell.specs.Binds.{Binds, last_word}
+use Rattle.jr_spell.specs.Rebound.{IsTypeWords}
 use Rattle.jr_rewrite.specs.Respellings.{Front, Choice, front_of, text_of}
 use Rattle.jr_rewrite.specs.Rewritten.{Rewritten, word_to, qualifier_to, new_word, losses_of, drops_qualifier}
 use Rattle.jr_rewrite.specs.Rewrites.{RewritesType}
-use Rattle.jr_rename.specs.Images.{Renaming, class_to, type_to, decl_to, rows_to, scope_to}
-use Rattle.jr_rename.specs.Spelling.{renamed, spelled, reference, dotted, outer_type, spelling, TypeSpells, QualifierSpells}
+use Rattle.jr_rename.specs.Images.{Renaming, class_to, type_to, rows_to, scope_to}
+use Rattle.jr_rename.specs.Spelling.{spelled, reference, dotted, spelling, TypeSpells, QualifierSpells}
 use Rattle.jr_rename.proofs.Chosen.{renamed_text, renamed_front, lost_some, left_none, right_none, outer_type_is}
 use Rattle.jr_rename.proofs.Dotted.{IsWhole, whole_front, whole_last, dotted_front, dotted_last}
 use Rattle.jr_rename.proofs.Forms.{with_name}

@@ -136,3 +136,15 @@ ClassesStayFair A = (begins : A → ℕ → ℕ) (rows : List Row) (units : List
     → position_or_len is_dot j.name ≡ length j.name)
     → position_or_len is_dot g.name ≡ length g.name
     → IsFair rows g
+
+-- Whatever is renamed, where it collides with nothing and no method of the prelude is renamed with
+-- it, the images of the rows meet what rows must.
+abbrev pub RenamingsStayFair : Type 0 → Type 0
+RenamingsStayFair A = (begins : A → ℕ → ℕ) (rows : List Row) (units : List (syntax.Unit A))
+    (d : Decl) (g : Renaming) → AreRows rows → AreProgramRows (sites_of begins units) rows
+    → AreRenamed rows d g.decls → (IsOfPrelude rows d → ⊥)
+    → ((text : List ℕ) → HasPreludeMethod rows d text → ⊥) → IsClear begins rows units d g.name
+    → ((j : ClassKey) (i : ℕ) → IsRowOf rows (class_decl j) i
+    → position_or_len is_dot j.name ≡ length j.name)
+    → position_or_len is_dot g.name ≡ length g.name
+    → IsFair rows g

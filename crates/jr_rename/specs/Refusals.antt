@@ -1,45 +1,18 @@
 -- Why a rename is refused: each refusal with its fields, in the order in which they are asked. A
 -- text that is too long, and rules that the new program breaks, are of the new texts alone.
-use Rattle.std.specs.Prelude.{
-  ◌≡◌,
-  ◌≢◌,
-  ℕ,
-  ◌<◌,
-  ◌≤◌,
-  ◌⊎◌,
-  List,
-  [],
-  ◌∷◌,
-  ◌++◌,
-  Some,
-  slice_get,
-  All,
-  codes,
-}
-use Rattle.jr_text.specs.declared.spans.Place.{Place}
-use Rattle.jr_ast.specs.MemberTree as syntax
+use Rattle.std.specs.Prelude.{◌≡◌, ◌≢◌, ℕ, ◌<◌, ◌≤◌, ◌⊎◌, List, ◌∷◌, ◌++◌, Some, slice_get, All}
 use Rattle.jr_table.specs.Keys.{ClassKey, MethodKey}
-use Rattle.jr_table.specs.Decls.{MemberKey, Decl, class_decl, method_decl}
-use Rattle.jr_table.specs.Found.{Found}
+use Rattle.jr_table.specs.Decls.{Decl, class_decl, method_decl}
 use Rattle.jr_table.specs.Rows.{Row}
 use Rattle.jr_table.specs.Entries.{IsRowOf}
 use Rattle.jr_table.specs.Keyed.{DispatchesTo}
 use Rattle.jr_table.specs.ExpressionRules.{IsObjectMethod}
 use Rattle.jr_names.specs.DeclTexts.{decl_text}
-use Rattle.jr_names.specs.Refusals.{
-  Refusal,
-  bad_target,
-  prelude_method,
-  clash,
-  override_changed,
-  lost_binding,
-}
 use Rattle.jr_rewrite.specs.Respellings.{Loss}
 use Rattle.jr_rewrite.specs.Rewritten.{Rewritten}
-use Rattle.jr_rename.specs.Targets.{IsOfPrelude, IsTarget, HasNoTarget}
+use Rattle.jr_rename.specs.Targets.{IsOfPrelude}
 use Rattle.jr_rename.specs.Families.{InFamily}
 use Rattle.jr_rename.specs.Images.{Renaming, class_to, method_to, rows_to}
-use Rattle.jr_rename.specs.Clashes.{ClashesWith}
 
 -- ---- methods of the prelude
 

@@ -1,22 +1,6 @@
 -- What a rename does to a program, and why it is refused.
-use Rattle.std.specs.Prelude.{
-  ◌≡◌,
-  ℕ,
-  suc,
-  ◌+◌,
-  List,
-  [],
-  ◌∷◌,
-  map,
-  Some,
-  slice_get,
-  sum_by,
-  codes,
-  filter,
-  not,
-}
+use Rattle.std.specs.Prelude.{◌≡◌, ℕ, suc, List, [], ◌∷◌, map, Some, slice_get, sum_by, codes, filter, not}
 use Rattle.jr_text.specs.declared.spans.Span.{Span}
-use Rattle.jr_text.specs.declared.spans.Place.{Place}
 use Rattle.jr_text.specs.Edits.{Entry}
 use Rattle.jr_ast.specs.MemberTree as syntax
 use Rattle.jr_table.specs.Keys.{ClassKey, MethodKey}
@@ -25,7 +9,6 @@ use Rattle.jr_table.specs.SameDecls.{same_decl}
 use Rattle.jr_table.specs.Rows.{Row}
 use Rattle.jr_table.specs.Sites.{sites_of}
 use Rattle.jr_table.specs.Context.{Context}
-use Rattle.jr_table.specs.Found.{Found}
 use Rattle.jr_names.specs.Refusals.{
   Refusal,
   bad_target,
@@ -36,7 +19,7 @@ use Rattle.jr_names.specs.Refusals.{
 }
 use Rattle.jr_rewrite.specs.Respellings.{Loss, Change}
 use Rattle.jr_rewrite.specs.Rewritten.{Rewritten}
-use Rattle.jr_rewrite.specs.Rewrites.{begins, RewritesUnits}
+use Rattle.jr_rewrite.specs.Rewrites.{RewritesUnits}
 use Rattle.jr_rename.specs.Targets.{IsTarget, HasNoTarget}
 use Rattle.jr_rename.specs.Families.{AreRenamed}
 use Rattle.jr_rename.specs.Images.{Renaming, decl_to}

@@ -1,18 +1,5 @@
 -- Tests of clashes among rows, and the first row that has a property.
-use Rattle.std.specs.Prelude.{
-  ◌≡◌,
-  ℕ,
-  ◌≤◌,
-  List,
-  Option,
-  Some,
-  None,
-  Bool,
-  false,
-  ◌&&◌,
-  not,
-  nat_eq,
-}
+use Rattle.std.specs.Prelude.{ℕ, ◌≤◌, List, Option, Some, None, Bool, false, ◌&&◌, not, nat_eq}
 use Rattle.std.specs.Cmp.Lexicographic.{pointwise}
 use Rattle.std.specs.List.{list_any}
 use Rattle.std.specs.Option.{option_eq}

@@ -31,7 +31,7 @@ use Rattle.jr_table.specs.Decls.{
 use Rattle.jr_table.specs.SameKeys.{same_name}
 use Rattle.jr_table.specs.Rows.{Row}
 use Rattle.jr_table.specs.Prelude.{top_key}
-use Rattle.jr_table.specs.Entries.{class_of, name_of}
+use Rattle.jr_table.specs.Entries.{class_of}
 use Rattle.jr_table.specs.Found.{Found, one, nothing}
 use Rattle.jr_table.specs.Scope.{Scope}
 use Rattle.jr_table.specs.Lookup.{

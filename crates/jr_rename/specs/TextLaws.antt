@@ -1,10 +1,11 @@
--- The law on renamed texts, as a statement: the changes of a renamed file are edits that fit its
--- text, and the new text reads as the new tree.
-use Rattle.std.specs.Prelude.{ℕ, List, Option, Some, None}
+-- Laws on the texts of a program, as statements: its rows have identifiers for names; the changes
+-- of a renamed file are edits that fit its text, and the new text reads as the new tree.
+use Rattle.std.specs.Prelude.{◌≡◌, ℕ, List, Option, Some, None, slice_get, length}
+use Rattle.std.specs.List.{position_or_len}
 use Rattle.jr_text.specs.declared.spans.Span.{Span}
 use Rattle.jr_lex.specs.Replacing.{IsName}
 use Rattle.jr_ast.specs.MemberTree.{Unit as UnitTree}
-use Rattle.jr_grammar.specs.Reads.{ReadsWithSpans}
+use Rattle.jr_grammar.specs.Reads.{Reads, ReadsWithSpans}
 use Rattle.jr_table.specs.Keys.{ClassKey}
 use Rattle.jr_table.specs.Decls.{
   Decl,
@@ -16,13 +17,16 @@ use Rattle.jr_table.specs.Decls.{
 }
 use Rattle.jr_table.specs.Rows.{Row}
 use Rattle.jr_table.specs.Entries.{IsRowOf}
-use Rattle.jr_table.specs.Sites.{Site}
+use Rattle.jr_table.specs.Sites.{Site, sites_of}
+use Rattle.jr_table.specs.ProgramRows.{AreProgramRows}
 use Rattle.jr_table.specs.Context.{Context}
+use Rattle.jr_spell.specs.Binds.{is_dot}
 use Rattle.jr_rewrite.specs.Rewritten.{Rewritten}
 use Rattle.jr_rewrite.specs.Rewrites.{RewritesUnit}
 use Rattle.jr_rewrite.specs.RewriteLaws.{IsRewritten}
 use Rattle.jr_rename.specs.Images.{Renaming}
 use Rattle.jr_rename.specs.Spelling.{spelling}
+use Rattle.jr_rename.specs.OneLocal.{HaveNoDots}
 
 abbrev pub IsOuterName : Option (List ℕ) → Type 0
 IsOuterName None = Unit {0}
@@ -41,6 +45,17 @@ IsNamedDecl (local_decl k) = Unit {0}
 
 abbrev pub AreNamed : List Row → Type 0
 AreNamed rows = (d : Decl) (j : ℕ) → IsRowOf rows d j → IsNamedDecl d
+
+abbrev pub NamesHaveNoDot : Type 0
+NamesHaveNoDot = (name : List ℕ) → IsName name → position_or_len is_dot name ≡ length name
+
+-- where each unit is what a text reads as, the names of the rows are identifiers, and so the
+-- classes' have no dot
+abbrev pub RowsAreNamed : Type 0 → Type 0
+RowsAreNamed A = (begins : A → ℕ → ℕ) (rows : List Row) (units : List (UnitTree A))
+    → ((file : ℕ) (unit : UnitTree A) → slice_get units file ≡ Some unit
+    → (bytes : List ℕ) × Reads bytes unit)
+    → AreProgramRows (sites_of begins units) rows → AreNamed rows × HaveNoDots rows
 
 abbrev pub RenamedTextsRead : Type 0 → Type 0
 RenamedTextsRead A = (tells : A → ℕ → Span) (rows : List Row) (g : Renaming)

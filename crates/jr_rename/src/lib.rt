@@ -15,7 +15,8 @@ pub use images::{
 pub use laws::{locals_keep_keys, references_are_kept};
 pub use new_programs::{
     classes_stay_fair, fields_give_images, locals_give_images, methods_give_images, plans_become,
+    renamings_stay_fair,
 };
 pub use row_clashes::{class_clash, member_clash};
-pub use text_laws::renamed_texts_read;
+pub use text_laws::{renamed_texts_read, rows_are_named};
 pub use words::identifier_at;

@@ -5,6 +5,7 @@ ghost use Rattle.jr_rename.specs.ImageLaws.{
   FieldsGiveImages,
   MethodsGiveImages,
   PlansBecome,
+  RenamingsStayFair,
 };
 
 /// Where a local or parameter is renamed, the rows of the new program are the images of the old
@@ -33,4 +34,10 @@ pub fn plans_become<A, B>()
 /// are kept (JLS 8.1, 8.5).
 pub fn classes_stay_fair<A>()
     ensures { ClassesStayFair A }
+{}
+
+/// Whatever is renamed, where it collides with nothing and no method of the prelude is renamed with
+/// it, the images of the rows are rows as a program's.
+pub fn renamings_stay_fair<A>()
+    ensures { RenamingsStayFair A }
 {}

@@ -1,4 +1,5 @@
-mod Joining
+pub mod Joining
+mod Returning
 mod Ordered
 mod Assembling
 mod FilesRewritten

@@ -1,5 +1,5 @@
 -- What comes of a part that is rewritten, besides its new tree.
-use Rattle.std.specs.Prelude.{ℕ, ◌+◌, List, [], ◌++◌}
+use Rattle.std.specs.Prelude.{◌≡◌, ℕ, ◌+◌, List, [], ◌++◌}
 use Rattle.jr_rewrite.specs.Respellings.{Loss, Change}
 use Rattle.jr_rewrite.specs.Rewritten.{Rewritten}
 
@@ -22,3 +22,7 @@ both e f = record {
 
 abbrev pub effect_of : {T : Type 0} → Rewritten T → Effect
 effect_of o = record { changes = o.changes; respelled = o.respelled; losses = o.losses }
+
+-- what was gathered has become this: a part was rewritten as the property says
+abbrev pub Gathers : {T : Type 0} → (Rewritten T → Type 0) → (old new : Effect) → Type 0
+Gathers P old new = (o : Rewritten _) × P o × (new ≡ both old (effect_of o))

@@ -1,3 +1,4 @@
 pub mod Effects
+pub mod OutputView
 pub mod Files
 pub mod FileLaws

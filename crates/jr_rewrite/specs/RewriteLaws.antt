@@ -14,7 +14,8 @@ use Rattle.jr_rewrite.specs.Edited.{entries_of, AreInOrder}
 use Rattle.jr_rewrite.specs.Suitable.{all_suitable}
 use Rattle.jr_rewrite.specs.Rewrites.{RewritesUnit}
 
--- the changes are in order, and edits that fit the text, and what they make of it reads as the new tree
+-- the changes are in order, and edits that fit the text, and what they make of it reads as the new
+-- tree
 pub record IsRewritten {A : Type 0} (bytes : List ℕ) (o : Rewritten (UnitTree A)) : Type 0 where
   pub in_order : AreInOrder 0 o.changes
   pub edits : AreEdits (entries_of o.changes)

@@ -4,6 +4,10 @@
 #![tactic(auto)]
 
 #[cfg(test)]
+mod endings;
+#[cfg(test)]
+mod faults;
+#[cfg(test)]
 mod files;
 #[cfg(test)]
 mod memory;
@@ -19,5 +23,7 @@ mod scripts;
 mod sessions;
 #[cfg(test)]
 mod shows;
+#[cfg(test)]
+mod small;
 #[cfg(test)]
 mod words;

@@ -161,9 +161,9 @@ fn scripts_over_one_file(rt: HostRuntime) -> Result<(), Fail> {
     Ok(())
 }
 
-// Lines of words over an empty script and a file that is no text, how the run ends, and what its
-// sink takes.
-const WORDS: [(&str, &str, &str); 10] = [
+// Lines of words over an empty script, a file that is no text and one that isn't there, how the run
+// ends, which is by the first fault in the order of work, and what its sink takes.
+const WORDS: [(&str, &str, &str); 13] = [
     ("run s.json", "Done", "[]\n"),
     (
         "run s.json A.java",
@@ -171,7 +171,14 @@ const WORDS: [(&str, &str, &str); 10] = [
         "",
     ),
     ("run s.json B.java", "ReadFault { word: 2 }", ""),
+    (
+        "run s.json A.java B.java",
+        "BadSource { word: 2, fault: NotUtf8 { valid: 9 } }",
+        "",
+    ),
+    ("run s.json B.java A.java", "ReadFault { word: 2 }", ""),
     ("run A.java", "BadScript(the script is no JSON)", ""),
+    ("run A.java B.java", "BadScript(the script is no JSON)", ""),
     ("run s.json A.java A.java", "Usage", ""),
     ("run", "Usage", ""),
     ("run --out", "Usage", ""),

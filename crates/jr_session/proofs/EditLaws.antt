@@ -12,7 +12,7 @@ use Rattle.jr_names.specs.declared.steps.Step.{Step}
 use Rattle.jr_names.specs.declared.steps.Step.TheVariants as step
 use Rattle.jr_names.specs.Refusals.{Refusal, no_such_file, bad_span, too_long}
 use Rattle.jr_text.specs.Texts.{text_limit}
-use Rattle.jr_session.specs.Sources.{Source, IsFile, HasName, LacksFile, Differ, names_of, texts_of, with_text, total_of, total_limit}
+use Rattle.jr_sources.specs.Sources.{Source, IsFile, HasName, LacksFile, Differ, names_of, texts_of, with_text, total_of, total_limit}
 use Rattle.jr_session.specs.States.{State}
 use Rattle.jr_session.specs.Lengths.{AreWithin, AreTooLong}
 use Rattle.jr_session.specs.Splicing.{HasText, CanBecome, CanNotCut, WouldBeTooLong}
@@ -65,7 +65,7 @@ lacks_none ss i name text lacks h =
 
 -- ---- what an edit is of
 
-same_file : (file file' : List ℕ) (from to from' to' : ℕ) (text text' : List ℕ) → step.Edit file from to text ≡ step.Edit file' from' to' text' → (file' ≡ file) × (from' ≡ from) × (to' ≡ to) × (text' ≡ text)
+pub same_file : (file file' : List ℕ) (from to from' to' : ℕ) (text text' : List ℕ) → step.Edit file from to text ≡ step.Edit file' from' to' text' → (file' ≡ file) × (from' ≡ from) × (to' ≡ to) × (text' ≡ text)
 same_file file file' from to from' to' text text' e = (cc, cc, cc, cc)
 
 abbrev pub span_of : ℕ → ℕ → Span

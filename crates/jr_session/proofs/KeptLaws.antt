@@ -8,10 +8,10 @@ use Rattle.std.proofs.lemmas.Bool.Decides.{Decides-eqb}
 use Rattle.jr_text.specs.declared.spans.Span.{Span}
 use Rattle.jr_ast.specs.declared.members.Unit.{Unit}
 use Rattle.jr_ast.specs.View.{unit_of}
-use Rattle.jr_session.specs.declared.faults.ReadingFault.{ReadingFault}
-use Rattle.jr_session.specs.declared.kept.Readings.{Readings}
-use Rattle.jr_session.specs.ReadingFaults.{IsReading}
-use Rattle.jr_session.specs.Kept.{AreReadings}
+use Rattle.jr_sources.specs.declared.faults.ReadingFault.{ReadingFault}
+use Rattle.jr_sources.specs.declared.kept.Readings.{Readings}
+use Rattle.jr_sources.specs.ReadingFaults.{IsReading}
+use Rattle.jr_sources.specs.KeptReadings.{AreReadings}
 use Rattle.jr_session.proofs.Places.{written_at, kept_at, before_pushed, at_pushed, length-pushed}
 
 module _ (texts : List (List ℕ)) (r s : Readings) (t : List ℕ) (u : Unit Span) (w : ℕ) (f : Option ReadingFault) (is : IsReading t (unit_of u) w f) where

@@ -6,10 +6,10 @@ use Rattle.std.proofs.lemmas.Option.{slice_get_within, get_or_from_slice_get, no
 use Rattle.std.proofs.lemmas.List.Elements.{All-set}
 use Rattle.std.proofs.lemmas.List.Sums.{sum_by-set, get_or-le-sum_by, sum_by-le}
 use Rattle.jr_text.specs.Texts.{text_limit}
-use Rattle.jr_session.specs.Sources.{Source, texts_of, total_of, total_limit, file_limit, with_text}
+use Rattle.jr_sources.specs.Sources.{Source, texts_of, total_of, total_limit, file_limit, with_text}
 use Rattle.jr_session.specs.Splicing.{HasText}
 use Rattle.jr_session.specs.Lengths.{AreWithin, IsFirstTooLong, TogetherTooLong}
-use Rattle.jr_session.proofs.SourceLaws.{texts-with_text, length-texts}
+use Rattle.jr_sources.proofs.SourceLaws.{texts-with_text, length-texts}
 use Rattle.jr_session.proofs.Places.{kept_at}
 
 -- where an element was written, it stands

@@ -9,7 +9,7 @@ use Rattle.jr_names.specs.declared.steps.Step.TheVariants as step
 use Rattle.jr_names.specs.Replies.{edited, undone, redone, refused}
 use Rattle.jr_names.specs.Refusals.{Refusal, bad_span, too_long, nothing_to_undo, nothing_to_redo}
 use Rattle.jr_session.specs.declared.changes.Change.{Change}
-use Rattle.jr_session.specs.Sources.{Source, HasName, LacksFile, Differ, IsFile, names_of, texts_of, with_text, total_of, total_limit}
+use Rattle.jr_sources.specs.Sources.{Source, HasName, LacksFile, Differ, IsFile, names_of, texts_of, with_text, total_of, total_limit}
 use Rattle.jr_session.specs.States.{State, changed, IsUndone, IsRedone}
 use Rattle.jr_session.specs.Lengths.{AreWithin, AreTooLong}
 use Rattle.jr_session.specs.Splicing.{HasText, CanBecome, CanNotCut, WouldBeTooLong}

@@ -7,12 +7,13 @@ use Rattle.jr_names.specs.declared.steps.What.TheVariants as what
 use Rattle.jr_names.specs.Replies.{shown}
 use Rattle.jr_names.specs.Refusals.{Refusal, no_such_file, bad_place, bad_name, source_error, bad_target, prelude_method, conditional, has_return, two_results, many_targets, may_be_null, recursive, assigned, clash, override_changed, lost_binding, would_not_compile, lost_dependence, bad_span, too_long, nothing_to_undo, nothing_to_redo, report_full, too_many_sites}
 use Rattle.jr_shown.specs.Lines.{bytes_of}
-use Rattle.jr_session.specs.Sources.{Source, LacksFile, HasName, IsFile, Differ, names_of}
+use Rattle.jr_sources.specs.Sources.{Source, LacksFile, HasName, IsFile, Differ, names_of}
 use Rattle.jr_session.specs.States.{State}
-use Rattle.jr_session.specs.FirstFault.{IsFirstFaultOf}
+use Rattle.jr_sources.specs.FirstFault.{IsFirstFaultOf}
 use Rattle.jr_session.specs.Lines.{AreLineTexts}
 use Rattle.jr_session.specs.Refusing.{Applies, WouldShow, IsFirstRefusal, IsGranted, rank_of, shown_limit}
 use Rattle.jr_session.specs.Stepping.{Steps}
+use Rattle.jr_session.specs.StepLaws.{HasOneShow}
 use Rattle.jr_session.proofs.EditLaws.{one_number, lacks_none, name_of_file}
 
 abbrev pub the_show : List ℕ → Step
@@ -23,13 +24,13 @@ MayRefuseShow s file r = ((r ≡ no_such_file file) × LacksFile s.files file)
     ⊎ (((name : List ℕ) × (at : ℕ) × (kind : List ℕ) × (r ≡ source_error name at kind) × IsFirstFaultOf s.files name at kind)
     ⊎ ((len : ℕ) × (r ≡ report_full len) × ((lines : List (List ℕ)) × WouldShow s (the_show file) lines × (shown_limit < s.shown + bytes_of lines) × (len ≡ s.shown + bytes_of lines))))
 
-no_edit : (file other text : List ℕ) (from to : ℕ) → the_show file ≡ step.Edit other from to text → ⊥
+pub no_edit : (file other text : List ℕ) (from to : ℕ) → the_show file ≡ step.Edit other from to text → ⊥
 no_edit file other text from to e = cc
 
-no_undo : (file : List ℕ) → the_show file ≡ step.Undo → ⊥
+pub no_undo : (file : List ℕ) → the_show file ≡ step.Undo → ⊥
 no_undo file e = cc
 
-no_redo : (file : List ℕ) → the_show file ≡ step.Redo → ⊥
+pub no_redo : (file : List ℕ) → the_show file ≡ step.Redo → ⊥
 no_redo file e = cc
 
 pub show_refusals : (s : State) (file : List ℕ) (r : Refusal) → Applies s (the_show file) r → MayRefuseShow s file r
@@ -57,6 +58,19 @@ show_refusals s file nothing_to_undo h = absurd (no_undo file h.0)
 show_refusals s file nothing_to_redo h = absurd (no_redo file h.0)
 show_refusals s file (report_full a) h = inr (inr (a, refl, h))
 show_refusals s file (too_many_sites a b) h = absurd h
+
+-- ---- its lines
+
+same_show : (file other : List ℕ) → the_show file ≡ the_show other → other ≡ file
+same_show file other e = cc
+
+-- a show of a file has one list of lines
+pub would_once : (s : State) (file : List ℕ) → Differ s.files → HasOneShow → (xs ys : List (List ℕ)) → WouldShow s (the_show file) xs → WouldShow s (the_show file) ys → xs ≡ ys
+would_once s file differ once xs ys g h =
+    let a : IsFile s.files g.number file g.text = subst (λ (n : List ℕ). IsFile s.files g.number n g.text) (same_show file g.file g.is) g.stands in
+    let b : IsFile s.files h.number file h.text = subst (λ (n : List ℕ). IsFile s.files h.number n h.text) (same_show file h.file h.is) h.stands in
+    let n : g.number ≡ h.number = one_number s.files g.number h.number file differ (name_of_file s.files g.number file g.text a) (name_of_file s.files h.number file h.text b) in
+    once s.files h.number xs ys (subst (λ (k : ℕ). AreLineTexts s.files k xs) n g.lines_are) h.lines_are
 
 -- ---- the file isn't there
 
@@ -94,17 +108,10 @@ module _ (s : State) (file text : List ℕ) (number : ℕ) (stands : IsFile s.fi
         by q (inr (inl h)) = absurd (clean h.0 h.1 h.2 h.4)
         by q (inr (inr h)) = subst (λ (r : Refusal). 46 ≤ rank_of (the_show file) r) (sym h.1) (omega arith)
 
-    module _ (differ : Differ s.files) (once : (xs ys : List (List ℕ)) → AreLineTexts s.files number xs → AreLineTexts s.files number ys → xs ≡ ys) where
-      same_show : (other : List ℕ) → the_show file ≡ the_show other → other ≡ file
-      same_show other e = cc
-
+    module _ (differ : Differ s.files) (once : HasOneShow) where
       -- the lines of any show of the file are these
       only : (others : List (List ℕ)) → WouldShow s (the_show file) others → others ≡ lines
-      only others w =
-          let name = same_show w.file w.is in
-          let at : IsFile s.files w.number file w.text = subst (λ (n : List ℕ). IsFile s.files w.number n w.text) name w.stands in
-          let n : w.number ≡ number = one_number s.files w.number number file differ (name_of_file s.files w.number file w.text at) (name_of_file s.files number file text stands) in
-          once others lines (subst (λ (k : ℕ). AreLineTexts s.files k others) n w.lines_are) are
+      only others w = would_once s file differ once others lines w would
 
       pub show_granted : s.shown + bytes_of lines ≤ shown_limit → IsGranted s (the_show file)
       show_granted within r h = by r (show_refusals s file r h)

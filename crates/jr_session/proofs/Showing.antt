@@ -4,31 +4,26 @@ use Rattle.std.specs.Prelude.{Option, Some, None, is_some, true}
 use Rattle.jr_names.specs.Replies.{Reply, refused, shown as shown_reply}
 use Rattle.jr_names.specs.Refusals.{source_error, report_full}
 use Rattle.jr_shown.specs.Lines.{bytes_of}
-use Rattle.jr_shown.specs.LineLaws.{OneInOrder}
-use Rattle.jr_session.specs.declared.analyses.Analysis.{Analysis}
+use Rattle.jr_sources.specs.declared.analyses.Analysis.{Analysis}
 use Rattle.jr_session.specs.declared.changes.Change.{Change}
-use Rattle.jr_session.specs.declared.analyses.SourceFault.{SourceFault}
-use Rattle.jr_session.specs.Analysed.{IsAnalysis, IsSourceFault, CostsBinding}
-use Rattle.jr_session.specs.FirstFault.{IsFirstFaultOf}
+use Rattle.jr_sources.specs.declared.analyses.SourceFault.{SourceFault}
+use Rattle.jr_sources.specs.Analysed.{IsAnalysis, IsSourceFault, CostsBinding}
+use Rattle.jr_sources.specs.FirstFault.{IsFirstFaultOf}
 use Rattle.jr_session.specs.Lines.{AreLineTexts}
-use Rattle.jr_session.specs.ReadingLaws.{HasOneReading}
+use Rattle.jr_sources.specs.ReadingLaws.{HasOneReading}
 use Rattle.jr_session.specs.Refusing.{shown_limit}
-use Rattle.jr_session.specs.Sources.{Source, HasName, IsFile, Differ, names_of, texts_of}
+use Rattle.jr_sources.specs.Sources.{Source, HasName, IsFile, Differ, names_of, texts_of}
 use Rattle.jr_session.specs.States.{State}
 use Rattle.jr_session.specs.Stepping.{Steps}
+use Rattle.jr_session.specs.StepLaws.{HasOneShow}
 use Rattle.jr_session.specs.Work.{IsWithinWork}
-use Rattle.jr_session.proofs.AllRead.{element}
-use Rattle.jr_session.proofs.Analysing.{OneItems, no_fault}
+use Rattle.jr_sources.proofs.AllRead.{element}
+use Rattle.jr_sources.proofs.Analysing.{no_fault}
 use Rattle.jr_session.proofs.EditLaws.{file_of}
 use Rattle.jr_session.proofs.SessionSteps.{number_within}
 use Rattle.jr_session.proofs.ShowSteps.{the_show, show_fault, show_full, shown_step}
-use Rattle.jr_session.proofs.ShownLines.{one_shown}
-use Rattle.jr_session.proofs.SourceLaws.{length-texts}
+use Rattle.jr_sources.proofs.SourceLaws.{length-texts}
 use Rattle.jr_session.proofs.StateLaws.{state_of}
-
-pub filled : {X : Type 0} (o : Option X) → is_some o ≡ true → (x : X) × (o ≡ Some x)
-filled None h = absurd cc
-filled (Some x) h = (x, refl)
 
 pub one_name : (ss : List Source) (i : ℕ) (a b : List ℕ) → HasName ss i a → HasName ss i b → a ≡ b
 one_name ss i a b g h = let e : Some a ≡ Some b = sym g ∙ h in cc
@@ -53,7 +48,7 @@ module _ (sources : List Source) (undo redo : List Change) (count : ℕ) (file :
       let fault : IsFirstFaultOf sources name f.at f.kind.now = subst (λ n. IsFirstFaultOf sources n f.at f.kind.now) (one_name sources f.file is.name name is.named has) is.first in
       subst (λ q. Steps (state_of sources undo redo count) (the_show file) q (state_of sources undo redo count)) (sym e) (fault_step name f.at f.kind.now fault)
 
-  module _ (differ : Differ sources) (reading : HasOneReading) (items : OneItems) (order : OneInOrder) (a : Analysis) (is : IsAnalysis sources a) (lines : List (List ℕ)) (are : AreLineTexts sources number lines) where
+  module _ (differ : Differ sources) (reading : HasOneReading) (once : HasOneShow) (a : Analysis) (is : IsAnalysis sources a) (lines : List (List ℕ)) (are : AreLineTexts sources number lines) where
     clean : (name : List ℕ) (at : ℕ) (kind : List ℕ) → IsFirstFaultOf sources name at kind → ⊥
     clean = no_fault reading sources is.units is.words is.program
 
@@ -61,4 +56,4 @@ module _ (sources : List Source) (undo redo : List Change) (count : ℕ) (file :
     full_step len beyond e = (show_full (state_of sources undo redo count) file there.0 number there.1 clean lines are len (subst (λ n. shown_limit < n) e beyond) e, refl)
 
     pub lines_step : (len : ℕ) → len ≤ shown_limit → len ≡ count + bytes_of lines → Steps (state_of sources undo redo count) (the_show file) (shown_reply lines) (state_of sources undo redo len)
-    lines_step len within e = shown_step (state_of sources undo redo count) file there.0 number there.1 clean lines are differ (one_shown reading items order sources a is number) (state_of sources undo redo len) (subst (λ n. n ≤ shown_limit) e within) (ap (state_of sources undo redo) e)
+    lines_step len within e = shown_step (state_of sources undo redo count) file there.0 number there.1 clean lines are differ once (state_of sources undo redo len) (subst (λ n. n ≤ shown_limit) e within) (ap (state_of sources undo redo) e)

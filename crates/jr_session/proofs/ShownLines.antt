@@ -1,12 +1,13 @@
 -- The lines of a show: from what was analysed, and no others.
-use Rattle.std.proofs.Common.{◌≡◌, ℕ, ◌+◌, List, [], ◌∷◌, length, map, refl, sym, ap, subst, ◌∙◌, inl, inr}
-use Rattle.std.specs.Prelude.{◌⊎◌, ◌↔◌, Option, Some, slice_get}
+use Rattle.std.proofs.Common.{◌≡◌, ℕ, ◌+◌, List, [], ◌∷◌, length, map, refl, sym, ap, subst, ◌∙◌, inl, inr, eq-eqb}
+use Rattle.std.specs.Prelude.{◌⊎◌, ◌↔◌, Option, Some, slice_get, filter, ◌==◌}
 use Rattle.std.proofs.lemmas.Option.{same_Some}
 use Rattle.jr_text.specs.declared.spans.Span.{Span}
 use Rattle.jr_lex.specs.declared.items.Item.{Item}
 use Rattle.jr_lex.specs.Lexes.{Lexes}
 use Rattle.jr_ast.specs.MemberTree.{Unit as UnitTree}
 use Rattle.jr_table.specs.Decls.{Decl}
+use Rattle.jr_table.specs.declared.rules.Rule.{Rule}
 use Rattle.jr_table.specs.Rows.{Row}
 use Rattle.jr_table.specs.Sites.{sites_of}
 use Rattle.jr_table.specs.ProgramRows.{AreProgramRows}
@@ -17,26 +18,44 @@ use Rattle.jr_shown.specs.LineLaws.{OneInOrder}
 use Rattle.jr_shown.specs.Tokens.{IsTokenText}
 use Rattle.jr_shown.specs.Members.{AnyOf, MemberRefers, MemberErrs}
 use Rattle.jr_shown.specs.MemberLines.{IsLineOf}
-use Rattle.jr_session.specs.declared.analyses.Analysis.{Analysis}
-use Rattle.jr_session.specs.Analysed.{IsAnalysis}
+use Rattle.jr_shown.proofs.Membership.{chain, any_filter}
+use Rattle.jr_sources.specs.declared.analyses.Analysis.{Analysis}
+use Rattle.jr_sources.specs.Analysed.{IsAnalysis}
+use Rattle.jr_sources.specs.FirstFault.{package_lines}
 use Rattle.jr_session.specs.Lines.{HasLine, AreLinesOf, AreLineTexts}
-use Rattle.jr_session.specs.ReadingLaws.{HasOneReading}
-use Rattle.jr_session.specs.Sources.{Source, texts_of}
-use Rattle.jr_session.proofs.AllRead.{text_there}
-use Rattle.jr_session.proofs.Analysing.{OneItems, lexed_each, read_once}
-use Rattle.jr_session.proofs.Lexing.{text_source}
+use Rattle.jr_sources.specs.ReadingLaws.{HasOneReading}
+use Rattle.jr_sources.specs.Sources.{Source, texts_of}
+use Rattle.jr_sources.proofs.AllRead.{text_there}
+use Rattle.jr_sources.proofs.Analysing.{OneItems, lexed_each, read_once}
+use Rattle.jr_sources.proofs.FirstErrors.{rows_once}
+use Rattle.jr_sources.proofs.Lexing.{text_source}
+
+-- ---- the members of a file have all that is known of it
+
+abbrev pub own_members : (file : ℕ) → List MemberBound → List MemberBound
+own_members file members = filter (λ (b : MemberBound). b.file == file) members
+
+pub own_refers : (file at : ℕ) (d : Decl) (members : List MemberBound) → AnyOf (MemberRefers file at d) (own_members file members) ↔ AnyOf (MemberRefers file at d) members
+own_refers file at d members = any_filter (MemberRefers file at d) (λ (b : MemberBound). b.file == file) (λ b h. eq-eqb b.file file h.0) members
+
+own_errs : (file at : ℕ) (r : Rule) (members : List MemberBound) → AnyOf (MemberErrs file at r) (own_members file members) ↔ AnyOf (MemberErrs file at r) members
+own_errs file at r members = any_filter (MemberErrs file at r) (λ (b : MemberBound). b.file == file) (λ b h. eq-eqb b.file file h.0) members
+
+-- ---- the lines
 
 module _ (sources : List Source) (a : Analysis) (is : IsAnalysis sources a) (number : ℕ) (source : Source) (stands : slice_get sources number ≡ Some source)
     (items : List Item) (tokens : slice_get a.tokens.items number ≡ Some items) where
   lexes : Lexes source.text items
   lexes = lexed_each (texts_of sources) a.tokens.items is.tokens number source.text items (text_there sources number source stands) tokens
 
-  line_is : (l : Line) → IsLineOf source.text items a.members.items number l ↔ HasLine is.units a.table number source.text items l
+  line_is : (l : Line) → IsLineOf source.text items (own_members number a.members.items) number l ↔ HasLine is.units a.table number source.text items l
   line_is (reference at name d) =
-      let f = is.references number items at d tokens in (λ h. (f.0 h.0, h.1), λ h. (f.1 h.0, h.1))
-  line_is (broken at r) = is.errors number items at r tokens
+      let f = is.references number items at d tokens in
+      let g = own_refers number at d a.members.items in
+      (λ h. (f.0 (g.0 h.0), h.1), λ h. (g.1 (f.1 h.0), h.1))
+  line_is (broken at r) = chain (own_errs number at r a.members.items) (is.errors number items at r tokens)
 
-  pub lines_shown : (texts : List (List ℕ)) → ((lines : List Line) × AreLines (IsLineOf source.text items a.members.items number) lines × (texts ≡ map line_text lines)) → AreLineTexts sources number texts
+  pub lines_shown : (texts : List (List ℕ)) → ((lines : List Line) × AreLines (IsLineOf source.text items (own_members number a.members.items) number) lines × (texts ≡ map line_text lines)) → AreLineTexts sources number texts
   lines_shown texts h = record {
     lines = h.0;
     are = record {
@@ -55,26 +74,21 @@ module _ (sources : List Source) (a : Analysis) (is : IsAnalysis sources a) (num
   }
 
 -- the same, by the text and the members that were walked
-pub lines_of_text : (sources : List Source) (a : Analysis) → IsAnalysis sources a → (number : ℕ) (text : List ℕ) (items : List Item) (members : List MemberBound) → slice_get (texts_of sources) number ≡ Some text → slice_get a.tokens.items number ≡ Some items → members ≡ a.members.items
+pub lines_of_text : (sources : List Source) (a : Analysis) → IsAnalysis sources a → (number : ℕ) (text : List ℕ) (items : List Item) (members : List MemberBound) → slice_get (texts_of sources) number ≡ Some text → slice_get a.tokens.items number ≡ Some items → members ≡ own_members number a.members.items
     → (texts : List (List ℕ)) → ((lines : List Line) × AreLines (IsLineOf text items members number) lines × (texts ≡ map line_text lines)) → AreLineTexts sources number texts
 lines_of_text sources a is number text items members at tokens same texts h =
     let s = text_source sources number text at in
-    let are : AreLines (IsLineOf s.0.text items a.members.items number) h.0 = subst (λ ms. AreLines (IsLineOf s.0.text items ms number) h.0) same (subst (λ t. AreLines (IsLineOf t items members number) h.0) (sym s.2) h.1) in
+    let are : AreLines (IsLineOf s.0.text items (own_members number a.members.items) number) h.0 = subst (λ ms. AreLines (IsLineOf s.0.text items ms number) h.0) same (subst (λ t. AreLines (IsLineOf t items members number) h.0) (sym s.2) h.1) in
     lines_shown sources a is number s.0 s.1 items tokens texts (h.0, are, h.2)
 
 -- ---- no others
 
-module _ (reading : HasOneReading) (items_once : OneItems) (order : OneInOrder) (sources : List Source) (a : Analysis) (is : IsAnalysis sources a) (number : ℕ) where
-  -- the rows of sources are those of the table
-  rows_are : (units : List (UnitTree Span)) (rows : List Row) → is.units ≡ units → AreProgramRows (sites_of begins units) rows → rows ≡ a.table
-  rows_are units rows e h = is.only rows (subst (λ (us : List (UnitTree Span)). AreProgramRows (sites_of begins us) rows) (sym e) h)
-
+module _ (reading : HasOneReading) (items_once : OneItems) (order : OneInOrder) (sources : List Source) (number : ℕ) where
   one_lines : (xs ys : List Line) → AreLinesOf sources number xs → AreLinesOf sources number ys → xs ≡ ys
   one_lines xs ys g h =
-      let us = (read_once reading sources is.units g.units is.words g.words is.program.read g.program.read).0 in
-      let vs = (read_once reading sources is.units h.units is.words h.words is.program.read h.program.read).0 in
-      let units : g.units ≡ h.units = sym us ∙ vs in
-      let rows : g.rows ≡ h.rows = rows_are g.units g.rows us g.are_rows ∙ sym (rows_are h.units h.rows vs h.are_rows) in
+      let units : g.units ≡ h.units = (read_once reading sources g.units h.units g.words h.words g.program.read h.program.read).0 in
+      let others : AreProgramRows (sites_of begins g.units) h.rows = subst (λ (us : List (UnitTree Span)). AreProgramRows (sites_of begins us) h.rows) (sym units) h.are_rows in
+      let rows : g.rows ≡ h.rows = rows_once (package_lines g.units g.words) (sites_of begins g.units) g.program.clean g.rows h.rows g.are_rows others in
       let source : g.source ≡ h.source = same_Some g.source h.source (sym g.stands ∙ h.stands) in
       let items : g.items ≡ h.items = items_once g.source.text g.items h.items g.lexes (subst (λ (s : Source). Lexes s.text h.items) (sym source) h.lexes) in
       let same : (l : Line) → HasLine g.units g.rows number g.source.text g.items l ≡ HasLine h.units h.rows number h.source.text h.items l = λ l i. HasLine (units i) (rows i) number (source i).text (items i) l in

@@ -4,14 +4,15 @@ use Rattle.std.specs.List.{slice_get, All}
 use Rattle.std.specs.Prelude.{Some, None}
 use Rattle.std.proofs.lemmas.List.Elements.{All-push, All-pop, All-append}
 use Rattle.jr_session.specs.declared.changes.Change.{Change}
-use Rattle.jr_session.specs.declared.kept.Readings.{Readings}
-use Rattle.jr_session.specs.Sources.{Source, names_of, texts_of, with_text}
+use Rattle.jr_sources.specs.declared.kept.Readings.{Readings}
+use Rattle.jr_sources.specs.Sources.{Source, names_of, texts_of, with_text}
 use Rattle.jr_session.specs.States.{State, changed, IsUndone, IsRedone}
 use Rattle.jr_session.specs.Changes.{history, AreChanges}
-use Rattle.jr_session.specs.Analysed.{IsKeptAnalysis}
-use Rattle.jr_session.specs.Kept.{AreReadings, IsKept}
+use Rattle.jr_sources.specs.Analysed.{IsKeptAnalysis}
+use Rattle.jr_session.specs.Kept.{IsKept}
+use Rattle.jr_sources.specs.KeptReadings.{AreReadings}
 use Rattle.jr_session.specs.Turns.{IsChanged, IsTurn}
-use Rattle.jr_session.proofs.SourceLaws.{names-with_text, texts-with_text, length-with_text}
+use Rattle.jr_sources.proofs.SourceLaws.{names-with_text, texts-with_text, length-with_text}
 use Rattle.jr_session.proofs.Histories.{history-pushed, history-changed}
 
 -- the state that sources and changes stand for

@@ -13,10 +13,10 @@ use Rattle.jr_table.specs.declared.rules.Rule.TheVariants as rule
 use Rattle.jr_names.specs.declared.steps.Step.TheVariants as step
 use Rattle.jr_names.specs.declared.steps.What.TheVariants as what
 use Rattle.jr_names.specs.Refusals.{bad_span, too_long, nothing_to_undo, too_many_sites, would_not_compile, lost_binding, source_error, no_such_file, report_full}
-use Rattle.jr_session.specs.Sources.{Source, Differ}
+use Rattle.jr_sources.specs.Sources.{Source, Differ}
 use Rattle.jr_session.specs.States.{State, begun, changed, IsUndone, IsRedone}
 use Rattle.jr_session.specs.Lengths.{AreTooLong}
-use Rattle.jr_session.specs.ReadingFaults.{first_token_at}
+use Rattle.jr_sources.specs.ReadingFaults.{first_token_at}
 use Rattle.jr_session.specs.Refusing.{IsFirstRefusal, rank_of}
 use Rattle.jr_shown.specs.Lines.{Line, reference, broken, line_text, bytes_of, ComesBefore, AreInOrder}
 use Rattle.jr_session.proofs.EditLaws.{first_bad_span}

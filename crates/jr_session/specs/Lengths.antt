@@ -1,7 +1,7 @@
 -- Texts that are too long, one by itself or all together.
 use Rattle.std.specs.Prelude.{◌≡◌, ℕ, ◌<◌, ◌≤◌, ◌⊎◌, List, length, slice_get, Some, All}
 use Rattle.jr_text.specs.Texts.{text_limit}
-use Rattle.jr_session.specs.Sources.{total_of, total_limit}
+use Rattle.jr_sources.specs.Sources.{total_of, total_limit}
 
 -- no text has more bytes than a text may
 abbrev pub AreWithin : List (List ℕ) → Type 0

@@ -10,8 +10,8 @@ use Rattle.jr_table.specs.ProgramRows.{AreProgramRows}
 use Rattle.jr_places.specs.FileParts.{begins, BindsAt, BreaksAt, InFile}
 use Rattle.jr_shown.specs.Lines.{Line, reference, broken, line_text, AreLines}
 use Rattle.jr_shown.specs.Tokens.{IsTokenText}
-use Rattle.jr_session.specs.Sources.{Source}
-use Rattle.jr_session.specs.FirstFault.{AreProgram}
+use Rattle.jr_sources.specs.Sources.{Source}
+use Rattle.jr_sources.specs.FirstFault.{AreProgram}
 
 -- ---- what has a line
 

@@ -35,10 +35,10 @@ use Rattle.jr_names.specs.Refusals.{
   too_many_sites,
 }
 use Rattle.jr_names.specs.RefusalNames.{refusal_number}
-use Rattle.jr_session.specs.Sources.{IsFile, LacksFile, texts_of, with_text, total_limit}
+use Rattle.jr_sources.specs.Sources.{IsFile, LacksFile, texts_of, with_text, total_limit}
 use Rattle.jr_session.specs.States.{State}
 use Rattle.jr_session.specs.Lengths.{AreTooLong}
-use Rattle.jr_session.specs.FirstFault.{IsFirstFaultOf}
+use Rattle.jr_sources.specs.FirstFault.{IsFirstFaultOf}
 use Rattle.jr_shown.specs.Lines.{bytes_of}
 use Rattle.jr_session.specs.Lines.{AreLineTexts}
 

@@ -5,7 +5,7 @@ use Rattle.jr_text.specs.Spans.{CanCut}
 use Rattle.jr_text.specs.Splices.{replaced}
 use Rattle.jr_session.specs.declared.splices.Spliced.{Spliced}
 use Rattle.jr_session.specs.declared.splices.Spliced.TheVariants as becomes
-use Rattle.jr_session.specs.Sources.{Source, texts_of, total_of, total_limit, with_text}
+use Rattle.jr_sources.specs.Sources.{Source, texts_of, total_of, total_limit, with_text}
 use Rattle.jr_session.specs.Lengths.{AreWithin, AreTooLong}
 
 -- the text that the file of this number has

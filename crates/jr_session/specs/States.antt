@@ -2,7 +2,7 @@
 -- many bytes were shown. The last entry of a list is the one that comes back first. No Rust type
 -- stands here.
 use Rattle.std.specs.Prelude.{◌≡◌, ℕ, List, [], ◌∷◌, ◌++◌}
-use Rattle.jr_session.specs.Sources.{Source, names_of, texts_of, with_text}
+use Rattle.jr_sources.specs.Sources.{Source, names_of, texts_of, with_text}
 
 pub record State : Type 0 where
   pub files : List Source

@@ -5,7 +5,7 @@ use Rattle.jr_text.specs.Splices.{replaced}
 use Rattle.jr_names.specs.declared.steps.Step.{Step}
 use Rattle.jr_names.specs.declared.steps.Step.TheVariants as step
 use Rattle.jr_names.specs.Replies.{Reply, edited, refactored, shown, undone, redone, refused}
-use Rattle.jr_session.specs.Sources.{Source}
+use Rattle.jr_sources.specs.Sources.{Source}
 use Rattle.jr_session.specs.States.{State, changed, IsUndone, IsRedone}
 use Rattle.jr_session.specs.Refusing.{IsEdit, WouldShow, IsFirstRefusal, IsGranted}
 use Rattle.jr_shown.specs.Lines.{bytes_of}

@@ -3,9 +3,9 @@ use Rattle.std.specs.Prelude.{◌≡◌, ℕ, List, [], ◌∷◌, ◌++◌, Opt
 use Rattle.jr_text.specs.declared.spans.Span.{Span}
 use Rattle.jr_ast.specs.MemberTree.{Unit as UnitTree}
 use Rattle.jr_session.specs.declared.changes.Change.{Change}
-use Rattle.jr_session.specs.declared.faults.ReadingFault.{ReadingFault}
-use Rattle.jr_session.specs.ReadingFaults.{IsReading}
-use Rattle.jr_session.specs.Sources.{Source, texts_of, with_text}
+use Rattle.jr_sources.specs.declared.faults.ReadingFault.{ReadingFault}
+use Rattle.jr_sources.specs.ReadingFaults.{IsReading}
+use Rattle.jr_sources.specs.Sources.{Source, texts_of, with_text}
 
 -- the file has the text, and the one that it had stands behind the changes
 pub record IsChanged (sources : List Source) (changes : List Change) (number : ℕ) (text : List ℕ)

@@ -1,17 +1,12 @@
 -- How many members a step binds at most.
-use Rattle.std.specs.Prelude.{◌≡◌, ℕ, ◌+◌, ◌≤◌, List, length}
+use Rattle.std.specs.Prelude.{◌≡◌, ℕ, ◌+◌, ◌≤◌, List}
 use Rattle.jr_text.specs.declared.spans.Span.{Span}
 use Rattle.jr_ast.specs.MemberTree as syntax
 use Rattle.jr_names.specs.declared.steps.Step.{Step}
-use Rattle.jr_members.specs.Parts.{units_parts}
-use Rattle.jr_places.specs.FileParts.{begins}
 use Rattle.jr_session.specs.States.{State}
-use Rattle.jr_session.specs.FirstFault.{IsFirstFaultOf, AreProgram}
+use Rattle.jr_sources.specs.FirstFault.{IsFirstFaultOf, AreProgram}
+use Rattle.jr_sources.specs.MemberCount.{member_count}
 use Rattle.jr_session.specs.Refusing.{NeedsProgram}
-
--- how many members are written: heads of classes, fields, methods and constructors
-abbrev pub member_count : List (syntax.Unit Span) → ℕ
-member_count units = length (units_parts begins units)
 
 -- What is counted, one a member that is bound, was `before` and is `after`. Only a step that is
 -- answered from a program binds, only where there is one, and then each member once at most.

@@ -1,13 +1,11 @@
 //! A session begins.
 ghost use Rattle.std.specs.Prelude.{◌≡◌, ◌<◌, ◌≤◌, ◌^◌, IfOk, IfErr, OnOk, length};
 ghost use Rattle.jr_session.specs.Beginning.{CanBegin, IsBeginFault};
-ghost use Rattle.jr_session.specs.SourceView.{sources_of};
-ghost use Rattle.jr_session.specs.Kept.{AreReadings};
-ghost use Rattle.jr_session.specs.Sources.{texts_of, file_limit};
+ghost use Rattle.jr_sources.specs.SourceView.{sources_of};
+ghost use Rattle.jr_sources.specs.KeptReadings.{AreReadings};
+ghost use Rattle.jr_sources.specs.Sources.{texts_of, file_limit};
 
-use crate::kept::Readings;
-use crate::readings::read;
-use crate::sources::{MAX_FILES, MAX_TOTAL_LEN, Sources};
+use jr_sources::{MAX_FILES, MAX_TOTAL_LEN, Readings, Sources, read};
 use jr_text::Text;
 use std::alloc::{AllocError, Global};
 use thiserror::Error;

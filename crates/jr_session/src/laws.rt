@@ -1,13 +1,17 @@
-//! What holds of each text and what it reads as.
-ghost use Rattle.jr_session.specs.ReadingLaws.{HasOneReading};
+//! What holds of each step.
+ghost use Rattle.jr_session.specs.StepLaws.{HasOneAnswer, HasOneShow};
 
 use jr_lex::one_answer;
-use jr_punit::unit_has_one_answer;
+use jr_shown::lines_are_told;
+use jr_sources::text_has_one_reading;
 
-/// A text reads as one unit at most with its spans, and where it reads as one it has no fault.
-pub fn text_has_one_reading()
-    ensures { HasOneReading }
+/// A step has one reply and leaves one state, and a show's lines are those of the present sources,
+/// whatever was done before.
+pub fn step_has_one_answer()
+    ensures answer { HasOneAnswer }
+    ensures lines { HasOneShow }
 {
+    text_has_one_reading();
     one_answer();
-    unit_has_one_answer();
+    lines_are_told();
 }

@@ -2,15 +2,13 @@
 ghost use Rattle.std.specs.Prelude.{◌≡◌, ◌≢◌, ℕ, ◌<◌, ◌^◌, ◌↔◌, [], length, IfOk, IfErr, OnOk};
 ghost use Rattle.std.specs.Prelude.{IsTrue, MatchOption};
 ghost use Rattle.jr_session.specs.Beginning.{CanBegin, IsBeginFault};
-ghost use Rattle.jr_session.specs.SourceView.{sources_of};
-ghost use Rattle.jr_session.specs.Sources.{IsFile, LacksFile};
+ghost use Rattle.jr_sources.specs.SourceView.{sources_of};
+ghost use Rattle.jr_sources.specs.Sources.{IsFile, LacksFile};
 ghost use Rattle.jr_session.specs.States.{begun};
 
-use crate::analyses::Analysis;
 use crate::begins::{BeginFault, readings_of, sources_from};
 use crate::changes::Change;
-use crate::kept::Readings;
-use crate::sources::Sources;
+use jr_sources::{Analysis, Readings, Sources};
 use jr_text::Text;
 use std::alloc::Global;
 use std::marker::Model;
@@ -34,7 +32,7 @@ pub struct Session {
 
 impl Model for Session {
     ghost use Rattle.jr_session.specs.States.{State};
-    ghost use Rattle.jr_session.specs.Sources.{texts_of};
+    ghost use Rattle.jr_sources.specs.Sources.{texts_of};
     ghost use Rattle.jr_session.specs.Changes.{history};
     ghost use Rattle.jr_session.specs.Kept.{IsKept};
 

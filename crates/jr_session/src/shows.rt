@@ -6,23 +6,20 @@ ghost use Rattle.jr_names.specs.Refusals as refusals;
 ghost use Rattle.jr_names.specs.declared.steps.Step.TheVariants.{Show};
 ghost use Rattle.jr_names.specs.declared.steps.What.TheVariants.{Bindings};
 ghost use Rattle.jr_shown.specs.Lines.{bytes_of};
-ghost use Rattle.jr_session.specs.Analysed.{IsKeptAnalysis, IsFilled, IsSourceFault};
+ghost use Rattle.jr_sources.specs.Analysed.{IsKeptAnalysis, IsFilled, IsSourceFault};
 ghost use Rattle.jr_session.specs.Lines.{AreLineTexts};
 ghost use Rattle.jr_session.specs.Refusing.{shown_limit};
-ghost use Rattle.jr_session.specs.Sources.{AreSources, HasName};
+ghost use Rattle.jr_sources.specs.Sources.{AreSources, HasName};
 ghost use Rattle.jr_session.specs.Stepping as pure;
 ghost use Rattle.jr_session.specs.Work.{IsWithinWork};
 
-use crate::analyses::{Analysis, SourceFault};
 use crate::edits::no_such_file;
-use crate::laws::text_has_one_reading;
-use crate::programs::keep_analysis;
+use crate::laws::step_has_one_answer;
 use crate::sessions::Session;
-use crate::sources::Sources;
 use jr_ast::Name;
-use jr_lex::one_answer;
 use jr_names::{Lines, Refusal, Reply};
-use jr_shown::{file_lines, lines_are_told};
+use jr_shown::{file_lines, members_of_file};
+use jr_sources::{Analysis, SourceFault, Sources, keep_analysis, text_has_one_reading};
 use jr_steps::Steps;
 use std::alloc::{AllocError, Global};
 use std::sync::ledger::Ledger;
@@ -61,13 +58,8 @@ fn lines_of(
         None => unreachable!(),
         Some(analysis) => {
             let tokens = &analysis.tokens[number as usize];
-            file_lines(
-                alloc,
-                sources.text(number),
-                tokens,
-                number,
-                analysis.members.as_slice(),
-            )
+            let members = members_of_file(analysis.members.as_slice(), number);
+            file_lines(alloc, sources.text(number), tokens, number, members)
         }
     }
 }
@@ -101,8 +93,7 @@ impl Session {
         ensures work { IsWithinWork self.old (Show file.now Bindings) steps.old steps.new }
     {
         text_has_one_reading();
-        one_answer();
-        lines_are_told();
+        step_has_one_answer();
         let Some(number) = self.sources.find(file.as_str()) else {
             return no_such_file(alloc, file);
         };

@@ -5,7 +5,7 @@ ghost use Rattle.jr_text.specs.Splices as pure;
 ghost use Rattle.jr_text.specs.Texts.{text_limit};
 ghost use Rattle.jr_session.specs.Splicing.{IsSpliced, CanNotCut};
 
-use crate::sources::{MAX_TOTAL_LEN, Sources};
+use jr_sources::{MAX_TOTAL_LEN, Sources};
 use jr_text::{ApplyFault, EditList, Span, Text};
 use std::alloc::{AllocError, Global};
 

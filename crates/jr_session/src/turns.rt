@@ -3,15 +3,13 @@ ghost use Rattle.std.specs.Prelude.{◌≡◌, ℕ, List, ◌<◌, ◌++◌, ◌
 ghost use Rattle.std.specs.Prelude.{IfOk, OnOk, OnErr, Ok, true, false, vec_len, vec_capacity};
 ghost use Rattle.jr_ast.specs.View.{unit_of};
 ghost use Rattle.jr_session.specs.Changes.{AreChanges};
-ghost use Rattle.jr_session.specs.Kept.{AreReadings};
-ghost use Rattle.jr_session.specs.ReadingFaults.{IsReading};
-ghost use Rattle.jr_session.specs.Sources.{texts_of, with_text};
+ghost use Rattle.jr_sources.specs.KeptReadings.{AreReadings};
+ghost use Rattle.jr_sources.specs.ReadingFaults.{IsReading};
+ghost use Rattle.jr_sources.specs.Sources.{texts_of, with_text};
 ghost use Rattle.jr_session.specs.Turns.{IsChanged, IsTurn, AreAsBefore, IsLastReading};
 
 use crate::changes::Change;
-use crate::kept::Readings;
-use crate::readings::{Reading, read};
-use crate::sources::Sources;
+use jr_sources::{Reading, Readings, Sources, read};
 use jr_text::Text;
 use std::alloc::{AllocError, Global};
 

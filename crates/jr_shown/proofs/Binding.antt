@@ -16,7 +16,8 @@ use Rattle.jr_bind.specs.Bounds.{decl_in}
 use Rattle.jr_places.specs.FileParts.{begins, IsSuperAt, WithSuper, BindsAt, BreaksAt}
 use Rattle.jr_shown.specs.declared.bounds.MemberBound.{MemberBound}
 use Rattle.jr_shown.specs.Members.{AnyOf, IsArgsPlace, IsMemberPlace, IsSuperPlace, MemberRefers, MemberErrs, WrittenRefers, WrittenErrs, CanBind, AreKnown}
-use Rattle.jr_shown.specs.Binding.{CanBindAt, IsMemberBound, AddsMember}
+use Rattle.jr_shown.specs.Members.{IsMemberBound, IsEachBound, AreEachBound}
+use Rattle.jr_shown.specs.Binding.{CanBindAt, AddsMember}
 use Rattle.jr_shown.proofs.Membership.{chain, flip, both, none, any_push}
 
 -- ---- the place of `super`
@@ -42,14 +43,6 @@ module _ (rows : List Row) (items : List Item) (P : ℕ → Type 0) where
   with_super (member_part (syntax.constructor m mods w ps (Some args) body)) at s = with_args m args at s
   with_super (member_part (syntax.inner m of)) at s = zero_super at s
 
-  pub no_super : (part : Part Span) → ((at : ℕ) → IsSuperPlace items part at → ⊥) → WithSuper rows items part P → ⊥
-  no_super (class_part of) f h = f 0 refl
-  no_super (member_part (syntax.field m mods t w init)) f h = f 0 refl
-  no_super (member_part (syntax.method m mods t w ps body)) f h = f 0 refl
-  no_super (member_part (syntax.constructor m mods w ps None body)) f h = f 0 refl
-  no_super (member_part (syntax.constructor m mods w ps (Some args) body)) f h = f h.0 h.1
-  no_super (member_part (syntax.inner m of)) f h = f 0 refl
-
 -- ---- one member
 
 module _ (rows : List Row) (files : List (List Item)) (w : WrittenMember Span) (items : List Item) (stands : slice_get files w.file ≡ Some items) where
@@ -57,21 +50,9 @@ module _ (rows : List Row) (files : List (List Item)) (w : WrittenMember Span) (
   same_items : (file : ℕ) (others : List Item) → w.file ≡ file → slice_get files file ≡ Some others → others ≡ items
   same_items file others e h = same_Some others items (sym h ∙ ap (slice_get files) (sym e) ∙ stands)
 
-  -- without a place
-  module _ (lacks : (at : ℕ) → IsSuperPlace items w.part at → ⊥) where
-    refers_not : (file at : ℕ) (d : Decl) → WrittenRefers rows files file at d w → ⊥
-    refers_not file at d h = no_super rows items (λ s. Binds begins rows s w.key w.base w.part at d) w.part lacks
-        (subst (λ i. BindsAt rows i w.key w.base w.part at d) (same_items file h.1.0 h.0 h.1.1) h.1.2)
-
-    errs_not : (file at : ℕ) (r : Rule) → WrittenErrs rows files file at r w → ⊥
-    errs_not file at r h = no_super rows items (λ s. Breaks begins rows s w.key w.base w.part at r) w.part lacks
-        (subst (λ i. BreaksAt rows i w.key w.base w.part at r) (same_items file h.1.0 h.0 h.1.1) h.1.2)
-
-    pub adds_nothing : (bounds : List MemberBound) → AddsMember rows files w bounds bounds
-    adds_nothing bounds = record {
-      references = λ file at d. none (refers_not file at d);
-      errors = λ file at r. none (errs_not file at r);
-    }
+  -- it has a place
+  pub has_place : CanBind rows files w → ((at : ℕ) → IsSuperPlace items w.part at → ⊥) → ⊥
+  has_place can lacks = let s = can.stands items stands in lacks s.0 s.1
 
   -- with its place
   module _ (can : CanBind rows files w) (s : ℕ) (place : IsSuperPlace items w.part s) where
@@ -88,7 +69,7 @@ module _ (rows : List Row) (files : List (List Item)) (w : WrittenMember Span) (
       once = λ at d e g h. can.once items stands at d e ((binds at d).1 g) ((binds at e).1 h);
     }
 
-    module _ (b : MemberBound) (is : IsMemberBound rows s w b) where
+    module _ (b : MemberBound) (is : IsMemberBound rows s w b) (its : b.super_at ≡ s) where
       abbrev start : ℕ
       start = begins (part_mark w.part) w.base
 
@@ -128,10 +109,20 @@ module _ (rows : List Row) (files : List (List Item)) (w : WrittenMember Span) (
               let place' : at ≡ start + (at - start) = omega (arith, low) in
               (is.file ∙ h.0, (e, place' ∙ ap (λ k. k + (at - start)) (sym is.start), refl, (is.bound.errors.exact e).1 (subst (λ k. Breaks begins rows s w.key w.base w.part k r) place' ((breaks at r).0 there))))
 
+      known : IsEachBound rows files w b
+      known = record {
+        items = items;
+        stands = stands;
+        place = subst (IsSuperPlace items w.part) (sym its) place;
+        is = subst (λ n. IsMemberBound rows n w b) (sym its) is;
+      }
+
       pub adds_bound : (old new : List MemberBound) → new ≡ old ++ b ∷ [] → AddsMember rows files w old new
       adds_bound old new e = record {
         references = λ file at d. subst (λ (xs : List MemberBound). AnyOf (MemberRefers file at d) xs ↔ (AnyOf (MemberRefers file at d) old ⊎ WrittenRefers rows files file at d w)) (sym e) (chain (any_push (MemberRefers file at d) old b) (both (λ p. p, λ p. p) (refers file at d)));
         errors = λ file at r. subst (λ (xs : List MemberBound). AnyOf (MemberErrs file at r) xs ↔ (AnyOf (MemberErrs file at r) old ⊎ WrittenErrs rows files file at r w)) (sym e) (chain (any_push (MemberErrs file at r) old b) (both (λ p. p, λ p. p) (errs file at r)));
+        behind = inr (b, is.file, e);
+        each = (b, known, e);
       }
 
 -- ---- one after the other
@@ -149,3 +140,15 @@ pub known_step : {A : Type 0} (f : A → WrittenMember Span) (rows : List Row) (
 known_step f rows files ws i w old new lt is k a =
     let more : map f (take (i + 1) ws) ≡ map f (take i ws) ++ f w ∷ [] = ap (map f) (take_more ws i w lt ∙ ap (λ y. take i ws ++ y ∷ []) (sym is)) ∙ map-append f (take i ws) (w ∷ []) in
     subst (λ xs. AreKnown rows files xs new) (sym more) (known_more rows files (map f (take i ws)) (f w) old new k a)
+
+each_push : (rows : List Row) (files : List (List Item)) (ws : List (WrittenMember Span)) (bs : List MemberBound) (w : WrittenMember Span) (b : MemberBound) → AreEachBound rows files ws bs → IsEachBound rows files w b → AreEachBound rows files (ws ++ w ∷ []) (bs ++ b ∷ [])
+each_push rows files [] [] w b h is = (is, tt)
+each_push rows files [] (c ∷ bs) w b h is = absurd h
+each_push rows files (v ∷ ws) [] w b h is = absurd h
+each_push rows files (v ∷ ws) (c ∷ bs) w b h is = (h.0, each_push rows files ws bs w b h.1 is)
+
+pub each_step : {A : Type 0} (f : A → WrittenMember Span) (rows : List Row) (files : List (List Item)) (ws : List A) (i : ℕ) (w : A) (old new : List MemberBound) → i < length ws → w ≡ get_or ws i w → AreEachBound rows files (map f (take i ws)) old → AddsMember rows files (f w) old new → AreEachBound rows files (map f (take (i + 1) ws)) new
+each_step f rows files ws i w old new lt is k a =
+    let more : map f (take (i + 1) ws) ≡ map f (take i ws) ++ f w ∷ [] = ap (map f) (take_more ws i w lt ∙ ap (λ y. take i ws ++ y ∷ []) (sym is)) ∙ map-append f (take i ws) (w ∷ []) in
+    subst (λ xs. AreEachBound rows files xs new) (sym more)
+    (subst (λ bs. AreEachBound rows files (map f (take i ws) ++ f w ∷ []) bs) (sym a.each.2) (each_push rows files (map f (take i ws)) old (f w) a.each.0 k a.each.1))

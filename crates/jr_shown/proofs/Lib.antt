@@ -5,4 +5,5 @@ pub mod SuperWords
 pub mod Adding
 pub mod MemberSums
 pub mod Binding
+pub mod FileOrder
 pub mod OneOrder

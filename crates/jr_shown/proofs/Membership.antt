@@ -1,6 +1,7 @@
 -- Elements with a property, as a list grows.
-use Rattle.std.proofs.Common.{◌≡◌, ℕ, zero, suc, ◌+◌, ◌<◌, ◌≤◌, List, [], ◌∷◌, ◌++◌, length, take, get_or, map, refl, sym, ap, subst, ◌∙◌, arith, inl, inr}
-use Rattle.std.specs.Prelude.{◌⊎◌, ◌↔◌}
+use Rattle.std.proofs.Common.{◌≡◌, ℕ, zero, suc, ◌+◌, ◌<◌, ◌≤◌, List, [], ◌∷◌, ◌++◌, length, take, get_or, map, Bool, true, false, refl, sym, ap, subst, ◌∙◌, arith, inl, inr}
+use Rattle.std.specs.Prelude.{◌⊎◌, ◌↔◌, filter}
+use Rattle.std.proofs.lemmas.Bool.{cond-true, cond-false}
 use Rattle.std.proofs.lemmas.List.{take_more, take_all}
 use Rattle.jr_shown.specs.Members.{AnyOf, EachOf}
 
@@ -27,6 +28,17 @@ none {P} {Q} f = (λ p. inl p, back)
     back : (P ⊎ Q) → P
     back (inl p) = p
     back (inr q) = absurd (f q)
+
+pub exchange : {P Q : Type 0} → (P ⊎ Q) ↔ (Q ⊎ P)
+exchange {P} {Q} = (to, back)
+  where
+    to : (P ⊎ Q) → Q ⊎ P
+    to (inl p) = inr p
+    to (inr q) = inl q
+
+    back : (Q ⊎ P) → P ⊎ Q
+    back (inl q) = inr q
+    back (inr p) = inl p
 
 pub regroup : {P Q R : Type 0} → ((P ⊎ Q) ⊎ R) ↔ (P ⊎ (Q ⊎ R))
 regroup {P} {Q} {R} = (to, back)
@@ -99,3 +111,16 @@ pub each_map : {X Y : Type 0} (f : X → Y) (P : Y → Type 0) (xs : List X) (i 
 each_map f P [] i x d h lt is = absurd (omega (arith, lt))
 each_map f P (y ∷ ys) zero x d h lt is = subst (λ z. P (f z)) (sym is) h.0
 each_map f P (y ∷ ys) (suc i) x d h lt is = each_map f P ys i x d h.1 (omega (arith, lt)) is
+
+-- what has the property stands among those that pass a test
+module _ {X : Type 0} (P : X → Type 0) (test : X → Bool) (pass : (x : X) → P x → test x ≡ true) where
+  fails : (x : X) → test x ≡ false → P x → ⊥
+  fails x e p = let both : true ≡ false = sym (pass x p) ∙ e in absurd cc
+
+  filter_more : (x : X) (xs : List X) (b : Bool) → test x ≡ b → (AnyOf P (filter test xs) ↔ AnyOf P xs) → AnyOf P (filter test (x ∷ xs)) ↔ AnyOf P (x ∷ xs)
+  filter_more x xs true e f = subst (λ ys. AnyOf P ys ↔ AnyOf P (x ∷ xs)) (sym (cond-true (test x) (x ∷ filter test xs) (filter test xs) e)) (both (λ p. p, λ p. p) f)
+  filter_more x xs false e f = subst (λ ys. AnyOf P ys ↔ AnyOf P (x ∷ xs)) (sym (cond-false (test x) (x ∷ filter test xs) (filter test xs) e)) (chain f (chain (none (fails x e)) exchange))
+
+  pub any_filter : (xs : List X) → AnyOf P (filter test xs) ↔ AnyOf P xs
+  any_filter [] = (λ h. h, λ h. h)
+  any_filter (x ∷ xs) = filter_more x xs (test x) refl (any_filter xs)

@@ -17,6 +17,8 @@ use Rattle.std.specs.Prelude.{
   Some,
   None,
 }
+use Rattle.std.specs.List.{AllZip}
+use Rattle.std.specs.List.Sorted.{IsNonDecreasingBy}
 use Rattle.jr_text.specs.declared.spans.Span.{Span}
 use Rattle.jr_lex.specs.declared.items.Item.{Item}
 use Rattle.jr_ast.specs.Tree as tree
@@ -27,7 +29,7 @@ use Rattle.jr_table.specs.Entries.{number_of}
 use Rattle.jr_table.specs.Errors.{Part, class_part, member_part, part_mark, Error, Among}
 use Rattle.jr_table.specs.declared.rules.Rule.{Rule}
 use Rattle.jr_members.specs.WrittenMembers.{WrittenMember, decl_of_member}
-use Rattle.jr_bind.specs.Bounds.{FitsWhole, decl_in}
+use Rattle.jr_bind.specs.Bounds.{FitsWhole, IsBound, decl_in}
 use Rattle.jr_places.specs.FileParts.{begins, IsSuperAt, BindsAt, BreaksAt}
 use Rattle.jr_shown.specs.declared.bounds.MemberBound.{MemberBound}
 
@@ -70,7 +72,21 @@ abbrev pub MemberErrs : (file at : ℕ) → Rule → MemberBound → Type 0
 MemberErrs file at r b = (b.file ≡ file) × ((e : Error) × (at ≡ b.start + e.at) × (r ≡ e.rule)
     × Among b.bound.errors e)
 
--- the same of written members, from the trees and the files' items
+-- the members of a file stand behind those of the files before it
+abbrev pub AreInFileOrder : List MemberBound → Type 0
+AreInFileOrder bounds = IsNonDecreasingBy (λ (b : MemberBound). b.file) bounds
+
+abbrev pub AreWrittenInOrder : List (WrittenMember Span) → Type 0
+AreWrittenInOrder written = IsNonDecreasingBy (λ (w : WrittenMember Span). w.file) written
+
+-- what is known is right of a written member, whose `super(..)` stands at `super_at`
+pub record IsMemberBound (rows : List Row) (super_at : ℕ) (w : WrittenMember Span)
+    (b : MemberBound) : Type 0 where
+  pub file : b.file ≡ w.file
+  pub start : b.start ≡ begins (part_mark w.part) w.base
+  pub bound : IsBound begins rows super_at w.key w.base w.part b.bound
+
+-- what written members have, from the trees and the files' items
 module _ (rows : List Row) (files : List (List Item)) where
   abbrev pub WrittenRefers : (file at : ℕ) → Decl → WrittenMember Span → Type 0
   WrittenRefers file at d w = (w.file ≡ file) × ((items : List Item)
@@ -88,11 +104,25 @@ module _ (rows : List Row) (files : List (List Item)) where
       pub errors : (file at : ℕ) (r : Rule) → AnyOf (MemberErrs file at r) bounds
           ↔ AnyOf (WrittenErrs file at r) written
 
+  -- this is known of a written member, with the place of its `super(..)`
+  pub record IsEachBound (w : WrittenMember Span) (b : MemberBound) : Type 0 where
+    pub items : List Item
+    pub stands : slice_get files w.file ≡ Some items
+    pub place : IsSuperPlace items w.part b.super_at
+    pub is : IsMemberBound rows b.super_at w b
+
+  -- one of each, in the same order
+  abbrev pub AreEachBound : List (WrittenMember Span) → List MemberBound → Type 0
+  AreEachBound written bounds = AllZip IsEachBound written bounds
+
   -- what has to hold of a written member that is bound
   pub record CanBind (w : WrittenMember Span) : Type 0 where
     pub row : number_of rows (decl_of_member w.key) ≡ Some w.row
     pub fits : FitsWhole begins (λ m base. Unit {0}) w.base w.part
     pub file : w.file < length files
+    -- a written `super(..)` stands somewhere
+    pub stands : (items : List Item) → slice_get files w.file ≡ Some items
+        → (at : ℕ) × IsSuperPlace items w.part at
     -- no two of its references begin at one byte
     pub once : (items : List Item) → slice_get files w.file ≡ Some items → (at : ℕ) (d e : Decl)
         → BindsAt rows items w.key w.base w.part at d

@@ -1,5 +1,6 @@
 //! What binding knows of the members of a program.
-ghost use Rattle.std.specs.Prelude.{◌≡◌, ◌≤◌, ◌+◌, ℕ, map, length, IfOk, OnOk, MatchOption};
+ghost use Rattle.std.specs.Prelude.{◌≡◌, ◌≤◌, ◌+◌, ◌==◌, ℕ, map, filter, length};
+ghost use Rattle.std.specs.Prelude.{IfOk, OnOk, MatchOption};
 ghost use Rattle.jr_ast.specs.View.{member_of, class_of, args_of};
 ghost use Rattle.jr_ast.specs.Marks.{class_mark, member_mark};
 ghost use Rattle.jr_table.specs.Errors.{part_mark};
@@ -7,7 +8,9 @@ ghost use Rattle.jr_members.specs.PartView.{part_of, written_of};
 ghost use Rattle.jr_places.specs.FileParts.{begins};
 ghost use Rattle.jr_shown.specs.Members.{IsSuperPlace, IsMemberPlace, IsArgsPlace};
 ghost use Rattle.jr_shown.specs.Members.{AreKnown, CanBind, EachOf};
-ghost use Rattle.jr_shown.specs.Binding.{CanBindAt, IsMemberBound, AddsMember};
+ghost use Rattle.jr_shown.specs.Members.{AreInFileOrder, AreWrittenInOrder};
+ghost use Rattle.jr_shown.specs.Members.{AreEachBound, IsMemberBound};
+ghost use Rattle.jr_shown.specs.Binding.{CanBindAt, AddsMember};
 
 use crate::tokens::Tokens;
 use jr_ast::{Class, Expr, Member, MemberKind};
@@ -19,11 +22,13 @@ use jr_text::Span;
 use std::alloc::{AllocError, Global};
 use std::sync::ledger::Ledger;
 
-/// What binding knows of a member, the number of its file, and its first byte.
+/// What binding knows of a member, the number of its file, its first byte, and the byte where the
+/// word of its written `super(..)` stands; 0 where it has none.
 #[derive(Drop)]
 pub struct MemberBound {
     pub file: u32,
     pub start: u32,
+    pub super_at: u32,
     pub bound: Bound,
 }
 
@@ -98,12 +103,14 @@ fn bind_one<L: Ledger>(
 ) -> Result<MemberBound, AllocError>
     requires { CanBindAt table.now super_at (written_of written.now) }
     ensures bound { IfOk result (IsMemberBound table.now super_at (written_of written.now)) }
+    ensures place { IfOk result (λ b. b.super_at ≡ super_at) }
     ensures step { steps.new ≡ steps.old + 1 }
 {
     let bound = bind(alloc, table, written, super_at, steps)?;
     Ok(MemberBound {
         file: written.file,
         start: first_byte(&written.part),
+        super_at,
         bound,
     })
 }
@@ -145,6 +152,11 @@ pub fn bind_members<L: Ledger>(
     requires { EachOf (CanBind table.now tokens.now) (map written_of written.now) }
     ensures known { IfOk result (λ bounds.
         AreKnown table.now tokens.now (map written_of written.now) bounds.items) }
+    // One each, in the same order.
+    ensures each { IfOk result (λ bounds.
+        AreEachBound table.now tokens.now (map written_of written.now) bounds.items) }
+    ensures order { IfOk result (λ bounds. AreWrittenInOrder (map written_of written.now)
+        → AreInFileOrder bounds.items) }
     ensures least { steps.old ≤ steps.new }
     ensures most { steps.new ≤ steps.old + length written.now }
 {
@@ -153,4 +165,15 @@ pub fn bind_members<L: Ledger>(
         push_bound(alloc, table, tokens, member, &mut bounds, steps)?;
     }
     Ok(bounds)
+}
+
+/// Those of the file of the number, which stand together. They are found by halves.
+pub fn members_of_file(members: &[MemberBound], file: u32) -> &[MemberBound]
+    requires { AreInFileOrder members.now }
+    ensures { result.now ≡ filter (λ b. b.file == file) members.now }
+{
+    let first = members.partition_point(|member| member.file < file);
+    let rest = &members[first..];
+    let count = rest.partition_point(|member| member.file <= file);
+    &rest[..count]
 }

@@ -1,9 +1,9 @@
 //! What is shown of a file: its references with what they are bound to, and the rules that it
 //! breaks.
 //!
-//! [`bind_members`] binds the written members of a program, and [`file_lines`] has the lines of a
-//! file by what is known of its members. [`Tokens`] are a file's, for the names of references and
-//! the places of `super(..)`, which no tree keeps.
+//! [`bind_members`] binds the written members of a program, [`members_of_file`] finds those of a
+//! file among them, and [`file_lines`] has its lines by what is known of them. [`Tokens`] are a
+//! file's, for the names of references and the places of `super(..)`, which no tree keeps.
 #![tactic(auto)]
 
 mod bounds;
@@ -13,7 +13,8 @@ mod lines;
 mod member_lines;
 mod tokens;
 
-pub use bounds::{MemberBound, bind_members};
+pub use bounds::{MemberBound, bind_members, members_of_file};
 pub use laws::lines_are_told;
+pub use lines::rank;
 pub use member_lines::file_lines;
 pub use tokens::Tokens;

@@ -40,7 +40,7 @@ pub(crate) enum Line<'a> {
 }
 
 /// Where a rule stands among those at one place.
-fn rank(rule: Rule) -> u64
+pub fn rank(rule: Rule) -> u64
     ensures is { result ≡ rule_rank rule }
     ensures small { result < 32 }
 {

@@ -10,7 +10,6 @@ pub mod OneEach
 pub mod StepsUp
 pub mod Border
 pub mod Gathered
-pub mod RowTests
 pub mod Cases
 pub mod Accessing
 pub mod Inward

@@ -55,4 +55,3 @@ pub mod ClassIndex
 pub mod MemberIndex
 pub mod Gathering
 pub mod Spans
-pub mod TestedRows

@@ -25,7 +25,6 @@ mod numbered;
 mod numbering;
 mod overloads;
 mod prelude_rows;
-mod row_laws;
 mod rows;
 mod rules;
 mod signatures;
@@ -52,7 +51,6 @@ pub use noting_laws::{
     parts_have_errors, statements_are_noted,
 };
 pub use prelude_rows::prelude;
-pub use row_laws::tested_rows_are_rows;
 pub use rows::{Mods, Row};
 pub use rules::Rule;
 pub use tables::Table;

@@ -32,7 +32,8 @@ impl Model for Table {
 
     ghost view = { λ t. map row_of t.rows.items };
 
-    ghost invariant = { λ t. Keeps (map row_of t.rows.items) t.entries.items t.classes t.members t.spans };
+    ghost invariant = { λ t. Keeps (map row_of t.rows.items)
+        t.entries.items t.classes t.members t.spans };
 }
 
 impl Table {

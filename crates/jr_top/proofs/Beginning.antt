@@ -6,8 +6,8 @@ use Rattle.jr_shelf.specs.Shelf.{Files}
 use Rattle.jr_names.specs.declared.steps.Step.{Step}
 use Rattle.jr_names.specs.Replies.{Reply}
 use Rattle.jr_script.specs.Reports.{AreRepliesIn}
-use Rattle.jr_session.specs.Sources.{Source, names_of}
-use Rattle.jr_session.specs.SourceView.{sources_of}
+use Rattle.jr_sources.specs.Sources.{Source, names_of}
+use Rattle.jr_sources.specs.SourceView.{sources_of}
 use Rattle.jr_session.specs.States.{State, begun}
 use Rattle.jr_session.specs.Serving.{IsServed}
 use Rattle.jr_words.specs.declared.words.Operand as raw

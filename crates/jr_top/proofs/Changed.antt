@@ -3,7 +3,7 @@ use Rattle.std.proofs.Common.{◌≡◌, ◌≢◌, ◌∙◌, ◌<◌, ◌≤�
 use Rattle.std.proofs.lemmas.List.{append-nil, length-map}
 use Rattle.std.proofs.lemmas.Bool.{cases_order}
 use Rattle.std.proofs.lemmas.Option.{slice_get_within, get_or_from_slice_get, slice_get-get_or, slice_get-map, slice_get_read}
-use Rattle.jr_session.specs.Sources.{Source, IsFile, LacksFile, names_of}
+use Rattle.jr_sources.specs.Sources.{Source, IsFile, LacksFile, names_of}
 use Rattle.jr_words.specs.declared.words.Operand as raw
 use Rattle.jr_words.specs.Asked.{operand_of}
 use Rattle.jr_words.specs.Words.{Operand, Differ}

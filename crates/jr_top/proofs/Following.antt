@@ -8,7 +8,7 @@ use Rattle.jr_names.specs.Replies.{Reply, edited, refactored, shown, undone, red
 use Rattle.jr_names.specs.Refusals.{Refusal, no_such_file, bad_place, bad_name, source_error, bad_target, prelude_method, conditional, has_return, two_results, many_targets, may_be_null, recursive, assigned, clash, override_changed, lost_binding, would_not_compile, lost_dependence, bad_span, too_long, nothing_to_undo, nothing_to_redo, report_full, too_many_sites}
 use Rattle.jr_script.specs.RefusalTexts.{ArePlacesIn, places_of}
 use Rattle.jr_script.specs.Reports.{AreRepliesIn, reply_places}
-use Rattle.jr_session.specs.Sources.{Source, names_of, with_text}
+use Rattle.jr_sources.specs.Sources.{Source, names_of, with_text}
 use Rattle.jr_session.specs.States.{State}
 use Rattle.jr_session.specs.Refusing.{Applies}
 use Rattle.jr_session.specs.Stepping.{Steps}

@@ -1,6 +1,6 @@
 mod Beginning
 mod Changed
-mod Ending
+mod EarlyEnds
 mod Following
 mod InputLaws
 mod PutLaws

@@ -13,7 +13,7 @@ use Rattle.jr_top.specs.Outputs.{WroteAll, WroteInPart}
 use Rattle.jr_top.specs.Renames.{IsEither, IsNewText, IsNoNewText, TookAll, TookInPart}
 use Rattle.jr_top.specs.Runs.{Answers, Comes, Grants, HadNoFault, Refuses}
 use Rattle.jr_top.specs.Statuses.{IsAnswerOrMemory, IsBadSourceOrMemory, IsOfRename, IsOfRun, OnAnswer, OnBadSource, OnDone, OnNoFileFault, OnNoReadFault, OnNothingWritten, OnReadFault, OnRefused, OnWriteFault, OnWriting}
-use Rattle.jr_top.proofs.Ending.{ends_bad_source, ends_memory, ends_unread}
+use Rattle.jr_top.proofs.EarlyEnds.{ends_bad_source, ends_memory, ends_unread}
 use Rattle.jr_top.proofs.InputLaws.{faulty_no_text}
 
 no_text_held : (files : Option Files) (file : List ℕ) (fault : SourceFault) → IsSome files → HoldsFault 0 files file fault → HoldsNoText files file
@@ -67,7 +67,7 @@ module _ (files files' : Option Files) (missed missed' : Option (List ℕ)) (fau
     rose = r.read;
     names = r.read_missed;
     count = r.read_served;
-  }) r.keeps r.grow
+  }) r.read_word r.keeps r.grow
   unwritten (WriteFault stored) r = tt
   unwritten (BadScript fault) r = absurd r.ends
   unwritten (BadSource word fault) r = ends_bad_source (rename file at name) word fault (r.bad_word, r.bad) r.keeps r.missed_stays r.stay

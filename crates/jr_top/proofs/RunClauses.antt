@@ -5,7 +5,7 @@ use Rattle.jr_shelf.specs.Shelf.{Files}
 use Rattle.jr_words.specs.Words.{Command, Mean, MeanNothing, MeanOneAtMost}
 use Rattle.jr_top.specs.declared.statuses.Status.{Status}
 use Rattle.jr_top.specs.declared.statuses.Status.TheVariants.{Done, Refused, Usage, ReadFault, WriteFault, BadScript, BadSource, NoMemory}
-use Rattle.jr_top.specs.Ends.{HasBadScript, HasBadSource, HasGoodInput}
+use Rattle.jr_top.specs.Ends.{HasBadScript, HasBadSource, HasGoodInput, ReadsUpTo}
 use Rattle.jr_top.specs.Outputs.{WroteAll, WroteInPart}
 use Rattle.jr_top.specs.Runs.{Answers, Ask, AskOfGoodInput, AskOfNoScript, AskOfNoSource, Comes, FetchesAt, Grants, HadNoFault, Refuses}
 use Rattle.jr_top.specs.Statuses.{IsAnswerOrMemory, IsBadScriptOrMemory, IsBadSourceOrMemory, IsOfRun, OnBadScript, OnBadSource, OnDone, OnNothingWritten, OnReadFault, OnRefused, OnWriteFault}
@@ -80,6 +80,16 @@ module _ {files files' : Option Files} {missed missed' : Option (List ℕ)} {fau
   read_served_of (BadScript fault) comes = tt
   read_served_of (BadSource word fault) comes = tt
   read_served_of NoMemory comes = tt
+
+  pub read_in_order_of : (end : Status) → Comes command end files files' missed missed' faults faults' served served' taken taken' put_faults put_faults' → OnReadFault end (λ word. Ask words (λ k. ReadsUpTo files k word))
+  read_in_order_of Done comes = tt
+  read_in_order_of Refused comes = tt
+  read_in_order_of Usage comes = tt
+  read_in_order_of (ReadFault word) comes = (command, mean, comes.unwritten.in_order)
+  read_in_order_of (WriteFault stored) comes = tt
+  read_in_order_of (BadScript fault) comes = tt
+  read_in_order_of (BadSource word fault) comes = tt
+  read_in_order_of NoMemory comes = tt
 
   pub bad_script_of : (end : Status) → Comes command end files files' missed missed' faults faults' served served' taken taken' put_faults put_faults' → OnBadScript end (λ fault. Ask words (λ k. HasBadScript files k fault))
   bad_script_of Done comes = tt

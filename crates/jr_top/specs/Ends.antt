@@ -1,5 +1,5 @@
 -- Why a run of a command ends before it writes anything.
-use Rattle.std.specs.Prelude.{◌≡◌, ◌≢◌, ℕ, ◌≤◌, List, Option, OnSome}
+use Rattle.std.specs.Prelude.{◌≡◌, ◌≢◌, ℕ, ◌≤◌, ◌⊎◌, List, Option, OnSome}
 use Rattle.jr_shelf.specs.Shelf.{Files}
 use Rattle.jr_names.specs.declared.steps.Step.{Step}
 use Rattle.jr_script.specs.declared.faults.ScriptFault.{ScriptFault}
@@ -11,7 +11,7 @@ use Rattle.jr_files.specs.declared.faults.SourceFault.{SourceFault}
 use Rattle.jr_files.specs.declared.faults.FilesFault.{FilesFault}
 use Rattle.jr_files.specs.declared.faults.FilesFault.TheVariants as files_fault
 use Rattle.jr_files.specs.Sources.{HoldsFault, HoldsSome, HoldsText, IsBadSource}
-use Rattle.jr_files.specs.Fetching.{IsUnread}
+use Rattle.jr_files.specs.Fetching.{IsInOrder, IsUnread}
 use Rattle.jr_top.specs.declared.statuses.Status.{Status}
 use Rattle.jr_top.specs.declared.statuses.Status.TheVariants as status
 use Rattle.jr_top.specs.Scripts.{HoldsScript, Reads, sources_from}
@@ -30,6 +30,13 @@ HasBadSource files (rename file at name) word fault = (word ≡ 1) × HoldsFault
 HasBadSource files (run out script operands) word fault = (steps : List Step)
     × HoldsScript files script.text steps × IsBadSource files operands word fault
 
+-- what the command reads in front of this word's file has no fault: it is the script's, or else the
+-- script is one, there aren't too many files, and those in front of it are sources
+abbrev pub ReadsUpTo : Option Files → Command → ℕ → Type 0
+ReadsUpTo files (rename file at name) word = word ≡ 1
+ReadsUpTo files (run out script operands) word = (word ≡ script.word)
+    ⊎ ((steps : List Step) × HoldsScript files script.text steps × IsInOrder files operands word)
+
 -- all that the command reads is there and has no fault
 abbrev pub HasGoodInput : Option Files → Command → Type 0
 HasGoodInput files (rename file at name) = HoldsText files file
@@ -44,6 +51,7 @@ pub record EndsUnwritten (command : Command) (end : Status) (files files' : Opti
   pub unwritten : IsUnwritten end
   pub unread : OnReadFault end (λ word. IsUnread files (fetched_of command) word missed' faults
       faults' served served')
+  pub in_order : OnReadFault end (ReadsUpTo files command)
   pub bad_script : OnBadScript end (HasBadScript files command)
   pub bad_source : OnBadSource end (HasBadSource files command)
   pub keeps : files' ≡ files

@@ -1,7 +1,7 @@
 -- Outputs as contracts see them. Only private clauses cite this.
 use Rattle.std.specs.Prelude.{◌≢◌, ℕ, ◌⊎◌, List, map, string_bytes, Option, None, Some, option_map}
 use Rattle.std.specs.Borrow.{Bor}
-use Rattle.jr_session.specs.Sources.{Source, IsFile, LacksFile}
+use Rattle.jr_sources.specs.Sources.{Source, IsFile, LacksFile}
 use Rattle.jr_words.specs.declared.words.Operand as raw_operand
 use Rattle.jr_files.specs.Views.{store_of}
 use Rattle.jr_top.specs.declared.outputs.Output as raw_output

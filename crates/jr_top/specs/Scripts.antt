@@ -21,7 +21,7 @@ use Rattle.jr_names.specs.declared.steps.Step.{Step}
 use Rattle.jr_names.specs.Replies.{Reply, edited, refactored, shown, undone, redone, refused}
 use Rattle.jr_script.specs.Scripts.{IsScript}
 use Rattle.jr_script.specs.Reports.{report_text}
-use Rattle.jr_session.specs.Sources.{Source}
+use Rattle.jr_sources.specs.Sources.{Source}
 use Rattle.jr_session.specs.States.{State, begun}
 use Rattle.jr_session.specs.Stepping.{Steps}
 use Rattle.jr_words.specs.Words.{Operand}

@@ -5,7 +5,7 @@ ghost use Rattle.jr_shelf.specs.Counts.{RoseBy};
 ghost use Rattle.jr_shelf.specs.Sink.{with_bytes};
 ghost use Rattle.jr_names.specs.ReplyView.{reply_of};
 ghost use Rattle.jr_script.specs.Reports.{AreRepliesIn, report_text as text_of_report};
-ghost use Rattle.jr_session.specs.Sources.{names_of as names_in};
+ghost use Rattle.jr_sources.specs.Sources.{names_of as names_in};
 ghost use Rattle.jr_words.specs.Asked.{operand_of};
 ghost use Rattle.jr_words.specs.Words.{Differ};
 ghost use Rattle.jr_files.specs.Storing.{with_stores};

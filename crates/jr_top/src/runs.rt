@@ -1,7 +1,7 @@
 ghost use Rattle.std.specs.Prelude.{◌≡◌, ℕ, ◌≤◌, OnSome, slice_get};
 ghost use Rattle.jr_shelf.specs.Counts.{Rose, RoseBy};
 ghost use Rattle.jr_words.specs.Words.{MeanNothing, texts_of};
-ghost use Rattle.jr_top.specs.Ends.{HasBadScript, HasBadSource};
+ghost use Rattle.jr_top.specs.Ends.{HasBadScript, HasBadSource, ReadsUpTo};
 ghost use Rattle.jr_top.specs.Outputs.{WroteAll, WroteInPart};
 ghost use Rattle.jr_top.specs.Runs.{Answers, Ask, AskOfGoodInput, AskOfNoScript, AskOfNoSource};
 ghost use Rattle.jr_top.specs.Runs.{FetchesAt, Grants, HadNoFault, IsMisuse, Refuses};
@@ -54,7 +54,7 @@ pub fn run<S: Shelf, K: Sink>(
         (K.taken sink.old) (K.taken sink.new))) }
 
     // `ReadFault`: only where the shelf failed in the fetch of that word's file, once all files
-    // before it were fetched.
+    // before it were fetched, and none of them has a fault.
     ensures read_fault { OnReadFault result (λ word.
         Rose (S.faults shelf.old) (S.faults shelf.new)) }
     ensures read_fault_missed { OnReadFault result (λ word.
@@ -62,6 +62,8 @@ pub fn run<S: Shelf, K: Sink>(
     ensures read_fault_served { OnReadFault result (λ word.
         (number : ℕ) × FetchesAt (texts_of words.now) word number
         × RoseBy number (S.served shelf.old) (S.served shelf.new)) }
+    ensures read_fault_in_order { OnReadFault result (λ word.
+        Ask (texts_of words.now) (λ command. ReadsUpTo (S.holds shelf.old) command word)) }
 
     // `WriteFault`: only where the shelf failed in a store, or the sink in the put, and what came
     // before is whole.

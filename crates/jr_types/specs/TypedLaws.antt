@@ -15,4 +15,5 @@ use Rattle.jr_types.specs.TypedTrees.{part_tree}
 abbrev pub TypesAreAt : Type 0 → Type 0
 TypesAreAt A = (begins : A → ℕ → ℕ) (rows : List Row) → AreRows rows → KeysAreFound rows
     → (k : MemberKey) (x : syntax.Member A) (path : List ℕ) (t : Ty)
-    → (type_at (part_tree begins rows k (member_part x)) path ≡ Some t) ↔ TypeAt begins rows k x path t
+    → (type_at (part_tree begins rows k (member_part x)) path ≡ Some t)
+    ↔ TypeAt begins rows k x path t

@@ -43,9 +43,12 @@ module _ {A : Type 0} (rows : List Row) (c : Context) where
     exp_parts (tree.cast m t e) = put (put_leaf none) (node (type_of rows c e) (exp_parts e))
     exp_parts (tree.unary m o e) = put none (node (type_of rows c e) (exp_parts e))
     exp_parts (tree.bump m o e) = put none (node (type_of rows c e) (exp_parts e))
-    exp_parts (tree.binary m o x y) = put (put none (node (type_of rows c x) (exp_parts x))) (node (type_of rows c y) (exp_parts y))
-    exp_parts (tree.assign m x y) = put (put none (node (type_of rows c x) (exp_parts x))) (node (type_of rows c y) (exp_parts y))
-    exp_parts (tree.compound m o x y) = put (put none (node (type_of rows c x) (exp_parts x))) (node (type_of rows c y) (exp_parts y))
+    exp_parts (tree.binary m o x y) = put (put none (node (type_of rows c x) (exp_parts x)))
+        (node (type_of rows c y) (exp_parts y))
+    exp_parts (tree.assign m x y) = put (put none (node (type_of rows c x) (exp_parts x)))
+        (node (type_of rows c y) (exp_parts y))
+    exp_parts (tree.compound m o x y) = put (put none (node (type_of rows c x) (exp_parts x)))
+        (node (type_of rows c y) (exp_parts y))
 
     pub target_parts : tree.Target A → Parts
     target_parts tree.no_target = none
@@ -91,7 +94,8 @@ module _ {A : Type 0} (rows : List Row) where
     pub put_stmts : Parts → (number : ℕ) → Context → statement.Stmts A → Parts
     put_stmts ps number c statement.end = ps
     put_stmts ps number c (statement.more x xs) =
-        put_stmts (put ps (node None (stmt_parts number c x))) (number + locals_in x) (after number c x) xs
+        put_stmts (put ps (node None (stmt_parts number c x))) (number + locals_in x)
+        (after number c x) xs
 
   abbrev pub stmt_tree : (number : ℕ) → Context → statement.Stmt A → Tree
   stmt_tree number c x = node None (stmt_parts number c x)

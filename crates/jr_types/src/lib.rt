@@ -1,9 +1,9 @@
 //! The types of a member's expressions, found by paths.
 //!
-//! [`Types`] holds a tree with a node for each node of a member, in one vector: first what stands in
-//! a node, part by part, and then the node itself, with how many slots it takes and how many parts
-//! it has. So a tree is made by one walk that only puts slots behind one another, and a path is
-//! walked down without memory.
+//! [`Types`] holds a tree with a node for each node of a member, in one vector: first what stands
+//! in a node, part by part, and then the node itself, with how many slots it takes and how many
+//! parts it has. So a tree is made by one walk that only puts slots behind one another, and a path
+//! is walked down without memory.
 #![tactic(auto)]
 
 mod laws;

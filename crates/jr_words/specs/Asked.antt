@@ -21,7 +21,8 @@ use Rattle.std.specs.Prelude.{
   if◌then◌else◌,
 }
 use Rattle.std.specs.Str.{bytes_eq}
-use Rattle.clap.specs.Words.{App, Rule, app_of, new_rule, with_rule, first_value, matched_of, raw_values}
+use Rattle.clap.specs.Words.{App, Rule, app_of, new_rule, with_rule}
+use Rattle.clap.specs.Words.{first_value, matched_of, raw_values}
 use Rattle.clap.specs.Simple.{new_shape}
 use Rattle.clap.specs.declared.builder.action.ArgAction.TheVariants.{Append}
 use Rattle.clap.specs.declared.builder.command.Command as raw_clap
@@ -87,12 +88,14 @@ IsRunCommand command = app_of command ≡ run_app
 -- the words behind the first have this folder and these operands, of which there is one
 abbrev pub FindsArguments : List (List ℕ) → Found → Type 0
 FindsArguments words found = (rest : List (List ℕ)) × (words ≡ codes "run" ∷ rest)
-    × (texts : List (List ℕ)) × (option_map raw_values (matched_of found (codes "operands")) ≡ Some texts)
+    × (texts : List (List ℕ))
+    × (option_map raw_values (matched_of found (codes "operands")) ≡ Some texts)
     × (0 < length texts) × HaveTexts rest (first_value found (codes "out")) texts
 
 -- they have none, or there is no memory
 abbrev pub IsArgumentsFault : List (List ℕ) → WordsFault → Type 0
-IsArgumentsFault words Usage = (rest : List (List ℕ)) (out : Option (List ℕ)) (texts : List (List ℕ))
+IsArgumentsFault words Usage =
+    (rest : List (List ℕ)) (out : Option (List ℕ)) (texts : List (List ℕ))
     → words ≡ codes "run" ∷ rest → 0 < length texts → HaveTexts rest out texts → ⊥
 IsArgumentsFault words Memory = MayWantMemory words
 

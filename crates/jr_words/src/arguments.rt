@@ -1,8 +1,8 @@
 //! The words of a run, read by `clap`.
 ghost use Rattle.std.specs.Prelude.{IfOk, IfErr};
 ghost use Rattle.clap.specs.Words.{found_of};
-ghost use Rattle.jr_words.specs.Asked.{FindsArguments, IsArgumentsFault, IsRunCommand, IsWordsFault};
-ghost use Rattle.jr_words.specs.Asked.{command_of};
+ghost use Rattle.jr_words.specs.Asked.{FindsArguments, IsArgumentsFault, IsRunCommand};
+ghost use Rattle.jr_words.specs.Asked.{IsWordsFault, command_of};
 ghost use Rattle.jr_words.specs.Words.{MayWantMemory, Mean, texts_of};
 
 use crate::operands::{differ, numbered, option_place};

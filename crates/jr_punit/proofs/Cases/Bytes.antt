@@ -11,7 +11,7 @@ use Rattle.jr_lex.specs.declared.items.Symbol.TheVariants.{CloseBrace, ClosePare
 use Rattle.jr_lex.specs.Characters.{is_word_start, is_word_part}
 use Rattle.jr_lex.specs.Scan.{scan, keyword_of, extended as grown}
 use Rattle.jr_pexpr.specs.Machine.{begun, extended}
-use Rattle.jr_punit.specs.StatementMachine.{from_ready}
+use Rattle.jr_pstmt.specs.StatementMachine.{from_ready}
 use Rattle.jr_grammar.proofs.Cases.Scanned.{lexes}
 use Rattle.jr_punit.proofs.Cases.Forms.{ReadsNothing, reads_nothing}
 

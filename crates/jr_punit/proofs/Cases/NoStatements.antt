@@ -5,7 +5,7 @@ use Rattle.jr_lex.specs.declared.items.Keyword.TheVariants.{Else, If, Int, Retur
 use Rattle.jr_lex.specs.declared.items.Symbol.TheVariants.{CloseBrace, CloseParen, Equals, OpenBrace, OpenParen, Plus as PlusSign, PlusPlus, Semicolon}
 use Rattle.jr_grammar.specs.Tokens.{word, keyword, symbol, integer}
 use Rattle.jr_pexpr.specs.Machine.{begun, extended}
-use Rattle.jr_punit.specs.StatementMachine.{from_ready}
+use Rattle.jr_pstmt.specs.StatementMachine.{from_ready}
 use Rattle.jr_grammar.specs.Units.{AreNoStatements}
 use Rattle.jr_punit.proofs.Cases.Forms.{no_statements}
 

@@ -6,7 +6,7 @@ use Rattle.jr_lex.specs.declared.items.Symbol.TheVariants.{CloseBrace, ClosePare
 use Rattle.jr_grammar.specs.Tokens.{word, keyword, symbol}
 use Rattle.jr_grammar.specs.Units.{IsUnitStop}
 use Rattle.jr_pexpr.specs.Machine.{begun, extended}
-use Rattle.jr_punit.specs.StatementMachine.{from_ready}
+use Rattle.jr_pstmt.specs.StatementMachine.{from_ready}
 use Rattle.jr_punit.proofs.Cases.Forms.{unit_stops}
 
 --

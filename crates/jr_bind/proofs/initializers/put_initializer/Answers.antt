@@ -6,15 +6,15 @@ use Rattle.jr_ast.specs.View.{expr_of}
 use Rattle.jr_table.specs.HeadRules.{plain}
 use Rattle.jr_table.specs.HeadNotes.{init_notes}
 use Rattle.jr_table.specs.Walks.{maybe_notes}
-use Rattle.jr_bind.specs.Logs.{notes_of, Adds}
+use Rattle.jr_notes.specs.Logs.{notes_of, Adds}
 use Rattle.jr_bind.proofs.initializers.put_initializer.Goals as goal
 
-pub returns-in-Some : goal.returns-in-Some
-returns-in-Some g c = λ k s here.
+pub returns-in-Some-clause-notes : goal.returns-in-Some-clause-notes
+returns-in-Some-clause-notes g c = λ k s here.
     let B = λ (m : g.row.A.Denot) (b : ℕ). (g.A.Mark.span_from m b).from in
     let rows = c.args.table.now in
     let at = c.args.at in
     let old = notes_of rows k c.args.log.now.items in
     let new = notes_of rows k c.put_assigned.new.log.items in
     IfOk-weaker c.put_assigned.result _ _ (λ u h.
-    subst (λ (o : Option (Expr g.row.A.Denot)). Adds old (init_notes B rows k s at (option_map expr_of o) ++ maybe_notes B rows (plain k s) at (option_map expr_of o)) new) (sym c.in-Some.is) h) (c.put_assigned.ensures k s here)
+    subst (λ (o : Option (Expr g.row.A.Denot)). Adds old (init_notes B rows k s at (option_map expr_of o) ++ maybe_notes B rows (plain k s) at (option_map expr_of o)) new) (sym c.in-Some.is) h) (c.put_assigned.ensures.notes k s here)

@@ -6,7 +6,7 @@ use Rattle.jr_table.specs.Walks.{notes_of}
 use Rattle.jr_bind.proofs.Parting.{adds_at}
 use Rattle.jr_bind.proofs.initializers.put_value.Goals as goal
 
-pub returns : goal.returns
-returns g c = λ k s here.
+pub returns-clause-notes : goal.returns-clause-notes
+returns-clause-notes g c = λ k s here.
     let B = λ (m : g.row.A.Denot) (b : ℕ). (g.A.Mark.span_from m b).from in
-    adds_at B c.args.table.now k c.args.place.now (plain k s) here refl (λ d. notes_of B c.args.table.now d value c.args.at (expr_of c.args.of.now)) c.args.log.now.items c.expr.new.log.items c.in_ok-expr.ensures.notes
+    adds_at B c.args.table.now k c.args.place.now (plain k s) here refl (λ d. notes_of B c.args.table.now d value c.args.at (expr_of c.args.of.now)) c.args.log.now.items c.walk_expr.new.log.items c.in_ok-walk_expr.ensures.notes

@@ -6,7 +6,7 @@ use Rattle.jr_table.specs.declared.types.Ty as raw_ty
 use Rattle.jr_table.specs.TypeView.{ty_of}
 use Rattle.jr_locals.specs.Tracked.{locals_of}
 use Rattle.jr_bind.specs.Parameters.{held_parameters}
-use Rattle.jr_bind.proofs.Steps.{left_is}
+use Rattle.jr_notes.proofs.Steps.{left_is}
 use Rattle.jr_bind.proofs.ParamSteps.{none_left, Goes, goes_typeless, goes_end}
 use Rattle.jr_bind.proofs.parameters.parameters.Goals as goal
 

@@ -1,8 +1,10 @@
-use Rattle.std.proofs.Common.{◌+◌, ◌*◌, ◌≡◌, drop, length}
+use Rattle.std.proofs.Common.{◌+◌, ◌*◌, ◌≡◌, ◌++◌, drop, length}
 use Rattle.jr_ast.specs.View.{stmt_of, stmts_of, else_of}
 use Rattle.jr_ast.proofs.Sizes.{stmt_size, stmts_size, else_size}
 use Rattle.jr_locals.specs.Tracked.{locals_of}
-use Rattle.jr_bind.specs.Fits.{FitsStmts}
+use Rattle.jr_notes.specs.Fits.{FitsStmts}
+use Rattle.jr_notes.specs.Places.{context_of}
+use Rattle.jr_bind.specs.TypedFlow.{body_slots}
 use Rattle.jr_bind.proofs.Bodies.{Going}
 use Rattle.jr_bind.proofs.statements.+stmt_walk.Given as goal
 
@@ -26,5 +28,6 @@ invariant-stmts-loop-of g l = record {
   depth : l.depth ≡ length (locals_of l.fn.place.locals);
   own : l.own ≡ l.fn.place.own;
   fits : FitsStmts (λ m b. (g.A.Mark.span_from m b).from) g.A.Mark.fits_at l.at (stmts_of (drop l.of-index l.body));
+  slots : l.types ++ body_slots l.table l.behind.number (context_of l.place) (stmts_of (drop l.of-index l.body)) ≡ l.fn.types ++ body_slots l.table l.number (context_of l.fn.place) (stmts_of l.body);
   going : Going (λ m b. (g.A.Mark.span_from m b).from) l.table l.number l.fn.place l.at (stmts_of l.body) l.fn.log.items l.behind l.place l.log.items (stmts_of (drop l.of-index l.body));
 }

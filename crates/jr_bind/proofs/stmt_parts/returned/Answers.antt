@@ -7,16 +7,16 @@ use Rattle.jr_ast.specs.View.{expr_of}
 use Rattle.jr_table.specs.Notes.{returned_type, when, breaks}
 use Rattle.jr_table.specs.Walks as walks
 use Rattle.jr_table.specs.declared.rules.Rule.TheVariants as rule
-use Rattle.jr_bind.specs.Places.{context_of, member_of}
-use Rattle.jr_bind.specs.Logs.{notes_of, Adds}
+use Rattle.jr_notes.specs.Places.{context_of, member_of}
+use Rattle.jr_notes.specs.Logs.{notes_of, Adds}
 use Rattle.jr_bind.specs.StmtArms as pure
-use Rattle.jr_bind.proofs.Adding.{adds_exact}
+use Rattle.jr_notes.proofs.Adding.{adds_exact}
 use Rattle.jr_bind.proofs.StmtArming.{none_due}
 use Rattle.jr_bind.proofs.stmt_parts.returned.Goals as goal
 
-pub returns-in-None : goal.returns-in-None
+pub returns-in-None-clause-notes : goal.returns-in-None-clause-notes
 unfolding context_of
-returns-in-None g c =
+returns-in-None-clause-notes g c =
     let B = λ (m : g.row.A.Denot) (b : ℕ). (g.A.Mark.span_from m b).from in
     let rows = c.args.table.now in
     let p = c.args.place.now in

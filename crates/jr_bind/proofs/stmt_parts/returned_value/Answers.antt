@@ -4,19 +4,19 @@ use Rattle.jr_ast.specs.View.{expr_of}
 use Rattle.jr_table.specs.Binding.{value}
 use Rattle.jr_table.specs.Notes.{Note}
 use Rattle.jr_table.specs.Walks as walks
-use Rattle.jr_bind.specs.Places.{context_of, member_of}
-use Rattle.jr_bind.specs.Logs.{notes_of, Adds}
+use Rattle.jr_notes.specs.Places.{context_of, member_of}
+use Rattle.jr_notes.specs.Logs.{notes_of, Adds}
 use Rattle.jr_bind.specs.StmtArms as pure
-use Rattle.jr_bind.proofs.Adding.{adds_exact, adds_before}
+use Rattle.jr_notes.proofs.Adding.{adds_exact, adds_before}
 use Rattle.jr_table.specs.Entries.{entries_of}
 use Rattle.jr_table.specs.Notes.{returned_type}
-use Rattle.jr_bind.proofs.Rowing.{rowed}
+use Rattle.jr_notes.proofs.Rowing.{rowed}
 use Rattle.jr_bind.proofs.StmtArming.{returned_is, returned_rowed}
 use Rattle.jr_bind.proofs.stmt_parts.returned_value.Goals as goal
 
-pub returns : goal.returns
+pub returns-clause-notes : goal.returns-clause-notes
 unfolding context_of
-returns g c =
+returns-clause-notes g c =
     let B = λ (m : g.row.A.Denot) (b : ℕ). (g.A.Mark.span_from m b).from in
     let rows = c.args.table.now in
     let p = c.args.place.now in

@@ -6,15 +6,15 @@ use Rattle.jr_table.specs.Found.{Found}
 use Rattle.jr_table.specs.Meanings.{types_of}
 use Rattle.jr_table.specs.Notes.{found_note}
 use Rattle.jr_table.specs.Walks.{args_notes}
-use Rattle.jr_bind.specs.Places.{context_of, member_of}
-use Rattle.jr_bind.specs.Logs.{notes_of}
+use Rattle.jr_notes.specs.Places.{context_of, member_of}
+use Rattle.jr_notes.specs.Logs.{notes_of}
 use Rattle.jr_bind.specs.Supers.{written_notes}
-use Rattle.jr_bind.proofs.Adding.{adds_exact, adds_before}
+use Rattle.jr_notes.proofs.Adding.{adds_exact, adds_before}
 use Rattle.jr_bind.proofs.supers.put_written.Goals as goal
 
-pub returns : goal.returns
+pub returns-clause-notes : goal.returns-clause-notes
 unfolding context_of
-returns g c =
+returns-clause-notes g c =
     let B = λ (m : g.row.A.Denot) (b : ℕ). (g.A.Mark.span_from m b).from in
     let rows = c.args.table.now in
     let p = c.args.place.now in
@@ -22,7 +22,7 @@ returns g c =
     let d = context_of p in
     let args = exprs_of c.args.args.now in
     let old = notes_of rows k c.args.log.now.items in
-    let mid = notes_of rows k c.exprs.new.log.items in
+    let mid = notes_of rows k c.walk_args.new.log.items in
     let found = c.in_ok-answer.ensures d (types_of rows d args) c.requires.knows.class c.in_ok-kinds.ensures.kinds in
     IfOk-weaker c.put_method.result _ _ (λ u h.
     adds_before old mid (notes_of rows k c.put_method.new.log.items) (args_notes B rows d c.args.at args) (written_notes rows d c.args.super_at args) c.in_ok-kinds.ensures.notes

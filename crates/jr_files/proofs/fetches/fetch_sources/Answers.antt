@@ -4,7 +4,7 @@ use Rattle.std.proofs.lemmas.Option.{slice_get_read}
 use Rattle.std.proofs.lemmas.Result.{err_from_is_err_and}
 use Rattle.jr_files.specs.Sources.{IsSource, file_limit, total_limit}
 use Rattle.jr_files.proofs.Counting.{served_then}
-use Rattle.jr_files.proofs.FetchLaws.{one_bad, one_fetched, too_long_bad, too_many, unread_at}
+use Rattle.jr_files.proofs.FetchLaws.{first_unread, one_bad, one_fetched, too_long_bad, too_many, unread_at}
 use Rattle.jr_files.proofs.fetches.fetch_sources.Goals as goal
 
 pub returns-in-Some-clause-fault : goal.returns-in-Some-clause-fault
@@ -24,6 +24,12 @@ returns-in_err-bytes-clause-unread g c =
     let below : c.loop-file.file-index < length c.args.files.now = search rules in
     let p = err_from_is_err_and c.from_residual-in_err-bytes.result c.from_residual-in_err-bytes.ensures.1 in
     rw (p.1, p.2) (unread_at _ _ c.loop-file.invariant.served.keeps c.args.files.now c.loop-file.file-index _ below _ _ _ _ _ _ _ c.loop-file.invariant.served.faults_stay c.loop-file.invariant.served.count _ c.in_err-bytes.ensures.unread)
+
+pub returns-in_err-bytes-clause-in_order : goal.returns-in_err-bytes-clause-in_order
+returns-in_err-bytes-clause-in_order g c =
+    let below : c.loop-file.file-index < length c.args.files.now = search rules in
+    let p = err_from_is_err_and c.from_residual-in_err-bytes.result c.from_residual-in_err-bytes.ensures.1 in
+    rw (p.1, p.2) (first_unread _ _ c.args.files.now c.loop-file.file-index _ c.loop-file.sources.items c.loop-file.all_bytes.items c.loop-file.total below c.loop-file.invariant.so_far _ _ _ _ _ _ c.in_err-bytes.ensures.unread)
 
 pub returns-then-total-gt-MAX_TOTAL_LEN-clause-fault : goal.returns-then-total-gt-MAX_TOTAL_LEN-clause-fault
 returns-then-total-gt-MAX_TOTAL_LEN-clause-fault g c =

@@ -1,6 +1,6 @@
 use Rattle.std.proofs.Common.{subst}
-use Rattle.jr_punit.specs.CueView.{cue_view}
-use Rattle.jr_punit.specs.TypeStateView.{type_state}
+use Rattle.jr_pstmt.specs.CueView.{cue_view}
+use Rattle.jr_pstmt.specs.TypeStateView.{type_state}
 use Rattle.jr_punit.specs.LeadView.{lead_view}
 use Rattle.jr_punit.specs.OwnView.{IsNextOwn}
 use Rattle.jr_punit.proofs.OwnSteps.{type_goes, not_word, not_open}

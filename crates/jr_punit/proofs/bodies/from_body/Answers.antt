@@ -1,6 +1,6 @@
 use Rattle.std.proofs.Common.{◌∙◌, sym, subst}
 use Rattle.jr_pexpr.specs.TokenView.{token_view}
-use Rattle.jr_punit.specs.ListView.{list_state}
+use Rattle.jr_pstmt.specs.ListView.{list_state}
 use Rattle.jr_punit.specs.HeadView.{body_view}
 use Rattle.jr_punit.specs.OwnView.{IsNextOwn}
 use Rattle.jr_punit.proofs.OwnSteps.{body_ends, body_goes}

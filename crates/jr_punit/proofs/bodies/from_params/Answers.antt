@@ -1,10 +1,10 @@
 use Rattle.std.proofs.Common.{◌∙◌, sym, ap, subst}
 use Rattle.jr_pexpr.specs.Marked.{join}
-use Rattle.jr_punit.specs.CueView.{cue_view}
+use Rattle.jr_pstmt.specs.CueView.{cue_view}
 use Rattle.jr_punit.specs.ParamView.{param_state}
 use Rattle.jr_punit.specs.HeadView.{head_view}
 use Rattle.jr_punit.specs.OwnView.{IsNextOwn}
-use Rattle.jr_punit.specs.OwnMachine.{from_params}
+use Rattle.jr_pstmt.specs.OwnMachine.{from_params}
 use Rattle.jr_punit.proofs.OwnSteps.{params_end, params_go, not_close}
 use Rattle.jr_punit.proofs.bodies.from_params.Goals as goal
 

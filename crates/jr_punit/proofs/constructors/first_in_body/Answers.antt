@@ -2,12 +2,12 @@ use Rattle.std.proofs.Common.{◌∙◌, ap, subst}
 use Rattle.jr_text.specs.declared.spans.Span.{Span}
 use Rattle.jr_pexpr.specs.Marked.{join}
 use Rattle.jr_pexpr.specs.TokenView.{token_view}
-use Rattle.jr_punit.specs.Cues.{cue_of}
+use Rattle.jr_pstmt.specs.Cues.{cue_of}
 use Rattle.jr_punit.specs.HeadView.{constructor_view}
-use Rattle.jr_punit.specs.ListView.{list_state}
+use Rattle.jr_pstmt.specs.ListView.{list_state}
 use Rattle.jr_punit.specs.OwnView.{IsNextOwn}
-use Rattle.jr_punit.specs.OwnMachine as M
-use Rattle.jr_punit.specs.StatementMachine as S
+use Rattle.jr_pstmt.specs.OwnMachine as M
+use Rattle.jr_pstmt.specs.StatementMachine as S
 use Rattle.jr_punit.proofs.constructors.first_in_body.Goals as goal
 
 pub returns : goal.returns

@@ -1,10 +1,10 @@
 use Rattle.std.proofs.Common.{◌∙◌, Some, sym, ap, subst}
 use Rattle.jr_pexpr.specs.Marked.{join}
 use Rattle.jr_pexpr.specs.TokenView.{token_view}
-use Rattle.jr_punit.specs.Cues.{cue_of}
+use Rattle.jr_pstmt.specs.Cues.{cue_of}
 use Rattle.jr_punit.specs.HeadView.{constructor_view}
 use Rattle.jr_punit.specs.OwnView.{IsNextOwn}
-use Rattle.jr_punit.specs.OwnMachine.{from_super, in_super}
+use Rattle.jr_pstmt.specs.OwnMachine.{from_super, in_super}
 use Rattle.jr_punit.proofs.OwnSteps.{open_is, open_goes}
 use Rattle.jr_punit.proofs.constructors.from_super.Goals as goal
 

@@ -5,7 +5,7 @@ use Rattle.jr_ast.specs.declared.parts.TypeRef.{TypeRef}
 use Rattle.jr_ast.specs.View.{word_of, type_of}
 use Rattle.jr_punit.specs.declared.heads.MemberHead.{MemberHead}
 use Rattle.jr_punit.specs.LeadView.{lead_view}
-use Rattle.jr_punit.specs.OwnMachine as machine
+use Rattle.jr_pstmt.specs.OwnMachine as machine
 use Rattle.jr_punit.specs.OwnView.{IsNextOwn}
 use Rattle.jr_punit.proofs.fields.begin_value.Goals as goal
 

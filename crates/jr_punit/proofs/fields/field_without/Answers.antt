@@ -6,7 +6,7 @@ use Rattle.jr_ast.specs.View.{word_of, type_of}
 use Rattle.jr_pexpr.specs.Marked.{join}
 use Rattle.jr_punit.specs.declared.heads.MemberHead.{MemberHead}
 use Rattle.jr_punit.specs.LeadView.{lead_view}
-use Rattle.jr_punit.specs.OwnMachine as machine
+use Rattle.jr_pstmt.specs.OwnMachine as machine
 use Rattle.jr_punit.specs.OwnView.{IsNextOwn}
 use Rattle.jr_punit.proofs.fields.field_without.Goals as goal
 

@@ -1,6 +1,6 @@
 use Rattle.std.proofs.Common.{subst}
-use Rattle.jr_punit.specs.CueView.{cue_view}
-use Rattle.jr_punit.specs.TypeStateView.{type_state}
+use Rattle.jr_pstmt.specs.CueView.{cue_view}
+use Rattle.jr_pstmt.specs.TypeStateView.{type_state}
 use Rattle.jr_punit.specs.ParamView.{params_view, IsNextParam}
 use Rattle.jr_punit.proofs.OwnSteps.{param_goes, not_word}
 use Rattle.jr_punit.proofs.params.from_type.Goals as goal

@@ -8,7 +8,7 @@ use Rattle.jr_pexpr.specs.TokenView.{token_view}
 use Rattle.jr_punit.specs.Marked.{file_of, span_unit_read, span_unit_whole}
 use Rattle.jr_punit.specs.UnitMachine as machine
 use Rattle.jr_punit.specs.UnitView.{unit_state}
-use Rattle.jr_punit.proofs.InPlace.{went, stayed}
+use Rattle.jr_pstmt.proofs.InPlace.{went, stayed}
 use Rattle.jr_punit.proofs.UnitWalks.{placed_at}
 use Rattle.jr_punit.proofs.UnitParses.{Goes, Stops, goes, skips, stops, read_whole, byte_whole, read_none}
 use Rattle.jr_punit.proofs.parsing.read_unit.Goals as goal

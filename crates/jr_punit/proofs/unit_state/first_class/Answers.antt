@@ -5,7 +5,7 @@ use Rattle.jr_pexpr.specs.TokenView.{token_view}
 use Rattle.jr_punit.specs.ClassView.{class_state}
 use Rattle.jr_punit.specs.UnitMachine as machine
 use Rattle.jr_punit.specs.UnitView.{classes_view}
-use Rattle.jr_punit.proofs.InPlace.{went, stayed}
+use Rattle.jr_pstmt.proofs.InPlace.{went, stayed}
 use Rattle.jr_punit.proofs.unit_state.first_class.Goals as goal
 
 pub returns-then-branch : goal.returns-then-branch

@@ -2,7 +2,7 @@ use Rattle.std.proofs.Common.{◌∙◌, sym, ap, subst, Some, map}
 use Rattle.jr_ast.specs.View.{word_of}
 use Rattle.jr_pexpr.specs.Marked.{join}
 use Rattle.jr_pexpr.specs.TokenView.{token_view}
-use Rattle.jr_punit.specs.Cues.{cue_of}
+use Rattle.jr_pstmt.specs.Cues.{cue_of}
 use Rattle.jr_punit.specs.UnitMachine as machine
 use Rattle.jr_punit.specs.UnitView.{IsNextUnit}
 use Rattle.jr_punit.proofs.ClassSteps.{package_is, no_package}

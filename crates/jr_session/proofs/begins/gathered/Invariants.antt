@@ -1,6 +1,6 @@
 use Rattle.std.proofs.Common.{◌≡◌, ◌++◌}
-use Rattle.jr_session.specs.SourceView.{sources_of}
-use Rattle.jr_session.proofs.Entries.{Gathered}
+use Rattle.jr_sources.specs.SourceView.{sources_of}
+use Rattle.jr_sources.proofs.Entries.{Gathered}
 use Rattle.jr_session.proofs.begins.gathered.Given as goal
 
 abbrev pub invariant-loop-name : goal.invariant-loop-name

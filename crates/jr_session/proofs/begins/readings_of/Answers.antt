@@ -1,6 +1,6 @@
 use Rattle.std.proofs.Common.{◌≡◌, ℕ, List, take, sym, subst}
-use Rattle.jr_session.specs.Sources.{texts_of}
-use Rattle.jr_session.specs.Kept.{AreReadings}
+use Rattle.jr_sources.specs.Sources.{texts_of}
+use Rattle.jr_sources.specs.KeptReadings.{AreReadings}
 use Rattle.jr_session.proofs.Places.{taken_more}
 use Rattle.jr_session.proofs.KeptLaws.{read_more}
 use Rattle.jr_session.proofs.begins.readings_of.Goals as goal

@@ -2,7 +2,7 @@ use Rattle.std.proofs.Common.{◌≡◌, ◌<◌, ◌≤◌, ◌+◌, ◌-◌, �
 use Rattle.jr_text.specs.Spans.{CanCut}
 use Rattle.jr_text.specs.Splices.{replaced}
 use Rattle.jr_text.specs.Texts.{text_limit}
-use Rattle.jr_session.specs.Sources.{texts_of, total_of, file_limit, with_text, total_limit}
+use Rattle.jr_sources.specs.Sources.{texts_of, total_of, file_limit, with_text, total_limit}
 use Rattle.jr_session.specs.Splicing.{WouldBeTooLong}
 use Rattle.jr_session.specs.Lengths.{AreTooLong}
 use Rattle.jr_session.proofs.LengthLaws.{old_counted, total_with, within_with, first_too_long, total_small}

@@ -1,7 +1,7 @@
 use Rattle.std.proofs.Common.{◌≡◌, ℕ, List, set, sym, ap, subst, ◌∙◌}
-use Rattle.jr_session.specs.Sources.{Source, texts_of}
-use Rattle.jr_session.specs.Kept.{AreReadings}
-use Rattle.jr_session.proofs.SourceLaws.{texts-with_text}
+use Rattle.jr_sources.specs.Sources.{Source, texts_of}
+use Rattle.jr_sources.specs.KeptReadings.{AreReadings}
+use Rattle.jr_sources.proofs.SourceLaws.{texts-with_text}
 use Rattle.jr_session.proofs.KeptLaws.{read_anew}
 use Rattle.jr_session.proofs.turns.exchange.Goals as goal
 

@@ -1,7 +1,8 @@
+use Rattle.std.proofs.Common.{inl, refl}
 use Rattle.jr_shelf.specs.Counts.{Rose}
 use Rattle.jr_words.specs.Asked.{operand_of}
 use Rattle.jr_words.specs.Words.{run}
-use Rattle.jr_top.proofs.Ending.{ends_unread, script_unread, where_failed, where_missed}
+use Rattle.jr_top.proofs.EarlyEnds.{ends_unread, script_unread, where_failed, where_missed}
 use Rattle.jr_top.proofs.scripts.read_steps.Goals as goal
 
 pub returns-in-Err-Failed-clause-err : goal.returns-in-Err-Failed-clause-err
@@ -12,4 +13,4 @@ returns-in-Err-Failed-clause-err g c = λ out files.
     (where_failed c.fetch.result (Rose (g.S.Shelf.faults c.args.shelf.now) (g.S.Shelf.faults c.fetch.new.self)) c.in-Err-Failed.field-0 is c.in-Err-Failed.ensures.failed)
     (where_missed c.fetch.result (g.S.Shelf.holds c.args.shelf.now) (g.S.Shelf.missed c.args.shelf.now) (g.S.Shelf.missed c.fetch.new.self) c.args.script.now.text.now c.in-Err-Failed.field-0 is c.in-Err-Failed.ensures.missed)
     c.in-Err-Failed.ensures.served)
-    c.in-Err-Failed.ensures.keeps c.in-Err-Failed.ensures.faults
+    (inl refl) c.in-Err-Failed.ensures.keeps c.in-Err-Failed.ensures.faults

@@ -5,7 +5,7 @@ use Rattle.jr_pexpr.specs.Marked.{join}
 use Rattle.jr_pexpr.specs.TokenView.{token_view}
 use Rattle.jr_punit.specs.ClassMachine as Classes
 use Rattle.jr_punit.specs.ClassView.{class_head, top_read, member_state, class_state}
-use Rattle.jr_punit.specs.InPlace.{GoesTo}
+use Rattle.jr_pstmt.specs.InPlace.{GoesTo}
 use Rattle.jr_punit.specs.UnitMachine as Units
 use Rattle.jr_punit.specs.MemberMachine as Members
 use Rattle.jr_punit.proofs.ClassSteps.{top_goes}

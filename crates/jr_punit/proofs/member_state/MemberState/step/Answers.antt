@@ -3,11 +3,11 @@ use Rattle.jr_pexpr.specs.Marked.{join}
 use Rattle.jr_pexpr.specs.TokenView.{token_view}
 use Rattle.jr_punit.specs.OwnView.{own_state}
 use Rattle.jr_punit.specs.ClassView.{member_state, begins_class}
-use Rattle.jr_punit.specs.InPlace.{GoesTo}
+use Rattle.jr_pstmt.specs.InPlace.{GoesTo}
 use Rattle.jr_punit.specs.MemberMachine as machine
-use Rattle.jr_punit.specs.OwnMachine as Own
+use Rattle.jr_pstmt.specs.OwnMachine as Own
 use Rattle.jr_punit.proofs.ClassSteps.{own_goes}
-use Rattle.jr_punit.proofs.InPlace.{goes_within}
+use Rattle.jr_pstmt.proofs.InPlace.{goes_within}
 use Rattle.jr_punit.proofs.member_state.MemberState.step.Goals as goal
 
 pub returns-else-begins : goal.returns-else-begins

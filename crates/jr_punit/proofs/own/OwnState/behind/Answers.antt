@@ -1,10 +1,10 @@
 use Rattle.std.proofs.Common.{◌∙◌, sym, ap, subst}
 use Rattle.jr_pexpr.specs.Marked.{join}
 use Rattle.jr_pexpr.specs.TokenView.{token_view}
-use Rattle.jr_punit.specs.TypeStateView.{type_state}
+use Rattle.jr_pstmt.specs.TypeStateView.{type_state}
 use Rattle.jr_punit.specs.LeadView.{lead_view}
 use Rattle.jr_punit.specs.OwnView.{own_state, IsNextOwn}
-use Rattle.jr_punit.specs.OwnMachine as M
+use Rattle.jr_pstmt.specs.OwnMachine as M
 use Rattle.jr_punit.proofs.own.OwnState.behind.Goals as goal
 
 pub returns-in-InType : goal.returns-in-InType

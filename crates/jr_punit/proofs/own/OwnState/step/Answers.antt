@@ -1,13 +1,13 @@
 use Rattle.std.proofs.Common.{◌∙◌, sym, ap, subst}
 use Rattle.jr_pexpr.specs.Marked.{join}
 use Rattle.jr_pexpr.specs.TokenView.{token_view}
-use Rattle.jr_punit.specs.InPlace.{GoesTo}
-use Rattle.jr_punit.specs.ListView.{list_state}
+use Rattle.jr_pstmt.specs.InPlace.{GoesTo}
+use Rattle.jr_pstmt.specs.ListView.{list_state}
 use Rattle.jr_punit.specs.HeadView.{body_view}
 use Rattle.jr_punit.specs.OwnView.{own_state}
-use Rattle.jr_punit.specs.OwnMachine as machine
+use Rattle.jr_pstmt.specs.OwnMachine as machine
 use Rattle.jr_punit.proofs.OwnSteps.{body_goes}
-use Rattle.jr_punit.proofs.InPlace.{goes_within}
+use Rattle.jr_pstmt.proofs.InPlace.{goes_within}
 use Rattle.jr_punit.proofs.own.OwnState.step.Goals as goal
 
 pub returns-else-ends_body : goal.returns-else-ends_body

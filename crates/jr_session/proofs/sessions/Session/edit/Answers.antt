@@ -3,7 +3,7 @@ use Rattle.jr_text.specs.Spans.{CanCut}
 use Rattle.jr_names.specs.declared.steps.Step.TheVariants as step
 use Rattle.jr_names.specs.Replies.{edited, refused}
 use Rattle.jr_names.specs.Refusals.{bad_span, too_long}
-use Rattle.jr_session.specs.Sources.{Source, texts_of, HasName, LacksFile}
+use Rattle.jr_sources.specs.Sources.{Source, texts_of, HasName, LacksFile}
 use Rattle.jr_session.specs.States.{State}
 use Rattle.jr_session.specs.Splicing.{IsSpliced, CanBecome, CanNotCut, WouldBeTooLong}
 use Rattle.jr_session.specs.Refusing.{CutsBadly, IsFirstRefusal}

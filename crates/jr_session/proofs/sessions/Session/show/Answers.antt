@@ -5,9 +5,9 @@ use Rattle.jr_names.specs.Replies.{refused, shown as shown_reply}
 use Rattle.jr_names.specs.ReplyView.{reply_of}
 use Rattle.jr_names.specs.Refusals.{report_full}
 use Rattle.jr_shown.specs.Lines.{bytes_of}
-use Rattle.jr_session.specs.declared.analyses.SourceFault.{SourceFault}
-use Rattle.jr_session.specs.Analysed.{IsAnalysis, IsFilled, IsSourceFault}
-use Rattle.jr_session.specs.Sources.{HasName}
+use Rattle.jr_sources.specs.declared.analyses.SourceFault.{SourceFault}
+use Rattle.jr_sources.specs.Analysed.{IsAnalysis, IsFilled, IsSourceFault}
+use Rattle.jr_sources.specs.Sources.{HasName}
 use Rattle.jr_session.specs.States.{State}
 use Rattle.jr_session.specs.Stepping.{Steps}
 use Rattle.jr_session.specs.Work.{IsWithinWork}
@@ -50,7 +50,7 @@ returns-then-len-gt-MAX_SHOWN_LEN-clause-step g c =
     let is : IsAnalysis c.self.inside.sources kept.0 = c.keep_analysis.ensures.kept kept.0 kept.1 in
     let e : c.in-Some-shown_with.len ≡ c.self.inside.shown + bytes_of c.in_ok-lines.lines.items = c.in-Some-shown_with.ensures ∙ ap (λ ls. c.self.inside.shown + bytes_of ls) c.as_slice.ensures.value in
     subst (λ (s : State). Steps s (the_show c.args.file.now) (refused (report_full c.in-Some-shown_with.len)) (state_of c.self.inside.sources c.self.inside.undo.items c.self.inside.redo.items c.self.inside.shown)) c.self.view_is
-    (full_step c.self.inside.sources c.self.inside.undo.items c.self.inside.redo.items c.self.inside.shown c.args.file.now c.in-Some.number named c.in-Some.ensures.valid.differ c.text_has_one_reading.ensures c.one_answer.ensures.items c.lines_are_told.ensures kept.0 is c.in_ok-lines.lines.items c.in_ok-lines.ensures c.in-Some-shown_with.len c.if-len-gt-MAX_SHOWN_LEN.true e)
+    (full_step c.self.inside.sources c.self.inside.undo.items c.self.inside.redo.items c.self.inside.shown c.args.file.now c.in-Some.number named c.in-Some.ensures.valid.differ c.text_has_one_reading.ensures c.step_has_one_answer.ensures.lines kept.0 is c.in_ok-lines.lines.items c.in_ok-lines.ensures c.in-Some-shown_with.len c.if-len-gt-MAX_SHOWN_LEN.true e)
 
 pub returns-then-len-gt-MAX_SHOWN_LEN-clause-work : goal.returns-then-len-gt-MAX_SHOWN_LEN-clause-work
 returns-then-len-gt-MAX_SHOWN_LEN-clause-work g c = subst (λ (s : State). IsWithinWork s (the_show c.args.file.now) c.args.steps.now c.keep_analysis.new.steps) c.self.view_is
@@ -65,7 +65,7 @@ returns-clause-step g c =
     let now : State = state_of c.self.inside.sources c.self.inside.undo.items c.self.inside.redo.items c.in-Some-shown_with.len in
     subst (λ lines. Steps c.args.self.now (the_show c.args.file.now) (shown_reply lines) now) (sym c.from_vec.ensures)
     (subst (λ (s : State). Steps s (the_show c.args.file.now) (shown_reply c.in_ok-lines.lines.items) now) c.self.view_is
-    (lines_step c.self.inside.sources c.self.inside.undo.items c.self.inside.redo.items c.self.inside.shown c.args.file.now c.in-Some.number named c.in-Some.ensures.valid.differ c.text_has_one_reading.ensures c.one_answer.ensures.items c.lines_are_told.ensures kept.0 is c.in_ok-lines.lines.items c.in_ok-lines.ensures c.in-Some-shown_with.len c.if-len-gt-MAX_SHOWN_LEN.false e))
+    (lines_step c.self.inside.sources c.self.inside.undo.items c.self.inside.redo.items c.self.inside.shown c.args.file.now c.in-Some.number named c.in-Some.ensures.valid.differ c.text_has_one_reading.ensures c.step_has_one_answer.ensures.lines kept.0 is c.in_ok-lines.lines.items c.in_ok-lines.ensures c.in-Some-shown_with.len c.if-len-gt-MAX_SHOWN_LEN.false e))
 
 pub returns-clause-work : goal.returns-clause-work
 returns-clause-work g c = subst (λ (s : State). IsWithinWork s (the_show c.args.file.now) c.args.steps.now c.keep_analysis.new.steps) c.self.view_is

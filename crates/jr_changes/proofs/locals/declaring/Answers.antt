@@ -1,0 +1,22 @@
+use Rattle.std.proofs.Common.{ap, ◌∙◌, refl}
+use Rattle.jr_text.specs.declared.spans.Span.{Span}
+use Rattle.jr_ast.specs.View.{word_of}
+use Rattle.jr_respell.specs.ChoiceView.{choice_of}
+use Rattle.jr_renaming.specs.Effects.{both}
+use Rattle.jr_renaming.specs.OutputView as out
+use Rattle.jr_renaming.specs.OutputView.{gathered}
+use Rattle.jr_gather.proofs.Oks.{on_ok}
+use Rattle.jr_rewrite.specs.Rewritten.{word_out}
+use Rattle.jr_changes.proofs.locals.declaring.Goals as goal
+
+pub returns : goal.returns
+returns g c =
+    let T = g.A.Mark.span_from in
+    let old = gathered c.args.out.now in
+    let w = word_of c.args.name.now in
+    let ch = choice_of c.in_ok-choice.choice in
+    on_ok c.put_alone.result (λ e. λ s. (
+      word_out T ch c.args.at w,
+      (ch, c.in_ok-choice.ensures, refl),
+      e ∙ ap (λ (z : Span). both old (out.alone ch z)) c.span-word.ensures,
+    )) c.put_alone.ensures

@@ -1,0 +1,36 @@
+use Rattle.std.proofs.Common.{◌+◌, ◌*◌, ◌≡◌, drop, length}
+use Rattle.jr_ast.specs.View.{stmt_of, stmts_of, else_of}
+use Rattle.jr_ast.proofs.Sizes.{stmt_size, stmts_size, else_size}
+use Rattle.jr_renaming.specs.OutputView.{gathered}
+use Rattle.jr_gather.specs.Known.{context_of}
+use Rattle.jr_changes.specs.Moves.{own_key}
+use Rattle.jr_changes.proofs.Bodying.{Going}
+use Rattle.jr_changes.proofs.statements.+stmt_walk.Given as goal
+
+abbrev pub decreases-stmt : goal.decreases-stmt
+decreases-stmt g l = 5 * stmt_size (stmt_of l.of.now)
+
+abbrev pub decreases-branch : goal.decreases-branch
+decreases-branch g l = 5 * (stmt_size (stmt_of l.yes.now) + else_size (else_of l.no.now)) + 3
+
+abbrev pub decreases-turns : goal.decreases-turns
+decreases-turns g l = 5 * stmt_size (stmt_of l.body.now) + 2
+
+abbrev pub decreases-sync : goal.decreases-sync
+decreases-sync g l = 5 * stmts_size (stmts_of l.body.now) + 3
+
+abbrev pub decreases-inner : goal.decreases-inner
+decreases-inner g l = 5 * stmt_size (stmt_of l.of.now) + 1
+
+abbrev pub decreases-otherwise : goal.decreases-otherwise
+decreases-otherwise g l = 5 * else_size (else_of l.of.now) + 2
+
+abbrev pub decreases-stmts : goal.decreases-stmts
+decreases-stmts g l = 5 * stmts_size (stmts_of l.body.now) + 2
+
+abbrev pub invariant-stmts-loop-of : goal.invariant-stmts-loop-of
+invariant-stmts-loop-of g l = record {
+  depth : l.depth ≡ length (context_of l.fn.here).locals;
+  own : (context_of l.fn.here).own ≡ own_key (context_of l.fn.here).member l.own;
+  going : Going g.A.Mark.span_from g.A.Mark.fits_at l.number l.fn.here l.path.steps.items l.at (stmts_of l.body) (gathered l.fn.out) l.after l.here l.step (gathered l.out) (stmts_of (drop l.of-index l.body));
+}

@@ -1,0 +1,4 @@
+pub mod Bodies
+pub mod Moves
+pub mod Ready
+pub mod Locals

@@ -1,0 +1,15 @@
+mod Nowhere
+mod Least
+mod Contexts
+mod WalkLaws
+mod NamedLaws
+mod Scoping
+mod Params
+mod Leaves
+mod Codes
+mod Parts
+mod Programs
+mod RowLaws
+mod Listing
+mod Loops
+mod Measures

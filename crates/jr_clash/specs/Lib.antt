@@ -1,0 +1,5 @@
+pub mod ProgramClashes
+pub mod Walks
+pub mod LocalAnswers
+pub mod Answered
+pub mod RowAnswers

@@ -1,0 +1,13 @@
+mod WrittenTypes
+mod Objects
+mod Renamed
+mod ItemsBeside
+mod Initializers
+mod TreesBeside
+mod SitesBeside
+mod NewAgreeing
+mod NewRows
+mod MembersBeside
+mod NewNames
+mod NewClean
+mod Whole

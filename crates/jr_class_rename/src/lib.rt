@@ -1,0 +1,6 @@
+//! The program that the renaming of a class makes.
+#![tactic(auto)]
+
+mod laws;
+
+pub use laws::classes_give_images;

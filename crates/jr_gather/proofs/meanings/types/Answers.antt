@@ -1,0 +1,16 @@
+use Rattle.std.proofs.Common.{None, Some, ap, sym, ◌∙◌}
+use Rattle.std.specs.Prelude.{option_map}
+use Rattle.jr_gather.specs.Known.{context_of}
+use Rattle.jr_gather.specs.MeaningView.{types_of}
+use Rattle.jr_gather.proofs.Typed.{are_types}
+use Rattle.jr_gather.proofs.meanings.types.Goals as goal
+
+pub returns-in-None : goal.returns-in-None
+returns-in-None g c =
+    are_types c.args.here.now (context_of c.args.here.now) c.args.path.now.steps.items c.args.parts.now c.args.first c.requires.types _
+    (ap (option_map (λ v. types_of v.items)) (sym c.in-None.is) ∙ c.in_ok-types.ensures)
+
+pub returns-in-Some : goal.returns-in-Some
+returns-in-Some g c =
+    are_types c.args.here.now (context_of c.args.here.now) c.args.path.now.steps.items c.args.parts.now c.args.first c.requires.types _
+    (ap Some c.from_vec.ensures ∙ ap (option_map (λ v. types_of v.items)) (sym c.in-Some.is) ∙ c.in_ok-types.ensures)

@@ -1,0 +1,15 @@
+pub mod Lasts
+pub mod Scoped
+pub mod Numbers
+pub mod TypeTests
+pub mod Abouting
+pub mod Adding
+pub mod Naming
+pub mod Showing
+pub mod Rowing
+pub mod Meant
+pub mod Noted
+pub mod Steps
+pub mod Oks
+pub mod TypedParts
+pub mod TypedKinds

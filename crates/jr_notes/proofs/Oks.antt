@@ -1,0 +1,12 @@
+-- Two clauses of one result.
+use Rattle.std.specs.Prelude.{Result, Ok, Err}
+use Rattle.std.specs.Result.{IfOk}
+
+pub IfOk-both : {X E : Type 0} (r : Result X E) (P Q R : X → Type 0) → ((x : X) → P x → Q x → R x) → IfOk r P → IfOk r Q → IfOk r R
+IfOk-both (Ok x) P Q R f p q = f x p q
+IfOk-both (Err e) P Q R f p q = tt
+
+-- what is so whatever the value is
+pub IfOk-any : {X E : Type 0} (r : Result X E) (P : Type 0) → P → IfOk r (λ _. P)
+IfOk-any (Ok x) P p = p
+IfOk-any (Err e) P p = tt

@@ -1,0 +1,11 @@
+pub mod Places
+pub mod Findings
+pub mod Numbered
+pub mod ArgsView
+pub mod Abouts
+pub mod Means
+pub mod Logs
+pub mod Fits
+pub mod Named
+pub mod Arms
+pub mod TypedSlots

@@ -1,0 +1,5 @@
+mod Giving
+mod Finding
+mod Resting
+mod Standing
+mod Placing

@@ -1,0 +1,235 @@
+-- A written member of a program has all that a walk over it rests on.
+use Rattle.std.proofs.Common.{◌≡◌, ℕ, zero, suc, ◌+◌, ◌-◌, ◌<◌, ◌≤◌, List, [], ◌∷◌, Option, Some, None, Bool, true, false, length, map, get_or, nat_lt, refl, sym, ap, subst, ◌∙◌, inl, inr, arith}
+use Rattle.std.specs.Prelude.{◌⊎◌, ◌↔◌, slice_get, Contains, option_map, if◌then◌else◌}
+use Rattle.std.proofs.lemmas.Bool.{le-ltb}
+use Rattle.std.proofs.lemmas.Option.{none-some, same_Some, slice_get-map, slice_get_within, slice_get-get_or, get_or_from_slice_get}
+use Rattle.jr_text.specs.declared.spans.Span.{Span}
+use Rattle.jr_lex.specs.declared.items.Item.{Item}
+use Rattle.jr_lex.specs.declared.items.TokenKind.TheVariants as token
+use Rattle.jr_lex.specs.declared.items.Keyword.TheVariants as keyword
+use Rattle.jr_lex.specs.Lexes.{Lexes}
+use Rattle.jr_ast.specs.MemberTree as syntax
+use Rattle.jr_grammar.specs.Layout.{Layouts, itself, all_spans_from}
+use Rattle.jr_grammar.specs.MemberLayout.{unit_layouts}
+use Rattle.jr_grammar.specs.Reads.{ReadsWithSpans}
+use Rattle.jr_grammar.specs.Stands.{StandInOrder}
+use Rattle.jr_grammar.specs.Tokens.{placed_of}
+use Rattle.jr_grammar.proofs.Layouts.{all_spans_from-span}
+use Rattle.jr_table.specs.Keys.{ClassKey}
+use Rattle.jr_table.specs.Decls.{MemberKey, head, Decl}
+use Rattle.jr_table.specs.Rows.{Row}
+use Rattle.jr_table.specs.Sites.{sites_of}
+use Rattle.jr_table.specs.LookupLaws.{OneAnswer}
+use Rattle.jr_table.specs.Errors.{Part, class_part, member_part, part_mark, Binds, Breaks, InClasses, InClass, InMembers, InInner}
+use Rattle.jr_table.specs.declared.rules.Rule.{Rule}
+use Rattle.jr_members.specs.WrittenMembers.{WrittenMember, written_members}
+use Rattle.jr_members.specs.WrittenLaws.{AreWritten, IsWritten, MembersAreWritten}
+use Rattle.jr_members.proofs.Anywhere.{found_classes, written_member}
+use Rattle.jr_bind.specs.Bounds.{Bound, IsBound, decl_in}
+use Rattle.jr_bind.specs.Programs.{File, Program, IsProgram, AreBound, HasSuperPlace, units_of}
+use Rattle.jr_bind.specs.SuperPlaces as bind
+use Rattle.jr_places.specs.FileParts.{begins, HasTokenAt, IsSuperAt, SuperStands}
+use Rattle.jr_places.specs.PlaceLaws.{IsFile, IsPart, IsPlaced, Owns, PartsArePlaced}
+use Rattle.jr_gather.specs.Known.{found_in}
+use Rattle.jr_sites.specs.FoundTypes.{DeclaredTypesAreFound}
+use Rattle.jr_parts.specs.Ready.{Anywhere, IsReady, IsFirstSuper, PartReady}
+use Rattle.jr_parts.proofs.Resting.{IsKeyed, StandsIn, part_ready}
+
+pub at_contains : {X : Type 0} (xs : List X) (n : ℕ) (x : X) → slice_get xs n ≡ Some x → Contains xs x
+at_contains xs n x e = (n, slice_get_within xs n x e, get_or_from_slice_get xs n x x e)
+
+map_some : {X Y : Type 0} (f : X → Y) (o : Option X) (y : Y) → option_map f o ≡ Some y → (x : X) × (o ≡ Some x) × (f x ≡ y)
+map_some f None y e = absurd (none-some y e)
+map_some f (Some x) y e = (x, refl, same_Some (f x) y e)
+
+-- ---- a file of a program
+
+marked_file : (units : List (syntax.Unit Span)) (file : ℕ) (text : List ℕ) (u : syntax.Unit Span) → slice_get units file ≡ Some u
+    → (r : ReadsWithSpans itself text u) → IsFile units file text r.items
+marked_file units file text u e r = record {
+  unit = u;
+  stands = e;
+  lexes = r.lexes;
+  is = record {
+    shaped = r.is.shaped;
+    spells = r.is.spells;
+    marks = subst (λ (ys : Layouts Span). StandInOrder ys (placed_of text r.items)) (all_spans_from-span 0 (unit_layouts u)) r.spans;
+    file = r.file;
+  };
+}
+
+-- ---- where a written `super(..)` stands
+
+begins_super : (items : List Item) (at : ℕ) → bind.BeginsSuper items at → HasTokenAt items (token.Keyword keyword.Super) at
+begins_super items at h = record { number = h.number; token = h.token; stands = h.stands; is = h.is; place = h.place }
+
+super_begins : (items : List Item) (at : ℕ) → HasTokenAt items (token.Keyword keyword.Super) at → bind.BeginsSuper items at
+super_begins items at h = record { number = h.number; token = h.token; stands = h.stands; is = h.is; place = h.place }
+
+super_at : (items : List Item) (span : Span) (at : ℕ) → bind.IsSuperAt items span at → IsSuperAt items span at
+super_at items span at h = record { there = begins_super items at h.there; within = h.within; first = λ other t from. h.first other (super_begins items other t) from }
+
+super_stands : (items : List Item) (part : Part Span) (at : ℕ) → (bind.writes_super part ≡ true → bind.IsSuperAt items (part_mark part) at) → SuperStands items part at
+super_stands items (class_part c) at h = tt
+super_stands items (member_part (syntax.field m mods t w init)) at h = tt
+super_stands items (member_part (syntax.method m mods t w ps body)) at h = tt
+super_stands items (member_part (syntax.constructor m mods w ps None body)) at h = tt
+super_stands items (member_part (syntax.constructor m mods w ps (Some args) body)) at h = super_at items m at (h refl)
+super_stands items (member_part (syntax.inner m of)) at h = tt
+
+-- one first word at most
+pub one_super : (items : List Item) (span : Span) (a b : ℕ) → IsSuperAt items span a → bind.IsSuperAt items span b → a ≡ b
+one_super items span a b x y =
+    let up = x.first b (begins_super items b y.there) y.within.0 in
+    let down = y.first a (super_begins items a x.there) x.within.0 in
+    omega (arith, up, down)
+
+owns_from : (part : Part Span) (at : ℕ) → Owns part at → (part_mark part).from ≤ at
+owns_from (class_part (syntax.class m mods w t ms)) at h = h.0.0
+owns_from (member_part x) at h = h.0
+
+-- ---- keys of written parts
+
+module _ (units : List (syntax.Unit Span)) (b : ℕ) (part : Part Span) where
+  abbrev IsThere : MemberKey → (base : ℕ) → Part Span → Type 0
+  IsThere k base q = (base ≡ b) × (q ≡ part)
+
+  mutual
+    unfolding InClass InMembers InInner
+
+    class_keyed : (base : ℕ) (outer : Option (List ℕ)) (c : syntax.Class Span) (k : MemberKey) → InClass begins (sites_of begins units) IsThere base outer c k → IsKeyed k part
+    class_keyed base outer (syntax.class m mods w t ms) k (inl (e, (at, is))) = subst (IsKeyed k) is (record { outer = outer; name = w.text }, e, refl)
+    class_keyed base outer (syntax.class m mods w t ms) k (inr h) = members_keyed (begins m base) (record { outer = outer; name = w.text }) ms k h
+
+    members_keyed : (base : ℕ) (of : ClassKey) (xs : syntax.Members Span) (k : MemberKey) → InMembers begins (sites_of begins units) IsThere base of xs k → IsKeyed k part
+    members_keyed base of syntax.end k h = absurd h
+    members_keyed base of (syntax.more (syntax.field m mods t w init) xs) k (inl (inl (d, (at, is)))) = subst (IsKeyed k) is tt
+    members_keyed base of (syntax.more (syntax.method m mods t w ps body) xs) k (inl (inl (d, (at, is)))) = subst (IsKeyed k) is tt
+    members_keyed base of (syntax.more (syntax.constructor m mods w ps args body) xs) k (inl (inl (d, (at, is)))) = subst (IsKeyed k) is tt
+    members_keyed base of (syntax.more (syntax.inner m c) xs) k (inl (inl (d, h))) = absurd d
+    members_keyed base of (syntax.more x xs) k (inl (inr h)) = inner_keyed base of x k h
+    members_keyed base of (syntax.more x xs) k (inr h) = members_keyed base of xs k h
+
+    inner_keyed : (base : ℕ) (of : ClassKey) (x : syntax.Member Span) (k : MemberKey) → InInner begins (sites_of begins units) IsThere base of x k → IsKeyed k part
+    inner_keyed base of (syntax.inner m c) k h = class_keyed (begins m base) (Some of.name) c k h
+    inner_keyed base of (syntax.field m mods t w init) k h = absurd h
+    inner_keyed base of (syntax.method m mods t w ps body) k h = absurd h
+    inner_keyed base of (syntax.constructor m mods w ps args body) k h = absurd h
+
+  classes_keyed : (base : ℕ) (cs : List (syntax.Class Span)) (k : MemberKey) → InClasses begins (sites_of begins units) IsThere base cs k → IsKeyed k part
+  classes_keyed base [] k h = absurd h
+  classes_keyed base (c ∷ cs) k (inl h) = class_keyed base None c k h
+  classes_keyed base (c ∷ cs) k (inr h) = classes_keyed base cs k h
+
+-- ---- members with what is known of them
+
+pub bound_at : (rows : List Row) (places : MemberKey → ℕ) (ws : List (WrittenMember Span)) (bs : List Bound) → AreBound itself (λ m b. Unit {0}) rows places ws bs
+    → (n : ℕ) (w : WrittenMember Span) → slice_get ws n ≡ Some w → (b : Bound) × (slice_get bs n ≡ Some b) × IsBound begins rows (places w.key) w.key w.base w.part b
+bound_at rows places [] bs h n w e = absurd (none-some w e)
+bound_at rows places (x ∷ ws) [] h n w e = absurd h
+bound_at rows places (x ∷ ws) (b ∷ bs) h zero w e = (b, refl, subst (λ (z : WrittenMember Span). IsBound begins rows (places z.key) z.key z.base z.part b) (same_Some x w e) h.0)
+bound_at rows places (x ∷ ws) (b ∷ bs) h (suc n) w e = bound_at rows places ws bs h.1 n w e
+
+found_behind : (b : Bound) (from at : ℕ) (d : Decl) → from ≤ at → decl_in b.references (at - from) ≡ Some d → found_in b from at ≡ Some d
+found_behind b from at d le is =
+    let past : nat_lt at from ≡ false = le-ltb at from le in
+    ap (λ (t : Bool). if t then None else decl_in b.references (at - from)) past ∙ is
+
+stands_in : (p : Program Span) (w : WrittenMember Span) → HasSuperPlace itself (λ m b. Unit {0}) p w → StandsIn p w.file w.part (p.super_at w.key)
+stands_in p w has = by w.part has
+  where
+    by : (part : Part Span) → (bind.writes_super part ≡ true → (f : File Span) → slice_get p.files w.file ≡ Some f → (items : List Item) → Lexes f.text items
+        → bind.IsSuperAt items (part_mark part) (p.super_at w.key)) → StandsIn p w.file part (p.super_at w.key)
+    by (class_part c) h = tt
+    by (member_part (syntax.field m mods t v init)) h = tt
+    by (member_part (syntax.method m mods t v ps body)) h = tt
+    by (member_part (syntax.constructor m mods v ps None body)) h = tt
+    by (member_part (syntax.constructor m mods v ps (Some args) body)) h = h refl
+    by (member_part (syntax.inner m of)) h = tt
+
+module _ (p : Program Span) (is : IsProgram itself (λ m b. Unit {0}) p) (written : MembersAreWritten Span) (placed : PartsArePlaced) (one : OneAnswer) (found : DeclaredTypesAreFound Span) where
+  abbrev units : List (syntax.Unit Span)
+  units = units_of p
+
+  abbrev pub ws : List (WrittenMember Span)
+  ws = written_members begins p.rows units
+
+  law : AreWritten begins units p.rows ws
+  law = written begins units p.rows is.are_rows is.rows
+
+  module _ (w : WrittenMember Span) (has : Contains ws w) where
+    wr : IsWritten begins units w.file w.key w.base w.part
+    wr = law.each w has
+
+    file_of : (f : File Span) × (slice_get p.files w.file ≡ Some f) × (f.unit ≡ wr.unit)
+    file_of = map_some (λ (x : File Span). x.unit) (slice_get p.files w.file) wr.unit (sym (slice_get-map (λ (x : File Span). x.unit) p.files w.file) ∙ wr.stands)
+
+    pub is_file : w.file < length p.files
+    is_file = slice_get_within p.files w.file file_of.0 file_of.1
+
+    there : IsPlaced p.rows (subst (λ (u : syntax.Unit Span). ReadsWithSpans itself file_of.0.text u) file_of.2 (is.reads w.file file_of.0 file_of.1)).items (p.super_at w.key) w.key w.base w.part
+    there =
+        let f = file_of in
+        let r = subst (λ (u : syntax.Unit Span). ReadsWithSpans itself f.0.text u) f.2 (is.reads w.file f.0 f.1) in
+        let file = marked_file units w.file f.0.text wr.unit wr.stands r in
+        let Is : MemberKey → (base : ℕ) → Part Span → Type 0 = λ l b q. (l ≡ w.key) × (b ≡ w.base) × (q ≡ w.part) in
+        let part : IsPart units w.file w.key w.base w.part = record {
+          unit = wr.unit;
+          stands = wr.stands;
+          member = w.key;
+          has = found_classes begins (sites_of begins units) Is w.base w.part (begins wr.unit.mark 0) wr.unit.classes w.key (refl, refl, refl) wr.writes;
+        } in
+        let stands = super_stands r.items w.part (p.super_at w.key) (λ e. is.supers w has e f.0 f.1 r.items r.lexes) in
+        placed units w.file f.0.text r.items file w.key w.base w.part part (p.super_at w.key) stands p.rows
+
+    abbrev start : ℕ
+    start = (part_mark w.part).from
+
+    back : (at : ℕ) → start ≤ at → start + (at - start) ≡ at
+    back at le = omega (arith, le)
+
+    sound_at : (at : ℕ) (r : Rule) → Breaks begins p.rows (p.super_at w.key) w.key w.base w.part at r → ⊥
+    sound_at at r h =
+        let le = owns_from w.part at (there.breaks_within at r h) in
+        is.sound w.key (record { at = at - start; rule = r })
+        (written_member begins units (λ k base q. Breaks begins p.rows (p.super_at k) k base q (begins (part_mark q) base + (at - start)) r) w.file w.key w.base w.part wr
+        (subst (λ (i : ℕ). Breaks begins p.rows (p.super_at w.key) w.key w.base w.part i r) (sym (back at le)) h))
+
+    refers_at : (b : Bound) → IsBound begins p.rows (p.super_at w.key) w.key w.base w.part b → (at : ℕ) (d : Decl) → Binds begins p.rows (p.super_at w.key) w.key w.base w.part at d
+        → found_in b start at ≡ Some d
+    refers_at b bound at d h =
+        let le = owns_from w.part at (there.binds_within at d h) in
+        found_behind b start at d le ((bound.declarations (at - start) d).1 (subst (λ (i : ℕ). Binds begins p.rows (p.super_at w.key) w.key w.base w.part i d) (sym (back at le)) h))
+
+    pub is_ready : (b : Bound) → IsBound begins p.rows (p.super_at w.key) w.key w.base w.part b → IsReady p.rows b start (p.super_at w.key) w.key w.base w.part
+    is_ready b bound = record {
+      fits = is.members_fit w has;
+      sound = sound_at;
+      refers = refers_at b bound;
+      types = bound.types;
+      found = found begins [] p.rows units is.are_rows is.rows is.clean w has;
+    }
+
+    pub ready : (b : Bound) → IsBound begins p.rows (p.super_at w.key) w.key w.base w.part b → PartReady p w.file p.rows b start w.key w.part
+    ready b bound =
+        part_ready p w.file p.rows (one p.rows is.are_rows) b start w.key w.base w.part (classes_keyed units w.base w.part (begins wr.unit.mark 0) wr.unit.classes w.key wr.writes) (is_ready b bound) (stands_in p w (is.supers w has))
+
+-- ---- the text of a file, and where a word `super` stands in it
+
+pub lexed : (p : Program Span) (file : ℕ) (text : List ℕ) → option_map (λ (f : File Span). f.text) (slice_get p.files file) ≡ Some text → IsProgram itself (λ m b. Unit {0}) p → (items : List Item) × Lexes text items
+lexed p file text is program =
+    let f = map_some (λ (x : File Span). x.text) (slice_get p.files file) text is in
+    let r = program.reads file f.0 f.1 in
+    (r.items, subst (λ (t : List ℕ). Lexes t r.items) f.2 r.lexes)
+
+module _ (p : Program Span) (file : ℕ) (span : Span) (text : List ℕ) (items : List Item) (is : option_map (λ (f : File Span). f.text) (slice_get p.files file) ≡ Some text) (lexes : Lexes text items) where
+  stands_there : (n : ℕ) → IsFirstSuper p file span n → bind.IsSuperAt items span n
+  stands_there n first =
+      let f = map_some (λ (x : File Span). x.text) (slice_get p.files file) text is in
+      first f.0 f.1 items (subst (λ (t : List ℕ). Lexes t items) (sym f.2) lexes)
+
+  pub no_super : (n at : ℕ) → ((other : ℕ) → IsSuperAt items span other → ⊥) → IsFirstSuper p file span n → at ≡ n
+  no_super n at none first = absurd (none n (super_at items span n (stands_there n first)))
+
+  pub the_super : (n at : ℕ) → IsSuperAt items span at → IsFirstSuper p file span n → at ≡ n
+  the_super n at here first = one_super items span at n here (stands_there n first)

@@ -1,0 +1,14 @@
+use Rattle.std.proofs.Common.{subst}
+use Rattle.std.proofs.lemmas.Result.{IfOk-weaker}
+use Rattle.jr_ast.specs.View.{word_of}
+use Rattle.jr_table.specs.Keys.{ClassKey}
+use Rattle.jr_table.specs.Decls.{class_decl}
+use Rattle.jr_renaming.specs.OutputView.{gathered}
+use Rattle.jr_parts.specs.Walking.{rows_of, naming_of}
+use Rattle.jr_parts.specs.Gathered.{WordGathers}
+use Rattle.jr_parts.proofs.words.class_word.Goals as goal
+
+pub returns : goal.returns
+returns c =
+    let w = c.args.of.now in
+    IfOk-weaker c.declared_word.result _ _ (λ _ y. subst (λ (j : ClassKey). WordGathers (rows_of w) (naming_of w) (class_decl j) (word_of c.args.name.now) (gathered c.args.out.now) (gathered c.declared_word.new.out)) c.in_ok-copy.ensures y) c.declared_word.ensures

@@ -1,0 +1,5 @@
+pub mod Parts
+pub mod Walking
+pub mod Ready
+pub mod Gathered
+pub mod Supers

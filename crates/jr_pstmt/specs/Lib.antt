@@ -1,0 +1,17 @@
+pub mod Cues
+pub mod CueView
+pub mod CueTests
+pub mod Inside
+pub mod InPlace
+pub mod TypeMachine
+pub mod TypeStateView
+pub mod ArgumentMachine
+pub mod ParameterMachine
+pub mod StatementMachine
+pub mod FrameView
+pub mod Blocks
+pub mod PlaceView
+pub mod ListView
+pub mod OwnMachine
+pub mod StatementView
+pub mod Slots

@@ -1,5 +1,0 @@
-//! What was made, or want of memory.
-use std::alloc::AllocError;
-
-/// What a call makes that may want memory.
-pub(crate) type Made<T> = Result<T, AllocError>;

@@ -1,0 +1,93 @@
+//! Tables of rows in one text, a row a line: `~`, what is asked, ` => ` and what is expected. A
+//! line without ` => ` is a remark.
+use crate::building::table_of;
+use crate::builds::{self, field_types, superclasses};
+use crate::expressions::{self, read_expression, read_whole};
+use crate::lexing::{self, identified, lexed, too_deep};
+use crate::lookups::{self, found};
+use crate::names::{self, written};
+use crate::programs::{self, outcome};
+use crate::spellings::{self, spelled};
+use crate::tables::{self, told};
+use crate::units::{self, printed_twice, read_twice};
+use jr_table::Table;
+use std::alloc::Global;
+use std::process::Abort;
+
+/// Asserts that an answer is the expected one, and tells both where it isn't.
+pub(crate) fn assert_same(rt: &impl Abort, told: &str, expected: &str) {
+    assert!(rt; told == expected, "{told:?}, not {expected:?}");
+}
+
+/// What stands in front of the first of these marks, and what stands behind it.
+pub(crate) fn cut<'a>(text: &'a str, mark: &str) -> (&'a str, &'a str) {
+    match text.split_once(mark) {
+        None => (text, ""),
+        Some(halves) => halves,
+    }
+}
+
+/// The number that a text is.
+pub(crate) fn number(rt: &impl Abort, text: &str) -> u32 {
+    text.parse::<u32>().expect(rt, "a number")
+}
+
+/// The answer to a row about a text by itself.
+fn answer_of_text(rt: &impl Abort, alloc: Global, kind: &str, asked: &str) -> String {
+    match kind {
+        "lex" => lexed(rt, alloc, asked),
+        "identifier" => identified(rt, alloc, asked),
+        "depth" => too_deep(rt, alloc, asked),
+        "whole" => read_whole(rt, alloc, asked),
+        "printed" => printed_twice(rt, alloc, asked),
+        "unit" => read_twice(rt, alloc, asked),
+        _ => read_expression(rt, alloc, kind, asked),
+    }
+}
+
+/// The answer to a row about a program, or about what a table knows; or about a text by itself.
+fn answer(rt: &impl Abort, alloc: Global, table: &Table, asked: &str) -> String {
+    let (kind, asked) = cut(asked, " ");
+    match kind {
+        "program" => outcome(rt, alloc, asked),
+        "superclasses" => superclasses(rt, alloc, asked),
+        "fields" => field_types(rt, alloc, asked),
+        "text" => written(rt, alloc, asked),
+        "table" => told(rt, alloc, table, asked),
+        "find" => found(rt, alloc, table, asked),
+        "spell" => spelled(rt, alloc, table, asked),
+        _ => answer_of_text(rt, alloc, kind, asked),
+    }
+}
+
+/// Asserts that the rows are answered as they say of the program of these files, and that there are
+/// so many.
+fn assert_rows(rt: &impl Abort, alloc: Global, program: &str, rows: &str, count: u32) {
+    let table = table_of(rt, alloc, program);
+    let mut seen = 0u32;
+    for row in rows.split('~') {
+        if let Some((asked, expected)) = row.split_once(" => ") {
+            let expected = expected.strip_suffix("\n").expect(rt, "a line");
+            assert_same(rt, answer(rt, alloc, &table, asked).as_str(), expected);
+            seen = seen.wrapping_add(1);
+        }
+    }
+    assert!(rt; seen == count);
+}
+
+#[test]
+fn rows_about_texts(rt: HostRuntime) {
+    assert_rows(&rt, rt.alloc(), "", lexing::ROWS, 79);
+    assert_rows(&rt, rt.alloc(), "", expressions::ROWS, 103);
+    assert_rows(&rt, rt.alloc(), "", units::ROWS, 82);
+}
+
+#[test]
+fn rows_about_programs(rt: HostRuntime) {
+    assert_rows(&rt, rt.alloc(), "", programs::ROWS, 40);
+    assert_rows(&rt, rt.alloc(), "", builds::ROWS, 19);
+    assert_rows(&rt, rt.alloc(), "", names::ROWS, 7);
+    assert_rows(&rt, rt.alloc(), lookups::PROGRAM, lookups::ROWS, 52);
+    assert_rows(&rt, rt.alloc(), tables::PROGRAM, tables::ROWS, 35);
+    assert_rows(&rt, rt.alloc(), spellings::PROGRAM, spellings::ROWS, 77);
+}

@@ -1,0 +1,44 @@
+use Rattle.std.proofs.Common.{◌≡◌, ℕ, List, sym, subst, ◌∙◌, inr}
+use Rattle.std.specs.Prelude.{map, IfSome, IfNone}
+use Rattle.std.proofs.lemmas.Result.{IfOk-weaker}
+use Rattle.jr_table.specs.KeyView.{decl_of}
+use Rattle.jr_names.specs.ReplyView.{outcome_of}
+use Rattle.jr_rename.specs.Families.{AreRenamed}
+use Rattle.jr_rename.specs.Images.{Renaming}
+use Rattle.jr_rename.specs.Refusals.{ChangesPrelude}
+use Rattle.jr_rename_plan.specs.Answers.{Gives, SparesPrelude, AnswersSparing, Answers}
+use Rattle.jr_rename_plan.proofs.Answering.{told, spares}
+use Rattle.jr_rename_plan.proofs.targets.of_target.Goals as goal
+
+pub returns-in-Some : goal.returns-in-Some
+returns-in-Some g c =
+    let p = g.V.View.program c.args.view.now in
+    let d = decl_of c.args.target.now in
+    let decls = map decl_of c.in_ok-decls.decls.items in
+    let gives : Gives p d c.args.new.now (record { decls = decls; name = c.in_ok-name.name }) = record {
+      renamed = subst (λ rows. AreRenamed rows d decls) c.table.ensures c.in_ok-decls.ensures;
+      name = c.in_ok-name.ensures ∙ c.as_str.ensures;
+    } in
+    told p d c.args.new.now (record { decls = decls; name = c.in_ok-name.name }) c.in-Some.method gives
+    (subst (λ rows. ChangesPrelude rows d c.args.new.now c.in-Some.method) c.table-2.ensures (subst (λ o. IfSome o (λ text. ChangesPrelude c.table-2.result.now d c.args.new.now text)) c.in-Some.is c.in_ok-told.ensures.told))
+
+pub sparing-requires-clause-spares : goal.sparing-requires-clause-spares
+sparing-requires-clause-spares g c =
+    let p = g.V.View.program c.args.view.now in
+    let d = decl_of c.args.target.now in
+    let none = subst (λ o. IfNone o ((text : List ℕ) → ChangesPrelude c.table-2.result.now d c.args.new.now text → ⊥)) c.in-None.is c.in_ok-told.ensures.none in
+    let same : c.in_ok-name.name ≡ c.args.new.now = c.in_ok-name.ensures ∙ c.as_str.ensures in
+    subst (SparesPrelude p d) (sym same) (spares p d c.args.new.now (subst (λ rows. (text : List ℕ) → ChangesPrelude rows d c.args.new.now text → ⊥) c.table-2.ensures none))
+
+pub returns : goal.returns
+returns g c =
+    let p = g.V.View.program c.args.view.now in
+    let d = decl_of c.args.target.now in
+    let decls = map decl_of c.in_ok-decls.decls.items in
+    let of : Renaming = record { decls = decls; name = c.in_ok-name.name } in
+    let same : c.in_ok-name.name ≡ c.args.new.now = c.in_ok-name.ensures ∙ c.as_str.ensures in
+    let gives : Gives p d c.args.new.now of = record { renamed = subst (λ rows. AreRenamed rows d decls) c.table.ensures c.in_ok-decls.ensures; name = same } in
+    let none = subst (λ o. IfNone o ((text : List ℕ) → ChangesPrelude c.table-2.result.now d c.args.new.now text → ⊥)) c.in-None.is c.in_ok-told.ensures.none in
+    let free = spares p d c.args.new.now (subst (λ rows. (text : List ℕ) → ChangesPrelude rows d c.args.new.now text → ⊥) c.table-2.ensures none) in
+    IfOk-weaker c.sparing.result (λ o. AnswersSparing p d c.in_ok-name.name of (outcome_of o)) (λ o. Answers p d c.args.new.now (outcome_of o))
+    (λ o h. (of, gives, inr (free, subst (λ n. AnswersSparing p d n of (outcome_of o)) same h))) c.sparing.ensures

@@ -1,0 +1,120 @@
+//! What comes of a renaming that collides with nothing.
+ghost use Rattle.std.specs.Prelude.{◌≡◌, IfOk, None};
+ghost use Rattle.jr_lex.specs.Replacing.{IsName};
+ghost use Rattle.jr_table.specs.KeyView.{decl_of};
+ghost use Rattle.jr_table.specs.FoundView.{found_of};
+ghost use Rattle.jr_names.specs.Refusals as refusals;
+ghost use Rattle.jr_names.specs.Replies as outcomes;
+ghost use Rattle.jr_names.specs.Replies.{not_planned};
+ghost use Rattle.jr_names.specs.ReplyView.{outcome_of};
+ghost use Rattle.jr_rename.specs.Images as pure;
+ghost use Rattle.jr_rename.specs.ImageView.{renaming_of};
+ghost use Rattle.jr_rename.specs.RenameLaws.{IsFair};
+ghost use Rattle.jr_rename.specs.Renames.{pairs_of};
+ghost use Rattle.jr_respell.specs.Scopes.{rows_in, renaming_in, AreImages};
+ghost use Rattle.jr_rename_plan.specs.Answers.{AnswersOf, AnswersKeeping};
+
+use crate::pairs::changed_pairs;
+use jr_bind::View;
+use jr_family::dispatch_change;
+use jr_names::{EditLists, Outcome, Refusal};
+use jr_rename::{NewName, rows_to};
+use jr_respell::{Lost, Programs};
+use jr_rewriting::{Rewriting, rewrite};
+use jr_table::Table;
+use jr_text::{EditList, Place, Span};
+use std::alloc::{AllocError, Global};
+
+/// A reference that has no spelling.
+fn lost_binding(file: u32, lost: Lost) -> Outcome
+    ensures { outcome_of result ≡ not_planned (refusals.lost_binding
+        (record { file = file; at = lost.at }) (decl_of lost.declaration)
+        (found_of lost.found)) }
+{
+    Outcome::Refused(Refusal::LostBinding {
+        reference: Place { file, at: lost.at },
+        declaration: lost.declaration,
+        found: lost.found,
+    })
+}
+
+/// The rewritten program as what is planned.
+fn planned(
+    alloc: Global,
+    programs: &Programs<'_>,
+    edits: Vec<EditList>,
+    respelled: u32,
+) -> Result<Outcome, AllocError>
+    requires { AreImages programs.now }
+    ensures { IfOk result (λ o. outcome_of o ≡ outcomes.planned edits.items
+        (pairs_of (rows_in programs.now) (renaming_in programs.now)) respelled None) }
+{
+    let renaming = changed_pairs(alloc, programs)?;
+    Ok(Outcome::Planned {
+        edits: EditLists::from_vec(edits),
+        renaming,
+        respelled,
+        lost: None,
+    })
+}
+
+/// What comes of a renaming that keeps dispatch.
+fn of_programs<V: View<Span>>(
+    alloc: Global,
+    view: &V,
+    programs: &Programs<'_>,
+) -> Result<Outcome, AllocError>
+    requires rows { rows_in programs.now ≡ (V.program view.now).rows }
+    requires images { AreImages programs.now }
+    requires name { IsName (renaming_in programs.now).name }
+    ensures { IfOk result (λ o. AnswersKeeping (V.program view.now) (renaming_in programs.now)
+        (outcome_of o)) }
+{
+    let Rewriting {
+        edits,
+        respelled,
+        lost,
+    } = rewrite(alloc, view, programs)?;
+    match lost {
+        Some((file, lost)) => Ok(lost_binding(file, lost)),
+        None => planned(alloc, programs, edits, respelled),
+    }
+}
+
+/// The table of the new program.
+fn table_after(alloc: Global, table: &Table, g: &NewName) -> Result<Table, AllocError>
+    requires { IsFair table.now (renaming_of g.now) }
+    ensures { IfOk result (λ t. t ≡ pure.rows_to (renaming_of g.now) table.now) }
+{
+    let rows = rows_to(alloc, g, table.rows())?;
+    Table::of_rows(alloc, rows)
+}
+
+/// What comes of a renaming that collides with nothing.
+pub(crate) fn of_renaming<V: View<Span>>(
+    alloc: Global,
+    view: &V,
+    g: &NewName,
+) -> Result<Outcome, AllocError>
+    requires fair { IsFair (V.program view.now).rows (renaming_of g.now) }
+    requires name { IsName (renaming_of g.now).name }
+    ensures { IfOk result (λ o. AnswersOf (V.program view.now) (renaming_of g.now)
+        (outcome_of o)) }
+{
+    let before = view.table();
+    let after = table_after(alloc, before, g)?;
+    match dispatch_change(alloc, before, &after, g)? {
+        Some((class, method)) => {
+            Ok(Outcome::Refused(Refusal::OverrideChanged { class, method }))
+        }
+        None => of_programs(
+            alloc,
+            view,
+            &Programs {
+                before,
+                after: &after,
+                name: g,
+            },
+        ),
+    }
+}

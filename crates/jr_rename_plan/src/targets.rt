@@ -1,0 +1,89 @@
+//! What comes of a target.
+ghost use Rattle.std.specs.Prelude.{IfOk};
+ghost use Rattle.jr_lex.specs.Replacing.{IsName};
+ghost use Rattle.jr_table.specs.KeyView.{decl_of};
+ghost use Rattle.jr_names.specs.ReplyView.{outcome_of};
+ghost use Rattle.jr_rename.specs.Families.{AreRenamed};
+ghost use Rattle.jr_rename.specs.Targets.{IsOfPrelude};
+ghost use Rattle.jr_rename.specs.ImageView.{renaming_of};
+ghost use Rattle.jr_bind.specs.Programs.{units_of};
+ghost use Rattle.jr_places.specs.FileParts.{begins};
+ghost use Rattle.jr_rename.specs.Clashes.{IsClear};
+ghost use Rattle.jr_rename_plan.specs.Answers.{Answers, SparesPrelude, AnswersSparing, AnswersOf};
+
+use crate::answers::of_renaming;
+use jr_ast::Name;
+use jr_bind::View;
+use jr_clash::clash;
+use jr_family::{family, prelude_method};
+use jr_names::{Outcome, Refusal};
+use jr_rename::{NewName, renamings_stay_fair, rows_are_named};
+use jr_table::Decl;
+use jr_text::Span;
+use std::alloc::{AllocError, Global};
+
+/// What comes of a target that collides with nothing.
+fn freely<V: View<Span>>(
+    alloc: Global,
+    view: &V,
+    target: &Decl,
+    g: &NewName,
+) -> Result<Outcome, AllocError>
+    requires renamed { AreRenamed (V.program view.now).rows (decl_of target.now)
+        (renaming_of g.now).decls }
+    requires own { IsOfPrelude (V.program view.now).rows (decl_of target.now) → ⊥ }
+    requires spares { SparesPrelude (V.program view.now) (decl_of target.now) g.now.name }
+    requires clear { IsClear begins (V.program view.now).rows (units_of (V.program view.now))
+        (decl_of target.now) g.now.name }
+    requires name { IsName g.now.name }
+    ensures { IfOk result (λ o. AnswersOf (V.program view.now) (renaming_of g.now)
+        (outcome_of o)) }
+{
+    view.keeps_program();
+    renamings_stay_fair::<Span>();
+    rows_are_named::<Span>();
+    of_renaming(alloc, view, g)
+}
+
+/// What comes of a target whose new name changes no method of the prelude.
+fn sparing<V: View<Span>>(
+    alloc: Global,
+    view: &V,
+    target: &Decl,
+    g: &NewName,
+) -> Result<Outcome, AllocError>
+    requires renamed { AreRenamed (V.program view.now).rows (decl_of target.now)
+        (renaming_of g.now).decls }
+    requires own { IsOfPrelude (V.program view.now).rows (decl_of target.now) → ⊥ }
+    requires spares { SparesPrelude (V.program view.now) (decl_of target.now) g.now.name }
+    requires name { IsName g.now.name }
+    ensures { IfOk result (λ o. AnswersSparing (V.program view.now) (decl_of target.now)
+        g.now.name (renaming_of g.now) (outcome_of o)) }
+{
+    match clash(alloc, view, target, g.decls.as_slice(), &g.name)? {
+        Some(with) => Ok(Outcome::Refused(Refusal::Clash { with })),
+        None => freely(alloc, view, target, g),
+    }
+}
+
+/// What comes of a rename of a declaration that isn't the prelude's.
+pub(crate) fn of_target<V: View<Span>>(
+    alloc: Global,
+    view: &V,
+    target: &Decl,
+    new: &Name,
+) -> Result<Outcome, AllocError>
+    requires own { IsOfPrelude (V.program view.now).rows (decl_of target.now) → ⊥ }
+    requires name { IsName new.now }
+    ensures { IfOk result (λ o. Answers (V.program view.now) (decl_of target.now) new.now
+        (outcome_of o)) }
+{
+    let decls = family(alloc, view.table(), target)?;
+    let told = prelude_method(alloc, view.table(), target, decls.as_slice(), new)?;
+    let name = Name::new(alloc, new.as_str())?;
+    let g = NewName { decls, name };
+    match told {
+        Some(method) => Ok(Outcome::Refused(Refusal::PreludeMethod { method })),
+        None => sparing(alloc, view, target, &g),
+    }
+}

@@ -1,0 +1,17 @@
+use Rattle.jr_table.specs.Context.{Context}
+use Rattle.jr_bind.specs.Programs.{units_of}
+use Rattle.jr_grammar.specs.Layout.{itself}
+use Rattle.jr_renamed.proofs.Planning.{new_text, is_fair, are_images}
+use Rattle.jr_renamed.proofs.laws.plans_keep_programs.Goals as goal
+
+pub returns-clause-texts : goal.returns-clause-texts
+returns-clause-texts c = λ p text file at new edits renaming respelled is. new_text p text file at new edits renaming respelled is c.rows_are_named.ensures.rows c.renamed_texts_read.ensures
+
+pub returns-clause-references : goal.returns-clause-references
+returns-clause-references c = λ p text file at new edits renaming respelled is.
+    c.references_are_kept.ensures itself p.rows is.planned.g (λ (k : Context). p.super_at k.member) (units_of p) is.planned.files is.program.are_rows
+    (is_fair p text file at new edits renaming respelled is c.rows_are_named.ensures.rows c.renamings_stay_fair.ensures c.rows_are_named.ensures.names) is.planned.rewrite is.planned.kept
+
+pub returns-clause-programs : goal.returns-clause-programs
+returns-clause-programs c = λ p text file at new edits renaming respelled is.
+    are_images p text file at new edits renaming respelled is c.rows_are_named.ensures.rows c.plans_become.ensures c.locals_give_images.ensures c.fields_give_images.ensures c.methods_give_images.ensures

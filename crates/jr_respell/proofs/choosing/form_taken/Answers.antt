@@ -1,0 +1,42 @@
+use Rattle.std.proofs.Common.{◌≡◌, ℕ, List, None, subst}
+use Rattle.std.specs.Prelude.{IfSome}
+use Rattle.std.specs.Result.{IfOk}
+use Rattle.std.proofs.lemmas.Result.{IfOk-weaker}
+use Rattle.jr_table.specs.Keys.{ClassKey}
+use Rattle.jr_table.specs.Rows.{Row}
+use Rattle.jr_table.specs.Entries.{class_of}
+use Rattle.jr_table.specs.KeyView.{decl_of}
+use Rattle.jr_lookup.specs.ScopeView.{scope_of}
+use Rattle.jr_spell.specs.ReferenceView.{reference_of}
+use Rattle.jr_spell.specs.Taken.{IsTaken, NoneBinds}
+use Rattle.jr_respell.specs.Scopes.{place_to}
+use Rattle.jr_respell.specs.Near.{IsNear, asked_word}
+use Rattle.jr_respell.proofs.Oks.{some_weaker}
+use Rattle.jr_respell.proofs.NearScopes.{near_taken, near_none}
+use Rattle.jr_respell.proofs.choosing.form_taken.Goals as goal
+
+pub returns-clause-some : goal.returns-clause-some
+returns-clause-some c =
+    let s = c.args.scopes.now in
+    let table = s.programs.after.now in
+    let r = reference_of c.args.reference.now in
+    let d = decl_of c.args.target.now in
+    let near = scope_of c.in_ok-scope.scope in
+    let keys = c.lookups_are_exact.ensures.keys table c.keeps_rows.ensures in
+    let is_near : IsNear near (place_to s) (asked_word r.form r) (class_of d) =
+    subst (λ (x : List ℕ × ClassKey). IsNear near (place_to s) x.0 x.1) (λ i. (c.in_ok-first.ensures i, c.declaring_class.ensures i)) c.in_ok-scope.ensures in
+    subst (λ (rows : List Row). IfOk c.taken.result (λ o. IfSome o (IsTaken rows (place_to s) r d))) c.requires.rows
+    (IfOk-weaker c.taken.result _ _ (λ o h. some_weaker o (IsTaken table near r d) (IsTaken table (place_to s) r d) (λ f t. near_taken table keys near (place_to s) r d is_near f t) h) c.taken.ensures.some)
+
+pub returns-clause-none : goal.returns-clause-none
+returns-clause-none c =
+    let s = c.args.scopes.now in
+    let table = s.programs.after.now in
+    let r = reference_of c.args.reference.now in
+    let d = decl_of c.args.target.now in
+    let near = scope_of c.in_ok-scope.scope in
+    let keys = c.lookups_are_exact.ensures.keys table c.keeps_rows.ensures in
+    let is_near : IsNear near (place_to s) (asked_word r.form r) (class_of d) =
+    subst (λ (x : List ℕ × ClassKey). IsNear near (place_to s) x.0 x.1) (λ i. (c.in_ok-first.ensures i, c.declaring_class.ensures i)) c.in_ok-scope.ensures in
+    subst (λ (rows : List Row). IfOk c.taken.result (λ o. o ≡ None → NoneBinds rows (place_to s) r d)) c.requires.rows
+    (IfOk-weaker c.taken.result _ _ (λ o h none. near_none table keys near (place_to s) r d is_near (h none)) c.taken.ensures.none)

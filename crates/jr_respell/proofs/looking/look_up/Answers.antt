@@ -1,0 +1,42 @@
+use Rattle.std.proofs.Common.{List, sym, subst}
+use Rattle.std.specs.Result.{IfOk}
+use Rattle.jr_table.specs.Keys.{Ty}
+use Rattle.jr_table.specs.TypeView.{class_key_of}
+use Rattle.jr_table.specs.FoundView.{found_of}
+use Rattle.jr_table.specs.Lookup.{FindsMethodNamed, FindsMethodOf, FindsCtorOf}
+use Rattle.jr_lookup.specs.ScopeView.{scope_of}
+use Rattle.jr_respell.specs.declared.ways.Way as raw
+use Rattle.jr_respell.specs.Ways.{way_of, Finds}
+use Rattle.jr_respell.proofs.looking.look_up.Goals as goal
+
+pub returns-in-MethodNamed : goal.returns-in-MethodNamed
+returns-in-MethodNamed c =
+    let rows = c.args.table.now in
+    let s = scope_of c.args.scope.now in
+    let name = c.args.name.now in
+    subst (λ (w : raw.Way). IfOk c.method_named.result (λ f. Finds rows s (way_of w) name c.args.args.now (found_of f))) (sym c.in-MethodNamed.is)
+    (subst (λ (ts : List Ty). IfOk c.method_named.result (λ f. FindsMethodNamed rows s name ts (found_of f))) c.as_slice.ensures c.method_named.ensures)
+
+pub returns-in-MethodOn : goal.returns-in-MethodOn
+returns-in-MethodOn c =
+    let rows = c.args.table.now in
+    let s = scope_of c.args.scope.now in
+    let name = c.args.name.now in
+    subst (λ (w : raw.Way). IfOk c.method_of.result (λ f. Finds rows s (way_of w) name c.args.args.now (found_of f))) (sym c.in-MethodOn.is)
+    (subst (λ (ts : List Ty). IfOk c.method_of.result (λ f. FindsMethodOf rows s (class_key_of c.in-MethodOn.class.now) name ts (found_of f))) c.as_slice-in-MethodOn.ensures c.method_of.ensures)
+
+pub returns-in-MethodThrough : goal.returns-in-MethodThrough
+returns-in-MethodThrough c =
+    let rows = c.args.table.now in
+    let s = scope_of c.args.scope.now in
+    let name = c.args.name.now in
+    subst (λ (w : raw.Way). IfOk c.method_of-in-MethodThrough.result (λ f. Finds rows s (way_of w) name c.args.args.now (found_of f))) (sym c.in-MethodThrough.is)
+    (subst (λ (ts : List Ty). IfOk c.method_of-in-MethodThrough.result (λ f. FindsMethodOf rows s (class_key_of c.in-MethodThrough.class.now) name ts (found_of f))) c.as_slice-in-MethodThrough.ensures c.method_of-in-MethodThrough.ensures)
+
+pub returns-in-CtorOf : goal.returns-in-CtorOf
+returns-in-CtorOf c =
+    let rows = c.args.table.now in
+    let s = scope_of c.args.scope.now in
+    let name = c.args.name.now in
+    subst (λ (w : raw.Way). IfOk c.ctor_of.result (λ f. Finds rows s (way_of w) name c.args.args.now (found_of f))) (sym c.in-CtorOf.is)
+    (subst (λ (ts : List Ty). IfOk c.ctor_of.result (λ f. FindsCtorOf rows s (class_key_of c.in-CtorOf.class.now) ts (found_of f))) c.as_slice-in-CtorOf.ensures c.ctor_of.ensures)

@@ -1,0 +1,45 @@
+//! Declared names.
+ghost use Rattle.std.specs.Prelude.{◌≡◌, IfOk};
+ghost use Rattle.std.specs.List.{list_any};
+ghost use Rattle.jr_table.specs.SameDecls.{same_decl};
+ghost use Rattle.jr_table.specs.KeyView.{decl_of};
+ghost use Rattle.jr_rename.specs.Images as images;
+ghost use Rattle.jr_rename.specs.ImageView.{renaming_of};
+ghost use Rattle.jr_rename.specs.Spelling as pure;
+ghost use Rattle.jr_respell.specs.ChoiceView.{choice_of};
+
+use crate::choices::Choice;
+use crate::choosing::renamed;
+use jr_ast::Name;
+use jr_rename::NewName;
+use jr_table::Decl;
+use std::alloc::{AllocError, Global};
+
+fn has(g: &NewName, decl: &Decl) -> bool
+    ensures { result ≡ list_any (λ d. same_decl (decl_of decl.now) (decl_of d))
+        g.now.decls.items }
+{
+    g.decls.as_slice().iter().any(|other| decl == other)
+}
+
+/// Whether the declaration is among those that get the name.
+fn is_renamed(g: &NewName, decl: &Decl) -> bool
+    ensures { result ≡ images.is_renamed (renaming_of g.now) (decl_of decl.now) }
+{
+    has(g, decl)
+}
+
+/// The name that the declaration gets, where this is its old one.
+pub(crate) fn name_of<'a>(g: &'a NewName, decl: &Decl, name: &'a Name) -> &'a Name
+    ensures { result.now ≡ images.name_to (renaming_of g.now) (decl_of decl.now) name.now }
+{
+    if is_renamed(g, decl) { &g.name } else { name }
+}
+
+/// The choice for the word that declares a declaration.
+pub fn declared(alloc: Global, g: &NewName, decl: &Decl, name: &Name) -> Result<Choice, AllocError>
+    ensures { IfOk result (λ h. choice_of h ≡ pure.renamed name.now
+        (images.name_to (renaming_of g.now) (decl_of decl.now) name.now)) }
+{
+    renamed(alloc, name, name_of(g, decl, name))
+}

@@ -1,0 +1,98 @@
+//! Fields behind a dot and behind `super` (JLS 15.11).
+ghost use Rattle.std.specs.Prelude.{◌≡◌, IfOk, option_map};
+ghost use Rattle.jr_table.specs.TypeView.{class_key_of};
+ghost use Rattle.jr_respell.specs.Scopes.{IsKept, rows_of, naming_of, context_of};
+ghost use Rattle.jr_respell.specs.ChoiceView.{choice_of};
+ghost use Rattle.jr_respell.specs.Chosen as chosen;
+
+use crate::asking::{no_types, words};
+use crate::choices::Choice;
+use crate::scopes::Scopes;
+use crate::taking::chosen;
+use crate::ways::Way;
+use jr_ast::Name;
+use jr_rename::class_to;
+use jr_table::ClassKey;
+use std::alloc::{AllocError, Global};
+
+/// The choice for a field on a value of the class.
+pub fn field(
+    alloc: Global,
+    scopes: &Scopes<'_>,
+    at: u32,
+    class: &ClassKey,
+    name: &Name,
+) -> Result<Option<Choice>, AllocError>
+    requires { IsKept scopes.now }
+    ensures { IfOk result (λ o. chosen.FieldIsChosen (rows_of scopes.now) (naming_of scopes.now)
+        (context_of scopes.now) at (class_key_of class.now) name.now (option_map choice_of o)) }
+{
+    let on = class_to(alloc, scopes.programs.name, class)?;
+    let none = no_types(alloc);
+    chosen(
+        alloc,
+        scopes,
+        at,
+        name,
+        &Way::FieldOn(class),
+        &none,
+        &Way::FieldOn(&on),
+        &none,
+    )
+}
+
+/// The choice for a field through the class, whose name stands behind that of the outer one, if it
+/// is written so.
+pub fn static_field(
+    alloc: Global,
+    scopes: &Scopes<'_>,
+    at: u32,
+    outer: Option<&ClassKey>,
+    class: &ClassKey,
+    name: &Name,
+) -> Result<Option<Choice>, AllocError>
+    requires { IsKept scopes.now }
+    ensures { IfOk result (λ o. chosen.StaticFieldIsChosen (rows_of scopes.now)
+        (naming_of scopes.now) (context_of scopes.now) at
+        (chosen.words_of (naming_of scopes.now) (option_map (λ k. class_key_of k.now) outer.entry)
+        (class_key_of class.now)) (class_key_of class.now) name.now (option_map choice_of o)) }
+{
+    let g = scopes.programs.name;
+    let on = class_to(alloc, g, class)?;
+    let text = words(alloc, g, outer, class)?;
+    let none = no_types(alloc);
+    chosen(
+        alloc,
+        scopes,
+        at,
+        name,
+        &Way::FieldOn(class),
+        &none,
+        &Way::FieldThrough(&text, &on),
+        &none,
+    )
+}
+
+/// The choice for a field behind `super`.
+pub fn super_field(
+    alloc: Global,
+    scopes: &Scopes<'_>,
+    at: u32,
+    name: &Name,
+) -> Result<Option<Choice>, AllocError>
+    requires { IsKept scopes.now }
+    ensures { IfOk result (λ o. chosen.SuperFieldIsChosen (rows_of scopes.now)
+        (naming_of scopes.now) (context_of scopes.now) at name.now (option_map choice_of o)) }
+{
+    let none = no_types(alloc);
+    chosen(
+        alloc,
+        scopes,
+        at,
+        name,
+        &Way::FieldAbove,
+        &none,
+        &Way::FieldAbove,
+        &none,
+    )
+}

@@ -1,0 +1,176 @@
+//! What a name finds, in the one program and in the other.
+ghost use Rattle.std.specs.Prelude.{◌≡◌, IfOk};
+ghost use Rattle.jr_table.specs.Decls.{class_decl, local_decl};
+ghost use Rattle.jr_table.specs.TypeView.{class_key_of};
+ghost use Rattle.jr_table.specs.Found.{one};
+ghost use Rattle.jr_table.specs.KeyView.{member_key_of};
+ghost use Rattle.jr_table.specs.FoundView.{found_of};
+ghost use Rattle.jr_table.specs.Lookup.{FindsVariable, FindsTypeNamed, FindsTypeOf};
+ghost use Rattle.jr_table.specs.Binding.{FindsIn};
+ghost use Rattle.jr_table.specs.Context as context;
+ghost use Rattle.jr_lookup.specs.ScopeView.{scope_of};
+ghost use Rattle.jr_locals.specs.Helds.{key_of};
+ghost use Rattle.jr_respell.specs.Scopes.{
+  IsKept,
+  rows_of,
+  context_of,
+  rows_to,
+  place_to,
+};
+ghost use Rattle.jr_respell.specs.Ways as pure;
+
+use crate::finding::class_found;
+use crate::scopes::Scopes;
+use crate::superclasses::{super_ctor_found, super_field_found, super_method_found};
+use crate::ways::{Way, is_simple};
+use jr_ast::Name;
+use jr_lookup::{
+    Scope, ctor_of, field_of, member_type, method_named, method_of, type_named, variable,
+};
+use jr_table::{Decl, Found, LocalKey, MemberKey, Table, Tys, lookups_are_exact};
+use std::alloc::{AllocError, Global};
+
+/// A local is found.
+fn local_found(alloc: Global, member: &MemberKey, number: u32) -> Result<Found, AllocError>
+    ensures { IfOk result (λ f. found_of f ≡ one (local_decl (key_of (member_key_of member.now)
+        number))) }
+{
+    let member = member.copy(alloc)?;
+    Ok(Found::One(Decl::Local(LocalKey { member, number })))
+}
+
+/// What a simple name finds in the old program.
+pub(crate) fn variable_of(
+    alloc: Global,
+    scopes: &Scopes<'_>,
+    name: &Name,
+) -> Result<Found, AllocError>
+    requires { IsKept scopes.now }
+    ensures { IfOk result (λ f. FindsVariable (rows_of scopes.now)
+        (context.scope_of (context_of scopes.now)) name.now (found_of f)) }
+{
+    let table = scopes.programs.before;
+    table.keeps_rows();
+    lookups_are_exact();
+    match scopes.locals.number_named(name) {
+        Some(number) => local_found(alloc, scopes.member, number),
+        None => variable(alloc, table, &scopes.before, name),
+    }
+}
+
+/// What a simple name finds in the new program.
+pub(crate) fn variable_to(
+    alloc: Global,
+    scopes: &Scopes<'_>,
+    name: &Name,
+) -> Result<Found, AllocError>
+    requires { IsKept scopes.now }
+    ensures { IfOk result (λ f.
+        FindsVariable (rows_to scopes.now) (place_to scopes.now) name.now (found_of f)) }
+{
+    let table = scopes.programs.after;
+    table.keeps_rows();
+    lookups_are_exact();
+    match scopes.renamed.number_named(name) {
+        Some(number) => local_found(alloc, &scopes.image, number),
+        None => variable(alloc, table, &scopes.after, name),
+    }
+}
+
+/// What a name behind another finds as a type.
+fn type_behind(
+    alloc: Global,
+    table: &Table,
+    scope: &Scope,
+    outer: &Name,
+    name: &Name,
+) -> Result<Found, AllocError>
+    ensures { IfOk result (λ f. FindsIn
+        (λ k. FindsTypeNamed table.now (scope_of scope.now) outer.now (one (class_decl k)))
+        (λ k x. FindsTypeOf table.now (scope_of scope.now) k name.now x) (found_of f)) }
+{
+    table.keeps_rows();
+    lookups_are_exact();
+    let found = type_named(alloc, table, scope, outer)?;
+    match class_found(&found) {
+        None => Ok(Found::Nothing),
+        Some(key) => member_type(alloc, table, scope, key, name),
+    }
+}
+
+/// What a name finds this way.
+fn look_up(
+    alloc: Global,
+    table: &Table,
+    scope: &Scope,
+    way: &Way<'_>,
+    name: &Name,
+    args: &Tys,
+) -> Result<Found, AllocError>
+    ensures { IfOk result (λ f. pure.Finds table.now (scope_of scope.now) (pure.way_of way.now)
+        name.now args.now (found_of f)) }
+{
+    match *way {
+        Way::Local => variable(alloc, table, scope, name),
+        Way::OwnField => variable(alloc, table, scope, name),
+        Way::FieldOn(class) => field_of(alloc, table, scope, class, name),
+        Way::FieldThrough(_, class) => field_of(alloc, table, scope, class, name),
+        Way::FieldAbove => super_field_found(alloc, table, scope, name),
+        Way::MethodNamed => method_named(alloc, table, scope, name, args.as_slice()),
+        Way::MethodOn(class) => method_of(alloc, table, scope, class, name, args.as_slice()),
+        Way::MethodThrough(_, class) => {
+            method_of(alloc, table, scope, class, name, args.as_slice())
+        }
+        Way::MethodAbove => super_method_found(alloc, table, scope, name, args),
+        Way::CtorOf(class) => ctor_of(alloc, table, scope, class, args.as_slice()),
+        Way::CtorAbove => super_ctor_found(alloc, table, scope, args),
+        Way::TypeNamed => type_named(alloc, table, scope, name),
+        Way::TypeBehind(outer) => type_behind(alloc, table, scope, outer, name),
+    }
+}
+
+/// What a name finds this way, in the old program.
+pub(crate) fn look_up_before(
+    alloc: Global,
+    scopes: &Scopes<'_>,
+    way: &Way<'_>,
+    name: &Name,
+    args: &Tys,
+) -> Result<Found, AllocError>
+    requires { IsKept scopes.now }
+    ensures { IfOk result (λ f. pure.Finds (rows_of scopes.now)
+        (context.scope_of (context_of scopes.now)) (pure.way_of way.now) name.now args.now
+        (found_of f)) }
+{
+    if is_simple(way) {
+        variable_of(alloc, scopes, name)
+    } else {
+        look_up(
+            alloc,
+            scopes.programs.before,
+            &scopes.before,
+            way,
+            name,
+            args,
+        )
+    }
+}
+
+/// What a name finds this way, in the new program.
+pub(crate) fn look_up_after(
+    alloc: Global,
+    scopes: &Scopes<'_>,
+    way: &Way<'_>,
+    name: &Name,
+    args: &Tys,
+) -> Result<Found, AllocError>
+    requires { IsKept scopes.now }
+    ensures { IfOk result (λ f. pure.Finds (rows_to scopes.now) (place_to scopes.now)
+        (pure.way_of way.now) name.now args.now (found_of f)) }
+{
+    if is_simple(way) {
+        variable_to(alloc, scopes, name)
+    } else {
+        look_up(alloc, scopes.programs.after, &scopes.after, way, name, args)
+    }
+}

@@ -1,0 +1,4 @@
+mod Losing
+mod Gathering
+mod Putting
+mod Whole

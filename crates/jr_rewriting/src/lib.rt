@@ -1,0 +1,8 @@
+//! A whole program under a rename: one walk over its written members, and what comes of each file.
+#![tactic(auto)]
+
+mod files;
+mod losses;
+mod programs;
+
+pub use programs::{Rewriting, rewrite};

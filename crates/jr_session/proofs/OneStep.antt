@@ -1,0 +1,126 @@
+-- Each step has one answer: it is refused for one reason, or done in one way.
+use Rattle.std.proofs.Common.{◌≡◌, ◌⊎◌, ℕ, ◌+◌, List, [], refl, sym, ap, subst, ◌∙◌, inl, inr}
+use Rattle.jr_names.specs.declared.steps.Step.{Step}
+use Rattle.jr_names.specs.declared.steps.Step.TheVariants as step
+use Rattle.jr_names.specs.declared.steps.What.TheVariants as what
+use Rattle.jr_names.specs.Replies.{Reply, edited, refactored, shown, undone, redone, refused}
+use Rattle.jr_names.specs.Refusals.{Refusal}
+use Rattle.jr_shown.specs.Lines.{bytes_of}
+use Rattle.jr_sources.specs.Sources.{Differ}
+use Rattle.jr_session.specs.States.{State, IsUndone, IsRedone}
+use Rattle.jr_session.specs.Refusing.{IsFirstRefusal, IsGranted}
+use Rattle.jr_sources.specs.ReadingLaws.{HasOneReading}
+use Rattle.jr_session.specs.Serving.{IsServed}
+use Rattle.jr_session.specs.Stepping.{Steps, IsEdited, IsShown}
+use Rattle.jr_session.specs.StepLaws.{HasOneShow}
+use Rattle.jr_session.proofs.OneAnswer.{one_edited, one_refusal, one_undo_refusal, one_redo_refusal, one_undone, one_redone}
+use Rattle.jr_session.proofs.OneFault.{one_show_refusal}
+use Rattle.jr_session.proofs.ShowSteps.{the_show, no_edit, no_undo, no_redo, would_once}
+
+-- a step is refused and nothing changes, or it is granted and done
+abbrev pub Answers : State → Step → Reply → (State → Type 0) → Reply → State → Type 0
+Answers s of done Done r t =
+    ((x : Refusal) × (r ≡ refused x) × IsFirstRefusal s of x × (t ≡ s)) ⊎ ((r ≡ done) × IsGranted s of × Done t)
+
+both : (s : State) (of : Step) (done : Reply) (Done : State → Type 0) (r q : Reply) (t u : State)
+    → ((x y : Refusal) → IsFirstRefusal s of x → IsFirstRefusal s of y → x ≡ y) → (Done t → Done u → t ≡ u)
+    → Answers s of done Done r t → Answers s of done Done q u → (r ≡ q) × (t ≡ u)
+both s of done Done r q t u one same (inl g) (inl h) = (g.1 ∙ ap refused (one g.0 h.0 g.2 h.2) ∙ sym h.1, g.3 ∙ sym h.3)
+both s of done Done r q t u one same (inl g) (inr h) = absurd (h.1 g.0 g.2.applies)
+both s of done Done r q t u one same (inr g) (inl h) = absurd (g.1 h.0 h.2.applies)
+both s of done Done r q t u one same (inr g) (inr h) = (g.0 ∙ sym h.0, same g.2 h.2)
+
+edit_not_undo : (file text : List ℕ) (from to : ℕ) → step.Edit file from to text ≡ step.Undo → ⊥
+edit_not_undo file text from to e = cc
+
+edit_not_redo : (file text : List ℕ) (from to : ℕ) → step.Edit file from to text ≡ step.Redo → ⊥
+edit_not_redo file text from to e = cc
+
+edit_not_show : (file text name : List ℕ) (from to : ℕ) → step.Edit file from to text ≡ step.Show name what.Bindings → ⊥
+edit_not_show file text name from to e = cc
+
+undo_not_edit : (file text : List ℕ) (from to : ℕ) → step.Undo ≡ step.Edit file from to text → ⊥
+undo_not_edit file text from to e = cc
+
+undo_not_show : (name : List ℕ) → step.Undo ≡ step.Show name what.Bindings → ⊥
+undo_not_show name e = cc
+
+undo_not_redo : step.Undo ≡ step.Redo → ⊥
+undo_not_redo e = cc
+
+redo_not_edit : (file text : List ℕ) (from to : ℕ) → step.Redo ≡ step.Edit file from to text → ⊥
+redo_not_edit file text from to e = cc
+
+redo_not_show : (name : List ℕ) → step.Redo ≡ step.Show name what.Bindings → ⊥
+redo_not_show name e = cc
+
+redo_not_undo : step.Redo ≡ step.Undo → ⊥
+redo_not_undo e = cc
+
+edit_answers : (s : State) (file text : List ℕ) (from to : ℕ) (r : Reply) (t : State) → Steps s (step.Edit file from to text) r t → Answers s (step.Edit file from to text) edited (λ u. IsEdited s (step.Edit file from to text) u) r t
+edit_answers s file text from to edited t h = inr (refl, h.0, h.1)
+edit_answers s file text from to (refactored a b) t h = absurd h.1
+edit_answers s file text from to (shown a) t h = absurd (edit_not_show file text h.1.shows.file from to h.1.shows.is)
+edit_answers s file text from to undone t h = absurd (edit_not_undo file text from to h.1.0)
+edit_answers s file text from to redone t h = absurd (edit_not_redo file text from to h.1.0)
+edit_answers s file text from to (refused x) t h = inl (x, refl, h.0, h.1)
+
+undo_answers : (s : State) (r : Reply) (t : State) → Steps s step.Undo r t → Answers s step.Undo undone (λ u. IsUndone s u) r t
+undo_answers s edited t h = absurd (undo_not_edit h.1.edit.file h.1.text h.1.span.from h.1.span.to h.1.edit.is)
+undo_answers s (refactored a b) t h = absurd h.1
+undo_answers s (shown a) t h = absurd (undo_not_show h.1.shows.file h.1.shows.is)
+undo_answers s undone t h = inr (refl, h.0, h.1.1)
+undo_answers s redone t h = absurd (undo_not_redo h.1.0)
+undo_answers s (refused x) t h = inl (x, refl, h.0, h.1)
+
+redo_answers : (s : State) (r : Reply) (t : State) → Steps s step.Redo r t → Answers s step.Redo redone (λ u. IsRedone s u) r t
+redo_answers s edited t h = absurd (redo_not_edit h.1.edit.file h.1.text h.1.span.from h.1.span.to h.1.edit.is)
+redo_answers s (refactored a b) t h = absurd h.1
+redo_answers s (shown a) t h = absurd (redo_not_show h.1.shows.file h.1.shows.is)
+redo_answers s undone t h = absurd (redo_not_undo h.1.0)
+redo_answers s redone t h = inr (refl, h.0, h.1.1)
+redo_answers s (refused x) t h = inl (x, refl, h.0, h.1)
+
+-- ---- a show
+
+-- so many bytes more are shown
+abbrev more_shown : State → ℕ → State
+more_shown s count = record { files = s.files; undo = s.undo; redo = s.redo; shown = s.shown + count }
+
+abbrev Shows : State → (file : List ℕ) → Reply → State → Type 0
+Shows s file r t = ((x : Refusal) × (r ≡ refused x) × IsFirstRefusal s (the_show file) x × (t ≡ s))
+    ⊎ ((lines : List (List ℕ)) × (r ≡ shown lines) × IsGranted s (the_show file) × IsShown s (the_show file) lines t)
+
+show_answers : (s : State) (file : List ℕ) (r : Reply) (t : State) → Steps s (the_show file) r t → Shows s file r t
+show_answers s file edited t h = absurd (no_edit file h.1.edit.file h.1.text h.1.span.from h.1.span.to h.1.edit.is)
+show_answers s file (refactored a b) t h = absurd h.1
+show_answers s file (shown lines) t h = inr (lines, refl, h.0, h.1)
+show_answers s file undone t h = absurd (no_undo file h.1.0)
+show_answers s file redone t h = absurd (no_redo file h.1.0)
+show_answers s file (refused x) t h = inl (x, refl, h.0, h.1)
+
+module _ (reading : HasOneReading) (once : HasOneShow) where
+  module _ (s : State) (file : List ℕ) (differ : Differ s.files) where
+    both_shown : (r q : Reply) (t u : State) → Shows s file r t → Shows s file q u → (r ≡ q) × (t ≡ u)
+    both_shown r q t u (inl g) (inl h) = (g.1 ∙ ap refused (one_show_refusal reading once s file differ g.0 h.0 g.2 h.2) ∙ sym h.1, g.3 ∙ sym h.3)
+    both_shown r q t u (inl g) (inr h) = absurd (h.2 g.0 g.2.applies)
+    both_shown r q t u (inr g) (inl h) = absurd (g.2 h.0 h.2.applies)
+    both_shown r q t u (inr g) (inr h) =
+        let lines : g.0 ≡ h.0 = would_once s file differ once g.0 h.0 g.3.shows h.3.shows in
+        (g.1 ∙ ap shown lines ∙ sym h.1, g.3.becomes ∙ ap (λ (ls : List (List ℕ)). more_shown s (bytes_of ls)) lines ∙ sym h.3.becomes)
+
+  pub one_answer : (s : State) (of : Step) (r q : Reply) (t u : State) → Differ s.files → IsServed of → Steps s of r t → Steps s of q u → (r ≡ q) × (t ≡ u)
+  one_answer s (step.Edit file from to text) r q t u differ is g h =
+      both s (step.Edit file from to text) edited (λ v. IsEdited s (step.Edit file from to text) v) r q t u (one_refusal s file from to text differ) (one_edited s file from to text differ t u) (edit_answers s file text from to r t g) (edit_answers s file text from to q u h)
+  one_answer s step.Undo r q t u differ is g h = both s step.Undo undone (λ v. IsUndone s v) r q t u (one_undo_refusal s) (one_undone s t u) (undo_answers s r t g) (undo_answers s q u h)
+  one_answer s step.Redo r q t u differ is g h = both s step.Redo redone (λ v. IsRedone s v) r q t u (one_redo_refusal s) (one_redone s t u) (redo_answers s r t g) (redo_answers s q u h)
+  one_answer s (step.Show file what.Bindings) r q t u differ is g h = both_shown s file differ r q t u (show_answers s file r t g) (show_answers s file q u h)
+  one_answer s (step.Show file what.Dependences) r q t u differ is g h = absurd is
+  one_answer s (step.Rename a b c) r q t u differ is g h = absurd is
+  one_answer s (step.ExtractLocal a b c d) r q t u differ is g h = absurd is
+  one_answer s (step.ExtractMethod a b c d) r q t u differ is g h = absurd is
+  one_answer s (step.InlineLocal a b) r q t u differ is g h = absurd is
+  one_answer s (step.InlineMethod a b) r q t u differ is g h = absurd is
+  one_answer s (step.PullUp a b) r q t u differ is g h = absurd is
+  one_answer s (step.MoveStatic a b c) r q t u differ is g h = absurd is
+  one_answer s (step.MoveInstance a b c d) r q t u differ is g h = absurd is

@@ -1,0 +1,15 @@
+pub mod Sources
+pub mod SourceView
+pub mod FaultNames
+pub mod ReadingFaults
+pub mod FirstFault
+pub mod Analysed
+pub mod ReadingLaws
+pub mod FirstOf
+pub mod KeptReadings
+pub mod MemberCount
+pub mod BindingErrors
+pub mod Broken
+pub mod Whole
+pub mod Asking
+pub mod WholeView

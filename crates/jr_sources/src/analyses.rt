@@ -1,0 +1,28 @@
+//! What was analysed of sources.
+
+use jr_shown::{MemberBound, Tokens};
+use jr_table::Table;
+
+/// What was analysed of sources without a fault: their table, the tokens of each file, and what
+/// binding knows of their members, in file and text order.
+#[derive(Drop)]
+pub struct Analysis {
+    pub table: Table,
+    pub tokens: Vec<Tokens>,
+    pub members: Vec<MemberBound>,
+}
+
+/// The first fault of sources: the number of its file, its byte, and the name of its kind.
+#[derive(Drop)]
+pub struct SourceFault {
+    pub file: u32,
+    pub at: u32,
+    pub kind: &'static str,
+}
+
+/// What comes of an analysis.
+#[derive(Drop)]
+pub enum Analysed {
+    Program(Analysis),
+    Fault(SourceFault),
+}

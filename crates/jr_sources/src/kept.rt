@@ -1,0 +1,64 @@
+//! What is kept of the texts that were read.
+ghost use Rattle.std.specs.Prelude.{◌≡◌, ◌<◌, ◌++◌, ◌∷◌, [], length, slice_set, OnOk};
+
+use crate::faults::ReadingFault;
+use crate::readings::Reading;
+use jr_ast::Unit;
+use jr_text::Span;
+use std::alloc::{AllocError, Global};
+
+/// The readings of the files, by their numbers: units side by side, as the table is built from
+/// them, with the places of their first tokens, and with the faults. A file with a fault has a unit
+/// without classes.
+#[derive(Drop)]
+pub struct Readings {
+    pub units: Vec<Unit<Span>>,
+    pub words: Vec<u32>,
+    pub faults: Vec<Option<ReadingFault>>,
+}
+
+impl Readings {
+    /// No readings. It takes no memory.
+    pub fn new(alloc: Global) -> Readings
+        ensures units { result.units.items ≡ [] }
+        ensures words { result.words.items ≡ [] }
+        ensures faults { result.faults.items ≡ [] }
+    {
+        Readings {
+            units: Vec::new(alloc),
+            words: Vec::new(alloc),
+            faults: Vec::new(alloc),
+        }
+    }
+
+    /// Puts the reading of one more file behind the others.
+    pub fn push(&mut self, reading: Reading) -> Result<(), AllocError>
+        ensures units { OnOk result
+            (self.new.units.items ≡ self.old.units.items ++ reading.unit ∷ []) }
+        ensures words { OnOk result
+            (self.new.words.items ≡ self.old.words.items ++ reading.word ∷ []) }
+        ensures faults { OnOk result
+            (self.new.faults.items ≡ self.old.faults.items ++ reading.fault ∷ []) }
+    {
+        self.words.push(reading.word)?;
+        self.faults.push(reading.fault)?;
+        self.units.push(reading.unit)?;
+        Ok(())
+    }
+
+    /// Puts a reading in the place of that of the file of the number.
+    pub fn put(&mut self, number: u32, reading: Reading)
+        requires units { number < length self.old.units.items }
+        requires words { number < length self.old.words.items }
+        requires faults { number < length self.old.faults.items }
+        ensures units { self.new.units.items ≡ slice_set self.old.units.items number reading.unit }
+        ensures words { self.new.words.items ≡ slice_set self.old.words.items number reading.word }
+        ensures faults { self.new.faults.items
+            ≡ slice_set self.old.faults.items number reading.fault }
+    {
+        let at = number as usize;
+        self.units[at] = reading.unit;
+        self.words[at] = reading.word;
+        self.faults[at] = reading.fault;
+    }
+}

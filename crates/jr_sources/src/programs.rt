@@ -1,0 +1,183 @@
+//! Sources are analysed: their table is made, and their members are bound.
+ghost use Rattle.std.specs.Prelude.{◌≡◌, ◌≤◌, ◌+◌, List, map, IfOk, MatchOption};
+ghost use Rattle.jr_lex.specs.declared.items.Item as pure;
+ghost use Rattle.jr_lex.specs.Lexes.{Lexes};
+ghost use Rattle.jr_ast.specs.View.{unit_of};
+ghost use Rattle.jr_table.specs.Sites.{sites_of};
+ghost use Rattle.jr_table.specs.ProgramRows.{AreProgramRows};
+ghost use Rattle.jr_places.specs.FileParts.{begins};
+ghost use Rattle.jr_sources.specs.Analysed.{AreLexed, IsAnalysed, IsSourceFault, IsKeptAnalysis};
+ghost use Rattle.jr_sources.specs.Analysed.{IsFilled, CostsBinding};
+ghost use Rattle.jr_sources.specs.FirstFault.{AreRead, AreProgram};
+ghost use Rattle.jr_sources.specs.FirstOf.{AreAllRead};
+ghost use Rattle.jr_sources.specs.KeptReadings.{AreReadings};
+ghost use Rattle.jr_sources.specs.Sources.{AreSources, texts_of};
+
+use crate::analyses::{Analysed, Analysis, SourceFault};
+use crate::first_faults::first_of;
+use crate::kept::Readings;
+use crate::reading_laws::text_has_one_reading;
+use crate::sources::Sources;
+use jr_ast::Unit;
+use jr_build::{BuildFault, build};
+use jr_lex::{lex, one_answer};
+use jr_members::{members_are_written, written_members};
+use jr_places::{one_is_bound, parts_are_placed};
+use jr_shown::{Tokens, bind_members};
+use jr_steps::Steps;
+use jr_table::Table;
+use jr_text::{Span, Text};
+use std::alloc::{AllocError, Global};
+use std::sync::ledger::Ledger;
+
+// The tokens of a text that has items.
+fn tokens_of(alloc: Global, text: &Text) -> Result<Tokens, AllocError>
+    requires { (items : List pure.Item) × Lexes text.now items }
+    ensures { IfOk result (Lexes text.now) }
+{
+    match lex(alloc, text) {
+        Ok(items) => Tokens::new(alloc, items),
+        // The text has no fault, so that it was memory that was wanted.
+        Err(_) => Err(AllocError),
+    }
+}
+
+fn all_tokens(alloc: Global, sources: &Sources) -> Result<Vec<Tokens>, AllocError>
+    requires { AreAllRead sources.now }
+    ensures { IfOk result (λ tokens. AreLexed (texts_of sources.now) tokens.items) }
+{
+    let mut tokens = Vec::new(alloc);
+    for number in 0..sources.count() {
+        let more = tokens_of(alloc, sources.text(number))?;
+        tokens.push(more)?;
+    }
+    Ok(tokens)
+}
+
+// What is known of sources that are a program with these units and this table.
+fn bind_all<L: Ledger>(
+    alloc: Global,
+    sources: &Sources,
+    units: &[Unit<Span>],
+    words: &[u32],
+    table: Table,
+    steps: &mut Steps<L>,
+) -> Result<Analysed, AllocError>
+    requires valid { AreSources sources.now }
+    requires program { AreProgram sources.now (map unit_of units.now) words.now }
+    requires rows { AreProgramRows (sites_of begins (map unit_of units.now)) table }
+    ensures analysed { IfOk result (IsAnalysed sources.now) }
+    ensures cost { CostsBinding sources.now steps.old steps.new }
+{
+    text_has_one_reading();
+    one_answer();
+    members_are_written::<Span>();
+    parts_are_placed();
+    one_is_bound();
+    table.keeps_rows();
+    let tokens = all_tokens(alloc, sources)?;
+    let written = written_members(alloc, &table, units)?;
+    let members = bind_members(alloc, &table, tokens.as_slice(), written.as_slice(), steps)?;
+    Ok(Analysed::Program(Analysis {
+        table,
+        tokens,
+        members,
+    }))
+}
+
+// What is known of sources that read as units.
+fn analyse_units<L: Ledger>(
+    alloc: Global,
+    sources: &Sources,
+    units: &[Unit<Span>],
+    words: &[u32],
+    steps: &mut Steps<L>,
+) -> Result<Analysed, AllocError>
+    requires valid { AreSources sources.now }
+    requires read { AreRead sources.now (map unit_of units.now) words.now }
+    ensures analysed { IfOk result (IsAnalysed sources.now) }
+    ensures cost { CostsBinding sources.now steps.old steps.new }
+{
+    match build(alloc, units, words) {
+        Err(BuildFault::At { file, at, kind }) => Ok(Analysed::Fault(SourceFault {
+            file,
+            at,
+            kind: kind.name(),
+        })),
+        Err(BuildFault::Memory) => Err(AllocError),
+        Ok(table) => bind_all(alloc, sources, units, words, table, steps),
+    }
+}
+
+// The first file that has a fault by itself, and the first that it has. Where there is none, all
+// files read as the units that are kept.
+fn file_fault(sources: &Sources, readings: &Readings) -> Option<SourceFault>
+    requires valid { AreSources sources.now }
+    requires readings { AreReadings (texts_of sources.now) readings.now }
+    ensures { MatchOption result
+        (AreRead sources.now (map unit_of readings.now.units.items) readings.now.words.items)
+        (IsSourceFault sources.now) }
+{
+    text_has_one_reading();
+    match first_of(readings.faults.as_slice()) {
+        None => None,
+        Some((number, fault)) => Some(SourceFault {
+            file: number as u32,
+            at: fault.at,
+            kind: fault.kind.name(),
+        }),
+    }
+}
+
+// What is known of sources, or their first fault.
+fn analyse<L: Ledger>(
+    alloc: Global,
+    sources: &Sources,
+    readings: &Readings,
+    steps: &mut Steps<L>,
+) -> Result<Analysed, AllocError>
+    requires valid { AreSources sources.now }
+    requires readings { AreReadings (texts_of sources.now) readings.now }
+    ensures analysed { IfOk result (IsAnalysed sources.now) }
+    ensures cost { CostsBinding sources.now steps.old steps.new }
+{
+    match file_fault(sources, readings) {
+        Some(fault) => Ok(Analysed::Fault(fault)),
+        None => analyse_units(
+            alloc,
+            sources,
+            readings.units.as_slice(),
+            readings.words.as_slice(),
+            steps,
+        ),
+    }
+}
+
+/// Analyses sources, unless what they give is kept already. A fault is told, the first of the
+/// sources; where there is none, what was analysed is kept.
+pub fn keep_analysis<L: Ledger>(
+    alloc: Global,
+    sources: &Sources,
+    readings: &Readings,
+    kept: &mut Option<Analysis>,
+    steps: &mut Steps<L>,
+) -> Result<Option<SourceFault>, AllocError>
+    requires valid { AreSources sources.now }
+    requires readings { AreReadings (texts_of sources.now) readings.now }
+    requires kept { IsKeptAnalysis sources.now kept.old }
+    ensures kept { IsKeptAnalysis sources.now kept.new }
+    ensures found { IfOk result (λ fault.
+        MatchOption fault (IsFilled kept.new) (IsSourceFault sources.now)) }
+    ensures cost { CostsBinding sources.now steps.old steps.new }
+{
+    if kept.is_some() {
+        return Ok(None);
+    }
+    match analyse(alloc, sources, readings, steps)? {
+        Analysed::Fault(fault) => Ok(Some(fault)),
+        Analysed::Program(analysis) => {
+            *kept = Some(analysis);
+            Ok(None)
+        }
+    }
+}

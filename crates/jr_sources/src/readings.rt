@@ -1,0 +1,100 @@
+//! Texts are read: each becomes a unit, or has a fault.
+ghost use Rattle.std.specs.Prelude.{◌≡◌, ℕ, List, IfOk, Some, None, MatchOption};
+ghost use Rattle.jr_lex.specs.declared.items.Item.{Item};
+ghost use Rattle.jr_lex.specs.Lexes.{Lexes};
+ghost use Rattle.jr_lex.specs.Answers.{IsFault};
+ghost use Rattle.jr_lex.specs.Depth.{AreWithin};
+ghost use Rattle.jr_ast.specs.View.{unit_of};
+ghost use Rattle.jr_sources.specs.ReadingFaults.{IsReading, first_token_at};
+
+use crate::faults::{FaultKind, ReadingFault};
+use jr_ast::Unit;
+use jr_lex::{Item, ItemKind, LexFault, lex, measure};
+use jr_pexpr::ParseFault;
+use jr_punit::parse_unit;
+use jr_text::{Span, Text};
+use std::alloc::{AllocError, Global};
+
+/// What a text reads as. A text with a fault has a unit without classes, which says nothing.
+#[derive(Drop)]
+pub struct Reading {
+    pub unit: Unit<Span>,
+    /// Where the first token begins.
+    pub word: u32,
+    pub fault: Option<ReadingFault>,
+}
+
+// The reading of a text that has a fault.
+fn faulty(alloc: Global, at: u32, kind: FaultKind) -> Reading
+    ensures { result.fault ≡ Some (record { at = at; kind = kind }) }
+{
+    let mark = Span { from: 0, to: 0 };
+    Reading {
+        unit: Unit {
+            mark,
+            package: Vec::new(alloc),
+            classes: Vec::new(alloc),
+        },
+        word: 0,
+        fault: Some(ReadingFault { at, kind }),
+    }
+}
+
+// Where the first token of the items begins.
+fn first_token(items: &[Item]) -> u32
+    ensures { result ≡ first_token_at items.now }
+{
+    for item in items {
+        match item.kind {
+            ItemKind::Token(_) => return item.span.from,
+            ItemKind::Blank | ItemKind::Comment => {}
+        }
+    }
+    0
+}
+
+// What a text with these items reads as.
+fn unit_of_items(alloc: Global, text: &Text, items: &[Item]) -> Result<Reading, AllocError>
+    requires lexes { Lexes text.now items.now }
+    requires within { AreWithin items.now }
+    ensures { IfOk result (λ r. IsReading text.now (unit_of r.unit) r.word r.fault) }
+{
+    match parse_unit(alloc, text, items) {
+        Ok(unit) => Ok(Reading {
+            unit,
+            word: first_token(items),
+            fault: None,
+        }),
+        Err(ParseFault::Syntax { at }) => Ok(faulty(alloc, at, FaultKind::Syntax)),
+        Err(ParseFault::Memory) => Err(AllocError),
+    }
+}
+
+// What a text that has no items reads as.
+fn lexical(alloc: Global, fault: LexFault) -> Result<Reading, AllocError>
+    ensures { (text : List ℕ) → IsFault text fault
+        → IfOk result (λ r. IsReading text (unit_of r.unit) r.word r.fault) }
+{
+    match fault {
+        LexFault::BadByte { at } => Ok(faulty(alloc, at, FaultKind::BadByte)),
+        LexFault::OpenComment { at } => Ok(faulty(alloc, at, FaultKind::OpenComment)),
+        LexFault::OpenString { at } => Ok(faulty(alloc, at, FaultKind::OpenString)),
+        LexFault::Escape { at } => Ok(faulty(alloc, at, FaultKind::Escape)),
+        LexFault::BadNumber { at } => Ok(faulty(alloc, at, FaultKind::BadNumber)),
+        LexFault::Memory => Err(AllocError),
+    }
+}
+
+/// What a text reads as: its unit, or its first fault, a lexical one before one of depth, and that
+/// before one of syntax.
+pub fn read(alloc: Global, text: &Text) -> Result<Reading, AllocError>
+    ensures { IfOk result (λ r. IsReading text.now (unit_of r.unit) r.word r.fault) }
+{
+    match lex(alloc, text) {
+        Err(fault) => lexical(alloc, fault),
+        Ok(items) => match measure(items.as_slice()) {
+            Err(deep) => Ok(faulty(alloc, deep.at, FaultKind::Deep)),
+            Ok(()) => unit_of_items(alloc, text, items.as_slice()),
+        },
+    }
+}
