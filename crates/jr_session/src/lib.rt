@@ -9,10 +9,13 @@ mod begins;
 mod changes;
 mod edits;
 mod laws;
+mod made;
+mod plans;
 mod sessions;
 mod shows;
 mod splices;
 mod steps;
+mod tries;
 mod turns;
 
 pub use begins::BeginFault;
