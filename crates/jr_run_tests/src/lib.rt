@@ -14,6 +14,8 @@ mod memory;
 #[cfg(test)]
 mod renames;
 #[cfg(test)]
+mod renaming;
+#[cfg(test)]
 mod reports;
 #[cfg(test)]
 mod runs;
@@ -23,7 +25,5 @@ mod scripts;
 mod sessions;
 #[cfg(test)]
 mod shows;
-#[cfg(test)]
-mod small;
 #[cfg(test)]
 mod words;

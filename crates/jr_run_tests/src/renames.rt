@@ -1,11 +1,10 @@
-//! Renames of locals, and what is told of them.
+//! The command `rename`, and what is told of it.
 use crate::memory::words_of;
 use crate::runs::run_line;
 use jr_files::SourceFault;
 use jr_script::ScriptFault;
 use jr_shelf::MemorySink;
-use jr_small::{Declaration, Refusal, SourceKind};
-use jr_top::{Message, Status, refusal_line};
+use jr_top::{Message, Status};
 use std::alloc::{AllocError, Global};
 use std::process::Abort;
 use std::test::Fail;
@@ -57,6 +56,31 @@ fn renames(rt: HostRuntime) -> Result<(), Fail> {
             "rename A.java 47 A",
             "class A{static int f;static void m(){A.f=1;int A=2;f=A;}static void n(int a){a=f;}}",
         ),
+        (
+            "class A{void m(){}}class B extends A{void m(){}void n(){m();}}",
+            "rename A.java 13 k",
+            "class A{void k(){}}class B extends A{void k(){}void n(){k();}}",
+        ),
+        (
+            "class A{int x;}class B extends A{int y;int m(){return x;}}",
+            "rename A.java 37 x",
+            "class A{int x;}class B extends A{int x;int m(){return super.x;}}",
+        ),
+        (
+            "class A{}class B extends A{A a(){return (A)new A();}Class c(){return A.class;}}",
+            "rename A.java 6 C",
+            "class C{}class B extends C{C a(){return (C)new C();}Class c(){return C.class;}}",
+        ),
+        (
+            "class A{static int f=-2147483648;}",
+            "rename A.java 6 B",
+            "class B{static int f=-2147483648;}",
+        ),
+        (
+            "class A{static void m(){{int a=1;}}}",
+            "rename A.java 29 B",
+            "class A{static void m(){{int B=1;}}}",
+        ),
     ] {
         check(&rt, rt.alloc(), source.as_bytes(), line, "Done", output)?;
     }
@@ -80,14 +104,14 @@ fn refuses(rt: HostRuntime) -> Result<(), Fail> {
         ),
         (RENAMED, "rename A.java 41 goto", "refused 3 BadName goto\n"),
         (
-            "class A{int f;}",
-            "rename A.java 12 b",
-            "refused 4 SourceError A.java:0 Unbuilt\n",
+            RENAMED,
+            "rename A.java 0 b",
+            "refused 5 BadTarget A.java:0 Declaration\n",
         ),
         (
-            RENAMED,
-            "rename A.java 6 b",
-            "refused 5 BadTarget A.java:6 Declaration\n",
+            "class A extends Thread{public void run(){}}",
+            "rename A.java 35 go",
+            "refused 6 PreludeMethod Thread.run()\n",
         ),
         (two, "rename A.java 28 b", "refused 14 Clash A.m()#1\n"),
         (
@@ -95,17 +119,21 @@ fn refuses(rt: HostRuntime) -> Result<(), Fail> {
             "rename A.java 46 f",
             "refused 16 LostBinding A.java:50 A.f found A.m(int)#1\n",
         ),
+        (
+            "class A{void m(){}}class B extends A{void n(){}}",
+            "rename A.java 42 m",
+            "refused 15 OverrideChanged B A.m()\n",
+        ),
     ] {
         check(&rt, rt.alloc(), source.as_bytes(), line, "Refused", output)?;
     }
     Ok(())
 }
 
-// Comments that are not closed, texts that are no unit, and then units that are no sound source of
-// one class without blocks.
+// Comments that are not closed, texts that are no unit, declarations with a fault, and then a rule
+// that is broken.
 #[test]
 fn refuses_sources(rt: HostRuntime) -> Result<(), Fail> {
-    let unbuilt = "refused 4 SourceError A.java:0 Unbuilt\n";
     for (source, at, output) in [
         (
             "class A{/*/}",
@@ -128,19 +156,31 @@ fn refuses_sources(rt: HostRuntime) -> Result<(), Fail> {
             33,
             "refused 4 SourceError A.java:29 Syntax\n",
         ),
-        ("class A{static int f;}class B{static int f;}", 42, unbuilt),
-        ("class A{static void m(){{int a=1;}}}", 29, unbuilt),
+        (
+            "class A{static int f=2147483648;}",
+            6,
+            "refused 4 SourceError A.java:21 Syntax\n",
+        ),
+        (
+            "class A extends B{}",
+            6,
+            "refused 4 SourceError A.java:16 NoSuperclass\n",
+        ),
+        (
+            "class A extends B{}class B extends A{}",
+            6,
+            "refused 4 SourceError A.java:6 Cycle\n",
+        ),
+        (
+            "class A{int m(){return x;}}",
+            6,
+            "refused 4 SourceError A.java:23 NoVariable\n",
+        ),
         (
             "class A{static int a;static void m(){int a=a;}}",
             41,
-            unbuilt,
+            "refused 4 SourceError A.java:43 Forward\n",
         ),
-        (
-            "class A{static int f;static void m(int A){A.f=1;}}",
-            39,
-            unbuilt,
-        ),
-        ("class A{static void m(int a){b=a;int b=1;}}", 26, unbuilt),
     ] {
         let line = format!(in rt.alloc(); "rename A.java {at} B")?;
         check(
@@ -249,54 +289,6 @@ fn failing_calls(rt: HostRuntime) -> Result<(), Fail> {
         let end = run_line(&rt, alloc, held, line, &[call], &[put])?;
         assert_eq!(rt; end.status.as_str(), status, "{line}");
         assert_eq!(rt; end.output.as_str(), "", "{line}");
-    }
-    Ok(())
-}
-
-#[test]
-fn lines(rt: HostRuntime) -> Result<(), Fail> {
-    let alloc = rt.alloc();
-    let name = |text: &str| String::from_str(alloc, text);
-    let class = Declaration::Class(name("A")?);
-    let field = Declaration::Field {
-        class: name("A")?,
-        name: name("f")?,
-    };
-    let variable = Declaration::Variable {
-        class: name("A")?,
-        method: name("m")?,
-        parameters: 2,
-        number: 2,
-    };
-    let lost = Refusal::LostBinding {
-        at: 50,
-        declaration: field,
-        found: class,
-    };
-    let bad_source = Refusal::SourceError {
-        at: 7,
-        kind: SourceKind::Deep,
-    };
-    for (refusal, line) in [
-        (Refusal::BadPlace, "refused 2 BadPlace dir/A.java:12\n"),
-        (Refusal::BadName, "refused 3 BadName goto\n"),
-        (bad_source, "refused 4 SourceError dir/A.java:7 Deep\n"),
-        (
-            Refusal::BadTarget,
-            "refused 5 BadTarget dir/A.java:12 Declaration\n",
-        ),
-        (
-            Refusal::Clash { with: variable },
-            "refused 14 Clash A.m(int,int)#2\n",
-        ),
-        (lost, "refused 16 LostBinding dir/A.java:50 A.f found A\n"),
-        (
-            Refusal::TooLong { len: 1_048_577 },
-            "refused 20 TooLong 1048577\n",
-        ),
-    ] {
-        let written = refusal_line(alloc, "dir/A.java", 12, "goto", &refusal)?;
-        assert_eq!(rt; written.as_str(), line);
     }
     Ok(())
 }

@@ -42,6 +42,11 @@ fn step_text(alloc: Global, step: &Step) -> Result<String, AllocError> {
             let text = text.as_str();
             format!(in alloc; "edit {file} {from} {to} {text}")
         }
+        Step::Rename { file, at, name } => {
+            let file = file.as_str();
+            let name = name.as_str();
+            format!(in alloc; "rename {file} {at} {name}")
+        }
         Step::Show { file, what } => {
             let file = file.as_str();
             let what = match what {
@@ -77,6 +82,10 @@ fn scripts(rt: HostRuntime) -> Result<(), Fail> {
             "[{\"step\":\"show\",\"file\":\"A.java\",\"what\":\"bindings\"}]",
             "show A.java bindings;",
         ),
+        (
+            "[{\"name\":\"b\",\"step\":\"rename\",\"at\":4294967295,\"file\":\"A.java\"}]",
+            "rename A.java 4294967295 b;",
+        ),
         // The last of two equal names stays, and an escaped name is the name.
         ("[{\"step\":\"redo\",\"step\":\"undo\"}]", "undo;"),
         ("[{\"st\\u0065p\":\"und\\u006f\"}]", "undo;"),
@@ -100,7 +109,7 @@ fn scripts(rt: HostRuntime) -> Result<(), Fail> {
         ("[{\"step\":1}]", "NotAScript 0 step"),
         ("[{\"step\":\"Undo\"}]", "NotAScript 0 step"),
         (
-            "[{\"step\":\"rename\",\"file\":\"A.java\",\"at\":1,\"name\":\"b\"}]",
+            "[{\"step\":\"pull_up\",\"file\":\"A.java\",\"at\":1}]",
             "NotAScript 0 step",
         ),
         (
@@ -140,6 +149,14 @@ fn scripts(rt: HostRuntime) -> Result<(), Fail> {
         (
             "[{\"step\":\"edit\",\"file\":\"A\",\"from\":0,\"to\":0,\"a\":1}]",
             "NotAScript 0 text",
+        ),
+        (
+            "[{\"step\":\"rename\",\"file\":\"A\",\"at\":-1,\"name\":\"b\"}]",
+            "NotAScript 0 at",
+        ),
+        (
+            "[{\"step\":\"rename\",\"file\":\"A\",\"at\":0,\"new\":\"b\"}]",
+            "NotAScript 0 name",
         ),
         (
             "[{\"step\":\"show\",\"what\":\"bindings\"}]",

@@ -17,3 +17,6 @@ pub mod Showing
 pub mod Exchanging
 pub mod Planning
 pub mod Trying
+pub mod Telling
+pub mod RenameFiles
+pub mod StepFiles

@@ -3,6 +3,7 @@ mod Changed
 mod EarlyEnds
 mod Following
 mod InputLaws
+mod OneFile
 mod PutLaws
 mod RenameEnds
 mod Replying

@@ -1,31 +1,29 @@
 ghost use Rattle.std.specs.Prelude.{◌≡◌, ◌≤◌, ◌+◌, ◌⊎◌, IfErr, IfOk, OnErr, OnOk, OnSome, Some};
 ghost use Rattle.jr_shelf.specs.Counts.{Rose, RoseBy};
 ghost use Rattle.jr_shelf.specs.Sink.{AppendedInPart, with_bytes};
-ghost use Rattle.jr_small.specs.Answer.{Grants};
 ghost use Rattle.jr_files.specs.Sources.{HoldsFault, HoldsNoText, HoldsText, IsSource};
 ghost use Rattle.jr_top.specs.Statuses.{IsAfterSource, IsAnswerOrMemory, IsBadSourceOrMemory};
 ghost use Rattle.jr_top.specs.Statuses.{IsBeforeSource, IsOfRename};
 ghost use Rattle.jr_top.specs.Statuses.{OnAnswer, OnBadSource, OnDone, OnNoReadFault};
 ghost use Rattle.jr_top.specs.Statuses.{OnNothingWritten, OnReadFault, OnRefused, OnWriteFault};
 ghost use Rattle.jr_top.specs.Statuses.{OnWriting};
-ghost use Rattle.jr_top.specs.Renames.{IsEither, IsNewText, IsNoNewText, IsRefusalLine};
-ghost use Rattle.jr_top.specs.Renames.{TookAll, TookInPart};
+ghost use Rattle.jr_top.specs.Renames.{IsEither, IsGranted, IsNewText, IsNoNewText};
+ghost use Rattle.jr_top.specs.Renames.{IsRefusalLine, TookAll, TookInPart};
 ghost use Rattle.jr_top.specs.Runs.{Comes, HadNoFault};
 ghost use Rattle.jr_words.specs.Words.{rename as pure_rename};
 
-use crate::lines::refusal_line;
+use crate::answers::answer_of;
 use crate::statuses::Status;
 use jr_files::SourceFault;
 use jr_shelf::{FetchFault, Shelf, Sink};
-use jr_small::{Outcome, rename};
 use jr_text::{Text, TextFault};
 use std::alloc::Global;
 
 // The number of the word FILE.
 const FILE: u32 = 1;
 
-/// Fetches the file, renames the local at the byte `at` of its source, and gives the sink the new
-/// text, or the line of the refusal.
+/// Fetches the file, renames what the identifier at the byte `at` of its source declares or is bound
+/// to, and gives the sink the new text, or the line of the refusal.
 pub(crate) fn rename_file<S: Shelf, K: Sink>(
     alloc: Global,
     file: &str,
@@ -100,7 +98,7 @@ fn rename_in_file<S: Shelf, K: Sink>(
 {
     match fetch_source(alloc, file, shelf) {
         Err(status) => status,
-        Ok(source) => rename_in_source(alloc, file, &source, at, name, sink),
+        Ok(source) => rename_in_source(alloc, file, source, at, name, sink),
     }
 }
 
@@ -154,45 +152,43 @@ fn bad_source(fault: SourceFault) -> Status
     Status::BadSource { word: FILE, fault }
 }
 
-// Renames the local at the byte `at` of the source, and gives the sink the new text, or the line of
-// the refusal.
+// Does the one step to the source, and gives the sink the new text, or the line of the refusal.
 fn rename_in_source<K: Sink>(
     alloc: Global,
     file: &str,
-    source: &Text,
+    source: Text,
     at: u32,
     name: &str,
     sink: &mut K,
 ) -> Status
     ensures ends { IsAfterSource result }
     ensures done { OnDone result
-        (TookAll (Grants source.now at name.now) (K.taken sink.old) (K.taken sink.new)) }
+        (TookAll (IsGranted file.now source at name.now) (K.taken sink.old) (K.taken sink.new)) }
     ensures refused { OnRefused result
-        (TookAll (IsRefusalLine file.now source.now at name.now)
+        (TookAll (IsRefusalLine file.now source at name.now)
         (K.taken sink.old) (K.taken sink.new)) }
     ensures write_fault_stored { OnWriteFault result (λ stored. stored ≡ 0) }
     ensures write_fault { OnWriteFault result (λ stored.
         Rose (K.faults sink.old) (K.faults sink.new)) }
     ensures write_fault_in_part { OnWriteFault result (λ stored.
-        TookInPart (λ output.
-        Grants source.now at name.now output ⊎ IsRefusalLine file.now source.now at name.now output)
+        TookInPart (λ output. IsGranted file.now source at name.now output
+        ⊎ IsRefusalLine file.now source at name.now output)
         (K.taken sink.old) (K.taken sink.new)) }
     ensures nothing_put { OnNothingWritten result (sink.new ≡ sink.old) }
     ensures faults { K.faults sink.old ≤ K.faults sink.new }
     ensures faults_stay { OnAnswer result (K.faults sink.new ≡ K.faults sink.old) }
 {
-    match rename(alloc, source, at, name) {
+    match answer_of(alloc, file, source, at, name) {
         Err(_) => Status::NoMemory,
-        Ok(Outcome::Renamed(text)) => match put(sink, text.as_str()) {
-            Ok(()) => Status::Done,
+        Ok(answer) => match put(sink, answer.output.as_str()) {
+            Ok(()) => {
+                if answer.refused {
+                    Status::Refused
+                } else {
+                    Status::Done
+                }
+            }
             Err(fault) => fault,
-        },
-        Ok(Outcome::Refused(refusal)) => match refusal_line(alloc, file, at, name, &refusal) {
-            Err(_) => Status::NoMemory,
-            Ok(line) => match put(sink, line.as_str()) {
-                Ok(()) => Status::Refused,
-                Err(fault) => fault,
-            },
         },
     }
 }

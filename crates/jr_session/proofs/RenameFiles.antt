@@ -1,0 +1,76 @@
+-- A rename stays in the files of its session: the names, and the places that its refusals tell.
+use Rattle.std.proofs.Common.{◌≡◌, ◌∙◌, ◌<◌, ◌≤◌, ℕ, zero, suc, ap, arith, refl, sym, subst, List, [], ◌∷◌, length, map, slice_get, Some}
+use Rattle.std.proofs.lemmas.List.{length-map}
+use Rattle.std.proofs.lemmas.Option.{slice_get_within}
+use Rattle.jr_text.specs.declared.spans.Span.{Span}
+use Rattle.jr_text.specs.Edits.{Entry}
+use Rattle.jr_ast.specs.MemberTree as syntax
+use Rattle.jr_ast.specs.MemberTree.{Unit as UnitTree}
+use Rattle.jr_bind.specs.Programs.{File, Program, units_of}
+use Rattle.jr_rename.specs.Renames as renames
+use Rattle.jr_rewrite.specs.Rewrites.{Choosing, RewritesUnits}
+use Rattle.jr_rewrite.specs.Rewritten.{Rewritten}
+use Rattle.jr_table.specs.Sites.{Site}
+use Rattle.jr_names.specs.Refusals.{Refusal}
+use Rattle.jr_sources.specs.Sources.{Source, IsFile, HasName, names_of}
+use Rattle.jr_sources.specs.Whole.{files_of, IsProgramOf}
+use Rattle.jr_grammar.specs.Layout.{itself}
+use Rattle.jr_session.specs.NewTexts.{with_edits}
+use Rattle.jr_session.proofs.Telling.{TellsIn}
+use Rattle.jr_session.specs.Renaming as renaming
+use Rattle.jr_session.specs.States.{State}
+
+with_edits_names : (sources : List Source) (edits : List (List Entry)) → names_of (with_edits sources edits) ≡ names_of sources
+with_edits_names [] edits = refl
+with_edits_names (s ∷ ss) [] = refl
+with_edits_names (s ∷ ss) (e ∷ es) = ap (λ ns. s.name ∷ ns) (with_edits_names ss es)
+
+few_files : (sources : List Source) (units : List (UnitTree Span)) → length (files_of sources units) ≤ length sources
+few_files [] us = omega arith
+few_files (s ∷ ss) [] = omega arith
+few_files (s ∷ ss) (u ∷ us) = let few = few_files ss us in omega (arith, few)
+
+as_many : {A : Type 0} (tells : A → ℕ → Span) (C : Choosing A) (sites : List Site) (us : List (syntax.Unit A)) (os : List (Rewritten (syntax.Unit A))) → RewritesUnits tells C sites us os → length os ≡ length us
+as_many tells C sites [] os h = ap length h
+as_many tells C sites (u ∷ us) os h = let rest = as_many tells C sites us h.1 h.3 in let all = ap length h.4 in omega (arith, rest, all)
+
+named : (sources : List Source) (number : ℕ) (name : List ℕ) → HasName sources number name → number < length sources
+named sources number name has = let within = slice_get_within (names_of sources) number name has in let all = length-map sources (λ (s : Source). s.name) in omega (arith, within, all)
+
+in_files : (sources : List Source) (number : ℕ) (name text : List ℕ) → IsFile sources number name text → number < length sources
+in_files sources number name text is = slice_get_within sources number (record { name = name; text = text }) is
+
+of_program : (sources : List Source) (p : Program Span) → IsProgramOf sources p → length (units_of p) ≤ length sources
+of_program sources p is =
+    let few = few_files sources is.units in
+    let files = ap length is.files in
+    let units = length-map p.files (λ (f : File Span). f.unit) in
+    omega (arith, few, files, units)
+
+module _ (s : State) (file : List ℕ) (at : ℕ) (new : List ℕ) where
+  pub renamed_names : (names : List (List ℕ)) (respelled : ℕ) (t : State) → renaming.IsRenamed s file at new names respelled t → names_of t.files ≡ names_of s.files
+  renamed_names names respelled t is = ap (λ (u : State). names_of u.files) is.becomes ∙ with_edits_names s.files is.edits
+
+  planned_places : (p : Program Span) (number : ℕ) (text : List ℕ) (r : Refusal) → renaming.IsPosed s file at new p number text
+      → renames.IsRefused itself p.rows p.super_at (units_of p) text number at new r → TellsIn (length s.files) r
+  planned_places p number text r posed (renames.no_target h) =
+      let own : number < length s.files = in_files s.files number file text posed.asked.stands in subst (TellsIn (length s.files)) (sym h.1) own
+  planned_places p number text r posed (renames.of_prelude of h) = subst (TellsIn (length s.files)) (sym h.2) tt
+  planned_places p number text r posed (renames.clashes of none h) = subst (TellsIn (length s.files)) (sym h.2) tt
+  planned_places p number text r posed (renames.overrides of none clear h) = subst (TellsIn (length s.files)) (sym h.3) tt
+  planned_places p number text r posed (renames.loses of none clear stays h) =
+      let there = slice_get_within h.0 h.1 h.4.lost.of h.4.lost.stands in
+      let many = as_many _ _ _ (units_of p) h.0 h.3 in
+      let few = of_program s.files p posed.program in
+      let own : h.1 < length s.files = omega (arith, there, many, few) in
+      subst (TellsIn (length s.files)) (sym h.5) own
+
+  pub refused_places : (r : Refusal) → renaming.IsRefusedRename s file at new r → TellsIn (length s.files) r
+  refused_places r (renaming.no_file lacks is) = subst (TellsIn (length s.files)) (sym is) tt
+  refused_places r (renaming.at_no_place number text stands cannot is) = subst (TellsIn (length s.files)) (sym is) tt
+  refused_places r (renaming.no_name number text stands can other is) = subst (TellsIn (length s.files)) (sym is) tt
+  refused_places r (renaming.wrong number text name place kind asked wrong is) = subst (TellsIn (length s.files)) (sym is) tt
+  refused_places r (renaming.by_plan p number text posed h) = planned_places p number text r posed h
+  refused_places r (renaming.long edits respelled len plan h is) = subst (TellsIn (length s.files)) (sym is) tt
+  refused_places r (renaming.breaks edits respelled number place name kind short has wrong is) =
+      let own = named s.files number name has in subst (TellsIn (length s.files)) (sym is) own
