@@ -3,9 +3,9 @@
 //!
 //! `run` is all of it. The words are read; the files that they name are fetched and checked; a
 //! session does the one step of a rename, or the steps of a script to the end; and then what is to
-//! be written is written: changed files to the shelf, a text, a line or a report to the sink. The `Status`
-//! that comes back has a number for the process to end with, and a `Message` for standard error.
-//! `serve` runs the words and does both.
+//! be written is written: changed files to the shelf, a text, a line or a report to the sink. The
+//! `Status` that comes back has a number for the process to end with, and a `Message` for standard
+//! error. `serve` runs the words and does both.
 #![tactic(auto)]
 
 mod answers;

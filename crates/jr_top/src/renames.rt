@@ -22,8 +22,8 @@ use std::alloc::Global;
 // The number of the word FILE.
 const FILE: u32 = 1;
 
-/// Fetches the file, renames what the identifier at the byte `at` of its source declares or is bound
-/// to, and gives the sink the new text, or the line of the refusal.
+/// Fetches the file, renames what the identifier at the byte `at` of its source declares or is
+/// bound to, and gives the sink the new text, or the line of the refusal.
 pub(crate) fn rename_file<S: Shelf, K: Sink>(
     alloc: Global,
     file: &str,

@@ -19,9 +19,9 @@ use std::alloc::Global;
 
 /// Does what the words ask for, with the files of the shelf, and gives the sink the output.
 ///
-/// `rename FILE AT NAME` renames what the identifier at the byte AT of the file declares or is bound
-/// to, in a session that has this file alone. The output is the new text, or the line `refused
-/// NUMBER TEXT` of the refusal, and nothing is stored.
+/// `rename FILE AT NAME` renames what the identifier at the byte AT of the file declares or is
+/// bound to, in a session that has this file alone. The output is the new text, or the line
+/// `refused NUMBER TEXT` of the refusal, and nothing is stored.
 ///
 /// `run [--out DIR] SCRIPT FILE..` does the steps of the script to the files, a refused step
 /// followed by the next. Each file whose text at the end isn't the text that was read is stored, in
