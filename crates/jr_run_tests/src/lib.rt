@@ -18,6 +18,8 @@ mod renaming;
 #[cfg(test)]
 mod reports;
 #[cfg(test)]
+mod rows;
+#[cfg(test)]
 mod runs;
 #[cfg(test)]
 mod scripts;
