@@ -325,7 +325,9 @@ fn replies(rt: HostRuntime) {
     assert_same(
         &rt,
         text.as_str(),
-        "[{\"lines\":[\"44 B B\",\"61 x O.x\"],\"reply\":\"shown\"},{\"reply\":\"edited\"},{\"files\":[\"Worker.java\",\"Starter.java\"],\"reply\":\"refactored\",\"respelled\":1},{\"reply\":\"undone\"},{\"reply\":\"redone\"}]\n",
+        "[{\"lines\":[\"44 B B\",\"61 x O.x\"],\"reply\":\"shown\"},{\"reply\":\"edited\"},\
+         {\"files\":[\"Worker.java\",\"Starter.java\"],\"reply\":\"refactored\",\"respelled\":1},\
+         {\"reply\":\"undone\"},{\"reply\":\"redone\"}]\n",
     );
 }
 

@@ -62,8 +62,9 @@ pub(crate) fn end_told(rt: &impl Abort, alloc: Global, end: &RunEnd, names: &str
 
 /// A show before and after an edit of another file, by which a name comes to mean what is
 /// inherited.
-const SHOWS: &str =
-    r#"[{"step":"show","file":"Q.java","what":"bindings"},{"step":"edit","file":"P.java","from":8,"to":8,"text":"int x;"},{"step":"show","file":"Q.java","what":"bindings"}]"#;
+const SHOWS: &str = "[{\"step\":\"show\",\"file\":\"Q.java\",\"what\":\"bindings\"},\
+     {\"step\":\"edit\",\"file\":\"P.java\",\"from\":8,\"to\":8,\"text\":\"int x;\"},\
+     {\"step\":\"show\",\"file\":\"Q.java\",\"what\":\"bindings\"}]";
 
 const SHOWN: &str = "Done | [{\"lines\":[\"44 B B\",\"61 x O.x\"],\"reply\":\"shown\"},\
      {\"reply\":\"edited\"},{\"lines\":[\"44 B B\",\"61 x B.x\"],\"reply\":\"shown\"}] | \
@@ -163,8 +164,9 @@ pub(crate) fn run_bad(rt: &impl Abort, alloc: Global, line: &str) -> String {
     run_over_bad(rt, alloc, words.as_slice())
 }
 
-const EDITS: &str =
-    r#"[{"step":"edit","file":"A","from":0,"to":0,"text":"1"},{"step":"edit","file":"B","from":0,"to":0,"text":"2"},{"step":"edit","file":"C","from":0,"to":0,"text":"3"}]"#;
+const EDITS: &str = "[{\"step\":\"edit\",\"file\":\"A\",\"from\":0,\"to\":0,\"text\":\"1\"},\
+     {\"step\":\"edit\",\"file\":\"B\",\"from\":0,\"to\":0,\"text\":\"2\"},\
+     {\"step\":\"edit\",\"file\":\"C\",\"from\":0,\"to\":0,\"text\":\"3\"}]";
 
 /// The call of the shelf that fails, the put that does, files, and words; how the run ends, its
 /// report, and what the files hold in the end. Each call of the shelf and of the sink fails in
