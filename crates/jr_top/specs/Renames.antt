@@ -1,7 +1,7 @@
 -- What a rename in a file gives: a session that has the one file takes the one step.
-use Rattle.std.specs.Prelude.{◌≡◌, ℕ, ◌⊎◌, List, [], ◌∷◌, Option, Bool, true, false}
+use Rattle.std.specs.Prelude.{◌≡◌, ℕ, ◌≤◌, ◌⊎◌, List, [], ◌∷◌, Option, Bool, true, false}
 use Rattle.jr_shelf.specs.Shelf.{Files}
-use Rattle.jr_shelf.specs.Sink.{with_bytes, AppendedInPart}
+use Rattle.jr_shelf.specs.Sink.{PutAll, PutInPart}
 use Rattle.jr_names.specs.declared.steps.Step.TheVariants as step
 use Rattle.jr_names.specs.Refusals.{Refusal}
 use Rattle.jr_names.specs.Replies.{Reply, refused}
@@ -9,6 +9,8 @@ use Rattle.jr_sources.specs.Sources.{Source, IsFile}
 use Rattle.jr_session.specs.States.{State, begun}
 use Rattle.jr_session.specs.Stepping.{Steps}
 use Rattle.jr_files.specs.Sources.{IsSource}
+use Rattle.jr_top.specs.declared.statuses.Status.{Status}
+use Rattle.jr_top.specs.declared.statuses.Status.TheVariants as status
 use Rattle.jr_top.specs.Lines.{refusal_line}
 use Rattle.jr_top.specs.Scripts.{IsRefusal}
 
@@ -45,24 +47,6 @@ pub record IsNoNewText (files : Option Files) (file : List ℕ) (at : ℕ) (name
   pub is_source : IsSource files file source
   pub line : IsRefusalLine file source at name output
 
-abbrev pub IsEither : Option Files → List ℕ → ℕ → List ℕ → List ℕ → Type 0
-IsEither files file at name output = IsNewText files file at name output
-    ⊎ IsNoNewText files file at name output
-
--- ---- what a sink took; only private clauses cite this
-
--- an output of which this is so
-pub record TookAll (Is : List ℕ → Type 0) (before after : Option (List ℕ)) : Type 0 where
-  pub output : List ℕ
-  pub is_output : Is output
-  pub took : after ≡ with_bytes before output
-
--- a prefix of an output of which this is so
-pub record TookInPart (Is : List ℕ → Type 0) (before after : Option (List ℕ)) : Type 0 where
-  pub output : List ℕ
-  pub is_output : Is output
-  pub took : AppendedInPart before after output
-
 -- ---- for private clauses
 
 -- what is put for the reply, and whether it is a refusal
@@ -74,3 +58,31 @@ IsPutFor s file reply false output = (¬ IsRefusal reply) × IsFile s.files 0 fi
 abbrev pub IsAnswered : (file source : List ℕ) → ℕ → List ℕ → Bool → List ℕ → Type 0
 IsAnswered file source at name true output = IsRefusalLine file source at name output
 IsAnswered file source at name false output = IsGranted file source at name output
+
+-- a run that came to put an output ended by this status: it is all put, or the sink failed and took
+-- a prefix of it
+abbrev pub EndsPut : Bool → List ℕ → Status → (taken taken' : Option (List ℕ)) → (faults faults' : ℕ)
+    → Type 0
+EndsPut refused output status.Done taken taken' faults faults' =
+    (refused ≡ false) × PutAll taken taken' faults faults' output
+EndsPut refused output status.Refused taken taken' faults faults' =
+    (refused ≡ true) × PutAll taken taken' faults faults' output
+EndsPut refused output (status.WriteFault stored) taken taken' faults faults' =
+    (stored ≡ 0) × (faults ≤ faults') × PutInPart taken taken' faults faults' output
+EndsPut refused output _ taken taken' faults faults' = ⊥
+
+-- a run that had the source ended by this status
+abbrev pub EndsAnswered : (file source : List ℕ) → ℕ → List ℕ → Status
+    → (taken taken' : Option (List ℕ)) → (faults faults' : ℕ) → Type 0
+EndsAnswered file source at name status.Done taken taken' faults faults' =
+    (output : List ℕ) × IsGranted file source at name output
+    × PutAll taken taken' faults faults' output
+EndsAnswered file source at name status.Refused taken taken' faults faults' =
+    (output : List ℕ) × IsRefusalLine file source at name output
+    × PutAll taken taken' faults faults' output
+EndsAnswered file source at name (status.WriteFault stored) taken taken' faults faults' =
+    (output : List ℕ)
+    × (IsGranted file source at name output ⊎ IsRefusalLine file source at name output)
+    × (stored ≡ 0) × (faults ≤ faults') × PutInPart taken taken' faults faults' output
+EndsAnswered file source at name status.NoMemory taken taken' faults faults' = faults' ≡ faults
+EndsAnswered file source at name _ taken taken' faults faults' = ⊥
