@@ -15,5 +15,6 @@ pub mod ShownLines
 pub mod ShowSteps
 pub mod Showing
 pub mod Exchanging
+pub mod Turning
 pub mod Planning
 pub mod Trying
