@@ -27,8 +27,8 @@ use std::sync::ledger::Ledger;
 /// How many bytes of lines a session shows at most.
 pub const MAX_SHOWN_LEN: u64 = 8_388_608;
 
-// The refusal of a step because of a fault of the sources.
-fn source_error(alloc: Global, sources: &Sources, fault: SourceFault) -> Result<Reply, AllocError>
+/// The refusal of a step because of what is wrong with the sources.
+pub(crate) fn source_error(alloc: Global, sources: &Sources, fault: SourceFault) -> Result<Reply, AllocError>
     requires named { IsSourceFault sources.now fault }
     ensures { IfOk result (λ reply. (name : List ℕ) × HasName sources.now fault.file name
         × (reply_of reply ≡ refused (refusals.source_error name fault.at fault.kind.now))) }
