@@ -18,3 +18,5 @@ pub mod Exchanging
 pub mod Turning
 pub mod Planning
 pub mod Trying
+pub mod RenameSteps
+pub mod Refactored

@@ -21,7 +21,9 @@ pub(crate) enum Made {
         names: Vec<Name>,
     },
     /// Nothing, since a file, or all together, would have `len` bytes, which are too many.
-    TooLong { len: u64 },
+    TooLong {
+        len: u64,
+    },
 }
 
 // The text that the edits make of a file's.

@@ -52,8 +52,7 @@ returns c =
     let n : c.count-number-end.result ≡ length c.args.sources.now = c.count-number-end.ensures.count in
     let end : c.loop-number.number ≡ length c.args.sources.now = omega (arith, over, within, n) in
     let h = c.if-total-gt-MAX_TOTAL_LEN.false in
-    let t = all_together c.args.sources.now c.args.edits.now c.loop-number.number c.loop-number.changes.items c.loop-number.names.items c.loop-number.total c.loop-number.invariant end c.requires in
-    (
+    let t = all_together c.args.sources.now c.args.edits.now c.loop-number.number c.loop-number.changes.items c.loop-number.names.items c.loop-number.total c.loop-number.invariant end c.requires in (
       all_made c.args.sources.now c.args.edits.now c.loop-number.number c.loop-number.changes.items c.loop-number.names.items c.loop-number.total c.loop-number.invariant end c.requires,
       all_named c.args.sources.now c.args.edits.now c.loop-number.number c.loop-number.changes.items c.loop-number.names.items c.loop-number.total c.loop-number.invariant end c.requires,
       all_files c.args.sources.now c.args.edits.now c.loop-number.number c.loop-number.changes.items c.loop-number.names.items c.loop-number.total c.loop-number.invariant end c.requires,
