@@ -12,7 +12,7 @@ use Rattle.jr_session.specs.Changes.{put_back, AreOfFiles}
 use Rattle.jr_sources.specs.declared.kept.Readings.{Readings}
 use Rattle.jr_sources.specs.declared.readings.Reading.{Reading}
 use Rattle.jr_sources.specs.KeptReadings.{AreReadings}
-use Rattle.jr_session.specs.Turns.{AreExchanged, AreChangeReadings, IsChangeReading}
+use Rattle.jr_session.specs.Turns.{AreExchanged, AreChangeReadings}
 use Rattle.jr_session.proofs.Histories.{put-append, length-put}
 
 -- a text that is put back gives the sources that there were
@@ -66,19 +66,9 @@ end_way sources texts had now readings left with had' room e w =
     let all : w.done ≡ texts = sym (w.split ∙ ap (λ (l : List Change). l ++ w.done) e) in
     subst (λ (ds : List Change). AreExchanged sources ds had now had') all w.exchanged
 
--- the readings of what is left have its length, and the last is that of the last
-pub last_reading : (left : List Change) (c : Change) (with : List Reading) → AreChangeReadings (left ++ c ∷ []) with → (ws : List Reading) × (w : Reading) × (with ≡ ws ++ w ∷ []) × AreChangeReadings left ws × IsChangeReading c w
-last_reading [] c [] h = absurd h
-last_reading [] c (w ∷ []) h = ([], w, refl, tt, h.0)
-last_reading [] c (w ∷ x ∷ ws) h = absurd h.1
-last_reading (l ∷ ls) c [] h = absurd h
-last_reading (l ∷ ls) c (w ∷ ws) h =
-    let m = last_reading ls c ws h.1 in
-    (w ∷ m.0, m.1, ap (λ (xs : List Reading). w ∷ xs) m.2, (h.0, m.3), m.4)
-
-pub step_way : (sources : List Source) (texts had : List Change) (now next : List Source) (readings readings' : Readings) (left left' : List Change) (with with' : List Reading) (mid had' : List Change) (room : ℕ) (c : Change)
-    → left ≡ left' ++ c ∷ [] → AreChangeReadings left' with' → AreExchanged now (c ∷ []) mid next had' → AreReadings (texts_of next) readings' → IsUnderWay sources texts had now readings left with mid room → IsUnderWay sources texts had next readings' left' with' had' room
-step_way sources texts had now next readings readings' left left' with with' mid had' room c e reads ex kept w =
+pub step_way : (sources : List Source) (texts had : List Change) (now next : List Source) (readings readings' : Readings) (left left' : List Change) (with with' : List Reading) (mid had' : List Change) (room room' : ℕ) (c : Change)
+    → room ≤ room' → left ≡ left' ++ c ∷ [] → AreChangeReadings left' with' → AreExchanged now (c ∷ []) mid next had' → AreReadings (texts_of next) readings' → IsUnderWay sources texts had now readings left with mid room → IsUnderWay sources texts had next readings' left' with' had' room'
+step_way sources texts had now next readings readings' left left' with with' mid had' room room' c more e reads ex kept w =
     let same : length next ≡ length now = ap length ex.becomes ∙ length-with_text now c.file c.text in
     let files = All-pop (λ (d : Change). d.file < length now) left left' (Some c) e w.files in
     let fits = w.fits in
@@ -92,5 +82,5 @@ step_way sources texts had now next readings readings' left left' with with' mid
       reads = reads;
       kept = kept;
       files = subst (λ (k : ℕ). AreOfFiles k left') (sym same) files.0;
-      fits = omega (arith, fits, n, one, many);
+      fits = omega (arith, fits, n, one, many, more);
     }

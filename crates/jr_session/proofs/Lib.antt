@@ -15,8 +15,11 @@ pub mod ShownLines
 pub mod ShowSteps
 pub mod Showing
 pub mod Exchanging
+pub mod Turning
 pub mod Planning
 pub mod Trying
 pub mod Telling
 pub mod RenameFiles
 pub mod StepFiles
+pub mod RenameSteps
+pub mod Refactored

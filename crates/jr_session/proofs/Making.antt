@@ -9,12 +9,16 @@ use Rattle.std.proofs.lemmas.Option.{slice_get_within, get_or_from_slice_get, no
 use Rattle.jr_text.specs.Edits.{Entry, FitsIn}
 use Rattle.jr_text.specs.Splices.{splice}
 use Rattle.jr_text.specs.Texts.{text_limit}
-use Rattle.jr_sources.specs.Sources.{Source, texts_of, total_of, total_limit, file_limit, with_text}
+use Rattle.std.specs.Prelude.{Bool, true, false, if◌then◌else◌}
+use Rattle.std.specs.Str.{bytes_eq}
+use Rattle.std.proofs.lemmas.Bool.{false_from_ne_true, cond-true, cond-false}
+use Rattle.std.proofs.lemmas.Slice.Eq.{bytes_eq-Decides}
+use Rattle.jr_sources.specs.Sources.{Source, HasName, texts_of, total_of, total_limit, file_limit, with_text}
 use Rattle.jr_sources.proofs.SourceLaws.{length-texts}
 use Rattle.jr_session.specs.declared.changes.Change.{Change}
 use Rattle.jr_session.specs.Changes.{put_back, AreOfFiles}
 use Rattle.jr_session.specs.Lengths.{AreWithin, AreTooLong}
-use Rattle.jr_session.specs.NewTexts.{with_edits}
+use Rattle.jr_session.specs.NewTexts.{with_edits, differing}
 use Rattle.jr_session.specs.Splicing.{HasText}
 use Rattle.jr_session.specs.Making.{Fit, IsPushed, AreMadeUntil}
 use Rattle.jr_session.proofs.Histories.{put-append}
@@ -90,35 +94,70 @@ old_text (s ∷ ss) [] (suc n) t h = h
 old_text (s ∷ ss) (e ∷ es) zero t h = h
 old_text (s ∷ ss) (e ∷ es) (suc n) t h = old_text ss es n t h
 
-next_becomes : (ss : List Source) (es : List (List Entry)) (n : ℕ) (t : List ℕ) (cs cs' : List Change) → n < length es → AreOfFiles n cs → put_back ss cs ≡ with_edits ss (take n es) → HasText (with_edits ss es) n t → IsPushed ss n t cs cs' → put_back ss cs' ≡ with_edits ss (take (suc n) es)
-next_becomes ss es n t cs cs' l o b h (inl p) = ap (put_back ss) p.1 ∙ b ∙ sym (stays (with_edits ss (take n es)) n t (old_text ss es n t p.0)) ∙ sym (one_more ss es n t l h)
-next_becomes ss es n t cs cs' l o b h (inr p) = ap (put_back ss) p ∙ put_one_more ss cs n t o ∙ ap (λ (xs : List Source). with_text xs n t) b ∙ sym (one_more ss es n t l h)
+next_becomes : (ss : List Source) (es : List (List Entry)) (n : ℕ) (t : List ℕ) (cs cs' : List Change) (ns ns' : List (List ℕ)) → n < length es → AreOfFiles n cs → put_back ss cs ≡ with_edits ss (take n es) → HasText (with_edits ss es) n t → IsPushed ss n t cs ns cs' ns' → put_back ss cs' ≡ with_edits ss (take (suc n) es)
+next_becomes ss es n t cs cs' ns ns' l o b h (inl p) = ap (put_back ss) p.1 ∙ b ∙ sym (stays (with_edits ss (take n es)) n t (old_text ss es n t p.0)) ∙ sym (one_more ss es n t l h)
+next_becomes ss es n t cs cs' ns ns' l o b h (inr p) = ap (put_back ss) p.1 ∙ put_one_more ss cs n t o ∙ ap (λ (xs : List Source). with_text xs n t) b ∙ sym (one_more ss es n t l h)
 
 more_files : (n : ℕ) (cs : List Change) → AreOfFiles n cs → AreOfFiles (n + 1) cs
 more_files n cs h k d l = let a = h k d l in omega arith
 
-next_files : (ss : List Source) (n : ℕ) (t : List ℕ) (cs cs' : List Change) → AreOfFiles n cs → IsPushed ss n t cs cs' → AreOfFiles (n + 1) cs'
-next_files ss n t cs cs' h (inl p) = subst (λ (xs : List Change). AreOfFiles (n + 1) xs) (sym p.1) (more_files n cs h)
-next_files ss n t cs cs' h (inr p) = subst (λ (xs : List Change). AreOfFiles (n + 1) xs) (sym p) (All-push (λ (c : Change). c.file < n + 1) cs (record { file = n; text = t }) (more_files n cs h) (omega arith))
+next_files : (ss : List Source) (n : ℕ) (t : List ℕ) (cs cs' : List Change) (ns ns' : List (List ℕ)) → AreOfFiles n cs → IsPushed ss n t cs ns cs' ns' → AreOfFiles (n + 1) cs'
+next_files ss n t cs cs' ns ns' h (inl p) = subst (λ (xs : List Change). AreOfFiles (n + 1) xs) (sym p.1) (more_files n cs h)
+next_files ss n t cs cs' ns ns' h (inr p) = subst (λ (xs : List Change). AreOfFiles (n + 1) xs) (sym p.1) (All-push (λ (c : Change). c.file < n + 1) cs (record { file = n; text = t }) (more_files n cs h) (omega arith))
 
-pub none_made : (ss : List Source) (es : List (List Entry)) → AreMadeUntil ss es 0 [] 0
+-- ---- the names of those whose text is another one
+
+no_name_more : (ss ts : List Source) (n : ℕ) (t : List ℕ) → HasText ss n t → HasText ts n t → differing (take (suc n) ss) (take (suc n) ts) ≡ differing (take n ss) (take n ts)
+no_name_more [] ts n t h g = absurd (none-some t h)
+no_name_more (s ∷ ss) [] n t h g = absurd (none-some t g)
+no_name_more (s ∷ ss) (x ∷ xs) zero t h g =
+    let same : s.text ≡ x.text = same_Some s.text t h ∙ sym (same_Some x.text t g) in
+    cond-true (bytes_eq s.text x.text) [] (s.name ∷ []) ((bytes_eq-Decides s.text x.text).1 same)
+no_name_more (s ∷ ss) (x ∷ xs) (suc n) t h g = head (bytes_eq s.text x.text) (no_name_more ss xs n t h g)
+  where
+    head : (b : Bool) {as bs : List (List ℕ)} → as ≡ bs → (if b then as else s.name ∷ as) ≡ (if b then bs else s.name ∷ bs)
+    head true e = e
+    head false e = ap (λ (ns : List (List ℕ)). s.name ∷ ns) e
+
+name_more : (ss ts : List Source) (n : ℕ) (t name : List ℕ) → HasName ss n name → (HasText ss n t → ⊥) → HasText ts n t → differing (take (suc n) ss) (take (suc n) ts) ≡ differing (take n ss) (take n ts) ++ name ∷ []
+name_more [] ts n t name h other g = absurd (none-some name h)
+name_more (s ∷ ss) [] n t name h other g = absurd (none-some t g)
+name_more (s ∷ ss) (x ∷ xs) zero t name h other g =
+    let apart : s.text ≡ x.text → ⊥ = λ e. other (ap (λ (y : List ℕ). Some y) (e ∙ same_Some x.text t g)) in
+    cond-false (bytes_eq s.text x.text) [] (s.name ∷ []) (false_from_ne_true (bytes_eq s.text x.text) (λ e. apart ((bytes_eq-Decides s.text x.text).0 e)))
+    ∙ ap (λ (y : List ℕ). y ∷ []) (same_Some s.name name h)
+name_more (s ∷ ss) (x ∷ xs) (suc n) t name h other g = head (bytes_eq s.text x.text) (name_more ss xs n t name h other g)
+  where
+    head : (b : Bool) {as bs : List (List ℕ)} → as ≡ bs ++ name ∷ [] → (if b then as else s.name ∷ as) ≡ (if b then bs else s.name ∷ bs) ++ name ∷ []
+    head true e = e
+    head false e = ap (λ (ns : List (List ℕ)). s.name ∷ ns) e
+
+next_named : (ss ts : List Source) (n : ℕ) (t : List ℕ) (cs cs' : List Change) (ns ns' : List (List ℕ)) → HasText ts n t → ns ≡ differing (take n ss) (take n ts) → IsPushed ss n t cs ns cs' ns' → ns' ≡ differing (take (suc n) ss) (take (suc n) ts)
+next_named ss ts n t cs cs' ns ns' g e (inl p) = p.2 ∙ e ∙ sym (no_name_more ss ts n t p.0 g)
+next_named ss ts n t cs cs' ns ns' g e (inr p) = p.2.2 ∙ ap (λ (xs : List (List ℕ)). xs ++ p.2.0 ∷ []) e ∙ sym (name_more ss ts n t p.2.0 p.2.1 p.0 g)
+
+pub none_made : (ss : List Source) (es : List (List Entry)) → AreMadeUntil ss es 0 [] [] 0
 none_made ss es = record {
   becomes = sym (no_edits ss);
+  named = refl;
   files = λ k d l. absurd (omega arith);
   within = λ k d l. absurd (omega arith);
   together = refl;
 }
 
-module _ (ss : List Source) (es : List (List Entry)) (n : ℕ) (cs : List Change) (len : ℕ) (made : AreMadeUntil ss es n cs len) (t : List ℕ) (there : HasText (with_edits ss es) n t) where
+module _ (ss : List Source) (es : List (List Entry)) (n : ℕ) (cs : List Change) (ns : List (List ℕ)) (len : ℕ) (made : AreMadeUntil ss es n cs ns len) (t : List ℕ) (there : HasText (with_edits ss es) n t) where
   more : take (n + 1) (texts_of (with_edits ss es)) ≡ take n (texts_of (with_edits ss es)) ++ t ∷ []
   more = taken_more (texts_of (with_edits ss es)) n t there
 
-  pub next_made : (cs' : List Change) → n < length es → length t ≤ text_limit → IsPushed ss n t cs cs' → AreMadeUntil ss es (n + 1) cs' (len + length t)
-  next_made cs' l small p = record {
+  pub next_made : (cs' : List Change) (ns' : List (List ℕ)) → n < length es → length t ≤ text_limit → IsPushed ss n t cs ns cs' ns' → AreMadeUntil ss es (n + 1) cs' ns' (len + length t)
+  next_made cs' ns' l small p = record {
     becomes =
         let e : n + 1 ≡ suc n = omega arith in
-        subst (λ (k : ℕ). put_back ss cs' ≡ with_edits ss (take k es)) (sym e) (next_becomes ss es n t cs cs' l made.files made.becomes there p);
-    files = next_files ss n t cs cs' made.files p;
+        subst (λ (k : ℕ). put_back ss cs' ≡ with_edits ss (take k es)) (sym e) (next_becomes ss es n t cs cs' ns ns' l made.files made.becomes there p);
+    named =
+        let e : n + 1 ≡ suc n = omega arith in
+        subst (λ (k : ℕ). ns' ≡ differing (take k ss) (take k (with_edits ss es))) (sym e) (next_named ss (with_edits ss es) n t cs cs' ns ns' there made.named p);
+    files = next_files ss n t cs cs' ns ns' made.files p;
     within = subst AreWithin (sym more) (All-push (λ (x : List ℕ). length x ≤ text_limit) (take n (texts_of (with_edits ss es))) t made.within small);
     together = ap (λ (k : ℕ). k + length t) made.together ∙ sym (sum_by_push (λ (x : List ℕ). length x) (take n (texts_of (with_edits ss es))) t) ∙ ap total_of (sym more);
   }
@@ -144,8 +183,8 @@ module _ (ss : List Source) (es : List (List Entry)) (n : ℕ) (cs : List Change
 
 -- ---- all files
 
-pub small_until : (ss : List Source) (es : List (List Entry)) (n : ℕ) (cs : List Change) (len : ℕ) → AreMadeUntil ss es n cs len → n < length ss → length ss ≤ file_limit → len ≤ file_limit * text_limit
-small_until ss es n cs len made l few =
+pub small_until : (ss : List Source) (es : List (List Entry)) (n : ℕ) (cs : List Change) (ns : List (List ℕ)) (len : ℕ) → AreMadeUntil ss es n cs ns len → n < length ss → length ss ≤ file_limit → len ≤ file_limit * text_limit
+small_until ss es n cs ns len made l few =
     let texts = texts_of (with_edits ss es) in
     let a = sum_by-le (λ (t : List ℕ). length t) text_limit (take n texts) made.within in
     let b = length-texts (with_edits ss es) in
@@ -155,7 +194,7 @@ small_until ss es n cs len made l few =
     let f : length (take n texts) * text_limit ≤ file_limit * text_limit = mul-le-mul_right {m = length (take n texts)} {n = file_limit} text_limit (omega arith) in
     omega arith
 
-module _ (ss : List Source) (es : List (List Entry)) (n : ℕ) (cs : List Change) (len : ℕ) (made : AreMadeUntil ss es n cs len) (end : n ≡ length ss) (fit : Fit ss es) where
+module _ (ss : List Source) (es : List (List Entry)) (n : ℕ) (cs : List Change) (ns : List (List ℕ)) (len : ℕ) (made : AreMadeUntil ss es n cs ns len) (end : n ≡ length ss) (fit : Fit ss es) where
   all_texts : take n (texts_of (with_edits ss es)) ≡ texts_of (with_edits ss es)
   all_texts =
       let b = length-texts (with_edits ss es) in
@@ -166,6 +205,11 @@ module _ (ss : List Source) (es : List (List Entry)) (n : ℕ) (cs : List Change
   all_made =
       let c = fit_count ss es fit in
       made.becomes ∙ ap (with_edits ss) (take_all n es (omega arith))
+
+  pub all_named : ns ≡ differing ss (with_edits ss es)
+  all_named =
+      let b = length-edited ss es in
+      made.named ∙ (λ i. differing (take_all n ss (omega arith) i) (take_all n (with_edits ss es) (omega arith) i))
 
   pub all_files : AreOfFiles (length ss) cs
   all_files = subst (λ (k : ℕ). AreOfFiles k cs) end made.files

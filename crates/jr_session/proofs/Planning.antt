@@ -20,7 +20,7 @@ module _ (sources : List Source) (p : Program Span) (is : IsProgramOf sources p)
   pub count : length p.files ≡ length sources
   count = ap length is.files ∙ length-files sources is.units (counts sources is.units is.words is.program.read).0
 
-  file : (f : File Span) × (slice_get p.files number ≡ Some f) × HasText sources number f.text
+  pub file : (f : File Span) × (slice_get p.files number ≡ Some f) × HasText sources number f.text
   file =
       let n = count in
       let f = element p.files number (omega (arith, within, n)) in

@@ -16,3 +16,4 @@ pub mod Renaming
 pub mod Planning
 pub mod Making
 pub mod Trying
+pub mod Refactoring

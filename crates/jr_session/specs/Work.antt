@@ -6,23 +6,23 @@ use Rattle.jr_text.specs.Edits.{Entry}
 use Rattle.jr_names.specs.declared.steps.Step.{Step}
 use Rattle.jr_names.specs.declared.steps.Step.TheVariants as step
 use Rattle.jr_session.specs.States.{State}
+use Rattle.jr_sources.specs.Analysed.{CostsBinding}
 use Rattle.jr_sources.specs.FirstFault.{IsFirstFaultOf, AreProgram}
 use Rattle.jr_sources.specs.MemberCount.{member_count}
 use Rattle.jr_session.specs.NewTexts.{with_edits}
 use Rattle.jr_session.specs.Refusing.{NeedsProgram}
 use Rattle.jr_session.specs.Renaming.{IsShort}
 
--- a rename is planned and within the limits, its new sources have no fault, and their members are
--- bound besides
+-- A rename is planned and within the limits. Its new sources are bound besides: nothing of them
+-- where they have a fault, else each of their members once at most.
 pub record RebindsWithin (s : State) (file : List ℕ) (at : ℕ) (new : List ℕ)
     (units : List (syntax.Unit Span)) (before after : ℕ) : Type 0 where
   pub edits : List (List Entry)
   pub respelled : ℕ
   pub short : IsShort s file at new edits respelled
-  pub news : List (syntax.Unit Span)
-  pub words : List ℕ
-  pub program : AreProgram (with_edits s.files edits) news words
-  pub within : after ≤ before + member_count units + member_count news
+  pub middle : ℕ
+  pub first : middle ≤ before + member_count units
+  pub again : CostsBinding (with_edits s.files edits) middle after
 
 -- the members of the sources, each once at most; for a rename those of the new sources too
 abbrev pub BindsWithin : State → Step → List (syntax.Unit Span) → (before after : ℕ) → Type 0

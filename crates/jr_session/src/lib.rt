@@ -11,6 +11,8 @@ mod edits;
 mod laws;
 mod made;
 mod plans;
+mod refactorings;
+mod renames;
 mod sessions;
 mod shows;
 mod splices;

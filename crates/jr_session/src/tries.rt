@@ -92,7 +92,7 @@ fn exchange_text(sources: &mut Sources, had: &mut Vec<Change>, change: Change)
         file: number,
         text: old,
     };
-    had.push(change).unwrap();
+    had.push_reserved(change);
 }
 
 // Gives files other texts, the last first, and puts those that they had behind the changes, which

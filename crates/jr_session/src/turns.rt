@@ -28,7 +28,7 @@ fn exchange(
     requires reading { IsReading change.text (unit_of reading.unit) reading.word reading.fault }
     ensures changed { AreExchanged sources.old (change ∷ []) had.old.items sources.new
         had.new.items }
-    ensures room { vec_capacity had.new ≡ vec_capacity had.old }
+    ensures room { vec_capacity had.old ≤ vec_capacity had.new }
     ensures readings { AreReadings (texts_of sources.new) readings.new }
 {
     let number = change.file;

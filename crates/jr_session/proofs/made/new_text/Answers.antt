@@ -36,5 +36,5 @@ returns-clause-fault c =
     let its = slice_get_read c.args.edits.now (length c.args.edits.now) c.args.number c.index-edits-number.result refl (omega (arith, n, l)) c.index-edits-number.is in
     let new = new_text_at c.args.sources.now c.args.edits.now c.args.number c.text.result.now c.index-edits-number.result c.text.ensures its in
     IfErr-weaker c.apply.result _ _ (λ fault h len e.
-        let k = subst (IsApplyFault c.text.result.now c.index-edits-number.result) e h in
-        (splice c.text.result.now c.index-edits-number.result, new, k.0, k.1)) c.apply.ensures.fault
+    let k = subst (IsApplyFault c.text.result.now c.index-edits-number.result) e h in
+    (splice c.text.result.now c.index-edits-number.result, new, k.0, k.1)) c.apply.ensures.fault
