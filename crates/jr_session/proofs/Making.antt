@@ -115,7 +115,7 @@ no_name_more (s ∷ ss) (x ∷ xs) zero t h g =
     cond-true (bytes_eq s.text x.text) [] (s.name ∷ []) ((bytes_eq-Decides s.text x.text).1 same)
 no_name_more (s ∷ ss) (x ∷ xs) (suc n) t h g = head (bytes_eq s.text x.text) (no_name_more ss xs n t h g)
   where
-    head : (b : Bool) {as bs : List (List ℕ)} → as ≡ bs → (if b then as else s.name ∷ as) ≡ (if b then bs else s.name ∷ bs)
+    head : (b : Bool) {xs ys : List (List ℕ)} → xs ≡ ys → (if b then xs else s.name ∷ xs) ≡ (if b then ys else s.name ∷ ys)
     head true e = e
     head false e = ap (λ (ns : List (List ℕ)). s.name ∷ ns) e
 
@@ -128,7 +128,7 @@ name_more (s ∷ ss) (x ∷ xs) zero t name h other g =
     ∙ ap (λ (y : List ℕ). y ∷ []) (same_Some s.name name h)
 name_more (s ∷ ss) (x ∷ xs) (suc n) t name h other g = head (bytes_eq s.text x.text) (name_more ss xs n t name h other g)
   where
-    head : (b : Bool) {as bs : List (List ℕ)} → as ≡ bs ++ name ∷ [] → (if b then as else s.name ∷ as) ≡ (if b then bs else s.name ∷ bs) ++ name ∷ []
+    head : (b : Bool) {ys zs : List (List ℕ)} → ys ≡ zs ++ name ∷ [] → (if b then ys else s.name ∷ ys) ≡ (if b then zs else s.name ∷ zs) ++ name ∷ []
     head true e = e
     head false e = ap (λ (ns : List (List ℕ)). s.name ∷ ns) e
 
