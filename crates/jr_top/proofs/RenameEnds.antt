@@ -38,10 +38,10 @@ source_no_fault : (files : Option Files) (file source : List ℕ) (fault : Sourc
 source_no_fault None file source fault known is has = false≢true known
 source_no_fault (Some held) file source fault known is has = let small = is.text.within in holds_no_fault held file source 0 fault is.held is.text (omega (arith, small)) has
 
-module _ {files files' : Option Files} {missed missed' : Option (List ℕ)} {faults faults' served served' : ℕ} {taken taken' : Option (List ℕ)} {put_faults put_faults' : ℕ} (file : List ℕ) (at : ℕ) (name : List ℕ) where
+module _ {files files' : Option Files} {missed missed' : Option (List ℕ)} {faults faults' served served' : ℕ} (file : List ℕ) (at : ℕ) (name : List ℕ) where
   -- ---- where there is no source
 
-  unread_source : (end : Status) → EndsUnwritten (rename file at name) end files files' missed missed' faults faults' served served' → HadNoFault faults faults' put_faults put_faults → IsBadSourceOrMemory end
+  unread_source : {put_faults : ℕ} (end : Status) → EndsUnwritten (rename file at name) end files files' missed missed' faults faults' served served' → HadNoFault faults faults' put_faults put_faults → IsBadSourceOrMemory end
   unread_source Done u n = absurd u.unwritten
   unread_source Refused u n = absurd u.unwritten
   unread_source Usage u n = absurd u.unwritten
@@ -51,7 +51,7 @@ module _ {files files' : Option Files} {missed missed' : Option (List ℕ)} {fau
   unread_source (BadSource word fault) u n = tt
   unread_source NoMemory u n = tt
 
-  unread_input : (end : Status) → EndsUnwritten (rename file at name) end files files' missed missed' faults faults' served served' → HoldsText files file → HadNoFault faults faults' put_faults put_faults → IsAnswerOrMemory end
+  unread_input : {put_faults : ℕ} (end : Status) → EndsUnwritten (rename file at name) end files files' missed missed' faults faults' served served' → HoldsText files file → HadNoFault faults faults' put_faults put_faults → IsAnswerOrMemory end
   unread_input Done u text n = absurd u.unwritten
   unread_input Refused u text n = absurd u.unwritten
   unread_input Usage u text n = absurd u.unwritten
@@ -61,7 +61,7 @@ module _ {files files' : Option Files} {missed missed' : Option (List ℕ)} {fau
   unread_input (BadSource word fault) u text n = absurd (text_no_fault files file fault text u.bad_source.1)
   unread_input NoMemory u text n = tt
 
-  pub unread_comes : (end : Status) → EndsUnwritten (rename file at name) end files files' missed missed' faults faults' served served'
+  pub unread_comes : {taken : Option (List ℕ)} {put_faults : ℕ} (end : Status) → EndsUnwritten (rename file at name) end files files' missed missed' faults faults' served served'
       → Comes (rename file at name) end files files' missed missed' faults faults' served served' taken taken put_faults put_faults
   unread_comes end u = record {
     of_run = run_ends end u.unwritten;
@@ -81,7 +81,7 @@ module _ {files files' : Option Files} {missed missed' : Option (List ℕ)} {fau
 
   -- ---- where there is one
 
-  module _ (source : List ℕ) (is_source : IsSource files file source) (one : Served 1 files files' missed missed' faults faults' served served') where
+  module _ (taken taken' : Option (List ℕ)) (put_faults put_faults' : ℕ) (source : List ℕ) (is_source : IsSource files file source) (one : Served 1 files files' missed missed' faults faults' served served') where
     answered_ends : (end : Status) → EndsAnswered file source at name end taken taken' put_faults put_faults' → IsOfRun end
     answered_ends Done a = tt
     answered_ends Refused a = tt
@@ -206,29 +206,28 @@ module _ {files files' : Option Files} {missed missed' : Option (List ℕ)} {fau
 
 -- ---- what is put
 
-module _ {taken taken' : Option (List ℕ)} {faults faults' : ℕ} where
-  pub put_nothing : (refused : Bool) (output : List ℕ) (end : Status) (P : Type 0) → EndsPut refused output end taken taken' faults faults' → OnNothingWritten end P
-  put_nothing refused output Done P e = tt
-  put_nothing refused output Refused P e = tt
-  put_nothing refused output Usage P e = absurd e
-  put_nothing refused output (ReadFault word) P e = absurd e
-  put_nothing refused output (WriteFault stored) P e = tt
-  put_nothing refused output (BadScript fault) P e = absurd e
-  put_nothing refused output (BadSource word fault) P e = absurd e
-  put_nothing refused output NoMemory P e = absurd e
+pub put_nothing : (taken taken' : Option (List ℕ)) (faults faults' : ℕ) (refused : Bool) (output : List ℕ) (end : Status) (P : Type 0) → EndsPut refused output end taken taken' faults faults' → OnNothingWritten end P
+put_nothing taken taken' faults faults' refused output Done P e = tt
+put_nothing taken taken' faults faults' refused output Refused P e = tt
+put_nothing taken taken' faults faults' refused output Usage P e = absurd e
+put_nothing taken taken' faults faults' refused output (ReadFault word) P e = absurd e
+put_nothing taken taken' faults faults' refused output (WriteFault stored) P e = tt
+put_nothing taken taken' faults faults' refused output (BadScript fault) P e = absurd e
+put_nothing taken taken' faults faults' refused output (BadSource word fault) P e = absurd e
+put_nothing taken taken' faults faults' refused output NoMemory P e = absurd e
 
-  either : (file source : List ℕ) (at : ℕ) (name : List ℕ) (refused : Bool) (output : List ℕ) → IsAnswered file source at name refused output
-      → IsGranted file source at name output ⊎ IsRefusalLine file source at name output
-  either file source at name true output is = inr is
-  either file source at name false output is = inl is
+either : (file source : List ℕ) (at : ℕ) (name : List ℕ) (refused : Bool) (output : List ℕ) → IsAnswered file source at name refused output
+    → IsGranted file source at name output ⊎ IsRefusalLine file source at name output
+either file source at name true output is = inr is
+either file source at name false output is = inl is
 
-  pub put_answered : (file source : List ℕ) (at : ℕ) (name : List ℕ) (refused : Bool) (output : List ℕ) → IsAnswered file source at name refused output
-      → (end : Status) → EndsPut refused output end taken taken' faults faults' → EndsAnswered file source at name end taken taken' faults faults'
-  put_answered file source at name refused output is Done e = (output, granted_of file source at name refused output e.0 is, e.1)
-  put_answered file source at name refused output is Refused e = (output, refused_of file source at name refused output e.0 is, e.1)
-  put_answered file source at name refused output is Usage e = e
-  put_answered file source at name refused output is (ReadFault word) e = e
-  put_answered file source at name refused output is (WriteFault stored) e = (output, either file source at name refused output is, e.0, e.1, e.2)
-  put_answered file source at name refused output is (BadScript fault) e = e
-  put_answered file source at name refused output is (BadSource word fault) e = e
-  put_answered file source at name refused output is NoMemory e = absurd e
+pub put_answered : (taken taken' : Option (List ℕ)) (faults faults' : ℕ) (file source : List ℕ) (at : ℕ) (name : List ℕ) (refused : Bool) (output : List ℕ) → IsAnswered file source at name refused output
+    → (end : Status) → EndsPut refused output end taken taken' faults faults' → EndsAnswered file source at name end taken taken' faults faults'
+put_answered taken taken' faults faults' file source at name refused output is Done e = (output, granted_of file source at name refused output e.0 is, e.1)
+put_answered taken taken' faults faults' file source at name refused output is Refused e = (output, refused_of file source at name refused output e.0 is, e.1)
+put_answered taken taken' faults faults' file source at name refused output is Usage e = e
+put_answered taken taken' faults faults' file source at name refused output is (ReadFault word) e = e
+put_answered taken taken' faults faults' file source at name refused output is (WriteFault stored) e = (output, either file source at name refused output is, e.0, e.1, e.2)
+put_answered taken taken' faults faults' file source at name refused output is (BadScript fault) e = e
+put_answered taken taken' faults faults' file source at name refused output is (BadSource word fault) e = e
+put_answered taken taken' faults faults' file source at name refused output is NoMemory e = absurd e

@@ -63,13 +63,13 @@ IsAnswered file source at name false output = IsGranted file source at name outp
 -- a prefix of it
 abbrev pub EndsPut : Bool → List ℕ → Status → (taken taken' : Option (List ℕ)) → (faults faults' : ℕ)
     → Type 0
-EndsPut refused output status.Done taken taken' faults faults' =
-    (refused ≡ false) × PutAll taken taken' faults faults' output
-EndsPut refused output status.Refused taken taken' faults faults' =
-    (refused ≡ true) × PutAll taken taken' faults faults' output
-EndsPut refused output (status.WriteFault stored) taken taken' faults faults' =
+EndsPut is_refusal output status.Done taken taken' faults faults' =
+    (is_refusal ≡ false) × PutAll taken taken' faults faults' output
+EndsPut is_refusal output status.Refused taken taken' faults faults' =
+    (is_refusal ≡ true) × PutAll taken taken' faults faults' output
+EndsPut is_refusal output (status.WriteFault stored) taken taken' faults faults' =
     (stored ≡ 0) × (faults ≤ faults') × PutInPart taken taken' faults faults' output
-EndsPut refused output _ taken taken' faults faults' = ⊥
+EndsPut is_refusal output _ taken taken' faults faults' = ⊥
 
 -- a run that had the source ended by this status
 abbrev pub EndsAnswered : (file source : List ℕ) → ℕ → List ℕ → Status
