@@ -83,7 +83,7 @@ module _ (read : NewTextsRead) (sources : List Source) (number at : ℕ) (new : 
 
 -- ---- its steps
 
-abbrev the_rename : List ℕ → ℕ → List ℕ → Step
+abbrev pub the_rename : List ℕ → ℕ → List ℕ → Step
 the_rename file at new = step.Rename file at new
 
 module _ (s : State) (file : List ℕ) (at : ℕ) (new : List ℕ) where
