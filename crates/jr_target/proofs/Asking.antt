@@ -73,7 +73,7 @@ super_begins items at h = record { number = h.number; token = h.token; stands = 
 super_at : (items : List Item) (span : Span) (at : ℕ) → bind.IsSuperAt items span at → IsSuperAt items span at
 super_at items span at h = record { there = begins_super items at h.there; within = h.within; first = λ other t from. h.first other (super_begins items other t) from }
 
-super_stands : (items : List Item) (part : Part Span) (at : ℕ) → (bind.writes_super part ≡ true → bind.IsSuperAt items (part_mark part) at) → SuperStands items part at
+pub super_stands : (items : List Item) (part : Part Span) (at : ℕ) → (bind.writes_super part ≡ true → bind.IsSuperAt items (part_mark part) at) → SuperStands items part at
 super_stands items (class_part c) at h = tt
 super_stands items (member_part (syntax.field m mods t w init)) at h = tt
 super_stands items (member_part (syntax.method m mods t w ps body)) at h = tt
