@@ -1,0 +1,6 @@
+mod Alike
+mod OneRewriting
+mod OneChoice
+mod OneClash
+mod OneRefusal
+mod OnePlan

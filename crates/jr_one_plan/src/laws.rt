@@ -1,0 +1,34 @@
+//! That each step of a rename's plan has one answer.
+ghost use Rattle.jr_one_plan.specs.OnePlan.{RenamedAreAlike, AlikeBecomeTheSame};
+ghost use Rattle.jr_one_plan.specs.OnePlan.{RewritingIsOne, PlanIsOne};
+
+use jr_rename::{renamings_stay_fair, rows_are_named};
+use jr_table::{lookups_are_exact, types_are_exact};
+use jr_target::one_is_target;
+use jr_text::Span;
+
+/// What is renamed with a declaration is one set, and what declarations, rows and scopes become
+/// doesn't depend on the order in which it is listed.
+pub fn renamed_is_one()
+    ensures alike { RenamedAreAlike }
+    ensures same { AlikeBecomeTheSame }
+{}
+
+/// A program is rewritten in one way: each word has one choice, the first spelling that binds, or
+/// the loss with the one thing that is found (JLS 6.4.1, 6.4.2, 6.5).
+pub fn rewriting_is_one()
+    ensures { RewritingIsOne }
+{
+    lookups_are_exact();
+    types_are_exact::<Span>();
+}
+
+/// A step that renames is planned in one way, or refused for one reason, and not both.
+pub fn plan_is_one()
+    ensures { PlanIsOne }
+{
+    one_is_target();
+    rows_are_named::<Span>();
+    renamings_stay_fair::<Span>();
+    rewriting_is_one();
+}
