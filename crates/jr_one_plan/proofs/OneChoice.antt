@@ -1,12 +1,12 @@
 -- For each word of a program one thing is chosen, whatever list the renaming goes by.
-use Rattle.std.proofs.Common.{◌≡◌, ℕ, ◌<◌, List, [], ◌∷◌, Option, Some, None, false, sym, ap, subst, ◌∙◌, inl, inr}
+use Rattle.std.proofs.Common.{◌≡◌, ℕ, ◌<◌, List, [], ◌∷◌, Option, Some, None, true, false, refl, sym, ap, subst, ◌∙◌, inl, inr}
 use Rattle.std.specs.Prelude.{◌⊎◌, slice_get}
 use Rattle.std.proofs.lemmas.Bool.{cases_order}
 use Rattle.std.proofs.lemmas.Option.{same_Some}
 use Rattle.jr_text.specs.declared.spans.Span.{Span}
 use Rattle.jr_ast.specs.Tree as tree
 use Rattle.jr_table.specs.Keys.{ClassKey, Ty, class}
-use Rattle.jr_table.specs.Decls.{head, Decl, class_decl, field_decl, method_decl, constructor_decl, local_decl}
+use Rattle.jr_table.specs.Decls.{MemberKey, head, Decl, class_decl, field_decl, method_decl, constructor_decl, local_decl}
 use Rattle.jr_table.specs.Rows.{Row}
 use Rattle.jr_table.specs.Entries.{class_of}
 use Rattle.jr_table.specs.Conditions.{AreRows}
@@ -18,7 +18,7 @@ use Rattle.jr_table.specs.BindingLaws.{IsBound}
 use Rattle.jr_table.specs.Context.{Context, scope_of, IsSuperclass, WritesType}
 use Rattle.jr_table.specs.Binding.{HasType, IsClassName, HaveTypes, FindsIn, Role, value, left, word_at}
 use Rattle.jr_table.specs.Binding as role
-use Rattle.jr_table.specs.HeadRules.{plain, TopFinds}
+use Rattle.jr_table.specs.HeadRules.{plain, with_parameters, TopFinds}
 use Rattle.jr_table.specs.Prelude.{top_key}
 use Rattle.jr_spell.specs.declared.spellings.Form.{Form}
 use Rattle.jr_spell.specs.References.{Reference}
@@ -30,6 +30,7 @@ use Rattle.jr_rename.specs.Images.{Renaming, class_to, types_to, rows_to, scope_
 use Rattle.jr_rename.specs.Spelling.{renamed, spelled, dotted, ClassWords, OnOperand, VariableSpells, ClassSpells, FieldSpells, MemberClassSpells, SuperFieldSpells, SimpleCallSpells, CallSpells, SuperCallSpells, ExpSpells, CreationSpells, SuperCtorSpells, TypeSpells, QualifierSpells, ParentSpells, ParentQualifierSpells, spelling}
 use Rattle.jr_respell.specs.Ways.{Way, local, own_field, field_on, field_through, field_above, method_named, method_on, method_through, method_above, ctor_of, ctor_above, type_named, type_behind, name_in, reference_by, Finds}
 use Rattle.jr_respell.specs.Taking.{Asked, asked, SpellsAt}
+use Rattle.jr_bind.specs.SuperPlaces.{writes_super}
 use Rattle.jr_places.specs.FileParts.{begins}
 use Rattle.jr_places.proofs.FoundOnce.{same_decl, field_once, super_field_once, call_once, super_call_once, creation_once, super_ctor_once}
 use Rattle.jr_one_plan.specs.OnePlan.{AreAlike}
@@ -325,11 +326,13 @@ module _ (rows : List Row) (fit : AreRows rows) (each : EachHasOne rows) (bounds
   parent_qualifier_choice (Some outer) base t a b x y = qualifier_choice (plain (head (top_key outer)) false) base t a b x y
   parent_qualifier_choice None base t a b x y = absurd x
 
-  pub choices_agree : (super_at : Context → ℕ) → Agree (spelling begins rows g super_at) (spelling begins rows h super_at)
-  choices_agree super_at = record {
+  -- where a written `super(..)` stands, it stands in both
+  pub choices_agree : (s t : MemberKey → ℕ) → Agree (λ k part. writes_super part ≡ true → s k ≡ t k) (spelling begins rows g (λ (c : Context). s c.member)) (spelling begins rows h (λ (c : Context). t c.member))
+  choices_agree s t = record {
     expression = exp_choice;
     creation = creation_choice;
-    super_call = λ c. super_ctor_choice (super_at c) c;
+    super_call = λ k m mods w ps args body fine a b x y.
+        super_ctor_choice (s k) (with_parameters k true ps) args a b x (subst (λ (n : ℕ). SuperCtorSpells begins rows h n (with_parameters k true ps) args b) (sym (fine refl)) y);
     qualifier = qualifier_choice;
     type = type_choice;
     parent_qualifier = parent_qualifier_choice;

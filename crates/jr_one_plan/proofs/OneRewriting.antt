@@ -1,5 +1,6 @@
 -- Where what is chosen for each word is one thing, a tree is rewritten in one way.
-use Rattle.std.proofs.Common.{◌≡◌, ℕ, suc, ◌+◌, List, [], ◌∷◌, length, Option, Some, None, true, false, sym, ap, subst, ◌∙◌}
+use Rattle.std.proofs.Common.{◌≡◌, ℕ, zero, suc, ◌+◌, List, [], ◌∷◌, length, Option, Some, None, true, false, refl, sym, ap, subst, ◌∙◌, inl, inr}
+use Rattle.std.specs.Prelude.{◌⊎◌, slice_get}
 use Rattle.jr_text.specs.declared.spans.Span.{Span}
 use Rattle.jr_ast.specs.Tree as tree
 use Rattle.jr_ast.specs.StatementTree as statement
@@ -12,16 +13,18 @@ use Rattle.jr_table.specs.Binding as role
 use Rattle.jr_table.specs.Context.{Context, local_of, local_key, in_own, after, locals_in}
 use Rattle.jr_table.specs.HeadRules.{plain as no_locals, with_parameters, is_static_member}
 use Rattle.jr_table.specs.Sites.{Site, class_key}
-use Rattle.jr_table.specs.Errors.{Declares}
+use Rattle.jr_table.specs.Errors.{Part, member_part, Declares, InClass, InMembers, InInner, InClasses}
+use Rattle.jr_members.proofs.Anywhere.{IsAt}
 use Rattle.jr_rewrite.specs.Respellings.{Choice}
 use Rattle.jr_rewrite.specs.Rewritten.{Rewritten, within, joined, word_out, name_out, field_out, super_field_out, Called, simple_call_out, dotted_call_out, simple_type_out, qualified_type_out}
 use Rattle.jr_rewrite.specs.Rewrites.{Choosing, declared_by, DeclaredOut, TypeOut, RewritesType, with_losses, RewritesExp, RewritesTarget, RewritesRow, RewritesMaybe, RewritesStmt, RewritesElse, RewritesStmts, RewritesParams, RewritesResult, RewritesSuper, RewritesMember, RewritesParent, RewritesHead, ByKey, RewritesClass, RewritesMembers, RewritesOne, RewritesClasses, RewritesUnit, RewritesUnits}
 
--- two choose the same
-pub record Agree {A : Type 0} (C D : Choosing A) : Type 0 where
+-- two choose the same; for a written `super(..)` where its member is fine
+pub record Agree {A : Type 0} (Fine : MemberKey → Part A → Type 0) (C D : Choosing A) : Type 0 where
   pub expression : (c : Context) (r : Role) (base : ℕ) (e : tree.Exp A) (h k : Choice) → C.expression c r base e h → D.expression c r base e k → h ≡ k
   pub creation : (c : Context) (base : ℕ) (e : tree.Exp A) (h k : Choice) → C.creation c base e h → D.creation c base e k → h ≡ k
-  pub super_call : (c : Context) (args : tree.Exps A) (h k : Choice) → C.super_call c args h → D.super_call c args k → h ≡ k
+  pub super_call : (k : MemberKey) (m : A) (mods : List (syntax.Modifier A)) (w : tree.Word A) (ps : List (syntax.Param A)) (args : tree.Exps A) (body : statement.Stmts A)
+      → Fine k (member_part (syntax.constructor m mods w ps (Some args) body)) → (h i : Choice) → C.super_call (with_parameters k true ps) args h → D.super_call (with_parameters k true ps) args i → h ≡ i
   pub qualifier : (c : Context) (base : ℕ) (t : tree.TypeName A) (h k : Choice) → C.qualifier c base t h → D.qualifier c base t k → h ≡ k
   pub type : (c : Context) (base : ℕ) (t : tree.TypeName A) (h k : Choice) → C.type c base t h → D.type c base t k → h ≡ k
   pub parent_qualifier : (outer : Option (List ℕ)) (base : ℕ) (t : tree.TypeName A) (h k : Choice) → C.parent_qualifier outer base t h → D.parent_qualifier outer base t k → h ≡ k
@@ -42,7 +45,7 @@ of_three F c d e x y = x ∙ (λ i. F (c i) (d i) (e i)) ∙ sym y
 of_four : {Q R S T U : Type 0} (F : Q → R → S → T → U) {j k : Q} {l m : R} {q r : S} {s t : T} {o p : U} → j ≡ k → l ≡ m → q ≡ r → s ≡ t → o ≡ F j l q s → p ≡ F k m r t → o ≡ p
 of_four F b c d e x y = x ∙ (λ i. F (b i) (c i) (d i) (e i)) ∙ sym y
 
-module _ {A : Type 0} (tells : A → ℕ → Span) (C D : Choosing A) (agree : Agree C D) where
+module _ {A : Type 0} (tells : A → ℕ → Span) (Fine : MemberKey → Part A → Type 0) (C D : Choosing A) (agree : Agree Fine C D) where
   abbrev begins : A → ℕ → ℕ
   begins m base = (tells m base).from
 
@@ -172,26 +175,28 @@ module _ {A : Type 0} (tells : A → ℕ → Span) (C D : Choosing A) (agree : A
   result_one k base None o p x y = x ∙ sym y
   result_one k base (Some t) o p x y = of_one (λ (q : T). within (λ (u : tree.TypeName A). Some u) q) (type_one (no_locals k false) base t x.0 y.0 x.1 y.1) x.2 y.2
 
-  super_one : (c : Context) (base : ℕ) (args : Option (tree.Exps A)) (o p : Rewritten (Option (tree.Exps A))) → RewritesSuper tells C c base args o → RewritesSuper tells D c base args p → o ≡ p
-  super_one c base None o p x y = x ∙ sym y
-  super_one c base (Some args) o p x y =
-      of_two (λ (h : Choice) (q : Es). with_losses tells C h (within (λ (zs : tree.Exps A). Some zs) q)) (agree.super_call c args x.0 y.0 x.2 y.2) (row_one c base args x.1 y.1 x.3 y.3) x.4 y.4
+  super_one : (c : Context) (base : ℕ) (args : Option (tree.Exps A)) → ((es : tree.Exps A) → args ≡ Some es → (h i : Choice) → C.super_call c es h → D.super_call c es i → h ≡ i) → (o p : Rewritten (Option (tree.Exps A)))
+      → RewritesSuper tells C c base args o → RewritesSuper tells D c base args p → o ≡ p
+  super_one c base None one o p x y = x ∙ sym y
+  super_one c base (Some args) one o p x y =
+      of_two (λ (h : Choice) (q : Es). with_losses tells C h (within (λ (zs : tree.Exps A). Some zs) q)) (one args refl x.0 y.0 x.2 y.2) (row_one c base args x.1 y.1 x.3 y.3) x.4 y.4
 
-  member_one : (k : MemberKey) (base : ℕ) (q : syntax.Member A) (o p : Rewritten (syntax.Member A)) → RewritesMember tells C k base q o → RewritesMember tells D k base q p → o ≡ p
-  member_one k base (syntax.field m mods t w init) o p x y =
+  member_one : (k : MemberKey) (base : ℕ) (q : syntax.Member A) → Fine k (member_part q) → (o p : Rewritten (syntax.Member A)) → RewritesMember tells C k base q o → RewritesMember tells D k base q p → o ≡ p
+  member_one k base (syntax.field m mods t w init) fine o p x y =
       of_three (λ (q : T) (v : W) (r : Rewritten (Option (tree.Exp A))). joined (λ (u : tree.TypeName A × tree.Word A) z. syntax.field m mods u.0 u.1 z) (joined (λ u z. (u, z)) q v) r)
       (type_one (no_locals k false) (begins m base) t x.0 y.0 x.3 y.3) (word_one (declared_by k) (begins m base) w x.1 y.1 x.4 y.4) (maybe_one (no_locals k (is_static_member begins mods)) (begins m base) init x.2 y.2 x.5 y.5) x.6 y.6
-  member_one k base (syntax.method m mods t w ps body) o p x y =
+  member_one k base (syntax.method m mods t w ps body) fine o p x y =
       of_four (λ (q : Rewritten (Option (tree.TypeName A))) (v : W) (r : Ps) (s : Ss).
       joined (λ (u : Option (tree.TypeName A) × tree.Word A) (z : List (syntax.Param A) × statement.Stmts A). syntax.method m mods u.0 u.1 z.0 z.1) (joined (λ u z. (u, z)) q v) (joined (λ u z. (u, z)) r s))
       (result_one k (begins m base) t x.0 y.0 x.4 y.4) (word_one (declared_by k) (begins m base) w x.1 y.1 x.5 y.5) (params_one k 0 (begins m base) ps x.2 y.2 x.6 y.6)
       (stmts_one (length ps) (with_parameters k (is_static_member begins mods) ps) (begins m base) body x.3 y.3 x.7 y.7) x.8 y.8
-  member_one k base (syntax.constructor m mods w ps args body) o p x y =
+  member_one k base (syntax.constructor m mods w ps args body) fine o p x y =
       of_four (λ (v : W) (q : Ps) (r : Rewritten (Option (tree.Exps A))) (s : Ss).
       joined (λ (u : tree.Word A × List (syntax.Param A)) (z : Option (tree.Exps A) × statement.Stmts A). syntax.constructor m mods u.0 u.1 z.0 z.1) (joined (λ u z. (u, z)) v q) (joined (λ u z. (u, z)) r s))
-      (word_one (declared_by k) (begins m base) w x.0 y.0 x.4 y.4) (params_one k 0 (begins m base) ps x.1 y.1 x.5 y.5) (super_one (with_parameters k true ps) (begins m base) args x.2 y.2 x.6 y.6)
+      (word_one (declared_by k) (begins m base) w x.0 y.0 x.4 y.4) (params_one k 0 (begins m base) ps x.1 y.1 x.5 y.5) (super_one (with_parameters k true ps) (begins m base) args
+      (λ es e. agree.super_call k m mods w ps es body (subst (λ (given : Option (tree.Exps A)). Fine k (member_part (syntax.constructor m mods w ps given body))) e fine)) x.2 y.2 x.6 y.6)
       (stmts_one (length ps) (with_parameters k false ps) (begins m base) body x.3 y.3 x.7 y.7) x.8 y.8
-  member_one k base (syntax.inner m of) o p x y = absurd x
+  member_one k base (syntax.inner m of) fine o p x y = absurd x
 
   parent_one : (outer : Option (List ℕ)) (base : ℕ) (t : Option (tree.TypeName A)) (o p : Rewritten (Option (tree.TypeName A))) → RewritesParent tells C outer base t o → RewritesParent tells D outer base t p → o ≡ p
   parent_one outer base None o p x y = x ∙ sym y
@@ -208,36 +213,49 @@ module _ {A : Type 0} (tells : A → ℕ → Span) (C D : Choosing A) (agree : A
   -- ---- programs
 
   module _ (sites : List Site) (keys : (base : ℕ) (of : ClassKey) (q : syntax.Member A) → HasOne (Declares begins sites base of q)) where
-    keyed : (base : ℕ) (of : ClassKey) (q : syntax.Member A) (o p : Rewritten (syntax.Member A)) → ByKey tells C sites base of q o → ByKey tells D sites base of q p → o ≡ p
-    keyed base of q o p x y = member_one x.0 base q o p x.2 (subst (λ (k : MemberKey). RewritesMember tells D k base q p) (sym (keys base of q x.0 y.0 x.1 y.1)) y.2)
+    keyed : (base : ℕ) (of : ClassKey) (q : syntax.Member A) → ((k : MemberKey) → Declares begins sites base of q k → Fine k (member_part q)) → (o p : Rewritten (syntax.Member A))
+        → ByKey tells C sites base of q o → ByKey tells D sites base of q p → o ≡ p
+    keyed base of q fine o p x y = member_one x.0 base q (fine x.0 x.1) o p x.2 (subst (λ (k : MemberKey). RewritesMember tells D k base q p) (sym (keys base of q x.0 y.0 x.1 y.1)) y.2)
+
+    -- each member that is written there is fine
+    abbrev AllFine : ((MemberKey → ℕ → Part A → Type 0) → MemberKey → Type 0) → Type 0
+    AllFine In = (k : MemberKey) (base : ℕ) (part : Part A) → In (IsAt base part) k → Fine k part
 
     mutual
-      unfolding RewritesClass RewritesMembers RewritesOne
+      unfolding RewritesClass RewritesMembers RewritesOne InClass InMembers InInner
 
-      class_one : (base : ℕ) (outer : Option (List ℕ)) (q : syntax.Class A) (o p : Rewritten (syntax.Class A)) → RewritesClass tells C sites base outer q o → RewritesClass tells D sites base outer q p → o ≡ p
-      class_one base outer (syntax.class m mods w t ms) o p x y =
+      class_one : (base : ℕ) (outer : Option (List ℕ)) (q : syntax.Class A) → AllFine (λ P. InClass begins sites P base outer q) → (o p : Rewritten (syntax.Class A)) → RewritesClass tells C sites base outer q o → RewritesClass tells D sites base outer q p → o ≡ p
+      class_one base outer (syntax.class m mods w t ms) fine o p x y =
           of_two (λ (q : H) (r : Rewritten (syntax.Members A)). joined (λ (u : tree.Word A × Option (tree.TypeName A)) zs. syntax.class m mods u.0 u.1 zs) q r)
-          (head_one outer base (syntax.class m mods w t ms) x.0 y.0 x.2 y.2) (members_one (begins m base) (class_key begins outer w.text) ms x.1 y.1 x.3 y.3) x.4 y.4
+          (head_one outer base (syntax.class m mods w t ms) x.0 y.0 x.2 y.2) (members_one (begins m base) (class_key begins outer w.text) ms (λ k b part h. fine k b part (inr h)) x.1 y.1 x.3 y.3) x.4 y.4
 
-      members_one : (base : ℕ) (of : ClassKey) (q : syntax.Members A) (o p : Rewritten (syntax.Members A)) → RewritesMembers tells C sites base of q o → RewritesMembers tells D sites base of q p → o ≡ p
-      members_one base of syntax.end o p x y = x ∙ sym y
-      members_one base of (syntax.more q qs) o p x y =
-          of_two (λ (r : Rewritten (syntax.Member A)) (s : Rewritten (syntax.Members A)). joined (λ z zs. syntax.more z zs) r s) (one_one base of q x.0 y.0 x.2 y.2) (members_one base of qs x.1 y.1 x.3 y.3) x.4 y.4
+      members_one : (base : ℕ) (of : ClassKey) (q : syntax.Members A) → AllFine (λ P. InMembers begins sites P base of q) → (o p : Rewritten (syntax.Members A)) → RewritesMembers tells C sites base of q o → RewritesMembers tells D sites base of q p → o ≡ p
+      members_one base of syntax.end fine o p x y = x ∙ sym y
+      members_one base of (syntax.more q qs) fine o p x y =
+          of_two (λ (r : Rewritten (syntax.Member A)) (s : Rewritten (syntax.Members A)). joined (λ z zs. syntax.more z zs) r s)
+          (one_one base of q (λ k b part h. fine k b part (inl h)) x.0 y.0 x.2 y.2) (members_one base of qs (λ k b part h. fine k b part (inr h)) x.1 y.1 x.3 y.3) x.4 y.4
 
-      one_one : (base : ℕ) (of : ClassKey) (q : syntax.Member A) (o p : Rewritten (syntax.Member A)) → RewritesOne tells C sites base of q o → RewritesOne tells D sites base of q p → o ≡ p
-      one_one base of (syntax.inner m c) o p x y = of_one (λ (r : Rewritten (syntax.Class A)). within (λ z. syntax.inner m z) r) (class_one (begins m base) (Some of.name) c x.0 y.0 x.1 y.1) x.2 y.2
-      one_one base of (syntax.field m mods t w init) o p x y = keyed base of (syntax.field m mods t w init) o p x y
-      one_one base of (syntax.method m mods t w ps body) o p x y = keyed base of (syntax.method m mods t w ps body) o p x y
-      one_one base of (syntax.constructor m mods w ps args body) o p x y = keyed base of (syntax.constructor m mods w ps args body) o p x y
+      one_one : (base : ℕ) (of : ClassKey) (q : syntax.Member A) → AllFine (λ P k. (Declares begins sites base of q k × P k base (member_part q)) ⊎ InInner begins sites P base of q k) → (o p : Rewritten (syntax.Member A))
+          → RewritesOne tells C sites base of q o → RewritesOne tells D sites base of q p → o ≡ p
+      one_one base of (syntax.inner m c) fine o p x y =
+          of_one (λ (r : Rewritten (syntax.Class A)). within (λ z. syntax.inner m z) r) (class_one (begins m base) (Some of.name) c (λ k b part h. fine k b part (inr h)) x.0 y.0 x.1 y.1) x.2 y.2
+      one_one base of (syntax.field m mods t w init) fine o p x y = keyed base of (syntax.field m mods t w init) (λ k d. fine k base _ (inl (d, (refl, refl)))) o p x y
+      one_one base of (syntax.method m mods t w ps body) fine o p x y = keyed base of (syntax.method m mods t w ps body) (λ k d. fine k base _ (inl (d, (refl, refl)))) o p x y
+      one_one base of (syntax.constructor m mods w ps args body) fine o p x y = keyed base of (syntax.constructor m mods w ps args body) (λ k d. fine k base _ (inl (d, (refl, refl)))) o p x y
 
-    classes_one : (base : ℕ) (cs : List (syntax.Class A)) (o p : Rewritten (List (syntax.Class A))) → RewritesClasses tells C sites base cs o → RewritesClasses tells D sites base cs p → o ≡ p
-    classes_one base [] o p x y = x ∙ sym y
-    classes_one base (c ∷ cs) o p x y =
-        of_two (λ (q : Rewritten (syntax.Class A)) (r : Rewritten (List (syntax.Class A))). joined (λ z zs. z ∷ zs) q r) (class_one base None c x.0 y.0 x.2 y.2) (classes_one base cs x.1 y.1 x.3 y.3) x.4 y.4
+    classes_one : (base : ℕ) (cs : List (syntax.Class A)) → AllFine (λ P. InClasses begins sites P base cs) → (o p : Rewritten (List (syntax.Class A))) → RewritesClasses tells C sites base cs o → RewritesClasses tells D sites base cs p → o ≡ p
+    classes_one base [] fine o p x y = x ∙ sym y
+    classes_one base (c ∷ cs) fine o p x y =
+        of_two (λ (q : Rewritten (syntax.Class A)) (r : Rewritten (List (syntax.Class A))). joined (λ z zs. z ∷ zs) q r)
+        (class_one base None c (λ k b part h. fine k b part (inl h)) x.0 y.0 x.2 y.2) (classes_one base cs (λ k b part h. fine k b part (inr h)) x.1 y.1 x.3 y.3) x.4 y.4
 
-    unit_one : (u : syntax.Unit A) (o p : Rewritten (syntax.Unit A)) → RewritesUnit tells C sites u o → RewritesUnit tells D sites u p → o ≡ p
-    unit_one u o p x y = of_one (λ (q : Rewritten (List (syntax.Class A))). within (λ cs. record { mark = u.mark; package_name = u.package_name; classes = cs }) q) (classes_one (begins u.mark 0) u.classes x.0 y.0 x.1 y.1) x.2 y.2
+    abbrev UnitFine : syntax.Unit A → Type 0
+    UnitFine u = AllFine (λ P. InClasses begins sites P (begins u.mark 0) u.classes)
 
-    pub units_one : (us : List (syntax.Unit A)) (os ps : List (Rewritten (syntax.Unit A))) → RewritesUnits tells C sites us os → RewritesUnits tells D sites us ps → os ≡ ps
-    units_one [] os ps x y = x ∙ sym y
-    units_one (u ∷ us) os ps x y = of_two (λ (o : Rewritten (syntax.Unit A)) (rest : List (Rewritten (syntax.Unit A))). o ∷ rest) (unit_one u x.0 y.0 x.2 y.2) (units_one us x.1 y.1 x.3 y.3) x.4 y.4
+    unit_one : (u : syntax.Unit A) → UnitFine u → (o p : Rewritten (syntax.Unit A)) → RewritesUnit tells C sites u o → RewritesUnit tells D sites u p → o ≡ p
+    unit_one u fine o p x y = of_one (λ (q : Rewritten (List (syntax.Class A))). within (λ cs. record { mark = u.mark; package_name = u.package_name; classes = cs }) q) (classes_one (begins u.mark 0) u.classes fine x.0 y.0 x.1 y.1) x.2 y.2
+
+    pub units_one : (us : List (syntax.Unit A)) → ((n : ℕ) (u : syntax.Unit A) → slice_get us n ≡ Some u → UnitFine u) → (os ps : List (Rewritten (syntax.Unit A))) → RewritesUnits tells C sites us os → RewritesUnits tells D sites us ps → os ≡ ps
+    units_one [] fine os ps x y = x ∙ sym y
+    units_one (u ∷ us) fine os ps x y =
+        of_two (λ (o : Rewritten (syntax.Unit A)) (rest : List (Rewritten (syntax.Unit A))). o ∷ rest) (unit_one u (fine zero u refl) x.0 y.0 x.2 y.2) (units_one us (λ n v e. fine (suc n) v e) x.1 y.1 x.3 y.3) x.4 y.4

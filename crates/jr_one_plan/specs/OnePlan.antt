@@ -40,16 +40,17 @@ AlikeBecomeTheSame = (rows : List Row) (g h : Renaming) → AreAlike g h → Bec
 
 -- ---- rewritings
 
--- a program is rewritten in one way
+-- a program is rewritten in one way, whatever else is known of its files
 abbrev pub RewritingIsOne : Type 0
-RewritingIsOne = (p : Program Span) → IsProgram itself (λ m b. Unit {0}) p → (g h : Renaming)
+RewritingIsOne = (p q : Program Span) → IsProgram itself (λ m b. Unit {0}) p
+    → IsProgram itself (λ m b. Unit {0}) q → p.files ≡ q.files → (g h : Renaming)
     → AreAlike g h → IsFair p.rows g → (files others : List (Rewritten (syntax.Unit Span)))
     → Rewrite itself p.rows p.super_at (units_of p) g files
-    → Rewrite itself p.rows p.super_at (units_of p) h others → files ≡ others
+    → Rewrite itself q.rows q.super_at (units_of q) h others → files ≡ others
 
 -- ---- plans
 
-module _ (p : Program Span) (text : List ℕ) (file at : ℕ) (new : List ℕ) where
+module _ (text : List ℕ) (file at : ℕ) (new : List ℕ) (p : Program Span) where
   abbrev pub PlansSo : List (List Entry) → List (Decl × Decl) → (respelled : ℕ) → Type 0
   PlansSo edits renaming respelled = IsPlanned itself p.rows p.super_at (units_of p) text file at
       new edits renaming respelled
@@ -57,17 +58,22 @@ module _ (p : Program Span) (text : List ℕ) (file at : ℕ) (new : List ℕ) w
   abbrev pub RefusesSo : Refusal → Type 0
   RefusesSo r = IsRefused itself p.rows p.super_at (units_of p) text file at new r
 
-  -- a step is planned in one way, or refused for one reason, and not both
-  pub record HasOnePlan : Type 0 where
+-- by each of these programs a step is planned in the same way, or refused for the same reason
+pub record HasOnePlan (text : List ℕ) (file at : ℕ) (new : List ℕ) (p q : Program Span) : Type 0
+  where
     pub plans : (edits others : List (List Entry)) (renaming pairs : List (Decl × Decl))
-        (respelled count : ℕ) → PlansSo edits renaming respelled → PlansSo others pairs count
+        (respelled count : ℕ) → PlansSo text file at new p edits renaming respelled
+        → PlansSo text file at new q others pairs count
         → (edits ≡ others) × (renaming ≡ pairs) × (respelled ≡ count)
-    pub refusals : (q r : Refusal) → RefusesSo q → RefusesSo r → q ≡ r
+    pub refusals : (r s : Refusal) → RefusesSo text file at new p r
+        → RefusesSo text file at new q s → r ≡ s
     pub apart : (edits : List (List Entry)) (renaming : List (Decl × Decl)) (respelled : ℕ)
-        (r : Refusal) → PlansSo edits renaming respelled → RefusesSo r → ⊥
+        (r : Refusal) → PlansSo text file at new p edits renaming respelled
+        → RefusesSo text file at new q r → ⊥
 
--- of a program, where the new name is an identifier
+-- of programs of the same files, where the new name is an identifier
 abbrev pub PlanIsOne : Type 0
-PlanIsOne = (p : Program Span) → IsProgram itself (λ m b. Unit {0}) p → (file at : ℕ)
-    (f : File Span) → slice_get p.files file ≡ Some f → (new : List ℕ) → IsName new
-    → HasOnePlan p f.text file at new
+PlanIsOne = (p q : Program Span) → IsProgram itself (λ m b. Unit {0}) p
+    → IsProgram itself (λ m b. Unit {0}) q → p.files ≡ q.files → (file at : ℕ) (f : File Span)
+    → slice_get p.files file ≡ Some f → (new : List ℕ) → IsName new
+    → HasOnePlan f.text file at new p q
