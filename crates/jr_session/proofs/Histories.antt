@@ -6,32 +6,40 @@ use Rattle.std.proofs.Common.{true≢false}
 use Rattle.std.proofs.lemmas.Bool.{false_from_ne_true}
 use Rattle.std.proofs.lemmas.Bool.Decides.{Decides-eqb}
 use Rattle.std.proofs.lemmas.Option.{none-some, same_Some}
+use Rattle.jr_sources.specs.Sources.{Source, names_of, texts_of, with_text}
+use Rattle.jr_sources.proofs.SourceLaws.{names-with_text, texts-with_text, length-with_text}
 use Rattle.jr_session.specs.declared.changes.Change.{Change}
-use Rattle.jr_session.specs.Changes.{before, history}
+use Rattle.jr_session.specs.declared.changes.Earlier.{Earlier}
+use Rattle.jr_session.specs.Changes.{before, history, put_texts, put_back}
 
-pub before-pushed : (texts : List (List ℕ)) (cs : List Change) (c : Change) → before texts (cs ++ c ∷ []) ≡ before (set texts c.file c.text) cs
-before-pushed texts [] c = refl
-before-pushed texts (x ∷ xs) c = ap (λ (ts : List (List ℕ)). set ts x.file x.text) (before-pushed texts xs c)
+pub texts-put : (ss : List Source) (cs : List Change) → texts_of (put_back ss cs) ≡ put_texts (texts_of ss) cs
+texts-put ss [] = refl
+texts-put ss (c ∷ cs) = texts-with_text (put_back ss cs) c.file c.text ∙ ap (λ (ts : List (List ℕ)). set ts c.file c.text) (texts-put ss cs)
 
--- the last change is the last entry
-pub history-pushed : (texts : List (List ℕ)) (cs : List Change) (c : Change) → history texts (cs ++ c ∷ []) ≡ history (set texts c.file c.text) cs ++ set texts c.file c.text ∷ []
-history-pushed texts [] c = refl
-history-pushed texts (x ∷ xs) c = λ i. set (before-pushed texts xs c i) x.file x.text ∷ history-pushed texts xs c i
+pub names-put : (ss : List Source) (cs : List Change) → names_of (put_back ss cs) ≡ names_of ss
+names-put ss [] = refl
+names-put ss (c ∷ cs) = names-with_text (put_back ss cs) c.file c.text ∙ names-put ss cs
 
--- a text that is put back gives what there was
-pub set-back : {A : Type 0} (xs : List A) (n : ℕ) (new old : A) → slice_get xs n ≡ Some old → set (set xs n new) n old ≡ xs
-set-back [] n new old h = refl
-set-back (x ∷ xs) zero new old h = ap (λ y. y ∷ xs) (sym (same_Some x old h))
-set-back (x ∷ xs) (suc n) new old h = ap (λ ys. x ∷ ys) (set-back xs n new old h)
+pub length-put : (ss : List Source) (cs : List Change) → length (put_back ss cs) ≡ length ss
+length-put ss [] = refl
+length-put ss (c ∷ cs) = length-with_text (put_back ss cs) c.file c.text ∙ length-put ss cs
 
--- with the text before it behind the others, a change keeps the history and adds what there was
-pub history-changed : (texts : List (List ℕ)) (cs : List Change) (n : ℕ) (new old : List ℕ) → slice_get texts n ≡ Some old → history (set texts n new) (cs ++ record { file = n; text = old } ∷ []) ≡ history texts cs ++ texts ∷ []
-history-changed texts cs n new old h =
-    history-pushed (set texts n new) cs (record { file = n; text = old })
-    ∙ (λ i. history (set-back texts n new old h i) cs ++ set-back texts n new old h i ∷ [])
+-- those of two lists, the second first
+pub put-append : (ss : List Source) (cs ds : List Change) → put_back ss (cs ++ ds) ≡ put_back (put_back ss ds) cs
+put-append ss [] ds = refl
+put-append ss (c ∷ cs) ds = ap (λ (xs : List Source). with_text xs c.file c.text) (put-append ss cs ds)
+
+pub before-pushed : (texts : List (List ℕ)) (es : List Earlier) (e : Earlier) → before texts (es ++ e ∷ []) ≡ before (put_texts texts e.changes.items) es
+before-pushed texts [] e = refl
+before-pushed texts (x ∷ xs) e = ap (λ (ts : List (List ℕ)). put_texts ts x.changes.items) (before-pushed texts xs e)
+
+-- the last step is the last entry
+pub history-pushed : (texts : List (List ℕ)) (es : List Earlier) (e : Earlier) → history texts (es ++ e ∷ []) ≡ history (put_texts texts e.changes.items) es ++ put_texts texts e.changes.items ∷ []
+history-pushed texts [] e = refl
+history-pushed texts (x ∷ xs) e = λ i. put_texts (before-pushed texts xs e i) x.changes.items ∷ history-pushed texts xs e i
 
 -- there is a history exactly where there are changes
-pub some_history : (texts : List (List ℕ)) (cs : List Change) (b : Bool) → b ≡ (length cs == 0) → IsTrue (not b) ↔ (history texts cs ≢ [])
+pub some_history : (texts : List (List ℕ)) (cs : List Earlier) (b : Bool) → b ≡ (length cs == 0) → IsTrue (not b) ↔ (history texts cs ≢ [])
 some_history texts [] b e =
     let n : b ≡ true = e ∙ (Decides-eqb 0 0).1 refl in
     (λ t h. true≢false (sym t ∙ ap not n), λ h. absurd (h refl))
@@ -39,6 +47,6 @@ some_history texts (c ∷ cs) b e =
     let n : b ≡ false = e ∙ false_from_ne_true (length (c ∷ cs) == 0) (λ t. let z : length (c ∷ cs) ≡ 0 = (Decides-eqb (length (c ∷ cs)) 0).0 t in absurd (omega arith)) in
     (λ t h. cc, λ h. ap not n)
 
-pub no_history : (texts : List (List ℕ)) (cs : List Change) → history texts cs ≡ [] → cs ≡ []
+pub no_history : (texts : List (List ℕ)) (cs : List Earlier) → history texts cs ≡ [] → cs ≡ []
 no_history texts [] h = refl
 no_history texts (c ∷ cs) h = cc

@@ -5,6 +5,7 @@ pub mod StateLaws
 pub mod LengthLaws
 pub mod RefusalCases
 pub mod EditLaws
+pub mod Making
 pub mod SessionSteps
 pub mod StepCases
 pub mod OneAnswer
@@ -13,3 +14,9 @@ pub mod OneStep
 pub mod ShownLines
 pub mod ShowSteps
 pub mod Showing
+pub mod Exchanging
+pub mod Turning
+pub mod Planning
+pub mod Trying
+pub mod RenameSteps
+pub mod Refactored

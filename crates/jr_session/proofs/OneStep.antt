@@ -10,7 +10,7 @@ use Rattle.jr_sources.specs.Sources.{Differ}
 use Rattle.jr_session.specs.States.{State, IsUndone, IsRedone}
 use Rattle.jr_session.specs.Refusing.{IsFirstRefusal, IsGranted}
 use Rattle.jr_sources.specs.ReadingLaws.{HasOneReading}
-use Rattle.jr_session.specs.Serving.{IsServed}
+use Rattle.jr_session.specs.StepLaws.{IsPlain}
 use Rattle.jr_session.specs.Stepping.{Steps, IsEdited, IsShown}
 use Rattle.jr_session.specs.StepLaws.{HasOneShow}
 use Rattle.jr_session.proofs.OneAnswer.{one_edited, one_refusal, one_undo_refusal, one_redo_refusal, one_undone, one_redone}
@@ -109,7 +109,7 @@ module _ (reading : HasOneReading) (once : HasOneShow) where
         let lines : g.0 ≡ h.0 = would_once s file differ once g.0 h.0 g.3.shows h.3.shows in
         (g.1 ∙ ap shown lines ∙ sym h.1, g.3.becomes ∙ ap (λ (ls : List (List ℕ)). more_shown s (bytes_of ls)) lines ∙ sym h.3.becomes)
 
-  pub one_answer : (s : State) (of : Step) (r q : Reply) (t u : State) → Differ s.files → IsServed of → Steps s of r t → Steps s of q u → (r ≡ q) × (t ≡ u)
+  pub one_answer : (s : State) (of : Step) (r q : Reply) (t u : State) → Differ s.files → IsPlain of → Steps s of r t → Steps s of q u → (r ≡ q) × (t ≡ u)
   one_answer s (step.Edit file from to text) r q t u differ is g h =
       both s (step.Edit file from to text) edited (λ v. IsEdited s (step.Edit file from to text) v) r q t u (one_refusal s file from to text differ) (one_edited s file from to text differ t u) (edit_answers s file text from to r t g) (edit_answers s file text from to q u h)
   one_answer s step.Undo r q t u differ is g h = both s step.Undo undone (λ v. IsUndone s v) r q t u (one_undo_refusal s) (one_undone s t u) (undo_answers s r t g) (undo_answers s q u h)

@@ -8,7 +8,7 @@ use Rattle.jr_text.specs.Splices.{replaced}
 use Rattle.jr_names.specs.declared.steps.Step.TheVariants as step
 use Rattle.jr_names.specs.Replies.{edited, undone, redone, refused}
 use Rattle.jr_names.specs.Refusals.{Refusal, bad_span, too_long, nothing_to_undo, nothing_to_redo}
-use Rattle.jr_session.specs.declared.changes.Change.{Change}
+use Rattle.jr_session.specs.declared.changes.Earlier.{Earlier}
 use Rattle.jr_sources.specs.Sources.{Source, HasName, LacksFile, Differ, IsFile, names_of, texts_of, with_text, total_of, total_limit}
 use Rattle.jr_session.specs.States.{State, changed, IsUndone, IsRedone}
 use Rattle.jr_session.specs.Lengths.{AreWithin, AreTooLong}
@@ -30,7 +30,7 @@ number_within ss i name h =
     count [] = refl
     count (x ∷ xs) = ap suc (count xs)
 
-module _ (sources : List Source) (undo redo : List Change) (shown : ℕ) (file : List ℕ) (from to : ℕ) (text : List ℕ) (number : ℕ) (differ : Differ sources) (named : HasName sources number file) where
+module _ (sources : List Source) (undo redo : List Earlier) (shown : ℕ) (file : List ℕ) (from to : ℕ) (text : List ℕ) (number : ℕ) (differ : Differ sources) (named : HasName sources number file) where
   -- a file that can't be cut is the one that was found
   pub cut_nowhere : CutsBadly (state_of sources undo redo shown) (step.Edit file from to text) from to → CanNotCut sources number (span_of from to)
   cut_nowhere h =
@@ -52,7 +52,7 @@ module _ (sources : List Source) (undo redo : List Change) (shown : ℕ) (file :
     pub cut_somewhere : CutsBadly (state_of sources undo redo shown) (step.Edit file from to text) from to → ⊥
     cut_somewhere = cuts_well (state_of sources undo redo shown) file from to text number h.old differ (file_of sources number file h.old named h.has) h.cut
 
-    pub edited_step : (sources' : List Source) (undo' redo' : List Change) → IsChanged sources undo number new sources' undo' → redo' ≡ [] → Steps (state_of sources undo redo shown) (step.Edit file from to text) edited (state_of sources' undo' redo' shown)
+    pub edited_step : (sources' : List Source) (undo' redo' : List Earlier) → IsChanged sources undo (with_text sources number new) sources' undo' → redo' ≡ [] → Steps (state_of sources undo redo shown) (step.Edit file from to text) edited (state_of sources' undo' redo' shown)
     edited_step sources' undo' redo' c none =
         let within : AreWithin (texts_of (with_text sources number (replaced h.old (span_of from to) text))) = subst (λ (t : List ℕ). AreWithin (texts_of (with_text sources number t))) h.is h.within in
         let together = subst (λ (t : List ℕ). total_of (texts_of (with_text sources number t)) ≤ total_limit) h.is h.together in (

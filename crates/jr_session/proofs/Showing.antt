@@ -5,7 +5,7 @@ use Rattle.jr_names.specs.Replies.{Reply, refused, shown as shown_reply}
 use Rattle.jr_names.specs.Refusals.{source_error, report_full}
 use Rattle.jr_shown.specs.Lines.{bytes_of}
 use Rattle.jr_sources.specs.declared.analyses.Analysis.{Analysis}
-use Rattle.jr_session.specs.declared.changes.Change.{Change}
+use Rattle.jr_session.specs.declared.changes.Earlier.{Earlier}
 use Rattle.jr_sources.specs.declared.analyses.SourceFault.{SourceFault}
 use Rattle.jr_sources.specs.Analysed.{IsAnalysis, IsSourceFault, CostsBinding}
 use Rattle.jr_sources.specs.FirstFault.{IsFirstFaultOf}
@@ -31,7 +31,7 @@ one_name ss i a b g h = let e : Some a ≡ Some b = sym g ∙ h in cc
 pub work_of : (s : State) (file : List ℕ) (before after : ℕ) → CostsBinding s.files before after → IsWithinWork s (the_show file) before after
 work_of s file before after h = record { other = λ f. absurd (f tt); faulty = h.faulty; program = h.program }
 
-module _ (sources : List Source) (undo redo : List Change) (count : ℕ) (file : List ℕ) (number : ℕ) (named : HasName sources number file) where
+module _ (sources : List Source) (undo redo : List Earlier) (count : ℕ) (file : List ℕ) (number : ℕ) (named : HasName sources number file) where
   there : (text : List ℕ) × IsFile sources number file text
   there =
       let lt = number_within sources number file named in

@@ -38,6 +38,7 @@ use Rattle.jr_names.specs.RefusalNames.{refusal_number}
 use Rattle.jr_sources.specs.Sources.{IsFile, LacksFile, texts_of, with_text, total_limit}
 use Rattle.jr_session.specs.States.{State}
 use Rattle.jr_session.specs.Lengths.{AreTooLong}
+use Rattle.jr_session.specs.Renaming.{IsRefusedRename}
 use Rattle.jr_sources.specs.FirstFault.{IsFirstFaultOf}
 use Rattle.jr_shown.specs.Lines.{bytes_of}
 use Rattle.jr_session.specs.Lines.{AreLineTexts}
@@ -62,10 +63,18 @@ IsOfFile step.Redo name = ⊥
 -- the step is answered from a program, which the sources have to be
 abbrev pub NeedsProgram : Step → Type 0
 NeedsProgram (step.Show file of) = Unit {0}
+NeedsProgram (step.Rename file at new) = Unit {0}
 NeedsProgram (step.Edit file from to text) = ⊥
 NeedsProgram step.Undo = ⊥
 NeedsProgram step.Redo = ⊥
 NeedsProgram _ = ⊥
+
+abbrev pub IsShow : Step → Type 0
+IsShow (step.Show file of) = Unit {0}
+IsShow (step.Edit file from to text) = ⊥
+IsShow step.Undo = ⊥
+IsShow step.Redo = ⊥
+IsShow _ = ⊥
 
 -- the step is an edit of this file, whose text is this
 pub record IsEdit (s : State) (of : Step) (number : ℕ) (old : List ℕ) (span : Span)
@@ -108,7 +117,7 @@ shown_limit = 8388608
 
 abbrev pub Applies : State → Step → Refusal → Type 0
 Applies s of (no_such_file name) = IsOfFile of name × LacksFile s.files name
-Applies s of (source_error file at kind) = NeedsProgram of × IsFirstFaultOf s.files file at kind
+Applies s of (source_error file at kind) = IsShow of × IsFirstFaultOf s.files file at kind
 Applies s of (bad_span from to) = CutsBadly s of from to
 Applies s of (too_long len) =
     (texts : List (List ℕ)) × WouldMake s of texts × AreTooLong texts len
@@ -155,6 +164,17 @@ pub record IsFirstRefusal (s : State) (of : Step) (r : Refusal) : Type 0 where
   pub applies : Applies s of r
   pub first : (q : Refusal) → Applies s of q → rank_of of r ≤ rank_of of q
 
+-- The step is refused for this reason: the first of those that apply. Those of a rename are told in
+-- their order, each with what was found before it.
+abbrev pub Refuses : State → Step → Refusal → Type 0
+Refuses s (step.Rename file at new) r = IsRefusedRename s file at new r
+Refuses s of r = IsFirstRefusal s of r
+
 -- nothing refuses the step
 abbrev pub IsGranted : State → Step → Type 0
 IsGranted s of = (r : Refusal) → Applies s of r → ⊥
+
+-- what a rename does says that nothing refuses it
+abbrev pub Grants : State → Step → Type 0
+Grants s (step.Rename file at new) = Unit {0}
+Grants s of = IsGranted s of

@@ -7,7 +7,8 @@ use Rattle.jr_names.specs.declared.steps.Step.TheVariants as step
 use Rattle.jr_names.specs.Replies.{Reply, edited, refactored, shown, undone, redone, refused}
 use Rattle.jr_sources.specs.Sources.{Source}
 use Rattle.jr_session.specs.States.{State, changed, IsUndone, IsRedone}
-use Rattle.jr_session.specs.Refusing.{IsEdit, WouldShow, IsFirstRefusal, IsGranted}
+use Rattle.jr_session.specs.Renaming.{IsRenamed}
+use Rattle.jr_session.specs.Refusing.{IsEdit, WouldShow, Refuses, Grants}
 use Rattle.jr_shown.specs.Lines.{bytes_of}
 
 -- the file is spliced by the one span, and the texts before can be undone
@@ -29,17 +30,22 @@ pub record IsShown (s : State) (of : Step) (lines : List (List ℕ)) (t : State)
     shown = s.shown + bytes_of lines;
   }
 
+-- a refactoring is done to these files, with so many respelled references
+abbrev pub IsRefactored : State → Step → (files : List (List ℕ)) → (respelled : ℕ) → State → Type 0
+IsRefactored s (step.Rename file at new) files respelled t = IsRenamed s file at new files respelled t
+IsRefactored s of files respelled t = ⊥
+
 -- the step is done, with this reply; what isn't here has no step yet
 abbrev pub Does : State → Step → Reply → State → Type 0
 Does s of edited t = IsEdited s of t
 Does s of (shown lines) t = IsShown s of lines t
 Does s of undone t = (of ≡ step.Undo) × IsUndone s t
 Does s of redone t = (of ≡ step.Redo) × IsRedone s t
-Does s of (refactored files respelled) t = ⊥
+Does s of (refactored files respelled) t = IsRefactored s of files respelled t
 Does s of (refused r) t = ⊥
 
 -- The step is refused for the first reason that applies, and nothing changes; or none applies, and
 -- it is done.
 abbrev pub Steps : State → Step → Reply → State → Type 0
-Steps s of (refused r) t = IsFirstRefusal s of r × (t ≡ s)
-Steps s of reply t = IsGranted s of × Does s of reply t
+Steps s of (refused r) t = Refuses s of r × (t ≡ s)
+Steps s of reply t = Grants s of × Does s of reply t

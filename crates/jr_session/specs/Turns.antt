@@ -1,36 +1,55 @@
--- A file's text is exchanged for another, forwards or back. Only private clauses cite this.
-use Rattle.std.specs.Prelude.{◌≡◌, ℕ, List, [], ◌∷◌, ◌++◌, Option, slice_get, Some}
-use Rattle.jr_text.specs.declared.spans.Span.{Span}
-use Rattle.jr_ast.specs.MemberTree.{Unit as UnitTree}
-use Rattle.jr_session.specs.declared.changes.Change.{Change}
-use Rattle.jr_sources.specs.declared.faults.ReadingFault.{ReadingFault}
+-- Texts are exchanged for others, forwards or back. Only private clauses cite this.
+use Rattle.std.specs.Prelude.{◌≡◌, ℕ, List, [], ◌∷◌, ◌++◌, length}
+use Rattle.std.specs.List.{AllZip}
+use Rattle.jr_ast.specs.View.{unit_of}
+use Rattle.jr_sources.specs.declared.readings.Reading.{Reading}
 use Rattle.jr_sources.specs.ReadingFaults.{IsReading}
-use Rattle.jr_sources.specs.Sources.{Source, texts_of, with_text}
+use Rattle.jr_sources.specs.Sources.{Source}
+use Rattle.jr_session.specs.declared.changes.Change.{Change}
+use Rattle.jr_session.specs.declared.changes.Earlier.{Earlier}
+use Rattle.jr_session.specs.Changes.{put_back, AreOfFiles}
 
--- the file has the text, and the one that it had stands behind the changes
-pub record IsChanged (sources : List Source) (changes : List Change) (number : ℕ) (text : List ℕ)
-    (sources' : List Source) (changes' : List Change) : Type 0 where
-  pub old : List ℕ
-  pub was : slice_get (texts_of sources) number ≡ Some old
-  pub becomes : sources' ≡ with_text sources number text
-  pub kept : changes' ≡ changes ++ record { file = number; text = old } ∷ []
+-- what the text of a change reads as
+abbrev pub IsChangeReading : Change → Reading → Type 0
+IsChangeReading c r = IsReading c.text (unit_of r.unit) r.word r.fault
 
--- the last change of one list is taken back, and the text that it takes away stands behind the
--- other
-pub record IsTurn (sources : List Source) (from onto : List Change) (sources' : List Source)
-    (from' onto' : List Change) : Type 0 where
-  pub change : Change
-  pub had : from ≡ from' ++ change ∷ []
-  pub changed : IsChanged sources onto change.file change.text sources' onto'
+abbrev pub AreChangeReadings : List Change → List Reading → Type 0
+AreChangeReadings changes readings = AllZip IsChangeReading changes readings
+
+-- the sources have these texts, and what they had stands behind the changes
+pub record AreExchanged (sources : List Source) (texts had : List Change) (sources' : List Source)
+    (had' : List Change) : Type 0 where
+  pub behind : List Change
+  pub becomes : sources' ≡ put_back sources texts
+  pub kept : had' ≡ had ++ behind
+  pub back : put_back sources' behind ≡ sources
+  pub files : AreOfFiles (length sources) behind
+  pub many : length behind ≡ length texts
+
+-- the sources become these, and what puts them back stands behind the steps
+pub record IsChanged (sources : List Source) (steps : List Earlier) (becomes : List Source)
+    (sources' : List Source) (steps' : List Earlier) : Type 0 where
+  pub was : Earlier
+  pub are : sources' ≡ becomes
+  pub back : put_back sources' was.changes.items ≡ sources
+  pub files : AreOfFiles (length sources) was.changes.items
+  pub kept : steps' ≡ steps ++ was ∷ []
+
+-- the last step of one list is taken back, and what it takes away stands behind the other
+pub record IsTurn (sources : List Source) (from onto : List Earlier) (sources' : List Source)
+    (from' onto' : List Earlier) : Type 0 where
+  pub step : Earlier
+  pub had : from ≡ from' ++ step ∷ []
+  pub changed : IsChanged sources onto (put_back sources step.changes.items) sources' onto'
+
+-- these are what the texts of the last step read as
+abbrev pub AreLastReadings : List Earlier → List Reading → Type 0
+AreLastReadings steps readings = (front : List Earlier) (step : Earlier) → steps ≡ front ++ step ∷ []
+    → AreChangeReadings step.changes.items readings
 
 -- nothing changed
-pub record AreAsBefore (sources : List Source) (from onto : List Change) (sources' : List Source)
-    (from' onto' : List Change) : Type 0 where
+pub record AreAsBefore (sources : List Source) (from onto : List Earlier) (sources' : List Source)
+    (from' onto' : List Earlier) : Type 0 where
   pub files : sources' ≡ sources
   pub left : from' ≡ from
   pub behind : onto' ≡ onto
-
--- this is what the text of the last change reads as
-abbrev pub IsLastReading : List Change → UnitTree Span → ℕ → Option ReadingFault → Type 0
-IsLastReading changes unit word fault = (front : List Change) (change : Change)
-    → changes ≡ front ++ change ∷ [] → IsReading change.text unit word fault

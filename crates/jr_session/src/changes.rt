@@ -2,9 +2,16 @@
 
 use jr_text::Text;
 
-/// The text that a file had before it was changed.
+/// A text that a file had, or is to have.
 #[derive(Drop)]
 pub(crate) struct Change {
     pub file: u32,
     pub text: Text,
+}
+
+/// The texts that the files had which one step changed. They are put back from the last to the
+/// first.
+#[derive(Drop)]
+pub(crate) struct Earlier {
+    pub changes: Vec<Change>,
 }

@@ -1,5 +1,5 @@
 //! Edits of a file, undoing and redoing.
-ghost use Rattle.std.specs.Prelude.{◌≡◌, IfOk, OnErr, IsOk, []};
+ghost use Rattle.std.specs.Prelude.{◌≡◌, IfOk, OnErr, IsOk, [], ◌∷◌};
 ghost use Rattle.jr_names.specs.ReplyView.{reply_of};
 ghost use Rattle.jr_names.specs.Replies.{refused};
 ghost use Rattle.jr_names.specs.Refusals.{no_such_file as missing};
@@ -7,12 +7,13 @@ ghost use Rattle.jr_names.specs.declared.steps.Step.TheVariants.{Edit, Undo, Red
 ghost use Rattle.jr_session.specs.Refusing.{CutsBadly};
 ghost use Rattle.jr_session.specs.Stepping.{Steps};
 
+use crate::changes::Change;
 use crate::sessions::Session;
 use crate::splices::{Spliced, splice};
 use crate::turns::{change, turn_back};
 use jr_ast::Name;
 use jr_names::{Refusal, Reply};
-use jr_text::Span;
+use jr_text::{Span, Text};
 use std::alloc::{AllocError, Global};
 
 /// The refusal of a step of a file that isn't there.
@@ -21,6 +22,16 @@ pub(crate) fn no_such_file(alloc: Global, file: &Name) -> Result<Reply, AllocErr
 {
     let name = Name::new(alloc, file.as_str())?;
     Ok(Reply::Refused(Refusal::NoSuchFile { name }))
+}
+
+// The change of one file.
+fn single(alloc: Global, file: u32, text: Text) -> Result<Vec<Change>, AllocError>
+    ensures { IfOk result (λ changes. changes.items
+        ≡ record { file = file; text = text } ∷ []) }
+{
+    let mut changes = Vec::new(alloc);
+    changes.push(Change { file, text })?;
+    Ok(changes)
 }
 
 impl Session {
@@ -50,14 +61,14 @@ impl Session {
                     Spliced::BadSpan => Ok(Reply::Refused(Refusal::BadSpan { from, to })),
                     Spliced::TooLong { len } => Ok(Reply::Refused(Refusal::TooLong { len })),
                     Spliced::Text(new) => {
+                        let changes = single(alloc, number, new)?;
                         change(
                             alloc,
                             &mut self.sources,
                             &mut self.readings,
                             &mut self.undo,
                             &mut self.redo,
-                            number,
-                            new,
+                            changes,
                         )?;
                         self.analysed = None;
                         Ok(Reply::Edited)

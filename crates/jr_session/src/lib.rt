@@ -9,10 +9,15 @@ mod begins;
 mod changes;
 mod edits;
 mod laws;
+mod made;
+mod plans;
+mod refactorings;
+mod renames;
 mod sessions;
 mod shows;
 mod splices;
 mod steps;
+mod tries;
 mod turns;
 
 pub use begins::BeginFault;

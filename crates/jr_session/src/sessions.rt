@@ -7,7 +7,7 @@ ghost use Rattle.jr_sources.specs.Sources.{IsFile, LacksFile};
 ghost use Rattle.jr_session.specs.States.{begun};
 
 use crate::begins::{BeginFault, readings_of, sources_from};
-use crate::changes::Change;
+use crate::changes::Earlier;
 use jr_sources::{Analysis, Readings, Sources};
 use jr_text::Text;
 use std::alloc::Global;
@@ -22,8 +22,8 @@ use std::marker::Model;
 pub struct Session {
     pub(crate) sources: Sources,
     pub(crate) readings: Readings,
-    pub(crate) undo: Vec<Change>,
-    pub(crate) redo: Vec<Change>,
+    pub(crate) undo: Vec<Earlier>,
+    pub(crate) redo: Vec<Earlier>,
     // What was analysed of these sources, for all members or for none.
     pub(crate) analysed: Option<Analysis>,
     // How many bytes of lines were shown.

@@ -6,7 +6,7 @@ ghost use Rattle.jr_names.specs.Refusals as refusals;
 ghost use Rattle.jr_names.specs.declared.steps.Step.TheVariants.{Show};
 ghost use Rattle.jr_names.specs.declared.steps.What.TheVariants.{Bindings};
 ghost use Rattle.jr_shown.specs.Lines.{bytes_of};
-ghost use Rattle.jr_sources.specs.Analysed.{IsKeptAnalysis, IsFilled, IsSourceFault};
+ghost use Rattle.jr_sources.specs.Analysed.{IsKeptAnalysis, IsFilled};
 ghost use Rattle.jr_session.specs.Lines.{AreLineTexts};
 ghost use Rattle.jr_session.specs.Refusing.{shown_limit};
 ghost use Rattle.jr_sources.specs.Sources.{AreSources, HasName};
@@ -27,9 +27,13 @@ use std::sync::ledger::Ledger;
 /// How many bytes of lines a session shows at most.
 pub const MAX_SHOWN_LEN: u64 = 8_388_608;
 
-// The refusal of a step because of a fault of the sources.
-fn source_error(alloc: Global, sources: &Sources, fault: SourceFault) -> Result<Reply, AllocError>
-    requires named { IsSourceFault sources.now fault }
+/// The refusal of a step because of what is wrong with the sources.
+pub(crate) fn source_error(
+    alloc: Global,
+    sources: &Sources,
+    fault: SourceFault,
+) -> Result<Reply, AllocError>
+    requires { fault.file < length sources.now }
     ensures { IfOk result (λ reply. (name : List ℕ) × HasName sources.now fault.file name
         × (reply_of reply ≡ refused (refusals.source_error name fault.at fault.kind.now))) }
 {

@@ -46,7 +46,7 @@ impl Session {
                 What::Bindings => self.show(alloc, file, steps),
                 What::Dependences => unreachable!(),
             },
-            Step::Rename { .. } => unreachable!(),
+            Step::Rename { file, at, name } => self.rename(alloc, file, *at, name, steps),
             Step::ExtractLocal { .. } => unreachable!(),
             Step::ExtractMethod { .. } => unreachable!(),
             Step::InlineLocal { .. } => unreachable!(),

@@ -1,16 +1,16 @@
-//! Texts are exchanged: by an edit, by an undoing, by a redoing.
-ghost use Rattle.std.specs.Prelude.{◌≡◌, ℕ, List, ◌<◌, ◌++◌, ◌∷◌, [], length, slice_get, Some};
+//! Texts are exchanged: by an edit or a refactoring, by an undoing, by a redoing.
+ghost use Rattle.std.specs.Prelude.{◌≡◌, ℕ, List, ◌<◌, ◌≤◌, ◌+◌, ◌++◌, ◌∷◌, [], length, Some};
 ghost use Rattle.std.specs.Prelude.{IfOk, OnOk, OnErr, Ok, true, false, vec_len, vec_capacity};
 ghost use Rattle.jr_ast.specs.View.{unit_of};
-ghost use Rattle.jr_session.specs.Changes.{AreChanges};
 ghost use Rattle.jr_sources.specs.KeptReadings.{AreReadings};
 ghost use Rattle.jr_sources.specs.ReadingFaults.{IsReading};
-ghost use Rattle.jr_sources.specs.Sources.{texts_of, with_text};
-ghost use Rattle.jr_session.specs.Turns.{IsChanged, IsTurn, AreAsBefore, IsLastReading};
+ghost use Rattle.jr_sources.specs.Sources.{texts_of};
+ghost use Rattle.jr_session.specs.Changes.{AreChanges, AreOfFiles, put_back};
+ghost use Rattle.jr_session.specs.Turns.{IsChanged, IsTurn, AreAsBefore, AreExchanged, AreLastReadings};
+ghost use Rattle.jr_session.specs.Turns.{AreChangeReadings};
 
-use crate::changes::Change;
+use crate::changes::{Change, Earlier};
 use jr_sources::{Reading, Readings, Sources, read};
-use jr_text::Text;
 use std::alloc::{AllocError, Global};
 
 // Gives a file another text with its reading, and puts the one that it had behind the changes,
@@ -18,92 +18,136 @@ use std::alloc::{AllocError, Global};
 fn exchange(
     sources: &mut Sources,
     readings: &mut Readings,
-    changes: &mut Vec<Change>,
-    number: u32,
-    text: Text,
+    had: &mut Vec<Change>,
+    change: Change,
     reading: Reading,
 )
-    requires number { number < length sources.old }
-    requires room { vec_len changes.old < vec_capacity changes.old }
+    requires number { change.file < length sources.old }
+    requires room { vec_len had.old < vec_capacity had.old }
     requires readings { AreReadings (texts_of sources.old) readings.old }
-    requires reading { IsReading text (unit_of reading.unit) reading.word reading.fault }
-    ensures changed { IsChanged sources.old changes.old.items number text
-        sources.new changes.new.items }
+    requires reading { IsReading change.text (unit_of reading.unit) reading.word reading.fault }
+    ensures changed { AreExchanged sources.old (change ∷ []) had.old.items sources.new
+        had.new.items }
+    ensures room { vec_capacity had.old ≤ vec_capacity had.new }
     ensures readings { AreReadings (texts_of sources.new) readings.new }
 {
-    let old = sources.exchange(number, text);
+    let number = change.file;
+    let old = sources.exchange(number, change.text);
     readings.put(number, reading);
     let change = Change {
         file: number,
         text: old,
     };
-    changes.push(change).unwrap();
+    had.push(change).unwrap();
 }
 
-/// Gives a file another text. The one that it had can be undone, and nothing can be redone.
+// Gives files other texts with their readings, the last first, and puts those that they had behind
+// the changes, which have room for them.
+fn exchange_all(
+    sources: &mut Sources,
+    readings: &mut Readings,
+    had: &mut Vec<Change>,
+    changes: Vec<Change>,
+    with: Vec<Reading>,
+)
+    requires files { AreOfFiles (length sources.old) changes.items }
+    requires room { vec_len had.old + length changes.items ≤ vec_capacity had.old }
+    requires readings { AreReadings (texts_of sources.old) readings.old }
+    requires with { AreChangeReadings changes.items with.items }
+    ensures changed { AreExchanged sources.old changes.items had.old.items sources.new
+        had.new.items }
+    ensures readings { AreReadings (texts_of sources.new) readings.new }
+{
+    let mut changes = changes;
+    let mut with = with;
+    while let Some(change) = changes.pop() {
+        let reading = with.pop().unwrap();
+        exchange(sources, readings, had, change, reading);
+    }
+}
+
+// What the texts of changes read as.
+fn readings_of(alloc: Global, changes: &[Change]) -> Result<Vec<Reading>, AllocError>
+    ensures { IfOk result (λ with. AreChangeReadings changes.now with.items) }
+{
+    let mut with = Vec::new(alloc);
+    for change in changes {
+        with.push(read(alloc, &change.text)?)?;
+    }
+    Ok(with)
+}
+
+/// Gives files other texts. Those that they had can be put back by one step, and nothing can be
+/// redone.
 pub(crate) fn change(
     alloc: Global,
     sources: &mut Sources,
     readings: &mut Readings,
-    undo: &mut Vec<Change>,
-    redo: &mut Vec<Change>,
-    number: u32,
-    text: Text,
+    undo: &mut Vec<Earlier>,
+    redo: &mut Vec<Earlier>,
+    changes: Vec<Change>,
 ) -> Result<(), AllocError>
-    requires number { number < length sources.old }
+    requires files { AreOfFiles (length sources.old) changes.items }
     requires readings { AreReadings (texts_of sources.old) readings.old }
-    ensures changed { OnOk result (IsChanged sources.old undo.old.items number text
-        sources.new undo.new.items) }
+    ensures changed { OnOk result (IsChanged sources.old undo.old.items
+        (put_back sources.old changes.items) sources.new undo.new.items) }
     ensures emptied { OnOk result (redo.new.items ≡ []) }
     ensures readings { AreReadings (texts_of sources.new) readings.new }
     ensures err { OnErr result (AreAsBefore sources.old undo.old.items redo.old.items
         sources.new undo.new.items redo.new.items) }
 {
-    let reading = read(alloc, &text)?;
+    let with = readings_of(alloc, changes.as_slice())?;
+    let mut had = Vec::new(alloc);
+    had.reserve(changes.len())?;
     undo.reserve(1)?;
-    exchange(sources, readings, undo, number, text, reading);
+    exchange_all(sources, readings, &mut had, changes, with);
+    undo.push(Earlier { changes: had }).unwrap();
     redo.clear();
     Ok(())
 }
 
-// What the text of the last change reads as.
-fn last_reading(alloc: Global, changes: &[Change]) -> Result<Reading, AllocError>
-    requires { 0 < length changes.now }
-    ensures { IfOk result (λ r. IsLastReading changes.now (unit_of r.unit) r.word r.fault) }
+// What the texts of the last step read as.
+fn last_readings(alloc: Global, steps: &[Earlier]) -> Result<Vec<Reading>, AllocError>
+    requires { 0 < length steps.now }
+    ensures { IfOk result (λ with. AreLastReadings steps.now with.items) }
 {
-    let change = &changes[changes.len() - 1];
-    read(alloc, &change.text)
+    let step = &steps[steps.len() - 1];
+    readings_of(alloc, step.changes.as_slice())
 }
 
-// Takes the last change back, whose text has this reading. The other list has room for it.
+// Takes the last step back, whose texts have these readings. The other list has room for it.
 fn turn(
     sources: &mut Sources,
     readings: &mut Readings,
-    from: &mut Vec<Change>,
-    onto: &mut Vec<Change>,
-    reading: Reading,
+    from: &mut Vec<Earlier>,
+    onto: &mut Vec<Earlier>,
+    had: Vec<Change>,
+    with: Vec<Reading>,
 )
     requires some { 0 < vec_len from.old }
     requires room { vec_len onto.old < vec_capacity onto.old }
+    requires empty { had.items ≡ [] }
+    requires long { length with.items ≤ vec_capacity had }
     requires changes { AreChanges (length sources.old) from.old.items }
     requires readings { AreReadings (texts_of sources.old) readings.old }
-    requires reading { IsLastReading from.old.items (unit_of reading.unit)
-        reading.word reading.fault }
+    requires with { AreLastReadings from.old.items with.items }
     ensures turn { IsTurn sources.old from.old.items onto.old.items
         sources.new from.new.items onto.new.items }
     ensures readings { AreReadings (texts_of sources.new) readings.new }
 {
-    let change = from.pop().unwrap();
-    exchange(sources, readings, onto, change.file, change.text, reading);
+    let mut had = had;
+    let step = from.pop().unwrap();
+    exchange_all(sources, readings, &mut had, step.changes, with);
+    onto.push(Earlier { changes: had }).unwrap();
 }
 
-/// Takes the last change back, which can then be taken back again. False where there is none.
+/// Takes the last step back, which can then be taken back again. False where there is none.
 pub(crate) fn turn_back(
     alloc: Global,
     sources: &mut Sources,
     readings: &mut Readings,
-    from: &mut Vec<Change>,
-    onto: &mut Vec<Change>,
+    from: &mut Vec<Earlier>,
+    onto: &mut Vec<Earlier>,
 ) -> Result<bool, AllocError>
     requires changes { AreChanges (length sources.old) from.old.items }
     requires readings { AreReadings (texts_of sources.old) readings.old }
@@ -122,8 +166,10 @@ pub(crate) fn turn_back(
     if from.is_empty() {
         return Ok(false);
     }
-    let reading = last_reading(alloc, from.as_slice())?;
+    let with = last_readings(alloc, from.as_slice())?;
+    let mut had = Vec::new(alloc);
+    had.reserve(with.len())?;
     onto.reserve(1)?;
-    turn(sources, readings, from, onto, reading);
+    turn(sources, readings, from, onto, had, with);
     Ok(true)
 }

@@ -1,0 +1,14 @@
+use Rattle.std.proofs.Common.{◌≡◌, ◌<◌, length, subst, arith}
+use Rattle.jr_names.specs.ReplyView.{outcome_of}
+use Rattle.jr_sources.specs.WholeView.{whole_of}
+use Rattle.jr_session.proofs.Planning.{count, so_planned}
+use Rattle.jr_session.proofs.plans.sound.Goals as goal
+
+pub plan_at-requires-clause-file : goal.plan_at-requires-clause-file
+plan_at-requires-clause-file c =
+    let n = count c.args.sources.now (whole_of c.new-whole.result) c.new-whole.ensures c.args.number c.args.at c.args.new.now c.requires.number in
+    let lt = c.requires.number in
+    omega (arith, n, lt)
+
+pub returns : goal.returns
+returns c = so_planned c.args.sources.now (whole_of c.new-whole.result) c.new-whole.ensures c.args.number c.args.at c.args.new.now c.requires.number (outcome_of c.in_ok-outcome.outcome) c.in_ok-outcome.ensures c.of_outcome.result c.of_outcome.ensures

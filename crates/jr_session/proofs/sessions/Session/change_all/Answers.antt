@@ -1,0 +1,37 @@
+use Rattle.std.proofs.Common.{◌≡◌, ◌∷◌, ◌++◌, [], List, refl, sym, ap, subst, ◌∙◌}
+use Rattle.std.specs.Prelude.{IfOk}
+use Rattle.std.proofs.lemmas.Result.{IfOk-weaker}
+use Rattle.jr_names.specs.ReplyView.{reply_of}
+use Rattle.jr_names.specs.Replies.{refactored}
+use Rattle.jr_session.specs.declared.changes.Earlier.{Earlier}
+use Rattle.jr_session.specs.declared.tries.Tried.TheVariants as tries
+use Rattle.jr_session.specs.Changes.{put_back}
+use Rattle.jr_session.specs.Refactoring.{IsTriedBy}
+use Rattle.jr_session.specs.States.{State}
+use Rattle.jr_session.specs.Trying.{IsTried}
+use Rattle.jr_session.proofs.Refactored.{tried_wrong, tried_sound, tried_kept}
+use Rattle.jr_session.proofs.StateLaws.{state_of}
+use Rattle.jr_session.proofs.sessions.Session.change_all.Goals as goal
+
+pub invariant_of-self-in-Sound : goal.invariant_of-self-in-Sound
+invariant_of-self-in-Sound g c =
+    let step : Earlier = record { changes = c.in-Sound.had } in
+    let tried : IsTried c.self.inside.sources c.args.changes.items c.try_texts.new.sources (tries.Sound c.in-Sound.readings c.in-Sound.analysis c.in-Sound.had) = subst (IsTried c.self.inside.sources c.args.changes.items c.try_texts.new.sources) c.in-Sound.is c.in_ok-fault.ensures.tried in
+    let kept : c.push_reserved.new.self.items ≡ c.self.inside.undo.items ++ step ∷ [] = c.push_reserved.ensures.items ∙ ap (λ (es : List Earlier). es ++ step ∷ []) c.reserve.ensures.items in
+    tried_kept c.self.inside.sources c.try_texts.new.sources c.args.changes.items c.self.inside.undo.items c.push_reserved.new.self.items c.self.inside.redo.items c.clear.new.self.items c.self.inside.shown c.args.names.items c.args.respelled c.in-Sound.readings c.in-Sound.analysis step tried kept c.clear.ensures.items c.self.invariant.undo
+
+pub returns-in-Wrong-clause-step : goal.returns-in-Wrong-clause-step
+returns-in-Wrong-clause-step g c =
+    let tried : IsTried c.self.inside.sources c.args.changes.items c.try_texts.new.sources (tries.Wrong c.in-Wrong.fault) = subst (IsTried c.self.inside.sources c.args.changes.items c.try_texts.new.sources) c.in-Wrong.is c.in_ok-fault.ensures.tried in
+    subst (λ (s : State). IfOk c.would_not_compile.result (λ reply. IsTriedBy s (put_back s.files c.args.changes.items) c.args.names.items c.args.respelled (reply_of reply) (state_of c.try_texts.new.sources c.reserve.new.self.items c.self.inside.redo.items c.self.inside.shown))) c.self.view_is
+    (IfOk-weaker c.would_not_compile.result _ _ (λ reply e. tried_wrong c.self.inside.sources c.try_texts.new.sources c.args.changes.items c.self.inside.undo.items c.reserve.new.self.items c.self.inside.redo.items c.self.inside.redo.items c.self.inside.shown c.args.names.items c.args.respelled c.in-Wrong.fault tried c.reserve.ensures.items refl (reply_of reply) e) c.would_not_compile.ensures)
+
+pub returns-in-Sound-clause-step : goal.returns-in-Sound-clause-step
+returns-in-Sound-clause-step g c =
+    let step : Earlier = record { changes = c.in-Sound.had } in
+    let tried : IsTried c.self.inside.sources c.args.changes.items c.try_texts.new.sources (tries.Sound c.in-Sound.readings c.in-Sound.analysis c.in-Sound.had) = subst (IsTried c.self.inside.sources c.args.changes.items c.try_texts.new.sources) c.in-Sound.is c.in_ok-fault.ensures.tried in
+    let kept : c.push_reserved.new.self.items ≡ c.self.inside.undo.items ++ step ∷ [] = c.push_reserved.ensures.items ∙ ap (λ (es : List Earlier). es ++ step ∷ []) c.reserve.ensures.items in
+    let now : State = state_of c.try_texts.new.sources c.push_reserved.new.self.items c.clear.new.self.items c.self.inside.shown in
+    subst (λ ns. IsTriedBy c.args.self.now (put_back c.args.self.now.files c.args.changes.items) c.args.names.items c.args.respelled (refactored ns c.args.respelled) now) (sym c.from_vec.ensures)
+    (subst (λ (s : State). IsTriedBy s (put_back s.files c.args.changes.items) c.args.names.items c.args.respelled (refactored c.args.names.items c.args.respelled) now) c.self.view_is
+    (tried_sound c.self.inside.sources c.try_texts.new.sources c.args.changes.items c.self.inside.undo.items c.push_reserved.new.self.items c.self.inside.redo.items c.clear.new.self.items c.self.inside.shown c.args.names.items c.args.respelled c.in-Sound.readings c.in-Sound.analysis step tried kept c.clear.ensures.items c.text_has_one_reading.ensures))

@@ -1,0 +1,127 @@
+//! A rename is planned, over what is analysed.
+ghost use Rattle.std.specs.Prelude.{◌<◌, ◌≡◌, IfOk, length};
+ghost use Rattle.jr_lex.specs.Replacing.{IsName};
+ghost use Rattle.jr_names.specs.ReplyView.{outcome_of};
+ghost use Rattle.jr_sources.specs.Analysed.{CostsBinding, IsAnalysis, IsKeptAnalysis, IsFilled};
+ghost use Rattle.jr_sources.specs.BindingErrors.{AreSound};
+ghost use Rattle.jr_sources.specs.KeptReadings.{AreReadings};
+ghost use Rattle.jr_sources.specs.Sources.{AreSources, texts_of};
+ghost use Rattle.jr_session.specs.Planning.{IsPlannedSo, IsOfOutcome};
+
+use jr_ast::Name;
+use jr_names::{DepPair, EditLists, Outcome, Refusal, Renaming};
+use jr_rename_plan::plan_at;
+use jr_sources::{Analysis, Readings, SourceFault, Sources, Whole, first_error, keep_analysis};
+use jr_steps::Steps;
+use std::alloc::{AllocError, Global};
+use std::sync::ledger::Ledger;
+
+/// What comes of planning a rename.
+#[derive(Drop)]
+pub(crate) enum Planned {
+    /// A member breaks a rule: the first.
+    Wrong(SourceFault),
+    Refused(Refusal),
+    /// The edits of each file, and how many references are respelled.
+    Edits { edits: EditLists, respelled: u32 },
+}
+
+// What a session has no use for. No dependence is lost by a rename.
+fn forget(renaming: Renaming, lost: Option<DepPair>) {
+    drop(lost);
+    drop(renaming);
+}
+
+// What an outcome says.
+fn of_outcome(outcome: Outcome) -> Planned
+    ensures { IsOfOutcome (outcome_of outcome) result }
+{
+    match outcome {
+        Outcome::Refused(refusal) => Planned::Refused(refusal),
+        Outcome::Planned {
+            edits,
+            renaming,
+            respelled,
+            lost,
+        } => {
+            forget(renaming, lost);
+            Planned::Edits { edits, respelled }
+        }
+    }
+}
+
+// The plan over analysed sources of which no member breaks a rule.
+fn sound(
+    alloc: Global,
+    sources: &Sources,
+    readings: &Readings,
+    analysis: &Analysis,
+    number: u32,
+    at: u32,
+    new: &Name,
+) -> Result<Planned, AllocError>
+    requires readings { AreReadings (texts_of sources.now) readings.now }
+    requires analysis { IsAnalysis sources.now analysis.now }
+    requires sound { AreSound sources.now }
+    requires number { number < length sources.now }
+    requires name { IsName new.now }
+    ensures { IfOk result (IsPlannedSo sources.now number at new.now) }
+{
+    let whole = Whole::new(sources, readings, analysis);
+    let outcome = plan_at(alloc, &whole, number, at, new)?;
+    Ok(of_outcome(outcome))
+}
+
+// What a rename of what is named at the byte of a file does to analysed sources.
+fn plan_analysed(
+    alloc: Global,
+    sources: &Sources,
+    readings: &Readings,
+    kept: &Option<Analysis>,
+    number: u32,
+    at: u32,
+    new: &Name,
+) -> Result<Planned, AllocError>
+    requires readings { AreReadings (texts_of sources.now) readings.now }
+    requires kept { IsKeptAnalysis sources.now kept.now }
+    requires filled { IsFilled kept.now }
+    requires number { number < length sources.now }
+    requires name { IsName new.now }
+    ensures { IfOk result (IsPlannedSo sources.now number at new.now) }
+{
+    match kept {
+        None => unreachable!(),
+        Some(analysis) => match first_error(sources, analysis) {
+            Some(fault) => Ok(Planned::Wrong(fault)),
+            None => sound(alloc, sources, readings, analysis, number, at, new),
+        },
+    }
+}
+
+/// What a rename of what is named at the byte of a file does to sources, which are analysed first,
+/// if they aren't yet.
+pub(crate) fn plan_rename<L: Ledger>(
+    alloc: Global,
+    sources: &Sources,
+    readings: &Readings,
+    kept: &mut Option<Analysis>,
+    number: u32,
+    at: u32,
+    new: &Name,
+    steps: &mut Steps<L>,
+) -> Result<Planned, AllocError>
+    requires valid { AreSources sources.now }
+    requires readings { AreReadings (texts_of sources.now) readings.now }
+    requires kept { IsKeptAnalysis sources.now kept.old }
+    requires number { number < length sources.now }
+    requires name { IsName new.now }
+    ensures kept { IsKeptAnalysis sources.now kept.new }
+    ensures planned { IfOk result (IsPlannedSo sources.now number at new.now) }
+    ensures cost { CostsBinding sources.now steps.old steps.new }
+{
+    let found = keep_analysis(alloc, sources, readings, kept, steps)?;
+    match found {
+        Some(fault) => Ok(Planned::Wrong(fault)),
+        None => plan_analysed(alloc, sources, readings, kept, number, at, new),
+    }
+}
