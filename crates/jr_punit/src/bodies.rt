@@ -180,10 +180,19 @@ fn body_goes_on(
     ensures { IsNextOwn result (option_map (machine.in_body (body_view body.value))
         (statements.step join (list_state items) at (token_view token.entry))) }
 {
-    if items.step(alloc, at, token)? {
-        Ok(Some(OwnState::InBody(body, items)))
-    } else {
-        Ok(None)
+    match items.step(alloc, at, token) {
+        Ok(goes_on) => {
+            if goes_on {
+                Ok(Some(OwnState::InBody(body, items)))
+            } else {
+                drop(items);
+                Ok(None)
+            }
+        }
+        Err(error) => {
+            drop(items);
+            Err(error)
+        }
     }
 }
 
