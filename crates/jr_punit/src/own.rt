@@ -49,7 +49,7 @@ pub(crate) enum OwnState {
     InSuper(Box<Constructor>, ArgState),
     BehindSuper(Box<Constructor>, Vec<Expr<Span>>),
     /// Among the statements of a body.
-    InBody(Box<Body>, ListState),
+    InBody(Box<Body>, Box<ListState>),
     Done(Box<Member<Span>>),
 }
 
