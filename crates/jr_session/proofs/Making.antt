@@ -113,11 +113,11 @@ no_name_more (s ∷ ss) [] n t h g = absurd (none-some t g)
 no_name_more (s ∷ ss) (x ∷ xs) zero t h g =
     let same : s.text ≡ x.text = same_Some s.text t h ∙ sym (same_Some x.text t g) in
     cond-true (bytes_eq s.text x.text) [] (s.name ∷ []) ((bytes_eq-Decides s.text x.text).1 same)
-no_name_more (s ∷ ss) (x ∷ xs) (suc n) t h g = head (bytes_eq s.text x.text) (no_name_more ss xs n t h g)
+no_name_more (s ∷ ss) (x ∷ xs) (suc n) t h g = head (bytes_eq s.text x.text) _ _ (no_name_more ss xs n t h g)
   where
-    head : (b : Bool) {xs ys : List (List ℕ)} → xs ≡ ys → (if b then xs else s.name ∷ xs) ≡ (if b then ys else s.name ∷ ys)
-    head true e = e
-    head false e = ap (λ (ns : List (List ℕ)). s.name ∷ ns) e
+    head : (b : Bool) (xs ys : List (List ℕ)) → xs ≡ ys → (if b then xs else s.name ∷ xs) ≡ (if b then ys else s.name ∷ ys)
+    head true a b e = e
+    head false a b e = ap (λ (ns : List (List ℕ)). s.name ∷ ns) e
 
 name_more : (ss ts : List Source) (n : ℕ) (t name : List ℕ) → HasName ss n name → (HasText ss n t → ⊥) → HasText ts n t → differing (take (suc n) ss) (take (suc n) ts) ≡ differing (take n ss) (take n ts) ++ name ∷ []
 name_more [] ts n t name h other g = absurd (none-some name h)
@@ -126,11 +126,11 @@ name_more (s ∷ ss) (x ∷ xs) zero t name h other g =
     let apart : s.text ≡ x.text → ⊥ = λ e. other (ap (λ (y : List ℕ). Some y) (e ∙ same_Some x.text t g)) in
     cond-false (bytes_eq s.text x.text) [] (s.name ∷ []) (false_from_ne_true (bytes_eq s.text x.text) (λ e. apart ((bytes_eq-Decides s.text x.text).0 e)))
     ∙ ap (λ (y : List ℕ). y ∷ []) (same_Some s.name name h)
-name_more (s ∷ ss) (x ∷ xs) (suc n) t name h other g = head (bytes_eq s.text x.text) (name_more ss xs n t name h other g)
+name_more (s ∷ ss) (x ∷ xs) (suc n) t name h other g = head (bytes_eq s.text x.text) _ _ (name_more ss xs n t name h other g)
   where
-    head : (b : Bool) {ys zs : List (List ℕ)} → ys ≡ zs ++ name ∷ [] → (if b then ys else s.name ∷ ys) ≡ (if b then zs else s.name ∷ zs) ++ name ∷ []
-    head true e = e
-    head false e = ap (λ (ns : List (List ℕ)). s.name ∷ ns) e
+    head : (b : Bool) (ys zs : List (List ℕ)) → ys ≡ zs ++ name ∷ [] → (if b then ys else s.name ∷ ys) ≡ (if b then zs else s.name ∷ zs) ++ name ∷ []
+    head true a b e = e
+    head false a b e = ap (λ (ns : List (List ℕ)). s.name ∷ ns) e
 
 next_named : (ss ts : List Source) (n : ℕ) (t : List ℕ) (cs cs' : List Change) (ns ns' : List (List ℕ)) → HasText ts n t → ns ≡ differing (take n ss) (take n ts) → IsPushed ss n t cs ns cs' ns' → ns' ≡ differing (take (suc n) ss) (take (suc n) ts)
 next_named ss ts n t cs cs' ns ns' g e (inl p) = p.2 ∙ e ∙ sym (no_name_more ss ts n t p.0 g)

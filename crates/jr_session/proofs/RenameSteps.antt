@@ -68,9 +68,9 @@ module _ (read : NewTextsRead) (sources : List Source) (number at : ℕ) (new : 
     many_edits : length edits ≡ length sources
     many_edits =
         ap length plan.planned.edits_are
-        ∙ length-map (λ (o : Rewritten (syntax.Unit Span)). entries_from 0 o.changes) plan.planned.files
+        ∙ length-map plan.planned.files (λ (o : Rewritten (syntax.Unit Span)). entries_from 0 o.changes)
         ∙ many_units _ _ (units_of plan.p) plan.planned.files plan.planned.rewrite
-        ∙ length-map (λ (f : File Span). f.unit) plan.p.files
+        ∙ length-map plan.p.files (λ (f : File Span). f.unit)
         ∙ count sources plan.p plan.program number at new within
 
     pub fit_planned : Fit sources edits
@@ -83,7 +83,7 @@ module _ (read : NewTextsRead) (sources : List Source) (number at : ℕ) (new : 
 
 -- ---- its steps
 
-abbrev the_rename : List ℕ → ℕ → List ℕ → Step
+abbrev pub the_rename : List ℕ → ℕ → List ℕ → Step
 the_rename file at new = step.Rename file at new
 
 module _ (s : State) (file : List ℕ) (at : ℕ) (new : List ℕ) where

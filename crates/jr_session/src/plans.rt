@@ -9,7 +9,7 @@ ghost use Rattle.jr_sources.specs.Sources.{AreSources, texts_of};
 ghost use Rattle.jr_session.specs.Planning.{IsPlannedSo, IsOfOutcome};
 
 use jr_ast::Name;
-use jr_names::{EditLists, Outcome, Refusal};
+use jr_names::{DepPair, EditLists, Outcome, Refusal, Renaming};
 use jr_rename_plan::plan_at;
 use jr_sources::{Analysis, Readings, SourceFault, Sources, Whole, first_error, keep_analysis};
 use jr_steps::Steps;
@@ -26,7 +26,13 @@ pub(crate) enum Planned {
     Edits { edits: EditLists, respelled: u32 },
 }
 
-// What an outcome says. No dependence is lost by a rename.
+// What a session has no use for. No dependence is lost by a rename.
+fn forget(renaming: Renaming, lost: Option<DepPair>) {
+    drop(lost);
+    drop(renaming);
+}
+
+// What an outcome says.
 fn of_outcome(outcome: Outcome) -> Planned
     ensures { IsOfOutcome (outcome_of outcome) result }
 {
@@ -34,9 +40,13 @@ fn of_outcome(outcome: Outcome) -> Planned
         Outcome::Refused(refusal) => Planned::Refused(refusal),
         Outcome::Planned {
             edits,
+            renaming,
             respelled,
-            ..
-        } => Planned::Edits { edits, respelled },
+            lost,
+        } => {
+            forget(renaming, lost);
+            Planned::Edits { edits, respelled }
+        }
     }
 }
 
