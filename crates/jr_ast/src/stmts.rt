@@ -35,33 +35,39 @@ pub enum StmtKind<A> {
 
 impl<A: Drop> Drop for StmtKind<A> {
     // The last statement that this one holds is dropped by the loop: a call would take stack for
-    // each of the thousands of `if` and `while` that a text may nest.
+    // each of the thousands of `if` and `while` that a text may nest. What holds an enum goes by
+    // `drop`: let go at a scope's end it would split each way out by its variants.
     #[cycle(stmt_drop)]
     fn drop(mut self) {
         loop {
             match self {
                 StmtKind::Local {
                     is_final: _,
-                    ty: _,
-                    name: _,
-                    init: _,
-                } => return,
-                StmtKind::Eval(_) => return,
-                StmtKind::If(_, yes, no) => {
+                    ty,
+                    name: _name,
+                    init,
+                } => {
+                    drop(ty);
+                    return drop(init);
+                }
+                StmtKind::Eval(of) => return drop(of),
+                StmtKind::If(condition, yes, no) => {
+                    drop(condition);
                     let last = match no {
                         None => yes,
                         Some(no) => no,
                     };
-                    let Stmt { mark: _, kind } = Box::into_inner(last);
+                    let Stmt { mark: _mark, kind } = Box::into_inner(last);
                     self = kind;
                 }
-                StmtKind::While(_, body) => {
-                    let Stmt { mark: _, kind } = Box::into_inner(body);
+                StmtKind::While(condition, body) => {
+                    drop(condition);
+                    let Stmt { mark: _mark, kind } = Box::into_inner(body);
                     self = kind;
                 }
-                StmtKind::Return(_) => return,
-                StmtKind::Block(_) => return,
-                StmtKind::Sync(_, _) => return,
+                StmtKind::Return(value) => return drop(value),
+                StmtKind::Block(_body) => return,
+                StmtKind::Sync(lock, _body) => return drop(lock),
                 StmtKind::Empty => return,
             }
         }

@@ -1,5 +1,5 @@
 //! The references of a member that are bound, by their places.
-ghost use Rattle.std.specs.Prelude.{◌≡◌, ◌++◌, map, option_map, IfOk};
+ghost use Rattle.std.specs.Prelude.{◌≡◌, ◌++◌, ◌∷◌, [], map, option_map, IfOk};
 ghost use Rattle.std.specs.List.Sorted.{IsPermutation, IsNonDecreasingBy};
 ghost use Rattle.jr_table.specs.Decls.{local_decl};
 ghost use Rattle.jr_table.specs.KeyView.{member_key_of, decl_of};
@@ -26,6 +26,16 @@ fn found_decl(table: &Table, answer: Answer) -> Option<&Decl>
     }
 }
 
+/// Puts a reference behind the others.
+fn push(at: u32, decl: Decl, references: &mut Vec<Reference>) -> Result<(), AllocError>
+    ensures { IfOk result (λ _. map reference_of references.new.items
+        ≡ map reference_of references.old.items
+        ++ record { at = at; decl = decl_of decl } ∷ []) }
+{
+    references.push(Reference { at, decl })?;
+    Ok(())
+}
+
 /// A reference to a declaration, its place counted from `start`, unless it stands before.
 fn push_decl(
     alloc: Global,
@@ -42,11 +52,7 @@ fn push_decl(
         return Ok(());
     }
     let decl = decl.copy(alloc)?;
-    references.push(Reference {
-        at: at - start,
-        decl,
-    })?;
-    Ok(())
+    push(at - start, decl, references)
 }
 
 /// A reference to a local of the member.
@@ -62,9 +68,15 @@ fn push_local(
         ≡ map reference_of references.old.items ++ logs.reference_at start at
         (local_decl (key_of (member_key_of member.now) number))) }
 {
+    if at < start {
+        return Ok(());
+    }
     let member = member.copy(alloc)?;
-    let decl = Decl::Local(LocalKey { member, number });
-    push_decl(alloc, start, at, &decl, references)
+    push(
+        at - start,
+        Decl::Local(LocalKey { member, number }),
+        references,
+    )
 }
 
 /// A reference to what a lookup answers, if it answers one declaration.

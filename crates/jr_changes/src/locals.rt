@@ -22,6 +22,11 @@ use jr_table::{Decl, LocalKey, MemberKey};
 use jr_text::Mark;
 use std::alloc::{AllocError, Global};
 
+/// So that no path drops it in pieces.
+fn forget(decl: Decl) {
+    drop(decl)
+}
+
 /// A local or parameter of a member.
 pub(crate) fn local_key(alloc: Global, member: &MemberKey, number: u32) -> Result<Decl, AllocError>
     ensures { IfOk result (λ d. decl_of d
@@ -68,7 +73,9 @@ pub fn local_word<A: Mark>(
         (gathered out.old) (gathered out.new)) }
 {
     let decl = local_key(alloc, here.scopes.member, number)?;
-    declaring(alloc, here, &decl, at, name, out)
+    let done = declaring(alloc, here, &decl, at, name, out);
+    forget(decl);
+    done
 }
 
 /// The type and the name of a local.

@@ -58,12 +58,22 @@ fn from_static(alloc: Global, table: &Table, number: u32) -> Result<Found, Alloc
     }
 }
 
+/// A copy that nothing needs any more.
+fn forget(decl: Decl) {
+    drop(decl)
+}
+
 fn both(alloc: Global, first: &Decl, second: &Decl) -> Result<Found, AllocError>
     ensures { IfOk result (λ f. found_of f ≡ found.many (decl_of first.now) (decl_of second.now)) }
 {
     let first = first.copy(alloc)?;
-    let second = second.copy(alloc)?;
-    Ok(Found::Many(first, second))
+    match second.copy(alloc) {
+        Ok(second) => Ok(Found::Many(first, second)),
+        Err(error) => {
+            forget(first);
+            Err(error)
+        }
+    }
 }
 
 /// Both, if there are two.

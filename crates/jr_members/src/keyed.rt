@@ -1,6 +1,6 @@
 //! Written members by their keys and rows.
 ghost use Rattle.std.specs.Prelude.{◌≡◌, ◌+◌, ◌<◌, ◌^◌, ◌++◌, ◌∷◌, [], length, map, slice_get};
-ghost use Rattle.std.specs.Prelude.{option_map, IfOk};
+ghost use Rattle.std.specs.Prelude.{option_map, IfOk, OnOk};
 ghost use Rattle.jr_ast.specs.View.{class_of, member_of, members_of, unit_of};
 ghost use Rattle.jr_table.specs.Errors.{class_part};
 ghost use Rattle.jr_table.specs.KeyView.{decl_of, member_key_of};
@@ -91,6 +91,45 @@ fn row_count<A: Mark>(part: &PartRef<'_, A>) -> usize
     }
 }
 
+/// Drops a key that was not stored.
+fn forget(key: MemberKey) {
+    drop(key)
+}
+
+/// Puts a part behind the members, as the member that its row declares.
+fn push_keyed<'a, A>(
+    alloc: Global,
+    list: &mut Vec<WrittenMember<'a, A>>,
+    decl: &Decl,
+    row: u32,
+    placed: Placed<'a, A>,
+) -> Result<(), AllocError>
+    ensures { OnOk result (map written_of list.new.items
+        ≡ map written_of list.old.items ++ record {
+          file = placed.entry.file;
+          key = members.member_of_decl (decl_of decl.now);
+          row = row;
+          base = placed.entry.base;
+          part = part_of placed.entry.part;
+        } ∷ []) }
+{
+    let key = member_key(alloc, decl)?;
+    let member = WrittenMember {
+        file: placed.file,
+        key,
+        row,
+        base: placed.base,
+        part: placed.part,
+    };
+    match list.push(member) {
+        Ok(()) => Ok(()),
+        Err(failed) => {
+            forget(failed.value.key);
+            Err(AllocError)
+        }
+    }
+}
+
 /// The parts as members, of the rows from this one on.
 fn keyed<'a, A: Mark>(
     alloc: Global,
@@ -109,16 +148,9 @@ fn keyed<'a, A: Mark>(
         let Some(declared) = row_at(table, row) else {
             return Ok(members);
         };
-        let key = member_key(alloc, &declared.decl)?;
         let number = row as u32;
         row += row_count(&placed.part);
-        members.push(WrittenMember {
-            file: placed.file,
-            key,
-            row: number,
-            base: placed.base,
-            part: placed.part,
-        })?;
+        push_keyed(alloc, &mut members, &declared.decl, number, placed)?;
     }
     Ok(members)
 }

@@ -26,6 +26,16 @@ pub(crate) struct Walked<'a> {
     pub from: u32,
 }
 
+// What a path would drop in pieces goes by a call.
+
+fn forget(scopes: Scopes<'_>) {
+    drop(scopes)
+}
+
+pub(crate) fn forget_here(here: Here<'_>) {
+    drop(here)
+}
+
 /// A place of a member that has no parameters in scope.
 pub(crate) fn plain_here<'a>(
     alloc: Global,
@@ -108,12 +118,18 @@ pub(crate) fn here_with<'a>(
         (with_parameters (key_of of.now) is_static (map param_of params.now))) }
 {
     let mut scopes = Scopes::begin(alloc, &of.programs, of.key, is_static)?;
-    push_params(&mut scopes, param_types(of.key), params)?;
-    Ok(Here {
-        scopes,
-        bound: of.bound,
-        from: of.from,
-    })
+    let pushed = push_params(&mut scopes, param_types(of.key), params);
+    match pushed {
+        Ok(()) => Ok(Here {
+            scopes,
+            bound: of.bound,
+            from: of.from,
+        }),
+        Err(error) => {
+            forget(scopes);
+            Err(error)
+        }
+    }
 }
 
 /// How many there are. More than numbers don't fit any memory.

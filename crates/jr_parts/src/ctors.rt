@@ -9,7 +9,7 @@ ghost use Rattle.jr_parts.specs.Walking.{key_of, rows_of, naming_of, CanWalk};
 ghost use Rattle.jr_parts.specs.Ready as ready;
 ghost use Rattle.jr_parts.specs.Gathered as gives;
 
-use crate::beginnings::{Walked, count, here_with, no_path, plus};
+use crate::beginnings::{Walked, count, forget_here, here_with, no_path, plus};
 use crate::methods::{body, parameters};
 use crate::supers::super_call;
 use crate::words::member_word;
@@ -64,7 +64,9 @@ fn super_part<'a, V: View<Span>>(
 {
     let here = here_with(alloc, of, true, params)?;
     let path = no_path(alloc);
-    super_call(alloc, view, file, span, &here, &path, first, args, out)
+    let done = super_call(alloc, view, file, span, &here, &path, first, args, out);
+    forget_here(here);
+    done
 }
 
 /// The same, if one is written.

@@ -7,7 +7,7 @@ ghost use Rattle.jr_parts.specs.Walking.{key_of, rows_of, naming_of, CanWalk};
 ghost use Rattle.jr_parts.specs.Ready.{TypeReady, InitReady, FieldReady};
 ghost use Rattle.jr_parts.specs.Gathered.{TypeGathers, InitGathers, FieldGathers};
 
-use crate::beginnings::{Walked, count, no_path, plain_here, plus};
+use crate::beginnings::{Walked, count, forget_here, no_path, plain_here, plus};
 use crate::words::{is_static, member_word};
 use jr_ast::{Expr, Ident, Modifier, TypeRef};
 use jr_changes::maybe;
@@ -30,7 +30,9 @@ pub(crate) fn declared_type(
         (plain (key_of of.now) false) at (type_of ty.now) (gathered out.old) (gathered out.new)) }
 {
     let here = plain_here(alloc, of, false)?;
-    written(alloc, &here, at, ty, out)
+    let done = written(alloc, &here, at, ty, out);
+    forget_here(here);
+    done
 }
 
 /// An initializer, if there is one, which is the part of this number.
@@ -52,7 +54,9 @@ fn initializer(
 {
     let here = plain_here(alloc, of, is_static)?;
     let path = no_path(alloc);
-    maybe(alloc, &here, &path, step, at, init, out)
+    let done = maybe(alloc, &here, &path, step, at, init, out);
+    forget_here(here);
+    done
 }
 
 /// A field that begins at `at`.

@@ -67,6 +67,11 @@ fn parent_of_top(
     }
 }
 
+/// So that no path drops it in pieces.
+fn forget(key: MemberKey) {
+    drop(key)
+}
+
 /// The superclass of a member class, which is seen from the body of the class around it (JLS 6.3,
 /// 8.1.4).
 fn parent_of_inner(
@@ -94,7 +99,10 @@ fn parent_of_inner(
         bound: of.bound,
         from: of.from,
     };
-    declared_type(alloc, &around, at, ty, out)
+    let done = declared_type(alloc, &around, at, ty, out);
+    drop(around);
+    forget(key);
+    done
 }
 
 /// The superclass of a class, by the class around it.

@@ -9,7 +9,7 @@ ghost use Rattle.jr_parts.specs.Walking.{key_of, rows_of, naming_of, CanWalk};
 ghost use Rattle.jr_parts.specs.Ready as ready;
 ghost use Rattle.jr_parts.specs.Gathered as gives;
 
-use crate::beginnings::{Walked, count, here_with, no_path, plus};
+use crate::beginnings::{Walked, count, forget_here, here_with, no_path, plus};
 use crate::fields::declared_type;
 use crate::words::{is_static, member_word, param_word};
 use jr_ast::{Ident, Modifier, Param, Stmt, TypeRef};
@@ -125,8 +125,12 @@ pub(crate) fn body<'a>(
     let number = count(params)?;
     let mut here = here_with(alloc, of, is_static, params)?;
     let path = no_path(alloc);
-    stmts(alloc, &mut here, &path, first, at, number, statements, out)?;
-    Ok(())
+    let walked = stmts(alloc, &mut here, &path, first, at, number, statements, out);
+    forget_here(here);
+    match walked {
+        Ok(_) => Ok(()),
+        Err(error) => Err(error),
+    }
 }
 
 fn has_type(ret: &Option<TypeRef<Span>>) -> u32

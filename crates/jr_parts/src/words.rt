@@ -42,7 +42,7 @@ pub(crate) fn is_static<A: Mark>(modifiers: &[Modifier<A>]) -> bool
 }
 
 /// The word that declares this.
-pub(crate) fn declared_word(
+fn declared_word(
     alloc: Global,
     of: &Walked<'_>,
     decl: &Decl,
@@ -54,6 +54,27 @@ pub(crate) fn declared_word(
 {
     let choice = declared(alloc, of.programs.name, decl, &name.name)?;
     put_alone(alloc, name.mark, choice, out)
+}
+
+// What a path would drop in pieces goes by a call.
+fn forget(decl: Decl) {
+    drop(decl)
+}
+
+/// The same of a declaration that is made for it.
+fn own_word(
+    alloc: Global,
+    of: &Walked<'_>,
+    decl: Decl,
+    name: &Ident<Span>,
+    out: &mut Output,
+) -> Result<(), AllocError>
+    ensures { IfOk result (λ _. WordGathers (rows_of of.now) (naming_of of.now) (decl_of decl)
+        (word_of name.now) (gathered out.old) (gathered out.new)) }
+{
+    let word = declared_word(alloc, of, &decl, name, out);
+    forget(decl);
+    word
 }
 
 /// The word that declares a class.
@@ -69,7 +90,7 @@ pub(crate) fn class_word(
         (gathered out.new)) }
 {
     let decl = Decl::Class(key.copy(alloc)?);
-    declared_word(alloc, of, &decl, name, out)
+    own_word(alloc, of, decl, name, out)
 }
 
 /// Whose declared name a member has: a constructor's is its class's (JLS 8.8).
@@ -95,7 +116,7 @@ pub(crate) fn member_word(
         (declared_by (key_of of.now)) (word_of name.now) (gathered out.old) (gathered out.new)) }
 {
     let decl = declared_decl(alloc, of.key)?;
-    declared_word(alloc, of, &decl, name, out)
+    own_word(alloc, of, decl, name, out)
 }
 
 /// The parameter of a number.
@@ -120,5 +141,5 @@ pub(crate) fn param_word(
         (gathered out.old) (gathered out.new)) }
 {
     let decl = param_decl(alloc, of.key, number)?;
-    declared_word(alloc, of, &decl, name, out)
+    own_word(alloc, of, decl, name, out)
 }

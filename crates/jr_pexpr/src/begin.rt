@@ -100,6 +100,7 @@ pub(crate) fn at_most(level: u32, on: Stack, frame: Frame) -> Stepped
         (machine.want (frame_view frame ∷ stack on))) }
 {
     if level < on.needed() {
+        drop(frame);
         return Ok(None);
     }
     want(on, frame)
@@ -142,6 +143,7 @@ fn empty_args(alloc: Global, mut on: Stack, at: Span) -> Stepped
     match on.pop_bracket() {
         Some(Bracket::Args(head, args)) => {
             if !args.is_empty() {
+                drop(head);
                 return Ok(None);
             }
             have(on, apply(alloc, head, args, at))

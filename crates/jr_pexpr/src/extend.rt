@@ -107,10 +107,13 @@ fn next_argument(mut on: Stack, e: Box<Expr<Span>>) -> Stepped
     ensures { IsNext result (machine.continued (Some (machine.have (stack on) (exp_in e)))) }
 {
     match on.pop_bracket() {
-        Some(Bracket::Args(head, args)) => {
-            let args = with_last(args, e)?;
-            want(on, Frame::Bracket(Bracket::Args(head, args)))
-        }
+        Some(Bracket::Args(head, args)) => match with_last(args, e) {
+            Ok(all) => want(on, Frame::Bracket(Bracket::Args(head, all))),
+            Err(error) => {
+                drop(head);
+                Err(error)
+            }
+        },
         Some(Bracket::Paren(_)) => Ok(None),
         None => Ok(None),
     }
@@ -135,6 +138,7 @@ fn cast(alloc: Global, mut on: Stack, frame: Option<Operand>, at: Span, piece: P
         return Ok(None);
     };
     if UNSIGNED_LEVEL < on.needed() {
+        drop(frame);
         return Ok(None);
     }
     on.push(Frame::Operand(frame))?;
@@ -170,7 +174,10 @@ fn open_paren(alloc: Global, on: Stack, e: Box<Expr<Span>>, at: Span) -> Stepped
         ExprKind::Simple(name) => args(alloc, on, Head::Call(mark, None, name)),
         ExprKind::Field(of, name) => args(alloc, on, Head::Call(mark, Some(of), name)),
         ExprKind::SuperField(name) => args(alloc, on, Head::SuperCall(mark, name)),
-        _ => Ok(None),
+        other => {
+            drop(other);
+            Ok(None)
+        }
     }
 }
 

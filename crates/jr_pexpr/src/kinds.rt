@@ -96,10 +96,16 @@ pub(crate) fn name_type(e: Box<Expr<Span>>) -> Option<TypeRef<Span>>
                     mark,
                     kind: TypeKind::Named(Some(outer), name),
                 }),
-                _ => None,
+                other => {
+                    drop(other);
+                    None
+                }
             }
         }
-        _ => None,
+        other => {
+            drop(other);
+            None
+        }
     }
 }
 
@@ -114,6 +120,9 @@ pub(crate) fn cast_of(e: Box<Expr<Span>>) -> Option<Operand>
             Some(ty) => Some(Operand::Cast(mark, ty)),
             None => None,
         },
-        _ => None,
+        other => {
+            drop(other);
+            None
+        }
     }
 }

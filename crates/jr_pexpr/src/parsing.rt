@@ -123,9 +123,12 @@ fn read_from(
             Some(made) => Ok((Box::into_inner(made), behind as u32, reach.stop as u32)),
             None => unreachable!(),
         },
-        None => Err(ParseFault::Syntax {
-            at: byte_at(items, reach.stop, end),
-        }),
+        None => {
+            drop(reach.whole);
+            Err(ParseFault::Syntax {
+                at: byte_at(items, reach.stop, end),
+            })
+        }
     }
 }
 

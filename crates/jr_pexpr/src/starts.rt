@@ -53,7 +53,10 @@ impl State {
         let State { on, mode } = self;
         match mode {
             Mode::Have(e) => lone_type(on, e),
-            _ => None,
+            other => {
+                drop(other);
+                None
+            }
         }
     }
 }

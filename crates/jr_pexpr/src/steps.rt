@@ -56,7 +56,12 @@ fn finish_on(alloc: Global, on: Stack, e: Box<Expr<Span>>) -> Filled
 fn keep_open(next: State) -> Option<State>
     ensures { option_map state_view result ≡ machine.kept_open (Some (state_view next)) }
 {
-    if next.on.is_open() { Some(next) } else { None }
+    if next.on.is_open() {
+        Some(next)
+    } else {
+        drop(next);
+        None
+    }
 }
 
 impl State {
@@ -136,7 +141,10 @@ impl State {
         let State { on, mode } = self;
         match mode {
             Mode::Have(e) => finish_on(alloc, on, e),
-            _ => Ok(None),
+            other => {
+                drop(other);
+                Ok(None)
+            }
         }
     }
 }

@@ -91,6 +91,7 @@ pub(crate) fn walk(
     let whole = if rule.is_whole(&state) {
         Some(state)
     } else {
+        drop(state);
         None
     };
     Ok(Reach {

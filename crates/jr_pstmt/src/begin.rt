@@ -45,7 +45,10 @@ fn close_list(alloc: Global, mut place: Place, at: Span) -> Listed
 {
     match place.pop() {
         Some(Frame::Block(of)) => close_block(alloc, place, of, at),
-        Some(Frame::Branch(_)) => Ok(None),
+        Some(Frame::Branch(branch)) => {
+            drop(branch);
+            Ok(None)
+        }
         None => Ok(None),
     }
 }
@@ -56,6 +59,7 @@ fn begin_type(place: Place, at: Span, is_final: bool, ty: TypeState) -> Listed
         (machine.in_type (on place) (all place) at is_final (type_state ty))) }
 {
     if !place.may_declare() {
+        drop(ty);
         return Ok(None);
     }
     to(place, Mode::InType(at, is_final, ty))

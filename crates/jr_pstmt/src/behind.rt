@@ -41,7 +41,10 @@ fn take_by_if(alloc: Global, mut place: Place, mut stmt: Box<Stmt<Span>>) -> Lis
 {
     while let Some(frame) = place.pop() {
         match frame {
-            Frame::Block(_) => return Ok(None),
+            Frame::Block(block) => {
+                drop(block);
+                return Ok(None);
+            }
             Frame::Branch(branch) => match branch {
                 Branch::Then(start, condition) => {
                     return want_else(place, start, condition, stmt);

@@ -166,7 +166,10 @@ impl ListState {
         match mode {
             Mode::Ready => Ok(place.into_stmts()),
             Mode::Done(stmt) => finish_behind(alloc, place, stmt),
-            _ => Ok(None),
+            other => {
+                drop(other);
+                Ok(None)
+            }
         }
     }
 }

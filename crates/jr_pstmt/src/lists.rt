@@ -79,9 +79,16 @@ pub(crate) fn in_expr(place: Place, slot: Slot, next: Made<Option<State>>) -> Li
         ≡ option_map (machine.in_exp (on place) (all place) (slot_view slot))
         (option_map state_view s))) }
 {
-    match next? {
-        Some(state) => to(place, Mode::InExpr(slot, state)),
-        None => Ok(None),
+    match next {
+        Ok(Some(state)) => to(place, Mode::InExpr(slot, state)),
+        Ok(None) => {
+            drop(slot);
+            Ok(None)
+        }
+        Err(error) => {
+            drop(slot);
+            Err(error)
+        }
     }
 }
 

@@ -47,6 +47,7 @@ fn end_eval(alloc: Global, place: Place, state: State, at: Span) -> Listed
         (expressions.statement_whole join (state_view state))) }
 {
     if !state.is_statement() {
+        drop(state);
         return Ok(None);
     }
     match state.finish(alloc)? {
@@ -62,6 +63,7 @@ fn begin_local(place: Place, state: State, name: Ident<Span>) -> Listed
         (type_read (state_view state))) }
 {
     if !place.may_declare() {
+        drop(state);
         return Ok(None);
     }
     match state.into_type() {
@@ -147,7 +149,10 @@ fn behind_type(
     match cue {
         Cue::Word(text) => named(alloc, place, start, is_final, ty, at, text),
         Cue::Dot => in_type(place, start, is_final, Ok(behind_outer(ty))),
-        _ => Ok(None),
+        _ => {
+            drop(ty);
+            Ok(None)
+        }
     }
 }
 

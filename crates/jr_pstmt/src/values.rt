@@ -67,7 +67,10 @@ pub(crate) fn begin_init(
             place,
             Mode::InExpr(Slot::Local(start, is_final, ty, name), State::new(alloc)),
         ),
-        _ => Ok(None),
+        _ => {
+            drop(ty);
+            Ok(None)
+        }
     }
 }
 
@@ -159,9 +162,16 @@ fn finish_in(alloc: Global, place: Place, slot: Slot, state: State, at: Span) ->
         (machine.filled join (on place) (all place) (slot_view slot) at
         (closer (slot_view slot))) (expressions.whole join (state_view state))) }
 {
-    match state.finish(alloc)? {
-        Some(e) => fill(alloc, place, slot, at, e),
-        None => Ok(None),
+    match state.finish(alloc) {
+        Ok(Some(e)) => fill(alloc, place, slot, at, e),
+        Ok(None) => {
+            drop(slot);
+            Ok(None)
+        }
+        Err(error) => {
+            drop(slot);
+            Err(error)
+        }
     }
 }
 

@@ -30,7 +30,7 @@ own_state (rust.AtSuper of at) = machine.at_super (constructor_view of.value) at
 own_state (rust.InSuper of args) = machine.in_super (constructor_view of.value) (arg_state args)
 own_state (rust.BehindSuper of args) =
     machine.behind_super (constructor_view of.value) (exprs_of args.items)
-own_state (rust.InBody body items) = machine.in_body (body_view body.value) (list_state items)
+own_state (rust.InBody body items) = machine.in_body (body_view body.value) (list_state items.value)
 own_state (rust.Done member) = machine.done (member_of member.value)
 
 -- the next state, or that there is none

@@ -123,6 +123,7 @@ impl ArgState {
         let ArgState { args, last } = self;
         let none = args.is_empty() & last.is_start();
         if none {
+            drop(last);
             return Ok(Some(args));
         }
         finish_last(alloc, args, last)

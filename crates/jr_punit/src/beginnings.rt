@@ -70,16 +70,21 @@ fn named(
     ensures { IsNextOwn result (Some (machine.worded (lead_view lead)
         (option_map type_of result_type) (marked at text.now))) }
 {
-    let name = word(alloc, at, text)?;
-    let head = Box::new(
-        alloc,
-        MemberHead {
-            lead,
-            result: result_type,
-            name,
-        },
-    )?;
-    Ok(Some(OwnState::Worded(head)))
+    match word(alloc, at, text) {
+        Ok(name) => {
+            let head = MemberHead {
+                lead,
+                result: result_type,
+                name,
+            };
+            let head = Box::new(alloc, head)?;
+            Ok(Some(OwnState::Worded(head)))
+        }
+        Err(error) => {
+            drop(result_type);
+            Err(error)
+        }
+    }
 }
 
 /// The parameters are to come.

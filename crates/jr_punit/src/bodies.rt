@@ -65,12 +65,20 @@ pub(crate) fn from_params(
     }
 }
 
+/// The list in a box: a token outside of it moves the member's state.
+pub(crate) fn in_box(alloc: Global, items: ListState) -> Made<Box<ListState>>
+    ensures { IfOk result (λ made. list_state made.value ≡ list_state items) }
+{
+    Ok(Box::new(alloc, items)?)
+}
+
 /// The statements of a body are to come.
 pub(crate) fn in_body(alloc: Global, body: Body) -> OwnStepped
     ensures { IsNextOwn result (Some (machine.in_body (body_view body) statements.start)) }
 {
     let body = Box::new(alloc, body)?;
-    Ok(Some(OwnState::InBody(body, ListState::new(alloc))))
+    let items = in_box(alloc, ListState::new(alloc))?;
+    Ok(Some(OwnState::InBody(body, items)))
 }
 
 /// The body of a constructor is to come.
@@ -158,12 +166,12 @@ fn built(body: Body, at: Span, stmts: Vec<Stmt<Span>>) -> Member<Span>
 }
 
 /// A closing brace behind what may be a whole list of statements.
-fn end_body(alloc: Global, body: Box<Body>, items: ListState, at: Span) -> OwnStepped
+fn end_body(alloc: Global, body: Box<Body>, items: Box<ListState>, at: Span) -> OwnStepped
     ensures { IsNextOwn result (option_and_then
         (machine.body_closed join (body_view body.value) at pure.a_close_brace)
-        (statements.whole join (list_state items))) }
+        (statements.whole join (list_state items.value))) }
 {
-    match items.finish(alloc)? {
+    match Box::into_inner(items).finish(alloc)? {
         Some(stmts) => done(alloc, built(Box::into_inner(body), at, stmts)),
         None => Ok(None),
     }
@@ -173,12 +181,12 @@ fn end_body(alloc: Global, body: Box<Body>, items: ListState, at: Span) -> OwnSt
 fn body_goes_on(
     alloc: Global,
     body: Box<Body>,
-    mut items: ListState,
+    mut items: Box<ListState>,
     at: Span,
     token: Token<'_>,
 ) -> OwnStepped
     ensures { IsNextOwn result (option_map (machine.in_body (body_view body.value))
-        (statements.step join (list_state items) at (token_view token.entry))) }
+        (statements.step join (list_state items.value) at (token_view token.entry))) }
 {
     if items.step(alloc, at, token)? {
         Ok(Some(OwnState::InBody(body, items)))
@@ -199,12 +207,13 @@ pub(crate) fn ends_body(items: &ListState, token: Token<'_>) -> bool
 pub(crate) fn from_body(
     alloc: Global,
     body: Box<Body>,
-    items: ListState,
+    items: Box<ListState>,
     at: Span,
     token: Token<'_>,
 ) -> OwnStepped
-    ensures { IsNextOwn result (machine.from_body join (body_view body.value) (list_state items)
-        at (token_view token.entry) (pure.cue_of (token_view token.entry))) }
+    ensures { IsNextOwn result (machine.from_body join (body_view body.value)
+        (list_state items.value) at (token_view token.entry)
+        (pure.cue_of (token_view token.entry))) }
 {
     if ends_body(&items, token) {
         end_body(alloc, body, items, at)

@@ -147,13 +147,20 @@ impl ClassState {
             self,
             ClassState::Start(ClassStart::Modified(Vec::new(alloc))),
         ) {
-            ClassState::Members(head, all, _) => {
+            ClassState::Members(head, all, member) => {
+                drop(member);
                 let class = whole_class(alloc, head, all, at)?;
-                *self = ClassState::Done(class);
+                drop(mem::replace(self, ClassState::Done(class)));
                 Ok(true)
             }
-            ClassState::Start(_) => Ok(false),
-            ClassState::Done(_) => Ok(false),
+            ClassState::Start(start) => {
+                drop(start);
+                Ok(false)
+            }
+            ClassState::Done(class) => {
+                drop(class);
+                Ok(false)
+            }
         }
     }
 
@@ -165,7 +172,7 @@ impl ClassState {
         match self {
             ClassState::Start(start) => match from_start(alloc, start, at, token)? {
                 Some(next) => {
-                    *self = next;
+                    drop(mem::replace(self, next));
                     Ok(true)
                 }
                 None => Ok(false),
@@ -207,8 +214,10 @@ impl ClassState {
     {
         match self {
             ClassState::Done(class) => Some(Box::into_inner(class)),
-            ClassState::Start(_) => None,
-            ClassState::Members(_, _, _) => None,
+            other => {
+                drop(other);
+                None
+            }
         }
     }
 }

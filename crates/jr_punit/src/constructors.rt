@@ -13,7 +13,7 @@ ghost use Rattle.jr_pstmt.specs.OwnMachine as machine;
 ghost use Rattle.jr_punit.specs.OwnView.{own_state, IsNextOwn};
 
 use crate::args::ArgState;
-use crate::bodies::{from_body, in_body};
+use crate::bodies::{from_body, in_body, in_box};
 use crate::heads::{Body, Constructor};
 use crate::own::{OwnState, OwnStepped};
 use jr_ast::Expr;
@@ -37,7 +37,8 @@ fn first_in_body(alloc: Global, of: Box<Constructor>, at: Span, token: Token<'_>
         (token_view token.entry) (pure.cue_of (token_view token.entry))) }
 {
     let body = without_super(alloc, of)?;
-    from_body(alloc, body, ListState::new(alloc), at, token)
+    let items = in_box(alloc, ListState::new(alloc))?;
+    from_body(alloc, body, items, at, token)
 }
 
 /// The first token of a constructor's body, or its closing brace.
@@ -69,13 +70,8 @@ fn second_in_body(
         (token_view token.entry) (pure.cue_of (token_view token.entry))) }
 {
     let body = without_super(alloc, of)?;
-    from_body(
-        alloc,
-        body,
-        ListState::behind_super(alloc, start),
-        at,
-        token,
-    )
+    let items = in_box(alloc, ListState::behind_super(alloc, start))?;
+    from_body(alloc, body, items, at, token)
 }
 
 /// A token behind `super`, which is the first token of a constructor's body.

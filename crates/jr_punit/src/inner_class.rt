@@ -158,13 +158,20 @@ impl InnerClass {
             self,
             InnerClass::Start(ClassStart::Modified(Vec::new(alloc))),
         ) {
-            InnerClass::Members(head, all, _) => {
+            InnerClass::Members(head, all, member) => {
+                drop(member);
                 let class = whole_class(alloc, head, all, at)?;
-                *self = InnerClass::Done(class);
+                drop(mem::replace(self, InnerClass::Done(class)));
                 Ok(true)
             }
-            InnerClass::Start(_) => Ok(false),
-            InnerClass::Done(_) => Ok(false),
+            InnerClass::Start(start) => {
+                drop(start);
+                Ok(false)
+            }
+            InnerClass::Done(class) => {
+                drop(class);
+                Ok(false)
+            }
         }
     }
 
@@ -176,7 +183,7 @@ impl InnerClass {
         match self {
             InnerClass::Start(start) => match from_start(alloc, start, at, token)? {
                 Some(next) => {
-                    *self = next;
+                    drop(mem::replace(self, next));
                     Ok(true)
                 }
                 None => Ok(false),
@@ -208,7 +215,10 @@ impl InnerClass {
     {
         match self {
             InnerClass::Done(class) => Some(Box::into_inner(class)),
-            _ => None,
+            other => {
+                drop(other);
+                None
+            }
         }
     }
 }

@@ -103,7 +103,7 @@ impl MemberState {
                 if begins(nested, own, token) {
                     match class_begun(alloc, own, at) {
                         Some(next) => {
-                            *self = next;
+                            drop(mem::replace(self, next));
                             Ok(true)
                         }
                         None => Ok(false),

@@ -49,7 +49,7 @@ pub(crate) enum OwnState {
     InSuper(Box<Constructor>, ArgState),
     BehindSuper(Box<Constructor>, Vec<Expr<Span>>),
     /// Among the statements of a body.
-    InBody(Box<Body>, ListState),
+    InBody(Box<Body>, Box<ListState>),
     Done(Box<Member<Span>>),
 }
 
@@ -83,7 +83,10 @@ impl OwnState {
             OwnState::InSuper(of, args) => from_arguments(alloc, of, args, at, token),
             OwnState::BehindSuper(of, args) => behind_super(alloc, of, args, cue_of(token)),
             OwnState::InBody(body, items) => from_body(alloc, body, items, at, token),
-            OwnState::Done(_) => Ok(None),
+            OwnState::Done(member) => {
+                drop(member);
+                Ok(None)
+            }
         }
     }
 
@@ -95,7 +98,7 @@ impl OwnState {
         let own = mem::replace(self, OwnState::new(alloc));
         match own.behind(alloc, name, at, token)? {
             Some(next) => {
-                *self = next;
+                drop(mem::replace(self, next));
                 Ok(true)
             }
             None => Ok(false),
@@ -152,7 +155,10 @@ impl OwnState {
     {
         match self {
             OwnState::Done(member) => Some(Box::into_inner(member)),
-            _ => None,
+            other => {
+                drop(other);
+                None
+            }
         }
     }
 
@@ -163,7 +169,10 @@ impl OwnState {
     {
         match self {
             OwnState::Modified(modifiers) => Some(Lead::new(modifiers, at)),
-            _ => None,
+            other => {
+                drop(other);
+                None
+            }
         }
     }
 }

@@ -209,7 +209,11 @@ impl ParamState {
                     None
                 }
             }
-            ParamState::InType(_, _, _, _) => None,
+            ParamState::InType(params, _, _, ty) => {
+                drop(params);
+                drop(ty);
+                None
+            }
             ParamState::Have(params) => Some(params),
         }
     }

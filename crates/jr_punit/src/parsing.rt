@@ -33,8 +33,17 @@ fn read_unit(alloc: Global, text: &Text, items: &[Item]) -> Result<Unit<Span>, P
     for i in 0..items.len() {
         let item = &items[i];
         if let Some(token) = token_at(text, item) {
-            if !state.step(alloc, item.span, token)? {
-                return Err(ParseFault::Syntax { at: item.span.from });
+            match state.step(alloc, item.span, token) {
+                Ok(goes_on) => {
+                    if !goes_on {
+                        drop(state);
+                        return Err(ParseFault::Syntax { at: item.span.from });
+                    }
+                }
+                Err(_) => {
+                    drop(state);
+                    return Err(ParseFault::Memory);
+                }
             }
         }
     }

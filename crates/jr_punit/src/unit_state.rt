@@ -126,10 +126,19 @@ fn first_class(alloc: Global, at: Span, token: Token<'_>) -> UnitStepped
 {
     let mut classes = Vec::new(alloc);
     let mut class = ClassState::new(alloc);
-    if class_on(alloc, &mut classes, &mut class, at, token)? {
-        Ok(Some(UnitState::InClasses(Vec::new(alloc), classes, class)))
-    } else {
-        Ok(None)
+    match class_on(alloc, &mut classes, &mut class, at, token) {
+        Ok(goes_on) => {
+            if goes_on {
+                Ok(Some(UnitState::InClasses(Vec::new(alloc), classes, class)))
+            } else {
+                drop(class);
+                Ok(None)
+            }
+        }
+        Err(error) => {
+            drop(class);
+            Err(error)
+        }
     }
 }
 
@@ -197,7 +206,7 @@ fn put(to: &mut UnitState, next: UnitStepped) -> Made<bool>
 {
     match next? {
         Some(next) => {
-            *to = next;
+            drop(mem::replace(to, next));
             Ok(true)
         }
         None => Ok(false),
@@ -239,7 +248,11 @@ impl UnitState {
             UnitState::Start => Some(Unit::new(file, Vec::new(alloc), Vec::new(alloc))),
             UnitState::InPackage(_) => None,
             UnitState::Worded(_) => None,
-            UnitState::InClasses(words, classes, class) => unit(file, words, classes, &class),
+            UnitState::InClasses(words, classes, class) => {
+                let made = unit(file, words, classes, &class);
+                drop(class);
+                made
+            }
         }
     }
 }

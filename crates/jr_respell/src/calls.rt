@@ -56,8 +56,8 @@ pub fn call(
         (option_map choice_of o)) }
 {
     let g = scopes.programs.name;
-    let on = class_to(alloc, g, class)?;
     let images = types_to(alloc, g, args)?;
+    let on = class_to(alloc, g, class)?;
     chosen(
         alloc,
         scopes,
@@ -89,9 +89,9 @@ pub fn static_call(
         (option_map choice_of o)) }
 {
     let g = scopes.programs.name;
-    let on = class_to(alloc, g, class)?;
-    let text = words(alloc, g, outer, class)?;
     let images = types_to(alloc, g, args)?;
+    let text = words(alloc, g, outer, class)?;
+    let on = class_to(alloc, g, class)?;
     chosen(
         alloc,
         scopes,

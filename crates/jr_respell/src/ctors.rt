@@ -28,8 +28,8 @@ pub fn creation(
 {
     let none = Name::new(alloc, "")?;
     let g = scopes.programs.name;
-    let on = class_to(alloc, g, class)?;
     let images = types_to(alloc, g, args)?;
+    let on = class_to(alloc, g, class)?;
     chosen(
         alloc,
         scopes,

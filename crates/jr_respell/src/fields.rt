@@ -58,9 +58,9 @@ pub fn static_field(
         (class_key_of class.now)) (class_key_of class.now) name.now (option_map choice_of o)) }
 {
     let g = scopes.programs.name;
-    let on = class_to(alloc, g, class)?;
-    let text = words(alloc, g, outer, class)?;
     let none = no_types(alloc);
+    let text = words(alloc, g, outer, class)?;
+    let on = class_to(alloc, g, class)?;
     chosen(
         alloc,
         scopes,

@@ -1,5 +1,5 @@
 //! A scope of the new program with no locals but those that can bear on one reference.
-ghost use Rattle.std.specs.Prelude.{◌≡◌, ◌++◌, map, OnOk, IfOk};
+ghost use Rattle.std.specs.Prelude.{◌≡◌, ◌++◌, ◌∷◌, [], map, OnOk, IfOk};
 ghost use Rattle.jr_table.specs.TypeView.{class_key_of};
 ghost use Rattle.jr_table.specs.Scope.{last_named};
 ghost use Rattle.jr_lookup.specs.LocalView.{local_of};
@@ -12,6 +12,14 @@ use jr_ast::Name;
 use jr_lookup::{Scope, ScopeLocal, ScopeLocals};
 use jr_table::{ClassKey, LocalKey};
 use std::alloc::{AllocError, Global};
+
+/// Puts a local behind the others.
+fn push_local(local: ScopeLocal, locals: &mut Vec<ScopeLocal>) -> Result<(), AllocError>
+    ensures { OnOk result (locals.new.items ≡ locals.old.items ++ local ∷ []) }
+{
+    locals.push(local)?;
+    Ok(())
+}
 
 /// Puts the local that the name finds behind the others, if there is one.
 fn put_named(
@@ -27,10 +35,10 @@ fn put_named(
     match scopes.renamed.number_named(name) {
         None => Ok(()),
         Some(number) => {
+            let name = Name::new(alloc, name.as_str())?;
             let member = scopes.image.copy(alloc)?;
             let key = LocalKey { member, number };
-            let name = Name::new(alloc, name.as_str())?;
-            locals.push(ScopeLocal { name, key })?;
+            push_local(ScopeLocal { name, key }, locals)?;
             Ok(())
         }
     }

@@ -1,21 +1,15 @@
 -- Texts are exchanged one after the other, the last first, and exchanged back.
-use Rattle.std.proofs.Common.{◌≡◌, ℕ, ◌+◌, ◌<◌, ◌≤◌, List, [], ◌∷◌, ◌++◌, length, length-append, append_assoc, sym, ap, subst, ◌∙◌, inl, arith}
+use Rattle.std.proofs.Common.{◌≡◌, ℕ, ◌+◌, ◌<◌, ◌≤◌, List, [], ◌∷◌, ◌++◌, length, length-append, append_assoc, sym, ap, subst, ◌∙◌, arith}
 use Rattle.std.specs.Prelude.{Some}
 use Rattle.std.proofs.lemmas.List.{append-nil}
 use Rattle.std.proofs.lemmas.List.Elements.{All-pop}
-use Rattle.jr_sources.specs.declared.analyses.SourceFault.{SourceFault}
-use Rattle.jr_sources.specs.Analysed.{IsSourceFault, IsSourceWrong}
 use Rattle.jr_sources.specs.Sources.{Source}
 use Rattle.jr_sources.proofs.SourceLaws.{length-with_text}
 use Rattle.jr_session.specs.declared.changes.Change.{Change}
-use Rattle.jr_session.specs.Changes.{put_back, AreOfFiles}
+use Rattle.jr_session.specs.Changes.{AreOfFiles}
 use Rattle.jr_session.specs.Turns.{AreExchanged}
 use Rattle.jr_session.proofs.Exchanging.{none_exchanged, more_exchanged}
 use Rattle.jr_session.proofs.Histories.{length-put}
-
--- the first fault of sources is what is first wrong with them
-pub fault_is_wrong : (sources : List Source) (f : SourceFault) → IsSourceFault sources f → IsSourceWrong sources f
-fault_is_wrong sources f h = record { name = h.name; named = h.named; first = inl h.first }
 
 -- some of the texts are exchanged, those behind the ones that are left
 pub record AreUnderWay (sources : List Source) (texts had : List Change) (now : List Source) (left had' : List Change) (room : ℕ) : Type 0 where
@@ -49,12 +43,7 @@ step_texts sources texts had now next left left' mid had' room c e ex w =
       fits = omega (arith, fits, n, one, many);
     }
 
--- what was exchanged is exchanged back
-pub there_again : (sources now again : List Source) (texts had had' none : List Change) → had ≡ [] → AreExchanged sources texts had now had' → AreExchanged now had' none again none → again ≡ sources
-there_again sources now again texts had had' none e g h =
-    h.becomes ∙ ap (put_back now) (g.kept ∙ ap (λ (l : List Change). l ++ g.behind) e) ∙ g.back
-
--- and the texts that sources had are of their files
+-- the texts that sources had are of their files
 pub files_again : (sources now : List Source) (texts had had' : List Change) → had ≡ [] → AreExchanged sources texts had now had' → AreOfFiles (length now) had'
 files_again sources now texts had had' e g =
     let same : length now ≡ length sources = ap length g.becomes ∙ length-put sources texts in

@@ -42,6 +42,9 @@ pub(crate) enum Tried {
     },
 }
 
+// Lets go what was read and analysed. A call of this costs less than to let it go in each place.
+fn forget(_readings: Readings, _kept: Option<Analysis>) {}
+
 // What comes of sources that have no fault.
 fn judge_analysed(sources: &Sources, readings: Readings, kept: Option<Analysis>) -> Judged
     requires readings { AreReadings (texts_of sources.now) readings }
@@ -52,7 +55,10 @@ fn judge_analysed(sources: &Sources, readings: Readings, kept: Option<Analysis>)
     match kept {
         None => unreachable!(),
         Some(analysis) => match first_error(sources, &analysis) {
-            Some(fault) => Judged::Wrong(fault),
+            Some(error) => {
+                forget(readings, Some(analysis));
+                Judged::Wrong(error)
+            }
             None => Judged::Sound { readings, analysis },
         },
     }
@@ -70,10 +76,16 @@ fn judge<L: Ledger>(
     let _count = sources.count();
     let readings = readings_of(alloc, sources)?;
     let mut kept = None;
-    let found = keep_analysis(alloc, sources, &readings, &mut kept, steps)?;
-    match found {
-        Some(fault) => Ok(Judged::Wrong(fault)),
-        None => Ok(judge_analysed(sources, readings, kept)),
+    match keep_analysis(alloc, sources, &readings, &mut kept, steps) {
+        Ok(None) => Ok(judge_analysed(sources, readings, kept)),
+        Ok(Some(fault)) => {
+            forget(readings, kept);
+            Ok(Judged::Wrong(fault))
+        }
+        Err(error) => {
+            forget(readings, kept);
+            Err(error)
+        }
     }
 }
 

@@ -1,9 +1,8 @@
-use Rattle.std.proofs.Common.{◌+◌, ◌++◌, ◌∷◌, [], map, sym, ap, ◌∙◌}
+use Rattle.std.proofs.Common.{◌+◌, map, sym, ap, ◌∙◌}
 use Rattle.std.specs.Prelude.{option_map}
-use Rattle.std.proofs.lemmas.List.{map-append}
 use Rattle.jr_table.specs.RowView.{row_of}
 use Rattle.jr_members.specs.Fitting.{begins_by}
-use Rattle.jr_members.specs.PartView.{part_of, placed_of, written_of}
+use Rattle.jr_members.specs.PartView.{placed_of, written_of}
 use Rattle.jr_members.proofs.KeyedSteps.{no_items, stops, goes_on, ends}
 use Rattle.jr_members.proofs.keyed.keyed.Goals as goal
 
@@ -17,8 +16,7 @@ pub loop-placed-preserved : goal.loop-placed-preserved
 loop-placed-preserved g c =
     let now = map written_of c.loop-placed.members.items in
     let p = c.in-Some.placed in
-    let made = ap (map written_of) c.in_ok-push.ensures.items ∙ map-append written_of c.loop-placed.members.items _
-    ∙ ap (λ k. now ++ record { file = p.file; key = k; row = c.loop-placed.row; base = p.base; part = part_of p.part } ∷ []) c.in_ok-key.ensures in
+    let made = c.in_ok-push_keyed.ensures in
     goes_on (begins_by g.A.Mark.span_from) c.args.table.now _ now c.loop-placed.row (placed_of p) _ (map placed_of c.next.new.self.rest.items) (row_of c.in-Some-row_at.declared.now) _ _ (ap (map placed_of) c.in-Some.ensures.steps.0)
     (sym c.row_at.ensures ∙ ap (option_map (λ r. row_of r.now)) c.in-Some-row_at.is) (ap (λ n. c.loop-placed.row + n) c.row_count-row.ensures) made c.loop-placed.invariant
 

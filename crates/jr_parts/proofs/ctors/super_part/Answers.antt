@@ -7,8 +7,8 @@ use Rattle.jr_parts.specs.Walking.{key_of}
 use Rattle.jr_parts.proofs.Placing.{super_there, super_back}
 use Rattle.jr_parts.proofs.ctors.super_part.Goals as goal
 
-pub super_call-requires : goal.super_call-requires
-super_call-requires g c =
+pub super_call-done-requires : goal.super_call-done-requires
+super_call-done-requires g c =
     let w = c.args.of.now in
     let x = with_parameters (key_of w) true (map param_of c.args.params.now) in
     record {
@@ -22,4 +22,4 @@ returns g c =
     let w = c.args.of.now in
     let x = with_parameters (key_of w) true (map param_of c.args.params.now) in
     let n = (g.V.View.program c.args.view.now).super_at (key_of w) in
-    IfOk-weaker c.super_call.result _ _ (λ _ y. super_back w c.in_ok-here.here x c.in_ok-here.ensures n c.args.span.from (exprs_of c.args.args.now) (gathered c.args.out.now) (gathered c.super_call.new.out) (y n c.requires.stands)) c.super_call.ensures
+    IfOk-weaker c.super_call-done.result _ _ (λ _ y. super_back w c.in_ok-here.here x c.in_ok-here.ensures n c.args.span.from (exprs_of c.args.args.now) (gathered c.args.out.now) (gathered c.super_call-done.new.out) (y n c.requires.stands)) c.super_call-done.ensures

@@ -7,8 +7,8 @@ use Rattle.jr_parts.specs.Walking.{key_of}
 use Rattle.jr_parts.proofs.Placing.{init_there, init_back}
 use Rattle.jr_parts.proofs.fields.initializer.Goals as goal
 
-pub maybe-requires : goal.maybe-requires
-maybe-requires c =
+pub maybe-done-requires : goal.maybe-done-requires
+maybe-done-requires c =
     let w = c.args.of.now in
     let here = c.in_ok-here.ensures in
     record {
@@ -19,4 +19,4 @@ maybe-requires c =
 pub returns : goal.returns
 returns c =
     let w = c.args.of.now in
-    IfOk-weaker c.maybe.result _ _ (λ _ x. init_back w c.in_ok-here.here (plain (key_of w) c.args.is_static) c.in_ok-here.ensures c.args.at (option_map expr_of c.args.init.now) (gathered c.args.out.now) (gathered c.maybe.new.out) x) c.maybe.ensures
+    IfOk-weaker c.maybe-done.result _ _ (λ _ x. init_back w c.in_ok-here.here (plain (key_of w) c.args.is_static) c.in_ok-here.ensures c.args.at (option_map expr_of c.args.init.now) (gathered c.args.out.now) (gathered c.maybe-done.new.out) x) c.maybe-done.ensures

@@ -10,8 +10,8 @@ use Rattle.jr_parts.specs.Ready.{TypeReady}
 use Rattle.jr_parts.specs.Gathered.{TypeGathers, ParentGathers}
 use Rattle.jr_parts.proofs.heads.parent_of_inner.Goals as goal
 
-pub declared_type-requires : goal.declared_type-requires
-declared_type-requires c =
+pub declared_type-done-requires : goal.declared_type-done-requires
+declared_type-done-requires c =
     let w = c.args.of.now in
     let name : c.in_ok-name.name ≡ c.args.outer.now = c.in_ok-name.ensures ∙ c.as_str.ensures in
     record { walked = c.requires.walked; ready = subst (λ (n : List ℕ). TypeReady (rows_of w) (plain (head (top_key n)) false) c.args.at (type_of c.args.ty.now)) (sym name) c.requires.ready }
@@ -20,4 +20,4 @@ pub returns : goal.returns
 returns c =
     let w = c.args.of.now in
     let name : c.in_ok-name.name ≡ c.args.outer.now = c.in_ok-name.ensures ∙ c.as_str.ensures in
-    IfOk-weaker c.declared_type.result _ _ (λ _ x. subst (λ (n : List ℕ). TypeGathers (rows_of w) (naming_of w) (plain (head (top_key n)) false) c.args.at (type_of c.args.ty.now) (gathered c.args.out.now) (gathered c.declared_type.new.out)) name x) c.declared_type.ensures
+    IfOk-weaker c.declared_type-done.result _ _ (λ _ x. subst (λ (n : List ℕ). TypeGathers (rows_of w) (naming_of w) (plain (head (top_key n)) false) c.args.at (type_of c.args.ty.now) (gathered c.args.out.now) (gathered c.declared_type-done.new.out)) name x) c.declared_type-done.ensures

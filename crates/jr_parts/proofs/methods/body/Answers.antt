@@ -1,5 +1,6 @@
 use Rattle.std.proofs.Common.{◌≡◌, ℕ, length, map, sym, subst, ◌∙◌}
 use Rattle.std.proofs.lemmas.List.{length-map}
+use Rattle.std.proofs.lemmas.Result.{IfOk-at_ok}
 use Rattle.jr_ast.specs.View.{param_of, stmts_of}
 use Rattle.jr_table.specs.HeadRules.{with_parameters}
 use Rattle.jr_renaming.specs.OutputView.{gathered}
@@ -9,8 +10,8 @@ use Rattle.jr_parts.specs.Gathered.{BodyGathers}
 use Rattle.jr_parts.proofs.Placing.{body_there, body_back}
 use Rattle.jr_parts.proofs.methods.body.Goals as goal
 
-pub stmts-requires : goal.stmts-requires
-stmts-requires c =
+pub stmts-walked-requires : goal.stmts-walked-requires
+stmts-walked-requires c =
     let w = c.args.of.now in
     let x = with_parameters (key_of w) c.args.is_static (map param_of c.args.params.now) in
     let number : c.in_ok-number.number ≡ length (map param_of c.args.params.now) = c.in_ok-number.ensures ∙ sym (length-map c.args.params.now param_of) in
@@ -21,12 +22,13 @@ stmts-requires c =
           (subst (λ (n : ℕ). BodyReady (rows_of w) w.bound.now w.from x n c.args.first c.args.at body) (sym number) c.requires.ready);
     }
 
-pub returns : goal.returns
-returns c =
+pub returns-in-Ok : goal.returns-in-Ok
+returns-in-Ok c =
     let w = c.args.of.now in
     let x = with_parameters (key_of w) c.args.is_static (map param_of c.args.params.now) in
     let number : c.in_ok-number.number ≡ length (map param_of c.args.params.now) = c.in_ok-number.ensures ∙ sym (length-map c.args.params.now param_of) in
     let body = stmts_of c.args.statements.now in
     let old = gathered c.args.out.now in
-    let new = gathered c.stmts.new.out in
-    subst (λ (n : ℕ). BodyGathers (rows_of w) (naming_of w) x n c.args.at body old new) number (body_back w c.in_ok-here.here x c.in_ok-here.ensures c.in_ok-number.number c.args.at body old new c.in_ok-stmts.ensures.gives)
+    let passes = IfOk-at_ok _ c.in-Ok.is c.stmts-walked.ensures in
+    let new = gathered c.stmts-walked.new.out in
+    subst (λ (n : ℕ). BodyGathers (rows_of w) (naming_of w) x n c.args.at body old new) number (body_back w c.in_ok-here.here x c.in_ok-here.ensures c.in_ok-number.number c.args.at body old new passes.gives)

@@ -11,4 +11,4 @@ use Rattle.jr_parts.proofs.words.class_word.Goals as goal
 pub returns : goal.returns
 returns c =
     let w = c.args.of.now in
-    IfOk-weaker c.declared_word.result _ _ (λ _ y. subst (λ (j : ClassKey). WordGathers (rows_of w) (naming_of w) (class_decl j) (word_of c.args.name.now) (gathered c.args.out.now) (gathered c.declared_word.new.out)) c.in_ok-copy.ensures y) c.declared_word.ensures
+    IfOk-weaker c.own_word.result _ _ (λ _ y. subst (λ (j : ClassKey). WordGathers (rows_of w) (naming_of w) (class_decl j) (word_of c.args.name.now) (gathered c.args.out.now) (gathered c.own_word.new.out)) c.in_ok-copy.ensures y) c.own_word.ensures

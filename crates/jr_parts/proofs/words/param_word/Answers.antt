@@ -9,4 +9,4 @@ use Rattle.jr_parts.proofs.words.param_word.Goals as goal
 
 pub returns : goal.returns
 returns c =
-    IfOk-weaker c.declared_word.result _ _ (λ _ y. subst (λ (d : Decl). WordGathers (rows_of c.args.of.now) (naming_of c.args.of.now) d (word_of c.args.name.now) (gathered c.args.out.now) (gathered c.declared_word.new.out)) c.in_ok-decl.ensures y) c.declared_word.ensures
+    IfOk-weaker c.own_word.result _ _ (λ _ y. subst (λ (d : Decl). WordGathers (rows_of c.args.of.now) (naming_of c.args.of.now) d (word_of c.args.name.now) (gathered c.args.out.now) (gathered c.own_word.new.out)) c.in_ok-decl.ensures y) c.own_word.ensures

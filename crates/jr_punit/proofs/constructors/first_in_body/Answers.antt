@@ -14,6 +14,6 @@ pub returns : goal.returns
 returns c =
     let t = token_view c.args.token in
     subst (λ n. IsNextOwn c.from_body.result n)
-    (ap (λ (b : M.Body Span). M.from_body join b (list_state c.new.result) c.args.at t (cue_of t)) c.in_ok-body.ensures
-    ∙ ap (λ (s : S.State Span). M.from_body join (M.without_super (constructor_view c.args.of.value)) s c.args.at t (cue_of t)) c.new.ensures)
+    (ap (λ (b : M.Body Span). M.from_body join b (list_state c.in_ok-items.items.value) c.args.at t (cue_of t)) c.in_ok-body.ensures
+    ∙ ap (λ (s : S.State Span). M.from_body join (M.without_super (constructor_view c.args.of.value)) s c.args.at t (cue_of t)) (c.in_ok-items.ensures ∙ c.new.ensures))
     c.from_body.ensures

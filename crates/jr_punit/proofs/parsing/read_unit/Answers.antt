@@ -12,17 +12,17 @@ use Rattle.jr_pstmt.proofs.InPlace.{went, stayed}
 use Rattle.jr_punit.proofs.UnitWalks.{placed_at}
 use Rattle.jr_punit.proofs.UnitParses.{Goes, Stops, goes, skips, stops, read_whole, byte_whole, read_none}
 use Rattle.jr_punit.proofs.parsing.read_unit.Goals as goal
-use Rattle.jr_punit.proofs.parsing.read_unit.Goals.{in-Some+in_ok-step+else-not-branch, in_default}
+use Rattle.jr_punit.proofs.parsing.read_unit.Goals.{in-Some+in-Ok+else-not-goes_on, in_default}
 
 pub token_at-requires : goal.token_at-requires
 token_at-requires c = placed_at c.args.text.now c.args.items.now c.loop-i.i c.items_are_placed.ensures.items c.requires.lexed c.loop-i-test.true
 
-pub returns-then-not-branch-clause-fault : goal.returns-then-not-branch-clause-fault
-returns-then-not-branch-clause-fault c =
+pub returns-then-not-goes_on-clause-fault : goal.returns-then-not-goes_on-clause-fault
+returns-then-not-goes_on-clause-fault c =
     let bytes = c.args.text.now in
     let items = c.args.items.now in
     let h : Stops bytes items c.loop-i.i (unit_state c.loop-i.state) =
-    stops bytes items c.loop-i.i (unit_state c.loop-i.state) (token_view c.in-Some.token) c.loop-i-test.true (sym c.in-Some.ensures) (stayed c.in_ok-step.field-0 (unit_state c.step.new.self) _ c.in_ok-step.ensures c.if-not-branch.true) in
+    stops bytes items c.loop-i.i (unit_state c.loop-i.state) (token_view c.in-Some.token) c.loop-i-test.true (sym c.in-Some.ensures) (stayed c.in-Ok.goes_on (unit_state c.step.new.self) _ c.in-Ok.ensures c.if-not-goes_on.true) in
     record {
       read = read_none bytes items c.loop-i.i (unit_state c.loop-i.state) h c.loop-i.invariant.read;
       byte = h.byte ∙ c.loop-i.invariant.byte;
@@ -37,10 +37,10 @@ goes_on c =
     let items = c.args.items.now in
     let i = c.loop-i.i in
     elim c.match-token_at.branch [
-      | in-Some+in_ok-step+else-not-branch w ↦
+      | in-Some+in-Ok+else-not-goes_on w ↦
           subst (λ s. Goes bytes items i (unit_state c.loop-i.state) (unit_state s)) (sym w.state-is)
           (goes bytes items i (unit_state c.loop-i.state) (token_view w.in-Some.token) (unit_state w.step.new.self) c.loop-i-test.true (sym w.in-Some.ensures)
-          (went w.in_ok-step.field-0 (unit_state w.step.new.self) _ w.in_ok-step.ensures w.if-not-branch.false))
+          (went w.in-Ok.goes_on (unit_state w.step.new.self) _ w.in-Ok.ensures w.if-not-goes_on.false))
       | in_default w ↦
           subst (λ s. Goes bytes items i (unit_state c.loop-i.state) (unit_state s)) (sym w.state-is)
           (skips bytes items i (unit_state c.loop-i.state) c.loop-i-test.true (sym c.token_at.ensures ∙ ap (option_map token_view) w.in_default.is))
