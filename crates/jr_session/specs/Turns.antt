@@ -1,5 +1,5 @@
 -- Texts are exchanged for others, forwards or back. Only private clauses cite this.
-use Rattle.std.specs.Prelude.{◌≡◌, ℕ, List, [], ◌∷◌, ◌++◌, length}
+use Rattle.std.specs.Prelude.{◌≡◌, List, [], ◌∷◌, ◌++◌, length}
 use Rattle.std.specs.List.{AllZip}
 use Rattle.jr_ast.specs.View.{unit_of}
 use Rattle.jr_sources.specs.declared.readings.Reading.{Reading}
