@@ -31,7 +31,8 @@ pub record IsShown (s : State) (of : Step) (lines : List (List ℕ)) (t : State)
 
 -- a refactoring is done to these files, with so many respelled references
 abbrev pub IsRefactored : State → Step → (files : List (List ℕ)) → (respelled : ℕ) → State → Type 0
-IsRefactored s (step.Rename file at new) files respelled t = IsRenamed s file at new files respelled t
+IsRefactored s (step.Rename file at new) files respelled t =
+    IsRenamed s file at new files respelled t
 IsRefactored s of files respelled t = ⊥
 
 -- the step is done, with this reply; what isn't here has no step yet

@@ -44,8 +44,8 @@ pub record IsTurn (sources : List Source) (from onto : List Earlier) (sources' :
 
 -- these are what the texts of the last step read as
 abbrev pub AreLastReadings : List Earlier → List Reading → Type 0
-AreLastReadings steps readings = (front : List Earlier) (step : Earlier) → steps ≡ front ++ step ∷ []
-    → AreChangeReadings step.changes.items readings
+AreLastReadings steps readings = (front : List Earlier) (step : Earlier)
+    → steps ≡ front ++ step ∷ [] → AreChangeReadings step.changes.items readings
 
 -- nothing changed
 pub record AreAsBefore (sources : List Source) (from onto : List Earlier) (sources' : List Source)
