@@ -1,7 +1,7 @@
 -- The states behind a refactoring, from what its body finds.
-use Rattle.std.proofs.Common.{◌≡◌, ℕ, ◌<◌, List, [], ◌∷◌, ◌++◌, length, refl, sym, ap, subst, ◌∙◌, inl, inr}
+use Rattle.std.proofs.Common.{◌≡◌, ℕ, List, [], ◌∷◌, ◌++◌, length, refl, sym, subst, inl, inr}
 use Rattle.std.specs.List.{slice_get}
-use Rattle.std.specs.Prelude.{Option, Some, None}
+use Rattle.std.specs.Prelude.{Some}
 use Rattle.std.proofs.lemmas.Option.{same_Some}
 use Rattle.jr_text.specs.Edits.{Entry}
 use Rattle.jr_names.specs.Refusals.{would_not_compile, too_long}
@@ -9,17 +9,16 @@ use Rattle.jr_names.specs.Replies.{Reply, refactored, refused}
 use Rattle.jr_sources.specs.declared.analyses.Analysis.{Analysis}
 use Rattle.jr_sources.specs.declared.analyses.SourceFault.{SourceFault}
 use Rattle.jr_sources.specs.declared.kept.Readings.{Readings}
-use Rattle.jr_sources.specs.Analysed.{IsAnalysis, IsSourceWrong, CostsBinding}
+use Rattle.jr_sources.specs.Analysed.{IsAnalysis, CostsBinding}
 use Rattle.jr_sources.specs.BindingErrors.{AreSound, IsFirstWrong}
-use Rattle.jr_sources.specs.KeptReadings.{AreReadings}
 use Rattle.jr_sources.specs.ReadingLaws.{HasOneReading}
-use Rattle.jr_sources.specs.Sources.{Source, HasName, texts_of}
+use Rattle.jr_sources.specs.Sources.{Source, HasName}
 use Rattle.jr_sources.proofs.Analysing.{no_fault}
 use Rattle.jr_session.specs.declared.changes.Change.{Change}
 use Rattle.jr_session.specs.declared.changes.Earlier.{Earlier}
 use Rattle.jr_session.specs.declared.made.Made.TheVariants as makes
 use Rattle.jr_session.specs.declared.tries.Tried.TheVariants as tries
-use Rattle.jr_session.specs.Changes.{put_back, AreOfFiles, AreChanges}
+use Rattle.jr_session.specs.Changes.{put_back, AreChanges}
 use Rattle.jr_session.specs.Kept.{IsKept}
 use Rattle.jr_session.specs.Making.{IsMade}
 use Rattle.jr_session.specs.NewTexts.{with_edits, differing}

@@ -33,8 +33,8 @@ pub(crate) enum Judged {
 pub(crate) enum Tried {
     /// This is first wrong with the sources that have them. The old texts are there again.
     Wrong(SourceFault),
-    /// The sources have them now, and are a program, no member of which breaks a rule. `had` are the
-    /// texts that they had.
+    /// The sources have them now, and are a program, no member of which breaks a rule. `had` are
+    /// the texts that they had.
     Sound {
         readings: Readings,
         analysis: Analysis,
