@@ -1,36 +1,35 @@
 -- The written members of a file, asked one after another, have what its words name.
-use Rattle.std.proofs.Common.{◌≡◌, ℕ, zero, suc, ◌+◌, ◌-◌, ◌<◌, ◌≤◌, List, [], ◌∷◌, Option, Some, None, Bool, true, false, length, map, get_or, refl, sym, ap, subst, ◌∙◌, inl, inr, arith}
-use Rattle.std.specs.Prelude.{◌⊎◌, ◌↔◌, slice_get, Contains, option_map}
+use Rattle.std.proofs.Common.{◌≡◌, ℕ, zero, suc, ◌+◌, ◌-◌, ◌≤◌, List, [], ◌∷◌, Option, Some, None, true, map, refl, sym, ap, subst, ◌∙◌, inl, inr, arith}
+use Rattle.std.specs.Prelude.{◌⊎◌, slice_get, Contains, option_map}
 use Rattle.std.proofs.lemmas.Option.{none-some, same_Some, slice_get-map, slice_get_within, slice_get-get_or, get_or_from_slice_get}
 use Rattle.jr_text.specs.declared.spans.Span.{Span}
 use Rattle.jr_lex.specs.declared.items.Item.{Item}
 use Rattle.jr_lex.specs.declared.items.TokenKind.TheVariants as token
 use Rattle.jr_lex.specs.declared.items.Keyword.TheVariants as keyword
-use Rattle.jr_lex.specs.Lexes.{Lexes}
 use Rattle.jr_ast.specs.MemberTree as syntax
-use Rattle.jr_grammar.specs.Layout.{Layouts, itself, all_spans_from}
+use Rattle.jr_grammar.specs.Layout.{Layouts, itself}
 use Rattle.jr_grammar.specs.MemberLayout.{unit_layouts}
 use Rattle.jr_grammar.specs.Reads.{ReadsWithSpans}
 use Rattle.jr_grammar.specs.Stands.{StandInOrder}
 use Rattle.jr_grammar.specs.Tokens.{placed_of}
 use Rattle.jr_grammar.proofs.Layouts.{all_spans_from-span}
-use Rattle.jr_table.specs.Decls.{MemberKey, Decl, local_decl}
+use Rattle.jr_table.specs.Decls.{MemberKey, Decl}
 use Rattle.jr_table.specs.Rows.{Row}
 use Rattle.jr_table.specs.Sites.{sites_of}
-use Rattle.jr_table.specs.Errors.{Part, class_part, member_part, part_mark, Binds, InClasses}
+use Rattle.jr_table.specs.Errors.{Part, class_part, member_part, part_mark, Binds}
 use Rattle.jr_members.specs.WrittenMembers.{WrittenMember, written_members}
 use Rattle.jr_members.specs.WrittenLaws.{AreWritten, IsWritten, MembersAreWritten}
 use Rattle.jr_members.specs.declared.keyed.WrittenMember as raw
 use Rattle.jr_members.specs.PartView.{written_of}
 use Rattle.jr_members.proofs.Anywhere.{classes_found, found_classes}
-use Rattle.jr_bind.specs.Bounds.{Bound, IsBound, decl_in}
+use Rattle.jr_bind.specs.Bounds.{Bound, IsBound}
 use Rattle.jr_bind.specs.Programs.{File, Program, IsProgram, AreBound, units_of}
 use Rattle.jr_bind.specs.SuperPlaces as bind
 use Rattle.jr_places.specs.FileParts.{begins, HasTokenAt, IsSuperAt, SuperStands}
-use Rattle.jr_places.specs.PlaceLaws.{IsFile, IsPart, IsPlaced, Owns, PartsArePlaced}
+use Rattle.jr_places.specs.PlaceLaws.{IsFile, IsPart, Owns, PartsArePlaced}
 use Rattle.jr_rename.specs.Targets.{IsOfPrelude, PartDeclares, Names}
-use Rattle.jr_target.specs.Names.{own_name, local_there, bound_there, HasThere, HasInFile, Finds}
-use Rattle.jr_target.specs.Listed.{HasNumbered, HasListed}
+use Rattle.jr_target.specs.Names.{own_name, local_there, HasThere, HasInFile, Finds}
+use Rattle.jr_target.specs.Listed.{HasListed}
 use Rattle.jr_target.proofs.SearchLaws.{numbered}
 use Rattle.jr_target.proofs.Declaring.{own_declares, local_declares, declares_found}
 use Rattle.jr_target.proofs.Finding.{finds_to, local_foreign, bound_within, within_bound}
@@ -73,7 +72,7 @@ super_begins items at h = record { number = h.number; token = h.token; stands = 
 super_at : (items : List Item) (span : Span) (at : ℕ) → bind.IsSuperAt items span at → IsSuperAt items span at
 super_at items span at h = record { there = begins_super items at h.there; within = h.within; first = λ other t from. h.first other (super_begins items other t) from }
 
-super_stands : (items : List Item) (part : Part Span) (at : ℕ) → (bind.writes_super part ≡ true → bind.IsSuperAt items (part_mark part) at) → SuperStands items part at
+pub super_stands : (items : List Item) (part : Part Span) (at : ℕ) → (bind.writes_super part ≡ true → bind.IsSuperAt items (part_mark part) at) → SuperStands items part at
 super_stands items (class_part c) at h = tt
 super_stands items (member_part (syntax.field m mods t w init)) at h = tt
 super_stands items (member_part (syntax.method m mods t w ps body)) at h = tt

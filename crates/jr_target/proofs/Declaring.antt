@@ -1,19 +1,18 @@
 -- The names that a part declares, and what is found of them at a byte.
-use Rattle.std.proofs.Common.{◌≡◌, ℕ, ◌+◌, List, [], ◌∷◌, Option, Some, None, Bool, true, false, length, refl, sym, ap, subst, ◌∙◌, inl, inr, arith}
+use Rattle.std.proofs.Common.{◌≡◌, ℕ, List, Option, Some, None, Bool, true, false, length, refl, sym, ap, subst, inl, inr, arith}
 use Rattle.std.specs.Prelude.{◌⊎◌, ◌==◌, if◌then◌else◌, option_map}
 use Rattle.jr_text.specs.declared.spans.Span.{Span}
-use Rattle.jr_ast.specs.Tree as tree
 use Rattle.jr_ast.specs.StatementTree as statement
 use Rattle.jr_ast.specs.MemberTree as syntax
-use Rattle.jr_table.specs.Decls.{MemberKey, head, field, method, constructor, Decl, class_decl, local_decl}
+use Rattle.jr_table.specs.Decls.{MemberKey, head, field, method, constructor, Decl, class_decl}
 use Rattle.jr_table.specs.Context.{Context}
-use Rattle.jr_table.specs.HeadRules.{plain, with_parameters, is_static_member}
+use Rattle.jr_table.specs.HeadRules.{with_parameters, is_static_member}
 use Rattle.jr_table.specs.Errors.{Part, class_part, member_part, InMember}
 use Rattle.jr_places.specs.FileParts.{begins}
 use Rattle.jr_rename.specs.Targets.{LocalDeclares, ParamDeclares, MemberDeclares, PartDeclares}
 use Rattle.jr_rewrite.specs.Rewrites.{declared_by}
-use Rattle.jr_target.specs.Searches.{start, in_params, in_stmts, in_code, in_member}
-use Rattle.jr_target.specs.Names.{class_word, member_begins, own_of_class, own_name, local_there}
+use Rattle.jr_target.specs.Searches.{start, in_params, in_code, in_member}
+use Rattle.jr_target.specs.Names.{member_begins, own_name, local_there}
 use Rattle.jr_target.proofs.Nowhere.{neither, exp_none, row_none}
 use Rattle.jr_target.proofs.SearchLaws.{numbered, eq_is, is_eq, Stmts_have, params_next, params_some, params_none, stmts_some, stmts_none}
 

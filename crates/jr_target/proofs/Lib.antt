@@ -1,4 +1,4 @@
-mod Nowhere
+pub mod Nowhere
 mod SearchLaws
 mod Loops
 mod Declaring
@@ -7,3 +7,7 @@ mod Asking
 mod Holders
 mod Telling
 mod Numbering
+mod NamedParts
+mod NamedMembers
+mod NamedFiles
+mod OneTarget

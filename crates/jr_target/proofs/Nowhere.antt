@@ -1,6 +1,6 @@
 -- No expression has a property that none has.
 use Rattle.std.proofs.Common.{ℕ, inl, inr}
-use Rattle.std.specs.Prelude.{◌⊎◌, Option, Some, None}
+use Rattle.std.specs.Prelude.{◌⊎◌}
 use Rattle.jr_ast.specs.Tree as tree
 use Rattle.jr_table.specs.Binding.{Role, value, left}
 use Rattle.jr_table.specs.Somewhere.{Somewhere, InTarget, InRow}

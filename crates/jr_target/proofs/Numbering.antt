@@ -1,5 +1,5 @@
 -- The members of a program, asked by their numbers.
-use Rattle.std.proofs.Common.{◌≡◌, ℕ, suc, ◌+◌, ◌<◌, ◌≤◌, List, Option, Some, None, Bool, true, false, length, refl, sym, ap, subst, ◌∙◌, inl, inr, arith, eq-or-lt_of_le}
+use Rattle.std.proofs.Common.{◌≡◌, ℕ, ◌+◌, ◌<◌, ◌≤◌, List, Option, Some, None, true, false, length, sym, subst, ◌∙◌, inl, inr, arith, eq-or-lt_of_le}
 use Rattle.std.specs.Prelude.{◌⊎◌, is_some, option_map, slice_get}
 use Rattle.std.proofs.lemmas.Option.{same_Some, slice_get_within}
 use Rattle.jr_text.specs.declared.spans.Span.{Span}

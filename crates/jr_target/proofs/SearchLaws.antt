@@ -1,21 +1,20 @@
 -- What a walk over a member finds is exactly the local or parameter whose declared name begins at
 -- the byte.
-use Rattle.std.proofs.Common.{◌≡◌, ℕ, suc, ◌+◌, List, [], ◌∷◌, Option, Some, None, Bool, true, false, length, refl, sym, ap, subst, ◌∙◌, inl, inr, arith}
+use Rattle.std.proofs.Common.{◌≡◌, ℕ, suc, ◌+◌, List, [], ◌∷◌, Option, Some, None, Bool, true, false, length, refl, sym, ap, subst, inl, inr, arith}
 use Rattle.std.specs.Prelude.{◌⊎◌, ◌==◌, if◌then◌else◌}
 use Rattle.std.proofs.lemmas.Bool.Decides.{Decides-eqb}
 use Rattle.jr_text.specs.declared.spans.Span.{Span}
 use Rattle.jr_ast.specs.Tree as tree
 use Rattle.jr_ast.specs.StatementTree as statement
 use Rattle.jr_ast.specs.MemberTree as syntax
-use Rattle.jr_table.specs.Decls.{MemberKey, LocalKey, Decl, local_decl}
-use Rattle.jr_table.specs.Context.{Context, local_key, locals_in, locals_in_else, locals_in_row, after}
-use Rattle.jr_table.specs.Somewhere.{InStmt, InElse, InStmts, InMaybe}
-use Rattle.jr_table.specs.Errors.{InMember, InSuper}
+use Rattle.jr_table.specs.Decls.{MemberKey, Decl, local_decl}
+use Rattle.jr_table.specs.Context.{Context, locals_in, locals_in_else, locals_in_row, after}
+use Rattle.jr_table.specs.Somewhere.{InStmt, InElse, InStmts}
 use Rattle.jr_places.specs.FileParts.{begins}
 use Rattle.jr_rename.specs.Targets.{LocalDeclares, ParamDeclares}
 use Rattle.jr_target.specs.declared.searches.Search.{Search}
-use Rattle.jr_target.specs.Searches.{or_else, start, number_there, meet, in_params, in_stmt, in_else, in_stmts}
-use Rattle.jr_target.proofs.Nowhere.{neither, exp_none, row_none}
+use Rattle.jr_target.specs.Searches.{or_else, number_there, meet, in_params, in_stmt, in_else, in_stmts}
+use Rattle.jr_target.proofs.Nowhere.{neither, exp_none}
 
 -- the local of a member
 abbrev pub numbered : MemberKey → ℕ → Decl

@@ -1,5 +1,5 @@
 -- What the identifier at a byte names, from what the word that begins there does.
-use Rattle.std.proofs.Common.{◌≡◌, ℕ, List, Option, Some, None, map, sym, ap, subst, ◌∙◌}
+use Rattle.std.proofs.Common.{◌≡◌, ℕ, List, Option, Some, None, sym, ap, subst, ◌∙◌}
 use Rattle.std.specs.Prelude.{slice_get, option_map, MatchOption, IfSome}
 use Rattle.std.proofs.lemmas.Option.{none-some, same_Some}
 use Rattle.jr_text.specs.declared.spans.Span.{Span}
@@ -7,7 +7,6 @@ use Rattle.jr_lex.specs.declared.items.Item.{Item}
 use Rattle.jr_lex.specs.Lexes.{Lexes}
 use Rattle.jr_lex.specs.Places.{ItemsPlaced}
 use Rattle.jr_grammar.specs.Layout.{itself}
-use Rattle.jr_table.specs.Decls.{Decl}
 use Rattle.jr_table.specs.declared.decls.Decl as raw
 use Rattle.jr_table.specs.KeyView.{decl_of}
 use Rattle.jr_bind.specs.Programs.{File, Program, IsProgram, units_of}

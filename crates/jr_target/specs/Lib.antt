@@ -2,3 +2,4 @@ pub mod ProgramTargets
 pub mod Searches
 pub mod Names
 pub mod Listed
+pub mod TargetLaws

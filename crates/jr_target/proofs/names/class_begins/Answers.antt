@@ -1,4 +1,4 @@
-use Rattle.std.proofs.Common.{◌≡◌, ◌==◌, sym, ap, ◌∙◌}
+use Rattle.std.proofs.Common.{◌==◌, sym, ap, ◌∙◌}
 use Rattle.jr_ast.proofs.Rows.{class_of-out}
 use Rattle.jr_target.specs.Names.{class_word}
 use Rattle.jr_target.proofs.names.class_begins.Goals as goal

@@ -3,7 +3,7 @@ use Rattle.std.specs.Prelude.{IfOk}
 use Rattle.jr_text.specs.declared.spans.Span.{Span}
 use Rattle.jr_ast.specs.StatementTree as statement
 use Rattle.jr_ast.specs.declared.stmts.Stmt.{Stmt}
-use Rattle.jr_ast.specs.View.{stmt_of, stmts_of, stmt_kind}
+use Rattle.jr_ast.specs.View.{stmts_of, stmt_kind}
 use Rattle.jr_ast.proofs.Rows.{stmt_kind-Block, stmt_kind-Sync}
 use Rattle.jr_target.specs.Searches.{in_stmt, in_stmts, in_else}
 use Rattle.jr_target.proofs.Loops.{search_goes, search_ends}

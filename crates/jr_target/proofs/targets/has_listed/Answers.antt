@@ -1,4 +1,4 @@
-use Rattle.std.proofs.Common.{◌≡◌, ◌≤◌, sym, ◌∙◌, arith}
+use Rattle.std.proofs.Common.{◌≤◌, sym, ◌∙◌, arith}
 use Rattle.jr_target.proofs.Numbering.{covered_more, covered_all}
 use Rattle.jr_target.proofs.targets.has_listed.Goals as goal
 

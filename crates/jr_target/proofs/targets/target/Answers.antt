@@ -1,4 +1,3 @@
-use Rattle.std.proofs.Common.{sym}
 use Rattle.std.proofs.lemmas.Result.{IfOk-weaker}
 use Rattle.jr_rename.specs.Targets.{HoldsIdentifier}
 use Rattle.jr_target.proofs.Telling.{some_at, lexed, none_told, word_told}
