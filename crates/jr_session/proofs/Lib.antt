@@ -10,6 +10,8 @@ pub mod SessionSteps
 pub mod StepCases
 pub mod OneAnswer
 pub mod OneFault
+pub mod OneWrong
+pub mod OneRename
 pub mod OneStep
 pub mod ShownLines
 pub mod ShowSteps

@@ -70,7 +70,7 @@ not_within texts a g within =
     let long = g.beyond in
     absurd (omega arith)
 
-one_length : (texts : List (List ℕ)) (a b : ℕ) → AreTooLong texts a → AreTooLong texts b → a ≡ b
+pub one_length : (texts : List (List ℕ)) (a b : ℕ) → AreTooLong texts a → AreTooLong texts b → a ≡ b
 one_length texts a b (inl g) (inl h) = one_first texts a b g h
 one_length texts a b (inl g) (inr h) = absurd (not_within texts a g h.within)
 one_length texts a b (inr g) (inl h) = absurd (not_within texts b h g.within)

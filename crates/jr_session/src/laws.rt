@@ -2,8 +2,12 @@
 ghost use Rattle.jr_session.specs.StepLaws.{HasOneAnswer, HasOneShow};
 
 use jr_lex::one_answer;
+use jr_members::members_are_written;
+use jr_one_plan::plan_is_one;
+use jr_places::parts_are_placed;
 use jr_shown::lines_are_told;
 use jr_sources::text_has_one_reading;
+use jr_text::Span;
 
 /// A step has one reply and leaves one state, and a show's lines are those of the present sources,
 /// whatever was done before.
@@ -14,4 +18,7 @@ pub fn step_has_one_answer()
     text_has_one_reading();
     one_answer();
     lines_are_told();
+    parts_are_placed();
+    members_are_written::<Span>();
+    plan_is_one();
 }
