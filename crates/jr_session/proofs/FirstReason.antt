@@ -1,19 +1,26 @@
 -- A rename is refused for exactly the first of its reasons.
-use Rattle.std.proofs.Common.{◌≡◌, ◌⊎◌, ◌↔◌, ℕ, ◌<◌, ◌≤◌, List, sym, ap, subst, ◌∙◌, inl, inr, arith}
+use Rattle.std.proofs.Common.{◌≡◌, ◌⊎◌, ◌↔◌, ℕ, ◌<◌, ◌≤◌, List, map, sym, ap, subst, ◌∙◌, inl, inr, arith}
 use Rattle.std.specs.Prelude.{Some, slice_get}
 use Rattle.std.proofs.lemmas.Option.{slice_get_within, same_Some}
 use Rattle.jr_text.specs.declared.spans.Span.{Span}
 use Rattle.jr_text.specs.Edits.{Entry}
 use Rattle.jr_lex.specs.Replacing.{IsName}
+use Rattle.jr_ast.specs.MemberTree as syntax
+use Rattle.jr_grammar.specs.Layout.{itself}
 use Rattle.jr_table.specs.Decls.{Decl}
 use Rattle.jr_names.specs.declared.steps.Step.TheVariants as step
 use Rattle.jr_names.specs.Refusals.{Refusal, no_such_file, bad_place, bad_name, source_error, would_not_compile, too_long}
 use Rattle.jr_names.specs.Replies.{Reply, refused}
 use Rattle.jr_members.specs.WrittenLaws.{MembersAreWritten}
-use Rattle.jr_bind.specs.Programs.{File, Program}
+use Rattle.jr_bind.specs.Programs.{File, Program, units_of}
 use Rattle.jr_places.specs.PlaceLaws.{PartsArePlaced}
+use Rattle.jr_rewrite.specs.Rewritten.{Rewritten}
+use Rattle.jr_rename.specs.ImageLaws.{RenamingsStayFair}
+use Rattle.jr_rename.specs.Images.{Renaming}
+use Rattle.jr_rename.specs.Renames as renames
+use Rattle.jr_rename.specs.TextLaws.{RowsAreNamed, NamesHaveNoDot}
 use Rattle.jr_target.specs.TargetLaws.{OneIsTarget}
-use Rattle.jr_one_plan.specs.OnePlan.{PlanIsOne, RefusesSo, PlansSo}
+use Rattle.jr_one_plan.specs.OnePlan.{PlanIsOne, RewritingIsOne, RefusesSo, PlansSo}
 use Rattle.jr_sources.specs.Asking.{CanStand}
 use Rattle.jr_sources.specs.BindingErrors.{IsFirstWrong}
 use Rattle.jr_sources.specs.ReadingLaws.{HasOneReading}
@@ -25,15 +32,31 @@ use Rattle.jr_session.specs.NewTexts.{with_edits}
 use Rattle.jr_session.specs.Renaming as why
 use Rattle.jr_session.specs.Renaming.{IsAsked, IsPosed, IsPlan, IsShort, IsRefusedRename, IsRenamed}
 use Rattle.jr_session.specs.RenameReasons as reason
-use Rattle.jr_session.specs.RenameReasons.{IsPlanReason, IsReason, IsFirstReason}
+use Rattle.jr_session.specs.RenameReasons.{Targets, IsPlanReason, WouldEdit, IsReason, IsFirstReason}
 use Rattle.jr_session.specs.States.{State}
 use Rattle.jr_session.specs.Stepping.{Steps}
 use Rattle.jr_session.proofs.EditLaws.{one_file, text_of_file}
-use Rattle.jr_session.proofs.OneRename.{Reasons, FromPlan, NoFile, NoPlace, NoName, IsWrong, ByPlan, IsLong, WouldBreak, reasons, no_file_out, no_place_out, wrong_one, wrong_out, same_files, once, one_plan, long_one, long_out, breaks_one}
+use Rattle.jr_session.proofs.OneRename.{Reasons, FromPlan, NoFile, NoPlace, NoName, IsWrong, ByPlan, IsLong, WouldBreak, reasons, no_file_out, no_place_out, wrong_one, wrong_out, same_files, once, long_one, long_out, breaks_one}
 use Rattle.jr_session.proofs.OneStep.{Renames, rename_answers}
 use Rattle.jr_session.proofs.PlanReasons as plans
 use Rattle.jr_session.proofs.PlanReasons.{ranked, of_same, refused_rank, reason_rank, reason_of}
 use Rattle.jr_session.proofs.Planning.{file as file_there}
+
+-- the edits of a plan are those of the target renamed
+would_edit : (s : State) (file : List ℕ) (at : ℕ) (new : List ℕ) (edits : List (List Entry)) (respelled : ℕ) → IsPlan s file at new edits respelled → WouldEdit s file at new edits
+would_edit s file at new edits respelled h = record {
+  p = h.p;
+  number = h.number;
+  text = h.text;
+  stands = h.posed.asked.stands;
+  program = h.posed.program;
+  target = h.planned.target;
+  g = h.planned.g;
+  is = h.planned.renames;
+  files = h.planned.files;
+  rewrite = h.planned.rewrite;
+  edits_are = h.planned.edits_are;
+}
 
 -- what it is refused for is a reason
 reason_for : (s : State) (file : List ℕ) (at : ℕ) (new : List ℕ) (r : Refusal) → IsRefusedRename s file at new r → IsReason s file at new r
@@ -42,10 +65,11 @@ reason_for s file at new r (why.at_no_place number text stands no_place e) = rea
 reason_for s file at new r (why.no_name number text stands place no_name e) = reason.no_name no_name e
 reason_for s file at new r (why.wrong number text name place kind asked first e) = reason.wrong name place kind first e
 reason_for s file at new r (why.by_plan p number text posed is) = reason.by_plan p number text posed.asked.stands posed.program (reason_of p file at text number at new r is)
-reason_for s file at new r (why.long edits respelled len plan too e) = reason.long edits respelled len plan too e
-reason_for s file at new r (why.breaks edits respelled number place name kind short named first e) = reason.breaks edits respelled number place name kind short.plan named first e
+reason_for s file at new r (why.long edits respelled len plan too e) = reason.long edits len (would_edit s file at new edits respelled plan) too e
+reason_for s file at new r (why.breaks edits respelled number place name kind short named first e) = reason.breaks edits number place name kind (would_edit s file at new edits respelled short.plan) named first e
 
-module _ (reading : HasOneReading) (items_once : OneItems) (placed : PartsArePlaced) (law : MembersAreWritten Span) (plan_once : PlanIsOne) (targets : OneIsTarget) (s : State) (file : List ℕ) (at : ℕ) (new : List ℕ) (differ : Differ s.files) where
+module _ (reading : HasOneReading) (items_once : OneItems) (placed : PartsArePlaced) (law : MembersAreWritten Span) (plan_once : PlanIsOne) (targets : OneIsTarget) (fair_law : RenamingsStayFair Span) (named_law : RowsAreNamed Span) (dots : NamesHaveNoDot) (rewriting : RewritingIsOne)
+    (s : State) (file : List ℕ) (at : ℕ) (new : List ℕ) (differ : Differ s.files) where
   abbrev rank : Refusal → ℕ
   rank r = ranked file at new r
 
@@ -121,6 +145,22 @@ module _ (reading : HasOneReading) (items_once : OneItems) (placed : PartsArePla
         (plans.planned_against law targets p q g.program.is is.is files_same n at new the_file.0 the_file.1 file at edits renaming respelled x) u (reason_here x v) in
         (once reading items_once placed law plan_once s file at new differ p q n m a b g also).apart edits renaming respelled x u w
 
+    targets_here : (d : Decl) (h : Renaming) → Targets q b m at new d h → Targets q a n at new d h
+    targets_here d h x =
+        let same = one_file s.files n m file a b differ g.asked.stands stands in
+        subst (λ (k : ℕ). Targets q a k at new d h) (sym same.0) (subst (λ (t : List ℕ). Targets q t m at new d h) (sym same.1) x)
+
+    edits_against : (edits : List (List Entry)) (renaming : List (Decl × Decl)) (respelled : ℕ) → PlansSo a n at new p edits renaming respelled → (d : Decl) (h : Renaming) → Targets q b m at new d h
+        → (files : List (Rewritten (syntax.Unit Span))) → renames.Rewrite itself q.rows q.super_at (units_of q) h files → edits ≡ map (λ (o : Rewritten (syntax.Unit Span)). renames.entries_from 0 o.changes) files
+    edits_against edits renaming respelled u d h x =
+        subst (λ (t : List ℕ). PlansSo t n at new p edits renaming respelled → Targets q t n at new d h → (files : List (Rewritten (syntax.Unit Span))) → renames.Rewrite itself q.rows q.super_at (units_of q) h files
+        → edits ≡ map (λ (o : Rewritten (syntax.Unit Span)). renames.entries_from 0 o.changes) files) the_file.2
+        (λ v y. plans.files_against law targets p q g.program.is is.is files_same n at new the_file.0 the_file.1 file at fair_law named_law dots rewriting g.asked.name edits renaming respelled v d h y) u (targets_here d h x)
+
+  -- the edits that there would be are those of the plan
+  plan_to : (es fs : List (List Entry)) (n : ℕ) → IsPlan s file at new es n → WouldEdit s file at new fs → es ≡ fs
+  plan_to es fs n h w = edits_against h.p w.p h.number w.number h.text w.text h.posed w.stands w.program es h.renaming n h.planned w.target w.g w.is w.files w.rewrite ∙ sym w.edits_are
+
   never_planned : (edits : List (List Entry)) (respelled : ℕ) → IsPlan s file at new edits respelled → (q : Program Span) (m : ℕ) (b : List ℕ) → IsFile s.files m file b → IsProgramOf s.files q → (x : Refusal) → IsPlanReason q b m at new x → ⊥
   never_planned edits respelled h q m b stands is x v = against_planned h.p q h.number m h.text b h.posed stands is edits h.renaming respelled x h.planned v
 
@@ -131,24 +171,29 @@ module _ (reading : HasOneReading) (items_once : OneItems) (placed : PartsArePla
 
   -- ---- those of the new texts
 
-  against_long : (r x : Refusal) → (rank r ≤ 8) ⊎ FromPlan s file at new r → IsLong s file at new x → Against r x
-  against_long r x (inl le) v = let e = is_rank x (too_long v.2) v.5 in inl (omega (arith, le, e))
-  against_long r x (inr (inl g)) v = let le = refused_rank g.0 file at g.2 g.1 at new r g.4 in let e = is_rank x (too_long v.2) v.5 in inl (omega (arith, le, e))
-  against_long r x (inr (inr (h, inl g))) v = inr (long_one reading items_once placed law plan_once s file at new differ r x g v)
-  against_long r x (inr (inr (h, inr (short, g)))) v = absurd (long_out reading items_once placed law plan_once s file at new differ x v short)
+  module _ (x : Refusal) (fs : List (List Entry)) (would : WouldEdit s file at new fs) where
+    module _ (len : ℕ) (too : AreTooLong (texts_of (with_edits s.files fs)) len) (e : x ≡ too_long len) where
+      is_long : (es : List (List Entry)) (n : ℕ) → IsPlan s file at new es n → IsLong s file at new x
+      is_long es n h = (fs, n, len, subst (λ (gs : List (List Entry)). IsPlan s file at new gs n) (plan_to es fs n h would) h, too, e)
 
-  -- the plan's new texts are short where those of a plan are
-  short_to : (a b : List (List Entry)) (n m : ℕ) → IsShort s file at new a n → IsPlan s file at new b m → IsShort s file at new b m
-  short_to a b n m g h =
-      let same = one_plan reading items_once placed law plan_once s file at new differ a b n m g.plan h in
-      subst (λ (k : ℕ). IsShort s file at new b k) same.1 (subst (λ (es : List (List Entry)). IsShort s file at new es n) same.0 g)
+      never_short : (es : List (List Entry)) (n : ℕ) → IsShort s file at new es n → ⊥
+      never_short es n h = long_out reading items_once placed law plan_once s file at new differ x (is_long es n h.plan) (es, n, h)
 
-  module _ (x : Refusal) (es : List (List Entry)) (m i k : ℕ) (f kind : List ℕ) (plan : IsPlan s file at new es m) (named : HasName s.files i f) (first : IsFirstWrong (with_edits s.files es) f k kind) (e : x ≡ would_not_compile (record { file = i; at = k }) kind) where
-    against_break : (r : Refusal) → (rank r ≤ 8) ⊎ FromPlan s file at new r → Against r x
-    against_break r (inl le) = let j = is_rank x (would_not_compile (record { file = i; at = k }) kind) e in inl (omega (arith, le, j))
-    against_break r (inr (inl g)) = let le = refused_rank g.0 file at g.2 g.1 at new r g.4 in let j = is_rank x (would_not_compile (record { file = i; at = k }) kind) e in inl (omega (arith, le, j))
-    against_break r (inr (inr (h, inl g))) = let l = is_rank r (too_long g.2) g.5 in let j = is_rank x (would_not_compile (record { file = i; at = k }) kind) e in inl (omega (arith, l, j))
-    against_break r (inr (inr (h, inr (short, g)))) = inr (breaks_one reading items_once placed law plan_once s file at new differ r x g (es, m, i, k, f, kind, short_to g.0 es g.1 m g.6 plan, named, first, e))
+      against_long : (r : Refusal) → (rank r ≤ 8) ⊎ FromPlan s file at new r → Against r x
+      against_long r (inl le) = let j = is_rank x (too_long len) e in inl (omega (arith, le, j))
+      against_long r (inr (inl g)) = let le = refused_rank g.0 file at g.2 g.1 at new r g.4 in let j = is_rank x (too_long len) e in inl (omega (arith, le, j))
+      against_long r (inr (inr (h, inl g))) = inr (long_one reading items_once placed law plan_once s file at new differ r x g (is_long g.0 g.1 g.3))
+      against_long r (inr (inr (h, inr (short, g)))) = absurd (never_short short.0 short.1 short.2)
+
+    module _ (i k : ℕ) (f kind : List ℕ) (named : HasName s.files i f) (first : IsFirstWrong (with_edits s.files fs) f k kind) (e : x ≡ would_not_compile (record { file = i; at = k }) kind) where
+      is_break : (es : List (List Entry)) (n : ℕ) → IsShort s file at new es n → WouldBreak s file at new x
+      is_break es n h = (fs, n, i, k, f, kind, subst (λ (gs : List (List Entry)). IsShort s file at new gs n) (plan_to es fs n h.plan would) h, named, first, e)
+
+      against_break : (r : Refusal) → (rank r ≤ 8) ⊎ FromPlan s file at new r → Against r x
+      against_break r (inl le) = let j = is_rank x (would_not_compile (record { file = i; at = k }) kind) e in inl (omega (arith, le, j))
+      against_break r (inr (inl g)) = let le = refused_rank g.0 file at g.2 g.1 at new r g.4 in let j = is_rank x (would_not_compile (record { file = i; at = k }) kind) e in inl (omega (arith, le, j))
+      against_break r (inr (inr (h, inl g))) = let l = is_rank r (too_long g.2) g.5 in let j = is_rank x (would_not_compile (record { file = i; at = k }) kind) e in inl (omega (arith, l, j))
+      against_break r (inr (inr (h, inr (short, g)))) = inr (breaks_one reading items_once placed law plan_once s file at new differ r x g (is_break g.0 g.1 g.6))
 
   -- ---- all of them
 
@@ -158,8 +203,8 @@ module _ (reading : HasOneReading) (items_once : OneItems) (placed : PartsArePla
   against r q u (reason.no_name no_name e) = against_name r q (reasons s file at new r u) (no_name, e)
   against r q u (reason.wrong name place kind first e) = against_wrong r q (reasons s file at new r u) (name, place, kind, first, e)
   against r q u (reason.by_plan p number text stands is v) = against_plan r q (split r (reasons s file at new r u)) p number text stands is v
-  against r q u (reason.long edits respelled len plan too e) = against_long r q (split r (reasons s file at new r u)) (edits, respelled, len, plan, too, e)
-  against r q u (reason.breaks edits respelled number place name kind plan named first e) = against_break q edits respelled number place name kind plan named first e r (split r (reasons s file at new r u))
+  against r q u (reason.long edits len would too e) = against_long q edits would len too e r (split r (reasons s file at new r u))
+  against r q u (reason.breaks edits number place name kind would named first e) = against_break q edits would number place name kind named first e r (split r (reasons s file at new r u))
 
   module _ (names : List (List ℕ)) (respelled : ℕ) (t : State) (h : IsRenamed s file at new names respelled t) where
     abbrev the_plan : IsPlan s file at new h.edits respelled
@@ -171,10 +216,9 @@ module _ (reading : HasOneReading) (items_once : OneItems) (placed : PartsArePla
     done_not q (reason.no_name no_name e) = no_name the_plan.posed.asked.name
     done_not q (reason.wrong name place kind first e) = wrong_out reading items_once placed law plan_once s file at new differ q (name, place, kind, first, e) (the_plan.p, the_plan.posed.program)
     done_not q (reason.by_plan p number text stands is v) = never_planned h.edits respelled the_plan p number text stands is q v
-    done_not q (reason.long edits n len plan too e) = long_out reading items_once placed law plan_once s file at new differ q (edits, n, len, plan, too, e) (h.edits, respelled, h.short)
-    done_not q (reason.breaks edits n number place name kind plan named first e) =
-        let same = one_plan reading items_once placed law plan_once s file at new differ edits h.edits n respelled plan the_plan in
-        h.sound name place kind (subst (λ (es : List (List Entry)). IsFirstWrong (with_edits s.files es) name place kind) same.0 first)
+    done_not q (reason.long edits len would too e) = never_short q edits would len too e h.edits respelled h.short
+    done_not q (reason.breaks edits number place name kind would named first e) =
+        h.sound name place kind (subst (λ (es : List (List Entry)). IsFirstWrong (with_edits s.files es) name place kind) (sym (plan_to h.edits edits respelled the_plan would)) first)
 
   pub refused_first : (reply : Reply) (t : State) → Steps s (step.Rename file at new) reply t → (r : Refusal) → (reply ≡ refused r) ↔ IsFirstReason s file at new r
   refused_first reply t steps r = (to, by (rename_answers s file at new reply t steps))

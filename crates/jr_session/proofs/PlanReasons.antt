@@ -1,10 +1,12 @@
 -- A reason of a plan, against what was found of the plan by another program of the same files.
-use Rattle.std.proofs.Common.{◌≡◌, ◌⊎◌, ℕ, ◌<◌, ◌≤◌, List, true, sym, ap, subst, ◌∙◌, inl, inr, arith}
+use Rattle.std.proofs.Common.{◌≡◌, ◌⊎◌, ℕ, ◌<◌, ◌≤◌, List, map, refl, true, sym, ap, subst, ◌∙◌, inl, inr, arith}
 use Rattle.std.specs.Prelude.{Some, slice_get}
 use Rattle.jr_text.specs.declared.spans.Span.{Span}
 use Rattle.jr_text.specs.Edits.{Entry}
+use Rattle.jr_lex.specs.Replacing.{IsName}
 use Rattle.jr_ast.specs.MemberTree as syntax
 use Rattle.jr_grammar.specs.Layout.{itself}
+use Rattle.jr_grammar.specs.Reads.{Reads}
 use Rattle.jr_table.specs.Decls.{MemberKey, Decl}
 use Rattle.jr_table.specs.Keys.{ClassKey, MethodKey}
 use Rattle.jr_table.specs.Errors.{Part}
@@ -15,15 +17,19 @@ use Rattle.jr_bind.specs.Bounds.{Bound}
 use Rattle.jr_bind.specs.Programs.{File, Program, units_of}
 use Rattle.jr_bind.specs.SuperPlaces.{writes_super}
 use Rattle.jr_places.specs.FileParts.{begins}
+use Rattle.jr_rewrite.specs.Rewritten.{Rewritten}
 use Rattle.jr_rename.specs.Clashes.{IsClear}
 use Rattle.jr_rename.specs.Families.{AreRenamed}
+use Rattle.jr_rename.specs.ImageLaws.{RenamingsStayFair}
 use Rattle.jr_rename.specs.Images.{Renaming}
 use Rattle.jr_rename.specs.Refusals.{ChangesDispatch}
+use Rattle.jr_rename.specs.RenameLaws.{IsFair}
 use Rattle.jr_rename.specs.Renames as renames
+use Rattle.jr_rename.specs.TextLaws.{RowsAreNamed, NamesHaveNoDot}
 use Rattle.jr_target.specs.TargetLaws.{OneIsTarget}
-use Rattle.jr_one_plan.specs.OnePlan.{AreAlike, PlansSo, RefusesSo}
+use Rattle.jr_one_plan.specs.OnePlan.{AreAlike, RewritingIsOne, PlansSo, RefusesSo}
 use Rattle.jr_one_plan.proofs.Alike.{renamed_alike}
-use Rattle.jr_one_plan.proofs.OneProgram.{beside, IsWhole, is_beside, super_same, target_to}
+use Rattle.jr_one_plan.proofs.OneProgram.{beside, IsWhole, file_at, is_beside, super_same, target_to}
 use Rattle.jr_one_plan.proofs.OneRefusal.{change_to}
 use Rattle.jr_session.specs.Refusing.{rank_of}
 use Rattle.jr_session.specs.RenameReasons as reason
@@ -132,6 +138,25 @@ module _ (p : Program Span) (t : MemberKey → ℕ) (bs : List Bound) (program :
   planned_so edits renaming respelled q u (reason.overrides e h y a) = renames.overrides y (spares_to u.target e u.g h u.renames y u.no_prelude) (clear_to u.target e u.g h u.renames y u.clear) a
   planned_so edits renaming respelled q u (reason.loses e h y a) = renames.loses y (spares_to u.target e u.g h u.renames y u.no_prelude) (clear_to u.target e u.g h u.renames y u.clear) (keeps_to u.target e u.g h u.renames y u.dispatch) a
 
+  -- ---- a plan's files are those of the target renamed, in whatever order
+
+  module _ (also : IsWhole (beside p t bs)) (fair_law : RenamingsStayFair Span) (named : RowsAreNamed Span) (dots : NamesHaveNoDot) (rewriting : RewritingIsOne) (word : IsName new) where
+    reads : (n : ℕ) (unit : syntax.Unit Span) → slice_get units n ≡ Some unit → (bytes : List ℕ) × Reads bytes unit
+    reads n unit e =
+        let x = file_at p n unit e in
+        let r = program.reads n x.0 x.1 in
+        (x.0.text, subst (Reads x.0.text) x.2 (record { items = r.items; lexes = r.lexes; is = r.is }))
+
+    fair : (d : Decl) (g : Renaming) → Targets p f.text number at new d g → ((z : Refusal) → renames.OfPrelude itself p.rows p.super_at units d new z → ⊥) → IsClear begins p.rows units d new → IsFair p.rows g
+    fair d g x spares clear = fair_law begins p.rows units d g program.are_rows program.rows x.renamed x.target.own (λ w h. spares (prelude_method w) (w, inl h, refl))
+        (subst (λ (n : List ℕ). IsClear begins p.rows units d n) (sym x.name) clear) (named begins p.rows units reads program.rows).1 (dots g.name (subst (λ (n : List ℕ). IsName n) (sym x.name) word))
+
+    files_so : (edits : List (List Entry)) (renaming : List (Decl × Decl)) (respelled : ℕ) → (u : PlansSo f.text number at new p edits renaming respelled) → (e : Decl) (h : Renaming) → Targets other f.text number at new e h
+        → (files : List (Rewritten (syntax.Unit Span))) → renames.Rewrite itself p.rows t units h files → edits ≡ map (λ (o : Rewritten (syntax.Unit Span)). renames.entries_from 0 o.changes) files
+    files_so edits renaming respelled u e h y files w =
+        let same_files = rewriting p other program also refl u.g h (alike u.target e u.g h u.renames y) (fair u.target u.g u.renames u.no_prelude u.clear) u.files files u.rewrite w in
+        u.edits_are ∙ ap (map (λ (o : Rewritten (syntax.Unit Span)). renames.entries_from 0 o.changes)) same_files
+
 module _ (law : MembersAreWritten Span) (targets : OneIsTarget) (p q : Program Span) (is : IsWhole p) (also : IsWhole q) (same : p.files ≡ q.files) (number at : ℕ) (new : List ℕ) (f : File Span) (stands : slice_get p.files number ≡ Some f) (name : List ℕ) (place : ℕ) where
   next_to : beside p q.super_at q.bounds ≡ q
   next_to = is_beside p q is also same
@@ -146,3 +171,9 @@ module _ (law : MembersAreWritten Span) (targets : OneIsTarget) (p q : Program S
   pub planned_against : (edits : List (List Entry)) (renaming : List (Decl × Decl)) (respelled : ℕ) (x : Refusal) → PlansSo f.text number at new p edits renaming respelled → IsPlanReason q f.text number at new x → RefusesSo f.text number at new q x
   planned_against = subst (λ (z : Program Span). (edits : List (List Entry)) (renaming : List (Decl × Decl)) (respelled : ℕ) (x : Refusal) → PlansSo f.text number at new p edits renaming respelled → IsPlanReason z f.text number at new x → RefusesSo f.text number at new z x) next_to
       (λ edits renaming respelled x. planned_so p q.super_at q.bounds is targets supers_are number at new f stands name place edits renaming respelled x)
+
+  pub files_against : RenamingsStayFair Span → RowsAreNamed Span → NamesHaveNoDot → RewritingIsOne → IsName new → (edits : List (List Entry)) (renaming : List (Decl × Decl)) (respelled : ℕ) → PlansSo f.text number at new p edits renaming respelled → (e : Decl) (h : Renaming)
+      → Targets q f.text number at new e h → (files : List (Rewritten (syntax.Unit Span))) → renames.Rewrite itself q.rows q.super_at (units_of q) h files → edits ≡ map (λ (o : Rewritten (syntax.Unit Span)). renames.entries_from 0 o.changes) files
+  files_against fair_law named dots rewriting word edits renaming respelled u = subst (λ (z : Program Span). (e : Decl) (h : Renaming) → Targets z f.text number at new e h → (files : List (Rewritten (syntax.Unit Span))) → renames.Rewrite itself z.rows z.super_at (units_of z) h files
+      → edits ≡ map (λ (o : Rewritten (syntax.Unit Span)). renames.entries_from 0 o.changes) files) next_to
+      (λ e h. files_so p q.super_at q.bounds is targets supers_are number at new f stands name place (subst IsWhole (sym next_to) also) fair_law named dots rewriting word edits renaming respelled u e h)

@@ -3,8 +3,9 @@ ghost use Rattle.jr_session.specs.StepLaws.{HasOneAnswer, HasOneShow, RenamesAre
 
 use jr_lex::one_answer;
 use jr_members::members_are_written;
-use jr_one_plan::plan_is_one;
+use jr_one_plan::{plan_is_one, rewriting_is_one};
 use jr_places::parts_are_placed;
+use jr_rename::{renamings_stay_fair, rows_are_named};
 use jr_shown::lines_are_told;
 use jr_sources::text_has_one_reading;
 use jr_target::one_is_target;
@@ -35,4 +36,7 @@ pub fn renames_are_refused_first()
     members_are_written::<Span>();
     plan_is_one();
     one_is_target();
+    renamings_stay_fair::<Span>();
+    rows_are_named::<Span>();
+    rewriting_is_one();
 }
