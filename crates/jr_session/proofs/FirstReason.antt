@@ -4,7 +4,6 @@ use Rattle.std.specs.Prelude.{Some, slice_get}
 use Rattle.std.proofs.lemmas.Option.{slice_get_within, same_Some}
 use Rattle.jr_text.specs.declared.spans.Span.{Span}
 use Rattle.jr_text.specs.Edits.{Entry}
-use Rattle.jr_lex.specs.Replacing.{IsName}
 use Rattle.jr_ast.specs.MemberTree as syntax
 use Rattle.jr_grammar.specs.Layout.{itself}
 use Rattle.jr_table.specs.Decls.{Decl}
@@ -30,13 +29,13 @@ use Rattle.jr_sources.proofs.Analysing.{OneItems}
 use Rattle.jr_session.specs.Lengths.{AreTooLong}
 use Rattle.jr_session.specs.NewTexts.{with_edits}
 use Rattle.jr_session.specs.Renaming as why
-use Rattle.jr_session.specs.Renaming.{IsAsked, IsPosed, IsPlan, IsShort, IsRefusedRename, IsRenamed}
+use Rattle.jr_session.specs.Renaming.{IsPosed, IsPlan, IsShort, IsRefusedRename, IsRenamed}
 use Rattle.jr_session.specs.RenameReasons as reason
 use Rattle.jr_session.specs.RenameReasons.{Targets, IsPlanReason, WouldEdit, IsReason, IsFirstReason}
 use Rattle.jr_session.specs.States.{State}
 use Rattle.jr_session.specs.Stepping.{Steps}
 use Rattle.jr_session.proofs.EditLaws.{one_file, text_of_file}
-use Rattle.jr_session.proofs.OneRename.{Reasons, FromPlan, NoFile, NoPlace, NoName, IsWrong, ByPlan, IsLong, WouldBreak, reasons, no_file_out, no_place_out, wrong_one, wrong_out, same_files, once, long_one, long_out, breaks_one}
+use Rattle.jr_session.proofs.OneRename.{Reasons, FromPlan, NoFile, NoPlace, NoName, IsWrong, IsLong, WouldBreak, reasons, no_file_out, no_place_out, wrong_one, wrong_out, same_files, once, long_one, long_out, breaks_one}
 use Rattle.jr_session.proofs.OneStep.{Renames, rename_answers}
 use Rattle.jr_session.proofs.PlanReasons as plans
 use Rattle.jr_session.proofs.PlanReasons.{ranked, of_same, refused_rank, reason_rank, reason_of}

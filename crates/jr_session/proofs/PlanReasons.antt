@@ -33,7 +33,7 @@ use Rattle.jr_one_plan.proofs.OneProgram.{beside, IsWhole, file_at, is_beside, s
 use Rattle.jr_one_plan.proofs.OneRefusal.{change_to}
 use Rattle.jr_session.specs.Refusing.{rank_of}
 use Rattle.jr_session.specs.RenameReasons as reason
-use Rattle.jr_session.specs.RenameReasons.{Targets, IsPlanReason, rank}
+use Rattle.jr_session.specs.RenameReasons.{Targets, IsPlanReason}
 
 -- ---- ranks
 
