@@ -13,6 +13,8 @@ pub mod OneFault
 pub mod OneWrong
 pub mod OneRename
 pub mod OneStep
+pub mod PlanReasons
+pub mod FirstReason
 pub mod ShownLines
 pub mod ShowSteps
 pub mod Showing

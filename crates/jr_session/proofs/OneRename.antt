@@ -33,13 +33,13 @@ use Rattle.jr_session.proofs.Planning.{file as file_there}
 -- ---- one reason after the other
 
 -- it is refused for the reason, or else that is passed and it is refused for one of the rest
-abbrev Then : (Refusal → Type 0) → (Passed : Type 0) → (Refusal → Type 0) → Refusal → Type 0
+abbrev pub Then : (Refusal → Type 0) → (Passed : Type 0) → (Refusal → Type 0) → Refusal → Type 0
 Then Here Passed Rest r = Here r ⊎ (Passed × Rest r)
 
-abbrev IsOne : (Refusal → Type 0) → Type 0
+abbrev pub IsOne : (Refusal → Type 0) → Type 0
 IsOne R = (r q : Refusal) → R r → R q → r ≡ q
 
-abbrev RulesOut : (Refusal → Type 0) → Type 0 → Type 0
+abbrev pub RulesOut : (Refusal → Type 0) → Type 0 → Type 0
 RulesOut R P = (r : Refusal) → R r → P → ⊥
 
 module _ (Here : Refusal → Type 0) (Passed : Type 0) (Rest : Refusal → Type 0) (apart : RulesOut Here Passed) where
@@ -56,62 +56,62 @@ module _ (Here : Refusal → Type 0) (Passed : Type 0) (Rest : Refusal → Type 
 -- ---- the reasons of a rename
 
 module _ (s : State) (file : List ℕ) (at : ℕ) (new : List ℕ) where
-  abbrev HasFile : Type 0
+  abbrev pub HasFile : Type 0
   HasFile = (number : ℕ) × (text : List ℕ) × IsFile s.files number file text
 
-  abbrev HasPlace : Type 0
+  abbrev pub HasPlace : Type 0
   HasPlace = (number : ℕ) × (text : List ℕ) × IsFile s.files number file text × CanStand text at
 
-  abbrev HasProgram : Type 0
+  abbrev pub HasProgram : Type 0
   HasProgram = (p : Program Span) × IsProgramOf s.files p
 
-  abbrev HasPlan : Type 0
+  abbrev pub HasPlan : Type 0
   HasPlan = (edits : List (List Entry)) × (respelled : ℕ) × IsPlan s file at new edits respelled
 
-  abbrev StaysShort : Type 0
+  abbrev pub StaysShort : Type 0
   StaysShort = (edits : List (List Entry)) × (respelled : ℕ) × IsShort s file at new edits respelled
 
-  abbrev IsDone : Type 0
+  abbrev pub IsDone : Type 0
   IsDone = (names : List (List ℕ)) × (respelled : ℕ) × (t : State) × IsRenamed s file at new names respelled t
 
-  abbrev NoFile : Refusal → Type 0
+  abbrev pub NoFile : Refusal → Type 0
   NoFile r = LacksFile s.files file × (r ≡ no_such_file file)
 
-  abbrev NoPlace : Refusal → Type 0
+  abbrev pub NoPlace : Refusal → Type 0
   NoPlace r = (number : ℕ) × (text : List ℕ) × IsFile s.files number file text × (CanStand text at → ⊥) × (r ≡ bad_place file at)
 
-  abbrev NoName : Refusal → Type 0
+  abbrev pub NoName : Refusal → Type 0
   NoName r = (IsName new → ⊥) × (r ≡ bad_name new)
 
-  abbrev IsWrong : Refusal → Type 0
+  abbrev pub IsWrong : Refusal → Type 0
   IsWrong r = (name : List ℕ) × (place : ℕ) × (kind : List ℕ) × IsFirstWrong s.files name place kind × (r ≡ source_error name place kind)
 
-  abbrev ByPlan : Refusal → Type 0
+  abbrev pub ByPlan : Refusal → Type 0
   ByPlan r = (p : Program Span) × (number : ℕ) × (text : List ℕ) × IsPosed s file at new p number text × renames.IsRefused itself p.rows p.super_at (units_of p) text number at new r
 
-  abbrev IsLong : Refusal → Type 0
+  abbrev pub IsLong : Refusal → Type 0
   IsLong r = (edits : List (List Entry)) × (respelled : ℕ) × (len : ℕ) × IsPlan s file at new edits respelled × AreTooLong (texts_of (with_edits s.files edits)) len × (r ≡ too_long len)
 
-  abbrev WouldBreak : Refusal → Type 0
+  abbrev pub WouldBreak : Refusal → Type 0
   WouldBreak r = (edits : List (List Entry)) × (respelled : ℕ) × (number : ℕ) × (place : ℕ) × (name : List ℕ) × (kind : List ℕ) × IsShort s file at new edits respelled × HasName s.files number name
       × IsFirstWrong (with_edits s.files edits) name place kind × (r ≡ would_not_compile (record { file = number; at = place }) kind)
 
-  abbrev FromLong : Refusal → Type 0
+  abbrev pub FromLong : Refusal → Type 0
   FromLong = Then IsLong StaysShort WouldBreak
 
-  abbrev FromPlan : Refusal → Type 0
+  abbrev pub FromPlan : Refusal → Type 0
   FromPlan = Then ByPlan HasPlan FromLong
 
-  abbrev FromWrong : Refusal → Type 0
+  abbrev pub FromWrong : Refusal → Type 0
   FromWrong = Then IsWrong HasProgram FromPlan
 
-  abbrev FromName : Refusal → Type 0
+  abbrev pub FromName : Refusal → Type 0
   FromName = Then NoName (IsName new) FromWrong
 
-  abbrev FromPlace : Refusal → Type 0
+  abbrev pub FromPlace : Refusal → Type 0
   FromPlace = Then NoPlace HasPlace FromName
 
-  abbrev Reasons : Refusal → Type 0
+  abbrev pub Reasons : Refusal → Type 0
   Reasons = Then NoFile HasFile FromPlace
 
   -- an asked rename is past the first three
@@ -121,7 +121,7 @@ module _ (s : State) (file : List ℕ) (at : ℕ) (new : List ℕ) where
   planned : (edits : List (List Entry)) (respelled : ℕ) → IsPlan s file at new edits respelled → (r : Refusal) → FromLong r → Reasons r
   planned edits respelled h r rest = asked h.number h.text h.posed.asked r (inr ((h.p, h.posed.program), inr ((edits, respelled, h), rest)))
 
-  reasons : (r : Refusal) → IsRefusedRename s file at new r → Reasons r
+  pub reasons : (r : Refusal) → IsRefusedRename s file at new r → Reasons r
   reasons r (why.no_file lacks e) = inl (lacks, e)
   reasons r (why.at_no_place number text stands no_place e) = inr ((number, text, stands), inl (number, text, stands, no_place, e))
   reasons r (why.no_name number text stands place no_name e) = inr ((number, text, stands), inr ((number, text, stands, place), inl (no_name, e)))
@@ -147,13 +147,13 @@ module _ (reading : HasOneReading) (items_once : OneItems) (placed : PartsArePla
   no_file_one : IsOne (NoFile s file at new)
   no_file_one r q g h = g.1 ∙ sym h.1
 
-  no_file_out : RulesOut (NoFile s file at new) (HasFile s file at new)
+  pub no_file_out : RulesOut (NoFile s file at new) (HasFile s file at new)
   no_file_out r g h = lacks_none s.files h.0 file h.1 g.0 h.2
 
   no_place_one : IsOne (NoPlace s file at new)
   no_place_one r q g h = g.4 ∙ sym h.4
 
-  no_place_out : RulesOut (NoPlace s file at new) (HasPlace s file at new)
+  pub no_place_out : RulesOut (NoPlace s file at new) (HasPlace s file at new)
   no_place_out r g h = g.3 (subst (λ (t : List ℕ). CanStand t at) (one_file s.files h.0 g.0 file h.1 g.1 differ h.2 g.2).1 h.3)
 
   no_name_one : IsOne (NoName s file at new)
@@ -162,25 +162,25 @@ module _ (reading : HasOneReading) (items_once : OneItems) (placed : PartsArePla
   no_name_out : RulesOut (NoName s file at new) (IsName new)
   no_name_out r g h = g.0 h
 
-  wrong_one : IsOne (IsWrong s file at new)
+  pub wrong_one : IsOne (IsWrong s file at new)
   wrong_one r q g h =
       let same = one_wrong reading s.files g.0 h.0 g.1 h.1 g.2 h.2 g.3 h.3 in
       g.4 ∙ (λ i. source_error (same.0 i) (same.1 i) (same.2 i)) ∙ sym h.4
 
-  wrong_out : RulesOut (IsWrong s file at new) (HasProgram s file at new)
+  pub wrong_out : RulesOut (IsWrong s file at new) (HasProgram s file at new)
   wrong_out r g h = none_wrong reading items_once placed law s.files h.0 h.1 g.0 g.1 g.2 g.3
 
   -- ---- the plan
 
   -- the programs of sources have the same files
-  same_files : (p q : Program Span) → IsProgramOf s.files p → IsProgramOf s.files q → p.files ≡ q.files
+  pub same_files : (p q : Program Span) → IsProgramOf s.files p → IsProgramOf s.files q → p.files ≡ q.files
   same_files p q g h = g.files ∙ ap (files_of s.files) (read_once reading s.files g.units h.units g.words h.words g.program.read h.program.read).0 ∙ sym h.files
 
   module _ (p q : Program Span) (n m : ℕ) (a b : List ℕ) (g : IsPosed s file at new p n a) (h : IsPosed s file at new q m b) where
     same_asked : (n ≡ m) × (a ≡ b)
     same_asked = one_file s.files n m file a b differ g.asked.stands h.asked.stands
 
-    once : HasOnePlan a n at new p q
+    pub once : HasOnePlan a n at new p q
     once =
         let has = text_of_file s.files n file a g.asked.stands in
         let f = file_there s.files p g.program n at new (slice_get_within s.files n (record { name = file; text = a }) g.asked.stands) in
@@ -204,23 +204,23 @@ module _ (reading : HasOneReading) (items_once : OneItems) (placed : PartsArePla
   by_plan_out r g (edits, respelled, h) =
       (once h.p g.0 h.number g.1 h.text g.2 h.posed g.3).apart edits h.renaming respelled r h.planned (refused_here h.p g.0 h.number g.1 h.text g.2 h.posed g.3 r g.4)
 
-  one_plan : (a b : List (List Entry)) (n m : ℕ) → IsPlan s file at new a n → IsPlan s file at new b m → (a ≡ b) × (n ≡ m)
+  pub one_plan : (a b : List (List Entry)) (n m : ℕ) → IsPlan s file at new a n → IsPlan s file at new b m → (a ≡ b) × (n ≡ m)
   one_plan a b n m g h =
       let same = (once g.p h.p g.number h.number g.text h.text g.posed h.posed).plans a b g.renaming h.renaming n m g.planned (planned_here g.p h.p g.number h.number g.text h.text g.posed h.posed b h.renaming m h.planned) in
       (same.0, same.2)
 
   -- ---- behind it
-  long_one : IsOne (IsLong s file at new)
+  pub long_one : IsOne (IsLong s file at new)
   long_one r q g h =
       let same = (one_plan g.0 h.0 g.1 h.1 g.3 h.3).0 in
       g.5 ∙ ap too_long (one_length _ g.2 h.2 (subst (λ (es : List (List Entry)). AreTooLong (texts_of (with_edits s.files es)) g.2) same g.4) h.4) ∙ sym h.5
 
-  long_out : RulesOut (IsLong s file at new) (StaysShort s file at new)
+  pub long_out : RulesOut (IsLong s file at new) (StaysShort s file at new)
   long_out r g (edits, respelled, h) =
       let same = (one_plan g.0 edits g.1 respelled g.3 h.plan).0 in
       within_limits _ g.2 h.within h.together (subst (λ (es : List (List Entry)). AreTooLong (texts_of (with_edits s.files es)) g.2) same g.4)
 
-  breaks_one : IsOne (WouldBreak s file at new)
+  pub breaks_one : IsOne (WouldBreak s file at new)
   breaks_one r q (es, n, i, a, f, k, short, named, first, told) (fs, m, j, b, h, l, short', named', first', told') =
       let edits = (one_plan es fs n m short.plan short'.plan).0 in
       let same = one_wrong reading (with_edits s.files fs) f h a b k l (subst (λ (xs : List (List Entry)). IsFirstWrong (with_edits s.files xs) f a k) edits first) first' in

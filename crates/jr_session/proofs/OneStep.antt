@@ -108,10 +108,10 @@ show_answers s file (refused x) t h = inl (x, refl, h.0, h.1)
 
 -- ---- a rename
 
-abbrev the_rename : List ℕ → ℕ → List ℕ → Step
+abbrev pub the_rename : List ℕ → ℕ → List ℕ → Step
 the_rename file at new = step.Rename file at new
 
-abbrev Renames : State → (file : List ℕ) → (at : ℕ) → (new : List ℕ) → Reply → State → Type 0
+abbrev pub Renames : State → (file : List ℕ) → (at : ℕ) → (new : List ℕ) → Reply → State → Type 0
 Renames s file at new r t = ((x : Refusal) × (r ≡ refused x) × IsRefusedRename s file at new x × (t ≡ s))
     ⊎ ((names : List (List ℕ)) × (respelled : ℕ) × (r ≡ refactored names respelled) × IsRenamed s file at new names respelled t)
 
@@ -127,7 +127,7 @@ rename_not_undo file new at e = cc
 rename_not_redo : (file new : List ℕ) (at : ℕ) → the_rename file at new ≡ step.Redo → ⊥
 rename_not_redo file new at e = cc
 
-rename_answers : (s : State) (file : List ℕ) (at : ℕ) (new : List ℕ) (r : Reply) (t : State) → Steps s (the_rename file at new) r t → Renames s file at new r t
+pub rename_answers : (s : State) (file : List ℕ) (at : ℕ) (new : List ℕ) (r : Reply) (t : State) → Steps s (the_rename file at new) r t → Renames s file at new r t
 rename_answers s file at new edited t h = absurd (rename_not_edit file h.1.edit.file h.1.text new at h.1.span.from h.1.span.to h.1.edit.is)
 rename_answers s file at new (refactored names respelled) t h = inr (names, respelled, refl, h.1)
 rename_answers s file at new (shown a) t h = absurd (rename_not_show file h.1.shows.file new at h.1.shows.is)
