@@ -1,9 +1,9 @@
 -- What a tree's references find, and what its types mean, doesn't depend on its marks.
-use Rattle.std.proofs.Common.{◌≡◌, ℕ, List, [], ◌∷◌, refl, sym, ap, ◌∙◌, subst}
-use Rattle.std.specs.Prelude.{Option, Some, None, codes}
+use Rattle.std.proofs.Common.{◌≡◌, ℕ, List, [], ◌∷◌, refl}
+use Rattle.std.specs.Prelude.{Some, None}
 use Rattle.jr_ast.specs.Tree as tree
 use Rattle.jr_ast.specs.Remarked.{map_exp, map_exps, map_target}
-use Rattle.jr_grammar.specs.Bare.{Bare, bare, bare_type, bare_target, bare_args}
+use Rattle.jr_grammar.specs.Bare.{bare, bare_type, bare_target, bare_args}
 use Rattle.jr_table.specs.Keys.{ClassKey, Ty, class}
 use Rattle.jr_table.specs.Decls.{Decl, class_decl}
 use Rattle.jr_table.specs.Rows.{Row}

@@ -1,11 +1,11 @@
 -- Trees that are equal but for their marks refer to the same: what is kept of the one is kept of
 -- the other.
-use Rattle.std.proofs.Common.{◌≡◌, ℕ, List, [], ◌∷◌, refl, sym, ap, ◌∙◌, subst, inl, inr}
+use Rattle.std.proofs.Common.{◌≡◌, ℕ, List, refl, sym, ap, ◌∙◌, subst, inl, inr}
 use Rattle.std.specs.Prelude.{Option, Some, None, false}
 use Rattle.jr_ast.specs.Tree as tree
 use Rattle.jr_ast.specs.Remarked.{map_exp, map_exps, map_target}
 use Rattle.jr_grammar.specs.Bare.{Bare, bare, bare_word, bare_type, bare_target, bare_args}
-use Rattle.jr_table.specs.Keys.{ClassKey, CtorKey, Ty}
+use Rattle.jr_table.specs.Keys.{ClassKey, Ty}
 use Rattle.jr_table.specs.Decls.{Decl, class_decl, constructor_decl, head}
 use Rattle.jr_table.specs.Rows.{Row}
 use Rattle.jr_table.specs.Prelude.{top_key}

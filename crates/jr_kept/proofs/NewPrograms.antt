@@ -1,6 +1,6 @@
 -- The program behind a rename: it is read as the planned trees, and its references lead to the
 -- images.
-use Rattle.std.proofs.Common.{◌≡◌, ℕ, zero, suc, ◌<◌, List, [], ◌∷◌, map, length, Some, refl, sym, ap, subst, ◌∙◌, arith}
+use Rattle.std.proofs.Common.{◌≡◌, ℕ, zero, suc, List, [], ◌∷◌, map, length, Some, refl, sym, ap, subst, ◌∙◌, arith}
 use Rattle.std.specs.Prelude.{slice_get}
 use Rattle.std.proofs.lemmas.List.{length-map}
 use Rattle.std.proofs.lemmas.Option.{same_Some, none-some, slice_get_within}
@@ -12,10 +12,8 @@ use Rattle.jr_ast.specs.MemberTree.{Unit as UnitTree}
 use Rattle.jr_grammar.specs.Bare.{bare_unit}
 use Rattle.jr_grammar.specs.Layout.{itself}
 use Rattle.jr_grammar.specs.Reads.{Reads}
-use Rattle.jr_table.specs.Decls.{Decl}
 use Rattle.jr_table.specs.Rows.{Row}
 use Rattle.jr_table.specs.Sites.{Site, sites_of}
-use Rattle.jr_names.specs.declared.steps.Step.TheVariants as step
 use Rattle.jr_punit.specs.OneReading.{OneReading}
 use Rattle.jr_bind.specs.Programs.{File, Program, units_of}
 use Rattle.jr_places.specs.FileParts.{begins}
@@ -38,9 +36,8 @@ use Rattle.jr_sources.proofs.WholeProgram.{length-files}
 use Rattle.jr_session.specs.NewTexts.{with_edits}
 use Rattle.jr_session.specs.Renaming.{IsRenamed}
 use Rattle.jr_session.specs.States.{State}
-use Rattle.jr_session.specs.Stepping.{Steps}
 use Rattle.jr_session.proofs.Planning.{file as file_there}
-use Rattle.jr_kept.specs.Promises.{IsDone, IsSpliced, KeepsProgram, RenamesKeepPrograms}
+use Rattle.jr_kept.specs.Promises.{IsSpliced, KeepsProgram, RenamesKeepPrograms}
 use Rattle.jr_kept.proofs.BareReferences.{kept_bare, written_bare, super_kept_bare, parent_kept_bare}
 use Rattle.jr_kept.proofs.NewRows.{new_rows}
 use Rattle.jr_kept.proofs.TakenBack.{renamed_of}

@@ -1,12 +1,11 @@
 -- An undoing right behind a rename.
-use Rattle.std.proofs.Common.{◌≡◌, ℕ, List, [], ◌∷◌, ◌++◌, map, refl, sym, ap, subst, ◌∙◌}
+use Rattle.std.proofs.Common.{◌≡◌, ℕ, List, [], ◌∷◌, ◌++◌, refl, sym, ap, ◌∙◌}
 use Rattle.jr_text.specs.Edits.{Entry}
-use Rattle.jr_names.specs.declared.steps.Step.{Step}
 use Rattle.jr_names.specs.declared.steps.Step.TheVariants as step
 use Rattle.jr_names.specs.declared.steps.What.TheVariants as what
 use Rattle.jr_names.specs.Replies.{Reply, edited, refactored, shown, undone, redone, refused}
 use Rattle.jr_sources.specs.Sources.{Source, names_of, texts_of}
-use Rattle.jr_session.specs.NewTexts.{with_edits, with_files}
+use Rattle.jr_session.specs.NewTexts.{with_edits}
 use Rattle.jr_session.specs.Renaming.{IsRenamed}
 use Rattle.jr_session.specs.States.{State, IsUndone}
 use Rattle.jr_session.specs.Stepping.{Steps}

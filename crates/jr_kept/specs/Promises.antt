@@ -26,7 +26,6 @@ use Rattle.jr_rename.specs.Keeping.{IsKept, IsWritten, IsSuperKept, IsParentKept
 use Rattle.jr_renamed.specs.PlanLaws.{IsPlanIn}
 use Rattle.jr_sources.specs.Sources.{Source, texts_of}
 use Rattle.jr_sources.specs.Whole.{IsProgramOf}
-use Rattle.jr_session.specs.NewTexts.{with_edits}
 use Rattle.jr_session.specs.Renaming.{IsAsked}
 use Rattle.jr_session.specs.States.{State}
 use Rattle.jr_session.specs.Stepping.{Steps}
