@@ -183,7 +183,8 @@ module _ (one : OneReading Span) (named : RowsAreNamed Span) (dots : NamesHaveNo
       respelled = n;
       plan = plan;
       trees = trees;
-      rows = new_rows s.files p before is.short.plan.text is.short.plan.number at new is.edits is.short.plan.renaming n plan named dots plans images built news is.q is.program trees;
+      rows = λ kind. (new_rows s.files p before is.short.plan.text is.short.plan.number at new is.edits is.short.plan.renaming n plan named dots plans images built news is.q is.program trees kind).0;
+      images = λ kind. (new_rows s.files p before is.short.plan.text is.short.plan.number at new is.edits is.short.plan.renaming n plan named dots plans images built news is.q is.program trees kind).1;
       references = units_bare plan.planned.g p.rows (sites_of begins (units_of p)) (units_of p) (trees_of plan.planned.files) (units_of is.q) (trees ∙ sym (trees_bare plan.planned.files))
           (references p is.short.plan.text is.short.plan.number at new is.edits is.short.plan.renaming n plan);
       count = ap length files_are ∙ count_with s.files is.edits;

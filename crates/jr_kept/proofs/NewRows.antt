@@ -16,7 +16,7 @@ use Rattle.jr_bind.specs.Programs.{File, Program, units_of}
 use Rattle.jr_places.specs.FileParts.{begins}
 use Rattle.jr_rewrite.specs.Rewritten.{Rewritten}
 use Rattle.jr_rename.specs.Images.{Renaming, rows_to}
-use Rattle.jr_rename.specs.ImageLaws.{without_marks, Becomes, PlansBecome}
+use Rattle.jr_rename.specs.ImageLaws.{without_marks, Becomes, AreImages, PlansBecome}
 use Rattle.jr_rename.specs.TextLaws.{RowsAreNamed, NamesHaveNoDot}
 use Rattle.jr_renamed.specs.PlanLaws.{IsPlanIn, IsNoClass, NewProgramsAreImages}
 use Rattle.jr_class_rename.specs.ClassLaws.{BuiltRowsAreImages}
@@ -63,16 +63,19 @@ module _ (sources : List Source) (p : Program Span) (before : IsProgramOf source
     name_is : IsName g.name
     name_is = subst (λ (n : List ℕ). IsName n) (sym is.planned.renames.name) is.name
 
-    no_class : IsNoClass is.planned.target → q.rows ≡ rows_to g p.rows
-    no_class kind = once (images p text file at new edits renaming respelled is kind (units_of q) trees).rows_are
+    abbrev All : Type 0
+    All = (q.rows ≡ rows_to g p.rows) × AreImages itself begins [] p.rows (units_of p) g (units_of q)
 
-    pub new_rows : IsNoConstructor is.planned.target → q.rows ≡ rows_to g p.rows
+    no_class : IsNoClass is.planned.target → All
+    no_class kind = (let are = images p text file at new edits renaming respelled is kind (units_of q) trees in (once are.rows_are, are))
+
+    pub new_rows : IsNoConstructor is.planned.target → All
     new_rows kind = by is.planned.target kind refl
       where
-        by : (d : Decl) → IsNoConstructor d → is.planned.target ≡ d → q.rows ≡ rows_to g p.rows
+        by : (d : Decl) → IsNoConstructor d → is.planned.target ≡ d → All
         by (local_decl k) h e = no_class (subst IsNoClass (sym e) tt)
         by (field_decl k) h e = no_class (subst IsNoClass (sym e) tt)
         by (method_decl k) h e = no_class (subst IsNoClass (sym e) tt)
         by (constructor_decl k) h e = absurd h
         by (class_decl k) h e =
-            (built itself begins [] p.rows q.rows p.super_at (units_of p) k g (units_of q) (record { becomes = subst Made e made; heads = heads_of sources p before; whole = dots g.name name_is }) behind.is.rows).0
+            built itself begins [] p.rows q.rows p.super_at (units_of p) k g (units_of q) (record { becomes = subst Made e made; heads = heads_of sources p before; whole = dots g.name name_is }) behind.is.rows

@@ -4,6 +4,7 @@ use Rattle.jr_text.specs.declared.spans.Span.{Span}
 use Rattle.jr_text.specs.Edits.{Entry, AreEdits, FitsIn}
 use Rattle.jr_text.specs.Splices.{splice, IsUntouched, moved_to}
 use Rattle.jr_ast.specs.MemberTree.{Unit as UnitTree}
+use Rattle.jr_grammar.specs.Layout.{itself}
 use Rattle.jr_table.specs.Decls.{
   Decl,
   class_decl,
@@ -20,7 +21,7 @@ use Rattle.jr_bind.specs.Programs.{Program, units_of}
 use Rattle.jr_places.specs.FileParts.{begins}
 use Rattle.jr_rewrite.specs.AlongMembers.{AlongUnits}
 use Rattle.jr_rewrite.specs.Rewritten.{Rewritten}
-use Rattle.jr_rename.specs.ImageLaws.{without_marks}
+use Rattle.jr_rename.specs.ImageLaws.{without_marks, AreImages}
 use Rattle.jr_rename.specs.Images.{member_to, rows_to}
 use Rattle.jr_rename.specs.Keeping.{IsKept, IsWritten, IsSuperKept, IsParentKept}
 use Rattle.jr_renamed.specs.PlanLaws.{IsPlanIn}
@@ -72,6 +73,10 @@ pub record KeepsProgram (s : State) (file : List ℕ) (at : ℕ) (new : List ℕ
       ≡ map (λ (o : Rewritten (UnitTree Span)). without_marks o.tree) plan.planned.files
   -- q's own rows, made of its own trees, are the images of the rows of p
   pub rows : IsNoConstructor plan.planned.target → q.rows ≡ rows_to plan.planned.g p.rows
+  -- each class and member of q stands where the one stood whose image it is, and q's declarations
+  -- have no fault
+  pub images : IsNoConstructor plan.planned.target
+      → AreImages itself begins [] p.rows (units_of p) plan.planned.g (units_of q)
   -- Each reference of each member of p is bound, at its place in q's own trees and by these rows, to
   -- the image of its declaration; each written type, superclass and `super(..)` means the image of
   -- what it meant.
