@@ -12,7 +12,8 @@ use Rattle.jr_sources.specs.declared.kept.Readings.{Readings}
 use Rattle.jr_sources.specs.Analysed.{IsAnalysis, CostsBinding}
 use Rattle.jr_sources.specs.BindingErrors.{AreSound, IsFirstWrong}
 use Rattle.jr_sources.specs.ReadingLaws.{HasOneReading}
-use Rattle.jr_sources.specs.Sources.{Source, HasName}
+use Rattle.jr_sources.specs.Sources.{Source, HasName, texts_of}
+use Rattle.jr_sources.specs.Whole.{IsProgramOf}
 use Rattle.jr_sources.proofs.Analysing.{no_fault}
 use Rattle.jr_session.specs.declared.changes.Change.{Change}
 use Rattle.jr_session.specs.declared.changes.Earlier.{Earlier}
@@ -25,7 +26,7 @@ use Rattle.jr_session.specs.NewTexts.{with_edits, differing}
 use Rattle.jr_session.specs.Refactoring as by
 use Rattle.jr_session.specs.Refactoring.{IsTriedBy, StayWithin, IsRefactoredBy, CostsRefactoring}
 use Rattle.jr_session.specs.States.{State}
-use Rattle.jr_session.specs.Trying.{IsTried}
+use Rattle.jr_session.specs.Trying.{IsTried, AreSomeProgram}
 use Rattle.jr_session.specs.Turns.{IsChanged}
 use Rattle.jr_session.proofs.Histories.{names-put}
 use Rattle.jr_session.proofs.StateLaws.{state_of, state_as_before, refactored_state, kept_changed}
@@ -48,9 +49,10 @@ module _ (sources sources' : List Source) (changes : List Change) (undo undo' re
     is_changed : IsChanged sources undo (put_back sources changes) sources' undo'
     is_changed = record { was = step; are = h.0; back = h.1; files = h.2; kept = kept }
 
-    pub tried_sound : HasOneReading → IsTriedBy (state_of sources undo redo shown) (put_back sources changes) names respelled (refactored names respelled) (state_of sources' undo' redo' shown)
-    tried_sound reading =
-        by.holds (λ name place kind w. nothing_wrong reading sources' analysis h.4 h.5 name place kind (subst (λ (ss : List Source). IsFirstWrong ss name place kind) (sym h.0) w)) refl
+    pub tried_sound : HasOneReading → AreSomeProgram sources' → IsTriedBy (state_of sources undo redo shown) (put_back sources changes) names respelled (refactored names respelled) (state_of sources' undo' redo' shown)
+    tried_sound reading whole =
+        by.holds (λ name place kind w. nothing_wrong reading sources' analysis h.4 h.5 name place kind (subst (λ (ss : List Source). IsFirstWrong ss name place kind) (sym h.0) w)) whole.0
+        (subst (λ (ss : List Source). IsProgramOf ss whole.0) h.0 whole.1) refl
         (refactored_state sources (put_back sources changes) sources' undo undo' redo redo' shown is_changed none)
 
     pub tried_kept : AreChanges (length sources) undo → IsKept sources' readings undo' redo' (Some analysis)

@@ -123,9 +123,9 @@ module _ (s : State) (file : List ℕ) (at : ℕ) (new : List ℕ) where
           subst (λ (q : Reply). Steps s (the_rename file at new) q t) (sym e) (why.long edits respelled len the_plan too refl, same)
       refactored_step r t (by.tried stay (by.breaks number' place name kind has first e same)) =
           subst (λ (q : Reply). Steps s (the_rename file at new) q t) (sym e) (why.breaks edits respelled number' place name kind (short stay) has first refl, same)
-      refactored_step r t (by.tried stay (by.holds sound e becomes)) =
+      refactored_step r t (by.tried stay (by.holds sound q program e becomes)) =
           subst (λ (q : Reply). Steps s (the_rename file at new) q t) (sym e)
-          (tt, record { edits = edits; short = short stay; sound = sound; names_are = refl; becomes = becomes })
+          (tt, record { edits = edits; short = short stay; sound = sound; q = q; program = program; names_are = refl; becomes = becomes })
 
       pub refactored_work : HasOneReading → (before middle after : ℕ) → CostsBinding s.files before middle → CostsRefactoring s.files edits middle after → IsWithinWork s (the_rename file at new) before after
       refactored_work reading before middle after h (by.nothing e) = subst (λ (n : ℕ). IsWithinWork s (the_rename file at new) before n) (sym e) (analysed_work before middle h)
