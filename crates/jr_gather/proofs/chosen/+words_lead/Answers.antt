@@ -1,38 +1,25 @@
-use Rattle.std.proofs.Common.{◌≡◌, ℕ, Option, Some, None, ap, sym, subst, ◌∙◌, inl, inr, refl}
-use Rattle.std.specs.Prelude.{option_map}
+use Rattle.std.proofs.Common.{◌≡◌, ◌<◌, ℕ, Option, Some, None, IsTrue, ◌↔◌, ap, sym, subst, ◌∙◌}
+use Rattle.std.proofs.lemmas.Result.{IfOk-weaker}
 use Rattle.jr_text.specs.declared.spans.Span.{Span}
 use Rattle.jr_ast.specs.Tree as tree
 use Rattle.jr_ast.specs.Marks.{exp_mark}
-use Rattle.jr_ast.specs.View.{word_of, type_of, expr_of, exprs_of}
+use Rattle.jr_ast.specs.View.{expr_of}
 use Rattle.jr_ast.proofs.Rows.{expr_mark_is}
-use Rattle.jr_table.specs.Keys.{Ty}
+use Rattle.jr_ast.proofs.Sizes.{exp_size}
 use Rattle.jr_table.specs.TypeView.{class_key_of}
-use Rattle.jr_table.specs.Binding.{value, left, statement, variable}
 use Rattle.jr_notes.proofs.Steps.{own_fits}
-use Rattle.jr_respell.specs.ChoiceView.{choice_of}
-use Rattle.jr_respell.specs.Chosen as chosen
-use Rattle.jr_gather.specs.declared.here.Role.{Role}
-use Rattle.jr_gather.specs.Known.{rows_of, naming_of, context_of, role_of, NameIsBound, NameSpells, DottedIsBound, DottedSpells}
-use Rattle.jr_gather.specs.MeaningView.{AreTypes}
-use Rattle.jr_gather.proofs.Choices as choices
-use Rattle.jr_gather.proofs.Choices.{some_where, some_here, of_some}
-use Rattle.jr_gather.proofs.Typed.{writes_is, creation_at}
-use Rattle.jr_gather.proofs.chosen.outer_class.Goals as goal
+use Rattle.jr_gather.specs.Known.{rows_of, naming_of, context_of}
+use Rattle.jr_gather.proofs.Naming.{front_ready, front_smaller, unqualified, behind_none, behind_lost, behind_led}
+use Rattle.jr_gather.proofs.chosen.+words_lead.Goals as goal
 
 pub span-at-requires : goal.span-at-requires
-span-at-requires g c =
-    let h = c.args.here.now in
-    let rows = rows_of h in
-    let n = naming_of h in
-    let x = context_of h in
+span-at-requires g t c =
     let B = λ (k : g.row.A.Denot) (b : ℕ). (g.A.Mark.span_from k b).from in
     own_fits B g.A.Mark.fits_at c.args.base c.args.of.now c.requires.fits
 
 pub named_class-requires : goal.named_class-requires
-named_class-requires g c =
+named_class-requires g t c =
     let h = c.args.here.now in
-    let rows = rows_of h in
-    let n = naming_of h in
     let x = context_of h in
     let B = λ (k : g.row.A.Denot) (b : ℕ). (g.A.Mark.span_from k b).from in
     let e = expr_of c.args.of.now in
@@ -40,20 +27,41 @@ named_class-requires g c =
     let r = front_ready B g.A.Mark.fits_at h x c.args.base e (expr_of c.in-Some.part.now) c.span-at.result.from (sym c.in-Some.ensures) start (c.requires.fits, c.requires.sound, c.requires.refers) in
     record { fits = r.0; sound = r.1; refers = r.2 }
 
-pub returns-in-None : goal.returns-in-None
-returns-in-None g c =
+pub words_lead-leads-requires : goal.words_lead-leads-requires
+words_lead-leads-requires g t c =
     let h = c.args.here.now in
-    let rows = rows_of h in
-    let n = naming_of h in
     let x = context_of h in
     let B = λ (k : g.row.A.Denot) (b : ℕ). (g.A.Mark.span_from k b).from in
-    unqualified B rows n x (expr_of c.args.of.now) (sym c.in-None.ensures)
+    let e = expr_of c.args.of.now in
+    let start : c.span-at.result.from ≡ B (exp_mark e) c.args.base = ap (λ (z : Span). z.from) c.span-at.ensures ∙ ap (λ m. B m c.args.base) (sym (expr_mark_is c.args.of.now)) in
+    let is = sym c.in-Some.ensures in
+    let r = front_ready B g.A.Mark.fits_at h x c.args.base e (expr_of c.in-Some.part.now) c.span-at.result.from is start (c.requires.fits, c.requires.sound, c.requires.refers) in
+    λ κs o. (subst (λ n. exp_size (expr_of c.in-Some.part.now) < n) c.decreases (front_smaller e (expr_of c.in-Some.part.now) is), (o, (c.requires.known, (r.0, (r.1, r.2)))))
 
-pub returns-in-Some : goal.returns-in-Some
-returns-in-Some g c =
+pub returns-in-None : goal.returns-in-None
+returns-in-None g t c =
+    let h = c.args.here.now in
+    IfOk-weaker c.leads_first.result _ _ (λ b leads. unqualified (rows_of h) (naming_of h) (context_of h) (class_key_of c.args.class.now) b (expr_of c.args.of.now) (sym c.in-None.ensures) leads) c.leads_first.ensures
+
+pub returns-in-Some-in-None : goal.returns-in-Some-in-None
+returns-in-Some-in-None g t c =
+    let h = c.args.here.now in
+    behind_none (rows_of h) (naming_of h) (context_of h) (class_key_of c.args.class.now) (expr_of c.args.of.now) (expr_of c.in-Some.part.now) (sym c.in-Some.ensures) c.in-Some-in-None.ensures
+
+pub returns-then-leads : goal.returns-then-leads
+returns-then-leads g t c =
     let h = c.args.here.now in
     let rows = rows_of h in
-    let n = naming_of h in
     let x = context_of h in
-    let B = λ (k : g.row.A.Denot) (b : ℕ). (g.A.Mark.span_from k b).from in
-    qualified B rows n x (expr_of c.args.of.now) (expr_of c.in-Some.part.now) (sym c.in-Some.ensures) c.requires.class _ c.named_class.ensures
+    let are = c.keeps_rows.ensures in
+    let exact = c.types_are_exact.ensures.bound rows are (c.lookups_are_exact.ensures.keys rows are) x in
+    IfOk-weaker c.leads_behind.result _ _ (λ b last. behind_led rows (naming_of h) x (class_key_of c.args.class.now) (expr_of c.args.of.now) (expr_of c.in-Some.part.now) (sym c.in-Some.ensures) exact (class_key_of c.in-Some-in-Some.outer.now) c.in-Some-in-Some.ensures c.in_ok-leads.leads b c.if-leads.true c.in_ok-leads.ensures last) c.leads_behind.ensures
+
+pub returns : goal.returns
+returns g t c =
+    let h = c.args.here.now in
+    let rows = rows_of h in
+    let x = context_of h in
+    let are = c.keeps_rows.ensures in
+    let exact = c.types_are_exact.ensures.bound rows are (c.lookups_are_exact.ensures.keys rows are) x in
+    behind_lost rows (naming_of h) x (class_key_of c.args.class.now) (expr_of c.args.of.now) (expr_of c.in-Some.part.now) (sym c.in-Some.ensures) exact (class_key_of c.in-Some-in-Some.outer.now) c.in-Some-in-Some.ensures c.in_ok-leads.leads c.if-leads.false c.in_ok-leads.ensures
