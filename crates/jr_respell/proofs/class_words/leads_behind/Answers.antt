@@ -4,7 +4,7 @@ use Rattle.jr_table.specs.TypeView.{class_key_of}
 use Rattle.jr_spell.specs.Binds.{LeadsIn}
 use Rattle.jr_respell.specs.Scopes.{place_to, rows_to}
 use Rattle.jr_respell.proofs.Kept.{moved}
-use Rattle.jr_respell.proofs.leading.leads_behind.Goals as goal
+use Rattle.jr_respell.proofs.class_words.leads_behind.Goals as goal
 
 pub returns : goal.returns
 returns c =

@@ -6,7 +6,7 @@ use Rattle.jr_lookup.specs.ScopeView.{scope_of}
 use Rattle.jr_spell.specs.Binds.{LeadsTo}
 use Rattle.jr_respell.specs.Scopes.{place_to, rows_to}
 use Rattle.jr_respell.proofs.NearScopes.{near_leads}
-use Rattle.jr_respell.proofs.leading.leads_first.Goals as goal
+use Rattle.jr_respell.proofs.class_words.leads_first.Goals as goal
 
 pub returns : goal.returns
 returns c =
