@@ -284,7 +284,7 @@ module _ {A : Type 0} (rows : List Row) (g : Renaming) (c : Context) (k : ClassK
 
     -- its words don't lead to it
     pub behind_lost : (a : Bool) → a ≡ false → (IsTrue a ↔ WordsLead rows g c p o) → IsTrue false ↔ WordsLead rows g c e k
-    behind_lost a no leads = further rows g c k false e p is
+    behind_lost a isnt leads = further rows g c k false e p is
         (λ t. absurd cc, λ (j, other, lead, behind). let x : a ≡ true = leads.1 (subst (λ (z : ClassKey). WordsLead rows g c p z) (one_class j other) lead) in absurd cc)
 
     -- they do

@@ -14,6 +14,7 @@ use Rattle.std.specs.Prelude.{
   Option,
   Some,
   None,
+  false,
   option_map,
   ◌⊎◌,
   if◌then◌else◌,

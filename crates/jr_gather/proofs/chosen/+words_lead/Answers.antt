@@ -27,8 +27,8 @@ named_class-requires g t c =
     let r = front_ready B g.A.Mark.fits_at h x c.args.base e (expr_of c.in-Some.part.now) c.span-at.result.from (sym c.in-Some.ensures) start (c.requires.fits, c.requires.sound, c.requires.refers) in
     record { fits = r.0; sound = r.1; refers = r.2 }
 
-pub words_lead-leads-requires : goal.words_lead-leads-requires
-words_lead-leads-requires g t c =
+pub words_lead-requires : goal.words_lead-requires
+words_lead-requires g t c =
     let h = c.args.here.now in
     let x = context_of h in
     let B = λ (k : g.row.A.Denot) (b : ℕ). (g.A.Mark.span_from k b).from in
@@ -43,10 +43,10 @@ returns-in-None g t c =
     let h = c.args.here.now in
     IfOk-weaker c.leads_first.result _ _ (λ b leads. unqualified (rows_of h) (naming_of h) (context_of h) (class_key_of c.args.class.now) b (expr_of c.args.of.now) (sym c.in-None.ensures) leads) c.leads_first.ensures
 
-pub returns-in-Some-in-None : goal.returns-in-Some-in-None
-returns-in-Some-in-None g t c =
+pub returns-in-None-named_class : goal.returns-in-None-named_class
+returns-in-None-named_class g t c =
     let h = c.args.here.now in
-    behind_none (rows_of h) (naming_of h) (context_of h) (class_key_of c.args.class.now) (expr_of c.args.of.now) (expr_of c.in-Some.part.now) (sym c.in-Some.ensures) c.in-Some-in-None.ensures
+    behind_none (rows_of h) (naming_of h) (context_of h) (class_key_of c.args.class.now) (expr_of c.args.of.now) (expr_of c.in-Some.part.now) (sym c.in-Some.ensures) c.in-None-named_class.ensures
 
 pub returns-then-leads : goal.returns-then-leads
 returns-then-leads g t c =
@@ -55,13 +55,13 @@ returns-then-leads g t c =
     let x = context_of h in
     let are = c.keeps_rows.ensures in
     let exact = c.types_are_exact.ensures.bound rows are (c.lookups_are_exact.ensures.keys rows are) x in
-    IfOk-weaker c.leads_behind.result _ _ (λ b last. behind_led rows (naming_of h) x (class_key_of c.args.class.now) (expr_of c.args.of.now) (expr_of c.in-Some.part.now) (sym c.in-Some.ensures) exact (class_key_of c.in-Some-in-Some.outer.now) c.in-Some-in-Some.ensures c.in_ok-leads.leads b c.if-leads.true c.in_ok-leads.ensures last) c.leads_behind.ensures
+    IfOk-weaker c.leads_behind.result _ _ (λ b last. behind_led rows (naming_of h) x (class_key_of c.args.class.now) (expr_of c.args.of.now) (expr_of c.in-Some.part.now) (sym c.in-Some.ensures) exact (class_key_of c.in-Some-named_class.outer.now) c.in-Some-named_class.ensures c.in_ok-leads-in-Some-named_class.leads b c.if-leads.true c.in_ok-leads-in-Some-named_class.ensures last) c.leads_behind.ensures
 
-pub returns : goal.returns
-returns g t c =
+pub returns-else-leads : goal.returns-else-leads
+returns-else-leads g t c =
     let h = c.args.here.now in
     let rows = rows_of h in
     let x = context_of h in
     let are = c.keeps_rows.ensures in
     let exact = c.types_are_exact.ensures.bound rows are (c.lookups_are_exact.ensures.keys rows are) x in
-    behind_lost rows (naming_of h) x (class_key_of c.args.class.now) (expr_of c.args.of.now) (expr_of c.in-Some.part.now) (sym c.in-Some.ensures) exact (class_key_of c.in-Some-in-Some.outer.now) c.in-Some-in-Some.ensures c.in_ok-leads.leads c.if-leads.false c.in_ok-leads.ensures
+    behind_lost rows (naming_of h) x (class_key_of c.args.class.now) (expr_of c.args.of.now) (expr_of c.in-Some.part.now) (sym c.in-Some.ensures) exact (class_key_of c.in-Some-named_class.outer.now) c.in-Some-named_class.ensures c.in_ok-leads-in-Some-named_class.leads c.if-leads.false c.in_ok-leads-in-Some-named_class.ensures
