@@ -1,7 +1,7 @@
 -- Where what a reference finds is one declaration, something is chosen for it, and that is what
 -- `jr_rename: Spelling` relates.
-use Rattle.std.proofs.Common.{◌≡◌, ◌≢◌, ℕ, List, [], Option, Some, None, refl, sym, ap, subst, ◌∙◌, inl, inr}
-use Rattle.std.specs.Prelude.{◌⊎◌, ◌↔◌, IsSome, option_map}
+use Rattle.std.proofs.Common.{◌≡◌, ◌≢◌, ℕ, List, [], Option, Some, None, Bool, refl, sym, ap, subst, ◌∙◌, inl, inr}
+use Rattle.std.specs.Prelude.{◌⊎◌, ◌↔◌, IsTrue, IsSome, option_map}
 use Rattle.jr_ast.specs.Tree as tree
 use Rattle.jr_table.specs.Keys.{ClassKey, FieldKey, MethodKey, CtorKey, Ty, class}
 use Rattle.jr_table.specs.Decls.{LocalKey, Decl, class_decl, field_decl, method_decl, constructor_decl, local_decl}
@@ -18,8 +18,8 @@ use Rattle.jr_table.proofs.Typing.{left_iff, left_of_iff, own_super_iff}
 use Rattle.jr_rewrite.specs.Respellings.{Choice}
 use Rattle.jr_rename.specs.Images.{Renaming}
 use Rattle.jr_rename.specs.Spelling as spells
-use Rattle.jr_respell.specs.Chosen.{unmarked, ChoosesOf, words_of, VariableIsChosen, ClassIsChosen, FieldIsChosen, StaticFieldIsChosen, MemberClassIsChosen, SuperFieldIsChosen, SimpleCallIsChosen, CallIsChosen, StaticCallIsChosen, SuperCallIsChosen, CreationIsChosen, SuperCtorIsChosen, TypeIsChosen, QualifierIsChosen, QualifiedTypeIsChosen}
-use Rattle.jr_gather.specs.Known.{IsOne, NameIsBound, NameSpells, DottedIsBound, DottedSpells, SuperFieldIsBound, CallIsBound, SuperCallIsBound, CreationIsBound, SuperCtorIsBound, TypeNameIsBound, InnerNameIsBound, IsValueOf, NoField, IsWritten, Creates}
+use Rattle.jr_respell.specs.Chosen.{unmarked, ChoosesOf, VariableIsChosen, ClassIsChosen, FieldIsChosen, StaticFieldIsChosen, MemberClassIsChosen, SuperFieldIsChosen, SimpleCallIsChosen, CallIsChosen, StaticCallIsChosen, SuperCallIsChosen, CreationIsChosen, SuperCtorIsChosen, TypeIsChosen, QualifierIsChosen, QualifiedTypeIsChosen}
+use Rattle.jr_gather.specs.Known.{IsOne, NameIsBound, NameSpells, DottedIsBound, DottedSpells, SuperFieldIsBound, CallIsBound, SuperCallIsBound, CreationIsBound, SuperCtorIsBound, TypeNameIsBound, InnerNameIsBound, IsValueOf, NoField, Creates}
 use Rattle.jr_gather.proofs.Sorts.{found_variable, found_field, found_type, found_inner, found_method, found_call, found_ctor}
 
 -- what is found, where it is one declaration
@@ -89,12 +89,12 @@ module _ (rows : List Row) (are : AreRows rows) (keys : KeysAreFound rows) (g : 
     pub field_chosen : (role : Role) (k : ClassKey) (at : ℕ) (h : Choice) → IsValueOf rows c e k → FieldIsChosen rows g c at k name (Some h) → DottedSpells begins rows g c role at e name h
     field_chosen role k at h on (f, finds, chosen) = inl (f, inl (k, on_value k on, finds), inr (on.0, (k, on.1, chosen)))
 
-    pub class_field_chosen : (role : Role) (k : ClassKey) (outer : Option ClassKey) (at : ℕ) (h : Choice) → IsClassName rows c e k → IsWritten begins rows g c e outer
-        → StaticFieldIsChosen rows g c at (words_of g outer k) k name (Some h) → DottedSpells begins rows g c role at e name h
-    class_field_chosen role k outer at h on written (f, finds, chosen) = inl (f, inl (k, inl on, finds), inl (k, on, (words_of g outer k, written k on, chosen)))
+    pub class_field_chosen : (role : Role) (k : ClassKey) (leads : Bool) (at : ℕ) (h : Choice) → IsClassName rows c e k → (IsTrue leads ↔ spells.WordsLead rows g c e k)
+        → StaticFieldIsChosen rows g c at leads k name (Some h) → DottedSpells begins rows g c role at e name h
+    class_field_chosen role k leads at h on lead (f, finds, chosen) = inl (f, inl (k, inl on, finds), inl (k, on, (leads, lead, chosen)))
 
-    pub no_field : (k : ClassKey) (text : List ℕ) (at : ℕ) → StaticFieldIsChosen rows g c at text k name None → NoField rows c k name
-    no_field k text at none = none
+    pub no_field : (k : ClassKey) (leads : Bool) (at : ℕ) → StaticFieldIsChosen rows g c at leads k name None → NoField rows c k name
+    no_field k leads at none = none
 
     no_one_field : (k : ClassKey) (d : Decl) → NoField rows c k name → FindsFieldIn rows (scope_of c) k name (one d) → ⊥
     no_one_field k d none h = let f = found_field rows (scope_of c) k name d h in none f.0 (subst (λ x. FindsFieldIn rows (scope_of c) k name (one x)) f.1 h)
@@ -186,17 +186,17 @@ module _ (rows : List Row) (are : AreRows rows) (keys : KeysAreFound rows) (g : 
         let m = found_method rows (scope_of c) k name ts o.0 o.1 in
         none m.0 (subst (λ x. FindsMethodOf rows (scope_of c) k name ts (one x)) m.1 o.1)
 
-    pub static_call_there : (e : tree.Exp A) (text : List ℕ) (k : ClassKey) (ts : List Ty) (at : ℕ) → IsOn rows c e k → HaveTypes rows c args ts → CallIsBound begins rows c (tree.on e) name args → StaticCallIsChosen rows g c at text k name ts None → ⊥
-    static_call_there e text k ts at on have bound none = call_there e k ts at on have bound none
+    pub static_call_there : (e : tree.Exp A) (leads : Bool) (k : ClassKey) (ts : List Ty) (at : ℕ) → IsOn rows c e k → HaveTypes rows c args ts → CallIsBound begins rows c (tree.on e) name args → StaticCallIsChosen rows g c at leads k name ts None → ⊥
+    static_call_there e leads k ts at on have bound none = call_there e k ts at on have bound none
 
     pub call_chosen : (e : tree.Exp A) (k : ClassKey) (ts : List Ty) (at : ℕ) (h : Choice) → IsValueOf rows c e k → HaveTypes rows c args ts → CallIsChosen rows g c at k name ts (Some h) → spells.CallSpells begins rows g c at e name args h
     unfolding TargetFinds
     call_chosen e k ts at h on have (q, finds, chosen) = (q, ts, inl (k, inr on, inl (ts, have, finds)), have, inr (on.0, (k, on.1, chosen)))
 
-    pub static_call_chosen : (e : tree.Exp A) (k : ClassKey) (outer : Option ClassKey) (ts : List Ty) (at : ℕ) (h : Choice) → IsClassName rows c e k → IsWritten begins rows g c e outer → HaveTypes rows c args ts
-        → StaticCallIsChosen rows g c at (words_of g outer k) k name ts (Some h) → spells.CallSpells begins rows g c at e name args h
+    pub static_call_chosen : (e : tree.Exp A) (k : ClassKey) (leads : Bool) (ts : List Ty) (at : ℕ) (h : Choice) → IsClassName rows c e k → (IsTrue leads ↔ spells.WordsLead rows g c e k) → HaveTypes rows c args ts
+        → StaticCallIsChosen rows g c at leads k name ts (Some h) → spells.CallSpells begins rows g c at e name args h
     unfolding TargetFinds
-    static_call_chosen e k outer ts at h on written have (q, finds, chosen) = (q, ts, inl (k, inl on, inl (ts, have, finds)), have, inl (k, on, (words_of g outer k, written k on, chosen)))
+    static_call_chosen e k leads ts at h on lead have (q, finds, chosen) = (q, ts, inl (k, inl on, inl (ts, have, finds)), have, inl (k, on, (leads, lead, chosen)))
 
     pub no_call : (e : tree.Exp A) → CallIsBound begins rows c (tree.on e) name args → ((k : ClassKey) → IsOn rows c e k → ⊥) → ⊥
     unfolding TargetFinds

@@ -1,7 +1,7 @@
 -- What is found by the place of its last word is the class that an expression names in front of a
 -- dot.
-use Rattle.std.proofs.Common.{◌≡◌, ℕ, List, Option, Some, None, refl, sym, ap, subst, ◌∙◌, inl, inr}
-use Rattle.std.specs.Prelude.{option_and_then}
+use Rattle.std.proofs.Common.{◌≡◌, ℕ, ◌<◌, List, Option, Some, None, Bool, true, false, refl, sym, ap, subst, ◌∙◌, inl, inr, arith}
+use Rattle.std.specs.Prelude.{IsTrue, ◌↔◌, option_and_then}
 use Rattle.jr_ast.specs.Tree as tree
 use Rattle.jr_ast.specs.Marks.{exp_mark}
 use Rattle.jr_table.specs.Keys.{ClassKey, FieldKey}
@@ -19,8 +19,11 @@ use Rattle.jr_table.specs.Meanings.{find_left, find_left_of, class_name_of, clas
 use Rattle.jr_table.proofs.Typing.{left_iff, left_of_iff}
 use Rattle.jr_notes.specs.Fits.{FitsExp}
 use Rattle.jr_gather.specs.declared.here.Here as raw
+use Rattle.jr_ast.proofs.Sizes.{exp_size}
 use Rattle.jr_rename.specs.Images.{Renaming}
-use Rattle.jr_gather.specs.Known.{rows_of, found_at, SoundExp, RefersExp, NamesClass, IsWritten}
+use Rattle.jr_rename.specs.Spelling.{WordsLead}
+use Rattle.jr_respell.specs.Chosen.{LeadsFirst, LeadsBehind}
+use Rattle.jr_gather.specs.Known.{rows_of, found_at, SoundExp, RefersExp}
 use Rattle.jr_gather.specs.MeaningView.{class_in, last_word, front, IsNamed}
 use Rattle.jr_gather.proofs.Sorts.{found_field}
 use Rattle.jr_gather.proofs.Bound.{name_bound, dotted_bound}
@@ -198,51 +201,93 @@ module _ {A : Type 0} (begins : A → ℕ → ℕ) (Fits : A → ℕ → Type 0)
   front_ready (tree.assign m x y) p at is start ready = absurd cc
   front_ready (tree.compound m op x y) p at is start ready = absurd cc
 
-module _ {A : Type 0} (begins : A → ℕ → ℕ) (rows : List Row) (g : Renaming) (c : Context) where
-  pub unqualified : (e : tree.Exp A) → front e ≡ None → IsWritten begins rows g c e None
-  unfolding IsClassName
-  unqualified (tree.name m w) none = λ k x. refl
-  unqualified (tree.field m e w) none = absurd cc
-  unqualified (tree.number m n) none = λ k x. absurd x
-  unqualified (tree.truth m b) none = λ k x. absurd x
-  unqualified (tree.null m) none = λ k x. absurd x
-  unqualified (tree.string m t) none = λ k x. absurd x
-  unqualified (tree.super_field m v) none = λ k x. absurd x
-  unqualified (tree.this m) none = λ k x. absurd x
-  unqualified (tree.class_literal m t) none = λ k x. absurd x
-  unqualified (tree.call m to v args) none = λ k x. absurd x
-  unqualified (tree.super_call m v args) none = λ k x. absurd x
-  unqualified (tree.create m t args) none = λ k x. absurd x
-  unqualified (tree.paren m e) none = λ k x. absurd x
-  unqualified (tree.cast m t e) none = λ k x. absurd x
-  unqualified (tree.unary m op e) none = λ k x. absurd x
-  unqualified (tree.bump m op e) none = λ k x. absurd x
-  unqualified (tree.binary m op x y) none = λ k x. absurd x
-  unqualified (tree.assign m x y) none = λ k x. absurd x
-  unqualified (tree.compound m op x y) none = λ k x. absurd x
+-- ---- whether the words lead to the class's image
 
-  behind : (m : A) (e : tree.Exp A) (w : tree.Word A) → NamesClass rows c (tree.field m e w) → (o : Option ClassKey) → IsNamed rows c e o → IsWritten begins rows g c (tree.field m e w) o
-  unfolding IsClassName
-  behind m e w (k, (j, on, finds)) None none = absurd (none j on)
-  behind m e w names (Some o) on = λ k x. (o, on, refl)
+pub front_smaller : {A : Type 0} (e p : tree.Exp A) → front e ≡ Some p → exp_size p < exp_size e
+unfolding exp_size
+front_smaller (tree.field m e w) p is = let s = ap exp_size (exp_inside e p is) in omega (arith, s)
+front_smaller (tree.name m v) p is = absurd cc
+front_smaller (tree.number m n) p is = absurd cc
+front_smaller (tree.truth m b) p is = absurd cc
+front_smaller (tree.null m) p is = absurd cc
+front_smaller (tree.string m t) p is = absurd cc
+front_smaller (tree.super_field m v) p is = absurd cc
+front_smaller (tree.this m) p is = absurd cc
+front_smaller (tree.class_literal m t) p is = absurd cc
+front_smaller (tree.call m to v args) p is = absurd cc
+front_smaller (tree.super_call m v args) p is = absurd cc
+front_smaller (tree.create m t args) p is = absurd cc
+front_smaller (tree.paren m e) p is = absurd cc
+front_smaller (tree.cast m t e) p is = absurd cc
+front_smaller (tree.unary m op e) p is = absurd cc
+front_smaller (tree.bump m op e) p is = absurd cc
+front_smaller (tree.binary m op x y) p is = absurd cc
+front_smaller (tree.assign m x y) p is = absurd cc
+front_smaller (tree.compound m op x y) p is = absurd cc
 
-  pub qualified : (e p : tree.Exp A) → front e ≡ Some p → NamesClass rows c e → (o : Option ClassKey) → IsNamed rows c p o → IsWritten begins rows g c e o
-  qualified (tree.field m e w) p is names o named = behind m e w names o (subst (λ (x : tree.Exp A). IsNamed rows c x o) (sym (exp_inside e p is)) named)
-  qualified (tree.name m v) p is names o named = absurd cc
-  qualified (tree.number m n) p is names o named = absurd cc
-  qualified (tree.truth m b) p is names o named = absurd cc
-  qualified (tree.null m) p is names o named = absurd cc
-  qualified (tree.string m t) p is names o named = absurd cc
-  qualified (tree.super_field m v) p is names o named = absurd cc
-  qualified (tree.this m) p is names o named = absurd cc
-  qualified (tree.class_literal m t) p is names o named = absurd cc
-  qualified (tree.call m to v args) p is names o named = absurd cc
-  qualified (tree.super_call m v args) p is names o named = absurd cc
-  qualified (tree.create m t args) p is names o named = absurd cc
-  qualified (tree.paren m e) p is names o named = absurd cc
-  qualified (tree.cast m t e) p is names o named = absurd cc
-  qualified (tree.unary m op e) p is names o named = absurd cc
-  qualified (tree.bump m op e) p is names o named = absurd cc
-  qualified (tree.binary m op x y) p is names o named = absurd cc
-  qualified (tree.assign m x y) p is names o named = absurd cc
-  qualified (tree.compound m op x y) p is names o named = absurd cc
+module _ {A : Type 0} (rows : List Row) (g : Renaming) (c : Context) (k : ClassKey) (b : Bool) where
+  -- the first word
+  pub unqualified : (e : tree.Exp A) → front e ≡ None → (IsTrue b ↔ LeadsFirst rows g c k) → IsTrue b ↔ WordsLead rows g c e k
+  unqualified (tree.field m e w) none leads = absurd cc
+  unqualified (tree.name m w) none leads = leads
+  unqualified (tree.number m n) none leads = leads
+  unqualified (tree.truth m b) none leads = leads
+  unqualified (tree.null m) none leads = leads
+  unqualified (tree.string m t) none leads = leads
+  unqualified (tree.super_field m v) none leads = leads
+  unqualified (tree.this m) none leads = leads
+  unqualified (tree.class_literal m t) none leads = leads
+  unqualified (tree.call m to v args) none leads = leads
+  unqualified (tree.super_call m v args) none leads = leads
+  unqualified (tree.create m t args) none leads = leads
+  unqualified (tree.paren m e) none leads = leads
+  unqualified (tree.cast m t e) none leads = leads
+  unqualified (tree.unary m op e) none leads = leads
+  unqualified (tree.bump m op e) none leads = leads
+  unqualified (tree.binary m op x y) none leads = leads
+  unqualified (tree.assign m x y) none leads = leads
+  unqualified (tree.compound m op x y) none leads = leads
+
+  -- a further one, behind what stands in front of its dot
+  abbrev LeadsOn : tree.Exp A → Type 0
+  LeadsOn p = (o : ClassKey) × IsClassName rows c p o × WordsLead rows g c p o × LeadsBehind rows g c o k
+
+  further : (e p : tree.Exp A) → front e ≡ Some p → (IsTrue b ↔ LeadsOn p) → IsTrue b ↔ WordsLead rows g c e k
+  further (tree.field m e w) p is leads = subst (λ (x : tree.Exp A). IsTrue b ↔ LeadsOn x) (sym (exp_inside e p is)) leads
+  further (tree.name m v) p is leads = absurd cc
+  further (tree.number m n) p is leads = absurd cc
+  further (tree.truth m b) p is leads = absurd cc
+  further (tree.null m) p is leads = absurd cc
+  further (tree.string m t) p is leads = absurd cc
+  further (tree.super_field m v) p is leads = absurd cc
+  further (tree.this m) p is leads = absurd cc
+  further (tree.class_literal m t) p is leads = absurd cc
+  further (tree.call m to v args) p is leads = absurd cc
+  further (tree.super_call m v args) p is leads = absurd cc
+  further (tree.create m t args) p is leads = absurd cc
+  further (tree.paren m e) p is leads = absurd cc
+  further (tree.cast m t e) p is leads = absurd cc
+  further (tree.unary m op e) p is leads = absurd cc
+  further (tree.bump m op e) p is leads = absurd cc
+  further (tree.binary m op x y) p is leads = absurd cc
+  further (tree.assign m x y) p is leads = absurd cc
+  further (tree.compound m op x y) p is leads = absurd cc
+
+module _ {A : Type 0} (rows : List Row) (g : Renaming) (c : Context) (k : ClassKey) (e p : tree.Exp A) (is : front e ≡ Some p) where
+  -- it is no class's name
+  pub behind_none : IsNamed rows c p None → IsTrue false ↔ WordsLead rows g c e k
+  behind_none none = further rows g c k false e p is (λ t. absurd cc, λ (o, named, lead, behind). absurd (none o named))
+
+  module _ (exact : IsBound A rows c) (o : ClassKey) (named : IsClassName rows c p o) where
+    one_class : (j : ClassKey) → IsClassName rows c p j → j ≡ o
+    one_class j other = let x = (exact.names p j).1 other in let y = (exact.names p o).1 named in cc
+
+    -- its words don't lead to it
+    pub behind_lost : (a : Bool) → a ≡ false → (IsTrue a ↔ WordsLead rows g c p o) → IsTrue false ↔ WordsLead rows g c e k
+    behind_lost a isnt leads = further rows g c k false e p is
+        (λ t. absurd cc, λ (j, other, lead, behind). let x : a ≡ true = leads.1 (subst (λ (z : ClassKey). WordsLead rows g c p z) (one_class j other) lead) in absurd cc)
+
+    -- they do
+    pub behind_led : (a b : Bool) → a ≡ true → (IsTrue a ↔ WordsLead rows g c p o) → (IsTrue b ↔ LeadsBehind rows g c o k) → IsTrue b ↔ WordsLead rows g c e k
+    behind_led a b led leads last = further rows g c k b e p is
+        (λ t. (o, named, leads.0 led, last.0 t), λ (j, other, lead, behind). last.1 (subst (λ (z : ClassKey). LeadsBehind rows g c z k) (one_class j other) behind))

@@ -14,6 +14,7 @@ use Rattle.std.specs.Prelude.{
   Option,
   Some,
   None,
+  false,
   option_map,
   ◌⊎◌,
   if◌then◌else◌,
@@ -59,7 +60,7 @@ use Rattle.jr_rename.specs.Images.{Renaming, class_to, types_to, rows_to, scope_
 use Rattle.jr_rename.specs.Spelling as spells
 use Rattle.jr_rewrite.specs.Respellings.{Choice}
 use Rattle.jr_respell.specs.Scopes as scopes
-use Rattle.jr_respell.specs.Chosen.{unmarked, words_of}
+use Rattle.jr_respell.specs.Chosen.{unmarked}
 use Rattle.jr_gather.specs.declared.here.Here as raw
 use Rattle.jr_gather.specs.declared.here.Role as raw_role
 use Rattle.jr_gather.specs.declared.here.Role.TheVariants as roles
@@ -235,12 +236,6 @@ module _ {A : Type 0} (begins : A → ℕ → ℕ) (rows : List Row) (g : Renami
   DottedSpells role at e name h = spells.FieldSpells begins rows g c at e name h
       ⊎ spells.MemberClassSpells begins rows g c role at e name h
 
-  -- a class's name, whose words are written so in the new program
-  abbrev pub IsWritten : tree.Exp A → Option ClassKey → Type 0
-  IsWritten e outer =
-      (k : ClassKey) → IsClassName rows c e k
-      → spells.ClassWords begins rows g c e k (words_of g outer k)
-
 abbrev pub NamesClass : {A : Type 0} → List Row → Context → tree.Exp A → Type 0
 NamesClass rows c e = (k : ClassKey) × IsClassName rows c e k
 
@@ -275,7 +270,7 @@ module _ {A : Type 0} (begins : A → ℕ → ℕ) (rows : List Row) (g : Renami
       × WritesType rows (scope_of c) t (class k)
       × CreationFinds rows c t args (one (constructor_decl q)) × HaveTypes rows c args ts
       × spells.Spells begins rows g (scope_to g c) at [] [] (constructor_decl q)
-      (spells.reference ref.AsAsked [] (spells.operand_of (class_to g k) []) (types_to g ts))
+      (spells.reference ref.AsAsked [] (spells.operand_of (class_to g k) false) (types_to g ts))
       (FindsCtorOf (rows_to g rows) (scope_to g c) (class_to g k) (types_to g ts)) h
 
 -- the names of a class as a type

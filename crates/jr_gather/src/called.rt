@@ -14,7 +14,7 @@ ghost use Rattle.jr_gather.specs.Known.{rows_of, naming_of, context_of, IsKnown,
 ghost use Rattle.jr_gather.specs.Known.{ExpReady, SoundExp, RefersExp, TypesRow};
 ghost use Rattle.jr_gather.specs.Known.{TypesCreation};
 
-use crate::chosen::outer_class;
+use crate::chosen::words_lead;
 use crate::here::Here;
 use crate::meanings::{Before, before_dot, types, value_at};
 use jr_ast::{Expr, Name, Path, TypeRef};
@@ -115,8 +115,8 @@ fn class_call<A: Mark>(
     types_are_exact::<A>();
     here.scopes.programs.before.keeps_rows();
     let _count = args.len();
-    let outer = outer_class(here, base, part);
-    let choice = static_call(alloc, &here.scopes, at, outer, class, name, types)?;
+    let leads = words_lead(alloc, here, base, part, class)?;
+    let choice = static_call(alloc, &here.scopes, at, leads, class, name, types)?;
     Ok(choice.unwrap())
 }
 

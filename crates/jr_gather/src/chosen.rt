@@ -1,5 +1,5 @@
 //! What is chosen for each reference of a program without faults and errors.
-ghost use Rattle.std.specs.Prelude.{None, IfOk, option_map};
+ghost use Rattle.std.specs.Prelude.{◌↔◌, None, IsTrue, IfOk, option_map};
 ghost use Rattle.jr_ast.specs.View.{expr_of};
 ghost use Rattle.jr_table.specs.TypeView.{class_key_of};
 ghost use Rattle.jr_table.specs.Binding.{IsClassName, left};
@@ -14,7 +14,10 @@ ghost use Rattle.jr_gather.specs.Known.{ExpReady, SoundExp, RefersExp};
 use crate::here::{Here, Role};
 use crate::meanings::{Before, before_dot, front, named_class};
 use jr_ast::{Expr, Name, Path};
-use jr_respell::{Choice, field, left_class, member_class, static_field, super_field, variable};
+use jr_respell::{
+    Choice, field, leads_behind, leads_first, left_class, member_class, static_field, super_field,
+    variable,
+};
 use jr_table::{ClassKey, lookups_are_exact, types_are_exact};
 use jr_text::{Mark, Span};
 use std::alloc::{AllocError, Global};
@@ -68,27 +71,40 @@ pub(crate) fn name_choice(
     }
 }
 
-/// The class in front of the last dot of a class's name.
-pub(crate) fn outer_class<'a, A: Mark>(
-    here: &Here<'a>,
+/// Whether the words of the class in front of a dot, with the new names, lead to its image.
+pub(crate) fn words_lead<A: Mark>(
+    alloc: Global,
+    here: &Here<'_>,
     base: u32,
     of: &Expr<A>,
-) -> Option<&'a ClassKey>
+    class: &ClassKey,
+) -> Result<bool, AllocError>
+    requires known { IsKnown here.now }
     requires fits { FitsExp (λ m b. (A.span_from m b).from) A.fits_at base (expr_of of.now) }
     requires sound { SoundExp (λ m b. (A.span_from m b).from) (rows_of here.now)
         (context_of here.now) left base (expr_of of.now) }
     requires refers { RefersExp (λ m b. (A.span_from m b).from) here.now (context_of here.now)
         left base (expr_of of.now) }
-    requires class { pure.NamesClass (rows_of here.now) (context_of here.now)
-        (expr_of of.now) }
-    ensures { pure.IsWritten (λ m b. (A.span_from m b).from) (rows_of here.now)
-        (naming_of here.now) (context_of here.now) (expr_of of.now)
-        (option_map (λ k. class_key_of k.now) result) }
+    ensures { IfOk result (λ b. IsTrue b ↔ spells.WordsLead (rows_of here.now)
+        (naming_of here.now) (context_of here.now) (expr_of of.now) (class_key_of class.now)) }
 {
+    lookups_are_exact();
+    types_are_exact::<A>();
+    here.scopes.programs.before.keeps_rows();
     let at = of.mark.span(base).from;
     match front(of) {
-        None => None,
-        Some(part) => named_class(here, at, part),
+        None => leads_first(alloc, &here.scopes, class),
+        Some(part) => match named_class(here, at, part) {
+            None => Ok(false),
+            Some(outer) => {
+                let leads = words_lead(alloc, here, at, part, outer)?;
+                if leads {
+                    leads_behind(alloc, &here.scopes, outer, class)
+                } else {
+                    Ok(false)
+                }
+            }
+        },
     }
 }
 
@@ -119,8 +135,8 @@ fn through_class<A: Mark>(
 {
     lookups_are_exact();
     here.scopes.programs.before.keeps_rows();
-    let outer = outer_class(here, base, part);
-    let found = static_field(alloc, &here.scopes, at, outer, class, name)?;
+    let leads = words_lead(alloc, here, base, part, class)?;
+    let found = static_field(alloc, &here.scopes, at, leads, class, name)?;
     match found {
         Some(choice) => Ok(choice),
         None => inner_choice(alloc, here, role, part, class, at, name),

@@ -1,6 +1,6 @@
 -- For each word of a program one thing is chosen, whatever list the renaming goes by.
-use Rattle.std.proofs.Common.{◌≡◌, ℕ, ◌<◌, List, [], ◌∷◌, Option, Some, None, true, false, refl, sym, ap, subst, ◌∙◌, inl, inr}
-use Rattle.std.specs.Prelude.{◌⊎◌, slice_get}
+use Rattle.std.proofs.Common.{◌≡◌, ℕ, ◌<◌, List, [], ◌∷◌, Option, Some, None, Bool, true, false, refl, sym, ap, subst, ◌∙◌, inl, inr}
+use Rattle.std.specs.Prelude.{◌⊎◌, ◌↔◌, IsTrue, slice_get}
 use Rattle.std.proofs.lemmas.Bool.{cases_order}
 use Rattle.std.proofs.lemmas.Option.{same_Some}
 use Rattle.jr_text.specs.declared.spans.Span.{Span}
@@ -27,7 +27,7 @@ use Rattle.jr_spell.specs.Binds.{LeadsTo, LeadsIn}
 use Rattle.jr_spell.specs.Taken.{IsTaken}
 use Rattle.jr_rewrite.specs.Respellings.{Choice, loses}
 use Rattle.jr_rename.specs.Images.{Renaming, class_to, types_to, rows_to, scope_to}
-use Rattle.jr_rename.specs.Spelling.{renamed, spelled, dotted, ClassWords, OnOperand, VariableSpells, ClassSpells, FieldSpells, MemberClassSpells, SuperFieldSpells, SimpleCallSpells, CallSpells, SuperCallSpells, ExpSpells, CreationSpells, SuperCtorSpells, TypeSpells, QualifierSpells, ParentSpells, ParentQualifierSpells, spelling}
+use Rattle.jr_rename.specs.Spelling.{renamed, spelled, WordsLead, OnOperand, VariableSpells, ClassSpells, FieldSpells, MemberClassSpells, SuperFieldSpells, SimpleCallSpells, CallSpells, SuperCallSpells, ExpSpells, CreationSpells, SuperCtorSpells, TypeSpells, QualifierSpells, ParentSpells, ParentQualifierSpells, spelling}
 use Rattle.jr_respell.specs.Ways.{Way, local, own_field, field_on, field_through, field_above, method_named, method_on, method_through, method_above, ctor_of, ctor_above, type_named, type_behind, name_in, reference_by, Finds}
 use Rattle.jr_respell.specs.Taking.{Asked, asked, SpellsAt}
 use Rattle.jr_bind.specs.SuperPlaces.{writes_super}
@@ -95,11 +95,11 @@ module _ (rows : List Row) (fit : AreRows rows) (each : EachHasOne rows) where
   finds_once s local name ts = each.variable s name
   finds_once s own_field name ts = each.variable s name
   finds_once s (field_on k) name ts = each.field_in s k name
-  finds_once s (field_through text k) name ts = each.field_in s k name
+  finds_once s (field_through leads k) name ts = each.field_in s k name
   finds_once s field_above name ts = in_once (IsSuperclass rows s.class) (λ k f. FindsFieldIn rows s k name f) (superclass_once s.class) (λ k. each.field_in s k name)
   finds_once s method_named name ts = each.method_named s name ts
   finds_once s (method_on k) name ts = each.method_of s k name ts
-  finds_once s (method_through text k) name ts = each.method_of s k name ts
+  finds_once s (method_through leads k) name ts = each.method_of s k name ts
   finds_once s method_above name ts = in_once (IsSuperclass rows s.class) (λ k f. FindsMethodOf rows s k name ts f) (superclass_once s.class) (λ k. each.method_of s k name ts)
   finds_once s (ctor_of k) name ts = each.ctor_of s k ts
   finds_once s ctor_above name ts = in_once (IsSuperclass rows s.class) (λ k f. FindsCtorOf rows s k ts f) (superclass_once s.class) (λ k. each.ctor_of s k ts)
@@ -119,6 +119,22 @@ module _ (rows : List Row) (c : Context) (bound : IsBound Span rows c) where
   types_once (tree.more e es) [] us p q = absurd p
   types_once (tree.more e es) (t ∷ ts) [] p q = absurd q
   types_once (tree.more e es) (t ∷ ts) (u ∷ us) p q = λ i. type_once e t u p.0 q.0 i ∷ types_once es ts us p.1 q.1 i
+
+-- the words of a class lead to it alike
+leads_over : {A : Type 0} (rows : List Row) (p q : Renaming) → makes p ≡ makes q → (c : Context) (e : tree.Exp A) (k : ClassKey) → WordsLead rows p c e k → WordsLead rows q c e k
+leads_over rows p q same c (tree.field m e w) k (o, on, lead, behind) = (
+  o,
+  on,
+  leads_over rows p q same c e o lead,
+  subst (λ (m : Makes). LeadsIn (m.rows rows) (m.scopes c) (m.classes o) (m.classes k).name (m.classes k)) same behind,
+)
+leads_over rows p q same c e k lead = subst (λ (m : Makes). LeadsTo (m.rows rows) (m.scopes c) None (m.classes k).name (m.classes k)) same lead
+
+same_truth : (a b : Bool) → (IsTrue a → IsTrue b) → (IsTrue b → IsTrue a) → a ≡ b
+same_truth true true to back = refl
+same_truth true false to back = let x : false ≡ true = to refl in absurd cc
+same_truth false true to back = let x : false ≡ true = back refl in absurd cc
+same_truth false false to back = refl
 
 value_key : (j k : ClassKey) → class j ≡ class k → j ≡ k
 value_key j k e = cc
@@ -192,21 +208,17 @@ module _ (rows : List Row) (fit : AreRows rows) (each : EachHasOne rows) (bounds
   operand_one c e (inr x) (inl y) through on = absurd (x.0 y.0 y.1)
   operand_one c e (inr x) (inr y) through on = on x.1.0 y.1.0 (value_key x.1.0 y.1.0 (type_once rows c (bounds c) e (class x.1.0) (class y.1.0) x.1.1 y.1.1)) x.1.2 y.1.2
 
-  class_name : (k l : ClassKey) → k ≡ l → (class_to g k).name ≡ (class_to h l).name
-  class_name k l e = ap (λ (z : ClassKey). z.name) (class_same g h alike k ∙ ap (class_to h) e)
-
-  words_one : (c : Context) (e : tree.Exp Span) (k l : ClassKey) → k ≡ l → (t u : List ℕ) → ClassWords begins rows g c e k t → ClassWords begins rows h c e l u → t ≡ u
-  words_one c (tree.field m e w) k l s t u x y =
-      let o = class_once rows c (bounds c) e x.0 y.0 x.1 y.1 in
-      x.2 ∙ (λ i. dotted (class_name x.0 y.0 o i) (class_name k l s i)) ∙ sym y.2
-  words_one c e k l s t u x y = x ∙ class_name k l s ∙ sym y
+  leads_one : (c : Context) (e : tree.Exp Span) (k l : ClassKey) → k ≡ l → (a b : Bool) → (IsTrue a ↔ WordsLead rows g c e k) → (IsTrue b ↔ WordsLead rows h c e l) → a ≡ b
+  leads_one c e k l s a b x y = same_truth a b
+      (λ t. y.1 (leads_over rows g h (makes_same g h alike) c e l (subst (WordsLead rows g c e) s (x.0 t))))
+      (λ t. x.1 (subst (WordsLead rows g c e) (sym s) (leads_over rows h g (sym (makes_same g h alike)) c e l (y.0 t))))
 
   field_one : (c : Context) (at : ℕ) (e : tree.Exp Span) (old : List ℕ) (a b : Choice) → FieldSpells begins rows g c at e old a → FieldSpells begins rows h c at e old b → a ≡ b
   field_one c at e old a b x y =
       let d = same_decl (field_decl x.0) (field_decl y.0) (field_once rows fit each c (bounds c) e old (one (field_decl x.0)) (one (field_decl y.0)) x.1 y.1) in
       operand_one c e x.2 y.2
       (λ k l s v w. asks_one c at old (record { way = λ m. field_through v.0 (m.classes k); types = []; decl = field_decl x.0 }) (record { way = λ m. field_through w.0 (m.classes l); types = []; decl = field_decl y.0 })
-      (λ i. record { way = λ m. field_through (words_one c e k l s v.0 w.0 v.1 w.1 i) (m.classes (s i)); types = []; decl = d i }) a b v.2 w.2)
+      (λ i. record { way = λ m. field_through (leads_one c e k l s v.0 w.0 v.1 w.1 i) (m.classes (s i)); types = []; decl = d i }) a b v.2 w.2)
       (λ k l s v w. asks_one c at old (record { way = λ m. field_on (m.classes k); types = []; decl = field_decl x.0 }) (record { way = λ m. field_on (m.classes l); types = []; decl = field_decl y.0 })
       (λ i. record { way = λ m. field_on (m.classes (s i)); types = []; decl = d i }) a b v w)
 
@@ -244,7 +256,7 @@ module _ (rows : List Row) (fit : AreRows rows) (each : EachHasOne rows) (bounds
       let ts = types_once rows c (bounds c) args x.1 y.1 x.3 y.3 in
       operand_one c e x.4 y.4
       (λ k l s v w. asks_one c at old (record { way = λ m. method_through v.0 (m.classes k); types = x.1; decl = method_decl x.0 }) (record { way = λ m. method_through w.0 (m.classes l); types = y.1; decl = method_decl y.0 })
-      (λ i. record { way = λ m. method_through (words_one c e k l s v.0 w.0 v.1 w.1 i) (m.classes (s i)); types = ts i; decl = d i }) a b v.2 w.2)
+      (λ i. record { way = λ m. method_through (leads_one c e k l s v.0 w.0 v.1 w.1 i) (m.classes (s i)); types = ts i; decl = d i }) a b v.2 w.2)
       (λ k l s v w. asks_one c at old (record { way = λ m. method_on (m.classes k); types = x.1; decl = method_decl x.0 }) (record { way = λ m. method_on (m.classes l); types = y.1; decl = method_decl y.0 })
       (λ i. record { way = λ m. method_on (m.classes (s i)); types = ts i; decl = d i }) a b v w)
 

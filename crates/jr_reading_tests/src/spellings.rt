@@ -1,9 +1,9 @@
 //! How references are spelled in one small program.
-use crate::keys::{decl, name_of, ty, tys};
+use crate::keys::{class_key, decl, name_of, ty, tys};
 use crate::rows::cut;
 use crate::scopes::scope;
 use jr_lookup::Scope;
-use jr_spell::{Operand, RefForm, Reference, respell};
+use jr_spell::{Operand, RefForm, Reference, leads_in, leads_simply, respell};
 use jr_table::{Decl, Table};
 use std::alloc::Global;
 use std::process::Abort;
@@ -23,11 +23,13 @@ class O {
 class W { static class D extends O.I { static void u() {} } }
 class E extends O { static class B {} }
 class Z extends O { static class O {} }
+class V { static class G extends O {} }
 ";
 
 /// The form of a reference; a place's class, with `static` in front if it is in a static context;
-/// its locals; the asked spelling; the operand's type and text; the declaration's kind, class and
-/// name; the types of arguments; and the spelling that is expected, nothing where there is none.
+/// its locals; the asked spelling; the operand's type and text, or through a class the classes that
+/// its words mean; the declaration's kind, class and name; the types of arguments; and the spelling
+/// that is expected, nothing where there is none.
 pub(crate) const ROWS: &'static str = "
 ~# A field by its simple name.
 ~spell FieldSimple C;;x;;field C x => x
@@ -96,13 +98,20 @@ pub(crate) const ROWS: &'static str = "
 ~spell ThroughClass W.D;B;B.s;B B;field A s => A.s
 ~spell ThroughClass W.D;B A;B.s;B B;field A s =>\x20
 ~# A class below one that has the member, and a local that obscures it.
-~spell ThroughClass W;;D.t;W.D D;field O.I t => D.t
-~spell ThroughClass W;D;D.t;W.D D;field O.I t => O.I.t
+~spell ThroughClass W;;D.t;W.D W.D;field O.I t => D.t
+~spell ThroughClass W;D;D.t;W.D W.D;field O.I t => O.I.t
 ~# A class that is written behind another, and a local that obscures that one.
-~spell ThroughClass B;;O.I.t;O.I O.I;field O.I t => O.I.t
-~spell ThroughClass O;O;O.I.t;O.I O.I;field O.I t => I.t
+~spell ThroughClass B;;O.I.t;O.I O,O.I;field O.I t => O.I.t
+~spell ThroughClass O;O;O.I.t;O.I O,O.I;field O.I t => I.t
 ~# Behind a class that has it as a member type.
-~spell ThroughClass B;;E.I.t;O.I E.I;field O.I t => E.I.t
+~spell ThroughClass B;;E.I.t;O.I E,O.I;field O.I t => E.I.t
+~# Behind more words, and a local that obscures the first one.
+~spell ThroughClass B;;V.G.I.t;O.I V,V.G,O.I;field O.I t => V.G.I.t
+~spell ThroughClass B;V;V.G.I.t;O.I V,V.G,O.I;field O.I t => O.I.t
+~# No local obscures a further word.
+~spell ThroughClass B;G I;V.G.I.t;O.I V,V.G,O.I;field O.I t => V.G.I.t
+~# A word that is another class's member, though the last one is found.
+~spell ThroughClass B;;V.G.I.t;O.I V,E,O.I;field O.I t => O.I.t
 ~# An instance field.
 ~spell ThroughClass W.D;;B.x;B B;field B x =>\x20
 ~# A field obscures the class.
@@ -110,7 +119,7 @@ pub(crate) const ROWS: &'static str = "
 ~# Methods.
 ~spell ThroughClass W.D;;B.sm;B B;method A sm => B.sm
 ~spell ThroughClass W.D;;C.sm;C C;method A sm => A.sm
-~spell ThroughClass W;D;D.u;W.D D;method O.I u => O.I.u
+~spell ThroughClass W;D;D.u;W.D W.D;method O.I u => O.I.u
 ~# An instance method.
 ~spell ThroughClass W.D;;B.m;B B;method B m =>\x20
 ~# A method by its simple name.
@@ -198,15 +207,41 @@ fn target(rt: &impl Abort, alloc: Global, place: &str, text: &str) -> Box<Decl> 
     decl(rt, alloc, kind, class, name, "")
 }
 
-/// A type and a text; nothing where there is neither.
-fn operand(rt: &impl Abort, alloc: Global, text: &str) -> Option<Operand> {
+/// Whether words in front of a dot lead to these classes, one after the other.
+fn words_lead(rt: &impl Abort, alloc: Global, table: &Table, scope: &Scope, path: &str) -> bool {
+    let mut leads = true;
+    let mut around = "";
+    for word in path.split(',') {
+        let class = class_key(rt, alloc, word);
+        leads = leads
+            & if around.is_empty() {
+                leads_simply(table, scope, &class.name, &class)
+            } else {
+                let outer = class_key(rt, alloc, around);
+                leads_in(table, scope, &outer, &class.name, &class)
+            };
+        around = word;
+    }
+    leads
+}
+
+/// A type, and a text or the classes of words; nothing where there is neither.
+fn operand(
+    rt: &impl Abort,
+    alloc: Global,
+    table: &Table,
+    scope: &Scope,
+    form: &str,
+    text: &str,
+) -> Option<Operand> {
     if text.is_empty() {
         return None;
     }
     let (of, text) = cut(text, " ");
     let ty = ty(rt, alloc, of);
+    let leads = (form == "ThroughClass") & words_lead(rt, alloc, table, scope, text);
     let text = name_of(rt, alloc, text);
-    Some(Operand { ty, text })
+    Some(Operand { ty, text, leads })
 }
 
 fn reference(
@@ -214,12 +249,11 @@ fn reference(
     alloc: Global,
     form: &str,
     asked: &str,
-    of: &str,
+    operand: Option<Operand>,
     args: &str,
 ) -> Box<Reference> {
     let asked = name_of(rt, alloc, asked);
     let args = tys(rt, alloc, args);
-    let operand = operand(rt, alloc, of);
     let reference = Reference {
         form: form_named(form),
         asked,
@@ -239,7 +273,8 @@ pub(crate) fn spelled(rt: &impl Abort, alloc: Global, table: &Table, asked: &str
     let (of, rest) = cut(rest, ";");
     let (named, args) = cut(rest, ";");
     let scope = place(rt, alloc, at, locals);
-    let reference = reference(rt, alloc, form, asked, of, args);
+    let operand = operand(rt, alloc, table, &scope, form, of);
+    let reference = reference(rt, alloc, form, asked, operand, args);
     let target = target(rt, alloc, at, named);
     let spelling = respell(alloc, table, &scope, &reference, &target).expect(rt, "memory");
     match &spelling {

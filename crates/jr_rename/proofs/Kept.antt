@@ -27,7 +27,7 @@ use Rattle.jr_rewrite.specs.Respellings.{Loss, Choice, front_of}
 use Rattle.jr_rewrite.specs.Rewritten.{Rewritten, within, joined, word_to, variable_to, variable_on, operand_to, super_to, target_of, drops_operand, losses_of, word_out, name_out, field_out, super_field_out, simple_call_out, dotted_call_out, operand_losses, Called}
 use Rattle.jr_rewrite.specs.Rewrites.{Choosing, RewritesExp, RewritesTarget, RewritesRow}
 use Rattle.jr_rename.specs.Images.{Renaming, class_to, type_to, types_to, field_to, method_to, ctor_to, decl_to, local_to, name_to, rows_to}
-use Rattle.jr_rename.specs.Spelling.{renamed, spelled, reference, operand_of, dotted, spelling, LocalSpells, OwnFieldSpells, ClassSpells, FieldSpells, MemberClassSpells, SuperFieldSpells, SimpleCallSpells, CallSpells, SuperCallSpells, CreationSpells}
+use Rattle.jr_rename.specs.Spelling.{renamed, spelled, reference, operand_of, spelling, LocalSpells, OwnFieldSpells, ClassSpells, FieldSpells, MemberClassSpells, SuperFieldSpells, SimpleCallSpells, CallSpells, SuperCallSpells, CreationSpells}
 use Rattle.jr_rename.specs.Keeping.{IsKept, IsBoundTo}
 use Rattle.jr_rename.proofs.Chosen.{renamed_front, lost_some, left_none, right_none}
 use Rattle.jr_rename.proofs.Forms.{one_form, two_forms, with_name}
@@ -205,7 +205,7 @@ module _ {A : Type 0} (tells : A → ℕ → Span) (rows : List Row) (g : Renami
 
     field_on_kept : (k : FieldKey) → FieldFinds rows c e v.text (one (field_decl k)) → ((j : ClassKey) → IsClassName rows c e j → ⊥) → (o : ClassKey) → HasType rows c e (class o)
         → (place : ℕ) (f : Form) → slice_get (Asked ∷ OnCastOperand ∷ []) place ≡ Some f
-        → Binds (rows_to g rows) (scope_of d) (reference ref.FieldOn (field_to g k).name (operand_of (class_to g o) []) []) (field_decl (field_to g k)) f
+        → Binds (rows_to g rows) (scope_of d) (reference ref.FieldOn (field_to g k).name (operand_of (class_to g o) false) []) (field_decl (field_to g k)) f
         → h ≡ spelled v.text (field_to g k).name (field_to g k).class f → To (field_decl (field_to g k)) NewField
     field_on_kept k finds not o type place f there binds is =
         let part = holds (ap (λ (y : Choice). drops_operand (front_of y)) is ∙ value_holds v.text (field_to g k).name (field_to g k).class place f there) in
@@ -213,22 +213,22 @@ module _ {A : Type 0} (tells : A → ℕ → Span) (rows : List Row) (g : Renami
         (field_on_value (λ m b. (tells m b).from) (rows_to g rows) w.are w.one_new d w.new w.rebind w.fronts m v.mark v.text (field_to g k) x (class_to g o)
         (part.typed (class o) type) (part.apart not) place f there binds)
 
-    field_through_kept : (k : FieldKey) (o : ClassKey) → IsClassName rows c e o → (text : List ℕ) (place : ℕ) (f : Form) → slice_get (Asked ∷ OnClass ∷ OnOuterClass ∷ []) place ≡ Some f
-        → Binds (rows_to g rows) (scope_of d) (reference ref.ThroughClass (dotted text (field_to g k).name) (operand_of (class_to g o) text) []) (field_decl (field_to g k)) f
+    field_through_kept : (k : FieldKey) (o : ClassKey) → IsClassName rows c e o → (leads : Bool) (place : ℕ) (f : Form) → slice_get (Asked ∷ OnClass ∷ OnOuterClass ∷ []) place ≡ Some f
+        → Binds (rows_to g rows) (scope_of d) (reference ref.ThroughClass (field_to g k).name (operand_of (class_to g o) leads) []) (field_decl (field_to g k)) f
         → h ≡ spelled v.text (field_to g k).name (field_to g k).class f → To (field_decl (field_to g k)) NewField
-    field_through_kept k o named text place f there binds is =
+    field_through_kept k o named leads place f there binds is =
         subst (λ (y : Choice). To (field_decl (field_to g k)) (variable_on m (operand_to m (front_of y) (Some x)) (word_to y v))) (sym is)
-        (field_through (λ m b. (tells m b).from) (rows_to g rows) w.are w.one_new d w.new w.rebind w.fronts m v.mark v.text (field_to g k) x (class_to g o) text place f there
+        (field_through (λ m b. (tells m b).from) (rows_to g rows) w.are w.one_new d w.new w.rebind w.fronts m v.mark v.text (field_to g k) x (class_to g o) leads place f there
         (λ asked. (holds (ap (λ (y : Choice). drops_operand (front_of y)) (is ∙ ap (spelled v.text (field_to g k).name (field_to g k).class) asked) ∙ renamed_holds v.text (field_to g k).name)).named o named) binds)
 
     pub field_kept : FieldSpells (λ m b. (tells m b).from) rows g c at e v.text h → Kept r (tree.field m e v) NewField
-    field_kept (k, finds, inl (o, named, (text, words, inl (f, taken, is)))) = kept_field r m e v NewField (field_decl k) finds (λ i e. cc) (λ i e. cc)
-        (field_through_kept k o named text taken.place f taken.stands
-        (to_scope tells rows g c d w (reference ref.ThroughClass (dotted text (field_to g k).name) (operand_of (class_to g o) text) []) (field_decl (field_to g k)) f taken.binds) is)
-    field_kept (k, finds, inl (o, named, (text, words, inr (none_binds, (f, found, is))))) = absurd (lost_some _ (sym (ap losses_of is) ∙ none))
+    field_kept (k, finds, inl (o, named, (leads, lead, inl (f, taken, is)))) = kept_field r m e v NewField (field_decl k) finds (λ i e. cc) (λ i e. cc)
+        (field_through_kept k o named leads taken.place f taken.stands
+        (to_scope tells rows g c d w (reference ref.ThroughClass (field_to g k).name (operand_of (class_to g o) leads) []) (field_decl (field_to g k)) f taken.binds) is)
+    field_kept (k, finds, inl (o, named, (leads, lead, inr (none_binds, (f, found, is))))) = absurd (lost_some _ (sym (ap losses_of is) ∙ none))
     field_kept (k, finds, inr (not, (o, type, inl (f, taken, is)))) = kept_field r m e v NewField (field_decl k) finds (λ i e. cc) (λ i e. cc)
         (field_on_kept k finds not o type taken.place f taken.stands
-        (to_scope tells rows g c d w (reference ref.FieldOn (field_to g k).name (operand_of (class_to g o) []) []) (field_decl (field_to g k)) f taken.binds) is)
+        (to_scope tells rows g c d w (reference ref.FieldOn (field_to g k).name (operand_of (class_to g o) false) []) (field_decl (field_to g k)) f taken.binds) is)
     field_kept (k, finds, inr (not, (o, type, inr (none_binds, (f, found, is))))) = absurd (lost_some _ (sym (ap losses_of is) ∙ none))
 
     -- a member class in front of a further dot
@@ -344,20 +344,20 @@ module _ {A : Type 0} (tells : A → ℕ → Span) (rows : List Row) (g : Renami
 
       pub call_kept : CallSpells (λ m b. (tells m b).from) rows g c at e v.text args h → Kept r (tree.call m (tree.on e) v args) NewCall
       unfolding IsClassName
-      call_kept (k, ts, finds, types, inl (o, named, (text, words, inl (f, taken, is)))) = kept_call r m (tree.on e) v args NewCall (method_decl k) finds (λ i e. cc) (λ i e. cc)
+      call_kept (k, ts, finds, types, inl (o, named, (leads, lead, inl (f, taken, is)))) = kept_call r m (tree.on e) v args NewCall (method_decl k) finds (λ i e. cc) (λ i e. cc)
           (subst (λ (y : Choice). To (method_decl (method_to g k)) (tree.call m (target_of (operand_to m (front_of y) (Some x))) (word_to y v) es)) (sym is)
           (call_through_class (λ m b. (tells m b).from) (rows_to g rows) w.are w.one_new d w.new w.rebind w.fronts m v.mark v.text (method_to g k) es (types_to g ts) (args_to ts types)
-          x (class_to g o) text taken.place f taken.stands
+          x (class_to g o) leads taken.place f taken.stands
           (λ asked. (holds (ap (λ (y : Choice). drops_operand (front_of y)) (is ∙ ap (spelled v.text (method_to g k).name (method_to g k).class) asked) ∙ renamed_holds v.text (method_to g k).name)).named o named)
-          (to_scope tells rows g c d w (reference ref.ThroughClass (dotted text (method_to g k).name) (operand_of (class_to g o) text) (types_to g ts)) (method_decl (method_to g k)) f taken.binds)))
-      call_kept (k, ts, finds, types, inl (o, named, (text, words, inr (none_binds, (f, found, is))))) = absurd (lost_some _ (sym (ap losses_of is) ∙ none))
+          (to_scope tells rows g c d w (reference ref.ThroughClass (method_to g k).name (operand_of (class_to g o) leads) (types_to g ts)) (method_decl (method_to g k)) f taken.binds)))
+      call_kept (k, ts, finds, types, inl (o, named, (leads, lead, inr (none_binds, (f, found, is))))) = absurd (lost_some _ (sym (ap losses_of is) ∙ none))
       call_kept (k, ts, finds, types, inr (not, (o, type, inl (f, taken, is)))) =
           let part = holds (ap (λ (y : Choice). drops_operand (front_of y)) is ∙ value_holds v.text (method_to g k).name (method_to g k).class taken.place f taken.stands) in
           kept_call r m (tree.on e) v args NewCall (method_decl k) finds (λ i e. cc) (λ i e. cc)
           (subst (λ (y : Choice). To (method_decl (method_to g k)) (tree.call m (target_of (operand_to m (front_of y) (Some x))) (word_to y v) es)) (sym is)
           (call_on_value (λ m b. (tells m b).from) (rows_to g rows) w.are w.one_new d w.new w.rebind w.fronts m v.mark v.text (method_to g k) es (types_to g ts) (args_to ts types)
           x (class_to g o) (part.typed (class o) type) (part.apart not) taken.place f taken.stands
-          (to_scope tells rows g c d w (reference ref.MethodOn (method_to g k).name (operand_of (class_to g o) []) (types_to g ts)) (method_decl (method_to g k)) f taken.binds)))
+          (to_scope tells rows g c d w (reference ref.MethodOn (method_to g k).name (operand_of (class_to g o) false) (types_to g ts)) (method_decl (method_to g k)) f taken.binds)))
       call_kept (k, ts, finds, types, inr (not, (o, type, inr (none_binds, (f, found, is))))) = absurd (lost_some _ (sym (ap losses_of is) ∙ none))
 
   -- ---- creations
@@ -392,10 +392,10 @@ module _ {A : Type 0} (tells : A → ℕ → Span) (rows : List Row) (g : Renami
 
     pub creation_kept : (r : Role) → CreationSpells (λ m b. (tells m b).from) rows g c base (tree.create m t args) h → Kept r (tree.create m t args) (tree.create m u es)
     creation_kept r (k, q, ts, written, finds, types, inl (f, taken, is)) = creates r k q ts written finds types
-        (one_form (λ f. Binds (rows_to g rows) (scope_of d) (reference ref.AsAsked [] (operand_of (class_to g k) []) (types_to g ts)) (constructor_decl (ctor_to g q)) f
+        (one_form (λ f. Binds (rows_to g rows) (scope_of d) (reference ref.AsAsked [] (operand_of (class_to g k) false) (types_to g ts)) (constructor_decl (ctor_to g q)) f
         → FindsCtorOf (rows_to g rows) (scope_of d) (class_to g k) (types_to g ts) (one (constructor_decl (ctor_to g q)))) (λ binds. binds)
         taken.place f taken.stands
-        (to_scope tells rows g c d w (reference ref.AsAsked [] (operand_of (class_to g k) []) (types_to g ts)) (constructor_decl (ctor_to g q)) f taken.binds))
+        (to_scope tells rows g c d w (reference ref.AsAsked [] (operand_of (class_to g k) false) (types_to g ts)) (constructor_decl (ctor_to g q)) f taken.binds))
     creation_kept r (k, q, ts, written, finds, types, inr (none_binds, (f, found, is))) = absurd (lost_some _ (sym (ap losses_of is) ∙ none))
 
   -- ---- all expressions

@@ -1,5 +1,5 @@
 -- A reference that is spelled as it is taken is bound to the declaration: of any rows and place.
-use Rattle.std.proofs.Common.{◌≡◌, ℕ, List, [], ◌∷◌, Option, Some, None, refl, sym, subst, inl, inr}
+use Rattle.std.proofs.Common.{◌≡◌, ℕ, List, [], ◌∷◌, Option, Some, None, Bool, false, refl, sym, subst, inl, inr}
 use Rattle.std.specs.Prelude.{slice_get}
 use Rattle.jr_ast.specs.Tree as tree
 use Rattle.jr_table.specs.Keys.{ClassKey, FieldKey, MethodKey, Ty, class}
@@ -21,7 +21,7 @@ use Rattle.jr_spell.specs.Binds.{Binds}
 use Rattle.jr_spell.specs.Rebound.{IsTree, Fits, SpellingsRebind, AreFronts}
 use Rattle.jr_rewrite.specs.Respellings.{Front, front_of}
 use Rattle.jr_rewrite.specs.Rewritten.{word_to, operand_to, variable_on, variable_to, super_to, target_of, new_word, cast_tree}
-use Rattle.jr_rename.specs.Spelling.{renamed, spelled, dotted}
+use Rattle.jr_rename.specs.Spelling.{renamed, spelled}
 use Rattle.jr_rename.proofs.Chosen.{outer_front_is}
 use Rattle.jr_rename.proofs.Forms.{two_forms, three_forms, four_forms, six_forms, with_name}
 
@@ -93,10 +93,10 @@ module _ {A : Type 0} (begins : A → ℕ → ℕ) (rows : List Row) (are : AreR
   }
 
   -- an expression that has the class's type, and is no class's name
-  fits_value : (form : RefForm) (asked text : List ℕ) (k : ClassKey) (e : tree.Exp A) (args : tree.Exps A) (ts : List Ty) → HasType rows d e (class k)
+  fits_value : (form : RefForm) (asked : List ℕ) (k : ClassKey) (e : tree.Exp A) (args : tree.Exps A) (ts : List Ty) → HasType rows d e (class k)
       → ((o : ClassKey) → IsClassName rows d e o → ⊥) → HaveTypes rows d args ts
-      → Fits begins rows d (record { form = form; asked = asked; operand = Some (record { ty = class k; text = text }); args = ts }) e args
-  fits_value form asked text k e args ts type apart types = record {
+      → Fits begins rows d (record { form = form; asked = asked; operand = Some (record { ty = class k; text = []; leads = false }); args = ts }) e args
+  fits_value form asked k e args ts type apart types = record {
     has_type = λ o q. let p : (class k) ≡ o.ty = cc in subst (λ (x : Ty). HasType rows d e x) p type;
     value = apart;
     have_types = types;
@@ -175,14 +175,14 @@ module _ {A : Type 0} (begins : A → ℕ → ℕ) (rows : List Row) (are : AreR
   module _ (m n : A) (old : List ℕ) (k : FieldKey) where
     module _ (x : tree.Exp A) (o : ClassKey) (type : HasType rows d x (class o)) (apart : (z : ClassKey) → IsClassName rows d x z → ⊥) where
       abbrev on_value : Reference
-      on_value = record { form = ref.FieldOn; asked = k.name; operand = Some (record { ty = class o; text = [] }); args = [] }
+      on_value = record { form = ref.FieldOn; asked = k.name; operand = Some (record { ty = class o; text = []; leads = false }); args = [] }
 
       abbrev FieldOnTo : Form → Type 0
       FieldOnTo f = Binds rows (scope_of d) on_value (field_decl k) f
           → Stands (field_decl k) (variable_on m (operand_to m (front_of (spelled old k.name k.class f)) (Some x)) (word_to (spelled old k.name k.class f) (record { mark = n; text = old })))
 
       by_value : (f : Form) (y : tree.Exp A) → IsNamed y → Binds rows (scope_of d) on_value (field_decl k) f → IsTree on_value (field_decl k) x tree.end f y → Stands (field_decl k) y
-      by_value f y ok binds shape = bound on_value (field_decl k) f x tree.end y ok binds shape (fits_value ref.FieldOn k.name [] o x tree.end [] type apart no_args)
+      by_value f y ok binds shape = bound on_value (field_decl k) f x tree.end y ok binds shape (fits_value ref.FieldOn k.name o x tree.end [] type apart no_args)
 
       asked_on : FieldOnTo Asked
       asked_on binds = subst (λ (y : tree.Exp A). Stands (field_decl k) y) (sym (with_name (λ front w. variable_on m (operand_to m front (Some x)) w) old k.name n))
@@ -216,9 +216,9 @@ module _ {A : Type 0} (begins : A → ℕ → ℕ) (rows : List Row) (are : AreR
 
     -- ---- through a class
 
-    module _ (x : tree.Exp A) (o : ClassKey) (text : List ℕ) where
+    module _ (x : tree.Exp A) (o : ClassKey) (leads : Bool) where
       abbrev through : Reference
-      through = record { form = ref.ThroughClass; asked = dotted text k.name; operand = Some (record { ty = class o; text = text }); args = [] }
+      through = record { form = ref.ThroughClass; asked = k.name; operand = Some (record { ty = class o; text = []; leads = leads }); args = [] }
 
       abbrev ThroughTo : Form → Type 0
       ThroughTo f = (f ≡ Asked → IsClassName rows d x o) → Binds rows (scope_of d) through (field_decl k) f
@@ -272,14 +272,14 @@ module _ {A : Type 0} (begins : A → ℕ → ℕ) (rows : List Row) (are : AreR
 
     module _ (x : tree.Exp A) (o : ClassKey) (type : HasType rows d x (class o)) (apart : (z : ClassKey) → IsClassName rows d x z → ⊥) where
       abbrev call_on : Reference
-      call_on = record { form = ref.MethodOn; asked = k.name; operand = Some (record { ty = class o; text = [] }); args = ts }
+      call_on = record { form = ref.MethodOn; asked = k.name; operand = Some (record { ty = class o; text = []; leads = false }); args = ts }
 
       abbrev CallOnTo : Form → Type 0
       CallOnTo f = Binds rows (scope_of d) call_on (method_decl k) f
           → Stands (method_decl k) (call_to (operand_to m (front_of (spelled old k.name k.class f)) (Some x)) (word_to (spelled old k.name k.class f) (record { mark = n; text = old })))
 
       by_call_on : (f : Form) (y : tree.Exp A) → IsNamed y → Binds rows (scope_of d) call_on (method_decl k) f → IsTree call_on (method_decl k) x args f y → Stands (method_decl k) y
-      by_call_on f y ok binds shape = bound call_on (method_decl k) f x args y ok binds shape (fits_value ref.MethodOn k.name [] o x args ts type apart types)
+      by_call_on f y ok binds shape = bound call_on (method_decl k) f x args y ok binds shape (fits_value ref.MethodOn k.name o x args ts type apart types)
 
       asked_call_on : CallOnTo Asked
       asked_call_on binds = subst (λ (y : tree.Exp A). Stands (method_decl k) y) (sym (with_name (λ front w. call_to (operand_to m front (Some x)) w) old k.name n))
@@ -291,9 +291,9 @@ module _ {A : Type 0} (begins : A → ℕ → ℕ) (rows : List Row) (are : AreR
           (cast_tree m k.class.name x, (m, m, m, new_word m k.class.name, refl, refl), (m, record { mark = n; text = k.name }, refl, refl)))
           place f there
 
-    module _ (x : tree.Exp A) (o : ClassKey) (text : List ℕ) where
+    module _ (x : tree.Exp A) (o : ClassKey) (leads : Bool) where
       abbrev call_through : Reference
-      call_through = record { form = ref.ThroughClass; asked = dotted text k.name; operand = Some (record { ty = class o; text = text }); args = ts }
+      call_through = record { form = ref.ThroughClass; asked = k.name; operand = Some (record { ty = class o; text = []; leads = leads }); args = ts }
 
       abbrev CallThroughTo : Form → Type 0
       CallThroughTo f = (f ≡ Asked → IsClassName rows d x o) → Binds rows (scope_of d) call_through (method_decl k) f

@@ -11,7 +11,10 @@ use Rattle.std.specs.Prelude.{
   Option,
   Some,
   None,
+  Bool,
   false,
+  IsTrue,
+  ◌↔◌,
   codes,
   ◌⊎◌,
   if◌then◌else◌,
@@ -145,9 +148,9 @@ spelled old new k OuterClass = respelled k.name (outer_type k)
 
 -- ---- references
 
--- a member on a value of the class, or through the class that is written so
-abbrev pub operand_of : ClassKey → (text : List ℕ) → Option Operand
-operand_of k text = Some (record { ty = class k; text = text })
+-- What a member is on: a value of the class; or the class's name, whose words lead to it.
+abbrev pub operand_of : ClassKey → (leads : Bool) → Option Operand
+operand_of k leads = Some (record { ty = class k; text = []; leads = leads })
 
 abbrev pub reference : RefForm → (asked : List ℕ) → Option Operand → List Ty → Reference
 reference form asked operand args =
@@ -155,6 +158,16 @@ reference form asked operand args =
 
 abbrev pub dotted : (front back : List ℕ) → List ℕ
 dotted front back = front ++ (codes "." ++ back)
+
+-- The words of a class in front of a dot, with the new names, lead to the image of the class: the
+-- first to the image of what it meant, and so each further one behind the class in front of it,
+-- and none is a variable's or a field's name (JLS 6.4.2, 6.5.2).
+module _ {A : Type 0} (rows : List Row) (g : Renaming) (c : Context) where
+  abbrev pub WordsLead : tree.Exp A → ClassKey → Type 0
+  WordsLead (tree.field m e w) k = (o : ClassKey) × IsClassName rows c e o × WordsLead e o
+      × LeadsIn (rows_to g rows) (scope_to g c) (class_to g o) (class_to g k).name (class_to g k)
+  WordsLead _ k =
+      LeadsTo (rows_to g rows) (scope_to g c) None (class_to g k).name (class_to g k)
 
 module _ {A : Type 0} (begins : A → ℕ → ℕ) (rows : List Row) (g : Renaming) where
   abbrev pub lost : (at : ℕ) → Decl → Found → Choice
@@ -174,12 +187,6 @@ module _ {A : Type 0} (begins : A → ℕ → ℕ) (rows : List Row) (g : Renami
       → (Finds : Found → Type 0) → Choice → Type 0
   SpellsLeft at old k Leads Finds h = (Leads × (h ≡ renamed old (class_to g k).name))
       ⊎ ((Leads → ⊥) × ((f : Found) × Finds f × (h ≡ lost at (class_decl k) f)))
-
-  -- the words of a class in front of a dot, in the new program
-  abbrev pub ClassWords : Context → tree.Exp A → ClassKey → (text : List ℕ) → Type 0
-  ClassWords c (tree.field m e w) k text = (o : ClassKey) × IsClassName rows c e o
-      × (text ≡ dotted (class_to g o).name (class_to g k).name)
-  ClassWords c _ k text = text ≡ (class_to g k).name
 
   -- ---- simple names
 
@@ -221,12 +228,11 @@ module _ {A : Type 0} (begins : A → ℕ → ℕ) (rows : List Row) (g : Renami
   FieldSpells c at e old h = (f : FieldKey) × FieldFinds rows c e old (one (field_decl f))
       × OnOperand c e
       (λ k. Spells (scope_to g c) at old (field_to g f).name (field_decl f)
-      (reference ref.FieldOn (field_to g f).name (operand_of (class_to g k) []) [])
+      (reference ref.FieldOn (field_to g f).name (operand_of (class_to g k) false) [])
       (FindsFieldIn (rows_to g rows) (scope_to g c) (class_to g k) (field_to g f).name) h)
-      (λ k. (text : List ℕ) × ClassWords c e k text
+      (λ k. (leads : Bool) × (IsTrue leads ↔ WordsLead rows g c e k)
       × Spells (scope_to g c) at old (field_to g f).name (field_decl f)
-      (reference ref.ThroughClass (dotted text (field_to g f).name)
-      (operand_of (class_to g k) text) [])
+      (reference ref.ThroughClass (field_to g f).name (operand_of (class_to g k) leads) [])
       (FindsFieldIn (rows_to g rows) (scope_to g c) (class_to g k) (field_to g f).name) h)
 
   -- a member class in front of a further dot, where no field has the name (JLS 6.5.2)
@@ -262,13 +268,13 @@ module _ {A : Type 0} (begins : A → ℕ → ℕ) (rows : List Row) (g : Renami
       × CallFinds rows c (tree.on e) old args (one (method_decl q)) × HaveTypes rows c args ts
       × OnOperand c e
       (λ k. Spells (scope_to g c) at old (method_to g q).name (method_decl q)
-      (reference ref.MethodOn (method_to g q).name (operand_of (class_to g k) []) (types_to g ts))
+      (reference ref.MethodOn (method_to g q).name (operand_of (class_to g k) false) (types_to g ts))
       (FindsMethodOf (rows_to g rows) (scope_to g c) (class_to g k) (method_to g q).name
       (types_to g ts)) h)
-      (λ k. (text : List ℕ) × ClassWords c e k text
+      (λ k. (leads : Bool) × (IsTrue leads ↔ WordsLead rows g c e k)
       × Spells (scope_to g c) at old (method_to g q).name (method_decl q)
-      (reference ref.ThroughClass (dotted text (method_to g q).name)
-      (operand_of (class_to g k) text) (types_to g ts))
+      (reference ref.ThroughClass (method_to g q).name (operand_of (class_to g k) leads)
+      (types_to g ts))
       (FindsMethodOf (rows_to g rows) (scope_to g c) (class_to g k) (method_to g q).name
       (types_to g ts)) h)
 
@@ -305,7 +311,7 @@ module _ {A : Type 0} (begins : A → ℕ → ℕ) (rows : List Row) (g : Renami
       × WritesType rows (scope_of c) t (class k)
       × CreationFinds rows c t args (one (constructor_decl q))
       × HaveTypes rows c args ts × Spells (scope_to g c) (begins m base) [] [] (constructor_decl q)
-      (reference ref.AsAsked [] (operand_of (class_to g k) []) (types_to g ts))
+      (reference ref.AsAsked [] (operand_of (class_to g k) false) (types_to g ts))
       (FindsCtorOf (rows_to g rows) (scope_to g c) (class_to g k) (types_to g ts)) h
   CreationSpells c base _ h = ⊥
 

@@ -9,7 +9,6 @@ mod Finds
 mod Spells
 mod ChosenBy
 mod Parents
-mod Dots
 mod Imaging
 mod Oks
 mod Above

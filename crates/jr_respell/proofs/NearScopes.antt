@@ -15,10 +15,10 @@ use Rattle.jr_spell.specs.declared.references.RefForm.{RefForm}
 use Rattle.jr_spell.specs.declared.references.RefForm.TheVariants as ref
 use Rattle.jr_spell.specs.declared.spellings.Form.{Form}
 use Rattle.jr_spell.specs.declared.spellings.Form.TheVariants.{Asked, OnThis, OnSuper, OnCastThis, OnCastOperand, OnClass, OnOuterClass, Class, OuterClass}
-use Rattle.jr_spell.specs.References.{Reference, class_of_operand, text_of_operand}
+use Rattle.jr_spell.specs.References.{Reference, class_of_operand}
 use Rattle.jr_spell.specs.Binds.{LeadsTo, FindsMember, ThroughValue, ThroughClass, ThroughCast, BindsConstructor, BindsAlone, BindsAsked, Binds, front_word, last_word}
 use Rattle.jr_spell.specs.Taken.{IsTaken, NoneBinds}
-use Rattle.jr_respell.specs.Near.{IsNear, asked_word}
+use Rattle.jr_respell.specs.Near.{IsNear}
 
 -- with other locals
 abbrev pub with_locals : Scope → List ScopeLocal → Scope
@@ -77,24 +77,21 @@ module _ (rows : List Row) (keys : KeysAreFound rows) (s : Scope) (ls ms : List 
     alone (class_decl k) same h = absurd h
     alone (field_decl k) same h = absurd h
 
-    asked : (f : RefForm) → SameLast ls ms (asked_word f r) → BindsAsked rows (with_locals s ls) r d f → BindsAsked rows (with_locals s ms) r d f
+    asked : (f : RefForm) → SameLast ls ms r.asked → BindsAsked rows (with_locals s ls) r d f → BindsAsked rows (with_locals s ms) r d f
     asked ref.FieldSimple same h = variable r.asked same (one d) h
     asked ref.FieldOn same (o, is, v) = (o, is, value r.args o d v)
     asked ref.FieldSuper same (object, (p, super, v)) = (object, (p, super, value r.args p d v))
     asked ref.ThroughClass same (b, is, w) = (
       b,
       is,
-      record {
-        leads = leads (front_word (text_of_operand r.operand)) (last_word (text_of_operand r.operand)) b same w.leads;
-        member = through r.args b d w.member;
-      },
+      record { leading = w.leading; member = through r.args b d w.member },
     )
     asked ref.MethodSimple same h = h
     asked ref.MethodOn same (o, is, v) = (o, is, value r.args o d v)
     asked ref.ClassName same h = names (front_word r.asked) (last_word r.asked) (class_of d) h
     asked ref.AsAsked same h = alone d same h
 
-    binds : Agree ls ms (asked_word r.form r) (class_of d) → (f : Form) → Binds rows (with_locals s ls) r d f → Binds rows (with_locals s ms) r d f
+    binds : Agree ls ms r.asked (class_of d) → (f : Form) → Binds rows (with_locals s ls) r d f → Binds rows (with_locals s ms) r d f
     binds agree Asked h = asked r.form agree.of_first h
     binds agree OnThis (object, v) = (object, value r.args s.class d v)
     binds agree OnSuper (object, (p, super, v)) = (object, (p, super, value r.args p d v))
@@ -113,8 +110,8 @@ agree_back ls ms first k agree = record {
 }
 
 module _ (rows : List Row) (keys : KeysAreFound rows) (near s : Scope) (r : Reference) (d : Decl)
-    (is_near : IsNear near s (asked_word r.form r) (class_of d)) where
-  agree : Agree near.locals s.locals (asked_word r.form r) (class_of d)
+    (is_near : IsNear near s r.asked (class_of d)) where
+  agree : Agree near.locals s.locals r.asked (class_of d)
   agree = record { of_first = is_near.of_first; of_name = is_near.of_name; of_outer = is_near.of_outer }
 
   there : near ≡ with_locals s near.locals
@@ -124,7 +121,7 @@ module _ (rows : List Row) (keys : KeysAreFound rows) (near s : Scope) (r : Refe
   forth f h = binds rows keys s near.locals s.locals r d agree f h
 
   back : (f : Form) → Binds rows s r d f → Binds rows (with_locals s near.locals) r d f
-  back f h = binds rows keys s s.locals near.locals r d (agree_back near.locals s.locals (asked_word r.form r) (class_of d) agree) f h
+  back f h = binds rows keys s s.locals near.locals r d (agree_back near.locals s.locals r.asked (class_of d) agree) f h
 
   taken_there : (f : Form) → IsTaken rows (with_locals s near.locals) r d f → IsTaken rows s r d f
   taken_there f t = record {
@@ -144,13 +141,20 @@ module _ (rows : List Row) (keys : KeysAreFound rows) (near s : Scope) (r : Refe
   pub near_none : NoneBinds rows near r d → NoneBinds rows s r d
   near_none none = none_there (subst (λ x. NoneBinds rows x r d) there none)
 
-  -- what the first name finds as a variable
-  pub near_variable : (f : Found) → FindsVariable rows near (asked_word r.form r) f → FindsVariable rows s (asked_word r.form r) f
-  near_variable f h = variable rows keys s near.locals s.locals (asked_word r.form r) is_near.of_first f (subst (λ x. FindsVariable rows x (asked_word r.form r) f) there h)
-
 -- what a name finds as a variable that finds the same local in both
 pub same_local_variable : (rows : List Row) (keys : KeysAreFound rows) (near s : Scope) (name : List ℕ) → near.class ≡ s.class → near.is_static ≡ s.is_static
     → last_named name near.locals ≡ last_named name s.locals → (f : Found) → FindsVariable rows near name f → FindsVariable rows s name f
 same_local_variable rows keys near s name in_class is_static last f h =
     let there : near ≡ with_locals s near.locals = λ i. record { class = in_class i; is_static = is_static i; locals = near.locals } in
     variable rows keys s near.locals s.locals name last f (subst (λ (x : Scope). FindsVariable rows x name f) there h)
+
+-- the name leads to a class as the first word, there and in a scope that is near
+module _ (rows : List Row) (keys : KeysAreFound rows) (near s : Scope) (name : List ℕ) (k : ClassKey) (is_near : IsNear near s name k) where
+  there_first : near ≡ with_locals s near.locals
+  there_first = λ i. record { class = is_near.class i; is_static = is_near.is_static i; locals = near.locals }
+
+  pub near_leads : (LeadsTo rows near None name k → LeadsTo rows s None name k) × (LeadsTo rows s None name k → LeadsTo rows near None name k)
+  near_leads = (
+    λ h. leads rows keys s near.locals s.locals None name k is_near.of_first (subst (λ (x : Scope). LeadsTo rows x None name k) there_first h),
+    λ h. subst (λ (x : Scope). LeadsTo rows x None name k) (sym there_first) (leads rows keys s s.locals near.locals None name k (sym is_near.of_first) h),
+  )

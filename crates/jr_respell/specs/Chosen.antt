@@ -1,7 +1,7 @@
 -- What is chosen for one reference, by `jr_rename: Spelling`: where the old lookup finds one
 -- declaration, its choice; and where it finds none, none. Operands and arguments go by their old
 -- types, trees by their words.
-use Rattle.std.specs.Prelude.{ℕ, List, [], Option, Some, None}
+use Rattle.std.specs.Prelude.{ℕ, List, [], Option, Some, None, Bool, false}
 use Rattle.jr_table.specs.Keys.{ClassKey, FieldKey, MethodKey, CtorKey, Ty}
 use Rattle.jr_table.specs.Decls.{
   Decl,
@@ -55,11 +55,6 @@ abbrev pub ChoosesOf : {K : Type 0} → (Finds : K → Type 0) → (Spells : K �
 ChoosesOf {K} Finds Spells (Some h) = (k : K) × Finds k × Spells k h
 ChoosesOf {K} Finds Spells None = (k : K) → Finds k → ⊥
 
--- the words of a class in front of a dot, behind the class that it is a member of
-abbrev pub words_of : Renaming → Option ClassKey → ClassKey → List ℕ
-words_of g None k = (class_to g k).name
-words_of g (Some o) k = dotted (class_to g o).name (class_to g k).name
-
 module _ (rows : List Row) (g : Renaming) (c : Context) where
   abbrev pub Spells : (at : ℕ) → (old new : List ℕ) → Decl → Reference
       → (Finds : Found → Type 0) → Choice → Type 0
@@ -89,6 +84,16 @@ module _ (rows : List Row) (g : Renaming) (c : Context) where
       ((k : LocalKey) → FindsVariable rows (scope_of c) old (one (local_decl k)) → ⊥)
       × ((k : FieldKey) → FindsVariable rows (scope_of c) old (one (field_decl k)) → ⊥)
 
+  -- the name of class k in front of a dot leads to its image
+  abbrev pub LeadsFirst : ClassKey → Type 0
+  LeadsFirst k =
+      LeadsTo (rows_to g rows) (scope_to g c) None (class_to g k).name (class_to g k)
+
+  -- and so it does behind a dot, as a member class of class o
+  abbrev pub LeadsBehind : (o k : ClassKey) → Type 0
+  LeadsBehind o k =
+      LeadsIn (rows_to g rows) (scope_to g c) (class_to g o) (class_to g k).name (class_to g k)
+
   -- of a class in front of a dot
   abbrev pub ClassSpells : (at : ℕ) → (old : List ℕ) → ClassKey → Choice → Type 0
   ClassSpells at old k h = SpellsLeft at old k
@@ -105,7 +110,7 @@ module _ (rows : List Row) (g : Renaming) (c : Context) where
   -- on a value of class k
   abbrev pub FieldSpells : (at : ℕ) → (k : ClassKey) → (old : List ℕ) → FieldKey → Choice → Type 0
   FieldSpells at k old f h = Spells at old (field_to g f).name (field_decl f)
-      (reference ref.FieldOn (field_to g f).name (operand_of (class_to g k) []) [])
+      (reference ref.FieldOn (field_to g f).name (operand_of (class_to g k) false) [])
       (FindsFieldIn (rows_to g rows) (scope_to g c) (class_to g k) (field_to g f).name) h
 
   abbrev pub FieldIsChosen : (at : ℕ) → (k : ClassKey) → (old : List ℕ) → Option Choice → Type 0
@@ -113,19 +118,18 @@ module _ (rows : List Row) (g : Renaming) (c : Context) where
       (λ (f : FieldKey). FindsFieldIn rows (scope_of c) k old (one (field_decl f)))
       (FieldSpells at k old) o
 
-  -- through class k, written so in the new program
-  abbrev pub StaticFieldSpells : (at : ℕ) → (text : List ℕ) → (k : ClassKey) → (old : List ℕ)
+  -- through class k, whose words lead to it in the new program, or don't
+  abbrev pub StaticFieldSpells : (at : ℕ) → (leads : Bool) → (k : ClassKey) → (old : List ℕ)
       → FieldKey → Choice → Type 0
-  StaticFieldSpells at text k old f h = Spells at old (field_to g f).name (field_decl f)
-      (reference ref.ThroughClass (dotted text (field_to g f).name)
-      (operand_of (class_to g k) text) [])
+  StaticFieldSpells at leads k old f h = Spells at old (field_to g f).name (field_decl f)
+      (reference ref.ThroughClass (field_to g f).name (operand_of (class_to g k) leads) [])
       (FindsFieldIn (rows_to g rows) (scope_to g c) (class_to g k) (field_to g f).name) h
 
-  abbrev pub StaticFieldIsChosen : (at : ℕ) → (text : List ℕ) → (k : ClassKey) → (old : List ℕ)
+  abbrev pub StaticFieldIsChosen : (at : ℕ) → (leads : Bool) → (k : ClassKey) → (old : List ℕ)
       → Option Choice → Type 0
-  StaticFieldIsChosen at text k old o = ChoosesOf
+  StaticFieldIsChosen at leads k old o = ChoosesOf
       (λ (f : FieldKey). FindsFieldIn rows (scope_of c) k old (one (field_decl f)))
-      (StaticFieldSpells at text k old) o
+      (StaticFieldSpells at leads k old) o
 
   -- a member class of class k in front of a further dot
   abbrev pub MemberClassSpells : (at : ℕ) → (k : ClassKey) → (old : List ℕ) → ClassKey → Choice
@@ -169,7 +173,7 @@ module _ (rows : List Row) (g : Renaming) (c : Context) where
   abbrev pub CallSpells : (at : ℕ) → (k : ClassKey) → (old : List ℕ) → List Ty → MethodKey
       → Choice → Type 0
   CallSpells at k old ts q h = Spells at old (method_to g q).name (method_decl q)
-      (reference ref.MethodOn (method_to g q).name (operand_of (class_to g k) []) (types_to g ts))
+      (reference ref.MethodOn (method_to g q).name (operand_of (class_to g k) false) (types_to g ts))
       (FindsMethodOf (rows_to g rows) (scope_to g c) (class_to g k) (method_to g q).name
       (types_to g ts)) h
 
@@ -179,19 +183,19 @@ module _ (rows : List Row) (g : Renaming) (c : Context) where
       (λ (q : MethodKey). FindsMethodOf rows (scope_of c) k old ts (one (method_decl q)))
       (CallSpells at k old ts) o
 
-  abbrev pub StaticCallSpells : (at : ℕ) → (text : List ℕ) → (k : ClassKey) → (old : List ℕ)
+  abbrev pub StaticCallSpells : (at : ℕ) → (leads : Bool) → (k : ClassKey) → (old : List ℕ)
       → List Ty → MethodKey → Choice → Type 0
-  StaticCallSpells at text k old ts q h = Spells at old (method_to g q).name (method_decl q)
-      (reference ref.ThroughClass (dotted text (method_to g q).name)
-      (operand_of (class_to g k) text) (types_to g ts))
+  StaticCallSpells at leads k old ts q h = Spells at old (method_to g q).name (method_decl q)
+      (reference ref.ThroughClass (method_to g q).name (operand_of (class_to g k) leads)
+      (types_to g ts))
       (FindsMethodOf (rows_to g rows) (scope_to g c) (class_to g k) (method_to g q).name
       (types_to g ts)) h
 
-  abbrev pub StaticCallIsChosen : (at : ℕ) → (text : List ℕ) → (k : ClassKey) → (old : List ℕ)
+  abbrev pub StaticCallIsChosen : (at : ℕ) → (leads : Bool) → (k : ClassKey) → (old : List ℕ)
       → List Ty → Option Choice → Type 0
-  StaticCallIsChosen at text k old ts o = ChoosesOf
+  StaticCallIsChosen at leads k old ts o = ChoosesOf
       (λ (q : MethodKey). FindsMethodOf rows (scope_of c) k old ts (one (method_decl q)))
-      (StaticCallSpells at text k old ts) o
+      (StaticCallSpells at leads k old ts) o
 
   abbrev pub SuperCallSpells : (at : ℕ) → (old : List ℕ) → List Ty → MethodKey → Choice → Type 0
   SuperCallSpells at old ts q h = Spells at old (method_to g q).name (method_decl q)
@@ -210,7 +214,7 @@ module _ (rows : List Row) (g : Renaming) (c : Context) where
 
   abbrev pub CreationSpells : (at : ℕ) → (k : ClassKey) → List Ty → CtorKey → Choice → Type 0
   CreationSpells at k ts q h = Spells at [] [] (constructor_decl q)
-      (reference ref.AsAsked [] (operand_of (class_to g k) []) (types_to g ts))
+      (reference ref.AsAsked [] (operand_of (class_to g k) false) (types_to g ts))
       (FindsCtorOf (rows_to g rows) (scope_to g c) (class_to g k) (types_to g ts)) h
 
   abbrev pub CreationIsChosen : (at : ℕ) → (k : ClassKey) → List Ty → Option Choice → Type 0

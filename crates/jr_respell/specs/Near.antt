@@ -1,12 +1,8 @@
 -- A scope in which three names find the locals that they find in another.
-use Rattle.std.specs.Prelude.{◌≡◌, ℕ, List, [], ◌∷◌, Option, Some, None, unwrap_or}
+use Rattle.std.specs.Prelude.{◌≡◌, ℕ, List, [], ◌∷◌, Option, Some, None}
 use Rattle.jr_table.specs.Keys.{ClassKey}
 use Rattle.jr_table.specs.Decls.{LocalKey}
 use Rattle.jr_table.specs.Scope.{Scope, ScopeLocal, last_named}
-use Rattle.jr_spell.specs.declared.references.RefForm.{RefForm}
-use Rattle.jr_spell.specs.declared.references.RefForm.TheVariants as ref
-use Rattle.jr_spell.specs.References.{Reference, text_of_operand}
-use Rattle.jr_spell.specs.Binds.{front_word, last_word}
 
 -- a name, and those of a class and of the class that it is a member of
 pub record IsNear (near s : Scope) (first : List ℕ) (k : ClassKey) : Type 0 where
@@ -16,15 +12,6 @@ pub record IsNear (near s : Scope) (first : List ℕ) (k : ClassKey) : Type 0 wh
   pub of_name : last_named k.name near.locals ≡ last_named k.name s.locals
   pub of_outer : (o : List ℕ) → k.outer ≡ Some o
       → last_named o near.locals ≡ last_named o s.locals
-
--- the first word of a class's name as it is written
-abbrev pub first_word : List ℕ → List ℕ
-first_word text = unwrap_or (front_word text) (last_word text)
-
--- the word of a reference that may be a local's name as it is asked
-abbrev pub asked_word : RefForm → Reference → List ℕ
-asked_word ref.ThroughClass r = first_word (text_of_operand r.operand)
-asked_word _ r = r.asked
 
 -- the local that a name finds, as a list
 abbrev pub if_found : (name : List ℕ) → Option LocalKey → List ScopeLocal

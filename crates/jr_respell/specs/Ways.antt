@@ -42,14 +42,14 @@ pub data Way : Type 0 where
   own_field : Way
   -- on a value of the class
   field_on : ClassKey → Way
-  -- through the class, which is written so
-  field_through : (text : List ℕ) → ClassKey → Way
+  -- through the class, whose words lead to it, or don't
+  field_through : (leads : Bool) → ClassKey → Way
   -- behind `super`
   field_above : Way
   -- a call without a target
   method_named : Way
   method_on : ClassKey → Way
-  method_through : (text : List ℕ) → ClassKey → Way
+  method_through : (leads : Bool) → ClassKey → Way
   method_above : Way
   -- a creation of the class, and `super(..)`
   ctor_of : ClassKey → Way
@@ -62,11 +62,11 @@ abbrev pub way_of : raw.Way → Way
 way_of variant.Local = local
 way_of variant.OwnField = own_field
 way_of (variant.FieldOn k) = field_on (class_key_of k.now)
-way_of (variant.FieldThrough text k) = field_through text.now (class_key_of k.now)
+way_of (variant.FieldThrough leads k) = field_through leads (class_key_of k.now)
 way_of variant.FieldAbove = field_above
 way_of variant.MethodNamed = method_named
 way_of (variant.MethodOn k) = method_on (class_key_of k.now)
-way_of (variant.MethodThrough text k) = method_through text.now (class_key_of k.now)
+way_of (variant.MethodThrough leads k) = method_through leads (class_key_of k.now)
 way_of variant.MethodAbove = method_above
 way_of (variant.CtorOf k) = ctor_of (class_key_of k.now)
 way_of variant.CtorAbove = ctor_above
@@ -78,11 +78,11 @@ abbrev pub is_simple : Way → Bool
 is_simple local = true
 is_simple own_field = true
 is_simple (field_on k) = false
-is_simple (field_through text k) = false
+is_simple (field_through leads k) = false
 is_simple field_above = false
 is_simple method_named = false
 is_simple (method_on k) = false
-is_simple (method_through text k) = false
+is_simple (method_through leads k) = false
 is_simple method_above = false
 is_simple (ctor_of k) = false
 is_simple ctor_above = false
@@ -131,11 +131,11 @@ abbrev pub leads_to : Way → Decl → Bool
 leads_to local d = is_local d
 leads_to own_field d = is_field d
 leads_to (field_on k) d = is_field d
-leads_to (field_through text k) d = is_field d
+leads_to (field_through leads k) d = is_field d
 leads_to field_above d = is_field d
 leads_to method_named d = is_method d
 leads_to (method_on k) d = is_method d
-leads_to (method_through text k) d = is_method d
+leads_to (method_through leads k) d = is_method d
 leads_to method_above d = is_method d
 leads_to (ctor_of k) d = is_ctor d
 leads_to ctor_above d = is_ctor d
@@ -156,11 +156,11 @@ abbrev pub form_of : Way → RefForm
 form_of local = ref.AsAsked
 form_of own_field = ref.FieldSimple
 form_of (field_on k) = ref.FieldOn
-form_of (field_through text k) = ref.ThroughClass
+form_of (field_through leads k) = ref.ThroughClass
 form_of field_above = ref.FieldSuper
 form_of method_named = ref.MethodSimple
 form_of (method_on k) = ref.MethodOn
-form_of (method_through text k) = ref.ThroughClass
+form_of (method_through leads k) = ref.ThroughClass
 form_of method_above = ref.AsAsked
 form_of (ctor_of k) = ref.AsAsked
 form_of ctor_above = ref.AsAsked
@@ -171,11 +171,11 @@ abbrev pub text_by : Way → (name : List ℕ) → List ℕ
 text_by local name = name
 text_by own_field name = name
 text_by (field_on k) name = name
-text_by (field_through text k) name = dotted text name
+text_by (field_through leads k) name = name
 text_by field_above name = name
 text_by method_named name = name
 text_by (method_on k) name = name
-text_by (method_through text k) name = dotted text name
+text_by (method_through leads k) name = name
 text_by method_above name = name
 text_by (ctor_of k) name = name
 text_by ctor_above name = name
@@ -185,14 +185,14 @@ text_by (type_behind outer) name = dotted outer name
 abbrev pub operand_by : Way → Option Operand
 operand_by local = None
 operand_by own_field = None
-operand_by (field_on k) = operand_of k []
-operand_by (field_through text k) = operand_of k text
+operand_by (field_on k) = operand_of k false
+operand_by (field_through leads k) = operand_of k leads
 operand_by field_above = None
 operand_by method_named = None
-operand_by (method_on k) = operand_of k []
-operand_by (method_through text k) = operand_of k text
+operand_by (method_on k) = operand_of k false
+operand_by (method_through leads k) = operand_of k leads
 operand_by method_above = None
-operand_by (ctor_of k) = operand_of k []
+operand_by (ctor_of k) = operand_of k false
 operand_by ctor_above = None
 operand_by type_named = None
 operand_by (type_behind outer) = None
@@ -208,12 +208,12 @@ module _ (rows : List Row) (s : Scope) where
   Finds local name ts f = FindsVariable rows s name f
   Finds own_field name ts f = FindsVariable rows s name f
   Finds (field_on k) name ts f = FindsFieldIn rows s k name f
-  Finds (field_through text k) name ts f = FindsFieldIn rows s k name f
+  Finds (field_through leads k) name ts f = FindsFieldIn rows s k name f
   Finds field_above name ts f =
       FindsIn (IsSuperclass rows s.class) (λ k x. FindsFieldIn rows s k name x) f
   Finds method_named name ts f = FindsMethodNamed rows s name ts f
   Finds (method_on k) name ts f = FindsMethodOf rows s k name ts f
-  Finds (method_through text k) name ts f = FindsMethodOf rows s k name ts f
+  Finds (method_through leads k) name ts f = FindsMethodOf rows s k name ts f
   Finds method_above name ts f =
       FindsIn (IsSuperclass rows s.class) (λ k x. FindsMethodOf rows s k name ts x) f
   Finds (ctor_of k) name ts f = FindsCtorOf rows s k ts f

@@ -1,17 +1,13 @@
 //! References as they are asked in the new program.
-ghost use Rattle.std.specs.Prelude.{◌≡◌, [], IfOk, option_map};
-ghost use Rattle.jr_table.specs.TypeView.{class_key_of};
+ghost use Rattle.std.specs.Prelude.{◌≡◌, [], IfOk};
 ghost use Rattle.jr_table.specs.KeyView.{decl_of};
 ghost use Rattle.jr_spell.specs.ReferenceView.{reference_of};
-ghost use Rattle.jr_rename.specs.ImageView.{renaming_of};
-ghost use Rattle.jr_respell.specs.Chosen.{words_of};
 ghost use Rattle.jr_respell.specs.Ways as pure;
 
-use crate::ways::{Way, dotted, form_of, operand_by, text_by};
+use crate::ways::{Way, form_of, operand_by, text_by};
 use jr_ast::Name;
-use jr_rename::{NewName, class_to};
 use jr_spell::Reference;
-use jr_table::{ClassKey, Decl, Tys};
+use jr_table::{Decl, Tys};
 use std::alloc::{AllocError, Global};
 
 /// A reference as it is asked, and the name of the image of its declaration.
@@ -26,26 +22,6 @@ pub(crate) fn no_types(alloc: Global) -> Tys
     ensures { result ≡ [] }
 {
     Tys::from_vec(Vec::new(alloc))
-}
-
-/// The words of a class in front of a dot, in the new program.
-pub(crate) fn words(
-    alloc: Global,
-    g: &NewName,
-    outer: Option<&ClassKey>,
-    class: &ClassKey,
-) -> Result<Name, AllocError>
-    ensures { IfOk result (λ n. n ≡ words_of (renaming_of g.now)
-        (option_map (λ k. class_key_of k.now) outer.entry) (class_key_of class.now)) }
-{
-    let image = class_to(alloc, g, class)?;
-    match outer {
-        None => Name::new(alloc, image.name.as_str()),
-        Some(outer) => {
-            let front = class_to(alloc, g, outer)?;
-            dotted(alloc, &front.name, image.name.as_str())
-        }
-    }
 }
 
 /// The name that a declaration is asked by; a local goes by this one, a constructor by none.

@@ -1,11 +1,10 @@
 //! Calls (JLS 15.12).
-ghost use Rattle.std.specs.Prelude.{◌≡◌, IfOk, option_map};
+ghost use Rattle.std.specs.Prelude.{IfOk, option_map};
 ghost use Rattle.jr_table.specs.TypeView.{class_key_of};
 ghost use Rattle.jr_respell.specs.Scopes.{IsKept, rows_of, naming_of, context_of};
 ghost use Rattle.jr_respell.specs.ChoiceView.{choice_of};
 ghost use Rattle.jr_respell.specs.Chosen as chosen;
 
-use crate::asking::words;
 use crate::choices::Choice;
 use crate::scopes::Scopes;
 use crate::taking::chosen;
@@ -70,13 +69,12 @@ pub fn call(
     )
 }
 
-/// The choice for a call through the class, whose name stands behind that of the outer one, if it
-/// is written so.
+/// The choice for a call through the class, whose words lead to it in the new program, or don't.
 pub fn static_call(
     alloc: Global,
     scopes: &Scopes<'_>,
     at: u32,
-    outer: Option<&ClassKey>,
+    leads: bool,
     class: &ClassKey,
     name: &Name,
     args: &Tys,
@@ -84,13 +82,10 @@ pub fn static_call(
     requires { IsKept scopes.now }
     ensures { IfOk result (λ o. chosen.StaticCallIsChosen (rows_of scopes.now)
         (naming_of scopes.now) (context_of scopes.now) at
-        (chosen.words_of (naming_of scopes.now) (option_map (λ k. class_key_of k.now) outer.entry)
-        (class_key_of class.now)) (class_key_of class.now) name.now args.now
-        (option_map choice_of o)) }
+        leads (class_key_of class.now) name.now args.now (option_map choice_of o)) }
 {
     let g = scopes.programs.name;
     let images = types_to(alloc, g, args)?;
-    let text = words(alloc, g, outer, class)?;
     let on = class_to(alloc, g, class)?;
     chosen(
         alloc,
@@ -99,7 +94,7 @@ pub fn static_call(
         name,
         &Way::MethodOn(class),
         args,
-        &Way::MethodThrough(&text, &on),
+        &Way::MethodThrough(leads, &on),
         &images,
     )
 }

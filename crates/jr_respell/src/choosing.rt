@@ -5,24 +5,22 @@ ghost use Rattle.jr_table.specs.Entries.{class_of};
 ghost use Rattle.jr_table.specs.TypeView.{class_key_of};
 ghost use Rattle.jr_table.specs.KeyView.{decl_of};
 ghost use Rattle.jr_table.specs.FoundView.{found_of};
-ghost use Rattle.jr_spell.specs.References.{text_of_operand};
-ghost use Rattle.jr_spell.specs.ReferenceView.{reference_of, operand_of};
+ghost use Rattle.jr_spell.specs.ReferenceView.{reference_of};
 ghost use Rattle.jr_spell.specs.Taken.{IsTaken, NoneBinds};
 ghost use Rattle.jr_rewrite.specs.Respellings as respellings;
 ghost use Rattle.jr_rewrite.specs.RespellingView.{front_view};
 ghost use Rattle.jr_rename.specs.Spelling as pure;
 ghost use Rattle.jr_respell.specs.ChoiceView.{front_of, lost_of, choice_of};
-ghost use Rattle.jr_respell.specs.Near.{first_word, asked_word};
 ghost use Rattle.jr_respell.specs.Scopes.{IsKept, rows_to, place_to};
 ghost use Rattle.jr_respell.specs.Taking.{Takes, asked_of};
 
 use crate::asking::Asked;
 use crate::choices::{Choice, Chosen, ChosenFront, Lost};
-use crate::nearby::{first_word, near};
+use crate::nearby::near;
 use crate::scopes::{Scopes, class_of_member};
 use jr_ast::Name;
 use jr_rewrite::Front;
-use jr_spell::{Form, Operand, RefForm, Reference, taken};
+use jr_spell::{Form, Reference, taken};
 use jr_table::{ClassKey, Decl, Found, lookups_are_exact};
 use std::alloc::{AllocError, Global};
 
@@ -189,33 +187,6 @@ pub(crate) fn declaring_class(decl: &Decl) -> &ClassKey
     }
 }
 
-/// The word of a reference that may be a local's name as it is asked.
-fn asked_word(alloc: Global, reference: &Reference) -> Result<Name, AllocError>
-    ensures { IfOk result (λ n. n ≡ asked_word (reference_of reference.now).form
-        (reference_of reference.now)) }
-{
-    match reference.form {
-        RefForm::ThroughClass => operand_word(alloc, &reference.operand),
-        RefForm::FieldSimple => Name::new(alloc, reference.asked.as_str()),
-        RefForm::FieldOn => Name::new(alloc, reference.asked.as_str()),
-        RefForm::FieldSuper => Name::new(alloc, reference.asked.as_str()),
-        RefForm::MethodSimple => Name::new(alloc, reference.asked.as_str()),
-        RefForm::MethodOn => Name::new(alloc, reference.asked.as_str()),
-        RefForm::ClassName => Name::new(alloc, reference.asked.as_str()),
-        RefForm::AsAsked => Name::new(alloc, reference.asked.as_str()),
-    }
-}
-
-fn operand_word(alloc: Global, operand: &Option<Operand>) -> Result<Name, AllocError>
-    ensures { IfOk result (λ n. n
-        ≡ first_word (text_of_operand (option_map operand_of operand.now))) }
-{
-    match operand {
-        None => first_word(alloc, ""),
-        Some(operand) => first_word(alloc, operand.text.as_str()),
-    }
-}
-
 /// The form of the first spelling that binds at the place in the new program, if one does.
 fn form_taken(
     alloc: Global,
@@ -232,8 +203,7 @@ fn form_taken(
     let table = scopes.programs.after;
     table.keeps_rows();
     lookups_are_exact();
-    let first = asked_word(alloc, reference)?;
-    let scope = near(alloc, scopes, &first, declaring_class(target))?;
+    let scope = near(alloc, scopes, &reference.asked, declaring_class(target))?;
     taken(alloc, table, &scope, reference, target)
 }
 

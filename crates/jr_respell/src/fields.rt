@@ -1,11 +1,11 @@
 //! Fields behind a dot and behind `super` (JLS 15.11).
-ghost use Rattle.std.specs.Prelude.{◌≡◌, IfOk, option_map};
+ghost use Rattle.std.specs.Prelude.{IfOk, option_map};
 ghost use Rattle.jr_table.specs.TypeView.{class_key_of};
 ghost use Rattle.jr_respell.specs.Scopes.{IsKept, rows_of, naming_of, context_of};
 ghost use Rattle.jr_respell.specs.ChoiceView.{choice_of};
 ghost use Rattle.jr_respell.specs.Chosen as chosen;
 
-use crate::asking::{no_types, words};
+use crate::asking::no_types;
 use crate::choices::Choice;
 use crate::scopes::Scopes;
 use crate::taking::chosen;
@@ -41,26 +41,22 @@ pub fn field(
     )
 }
 
-/// The choice for a field through the class, whose name stands behind that of the outer one, if it
-/// is written so.
+/// The choice for a field through the class, whose words lead to it in the new program, or don't.
 pub fn static_field(
     alloc: Global,
     scopes: &Scopes<'_>,
     at: u32,
-    outer: Option<&ClassKey>,
+    leads: bool,
     class: &ClassKey,
     name: &Name,
 ) -> Result<Option<Choice>, AllocError>
     requires { IsKept scopes.now }
     ensures { IfOk result (λ o. chosen.StaticFieldIsChosen (rows_of scopes.now)
         (naming_of scopes.now) (context_of scopes.now) at
-        (chosen.words_of (naming_of scopes.now) (option_map (λ k. class_key_of k.now) outer.entry)
-        (class_key_of class.now)) (class_key_of class.now) name.now (option_map choice_of o)) }
+        leads (class_key_of class.now) name.now (option_map choice_of o)) }
 {
-    let g = scopes.programs.name;
     let none = no_types(alloc);
-    let text = words(alloc, g, outer, class)?;
-    let on = class_to(alloc, g, class)?;
+    let on = class_to(alloc, scopes.programs.name, class)?;
     chosen(
         alloc,
         scopes,
@@ -68,7 +64,7 @@ pub fn static_field(
         name,
         &Way::FieldOn(class),
         &none,
-        &Way::FieldThrough(&text, &on),
+        &Way::FieldThrough(leads, &on),
         &none,
     )
 }

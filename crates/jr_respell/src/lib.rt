@@ -6,6 +6,7 @@ mod asking;
 mod calls;
 mod choices;
 mod choosing;
+mod class_words;
 mod classes;
 mod ctors;
 mod declaring;
@@ -23,6 +24,7 @@ mod ways;
 
 pub use calls::{call, simple_call, static_call, super_call};
 pub use choices::{Choice, Chosen, ChosenFront, Lost};
+pub use class_words::{leads_behind, leads_first};
 pub use classes::{left_class, member_class, qualifier, top_parent};
 pub use ctors::{creation, super_ctor};
 pub use declaring::declared;

@@ -5,7 +5,7 @@ ghost use Rattle.jr_table.specs.Scope.{last_named};
 ghost use Rattle.jr_lookup.specs.LocalView.{local_of};
 ghost use Rattle.jr_lookup.specs.ScopeView.{scope_of};
 ghost use Rattle.jr_respell.specs.Scopes.{IsKept, place_to};
-ghost use Rattle.jr_respell.specs.Near.{IsNear, first_word, if_found, if_maybe_found};
+ghost use Rattle.jr_respell.specs.Near.{IsNear, if_found, if_maybe_found};
 
 use crate::scopes::Scopes;
 use jr_ast::Name;
@@ -81,14 +81,4 @@ pub(crate) fn near(
         is_static: scopes.after.is_static,
         locals: ScopeLocals::from_vec(locals),
     })
-}
-
-/// The first word of a class's name as it is written.
-pub(crate) fn first_word(alloc: Global, text: &str) -> Result<Name, AllocError>
-    ensures { IfOk result (λ n. n ≡ first_word text.now) }
-{
-    match text.split_once('.') {
-        None => Name::new(alloc, text),
-        Some((front, _)) => Name::new(alloc, front),
-    }
 }

@@ -19,14 +19,14 @@ pub(crate) enum Way<'a> {
     OwnField,
     /// On a value of the class.
     FieldOn(&'a ClassKey),
-    /// Through the class, which is written so.
-    FieldThrough(&'a Name, &'a ClassKey),
+    /// Through the class, whose words lead to it, or don't.
+    FieldThrough(bool, &'a ClassKey),
     /// Behind `super`.
     FieldAbove,
     /// A call without a target.
     MethodNamed,
     MethodOn(&'a ClassKey),
-    MethodThrough(&'a Name, &'a ClassKey),
+    MethodThrough(bool, &'a ClassKey),
     MethodAbove,
     /// A creation of the class, and `super(..)`.
     CtorOf(&'a ClassKey),
@@ -176,11 +176,11 @@ pub(crate) fn text_by(alloc: Global, way: &Way<'_>, name: &str) -> Result<Name, 
         Way::Local => Name::new(alloc, name),
         Way::OwnField => Name::new(alloc, name),
         Way::FieldOn(_) => Name::new(alloc, name),
-        Way::FieldThrough(front, _) => dotted(alloc, front, name),
+        Way::FieldThrough(_, _) => Name::new(alloc, name),
         Way::FieldAbove => Name::new(alloc, name),
         Way::MethodNamed => Name::new(alloc, name),
         Way::MethodOn(_) => Name::new(alloc, name),
-        Way::MethodThrough(front, _) => dotted(alloc, front, name),
+        Way::MethodThrough(_, _) => Name::new(alloc, name),
         Way::MethodAbove => Name::new(alloc, name),
         Way::CtorOf(_) => Name::new(alloc, name),
         Way::CtorAbove => Name::new(alloc, name),
@@ -189,14 +189,14 @@ pub(crate) fn text_by(alloc: Global, way: &Way<'_>, name: &str) -> Result<Name, 
     }
 }
 
-/// An operand of a class, written so.
-fn on(alloc: Global, class: &ClassKey, text: &str) -> Result<Option<Operand>, AllocError>
+/// An operand of a class; of words, whether they lead to it.
+fn on(alloc: Global, class: &ClassKey, leads: bool) -> Result<Option<Operand>, AllocError>
     ensures { IfOk result (λ o.
-        option_map view.operand_of o ≡ operand_of (class_key_of class.now) text.now) }
+        option_map view.operand_of o ≡ operand_of (class_key_of class.now) leads) }
 {
-    let text = Name::new(alloc, text)?;
+    let text = Name::new(alloc, "")?;
     let ty = Ty::Class(class.copy(alloc)?);
-    Ok(Some(Operand { ty, text }))
+    Ok(Some(Operand { ty, text, leads }))
 }
 
 /// What stands in front of the dot.
@@ -207,14 +207,14 @@ pub(crate) fn operand_by(alloc: Global, way: &Way<'_>) -> Result<Option<Operand>
     match *way {
         Way::Local => Ok(None),
         Way::OwnField => Ok(None),
-        Way::FieldOn(class) => on(alloc, class, ""),
-        Way::FieldThrough(text, class) => on(alloc, class, text.as_str()),
+        Way::FieldOn(class) => on(alloc, class, false),
+        Way::FieldThrough(leads, class) => on(alloc, class, leads),
         Way::FieldAbove => Ok(None),
         Way::MethodNamed => Ok(None),
-        Way::MethodOn(class) => on(alloc, class, ""),
-        Way::MethodThrough(text, class) => on(alloc, class, text.as_str()),
+        Way::MethodOn(class) => on(alloc, class, false),
+        Way::MethodThrough(leads, class) => on(alloc, class, leads),
         Way::MethodAbove => Ok(None),
-        Way::CtorOf(class) => on(alloc, class, ""),
+        Way::CtorOf(class) => on(alloc, class, false),
         Way::CtorAbove => Ok(None),
         Way::TypeNamed => Ok(None),
         Way::TypeBehind(_) => Ok(None),

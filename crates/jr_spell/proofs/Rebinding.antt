@@ -15,7 +15,7 @@ use Rattle.jr_spell.specs.declared.references.RefForm.{RefForm}
 use Rattle.jr_spell.specs.declared.references.RefForm.TheVariants as ref
 use Rattle.jr_spell.specs.declared.spellings.Form.{Form}
 use Rattle.jr_spell.specs.declared.spellings.Form.TheVariants.{Asked, OnThis, OnSuper, OnCastThis, OnCastOperand, OnClass, OnOuterClass, Class, OuterClass}
-use Rattle.jr_spell.specs.References.{Operand, Reference, class_of_type, class_of_operand, text_of_operand}
+use Rattle.jr_spell.specs.References.{Operand, Reference, class_of_type, class_of_operand}
 use Rattle.jr_spell.specs.Binds.{LeadsTo, ThroughValue, ThroughClass, ThroughCast, ThroughSuperclass, BindsAlone, BindsAsked, Binds, front_word, last_word}
 use Rattle.jr_spell.specs.Rebound.{IsVariable, IsCall, IsMemberOn, IsMemberOfSuper, IsThis, IsCast, IsClassWords, IsTypeWords, IsAloneTree, IsAskedTree, IsTree, IsAskedType, IsTypeTree, Fits, IsRebound, AreFronts}
 use Rattle.jr_spell.proofs.Shapes.{name_rebound, call_rebound, field_rebound, call_on_rebound, class_field_rebound, class_call_rebound, super_field_rebound, super_call_rebound}
@@ -120,6 +120,13 @@ module _ {A : Type 0} (begins : A → ℕ → ℕ) (rows : List Row) (c : Contex
   operand_has e None o h each = absurd cc
   operand_has e (Some p) o h each = operand_type e p o p.ty refl h (each p refl)
 
+  pub through_rebinds : (r : Reference) (d : Decl) (k : ClassKey) (e : tree.Exp A) (args : tree.Exps A) (x : tree.Exp A) → BindsAsked rows (scope_of c) r d ref.ThroughClass
+      → class_of_operand r.operand ≡ Some k → IsClassName rows c e k → HaveTypes rows c args r.args → IsMemberOn d e args x → IsRebound begins rows c d x
+  through_rebinds r d k e args x (b, is, through) of_k named types member =
+      let p : Some k ≡ Some b = sym of_k ∙ is in
+      let same : k ≡ b = cc in
+      on_class args r.args types d b e x through.member (subst (λ (z : ClassKey). IsClassName rows c e z) same named) member
+
   module _ (r : Reference) (d : Decl) (e : tree.Exp A) (args : tree.Exps A) (fits : Fits begins rows c r e args) where
     on_operand : (x : tree.Exp A) (o : ClassKey) → class_of_operand r.operand ≡ Some o → ThroughValue rows (scope_of c) r.args o d → IsMemberOn d e args x → IsRebound begins rows c d x
     on_operand x o is through member = on_value args r.args fits.have_types d o e x through (operand_has e r.operand o is fits.has_type) fits.value member
@@ -142,8 +149,7 @@ module _ {A : Type 0} (begins : A → ℕ → ℕ) (rows : List Row) (c : Contex
     asked ref.FieldSimple x finds shape = simple_variable args r.args fits.have_types d r.asked x finds shape
     asked ref.FieldOn x (o, is, through) shape = on_operand x o is through shape
     asked ref.FieldSuper x finds shape = on_super x finds.0 finds.1 shape
-    asked ref.ThroughClass x (b, is, through) (y, words, member) = on_class args r.args fits.have_types d b y x through.member
-        (words_name rows c (front_word (text_of_operand r.operand)) (last_word (text_of_operand r.operand)) b y through.leads words) member
+    asked ref.ThroughClass x finds shape = absurd shape
     asked ref.MethodSimple x finds shape = simple_method args r.args fits.have_types d r.asked x finds shape
     asked ref.MethodOn x (o, is, through) shape = on_operand x o is through shape
     asked ref.ClassName x finds shape = absurd shape

@@ -1,7 +1,9 @@
 -- When a spelling binds: its lookup gives the declaration, it breaks none of the rules on static
 -- contexts (JLS 8.1.3, 15.8.3, 15.11.2), on static members through values and on instance members
 -- through classes (JLS 15.11.1, 15.12.3), and the class words in it find that class itself and no
--- variable, field or other class (JLS 6.4.2). Of any rows and scope.
+-- variable, field or other class (JLS 6.4.2). Of any rows and scope. Of the words that the source
+-- has in front of a dot, which may be any number, the reference tells whether each leads to what it
+-- meant (`jr_rename: WordsLead`).
 use Rattle.std.specs.Prelude.{
   ◌≡◌,
   ℕ,
@@ -13,6 +15,7 @@ use Rattle.std.specs.Prelude.{
   None,
   Bool,
   false,
+  IsTrue,
   nat_lt,
   if◌then◌else◌,
 }
@@ -55,7 +58,7 @@ use Rattle.jr_spell.specs.declared.spellings.Form.TheVariants.{
   Class,
   OuterClass,
 }
-use Rattle.jr_spell.specs.References.{Reference, class_of_operand, text_of_operand}
+use Rattle.jr_spell.specs.References.{Reference, class_of_operand, leads_of_operand}
 
 -- The words of a class's name as it is written: that in front of the first dot, if there is one,
 -- and the last.
@@ -114,10 +117,10 @@ pub record ThroughCast (rows : List Row) (s : Scope) (args : List Ty) (o : Class
   pub named : NamesClass rows s None (class_of d).name (class_of d)
   pub member : ThroughValue rows s args (class_of d) d
 
--- through the name of class b, written so
-pub record ThroughWritten (rows : List Row) (s : Scope) (args : List Ty) (text : List ℕ)
+-- through the words of class b, where they lead to it
+pub record ThroughWritten (rows : List Row) (s : Scope) (args : List Ty) (leads : Bool)
     (b : ClassKey) (d : Decl) : Type 0 where
-  pub leads : LeadsTo rows s (front_word text) (last_word text) b
+  pub leading : IsTrue leads
   pub member : ThroughClass rows s args b d
 
 module _ (rows : List Row) (s : Scope) (r : Reference) (d : Decl) where
@@ -148,10 +151,10 @@ module _ (rows : List Row) (s : Scope) (r : Reference) (d : Decl) where
   BindsOnCastOperand = (o : ClassKey) × (class_of_operand r.operand ≡ Some o)
       × ThroughCast rows s r.args o d
 
-  -- `B.x`, `B.m(..)`, with B as it is written
+  -- `B.x`, `B.m(..)`, `A.B.x`, .. with the words that are written
   abbrev pub BindsOnAskedClass : Type 0
   BindsOnAskedClass = (b : ClassKey) × (class_of_operand r.operand ≡ Some b)
-      × ThroughWritten rows s r.args (text_of_operand r.operand) b d
+      × ThroughWritten rows s r.args (leads_of_operand r.operand) b d
 
   -- `K.x`, `K.m(..)`
   abbrev pub BindsOnClass : Type 0

@@ -8,7 +8,7 @@ use Rattle.jr_spell.specs.References.{Operand, Reference}
 use Rattle.jr_spell.specs.Taken.{Spelling}
 
 abbrev pub operand_of : raw_operand.Operand → Operand
-operand_of e = record { ty = ty_of e.ty; text = e.text }
+operand_of e = record { ty = ty_of e.ty; text = e.text; leads = e.leads }
 
 abbrev pub reference_of : raw_reference.Reference → Reference
 reference_of r = record {

@@ -1,12 +1,14 @@
 -- A reference that a refactoring keeps, as contracts see it.
-use Rattle.std.specs.Prelude.{ℕ, List, [], Option, Some, None}
+use Rattle.std.specs.Prelude.{ℕ, List, [], Option, Some, None, Bool, false}
 use Rattle.jr_table.specs.Keys.{ClassKey, Ty, int, boolean, void, null, class}
 use Rattle.jr_spell.specs.declared.references.RefForm.{RefForm}
 
--- what stands in front of the dot: its static type, and its text
+-- what stands in front of the dot: its static type, its text, and whether it is words in front of a
+-- dot that lead to that class where the reference is spelled, each to what it meant
 pub record Operand : Type 0 where
   pub ty : Ty
   pub text : List ℕ
+  pub leads : Bool
 
 pub record Reference : Type 0 where
   pub form : RefForm
@@ -30,3 +32,7 @@ class_of_operand (Some e) = class_of_type e.ty
 abbrev pub text_of_operand : Option Operand → List ℕ
 text_of_operand None = []
 text_of_operand (Some e) = e.text
+
+abbrev pub leads_of_operand : Option Operand → Bool
+leads_of_operand None = false
+leads_of_operand (Some e) = e.leads

@@ -12,10 +12,10 @@ ghost use Rattle.jr_spell.specs.Binds.{BindsOnClass, BindsOnOuterClass, BindsAsC
 ghost use Rattle.jr_spell.specs.Binds.{BindsAsOuterClass, BindsConstructor, BindsAlone};
 ghost use Rattle.jr_spell.specs.Binds.{BindsAsked, Binds};
 
-use crate::classes::{is_type, is_type_in, is_type_text, leads_dotted, leads_simply, text_leads};
+use crate::classes::{is_type, is_type_in, is_type_text, leads_dotted, leads_simply};
 use crate::declaring::declaring_class;
 use crate::members::{is_ctor, is_method_named, is_on_class, is_on_value};
-use crate::references::{Operand, RefForm, Reference};
+use crate::references::{RefForm, Reference};
 use crate::spellings::Form;
 use crate::superclasses::superclass;
 use crate::variables::is_variable;
@@ -175,22 +175,21 @@ fn on_cast_operand(
     }
 }
 
-/// Whether the operand, in front of a dot, is the name of the class, whose member is the
-/// declaration and no instance one.
+/// Whether the words in front of the dot lead to the class, whose member is the declaration and no
+/// instance one.
 fn on_written_class(
     alloc: Global,
     table: &Table,
     scope: &Scope,
     reference: &Reference,
-    operand: &Operand,
+    leads: bool,
     class: &ClassKey,
     target: &Decl,
 ) -> Result<bool, AllocError>
     ensures { IfOk result (λ b. IsTrue b ↔ ThroughWritten table.now (scope_of scope.now)
-        (reference_of reference.now).args operand.now.text (class_key_of class.now)
+        (reference_of reference.now).args leads (class_key_of class.now)
         (decl_of target.now)) }
 {
-    let leads = text_leads(alloc, table, scope, &operand.text, class)?;
     if leads {
         is_on_class(alloc, table, scope, &reference.args, class, target)
     } else {
@@ -214,7 +213,7 @@ fn on_asked_class(
         Some(operand) => match class_of_type(&operand.ty) {
             None => Ok(false),
             Some(class) => {
-                on_written_class(alloc, table, scope, reference, operand, class, target)
+                on_written_class(alloc, table, scope, reference, operand.leads, class, target)
             }
         },
     }

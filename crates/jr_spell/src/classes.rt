@@ -81,7 +81,7 @@ pub(crate) fn is_type_in(
 }
 
 /// Whether a simple name in front of a dot is the class's.
-pub(crate) fn leads_simply(table: &Table, scope: &Scope, name: &Name, class: &ClassKey) -> bool
+pub fn leads_simply(table: &Table, scope: &Scope, name: &Name, class: &ClassKey) -> bool
     ensures { IsTrue result ↔ LeadsTo table.now (scope_of scope.now) None name.now
         (class_key_of class.now) }
 {
@@ -89,7 +89,13 @@ pub(crate) fn leads_simply(table: &Table, scope: &Scope, name: &Name, class: &Cl
 }
 
 /// Whether the class is the member type of the name of a class, which has no field of the name.
-fn leads_in(table: &Table, scope: &Scope, around: &ClassKey, name: &Name, class: &ClassKey) -> bool
+pub fn leads_in(
+    table: &Table,
+    scope: &Scope,
+    around: &ClassKey,
+    name: &Name,
+    class: &ClassKey,
+) -> bool
     ensures { IsTrue result ↔ LeadsIn table.now (scope_of scope.now) (class_key_of around.now)
         name.now (class_key_of class.now) }
 {
@@ -137,27 +143,6 @@ pub(crate) fn is_type_text(
             let front = Name::new(alloc, front)?;
             let last = Name::new(alloc, last)?;
             Ok(is_type_in(table, scope, &front, &last, class))
-        }
-    }
-}
-
-/// Whether the text, in front of a dot, is the name of the class.
-pub(crate) fn text_leads(
-    alloc: Global,
-    table: &Table,
-    scope: &Scope,
-    text: &Name,
-    class: &ClassKey,
-) -> Result<bool, AllocError>
-    ensures { IfOk result (λ b. IsTrue b ↔ LeadsTo table.now (scope_of scope.now)
-        (front_word text.now) (last_word text.now) (class_key_of class.now)) }
-{
-    match text.as_str().split_once('.') {
-        None => Ok(leads_simply(table, scope, text, class)),
-        Some((front, last)) => {
-            let front = Name::new(alloc, front)?;
-            let last = Name::new(alloc, last)?;
-            Ok(leads_dotted(table, scope, &front, &last, class))
         }
     }
 }

@@ -1,5 +1,6 @@
 //! A law of spellings that no call's clause can carry.
-ghost use Rattle.jr_spell.specs.Rebound.{SpellingsRebind, ClassesRebind, FrontsRebind};
+ghost use Rattle.jr_spell.specs.Rebound.{SpellingsRebind, ThroughClassRebinds};
+ghost use Rattle.jr_spell.specs.Rebound.{ClassesRebind, FrontsRebind};
 
 use jr_table::{lookups_are_exact, types_are_exact};
 use jr_text::Mark;
@@ -10,6 +11,7 @@ use jr_text::Mark;
 /// type is that class; and so is what a spelling puts in front of a dot. Whatever the marks are.
 pub fn spellings_rebind<A: Mark>()
     ensures bound { SpellingsRebind A }
+    ensures through { ThroughClassRebinds A }
     ensures classes { ClassesRebind A }
     ensures fronts { FrontsRebind A }
 {

@@ -11,19 +11,13 @@ use Rattle.jr_table.specs.Binding.{value, left, statement, variable}
 use Rattle.jr_notes.proofs.Steps.{own_fits}
 use Rattle.jr_respell.specs.ChoiceView.{choice_of}
 use Rattle.jr_respell.specs.Chosen as chosen
-use Rattle.jr_respell.specs.Chosen.{words_of}
 use Rattle.jr_gather.specs.declared.here.Role.{Role}
 use Rattle.jr_gather.specs.Known.{rows_of, naming_of, context_of, role_of, NameIsBound, NameSpells, DottedIsBound, DottedSpells}
 use Rattle.jr_gather.specs.MeaningView.{AreTypes}
 use Rattle.jr_gather.proofs.Choices as choices
 use Rattle.jr_gather.proofs.Choices.{some_where, some_here, of_some}
-use Rattle.jr_gather.proofs.Naming.{front_ready, unqualified, qualified}
 use Rattle.jr_gather.proofs.Typed.{writes_is, creation_at}
 use Rattle.jr_gather.proofs.called.class_call.Goals as goal
-
-pub outer_class-outer-requires : goal.outer_class-outer-requires
-outer_class-outer-requires g c =
-    record { fits = c.requires.fits; sound = c.requires.sound; refers = c.requires.refers; class = ((class_key_of c.args.class.now), c.requires.class) }
 
 pub unwrap-requires : goal.unwrap-requires
 unwrap-requires g c =
@@ -35,7 +29,7 @@ unwrap-requires g c =
     let keys = c.lookups_are_exact.ensures.keys rows are in
     let B = λ (k : g.row.A.Denot) (b : ℕ). (g.A.Mark.span_from k b).from in
     let exact = c.types_are_exact.ensures.bound rows are keys x in
-    some_where choice_of c.in_ok-choice.choice (λ o. chosen.StaticCallIsChosen rows n x c.args.at (words_of n (option_map (λ k. class_key_of k.now) c.outer_class-outer.result) (class_key_of c.args.class.now)) (class_key_of c.args.class.now) c.args.name.now c.args.types.now o) c.in_ok-choice.ensures (choices.static_call_there rows are keys n x B c.args.name.now (exprs_of c.args.args.now) (expr_of c.args.part.now) (words_of n (option_map (λ k. class_key_of k.now) c.outer_class-outer.result) (class_key_of c.args.class.now)) (class_key_of c.args.class.now) c.args.types.now c.args.at (inl c.requires.class) c.requires.types c.requires.bound)
+    some_where choice_of c.in_ok-choice.choice (λ o. chosen.StaticCallIsChosen rows n x c.args.at c.in_ok-leads.leads (class_key_of c.args.class.now) c.args.name.now c.args.types.now o) c.in_ok-choice.ensures (choices.static_call_there rows are keys n x B c.args.name.now (exprs_of c.args.args.now) (expr_of c.args.part.now) c.in_ok-leads.leads (class_key_of c.args.class.now) c.args.types.now c.args.at (inl c.requires.class) c.requires.types c.requires.bound)
 
 pub returns : goal.returns
 returns g c =
@@ -47,5 +41,5 @@ returns g c =
     let keys = c.lookups_are_exact.ensures.keys rows are in
     let B = λ (k : g.row.A.Denot) (b : ℕ). (g.A.Mark.span_from k b).from in
     let exact = c.types_are_exact.ensures.bound rows are keys x in
-    let made = of_some choice_of c.in_ok-choice.choice c.unwrap.result (λ o. chosen.StaticCallIsChosen rows n x c.args.at (words_of n (option_map (λ k. class_key_of k.now) c.outer_class-outer.result) (class_key_of c.args.class.now)) (class_key_of c.args.class.now) c.args.name.now c.args.types.now o) c.unwrap.ensures c.in_ok-choice.ensures in
-    choices.static_call_chosen rows are keys n x B c.args.name.now (exprs_of c.args.args.now) (expr_of c.args.part.now) (class_key_of c.args.class.now) (option_map (λ k. class_key_of k.now) c.outer_class-outer.result) c.args.types.now c.args.at (choice_of c.unwrap.result) c.requires.class c.outer_class-outer.ensures c.requires.types made
+    let made = of_some choice_of c.in_ok-choice.choice c.unwrap.result (λ o. chosen.StaticCallIsChosen rows n x c.args.at c.in_ok-leads.leads (class_key_of c.args.class.now) c.args.name.now c.args.types.now o) c.unwrap.ensures c.in_ok-choice.ensures in
+    choices.static_call_chosen rows are keys n x B c.args.name.now (exprs_of c.args.args.now) (expr_of c.args.part.now) (class_key_of c.args.class.now) c.in_ok-leads.leads c.args.types.now c.args.at (choice_of c.unwrap.result) c.requires.class c.in_ok-leads.ensures c.requires.types made

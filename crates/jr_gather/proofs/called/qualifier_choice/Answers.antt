@@ -11,13 +11,11 @@ use Rattle.jr_table.specs.Binding.{value, left, statement, variable}
 use Rattle.jr_notes.proofs.Steps.{own_fits}
 use Rattle.jr_respell.specs.ChoiceView.{choice_of}
 use Rattle.jr_respell.specs.Chosen as chosen
-use Rattle.jr_respell.specs.Chosen.{words_of}
 use Rattle.jr_gather.specs.declared.here.Role.{Role}
 use Rattle.jr_gather.specs.Known.{rows_of, naming_of, context_of, role_of, NameIsBound, NameSpells, DottedIsBound, DottedSpells}
 use Rattle.jr_gather.specs.MeaningView.{AreTypes}
 use Rattle.jr_gather.proofs.Choices as choices
 use Rattle.jr_gather.proofs.Choices.{some_where, some_here, of_some}
-use Rattle.jr_gather.proofs.Naming.{front_ready, unqualified, qualified}
 use Rattle.jr_gather.proofs.Typed.{writes_is, creation_at}
 use Rattle.jr_gather.proofs.called.qualifier_choice.Goals as goal
 

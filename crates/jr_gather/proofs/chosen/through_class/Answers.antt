@@ -11,19 +11,13 @@ use Rattle.jr_table.specs.Binding.{value, left, statement, variable}
 use Rattle.jr_notes.proofs.Steps.{own_fits}
 use Rattle.jr_respell.specs.ChoiceView.{choice_of}
 use Rattle.jr_respell.specs.Chosen as chosen
-use Rattle.jr_respell.specs.Chosen.{words_of}
 use Rattle.jr_gather.specs.declared.here.Role.{Role}
 use Rattle.jr_gather.specs.Known.{rows_of, naming_of, context_of, role_of, NameIsBound, NameSpells, DottedIsBound, DottedSpells}
 use Rattle.jr_gather.specs.MeaningView.{AreTypes}
 use Rattle.jr_gather.proofs.Choices as choices
 use Rattle.jr_gather.proofs.Choices.{some_where, some_here, of_some}
-use Rattle.jr_gather.proofs.Naming.{front_ready, unqualified, qualified}
 use Rattle.jr_gather.proofs.Typed.{writes_is, creation_at}
 use Rattle.jr_gather.proofs.chosen.through_class.Goals as goal
-
-pub outer_class-outer-requires : goal.outer_class-outer-requires
-outer_class-outer-requires g c =
-    record { fits = c.requires.fits; sound = c.requires.sound; refers = c.requires.refers; class = ((class_key_of c.args.class.now), c.requires.class) }
 
 pub inner_choice-requires-clause-none : goal.inner_choice-requires-clause-none
 inner_choice-requires-clause-none g c =
@@ -34,7 +28,7 @@ inner_choice-requires-clause-none g c =
     let are = c.keeps_rows.ensures in
     let keys = c.lookups_are_exact.ensures.keys rows are in
     let B = λ (k : g.row.A.Denot) (b : ℕ). (g.A.Mark.span_from k b).from in
-    subst (λ o. chosen.StaticFieldIsChosen rows n x c.args.at (words_of n (option_map (λ k. class_key_of k.now) c.outer_class-outer.result) (class_key_of c.args.class.now)) (class_key_of c.args.class.now) c.args.name.now (option_map choice_of o)) c.in-None.is c.in_ok-found.ensures
+    subst (λ o. chosen.StaticFieldIsChosen rows n x c.args.at c.in_ok-leads.leads (class_key_of c.args.class.now) c.args.name.now (option_map choice_of o)) c.in-None.is c.in_ok-found.ensures
 
 pub returns-in-Some : goal.returns-in-Some
 returns-in-Some g c =
@@ -45,4 +39,4 @@ returns-in-Some g c =
     let are = c.keeps_rows.ensures in
     let keys = c.lookups_are_exact.ensures.keys rows are in
     let B = λ (k : g.row.A.Denot) (b : ℕ). (g.A.Mark.span_from k b).from in
-    choices.class_field_chosen rows are keys n x B (expr_of c.args.part.now) c.args.name.now (role_of c.args.role) (class_key_of c.args.class.now) (option_map (λ k. class_key_of k.now) c.outer_class-outer.result) c.args.at (choice_of c.in-Some.choice) c.requires.class c.outer_class-outer.ensures (subst (λ o. chosen.StaticFieldIsChosen rows n x c.args.at (words_of n (option_map (λ k. class_key_of k.now) c.outer_class-outer.result) (class_key_of c.args.class.now)) (class_key_of c.args.class.now) c.args.name.now (option_map choice_of o)) c.in-Some.is c.in_ok-found.ensures)
+    choices.class_field_chosen rows are keys n x B (expr_of c.args.part.now) c.args.name.now (role_of c.args.role) (class_key_of c.args.class.now) c.in_ok-leads.leads c.args.at (choice_of c.in-Some.choice) c.requires.class c.in_ok-leads.ensures (subst (λ o. chosen.StaticFieldIsChosen rows n x c.args.at c.in_ok-leads.leads (class_key_of c.args.class.now) c.args.name.now (option_map choice_of o)) c.in-Some.is c.in_ok-found.ensures)

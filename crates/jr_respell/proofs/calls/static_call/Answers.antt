@@ -6,7 +6,6 @@ use Rattle.jr_table.specs.TypeView.{class_key_of}
 use Rattle.jr_rename.specs.Images.{class_to, types_to}
 use Rattle.jr_respell.specs.ChoiceView.{choice_of}
 use Rattle.jr_respell.specs.Scopes.{rows_of, naming_of, context_of}
-use Rattle.jr_respell.specs.Chosen.{words_of}
 use Rattle.jr_respell.specs.Ways.{method_on, method_through}
 use Rattle.jr_respell.proofs.DeclKinds.{method_decls}
 use Rattle.jr_respell.proofs.ChosenBy.{asked_so, of_kind}
@@ -19,6 +18,5 @@ returns c =
     let g = naming_of s in
     let x = context_of s in
     let k = class_key_of c.args.class.now in
-    let text = words_of g (option_map (λ k. class_key_of k.now) c.args.outer) k in
-    IfOk-weaker c.chosen.result _ _ (λ o h. of_kind rows g x c.args.at c.args.name.now method_decl (method_on k) (method_through text (class_to g k)) c.args.args.now (types_to g c.args.args.now) method_decls (λ k. refl) (option_map choice_of o)
-    (asked_so rows g x c.args.at c.args.name.now (method_on k) _ c.args.args.now _ (method_through text (class_to g k)) _ (types_to g c.args.args.now) refl (λ i. method_through (c.in_ok-text.ensures i) (c.in_ok-on.ensures i)) c.in_ok-images.ensures (option_map choice_of o) h)) c.chosen.ensures
+    IfOk-weaker c.chosen.result _ _ (λ o h. of_kind rows g x c.args.at c.args.name.now method_decl (method_on k) (method_through c.args.leads (class_to g k)) c.args.args.now (types_to g c.args.args.now) method_decls (λ k. refl) (option_map choice_of o)
+    (asked_so rows g x c.args.at c.args.name.now (method_on k) _ c.args.args.now _ (method_through c.args.leads (class_to g k)) _ (types_to g c.args.args.now) refl (λ i. method_through c.args.leads (c.in_ok-on.ensures i)) c.in_ok-images.ensures (option_map choice_of o) h)) c.chosen.ensures

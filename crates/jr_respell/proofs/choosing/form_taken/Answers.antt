@@ -10,7 +10,7 @@ use Rattle.jr_lookup.specs.ScopeView.{scope_of}
 use Rattle.jr_spell.specs.ReferenceView.{reference_of}
 use Rattle.jr_spell.specs.Taken.{IsTaken, NoneBinds}
 use Rattle.jr_respell.specs.Scopes.{place_to}
-use Rattle.jr_respell.specs.Near.{IsNear, asked_word}
+use Rattle.jr_respell.specs.Near.{IsNear}
 use Rattle.jr_respell.proofs.Oks.{some_weaker}
 use Rattle.jr_respell.proofs.NearScopes.{near_taken, near_none}
 use Rattle.jr_respell.proofs.choosing.form_taken.Goals as goal
@@ -23,8 +23,8 @@ returns-clause-some c =
     let d = decl_of c.args.target.now in
     let near = scope_of c.in_ok-scope.scope in
     let keys = c.lookups_are_exact.ensures.keys table c.keeps_rows.ensures in
-    let is_near : IsNear near (place_to s) (asked_word r.form r) (class_of d) =
-    subst (λ (x : List ℕ × ClassKey). IsNear near (place_to s) x.0 x.1) (λ i. (c.in_ok-first.ensures i, c.declaring_class.ensures i)) c.in_ok-scope.ensures in
+    let is_near : IsNear near (place_to s) r.asked (class_of d) =
+    subst (λ (k : ClassKey). IsNear near (place_to s) r.asked k) c.declaring_class.ensures c.in_ok-scope.ensures in
     subst (λ (rows : List Row). IfOk c.taken.result (λ o. IfSome o (IsTaken rows (place_to s) r d))) c.requires.rows
     (IfOk-weaker c.taken.result _ _ (λ o h. some_weaker o (IsTaken table near r d) (IsTaken table (place_to s) r d) (λ f t. near_taken table keys near (place_to s) r d is_near f t) h) c.taken.ensures.some)
 
@@ -36,7 +36,7 @@ returns-clause-none c =
     let d = decl_of c.args.target.now in
     let near = scope_of c.in_ok-scope.scope in
     let keys = c.lookups_are_exact.ensures.keys table c.keeps_rows.ensures in
-    let is_near : IsNear near (place_to s) (asked_word r.form r) (class_of d) =
-    subst (λ (x : List ℕ × ClassKey). IsNear near (place_to s) x.0 x.1) (λ i. (c.in_ok-first.ensures i, c.declaring_class.ensures i)) c.in_ok-scope.ensures in
+    let is_near : IsNear near (place_to s) r.asked (class_of d) =
+    subst (λ (k : ClassKey). IsNear near (place_to s) r.asked k) c.declaring_class.ensures c.in_ok-scope.ensures in
     subst (λ (rows : List Row). IfOk c.taken.result (λ o. o ≡ None → NoneBinds rows (place_to s) r d)) c.requires.rows
     (IfOk-weaker c.taken.result _ _ (λ o h none. near_none table keys near (place_to s) r d is_near (h none)) c.taken.ensures.none)

@@ -6,7 +6,6 @@ use Rattle.jr_table.specs.TypeView.{class_key_of}
 use Rattle.jr_rename.specs.Images.{class_to}
 use Rattle.jr_respell.specs.ChoiceView.{choice_of}
 use Rattle.jr_respell.specs.Scopes.{rows_of, naming_of, context_of}
-use Rattle.jr_respell.specs.Chosen.{words_of}
 use Rattle.jr_respell.specs.Ways.{field_on, field_through}
 use Rattle.jr_respell.proofs.DeclKinds.{field_decls}
 use Rattle.jr_respell.proofs.ChosenBy.{asked_so, of_kind}
@@ -19,6 +18,5 @@ returns c =
     let g = naming_of s in
     let x = context_of s in
     let k = class_key_of c.args.class.now in
-    let text = words_of g (option_map (λ k. class_key_of k.now) c.args.outer) k in
-    IfOk-weaker c.chosen.result _ _ (λ o h. of_kind rows g x c.args.at c.args.name.now field_decl (field_on k) (field_through text (class_to g k)) [] [] field_decls (λ k. refl) (option_map choice_of o)
-    (asked_so rows g x c.args.at c.args.name.now (field_on k) _ [] _ (field_through text (class_to g k)) _ [] c.no_types-none.ensures (λ i. field_through (c.in_ok-text.ensures i) (c.in_ok-on.ensures i)) c.no_types-none.ensures (option_map choice_of o) h)) c.chosen.ensures
+    IfOk-weaker c.chosen.result _ _ (λ o h. of_kind rows g x c.args.at c.args.name.now field_decl (field_on k) (field_through c.args.leads (class_to g k)) [] [] field_decls (λ k. refl) (option_map choice_of o)
+    (asked_so rows g x c.args.at c.args.name.now (field_on k) _ [] _ (field_through c.args.leads (class_to g k)) _ [] c.no_types-none.ensures (λ i. field_through c.args.leads (c.in_ok-on.ensures i)) c.no_types-none.ensures (option_map choice_of o) h)) c.chosen.ensures

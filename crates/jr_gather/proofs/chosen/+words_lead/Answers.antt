@@ -1,0 +1,67 @@
+use Rattle.std.proofs.Common.{◌≡◌, ◌<◌, ℕ, Option, Some, None, IsTrue, ◌↔◌, ap, sym, subst, ◌∙◌}
+use Rattle.std.proofs.lemmas.Result.{IfOk-weaker}
+use Rattle.jr_text.specs.declared.spans.Span.{Span}
+use Rattle.jr_ast.specs.Tree as tree
+use Rattle.jr_ast.specs.Marks.{exp_mark}
+use Rattle.jr_ast.specs.View.{expr_of}
+use Rattle.jr_ast.proofs.Rows.{expr_mark_is}
+use Rattle.jr_ast.proofs.Sizes.{exp_size}
+use Rattle.jr_table.specs.TypeView.{class_key_of}
+use Rattle.jr_notes.proofs.Steps.{own_fits}
+use Rattle.jr_gather.specs.Known.{rows_of, naming_of, context_of}
+use Rattle.jr_gather.proofs.Naming.{front_ready, front_smaller, unqualified, behind_none, behind_lost, behind_led}
+use Rattle.jr_gather.proofs.chosen.+words_lead.Goals as goal
+
+pub span-at-requires : goal.span-at-requires
+span-at-requires g t c =
+    let B = λ (k : g.row.A.Denot) (b : ℕ). (g.A.Mark.span_from k b).from in
+    own_fits B g.A.Mark.fits_at c.args.base c.args.of.now c.requires.fits
+
+pub named_class-requires : goal.named_class-requires
+named_class-requires g t c =
+    let h = c.args.here.now in
+    let x = context_of h in
+    let B = λ (k : g.row.A.Denot) (b : ℕ). (g.A.Mark.span_from k b).from in
+    let e = expr_of c.args.of.now in
+    let start : c.span-at.result.from ≡ B (exp_mark e) c.args.base = ap (λ (z : Span). z.from) c.span-at.ensures ∙ ap (λ m. B m c.args.base) (sym (expr_mark_is c.args.of.now)) in
+    let r = front_ready B g.A.Mark.fits_at h x c.args.base e (expr_of c.in-Some.part.now) c.span-at.result.from (sym c.in-Some.ensures) start (c.requires.fits, c.requires.sound, c.requires.refers) in
+    record { fits = r.0; sound = r.1; refers = r.2 }
+
+pub words_lead-requires : goal.words_lead-requires
+words_lead-requires g t c =
+    let h = c.args.here.now in
+    let x = context_of h in
+    let B = λ (k : g.row.A.Denot) (b : ℕ). (g.A.Mark.span_from k b).from in
+    let e = expr_of c.args.of.now in
+    let start : c.span-at.result.from ≡ B (exp_mark e) c.args.base = ap (λ (z : Span). z.from) c.span-at.ensures ∙ ap (λ m. B m c.args.base) (sym (expr_mark_is c.args.of.now)) in
+    let is = sym c.in-Some.ensures in
+    let r = front_ready B g.A.Mark.fits_at h x c.args.base e (expr_of c.in-Some.part.now) c.span-at.result.from is start (c.requires.fits, c.requires.sound, c.requires.refers) in
+    λ κs o. (subst (λ n. exp_size (expr_of c.in-Some.part.now) < n) c.decreases (front_smaller e (expr_of c.in-Some.part.now) is), (o, (c.requires.known, (r.0, (r.1, r.2)))))
+
+pub returns-in-None : goal.returns-in-None
+returns-in-None g t c =
+    let h = c.args.here.now in
+    IfOk-weaker c.leads_first.result _ _ (λ b leads. unqualified (rows_of h) (naming_of h) (context_of h) (class_key_of c.args.class.now) b (expr_of c.args.of.now) (sym c.in-None.ensures) leads) c.leads_first.ensures
+
+pub returns-in-None-named_class : goal.returns-in-None-named_class
+returns-in-None-named_class g t c =
+    let h = c.args.here.now in
+    behind_none (rows_of h) (naming_of h) (context_of h) (class_key_of c.args.class.now) (expr_of c.args.of.now) (expr_of c.in-Some.part.now) (sym c.in-Some.ensures) c.in-None-named_class.ensures
+
+pub returns-then-leads : goal.returns-then-leads
+returns-then-leads g t c =
+    let h = c.args.here.now in
+    let rows = rows_of h in
+    let x = context_of h in
+    let are = c.keeps_rows.ensures in
+    let exact = c.types_are_exact.ensures.bound rows are (c.lookups_are_exact.ensures.keys rows are) x in
+    IfOk-weaker c.leads_behind.result _ _ (λ b last. behind_led rows (naming_of h) x (class_key_of c.args.class.now) (expr_of c.args.of.now) (expr_of c.in-Some.part.now) (sym c.in-Some.ensures) exact (class_key_of c.in-Some-named_class.outer.now) c.in-Some-named_class.ensures c.in_ok-leads-in-Some-named_class.leads b c.if-leads.true c.in_ok-leads-in-Some-named_class.ensures last) c.leads_behind.ensures
+
+pub returns-else-leads : goal.returns-else-leads
+returns-else-leads g t c =
+    let h = c.args.here.now in
+    let rows = rows_of h in
+    let x = context_of h in
+    let are = c.keeps_rows.ensures in
+    let exact = c.types_are_exact.ensures.bound rows are (c.lookups_are_exact.ensures.keys rows are) x in
+    behind_lost rows (naming_of h) x (class_key_of c.args.class.now) (expr_of c.args.of.now) (expr_of c.in-Some.part.now) (sym c.in-Some.ensures) exact (class_key_of c.in-Some-named_class.outer.now) c.in-Some-named_class.ensures c.in_ok-leads-in-Some-named_class.leads c.if-leads.false c.in_ok-leads-in-Some-named_class.ensures
