@@ -132,9 +132,9 @@ class Spelling(Binding):
         new, fronts = self.new, []
         if new.left(place, key[1]) == ("one", ("class", key)):
             fronts.append(key[1])
-        outer = (None, key[0])
-        if key[0] is not None and new.left(place, key[0]) == ("one", ("class", outer)):
-            if new.left_member(place, outer, key[1]) == ("one", ("class", key)):
+        outer = ("none",) if key[0] is None else new.left(place, key[0])
+        if outer[0] == "one" and outer[1][0] == "class":
+            if new.left_member(place, outer[1][1], key[1]) == ("one", ("class", key)):
                 fronts.append(key[0] + "." + key[1])
         return fronts
 
@@ -157,10 +157,11 @@ class Spelling(Binding):
             self.member_class_words(new, type, *found)
 
     def outer_spelling(self, place, key):
-        """`Outer.K` as a type, where it finds the class."""
-        if key[0] is None or not self.names_type(place, (None, key[0])):
+        """`O.K` as a type, where the two words together find the class."""
+        outer = ("none",) if key[0] is None else self.new.type(place, key[0])
+        if outer[0] != "one":
             return None
-        found = self.new.member_type(place, (None, key[0]), key[1])
+        found = self.new.member_type(place, outer[1][1], key[1])
         return key[0] + "." + key[1] if found == ("one", ("class", key)) else None
 
     def simple_class(self, place, word, decl):
