@@ -36,7 +36,7 @@ ctor_images kept fair_law tells begins' packages rows others super_at units k g 
     let b = c.becomes in
     let ss = sites_of (λ m base. (tells m base).from) units in
     let ts = sites_of begins' news in
-    let fair = fair_law (λ m base. (tells m base).from) rows units (constructor_decl k) g b.are b.of_sites b.renamed b.own b.no_prelude b.clear b.whole c.whole in
+    let fair = fair_law (λ m base. (tells m base).from) rows units (constructor_decl k) g b.are b.of_sites b.renamed b.own b.no_prelude b.clear b.whole c.dotless in
     let stays = not_renamed rows k g b.renamed in
     let keeps : Keeps rows g = record {
       local = λ l. stays (local_decl l) (λ e. absurd cc);
@@ -48,7 +48,7 @@ ctor_images kept fair_law tells begins' packages rows others super_at units k g 
       object_of = object_of (rows_to g rows) fair.are;
     } in
     let along = kept tells rows g (λ (c : Context). super_at c.member) units b.files b.are fair b.rewrite b.kept in
-    let beside = units_go rows g keeps tells begins' (λ (c : Context). super_at c.member) ss units c.heads b.files b.rewrite along news b.read in
+    let beside = units_go rows g keeps tells begins' (λ (c : Context). super_at c.member) ss units c.headed b.files b.rewrite along news b.read in
     let to = all_sites rows g keeps tells begins' (λ (c : Context). super_at c.member) ss units news beside in
     let two : Both rows g ss ts = record {
       keeps = keeps;
@@ -64,11 +64,11 @@ ctor_images kept fair_law tells begins' packages rows others super_at units k g 
     } in
     let rows_are = program_rows rows g ss ts two b.of_sites (prelude_stay rows g b.are fair.are) in
     let clean = c.clean packages refl in (
-      program_once ts (λ j w t u x y. means_once packages ts clean j w t u x y) (λ j p q x y. parent_once packages ts clean j p q x y) others (rows_to g rows) c.new_rows rows_are,
       record {
         rows_are = rows_are;
         fair = fair;
         clean = c.clean;
         members = member_images rows g ss ts two tells begins' (λ (c : Context). super_at c.member) units refl news beside;
       },
+      program_once ts (λ j w t u x y. means_once packages ts clean j w t u x y) (λ j p q x y. parent_once packages ts clean j p q x y) others (rows_to g rows) c.new_rows rows_are,
     )

@@ -53,8 +53,8 @@ module _ {A B : Type 0} (tells : A → ℕ → Span) (begins' : B → ℕ → �
       (super_at : MemberKey → ℕ) (units : List (syntax.Unit A)) (k : CtorKey) (g : Renaming)
       (news : List (syntax.Unit B)) : Type 0 where
     pub becomes : Becomes tells begins' packages rows super_at units (constructor_decl k) g news
-    pub heads : UnitsHeads units
-    pub whole : position_or_len is_dot g.name ≡ length g.name
+    pub headed : UnitsHeads units
+    pub dotless : position_or_len is_dot g.name ≡ length g.name
     pub new_rows : AreProgramRows (sites_of begins' news) others
     pub clean : (lines : List (Option PackageLine)) → map names_of lines ≡ map names_of packages
         → IsClean lines (sites_of begins' news)
@@ -65,4 +65,4 @@ ConstructorsGiveImages A B = (tells : A → ℕ → Span) (begins' : B → ℕ �
     (packages : List (Option PackageLine)) (rows others : List Row) (super_at : MemberKey → ℕ)
     (units : List (syntax.Unit A)) (k : CtorKey) (g : Renaming) (news : List (syntax.Unit B))
     → ConstructorBecomes tells begins' packages rows others super_at units k g news
-    → (others ≡ rows_to g rows) × AreImages tells begins' packages rows units g news
+    → AreImages tells begins' packages rows units g news × (others ≡ rows_to g rows)
