@@ -11,3 +11,4 @@ mod MembersBeside
 mod NewNames
 mod NewClean
 mod Whole
+mod Constructors

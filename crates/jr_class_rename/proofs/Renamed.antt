@@ -23,7 +23,7 @@ use Rattle.jr_rename.specs.Families.{Among, AreRenamed}
 use Rattle.jr_rename.specs.Images.{Renaming, is_renamed, name_to, class_to, rows_to}
 use Rattle.jr_rename.specs.Spelling.{respelled, renamed, spelling}
 
-any_among : (d : Decl) (xs : List Decl) → list_any (same_decl d) xs ≡ true → Among xs d
+pub any_among : (d : Decl) (xs : List Decl) → list_any (same_decl d) xs ≡ true → Among xs d
 any_among d [] e = absurd cc
 any_among d (x ∷ xs) e = by (same_decl d x) refl (λ f. any_among d xs f)
   where

@@ -46,7 +46,7 @@ front_same (x ∷ xs) (y ∷ ys) us vs l e =
     λ i. here i ∷ rest i
 
 -- the rows of the prelude stay
-prelude_stay : (rows : List Row) (g : Renaming) → AreRows rows → AreRows (rows_to g rows) → rows_to g prelude_rows ≡ prelude_rows
+pub prelude_stay : (rows : List Row) (g : Renaming) → AreRows rows → AreRows (rows_to g rows) → rows_to g prelude_rows ≡ prelude_rows
 prelude_stay rows g old new =
     front_same (rows_to g prelude_rows) prelude_rows (rows_to g old.own) new.own refl (sym (map_both (row_to g) prelude_rows old.own) ∙ sym (ap (rows_to g) old.prelude) ∙ new.prelude)
 
@@ -54,7 +54,7 @@ module _ (rows : List Row) (are : AreRows rows) where
   early : (i n : ℕ) → length prelude_rows ≡ n → i < n → i < length prelude_rows
   early i n e h = subst (λ (m : ℕ). i < m) (sym e) h
 
-  of_prelude : (name : List ℕ) → IsPreludeClass name → IsOfPrelude rows (class_decl (top_key name))
+  pub of_prelude : (name : List ℕ) → IsPreludeClass name → IsOfPrelude rows (class_decl (top_key name))
   of_prelude name (inl e) =
       (0, early 0 8 refl (omega arith), record { row = class_row [] (codes "Object") None; stands = ap (λ (xs : List Row). slice_get xs 0) are.prelude; declares = ap (λ (n : List ℕ). class_decl (top_key n)) (sym e) })
   of_prelude name (inr (inl e)) =
@@ -65,7 +65,7 @@ module _ (rows : List Row) (are : AreRows rows) where
       (4, early 4 8 refl (omega arith), record { row = class_row [] (codes "Thread") (Some object_key); stands = ap (λ (xs : List Row). slice_get xs 4) are.prelude; declares = ap (λ (n : List ℕ). class_decl (top_key n)) (sym e) })
 
 -- each class has a superclass, where the rows are those of the sites
-superclass_of : (sites : List Site) (rows : List Row) → AreProgramRows sites rows → (k : ClassKey) (c : ClassSite) → DeclaresClass sites k c → (p : ClassKey) × IsParent sites k p
+pub superclass_of : (sites : List Site) (rows : List Row) → AreProgramRows sites rows → (k : ClassKey) (c : ClassSite) → DeclaresClass sites k c → (p : ClassKey) × IsParent sites k p
 superclass_of sites rows program k c at =
     let r = gives sites rows program at.number at.file (class_item c) at.stands in
     (r.2.superclass, subst (λ (x : ClassKey). IsParent sites x r.2.superclass) at.is r.2.is_parent)

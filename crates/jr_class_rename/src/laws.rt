@@ -1,7 +1,8 @@
 //! Laws that no call's clause can carry.
 ghost use Rattle.jr_class_rename.specs.ClassLaws.{ClassesGiveImages, BuiltRowsAreImages};
+ghost use Rattle.jr_class_rename.specs.ClassLaws.{ConstructorsGiveImages};
 
-use jr_rename::{classes_stay_fair, references_are_kept};
+use jr_rename::{classes_stay_fair, references_are_kept, renamings_stay_fair};
 use jr_text::Mark;
 
 /// Where a class is renamed and each class of the new trees, read again, has a superclass, these
@@ -16,4 +17,14 @@ pub fn classes_give_images<A: Mark, B>()
 {
     references_are_kept::<A>();
     classes_stay_fair::<A>();
+}
+
+/// Where the declaration is a constructor, whose name is that of its class (JLS 8.8), nothing gets
+/// another name. If the new trees, read again, are a program, its rows are the images of the old
+/// ones, and each member stands where the one stood whose image it is.
+pub fn constructors_give_images<A: Mark, B>()
+    ensures { ConstructorsGiveImages A B }
+{
+    references_are_kept::<A>();
+    renamings_stay_fair::<A>();
 }

@@ -3,4 +3,4 @@
 
 mod laws;
 
-pub use laws::classes_give_images;
+pub use laws::{classes_give_images, constructors_give_images};

@@ -27,7 +27,7 @@ use Rattle.jr_rename.specs.Keeping.{IsKept, IsWritten, IsSuperKept, IsParentKept
 use Rattle.jr_rename.specs.RenameLaws.{trees_of}
 use Rattle.jr_rename.specs.TextLaws.{RowsAreNamed, NamesHaveNoDot}
 use Rattle.jr_renamed.specs.PlanLaws.{IsPlanIn, NewTextsRead, ReferencesStay, NewProgramsAreImages}
-use Rattle.jr_class_rename.specs.ClassLaws.{BuiltRowsAreImages}
+use Rattle.jr_class_rename.specs.ClassLaws.{BuiltRowsAreImages, ConstructorsGiveImages}
 use Rattle.jr_sources.specs.Sources.{Source}
 use Rattle.jr_sources.specs.Whole.{IsProgramOf}
 use Rattle.jr_sources.proofs.AllRead.{element, text_there}
@@ -108,7 +108,7 @@ module _ (g : Renaming) (rows : List Row) (sites : List Site) where
 
 -- ---- the law
 
-module _ (one : OneReading Span) (named : RowsAreNamed Span) (dots : NamesHaveNoDot) (plans : PlansBecome Span Span) (read : NewTextsRead) (references : ReferencesStay) (images : NewProgramsAreImages) (built : BuiltRowsAreImages Span Span) (move : UntouchedBytesMove)
+module _ (one : OneReading Span) (named : RowsAreNamed Span) (dots : NamesHaveNoDot) (plans : PlansBecome Span Span) (read : NewTextsRead) (references : ReferencesStay) (images : NewProgramsAreImages) (built : BuiltRowsAreImages Span Span) (ctors : ConstructorsGiveImages Span Span) (move : UntouchedBytesMove)
     (s t : State) (file : List ℕ) (at : ℕ) (new : List ℕ) (names : List (List ℕ)) (n : ℕ) (is : IsRenamed s file at new names n t)
   where
     abbrev p : Program Span
@@ -183,8 +183,8 @@ module _ (one : OneReading Span) (named : RowsAreNamed Span) (dots : NamesHaveNo
       respelled = n;
       plan = plan;
       trees = trees;
-      rows = λ kind. (new_rows s.files p before is.short.plan.text is.short.plan.number at new is.edits is.short.plan.renaming n plan named dots plans images built news is.q is.program trees kind).0;
-      images = λ kind. (new_rows s.files p before is.short.plan.text is.short.plan.number at new is.edits is.short.plan.renaming n plan named dots plans images built news is.q is.program trees kind).1;
+      rows = (new_rows s.files p before is.short.plan.text is.short.plan.number at new is.edits is.short.plan.renaming n plan named dots plans images built ctors news is.q is.program trees).0;
+      images = (new_rows s.files p before is.short.plan.text is.short.plan.number at new is.edits is.short.plan.renaming n plan named dots plans images built ctors news is.q is.program trees).1;
       references = units_bare plan.planned.g p.rows (sites_of begins (units_of p)) (units_of p) (trees_of plan.planned.files) (units_of is.q) (trees ∙ sym (trees_bare plan.planned.files))
           (references p is.short.plan.text is.short.plan.number at new is.edits is.short.plan.renaming n plan);
       count = ap length files_are ∙ count_with s.files is.edits;
@@ -192,7 +192,7 @@ module _ (one : OneReading Span) (named : RowsAreNamed Span) (dots : NamesHaveNo
           (let b = became i old there in (record { name = old.name; text = splice old.text b.1 }, b.1, subst (λ (ss : List Source). slice_get ss i ≡ Some (record { name = old.name; text = splice old.text b.1 })) (sym files_are) (with_at s.files is.edits i old b.1 there b.3), b.3, b.5));
     }
 
-pub renames_keep : OneReading Span → RowsAreNamed Span → NamesHaveNoDot → PlansBecome Span Span → NewTextsRead → ReferencesStay → NewProgramsAreImages → BuiltRowsAreImages Span Span → UntouchedBytesMove → RenamesKeepPrograms
-renames_keep one named dots plans read references images built move s t file at new reply h done =
+pub renames_keep : OneReading Span → RowsAreNamed Span → NamesHaveNoDot → PlansBecome Span Span → NewTextsRead → ReferencesStay → NewProgramsAreImages → BuiltRowsAreImages Span Span → ConstructorsGiveImages Span Span → UntouchedBytesMove → RenamesKeepPrograms
+renames_keep one named dots plans read references images built ctors move s t file at new reply h done =
     let r = renamed_of s t file at new reply h done in
-    keeps one named dots plans read references images built move s t file at new r.0 r.1 r.2
+    keeps one named dots plans read references images built ctors move s t file at new r.0 r.1 r.2

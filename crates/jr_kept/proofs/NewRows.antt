@@ -1,5 +1,5 @@
 -- The rows of the program behind a rename are the images of the rows before.
-use Rattle.std.proofs.Common.{◌≡◌, ℕ, List, [], map, Option, Some, None, refl, sym, ap, subst, ◌∙◌}
+use Rattle.std.proofs.Common.{◌≡◌, ℕ, List, [], ◌∷◌, map, Option, Some, None, refl, sym, ap, subst, ◌∙◌}
 use Rattle.std.specs.Prelude.{slice_get, option_map}
 use Rattle.std.proofs.lemmas.Option.{slice_get-map}
 use Rattle.jr_text.specs.declared.spans.Span.{Span}
@@ -9,6 +9,7 @@ use Rattle.jr_ast.specs.MemberTree.{Unit as UnitTree}
 use Rattle.jr_grammar.specs.Layout.{itself}
 use Rattle.jr_grammar.specs.Reads.{Reads}
 use Rattle.jr_table.specs.Decls.{Decl, class_decl, field_decl, method_decl, constructor_decl, local_decl}
+use Rattle.jr_table.specs.Faults.{PackageLine, names_of, IsClean}
 use Rattle.jr_table.specs.ProgramRows.{AreProgramRows}
 use Rattle.jr_table.specs.Sites.{sites_of}
 use Rattle.jr_build.specs.Heads.{UnitsHeads}
@@ -19,18 +20,21 @@ use Rattle.jr_rename.specs.Images.{Renaming, rows_to}
 use Rattle.jr_rename.specs.ImageLaws.{without_marks, Becomes, AreImages, PlansBecome}
 use Rattle.jr_rename.specs.TextLaws.{RowsAreNamed, NamesHaveNoDot}
 use Rattle.jr_renamed.specs.PlanLaws.{IsPlanIn, IsNoClass, NewProgramsAreImages}
-use Rattle.jr_class_rename.specs.ClassLaws.{BuiltRowsAreImages}
+use Rattle.jr_class_rename.specs.ClassLaws.{BuiltRowsAreImages, ConstructorsGiveImages}
 use Rattle.jr_sources.specs.Sources.{Source}
 use Rattle.jr_sources.specs.Whole.{IsProgramOf}
 use Rattle.jr_sources.proofs.Analysing.{counts}
 use Rattle.jr_sources.proofs.FirstErrors.{rows_once}
 use Rattle.jr_sources.proofs.ReadUnits.{units_headed}
 use Rattle.jr_sources.proofs.WholeProgram.{units_files}
-use Rattle.jr_kept.specs.Promises.{IsNoConstructor}
 
 some_of : {X Y : Type 0} (f : X → Y) (o : Option X) (y : Y) → option_map f o ≡ Some y → (x : X) × (o ≡ Some x) × (f x ≡ y)
 some_of f None y e = absurd cc
 some_of f (Some x) y e = let same : f x ≡ y = cc in (x, refl, same)
+
+no_lines : (lines : List (Option PackageLine)) → map names_of lines ≡ [] → lines ≡ []
+no_lines [] e = refl
+no_lines (l ∷ lines) e = absurd cc
 
 -- no member class of a program holds classes
 heads_of : (sources : List Source) (p : Program Span) → IsProgramOf sources p → UnitsHeads (units_of p)
@@ -39,7 +43,7 @@ heads_of sources p is =
     subst UnitsHeads (sym units) (units_headed sources is.units is.words is.program.read)
 
 module _ (sources : List Source) (p : Program Span) (before : IsProgramOf sources p) (text : List ℕ) (file at : ℕ) (new : List ℕ) (edits : List (List Entry)) (renaming : List (Decl × Decl)) (respelled : ℕ) (is : IsPlanIn p text file at new edits renaming respelled)
-    (named : RowsAreNamed Span) (dots : NamesHaveNoDot) (plans : PlansBecome Span Span) (images : NewProgramsAreImages) (built : BuiltRowsAreImages Span Span)
+    (named : RowsAreNamed Span) (dots : NamesHaveNoDot) (plans : PlansBecome Span Span) (images : NewProgramsAreImages) (built : BuiltRowsAreImages Span Span) (ctors : ConstructorsGiveImages Span Span)
     (news : List Source) (q : Program Span) (behind : IsProgramOf news q) (trees : map without_marks (units_of q) ≡ map (λ (o : Rewritten (UnitTree Span)). without_marks o.tree) is.planned.files)
   where
     abbrev g : Renaming
@@ -69,13 +73,21 @@ module _ (sources : List Source) (p : Program Span) (before : IsProgramOf source
     no_class : IsNoClass is.planned.target → All
     no_class kind = (let are = images p text file at new edits renaming respelled is kind (units_of q) trees in (once are.rows_are, are))
 
-    pub new_rows : IsNoConstructor is.planned.target → All
-    new_rows kind = by is.planned.target kind refl
+    pub new_rows : All
+    new_rows = by is.planned.target refl
       where
-        by : (d : Decl) → IsNoConstructor d → is.planned.target ≡ d → All
-        by (local_decl k) h e = no_class (subst IsNoClass (sym e) tt)
-        by (field_decl k) h e = no_class (subst IsNoClass (sym e) tt)
-        by (method_decl k) h e = no_class (subst IsNoClass (sym e) tt)
-        by (constructor_decl k) h e = absurd h
-        by (class_decl k) h e =
+        by : (d : Decl) → is.planned.target ≡ d → All
+        by (local_decl k) e = no_class (subst IsNoClass (sym e) tt)
+        by (field_decl k) e = no_class (subst IsNoClass (sym e) tt)
+        by (method_decl k) e = no_class (subst IsNoClass (sym e) tt)
+        by (constructor_decl k) e =
+            let r = ctors itself begins [] p.rows q.rows p.super_at (units_of p) k g (units_of q) (record {
+              becomes = subst Made e made;
+              headed = heads_of sources p before;
+              dotless = dots g.name name_is;
+              new_rows = behind.is.rows;
+              clean = λ lines same. subst (λ (ls : List (Option PackageLine)). IsClean ls (sites_of begins (units_of q))) (sym (no_lines lines same)) behind.is.clean;
+            }) in
+            (r.1, r.0)
+        by (class_decl k) e =
             built itself begins [] p.rows q.rows p.super_at (units_of p) k g (units_of q) (record { becomes = subst Made e made; heads = heads_of sources p before; whole = dots g.name name_is }) behind.is.rows

@@ -5,14 +5,7 @@ use Rattle.jr_text.specs.Edits.{Entry, AreEdits, FitsIn}
 use Rattle.jr_text.specs.Splices.{splice, IsUntouched, moved_to}
 use Rattle.jr_ast.specs.MemberTree.{Unit as UnitTree}
 use Rattle.jr_grammar.specs.Layout.{itself}
-use Rattle.jr_table.specs.Decls.{
-  Decl,
-  class_decl,
-  field_decl,
-  method_decl,
-  constructor_decl,
-  local_decl,
-}
+use Rattle.jr_table.specs.Decls.{Decl}
 use Rattle.jr_table.specs.Sites.{sites_of}
 use Rattle.jr_names.specs.declared.steps.Step.TheVariants as step
 use Rattle.jr_names.specs.Refusals.{Refusal}
@@ -34,14 +27,6 @@ use Rattle.jr_session.specs.Stepping.{Steps}
 -- the step is done
 abbrev pub IsDone : Reply → Type 0
 IsDone reply = (r : Refusal) → reply ≡ refused r → ⊥
-
--- what is renamed is no constructor, whose name is that of its class
-abbrev pub IsNoConstructor : Decl → Type 0
-IsNoConstructor (class_decl k) = Unit {0}
-IsNoConstructor (field_decl k) = Unit {0}
-IsNoConstructor (method_decl k) = Unit {0}
-IsNoConstructor (local_decl k) = Unit {0}
-IsNoConstructor (constructor_decl k) = ⊥
 
 -- The file has the same name. Its new text is the old one spliced by edits that fit it, and each
 -- byte that lies in no span of them is there again, moved by the growth of those before it.
@@ -72,13 +57,12 @@ pub record KeepsProgram (s : State) (file : List ℕ) (at : ℕ) (new : List ℕ
   pub trees : map without_marks (units_of q)
       ≡ map (λ (o : Rewritten (UnitTree Span)). without_marks o.tree) plan.planned.files
   -- q's own rows, made of its own trees, are the images of the rows of p
-  pub rows : IsNoConstructor plan.planned.target → q.rows ≡ rows_to plan.planned.g p.rows
+  pub rows : q.rows ≡ rows_to plan.planned.g p.rows
   -- each class and member of q stands where the one stood whose image it is, and q's declarations
   -- have no fault
-  pub images : IsNoConstructor plan.planned.target
-      → AreImages itself begins [] p.rows (units_of p) plan.planned.g (units_of q)
-  -- Each reference of each member of p is bound, at its place in q's own trees and by these rows, to
-  -- the image of its declaration; each written type, superclass and `super(..)` means the image of
+  pub images : AreImages itself begins [] p.rows (units_of p) plan.planned.g (units_of q)
+  -- Each reference of each member of p is bound, at its place in q's own trees and by q's own rows,
+  -- to the image of its declaration; each written type, superclass and `super(..)` means the image of
   -- what it meant.
   pub references : AlongUnits begins begins (IsKept begins begins plan.planned.g p.rows)
       (IsWritten begins begins plan.planned.g p.rows) (IsSuperKept plan.planned.g p.rows)

@@ -1,7 +1,7 @@
 //! Laws of accepted renames that no call's clause can carry.
 ghost use Rattle.jr_kept.specs.Promises.{RenamesKeepPrograms, RenamesAreTakenBack};
 
-use jr_class_rename::classes_give_images;
+use jr_class_rename::{classes_give_images, constructors_give_images};
 use jr_punit::one_reading;
 use jr_rename::{plans_become, rows_are_named};
 use jr_renamed::plans_keep_programs;
@@ -18,6 +18,7 @@ pub fn accepted_renames_keep_programs()
     plans_become::<Span, Span>();
     rows_are_named::<Span>();
     classes_give_images::<Span, Span>();
+    constructors_give_images::<Span, Span>();
     plans_keep_programs();
     untouched_bytes_move();
 }
