@@ -19,6 +19,10 @@ put_four b0 b1 b2 b3 b4 x y z v whole e f g h w = put_two b0 b1 b4 x (y ++ (z ++
 pub put_five : (b0 b1 b2 b3 b4 b5 x y z v w whole : List ℕ) → b1 ≡ b0 ++ x → b2 ≡ b1 ++ y → b3 ≡ b2 ++ z → b4 ≡ b3 ++ v → b5 ≡ b4 ++ w → x ++ (y ++ (z ++ (v ++ w))) ≡ whole → b5 ≡ b0 ++ whole
 put_five b0 b1 b2 b3 b4 b5 x y z v w whole e f g h k is = put_two b0 b1 b5 x (y ++ (z ++ (v ++ w))) whole e (put_four b1 b2 b3 b4 b5 y z v w (y ++ (z ++ (v ++ w))) f g h k refl) is
 
+pub put_six : (b0 b1 b2 b3 b4 b5 b6 x y z v w p whole : List ℕ) → b1 ≡ b0 ++ x → b2 ≡ b1 ++ y → b3 ≡ b2 ++ z → b4 ≡ b3 ++ v → b5 ≡ b4 ++ w → b6 ≡ b5 ++ p
+    → x ++ (y ++ (z ++ (v ++ (w ++ p)))) ≡ whole → b6 ≡ b0 ++ whole
+put_six b0 b1 b2 b3 b4 b5 b6 x y z v w p whole e f g h k l is = put_two b0 b1 b6 x (y ++ (z ++ (v ++ (w ++ p)))) whole e (put_five b1 b2 b3 b4 b5 b6 y z v w p (y ++ (z ++ (v ++ (w ++ p)))) f g h k l refl) is
+
 pub put_seven : (b0 b1 b2 b3 b4 b5 b6 b7 x y z v w p q whole : List ℕ) → b1 ≡ b0 ++ x → b2 ≡ b1 ++ y → b3 ≡ b2 ++ z → b4 ≡ b3 ++ v → b5 ≡ b4 ++ w → b6 ≡ b5 ++ p → b7 ≡ b6 ++ q
     → x ++ (y ++ (z ++ (v ++ (w ++ (p ++ q))))) ≡ whole → b7 ≡ b0 ++ whole
 put_seven b0 b1 b2 b3 b4 b5 b6 b7 x y z v w p q whole e f g h k l m is =
@@ -44,6 +48,16 @@ super_text args = ap (λ rest. codes " super(" ++ rest) (append_assoc args (code
 
 pub cast_text : (type operand : List ℕ) → codes "(" ++ (type ++ (codes ") " ++ operand)) ≡ codes "(" ++ type ++ codes ") " ++ operand
 cast_text type operand = sym (append_assoc (codes "(" ++ type) (codes ") ") operand)
+
+pub local_text : (variable value : List ℕ) → variable ++ (codes " = " ++ (value ++ codes ";")) ≡ variable ++ codes " = " ++ value ++ codes ";"
+local_text variable value = sym (append_assoc variable (codes " = ") (value ++ codes ";")) ∙ sym (append_assoc (variable ++ codes " = ") value (codes ";"))
+
+pub if_text : (condition first other : List ℕ) → codes "if (" ++ ((condition ++ codes ") ") ++ (first ++ other)) ≡ codes "if (" ++ condition ++ codes ") " ++ first ++ other
+if_text condition first other = sym (append_assoc (codes "if (" ++ condition ++ codes ") ") first other)
+
+pub field_text : (modifiers type name value : List ℕ)
+    → modifiers ++ (type ++ (codes " " ++ (name ++ (value ++ codes ";")))) ≡ modifiers ++ type ++ codes " " ++ name ++ value ++ codes ";"
+field_text modifiers type name value = simp append_assoc
 
 -- ---- rows of texts, put one after the other
 

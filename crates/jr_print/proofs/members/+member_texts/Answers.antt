@@ -1,11 +1,12 @@
 use Rattle.std.proofs.Common.{◌++◌, map, option_map, refl, sym, ap, ◌∙◌}
 use Rattle.std.specs.Prelude.{codes}
 use Rattle.std.proofs.lemmas.Result.{on_ok_weaker}
+use Rattle.jr_print.specs.ExpressionText.{printed_type}
 use Rattle.jr_print.specs.StatementText.{printed_stmts}
-use Rattle.jr_print.specs.MemberText.{printed_modifiers, printed_params, printed_result, printed_super, printed_extends, printed_class, printed_member, printed_members}
-use Rattle.jr_print.proofs.Puts.{put_two, put_four, put_five, put_seven, method_text, constructor_text, class_text, put_item, put_all}
+use Rattle.jr_print.specs.MemberText.{printed_init, printed_modifiers, printed_params, printed_result, printed_super, printed_extends, printed_class, printed_member, printed_members}
+use Rattle.jr_print.proofs.Puts.{put_one, put_two, put_four, put_five, put_six, put_seven, field_text, method_text, constructor_text, class_text, put_item, put_all}
 use Rattle.jr_ast.specs.declared.members.Class.{out-Class}
-use Rattle.jr_ast.specs.View.{word_of, modifier_of, type_of, param_of, args_of, stmts_of, member_of, members_of, class_of, member_kind, member_row}
+use Rattle.jr_ast.specs.View.{word_of, modifier_of, type_of, param_of, expr_of, args_of, stmts_of, member_of, members_of, class_of, member_kind, member_row}
 use Rattle.jr_ast.proofs.Rows.{class_of-out}
 use Rattle.jr_ast.proofs.Sizes.{member_size, members_size, class_size}
 use Rattle.jr_ast.proofs.Marking.{members_add}
@@ -76,3 +77,23 @@ class-returns g t c =
     (λ e. put_seven _ _ _ _ _ _ _ _ _ _ _ _ _ _ _ _ c.in_ok-modifiers.ensures c.in_ok-put.ensures c.in_ok-word.ensures c.in_ok-extends.ensures c.in_ok-put-2.ensures c.in_ok-members.ensures e
     ((λ i. printed_modifiers (map modifier_of (c.deref.ensures.value i)) ++ (codes "class " ++ (name ++ (parent ++ (codes " {" ++ (printed_members (members_of (c.deref-2.ensures.value i)) ++ codes " }"))))))
     ∙ class_text _ name parent _ ∙ sym (ap printed_class (class_of-out _ c.args.of.now)))) c.put-3.ensures
+
+pub member-returns-in_ok-init-in-Field : goal.member-returns-in_ok-init-in-Field
+unfolding member_kind member_row class_of
+member-returns-in_ok-init-in-Field g t c =
+    let at = c.in-Field in
+    let m = c.args.of.now.mark in
+    let type = printed_type (type_of at.of_type) in
+    let name = (word_of at.name).text in
+    let value = printed_init (option_map expr_of at.value) in
+    let view = ap (λ d. printed_member (member_kind m d)) at.is in
+    on_ok_weaker c.put-in-Field.result
+    (λ e. put_six _ _ _ _ _ _ _ _ _ _ _ _ _ _ c.in_ok-modifiers-in-Field.ensures c.in_ok-ty-in-Field.ensures c.in_ok-put-in-Field.ensures c.in_ok-word-in-Field.ensures c.in_ok-init-in-Field.ensures e
+    ((λ i. printed_modifiers (map modifier_of (c.deref.ensures.value i)) ++ (type ++ (codes " " ++ (name ++ (value ++ codes ";")))))
+    ∙ field_text _ type name value ∙ sym view)) c.put-in-Field.ensures
+
+pub member-returns-in-Inner : goal.member-returns-in-Inner
+unfolding member_kind member_row class_of
+member-returns-in-Inner g t c =
+    let view = ap (λ d. printed_member (member_kind c.args.of.now.mark d)) c.in-Inner.is in
+    on_ok_weaker c.class.result (λ e. put_one _ _ _ _ e (sym view)) c.class.ensures

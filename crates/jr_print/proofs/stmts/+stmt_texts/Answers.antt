@@ -2,9 +2,9 @@ use Rattle.std.proofs.Common.{◌++◌, refl, sym, ap, ◌∙◌}
 use Rattle.std.specs.Prelude.{codes}
 use Rattle.std.proofs.lemmas.Result.{on_ok_weaker}
 use Rattle.jr_print.specs.ExpressionText.{printed}
-use Rattle.jr_print.specs.StatementText.{printed_stmt, printed_stmts}
-use Rattle.jr_print.proofs.Puts.{put_one, put_two, put_three, put_item, put_all, braced, locked}
-use Rattle.jr_ast.specs.View.{expr_of, stmt_of, stmts_of, else_of, stmt_kind, stmt_row, held_else}
+use Rattle.jr_print.specs.StatementText.{printed_variable, printed_stmt, printed_else, printed_stmts}
+use Rattle.jr_print.proofs.Puts.{put_one, put_two, put_three, put_four, put_item, put_all, braced, locked, local_text, if_text}
+use Rattle.jr_ast.specs.View.{type_of, word_of, expr_of, stmt_of, stmts_of, else_of, stmt_kind, stmt_row, held_else}
 use Rattle.jr_ast.proofs.Rows.{stmt_kind-If, stmt_kind-Block, stmt_kind-Sync}
 use Rattle.jr_ast.proofs.Sizes.{stmt_size, stmts_size, else_size}
 use Rattle.jr_ast.proofs.Marking.{stmts_add}
@@ -93,3 +93,61 @@ stmts-loop-part-preserved g t c =
 pub stmts-returns : goal.stmts-returns
 stmts-returns g t c =
     put_all (λ xs. printed_stmts (stmts_of xs)) (λ x. codes " " ++ printed_stmt (stmt_of x)) (λ x xs. refl) _ _ c.args.parts.now c.loop-part.part-index c.loop-part-test.false refl c.loop-part.invariant
+
+pub stmt-returns-in-Eval : goal.stmt-returns-in-Eval
+unfolding stmt_kind stmt_row held_else
+stmt-returns-in-Eval g t c =
+    let at = c.in-Eval in
+    let m = c.args.of.now.mark in
+    let view = ap (λ d. printed_stmt (stmt_kind m d)) at.is in
+    on_ok_weaker c.expr_then-in-Eval.result (λ e. put_one _ _ _ _ e (sym view)) c.expr_then-in-Eval.ensures
+
+pub stmt-returns-in-Return : goal.stmt-returns-in-Return
+unfolding stmt_kind stmt_row held_else
+stmt-returns-in-Return g t c =
+    let at = c.in-Return in
+    let m = c.args.of.now.mark in
+    let view = ap (λ d. printed_stmt (stmt_kind m d)) at.is in
+    on_ok_weaker c.return_stmt.result (λ e. put_one _ _ _ _ e (sym view)) c.return_stmt.ensures
+
+pub stmt-returns-in-Empty : goal.stmt-returns-in-Empty
+unfolding stmt_kind stmt_row held_else
+stmt-returns-in-Empty g t c =
+    let at = c.in-Empty in
+    let m = c.args.of.now.mark in
+    let view = ap (λ d. printed_stmt (stmt_kind m d)) at.is in
+    on_ok_weaker c.put-in-Empty.result (λ e. put_one _ _ _ _ e (sym view)) c.put-in-Empty.ensures
+
+pub stmt-returns-in_ok-put-in-Local : goal.stmt-returns-in_ok-put-in-Local
+unfolding stmt_kind stmt_row held_else
+stmt-returns-in_ok-put-in-Local g t c =
+    let at = c.in-Local in
+    let m = c.args.of.now.mark in
+    let view = ap (λ d. printed_stmt (stmt_kind m d)) at.is in
+    let text = local_text (printed_variable at.is_final (type_of at.ty) (word_of at.name)) (printed (expr_of at.init)) in
+    on_ok_weaker c.expr_then.result (λ e. put_three _ _ _ _ _ _ _ _ c.in_ok-variable-in-Local.ensures c.in_ok-put-in-Local.ensures e (text ∙ sym view)) c.expr_then.ensures
+
+pub stmt-returns-in_ok-stmt-in-If : goal.stmt-returns-in_ok-stmt-in-If
+unfolding stmt_kind stmt_row held_else
+stmt-returns-in_ok-stmt-in-If g t c =
+    let at = c.in-If in
+    let m = c.args.of.now.mark in
+    let view = ap (λ d. printed_stmt (stmt_kind m d)) at.is ∙ ap printed_stmt (stmt_kind-If _ m at.condition at.yes at.no) in
+    let condition = printed (expr_of at.condition) in
+    let other = printed_else (else_of at.no) in
+    let text = ap (λ s. codes "if (" ++ ((condition ++ codes ") ") ++ (printed_stmt (stmt_of s) ++ other))) c.deref.ensures ∙ if_text condition (printed_stmt (stmt_of at.yes.value)) other in
+    on_ok_weaker c.otherwise.result (λ e. put_four _ _ _ _ _ _ _ _ _ _ c.in_ok-put-in-If.ensures c.in_ok-expr_then-in-If.ensures c.in_ok-stmt-in-If.ensures e (text ∙ sym view)) c.otherwise.ensures
+
+pub stmt-returns-in_ok-expr_then-in-While : goal.stmt-returns-in_ok-expr_then-in-While
+unfolding stmt_kind stmt_row held_else
+stmt-returns-in_ok-expr_then-in-While g t c =
+    let at = c.in-While in
+    let m = c.args.of.now.mark in
+    let view = ap (λ d. printed_stmt (stmt_kind m d)) at.is in
+    let text = ap (λ s. codes "while (" ++ ((printed (expr_of at.condition) ++ codes ") ") ++ printed_stmt (stmt_of s))) c.deref-in-While.ensures in
+    on_ok_weaker c.stmt-in-While.result (λ e. put_three _ _ _ _ _ _ _ _ c.in_ok-put-in-While.ensures c.in_ok-expr_then-in-While.ensures e (text ∙ sym view)) c.stmt-in-While.ensures
+
+pub otherwise-returns-in_ok-put-in-Some : goal.otherwise-returns-in_ok-put-in-Some
+otherwise-returns-in_ok-put-in-Some g t c =
+    let text = ap (λ s. codes " else " ++ printed_stmt (stmt_of s)) c.deref.ensures in
+    on_ok_weaker c.stmt.result (λ e. put_two _ _ _ _ _ _ c.in_ok-put-in-Some.ensures e (text ∙ sym (ap (λ o. printed_else (else_of o)) c.in-Some.is))) c.stmt.ensures
