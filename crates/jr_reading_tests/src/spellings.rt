@@ -210,17 +210,15 @@ fn target(rt: &impl Abort, alloc: Global, place: &str, text: &str) -> Box<Decl> 
 /// Whether words in front of a dot lead to these classes, one after the other.
 fn words_lead(rt: &impl Abort, alloc: Global, table: &Table, scope: &Scope, path: &str) -> bool {
     let mut leads = true;
-    let mut around = "";
+    let mut around = None;
     for word in path.split(',') {
         let class = class_key(rt, alloc, word);
         leads = leads
-            & if around.is_empty() {
-                leads_simply(table, scope, &class.name, &class)
-            } else {
-                let outer = class_key(rt, alloc, around);
-                leads_in(table, scope, &outer, &class.name, &class)
+            & match &around {
+                None => leads_simply(table, scope, &class.name, &class),
+                Some(outer) => leads_in(table, scope, outer, &class.name, &class),
             };
-        around = word;
+        around = Some(class);
     }
     leads
 }
