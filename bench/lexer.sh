@@ -1,7 +1,7 @@
 #!/usr/bin/env bash
 # How long the lexer takes over 1 MiB of source, outside the gate: bench/lexer.sh JREF, where JREF is the built program.
 #
-# The words ask for a rename in a file that isn't in the small language. It is read, lexed whole, measured, and refused
+# The words ask for a rename in a file that is no unit: `>>>` stands in it. It is read, lexed whole, measured, and refused
 # at its first token that doesn't fit, so that nearly all of the time is the lexer's. The same words over a file of two
 # bytes say how long the rest takes. javac, and its scanner alone, read the same file.
 . "$(dirname "$0")/work.sh"

@@ -3,9 +3,10 @@
 # the built program, or bench/units.sh PROGRAM alone, where PROGRAM is units.program, built as a crate
 # that stands on jr_punit, jr_shelf, jr_lex, jr_text and anyhow.
 #
-# The words ask for a rename in a file that is a unit, but not in the small language. It is read,
-# lexed, measured and parsed whole, its tree is dropped, and it is refused at its first token that
-# doesn't fit. The same words over an empty class say how long the rest takes. Four shapes at three
+# The words ask for a rename in a file that is a unit, at its first byte, where no identifier stands.
+# It is read, lexed, measured and parsed whole, put into a table and bound, and the rename is refused;
+# the program of its own does no more than read and parse it. The same words over a small class say
+# how long the rest takes. Four shapes at three
 # sizes; javac's parser reads the same files. All times are a processor's: of the whole process, and
 # of the thread that parses.
 set -eu

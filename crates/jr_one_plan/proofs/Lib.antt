@@ -1,7 +1,7 @@
-mod Alike
+pub mod Alike
 mod OneRewriting
 mod OneChoice
-mod OneProgram
+pub mod OneProgram
 mod OneClash
-mod OneRefusal
+pub mod OneRefusal
 mod OnePlan

@@ -39,6 +39,12 @@ class_text modifiers name parent members = simp append_assoc
 pub call_text : (target name args : List ℕ) → target ++ (name ++ (codes "(" ++ args ++ codes ")")) ≡ target ++ name ++ codes "(" ++ args ++ codes ")"
 call_text target name args = simp append_assoc
 
+pub super_text : (args : List ℕ) → codes " super" ++ ((codes "(" ++ args ++ codes ")") ++ codes ";") ≡ codes " super(" ++ args ++ codes ");"
+super_text args = ap (λ rest. codes " super(" ++ rest) (append_assoc args (codes ")") (codes ";"))
+
+pub cast_text : (type operand : List ℕ) → codes "(" ++ (type ++ (codes ") " ++ operand)) ≡ codes "(" ++ type ++ codes ") " ++ operand
+cast_text type operand = sym (append_assoc (codes "(" ++ type) (codes ") ") operand)
+
 -- ---- rows of texts, put one after the other
 
 module _ {T : Type 0} (row_text : List T → List ℕ) (one : T → List ℕ) (adds : (x : T) (xs : List T) → row_text (x ∷ xs) ≡ one x ++ row_text xs) where

@@ -46,6 +46,10 @@ pub fn plan_at<V: View<Span>>(
     view.keeps_program();
     match target(alloc, view, file, at)? {
         None => no_target(alloc, file, at),
-        Some(target) => of_target(alloc, view, &target, new),
+        Some(target) => {
+            let outcome = of_target(alloc, view, &target, new);
+            drop(target);
+            outcome
+        }
     }
 }

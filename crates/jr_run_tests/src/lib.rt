@@ -14,7 +14,11 @@ mod memory;
 #[cfg(test)]
 mod renames;
 #[cfg(test)]
+mod renaming;
+#[cfg(test)]
 mod reports;
+#[cfg(test)]
+mod rows;
 #[cfg(test)]
 mod runs;
 #[cfg(test)]
@@ -23,7 +27,5 @@ mod scripts;
 mod sessions;
 #[cfg(test)]
 mod shows;
-#[cfg(test)]
-mod small;
 #[cfg(test)]
 mod words;

@@ -1,349 +1,183 @@
-//! Renames of locals, and what is told of them.
-use crate::memory::words_of;
-use crate::runs::run_line;
+//! The command `rename`, and what is told of it.
+use crate::memory::{put_times, text_of, words_of};
+use crate::rows::assert_same;
+use crate::runs::{run_failing, run_over};
 use jr_files::SourceFault;
 use jr_script::ScriptFault;
 use jr_shelf::MemorySink;
-use jr_small::{Declaration, Refusal, SourceKind};
-use jr_top::{Message, Status, refusal_line};
-use std::alloc::{AllocError, Global};
+use jr_top::{Message, Status};
+use std::alloc::Global;
 use std::process::Abort;
-use std::test::Fail;
 
-const RENAMED: &str = "class A{static int f;static void m(){int a=1;f=a;}}";
+/// Words and, behind `@`, what A.java holds; how the run ends, and what the sink takes.
+pub(crate) const ROWS: &'static str = "
+~source rename A.java 41 b@class A{static int f;static void m(){int a=1;f=a;}} => \
+    Done | class A{static int f;static void m(){int b=1;f=b;}}
+~source rename A.java 0041 f@class A{static int f;static void m(){int a=1;f=a;}} => \
+    Done | class A{static int f;static void m(){int f=1;A.f=f;}}
+~source rename A.java 45 f@class A{static int f;static void m(){f=1;int a=f;f=f+a+f;}} => \
+    Done | class A{static int f;static void m(){f=1;int f=A.f;A.f=A.f+f+A.f;}}
+~source rename A.java 39 f@class A{static int f;static void m(int A){f=A;}} => \
+    Done | class A{static int f;static void m(int f){A.f=f;}}
+~source rename A.java 47 A@class A{static int f;static void m(){A.f=1;int a=2;f=a;}static void \
+    n(int a){a=f;}} => \
+    Done | class A{static int f;static void m(){A.f=1;int A=2;f=A;}static void n(int a){a=f;}}
+~source rename A.java 13 k@class A{void m(){}}class B extends A{void m(){}void n(){m();}} => \
+    Done | class A{void k(){}}class B extends A{void k(){}void n(){k();}}
+~source rename A.java 37 x@class A{int x;}class B extends A{int y;int m(){return x;}} => \
+    Done | class A{int x;}class B extends A{int x;int m(){return super.x;}}
+~source rename A.java 6 C@class A{}class B extends A{A a(){return (A)new A();}Class \
+    c(){return A.class;}} => \
+    Done | class C{}class B extends C{C a(){return (C)new C();}Class c(){return C.class;}}
+~source rename A.java 6 B@class A{static int f=-2147483648;} => \
+    Done | class B{static int f=-2147483648;}
+~source rename A.java 29 B@class A{static void m(){{int a=1;}}} => \
+    Done | class A{static void m(){{int B=1;}}}
+~source rename A.java 999 b@class A{static int f;static void m(){int a=1;f=a;}} => \
+    Refused | refused 2 BadPlace A.java:999\n
+~source rename A.java 4294967295 b@class A{static int f;static void m(){int a=1;f=a;}} => \
+    Refused | refused 2 BadPlace A.java:4294967295\n
+~source rename A.java 41 goto@class A{static int f;static void m(){int a=1;f=a;}} => \
+    Refused | refused 3 BadName goto\n
+~source rename A.java 0 b@class A{static int f;static void m(){int a=1;f=a;}} => \
+    Refused | refused 5 BadTarget A.java:0 Declaration\n
+~source rename A.java 35 go@class A extends Thread{public void run(){}} => \
+    Refused | refused 6 PreludeMethod Thread.run()\n
+~source rename A.java 28 b@class A{static void m(){int a=1;int b=2;}} => \
+    Refused | refused 14 Clash A.m()#1\n
+~source rename A.java 46 f@class A{static int f;static void m(int A){int a=1;f=a+A;}} => \
+    Refused | refused 16 LostBinding A.java:50 A.f found A.m(int)#1\n
+~source rename A.java 42 m@class A{void m(){}}class B extends A{void n(){}} => \
+    Refused | refused 15 OverrideChanged B A.m()\n
+~# Comments that are not closed, texts that are no unit, declarations with a fault, and then a rule
+~# that is broken.
+~source rename A.java 6 B@class A{/*/} => Refused | refused 4 SourceError A.java:8 OpenComment\n
+~source rename A.java 0 B@/* => Refused | refused 4 SourceError A.java:0 OpenComment\n
+~source rename A.java 6 B@class A{int f=1 2;} => \
+    Refused | refused 4 SourceError A.java:16 Syntax\n
+~source rename A.java 6 B@class A{int f=1; => Refused | refused 4 SourceError A.java:16 Syntax\n
+~source rename A.java 33 B@class A{static void m(){if(b)int a=1;}} => \
+    Refused | refused 4 SourceError A.java:29 Syntax\n
+~source rename A.java 6 B@class A{static int f=2147483648;} => \
+    Refused | refused 4 SourceError A.java:21 Syntax\n
+~source rename A.java 6 B@class A extends B{} => \
+    Refused | refused 4 SourceError A.java:16 NoSuperclass\n
+~source rename A.java 6 B@class A extends B{}class B extends A{} => \
+    Refused | refused 4 SourceError A.java:6 Cycle\n
+~source rename A.java 6 B@class A{int m(){return x;}} => \
+    Refused | refused 4 SourceError A.java:23 NoVariable\n
+~source rename A.java 41 B@class A{static int a;static void m(){int a=a;}} => \
+    Refused | refused 4 SourceError A.java:43 Forward\n
+~# A clash with a declaration in front, and lost references: one behind the name of the class, one
+~# behind a local that obscures the class, and one where a field obscures it.
+~source rename A.java 33 b@class A{static void m(int b){int a=1;}} => \
+    Refused | refused 14 Clash A.m(int)#0\n
+~source rename A.java 41 A@class A{static int f;static void m(){int a=1;A.f=a+f;}} => \
+    Refused | refused 16 LostBinding A.java:45 A found A.m()#0\n
+~source rename A.java 41 f@class A{static int f;static void m(){int a=1;f=a;int A=2;f=A;}} => \
+    Refused | refused 16 LostBinding A.java:57 A.f found A.m()#0\n
+~source rename A.java 41 A@class A{static int A;static void m(){int a=1;A=a;}} => \
+    Refused | refused 16 LostBinding A.java:45 A.A found A.m()#0\n
+";
 
-// One row: what A.java holds, the words, how the run ends, and what the sink takes. Nothing is
-// stored: the second call of the shelf would fail.
-fn check(
+/// The text, with spaces behind it so that it has so many bytes.
+fn assert_filled(
     rt: &impl Abort,
     alloc: Global,
-    source: &[u8],
+    text: &str,
+    len: usize,
     line: &str,
-    status: &str,
-    output: &str,
-) -> Result<(), Fail> {
-    let held = [("A.java", source)];
-    let end = run_line(rt, alloc, held.as_slice(), line, &[2], &[])?;
-    assert_eq!(rt; end.status.as_str(), status, "{line}");
-    assert_eq!(rt; end.output.as_str(), output, "{line}");
-    Ok(())
+    expected: &str,
+) {
+    let mut long = text_of(rt, alloc, text);
+    put_times(rt, &mut long, " ", len.wrapping_sub(text.len()));
+    assert_same(
+        rt,
+        run_over(rt, alloc, long.as_bytes(), line).as_str(),
+        expected,
+    );
 }
 
-#[test]
-fn renames(rt: HostRuntime) -> Result<(), Fail> {
-    for (source, line, output) in [
-        (
-            RENAMED,
-            "rename A.java 41 b",
-            "class A{static int f;static void m(){int b=1;f=b;}}",
-        ),
-        (
-            RENAMED,
-            "rename A.java 0041 f",
-            "class A{static int f;static void m(){int f=1;A.f=f;}}",
-        ),
-        (
-            "class A{static int f;static void m(){f=1;int a=f;f=f+a+f;}}",
-            "rename A.java 45 f",
-            "class A{static int f;static void m(){f=1;int f=A.f;A.f=A.f+f+A.f;}}",
-        ),
-        (
-            "class A{static int f;static void m(int A){f=A;}}",
-            "rename A.java 39 f",
-            "class A{static int f;static void m(int f){A.f=f;}}",
-        ),
-        (
-            "class A{static int f;static void m(){A.f=1;int a=2;f=a;}static void n(int a){a=f;}}",
-            "rename A.java 47 A",
-            "class A{static int f;static void m(){A.f=1;int A=2;f=A;}static void n(int a){a=f;}}",
-        ),
-    ] {
-        check(&rt, rt.alloc(), source.as_bytes(), line, "Done", output)?;
-    }
-    Ok(())
-}
-
-#[test]
-fn refuses(rt: HostRuntime) -> Result<(), Fail> {
-    let obscured = "class A{static int f;static void m(int A){int a=1;f=a+A;}}";
-    let two = "class A{static void m(){int a=1;int b=2;}}";
-    for (source, line, output) in [
-        (
-            RENAMED,
-            "rename A.java 999 b",
-            "refused 2 BadPlace A.java:999\n",
-        ),
-        (
-            RENAMED,
-            "rename A.java 4294967295 b",
-            "refused 2 BadPlace A.java:4294967295\n",
-        ),
-        (RENAMED, "rename A.java 41 goto", "refused 3 BadName goto\n"),
-        (
-            "class A{int f;}",
-            "rename A.java 12 b",
-            "refused 4 SourceError A.java:0 Unbuilt\n",
-        ),
-        (
-            RENAMED,
-            "rename A.java 6 b",
-            "refused 5 BadTarget A.java:6 Declaration\n",
-        ),
-        (two, "rename A.java 28 b", "refused 14 Clash A.m()#1\n"),
-        (
-            obscured,
-            "rename A.java 46 f",
-            "refused 16 LostBinding A.java:50 A.f found A.m(int)#1\n",
-        ),
-    ] {
-        check(&rt, rt.alloc(), source.as_bytes(), line, "Refused", output)?;
-    }
-    Ok(())
-}
-
-// Comments that are not closed, texts that are no unit, and then units that are no sound source of
-// one class without blocks.
-#[test]
-fn refuses_sources(rt: HostRuntime) -> Result<(), Fail> {
-    let unbuilt = "refused 4 SourceError A.java:0 Unbuilt\n";
-    for (source, at, output) in [
-        (
-            "class A{/*/}",
-            6,
-            "refused 4 SourceError A.java:8 OpenComment\n",
-        ),
-        ("/*", 0, "refused 4 SourceError A.java:0 OpenComment\n"),
-        (
-            "class A{int f=1 2;}",
-            6,
-            "refused 4 SourceError A.java:16 Syntax\n",
-        ),
-        (
-            "class A{int f=1;",
-            6,
-            "refused 4 SourceError A.java:16 Syntax\n",
-        ),
-        (
-            "class A{static void m(){if(b)int a=1;}}",
-            33,
-            "refused 4 SourceError A.java:29 Syntax\n",
-        ),
-        ("class A{static int f;}class B{static int f;}", 42, unbuilt),
-        ("class A{static void m(){{int a=1;}}}", 29, unbuilt),
-        (
-            "class A{static int a;static void m(){int a=a;}}",
-            41,
-            unbuilt,
-        ),
-        (
-            "class A{static int f;static void m(int A){A.f=1;}}",
-            39,
-            unbuilt,
-        ),
-        ("class A{static void m(int a){b=a;int b=1;}}", 26, unbuilt),
-    ] {
-        let line = format!(in rt.alloc(); "rename A.java {at} B")?;
-        check(
-            &rt,
-            rt.alloc(),
-            source.as_bytes(),
-            line.as_str(),
-            "Refused",
-            output,
-        )?;
-    }
-    Ok(())
-}
-
-// A clash with a declaration in front, and lost references: one behind the name of the class, one
-// behind a local that obscures the class, and one where a field obscures it.
-#[test]
-fn refuses_names(rt: HostRuntime) -> Result<(), Fail> {
-    for (source, line, output) in [
-        (
-            "class A{static void m(int b){int a=1;}}",
-            "rename A.java 33 b",
-            "refused 14 Clash A.m(int)#0\n",
-        ),
-        (
-            "class A{static int f;static void m(){int a=1;A.f=a+f;}}",
-            "rename A.java 41 A",
-            "refused 16 LostBinding A.java:45 A found A.m()#0\n",
-        ),
-        (
-            "class A{static int f;static void m(){int a=1;f=a;int A=2;f=A;}}",
-            "rename A.java 41 f",
-            "refused 16 LostBinding A.java:57 A.f found A.m()#0\n",
-        ),
-        (
-            "class A{static int A;static void m(){int a=1;A=a;}}",
-            "rename A.java 41 A",
-            "refused 16 LostBinding A.java:45 A.A found A.m()#0\n",
-        ),
-    ] {
-        check(&rt, rt.alloc(), source.as_bytes(), line, "Refused", output)?;
-    }
-    Ok(())
-}
-
-// The text, with so many spaces behind it that it has so many bytes.
-fn filled(alloc: Global, text: &[u8], len: usize) -> Result<Vec<u8>, AllocError> {
-    let mut long = text.to_vec(alloc)?;
-    for _ in text.len()..len {
-        long.push(b' ')?;
-    }
-    Ok(long)
-}
-
-#[test]
-fn refuses_a_text_that_grows_too_long(rt: HostRuntime) -> Result<(), Fail> {
-    let alloc = rt.alloc();
-    let long = filled(alloc, b"class A{static void m(){int a=1;}}", 1_048_576)?;
-    let output = "refused 20 TooLong 1048577\n";
-    let line = "rename A.java 28 bb";
-    check(&rt, alloc, long.as_slice(), line, "Refused", output)
-}
-
-#[test]
-fn faults(rt: HostRuntime) -> Result<(), Fail> {
-    let alloc = rt.alloc();
-    let long = filled(alloc, b"", 1_048_577)?;
-    for (source, line, status) in [
-        (
-            RENAMED.as_bytes(),
-            "rename B.java 41 b",
-            "ReadFault { word: 1 }",
-        ),
-        (
-            b"class A{}\xff".as_slice(),
-            "rename A.java 41 b",
-            "BadSource { word: 1, fault: NotUtf8 { valid: 9 } }",
-        ),
-        (
-            b"\xc3".as_slice(),
-            "rename A.java 0 b",
-            "BadSource { word: 1, fault: NotUtf8 { valid: 0 } }",
-        ),
-        (
-            long.as_slice(),
-            "rename A.java 41 b",
-            "BadSource { word: 1, fault: TooLong }",
-        ),
-    ] {
-        check(&rt, alloc, source, line, status, "")?;
-    }
-    Ok(())
-}
+const RENAMED: &'static str = "class A{static int f;static void m(){int a=1;f=a;}}";
 
 // The one fetch fails, and then the one put.
-#[test]
-fn failing_calls(rt: HostRuntime) -> Result<(), Fail> {
-    let alloc = rt.alloc();
-    let held = [("A.java", RENAMED.as_bytes())];
-    let held = held.as_slice();
-    for (line, call, put, status) in [
-        ("rename A.java 41 b", 1, 0, "ReadFault { word: 1 }"),
-        ("rename A.java 41 b", 0, 1, "WriteFault { stored: 0 }"),
-        ("rename A.java 999 b", 0, 1, "WriteFault { stored: 0 }"),
-    ] {
-        let end = run_line(&rt, alloc, held, line, &[call], &[put])?;
-        assert_eq!(rt; end.status.as_str(), status, "{line}");
-        assert_eq!(rt; end.output.as_str(), "", "{line}");
-    }
-    Ok(())
+fn assert_failing(rt: &impl Abort, alloc: Global, line: &str, call: u32, put: u32, expected: &str) {
+    let told = run_failing(rt, alloc, RENAMED, line, call, put);
+    assert_same(rt, told.as_str(), expected);
+}
+
+fn assert_over(rt: &impl Abort, alloc: Global, source: &[u8], line: &str, expected: &str) {
+    assert_same(rt, run_over(rt, alloc, source, line).as_str(), expected);
 }
 
 #[test]
-fn lines(rt: HostRuntime) -> Result<(), Fail> {
+fn faults(rt: HostRuntime) {
     let alloc = rt.alloc();
-    let name = |text: &str| String::from_str(alloc, text);
-    let class = Declaration::Class(name("A")?);
-    let field = Declaration::Field {
-        class: name("A")?,
-        name: name("f")?,
-    };
-    let variable = Declaration::Variable {
-        class: name("A")?,
-        method: name("m")?,
-        parameters: 2,
-        number: 2,
-    };
-    let lost = Refusal::LostBinding {
-        at: 50,
-        declaration: field,
-        found: class,
-    };
-    let bad_source = Refusal::SourceError {
-        at: 7,
-        kind: SourceKind::Deep,
-    };
-    for (refusal, line) in [
-        (Refusal::BadPlace, "refused 2 BadPlace dir/A.java:12\n"),
-        (Refusal::BadName, "refused 3 BadName goto\n"),
-        (bad_source, "refused 4 SourceError dir/A.java:7 Deep\n"),
-        (
-            Refusal::BadTarget,
-            "refused 5 BadTarget dir/A.java:12 Declaration\n",
-        ),
-        (
-            Refusal::Clash { with: variable },
-            "refused 14 Clash A.m(int,int)#2\n",
-        ),
-        (lost, "refused 16 LostBinding dir/A.java:50 A.f found A\n"),
-        (
-            Refusal::TooLong { len: 1_048_577 },
-            "refused 20 TooLong 1048577\n",
-        ),
-    ] {
-        let written = refusal_line(alloc, "dir/A.java", 12, "goto", &refusal)?;
-        assert_eq!(rt; written.as_str(), line);
+    let text = "class A{static void m(){int a=1;}}";
+    let expected = "Refused | refused 20 TooLong 1048577\n";
+    assert_filled(&rt, alloc, text, 1_048_576, "rename A.java 28 bb", expected);
+    let expected = "BadSource { word: 1, fault: TooLong } | ";
+    assert_filled(&rt, alloc, "", 1_048_577, "rename A.java 41 b", expected);
+    let line = "rename A.java 41 b";
+    let missing = "rename B.java 41 b";
+    assert_over(
+        &rt,
+        alloc,
+        RENAMED.as_bytes(),
+        missing,
+        "ReadFault { word: 1 } | ",
+    );
+    let expected = "BadSource { word: 1, fault: NotUtf8 { valid: 9 } } | ";
+    assert_over(&rt, alloc, b"class A{}\xff", line, expected);
+    let expected = "BadSource { word: 1, fault: NotUtf8 { valid: 0 } } | ";
+    assert_over(&rt, alloc, b"\xc3", "rename A.java 0 b", expected);
+    assert_failing(&rt, alloc, line, 1, 0, "ReadFault { word: 1 } | ");
+    assert_failing(&rt, alloc, line, 0, 1, "WriteFault { stored: 0 } | ");
+    let refused = "rename A.java 999 b";
+    assert_failing(&rt, alloc, refused, 0, 1, "WriteFault { stored: 0 } | ");
+}
+
+// The number of a status, and what standard error gets.
+fn check_status(
+    rt: &impl Abort,
+    alloc: Global,
+    words: &[String],
+    status: Status,
+    number: u8,
+    text: &str,
+) {
+    assert!(rt; status.number() == number);
+    let mut errors = MemorySink::new(alloc, Vec::new(alloc), 100).expect(rt, "memory");
+    if let Some(message) = Message::of(&status, words) {
+        message.put(&mut errors).expect(rt, "a write");
     }
-    Ok(())
+    assert!(rt; errors.bytes() == text.as_bytes());
 }
 
 #[test]
-fn statuses(rt: HostRuntime) -> Result<(), Fail> {
+fn statuses(rt: HostRuntime) {
     let alloc = rt.alloc();
-    let words = words_of(alloc, "rename A.java 41 b")?;
-    let bad_source = Status::BadSource {
+    let words = words_of(&rt, alloc, "rename A.java 41 b");
+    let words = words.as_slice();
+    check_status(&rt, alloc, words, Status::Done, 0, "");
+    check_status(&rt, alloc, words, Status::Refused, 1, "");
+    check_status(&rt, alloc, words, Status::Usage, 2, "jref: usage\n");
+    let status = Status::ReadFault { word: 1 };
+    check_status(&rt, alloc, words, status, 3, "jref: cannot read A.java\n");
+    let status = Status::WriteFault { stored: 0 };
+    let text = "jref: write fault after 0 files\n";
+    check_status(&rt, alloc, words, status, 4, text);
+    let status = Status::WriteFault {
+        stored: 4_294_967_295,
+    };
+    let text = "jref: write fault after 4294967295 files\n";
+    check_status(&rt, alloc, words, status, 4, text);
+    let status = Status::BadScript(ScriptFault::NotAList);
+    check_status(&rt, alloc, words, status, 5, "jref: bad script\n");
+    let status = Status::BadSource {
         word: 1,
         fault: SourceFault::TooLong,
     };
-    for (status, number, text) in [
-        (Status::Done, 0, ""),
-        (Status::Refused, 1, ""),
-        (Status::Usage, 2, "jref: usage\n"),
-        (
-            Status::ReadFault { word: 1 },
-            3,
-            "jref: cannot read A.java\n",
-        ),
-        (
-            Status::WriteFault { stored: 0 },
-            4,
-            "jref: write fault after 0 files\n",
-        ),
-        (
-            Status::WriteFault {
-                stored: 4_294_967_295,
-            },
-            4,
-            "jref: write fault after 4294967295 files\n",
-        ),
-        (
-            Status::BadScript(ScriptFault::NotAList),
-            5,
-            "jref: bad script\n",
-        ),
-        (bad_source, 6, "jref: bad source A.java\n"),
-        (Status::NoMemory, 7, "jref: no memory\n"),
-    ] {
-        assert_eq!(rt; status.number(), number);
-        let mut errors = MemorySink::new(alloc, Vec::new(alloc), 100)?;
-        if let Some(message) = Message::of(&status, words.as_slice()) {
-            message.put(&mut errors)?;
-        }
-        assert_eq!(rt; errors.bytes(), text.as_bytes());
-    }
-    Ok(())
+    check_status(&rt, alloc, words, status, 6, "jref: bad source A.java\n");
+    check_status(&rt, alloc, words, Status::NoMemory, 7, "jref: no memory\n");
 }

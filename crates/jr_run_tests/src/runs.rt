@@ -1,39 +1,35 @@
-//! Runs of scripts over shelves in memory.
-use crate::memory::{shelf_of, words_of};
+//! Runs over shelves in memory.
+use crate::memory::{put, shelf_of, text_of, utf8, words_of};
+use crate::rows::{assert_same, cut, number};
 use jr_shelf::{MemoryShelf, MemorySink};
 use jr_top::run;
 use std::alloc::Global;
 use std::process::Abort;
-use std::test::Fail;
 
 /// How a run ended, what its sink took, and its shelf.
 #[derive(Drop)]
 pub(crate) struct RunEnd {
-    pub status: String,
-    pub output: String,
+    pub told: String,
     pub shelf: MemoryShelf,
 }
 
-// A run of the words over these files, where the calls of the shelf and the puts of these numbers
-// fail.
+/// A run of the words over these files, where the call of the shelf and the put of these numbers
+/// fail: how it ended, and behind ` | ` what its sink took.
 fn run_words(
     rt: &impl Abort,
     alloc: Global,
     held: &[(&str, &[u8])],
     words: &[String],
-    calls: &[u32],
-    puts: &[u32],
-) -> Result<RunEnd, Fail> {
-    let mut shelf = shelf_of(rt, alloc, held, calls)?;
-    let mut sink = MemorySink::new(alloc, puts.to_vec(alloc)?, 2_000_000)?;
+    call: u32,
+    failing: u32,
+) -> RunEnd {
+    let mut shelf = shelf_of(rt, alloc, held, &[call]);
+    let puts = [failing].to_vec(alloc).expect(rt, "memory");
+    let mut sink = MemorySink::new(alloc, puts, 2_000_000).expect(rt, "memory");
     let status = run(alloc, words, &mut shelf, &mut sink);
-    let status = format!(in alloc; "{status:?}")?;
-    let output = String::from_utf8(sink.bytes().to_vec(alloc)?).map_err(|_| "no text")?;
-    Ok(RunEnd {
-        status,
-        output,
-        shelf,
-    })
+    let mut told = format!(in alloc; "{status:?} | ").expect(rt, "memory");
+    put(rt, &mut told, utf8(rt, alloc, sink.bytes()).as_str());
+    RunEnd { told, shelf }
 }
 
 /// A run of the words that single spaces part.
@@ -42,231 +38,207 @@ pub(crate) fn run_line(
     alloc: Global,
     held: &[(&str, &[u8])],
     line: &str,
-    calls: &[u32],
-    puts: &[u32],
-) -> Result<RunEnd, Fail> {
-    let words = words_of(alloc, line)?;
-    run_words(rt, alloc, held, words.as_slice(), calls, puts)
+    call: u32,
+    failing: u32,
+) -> RunEnd {
+    let words = words_of(rt, alloc, line);
+    run_words(rt, alloc, held, words.as_slice(), call, failing)
 }
 
-// Whether the shelf holds this text under the name.
-fn holds(shelf: &MemoryShelf, name: &str, text: &str) -> bool {
-    match shelf.bytes_of(name) {
-        Some(bytes) => bytes == text.as_bytes(),
-        None => false,
+/// How a run ended, its report without the line end, and what files hold in the end, behind ` | `
+/// the first.
+pub(crate) fn end_told(rt: &impl Abort, alloc: Global, end: &RunEnd, names: &str) -> String {
+    let mut text = text_of(rt, alloc, end.told.as_str().trim_end_matches('\n'));
+    put(rt, &mut text, " |");
+    for name in names.split(',') {
+        put(rt, &mut text, " ");
+        match end.shelf.bytes_of(name) {
+            None => put(rt, &mut text, "none"),
+            Some(bytes) => put(rt, &mut text, utf8(rt, alloc, bytes).as_str()),
+        }
     }
+    text
 }
 
-const P: &str = "class B{}";
+/// A show before and after an edit of another file, by which a name comes to mean what is
+/// inherited.
+const SHOWS: &str = "[{\"step\":\"show\",\"file\":\"Q.java\",\"what\":\"bindings\"},\
+     {\"step\":\"edit\",\"file\":\"P.java\",\"from\":8,\"to\":8,\"text\":\"int x;\"},\
+     {\"step\":\"show\",\"file\":\"Q.java\",\"what\":\"bindings\"}]";
 
-const Q: &str = "class O{static int x;static class C extends B{int m(){return x;}}}";
+const SHOWN: &str = "Done | [{\"lines\":[\"44 B B\",\"61 x O.x\"],\"reply\":\"shown\"},\
+     {\"reply\":\"edited\"},{\"lines\":[\"44 B B\",\"61 x B.x\"],\"reply\":\"shown\"}] | \
+     class B{int x;} class O{static int x;static class C extends B{int m(){return x;}}}";
 
-// A show before and after an edit of another file, by which a name comes to mean what is inherited.
-const SHOWS: &str =
-    r#"[{"step":"show","file":"Q.java","what":"bindings"},{"step":"edit","file":"P.java","from":8,"to":8,"text":"int x;"},{"step":"show","file":"Q.java","what":"bindings"}]"#;
-
-const SHOWN: &str =
-    r#"[{"lines":["44 B B","61 x O.x"],"reply":"shown"},{"reply":"edited"},{"lines":["44 B B","61 x B.x"],"reply":"shown"}]"#;
-
-#[test]
-fn shows_what_an_edit_changes(rt: HostRuntime) -> Result<(), Fail> {
-    let alloc = rt.alloc();
+fn assert_shows(rt: &impl Abort, alloc: Global) {
+    let script: &str = SHOWS;
     let held = [
-        ("s.json", SHOWS.as_bytes()),
-        ("P.java", P.as_bytes()),
-        ("Q.java", Q.as_bytes()),
+        ("s.json", script.as_bytes()),
+        ("P.java", b"class B{}".as_slice()),
+        (
+            "Q.java",
+            b"class O{static int x;static class C extends B{int m(){return x;}}}".as_slice(),
+        ),
     ];
     let line = "run s.json P.java Q.java";
-    let end = run_line(&rt, alloc, held.as_slice(), line, &[], &[])?;
-    assert_eq!(rt; end.status.as_str(), "Done");
-    let report = format!(in alloc; "{SHOWN}\n")?;
-    assert_eq!(rt; end.output.as_str(), report.as_str());
-    assert!(rt; holds(&end.shelf, "P.java", "class B{int x;}"));
-    assert!(rt; holds(&end.shelf, "Q.java", Q));
-    Ok(())
+    let end = run_line(rt, alloc, held.as_slice(), line, 0, 0);
+    let told = end_told(rt, alloc, &end, "P.java,Q.java");
+    assert_same(rt, told.as_str(), SHOWN);
+    assert!(rt; end.told.as_str().ends_with("]\n"));
 }
 
-// The script, how the run ends, its report without the line end, and what A.java, which holds
-// `class A{}`, holds in the end.
-const SCRIPTS: [(&str, &str, &str, &str); 11] = [
-    ("[]", "Done", "[]", "class A{}"),
-    (
-        r#"[{"step":"edit","file":"A.java","from":8,"to":8,"text":"int a;"}]"#,
-        "Done",
-        r#"[{"reply":"edited"}]"#,
-        "class A{int a;}",
-    ),
-    (
-        r#"[{"step":"edit","file":"A.java","from":8,"to":8,"text":"int f;"},{"step":"undo"},{"step":"redo"},{"step":"edit","file":"A.java","from":0,"to":1,"text":""},{"step":"undo"},{"step":"undo"},{"step":"undo"}]"#,
-        "Refused",
-        r#"[{"reply":"edited"},{"reply":"undone"},{"reply":"redone"},{"reply":"edited"},{"reply":"undone"},{"reply":"undone"},{"number":21,"refusal":"NothingToUndo","reply":"refused"}]"#,
-        "class A{}",
-    ),
-    (
-        r#"[{"step":"redo"},{"step":"edit","file":"A.java","from":9,"to":9,"text":" "}]"#,
-        "Refused",
-        r#"[{"number":22,"refusal":"NothingToRedo","reply":"refused"},{"reply":"edited"}]"#,
-        "class A{} ",
-    ),
-    (
-        r#"[{"step":"edit","file":"B.java","from":0,"to":0,"text":" "}]"#,
-        "Refused",
-        r#"[{"number":1,"refusal":"NoSuchFile B.java","reply":"refused"}]"#,
-        "class A{}",
-    ),
-    (
-        r#"[{"step":"edit","file":"A.java","from":3,"to":2,"text":""}]"#,
-        "Refused",
-        r#"[{"number":19,"refusal":"BadSpan 3 2","reply":"refused"}]"#,
-        "class A{}",
-    ),
-    (
-        r#"[{"step":"edit","file":"A.java","from":8,"to":9,"text":""},{"step":"show","file":"A.java","what":"bindings"}]"#,
-        "Refused",
-        r#"[{"reply":"edited"},{"number":4,"refusal":"SourceError A.java:8 Syntax","reply":"refused"}]"#,
-        "class A{",
-    ),
-    ("{}", "BadScript(the script is no list)", "", "class A{}"),
-    ("[", "BadScript(the script is no JSON)", "", "class A{}"),
-    (
-        r#"[{"step":"undo","x":1}]"#,
-        "BadScript(step 0 is none, by its member x)",
-        "",
-        "class A{}",
-    ),
-    (
-        r#"[{"step":"undo"},{"step":"do"}]"#,
-        "BadScript(step 1 is none, by its member step)",
-        "",
-        "class A{}",
-    ),
-];
+/// The call of the shelf that fails, and a script over A.java, which holds `class A{}`; how the run
+/// ends, its report without the line end, and what A.java holds in the end. Where the text stays, a
+/// store, which would be the third call of the shelf, would fail.
+pub(crate) const SCRIPTS: &'static str = "
+~one 3 [] => Done | [] | class A{}
+~one 0 [{\"step\":\"edit\",\"file\":\"A.java\",\"from\":8,\"to\":8,\"text\":\"int a;\"}] => \
+    Done | [{\"reply\":\"edited\"}] | class A{int a;}
+~one 3 [{\"step\":\"edit\",\"file\":\"A.java\",\"from\":8,\"to\":8,\"text\":\"int \
+    f;\"},{\"step\":\"undo\"},{\"step\":\"redo\"},{\"step\":\"edit\",\"file\":\"A.java\",\
+    \"from\":0,\"to\":1,\"text\":\"\"},{\"step\":\"undo\"},{\"step\":\"undo\"},\
+    {\"step\":\"undo\"}] => Refused | \
+    [{\"reply\":\"edited\"},{\"reply\":\"undone\"},{\"reply\":\"redone\"},\
+    {\"reply\":\"edited\"},{\"reply\":\"undone\"},{\"reply\":\"undone\"},{\"number\":21,\
+    \"refusal\":\"NothingToUndo\",\"reply\":\"refused\"}] | class A{}
+~one 0 \
+    [{\"step\":\"redo\"},{\"step\":\"edit\",\"file\":\"A.java\",\"from\":9,\"to\":9,\"text\":\" \
+    \"}] => Refused | \
+    [{\"number\":22,\"refusal\":\"NothingToRedo\",\"reply\":\"refused\"},\
+    {\"reply\":\"edited\"}] | class A{}\x20
+~one 3 [{\"step\":\"edit\",\"file\":\"B.java\",\"from\":0,\"to\":0,\"text\":\" \"}] => Refused \
+    | [{\"number\":1,\"refusal\":\"NoSuchFile B.java\",\"reply\":\"refused\"}] | class A{}
+~one 3 [{\"step\":\"edit\",\"file\":\"A.java\",\"from\":3,\"to\":2,\"text\":\"\"}] => \
+    Refused | [{\"number\":19,\"refusal\":\"BadSpan 3 2\",\"reply\":\"refused\"}] | class A{}
+~one 0 \
+    [{\"step\":\"edit\",\"file\":\"A.java\",\"from\":8,\"to\":9,\"text\":\"\"},\
+    {\"step\":\"show\",\"file\":\"A.java\",\"what\":\"bindings\"}] => Refused | \
+    [{\"reply\":\"edited\"},{\"number\":4,\"refusal\":\"SourceError A.java:8 \
+    Syntax\",\"reply\":\"refused\"}] | class A{
+~one 3 {} => BadScript(the script is no list) |  | class A{}
+~one 3 [ => BadScript(the script is no JSON) |  | class A{}
+~one 3 [{\"step\":\"undo\",\"x\":1}] => BadScript(step 0 is none, by its member x) |  | class A{}
+~one 3 [{\"step\":\"undo\"},{\"step\":\"do\"}] => \
+    BadScript(step 1 is none, by its member step) |  | class A{}
+";
 
-// Where the text stays, a store, which would be the third call of the shelf, would fail.
-#[test]
-fn scripts_over_one_file(rt: HostRuntime) -> Result<(), Fail> {
-    let alloc = rt.alloc();
-    for (script, status, report, text) in SCRIPTS {
-        let held = [
-            ("s.json", script.as_bytes()),
-            ("A.java", b"class A{}".as_slice()),
-        ];
-        let call = if text == "class A{}" { 3 } else { 0 };
-        let line = "run s.json A.java";
-        let end = run_line(&rt, alloc, held.as_slice(), line, &[call], &[])?;
-        assert_eq!(rt; end.status.as_str(), status, "{script}");
-        assert_eq!(rt; end.output.trim_end(), report, "{script}");
-        assert!(rt; holds(&end.shelf, "A.java", text), "{script}");
-    }
-    Ok(())
+pub(crate) fn run_one(rt: &impl Abort, alloc: Global, asked: &str) -> String {
+    let (call, script) = cut(asked, " ");
+    let held = [
+        ("s.json", script.as_bytes()),
+        ("A.java", b"class A{}".as_slice()),
+    ];
+    let line = "run s.json A.java";
+    let end = run_line(rt, alloc, held.as_slice(), line, number(rt, call), 0);
+    end_told(rt, alloc, &end, "A.java")
 }
 
-// Lines of words over an empty script, a file that is no text and one that isn't there, how the run
-// ends, which is by the first fault in the order of work, and what its sink takes.
-const WORDS: [(&str, &str, &str); 13] = [
-    ("run s.json", "Done", "[]\n"),
-    (
-        "run s.json A.java",
-        "BadSource { word: 2, fault: NotUtf8 { valid: 9 } }",
-        "",
-    ),
-    ("run s.json B.java", "ReadFault { word: 2 }", ""),
-    (
-        "run s.json A.java B.java",
-        "BadSource { word: 2, fault: NotUtf8 { valid: 9 } }",
-        "",
-    ),
-    ("run s.json B.java A.java", "ReadFault { word: 2 }", ""),
-    ("run A.java", "BadScript(the script is no JSON)", ""),
-    ("run A.java B.java", "BadScript(the script is no JSON)", ""),
-    ("run s.json A.java A.java", "Usage", ""),
-    ("run", "Usage", ""),
-    ("run --out", "Usage", ""),
-    ("run s.json -x", "Usage", ""),
-    ("rename A.java x b", "Usage", ""),
-    ("", "Usage", ""),
-];
+/// Lines of words over an empty script, a file that is no text and one that isn't there, how the
+/// run ends, which is by the first fault in the order of work, and what its sink takes.
+pub(crate) const WORDS: &'static str = "
+~bad run s.json => Done | []\n
+~bad run s.json A.java => BadSource { word: 2, fault: NotUtf8 { valid: 9 } } |\x20
+~bad run s.json B.java => ReadFault { word: 2 } |\x20
+~bad run s.json A.java B.java => BadSource { word: 2, fault: NotUtf8 { valid: 9 } } |\x20
+~bad run s.json B.java A.java => ReadFault { word: 2 } |\x20
+~bad run A.java => BadScript(the script is no JSON) |\x20
+~bad run A.java B.java => BadScript(the script is no JSON) |\x20
+~bad run s.json A.java A.java => Usage |\x20
+~bad run => Usage |\x20
+~bad run --out => Usage |\x20
+~bad run s.json -x => Usage |\x20
+~bad rename A.java x b => Usage |\x20
+~bad  => Usage |\x20
+";
 
-#[test]
-fn words_over_a_bad_file(rt: HostRuntime) -> Result<(), Fail> {
-    let alloc = rt.alloc();
+fn run_over_bad(rt: &impl Abort, alloc: Global, words: &[String]) -> String {
     let held = [
         ("s.json", b"[]".as_slice()),
         ("A.java", b"class A{}\xff".as_slice()),
     ];
-    let held = held.as_slice();
-    for (line, status, output) in WORDS {
-        let end = run_line(&rt, alloc, held, line, &[], &[])?;
-        assert_eq!(rt; end.status.as_str(), status, "{line}");
-        assert_eq!(rt; end.output.as_str(), output, "{line}");
-    }
-    let end = run_words(&rt, alloc, held, &[], &[], &[])?;
-    assert_eq!(rt; end.status.as_str(), "Usage");
-    Ok(())
+    run_words(rt, alloc, held.as_slice(), words, 0, 0).told
 }
 
-const EDITS: &str =
-    r#"[{"step":"edit","file":"A","from":0,"to":0,"text":"1"},{"step":"edit","file":"B","from":0,"to":0,"text":"2"},{"step":"edit","file":"C","from":0,"to":0,"text":"3"}]"#;
+pub(crate) fn run_bad(rt: &impl Abort, alloc: Global, line: &str) -> String {
+    let words = words_of(rt, alloc, line);
+    run_over_bad(rt, alloc, words.as_slice())
+}
 
-const EDITED: &str = r#"[{"reply":"edited"},{"reply":"edited"},{"reply":"edited"}]"#;
+const EDITS: &str = "[{\"step\":\"edit\",\"file\":\"A\",\"from\":0,\"to\":0,\"text\":\"1\"},\
+     {\"step\":\"edit\",\"file\":\"B\",\"from\":0,\"to\":0,\"text\":\"2\"},\
+     {\"step\":\"edit\",\"file\":\"C\",\"from\":0,\"to\":0,\"text\":\"3\"}]";
 
-// The call of the shelf that fails, the put that does, the status, and what the files hold in the
-// end.
-const FAULTS: [(u32, u32, &str, [&str; 3]); 9] = [
-    (1, 0, "ReadFault { word: 1 }", ["a", "b", "c"]),
-    (2, 0, "ReadFault { word: 2 }", ["a", "b", "c"]),
-    (3, 0, "ReadFault { word: 3 }", ["a", "b", "c"]),
-    (4, 0, "ReadFault { word: 4 }", ["a", "b", "c"]),
-    (5, 0, "WriteFault { stored: 0 }", ["a", "b", "c"]),
-    (6, 0, "WriteFault { stored: 1 }", ["1a", "b", "c"]),
-    (7, 0, "WriteFault { stored: 2 }", ["1a", "2b", "c"]),
-    (0, 1, "WriteFault { stored: 3 }", ["1a", "2b", "3c"]),
-    (8, 2, "Done", ["1a", "2b", "3c"]),
-];
+/// The call of the shelf that fails, the put that does, files, and words; how the run ends, its
+/// report, and what the files hold in the end. Each call of the shelf and of the sink fails in
+/// turn, in a run that stores three files in place; stores go to a folder, under the words of the
+/// files.
+pub(crate) const FAULTS: &'static str = "
+~edits 1 0 A,B,C run s A B C => ReadFault { word: 1 } |  | a b c
+~edits 2 0 A,B,C run s A B C => ReadFault { word: 2 } |  | a b c
+~edits 3 0 A,B,C run s A B C => ReadFault { word: 3 } |  | a b c
+~edits 4 0 A,B,C run s A B C => ReadFault { word: 4 } |  | a b c
+~edits 5 0 A,B,C run s A B C => WriteFault { stored: 0 } |  | a b c
+~edits 6 0 A,B,C run s A B C => WriteFault { stored: 1 } |  | 1a b c
+~edits 7 0 A,B,C run s A B C => WriteFault { stored: 2 } |  | 1a 2b c
+~edits 0 1 A,B,C run s A B C => WriteFault { stored: 3 } |  | 1a 2b 3c
+~edits 8 2 A,B,C run s A B C => \
+    Done | [{\"reply\":\"edited\"},{\"reply\":\"edited\"},{\"reply\":\"edited\"}] | 1a 2b 3c
+~edits 2 0 A run s A => ReadFault { word: 2 } |  | a
+~edits 0 0 A,d/A,d/B,d/C run s A --out d B C => \
+    Done | [{\"reply\":\"edited\"},{\"reply\":\"edited\"},{\"reply\":\"edited\"}] | \
+    a 1a 2b 3c
+";
 
-// Each call of the shelf and of the sink fails in turn, in a run that stores three files in place.
-#[test]
-fn each_call_fails(rt: HostRuntime) -> Result<(), Fail> {
-    let alloc = rt.alloc();
+pub(crate) fn run_edits(rt: &impl Abort, alloc: Global, asked: &str) -> String {
+    let (call, rest) = cut(asked, " ");
+    let (failing, rest) = cut(rest, " ");
+    let (names, line) = cut(rest, " ");
+    let script: &str = EDITS;
     let held = [
-        ("s", EDITS.as_bytes()),
+        ("s", script.as_bytes()),
         ("A", b"a".as_slice()),
         ("B", b"b".as_slice()),
         ("C", b"c".as_slice()),
     ];
-    for (call, put, status, texts) in FAULTS {
-        let line = "run s A B C";
-        let end = run_line(&rt, alloc, held.as_slice(), line, &[call], &[put])?;
-        assert_eq!(rt; end.status.as_str(), status, "{call}");
-        let done = status == "Done";
-        assert_eq!(rt;
-            end.output.trim_end(),
-            if done { EDITED } else { "" },
-            "{call}"
-        );
-        for (name, text) in ["A", "B", "C"].iter().zip(texts) {
-            assert_eq!(rt; end.shelf.bytes_of(name), Some(text.as_bytes()), "{call}");
-        }
-    }
-    let end = run_line(&rt, alloc, held.as_slice(), "run s A", &[2], &[])?;
-    assert_eq!(rt; end.status.as_str(), "ReadFault { word: 2 }");
-    Ok(())
+    let (call, failing) = (number(rt, call), number(rt, failing));
+    let end = run_line(rt, alloc, held.as_slice(), line, call, failing);
+    end_told(rt, alloc, &end, names)
 }
 
-// Stores go to the folder, under the words of the files.
+/// A run over A.java, of which nothing is stored: the second call of the shelf would fail.
+pub(crate) fn run_over(rt: &impl Abort, alloc: Global, source: &[u8], line: &str) -> String {
+    run_line(rt, alloc, &[("A.java", source)], line, 2, 0).told
+}
+
+/// The same, of words and, behind `@`, what A.java holds.
+pub(crate) fn run_source(rt: &impl Abort, alloc: Global, asked: &str) -> String {
+    let (line, source) = cut(asked, "@");
+    run_over(rt, alloc, source.as_bytes(), line)
+}
+
+/// The same, where another call of the shelf or a put fails.
+pub(crate) fn run_failing(
+    rt: &impl Abort,
+    alloc: Global,
+    source: &str,
+    line: &str,
+    call: u32,
+    failing: u32,
+) -> String {
+    run_line(
+        rt,
+        alloc,
+        &[("A.java", source.as_bytes())],
+        line,
+        call,
+        failing,
+    )
+    .told
+}
+
 #[test]
-fn stores_in_a_folder(rt: HostRuntime) -> Result<(), Fail> {
-    let alloc = rt.alloc();
-    let held = [
-        ("s", EDITS.as_bytes()),
-        ("A", b"a".as_slice()),
-        ("B", b"b".as_slice()),
-        ("C", b"c".as_slice()),
-    ];
-    let end = run_line(&rt, alloc, held.as_slice(), "run s A --out d B C", &[], &[])?;
-    assert_eq!(rt; end.status.as_str(), "Done");
-    for (name, text) in [("A", "a"), ("d/A", "1a"), ("d/B", "2b"), ("d/C", "3c")] {
-        assert!(rt; holds(&end.shelf, name, text), "{name}");
-    }
-    Ok(())
+fn shows_and_no_words(rt: HostRuntime) {
+    assert_shows(&rt, rt.alloc());
+    let told = run_over_bad(&rt, rt.alloc(), &[]);
+    assert_same(&rt, told.as_str(), "Usage | ");
 }

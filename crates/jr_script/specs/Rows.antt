@@ -35,6 +35,10 @@ abbrev pub edit_row : Row
 edit_row = row (codes "edit") (column (codes "file") text ∷ column (codes "from") offset
     ∷ column (codes "to") offset ∷ column (codes "text") text ∷ [])
 
+abbrev pub rename_row : Row
+rename_row = row (codes "rename") (column (codes "file") text ∷ column (codes "at") offset
+    ∷ column (codes "name") text ∷ [])
+
 abbrev pub show_row : Row
 show_row = row (codes "show") (column (codes "file") text ∷ column (codes "what") shown ∷ [])
 
@@ -46,7 +50,7 @@ redo_row = row (codes "redo") []
 
 -- the steps that are built: every other word is unknown
 abbrev pub rows : List Row
-rows = edit_row ∷ show_row ∷ undo_row ∷ redo_row ∷ []
+rows = edit_row ∷ rename_row ∷ show_row ∷ undo_row ∷ redo_row ∷ []
 
 -- the member that has the word
 abbrev pub word_name : List ℕ

@@ -32,6 +32,8 @@ fn read_row(alloc: Global, element: &Value, word: &str) -> Result<Step, StepFaul
 {
     if word == "edit" {
         read_edit(alloc, element)
+    } else if word == "rename" {
+        read_rename(alloc, element)
     } else if word == "show" {
         read_show(alloc, element)
     } else if word == "undo" {
@@ -59,6 +61,18 @@ fn read_edit(alloc: Global, element: &Value) -> Result<Step, StepFault>
         to,
         text,
     })
+}
+
+fn read_rename(alloc: Global, element: &Value) -> Result<Step, StepFault>
+    requires { HasWord (view element.now) (codes "rename") }
+    ensures ok { IfOk result (Means (view element.now)) }
+    ensures fault { IfErr result (Tells (IsBad (view element.now))) }
+{
+    let file = text_member(alloc, element, "file")?;
+    let at = offset_member(alloc, element, "at")?;
+    let name = text_member(alloc, element, "name")?;
+    only_members(alloc, element, &["step", "file", "at", "name"])?;
+    Ok(Step::Rename { file, at, name })
 }
 
 fn read_show(alloc: Global, element: &Value) -> Result<Step, StepFault>

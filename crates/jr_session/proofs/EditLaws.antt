@@ -1,22 +1,20 @@
 -- An edit is refused for the first reason that applies, or is done.
-use Rattle.std.proofs.Common.{◌≡◌, ◌≢◌, ◌⊎◌, ℕ, zero, suc, ◌∷◌, ◌+◌, ◌<◌, ◌≤◌, List, [], length, refl, sym, ap, subst, ◌∙◌, inl, inr, arith}
-use Rattle.std.specs.List.{slice_get}
-use Rattle.std.specs.Prelude.{Some, None, Option}
+use Rattle.std.proofs.Common.{◌≡◌, ◌≢◌, ℕ, zero, suc, ◌∷◌, ◌<◌, ◌≤◌, List, [], length, refl, sym, ap, subst, ◌∙◌, inl, inr, arith}
+use Rattle.std.specs.Prelude.{Some}
 use Rattle.std.proofs.Common.{Bool, true, false, true≢false, eqb, ltb}
 use Rattle.std.proofs.lemmas.Bool.Decides.{Decides-eqb, Decides-ltb}
 use Rattle.std.proofs.lemmas.Option.{slice_get_within, get_or_from_slice_get, none-some, same_Some}
 use Rattle.jr_text.specs.declared.spans.Span.{Span}
 use Rattle.jr_text.specs.Spans.{CanCut}
 use Rattle.jr_text.specs.Splices.{replaced}
-use Rattle.jr_names.specs.declared.steps.Step.{Step}
 use Rattle.jr_names.specs.declared.steps.Step.TheVariants as step
 use Rattle.jr_names.specs.Refusals.{Refusal, no_such_file, bad_span, too_long}
 use Rattle.jr_text.specs.Texts.{text_limit}
 use Rattle.jr_sources.specs.Sources.{Source, IsFile, HasName, LacksFile, Differ, names_of, texts_of, with_text, total_of, total_limit}
 use Rattle.jr_session.specs.States.{State}
 use Rattle.jr_session.specs.Lengths.{AreWithin, AreTooLong}
-use Rattle.jr_session.specs.Splicing.{HasText, CanBecome, CanNotCut, WouldBeTooLong}
-use Rattle.jr_session.specs.Refusing.{Applies, IsEdit, CutsBadly, WouldMake, IsFirstRefusal, IsGranted, rank_of}
+use Rattle.jr_session.specs.Splicing.{HasText}
+use Rattle.jr_session.specs.Refusing.{CutsBadly, WouldMake, IsFirstRefusal, IsGranted, rank_of}
 use Rattle.jr_session.proofs.RefusalCases.{MayRefuseEdit, edit_refusals}
 
 -- a file's name and text make it the file of its number

@@ -1,11 +1,9 @@
 -- What a change, and a change taken back, leaves of what can be undone.
-use Rattle.std.proofs.Common.{◌≡◌, ℕ, zero, suc, ◌<◌, List, [], ◌∷◌, ◌++◌, set, length, refl, sym, ap, ◌∙◌, arith}
-use Rattle.std.specs.List.{slice_get}
-use Rattle.std.specs.Prelude.{Some, None, Bool, true, false, not, IsTrue, ◌↔◌, ◌==◌, ◌≢◌}
+use Rattle.std.proofs.Common.{◌≡◌, ℕ, List, [], ◌∷◌, ◌++◌, set, length, refl, sym, ap, ◌∙◌, arith}
+use Rattle.std.specs.Prelude.{Bool, true, false, not, IsTrue, ◌↔◌, ◌==◌, ◌≢◌}
 use Rattle.std.proofs.Common.{true≢false}
 use Rattle.std.proofs.lemmas.Bool.{false_from_ne_true}
 use Rattle.std.proofs.lemmas.Bool.Decides.{Decides-eqb}
-use Rattle.std.proofs.lemmas.Option.{none-some, same_Some}
 use Rattle.jr_sources.specs.Sources.{Source, names_of, texts_of, with_text}
 use Rattle.jr_sources.proofs.SourceLaws.{names-with_text, texts-with_text, length-with_text}
 use Rattle.jr_session.specs.declared.changes.Change.{Change}

@@ -1,14 +1,14 @@
 -- How long texts are where one of them is exchanged.
-use Rattle.std.proofs.Common.{◌≡◌, ◌≢◌, ℕ, zero, suc, ◌+◌, ◌*◌, ◌<◌, ◌≤◌, List, [], ◌∷◌, set, length, get_or, refl, sym, ap, subst, ◌∙◌, arith, mul-le-mul_right}
-use Rattle.std.specs.List.{slice_get, sum_by, All}
-use Rattle.std.specs.Prelude.{Some, None}
+use Rattle.std.proofs.Common.{◌≡◌, ◌≢◌, ℕ, zero, suc, ◌+◌, ◌*◌, ◌<◌, ◌≤◌, List, [], ◌∷◌, set, length, refl, sym, subst, ◌∙◌, arith, mul-le-mul_right}
+use Rattle.std.specs.List.{slice_get}
+use Rattle.std.specs.Prelude.{Some}
 use Rattle.std.proofs.lemmas.Option.{slice_get_within, get_or_from_slice_get, none-some}
 use Rattle.std.proofs.lemmas.List.Elements.{All-set}
 use Rattle.std.proofs.lemmas.List.Sums.{sum_by-set, get_or-le-sum_by, sum_by-le}
 use Rattle.jr_text.specs.Texts.{text_limit}
-use Rattle.jr_sources.specs.Sources.{Source, texts_of, total_of, total_limit, file_limit, with_text}
+use Rattle.jr_sources.specs.Sources.{Source, texts_of, total_of, file_limit, with_text}
 use Rattle.jr_session.specs.Splicing.{HasText}
-use Rattle.jr_session.specs.Lengths.{AreWithin, IsFirstTooLong, TogetherTooLong}
+use Rattle.jr_session.specs.Lengths.{AreWithin, IsFirstTooLong}
 use Rattle.jr_sources.proofs.SourceLaws.{texts-with_text, length-texts}
 use Rattle.jr_session.proofs.Places.{kept_at}
 

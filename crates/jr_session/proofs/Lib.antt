@@ -10,7 +10,11 @@ pub mod SessionSteps
 pub mod StepCases
 pub mod OneAnswer
 pub mod OneFault
+pub mod OneWrong
+pub mod OneRename
 pub mod OneStep
+pub mod PlanReasons
+pub mod FirstReason
 pub mod ShownLines
 pub mod ShowSteps
 pub mod Showing
@@ -18,5 +22,8 @@ pub mod Exchanging
 pub mod Turning
 pub mod Planning
 pub mod Trying
+pub mod Telling
+pub mod RenameFiles
+pub mod StepFiles
 pub mod RenameSteps
 pub mod Refactored

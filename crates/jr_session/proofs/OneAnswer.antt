@@ -1,20 +1,18 @@
 -- An edit, an undoing and a redoing have one answer.
-use Rattle.std.proofs.Common.{◌≡◌, ◌≢◌, ◌⊎◌, ℕ, zero, suc, ◌<◌, ◌≤◌, List, [], ◌∷◌, ◌++◌, length, Bool, true, false, true≢false, eqb, ltb, refl, sym, ap, subst, ◌∙◌, inl, inr, arith}
+use Rattle.std.proofs.Common.{◌≡◌, ◌≢◌, ℕ, ◌<◌, ◌≤◌, List, [], ◌∷◌, ◌++◌, length, Bool, true, false, true≢false, eqb, ltb, refl, sym, ap, subst, ◌∙◌, inl, inr, arith}
 use Rattle.std.specs.List.{slice_get}
-use Rattle.std.specs.Prelude.{Some, None}
+use Rattle.std.specs.Prelude.{Some}
 use Rattle.std.proofs.lemmas.Bool.Decides.{Decides-eqb, Decides-ltb}
 use Rattle.std.proofs.lemmas.Option.{slice_get_within, get_or_from_slice_get, same_Some}
 use Rattle.jr_text.specs.declared.spans.Span.{Span}
 use Rattle.jr_text.specs.Splices.{replaced}
 use Rattle.jr_text.specs.Texts.{text_limit}
-use Rattle.jr_names.specs.declared.steps.Step.{Step}
 use Rattle.jr_names.specs.declared.steps.Step.TheVariants as step
-use Rattle.jr_names.specs.declared.steps.What.TheVariants as what
-use Rattle.jr_names.specs.Refusals.{Refusal, no_such_file, bad_span, too_long, nothing_to_undo, nothing_to_redo}
+use Rattle.jr_names.specs.Refusals.{Refusal, no_such_file, bad_span, too_long}
 use Rattle.jr_sources.specs.Sources.{Source, IsFile, Differ, names_of, texts_of, with_text}
 use Rattle.jr_session.specs.States.{State, changed, IsUndone, IsRedone}
-use Rattle.jr_session.specs.Lengths.{AreWithin, IsFirstTooLong, TogetherTooLong, AreTooLong}
-use Rattle.jr_session.specs.Refusing.{Applies, IsEdit, WouldMake, IsFirstRefusal, rank_of}
+use Rattle.jr_session.specs.Lengths.{AreWithin, IsFirstTooLong, AreTooLong}
+use Rattle.jr_session.specs.Refusing.{IsEdit, WouldMake, IsFirstRefusal, rank_of}
 use Rattle.jr_session.specs.Stepping.{IsEdited}
 use Rattle.jr_session.proofs.RefusalCases.{MayRefuseEdit, edit_refusals, undo_refusals, redo_refusals}
 use Rattle.jr_session.proofs.EditLaws.{same_file, one_file}
@@ -72,7 +70,7 @@ not_within texts a g within =
     let long = g.beyond in
     absurd (omega arith)
 
-one_length : (texts : List (List ℕ)) (a b : ℕ) → AreTooLong texts a → AreTooLong texts b → a ≡ b
+pub one_length : (texts : List (List ℕ)) (a b : ℕ) → AreTooLong texts a → AreTooLong texts b → a ≡ b
 one_length texts a b (inl g) (inl h) = one_first texts a b g h
 one_length texts a b (inl g) (inr h) = absurd (not_within texts a g h.within)
 one_length texts a b (inr g) (inl h) = absurd (not_within texts b h g.within)

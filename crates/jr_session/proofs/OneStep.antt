@@ -1,5 +1,6 @@
 -- Each step has one answer: it is refused for one reason, or done in one way.
-use Rattle.std.proofs.Common.{◌≡◌, ◌⊎◌, ℕ, ◌+◌, List, [], refl, sym, ap, subst, ◌∙◌, inl, inr}
+use Rattle.std.proofs.Common.{◌≡◌, ◌⊎◌, ℕ, ◌+◌, List, refl, sym, ap, ◌∙◌, inl, inr}
+use Rattle.jr_text.specs.declared.spans.Span.{Span}
 use Rattle.jr_names.specs.declared.steps.Step.{Step}
 use Rattle.jr_names.specs.declared.steps.Step.TheVariants as step
 use Rattle.jr_names.specs.declared.steps.What.TheVariants as what
@@ -9,12 +10,18 @@ use Rattle.jr_shown.specs.Lines.{bytes_of}
 use Rattle.jr_sources.specs.Sources.{Differ}
 use Rattle.jr_session.specs.States.{State, IsUndone, IsRedone}
 use Rattle.jr_session.specs.Refusing.{IsFirstRefusal, IsGranted}
+use Rattle.jr_members.specs.WrittenLaws.{MembersAreWritten}
+use Rattle.jr_one_plan.specs.OnePlan.{PlanIsOne}
+use Rattle.jr_places.specs.PlaceLaws.{PartsArePlaced}
+use Rattle.jr_sources.proofs.Analysing.{OneItems}
 use Rattle.jr_sources.specs.ReadingLaws.{HasOneReading}
-use Rattle.jr_session.specs.StepLaws.{IsPlain}
+use Rattle.jr_session.specs.Serving.{IsServed}
+use Rattle.jr_session.specs.Renaming.{IsRefusedRename, IsRenamed}
 use Rattle.jr_session.specs.Stepping.{Steps, IsEdited, IsShown}
 use Rattle.jr_session.specs.StepLaws.{HasOneShow}
 use Rattle.jr_session.proofs.OneAnswer.{one_edited, one_refusal, one_undo_refusal, one_redo_refusal, one_undone, one_redone}
 use Rattle.jr_session.proofs.OneFault.{one_show_refusal}
+use Rattle.jr_session.proofs.OneRename.{one_rename_refusal, refused_not_done, one_renamed}
 use Rattle.jr_session.proofs.ShowSteps.{the_show, no_edit, no_undo, no_redo, would_once}
 
 -- a step is refused and nothing changes, or it is granted and done
@@ -99,6 +106,45 @@ show_answers s file undone t h = absurd (no_undo file h.1.0)
 show_answers s file redone t h = absurd (no_redo file h.1.0)
 show_answers s file (refused x) t h = inl (x, refl, h.0, h.1)
 
+-- ---- a rename
+
+abbrev pub the_rename : List ℕ → ℕ → List ℕ → Step
+the_rename file at new = step.Rename file at new
+
+abbrev pub Renames : State → (file : List ℕ) → (at : ℕ) → (new : List ℕ) → Reply → State → Type 0
+Renames s file at new r t = ((x : Refusal) × (r ≡ refused x) × IsRefusedRename s file at new x × (t ≡ s))
+    ⊎ ((names : List (List ℕ)) × (respelled : ℕ) × (r ≡ refactored names respelled) × IsRenamed s file at new names respelled t)
+
+rename_not_edit : (file other text new : List ℕ) (at from to : ℕ) → the_rename file at new ≡ step.Edit other from to text → ⊥
+rename_not_edit file other text new at from to e = cc
+
+rename_not_show : (file other new : List ℕ) (at : ℕ) → the_rename file at new ≡ step.Show other what.Bindings → ⊥
+rename_not_show file other new at e = cc
+
+rename_not_undo : (file new : List ℕ) (at : ℕ) → the_rename file at new ≡ step.Undo → ⊥
+rename_not_undo file new at e = cc
+
+rename_not_redo : (file new : List ℕ) (at : ℕ) → the_rename file at new ≡ step.Redo → ⊥
+rename_not_redo file new at e = cc
+
+pub rename_answers : (s : State) (file : List ℕ) (at : ℕ) (new : List ℕ) (r : Reply) (t : State) → Steps s (the_rename file at new) r t → Renames s file at new r t
+rename_answers s file at new edited t h = absurd (rename_not_edit file h.1.edit.file h.1.text new at h.1.span.from h.1.span.to h.1.edit.is)
+rename_answers s file at new (refactored names respelled) t h = inr (names, respelled, refl, h.1)
+rename_answers s file at new (shown a) t h = absurd (rename_not_show file h.1.shows.file new at h.1.shows.is)
+rename_answers s file at new undone t h = absurd (rename_not_undo file new at h.1.0)
+rename_answers s file at new redone t h = absurd (rename_not_redo file new at h.1.0)
+rename_answers s file at new (refused x) t h = inl (x, refl, h.0, h.1)
+
+module _ (reading : HasOneReading) (items_once : OneItems) (placed : PartsArePlaced) (law : MembersAreWritten Span) (plan_once : PlanIsOne) where
+  module _ (s : State) (file : List ℕ) (at : ℕ) (new : List ℕ) (differ : Differ s.files) where
+    both_renamed : (r q : Reply) (t u : State) → Renames s file at new r t → Renames s file at new q u → (r ≡ q) × (t ≡ u)
+    both_renamed r q t u (inl g) (inl h) = (g.1 ∙ ap refused (one_rename_refusal reading items_once placed law plan_once s file at new differ g.0 h.0 g.2 h.2) ∙ sym h.1, g.3 ∙ sym h.3)
+    both_renamed r q t u (inl g) (inr h) = absurd (refused_not_done reading items_once placed law plan_once s file at new differ g.0 h.0 h.1 u g.2 h.3)
+    both_renamed r q t u (inr g) (inl h) = absurd (refused_not_done reading items_once placed law plan_once s file at new differ h.0 g.0 g.1 t h.2 g.3)
+    both_renamed r q t u (inr g) (inr h) =
+        let same = one_renamed reading items_once placed law plan_once s file at new differ g.0 h.0 g.1 h.1 t u g.3 h.3 in
+        (g.2 ∙ (λ i. refactored (same.0 i) (same.1 i)) ∙ sym h.2, same.2)
+
 module _ (reading : HasOneReading) (once : HasOneShow) where
   module _ (s : State) (file : List ℕ) (differ : Differ s.files) where
     both_shown : (r q : Reply) (t u : State) → Shows s file r t → Shows s file q u → (r ≡ q) × (t ≡ u)
@@ -109,18 +155,21 @@ module _ (reading : HasOneReading) (once : HasOneShow) where
         let lines : g.0 ≡ h.0 = would_once s file differ once g.0 h.0 g.3.shows h.3.shows in
         (g.1 ∙ ap shown lines ∙ sym h.1, g.3.becomes ∙ ap (λ (ls : List (List ℕ)). more_shown s (bytes_of ls)) lines ∙ sym h.3.becomes)
 
-  pub one_answer : (s : State) (of : Step) (r q : Reply) (t u : State) → Differ s.files → IsPlain of → Steps s of r t → Steps s of q u → (r ≡ q) × (t ≡ u)
-  one_answer s (step.Edit file from to text) r q t u differ is g h =
-      both s (step.Edit file from to text) edited (λ v. IsEdited s (step.Edit file from to text) v) r q t u (one_refusal s file from to text differ) (one_edited s file from to text differ t u) (edit_answers s file text from to r t g) (edit_answers s file text from to q u h)
-  one_answer s step.Undo r q t u differ is g h = both s step.Undo undone (λ v. IsUndone s v) r q t u (one_undo_refusal s) (one_undone s t u) (undo_answers s r t g) (undo_answers s q u h)
-  one_answer s step.Redo r q t u differ is g h = both s step.Redo redone (λ v. IsRedone s v) r q t u (one_redo_refusal s) (one_redone s t u) (redo_answers s r t g) (redo_answers s q u h)
-  one_answer s (step.Show file what.Bindings) r q t u differ is g h = both_shown s file differ r q t u (show_answers s file r t g) (show_answers s file q u h)
-  one_answer s (step.Show file what.Dependences) r q t u differ is g h = absurd is
-  one_answer s (step.Rename a b c) r q t u differ is g h = absurd is
-  one_answer s (step.ExtractLocal a b c d) r q t u differ is g h = absurd is
-  one_answer s (step.ExtractMethod a b c d) r q t u differ is g h = absurd is
-  one_answer s (step.InlineLocal a b) r q t u differ is g h = absurd is
-  one_answer s (step.InlineMethod a b) r q t u differ is g h = absurd is
-  one_answer s (step.PullUp a b) r q t u differ is g h = absurd is
-  one_answer s (step.MoveStatic a b c) r q t u differ is g h = absurd is
-  one_answer s (step.MoveInstance a b c d) r q t u differ is g h = absurd is
+  -- ---- any step
+  module _ (items_once : OneItems) (placed : PartsArePlaced) (law : MembersAreWritten Span) (plan_once : PlanIsOne) where
+    pub one_answer : (s : State) (of : Step) (r q : Reply) (t u : State) → Differ s.files → IsServed of → Steps s of r t → Steps s of q u → (r ≡ q) × (t ≡ u)
+    one_answer s (step.Edit file from to text) r q t u differ is g h =
+        both s (step.Edit file from to text) edited (λ v. IsEdited s (step.Edit file from to text) v) r q t u (one_refusal s file from to text differ) (one_edited s file from to text differ t u) (edit_answers s file text from to r t g) (edit_answers s file text from to q u h)
+    one_answer s step.Undo r q t u differ is g h = both s step.Undo undone (λ v. IsUndone s v) r q t u (one_undo_refusal s) (one_undone s t u) (undo_answers s r t g) (undo_answers s q u h)
+    one_answer s step.Redo r q t u differ is g h = both s step.Redo redone (λ v. IsRedone s v) r q t u (one_redo_refusal s) (one_redone s t u) (redo_answers s r t g) (redo_answers s q u h)
+    one_answer s (step.Show file what.Bindings) r q t u differ is g h = both_shown s file differ r q t u (show_answers s file r t g) (show_answers s file q u h)
+    one_answer s (step.Show file what.Dependences) r q t u differ is g h = absurd is
+    one_answer s (step.Rename file at new) r q t u differ is g h =
+        both_renamed reading items_once placed law plan_once s file at new differ r q t u (rename_answers s file at new r t g) (rename_answers s file at new q u h)
+    one_answer s (step.ExtractLocal a b c d) r q t u differ is g h = absurd is
+    one_answer s (step.ExtractMethod a b c d) r q t u differ is g h = absurd is
+    one_answer s (step.InlineLocal a b) r q t u differ is g h = absurd is
+    one_answer s (step.InlineMethod a b) r q t u differ is g h = absurd is
+    one_answer s (step.PullUp a b) r q t u differ is g h = absurd is
+    one_answer s (step.MoveStatic a b c) r q t u differ is g h = absurd is
+    one_answer s (step.MoveInstance a b c d) r q t u differ is g h = absurd is

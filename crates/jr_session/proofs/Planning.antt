@@ -2,8 +2,7 @@
 use Rattle.std.proofs.Common.{◌≡◌, ℕ, ◌<◌, List, length, sym, ap, subst, ◌∙◌, arith}
 use Rattle.std.specs.Prelude.{Some, slice_get}
 use Rattle.jr_text.specs.declared.spans.Span.{Span}
-use Rattle.jr_names.specs.RefusalView.{refusal_of}
-use Rattle.jr_names.specs.Replies.{Outcome, planned, not_planned}
+use Rattle.jr_names.specs.Replies.{Outcome}
 use Rattle.jr_bind.specs.Programs.{File, Program}
 use Rattle.jr_rename_plan.specs.Plans.{Plans}
 use Rattle.jr_sources.specs.Sources.{Source}

@@ -1,7 +1,7 @@
 -- The states behind a refactoring, from what its body finds.
-use Rattle.std.proofs.Common.{◌≡◌, ℕ, ◌<◌, List, [], ◌∷◌, ◌++◌, length, refl, sym, ap, subst, ◌∙◌, inl, inr}
+use Rattle.std.proofs.Common.{◌≡◌, ℕ, List, [], ◌∷◌, ◌++◌, length, refl, sym, subst, inl, inr}
 use Rattle.std.specs.List.{slice_get}
-use Rattle.std.specs.Prelude.{Option, Some, None}
+use Rattle.std.specs.Prelude.{Some}
 use Rattle.std.proofs.lemmas.Option.{same_Some}
 use Rattle.jr_text.specs.Edits.{Entry}
 use Rattle.jr_names.specs.Refusals.{would_not_compile, too_long}
@@ -9,24 +9,24 @@ use Rattle.jr_names.specs.Replies.{Reply, refactored, refused}
 use Rattle.jr_sources.specs.declared.analyses.Analysis.{Analysis}
 use Rattle.jr_sources.specs.declared.analyses.SourceFault.{SourceFault}
 use Rattle.jr_sources.specs.declared.kept.Readings.{Readings}
-use Rattle.jr_sources.specs.Analysed.{IsAnalysis, IsSourceWrong, CostsBinding}
+use Rattle.jr_sources.specs.Analysed.{IsAnalysis, CostsBinding}
 use Rattle.jr_sources.specs.BindingErrors.{AreSound, IsFirstWrong}
-use Rattle.jr_sources.specs.KeptReadings.{AreReadings}
 use Rattle.jr_sources.specs.ReadingLaws.{HasOneReading}
 use Rattle.jr_sources.specs.Sources.{Source, HasName, texts_of}
+use Rattle.jr_sources.specs.Whole.{IsProgramOf}
 use Rattle.jr_sources.proofs.Analysing.{no_fault}
 use Rattle.jr_session.specs.declared.changes.Change.{Change}
 use Rattle.jr_session.specs.declared.changes.Earlier.{Earlier}
 use Rattle.jr_session.specs.declared.made.Made.TheVariants as makes
 use Rattle.jr_session.specs.declared.tries.Tried.TheVariants as tries
-use Rattle.jr_session.specs.Changes.{put_back, AreOfFiles, AreChanges}
+use Rattle.jr_session.specs.Changes.{put_back, AreChanges}
 use Rattle.jr_session.specs.Kept.{IsKept}
 use Rattle.jr_session.specs.Making.{IsMade}
 use Rattle.jr_session.specs.NewTexts.{with_edits, differing}
 use Rattle.jr_session.specs.Refactoring as by
 use Rattle.jr_session.specs.Refactoring.{IsTriedBy, StayWithin, IsRefactoredBy, CostsRefactoring}
 use Rattle.jr_session.specs.States.{State}
-use Rattle.jr_session.specs.Trying.{IsTried}
+use Rattle.jr_session.specs.Trying.{IsTried, AreSomeProgram}
 use Rattle.jr_session.specs.Turns.{IsChanged}
 use Rattle.jr_session.proofs.Histories.{names-put}
 use Rattle.jr_session.proofs.StateLaws.{state_of, state_as_before, refactored_state, kept_changed}
@@ -49,9 +49,10 @@ module _ (sources sources' : List Source) (changes : List Change) (undo undo' re
     is_changed : IsChanged sources undo (put_back sources changes) sources' undo'
     is_changed = record { was = step; are = h.0; back = h.1; files = h.2; kept = kept }
 
-    pub tried_sound : HasOneReading → IsTriedBy (state_of sources undo redo shown) (put_back sources changes) names respelled (refactored names respelled) (state_of sources' undo' redo' shown)
-    tried_sound reading =
-        by.holds (λ name place kind w. nothing_wrong reading sources' analysis h.4 h.5 name place kind (subst (λ (ss : List Source). IsFirstWrong ss name place kind) (sym h.0) w)) refl
+    pub tried_sound : HasOneReading → AreSomeProgram sources' → IsTriedBy (state_of sources undo redo shown) (put_back sources changes) names respelled (refactored names respelled) (state_of sources' undo' redo' shown)
+    tried_sound reading whole =
+        by.holds (λ name place kind w. nothing_wrong reading sources' analysis h.4 h.5 name place kind (subst (λ (ss : List Source). IsFirstWrong ss name place kind) (sym h.0) w)) whole.0
+        (subst (λ (ss : List Source). IsProgramOf ss whole.0) h.0 whole.1) refl
         (refactored_state sources (put_back sources changes) sources' undo undo' redo redo' shown is_changed none)
 
     pub tried_kept : AreChanges (length sources) undo → IsKept sources' readings undo' redo' (Some analysis)

@@ -1,14 +1,12 @@
 -- Which refusals may apply to an edit, to an undoing, and to a redoing.
-use Rattle.std.proofs.Common.{◌≡◌, ◌⊎◌, ℕ, ◌+◌, ◌<◌, List, [], refl, sym, ap, subst, inl, inr}
-use Rattle.jr_text.specs.declared.spans.Span.{Span}
-use Rattle.jr_names.specs.declared.steps.Step.{Step}
+use Rattle.std.proofs.Common.{◌≡◌, ◌⊎◌, ℕ, List, [], refl, ap, subst, inl, inr}
 use Rattle.jr_names.specs.declared.steps.Step.TheVariants as step
 use Rattle.jr_names.specs.declared.steps.What.TheVariants as what
 use Rattle.jr_names.specs.Refusals.{Refusal, no_such_file, bad_place, bad_name, source_error, bad_target, prelude_method, conditional, has_return, two_results, many_targets, may_be_null, recursive, assigned, clash, override_changed, lost_binding, would_not_compile, lost_dependence, bad_span, too_long, nothing_to_undo, nothing_to_redo, report_full, too_many_sites}
 use Rattle.jr_sources.specs.Sources.{LacksFile}
 use Rattle.jr_session.specs.States.{State}
 use Rattle.jr_session.specs.Lengths.{AreTooLong}
-use Rattle.jr_session.specs.Refusing.{Applies, IsEdit, CutsBadly, WouldMake, WouldShow}
+use Rattle.jr_session.specs.Refusing.{Applies, CutsBadly, WouldMake}
 
 -- ---- edits
 

@@ -1,5 +1,5 @@
 -- The steps of a rename, from what its body finds.
-use Rattle.std.proofs.Common.{◌≡◌, ◌⊎◌, ℕ, zero, suc, ◌+◌, ◌<◌, ◌≤◌, List, [], ◌∷◌, map, length, refl, sym, ap, subst, ◌∙◌, inl, inr, arith}
+use Rattle.std.proofs.Common.{◌≡◌, ℕ, suc, ◌<◌, List, [], ◌∷◌, length, refl, sym, ap, subst, ◌∙◌, inl, inr, arith}
 use Rattle.std.specs.List.{slice_get}
 use Rattle.std.specs.Prelude.{Some}
 use Rattle.std.proofs.lemmas.List.{length-map}
@@ -12,9 +12,9 @@ use Rattle.jr_grammar.specs.Layout.{itself}
 use Rattle.jr_table.specs.Sites.{Site}
 use Rattle.jr_names.specs.declared.steps.Step.{Step}
 use Rattle.jr_names.specs.declared.steps.Step.TheVariants as step
-use Rattle.jr_names.specs.Refusals.{Refusal, no_such_file, source_error, would_not_compile, too_long}
-use Rattle.jr_names.specs.Replies.{Reply, refactored, refused}
-use Rattle.jr_bind.specs.Programs.{File, Program, units_of}
+use Rattle.jr_names.specs.Refusals.{Refusal, no_such_file, source_error}
+use Rattle.jr_names.specs.Replies.{Reply, refused}
+use Rattle.jr_bind.specs.Programs.{File, units_of}
 use Rattle.jr_rewrite.specs.Rewrites.{Choosing, RewritesUnits}
 use Rattle.jr_rewrite.specs.Rewritten.{Rewritten}
 use Rattle.jr_rename.specs.Renames.{entries_from}
@@ -23,16 +23,12 @@ use Rattle.jr_sources.specs.declared.analyses.SourceFault.{SourceFault}
 use Rattle.jr_sources.specs.Analysed.{IsSourceWrong, CostsBinding}
 use Rattle.jr_sources.specs.Asking.{IsUnasked}
 use Rattle.jr_sources.specs.BindingErrors.{IsFirstWrong}
-use Rattle.jr_sources.specs.FirstFault.{IsFirstFaultOf, AreProgram}
-use Rattle.jr_sources.specs.MemberCount.{member_count}
 use Rattle.jr_sources.specs.ReadingLaws.{HasOneReading}
 use Rattle.jr_sources.specs.Sources.{Source, HasName, LacksFile, IsFile}
-use Rattle.jr_sources.specs.Whole.{IsProgramOf}
 use Rattle.jr_sources.proofs.AllRead.{text_there}
 use Rattle.jr_sources.proofs.Analysing.{no_fault}
 use Rattle.jr_session.specs.States.{State}
 use Rattle.jr_session.specs.Making.{Fit}
-use Rattle.jr_session.specs.NewTexts.{with_edits, differing}
 use Rattle.jr_session.specs.Planning.{IsNotPlanned, ArePlanned}
 use Rattle.jr_session.specs.Refactoring as by
 use Rattle.jr_session.specs.Refactoring.{AsksFor, StayWithin, IsRefactoredBy, CostsRefactoring}
@@ -41,7 +37,7 @@ use Rattle.jr_session.specs.Renaming.{IsAsked, IsPlan, IsShort}
 use Rattle.jr_session.specs.Splicing.{HasText}
 use Rattle.jr_session.specs.Stepping.{Steps}
 use Rattle.jr_session.specs.Work.{IsWithinWork}
-use Rattle.jr_session.proofs.EditLaws.{text_of_file, file_of}
+use Rattle.jr_session.proofs.EditLaws.{text_of_file}
 use Rattle.jr_session.proofs.Planning.{count, file as file_there}
 use Rattle.jr_session.proofs.Showing.{one_name}
 
@@ -127,9 +123,9 @@ module _ (s : State) (file : List ℕ) (at : ℕ) (new : List ℕ) where
           subst (λ (q : Reply). Steps s (the_rename file at new) q t) (sym e) (why.long edits respelled len the_plan too refl, same)
       refactored_step r t (by.tried stay (by.breaks number' place name kind has first e same)) =
           subst (λ (q : Reply). Steps s (the_rename file at new) q t) (sym e) (why.breaks edits respelled number' place name kind (short stay) has first refl, same)
-      refactored_step r t (by.tried stay (by.holds sound e becomes)) =
+      refactored_step r t (by.tried stay (by.holds sound q program e becomes)) =
           subst (λ (q : Reply). Steps s (the_rename file at new) q t) (sym e)
-          (tt, record { edits = edits; short = short stay; sound = sound; names_are = refl; becomes = becomes })
+          (tt, record { edits = edits; short = short stay; sound = sound; q = q; program = program; names_are = refl; becomes = becomes })
 
       pub refactored_work : HasOneReading → (before middle after : ℕ) → CostsBinding s.files before middle → CostsRefactoring s.files edits middle after → IsWithinWork s (the_rename file at new) before after
       refactored_work reading before middle after h (by.nothing e) = subst (λ (n : ℕ). IsWithinWork s (the_rename file at new) before n) (sym e) (analysed_work before middle h)

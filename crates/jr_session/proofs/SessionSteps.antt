@@ -1,24 +1,21 @@
 -- The steps of sessions, from what their bodies find.
 use Rattle.std.proofs.Common.{◌≡◌, ℕ, suc, ◌<◌, ◌≤◌, List, [], ◌∷◌, ◌++◌, length, refl, sym, ap, subst, ◌∙◌, arith}
-use Rattle.std.specs.List.{slice_get}
-use Rattle.std.specs.Prelude.{Some, None, ◌≢◌}
-use Rattle.std.proofs.lemmas.Option.{slice_get_within, same_Some}
-use Rattle.jr_text.specs.Spans.{CanCut}
+use Rattle.std.proofs.lemmas.Option.{slice_get_within}
 use Rattle.jr_text.specs.Splices.{replaced}
 use Rattle.jr_names.specs.declared.steps.Step.TheVariants as step
-use Rattle.jr_names.specs.Replies.{edited, undone, redone, refused}
+use Rattle.jr_names.specs.Replies.{edited, undone, redone}
 use Rattle.jr_names.specs.Refusals.{Refusal, bad_span, too_long, nothing_to_undo, nothing_to_redo}
 use Rattle.jr_session.specs.declared.changes.Earlier.{Earlier}
 use Rattle.jr_sources.specs.Sources.{Source, HasName, LacksFile, Differ, IsFile, names_of, texts_of, with_text, total_of, total_limit}
 use Rattle.jr_session.specs.States.{State, changed, IsUndone, IsRedone}
-use Rattle.jr_session.specs.Lengths.{AreWithin, AreTooLong}
+use Rattle.jr_session.specs.Lengths.{AreWithin}
 use Rattle.jr_session.specs.Splicing.{HasText, CanBecome, CanNotCut, WouldBeTooLong}
-use Rattle.jr_session.specs.Turns.{IsChanged, IsTurn}
-use Rattle.jr_session.specs.Refusing.{CutsBadly, IsFirstRefusal, IsGranted, rank_of}
+use Rattle.jr_session.specs.Turns.{IsChanged}
+use Rattle.jr_session.specs.Refusing.{CutsBadly, IsFirstRefusal, rank_of}
 use Rattle.jr_session.specs.Stepping.{Steps}
-use Rattle.jr_session.proofs.StateLaws.{state_of, edited_state, undone_state, redone_state}
+use Rattle.jr_session.proofs.StateLaws.{state_of, edited_state}
 use Rattle.jr_session.proofs.RefusalCases.{undo_refusals, redo_refusals}
-use Rattle.jr_session.proofs.EditLaws.{span_of, file_of, name_of_file, text_of_file, one_number, lacks_none, one_file, cuts_badly, cuts_well, first_bad_span, first_too_long, granted}
+use Rattle.jr_session.proofs.EditLaws.{span_of, file_of, name_of_file, text_of_file, one_number, lacks_none, cuts_well, first_bad_span, first_too_long, granted}
 
 pub number_within : (ss : List Source) (i : ℕ) (name : List ℕ) → HasName ss i name → i < length ss
 number_within ss i name h =

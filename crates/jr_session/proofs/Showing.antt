@@ -1,6 +1,6 @@
 -- A show's step and its work, for the state that sources and changes stand for.
-use Rattle.std.proofs.Common.{◌≡◌, ◌⊎◌, ℕ, ◌+◌, ◌<◌, ◌≤◌, List, refl, sym, ap, subst, ◌∙◌, arith}
-use Rattle.std.specs.Prelude.{Option, Some, None, is_some, true}
+use Rattle.std.proofs.Common.{◌≡◌, ℕ, ◌+◌, ◌<◌, ◌≤◌, List, refl, sym, ap, subst, ◌∙◌, arith}
+use Rattle.std.specs.Prelude.{Some}
 use Rattle.jr_names.specs.Replies.{Reply, refused, shown as shown_reply}
 use Rattle.jr_names.specs.Refusals.{source_error, report_full}
 use Rattle.jr_shown.specs.Lines.{bytes_of}
@@ -12,7 +12,7 @@ use Rattle.jr_sources.specs.FirstFault.{IsFirstFaultOf}
 use Rattle.jr_session.specs.Lines.{AreLineTexts}
 use Rattle.jr_sources.specs.ReadingLaws.{HasOneReading}
 use Rattle.jr_session.specs.Refusing.{shown_limit}
-use Rattle.jr_sources.specs.Sources.{Source, HasName, IsFile, Differ, names_of, texts_of}
+use Rattle.jr_sources.specs.Sources.{Source, HasName, IsFile, Differ, texts_of}
 use Rattle.jr_session.specs.States.{State}
 use Rattle.jr_session.specs.Stepping.{Steps}
 use Rattle.jr_session.specs.StepLaws.{HasOneShow}

@@ -1,6 +1,6 @@
 -- The lines of a show: from what was analysed, and no others.
-use Rattle.std.proofs.Common.{◌≡◌, ℕ, ◌+◌, List, [], ◌∷◌, length, map, refl, sym, ap, subst, ◌∙◌, inl, inr, eq-eqb}
-use Rattle.std.specs.Prelude.{◌⊎◌, ◌↔◌, Option, Some, slice_get, filter, ◌==◌}
+use Rattle.std.proofs.Common.{◌≡◌, ℕ, List, map, sym, ap, subst, ◌∙◌, eq-eqb}
+use Rattle.std.specs.Prelude.{◌↔◌, Some, slice_get, filter, ◌==◌}
 use Rattle.std.proofs.lemmas.Option.{same_Some}
 use Rattle.jr_text.specs.declared.spans.Span.{Span}
 use Rattle.jr_lex.specs.declared.items.Item.{Item}
@@ -8,14 +8,12 @@ use Rattle.jr_lex.specs.Lexes.{Lexes}
 use Rattle.jr_ast.specs.MemberTree.{Unit as UnitTree}
 use Rattle.jr_table.specs.Decls.{Decl}
 use Rattle.jr_table.specs.declared.rules.Rule.{Rule}
-use Rattle.jr_table.specs.Rows.{Row}
 use Rattle.jr_table.specs.Sites.{sites_of}
 use Rattle.jr_table.specs.ProgramRows.{AreProgramRows}
-use Rattle.jr_places.specs.FileParts.{begins, BindsAt, BreaksAt, InFile}
+use Rattle.jr_places.specs.FileParts.{begins}
 use Rattle.jr_shown.specs.declared.bounds.MemberBound.{MemberBound}
 use Rattle.jr_shown.specs.Lines.{Line, reference, broken, line_text, AreLines}
 use Rattle.jr_shown.specs.LineLaws.{OneInOrder}
-use Rattle.jr_shown.specs.Tokens.{IsTokenText}
 use Rattle.jr_shown.specs.Members.{AnyOf, MemberRefers, MemberErrs}
 use Rattle.jr_shown.specs.MemberLines.{IsLineOf}
 use Rattle.jr_shown.proofs.Membership.{chain, any_filter}

@@ -1,8 +1,7 @@
 -- The states behind an exchange of texts.
-use Rattle.std.proofs.Common.{◌≡◌, ℕ, ◌+◌, ◌<◌, List, [], ◌∷◌, ◌++◌, set, length, refl, sym, ap, subst, ◌∙◌, arith}
-use Rattle.std.specs.List.{slice_get, All}
+use Rattle.std.proofs.Common.{◌≡◌, ℕ, ◌<◌, List, [], ◌∷◌, ◌++◌, length, refl, sym, ap, subst, ◌∙◌, arith}
 use Rattle.std.specs.Prelude.{Some, None}
-use Rattle.std.proofs.lemmas.List.Elements.{All-push, All-pop, All-append}
+use Rattle.std.proofs.lemmas.List.Elements.{All-push, All-pop}
 use Rattle.jr_session.specs.declared.changes.Change.{Change}
 use Rattle.jr_session.specs.declared.changes.Earlier.{Earlier}
 use Rattle.jr_sources.specs.declared.kept.Readings.{Readings}
@@ -14,7 +13,6 @@ use Rattle.jr_sources.specs.Analysed.{IsKeptAnalysis}
 use Rattle.jr_session.specs.Kept.{IsKept}
 use Rattle.jr_sources.specs.KeptReadings.{AreReadings}
 use Rattle.jr_session.specs.Turns.{IsChanged, IsTurn}
-use Rattle.jr_sources.proofs.SourceLaws.{length-with_text}
 use Rattle.jr_session.proofs.Histories.{history-pushed, texts-put, names-put, length-put}
 
 -- the state that sources and changes stand for

@@ -1,24 +1,21 @@
 -- Cases of the definitions of steps, of their refusals and of shown lines. No law stands on them.
-use Rattle.std.proofs.Common.{◌≡◌, ◌<◌, ◌≤◌, ℕ, List, [], ◌∷◌, refl, inl, inr, arith}
+use Rattle.std.proofs.Common.{◌≡◌, ◌<◌, ℕ, List, [], ◌∷◌, refl, inl, inr, arith}
 use Rattle.std.proofs.Common.{append_assoc, ◌++◌}
 use Rattle.std.specs.Prelude.{Some, None, codes, decimal}
 use Rattle.jr_text.specs.Spans.{CanCut}
-use Rattle.jr_lex.specs.declared.items.Item.{Item}
 use Rattle.jr_lex.specs.declared.items.ItemKind.TheVariants as item
 use Rattle.jr_lex.specs.declared.items.TokenKind.TheVariants as token
 use Rattle.jr_lex.specs.declared.items.Keyword.TheVariants as keyword
 use Rattle.jr_table.specs.Keys.{ClassKey, int}
-use Rattle.jr_table.specs.Decls.{class_decl, field_decl, method_decl, constructor_decl, local_decl, method, constructor}
+use Rattle.jr_table.specs.Decls.{class_decl, field_decl, constructor_decl}
 use Rattle.jr_table.specs.declared.rules.Rule.TheVariants as rule
 use Rattle.jr_names.specs.declared.steps.Step.TheVariants as step
 use Rattle.jr_names.specs.declared.steps.What.TheVariants as what
-use Rattle.jr_names.specs.Refusals.{bad_span, too_long, nothing_to_undo, too_many_sites, would_not_compile, lost_binding, source_error, no_such_file, report_full}
-use Rattle.jr_sources.specs.Sources.{Source, Differ}
+use Rattle.jr_names.specs.Refusals.{bad_span, too_long, would_not_compile, source_error, report_full}
 use Rattle.jr_session.specs.States.{State, begun, changed, IsUndone, IsRedone}
-use Rattle.jr_session.specs.Lengths.{AreTooLong}
 use Rattle.jr_sources.specs.ReadingFaults.{first_token_at}
 use Rattle.jr_session.specs.Refusing.{IsFirstRefusal, rank_of}
-use Rattle.jr_shown.specs.Lines.{Line, reference, broken, line_text, bytes_of, ComesBefore, AreInOrder}
+use Rattle.jr_shown.specs.Lines.{reference, broken, line_text, bytes_of, ComesBefore, AreInOrder}
 use Rattle.jr_session.proofs.EditLaws.{first_bad_span}
 
 -- ---- lines

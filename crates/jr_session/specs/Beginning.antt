@@ -2,7 +2,8 @@
 use Rattle.std.specs.Prelude.{◌≡◌, ◌<◌, ◌≤◌, List, length}
 use Rattle.jr_session.specs.declared.begins.BeginFault.{BeginFault}
 use Rattle.jr_session.specs.declared.begins.BeginFault.TheVariants as fault
-use Rattle.jr_sources.specs.Sources.{Source, texts_of, total_of, file_limit, total_limit, Differ, HaveSameName}
+use Rattle.jr_sources.specs.Sources.{Source, texts_of, total_of, file_limit, total_limit}
+use Rattle.jr_sources.specs.Sources.{Differ, HaveSameName}
 
 -- no more files than there may be, each with a name of its own, and no more bytes
 pub record CanBegin (files : List Source) : Type 0 where

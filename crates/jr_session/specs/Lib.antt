@@ -13,6 +13,7 @@ pub mod Work
 pub mod StepLaws
 pub mod NewTexts
 pub mod Renaming
+pub mod RenameReasons
 pub mod Planning
 pub mod Making
 pub mod Trying

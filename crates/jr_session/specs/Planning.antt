@@ -18,13 +18,13 @@ use Rattle.jr_session.specs.declared.plans.Planned.TheVariants as plan
 use Rattle.jr_session.specs.Splicing.{HasText}
 
 -- the program of the sources refuses it so
-pub record IsNotPlanned (sources : List Source) (number at : ℕ) (new : List ℕ) (r : Refusal) : Type 0
-  where
-    pub p : Program Span
-    pub program : IsProgramOf sources p
-    pub text : List ℕ
-    pub has : HasText sources number text
-    pub refused : IsRefused itself p.rows p.super_at (units_of p) text number at new r
+pub record IsNotPlanned (sources : List Source) (number at : ℕ) (new : List ℕ) (r : Refusal)
+    : Type 0 where
+  pub p : Program Span
+  pub program : IsProgramOf sources p
+  pub text : List ℕ
+  pub has : HasText sources number text
+  pub refused : IsRefused itself p.rows p.super_at (units_of p) text number at new r
 
 -- or these are the edits, and so many references are respelled
 pub record ArePlanned (sources : List Source) (number at : ℕ) (new : List ℕ)
@@ -41,7 +41,8 @@ pub record ArePlanned (sources : List Source) (number at : ℕ) (new : List ℕ)
 abbrev pub IsOfOutcome : Outcome → Planned → Type 0
 IsOfOutcome o (plan.Wrong fault) = ⊥
 IsOfOutcome o (plan.Refused r) = o ≡ not_planned (refusal_of r)
-IsOfOutcome o (plan.Edits edits respelled) = (renaming : List (Decl × Decl)) × (lost : Option DepPair)
+IsOfOutcome o (plan.Edits edits respelled) =
+    (renaming : List (Decl × Decl)) × (lost : Option DepPair)
     × (o ≡ planned edits renaming respelled lost)
 
 abbrev pub IsPlannedSo : List Source → (number at : ℕ) → (new : List ℕ) → Planned → Type 0

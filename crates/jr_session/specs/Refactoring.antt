@@ -1,18 +1,21 @@
 -- What comes of a refactoring's edits, whatever planned them. Only private clauses cite this.
 use Rattle.std.specs.Prelude.{◌≡◌, ℕ, ◌≤◌, List}
+use Rattle.jr_text.specs.declared.spans.Span.{Span}
 use Rattle.jr_text.specs.Edits.{Entry}
+use Rattle.jr_bind.specs.Programs.{Program}
 use Rattle.jr_names.specs.Refusals.{would_not_compile, too_long}
 use Rattle.jr_names.specs.Replies.{Reply, refactored, refused}
 use Rattle.jr_sources.specs.Analysed.{CostsBinding}
 use Rattle.jr_sources.specs.BindingErrors.{IsFirstWrong}
 use Rattle.jr_sources.specs.Sources.{Source, HasName, texts_of, total_of, total_limit}
+use Rattle.jr_sources.specs.Whole.{IsProgramOf}
 use Rattle.jr_session.specs.Lengths.{AreWithin, AreTooLong}
 use Rattle.jr_session.specs.NewTexts.{with_edits, differing, with_files}
 use Rattle.jr_session.specs.Renaming.{IsAsked}
 use Rattle.jr_session.specs.States.{State}
 
 -- new sources are refused for what is first wrong with them, and nothing changes; or nothing is
--- wrong, and they are there
+-- wrong, they are a program, and they are there
 pub data IsTriedBy (s : State) (news : List Source) (names : List (List ℕ)) (respelled : ℕ)
     (reply : Reply) (t : State) : Type 0 where
   breaks : (number place : ℕ) (name kind : List ℕ) → HasName s.files number name
@@ -20,7 +23,7 @@ pub data IsTriedBy (s : State) (news : List Source) (names : List (List ℕ)) (r
       → reply ≡ refused (would_not_compile (record { file = number; at = place }) kind) → t ≡ s
       → IsTriedBy s news names respelled reply t
   holds : ((name : List ℕ) (place : ℕ) (kind : List ℕ) → IsFirstWrong news name place kind → ⊥)
-      → reply ≡ refactored names respelled → t ≡ with_files s news
+      → (q : Program Span) → IsProgramOf news q → reply ≡ refactored names respelled → t ≡ with_files s news
       → IsTriedBy s news names respelled reply t
 
 -- the new texts stay within the limits

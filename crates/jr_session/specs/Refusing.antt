@@ -1,6 +1,6 @@
 -- Why steps are refused: for each refusal where it applies, and which comes first. A refusal of a
 -- step that isn't here yet gets its row here.
-use Rattle.std.specs.Prelude.{◌≡◌, ℕ, ◌+◌, ◌*◌, ◌<◌, ◌≤◌, ◌⊎◌, List, [], Bool, true, false}
+use Rattle.std.specs.Prelude.{◌≡◌, ℕ, ◌+◌, ◌*◌, ◌<◌, ◌≤◌, List, [], Bool, true, false}
 use Rattle.jr_text.specs.declared.spans.Span.{Span}
 use Rattle.jr_text.specs.Spans.{CanCut}
 use Rattle.jr_text.specs.Splices.{replaced}
@@ -35,7 +35,7 @@ use Rattle.jr_names.specs.Refusals.{
   too_many_sites,
 }
 use Rattle.jr_names.specs.RefusalNames.{refusal_number}
-use Rattle.jr_sources.specs.Sources.{IsFile, LacksFile, texts_of, with_text, total_limit}
+use Rattle.jr_sources.specs.Sources.{IsFile, LacksFile, texts_of, with_text}
 use Rattle.jr_session.specs.States.{State}
 use Rattle.jr_session.specs.Lengths.{AreTooLong}
 use Rattle.jr_session.specs.Renaming.{IsRefusedRename}

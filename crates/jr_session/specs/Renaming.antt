@@ -7,7 +7,8 @@ use Rattle.jr_lex.specs.Replacing.{IsName}
 use Rattle.jr_table.specs.Decls.{Decl}
 use Rattle.jr_bind.specs.Programs.{Program, units_of}
 use Rattle.jr_rename.specs.Renames as renames
-use Rattle.jr_names.specs.Refusals.{Refusal, no_such_file, bad_place, bad_name, source_error, would_not_compile, too_long}
+use Rattle.jr_names.specs.Refusals.{Refusal, no_such_file, bad_place, bad_name, source_error}
+use Rattle.jr_names.specs.Refusals.{would_not_compile, too_long}
 use Rattle.jr_sources.specs.Sources.{IsFile, HasName, LacksFile, texts_of, total_of}
 use Rattle.jr_sources.specs.Sources.{total_limit}
 use Rattle.jr_sources.specs.Asking.{CanStand}
@@ -78,12 +79,14 @@ module _ (s : State) (file : List ℕ) (at : ℕ) (new : List ℕ) where
 
   -- ---- or what it does
 
-  -- the new texts are the old ones spliced by the plan's edits, the texts before can be undone, and
-  -- the new sources are a program again
+  -- The new texts are the old ones spliced by the plan's edits, and the texts before can be undone.
+  -- Nothing is first wrong with the new sources, and they are a program again, which is q.
   pub record IsRenamed (names : List (List ℕ)) (respelled : ℕ) (t : State) : Type 0 where
     pub edits : List (List Entry)
     pub short : IsShort edits respelled
     pub sound : (name : List ℕ) (place : ℕ) (kind : List ℕ)
         → IsFirstWrong (with_edits s.files edits) name place kind → ⊥
+    pub q : Program Span
+    pub program : IsProgramOf (with_edits s.files edits) q
     pub names_are : names ≡ differing s.files (with_edits s.files edits)
     pub becomes : t ≡ with_files s (with_edits s.files edits)

@@ -1,11 +1,10 @@
 -- What a step does: the reply, and the state behind it.
-use Rattle.std.specs.Prelude.{◌≡◌, ℕ, ◌+◌, List, [], ◌∷◌, ◌++◌}
+use Rattle.std.specs.Prelude.{◌≡◌, ℕ, ◌+◌, List}
 use Rattle.jr_text.specs.declared.spans.Span.{Span}
 use Rattle.jr_text.specs.Splices.{replaced}
 use Rattle.jr_names.specs.declared.steps.Step.{Step}
 use Rattle.jr_names.specs.declared.steps.Step.TheVariants as step
 use Rattle.jr_names.specs.Replies.{Reply, edited, refactored, shown, undone, redone, refused}
-use Rattle.jr_sources.specs.Sources.{Source}
 use Rattle.jr_session.specs.States.{State, changed, IsUndone, IsRedone}
 use Rattle.jr_session.specs.Renaming.{IsRenamed}
 use Rattle.jr_session.specs.Refusing.{IsEdit, WouldShow, Refuses, Grants}
@@ -32,7 +31,8 @@ pub record IsShown (s : State) (of : Step) (lines : List (List ℕ)) (t : State)
 
 -- a refactoring is done to these files, with so many respelled references
 abbrev pub IsRefactored : State → Step → (files : List (List ℕ)) → (respelled : ℕ) → State → Type 0
-IsRefactored s (step.Rename file at new) files respelled t = IsRenamed s file at new files respelled t
+IsRefactored s (step.Rename file at new) files respelled t =
+    IsRenamed s file at new files respelled t
 IsRefactored s of files respelled t = ⊥
 
 -- the step is done, with this reply; what isn't here has no step yet

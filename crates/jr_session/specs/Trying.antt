@@ -1,9 +1,12 @@
 -- What comes of new texts before they are kept. Only private clauses cite this.
 use Rattle.std.specs.Prelude.{◌≡◌, List, length}
+use Rattle.jr_text.specs.declared.spans.Span.{Span}
+use Rattle.jr_bind.specs.Programs.{Program}
 use Rattle.jr_sources.specs.Analysed.{IsAnalysis, IsSourceWrong}
 use Rattle.jr_sources.specs.BindingErrors.{AreSound}
 use Rattle.jr_sources.specs.KeptReadings.{AreReadings}
 use Rattle.jr_sources.specs.Sources.{Source, texts_of}
+use Rattle.jr_sources.specs.Whole.{IsProgramOf}
 use Rattle.jr_session.specs.declared.changes.Change.{Change}
 use Rattle.jr_session.specs.declared.tries.Judged.{Judged}
 use Rattle.jr_session.specs.declared.tries.Judged.TheVariants as judges
@@ -30,3 +33,7 @@ IsTried sources changes now (tries.Sound readings analysis had) =
     × AreReadings (texts_of now) readings
     × IsAnalysis now analysis
     × AreSound now
+
+-- the sources are a program without faults and errors
+abbrev pub AreSomeProgram : List Source → Type 0
+AreSomeProgram sources = (q : Program Span) × IsProgramOf sources q

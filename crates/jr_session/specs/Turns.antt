@@ -1,5 +1,5 @@
 -- Texts are exchanged for others, forwards or back. Only private clauses cite this.
-use Rattle.std.specs.Prelude.{◌≡◌, ℕ, List, [], ◌∷◌, ◌++◌, length}
+use Rattle.std.specs.Prelude.{◌≡◌, List, [], ◌∷◌, ◌++◌, length}
 use Rattle.std.specs.List.{AllZip}
 use Rattle.jr_ast.specs.View.{unit_of}
 use Rattle.jr_sources.specs.declared.readings.Reading.{Reading}
@@ -44,8 +44,8 @@ pub record IsTurn (sources : List Source) (from onto : List Earlier) (sources' :
 
 -- these are what the texts of the last step read as
 abbrev pub AreLastReadings : List Earlier → List Reading → Type 0
-AreLastReadings steps readings = (front : List Earlier) (step : Earlier) → steps ≡ front ++ step ∷ []
-    → AreChangeReadings step.changes.items readings
+AreLastReadings steps readings = (front : List Earlier) (step : Earlier)
+    → steps ≡ front ++ step ∷ [] → AreChangeReadings step.changes.items readings
 
 -- nothing changed
 pub record AreAsBefore (sources : List Source) (from onto : List Earlier) (sources' : List Source)

@@ -21,6 +21,6 @@ mod tries;
 mod turns;
 
 pub use begins::BeginFault;
-pub use laws::step_has_one_answer;
+pub use laws::{renames_are_refused_first, step_has_one_answer};
 pub use sessions::Session;
 pub use shows::MAX_SHOWN_LEN;

@@ -11,7 +11,7 @@ ghost use Rattle.jr_session.specs.Refactoring.{IsTriedBy, IsRefactoredBy, CostsR
 use crate::changes::{Change, Earlier};
 use crate::made::{Made, new_texts};
 use crate::sessions::Session;
-use crate::tries::{Tried, try_texts};
+use crate::tries::{Tried, sources_are_program, try_texts};
 use jr_ast::Name;
 use jr_names::{EditLists, Names, Refusal, Reply};
 use jr_sources::{SourceFault, text_has_one_reading};
@@ -60,6 +60,7 @@ impl Session {
                 analysis,
                 had,
             } => {
+                sources_are_program(&self.sources, &readings, &analysis);
                 self.readings = readings;
                 self.analysed = Some(analysis);
                 self.undo.push_reserved(Earlier { changes: had });

@@ -19,8 +19,8 @@ use std::alloc::{AllocError, Global};
 use std::sync::ledger::Ledger;
 
 impl Session {
-    /// What the identifier at the byte of the file declares or is bound to gets the name, wherever it
-    /// stands (JLS 6).
+    /// What the identifier at the byte of the file declares or is bound to gets the name, wherever
+    /// it stands (JLS 6).
     ///
     /// Want of memory leaves the session as it was, and so does a refusal.
     pub(crate) fn rename<L: Ledger>(

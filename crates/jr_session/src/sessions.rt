@@ -18,7 +18,6 @@ use std::marker::Model;
 /// What each file reads as is kept beside its text, and is what reading that text from scratch
 /// gives; so is what was analysed of all of them, which an edit, an undoing and a redoing drop. A
 /// change keeps the text that was there before it, not the texts of the other files.
-#[derive(Drop)]
 pub struct Session {
     pub(crate) sources: Sources,
     pub(crate) readings: Readings,
@@ -28,6 +27,21 @@ pub struct Session {
     pub(crate) analysed: Option<Analysis>,
     // How many bytes of lines were shown.
     pub(crate) shown: u64,
+}
+
+// Written out, so that it is proved here: what is derived is proved anew in each crate above, with
+// all trees that a session holds.
+impl Drop for Session {
+    fn drop(self) {
+        let Session {
+            sources: _,
+            readings: _,
+            undo: _,
+            redo: _,
+            analysed: _,
+            shown: _,
+        } = self;
+    }
 }
 
 impl Model for Session {

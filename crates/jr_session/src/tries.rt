@@ -2,16 +2,17 @@
 //! stay, with what was read and analysed of them.
 ghost use Rattle.std.specs.Prelude.{◌≡◌, ◌<◌, ◌≤◌, ◌+◌, ◌∷◌, [], length, IfOk, OnErr};
 ghost use Rattle.std.specs.Prelude.{vec_len, vec_capacity};
-ghost use Rattle.jr_sources.specs.Analysed.{CostsBinding, IsKeptAnalysis, IsFilled};
+ghost use Rattle.jr_sources.specs.Analysed.{CostsBinding, IsAnalysis, IsKeptAnalysis, IsFilled};
+ghost use Rattle.jr_sources.specs.BindingErrors.{AreSound};
 ghost use Rattle.jr_sources.specs.KeptReadings.{AreReadings};
 ghost use Rattle.jr_sources.specs.Sources.{texts_of};
 ghost use Rattle.jr_session.specs.Changes.{put_back, AreOfFiles};
-ghost use Rattle.jr_session.specs.Trying.{IsJudged, IsTried};
+ghost use Rattle.jr_session.specs.Trying.{IsJudged, IsTried, AreSomeProgram};
 ghost use Rattle.jr_session.specs.Turns.{AreExchanged};
 
 use crate::begins::readings_of;
 use crate::changes::Change;
-use jr_sources::{Analysis, Readings, SourceFault, Sources, first_error, keep_analysis};
+use jr_sources::{Analysis, Readings, SourceFault, Sources, Whole, first_error, keep_analysis};
 use jr_steps::Steps;
 use std::alloc::{AllocError, Global};
 use std::sync::ledger::Ledger;
@@ -33,8 +34,8 @@ pub(crate) enum Judged {
 pub(crate) enum Tried {
     /// This is first wrong with the sources that have them. The old texts are there again.
     Wrong(SourceFault),
-    /// The sources have them now, and are a program, no member of which breaks a rule. `had` are the
-    /// texts that they had.
+    /// The sources have them now, and are a program, no member of which breaks a rule. `had` are
+    /// the texts that they had.
     Sound {
         readings: Readings,
         analysis: Analysis,
@@ -62,6 +63,17 @@ fn judge_analysed(sources: &Sources, readings: Readings, kept: Option<Analysis>)
             None => Judged::Sound { readings, analysis },
         },
     }
+}
+
+/// Sources of which no member breaks a rule are a program, by what was read and analysed of them.
+/// Nothing is run by it.
+pub(crate) fn sources_are_program(sources: &Sources, readings: &Readings, analysis: &Analysis)
+    requires readings { AreReadings (texts_of sources.now) readings.now }
+    requires analysis { IsAnalysis sources.now analysis.now }
+    requires sound { AreSound sources.now }
+    ensures { AreSomeProgram sources.now }
+{
+    let _whole = Whole::new(sources, readings, analysis);
 }
 
 // What comes of sources: each text is read, and the members are bound.

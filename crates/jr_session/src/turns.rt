@@ -6,8 +6,8 @@ ghost use Rattle.jr_sources.specs.KeptReadings.{AreReadings};
 ghost use Rattle.jr_sources.specs.ReadingFaults.{IsReading};
 ghost use Rattle.jr_sources.specs.Sources.{texts_of};
 ghost use Rattle.jr_session.specs.Changes.{AreChanges, AreOfFiles, put_back};
-ghost use Rattle.jr_session.specs.Turns.{IsChanged, IsTurn, AreAsBefore, AreExchanged, AreLastReadings};
-ghost use Rattle.jr_session.specs.Turns.{AreChangeReadings};
+ghost use Rattle.jr_session.specs.Turns.{IsChanged, IsTurn, AreAsBefore, AreExchanged};
+ghost use Rattle.jr_session.specs.Turns.{AreChangeReadings, AreLastReadings};
 
 use crate::changes::{Change, Earlier};
 use jr_sources::{Reading, Readings, Sources, read};

@@ -45,6 +45,7 @@ fn foreign(table: &Table, decl: Decl) -> Option<Decl>
     ensures { Finds table.now (λ d. decl_of decl ≡ d) (option_map decl_of result) }
 {
     if is_of_prelude(table, &decl) {
+        drop(decl);
         None
     } else {
         Some(decl)

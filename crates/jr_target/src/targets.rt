@@ -85,6 +85,7 @@ fn has_listed<V: View<Span>>(
         if found.is_some() {
             return Ok(found);
         }
+        drop(found);
     }
     Ok(None)
 }
@@ -105,7 +106,9 @@ fn named<V: View<Span>>(
     members_are_written::<Span>();
     parts_are_placed();
     let members = written_members(alloc, view.table(), view.units())?;
-    has_listed(alloc, view, file, at, members.as_slice())
+    let found = has_listed(alloc, view, file, at, members.as_slice());
+    drop(members);
+    found
 }
 
 /// The declaration that the identifier at a byte of a file declares or is bound to. A constructor's

@@ -65,13 +65,16 @@ module _ {files : Option Files} {script : Operand} (operands : List raw.Operand)
   pub read_count : length read ≡ length operands
   read_count = texts_length files (map operand_of operands) read is_begun.reads.fetched.sources ∙ length-map operands operand_of
 
-  pub names_now : (replies : List Reply) (after : State) → Follow session steps replies after → names_of after.files ≡ map text_of operands
-  names_now replies after follow =
-      names_stay session steps replies after follow ∙ ap (λ (s : State). names_of s.files) is_begun.begins
+  names_first : names_of session.files ≡ map text_of operands
+  names_first =
+      ap (λ (s : State). names_of s.files) is_begun.begins
       ∙ sources_names (map operand_of operands) read (texts_length files (map operand_of operands) read is_begun.reads.fetched.sources) ∙ sym (same_names operands)
 
+  pub names_now : (replies : List Reply) (after : State) → Follow session steps replies after → names_of after.files ≡ map text_of operands
+  names_now replies after follow = names_stay session steps replies after follow ∙ names_first
+
   pub places_now : (replies : List Reply) (after : State) → Follow session steps replies after → AreRepliesIn (map text_of operands) replies
-  places_now replies after follow = replies_in (map text_of operands) session steps replies after follow
+  places_now replies after follow = replies_in (map text_of operands) session steps replies after names_first follow
 
   pub few_now : (out : Option (List ℕ)) (news : List Source) (stores : List Store) → AreStores out (sources_from (map operand_of operands) read) news stores → length stores < 2 ^ 32
   few_now out news stores are =

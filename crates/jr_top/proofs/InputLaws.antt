@@ -15,11 +15,11 @@ use Rattle.jr_script.specs.ScriptLaws.{ScriptHasNoFault}
 use Rattle.jr_words.specs.Words.{Operand}
 use Rattle.jr_files.specs.declared.faults.SourceFault.{SourceFault}
 use Rattle.jr_files.specs.declared.faults.SourceFault.TheVariants.{TooMany, TooLong, NotUtf8, TotalTooLong}
-use Rattle.jr_files.specs.Sources.{AreFetched, AreSources, HasFault, HoldsFault, HoldsNoText, HoldsSome, HoldsText, IsBadSource, IsFirstBad, IsSource, total_of, total_limit}
+use Rattle.jr_files.specs.Sources.{AreFetched, AreSources, HasFault, HoldsFault, HoldsNoText, HoldsSome, IsBadSource, IsFirstBad, IsSource, total_of, total_limit}
 use Rattle.jr_top.specs.Scripts.{HoldsScript}
 
 -- what isn't UTF-8 to its end is no text
-pub no_text : (bytes : List ℕ) (valid : ℕ) → IsValidUpTo bytes valid → IsText bytes → ⊥
+no_text : (bytes : List ℕ) (valid : ℕ) → IsValidUpTo bytes valid → IsText bytes → ⊥
 no_text bytes valid invalid text = invalid.longest (length bytes) invalid.short (subst (λ front. IsUtf8 front) (sym (take-length bytes)) text.utf8)
 
 -- a text that is within all limits has no fault
@@ -30,7 +30,7 @@ no_fault before bytes (TotalTooLong len) text within fault = let told = fault.1 
 no_fault before bytes (TooMany count) text within fault = fault
 
 -- where a name holds a text that is within all limits, no fault is held there
-holds_no_fault : (held : Files) (name bytes : List ℕ) (before : ℕ) (fault : SourceFault) → map.get held name ≡ Some bytes → IsText bytes → before + length bytes ≤ total_limit
+pub holds_no_fault : (held : Files) (name bytes : List ℕ) (before : ℕ) (fault : SourceFault) → map.get held name ≡ Some bytes → IsText bytes → before + length bytes ≤ total_limit
     → HoldsFault before (Some held) name fault → ⊥
 holds_no_fault held name bytes before fault is text within has =
     no_fault before bytes fault text within (subst (λ (o : Option (List ℕ)). IsSomeAnd o (λ b. HasFault before b fault)) is has)
@@ -105,8 +105,3 @@ faulty_no_text held name fault has = of (map.get held name) has
     of : (o : Option (List ℕ)) → IsSomeAnd o (λ b. HasFault 0 b fault) → IsSomeAnd o (λ b. IsText b → ⊥)
     of None h = h
     of (Some bytes) h = λ text. let small = text.within in no_fault 0 bytes fault text (omega (arith, small)) h
-
--- a name that holds what isn't UTF-8 is not known to hold a text
-pub holds_no_text : (files : Option Files) (name bytes : List ℕ) (valid : ℕ) → Holds files name bytes → IsValidUpTo bytes valid → HoldsText files name → ⊥
-holds_no_text None name bytes valid held invalid text = text
-holds_no_text (Some files) name bytes valid held invalid text = no_text bytes valid invalid (subst (λ entry. IsSomeAnd entry IsText) held text)

@@ -1,14 +1,16 @@
 mod Beginning
 mod Changed
 mod EarlyEnds
+mod Everywhere
 mod Following
 mod InputLaws
+mod OneFile
 mod PutLaws
 mod RenameEnds
 mod Replying
+mod RanClauses
 mod RunEnds
 mod RunClauses
-mod RunLaws
 mod Served
 mod Settled
 mod Unwritten

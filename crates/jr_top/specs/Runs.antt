@@ -81,6 +81,11 @@ pub record HadNoFault (shelf_before shelf_after sink_before sink_after : ℕ) : 
 
 -- ---- for private clauses
 
+-- how a run ends whose words gave no command
+abbrev pub IsUnasked : List (List ℕ) → Status → Type 0
+IsUnasked words s = ((s ≡ status.Usage) × MeanNothing words)
+    ⊎ ((s ≡ status.NoMemory) × MayWantMemory words)
+
 -- all that is known of a run of the command which ended by this status
 pub record Comes (command : Command) (end : Status) (files files' : Option Files)
     (missed missed' : Option (List ℕ)) (faults faults' served served' : ℕ)
@@ -106,3 +111,22 @@ pub record Comes (command : Command) (end : Status) (files files' : Option Files
   pub faults_stay : OnNoFileFault end (faults' ≡ faults)
   pub put_grow : put_faults ≤ put_faults'
   pub put_stay : OnAnswer end (put_faults' ≡ put_faults)
+
+-- what shelf and sink were is what they are
+pub record AreUntouched (files files' : Option Files) (missed missed' : Option (List ℕ))
+    (faults faults' put_faults put_faults' : ℕ) : Type 0 where
+  pub keeps : files' ≡ files
+  pub missed_stays : OnSome files (missed' ≡ missed)
+  pub faults_stay : faults' ≡ faults
+  pub put_stay : put_faults' ≡ put_faults
+
+-- all that is known of a run of the words which ended by this status: that of the command which
+-- they mean, or that there was none, or no memory to read it
+abbrev pub Ran : List (List ℕ) → Status → Option Files → Option Files → Option (List ℕ)
+    → Option (List ℕ) → ℕ → ℕ → ℕ → ℕ → Option (List ℕ) → Option (List ℕ) → ℕ → ℕ → Type 0
+Ran words end files files' missed missed' faults faults' served served' taken taken' put_faults
+    put_faults' =
+    (IsUnasked words end
+    × AreUntouched files files' missed missed' faults faults' put_faults put_faults')
+    ⊎ Ask words (λ command. Comes command end files files' missed missed' faults faults' served
+    served' taken taken' put_faults put_faults')

@@ -108,13 +108,6 @@ IsUnwritten (BadSource word fault) = Unit {0}
 IsUnwritten NoMemory = Unit {0}
 IsUnwritten _ = ⊥
 
--- a fact of how many files were stored, where the run came to its writing and had none to store
-abbrev pub OnWriting : Status → (ℕ → Type 0) → Type 0
-OnWriting Done P = P 0
-OnWriting Refused P = P 0
-OnWriting (WriteFault stored) P = P stored
-OnWriting _ P = Unit {0}
-
 -- it did all its work
 abbrev pub IsAnswer : Status → Type 0
 IsAnswer Done = Unit {0}
@@ -131,28 +124,3 @@ IsOfRun (BadScript fault) = Unit {0}
 IsOfRun (BadSource word fault) = Unit {0}
 IsOfRun NoMemory = Unit {0}
 IsOfRun _ = ⊥
-
--- how a run ends whose words mean a rename
-abbrev pub IsOfRename : Status → Type 0
-IsOfRename Done = Unit {0}
-IsOfRename Refused = Unit {0}
-IsOfRename (ReadFault word) = Unit {0}
-IsOfRename (WriteFault stored) = Unit {0}
-IsOfRename (BadSource word fault) = Unit {0}
-IsOfRename NoMemory = Unit {0}
-IsOfRename _ = ⊥
-
--- how a run may end before it has its source
-abbrev pub IsBeforeSource : Status → Type 0
-IsBeforeSource (ReadFault word) = Unit {0}
-IsBeforeSource (BadSource word fault) = Unit {0}
-IsBeforeSource NoMemory = Unit {0}
-IsBeforeSource _ = ⊥
-
--- how a run may end once it has its source
-abbrev pub IsAfterSource : Status → Type 0
-IsAfterSource Done = Unit {0}
-IsAfterSource Refused = Unit {0}
-IsAfterSource (WriteFault stored) = Unit {0}
-IsAfterSource NoMemory = Unit {0}
-IsAfterSource _ = ⊥

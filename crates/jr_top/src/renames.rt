@@ -1,31 +1,24 @@
-ghost use Rattle.std.specs.Prelude.{◌≡◌, ◌≤◌, ◌+◌, ◌⊎◌, IfErr, IfOk, OnErr, OnOk, OnSome, Some};
-ghost use Rattle.jr_shelf.specs.Counts.{Rose, RoseBy};
-ghost use Rattle.jr_shelf.specs.Sink.{AppendedInPart, with_bytes};
-ghost use Rattle.jr_small.specs.Answer.{Grants};
-ghost use Rattle.jr_files.specs.Sources.{HoldsFault, HoldsNoText, HoldsText, IsSource};
-ghost use Rattle.jr_top.specs.Statuses.{IsAfterSource, IsAnswerOrMemory, IsBadSourceOrMemory};
-ghost use Rattle.jr_top.specs.Statuses.{IsBeforeSource, IsOfRename};
-ghost use Rattle.jr_top.specs.Statuses.{OnAnswer, OnBadSource, OnDone, OnNoReadFault};
-ghost use Rattle.jr_top.specs.Statuses.{OnNothingWritten, OnReadFault, OnRefused, OnWriteFault};
-ghost use Rattle.jr_top.specs.Statuses.{OnWriting};
-ghost use Rattle.jr_top.specs.Renames.{IsEither, IsNewText, IsNoNewText, IsRefusalLine};
-ghost use Rattle.jr_top.specs.Renames.{TookAll, TookInPart};
-ghost use Rattle.jr_top.specs.Runs.{Comes, HadNoFault};
+ghost use Rattle.std.specs.Prelude.{◌≡◌, ℕ, List, IfErr, IfOk, OnOk, string_bytes};
+ghost use Rattle.jr_files.specs.Fetching.{Served};
+ghost use Rattle.jr_files.specs.Sources.{IsSource};
+ghost use Rattle.jr_top.specs.Ends.{EndsUnwritten};
+ghost use Rattle.jr_top.specs.Renames.{EndsAnswered, EndsPut};
+ghost use Rattle.jr_top.specs.Runs.{Comes};
+ghost use Rattle.jr_top.specs.Statuses.{OnNothingWritten};
 ghost use Rattle.jr_words.specs.Words.{rename as pure_rename};
 
-use crate::lines::refusal_line;
+use crate::answers::{Answer, answer_of};
 use crate::statuses::Status;
 use jr_files::SourceFault;
 use jr_shelf::{FetchFault, Shelf, Sink};
-use jr_small::{Outcome, rename};
 use jr_text::{Text, TextFault};
 use std::alloc::Global;
 
 // The number of the word FILE.
 const FILE: u32 = 1;
 
-/// Fetches the file, renames the local at the byte `at` of its source, and gives the sink the new
-/// text, or the line of the refusal.
+/// Fetches the file, renames what the identifier at the byte `at` of its source declares or is
+/// bound to, and gives the sink the new text, or the line of the refusal.
 pub(crate) fn rename_file<S: Shelf, K: Sink>(
     alloc: Global,
     file: &str,
@@ -40,99 +33,22 @@ pub(crate) fn rename_file<S: Shelf, K: Sink>(
         (K.taken sink.old) (K.taken sink.new) (K.faults sink.old) (K.faults sink.new) }
     ensures nothing_put { OnNothingWritten result (sink.new ≡ sink.old) }
 {
-    rename_in_file(alloc, file, at, name, shelf, sink)
-}
-
-// The same, in the words of a rename.
-fn rename_in_file<S: Shelf, K: Sink>(
-    alloc: Global,
-    file: &str,
-    at: u32,
-    name: &str,
-    shelf: &mut S,
-    sink: &mut K,
-) -> Status
-    ensures ends { IsOfRename result }
-    ensures done { OnDone result
-        (TookAll (IsNewText (S.holds shelf.old) file.now at name.now)
-        (K.taken sink.old) (K.taken sink.new)) }
-    ensures refused { OnRefused result
-        (TookAll (IsNoNewText (S.holds shelf.old) file.now at name.now)
-        (K.taken sink.old) (K.taken sink.new)) }
-
-    ensures read_fault_word { OnReadFault result (λ word. word ≡ 1) }
-    ensures read_fault { OnReadFault result (λ word.
-        Rose (S.faults shelf.old) (S.faults shelf.new)) }
-    ensures read_fault_missed { OnReadFault result (λ word.
-        OnSome (S.holds shelf.old) (S.missed shelf.new ≡ Some file.now)) }
-    ensures read_fault_served { OnReadFault result (λ word.
-        RoseBy 0 (S.served shelf.old) (S.served shelf.new)) }
-
-    ensures write_fault_stored { OnWriteFault result (λ stored. stored ≡ 0) }
-    ensures write_fault { OnWriteFault result (λ stored.
-        Rose (K.faults sink.old) (K.faults sink.new)) }
-    ensures write_fault_in_part { OnWriteFault result (λ stored.
-        TookInPart (IsEither (S.holds shelf.old) file.now at name.now)
-        (K.taken sink.old) (K.taken sink.new)) }
-
-    ensures bad_source_word { OnBadSource result (λ word fault. word ≡ 1) }
-    ensures bad_source { OnBadSource result (λ word fault.
-        HoldsFault 0 (S.holds shelf.old) file.now fault) }
-    ensures no_source { HoldsNoText (S.holds shelf.old) file.now
-        → HadNoFault (S.faults shelf.old) (S.faults shelf.new)
-        (K.faults sink.old) (K.faults sink.new)
-        → IsBadSourceOrMemory result }
-    ensures complete { HoldsText (S.holds shelf.old) file.now
-        → HadNoFault (S.faults shelf.old) (S.faults shelf.new)
-        (K.faults sink.old) (K.faults sink.new)
-        → IsAnswerOrMemory result }
-
-    ensures nothing_put { OnNothingWritten result (sink.new ≡ sink.old) }
-    ensures keeps { S.holds shelf.new ≡ S.holds shelf.old }
-    ensures missed { OnNoReadFault result
-        (OnSome (S.holds shelf.old) (S.missed shelf.new ≡ S.missed shelf.old)) }
-    ensures served { OnWriting result (λ stored.
-        RoseBy (stored + 1) (S.served shelf.old) (S.served shelf.new)) }
-    ensures shelf_faults { S.faults shelf.old ≤ S.faults shelf.new }
-    ensures shelf_faults_stay { OnNoReadFault result (S.faults shelf.new ≡ S.faults shelf.old) }
-    ensures sink_faults { K.faults sink.old ≤ K.faults sink.new }
-    ensures sink_faults_stay { OnAnswer result (K.faults sink.new ≡ K.faults sink.old) }
-{
     match fetch_source(alloc, file, shelf) {
         Err(status) => status,
-        Ok(source) => rename_in_source(alloc, file, &source, at, name, sink),
+        Ok(source) => rename_in_source(alloc, file, source, at, name, sink),
     }
 }
 
 // The source that the file holds, or how the run ends where there is none.
 fn fetch_source<S: Shelf>(alloc: Global, file: &str, shelf: &mut S) -> Result<Text, Status>
     ensures ok { IfOk result (λ source. IsSource (S.holds shelf.old) file.now source) }
-    ensures ends { IfErr result IsBeforeSource }
-
-    ensures read_fault_word { IfErr result (λ status. OnReadFault status (λ word. word ≡ 1)) }
-    ensures read_fault { IfErr result (λ status. OnReadFault status (λ word.
-        Rose (S.faults shelf.old) (S.faults shelf.new))) }
-    ensures read_fault_missed { IfErr result (λ status. OnReadFault status (λ word.
-        OnSome (S.holds shelf.old) (S.missed shelf.new ≡ Some file.now))) }
-    ensures read_fault_served { IfErr result (λ status. OnReadFault status (λ word.
-        RoseBy 0 (S.served shelf.old) (S.served shelf.new))) }
-
-    ensures bad_source_word { IfErr result (λ status. OnBadSource status (λ word fault. word ≡ 1)) }
-    ensures bad_source { IfErr result (λ status. OnBadSource status (λ word fault.
-        HoldsFault 0 (S.holds shelf.old) file.now fault)) }
-    ensures bad_source_only { IfErr result (λ status. OnBadSource status (λ word fault.
-        HoldsText (S.holds shelf.old) file.now → ⊥)) }
-
-    ensures keeps { S.holds shelf.new ≡ S.holds shelf.old }
-    ensures missed_ok { OnOk result
-        (OnSome (S.holds shelf.old) (S.missed shelf.new ≡ S.missed shelf.old)) }
-    ensures missed_err { IfErr result (λ status. OnNoReadFault status
-        (OnSome (S.holds shelf.old) (S.missed shelf.new ≡ S.missed shelf.old))) }
-    ensures served { OnOk result (RoseBy 1 (S.served shelf.old) (S.served shelf.new)) }
-    ensures faults { S.faults shelf.old ≤ S.faults shelf.new }
-    ensures faults_stay_ok { OnOk result (S.faults shelf.new ≡ S.faults shelf.old) }
-    ensures faults_stay_err { IfErr result (λ status.
-        OnNoReadFault status (S.faults shelf.new ≡ S.faults shelf.old)) }
+    ensures served { OnOk result (Served 1
+        (S.holds shelf.old) (S.holds shelf.new) (S.missed shelf.old) (S.missed shelf.new)
+        (S.faults shelf.old) (S.faults shelf.new) (S.served shelf.old) (S.served shelf.new)) }
+    ensures err { IfErr result (λ status. (at : ℕ) (name : List ℕ) → EndsUnwritten
+        (pure_rename file.now at name) status
+        (S.holds shelf.old) (S.holds shelf.new) (S.missed shelf.old) (S.missed shelf.new)
+        (S.faults shelf.old) (S.faults shelf.new) (S.served shelf.old) (S.served shelf.new)) }
 {
     let bytes = match shelf.fetch(alloc, file) {
         Ok(bytes) => bytes,
@@ -154,61 +70,38 @@ fn bad_source(fault: SourceFault) -> Status
     Status::BadSource { word: FILE, fault }
 }
 
-// Renames the local at the byte `at` of the source, and gives the sink the new text, or the line of
-// the refusal.
+// Does the one step to the source, and gives the sink the new text, or the line of the refusal.
 fn rename_in_source<K: Sink>(
     alloc: Global,
     file: &str,
-    source: &Text,
+    source: Text,
     at: u32,
     name: &str,
     sink: &mut K,
 ) -> Status
-    ensures ends { IsAfterSource result }
-    ensures done { OnDone result
-        (TookAll (Grants source.now at name.now) (K.taken sink.old) (K.taken sink.new)) }
-    ensures refused { OnRefused result
-        (TookAll (IsRefusalLine file.now source.now at name.now)
-        (K.taken sink.old) (K.taken sink.new)) }
-    ensures write_fault_stored { OnWriteFault result (λ stored. stored ≡ 0) }
-    ensures write_fault { OnWriteFault result (λ stored.
-        Rose (K.faults sink.old) (K.faults sink.new)) }
-    ensures write_fault_in_part { OnWriteFault result (λ stored.
-        TookInPart (λ output.
-        Grants source.now at name.now output ⊎ IsRefusalLine file.now source.now at name.now output)
-        (K.taken sink.old) (K.taken sink.new)) }
+    ensures answered { EndsAnswered file.now source at name.now result
+        (K.taken sink.old) (K.taken sink.new) (K.faults sink.old) (K.faults sink.new) }
     ensures nothing_put { OnNothingWritten result (sink.new ≡ sink.old) }
-    ensures faults { K.faults sink.old ≤ K.faults sink.new }
-    ensures faults_stay { OnAnswer result (K.faults sink.new ≡ K.faults sink.old) }
 {
-    match rename(alloc, source, at, name) {
+    match answer_of(alloc, file, source, at, name) {
         Err(_) => Status::NoMemory,
-        Ok(Outcome::Renamed(text)) => match put(sink, text.as_str()) {
-            Ok(()) => Status::Done,
-            Err(fault) => fault,
-        },
-        Ok(Outcome::Refused(refusal)) => match refusal_line(alloc, file, at, name, &refusal) {
-            Err(_) => Status::NoMemory,
-            Ok(line) => match put(sink, line.as_str()) {
-                Ok(()) => Status::Refused,
-                Err(fault) => fault,
-            },
-        },
+        Ok(answer) => put(sink, &answer),
     }
 }
 
-// Gives the sink the output, or says how the run ends where the sink failed.
-fn put<K: Sink>(sink: &mut K, output: &str) -> Result<(), Status>
-    ensures ok { OnOk result (K.taken sink.new ≡ with_bytes (K.taken sink.old) output.now) }
-    ensures fault { IfErr result (λ status. status ≡ Status.WriteFault 0) }
-    ensures failed { OnErr result (Rose (K.faults sink.old) (K.faults sink.new)) }
-    ensures in_part { OnErr result
-        (AppendedInPart (K.taken sink.old) (K.taken sink.new) output.now) }
-    ensures faults { K.faults sink.old ≤ K.faults sink.new }
-    ensures faults_stay { OnOk result (K.faults sink.new ≡ K.faults sink.old) }
+// Gives the sink the answer, and says how the run ends.
+fn put<K: Sink>(sink: &mut K, answer: &Answer) -> Status
+    ensures { EndsPut answer.now.refused (string_bytes answer.now.output) result
+        (K.taken sink.old) (K.taken sink.new) (K.faults sink.old) (K.faults sink.new) }
 {
-    match sink.put(output.as_bytes()) {
-        Ok(()) => Ok(()),
-        Err(_) => Err(Status::WriteFault { stored: 0 }),
+    match sink.put(answer.output.as_bytes()) {
+        Err(_) => Status::WriteFault { stored: 0 },
+        Ok(()) => {
+            if answer.refused {
+                Status::Refused
+            } else {
+                Status::Done
+            }
+        }
     }
 }

@@ -1,7 +1,8 @@
-//! The steps of a script, done by a session.
+//! Steps done by a session.
 ghost use Rattle.std.specs.Prelude.{◌≡◌, ◌<◌, ◌↔◌, All, map, IfOk, IsTrue};
 ghost use Rattle.jr_names.specs.ReplyView.{reply_of};
 ghost use Rattle.jr_session.specs.Serving.{IsServed};
+ghost use Rattle.jr_session.specs.Stepping as pure;
 ghost use Rattle.jr_top.specs.Scripts.{Follow, HasNoRefusal, HasRefusal, IsRefusal};
 ghost use Rattle.jr_top.specs.Statuses.{IsAnswer, OnDone, OnRefused};
 
@@ -47,6 +48,37 @@ fn take_counted<L: Ledger>(
         replies.push(reply)?;
     }
     Ok(replies)
+}
+
+/// What the session answers to the step.
+pub(crate) fn take_step(
+    alloc: Global,
+    session: &mut Session,
+    step: &Step,
+) -> Result<Reply, AllocError>
+    requires { IsServed step.now }
+    ensures { IfOk result (λ reply.
+        pure.Steps session.old step.now (reply_of reply) session.new) }
+{
+    take_one::<Brand>(alloc, session, step, Blank::new(1))
+}
+
+// The same, with a counter of what is bound, of which nothing is asked.
+fn take_one<L: Ledger>(
+    alloc: Global,
+    session: &mut Session,
+    step: &Step,
+    blank: Blank,
+) -> Result<Reply, AllocError>
+    requires served { IsServed step.now }
+    requires name { blank.name ≡ L.name }
+    requires parts { blank.parts ≡ L.parts }
+    requires some { 0 < L.parts }
+    ensures { IfOk result (λ reply.
+        pure.Steps session.old step.now (reply_of reply) session.new) }
+{
+    let mut counter = Steps::<L>::new(blank);
+    session.step(alloc, step, &mut counter)
 }
 
 /// How a run ends whose steps have these replies, once all is written.

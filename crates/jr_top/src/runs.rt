@@ -4,7 +4,7 @@ ghost use Rattle.jr_words.specs.Words.{MeanNothing, texts_of};
 ghost use Rattle.jr_top.specs.Ends.{HasBadScript, HasBadSource, ReadsUpTo};
 ghost use Rattle.jr_top.specs.Outputs.{WroteAll, WroteInPart};
 ghost use Rattle.jr_top.specs.Runs.{Answers, Ask, AskOfGoodInput, AskOfNoScript, AskOfNoSource};
-ghost use Rattle.jr_top.specs.Runs.{FetchesAt, Grants, HadNoFault, IsMisuse, Refuses};
+ghost use Rattle.jr_top.specs.Runs.{FetchesAt, Grants, HadNoFault, IsMisuse, Ran, Refuses};
 ghost use Rattle.jr_top.specs.Statuses.{IsAnswerOrMemory, IsBadScriptOrMemory};
 ghost use Rattle.jr_top.specs.Statuses.{IsBadSourceOrMemory, OnAnswer, OnBadScript, OnBadSource};
 ghost use Rattle.jr_top.specs.Statuses.{OnDone, OnNoFileFault, OnNoReadFault, OnNothingWritten};
@@ -19,8 +19,9 @@ use std::alloc::Global;
 
 /// Does what the words ask for, with the files of the shelf, and gives the sink the output.
 ///
-/// `rename FILE AT NAME` renames the local at the byte AT of the file. The output is the new text,
-/// or the line of the refusal, and nothing is stored.
+/// `rename FILE AT NAME` renames what the identifier at the byte AT of the file declares or is
+/// bound to, in a session that has this file alone. The output is the new text, or the line
+/// `refused NUMBER TEXT` of the refusal, and nothing is stored.
 ///
 /// `run [--out DIR] SCRIPT FILE..` does the steps of the script to the files, a refused step
 /// followed by the next. Each file whose text at the end isn't the text that was read is stored, in
@@ -109,6 +110,23 @@ pub fn run<S: Shelf, K: Sink>(
     ensures sink_faults_stay { OnAnswer result (K.faults sink.new ≡ K.faults sink.old) }
 {
     words_mean_one_command();
+    run_words(alloc, words, shelf, sink)
+}
+
+// The same, with all that is known of the run in one clause.
+fn run_words<S: Shelf, K: Sink>(
+    alloc: Global,
+    words: &[String],
+    shelf: &mut S,
+    sink: &mut K,
+) -> Status
+    ensures ran { Ran (texts_of words.now) result
+        (S.holds shelf.old) (S.holds shelf.new) (S.missed shelf.old) (S.missed shelf.new)
+        (S.faults shelf.old) (S.faults shelf.new) (S.served shelf.old) (S.served shelf.new)
+        (K.taken sink.old) (K.taken sink.new) (K.faults sink.old) (K.faults sink.new) }
+    ensures unread { MeanNothing (texts_of words.now) → shelf.new ≡ shelf.old }
+    ensures nothing_put { OnNothingWritten result (sink.new ≡ sink.old) }
+{
     match read_words(alloc, words) {
         Err(WordsFault::Usage) => Status::Usage,
         Err(WordsFault::Memory) => Status::NoMemory,

@@ -24,7 +24,7 @@ pub struct Operand<'a> {
 /// What a command line asks for.
 #[derive(Debug, Drop)]
 pub enum Command<'a> {
-    /// To give the local at the byte `at` of the file the name.
+    /// To give what the identifier at the byte `at` of the file declares or is bound to the name.
     Rename {
         file: &'a str,
         at: u32,

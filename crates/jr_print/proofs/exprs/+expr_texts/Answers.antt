@@ -1,8 +1,9 @@
 use Rattle.std.proofs.Common.{◌++◌, refl, sym, ap, ◌∙◌}
 use Rattle.std.specs.Prelude.{codes}
 use Rattle.std.proofs.lemmas.Result.{on_ok_weaker}
-use Rattle.jr_print.specs.ExpressionText.{printed, printed_target, printed_args, printed_type}
-use Rattle.jr_print.proofs.Puts.{put_three, call_text}
+use Rattle.std.proofs.lemmas.List.{append_assoc}
+use Rattle.jr_print.specs.ExpressionText.{printed, printed_target, printed_args, printed_more, printed_type, printed_dot, printed_unary, before_text, behind_text, printed_binary, printed_compound}
+use Rattle.jr_print.proofs.Puts.{put_one, put_two, put_three, put_four, put_item, put_all, call_text, cast_text}
 use Rattle.jr_ast.specs.View.{word_of, type_of, expr_of, exprs_of, target_of, expr_kind, expr_row, held_target}
 use Rattle.jr_ast.proofs.Rows.{expr_kind-Call_to, expr_kind-SuperCall, expr_kind-New}
 use Rattle.jr_ast.proofs.Sizes.{exp_size, exps_size, target_size}
@@ -177,3 +178,150 @@ expr-returns-in_ok-ty-in-New g t c =
     let view = ap (λ d. printed (expr_kind m d)) at.is ∙ ap printed (expr_kind-New _ m at.of_type at.args) in
     let text = ap (λ es. codes "new " ++ (printed_type (type_of at.of_type) ++ (codes "(" ++ printed_args (exprs_of es) ++ codes ")"))) c.deref-in-New.ensures.value in
     on_ok_weaker c.arguments-in-New.result (λ e. put_three _ _ _ _ _ _ _ _ c.in_ok-put-in-New.ensures c.in_ok-ty-in-New.ensures e (text ∙ call_text (codes "new ") (printed_type (type_of at.of_type)) _ ∙ sym view)) c.arguments-in-New.ensures
+
+pub expr-returns-in-Int : goal.expr-returns-in-Int
+unfolding expr_kind expr_row held_target
+expr-returns-in-Int g t c =
+    let view = ap (λ d. printed (expr_kind c.args.of.now.mark d)) c.in-Int.is in
+    on_ok_weaker c.number.result (λ e. put_one _ _ _ _ e (sym view)) c.number.ensures
+
+pub expr-returns-in-Bool : goal.expr-returns-in-Bool
+unfolding expr_kind expr_row held_target
+expr-returns-in-Bool g t c =
+    let view = ap (λ d. printed (expr_kind c.args.of.now.mark d)) c.in-Bool.is in
+    on_ok_weaker c.put.result (λ e. put_one _ _ _ _ e (c.truth.ensures ∙ sym view)) c.put.ensures
+
+pub expr-returns-in-Null : goal.expr-returns-in-Null
+unfolding expr_kind expr_row held_target
+expr-returns-in-Null g t c =
+    let view = ap (λ d. printed (expr_kind c.args.of.now.mark d)) c.in-Null.is in
+    on_ok_weaker c.put-in-Null.result (λ e. put_one _ _ _ _ e (sym view)) c.put-in-Null.ensures
+
+pub expr-returns-in-Text : goal.expr-returns-in-Text
+unfolding expr_kind expr_row held_target
+expr-returns-in-Text g t c =
+    let view = ap (λ d. printed (expr_kind c.args.of.now.mark d)) c.in-Text.is in
+    on_ok_weaker c.string.result (λ e. put_one _ _ _ _ e (sym view)) c.string.ensures
+
+pub expr-returns-in-Simple : goal.expr-returns-in-Simple
+unfolding expr_kind expr_row held_target
+expr-returns-in-Simple g t c =
+    let view = ap (λ d. printed (expr_kind c.args.of.now.mark d)) c.in-Simple.is in
+    on_ok_weaker c.word.result (λ e. put_one _ _ _ _ e (sym view)) c.word.ensures
+
+pub expr-returns-in-This : goal.expr-returns-in-This
+unfolding expr_kind expr_row held_target
+expr-returns-in-This g t c =
+    let view = ap (λ d. printed (expr_kind c.args.of.now.mark d)) c.in-This.is in
+    on_ok_weaker c.put-in-This.result (λ e. put_one _ _ _ _ e (sym view)) c.put-in-This.ensures
+
+pub expr-returns-in_ok-put-in-Field : goal.expr-returns-in_ok-put-in-Field
+unfolding expr_kind expr_row held_target
+expr-returns-in_ok-put-in-Field g t c =
+    let at = c.in-Field in
+    let view = ap (λ d. printed (expr_kind c.args.of.now.mark d)) at.is in
+    let part = printed (expr_of at.part.value) in
+    let name = (word_of at.name).text in
+    let mid = c.dot.ensures ∙ ap (λ x. printed_dot (expr_of x)) c.deref-in-Field.ensures in
+    let text = (λ i. printed (expr_of (c.deref.ensures i)) ++ (mid i ++ name)) ∙ sym (append_assoc part (printed_dot (expr_of at.part.value)) name) in
+    on_ok_weaker c.word-in-Field.result (λ e. put_three _ _ _ _ _ _ _ _ c.in_ok-expr-in-Field.ensures c.in_ok-put-in-Field.ensures e (text ∙ sym view)) c.word-in-Field.ensures
+
+pub expr-returns-in_ok-put-in-SuperField : goal.expr-returns-in_ok-put-in-SuperField
+unfolding expr_kind expr_row held_target
+expr-returns-in_ok-put-in-SuperField g t c =
+    let at = c.in-SuperField in
+    let view = ap (λ d. printed (expr_kind c.args.of.now.mark d)) at.is in
+    on_ok_weaker c.word-in-SuperField.result (λ e. put_two _ _ _ _ _ _ c.in_ok-put-in-SuperField.ensures e (sym view)) c.word-in-SuperField.ensures
+
+pub expr-returns-in_ok-ty-in-ClassLit : goal.expr-returns-in_ok-ty-in-ClassLit
+unfolding expr_kind expr_row held_target
+expr-returns-in_ok-ty-in-ClassLit g t c =
+    let at = c.in-ClassLit in
+    let view = ap (λ d. printed (expr_kind c.args.of.now.mark d)) at.is in
+    on_ok_weaker c.put-in-ClassLit.result (λ e. put_two _ _ _ _ _ _ c.in_ok-ty-in-ClassLit.ensures e (sym view)) c.put-in-ClassLit.ensures
+
+pub expr-returns-in_ok-expr-in-Paren : goal.expr-returns-in_ok-expr-in-Paren
+unfolding expr_kind expr_row held_target
+expr-returns-in_ok-expr-in-Paren g t c =
+    let at = c.in-Paren in
+    let view = ap (λ d. printed (expr_kind c.args.of.now.mark d)) at.is in
+    let text = ap (λ x. codes "(" ++ (printed (expr_of x) ++ codes ")")) c.deref-in-Paren.ensures in
+    on_ok_weaker c.put-in-Paren-2.result (λ e. put_three _ _ _ _ _ _ _ _ c.in_ok-put-in-Paren.ensures c.in_ok-expr-in-Paren.ensures e (text ∙ sym view)) c.put-in-Paren-2.ensures
+
+pub expr-returns-in_ok-put-in-Cast-2 : goal.expr-returns-in_ok-put-in-Cast-2
+unfolding expr_kind expr_row held_target
+expr-returns-in_ok-put-in-Cast-2 g t c =
+    let at = c.in-Cast in
+    let view = ap (λ d. printed (expr_kind c.args.of.now.mark d)) at.is in
+    let to = printed_type (type_of at.to) in
+    let text = ap (λ x. codes "(" ++ (to ++ (codes ") " ++ printed (expr_of x)))) c.deref-in-Cast.ensures ∙ cast_text to (printed (expr_of at.part.value)) in
+    on_ok_weaker c.expr-in-Cast.result (λ e. put_four _ _ _ _ _ _ _ _ _ _ c.in_ok-put-in-Cast.ensures c.in_ok-ty-in-Cast.ensures c.in_ok-put-in-Cast-2.ensures e (text ∙ sym view)) c.expr-in-Cast.ensures
+
+pub expr-returns-in_ok-put-in-Unary : goal.expr-returns-in_ok-put-in-Unary
+unfolding expr_kind expr_row held_target
+expr-returns-in_ok-put-in-Unary g t c =
+    let at = c.in-Unary in
+    let view = ap (λ d. printed (expr_kind c.args.of.now.mark d)) at.is in
+    let sign = c.before_operand.result.now in
+    let text = ap (λ x. sign ++ printed (expr_of x)) (c.deref-in-Unary-2.ensures ∙ sym c.deref-in-Unary.ensures) ∙ c.before_operand.ensures ∙ ap (λ x. printed_unary at.op (printed (expr_of x))) c.deref-in-Unary.ensures in
+    on_ok_weaker c.expr-in-Unary.result (λ e. put_two _ _ _ _ _ _ c.in_ok-put-in-Unary.ensures e (text ∙ sym view)) c.expr-in-Unary.ensures
+
+pub expr-returns-in_ok-expr-in-Bump : goal.expr-returns-in_ok-expr-in-Bump
+unfolding expr_kind expr_row held_target
+expr-returns-in_ok-expr-in-Bump g t c =
+    let at = c.in-Bump in
+    let view = ap (λ d. printed (expr_kind c.args.of.now.mark d)) at.is in
+    let before = c.before_bumped.ensures in
+    let behind = c.behind_bumped.ensures in
+    let text = (λ i. before i ++ (printed (expr_of (c.deref-in-Bump.ensures i)) ++ behind i)) ∙ sym (append_assoc (before_text at.op) (printed (expr_of at.part.value)) (behind_text at.op)) in
+    on_ok_weaker c.put-in-Bump-2.result (λ e. put_three _ _ _ _ _ _ _ _ c.in_ok-put-in-Bump.ensures c.in_ok-expr-in-Bump.ensures e (text ∙ sym view)) c.put-in-Bump-2.ensures
+
+pub expr-returns-in_ok-put-in-Binary : goal.expr-returns-in_ok-put-in-Binary
+unfolding expr_kind expr_row held_target
+expr-returns-in_ok-put-in-Binary g t c =
+    let at = c.in-Binary in
+    let view = ap (λ d. printed (expr_kind c.args.of.now.mark d)) at.is in
+    let symbol = c.binary.ensures in
+    let text = (λ i. printed (expr_of (c.deref-in-Binary.ensures i)) ++ (symbol i ++ printed (expr_of (c.deref-in-Binary-2.ensures i)))) ∙ sym (append_assoc (printed (expr_of at.left.value)) (printed_binary at.op) (printed (expr_of at.right.value))) in
+    on_ok_weaker c.expr-in-Binary-2.result (λ e. put_three _ _ _ _ _ _ _ _ c.in_ok-expr-in-Binary.ensures c.in_ok-put-in-Binary.ensures e (text ∙ sym view)) c.expr-in-Binary-2.ensures
+
+pub expr-returns-in_ok-put-in-Compound : goal.expr-returns-in_ok-put-in-Compound
+unfolding expr_kind expr_row held_target
+expr-returns-in_ok-put-in-Compound g t c =
+    let at = c.in-Compound in
+    let view = ap (λ d. printed (expr_kind c.args.of.now.mark d)) at.is in
+    let symbol = c.compound.ensures in
+    let text = (λ i. printed (expr_of (c.deref-in-Compound.ensures i)) ++ (symbol i ++ printed (expr_of (c.deref-in-Compound-2.ensures i)))) ∙ sym (append_assoc (printed (expr_of at.to.value)) (printed_compound at.op) (printed (expr_of at.value.value))) in
+    on_ok_weaker c.expr-in-Compound-2.result (λ e. put_three _ _ _ _ _ _ _ _ c.in_ok-expr-in-Compound.ensures c.in_ok-put-in-Compound.ensures e (text ∙ sym view)) c.expr-in-Compound-2.ensures
+
+pub expr-returns-in_ok-put-in-Assign : goal.expr-returns-in_ok-put-in-Assign
+unfolding expr_kind expr_row held_target
+expr-returns-in_ok-put-in-Assign g t c =
+    let at = c.in-Assign in
+    let view = ap (λ d. printed (expr_kind c.args.of.now.mark d)) at.is in
+    let text = (λ i. printed (expr_of (c.deref-in-Assign.ensures i)) ++ (codes " = " ++ printed (expr_of (c.deref-in-Assign-2.ensures i)))) ∙ sym (append_assoc (printed (expr_of at.to.value)) (codes " = ") (printed (expr_of at.value.value))) in
+    on_ok_weaker c.expr-in-Assign-2.result (λ e. put_three _ _ _ _ _ _ _ _ c.in_ok-expr-in-Assign.ensures c.in_ok-put-in-Assign.ensures e (text ∙ sym view)) c.expr-in-Assign-2.ensures
+
+pub target-returns-in_ok-expr-in-Some : goal.target-returns-in_ok-expr-in-Some
+target-returns-in_ok-expr-in-Some g t c =
+    let mid = c.dot.ensures ∙ ap (λ x. printed_dot (expr_of x)) c.deref-in-Some.ensures in
+    on_ok_weaker c.put.result (λ e. put_two _ _ _ _ _ _ c.in_ok-expr-in-Some.ensures e ((λ i. printed (expr_of (c.deref.ensures i)) ++ mid i) ∙ sym (ap (λ o. printed_target (target_of o)) c.in-Some.is))) c.put.ensures
+
+pub arguments-returns : goal.arguments-returns
+arguments-returns g t c =
+    let all = printed_args (exprs_of c.args.parts.now) in
+    on_ok_weaker c.put-2.result (λ e. put_three _ _ _ _ _ _ _ _ c.in_ok-put.ensures c.in_ok-list.ensures e (sym (append_assoc (codes "(") all (codes ")")))) c.put-2.ensures
+
+pub list-returns-in_ok-expr-in-Some : goal.list-returns-in_ok-expr-in-Some
+list-returns-in_ok-expr-in-Some g t c =
+    let view = ap (λ xs. printed_args (exprs_of xs)) c.in-Some.ensures.cases.0 in
+    on_ok_weaker c.more.result (λ e. put_two _ _ _ _ _ _ c.in_ok-expr-in-Some.ensures e (sym view)) c.more.ensures
+
+pub more-loop-part-preserved : goal.more-loop-part-preserved
+more-loop-part-preserved g t c =
+    put_item (λ xs. printed_more (exprs_of xs)) (λ x. codes ", " ++ printed (expr_of x)) (λ x xs. refl) _ _ _ c.args.parts.now c.loop-part.part-index c.part-item.result
+    c.loop-part-test.true c.part-item.is (put_two _ _ _ _ _ _ c.in_ok-put.ensures c.in_ok-expr.ensures refl) c.loop-part.invariant
+
+pub more-returns : goal.more-returns
+more-returns g t c =
+    put_all (λ xs. printed_more (exprs_of xs)) (λ x. codes ", " ++ printed (expr_of x)) (λ x xs. refl) _ _ c.args.parts.now c.loop-part.part-index c.loop-part-test.false refl c.loop-part.invariant

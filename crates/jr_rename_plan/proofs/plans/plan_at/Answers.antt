@@ -10,8 +10,8 @@ use Rattle.jr_rename_plan.specs.Plans.{Plans}
 use Rattle.jr_rename_plan.proofs.Answering.{there, plans}
 use Rattle.jr_rename_plan.proofs.plans.plan_at.Goals as goal
 
-pub of_target-requires-clause-own : goal.of_target-requires-clause-own
-of_target-requires-clause-own g c =
+pub of_target-outcome-requires-clause-own : goal.of_target-outcome-requires-clause-own
+of_target-outcome-requires-clause-own g c =
     let p = g.V.View.program c.args.view.now in
     let has = subst (λ o. MatchOption o (LacksTargetAt p c.args.file c.args.at) (λ d. HasTargetAt p c.args.file c.args.at (decl_of d))) c.in-Some.is c.in_ok-target.ensures in
     let f = there p.files c.args.file c.requires.file in (has f.0 f.1).own
@@ -26,5 +26,5 @@ pub returns-in-Some : goal.returns-in-Some
 returns-in-Some g c =
     let p = g.V.View.program c.args.view.now in
     let has = subst (λ o. MatchOption o (LacksTargetAt p c.args.file c.args.at) (λ d. HasTargetAt p c.args.file c.args.at (decl_of d))) c.in-Some.is c.in_ok-target.ensures in
-    IfOk-weaker c.of_target.result (λ o. Answers p (decl_of c.in-Some.target) c.args.new.now (outcome_of o)) (λ o. Plans p c.args.file c.args.at c.args.new.now (outcome_of o))
-    (λ o h. plans p c.args.file c.args.at c.args.new.now (decl_of c.in-Some.target) has (outcome_of o) h) c.of_target.ensures
+    IfOk-weaker c.of_target-outcome.result (λ o. Answers p (decl_of c.in-Some.target) c.args.new.now (outcome_of o)) (λ o. Plans p c.args.file c.args.at c.args.new.now (outcome_of o))
+    (λ o h. plans p c.args.file c.args.at c.args.new.now (decl_of c.in-Some.target) has (outcome_of o) h) c.of_target-outcome.ensures

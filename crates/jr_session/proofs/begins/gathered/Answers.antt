@@ -1,9 +1,8 @@
-use Rattle.std.proofs.Common.{◌≡◌, ◌≤◌, ◌<◌, ◌++◌, ◌∷◌, [], ℕ, List, length, subst, refl, arith, sym, ap, ◌∙◌, string_bytes}
-use Rattle.std.specs.Prelude.{Option, Some, None}
+use Rattle.std.proofs.Common.{◌≡◌, ◌≤◌, ◌++◌, ◌∷◌, [], ℕ, List, length, subst, refl, arith, sym, ◌∙◌, string_bytes}
 use Rattle.std.proofs.lemmas.Option.{MatchOption-at_some, MatchOption-at_none}
-use Rattle.jr_sources.specs.Sources.{Source, HasName, LacksFile, file_limit}
-use Rattle.jr_sources.specs.SourceView.{sources_of, source_of}
-use Rattle.jr_sources.proofs.Entries.{Gathered, none_gathered, gathered_more, gathered_all, gathered_same, room_for_more, length-sources}
+use Rattle.jr_sources.specs.Sources.{HasName, LacksFile, file_limit}
+use Rattle.jr_sources.specs.SourceView.{source_of}
+use Rattle.jr_sources.proofs.Entries.{gathered_more, gathered_all, gathered_same, room_for_more, length-sources}
 use Rattle.jr_session.proofs.begins.gathered.Goals as goal
 
 no_items : {X : Type 0} (xs : List X) → length xs ≡ 0 → xs ≡ []

@@ -1,5 +1,3 @@
-use Rattle.std.proofs.Common.{◌≡◌, ◌++◌}
-use Rattle.jr_sources.specs.SourceView.{sources_of}
 use Rattle.jr_sources.proofs.Entries.{Gathered}
 use Rattle.jr_session.proofs.begins.gathered.Given as goal
 

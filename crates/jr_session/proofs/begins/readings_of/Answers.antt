@@ -1,4 +1,4 @@
-use Rattle.std.proofs.Common.{◌≡◌, ℕ, List, take, sym, subst}
+use Rattle.std.proofs.Common.{ℕ, List, take, sym, subst}
 use Rattle.jr_sources.specs.Sources.{texts_of}
 use Rattle.jr_sources.specs.KeptReadings.{AreReadings}
 use Rattle.jr_session.proofs.Places.{taken_more}

@@ -1,4 +1,3 @@
-use Rattle.std.proofs.Common.{◌≡◌, ℕ, ◌<◌, ◌≤◌, List, length}
 use Rattle.jr_session.specs.Making.{AreMadeUntil}
 use Rattle.jr_session.proofs.made.new_texts.Given as goal
 

@@ -1,4 +1,4 @@
-use Rattle.std.proofs.Common.{◌≡◌, ◌<◌, length, subst, arith}
+use Rattle.std.proofs.Common.{arith}
 use Rattle.jr_names.specs.ReplyView.{outcome_of}
 use Rattle.jr_sources.specs.WholeView.{whole_of}
 use Rattle.jr_session.proofs.Planning.{count, so_planned}

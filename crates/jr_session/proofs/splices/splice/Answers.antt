@@ -1,8 +1,7 @@
-use Rattle.std.proofs.Common.{◌≡◌, ◌<◌, ◌≤◌, ◌+◌, ◌-◌, ◌*◌, ℕ, List, length, sym, ap, subst, ◌∙◌, arith, inl, inr}
-use Rattle.jr_text.specs.Spans.{CanCut}
+use Rattle.std.proofs.Common.{◌≡◌, ◌≤◌, ◌+◌, ◌-◌, ℕ, List, length, sym, subst, arith, inl, inr}
 use Rattle.jr_text.specs.Splices.{replaced}
 use Rattle.jr_text.specs.Texts.{text_limit}
-use Rattle.jr_sources.specs.Sources.{texts_of, total_of, file_limit, with_text, total_limit}
+use Rattle.jr_sources.specs.Sources.{texts_of, with_text}
 use Rattle.jr_session.specs.Splicing.{WouldBeTooLong}
 use Rattle.jr_session.specs.Lengths.{AreTooLong}
 use Rattle.jr_session.proofs.LengthLaws.{old_counted, total_with, within_with, first_too_long, total_small}

@@ -1,5 +1,4 @@
-use Rattle.std.proofs.Common.{◌≡◌, ◌∷◌, ◌++◌, [], ◌<◌, List, Bool, length, refl, sym, ap, subst, ◌∙◌, arith, if◌then◌else◌}
-use Rattle.std.specs.Prelude.{vec_len, vec_capacity}
+use Rattle.std.proofs.Common.{◌≡◌, ◌∷◌, ◌++◌, [], List, Bool, refl, ap, ◌∙◌, arith, if◌then◌else◌}
 use Rattle.jr_session.specs.declared.changes.Earlier.{Earlier}
 use Rattle.jr_session.proofs.Turning.{changed_by}
 use Rattle.jr_session.proofs.turns.change.Goals as goal

@@ -1,5 +1,5 @@
 use Rattle.std.proofs.Common.{◌≡◌, ◌∷◌, ◌++◌, [], ℕ, List, Bool, set, sym, ap, subst, ◌∙◌, if◌then◌else◌}
-use Rattle.jr_sources.specs.Sources.{Source, texts_of}
+use Rattle.jr_sources.specs.Sources.{texts_of}
 use Rattle.jr_sources.specs.KeptReadings.{AreReadings}
 use Rattle.jr_sources.proofs.SourceLaws.{texts-with_text}
 use Rattle.jr_session.specs.declared.changes.Change.{Change}

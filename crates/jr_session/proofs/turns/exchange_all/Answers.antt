@@ -1,5 +1,5 @@
-use Rattle.std.proofs.Common.{◌≡◌, ◌∷◌, ◌++◌, [], ◌<◌, List, length, sym, ap, subst, ◌∙◌, arith}
-use Rattle.std.specs.Prelude.{Option, vec_len, vec_capacity, option_to_list}
+use Rattle.std.proofs.Common.{◌≡◌, ◌∷◌, ◌++◌, [], List, ap, subst, ◌∙◌, arith}
+use Rattle.std.specs.Prelude.{Option, vec_capacity, option_to_list}
 use Rattle.jr_sources.specs.declared.readings.Reading.{Reading}
 use Rattle.jr_session.specs.declared.changes.Change.{Change}
 use Rattle.jr_session.specs.Turns.{AreChangeReadings}

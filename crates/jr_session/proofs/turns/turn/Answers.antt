@@ -1,5 +1,5 @@
-use Rattle.std.proofs.Common.{◌≡◌, ◌∷◌, ◌++◌, [], List, Bool, length, refl, sym, ap, subst, ◌∙◌, arith, if◌then◌else◌}
-use Rattle.std.specs.Prelude.{Option, vec_len, vec_capacity, option_to_list}
+use Rattle.std.proofs.Common.{◌≡◌, ◌∷◌, ◌++◌, [], Bool, length, refl, ap, ◌∙◌, arith, if◌then◌else◌}
+use Rattle.std.specs.Prelude.{Option, option_to_list}
 use Rattle.jr_session.specs.declared.changes.Earlier.{Earlier}
 use Rattle.jr_session.proofs.Turning.{last_count, turned_by}
 use Rattle.jr_session.proofs.turns.turn.Goals as goal

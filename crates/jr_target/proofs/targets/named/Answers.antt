@@ -29,4 +29,4 @@ returns g c =
     let p = g.V.View.program c.args.view.now in
     let are : map written_of c.as_slice.result.now ≡ written_members begins p.rows (units_of p) =
     ap (map written_of) c.as_slice.ensures.value ∙ c.in_ok-members.ensures ∙ (λ i. written_members begins (c.table.ensures i) (c.units.ensures i)) in
-    IfOk-weaker c.has_listed.result _ _ (λ o h. listed_finds p c.keeps_program.ensures c.members_are_written.ensures c.parts_are_placed.ensures.parts c.as_slice.result.now are c.args.file c.args.at (option_map decl_of o) h) c.has_listed.ensures
+    IfOk-weaker c.has_listed-found.result _ _ (λ o h. listed_finds p c.keeps_program.ensures c.members_are_written.ensures c.parts_are_placed.ensures.parts c.as_slice.result.now are c.args.file c.args.at (option_map decl_of o) h) c.has_listed-found.ensures

@@ -1,11 +1,16 @@
-use Rattle.std.proofs.Common.{subst, sym}
-use Rattle.std.specs.Str.{IsValidUpTo}
-use Rattle.jr_text.specs.TextFaults.{IsTextFault}
-use Rattle.jr_top.proofs.InputLaws.{holds_no_text}
+use Rattle.std.proofs.Common.{inl, refl, []}
+use Rattle.jr_shelf.specs.Counts.{Rose}
+use Rattle.jr_words.specs.Words.{Operand, rename}
+use Rattle.jr_top.proofs.EarlyEnds.{ends_unread, script_unread, where_failed, where_missed}
 use Rattle.jr_top.proofs.renames.fetch_source.Goals as goal
 
-pub returns-in-Err-NotUtf8-clause-bad_source_only : goal.returns-in-Err-NotUtf8-clause-bad_source_only
-returns-in-Err-NotUtf8-clause-bad_source_only g c =
-    let fault = subst (λ f. IsTextFault c.as_slice.result.now f) c.in-Err-NotUtf8.field-0-is c.in-Err-NotUtf8.ensures.fault in
-    let invalid : IsValidUpTo c.in-Ok.bytes.items c.in-Err-NotUtf8.valid = rw (sym c.as_slice.ensures.value) fault.1 in
-    rw c.bad_source-in-Err-NotUtf8.ensures (holds_no_text _ _ _ _ c.in-Ok.ensures.ok invalid)
+pub returns-in-Err-Failed-clause-err : goal.returns-in-Err-Failed-clause-err
+returns-in-Err-Failed-clause-err g c = λ at name.
+    let is = c.in-Err-Failed.field-0-is in
+    let word : Operand = record { word = 1; text = c.args.file.now } in
+    ends_unread (rename c.args.file.now at name) 1
+    (script_unread (g.S.Shelf.holds c.args.shelf.now) word ([]) (g.S.Shelf.missed c.fetch.new.self) (g.S.Shelf.faults c.args.shelf.now) (g.S.Shelf.faults c.fetch.new.self) (g.S.Shelf.served c.args.shelf.now) (g.S.Shelf.served c.fetch.new.self)
+    (where_failed c.fetch.result (Rose (g.S.Shelf.faults c.args.shelf.now) (g.S.Shelf.faults c.fetch.new.self)) c.in-Err-Failed.field-0 is c.in-Err-Failed.ensures.failed)
+    (where_missed c.fetch.result (g.S.Shelf.holds c.args.shelf.now) (g.S.Shelf.missed c.args.shelf.now) (g.S.Shelf.missed c.fetch.new.self) c.args.file.now c.in-Err-Failed.field-0 is c.in-Err-Failed.ensures.missed)
+    c.in-Err-Failed.ensures.served)
+    refl c.in-Err-Failed.ensures.keeps c.in-Err-Failed.ensures.faults

@@ -1,27 +1,16 @@
-use Rattle.jr_top.proofs.RenameEnds.{rename_comes}
+use Rattle.jr_top.proofs.Everywhere.{at_nothing_written}
+use Rattle.jr_top.proofs.RenameEnds.{answered_comes, unread_comes}
+use Rattle.std.proofs.Common.{refl}
 use Rattle.jr_top.proofs.renames.rename_file.Goals as goal
 
-pub returns-clause-comes : goal.returns-clause-comes
-returns-clause-comes g c = rename_comes _ _ _ _ _ _ _ _ _ _ _ _ _ _ _ c.rename_in_file.result (record {
-  ends = c.rename_in_file.ensures.ends;
-  done = c.rename_in_file.ensures.done;
-  refused = c.rename_in_file.ensures.refused;
-  read_word = c.rename_in_file.ensures.read_fault_word;
-  read = c.rename_in_file.ensures.read_fault;
-  read_missed = c.rename_in_file.ensures.read_fault_missed;
-  read_served = c.rename_in_file.ensures.read_fault_served;
-  write_stored = c.rename_in_file.ensures.write_fault_stored;
-  write = c.rename_in_file.ensures.write_fault;
-  write_part = c.rename_in_file.ensures.write_fault_in_part;
-  bad_word = c.rename_in_file.ensures.bad_source_word;
-  bad = c.rename_in_file.ensures.bad_source;
-  keeps = c.rename_in_file.ensures.keeps;
-  missed_stays = c.rename_in_file.ensures.missed;
-  count = c.rename_in_file.ensures.served;
-  grow = c.rename_in_file.ensures.shelf_faults;
-  stay = c.rename_in_file.ensures.shelf_faults_stay;
-  put_grow = c.rename_in_file.ensures.sink_faults;
-  put_stay = c.rename_in_file.ensures.sink_faults_stay;
-  no_source = c.rename_in_file.ensures.no_source;
-  complete = c.rename_in_file.ensures.complete;
-})
+pub returns-in-Err-clause-comes : goal.returns-in-Err-clause-comes
+returns-in-Err-clause-comes g c = unread_comes c.args.file.now c.args.at c.args.name.now c.in-Err.status (c.in-Err.ensures.err c.args.at c.args.name.now)
+
+pub returns-in-Err-clause-nothing_put : goal.returns-in-Err-clause-nothing_put
+returns-in-Err-clause-nothing_put g c = at_nothing_written c.in-Err.status _ refl
+
+pub returns-in-Ok-clause-comes : goal.returns-in-Ok-clause-comes
+returns-in-Ok-clause-comes g c = answered_comes c.args.file.now c.args.at c.args.name.now _ _ _ _ c.in-Ok.source c.in-Ok.ensures.ok c.in-Ok.ensures.served c.rename_in_source.result c.rename_in_source.ensures.answered
+
+pub returns-in-Ok-clause-nothing_put : goal.returns-in-Ok-clause-nothing_put
+returns-in-Ok-clause-nothing_put g c = c.rename_in_source.ensures.nothing_put

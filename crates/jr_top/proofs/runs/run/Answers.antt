@@ -1,36 +1,69 @@
-use Rattle.std.proofs.Common.{◌≡◌, ◌<◌, ◌^◌, arith, length, map, subst, sym}
-use Rattle.std.proofs.lemmas.List.{length-map}
-use Rattle.jr_words.specs.Asked.{command_of, operand_of}
-use Rattle.jr_words.specs.Words.{Mean, run, texts_of}
-use Rattle.jr_top.specs.OutputView.{dir_of}
-use Rattle.jr_top.proofs.RunClauses.{no_source_of, read_in_order_of, read_missed_of}
-use Rattle.jr_top.proofs.WordPlaces.{few_files}
+use Rattle.jr_words.specs.Words.{texts_of}
+use Rattle.jr_top.proofs.RanClauses.{ran_bad_script, ran_bad_source, ran_complete, ran_done, ran_faults, ran_faults_stay, ran_missed, ran_misuse, ran_no_script, ran_no_source, ran_nothing_stored, ran_put_faults, ran_put_stay, ran_read_fault, ran_read_in_order, ran_read_missed, ran_read_served, ran_refused, ran_usage, ran_write_fault}
 use Rattle.jr_top.proofs.runs.run.Goals as goal
 
-pub run_script-requires-clause-count : goal.run_script-requires-clause-count
-run_script-requires-clause-count g c =
-    let mean = subst (λ k. Mean (texts_of c.args.words.now) (command_of k)) c.in-Ok-Run.field-0-is c.in-Ok-Run.ensures.ok in
-    let few = few_files (texts_of c.args.words.now) (dir_of c.in-Ok-Run.out) (operand_of c.in-Ok-Run.script) (map operand_of c.in-Ok-Run.files.items) mean in
-    let same = length-map c.in-Ok-Run.files.items operand_of in
-    subst (λ xs. length xs < 2 ^ 32) (sym c.as_slice.ensures.value) (omega (arith, few, same))
+pub returns-clause-usage : goal.returns-clause-usage
+returns-clause-usage g c = ran_usage (texts_of c.args.words.now) c.run_words.result c.run_words.ensures.ran
 
-pub returns-in-Ok-Run-clause-read_fault_missed : goal.returns-in-Ok-Run-clause-read_fault_missed
-returns-in-Ok-Run-clause-read_fault_missed g c =
-    let mean = subst (λ k. Mean (texts_of c.args.words.now) (command_of k)) c.in-Ok-Run.field-0-is c.in-Ok-Run.ensures.ok in
-    let command = run (dir_of c.in-Ok-Run.out) (operand_of c.in-Ok-Run.script) (map operand_of c.as_slice.result.now) in
-    let mean_now = subst (λ xs. Mean (texts_of c.args.words.now) (run (dir_of c.in-Ok-Run.out) (operand_of c.in-Ok-Run.script) (map operand_of xs))) (sym c.as_slice.ensures.value) mean in
-    read_missed_of (texts_of c.args.words.now) command mean_now c.run_script.result c.run_script.ensures.comes
+pub returns-clause-misuse : goal.returns-clause-misuse
+returns-clause-misuse g c = ran_misuse (texts_of c.args.words.now) c.run_words.result c.run_words.ensures.ran
 
-pub returns-in-Ok-Run-clause-no_source : goal.returns-in-Ok-Run-clause-no_source
-returns-in-Ok-Run-clause-no_source g c =
-    let mean = subst (λ k. Mean (texts_of c.args.words.now) (command_of k)) c.in-Ok-Run.field-0-is c.in-Ok-Run.ensures.ok in
-    let command = run (dir_of c.in-Ok-Run.out) (operand_of c.in-Ok-Run.script) (map operand_of c.as_slice.result.now) in
-    let mean_now = subst (λ xs. Mean (texts_of c.args.words.now) (run (dir_of c.in-Ok-Run.out) (operand_of c.in-Ok-Run.script) (map operand_of xs))) (sym c.as_slice.ensures.value) mean in
-    no_source_of (texts_of c.args.words.now) command mean_now c.words_mean_one_command.ensures c.run_script.result c.run_script.ensures.comes
+pub returns-clause-unread : goal.returns-clause-unread
+returns-clause-unread g c = c.run_words.ensures.unread
 
-pub returns-in-Ok-Run-clause-read_fault_in_order : goal.returns-in-Ok-Run-clause-read_fault_in_order
-returns-in-Ok-Run-clause-read_fault_in_order g c =
-    let mean = subst (λ k. Mean (texts_of c.args.words.now) (command_of k)) c.in-Ok-Run.field-0-is c.in-Ok-Run.ensures.ok in
-    let command = run (dir_of c.in-Ok-Run.out) (operand_of c.in-Ok-Run.script) (map operand_of c.as_slice.result.now) in
-    let mean_now = subst (λ xs. Mean (texts_of c.args.words.now) (run (dir_of c.in-Ok-Run.out) (operand_of c.in-Ok-Run.script) (map operand_of xs))) (sym c.as_slice.ensures.value) mean in
-    read_in_order_of (texts_of c.args.words.now) command mean_now c.run_script.result c.run_script.ensures.comes
+pub returns-clause-done : goal.returns-clause-done
+returns-clause-done g c = ran_done (texts_of c.args.words.now) c.run_words.result c.run_words.ensures.ran
+
+pub returns-clause-refused : goal.returns-clause-refused
+returns-clause-refused g c = ran_refused (texts_of c.args.words.now) c.run_words.result c.run_words.ensures.ran
+
+pub returns-clause-read_fault : goal.returns-clause-read_fault
+returns-clause-read_fault g c = ran_read_fault (texts_of c.args.words.now) c.run_words.result c.run_words.ensures.ran
+
+pub returns-clause-read_fault_missed : goal.returns-clause-read_fault_missed
+returns-clause-read_fault_missed g c = ran_read_missed (texts_of c.args.words.now) c.run_words.result c.run_words.ensures.ran
+
+pub returns-clause-read_fault_served : goal.returns-clause-read_fault_served
+returns-clause-read_fault_served g c = ran_read_served (texts_of c.args.words.now) c.run_words.result c.run_words.ensures.ran
+
+pub returns-clause-read_fault_in_order : goal.returns-clause-read_fault_in_order
+returns-clause-read_fault_in_order g c = ran_read_in_order (texts_of c.args.words.now) c.run_words.result c.run_words.ensures.ran
+
+pub returns-clause-write_fault : goal.returns-clause-write_fault
+returns-clause-write_fault g c = ran_write_fault (texts_of c.args.words.now) c.run_words.result c.run_words.ensures.ran
+
+pub returns-clause-bad_script : goal.returns-clause-bad_script
+returns-clause-bad_script g c = ran_bad_script (texts_of c.args.words.now) c.run_words.result c.run_words.ensures.ran
+
+pub returns-clause-no_script : goal.returns-clause-no_script
+returns-clause-no_script g c = ran_no_script (texts_of c.args.words.now) c.run_words.result c.run_words.ensures.ran c.words_mean_one_command.ensures
+
+pub returns-clause-bad_source : goal.returns-clause-bad_source
+returns-clause-bad_source g c = ran_bad_source (texts_of c.args.words.now) c.run_words.result c.run_words.ensures.ran
+
+pub returns-clause-no_source : goal.returns-clause-no_source
+returns-clause-no_source g c = ran_no_source (texts_of c.args.words.now) c.run_words.result c.run_words.ensures.ran c.words_mean_one_command.ensures
+
+pub returns-clause-complete : goal.returns-clause-complete
+returns-clause-complete g c = ran_complete (texts_of c.args.words.now) c.run_words.result c.run_words.ensures.ran c.words_mean_one_command.ensures
+
+pub returns-clause-nothing_stored : goal.returns-clause-nothing_stored
+returns-clause-nothing_stored g c = ran_nothing_stored (texts_of c.args.words.now) c.run_words.result c.run_words.ensures.ran
+
+pub returns-clause-nothing_put : goal.returns-clause-nothing_put
+returns-clause-nothing_put g c = c.run_words.ensures.nothing_put
+
+pub returns-clause-missed : goal.returns-clause-missed
+returns-clause-missed g c = ran_missed (texts_of c.args.words.now) c.run_words.result c.run_words.ensures.ran
+
+pub returns-clause-shelf_faults : goal.returns-clause-shelf_faults
+returns-clause-shelf_faults g c = ran_faults (texts_of c.args.words.now) c.run_words.result c.run_words.ensures.ran
+
+pub returns-clause-shelf_faults_stay : goal.returns-clause-shelf_faults_stay
+returns-clause-shelf_faults_stay g c = ran_faults_stay (texts_of c.args.words.now) c.run_words.result c.run_words.ensures.ran
+
+pub returns-clause-sink_faults : goal.returns-clause-sink_faults
+returns-clause-sink_faults g c = ran_put_faults (texts_of c.args.words.now) c.run_words.result c.run_words.ensures.ran
+
+pub returns-clause-sink_faults_stay : goal.returns-clause-sink_faults_stay
+returns-clause-sink_faults_stay g c = ran_put_stay (texts_of c.args.words.now) c.run_words.result c.run_words.ensures.ran

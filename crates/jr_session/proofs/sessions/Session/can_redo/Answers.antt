@@ -1,8 +1,7 @@
-use Rattle.std.proofs.Common.{◌≡◌, List, ℕ, length, ap, subst, sym, ◌∙◌}
+use Rattle.std.proofs.Common.{length, ap, subst, ◌∙◌}
 use Rattle.std.specs.Prelude.{IsTrue, ◌↔◌, ◌≢◌, [], not, ◌==◌}
 use Rattle.jr_session.specs.States.{State}
 use Rattle.jr_sources.specs.Sources.{texts_of}
-use Rattle.jr_session.specs.Changes.{history}
 use Rattle.jr_session.proofs.Histories.{some_history}
 use Rattle.jr_session.proofs.sessions.Session.can_redo.Goals as goal
 

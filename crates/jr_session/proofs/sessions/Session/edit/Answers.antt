@@ -1,7 +1,6 @@
-use Rattle.std.proofs.Common.{◌≡◌, ◌<◌, ℕ, List, [], length, true≢false, refl, sym, ap, subst, ◌∙◌}
-use Rattle.jr_text.specs.Spans.{CanCut}
+use Rattle.std.proofs.Common.{ℕ, List, length, true≢false, refl, sym, subst}
 use Rattle.jr_names.specs.declared.steps.Step.TheVariants as step
-use Rattle.jr_names.specs.Replies.{edited, refused}
+use Rattle.jr_names.specs.Replies.{edited}
 use Rattle.jr_names.specs.Refusals.{bad_span, too_long}
 use Rattle.jr_sources.specs.Sources.{HasName, LacksFile, with_text}
 use Rattle.jr_session.specs.States.{State}

@@ -1,9 +1,8 @@
-use Rattle.std.proofs.Common.{◌≡◌, ℕ, List, [], length, sym, ap, subst, ◌∙◌}
+use Rattle.std.proofs.Common.{◌≡◌, [], ap, subst, ◌∙◌}
 use Rattle.jr_names.specs.declared.steps.Step.TheVariants as step
 use Rattle.jr_names.specs.Replies.{redone}
 use Rattle.jr_sources.specs.Sources.{texts_of}
 use Rattle.jr_session.specs.States.{State}
-use Rattle.jr_session.specs.Turns.{IsTurn}
 use Rattle.jr_session.specs.Stepping.{Steps}
 use Rattle.jr_session.proofs.Histories.{no_history}
 use Rattle.jr_session.proofs.StateLaws.{state_of, redone_state, nothing_kept, kept_turned}

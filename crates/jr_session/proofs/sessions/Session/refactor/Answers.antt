@@ -1,4 +1,4 @@
-use Rattle.std.proofs.Common.{◌≡◌, subst}
+use Rattle.std.proofs.Common.{subst}
 use Rattle.std.proofs.lemmas.Result.{IfOk-weaker}
 use Rattle.jr_names.specs.ReplyView.{reply_of}
 use Rattle.jr_session.specs.declared.made.Made.TheVariants as makes

@@ -1,4 +1,4 @@
-use Rattle.std.proofs.Common.{◌≡◌, subst}
+use Rattle.std.proofs.Common.{subst}
 use Rattle.std.specs.Prelude.{MatchOption}
 use Rattle.jr_lex.specs.Replacing.{IsName}
 use Rattle.jr_names.specs.RefusalView.{refusal_of}

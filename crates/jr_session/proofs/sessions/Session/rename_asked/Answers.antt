@@ -1,11 +1,10 @@
-use Rattle.std.proofs.Common.{◌≡◌, ◌<◌, length, sym, subst}
+use Rattle.std.proofs.Common.{sym, subst}
 use Rattle.std.specs.Prelude.{IfOk}
 use Rattle.std.proofs.lemmas.Result.{IfOk-weaker}
 use Rattle.jr_names.specs.RefusalView.{refusal_of}
 use Rattle.jr_names.specs.ReplyView.{reply_of}
 use Rattle.jr_names.specs.Replies.{refused}
 use Rattle.jr_sources.specs.Analysed.{IsSourceWrong}
-use Rattle.jr_session.specs.declared.plans.Planned.TheVariants as plan
 use Rattle.jr_session.specs.Planning.{IsPlannedSo, IsNotPlanned, ArePlanned}
 use Rattle.jr_session.specs.Refactoring.{AsksFor}
 use Rattle.jr_session.specs.States.{State}

@@ -1,0 +1,5 @@
+pub mod BareBinding
+pub mod BareReferences
+pub mod TakenBack
+pub mod NewRows
+pub mod NewPrograms

@@ -1,0 +1,72 @@
+//! Tables of rows in one text, a row a line: `~`, what is asked, ` => ` and what is expected. A
+//! line without ` => ` is a remark.
+use crate::endings::{self, ended};
+use crate::renames;
+use crate::renaming::{self, run_two};
+use crate::runs::{self, run_bad, run_edits, run_one, run_source};
+use crate::scripts::{self, read};
+use crate::shows::{self, shown};
+use crate::words::{self, meaning};
+use std::alloc::Global;
+use std::process::Abort;
+
+/// Asserts that an answer is the expected one, and tells both where it isn't.
+pub(crate) fn assert_same(rt: &impl Abort, told: &str, expected: &str) {
+    assert!(rt; told == expected, "{told:?}, not {expected:?}");
+}
+
+/// What stands in front of the first of these marks, and what stands behind it.
+pub(crate) fn cut<'a>(text: &'a str, mark: &str) -> (&'a str, &'a str) {
+    match text.split_once(mark) {
+        None => (text, ""),
+        Some(halves) => halves,
+    }
+}
+
+/// The number that a text is.
+pub(crate) fn number(rt: &impl Abort, text: &str) -> u32 {
+    text.parse::<u32>().expect(rt, "a number")
+}
+
+/// The answer to a row: its first word says what is asked.
+fn answer(rt: &impl Abort, alloc: Global, asked: &str) -> String {
+    let (kind, asked) = cut(asked, " ");
+    match kind {
+        "words" => meaning(rt, alloc, asked),
+        "script" => read(rt, alloc, asked.as_bytes()),
+        "show" => shown(rt, alloc, asked),
+        "one" => run_one(rt, alloc, asked),
+        "bad" => run_bad(rt, alloc, asked),
+        "edits" => run_edits(rt, alloc, asked),
+        "source" => run_source(rt, alloc, asked),
+        "two" => run_two(rt, alloc, asked),
+        _ => ended(rt, alloc, asked),
+    }
+}
+
+/// Asserts that rows are answered as they say, and that there are so many of them.
+fn assert_rows(rt: &impl Abort, alloc: Global, rows: &str, count: u32) {
+    let mut seen = 0u32;
+    for row in rows.split('~') {
+        if let Some((asked, expected)) = row.split_once(" => ") {
+            let expected = expected.strip_suffix("\n").expect(rt, "a line");
+            assert_same(rt, answer(rt, alloc, asked).as_str(), expected);
+            seen = seen.wrapping_add(1);
+        }
+    }
+    assert!(rt; seen == count);
+}
+
+#[test]
+fn rows_are_answered(rt: HostRuntime) {
+    let alloc = rt.alloc();
+    assert_rows(&rt, alloc, words::ROWS, 58);
+    assert_rows(&rt, alloc, scripts::ROWS, 44);
+    assert_rows(&rt, alloc, shows::ROWS, 37);
+    assert_rows(&rt, alloc, runs::SCRIPTS, 11);
+    assert_rows(&rt, alloc, runs::WORDS, 13);
+    assert_rows(&rt, alloc, runs::FAULTS, 11);
+    assert_rows(&rt, alloc, renames::ROWS, 32);
+    assert_rows(&rt, alloc, renaming::ROWS, 4);
+    assert_rows(&rt, alloc, endings::ROWS, 11);
+}
