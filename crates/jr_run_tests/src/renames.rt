@@ -29,6 +29,25 @@ pub(crate) const ROWS: &'static str = "
 ~source rename A.java 6 C@class A{}class B extends A{A a(){return (A)new A();}Class \
     c(){return A.class;}} => \
     Done | class C{}class B extends C{C a(){return (C)new C();}Class c(){return C.class;}}
+~# A class of three words in front of a dot, whose words lead to it or don't.
+~source rename A.java 85 r@class P{static class C{static int x;}}class A{static class B extends \
+    P{}}class Z{int q;int m(){return A.B.C.x;}} => \
+    Done | class P{static class C{static int x;}}class A{static class B extends P{}}class Z{int \
+    r;int m(){return A.B.C.x;}}
+~source rename A.java 85 r@class P{static class C{static int x;}}class A{static class B extends \
+    P{}}class Z{int q;int m(int P){return A.B.C.x;}} => \
+    Done | class P{static class C{static int x;}}class A{static class B extends P{}}class Z{int \
+    r;int m(int P){return A.B.C.x;}}
+~source rename A.java 82 A@class P{static class C{static int x;}}class A{static class B extends \
+    P{}int m(int q){return A.B.C.x+q;}} => \
+    Done | class P{static class C{static int x;}}class A{static class B extends P{}int m(int \
+    A){return P.C.x+A;}}
+~source rename A.java 131 M@class W{static class X{static int f;}}class N extends W{}class \
+    T{static class N extends W{}}class S extends T{private static class N{}}class A extends \
+    S{int m(){return N.X.f;}} => \
+    Done | class W{static class X{static int f;}}class N extends W{}class T{static class N \
+    extends W{}}class S extends T{private static class M{}}class A extends S{int m(){return \
+    W.X.f;}}
 ~source rename A.java 6 B@class A{static int f=-2147483648;} => \
     Done | class B{static int f=-2147483648;}
 ~source rename A.java 29 B@class A{static void m(){{int a=1;}}} => \
