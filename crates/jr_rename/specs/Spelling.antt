@@ -268,8 +268,7 @@ module _ {A : Type 0} (begins : A → ℕ → ℕ) (rows : List Row) (g : Renami
       × CallFinds rows c (tree.on e) old args (one (method_decl q)) × HaveTypes rows c args ts
       × OnOperand c e
       (λ k. Spells (scope_to g c) at old (method_to g q).name (method_decl q)
-      (reference ref.MethodOn (method_to g q).name (operand_of (class_to g k) false)
-      (types_to g ts))
+      (reference ref.MethodOn (method_to g q).name (operand_of (class_to g k) false) (types_to g ts))
       (FindsMethodOf (rows_to g rows) (scope_to g c) (class_to g k) (method_to g q).name
       (types_to g ts)) h)
       (λ k. (leads : Bool) × (IsTrue leads ↔ WordsLead rows g c e k)

@@ -173,8 +173,7 @@ module _ (rows : List Row) (g : Renaming) (c : Context) where
   abbrev pub CallSpells : (at : ℕ) → (k : ClassKey) → (old : List ℕ) → List Ty → MethodKey
       → Choice → Type 0
   CallSpells at k old ts q h = Spells at old (method_to g q).name (method_decl q)
-      (reference ref.MethodOn (method_to g q).name (operand_of (class_to g k) false)
-      (types_to g ts))
+      (reference ref.MethodOn (method_to g q).name (operand_of (class_to g k) false) (types_to g ts))
       (FindsMethodOf (rows_to g rows) (scope_to g c) (class_to g k) (method_to g q).name
       (types_to g ts)) h
 

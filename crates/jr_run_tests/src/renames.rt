@@ -75,7 +75,6 @@ pub(crate) const ROWS: &'static str = "
 ~source rename A.java 0 B@/* => Refused | refused 4 SourceError A.java:0 OpenComment\n
 ~source rename A.java 6 B@class A{int f=1 2;} => \
     Refused | refused 4 SourceError A.java:16 Syntax\n
-~source rename A.java 6 B@class A { => Refused | refused 4 SourceError A.java:9 Syntax\n
 ~source rename A.java 6 B@class A{int f=1; => Refused | refused 4 SourceError A.java:16 Syntax\n
 ~source rename A.java 33 B@class A{static void m(){if(b)int a=1;}} => \
     Refused | refused 4 SourceError A.java:29 Syntax\n
@@ -152,11 +151,13 @@ fn faults(rt: HostRuntime) {
     assert_over(&rt, alloc, b"class A{}\xff", line, expected);
     let expected = "BadSource { word: 1, fault: NotUtf8 { valid: 0 } } | ";
     assert_over(&rt, alloc, b"\xc3", "rename A.java 0 b", expected);
+    let of_class = "rename A.java 6 B";
+    let expected = "Refused | refused 4 SourceError A.java:9 Syntax\n";
+    assert_over(&rt, alloc, b"class A {", of_class, expected);
     // The brace is the first bracket that is open, so 99 more may be.
     let deep = nested(&rt, alloc, 100);
     let expected = "Refused | refused 4 SourceError A.java:113 Deep\n";
-    let line_of_class = "rename A.java 6 B";
-    assert_over(&rt, alloc, deep.as_bytes(), line_of_class, expected);
+    assert_over(&rt, alloc, deep.as_bytes(), of_class, expected);
     assert_failing(&rt, alloc, line, 1, 0, "ReadFault { word: 1 } | ");
     assert_failing(&rt, alloc, line, 0, 1, "WriteFault { stored: 0 } | ");
     let refused = "rename A.java 999 b";
