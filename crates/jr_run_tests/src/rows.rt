@@ -3,6 +3,7 @@
 use crate::endings::{self, ended};
 use crate::renames;
 use crate::renaming::{self, run_two};
+use crate::rules;
 use crate::runs::{self, run_bad, run_edits, run_one, run_source};
 use crate::scripts::{self, read};
 use crate::shows::{self, shown};
@@ -63,6 +64,7 @@ fn rows_are_answered(rt: HostRuntime) {
     assert_rows(&rt, alloc, words::ROWS, 58);
     assert_rows(&rt, alloc, scripts::ROWS, 44);
     assert_rows(&rt, alloc, shows::ROWS, 37);
+    assert_rows(&rt, alloc, rules::ROWS, 155);
     assert_rows(&rt, alloc, runs::SCRIPTS, 11);
     assert_rows(&rt, alloc, runs::WORDS, 13);
     assert_rows(&rt, alloc, runs::FAULTS, 11);
