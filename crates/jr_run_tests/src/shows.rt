@@ -223,8 +223,8 @@ pub(crate) fn shown(rt: &impl Abort, alloc: Global, texts: &str) -> String {
     told(rt, alloc, first, second, "A.java")
 }
 
-// `class A{int f=` with so many parentheses around a number.
-fn nested(rt: &impl Abort, alloc: Global, count: usize) -> String {
+/// `class A{int f=` with so many parentheses around a number.
+pub(crate) fn nested(rt: &impl Abort, alloc: Global, count: usize) -> String {
     let mut text = String::new(alloc);
     put(rt, &mut text, "class A{int f=");
     put_times(rt, &mut text, "(", count);
