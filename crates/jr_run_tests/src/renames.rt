@@ -14,6 +14,8 @@ use std::process::Abort;
 pub(crate) const ROWS: &'static str = "
 ~source rename A.java 41 b@class A{static int f;static void m(){int a=1;f=a;}} => \
     Done | class A{static int f;static void m(){int b=1;f=b;}}
+~source rename A.java 41 f@class A{static int f;static void m(){int a=1;f=a;}} => \
+    Done | class A{static int f;static void m(){int f=1;A.f=f;}}
 ~source rename A.java 0041 f@class A{static int f;static void m(){int a=1;f=a;}} => \
     Done | class A{static int f;static void m(){int f=1;A.f=f;}}
 ~source rename A.java 45 f@class A{static int f;static void m(){f=1;int a=f;f=f+a+f;}} => \
@@ -207,4 +209,16 @@ fn statuses(rt: HostRuntime) {
     };
     check_status(&rt, alloc, words, status, 6, "jref: bad source A.java\n");
     check_status(&rt, alloc, words, Status::NoMemory, 7, "jref: no memory\n");
+}
+
+// That a text would be too long is told before a rule that it would break.
+#[test]
+fn lengths_before_rules(rt: HostRuntime) {
+    let alloc = rt.alloc();
+    let text = "class A{static void mm(){}}class B extends A{void n(){}}";
+    let line = "rename A.java 50 mm";
+    let expected = "Refused | refused 20 TooLong 1048577\n";
+    assert_filled(&rt, alloc, text, 1_048_576, line, expected);
+    let expected = "Refused | refused 17 WouldNotCompile A.java:50 Override\n";
+    assert_filled(&rt, alloc, text, 1_048_575, line, expected);
 }
