@@ -92,9 +92,9 @@ class Ren:
             if form=='FieldSimple': return s.same(n.variable(c,asked),d)
             if form in('FieldOn','MethodOn'): return s.tv(n,c,opk,d,args)
             if form=='FieldSuper': return obj and n.par(c['k']) is not None and s.tv(n,c,n.par(c['k']),d,args)
-            if form=='ThroughClass': o,w=s.words(text); return s.leads(n,c,o,w,opk) and s.tc(n,c,opk,d,args)
+            if form=='ThroughClass': return text and s.tc(n,c,opk,d,args)
             if form=='MethodSimple': return n.mnamed(c,asked,args)==('one',d)
-            if form=='ClassName': o,w=s.words(asked); return s.names_cls(n,c,o,w,K)
+            if form=='ClassName': o,w=s.words(asked); return (o is None or n.typen(c,o)==('one',('class',opk))) and s.names_cls(n,c,o,w,K)
             if d[0]=='local': return s.same(n.variable(c,asked),d)
             if d[0]=='method': return obj and n.par(c['k']) is not None and s.tv(n,c,n.par(c['k']),d,args)
             if d[0]=='ctor': return n.ctorof(c,opk if opk else n.par(c['k']),args)==('one',d)
@@ -127,10 +127,11 @@ class Ren:
             if s.binds(n,c,r,e,f): return s.spelled(old,s.nm(d,old) if d[0]!='ctor' else old,K,f)
         return ('loses',at,d,finds())
     def spells_left(s,at,old,k,leads,finds): return s.renamed(old,s.cls(k)[1]) if leads else ('loses',at,('class',k),finds())
-    def class_words(s,c,e,k):
-        if e[0]=='field':
-            o=s.b.cn(c,e[2]); return s.cls(o)[1]+'.'+s.cls(k)[1]
-        return s.cls(k)[1]
+    def words_lead(s,c,e,k):
+        nk=s.cls(k); q=s.scope(c)
+        if e[0]!='field': return s.leads(s.n,q,None,nk[1],nk)
+        o=s.b.cn(c,e[2])
+        return s.words_lead(c,e[2],o) and s.leads_in(s.n,q,s.cls(o),nk[1],nk)
     def exp_choice(s,c,role,e):
         b=s.b; n=s.n; k=e[0]; q=s.scope(c)
         if k=='name':
@@ -151,8 +152,8 @@ class Ren:
                 if o is None:
                     t=b.ty(c,e[2]); nk=s.cls(t)
                     return s.spells(q,w[1],w[2],d,('FieldOn',nm,nk,'',()),lambda:n.fieldin(q,nk,nm))
-                nk=s.cls(o); text=s.class_words(c,e[2],o)
-                return s.spells(q,w[1],w[2],d,('ThroughClass',text+'.'+nm,nk,text,()),lambda:n.fieldin(q,nk,nm))
+                nk=s.cls(o); text=s.words_lead(c,e[2],o)
+                return s.spells(q,w[1],w[2],d,('ThroughClass',nm,nk,text,()),lambda:n.fieldin(q,nk,nm))
             assert role=='left' and o is not None,(e,f)
             g=b.leftof(c,o,w[2]); cl=g[1][1]; nk=s.cls(cl); no=s.cls(o)
             return s.spells_left(w[1],w[2],cl,s.leads_in(n,q,no,nk[1],nk),lambda:n.leftof(q,no,nk[1]))
@@ -166,8 +167,8 @@ class Ren:
             if o is None:
                 nk=s.cls(b.ty(c,e[2]))
                 return s.spells(q,w[1],w[2],d,('MethodOn',nm,nk,'',ts),lambda:n.mof(q,nk,nm,ts))
-            nk=s.cls(o); text=s.class_words(c,e[2],o)
-            return s.spells(q,w[1],w[2],d,('ThroughClass',text+'.'+nm,nk,text,ts),lambda:n.mof(q,nk,nm,ts))
+            nk=s.cls(o); text=s.words_lead(c,e[2],o)
+            return s.spells(q,w[1],w[2],d,('ThroughClass',nm,nk,text,ts),lambda:n.mof(q,nk,nm,ts))
         if k=='super_call':
             w=e[2]; f=b.scf(c,w[2],e[3]); d=f[1]; nm=s.nm(d,w[2]); ts=s.tys(b.tys(c,e[3]))
             return s.spells(q,w[1],w[2],d,('AsAsked',nm,None,'',ts),lambda:n.mof(q,n.par(q['k']),nm,ts))
@@ -184,7 +185,7 @@ class Ren:
         v=t[2]; o=b.typen(c,v[2])[1][1]; k=b.typeof(c,o,w[2])[1][1]; no=s.cls(o); nk=s.cls(k)
         def qf():
             g=n.typen(q,no[1]); return n.typeof(q,g[1][1],nk[1]) if g[0]=='one' else ('none',)
-        h=s.spells(q,w[1],w[2],('class',k),('ClassName',no[1]+'.'+nk[1],None,'',()),qf)
+        h=s.spells(q,w[1],w[2],('class',k),('ClassName',no[1]+'.'+nk[1],no,'',()),qf)
         p=s.spells_left(v[1],v[2],o,n.typen(q,no[1])==('one',('class',no)),lambda:n.typen(q,no[1]))
         return qualified_out(p,h,v,w)
     # ---- Rewrites

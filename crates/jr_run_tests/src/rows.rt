@@ -66,7 +66,7 @@ fn rows_are_answered(rt: HostRuntime) {
     assert_rows(&rt, alloc, runs::SCRIPTS, 11);
     assert_rows(&rt, alloc, runs::WORDS, 13);
     assert_rows(&rt, alloc, runs::FAULTS, 11);
-    assert_rows(&rt, alloc, renames::ROWS, 36);
-    assert_rows(&rt, alloc, renaming::ROWS, 4);
+    assert_rows(&rt, alloc, renames::ROWS, 39);
+    assert_rows(&rt, alloc, renaming::ROWS, 6);
     assert_rows(&rt, alloc, endings::ROWS, 11);
 }
