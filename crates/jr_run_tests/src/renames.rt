@@ -51,6 +51,20 @@ pub(crate) const ROWS: &'static str = "
     Done | class W{static class X{static int f;}}class N extends W{}class T{static class N \
     extends W{}}class S extends T{private static class M{}}class A extends S{int m(){return \
     W.X.f;}}
+~# A class in front of the dot of a type comes to be another one, which has the member class too:
+~# another spelling is taken, or the class in front is lost.
+~source rename A.java 131 M@class W{static class X{static int f;}}class N extends W{}class \
+    T{static class N extends W{}}class S extends T{private static class N{}}class A extends \
+    S{N.X v;} => \
+    Done | class W{static class X{static int f;}}class N extends W{}class T{static class N \
+    extends W{}}class S extends T{private static class M{}}class A extends S{W.X v;}
+~source rename A.java 128 M@class W{static class X{}}class N extends W{}class T extends W{static \
+    class N extends W{}}class S extends T{private static class N{}}class A extends S{N.X v;} => \
+    Done | class W{static class X{}}class N extends W{}class T extends W{static class N extends \
+    W{}}class S extends T{private static class M{}}class A extends S{X v;}
+~source rename A.java 124 M@class W{static class X{}}class N extends W{}class T{static class \
+    N{}static class W{}}class S extends T{private static class N{}}class A extends S{N.X v;} => \
+    Refused | refused 16 LostBinding A.java:146 N found T.N\n
 ~source rename A.java 6 B@class A{static int f=-2147483648;} => \
     Done | class B{static int f=-2147483648;}
 ~source rename A.java 29 B@class A{static void m(){{int a=1;}}} => \
