@@ -10,3 +10,4 @@ pub mod ImageEntries
 pub mod KeyedChanges
 pub mod Telling
 pub mod Lows
+pub mod KeptDispatch

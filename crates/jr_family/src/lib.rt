@@ -10,6 +10,6 @@ mod parts;
 mod preludes;
 mod tops;
 
-pub use dispatching::dispatch_change;
+pub use dispatching::{dispatch_change, dispatch_is_kept};
 pub use families::family;
 pub use preludes::prelude_method;

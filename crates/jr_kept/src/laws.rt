@@ -8,9 +8,9 @@ use jr_renamed::plans_keep_programs;
 use jr_text::{Span, untouched_bytes_move};
 
 /// Where a session accepts a rename, the sources behind the step are a program again: read, bound
-/// and sound from scratch. It is read as the planned trees, its rows are the images of the old rows,
-/// and each reference is bound in it to the image of what it was bound to (JLS 6), whatever is
-/// renamed. Each byte that lies in no edit's span is as before.
+/// and sound from scratch. It is read as the planned trees, its rows are the images of the old
+/// rows, and each reference is bound in it to the image of what it was bound to (JLS 6), whatever
+/// is renamed. Each byte that lies in no edit's span is as before.
 pub fn accepted_renames_keep_programs()
     ensures { RenamesKeepPrograms }
 {

@@ -1,6 +1,6 @@
 //! What holds of each rename that a session accepts: its step alone says that the new sources are a
-//! program, to whose declarations the references lead, and that it can be taken back. Nothing is run
-//! by it.
+//! program, to whose declarations the references lead, and that it can be taken back. Nothing is
+//! run by it.
 #![tactic(auto)]
 
 mod laws;
