@@ -202,7 +202,7 @@ module _ (one : OneReading Span) (named : RowsAreNamed Span) (dots : NamesHaveNo
           subst (λ (rows : List Row). DispatchesTo rows (class_to plan.planned.g of) (method_to plan.planned.g m) (method_to plan.planned.g was)) (sym new_images.0)
           (dispatch p.rows plan.planned.g before.is.are_rows (subst AreRows new_images.0 is.program.is.are_rows) plan.planned.dispatch of m was runs);
       count = ap length files_are ∙ count_with s.files is.edits;
-      back = undone_after s t file at new names n is;
+      back = λ answer u h. undone_after s t file at new names n is u answer h;
       texts = λ i old there.
           (let b = became i old there in (record { name = old.name; text = splice old.text b.1 }, b.1, subst (λ (ss : List Source). slice_get ss i ≡ Some (record { name = old.name; text = splice old.text b.1 })) (sym files_are) (with_at s.files is.edits i old b.1 there b.3), b.3, b.5));
     }
