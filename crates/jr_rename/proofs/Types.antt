@@ -1,5 +1,5 @@
 -- Written types go to their images.
-use Rattle.std.proofs.Common.{◌≡◌, ℕ, zero, suc, List, [], ◌∷◌, ◌++◌, Option, Some, None, refl, sym, ap, subst, ◌∙◌, inl, inr}
+use Rattle.std.proofs.Common.{◌≡◌, ℕ, zero, suc, List, [], ◌∷◌, ◌++◌, Option, Some, None, Bool, refl, sym, ap, subst, ◌∙◌, inl, inr}
 use Rattle.std.specs.Prelude.{slice_get, if◌then◌else◌}
 use Rattle.jr_text.specs.declared.spans.Span.{Span}
 use Rattle.jr_ast.specs.Tree as tree
@@ -23,7 +23,7 @@ use Rattle.jr_rewrite.specs.Respellings.{Front, Choice, front_of, text_of}
 use Rattle.jr_rewrite.specs.Rewritten.{Rewritten, word_to, qualifier_to, new_word, losses_of, drops_qualifier}
 use Rattle.jr_rewrite.specs.Rewrites.{RewritesType}
 use Rattle.jr_rename.specs.Images.{Renaming, class_to, type_to, rows_to, scope_to}
-use Rattle.jr_rename.specs.Spelling.{spelled, reference, dotted, spelling, TypeSpells, QualifierSpells}
+use Rattle.jr_rename.specs.Spelling.{spelled, reference, behind_words, dotted, spelling, TypeSpells, QualifierSpells}
 use Rattle.jr_rename.proofs.Chosen.{renamed_text, renamed_front, lost_some, left_none, right_none, outer_type_is}
 use Rattle.jr_rename.proofs.Dotted.{IsWhole, whole_front, whole_last, dotted_front, dotted_last}
 use Rattle.jr_rename.proofs.Forms.{with_name}
@@ -76,9 +76,9 @@ module _ {A : Type 0} (tells : A → ℕ → Span) (rows : List Row) (g : Renami
         place f there
 
   -- a name behind that of the class around it, or of one below that
-  module _ (m n : A) (old : List ℕ) (v : tree.Word A) (o k : ClassKey) (whole : IsWhole (class_to g o).name) where
+  module _ (m n : A) (old : List ℕ) (v : tree.Word A) (o k : ClassKey) (leads : Bool) (whole : IsWhole (class_to g o).name) where
     abbrev qualified_type : Reference
-    qualified_type = reference ref.ClassName (dotted (class_to g o).name (class_to g k).name) None []
+    qualified_type = behind_words leads (reference ref.ClassName (dotted (class_to g o).name (class_to g k).name) None [])
 
     abbrev QualifiedTo : Form → Type 0
     QualifiedTo f = (f ≡ Asked → v.text ≡ (class_to g o).name) → Binds (rows_to g rows) (scope_of d) qualified_type (class_decl (class_to g k)) f
@@ -143,19 +143,19 @@ module _ {A : Type 0} (tells : A → ℕ → Span) (rows : List Row) (g : Renami
         → TypeSpells (λ m b. (tells m b).from) rows g c base (tree.named m (Some z) v) h
         → (if drops_qualifier tells (front_of h) then [] else losses_of q) ++ losses_of h ≡ []
         → TypeTo (tree.named m (Some z) v) (tree.named m (qualifier_to m (front_of h) (Some (word_to q z))) (word_to h v))
-    qualified_case m z v q h qualifier (o, k, named, inner, inr (none_binds, (f, finds, is))) none u other =
+    qualified_case m z v q h qualifier (o, k, named, inner, leads, lead, inr (none_binds, (f, finds, is))) none u other =
         absurd (lost_some _ (sym (ap losses_of is) ∙ right_none (if drops_qualifier tells (front_of h) then [] else losses_of q) (losses_of h) none))
-    qualified_case m z v q h qualifier (o, k, named, inner, inl (f, taken, is)) none u (j, (i, front, back), type) =
+    qualified_case m z v q h qualifier (o, k, named, inner, leads, lead, inl (f, taken, is)) none u (j, (i, front, back), type) =
         let same_outer = one_class (scope_of c) z.text i o front named in
         let same = one_inner (scope_of c) o v.text k j inner (subst (λ (x : ClassKey). FindsTypeOf rows (scope_of c) x v.text (one (class_decl j))) same_outer back) in
         let left : (if drops_qualifier tells (front_of h) then [] else losses_of q) ≡ [] = left_none (if drops_qualifier tells (front_of h) then [] else losses_of q) (losses_of h) none in
         as_image u j k (tree.named m (qualifier_to m (front_of h) (Some (word_to q z))) (word_to h v)) type same
         (subst (λ (x : Choice). WritesType (rows_to g rows) (scope_of d) (tree.named m (qualifier_to m (front_of x) (Some (word_to q z))) (word_to x v)) (class (class_to g k))) (sym is)
-        (qualified_type_kept m v.mark v.text (word_to q z) o k (whole_class z.text o named) taken.place f taken.stands
+        (qualified_type_kept m v.mark v.text (word_to q z) o k leads (whole_class z.text o named) taken.place f taken.stands
         (λ asked. front_text m z v q o named qualifier
         (sym (ap (λ (front : Front). if drops_qualifier tells front then [] else losses_of q)
         (ap front_of (is ∙ ap (spelled v.text (class_to g k).name (class_to g k)) asked) ∙ renamed_front v.text (class_to g k).name)) ∙ left))
-        (to_scope (reference ref.ClassName (dotted (class_to g o).name (class_to g k).name) None []) (class_decl (class_to g k)) f taken.binds)))
+        (to_scope (behind_words leads (reference ref.ClassName (dotted (class_to g o).name (class_to g k).name) None [])) (class_decl (class_to g k)) f taken.binds)))
 
     -- a written type goes to its image
     pub type_kept : (t : tree.TypeName A) (p : Rewritten (tree.TypeName A)) → RewritesType tells (spelling (λ m b. (tells m b).from) rows g super_at) c base t p → p.losses ≡ [] → TypeTo t p.tree

@@ -11,7 +11,8 @@ const B: &str = "class B extends A{int y;int m(){return x;}}";
 
 /// Scripts over A.java and B.java; how the run ends, its report without the line end, and what the
 /// files hold in the end. A field gets the name of an inherited one, a class is renamed in both
-/// files, two renames are taken back and one is done again, and one is refused.
+/// files, two renames are taken back and one is done again, and one is refused. Over A.java alone:
+/// the class in front of a type's dot comes to be another one, or gets the new name.
 pub(crate) const ROWS: &'static str = "
 ~two [{\"step\":\"rename\",\"file\":\"B.java\",\"at\":22,\"name\":\"x\"}] => \
     Done | [{\"files\":[\"B.java\"],\"reply\":\"refactored\",\"respelled\":1}] | \
@@ -31,6 +32,20 @@ pub(crate) const ROWS: &'static str = "
     Refused | [{\"number\":14,\"refusal\":\"Clash B\",\"reply\":\"refused\"},\
     {\"number\":1,\"refusal\":\"NoSuchFile C.java\",\"reply\":\"refused\"}] | \
     class A{int x;} class B extends A{int y;int m(){return x;}}
+~one 0 [{\"step\":\"edit\",\"file\":\"A.java\",\"from\":0,\"to\":9,\"text\":\"class \
+    W{static class X{static int f;}}class N extends W{}class T{static class N extends W{}}class S \
+    extends T{private static class N{}}class A extends S{N.X v;}\"},\
+    {\"step\":\"rename\",\"file\":\"A.java\",\"at\":131,\"name\":\"M\"}] => \
+    Done | [{\"reply\":\"edited\"},\
+    {\"files\":[\"A.java\"],\"reply\":\"refactored\",\"respelled\":1}] | \
+    class W{static class X{static int f;}}class N extends W{}class T{static class N extends \
+    W{}}class S extends T{private static class M{}}class A extends S{W.X v;}
+~one 0 [{\"step\":\"edit\",\"file\":\"A.java\",\"from\":0,\"to\":9,\"text\":\"class \
+    W{static class X{}}class N extends W{}class A{N.X v;}\"},\
+    {\"step\":\"rename\",\"file\":\"A.java\",\"at\":31,\"name\":\"M\"}] => \
+    Done | [{\"reply\":\"edited\"},\
+    {\"files\":[\"A.java\"],\"reply\":\"refactored\",\"respelled\":0}] | \
+    class W{static class X{}}class M extends W{}class A{M.X v;}
 ";
 
 /// How a run of the script over the two files ends.

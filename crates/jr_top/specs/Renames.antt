@@ -64,8 +64,8 @@ IsAnswered file source at name false output = IsGranted file source at name outp
 
 -- a run that came to put an output ended by this status: it is all put, or the sink failed and took
 -- a prefix of it
-abbrev pub EndsPut : Bool → List ℕ → Status → (taken taken' : Option (List ℕ)) → (faults faults' : ℕ)
-    → Type 0
+abbrev pub EndsPut : Bool → List ℕ → Status → (taken taken' : Option (List ℕ))
+    → (faults faults' : ℕ) → Type 0
 EndsPut is_refusal output status.Done taken taken' faults faults' =
     (is_refusal ≡ false) × PutAll taken taken' faults faults' output
 EndsPut is_refusal output status.Refused taken taken' faults faults' =
