@@ -15,6 +15,7 @@ def top(c):
 
 class HidingMaker(Maker):
     conditions = ["true", "(true)"]
+    between = 0.15
 
     def __init__(self, seed):
         super().__init__(seed, wild=0.0)
@@ -28,7 +29,7 @@ class HidingMaker(Maker):
             above = tops[:i] + tops[i - 1 : i] * 2
             parent = self.pick(above) if above and self.chance(0.75) else None
             self.add_class(name, None, parent or self.pick(["Thread"] + [None] * 9))
-        if self.chance(0.15):
+        if self.chance(self.between):
             self.add_private_between(tops)
         for name in tops:
             for inner in self.pick([[], ["K"], ["K"], ["K", "L"], ["L"]]):
@@ -273,3 +274,30 @@ class HidingMaker(Maker):
         parts = ["".join(texts[i::count]) for i in range(count)]
         files = [("F%d.java" % i, text) for i, text in enumerate(parts) if text]
         return thinned(files, self.random, 9)
+
+
+class RareMaker(HidingMaker):
+    """More of what makes rare spellings: overloads of inherited methods under other names, classes
+    in three levels, and member types that a private one keeps from being inherited."""
+
+    between = 0.5
+
+    def add_private_between(self, tops):
+        super().add_private_between(tops)
+        for outer in sorted({c.outer for c in self.classes if c.name == "L"}):
+            self.add_class("N", outer, None, "")
+            self.by_name(outer + ".K").parent = outer
+            self.chains = {}
+
+    def make_members(self, c):
+        super().make_members(c)
+        for one in self.above(c):
+            below = [self.narrower(type) for type in one.types]
+            if below != one.types and self.chance(0.6):
+                other = Item(**{**vars(one), "name": self.pick(["m", "n", "k"]), "types": below})
+                if self.is_new(c, other):
+                    c.methods.append(other)
+
+    def narrower(self, type):
+        below = [self.spelled(c) for c in self.classes if c.outer is None and c.parent == type]
+        return self.pick(below) if below and self.chance(0.7) else type

@@ -1,18 +1,18 @@
 #!/usr/bin/env python3
 """Random renames in random sound programs, put to the second reading, javac and the built program.
 
-renames.py [--jref BINARY] [--locals] [--javac] [--kinds KIND,..] [--first SEED] [--programs N]
-    [--renames N] [--examples N]
+renames.py [--jref BINARY] [--locals] [--javac] [--rare] [--kinds KIND,..] [--first SEED]
+    [--programs N] [--renames N] [--examples N]
 
 In each program some words are renamed, each time in the program as it was: words of each kind
 (`local`, `parameter`, `field`, `method`, `class`, `constructor`, `nothing`) as often, or of those
-of --kinds. With --jref the program's report of the rename and of a show of each file behind it has to
-be what the reading says, and the stored texts too; with --locals anything but a local is
-`Unbuilt`. With --javac the programs before and after are compiled: it takes both; after a rename of
-a local the class files, without names of locals, are the same (or differ in the class through which
-a field is named); and after any other they are the same but for the names of what is renamed, each
-field and method under the class that declares it. Differences are counted by class, with some
-examples of each.
+of --kinds; with --rare in programs in which rare spellings are likelier. With --jref the program's
+report of the rename and of a show of each file behind it has to be what the reading says, and the
+stored texts too; with --locals anything but a local is `Unbuilt`. With --javac the programs before
+and after are compiled: it takes both; after a rename of a local the class files, without names of
+locals, are the same (or differ in the class through which a field is named); and after any other
+they are the same but for the names of what is renamed, each field and method under the class that
+declares it. Differences are counted by class, with some examples of each.
 """
 import argparse
 import os
@@ -20,7 +20,7 @@ import random
 import sys
 
 from bindings import Differences, against_jref, javac_lines
-from hiding import HidingMaker
+from hiding import HidingMaker, RareMaker
 from programs import Maker
 from reading.binding import notes_of
 from reading.program import PRELUDE
@@ -38,12 +38,18 @@ OF_JAVA = {row.decl[1] for row in PRELUDE if row.decl[0] == "class"}
 # programs and renames
 
 
-def sound_files(seed):
+def maker_of(seed, part, rare):
+    if rare:
+        return RareMaker(8 * seed + part)
+    return Maker(8 * seed + part, wild=0.0) if seed % 4 == 0 else HidingMaker(8 * seed + part)
+
+
+def sound_files(seed, rare):
     """A sound program, and its files."""
     for part in range(8):
-        maker = Maker(8 * seed + part, wild=0.0) if seed % 4 == 0 else HidingMaker(8 * seed + part)
+        maker = maker_of(seed, part, rare)
         files = maker.files()
-        files = thinned(files, maker.random, 9) if seed % 4 == 0 else files
+        files = files if isinstance(maker, HidingMaker) else thinned(files, maker.random, 9)
         try:
             return sound(files), files
         except Refused:
@@ -65,8 +71,9 @@ def kind_of(decl, is_constructor):
 class Words:
     """The words of a program, by kind, and its names."""
 
-    def __init__(self, program, files):
+    def __init__(self, program, files, rare):
         self.program = program
+        self.rare = rare
         self.by_kind = {kind: [] for kind in KINDS}
         self.classes, self.others = set(), set()
         self.used = {}  # the names that are used in each member
@@ -108,7 +115,12 @@ class Words:
         for row in self.program.rows:
             if row.decl[0] == decl[0] and self.are_near(row.decl[1], decl[1]):
                 names.add(row.decl[2])
-        return names
+        return names - self.own_fields(decl) if self.rare else names
+
+    def own_fields(self, decl):
+        """Names that a field can't get, as others of its class have them."""
+        rows = self.program.rows if decl[0] == "field" else []
+        return {row.decl[2] for row in rows if row.decl[:2] == decl[:2]}
 
     def are_near(self, a, b):
         """Whether one of two classes has the other above it, or around it or what is above it."""
@@ -117,9 +129,16 @@ class Words:
                               for above in self.program.chain(one)}
         return a != b and (below(a, b) or below(b, a) or a in around(b) or b in around(a))
 
+    def liked(self, kind, random):
+        """The words of a kind, of private classes alone where rare spellings are to be."""
+        words = self.by_kind[kind]
+        if self.rare and kind == "class" and random.random() < 0.7:
+            return [one for one in words if self.program.has_word(one[2], "private")] or words
+        return words
+
     def step(self, random, kinds):
         kind = random.choice([kind for kind in kinds if self.by_kind[kind]] or ["nothing"])
-        name, word, decl = random.choice(self.by_kind[kind])
+        name, word, decl = random.choice(self.liked(kind, random))
         at = word.at + random.choice([0] * 8 + [len(word.text) - 1, len(word.text)])
         every = self.others if decl is None or decl[0] == "class" else self.others | self.classes
         near = sorted(random.choice([self.likely(decl)] * 3 + [every]) - {word.text})
@@ -127,13 +146,13 @@ class Words:
         return kind, {"step": "rename", "file": name, "at": at, "name": new}
 
 
-def renames(first, programs, count, kinds):
+def renames(first, programs, count, kinds, rare=False):
     """Sound programs with renames: the program, its files, the kind of word and the step."""
     for seed in range(first, first + programs):
-        program, files = sound_files(seed)
+        program, files = sound_files(seed, rare)
         if program is None:
             continue
-        words = Words(program, files)
+        words = Words(program, files, rare)
         maker = random.Random(seed)
         for _ in range(count):
             yield (program, files, *words.step(maker, kinds))
@@ -154,12 +173,15 @@ def descriptor(program, type):
     return IN_FILES.get(type) or "L%s;" % in_files(program, type)
 
 
+def renamed_decls(program, files, step):
+    number = [name for name, _ in files].index(step["file"])
+    return target_of(program, number, step["at"], "", step["name"])[0]
+
+
 def renamed_in_files(program, files, step):
     """What is renamed, as class files have it."""
-    number = [name for name, _ in files].index(step["file"])
-    decls, _ = target_of(program, number, step["at"], "", step["name"])
     out = []
-    for decl in decls:
+    for decl in renamed_decls(program, files, step):
         if decl[0] == "class":
             for key in program.parent:
                 if key == decl[1] or key[0] is not None and (None, key[0]) == decl[1]:
@@ -222,12 +244,20 @@ def against_javac(pairs, seen):
         seen.add("javac: " + key, None if is_wanted else pair)
 
 
+def ways_of_family(program, decls):
+    """Where the methods that are renamed with the first one stand."""
+    own, below = decls[0][1], program.is_subclass
+    for _, key, *_ in decls[1:]:
+        yield "below" if below(key, own) else "above" if below(own, key) else "beside"
+
+
 def counted(seen, kind, reply, forms):
     seen.add(kind + ": " + (reply["refusal"].split()[0] if "refusal" in reply else "refactored"))
     if reply.get("respelled"):
         seen.add(kind + ": some respelled")
     for form, count in forms.items():
-        seen.counts["respelled: " + form] += count
+        seen.counts["respelled: %s, references" % form] += count
+        seen.add("respelled: %s, renames" % form)
 
 
 def main():
@@ -235,6 +265,7 @@ def main():
     words.add_argument("--jref")
     words.add_argument("--javac", action="store_true")
     words.add_argument("--locals", action="store_true")
+    words.add_argument("--rare", action="store_true")
     words.add_argument("--kinds", default=",".join(KINDS))
     words.add_argument("--first", type=int, default=0)
     words.add_argument("--programs", type=int, default=1000)
@@ -243,7 +274,8 @@ def main():
     words = words.parse_args()
     seen = Differences(words.examples)
     cases, pairs = [], []
-    asked = renames(words.first, words.programs, words.renames, words.kinds.split(","))
+    kinds = words.kinds.split(",")
+    asked = renames(words.first, words.programs, words.renames, kinds, words.rare)
     for program, files, kind, step in asked:
         after, reply, forms = rename_with_forms(files, step, words.locals)
         counted(seen, kind, reply, forms)
@@ -252,6 +284,9 @@ def main():
             shows = [{"step": "show", "file": name, "what": "bindings"} for name, _ in files]
             replies = [reply] + [show(now, name) for name, _ in files]
             cases.append((files, [step] + shows, replies, now))
+        if after is not None and kind == "method":
+            for way in set(ways_of_family(program, renamed_decls(program, files, step))):
+                seen.add("method: refactored with one %s it" % way)
         if words.javac and after is not None:
             is_local = kind in ("local", "parameter")
             names = "" if is_local else renamed_in_files(program, files, step)

@@ -139,7 +139,7 @@ module _ (rows : List Row) (g : Renaming) (keeps : Keeps rows g) {A B : Type 0} 
   old_type c b (tree.int m) p is = (keys.int, refl)
   old_type c b (tree.boolean m) p is = (keys.boolean, refl)
   old_type c b (tree.named m None w) p (h, (k, finds, spells), is) = (class k, (k, finds, refl))
-  old_type c b (tree.named m (Some v) w) p (q, h, qualifier, (o, k, front, back, spells), is) = (class k, (k, (o, front, back), refl))
+  old_type c b (tree.named m (Some v) w) p (q, h, qualifier, (o, k, front, back, leads, lead, spells), is) = (class k, (k, (o, front, back), refl))
 
   as_written : (of : ClassKey) (b : ℕ) (t : tree.TypeName A) (u : Ty) → WritesType rows (place of) t u → WrittenAs rows of (written begins b t) u
   as_written of b (tree.int m) u h = h
