@@ -77,6 +77,29 @@ def a_field_in_each(count):
     return files, renames(files, "f", "{int ", "h"), in_all(files, "f", "h")
 
 
+def generated(count, number=7):
+    """Files as the specification generates them: classes of ten fields and ten methods."""
+    files, state = {}, number
+    for k in range(count):
+        text = f"class G{k} {{ " + "".join(f"int f{j}; " for j in range(10))
+        for j in range(10):
+            text += f"int m{j}(int a) {{ int t = a + {state % 10}; f{j} = t; return f{j}; }} "
+            state = (state * 5 + 3) % 2**64
+        files[f"G{k}.java"] = text + "}"
+    return files
+
+
+def a_generated_local_in_each(count):
+    files = generated(count)
+    wanted = {name: replaced(text, "t", "u", "return f0;") for name, text in files.items()}
+    return files, renames(files, "t", "{ int ", "u"), wanted
+
+
+def a_generated_field_in_each(count):
+    files = generated(count)
+    return files, renames(files, "f0", "{ int ", "value"), in_all(files, "f0", "value")
+
+
 def a_class_in_all(count):
     files = {"P.java": "class P{int x;P p;P(){super();}static int s(P p){return p.x;}}"}
     for number in range(count - 1):
@@ -102,6 +125,8 @@ ROWS = {
     "a local in the first of 256 files": first_of_many,
     "a local in each of 256 files, 256 steps": a_local_in_each,
     "a field in each of 256 files, 256 steps": a_field_in_each,
+    "a local in each of 256 generated files, 256 steps": a_generated_local_in_each,
+    "a field in each of 256 generated files, 256 steps": a_generated_field_in_each,
     "a class that 256 files use": a_class_in_all,
     "a local with 5,000 references": many_references,
     "a method of 2,000 classes": a_family,
