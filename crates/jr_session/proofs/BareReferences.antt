@@ -1,7 +1,7 @@
 -- Trees that are equal but for their marks refer to the same: what is kept of the one is kept of
 -- the other.
 use Rattle.std.proofs.Common.{◌≡◌, ℕ, List, refl, sym, ap, ◌∙◌, subst, inl, inr}
-use Rattle.std.specs.Prelude.{Option, Some, None, false}
+use Rattle.std.specs.Prelude.{◌⊎◌, Option, Some, None, false}
 use Rattle.jr_ast.specs.Tree as tree
 use Rattle.jr_ast.specs.Remarked.{map_exp, map_exps, map_target}
 use Rattle.jr_grammar.specs.Bare.{Bare, bare, bare_word, bare_type, bare_target, bare_args}
@@ -14,10 +14,10 @@ use Rattle.jr_table.specs.Found.{Found, one}
 use Rattle.jr_table.specs.Lookup.{FindsTypeNamed, FindsTypeOf, FindsLeftOf}
 use Rattle.jr_table.specs.Context.{Context, scope_of, WritesType}
 use Rattle.jr_table.specs.HeadRules.{plain, TopFinds}
-use Rattle.jr_table.specs.Binding.{Role, value, left, Sought, FindsIn, IsClassName, FieldFinds, CallFinds, SuperCallFinds, CreationFinds, SuperCtorFinds, SuperFieldFinds, word_at, TypeRefers, NameFinds, DottedFinds, Refers, BindsItself}
+use Rattle.jr_table.specs.Binding.{Role, value, left, Sought, FindsIn, IsClassName, FieldFinds, CallFinds, SuperCallFinds, CreationFinds, SuperCtorFinds, SuperFieldFinds, word_at, TypeRefers, NameFinds, DottedFinds, Refers}
 use Rattle.jr_table.specs.Binding as role
 use Rattle.jr_rename.specs.Images.{Renaming, class_to, ctor_to, member_to, type_to, decl_to, rows_to}
-use Rattle.jr_rename.specs.Keeping.{IsBoundTo, IsKept, IsWritten, IsSuperKept, IsTopKept, IsParentKept}
+use Rattle.jr_rename.specs.Keeping.{FindBoth, IsRespelled, IsFrontKept, IsTypeKept, IsBoundTo, IsKept, IsWritten, IsSuperKept, IsTopKept, IsParentKept}
 use Rattle.jr_session.proofs.BareBinding.{writes_bare, class_bare, field_bare, call_bare, super_call_bare, creation_bare, super_ctor_bare}
 
 along : (P Q : Type 0) → P ≡ Q → P → Q
@@ -148,6 +148,49 @@ top_back : {B : Type 0} (z : tree.TypeName B) (w : tree.Word Bare) → bare_type
 top_back (tree.named k None v) w e = (k, v, refl, cc)
 top_back _ w e = absurd cc
 
+behind_back : {B : Type 0} (z : tree.TypeName B) (o w : tree.Word Bare) → bare_type z ≡ tree.named tt (Some o) w
+    → (k : B) × (x y : tree.Word B) × (z ≡ tree.named k (Some x) y) × (bare_word x ≡ o) × (bare_word y ≡ w)
+behind_back (tree.named k (Some x) y) o w e = (k, x, y, refl, cc, cc)
+behind_back _ o w e = absurd cc
+
+module _ {B : Type 0} (g : Renaming) (rows : List Row) where
+  respelled_bare : (k : ClassKey) (u v : tree.TypeName B) → bare_type u ≡ bare_type v → IsRespelled g rows k u → IsRespelled g rows k v
+  respelled_bare k u v e (j, w, text, inl is) =
+      let r = top_back v (bare_word w) (sym e ∙ ap bare_type is) in
+      (r.0, r.1, text_bare r.1 w r.3 ∙ text, inl r.2)
+  respelled_bare k u v e (j, w, text, inr (o, around, is)) =
+      let r = behind_back v (bare_word o) (bare_word w) (sym e ∙ ap bare_type is) in
+      (r.0, r.2, text_bare r.2 w r.5 ∙ text, inr (r.1, around ∙ ap Some (sym (text_bare r.1 o r.4)), r.3))
+
+  abbrev FrontIn : Scope → (o k : ClassKey) → tree.TypeName B → Type 0
+  FrontIn new o k u = ((j : B) × (x y : tree.Word B) × (u ≡ tree.named j (Some x) y) × FindBoth g rows new o k x.text y.text)
+      ⊎ ((FindBoth g rows new o k (class_to g o).name (class_to g k).name → ⊥) × IsRespelled g rows k u)
+
+  front_bare : (new : Scope) (o k : ClassKey) (u v : tree.TypeName B) → bare_type u ≡ bare_type v → FrontIn new o k u → FrontIn new o k v
+  front_bare new o k u v e (inl (j, x, y, is, both)) =
+      let r = behind_back v (bare_word x) (bare_word y) (sym e ∙ ap bare_type is) in
+      inl (
+        r.0,
+        r.1,
+        r.2,
+        r.3,
+        subst (λ n. FindBoth g rows new o k n r.2.text) (sym (text_bare r.1 x r.4)) (subst (λ n. FindBoth g rows new o k x.text n) (sym (text_bare r.2 y r.5)) both),
+      )
+  front_bare new o k u v e (inr (never, respelled)) = inr (never, respelled_bare k u v e respelled)
+
+module _ {A B : Type 0} (g : Renaming) (rows : List Row) where
+  front_kept_bare : (old new : Scope) (t : tree.TypeName A) (u v : tree.TypeName B) → bare_type u ≡ bare_type v → IsFrontKept g rows old new t u → IsFrontKept g rows old new t v
+  front_kept_bare old new (tree.int m) u v e h = tt
+  front_kept_bare old new (tree.boolean m) u v e h = tt
+  front_kept_bare old new (tree.named m None w) u v e h = tt
+  front_kept_bare old new (tree.named m (Some z) w) u v e h = λ o k front back. front_bare g rows new o k u v e (h o k front back)
+
+  type_kept_bare : (old new : Scope) (t : tree.TypeName A) (u v : tree.TypeName B) → bare_type u ≡ bare_type v → IsTypeKept g rows old new t u → IsTypeKept g rows old new t v
+  type_kept_bare old new t u v e h = record {
+    means = λ k w. written_move (rows_to g rows) new (type_to g k) u v e (h.means k w);
+    front = front_kept_bare old new t u v e h.front;
+  }
+
 module _ {A B : Type 0} (begins : A → ℕ → ℕ) (begins' : B → ℕ → ℕ) (g : Renaming) (rows : List Row) where
   bound_bare : (d : Context) (r : Role) (i j : ℕ) (y z : tree.Exp B) → bare y ≡ bare z → (x : Decl) → IsBoundTo begins' g rows d r i y x → IsBoundTo begins' g rows d r j z x
   bound_bare d r i j y z e x h = (let k = referred begins' (rows_to g rows) d r i j y z e h.0 h.1.0 (one x) h.1.1 in (k.0, (h.1.0, k.1)))
@@ -174,7 +217,7 @@ module _ {A B : Type 0} (begins : A → ℕ → ℕ) (begins' : B → ℕ → �
   kept_bare c d r b (tree.cast m t x) i j y z e h = tt
 
   pub written_bare : (c d : Context) (b : ℕ) (t : tree.TypeName A) (i j : ℕ) (u v : tree.TypeName B) → bare_type u ≡ bare_type v → IsWritten begins begins' g rows c d b t i u → IsWritten begins begins' g rows c d b t j v
-  written_bare c d b t i j u v e h = λ k w. written_move (rows_to g rows) (scope_of d) (type_to g k) u v e (h k w)
+  written_bare c d b t i j u v e h = type_kept_bare g rows (scope_of c) (scope_of d) t u v e h
 
 module _ {A B : Type 0} (g : Renaming) (rows : List Row) where
   pub super_kept_bare : (c d : Context) (args : tree.Exps A) (x y : tree.Exps B) → bare_args x ≡ bare_args y → IsSuperKept g rows c d args x → IsSuperKept g rows c d args y
@@ -190,4 +233,4 @@ module _ {A B : Type 0} (g : Renaming) (rows : List Row) where
 
   pub parent_kept_bare : (outer : Option (List ℕ)) (b : ℕ) (t : tree.TypeName A) (i j : ℕ) (u v : tree.TypeName B) → bare_type u ≡ bare_type v → IsParentKept g rows outer b t i u → IsParentKept g rows outer b t j v
   parent_kept_bare None b t i j u v e h = top_kept_bare t u v e h
-  parent_kept_bare (Some outer) b t i j u v e h = λ k w. written_move (rows_to g rows) (scope_of (plain (member_to g (head (top_key outer))) false)) (type_to g k) u v e (h k w)
+  parent_kept_bare (Some outer) b t i j u v e h = type_kept_bare g rows (scope_of (plain (head (top_key outer)) false)) (scope_of (plain (member_to g (head (top_key outer))) false)) t u v e h

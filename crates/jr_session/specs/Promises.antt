@@ -83,7 +83,7 @@ pub record KeepsProgram (s : State) (file : List ℕ) (at : ℕ) (new : List ℕ
       (method_to plan.planned.g was)
   -- Each reference of each member of p is bound, at its place in q's own trees and by q's own rows,
   -- to the image of its declaration; each written type, superclass and `super(..)` means the image
-  -- of what it meant.
+  -- of what it meant, and so does the class in front of a type's dot, unless the type is respelled.
   pub references : AlongUnits begins begins (IsKept begins begins plan.planned.g p.rows)
       (IsWritten begins begins plan.planned.g p.rows) (IsSuperKept plan.planned.g p.rows)
       (IsParentKept plan.planned.g p.rows) (member_to plan.planned.g)
