@@ -19,7 +19,7 @@ import os
 import random
 import sys
 
-from bindings import Differences, against_jref, javac_lines
+from bindings import REFUSED_BY_JAVAC, Differences, against_jref, javac_lines
 from hiding import HidingMaker, RareMaker
 from programs import Maker
 from reading.binding import notes_of
@@ -223,7 +223,10 @@ def compared(kind, one, other):
     if one[0] != other[0]:
         return "takes one alone of two others", False
     if one[0] != ["ok"]:
-        return "refuses both", True
+        known = [REFUSED_BY_JAVAC.get(code) for code in one[0][1:]]
+        if None in known:
+            return "refuses both, for another cause: " + " ".join(one[0][1:]), False
+        return "known, refuses both: " + ", ".join(sorted(set(known))), True
     if kind in ("local", "parameter") and one == other:
         return "the same class files, of a " + kind, True
     if shapes(one) == shapes(other):
