@@ -2,13 +2,12 @@
 //! line without ` => ` is a remark.
 use crate::endings::{self, ended};
 use crate::kinds::{self, run_kind};
-use crate::renames;
 use crate::renaming::{self, run_back, run_renamed, run_two};
-use crate::rules;
 use crate::runs::{self, run_bad, run_edits, run_one, run_source};
 use crate::scripts::{self, read};
 use crate::shows::{self, shown};
 use crate::words::{self, meaning};
+use crate::{renames, rules};
 use std::alloc::Global;
 use std::process::Abort;
 

@@ -13,7 +13,12 @@ use Rattle.jr_grammar.specs.Bare.{bare_unit}
 use Rattle.jr_grammar.specs.Layout.{itself}
 use Rattle.jr_grammar.specs.Reads.{Reads}
 use Rattle.jr_table.specs.Rows.{Row}
+use Rattle.jr_table.specs.Conditions.{AreRows}
+use Rattle.jr_table.specs.Keyed.{DispatchesTo}
 use Rattle.jr_table.specs.Sites.{Site, sites_of}
+use Rattle.jr_names.specs.declared.steps.Step.{Step}
+use Rattle.jr_names.specs.declared.steps.Step.TheVariants as step
+use Rattle.jr_names.specs.Replies.{Reply}
 use Rattle.jr_punit.specs.OneReading.{OneReading}
 use Rattle.jr_bind.specs.Programs.{File, Program, units_of}
 use Rattle.jr_places.specs.FileParts.{begins}
@@ -21,26 +26,28 @@ use Rattle.jr_rewrite.specs.AlongMembers.{AlongUnits}
 use Rattle.jr_rewrite.specs.Rewrites.{Choosing, RewritesUnits}
 use Rattle.jr_rewrite.specs.Rewritten.{Rewritten}
 use Rattle.jr_rewrite.proofs.UnbaredMembers.{unit_bare}
-use Rattle.jr_rename.specs.ImageLaws.{without_marks, PlansBecome}
-use Rattle.jr_rename.specs.Images.{Renaming, member_to}
+use Rattle.jr_rename.specs.ImageLaws.{without_marks, AreImages, PlansBecome}
+use Rattle.jr_rename.specs.Images.{Renaming, class_to, method_to, member_to, rows_to}
 use Rattle.jr_rename.specs.Keeping.{IsKept, IsWritten, IsSuperKept, IsParentKept}
 use Rattle.jr_rename.specs.RenameLaws.{trees_of}
 use Rattle.jr_rename.specs.TextLaws.{RowsAreNamed, NamesHaveNoDot}
 use Rattle.jr_renamed.specs.PlanLaws.{IsPlanIn, NewTextsRead, ReferencesStay, NewProgramsAreImages}
 use Rattle.jr_class_rename.specs.ClassLaws.{BuiltRowsAreImages, ConstructorsGiveImages}
+use Rattle.jr_family.specs.Kept.{DispatchIsKept}
 use Rattle.jr_sources.specs.Sources.{Source}
 use Rattle.jr_sources.specs.Whole.{IsProgramOf}
 use Rattle.jr_sources.proofs.AllRead.{element, text_there}
 use Rattle.jr_sources.proofs.Analysing.{counts}
 use Rattle.jr_sources.proofs.WholeProgram.{length-files}
 use Rattle.jr_session.specs.NewTexts.{with_edits}
+use Rattle.jr_session.specs.Promises.{IsSpliced, KeepsProgram, Promises, RenamesKeepPrograms}
 use Rattle.jr_session.specs.Renaming.{IsRenamed}
 use Rattle.jr_session.specs.States.{State}
+use Rattle.jr_session.specs.Stepping.{Steps}
 use Rattle.jr_session.proofs.Planning.{file as file_there}
-use Rattle.jr_kept.specs.Promises.{IsSpliced, KeepsProgram, RenamesKeepPrograms}
-use Rattle.jr_kept.proofs.BareReferences.{kept_bare, written_bare, super_kept_bare, parent_kept_bare}
-use Rattle.jr_kept.proofs.NewRows.{new_rows}
-use Rattle.jr_kept.proofs.TakenBack.{renamed_of}
+use Rattle.jr_session.proofs.BareReferences.{kept_bare, written_bare, super_kept_bare, parent_kept_bare}
+use Rattle.jr_session.proofs.NewRows.{new_rows}
+use Rattle.jr_session.proofs.TakenBack.{renamed_of, undone_after}
 
 -- ---- new sources
 
@@ -108,7 +115,7 @@ module _ (g : Renaming) (rows : List Row) (sites : List Site) where
 
 -- ---- the law
 
-module _ (one : OneReading Span) (named : RowsAreNamed Span) (dots : NamesHaveNoDot) (plans : PlansBecome Span Span) (read : NewTextsRead) (references : ReferencesStay) (images : NewProgramsAreImages) (built : BuiltRowsAreImages Span Span) (ctors : ConstructorsGiveImages Span Span) (move : UntouchedBytesMove)
+module _ (one : OneReading Span) (named : RowsAreNamed Span) (dots : NamesHaveNoDot) (plans : PlansBecome Span Span) (read : NewTextsRead) (references : ReferencesStay) (images : NewProgramsAreImages) (built : BuiltRowsAreImages Span Span) (ctors : ConstructorsGiveImages Span Span) (dispatch : DispatchIsKept) (move : UntouchedBytesMove)
     (s t : State) (file : List ℕ) (at : ℕ) (new : List ℕ) (names : List (List ℕ)) (n : ℕ) (is : IsRenamed s file at new names n t)
   where
     abbrev p : Program Span
@@ -169,12 +176,16 @@ module _ (one : OneReading Span) (named : RowsAreNamed Span) (dots : NamesHaveNo
     files_are : t.files ≡ news
     files_are = ap (λ (x : State). x.files) is.becomes
 
+    new_images : (is.q.rows ≡ rows_to plan.planned.g p.rows) × AreImages itself begins [] p.rows (units_of p) plan.planned.g (units_of is.q)
+    new_images = new_rows s.files p before is.short.plan.text is.short.plan.number at new is.edits is.short.plan.renaming n plan named dots plans images built ctors news is.q is.program trees
+
     keeps : KeepsProgram s file at new t
     keeps = record {
       p = p;
       before = before;
       q = is.q;
       behind = subst (λ (ss : List Source). IsProgramOf ss is.q) (sym files_are) is.program;
+      sound = is.program.is.sound;
       number = is.short.plan.number;
       text = is.short.plan.text;
       asked = is.short.plan.posed.asked;
@@ -183,16 +194,26 @@ module _ (one : OneReading Span) (named : RowsAreNamed Span) (dots : NamesHaveNo
       respelled = n;
       plan = plan;
       trees = trees;
-      rows = (new_rows s.files p before is.short.plan.text is.short.plan.number at new is.edits is.short.plan.renaming n plan named dots plans images built ctors news is.q is.program trees).0;
-      images = (new_rows s.files p before is.short.plan.text is.short.plan.number at new is.edits is.short.plan.renaming n plan named dots plans images built ctors news is.q is.program trees).1;
+      rows = new_images.0;
+      images = new_images.1;
       references = units_bare plan.planned.g p.rows (sites_of begins (units_of p)) (units_of p) (trees_of plan.planned.files) (units_of is.q) (trees ∙ sym (trees_bare plan.planned.files))
           (references p is.short.plan.text is.short.plan.number at new is.edits is.short.plan.renaming n plan);
+      dispatch = λ of m was runs.
+          subst (λ (rows : List Row). DispatchesTo rows (class_to plan.planned.g of) (method_to plan.planned.g m) (method_to plan.planned.g was)) (sym new_images.0)
+          (dispatch p.rows plan.planned.g before.is.are_rows (subst AreRows new_images.0 is.program.is.are_rows) plan.planned.dispatch of m was runs);
       count = ap length files_are ∙ count_with s.files is.edits;
+      back = λ answer u h. undone_after s t file at new names n is u answer h;
       texts = λ i old there.
           (let b = became i old there in (record { name = old.name; text = splice old.text b.1 }, b.1, subst (λ (ss : List Source). slice_get ss i ≡ Some (record { name = old.name; text = splice old.text b.1 })) (sym files_are) (with_at s.files is.edits i old b.1 there b.3), b.3, b.5));
     }
 
-pub renames_keep : OneReading Span → RowsAreNamed Span → NamesHaveNoDot → PlansBecome Span Span → NewTextsRead → ReferencesStay → NewProgramsAreImages → BuiltRowsAreImages Span Span → ConstructorsGiveImages Span Span → UntouchedBytesMove → RenamesKeepPrograms
-renames_keep one named dots plans read references images built ctors move s t file at new reply h done =
+pub renames_keep : OneReading Span → RowsAreNamed Span → NamesHaveNoDot → PlansBecome Span Span → NewTextsRead → ReferencesStay → NewProgramsAreImages → BuiltRowsAreImages Span Span → ConstructorsGiveImages Span Span → DispatchIsKept → UntouchedBytesMove → RenamesKeepPrograms
+renames_keep one named dots plans read references images built ctors dispatch move s t file at new reply h done =
     let r = renamed_of s t file at new reply h done in
-    keeps one named dots plans read references images built ctors move s t file at new r.0 r.1 r.2
+    keeps one named dots plans read references images built ctors dispatch move s t file at new r.0 r.1 r.2
+
+-- ---- all steps
+
+pub promised : RenamesKeepPrograms → (s t : State) (of : Step) (reply : Reply) → Steps s of reply t → Promises s of reply t
+promised keep s t (step.Rename file at new) reply h = keep s t file at new reply h
+promised keep s t of reply h = tt

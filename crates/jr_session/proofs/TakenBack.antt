@@ -9,8 +9,8 @@ use Rattle.jr_session.specs.NewTexts.{with_edits}
 use Rattle.jr_session.specs.Renaming.{IsRenamed}
 use Rattle.jr_session.specs.States.{State, IsUndone}
 use Rattle.jr_session.specs.Stepping.{Steps}
+use Rattle.jr_session.specs.Promises.{IsDone, IsTakenBack}
 use Rattle.jr_session.proofs.RefusalCases.{undo_refusals}
-use Rattle.jr_kept.specs.Promises.{IsDone, IsTakenBack, RenamesAreTakenBack}
 
 -- ---- what an accepted rename is
 
@@ -103,15 +103,10 @@ module _ (s t : State) (file : List ℕ) (at : ℕ) (new : List ℕ) (names : Li
         shown = h.shown ∙ ap (λ (x : State). x.shown) is.becomes;
       }
 
-  undone_after : (u : State) (answer : Reply) → Steps t step.Undo answer u → IsTakenBack s t answer u
+  pub undone_after : (u : State) (answer : Reply) → Steps t step.Undo answer u → IsTakenBack s t answer u
   undone_after u edited h = absurd (undo_no_edit h.1.edit.file h.1.text h.1.span.from h.1.span.to h.1.edit.is)
   undone_after u (refactored names n) h = absurd h.1
   undone_after u (shown lines) h = absurd (undo_no_show h.1.shows.file h.1.shows.is)
   undone_after u undone h = back u h.1.1
   undone_after u redone h = absurd (undo_no_redo h.1.0)
   undone_after u (refused r) h = absurd (last_there s.undo (texts_of s.files) (sym undo_is ∙ (undo_refusals t r h.0.applies).1))
-
-pub taken_back : RenamesAreTakenBack
-taken_back s t u file at new reply answer h done g =
-    let r = renamed_of s t file at new reply h done in
-    undone_after s t file at new r.0 r.1 r.2 u answer g
