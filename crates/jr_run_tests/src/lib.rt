@@ -10,6 +10,8 @@ mod faults;
 #[cfg(test)]
 mod files;
 #[cfg(test)]
+mod kinds;
+#[cfg(test)]
 mod memory;
 #[cfg(test)]
 mod renames;
@@ -19,6 +21,8 @@ mod renaming;
 mod reports;
 #[cfg(test)]
 mod rows;
+#[cfg(test)]
+mod rules;
 #[cfg(test)]
 mod runs;
 #[cfg(test)]
