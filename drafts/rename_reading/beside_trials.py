@@ -15,12 +15,18 @@ import ren
 from renames import KINDS, renames
 from sessions import rename
 
+
+
+def is_plain(text):
+    return text.isascii() and not text.startswith("package")
+
+
 first, programs, count = map(int, sys.argv[1:4])
 seen = collections.Counter()
 for _, files, _, step in renames(first, programs, count, KINDS, sys.argv[4:] == ["rare"]):
     after, reply = rename(files, step)
-    if reply.get("number", 5) < 5:
-        continue  # what this reading takes for granted
+    if reply.get("number", 5) < 5 or not all(is_plain(text) for _, text in files):
+        continue  # what this reading takes for granted, or doesn't read
     names = [name for name, _ in files]
     here = ren.Ren(names, [text for _, text in files])
     said = here.step(names.index(step["file"]), step["at"], step["name"])
