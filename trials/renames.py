@@ -1,8 +1,8 @@
 #!/usr/bin/env python3
 """Random renames in random sound programs, put to the second reading, javac and the built program.
 
-renames.py [--jref BINARY] [--locals] [--javac] [--rare] [--kinds KIND,..] [--first SEED]
-    [--programs N] [--renames N] [--examples N]
+renames.py [--jref BINARY] [--locals] [--javac] [--rare spellings|overloads]
+    [--kinds KIND,..] [--first SEED] [--programs N] [--renames N] [--examples N]
 
 In each program some words are renamed, each time in the program as it was: words of each kind
 (`local`, `parameter`, `field`, `method`, `class`, `constructor`, `nothing`) as often, or of
@@ -25,7 +25,7 @@ from blanks import packed, spread
 from hiding import HidingMaker, RareMaker
 from programs import Maker
 from reading.binding import notes_of
-from reading.program import PRELUDE
+from reading.program import PRELUDE, is_class
 from reading.renaming import PRELUDE_DECLS, Refused, sound, target_of
 from reading.tokens import tokens_of
 from sessions import rename_with_forms, show
@@ -42,7 +42,7 @@ OF_JAVA = {row.decl[1] for row in PRELUDE if row.decl[0] == "class"}
 
 def maker_of(seed, part, rare):
     if rare:
-        return RareMaker(8 * seed + part)
+        return RareMaker(8 * seed + part, rare == "overloads")
     return Maker(8 * seed + part, wild=0.0) if seed % 4 == 0 else HidingMaker(8 * seed + part)
 
 
@@ -118,8 +118,13 @@ class Words:
         names = set()
         for row in self.program.rows:
             if row.decl[0] == decl[0] and self.are_near(row.decl[1], decl[1]):
-                names.add(row.decl[2])
+                if self.parameters(row.decl) == self.parameters(decl):
+                    names.add(row.decl[2])
         return names - self.own_fields(decl) if self.rare else names
+
+    def parameters(self, decl):
+        """How many parameters a method has, where that is to matter."""
+        return len(decl[-1]) if self.rare == "overloads" and decl[0] == "method" else 0
 
     def own_fields(self, decl):
         """Names that a field can't get, as others of its class have them."""
@@ -134,10 +139,13 @@ class Words:
         return a != b and (below(a, b) or below(b, a) or a in around(b) or b in around(a))
 
     def liked(self, kind, random):
-        """The words of a kind, of private classes alone where rare spellings are to be."""
+        """The words of a kind; where rare spellings are to be, mostly of private classes, and of
+        methods that take objects."""
         words = self.by_kind[kind]
         if self.rare and kind == "class" and random.random() < 0.7:
             return [one for one in words if self.program.has_word(one[2], "private")] or words
+        if self.rare == "overloads" and kind == "method":
+            return [one for one in words if any(map(is_class, one[2][-1]))] or words
         return words
 
     def step(self, random, kinds):
@@ -150,7 +158,7 @@ class Words:
         return kind, {"step": "rename", "file": name, "at": at, "name": new}
 
 
-def renames(first, programs, count, kinds, rare=False):
+def renames(first, programs, count, kinds, rare=None):
     """Sound programs with renames: the program, its files, the kind of word and the step."""
     for seed in range(first, first + programs):
         program, files = sound_files(seed, rare)
@@ -272,7 +280,7 @@ def main():
     words.add_argument("--jref")
     words.add_argument("--javac", action="store_true")
     words.add_argument("--locals", action="store_true")
-    words.add_argument("--rare", action="store_true")
+    words.add_argument("--rare", choices=["spellings", "overloads"])
     words.add_argument("--kinds", default=",".join(KINDS))
     words.add_argument("--first", type=int, default=0)
     words.add_argument("--programs", type=int, default=1000)
