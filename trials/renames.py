@@ -20,8 +20,9 @@ import os
 import random
 import sys
 
-from bindings import REFUSED_BY_JAVAC, Differences, against_jref, javac_lines
+from bindings import Differences, against_jref
 from blanks import packed, spread
+from compiled import against_javac
 from hiding import HidingMaker, RareMaker
 from programs import Maker
 from reading.binding import notes_of
@@ -208,55 +209,6 @@ def renamed_in_files(program, files, step):
             names = in_files(program, decl[1]), decl[2], types, step["name"]
             out.append("method %s %s %s %s" % names)
     return ",".join(out)
-
-
-# javac
-
-OWN_READER = [
-    "--add-exports=java.base/jdk.internal.org.objectweb.asm%s=ALL-UNNAMED" % part
-    for part in ("", ".commons", ".util")
-]
-
-
-def class_files(programs):
-    """What javac makes of each program under its renames: of each class a digest of its file and
-    one of what stands in it, or that it refuses it."""
-    lines = javac_lines("Classes.java", programs, OWN_READER)
-    return [[part.split(" ") for part in line.split("\t")] for line in lines]
-
-
-def shapes(classes):
-    return [(one[0], one[2]) for one in classes[1:]]
-
-
-def compared(kind, one, other):
-    """The class of what javac makes of a program before and after a rename, and whether it is one
-    that was to be."""
-    if one[0] != other[0]:
-        return "takes one alone of two others", False
-    if one[0] != ["ok"]:
-        known = [REFUSED_BY_JAVAC.get(code) for code in one[0][1:]]
-        if None in known:
-            return "refuses both, for another cause: " + " ".join(one[0][1:]), False
-        return "known, refuses both: " + ", ".join(sorted(set(known))), True
-    if kind in ("local", "parameter") and one == other:
-        return "the same class files, of a " + kind, True
-    if shapes(one) == shapes(other):
-        return "the same class files but for names, of a " + kind, True
-    return "other class files, of a " + kind, False
-
-
-def against_javac(pairs, seen):
-    before = []
-    for _, names, files, _ in pairs:
-        if before and before[-1][1] is files:
-            before[-1] = (before[-1][0] + "|" + names, files)
-        else:
-            before.append((names, files))
-    made = class_files(before + [("", after) for _, _, _, after in pairs])
-    for (kind, *pair), one, other in zip(pairs, made, made[len(pairs) :]):
-        key, is_wanted = compared(kind, one, other)
-        seen.add("javac: " + key, None if is_wanted else pair)
 
 
 def ways_of_family(program, decls):
