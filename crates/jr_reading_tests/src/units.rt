@@ -203,7 +203,8 @@ fn place_inside(rt: &impl Abort, alloc: Global, source: &str) -> Option<Span> {
     let text = text_of(rt, alloc, source);
     let items = items_of(rt, alloc, &text);
     let unit = parse_unit(alloc, &text, &items).expect(rt, "a unit");
-    match unit.stmt_at(&path_inside(rt, alloc)) {
+    let path = path_inside(rt, alloc);
+    match unit.stmt_at(&path) {
         None => None,
         Some(stmt) => Some(stmt.mark),
     }
