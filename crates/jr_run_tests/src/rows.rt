@@ -1,13 +1,12 @@
 //! Tables of rows in one text, a row a line: `~`, what is asked, ` => ` and what is expected. A
 //! line without ` => ` is a remark.
 use crate::endings::{self, ended};
-use crate::renames;
 use crate::renaming::{self, run_two};
-use crate::rules;
 use crate::runs::{self, run_bad, run_edits, run_one, run_source};
 use crate::scripts::{self, read};
 use crate::shows::{self, shown};
 use crate::words::{self, meaning};
+use crate::{renames, rules};
 use std::alloc::Global;
 use std::process::Abort;
 
