@@ -216,5 +216,6 @@ fn place_inside(rt: &impl Abort, alloc: Global, source: &str) -> Option<Span> {
 fn the_deepest_unit_is_read(rt: HostRuntime) {
     let text = deep(&rt, rt.alloc());
     let place = place_inside(&rt, rt.alloc(), text.as_str());
-    assert!(rt; place == Some(Span { from: 41504, to: 41505 }));
+    let (from, to) = (41504, 41505);
+    assert!(rt; place == Some(Span { from, to }));
 }
