@@ -5,6 +5,7 @@
 mod changes;
 mod dispatching;
 mod families;
+mod marks;
 mod moves;
 mod parts;
 mod preludes;

@@ -156,6 +156,65 @@ pub(crate) const ROWS: &'static str = "
 ~rename 3 6 goto@class A{static int f=2147483648;} => Refused | \
     [{\"number\":3,\"refusal\":\"BadName goto\",\"reply\":\"refused\"}] | \
     class A{static int f=2147483648;}
+~# Of several that collide the first, and references that are spelled otherwise or lost.
+~rename 3 37 I@class O{int I;void I(){}static class K{}}class I{} => Refused | \
+    [{\"number\":14,\"refusal\":\"Clash O.I\",\"reply\":\"refused\"}] | \
+    class O{int I;void I(){}static class K{}}class I{}
+~rename 3 13 k@class A{void m(){}}class B extends A{void m(){}void k(){}}class C extends A{void \
+    k(){}void m(){}} => Refused | [{\"number\":14,\"refusal\":\"Clash \
+    B.k()\",\"reply\":\"refused\"}] | class A{void m(){}}class B extends A{void m(){}void k(){}}\
+    class C extends A{void k(){}void m(){}}
+~rename 0 56 b@class A{A(int a){}}class B extends A{static int b;B(int p){super(b+p);}} => \
+    Done | [{\"files\":[\"A.java\"],\"reply\":\"refactored\",\"respelled\":1}] | \
+    class A{A(int a){}}class B extends A{static int b;B(int b){super(B.b+b);}}
+~rename 0 79 m@class O{static void m(){}static class I extends P{void n(){m();}}}class P{void \
+    k(){}} => Done | [{\"files\":[\"A.java\"],\"reply\":\"refactored\",\"respelled\":1}] | \
+    class O{static void m(){}static class I extends P{void n(){O.m();}}}class P{void m(){}}
+~rename 0 79 m@class O{static void m(){}static class I extends P{void n(){m();}}}class P{void \
+    k(int a){}} => Done | [{\"files\":[\"A.java\"],\"reply\":\"refactored\",\"respelled\":1}] | \
+    class O{static void m(){}static class I extends P{void n(){O.m();}}}class P{void m(int a){}}
+~rename 0 19 y@class A{static int x;}class P extends A{static int y;}class C{int m(){return \
+    P.x+P.y;}} => Done | [{\"files\":[\"A.java\"],\"reply\":\"refactored\",\"respelled\":1}] | \
+    class A{static int y;}class P extends A{static int y;}class C{int m(){return A.y+P.y;}}
+~rename 0 37 x@class A{int x;}class B extends A{int y;}class C{int m(B b){return b.x+b.y;}} => \
+    Done | [{\"files\":[\"A.java\"],\"reply\":\"refactored\",\"respelled\":1}] | \
+    class A{int x;}class B extends A{int x;}class C{int m(B b){return ((A) b).x+b.x;}}
+~rename 0 32 f@class A{int f;void m(){f=1;{int a=f;f=a;}f=2;}} => Done | \
+    [{\"files\":[\"A.java\"],\"reply\":\"refactored\",\"respelled\":2}] | \
+    class A{int f;void m(){f=1;{int f=this.f;this.f=f;}f=2;}}
+~rename 3 18 q@class A{int m(int p){if(p<1)return p;else{int q=p;return q;}}} => Refused | \
+    [{\"number\":14,\"refusal\":\"Clash A.m(int)#1\",\"reply\":\"refused\"}] | \
+    class A{int m(int p){if(p<1)return p;else{int q=p;return q;}}}
+~rename 3 33 q@class O{static class I{int m(int p){int q=p;return q;}}} => Refused | \
+    [{\"number\":14,\"refusal\":\"Clash O.I.m(int)#1\",\"reply\":\"refused\"}] | \
+    class O{static class I{int m(int p){int q=p;return q;}}}
+~rename 0 6 Q@class O{static class I{int f;int m(int a){int b=a;return b+f;}}O o;I i;}class P \
+    extends O{I j;O.I k;} => Done | [{\"files\":[\"A.java\"],\"reply\":\"refactored\",\
+    \"respelled\":0}] | class Q{static class I{int f;int m(int a){int b=a;return b+f;}}Q o;I \
+    i;}class P extends Q{I j;Q.I k;}
+~rename 0 19 b@class A{static int a(){return 1;}}class B extends A{static int b(){return 2;}int \
+    m(){return a()+b();}} => Done | [{\"files\":[\"A.java\"],\"reply\":\"refactored\",\
+    \"respelled\":1}] | class A{static int b(){return 1;}}class B extends A{static int \
+    b(){return 2;}int m(){return A.b()+b();}}
+~rename 3 20 b@class A{static void a(){}}class B extends A{static int b(){return 2;}} => \
+    Refused | [{\"number\":17,\"refusal\":\"WouldNotCompile A.java:55 \
+    Override\",\"reply\":\"refused\"}] | class A{static void a(){}}class B extends A{static int \
+    b(){return 2;}}
+~rename 3 51 A@class A{static int f;static int g;static int m(int p){return A.f+A.g+p;}} => \
+    Refused | [{\"number\":16,\"refusal\":\"LostBinding A.java:61 A found \
+    A.m(int)#0\",\"reply\":\"refused\"}] | class A{static int f;static int g;static int m(int p){\
+    return A.f+A.g+p;}}
+~rename 3 37 m@class A{int m(A a,B b){return 1;}int k(B a,A b){return 2;}int n(B b){return \
+    m(b,b);}}class B extends A{} => Refused | [{\"number\":16,\"refusal\":\"LostBinding \
+    A.java:76 A.m(A,B) found A.m(A,B) and A.m(B,A)\",\"reply\":\"refused\"}] | \
+    class A{int m(A a,B b){return 1;}int k(B a,A b){return 2;}int n(B b){return m(b,b);}}class B \
+    extends A{}
+~rename 3 19 b@class A{void m(int a,int b){}} => Refused | \
+    [{\"number\":14,\"refusal\":\"Clash A.m(int,int)#1\",\"reply\":\"refused\"}] | \
+    class A{void m(int a,int b){}}
+~rename 3 25 a@class A{void m(int a,int b){}} => Refused | \
+    [{\"number\":14,\"refusal\":\"Clash A.m(int,int)#0\",\"reply\":\"refused\"}] | \
+    class A{void m(int a,int b){}}
 ";
 
 /// A script that renames what stands at a byte of a file.
