@@ -1,8 +1,9 @@
-// The class files of programs, without names of locals: a line a program, each class with a digest
-// of its file and one of what stands in it, or `refused`. A program is a line: what is renamed, then
-// names and texts, with tabs between them. What is renamed (`class K L`, `field K x y`,
-// `method K m (I)V k`, with `,` between two) has its new name in what the second digest is of, and
-// each field and method there has the class that declares it.
+// The class files of programs, without names of locals: a line a rename, each class with a digest
+// of its file and one of what stands in it, or `refused` and javac's codes. A program is a line: its
+// renames, then names and texts, with tabs between them. What is renamed (`class K L`,
+// `field K x y`, `method K m (I)V k`, with `,` between two, and `|` between two renames) has its new
+// name in what the second digest is of, and each field and method there has the class that declares
+// it.
 import java.io.*;
 import java.net.URI;
 import java.nio.file.*;
@@ -14,6 +15,9 @@ import jdk.internal.org.objectweb.asm.commons.*;
 import jdk.internal.org.objectweb.asm.util.*;
 
 public class Classes {
+    // Whether what stands in the class files is shown, for one who looks at a difference.
+    static final boolean SHOWN = Boolean.getBoolean("shown");
+
     static class Source extends SimpleJavaFileObject {
         final String text;
 
@@ -73,6 +77,7 @@ public class Classes {
     static class Declared extends ClassVisitor {
         final Map<String, String> above = new HashMap<>();
         final Set<String> members = new HashSet<>();
+        final Set<String> ofJavac = new HashSet<>();
         String now;
 
         Declared() {
@@ -83,6 +88,7 @@ public class Classes {
         public void visit(int v, int access, String name, String s, String above, String[] i) {
             now = name;
             this.above.put(name, above);
+            if ((access & Opcodes.ACC_SYNTHETIC) != 0) ofJavac.add(name);
         }
 
         @Override
@@ -117,8 +123,13 @@ public class Classes {
             }
         }
 
+        // A class of javac's own (`A$1`, the type of a parameter by which a private constructor is
+        // called from another class) is named after the class at the top in which it is needed.
         @Override
         public String map(String name) {
+            int at = name.lastIndexOf('$');
+            if (declared.ofJavac.contains(name))
+                return map(name.substring(0, at)) + name.substring(at);
             return names.getOrDefault("class " + name, name);
         }
 
@@ -188,26 +199,36 @@ public class Classes {
                 sources.add(new Source(parts[i], parts[i + 1]));
             Memory memory = new Memory(files);
             StringWriter said = new StringWriter();
-            JavaCompiler.CompilationTask task =
-                compiler.getTask(said, memory, d -> {}, options, null, sources);
-            StringBuilder out = new StringBuilder(task.call() ? "ok" : "refused");
-            if (out.length() == 2) {
-                Declared declared = new Declared();
+            TreeSet<String> why = new TreeSet<>();
+            JavaCompiler.CompilationTask task = compiler.getTask(said, memory, d -> {
+                if (d.getKind() == Diagnostic.Kind.ERROR)
+                    why.add(d.getCode().replace("compiler.err.", ""));
+            }, options, null, sources);
+            boolean taken = task.call();
+            Declared declared = new Declared();
+            if (taken)
                 for (Made one : memory.made.values())
                     new ClassReader(one.bytes.toByteArray()).accept(declared, 0);
-                Renames renames = new Renames(declared, parts[0]);
-                TreeMap<String, String> all = new TreeMap<>();
-                for (Map.Entry<String, Made> one : memory.made.entrySet()) {
-                    String name = renames.map(one.getKey().replace('.', '/'));
-                    String shape = shape(one.getValue(), declared, renames);
-                    if (words.length > 1) System.err.println(shape);
-                    all.put(name, digest(one.getValue().bytes.toByteArray())
-                        + " " + digest(shape.getBytes("UTF-8")));
-                }
-                for (Map.Entry<String, String> one : all.entrySet())
-                    out.append("\t" + one.getKey() + " " + one.getValue());
+            for (String all : parts[0].split("\\|", -1)) {
+                Renames renames = new Renames(declared, all);
+                System.out.println(taken
+                    ? "ok" + made(memory, declared, renames)
+                    : "refused " + String.join(" ", why));
             }
-            System.out.println(out);
         }
+    }
+
+    static String made(Memory memory, Declared declared, Renames renames) throws Exception {
+        TreeMap<String, String> all = new TreeMap<>();
+        for (Map.Entry<String, Made> one : memory.made.entrySet()) {
+            String shape = shape(one.getValue(), declared, renames);
+            if (SHOWN) System.err.println(shape);
+            all.put(renames.map(one.getKey().replace('.', '/')),
+                digest(one.getValue().bytes.toByteArray()) + " " + digest(shape.getBytes("UTF-8")));
+        }
+        StringBuilder out = new StringBuilder();
+        for (Map.Entry<String, String> one : all.entrySet())
+            out.append("\t" + one.getKey() + " " + one.getValue());
+        return out.toString();
     }
 }

@@ -9,11 +9,14 @@ METHODS = ["m", "n", "k"]
 LOCALS = ["a", "b", "c"]
 # Names that hide, obscure or are the name of something else.
 CLASHING = ["f", "g", "A", "K", "m", "B"]
+CONDITIONS = ["true", "(true)", "1<2", "false"]
 OBJECT_METHODS = ["notify", "wait", "toString", "hashCode"]
 SIMPLE = ["int", "boolean", "Object", "String", "Thread"]
 
 
 class Maker:
+    conditions = CONDITIONS
+
     def __init__(self, seed, wild=0.02):
         self.random = random.Random(seed)
         self.wild = wild
@@ -139,8 +142,12 @@ class Maker:
         return self.pick(options)
 
     def creation(self, here, c, depth):
-        types = self.pick([ctor.types for ctor in c.ctors]) if c.ctors else []
+        types = self.ctor_types(here.cls, c)
         return "new %s(%s)" % (self.named(here, c), self.args(here, types, depth))
+
+    def ctor_types(self, where, c):
+        """The parameter types of one of a class's constructors, to be called in another class."""
+        return self.pick([ctor.types for ctor in c.ctors]) if c.ctors else []
 
     def named(self, here, c):
         inside = c.outer is None or here.cls.name == c.outer or here.cls.outer == c.outer
@@ -303,7 +310,7 @@ class Maker:
         if way == "while":
             condition = self.value(here, "boolean", depth)
             if self.chance(0.3):
-                condition = self.pick(["true", "(true)", "1<2", "false"])
+                condition = self.pick(self.conditions)
             return "while(%s)%s" % (condition, nested())
         if way == "block":
             return "{%s}" % self.statements(here, self.pick([0, 1, 2]), depth - 1)
@@ -358,30 +365,37 @@ class Maker:
         elif field.init:
             init = "=" + self.value(here, field.type, 1)
         words = self.words(field, "static", "final", "volatile")
-        return "%s%s %s%s;" % (words, field.type, field.name, init)
+        return "%s%s %s%s;" % (words, self.declared(c, field.type), field.name, init)
 
-    def params(self, types):
+    def declared(self, c, type):
+        """A type as a declaration in the class is written with it."""
+        return type
+
+    def params(self, c, types):
         names = self.random.sample(LOCALS + ["f", "A"], len(types))
         finals = [self.chance(0.15) for _ in types]
         locals = list(zip(names, types, finals))
-        text = ",".join("%s%s %s" % ("final " if f else "", t, n) for n, t, f in locals)
+        text = ",".join(
+            "%s%s %s" % ("final " if f else "", self.declared(c, t), n) for n, t, f in locals
+        )
         return text, locals
 
     def method_text(self, c, method):
-        params, locals = self.params(method.types)
+        params, locals = self.params(c, method.types)
         here = Item(cls=c, static=method.static, locals=locals, result=method.result)
         body = self.statements(here, self.pick([0, 1, 1, 2, 3]), 2)
         if method.result != "void" and not self.chance(self.wild):
             body += self.returned(here, 1)
         words = self.words(method, "static", "final", "synchronized")
-        return "%s%s %s(%s){%s}" % (words, method.result, method.name, params, body)
+        result = self.declared(c, method.result)
+        return "%s%s %s(%s){%s}" % (words, result, method.name, params, body)
 
     def ctor_text(self, c, ctor):
-        params, locals = self.params(ctor.types)
+        params, locals = self.params(c, ctor.types)
         here = Item(cls=c, static=True, locals=locals, result="void")
         parent, call = self.by_name(c.parent) if c.parent else None, ""
         if parent is not None and (parent.ctors or self.chance(0.3)):
-            types = self.pick([other.types for other in parent.ctors]) if parent.ctors else []
+            types = self.ctor_types(c, parent)
             call = "super(%s);" % self.args(here, types, 1)
         elif self.chance(0.1):
             call = "super(%s);" % self.pick(["", "1", "null"])

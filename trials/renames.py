@@ -1,55 +1,164 @@
 #!/usr/bin/env python3
 """Random renames in random sound programs, put to the second reading, javac and the built program.
 
-renames.py [--jref BINARY] [--locals] [--members] [--javac] [--first SEED] [--programs N] [--examples N]
+renames.py [--jref BINARY] [--locals] [--javac] [--rare] [--kinds KIND,..] [--first SEED]
+    [--programs N] [--renames N] [--examples N]
 
-With --jref the program's report of the rename and of a show of each file behind it has to be what
-the reading says, and the stored texts too; with --locals anything but a local is `Unbuilt`. With
---members mostly fields, methods and classes are renamed. With --javac the programs before and after
-are compiled: it takes both; after a rename of a local the class files, without names of locals, are
-the same; and after any other they are the same but for the names of what is renamed, each field and
-method under the class that declares it. Differences are counted by class, with some examples of
-each.
+In each program some words are renamed, each time in the program as it was: words of each kind
+(`local`, `parameter`, `field`, `method`, `class`, `constructor`, `nothing`) as often, or of those
+of --kinds; with --rare in programs in which rare spellings are likelier. With --jref the program's
+report of the rename and of a show of each file behind it has to be what the reading says, and the
+stored texts too; with --locals anything but a local is `Unbuilt`. With --javac the programs before
+and after are compiled: it takes both; after a rename of a local the class files, without names of
+locals, are the same (or differ in the class through which a field is named); and after any other
+they are the same but for the names of what is renamed, each field and method under the class that
+declares it. Differences are counted by class, with some examples of each.
 """
 import argparse
 import os
 import random
 import sys
 
-from bindings import Differences, against_jref, javac_lines, lines_or_fault
+from bindings import REFUSED_BY_JAVAC, Differences, against_jref, javac_lines
+from hiding import HidingMaker, RareMaker
 from programs import Maker
-from reading.binding import Binding
+from reading.binding import notes_of
 from reading.program import PRELUDE
-from reading.renaming import PRELUDE_DECLS, Refused, target_at, target_of
-from reading.tokens import Lexer
-from sessions import rename, show
+from reading.renaming import PRELUDE_DECLS, Refused, sound, target_of
+from reading.tokens import tokens_of
+from sessions import rename_with_forms, show
 from thinning import thinned
 
-NAMES = ["a", "b", "c", "f", "g", "h", "A", "B", "K", "L", "m", "x", "Object", "goto", "1", "d$"]
-
-
-def is_captured(text, word, refs):
-    """Whether a local of this name could capture the word: a field or class by its simple name."""
-    return refs.get(word.at, ("none",))[0] in ("field", "class") and text[word.at - 1] != "."
-
-
-def is_member(decl):
-    return decl is not None and decl[0] != "local" and decl not in PRELUDE_DECLS
-
-
-def target_kind(program, files, step):
-    """What kind of declaration the identifier declares or is bound to."""
-    if program is None:
-        return "nothing"
-    number = [name for name, _ in files].index(step["file"])
-    try:
-        return target_at(program, number, step["at"], "")[0][0]
-    except Refused:
-        return "nothing"
-
-
+NAMES = ["a", "b", "c", "f", "g", "h", "m", "x", "d$", "A", "K", "Object", "goto", "1"]
+KINDS = ["local", "parameter", "field", "method", "class", "constructor", "nothing"]
 IN_FILES = {"int": "I", "boolean": "Z", "void": "V"}
 OF_JAVA = {row.decl[1] for row in PRELUDE if row.decl[0] == "class"}
+
+
+# programs and renames
+
+
+def maker_of(seed, part, rare):
+    if rare:
+        return RareMaker(8 * seed + part)
+    return Maker(8 * seed + part, wild=0.0) if seed % 4 == 0 else HidingMaker(8 * seed + part)
+
+
+def sound_files(seed, rare):
+    """A sound program, and its files."""
+    for part in range(8):
+        maker = maker_of(seed, part, rare)
+        files = maker.files()
+        files = files if isinstance(maker, HidingMaker) else thinned(files, maker.random, 9)
+        try:
+            return sound(files), files
+        except Refused:
+            pass
+    return None, None
+
+
+def kind_of(decl, is_constructor):
+    """The kind of a word by what it declares or is bound to."""
+    if decl is None or decl in PRELUDE_DECLS:
+        return "nothing"
+    if is_constructor:
+        return "constructor"
+    if decl[0] == "local" and decl[1][0] != "field" and decl[2] < len(decl[1][-1]):
+        return "parameter"
+    return decl[0]
+
+
+class Words:
+    """The words of a program, by kind, and its names."""
+
+    def __init__(self, program, files, rare):
+        self.program = program
+        self.rare = rare
+        self.by_kind = {kind: [] for kind in KINDS}
+        self.classes, self.others = set(), set()
+        self.used = {}  # the names that are used in each member
+        for number, (name, text) in enumerate(files):
+            notes = notes_of(program, number)
+            means = {**notes.refs, **notes.declared}
+            tokens, last = tokens_of(text)
+            members = dict(self.members(program.units[number].classes, None))
+            member = None
+            for token, behind in zip(tokens, tokens[1:] + [last]):
+                member = members.get(token.at, member)
+                if token.kind == "word":
+                    decl = means.get(token.at)
+                    is_class = decl is not None and decl[0] == "class"
+                    is_constructor = is_class and token.at in notes.declared and behind.text == "("
+                    kind = kind_of(decl, is_constructor)
+                    self.by_kind[kind].append((name, token, decl))
+                    (self.classes if is_class else self.others).add(token.text)
+                    if kind in ("class", "field"):
+                        self.used.setdefault(member, set()).add(token.text)
+
+    def members(self, trees, outer):
+        """Where each member begins."""
+        for tree in trees:
+            key = (outer, tree.name.text)
+            for member in tree.members:
+                if member.kind == "inner":
+                    yield from self.members([member.of], tree.name.text)
+                else:
+                    yield member.at, self.program.member_decl(key, member)
+
+    def likely(self, decl):
+        """Names under which a declaration may stand in the way of others, or they in its."""
+        if decl is None or decl[0] == "class":
+            return self.others - self.classes
+        if decl[0] == "local":
+            return self.used.get(decl[1], set())
+        names = set()
+        for row in self.program.rows:
+            if row.decl[0] == decl[0] and self.are_near(row.decl[1], decl[1]):
+                names.add(row.decl[2])
+        return names - self.own_fields(decl) if self.rare else names
+
+    def own_fields(self, decl):
+        """Names that a field can't get, as others of its class have them."""
+        rows = self.program.rows if decl[0] == "field" else []
+        return {row.decl[2] for row in rows if row.decl[:2] == decl[:2]}
+
+    def are_near(self, a, b):
+        """Whether one of two classes has the other above it, or around it or what is above it."""
+        below = self.program.is_subclass
+        around = lambda key: {above for one in self.program.enclosing(key)
+                              for above in self.program.chain(one)}
+        return a != b and (below(a, b) or below(b, a) or a in around(b) or b in around(a))
+
+    def liked(self, kind, random):
+        """The words of a kind, of private classes alone where rare spellings are to be."""
+        words = self.by_kind[kind]
+        if self.rare and kind == "class" and random.random() < 0.7:
+            return [one for one in words if self.program.has_word(one[2], "private")] or words
+        return words
+
+    def step(self, random, kinds):
+        kind = random.choice([kind for kind in kinds if self.by_kind[kind]] or ["nothing"])
+        name, word, decl = random.choice(self.liked(kind, random))
+        at = word.at + random.choice([0] * 8 + [len(word.text) - 1, len(word.text)])
+        every = self.others if decl is None or decl[0] == "class" else self.others | self.classes
+        near = sorted(random.choice([self.likely(decl)] * 3 + [every]) - {word.text})
+        new = random.choice(near if near and random.random() < 0.9 else NAMES)
+        return kind, {"step": "rename", "file": name, "at": at, "name": new}
+
+
+def renames(first, programs, count, kinds, rare=False):
+    """Sound programs with renames: the program, its files, the kind of word and the step."""
+    for seed in range(first, first + programs):
+        program, files = sound_files(seed, rare)
+        if program is None:
+            continue
+        words = Words(program, files, rare)
+        maker = random.Random(seed)
+        for _ in range(count):
+            yield (program, files, *words.step(maker, kinds))
+
+
+# what is renamed, as class files have it
 
 
 def in_files(program, key):
@@ -64,12 +173,15 @@ def descriptor(program, type):
     return IN_FILES.get(type) or "L%s;" % in_files(program, type)
 
 
+def renamed_decls(program, files, step):
+    number = [name for name, _ in files].index(step["file"])
+    return target_of(program, number, step["at"], "", step["name"])[0]
+
+
 def renamed_in_files(program, files, step):
     """What is renamed, as class files have it."""
-    number = [name for name, _ in files].index(step["file"])
-    decls, _ = target_of(program, number, step["at"], "", step["name"])
     out = []
-    for decl in decls:
+    for decl in renamed_decls(program, files, step):
         if decl[0] == "class":
             for key in program.parent:
                 if key == decl[1] or key[0] is not None and (None, key[0]) == decl[1]:
@@ -86,12 +198,7 @@ def renamed_in_files(program, files, step):
     return ",".join(out)
 
 
-def class_files(programs):
-    """What javac makes of each program under its renames: of each class a digest of its file and
-    one of what stands in it, or that it refuses it."""
-    lines = javac_lines("Classes.java", programs, OWN_READER)
-    return [[part.split(" ") for part in line.split("\t")] for line in lines]
-
+# javac
 
 OWN_READER = [
     "--add-exports=java.base/jdk.internal.org.objectweb.asm%s=ALL-UNNAMED" % part
@@ -99,35 +206,61 @@ OWN_READER = [
 ]
 
 
-def request(seed, members):
-    """A sound program, and a rename in it: mostly of a local, or of a member."""
-    for part in range(8):
-        maker = Maker(8 * seed + part, wild=0.0)
-        files = thinned(maker.files(), maker.random, 9)
-        program, shown = lines_or_fault(files)
-        if program is not None and not any(" error " in line for one in shown for line in one):
-            break
-    pick = random.Random(seed).choice
-    name, text = pick(files)
-    words = [token for token in Lexer(text).tokens()[0] if token.kind == "word"]
-    liked = [word for word in words if word.text in ("a", "b", "c")]
-    if members and program is not None:
-        notes = Binding(program, files.index((name, text)))
-        means = {**notes.refs, **notes.declared}
-        liked = [word for word in words if is_member(means.get(word.at))]
-    word = pick(liked if liked and (members or pick([True, False])) else words)
-    at = word.at + pick([0, 0, 0, 1])
-    near = [other.text for other in words if word.at < other.at < word.at + 80]
-    if program is not None:
-        refs = Binding(program, files.index((name, text))).refs
-        members = [other.text for other in words if is_captured(text, other, refs)]
-        near = pick([near, members, members])
-    new = pick(near) if near and pick([True, True, True, False]) else pick(NAMES)
-    return files, {"step": "rename", "file": name, "at": at, "name": new}
+def class_files(programs):
+    """What javac makes of each program under its renames: of each class a digest of its file and
+    one of what stands in it, or that it refuses it."""
+    lines = javac_lines("Classes.java", programs, OWN_READER)
+    return [[part.split(" ") for part in line.split("\t")] for line in lines]
 
 
 def shapes(classes):
     return [(one[0], one[2]) for one in classes[1:]]
+
+
+def compared(kind, one, other):
+    """The class of what javac makes of a program before and after a rename, and whether it is one
+    that was to be."""
+    if one[0] != other[0]:
+        return "takes one alone of two others", False
+    if one[0] != ["ok"]:
+        known = [REFUSED_BY_JAVAC.get(code) for code in one[0][1:]]
+        if None in known:
+            return "refuses both, for another cause: " + " ".join(one[0][1:]), False
+        return "known, refuses both: " + ", ".join(sorted(set(known))), True
+    if kind in ("local", "parameter") and one == other:
+        return "the same class files, of a " + kind, True
+    if shapes(one) == shapes(other):
+        return "the same class files but for names, of a " + kind, True
+    return "other class files, of a " + kind, False
+
+
+def against_javac(pairs, seen):
+    before = []
+    for _, names, files, _ in pairs:
+        if before and before[-1][1] is files:
+            before[-1] = (before[-1][0] + "|" + names, files)
+        else:
+            before.append((names, files))
+    made = class_files(before + [("", after) for _, _, _, after in pairs])
+    for (kind, *pair), one, other in zip(pairs, made, made[len(pairs) :]):
+        key, is_wanted = compared(kind, one, other)
+        seen.add("javac: " + key, None if is_wanted else pair)
+
+
+def ways_of_family(program, decls):
+    """Where the methods that are renamed with the first one stand."""
+    own, below = decls[0][1], program.is_subclass
+    for _, key, *_ in decls[1:]:
+        yield "below" if below(key, own) else "above" if below(own, key) else "beside"
+
+
+def counted(seen, kind, reply, forms):
+    seen.add(kind + ": " + (reply["refusal"].split()[0] if "refusal" in reply else "refactored"))
+    if reply.get("respelled"):
+        seen.add(kind + ": some respelled")
+    for form, count in forms.items():
+        seen.counts["respelled: %s, references" % form] += count
+        seen.add("respelled: %s, renames" % form)
 
 
 def main():
@@ -135,47 +268,39 @@ def main():
     words.add_argument("--jref")
     words.add_argument("--javac", action="store_true")
     words.add_argument("--locals", action="store_true")
-    words.add_argument("--members", action="store_true")
+    words.add_argument("--rare", action="store_true")
+    words.add_argument("--kinds", default=",".join(KINDS))
     words.add_argument("--first", type=int, default=0)
     words.add_argument("--programs", type=int, default=1000)
+    words.add_argument("--renames", type=int, default=4)
     words.add_argument("--examples", type=int, default=2)
     words = words.parse_args()
     seen = Differences(words.examples)
     cases, pairs = [], []
-    for seed in range(words.first, words.first + words.programs):
-        files, step = request(seed, words.members)
-        program, shown = lines_or_fault(files)
-        after, reply = rename(files, step, words.locals)
-        after = files if after is None else after
-        kind = target_kind(program, files, step) + ": "
-        seen.add(kind + (reply["refusal"].split()[0] if "refusal" in reply else "refactored"))
-        if reply.get("respelled"):
-            seen.add(kind + "some respelled")
-        shows = [{"step": "show", "file": name, "what": "bindings"} for name, _ in files]
-        replies = [reply] + [show(after, name) for name, _ in files]
-        cases.append((files, [step] + shows, replies, after))
-        if after != files:
-            renames = "" if kind == "local: " else renamed_in_files(program, files, step)
-            pairs.append((kind, renames, files, after))
+    kinds = words.kinds.split(",")
+    asked = renames(words.first, words.programs, words.renames, kinds, words.rare)
+    for program, files, kind, step in asked:
+        after, reply, forms = rename_with_forms(files, step, words.locals)
+        counted(seen, kind, reply, forms)
+        if words.jref:
+            now = files if after is None else after
+            shows = [{"step": "show", "file": name, "what": "bindings"} for name, _ in files]
+            replies = [reply] + [show(now, name) for name, _ in files]
+            cases.append((files, [step] + shows, replies, now))
+        if after is not None and kind == "method":
+            for way in set(ways_of_family(program, renamed_decls(program, files, step))):
+                seen.add("method: refactored with one %s it" % way)
+        if words.javac and after is not None:
+            is_local = kind in ("local", "parameter")
+            names = "" if is_local else renamed_in_files(program, files, step)
+            pairs.append((kind, names, files, after))
     if words.jref:
         against_jref(os.path.abspath(words.jref), cases, seen)
     if words.javac:
-        before = class_files([(renames, files) for _, renames, files, _ in pairs])
-        behind = class_files([("", after) for _, _, _, after in pairs])
-        for (kind, *pair), one, other in zip(pairs, before, behind):
-            takes_both = one[0] == other[0] == ["ok"]
-            if takes_both and kind == "local: " and one == other:
-                seen.add("javac: the same class files")
-            elif takes_both and kind != "local: " and shapes(one) == shapes(other):
-                seen.add("javac: the same class files but for names, of a " + kind[:-2])
-            elif one[0] == other[0] and not takes_both:
-                seen.add("javac: refuses both")
-            elif takes_both:
-                seen.add("javac: other class files, of a " + kind[:-2], pair)
-            else:
-                seen.add("javac: takes one alone of two others", pair)
+        against_javac(pairs, seen)
     seen.show()
-    sys.exit(any("other" in key or "status" in key for key in seen.counts))
+    sys.exit(any("another" in key or " other" in key or "status" in key for key in seen.counts))
 
 
-main()
+if __name__ == "__main__":
+    main()

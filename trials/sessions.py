@@ -47,12 +47,19 @@ def edit(files, step):
 
 def rename(files, step, locals_alone=False):
     """The files after a rename, or its refusal."""
+    after, reply, _ = rename_with_forms(files, step, locals_alone)
+    return after, reply
+
+
+def rename_with_forms(files, step, locals_alone=False):
+    """The same, with the respelled references by form."""
     try:
-        after, respelled = plan(files, step["file"], step["at"], step["name"], locals_alone)
+        after, forms = plan(files, step["file"], step["at"], step["name"], locals_alone)
     except Refused as one:
-        return None, refused(one.number, one.text)
+        return None, refused(one.number, one.text), {}
     changed = [name for (name, new), (_, old) in zip(after, files) if new != old]
-    return after, {"files": changed, "reply": "refactored", "respelled": respelled}
+    reply = {"files": changed, "reply": "refactored", "respelled": sum(forms.values())}
+    return after, reply, forms
 
 
 def replies(files, steps):

@@ -1,5 +1,5 @@
 """Programs without some of what breaks a rule, so that more of them are sound."""
-from reading.binding import Binding
+from reading.binding import notes_of
 from reading.program import Program, SourceFault
 
 
@@ -29,7 +29,7 @@ def thinned(files, random, rounds):
         new = []
         for number, (name, text) in enumerate(files):
             spans = set()
-            for at, _ in Binding(program, number).errors:
+            for at, _ in notes_of(program, number).errors:
                 members = [(m, True) for c in program.units[number].classes for m in c.members]
                 found = innermost(members, at)
                 if found is not None and random.random() < 0.8:

@@ -2,8 +2,8 @@
 """The second reading against given cases: vectors.py [FILE.jsonl..]
 
 Without files: the programs of marked.txt, where «..» stands in front of each place at which a rule
-is broken. With files: cases of the command run, with edits, renames, undos, redos and shows of
-bindings. Prints each case that differs, and how many there were.
+is broken. With files: cases of the command rename, and of the command run with edits, renames,
+undos, redos and shows of bindings. Prints each case that differs, and how many there were.
 """
 import json
 import os
@@ -12,7 +12,7 @@ import sys
 
 from reading.binding import RULES, lines
 from reading.program import Program
-from sessions import replies
+from sessions import rename, replies
 
 HERE = os.path.dirname(os.path.abspath(__file__))
 STEPS = {"edit", "rename", "undo", "redo", "show"}
@@ -38,12 +38,26 @@ def marked_cases():
                 yield text, [one for one in shown if " error " in one], errors
 
 
+def renamed(files, words):
+    """What the command rename prints."""
+    step = {"file": words[1], "at": int(words[2]), "name": words[3]}
+    after, reply = rename(files, step)
+    if after is None:
+        return "refused %d %s\n" % (reply["number"], reply["refusal"])
+    return after[0][1]
+
+
 def given_cases(path):
     with open(path, encoding="utf-8") as file:
         for line in file:
             case = json.loads(line)
             words = case["words"]
-            if case["exit"] > 1 or words[:1] != ["run"] or "--out" in words or case.get("doubt"):
+            if case["exit"] > 1 or "--out" in words or case.get("doubt"):
+                continue
+            if words[0] == "rename":
+                files = [(words[1], case["files"][words[1]])]
+                yield (files, words), renamed(files, words), case["out"]
+            if words[0] != "run":
                 continue
             steps = json.loads(case["files"][words[1]])
             if any(s["step"] not in STEPS or s.get("what") == "dependences" for s in steps):

@@ -85,16 +85,15 @@ class Ren:
         g=n.typen(c,o)
         return g[0]=='one' and s.leads_in(n,c,g[1][1],name,k)
     def tcast(s,n,c,o,d,args): K=d[1]; return n.sub(o,K) and s.names_cls(n,c,None,K[1],K) and s.tv(n,c,K,d,args)
-    def words(s,t): return t.split('.',1) if '.' in t else (None,t)
     def binds(s,n,c,r,d,f):
         form,asked,opk,text,args=r; K=d[1] if d[0]!='local' else None; obj=not c['st']
         if f=='Asked':
             if form=='FieldSimple': return s.same(n.variable(c,asked),d)
             if form in('FieldOn','MethodOn'): return s.tv(n,c,opk,d,args)
             if form=='FieldSuper': return obj and n.par(c['k']) is not None and s.tv(n,c,n.par(c['k']),d,args)
-            if form=='ThroughClass': o,w=s.words(text); return s.leads(n,c,o,w,opk) and s.tc(n,c,opk,d,args)
+            if form=='ThroughClass': return text and s.tc(n,c,opk,d,args)
             if form=='MethodSimple': return n.mnamed(c,asked,args)==('one',d)
-            if form=='ClassName': o,w=s.words(asked); return s.names_cls(n,c,o,w,K)
+            if form=='ClassName': return text if opk is not None else s.names_cls(n,c,None,asked,K)
             if d[0]=='local': return s.same(n.variable(c,asked),d)
             if d[0]=='method': return obj and n.par(c['k']) is not None and s.tv(n,c,n.par(c['k']),d,args)
             if d[0]=='ctor': return n.ctorof(c,opk if opk else n.par(c['k']),args)==('one',d)
@@ -127,10 +126,10 @@ class Ren:
             if s.binds(n,c,r,e,f): return s.spelled(old,s.nm(d,old) if d[0]!='ctor' else old,K,f)
         return ('loses',at,d,finds())
     def spells_left(s,at,old,k,leads,finds): return s.renamed(old,s.cls(k)[1]) if leads else ('loses',at,('class',k),finds())
-    def class_words(s,c,e,k):
-        if e[0]=='field':
-            o=s.b.cn(c,e[2]); return s.cls(o)[1]+'.'+s.cls(k)[1]
-        return s.cls(k)[1]
+    def words_lead(s,c,q,e): # each word of a class in front of a dot finds the image of what it found
+        n=s.n; k=s.cls(s.b.cn(c,e))
+        if e[0]=='name': return s.leads(n,q,None,k[1],k)
+        return s.words_lead(c,q,e[2]) and s.leads_in(n,q,s.cls(s.b.cn(c,e[2])),k[1],k)
     def exp_choice(s,c,role,e):
         b=s.b; n=s.n; k=e[0]; q=s.scope(c)
         if k=='name':
@@ -151,8 +150,8 @@ class Ren:
                 if o is None:
                     t=b.ty(c,e[2]); nk=s.cls(t)
                     return s.spells(q,w[1],w[2],d,('FieldOn',nm,nk,'',()),lambda:n.fieldin(q,nk,nm))
-                nk=s.cls(o); text=s.class_words(c,e[2],o)
-                return s.spells(q,w[1],w[2],d,('ThroughClass',text+'.'+nm,nk,text,()),lambda:n.fieldin(q,nk,nm))
+                nk=s.cls(o); text=s.words_lead(c,q,e[2])
+                return s.spells(q,w[1],w[2],d,('ThroughClass',nm,nk,text,()),lambda:n.fieldin(q,nk,nm))
             assert role=='left' and o is not None,(e,f)
             g=b.leftof(c,o,w[2]); cl=g[1][1]; nk=s.cls(cl); no=s.cls(o)
             return s.spells_left(w[1],w[2],cl,s.leads_in(n,q,no,nk[1],nk),lambda:n.leftof(q,no,nk[1]))
@@ -166,8 +165,8 @@ class Ren:
             if o is None:
                 nk=s.cls(b.ty(c,e[2]))
                 return s.spells(q,w[1],w[2],d,('MethodOn',nm,nk,'',ts),lambda:n.mof(q,nk,nm,ts))
-            nk=s.cls(o); text=s.class_words(c,e[2],o)
-            return s.spells(q,w[1],w[2],d,('ThroughClass',text+'.'+nm,nk,text,ts),lambda:n.mof(q,nk,nm,ts))
+            nk=s.cls(o); text=s.words_lead(c,q,e[2])
+            return s.spells(q,w[1],w[2],d,('ThroughClass',nm,nk,text,ts),lambda:n.mof(q,nk,nm,ts))
         if k=='super_call':
             w=e[2]; f=b.scf(c,w[2],e[3]); d=f[1]; nm=s.nm(d,w[2]); ts=s.tys(b.tys(c,e[3]))
             return s.spells(q,w[1],w[2],d,('AsAsked',nm,None,'',ts),lambda:n.mof(q,n.par(q['k']),nm,ts))
@@ -184,7 +183,7 @@ class Ren:
         v=t[2]; o=b.typen(c,v[2])[1][1]; k=b.typeof(c,o,w[2])[1][1]; no=s.cls(o); nk=s.cls(k)
         def qf():
             g=n.typen(q,no[1]); return n.typeof(q,g[1][1],nk[1]) if g[0]=='one' else ('none',)
-        h=s.spells(q,w[1],w[2],('class',k),('ClassName',no[1]+'.'+nk[1],None,'',()),qf)
+        h=s.spells(q,w[1],w[2],('class',k),('ClassName',nk[1],no,s.names_cls(n,q,None,no[1],no) and n.typeof(q,no,nk[1])==('one',('class',nk)),()),qf)
         p=s.spells_left(v[1],v[2],o,n.typen(q,no[1])==('one',('class',no)),lambda:n.typen(q,no[1]))
         return qualified_out(p,h,v,w)
     # ---- Rewrites

@@ -1,7 +1,9 @@
 """The references of a file and the rules that it breaks, as lines (JLS 6, 8, 14, 15)."""
+from functools import lru_cache
+
 from .lookup import Local, Lookup, Place
 from .program import decl_text, is_class
-from .tokens import Lexer
+from .tokens import tokens_of
 
 RULES = [
     "NoVariable", "NoType", "NoMethod", "Ambiguous", "Private", "StaticContext",
@@ -378,11 +380,17 @@ class Binding(Lookup):
         return False
 
 
+@lru_cache(maxsize=64)
+def notes_of(program, file):
+    """The notes of a file of a program."""
+    return Binding(program, file)
+
+
 def lines(program, name):
     """The lines of a show of bindings: references and errors by place, references first."""
     file = [file_name for file_name, _ in program.files].index(name)
-    notes = Binding(program, file)
-    tokens, _ = Lexer(program.files[file][1]).tokens()
+    notes = notes_of(program, file)
+    tokens, _ = tokens_of(program.files[file][1])
     word = {token.at: token.text for token in tokens}
     shown = [(at, 0, "%d %s %s" % (at, word[at], decl_text(d))) for at, d in notes.refs.items()]
     shown += [(at, 1 + rule, "%d error %s" % (at, RULES[rule])) for at, rule in notes.errors]
@@ -392,7 +400,7 @@ def lines(program, name):
 def first_error(program):
     """The first broken rule of a program, by file and place, or None."""
     for file in range(len(program.files)):
-        errors = Binding(program, file).errors
+        errors = notes_of(program, file).errors
         if errors:
             at, rule = min(errors)
             return (file, at, RULES[rule])

@@ -50,12 +50,27 @@ def is_static_form(e):
     return e.kind in ("number", "truth", "string", "null")
 
 
+def settled(find):
+    """Keeps what a program finds, once its superclasses and rows don't change any more."""
+
+    def kept(program, *words):
+        if program.found is None:
+            return find(program, *words)
+        key = (find.__name__, *words)
+        if key not in program.found:
+            program.found[key] = find(program, *words)
+        return program.found[key]
+
+    return kept
+
+
 class Program:
     """Files as a list of (name, text). Raises `SourceFault` where one of them can't be read, or
     where a declaration is at fault."""
 
     def __init__(self, files):
         self.files = files
+        self.found = None
         self.units = []
         for number, (name, text) in enumerate(files):
             try:
@@ -76,6 +91,7 @@ class Program:
         self.collect_rows()
         self.stop_at_faults()
         self.number = {row.decl: i for i, row in enumerate(self.rows)}
+        self.found = {}
 
     # faults
 
@@ -144,6 +160,7 @@ class Program:
             if at == key:
                 self.fault("Cycle", file, tree.name.at)
 
+    @settled
     def chain(self, key):
         """A class and its superclasses, nearest first."""
         found = []
@@ -160,6 +177,7 @@ class Program:
 
     # types by name (JLS 6.5.5, 8.5)
 
+    @settled
     def member_type(self, key, name):
         """The member type of a class, as ("class", class), or None."""
         for i, above in enumerate(self.chain(key)):
@@ -169,6 +187,7 @@ class Program:
                 return None if hidden else found
         return None
 
+    @settled
     def simple_type(self, key, name):
         for enclosing in self.enclosing(key):
             found = self.member_type(enclosing, name)
@@ -275,14 +294,17 @@ class Program:
                 return None if i > 0 and self.has_word(decl, "private") else decl
         return None
 
+    @settled
     def member_field(self, key, name):
         return self.nearest(key, lambda above: ("field", above, name))
 
+    @settled
     def member_class(self, key, name):
         return self.nearest(
             key, lambda above: ("class", (above[1], name)) if above[0] is None else None
         )
 
+    @settled
     def member_methods(self, key, name):
         return [
             row.decl
@@ -292,6 +314,7 @@ class Program:
             and self.nearest(key, lambda above: ("method", above, *row.decl[2:])) == row.decl
         ]
 
+    @settled
     def ctors(self, key):
         return [row.decl for row in self.rows if row.decl[:2] == ("ctor", key)]
 

@@ -1,8 +1,11 @@
 """Rename: the new texts, or the first refusal (JLS 6.3, 6.4, 8.4.8)."""
-from .binding import OBJECT_METHODS, Binding, first_error
+from collections import Counter
+from functools import lru_cache
+
+from .binding import OBJECT_METHODS, first_error, notes_of
 from .program import PRELUDE, Program, SourceFault, decl_text, type_text
 from .spelling import Renamed, Spelling, found_text
-from .tokens import Fault, Lexer
+from .tokens import Fault, tokens_of
 
 LIMIT, TOTAL = 1_048_576, 8_388_608
 PRELUDE_DECLS = {row.decl for row in PRELUDE}
@@ -17,7 +20,7 @@ class Refused(Exception):
 
 def is_identifier(name):
     try:
-        tokens, _ = Lexer(name).tokens()
+        tokens, _ = tokens_of(name)
     except Fault:
         return False
     return len(tokens) == 1 and tokens[0].kind == "word" and tokens[0].text == name
@@ -182,7 +185,7 @@ def request_faults(files, file_name, at, name):
 
 
 def plan(files, file_name, at, name, locals_alone=False):
-    """The new files and the number of respelled references. Raises `Refused`; where members and
+    """The new files and the respelled references, by form. Raises `Refused`; where members and
     classes can't be renamed yet (`locals_alone`), they are `Unbuilt`."""
     file = request_faults(files, file_name, at, name)
     program = sound(files)
@@ -206,10 +209,15 @@ def plan(files, file_name, at, name, locals_alone=False):
     after = [(one, spliced(text, walk.edits)) for (one, text), walk in zip(files, walks)]
     limits(after)
     would_compile(after)
-    return after, sum(walk.respelled for walk in walks)
+    return after, sum((walk.respelled for walk in walks), Counter())
 
 
 def sound(files):
+    return sound_program(tuple(files))
+
+
+@lru_cache(maxsize=16)
+def sound_program(files):
     try:
         program = Program(files)
     except SourceFault as fault:
@@ -221,8 +229,8 @@ def sound(files):
 
 
 def target_at(program, file, at, place):
-    tokens, _ = Lexer(program.files[file][1]).tokens()
-    notes = Binding(program, file)
+    tokens, _ = tokens_of(program.files[file][1])
+    notes = notes_of(program, file)
     for token in tokens:
         length = len(token.text.encode("utf-8"))
         if token.kind == "word" and token.at <= at < token.at + length:

@@ -4,6 +4,7 @@ Each reference takes the first spelling of its form that is bound to its declara
 program: the one of the source with the new names, or one through `this`, `super`, a cast or a class.
 """
 import copy
+from collections import Counter
 
 from .binding import Binding
 from .lookup import Lookup
@@ -23,6 +24,7 @@ class Renamed:
         ]
         new.number = {row.decl: i for i, row in enumerate(new.rows)}
         new.parent = {self.cls(key): self.cls(above) for key, above in program.parent.items()}
+        new.found = {}
         new.trees = {self.cls(key): tree for key, tree in program.trees.items()}
         self.program = new
 
@@ -60,6 +62,17 @@ def found_text(found):
     return text + {"private": " not accessible", "static": " from static"}.get(found[0], "")
 
 
+def form_of(kind, text):
+    """The form of a reference's spelling: `field super.x`, `method K.x`, `class Outer.K`."""
+    words = text.split(".")
+    if text.startswith("(("):
+        return kind + " ((K) this).x"
+    if words[0] in ("this", "super"):
+        return "%s %s.x" % (kind, words[0])
+    forms = ["Outer", "K"] if kind == "class" else ["Outer", "K", "x"]
+    return kind + " " + ".".join(forms[-len(words) :])
+
+
 class Spelling(Binding):
     """The edits of a file, and its references that have no spelling."""
 
@@ -68,7 +81,7 @@ class Spelling(Binding):
         self.new = Lookup(renamed.program)
         self.edits = []  # (from, to, text)
         self.lost = []  # (at, declaration, finding)
-        self.respelled = 0
+        self.respelled = Counter()  # how many references take a form that isn't the asked one
         super().__init__(program, file)
         for at, decl in self.declared.items():
             if decl in renamed.decls:
@@ -113,13 +126,13 @@ class Spelling(Binding):
     def end_of(self, word):
         return word.at + len(word.text.encode("utf-8"))
 
-    def respell(self, start, word, text):
-        self.respelled += 1
+    def respell(self, start, word, text, kind):
+        self.respelled[form_of(kind, text)] += 1
         self.edits.append((start, self.end_of(word), text))
 
     def cast(self, e, key, text):
         """`((K) e).x`, around what the expression in front of the dot is spelled as."""
-        self.respelled += 1
+        self.respelled[("field" if e.kind == "field" else "method") + " ((K) e).x"] += 1
         self.edits.append((e.on.at, e.on.at, "((%s) " % key[1]))
         self.edits.append((e.on.end, self.end_of(e.name), ")." + text))
 
@@ -170,7 +183,7 @@ class Spelling(Binding):
         if asked == self.one(decl):
             self.put(word, decl)
         elif text is not None:
-            self.respell(word.at, word, text)
+            self.respell(word.at, word, text, "class")
         else:
             self.lost.append((word.at, decl, asked))
 
@@ -183,7 +196,7 @@ class Spelling(Binding):
             self.put(type.outer, outer)
             self.put(type.name, decl)
         elif text is not None:
-            self.respell(type.outer.at, type.name, text)
+            self.respell(type.outer.at, type.name, text, "class")
         elif asked_outer != self.one(outer):
             self.lost.append((type.outer.at, outer, asked_outer))
         else:
@@ -233,7 +246,7 @@ class Spelling(Binding):
 
     def take(self, spellings, start, word, decl, asked):
         if spellings:
-            self.respell(start, word, spellings[0])
+            self.respell(start, word, spellings[0], decl[0])
         else:
             self.lost.append((word.at, decl, asked))
 
@@ -339,7 +352,7 @@ class Spelling(Binding):
         elif self.member(self.new, new, key, e, text, types) == self.one(decl) and (
             self.class_fronts(new, key)
         ):
-            self.respell(e.on.at, e.name, self.class_fronts(new, key)[0] + "." + text)
+            self.respell(e.on.at, e.name, self.class_fronts(new, key)[0] + "." + text, decl[0])
         elif broken:
             word, bound, finding = broken[0]
             self.lost.append((word.at, bound, finding))

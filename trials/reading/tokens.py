@@ -1,5 +1,6 @@
 """The tokens of a text, or its first lexical fault or fault of depth (JLS 3)."""
 from collections import namedtuple
+from functools import lru_cache
 
 Token = namedtuple("Token", "kind text at")  # kind: word, keyword, number, string, symbol, end
 
@@ -10,11 +11,9 @@ KEYWORDS = set(
     " synchronized this throw throws transient try void volatile while".split()
 )
 LITERALS = {"true", "false", "null"}
-SYMBOLS = sorted(
+SYMBOLS = set(
     "( ) { } [ ] ; , . ... @ :: = > < ! ~ ? : -> == >= <= != && || ++ -- + - * / & | ^ % << >> >>>"
-    " += -= *= /= &= |= ^= %= <<= >>= >>>=".split(),
-    key=len,
-    reverse=True,
+    " += -= *= /= &= |= ^= %= <<= >>= >>>=".split()
 )
 BLANKS = " \t\f\n\r"
 ESCAPES = "btnfr\"'\\"
@@ -133,13 +132,20 @@ class Lexer:
             elif self.starts_unicode_escape(i):
                 self.fault("Escape", i)
             else:
-                symbol = next((s for s in SYMBOLS if text.startswith(s, i)), None)
-                if symbol is None:
+                j = i + 4
+                while j > i and text[i:j] not in SYMBOLS:
+                    j -= 1
+                if j == i:
                     self.fault("BadByte", i)
-                j = i + len(symbol)
-                out.append(Token("symbol", symbol, at))
+                out.append(Token("symbol", text[i:j], at))
             i = j
         return out, Token("end", "", self.byte_at[-1])
+
+
+@lru_cache(maxsize=256)
+def tokens_of(text):
+    """The tokens of a text, and the end behind them."""
+    return Lexer(text).tokens()
 
 
 def measure(tokens):

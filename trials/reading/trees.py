@@ -5,9 +5,10 @@ statement have `end` too, the byte behind it, and so has what may stand in front
 has `at` and `text`.
 """
 import sys
+from functools import lru_cache
 from types import SimpleNamespace as Node
 
-from .tokens import Fault, GREATEST, Lexer, measure
+from .tokens import Fault, GREATEST, measure, tokens_of
 
 # A text within the limits of depth has at most 100 brackets in one another, and each takes some
 # fifteen calls.
@@ -23,7 +24,7 @@ CALLS = {"call", "super_call", "create"}
 
 class Parser:
     def __init__(self, text):
-        self.tokens, self.last = Lexer(text).tokens()
+        self.tokens, self.last = tokens_of(text)
         measure(self.tokens)
         self.i = 0
 
@@ -384,5 +385,6 @@ class Parser:
         self.fault()
 
 
+@lru_cache(maxsize=256)
 def read(text):
     return Parser(text).unit()

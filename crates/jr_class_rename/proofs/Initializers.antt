@@ -162,7 +162,7 @@ module _ (rows : List Row) (g : Renaming) (keeps : Keeps rows g) {A B : Type 0} 
       let two = both (same_name w.text (codes "Object")) (has_none begins args) h in
       let text = (bytes_decides w.text (codes "Object")).0 two.0 in
       let same = keeps.object_old (scope_of c) j (subst (λ (x : List ℕ). FindsTypeNamed rows (scope_of c) x (one (class_decl j))) text finds) in
-      let new = goes (class j) (j, finds, refl) in
+      let new = goes.means (class j) (j, finds, refl) in
       let object = object_new (scope_of d) u (subst (λ (x : ClassKey). WritesType (rows_to g rows) (scope_of d) u (class x)) (ap (class_to g) same ∙ object_stays rows g keeps) new) in
       let none = none_goes c d (begins m at) (begins k n) args es more two.1 in
       ap (is_simple begins) is ∙ (λ i. object i && none i)

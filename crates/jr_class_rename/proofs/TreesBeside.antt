@@ -139,7 +139,7 @@ module _ (rows : List Row) (g : Renaming) (keeps : Keeps rows g) {A B : Type 0} 
   old_type c b (tree.int m) p is = (keys.int, refl)
   old_type c b (tree.boolean m) p is = (keys.boolean, refl)
   old_type c b (tree.named m None w) p (h, (k, finds, spells), is) = (class k, (k, finds, refl))
-  old_type c b (tree.named m (Some v) w) p (q, h, qualifier, (o, k, front, back, spells), is) = (class k, (k, (o, front, back), refl))
+  old_type c b (tree.named m (Some v) w) p (q, h, qualifier, (o, k, front, back, leads, lead, spells), is) = (class k, (k, (o, front, back), refl))
 
   as_written : (of : ClassKey) (b : ℕ) (t : tree.TypeName A) (u : Ty) → WritesType rows (place of) t u → WrittenAs rows of (written begins b t) u
   as_written of b (tree.int m) u h = h
@@ -208,7 +208,7 @@ module _ (rows : List Row) (g : Renaming) (keeps : Keeps rows g) {A B : Type 0} 
       let f = e ∙ ap (map (map_param no_mark)) same in
       let both = sym same ∙ whole ∙ ap (λ (x : Rewritten (List (syntax.Param A))). x.tree) made in
       let here = cons_head _ _ _ _ f in (
-        type_goes of k l is was (begins p.mark at) (begins' q.mark j) p.type t type y.type goes q.type (ap (λ (x : syntax.Param Bare). x.type) here),
+        type_goes of k l is was (begins p.mark at) (begins' q.mark j) p.type t type y.type goes.means q.type (ap (λ (x : syntax.Param Bare). x.type) here),
         ap (λ (x : syntax.Param Bare). x.name.text) here ∙ ap (λ (x : syntax.Param A). x.name.text) (cons_head _ _ _ _ both) ∙ declared_text tells rows g super_at (local_decl (record { member = k; number = m })) (begins p.mark at) p.name v name
             ∙ kept_name g (local_decl (record { member = k; number = m })) p.name.text (keeps.local (record { member = k; number = m })),
         params_go of k l is was (suc m) at j n ps q' more' rest (cons_rest _ _ _ _ both) more qs (cons_rest _ _ _ _ f),
@@ -221,7 +221,7 @@ module _ (rows : List Row) (g : Renaming) (keeps : Keeps rows g) {A B : Type 0} 
   result_goes of k l is was at j n None o made y along (Some z) e = let f = e ∙ ap (option_map (map_type no_mark)) along in absurd cc
   result_goes of k l is was at j n (Some t) o made y (v, same, goes) None e = let f = e ∙ ap (option_map (map_type no_mark)) same in absurd cc
   result_goes of k l is was at j n (Some t) o (p, type, made) y (v, same, goes) (Some z) e =
-      type_goes of k l is was at j t p type v goes z (same_Some _ _ (e ∙ ap (option_map (map_type no_mark)) same))
+      type_goes of k l is was at j t p type v goes.means z (same_Some _ _ (e ∙ ap (option_map (map_type no_mark)) same))
 
   no_parent : (outer : Option (List ℕ)) → ParentTo rows g outer None None
   no_parent None = tt
@@ -238,7 +238,7 @@ module _ (rows : List Row) (g : Renaming) (keeps : Keeps rows g) {A B : Type 0} 
 
   named_goes : (outer : Option (List ℕ)) (at j n : ℕ) (t : tree.TypeName A) → NamesSuperclass (Some t) → (p : Rewritten (tree.TypeName A)) → TypeOut tells Chosen (ParentQualifierSpells begins rows g outer at t) (ParentSpells begins rows g outer at t) at t p
       → (v : tree.TypeName A) → IsParentKept g rows outer at t n v → (z : tree.TypeName B) → map_type no_mark z ≡ map_type no_mark v → ParentTo rows g outer (Some (written begins at t)) (Some (written begins' j z))
-  named_goes (Some of) at j n t names p type v goes z e = type_goes (top_key of) (head (top_key of)) (head (top_key of)) refl refl at j t p type v goes z e
+  named_goes (Some of) at j n t names p type v goes z e = type_goes (top_key of) (head (top_key of)) (head (top_key of)) refl refl at j t p type v goes.means z e
   named_goes None at j n (tree.int m) names p type v goes z e = absurd names
   named_goes None at j n (tree.boolean m) names p type v goes z e = absurd names
   named_goes None at j n (tree.named m (Some q) w) names p (a, h, qualifier, never, is) v goes z e = absurd never
@@ -273,7 +273,7 @@ module _ (rows : List Row) (g : Renaming) (keeps : Keeps rows g) {A B : Type 0} 
             name = ap name_in f' ∙ declared_text tells rows g super_at (field_decl (record { class = of; name = w.text })) (begins m b) w v name
                 ∙ kept_name g (field_decl (record { class = of; name = w.text })) w.text (keeps.field (record { class = of; name = w.text }));
             words = same_words mods ms nods same_mods (ap mods_in f);
-            type = type_goes of key key refl refl (begins m b) (begins' k i) t p type u goes r (same_Some _ _ (ap type_in f));
+            type = type_goes of key key refl refl (begins m b) (begins' k i) t p type u goes.means r (same_Some _ _ (ap type_in f));
             init = some_map (init_site begins' (begins' k i)) last ∙ sym (some_map (map_exp no_mark) last) ∙ ap (λ (x : syntax.Member Bare). is_some (init_in x)) f ∙ some_map (map_exp no_mark) z
                 ∙ maybe_along (plain key (is_static_member begins mods)) (plain (member_to g key) (is_static_member begins ms)) (begins m b) (begins j n) init z maybe
                 ∙ sym (some_map (init_site begins (begins m b)) init);

@@ -47,8 +47,8 @@ BuiltRowsAreImages A B = (tells : A → ℕ → Span) (begins' : B → ℕ → �
     → (others ≡ rows_to g rows) × AreImages tells begins' packages rows units g news
 
 module _ {A B : Type 0} (tells : A → ℕ → Span) (begins' : B → ℕ → ℕ) where
-  -- A constructor is renamed, whose name is that of its class, so that nothing gets another one. The
-  -- new trees have these rows, and no fault.
+  -- A constructor is renamed, whose name is that of its class, so that nothing gets another one.
+  -- The new trees have these rows, and no fault.
   pub record ConstructorBecomes (packages : List (Option PackageLine)) (rows others : List Row)
       (super_at : MemberKey → ℕ) (units : List (syntax.Unit A)) (k : CtorKey) (g : Renaming)
       (news : List (syntax.Unit B)) : Type 0 where

@@ -124,7 +124,7 @@ module _ (g : Renaming) (rows : List Row) (are : AreRows rows) (news : AreRows (
         };
       }
 
-  found : (qs : List Row) (fit : AreRows qs) (of : ClassKey) (m : MethodKey) (c d j k : ℕ) (name : List ℕ) (params : List Kind) → IsRowOf qs (class_decl of) c → IsRowOf qs (method_decl m) j
+  pub found : (qs : List Row) (fit : AreRows qs) (of : ClassKey) (m : MethodKey) (c d j k : ℕ) (name : List ℕ) (params : List Kind) → IsRowOf qs (class_decl of) c → IsRowOf qs (method_decl m) j
       → DeclaresVirtual (entries_of qs) name params d j → IsSubclassAt (entries_of qs) c d → nearest (entries_of qs) (is_virtual name params) c ≡ Some k → MethodFound qs fit of m k
   found qs fit of m c d j k name params class method v below near =
       let e = v.declared.row in

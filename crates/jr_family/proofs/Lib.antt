@@ -9,4 +9,6 @@ pub mod Belows
 pub mod ImageEntries
 pub mod KeyedChanges
 pub mod Telling
+pub mod Marking
 pub mod Lows
+pub mod KeptDispatch

@@ -1,5 +1,21 @@
 -- Dispatch in two programs that differ in names alone, by numbers.
-use Rattle.std.specs.Prelude.{◌≡◌, ◌≢◌, ℕ, ◌≤◌, List, Some, Bool, slice_get, ◌↔◌}
+use Rattle.std.specs.Prelude.{
+  ◌≡◌,
+  ◌≢◌,
+  ℕ,
+  ◌≤◌,
+  List,
+  Option,
+  Some,
+  Bool,
+  true,
+  false,
+  slice_get,
+  ◌↔◌,
+  ◌⊎◌,
+  unwrap_or,
+  option_and_then,
+}
 use Rattle.jr_table.specs.declared.entries.Kind.{Kind}
 use Rattle.jr_table.specs.declared.entries.Sort.TheVariants as sort
 use Rattle.jr_table.specs.declared.entries.Entry.{Entry}
@@ -72,6 +88,29 @@ pub record IsParted (old new : List Entry) (c j : ℕ) : Type 0 where
   pub params : List Kind
   pub names : HasNames old new was now params c j
   pub differs : DiffersAbove old new (is_virtual was params) (is_virtual now params) c
+
+-- what is looked for in the one program and in the other: methods, neither private nor static, of
+-- the same types
+pub record AreMethodTests (t u : ℕ → Entry → Bool) : Type 0 where
+  pub was : List ℕ
+  pub now : List ℕ
+  pub params : List Kind
+  pub before : t ≡ is_virtual was params
+  pub after : u ≡ is_virtual now params
+
+-- none of the rows that are marked is parted
+abbrev pub AreUnparted : (old new : List Entry) → (marks : List Bool) → Type 0
+AreUnparted old new marks =
+    (j c : ℕ) → slice_get marks j ≡ Some true → IsParted old new c j → ⊥
+
+-- whether the row of the number is marked
+abbrev pub is_marked : List Bool → Option ℕ → Bool
+is_marked marks o = unwrap_or (option_and_then (λ j. slice_get marks j) o) false
+
+-- none is marked but those that were and this one
+abbrev pub MarksOne : (old : List Bool) → Option ℕ → (new : List Bool) → Type 0
+MarksOne old o new =
+    (j : ℕ) → slice_get new j ≡ Some true → (slice_get old j ≡ Some true) ⊎ (o ≡ Some j)
 
 -- exactly the classes that declare such methods
 abbrev pub ArePartedClasses : (old new : List Entry) → List ℕ → Type 0

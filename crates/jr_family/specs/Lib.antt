@@ -3,3 +3,4 @@ pub mod Changes
 pub mod Moves
 pub mod Keys
 pub mod Told
+pub mod Kept

@@ -9,6 +9,7 @@ ghost use Rattle.jr_rename.specs.Images.{rows_to};
 ghost use Rattle.jr_rename.specs.ImageView.{renaming_of};
 ghost use Rattle.jr_rename.specs.Refusals.{ChangesDispatch, IsFirstChange};
 ghost use Rattle.jr_family.specs.Keys.{class_at};
+ghost use Rattle.jr_family.specs.Kept.{DispatchIsKept};
 
 use crate::changes::first_change;
 use jr_rename::NewName;
@@ -69,3 +70,10 @@ pub fn dispatch_change(
     let key = method.copy(alloc)?;
     Ok(Some((of, key)))
 }
+
+/// Where a renaming changes no dispatch, dispatch in the new program is the image of the old one,
+/// for each method and each class on whose objects it is dispatched (JLS 15.12.4.4). Nothing is run
+/// by it.
+pub fn dispatch_is_kept()
+    ensures { DispatchIsKept }
+{}

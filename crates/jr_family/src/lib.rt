@@ -5,11 +5,12 @@
 mod changes;
 mod dispatching;
 mod families;
+mod marks;
 mod moves;
 mod parts;
 mod preludes;
 mod tops;
 
-pub use dispatching::dispatch_change;
+pub use dispatching::{dispatch_change, dispatch_is_kept};
 pub use families::family;
 pub use preludes::prelude_method;

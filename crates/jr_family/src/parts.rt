@@ -5,8 +5,10 @@ ghost use Rattle.jr_table.specs.Chains.{In};
 ghost use Rattle.jr_table.specs.Looking.{own_row};
 ghost use Rattle.jr_table.specs.Wanted.{passes};
 ghost use Rattle.jr_family.specs.Changes.{AreAlike, DiffersAbove, IsParted, ArePartedClasses};
+ghost use Rattle.jr_family.specs.Changes.{AreMethodTests, AreUnparted};
 ghost use Rattle.jr_family.specs.Moves.{AreMoves};
 
+use crate::marks::{is_marked, mark, no_marks};
 use crate::moves::is_asked;
 use crate::tops::{is_own, virtual_like};
 use jr_table::{Table, Wanted};
@@ -33,8 +35,17 @@ fn differs_at(old: &Table, new: &Table, was: &Wanted<'_>, now: &Wanted<'_>, clas
     differ(old.own(class, was), new.own(class, now))
 }
 
-/// Whether a class does so, from this one upwards.
-fn differs_above(old: &Table, new: &Table, was: &Wanted<'_>, now: &Wanted<'_>, class: u32) -> bool
+/// Whether a class does so, from this one upwards. From a row that is marked upwards none is asked.
+fn differs_above(
+    old: &Table,
+    new: &Table,
+    marks: &[bool],
+    was: &Wanted<'_>,
+    now: &Wanted<'_>,
+    class: u32,
+) -> bool
+    requires tests { AreMethodTests (passes was.now) (passes now.now) }
+    requires unparted { AreUnparted (entries_of old.now) (entries_of new.now) marks.now }
     ensures { IsTrue result ↔ DiffersAbove (entries_of old.now) (entries_of new.now)
         (passes was.now) (passes now.now) class }
 {
@@ -44,8 +55,42 @@ fn differs_above(old: &Table, new: &Table, was: &Wanted<'_>, now: &Wanted<'_>, c
         if differs_at(old, new, was, now, at) {
             return true;
         }
+        if is_marked(marks, old.own(at, was)) {
+            return false;
+        }
         let Some(parent) = old.parent_of(at) else {
             return false;
+        };
+        at = parent;
+    }
+}
+
+/// Marks the rows of the one kind that the class and those above it declare, up to one that is
+/// marked.
+fn mark_above(
+    old: &Table,
+    new: &Table,
+    marks: &mut Vec<bool>,
+    was: &Wanted<'_>,
+    now: &Wanted<'_>,
+    class: u32,
+)
+    requires tests { AreMethodTests (passes was.now) (passes now.now) }
+    requires unparted { AreUnparted (entries_of old.now) (entries_of new.now) marks.old.items }
+    requires none { DiffersAbove (entries_of old.now) (entries_of new.now)
+        (passes was.now) (passes now.now) class → ⊥ }
+    ensures { AreUnparted (entries_of old.now) (entries_of new.now) marks.new.items }
+{
+    old.keeps_rows();
+    let mut at = class;
+    loop {
+        let row = old.own(at, was);
+        if is_marked(marks.as_slice(), row) {
+            return;
+        }
+        mark(marks, row);
+        let Some(parent) = old.parent_of(at) else {
+            return;
         };
         at = parent;
     }
@@ -59,12 +104,15 @@ fn push_parted(
     new: &Table,
     moves: &[u32],
     number: u32,
+    marks: &mut Vec<bool>,
     lows: &mut Vec<u32>,
 ) -> Result<(), AllocError>
+    requires unparted { AreUnparted (entries_of old.now) (entries_of new.now) marks.old.items }
     requires alike { AreAlike (entries_of old.now) (entries_of new.now) }
     requires moves { AreMoves (entries_of old.now) (entries_of new.now) (length old.now) moves.now }
-    ensures { OnOk result ((c : ℕ) → In lows.new.items c ↔ (In lows.old.items c
+    ensures lows { OnOk result ((c : ℕ) → In lows.new.items c ↔ (In lows.old.items c
         ⊎ IsParted (entries_of old.now) (entries_of new.now) c number)) }
+    ensures unparted { AreUnparted (entries_of old.now) (entries_of new.now) marks.new.items }
 {
     old.keeps_rows();
     new.keeps_rows();
@@ -82,7 +130,8 @@ fn push_parted(
     if !is_own(old, entry.class, &was, number) {
         return Ok(());
     }
-    if !differs_above(old, new, &was, &now, entry.class) {
+    if !differs_above(old, new, marks.as_slice(), &was, &now, entry.class) {
+        mark_above(old, new, marks, &was, &now, entry.class);
         return Ok(());
     }
     lows.push(entry.class)?;
@@ -103,8 +152,9 @@ pub(crate) fn parted_classes(
         ArePartedClasses (entries_of old.now) (entries_of new.now) v.items) }
 {
     let mut lows = Vec::new(alloc);
+    let mut marks = no_marks(alloc, old.count() as usize)?;
     for number in 0..old.count() {
-        push_parted(old, new, moves, number, &mut lows)?;
+        push_parted(old, new, moves, number, &mut marks, &mut lows)?;
     }
     Ok(lows)
 }

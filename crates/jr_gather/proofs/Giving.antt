@@ -242,6 +242,6 @@ module _ {A : Type 0} (tells : A → ℕ → Span) (h : raw.Here) where
   named_gives base m None w old new (c, chosen, is) = λ s. (simple_type_out tells c m base w, (c, chosen, refl), is)
   named_gives base m (Some v) w old new (p, c, first, (k, finds, chosen), is) = λ s. (
     qualified_type_out tells p c m base v w,
-    (p, c, first, (k.0, k.1, finds.0, finds.1, chosen), refl),
+    (p, c, first, (k.0, k.1, finds.0, finds.1, chosen.0, chosen.1, chosen.2), refl),
     is ∙ ap (both old) (sym (qualified_is tells p c (tells v.mark (begins m base)) (tells w.mark (begins m base)))),
   )

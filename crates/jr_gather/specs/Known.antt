@@ -14,7 +14,6 @@ use Rattle.std.specs.Prelude.{
   Option,
   Some,
   None,
-  false,
   option_map,
   ◌⊎◌,
   if◌then◌else◌,
@@ -270,7 +269,7 @@ module _ {A : Type 0} (begins : A → ℕ → ℕ) (rows : List Row) (g : Renami
       × WritesType rows (scope_of c) t (class k)
       × CreationFinds rows c t args (one (constructor_decl q)) × HaveTypes rows c args ts
       × spells.Spells begins rows g (scope_to g c) at [] [] (constructor_decl q)
-      (spells.reference ref.AsAsked [] (spells.operand_of (class_to g k) false) (types_to g ts))
+      (spells.reference ref.AsAsked [] (spells.operand_of (class_to g k)) (types_to g ts))
       (FindsCtorOf (rows_to g rows) (scope_to g c) (class_to g k) (types_to g ts)) h
 
 -- the names of a class as a type

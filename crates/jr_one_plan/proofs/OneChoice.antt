@@ -27,7 +27,7 @@ use Rattle.jr_spell.specs.Binds.{LeadsTo, LeadsIn}
 use Rattle.jr_spell.specs.Taken.{IsTaken}
 use Rattle.jr_rewrite.specs.Respellings.{Choice, loses}
 use Rattle.jr_rename.specs.Images.{Renaming, class_to, types_to, rows_to, scope_to}
-use Rattle.jr_rename.specs.Spelling.{renamed, spelled, WordsLead, OnOperand, VariableSpells, ClassSpells, FieldSpells, MemberClassSpells, SuperFieldSpells, SimpleCallSpells, CallSpells, SuperCallSpells, ExpSpells, CreationSpells, SuperCtorSpells, TypeSpells, QualifierSpells, ParentSpells, ParentQualifierSpells, spelling}
+use Rattle.jr_rename.specs.Spelling.{renamed, spelled, WordsLead, TypeLeads, OnOperand, VariableSpells, ClassSpells, FieldSpells, MemberClassSpells, SuperFieldSpells, SimpleCallSpells, CallSpells, SuperCallSpells, ExpSpells, CreationSpells, SuperCtorSpells, TypeSpells, QualifierSpells, ParentSpells, ParentQualifierSpells, spelling}
 use Rattle.jr_respell.specs.Ways.{Way, local, own_field, field_on, field_through, field_above, method_named, method_on, method_through, method_above, ctor_of, ctor_above, type_named, type_behind, name_in, reference_by, Finds}
 use Rattle.jr_respell.specs.Taking.{Asked, asked, SpellsAt}
 use Rattle.jr_bind.specs.SuperPlaces.{writes_super}
@@ -104,7 +104,7 @@ module _ (rows : List Row) (fit : AreRows rows) (each : EachHasOne rows) where
   finds_once s (ctor_of k) name ts = each.ctor_of s k ts
   finds_once s ctor_above name ts = in_once (IsSuperclass rows s.class) (λ k f. FindsCtorOf rows s k ts f) (superclass_once s.class) (λ k. each.ctor_of s k ts)
   finds_once s type_named name ts = each.type_named s name
-  finds_once s (type_behind outer) name ts = in_once (λ k. FindsTypeNamed rows s outer (one (class_decl k))) (λ k f. FindsTypeOf rows s k name f) (named_once s outer) (λ k. each.type_of s k name)
+  finds_once s (type_behind outer leads) name ts = in_once (λ k. FindsTypeNamed rows s outer (one (class_decl k))) (λ k f. FindsTypeOf rows s k name f) (named_once s outer) (λ k. each.type_of s k name)
 
 module _ (rows : List Row) (c : Context) (bound : IsBound Span rows c) where
   class_once : (e : tree.Exp Span) → HasOne (IsClassName rows c e)
@@ -129,6 +129,9 @@ leads_over rows p q same c (tree.field m e w) k (o, on, lead, behind) = (
   subst (λ (m : Makes). LeadsIn (m.rows rows) (m.scopes c) (m.classes o) (m.classes k).name (m.classes k)) same behind,
 )
 leads_over rows p q same c e k lead = subst (λ (m : Makes). LeadsTo (m.rows rows) (m.scopes c) None (m.classes k).name (m.classes k)) same lead
+
+type_leads_over : (rows : List Row) (p q : Renaming) → makes p ≡ makes q → (c : Context) (k : ClassKey) → TypeLeads rows p c k → TypeLeads rows q c k
+type_leads_over rows p q same c k lead = subst (λ (m : Makes). FindsTypeNamed (m.rows rows) (m.scopes c) (m.classes k).name (one (class_decl (m.classes k)))) same lead
 
 same_truth : (a b : Bool) → (IsTrue a → IsTrue b) → (IsTrue b → IsTrue a) → a ≡ b
 same_truth true true to back = refl
@@ -212,6 +215,11 @@ module _ (rows : List Row) (fit : AreRows rows) (each : EachHasOne rows) (bounds
   leads_one c e k l s a b x y = same_truth a b
       (λ t. y.1 (leads_over rows g h (makes_same g h alike) c e l (subst (WordsLead rows g c e) s (x.0 t))))
       (λ t. x.1 (subst (WordsLead rows g c e) (sym s) (leads_over rows h g (sym (makes_same g h alike)) c e l (y.0 t))))
+
+  type_leads_one : (c : Context) (k l : ClassKey) → k ≡ l → (a b : Bool) → (IsTrue a ↔ TypeLeads rows g c k) → (IsTrue b ↔ TypeLeads rows h c l) → a ≡ b
+  type_leads_one c k l s a b x y = same_truth a b
+      (λ t. y.1 (type_leads_over rows g h (makes_same g h alike) c l (subst (TypeLeads rows g c) s (x.0 t))))
+      (λ t. x.1 (subst (TypeLeads rows g c) (sym s) (type_leads_over rows h g (sym (makes_same g h alike)) c l (y.0 t))))
 
   field_one : (c : Context) (at : ℕ) (e : tree.Exp Span) (old : List ℕ) (a b : Choice) → FieldSpells begins rows g c at e old a → FieldSpells begins rows h c at e old b → a ≡ b
   field_one c at e old a b x y =
@@ -314,8 +322,9 @@ module _ (rows : List Row) (fit : AreRows rows) (each : EachHasOne rows) (bounds
   type_choice c base (tree.named m (Some v) w) a b x y =
       let o = named_once rows fit each (scope_of c) v.text x.0 y.0 x.2 y.2 in
       let k = inner_once c w.text x.0 y.0 o x.1 y.1 x.3 y.3 in
-      asks_one c _ w.text (record { way = λ m. type_behind (m.classes x.0).name; types = []; decl = class_decl x.1 }) (record { way = λ m. type_behind (m.classes y.0).name; types = []; decl = class_decl y.1 })
-      (λ i. record { way = λ m. type_behind (m.classes (o i)).name; types = []; decl = class_decl (k i) }) a b x.4 y.4
+      let leads = type_leads_one c x.0 y.0 o x.4 y.4 x.5 y.5 in
+      asks_one c _ w.text (record { way = λ m. type_behind (m.classes x.0).name x.4; types = []; decl = class_decl x.1 }) (record { way = λ m. type_behind (m.classes y.0).name y.4; types = []; decl = class_decl y.1 })
+      (λ i. record { way = λ m. type_behind (m.classes (o i)).name (leads i); types = []; decl = class_decl (k i) }) a b x.6 y.6
 
   qualifier_choice : (c : Context) (base : ℕ) (t : tree.TypeName Span) (a b : Choice) → QualifierSpells begins rows g c base t a → QualifierSpells begins rows h c base t b → a ≡ b
   qualifier_choice c base (tree.int m) a b x y = absurd x

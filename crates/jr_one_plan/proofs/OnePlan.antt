@@ -17,6 +17,7 @@ use Rattle.jr_bind.specs.Bounds.{Bound}
 use Rattle.jr_bind.specs.SuperPlaces.{writes_super}
 use Rattle.jr_bind.specs.Programs.{File, Program, units_of}
 use Rattle.jr_places.specs.FileParts.{begins}
+use Rattle.jr_rewrite.specs.Edited.{entries_of}
 use Rattle.jr_rewrite.specs.Respellings.{Loss}
 use Rattle.jr_rewrite.specs.Rewritten.{Rewritten}
 use Rattle.jr_rename.specs.Clashes.{ClashesWith, IsClear}
@@ -24,7 +25,7 @@ use Rattle.jr_rename.specs.ImageLaws.{RenamingsStayFair}
 use Rattle.jr_rename.specs.Images.{Renaming}
 use Rattle.jr_rename.specs.Refusals.{ChangesDispatch, IsFirstLoss}
 use Rattle.jr_rename.specs.RenameLaws.{IsFair}
-use Rattle.jr_rename.specs.Renames.{entries_from, pairs_of, Rewrite, Renames, LacksTarget, OfPrelude, Clashes, Overrides, Loses, IsRefused, IsPlanned}
+use Rattle.jr_rename.specs.Renames.{pairs_of, Rewrite, Renames, LacksTarget, OfPrelude, Clashes, Overrides, Loses, IsRefused, IsPlanned}
 use Rattle.jr_rename.specs.Renames as renames
 use Rattle.jr_rename.specs.TextLaws.{RowsAreNamed, NamesHaveNoDot}
 use Rattle.jr_target.specs.TargetLaws.{OneIsTarget}
@@ -63,7 +64,7 @@ record Keeps (p : Program Span) (s : MemberKey → ℕ) (g : Renaming) (o : Outc
   files : List (Rewritten (syntax.Unit Span))
   rewrite : Rewrite itself p.rows s (units_of p) g files
   kept : (i : ℕ) (of : Rewritten (syntax.Unit Span)) → slice_get files i ≡ Some of → of.losses ≡ []
-  is : o ≡ planned (map (λ (f : Rewritten (syntax.Unit Span)). entries_from 0 f.changes) files) (pairs_of p.rows g) (sum_by (λ (f : Rewritten (syntax.Unit Span)). f.respelled) files) None
+  is : o ≡ planned (map (λ (f : Rewritten (syntax.Unit Span)). entries_of f.changes) files) (pairs_of p.rows g) (sum_by (λ (f : Rewritten (syntax.Unit Span)). f.respelled) files) None
 
 module _ (p : Program Span) (t : MemberKey → ℕ) (bs : List Bound) (program : IsWhole p) (also : IsWhole (beside p t bs)) (fair_law : RenamingsStayFair Span) (named : RowsAreNamed Span) (dots : NamesHaveNoDot) (rewriting : RewritingIsOne)
     (supers : (file : ℕ) (k : MemberKey) (base : ℕ) (part : Part Span) → IsWritten begins (units_of p) file k base part → writes_super part ≡ true → p.super_at k ≡ t k) where
@@ -125,7 +126,7 @@ module _ (p : Program Span) (t : MemberKey → ℕ) (bs : List Bound) (program :
       lost_or_kept are o q (inr u) (inr v) =
           let files = rewriting p (beside p t bs) program also refl g h alike are u.files v.files u.rewrite v.rewrite in
           let pairs = (become_same g h alike p.rows).pairs in
-          u.is ∙ (λ i. planned (map (λ (f : Rewritten (syntax.Unit Span)). entries_from 0 f.changes) (files i)) (pairs i) (sum_by (λ (f : Rewritten (syntax.Unit Span)). f.respelled) (files i)) None) ∙ sym v.is
+          u.is ∙ (λ i. planned (map (λ (f : Rewritten (syntax.Unit Span)). entries_of f.changes) (files i)) (pairs i) (sum_by (λ (f : Rewritten (syntax.Unit Span)). f.respelled) (files i)) None) ∙ sym v.is
 
       one_overridden : (q r : Refusal) → Overrides itself p.rows p.super_at units g q → Overrides itself p.rows t units h r → q ≡ r
       one_overridden q r u v =

@@ -30,7 +30,7 @@ use Rattle.jr_gather.specs.Known as here
 use Rattle.jr_gather.specs.Walks as gathers
 use Rattle.jr_gather.specs.Walks.{RowGathers}
 use Rattle.jr_parts.specs.Supers.{is_lost, CallGathers, WrittenGathers}
-use Rattle.jr_parts.specs.Parts.{span_itself}
+use Rattle.jr_grammar.specs.Layout.{itself}
 use Rattle.jr_parts.specs.Gathered.{choosing, WordGathers, TypeGathers, ResultGathers, ParamGathers, ParamsGather, ParentGathers, TopParentGathers, TopNameGathers, MaybeParentGathers, HeadGathers, SuperGathers, MaybeSuperGathers, FieldGathers, MethodGathers, CtorGathers, MemberGathers, PartGathers}
 
 -- two effects behind each other
@@ -42,7 +42,7 @@ module _ (rows : List Row) (g : Renaming) where
   result_none k at e = λ s. gathers_none None e
 
   pub result_some : (k : MemberKey) (at : ℕ) (t : tree.TypeName Span) (old new : Effect) → TypeGathers rows g (rules.plain k false) at t old new → ResultGathers rows g k at (Some t) old new
-  result_some k at t old new x = λ s. gathers_within (λ (u : tree.TypeName Span). Some u) (RewritesType span_itself (choosing rows g s) (rules.plain k false) at t) old new (x s)
+  result_some k at t old new x = λ s. gathers_within (λ (u : tree.TypeName Span). Some u) (RewritesType itself (choosing rows g s) (rules.plain k false) at t) old new (x s)
 
   -- ---- parameters
 
@@ -91,7 +91,7 @@ module _ (rows : List Row) (g : Renaming) where
   head_gives k m mods w t ms old mid new named word parent base = λ s.
       let v = word s m.from in let p = parent s in (
         joined (λ (u : tree.Word Span) (x : Option (tree.TypeName Span)). (u, x)) v.0 p.0,
-        (v.0, p.0, subst (λ (name : List ℕ). DeclaredOut span_itself (choosing rows g s) (class_decl (record { outer = k.outer; name = name })) m.from w v.0) named v.1, p.1, refl),
+        (v.0, p.0, subst (λ (name : List ℕ). DeclaredOut itself (choosing rows g s) (class_decl (record { outer = k.outer; name = name })) m.from w v.0) named v.1, p.1, refl),
         chain old mid new (effect_of v.0) (effect_of p.0) v.2 p.2,
       )
 
@@ -142,10 +142,10 @@ module _ (h : raw_here.Here) (n : ℕ) (args : tree.Exps Span) where
   not_lost (becomes r) e kept (q, ts, finds, have, inl taken) = (becomes r, (q, ts, finds, have, inl taken), sym (both_none e))
   not_lost (becomes r) e kept (q, ts, finds, have, inr (none, (f, found, is))) = absurd cc
 
-  pub super_gives : (at : ℕ) (old mid new : Effect) → CallGathers h n args old mid → RowGathers span_itself h at args mid new → WrittenGathers h n at args old new
+  pub super_gives : (at : ℕ) (old mid new : Effect) → CallGathers h n args old mid → RowGathers itself h at args mid new → WrittenGathers h n at args old new
   super_gives at old mid new (c, spells, is) row = λ s stands.
       let q = row s in (
-        with_losses span_itself (gathers.choosing span_itself h s) c (within (λ (xs : tree.Exps Span). Some xs) q.0),
+        with_losses itself (gathers.choosing itself h s) c (within (λ (xs : tree.Exps Span). Some xs) q.0),
         (c, q.0, subst (λ (i : ℕ). SuperCtorSpells begins (here.rows_of h) (here.naming_of h) i (here.context_of h) args c) (sym stands) spells, q.1, refl),
         chain old mid new (lost c) (effect_of q.0) is q.2,
       )
@@ -153,7 +153,7 @@ module _ (h : raw_here.Here) (n : ℕ) (args : tree.Exps Span) where
 -- ---- a whole part
 
 pub parts_add : (p : Program Span) (g : Renaming) (k : MemberKey) (base : ℕ) (part : Part Span) (old new : Effect) → PartGathers p p.rows g k base part old new
-    → (e : Effect) × PartGives span_itself (spelling begins p.rows g (λ (c : Context). p.super_at c.member)) k base part e × (new ≡ both old e)
+    → (e : Effect) × PartGives itself (spelling begins p.rows g (λ (c : Context). p.super_at c.member)) k base part e × (new ≡ both old e)
 parts_add p g k base (class_part c) old new x =
     let o = x (λ (c : Context). p.super_at c.member) in (effect_of o.0, (o.0, o.1, refl), o.2)
 parts_add p g k base (member_part m) old new (o, gives, is) = (effect_of o, (o, gives, refl), is)

@@ -30,7 +30,7 @@ use Rattle.jr_places.specs.FileParts.{begins}
 use Rattle.jr_changes.specs.Ready.{ExpReadyIn, StmtsReadyIn, MaybeReady, StmtsReady}
 use Rattle.jr_changes.specs.Bodies.{MaybeGathers, StmtsGather}
 use Rattle.jr_parts.specs.declared.beginnings.Walked as raw
-use Rattle.jr_parts.specs.Parts.{span_itself}
+use Rattle.jr_grammar.specs.Layout.{itself}
 use Rattle.jr_parts.specs.Walking.{key_of as key_in, rows_of, naming_of, CanWalk, Begins, held_param, held_params}
 use Rattle.jr_parts.specs.Ready.{Anywhere, TypeReady, InitReady, BodyReady, SuperReady}
 use Rattle.jr_parts.specs.Gathered.{TypeGathers, InitGathers, BodyGathers, SuperGathers}
@@ -51,31 +51,31 @@ module _ (w : raw.Walked) (h : raw_here.Here) (c : Context) (at_place : Begins w
   pub type_there : (at : ℕ) (t : tree.TypeName Span) → TypeReady (rows_of w) c at t → here.TypeIsBound begins (here.rows_of h) (here.context_of h) at t
   type_there at t ready = there (λ r b n d. here.TypeIsBound begins r d at t) ready.1
 
-  pub type_back : (at : ℕ) (t : tree.TypeName Span) (old new : Effect) → gathers.TypeGathers span_itself h at t old new → TypeGathers (rows_of w) (naming_of w) c at t old new
-  type_back at t old new x = λ s. back (λ r g d. Gathers (RewritesType span_itself (spelling begins r g s) d at t) old new) (x s)
+  pub type_back : (at : ℕ) (t : tree.TypeName Span) (old new : Effect) → gathers.TypeGathers itself h at t old new → TypeGathers (rows_of w) (naming_of w) c at t old new
+  type_back at t old new x = λ s. back (λ r g d. Gathers (RewritesType itself (spelling begins r g s) d at t) old new) (x s)
 
-  pub init_there : (path : List ℕ) → path ≡ [] → (step at : ℕ) (e : Option (tree.Exp Span)) → InitReady (rows_of w) w.bound.now w.from c step at e → MaybeReady span_itself Anywhere h path step at e
+  pub init_there : (path : List ℕ) → path ≡ [] → (step at : ℕ) (e : Option (tree.Exp Span)) → InitReady (rows_of w) w.bound.now w.from c step at e → MaybeReady itself Anywhere h path step at e
   init_there path none step at None ready = tt
   init_there path none step at (Some e) ready =
-      subst (λ (p : List ℕ). MaybeReady span_itself Anywhere h p step at (Some e)) (sym none) (there (λ r b n d. ExpReadyIn span_itself Anywhere r b n d value (step ∷ []) at e) ready)
+      subst (λ (p : List ℕ). MaybeReady itself Anywhere h p step at (Some e)) (sym none) (there (λ r b n d. ExpReadyIn itself Anywhere r b n d value (step ∷ []) at e) ready)
 
-  pub init_back : (at : ℕ) (e : Option (tree.Exp Span)) (old new : Effect) → MaybeGathers span_itself h at e old new → InitGathers (rows_of w) (naming_of w) c at e old new
-  init_back at e old new x = λ s. back (λ r g d. Gathers (RewritesMaybe span_itself (spelling begins r g s) d at e) old new) (x s)
+  pub init_back : (at : ℕ) (e : Option (tree.Exp Span)) (old new : Effect) → MaybeGathers itself h at e old new → InitGathers (rows_of w) (naming_of w) c at e old new
+  init_back at e old new x = λ s. back (λ r g d. Gathers (RewritesMaybe itself (spelling begins r g s) d at e) old new) (x s)
 
   pub body_there : (path : List ℕ) → path ≡ [] → (number first at : ℕ) (xs : statement.Stmts Span) → BodyReady (rows_of w) w.bound.now w.from c number first at xs
-      → StmtsReady span_itself Anywhere h number path first at xs
+      → StmtsReady itself Anywhere h number path first at xs
   body_there path none number first at xs ready =
-      subst (λ (p : List ℕ). StmtsReady span_itself Anywhere h number p first at xs) (sym none) (there (λ r b n d. StmtsReadyIn span_itself Anywhere r b n number d [] first at xs) ready)
+      subst (λ (p : List ℕ). StmtsReady itself Anywhere h number p first at xs) (sym none) (there (λ r b n d. StmtsReadyIn itself Anywhere r b n number d [] first at xs) ready)
 
-  pub body_back : (number at : ℕ) (xs : statement.Stmts Span) (old new : Effect) → StmtsGather span_itself h number at xs old new → BodyGathers (rows_of w) (naming_of w) c number at xs old new
-  body_back number at xs old new x = λ s. back (λ r g d. Gathers (RewritesStmts span_itself (spelling begins r g s) number d at xs) old new) (x s)
+  pub body_back : (number at : ℕ) (xs : statement.Stmts Span) (old new : Effect) → StmtsGather itself h number at xs old new → BodyGathers (rows_of w) (naming_of w) c number at xs old new
+  body_back number at xs old new x = λ s. back (λ r g d. Gathers (RewritesStmts itself (spelling begins r g s) number d at xs) old new) (x s)
 
   pub super_there : (path : List ℕ) → path ≡ [] → (first at : ℕ) (args : tree.Exps Span) → SuperReady (rows_of w) w.bound.now w.from c first at args → WrittenReady h path first at args
   super_there path none first at args ready =
       subst (λ (p : List ℕ). WrittenReady h p first at args) (sym none) (there (λ r b n d. SuperReady r b n d first at args) ready)
 
   pub super_back : (n at : ℕ) (args : tree.Exps Span) (old new : Effect) → WrittenGathers h n at args old new → SuperGathers (rows_of w) (naming_of w) c n at args old new
-  super_back n at args old new x = λ s is. back (λ r g d. Gathers (RewritesSuper span_itself (spelling begins r g s) d at (Some args)) old new) (x s (ap s at_place.context ∙ is))
+  super_back n at args old new x = λ s is. back (λ r g d. Gathers (RewritesSuper itself (spelling begins r g s) d at (Some args)) old new) (x s (ap s at_place.context ∙ is))
 
 -- ---- a place where the member begins
 

@@ -35,7 +35,7 @@ use Rattle.jr_rename.specs.Spelling.{spelling}
 use Rattle.jr_respell.specs.Chosen.{TopParentIsChosen}
 use Rattle.jr_renaming.specs.Effects.{Effect, both, Gathers}
 use Rattle.jr_renaming.specs.OutputView.{alone}
-use Rattle.jr_parts.specs.Parts.{span_itself}
+use Rattle.jr_grammar.specs.Layout.{itself}
 
 module _ (rows : List Row) (g : Renaming) where
   abbrev pub choosing : (Context → ℕ) → Choosing Span
@@ -45,30 +45,30 @@ module _ (rows : List Row) (g : Renaming) where
 
   abbrev pub WordGathers : Decl → tree.Word Span → (old new : Effect) → Type 0
   WordGathers d w old new = (s : Context → ℕ) (at : ℕ)
-      → Gathers (DeclaredOut span_itself (choosing s) d at w) old new
+      → Gathers (DeclaredOut itself (choosing s) d at w) old new
 
   abbrev pub TypeGathers : Context → (at : ℕ) → tree.TypeName Span → (old new : Effect) → Type 0
   TypeGathers c at t old new =
-      (s : Context → ℕ) → Gathers (RewritesType span_itself (choosing s) c at t) old new
+      (s : Context → ℕ) → Gathers (RewritesType itself (choosing s) c at t) old new
 
   abbrev pub InitGathers : Context → (at : ℕ) → Option (tree.Exp Span) → (old new : Effect)
       → Type 0
   InitGathers c at e old new =
-      (s : Context → ℕ) → Gathers (RewritesMaybe span_itself (choosing s) c at e) old new
+      (s : Context → ℕ) → Gathers (RewritesMaybe itself (choosing s) c at e) old new
 
   abbrev pub ArgsGather : Context → (at : ℕ) → tree.Exps Span → (old new : Effect) → Type 0
   ArgsGather c at es old new =
-      (s : Context → ℕ) → Gathers (RewritesRow span_itself (choosing s) c at es) old new
+      (s : Context → ℕ) → Gathers (RewritesRow itself (choosing s) c at es) old new
 
   abbrev pub BodyGathers : Context → (number at : ℕ) → statement.Stmts Span → (old new : Effect)
       → Type 0
   BodyGathers c number at xs old new = (s : Context → ℕ)
-      → Gathers (RewritesStmts span_itself (choosing s) number c at xs) old new
+      → Gathers (RewritesStmts itself (choosing s) number c at xs) old new
 
   abbrev pub ResultGathers : MemberKey → (at : ℕ) → Option (tree.TypeName Span)
       → (old new : Effect) → Type 0
   ResultGathers k at t old new =
-      (s : Context → ℕ) → Gathers (RewritesResult span_itself (choosing s) k at t) old new
+      (s : Context → ℕ) → Gathers (RewritesResult itself (choosing s) k at t) old new
 
   abbrev pub ParamGathers : MemberKey → (number : ℕ) → syntax.Param Span → (old new : Effect)
       → Type 0
@@ -79,7 +79,7 @@ module _ (rows : List Row) (g : Renaming) where
   abbrev pub ParamsGather : MemberKey → (number at : ℕ) → List (syntax.Param Span)
       → (old new : Effect) → Type 0
   ParamsGather k n at ps old new =
-      (s : Context → ℕ) → Gathers (RewritesParams span_itself (choosing s) k n at ps) old new
+      (s : Context → ℕ) → Gathers (RewritesParams itself (choosing s) k n at ps) old new
 
   -- the name of a top-level class as a superclass
   abbrev pub TopNameGathers : Span → List ℕ → (old new : Effect) → Type 0
@@ -88,35 +88,35 @@ module _ (rows : List Row) (g : Renaming) where
 
   abbrev pub TopParentGathers : (at : ℕ) → tree.TypeName Span → (old new : Effect) → Type 0
   TopParentGathers at t old new = (s : Context → ℕ)
-      → Gathers (TypeOut span_itself (choosing s) ((choosing s).parent_qualifier None at t)
+      → Gathers (TypeOut itself (choosing s) ((choosing s).parent_qualifier None at t)
       ((choosing s).parent None at t) at t) old new
 
   abbrev pub ParentGathers : Option (List ℕ) → (at : ℕ) → tree.TypeName Span
       → (old new : Effect) → Type 0
   ParentGathers outer at t old new = (s : Context → ℕ)
-      → Gathers (TypeOut span_itself (choosing s) ((choosing s).parent_qualifier outer at t)
+      → Gathers (TypeOut itself (choosing s) ((choosing s).parent_qualifier outer at t)
       ((choosing s).parent outer at t) at t) old new
 
   abbrev pub MaybeParentGathers : Option (List ℕ) → (at : ℕ) → Option (tree.TypeName Span)
       → (old new : Effect) → Type 0
   MaybeParentGathers outer at t old new = (s : Context → ℕ)
-      → Gathers (RewritesParent span_itself (choosing s) outer at t) old new
+      → Gathers (RewritesParent itself (choosing s) outer at t) old new
 
   abbrev pub HeadGathers : ClassKey → (base : ℕ) → syntax.Class Span → (old new : Effect) → Type 0
   HeadGathers k base c old new = (s : Context → ℕ)
-      → Gathers (RewritesHead span_itself (choosing s) k.outer base c) old new
+      → Gathers (RewritesHead itself (choosing s) k.outer base c) old new
 
   -- ---- where it stands there
 
   abbrev pub SuperGathers : Context → (super_at at : ℕ) → tree.Exps Span → (old new : Effect)
       → Type 0
   SuperGathers c super_at at args old new = (s : Context → ℕ) → s c ≡ super_at
-      → Gathers (RewritesSuper span_itself (choosing s) c at (Some args)) old new
+      → Gathers (RewritesSuper itself (choosing s) c at (Some args)) old new
 
   abbrev pub MaybeSuperGathers : Context → (super_at at : ℕ) → Option (tree.Exps Span)
       → (old new : Effect) → Type 0
   MaybeSuperGathers c super_at at args old new = (s : Context → ℕ) → s c ≡ super_at
-      → Gathers (RewritesSuper span_itself (choosing s) c at args) old new
+      → Gathers (RewritesSuper itself (choosing s) c at args) old new
 
   -- ---- members, part by part
 
@@ -158,7 +158,7 @@ module _ (rows : List Row) (g : Renaming) where
 -- a member, where written `super(..)` stand as the program says
 abbrev pub MemberGathers : Program Span → List Row → Renaming → MemberKey → (base : ℕ)
     → syntax.Member Span → (old new : Effect) → Type 0
-MemberGathers p rows g k base x old new = Gathers (RewritesMember span_itself
+MemberGathers p rows g k base x old new = Gathers (RewritesMember itself
     (spelling begins rows g (λ (c : Context). p.super_at c.member)) k base x) old new
 
 -- a part of a file

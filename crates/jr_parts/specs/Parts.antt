@@ -1,6 +1,7 @@
 -- What a written member of a program adds to what is gathered.
 use Rattle.std.specs.Prelude.{◌≡◌, ℕ}
 use Rattle.jr_text.specs.declared.spans.Span.{Span}
+use Rattle.jr_grammar.specs.Layout.{itself}
 use Rattle.jr_table.specs.Context.{Context}
 use Rattle.jr_members.specs.WrittenMembers.{WrittenMember}
 use Rattle.jr_bind.specs.Programs.{Program}
@@ -10,12 +11,8 @@ use Rattle.jr_rename.specs.Spelling.{spelling}
 use Rattle.jr_renaming.specs.Effects.{Effect, both}
 use Rattle.jr_renaming.specs.Files.{PartGives}
 
--- a mark that is a span tells it, wherever the parent begins
-abbrev pub span_itself : Span → ℕ → Span
-span_itself m base = m
-
 -- its part is rewritten, with what is added
 abbrev pub PartAdds : Program Span → Renaming → WrittenMember Span → (old new : Effect) → Type 0
 PartAdds p g w old new = (e : Effect)
-    × PartGives span_itself (spelling begins p.rows g (λ (c : Context). p.super_at c.member))
+    × PartGives itself (spelling begins p.rows g (λ (c : Context). p.super_at c.member))
     w.key w.base w.part e × (new ≡ both old e)

@@ -52,7 +52,7 @@ use Rattle.jr_gather.specs.Known.{
   SuperCtorIsBound,
 }
 use Rattle.jr_changes.specs.Ready.{ExpReadyIn, StmtsReadyIn}
-use Rattle.jr_parts.specs.Parts.{span_itself}
+use Rattle.jr_grammar.specs.Layout.{itself}
 use Rattle.jr_sites.specs.FoundTypes.{DeclaresFound}
 
 abbrev pub Anywhere : Span → ℕ → Type 0
@@ -117,7 +117,7 @@ module _ (rows : List Row) (b : Bound) (from : ℕ) where
   abbrev pub InitReady : Context → (step at : ℕ) → Option (tree.Exp Span) → Type 0
   InitReady c step at None = Unit {0}
   InitReady c step at (Some e) =
-      ExpReadyIn span_itself Anywhere rows b from c value (step ∷ []) at e
+      ExpReadyIn itself Anywhere rows b from c value (step ∷ []) at e
 
   -- arguments and statements, the first of which is the part of this number
   abbrev pub ArgsReady : Context → (first at : ℕ) → tree.Exps Span → Type 0
@@ -133,7 +133,7 @@ module _ (rows : List Row) (b : Bound) (from : ℕ) where
 
   abbrev pub BodyReady : Context → (number first at : ℕ) → statement.Stmts Span → Type 0
   BodyReady c number first at xs =
-      StmtsReadyIn span_itself Anywhere rows b from number c [] first at xs
+      StmtsReadyIn itself Anywhere rows b from number c [] first at xs
 
   -- ---- members
 

@@ -19,7 +19,7 @@ use Rattle.jr_gather.specs.Known.{
   SuperCtorIsBound,
 }
 use Rattle.jr_gather.specs.Walks.{choosing}
-use Rattle.jr_parts.specs.Parts.{span_itself}
+use Rattle.jr_grammar.specs.Layout.{itself}
 use Rattle.jr_parts.specs.Ready.{Anywhere}
 
 abbrev pub is_lost : Choice → Bool
@@ -39,11 +39,11 @@ CallGathers h n args old new = (c : Choice)
 
 -- with its arguments, in a member that begins at `at`
 abbrev pub WrittenReady : raw.Here → (path : List ℕ) → (first at : ℕ) → tree.Exps Span → Type 0
-WrittenReady h path first at args = RowReady span_itself Anywhere h path first at args
+WrittenReady h path first at args = RowReady itself Anywhere h path first at args
     × SuperCtorIsBound (rows_of h) (context_of h) args
 
 abbrev pub WrittenGathers : raw.Here → (super_at at : ℕ) → tree.Exps Span → (old new : Effect)
     → Type 0
 WrittenGathers h n at args old new = (s : Context → ℕ) → s (context_of h) ≡ n
-    → Gathers (RewritesSuper span_itself (choosing span_itself h s) (context_of h) at (Some args))
+    → Gathers (RewritesSuper itself (choosing itself h s) (context_of h) at (Some args))
     old new

@@ -1,5 +1,6 @@
 //! The walk over a constructor (JLS 8.8).
-ghost use Rattle.std.specs.Prelude.{◌≡◌, ◌+◌, ◌<◌, ℕ, List, true, false, length, IfOk, map, option_map};
+ghost use Rattle.std.specs.Prelude.{◌≡◌, ◌+◌, ◌<◌, ℕ, List, true, false, length, IfOk, map};
+ghost use Rattle.std.specs.Prelude.{option_map};
 ghost use Rattle.jr_ast.specs.View.{word_of, param_of, args_of, exprs_of, stmts_of, modifier_of};
 ghost use Rattle.jr_table.specs.HeadRules.{plain, with_parameters};
 ghost use Rattle.jr_table.specs.Rows.{Row};

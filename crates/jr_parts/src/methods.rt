@@ -102,7 +102,8 @@ fn method_head(
     parameters(alloc, of, params, out)
 }
 
-/// A body, in which the parameters are in scope and whose first statement is the part of this number.
+/// A body, in which the parameters are in scope and whose first statement is the part of this
+/// number.
 pub(crate) fn body<'a>(
     alloc: Global,
     of: &Walked<'a>,

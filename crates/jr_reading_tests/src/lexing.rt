@@ -1,7 +1,7 @@
 //! What texts are cut into, and what is told of texts that have no items, by the Java Language
 //! Specification and this profile.
 use crate::reading::{repeated, text_of};
-use crate::rows::{assert_same, cut, number};
+use crate::rows::{cut, number};
 use jr_lex::{Item, LexFault, TooDeep, is_identifier, lex, measure};
 use std::alloc::Global;
 use std::process::Abort;
@@ -133,42 +133,4 @@ pub(crate) fn too_deep(rt: &impl Abort, alloc: Global, asked: &str) -> String {
         Err(TooDeep { at }) => Some(at),
     };
     format!(in alloc; "{at:?}").expect(rt, "memory")
-}
-
-fn assert_told(rt: &impl Abort, alloc: Global, fault: LexFault, expected: &str) {
-    let told = fault.to_string(alloc).expect(rt, "memory");
-    assert_same(rt, told.as_str(), expected);
-}
-
-#[test]
-fn faults_as_texts(rt: HostRuntime) {
-    let alloc = rt.alloc();
-    let byte = LexFault::BadByte { at: 7 };
-    assert_told(
-        &rt,
-        alloc,
-        byte,
-        "no item begins with the character at byte 7",
-    );
-    let comment = LexFault::OpenComment { at: 7 };
-    assert_told(&rt, alloc, comment, "the comment at byte 7 doesn't end");
-    let string = LexFault::OpenString { at: 7 };
-    assert_told(&rt, alloc, string, "the string at byte 7 doesn't end");
-    let escape = LexFault::Escape { at: 7 };
-    assert_told(
-        &rt,
-        alloc,
-        escape,
-        "the escape at byte 7 is none of this profile",
-    );
-    let number = LexFault::BadNumber { at: 7 };
-    assert_told(
-        &rt,
-        alloc,
-        number,
-        "the number at byte 7 is none of this profile",
-    );
-    assert_told(&rt, alloc, LexFault::Memory, "out of memory");
-    let deep = TooDeep { at: 7 }.to_string(alloc).expect(&rt, "memory");
-    assert_same(&rt, deep.as_str(), "the text is too deep at byte 7");
 }

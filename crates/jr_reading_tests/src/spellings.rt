@@ -3,7 +3,7 @@ use crate::keys::{class_key, decl, name_of, ty, tys};
 use crate::rows::cut;
 use crate::scopes::scope;
 use jr_lookup::Scope;
-use jr_spell::{Operand, RefForm, Reference, leads_in, leads_simply, respell};
+use jr_spell::{Operand, RefForm, Reference, is_type, leads_in, leads_simply, respell};
 use jr_table::{Decl, Table};
 use std::alloc::Global;
 use std::process::Abort;
@@ -24,12 +24,14 @@ class W { static class D extends O.I { static void u() {} } }
 class E extends O { static class B {} }
 class Z extends O { static class O {} }
 class V { static class G extends O {} }
+class Y { static class E extends O {} }
+class U { static class E extends V.G {} static class O {} }
 ";
 
 /// The form of a reference; a place's class, with `static` in front if it is in a static context;
 /// its locals; the asked spelling; the operand's type and text, or through a class the classes that
-/// its words mean; the declaration's kind, class and name; the types of arguments; and the spelling
-/// that is expected, nothing where there is none.
+/// its words mean, or of a type's name the class in front of its dot; the declaration's kind, class
+/// and name; the types of arguments; and the spelling that is expected, nothing if there is none.
 pub(crate) const ROWS: &'static str = "
 ~# A field by its simple name.
 ~spell FieldSimple C;;x;;field C x => x
@@ -152,12 +154,16 @@ pub(crate) const ROWS: &'static str = "
 ~# A name that is not in scope.
 ~spell ClassName B;;I;;class O.I => O.I
 ~# As it is written, behind its class or one below that.
-~spell ClassName B;;O.I;;class O.I => O.I
-~spell ClassName B;;E.I;;class O.I => E.I
+~spell ClassName B;;O.I;O;class O.I => O.I
+~spell ClassName B;;E.I;E;class O.I => E.I
 ~# Another class has the name in front.
-~spell ClassName Z;;O.I;;class O.I => I
+~spell ClassName Z;;O.I;O;class O.I => I
+~# It has the member class too.
+~spell ClassName Y;;E.I;E;class O.I => O.I
+~# So it has, and another class has the name of the class around.
+~spell ClassName U;;E.I;E;class O.I =>\x20
 ~# A private class.
-~spell ClassName B;;O.H;;class O.H =>\x20
+~spell ClassName B;;O.H;O;class O.H =>\x20
 ~# Another class has the name.
 ~spell ClassName E;;B;;class B =>\x20
 ~# A local, a method by `super`, a constructor.
@@ -223,23 +229,43 @@ fn words_lead(rt: &impl Abort, alloc: Global, table: &Table, scope: &Scope, path
     leads
 }
 
-/// A type, and a text or the classes of words; nothing where there is neither.
-fn operand(
+/// Whether the name of a class as a type leads to it; so where there is none.
+fn type_leads(rt: &impl Abort, alloc: Global, table: &Table, scope: &Scope, word: &str) -> bool {
+    if word.is_empty() {
+        return true;
+    }
+    let class = class_key(rt, alloc, word);
+    is_type(table, scope, &class.name, &class)
+}
+
+/// Whether the words in front of the last dot lead to the classes that they mean.
+fn leads(
     rt: &impl Abort,
     alloc: Global,
     table: &Table,
     scope: &Scope,
     form: &str,
-    text: &str,
-) -> Option<Operand> {
-    if text.is_empty() {
+    of: &str,
+) -> bool {
+    match form {
+        "ThroughClass" => {
+            let (_, path) = cut(of, " ");
+            words_lead(rt, alloc, table, scope, path)
+        }
+        "ClassName" => type_leads(rt, alloc, table, scope, of),
+        _ => true,
+    }
+}
+
+/// A type, and a text or the classes of words; nothing where there is neither.
+fn operand(rt: &impl Abort, alloc: Global, form: &str, text: &str) -> Option<Operand> {
+    if text.is_empty() | (form == "ClassName") {
         return None;
     }
     let (of, text) = cut(text, " ");
     let ty = ty(rt, alloc, of);
-    let leads = (form == "ThroughClass") & words_lead(rt, alloc, table, scope, text);
     let text = name_of(rt, alloc, text);
-    Some(Operand { ty, text, leads })
+    Some(Operand { ty, text })
 }
 
 fn reference(
@@ -247,15 +273,18 @@ fn reference(
     alloc: Global,
     form: &str,
     asked: &str,
-    operand: Option<Operand>,
+    of: &str,
+    leads: bool,
     args: &str,
 ) -> Box<Reference> {
     let asked = name_of(rt, alloc, asked);
     let args = tys(rt, alloc, args);
+    let operand = operand(rt, alloc, form, of);
     let reference = Reference {
         form: form_named(form),
         asked,
         operand,
+        leads,
         args,
     };
     Box::new(alloc, reference).expect(rt, "memory")
@@ -271,8 +300,8 @@ pub(crate) fn spelled(rt: &impl Abort, alloc: Global, table: &Table, asked: &str
     let (of, rest) = cut(rest, ";");
     let (named, args) = cut(rest, ";");
     let scope = place(rt, alloc, at, locals);
-    let operand = operand(rt, alloc, table, &scope, form, of);
-    let reference = reference(rt, alloc, form, asked, operand, args);
+    let leads = leads(rt, alloc, table, &scope, form, of);
+    let reference = reference(rt, alloc, form, asked, of, leads, args);
     let target = target(rt, alloc, at, named);
     let spelling = respell(alloc, table, &scope, &reference, &target).expect(rt, "memory");
     match &spelling {

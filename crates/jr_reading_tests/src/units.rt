@@ -3,7 +3,7 @@
 //! docs/DEFINITIONS.md.
 use crate::reading::{items_of, put_times, text_of};
 use crate::rows::assert_same;
-use jr_ast::{Class, Member, Unit};
+use jr_ast::{Class, Member, Path, Unit};
 use jr_pexpr::{ParseFault, parse_expr};
 use jr_print::{expr_text, member_text};
 use jr_punit::parse_unit;
@@ -180,16 +180,40 @@ fn deep(rt: &impl Abort, alloc: Global) -> String {
     text
 }
 
-/// How many classes a unit has.
-fn classes_in(rt: &impl Abort, alloc: Global, source: &str) -> usize {
+fn put_steps(rt: &impl Abort, steps: &mut Vec<u32>, step: u32, times: u32) {
+    for _ in 0..times {
+        steps.push(step).expect(rt, "memory");
+    }
+}
+
+/// To the statement inside all of them: what is behind a condition, the first of a block, what is
+/// behind `else`.
+fn path_inside(rt: &impl Abort, alloc: Global) -> Path {
+    let mut steps = [0, 1, 1].to_vec(alloc).expect(rt, "memory");
+    for _ in 0..97 {
+        put_steps(rt, &mut steps, 1, 74);
+        put_steps(rt, &mut steps, 0, 1);
+    }
+    put_steps(rt, &mut steps, 2, 500);
+    Path { steps }
+}
+
+/// Where that statement stands, of a unit that the text is.
+fn place_inside(rt: &impl Abort, alloc: Global, source: &str) -> Option<Span> {
     let text = text_of(rt, alloc, source);
     let items = items_of(rt, alloc, &text);
     let unit = parse_unit(alloc, &text, &items).expect(rt, "a unit");
-    unit.classes.len()
+    match unit.stmt_at(&path_inside(rt, alloc)) {
+        None => None,
+        Some(stmt) => Some(stmt.mark),
+    }
 }
 
+/// It is read, walked and dropped on the stack that a program has. Inside all stands `;`: behind 17
+/// bytes, 97 times 74 `if(a)` and a brace, and 500 times 11 bytes.
 #[test]
 fn the_deepest_unit_is_read(rt: HostRuntime) {
     let text = deep(&rt, rt.alloc());
-    assert!(rt; classes_in(&rt, rt.alloc(), text.as_str()) == 1);
+    let place = place_inside(&rt, rt.alloc(), text.as_str());
+    assert!(rt; place == Some(Span { from: 41504, to: 41505 }));
 }

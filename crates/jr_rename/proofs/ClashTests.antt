@@ -1,7 +1,7 @@
 -- The tests of clashes among rows tell what they are to tell, and the first row that passes is the
 -- first that has the property.
 use Rattle.std.proofs.Common.{◌≡◌, ℕ, ◌<◌, ◌≤◌, List, [], ◌∷◌, Option, Some, None, Bool, true, false, not, map, refl, sym, ap, subst, ◌∙◌, inl, inr, arith}
-use Rattle.std.specs.Prelude.{◌⊎◌, ◌||◌, Decides, IfSome, nat_eq, option_map, slice_get}
+use Rattle.std.specs.Prelude.{◌⊎◌, ◌||◌, ◌&&◌, Decides, IfSome, nat_eq, option_map, slice_get}
 use Rattle.std.specs.List.{list_any}
 use Rattle.std.specs.Cmp.Lexicographic.{pointwise, bytes_decides}
 use Rattle.std.proofs.lemmas.Bool.Decides.{Decides-and, Decides-or, Decides-not, Decides-like}
@@ -9,19 +9,25 @@ use Rattle.std.proofs.lemmas.Option.{slice_get-map}
 use Rattle.jr_table.specs.declared.rows.Row as raw
 use Rattle.jr_table.specs.Keys.{ClassKey, FieldKey, MethodKey}
 use Rattle.jr_table.specs.Decls.{Decl, class_decl, field_decl, method_decl, constructor_decl, local_decl}
-use Rattle.jr_table.specs.SameKeys.{same_class, maybe_name_decides, class_decides, field_decides, method_decides}
+use Rattle.jr_table.specs.SameKeys.{same_name, same_class, same_types, maybe_name_decides, class_decides, field_decides, method_decides}
 use Rattle.jr_table.specs.KeyView.{decl_of}
 use Rattle.jr_table.specs.Rows.{Row}
 use Rattle.jr_table.specs.RowView.{row_of}
 use Rattle.jr_table.specs.Entries.{IsRowOf}
+use Rattle.jr_table.proofs.Testing.{and_both}
+use Rattle.jr_rename.proofs.Imaging.{unless}
 use Rattle.jr_rename.specs.Clashes.{TakesPlace, ClassClashes, member_class}
-use Rattle.jr_rename.specs.RowClashes.{has_none, is_outer, is_member_class, takes_place, is_within, class_clashes, one_takes_place, OneTakesPlace, IsFirstRow, NoRowHas}
+use Rattle.jr_rename.specs.RowClashes.{has_none, is_outer, is_member_class, takes_place, is_named, is_within, class_clashes, one_takes_place, OneTakesPlace, IsFirstRow, NoRowHas}
 
 none_decides : (o : Option (List ℕ)) → Decides (has_none o) (o ≡ None)
 none_decides o = Decides-like (has_none o) (λ e. sym e) (λ e. sym e) (maybe_name_decides None o)
 
 member_class_decides : (o k : ClassKey) (name : List ℕ) → Decides (is_member_class o k name) ((k.outer ≡ None) × (o ≡ member_class k name))
 member_class_decides o k name = Decides-and (has_none k.outer) (same_class o (member_class k name)) (none_decides k.outer) (class_decides o (member_class k name))
+
+member_named : (o k : ClassKey) (name : List ℕ) → is_member_class o k name ≡ true → same_name o.name name ≡ true
+member_named o k name h =
+    (and_both (same_name o.name name) (is_outer o.outer k.name) (and_both (has_none k.outer) (same_name o.name name && is_outer o.outer k.name) h).1).0
 
 -- ---- what takes the place of another
 
@@ -65,6 +71,29 @@ takes_decides (method_decl m) new (local_decl o) = never (λ h. elim h [ inl e �
 takes_decides (class_decl k) new d = never (λ h. h)
 takes_decides (constructor_decl k) new d = never (λ h. h)
 takes_decides (local_decl k) new d = never (λ h. h)
+
+-- only what has the name can lose its place
+takes_named : (r : Decl) (new : List ℕ) (d : Decl) → takes_place r new d ≡ true → is_named d new ≡ true
+takes_named (field_decl f) new (field_decl o) h = (and_both (same_name o.name new) (same_class o.class f.class) h).0
+takes_named (field_decl f) new (class_decl o) h = member_named o f.class new h
+takes_named (field_decl f) new (method_decl o) h = absurd cc
+takes_named (field_decl f) new (constructor_decl o) h = absurd cc
+takes_named (field_decl f) new (local_decl o) h = absurd cc
+takes_named (method_decl m) new (method_decl o) h =
+    let both = and_both (same_name o.name new && same_class o.class m.class) (same_types o.params m.params) h in
+    (and_both (same_name o.name new) (same_class o.class m.class) both.0).0
+takes_named (method_decl m) new (class_decl o) h = member_named o m.class new h
+takes_named (method_decl m) new (field_decl o) h = absurd cc
+takes_named (method_decl m) new (constructor_decl o) h = absurd cc
+takes_named (method_decl m) new (local_decl o) h = absurd cc
+takes_named (class_decl k) new d h = absurd cc
+takes_named (constructor_decl k) new d h = absurd cc
+takes_named (local_decl k) new d h = absurd cc
+
+pub none_takes : (rs : List Decl) (new : List ℕ) (d : Decl) → is_named d new ≡ false → list_any (λ r. takes_place r new d) rs ≡ false
+none_takes [] new d other = refl
+none_takes (r ∷ rs) new d other =
+    ap (λ b. b || list_any (λ x. takes_place x new d) rs) (unless (takes_place r new d) (is_named d new) (takes_named r new d) other) ∙ none_takes rs new d other
 
 one_more : (r x : Decl) (rs : List Decl) (new : List ℕ) (d : Decl) → TakesPlace x new d ⊎ OneTakesPlace rs new d → OneTakesPlace (x ∷ rs) new d
 one_more r x rs new d (inl h) = (x, inl refl, h)

@@ -1,5 +1,5 @@
 -- Lists of images.
-use Rattle.std.proofs.Common.{◌≡◌, Bool, ◌||◌, List, [], ◌∷◌, map, refl}
+use Rattle.std.proofs.Common.{◌≡◌, Bool, true, false, ◌||◌, List, [], ◌∷◌, map, refl}
 use Rattle.std.specs.List.{list_any}
 
 -- one is among the images where the image of one is it
@@ -10,3 +10,8 @@ any_map p f (x ∷ xs) = λ i. p (f x) || any_map p f xs i
 pub map_twice : {X Y Z : Type 0} (g : Y → Z) (f : X → Y) (xs : List X) → map (λ x. g (f x)) xs ≡ map g (map f xs)
 map_twice g f [] = refl
 map_twice g f (x ∷ xs) = λ i. g (f x) ∷ map_twice g f xs i
+
+-- what doesn't pass one test can't pass another that asks for more
+pub unless : (a b : Bool) → (a ≡ true → b ≡ true) → b ≡ false → a ≡ false
+unless false b implied f = refl
+unless true b implied f = absurd (let h = implied refl in cc)

@@ -12,6 +12,7 @@ mod Members
 mod Rebound
 mod SuitableSpelling
 mod Imaging
+mod MethodWalks
 mod Holding
 mod OneLocal
 mod ClashTests

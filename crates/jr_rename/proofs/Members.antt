@@ -29,7 +29,7 @@ use Rattle.jr_rename.specs.Keeping.{IsKept, IsWritten, IsSuperKept, IsTopKept, I
 use Rattle.jr_rename.proofs.Chosen.{renamed_text, renamed_front, lost_some, left_none, right_none}
 use Rattle.jr_rename.proofs.Forms.{one_form}
 use Rattle.jr_rename.proofs.World.{World}
-use Rattle.jr_rename.proofs.Types.{to_scope, type_kept}
+use Rattle.jr_rename.proofs.Types.{to_scope, written_kept}
 use Rattle.jr_rename.proofs.Kept.{kept_row}
 use Rattle.jr_rename.proofs.Alongside.{along_row}
 use Rattle.jr_rename.proofs.Sides.{maybe_along, stmts_along}
@@ -106,7 +106,7 @@ module _ {A : Type 0} (tells : A → ℕ → Span) (rows : List Row) (g : Renami
   }
 
   types_kept : (c d : Context) → ContextTo g rows c d → (b i : ℕ) (t : tree.TypeName A) (p : Rewritten (tree.TypeName A)) → RewritesType tells Chosen c b t p → p.losses ≡ [] → Writes c d b t i p.tree
-  types_kept c d stand b i t p made none = type_kept tells rows g c d (worlds c d stand) super_at b t p made none
+  types_kept c d stand b i t p made none = written_kept tells rows g c d (worlds c d stand) super_at b t p made none
 
   -- ---- parts of members
 

@@ -18,10 +18,10 @@ use Rattle.jr_rewrite.specs.Along.{Along, AlongMaybe, AlongStmt, AlongElse, Alon
 use Rattle.jr_rename.specs.Images.{Renaming, name_to, type_to, rows_to}
 use Rattle.jr_rename.specs.Spelling.{renamed, spelling}
 use Rattle.jr_rename.specs.Standing.{LocalTo, LocalsTo, ContextTo}
-use Rattle.jr_rename.specs.Keeping.{IsKept, IsWritten}
+use Rattle.jr_rename.specs.Keeping.{IsKept, IsTypeKept, IsWritten}
 use Rattle.jr_rename.proofs.Chosen.{renamed_text, left_none, right_none}
 use Rattle.jr_rename.proofs.World.{World}
-use Rattle.jr_rename.proofs.Types.{type_kept}
+use Rattle.jr_rename.proofs.Types.{written_kept}
 use Rattle.jr_rename.proofs.Alongside.{along}
 
 -- ---- a local more
@@ -122,8 +122,8 @@ module _ {A : Type 0} (tells : A → ℕ → Span) (rows : List Row) (g : Renami
     }
 
     types_go : (b : ℕ) (t : tree.TypeName A) (p : Rewritten (tree.TypeName A)) → RewritesType tells Chosen c b t p → p.losses ≡ []
-        → (k : Ty) → WritesType rows (scope_of c) t k → WritesType (rows_to g rows) (scope_of d) p.tree (type_to g k)
-    types_go b t p made none = type_kept tells rows g c d (worlds c d stand) super_at b t p made none
+        → IsTypeKept g rows (scope_of c) (scope_of d) t p.tree
+    types_go b t p made none = written_kept tells rows g c d (worlds c d stand) super_at b t p made none
 
     goes_along : (r : Role) (b i : ℕ) (e : tree.Exp A) (o : Rewritten (tree.Exp A)) → RewritesExp tells Chosen c r b e o → o.losses ≡ []
         → Along (λ m b. (tells m b).from) (λ m b. (tells m b).from) Keeps Writes c d r b i e o.tree
@@ -146,7 +146,7 @@ module _ {A : Type 0} (tells : A → ℕ → Span) (rows : List Row) (g : Renami
         let there = ap (λ (y : Rewritten (statement.Stmt A)). y.tree) is ∙ ap (λ (y : Rewritten (tree.Word A)). statement.local m f p.tree y.tree z.tree) word in
         subst (λ (y : statement.Stmt A). ContextTo g rows (with_local c (local_of c n f t w)) (after n d y)) (sym there)
         (with_more g rows c d (local_of c n f t w) (local_of d n f p.tree (word_to h w)) stand
-        (new_local n f t p.tree w h (types_go _ t p types (left_none p.losses v.losses (left_none (p.losses ++ v.losses) z.losses all))) declared) refl)
+        (new_local n f t p.tree w h (types_go _ t p types (left_none p.losses v.losses (left_none (p.losses ++ v.losses) z.losses all))).means declared) refl)
     after_to n b (statement.eval m e) q (p, inner, is) none = subst (λ (y : Rewritten (statement.Stmt A)). ContextTo g rows c (after n d y.tree)) (sym is) stand
     after_to n b (statement.branch m e x other) q (p, y, z, inner, one_side, other_side, is) none = subst (λ (y : Rewritten (statement.Stmt A)). ContextTo g rows c (after n d y.tree)) (sym is) stand
     after_to n b (statement.loop m e x) q (p, y, inner, body, is) none = subst (λ (y : Rewritten (statement.Stmt A)). ContextTo g rows c (after n d y.tree)) (sym is) stand
@@ -169,7 +169,7 @@ module _ {A : Type 0} (tells : A → ℕ → Span) (rows : List Row) (g : Renami
           ap (λ (y : Rewritten (statement.Stmt A)). y.tree) is ∙ ap (λ (y : Rewritten (tree.Word A)). statement.local m f p.tree y.tree z.tree) word,
           goes,
           goes_along (in_own c (local_of c n f t w)) (in_own d (local_of d n f p.tree (word_to h w)))
-              (own_more g rows c d (local_of c n f t w) (local_of d n f p.tree (word_to h w)) stand (new_local c d stand n f t p.tree w h goes declared) refl)
+              (own_more g rows c d (local_of c n f t w) (local_of d n f p.tree (word_to h w)) stand (new_local c d stand n f t p.tree w h goes.means declared) refl)
               value _ _ e z inner (right_none (p.losses ++ v.losses) z.losses all),
         )
     stmt_along n c d stand b i (statement.eval m e) q (p, inner, is) none =

@@ -353,7 +353,7 @@ module _ {A : Type 0} (begins : A → ℕ → ℕ) (rows : List Row) (g : Renami
       spells_suits MayStandBeforeType _ _ w.text (class_to g t.0).name (class_decl t.0) _ _ h (class_forms w.text (class_to g t.0) (class_named t.0 (named (class_decl t.0) row.0 row.1))) t.2
   type_suits c base (tree.named m (Some v) w) h t =
       let row = keys_row rows _ (class_decl t.1) t.3 in
-      spells_suits MayStandBeforeType _ _ w.text (class_to g t.1).name (class_decl t.1) _ _ h (class_forms w.text (class_to g t.1) (class_named t.1 (named (class_decl t.1) row.0 row.1))) t.4
+      spells_suits MayStandBeforeType _ _ w.text (class_to g t.1).name (class_decl t.1) _ _ h (class_forms w.text (class_to g t.1) (class_named t.1 (named (class_decl t.1) row.0 row.1))) t.6
 
   qualifier_suits : (c : Context) (base : ℕ) (t : tree.TypeName A) (h : Choice) → QualifierSpells begins rows g c base t h → Suits MayStandAlone h
   qualifier_suits c base (tree.int m) h t = absurd t

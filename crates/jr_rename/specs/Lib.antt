@@ -2,6 +2,8 @@ pub mod Targets
 pub mod Words
 pub mod Families
 pub mod Images
+pub mod MethodIndex
+pub mod DeclSets
 pub mod ImageView
 pub mod Spelling
 pub mod Clashes

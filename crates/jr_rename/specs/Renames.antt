@@ -1,5 +1,5 @@
 -- What a rename does to a program, and why it is refused.
-use Rattle.std.specs.Prelude.{◌≡◌, ℕ, suc, List, [], ◌∷◌, map, Some, slice_get, sum_by, codes, filter, not}
+use Rattle.std.specs.Prelude.{◌≡◌, ℕ, List, [], map, Some, slice_get, sum_by, codes, filter, not}
 use Rattle.jr_text.specs.declared.spans.Span.{Span}
 use Rattle.jr_text.specs.Edits.{Entry}
 use Rattle.jr_ast.specs.MemberTree as syntax
@@ -17,8 +17,9 @@ use Rattle.jr_names.specs.Refusals.{
   override_changed,
   lost_binding,
 }
-use Rattle.jr_rewrite.specs.Respellings.{Loss, Change}
+use Rattle.jr_rewrite.specs.Respellings.{Loss}
 use Rattle.jr_rewrite.specs.Rewritten.{Rewritten}
+use Rattle.jr_rewrite.specs.Edited.{entries_of}
 use Rattle.jr_rewrite.specs.Rewrites.{RewritesUnits}
 use Rattle.jr_rename.specs.Targets.{IsTarget, HasNoTarget}
 use Rattle.jr_rename.specs.Families.{AreRenamed}
@@ -26,12 +27,6 @@ use Rattle.jr_rename.specs.Images.{Renaming, decl_to}
 use Rattle.jr_rename.specs.Spelling.{spelling}
 use Rattle.jr_rename.specs.Clashes.{ClashesWith, IsClear}
 use Rattle.jr_rename.specs.Refusals.{ChangesPrelude, ChangesDispatch, IsFirstChange, IsFirstLoss}
-
--- the entries of a list of edits into which the changes are put one after the other
-abbrev pub entries_from : (number : ℕ) → List Change → List Entry
-entries_from n [] = []
-entries_from n (c ∷ cs) =
-    record { span = c.span; text = c.text; order = n } ∷ entries_from (suc n) cs
 
 -- each declaration that becomes another, with that one, in the order of the rows
 abbrev pub pairs_of : List Row → Renaming → List (Decl × Decl)
@@ -107,6 +102,6 @@ module _ {A : Type 0} (tells : A → ℕ → Span) (rows : List Row) (super_at :
     pub rewrite : Rewrite g files
     pub kept : (i : ℕ) (o : Rewritten (syntax.Unit A)) → slice_get files i ≡ Some o
         → o.losses ≡ []
-    pub edits_are : edits ≡ map (λ (o : Rewritten (syntax.Unit A)). entries_from 0 o.changes) files
+    pub edits_are : edits ≡ map (λ (o : Rewritten (syntax.Unit A)). entries_of o.changes) files
     pub renaming_is : renaming ≡ pairs_of rows g
     pub respelled_is : respelled ≡ sum_by (λ (o : Rewritten (syntax.Unit A)). o.respelled) files

@@ -31,6 +31,13 @@ takes_place (method_decl m) new (method_decl o) =
 takes_place (method_decl m) new (class_decl o) = is_member_class o m.class new
 takes_place _ new _ = false
 
+-- a declaration has the name; a constructor and a local have none
+abbrev pub is_named : Decl → List ℕ → Bool
+is_named (class_decl k) name = same_name k.name name
+is_named (field_decl f) name = same_name f.name name
+is_named (method_decl m) name = same_name m.name name
+is_named _ name = false
+
 -- one of the renamed declarations takes the place of this one
 unfoldable pub one_takes_place : (renamed : List Decl) → (new : List ℕ) → Decl → Bool
 one_takes_place renamed new d = list_any (λ r. takes_place r new d) renamed

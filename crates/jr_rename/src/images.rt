@@ -1,11 +1,6 @@
 //! What becomes of the keys of a program where declarations get another name.
 ghost use Rattle.std.specs.Prelude.{◌≡◌, IfOk, map, option_map, if◌then◌else◌};
-ghost use Rattle.std.specs.List.{list_any};
-ghost use Rattle.std.specs.Option.{option_eq};
-ghost use Rattle.std.specs.Cmp.Lexicographic.{pointwise};
-ghost use Rattle.std.specs.Prelude.{None, nat_eq};
 ghost use Rattle.jr_table.specs.Decls.{class_decl, field_decl, method_decl};
-ghost use Rattle.jr_table.specs.SameDecls.{same_decl};
 ghost use Rattle.jr_table.specs.Prelude.{top_key};
 ghost use Rattle.jr_table.specs.TypeView.{class_key_of, ty_of};
 ghost use Rattle.jr_table.specs.KeyView.{
@@ -20,6 +15,7 @@ ghost use Rattle.jr_table.specs.RowView.{row_of};
 ghost use Rattle.jr_rename.specs.Images as pure;
 ghost use Rattle.jr_rename.specs.ImageView.{renaming_of};
 
+use crate::decl_sets::DeclSet;
 use jr_ast::Name;
 use jr_table::{ClassKey, CtorKey, Decl, FieldKey, LocalKey, MemberKey, MethodKey, Row, Ty, Tys};
 use std::alloc::{AllocError, Global};
@@ -27,125 +23,34 @@ use std::alloc::{AllocError, Global};
 /// Declarations that get a name.
 #[derive(Drop)]
 pub struct NewName {
-    pub decls: Vec<Decl>,
+    pub decls: DeclSet,
     pub name: Name,
 }
 
 // ---- whether a declaration is among them
 
-fn is_none(name: &Option<Name>) -> bool
-    ensures { result ≡ option_eq (pointwise nat_eq) None name.now }
-{
-    match name {
-        None => true,
-        Some(_) => false,
-    }
-}
-
-fn is_top_class(decl: &Decl, name: &Name) -> bool
-    ensures { result ≡ same_decl (class_decl (top_key name.now)) (decl_of decl.now) }
-{
-    match decl {
-        Decl::Class(key) => (name == &key.name) & is_none(&key.outer),
-        Decl::Field(_) => false,
-        Decl::Method(_) => false,
-        Decl::Ctor(_) => false,
-        Decl::Local(_) => false,
-    }
-}
-
-fn is_class(decl: &Decl, key: &ClassKey) -> bool
-    ensures { result ≡ same_decl (class_decl (class_key_of key.now)) (decl_of decl.now) }
-{
-    match decl {
-        Decl::Class(other) => key == other,
-        Decl::Field(_) => false,
-        Decl::Method(_) => false,
-        Decl::Ctor(_) => false,
-        Decl::Local(_) => false,
-    }
-}
-
-fn is_field(decl: &Decl, key: &FieldKey) -> bool
-    ensures { result ≡ same_decl (field_decl (field_key_of key.now)) (decl_of decl.now) }
-{
-    match decl {
-        Decl::Field(other) => key == other,
-        Decl::Class(_) => false,
-        Decl::Method(_) => false,
-        Decl::Ctor(_) => false,
-        Decl::Local(_) => false,
-    }
-}
-
-fn is_method(decl: &Decl, key: &MethodKey) -> bool
-    ensures { result ≡ same_decl (method_decl (method_key_of key.now)) (decl_of decl.now) }
-{
-    match decl {
-        Decl::Method(other) => key == other,
-        Decl::Class(_) => false,
-        Decl::Field(_) => false,
-        Decl::Ctor(_) => false,
-        Decl::Local(_) => false,
-    }
-}
-
-fn has_top_class(g: &NewName, name: &Name) -> bool
-    ensures { result ≡ list_any (λ d. same_decl (class_decl (top_key name.now)) (decl_of d))
-        g.now.decls.items }
-{
-    g.decls
-        .as_slice()
-        .iter()
-        .any(|decl| is_top_class(decl, name))
-}
-
 fn is_renamed_top(g: &NewName, name: &Name) -> bool
     ensures { result ≡ pure.is_renamed (renaming_of g.now) (class_decl (top_key name.now)) }
 {
-    has_top_class(g, name)
-}
-
-fn has_class(g: &NewName, key: &ClassKey) -> bool
-    ensures { result
-        ≡ list_any (λ d. same_decl (class_decl (class_key_of key.now)) (decl_of d))
-        g.now.decls.items }
-{
-    g.decls.as_slice().iter().any(|decl| is_class(decl, key))
+    g.decls.has_top_class(name)
 }
 
 fn is_renamed_class(g: &NewName, key: &ClassKey) -> bool
     ensures { result ≡ pure.is_renamed (renaming_of g.now) (class_decl (class_key_of key.now)) }
 {
-    has_class(g, key)
-}
-
-fn has_field(g: &NewName, key: &FieldKey) -> bool
-    ensures { result
-        ≡ list_any (λ d. same_decl (field_decl (field_key_of key.now)) (decl_of d))
-        g.now.decls.items }
-{
-    g.decls.as_slice().iter().any(|decl| is_field(decl, key))
+    g.decls.has_class(key)
 }
 
 fn is_renamed_field(g: &NewName, key: &FieldKey) -> bool
     ensures { result ≡ pure.is_renamed (renaming_of g.now) (field_decl (field_key_of key.now)) }
 {
-    has_field(g, key)
-}
-
-fn has_method(g: &NewName, key: &MethodKey) -> bool
-    ensures { result
-        ≡ list_any (λ d. same_decl (method_decl (method_key_of key.now)) (decl_of d))
-        g.now.decls.items }
-{
-    g.decls.as_slice().iter().any(|decl| is_method(decl, key))
+    g.decls.has_field(key)
 }
 
 fn is_renamed_method(g: &NewName, key: &MethodKey) -> bool
     ensures { result ≡ pure.is_renamed (renaming_of g.now) (method_decl (method_key_of key.now)) }
 {
-    has_method(g, key)
+    g.decls.has_method(key)
 }
 
 // ---- names

@@ -1,13 +1,17 @@
 //! Rename of any declaration.
 #![tactic(auto)]
 
+mod decl_sets;
+mod decl_tests;
 mod images;
 mod laws;
+mod method_index;
 mod new_programs;
 mod row_clashes;
 mod text_laws;
 mod words;
 
+pub use decl_sets::DeclSet;
 pub use images::{
     NewName, class_to, ctor_to, decl_to, field_to, local_to, member_to, method_to, rows_to,
     type_to, types_to,

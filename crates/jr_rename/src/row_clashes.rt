@@ -74,6 +74,19 @@ fn takes_place(renamed: &Decl, new: &Name, decl: &Decl) -> bool
     }
 }
 
+/// Whether a declaration has the name. A constructor and a local have none.
+fn is_named(decl: &Decl, name: &Name) -> bool
+    ensures { result ≡ pure.is_named (decl_of decl.now) name.now }
+{
+    match decl {
+        Decl::Class(key) => &key.name == name,
+        Decl::Field(key) => &key.name == name,
+        Decl::Method(key) => &key.name == name,
+        Decl::Ctor(_) => false,
+        Decl::Local(_) => false,
+    }
+}
+
 fn some_takes_place(renamed: &[Decl], new: &Name, decl: &Decl) -> bool
     ensures { result ≡ list_any (λ r. pure.takes_place (decl_of r) new.now (decl_of decl.now))
         renamed.now }
@@ -81,12 +94,17 @@ fn some_takes_place(renamed: &[Decl], new: &Name, decl: &Decl) -> bool
     renamed.iter().any(|one| takes_place(one, new, decl))
 }
 
-/// Whether one of the renamed declarations takes the place of another.
+/// Whether one of the renamed declarations takes the place of another: only where that one has the
+/// name already, so the others aren't compared.
 fn one_takes_place(renamed: &[Decl], new: &Name, decl: &Decl) -> bool
     ensures { result
         ≡ pure.one_takes_place (map decl_of renamed.now) new.now (decl_of decl.now) }
 {
-    some_takes_place(renamed, new, decl)
+    if is_named(decl, new) {
+        some_takes_place(renamed, new, decl)
+    } else {
+        false
+    }
 }
 
 /// Whether a class of another name clashes with a declaration.

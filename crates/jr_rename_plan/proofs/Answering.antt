@@ -1,6 +1,6 @@
 -- What is answered, put together from what the calls below answer.
-use Rattle.std.proofs.Common.{◌≡◌, ℕ, suc, ◌<◌, List, [], ◌∷◌, Option, Some, None, refl, sym, ap, subst, ◌∙◌, inl, inr, length, arith}
-use Rattle.std.specs.Prelude.{slice_get, option_map, map}
+use Rattle.std.proofs.Common.{◌≡◌, ℕ, ◌<◌, List, Option, Some, None, refl, sym, ap, subst, ◌∙◌, inl, inr, length, arith}
+use Rattle.std.specs.Prelude.{slice_get, option_map}
 use Rattle.std.proofs.lemmas.Option.{slice_get-map, slice_get_cases}
 use Rattle.jr_text.specs.declared.spans.Span.{Span}
 use Rattle.jr_text.specs.Edits.{Entry}
@@ -11,9 +11,7 @@ use Rattle.jr_table.specs.Decls.{Decl}
 use Rattle.jr_names.specs.Refusals.{Refusal, prelude_method, override_changed, lost_binding}
 use Rattle.jr_names.specs.Replies.{Outcome, planned, not_planned}
 use Rattle.jr_bind.specs.Programs.{File, Program, IsProgram, units_of}
-use Rattle.jr_rewrite.specs.Respellings.{Loss, Change}
-use Rattle.jr_rewrite.specs.Rewritten.{Rewritten}
-use Rattle.jr_rewrite.specs.Edited as edited
+use Rattle.jr_rewrite.specs.Respellings.{Loss}
 use Rattle.jr_rename.specs.Images.{Renaming}
 use Rattle.jr_rename.specs.Refusals.{HasPreludeMethod, ChangesPrelude, IsFirstChange}
 use Rattle.jr_rename.specs.Renames as renames
@@ -34,14 +32,6 @@ there xs i h =
       | inl found ↦ (found.0, found.2)
       | inr past ↦ absurd (omega (arith, h, past.0))
     ]
-
-same_entries : (n : ℕ) (cs : List Change) → edited.entries_from n cs ≡ renames.entries_from n cs
-same_entries n [] = refl
-same_entries n (c ∷ cs) = ap (λ (es : List Entry). record { span = c.span; text = c.text; order = n } ∷ es) (same_entries (suc n) cs)
-
-edits_same : {T : Type 0} (os : List (Rewritten T)) → map (λ (o : Rewritten T). edited.entries_of o.changes) os ≡ map (λ (o : Rewritten T). renames.entries_from 0 o.changes) os
-edits_same [] = refl
-edits_same {T} (o ∷ os) = λ i. same_entries 0 o.changes i ∷ edits_same {T = T} os i
 
 module _ (p : Program Span) where
   -- ---- what comes of a renaming
@@ -101,7 +91,7 @@ module _ (p : Program Span) where
         files = w.files;
         rewrite = w.rewrite;
         kept = w.kept;
-        edits_are = w.edits_are ∙ edits_same w.files;
+        edits_are = w.edits_are;
         renaming_is = pairs;
         respelled_is = w.respelled_is;
       },

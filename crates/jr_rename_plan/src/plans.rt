@@ -28,9 +28,9 @@ fn no_target(alloc: Global, file: u32, at: u32) -> Result<Outcome, AllocError>
 
 /// What a rename of the declaration that the identifier at the byte of a file names does: the edits
 /// of each file, what declarations become, and how many references are spelled otherwise than with
-/// another name alone. Or why it is refused, by the first that applies: there is no declaration that
-/// can be renamed (`BadTarget`), a method of the prelude would change (`PreludeMethod`), the name
-/// collides (`Clash`), dispatch would change (`OverrideChanged`), a reference has no spelling
+/// another name alone. Or why it is refused, by the first that applies: there is no declaration
+/// that can be renamed (`BadTarget`), a method of the prelude would change (`PreludeMethod`), the
+/// name collides (`Clash`), dispatch would change (`OverrideChanged`), a reference has no spelling
 /// (`LostBinding`) (JLS 6).
 pub fn plan_at<V: View<Span>>(
     alloc: Global,

@@ -17,7 +17,7 @@ use jr_bind::View;
 use jr_clash::clash;
 use jr_family::{family, prelude_method};
 use jr_names::{Outcome, Refusal};
-use jr_rename::{NewName, renamings_stay_fair, rows_are_named};
+use jr_rename::{DeclSet, NewName, renamings_stay_fair, rows_are_named};
 use jr_table::Decl;
 use jr_text::Span;
 use std::alloc::{AllocError, Global};
@@ -81,7 +81,8 @@ pub(crate) fn of_target<V: View<Span>>(
     let decls = family(alloc, view.table(), target)?;
     let told = prelude_method(alloc, view.table(), target, decls.as_slice(), new)?;
     let name = Name::new(alloc, new.as_str())?;
-    let g = NewName { decls, name };
+    let all = DeclSet::from_vec(alloc, decls)?;
+    let g = NewName { decls: all, name };
     match told {
         Some(method) => Ok(Outcome::Refused(Refusal::PreludeMethod { method })),
         None => sparing(alloc, view, target, &g),

@@ -3,8 +3,7 @@ use Rattle.std.proofs.Common.{◌≡◌, ℕ, zero, suc, List, [], ◌∷◌, ma
 use Rattle.std.specs.Prelude.{slice_get, option_map}
 use Rattle.std.proofs.lemmas.Option.{slice_get-map, same_Some, none-some}
 use Rattle.jr_text.specs.declared.spans.Span.{Span}
-use Rattle.jr_text.specs.Edits.{Entry, AreEdits, FitsIn}
-use Rattle.jr_text.specs.Splices.{splice}
+use Rattle.jr_text.specs.Edits.{Entry}
 use Rattle.jr_lex.specs.Replacing.{IsName}
 use Rattle.jr_ast.specs.MemberTree.{Unit as UnitTree}
 use Rattle.jr_grammar.specs.Layout.{itself}
@@ -15,8 +14,7 @@ use Rattle.jr_table.specs.Sites.{Site, sites_of}
 use Rattle.jr_names.specs.Refusals.{prelude_method}
 use Rattle.jr_bind.specs.Programs.{File, Program, units_of}
 use Rattle.jr_places.specs.FileParts.{begins}
-use Rattle.jr_rewrite.specs.Edited as edited
-use Rattle.jr_rewrite.specs.Respellings.{Change}
+use Rattle.jr_rewrite.specs.Edited.{entries_of}
 use Rattle.jr_rewrite.specs.RewriteLaws.{IsRewritten}
 use Rattle.jr_rewrite.specs.Rewrites.{Choosing, RewritesUnit, RewritesUnits}
 use Rattle.jr_rewrite.specs.Rewritten.{Rewritten}
@@ -25,7 +23,6 @@ use Rattle.jr_rename.specs.ImageLaws.{RenamingsStayFair, PlansBecome, LocalsGive
 use Rattle.jr_rename.specs.OneLocal.{HaveNoDots}
 use Rattle.jr_rename.specs.Refusals.{HasPreludeMethod}
 use Rattle.jr_rename.specs.RenameLaws.{IsFair}
-use Rattle.jr_rename.specs.Renames.{entries_from}
 use Rattle.jr_rename.specs.Spelling.{spelling}
 use Rattle.jr_rename.specs.TextLaws.{AreNamed, NamesHaveNoDot, RowsAreNamed, RenamedTextsRead}
 use Rattle.jr_renamed.specs.PlanLaws.{IsPlanIn, IsNewText, IsNoClass}
@@ -33,11 +30,6 @@ use Rattle.jr_renamed.specs.PlanLaws.{IsPlanIn, IsNewText, IsNoClass}
 some_of : {X Y : Type 0} (f : X → Y) (o : Option X) (y : Y) → option_map f o ≡ Some y → (x : X) × (o ≡ Some x) × (f x ≡ y)
 some_of f None y e = absurd cc
 some_of f (Some x) y e = let same : f x ≡ y = cc in (x, refl, same)
-
--- the two names of one list
-same_entries : (n : ℕ) (cs : List Change) → entries_from n cs ≡ edited.entries_from n cs
-same_entries n [] = refl
-same_entries n (c ∷ cs) = ap (λ (es : List Entry). record { span = c.span; text = c.text; order = n } ∷ es) (same_entries (suc n) cs)
 
 -- each unit is rewritten
 one_unit : (C : Choosing Span) (sites : List Site) (us : List (UnitTree Span)) (os : List (Rewritten (UnitTree Span))) → RewritesUnits itself C sites us os → (i : ℕ) (u : UnitTree Span) → slice_get us i ≡ Some u → (o : Rewritten (UnitTree Span)) × (slice_get os i ≡ Some o) × RewritesUnit itself C sites u o
@@ -70,17 +62,16 @@ module _ (p : Program Span) (text : List ℕ) (file at : ℕ) (new : List ℕ) (
       let o = one_unit C (sites_of begins (units_of p)) (units_of p) is.planned.files is.planned.rewrite i f.unit unit in
       let r : IsRewritten f.text o.0 = law itself p.rows is.planned.g (λ (c : Context). p.super_at c.member) (sites_of begins (units_of p)) f.text f.unit o.0 names.0
       (subst (λ (n : List ℕ). IsName n) (sym name_is) is.name) (is.program.reads i f stands) o.2 in
-      let same : edited.entries_of o.0.changes ≡ entries_from 0 o.0.changes = sym (same_entries 0 o.0.changes) in
-      let edit : slice_get edits i ≡ Some (entries_from 0 o.0.changes) = ap (λ (l : List (List Entry)). slice_get l i) is.planned.edits_are
-      ∙ slice_get-map (λ (x : Rewritten (UnitTree Span)). entries_from 0 x.changes) is.planned.files i ∙ ap (option_map (λ (x : Rewritten (UnitTree Span)). entries_from 0 x.changes)) o.1 in (
+      let edit : slice_get edits i ≡ Some (entries_of o.0.changes) = ap (λ (l : List (List Entry)). slice_get l i) is.planned.edits_are
+      ∙ slice_get-map (λ (x : Rewritten (UnitTree Span)). entries_of x.changes) is.planned.files i ∙ ap (option_map (λ (x : Rewritten (UnitTree Span)). entries_of x.changes)) o.1 in (
         o.0,
-        entries_from 0 o.0.changes,
+        entries_of o.0.changes,
         o.1,
         edit,
         record {
-          are = subst AreEdits same r.edits;
-          fits = subst (FitsIn f.text) same r.fits;
-          reads = subst (λ (es : List Entry). Reads (splice f.text es) o.0.tree) same r.reads;
+          are = r.edits;
+          fits = r.fits;
+          reads = r.reads;
         },
       )
 

@@ -73,8 +73,8 @@ IsNoClass (method_decl k) = Unit {0}
 IsNoClass (class_decl k) = ⊥
 IsNoClass (constructor_decl k) = ⊥
 
--- whatever spans they have, the new trees' declarations have no fault, and their rows are the images
--- of the old ones
+-- whatever spans they have, the new trees' declarations have no fault, and their rows are the
+-- images of the old ones
 abbrev pub NewProgramsAreImages : Type 0
 NewProgramsAreImages = (p : Program Span) (text : List ℕ) (file at : ℕ) (new : List ℕ)
     (edits : List (List Entry)) (renaming : List (Decl × Decl)) (respelled : ℕ)

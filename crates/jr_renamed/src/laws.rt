@@ -9,9 +9,9 @@ use jr_text::Span;
 
 /// Whatever is planned in a program without faults and errors: the text of each file, spliced by
 /// its edits, reads as its new tree; each reference of the new trees is bound, by binding's own
-/// relations over the new rows, to the image of what it was bound to (JLS 6); and, where no class is
-/// renamed, the new files' declarations have no fault, their rows are the images of the old rows,
-/// and each member stands where the one stood whose image it is.
+/// relations over the new rows, to the image of what it was bound to (JLS 6); and, where no class
+/// is renamed, the new files' declarations have no fault, their rows are the images of the old
+/// rows, and each member stands where the one stood whose image it is.
 pub fn plans_keep_programs()
     ensures texts { NewTextsRead }
     ensures references { ReferencesStay }

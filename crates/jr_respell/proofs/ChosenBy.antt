@@ -1,6 +1,6 @@
 -- What is chosen by a way, as what is chosen of one kind of declaration.
-use Rattle.std.proofs.Common.{◌≡◌, ℕ, List, [], Some, None, true, false, sym, ap, subst, ◌∙◌, inl, inr}
-use Rattle.std.specs.Prelude.{Option}
+use Rattle.std.proofs.Common.{◌≡◌, ℕ, List, [], Some, None, Bool, true, false, sym, ap, subst, ◌∙◌, inl, inr}
+use Rattle.std.specs.Prelude.{Option, IsTrue, ◌↔◌}
 use Rattle.jr_table.specs.Keys.{ClassKey, Ty}
 use Rattle.jr_table.specs.Decls.{Decl, class_decl, field_decl, local_decl}
 use Rattle.jr_table.specs.Rows.{Row}
@@ -9,6 +9,7 @@ use Rattle.jr_table.specs.Lookup.{FindsVariable, FindsTypeNamed}
 use Rattle.jr_table.specs.Context.{Context, scope_of}
 use Rattle.jr_rewrite.specs.Respellings.{Choice}
 use Rattle.jr_rename.specs.Images.{Renaming, class_to}
+use Rattle.jr_rename.specs.Spelling.{TypeLeads}
 use Rattle.jr_respell.specs.Chosen.{ChoosesOf, VariableIsChosen, QualifiedTypeIsChosen}
 use Rattle.jr_respell.specs.Ways.{Way, local, own_field, type_behind, leads_to, is_local, is_field, Finds, SpellsBy, IsChosenFor, IsChosenBy}
 use Rattle.jr_respell.proofs.DeclKinds.{local_decls, field_decls}
@@ -47,15 +48,16 @@ module _ (rows : List Row) (g : Renaming) (c : Context) (at : ℕ) (old : List �
   of_kind decl from to types images are leads None never = λ k finds. never (decl k) (leads k, finds)
 
   -- a member class behind the one class that has the name
-  pub behind : (outer : List ℕ) (o : ClassKey) → FindsTypeNamed rows (scope_of c) outer (one (class_decl o))
+  pub behind : (outer : List ℕ) (o : ClassKey) (leads : Bool) → FindsTypeNamed rows (scope_of c) outer (one (class_decl o)) → (IsTrue leads ↔ TypeLeads rows g c o)
       → ((a b : ClassKey) → FindsTypeNamed rows (scope_of c) outer (one (class_decl a)) → FindsTypeNamed rows (scope_of c) outer (one (class_decl b)) → a ≡ b)
       → (x : Option Choice)
-      → ChoosesOf (λ k. Finds rows (scope_of c) (type_behind outer) old [] (one (class_decl k))) (λ k h. SpellsBy rows g c (type_behind (class_to g o).name) [] at old (class_decl k) h) x
+      → ChoosesOf (λ k. Finds rows (scope_of c) (type_behind outer true) old [] (one (class_decl k))) (λ k h. SpellsBy rows g c (type_behind (class_to g o).name leads) [] at old (class_decl k) h) x
       → QualifiedTypeIsChosen rows g c at outer old x
-  behind outer o named same (Some h) (k, inl (p, also, within), spells) =
-      ((p, k), (also, within), subst (λ o. SpellsBy rows g c (type_behind (class_to g o).name) [] at old (class_decl k) h) (same o p named also) spells)
-  behind outer o named same (Some h) (k, inr (never, e), spells) = absurd cc
-  behind outer o named same None never = λ (p, k) (also, within). never k (inl (p, also, within))
+  behind outer o leads named lead same (Some h) (k, inl (p, also, within), spells) =
+      let there = subst (λ o. (IsTrue leads ↔ TypeLeads rows g c o) × SpellsBy rows g c (type_behind (class_to g o).name leads) [] at old (class_decl k) h) (same o p named also) (lead, spells) in
+      ((p, k), (also, within), (leads, there.0, there.1))
+  behind outer o leads named lead same (Some h) (k, inr (never, e), spells) = absurd cc
+  behind outer o leads named lead same None never = λ (p, k) (also, within). never k (inl (p, also, within))
 
   -- ---- variables
 

@@ -9,7 +9,6 @@ mod Finds
 mod Spells
 mod ChosenBy
 mod Parents
-mod Imaging
 mod Oks
 mod Above
 mod SimpleNames

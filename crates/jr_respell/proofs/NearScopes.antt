@@ -88,7 +88,7 @@ module _ (rows : List Row) (keys : KeysAreFound rows) (s : Scope) (ls ms : List 
     )
     asked ref.MethodSimple same h = h
     asked ref.MethodOn same (o, is, v) = (o, is, value r.args o d v)
-    asked ref.ClassName same h = names (front_word r.asked) (last_word r.asked) (class_of d) h
+    asked ref.ClassName same (led, h) = (led, names (front_word r.asked) (last_word r.asked) (class_of d) h)
     asked ref.AsAsked same h = alone d same h
 
     binds : Agree ls ms r.asked (class_of d) → (f : Form) → Binds rows (with_locals s ls) r d f → Binds rows (with_locals s ms) r d f

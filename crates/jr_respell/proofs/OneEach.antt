@@ -28,7 +28,7 @@ module _ (rows : List Row) (s : Scope) where
   one_each are each (ctor_of k) name ts = each.ctor_of s k ts
   one_each are each ctor_above name ts = super_one rows are s.class (λ k x. FindsCtorOf rows s k ts x) (λ k. each.ctor_of s k ts)
   one_each are each type_named name ts = each.type_named s name
-  one_each are each (type_behind outer) name ts =
+  one_each are each (type_behind outer leads) name ts =
       in_one (λ k. FindsTypeNamed rows s outer (one (class_decl k))) (one_class each outer) (λ k x. FindsTypeOf rows s k name x) (λ k. each.type_of s k name)
 
   -- a simple name is a variable
@@ -45,7 +45,7 @@ module _ (rows : List Row) (s : Scope) where
   simple_finds (ctor_of k) e name ts f h = absurd cc
   simple_finds ctor_above e name ts f h = absurd cc
   simple_finds type_named e name ts f h = absurd cc
-  simple_finds (type_behind outer) e name ts f h = absurd cc
+  simple_finds (type_behind outer leads) e name ts f h = absurd cc
 
   abbrev pub bare : Scope
   bare = record { class = s.class; is_static = s.is_static; locals = [] }
@@ -64,4 +64,4 @@ module _ (rows : List Row) (s : Scope) where
   bare_finds (ctor_of k) e name ts f h = h
   bare_finds ctor_above e name ts f h = h
   bare_finds type_named e name ts f h = h
-  bare_finds (type_behind outer) e name ts f h = h
+  bare_finds (type_behind outer leads) e name ts f h = h

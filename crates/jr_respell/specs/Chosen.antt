@@ -1,7 +1,7 @@
 -- What is chosen for one reference, by `jr_rename: Spelling`: where the old lookup finds one
 -- declaration, its choice; and where it finds none, none. Operands and arguments go by their old
 -- types, trees by their words.
-use Rattle.std.specs.Prelude.{ℕ, List, [], Option, Some, None, Bool, false}
+use Rattle.std.specs.Prelude.{ℕ, List, [], Option, Some, None, Bool, IsTrue, ◌↔◌}
 use Rattle.jr_table.specs.Keys.{ClassKey, FieldKey, MethodKey, CtorKey, Ty}
 use Rattle.jr_table.specs.Decls.{
   Decl,
@@ -43,7 +43,7 @@ use Rattle.jr_rename.specs.Images.{
   scope_to,
 }
 use Rattle.jr_rename.specs.Spelling as spelling
-use Rattle.jr_rename.specs.Spelling.{operand_of, reference, dotted}
+use Rattle.jr_rename.specs.Spelling.{operand_of, reference, behind_words, dotted, TypeLeads}
 
 -- trees don't come into what is said here
 abbrev pub unmarked : ℕ → ℕ → ℕ
@@ -110,7 +110,7 @@ module _ (rows : List Row) (g : Renaming) (c : Context) where
   -- on a value of class k
   abbrev pub FieldSpells : (at : ℕ) → (k : ClassKey) → (old : List ℕ) → FieldKey → Choice → Type 0
   FieldSpells at k old f h = Spells at old (field_to g f).name (field_decl f)
-      (reference ref.FieldOn (field_to g f).name (operand_of (class_to g k) false) [])
+      (reference ref.FieldOn (field_to g f).name (operand_of (class_to g k)) [])
       (FindsFieldIn (rows_to g rows) (scope_to g c) (class_to g k) (field_to g f).name) h
 
   abbrev pub FieldIsChosen : (at : ℕ) → (k : ClassKey) → (old : List ℕ) → Option Choice → Type 0
@@ -122,7 +122,8 @@ module _ (rows : List Row) (g : Renaming) (c : Context) where
   abbrev pub StaticFieldSpells : (at : ℕ) → (leads : Bool) → (k : ClassKey) → (old : List ℕ)
       → FieldKey → Choice → Type 0
   StaticFieldSpells at leads k old f h = Spells at old (field_to g f).name (field_decl f)
-      (reference ref.ThroughClass (field_to g f).name (operand_of (class_to g k) leads) [])
+      (behind_words leads
+      (reference ref.ThroughClass (field_to g f).name (operand_of (class_to g k)) []))
       (FindsFieldIn (rows_to g rows) (scope_to g c) (class_to g k) (field_to g f).name) h
 
   abbrev pub StaticFieldIsChosen : (at : ℕ) → (leads : Bool) → (k : ClassKey) → (old : List ℕ)
@@ -173,7 +174,7 @@ module _ (rows : List Row) (g : Renaming) (c : Context) where
   abbrev pub CallSpells : (at : ℕ) → (k : ClassKey) → (old : List ℕ) → List Ty → MethodKey
       → Choice → Type 0
   CallSpells at k old ts q h = Spells at old (method_to g q).name (method_decl q)
-      (reference ref.MethodOn (method_to g q).name (operand_of (class_to g k) false) (types_to g ts))
+      (reference ref.MethodOn (method_to g q).name (operand_of (class_to g k)) (types_to g ts))
       (FindsMethodOf (rows_to g rows) (scope_to g c) (class_to g k) (method_to g q).name
       (types_to g ts)) h
 
@@ -186,8 +187,8 @@ module _ (rows : List Row) (g : Renaming) (c : Context) where
   abbrev pub StaticCallSpells : (at : ℕ) → (leads : Bool) → (k : ClassKey) → (old : List ℕ)
       → List Ty → MethodKey → Choice → Type 0
   StaticCallSpells at leads k old ts q h = Spells at old (method_to g q).name (method_decl q)
-      (reference ref.ThroughClass (method_to g q).name (operand_of (class_to g k) leads)
-      (types_to g ts))
+      (behind_words leads (reference ref.ThroughClass (method_to g q).name
+      (operand_of (class_to g k)) (types_to g ts)))
       (FindsMethodOf (rows_to g rows) (scope_to g c) (class_to g k) (method_to g q).name
       (types_to g ts)) h
 
@@ -214,7 +215,7 @@ module _ (rows : List Row) (g : Renaming) (c : Context) where
 
   abbrev pub CreationSpells : (at : ℕ) → (k : ClassKey) → List Ty → CtorKey → Choice → Type 0
   CreationSpells at k ts q h = Spells at [] [] (constructor_decl q)
-      (reference ref.AsAsked [] (operand_of (class_to g k) false) (types_to g ts))
+      (reference ref.AsAsked [] (operand_of (class_to g k)) (types_to g ts))
       (FindsCtorOf (rows_to g rows) (scope_to g c) (class_to g k) (types_to g ts)) h
 
   abbrev pub CreationIsChosen : (at : ℕ) → (k : ClassKey) → List Ty → Option Choice → Type 0
@@ -248,8 +249,10 @@ module _ (rows : List Row) (g : Renaming) (c : Context) where
 
   -- of class k, which stands behind the name of class o
   abbrev pub QualifiedTypeSpells : (at : ℕ) → (old : List ℕ) → (o k : ClassKey) → Choice → Type 0
-  QualifiedTypeSpells at old o k h = Spells at old (class_to g k).name (class_decl k)
-      (reference ref.ClassName (dotted (class_to g o).name (class_to g k).name) None [])
+  QualifiedTypeSpells at old o k h = (leads : Bool) × (IsTrue leads ↔ TypeLeads rows g c o)
+      × Spells at old (class_to g k).name (class_decl k)
+      (behind_words leads
+      (reference ref.ClassName (dotted (class_to g o).name (class_to g k).name) None []))
       (spelling.QualifiedFinds unmarked rows g (scope_to g c) (class_to g o).name
       (class_to g k).name)
       h

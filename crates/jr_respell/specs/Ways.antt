@@ -54,9 +54,9 @@ pub data Way : Type 0 where
   -- a creation of the class, and `super(..)`
   ctor_of : ClassKey → Way
   ctor_above : Way
-  -- a class as a type, by its name alone and behind that of another
+  -- a class as a type, by its name alone and behind that of another, which leads to it, or doesn't
   type_named : Way
-  type_behind : (outer : List ℕ) → Way
+  type_behind : (outer : List ℕ) → (leads : Bool) → Way
 
 abbrev pub way_of : raw.Way → Way
 way_of variant.Local = local
@@ -71,7 +71,7 @@ way_of variant.MethodAbove = method_above
 way_of (variant.CtorOf k) = ctor_of (class_key_of k.now)
 way_of variant.CtorAbove = ctor_above
 way_of variant.TypeNamed = type_named
-way_of (variant.TypeBehind outer) = type_behind outer.now
+way_of (variant.TypeBehind outer leads) = type_behind outer.now leads
 
 -- whether a simple name is looked up as a variable
 abbrev pub is_simple : Way → Bool
@@ -87,7 +87,7 @@ is_simple method_above = false
 is_simple (ctor_of k) = false
 is_simple ctor_above = false
 is_simple type_named = false
-is_simple (type_behind outer) = false
+is_simple (type_behind outer leads) = false
 
 -- ---- declarations
 
@@ -140,7 +140,7 @@ leads_to method_above d = is_method d
 leads_to (ctor_of k) d = is_ctor d
 leads_to ctor_above d = is_ctor d
 leads_to type_named d = is_class d
-leads_to (type_behind outer) d = is_class d
+leads_to (type_behind outer leads) d = is_class d
 
 -- the name that a declaration is asked by; a local goes by this one, a constructor by none
 abbrev pub name_in : Decl → (of_local : List ℕ) → List ℕ
@@ -165,7 +165,7 @@ form_of method_above = ref.AsAsked
 form_of (ctor_of k) = ref.AsAsked
 form_of ctor_above = ref.AsAsked
 form_of type_named = ref.ClassName
-form_of (type_behind outer) = ref.ClassName
+form_of (type_behind outer leads) = ref.ClassName
 
 abbrev pub text_by : Way → (name : List ℕ) → List ℕ
 text_by local name = name
@@ -180,26 +180,47 @@ text_by method_above name = name
 text_by (ctor_of k) name = name
 text_by ctor_above name = name
 text_by type_named name = name
-text_by (type_behind outer) name = dotted outer name
+text_by (type_behind outer leads) name = dotted outer name
 
 abbrev pub operand_by : Way → Option Operand
 operand_by local = None
 operand_by own_field = None
-operand_by (field_on k) = operand_of k false
-operand_by (field_through leads k) = operand_of k leads
+operand_by (field_on k) = operand_of k
+operand_by (field_through leads k) = operand_of k
 operand_by field_above = None
 operand_by method_named = None
-operand_by (method_on k) = operand_of k false
-operand_by (method_through leads k) = operand_of k leads
+operand_by (method_on k) = operand_of k
+operand_by (method_through leads k) = operand_of k
 operand_by method_above = None
-operand_by (ctor_of k) = operand_of k false
+operand_by (ctor_of k) = operand_of k
 operand_by ctor_above = None
 operand_by type_named = None
-operand_by (type_behind outer) = None
+operand_by (type_behind outer leads) = None
+
+-- whether the words of a class in front of the dot lead to it; so where there are none
+abbrev pub leads_by : Way → Bool
+leads_by local = true
+leads_by own_field = true
+leads_by (field_on k) = true
+leads_by (field_through leads k) = leads
+leads_by field_above = true
+leads_by method_named = true
+leads_by (method_on k) = true
+leads_by (method_through leads k) = leads
+leads_by method_above = true
+leads_by (ctor_of k) = true
+leads_by ctor_above = true
+leads_by type_named = true
+leads_by (type_behind outer leads) = leads
 
 abbrev pub reference_by : Way → (name : List ℕ) → List Ty → Reference
-reference_by w name ts = record
-    { form = form_of w; asked = text_by w name; operand = operand_by w; args = ts }
+reference_by w name ts = record {
+  form = form_of w;
+  asked = text_by w name;
+  operand = operand_by w;
+  leads = leads_by w;
+  args = ts;
+}
 
 -- ---- what is found
 
@@ -220,7 +241,7 @@ module _ (rows : List Row) (s : Scope) where
   Finds ctor_above name ts f =
       FindsIn (IsSuperclass rows s.class) (λ k x. FindsCtorOf rows s k ts x) f
   Finds type_named name ts f = FindsTypeNamed rows s name f
-  Finds (type_behind outer) name ts f =
+  Finds (type_behind outer leads) name ts f =
       FindsIn (λ k. FindsTypeNamed rows s outer (one (class_decl k)))
       (λ k x. FindsTypeOf rows s k name x) f
 

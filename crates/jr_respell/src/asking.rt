@@ -4,7 +4,7 @@ ghost use Rattle.jr_table.specs.KeyView.{decl_of};
 ghost use Rattle.jr_spell.specs.ReferenceView.{reference_of};
 ghost use Rattle.jr_respell.specs.Ways as pure;
 
-use crate::ways::{Way, form_of, operand_by, text_by};
+use crate::ways::{Way, form_of, leads_by, operand_by, text_by};
 use jr_ast::Name;
 use jr_spell::Reference;
 use jr_table::{Decl, Tys};
@@ -55,6 +55,7 @@ fn reference_by(
         form,
         asked,
         operand,
+        leads: leads_by(way),
         args,
     })
 }

@@ -1,7 +1,5 @@
 //! Declared names.
 ghost use Rattle.std.specs.Prelude.{◌≡◌, IfOk};
-ghost use Rattle.std.specs.List.{list_any};
-ghost use Rattle.jr_table.specs.SameDecls.{same_decl};
 ghost use Rattle.jr_table.specs.KeyView.{decl_of};
 ghost use Rattle.jr_rename.specs.Images as images;
 ghost use Rattle.jr_rename.specs.ImageView.{renaming_of};
@@ -15,18 +13,11 @@ use jr_rename::NewName;
 use jr_table::Decl;
 use std::alloc::{AllocError, Global};
 
-fn has(g: &NewName, decl: &Decl) -> bool
-    ensures { result ≡ list_any (λ d. same_decl (decl_of decl.now) (decl_of d))
-        g.now.decls.items }
-{
-    g.decls.as_slice().iter().any(|other| decl == other)
-}
-
 /// Whether the declaration is among those that get the name.
 fn is_renamed(g: &NewName, decl: &Decl) -> bool
     ensures { result ≡ images.is_renamed (renaming_of g.now) (decl_of decl.now) }
 {
-    has(g, decl)
+    g.decls.has(decl)
 }
 
 /// The name that the declaration gets, where this is its old one.

@@ -125,7 +125,7 @@ fn look_up(
         Way::CtorOf(class) => ctor_of(alloc, table, scope, class, args.as_slice()),
         Way::CtorAbove => super_ctor_found(alloc, table, scope, args),
         Way::TypeNamed => type_named(alloc, table, scope, name),
-        Way::TypeBehind(outer) => type_behind(alloc, table, scope, outer, name),
+        Way::TypeBehind(outer, _) => type_behind(alloc, table, scope, outer, name),
     }
 }
 

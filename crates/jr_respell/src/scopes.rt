@@ -1,11 +1,9 @@
 //! What is known at a place of a member, in both programs.
 ghost use Rattle.std.specs.Prelude.{◌≡◌, [], IfOk, if◌then◌else◌};
-ghost use Rattle.std.specs.List.{list_any};
 ghost use Rattle.jr_table.specs.Decls.{local_decl};
 ghost use Rattle.jr_table.specs.Entries.{class_of_member};
-ghost use Rattle.jr_table.specs.SameDecls.{same_decl};
 ghost use Rattle.jr_table.specs.TypeView.{class_key_of};
-ghost use Rattle.jr_table.specs.KeyView.{member_key_of, decl_of};
+ghost use Rattle.jr_table.specs.KeyView.{member_key_of};
 ghost use Rattle.jr_locals.specs.Helds.{key_of};
 ghost use Rattle.jr_rename.specs.Images as pure;
 ghost use Rattle.jr_rename.specs.ImageView.{renaming_of};
@@ -15,7 +13,7 @@ use jr_ast::Name;
 use jr_locals::{Held, Locals};
 use jr_lookup::{Scope, ScopeLocals};
 use jr_rename::{NewName, class_to, member_to};
-use jr_table::{ClassKey, Decl, MemberKey};
+use jr_table::{ClassKey, MemberKey};
 use std::alloc::{AllocError, Global};
 
 /// What is known at a place of a member besides the tables: the locals in scope, and their images.
@@ -48,35 +46,11 @@ pub(crate) fn class_of_member(member: &MemberKey) -> &ClassKey
     }
 }
 
-fn is_local(decl: &Decl, member: &MemberKey, number: u32) -> bool
-    ensures { result ≡ same_decl (local_decl (key_of (member_key_of member.now) number))
-        (decl_of decl.now) }
-{
-    match decl {
-        Decl::Local(other) => (number == other.number) & (member == &other.member),
-        Decl::Class(_) => false,
-        Decl::Field(_) => false,
-        Decl::Method(_) => false,
-        Decl::Ctor(_) => false,
-    }
-}
-
-fn has_local(g: &NewName, member: &MemberKey, number: u32) -> bool
-    ensures { result ≡ list_any
-        (λ d. same_decl (local_decl (key_of (member_key_of member.now) number)) (decl_of d))
-        g.now.decls.items }
-{
-    g.decls
-        .as_slice()
-        .iter()
-        .any(|decl| is_local(decl, member, number))
-}
-
 fn is_renamed_local(g: &NewName, member: &MemberKey, number: u32) -> bool
     ensures { result ≡ pure.is_renamed (renaming_of g.now)
         (local_decl (key_of (member_key_of member.now) number)) }
 {
-    has_local(g, member, number)
+    g.decls.has_local(member, number)
 }
 
 /// The name that a local gets.

@@ -18,6 +18,7 @@ use crate::ways::Way;
 use jr_ast::Name;
 use jr_lookup::type_named;
 use jr_rename::class_to;
+use jr_spell::is_type;
 use jr_table::{ClassKey, lookups_are_exact};
 use std::alloc::{AllocError, Global};
 
@@ -65,13 +66,14 @@ fn member_by_name(
     lookups_are_exact();
     let none = no_types(alloc);
     let image = class_to(alloc, scopes.programs.name, class)?;
-    let to = Way::TypeBehind(&image.name);
+    let leads = is_type(scopes.programs.after, &scopes.after, &image.name, &image);
+    let to = Way::TypeBehind(&image.name, leads);
     chosen(
         alloc,
         scopes,
         at,
         name,
-        &Way::TypeBehind(outer),
+        &Way::TypeBehind(outer, true),
         &none,
         &to,
         &none,

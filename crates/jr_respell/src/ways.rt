@@ -31,9 +31,10 @@ pub(crate) enum Way<'a> {
     /// A creation of the class, and `super(..)`.
     CtorOf(&'a ClassKey),
     CtorAbove,
-    /// A class as a type, by its name alone and behind that of another.
+    /// A class as a type, by its name alone and behind that of another, which leads to it, or
+    /// doesn't.
     TypeNamed,
-    TypeBehind(&'a Name),
+    TypeBehind(&'a Name, bool),
 }
 
 /// Whether a simple name is looked up as a variable.
@@ -53,7 +54,7 @@ pub(crate) fn is_simple(way: &Way<'_>) -> bool
         Way::CtorOf(_) => false,
         Way::CtorAbove => false,
         Way::TypeNamed => false,
-        Way::TypeBehind(_) => false,
+        Way::TypeBehind(_, _) => false,
     }
 }
 
@@ -134,7 +135,7 @@ pub(crate) fn leads_to(way: &Way<'_>, decl: &Decl) -> bool
         Way::CtorOf(_) => is_ctor(decl),
         Way::CtorAbove => is_ctor(decl),
         Way::TypeNamed => is_class(decl),
-        Way::TypeBehind(_) => is_class(decl),
+        Way::TypeBehind(_, _) => is_class(decl),
     }
 }
 
@@ -155,7 +156,7 @@ pub(crate) fn form_of(way: &Way<'_>) -> RefForm
         Way::CtorOf(_) => RefForm::AsAsked,
         Way::CtorAbove => RefForm::AsAsked,
         Way::TypeNamed => RefForm::ClassName,
-        Way::TypeBehind(_) => RefForm::ClassName,
+        Way::TypeBehind(_, _) => RefForm::ClassName,
     }
 }
 
@@ -185,18 +186,18 @@ pub(crate) fn text_by(alloc: Global, way: &Way<'_>, name: &str) -> Result<Name, 
         Way::CtorOf(_) => Name::new(alloc, name),
         Way::CtorAbove => Name::new(alloc, name),
         Way::TypeNamed => Name::new(alloc, name),
-        Way::TypeBehind(front) => dotted(alloc, front, name),
+        Way::TypeBehind(front, _) => dotted(alloc, front, name),
     }
 }
 
-/// An operand of a class; of words, whether they lead to it.
-fn on(alloc: Global, class: &ClassKey, leads: bool) -> Result<Option<Operand>, AllocError>
+/// An operand of a class.
+fn on(alloc: Global, class: &ClassKey) -> Result<Option<Operand>, AllocError>
     ensures { IfOk result (λ o.
-        option_map view.operand_of o ≡ operand_of (class_key_of class.now) leads) }
+        option_map view.operand_of o ≡ operand_of (class_key_of class.now)) }
 {
     let text = Name::new(alloc, "")?;
     let ty = Ty::Class(class.copy(alloc)?);
-    Ok(Some(Operand { ty, text, leads }))
+    Ok(Some(Operand { ty, text }))
 }
 
 /// What stands in front of the dot.
@@ -207,16 +208,37 @@ pub(crate) fn operand_by(alloc: Global, way: &Way<'_>) -> Result<Option<Operand>
     match *way {
         Way::Local => Ok(None),
         Way::OwnField => Ok(None),
-        Way::FieldOn(class) => on(alloc, class, false),
-        Way::FieldThrough(leads, class) => on(alloc, class, leads),
+        Way::FieldOn(class) => on(alloc, class),
+        Way::FieldThrough(_, class) => on(alloc, class),
         Way::FieldAbove => Ok(None),
         Way::MethodNamed => Ok(None),
-        Way::MethodOn(class) => on(alloc, class, false),
-        Way::MethodThrough(leads, class) => on(alloc, class, leads),
+        Way::MethodOn(class) => on(alloc, class),
+        Way::MethodThrough(_, class) => on(alloc, class),
         Way::MethodAbove => Ok(None),
-        Way::CtorOf(class) => on(alloc, class, false),
+        Way::CtorOf(class) => on(alloc, class),
         Way::CtorAbove => Ok(None),
         Way::TypeNamed => Ok(None),
-        Way::TypeBehind(_) => Ok(None),
+        Way::TypeBehind(_, _) => Ok(None),
+    }
+}
+
+/// Whether the words of a class in front of the dot lead to it; so where there are none.
+pub(crate) fn leads_by(way: &Way<'_>) -> bool
+    ensures { result ≡ pure.leads_by (pure.way_of way.now) }
+{
+    match *way {
+        Way::Local => true,
+        Way::OwnField => true,
+        Way::FieldOn(_) => true,
+        Way::FieldThrough(leads, _) => leads,
+        Way::FieldAbove => true,
+        Way::MethodNamed => true,
+        Way::MethodOn(_) => true,
+        Way::MethodThrough(leads, _) => leads,
+        Way::MethodAbove => true,
+        Way::CtorOf(_) => true,
+        Way::CtorAbove => true,
+        Way::TypeNamed => true,
+        Way::TypeBehind(_, leads) => leads,
     }
 }

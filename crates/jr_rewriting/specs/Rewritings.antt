@@ -13,8 +13,8 @@ use Rattle.jr_rename.specs.RenameLaws.{KeepsAll}
 use Rattle.jr_rename.specs.Renames.{Rewrite}
 use Rattle.jr_grammar.specs.Layout.{itself}
 
--- The files are rewritten with these edits, so many references are respelled in all, and this is the
--- first that is lost, with its file.
+-- The files are rewritten with these edits, so many references are respelled in all, and this is
+-- the first that is lost, with its file.
 pub record IsRewriting (p : Program Span) (g : Renaming) (edits : List (List Entry)) (respelled : ℕ)
     (lost : Option (ℕ × Loss)) : Type 0 where
   pub files : List (Rewritten (syntax.Unit Span))

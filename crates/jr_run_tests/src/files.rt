@@ -2,7 +2,7 @@
 use crate::memory::{put_times, shelf_of};
 use crate::rows::assert_same;
 use jr_files::{FilesFault, SourceFault, Store, StoreFault, fetch_sources, store_all};
-use jr_shelf::MemoryShelf;
+use jr_shelf::{MemoryShelf, MemorySink, Shelf, Sink};
 use jr_text::Text;
 use jr_words::Operand;
 use std::alloc::Global;
@@ -151,6 +151,27 @@ fn at_most_1_048_576_bytes_of_a_file(rt: HostRuntime) {
         fault: SourceFault::TooLong,
     };
     assert!(rt; is_fault(&rt, rt.alloc(), &[A], &mut shelf, Some(fault)));
+}
+
+const SIZES: [usize; 9] = [0, 1, 255, 256, 65_535, 65_536, 65_537, 100_001, 1_048_576];
+
+// Whether a file of so many bytes is fetched as it is, and a sink takes so many as they are.
+fn is_as_it_was(rt: &impl Abort, alloc: Global, len: usize) -> bool {
+    let mut text = String::new(alloc);
+    put_times(rt, &mut text, " ", len);
+    let mut shelf = shelf_of(rt, alloc, &[("A", text.as_bytes())], &[]);
+    let fetched = shelf.fetch(alloc, "A").ok();
+    let mut sink = MemorySink::new(alloc, Vec::new(alloc), 1_048_576).expect(rt, "memory");
+    let put = sink.put(text.as_bytes());
+    let is_taken = put.is_ok() & (sink.bytes() == text.as_bytes());
+    is_taken & (fetched.as_deref() == Some(text.as_bytes()))
+}
+
+#[test]
+fn bytes_of_each_size(rt: HostRuntime) {
+    for len in SIZES {
+        assert!(rt; is_as_it_was(&rt, rt.alloc(), len));
+    }
 }
 
 // The call of the shelf that fails, what the stores answer, and what the files hold then.

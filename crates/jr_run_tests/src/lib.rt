@@ -10,6 +10,8 @@ mod faults;
 #[cfg(test)]
 mod files;
 #[cfg(test)]
+mod kinds;
+#[cfg(test)]
 mod members;
 #[cfg(test)]
 mod memory;

@@ -2,6 +2,7 @@
 use crate::memory::{put_times, text_of, words_of};
 use crate::rows::assert_same;
 use crate::runs::{run_failing, run_over};
+use crate::shows::nested;
 use jr_files::SourceFault;
 use jr_script::ScriptFault;
 use jr_shelf::MemorySink;
@@ -13,6 +14,8 @@ use std::process::Abort;
 pub(crate) const ROWS: &'static str = "
 ~source rename A.java 41 b@class A{static int f;static void m(){int a=1;f=a;}} => \
     Done | class A{static int f;static void m(){int b=1;f=b;}}
+~source rename A.java 41 f@class A{static int f;static void m(){int a=1;f=a;}} => \
+    Done | class A{static int f;static void m(){int f=1;A.f=f;}}
 ~source rename A.java 0041 f@class A{static int f;static void m(){int a=1;f=a;}} => \
     Done | class A{static int f;static void m(){int f=1;A.f=f;}}
 ~source rename A.java 45 f@class A{static int f;static void m(){f=1;int a=f;f=f+a+f;}} => \
@@ -48,6 +51,20 @@ pub(crate) const ROWS: &'static str = "
     Done | class W{static class X{static int f;}}class N extends W{}class T{static class N \
     extends W{}}class S extends T{private static class M{}}class A extends S{int m(){return \
     W.X.f;}}
+~# A class in front of the dot of a type comes to be another one, which has the member class too:
+~# another spelling is taken, or the class in front is lost.
+~source rename A.java 131 M@class W{static class X{static int f;}}class N extends W{}class \
+    T{static class N extends W{}}class S extends T{private static class N{}}class A extends \
+    S{N.X v;} => \
+    Done | class W{static class X{static int f;}}class N extends W{}class T{static class N \
+    extends W{}}class S extends T{private static class M{}}class A extends S{W.X v;}
+~source rename A.java 128 M@class W{static class X{}}class N extends W{}class T extends W{static \
+    class N extends W{}}class S extends T{private static class N{}}class A extends S{N.X v;} => \
+    Done | class W{static class X{}}class N extends W{}class T extends W{static class N extends \
+    W{}}class S extends T{private static class M{}}class A extends S{X v;}
+~source rename A.java 124 M@class W{static class X{}}class N extends W{}class T{static class \
+    N{}static class W{}}class S extends T{private static class N{}}class A extends S{N.X v;} => \
+    Refused | refused 16 LostBinding A.java:146 N found T.N\n
 ~source rename A.java 6 B@class A{static int f=-2147483648;} => \
     Done | class B{static int f=-2147483648;}
 ~source rename A.java 29 B@class A{static void m(){{int a=1;}}} => \
@@ -150,6 +167,13 @@ fn faults(rt: HostRuntime) {
     assert_over(&rt, alloc, b"class A{}\xff", line, expected);
     let expected = "BadSource { word: 1, fault: NotUtf8 { valid: 0 } } | ";
     assert_over(&rt, alloc, b"\xc3", "rename A.java 0 b", expected);
+    let of_class = "rename A.java 6 B";
+    let expected = "Refused | refused 4 SourceError A.java:9 Syntax\n";
+    assert_over(&rt, alloc, b"class A {", of_class, expected);
+    // The brace is the first bracket that is open, so 99 more may be.
+    let deep = nested(&rt, alloc, 100);
+    let expected = "Refused | refused 4 SourceError A.java:113 Deep\n";
+    assert_over(&rt, alloc, deep.as_bytes(), of_class, expected);
     assert_failing(&rt, alloc, line, 1, 0, "ReadFault { word: 1 } | ");
     assert_failing(&rt, alloc, line, 0, 1, "WriteFault { stored: 0 } | ");
     let refused = "rename A.java 999 b";
@@ -199,4 +223,16 @@ fn statuses(rt: HostRuntime) {
     };
     check_status(&rt, alloc, words, status, 6, "jref: bad source A.java\n");
     check_status(&rt, alloc, words, Status::NoMemory, 7, "jref: no memory\n");
+}
+
+// That a text would be too long is told before a rule that it would break.
+#[test]
+fn lengths_before_rules(rt: HostRuntime) {
+    let alloc = rt.alloc();
+    let text = "class A{static void mm(){}}class B extends A{void n(){}}";
+    let line = "rename A.java 50 mm";
+    let expected = "Refused | refused 20 TooLong 1048577\n";
+    assert_filled(&rt, alloc, text, 1_048_576, line, expected);
+    let expected = "Refused | refused 17 WouldNotCompile A.java:50 Override\n";
+    assert_filled(&rt, alloc, text, 1_048_575, line, expected);
 }

@@ -1,7 +1,8 @@
 //! Tables of rows in one text, a row a line: `~`, what is asked, ` => ` and what is expected. A
 //! line without ` => ` is a remark.
 use crate::endings::{self, ended};
-use crate::renaming::{self, run_two};
+use crate::kinds::{self, run_kind};
+use crate::renaming::{self, run_back, run_renamed, run_two};
 use crate::runs::{self, run_bad, run_edits, run_one, run_source};
 use crate::scripts::{self, read};
 use crate::shows::{self, shown};
@@ -40,6 +41,9 @@ fn answer(rt: &impl Abort, alloc: Global, asked: &str) -> String {
         "edits" => run_edits(rt, alloc, asked),
         "source" => run_source(rt, alloc, asked),
         "two" => run_two(rt, alloc, asked),
+        "three" => run_renamed(rt, alloc, asked),
+        "rename" => run_kind(rt, alloc, asked),
+        "back" => run_back(rt, alloc, asked),
         _ => ended(rt, alloc, asked),
     }
 }
@@ -67,7 +71,10 @@ fn rows_are_answered(rt: HostRuntime) {
     assert_rows(&rt, alloc, runs::SCRIPTS, 11);
     assert_rows(&rt, alloc, runs::WORDS, 13);
     assert_rows(&rt, alloc, runs::FAULTS, 11);
-    assert_rows(&rt, alloc, renames::ROWS, 36);
-    assert_rows(&rt, alloc, renaming::ROWS, 4);
+    assert_rows(&rt, alloc, renames::ROWS, 40);
+    assert_rows(&rt, alloc, renaming::ROWS, 6);
+    assert_rows(&rt, alloc, renaming::THREE, 8);
+    assert_rows(&rt, alloc, renaming::BACK, 2);
+    assert_rows(&rt, alloc, kinds::ROWS, 64);
     assert_rows(&rt, alloc, endings::ROWS, 11);
 }

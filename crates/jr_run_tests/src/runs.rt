@@ -1,6 +1,7 @@
 //! Runs over shelves in memory.
 use crate::memory::{put, shelf_of, text_of, utf8, words_of};
 use crate::rows::{assert_same, cut, number};
+use crate::shows::nested;
 use jr_shelf::{MemoryShelf, MemorySink};
 use jr_top::run;
 use std::alloc::Global;
@@ -241,4 +242,23 @@ fn shows_and_no_words(rt: HostRuntime) {
     assert_shows(&rt, rt.alloc());
     let told = run_over_bad(&rt, rt.alloc(), &[]);
     assert_same(&rt, told.as_str(), "Usage | ");
+}
+
+// A show of the bindings of a class in which so many parentheses nest, over its one file.
+fn show_nested(rt: &impl Abort, alloc: Global, count: usize) -> String {
+    let script: &str = "[{\"step\":\"show\",\"file\":\"A.java\",\"what\":\"bindings\"}]";
+    let source = nested(rt, alloc, count);
+    let held = [("s.json", script.as_bytes()), ("A.java", source.as_bytes())];
+    run_line(rt, alloc, held.as_slice(), "run s.json A.java", 3, 0).told
+}
+
+#[test]
+fn shows_of_nested_parentheses(rt: HostRuntime) {
+    let within = show_nested(&rt, rt.alloc(), 99);
+    let expected = "Done | [{\"lines\":[],\"reply\":\"shown\"}]\n";
+    assert_same(&rt, within.as_str(), expected);
+    let beyond = show_nested(&rt, rt.alloc(), 100);
+    let expected = "Refused | [{\"number\":4,\"refusal\":\"SourceError A.java:113 Deep\",\
+        \"reply\":\"refused\"}]\n";
+    assert_same(&rt, beyond.as_str(), expected);
 }

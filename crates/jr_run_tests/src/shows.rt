@@ -223,8 +223,8 @@ pub(crate) fn shown(rt: &impl Abort, alloc: Global, texts: &str) -> String {
     told(rt, alloc, first, second, "A.java")
 }
 
-// `class A{int f=` with so many parentheses around a number.
-fn nested(rt: &impl Abort, alloc: Global, count: usize) -> String {
+/// `class A{int f=` with so many parentheses around a number.
+pub(crate) fn nested(rt: &impl Abort, alloc: Global, count: usize) -> String {
     let mut text = String::new(alloc);
     put(rt, &mut text, "class A{int f=");
     put_times(rt, &mut text, "(", count);
@@ -263,13 +263,18 @@ fn long(rt: &impl Abort, alloc: Global, count: usize) -> Text {
 }
 
 // What so many shows of it and one more come to, and a show of another file behind them.
-fn shown_often<L: Ledger>(rt: &impl Abort, alloc: Global, times: u32, blank: Blank) -> String
+fn shown_often<L: Ledger>(
+    rt: &impl Abort,
+    alloc: Global,
+    times: u32,
+    second: Text,
+    blank: Blank,
+) -> String
     requires name { blank.name ≡ L.name }
     requires parts { blank.parts ≡ L.parts }
     requires some { 0 < L.parts }
 {
     let mut steps = Steps::<L>::new(blank);
-    let second = text_of(rt, alloc, "class B{B f;}");
     let files = files(
         rt,
         alloc,
@@ -288,9 +293,28 @@ fn shown_often<L: Ledger>(rt: &impl Abort, alloc: Global, times: u32, blank: Bla
     text
 }
 
-// A line has 6 + 1 + 262,138 + 1 + 262,138 bytes, which are 524,284, and sixteen of them leave 64.
+fn assert_full(rt: &impl Abort, alloc: Global, second: &str, expected: &str) {
+    let second = text_of(rt, alloc, second);
+    let text = shown_often::<Brand>(rt, alloc, 16, second, Blank::new(1));
+    assert_same(rt, text.as_str(), expected);
+}
+
+// A line of A.java has 6 + 1 + 262,138 + 1 + 262,138 bytes, which are 524,284, and sixteen of them
+// leave 64: for a line of 2 + 1 + 30 + 1 + 30 bytes, but not for 2 + 1 + 29 + 1 + 2 + 1 + 29.
 #[test]
 fn a_report_is_full(rt: HostRuntime) {
-    let text = shown_often::<Brand>(&rt, rt.alloc(), 16, Blank::new(1));
-    assert_same(&rt, text.as_str(), "full 8912828|8 B B;|");
+    let alloc = rt.alloc();
+    assert_full(
+        &rt,
+        alloc,
+        "class aaaaaaaaaabbbbbbbbbbcccccccccc{aaaaaaaaaabbbbbbbbbbcccccccccc f;}",
+        "full 8912828|37 aaaaaaaaaabbbbbbbbbbcccccccccc aaaaaaaaaabbbbbbbbbbcccccccccc;|",
+    );
+    assert_full(
+        &rt,
+        alloc,
+        "class BB{int aaaaaaaaaabbbbbbbbbbccccccccc;\
+         int m(){return aaaaaaaaaabbbbbbbbbbccccccccc;}}",
+        "full 8912828|full 8388609|",
+    );
 }

@@ -13,6 +13,7 @@ use Rattle.jr_names.specs.Replies.{Reply, refused}
 use Rattle.jr_members.specs.WrittenLaws.{MembersAreWritten}
 use Rattle.jr_bind.specs.Programs.{File, Program, units_of}
 use Rattle.jr_places.specs.PlaceLaws.{PartsArePlaced}
+use Rattle.jr_rewrite.specs.Edited.{entries_of}
 use Rattle.jr_rewrite.specs.Rewritten.{Rewritten}
 use Rattle.jr_rename.specs.ImageLaws.{RenamingsStayFair}
 use Rattle.jr_rename.specs.Images.{Renaming}
@@ -150,10 +151,10 @@ module _ (reading : HasOneReading) (items_once : OneItems) (placed : PartsArePla
         subst (λ (k : ℕ). Targets q a k at new d h) (sym same.0) (subst (λ (t : List ℕ). Targets q t m at new d h) (sym same.1) x)
 
     edits_against : (edits : List (List Entry)) (renaming : List (Decl × Decl)) (respelled : ℕ) → PlansSo a n at new p edits renaming respelled → (d : Decl) (h : Renaming) → Targets q b m at new d h
-        → (files : List (Rewritten (syntax.Unit Span))) → renames.Rewrite itself q.rows q.super_at (units_of q) h files → edits ≡ map (λ (o : Rewritten (syntax.Unit Span)). renames.entries_from 0 o.changes) files
+        → (files : List (Rewritten (syntax.Unit Span))) → renames.Rewrite itself q.rows q.super_at (units_of q) h files → edits ≡ map (λ (o : Rewritten (syntax.Unit Span)). entries_of o.changes) files
     edits_against edits renaming respelled u d h x =
         subst (λ (t : List ℕ). PlansSo t n at new p edits renaming respelled → Targets q t n at new d h → (files : List (Rewritten (syntax.Unit Span))) → renames.Rewrite itself q.rows q.super_at (units_of q) h files
-        → edits ≡ map (λ (o : Rewritten (syntax.Unit Span)). renames.entries_from 0 o.changes) files) the_file.2
+        → edits ≡ map (λ (o : Rewritten (syntax.Unit Span)). entries_of o.changes) files) the_file.2
         (λ v y. plans.files_against law targets p q g.program.is is.is files_same n at new the_file.0 the_file.1 file at fair_law named_law dots rewriting g.asked.name edits renaming respelled v d h y) u (targets_here d h x)
 
   -- the edits that there would be are those of the plan

@@ -17,6 +17,7 @@ use Rattle.jr_bind.specs.Bounds.{Bound}
 use Rattle.jr_bind.specs.Programs.{File, Program, units_of}
 use Rattle.jr_bind.specs.SuperPlaces.{writes_super}
 use Rattle.jr_places.specs.FileParts.{begins}
+use Rattle.jr_rewrite.specs.Edited.{entries_of}
 use Rattle.jr_rewrite.specs.Rewritten.{Rewritten}
 use Rattle.jr_rename.specs.Clashes.{IsClear}
 use Rattle.jr_rename.specs.Families.{AreRenamed}
@@ -152,10 +153,10 @@ module _ (p : Program Span) (t : MemberKey → ℕ) (bs : List Bound) (program :
         (subst (λ (n : List ℕ). IsClear begins p.rows units d n) (sym x.name) clear) (named begins p.rows units reads program.rows).1 (dots g.name (subst (λ (n : List ℕ). IsName n) (sym x.name) word))
 
     files_so : (edits : List (List Entry)) (renaming : List (Decl × Decl)) (respelled : ℕ) → (u : PlansSo f.text number at new p edits renaming respelled) → (e : Decl) (h : Renaming) → Targets other f.text number at new e h
-        → (files : List (Rewritten (syntax.Unit Span))) → renames.Rewrite itself p.rows t units h files → edits ≡ map (λ (o : Rewritten (syntax.Unit Span)). renames.entries_from 0 o.changes) files
+        → (files : List (Rewritten (syntax.Unit Span))) → renames.Rewrite itself p.rows t units h files → edits ≡ map (λ (o : Rewritten (syntax.Unit Span)). entries_of o.changes) files
     files_so edits renaming respelled u e h y files w =
         let same_files = rewriting p other program also refl u.g h (alike u.target e u.g h u.renames y) (fair u.target u.g u.renames u.no_prelude u.clear) u.files files u.rewrite w in
-        u.edits_are ∙ ap (map (λ (o : Rewritten (syntax.Unit Span)). renames.entries_from 0 o.changes)) same_files
+        u.edits_are ∙ ap (map (λ (o : Rewritten (syntax.Unit Span)). entries_of o.changes)) same_files
 
 module _ (law : MembersAreWritten Span) (targets : OneIsTarget) (p q : Program Span) (is : IsWhole p) (also : IsWhole q) (same : p.files ≡ q.files) (number at : ℕ) (new : List ℕ) (f : File Span) (stands : slice_get p.files number ≡ Some f) (name : List ℕ) (place : ℕ) where
   next_to : beside p q.super_at q.bounds ≡ q
@@ -173,7 +174,7 @@ module _ (law : MembersAreWritten Span) (targets : OneIsTarget) (p q : Program S
       (λ edits renaming respelled x. planned_so p q.super_at q.bounds is targets supers_are number at new f stands name place edits renaming respelled x)
 
   pub files_against : RenamingsStayFair Span → RowsAreNamed Span → NamesHaveNoDot → RewritingIsOne → IsName new → (edits : List (List Entry)) (renaming : List (Decl × Decl)) (respelled : ℕ) → PlansSo f.text number at new p edits renaming respelled → (e : Decl) (h : Renaming)
-      → Targets q f.text number at new e h → (files : List (Rewritten (syntax.Unit Span))) → renames.Rewrite itself q.rows q.super_at (units_of q) h files → edits ≡ map (λ (o : Rewritten (syntax.Unit Span)). renames.entries_from 0 o.changes) files
+      → Targets q f.text number at new e h → (files : List (Rewritten (syntax.Unit Span))) → renames.Rewrite itself q.rows q.super_at (units_of q) h files → edits ≡ map (λ (o : Rewritten (syntax.Unit Span)). entries_of o.changes) files
   files_against fair_law named dots rewriting word edits renaming respelled u = subst (λ (z : Program Span). (e : Decl) (h : Renaming) → Targets z f.text number at new e h → (files : List (Rewritten (syntax.Unit Span))) → renames.Rewrite itself z.rows z.super_at (units_of z) h files
-      → edits ≡ map (λ (o : Rewritten (syntax.Unit Span)). renames.entries_from 0 o.changes) files) next_to
+      → edits ≡ map (λ (o : Rewritten (syntax.Unit Span)). entries_of o.changes) files) next_to
       (λ e h. files_so p q.super_at q.bounds is targets supers_are number at new f stands name place (subst IsWhole (sym next_to) also) fair_law named dots rewriting word edits renaming respelled u e h)

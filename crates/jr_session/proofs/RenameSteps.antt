@@ -17,7 +17,7 @@ use Rattle.jr_names.specs.Replies.{Reply, refused}
 use Rattle.jr_bind.specs.Programs.{File, units_of}
 use Rattle.jr_rewrite.specs.Rewrites.{Choosing, RewritesUnits}
 use Rattle.jr_rewrite.specs.Rewritten.{Rewritten}
-use Rattle.jr_rename.specs.Renames.{entries_from}
+use Rattle.jr_rewrite.specs.Edited.{entries_of}
 use Rattle.jr_renamed.specs.PlanLaws.{IsPlanIn, NewTextsRead}
 use Rattle.jr_sources.specs.declared.analyses.SourceFault.{SourceFault}
 use Rattle.jr_sources.specs.Analysed.{IsSourceWrong, CostsBinding}
@@ -64,7 +64,7 @@ module _ (read : NewTextsRead) (sources : List Source) (number at : ℕ) (new : 
     many_edits : length edits ≡ length sources
     many_edits =
         ap length plan.planned.edits_are
-        ∙ length-map plan.planned.files (λ (o : Rewritten (syntax.Unit Span)). entries_from 0 o.changes)
+        ∙ length-map plan.planned.files (λ (o : Rewritten (syntax.Unit Span)). entries_of o.changes)
         ∙ many_units _ _ (units_of plan.p) plan.planned.files plan.planned.rewrite
         ∙ length-map plan.p.files (λ (f : File Span). f.unit)
         ∙ count sources plan.p plan.program number at new within

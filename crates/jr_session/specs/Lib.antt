@@ -18,3 +18,4 @@ pub mod Planning
 pub mod Making
 pub mod Trying
 pub mod Refactoring
+pub mod Promises

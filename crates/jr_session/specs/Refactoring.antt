@@ -23,7 +23,8 @@ pub data IsTriedBy (s : State) (news : List Source) (names : List (List ℕ)) (r
       → reply ≡ refused (would_not_compile (record { file = number; at = place }) kind) → t ≡ s
       → IsTriedBy s news names respelled reply t
   holds : ((name : List ℕ) (place : ℕ) (kind : List ℕ) → IsFirstWrong news name place kind → ⊥)
-      → (q : Program Span) → IsProgramOf news q → reply ≡ refactored names respelled → t ≡ with_files s news
+      → (q : Program Span) → IsProgramOf news q → reply ≡ refactored names respelled
+      → t ≡ with_files s news
       → IsTriedBy s news names respelled reply t
 
 -- the new texts stay within the limits

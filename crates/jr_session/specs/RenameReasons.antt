@@ -17,6 +17,7 @@ use Rattle.jr_names.specs.Refusals.{
   too_long,
 }
 use Rattle.jr_bind.specs.Programs.{Program, units_of}
+use Rattle.jr_rewrite.specs.Edited.{entries_of}
 use Rattle.jr_rewrite.specs.Rewritten.{Rewritten}
 use Rattle.jr_rename.specs.Images.{Renaming}
 use Rattle.jr_rename.specs.Renames as renames
@@ -63,8 +64,7 @@ module _ (s : State) (file : List ℕ) (at : ℕ) (new : List ℕ) where
     pub is : Targets p text number at new target g
     pub files : List (Rewritten (syntax.Unit Span))
     pub rewrite : renames.Rewrite itself p.rows p.super_at (units_of p) g files
-    pub edits_are : edits ≡ map (λ (o : Rewritten (syntax.Unit Span)).
-        renames.entries_from 0 o.changes) files
+    pub edits_are : edits ≡ map (λ (o : Rewritten (syntax.Unit Span)). entries_of o.changes) files
 
   pub data IsReason (r : Refusal) : Type 0 where
     no_file : LacksFile s.files file → r ≡ no_such_file file → IsReason r

@@ -1,15 +1,20 @@
 //! What holds of each step.
+ghost use Rattle.jr_session.specs.Promises.{RenamesKeepPrograms};
 ghost use Rattle.jr_session.specs.StepLaws.{HasOneAnswer, HasOneShow, RenamesAreRefusedFirst};
 
+use jr_class_rename::{classes_give_images, constructors_give_images};
+use jr_family::dispatch_is_kept;
 use jr_lex::one_answer;
 use jr_members::members_are_written;
 use jr_one_plan::{plan_is_one, rewriting_is_one};
 use jr_places::parts_are_placed;
-use jr_rename::{renamings_stay_fair, rows_are_named};
+use jr_punit::one_reading;
+use jr_rename::{plans_become, renamings_stay_fair, rows_are_named};
+use jr_renamed::plans_keep_programs;
 use jr_shown::lines_are_told;
 use jr_sources::text_has_one_reading;
 use jr_target::one_is_target;
-use jr_text::Span;
+use jr_text::{Span, untouched_bytes_move};
 
 /// A step has one reply and leaves one state, and a show's lines are those of the present sources,
 /// whatever was done before.
@@ -39,4 +44,22 @@ pub fn renames_are_refused_first()
     renamings_stay_fair::<Span>();
     rows_are_named::<Span>();
     rewriting_is_one();
+}
+
+/// Where a session accepts a rename, the sources behind the step are a program again: read, bound
+/// and sound from scratch. It is read as the planned trees, its rows are the images of the old
+/// rows, each reference is bound in it to the image of what it was bound to (JLS 6), and what a
+/// call runs is the image of what it ran, whatever is renamed. Each byte that lies in no edit's span
+/// is as before, and an undoing right behind the rename gives back every byte of every file.
+pub fn accepted_renames_keep_programs()
+    ensures { RenamesKeepPrograms }
+{
+    one_reading::<Span>();
+    plans_become::<Span, Span>();
+    rows_are_named::<Span>();
+    classes_give_images::<Span, Span>();
+    constructors_give_images::<Span, Span>();
+    plans_keep_programs();
+    dispatch_is_kept();
+    untouched_bytes_move();
 }

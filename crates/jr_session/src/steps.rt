@@ -2,11 +2,13 @@
 ghost use Rattle.std.specs.Prelude.{◌≡◌, IfOk, OnErr, IsOk};
 ghost use Rattle.jr_names.specs.Refusals.{Refusal};
 ghost use Rattle.jr_names.specs.ReplyView.{reply_of};
+ghost use Rattle.jr_session.specs.Promises.{Promises};
 ghost use Rattle.jr_session.specs.Refusing.{IsFirstRefusal};
 ghost use Rattle.jr_session.specs.Serving.{IsServed, WantsNoMemory};
 ghost use Rattle.jr_session.specs.Stepping as pure;
 ghost use Rattle.jr_session.specs.Work.{IsWithinWork};
 
+use crate::laws::accepted_renames_keep_programs;
 use crate::sessions::Session;
 use jr_names::{Reply, Step, What};
 use jr_steps::Steps;
@@ -26,9 +28,31 @@ impl Session {
     ) -> Result<Reply, AllocError>
         requires { IsServed of.now }
         ensures step { IfOk result (λ reply. pure.Steps self.old of.now (reply_of reply) self.new) }
+        // A rename that isn't refused leaves a program again, in which each reference is bound to
+        // the image of what it was bound to.
+        ensures promises { IfOk result (λ reply.
+            Promises self.old of.now (reply_of reply) self.new) }
         ensures err { OnErr result (self.new ≡ self.old) }
         // A span that can't be cut, and that nothing can be undone or redone, is told without
         // memory.
+        ensures without_memory { (refusal : Refusal) → WantsNoMemory refusal
+            → IsFirstRefusal self.old of.now refusal → IsOk result }
+        ensures work { IsWithinWork self.old of.now steps.old steps.new }
+    {
+        accepted_renames_keep_programs();
+        self.answer(alloc, of, steps)
+    }
+
+    // The same, but for what is promised of the program.
+    fn answer<L: Ledger>(
+        &mut self,
+        alloc: Global,
+        of: &Step,
+        steps: &mut Steps<L>,
+    ) -> Result<Reply, AllocError>
+        requires { IsServed of.now }
+        ensures step { IfOk result (λ reply. pure.Steps self.old of.now (reply_of reply) self.new) }
+        ensures err { OnErr result (self.new ≡ self.old) }
         ensures without_memory { (refusal : Refusal) → WantsNoMemory refusal
             → IsFirstRefusal self.old of.now refusal → IsOk result }
         ensures work { IsWithinWork self.old of.now steps.old steps.new }

@@ -1,5 +1,5 @@
 -- The table, the texts and the words, on small examples.
-use Rattle.std.proofs.Common.{◌≡◌, ℕ, List, [], ◌∷◌, Some, None, false, refl}
+use Rattle.std.proofs.Common.{◌≡◌, ℕ, List, [], ◌∷◌, Some, None, true, refl}
 use Rattle.std.specs.Prelude.{codes}
 use Rattle.jr_table.specs.Keys.{ClassKey, class}
 use Rattle.jr_table.specs.Decls.{Decl, class_decl, field_decl}
@@ -25,7 +25,8 @@ abbrev on_e : Reference
 on_e = record {
   form = ref.FieldOn;
   asked = codes "e.t";
-  operand = Some (record { ty = class (top_key (codes "D")); text = codes "e"; leads = false });
+  operand = Some (record { ty = class (top_key (codes "D")); text = codes "e" });
+  leads = true;
   args = [];
 }
 

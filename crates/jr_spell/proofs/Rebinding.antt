@@ -180,7 +180,7 @@ module _ {A : Type 0} (rows : List Row) (c : Context) (r : Reference) (d : Decl)
       (k, subst (λ o. NamesClass rows (scope_of c) (Some o) w.text k) (sym front) (subst (λ n. NamesClass rows (scope_of c) (Some outer) n k) (sym last) named), refl)
 
   asked_class : (f : RefForm) (u : tree.TypeName A) → BindsAsked rows (scope_of c) r d f → IsAskedType r d f u → WritesType rows (scope_of c) u (class (class_of d))
-  asked_class ref.ClassName u named words = written (front_word r.asked) (last_word r.asked) (class_of d) u named words
+  asked_class ref.ClassName u named words = written (front_word r.asked) (last_word r.asked) (class_of d) u named.1 words
   asked_class ref.FieldSimple u named words = absurd words
   asked_class ref.FieldOn u named words = absurd words
   asked_class ref.FieldSuper u named words = absurd words

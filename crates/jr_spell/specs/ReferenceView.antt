@@ -8,13 +8,14 @@ use Rattle.jr_spell.specs.References.{Operand, Reference}
 use Rattle.jr_spell.specs.Taken.{Spelling}
 
 abbrev pub operand_of : raw_operand.Operand → Operand
-operand_of e = record { ty = ty_of e.ty; text = e.text; leads = e.leads }
+operand_of e = record { ty = ty_of e.ty; text = e.text }
 
 abbrev pub reference_of : raw_reference.Reference → Reference
 reference_of r = record {
   form = r.form;
   asked = r.asked;
   operand = option_map operand_of r.operand;
+  leads = r.leads;
   args = r.args;
 }
 

@@ -3,6 +3,7 @@ ghost use Rattle.std.specs.Prelude.{◌≡◌, ◌↔◌, IsTrue, IfOk, None, op
 ghost use Rattle.jr_table.specs.TypeView.{class_key_of, ty_of};
 ghost use Rattle.jr_table.specs.KeyView.{decl_of};
 ghost use Rattle.jr_lookup.specs.ScopeView.{scope_of};
+ghost use Rattle.jr_spell.specs.declared.references.RefForm.TheVariants as ref;
 ghost use Rattle.jr_spell.specs.References.{class_of_type, class_of_operand};
 ghost use Rattle.jr_spell.specs.ReferenceView.{operand_of, reference_of};
 ghost use Rattle.jr_spell.specs.Binds.{ThroughCast, ThroughSuperclass, ThroughWritten};
@@ -213,7 +214,15 @@ fn on_asked_class(
         Some(operand) => match class_of_type(&operand.ty) {
             None => Ok(false),
             Some(class) => {
-                on_written_class(alloc, table, scope, reference, operand.leads, class, target)
+                on_written_class(
+                    alloc,
+                    table,
+                    scope,
+                    reference,
+                    reference.leads,
+                    class,
+                    target,
+                )
             }
         },
     }
@@ -328,6 +337,30 @@ fn alone(
     }
 }
 
+/// Whether the asked name of a type binds.
+fn as_written(
+    alloc: Global,
+    table: &Table,
+    scope: &Scope,
+    reference: &Reference,
+    target: &Decl,
+) -> Result<bool, AllocError>
+    ensures { IfOk result (λ b. IsTrue b ↔ BindsAsked table.now (scope_of scope.now)
+        (reference_of reference.now) (decl_of target.now) ref.ClassName) }
+{
+    if reference.leads {
+        is_type_text(
+            alloc,
+            table,
+            scope,
+            &reference.asked,
+            declaring_class(target),
+        )
+    } else {
+        Ok(false)
+    }
+}
+
 /// Whether the asked spelling binds.
 fn as_asked(
     alloc: Global,
@@ -349,7 +382,7 @@ fn as_asked(
             is_method_named(alloc, table, scope, &reference.args, asked, target)
         }
         RefForm::MethodOn => on_operand(alloc, table, scope, reference, target),
-        RefForm::ClassName => { is_type_text(alloc, table, scope, asked, declaring_class(target)) }
+        RefForm::ClassName => as_written(alloc, table, scope, reference, target),
         RefForm::AsAsked => alone(alloc, table, scope, reference, target),
     }
 }

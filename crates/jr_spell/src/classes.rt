@@ -52,7 +52,7 @@ fn is_class(found: Option<&ClassKey>, class: &ClassKey) -> bool
 }
 
 /// Whether a simple name finds the class as a type.
-pub(crate) fn is_type(table: &Table, scope: &Scope, name: &Name, class: &ClassKey) -> bool
+pub fn is_type(table: &Table, scope: &Scope, name: &Name, class: &ClassKey) -> bool
     ensures { IsTrue result ↔ NamesClass table.now (scope_of scope.now) None name.now
         (class_key_of class.now) }
 {

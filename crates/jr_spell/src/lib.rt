@@ -15,7 +15,7 @@ mod taking;
 mod texts;
 mod variables;
 
-pub use classes::{leads_in, leads_simply};
+pub use classes::{is_type, leads_in, leads_simply};
 pub use laws::spellings_rebind;
 pub use references::{Operand, RefForm, Reference};
 pub use respelling::respell;

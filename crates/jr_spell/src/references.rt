@@ -23,16 +23,13 @@ pub enum RefForm {
     AsAsked,
 }
 
-/// What stands in front of the dot: its static type, its text as it is to be written, and whether
-/// it is the words of a class, in front of a dot, that lead to it where the reference is spelled,
-/// each to what it meant.
+/// What stands in front of the dot: its static type, and its text as it is to be written.
 ///
 /// Through a class it is that class; of the constructor of a creation, the class that is created.
 #[derive(Drop)]
 pub struct Operand {
     pub ty: Ty,
     pub text: Name,
-    pub leads: bool,
 }
 
 /// A reference that is kept, with what it is asked to be spelled as.
@@ -43,6 +40,9 @@ pub struct Reference {
     /// `B.x`, `m`, `K`, `Outer.K`.
     pub asked: Name,
     pub operand: Option<Operand>,
+    /// Whether each word of a class in front of its last dot leads to what it meant, where the
+    /// reference is spelled; so where there are none.
+    pub leads: bool,
     /// The static types of a call's arguments.
     pub args: Tys,
 }

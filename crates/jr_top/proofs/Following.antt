@@ -10,6 +10,7 @@ use Rattle.jr_names.specs.Refusals.{Refusal, no_such_file, bad_place, bad_name, 
 use Rattle.jr_script.specs.RefusalTexts.{ArePlacesIn, places_of}
 use Rattle.jr_script.specs.Reports.{AreRepliesIn, reply_places}
 use Rattle.jr_sources.specs.Sources.{Source, names_of}
+use Rattle.jr_session.specs.Promises.{Promises}
 use Rattle.jr_session.specs.States.{State}
 use Rattle.jr_session.specs.Stepping.{Steps}
 use Rattle.jr_session.proofs.StepFiles.{step_keeps_names, step_tells}
@@ -17,20 +18,20 @@ use Rattle.jr_session.proofs.Telling.{TellsIn}
 use Rattle.jr_top.specs.Scripts.{Follow}
 
 -- one step more
-pub follow_more : (s : State) (steps : List Step) (replies : List Reply) (t u : State) (step : Step) (reply : Reply) → Follow s steps replies t → Steps t step reply u
+pub follow_more : (s : State) (steps : List Step) (replies : List Reply) (t u : State) (step : Step) (reply : Reply) → Follow s steps replies t → Steps t step reply u → Promises t step reply u
     → Follow s (steps ++ step ∷ []) (replies ++ reply ∷ []) u
-follow_more s [] [] t u step reply same one = (u, subst (λ (v : State). Steps v step reply u) same one, refl)
-follow_more s [] (r ∷ rs) t u step reply follow one = absurd follow
-follow_more s (x ∷ xs) [] t u step reply follow one = absurd follow
-follow_more s (x ∷ xs) (r ∷ rs) t u step reply (between, first, rest) one = (between, first, follow_more between xs rs t u step reply rest one)
+follow_more s [] [] t u step reply same one promise = (u, subst (λ (v : State). Steps v step reply u) same one, subst (λ (v : State). Promises v step reply u) same promise, refl)
+follow_more s [] (r ∷ rs) t u step reply follow one promise = absurd follow
+follow_more s (x ∷ xs) [] t u step reply follow one promise = absurd follow
+follow_more s (x ∷ xs) (r ∷ rs) t u step reply (between, first, kept, rest) one promise = (between, first, kept, follow_more between xs rs t u step reply rest one promise)
 
 pub follow_step : (s t u : State) (steps : List Step) (i : ℕ) (item : Step) (replies replies' : List raw.Reply) (reply : raw.Reply) → i < length steps → item ≡ get_or steps i item → replies' ≡ replies ++ reply ∷ []
-    → Follow s (take i steps) (map reply_of replies) t → Steps t item (reply_of reply) u → Follow s (take (i + 1) steps) (map reply_of replies') u
-follow_step s t u steps i item replies replies' reply below is pushed follow one =
+    → Follow s (take i steps) (map reply_of replies) t → Steps t item (reply_of reply) u → Promises t item (reply_of reply) u → Follow s (take (i + 1) steps) (map reply_of replies') u
+follow_step s t u steps i item replies replies' reply below is pushed follow one promise =
     let more : take (i + 1) steps ≡ take i steps ++ item ∷ [] = take_more steps i item below ∙ ap (λ x. take i steps ++ x ∷ []) (sym is) in
     let all : map reply_of replies' ≡ map reply_of replies ++ reply_of reply ∷ [] = ap (map reply_of) pushed ∙ map-append reply_of replies (reply ∷ []) in
     subst (λ xs. Follow s xs (map reply_of replies') u) (sym more) (subst (λ rs. Follow s (take i steps ++ item ∷ []) rs u) (sym all)
-    (follow_more s (take i steps) (map reply_of replies) t u item (reply_of reply) follow one))
+    (follow_more s (take i steps) (map reply_of replies) t u item (reply_of reply) follow one promise))
 
 -- ---- the names of files
 
@@ -38,7 +39,7 @@ pub names_stay : (s : State) (steps : List Step) (replies : List Reply) (t : Sta
 names_stay s [] [] t same = ap (λ (u : State). names_of u.files) same
 names_stay s [] (r ∷ rs) t follow = absurd follow
 names_stay s (x ∷ xs) [] t follow = absurd follow
-names_stay s (x ∷ xs) (r ∷ rs) t (between, first, rest) = names_stay between xs rs t rest ∙ step_keeps_names s x r between first
+names_stay s (x ∷ xs) (r ∷ rs) t (between, first, kept, rest) = names_stay between xs rs t rest ∙ step_keeps_names s x r between first
 
 -- ---- places in replies
 
@@ -94,6 +95,6 @@ pub replies_in : (files : List (List ℕ)) (s : State) (steps : List Step) (repl
 replies_in files s [] [] t names follow k d below = absurd (omega (arith, below))
 replies_in files s [] (r ∷ rs) t names follow k d below = absurd follow
 replies_in files s (x ∷ xs) [] t names follow k d below = absurd follow
-replies_in files s (x ∷ xs) (r ∷ rs) t names (between, first, rest) zero d below = subst (λ ns. ArePlacesIn ns (reply_places r)) names (step_places s x r between first)
-replies_in files s (x ∷ xs) (r ∷ rs) t names (between, first, rest) (suc k) d below =
+replies_in files s (x ∷ xs) (r ∷ rs) t names (between, first, kept, rest) zero d below = subst (λ ns. ArePlacesIn ns (reply_places r)) names (step_places s x r between first)
+replies_in files s (x ∷ xs) (r ∷ rs) t names (between, first, kept, rest) (suc k) d below =
     replies_in files between xs rs t (step_keeps_names s x r between first ∙ names) rest k d (omega (arith, below))

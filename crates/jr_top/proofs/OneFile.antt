@@ -11,6 +11,7 @@ use Rattle.jr_script.specs.RefusalTexts.{ArePlacesIn}
 use Rattle.jr_script.specs.Reports.{reply_places}
 use Rattle.jr_sources.specs.Sources.{Source, IsFile, LacksFile, names_of}
 use Rattle.jr_sources.specs.SourceView.{sources_of}
+use Rattle.jr_session.specs.Promises.{Promises}
 use Rattle.jr_session.specs.States.{State}
 use Rattle.jr_session.specs.Stepping.{Steps}
 use Rattle.jr_top.specs.Lines.{refusal_line}
@@ -37,9 +38,16 @@ module _ (file source : List ℕ) (at : ℕ) (name : List ℕ) (reply : Reply) (
   pub its_places : ArePlacesIn (file ∷ []) (reply_places reply)
   its_places = step_places (opened file source) (Rename file at name) reply after steps
 
-  pub answered : (b : Bool) (output : List ℕ) → IsPutFor after file reply b output → IsAnswered file source at name b output
-  answered true output put = record { refusal = put.0; after = after; steps = subst (λ (r : Reply). Steps (opened file source) (Rename file at name) r after) put.1 steps; line = put.2 }
-  answered false output put = record { reply = reply; after = after; steps = steps; granted = put.0; text = put.1 }
+  pub answered : Promises (opened file source) (Rename file at name) reply after → (b : Bool) (output : List ℕ) → IsPutFor after file reply b output → IsAnswered file source at name b output
+  answered promise true output put = record { refusal = put.0; after = after; steps = subst (λ (r : Reply). Steps (opened file source) (Rename file at name) r after) put.1 steps; line = put.2 }
+  answered promise false output put = record {
+    reply = reply;
+    after = after;
+    steps = steps;
+    granted = put.0;
+    keeps = promise (λ r e. put.0 (subst IsRefusal (sym e) tt));
+    text = put.1;
+  }
 
 -- any other reply is no refusal
 no_refusal : (r : raw.Reply) → ((x : raw_refusal.Refusal) → r ≡ reply.Refused x → ⊥) → ¬ IsRefusal (reply_of r)

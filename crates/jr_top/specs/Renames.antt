@@ -6,6 +6,7 @@ use Rattle.jr_names.specs.declared.steps.Step.TheVariants as step
 use Rattle.jr_names.specs.Refusals.{Refusal}
 use Rattle.jr_names.specs.Replies.{Reply, refused}
 use Rattle.jr_sources.specs.Sources.{Source, IsFile}
+use Rattle.jr_session.specs.Promises.{KeepsProgram}
 use Rattle.jr_session.specs.States.{State, begun}
 use Rattle.jr_session.specs.Stepping.{Steps}
 use Rattle.jr_files.specs.Sources.{IsSource}
@@ -18,12 +19,14 @@ use Rattle.jr_top.specs.Scripts.{IsRefusal}
 abbrev pub opened : (file source : List ℕ) → State
 opened file source = begun (record { name = file; text = source } ∷ [])
 
--- it takes the step, with a reply that is no refusal, and this is the text of its file behind it
+-- It takes the step, with a reply that is no refusal, and this is the text of its file behind it: a
+-- program again, in which each reference is bound to the image of what it was bound to.
 pub record IsGranted (file source : List ℕ) (at : ℕ) (name output : List ℕ) : Type 0 where
   pub reply : Reply
   pub after : State
   pub steps : Steps (opened file source) (step.Rename file at name) reply after
   pub granted : ¬ IsRefusal reply
+  pub keeps : KeepsProgram (opened file source) file at name after
   pub text : IsFile after.files 0 file output
 
 -- it refuses the step, and this is the refusal's line
@@ -61,8 +64,8 @@ IsAnswered file source at name false output = IsGranted file source at name outp
 
 -- a run that came to put an output ended by this status: it is all put, or the sink failed and took
 -- a prefix of it
-abbrev pub EndsPut : Bool → List ℕ → Status → (taken taken' : Option (List ℕ)) → (faults faults' : ℕ)
-    → Type 0
+abbrev pub EndsPut : Bool → List ℕ → Status → (taken taken' : Option (List ℕ))
+    → (faults faults' : ℕ) → Type 0
 EndsPut is_refusal output status.Done taken taken' faults faults' =
     (is_refusal ≡ false) × PutAll taken taken' faults faults' output
 EndsPut is_refusal output status.Refused taken taken' faults faults' =

@@ -22,6 +22,7 @@ use Rattle.jr_names.specs.Replies.{Reply, edited, refactored, shown, undone, red
 use Rattle.jr_script.specs.Scripts.{IsScript}
 use Rattle.jr_script.specs.Reports.{report_text}
 use Rattle.jr_sources.specs.Sources.{Source}
+use Rattle.jr_session.specs.Promises.{Promises}
 use Rattle.jr_session.specs.States.{State, begun}
 use Rattle.jr_session.specs.Stepping.{Steps}
 use Rattle.jr_words.specs.Words.{Operand}
@@ -31,13 +32,15 @@ use Rattle.jr_top.specs.Outputs.{Output}
 
 -- ---- steps and replies
 
--- the session takes the steps one after another, each with its reply
+-- The session takes the steps one after another, each with its reply. Each accepted rename leaves
+-- a program again, in which each reference is bound to the image of what it was bound to.
 abbrev pub Follow : State → List Step → List Reply → State → Type 0
 Follow s [] [] t = t ≡ s
 Follow s [] (reply ∷ replies) t = ⊥
 Follow s (step ∷ steps) [] t = ⊥
 Follow s (step ∷ steps) (reply ∷ replies) t =
-    (between : State) × Steps s step reply between × Follow between steps replies t
+    (between : State) × Steps s step reply between × Promises s step reply between
+    × Follow between steps replies t
 
 abbrev pub IsRefusal : Reply → Type 0
 IsRefusal edited = ⊥

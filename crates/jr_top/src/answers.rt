@@ -5,6 +5,7 @@ ghost use Rattle.jr_names.specs.ReplyView.{reply_of};
 ghost use Rattle.jr_script.specs.RefusalTexts.{ArePlacesIn, places_of};
 ghost use Rattle.jr_script.specs.Reports.{reply_places};
 ghost use Rattle.jr_sources.specs.Sources.{IsFile, names_of};
+ghost use Rattle.jr_session.specs.Promises.{Promises};
 ghost use Rattle.jr_session.specs.Stepping.{Steps};
 ghost use Rattle.jr_top.specs.Lines.{refusal_line as line_of};
 ghost use Rattle.jr_top.specs.Renames.{IsAnswered, IsPutFor, opened};
@@ -62,8 +63,10 @@ fn rename_in(
     at: u32,
     name: &str,
 ) -> Result<Reply, AllocError>
-    ensures { IfOk result (λ reply.
+    ensures step { IfOk result (λ reply.
         Steps session.old (Step.Rename file.now at name.now) (reply_of reply) session.new) }
+    ensures promises { IfOk result (λ reply.
+        Promises session.old (Step.Rename file.now at name.now) (reply_of reply) session.new) }
 {
     let step = rename_step(alloc, file, at, name)?;
     take_step(alloc, session, &step)

@@ -1,6 +1,7 @@
 //! Steps done by a session.
 ghost use Rattle.std.specs.Prelude.{◌≡◌, ◌<◌, ◌↔◌, All, map, IfOk, IsTrue};
 ghost use Rattle.jr_names.specs.ReplyView.{reply_of};
+ghost use Rattle.jr_session.specs.Promises.{Promises};
 ghost use Rattle.jr_session.specs.Serving.{IsServed};
 ghost use Rattle.jr_session.specs.Stepping as pure;
 ghost use Rattle.jr_top.specs.Scripts.{Follow, HasNoRefusal, HasRefusal, IsRefusal};
@@ -57,8 +58,10 @@ pub(crate) fn take_step(
     step: &Step,
 ) -> Result<Reply, AllocError>
     requires { IsServed step.now }
-    ensures { IfOk result (λ reply.
+    ensures step { IfOk result (λ reply.
         pure.Steps session.old step.now (reply_of reply) session.new) }
+    ensures promises { IfOk result (λ reply.
+        Promises session.old step.now (reply_of reply) session.new) }
 {
     take_one::<Brand>(alloc, session, step, Blank::new(1))
 }
@@ -74,8 +77,10 @@ fn take_one<L: Ledger>(
     requires name { blank.name ≡ L.name }
     requires parts { blank.parts ≡ L.parts }
     requires some { 0 < L.parts }
-    ensures { IfOk result (λ reply.
+    ensures step { IfOk result (λ reply.
         pure.Steps session.old step.now (reply_of reply) session.new) }
+    ensures promises { IfOk result (λ reply.
+        Promises session.old step.now (reply_of reply) session.new) }
 {
     let mut counter = Steps::<L>::new(blank);
     session.step(alloc, step, &mut counter)

@@ -1,21 +1,22 @@
-use Rattle.std.proofs.Common.{◌≡◌, ℕ, Bool, true, sym, ap, subst, ◌∙◌}
+use Rattle.std.proofs.Common.{ℕ, Bool, sym, ap, subst, ◌∙◌}
 use Rattle.jr_table.specs.declared.entries.Entry.{Entry}
 use Rattle.jr_table.specs.Entries.{entries_of}
 use Rattle.jr_table.specs.Looking.{is_virtual, own_row}
 use Rattle.jr_table.specs.Wanted.{passes}
-use Rattle.jr_family.specs.Changes.{DiffersAbove}
+use Rattle.jr_family.specs.Changes.{DiffersAbove, AreUnparted}
 use Rattle.jr_family.specs.Moves.{is_asked}
-use Rattle.jr_family.proofs.Lows.{none_parted_here, one_parted_here, without_old, without_new, asked, programs_of, names_own, is_parted, parted_differs, parted_class}
+use Rattle.jr_family.proofs.Lows.{none_parted_here, one_parted_here, without_old, without_new, asked, programs_of, names_own, is_parted, takes_too, parted_differs, parted_class}
+use Rattle.jr_family.proofs.Marking.{method_tests}
 use Rattle.jr_family.proofs.parts.push_parted.Goals as goal
 
-pub returns-in_default : goal.returns-in_default
-returns-in_default c =
+pub returns-in_default-clause-lows : goal.returns-in_default-clause-lows
+returns-in_default-clause-lows c =
     let old = entries_of c.args.old.now in
     let new = entries_of c.args.new.now in
     none_parted_here old new c.args.number c.args.lows.now.items (λ d. without_old old new c.args.number d (sym c.in_default.ensures))
 
-pub returns-then-not-is_asked : goal.returns-then-not-is_asked
-returns-then-not-is_asked c =
+pub returns-then-not-is_asked-clause-lows : goal.returns-then-not-is_asked-clause-lows
+returns-then-not-is_asked-clause-lows c =
     let old = entries_of c.args.old.now in
     let new = entries_of c.args.new.now in
     none_parted_here old new c.args.number c.args.lows.now.items
@@ -25,14 +26,14 @@ returns-then-not-is_asked c =
     let f = c.if-not-is_asked.true in
     absurd cc)
 
-pub returns-in_default-entry : goal.returns-in_default-entry
-returns-in_default-entry c =
+pub returns-in_default-entry-clause-lows : goal.returns-in_default-entry-clause-lows
+returns-in_default-entry-clause-lows c =
     let old = entries_of c.args.old.now in
     let new = entries_of c.args.new.now in
     none_parted_here old new c.args.number c.args.lows.now.items (λ d. without_new old new c.args.number d (sym c.in_default-entry.ensures))
 
-pub returns-then-not-is_own : goal.returns-then-not-is_own
-returns-then-not-is_own c =
+pub returns-then-not-is_own-clause-lows : goal.returns-then-not-is_own-clause-lows
+returns-then-not-is_own-clause-lows c =
     let old = entries_of c.args.old.now in
     let new = entries_of c.args.new.now in
     let ps = programs_of c.args.old.now c.args.new.now c.keeps_rows.ensures c.keeps_rows-2.ensures c.requires.alike in
@@ -44,8 +45,8 @@ returns-then-not-is_own c =
     let f = c.if-not-is_own.true in
     absurd cc)
 
-pub returns-then-not-differs_above : goal.returns-then-not-differs_above
-returns-then-not-differs_above c =
+pub returns-then-not-differs_above-clause-lows : goal.returns-then-not-differs_above-clause-lows
+returns-then-not-differs_above-clause-lows c =
     let old = entries_of c.args.old.now in
     let new = entries_of c.args.new.now in
     let ps = programs_of c.args.old.now c.args.new.now c.keeps_rows.ensures c.keeps_rows-2.ensures c.requires.alike in
@@ -59,8 +60,8 @@ returns-then-not-differs_above c =
     let q = c.if-not-differs_above.true in
     absurd cc)
 
-pub returns : goal.returns
-returns c =
+pub returns-clause-lows : goal.returns-clause-lows
+returns-clause-lows c =
     let old = entries_of c.args.old.now in
     let new = entries_of c.args.new.now in
     let ps = programs_of c.args.old.now c.args.new.now c.keeps_rows.ensures c.keeps_rows-2.ensures c.requires.alike in
@@ -72,3 +73,29 @@ returns c =
     one_parted_here old new c.args.number e.class c.args.lows.now.items _ c.in_ok-push.ensures.items
     (is_parted old new ps c.args.number e f (sym c.in-Some.ensures) (sym c.in-Some-entry.ensures) own differs)
     (parted_class old new ps c.args.number e f (sym c.in-Some.ensures) (sym c.in-Some-entry.ensures))
+
+-- ---- what the calls ask
+
+pub differs_above-requires-clause-tests : goal.differs_above-requires-clause-tests
+differs_above-requires-clause-tests c =
+    let old = entries_of c.args.old.now in
+    let new = entries_of c.args.new.now in
+    let ps = programs_of c.args.old.now c.args.new.now c.keeps_rows.ensures c.keeps_rows-2.ensures c.requires.alike in
+    let e = c.in-Some.entry.now in
+    let f = c.in-Some-entry.image.now in
+    method_tests e.name f.name e.params f.params (takes_too old new ps c.args.number e f (sym c.in-Some.ensures) (sym c.in-Some-entry.ensures)) _ _ c.virtual_like-was.ensures c.virtual_like-now.ensures
+
+pub mark_above-requires-clause-tests : goal.mark_above-requires-clause-tests
+mark_above-requires-clause-tests c =
+    let old = entries_of c.args.old.now in
+    let new = entries_of c.args.new.now in
+    let ps = programs_of c.args.old.now c.args.new.now c.keeps_rows.ensures c.keeps_rows-2.ensures c.requires.alike in
+    let e = c.in-Some.entry.now in
+    let f = c.in-Some-entry.image.now in
+    method_tests e.name f.name e.params f.params (takes_too old new ps c.args.number e f (sym c.in-Some.ensures) (sym c.in-Some-entry.ensures)) _ _ c.virtual_like-was.ensures c.virtual_like-now.ensures
+
+pub differs_above-requires-clause-unparted : goal.differs_above-requires-clause-unparted
+differs_above-requires-clause-unparted c = subst (AreUnparted (entries_of c.args.old.now) (entries_of c.args.new.now)) (sym c.as_slice.ensures.value) c.requires.unparted
+
+pub mark_above-requires-clause-none : goal.mark_above-requires-clause-none
+mark_above-requires-clause-none c = λ d. let t = c.differs_above.ensures.1 d in let q = c.if-not-differs_above.true in absurd cc

@@ -3,10 +3,10 @@ use Rattle.jr_rewrite.specs.Rewritten.{word_out}
 use Rattle.jr_respell.specs.ChoiceView.{choice_of}
 use Rattle.jr_gather.proofs.Oks.{on_ok}
 use Rattle.std.proofs.Common.{refl}
-use Rattle.jr_parts.specs.Parts.{span_itself}
+use Rattle.jr_grammar.specs.Layout.{itself}
 use Rattle.jr_parts.proofs.words.declared_word.Goals as goal
 
 pub returns : goal.returns
 returns c =
     let ch = choice_of c.in_ok-choice.choice in
-    on_ok c.put_alone.result (λ e. λ s at. (word_out span_itself ch at (word_of c.args.name.now), (ch, c.in_ok-choice.ensures, refl), e)) c.put_alone.ensures
+    on_ok c.put_alone.result (λ e. λ s at. (word_out itself ch at (word_of c.args.name.now), (ch, c.in_ok-choice.ensures, refl), e)) c.put_alone.ensures

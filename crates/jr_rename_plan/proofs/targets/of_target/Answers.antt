@@ -22,6 +22,12 @@ returns-in-Some g c =
     told p d c.args.new.now (record { decls = decls; name = c.in_ok-name.name }) c.in-Some.method gives
     (subst (λ rows. ChangesPrelude rows d c.args.new.now c.in-Some.method) c.table-2.ensures (subst (λ o. IfSome o (λ text. ChangesPrelude c.table-2.result.now d c.args.new.now text)) c.in-Some.is c.in_ok-told.ensures.told))
 
+pub sparing-requires-clause-renamed : goal.sparing-requires-clause-renamed
+sparing-requires-clause-renamed g c =
+    let p = g.V.View.program c.args.view.now in
+    let d = decl_of c.args.target.now in
+    subst (AreRenamed p.rows d) (sym c.in_ok-all.ensures) (subst (λ rows. AreRenamed rows d (map decl_of c.in_ok-decls.decls.items)) c.table.ensures c.in_ok-decls.ensures)
+
 pub sparing-requires-clause-spares : goal.sparing-requires-clause-spares
 sparing-requires-clause-spares g c =
     let p = g.V.View.program c.args.view.now in
@@ -34,10 +40,10 @@ pub returns : goal.returns
 returns g c =
     let p = g.V.View.program c.args.view.now in
     let d = decl_of c.args.target.now in
-    let decls = map decl_of c.in_ok-decls.decls.items in
-    let of : Renaming = record { decls = decls; name = c.in_ok-name.name } in
+    let of : Renaming = record { decls = c.in_ok-all.all; name = c.in_ok-name.name } in
+    let renamed = subst (AreRenamed p.rows d) (sym c.in_ok-all.ensures) (subst (λ rows. AreRenamed rows d (map decl_of c.in_ok-decls.decls.items)) c.table.ensures c.in_ok-decls.ensures) in
     let same : c.in_ok-name.name ≡ c.args.new.now = c.in_ok-name.ensures ∙ c.as_str.ensures in
-    let gives : Gives p d c.args.new.now of = record { renamed = subst (λ rows. AreRenamed rows d decls) c.table.ensures c.in_ok-decls.ensures; name = same } in
+    let gives : Gives p d c.args.new.now of = record { renamed = renamed; name = same } in
     let none = subst (λ o. IfNone o ((text : List ℕ) → ChangesPrelude c.table-2.result.now d c.args.new.now text → ⊥)) c.in-None.is c.in_ok-told.ensures.none in
     let free = spares p d c.args.new.now (subst (λ rows. (text : List ℕ) → ChangesPrelude rows d c.args.new.now text → ⊥) c.table-2.ensures none) in
     IfOk-weaker c.sparing.result (λ o. AnswersSparing p d c.in_ok-name.name of (outcome_of o)) (λ o. Answers p d c.args.new.now (outcome_of o))

@@ -40,3 +40,10 @@ returns-in-CtorOf c =
     let name = c.args.name.now in
     subst (λ (w : raw.Way). IfOk c.ctor_of.result (λ f. Finds rows s (way_of w) name c.args.args.now (found_of f))) (sym c.in-CtorOf.is)
     (subst (λ (ts : List Ty). IfOk c.ctor_of.result (λ f. FindsCtorOf rows s (class_key_of c.in-CtorOf.class.now) ts (found_of f))) c.as_slice-in-CtorOf.ensures c.ctor_of.ensures)
+
+pub returns-in-TypeBehind : goal.returns-in-TypeBehind
+returns-in-TypeBehind c =
+    let rows = c.args.table.now in
+    let s = scope_of c.args.scope.now in
+    let name = c.args.name.now in
+    subst (λ (w : raw.Way). IfOk c.type_behind.result (λ f. Finds rows s (way_of w) name c.args.args.now (found_of f))) (sym c.in-TypeBehind.is) c.type_behind.ensures

@@ -1,4 +1,4 @@
-use Rattle.std.proofs.Common.{[], refl, ap}
+use Rattle.std.proofs.Common.{[], IsTrue, ◌↔◌, true, refl, ap, subst}
 use Rattle.std.proofs.lemmas.Result.{IfOk-weaker}
 use Rattle.std.specs.Prelude.{option_map}
 use Rattle.jr_table.specs.Keys.{ClassKey}
@@ -7,8 +7,11 @@ use Rattle.jr_table.specs.TypeView.{class_key_of}
 use Rattle.jr_table.specs.Context.{scope_of}
 use Rattle.jr_rename.specs.Images.{class_to}
 use Rattle.jr_respell.specs.ChoiceView.{choice_of}
-use Rattle.jr_respell.specs.Scopes.{rows_of, naming_of, context_of}
+use Rattle.jr_respell.specs.Scopes.{rows_of, naming_of, context_of, rows_to, place_to}
+use Rattle.jr_table.specs.Found.{one}
+use Rattle.jr_table.specs.Lookup.{FindsTypeNamed}
 use Rattle.jr_respell.specs.Ways.{type_behind}
+use Rattle.jr_respell.proofs.Kept.{moved}
 use Rattle.jr_respell.proofs.DeclKinds.{class_decls}
 use Rattle.jr_respell.proofs.OneEach.{one_class}
 use Rattle.jr_respell.proofs.ChosenBy.{asked_so, of_kind, behind}
@@ -24,8 +27,12 @@ returns c =
     let old = c.args.name.now in
     let outer = c.args.outer.now in
     let k = class_key_of c.args.class.now in
-    let to = type_behind (class_to g k).name in
+    let leads = c.is_type-leads.result in
+    let m = class_key_of c.in_ok-image.image in
+    let to = type_behind (class_to g k).name leads in
     let same = one_class rows (scope_of x) (c.lookups_are_exact.ensures.one rows c.keeps_rows.ensures) outer in
-    IfOk-weaker c.chosen.result _ _ (λ o h. behind rows g x at old outer k c.requires.finds same (option_map choice_of o)
-    (of_kind rows g x at old class_decl (type_behind outer) to [] [] class_decls (λ k. refl) (option_map choice_of o)
-    (asked_so rows g x at old (type_behind outer) _ [] _ to _ [] c.no_types-none.ensures (ap (λ (k : ClassKey). type_behind k.name) c.in_ok-image.ensures) c.no_types-none.ensures (option_map choice_of o) h))) c.chosen.ensures
+    let lead = subst (λ (j : ClassKey). IsTrue leads ↔ FindsTypeNamed (rows_to s) (place_to s) j.name (one (class_decl j))) c.in_ok-image.ensures
+    (moved s c.requires.kept (λ rs p. IsTrue leads ↔ FindsTypeNamed rs p m.name (one (class_decl m))) c.is_type-leads.ensures) in
+    IfOk-weaker c.chosen.result _ _ (λ o h. behind rows g x at old outer k leads c.requires.finds lead same (option_map choice_of o)
+    (of_kind rows g x at old class_decl (type_behind outer true) to [] [] class_decls (λ k. refl) (option_map choice_of o)
+    (asked_so rows g x at old (type_behind outer true) _ [] _ to _ [] c.no_types-none.ensures (ap (λ (k : ClassKey). type_behind k.name leads) c.in_ok-image.ensures) c.no_types-none.ensures (option_map choice_of o) h))) c.chosen.ensures

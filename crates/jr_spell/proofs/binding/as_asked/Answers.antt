@@ -3,8 +3,7 @@ use Rattle.jr_table.specs.KeyView.{decl_of}
 use Rattle.jr_lookup.specs.ScopeView.{scope_of}
 use Rattle.std.specs.Result.{IfOk}
 use Rattle.jr_spell.specs.ReferenceView.{reference_of}
-use Rattle.jr_table.specs.Context.{NamesClass}
-use Rattle.jr_spell.specs.Binds.{BindsAsked, front_word, last_word}
+use Rattle.jr_spell.specs.Binds.{BindsAsked}
 use Rattle.jr_spell.proofs.binding.as_asked.Goals as goal
 
 pub returns-in-FieldOn : goal.returns-in-FieldOn
@@ -61,5 +60,4 @@ returns-in-ClassName c =
     let s = scope_of c.args.scope.now in
     let r = reference_of c.args.reference.now in
     let d = decl_of c.args.target.now in
-    let named = subst (λ k. IfOk c.is_type_text.result (λ b. IsTrue b ↔ NamesClass rows s (front_word r.asked) (last_word r.asked) k)) c.declaring_class.ensures c.is_type_text.ensures in
-    subst (λ f. IfOk c.is_type_text.result (λ b. IsTrue b ↔ BindsAsked rows s r d f)) (sym c.in-ClassName.is) named
+    subst (λ f. IfOk c.as_written.result (λ b. IsTrue b ↔ BindsAsked rows s r d f)) (sym c.in-ClassName.is) c.as_written.ensures

@@ -2,6 +2,7 @@ use Rattle.std.proofs.Common.{subst, string_bytes}
 use Rattle.std.proofs.lemmas.Result.{IfOk-weaker}
 use Rattle.jr_names.specs.declared.steps.Step.TheVariants.{Rename}
 use Rattle.jr_names.specs.ReplyView.{reply_of}
+use Rattle.jr_session.specs.Promises.{Promises}
 use Rattle.jr_session.specs.States.{State}
 use Rattle.jr_session.specs.Stepping.{Steps}
 use Rattle.jr_top.specs.Renames.{opened}
@@ -10,15 +11,16 @@ use Rattle.jr_top.proofs.answers.answer_of.Goals as goal
 
 pub answer_to-requires-clause-names : goal.answer_to-requires-clause-names
 answer_to-requires-clause-names c =
-    let steps = subst (λ (s : State). Steps s (Rename c.args.file.now c.args.at c.args.name.now) (reply_of c.in_ok-reply.reply) c.rename_in.new.session) c.in_ok-session.ensures c.in_ok-reply.ensures in
+    let steps = subst (λ (s : State). Steps s (Rename c.args.file.now c.args.at c.args.name.now) (reply_of c.in_ok-reply.reply) c.rename_in.new.session) c.in_ok-session.ensures c.in_ok-reply.ensures.step in
     one_name c.args.file.now c.args.source c.args.at c.args.name.now (reply_of c.in_ok-reply.reply) c.rename_in.new.session steps
 
 pub answer_to-requires-clause-places : goal.answer_to-requires-clause-places
 answer_to-requires-clause-places c =
-    let steps = subst (λ (s : State). Steps s (Rename c.args.file.now c.args.at c.args.name.now) (reply_of c.in_ok-reply.reply) c.rename_in.new.session) c.in_ok-session.ensures c.in_ok-reply.ensures in
+    let steps = subst (λ (s : State). Steps s (Rename c.args.file.now c.args.at c.args.name.now) (reply_of c.in_ok-reply.reply) c.rename_in.new.session) c.in_ok-session.ensures c.in_ok-reply.ensures.step in
     its_places c.args.file.now c.args.source c.args.at c.args.name.now (reply_of c.in_ok-reply.reply) c.rename_in.new.session steps
 
 pub returns : goal.returns
 returns c =
-    let steps = subst (λ (s : State). Steps s (Rename c.args.file.now c.args.at c.args.name.now) (reply_of c.in_ok-reply.reply) c.rename_in.new.session) c.in_ok-session.ensures c.in_ok-reply.ensures in
-    IfOk-weaker c.answer_to.result _ _ (λ answer put. answered c.args.file.now c.args.source c.args.at c.args.name.now (reply_of c.in_ok-reply.reply) c.rename_in.new.session steps answer.refused (string_bytes answer.output) put) c.answer_to.ensures
+    let steps = subst (λ (s : State). Steps s (Rename c.args.file.now c.args.at c.args.name.now) (reply_of c.in_ok-reply.reply) c.rename_in.new.session) c.in_ok-session.ensures c.in_ok-reply.ensures.step in
+    let promise = subst (λ (s : State). Promises s (Rename c.args.file.now c.args.at c.args.name.now) (reply_of c.in_ok-reply.reply) c.rename_in.new.session) c.in_ok-session.ensures c.in_ok-reply.ensures.promises in
+    IfOk-weaker c.answer_to.result _ _ (λ answer put. answered c.args.file.now c.args.source c.args.at c.args.name.now (reply_of c.in_ok-reply.reply) c.rename_in.new.session steps promise answer.refused (string_bytes answer.output) put) c.answer_to.ensures

@@ -1,5 +1,0 @@
-pub mod BareBinding
-pub mod BareReferences
-pub mod TakenBack
-pub mod NewRows
-pub mod NewPrograms

@@ -1,9 +1,0 @@
-use Rattle.std.proofs.Common.{◌∙◌}
-use Rattle.jr_table.specs.Decls.{field_decl}
-use Rattle.jr_table.specs.SameDecls.{same_decl}
-use Rattle.jr_table.specs.KeyView.{field_key_of, decl_of}
-use Rattle.jr_rename.proofs.Imaging.{any_map}
-use Rattle.jr_rename.proofs.images.is_renamed_field.Goals as goal
-
-pub returns : goal.returns
-returns c = c.has_field.ensures ∙ any_map (same_decl (field_decl (field_key_of c.args.key.now))) decl_of c.args.g.now.decls.items
