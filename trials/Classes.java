@@ -1,9 +1,9 @@
 // The class files of programs, without names of locals: a line a rename, each class with a digest
-// of its file and one of what stands in it, or `refused` and javac's codes. A program is a line: its
-// renames, then names and texts, with tabs between them. What is renamed (`class K L`,
-// `field K x y`, `method K m (I)V k`, with `,` between two, and `|` between two renames) has its new
-// name in what the second digest is of, and each field and method there has the class that declares
-// it.
+// of its file and one of what stands in it, or `refused` and javac's codes. A program is a line:
+// its renames, then names and texts, with tabs between them. What is renamed (`class K L`,
+// `field K x y`, `method K m (I)V k`, with `,` between two, and `|` between two renames) has its
+// new name in what the second digest is of, and each field and method there has the class that
+// declares it.
 import java.io.*;
 import java.net.URI;
 import java.nio.file.*;
@@ -223,8 +223,9 @@ public class Classes {
         for (Map.Entry<String, Made> one : memory.made.entrySet()) {
             String shape = shape(one.getValue(), declared, renames);
             if (SHOWN) System.err.println(shape);
+            byte[] bytes = one.getValue().bytes.toByteArray();
             all.put(renames.map(one.getKey().replace('.', '/')),
-                digest(one.getValue().bytes.toByteArray()) + " " + digest(shape.getBytes("UTF-8")));
+                digest(bytes) + " " + digest(shape.getBytes("UTF-8")));
         }
         StringBuilder out = new StringBuilder();
         for (Map.Entry<String, String> one : all.entrySet())

@@ -143,7 +143,7 @@ def javac_lines(source, programs, options=()):
                 parts = [part for one in files for part in one]
                 file.write("\t".join(([] if word is None else [word]) + parts) + "\n")
         done = subprocess.run(
-            ["java", "-Xmx600m", "-XX:ActiveProcessorCount=1", *options,
+            ["java", "-Xmx600m", "-XX:ActiveProcessorCount=1", "-XX:TieredStopAtLevel=1", *options,
              os.path.join(HERE, source), path],
             capture_output=True, text=True, check=True,
         )

@@ -5,13 +5,14 @@ renames.py [--jref BINARY] [--locals] [--javac] [--rare] [--kinds KIND,..] [--fi
     [--programs N] [--renames N] [--examples N]
 
 In each program some words are renamed, each time in the program as it was: words of each kind
-(`local`, `parameter`, `field`, `method`, `class`, `constructor`, `nothing`) as often, or of those
-of --kinds; with --rare in programs in which rare spellings are likelier. With --jref the program's
-report of the rename and of a show of each file behind it has to be what the reading says, and the
-stored texts too; with --locals anything but a local is `Unbuilt`. With --javac the programs before
-and after are compiled: it takes both; after a rename of a local the class files, without names of
-locals, are the same (or differ in the class through which a field is named); and after any other
-they are the same but for the names of what is renamed, each field and method under the class that
+(`local`, `parameter`, `field`, `method`, `class`, `constructor`, `nothing`) as often, or of
+those of --kinds; with --rare in programs in which rare spellings are likelier, some of them in a
+package, some with comments between their tokens. With --jref the program's report of the rename
+and of a show of each file behind it has to be what the reading says, and the stored texts too;
+with --locals anything but a local is `Unbuilt`. With --javac the programs before and after are
+compiled: it takes both; after a rename of a local the class files, without names of locals, are
+the same (or differ in the class through which a field is named); and after any other they are
+the same but for the names of what is renamed, each field and method under the class that
 declares it. Differences are counted by class, with some examples of each.
 """
 import argparse
@@ -20,6 +21,7 @@ import random
 import sys
 
 from bindings import REFUSED_BY_JAVAC, Differences, against_jref, javac_lines
+from blanks import packed, spread
 from hiding import HidingMaker, RareMaker
 from programs import Maker
 from reading.binding import notes_of
@@ -50,6 +52,8 @@ def sound_files(seed, rare):
         maker = maker_of(seed, part, rare)
         files = maker.files()
         files = files if isinstance(maker, HidingMaker) else thinned(files, maker.random, 9)
+        if rare:
+            files = (packed, spread, lambda files, _: files)[seed % 3](files, maker.random)
         try:
             return sound(files), files
         except Refused:

@@ -203,7 +203,8 @@ fn place_inside(rt: &impl Abort, alloc: Global, source: &str) -> Option<Span> {
     let text = text_of(rt, alloc, source);
     let items = items_of(rt, alloc, &text);
     let unit = parse_unit(alloc, &text, &items).expect(rt, "a unit");
-    match unit.stmt_at(&path_inside(rt, alloc)) {
+    let path = path_inside(rt, alloc);
+    match unit.stmt_at(&path) {
         None => None,
         Some(stmt) => Some(stmt.mark),
     }
@@ -215,5 +216,6 @@ fn place_inside(rt: &impl Abort, alloc: Global, source: &str) -> Option<Span> {
 fn the_deepest_unit_is_read(rt: HostRuntime) {
     let text = deep(&rt, rt.alloc());
     let place = place_inside(&rt, rt.alloc(), text.as_str());
-    assert!(rt; place == Some(Span { from: 41504, to: 41505 }));
+    let (from, to) = (41504, 41505);
+    assert!(rt; place == Some(Span { from, to }));
 }
