@@ -277,10 +277,15 @@ class HidingMaker(Maker):
 
 
 class RareMaker(HidingMaker):
-    """More of what makes rare spellings: overloads of inherited methods under other names, classes
-    in three levels, and member types that a private one keeps from being inherited."""
+    """More of what makes rare spellings: overloads of inherited methods under other names, with
+    `overloads` called with what they take, classes in three levels, and member types that a private
+    one keeps from being inherited."""
 
     between = 0.5
+
+    def __init__(self, seed, overloads):
+        super().__init__(seed)
+        self.overloads = overloads
 
     def add_private_between(self, tops):
         super().add_private_between(tops)
@@ -297,6 +302,11 @@ class RareMaker(HidingMaker):
                 other = Item(**{**vars(one), "name": self.pick(["m", "n", "k"]), "types": below})
                 if self.is_new(c, other):
                     c.methods.append(other)
+
+    def args(self, here, types, depth):
+        if self.overloads:
+            types = [self.narrower(type) for type in types]
+        return super().args(here, types, depth)
 
     def narrower(self, type):
         below = [self.spelled(c) for c in self.classes if c.outer is None and c.parent == type]

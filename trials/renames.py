@@ -1,8 +1,8 @@
 #!/usr/bin/env python3
 """Random renames in random sound programs, put to the second reading, javac and the built program.
 
-renames.py [--jref BINARY] [--locals] [--javac] [--rare] [--kinds KIND,..] [--first SEED]
-    [--programs N] [--renames N] [--examples N]
+renames.py [--jref BINARY] [--locals] [--javac] [--rare spellings|overloads]
+    [--kinds KIND,..] [--first SEED] [--programs N] [--renames N] [--examples N]
 
 In each program some words are renamed, each time in the program as it was: words of each kind
 (`local`, `parameter`, `field`, `method`, `class`, `constructor`, `nothing`) as often, or of
@@ -20,12 +20,13 @@ import os
 import random
 import sys
 
-from bindings import REFUSED_BY_JAVAC, Differences, against_jref, javac_lines
+from bindings import Differences, against_jref
 from blanks import packed, spread
+from compiled import against_javac
 from hiding import HidingMaker, RareMaker
 from programs import Maker
 from reading.binding import notes_of
-from reading.program import PRELUDE
+from reading.program import PRELUDE, is_class
 from reading.renaming import PRELUDE_DECLS, Refused, sound, target_of
 from reading.tokens import tokens_of
 from sessions import rename_with_forms, show
@@ -42,7 +43,7 @@ OF_JAVA = {row.decl[1] for row in PRELUDE if row.decl[0] == "class"}
 
 def maker_of(seed, part, rare):
     if rare:
-        return RareMaker(8 * seed + part)
+        return RareMaker(8 * seed + part, rare == "overloads")
     return Maker(8 * seed + part, wild=0.0) if seed % 4 == 0 else HidingMaker(8 * seed + part)
 
 
@@ -118,8 +119,13 @@ class Words:
         names = set()
         for row in self.program.rows:
             if row.decl[0] == decl[0] and self.are_near(row.decl[1], decl[1]):
-                names.add(row.decl[2])
+                if self.parameters(row.decl) == self.parameters(decl):
+                    names.add(row.decl[2])
         return names - self.own_fields(decl) if self.rare else names
+
+    def parameters(self, decl):
+        """How many parameters a method has, where that is to matter."""
+        return len(decl[-1]) if self.rare == "overloads" and decl[0] == "method" else 0
 
     def own_fields(self, decl):
         """Names that a field can't get, as others of its class have them."""
@@ -134,10 +140,13 @@ class Words:
         return a != b and (below(a, b) or below(b, a) or a in around(b) or b in around(a))
 
     def liked(self, kind, random):
-        """The words of a kind, of private classes alone where rare spellings are to be."""
+        """The words of a kind; where rare spellings are to be, mostly of private classes, and of
+        methods that take objects."""
         words = self.by_kind[kind]
         if self.rare and kind == "class" and random.random() < 0.7:
             return [one for one in words if self.program.has_word(one[2], "private")] or words
+        if self.rare == "overloads" and kind == "method":
+            return [one for one in words if any(map(is_class, one[2][-1]))] or words
         return words
 
     def step(self, random, kinds):
@@ -150,7 +159,7 @@ class Words:
         return kind, {"step": "rename", "file": name, "at": at, "name": new}
 
 
-def renames(first, programs, count, kinds, rare=False):
+def renames(first, programs, count, kinds, rare=None):
     """Sound programs with renames: the program, its files, the kind of word and the step."""
     for seed in range(first, first + programs):
         program, files = sound_files(seed, rare)
@@ -202,55 +211,6 @@ def renamed_in_files(program, files, step):
     return ",".join(out)
 
 
-# javac
-
-OWN_READER = [
-    "--add-exports=java.base/jdk.internal.org.objectweb.asm%s=ALL-UNNAMED" % part
-    for part in ("", ".commons", ".util")
-]
-
-
-def class_files(programs):
-    """What javac makes of each program under its renames: of each class a digest of its file and
-    one of what stands in it, or that it refuses it."""
-    lines = javac_lines("Classes.java", programs, OWN_READER)
-    return [[part.split(" ") for part in line.split("\t")] for line in lines]
-
-
-def shapes(classes):
-    return [(one[0], one[2]) for one in classes[1:]]
-
-
-def compared(kind, one, other):
-    """The class of what javac makes of a program before and after a rename, and whether it is one
-    that was to be."""
-    if one[0] != other[0]:
-        return "takes one alone of two others", False
-    if one[0] != ["ok"]:
-        known = [REFUSED_BY_JAVAC.get(code) for code in one[0][1:]]
-        if None in known:
-            return "refuses both, for another cause: " + " ".join(one[0][1:]), False
-        return "known, refuses both: " + ", ".join(sorted(set(known))), True
-    if kind in ("local", "parameter") and one == other:
-        return "the same class files, of a " + kind, True
-    if shapes(one) == shapes(other):
-        return "the same class files but for names, of a " + kind, True
-    return "other class files, of a " + kind, False
-
-
-def against_javac(pairs, seen):
-    before = []
-    for _, names, files, _ in pairs:
-        if before and before[-1][1] is files:
-            before[-1] = (before[-1][0] + "|" + names, files)
-        else:
-            before.append((names, files))
-    made = class_files(before + [("", after) for _, _, _, after in pairs])
-    for (kind, *pair), one, other in zip(pairs, made, made[len(pairs) :]):
-        key, is_wanted = compared(kind, one, other)
-        seen.add("javac: " + key, None if is_wanted else pair)
-
-
 def ways_of_family(program, decls):
     """Where the methods that are renamed with the first one stand."""
     own, below = decls[0][1], program.is_subclass
@@ -272,7 +232,7 @@ def main():
     words.add_argument("--jref")
     words.add_argument("--javac", action="store_true")
     words.add_argument("--locals", action="store_true")
-    words.add_argument("--rare", action="store_true")
+    words.add_argument("--rare", choices=["spellings", "overloads"])
     words.add_argument("--kinds", default=",".join(KINDS))
     words.add_argument("--first", type=int, default=0)
     words.add_argument("--programs", type=int, default=1000)

@@ -1,7 +1,7 @@
 #!/usr/bin/env python3
 """This reading of renames beside that of trials/, over the random programs of trials/renames.py.
 
-beside_trials.py FIRST PROGRAMS RENAMES [rare]
+beside_trials.py FIRST PROGRAMS RENAMES [spellings|overloads]
 
 Both have to say the same new texts and number of respelled references, or the same refusal.
 """
@@ -23,7 +23,7 @@ def is_plain(text):
 
 first, programs, count = map(int, sys.argv[1:4])
 seen = collections.Counter()
-for _, files, _, step in renames(first, programs, count, KINDS, sys.argv[4:] == ["rare"]):
+for _, files, _, step in renames(first, programs, count, KINDS, *sys.argv[4:5]):
     after, reply = rename(files, step)
     if reply.get("number", 5) < 5 or not all(is_plain(text) for _, text in files):
         continue  # what this reading takes for granted, or doesn't read
