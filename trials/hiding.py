@@ -311,3 +311,20 @@ class RareMaker(HidingMaker):
     def narrower(self, type):
         below = [self.spelled(c) for c in self.classes if c.outer is None and c.parent == type]
         return self.pick(below) if below and self.chance(0.7) else type
+
+    def class_text(self, c):
+        text = super().class_text(c)
+        if not self.overloads:
+            return text
+        calls = [self.narrow_call(c, one) for one in self.above(c) if not one.static]
+        calls = [call for call in calls if call is not None]
+        return text[:-1] + "void t(){%s}}" % self.pick(calls) if calls else text
+
+    def narrow_call(self, c, one):
+        """A call of an inherited method on an object of the class, with less than it takes."""
+        here = Item(cls=c, static=False, locals=[], result="void")
+        types = [self.narrower(type) for type in one.types]
+        if types == one.types:
+            return None
+        value = self.operand(self.creation(here, c, 1))
+        return "%s.%s(%s);" % (value, one.name, super().args(here, types, 1))
