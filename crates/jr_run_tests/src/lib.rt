@@ -12,6 +12,8 @@ mod files;
 #[cfg(test)]
 mod kinds;
 #[cfg(test)]
+mod members;
+#[cfg(test)]
 mod memory;
 #[cfg(test)]
 mod renames;

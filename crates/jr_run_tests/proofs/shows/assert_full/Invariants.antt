@@ -1,4 +1,4 @@
-use Rattle.jr_run_tests.proofs.shows.a_report_is_full.Given as goal
+use Rattle.jr_run_tests.proofs.shows.assert_full.Given as goal
 
 abbrev pub ghosts-shown_often : goal.ghosts-shown_often
 ghosts-shown_often g a = record { name = a.blank.name; parts = a.blank.parts }
