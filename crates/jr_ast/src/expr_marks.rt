@@ -7,7 +7,7 @@ ghost use Rattle.jr_ast.specs.View.{target_of, expr_of, exprs_of, args_of};
 use crate::exprs::{Expr, ExprKind};
 use crate::made::{Made, push_made};
 use crate::made_exprs;
-use crate::marks::{marked, ty, word};
+use crate::marks::{mark_by, ty, word};
 use std::alloc::Global;
 
 /// A copy, in a box.
@@ -21,7 +21,7 @@ pub(crate) fn expr<B: Drop, A, F: Fn(&A) -> B>(
     ensures { IfOk result (λ x. same.SameExp (FnReturnsAt F.Fn f.now) (expr_of of.now)
         (expr_of x.value)) }
 {
-    let mark = marked(&of.mark, f);
+    let mark = mark_by(&of.mark, f);
     match &of.kind {
         ExprKind::Int(value) => made_exprs::number(alloc, mark, *value),
         ExprKind::Bool(value) => made_exprs::truth(alloc, mark, *value),

@@ -27,7 +27,7 @@ pub(crate) fn nth_expr<A>(
     among.get_mut(number - first)
 }
 
-fn held<A>(of: &mut Option<Box<Expr<A>>>) -> Option<&mut Expr<A>>
+fn operand_mut<A>(of: &mut Option<Box<Expr<A>>>) -> Option<&mut Expr<A>>
     ensures* writes_back { sem 𝓛 (lends_held A.row of.entry result) }
     ensures value { option_map (λ x. view.expr_of x.now) result
         ≡ option_map (λ b. view.expr_of b.value) of.entry.now }
@@ -78,7 +78,7 @@ impl<A> ExprKind<A> {
         let first = self.arguments_begin();
         match (self, number) {
             (ExprKind::Field(of, _), 0) => Some(&mut **of),
-            (ExprKind::Call(target, _, _), 0) => held(target),
+            (ExprKind::Call(target, _, _), 0) => operand_mut(target),
             (ExprKind::Call(_, _, args), _) => nth_expr(args, first, number),
             (ExprKind::SuperCall(_, args), _) => nth_expr(args, 1, number),
             (ExprKind::New(_, args), _) => nth_expr(args, 1, number),

@@ -100,7 +100,7 @@ pub(crate) fn empty<B: Drop>(alloc: Global, mark: B) -> Made<Box<Stmt<B>>>
 }
 
 /// `return value;`, perhaps without a value.
-pub(crate) fn returned<B: Drop>(
+pub(crate) fn return_stmt<B: Drop>(
     alloc: Global,
     mark: B,
     value: Made<Option<Box<Expr<B>>>>,

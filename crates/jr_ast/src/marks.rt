@@ -8,7 +8,7 @@ use crate::names::{Ident, Name};
 use crate::parts::{Modifier, Param, TypeKind, TypeRef};
 use std::alloc::{AllocError, Global};
 
-pub(crate) fn marked<B, A, F: Fn(&A) -> B>(mark: &A, f: &F) -> B
+pub(crate) fn mark_by<B, A, F: Fn(&A) -> B>(mark: &A, f: &F) -> B
     requires { F.IsAlwaysCallable f.now }
     ensures { FnReturnsAt F.Fn f.now mark.now result }
 {
@@ -25,7 +25,7 @@ pub(crate) fn word<B: Drop, A, F: Fn(&A) -> B>(
         (word_of word.now) (word_of w)) }
 {
     let name = Name::new(alloc, word.name.as_str())?;
-    let mark = marked(&word.mark, f);
+    let mark = mark_by(&word.mark, f);
     Ok(Ident { mark, name })
 }
 
@@ -40,24 +40,24 @@ pub(crate) fn ty<B: Drop, A, F: Fn(&A) -> B>(
 {
     match &ty.kind {
         TypeKind::Int => Ok(TypeRef {
-            mark: marked(&ty.mark, f),
+            mark: mark_by(&ty.mark, f),
             kind: TypeKind::Int,
         }),
         TypeKind::Boolean => Ok(TypeRef {
-            mark: marked(&ty.mark, f),
+            mark: mark_by(&ty.mark, f),
             kind: TypeKind::Boolean,
         }),
         TypeKind::Named(outer, name) => {
             let name = word(alloc, name, f)?;
             match outer {
                 None => Ok(TypeRef {
-                    mark: marked(&ty.mark, f),
+                    mark: mark_by(&ty.mark, f),
                     kind: TypeKind::Named(None, name),
                 }),
                 Some(outer) => {
                     let outer = word(alloc, outer, f)?;
                     Ok(TypeRef {
-                        mark: marked(&ty.mark, f),
+                        mark: mark_by(&ty.mark, f),
                         kind: TypeKind::Named(Some(outer), name),
                     })
                 }
@@ -77,7 +77,7 @@ pub(crate) fn param<B: Drop, A, F: Fn(&A) -> B>(
 {
     let name = word(alloc, &param.name, f)?;
     let ty = ty(alloc, &param.ty, f)?;
-    let mark = marked(&param.mark, f);
+    let mark = mark_by(&param.mark, f);
     Ok(Param {
         mark,
         is_final: param.is_final,
@@ -109,7 +109,7 @@ fn modifier<B: Drop, A, F: Fn(&A) -> B>(modifier: &Modifier<A>, f: &F) -> Modifi
     ensures { same.SameModifier (FnReturnsAt F.Fn f.now) (modifier_of modifier.now)
         (modifier_of result) }
 {
-    let mark = marked(&modifier.mark, f);
+    let mark = mark_by(&modifier.mark, f);
     Modifier {
         mark,
         word: modifier.word,

@@ -10,7 +10,7 @@ ghost use Rattle.jr_ast.specs.View.{stmts_of, class_of, member_of, members_of, u
 use crate::expr_marks::{maybe_args, maybe_expr};
 use crate::exprs::Expr;
 use crate::made::{Made, push_made};
-use crate::marks::{marked, maybe_ty, modifiers, params, ty, word, words};
+use crate::marks::{mark_by, maybe_ty, modifiers, params, ty, word, words};
 use crate::members::{Class, Member, MemberKind, Unit};
 use crate::names::Ident;
 use crate::parts::{Modifier, Param, TypeRef};
@@ -70,13 +70,13 @@ fn field<B: Drop, A, F: Fn(&A) -> B>(
     match init {
         None => in_box(
             alloc,
-            Member::field(marked(mark, f), words, of_type, name, None),
+            Member::field(mark_by(mark, f), words, of_type, name, None),
         ),
         Some(init) => {
             let init = Some(Box::into_inner(init));
             in_box(
                 alloc,
-                Member::field(marked(mark, f), words, of_type, name, init),
+                Member::field(mark_by(mark, f), words, of_type, name, init),
             )
         }
     }
@@ -102,7 +102,7 @@ fn method<B: Drop, A, F: Fn(&A) -> B>(
     let ret = maybe_ty(alloc, ret, f)?;
     in_box(
         alloc,
-        Member::method(marked(mark, f), head.0, ret, head.1, head.2, body),
+        Member::method(mark_by(mark, f), head.0, ret, head.1, head.2, body),
     )
 }
 
@@ -127,7 +127,7 @@ fn ctor<B: Drop, A, F: Fn(&A) -> B>(
     let args = maybe_args(alloc, parent_args, f)?;
     in_box(
         alloc,
-        Member::ctor(marked(mark, f), head.0, head.1, head.2, args, body),
+        Member::ctor(mark_by(mark, f), head.0, head.1, head.2, args, body),
     )
 }
 
@@ -147,7 +147,7 @@ fn inner<B: Drop, A, F: Fn(&A) -> B>(
     let class = class?;
     in_box(
         alloc,
-        Member::inner(marked(mark, f), Box::into_inner(class)),
+        Member::inner(mark_by(mark, f), Box::into_inner(class)),
     )
 }
 
@@ -168,7 +168,7 @@ fn class_with<B: Drop, A, F: Fn(&A) -> B>(
     let words = modifiers(alloc, &of.modifiers, f)?;
     let name = word(alloc, &of.name, f)?;
     let parent = maybe_ty(alloc, &of.parent, f)?;
-    let copy = Class::new(marked(&of.mark, f), words, name, parent, all);
+    let copy = Class::new(mark_by(&of.mark, f), words, name, parent, all);
     Ok(Box::new(alloc, copy)?)
 }
 
@@ -269,7 +269,7 @@ fn unit<B: Drop, A, F: Fn(&A) -> B>(
 {
     let path = words(alloc, &of.package, f)?;
     let all = classes(alloc, &of.classes, f)?;
-    Ok(Unit::new(marked(&of.mark, f), path, all))
+    Ok(Unit::new(mark_by(&of.mark, f), path, all))
 }
 
 impl<A> Unit<A> {

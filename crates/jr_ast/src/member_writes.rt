@@ -50,7 +50,7 @@ fn nth_class<A>(among: &mut Vec<Class<A>>, first: usize, number: usize) -> Optio
 }
 
 /// What is left of a number once so many children are passed over.
-fn passed(number: Option<usize>, count: usize) -> Option<usize>
+fn left_after(number: Option<usize>, count: usize) -> Option<usize>
     ensures { result ≡ option_and_then (left_of count) number }
 {
     match number {
@@ -76,7 +76,7 @@ fn names<A>(ret: &Option<TypeRef<A>>) -> usize
 }
 
 /// How many arguments are given.
-fn given<A>(args: &Option<Vec<Expr<A>>>) -> usize
+fn argument_count<A>(args: &Option<Vec<Expr<A>>>) -> usize
     ensures { result ≡ length (pure.args_children (view.args_of args.now)) }
 {
     match args {
@@ -182,8 +182,8 @@ impl<A> MemberKind<A> {
                 modifiers,
                 params,
                 ..
-            } => passed(
-                passed(passed(Some(number), modifiers.len()), 1),
+            } => left_after(
+                left_after(left_after(Some(number), modifiers.len()), 1),
                 params.len(),
             ),
             MemberKind::Field { .. } | MemberKind::Method { .. } | MemberKind::Inner(_) => None,
@@ -201,12 +201,12 @@ impl<A> MemberKind<A> {
                 ret,
                 params,
                 ..
-            } => passed(
-                passed(passed(Some(number), modifiers.len()), names(ret)),
+            } => left_after(
+                left_after(left_after(Some(number), modifiers.len()), names(ret)),
                 params.len(),
             ),
             MemberKind::Ctor { parent_args, .. } => {
-                passed(self.args_place(number), given(parent_args))
+                left_after(self.args_place(number), argument_count(parent_args))
             }
             MemberKind::Field { .. } | MemberKind::Inner(_) => None,
         }

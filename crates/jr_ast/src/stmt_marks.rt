@@ -7,7 +7,7 @@ ghost use Rattle.jr_ast.specs.View.{else_of, stmt_of, stmts_of};
 use crate::expr_marks::{expr, maybe_expr};
 use crate::made::{Made, push_made};
 use crate::made_stmts;
-use crate::marks::{marked, ty, word};
+use crate::marks::{mark_by, ty, word};
 use crate::stmts::{Stmt, StmtKind};
 use std::alloc::Global;
 
@@ -22,7 +22,7 @@ pub(crate) fn stmt<B: Drop, A, F: Fn(&A) -> B>(
     ensures { IfOk result (λ x. same.SameStmt (FnReturnsAt F.Fn f.now) (stmt_of of.now)
         (stmt_of x.value)) }
 {
-    let mark = marked(&of.mark, f);
+    let mark = mark_by(&of.mark, f);
     match &of.kind {
         StmtKind::Local {
             is_final,
@@ -48,7 +48,11 @@ pub(crate) fn stmt<B: Drop, A, F: Fn(&A) -> B>(
         StmtKind::While(condition, body) => {
             made_stmts::while_loop(alloc, mark, expr(alloc, condition, f), stmt(alloc, body, f))
         }
-        StmtKind::Return(value) => made_stmts::returned(alloc, mark, maybe_expr(alloc, value, f)),
+        StmtKind::Return(value) => made_stmts::return_stmt(
+            alloc,
+            mark,
+            maybe_expr(alloc, value, f),
+        ),
         StmtKind::Block(body) => made_stmts::block(alloc, mark, stmts(alloc, body, f)),
         StmtKind::Sync(lock, body) => {
             made_stmts::sync(alloc, mark, expr(alloc, lock, f), stmts(alloc, body, f))

@@ -52,7 +52,7 @@ fn reference_at(references: &[Reference], number: usize) -> Option<&Reference>
 }
 
 /// What the reference at a place means, if one is there.
-fn found(references: &[Reference], at: u32) -> Option<&Decl>
+fn decl_at(references: &[Reference], at: u32) -> Option<&Decl>
     requires { IsNonDecreasingBy (λ r. r.at) references.now }
     ensures { option_map (λ d. decl_of d.now) result
         ≡ decl_in (map reference_of references.now) at }
@@ -101,7 +101,7 @@ impl Facts for Bound {
     }
 
     fn decl(&self, at: u32) -> Option<&Decl> {
-        found(self.references.as_slice(), at)
+        decl_at(self.references.as_slice(), at)
     }
 
     fn ty(&self, path: &Path) -> Option<&Ty> {

@@ -16,7 +16,7 @@ pub(crate) struct Behind {
 }
 
 /// Where nothing has been declared, and all is reached.
-pub(crate) fn reached(number: u32) -> Behind
+pub(crate) fn reachable_from(number: u32) -> Behind
     ensures { result ≡ pure.reached number }
 {
     Behind {
@@ -26,7 +26,7 @@ pub(crate) fn reached(number: u32) -> Behind
 }
 
 /// Behind a statement that never completes normally.
-pub(crate) fn unreached(number: u32) -> Behind
+pub(crate) fn unreachable_from(number: u32) -> Behind
     ensures { result ≡ pure.unreached number }
 {
     Behind {

@@ -6,7 +6,7 @@ ghost use Rattle.jr_types.specs.TypedTrees.{put_leaves};
 ghost use Rattle.jr_bind.specs.TypedFlow.{named_count};
 
 use jr_ast::TypeRef;
-use jr_notes::{joined, put_leaf};
+use jr_notes::{more_parts, put_leaf};
 use jr_types::Types;
 use std::alloc::AllocError;
 
@@ -36,8 +36,8 @@ pub(crate) fn put_front(
     put_row(modifiers, types)?;
     put_row(named, types)?;
     put_row(params, types)?;
-    let first = joined(modifiers, named)?;
-    joined(first, params)
+    let first = more_parts(modifiers, named)?;
+    more_parts(first, params)
 }
 
 /// How many parts a method's type and name are.

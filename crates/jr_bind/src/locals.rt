@@ -18,11 +18,11 @@ ghost use Rattle.jr_bind.specs.Flow.{Passes};
 ghost use Rattle.jr_bind.specs.StmtArms as pure;
 ghost use Rattle.jr_bind.specs.TypedFlow.{local_parts};
 
-use crate::completing::{Behind, reached};
+use crate::completing::{Behind, reachable_from};
 use crate::stmt_notes::put_init;
 use jr_ast::{Expr, Ident, Name, TypeKind, TypeRef};
 use jr_locals::{Held, HeldType};
-use jr_notes::{Note, Place, Role, put_leaf, put_when, walk_expr, written};
+use jr_notes::{Note, Place, Role, put_leaf, put_when, walk_expr, written_type};
 use jr_table::{Kind, Rule, Table};
 use jr_text::Mark;
 use jr_types::Types;
@@ -131,7 +131,7 @@ fn local_head<A: Mark>(
         ++ pure.redeclared_notes (λ m b. (A.span_from m b).from) table.now
         (context_of place.now) at (view.word_of name.now))) }
 {
-    let kind = written(table, place, at, ty, log)?;
+    let kind = written_type(table, place, at, ty, log)?;
     put_redeclared(table, place, at, name, log)?;
     Ok(kind)
 }
@@ -195,5 +195,5 @@ pub(crate) fn local<'a, A: Mark>(
     put_leaf(types)?;
     local_init(alloc, table, place, at, kind, init, log, types)?;
     place.own = None;
-    Ok(reached(next))
+    Ok(reachable_from(next))
 }

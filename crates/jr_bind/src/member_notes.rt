@@ -29,7 +29,7 @@ use crate::statements::stmts;
 use crate::stmt_nodes::maybe_parts;
 use crate::supers::put_super;
 use jr_ast::{Expr, Ident, Member, MemberKind, ModWord, Modifier, Param, Stmt, TypeRef};
-use jr_notes::{Note, joined, put_leaf};
+use jr_notes::{Note, more_parts, put_leaf};
 use jr_table::{MemberKey, Table};
 use jr_text::Mark;
 use jr_types::Types;
@@ -86,7 +86,7 @@ fn note_field<'a, A: Mark>(
 {
     let before = types.count();
     let first = put_front(modifiers, 2, 0, types)?;
-    let parts = joined(first, maybe_parts(init))?;
+    let parts = more_parts(first, maybe_parts(init))?;
     let place = plain_place(alloc, table, key, row, is_static);
     put_type(table, place.class, at, ty, log)?;
     put_initializer(alloc, table, &place, at, init, log, types)?;
@@ -133,7 +133,7 @@ fn note_method<'a, A: Mark>(
     let before = types.count();
     let number = count(params)?;
     let first = put_front(modifiers, named_parts(ret), params.len(), types)?;
-    let parts = joined(first, body.len())?;
+    let parts = more_parts(first, body.len())?;
     let mut place = place_with(alloc, table, key, row, is_static, params)?;
     let behind = stmts(alloc, table, &mut place, at, number, body, log, types)?;
     types.close(before, parts, None)?;
@@ -192,8 +192,8 @@ fn note_ctor<'a, A: Mark>(
     let before = types.count();
     let number = count(params)?;
     let front = put_front(modifiers, 1, params.len(), types)?;
-    let first = joined(front, super_parts(args))?;
-    let parts = joined(first, body.len())?;
+    let first = more_parts(front, super_parts(args))?;
+    let parts = more_parts(first, body.len())?;
     let mut place = place_with(alloc, table, key, row, true, params)?;
     put_params(table, place.class, at, params, log)?;
     let at_name = name.mark.span(at).from;

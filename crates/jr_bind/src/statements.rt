@@ -9,11 +9,11 @@ ghost use Rattle.jr_bind.specs.Flow as flow;
 ghost use Rattle.jr_bind.specs.TypedFlow.{else_slots, body_slots};
 
 use crate::completing::{
-    Behind, behind_both, behind_branches, behind_loop, is_true, reached, unreached,
+    Behind, behind_both, behind_branches, behind_loop, is_true, reachable_from, unreachable_from,
 };
 use crate::locals::local;
 use crate::stmt_nodes::close_stmt;
-use crate::stmt_parts::{condition, eval, lock, loop_condition, returned};
+use crate::stmt_parts::{condition, eval, lock, loop_condition, return_value};
 use jr_ast::{Stmt, StmtKind};
 use jr_notes::{Note, Place, put_unless};
 use jr_table::{Rule, Table};
@@ -53,7 +53,7 @@ pub(crate) fn stmt<'a, A: Mark>(
         ),
         StmtKind::Eval(value) => {
             eval(alloc, table, place, at, value, log, types)?;
-            Ok(reached(number))
+            Ok(reachable_from(number))
         }
         StmtKind::If(test, yes, no) => {
             condition(alloc, table, place, at, test, log, types)?;
@@ -67,15 +67,15 @@ pub(crate) fn stmt<'a, A: Mark>(
             Ok(behind_loop(body, is_true(test)))
         }
         StmtKind::Return(value) => {
-            returned(alloc, table, place, at, value, log, types)?;
-            Ok(unreached(number))
+            return_value(alloc, table, place, at, value, log, types)?;
+            Ok(unreachable_from(number))
         }
         StmtKind::Block(body) => stmts(alloc, table, place, at, number, body, log, types),
         StmtKind::Sync(object, body) => {
             lock(alloc, table, place, at, object, log, types)?;
             stmts(alloc, table, place, at, number, body, log, types)
         }
-        StmtKind::Empty => Ok(reached(number)),
+        StmtKind::Empty => Ok(reachable_from(number)),
     }
 }
 
@@ -128,7 +128,7 @@ fn otherwise<'a, A: Mark>(
         ++ else_slots table.now number (context_of place.old) (else_of of.now)) }
 {
     match of {
-        None => Ok(reached(number)),
+        None => Ok(reachable_from(number)),
         Some(of) => inner(alloc, table, place, at, number, of, log, types),
     }
 }
@@ -189,7 +189,7 @@ pub(crate) fn stmts<'a, A: Mark>(
 {
     let depth = place.locals.len();
     let own = place.own;
-    let mut behind = reached(number);
+    let mut behind = reachable_from(number);
     for of in body {
         behind = item(alloc, table, place, at, behind, of, log, types)?;
     }

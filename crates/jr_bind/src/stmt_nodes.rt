@@ -9,7 +9,7 @@ ghost use Rattle.jr_bind.specs.TypedFlow.{maybe_count, else_count};
 ghost use Rattle.jr_notes.specs.TypedSlots.{Puts};
 
 use jr_ast::{Expr, Stmt, StmtKind};
-use jr_notes::joined;
+use jr_notes::more_parts;
 use jr_types::Types;
 use std::alloc::AllocError;
 
@@ -51,7 +51,7 @@ fn part_count<A>(of: &Stmt<A>) -> Result<usize, AllocError>
         StmtKind::While(_, _) => Ok(2),
         StmtKind::Return(value) => Ok(maybe_parts(value)),
         StmtKind::Block(body) => Ok(body.len()),
-        StmtKind::Sync(_, body) => joined(body.len(), 1),
+        StmtKind::Sync(_, body) => more_parts(body.len(), 1),
         StmtKind::Empty => Ok(0),
     }
 }

@@ -118,7 +118,7 @@ fn returned_value<A: Mark>(
 }
 
 /// What is returned.
-pub(crate) fn returned<A: Mark>(
+pub(crate) fn return_value<A: Mark>(
     alloc: Global,
     table: &Table,
     place: &Place<'_>,

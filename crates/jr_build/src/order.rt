@@ -40,7 +40,7 @@ impl<'a> Hierarchy<'a> {
     }
 
     /// The class that the superclass of an item's class waits for.
-    fn awaited(&self, item: &SiteItem<'a>) -> Option<u32> {
+    fn awaits(&self, item: &SiteItem<'a>) -> Option<u32> {
         match item {
             SiteItem::Class(class) => match class.key.outer {
                 None => None,
@@ -58,7 +58,7 @@ impl<'a> Hierarchy<'a> {
         let Some(site) = sites.get(number as usize) else {
             return None;
         };
-        let Some(class) = self.awaited(&site.item) else {
+        let Some(class) = self.awaits(&site.item) else {
             return None;
         };
         match marks.get(class as usize) {

@@ -15,9 +15,9 @@ ghost use Rattle.jr_table.specs.Binding.{value};
 
 use crate::places::{declare, leave_own};
 use jr_ast::{Expr, Ident, Path, TypeRef};
-use jr_gather::{Here, next, operand, written};
+use jr_gather::{Here, next, operand, written_type};
 use jr_renaming::{Output, put_alone};
-use jr_respell::declared;
+use jr_respell::declaration_choice;
 use jr_table::{Decl, LocalKey, MemberKey};
 use jr_text::Mark;
 use std::alloc::{AllocError, Global};
@@ -52,7 +52,7 @@ pub fn declaring<A: Mark>(
         (word_of name.now) (gathered out.old) (gathered out.new)) }
 {
     let word = name.mark.span(at);
-    let choice = declared(alloc, here.scopes.programs.name, decl, &name.name)?;
+    let choice = declaration_choice(alloc, here.scopes.programs.name, decl, &name.name)?;
     put_alone(alloc, word, choice, out)
 }
 
@@ -96,7 +96,7 @@ fn local_head<A: Mark>(
     ensures { IfOk result (λ _. gives.HeadGathers A.span_from here.now number at
         (type_of ty.now) (word_of name.now) (gathered out.old) (gathered out.new)) }
 {
-    written(alloc, here, at, ty, out)?;
+    written_type(alloc, here, at, ty, out)?;
     local_word(alloc, here, number, at, name, out)
 }
 

@@ -34,7 +34,12 @@ fn held_type<A>(of: &TypeRef<A>) -> HeldType<'_>
 }
 
 /// A local as it is declared.
-fn held<'a, A>(number: u32, is_final: bool, ty: &'a TypeRef<A>, name: &'a Ident<A>) -> Held<'a>
+fn declared_local<'a, A>(
+    number: u32,
+    is_final: bool,
+    ty: &'a TypeRef<A>,
+    name: &'a Ident<A>,
+) -> Held<'a>
     ensures { pure.IsHeld number is_final (type_of ty.now) (word_of name.now) (held_of result) }
 {
     Held {
@@ -59,7 +64,8 @@ pub(crate) fn declare<'a, A>(
     ensures { IfOk result (λ _. Goes here.old here.new (in_own (context_of here.old)
         (local_of (context_of here.old) number is_final (type_of ty.now) (word_of name.now)))) }
 {
-    here.scopes.push(held(number, is_final, ty, name))?;
+    here.scopes
+        .push(declared_local(number, is_final, ty, name))?;
     here.scopes.set_own(Some(number));
     Ok(())
 }

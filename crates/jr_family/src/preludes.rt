@@ -71,7 +71,7 @@ fn prelude_member<'a>(table: &Table, family: &'a [Decl]) -> Option<&'a Decl>
 }
 
 /// The text of a declaration, as what is told.
-fn told(alloc: Global, decl: &Decl) -> Result<Option<Name>, AllocError>
+fn some_text(alloc: Global, decl: &Decl) -> Result<Option<Name>, AllocError>
     ensures { IfOk result (λ o. o ≡ Some (texts.decl_text (decl_of decl.now))) }
 {
     let text = decl_text(alloc, decl)?;
@@ -104,7 +104,7 @@ fn family_told(
 {
     table.keeps_rows();
     match prelude_member(table, family) {
-        Some(member) => told(alloc, member),
+        Some(member) => some_text(alloc, member),
         None => object_method(alloc, new),
     }
 }

@@ -11,5 +11,5 @@ mod walk;
 
 pub use called::super_ctor_choice;
 pub use here::{Here, Role, below, next};
-pub use type_names::written;
+pub use type_names::written_type;
 pub use walk::{expr, exprs, operand};

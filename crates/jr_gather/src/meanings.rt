@@ -27,7 +27,7 @@ pub(crate) enum Before<'a> {
 }
 
 /// What the reference at a byte of the file is bound to.
-fn found<'a>(here: &Here<'a>, at: u32) -> Option<&'a Decl>
+fn decl_at<'a>(here: &Here<'a>, at: u32) -> Option<&'a Decl>
     ensures { option_map (λ d. decl_of d.now) result ≡ found_at here.now at }
 {
     if at < here.from {
@@ -54,7 +54,7 @@ fn class_found<'a>(here: &Here<'a>, at: u32) -> Option<&'a ClassKey>
     ensures { option_map (λ k. class_key_of k.now) result
         ≡ option_and_then class_in (found_at here.now at) }
 {
-    match found(here, at) {
+    match decl_at(here, at) {
         None => None,
         Some(decl) => as_class(decl),
     }
@@ -180,7 +180,7 @@ pub(crate) fn before_dot<'a, A: Mark>(
     }
 }
 
-fn copied(alloc: Global, ty: Option<&Ty>) -> Result<Option<Ty>, AllocError>
+fn copy_type(alloc: Global, ty: Option<&Ty>) -> Result<Option<Ty>, AllocError>
     ensures { IfOk result (λ o. option_map ty_of o ≡ option_map (λ t. ty_of t.now) ty.entry) }
 {
     match ty {
@@ -203,7 +203,7 @@ fn part_type(
         ≡ pure.type_at here.now (path.now.steps.items ++ step ∷ [])) }
 {
     let inner = below(alloc, path, step)?;
-    copied(alloc, here.bound.ty(&inner))
+    copy_type(alloc, here.bound.ty(&inner))
 }
 
 fn part_types<A>(

@@ -10,7 +10,7 @@ ghost use Rattle.jr_renaming.specs.OutputView.{gathered};
 use crate::called::{inner_type_choice, qualifier_choice, type_choice};
 use crate::here::Here;
 use jr_ast::{Ident, TypeKind, TypeRef};
-use jr_renaming::{Output, begun, put_alone, put_member_class};
+use jr_renaming::{Output, put_alone, put_member_class, start_of};
 use jr_text::Mark;
 use std::alloc::{AllocError, Global};
 
@@ -56,13 +56,13 @@ fn inner_class<A: Mark>(
     let before = outer.mark.span(at);
     let word = name.mark.span(at);
     let first = qualifier_choice(alloc, here, before.from, &outer.name)?;
-    let from = begun(out);
+    let from = start_of(out);
     put_alone(alloc, before, first, out)?;
     let choice = inner_type_choice(alloc, here, word.from, &outer.name, &name.name)?;
     put_member_class(alloc, before, word, from, choice, out)
 }
 
-fn named<A: Mark>(
+fn class_name<A: Mark>(
     alloc: Global,
     here: &Here<'_>,
     at: u32,
@@ -85,7 +85,7 @@ fn named<A: Mark>(
 }
 
 /// What comes of a written type.
-pub fn written<A: Mark>(
+pub fn written_type<A: Mark>(
     alloc: Global,
     here: &Here<'_>,
     base: u32,
@@ -104,7 +104,7 @@ pub fn written<A: Mark>(
         TypeKind::Boolean => Ok(()),
         TypeKind::Named(outer, name) => {
             let at = of.mark.span(base).from;
-            named(alloc, here, at, outer, name, out)
+            class_name(alloc, here, at, outer, name, out)
         }
     }
 }

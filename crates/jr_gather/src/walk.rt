@@ -15,9 +15,9 @@ ghost use Rattle.jr_renaming.specs.OutputView.{gathered};
 use crate::called::{call_choice, creation_choice, simple_call_choice, super_call_choice};
 use crate::chosen::{dotted_choice, name_choice, super_field_choice};
 use crate::here::{Here, Role, below, next};
-use crate::type_names::written;
+use crate::type_names::written_type;
 use jr_ast::{Expr, ExprKind, Ident, Path, TypeRef};
-use jr_renaming::{Output, begun, keep_loss, put_alone, put_end, put_front, put_on_super};
+use jr_renaming::{Output, keep_loss, put_alone, put_end, put_front, put_on_super, start_of};
 use jr_respell::Choice;
 use jr_text::{Mark, Span};
 use std::alloc::{AllocError, Global};
@@ -64,7 +64,7 @@ fn on_super<A: Mark>(
 }
 
 /// The word of a call without a target, in a node that begins at `at`.
-fn called<A: Mark>(
+fn call_word<A: Mark>(
     alloc: Global,
     here: &Here<'_>,
     path: &Path,
@@ -112,7 +112,7 @@ fn called_on_super<A: Mark>(
 }
 
 /// The class and the constructor of a creation that begins at `at`.
-fn created<A: Mark>(
+fn creation_words<A: Mark>(
     alloc: Global,
     here: &Here<'_>,
     path: &Path,
@@ -136,7 +136,7 @@ fn created<A: Mark>(
 {
     let choice = creation_choice(alloc, here, path, at, ty, args)?;
     keep_loss(choice, out)?;
-    written(alloc, here, at, ty, out)
+    written_type(alloc, here, at, ty, out)
 }
 
 /// The number of a call's first argument among its parts.
@@ -174,7 +174,7 @@ pub fn expr<A: Mark>(
         ExprKind::Null => Ok(()),
         ExprKind::Text(_) => Ok(()),
         ExprKind::This => Ok(()),
-        ExprKind::ClassLit(ty) => written(alloc, here, at, ty, out),
+        ExprKind::ClassLit(ty) => written_type(alloc, here, at, ty, out),
         ExprKind::Simple(name) => simple(alloc, here, role, at, name, out),
         ExprKind::Field(part, name) => field(alloc, here, role, path, at, part, name, out),
         ExprKind::SuperField(name) => on_super(alloc, here, span, name, out),
@@ -255,13 +255,13 @@ fn cast<A: Mark>(
     ensures { IfOk result (λ _. gives.CastGathers A.span_from here.now at (type_of ty.now)
         (expr_of part.now) (gathered out.old) (gathered out.new)) }
 {
-    written(alloc, here, at, ty, out)?;
+    written_type(alloc, here, at, ty, out)?;
     operand(alloc, here, path, 1, at, part, out)
 }
 
 /// An operand, and the word behind its dot, for which this is chosen.
 #[cycle(walk)]
-fn dotted<A: Mark>(
+fn operand_and_word<A: Mark>(
     alloc: Global,
     here: &Here<'_>,
     path: &Path,
@@ -279,7 +279,7 @@ fn dotted<A: Mark>(
 {
     let operand = part.mark.span(at);
     put_front(alloc, operand, &choice, out)?;
-    let from = begun(out);
+    let from = start_of(out);
     expr(alloc, here, Role::Left, path, at, part, out)?;
     put_end(alloc, operand, word, from, choice, out)
 }
@@ -308,7 +308,7 @@ fn field<A: Mark>(
     let word = name.mark.span(at);
     let inner = below(alloc, path, 0)?;
     let choice = dotted_choice(alloc, here, role, &inner, at, part, word.from, &name.name)?;
-    dotted(alloc, here, &inner, at, part, word, choice, out)
+    operand_and_word(alloc, here, &inner, at, part, word, choice, out)
 }
 
 /// A call on an operand, without its arguments.
@@ -339,7 +339,7 @@ fn call_on<A: Mark>(
     let choice = call_choice(
         alloc, here, path, &inner, at, part, args, word.from, &name.name,
     )?;
-    dotted(alloc, here, &inner, at, part, word, choice, out)
+    operand_and_word(alloc, here, &inner, at, part, word, choice, out)
 }
 
 /// A call's target and word.
@@ -367,7 +367,7 @@ fn target_word<A: Mark>(
         (gathered out.new)) }
 {
     match target {
-        None => called(alloc, here, path, at, name, args, out),
+        None => call_word(alloc, here, path, at, name, args, out),
         Some(part) => call_on(alloc, here, path, at, part, name, args, out),
     }
 }
@@ -448,7 +448,7 @@ fn create<A: Mark>(
     ensures { IfOk result (λ _. gives.CreateGathers A.span_from here.now at (type_of ty.now)
         (exprs_of args.now) (gathered out.old) (gathered out.new)) }
 {
-    created(alloc, here, path, at, ty, args, out)?;
+    creation_words(alloc, here, path, at, ty, args, out)?;
     exprs(alloc, here, path, 1, at, args, out)
 }
 

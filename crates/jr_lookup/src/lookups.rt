@@ -12,7 +12,7 @@ use crate::calls::{call_at, ctor_at, method_at};
 use crate::fields::{field_at, field_in_at, member_type_at};
 use crate::locals::last_local;
 use crate::scopes::Scope;
-use crate::shown::shown;
+use crate::shown::found_by;
 use crate::type_names::type_at;
 use jr_ast::Name;
 use jr_table::{ClassKey, Decl, Found, LocalKey, Table, Ty, lookups_are_exact};
@@ -47,7 +47,7 @@ pub fn variable(
     let field = field_at(table, place, scope.is_static, name.as_str());
     match last_local(scope.locals.as_slice(), name) {
         Some(key) => local_found(alloc, key),
-        None => shown(alloc, table, field),
+        None => found_by(alloc, table, field),
     }
 }
 
@@ -68,7 +68,7 @@ pub fn type_named(
     lookups_are_exact();
     let place = table.number_or_none(&scope.class);
     let answer = type_at(table, place, name);
-    shown(alloc, table, answer)
+    found_by(alloc, table, answer)
 }
 
 /// The member type of a class, declared or inherited (JLS 6.5.5.2). `NotAccessible` where it is
@@ -89,7 +89,7 @@ pub fn member_type(
     let place = table.number_or_none(&scope.class);
     let class = table.number_or_none(class);
     let answer = member_type_at(table, place, class, name.as_str());
-    shown(alloc, table, answer)
+    found_by(alloc, table, answer)
 }
 
 /// The member field of a class, declared or inherited (JLS 15.11.1). `NotAccessible` where it is
@@ -111,7 +111,7 @@ pub fn field_of(
     let place = table.number_or_none(&scope.class);
     let class = table.number_or_none(class);
     let answer = field_in_at(table, place, class, name.as_str());
-    shown(alloc, table, answer)
+    found_by(alloc, table, answer)
 }
 
 /// What a call without a target finds, for arguments of these types (JLS 15.12.1, 15.12.2).
@@ -146,7 +146,7 @@ pub fn method_named(
         name.as_str(),
         kinds.as_slice(),
     )?;
-    shown(alloc, table, answer)
+    found_by(alloc, table, answer)
 }
 
 /// What a call on a class, or on an expression of its type, finds, for arguments of these types
@@ -170,7 +170,7 @@ pub fn method_of(
     let class = table.number_or_none(class);
     let kinds = table.kinds(alloc, args)?;
     let answer = method_at(alloc, table, place, class, name.as_str(), kinds.as_slice())?;
-    shown(alloc, table, answer)
+    found_by(alloc, table, answer)
 }
 
 /// The constructor that a creation of the class, or a `super(..)` call on it, finds, for arguments
@@ -192,5 +192,5 @@ pub fn ctor_of(
     let class = table.number_or_none(class);
     let kinds = table.kinds(alloc, args)?;
     let answer = ctor_at(alloc, table, place, class, kinds.as_slice())?;
-    shown(alloc, table, answer)
+    found_by(alloc, table, answer)
 }

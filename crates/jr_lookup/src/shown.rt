@@ -91,7 +91,7 @@ fn many(alloc: Global, table: &Table, first: u32, second: u32) -> Result<Found, 
 
 /// The answer, with the declarations of its rows.
 #[tactic(auto, unfolding(jr_table::specs::Lookup::shown))]
-pub(crate) fn shown(alloc: Global, table: &Table, answer: Answer) -> Result<Found, AllocError>
+pub(crate) fn found_by(alloc: Global, table: &Table, answer: Answer) -> Result<Found, AllocError>
     ensures { IfOk result (λ f. found_of f ≡ pure.shown table.now answer) }
 {
     match answer {

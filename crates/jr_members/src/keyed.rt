@@ -131,7 +131,7 @@ fn push_keyed<'a, A>(
 }
 
 /// The parts as members, of the rows from this one on.
-fn keyed<'a, A: Mark>(
+fn with_keys<'a, A: Mark>(
     alloc: Global,
     table: &Table,
     first: usize,
@@ -171,5 +171,5 @@ pub fn written_members<'a, A: Mark>(
         (begins_by A.span_from) table.now (map unit_of units.now)) }
 {
     let parts = program_parts(alloc, units)?;
-    keyed(alloc, table, PRELUDE, parts)
+    with_keys(alloc, table, PRELUDE, parts)
 }

@@ -229,11 +229,11 @@ pub(crate) fn create(
     let class = class_in(written);
     let answer = ctor_in(alloc, table, place.class, class, args)?;
     put_method(table, place, begin, answer, log)?;
-    let kind = created(is_one(table, answer), class);
+    let kind = created_kind(is_one(table, answer), class);
     Ok(plain(begin, kind, false))
 }
 
-fn created(is_one: bool, class: Option<u32>) -> Option<Kind>
+fn created_kind(is_one: bool, class: Option<u32>) -> Option<Kind>
     ensures { result ≡ (if is_one then class_kind class else None) }
 {
     if is_one { class_kind(class) } else { None }

@@ -76,7 +76,7 @@ pub fn suits(table: &Table, from: Option<Kind>, to: Option<Kind>) -> bool
 }
 
 /// Two classes or nulls, either of which may be assigned to the other.
-fn related(table: &Table, left: Kind, right: Kind) -> bool
+fn are_related(table: &Table, left: Kind, right: Kind) -> bool
     ensures { result ≡ pure.comparable (entries_of table.now) (Some left) (Some right) }
 {
     let up = table.is_assignable_at(left, right);
@@ -94,7 +94,7 @@ pub(crate) fn comparable(table: &Table, left: Option<Kind>, right: Option<Kind>)
     let Some(right) = right else {
         return false;
     };
-    related(table, left, right)
+    are_related(table, left, right)
 }
 
 pub(crate) fn are_int(left: Option<Kind>, right: Option<Kind>) -> bool

@@ -29,6 +29,6 @@ pub use meanings::{Meaning, Role};
 pub use notes::{is_nothing, is_one, one_row, put_raw, put_unless, put_when};
 pub use places::Place;
 pub use rows::{class_found, decl_at, row_at, type_in};
-pub use type_names::written;
-pub use typing::{joined, put_leaf};
+pub use type_names::written_type;
+pub use typing::{more_parts, put_leaf};
 pub use walk::{walk_args, walk_expr};

@@ -98,7 +98,7 @@ pub(crate) fn class_kind(class: Option<u32>) -> Option<Kind>
 }
 
 /// A class's name: the class.
-fn named<A: Mark>(
+fn class_name<A: Mark>(
     table: &Table,
     place: &Place<'_>,
     at: u32,
@@ -132,7 +132,7 @@ fn named<A: Mark>(
 
 /// The type that is written; notes what its names find.
 #[tactic(auto, unfolding(crate::specs::Fits::FitsType))]
-pub fn written<A: Mark>(
+pub fn written_type<A: Mark>(
     table: &Table,
     place: &Place<'_>,
     base: u32,
@@ -153,7 +153,7 @@ pub fn written<A: Mark>(
         TypeKind::Boolean => Ok(Some(Kind::Boolean)),
         TypeKind::Named(outer, name) => {
             let at = of.mark.span(base).from;
-            let class = named(table, place, at, outer, name, log)?;
+            let class = class_name(table, place, at, outer, name, log)?;
             Ok(class_kind(class))
         }
     }

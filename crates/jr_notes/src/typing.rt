@@ -76,7 +76,7 @@ fn type_of_kind(alloc: Global, table: &Table, kind: Option<Kind>) -> Result<Opti
 }
 
 /// So many parts more. More parts than numbers don't fit any memory.
-pub fn joined(first: usize, more: usize) -> Result<usize, AllocError>
+pub fn more_parts(first: usize, more: usize) -> Result<usize, AllocError>
     ensures { IfOk result (λ n. n ≡ first + more) }
 {
     match first.checked_add(more) {
@@ -112,9 +112,9 @@ fn part_count<A>(of: &Expr<A>) -> Result<usize, AllocError>
         ExprKind::Simple(_) => Ok(1),
         ExprKind::Field(_, _) => Ok(2),
         ExprKind::SuperField(_) => Ok(1),
-        ExprKind::Call(on, _, args) => joined(first_parts(on), args.len()),
-        ExprKind::SuperCall(_, args) => joined(1, args.len()),
-        ExprKind::New(_, args) => joined(1, args.len()),
+        ExprKind::Call(on, _, args) => more_parts(first_parts(on), args.len()),
+        ExprKind::SuperCall(_, args) => more_parts(1, args.len()),
+        ExprKind::New(_, args) => more_parts(1, args.len()),
         ExprKind::Paren(_) => Ok(1),
         ExprKind::Cast(_, _) => Ok(2),
         ExprKind::Unary(_, _) => Ok(1),

@@ -11,7 +11,7 @@ use crate::beginnings::{Walked, count, forget_here, no_path, plain_here, plus};
 use crate::words::{is_static, member_word};
 use jr_ast::{Expr, Ident, Modifier, TypeRef};
 use jr_changes::maybe;
-use jr_gather::written;
+use jr_gather::written_type;
 use jr_renaming::Output;
 use jr_text::Span;
 use std::alloc::{AllocError, Global};
@@ -30,7 +30,7 @@ pub(crate) fn declared_type(
         (plain (key_of of.now) false) at (type_of ty.now) (gathered out.old) (gathered out.new)) }
 {
     let here = plain_here(alloc, of, false)?;
-    let done = written(alloc, &here, at, ty, out);
+    let done = written_type(alloc, &here, at, ty, out);
     forget_here(here);
     done
 }

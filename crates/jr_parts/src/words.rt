@@ -14,7 +14,7 @@ ghost use Rattle.jr_parts.specs.Gathered.{WordGathers};
 use crate::beginnings::Walked;
 use jr_ast::{Ident, ModWord, Modifier};
 use jr_renaming::{Output, put_alone};
-use jr_respell::declared;
+use jr_respell::declaration_choice;
 use jr_table::{ClassKey, Decl, LocalKey, MemberKey};
 use jr_text::{Mark, Span};
 use std::alloc::{AllocError, Global};
@@ -52,7 +52,7 @@ fn declared_word(
     ensures { IfOk result (λ _. WordGathers (rows_of of.now) (naming_of of.now) (decl_of decl.now)
         (word_of name.now) (gathered out.old) (gathered out.new)) }
 {
-    let choice = declared(alloc, of.programs.name, decl, &name.name)?;
+    let choice = declaration_choice(alloc, of.programs.name, decl, &name.name)?;
     put_alone(alloc, name.mark, choice, out)
 }
 

@@ -99,7 +99,7 @@ pub(crate) fn at_most(level: u32, on: Stack, frame: Frame) -> Stepped
     ensures { IsNext result (machine.at_most level (stack on)
         (machine.want (frame_view frame ∷ stack on))) }
 {
-    if level < on.needed() {
+    if level < on.least_level() {
         drop(frame);
         return Ok(None);
     }

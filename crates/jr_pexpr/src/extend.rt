@@ -137,7 +137,7 @@ fn cast(alloc: Global, mut on: Stack, frame: Option<Operand>, at: Span, piece: P
     let Some(frame) = frame else {
         return Ok(None);
     };
-    if UNSIGNED_LEVEL < on.needed() {
+    if UNSIGNED_LEVEL < on.least_level() {
         drop(frame);
         return Ok(None);
     }
@@ -242,7 +242,7 @@ fn bump(alloc: Global, e: Box<Expr<Span>>, at: Span, way: Way) -> Made<Box<Expr<
 fn bump_behind(alloc: Global, on: Stack, e: Box<Expr<Span>>, at: Span, way: Way) -> Stepped
     ensures { IsNext result (machine.bumped join (stack on) (exp_in e) at (way_view way)) }
 {
-    if !is_target(&e) | (UNSIGNED_LEVEL < on.needed()) {
+    if !is_target(&e) | (UNSIGNED_LEVEL < on.least_level()) {
         return Ok(None);
     }
     have(on, bump(alloc, e, at, way))

@@ -99,7 +99,7 @@ impl Stack {
     }
 
     /// The least level of what may stand there.
-    pub(crate) fn needed(&self) -> u32
+    pub(crate) fn least_level(&self) -> u32
         ensures { result ≡ machine.needed (stack self.now) }
     {
         match self.frames.last() {

@@ -13,7 +13,7 @@ ghost use Rattle.jr_pstmt.specs.TypeStateView.{type_state};
 use crate::cues::{Cue, Primitive};
 use crate::ends::onto;
 use crate::frames::{Block, Frame, Head};
-use crate::lists::{Listed, Mode, done, ready, to};
+use crate::lists::{Listed, Mode, ready, to, with_statement};
 use crate::places::Place;
 use crate::statements::{block, empty, sync};
 use crate::type_state::{TypeState, primitive_type};
@@ -34,8 +34,8 @@ fn close_block(alloc: Global, place: Place, of: Block, at: Span) -> Listed
         (machine.list_closed join (block_view of ∷ on place) (all place) at) }
 {
     match of {
-        Block::Plain(start, body) => done(place, block(alloc, start, at, body)),
-        Block::Sync(start, lock, body) => done(place, sync(alloc, start, at, lock, body)),
+        Block::Plain(start, body) => with_statement(place, block(alloc, start, at, body)),
+        Block::Sync(start, lock, body) => with_statement(place, sync(alloc, start, at, lock, body)),
     }
 }
 
@@ -101,7 +101,7 @@ pub(crate) fn begin(alloc: Global, place: Place, at: Span, token: Token<'_>, cue
         (token_view token.entry) (cue_view cue.entry)) }
 {
     match cue {
-        Cue::Semicolon => done(place, empty(alloc, at)),
+        Cue::Semicolon => with_statement(place, empty(alloc, at)),
         Cue::OpenBrace => open_block(alloc, place, at),
         Cue::CloseBrace => close_list(alloc, place, at),
         Cue::If => to(place, Mode::Headed(at, Head::If)),

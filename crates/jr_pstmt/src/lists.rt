@@ -66,7 +66,7 @@ pub(crate) fn ready(made: Made<Place>) -> Listed
 }
 
 /// The statement that was made stands there.
-pub(crate) fn done(place: Place, made: Made<Box<Stmt<Span>>>) -> Listed
+pub(crate) fn with_statement(place: Place, made: Made<Box<Stmt<Span>>>) -> Listed
     ensures { IfOk result (λ next. IsOkAnd made (λ s.
         option_map list_state next ≡ Some (machine.done (on place) (all place) (stmt_in s)))) }
 {

@@ -18,7 +18,7 @@ ghost use Rattle.jr_pstmt.specs.TypeMachine as types;
 ghost use Rattle.jr_pstmt.specs.TypeStateView.{type_state};
 
 use crate::cues::{Cue, cue_of};
-use crate::lists::{Listed, Mode, done, to};
+use crate::lists::{Listed, Mode, to, with_statement};
 use crate::made::Made;
 use crate::places::Place;
 use crate::statements::eval;
@@ -51,7 +51,7 @@ fn end_eval(alloc: Global, place: Place, state: State, at: Span) -> Listed
         return Ok(None);
     }
     match state.finish(alloc)? {
-        Some(e) => done(place, eval(alloc, at, e)),
+        Some(e) => with_statement(place, eval(alloc, at, e)),
         None => Ok(None),
     }
 }
@@ -117,7 +117,7 @@ fn in_type(place: Place, start: Span, is_final: bool, next: Made<Option<TypeStat
 }
 
 /// The word of the local.
-fn named(
+fn local_name(
     alloc: Global,
     place: Place,
     start: Span,
@@ -147,7 +147,7 @@ fn behind_type(
         (types.have (type_of ty)) at (cue_view cue.entry)) }
 {
     match cue {
-        Cue::Word(text) => named(alloc, place, start, is_final, ty, at, text),
+        Cue::Word(text) => local_name(alloc, place, start, is_final, ty, at, text),
         Cue::Dot => in_type(place, start, is_final, Ok(behind_outer(ty))),
         _ => {
             drop(ty);

@@ -19,7 +19,7 @@ ghost use Rattle.jr_pstmt.specs.StatementMachine as machine;
 use crate::cues::{Cue, cue_of};
 use crate::ends::onto;
 use crate::frames::{Block, Branch, Frame, Head, Slot};
-use crate::lists::{Listed, Mode, done, in_expr, ready, to};
+use crate::lists::{Listed, Mode, in_expr, ready, to, with_statement};
 use crate::places::Place;
 use crate::statements::{local, return_nothing, return_value};
 use jr_ast::{Expr, Ident, TypeRef};
@@ -126,7 +126,7 @@ pub(crate) fn behind_return(
         (token_view token.entry) (cue_view cue.entry)) }
 {
     match cue {
-        Cue::Semicolon => done(place, return_nothing(alloc, start, at)),
+        Cue::Semicolon => with_statement(place, return_nothing(alloc, start, at)),
         _ => begin_value(alloc, place, start, at, token),
     }
 }
@@ -150,9 +150,9 @@ fn fill(alloc: Global, place: Place, slot: Slot, at: Span, e: Box<Expr<Span>>) -
 {
     match slot {
         Slot::Local(start, is_final, ty, name) => {
-            done(place, local(alloc, start, at, is_final, ty, name, e))
+            with_statement(place, local(alloc, start, at, is_final, ty, name, e))
         }
-        Slot::Return(start) => done(place, return_value(alloc, start, at, e)),
+        Slot::Return(start) => with_statement(place, return_value(alloc, start, at, e)),
         Slot::Head(start, head) => behind_head(place, start, head, e),
     }
 }

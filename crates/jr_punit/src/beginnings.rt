@@ -60,7 +60,7 @@ pub(crate) fn from_modified(
 }
 
 /// The name of a field or method; no result is `void`.
-fn named(
+fn member_name(
     alloc: Global,
     lead: Lead,
     result_type: Option<TypeRef<Span>>,
@@ -171,7 +171,7 @@ fn word_behind(
         TypeState::Want(primitive) => {
             type_goes_on(alloc, lead, TypeState::Want(primitive), at, cue)
         }
-        TypeState::Have(ty) => named(alloc, lead, Some(ty), at, text),
+        TypeState::Have(ty) => member_name(alloc, lead, Some(ty), at, text),
         TypeState::Dotted(outer) => type_goes_on(alloc, lead, TypeState::Dotted(outer), at, cue),
     }
 }
@@ -200,7 +200,7 @@ pub(crate) fn from_voided(alloc: Global, lead: Lead, at: Span, cue: Cue<'_>) -> 
     ensures { IsNextOwn result (machine.from_voided (lead_view lead) at (cue_view cue.entry)) }
 {
     match cue {
-        Cue::Word(text) => named(alloc, lead, None, at, text),
+        Cue::Word(text) => member_name(alloc, lead, None, at, text),
         _ => Ok(None),
     }
 }

@@ -15,7 +15,7 @@ ghost use Rattle.jr_pstmt.specs.StatementMachine as statements;
 ghost use Rattle.jr_pstmt.specs.OwnMachine as machine;
 ghost use Rattle.jr_punit.specs.OwnView.{own_state, IsNextOwn};
 
-use crate::fields::done;
+use crate::fields::whole_member;
 use crate::heads::{Body, Constructor, ConstructorHead, Head, MemberHead};
 use crate::leads::Lead;
 use crate::own::{OwnState, OwnStepped};
@@ -156,7 +156,7 @@ fn constructor(
 }
 
 /// The method or constructor, whose closing brace is at `at`.
-fn built(body: Body, at: Span, stmts: Vec<Stmt<Span>>) -> Member<Span>
+fn member_of_body(body: Body, at: Span, stmts: Vec<Stmt<Span>>) -> Member<Span>
     ensures { member_of result ≡ machine.built join (body_view body) at (stmts_of stmts.items) }
 {
     match body {
@@ -172,7 +172,7 @@ fn end_body(alloc: Global, body: Box<Body>, items: Box<ListState>, at: Span) -> 
         (statements.whole join (list_state items.value))) }
 {
     match Box::into_inner(items).finish(alloc)? {
-        Some(stmts) => done(alloc, built(Box::into_inner(body), at, stmts)),
+        Some(stmts) => whole_member(alloc, member_of_body(Box::into_inner(body), at, stmts)),
         None => Ok(None),
     }
 }

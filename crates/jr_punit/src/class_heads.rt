@@ -87,7 +87,7 @@ fn from_class(alloc: Global, lead: Lead, at: Span, cue: Cue<'_>) -> Begun
 }
 
 /// Behind the `{` of the class.
-fn opened(alloc: Global, lead: Lead, name: Ident<Span>, parent: Option<TypeRef<Span>>) -> Begun
+fn open_class(alloc: Global, lead: Lead, name: Ident<Span>, parent: Option<TypeRef<Span>>) -> Begun
     ensures inner { IsBegun (Own.start {A = Span}) result (Some (machine.in_members
         (machine.head_of (lead_view lead) (word_of name) (option_map type_of parent))
         tree.end Own.start)) }
@@ -111,7 +111,7 @@ fn from_named(alloc: Global, lead: Lead, name: Ident<Span>, cue: Cue<'_>) -> Beg
             name,
             TypeState::Want(false),
         )))),
-        Cue::OpenBrace => opened(alloc, lead, name, None),
+        Cue::OpenBrace => open_class(alloc, lead, name, None),
         _ => Ok(None),
     }
 }
@@ -131,7 +131,7 @@ fn behind_parent(
         (option_map type_of parent)) }
 {
     match parent {
-        Some(ty) => opened(alloc, lead, name, Some(ty)),
+        Some(ty) => open_class(alloc, lead, name, Some(ty)),
         None => Ok(None),
     }
 }

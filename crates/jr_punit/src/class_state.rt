@@ -37,7 +37,7 @@ pub(crate) enum ClassState {
 type ClassStepped = Made<Option<ClassState>>;
 
 /// Behind the first tokens of the class.
-fn begun(alloc: Global, next: Option<BegunClass>) -> ClassStepped
+fn class_behind(alloc: Global, next: Option<BegunClass>) -> ClassStepped
     ensures { IsNextClass result (option_map (begun_class Members.start) next) }
 {
     match next {
@@ -118,7 +118,7 @@ fn from_start(alloc: Global, start: &mut ClassStart, at: Span, token: Token<'_>)
 {
     let start = mem::replace(start, ClassStart::Modified(Vec::new(alloc)));
     let next = start.step(alloc, at, token)?;
-    begun(alloc, next)
+    class_behind(alloc, next)
 }
 
 /// Whether nothing has been read.

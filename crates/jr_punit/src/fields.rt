@@ -23,7 +23,7 @@ use jr_text::Span;
 use std::alloc::Global;
 
 /// The member has been read.
-pub(crate) fn done(alloc: Global, member: Member<Span>) -> OwnStepped
+pub(crate) fn whole_member(alloc: Global, member: Member<Span>) -> OwnStepped
     ensures { IsNextOwn result (Some (machine.done (member_of member))) }
 {
     let member = Box::new(alloc, member)?;
@@ -48,7 +48,7 @@ fn end_field(
         from: start.from,
         to: at.to,
     };
-    done(alloc, Member::field(mark, modifiers, ty, name, init))
+    whole_member(alloc, Member::field(mark, modifiers, ty, name, init))
 }
 
 /// A semicolon behind the name: no field has the type `void`.

@@ -66,7 +66,7 @@ pub(crate) fn whole_class(
 }
 
 /// Behind the first tokens of the class.
-fn begun(alloc: Global, next: Option<BegunClass>) -> InnerStepped
+fn inner_behind(alloc: Global, next: Option<BegunClass>) -> InnerStepped
     ensures { IsNextInner result (option_map (begun_class Own.start) next) }
 {
     match next {
@@ -146,7 +146,7 @@ fn from_start(alloc: Global, start: &mut ClassStart, at: Span, token: Token<'_>)
 {
     let start = mem::replace(start, ClassStart::Modified(Vec::new(alloc)));
     let next = start.step(alloc, at, token)?;
-    begun(alloc, next)
+    inner_behind(alloc, next)
 }
 
 impl InnerClass {

@@ -41,7 +41,11 @@ fn words_of(rt: &impl Abort, alloc: Global, units: &[Unit<Span>]) -> Vec<u32>
 }
 
 /// The table of the program whose files have these texts, which `@` parts, or its first fault.
-pub(crate) fn built(rt: &impl Abort, alloc: Global, texts: &str) -> Result<Table, BuildFault> {
+pub(crate) fn build_texts(
+    rt: &impl Abort,
+    alloc: Global,
+    texts: &str,
+) -> Result<Table, BuildFault> {
     let units = units_in(rt, alloc, texts);
     let words = words_of(rt, alloc, &units);
     assert!(rt; units.len() < 1000);
@@ -50,5 +54,5 @@ pub(crate) fn built(rt: &impl Abort, alloc: Global, texts: &str) -> Result<Table
 
 /// The table of a program without faults.
 pub(crate) fn table_of(rt: &impl Abort, alloc: Global, texts: &str) -> Table {
-    built(rt, alloc, texts).expect(rt, "a program without faults")
+    build_texts(rt, alloc, texts).expect(rt, "a program without faults")
 }

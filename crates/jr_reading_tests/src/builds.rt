@@ -1,5 +1,5 @@
 //! Superclasses, and what types mean, in small programs.
-use crate::building::{built, table_of};
+use crate::building::{build_texts, table_of};
 use jr_names::{class_text, field_text};
 use jr_table::{ClassKey, Decl, Row, Table, Ty};
 use std::alloc::Global;
@@ -109,7 +109,7 @@ fn fields(rt: &impl Abort, alloc: Global, table: &Table) -> String {
 
 /// Each field of a program with its type, or the first fault.
 pub(crate) fn field_types(rt: &impl Abort, alloc: Global, texts: &str) -> String {
-    match built(rt, alloc, texts) {
+    match build_texts(rt, alloc, texts) {
         Ok(table) => fields(rt, alloc, &table),
         Err(fault) => format!(in alloc; "{fault}").expect(rt, "memory"),
     }

@@ -1,5 +1,5 @@
 //! Trees as deep as any text gives, on the stack that a program has.
-use crate::paths::{copied, stmt_mark, write_stmt};
+use crate::paths::{copy_unit, stmt_mark, write_stmt};
 use crate::trees::{Numbered, body_of, boxed_stmt, unit_of};
 use jr_ast::{Expr, Path, Stmt};
 use std::alloc::Global;
@@ -74,7 +74,7 @@ fn assert_fits<A: Numbered>(rt: &impl Abort, alloc: Global, turn: &str) {
     let path = path_down(rt, alloc, turn.as_bytes());
     let stmt: Box<Stmt<A>> = deep(rt, alloc, turn.as_bytes());
     let unit = unit_of(rt, alloc, body_of(rt, alloc, stmt));
-    let mut copy = copied(rt, alloc, &unit);
+    let mut copy = copy_unit(rt, alloc, &unit);
     let copied = stmt_mark(copy.stmt_at(&path));
     let is_lent = write_stmt(&mut copy, &path, 90);
     let changed = stmt_mark(copy.stmt_at(&path));

@@ -25,7 +25,7 @@ impl Drop for Counted<'_> {
 }
 
 // `while (true) m(x + 1); if (true) m(x + 1); if (true) m(x + 1); else m(x + 1);`
-fn nested<A: Numbered>(rt: &impl Abort, alloc: Global) -> Vec<Stmt<A>> {
+fn nest<A: Numbered>(rt: &impl Abort, alloc: Global) -> Vec<Stmt<A>> {
     let mut all = Vec::new(alloc);
     put_stmt(rt, &mut all, around(rt, alloc, b'w', call(rt, alloc)));
     put_stmt(rt, &mut all, around(rt, alloc, b't', call(rt, alloc)));
@@ -53,9 +53,9 @@ fn each_form<A: Numbered>(rt: &impl Abort, alloc: Global) -> Vec<Stmt<A>> {
     let returned = Stmt::return_value(A::of(0), Some(value));
     put_stmt(rt, &mut all, boxed_stmt(rt, alloc, returned));
     put_stmt(rt, &mut all, boxed_stmt(rt, alloc, Stmt::empty(A::of(0))));
-    let block = Stmt::block(A::of(0), nested(rt, alloc));
+    let block = Stmt::block(A::of(0), nest(rt, alloc));
     put_stmt(rt, &mut all, boxed_stmt(rt, alloc, block));
-    let sync = Stmt::sync(A::of(0), Expr::this(A::of(0)), nested(rt, alloc));
+    let sync = Stmt::sync(A::of(0), Expr::this(A::of(0)), nest(rt, alloc));
     put_stmt(rt, &mut all, boxed_stmt(rt, alloc, sync));
     all
 }
@@ -65,7 +65,7 @@ fn each_form<A: Numbered>(rt: &impl Abort, alloc: Global) -> Vec<Stmt<A>> {
 const MARKS: usize = 5 + 4 + 7 + 5 + 1 + 1 + 2 + 2 * (9 + 9 + 16);
 
 // How many marks live before and after a copy with such marks is dropped.
-fn freed<A: Numbered, B: Drop, F: Fn(&A) -> B + Drop>(
+fn count_freed<A: Numbered, B: Drop, F: Fn(&A) -> B + Drop>(
     rt: &impl Abort,
     alloc: Global,
     f: F,
@@ -84,6 +84,6 @@ fn freed<A: Numbered, B: Drop, F: Fn(&A) -> B + Drop>(
 #[test]
 fn a_drop_frees_each_mark(rt: HostRuntime) {
     let live = Cell::new(0usize);
-    let counts = freed::<u32, _, _>(&rt, rt.alloc(), |_| Counted::new(&live), &live);
+    let counts = count_freed::<u32, _, _>(&rt, rt.alloc(), |_| Counted::new(&live), &live);
     assert!(rt; counts == (MARKS, 0));
 }

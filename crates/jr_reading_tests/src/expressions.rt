@@ -1,8 +1,8 @@
 //! What texts are read as: trees, places and stops by the grammar, and by javac where it takes the
 //! whole text.
 use crate::reading::{items_of, put_times, text_of};
-use crate::rows::{cut, number};
-use crate::shown::shown;
+use crate::rows::{cut_at, number};
+use crate::shown::show_expr;
 use jr_ast::Expr;
 use jr_pexpr::{ParseFault, parse_expr, parse_sexpr};
 use jr_text::Span;
@@ -123,7 +123,7 @@ pub(crate) const ROWS: &'static str = "
 ";
 
 /// The tree, the item behind it and the stop; or the byte of the fault.
-fn told(
+fn tell_tree(
     rt: &impl Abort,
     alloc: Global,
     answer: Result<(Expr<Span>, u32, u32), ParseFault>,
@@ -131,7 +131,7 @@ fn told(
 ) -> String {
     match answer {
         Ok((tree, behind, stop)) => {
-            let tree = shown(rt, alloc, &tree, places);
+            let tree = show_expr(rt, alloc, &tree, places);
             format!(in alloc; "{tree} {behind} {stop}").expect(rt, "memory")
         }
         Err(ParseFault::Syntax { at }) => format!(in alloc; "at {at}").expect(rt, "memory"),
@@ -141,21 +141,21 @@ fn told(
 
 /// What is read of a text from an item on.
 pub(crate) fn read_expression(rt: &impl Abort, alloc: Global, kind: &str, asked: &str) -> String {
-    let (from, source) = cut(asked, " ");
+    let (from, source) = cut_at(asked, " ");
     let from = number(rt, from);
     let text = text_of(rt, alloc, source);
     let items = items_of(rt, alloc, &text);
     assert!(rt; from as usize <= items.len());
     match kind {
-        "statement" => told(rt, alloc, parse_sexpr(alloc, &text, &items, from), false),
-        "expression" => told(rt, alloc, parse_expr(alloc, &text, &items, from), false),
-        _ => told(rt, alloc, parse_expr(alloc, &text, &items, from), true),
+        "statement" => tell_tree(rt, alloc, parse_sexpr(alloc, &text, &items, from), false),
+        "expression" => tell_tree(rt, alloc, parse_expr(alloc, &text, &items, from), false),
+        _ => tell_tree(rt, alloc, parse_expr(alloc, &text, &items, from), true),
     }
 }
 
 /// The item behind what is read of such a text, and the stop.
 pub(crate) fn read_whole(rt: &impl Abort, alloc: Global, asked: &str) -> String {
-    let (times, around) = cut(asked, " ");
+    let (times, around) = cut_at(asked, " ");
     let (before, behind) = around.split_once("_").expect(rt, "a place");
     let times = number(rt, times);
     let mut text = String::new(alloc);

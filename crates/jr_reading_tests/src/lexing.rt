@@ -1,7 +1,7 @@
 //! What texts are cut into, and what is told of texts that have no items, by the Java Language
 //! Specification and this profile.
-use crate::reading::{repeated, text_of};
-use crate::rows::{cut, number};
+use crate::reading::{repeat, text_of};
+use crate::rows::{cut_at, number};
 use jr_lex::{Item, LexFault, TooDeep, is_identifier, lex, measure};
 use std::alloc::Global;
 use std::process::Abort;
@@ -109,7 +109,7 @@ fn items_text(rt: &impl Abort, alloc: Global, items: &[Item]) -> String {
 }
 
 /// The items of a text, or its first fault.
-pub(crate) fn lexed(rt: &impl Abort, alloc: Global, source: &str) -> String {
+pub(crate) fn lex_text(rt: &impl Abort, alloc: Global, source: &str) -> String {
     let text = text_of(rt, alloc, source);
     match lex(alloc, &text) {
         Ok(items) => items_text(rt, alloc, &items),
@@ -118,15 +118,15 @@ pub(crate) fn lexed(rt: &impl Abort, alloc: Global, source: &str) -> String {
 }
 
 /// Whether a text is an identifier.
-pub(crate) fn identified(rt: &impl Abort, alloc: Global, source: &str) -> String {
+pub(crate) fn identify(rt: &impl Abort, alloc: Global, source: &str) -> String {
     let is_identifier = is_identifier(source);
     format!(in alloc; "{is_identifier}").expect(rt, "memory")
 }
 
 /// The byte at which so many copies of a piece are too deep.
 pub(crate) fn too_deep(rt: &impl Abort, alloc: Global, asked: &str) -> String {
-    let (times, piece) = cut(asked, " ");
-    let text = repeated(rt, alloc, piece, number(rt, times), "");
+    let (times, piece) = cut_at(asked, " ");
+    let text = repeat(rt, alloc, piece, number(rt, times), "");
     let items = lex(alloc, &text).expect(rt, "items");
     let at = match measure(&items) {
         Ok(()) => None,

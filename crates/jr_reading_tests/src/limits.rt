@@ -1,5 +1,5 @@
 //! Texts of each size up to the limit, and names of each size.
-use crate::reading::{put_times, repeated};
+use crate::reading::{put_times, repeat};
 use jr_ast::Name;
 use jr_lex::{Item, ItemKind, LexFault, Symbol, TokenKind, lex};
 use jr_text::Span;
@@ -9,7 +9,7 @@ use std::process::Abort;
 /// Whether so many pieces are cut to their end, into one item or into as many, of which this kind
 /// is the last one's.
 fn is_cut(rt: &impl Abort, alloc: Global, piece: &str, kind: ItemKind, times: u32) -> bool {
-    let text = repeated(rt, alloc, piece, times, "");
+    let text = repeat(rt, alloc, piece, times, "");
     let items = lex(alloc, &text).expect(rt, "items");
     let is_one = piece != ";";
     let len = if is_one { 1 } else { times as usize };
@@ -21,7 +21,7 @@ fn is_cut(rt: &impl Abort, alloc: Global, piece: &str, kind: ItemKind, times: u3
 
 /// Whether the fault behind so many pieces of a byte is found.
 fn is_found(rt: &impl Abort, alloc: Global, piece: &str, times: u32) -> bool {
-    let text = repeated(rt, alloc, piece, times, "#");
+    let text = repeat(rt, alloc, piece, times, "#");
     lex(alloc, &text).err() == Some(LexFault::BadByte { at: times })
 }
 

@@ -4,7 +4,7 @@ use jr_ast::Name;
 use jr_locals::{Held, HeldType, Locals};
 use jr_table::Kind;
 
-fn held<'a>(name: &'a Name, number: u32) -> Held<'a> {
+fn local<'a>(name: &'a Name, number: u32) -> Held<'a> {
     Held {
         name,
         number,
@@ -20,9 +20,9 @@ fn the_one_before_is_found_again(rt: HostRuntime) {
     let a = name_of(&rt, rt.alloc(), "a");
     let b = name_of(&rt, rt.alloc(), "b");
     let mut locals = Locals::new(rt.alloc());
-    locals.push(held(&a, 0)).expect(&rt, "memory");
-    locals.push(held(&b, 1)).expect(&rt, "memory");
-    locals.push(held(&a, 2)).expect(&rt, "memory");
+    locals.push(local(&a, 0)).expect(&rt, "memory");
+    locals.push(local(&b, 1)).expect(&rt, "memory");
+    locals.push(local(&a, 2)).expect(&rt, "memory");
     assert!(rt; locals.number_named(&a) == Some(2));
     locals.truncate(2).expect(&rt, "memory");
     assert!(rt; locals.number_named(&a) == Some(0));

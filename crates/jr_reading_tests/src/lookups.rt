@@ -1,6 +1,6 @@
 //! What names find in one small program.
 use crate::keys::{class_key, name_of, tys};
-use crate::rows::cut;
+use crate::rows::cut_at;
 use crate::scopes::scope;
 use jr_ast::Name;
 use jr_lookup::{
@@ -109,7 +109,7 @@ pub(crate) const ROWS: &'static str = "
 ";
 
 /// A declaration behind a text.
-fn told(rt: &impl Abort, alloc: Global, front: &str, decl: &Decl) -> String {
+fn tell_decl(rt: &impl Abort, alloc: Global, front: &str, decl: &Decl) -> String {
     let decl = decl_text(alloc, decl).expect(rt, "memory");
     let decl = decl.as_str();
     format!(in alloc; "{front}{decl}").expect(rt, "memory")
@@ -117,15 +117,15 @@ fn told(rt: &impl Abort, alloc: Global, front: &str, decl: &Decl) -> String {
 
 fn found_text(rt: &impl Abort, alloc: Global, found: &Found) -> String {
     match found {
-        Found::One(decl) => told(rt, alloc, "", decl),
+        Found::One(decl) => tell_decl(rt, alloc, "", decl),
         Found::Nothing => String::from_str(alloc, "nothing").expect(rt, "memory"),
         Found::Many(first, second) => {
-            let first = told(rt, alloc, "many: ", first);
-            let second = told(rt, alloc, ", ", second);
+            let first = tell_decl(rt, alloc, "many: ", first);
+            let second = tell_decl(rt, alloc, ", ", second);
             format!(in alloc; "{first}{second}").expect(rt, "memory")
         }
-        Found::NotAccessible(decl) => told(rt, alloc, "not accessible: ", decl),
-        Found::FromStatic(decl) => told(rt, alloc, "from static: ", decl),
+        Found::NotAccessible(decl) => tell_decl(rt, alloc, "not accessible: ", decl),
+        Found::FromStatic(decl) => tell_decl(rt, alloc, "from static: ", decl),
     }
 }
 
@@ -151,12 +151,12 @@ fn lookup(
 }
 
 /// What is found at a place that has the locals i, number 0, and k and k again, numbers 1 and 2.
-pub(crate) fn found(rt: &impl Abort, alloc: Global, table: &Table, asked: &str) -> String {
-    let (call, rest) = cut(asked, " ");
-    let (place, rest) = cut(rest, " ");
-    let (context, rest) = cut(rest, " ");
-    let (of, rest) = cut(rest, " ");
-    let (name, args) = cut(rest, " ");
+pub(crate) fn find(rt: &impl Abort, alloc: Global, table: &Table, asked: &str) -> String {
+    let (call, rest) = cut_at(asked, " ");
+    let (place, rest) = cut_at(rest, " ");
+    let (context, rest) = cut_at(rest, " ");
+    let (of, rest) = cut_at(rest, " ");
+    let (name, args) = cut_at(rest, " ");
     let scope = scope(rt, alloc, place, context == "static", "i k k");
     let of = class_key(rt, alloc, of);
     let name = name_of(rt, alloc, name);

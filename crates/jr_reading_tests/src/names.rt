@@ -1,6 +1,6 @@
 //! How declarations are written, and what is needed at a place.
 use crate::keys::{ctor_key, decl, method_key};
-use crate::rows::{assert_same, cut};
+use crate::rows::{assert_same, cut_at};
 use jr_names::{Need, decl_text};
 use jr_table::{Decl, LocalKey, MemberKey};
 use std::alloc::Global;
@@ -18,10 +18,10 @@ pub(crate) const ROWS: &'static str = "
 ";
 
 /// How a declaration is written.
-pub(crate) fn written(rt: &impl Abort, alloc: Global, asked: &str) -> String {
-    let (kind, rest) = cut(asked, " ");
-    let (class, rest) = cut(rest, " ");
-    let (name, params) = cut(rest, " ");
+pub(crate) fn write_name(rt: &impl Abort, alloc: Global, asked: &str) -> String {
+    let (kind, rest) = cut_at(asked, " ");
+    let (class, rest) = cut_at(rest, " ");
+    let (name, params) = cut_at(rest, " ");
     let decl = decl(rt, alloc, kind, class, name, params);
     let text = decl_text(alloc, &decl).expect(rt, "memory");
     String::from_str(alloc, text.as_str()).expect(rt, "memory")

@@ -1,5 +1,5 @@
 //! What paths lead to in trees and in their copies, and what is written through them.
-use crate::rows::{assert_same, cut, number};
+use crate::rows::{assert_same, cut_at, number};
 use crate::samples::{method, unit};
 use crate::trees::{Numbered, unit_of};
 use jr_ast::{Expr, Member, Node, Path, Stmt, Unit};
@@ -125,7 +125,7 @@ const PATHS: &'static str = "
 ";
 
 // The tree with other marks.
-pub(crate) fn copied<A: Numbered>(rt: &impl Abort, alloc: Global, unit: &Unit<A>) -> Unit<A> {
+pub(crate) fn copy_unit<A: Numbered>(rt: &impl Abort, alloc: Global, unit: &Unit<A>) -> Unit<A> {
     unit.with_marks(alloc, |mark| A::of(mark.number() ^ 64))
         .expect(rt, "memory")
 }
@@ -138,7 +138,7 @@ const MARKED: &'static str = "
 fn assert_paths<A: Numbered>(rt: &impl Abort, alloc: Global) {
     let unit: Unit<A> = unit(rt, alloc);
     assert_leads(rt, alloc, &unit, PATHS, 14);
-    let copy = copied(rt, alloc, &unit);
+    let copy = copy_unit(rt, alloc, &unit);
     assert_leads(rt, alloc, &copy, MARKED, 2);
 }
 
@@ -173,7 +173,7 @@ fn assert_long_row<A: Numbered>(rt: &impl Abort, alloc: Global) {
         body.push(Stmt::empty(A::of(7))).expect(rt, "memory");
     }
     let unit = unit_of(rt, alloc, body);
-    let copy = copied(rt, alloc, &unit);
+    let copy = copy_unit(rt, alloc, &unit);
     assert_leads(rt, alloc, &copy, LAST, 2);
 }
 
@@ -225,7 +225,7 @@ fn assert_lent<A: Numbered>(
     row: &str,
     expected: &str,
 ) {
-    let (mark, steps) = cut(row, " ");
+    let (mark, steps) = cut_at(row, " ");
     let mark = number(rt, mark);
     let path = path_in(rt, alloc, steps);
     let expr = write_expr(unit, &path, mark);

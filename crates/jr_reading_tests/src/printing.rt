@@ -1,7 +1,7 @@
 //! Trees made by hand, and their texts: those that the rules of layout in docs/DEFINITIONS.md give.
 use crate::rows::assert_same;
 use crate::trees::{
-    Numbered, body_of, boxed, boxed_stmt, class_type, field, literal, member_type, param, plus,
+    Numbered, body_of, boxed_stmt, class_type, field, in_box, literal, member_type, param, plus,
     put_arg, put_member, simple, statics, unary, word,
 };
 use jr_ast::{BumpOp, Class, Expr, Member, Name, Stmt, TypeKind, TypeRef, UnOp};
@@ -12,7 +12,7 @@ use std::process::Abort;
 // `-(-a) + 1`
 fn sum<A: Numbered>(rt: &impl Abort, alloc: Global) -> Box<Expr<A>> {
     let inner = unary(rt, alloc, UnOp::Minus, simple(rt, alloc, 0, "a"));
-    let inner = boxed(rt, alloc, Expr::paren(A::of(0), inner));
+    let inner = in_box(rt, alloc, Expr::paren(A::of(0), inner));
     let left = unary(rt, alloc, UnOp::Minus, inner);
     plus(rt, alloc, 0, left, literal(rt, alloc, 0, 1))
 }
@@ -62,7 +62,7 @@ fn class<A: Numbered>(rt: &impl Abort, alloc: Global) -> Member<A> {
 // `- --a`
 fn minus_of_a_decrement<A: Numbered>(rt: &impl Abort, alloc: Global) -> Box<Expr<A>> {
     let decrement = Expr::bump(A::of(0), BumpOp::PreDec, simple(rt, alloc, 0, "a"));
-    unary(rt, alloc, UnOp::Minus, boxed(rt, alloc, decrement))
+    unary(rt, alloc, UnOp::Minus, in_box(rt, alloc, decrement))
 }
 
 // `new O.K(1, 2).f`
@@ -71,7 +71,7 @@ fn field_of_what_was_made<A: Numbered>(rt: &impl Abort, alloc: Global) -> Box<Ex
     put_arg(rt, &mut args, literal(rt, alloc, 0, 1));
     put_arg(rt, &mut args, literal(rt, alloc, 0, 2));
     let ty = member_type(rt, alloc, "K");
-    let made = boxed(rt, alloc, Expr::create(A::of(0), ty, args));
+    let made = in_box(rt, alloc, Expr::create(A::of(0), ty, args));
     field(rt, alloc, made, "f")
 }
 
@@ -79,13 +79,13 @@ fn field_of_what_was_made<A: Numbered>(rt: &impl Abort, alloc: Global) -> Box<Ex
 fn cast<A: Numbered>(rt: &impl Abort, alloc: Global) -> Box<Expr<A>> {
     let not = unary(rt, alloc, UnOp::Not, simple(rt, alloc, 0, "a"));
     let ty = class_type(rt, alloc, 0, "K");
-    boxed(rt, alloc, Expr::cast(A::of(0), ty, not))
+    in_box(rt, alloc, Expr::cast(A::of(0), ty, not))
 }
 
 // `"a\n"`
 fn string<A: Numbered>(rt: &impl Abort, alloc: Global) -> Box<Expr<A>> {
     let text = Name::new(alloc, "a\\n").expect(rt, "memory");
-    boxed(rt, alloc, Expr::string(A::of(0), text))
+    in_box(rt, alloc, Expr::string(A::of(0), text))
 }
 
 fn assert_expr<A: Numbered>(rt: &impl Abort, alloc: Global, expr: Box<Expr<A>>, expected: &str) {

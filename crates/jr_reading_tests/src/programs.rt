@@ -1,6 +1,6 @@
 //! The faults of programs' declarations, and their rows. The first fault is expected: of the
 //! lowest kind that occurs, at its first place in file and text order.
-use crate::building::built;
+use crate::building::build_texts;
 use std::alloc::Global;
 use std::process::Abort;
 
@@ -65,7 +65,7 @@ pub(crate) const ROWS: &'static str = "
 
 /// The first fault of a program, or how many rows it has.
 pub(crate) fn outcome(rt: &impl Abort, alloc: Global, texts: &str) -> String {
-    match built(rt, alloc, texts) {
+    match build_texts(rt, alloc, texts) {
         Ok(table) => format!(in alloc; "{} rows", table.rows().len()).expect(rt, "memory"),
         Err(fault) => format!(in alloc; "{fault}").expect(rt, "memory"),
     }

@@ -29,7 +29,7 @@ pub(crate) fn put_times(rt: &impl Abort, text: &mut String, piece: &str, times: 
 }
 
 /// So many copies of a piece, and what is behind them.
-pub(crate) fn repeated(
+pub(crate) fn repeat(
     rt: &impl Abort,
     alloc: Global,
     piece: &str,

@@ -8,7 +8,7 @@ use std::alloc::Global;
 use std::process::Abort;
 
 /// The changes, one behind the other: where each begins and ends, and its text.
-fn shown(rt: &impl Abort, alloc: Global, changes: &[Change]) -> String {
+fn show_changes(rt: &impl Abort, alloc: Global, changes: &[Change]) -> String {
     let mut text = String::new(alloc);
     for change in changes {
         let (from, to) = (change.span.from, change.span.to);
@@ -25,7 +25,7 @@ fn behind_a(rt: &impl Abort, alloc: Global, front: Front) -> String {
     let mut changes = Vec::new(alloc);
     put_before(alloc, &mut changes, operand, &to).expect(rt, "memory");
     put_behind(alloc, &mut changes, operand, word, &to).expect(rt, "memory");
-    shown(rt, alloc, &changes)
+    show_changes(rt, alloc, &changes)
 }
 
 #[test]
@@ -58,7 +58,7 @@ fn others(rt: &impl Abort, alloc: Global) -> String {
         front: Front::ByThis,
     };
     put_word(alloc, &mut changes, word, &on_this).expect(rt, "memory");
-    shown(rt, alloc, &changes)
+    show_changes(rt, alloc, &changes)
 }
 
 #[test]

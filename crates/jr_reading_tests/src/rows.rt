@@ -3,12 +3,12 @@
 use crate::building::table_of;
 use crate::builds::{self, field_types, superclasses};
 use crate::expressions::{self, read_expression, read_whole};
-use crate::lexing::{self, identified, lexed, too_deep};
-use crate::lookups::{self, found};
-use crate::names::{self, written};
+use crate::lexing::{self, identify, lex_text, too_deep};
+use crate::lookups::{self, find};
+use crate::names::{self, write_name};
 use crate::programs::{self, outcome};
-use crate::spellings::{self, spelled};
-use crate::tables::{self, told};
+use crate::spellings::{self, spell};
+use crate::tables::{self, tell_rows};
 use crate::units::{self, printed_twice, read_twice};
 use jr_table::Table;
 use std::alloc::Global;
@@ -20,7 +20,7 @@ pub(crate) fn assert_same(rt: &impl Abort, told: &str, expected: &str) {
 }
 
 /// What stands in front of the first of these marks, and what stands behind it.
-pub(crate) fn cut<'a>(text: &'a str, mark: &str) -> (&'a str, &'a str) {
+pub(crate) fn cut_at<'a>(text: &'a str, mark: &str) -> (&'a str, &'a str) {
     match text.split_once(mark) {
         None => (text, ""),
         Some(halves) => halves,
@@ -35,8 +35,8 @@ pub(crate) fn number(rt: &impl Abort, text: &str) -> u32 {
 /// The answer to a row about a text by itself.
 fn answer_of_text(rt: &impl Abort, alloc: Global, kind: &str, asked: &str) -> String {
     match kind {
-        "lex" => lexed(rt, alloc, asked),
-        "identifier" => identified(rt, alloc, asked),
+        "lex" => lex_text(rt, alloc, asked),
+        "identifier" => identify(rt, alloc, asked),
         "depth" => too_deep(rt, alloc, asked),
         "whole" => read_whole(rt, alloc, asked),
         "printed" => printed_twice(rt, alloc, asked),
@@ -47,15 +47,15 @@ fn answer_of_text(rt: &impl Abort, alloc: Global, kind: &str, asked: &str) -> St
 
 /// The answer to a row about a program, or about what a table knows; or about a text by itself.
 fn answer(rt: &impl Abort, alloc: Global, table: &Table, asked: &str) -> String {
-    let (kind, asked) = cut(asked, " ");
+    let (kind, asked) = cut_at(asked, " ");
     match kind {
         "program" => outcome(rt, alloc, asked),
         "superclasses" => superclasses(rt, alloc, asked),
         "fields" => field_types(rt, alloc, asked),
-        "text" => written(rt, alloc, asked),
-        "table" => told(rt, alloc, table, asked),
-        "find" => found(rt, alloc, table, asked),
-        "spell" => spelled(rt, alloc, table, asked),
+        "text" => write_name(rt, alloc, asked),
+        "table" => tell_rows(rt, alloc, table, asked),
+        "find" => find(rt, alloc, table, asked),
+        "spell" => spell(rt, alloc, table, asked),
         _ => answer_of_text(rt, alloc, kind, asked),
     }
 }

@@ -251,7 +251,7 @@ fn open<'a>(
 }
 
 /// The tree in brackets, with its marks or without. No row's tree has more than 10,000 pieces.
-pub(crate) fn shown(rt: &impl Abort, alloc: Global, tree: &Expr<Span>, places: bool) -> String {
+pub(crate) fn show_expr(rt: &impl Abort, alloc: Global, tree: &Expr<Span>, places: bool) -> String {
     let mut text = String::new(alloc);
     let mut left = Vec::new(alloc);
     push(rt, &mut left, Piece::Node(tree));

@@ -1,6 +1,6 @@
 //! How references are spelled in one small program.
 use crate::keys::{class_key, decl, name_of, ty, tys};
-use crate::rows::cut;
+use crate::rows::cut_at;
 use crate::scopes::scope;
 use jr_lookup::Scope;
 use jr_spell::{Operand, RefForm, Reference, is_type, leads_in, leads_simply, respell};
@@ -207,8 +207,8 @@ fn place(rt: &impl Abort, alloc: Global, text: &str, locals: &str) -> Scope {
 
 /// The declaration of a kind, a class and a name; of locals the first one of the place.
 fn target(rt: &impl Abort, alloc: Global, place: &str, text: &str) -> Box<Decl> {
-    let (kind, named) = cut(text, " ");
-    let (class, name) = cut(named, " ");
+    let (kind, named) = cut_at(text, " ");
+    let (class, name) = cut_at(named, " ");
     let class = if kind == "local" { place } else { class };
     decl(rt, alloc, kind, class, name, "")
 }
@@ -249,7 +249,7 @@ fn leads(
 ) -> bool {
     match form {
         "ThroughClass" => {
-            let (_, path) = cut(of, " ");
+            let (_, path) = cut_at(of, " ");
             words_lead(rt, alloc, table, scope, path)
         }
         "ClassName" => type_leads(rt, alloc, table, scope, of),
@@ -262,7 +262,7 @@ fn operand(rt: &impl Abort, alloc: Global, form: &str, text: &str) -> Option<Ope
     if text.is_empty() | (form == "ClassName") {
         return None;
     }
-    let (of, text) = cut(text, " ");
+    let (of, text) = cut_at(text, " ");
     let ty = ty(rt, alloc, of);
     let text = name_of(rt, alloc, text);
     Some(Operand { ty, text })
@@ -292,13 +292,13 @@ fn reference(
 
 /// How a reference is spelled, nothing where there is no spelling. It is as asked exactly where
 /// the text is the asked one.
-pub(crate) fn spelled(rt: &impl Abort, alloc: Global, table: &Table, asked: &str) -> String {
-    let (form, rest) = cut(asked, " ");
-    let (at, rest) = cut(rest, ";");
-    let (locals, rest) = cut(rest, ";");
-    let (asked, rest) = cut(rest, ";");
-    let (of, rest) = cut(rest, ";");
-    let (named, args) = cut(rest, ";");
+pub(crate) fn spell(rt: &impl Abort, alloc: Global, table: &Table, asked: &str) -> String {
+    let (form, rest) = cut_at(asked, " ");
+    let (at, rest) = cut_at(rest, ";");
+    let (locals, rest) = cut_at(rest, ";");
+    let (asked, rest) = cut_at(rest, ";");
+    let (of, rest) = cut_at(rest, ";");
+    let (named, args) = cut_at(rest, ";");
     let scope = place(rt, alloc, at, locals);
     let leads = leads(rt, alloc, table, &scope, form, of);
     let reference = reference(rt, alloc, form, asked, of, leads, args);

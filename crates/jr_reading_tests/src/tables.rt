@@ -1,7 +1,7 @@
 //! Members, overriding and dispatch in one small program.
 use crate::building::table_of;
 use crate::keys::{class_key, ctor_key, method_key, name_of, ty};
-use crate::rows::cut;
+use crate::rows::cut_at;
 use jr_names::{field_text, method_text};
 use jr_table::{Decl, LocalKey, MemberKey, Row, Table};
 use std::alloc::Global;
@@ -124,10 +124,10 @@ fn yes_or_no(rt: &impl Abort, alloc: Global, answer: bool) -> String {
 }
 
 /// What the table answers to a call and its arguments.
-pub(crate) fn told(rt: &impl Abort, alloc: Global, table: &Table, asked: &str) -> String {
-    let (call, rest) = cut(asked, " ");
-    let (a, rest) = cut(rest, " ");
-    let (b, c) = cut(rest, " ");
+pub(crate) fn tell_rows(rt: &impl Abort, alloc: Global, table: &Table, asked: &str) -> String {
+    let (call, rest) = cut_at(asked, " ");
+    let (a, rest) = cut_at(rest, " ");
+    let (b, c) = cut_at(rest, " ");
     match call {
         "field" => field(rt, alloc, table, a, b),
         "methods" => methods(rt, alloc, table, a, b),

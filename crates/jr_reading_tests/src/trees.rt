@@ -52,7 +52,7 @@ pub(crate) fn member_type<A: Numbered>(rt: &impl Abort, alloc: Global, text: &st
     TypeRef { mark, kind }
 }
 
-pub(crate) fn boxed<A: Numbered>(rt: &impl Abort, alloc: Global, expr: Expr<A>) -> Box<Expr<A>> {
+pub(crate) fn in_box<A: Numbered>(rt: &impl Abort, alloc: Global, expr: Expr<A>) -> Box<Expr<A>> {
     Box::new(alloc, expr).expect(rt, "memory")
 }
 
@@ -64,7 +64,7 @@ pub(crate) fn simple<A: Numbered>(
     text: &str,
 ) -> Box<Expr<A>> {
     let name = word(rt, alloc, mark.wrapping_add(1), text);
-    boxed(rt, alloc, Expr::simple(A::of(mark), name))
+    in_box(rt, alloc, Expr::simple(A::of(mark), name))
 }
 
 pub(crate) fn literal<A: Numbered>(
@@ -73,7 +73,7 @@ pub(crate) fn literal<A: Numbered>(
     mark: u32,
     value: u32,
 ) -> Box<Expr<A>> {
-    boxed(rt, alloc, Expr::number(A::of(mark), value))
+    in_box(rt, alloc, Expr::number(A::of(mark), value))
 }
 
 pub(crate) fn unary<A: Numbered>(
@@ -82,7 +82,7 @@ pub(crate) fn unary<A: Numbered>(
     op: UnOp,
     of: Box<Expr<A>>,
 ) -> Box<Expr<A>> {
-    boxed(rt, alloc, Expr::unary(A::of(0), op, of))
+    in_box(rt, alloc, Expr::unary(A::of(0), op, of))
 }
 
 pub(crate) fn plus<A: Numbered>(
@@ -92,7 +92,7 @@ pub(crate) fn plus<A: Numbered>(
     left: Box<Expr<A>>,
     right: Box<Expr<A>>,
 ) -> Box<Expr<A>> {
-    boxed(
+    in_box(
         rt,
         alloc,
         Expr::binary(A::of(mark), BinOp::Add, left, right),
@@ -106,7 +106,7 @@ pub(crate) fn field<A: Numbered>(
     text: &str,
 ) -> Box<Expr<A>> {
     let name = word(rt, alloc, 0, text);
-    boxed(rt, alloc, Expr::field(A::of(0), of, name))
+    in_box(rt, alloc, Expr::field(A::of(0), of, name))
 }
 
 pub(crate) fn put_arg<A: Numbered>(rt: &impl Abort, args: &mut Vec<Expr<A>>, arg: Box<Expr<A>>) {

@@ -6,7 +6,7 @@ use std::alloc::Global;
 use std::process::Abort;
 
 /// The type that is found, if any.
-fn found(rt: &impl Abort, alloc: Global, types: &Types, steps: &[u32]) -> &'static str {
+fn find_type(rt: &impl Abort, alloc: Global, types: &Types, steps: &[u32]) -> &'static str {
     let steps = steps.to_vec(alloc).expect(rt, "memory");
     match types.ty(&Path { steps }) {
         None => "none",
@@ -24,8 +24,8 @@ fn finds_types_by_paths(rt: HostRuntime) {
     types.close(1, 1, None).expect(&rt, "memory");
     types.close(0, 2, Some(Ty::Null)).expect(&rt, "memory");
     assert!(rt; types.count() == 4);
-    assert!(rt; found(&rt, rt.alloc(), &types, &[]) == "null");
-    assert!(rt; found(&rt, rt.alloc(), &types, &[1]) == "none");
-    assert!(rt; found(&rt, rt.alloc(), &types, &[1, 0]) == "boolean");
-    assert!(rt; found(&rt, rt.alloc(), &types, &[2]) == "none");
+    assert!(rt; find_type(&rt, rt.alloc(), &types, &[]) == "null");
+    assert!(rt; find_type(&rt, rt.alloc(), &types, &[1]) == "none");
+    assert!(rt; find_type(&rt, rt.alloc(), &types, &[1, 0]) == "boolean");
+    assert!(rt; find_type(&rt, rt.alloc(), &types, &[2]) == "none");
 }

@@ -110,7 +110,7 @@ pub(crate) const ROWS: &'static str = "
 ";
 
 /// The text of the expression that the whole text is.
-fn printed(rt: &impl Abort, alloc: Global, source: &str) -> String {
+fn print_unit(rt: &impl Abort, alloc: Global, source: &str) -> String {
     let text = text_of(rt, alloc, source);
     let items = items_of(rt, alloc, &text);
     let (tree, behind, _stop) = parse_expr(alloc, &text, &items, 0).expect(rt, "an expression");
@@ -120,8 +120,8 @@ fn printed(rt: &impl Abort, alloc: Global, source: &str) -> String {
 
 /// The same, which is what its own text is printed as.
 pub(crate) fn printed_twice(rt: &impl Abort, alloc: Global, source: &str) -> String {
-    let once = printed(rt, alloc, source);
-    let twice = printed(rt, alloc, once.as_str());
+    let once = print_unit(rt, alloc, source);
+    let twice = print_unit(rt, alloc, once.as_str());
     assert_same(rt, twice.as_str(), once.as_str());
     once
 }

@@ -39,7 +39,7 @@ fn lost_binding(file: u32, lost: Lost) -> Outcome
 }
 
 /// The rewritten program as what is planned.
-fn planned(
+fn plan_of(
     alloc: Global,
     programs: &Programs<'_>,
     edits: Vec<EditList>,
@@ -77,7 +77,7 @@ fn of_programs<V: View<Span>>(
     } = rewrite(alloc, view, programs)?;
     match lost {
         Some((file, lost)) => Ok(lost_binding(file, lost)),
-        None => planned(alloc, programs, edits, respelled),
+        None => plan_of(alloc, programs, edits, respelled),
     }
 }
 

@@ -7,6 +7,6 @@ mod outputs;
 
 pub use laws::files_are_rewritten;
 pub use outputs::{
-    Output, Start, begun, go_back, keep_loss, new_output, put_alone, put_end, put_front,
-    put_member_class, put_on_super,
+    Output, Start, go_back, keep_loss, new_output, put_alone, put_end, put_front, put_member_class,
+    put_on_super, start_of,
 };

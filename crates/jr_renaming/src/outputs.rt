@@ -41,7 +41,7 @@ pub fn new_output(alloc: Global) -> Output
 }
 
 /// How much is gathered now.
-pub fn begun(out: &Output) -> Start
+pub fn start_of(out: &Output) -> Start
     ensures { IsStart result (gathered out.now) }
 {
     Start {
@@ -62,7 +62,7 @@ pub fn go_back(to: Start, out: &mut Output)
 }
 
 /// One more, if the word is respelled. More than numbers don't fit any memory.
-fn counted(respelled: u64, front: &Front<'_>) -> Result<u64, AllocError>
+fn count_with(respelled: u64, front: &Front<'_>) -> Result<u64, AllocError>
     ensures { IfOk result (λ n. n
         ≡ respelled + (if is_respelled (front_view front.now) then 1 else 0)) }
 {
@@ -91,7 +91,7 @@ fn put_chosen(alloc: Global, word: Span, to: &Chosen, out: &mut Output) -> Resul
 {
     let to = to.as_respelling();
     put_word(alloc, &mut out.changes, word, &to)?;
-    out.respelled = counted(out.respelled, &to.front)?;
+    out.respelled = count_with(out.respelled, &to.front)?;
     Ok(())
 }
 
@@ -124,7 +124,7 @@ fn put_chosen_super(
 {
     let to = to.as_respelling();
     put_super(alloc, &mut out.changes, node, word, &to)?;
-    out.respelled = counted(out.respelled, &to.front)?;
+    out.respelled = count_with(out.respelled, &to.front)?;
     Ok(())
 }
 
@@ -175,7 +175,7 @@ fn put_chosen_behind(
 {
     let to = to.as_respelling();
     put_behind(alloc, &mut out.changes, operand, word, &to)?;
-    out.respelled = counted(out.respelled, &to.front)?;
+    out.respelled = count_with(out.respelled, &to.front)?;
     Ok(())
 }
 
@@ -224,7 +224,7 @@ fn put_chosen_class(
 {
     let to = to.as_respelling();
     put_class(alloc, &mut out.changes, outer, word, &to)?;
-    out.respelled = counted(out.respelled, &to.front)?;
+    out.respelled = count_with(out.respelled, &to.front)?;
     Ok(())
 }
 

@@ -20,12 +20,12 @@ use crate::nearby::near;
 use crate::scopes::{Scopes, class_of_member};
 use jr_ast::Name;
 use jr_rewrite::Front;
-use jr_spell::{Form, Reference, taken};
+use jr_spell::{Form, Reference, take_form};
 use jr_table::{ClassKey, Decl, Found, lookups_are_exact};
 use std::alloc::{AllocError, Global};
 
 /// The same, with owned texts.
-fn owned(alloc: Global, front: &Front<'_>) -> Result<ChosenFront, AllocError>
+fn own_front(alloc: Global, front: &Front<'_>) -> Result<ChosenFront, AllocError>
     ensures { IfOk result (λ f. front_of f ≡ front_view front.now) }
 {
     match *front {
@@ -45,22 +45,22 @@ fn owned(alloc: Global, front: &Front<'_>) -> Result<ChosenFront, AllocError>
 }
 
 /// The word with this in front of it.
-fn respelled(alloc: Global, name: &Name, front: &Front<'_>) -> Result<Choice, AllocError>
+fn respelling(alloc: Global, name: &Name, front: &Front<'_>) -> Result<Choice, AllocError>
     ensures { IfOk result (λ h. choice_of h ≡ pure.respelled name.now (front_view front.now)) }
 {
     let text = Name::new(alloc, name.as_str())?;
-    let front = owned(alloc, front)?;
+    let front = own_front(alloc, front)?;
     Ok(Choice::Becomes(Chosen { text, front }))
 }
 
 /// Another name alone, if it is another.
-pub(crate) fn renamed(alloc: Global, old: &Name, name: &Name) -> Result<Choice, AllocError>
+pub(crate) fn renaming(alloc: Global, old: &Name, name: &Name) -> Result<Choice, AllocError>
     ensures { IfOk result (λ h. choice_of h ≡ pure.renamed old.now name.now) }
 {
     if old == name {
         Ok(Choice::Stays)
     } else {
-        respelled(alloc, name, &Front::Same)
+        respelling(alloc, name, &Front::Same)
     }
 }
 
@@ -87,7 +87,7 @@ fn loses(lost: Lost) -> Choice
 }
 
 /// The loss of a declaration, with what is found in its place.
-pub(crate) fn lost(
+pub(crate) fn loss_of(
     alloc: Global,
     at: u32,
     declaration: &Decl,
@@ -151,7 +151,7 @@ fn outer_type(class: &ClassKey) -> Front<'_>
 }
 
 /// What a form makes of a word, where the class declares the declaration.
-fn spelled(
+fn by_form(
     alloc: Global,
     old: &Name,
     name: &Name,
@@ -162,15 +162,15 @@ fn spelled(
         ≡ pure.spelled old.now name.now (class_key_of class.now) form) }
 {
     match form {
-        Form::Asked => renamed(alloc, old, name),
-        Form::OnThis => respelled(alloc, name, &Front::ByThis),
-        Form::OnSuper => respelled(alloc, name, &Front::BySuper),
-        Form::OnCastThis => respelled(alloc, name, &Front::ByCastThis(class.name.as_str())),
-        Form::OnCastOperand => respelled(alloc, name, &Front::ByCast(class.name.as_str())),
-        Form::OnClass => respelled(alloc, name, &Front::ByClass(class.name.as_str())),
-        Form::OnOuterClass => respelled(alloc, name, &outer_front(class)),
-        Form::Class => respelled(alloc, &class.name, &Front::Alone),
-        Form::OuterClass => respelled(alloc, &class.name, &outer_type(class)),
+        Form::Asked => renaming(alloc, old, name),
+        Form::OnThis => respelling(alloc, name, &Front::ByThis),
+        Form::OnSuper => respelling(alloc, name, &Front::BySuper),
+        Form::OnCastThis => respelling(alloc, name, &Front::ByCastThis(class.name.as_str())),
+        Form::OnCastOperand => respelling(alloc, name, &Front::ByCast(class.name.as_str())),
+        Form::OnClass => respelling(alloc, name, &Front::ByClass(class.name.as_str())),
+        Form::OnOuterClass => respelling(alloc, name, &outer_front(class)),
+        Form::Class => respelling(alloc, &class.name, &Front::Alone),
+        Form::OuterClass => respelling(alloc, &class.name, &outer_type(class)),
     }
 }
 
@@ -204,7 +204,7 @@ fn form_taken(
     table.keeps_rows();
     lookups_are_exact();
     let scope = near(alloc, scopes, &reference.asked, declaring_class(target))?;
-    taken(alloc, table, &scope, reference, target)
+    take_form(alloc, table, &scope, reference, target)
 }
 
 /// The choice of the first spelling that binds to the declaration, if one does.
@@ -224,7 +224,7 @@ pub(crate) fn choose(
         None => Ok(None),
         Some(form) => {
             let class = declaring_class(target);
-            Ok(Some(spelled(alloc, old, &asked.name, class, form)?))
+            Ok(Some(by_form(alloc, old, &asked.name, class, form)?))
         }
     }
 }

@@ -21,7 +21,7 @@ ghost use Rattle.jr_respell.specs.Taking.{RenamesOrLoses};
 ghost use Rattle.jr_respell.specs.Chosen as chosen;
 
 use crate::choices::Choice;
-use crate::choosing::{forget, lost_class, renamed};
+use crate::choosing::{forget, lost_class, renaming};
 use crate::finding::{class_found, is_class, is_nothing, something};
 use crate::looking::{variable_of, variable_to};
 use crate::programs::Programs;
@@ -46,7 +46,7 @@ fn renamed_or_lost(
 {
     if is_class(&found, image) {
         forget(found);
-        renamed(alloc, old, &image.name)
+        renaming(alloc, old, &image.name)
     } else {
         lost_class(alloc, at, key, found)
     }
@@ -252,7 +252,7 @@ fn top_found(alloc: Global, table: &Table, name: &Name) -> Result<Found, AllocEr
     }
 }
 
-fn extended(
+fn superclass_choice(
     alloc: Global,
     programs: &Programs<'_>,
     at: u32,
@@ -282,6 +282,6 @@ pub fn top_parent(
     let found = top_found(alloc, programs.before, name)?;
     match class_found(&found) {
         None => Ok(None),
-        Some(key) => Ok(Some(extended(alloc, programs, at, name, key)?)),
+        Some(key) => Ok(Some(superclass_choice(alloc, programs, at, name, key)?)),
     }
 }

@@ -7,7 +7,7 @@ ghost use Rattle.jr_rename.specs.Spelling as pure;
 ghost use Rattle.jr_respell.specs.ChoiceView.{choice_of};
 
 use crate::choices::Choice;
-use crate::choosing::renamed;
+use crate::choosing::renaming;
 use jr_ast::Name;
 use jr_rename::NewName;
 use jr_table::Decl;
@@ -28,9 +28,14 @@ pub(crate) fn name_of<'a>(g: &'a NewName, decl: &Decl, name: &'a Name) -> &'a Na
 }
 
 /// The choice for the word that declares a declaration.
-pub fn declared(alloc: Global, g: &NewName, decl: &Decl, name: &Name) -> Result<Choice, AllocError>
+pub fn declaration_choice(
+    alloc: Global,
+    g: &NewName,
+    decl: &Decl,
+    name: &Name,
+) -> Result<Choice, AllocError>
     ensures { IfOk result (λ h. choice_of h ≡ pure.renamed name.now
         (images.name_to (renaming_of g.now) (decl_of decl.now) name.now)) }
 {
-    renamed(alloc, name, name_of(g, decl, name))
+    renaming(alloc, name, name_of(g, decl, name))
 }

@@ -17,7 +17,7 @@ ghost use Rattle.jr_respell.specs.Ways as pure;
 
 use crate::asking::{Asked, asked_by, name_in};
 use crate::choices::Choice;
-use crate::choosing::{choose, lost};
+use crate::choosing::{choose, loss_of};
 use crate::declaring::name_of;
 use crate::finding::decl_found;
 use crate::looking::{look_up_after, look_up_before};
@@ -54,7 +54,7 @@ fn lost_by(
         { at = at; declaration = decl_of declaration.now; found = f }))) }
 {
     let found = look_up_after(alloc, scopes, way, &asked.name, &asked.reference.args)?;
-    lost(alloc, at, declaration, found)
+    loss_of(alloc, at, declaration, found)
 }
 
 /// What is taken for the image of this name, or else the loss.
@@ -105,7 +105,7 @@ fn taken_to(
 }
 
 /// The choice for a declaration, asked this way.
-fn taken(
+fn choice_by(
     alloc: Global,
     scopes: &Scopes<'_>,
     at: u32,
@@ -141,7 +141,7 @@ pub(crate) fn chosen_for(
         (decl_of declaration.now) (option_map choice_of o)) }
 {
     if leads_to(way, declaration) {
-        Ok(Some(taken(alloc, scopes, at, old, way, args, declaration)?))
+        Ok(Some(choice_by(alloc, scopes, at, old, way, args, declaration)?))
     } else {
         Ok(None)
     }

@@ -161,7 +161,7 @@ pub(crate) fn form_of(way: &Way<'_>) -> RefForm
 }
 
 /// `front.back`
-pub(crate) fn dotted(alloc: Global, front: &Name, back: &str) -> Result<Name, AllocError>
+pub(crate) fn dotted_name(alloc: Global, front: &Name, back: &str) -> Result<Name, AllocError>
     ensures { IfOk result (λ n. n ≡ dotted front.now back.now) }
 {
     let front = front.as_str();
@@ -186,7 +186,7 @@ pub(crate) fn text_by(alloc: Global, way: &Way<'_>, name: &str) -> Result<Name, 
         Way::CtorOf(_) => Name::new(alloc, name),
         Way::CtorAbove => Name::new(alloc, name),
         Way::TypeNamed => Name::new(alloc, name),
-        Way::TypeBehind(front, _) => dotted(alloc, front, name),
+        Way::TypeBehind(front, _) => dotted_name(alloc, front, name),
     }
 }
 

@@ -8,7 +8,7 @@ ghost use Rattle.jr_rewrite.specs.RespellingView.{front_view, respelling_view};
 ghost use Rattle.jr_rewrite.specs.ChangeView.{Adds};
 
 use crate::changes::Change;
-use crate::respellings::{Front, Respelling, cast_front, spelled};
+use crate::respellings::{Front, Respelling, cast_front, front_and_word};
 use jr_text::Span;
 use std::alloc::{AllocError, Global};
 
@@ -44,7 +44,7 @@ pub fn put_word(
     ensures { Adds result changes.old.items changes.new.items
         (word_changes (becomes (respelling_view to.now)) word) }
 {
-    let text = spelled(alloc, to)?;
+    let text = front_and_word(alloc, to)?;
     put_change(changes, word, text)
 }
 

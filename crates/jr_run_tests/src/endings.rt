@@ -1,6 +1,6 @@
 //! What standard error gets, and what the process ends with.
 use crate::memory::{shelf_of, utf8, words_of};
-use crate::rows::{cut, number};
+use crate::rows::{cut_at, number};
 use jr_shelf::MemorySink;
 use jr_top::{end, serve, status_of};
 use std::alloc::Global;
@@ -25,8 +25,8 @@ pub(crate) const ROWS: &'static str = "
 
 /// How the program ends with these words, and what standard output and standard error got, where
 /// the shelf holds a source as A.java, bytes that are no text as B.java and a script as s.json.
-pub(crate) fn ended(rt: &impl Abort, alloc: Global, asked: &str) -> String {
-    let (failing, line) = cut(asked, " ");
+pub(crate) fn end_by(rt: &impl Abort, alloc: Global, asked: &str) -> String {
+    let (failing, line) = cut_at(asked, " ");
     let held = [
         (
             "A.java",

@@ -1,7 +1,7 @@
 //! Renames of each kind of declaration, as scripts of one step over one file.
 use crate::memory::{put, text_of};
 use crate::renaming::run_three;
-use crate::rows::cut;
+use crate::rows::cut_at;
 use std::alloc::Global;
 use std::process::Abort;
 
@@ -236,9 +236,9 @@ pub(crate) fn rename_of(
 }
 
 pub(crate) fn run_kind(rt: &impl Abort, alloc: Global, asked: &str) -> String {
-    let (call, asked) = cut(asked, " ");
-    let (at, asked) = cut(asked, " ");
-    let (name, text) = cut(asked, "@");
+    let (call, asked) = cut_at(asked, " ");
+    let (at, asked) = cut_at(asked, " ");
+    let (name, text) = cut_at(asked, "@");
     let script = rename_of(rt, alloc, "A.java", at, name);
     let line = "run s.json A.java";
     run_three(rt, alloc, script.as_str(), text, call, line, "A.java")

@@ -156,7 +156,7 @@ fn put_type(rt: &impl Abort, alloc: Global, text: &mut String, bound: &Bound, st
 
 // The member, what it refers to, the types of the returned value and of what stands in front of its
 // last dot, and how many rules it breaks.
-fn told(rt: &impl Abort, alloc: Global, bound: &Bound) -> String {
+fn tell_bound(rt: &impl Abort, alloc: Global, bound: &Bound) -> String {
     let member = member_text(alloc, bound.member()).expect(rt, "memory");
     let mut text = member;
     put(rt, &mut text, ": ");
@@ -179,7 +179,7 @@ fn bound_told<L: Ledger>(rt: &impl Abort, alloc: Global, blank: Blank) -> String
     let units = units_in(rt, alloc, &text);
     match bound_in(rt, alloc, units.as_slice(), &mut steps) {
         None => String::new(alloc),
-        Some(bound) => told(rt, alloc, &bound),
+        Some(bound) => tell_bound(rt, alloc, &bound),
     }
 }
 

@@ -2,7 +2,7 @@
 use crate::memory::{put_times, text_of, words_of};
 use crate::rows::assert_same;
 use crate::runs::{run_failing, run_over};
-use crate::shows::nested;
+use crate::shows::nest;
 use jr_files::SourceFault;
 use jr_script::ScriptFault;
 use jr_shelf::MemorySink;
@@ -171,7 +171,7 @@ fn faults(rt: HostRuntime) {
     let expected = "Refused | refused 4 SourceError A.java:9 Syntax\n";
     assert_over(&rt, alloc, b"class A {", of_class, expected);
     // The brace is the first bracket that is open, so 99 more may be.
-    let deep = nested(&rt, alloc, 100);
+    let deep = nest(&rt, alloc, 100);
     let expected = "Refused | refused 4 SourceError A.java:113 Deep\n";
     assert_over(&rt, alloc, deep.as_bytes(), of_class, expected);
     assert_failing(&rt, alloc, line, 1, 0, "ReadFault { word: 1 } | ");

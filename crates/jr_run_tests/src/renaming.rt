@@ -1,6 +1,6 @@
 //! Renames in scripts: over two and three files, and taken back.
 use crate::kinds::rename_of;
-use crate::rows::{cut, number};
+use crate::rows::{cut_at, number};
 use crate::runs::{end_told, run_line};
 use std::alloc::Global;
 use std::process::Abort;
@@ -63,9 +63,9 @@ pub(crate) fn run_two(rt: &impl Abort, alloc: Global, script: &str) -> String {
 
 /// The call of the shelf that fails, a file and a byte of it, a new name and, behind `@` each, what
 /// A.java, B.java and C.java hold; how the run ends, its report without the line end, and what the
-/// files hold in the end. A class is named where it is declared, in a cast, in front of a dot and at
-/// its constructor; then a member class, a class whose new name is a parameter's, overloaded methods
-/// that are overridden, and a field.
+/// files hold in the end. A class is named where it is declared, in a cast, in front of a dot and
+/// at its constructor; then a member class, a class whose new name is a parameter's, overloaded
+/// methods that are overridden, and a field.
 pub(crate) const THREE: &'static str = "
 ~three 0 A.java 16 Q@package p;class K{static int n;static class In{int w;}int v;K(int \
     a){v=a;n=a;}static K of(){return new K(1);}}@package p;class B extends K{B(){super(2);}K \
@@ -167,8 +167,8 @@ pub(crate) fn run_three(
     line: &str,
     names: &str,
 ) -> String {
-    let (first, rest) = cut(texts, "@");
-    let (second, third) = cut(rest, "@");
+    let (first, rest) = cut_at(texts, "@");
+    let (second, third) = cut_at(rest, "@");
     let held = [
         ("s.json", script.as_bytes()),
         ("A.java", first.as_bytes()),
@@ -181,10 +181,10 @@ pub(crate) fn run_three(
 }
 
 pub(crate) fn run_renamed(rt: &impl Abort, alloc: Global, asked: &str) -> String {
-    let (call, asked) = cut(asked, " ");
-    let (file, asked) = cut(asked, " ");
-    let (at, asked) = cut(asked, " ");
-    let (name, texts) = cut(asked, "@");
+    let (call, asked) = cut_at(asked, " ");
+    let (file, asked) = cut_at(asked, " ");
+    let (at, asked) = cut_at(asked, " ");
+    let (name, texts) = cut_at(asked, "@");
     let script = rename_of(rt, alloc, file, at, name);
     let line = "run s.json A.java B.java C.java";
     let names = "A.java,B.java,C.java";
@@ -192,7 +192,7 @@ pub(crate) fn run_renamed(rt: &impl Abort, alloc: Global, asked: &str) -> String
 }
 
 pub(crate) fn run_back(rt: &impl Abort, alloc: Global, asked: &str) -> String {
-    let (call, asked) = cut(asked, " ");
-    let (script, text) = cut(asked, "@");
+    let (call, asked) = cut_at(asked, " ");
+    let (script, text) = cut_at(asked, "@");
     run_three(rt, alloc, script, text, call, "run s.json A.java", "A.java")
 }

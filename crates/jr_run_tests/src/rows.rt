@@ -1,11 +1,11 @@
 //! Tables of rows in one text, a row a line: `~`, what is asked, ` => ` and what is expected. A
 //! line without ` => ` is a remark.
-use crate::endings::{self, ended};
+use crate::endings::{self, end_by};
 use crate::kinds::{self, run_kind};
 use crate::renaming::{self, run_back, run_renamed, run_two};
 use crate::runs::{self, run_bad, run_edits, run_one, run_source};
 use crate::scripts::{self, read};
-use crate::shows::{self, shown};
+use crate::shows::{self, show_all};
 use crate::words::{self, meaning};
 use crate::{renames, rules};
 use std::alloc::Global;
@@ -17,7 +17,7 @@ pub(crate) fn assert_same(rt: &impl Abort, told: &str, expected: &str) {
 }
 
 /// What stands in front of the first of these marks, and what stands behind it.
-pub(crate) fn cut<'a>(text: &'a str, mark: &str) -> (&'a str, &'a str) {
+pub(crate) fn cut_at<'a>(text: &'a str, mark: &str) -> (&'a str, &'a str) {
     match text.split_once(mark) {
         None => (text, ""),
         Some(halves) => halves,
@@ -31,11 +31,11 @@ pub(crate) fn number(rt: &impl Abort, text: &str) -> u32 {
 
 /// The answer to a row: its first word says what is asked.
 fn answer(rt: &impl Abort, alloc: Global, asked: &str) -> String {
-    let (kind, asked) = cut(asked, " ");
+    let (kind, asked) = cut_at(asked, " ");
     match kind {
         "words" => meaning(rt, alloc, asked),
         "script" => read(rt, alloc, asked.as_bytes()),
-        "show" => shown(rt, alloc, asked),
+        "show" => show_all(rt, alloc, asked),
         "one" => run_one(rt, alloc, asked),
         "bad" => run_bad(rt, alloc, asked),
         "edits" => run_edits(rt, alloc, asked),
@@ -44,7 +44,7 @@ fn answer(rt: &impl Abort, alloc: Global, asked: &str) -> String {
         "three" => run_renamed(rt, alloc, asked),
         "rename" => run_kind(rt, alloc, asked),
         "back" => run_back(rt, alloc, asked),
-        _ => ended(rt, alloc, asked),
+        _ => end_by(rt, alloc, asked),
     }
 }
 

@@ -1,7 +1,7 @@
 //! Runs over shelves in memory.
 use crate::memory::{put, shelf_of, text_of, utf8, words_of};
-use crate::rows::{assert_same, cut, number};
-use crate::shows::nested;
+use crate::rows::{assert_same, cut_at, number};
+use crate::shows::nest;
 use jr_shelf::{MemoryShelf, MemorySink};
 use jr_top::run;
 use std::alloc::Global;
@@ -124,7 +124,7 @@ pub(crate) const SCRIPTS: &'static str = "
 ";
 
 pub(crate) fn run_one(rt: &impl Abort, alloc: Global, asked: &str) -> String {
-    let (call, script) = cut(asked, " ");
+    let (call, script) = cut_at(asked, " ");
     let held = [
         ("s.json", script.as_bytes()),
         ("A.java", b"class A{}".as_slice()),
@@ -191,9 +191,9 @@ pub(crate) const FAULTS: &'static str = "
 ";
 
 pub(crate) fn run_edits(rt: &impl Abort, alloc: Global, asked: &str) -> String {
-    let (call, rest) = cut(asked, " ");
-    let (failing, rest) = cut(rest, " ");
-    let (names, line) = cut(rest, " ");
+    let (call, rest) = cut_at(asked, " ");
+    let (failing, rest) = cut_at(rest, " ");
+    let (names, line) = cut_at(rest, " ");
     let script: &str = EDITS;
     let held = [
         ("s", script.as_bytes()),
@@ -213,7 +213,7 @@ pub(crate) fn run_over(rt: &impl Abort, alloc: Global, source: &[u8], line: &str
 
 /// The same, of words and, behind `@`, what A.java holds.
 pub(crate) fn run_source(rt: &impl Abort, alloc: Global, asked: &str) -> String {
-    let (line, source) = cut(asked, "@");
+    let (line, source) = cut_at(asked, "@");
     run_over(rt, alloc, source.as_bytes(), line)
 }
 
@@ -247,7 +247,7 @@ fn shows_and_no_words(rt: HostRuntime) {
 // A show of the bindings of a class in which so many parentheses nest, over its one file.
 fn show_nested(rt: &impl Abort, alloc: Global, count: usize) -> String {
     let script: &str = "[{\"step\":\"show\",\"file\":\"A.java\",\"what\":\"bindings\"}]";
-    let source = nested(rt, alloc, count);
+    let source = nest(rt, alloc, count);
     let held = [("s.json", script.as_bytes()), ("A.java", source.as_bytes())];
     run_line(rt, alloc, held.as_slice(), "run s.json A.java", 3, 0).told
 }

@@ -132,7 +132,7 @@ pub(crate) fn read(rt: &impl Abort, alloc: Global, bytes: &[u8]) -> String {
 }
 
 /// The text with so many times the middle between its ends.
-fn repeated(
+fn repeat(
     rt: &impl Abort,
     alloc: Global,
     front: &str,
@@ -154,14 +154,14 @@ fn assert_read(
     back: &str,
     expected: &str,
 ) {
-    let script = repeated(rt, alloc, "[", middle, times, back);
+    let script = repeat(rt, alloc, "[", middle, times, back);
     assert_same(rt, read(rt, alloc, script.as_bytes()).as_str(), expected);
 }
 
 /// Arrays in arrays, so many deep.
 fn assert_nested(rt: &impl Abort, alloc: Global, times: usize, expected: &str) {
-    let open = repeated(rt, alloc, "", "[", times, "");
-    let script = repeated(rt, alloc, open.as_str(), "]", times, "");
+    let open = repeat(rt, alloc, "", "[", times, "");
+    let script = repeat(rt, alloc, open.as_str(), "]", times, "");
     assert_same(rt, read(rt, alloc, script.as_bytes()).as_str(), expected);
 }
 
@@ -180,7 +180,7 @@ fn bytes_and_limits(rt: HostRuntime) {
     assert_read(&rt, alloc, " ", 1_048_575, "]", "TooLong");
     // 1,000 steps, and one more.
     let undo = "{\"step\":\"undo\"},";
-    let most = repeated(&rt, alloc, "[", undo, 999, "{\"step\":\"undo\"}]");
+    let most = repeat(&rt, alloc, "[", undo, 999, "{\"step\":\"undo\"}]");
     assert!(rt; steps_in(&rt, alloc, most.as_str()) == 1000);
     assert_read(&rt, alloc, "0,", 1000, "0]", "TooMany 1001");
     // Arrays nest 127 deep at most.

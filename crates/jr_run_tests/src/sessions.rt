@@ -1,6 +1,6 @@
 //! Sessions: how they begin, their steps and their refusals.
 use crate::memory::put_times;
-use crate::rows::{assert_same, cut, number};
+use crate::rows::{assert_same, cut_at, number};
 use jr_ast::Name;
 use jr_names::{Refusal, Reply};
 use jr_session::Session;
@@ -29,7 +29,7 @@ const ROWS: &'static str = "
 ";
 
 // The reply, with the fields of a refusal for a span, a length and a file.
-fn told(rt: &impl Abort, alloc: Global, reply: &Reply) -> String {
+fn tell_reply(rt: &impl Abort, alloc: Global, reply: &Reply) -> String {
     let text = match reply {
         Reply::Edited => "edited",
         Reply::Refactored { .. } => "refactored",
@@ -42,7 +42,7 @@ fn told(rt: &impl Abort, alloc: Global, reply: &Reply) -> String {
 }
 
 // A refusal with its fields.
-fn refused(rt: &impl Abort, alloc: Global, reply: &Reply) -> String {
+fn tell_refusal(rt: &impl Abort, alloc: Global, reply: &Reply) -> String {
     match reply {
         Reply::Refused(Refusal::BadSpan { from, to }) => {
             format!(in alloc; "BadSpan {from} {to}").expect(rt, "memory")
@@ -53,7 +53,7 @@ fn refused(rt: &impl Abort, alloc: Global, reply: &Reply) -> String {
         Reply::Refused(Refusal::NoSuchFile { name }) => {
             format!(in alloc; "no {}", name.as_str()).expect(rt, "memory")
         }
-        other => told(rt, alloc, other),
+        other => tell_reply(rt, alloc, other),
     }
 }
 
@@ -64,11 +64,11 @@ fn ask(
     file: &Name,
     asked: &str,
 ) -> Box<Reply> {
-    let (act, rest) = cut(asked, " ");
+    let (act, rest) = cut_at(asked, " ");
     let reply = match act {
         "edit" => {
-            let (from, rest) = cut(rest, " ");
-            let (to, text) = cut(rest, " ");
+            let (from, rest) = cut_at(rest, " ");
+            let (to, text) = cut_at(rest, " ");
             let text = Name::new(alloc, text).expect(rt, "memory");
             session.edit(alloc, file, number(rt, from), number(rt, to), &text)
         }
@@ -93,7 +93,7 @@ fn files(rt: &impl Abort, alloc: Global, rows: &[(&str, &str)]) -> Vec<(String, 
 }
 
 // A session of these files, or the fault of its beginning.
-fn begun(rt: &impl Abort, alloc: Global, files: Vec<(String, Text)>) -> Result<Session, String> {
+fn begin(rt: &impl Abort, alloc: Global, files: Vec<(String, Text)>) -> Result<Session, String> {
     assert!(rt; files.len() < 1000);
     match Session::begin(alloc, files) {
         Ok(session) => Ok(session),
@@ -108,9 +108,9 @@ fn assert_steps(rt: &impl Abort, alloc: Global, session: &mut Session, rows: &st
     let mut seen = 0u32;
     for row in rows.split('~') {
         if let Some((asked, expected)) = row.split_once(" => ") {
-            let (reply, text) = cut(expected.strip_suffix("\n").expect(rt, "a line"), " ");
+            let (reply, text) = cut_at(expected.strip_suffix("\n").expect(rt, "a line"), " ");
             let answer = ask(rt, alloc, session, &name, asked);
-            assert_same(rt, told(rt, alloc, &answer).as_str(), reply);
+            assert_same(rt, tell_reply(rt, alloc, &answer).as_str(), reply);
             assert!(rt; session.text("A.java") == Some(text), "{text}");
             assert!(rt; session.text("B.java") == Some(OTHER));
             seen = seen.wrapping_add(1);
@@ -126,7 +126,7 @@ fn steps_of_one_file(rt: HostRuntime) {
         rt.alloc(),
         &[("B.java", OTHER), ("A.java", "class A{}")],
     );
-    let mut session = begun(&rt, rt.alloc(), files).expect(&rt, "a session");
+    let mut session = begin(&rt, rt.alloc(), files).expect(&rt, "a session");
     assert_steps(&rt, rt.alloc(), &mut session, ROWS);
     assert!(rt; session.can_undo() & session.can_redo());
     assert!(rt; session.text("C.java").is_none());
@@ -137,14 +137,18 @@ fn steps_of_one_file(rt: HostRuntime) {
 fn refusals(rt: HostRuntime) {
     let alloc = rt.alloc();
     let files = files(&rt, alloc, &[("A.java", "class A{}")]);
-    let mut session = begun(&rt, alloc, files).expect(&rt, "a session");
+    let mut session = begin(&rt, alloc, files).expect(&rt, "a session");
     assert!(rt; !session.can_undo() & !session.can_redo());
     let here = Name::new(alloc, "A.java").expect(&rt, "memory");
     let bad = ask(&rt, alloc, &mut session, &here, "edit 3 2 ");
-    assert_same(&rt, refused(&rt, alloc, &bad).as_str(), "BadSpan 3 2");
+    assert_same(&rt, tell_refusal(&rt, alloc, &bad).as_str(), "BadSpan 3 2");
     let there = Name::new(alloc, "B.java").expect(&rt, "memory");
     let missing = ask(&rt, alloc, &mut session, &there, "edit 3 2 ");
-    assert_same(&rt, refused(&rt, alloc, &missing).as_str(), "no B.java");
+    assert_same(
+        &rt,
+        tell_refusal(&rt, alloc, &missing).as_str(),
+        "no B.java",
+    );
 }
 
 // So many letters.
@@ -180,18 +184,24 @@ fn large(rt: &impl Abort, alloc: Global, last: usize) -> Vec<(String, Text)> {
 
 // What an edit of the last file of these answers: the text from 0 up to a byte becomes so many
 // letters.
-fn edited(rt: &impl Abort, alloc: Global, session: &mut Session, to: u32, count: usize) -> String {
+fn edit_again(
+    rt: &impl Abort,
+    alloc: Global,
+    session: &mut Session,
+    to: u32,
+    count: usize,
+) -> String {
     let last = Name::new(alloc, "i").expect(rt, "memory");
     let new = letters(rt, alloc, count);
     let new = Name::new(alloc, new.as_str()).expect(rt, "memory");
     let reply = session.edit(alloc, &last, 0, to, &new).expect(rt, "memory");
     let reply = Box::new(alloc, reply).expect(rt, "memory");
-    refused(rt, alloc, &reply)
+    tell_refusal(rt, alloc, &reply)
 }
 
 // The fault of a beginning.
 fn fault_of(rt: &impl Abort, alloc: Global, files: Vec<(String, Text)>) -> String {
-    begun(rt, alloc, files).err().expect(rt, "a fault")
+    begin(rt, alloc, files).err().expect(rt, "a fault")
 }
 
 // A file's length is told before that of all files; both limits are met exactly.
@@ -201,12 +211,12 @@ fn lengths(rt: HostRuntime) {
     let fault = fault_of(&rt, alloc, large(&rt, alloc, 388_609));
     assert_same(&rt, fault.as_str(), "TotalTooLong { len: 8388609 }");
     let files = large(&rt, alloc, 388_608);
-    let mut session = begun(&rt, alloc, files).expect(&rt, "a session");
-    let both = edited(&rt, alloc, &mut session, 0, 1);
+    let mut session = begin(&rt, alloc, files).expect(&rt, "a session");
+    let both = edit_again(&rt, alloc, &mut session, 0, 1);
     assert_same(&rt, both.as_str(), "TooLong 8388609");
-    let longest = edited(&rt, alloc, &mut session, 0, 659_969);
+    let longest = edit_again(&rt, alloc, &mut session, 0, 659_969);
     assert_same(&rt, longest.as_str(), "TooLong 1048577");
-    let same = edited(&rt, alloc, &mut session, 1, 1);
+    let same = edit_again(&rt, alloc, &mut session, 1, 1);
     assert_same(&rt, same.as_str(), "edited");
 }
 
@@ -222,6 +232,6 @@ fn beginnings(rt: HostRuntime) {
     }
     let fault = fault_of(&rt, alloc, many);
     assert_same(&rt, fault.as_str(), "TooMany { count: 257 }");
-    let empty = begun(&rt, alloc, Vec::new(alloc)).expect(&rt, "a session");
+    let empty = begin(&rt, alloc, Vec::new(alloc)).expect(&rt, "a session");
     assert!(rt; empty.text("a").is_none());
 }

@@ -3,7 +3,7 @@ ghost use Rattle.std.specs.Prelude.{◌≡◌, ◌<◌, length};
 ghost use Rattle.jr_session.specs.Serving.{IsServed};
 
 use crate::memory::{put, put_times};
-use crate::rows::{assert_same, cut};
+use crate::rows::{assert_same, cut_at};
 use jr_ast::Name;
 use jr_names::{Lines, Refusal, Reply, Step, What};
 use jr_session::Session;
@@ -210,7 +210,7 @@ fn answer<L: Ledger>(
     text
 }
 
-fn told(rt: &impl Abort, alloc: Global, first: &str, second: &str, file: &str) -> String {
+fn tell_show(rt: &impl Abort, alloc: Global, first: &str, second: &str, file: &str) -> String {
     let first = text_of(rt, alloc, first);
     let second = text_of(rt, alloc, second);
     let file = name_of(rt, alloc, file);
@@ -218,13 +218,13 @@ fn told(rt: &impl Abort, alloc: Global, first: &str, second: &str, file: &str) -
 }
 
 /// What a show of A.java tells, where `@` parts the texts of A.java and B.java.
-pub(crate) fn shown(rt: &impl Abort, alloc: Global, texts: &str) -> String {
-    let (first, second) = cut(texts, "@");
-    told(rt, alloc, first, second, "A.java")
+pub(crate) fn show_all(rt: &impl Abort, alloc: Global, texts: &str) -> String {
+    let (first, second) = cut_at(texts, "@");
+    tell_show(rt, alloc, first, second, "A.java")
 }
 
 /// `class A{int f=` with so many parentheses around a number.
-pub(crate) fn nested(rt: &impl Abort, alloc: Global, count: usize) -> String {
+pub(crate) fn nest(rt: &impl Abort, alloc: Global, count: usize) -> String {
     let mut text = String::new(alloc);
     put(rt, &mut text, "class A{int f=");
     put_times(rt, &mut text, "(", count);
@@ -239,15 +239,15 @@ pub(crate) fn nested(rt: &impl Abort, alloc: Global, count: usize) -> String {
 #[test]
 fn missing_file_and_depths(rt: HostRuntime) {
     let alloc = rt.alloc();
-    let missing = told(&rt, alloc, "/*", "class B {", "C.java");
+    let missing = tell_show(&rt, alloc, "/*", "class B {", "C.java");
     assert_same(&rt, missing.as_str(), "no C.java");
-    let within = nested(&rt, alloc, 99);
-    let within = told(&rt, alloc, within.as_str(), "class B{}", "A.java");
+    let within = nest(&rt, alloc, 99);
+    let within = tell_show(&rt, alloc, within.as_str(), "class B{}", "A.java");
     assert_same(&rt, within.as_str(), "");
-    let beyond = nested(&rt, alloc, 100);
-    let first = told(&rt, alloc, beyond.as_str(), "#", "A.java");
+    let beyond = nest(&rt, alloc, 100);
+    let first = tell_show(&rt, alloc, beyond.as_str(), "#", "A.java");
     assert_same(&rt, first.as_str(), "A.java 113 Deep");
-    let second = told(&rt, alloc, "class A{}class A{}", beyond.as_str(), "A.java");
+    let second = tell_show(&rt, alloc, "class A{}class A{}", beyond.as_str(), "A.java");
     assert_same(&rt, second.as_str(), "B.java 113 Deep");
 }
 

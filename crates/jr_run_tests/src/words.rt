@@ -92,7 +92,7 @@ fn run_text(
 }
 
 /// What the words mean, as a text.
-fn told(rt: &impl Abort, alloc: Global, words: &[String]) -> String {
+fn tell_words(rt: &impl Abort, alloc: Global, words: &[String]) -> String {
     match read_words(alloc, words) {
         Err(WordsFault::Usage) => String::from_str(alloc, "usage").expect(rt, "memory"),
         Err(WordsFault::Memory) => String::from_str(alloc, "memory").expect(rt, "memory"),
@@ -105,7 +105,7 @@ fn told(rt: &impl Abort, alloc: Global, words: &[String]) -> String {
 
 pub(crate) fn meaning(rt: &impl Abort, alloc: Global, line: &str) -> String {
     let words = words_of(rt, alloc, line);
-    told(rt, alloc, words.as_slice())
+    tell_words(rt, alloc, words.as_slice())
 }
 
 /// As many words as there may be, and one more.
@@ -123,6 +123,6 @@ fn assert_most(rt: &impl Abort, alloc: Global) {
 
 #[test]
 fn no_words_and_most_words(rt: HostRuntime) {
-    assert_same(&rt, told(&rt, rt.alloc(), &[]).as_str(), "usage");
+    assert_same(&rt, tell_words(&rt, rt.alloc(), &[]).as_str(), "usage");
     assert_most(&rt, rt.alloc());
 }

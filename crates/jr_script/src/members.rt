@@ -16,7 +16,7 @@ use serde_json::{Map, Value};
 use std::alloc::Global;
 
 // The fault that tells the member.
-pub(crate) fn told(alloc: Global, name: &str) -> StepFault
+pub(crate) fn member_fault(alloc: Global, name: &str) -> StepFault
     ensures { Tells (λ told. told ≡ name.now) result }
 {
     match Name::new(alloc, name) {
@@ -43,7 +43,7 @@ pub(crate) fn text_member(alloc: Global, element: &Value, name: &str) -> Result<
 {
     match str_at(element, name) {
         Some(text) => Ok(Name::new(alloc, text)?),
-        None => Err(told(alloc, name)),
+        None => Err(member_fault(alloc, name)),
     }
 }
 
@@ -54,7 +54,7 @@ pub(crate) fn offset_member(alloc: Global, element: &Value, name: &str) -> Resul
 {
     match u64_at(element, name) {
         Some(offset) if offset <= u64::from(u32::MAX) => Ok(offset as u32),
-        _ => Err(told(alloc, name)),
+        _ => Err(member_fault(alloc, name)),
     }
 }
 
@@ -73,7 +73,7 @@ pub(crate) fn shown_member(alloc: Global, element: &Value, name: &str) -> Result
 {
     match str_at(element, name) {
         Some(what) if what == "bindings" => Ok(What::Bindings),
-        _ => Err(told(alloc, name)),
+        _ => Err(member_fault(alloc, name)),
     }
 }
 
@@ -97,7 +97,7 @@ fn only_names(alloc: Global, members: &Map<String, Value>, names: &[&str]) -> Re
 {
     for (name, _value) in members.iter() {
         if !is_among(name.as_str(), names) {
-            return Err(told(alloc, name.as_str()));
+            return Err(member_fault(alloc, name.as_str()));
         }
     }
     Ok(())

@@ -8,7 +8,9 @@ ghost use Rattle.jr_script.specs.Steps.{Means};
 ghost use Rattle.jr_script.specs.StepFaults.{HasWord, IsBad, Tells};
 
 use crate::faults::StepFault;
-use crate::members::{offset_member, only_members, shown_member, str_at, text_member, told};
+use crate::members::{
+    member_fault, offset_member, only_members, shown_member, str_at, text_member,
+};
 use jr_names::Step;
 use serde_json::Value;
 use std::alloc::Global;
@@ -20,7 +22,7 @@ pub(crate) fn read_step(alloc: Global, element: &Value) -> Result<Step, StepFaul
 {
     match str_at(element, "step") {
         Some(word) => read_row(alloc, element, word),
-        None => Err(told(alloc, "step")),
+        None => Err(member_fault(alloc, "step")),
     }
 }
 
@@ -41,7 +43,7 @@ fn read_row(alloc: Global, element: &Value, word: &str) -> Result<Step, StepFaul
     } else if word == "redo" {
         read_redo(alloc, element)
     } else {
-        Err(told(alloc, "step"))
+        Err(member_fault(alloc, "step"))
     }
 }
 

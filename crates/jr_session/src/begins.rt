@@ -49,7 +49,7 @@ pub(crate) fn sources_from(alloc: Global, files: Vec<(String, Text)>) -> Result<
             count: files.len() as u32,
         });
     }
-    let sources = gathered(alloc, files)?;
+    let sources = gather(alloc, files)?;
     let len = sources.total();
     if len > MAX_TOTAL_LEN {
         return Err(BeginFault::TotalTooLong { len });
@@ -58,7 +58,7 @@ pub(crate) fn sources_from(alloc: Global, files: Vec<(String, Text)>) -> Result<
 }
 
 // The files, each under its own name.
-fn gathered(alloc: Global, files: Vec<(String, Text)>) -> Result<Sources, BeginFault>
+fn gather(alloc: Global, files: Vec<(String, Text)>) -> Result<Sources, BeginFault>
     requires { length files.items ≤ file_limit }
     ensures ok { IfOk result (λ sources. sources ≡ sources_of files.items) }
     ensures fault { IfErr result (IsBeginFault (sources_of files.items)) }

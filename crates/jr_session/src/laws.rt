@@ -49,8 +49,8 @@ pub fn renames_are_refused_first()
 /// Where a session accepts a rename, the sources behind the step are a program again: read, bound
 /// and sound from scratch. It is read as the planned trees, its rows are the images of the old
 /// rows, each reference is bound in it to the image of what it was bound to (JLS 6), and what a
-/// call runs is the image of what it ran, whatever is renamed. Each byte that lies in no edit's span
-/// is as before, and an undoing right behind the rename gives back every byte of every file.
+/// call runs is the image of what it ran, whatever is renamed. Each byte that lies in no edit's
+/// span is as before, and an undoing right behind the rename gives back every byte of every file.
 pub fn accepted_renames_keep_programs()
     ensures { RenamesKeepPrograms }
 {

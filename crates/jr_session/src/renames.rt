@@ -13,7 +13,7 @@ use crate::shows::source_error;
 use jr_ast::Name;
 use jr_names::Reply;
 use jr_renamed::plans_keep_programs;
-use jr_sources::{text_has_one_reading, unasked};
+use jr_sources::{refusal_of_request, text_has_one_reading};
 use jr_steps::Steps;
 use std::alloc::{AllocError, Global};
 use std::sync::ledger::Ledger;
@@ -39,7 +39,7 @@ impl Session {
         let Some(number) = self.sources.find(file.as_str()) else {
             return no_such_file(alloc, file);
         };
-        let refusal = unasked(alloc, file, self.sources.text(number), at, new)?;
+        let refusal = refusal_of_request(alloc, file, self.sources.text(number), at, new)?;
         match refusal {
             Some(refusal) => Ok(Reply::Refused(refusal)),
             None => self.rename_asked(alloc, file, number, at, new, steps),

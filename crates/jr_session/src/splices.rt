@@ -21,7 +21,7 @@ pub(crate) enum Spliced {
 }
 
 // The text in which another stands in the place of the span.
-fn replaced(alloc: Global, old: &Text, span: Span, text: &str) -> Result<Text, ApplyFault>
+fn replace_span(alloc: Global, old: &Text, span: Span, text: &str) -> Result<Text, ApplyFault>
     requires { CanCut old.now span }
     ensures ok { IfOk result (λ new. new ≡ pure.replaced old.now span text.now) }
     ensures within { IfOk result (λ new. length new ≤ text_limit) }
@@ -53,7 +53,7 @@ pub(crate) fn splice(
         return Ok(Spliced::BadSpan);
     }
     let total = sources.total();
-    match replaced(alloc, old, span, text) {
+    match replace_span(alloc, old, span, text) {
         Ok(new) => {
             let len = total - u64::from(old.len()) + u64::from(new.len());
             if len > MAX_TOTAL_LEN {

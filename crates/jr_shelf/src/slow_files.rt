@@ -6,7 +6,7 @@ use std::fs::{Metadata, OpenFile, OpenOptions};
 use std::io::{self, Error, ErrorKind, Read, Seek, SeekFrom, Write};
 use std::rt::Files;
 
-fn unsupported() -> Error {
+fn unsupported_error() -> Error {
     Error::from(ErrorKind::Unsupported)
 }
 
@@ -43,25 +43,25 @@ impl Write for SlowFile {
 
 impl Seek for SlowFile {
     fn seek(&mut self, _to: SeekFrom) -> io::Result<u64> {
-        Err(unsupported())
+        Err(unsupported_error())
     }
 }
 
 impl OpenFile for SlowFile {
     fn metadata(&self) -> io::Result<Metadata> {
-        Err(unsupported())
+        Err(unsupported_error())
     }
 
     fn set_len(&self, _size: u64) -> io::Result<()> {
-        Err(unsupported())
+        Err(unsupported_error())
     }
 
     fn sync_all(&self) -> io::Result<()> {
-        Err(unsupported())
+        Err(unsupported_error())
     }
 
     fn sync_data(&self) -> io::Result<()> {
-        Err(unsupported())
+        Err(unsupported_error())
     }
 }
 
@@ -78,39 +78,39 @@ impl Files for SlowFiles {
     }
 
     fn open_dir(&self, _path: &str) -> io::Result<SlowFile> {
-        Err(unsupported())
+        Err(unsupported_error())
     }
 
     fn metadata(&self, _path: &str) -> io::Result<Metadata> {
-        Err(unsupported())
+        Err(unsupported_error())
     }
 
     fn symlink_metadata(&self, _path: &str) -> io::Result<Metadata> {
-        Err(unsupported())
+        Err(unsupported_error())
     }
 
     fn copy(&self, _from: &str, _to: &str) -> io::Result<u64> {
-        Err(unsupported())
+        Err(unsupported_error())
     }
 
     fn rename(&self, _from: &str, _to: &str) -> io::Result<()> {
-        Err(unsupported())
+        Err(unsupported_error())
     }
 
     fn remove_file(&self, _path: &str) -> io::Result<()> {
-        Err(unsupported())
+        Err(unsupported_error())
     }
 
     fn create_dir(&self, _path: &str) -> io::Result<()> {
-        Err(unsupported())
+        Err(unsupported_error())
     }
 
     fn remove_dir(&self, _path: &str) -> io::Result<()> {
-        Err(unsupported())
+        Err(unsupported_error())
     }
 
     fn remove_dir_all<B: Allocator>(&self, _alloc: B, _path: &str) -> io::Result<()> {
-        Err(unsupported())
+        Err(unsupported_error())
     }
 }
 
@@ -120,15 +120,15 @@ pub struct SlowOutput<'a>(pub &'a RefCell<Vec<u8>>);
 
 impl Print for SlowOutput<'_> {
     fn print<D: Display + Drop>(&self, _value: D) -> io::Result<()> {
-        Err(unsupported())
+        Err(unsupported_error())
     }
 
     fn println<D: Display + Drop>(&self, _value: D) -> io::Result<()> {
-        Err(unsupported())
+        Err(unsupported_error())
     }
 
     fn write_all(&self, _bytes: &[u8]) -> io::Result<()> {
-        Err(unsupported())
+        Err(unsupported_error())
     }
 
     fn write_some(&self, bytes: &[u8]) -> io::Result<usize> {
@@ -140,7 +140,7 @@ impl Print for SlowOutput<'_> {
                 taken.push(*first)?;
                 Ok(1)
             }
-            Err(_) => Err(unsupported()),
+            Err(_) => Err(unsupported_error()),
         }
     }
 }

@@ -26,7 +26,8 @@ super_in (b ∷ bs) k = if same_member b.bound.member k then b.super_at else sup
 abbrev pub bounds_of : List MemberBound → List Bound
 bounds_of members = map (λ (b : MemberBound). b.bound) members
 
-abbrev pub program_of : List Source → List (UnitTree Span) → List Row → List MemberBound → Program Span
+abbrev pub program_of : List Source → List (UnitTree Span) → List Row → List MemberBound
+    → Program Span
 program_of sources units rows members = record {
   files = files_of sources units;
   rows = rows;

@@ -9,5 +9,6 @@ use Rattle.jr_shown.specs.declared.bounds.MemberBound.{MemberBound}
 use Rattle.jr_sources.specs.Sources.{Source}
 use Rattle.jr_sources.specs.Whole.{program_of}
 
-abbrev pub whole_of : List Source × (List (Unit Span) × (List Row × List MemberBound)) → Program Span
+abbrev pub whole_of : List Source × (List (Unit Span) × (List Row × List MemberBound))
+    → Program Span
 whole_of w = program_of w.0 (map unit_of w.1.0) w.1.1.0 w.1.1.1

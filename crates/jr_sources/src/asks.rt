@@ -23,7 +23,7 @@ fn is_name(text: &str) -> bool
 /// Why a refactoring of a file is refused before its sources are analysed: the offset is past the
 /// text's end or inside a character (`BadPlace`), or else the new name is no identifier (`BadName`)
 /// (JLS 3.8).
-pub fn unasked(
+pub fn refusal_of_request(
     alloc: Global,
     file: &Name,
     text: &Text,

@@ -11,7 +11,7 @@ use crate::sources::Sources;
 use jr_lex::{items_are_placed, one_answer};
 
 // The first of all as a fault, with its rule's name.
-fn told(sources: &Sources, analysis: &Analysis, broken: Broken) -> SourceFault
+fn fault_of_first(sources: &Sources, analysis: &Analysis, broken: Broken) -> SourceFault
     requires analysis { IsAnalysis sources.now analysis.now }
     requires first { IsFirst (SomeErrs analysis.now.members.items) broken.file broken.at
         broken.rule }
@@ -28,8 +28,8 @@ fn told(sources: &Sources, analysis: &Analysis, broken: Broken) -> SourceFault
     }
 }
 
-/// The first rule that a member of analysed sources breaks, by file, place and rule, with the rule's
-/// name (JLS 6, 8, 14, 15).
+/// The first rule that a member of analysed sources breaks, by file, place and rule, with the
+/// rule's name (JLS 6, 8, 14, 15).
 pub fn first_error(sources: &Sources, analysis: &Analysis) -> Option<SourceFault>
     requires { IsAnalysis sources.now analysis.now }
     ensures { MatchOption result (AreSound sources.now) (IsSourceWrong sources.now) }
@@ -38,6 +38,6 @@ pub fn first_error(sources: &Sources, analysis: &Analysis) -> Option<SourceFault
     one_answer();
     match first_broken(analysis.members.as_slice()) {
         None => None,
-        Some(broken) => Some(told(sources, analysis, broken)),
+        Some(broken) => Some(fault_of_first(sources, analysis, broken)),
     }
 }

@@ -19,7 +19,7 @@ mod sources;
 mod whole;
 
 pub use analyses::{Analysed, Analysis, SourceFault};
-pub use asks::unasked;
+pub use asks::refusal_of_request;
 pub use errors::first_error;
 pub use faults::{FaultKind, ReadingFault};
 pub use kept::Readings;

@@ -20,4 +20,4 @@ pub use laws::spellings_rebind;
 pub use references::{Operand, RefForm, Reference};
 pub use respelling::respell;
 pub use spellings::{Form, Spelling};
-pub use taking::taken;
+pub use taking::take_form;

@@ -15,7 +15,7 @@ use std::alloc::{AllocError, Global};
 
 /// The form of the first spelling of a kept reference that binds to its declaration at a place of
 /// the scope, in the program of the table; `None` exactly where none binds. `respell` has its text.
-pub fn taken(
+pub fn take_form(
     alloc: Global,
     table: &Table,
     scope: &Scope,

@@ -24,7 +24,7 @@ fn operand_text(reference: &Reference) -> &str
 }
 
 /// `front.name`
-fn dotted(alloc: Global, front: &str, name: &str) -> Result<Name, AllocError>
+fn dotted_name(alloc: Global, front: &str, name: &str) -> Result<Name, AllocError>
     ensures { IfOk result (λ n. n ≡ front.now ++ (codes "." ++ name.now)) }
 {
     let text = format!(in alloc; "{front}.{name}")?;
@@ -46,7 +46,7 @@ fn class_name(alloc: Global, class: &ClassKey) -> Result<Name, AllocError>
 {
     match &class.outer {
         None => Name::new(alloc, class.name.as_str()),
-        Some(outer) => dotted(alloc, outer.as_str(), class.name.as_str()),
+        Some(outer) => dotted_name(alloc, outer.as_str(), class.name.as_str()),
     }
 }
 
@@ -56,7 +56,7 @@ fn outer_member(alloc: Global, class: &ClassKey, name: &str) -> Result<Name, All
         ++ (codes "." ++ name.now)) }
 {
     let front = class_name(alloc, class)?;
-    dotted(alloc, front.as_str(), name)
+    dotted_name(alloc, front.as_str(), name)
 }
 
 /// The text of a spelling.
@@ -73,11 +73,11 @@ pub(crate) fn text(
     let name = declared_name(target);
     match form {
         Form::Asked => Name::new(alloc, reference.asked.as_str()),
-        Form::OnThis => dotted(alloc, "this", name),
-        Form::OnSuper => dotted(alloc, "super", name),
+        Form::OnThis => dotted_name(alloc, "this", name),
+        Form::OnSuper => dotted_name(alloc, "super", name),
         Form::OnCastThis => cast(alloc, class, "this", name),
         Form::OnCastOperand => cast(alloc, class, operand_text(reference), name),
-        Form::OnClass => dotted(alloc, class.name.as_str(), name),
+        Form::OnClass => dotted_name(alloc, class.name.as_str(), name),
         Form::OnOuterClass => outer_member(alloc, class, name),
         Form::Class => Name::new(alloc, class.name.as_str()),
         Form::OuterClass => class_name(alloc, class),

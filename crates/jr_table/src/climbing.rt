@@ -76,7 +76,7 @@ impl Table {
     }
 
     /// What a class hands down of a row: nothing, where it is private.
-    fn inherited(&self, number: Option<u32>) -> Option<u32>
+    fn without_private(&self, number: Option<u32>) -> Option<u32>
         ensures { result ≡ inherited (entries_of self.now) number }
     {
         match number {
@@ -101,7 +101,7 @@ impl Table {
         }
         match self.parent_of(class) {
             None => None,
-            Some(parent) => self.inherited(self.nearest(parent, wanted)),
+            Some(parent) => self.without_private(self.nearest(parent, wanted)),
         }
     }
 }

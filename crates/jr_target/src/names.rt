@@ -36,7 +36,7 @@ fn member_begins(at: u32, member: &Member<Span>) -> bool
 }
 
 /// What a member's own name declares: that of a constructor stands for its class.
-fn declared(alloc: Global, key: &MemberKey) -> Result<Decl, AllocError>
+fn decl_of_member(alloc: Global, key: &MemberKey) -> Result<Decl, AllocError>
     ensures { IfOk result (λ d. decl_of d ≡ declared_by (member_key_of key.now)) }
 {
     match key {
@@ -63,7 +63,7 @@ fn member_there(alloc: Global, is_there: bool, key: &MemberKey) -> Result<Option
         ≡ (if is_there then Some (declared_by (member_key_of key.now)) else None)) }
 {
     if is_there {
-        Ok(Some(declared(alloc, key)?))
+        Ok(Some(decl_of_member(alloc, key)?))
     } else {
         Ok(None)
     }

@@ -91,7 +91,7 @@ fn has_listed<V: View<Span>>(
 }
 
 /// What the word that begins at a byte of a file declares or is bound to.
-fn named<V: View<Span>>(
+fn decl_named<V: View<Span>>(
     alloc: Global,
     view: &V,
     file: u32,
@@ -129,6 +129,6 @@ pub fn target<V: View<Span>>(
     let begins = identifier_at(alloc, view.text(file), at)?;
     match begins {
         None => Ok(None),
-        Some(from) => named(alloc, view, file, from),
+        Some(from) => decl_named(alloc, view, file, from),
     }
 }

@@ -5,7 +5,7 @@ ghost use Rattle.jr_words.specs.Asked.{FindsArguments, IsArgumentsFault, IsRunCo
 ghost use Rattle.jr_words.specs.Asked.{IsWordsFault, command_of};
 ghost use Rattle.jr_words.specs.Words.{MayWantMemory, Mean, texts_of};
 
-use crate::operands::{differ, numbered, option_place};
+use crate::operands::{differ, option_place, with_numbers};
 use crate::words::{Command, WordsFault};
 use clap::error::ErrorKind;
 use clap::{Arg, ArgAction, ArgMatches};
@@ -21,7 +21,7 @@ pub(crate) fn read_run(alloc: Global, words: &[String]) -> Result<Command<'_>, W
     let Some(texts) = matches.get_strs("operands") else {
         return Err(WordsFault::Usage);
     };
-    let mut operands = numbered(alloc, texts, option_place(words))?;
+    let mut operands = with_numbers(alloc, texts, option_place(words))?;
     if operands.is_empty() {
         return Err(WordsFault::Usage);
     }

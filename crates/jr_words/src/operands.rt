@@ -21,7 +21,7 @@ pub(crate) fn option_place(words: &[String]) -> usize
 
 /// The operands with the numbers of their words, of which the first is 1: the option and its folder
 /// stand at `option`.
-pub(crate) fn numbered<'a>(
+pub(crate) fn with_numbers<'a>(
     alloc: Global,
     texts: &[&'a str],
     option: usize,

@@ -10,7 +10,7 @@ use Rattle.jr_ast.proofs.member_marks.class_with.Goals as goal
 pub returns : goal.returns
 unfolding same.map_member same.map_members same.map_class
 returns g c = λ copied h k agree.
-    let mark = mark_agrees agree c.marked.ensures in
+    let mark = mark_agrees agree c.mark_by.ensures in
     let words = c.in_ok-words.ensures h k agree ∙ ap (λ xs. map (same.map_modifier k) (map modifier_of xs)) c.deref.ensures.value in
     let name = c.in_ok-name.ensures h k agree in
     let parent = c.in_ok-parent.ensures h k agree in

@@ -9,7 +9,7 @@ use Rattle.jr_ast.proofs.member_marks.field.Goals as goal
 pub returns-in-None : goal.returns-in-None
 unfolding same.map_member same.map_members same.map_class
 returns-in-None g c = IfOk-weaker c.in_box.result _ _ (λ x boxed h k agree.
-    let mark = mark_agrees agree c.marked.ensures in
+    let mark = mark_agrees agree c.mark_by.ensures in
     let words = c.in_ok-words.ensures h k agree in
     let of_type = c.in_ok-of_type.ensures h k agree in
     let name = c.in_ok-name.ensures h k agree in
@@ -19,7 +19,7 @@ returns-in-None g c = IfOk-weaker c.in_box.result _ _ (λ x boxed h k agree.
 pub returns-in-Some : goal.returns-in-Some
 unfolding same.map_member same.map_members same.map_class
 returns-in-Some g c = IfOk-weaker c.in_box-in-Some.result _ _ (λ x boxed h k agree.
-    let mark = mark_agrees agree c.marked-in-Some.ensures in
+    let mark = mark_agrees agree c.mark_by-in-Some.ensures in
     let words = c.in_ok-words.ensures h k agree in
     let of_type = c.in_ok-of_type.ensures h k agree in
     let name = c.in_ok-name.ensures h k agree in

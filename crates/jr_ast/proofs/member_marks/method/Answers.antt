@@ -9,7 +9,7 @@ use Rattle.jr_ast.proofs.member_marks.method.Goals as goal
 pub returns : goal.returns
 unfolding same.map_member same.map_members same.map_class
 returns g c = IfOk-weaker c.in_box.result _ _ (λ x boxed h k agree.
-    let mark = mark_agrees agree c.marked.ensures in
+    let mark = mark_agrees agree c.mark_by.ensures in
     let words = c.in_ok-head.ensures.words h k agree in
     let ret = c.in_ok-ret.ensures h k agree in
     let name = c.in_ok-head.ensures.name h k agree in

@@ -6,7 +6,7 @@ use Rattle.jr_ast.proofs.member_marks.unit.Goals as goal
 
 pub returns : goal.returns
 returns g c = λ h k agree.
-    let mark = mark_agrees agree c.marked.ensures in
+    let mark = mark_agrees agree c.mark_by.ensures in
     let path = c.in_ok-path.ensures h k agree ∙ ap (λ xs. map (same.map_word k) (map word_of xs)) c.deref.ensures.value in
     let all = c.in_ok-all.ensures h k agree ∙ ap (λ xs. map (same.map_class k) (map class_of xs)) c.deref-2.ensures.value in
     ap (same.map_unit h) c.new.ensures ∙ (λ i. record { mark = mark i; package_name = path i; classes = all i })

@@ -55,7 +55,7 @@ stmt-returns-in-Local g t c =
     let at = c.in-Local in
     let m = c.args.of.now.mark in
     IfOk-weaker c.local.result _ _ (λ x made. with_part c.ty-of_type.result made c.ty-of_type.ensures (λ kind' made1 kind. with_part c.word-name.result made1 c.word-name.ensures (λ name' made2 name. with_part c.expr.result made2 c.expr.ensures (λ init' is init. λ h k agree.
-    let mark = mark_agrees agree c.marked-mark.ensures in
+    let mark = mark_agrees agree c.mark_by-mark.ensures in
     ap (same.map_stmt h) is ∙ (λ i. tree.local (mark i) at.is_final (kind h k agree i) (name h k agree i) (init h k agree i)) ∙ sym (ap (λ d. same.map_stmt k (stmt_kind m d)) at.is))))) c.local.ensures
 
 pub stmt-returns-in-Eval : goal.stmt-returns-in-Eval
@@ -64,7 +64,7 @@ stmt-returns-in-Eval g t c =
     let at = c.in-Eval in
     let m = c.args.of.now.mark in
     IfOk-weaker c.eval.result _ _ (λ x made. with_part c.expr-in-Eval.result made c.expr-in-Eval.ensures (λ value' is value. λ h k agree.
-    let mark = mark_agrees agree c.marked-mark.ensures in
+    let mark = mark_agrees agree c.mark_by-mark.ensures in
     ap (same.map_stmt h) is ∙ (λ i. tree.eval (mark i) (value h k agree i)) ∙ sym (ap (λ d. same.map_stmt k (stmt_kind m d)) at.is))) c.eval.ensures
 
 pub stmt-returns-in-If : goal.stmt-returns-in-If
@@ -73,7 +73,7 @@ stmt-returns-in-If g t c =
     let at = c.in-If in
     let m = c.args.of.now.mark in
     IfOk-weaker c.conditional.result _ _ (λ x made. with_part c.expr-condition.result made c.expr-condition.ensures (λ condition' made1 condition. with_part c.stmt.result made1 c.stmt.ensures (λ yes' made2 yes. with_part c.else_stmt.result made2 c.else_stmt.ensures (λ no' is no. λ h k agree.
-    let mark = mark_agrees agree c.marked-mark.ensures in
+    let mark = mark_agrees agree c.mark_by-mark.ensures in
     ap (same.map_stmt h) is ∙ (λ i. tree.branch (mark i) (condition h k agree i) ((yes h k agree ∙ ap (λ y. same.map_stmt k (stmt_of y)) c.deref.ensures) i) (no h k agree i)) ∙ sym (ap (λ d. same.map_stmt k (stmt_kind m d)) at.is ∙ ap (same.map_stmt k) (stmt_kind-If _ m at.condition at.yes at.no)))))) c.conditional.ensures
 
 pub stmt-returns-in-While : goal.stmt-returns-in-While
@@ -82,7 +82,7 @@ stmt-returns-in-While g t c =
     let at = c.in-While in
     let m = c.args.of.now.mark in
     IfOk-weaker c.while_loop.result _ _ (λ x made. with_part c.expr-in-While.result made c.expr-in-While.ensures (λ condition' made1 condition. with_part c.stmt-in-While.result made1 c.stmt-in-While.ensures (λ body' is body. λ h k agree.
-    let mark = mark_agrees agree c.marked-mark.ensures in
+    let mark = mark_agrees agree c.mark_by-mark.ensures in
     ap (same.map_stmt h) is ∙ (λ i. tree.loop (mark i) (condition h k agree i) ((body h k agree ∙ ap (λ y. same.map_stmt k (stmt_of y)) c.deref-in-While.ensures) i)) ∙ sym (ap (λ d. same.map_stmt k (stmt_kind m d)) at.is)))) c.while_loop.ensures
 
 pub stmt-returns-in-Return : goal.stmt-returns-in-Return
@@ -90,9 +90,9 @@ unfolding same.map_stmt same.map_stmts same.map_else stmt_kind stmt_row held_els
 stmt-returns-in-Return g t c =
     let at = c.in-Return in
     let m = c.args.of.now.mark in
-    IfOk-weaker c.returned.result _ _ (λ x made. with_part c.maybe_expr.result made c.maybe_expr.ensures (λ value' is value. λ h k agree.
-    let mark = mark_agrees agree c.marked-mark.ensures in
-    ap (same.map_stmt h) is ∙ (λ i. tree.return (mark i) (value h k agree i)) ∙ sym (ap (λ d. same.map_stmt k (stmt_kind m d)) at.is))) c.returned.ensures
+    IfOk-weaker c.return_stmt.result _ _ (λ x made. with_part c.maybe_expr.result made c.maybe_expr.ensures (λ value' is value. λ h k agree.
+    let mark = mark_agrees agree c.mark_by-mark.ensures in
+    ap (same.map_stmt h) is ∙ (λ i. tree.return (mark i) (value h k agree i)) ∙ sym (ap (λ d. same.map_stmt k (stmt_kind m d)) at.is))) c.return_stmt.ensures
 
 pub stmt-returns-in-Block : goal.stmt-returns-in-Block
 unfolding same.map_stmt same.map_stmts same.map_else stmt_kind stmt_row held_else
@@ -100,7 +100,7 @@ stmt-returns-in-Block g t c =
     let at = c.in-Block in
     let m = c.args.of.now.mark in
     IfOk-weaker c.block.result _ _ (λ x made. with_part c.stmts.result made c.stmts.ensures (λ body' is body. λ h k agree.
-    let mark = mark_agrees agree c.marked-mark.ensures in
+    let mark = mark_agrees agree c.mark_by-mark.ensures in
     ap (same.map_stmt h) is ∙ (λ i. tree.block (mark i) ((body h k agree ∙ ap (λ xs. same.map_stmts k (stmts_of xs)) c.deref-in-Block.ensures.value) i)) ∙ sym (ap (λ d. same.map_stmt k (stmt_kind m d)) at.is ∙ ap (same.map_stmt k) (stmt_kind-Block _ m at.body)))) c.block.ensures
 
 pub stmt-returns-in-Sync : goal.stmt-returns-in-Sync
@@ -109,7 +109,7 @@ stmt-returns-in-Sync g t c =
     let at = c.in-Sync in
     let m = c.args.of.now.mark in
     IfOk-weaker c.sync.result _ _ (λ x made. with_part c.expr-in-Sync.result made c.expr-in-Sync.ensures (λ lock' made1 lock. with_part c.stmts-in-Sync.result made1 c.stmts-in-Sync.ensures (λ body' is body. λ h k agree.
-    let mark = mark_agrees agree c.marked-mark.ensures in
+    let mark = mark_agrees agree c.mark_by-mark.ensures in
     ap (same.map_stmt h) is ∙ (λ i. tree.sync (mark i) (lock h k agree i) ((body h k agree ∙ ap (λ xs. same.map_stmts k (stmts_of xs)) c.deref-in-Sync.ensures.value) i)) ∙ sym (ap (λ d. same.map_stmt k (stmt_kind m d)) at.is ∙ ap (same.map_stmt k) (stmt_kind-Sync _ m at.lock at.body))))) c.sync.ensures
 
 pub stmt-returns-in-Empty : goal.stmt-returns-in-Empty
@@ -118,7 +118,7 @@ stmt-returns-in-Empty g t c =
     let at = c.in-Empty in
     let m = c.args.of.now.mark in
     IfOk-weaker c.empty.result _ _ (λ x is h k agree.
-    let mark = mark_agrees agree c.marked-mark.ensures in
+    let mark = mark_agrees agree c.mark_by-mark.ensures in
     ap (same.map_stmt h) is ∙ (λ i. tree.empty (mark i)) ∙ sym (ap (λ d. same.map_stmt k (stmt_kind m d)) at.is)) c.empty.ensures
 
 pub else_stmt-stmt-requires : goal.else_stmt-stmt-requires

@@ -14,7 +14,7 @@ returns-clause-slots c =
     let third = put_leaves c.args.params second in
     let h = add_more front first second _ _ _ (leaves_flats c.args.named first) c.in_ok-put_row.ensures c.in_ok-put_row-2.ensures in
     let k = add_more front second third _ _ _ (leaves_flats c.args.params second) h c.in_ok-put_row-3.ensures in
-    IfOk-weaker c.joined-2.result _ _ (λ n e. k) c.joined-2.ensures
+    IfOk-weaker c.more_parts-2.result _ _ (λ n e. k) c.more_parts-2.ensures
 
 pub returns-clause-count : goal.returns-clause-count
 returns-clause-count c =
@@ -24,4 +24,4 @@ returns-clause-count c =
     let b = leaves_counted c.args.named first in
     let d = leaves_counted c.args.params second in
     let sum = c.in_ok-first.ensures in
-    IfOk-weaker c.joined-2.result _ _ (λ n e. omega (arith, a, b, d, sum, e)) c.joined-2.ensures
+    IfOk-weaker c.more_parts-2.result _ _ (λ n e. omega (arith, a, b, d, sum, e)) c.more_parts-2.ensures

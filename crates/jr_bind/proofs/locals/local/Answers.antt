@@ -20,7 +20,7 @@ returns-clause-passes g c =
     let w = word_of c.args.name.now in
     let e = expr_of c.args.init.now in
     let old = c.args.log.now.items in
-    subst (λ (b : Behind). LocalPasses B rows p c.args.at c.args.number c.args.is_final t w e old b (with_held q q.locals None) c.local_init.new.log.items) (sym c.reached.ensures)
+    subst (λ (b : Behind). LocalPasses B rows p c.args.at c.args.number c.args.is_final t w e old b (with_held q q.locals None) c.local_init.new.log.items) (sym c.reachable_from.ensures)
     (local_whole B rows c.keeps_rows.ensures p q c.args.at c.args.number c.args.is_final t w e c.in_ok-kind.kind c.in_ok-next.next old c.local_head.new.log.items c.local_init.new.log.items
     c.in_ok-next.ensures c.in_ok-kind.ensures.kind c.in_ok-kind.ensures.notes c.in_ok-declare.ensures.context c.in_ok-declare.ensures.knows c.in_ok-local_init.ensures.notes)
 

@@ -102,9 +102,9 @@ stmt-lock-requires-clause-fits g t c =
     let f = subst (λ (x : statement.Stmt g.row.A.Denot). FitsStmt B F base x) (ap (stmt_kind m) c.in-Sync.is ∙ stmt_kind-Sync _ m c.in-Sync.object c.in-Sync.body) c.requires.fits in
     subst (λ (a : ℕ). FitsExp B F a (expr_of c.in-Sync.object)) (sym start) f.1
 
-pub stmt-returned-requires-clause-fits : goal.stmt-returned-requires-clause-fits
+pub stmt-return_value-requires-clause-fits : goal.stmt-return_value-requires-clause-fits
 unfolding stmt_size stmts_size else_size stmt_kind stmt_row held_else FitsStmt FitsElse FitsStmts
-stmt-returned-requires-clause-fits g t c =
+stmt-return_value-requires-clause-fits g t c =
     let B = λ (m : g.row.A.Denot) (b : ℕ). (g.A.Mark.span_from m b).from in
     let F = g.A.Mark.fits_at in
     let base = c.args.base in
@@ -202,12 +202,12 @@ stmt-returns-in_ok-eval-in-Eval-clause-passes g t c =
     let m = c.args.of.now.mark in
     let start = ap (λ (z : Span). z.from) c.span-at.ensures in
     let old = c.args.log.now.items in
-    subst (λ (b : Behind). StmtPasses B rows n p base (stmt_of c.args.of.now) old b p c.eval.new.log.items) (sym c.reached.ensures)
+    subst (λ (b : Behind). StmtPasses B rows n p base (stmt_of c.args.of.now) old b p c.eval.new.log.items) (sym c.reachable_from.ensures)
     (subst (λ (x : statement.Stmt g.row.A.Denot). StmtPasses B rows n p base x old (reached n) p c.eval.new.log.items) (sym (ap (stmt_kind m) c.in-Eval.is)) (eval_passes B rows n p c.requires.knows base c.span-at.result.from m start (expr_of c.in-Eval.value) old _ c.in_ok-eval-in-Eval.ensures.notes))
 
-pub stmt-returns-in_ok-returned-in-Return-clause-passes : goal.stmt-returns-in_ok-returned-in-Return-clause-passes
+pub stmt-returns-in_ok-return_value-in-Return-clause-passes : goal.stmt-returns-in_ok-return_value-in-Return-clause-passes
 unfolding stmt_kind stmt_row held_else
-stmt-returns-in_ok-returned-in-Return-clause-passes g t c =
+stmt-returns-in_ok-return_value-in-Return-clause-passes g t c =
     let B = λ (m : g.row.A.Denot) (b : ℕ). (g.A.Mark.span_from m b).from in
     let rows = c.args.table.now in
     let p = c.args.place.now in
@@ -216,8 +216,8 @@ stmt-returns-in_ok-returned-in-Return-clause-passes g t c =
     let m = c.args.of.now.mark in
     let start = ap (λ (z : Span). z.from) c.span-at.ensures in
     let old = c.args.log.now.items in
-    subst (λ (b : Behind). StmtPasses B rows n p base (stmt_of c.args.of.now) old b p c.returned.new.log.items) (sym c.unreached.ensures)
-    (subst (λ (x : statement.Stmt g.row.A.Denot). StmtPasses B rows n p base x old (unreached n) p c.returned.new.log.items) (sym (ap (stmt_kind m) c.in-Return.is)) (return_passes B rows n p c.requires.knows base c.span-at.result.from m start (option_map expr_of c.in-Return.value) old _ c.in_ok-returned-in-Return.ensures.notes))
+    subst (λ (b : Behind). StmtPasses B rows n p base (stmt_of c.args.of.now) old b p c.return_value.new.log.items) (sym c.unreachable_from.ensures)
+    (subst (λ (x : statement.Stmt g.row.A.Denot). StmtPasses B rows n p base x old (unreached n) p c.return_value.new.log.items) (sym (ap (stmt_kind m) c.in-Return.is)) (return_passes B rows n p c.requires.knows base c.span-at.result.from m start (option_map expr_of c.in-Return.value) old _ c.in_ok-return_value-in-Return.ensures.notes))
 
 pub stmt-returns-in-Empty-clause-passes : goal.stmt-returns-in-Empty-clause-passes
 unfolding stmt_kind stmt_row held_else
@@ -230,7 +230,7 @@ stmt-returns-in-Empty-clause-passes g t c =
     let m = c.args.of.now.mark in
     let start = ap (λ (z : Span). z.from) c.span-at.ensures in
     let old = c.args.log.now.items in
-    subst (λ (b : Behind). StmtPasses B rows n p base (stmt_of c.args.of.now) old b p old) (sym c.reached-in-Empty.ensures)
+    subst (λ (b : Behind). StmtPasses B rows n p base (stmt_of c.args.of.now) old b p old) (sym c.reachable_from-in-Empty.ensures)
     (subst (λ (x : statement.Stmt g.row.A.Denot). StmtPasses B rows n p base x old (reached n) p old) (sym (ap (stmt_kind m) c.in-Empty.is)) (empty_passes B rows n p c.requires.knows base c.span-at.result.from m start old))
 
 pub stmt-returns-in_ok-no-in-If-clause-passes : goal.stmt-returns-in_ok-no-in-If-clause-passes
@@ -322,7 +322,7 @@ otherwise-returns-in-None-clause-passes g t c =
     let rows = c.args.table.now in
     let p = c.args.place.now in
     let old = c.args.log.now.items in
-    subst (λ (b : Behind). ElsePasses B rows c.args.number p c.args.at (else_of c.args.of.now) old b p old) (sym c.reached.ensures)
+    subst (λ (b : Behind). ElsePasses B rows c.args.number p c.args.at (else_of c.args.of.now) old b p old) (sym c.reachable_from.ensures)
     (subst (λ o. ElsePasses B rows c.args.number p c.args.at (else_of o) old (reached c.args.number) p old) (sym c.in-None.is) (none_passes B rows c.args.number p c.requires.knows c.args.at old))
 
 pub otherwise-returns-in-Some-clause-passes : goal.otherwise-returns-in-Some-clause-passes
@@ -361,8 +361,8 @@ stmts-loop-of-init g t c =
       depth = depth;
       own = refl;
       fits = c.requires.fits;
-      slots = ap (λ (b : Behind). c.args.types.now ++ body_slots rows b.number (context_of p) (stmts_of c.args.body.now)) c.reached-behind.ensures;
-      going = subst (λ (b : Behind). Going B rows c.args.number p c.args.at (stmts_of c.args.body.now) old b p old (stmts_of c.args.body.now)) (sym c.reached-behind.ensures) (going_start B rows c.args.number p c.args.at (stmts_of c.args.body.now) old c.requires.knows);
+      slots = ap (λ (b : Behind). c.args.types.now ++ body_slots rows b.number (context_of p) (stmts_of c.args.body.now)) c.reachable_from-behind.ensures;
+      going = subst (λ (b : Behind). Going B rows c.args.number p c.args.at (stmts_of c.args.body.now) old b p old (stmts_of c.args.body.now)) (sym c.reachable_from-behind.ensures) (going_start B rows c.args.number p c.args.at (stmts_of c.args.body.now) old c.requires.knows);
     }
 
 pub stmts-item-requires : goal.stmts-item-requires
@@ -432,16 +432,16 @@ stmt-returns-in_ok-eval-in-Eval-clause-slots g t c =
     let shape = ap (λ x. front ++ flats (stmt_parts rows n ctx x)) (ap (stmt_kind m) c.in-Eval.is) in
     eval_slots rows n ctx front m (expr_of c.in-Eval.value) _ c.in_ok-eval-in-Eval.ensures.slots ∙ sym shape
 
-pub stmt-returns-in_ok-returned-in-Return-clause-slots : goal.stmt-returns-in_ok-returned-in-Return-clause-slots
+pub stmt-returns-in_ok-return_value-in-Return-clause-slots : goal.stmt-returns-in_ok-return_value-in-Return-clause-slots
 unfolding stmt_kind stmt_row held_else
-stmt-returns-in_ok-returned-in-Return-clause-slots g t c =
+stmt-returns-in_ok-return_value-in-Return-clause-slots g t c =
     let rows = c.args.table.now in
     let n = c.args.number in
     let ctx = context_of c.args.place.now in
     let m = c.args.of.now.mark in
     let front = c.args.types.now in
     let shape = ap (λ x. front ++ flats (stmt_parts rows n ctx x)) (ap (stmt_kind m) c.in-Return.is) in
-    return_slots rows n ctx front m (option_map expr_of c.in-Return.value) _ c.in_ok-returned-in-Return.ensures.slots ∙ sym shape
+    return_slots rows n ctx front m (option_map expr_of c.in-Return.value) _ c.in_ok-return_value-in-Return.ensures.slots ∙ sym shape
 
 pub stmt-returns-in-Empty-clause-slots : goal.stmt-returns-in-Empty-clause-slots
 unfolding stmt_kind stmt_row held_else stmt_parts

@@ -34,4 +34,4 @@ unfolding stmt_kind stmt_row held_else
 returns-in-Sync g c = λ rows n ctx.
     let m = c.args.of.now.mark in
     let shape = ap (λ x. count (stmt_parts rows n ctx x)) (ap (stmt_kind m) c.in-Sync.is ∙ stmt_kind-Sync _ m _ c.in-Sync.body) in
-    IfOk-weaker c.joined.result _ _ (λ k h. sync_counted rows n ctx m _ (stmts_of c.in-Sync.body.items) k (h ∙ ap (λ (x : ℕ). x + 1) (c.len-in-Sync.ensures ∙ c.in-Sync.body.ok.0 ∙ body_length c.in-Sync.body.items)) ∙ sym shape) c.joined.ensures
+    IfOk-weaker c.more_parts.result _ _ (λ k h. sync_counted rows n ctx m _ (stmts_of c.in-Sync.body.items) k (h ∙ ap (λ (x : ℕ). x + 1) (c.len-in-Sync.ensures ∙ c.in-Sync.body.ok.0 ∙ body_length c.in-Sync.body.items)) ∙ sym shape) c.more_parts.ensures

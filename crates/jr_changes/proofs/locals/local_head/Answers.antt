@@ -3,4 +3,4 @@ use Rattle.jr_renaming.specs.OutputView.{gathered}
 use Rattle.jr_changes.proofs.locals.local_head.Goals as goal
 
 pub returns : goal.returns
-returns g c = IfOk-weaker c.local_word.result _ _ (λ _ y. (gathered c.written.new.out, c.in_ok-written.ensures, y)) c.local_word.ensures
+returns g c = IfOk-weaker c.local_word.result _ _ (λ _ y. (gathered c.written_type.new.out, c.in_ok-written_type.ensures, y)) c.local_word.ensures

@@ -35,7 +35,7 @@ returns g c =
     let v = c.args.outer.now.name in
     let text = c.args.name.now.name in
     let e0 = gathered c.args.out.now in
-    on_ok c.put_member_class.result (λ ends. let e = ends e0 (out.alone p c.span-before.result) c.begun-from.ensures c.in_ok-put_alone.ensures in (
+    on_ok c.put_member_class.result (λ ends. let e = ends e0 (out.alone p c.span-before.result) c.start_of-from.ensures c.in_ok-put_alone.ensures in (
       p,
       ch,
       subst (λ (k : ℕ). chosen.QualifierIsChosen rows n x k v (Some p)) (ap (λ (z : Span). z.from) c.span-before.ensures) c.in_ok-first.ensures,

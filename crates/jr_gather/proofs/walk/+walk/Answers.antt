@@ -26,9 +26,9 @@ use Rattle.jr_gather.proofs.Stepping as step
 use Rattle.jr_gather.proofs.Oks.{on_ok}
 use Rattle.jr_gather.proofs.walk.+walk.Goals as goal
 
-pub expr-written-requires-clause-fits : goal.expr-written-requires-clause-fits
+pub expr-written_type-requires-clause-fits : goal.expr-written_type-requires-clause-fits
 unfolding exp_size exps_size target_size expr_kind expr_row held_target
-expr-written-requires-clause-fits g t c =
+expr-written_type-requires-clause-fits g t c =
     let T = g.A.Mark.span_from in
     let F = g.A.Mark.fits_at in
     let h = c.args.here.now in
@@ -41,9 +41,9 @@ expr-written-requires-clause-fits g t c =
     let ready = subst (λ (e : tree.Exp g.row.A.Denot). ExpReady T F h role path base e) (ap (expr_kind m) c.in-ClassLit.is) c.requires.ready in
     (arm.literal_needs T F h role path base m at start (type_of c.in-ClassLit.ty) ready).0
 
-pub expr-written-requires-clause-bound : goal.expr-written-requires-clause-bound
+pub expr-written_type-requires-clause-bound : goal.expr-written_type-requires-clause-bound
 unfolding exp_size exps_size target_size expr_kind expr_row held_target
-expr-written-requires-clause-bound g t c =
+expr-written_type-requires-clause-bound g t c =
     let T = g.A.Mark.span_from in
     let F = g.A.Mark.fits_at in
     let h = c.args.here.now in
@@ -397,8 +397,8 @@ expr-returns-in-ClassLit g t c =
     let at = c.span-span.result.from in
     let start : at ≡ (T m base).from = ap (λ (z : Span). z.from) c.span-span.ensures in
     let old = gathered c.args.out.now in
-    let new = gathered c.written.new.out in
-    IfOk-weaker c.written.result _ _ (λ _ x. subst (λ (e : tree.Exp g.row.A.Denot). ExpGathers T h role base e old new) (sym (ap (expr_kind m) c.in-ClassLit.is)) (arm.literal_returns T F h role path base m at start (type_of c.in-ClassLit.ty) old new x)) c.written.ensures
+    let new = gathered c.written_type.new.out in
+    IfOk-weaker c.written_type.result _ _ (λ _ x. subst (λ (e : tree.Exp g.row.A.Denot). ExpGathers T h role base e old new) (sym (ap (expr_kind m) c.in-ClassLit.is)) (arm.literal_returns T F h role path base m at start (type_of c.in-ClassLit.ty) old new x)) c.written_type.ensures
 
 pub expr-returns-in-Simple : goal.expr-returns-in-Simple
 unfolding expr_kind expr_row held_target
@@ -630,27 +630,27 @@ cast-operand-requires g t c =
 
 pub cast-returns : goal.cast-returns
 cast-returns g t c =
-    IfOk-weaker c.operand.result _ _ (λ _ x. (gathered c.written.new.out, c.in_ok-written.ensures, x)) c.operand.ensures
+    IfOk-weaker c.operand.result _ _ (λ _ x. (gathered c.written_type.new.out, c.in_ok-written_type.ensures, x)) c.operand.ensures
 
-pub dotted-span-operand-requires : goal.dotted-span-operand-requires
-dotted-span-operand-requires g t c =
+pub operand_and_word-span-operand-requires : goal.operand_and_word-span-operand-requires
+operand_and_word-span-operand-requires g t c =
     own_fits (λ (k : g.row.A.Denot) (b : ℕ). (g.A.Mark.span_from k b).from) g.A.Mark.fits_at c.args.at c.args.part.now c.requires.ready.0
 
-pub dotted-expr-requires : goal.dotted-expr-requires
-dotted-expr-requires g t c =
+pub operand_and_word-expr-requires : goal.operand_and_word-expr-requires
+operand_and_word-expr-requires g t c =
     λ κs o. (omega (arith, c.decreases), (o, (c.requires.known, c.requires.ready)))
 
-pub dotted-returns : goal.dotted-returns
-dotted-returns g t c =
-    on_ok c.put_end.result (λ ends. step.dotted_goes g.A.Mark.span_from c.args.here.now (choice_of c.args.choice) c.args.at c.args.word c.args.part.now c.span-operand.result c.begun-from.result
-    (gathered c.args.out.now) (gathered c.put_front.new.out) (gathered c.expr.new.out) (gathered c.put_end.new.out) c.span-operand.ensures c.in_ok-put_front.ensures c.begun-from.ensures c.in_ok-expr.ensures ends) c.put_end.ensures
+pub operand_and_word-returns : goal.operand_and_word-returns
+operand_and_word-returns g t c =
+    on_ok c.put_end.result (λ ends. step.dotted_goes g.A.Mark.span_from c.args.here.now (choice_of c.args.choice) c.args.at c.args.word c.args.part.now c.span-operand.result c.start_of-from.result
+    (gathered c.args.out.now) (gathered c.put_front.new.out) (gathered c.expr.new.out) (gathered c.put_end.new.out) c.span-operand.ensures c.in_ok-put_front.ensures c.start_of-from.ensures c.in_ok-expr.ensures ends) c.put_end.ensures
 
 pub field-dotted_choice-requires-clause-ready : goal.field-dotted_choice-requires-clause-ready
 field-dotted_choice-requires-clause-ready g t c =
     subst (λ (q : List ℕ). ExpReady g.A.Mark.span_from g.A.Mark.fits_at c.args.here.now left q c.args.at (expr_of c.args.part.now)) (sym c.in_ok-inner.ensures) c.requires.ready
 
-pub field-dotted-requires : goal.field-dotted-requires
-field-dotted-requires g t c =
+pub field-operand_and_word-requires : goal.field-operand_and_word-requires
+field-operand_and_word-requires g t c =
     λ κs o. (omega (arith, c.decreases), (o, (c.requires.known, subst (λ (q : List ℕ). ExpReady g.A.Mark.span_from g.A.Mark.fits_at c.args.here.now left q c.args.at (expr_of c.args.part.now)) (sym c.in_ok-inner.ensures) c.requires.ready)))
 
 pub field-returns : goal.field-returns
@@ -660,18 +660,18 @@ field-returns g t c =
     let h = c.args.here.now in
     let w = word_of c.args.name.now in
     let ch = choice_of c.in_ok-choice.choice in
-    IfOk-weaker c.dotted.result _ _ (λ _ x. (
+    IfOk-weaker c.operand_and_word.result _ _ (λ _ x. (
       ch,
       subst (λ (k : ℕ). DottedSpells B (rows_of h) (naming_of h) (context_of h) (role_of c.args.role) k (expr_of c.args.part.now) w.text ch) (ap (λ (z : Span). z.from) c.span-word.ensures) c.in_ok-choice.ensures,
-      subst (λ (s : Span). DottedGathers T h ch c.args.at s (expr_of c.args.part.now) (gathered c.args.out.now) (gathered c.dotted.new.out)) c.span-word.ensures x,
-    )) c.dotted.ensures
+      subst (λ (s : Span). DottedGathers T h ch c.args.at s (expr_of c.args.part.now) (gathered c.args.out.now) (gathered c.operand_and_word.new.out)) c.span-word.ensures x,
+    )) c.operand_and_word.ensures
 
 pub call_on-call_choice-requires-clause-ready : goal.call_on-call_choice-requires-clause-ready
 call_on-call_choice-requires-clause-ready g t c =
     subst (λ (q : List ℕ). ExpReady g.A.Mark.span_from g.A.Mark.fits_at c.args.here.now left q c.args.at (expr_of c.args.part.now)) (sym c.in_ok-inner.ensures) c.requires.ready
 
-pub call_on-dotted-requires : goal.call_on-dotted-requires
-call_on-dotted-requires g t c =
+pub call_on-operand_and_word-requires : goal.call_on-operand_and_word-requires
+call_on-operand_and_word-requires g t c =
     λ κs o. (omega (arith, c.decreases), (o, (c.requires.known, subst (λ (q : List ℕ). ExpReady g.A.Mark.span_from g.A.Mark.fits_at c.args.here.now left q c.args.at (expr_of c.args.part.now)) (sym c.in_ok-inner.ensures) c.requires.ready)))
 
 pub call_on-returns : goal.call_on-returns
@@ -681,14 +681,14 @@ call_on-returns g t c =
     let h = c.args.here.now in
     let w = word_of c.args.name.now in
     let ch = choice_of c.in_ok-choice.choice in
-    IfOk-weaker c.dotted.result _ _ (λ _ x. (
+    IfOk-weaker c.operand_and_word.result _ _ (λ _ x. (
       ch,
       subst (λ (k : ℕ). spells.CallSpells B (rows_of h) (naming_of h) (context_of h) k (expr_of c.args.part.now) w.text (exprs_of c.args.args.now) ch) (ap (λ (z : Span). z.from) c.span-word.ensures) c.in_ok-choice.ensures,
-      subst (λ (s : Span). DottedGathers T h ch c.args.at s (expr_of c.args.part.now) (gathered c.args.out.now) (gathered c.dotted.new.out)) c.span-word.ensures x,
-    )) c.dotted.ensures
+      subst (λ (s : Span). DottedGathers T h ch c.args.at s (expr_of c.args.part.now) (gathered c.args.out.now) (gathered c.operand_and_word.new.out)) c.span-word.ensures x,
+    )) c.operand_and_word.ensures
 
-pub target_word-called-requires : goal.target_word-called-requires
-target_word-called-requires g t c =
+pub target_word-call_word-requires : goal.target_word-call_word-requires
+target_word-call_word-requires g t c =
     record { known = c.requires.known; fits = c.requires.fits; types = subst (λ (o : (Option (Box (Expr g.row.A.Denot) Global))). TypesRow c.args.here.now (context_of c.args.here.now) c.args.path.now.steps.items (first_of (target_of o)) (exprs_of c.args.args.now)) c.in-None.is c.requires.types; bound = subst (λ (o : (Option (Box (Expr g.row.A.Denot) Global))). CallIsBound (λ (k : g.row.A.Denot) (b : ℕ). (g.A.Mark.span_from k b).from) (rows_of c.args.here.now) (context_of c.args.here.now) (target_of o) c.args.name.now.name (exprs_of c.args.args.now)) c.in-None.is c.requires.bound }
 
 pub target_word-call_on-requires : goal.target_word-call_on-requires
@@ -724,7 +724,7 @@ target_word-call_on-requires g t c =
 pub target_word-returns-in-None : goal.target_word-returns-in-None
 target_word-returns-in-None g t c =
     let T = g.A.Mark.span_from in
-    IfOk-weaker c.called.result _ _ (λ _ x. subst (λ (o : (Option (Box (Expr g.row.A.Denot) Global))). TargetGathers T c.args.here.now c.args.at (target_of o) (word_of c.args.name.now) (exprs_of c.args.args.now) (gathered c.args.out.now) (gathered c.called.new.out)) (sym c.in-None.is) (x)) c.called.ensures
+    IfOk-weaker c.call_word.result _ _ (λ _ x. subst (λ (o : (Option (Box (Expr g.row.A.Denot) Global))). TargetGathers T c.args.here.now c.args.at (target_of o) (word_of c.args.name.now) (exprs_of c.args.args.now) (gathered c.args.out.now) (gathered c.call_word.new.out)) (sym c.in-None.is) (x)) c.call_word.ensures
 
 pub target_word-returns-in-Some : goal.target_word-returns-in-Some
 target_word-returns-in-Some g t c =
@@ -755,8 +755,8 @@ pub super_call-returns : goal.super_call-returns
 super_call-returns g t c =
     IfOk-weaker c.exprs.result _ _ (λ _ x. (gathered c.called_on_super.new.out, c.in_ok-called_on_super.ensures, x)) c.exprs.ensures
 
-pub create-created-requires : goal.create-created-requires
-create-created-requires g t c =
+pub create-creation_words-requires : goal.create-creation_words-requires
+create-creation_words-requires g t c =
     record { known = c.requires.known; fits = c.requires.fits; created = c.requires.created; types = c.requires.ready.3; type_bound = c.requires.type_bound; bound = c.requires.bound }
 
 pub create-exprs-requires : goal.create-exprs-requires
@@ -765,7 +765,7 @@ create-exprs-requires g t c =
 
 pub create-returns : goal.create-returns
 create-returns g t c =
-    IfOk-weaker c.exprs.result _ _ (λ _ x. (gathered c.created.new.out, c.in_ok-created.ensures, x)) c.exprs.ensures
+    IfOk-weaker c.exprs.result _ _ (λ _ x. (gathered c.creation_words.new.out, c.in_ok-creation_words.ensures, x)) c.exprs.ensures
 
 pub exprs-operand-requires : goal.exprs-operand-requires
 exprs-operand-requires g t c =

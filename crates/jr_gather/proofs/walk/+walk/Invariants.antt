@@ -19,8 +19,8 @@ decreases-pair g l = 5 * (exp_size (expr_of l.left.now) + exp_size (expr_of l.ri
 abbrev pub decreases-cast : goal.decreases-cast
 decreases-cast g l = 5 * exp_size (expr_of l.part.now) + 2
 
-abbrev pub decreases-dotted : goal.decreases-dotted
-decreases-dotted g l = 5 * exp_size (expr_of l.part.now) + 1
+abbrev pub decreases-operand_and_word : goal.decreases-operand_and_word
+decreases-operand_and_word g l = 5 * exp_size (expr_of l.part.now) + 1
 
 abbrev pub decreases-field : goal.decreases-field
 decreases-field g l = 5 * exp_size (expr_of l.part.now) + 2

@@ -17,4 +17,4 @@ returns c =
     let kinds = c.as_slice.ensures ∙ c.in_ok-kinds.ensures in
     let exact = c.lookups_are_exact.ensures.keys rows c.keeps_rows.ensures in
     let is = c.in_ok-answer.ensures ∙ (λ i. find_ctor (entries_of rows) (c.number_or_none-place.ensures i) (c.number_or_none-class.ensures i) (kinds i)) in
-    shows c.shown.result rows _ _ _ (exact.ctor_of s of args) (ap (shown rows) (sym is)) c.shown.ensures
+    shows c.found_by.result rows _ _ _ (exact.ctor_of s of args) (ap (shown rows) (sym is)) c.found_by.ensures

@@ -16,4 +16,4 @@ returns c =
     let of = class_key_of c.args.class.now in
     let exact = c.lookups_are_exact.ensures.keys rows c.keeps_rows.ensures in
     let is = c.member_type_at-answer.ensures ∙ (λ i. find_member_type (entries_of rows) (c.number_or_none-place.ensures i) (c.number_or_none-class.ensures i) (c.as_str.ensures i)) in
-    shows c.shown.result rows _ _ _ (exact.type_of s of name) (ap (shown rows) (sym is)) c.shown.ensures
+    shows c.found_by.result rows _ _ _ (exact.type_of s of name) (ap (shown rows) (sym is)) c.found_by.ensures

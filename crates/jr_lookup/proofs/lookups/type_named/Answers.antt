@@ -13,4 +13,4 @@ returns c =
     let name = c.args.name.now in
     let exact = c.lookups_are_exact.ensures.keys rows c.keeps_rows.ensures in
     let is = c.type_at-answer.ensures ∙ ap (λ p. find_type rows p name) c.number_or_none-place.ensures in
-    shows c.shown.result rows _ _ _ (exact.type_named s name) (ap (shown rows) (sym is)) c.shown.ensures
+    shows c.found_by.result rows _ _ _ (exact.type_named s name) (ap (shown rows) (sym is)) c.found_by.ensures

@@ -28,4 +28,4 @@ returns-in-None c =
     let exact = c.lookups_are_exact.ensures.keys rows c.keeps_rows.ensures in
     let last : last_named name s.locals ≡ None = ap (last_named name) (sym c.as_slice.ensures) ∙ sym c.last_local.ensures ∙ ap (option_map (λ k. local_key_of k.now)) c.in-None.is in
     let field = c.field_at-field.ensures ∙ (λ i. find_field (entries_of rows) (c.number_or_none-place.ensures i) s.is_static (c.as_str.ensures i)) in
-    shows_field c.shown.result rows _ _ _ _ (exact.variable s name) (ap (λ a. local_or rows a (last_named name s.locals)) (sym field)) last c.shown.ensures
+    shows_field c.found_by.result rows _ _ _ _ (exact.variable s name) (ap (λ a. local_or rows a (last_named name s.locals)) (sym field)) last c.found_by.ensures

@@ -6,4 +6,4 @@ use Rattle.jr_members.proofs.keyed.written_members.Goals as goal
 
 pub returns : goal.returns
 unfolding written_members
-returns g c = IfOk-weaker c.keyed.result _ _ (λ v h. h ∙ ap (members_at (begins_by g.A.Mark.span_from) c.args.table.now 8) c.in_ok-parts.ensures) c.keyed.ensures
+returns g c = IfOk-weaker c.with_keys.result _ _ (λ v h. h ∙ ap (members_at (begins_by g.A.Mark.span_from) c.args.table.now 8) c.in_ok-parts.ensures) c.with_keys.ensures

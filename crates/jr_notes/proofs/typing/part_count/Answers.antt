@@ -17,7 +17,7 @@ returns-in-Call g c = λ rows ctx.
     let long = c.len.ensures ∙ c.in-Call.args.ok.0 in
     let more = args_length items in
     let all = row_counted rows ctx (put (target_parts rows ctx (target_of c.in-Call.on)) leaf) (exprs_of items) in
-    IfOk-weaker c.joined.result _ _ (λ n h. h ∙ omega (arith, first, long, more, all) ∙ sym shape) c.joined.ensures
+    IfOk-weaker c.more_parts.result _ _ (λ n h. h ∙ omega (arith, first, long, more, all) ∙ sym shape) c.more_parts.ensures
 
 pub returns-in-SuperCall : goal.returns-in-SuperCall
 unfolding exp_parts target_parts put_row
@@ -28,7 +28,7 @@ returns-in-SuperCall g c = λ rows ctx.
     let long = c.len-in-SuperCall.ensures ∙ c.in-SuperCall.args.ok.0 in
     let more = args_length items in
     let all = row_counted rows ctx (put none leaf) (exprs_of items) in
-    IfOk-weaker c.joined-in-SuperCall.result _ _ (λ n h. h ∙ omega (arith, long, more, all) ∙ sym shape) c.joined-in-SuperCall.ensures
+    IfOk-weaker c.more_parts-in-SuperCall.result _ _ (λ n h. h ∙ omega (arith, long, more, all) ∙ sym shape) c.more_parts-in-SuperCall.ensures
 
 pub returns-in-New : goal.returns-in-New
 unfolding exp_parts target_parts put_row
@@ -39,4 +39,4 @@ returns-in-New g c = λ rows ctx.
     let long = c.len-in-New.ensures ∙ c.in-New.args.ok.0 in
     let more = args_length items in
     let all = row_counted rows ctx (put none leaf) (exprs_of items) in
-    IfOk-weaker c.joined-in-New.result _ _ (λ n h. h ∙ omega (arith, long, more, all) ∙ sym shape) c.joined-in-New.ensures
+    IfOk-weaker c.more_parts-in-New.result _ _ (λ n h. h ∙ omega (arith, long, more, all) ∙ sym shape) c.more_parts-in-New.ensures

@@ -25,8 +25,8 @@ returns-clause-some c =
     let keys = c.lookups_are_exact.ensures.keys table c.keeps_rows.ensures in
     let is_near : IsNear near (place_to s) r.asked (class_of d) =
     subst (λ (k : ClassKey). IsNear near (place_to s) r.asked k) c.declaring_class.ensures c.in_ok-scope.ensures in
-    subst (λ (rows : List Row). IfOk c.taken.result (λ o. IfSome o (IsTaken rows (place_to s) r d))) c.requires.rows
-    (IfOk-weaker c.taken.result _ _ (λ o h. some_weaker o (IsTaken table near r d) (IsTaken table (place_to s) r d) (λ f t. near_taken table keys near (place_to s) r d is_near f t) h) c.taken.ensures.some)
+    subst (λ (rows : List Row). IfOk c.take_form.result (λ o. IfSome o (IsTaken rows (place_to s) r d))) c.requires.rows
+    (IfOk-weaker c.take_form.result _ _ (λ o h. some_weaker o (IsTaken table near r d) (IsTaken table (place_to s) r d) (λ f t. near_taken table keys near (place_to s) r d is_near f t) h) c.take_form.ensures.some)
 
 pub returns-clause-none : goal.returns-clause-none
 returns-clause-none c =
@@ -38,5 +38,5 @@ returns-clause-none c =
     let keys = c.lookups_are_exact.ensures.keys table c.keeps_rows.ensures in
     let is_near : IsNear near (place_to s) r.asked (class_of d) =
     subst (λ (k : ClassKey). IsNear near (place_to s) r.asked k) c.declaring_class.ensures c.in_ok-scope.ensures in
-    subst (λ (rows : List Row). IfOk c.taken.result (λ o. o ≡ None → NoneBinds rows (place_to s) r d)) c.requires.rows
-    (IfOk-weaker c.taken.result _ _ (λ o h none. near_none table keys near (place_to s) r d is_near (h none)) c.taken.ensures.none)
+    subst (λ (rows : List Row). IfOk c.take_form.result (λ o. o ≡ None → NoneBinds rows (place_to s) r d)) c.requires.rows
+    (IfOk-weaker c.take_form.result _ _ (λ o h none. near_none table keys near (place_to s) r d is_near (h none)) c.take_form.ensures.none)

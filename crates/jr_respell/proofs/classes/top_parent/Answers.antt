@@ -24,4 +24,4 @@ returns c =
     let rows = rows_in p in
     let f = found_of c.in_ok-found.found in
     let k = class_key_of c.in-Some.key.now in
-    chooses (λ (k : ClassKey). one (class_decl k)) (λ x. TopFinds rows c.args.name.now x) (TopParentSpells rows (renaming_in p) c.args.at c.args.name.now) f c.in_ok-found.ensures k (class_is f k c.in-Some.ensures) _ c.in_ok-extended-in-Some.ensures
+    chooses (λ (k : ClassKey). one (class_decl k)) (λ x. TopFinds rows c.args.name.now x) (TopParentSpells rows (renaming_in p) c.args.at c.args.name.now) f c.in_ok-found.ensures k (class_is f k c.in-Some.ensures) _ c.in_ok-superclass_choice-in-Some.ensures

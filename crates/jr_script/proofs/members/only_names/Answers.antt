@@ -27,7 +27,7 @@ returns-then-not-is_among-clause-fault c =
     (subst (λ es. IsStrictlySortedBy string_cmp (keys_of es)) all c.iter-name-items.ensures.ordered) c.loop-name.invariant.2 other in
     Tells-weaker _ (IsFirstSurplus (object (members_view c.args.members.now.entries)) (texts_of c.args.names.now))
     (λ name is. subst (IsFirstSurplus (object (members_view c.args.members.now.entries)) (texts_of c.args.names.now)) (sym (is ∙ c.as_str-then-not-is_among.ensures.value)) first)
-    c.told.result c.told.ensures
+    c.member_fault.result c.member_fault.ensures
 
 pub loop-name-preserved : goal.loop-name-preserved
 loop-name-preserved c =

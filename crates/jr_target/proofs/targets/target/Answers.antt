@@ -12,4 +12,4 @@ returns-in-None g c = none_told (g.V.View.program c.args.view.now) c.args.file c
 pub returns-in-Some : goal.returns-in-Some
 returns-in-Some g c =
     let word = some_at (HoldsIdentifier c.text.result.now c.args.at) c.in_ok-begins.begins c.in-Some.from c.in-Some.is c.in_ok-begins.ensures.some in
-    IfOk-weaker c.named.result _ _ (λ o h. word_told (g.V.View.program c.args.view.now) c.args.file c.text.result.now c.text.ensures c.items_are_placed.ensures.items c.one_answer.ensures.items c.args.at c.in-Some.from word o h) c.named.ensures
+    IfOk-weaker c.decl_named.result _ _ (λ o h. word_told (g.V.View.program c.args.view.now) c.args.file c.text.result.now c.text.ensures c.items_are_placed.ensures.items c.one_answer.ensures.items c.args.at c.in-Some.from word o h) c.decl_named.ensures

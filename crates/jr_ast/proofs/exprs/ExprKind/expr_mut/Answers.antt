@@ -39,17 +39,17 @@ returns-in-Call-eq0 g c =
     let fields : ValuesAt E.parts 9 = (I.target, (I.field-1-0, (I.field-2-0, tt))) in (
       (
         refl,
-        λ w. on_some_also c.held.result (c.held.follows.holds w)
-            (λ e m. ap (view.expr_kind m) (known (λ y v. expr.Call y v.1.0 v.1.1.0) fields self (c.held.follows.lender w) (given E 9 fields I.is-0))
-            ∙ writes.held_writes m I.target (c.held.follows.lender w) I.field-1-0 I.field-2-0 w number I.is-1 (e ∙ ap (λ p. option_map (λ b. view.expr_of w) p.0) (picked E 9 _ fields I.is-0))
+        λ w. on_some_also c.operand_mut.result (c.operand_mut.follows.holds w)
+            (λ e m. ap (view.expr_kind m) (known (λ y v. expr.Call y v.1.0 v.1.1.0) fields self (c.operand_mut.follows.lender w) (given E 9 fields I.is-0))
+            ∙ writes.held_writes m I.target (c.operand_mut.follows.lender w) I.field-1-0 I.field-2-0 w number I.is-1 (e ∙ ap (λ p. option_map (λ b. view.expr_of w) p.0) (picked E 9 _ fields I.is-0))
             ∙ sym (ap (λ s. with_exp (view.expr_kind m s) number (view.expr_of w)) I.is-0)),
-        λ m. ap (view.expr_kind m) (known (λ y v. expr.Call y v.1.0 v.1.1.0) fields self c.held.follows.lender-at-none (given E 9 fields I.is-0))
-            ∙ ap (λ h. view.expr_kind m (expr.Call h I.field-1-0 I.field-2-0)) (c.held.follows.holds-at-none ∙ ap (λ p. p.0) (picked E 9 _ fields I.is-0))
+        λ m. ap (view.expr_kind m) (known (λ y v. expr.Call y v.1.0 v.1.1.0) fields self c.operand_mut.follows.lender-at-none (given E 9 fields I.is-0))
+            ∙ ap (λ h. view.expr_kind m (expr.Call h I.field-1-0 I.field-2-0)) (c.operand_mut.follows.holds-at-none ∙ ap (λ p. p.0) (picked E 9 _ fields I.is-0))
             ∙ sym (ap (view.expr_kind m) I.is-0),
       ),
       record {
         writes_back = tt;
-        value = λ m. c.held.ensures.value ∙ ap (λ p. option_map (λ b. view.expr_of b.value) p.0) (picked E 9 _ fields I.is-0) ∙ writes.held_get m I.target I.field-1-0 I.field-2-0 number I.is-1
+        value = λ m. c.operand_mut.ensures.value ∙ ap (λ p. option_map (λ b. view.expr_of b.value) p.0) (picked E 9 _ fields I.is-0) ∙ writes.held_get m I.target I.field-1-0 I.field-2-0 number I.is-1
             ∙ sym (ap (λ s. writes.exp_in (view.expr_kind m s) number) I.is-0);
       },
     )

@@ -19,5 +19,5 @@ returns-in-None c =
 pub returns-in-Some-parent_of : goal.returns-in-Some-parent_of
 returns-in-Some-parent_of c =
     let acyclic = acyclic_rows c.args.self.now c.keeps_rows.ensures in
-    c.inherited.ensures ∙ ap (inherited (entries_of c.args.self.now)) c.nearest.ensures
+    c.without_private.ensures ∙ ap (inherited (entries_of c.args.self.now)) c.nearest.ensures
     ∙ sym (next_member (entries_of c.args.self.now) acyclic (passes c.args.wanted.now) c.args.class c.in-Some-parent_of.parent (sym c.in_default.ensures) (sym c.in-Some-parent_of.ensures))
