@@ -67,6 +67,7 @@ impl DeclSet {
       member_key_of,
       decl_of,
     };
+    ghost use Rattle.jr_rewrite.specs.Rewrites.{declared_by};
     ghost use Rattle.jr_rename.specs.DeclSets.{is_no_method};
 
     /// The set of these declarations.
@@ -133,6 +134,19 @@ impl DeclSet {
         match &self.methods {
             None => any_local(self.decls.as_slice(), member, number),
             Some(_) => false,
+        }
+    }
+
+    /// Whether what a member's own name declares is among them: a constructor's is its class (JLS
+    /// 8.8).
+    pub fn has_member(&self, key: &MemberKey) -> bool
+        ensures { result ≡ list_any (same_decl (declared_by (member_key_of key.now))) self.now }
+    {
+        match key {
+            MemberKey::Head(key) => self.has_class(key),
+            MemberKey::Field(key) => self.has_field(key),
+            MemberKey::Method(key) => self.has_method(key),
+            MemberKey::Ctor(key) => self.has_class(&key.class),
         }
     }
 
