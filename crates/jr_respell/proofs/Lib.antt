@@ -15,3 +15,4 @@ mod SimpleNames
 mod Leading
 mod Refuting
 mod TopFounds
+mod Unchanged

@@ -16,6 +16,7 @@ mod looking;
 mod nearby;
 mod programs;
 mod scopes;
+mod staying;
 mod superclasses;
 mod taking;
 mod types;

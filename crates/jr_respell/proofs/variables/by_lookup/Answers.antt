@@ -7,7 +7,7 @@ use Rattle.jr_table.specs.Lookup.{FindsVariable}
 use Rattle.jr_table.specs.Context.{scope_of}
 use Rattle.jr_respell.specs.Scopes.{rows_of, context_of}
 use Rattle.jr_respell.proofs.Founds.{decl_is, no_decl}
-use Rattle.jr_respell.proofs.variables.variable.Goals as goal
+use Rattle.jr_respell.proofs.variables.by_lookup.Goals as goal
 
 pub by_decl-requires-clause-finds : goal.by_decl-requires-clause-finds
 by_decl-requires-clause-finds c =
