@@ -16,3 +16,4 @@ mod Leading
 mod Refuting
 mod TopFounds
 mod Unchanged
+mod UnchangedBy

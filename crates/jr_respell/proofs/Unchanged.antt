@@ -49,7 +49,7 @@ module _ (rows : List Row) (keys : KeysAreFound rows) (s : Scope) (name : List �
   finds_row a is j one_row = λ d at. (keys.variable bare name (one d)).0 (row_is a is ∙ ap (shown rows) one_row ∙ one_is j d at)
 
 -- the declaration whose image is a field
-field_before : (g : Renaming) (o : Option Decl) (k : FieldKey) → option_map (decl_to g) o ≡ Some (field_decl k) → (f : FieldKey) × (o ≡ Some (field_decl f)) × (field_to g f ≡ k)
+pub field_before : (g : Renaming) (o : Option Decl) (k : FieldKey) → option_map (decl_to g) o ≡ Some (field_decl k) → (f : FieldKey) × (o ≡ Some (field_decl f)) × (field_to g f ≡ k)
 field_before g None k e = absurd cc
 field_before g (Some (class_decl c)) k e = absurd cc
 field_before g (Some (field_decl f)) k e = (f, refl, cc)
@@ -57,7 +57,7 @@ field_before g (Some (method_decl m)) k e = absurd cc
 field_before g (Some (constructor_decl q)) k e = absurd cc
 field_before g (Some (local_decl l)) k e = absurd cc
 
-decl_image : (g : Renaming) (rows : List Row) (j : ℕ) → decl_at (map (row_to g) rows) j ≡ option_map (decl_to g) (decl_at rows j)
+pub decl_image : (g : Renaming) (rows : List Row) (j : ℕ) → decl_at (map (row_to g) rows) j ≡ option_map (decl_to g) (decl_at rows j)
 decl_image g rows j = ap (option_map (λ (r : Row). r.decl)) (slice_get-map (row_to g) rows j) ∙ swapped (slice_get rows j)
   where
     swapped : (o : Option Row) → option_map (λ (r : Row). r.decl) (option_map (row_to g) o) ≡ option_map (decl_to g) (option_map (λ (r : Row). r.decl) o)
@@ -65,7 +65,7 @@ decl_image g rows j = ap (option_map (λ (r : Row). r.decl)) (slice_get-map (row
     swapped (Some r) = refl
 
 -- the same name is no other
-stays_so : (old new : List ℕ) → new ≡ old → stays ≡ renamed old new
+pub stays_so : (old new : List ℕ) → new ≡ old → stays ≡ renamed old new
 stays_so old new e = sym (ap (λ b. cond b stays (respelled new same)) ((bytes_decides old new).1 (sym e)))
 
 module _ (s : raw.Scopes) (kept : IsKept s) (name : List ℕ) (at : ℕ) (own : KeysAreFound (rows_of s)) (new : KeysAreFound (rows_to s)) where

@@ -6,3 +6,4 @@ pub mod Near
 pub mod Finding
 pub mod Ways
 pub mod Staying
+pub mod StayingBy

@@ -17,6 +17,7 @@ mod nearby;
 mod programs;
 mod scopes;
 mod staying;
+mod staying_by;
 mod superclasses;
 mod taking;
 mod types;

@@ -1,9 +1,10 @@
 //! Simple names that find the same variable in both programs, which keeps its name: found by
 //! numbers, without memory.
-ghost use Rattle.std.specs.Prelude.{◌≡◌, ◌↔◌, ℕ, IsTrue, IfSome, Some, None};
+ghost use Rattle.std.specs.Prelude.{◌≡◌, ◌↔◌, ℕ, IsTrue, IfSome, Some, None, option_map};
 ghost use Rattle.jr_table.specs.Keys.{FieldKey};
 ghost use Rattle.jr_table.specs.Decls.{field_decl};
 ghost use Rattle.jr_table.specs.KeyView.{decl_of};
+ghost use Rattle.jr_table.specs.Lookup.{decl_at};
 ghost use Rattle.jr_table.specs.declared.answers.Answer.TheVariants as answers;
 ghost use Rattle.jr_lookup.specs.ScopeView.{scope_of};
 ghost use Rattle.jr_locals.specs.Helds.{last_number};
@@ -32,18 +33,28 @@ fn is_field_named(decl: &Decl, name: &Name) -> bool
     }
 }
 
-/// Whether a row declares a field of the name.
-fn declares_field(table: &Table, name: &Name, number: u32) -> bool
-    ensures { IsTrue result → DeclaresField table.now name.now number }
+/// The declaration of a row, where there is the row.
+fn row_decl(table: &Table, number: u32) -> Option<&Decl>
+    ensures { option_map (λ d. decl_of d.now) result ≡ decl_at table.now number }
 {
     match table.rows().get(number as usize) {
+        None => None,
+        Some(row) => Some(&row.decl),
+    }
+}
+
+/// Whether a row declares a field of the name.
+pub(crate) fn declares_field(table: &Table, name: &Name, number: u32) -> bool
+    ensures { IsTrue result → DeclaresField table.now name.now number }
+{
+    match row_decl(table, number) {
         None => false,
-        Some(row) => is_field_named(&row.decl, name),
+        Some(decl) => is_field_named(decl, name),
     }
 }
 
 /// The row of the one declaration that is found.
-fn one_row(answer: Answer) -> Option<u32>
+pub(crate) fn one_row(answer: Answer) -> Option<u32>
     ensures { IfSome result (λ j. answer ≡ answers.One j) }
 {
     match answer {
@@ -65,7 +76,7 @@ fn field_row(table: &Table, scope: &Scope, name: &Name) -> Option<u32>
     one_row(field_at(table, place, scope.is_static, name.as_str()))
 }
 
-fn is_number(found: Option<u32>, number: u32) -> bool
+pub(crate) fn is_number(found: Option<u32>, number: u32) -> bool
     ensures { IsTrue result ↔ (found ≡ Some number) }
 {
     match found {
