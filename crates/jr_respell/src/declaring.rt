@@ -43,7 +43,11 @@ fn member_name<'a>(g: &'a NewName, key: &MemberKey, name: &'a Name) -> &'a Name
     ensures { result.now ≡ images.name_to (renaming_of g.now) (declared_by (member_key_of key.now))
         name.now }
 {
-    if is_renamed_member(g, key) { &g.name } else { name }
+    if is_renamed_member(g, key) {
+        &g.name
+    } else {
+        name
+    }
 }
 
 /// The choice for the word that is the member's own name: a constructor's declares its class (JLS
