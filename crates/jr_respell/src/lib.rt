@@ -29,7 +29,7 @@ pub use choices::{Choice, Chosen, ChosenFront, Lost};
 pub use class_words::{leads_behind, leads_first};
 pub use classes::{left_class, member_class, qualifier, top_parent};
 pub use ctors::{creation, super_ctor};
-pub use declaring::declaration_choice;
+pub use declaring::{local_choice, member_choice};
 pub use fields::{field, static_field, super_field};
 pub use programs::Programs;
 pub use scopes::Scopes;
