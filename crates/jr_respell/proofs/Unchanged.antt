@@ -1,5 +1,5 @@
 -- A simple name that finds the same variable in both programs, which keeps its name, stays.
-use Rattle.std.proofs.Common.{◌≡◌, ℕ, List, [], map, Some, None, cond, refl, sym, ap, subst, ◌∙◌, inl, inr}
+use Rattle.std.proofs.Common.{◌≡◌, ℕ, List, [], map, Some, None, cond, refl, sym, ap, subst, ◌∙◌, arith, inl, inr}
 use Rattle.std.specs.Prelude.{Option, option_map, slice_get}
 use Rattle.std.specs.Cmp.Lexicographic.{bytes_decides}
 use Rattle.std.proofs.lemmas.Option.{slice_get-map}
@@ -86,10 +86,8 @@ module _ (s : raw.Scopes) (kept : IsKept s) (name : List ℕ) (at : ℕ) (own : 
           there,
           inl (
             Asked,
-            (
-              record { place = 0; stands = refl; binds = binds; first = λ i f below at b. omega arith },
-              stays_so name (name_to g (local_decl k) name) is,
-            ),
+            record { place = 0; stands = refl; binds = binds; first = λ i f below at b. omega arith },
+            stays_so name (name_to g (local_decl k) name) is,
           ),
         ),
       )
@@ -115,10 +113,8 @@ module _ (s : raw.Scopes) (kept : IsKept s) (name : List ℕ) (at : ℕ) (own : 
           there,
           inl (
             Asked,
-            (
-              record { place = 0; stands = refl; binds = binds; first = λ i f below at b. omega arith },
-              stays_so name (field_to g f).name is,
-            ),
+            record { place = 0; stands = refl; binds = binds; first = λ i f below at b. omega arith },
+            stays_so name (field_to g f).name is,
           ),
         ),
       )

@@ -1,5 +1,5 @@
 -- A field that is found by one number in both programs, and has one name in both, stays.
-use Rattle.std.proofs.Common.{◌≡◌, ℕ, List, ◌∷◌, [], Some, None, Bool, true, false, not, refl, sym, ap, subst, ◌∙◌, inl, inr}
+use Rattle.std.proofs.Common.{◌≡◌, ℕ, List, ◌∷◌, [], Some, None, Bool, true, false, not, refl, sym, ap, subst, ◌∙◌, arith, inl}
 use Rattle.std.specs.Prelude.{Option, option_map, slice_get}
 use Rattle.std.specs.List.{list_any}
 use Rattle.std.proofs.lemmas.Option.{slice_get-map}
@@ -136,5 +136,5 @@ chosen_by s kept from to name types images at h =
     (
       field_decl f,
       (leads (rows_to s) (place_to s) name images k h.serves.2 f to serves, there),
-      inl (Asked, (is, stays_so name (field_to g f).name (ap (λ (x : FieldKey). x.name) old.2 ∙ h.serves.2))),
+      inl (Asked, is, stays_so name (field_to g f).name (ap (λ (x : FieldKey). x.name) old.2 ∙ h.serves.2)),
     )

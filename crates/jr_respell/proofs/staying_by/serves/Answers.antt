@@ -11,4 +11,5 @@ returns-in-FieldOn c =
 
 pub returns-in-FieldThrough : goal.returns-in-FieldThrough
 returns-in-FieldThrough c =
-    subst (λ (w : raw.Way). IsTrue c.declares_behind.result → ServesAt c.args.table.now (way_of w) c.args.name.now c.args.number) (sym c.in-FieldThrough.is) c.declares_behind.ensures
+    subst (λ (w : raw.Way). IsTrue c.declares_behind.result → ServesAt c.args.table.now (way_of w) c.args.name.now c.args.number) (sym c.in-FieldThrough.is)
+    (λ t. let h = c.declares_behind.ensures t in (h.0, h.1, h.2, (h.3, h.4)))
