@@ -5,6 +5,7 @@ use Rattle.std.specs.Prelude.{Some}
 use Rattle.std.proofs.lemmas.List.{append-nil}
 use Rattle.std.proofs.lemmas.List.Elements.{All-push, All-pop, All-append}
 use Rattle.std.proofs.lemmas.Option.{same_Some}
+use Rattle.std.proofs.lemmas.Slice.Zip.{AllZip-long}
 use Rattle.jr_sources.specs.Sources.{Source, texts_of, with_text}
 use Rattle.jr_sources.proofs.SourceLaws.{length-with_text}
 use Rattle.jr_session.specs.declared.changes.Change.{Change}
@@ -12,7 +13,7 @@ use Rattle.jr_session.specs.Changes.{put_back, AreOfFiles}
 use Rattle.jr_sources.specs.declared.kept.Readings.{Readings}
 use Rattle.jr_sources.specs.declared.readings.Reading.{Reading}
 use Rattle.jr_sources.specs.KeptReadings.{AreReadings}
-use Rattle.jr_session.specs.Turns.{AreExchanged, AreChangeReadings}
+use Rattle.jr_session.specs.Turns.{AreExchanged, IsChangeReading, AreChangeReadings}
 use Rattle.jr_session.proofs.Histories.{put-append, length-put}
 
 -- a text that is put back gives the sources that there were
@@ -47,40 +48,51 @@ more_exchanged ss ts us c done had mid had' g h = record {
 
 -- ---- one after the other
 
--- some of the texts are exchanged, those behind the ones that are left
-pub record IsUnderWay (sources : List Source) (texts had : List Change) (now : List Source) (readings : Readings) (left : List Change) (with : List Reading) (had' : List Change) (room : ℕ) : Type 0 where
+-- some of the texts are exchanged, those behind the ones that are left, and what stands behind the others reads so
+pub record IsUnderWay (sources : List Source) (texts had : List Change) (now : List Source) (readings : Readings) (left : List Change) (with : List Reading) (had' : List Change) (were : List Reading) (room space : ℕ) : Type 0 where
   pub done : List Change
   pub split : texts ≡ left ++ done
   pub exchanged : AreExchanged sources done had now had'
   pub reads : AreChangeReadings left with
   pub kept : AreReadings (texts_of now) readings
+  pub before : AreChangeReadings had' were
   pub files : AreOfFiles (length now) left
   pub fits : length had' + length left ≤ room
+  pub has_space : length were + length left ≤ space
 
-pub begin_way : (sources : List Source) (texts had : List Change) (readings : Readings) (with : List Reading) (room : ℕ) → AreOfFiles (length sources) texts → length had + length texts ≤ room → AreReadings (texts_of sources) readings → AreChangeReadings texts with
-    → IsUnderWay sources texts had sources readings texts with had room
-begin_way sources texts had readings with room files fits kept reads = record { done = []; split = sym (append-nil texts); exchanged = none_exchanged sources had; reads = reads; kept = kept; files = files; fits = fits }
+pub begin_way : (sources : List Source) (texts had : List Change) (readings : Readings) (with were : List Reading) (room space : ℕ) → AreOfFiles (length sources) texts → length had + length texts ≤ room → length were + length texts ≤ space → AreReadings (texts_of sources) readings → AreChangeReadings texts with → AreChangeReadings had were
+    → IsUnderWay sources texts had sources readings texts with had were room space
+begin_way sources texts had readings with were room space files fits more kept reads before = record { done = []; split = sym (append-nil texts); exchanged = none_exchanged sources had; reads = reads; kept = kept; before = before; files = files; fits = fits; has_space = more }
 
-pub end_way : (sources : List Source) (texts had : List Change) (now : List Source) (readings : Readings) (left : List Change) (with : List Reading) (had' : List Change) (room : ℕ) → left ≡ [] → IsUnderWay sources texts had now readings left with had' room → AreExchanged sources texts had now had'
-end_way sources texts had now readings left with had' room e w =
+pub end_way : (sources : List Source) (texts had : List Change) (now : List Source) (readings : Readings) (left : List Change) (with : List Reading) (had' : List Change) (were : List Reading) (room space : ℕ) → left ≡ [] → IsUnderWay sources texts had now readings left with had' were room space → AreExchanged sources texts had now had'
+end_way sources texts had now readings left with had' were room space e w =
     let all : w.done ≡ texts = sym (w.split ∙ ap (λ (l : List Change). l ++ w.done) e) in
     subst (λ (ds : List Change). AreExchanged sources ds had now had') all w.exchanged
 
-pub step_way : (sources : List Source) (texts had : List Change) (now next : List Source) (readings readings' : Readings) (left left' : List Change) (with with' : List Reading) (mid had' : List Change) (room room' : ℕ) (c : Change)
-    → room ≤ room' → left ≡ left' ++ c ∷ [] → AreChangeReadings left' with' → AreExchanged now (c ∷ []) mid next had' → AreReadings (texts_of next) readings' → IsUnderWay sources texts had now readings left with mid room → IsUnderWay sources texts had next readings' left' with' had' room'
-step_way sources texts had now next readings readings' left left' with with' mid had' room room' c more e reads ex kept w =
+-- the texts of changes are as many as their readings
+pub count_readings : (changes : List Change) (readings : List Reading) → AreChangeReadings changes readings → length readings ≡ length changes
+count_readings changes readings h = AllZip-long IsChangeReading changes readings h
+
+pub step_way : (sources : List Source) (texts had : List Change) (now next : List Source) (readings readings' : Readings) (left left' : List Change) (with with' : List Reading) (mid had' : List Change) (were were' : List Reading) (room room' space space' : ℕ) (c : Change)
+    → room' ≡ room → space' ≡ space → left ≡ left' ++ c ∷ [] → AreChangeReadings left' with' → AreExchanged now (c ∷ []) mid next had' → AreReadings (texts_of next) readings' → AreChangeReadings had' were' → IsUnderWay sources texts had now readings left with mid were room space → IsUnderWay sources texts had next readings' left' with' had' were' room' space'
+step_way sources texts had now next readings readings' left left' with with' mid had' were were' room room' space space' c same_room same_space e reads ex kept before w =
     let same : length next ≡ length now = ap length ex.becomes ∙ length-with_text now c.file c.text in
     let files = All-pop (λ (d : Change). d.file < length now) left left' (Some c) e w.files in
     let fits = w.fits in
+    let more = w.has_space in
     let n = ap length e ∙ length-append left' (c ∷ []) in
     let one = ap length ex.kept ∙ length-append mid ex.behind in
     let many = ex.many in
+    let these = count_readings mid were w.before in
+    let those = count_readings had' were' before in
     record {
       done = c ∷ w.done;
       split = w.split ∙ ap (λ (l : List Change). l ++ w.done) e ∙ append_assoc left' (c ∷ []) w.done;
       exchanged = more_exchanged sources now next c w.done had mid had' w.exchanged ex;
       reads = reads;
       kept = kept;
+      before = before;
       files = subst (λ (k : ℕ). AreOfFiles k left') (sym same) files.0;
-      fits = omega (arith, fits, n, one, many, more);
+      fits = omega (arith, fits, n, one, many, same_room);
+      has_space = omega (arith, more, n, one, many, these, those, same_space);
     }

@@ -11,6 +11,7 @@ use Rattle.jr_sources.specs.declared.analyses.SourceFault.{SourceFault}
 use Rattle.jr_sources.specs.declared.kept.Readings.{Readings}
 use Rattle.jr_sources.specs.Analysed.{IsAnalysis, CostsBinding}
 use Rattle.jr_sources.specs.BindingErrors.{AreSound, IsFirstWrong}
+use Rattle.jr_sources.specs.KeptReadings.{AreReadings}
 use Rattle.jr_sources.specs.ReadingLaws.{HasOneReading}
 use Rattle.jr_sources.specs.Sources.{Source, HasName, texts_of}
 use Rattle.jr_sources.specs.Whole.{IsProgramOf}
@@ -45,24 +46,24 @@ module _ (sources sources' : List Source) (changes : List Change) (undo undo' re
       let named : HasName sources f.file h.1.name = subst (λ (ns : List (List ℕ)). slice_get ns f.file ≡ Some h.1.name) (names-put sources changes) h.1.named in
       by.breaks f.file f.at h.1.name f.kind.now named h.1.first e (state_as_before sources sources' undo undo' redo redo' shown h.0 u d)
 
-  module _ (readings : Readings) (analysis : Analysis) (step : Earlier) (h : IsTried sources changes sources' (tries.Sound readings analysis step.changes)) (kept : undo' ≡ undo ++ step ∷ []) (none : redo' ≡ []) where
+  module _ (analysis : Analysis) (step : Earlier) (h : IsTried sources changes sources' (tries.Sound analysis step.changes)) (kept : undo' ≡ undo ++ step ∷ []) (none : redo' ≡ []) where
     is_changed : IsChanged sources undo (put_back sources changes) sources' undo'
     is_changed = record { was = step; are = h.0; back = h.1; files = h.2; kept = kept }
 
     pub tried_sound : HasOneReading → AreSomeProgram sources' → IsTriedBy (state_of sources undo redo shown) (put_back sources changes) names respelled (refactored names respelled) (state_of sources' undo' redo' shown)
     tried_sound reading whole =
-        by.holds (λ name place kind w. nothing_wrong reading sources' analysis h.4 h.5 name place kind (subst (λ (ss : List Source). IsFirstWrong ss name place kind) (sym h.0) w)) whole.0
+        by.holds (λ name place kind w. nothing_wrong reading sources' analysis h.3 h.4 name place kind (subst (λ (ss : List Source). IsFirstWrong ss name place kind) (sym h.0) w)) whole.0
         (subst (λ (ss : List Source). IsProgramOf ss whole.0) h.0 whole.1) refl
         (refactored_state sources (put_back sources changes) sources' undo undo' redo redo' shown is_changed none)
 
-    pub tried_kept : AreChanges (length sources) undo → IsKept sources' readings undo' redo' (Some analysis)
-    tried_kept were =
-        let k = kept_changed sources (put_back sources changes) sources' readings undo undo' redo' is_changed none were h.3 in
+    pub tried_kept : (readings : Readings) → AreReadings (texts_of sources') readings → AreChanges (length sources) undo → IsKept sources' readings undo' redo' (Some analysis)
+    tried_kept readings reads were =
+        let k = kept_changed sources (put_back sources changes) sources' readings undo undo' redo' is_changed none were reads in
         record {
           readings = k.readings;
           undo = k.undo;
           redo = k.redo;
-          analysed = λ a e. subst (IsAnalysis sources') (same_Some analysis a e) h.4;
+          analysed = λ a e. subst (IsAnalysis sources') (same_Some analysis a e) h.3;
         }
 
 -- ---- what edits make

@@ -4,8 +4,7 @@ use Rattle.jr_text.specs.declared.spans.Span.{Span}
 use Rattle.jr_bind.specs.Programs.{Program}
 use Rattle.jr_sources.specs.Analysed.{IsAnalysis, IsSourceWrong}
 use Rattle.jr_sources.specs.BindingErrors.{AreSound}
-use Rattle.jr_sources.specs.KeptReadings.{AreReadings}
-use Rattle.jr_sources.specs.Sources.{Source, texts_of}
+use Rattle.jr_sources.specs.Sources.{Source}
 use Rattle.jr_sources.specs.Whole.{IsProgramOf}
 use Rattle.jr_session.specs.declared.changes.Change.{Change}
 use Rattle.jr_session.specs.declared.tries.Judged.{Judged}
@@ -14,23 +13,21 @@ use Rattle.jr_session.specs.declared.tries.Tried.{Tried}
 use Rattle.jr_session.specs.declared.tries.Tried.TheVariants as tries
 use Rattle.jr_session.specs.Changes.{put_back, AreOfFiles}
 
--- what is first wrong with the sources, or else what they read as and what is analysed of them
+-- what is first wrong with the sources, or else what is analysed of them
 abbrev pub IsJudged : List Source → Judged → Type 0
 IsJudged sources (judges.Wrong fault) = IsSourceWrong sources fault
-IsJudged sources (judges.Sound readings analysis) =
-    AreReadings (texts_of sources) readings × IsAnalysis sources analysis × AreSound sources
+IsJudged sources (judges.Sound analysis) = IsAnalysis sources analysis × AreSound sources
 
 -- What is first wrong with the new sources, and the old ones are there again; or else the new ones
--- are there, with what they read as, what is analysed of them, and the texts that they had.
+-- are there, with what is analysed of them, and the texts that they had.
 abbrev pub IsTried : (sources : List Source) → (changes : List Change) → (now : List Source)
     → Tried → Type 0
 IsTried sources changes now (tries.Wrong fault) =
     (now ≡ sources) × IsSourceWrong (put_back sources changes) fault
-IsTried sources changes now (tries.Sound readings analysis had) =
+IsTried sources changes now (tries.Sound analysis had) =
     (now ≡ put_back sources changes)
     × (put_back now had.items ≡ sources)
     × AreOfFiles (length sources) had.items
-    × AreReadings (texts_of now) readings
     × IsAnalysis now analysis
     × AreSound now
 

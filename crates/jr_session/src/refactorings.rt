@@ -53,15 +53,16 @@ impl Session {
     {
         text_has_one_reading();
         self.undo.reserve(1)?;
-        match try_texts(alloc, &mut self.sources, changes, steps)? {
+        match try_texts(
+            alloc,
+            &mut self.sources,
+            &mut self.readings,
+            changes,
+            steps,
+        )? {
             Tried::Wrong(fault) => would_not_compile(alloc, fault),
-            Tried::Sound {
-                readings,
-                analysis,
-                had,
-            } => {
-                sources_are_program(&self.sources, &readings, &analysis);
-                self.readings = readings;
+            Tried::Sound { analysis, had } => {
+                sources_are_program(&self.sources, &self.readings, &analysis);
                 self.analysed = Some(analysis);
                 self.undo.push_reserved(Earlier { changes: had });
                 self.redo.clear();

@@ -1,76 +1,81 @@
 //! Texts are exchanged: by an edit or a refactoring, by an undoing, by a redoing.
 ghost use Rattle.std.specs.Prelude.{◌≡◌, ℕ, List, ◌<◌, ◌≤◌, ◌+◌, ◌++◌, ◌∷◌, [], length, Some};
 ghost use Rattle.std.specs.Prelude.{IfOk, OnOk, OnErr, Ok, true, false, vec_len, vec_capacity};
-ghost use Rattle.jr_ast.specs.View.{unit_of};
 ghost use Rattle.jr_sources.specs.KeptReadings.{AreReadings};
-ghost use Rattle.jr_sources.specs.ReadingFaults.{IsReading};
 ghost use Rattle.jr_sources.specs.Sources.{texts_of};
 ghost use Rattle.jr_session.specs.Changes.{AreChanges, AreOfFiles, put_back};
 ghost use Rattle.jr_session.specs.Turns.{IsChanged, IsTurn, AreAsBefore, AreExchanged};
-ghost use Rattle.jr_session.specs.Turns.{AreChangeReadings, AreLastReadings};
+ghost use Rattle.jr_session.specs.Turns.{IsChangeReading, AreChangeReadings, AreLastReadings};
 
 use crate::changes::{Change, Earlier};
 use jr_sources::{Reading, Readings, Sources, read};
 use std::alloc::{AllocError, Global};
 
-// Gives a file another text with its reading, and puts the one that it had behind the changes,
-// which have room for it.
+// Gives a file another text with its reading, and puts those that it had behind the others, which
+// have room for them.
 fn exchange(
     sources: &mut Sources,
     readings: &mut Readings,
     had: &mut Vec<Change>,
+    were: &mut Vec<Reading>,
     change: Change,
     reading: Reading,
 )
     requires number { change.file < length sources.old }
     requires room { vec_len had.old < vec_capacity had.old }
+    requires space { vec_len were.old < vec_capacity were.old }
     requires readings { AreReadings (texts_of sources.old) readings.old }
-    requires reading { IsReading change.text (unit_of reading.unit) reading.word reading.fault }
+    requires reading { IsChangeReading change reading }
+    requires were { AreChangeReadings had.old.items were.old.items }
     ensures changed { AreExchanged sources.old (change ∷ []) had.old.items sources.new
         had.new.items }
-    ensures room { vec_capacity had.old ≤ vec_capacity had.new }
+    ensures room { vec_capacity had.new ≡ vec_capacity had.old }
+    ensures space { vec_capacity were.new ≡ vec_capacity were.old }
     ensures readings { AreReadings (texts_of sources.new) readings.new }
+    ensures were { AreChangeReadings had.new.items were.new.items }
 {
     let number = change.file;
-    let old = sources.exchange(number, change.text);
-    readings.put(number, reading);
-    let change = Change {
-        file: number,
-        text: old,
-    };
-    had.push(change).unwrap();
+    let text = sources.exchange(number, change.text);
+    let was = readings.exchange(number, reading);
+    let change = Change { file: number, text };
+    had.push_reserved(change);
+    were.push_reserved(was);
 }
 
-// Gives files other texts with their readings, the last first, and puts those that they had behind
-// the changes, which have room for them.
-fn exchange_all(
+/// Gives files other texts with their readings, the last first, and puts those that they had behind
+/// the others, which have room for them.
+pub(crate) fn exchange_all(
     sources: &mut Sources,
     readings: &mut Readings,
     had: &mut Vec<Change>,
+    were: &mut Vec<Reading>,
     changes: Vec<Change>,
     with: Vec<Reading>,
 )
     requires files { AreOfFiles (length sources.old) changes.items }
     requires room { vec_len had.old + length changes.items ≤ vec_capacity had.old }
+    requires space { vec_len were.old + length changes.items ≤ vec_capacity were.old }
     requires readings { AreReadings (texts_of sources.old) readings.old }
     requires with { AreChangeReadings changes.items with.items }
+    requires were { AreChangeReadings had.old.items were.old.items }
     ensures changed { AreExchanged sources.old changes.items had.old.items sources.new
         had.new.items }
     ensures readings { AreReadings (texts_of sources.new) readings.new }
+    ensures were { AreChangeReadings had.new.items were.new.items }
 {
     let mut changes = changes;
     let mut with = with;
     while let Some(change) = changes.pop() {
         let reading = with.pop().unwrap();
-        exchange(sources, readings, had, change, reading);
+        exchange(sources, readings, had, were, change, reading);
     }
 }
 
-// What the texts of changes read as.
-fn readings_of(alloc: Global, changes: &[Change]) -> Result<Vec<Reading>, AllocError>
+/// What the texts of changes read as.
+pub(crate) fn readings_of(alloc: Global, changes: &[Change]) -> Result<Vec<Reading>, AllocError>
     ensures { IfOk result (λ with. AreChangeReadings changes.now with.items) }
 {
-    let mut with = Vec::new(alloc);
+    let mut with = Vec::with_capacity(alloc, changes.len())?;
     for change in changes {
         with.push(read(alloc, &change.text)?)?;
     }
@@ -97,10 +102,10 @@ pub(crate) fn change(
         sources.new undo.new.items redo.new.items) }
 {
     let with = readings_of(alloc, changes.as_slice())?;
-    let mut had = Vec::new(alloc);
-    had.reserve(changes.len())?;
+    let mut had = Vec::with_capacity(alloc, changes.len())?;
+    let mut were = Vec::with_capacity(alloc, changes.len())?;
     undo.reserve(1)?;
-    exchange_all(sources, readings, &mut had, changes, with);
+    exchange_all(sources, readings, &mut had, &mut were, changes, with);
     undo.push(Earlier { changes: had }).unwrap();
     redo.clear();
     Ok(())
@@ -115,19 +120,22 @@ fn last_readings(alloc: Global, steps: &[Earlier]) -> Result<Vec<Reading>, Alloc
     readings_of(alloc, step.changes.as_slice())
 }
 
-// Takes the last step back, whose texts have these readings. The other list has room for it.
+// Takes the last step back, whose texts have these readings. The other lists have room for it.
 fn turn(
     sources: &mut Sources,
     readings: &mut Readings,
     from: &mut Vec<Earlier>,
     onto: &mut Vec<Earlier>,
     had: Vec<Change>,
+    were: Vec<Reading>,
     with: Vec<Reading>,
 )
     requires some { 0 < vec_len from.old }
     requires room { vec_len onto.old < vec_capacity onto.old }
     requires empty { had.items ≡ [] }
+    requires none { were.items ≡ [] }
     requires long { length with.items ≤ vec_capacity had }
+    requires space { length with.items ≤ vec_capacity were }
     requires changes { AreChanges (length sources.old) from.old.items }
     requires readings { AreReadings (texts_of sources.old) readings.old }
     requires with { AreLastReadings from.old.items with.items }
@@ -136,8 +144,9 @@ fn turn(
     ensures readings { AreReadings (texts_of sources.new) readings.new }
 {
     let mut had = had;
+    let mut were = were;
     let step = from.pop().unwrap();
-    exchange_all(sources, readings, &mut had, step.changes, with);
+    exchange_all(sources, readings, &mut had, &mut were, step.changes, with);
     onto.push(Earlier { changes: had }).unwrap();
 }
 
@@ -167,9 +176,9 @@ pub(crate) fn turn_back(
         return Ok(false);
     }
     let with = last_readings(alloc, from.as_slice())?;
-    let mut had = Vec::new(alloc);
-    had.reserve(with.len())?;
+    let had = Vec::with_capacity(alloc, with.len())?;
+    let were = Vec::with_capacity(alloc, with.len())?;
     onto.reserve(1)?;
-    turn(sources, readings, from, onto, had, with);
+    turn(sources, readings, from, onto, had, were, with);
     Ok(true)
 }

@@ -1,11 +1,13 @@
 //! What is kept of the texts that were read.
-ghost use Rattle.std.specs.Prelude.{◌≡◌, ◌<◌, ◌++◌, ◌∷◌, [], length, slice_set, OnOk};
+ghost use Rattle.std.specs.Prelude.{◌≡◌, ◌<◌, ◌++◌, ◌∷◌, [], length, slice_get, slice_set};
+ghost use Rattle.std.specs.Prelude.{OnOk, Some};
 
 use crate::faults::ReadingFault;
 use crate::readings::Reading;
 use jr_ast::Unit;
 use jr_text::Span;
 use std::alloc::{AllocError, Global};
+use std::mem;
 
 /// The readings of the files, by their numbers: units side by side, as the table is built from
 /// them, with the places of their first tokens, and with the faults. A file with a fault has a unit
@@ -46,8 +48,9 @@ impl Readings {
         Ok(())
     }
 
-    /// Puts a reading in the place of that of the file of the number.
-    pub fn put(&mut self, number: u32, reading: Reading)
+    /// Puts a reading in the place of that of the file of the number, and hands out the one that was
+    /// there.
+    pub fn exchange(&mut self, number: u32, reading: Reading) -> Reading
         requires units { number < length self.old.units.items }
         requires words { number < length self.old.words.items }
         requires faults { number < length self.old.faults.items }
@@ -55,10 +58,14 @@ impl Readings {
         ensures words { self.new.words.items ≡ slice_set self.old.words.items number reading.word }
         ensures faults { self.new.faults.items
             ≡ slice_set self.old.faults.items number reading.fault }
+        ensures unit { slice_get self.old.units.items number ≡ Some result.unit }
+        ensures word { slice_get self.old.words.items number ≡ Some result.word }
+        ensures fault { slice_get self.old.faults.items number ≡ Some result.fault }
     {
         let at = number as usize;
-        self.units[at] = reading.unit;
-        self.words[at] = reading.word;
-        self.faults[at] = reading.fault;
+        let unit = mem::replace(&mut self.units[at], reading.unit);
+        let word = mem::replace(&mut self.words[at], reading.word);
+        let fault = mem::replace(&mut self.faults[at], reading.fault);
+        Reading { unit, word, fault }
     }
 }

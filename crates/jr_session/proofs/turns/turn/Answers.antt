@@ -13,6 +13,15 @@ exchange_all-requires-clause-room c =
     let long = c.requires.long in
     omega (arith, count, none, ok, long)
 
+pub exchange_all-requires-clause-space : goal.exchange_all-requires-clause-space
+exchange_all-requires-clause-space c =
+    let last : c.args.from.now.items ≡ c.pop.new.self.items ++ c.unwrap-step.result ∷ [] = c.pop.ensures.items ∙ ap (λ (o : Option Earlier). c.pop.new.self.items ++ option_to_list o) c.unwrap-step.ensures in
+    let count = last_count c.args.from.now.items c.pop.new.self.items c.unwrap-step.result c.args.with.items c.requires.with last in
+    let none = ap length c.requires.none in
+    let ok = c.args.were.ok.0 in
+    let long = c.requires.space in
+    omega (arith, count, none, ok, long)
+
 pub returns-clause-turn : goal.returns-clause-turn
 returns-clause-turn c =
     let was : Earlier = record { changes = c.exchange_all.new.had } in

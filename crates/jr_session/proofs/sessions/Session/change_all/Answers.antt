@@ -13,27 +13,22 @@ use Rattle.jr_session.proofs.Refactored.{tried_wrong, tried_sound, tried_kept}
 use Rattle.jr_session.proofs.StateLaws.{state_of}
 use Rattle.jr_session.proofs.sessions.Session.change_all.Goals as goal
 
-pub sources_are_program-requires-clause-readings : goal.sources_are_program-requires-clause-readings
-sources_are_program-requires-clause-readings g c =
-    let tried : IsTried c.self.inside.sources c.args.changes.items c.try_texts.new.sources (tries.Sound c.in-Sound.readings c.in-Sound.analysis c.in-Sound.had) = subst (IsTried c.self.inside.sources c.args.changes.items c.try_texts.new.sources) c.in-Sound.is c.in_ok-fault.ensures.tried in
-    tried.3
-
 pub sources_are_program-requires-clause-analysis : goal.sources_are_program-requires-clause-analysis
 sources_are_program-requires-clause-analysis g c =
-    let tried : IsTried c.self.inside.sources c.args.changes.items c.try_texts.new.sources (tries.Sound c.in-Sound.readings c.in-Sound.analysis c.in-Sound.had) = subst (IsTried c.self.inside.sources c.args.changes.items c.try_texts.new.sources) c.in-Sound.is c.in_ok-fault.ensures.tried in
-    tried.4
+    let tried : IsTried c.self.inside.sources c.args.changes.items c.try_texts.new.sources (tries.Sound c.in-Sound.analysis c.in-Sound.had) = subst (IsTried c.self.inside.sources c.args.changes.items c.try_texts.new.sources) c.in-Sound.is c.in_ok-fault.ensures.tried in
+    tried.3
 
 pub sources_are_program-requires-clause-sound : goal.sources_are_program-requires-clause-sound
 sources_are_program-requires-clause-sound g c =
-    let tried : IsTried c.self.inside.sources c.args.changes.items c.try_texts.new.sources (tries.Sound c.in-Sound.readings c.in-Sound.analysis c.in-Sound.had) = subst (IsTried c.self.inside.sources c.args.changes.items c.try_texts.new.sources) c.in-Sound.is c.in_ok-fault.ensures.tried in
-    tried.5
+    let tried : IsTried c.self.inside.sources c.args.changes.items c.try_texts.new.sources (tries.Sound c.in-Sound.analysis c.in-Sound.had) = subst (IsTried c.self.inside.sources c.args.changes.items c.try_texts.new.sources) c.in-Sound.is c.in_ok-fault.ensures.tried in
+    tried.4
 
 pub invariant_of-self-in-Sound : goal.invariant_of-self-in-Sound
 invariant_of-self-in-Sound g c =
     let step : Earlier = record { changes = c.in-Sound.had } in
-    let tried : IsTried c.self.inside.sources c.args.changes.items c.try_texts.new.sources (tries.Sound c.in-Sound.readings c.in-Sound.analysis c.in-Sound.had) = subst (IsTried c.self.inside.sources c.args.changes.items c.try_texts.new.sources) c.in-Sound.is c.in_ok-fault.ensures.tried in
+    let tried : IsTried c.self.inside.sources c.args.changes.items c.try_texts.new.sources (tries.Sound c.in-Sound.analysis c.in-Sound.had) = subst (IsTried c.self.inside.sources c.args.changes.items c.try_texts.new.sources) c.in-Sound.is c.in_ok-fault.ensures.tried in
     let kept : c.push_reserved.new.self.items ≡ c.self.inside.undo.items ++ step ∷ [] = c.push_reserved.ensures.items ∙ ap (λ (es : List Earlier). es ++ step ∷ []) c.reserve.ensures.items in
-    tried_kept c.self.inside.sources c.try_texts.new.sources c.args.changes.items c.self.inside.undo.items c.push_reserved.new.self.items c.self.inside.redo.items c.clear.new.self.items c.self.inside.shown c.args.names.items c.args.respelled c.in-Sound.readings c.in-Sound.analysis step tried kept c.clear.ensures.items c.self.invariant.undo
+    tried_kept c.self.inside.sources c.try_texts.new.sources c.args.changes.items c.self.inside.undo.items c.push_reserved.new.self.items c.self.inside.redo.items c.clear.new.self.items c.self.inside.shown c.args.names.items c.args.respelled c.in-Sound.analysis step tried kept c.clear.ensures.items c.try_texts.new.readings c.try_texts.ensures.readings c.self.invariant.undo
 
 pub returns-in-Wrong-clause-step : goal.returns-in-Wrong-clause-step
 returns-in-Wrong-clause-step g c =
@@ -44,9 +39,9 @@ returns-in-Wrong-clause-step g c =
 pub returns-in-Sound-clause-step : goal.returns-in-Sound-clause-step
 returns-in-Sound-clause-step g c =
     let step : Earlier = record { changes = c.in-Sound.had } in
-    let tried : IsTried c.self.inside.sources c.args.changes.items c.try_texts.new.sources (tries.Sound c.in-Sound.readings c.in-Sound.analysis c.in-Sound.had) = subst (IsTried c.self.inside.sources c.args.changes.items c.try_texts.new.sources) c.in-Sound.is c.in_ok-fault.ensures.tried in
+    let tried : IsTried c.self.inside.sources c.args.changes.items c.try_texts.new.sources (tries.Sound c.in-Sound.analysis c.in-Sound.had) = subst (IsTried c.self.inside.sources c.args.changes.items c.try_texts.new.sources) c.in-Sound.is c.in_ok-fault.ensures.tried in
     let kept : c.push_reserved.new.self.items ≡ c.self.inside.undo.items ++ step ∷ [] = c.push_reserved.ensures.items ∙ ap (λ (es : List Earlier). es ++ step ∷ []) c.reserve.ensures.items in
     let now : State = state_of c.try_texts.new.sources c.push_reserved.new.self.items c.clear.new.self.items c.self.inside.shown in
     subst (λ ns. IsTriedBy c.args.self.now (put_back c.args.self.now.files c.args.changes.items) c.args.names.items c.args.respelled (refactored ns c.args.respelled) now) (sym c.from_vec.ensures)
     (subst (λ (s : State). IsTriedBy s (put_back s.files c.args.changes.items) c.args.names.items c.args.respelled (refactored c.args.names.items c.args.respelled) now) c.self.view_is
-    (tried_sound c.self.inside.sources c.try_texts.new.sources c.args.changes.items c.self.inside.undo.items c.push_reserved.new.self.items c.self.inside.redo.items c.clear.new.self.items c.self.inside.shown c.args.names.items c.args.respelled c.in-Sound.readings c.in-Sound.analysis step tried kept c.clear.ensures.items c.text_has_one_reading.ensures c.sources_are_program.ensures))
+    (tried_sound c.self.inside.sources c.try_texts.new.sources c.args.changes.items c.self.inside.undo.items c.push_reserved.new.self.items c.self.inside.redo.items c.clear.new.self.items c.self.inside.shown c.args.names.items c.args.respelled c.in-Sound.analysis step tried kept c.clear.ensures.items c.text_has_one_reading.ensures c.sources_are_program.ensures))
