@@ -132,8 +132,7 @@ chosen_by s kept from to name types images at h =
     let there = bare_finds (rows_of s) (scope_of (context_of s)) from before.0 name types (one (field_decl f)) (before.1 types (field_decl f) old.1) in
     let here = bare_finds (rows_to s) (place_to s) to after.0 name images (one (field_decl k)) (after.1 images (field_decl k) new_at) in
     let asked = taken (rows_to s) (place_to s) name images k h.serves.2 to serves here in
-    let is = subst (λ (x : FieldKey). IsTaken (rows_to s) (place_to s) (reference_by to x.name images) (field_decl x) Asked) (sym old.2) asked in
-    (
+    let is = subst (λ (x : FieldKey). IsTaken (rows_to s) (place_to s) (reference_by to x.name images) (field_decl x) Asked) (sym old.2) asked in (
       field_decl f,
       (leads (rows_to s) (place_to s) name images k h.serves.2 f to serves, there),
       inl (Asked, is, stays_so name (field_to g f).name (ap (λ (x : FieldKey). x.name) old.2 ∙ h.serves.2)),

@@ -124,13 +124,7 @@ fn serves(table: &Table, way: &Way<'_>, name: &Name, number: u32) -> bool
 
 /// Whether a name finds this row the way, and the row declares a field of the name that can be
 /// asked so.
-fn finds_and_serves(
-    table: &Table,
-    scope: &Scope,
-    way: &Way<'_>,
-    name: &Name,
-    number: u32,
-) -> bool
+fn finds_and_serves(table: &Table, scope: &Scope, way: &Way<'_>, name: &Name, number: u32) -> bool
     ensures { IsTrue result → FindsBy table.now (scope_of scope.now) (pure.way_of way.now)
         name.now number × ServesAt table.now (pure.way_of way.now) name.now number }
 {
@@ -149,8 +143,6 @@ pub(crate) fn stays_by(scopes: &Scopes<'_>, from: &Way<'_>, to: &Way<'_>, name: 
 {
     match row_by(scopes.programs.before, &scopes.before, from, name) {
         None => false,
-        Some(number) => {
-            finds_and_serves(scopes.programs.after, &scopes.after, to, name, number)
-        }
+        Some(number) => finds_and_serves(scopes.programs.after, &scopes.after, to, name, number),
     }
 }
