@@ -143,6 +143,6 @@ pub(crate) fn stays_by(scopes: &Scopes<'_>, from: &Way<'_>, to: &Way<'_>, name: 
 {
     match row_by(scopes.programs.before, &scopes.before, from, name) {
         None => false,
-        Some(number) => { finds_and_serves(scopes.programs.after, &scopes.after, to, name, number) }
+        Some(number) => finds_and_serves(scopes.programs.after, &scopes.after, to, name, number),
     }
 }
