@@ -99,10 +99,10 @@ module _ (g : Renaming) (name : List ℕ) where
 
   old_class : (e : Decl) → IsClass name (decl_to g e) → is_class e ≡ true
   old_class (class_decl k) h = refl
-  old_class (method_decl k) (f, is, named) = absurd cc
-  old_class (field_decl k) (f, is, named) = absurd cc
-  old_class (constructor_decl k) (f, is, named) = absurd cc
-  old_class (local_decl k) (f, is, named) = absurd cc
+  old_class (method_decl k) (f, is, named, word) = absurd cc
+  old_class (field_decl k) (f, is, named, word) = absurd cc
+  old_class (constructor_decl k) (f, is, named, word) = absurd cc
+  old_class (local_decl k) (f, is, named, word) = absurd cc
 
   old_ctor : (e : Decl) → IsCtor name (decl_to g e) → is_ctor e ≡ true
   old_ctor (constructor_decl k) h = refl
@@ -208,16 +208,16 @@ module _ (rows : List Row) (s : Scope) (name : List ℕ) (ts : List Ty) where
     taken : (w : Way) → Serves rows w name d → Finds rows s w name ts (one d) → IsTakenBy w d
     taken local h f = absurd h
     taken own_field h f = absurd h
-    taken (field_on c) ((k, is, named), no) f =
-        subst (IsTakenBy (field_on c)) (sym is) (field_value c k named (subst (λ e. FindsFieldIn rows s c name (one e)) is f) (subst (λ e. IsStaticDecl rows e → ⊥) is no))
-    taken (field_through led c) (leading, (k, is, named), no) f =
-        subst (IsTakenBy (field_through led c)) (sym is) (field_class led c k named (subst (λ e. FindsFieldIn rows s c name (one e)) is f) leading (subst (λ e. IsInstanceDecl rows e → ⊥) is no))
+    taken (field_on c) ((k, is, named), rest) f =
+        subst (IsTakenBy (field_on c)) (sym is) (field_value c k named (subst (λ e. FindsFieldIn rows s c name (one e)) is f) (subst (λ e. IsStaticDecl rows e → ⊥) is rest))
+    taken (field_through led c) (leading, (k, is, named), rest) f =
+        subst (IsTakenBy (field_through led c)) (sym is) (field_class led c k named (subst (λ e. FindsFieldIn rows s c name (one e)) is f) leading (subst (λ e. IsInstanceDecl rows e → ⊥) is rest))
     taken field_above h f = absurd h
     taken method_named (k, is, named) f = subst (IsTakenBy method_named) (sym is) (method_simple k named (subst (λ e. FindsMethodNamed rows s name ts (one e)) is f))
-    taken (method_on c) ((k, is, named), no) f =
-        subst (IsTakenBy (method_on c)) (sym is) (method_value c k named (subst (λ e. FindsMethodOf rows s c name ts (one e)) is f) (subst (λ e. IsStaticDecl rows e → ⊥) is no))
-    taken (method_through led c) (leading, (k, is, named), no) f =
-        subst (IsTakenBy (method_through led c)) (sym is) (method_class led c k named (subst (λ e. FindsMethodOf rows s c name ts (one e)) is f) leading (subst (λ e. IsInstanceDecl rows e → ⊥) is no))
+    taken (method_on c) ((k, is, named), rest) f =
+        subst (IsTakenBy (method_on c)) (sym is) (method_value c k named (subst (λ e. FindsMethodOf rows s c name ts (one e)) is f) (subst (λ e. IsStaticDecl rows e → ⊥) is rest))
+    taken (method_through led c) (leading, (k, is, named), rest) f =
+        subst (IsTakenBy (method_through led c)) (sym is) (method_class led c k named (subst (λ e. FindsMethodOf rows s c name ts (one e)) is f) leading (subst (λ e. IsInstanceDecl rows e → ⊥) is rest))
     taken method_above h f = absurd h
     taken (ctor_of c) (k, is, none) f = subst (IsTakenBy (ctor_of c)) (sym is) (ctor c k (subst (λ e. FindsCtorOf rows s c ts (one e)) is f))
     taken ctor_above h f = absurd h
@@ -227,12 +227,12 @@ module _ (rows : List Row) (s : Scope) (name : List ℕ) (ts : List Ty) where
     named_so : (w : Way) → Serves rows w name d → name_in d x ≡ name
     named_so local h = absurd h
     named_so own_field h = absurd h
-    named_so (field_on c) ((k, is, named), no) = ap (λ e. name_in e x) is ∙ named
-    named_so (field_through led c) (leading, (k, is, named), no) = ap (λ e. name_in e x) is ∙ named
+    named_so (field_on c) ((k, is, named), rest) = ap (λ e. name_in e x) is ∙ named
+    named_so (field_through led c) (leading, (k, is, named), rest) = ap (λ e. name_in e x) is ∙ named
     named_so field_above h = absurd h
     named_so method_named (k, is, named) = ap (λ e. name_in e x) is ∙ named
-    named_so (method_on c) ((k, is, named), no) = ap (λ e. name_in e x) is ∙ named
-    named_so (method_through led c) (leading, (k, is, named), no) = ap (λ e. name_in e x) is ∙ named
+    named_so (method_on c) ((k, is, named), rest) = ap (λ e. name_in e x) is ∙ named
+    named_so (method_through led c) (leading, (k, is, named), rest) = ap (λ e. name_in e x) is ∙ named
     named_so method_above h = absurd h
     named_so (ctor_of c) (k, is, none) = ap (λ e. name_in e x) is ∙ sym none
     named_so ctor_above h = absurd h
