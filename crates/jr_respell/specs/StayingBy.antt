@@ -1,6 +1,6 @@
 -- When a name that is looked up one way and asked the other finds one row in both programs, which
 -- has that name in both.
-use Rattle.std.specs.Prelude.{◌≡◌, ℕ, List, [], length, Some, Bool, false, IsTrue}
+use Rattle.std.specs.Prelude.{◌≡◌, ℕ, List, [], length, Some, false, IsTrue}
 use Rattle.std.specs.List.{position_or_len}
 use Rattle.jr_table.specs.Keys.{ClassKey, FieldKey, MethodKey, CtorKey, Ty}
 use Rattle.jr_table.specs.Decls.{
