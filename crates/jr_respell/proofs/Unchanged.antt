@@ -49,7 +49,7 @@ module _ (rows : List Row) (keys : KeysAreFound rows) (s : Scope) (name : List �
   finds_row a is j one_row = λ d at. (keys.variable bare name (one d)).0 (row_is a is ∙ ap (shown rows) one_row ∙ one_is j d at)
 
 -- the declaration whose image is a field
-pub field_before : (g : Renaming) (o : Option Decl) (k : FieldKey) → option_map (decl_to g) o ≡ Some (field_decl k) → (f : FieldKey) × (o ≡ Some (field_decl f)) × (field_to g f ≡ k)
+field_before : (g : Renaming) (o : Option Decl) (k : FieldKey) → option_map (decl_to g) o ≡ Some (field_decl k) → (f : FieldKey) × (o ≡ Some (field_decl f)) × (field_to g f ≡ k)
 field_before g None k e = absurd cc
 field_before g (Some (class_decl c)) k e = absurd cc
 field_before g (Some (field_decl f)) k e = (f, refl, cc)

@@ -1,5 +1,5 @@
 -- When a simple name finds the same variable in both programs, which has that name in both.
-use Rattle.std.specs.Prelude.{◌≡◌, ℕ, List, [], Option, Some, None, Bool, false}
+use Rattle.std.specs.Prelude.{◌≡◌, ℕ, List, [], Some, None, false}
 use Rattle.jr_table.specs.Keys.{FieldKey}
 use Rattle.jr_table.specs.Decls.{Decl, field_decl, local_decl}
 use Rattle.jr_table.specs.Rows.{Row}

@@ -34,7 +34,7 @@ fn is_field_named(decl: &Decl, name: &Name) -> bool
 }
 
 /// The declaration of a row, where there is the row.
-fn row_decl(table: &Table, number: u32) -> Option<&Decl>
+pub(crate) fn row_decl(table: &Table, number: u32) -> Option<&Decl>
     ensures { option_map (λ d. decl_of d.now) result ≡ decl_at table.now number }
 {
     match table.rows().get(number as usize) {
@@ -44,7 +44,7 @@ fn row_decl(table: &Table, number: u32) -> Option<&Decl>
 }
 
 /// Whether a row declares a field of the name.
-pub(crate) fn declares_field(table: &Table, name: &Name, number: u32) -> bool
+fn declares_field(table: &Table, name: &Name, number: u32) -> bool
     ensures { IsTrue result → DeclaresField table.now name.now number }
 {
     match row_decl(table, number) {

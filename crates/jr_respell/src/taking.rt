@@ -189,7 +189,8 @@ pub(crate) fn chosen(
         (context_of scopes.now) (pure.way_of from.now) types.now (pure.way_of to.now) images.now
         at name.now (option_map choice_of o)) }
 {
-    if stays_by(scopes, from, to, name) {
+    let stays = stays_by(alloc, scopes, name, from, types, to, images)?;
+    if stays {
         Ok(Some(Choice::Stays))
     } else {
         chosen_by_lookup(alloc, scopes, at, name, from, types, to, images)

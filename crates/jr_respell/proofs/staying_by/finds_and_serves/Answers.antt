@@ -5,8 +5,7 @@ use Rattle.jr_respell.specs.Ways.{way_of}
 use Rattle.jr_respell.specs.StayingBy.{FindsBy}
 use Rattle.jr_respell.proofs.staying_by.finds_and_serves.Goals as goal
 
-pub returns-then-is_number : goal.returns-then-is_number
-returns-then-is_number c = λ t. (
-  subst (λ (o : Option ℕ). IfSome o (FindsBy c.args.table.now (scope_of c.args.scope.now) (way_of c.args.way.now) c.args.name.now)) (c.is_number.ensures.0 c.if-is_number.true) c.row_by.ensures,
-  c.serves.ensures t,
-)
+pub returns : goal.returns
+returns c = λ t.
+    let h = c.serves_found.ensures t in
+    (subst (λ (o : Option ℕ). IfSome o (FindsBy c.args.table.now (scope_of c.args.scope.now) (way_of c.args.way.now) c.args.name.now c.args.args.now)) h.0 c.in_ok-found.ensures, h.1)
