@@ -17,8 +17,8 @@ returns-in-Some g c =
     overridden (g.V.View.program c.args.view.now) (renaming_of c.args.g.now) (class_key_of c.in-Some.class) (method_key_of c.in-Some.method)
     (subst (λ rows. IsFirstChange rows (renaming_of c.args.g.now) (class_key_of c.in-Some.class) (method_key_of c.in-Some.method)) c.requires.before h)
 
-pub returns : goal.returns
-returns g c =
+pub returns-in-None : goal.returns-in-None
+returns-in-None g c =
     let none = subst (λ o. IfNone o ((k : ClassKey) (m : MethodKey) → ChangesDispatch c.args.before.now (renaming_of c.args.g.now) k m → ⊥)) c.in-None.is c.in_ok-class.ensures.none in
     let keeps : KeepsDispatch (g.V.View.program c.args.view.now) (renaming_of c.args.g.now) =
     subst (λ rows. (k : ClassKey) (m : MethodKey) → ChangesDispatch rows (renaming_of c.args.g.now) k m → ⊥) c.requires.before none in
