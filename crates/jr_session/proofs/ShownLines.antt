@@ -42,9 +42,9 @@ own_errs file at r members = any_filter (MemberErrs file at r) (λ (b : MemberBo
 -- ---- the lines
 
 module _ (sources : List Source) (a : Analysis) (is : IsAnalysis sources a) (number : ℕ) (source : Source) (stands : slice_get sources number ≡ Some source)
-    (items : List Item) (tokens : slice_get a.tokens.items number ≡ Some items) where
+    (items : List Item) (tokens : slice_get is.tokens number ≡ Some items) where
   lexes : Lexes source.text items
-  lexes = lexed_each (texts_of sources) a.tokens.items is.tokens number source.text items (text_there sources number source stands) tokens
+  lexes = lexed_each (texts_of sources) is.tokens is.lexed number source.text items (text_there sources number source stands) tokens
 
   line_is : (l : Line) → IsLineOf source.text items (own_members number a.members.items) number l ↔ HasLine is.units a.table number source.text items l
   line_is (reference at name d) =
@@ -72,7 +72,7 @@ module _ (sources : List Source) (a : Analysis) (is : IsAnalysis sources a) (num
   }
 
 -- the same, by the text and the members that were walked
-pub lines_of_text : (sources : List Source) (a : Analysis) → IsAnalysis sources a → (number : ℕ) (text : List ℕ) (items : List Item) (members : List MemberBound) → slice_get (texts_of sources) number ≡ Some text → slice_get a.tokens.items number ≡ Some items → members ≡ own_members number a.members.items
+pub lines_of_text : (sources : List Source) (a : Analysis) (is : IsAnalysis sources a) (number : ℕ) (text : List ℕ) (items : List Item) (members : List MemberBound) → slice_get (texts_of sources) number ≡ Some text → slice_get is.tokens number ≡ Some items → members ≡ own_members number a.members.items
     → (texts : List (List ℕ)) → ((lines : List Line) × AreLines (IsLineOf text items members number) lines × (texts ≡ map line_text lines)) → AreLineTexts sources number texts
 lines_of_text sources a is number text items members at tokens same texts h =
     let s = text_source sources number text at in

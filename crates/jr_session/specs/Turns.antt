@@ -11,7 +11,7 @@ use Rattle.jr_session.specs.Changes.{put_back, AreOfFiles}
 
 -- what the text of a change reads as
 abbrev pub IsChangeReading : Change → Reading → Type 0
-IsChangeReading c r = IsReading c.text (unit_of r.unit) r.word r.fault
+IsChangeReading c r = IsReading c.text (unit_of r.unit) r.word r.tokens r.fault
 
 abbrev pub AreChangeReadings : List Change → List Reading → Type 0
 AreChangeReadings changes readings = AllZip IsChangeReading changes readings

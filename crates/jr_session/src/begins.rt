@@ -77,8 +77,9 @@ fn gather(alloc: Global, files: Vec<(String, Text)>) -> Result<Sources, BeginFau
 pub(crate) fn readings_of(alloc: Global, sources: &Sources) -> Result<Readings, AllocError>
     ensures { IfOk result (AreReadings (texts_of sources.now)) }
 {
-    let mut readings = Readings::new(alloc);
-    for number in 0..sources.count() {
+    let count = sources.count();
+    let mut readings = Readings::with_capacity(alloc, count as usize)?;
+    for number in 0..count {
         readings.push(read(alloc, sources.text(number))?)?;
     }
     Ok(readings)

@@ -9,7 +9,8 @@ ghost use Rattle.jr_shown.specs.Lines.{bytes_of};
 ghost use Rattle.jr_sources.specs.Analysed.{IsKeptAnalysis, IsFilled};
 ghost use Rattle.jr_session.specs.Lines.{AreLineTexts};
 ghost use Rattle.jr_session.specs.Refusing.{shown_limit};
-ghost use Rattle.jr_sources.specs.Sources.{AreSources, HasName};
+ghost use Rattle.jr_sources.specs.KeptReadings.{AreReadings};
+ghost use Rattle.jr_sources.specs.Sources.{AreSources, HasName, texts_of};
 ghost use Rattle.jr_session.specs.Stepping as pure;
 ghost use Rattle.jr_session.specs.Work.{IsWithinWork};
 
@@ -17,9 +18,10 @@ use crate::edits::no_such_file;
 use crate::laws::step_has_one_answer;
 use crate::sessions::Session;
 use jr_ast::Name;
+use jr_lex::one_answer;
 use jr_names::{Lines, Refusal, Reply};
 use jr_shown::{file_lines, members_of_file};
-use jr_sources::{Analysis, SourceFault, Sources, keep_analysis, text_has_one_reading};
+use jr_sources::{Analysis, Readings, SourceFault, Sources, keep_analysis, text_has_one_reading};
 use jr_steps::Steps;
 use std::alloc::{AllocError, Global};
 use std::sync::ledger::Ledger;
@@ -46,22 +48,26 @@ pub(crate) fn source_error(
     }))
 }
 
-// The lines of a file, by what was analysed.
+// The lines of a file, by its tokens and what was analysed.
 fn lines_of(
     alloc: Global,
     sources: &Sources,
+    readings: &Readings,
     kept: &Option<Analysis>,
     number: u32,
 ) -> Result<Vec<Name>, AllocError>
+    requires readings { AreReadings (texts_of sources.now) readings.now }
     requires kept { IsKeptAnalysis sources.now kept.now }
     requires filled { IsFilled kept.now }
     requires number { number < length sources.now }
     ensures { IfOk result (λ lines. AreLineTexts sources.now number lines.items) }
 {
+    text_has_one_reading();
+    one_answer();
     match kept {
         None => unreachable!(),
         Some(analysis) => {
-            let tokens = &analysis.tokens[number as usize];
+            let tokens = &readings.tokens[number as usize];
             let members = members_of_file(analysis.members.as_slice(), number);
             file_lines(alloc, sources.text(number), tokens, number, members)
         }
@@ -111,7 +117,7 @@ impl Session {
         if let Some(fault) = found {
             return source_error(alloc, &self.sources, fault);
         }
-        let lines = lines_of(alloc, &self.sources, &self.analysed, number)?;
+        let lines = lines_of(alloc, &self.sources, &self.readings, &self.analysed, number)?;
         let Some(len) = shown_with(self.shown, lines.as_slice()) else {
             return Err(AllocError);
         };

@@ -50,8 +50,8 @@ module _ (sources : List Source) (a : Analysis) (is : IsAnalysis sources a) wher
   its_file : (f at : ℕ) (r : Rule) → SomeErrs a.members.items f at r → (s : Source) × (slice_get sources f ≡ Some s)
   its_file f at r h =
       let p = is.placed f at r h in
-      let lt = slice_get_within a.tokens.items f p.0 p.1 in
-      let n = lexed_count (texts_of sources) a.tokens.items is.tokens in
+      let lt = slice_get_within is.tokens f p.0 p.1 in
+      let n = lexed_count (texts_of sources) is.tokens is.lexed in
       let m = length-texts sources in
       element sources f (omega (arith, lt, n, m))
 
@@ -67,7 +67,7 @@ module _ (sources : List Source) (a : Analysis) (is : IsAnalysis sources a) wher
         source = s.0;
         stands = s.1;
         items = p.0;
-        lexes = lexed_each (texts_of sources) a.tokens.items is.tokens f s.0.text p.0 (text_there sources f s.0 s.1) p.1;
+        lexes = lexed_each (texts_of sources) is.tokens is.lexed f s.0.text p.0 (text_there sources f s.0 s.1) p.1;
         breaks = (is.errors f p.0 at r p.1).0 h;
       }
 
@@ -77,10 +77,10 @@ module _ (sources : List Source) (a : Analysis) (is : IsAnalysis sources a) wher
       let others : AreProgramRows (sites_of begins is.units) h.rows = subst (λ (us : List (UnitTree Span)). AreProgramRows (sites_of begins us) h.rows) units h.are_rows in
       let rows : h.rows ≡ a.table = rows_once (package_lines is.units is.words) (sites_of begins is.units) is.program.clean h.rows a.table others is.rows in
       let lt = slice_get_within sources f h.source h.stands in
-      let n = lexed_count (texts_of sources) a.tokens.items is.tokens in
+      let n = lexed_count (texts_of sources) is.tokens is.lexed in
       let m = length-texts sources in
-      let there = element a.tokens.items f (omega (arith, lt, n, m)) in
-      let lexes : Lexes h.source.text there.0 = lexed_each (texts_of sources) a.tokens.items is.tokens f h.source.text there.0 (text_there sources f h.source h.stands) there.1 in
+      let there = element is.tokens f (omega (arith, lt, n, m)) in
+      let lexes : Lexes h.source.text there.0 = lexed_each (texts_of sources) is.tokens is.lexed f h.source.text there.0 (text_there sources f h.source h.stands) there.1 in
       let items : h.items ≡ there.0 = items_once h.source.text h.items there.0 h.lexes lexes in
       let breaks : InFile is.units f (λ k base part. BreaksAt a.table there.0 k base part at r) =
       subst (λ (P : Type 0). P) (λ i. InFile (units i) f (λ k base part. BreaksAt (rows i) (items i) k base part at r)) h.breaks in
@@ -99,7 +99,7 @@ module _ (sources : List Source) (a : Analysis) (is : IsAnalysis sources a) wher
     pub in_text : ItemsPlaced → (text : List ℕ) → slice_get (texts_of sources) f ≡ Some text → at < length text
     in_text law text stands =
         let p = is.placed f at r first.has in
-        begins_within text p.0 law (lexed_each (texts_of sources) a.tokens.items is.tokens f text p.0 stands p.1) at p.2
+        begins_within text p.0 law (lexed_each (texts_of sources) is.tokens is.lexed f text p.0 stands p.1) at p.2
 
     pub is_wrong : HasOneReading → OneItems → (g : SourceFault) → g.file ≡ f → g.at ≡ at → g.kind.now ≡ rule_name r → IsSourceWrong sources g
     is_wrong reading items_once g e place told =

@@ -2,6 +2,7 @@ pub mod SourceLaws
 pub mod Entries
 pub mod Totals
 pub mod AllRead
+pub mod Faulty
 pub mod FirstTokens
 pub mod Heads
 pub mod Spans

@@ -122,7 +122,7 @@ module _ (law : ItemsPlaced) (last : LastPlaced) where
 
   pub bounds_few : (sources : List Source) (a : Analysis) (is : IsAnalysis sources a) → AreSources sources → All (λ (t : List ℕ). length t ≤ text_limit) (texts_of sources) → length a.members.items < 2 ^ 32
   bounds_few sources a is valid all =
-      let e = AllZip-long (IsEachBound a.table a.tokens.items) (written_members begins a.table is.units) a.members.items is.each in
+      let e = AllZip-long (IsEachBound a.table is.tokens) (written_members begins a.table is.units) a.members.items is.each in
       let w = written_few a.table is.units in
       let n = program_few sources is.units is.words is.program.read all in
       let few : length sources ≤ 256 = valid.few in

@@ -33,11 +33,10 @@ use Rattle.jr_places.specs.FileParts.{begins, IsSuperAt}
 use Rattle.jr_shown.specs.declared.bounds.MemberBound.{MemberBound}
 use Rattle.jr_shown.specs.Members.{AnyOf, MemberErrs, IsSuperPlace, IsEachBound, AreEachBound}
 use Rattle.jr_sources.specs.declared.analyses.Analysis.{Analysis}
-use Rattle.jr_sources.specs.Analysed.{IsAnalysis}
+use Rattle.jr_sources.specs.Analysed.{AreLexed, IsAnalysis}
 use Rattle.jr_sources.specs.FirstFault.{AreRead, package_lines}
 use Rattle.jr_sources.specs.ReadingFaults.{ReadsAs}
 use Rattle.jr_sources.specs.Sources.{Source, AreSources, names_of, texts_of}
-use Rattle.jr_ast.specs.declared.members.Unit.{Unit}
 use Rattle.jr_ast.specs.View.{unit_of}
 use Rattle.jr_sources.specs.declared.faults.ReadingFault.{ReadingFault}
 use Rattle.jr_sources.specs.declared.kept.Readings.{Readings}
@@ -45,7 +44,7 @@ use Rattle.jr_sources.specs.FirstOf.{HaveNone}
 use Rattle.jr_sources.specs.KeptReadings.{AreReadings}
 use Rattle.jr_sources.specs.ReadingLaws.{HasOneReading}
 use Rattle.jr_sources.specs.Whole.{files_of, super_in, program_of, Anywhere, AreWhole, IsProgramOf}
-use Rattle.jr_sources.proofs.AllRead.{element, text_there, read_units}
+use Rattle.jr_sources.proofs.AllRead.{element, text_there, kept, read_units, lexed_tokens}
 use Rattle.jr_sources.proofs.Analysing.{OneItems, counts, lexed_each, read_once, source_read}
 use Rattle.jr_sources.proofs.SourceLaws.{length-texts}
 use Rattle.jr_sources.proofs.InFiles.{written_in}
@@ -203,13 +202,13 @@ module _ (sources : List Source) (a : Analysis) (is : IsAnalysis sources a) (val
   abbrev bounds : List MemberBound
   bounds = a.members.items
 
-  place_is : (w : WrittenMember Span) → Contains written w → (c : MemberBound) → IsEachBound a.table a.tokens.items w c → super_in bounds w.key ≡ c.super_at
-  place_is w has c e = finds a.table a.tokens.items written bounds is.each w.key c.super_at same w has refl
+  place_is : (w : WrittenMember Span) → Contains written w → (c : MemberBound) → IsEachBound a.table is.tokens w c → super_in bounds w.key ≡ c.super_at
+  place_is w has c e = finds a.table is.tokens written bounds is.each w.key c.super_at same w has refl
     where
-      same : (v : WrittenMember Span) → Contains written v → v.key ≡ w.key → (d : MemberBound) → IsEachBound a.table a.tokens.items v d → d.super_at ≡ c.super_at
+      same : (v : WrittenMember Span) → Contains written v → v.key ≡ w.key → (d : MemberBound) → IsEachBound a.table is.tokens v d → d.super_at ≡ c.super_at
       same v there key d f =
           let one : v ≡ w = law.one v w there has key in
-          let g : IsEachBound a.table a.tokens.items w d = subst (λ (x : WrittenMember Span). IsEachBound a.table a.tokens.items x d) one f in
+          let g : IsEachBound a.table is.tokens w d = subst (λ (x : WrittenMember Span). IsEachBound a.table is.tokens x d) one f in
           let items : g.items ≡ e.items = same_Some g.items e.items (sym g.stands ∙ e.stands) in
           one_place e.items w.part d.super_at c.super_at (subst (λ (x : List Item). IsSuperPlace x w.part d.super_at) items g.place) e.place
 
@@ -219,7 +218,7 @@ module _ (sources : List Source) (a : Analysis) (is : IsAnalysis sources a) (val
       let r = written_in is.units u.0 (λ j base part. Breaks begins a.table (super_in bounds j) j base part (begins (part_mark part) base + e.at) e.rule) (record { unit = u.1; stands = u.2; member = k; has = u.3 }) in
       let m = law.all u.0 k r.0 r.1 r.3 in
       let w = m.0 in
-      let b = its_bound a.table a.tokens.items written bounds is.each w m.1 in
+      let b = its_bound a.table is.tokens written bounds is.each w m.1 in
       let breaks : Breaks begins a.table (super_in bounds w.key) w.key w.base w.part (begins (part_mark w.part) w.base + e.at) e.rule =
       subst (λ (j : MemberKey). Breaks begins a.table (super_in bounds j) j w.base w.part (begins (part_mark w.part) w.base + e.at) e.rule) (sym m.3)
       (subst (λ (n : ℕ). Breaks begins a.table (super_in bounds k) k n w.part (begins (part_mark w.part) n + e.at) e.rule) (sym m.4)
@@ -230,9 +229,9 @@ module _ (sources : List Source) (a : Analysis) (is : IsAnalysis sources a) (val
 
   supers : (w : WrittenMember Span) → Contains written w → pure.writes_super w.part ≡ true → (f : File Span) → slice_get (files_of sources is.units) w.file ≡ Some f → (items : List Item) → Lexes f.text items → pure.IsSuperAt items (itself (part_mark w.part) w.base) (super_in bounds w.key)
   supers w has writes f stands items lexes =
-      let b = its_bound a.table a.tokens.items written bounds is.each w has in
+      let b = its_bound a.table is.tokens written bounds is.each w has in
       let s = file_at sources is.units is.words is.program.read w.file f stands in
-      let own : Lexes s.0.text b.1.items = lexed_each (texts_of sources) a.tokens.items is.tokens w.file s.0.text b.1.items (text_there sources w.file s.0 s.2) b.1.stands in
+      let own : Lexes s.0.text b.1.items = lexed_each (texts_of sources) is.tokens is.lexed w.file s.0.text b.1.items (text_there sources w.file s.0 s.2) b.1.stands in
       let same : b.1.items ≡ items = items_once s.0.text b.1.items items own (subst (λ (t : List ℕ). Lexes t items) s.4 lexes) in
       subst (λ (n : ℕ). pure.IsSuperAt items (itself (part_mark w.part) w.base) n) (sym (place_is w has b.0 b.1))
       (written_place items w.part w.base b.0.super_at writes (subst (λ (x : List Item). IsSuperPlace x w.part b.0.super_at) same b.1.place))
@@ -260,7 +259,7 @@ module _ (sources : List Source) (a : Analysis) (is : IsAnalysis sources a) (val
     clean = subst (λ (us : List (UnitTree Span)). IsClean [] (sites_of begins us)) (sym units_are) (no_lines (package_lines is.units is.words) (sites_of begins is.units) is.program.clean);
     sound = subst (λ (us : List (UnitTree Span)). IsSound begins a.table (super_in bounds) us) (sym units_are) sound;
     supers = λ w has. supers w (subst (λ (ws : List (WrittenMember Span)). Contains ws w) members_are has);
-    bound = subst (λ (ws : List (WrittenMember Span)). AreBound itself Anywhere a.table (super_in bounds) ws (map (λ (b : MemberBound). b.bound) bounds)) (sym members_are) (each_bound a.table a.tokens.items (super_in bounds) written bounds is.each place_is);
+    bound = subst (λ (ws : List (WrittenMember Span)). AreBound itself Anywhere a.table (super_in bounds) ws (map (λ (b : MemberBound). b.bound) bounds)) (sym members_are) (each_bound a.table is.tokens (super_in bounds) written bounds is.each place_is);
   }
 
   pub are_whole : (us : List (UnitTree Span)) → is.units ≡ us → length bounds < 2 ^ 32 → AreWhole sources us a.table bounds
@@ -278,21 +277,31 @@ none_kept law ss r h us ws read i lt = by there.0 there.1
     source : (s : Source) × (slice_get ss i ≡ Some s)
     source = let n = h.faults in let m = length-texts ss in element ss i (omega (arith, lt, n, m))
 
-    unit : (u : Unit Span) × (slice_get r.units.items i ≡ Some u)
-    unit = let n = h.faults in let m = h.units in element r.units.items i (omega (arith, lt, n, m))
-
-    word : (w : ℕ) × (slice_get r.words.items i ≡ Some w)
-    word = let n = h.faults in let m = h.words in element r.words.items i (omega (arith, lt, n, m))
-
     by : (f : Option ReadingFault) → slice_get r.faults.items i ≡ Some f → slice_get r.faults.items i ≡ Some None
     by None e = e
     by (Some f) e =
         let s = source_read ss us ws read i source.0 source.1 in
-        let has = h.each i source.0.text unit.0 word.0 (Some f) (text_there ss i source.0 source.1) unit.1 word.1 e in
-        absurd (law.never_both source.0.text s.0 s.1 f s.3 has)
+        let has = kept ss r h i source.0.text (Some f) (text_there ss i source.0 source.1) e in
+        absurd (law.never_both source.0.text s.0 s.1 f s.3 has.6)
 
 pub kept_units : HasOneReading → (ss : List Source) (r : Readings) → AreReadings (texts_of ss) r → (us : List (UnitTree Span)) (ws : List ℕ) → AreRead ss us ws → us ≡ map unit_of r.units.items
 kept_units law ss r h us ws read = (read_once law ss us (map unit_of r.units.items) ws r.words.items read (read_units ss r h (none_kept law ss r h us ws read))).0
+
+-- texts have their items once
+lexed_once : OneItems → (ts : List (List ℕ)) (xs ys : List (List Item)) → AreLexed ts xs → AreLexed ts ys → xs ≡ ys
+lexed_once once [] [] [] g h = refl
+lexed_once once [] [] (y ∷ ys) g h = absurd h
+lexed_once once [] (x ∷ xs) ys g h = absurd g
+lexed_once once (t ∷ ts) [] ys g h = absurd g
+lexed_once once (t ∷ ts) (x ∷ xs) [] g h = absurd h
+lexed_once once (t ∷ ts) (x ∷ xs) (y ∷ ys) g h =
+    let one = once t x y g.0 h.0 in
+    let more = lexed_once once ts xs ys g.1 h.1 in
+    λ i. one i ∷ more i
+
+-- what was analysed goes by the tokens that are kept
+pub kept_tokens : HasOneReading → OneItems → (ss : List Source) (r : Readings) → AreReadings (texts_of ss) r → (a : Analysis) (is : IsAnalysis ss a) → is.tokens ≡ r.tokens.items
+kept_tokens law once ss r h a is = lexed_once once (texts_of ss) is.tokens r.tokens.items is.lexed (lexed_tokens ss r h (none_kept law ss r h is.units is.words is.program.read))
 
 pub program_is : (sources : List Source) (a : Analysis) (is : IsAnalysis sources a) (us : List (UnitTree Span)) → is.units ≡ us → IsProgram itself Anywhere (program_of sources us a.table a.members.items) → IsProgramOf sources (program_of sources us a.table a.members.items)
 program_is sources a is us e p = record { units = is.units; words = is.words; program = is.program; files = ap (files_of sources) (sym e); is = p }

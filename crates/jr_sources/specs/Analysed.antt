@@ -32,22 +32,23 @@ pub record IsAnalysis (sources : List Source) (a : Analysis) : Type 0 where
   pub words : List ℕ
   pub program : AreProgram sources units words
   pub rows : AreProgramRows (sites_of begins units) a.table
-  pub tokens : AreLexed (texts_of sources) a.tokens.items
+  pub tokens : List (List Item)
+  pub lexed : AreLexed (texts_of sources) tokens
   pub order : AreInFileOrder a.members.items
   pub references : (file : ℕ) (items : List Item) (at : ℕ) (d : Decl)
-      → slice_get a.tokens.items file ≡ Some items
+      → slice_get tokens file ≡ Some items
       → AnyOf (MemberRefers file at d) a.members.items
       ↔ InFile units file (λ k base part. BindsAt a.table items k base part at d)
   pub errors : (file : ℕ) (items : List Item) (at : ℕ) (r : Rule)
-      → slice_get a.tokens.items file ≡ Some items
+      → slice_get tokens file ≡ Some items
       → AnyOf (MemberErrs file at r) a.members.items
       ↔ InFile units file (λ k base part. BreaksAt a.table items k base part at r)
   -- one of each written member, in their order
-  pub each : AreEachBound a.table a.tokens.items (written_members begins a.table units)
+  pub each : AreEachBound a.table tokens (written_members begins a.table units)
       a.members.items
   -- and each error stands at a token of its file
   pub placed : (file at : ℕ) (r : Rule) → AnyOf (MemberErrs file at r) a.members.items
-      → (items : List Item) × (slice_get a.tokens.items file ≡ Some items) × BeginsToken items at
+      → (items : List Item) × (slice_get tokens file ≡ Some items) × BeginsToken items at
   pub once : (file at : ℕ) (d e : Decl) → AnyOf (MemberRefers file at d) a.members.items
       → AnyOf (MemberRefers file at e) a.members.items → d ≡ e
 

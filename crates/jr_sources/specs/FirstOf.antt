@@ -1,11 +1,9 @@
 -- The first file that has a fault by itself.
 use Rattle.std.specs.Prelude.{◌≡◌, ℕ, ◌<◌, List, length, slice_get, Option, Some, None}
-use Rattle.jr_text.specs.declared.spans.Span.{Span}
-use Rattle.jr_ast.specs.MemberTree.{Unit as UnitTree}
 use Rattle.jr_sources.specs.declared.faults.ReadingFault.{ReadingFault}
 use Rattle.jr_sources.specs.FaultNames.{fault_name}
 use Rattle.jr_sources.specs.Sources.{Source}
-use Rattle.jr_sources.specs.FirstFault.{AreRead, IsFileFault}
+use Rattle.jr_sources.specs.FirstFault.{IsFileFault}
 
 -- none of them is one
 abbrev pub HaveNone : List (Option ReadingFault) → Type 0
@@ -16,11 +14,6 @@ pub record IsFirstOf (faults : List (Option ReadingFault)) (number : ℕ)
     (f : ReadingFault) : Type 0 where
   pub stands : slice_get faults number ≡ Some (Some f)
   pub before : (i : ℕ) → i < number → slice_get faults i ≡ Some None
-
--- each source reads as a unit
-abbrev pub AreAllRead : List Source → Type 0
-AreAllRead sources =
-    (units : List (UnitTree Span)) × (words : List ℕ) × AreRead sources units words
 
 -- the file of this number is the first that has a fault by itself, and has this one
 pub record IsFileFaultAt (sources : List Source) (number : ℕ) (f : ReadingFault) : Type 0 where

@@ -71,7 +71,7 @@ pub record ReadsAs (text : List ℕ) (unit : UnitTree Span) (word : ℕ) : Type 
   pub is : IsUnitOf text items unit
   pub begins : word ≡ first_token_at items
 
--- what is kept of a text that was read: its unit, or its fault
-abbrev pub IsReading : List ℕ → UnitTree Span → ℕ → Option ReadingFault → Type 0
-IsReading text unit word None = ReadsAs text unit word
-IsReading text unit word (Some f) = HasFault text f
+-- what is kept of a text that was read: its unit and its tokens, or its fault
+abbrev pub IsReading : List ℕ → UnitTree Span → ℕ → List Item → Option ReadingFault → Type 0
+IsReading text unit word items None = ReadsAs text unit word × Lexes text items
+IsReading text unit word items (Some f) = HasFault text f

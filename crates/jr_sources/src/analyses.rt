@@ -1,14 +1,13 @@
 //! What was analysed of sources.
 
-use jr_shown::{MemberBound, Tokens};
+use jr_shown::MemberBound;
 use jr_table::Table;
 
-/// What was analysed of sources without a fault: their table, the tokens of each file, and what
-/// binding knows of their members, in file and text order.
+/// What was analysed of sources without a fault: their table, and what binding knows of their
+/// members, in file and text order.
 #[derive(Drop)]
 pub struct Analysis {
     pub table: Table,
-    pub tokens: Vec<Tokens>,
     pub members: Vec<MemberBound>,
 }
 

@@ -1,36 +1,44 @@
 //! What is kept of the texts that were read.
 ghost use Rattle.std.specs.Prelude.{◌≡◌, ◌<◌, ◌++◌, ◌∷◌, [], length, slice_get, slice_set};
-ghost use Rattle.std.specs.Prelude.{OnOk, Some};
+ghost use Rattle.std.specs.Prelude.{IfOk, OnOk, Some};
 
 use crate::faults::ReadingFault;
 use crate::readings::Reading;
 use jr_ast::Unit;
+use jr_shown::Tokens;
 use jr_text::Span;
 use std::alloc::{AllocError, Global};
 use std::mem;
 
 /// The readings of the files, by their numbers: units side by side, as the table is built from
-/// them, with the places of their first tokens, and with the faults. A file with a fault has a unit
-/// without classes.
+/// them, with the places of their first tokens, with all their tokens, and with the faults. A file
+/// with a fault has a unit without classes, and no tokens.
 #[derive(Drop)]
 pub struct Readings {
     pub units: Vec<Unit<Span>>,
     pub words: Vec<u32>,
+    pub tokens: Vec<Tokens>,
     pub faults: Vec<Option<ReadingFault>>,
 }
 
 impl Readings {
-    /// No readings. It takes no memory.
-    pub fn new(alloc: Global) -> Readings
-        ensures units { result.units.items ≡ [] }
-        ensures words { result.words.items ≡ [] }
-        ensures faults { result.faults.items ≡ [] }
+    /// No readings, with room for those of so many files.
+    pub fn with_capacity(alloc: Global, count: usize) -> Result<Readings, AllocError>
+        ensures units { IfOk result (λ r. r.units.items ≡ []) }
+        ensures words { IfOk result (λ r. r.words.items ≡ []) }
+        ensures tokens { IfOk result (λ r. r.tokens.items ≡ []) }
+        ensures faults { IfOk result (λ r. r.faults.items ≡ []) }
     {
-        Readings {
-            units: Vec::new(alloc),
-            words: Vec::new(alloc),
-            faults: Vec::new(alloc),
-        }
+        let units = Vec::with_capacity(alloc, count)?;
+        let words = Vec::with_capacity(alloc, count)?;
+        let tokens = Vec::with_capacity(alloc, count)?;
+        let faults = Vec::with_capacity(alloc, count)?;
+        Ok(Readings {
+            units,
+            words,
+            tokens,
+            faults,
+        })
     }
 
     /// Puts the reading of one more file behind the others.
@@ -39,11 +47,14 @@ impl Readings {
             (self.new.units.items ≡ self.old.units.items ++ reading.unit ∷ []) }
         ensures words { OnOk result
             (self.new.words.items ≡ self.old.words.items ++ reading.word ∷ []) }
+        ensures tokens { OnOk result
+            (self.new.tokens.items ≡ self.old.tokens.items ++ reading.tokens ∷ []) }
         ensures faults { OnOk result
             (self.new.faults.items ≡ self.old.faults.items ++ reading.fault ∷ []) }
     {
         self.words.push(reading.word)?;
         self.faults.push(reading.fault)?;
+        self.tokens.push(reading.tokens)?;
         self.units.push(reading.unit)?;
         Ok(())
     }
@@ -53,19 +64,29 @@ impl Readings {
     pub fn exchange(&mut self, number: u32, reading: Reading) -> Reading
         requires units { number < length self.old.units.items }
         requires words { number < length self.old.words.items }
+        requires tokens { number < length self.old.tokens.items }
         requires faults { number < length self.old.faults.items }
         ensures units { self.new.units.items ≡ slice_set self.old.units.items number reading.unit }
         ensures words { self.new.words.items ≡ slice_set self.old.words.items number reading.word }
+        ensures tokens { self.new.tokens.items
+            ≡ slice_set self.old.tokens.items number reading.tokens }
         ensures faults { self.new.faults.items
             ≡ slice_set self.old.faults.items number reading.fault }
         ensures unit { slice_get self.old.units.items number ≡ Some result.unit }
         ensures word { slice_get self.old.words.items number ≡ Some result.word }
+        ensures items { slice_get self.old.tokens.items number ≡ Some result.tokens }
         ensures fault { slice_get self.old.faults.items number ≡ Some result.fault }
     {
         let at = number as usize;
         let unit = mem::replace(&mut self.units[at], reading.unit);
         let word = mem::replace(&mut self.words[at], reading.word);
+        let tokens = mem::replace(&mut self.tokens[at], reading.tokens);
         let fault = mem::replace(&mut self.faults[at], reading.fault);
-        Reading { unit, word, fault }
+        Reading {
+            unit,
+            word,
+            tokens,
+            fault,
+        }
     }
 }

@@ -1,7 +1,5 @@
 //! Sources are analysed: their table is made, and their members are bound.
-ghost use Rattle.std.specs.Prelude.{◌≡◌, ◌≤◌, ◌+◌, List, map, IfOk, MatchOption};
-ghost use Rattle.jr_lex.specs.declared.items.Item as pure;
-ghost use Rattle.jr_lex.specs.Lexes.{Lexes};
+ghost use Rattle.std.specs.Prelude.{map, IfOk, IfNone, MatchOption};
 ghost use Rattle.jr_ast.specs.View.{unit_of};
 ghost use Rattle.jr_table.specs.Sites.{sites_of};
 ghost use Rattle.jr_table.specs.ProgramRows.{AreProgramRows};
@@ -9,7 +7,6 @@ ghost use Rattle.jr_places.specs.FileParts.{begins};
 ghost use Rattle.jr_sources.specs.Analysed.{AreLexed, IsAnalysed, IsSourceFault, IsKeptAnalysis};
 ghost use Rattle.jr_sources.specs.Analysed.{IsFilled, CostsBinding};
 ghost use Rattle.jr_sources.specs.FirstFault.{AreRead, AreProgram};
-ghost use Rattle.jr_sources.specs.FirstOf.{AreAllRead};
 ghost use Rattle.jr_sources.specs.KeptReadings.{AreReadings};
 ghost use Rattle.jr_sources.specs.Sources.{AreSources, texts_of};
 
@@ -20,51 +17,29 @@ use crate::reading_laws::text_has_one_reading;
 use crate::sources::Sources;
 use jr_ast::Unit;
 use jr_build::{BuildFault, build};
-use jr_lex::{lex, one_answer};
+use jr_lex::one_answer;
 use jr_members::{members_are_written, written_members};
 use jr_places::{one_is_bound, parts_are_placed};
 use jr_shown::{Tokens, bind_members};
 use jr_steps::Steps;
 use jr_table::Table;
-use jr_text::{Span, Text};
+use jr_text::Span;
 use std::alloc::{AllocError, Global};
 use std::sync::ledger::Ledger;
 
-// The tokens of a text that has items.
-fn tokens_of(alloc: Global, text: &Text) -> Result<Tokens, AllocError>
-    requires { (items : List pure.Item) × Lexes text.now items }
-    ensures { IfOk result (Lexes text.now) }
-{
-    match lex(alloc, text) {
-        Ok(items) => Tokens::new(alloc, items),
-        // The text has no fault, so that it was memory that was wanted.
-        Err(_) => Err(AllocError),
-    }
-}
-
-fn all_tokens(alloc: Global, sources: &Sources) -> Result<Vec<Tokens>, AllocError>
-    requires { AreAllRead sources.now }
-    ensures { IfOk result (λ tokens. AreLexed (texts_of sources.now) tokens.items) }
-{
-    let mut tokens = Vec::new(alloc);
-    for number in 0..sources.count() {
-        let more = tokens_of(alloc, sources.text(number))?;
-        tokens.push(more)?;
-    }
-    Ok(tokens)
-}
-
-// What is known of sources that are a program with these units and this table.
+// What is known of sources that are a program with these units, tokens and this table.
 fn bind_all<L: Ledger>(
     alloc: Global,
     sources: &Sources,
     units: &[Unit<Span>],
     words: &[u32],
+    tokens: &[Tokens],
     table: Table,
     steps: &mut Steps<L>,
 ) -> Result<Analysed, AllocError>
     requires valid { AreSources sources.now }
     requires program { AreProgram sources.now (map unit_of units.now) words.now }
+    requires lexed { AreLexed (texts_of sources.now) tokens.now }
     requires rows { AreProgramRows (sites_of begins (map unit_of units.now)) table }
     ensures analysed { IfOk result (IsAnalysed sources.now) }
     ensures cost { CostsBinding sources.now steps.old steps.new }
@@ -75,14 +50,9 @@ fn bind_all<L: Ledger>(
     parts_are_placed();
     one_is_bound();
     table.keeps_rows();
-    let tokens = all_tokens(alloc, sources)?;
     let written = written_members(alloc, &table, units)?;
-    let members = bind_members(alloc, &table, tokens.as_slice(), written.as_slice(), steps)?;
-    Ok(Analysed::Program(Analysis {
-        table,
-        tokens,
-        members,
-    }))
+    let members = bind_members(alloc, &table, tokens, written.as_slice(), steps)?;
+    Ok(Analysed::Program(Analysis { table, members }))
 }
 
 // What is known of sources that read as units.
@@ -91,10 +61,12 @@ fn analyse_units<L: Ledger>(
     sources: &Sources,
     units: &[Unit<Span>],
     words: &[u32],
+    tokens: &[Tokens],
     steps: &mut Steps<L>,
 ) -> Result<Analysed, AllocError>
     requires valid { AreSources sources.now }
     requires read { AreRead sources.now (map unit_of units.now) words.now }
+    requires lexed { AreLexed (texts_of sources.now) tokens.now }
     ensures analysed { IfOk result (IsAnalysed sources.now) }
     ensures cost { CostsBinding sources.now steps.old steps.new }
 {
@@ -105,18 +77,19 @@ fn analyse_units<L: Ledger>(
             kind: kind.name(),
         })),
         Err(BuildFault::Memory) => Err(AllocError),
-        Ok(table) => bind_all(alloc, sources, units, words, table, steps),
+        Ok(table) => bind_all(alloc, sources, units, words, tokens, table, steps),
     }
 }
 
 // The first file that has a fault by itself, and the first that it has. Where there is none, all
-// files read as the units that are kept.
+// files read as the units that are kept, and have the tokens that are.
 fn file_fault(sources: &Sources, readings: &Readings) -> Option<SourceFault>
     requires valid { AreSources sources.now }
     requires readings { AreReadings (texts_of sources.now) readings.now }
-    ensures { MatchOption result
+    ensures found { MatchOption result
         (AreRead sources.now (map unit_of readings.now.units.items) readings.now.words.items)
         (IsSourceFault sources.now) }
+    ensures lexed { IfNone result (AreLexed (texts_of sources.now) readings.now.tokens.items) }
 {
     text_has_one_reading();
     match first_of(readings.faults.as_slice()) {
@@ -148,6 +121,7 @@ fn analyse<L: Ledger>(
             sources,
             readings.units.as_slice(),
             readings.words.as_slice(),
+            readings.tokens.as_slice(),
             steps,
         ),
     }

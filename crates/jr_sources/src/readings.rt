@@ -12,32 +12,37 @@ use jr_ast::Unit;
 use jr_lex::{Item, ItemKind, LexFault, lex, measure};
 use jr_pexpr::ParseFault;
 use jr_punit::parse_unit;
+use jr_shown::Tokens;
 use jr_text::{Span, Text};
 use std::alloc::{AllocError, Global};
 
-/// What a text reads as. A text with a fault has a unit without classes, which says nothing.
+/// What a text reads as. A text with a fault has a unit without classes and no tokens, which say
+/// nothing.
 #[derive(Drop)]
 pub struct Reading {
     pub unit: Unit<Span>,
     /// Where the first token begins.
     pub word: u32,
+    pub tokens: Tokens,
     pub fault: Option<ReadingFault>,
 }
 
 // The reading of a text that has a fault.
-fn faulty(alloc: Global, at: u32, kind: FaultKind) -> Reading
-    ensures { result.fault ≡ Some (record { at = at; kind = kind }) }
+fn faulty(alloc: Global, at: u32, kind: FaultKind) -> Result<Reading, AllocError>
+    ensures { IfOk result (λ r. r.fault ≡ Some (record { at = at; kind = kind })) }
 {
+    let tokens = Tokens::new(alloc, Vec::new(alloc))?;
     let mark = Span { from: 0, to: 0 };
-    Reading {
+    Ok(Reading {
         unit: Unit {
             mark,
             package: Vec::new(alloc),
             classes: Vec::new(alloc),
         },
         word: 0,
+        tokens,
         fault: Some(ReadingFault { at, kind }),
-    }
+    })
 }
 
 // Where the first token of the items begins.
@@ -53,19 +58,33 @@ fn first_token(items: &[Item]) -> u32
     0
 }
 
-// What a text with these items reads as.
-fn unit_of_items(alloc: Global, text: &Text, items: &[Item]) -> Result<Reading, AllocError>
-    requires lexes { Lexes text.now items.now }
-    requires within { AreWithin items.now }
-    ensures { IfOk result (λ r. IsReading text.now (unit_of r.unit) r.word r.fault) }
+// The reading of a text that has these items and reads as this unit.
+fn with_items(alloc: Global, unit: Unit<Span>, items: Vec<Item>) -> Result<Reading, AllocError>
+    requires { (text : List ℕ) × Lexes text items.items }
+    ensures unit { IfOk result (λ r. r.unit ≡ unit) }
+    ensures word { IfOk result (λ r. r.word ≡ first_token_at items.items) }
+    ensures tokens { IfOk result (λ r. r.tokens ≡ items.items) }
+    ensures fault { IfOk result (λ r. r.fault ≡ None) }
 {
-    match parse_unit(alloc, text, items) {
-        Ok(unit) => Ok(Reading {
-            unit,
-            word: first_token(items),
-            fault: None,
-        }),
-        Err(ParseFault::Syntax { at }) => Ok(faulty(alloc, at, FaultKind::Syntax)),
+    let word = first_token(items.as_slice());
+    let tokens = Tokens::new(alloc, items)?;
+    Ok(Reading {
+        unit,
+        word,
+        tokens,
+        fault: None,
+    })
+}
+
+// What a text with these items reads as.
+fn unit_of_items(alloc: Global, text: &Text, items: Vec<Item>) -> Result<Reading, AllocError>
+    requires lexes { Lexes text.now items.items }
+    requires within { AreWithin items.items }
+    ensures { IfOk result (λ r. IsReading text.now (unit_of r.unit) r.word r.tokens r.fault) }
+{
+    match parse_unit(alloc, text, items.as_slice()) {
+        Ok(unit) => with_items(alloc, unit, items),
+        Err(ParseFault::Syntax { at }) => faulty(alloc, at, FaultKind::Syntax),
         Err(ParseFault::Memory) => Err(AllocError),
     }
 }
@@ -73,28 +92,28 @@ fn unit_of_items(alloc: Global, text: &Text, items: &[Item]) -> Result<Reading, 
 // What a text that has no items reads as.
 fn lexical(alloc: Global, fault: LexFault) -> Result<Reading, AllocError>
     ensures { (text : List ℕ) → IsFault text fault
-        → IfOk result (λ r. IsReading text (unit_of r.unit) r.word r.fault) }
+        → IfOk result (λ r. IsReading text (unit_of r.unit) r.word r.tokens r.fault) }
 {
     match fault {
-        LexFault::BadByte { at } => Ok(faulty(alloc, at, FaultKind::BadByte)),
-        LexFault::OpenComment { at } => Ok(faulty(alloc, at, FaultKind::OpenComment)),
-        LexFault::OpenString { at } => Ok(faulty(alloc, at, FaultKind::OpenString)),
-        LexFault::Escape { at } => Ok(faulty(alloc, at, FaultKind::Escape)),
-        LexFault::BadNumber { at } => Ok(faulty(alloc, at, FaultKind::BadNumber)),
+        LexFault::BadByte { at } => faulty(alloc, at, FaultKind::BadByte),
+        LexFault::OpenComment { at } => faulty(alloc, at, FaultKind::OpenComment),
+        LexFault::OpenString { at } => faulty(alloc, at, FaultKind::OpenString),
+        LexFault::Escape { at } => faulty(alloc, at, FaultKind::Escape),
+        LexFault::BadNumber { at } => faulty(alloc, at, FaultKind::BadNumber),
         LexFault::Memory => Err(AllocError),
     }
 }
 
-/// What a text reads as: its unit, or its first fault, a lexical one before one of depth, and that
-/// before one of syntax.
+/// What a text reads as: its unit and its tokens, or its first fault, a lexical one before one of
+/// depth, and that before one of syntax.
 pub fn read(alloc: Global, text: &Text) -> Result<Reading, AllocError>
-    ensures { IfOk result (λ r. IsReading text.now (unit_of r.unit) r.word r.fault) }
+    ensures { IfOk result (λ r. IsReading text.now (unit_of r.unit) r.word r.tokens r.fault) }
 {
     match lex(alloc, text) {
         Err(fault) => lexical(alloc, fault),
         Ok(items) => match measure(items.as_slice()) {
-            Err(deep) => Ok(faulty(alloc, deep.at, FaultKind::Deep)),
-            Ok(()) => unit_of_items(alloc, text, items.as_slice()),
+            Err(deep) => faulty(alloc, deep.at, FaultKind::Deep),
+            Ok(()) => unit_of_items(alloc, text, items),
         },
     }
 }

@@ -1,7 +1,6 @@
 use Rattle.std.proofs.Common.{◌≡◌, ◌≤◌, ◌+◌, ℕ, List, length, map, sym, ap, subst, ◌∙◌, arith}
 use Rattle.std.proofs.lemmas.List.{length-map}
 use Rattle.jr_text.specs.declared.spans.Span.{Span}
-use Rattle.jr_lex.specs.declared.items.Item.{Item}
 use Rattle.jr_ast.specs.View.{unit_of}
 use Rattle.jr_members.specs.PartView.{written_of}
 use Rattle.jr_members.specs.WrittenMembers.{WrittenMember, written_members}
@@ -12,9 +11,6 @@ use Rattle.jr_sources.proofs.Analysing.{counts, costs, written_few, all_bind, kn
 use Rattle.jr_sources.proofs.PartsFit.{units_gathered}
 use Rattle.jr_sources.proofs.WrittenOrder.{written_rise}
 use Rattle.jr_sources.proofs.programs.bind_all.Goals as goal
-
-pub all_tokens-requires : goal.all_tokens-requires
-all_tokens-requires g c = (map unit_of c.args.units.now, c.args.words.now, c.requires.program.read)
 
 pub written_members-requires-clause-few : goal.written_members-requires-clause-few
 written_members-requires-clause-few g c =
@@ -29,17 +25,16 @@ written_members-requires-clause-fits g c = units_gathered _ (map unit_of c.args.
 pub bind_members-requires : goal.bind_members-requires
 bind_members-requires g c =
     let units = map unit_of c.args.units.now in
-    let toks = c.in_ok-tokens.tokens.items in
+    let toks = c.args.tokens.now in
     let ws = map written_of c.in_ok-written.written.items in
     let law : AreWritten begins units c.args.table ws = subst (AreWritten begins units c.args.table) (sym c.in_ok-written.ensures) (c.members_are_written.ensures begins units c.args.table c.keeps_rows.ensures c.requires.rows) in
-    let all = all_bind c.args.sources.now units c.args.words.now c.requires.program c.args.table c.keeps_rows.ensures toks c.in_ok-tokens.ensures c.one_answer.ensures.items c.parts_are_placed.ensures.parts c.parts_are_placed.ensures.supers c.one_is_bound.ensures ws law in
-    subst (λ (ts : List (List Item)). EachOf (CanBind c.args.table ts) (map written_of c.as_slice-2.result.now)) (sym c.as_slice.ensures.value)
-    (subst (λ xs. EachOf (CanBind c.args.table toks) (map written_of xs)) (sym c.as_slice-2.ensures.value) all)
+    let all = all_bind c.args.sources.now units c.args.words.now c.requires.program c.args.table c.keeps_rows.ensures toks c.requires.lexed c.one_answer.ensures.items c.parts_are_placed.ensures.parts c.parts_are_placed.ensures.supers c.one_is_bound.ensures ws law in
+    subst (λ xs. EachOf (CanBind c.args.table toks) (map written_of xs)) (sym c.as_slice.ensures.value) all
 
 pub returns-in_err-members-clause-cost : goal.returns-in_err-members-clause-cost
 returns-in_err-members-clause-cost g c =
     let units = map unit_of c.args.units.now in
-    let count : length c.as_slice-2.result.now ≡ length (written_members begins c.args.table units) = ap length c.as_slice-2.ensures.value ∙ sym (length-map c.in_ok-written.written.items written_of) ∙ ap length c.in_ok-written.ensures in
+    let count : length c.as_slice.result.now ≡ length (written_members begins c.args.table units) = ap length c.as_slice.ensures.value ∙ sym (length-map c.in_ok-written.written.items written_of) ∙ ap length c.in_ok-written.ensures in
     let few = written_few c.args.table units in
     let least = c.bind_members.ensures.least in
     let most = c.bind_members.ensures.most in
@@ -48,7 +43,7 @@ returns-in_err-members-clause-cost g c =
 pub returns-clause-cost : goal.returns-clause-cost
 returns-clause-cost g c =
     let units = map unit_of c.args.units.now in
-    let count : length c.as_slice-2.result.now ≡ length (written_members begins c.args.table units) = ap length c.as_slice-2.ensures.value ∙ sym (length-map c.in_ok-written.written.items written_of) ∙ ap length c.in_ok-written.ensures in
+    let count : length c.as_slice.result.now ≡ length (written_members begins c.args.table units) = ap length c.as_slice.ensures.value ∙ sym (length-map c.in_ok-written.written.items written_of) ∙ ap length c.in_ok-written.ensures in
     let few = written_few c.args.table units in
     let least = c.bind_members.ensures.least in
     let most = c.bind_members.ensures.most in
@@ -57,23 +52,22 @@ returns-clause-cost g c =
 pub returns-clause-analysed : goal.returns-clause-analysed
 returns-clause-analysed g c =
     let units = map unit_of c.args.units.now in
-    let toks = c.in_ok-tokens.tokens.items in
+    let toks = c.args.tokens.now in
     let ws = map written_of c.in_ok-written.written.items in
     let law : AreWritten begins units c.args.table ws = subst (AreWritten begins units c.args.table) (sym c.in_ok-written.ensures) (c.members_are_written.ensures begins units c.args.table c.keeps_rows.ensures c.requires.rows) in
     let bounds = c.in_ok-members.members.items in
-    let known : AreKnown c.args.table toks ws bounds = subst (λ (xs : List (WrittenMember Span)). AreKnown c.args.table toks xs bounds) (ap (map written_of) c.as_slice-2.ensures.value)
-    (subst (λ (ts : List (List Item)). AreKnown c.args.table ts (map written_of c.as_slice-2.result.now) bounds) c.as_slice.ensures.value c.in_ok-members.ensures.known) in
+    let known : AreKnown c.args.table toks ws bounds = subst (λ (xs : List (WrittenMember Span)). AreKnown c.args.table toks xs bounds) (ap (map written_of) c.as_slice.ensures.value) c.in_ok-members.ensures.known in
     record {
       units = units;
       words = c.args.words.now;
       program = c.requires.program;
       rows = c.requires.rows;
-      tokens = c.in_ok-tokens.ensures;
-      order = c.in_ok-members.ensures.order (subst (λ (xs : List (WrittenMember Span)). AreWrittenInOrder xs) (sym (ap (map written_of) c.as_slice-2.ensures.value ∙ c.in_ok-written.ensures)) (written_rise c.args.table units));
-      references = λ file items at d stands. known_refers c.args.sources.now units c.args.words.now c.requires.program c.args.table c.keeps_rows.ensures toks c.in_ok-tokens.ensures c.one_answer.ensures.items c.parts_are_placed.ensures.parts c.parts_are_placed.ensures.supers c.one_is_bound.ensures ws law bounds known file items stands at d;
-      errors = λ file items at r stands. known_errs c.args.sources.now units c.args.words.now c.requires.program c.args.table c.keeps_rows.ensures toks c.in_ok-tokens.ensures c.one_answer.ensures.items c.parts_are_placed.ensures.parts c.parts_are_placed.ensures.supers c.one_is_bound.ensures ws law bounds known file items stands at r;
-      each = subst (λ (xs : List (WrittenMember Span)). AreEachBound c.args.table toks xs bounds) (ap (map written_of) c.as_slice-2.ensures.value ∙ c.in_ok-written.ensures)
-          (subst (λ (ts : List (List Item)). AreEachBound c.args.table ts (map written_of c.as_slice-2.result.now) bounds) c.as_slice.ensures.value c.in_ok-members.ensures.each);
-      placed = λ file at r. known_token c.args.sources.now units c.args.words.now c.requires.program c.args.table c.keeps_rows.ensures toks c.in_ok-tokens.ensures c.one_answer.ensures.items c.parts_are_placed.ensures.parts c.parts_are_placed.ensures.supers c.one_is_bound.ensures ws law bounds known file at r;
-      once = known_once c.args.sources.now units c.args.words.now c.requires.program c.args.table c.keeps_rows.ensures toks c.in_ok-tokens.ensures c.one_answer.ensures.items c.parts_are_placed.ensures.parts c.parts_are_placed.ensures.supers c.one_is_bound.ensures ws law bounds known;
+      tokens = toks;
+      lexed = c.requires.lexed;
+      order = c.in_ok-members.ensures.order (subst (λ (xs : List (WrittenMember Span)). AreWrittenInOrder xs) (sym (ap (map written_of) c.as_slice.ensures.value ∙ c.in_ok-written.ensures)) (written_rise c.args.table units));
+      references = λ file items at d stands. known_refers c.args.sources.now units c.args.words.now c.requires.program c.args.table c.keeps_rows.ensures toks c.requires.lexed c.one_answer.ensures.items c.parts_are_placed.ensures.parts c.parts_are_placed.ensures.supers c.one_is_bound.ensures ws law bounds known file items stands at d;
+      errors = λ file items at r stands. known_errs c.args.sources.now units c.args.words.now c.requires.program c.args.table c.keeps_rows.ensures toks c.requires.lexed c.one_answer.ensures.items c.parts_are_placed.ensures.parts c.parts_are_placed.ensures.supers c.one_is_bound.ensures ws law bounds known file items stands at r;
+      each = subst (λ (xs : List (WrittenMember Span)). AreEachBound c.args.table toks xs bounds) (ap (map written_of) c.as_slice.ensures.value ∙ c.in_ok-written.ensures) c.in_ok-members.ensures.each;
+      placed = λ file at r. known_token c.args.sources.now units c.args.words.now c.requires.program c.args.table c.keeps_rows.ensures toks c.requires.lexed c.one_answer.ensures.items c.parts_are_placed.ensures.parts c.parts_are_placed.ensures.supers c.one_is_bound.ensures ws law bounds known file at r;
+      once = known_once c.args.sources.now units c.args.words.now c.requires.program c.args.table c.keeps_rows.ensures toks c.requires.lexed c.one_answer.ensures.items c.parts_are_placed.ensures.parts c.parts_are_placed.ensures.supers c.one_is_bound.ensures ws law bounds known;
     }
