@@ -53,13 +53,7 @@ impl Session {
     {
         text_has_one_reading();
         self.undo.reserve(1)?;
-        match try_texts(
-            alloc,
-            &mut self.sources,
-            &mut self.readings,
-            changes,
-            steps,
-        )? {
+        match try_texts(alloc, &mut self.sources, &mut self.readings, changes, steps)? {
             Tried::Wrong(fault) => would_not_compile(alloc, fault),
             Tried::Sound { analysis, had } => {
                 sources_are_program(&self.sources, &self.readings, &analysis);

@@ -21,8 +21,7 @@ use jr_ast::Name;
 use jr_lex::one_answer;
 use jr_names::{Lines, Refusal, Reply};
 use jr_shown::{file_lines, members_of_file};
-use jr_sources::{Analysis, Readings, SourceFault, Sources};
-use jr_sources::{keep_analysis, text_has_one_reading};
+use jr_sources::{Analysis, Readings, SourceFault, Sources, keep_analysis, text_has_one_reading};
 use jr_steps::Steps;
 use std::alloc::{AllocError, Global};
 use std::sync::ledger::Ledger;
@@ -118,13 +117,7 @@ impl Session {
         if let Some(fault) = found {
             return source_error(alloc, &self.sources, fault);
         }
-        let lines = lines_of(
-            alloc,
-            &self.sources,
-            &self.readings,
-            &self.analysed,
-            number,
-        )?;
+        let lines = lines_of(alloc, &self.sources, &self.readings, &self.analysed, number)?;
         let Some(len) = shown_with(self.shown, lines.as_slice()) else {
             return Err(AllocError);
         };

@@ -31,7 +31,10 @@ pub(crate) enum Tried {
     Wrong(SourceFault),
     /// The sources have them now, and are a program, no member of which breaks a rule. `had` are
     /// the texts that they had.
-    Sound { analysis: Analysis, had: Vec<Change> },
+    Sound {
+        analysis: Analysis,
+        had: Vec<Change>,
+    },
 }
 
 // Lets go what was analysed. A call of this costs less than to let it go in each place.
