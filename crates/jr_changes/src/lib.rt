@@ -6,5 +6,5 @@ mod locals;
 mod places;
 mod statements;
 
-pub use locals::{declaring, local_word};
+pub use locals::local_word;
 pub use statements::{maybe, stmts};

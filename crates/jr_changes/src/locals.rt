@@ -1,7 +1,6 @@
 //! Locals that statements declare (JLS 14.4).
-ghost use Rattle.std.specs.Prelude.{◌≡◌, ◌++◌, ◌∷◌, [], IfOk};
+ghost use Rattle.std.specs.Prelude.{◌++◌, ◌∷◌, [], IfOk};
 ghost use Rattle.jr_ast.specs.View.{word_of, type_of, expr_of};
-ghost use Rattle.jr_table.specs.KeyView.{member_key_of, decl_of};
 ghost use Rattle.jr_table.specs.Context.{in_own, local_of};
 ghost use Rattle.jr_table.specs.Decls.{local_decl};
 ghost use Rattle.jr_notes.specs.Fits.{FitsType};
@@ -17,44 +16,9 @@ use crate::places::{declare, leave_own};
 use jr_ast::{Expr, Ident, Path, TypeRef};
 use jr_gather::{Here, next, operand, written_type};
 use jr_renaming::{Output, put_alone};
-use jr_respell::declaration_choice;
-use jr_table::{Decl, LocalKey, MemberKey};
+use jr_respell::local_choice;
 use jr_text::Mark;
 use std::alloc::{AllocError, Global};
-
-/// So that no path drops it in pieces.
-fn forget(decl: Decl) {
-    drop(decl)
-}
-
-/// A local or parameter of a member.
-pub(crate) fn local_key(alloc: Global, member: &MemberKey, number: u32) -> Result<Decl, AllocError>
-    ensures { IfOk result (λ d. decl_of d
-        ≡ local_decl (key_of (member_key_of member.now) number)) }
-{
-    let member = member.copy(alloc)?;
-    Ok(Decl::Local(LocalKey { member, number }))
-}
-
-/// Gathers what comes of the word that declares this, in a node whose first byte is `at` (JLS 6.1).
-/// The only fault is want of memory.
-pub fn declaring<A: Mark>(
-    alloc: Global,
-    here: &Here<'_>,
-    decl: &Decl,
-    at: u32,
-    name: &Ident<A>,
-    out: &mut Output,
-) -> Result<(), AllocError>
-    requires known { IsKnown here.now }
-    requires fits { A.fits_at name.now.mark at }
-    ensures { IfOk result (λ _. WordGathers A.span_from here.now (decl_of decl.now) at
-        (word_of name.now) (gathered out.old) (gathered out.new)) }
-{
-    let word = name.mark.span(at);
-    let choice = declaration_choice(alloc, here.scopes.programs.name, decl, &name.name)?;
-    put_alone(alloc, word, choice, out)
-}
 
 /// Gathers what comes of the word that declares the local or parameter of this number, in a node
 /// whose first byte is `at` (JLS 6.1). The only fault is want of memory.
@@ -72,10 +36,15 @@ pub fn local_word<A: Mark>(
         (local_decl (key_of (context_of here.now).member number)) at (word_of name.now)
         (gathered out.old) (gathered out.new)) }
 {
-    let decl = local_key(alloc, here.scopes.member, number)?;
-    let done = declaring(alloc, here, &decl, at, name, out);
-    forget(decl);
-    done
+    let word = name.mark.span(at);
+    let choice = local_choice(
+        alloc,
+        here.scopes.programs.name,
+        here.scopes.member,
+        number,
+        &name.name,
+    )?;
+    put_alone(alloc, word, choice, out)
 }
 
 /// The type and the name of a local.

@@ -10,7 +10,6 @@ use Rattle.jr_table.specs.Decls.{MemberKey, head, field, method, constructor, De
 use Rattle.jr_table.specs.Rows.{Row}
 use Rattle.jr_table.specs.Prelude.{top_key}
 use Rattle.jr_table.specs.Found.{Found, nothing, many, not_accessible}
-use Rattle.jr_table.specs.Entries.{class_of_member}
 use Rattle.jr_table.specs.LookupLaws.{EachHasOne}
 use Rattle.jr_table.specs.Context.{Context, scope_of}
 use Rattle.jr_table.specs.Binding.{value, BindsItself}
@@ -238,8 +237,8 @@ module _ (rows : List Row) (has : EachHasOne rows) (b : Bound) (from n : ℕ) (j
   parent_ready None at (Some (tree.named m (Some v) w)) fits found seen = absurd found
 
   pub head_ready : (m : Span) (mods : List (syntax.Modifier Span)) (w : tree.Word Span) (t : Option (tree.TypeName Span)) (ms : syntax.Members Span) → j.name ≡ w.text
-      → IsReady rows b from n (head j) base (class_part (syntax.class m mods w t ms)) → HeadReady rows j (syntax.class m mods w t ms)
-  head_ready m mods w t ms named whole = (named, parent_ready j.outer m.from t whole.fits.1.2 whole.found (λ i d h. whole.sound i rule.Private (d, refers t i d h)))
+      → IsReady rows b from n (head j) base (class_part (syntax.class m mods w t ms)) → HeadReady rows (head j) (syntax.class m mods w t ms)
+  head_ready m mods w t ms named whole = (j, refl, named, parent_ready j.outer m.from t whole.fits.1.2 whole.found (λ i d h. whole.sound i rule.Private (d, refers t i d h)))
     where
       refers : (t : Option (tree.TypeName Span)) (i : ℕ) (d : Decl) → MaybeParentRefers rows j.outer m.from t i (not_accessible d) → HeadRefers begins rows j base (syntax.class m mods w t ms) i (not_accessible d)
       refers None i d h = absurd h
@@ -250,6 +249,6 @@ module _ (rows : List Row) (has : EachHasOne rows) (b : Bound) (from n : ℕ) (j
 module _ (p : Program Span) (file : ℕ) (rows : List Row) (has : EachHasOne rows) (b : Bound) (from : ℕ) (k : MemberKey) (base : ℕ) where
   pub part_ready : (part : Part Span) → IsKeyed k part → IsReady rows b from (p.super_at k) k base part → StandsIn p file part (p.super_at k) → PartReady p file rows b from k part
   part_ready (class_part (syntax.class m mods w t ms)) (j, is, named) ready stands =
-      subst (λ (l : MemberKey). HeadReady rows (class_of_member l) (syntax.class m mods w t ms)) (sym is)
+      subst (λ (l : MemberKey). HeadReady rows l (syntax.class m mods w t ms)) (sym is)
       (head_ready rows has b from (p.super_at k) j base m mods w t ms named (subst (λ (l : MemberKey). IsReady rows b from (p.super_at k) l base (class_part (syntax.class m mods w t ms))) is ready))
   part_ready (member_part x) keyed ready stands = (member_ready rows has b from (p.super_at k) k base x keyed ready, stands)

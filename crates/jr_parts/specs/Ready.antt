@@ -32,7 +32,6 @@ use Rattle.jr_table.specs.Found.{one}
 use Rattle.jr_table.specs.Context.{Context}
 use Rattle.jr_table.specs.HeadRules.{plain, with_parameters, is_static_member, TopFinds}
 use Rattle.jr_table.specs.Decls as decls
-use Rattle.jr_table.specs.Entries.{class_of_member}
 use Rattle.jr_table.specs.Errors.{Part, class_part, member_part, Breaks, Binds}
 use Rattle.jr_table.specs.Binding.{value}
 use Rattle.jr_table.specs.TypesAt.{count_type, count_super}
@@ -107,10 +106,10 @@ module _ (rows : List Row) where
   MaybeParentReady outer at None = Unit {0}
   MaybeParentReady outer at (Some t) = ParentReady outer at t
 
-  -- the key has the written name
-  abbrev pub HeadReady : ClassKey → syntax.Class Span → Type 0
-  HeadReady k (syntax.class m mods w t ms) =
-      (k.name ≡ w.text) × MaybeParentReady k.outer m.from t
+  -- the key is that of a class's head, and has the written name
+  abbrev pub HeadReady : MemberKey → syntax.Class Span → Type 0
+  HeadReady of (syntax.class m mods w t ms) = (k : ClassKey) × (of ≡ decls.head k)
+      × (k.name ≡ w.text) × MaybeParentReady k.outer m.from t
 
 module _ (rows : List Row) (b : Bound) (from : ℕ) where
   -- an initializer, which is the part of this number
@@ -178,6 +177,6 @@ HasSuperAt p file (syntax.inner m of) at = Unit {0}
 
 abbrev pub PartReady : Program Span → (file : ℕ) → List Row → Bound → (from : ℕ) → MemberKey
     → Part Span → Type 0
-PartReady p file rows b from k (class_part c) = HeadReady rows (class_of_member k) c
+PartReady p file rows b from k (class_part c) = HeadReady rows k c
 PartReady p file rows b from k (member_part x) =
     MemberReady rows b from k x × HasSuperAt p file x (p.super_at k)

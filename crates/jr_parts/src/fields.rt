@@ -9,15 +9,15 @@ ghost use Rattle.jr_parts.specs.Gathered.{TypeGathers, InitGathers, FieldGathers
 
 use crate::beginnings::{Walked, count, forget_here, no_path, plain_here, plus};
 use crate::words::{is_static, member_word};
-use jr_ast::{Expr, Ident, Modifier, TypeRef};
+use jr_ast::{Expr, Ident, Modifier, TypeKind, TypeRef};
 use jr_changes::maybe;
 use jr_gather::written_type;
 use jr_renaming::Output;
 use jr_text::Span;
 use std::alloc::{AllocError, Global};
 
-/// A type in a declaration, whose parent begins at `at`.
-pub(crate) fn declared_type(
+/// A class as a type in a declaration, whose parent begins at `at`.
+fn class_type(
     alloc: Global,
     of: &Walked<'_>,
     at: u32,
@@ -35,8 +35,29 @@ pub(crate) fn declared_type(
     done
 }
 
-/// An initializer, if there is one, which is the part of this number.
-fn initializer(
+/// A type in a declaration, whose parent begins at `at`. A primitive type has no name, and no place
+/// is made for it.
+pub(crate) fn declared_type(
+    alloc: Global,
+    of: &Walked<'_>,
+    at: u32,
+    ty: &TypeRef<Span>,
+    out: &mut Output,
+) -> Result<(), AllocError>
+    requires walked { CanWalk of.now }
+    requires ready { TypeReady (rows_of of.now) (plain (key_of of.now) false) at (type_of ty.now) }
+    ensures { IfOk result (λ _. TypeGathers (rows_of of.now) (naming_of of.now)
+        (plain (key_of of.now) false) at (type_of ty.now) (gathered out.old) (gathered out.new)) }
+{
+    match &ty.kind {
+        TypeKind::Int => Ok(()),
+        TypeKind::Boolean => Ok(()),
+        TypeKind::Named(_outer, _name) => class_type(alloc, of, at, ty, out),
+    }
+}
+
+/// An initializer, which is the part of this number.
+fn written_initializer(
     alloc: Global,
     of: &Walked<'_>,
     is_static: bool,
@@ -57,6 +78,29 @@ fn initializer(
     let done = maybe(alloc, &here, &path, step, at, init, out);
     forget_here(here);
     done
+}
+
+/// An initializer, if there is one, which is the part of this number. Else no place is made.
+fn initializer(
+    alloc: Global,
+    of: &Walked<'_>,
+    is_static: bool,
+    step: u32,
+    at: u32,
+    init: &Option<Expr<Span>>,
+    out: &mut Output,
+) -> Result<(), AllocError>
+    requires walked { CanWalk of.now }
+    requires ready { InitReady (rows_of of.now) of.now.bound.now of.now.from
+        (plain (key_of of.now) is_static) step at (option_map expr_of init.now) }
+    ensures { IfOk result (λ _. InitGathers (rows_of of.now) (naming_of of.now)
+        (plain (key_of of.now) is_static) at (option_map expr_of init.now) (gathered out.old)
+        (gathered out.new)) }
+{
+    match init {
+        None => Ok(()),
+        Some(_written) => written_initializer(alloc, of, is_static, step, at, init, out),
+    }
 }
 
 /// A field that begins at `at`.

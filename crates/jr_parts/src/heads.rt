@@ -11,7 +11,7 @@ ghost use Rattle.jr_parts.specs.Gathered as gives;
 
 use crate::beginnings::Walked;
 use crate::fields::declared_type;
-use crate::words::class_word;
+use crate::words::member_word;
 use jr_ast::{Class, Ident, Name, TypeKind, TypeRef};
 use jr_renaming::{Output, put_alone};
 use jr_respell::{Programs, top_parent};
@@ -158,13 +158,12 @@ pub(crate) fn head(
     out: &mut Output,
 ) -> Result<(), AllocError>
     requires walked { CanWalk of.now }
-    requires ready { ready.HeadReady (rows_of of.now) (entries.class_of_member (key_of of.now))
-        (class_of class.now) }
+    requires ready { ready.HeadReady (rows_of of.now) (key_of of.now) (class_of class.now) }
     ensures { IfOk result (λ _. (base : ℕ) → gives.HeadGathers (rows_of of.now) (naming_of of.now)
         (entries.class_of_member (key_of of.now)) base (class_of class.now) (gathered out.old)
         (gathered out.new)) }
 {
     let key = class_of_member(of.key);
-    class_word(alloc, of, key, &class.name, out)?;
+    member_word(alloc, of, &class.name, out)?;
     maybe_parent(alloc, of, &key.outer, class.mark.from, &class.parent, out)
 }

@@ -1,3 +1,4 @@
 mod Changing
 mod Naming
 mod Answering
+mod LocalRows

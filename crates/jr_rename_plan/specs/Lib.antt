@@ -2,3 +2,4 @@ pub mod Plans
 pub mod Steps
 pub mod Answers
 pub mod Pairs
+pub mod OneLocal

@@ -1,5 +1,5 @@
 //! What comes of a renaming that collides with nothing.
-ghost use Rattle.std.specs.Prelude.{◌≡◌, IfOk, None};
+ghost use Rattle.std.specs.Prelude.{◌≡◌, IfOk, IsTrue, None};
 ghost use Rattle.jr_lex.specs.Replacing.{IsName};
 ghost use Rattle.jr_table.specs.KeyView.{decl_of};
 ghost use Rattle.jr_table.specs.FoundView.{found_of};
@@ -13,15 +13,16 @@ ghost use Rattle.jr_rename.specs.RenameLaws.{IsFair};
 ghost use Rattle.jr_rename.specs.Renames.{pairs_of};
 ghost use Rattle.jr_respell.specs.Scopes.{rows_in, renaming_in, AreImages};
 ghost use Rattle.jr_rename_plan.specs.Answers.{AnswersOf, AnswersKeeping};
+ghost use Rattle.jr_rename_plan.specs.OneLocal.{IsLocal, IsOfOneLocal};
 
 use crate::pairs::changed_pairs;
 use jr_bind::View;
 use jr_family::dispatch_change;
 use jr_names::{EditLists, Outcome, Refusal};
-use jr_rename::{NewName, rows_to};
+use jr_rename::{NewName, locals_keep_keys, rows_to};
 use jr_respell::{Lost, Programs};
 use jr_rewriting::{Rewriting, rewrite};
-use jr_table::Table;
+use jr_table::{Decl, Table};
 use jr_text::{EditList, Place, Span};
 use std::alloc::{AllocError, Global};
 
@@ -90,7 +91,63 @@ fn table_after(alloc: Global, table: &Table, g: &NewName) -> Result<Table, Alloc
     Table::of_rows(alloc, rows)
 }
 
-/// What comes of a renaming that collides with nothing.
+/// What comes of a renaming, over the tables of the program and of the new one.
+fn of_tables<V: View<Span>>(
+    alloc: Global,
+    view: &V,
+    g: &NewName,
+    before: &Table,
+    after: &Table,
+) -> Result<Outcome, AllocError>
+    requires before { before.now ≡ (V.program view.now).rows }
+    requires after { after.now ≡ pure.rows_to (renaming_of g.now) before.now }
+    requires fair { IsFair before.now (renaming_of g.now) }
+    requires name { IsName (renaming_of g.now).name }
+    ensures { IfOk result (λ o. AnswersOf (V.program view.now) (renaming_of g.now)
+        (outcome_of o)) }
+{
+    match dispatch_change(alloc, before, after, g)? {
+        Some((class, method)) => {
+            Ok(Outcome::Refused(Refusal::OverrideChanged { class, method }))
+        }
+        None => of_programs(
+            alloc,
+            view,
+            &Programs {
+                before,
+                after,
+                name: g,
+            },
+        ),
+    }
+}
+
+fn is_local(decl: &Decl) -> bool
+    ensures { IsTrue result → IsLocal (decl_of decl.now) }
+{
+    match decl {
+        Decl::Local(_) => true,
+        Decl::Class(_) => false,
+        Decl::Field(_) => false,
+        Decl::Method(_) => false,
+        Decl::Ctor(_) => false,
+    }
+}
+
+/// Whether nothing but one local or parameter gets the name.
+fn is_of_one_local(g: &NewName) -> bool
+    ensures { IsTrue result → IsOfOneLocal (renaming_of g.now) }
+{
+    let decls = g.decls.as_slice();
+    if decls.len() == 1 {
+        is_local(&decls[0])
+    } else {
+        false
+    }
+}
+
+/// What comes of a renaming that collides with nothing. Where a local is renamed, the new program
+/// has the same table.
 pub(crate) fn of_renaming<V: View<Span>>(
     alloc: Global,
     view: &V,
@@ -101,20 +158,12 @@ pub(crate) fn of_renaming<V: View<Span>>(
     ensures { IfOk result (λ o. AnswersOf (V.program view.now) (renaming_of g.now)
         (outcome_of o)) }
 {
+    locals_keep_keys();
     let before = view.table();
-    let after = table_after(alloc, before, g)?;
-    match dispatch_change(alloc, before, &after, g)? {
-        Some((class, method)) => {
-            Ok(Outcome::Refused(Refusal::OverrideChanged { class, method }))
-        }
-        None => of_programs(
-            alloc,
-            view,
-            &Programs {
-                before,
-                after: &after,
-                name: g,
-            },
-        ),
+    if is_of_one_local(g) {
+        of_tables(alloc, view, g, before, before)
+    } else {
+        let after = table_after(alloc, before, g)?;
+        of_tables(alloc, view, g, before, &after)
     }
 }

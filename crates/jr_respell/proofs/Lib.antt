@@ -15,3 +15,5 @@ mod SimpleNames
 mod Leading
 mod Refuting
 mod TopFounds
+mod Unchanged
+mod UnchangedBy

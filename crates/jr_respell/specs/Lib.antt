@@ -5,3 +5,5 @@ pub mod Taking
 pub mod Near
 pub mod Finding
 pub mod Ways
+pub mod Staying
+pub mod StayingBy

@@ -46,7 +46,8 @@ pub(crate) fn class_of_member(member: &MemberKey) -> &ClassKey
     }
 }
 
-fn is_renamed_local(g: &NewName, member: &MemberKey, number: u32) -> bool
+/// Whether the local gets the name.
+pub(crate) fn is_renamed_local(g: &NewName, member: &MemberKey, number: u32) -> bool
     ensures { result ≡ pure.is_renamed (renaming_of g.now)
         (local_decl (key_of (member_key_of member.now) number)) }
 {

@@ -22,6 +22,7 @@ use crate::declaring::name_of;
 use crate::finding::decl_found;
 use crate::looking::{look_up_after, look_up_before};
 use crate::scopes::Scopes;
+use crate::staying_by::stays_by;
 use crate::ways::{Way, leads_to};
 use jr_ast::Name;
 use jr_rename::decl_to;
@@ -147,8 +148,8 @@ pub(crate) fn chosen_for(
     }
 }
 
-/// The choice for what the name finds the one way, asked the other way.
-pub(crate) fn chosen(
+/// The same, with the declaration that is looked up.
+fn chosen_by_lookup(
     alloc: Global,
     scopes: &Scopes<'_>,
     at: u32,
@@ -169,5 +170,29 @@ pub(crate) fn chosen(
     match decl_found(&found) {
         None => Ok(None),
         Some(declaration) => chosen_for(alloc, scopes, at, name, to, images, declaration),
+    }
+}
+
+/// The choice for what the name finds the one way, asked the other way.
+pub(crate) fn chosen(
+    alloc: Global,
+    scopes: &Scopes<'_>,
+    at: u32,
+    name: &Name,
+    from: &Way<'_>,
+    types: &Tys,
+    to: &Way<'_>,
+    images: &Tys,
+) -> Result<Option<Choice>, AllocError>
+    requires { IsKept scopes.now }
+    ensures { IfOk result (λ o. pure.IsChosenBy (rows_of scopes.now) (naming_of scopes.now)
+        (context_of scopes.now) (pure.way_of from.now) types.now (pure.way_of to.now) images.now
+        at name.now (option_map choice_of o)) }
+{
+    let stays = stays_by(alloc, scopes, name, from, types, to, images)?;
+    if stays {
+        Ok(Some(Choice::Stays))
+    } else {
+        chosen_by_lookup(alloc, scopes, at, name, from, types, to, images)
     }
 }

@@ -13,6 +13,7 @@ use crate::choices::Choice;
 use crate::finding::decl_found;
 use crate::looking::variable_of;
 use crate::scopes::Scopes;
+use crate::staying::stays;
 use crate::taking::chosen_for;
 use crate::ways::{Way, is_local};
 use jr_ast::Name;
@@ -43,8 +44,8 @@ fn by_decl(
     }
 }
 
-/// The choice for a variable by its simple name, which stands at `at`.
-pub fn variable(
+/// The choice for what is found by a simple name as a variable.
+fn by_lookup(
     alloc: Global,
     scopes: &Scopes<'_>,
     at: u32,
@@ -60,5 +61,23 @@ pub fn variable(
     match decl_found(&found) {
         None => Ok(None),
         Some(decl) => by_decl(alloc, scopes, at, name, decl),
+    }
+}
+
+/// The choice for a variable by its simple name, which stands at `at`.
+pub fn variable(
+    alloc: Global,
+    scopes: &Scopes<'_>,
+    at: u32,
+    name: &Name,
+) -> Result<Option<Choice>, AllocError>
+    requires { IsKept scopes.now }
+    ensures { IfOk result (λ o. chosen.VariableIsChosen (rows_of scopes.now)
+        (naming_of scopes.now) (context_of scopes.now) at name.now (option_map choice_of o)) }
+{
+    if stays(scopes, name) {
+        Ok(Some(Choice::Stays))
+    } else {
+        by_lookup(alloc, scopes, at, name)
     }
 }

@@ -1,12 +1,24 @@
-use Rattle.std.proofs.Common.{subst}
-use Rattle.std.proofs.lemmas.Result.{IfOk-weaker}
+use Rattle.std.proofs.Common.{ap, ◌∙◌, refl}
+use Rattle.jr_text.specs.declared.spans.Span.{Span}
 use Rattle.jr_ast.specs.View.{word_of}
 use Rattle.jr_respell.specs.Scopes as scopes
+use Rattle.jr_respell.specs.ChoiceView.{choice_of}
+use Rattle.jr_renaming.specs.Effects.{both}
+use Rattle.jr_renaming.specs.OutputView as out
 use Rattle.jr_renaming.specs.OutputView.{gathered}
-use Rattle.jr_changes.specs.Bodies.{WordGathers}
+use Rattle.jr_gather.proofs.Oks.{on_ok}
+use Rattle.jr_rewrite.specs.Rewritten.{word_out}
 use Rattle.jr_changes.proofs.locals.local_word.Goals as goal
 
 pub returns : goal.returns
 unfolding scopes.context_of
 returns g c =
-    IfOk-weaker c.declaring-done.result _ _ (λ _ y. subst (λ d. WordGathers g.A.Mark.span_from c.args.here.now d c.args.at (word_of c.args.name.now) (gathered c.args.out.now) (gathered c.declaring-done.new.out)) c.in_ok-decl.ensures y) c.declaring-done.ensures
+    let T = g.A.Mark.span_from in
+    let old = gathered c.args.out.now in
+    let w = word_of c.args.name.now in
+    let ch = choice_of c.in_ok-choice.choice in
+    on_ok c.put_alone.result (λ e. λ s. (
+      word_out T ch c.args.at w,
+      (ch, c.in_ok-choice.ensures, refl),
+      e ∙ ap (λ (z : Span). both old (out.alone ch z)) c.span-word.ensures,
+    )) c.put_alone.ensures

@@ -1,19 +1,27 @@
-use Rattle.std.proofs.lemmas.Result.{IfOk-weaker}
-use Rattle.jr_ast.specs.View.{type_of}
+use Rattle.std.proofs.Common.{false, sym, ap, subst}
+use Rattle.jr_text.specs.declared.spans.Span.{Span}
+use Rattle.jr_ast.specs.Tree as tree
+use Rattle.jr_ast.specs.View.{type_kind}
 use Rattle.jr_table.specs.HeadRules.{plain}
-use Rattle.std.proofs.Common.{false}
 use Rattle.jr_renaming.specs.OutputView.{gathered}
-use Rattle.jr_parts.specs.Walking.{key_of}
-use Rattle.jr_parts.proofs.Placing.{type_there, type_back}
+use Rattle.jr_renaming.proofs.Joining.{gathers_none}
+use Rattle.jr_parts.specs.Walking.{key_of, rows_of, naming_of}
+use Rattle.jr_parts.specs.Gathered.{TypeGathers}
 use Rattle.jr_parts.proofs.fields.declared_type.Goals as goal
 
-pub written_type-done-requires : goal.written_type-done-requires
-written_type-done-requires c =
+pub returns-in-Int : goal.returns-in-Int
+returns-in-Int c =
     let w = c.args.of.now in
-    let here = c.in_ok-here.ensures in
-    record { known = here.known; fits = c.requires.ready.0; bound = type_there w c.in_ok-here.here (plain (key_of w) false) here c.args.at (type_of c.args.ty.now) c.requires.ready }
+    let m = c.args.ty.now.mark in
+    let old = gathered c.args.out.now in
+    subst (λ (t : tree.TypeName Span). TypeGathers (rows_of w) (naming_of w) (plain (key_of w) false) c.args.at t old old) (sym (ap (type_kind m) c.in-Int.is)) (λ s. gathers_none (tree.int m) old)
 
-pub returns : goal.returns
-returns c =
+pub returns-in-Boolean : goal.returns-in-Boolean
+returns-in-Boolean c =
     let w = c.args.of.now in
-    IfOk-weaker c.written_type-done.result _ _ (λ _ x. type_back w c.in_ok-here.here (plain (key_of w) false) c.in_ok-here.ensures c.args.at (type_of c.args.ty.now) (gathered c.args.out.now) (gathered c.written_type-done.new.out) x) c.written_type-done.ensures
+    let m = c.args.ty.now.mark in
+    let old = gathered c.args.out.now in
+    subst (λ (t : tree.TypeName Span). TypeGathers (rows_of w) (naming_of w) (plain (key_of w) false) c.args.at t old old) (sym (ap (type_kind m) c.in-Boolean.is)) (λ s. gathers_none (tree.boolean m) old)
+
+pub returns-in-Named : goal.returns-in-Named
+returns-in-Named c = c.class_type.ensures

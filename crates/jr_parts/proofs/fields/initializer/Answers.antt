@@ -1,22 +1,21 @@
-use Rattle.std.proofs.lemmas.Result.{IfOk-weaker}
+use Rattle.std.proofs.Common.{Option, None, sym, subst}
 use Rattle.std.specs.Prelude.{option_map}
+use Rattle.jr_text.specs.declared.spans.Span.{Span}
+use Rattle.jr_ast.specs.Tree as tree
+use Rattle.jr_ast.specs.declared.exprs.Expr.{Expr}
 use Rattle.jr_ast.specs.View.{expr_of}
 use Rattle.jr_table.specs.HeadRules.{plain}
 use Rattle.jr_renaming.specs.OutputView.{gathered}
-use Rattle.jr_parts.specs.Walking.{key_of}
-use Rattle.jr_parts.proofs.Placing.{init_there, init_back}
+use Rattle.jr_renaming.proofs.Joining.{gathers_none}
+use Rattle.jr_parts.specs.Walking.{key_of, rows_of, naming_of}
+use Rattle.jr_parts.specs.Gathered.{InitGathers}
 use Rattle.jr_parts.proofs.fields.initializer.Goals as goal
 
-pub maybe-done-requires : goal.maybe-done-requires
-maybe-done-requires c =
+pub returns-in-None : goal.returns-in-None
+returns-in-None c =
     let w = c.args.of.now in
-    let here = c.in_ok-here.ensures in
-    record {
-      known = here.known;
-      ready = init_there w c.in_ok-here.here (plain (key_of w) c.args.is_static) here c.no_path-path.result.steps.items c.no_path-path.ensures c.args.step c.args.at (option_map expr_of c.args.init.now) c.requires.ready;
-    }
+    let old = gathered c.args.out.now in
+    subst (λ (o : Option (Expr Span)). InitGathers (rows_of w) (naming_of w) (plain (key_of w) c.args.is_static) c.args.at (option_map expr_of o) old old) (sym c.in-None.is) (λ s. gathers_none None old)
 
-pub returns : goal.returns
-returns c =
-    let w = c.args.of.now in
-    IfOk-weaker c.maybe-done.result _ _ (λ _ x. init_back w c.in_ok-here.here (plain (key_of w) c.args.is_static) c.in_ok-here.ensures c.args.at (option_map expr_of c.args.init.now) (gathered c.args.out.now) (gathered c.maybe-done.new.out) x) c.maybe-done.ensures
+pub returns-in-Some : goal.returns-in-Some
+returns-in-Some c = c.written_initializer.ensures

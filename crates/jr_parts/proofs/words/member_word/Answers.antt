@@ -1,12 +1,12 @@
-use Rattle.std.proofs.Common.{subst}
-use Rattle.std.proofs.lemmas.Result.{IfOk-weaker}
+use Rattle.std.proofs.Common.{refl}
 use Rattle.jr_ast.specs.View.{word_of}
-use Rattle.jr_table.specs.Decls.{Decl}
-use Rattle.jr_renaming.specs.OutputView.{gathered}
-use Rattle.jr_parts.specs.Walking.{rows_of, naming_of}
-use Rattle.jr_parts.specs.Gathered.{WordGathers}
+use Rattle.jr_grammar.specs.Layout.{itself}
+use Rattle.jr_rewrite.specs.Rewritten.{word_out}
+use Rattle.jr_respell.specs.ChoiceView.{choice_of}
+use Rattle.jr_gather.proofs.Oks.{on_ok}
 use Rattle.jr_parts.proofs.words.member_word.Goals as goal
 
 pub returns : goal.returns
 returns c =
-    IfOk-weaker c.own_word.result _ _ (λ _ y. subst (λ (d : Decl). WordGathers (rows_of c.args.of.now) (naming_of c.args.of.now) d (word_of c.args.name.now) (gathered c.args.out.now) (gathered c.own_word.new.out)) c.in_ok-decl.ensures y) c.own_word.ensures
+    let ch = choice_of c.in_ok-choice.choice in
+    on_ok c.put_alone.result (λ e. λ s at. (word_out itself ch at (word_of c.args.name.now), (ch, c.in_ok-choice.ensures, refl), e)) c.put_alone.ensures

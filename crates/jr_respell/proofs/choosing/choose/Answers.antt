@@ -10,7 +10,7 @@ use Rattle.jr_respell.proofs.choosing.choose.Goals as goal
 pub returns-in-None : goal.returns-in-None
 returns-in-None c = c.in_ok-first.ensures.none c.in-None.is
 
-pub returns-in_ok-by_form-in-Some : goal.returns-in_ok-spelled-in-Some
+pub returns-in_ok-by_form-in-Some : goal.returns-in_ok-by_form-in-Some
 returns-in_ok-by_form-in-Some c =
     let s = c.args.scopes.now in
     let taken = subst (λ o. IfSome o (IsTaken (rows_to s) (place_to s) (reference_of c.args.asked.now.reference) (decl_of c.args.target.now))) c.in-Some.is c.in_ok-first.ensures.some in

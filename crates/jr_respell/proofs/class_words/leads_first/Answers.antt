@@ -1,4 +1,4 @@
-use Rattle.std.proofs.Common.{◌≡◌, List, None, IsTrue, ◌↔◌, subst}
+use Rattle.std.proofs.Common.{List, None, IsTrue, ◌↔◌, subst}
 use Rattle.jr_table.specs.Keys.{ClassKey}
 use Rattle.jr_table.specs.Rows.{Row}
 use Rattle.jr_table.specs.TypeView.{class_key_of}
