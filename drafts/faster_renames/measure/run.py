@@ -3,7 +3,7 @@
 import os,subprocess,sys,json,filecmp,shutil
 prog=os.path.realpath(sys.argv[1])
 for w in sys.argv[2:]:
-    d=f'/work/native/work/{w}'
+    d=os.environ['ROOM']+f'/work/{w}'
     files=open(f'{d}/args').read().split()
     best=None
     for _ in range(int(os.environ.get('N','3'))):
