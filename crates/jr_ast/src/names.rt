@@ -3,19 +3,21 @@ ghost use Rattle.std.specs.Prelude.{◌≡◌, IfOk, IsTrue, ◌↔◌};
 
 use std::alloc::{AllocError, Global};
 use std::marker::Model;
+use std::rc::RcStr;
 
-/// A kept text. Contracts see its bytes.
+/// A kept text, which its copies share. Contracts see its bytes.
 #[derive(Drop)]
 pub struct Name {
-    text: String,
+    text: RcStr,
 }
 
 impl Model for Name {
-    ghost use Rattle.std.specs.Prelude.{List, ℕ, string_bytes};
+    ghost use Rattle.std.specs.Prelude.{List, ℕ};
+    ghost use Rattle.std.specs.Rc.{rc_str_bytes};
 
     ghost Value = { List ℕ };
 
-    ghost view = { λ n. string_bytes n.text };
+    ghost view = { λ n. rc_str_bytes n.text };
 }
 
 impl Name {
@@ -23,7 +25,15 @@ impl Name {
     pub fn new(alloc: Global, text: &str) -> Result<Name, AllocError>
         ensures { IfOk result (λ n. n ≡ text.now) }
     {
-        let text = String::from_str(alloc, text)?;
+        let text = RcStr::from_str(alloc, text)?;
+        Ok(Name { text })
+    }
+
+    /// The same name once more. The bytes aren't copied.
+    pub fn copy(&self) -> Result<Name, AllocError>
+        ensures { IfOk result (λ n. n ≡ self.now) }
+    {
+        let text = self.text.clone()?;
         Ok(Name { text })
     }
 

@@ -20,7 +20,7 @@ impl NameTable {
         ensures owners { IfOk result (λ t. owners t ≡ count) }
         ensures none { IfOk result (λ t. (c : ℕ) (q : List ℕ) → number_at t c q ≡ None) }
     {
-        let mut by_owner = Vec::new(alloc);
+        let mut by_owner = Vec::with_capacity(alloc, count)?;
         for _ in 0..count {
             by_owner.push(HashMap::new(alloc))?;
         }

@@ -14,7 +14,7 @@ none_of : {T : Type 0} (f : T → Option ℕ) (xs : List T) → xs ≡ [] → (c
 none_of f xs e c = ap (λ ys. option_and_then f (slice_get ys c)) e
 
 pub loop-init : goal.loop-init
-loop-init c = (ap length c.new-by_owner.ensures.items, λ k q. none_of (λ m. get_by_text m q) _ c.new-by_owner.ensures.items k)
+loop-init c = (ap length c.in_ok-by_owner.ensures.items, λ k q. none_of (λ m. get_by_text m q) _ c.in_ok-by_owner.ensures.items k)
 
 pub loop-preserved : goal.loop-preserved
 loop-preserved c =
