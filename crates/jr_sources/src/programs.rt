@@ -62,6 +62,7 @@ fn analyse_units<L: Ledger>(
     units: &[Unit<Span>],
     words: &[u32],
     tokens: &[Tokens],
+    known: &mut Option<Table>,
     steps: &mut Steps<L>,
 ) -> Result<Analysed, AllocError>
     requires valid { AreSources sources.now }
@@ -70,7 +71,7 @@ fn analyse_units<L: Ledger>(
     ensures analysed { IfOk result (IsAnalysed sources.now) }
     ensures cost { CostsBinding sources.now steps.old steps.new }
 {
-    match build(alloc, units, words) {
+    match build(alloc, units, words, known) {
         Err(BuildFault::At { file, at, kind }) => Ok(Analysed::Fault(SourceFault {
             file,
             at,
@@ -107,6 +108,7 @@ fn analyse<L: Ledger>(
     alloc: Global,
     sources: &Sources,
     readings: &Readings,
+    known: &mut Option<Table>,
     steps: &mut Steps<L>,
 ) -> Result<Analysed, AllocError>
     requires valid { AreSources sources.now }
@@ -122,18 +124,20 @@ fn analyse<L: Ledger>(
             readings.units.as_slice(),
             readings.words.as_slice(),
             readings.tokens.as_slice(),
+            known,
             steps,
         ),
     }
 }
 
-/// Analyses sources, unless what they give is kept already. A fault is told, the first of the
-/// sources; where there is none, what was analysed is kept.
-pub fn keep_analysis<L: Ledger>(
+// Analyses sources, unless what they give is kept already. `known` is taken where it is their
+// table.
+fn keep_by<L: Ledger>(
     alloc: Global,
     sources: &Sources,
     readings: &Readings,
     kept: &mut Option<Analysis>,
+    known: &mut Option<Table>,
     steps: &mut Steps<L>,
 ) -> Result<Option<SourceFault>, AllocError>
     requires valid { AreSources sources.now }
@@ -147,11 +151,41 @@ pub fn keep_analysis<L: Ledger>(
     if kept.is_some() {
         return Ok(None);
     }
-    match analyse(alloc, sources, readings, steps)? {
+    match analyse(alloc, sources, readings, known, steps)? {
         Analysed::Fault(fault) => Ok(Some(fault)),
         Analysed::Program(analysis) => {
             *kept = Some(analysis);
             Ok(None)
         }
     }
+}
+
+// Lets go a table that isn't taken.
+fn forget(_known: Option<Table>) {}
+
+/// Analyses sources, unless what they give is kept already. A fault is told, the first of the
+/// sources; where there is none, what was analysed is kept.
+///
+/// `known` may be a table that was made before: it is taken where it has exactly the rows of these
+/// sources.
+pub fn keep_analysis<L: Ledger>(
+    alloc: Global,
+    sources: &Sources,
+    readings: &Readings,
+    kept: &mut Option<Analysis>,
+    known: Option<Table>,
+    steps: &mut Steps<L>,
+) -> Result<Option<SourceFault>, AllocError>
+    requires valid { AreSources sources.now }
+    requires readings { AreReadings (texts_of sources.now) readings.now }
+    requires kept { IsKeptAnalysis sources.now kept.old }
+    ensures kept { IsKeptAnalysis sources.now kept.new }
+    ensures found { IfOk result (λ fault.
+        MatchOption fault (IsFilled kept.new) (IsSourceFault sources.now)) }
+    ensures cost { CostsBinding sources.now steps.old steps.new }
+{
+    let mut known = known;
+    let found = keep_by(alloc, sources, readings, kept, &mut known, steps);
+    forget(known);
+    found
 }
