@@ -27,7 +27,7 @@ impl Table {
         let Some(key) = self.method_at(number) else {
             return Ok(());
         };
-        let key = key.copy(alloc)?;
+        let key = key.copy()?;
         keys.push(key)?;
         Ok(())
     }
