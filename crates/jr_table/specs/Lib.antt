@@ -4,6 +4,7 @@ pub mod Rows
 pub mod Found
 pub mod SameKeys
 pub mod SameDecls
+pub mod SameRows
 pub mod TypeView
 pub mod KeyView
 pub mod RowView

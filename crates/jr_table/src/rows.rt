@@ -54,6 +54,13 @@ impl Mods {
         let words = self.words.as_slice().to_vec(alloc)?;
         Ok(Mods { words })
     }
+
+    /// Whether both are the same words in the same order.
+    fn is_same(&self, other: &Mods) -> bool
+        ensures { IsTrue result ↔ (self.now ≡ other.now) }
+    {
+        self.words == other.words
+    }
 }
 
 /// A declaration, its modifiers and its types.
@@ -86,6 +93,28 @@ impl Row {
             parent,
             has_init,
         })
+    }
+}
+
+impl PartialEq for Row {
+    ghost use Rattle.std.specs.Ordering.{on};
+    ghost use Rattle.std.specs.Cmp as order;
+    ghost use Rattle.jr_table.specs.RowView.{row_of};
+    ghost use Rattle.jr_table.specs.SameRows.{same_row, same_row_equiv};
+
+    ghost eq = { on row_of same_row };
+
+    ghost laws = { order.partial_equiv_from_equiv (order.on_equiv row_of same_row_equiv) };
+
+    fn eq(&self, other: &Row) -> bool
+        ensures { IsTrue result ↔ (row_of self.now ≡ row_of other.now) }
+    {
+        let same_decl = self.decl == other.decl;
+        let same_words = self.modifiers.is_same(&other.modifiers);
+        let same_ty = self.ty == other.ty;
+        let same_parent = self.parent == other.parent;
+        let same_init = self.has_init == other.has_init;
+        same_decl & same_words & same_ty & same_parent & same_init
     }
 }
 

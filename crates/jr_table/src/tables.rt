@@ -1,5 +1,5 @@
 //! The table of a program's declarations.
-ghost use Rattle.std.specs.Prelude.{◌≡◌, map, length, IfOk, option_map, slice_get};
+ghost use Rattle.std.specs.Prelude.{◌≡◌, ◌↔◌, map, length, IfOk, IsTrue, option_map, slice_get};
 
 use crate::class_index::ClassIndex;
 use crate::classes::ClassKey;
@@ -73,6 +73,13 @@ impl Table {
         ensures { map row_of result.now ≡ self.now }
     {
         self.rows.as_slice()
+    }
+
+    /// Whether it has exactly these rows, in this order.
+    pub fn has_rows(&self, rows: &[Row]) -> bool
+        ensures { IsTrue result ↔ (self.now ≡ map row_of rows.now) }
+    {
+        self.rows.as_slice() == rows
     }
 
     /// What its rows meet, for who needs it in a proof.
