@@ -22,7 +22,7 @@ use std::alloc::{AllocError, Global};
 fn itself(alloc: Global, decl: &Decl) -> Result<Option<Decl>, AllocError>
     ensures { IfOk result (λ o. option_map decl_of o ≡ Some (decl_of decl.now)) }
 {
-    Ok(Some(decl.copy(alloc)?))
+    Ok(Some(decl.copy()?))
 }
 
 /// What is told of a class.

@@ -58,7 +58,7 @@ fn local(alloc: Global, member: &MemberKey, number: u32) -> Result<Decl, AllocEr
         ≡ decls.local_decl (record { member = member_key_of member.now; number = number })) }
 {
     Ok(Decl::Local(LocalKey {
-        member: member.copy(alloc)?,
+        member: member.copy()?,
         number,
     }))
 }

@@ -19,7 +19,7 @@ fn copy_of(alloc: Global, decl: Option<&Decl>) -> Result<Option<Decl>, AllocErro
 {
     match decl {
         None => Ok(None),
-        Some(decl) => Ok(Some(decl.copy(alloc)?)),
+        Some(decl) => Ok(Some(decl.copy()?)),
     }
 }
 

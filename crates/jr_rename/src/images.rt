@@ -59,11 +59,7 @@ fn is_renamed_method(g: &NewName, key: &MethodKey) -> bool
 fn chosen(alloc: Global, is_new: bool, new: &Name, old: &Name) -> Result<Name, AllocError>
     ensures { IfOk result (λ n. n ≡ (if is_new then new.now else old.now)) }
 {
-    if is_new {
-        Name::new(alloc, new.as_str())
-    } else {
-        Name::new(alloc, old.as_str())
-    }
+    if is_new { new.copy() } else { old.copy() }
 }
 
 fn top_name_to(alloc: Global, g: &NewName, name: &Name) -> Result<Name, AllocError>
@@ -136,7 +132,7 @@ fn list_to(alloc: Global, g: &NewName, types: &[Ty]) -> Result<Vec<Ty>, AllocErr
     ensures { IfOk result (λ ts. map ty_of ts.items
         ≡ pure.types_to (renaming_of g.now) (map ty_of types.now)) }
 {
-    let mut images = Vec::new(alloc);
+    let mut images = Vec::with_capacity(alloc, types.len())?;
     for ty in types {
         let image = type_to(alloc, g, ty)?;
         images.push(image)?;
@@ -149,7 +145,7 @@ pub fn types_to(alloc: Global, g: &NewName, types: &Tys) -> Result<Tys, AllocErr
     ensures { IfOk result (λ ts. ts ≡ pure.types_to (renaming_of g.now) types.now) }
 {
     let images = list_to(alloc, g, types.as_slice())?;
-    Ok(Tys::from_vec(images))
+    Tys::from_vec(images)
 }
 
 /// The image of a field.
@@ -271,7 +267,7 @@ pub fn rows_to(alloc: Global, g: &NewName, rows: &[Row]) -> Result<Vec<Row>, All
     ensures { IfOk result (λ rs. map row_of rs.items
         ≡ pure.rows_to (renaming_of g.now) (map row_of rows.now)) }
 {
-    let mut images = Vec::new(alloc);
+    let mut images = Vec::with_capacity(alloc, rows.len())?;
     for old in rows {
         let image = row_to(alloc, g, old)?;
         images.push(image)?;

@@ -35,8 +35,8 @@ fn push_both(
     ensures { OnOk result (pairs_view pairs.new.items
         ≡ pairs_view pairs.old.items ++ (decl_of old.now, decl_of new.now) ∷ []) }
 {
-    let first = old.copy(alloc)?;
-    match new.copy(alloc) {
+    let first = old.copy()?;
+    match new.copy() {
         Ok(second) => push_pair(first, second, pairs),
         Err(error) => {
             forget(first);

@@ -40,10 +40,10 @@ fn decl_of_member(alloc: Global, key: &MemberKey) -> Result<Decl, AllocError>
     ensures { IfOk result (λ d. decl_of d ≡ declared_by (member_key_of key.now)) }
 {
     match key {
-        MemberKey::Head(key) => Ok(Decl::Class(key.copy(alloc)?)),
-        MemberKey::Field(key) => Ok(Decl::Field(key.copy(alloc)?)),
-        MemberKey::Method(key) => Ok(Decl::Method(key.copy(alloc)?)),
-        MemberKey::Ctor(key) => Ok(Decl::Class(key.class.copy(alloc)?)),
+        MemberKey::Head(key) => Ok(Decl::Class(key.copy()?)),
+        MemberKey::Field(key) => Ok(Decl::Field(key.copy()?)),
+        MemberKey::Method(key) => Ok(Decl::Method(key.copy()?)),
+        MemberKey::Ctor(key) => Ok(Decl::Class(key.class.copy()?)),
     }
 }
 
@@ -52,7 +52,7 @@ fn class_there(alloc: Global, is_there: bool, key: &ClassKey) -> Result<Option<D
         ≡ (if is_there then Some (decls.class_decl (class_key_of key.now)) else None)) }
 {
     if is_there {
-        Ok(Some(Decl::Class(key.copy(alloc)?)))
+        Ok(Some(Decl::Class(key.copy()?)))
     } else {
         Ok(None)
     }
@@ -112,7 +112,7 @@ fn local_of(alloc: Global, key: &MemberKey, number: Option<u32>) -> Result<Optio
     match number {
         None => Ok(None),
         Some(number) => Ok(Some(Decl::Local(LocalKey {
-            member: key.copy(alloc)?,
+            member: key.copy()?,
             number,
         }))),
     }

@@ -51,7 +51,7 @@ fn bound_at(alloc: Global, bound: &Bound, at: u32) -> Result<Option<Decl>, Alloc
 {
     match bound.decl(at) {
         None => Ok(None),
-        Some(decl) => Ok(Some(decl.copy(alloc)?)),
+        Some(decl) => Ok(Some(decl.copy()?)),
     }
 }
 
