@@ -21,7 +21,7 @@ use jr_text::Mark;
 use std::alloc::{AllocError, Global};
 
 /// The declaration itself.
-fn itself(alloc: Global, decl: &Decl) -> Result<Option<Decl>, AllocError>
+fn itself(decl: &Decl) -> Result<Option<Decl>, AllocError>
     ensures { IfOk result (λ o. option_map decl_of o ≡ Some (decl_of decl.now)) }
 {
     Ok(Some(decl.copy()?))
@@ -40,14 +40,13 @@ fn of_class<A: Mark, V: View<A>>(
         (units_of (V.program view.now)) (decl_of target.now) new.now (option_map decl_of o)) }
 {
     if has_name(target, new) {
-        return itself(alloc, target);
+        return itself(target);
     }
     class_told(alloc, view.table(), class, new)
 }
 
 /// What is told of a field or method.
 fn of_member<A: Mark, V: View<A>>(
-    alloc: Global,
     view: &V,
     target: &Decl,
     renamed: &[Decl],
@@ -60,9 +59,9 @@ fn of_member<A: Mark, V: View<A>>(
         (units_of (V.program view.now)) (decl_of target.now) new.now (option_map decl_of o)) }
 {
     if has_name(target, new) {
-        return itself(alloc, target);
+        return itself(target);
     }
-    member_told(alloc, view.table(), renamed, new)
+    member_told(view.table(), renamed, new)
 }
 
 /// What is told, by the kind of the target.
@@ -84,9 +83,9 @@ fn of_target<A: Mark, V: View<A>>(
     match target {
         Decl::Local(key) => local_clash(alloc, view, members, key, new),
         Decl::Class(key) => of_class(alloc, view, target, key, new),
-        Decl::Field(_) => of_member(alloc, view, target, renamed, new),
-        Decl::Method(_) => of_member(alloc, view, target, renamed, new),
-        Decl::Ctor(_) => of_member(alloc, view, target, renamed, new),
+        Decl::Field(_) => of_member(view, target, renamed, new),
+        Decl::Method(_) => of_member(view, target, renamed, new),
+        Decl::Ctor(_) => of_member(view, target, renamed, new),
     }
 }
 

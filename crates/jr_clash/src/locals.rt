@@ -53,7 +53,7 @@ fn part_walk<'a, A>(
 }
 
 /// The local of a number.
-fn local(alloc: Global, member: &MemberKey, number: u32) -> Result<Decl, AllocError>
+fn local(member: &MemberKey, number: u32) -> Result<Decl, AllocError>
     ensures { IfOk result (λ d. decl_of d
         ≡ decls.local_decl (record { member = member_key_of member.now; number = number })) }
 {
@@ -64,16 +64,16 @@ fn local(alloc: Global, member: &MemberKey, number: u32) -> Result<Decl, AllocEr
 }
 
 /// What a walk tells.
-fn answer(alloc: Global, target: &LocalKey, walk: &Walk<'_>) -> Result<Option<Decl>, AllocError>
+fn answer(target: &LocalKey, walk: &Walk<'_>) -> Result<Option<Decl>, AllocError>
     ensures { IfOk result (λ o. option_map decl_of o
         ≡ pure.told (local_key_of target.now) (walk_of walk.now)) }
 {
     if walk.is_named {
-        return Ok(Some(local(alloc, &target.member, target.number)?));
+        return Ok(Some(local(&target.member, target.number)?));
     }
     match walk.least {
         None => Ok(None),
-        Some(number) => Ok(Some(local(alloc, &target.member, number)?)),
+        Some(number) => Ok(Some(local(&target.member, number)?)),
     }
 }
 
@@ -93,7 +93,7 @@ fn answer_in<A>(
         name: new,
     };
     let walk = part_walk(alloc, &asked, &written.key, &written.part)?;
-    answer(alloc, target, &walk)
+    answer(target, &walk)
 }
 
 /// With what a local or parameter collides that gets the name.

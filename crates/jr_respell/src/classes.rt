@@ -67,7 +67,7 @@ fn leading(
     let table = scopes.programs.after;
     table.keeps_rows();
     lookups_are_exact();
-    let image = class_to(alloc, scopes.programs.name, key)?;
+    let image = class_to(scopes.programs.name, key)?;
     let hiding = variable_to(scopes, &image.name)?;
     match something(hiding) {
         None => {
@@ -137,8 +137,8 @@ fn leading_in(
     let table = scopes.programs.after;
     table.keeps_rows();
     lookups_are_exact();
-    let on = class_to(alloc, scopes.programs.name, class)?;
-    let image = class_to(alloc, scopes.programs.name, key)?;
+    let on = class_to(scopes.programs.name, class)?;
+    let image = class_to(scopes.programs.name, key)?;
     let hiding = field_of(table, &scopes.after, &on, &image.name)?;
     match something(hiding) {
         None => {
@@ -212,7 +212,7 @@ fn qualifying(
     let table = scopes.programs.after;
     table.keeps_rows();
     lookups_are_exact();
-    let image = class_to(alloc, scopes.programs.name, key)?;
+    let image = class_to(scopes.programs.name, key)?;
     let found = type_named(table, &scopes.after, &image.name)?;
     renamed_or_lost(alloc, at, old, key, &image, found)
 }
@@ -263,7 +263,7 @@ fn superclass_choice(
     ensures { IfOk result (λ h. chosen.TopParentSpells (rows_in programs.now)
         (renaming_in programs.now) at old.now (class_key_of key.now) (choice_of h)) }
 {
-    let image = class_to(alloc, programs.name, key)?;
+    let image = class_to(programs.name, key)?;
     let found = top_found(alloc, programs.after, &image.name)?;
     renamed_or_lost(alloc, at, old, key, &image, found)
 }

@@ -27,7 +27,7 @@ pub fn field(
     ensures { IfOk result (λ o. chosen.FieldIsChosen (rows_of scopes.now) (naming_of scopes.now)
         (context_of scopes.now) at (class_key_of class.now) name.now (option_map choice_of o)) }
 {
-    let on = class_to(alloc, scopes.programs.name, class)?;
+    let on = class_to(scopes.programs.name, class)?;
     let none = no_types(alloc)?;
     chosen(
         alloc,
@@ -56,7 +56,7 @@ pub fn static_field(
         leads (class_key_of class.now) name.now (option_map choice_of o)) }
 {
     let none = no_types(alloc)?;
-    let on = class_to(alloc, scopes.programs.name, class)?;
+    let on = class_to(scopes.programs.name, class)?;
     chosen(
         alloc,
         scopes,

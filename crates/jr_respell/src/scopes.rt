@@ -118,7 +118,7 @@ impl<'a> Scopes<'a> {
     {
         let class = class_of_member(member);
         let before = bare(alloc, class.copy()?, is_static);
-        let after = bare(alloc, class_to(alloc, programs.name, class)?, is_static);
+        let after = bare(alloc, class_to(programs.name, class)?, is_static);
         let image = member_to(alloc, programs.name, member)?;
         let programs = Programs {
             before: programs.before,

@@ -65,7 +65,7 @@ fn member_by_name(
     scopes.programs.before.keeps_rows();
     lookups_are_exact();
     let none = no_types(alloc)?;
-    let image = class_to(alloc, scopes.programs.name, class)?;
+    let image = class_to(scopes.programs.name, class)?;
     let leads = is_type(scopes.programs.after, &scopes.after, &image.name, &image);
     let to = Way::TypeBehind(&image.name, leads);
     chosen(

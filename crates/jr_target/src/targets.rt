@@ -22,7 +22,6 @@ use std::alloc::{AllocError, Global};
 
 /// What the written member of a number has there, if it is one of the file.
 fn has_in_file<V: View<Span>>(
-    alloc: Global,
     view: &V,
     file: u32,
     at: u32,
@@ -35,7 +34,7 @@ fn has_in_file<V: View<Span>>(
         (option_map decl_of o)) }
 {
     if written.file == file {
-        has_there(alloc, view.table(), view.bound(number), written, at)
+        has_there(view.table(), view.bound(number), written, at)
     } else {
         Ok(None)
     }
@@ -52,7 +51,6 @@ fn member_at<'m, 'a>(
 
 /// The same by the number alone.
 fn has_numbered<V: View<Span>>(
-    alloc: Global,
     view: &V,
     file: u32,
     at: u32,
@@ -65,7 +63,7 @@ fn has_numbered<V: View<Span>>(
 {
     match member_at(members, number) {
         None => Ok(None),
-        Some(written) => has_in_file(alloc, view, file, at, number, written),
+        Some(written) => has_in_file(view, file, at, number, written),
     }
 }
 
@@ -81,7 +79,7 @@ fn has_listed<V: View<Span>>(
         (HasListed (V.program view.now) members.now file at) (option_map decl_of o)) }
 {
     for number in 0..view.bound_count() {
-        let found = has_numbered(alloc, view, file, at, number, members)?;
+        let found = has_numbered(view, file, at, number, members)?;
         if found.is_some() {
             return Ok(found);
         }
