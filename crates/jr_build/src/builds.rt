@@ -1,12 +1,13 @@
 //! The table of a program is made, or the first fault of its declarations is told.
 ghost use Rattle.std.specs.Prelude.{◌≡◌, ◌<◌, ◌+◌, ◌++◌, ◌^◌, List, Option, length, map};
-ghost use Rattle.std.specs.Prelude.{option_map, IfOk, IfErr, OnOk};
+ghost use Rattle.std.specs.Prelude.{option_map, IfOk, IfErr, IfSome, OnOk};
 ghost use Rattle.jr_ast.specs.View.{unit_of};
 ghost use Rattle.jr_table.specs.Conditions.{AreRows};
 ghost use Rattle.jr_table.specs.Faults.{PackageLine, HasFault, IsClean, rank_of};
 ghost use Rattle.jr_table.specs.Prelude.{prelude_rows};
 ghost use Rattle.jr_table.specs.ProgramRows.{AreProgramRows};
-ghost use Rattle.jr_table.specs.Rows.{Row};
+ghost use Rattle.jr_table.specs.RowView.{row_of};
+ghost use Rattle.jr_table.specs.Rows as pure_rows;
 ghost use Rattle.jr_table.specs.Sites as pure;
 ghost use Rattle.jr_build.specs.declared.faults.BuildFault.TheVariants as fault;
 ghost use Rattle.jr_build.specs.Builds.{IsFoundFault, IsCleanBelow};
@@ -34,9 +35,9 @@ use crate::twice_classes::{member_type_name, twice_class};
 use crate::twice_members::twice_member;
 use crate::type_faults::no_type;
 use jr_ast::Unit;
-use jr_table::{DeclKind, Table};
+use jr_table::{DeclKind, Row, Table};
 use jr_text::{Mark, Place};
-use std::alloc::Global;
+use std::alloc::{AllocError, Global};
 
 /// There is no fault of the kind, or this is its earliest place.
 fn none_of(kind: DeclKind, place: Option<Place>) -> Result<(), BuildFault>
@@ -113,10 +114,42 @@ fn no_site_fault(alloc: Global, sites: &[Site<'_>]) -> Result<(), BuildFault>
     none_of(DeclKind::StaticInit, static_init(sites))
 }
 
+/// The table that is known, where it has exactly these rows.
+fn take_known(known: &mut Option<Table>, rows: &[Row]) -> Option<Table>
+    ensures { IfSome result (λ table. table ≡ map row_of rows.now) }
+{
+    let table = known.take()?;
+    if table.has_rows(rows) {
+        Some(table)
+    } else {
+        None
+    }
+}
+
+/// The table of these rows: the one that is known, where it has them, or else a new one.
+fn known_or_new(
+    alloc: Global,
+    rows: Vec<Row>,
+    known: &mut Option<Table>,
+) -> Result<Table, AllocError>
+    requires { AreRows (map row_of rows.items) }
+    ensures { IfOk result (λ table. table ≡ map row_of rows.items) }
+{
+    match take_known(known, &rows) {
+        Some(table) => Ok(table),
+        None => Table::of_rows(alloc, rows),
+    }
+}
+
 /// The table of a program without faults.
 ///
 /// Rows have numbers of 32 bits, and more of them are more than memory holds.
-fn table_of<'a>(alloc: Global, sites: &[Site<'a>], h: &Hierarchy<'a>) -> Result<Table, BuildFault>
+fn table_of<'a>(
+    alloc: Global,
+    sites: &[Site<'a>],
+    h: &Hierarchy<'a>,
+    known: &mut Option<Table>,
+) -> Result<Table, BuildFault>
     requires { length (prelude_rows ++ rows_of_sites (hierarchy_of h.now) (map site_of sites.now))
         < 2 ^ 32
         → AreRows (prelude_rows ++ rows_of_sites (hierarchy_of h.now) (map site_of sites.now)) }
@@ -128,7 +161,7 @@ fn table_of<'a>(alloc: Global, sites: &[Site<'a>], h: &Hierarchy<'a>) -> Result<
     if rows.len() > u32::MAX as usize {
         return Err(BuildFault::Memory);
     }
-    Ok(Table::of_rows(alloc, rows)?)
+    Ok(known_or_new(alloc, rows, known)?)
 }
 
 /// How many sites have numbers, so that the prelude's classes have numbers behind them.
@@ -140,6 +173,7 @@ fn clean_table<A>(
     units: &[Unit<A>],
     words: &[u32],
     sites: &[Site<'_>],
+    known: &mut Option<Table>,
 ) -> Result<Table, BuildFault>
     requires units { length units.now < 2 ^ 32 }
     requires words { length words.now ≡ length units.now }
@@ -147,7 +181,7 @@ fn clean_table<A>(
     ensures clean { OnOk result (IsClean (lines_of words.now (map unit_of units.now))
         (map site_of sites.now)) }
     ensures rows { IfOk result (λ table. AreProgramRows (map site_of sites.now) table) }
-    ensures only { IfOk result (λ table. (rows : List Row)
+    ensures only { IfOk result (λ table. (rows : List pure_rows.Row)
         → AreProgramRows (map site_of sites.now) rows → rows ≡ table) }
     ensures fault { IfErr result (IsFoundFault (lines_of words.now (map unit_of units.now))
         (map site_of sites.now)) }
@@ -160,7 +194,7 @@ fn clean_table<A>(
     no_type_fault(alloc, sites, &h)?;
     no_site_fault(alloc, sites)?;
     clean_rows_are_sound();
-    table_of(alloc, sites, &h)
+    table_of(alloc, sites, &h, known)
 }
 
 /// The table of a program: its rows, the prelude's in front.
@@ -168,7 +202,15 @@ fn clean_table<A>(
 /// `words` has the place of each file's first token, which is the word `package` where the file has
 /// a package line. Where there is a fault, the first is told: of the lowest kind that occurs, at
 /// its first place in file and text order.
-pub fn build<A: Mark>(alloc: Global, units: &[Unit<A>], words: &[u32]) -> Result<Table, BuildFault>
+///
+/// `known` may have a table that was made of the same program before: it is taken where it has
+/// exactly the program's rows, and no other is made.
+pub fn build<A: Mark>(
+    alloc: Global,
+    units: &[Unit<A>],
+    words: &[u32],
+    known: &mut Option<Table>,
+) -> Result<Table, BuildFault>
     requires few { length units.now < 2 ^ 32 }
     requires words { length words.now ≡ length units.now }
     requires fits { UnitsFit (begins_by A.span_from) A.fits_at (map unit_of units.now) }
@@ -178,7 +220,7 @@ pub fn build<A: Mark>(alloc: Global, units: &[Unit<A>], words: &[u32]) -> Result
     ensures rows { IfOk result (λ table.
         AreProgramRows (pure.sites_of (begins_by A.span_from) (map unit_of units.now)) table) }
     // No other list is the rows of the program.
-    ensures only { IfOk result (λ table. (rows : List Row)
+    ensures only { IfOk result (λ table. (rows : List pure_rows.Row)
         → AreProgramRows (pure.sites_of (begins_by A.span_from) (map unit_of units.now)) rows
         → rows ≡ table) }
     ensures fault { IfErr result (IsFoundFault (lines_of words.now (map unit_of units.now))
@@ -186,5 +228,5 @@ pub fn build<A: Mark>(alloc: Global, units: &[Unit<A>], words: &[u32]) -> Result
 {
     sites_are_headed::<A>();
     let sites = program_sites(alloc, units)?;
-    clean_table(alloc, units, words, &sites)
+    clean_table(alloc, units, words, &sites, known)
 }

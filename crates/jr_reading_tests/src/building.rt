@@ -49,7 +49,8 @@ pub(crate) fn build_texts(
     let units = units_in(rt, alloc, texts);
     let words = words_of(rt, alloc, &units);
     assert!(rt; units.len() < 1000);
-    build(alloc, &units, &words)
+    let mut known = None;
+    build(alloc, &units, &words, &mut known)
 }
 
 /// The table of a program without faults.

@@ -60,7 +60,8 @@ fn table_in(rt: &impl Abort, alloc: Global, units: &[Unit<Span>]) -> Table
     ensures { AreProgramRows (sites_of begins (map unit_of units.now)) result }
 {
     let words = vec![in alloc; 0; 1].expect(rt, "memory");
-    build(alloc, units, words.as_slice()).expect(rt, "a program without faults")
+    let mut known = None;
+    build(alloc, units, words.as_slice(), &mut known).expect(rt, "a program without faults")
 }
 
 // Whether it is a method.
