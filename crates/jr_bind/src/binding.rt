@@ -74,7 +74,7 @@ fn bound_of_log(
 {
     let references = references_of_log(alloc, table, member, start, log)?;
     let errors = errors_of_log(alloc, table, start, log)?;
-    let member = member.copy(alloc)?;
+    let member = member.copy()?;
     Ok(Bound {
         member,
         references,

@@ -38,7 +38,6 @@ fn push(at: u32, decl: Decl, references: &mut Vec<Reference>) -> Result<(), Allo
 
 /// A reference to a declaration, its place counted from `start`, unless it stands before.
 fn push_decl(
-    alloc: Global,
     start: u32,
     at: u32,
     decl: &Decl,
@@ -51,13 +50,12 @@ fn push_decl(
     if at < start {
         return Ok(());
     }
-    let decl = decl.copy(alloc)?;
+    let decl = decl.copy()?;
     push(at - start, decl, references)
 }
 
 /// A reference to a local of the member.
 fn push_local(
-    alloc: Global,
     member: &MemberKey,
     start: u32,
     at: u32,
@@ -71,7 +69,7 @@ fn push_local(
     if at < start {
         return Ok(());
     }
-    let member = member.copy(alloc)?;
+    let member = member.copy()?;
     push(
         at - start,
         Decl::Local(LocalKey { member, number }),
@@ -81,7 +79,6 @@ fn push_local(
 
 /// A reference to what a lookup answers, if it answers one declaration.
 fn push_found(
-    alloc: Global,
     table: &Table,
     start: u32,
     at: u32,
@@ -94,13 +91,12 @@ fn push_found(
 {
     match found_decl(table, answer) {
         None => Ok(()),
-        Some(decl) => push_decl(alloc, start, at, decl, references),
+        Some(decl) => push_decl(start, at, decl, references),
     }
 }
 
 /// The reference that a note tells, if it tells one that is bound.
 fn push_reference(
-    alloc: Global,
     table: &Table,
     member: &MemberKey,
     start: u32,
@@ -113,8 +109,8 @@ fn push_reference(
 {
     match note {
         Note::Finds { at, finding, .. } => match finding {
-            Finding::Local(number) => push_local(alloc, member, start, at, number, references),
-            Finding::Rows(answer) => push_found(alloc, table, start, at, answer, references),
+            Finding::Local(number) => push_local(member, start, at, number, references),
+            Finding::Rows(answer) => push_found(table, start, at, answer, references),
         },
         Note::Breaks { .. } => Ok(()),
     }
@@ -133,7 +129,7 @@ fn references_in(
 {
     let mut references = Vec::new(alloc);
     for note in log {
-        push_reference(alloc, table, member, start, *note, &mut references)?;
+        push_reference(table, member, start, *note, &mut references)?;
     }
     Ok(references)
 }

@@ -74,7 +74,7 @@ pub(crate) fn owned_types(alloc: Global, meanings: &[Meaning<'_>]) -> Result<Tys
     for meaning in meanings {
         types.push(owned_type(alloc, meaning)?)?;
     }
-    Ok(Tys::from_vec(types))
+    Tys::from_vec(types)
 }
 
 /// The words once more.

@@ -33,7 +33,7 @@ fn param_types<'a>(
         (map param_site_of params.now)) }
 {
     match meanings_of(alloc, h, of, params)? {
-        None => Ok(Tys::from_vec(Vec::new(alloc))),
+        None => Tys::from_vec(Vec::new(alloc)),
         Some(meanings) => owned_types(alloc, &meanings),
     }
 }
@@ -76,7 +76,7 @@ fn unwritten_row(alloc: Global, class: &ClassSite<'_>) -> Result<Row, AllocError
 {
     let key = owned_key(alloc, &class.key)?;
     let modifiers = access_words(alloc, &class.modifiers)?;
-    let params = Tys::from_vec(Vec::new(alloc));
+    let params = Tys::from_vec(Vec::new(alloc))?;
     Ok(Row {
         decl: Decl::Ctor(CtorKey { class: key, params }),
         modifiers,
@@ -199,6 +199,7 @@ pub(crate) fn program_rows<'a>(
         ++ exact.rows_of_sites (hierarchy_of h.now) (map site_of sites.now)) }
 {
     let mut rows = prelude(alloc)?;
+    rows.reserve(sites.len())?;
     for site in sites {
         push_item(alloc, &mut rows, h, &site.item)?;
     }

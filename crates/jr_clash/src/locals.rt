@@ -3,10 +3,10 @@ ghost use Rattle.std.specs.Prelude.{◌≡◌, ◌<◌, ◌^◌, Contains, lengt
 ghost use Rattle.std.specs.Prelude.{option_map};
 ghost use Rattle.jr_ast.specs.View.{unit_of};
 ghost use Rattle.jr_members.specs.Fitting.{begins_by};
-ghost use Rattle.jr_members.specs.PartView.{part_of};
+ghost use Rattle.jr_members.specs.PartView.{part_of, written_of};
 ghost use Rattle.jr_table.specs.Decls as decls;
 ghost use Rattle.jr_table.specs.KeyView.{decl_of, member_key_of, local_key_of};
-ghost use Rattle.jr_bind.specs.Programs.{units_of};
+ghost use Rattle.jr_bind.specs.Programs.{members_of, units_of};
 ghost use Rattle.jr_clash.specs.Answered.{Tells};
 ghost use Rattle.jr_clash.specs.LocalAnswers as pure;
 ghost use Rattle.jr_clash.specs.Walks.{asked_of, walk_of};
@@ -14,7 +14,7 @@ ghost use Rattle.jr_clash.specs.Walks.{asked_of, walk_of};
 use crate::walks::{Asked, Walk, in_member, start};
 use jr_ast::Name;
 use jr_bind::View;
-use jr_members::{PartRef, WrittenMember, members_are_written, written_members};
+use jr_members::{PartRef, WrittenMember, members_are_written};
 use jr_table::{Decl, LocalKey, MemberKey};
 use jr_text::Mark;
 use std::alloc::{AllocError, Global};
@@ -53,27 +53,27 @@ fn part_walk<'a, A>(
 }
 
 /// The local of a number.
-fn local(alloc: Global, member: &MemberKey, number: u32) -> Result<Decl, AllocError>
+fn local(member: &MemberKey, number: u32) -> Result<Decl, AllocError>
     ensures { IfOk result (λ d. decl_of d
         ≡ decls.local_decl (record { member = member_key_of member.now; number = number })) }
 {
     Ok(Decl::Local(LocalKey {
-        member: member.copy(alloc)?,
+        member: member.copy()?,
         number,
     }))
 }
 
 /// What a walk tells.
-fn answer(alloc: Global, target: &LocalKey, walk: &Walk<'_>) -> Result<Option<Decl>, AllocError>
+fn answer(target: &LocalKey, walk: &Walk<'_>) -> Result<Option<Decl>, AllocError>
     ensures { IfOk result (λ o. option_map decl_of o
         ≡ pure.told (local_key_of target.now) (walk_of walk.now)) }
 {
     if walk.is_named {
-        return Ok(Some(local(alloc, &target.member, target.number)?));
+        return Ok(Some(local(&target.member, target.number)?));
     }
     match walk.least {
         None => Ok(None),
-        Some(number) => Ok(Some(local(alloc, &target.member, number)?)),
+        Some(number) => Ok(Some(local(&target.member, number)?)),
     }
 }
 
@@ -93,24 +93,26 @@ fn answer_in<A>(
         name: new,
     };
     let walk = part_walk(alloc, &asked, &written.key, &written.part)?;
-    answer(alloc, target, &walk)
+    answer(target, &walk)
 }
 
 /// With what a local or parameter collides that gets the name.
 pub(crate) fn local_clash<A: Mark, V: View<A>>(
     alloc: Global,
     view: &V,
+    members: &[WrittenMember<'_, A>],
     target: &LocalKey,
     new: &Name,
 ) -> Result<Option<Decl>, AllocError>
+    requires members { map written_of members.now
+        ≡ members_of A.span_from A.fits_at (V.program view.now) }
     ensures { IfOk result (λ o. Tells (begins_by A.span_from) (V.program view.now).rows
         (units_of (V.program view.now)) (decls.local_decl (local_key_of target.now)) new.now
         (option_map decl_of o)) }
 {
     view.keeps_program();
     members_are_written::<A>();
-    let members = written_members(alloc, view.table(), view.units())?;
-    let found = member_of_key(members.as_slice(), &target.member);
+    let found = member_of_key(members, &target.member);
     match found {
         None => Ok(None),
         Some(written) => answer_in(alloc, written, target, new),

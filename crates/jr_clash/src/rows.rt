@@ -14,12 +14,12 @@ use jr_rename::{class_clash, member_clash};
 use jr_table::{ClassKey, Decl, Table};
 use std::alloc::{AllocError, Global};
 
-fn copy_of(alloc: Global, decl: Option<&Decl>) -> Result<Option<Decl>, AllocError>
+fn copy_of(decl: Option<&Decl>) -> Result<Option<Decl>, AllocError>
     ensures { IfOk result (λ o. option_map decl_of o ≡ option_map (λ d. decl_of d.now) decl.entry) }
 {
     match decl {
         None => Ok(None),
-        Some(decl) => Ok(Some(decl.copy(alloc)?)),
+        Some(decl) => Ok(Some(decl.copy()?)),
     }
 }
 
@@ -42,16 +42,11 @@ fn is_reserved(table: &Table, class: &ClassKey, name: &Name) -> bool
 }
 
 /// The first declaration with which a class collides that gets the name (JLS 7.6, 8.5).
-fn first_of_class(
-    alloc: Global,
-    table: &Table,
-    class: &ClassKey,
-    new: &Name,
-) -> Result<Option<Decl>, AllocError>
+fn first_of_class(table: &Table, class: &ClassKey, new: &Name) -> Result<Option<Decl>, AllocError>
     ensures { IfOk result (λ o. IsFirstOf table.now
         (ClassClashes (class_key_of class.now) new.now) (option_map decl_of o)) }
 {
-    copy_of(alloc, class_clash(table.rows(), class, new))
+    copy_of(class_clash(table.rows(), class, new))
 }
 
 /// With what a class collides that gets a name which it hasn't: a name of the prelude that no class
@@ -69,7 +64,7 @@ pub(crate) fn class_told(
     if is_reserved(table, &runnable, new) {
         return Ok(Some(Decl::Class(runnable)));
     }
-    first_of_class(alloc, table, class, new)
+    first_of_class(table, class, new)
 }
 
 // ---- members
@@ -77,7 +72,6 @@ pub(crate) fn class_told(
 /// The first declaration whose place one of these fields and methods takes where they get the name
 /// (JLS 8.3, 8.4, 8.5).
 pub(crate) fn member_told(
-    alloc: Global,
     table: &Table,
     renamed: &[Decl],
     new: &Name,
@@ -85,7 +79,7 @@ pub(crate) fn member_told(
     ensures { IfOk result (λ o. IsFirstOf table.now
         (OneTakesPlace (map decl_of renamed.now) new.now) (option_map decl_of o)) }
 {
-    copy_of(alloc, member_clash(table.rows(), renamed, new))
+    copy_of(member_clash(table.rows(), renamed, new))
 }
 
 // ---- names

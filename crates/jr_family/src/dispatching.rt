@@ -66,8 +66,8 @@ pub fn dispatch_change(
     let Some(method) = method_of_row(old, place.1) else {
         return Ok(None);
     };
-    let of = class.copy(alloc)?;
-    let key = method.copy(alloc)?;
+    let of = class.copy()?;
+    let key = method.copy()?;
     Ok(Some((of, key)))
 }
 

@@ -18,7 +18,7 @@ fn alone(alloc: Global, target: &Decl) -> Result<Vec<Decl>, AllocError>
     ensures { IfOk result (λ ds. map decl_of ds.items ≡ decl_of target.now ∷ []) }
 {
     let mut decls = Vec::new(alloc);
-    let decl = target.copy(alloc)?;
+    let decl = target.copy()?;
     decls.push(decl)?;
     Ok(decls)
 }
@@ -50,7 +50,6 @@ fn row_at(table: &Table, number: u32) -> Option<&Row>
 
 /// Puts the declaration of a row behind the others, if it is such a method.
 fn push_below(
-    alloc: Global,
     table: &Table,
     over: &Entry,
     top: u32,
@@ -68,7 +67,7 @@ fn push_below(
     let Some(row) = row_at(table, number) else {
         return Ok(());
     };
-    let decl = row.decl.copy(alloc)?;
+    let decl = row.decl.copy()?;
     decls.push(decl)?;
     Ok(())
 }
@@ -80,7 +79,7 @@ fn all_below(alloc: Global, table: &Table, over: &Entry, top: u32) -> Result<Vec
 {
     let mut decls = Vec::new(alloc);
     for number in 0..table.count() {
-        push_below(alloc, table, over, top, number, &mut decls)?;
+        push_below(table, over, top, number, &mut decls)?;
     }
     Ok(decls)
 }

@@ -99,7 +99,7 @@ pub(crate) fn words_lead<A: Mark>(
             Some(outer) => {
                 let leads = words_lead(alloc, here, at, part, outer)?;
                 if leads {
-                    leads_behind(alloc, &here.scopes, outer, class)
+                    leads_behind(&here.scopes, outer, class)
                 } else {
                     Ok(false)
                 }

@@ -22,11 +22,15 @@ pub enum Role {
     Statement,
 }
 
+/// Most paths have no more steps.
+const FEW_STEPS: usize = 8;
+
 /// The path to a part of the node to which a path leads.
 pub fn below(alloc: Global, path: &Path, step: u32) -> Result<Path, AllocError>
     ensures { IfOk result (λ p. p.steps.items ≡ path.now.steps.items ++ step ∷ []) }
 {
-    let mut steps = Vec::from_slice(alloc, path.steps.as_slice())?;
+    let mut steps = Vec::with_capacity(alloc, FEW_STEPS)?;
+    steps.extend_from_slice(path.steps.as_slice())?;
     steps.push(step)?;
     Ok(Path { steps })
 }

@@ -180,13 +180,13 @@ pub(crate) fn before_dot<'a, A: Mark>(
     }
 }
 
-fn copy_type(alloc: Global, ty: Option<&Ty>) -> Result<Option<Ty>, AllocError>
+fn copy_type(ty: Option<&Ty>) -> Result<Option<Ty>, AllocError>
     ensures { IfOk result (λ o. option_map ty_of o ≡ option_map (λ t. ty_of t.now) ty.entry) }
 {
     match ty {
         None => Ok(None),
         Some(ty) => {
-            let ty = ty.copy(alloc)?;
+            let ty = ty.copy()?;
             Ok(Some(ty))
         }
     }
@@ -203,7 +203,7 @@ fn part_type(
         ≡ pure.type_at here.now (path.now.steps.items ++ step ∷ [])) }
 {
     let inner = below(alloc, path, step)?;
-    copy_type(alloc, here.bound.ty(&inner))
+    copy_type(here.bound.ty(&inner))
 }
 
 fn part_types<A>(
@@ -245,6 +245,6 @@ pub(crate) fn types<A: Mark>(
     let types = part_types(alloc, here, path, first, parts)?;
     match types {
         None => Ok(None),
-        Some(types) => Ok(Some(Tys::from_vec(types))),
+        Some(types) => Ok(Some(Tys::from_vec(types)?)),
     }
 }

@@ -1,5 +1,6 @@
 -- The place of the last that passes.
-use Rattle.std.proofs.Common.{◌≡◌, ℕ, zero, suc, List, [], ◌∷◌, ◌++◌, length, map, Option, Some, None, Bool, true, false, cond, refl, sym, ap, subst, ◌∙◌}
+use Rattle.std.proofs.Common.{◌≡◌, ℕ, zero, suc, ◌-◌, ◌≤◌, List, [], ◌∷◌, ◌++◌, length, get_or, take, map, Option, Some, None, Bool, true, false, cond, refl, sym, ap, subst, ◌∙◌, arith}
+use Rattle.std.proofs.Math.Seq.{take-suc, take-length}
 use Rattle.std.specs.Prelude.{slice_get, option_map, option_and_then}
 use Rattle.jr_locals.specs.Helds.{Held, or_later, last_of}
 use Rattle.jr_locals.specs.Tracked.{last_place}
@@ -12,6 +13,20 @@ last_snoc t (x ∷ xs) y = ap (λ o. or_later (option_map suc o) (cond (t x) (So
         ≡ cond b (Some (suc (length xs))) (or_later (option_map suc (last_place t xs)) (cond (t x) (Some 0) None))
     by true = refl
     by false = refl
+
+ends : {X : Type 0} (xs : List X) (x : X) (j : ℕ) → length xs ≡ suc j → x ≡ get_or xs j x → take j xs ++ x ∷ [] ≡ xs
+ends xs x j n at = ap (λ y. take j xs ++ y ∷ []) at ∙ sym (take-suc xs j x (omega (arith, n))) ∙ ap (λ k. take k xs) (sym n) ∙ take-length xs
+
+-- the last that passes, by the last element and those before it
+last_at_end : {X : Type 0} (t : X → Bool) (xs : List X) (x : X) → 1 ≤ length xs → x ≡ get_or xs (length xs - 1) x
+    → last_place t xs ≡ cond (t x) (Some (length (take (length xs - 1) xs))) (last_place t (take (length xs - 1) xs))
+last_at_end t xs x some at = ap (last_place t) (sym (ends xs x (length xs - 1) (omega (arith, some)) at)) ∙ last_snoc t (take (length xs - 1) xs) x
+
+pub last_here : {X : Type 0} (t : X → Bool) (xs : List X) (x : X) → 1 ≤ length xs → x ≡ get_or xs (length xs - 1) x → t x ≡ true → Some (length (take (length xs - 1) xs)) ≡ last_place t xs
+last_here t xs x some at p = sym (last_at_end t xs x some at ∙ ap (λ b. cond b (Some (length (take (length xs - 1) xs))) (last_place t (take (length xs - 1) xs))) p)
+
+pub last_before : {X : Type 0} (t : X → Bool) (xs : List X) (x : X) → 1 ≤ length xs → x ≡ get_or xs (length xs - 1) x → t x ≡ false → last_place t (take (length xs - 1) xs) ≡ last_place t xs
+last_before t xs x some at p = sym (last_at_end t xs x some at ∙ ap (λ b. cond b (Some (length (take (length xs - 1) xs))) (last_place t (take (length xs - 1) xs))) p)
 
 pub last_passes : {X : Type 0} (t : X → Bool) (xs : List X) (j : ℕ) → last_place t xs ≡ Some j → (x : X) × (slice_get xs j ≡ Some x) × (t x ≡ true)
 last_passes t [] j h = absurd cc

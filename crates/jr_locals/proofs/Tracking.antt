@@ -4,7 +4,7 @@ use Rattle.std.proofs.lemmas.List.{take-append-le}
 use Rattle.std.proofs.lemmas.Option.{slice_get_within}
 use Rattle.std.proofs.Math.Seq.{take-append_seam}
 use Rattle.std.specs.Prelude.{slice_get, ◌⊎◌}
-use Rattle.jr_locals.specs.Tracked.{last_place, Tracks}
+use Rattle.jr_locals.specs.Tracked.{last_place, FindsLast, KnowsEarlier}
 use Rattle.jr_locals.specs.Restoring.{restored}
 use Rattle.jr_locals.specs.Places.{passes_at}
 use Rattle.jr_locals.proofs.LastPlaces.{last_snoc, last_passes, last_some}
@@ -31,24 +31,24 @@ front_or_last (z ∷ xs) y (suc i) x h = by (front_or_last xs y i x h)
     by (inl p) = inl (p.0, ap (λ zs. z ∷ zs) p.1)
     by (inr p) = inr (p.0, ap (λ zs. z ∷ zs) p.1)
 
-module _ {X : Type 0} {K : Type 0} (key : X → K) (same : K → K → Bool) (before : X → Option ℕ) where
+module _ {X : Type 0} {K : Type 0} (key : X → K) (same : K → K → Bool) where
   abbrev has : K → X → Bool
   has q x = same (key x) q
 
-  module _ (found : K → Option ℕ) (xs : List X) (t : Tracks key same before found xs) (q : K) where
+  module _ (found : K → Option ℕ) (xs : List X) (finds : FindsLast key same found xs) (q : K) where
     pub none_found : None ≡ found q → None ≡ last_place (has q) xs
     none_found h = by (last_place (has q) xs) refl
       where
         by : (o : Option ℕ) → last_place (has q) xs ≡ o → None ≡ o
         by None e = refl
-        by (Some i) e = let f = h ∙ t.finds q i e in absurd cc
+        by (Some i) e = let f = h ∙ finds q i e in absurd cc
 
     pub here_found : (i : ℕ) → Some i ≡ found q → passes_at (has q) (slice_get xs i) ≡ true → Some i ≡ last_place (has q) xs
     here_found i h p = of (slice_get xs i) refl p
       where
         by : (x : X) → slice_get xs i ≡ Some x → same (key x) q ≡ true → (o : Option ℕ) → last_place (has q) xs ≡ o → Some i ≡ o
         by x at s None e = absurd (last_some (has q) xs i x at s e)
-        by x at s (Some j) e = h ∙ t.finds q j e
+        by x at s (Some j) e = h ∙ finds q j e
 
         of : (o : Option X) → slice_get xs i ≡ o → passes_at (has q) o ≡ true → Some i ≡ last_place (has q) xs
         of None at s = absurd cc
@@ -60,47 +60,46 @@ module _ {X : Type 0} {K : Type 0} (key : X → K) (same : K → K → Bool) (be
         by : (o : Option ℕ) → last_place (has q) xs ≡ o → None ≡ o
         by None e = refl
         by (Some j) e =
-            let f = h ∙ t.finds q j e in
+            let f = h ∙ finds q j e in
             let s : i ≡ j = cc in
             let m = last_passes (has q) xs j e in
             let b : passes_at (has q) (slice_get xs j) ≡ true = ap (passes_at (has q)) m.1 ∙ m.2 in
             let c : passes_at (has q) (slice_get xs j) ≡ false = subst (λ n. passes_at (has q) (slice_get xs n) ≡ false) s p in
             absurd cc
 
-  pub tracks_none : (found : K → Option ℕ) (xs : List X) → xs ≡ [] → Tracks key same before found xs
-  tracks_none found xs e = subst (Tracks key same before found) (sym e) (record { finds = λ q i h. absurd cc; earlier = λ i x at. absurd cc })
+  pub finds_none : (found : K → Option ℕ) → FindsLast key same found []
+  finds_none found = λ q i h. absurd cc
 
-  pub tracks_push : (found found' : K → Option ℕ) (xs ys : List X) (y : X) (place : ℕ) → Tracks key same before found xs → ys ≡ xs ++ y ∷ [] → place ≡ length xs
-      → ((q : K) → found' q ≡ cond (same (key y) q) (Some place) (found q)) → before y ≡ last_place (has (key y)) xs → Tracks key same before found' ys
-  tracks_push found found' xs ys y place t pushed there put prior = subst (Tracks key same before found') (sym pushed) (record { finds = finds; earlier = earlier })
+  pub finds_push : (found found' : K → Option ℕ) (xs : List X) (y : X) (place : ℕ) → FindsLast key same found xs → place ≡ length xs
+      → ((q : K) → found' q ≡ cond (same (key y) q) (Some place) (found q)) → FindsLast key same found' (xs ++ y ∷ [])
+  finds_push found found' xs y place finds there put = λ q i h. by q i (same (key y) q) (put q) (sym (last_snoc (has q) xs y) ∙ h)
     where
       by : (q : K) (i : ℕ) (b : Bool) → found' q ≡ cond b (Some place) (found q) → cond b (Some (length xs)) (last_place (has q) xs) ≡ Some i → found' q ≡ Some i
       by q i true h k = h ∙ ap Some there ∙ k
-      by q i false h k = h ∙ t.finds q i k
+      by q i false h k = h ∙ finds q i k
 
-      finds : (q : K) (i : ℕ) → last_place (has q) (xs ++ y ∷ []) ≡ Some i → found' q ≡ Some i
-      finds q i h = by q i (same (key y) q) (put q) (sym (last_snoc (has q) xs y) ∙ h)
-
-      earlier : (i : ℕ) (x : X) → slice_get (xs ++ y ∷ []) i ≡ Some x → before x ≡ last_place (has (key x)) (take i (xs ++ y ∷ []))
-      earlier i x at = of (front_or_last xs y i x at)
-        where
-          of : ((slice_get xs i ≡ Some x) × (take i (xs ++ y ∷ []) ≡ take i xs)) ⊎ ((y ≡ x) × (take i (xs ++ y ∷ []) ≡ xs)) → before x ≡ last_place (has (key x)) (take i (xs ++ y ∷ []))
-          of (inl p) = t.earlier i x p.0 ∙ ap (last_place (has (key x))) (sym p.1)
-          of (inr p) = subst (λ z. before z ≡ last_place (has (key z)) xs) p.0 prior ∙ ap (last_place (has (key x))) (sym p.1)
-
-  module _ (sound : (a b : K) → same a b ≡ true → a ≡ b) where
-    pub tracks_pop : (found found' : K → Option ℕ) (xs ys : List X) (y : X) → Tracks key same before found ys → ys ≡ xs ++ y ∷ []
-        → ((q : K) → found' q ≡ restored same found (key y) (before y) q) → Tracks key same before found' xs
-    tracks_pop found found' xs ys y all popped put = record { finds = finds; earlier = earlier }
+  module _ (before : X → Option ℕ) where
+    pub earlier_push : (xs : List X) (y : X) → KnowsEarlier key same before xs → before y ≡ last_place (has (key y)) xs → KnowsEarlier key same before (xs ++ y ∷ [])
+    earlier_push xs y earlier prior = λ i x at. of i x (front_or_last xs y i x at)
       where
-        t : Tracks key same before found (xs ++ y ∷ [])
-        t = subst (Tracks key same before found) popped all
+        of : (i : ℕ) (x : X) → ((slice_get xs i ≡ Some x) × (take i (xs ++ y ∷ []) ≡ take i xs)) ⊎ ((y ≡ x) × (take i (xs ++ y ∷ []) ≡ xs)) → before x ≡ last_place (has (key x)) (take i (xs ++ y ∷ []))
+        of i x (inl p) = earlier i x p.0 ∙ ap (last_place (has (key x))) (sym p.1)
+        of i x (inr p) = subst (λ z. before z ≡ last_place (has (key z)) xs) p.0 prior ∙ ap (last_place (has (key x))) (sym p.1)
 
+    pub earlier_pop : (xs : List X) (y : X) → KnowsEarlier key same before (xs ++ y ∷ []) → KnowsEarlier key same before xs
+    earlier_pop xs y earlier = λ i x at.
+        let lt = slice_get_within xs i x at in
+        earlier i x (get_front xs y i x at) ∙ ap (last_place (has (key x))) (take-append-le i xs (y ∷ []) (omega (arith, lt)))
+
+    pub finds_pop : (sound : (a b : K) → same a b ≡ true → a ≡ b) (found found' : K → Option ℕ) (xs : List X) (y : X) → FindsLast key same found (xs ++ y ∷ [])
+        → KnowsEarlier key same before (xs ++ y ∷ []) → ((q : K) → found' q ≡ restored same found (key y) (before y) q) → FindsLast key same found' xs
+    finds_pop sound found found' xs y finds earlier put = λ q i h. by q i h (before y) refl (same (key y) q) refl (put q)
+      where
         prior : before y ≡ last_place (has (key y)) xs
-        prior = t.earlier (length xs) y (get_last xs y) ∙ ap (last_place (has (key y))) (take-append_seam xs (y ∷ []))
+        prior = earlier (length xs) y (get_last xs y) ∙ ap (last_place (has (key y))) (take-append_seam xs (y ∷ []))
 
         kept : (q : K) (i : ℕ) → same (key y) q ≡ false → last_place (has q) xs ≡ Some i → found q ≡ Some i
-        kept q i s h = t.finds q i (last_snoc (has q) xs y ∙ ap (λ b. cond b (Some (length xs)) (last_place (has q) xs)) s ∙ h)
+        kept q i s h = finds q i (last_snoc (has q) xs y ∙ ap (λ b. cond b (Some (length xs)) (last_place (has q) xs)) s ∙ h)
 
         own : (q : K) (i : ℕ) → same (key y) q ≡ true → last_place (has q) xs ≡ Some i → before y ≡ Some i
         own q i s h = prior ∙ ap (λ k. last_place (has k) xs) (sound (key y) q s) ∙ h
@@ -110,11 +109,3 @@ module _ {X : Type 0} {K : Type 0} (key : X → K) (same : K → K → Bool) (be
         by q i h None e false s p = p ∙ kept q i s h
         by q i h (Some j) e true s p = p ∙ ap (λ b. cond b (Some j) (found q)) s ∙ sym e ∙ own q i s h
         by q i h (Some j) e false s p = p ∙ ap (λ b. cond b (Some j) (found q)) s ∙ kept q i s h
-
-        finds : (q : K) (i : ℕ) → last_place (has q) xs ≡ Some i → found' q ≡ Some i
-        finds q i h = by q i h (before y) refl (same (key y) q) refl (put q)
-
-        earlier : (i : ℕ) (x : X) → slice_get xs i ≡ Some x → before x ≡ last_place (has (key x)) (take i xs)
-        earlier i x at =
-            let lt = slice_get_within xs i x at in
-            t.earlier i x (get_front xs y i x at) ∙ ap (last_place (has (key x))) (take-append-le i xs (y ∷ []) (omega (arith, lt)))

@@ -4,6 +4,7 @@ use Rattle.std.specs.Prelude.{
   ℕ,
   suc,
   ◌<◌,
+  ◌≤◌,
   ◌-◌,
   List,
   [],
@@ -22,7 +23,9 @@ use Rattle.std.specs.Prelude.{
 }
 use Rattle.std.specs.Str.{bytes_eq}
 use Rattle.jr_index.specs.Names.{named}
+use Rattle.jr_locals.specs.declared.backwards.TheConstants.{FEW}
 use Rattle.jr_locals.specs.declared.helds.Held as raw_held
+use Rattle.jr_locals.specs.declared.indexing.PlaceIndex.{PlaceIndex}
 use Rattle.jr_locals.specs.declared.locals.Locals as raw
 use Rattle.jr_locals.specs.declared.restoring.Known as raw_known
 use Rattle.jr_locals.specs.Numbers.{placed}
@@ -34,13 +37,17 @@ last_place test [] = None
 last_place test (x ∷ xs) =
     or_later (option_map suc (last_place test xs)) (if test x then Some 0 else None)
 
--- What is found under a key is the place of the last that has it, if one has, and each element
--- knows the last before it that has its key.
-pub record Tracks {X : Type 0} {K : Type 0} (key : X → K) (same : K → K → Bool)
-    (before : X → Option ℕ) (found : K → Option ℕ) (xs : List X) : Type 0 where
-  pub finds : (q : K) (i : ℕ) → last_place (λ x. same (key x) q) xs ≡ Some i → found q ≡ Some i
-  pub earlier : (i : ℕ) (x : X) → slice_get xs i ≡ Some x
-      → before x ≡ last_place (λ y. same (key y) (key x)) (take i xs)
+-- What is found under a key is the place of the last that has it, if one has.
+abbrev pub FindsLast : {X : Type 0} {K : Type 0} → (X → K) → (K → K → Bool) → (K → Option ℕ)
+    → List X → Type 0
+FindsLast key same found xs = (q : _) (i : ℕ) →
+    last_place (λ x. same (key x) q) xs ≡ Some i → found q ≡ Some i
+
+-- Each element knows the last before it that has its key.
+abbrev pub KnowsEarlier : {X : Type 0} {K : Type 0} → (X → K) → (K → K → Bool)
+    → (X → Option ℕ) → List X → Type 0
+KnowsEarlier key same before xs = (i : ℕ) (x : _) → slice_get xs i ≡ Some x →
+    before x ≡ last_place (λ y. same (key y) (key x)) (take i xs)
 
 abbrev pub held_in : raw_known.Known → raw_held.Held
 held_in k = k.held
@@ -54,9 +61,21 @@ number_in k = k.held.number
 abbrev pub same_number : ℕ → ℕ → Bool
 same_number m n = m == n
 
+-- the index finds the last of each name and of each number
+pub record Finds (index : PlaceIndex) (ks : List raw_known.Known) : Type 0 where
+  pub names : FindsLast name_in bytes_eq (named index.names) ks
+  pub numbers : FindsLast number_in same_number (placed index.numbers) ks
+
+-- Where there is no index, there are few.
+abbrev pub IsIndexed : Option PlaceIndex → List raw_known.Known → Type 0
+IsIndexed None ks = length ks ≤ FEW
+IsIndexed (Some index) ks = Finds index ks
+
+-- what each knows of those before it holds, with an index or without
 pub record Tracked (l : raw.Locals) : Type 0 where
-  pub names : Tracks name_in bytes_eq (λ k. k.named) (named l.names) l.known.items
-  pub numbers : Tracks number_in same_number (λ k. k.numbered) (placed l.numbers) l.known.items
+  pub names : KnowsEarlier name_in bytes_eq (λ k. k.named) l.known.items
+  pub numbers : KnowsEarlier number_in same_number (λ k. k.numbered) l.known.items
+  pub indexed : IsIndexed l.index l.known.items
 
 -- the list, the last declared at the end
 abbrev pub locals_of : raw.Locals → List raw_held.Held

@@ -1,30 +1,20 @@
 //! Locals and parameters in scope.
-ghost use Rattle.std.specs.Prelude.{◌≡◌, IfOk};
+ghost use Rattle.std.specs.Prelude.{◌≡◌};
 
+use crate::backwards::{last_named, last_numbered};
 use crate::helds::Held;
-use crate::numbers::Numbers;
-use crate::restoring::{Known, restore_name, restore_number};
+use crate::indexing::{PlaceIndex, index_behind};
+use crate::restoring::Known;
 use jr_ast::Name;
-use jr_index::Names;
 use std::alloc::{AllocError, Global};
 
-/// Locals and parameters in scope, the last declared at the end. Each is found by its name and by
-/// its number without looking through the others.
+/// Locals and parameters in scope, the last declared at the end. A few are looked through; where
+/// there are more, each is found by its name and by its number without looking through the others.
 #[derive(Drop)]
 pub struct Locals<'a> {
     pub(crate) known: Vec<Known<'a>>,
-    pub(crate) names: Names<'a>,
-    pub(crate) numbers: Numbers,
-}
-
-/// A count as a place. More locals than places don't fit any memory.
-fn place_of(count: usize) -> Result<u32, AllocError>
-    ensures { IfOk result (λ place. place ≡ count) }
-{
-    match u32::try_from(count) {
-        Ok(place) => Ok(place),
-        Err(_) => Err(AllocError),
-    }
+    /// None as long as there never were more than a few.
+    pub(crate) index: Option<PlaceIndex<'a>>,
 }
 
 impl<'a> Locals<'a> {
@@ -34,7 +24,6 @@ impl<'a> Locals<'a> {
     ghost use Rattle.jr_locals.specs.Helds.{held_of, last_number, numbered};
     ghost use Rattle.jr_locals.specs.Tracked.{Tracked, Leaves, last_place, locals_of, helds_of};
     ghost use Rattle.jr_locals.specs.Tracked.{held_in, name_in, number_in, same_number};
-    ghost use Rattle.jr_locals.specs.Places as pure;
 
     /// None.
     pub fn new(alloc: Global) -> Locals<'a>
@@ -43,8 +32,7 @@ impl<'a> Locals<'a> {
     {
         Locals {
             known: Vec::new(alloc),
-            names: Names::new(alloc),
-            numbers: Numbers::new(alloc),
+            index: None,
         }
     }
 
@@ -55,43 +43,15 @@ impl<'a> Locals<'a> {
         self.known.len()
     }
 
-    /// Whether the local at a place has the name.
-    fn is_named(&self, place: u32, name: &Name) -> bool
-        ensures { result ≡ pure.passes_at (λ k. bytes_eq (name_in k) name.now)
-            (slice_get self.now.known.items place) }
-    {
-        match self.known.get(place as usize) {
-            None => false,
-            Some(known) => known.held.name.as_str() == name.as_str(),
-        }
-    }
-
-    /// Whether the local at a place has the number.
-    fn is_numbered(&self, place: u32, number: u32) -> bool
-        ensures { result ≡ pure.passes_at (λ k. same_number (number_in k) number)
-            (slice_get self.now.known.items place) }
-    {
-        match self.known.get(place as usize) {
-            None => false,
-            Some(known) => known.held.number == number,
-        }
-    }
-
     /// The place of the last that has the name.
     fn place_named(&self, name: &Name) -> Option<u32>
         requires { Tracked self.now }
         ensures { result
             ≡ last_place (λ k. bytes_eq (name_in k) name.now) self.now.known.items }
     {
-        match self.names.find(name.as_str()) {
-            None => None,
-            Some(place) => {
-                if self.is_named(place, name) {
-                    Some(place)
-                } else {
-                    None
-                }
-            }
+        match &self.index {
+            None => last_named(&self.known, name),
+            Some(index) => index.last_named(&self.known, name),
         }
     }
 
@@ -101,15 +61,9 @@ impl<'a> Locals<'a> {
         ensures { result
             ≡ last_place (λ k. same_number (number_in k) number) self.now.known.items }
     {
-        match self.numbers.find(number) {
-            None => None,
-            Some(place) => {
-                if self.is_numbered(place, number) {
-                    Some(place)
-                } else {
-                    None
-                }
-            }
+        match &self.index {
+            None => last_numbered(&self.known, number),
+            Some(index) => index.last_numbered(&self.known, number),
         }
     }
 
@@ -161,16 +115,14 @@ impl<'a> Locals<'a> {
         ensures locals { OnOk result (locals_of self.new ≡ locals_of self.old ++ held.entry ∷ []) }
         ensures tracked { OnOk result (Tracked self.new) }
     {
-        let named = self.place_named(held.name);
-        let numbered = self.place_numbered(held.number);
-        let place = place_of(self.known.len())?;
-        self.names.put(held.name.as_str(), place)?;
-        self.numbers.put(held.number, place)?;
-        self.known.push(Known {
+        let last = Known {
             held,
-            named,
-            numbered,
-        })?;
+            named: self.place_named(held.name),
+            numbered: self.place_numbered(held.number),
+        };
+        let alloc = *self.known.allocator();
+        index_behind(alloc, &mut self.index, &self.known, &last)?;
+        self.known.push(last)?;
         Ok(())
     }
 
@@ -182,10 +134,10 @@ impl<'a> Locals<'a> {
     {
         match self.known.pop() {
             None => Ok(()),
-            Some(last) => {
-                restore_name(&mut self.names, last.held.name, last.named)?;
-                restore_number(&mut self.numbers, last.held.number, last.numbered)
-            }
+            Some(last) => match &mut self.index {
+                None => Ok(()),
+                Some(index) => index.restore(&last),
+            },
         }
     }
 

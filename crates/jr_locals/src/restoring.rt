@@ -18,6 +18,23 @@ pub struct Known<'a> {
     pub numbered: Option<u32>,
 }
 
+impl<'a> Known<'a> {
+    ghost use Rattle.std.specs.Str.{bytes_eq};
+    ghost use Rattle.jr_locals.specs.Tracked.{name_in, number_in, same_number};
+
+    pub(crate) fn has_name(&self, name: &Name) -> bool
+        ensures { result ≡ bytes_eq (name_in self.now) name.now }
+    {
+        self.held.name.as_str() == name.as_str()
+    }
+
+    pub(crate) fn has_number(&self, number: u32) -> bool
+        ensures { result ≡ same_number (number_in self.now) number }
+    {
+        self.held.number == number
+    }
+}
+
 /// Puts the place, if there is one, under the name.
 pub(crate) fn restore_name<'a>(
     names: &mut Names<'a>,

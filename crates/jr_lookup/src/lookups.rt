@@ -19,10 +19,10 @@ use jr_table::{ClassKey, Decl, Found, LocalKey, Table, Ty, lookups_are_exact};
 use std::alloc::{AllocError, Global};
 
 /// A local is found.
-fn local_found(alloc: Global, key: &LocalKey) -> Result<Found, AllocError>
+fn local_found(key: &LocalKey) -> Result<Found, AllocError>
     ensures { IfOk result (λ f. found_of f ≡ one (local_decl (local_key_of key.now))) }
 {
-    let key = key.copy(alloc)?;
+    let key = key.copy()?;
     Ok(Found::One(Decl::Local(key)))
 }
 
@@ -32,12 +32,7 @@ fn local_found(alloc: Global, key: &LocalKey) -> Result<Found, AllocError>
 /// `FromStatic` where that is an instance field, and the place is in a static context or the class
 /// isn't the place's own. `Nothing` where there is none.
 #[tactic(auto, unfolding(jr_table::specs::Lookup::find_variable))]
-pub fn variable(
-    alloc: Global,
-    table: &Table,
-    scope: &Scope,
-    name: &Name,
-) -> Result<Found, AllocError>
+pub fn variable(table: &Table, scope: &Scope, name: &Name) -> Result<Found, AllocError>
     ensures { IfOk result (λ f.
         lookup.FindsVariable table.now (scope_of scope.now) name.now (found_of f)) }
 {
@@ -46,8 +41,8 @@ pub fn variable(
     let place = table.number_or_none(&scope.class);
     let field = field_at(table, place, scope.is_static, name.as_str());
     match last_local(scope.locals.as_slice(), name) {
-        Some(key) => local_found(alloc, key),
-        None => found_by(alloc, table, field),
+        Some(key) => local_found(key),
+        None => found_by(table, field),
     }
 }
 
@@ -55,12 +50,7 @@ pub fn variable(
 /// enclosing class that has one; or else the top-level class; or else the prelude's. `Nothing`
 /// where there is none.
 #[tactic(auto, unfolding(jr_table::specs::Lookup::find_type_named))]
-pub fn type_named(
-    alloc: Global,
-    table: &Table,
-    scope: &Scope,
-    name: &Name,
-) -> Result<Found, AllocError>
+pub fn type_named(table: &Table, scope: &Scope, name: &Name) -> Result<Found, AllocError>
     ensures { IfOk result (λ f.
         lookup.FindsTypeNamed table.now (scope_of scope.now) name.now (found_of f)) }
 {
@@ -68,14 +58,13 @@ pub fn type_named(
     lookups_are_exact();
     let place = table.number_or_none(&scope.class);
     let answer = type_at(table, place, name);
-    found_by(alloc, table, answer)
+    found_by(table, answer)
 }
 
 /// The member type of a class, declared or inherited (JLS 6.5.5.2). `NotAccessible` where it is
 /// private and the place is outside its top-level class (JLS 6.6.1), `Nothing` where there is none.
 #[tactic(auto, unfolding(jr_table::specs::Lookup::find_type_of))]
 pub fn member_type(
-    alloc: Global,
     table: &Table,
     scope: &Scope,
     class: &ClassKey,
@@ -89,7 +78,7 @@ pub fn member_type(
     let place = table.number_or_none(&scope.class);
     let class = table.number_or_none(class);
     let answer = member_type_at(table, place, class, name.as_str());
-    found_by(alloc, table, answer)
+    found_by(table, answer)
 }
 
 /// The member field of a class, declared or inherited (JLS 15.11.1). `NotAccessible` where it is
@@ -97,7 +86,6 @@ pub fn member_type(
 /// `super.x` asks the superclass.
 #[tactic(auto, unfolding(jr_table::specs::Lookup::find_field_in))]
 pub fn field_of(
-    alloc: Global,
     table: &Table,
     scope: &Scope,
     class: &ClassKey,
@@ -111,7 +99,7 @@ pub fn field_of(
     let place = table.number_or_none(&scope.class);
     let class = table.number_or_none(class);
     let answer = field_in_at(table, place, class, name.as_str());
-    found_by(alloc, table, answer)
+    found_by(table, answer)
 }
 
 /// What a call without a target finds, for arguments of these types (JLS 15.12.1, 15.12.2).
@@ -146,7 +134,7 @@ pub fn method_named(
         name.as_str(),
         kinds.as_slice(),
     )?;
-    found_by(alloc, table, answer)
+    found_by(table, answer)
 }
 
 /// What a call on a class, or on an expression of its type, finds, for arguments of these types
@@ -170,7 +158,7 @@ pub fn method_of(
     let class = table.number_or_none(class);
     let kinds = table.kinds(alloc, args)?;
     let answer = method_at(alloc, table, place, class, name.as_str(), kinds.as_slice())?;
-    found_by(alloc, table, answer)
+    found_by(table, answer)
 }
 
 /// The constructor that a creation of the class, or a `super(..)` call on it, finds, for arguments
@@ -192,5 +180,5 @@ pub fn ctor_of(
     let class = table.number_or_none(class);
     let kinds = table.kinds(alloc, args)?;
     let answer = ctor_at(alloc, table, place, class, kinds.as_slice())?;
-    found_by(alloc, table, answer)
+    found_by(table, answer)
 }

@@ -6,7 +6,7 @@ ghost use Rattle.jr_table.specs.Found as found;
 ghost use Rattle.jr_table.specs.Lookup as pure;
 
 use jr_table::{Answer, Decl, Found, Table};
-use std::alloc::{AllocError, Global};
+use std::alloc::AllocError;
 
 /// The declaration of a row, where there is the row.
 fn row_decl(table: &Table, number: u32) -> Option<&Decl>
@@ -19,40 +19,40 @@ fn row_decl(table: &Table, number: u32) -> Option<&Decl>
 }
 
 /// A copy of the declaration of a row.
-fn decl_at(alloc: Global, table: &Table, number: u32) -> Result<Option<Decl>, AllocError>
+fn decl_at(table: &Table, number: u32) -> Result<Option<Decl>, AllocError>
     ensures { IfOk result (λ d. option_map decl_of d ≡ pure.decl_at table.now number) }
 {
     match row_decl(table, number) {
         None => Ok(None),
-        Some(decl) => Ok(Some(decl.copy(alloc)?)),
+        Some(decl) => Ok(Some(decl.copy()?)),
     }
 }
 
-fn one(alloc: Global, table: &Table, number: u32) -> Result<Found, AllocError>
+fn one(table: &Table, number: u32) -> Result<Found, AllocError>
     ensures { IfOk result (λ f.
         found_of f ≡ pure.shown_one found.one (pure.decl_at table.now number)) }
 {
-    match decl_at(alloc, table, number)? {
+    match decl_at(table, number)? {
         None => Ok(Found::Nothing),
         Some(decl) => Ok(Found::One(decl)),
     }
 }
 
-fn not_accessible(alloc: Global, table: &Table, number: u32) -> Result<Found, AllocError>
+fn not_accessible(table: &Table, number: u32) -> Result<Found, AllocError>
     ensures { IfOk result (λ f.
         found_of f ≡ pure.shown_one found.not_accessible (pure.decl_at table.now number)) }
 {
-    match decl_at(alloc, table, number)? {
+    match decl_at(table, number)? {
         None => Ok(Found::Nothing),
         Some(decl) => Ok(Found::NotAccessible(decl)),
     }
 }
 
-fn from_static(alloc: Global, table: &Table, number: u32) -> Result<Found, AllocError>
+fn from_static(table: &Table, number: u32) -> Result<Found, AllocError>
     ensures { IfOk result (λ f.
         found_of f ≡ pure.shown_one found.from_static (pure.decl_at table.now number)) }
 {
-    match decl_at(alloc, table, number)? {
+    match decl_at(table, number)? {
         None => Ok(Found::Nothing),
         Some(decl) => Ok(Found::FromStatic(decl)),
     }
@@ -63,11 +63,11 @@ fn forget(decl: Decl) {
     drop(decl)
 }
 
-fn both(alloc: Global, first: &Decl, second: &Decl) -> Result<Found, AllocError>
+fn both(first: &Decl, second: &Decl) -> Result<Found, AllocError>
     ensures { IfOk result (λ f. found_of f ≡ found.many (decl_of first.now) (decl_of second.now)) }
 {
-    let first = first.copy(alloc)?;
-    match second.copy(alloc) {
+    let first = first.copy()?;
+    match second.copy() {
         Ok(second) => Ok(Found::Many(first, second)),
         Err(error) => {
             forget(first);
@@ -77,12 +77,12 @@ fn both(alloc: Global, first: &Decl, second: &Decl) -> Result<Found, AllocError>
 }
 
 /// Both, if there are two.
-fn many(alloc: Global, table: &Table, first: u32, second: u32) -> Result<Found, AllocError>
+fn many(table: &Table, first: u32, second: u32) -> Result<Found, AllocError>
     ensures { IfOk result (λ f. found_of f
         ≡ pure.shown_two (pure.decl_at table.now first) (pure.decl_at table.now second)) }
 {
     match (row_decl(table, first), row_decl(table, second)) {
-        (Some(first), Some(second)) => both(alloc, first, second),
+        (Some(first), Some(second)) => both(first, second),
         (None, Some(_)) => Ok(Found::Nothing),
         (Some(_), None) => Ok(Found::Nothing),
         (None, None) => Ok(Found::Nothing),
@@ -91,14 +91,14 @@ fn many(alloc: Global, table: &Table, first: u32, second: u32) -> Result<Found, 
 
 /// The answer, with the declarations of its rows.
 #[tactic(auto, unfolding(jr_table::specs::Lookup::shown))]
-pub(crate) fn found_by(alloc: Global, table: &Table, answer: Answer) -> Result<Found, AllocError>
+pub(crate) fn found_by(table: &Table, answer: Answer) -> Result<Found, AllocError>
     ensures { IfOk result (λ f. found_of f ≡ pure.shown table.now answer) }
 {
     match answer {
-        Answer::One(number) => one(alloc, table, number),
+        Answer::One(number) => one(table, number),
         Answer::Nothing => Ok(Found::Nothing),
-        Answer::Many(first, second) => many(alloc, table, first, second),
-        Answer::NotAccessible(number) => not_accessible(alloc, table, number),
-        Answer::FromStatic(number) => from_static(alloc, table, number),
+        Answer::Many(first, second) => many(table, first, second),
+        Answer::NotAccessible(number) => not_accessible(table, number),
+        Answer::FromStatic(number) => from_static(table, number),
     }
 }

@@ -29,15 +29,15 @@ pub struct WrittenMember<'a, A> {
 }
 
 /// The member that a row declares.
-fn member_key(alloc: Global, decl: &Decl) -> Result<MemberKey, AllocError>
+fn member_key(decl: &Decl) -> Result<MemberKey, AllocError>
     ensures { IfOk result (λ k. member_key_of k ≡ members.member_of_decl (decl_of decl.now)) }
 {
     match decl {
-        Decl::Class(key) => Ok(MemberKey::Head(key.copy(alloc)?)),
-        Decl::Field(key) => Ok(MemberKey::Field(key.copy(alloc)?)),
-        Decl::Method(key) => Ok(MemberKey::Method(key.copy(alloc)?)),
-        Decl::Ctor(key) => Ok(MemberKey::Ctor(key.copy(alloc)?)),
-        Decl::Local(key) => key.member.copy(alloc),
+        Decl::Class(key) => Ok(MemberKey::Head(key.copy()?)),
+        Decl::Field(key) => Ok(MemberKey::Field(key.copy()?)),
+        Decl::Method(key) => Ok(MemberKey::Method(key.copy()?)),
+        Decl::Ctor(key) => Ok(MemberKey::Ctor(key.copy()?)),
+        Decl::Local(key) => key.member.copy(),
     }
 }
 
@@ -98,7 +98,6 @@ fn forget(key: MemberKey) {
 
 /// Puts a part behind the members, as the member that its row declares.
 fn push_keyed<'a, A>(
-    alloc: Global,
     list: &mut Vec<WrittenMember<'a, A>>,
     decl: &Decl,
     row: u32,
@@ -113,7 +112,7 @@ fn push_keyed<'a, A>(
           part = part_of placed.entry.part;
         } ∷ []) }
 {
-    let key = member_key(alloc, decl)?;
+    let key = member_key(decl)?;
     let member = WrittenMember {
         file: placed.file,
         key,
@@ -142,7 +141,7 @@ fn with_keys<'a, A: Mark>(
         (begins_by A.span_from) table.now first (map placed_of parts.entry.items)) }
 {
     table.keeps_rows();
-    let mut members = Vec::new(alloc);
+    let mut members = Vec::with_capacity(alloc, parts.len())?;
     let mut row = first;
     for placed in parts {
         let Some(declared) = row_at(table, row) else {
@@ -150,7 +149,7 @@ fn with_keys<'a, A: Mark>(
         };
         let number = row as u32;
         row += row_count(&placed.part);
-        push_keyed(alloc, &mut members, &declared.decl, number, placed)?;
+        push_keyed(&mut members, &declared.decl, number, placed)?;
     }
     Ok(members)
 }

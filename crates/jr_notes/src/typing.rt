@@ -19,16 +19,16 @@ use crate::rows::decl_at;
 use jr_ast::{Expr, ExprKind};
 use jr_table::{Decl, Kind, Table, Ty};
 use jr_types::Types;
-use std::alloc::{AllocError, Global};
+use std::alloc::AllocError;
 
 /// The type of a class, if it is one that is declared.
-fn decl_type(alloc: Global, decl: &Decl) -> Result<Option<Ty>, AllocError>
+fn decl_type(decl: &Decl) -> Result<Option<Ty>, AllocError>
     ensures { (k : keys.ClassKey) → decl_of decl.now ≡ class_decl k
         → IfOk result (λ t. option_map ty_of t ≡ Some (keys.class k)) }
 {
     match decl {
         Decl::Class(key) => {
-            let key = key.copy(alloc)?;
+            let key = key.copy()?;
             Ok(Some(Ty::Class(key)))
         }
         Decl::Field(_) => Ok(None),
@@ -39,18 +39,18 @@ fn decl_type(alloc: Global, decl: &Decl) -> Result<Option<Ty>, AllocError>
 }
 
 /// The type of the class of a row.
-fn class_type(alloc: Global, table: &Table, number: u32) -> Result<Option<Ty>, AllocError>
+fn class_type(table: &Table, number: u32) -> Result<Option<Ty>, AllocError>
     ensures { (k : keys.ClassKey) → decl_at table.now number ≡ Some (class_decl k)
         → IfOk result (λ t. option_map ty_of t ≡ Some (keys.class k)) }
 {
     match decl_at(table, number) {
         None => Ok(None),
-        Some(decl) => decl_type(alloc, decl),
+        Some(decl) => decl_type(decl),
     }
 }
 
 /// The type of a kind.
-fn kind_type(alloc: Global, table: &Table, kind: Kind) -> Result<Option<Ty>, AllocError>
+fn kind_type(table: &Table, kind: Kind) -> Result<Option<Ty>, AllocError>
     ensures { (t : keys.Ty) → kind ≡ kind_of table.now t → IsRowed table.now t
         → IfOk result (λ r. option_map ty_of r ≡ Some t) }
 {
@@ -60,18 +60,18 @@ fn kind_type(alloc: Global, table: &Table, kind: Kind) -> Result<Option<Ty>, All
         Kind::Boolean => Ok(Some(Ty::Boolean)),
         Kind::Void => Ok(Some(Ty::Void)),
         Kind::Null => Ok(Some(Ty::Null)),
-        Kind::Class(number) => class_type(alloc, table, number),
+        Kind::Class(number) => class_type(table, number),
     }
 }
 
 /// The type of a kind, if there is one.
-fn type_of_kind(alloc: Global, table: &Table, kind: Option<Kind>) -> Result<Option<Ty>, AllocError>
+fn type_of_kind(table: &Table, kind: Option<Kind>) -> Result<Option<Ty>, AllocError>
     ensures { (t : Option keys.Ty) → kind ≡ option_map (kind_of table.now) t
         → IsRowedIf table.now t → IfOk result (λ r. option_map ty_of r ≡ t) }
 {
     match kind {
         None => Ok(None),
-        Some(kind) => kind_type(alloc, table, kind),
+        Some(kind) => kind_type(table, kind),
     }
 }
 
@@ -136,7 +136,6 @@ pub fn put_leaf(types: &mut Types) -> Result<(), AllocError>
 /// The node of an expression of this kind, of its parts, which are the slots behind the first
 /// `before` ones.
 pub(crate) fn close_expr<A>(
-    alloc: Global,
     table: &Table,
     before: usize,
     of: &Expr<A>,
@@ -149,6 +148,6 @@ pub(crate) fn close_expr<A>(
         (count (exp_parts table.now c (expr_of of.now))) t types.old types.new) }
 {
     let parts = part_count(of)?;
-    let ty = type_of_kind(alloc, table, kind)?;
+    let ty = type_of_kind(table, kind)?;
     types.close(before, parts, ty)
 }

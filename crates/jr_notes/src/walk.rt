@@ -235,7 +235,7 @@ pub fn walk_expr<A: Mark>(
     table.keeps_rows();
     let before = types.count();
     let meaning = walk_parts(alloc, table, place, role, base, of, log, types)?;
-    close_expr(alloc, table, before, of, meaning.kind, types)?;
+    close_expr(table, before, of, meaning.kind, types)?;
     Ok(meaning)
 }
 

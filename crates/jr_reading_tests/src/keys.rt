@@ -40,7 +40,7 @@ pub(crate) fn tys(rt: &impl Abort, alloc: Global, texts: &str) -> Tys {
             tys.push(ty(rt, alloc, text)).expect(rt, "memory");
         }
     }
-    Tys::from_vec(tys)
+    Tys::from_vec(tys).expect(rt, "memory")
 }
 
 /// A field of a class.

@@ -140,10 +140,10 @@ fn lookup(
     args: &[Ty],
 ) -> Result<Found, AllocError> {
     match call {
-        "variable" => variable(alloc, table, scope, name),
-        "type_named" => type_named(alloc, table, scope, name),
-        "member_type" => member_type(alloc, table, scope, of, name),
-        "field_of" => field_of(alloc, table, scope, of, name),
+        "variable" => variable(table, scope, name),
+        "type_named" => type_named(table, scope, name),
+        "member_type" => member_type(table, scope, of, name),
+        "field_of" => field_of(table, scope, of, name),
         "method_named" => method_named(alloc, table, scope, name, args),
         "method_of" => method_of(alloc, table, scope, of, name, args),
         _ => ctor_of(alloc, table, scope, of, args),

@@ -153,7 +153,7 @@ fn is_copied(rt: &impl Abort, alloc: Global, row: &Row) -> bool {
 fn is_local_copied(rt: &impl Abort, alloc: Global) -> bool {
     let member = MemberKey::Ctor(ctor_key(rt, alloc, "A.D", ""));
     let local = Box::new(alloc, Decl::Local(LocalKey { member, number: 1 })).expect(rt, "memory");
-    let copy = Box::new(alloc, local.copy(alloc).expect(rt, "memory")).expect(rt, "memory");
+    let copy = Box::new(alloc, local.copy().expect(rt, "memory")).expect(rt, "memory");
     *copy == *local
 }
 

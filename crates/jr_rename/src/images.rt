@@ -56,71 +56,67 @@ fn is_renamed_method(g: &NewName, key: &MethodKey) -> bool
 // ---- names
 
 /// One of two names.
-fn chosen(alloc: Global, is_new: bool, new: &Name, old: &Name) -> Result<Name, AllocError>
+fn chosen(is_new: bool, new: &Name, old: &Name) -> Result<Name, AllocError>
     ensures { IfOk result (λ n. n ≡ (if is_new then new.now else old.now)) }
 {
-    if is_new {
-        Name::new(alloc, new.as_str())
-    } else {
-        Name::new(alloc, old.as_str())
-    }
+    if is_new { new.copy() } else { old.copy() }
 }
 
-fn top_name_to(alloc: Global, g: &NewName, name: &Name) -> Result<Name, AllocError>
+fn top_name_to(g: &NewName, name: &Name) -> Result<Name, AllocError>
     ensures { IfOk result (λ n. n
         ≡ pure.name_to (renaming_of g.now) (class_decl (top_key name.now)) name.now) }
 {
     let is_new = is_renamed_top(g, name);
-    chosen(alloc, is_new, &g.name, name)
+    chosen(is_new, &g.name, name)
 }
 
-fn class_name_to(alloc: Global, g: &NewName, key: &ClassKey) -> Result<Name, AllocError>
+fn class_name_to(g: &NewName, key: &ClassKey) -> Result<Name, AllocError>
     ensures { IfOk result (λ n. n
         ≡ pure.name_to (renaming_of g.now) (class_decl (class_key_of key.now)) key.now.name) }
 {
     let is_new = is_renamed_class(g, key);
-    chosen(alloc, is_new, &g.name, &key.name)
+    chosen(is_new, &g.name, &key.name)
 }
 
-fn field_name_to(alloc: Global, g: &NewName, key: &FieldKey) -> Result<Name, AllocError>
+fn field_name_to(g: &NewName, key: &FieldKey) -> Result<Name, AllocError>
     ensures { IfOk result (λ n. n
         ≡ pure.name_to (renaming_of g.now) (field_decl (field_key_of key.now)) key.now.name) }
 {
     let is_new = is_renamed_field(g, key);
-    chosen(alloc, is_new, &g.name, &key.name)
+    chosen(is_new, &g.name, &key.name)
 }
 
-fn method_name_to(alloc: Global, g: &NewName, key: &MethodKey) -> Result<Name, AllocError>
+fn method_name_to(g: &NewName, key: &MethodKey) -> Result<Name, AllocError>
     ensures { IfOk result (λ n. n
         ≡ pure.name_to (renaming_of g.now) (method_decl (method_key_of key.now)) key.now.name) }
 {
     let is_new = is_renamed_method(g, key);
-    chosen(alloc, is_new, &g.name, &key.name)
+    chosen(is_new, &g.name, &key.name)
 }
 
-fn outer_to(alloc: Global, g: &NewName, outer: &Option<Name>) -> Result<Option<Name>, AllocError>
+fn outer_to(g: &NewName, outer: &Option<Name>) -> Result<Option<Name>, AllocError>
     ensures { IfOk result (λ o. o ≡ pure.outer_to (renaming_of g.now) outer.now) }
 {
     match outer {
         None => Ok(None),
-        Some(name) => Ok(Some(top_name_to(alloc, g, name)?)),
+        Some(name) => Ok(Some(top_name_to(g, name)?)),
     }
 }
 
 // ---- keys
 
 /// The image of a class.
-pub fn class_to(alloc: Global, g: &NewName, key: &ClassKey) -> Result<ClassKey, AllocError>
+pub fn class_to(g: &NewName, key: &ClassKey) -> Result<ClassKey, AllocError>
     ensures { IfOk result (λ k. class_key_of k
         ≡ pure.class_to (renaming_of g.now) (class_key_of key.now)) }
 {
-    let outer = outer_to(alloc, g, &key.outer)?;
-    let name = class_name_to(alloc, g, key)?;
+    let outer = outer_to(g, &key.outer)?;
+    let name = class_name_to(g, key)?;
     Ok(ClassKey { outer, name })
 }
 
 /// The image of a type.
-pub fn type_to(alloc: Global, g: &NewName, ty: &Ty) -> Result<Ty, AllocError>
+pub fn type_to(g: &NewName, ty: &Ty) -> Result<Ty, AllocError>
     ensures { IfOk result (λ t. ty_of t ≡ pure.type_to (renaming_of g.now) (ty_of ty.now)) }
 {
     match ty {
@@ -128,7 +124,7 @@ pub fn type_to(alloc: Global, g: &NewName, ty: &Ty) -> Result<Ty, AllocError>
         Ty::Boolean => Ok(Ty::Boolean),
         Ty::Void => Ok(Ty::Void),
         Ty::Null => Ok(Ty::Null),
-        Ty::Class(key) => Ok(Ty::Class(class_to(alloc, g, key)?)),
+        Ty::Class(key) => Ok(Ty::Class(class_to(g, key)?)),
     }
 }
 
@@ -136,9 +132,9 @@ fn list_to(alloc: Global, g: &NewName, types: &[Ty]) -> Result<Vec<Ty>, AllocErr
     ensures { IfOk result (λ ts. map ty_of ts.items
         ≡ pure.types_to (renaming_of g.now) (map ty_of types.now)) }
 {
-    let mut images = Vec::new(alloc);
+    let mut images = Vec::with_capacity(alloc, types.len())?;
     for ty in types {
-        let image = type_to(alloc, g, ty)?;
+        let image = type_to(g, ty)?;
         images.push(image)?;
     }
     Ok(images)
@@ -149,16 +145,16 @@ pub fn types_to(alloc: Global, g: &NewName, types: &Tys) -> Result<Tys, AllocErr
     ensures { IfOk result (λ ts. ts ≡ pure.types_to (renaming_of g.now) types.now) }
 {
     let images = list_to(alloc, g, types.as_slice())?;
-    Ok(Tys::from_vec(images))
+    Tys::from_vec(images)
 }
 
 /// The image of a field.
-pub fn field_to(alloc: Global, g: &NewName, key: &FieldKey) -> Result<FieldKey, AllocError>
+pub fn field_to(g: &NewName, key: &FieldKey) -> Result<FieldKey, AllocError>
     ensures { IfOk result (λ k. field_key_of k
         ≡ pure.field_to (renaming_of g.now) (field_key_of key.now)) }
 {
-    let class = class_to(alloc, g, &key.class)?;
-    let name = field_name_to(alloc, g, key)?;
+    let class = class_to(g, &key.class)?;
+    let name = field_name_to(g, key)?;
     Ok(FieldKey { class, name })
 }
 
@@ -167,8 +163,8 @@ pub fn method_to(alloc: Global, g: &NewName, key: &MethodKey) -> Result<MethodKe
     ensures { IfOk result (λ k. method_key_of k
         ≡ pure.method_to (renaming_of g.now) (method_key_of key.now)) }
 {
-    let class = class_to(alloc, g, &key.class)?;
-    let name = method_name_to(alloc, g, key)?;
+    let class = class_to(g, &key.class)?;
+    let name = method_name_to(g, key)?;
     let params = types_to(alloc, g, &key.params)?;
     Ok(MethodKey {
         class,
@@ -182,7 +178,7 @@ pub fn ctor_to(alloc: Global, g: &NewName, key: &CtorKey) -> Result<CtorKey, All
     ensures { IfOk result (λ k. ctor_key_of k
         ≡ pure.ctor_to (renaming_of g.now) (ctor_key_of key.now)) }
 {
-    let class = class_to(alloc, g, &key.class)?;
+    let class = class_to(g, &key.class)?;
     let params = types_to(alloc, g, &key.params)?;
     Ok(CtorKey { class, params })
 }
@@ -193,8 +189,8 @@ pub fn member_to(alloc: Global, g: &NewName, key: &MemberKey) -> Result<MemberKe
         ≡ pure.member_to (renaming_of g.now) (member_key_of key.now)) }
 {
     match key {
-        MemberKey::Head(key) => Ok(MemberKey::Head(class_to(alloc, g, key)?)),
-        MemberKey::Field(key) => Ok(MemberKey::Field(field_to(alloc, g, key)?)),
+        MemberKey::Head(key) => Ok(MemberKey::Head(class_to(g, key)?)),
+        MemberKey::Field(key) => Ok(MemberKey::Field(field_to(g, key)?)),
         MemberKey::Method(key) => Ok(MemberKey::Method(method_to(alloc, g, key)?)),
         MemberKey::Ctor(key) => Ok(MemberKey::Ctor(ctor_to(alloc, g, key)?)),
     }
@@ -215,8 +211,8 @@ pub fn decl_to(alloc: Global, g: &NewName, decl: &Decl) -> Result<Decl, AllocErr
     ensures { IfOk result (λ d. decl_of d ≡ pure.decl_to (renaming_of g.now) (decl_of decl.now)) }
 {
     match decl {
-        Decl::Class(key) => Ok(Decl::Class(class_to(alloc, g, key)?)),
-        Decl::Field(key) => Ok(Decl::Field(field_to(alloc, g, key)?)),
+        Decl::Class(key) => Ok(Decl::Class(class_to(g, key)?)),
+        Decl::Field(key) => Ok(Decl::Field(field_to(g, key)?)),
         Decl::Method(key) => Ok(Decl::Method(method_to(alloc, g, key)?)),
         Decl::Ctor(key) => Ok(Decl::Ctor(ctor_to(alloc, g, key)?)),
         Decl::Local(key) => Ok(Decl::Local(local_to(alloc, g, key)?)),
@@ -225,27 +221,23 @@ pub fn decl_to(alloc: Global, g: &NewName, decl: &Decl) -> Result<Decl, AllocErr
 
 // ---- rows
 
-fn maybe_class_to(
-    alloc: Global,
-    g: &NewName,
-    key: &Option<ClassKey>,
-) -> Result<Option<ClassKey>, AllocError>
+fn maybe_class_to(g: &NewName, key: &Option<ClassKey>) -> Result<Option<ClassKey>, AllocError>
     ensures { IfOk result (λ k. option_map class_key_of k
         ≡ option_map (pure.class_to (renaming_of g.now)) (option_map class_key_of key.now)) }
 {
     match key {
         None => Ok(None),
-        Some(key) => Ok(Some(class_to(alloc, g, key)?)),
+        Some(key) => Ok(Some(class_to(g, key)?)),
     }
 }
 
-fn maybe_type_to(alloc: Global, g: &NewName, ty: &Option<Ty>) -> Result<Option<Ty>, AllocError>
+fn maybe_type_to(g: &NewName, ty: &Option<Ty>) -> Result<Option<Ty>, AllocError>
     ensures { IfOk result (λ t. option_map ty_of t
         ≡ option_map (pure.type_to (renaming_of g.now)) (option_map ty_of ty.now)) }
 {
     match ty {
         None => Ok(None),
-        Some(ty) => Ok(Some(type_to(alloc, g, ty)?)),
+        Some(ty) => Ok(Some(type_to(g, ty)?)),
     }
 }
 
@@ -254,8 +246,8 @@ fn row_to(alloc: Global, g: &NewName, old: &Row) -> Result<Row, AllocError>
 {
     let has_init = old.has_init;
     let modifiers = old.modifiers.copy(alloc)?;
-    let parent = maybe_class_to(alloc, g, &old.parent)?;
-    let ty = maybe_type_to(alloc, g, &old.ty)?;
+    let parent = maybe_class_to(g, &old.parent)?;
+    let ty = maybe_type_to(g, &old.ty)?;
     let decl = decl_to(alloc, g, &old.decl)?;
     Ok(Row {
         decl,
@@ -271,7 +263,7 @@ pub fn rows_to(alloc: Global, g: &NewName, rows: &[Row]) -> Result<Vec<Row>, All
     ensures { IfOk result (λ rs. map row_of rs.items
         ≡ pure.rows_to (renaming_of g.now) (map row_of rows.now)) }
 {
-    let mut images = Vec::new(alloc);
+    let mut images = Vec::with_capacity(alloc, rows.len())?;
     for old in rows {
         let image = row_to(alloc, g, old)?;
         images.push(image)?;

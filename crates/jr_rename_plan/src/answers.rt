@@ -1,6 +1,7 @@
 //! What comes of a renaming that collides with nothing.
-ghost use Rattle.std.specs.Prelude.{◌≡◌, IfOk, IsTrue, None};
+ghost use Rattle.std.specs.Prelude.{◌≡◌, IfOk, IsTrue, None, map};
 ghost use Rattle.jr_lex.specs.Replacing.{IsName};
+ghost use Rattle.jr_members.specs.PartView.{written_of};
 ghost use Rattle.jr_table.specs.KeyView.{decl_of};
 ghost use Rattle.jr_table.specs.FoundView.{found_of};
 ghost use Rattle.jr_names.specs.Refusals as refusals;
@@ -12,12 +13,14 @@ ghost use Rattle.jr_rename.specs.ImageView.{renaming_of};
 ghost use Rattle.jr_rename.specs.RenameLaws.{IsFair};
 ghost use Rattle.jr_rename.specs.Renames.{pairs_of};
 ghost use Rattle.jr_respell.specs.Scopes.{rows_in, renaming_in, AreImages};
+ghost use Rattle.jr_rewriting.specs.Gathered.{members_of};
 ghost use Rattle.jr_rename_plan.specs.Answers.{AnswersOf, AnswersKeeping};
 ghost use Rattle.jr_rename_plan.specs.OneLocal.{IsLocal, IsOfOneLocal};
 
 use crate::pairs::changed_pairs;
 use jr_bind::View;
 use jr_family::dispatch_change;
+use jr_members::WrittenMember;
 use jr_names::{EditLists, Outcome, Refusal};
 use jr_rename::{NewName, locals_keep_keys, rows_to};
 use jr_respell::{Lost, Programs};
@@ -63,8 +66,10 @@ fn plan_of(
 fn of_programs<V: View<Span>>(
     alloc: Global,
     view: &V,
+    members: &[WrittenMember<'_, Span>],
     programs: &Programs<'_>,
 ) -> Result<Outcome, AllocError>
+    requires members { map written_of members.now ≡ members_of (V.program view.now) }
     requires rows { rows_in programs.now ≡ (V.program view.now).rows }
     requires images { AreImages programs.now }
     requires name { IsName (renaming_in programs.now).name }
@@ -75,7 +80,7 @@ fn of_programs<V: View<Span>>(
         edits,
         respelled,
         lost,
-    } = rewrite(alloc, view, programs)?;
+    } = rewrite(alloc, view, members, programs)?;
     match lost {
         Some((file, lost)) => Ok(lost_binding(file, lost)),
         None => plan_of(alloc, programs, edits, respelled),
@@ -95,10 +100,12 @@ fn table_after(alloc: Global, table: &Table, g: &NewName) -> Result<Table, Alloc
 fn of_tables<V: View<Span>>(
     alloc: Global,
     view: &V,
+    members: &[WrittenMember<'_, Span>],
     g: &NewName,
     before: &Table,
     after: &Table,
 ) -> Result<Outcome, AllocError>
+    requires members { map written_of members.now ≡ members_of (V.program view.now) }
     requires before { before.now ≡ (V.program view.now).rows }
     requires after { after.now ≡ pure.rows_to (renaming_of g.now) before.now }
     requires fair { IsFair before.now (renaming_of g.now) }
@@ -113,6 +120,7 @@ fn of_tables<V: View<Span>>(
         None => of_programs(
             alloc,
             view,
+            members,
             &Programs {
                 before,
                 after,
@@ -147,12 +155,15 @@ fn is_of_one_local(g: &NewName) -> bool
 }
 
 /// What comes of a renaming that collides with nothing. Where a local is renamed, the new program
-/// has the same table.
+/// has the same table. Else that table is made, and handed out in `after`.
 pub(crate) fn of_renaming<V: View<Span>>(
     alloc: Global,
     view: &V,
+    members: &[WrittenMember<'_, Span>],
     g: &NewName,
+    after: &mut Option<Table>,
 ) -> Result<Outcome, AllocError>
+    requires members { map written_of members.now ≡ members_of (V.program view.now) }
     requires fair { IsFair (V.program view.now).rows (renaming_of g.now) }
     requires name { IsName (renaming_of g.now).name }
     ensures { IfOk result (λ o. AnswersOf (V.program view.now) (renaming_of g.now)
@@ -161,9 +172,11 @@ pub(crate) fn of_renaming<V: View<Span>>(
     locals_keep_keys();
     let before = view.table();
     if is_of_one_local(g) {
-        of_tables(alloc, view, g, before, before)
+        of_tables(alloc, view, members, g, before, before)
     } else {
-        let after = table_after(alloc, before, g)?;
-        of_tables(alloc, view, g, before, &after)
+        let table = table_after(alloc, before, g)?;
+        let outcome = of_tables(alloc, view, members, g, before, &table);
+        *after = Some(table);
+        outcome
     }
 }

@@ -26,17 +26,12 @@ fn push_pair(old: Decl, new: Decl, pairs: &mut Vec<(Decl, Decl)>) -> Result<(), 
 }
 
 /// The same of copies of them.
-fn push_both(
-    alloc: Global,
-    old: &Decl,
-    new: &Decl,
-    pairs: &mut Vec<(Decl, Decl)>,
-) -> Result<(), AllocError>
+fn push_both(old: &Decl, new: &Decl, pairs: &mut Vec<(Decl, Decl)>) -> Result<(), AllocError>
     ensures { OnOk result (pairs_view pairs.new.items
         ≡ pairs_view pairs.old.items ++ (decl_of old.now, decl_of new.now) ∷ []) }
 {
-    let first = old.copy(alloc)?;
-    match new.copy(alloc) {
+    let first = old.copy()?;
+    match new.copy() {
         Ok(second) => push_pair(first, second, pairs),
         Err(error) => {
             forget(first);
@@ -46,19 +41,14 @@ fn push_both(
 }
 
 /// The same, if it becomes another.
-fn push_changed(
-    alloc: Global,
-    old: &Decl,
-    new: &Decl,
-    pairs: &mut Vec<(Decl, Decl)>,
-) -> Result<(), AllocError>
+fn push_changed(old: &Decl, new: &Decl, pairs: &mut Vec<(Decl, Decl)>) -> Result<(), AllocError>
     ensures { OnOk result (pairs_view pairs.new.items
         ≡ pairs_view pairs.old.items ++ changed (decl_of old.now) (decl_of new.now)) }
 {
     if old == new {
         Ok(())
     } else {
-        push_both(alloc, old, new, pairs)
+        push_both(old, new, pairs)
     }
 }
 
@@ -71,7 +61,7 @@ pub(crate) fn changed_pairs(alloc: Global, programs: &Programs<'_>) -> Result<Re
     let after = programs.after.rows();
     let mut pairs = Vec::new(alloc);
     for number in 0..before.len() {
-        push_changed(alloc, &before[number].decl, &after[number].decl, &mut pairs)?;
+        push_changed(&before[number].decl, &after[number].decl, &mut pairs)?;
     }
     Ok(Renaming::from_vec(pairs))
 }

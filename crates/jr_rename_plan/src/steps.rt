@@ -47,7 +47,10 @@ fn plan_in<V: View<Span>>(
         × Plans (V.program view.now) number at new.now (outcome_of o)) }
 {
     let number = file_of(view, file);
-    plan_at(alloc, view, number, at, new)
+    let mut after = None;
+    let outcome = plan_at(alloc, view, number, at, new, &mut after);
+    drop(after);
+    outcome
 }
 
 /// What a step that renames does, to the first file of its name: as [`plan_at`]. The file is there,

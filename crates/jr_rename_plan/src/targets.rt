@@ -1,6 +1,7 @@
 //! What comes of a target.
-ghost use Rattle.std.specs.Prelude.{IfOk};
+ghost use Rattle.std.specs.Prelude.{◌≡◌, IfOk, map};
 ghost use Rattle.jr_lex.specs.Replacing.{IsName};
+ghost use Rattle.jr_members.specs.PartView.{written_of};
 ghost use Rattle.jr_table.specs.KeyView.{decl_of};
 ghost use Rattle.jr_names.specs.ReplyView.{outcome_of};
 ghost use Rattle.jr_rename.specs.Families.{AreRenamed};
@@ -9,6 +10,7 @@ ghost use Rattle.jr_rename.specs.ImageView.{renaming_of};
 ghost use Rattle.jr_bind.specs.Programs.{units_of};
 ghost use Rattle.jr_places.specs.FileParts.{begins};
 ghost use Rattle.jr_rename.specs.Clashes.{IsClear};
+ghost use Rattle.jr_rewriting.specs.Gathered.{members_of};
 ghost use Rattle.jr_rename_plan.specs.Answers.{Answers, SparesPrelude, AnswersSparing, AnswersOf};
 
 use crate::answers::of_renaming;
@@ -16,9 +18,10 @@ use jr_ast::Name;
 use jr_bind::View;
 use jr_clash::clash;
 use jr_family::{family, prelude_method};
+use jr_members::WrittenMember;
 use jr_names::{Outcome, Refusal};
 use jr_rename::{DeclSet, NewName, renamings_stay_fair, rows_are_named};
-use jr_table::Decl;
+use jr_table::{Decl, Table};
 use jr_text::Span;
 use std::alloc::{AllocError, Global};
 
@@ -26,9 +29,12 @@ use std::alloc::{AllocError, Global};
 fn freely<V: View<Span>>(
     alloc: Global,
     view: &V,
+    members: &[WrittenMember<'_, Span>],
     target: &Decl,
     g: &NewName,
+    after: &mut Option<Table>,
 ) -> Result<Outcome, AllocError>
+    requires members { map written_of members.now ≡ members_of (V.program view.now) }
     requires renamed { AreRenamed (V.program view.now).rows (decl_of target.now)
         (renaming_of g.now).decls }
     requires own { IsOfPrelude (V.program view.now).rows (decl_of target.now) → ⊥ }
@@ -42,16 +48,19 @@ fn freely<V: View<Span>>(
     view.keeps_program();
     renamings_stay_fair::<Span>();
     rows_are_named::<Span>();
-    of_renaming(alloc, view, g)
+    of_renaming(alloc, view, members, g, after)
 }
 
 /// What comes of a target whose new name changes no method of the prelude.
 fn sparing<V: View<Span>>(
     alloc: Global,
     view: &V,
+    members: &[WrittenMember<'_, Span>],
     target: &Decl,
     g: &NewName,
+    after: &mut Option<Table>,
 ) -> Result<Outcome, AllocError>
+    requires members { map written_of members.now ≡ members_of (V.program view.now) }
     requires renamed { AreRenamed (V.program view.now).rows (decl_of target.now)
         (renaming_of g.now).decls }
     requires own { IsOfPrelude (V.program view.now).rows (decl_of target.now) → ⊥ }
@@ -60,9 +69,9 @@ fn sparing<V: View<Span>>(
     ensures { IfOk result (λ o. AnswersSparing (V.program view.now) (decl_of target.now)
         g.now.name (renaming_of g.now) (outcome_of o)) }
 {
-    match clash(alloc, view, target, g.decls.as_slice(), &g.name)? {
+    match clash(alloc, view, members, target, g.decls.as_slice(), &g.name)? {
         Some(with) => Ok(Outcome::Refused(Refusal::Clash { with })),
-        None => freely(alloc, view, target, g),
+        None => freely(alloc, view, members, target, g, after),
     }
 }
 
@@ -70,9 +79,12 @@ fn sparing<V: View<Span>>(
 pub(crate) fn of_target<V: View<Span>>(
     alloc: Global,
     view: &V,
+    members: &[WrittenMember<'_, Span>],
     target: &Decl,
     new: &Name,
+    after: &mut Option<Table>,
 ) -> Result<Outcome, AllocError>
+    requires members { map written_of members.now ≡ members_of (V.program view.now) }
     requires own { IsOfPrelude (V.program view.now).rows (decl_of target.now) → ⊥ }
     requires name { IsName new.now }
     ensures { IfOk result (λ o. Answers (V.program view.now) (decl_of target.now) new.now
@@ -85,6 +97,6 @@ pub(crate) fn of_target<V: View<Span>>(
     let g = NewName { decls: all, name };
     match told {
         Some(method) => Ok(Outcome::Refused(Refusal::PreludeMethod { method })),
-        None => sparing(alloc, view, target, &g),
+        None => sparing(alloc, view, members, target, &g, after),
     }
 }

@@ -18,8 +18,8 @@ pub(crate) struct Asked {
 }
 
 /// No types.
-pub(crate) fn no_types(alloc: Global) -> Tys
-    ensures { result ≡ [] }
+pub(crate) fn no_types(alloc: Global) -> Result<Tys, AllocError>
+    ensures { IfOk result (λ types. types ≡ []) }
 {
     Tys::from_vec(Vec::new(alloc))
 }
@@ -49,7 +49,7 @@ fn reference_by(
 {
     let form = form_of(way);
     let asked = text_by(alloc, way, name)?;
-    let args = args.copy(alloc)?;
+    let args = args.copy()?;
     let operand = operand_by(alloc, way)?;
     Ok(Reference {
         form,

@@ -56,7 +56,7 @@ pub fn call(
 {
     let g = scopes.programs.name;
     let images = types_to(alloc, g, args)?;
-    let on = class_to(alloc, g, class)?;
+    let on = class_to(g, class)?;
     chosen(
         alloc,
         scopes,
@@ -86,7 +86,7 @@ pub fn static_call(
 {
     let g = scopes.programs.name;
     let images = types_to(alloc, g, args)?;
-    let on = class_to(alloc, g, class)?;
+    let on = class_to(g, class)?;
     chosen(
         alloc,
         scopes,

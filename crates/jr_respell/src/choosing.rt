@@ -87,16 +87,11 @@ fn loses(lost: Lost) -> Choice
 }
 
 /// The loss of a declaration, with what is found in its place.
-pub(crate) fn loss_of(
-    alloc: Global,
-    at: u32,
-    declaration: &Decl,
-    found: Found,
-) -> Result<Choice, AllocError>
+pub(crate) fn loss_of(at: u32, declaration: &Decl, found: Found) -> Result<Choice, AllocError>
     ensures { IfOk result (λ h. choice_of h ≡ respellings.loses (record
         { at = at; declaration = decl_of declaration.now; found = found_of found })) }
 {
-    match declaration.copy(alloc) {
+    match declaration.copy() {
         Ok(declaration) => Ok(loses(loss(at, declaration, found))),
         Err(error) => {
             forget(found);
@@ -112,16 +107,11 @@ fn as_decl(key: ClassKey) -> Decl
 }
 
 /// The loss of a class.
-pub(crate) fn lost_class(
-    alloc: Global,
-    at: u32,
-    key: &ClassKey,
-    found: Found,
-) -> Result<Choice, AllocError>
+pub(crate) fn lost_class(at: u32, key: &ClassKey, found: Found) -> Result<Choice, AllocError>
     ensures { IfOk result (λ h. choice_of h ≡ respellings.loses (record
         { at = at; declaration = class_decl (class_key_of key.now); found = found_of found })) }
 {
-    match key.copy(alloc) {
+    match key.copy() {
         Ok(key) => Ok(loses(loss(at, as_decl(key), found))),
         Err(error) => {
             forget(found);

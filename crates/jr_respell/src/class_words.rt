@@ -20,14 +20,13 @@ pub fn leads_first(alloc: Global, scopes: &Scopes<'_>, class: &ClassKey) -> Resu
     let table = scopes.programs.after;
     table.keeps_rows();
     lookups_are_exact();
-    let image = class_to(alloc, scopes.programs.name, class)?;
+    let image = class_to(scopes.programs.name, class)?;
     let place = near(alloc, scopes, &image.name, &image)?;
     Ok(leads_simply(table, &place, &image.name, &image))
 }
 
 /// The same behind a dot, as a member class of another class's image.
 pub fn leads_behind(
-    alloc: Global,
     scopes: &Scopes<'_>,
     outer: &ClassKey,
     class: &ClassKey,
@@ -38,7 +37,7 @@ pub fn leads_behind(
         (class_key_of class.now)) }
 {
     let table = scopes.programs.after;
-    let around = class_to(alloc, scopes.programs.name, outer)?;
-    let image = class_to(alloc, scopes.programs.name, class)?;
+    let around = class_to(scopes.programs.name, outer)?;
+    let image = class_to(scopes.programs.name, class)?;
     Ok(leads_in(table, &scopes.after, &around, &image.name, &image))
 }

@@ -48,7 +48,7 @@ fn renamed_or_lost(
         forget(found);
         renaming(alloc, old, &image.name)
     } else {
-        lost_class(alloc, at, key, found)
+        lost_class(at, key, found)
     }
 }
 
@@ -67,14 +67,14 @@ fn leading(
     let table = scopes.programs.after;
     table.keeps_rows();
     lookups_are_exact();
-    let image = class_to(alloc, scopes.programs.name, key)?;
-    let hiding = variable_to(alloc, scopes, &image.name)?;
+    let image = class_to(scopes.programs.name, key)?;
+    let hiding = variable_to(scopes, &image.name)?;
     match something(hiding) {
         None => {
-            let found = type_named(alloc, table, &scopes.after, &image.name)?;
+            let found = type_named(table, &scopes.after, &image.name)?;
             renamed_or_lost(alloc, at, old, key, &image, found)
         }
-        Some(hiding) => lost_class(alloc, at, key, hiding),
+        Some(hiding) => lost_class(at, key, hiding),
     }
 }
 
@@ -93,7 +93,7 @@ fn type_by_name(
     let table = scopes.programs.before;
     table.keeps_rows();
     lookups_are_exact();
-    let found = type_named(alloc, table, &scopes.before, name)?;
+    let found = type_named(table, &scopes.before, name)?;
     match class_found(&found) {
         None => Ok(None),
         Some(key) => Ok(Some(leading(alloc, scopes, at, name, key)?)),
@@ -113,7 +113,7 @@ pub fn left_class(
 {
     scopes.programs.before.keeps_rows();
     lookups_are_exact();
-    let found = variable_of(alloc, scopes, name)?;
+    let found = variable_of(scopes, name)?;
     if is_nothing(&found) {
         type_by_name(alloc, scopes, at, name)
     } else {
@@ -137,15 +137,15 @@ fn leading_in(
     let table = scopes.programs.after;
     table.keeps_rows();
     lookups_are_exact();
-    let on = class_to(alloc, scopes.programs.name, class)?;
-    let image = class_to(alloc, scopes.programs.name, key)?;
-    let hiding = field_of(alloc, table, &scopes.after, &on, &image.name)?;
+    let on = class_to(scopes.programs.name, class)?;
+    let image = class_to(scopes.programs.name, key)?;
+    let hiding = field_of(table, &scopes.after, &on, &image.name)?;
     match something(hiding) {
         None => {
-            let found = member_type(alloc, table, &scopes.after, &on, &image.name)?;
+            let found = member_type(table, &scopes.after, &on, &image.name)?;
             renamed_or_lost(alloc, at, old, key, &image, found)
         }
-        Some(hiding) => lost_class(alloc, at, key, hiding),
+        Some(hiding) => lost_class(at, key, hiding),
     }
 }
 
@@ -166,7 +166,7 @@ fn member_by_name(
     let table = scopes.programs.before;
     table.keeps_rows();
     lookups_are_exact();
-    let found = member_type(alloc, table, &scopes.before, class, name)?;
+    let found = member_type(table, &scopes.before, class, name)?;
     match class_found(&found) {
         None => Ok(None),
         Some(key) => Ok(Some(leading_in(alloc, scopes, at, class, name, key)?)),
@@ -190,7 +190,7 @@ pub fn member_class(
     let table = scopes.programs.before;
     table.keeps_rows();
     lookups_are_exact();
-    let found = field_of(alloc, table, &scopes.before, class, name)?;
+    let found = field_of(table, &scopes.before, class, name)?;
     if is_nothing(&found) {
         member_by_name(alloc, scopes, at, class, name)
     } else {
@@ -212,8 +212,8 @@ fn qualifying(
     let table = scopes.programs.after;
     table.keeps_rows();
     lookups_are_exact();
-    let image = class_to(alloc, scopes.programs.name, key)?;
-    let found = type_named(alloc, table, &scopes.after, &image.name)?;
+    let image = class_to(scopes.programs.name, key)?;
+    let found = type_named(table, &scopes.after, &image.name)?;
     renamed_or_lost(alloc, at, old, key, &image, found)
 }
 
@@ -231,7 +231,7 @@ pub fn qualifier(
     let table = scopes.programs.before;
     table.keeps_rows();
     lookups_are_exact();
-    let found = type_named(alloc, table, &scopes.before, name)?;
+    let found = type_named(table, &scopes.before, name)?;
     match class_found(&found) {
         None => Ok(None),
         Some(key) => Ok(Some(qualifying(alloc, scopes, at, name, key)?)),
@@ -263,7 +263,7 @@ fn superclass_choice(
     ensures { IfOk result (λ h. chosen.TopParentSpells (rows_in programs.now)
         (renaming_in programs.now) at old.now (class_key_of key.now) (choice_of h)) }
 {
-    let image = class_to(alloc, programs.name, key)?;
+    let image = class_to(programs.name, key)?;
     let found = top_found(alloc, programs.after, &image.name)?;
     renamed_or_lost(alloc, at, old, key, &image, found)
 }

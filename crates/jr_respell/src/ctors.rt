@@ -29,7 +29,7 @@ pub fn creation(
     let none = Name::new(alloc, "")?;
     let g = scopes.programs.name;
     let images = types_to(alloc, g, args)?;
-    let on = class_to(alloc, g, class)?;
+    let on = class_to(g, class)?;
     chosen(
         alloc,
         scopes,

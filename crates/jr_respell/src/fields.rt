@@ -27,8 +27,8 @@ pub fn field(
     ensures { IfOk result (λ o. chosen.FieldIsChosen (rows_of scopes.now) (naming_of scopes.now)
         (context_of scopes.now) at (class_key_of class.now) name.now (option_map choice_of o)) }
 {
-    let on = class_to(alloc, scopes.programs.name, class)?;
-    let none = no_types(alloc);
+    let on = class_to(scopes.programs.name, class)?;
+    let none = no_types(alloc)?;
     chosen(
         alloc,
         scopes,
@@ -55,8 +55,8 @@ pub fn static_field(
         (naming_of scopes.now) (context_of scopes.now) at
         leads (class_key_of class.now) name.now (option_map choice_of o)) }
 {
-    let none = no_types(alloc);
-    let on = class_to(alloc, scopes.programs.name, class)?;
+    let none = no_types(alloc)?;
+    let on = class_to(scopes.programs.name, class)?;
     chosen(
         alloc,
         scopes,
@@ -80,7 +80,7 @@ pub fn super_field(
     ensures { IfOk result (λ o. chosen.SuperFieldIsChosen (rows_of scopes.now)
         (naming_of scopes.now) (context_of scopes.now) at name.now (option_map choice_of o)) }
 {
-    let none = no_types(alloc);
+    let none = no_types(alloc)?;
     chosen(
         alloc,
         scopes,

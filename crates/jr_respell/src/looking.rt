@@ -31,20 +31,16 @@ use jr_table::{Decl, Found, LocalKey, MemberKey, Table, Tys, lookups_are_exact};
 use std::alloc::{AllocError, Global};
 
 /// A local is found.
-fn local_found(alloc: Global, member: &MemberKey, number: u32) -> Result<Found, AllocError>
+fn local_found(member: &MemberKey, number: u32) -> Result<Found, AllocError>
     ensures { IfOk result (λ f. found_of f ≡ one (local_decl (key_of (member_key_of member.now)
         number))) }
 {
-    let member = member.copy(alloc)?;
+    let member = member.copy()?;
     Ok(Found::One(Decl::Local(LocalKey { member, number })))
 }
 
 /// What a simple name finds in the old program.
-pub(crate) fn variable_of(
-    alloc: Global,
-    scopes: &Scopes<'_>,
-    name: &Name,
-) -> Result<Found, AllocError>
+pub(crate) fn variable_of(scopes: &Scopes<'_>, name: &Name) -> Result<Found, AllocError>
     requires { IsKept scopes.now }
     ensures { IfOk result (λ f. FindsVariable (rows_of scopes.now)
         (context.scope_of (context_of scopes.now)) name.now (found_of f)) }
@@ -53,17 +49,13 @@ pub(crate) fn variable_of(
     table.keeps_rows();
     lookups_are_exact();
     match scopes.locals.number_named(name) {
-        Some(number) => local_found(alloc, scopes.member, number),
-        None => variable(alloc, table, &scopes.before, name),
+        Some(number) => local_found(scopes.member, number),
+        None => variable(table, &scopes.before, name),
     }
 }
 
 /// What a simple name finds in the new program.
-pub(crate) fn variable_to(
-    alloc: Global,
-    scopes: &Scopes<'_>,
-    name: &Name,
-) -> Result<Found, AllocError>
+pub(crate) fn variable_to(scopes: &Scopes<'_>, name: &Name) -> Result<Found, AllocError>
     requires { IsKept scopes.now }
     ensures { IfOk result (λ f.
         FindsVariable (rows_to scopes.now) (place_to scopes.now) name.now (found_of f)) }
@@ -72,29 +64,23 @@ pub(crate) fn variable_to(
     table.keeps_rows();
     lookups_are_exact();
     match scopes.renamed.number_named(name) {
-        Some(number) => local_found(alloc, &scopes.image, number),
-        None => variable(alloc, table, &scopes.after, name),
+        Some(number) => local_found(&scopes.image, number),
+        None => variable(table, &scopes.after, name),
     }
 }
 
 /// What a name behind another finds as a type.
-fn type_behind(
-    alloc: Global,
-    table: &Table,
-    scope: &Scope,
-    outer: &Name,
-    name: &Name,
-) -> Result<Found, AllocError>
+fn type_behind(table: &Table, scope: &Scope, outer: &Name, name: &Name) -> Result<Found, AllocError>
     ensures { IfOk result (λ f. FindsIn
         (λ k. FindsTypeNamed table.now (scope_of scope.now) outer.now (one (class_decl k)))
         (λ k x. FindsTypeOf table.now (scope_of scope.now) k name.now x) (found_of f)) }
 {
     table.keeps_rows();
     lookups_are_exact();
-    let found = type_named(alloc, table, scope, outer)?;
+    let found = type_named(table, scope, outer)?;
     match class_found(&found) {
         None => Ok(Found::Nothing),
-        Some(key) => member_type(alloc, table, scope, key, name),
+        Some(key) => member_type(table, scope, key, name),
     }
 }
 
@@ -111,11 +97,11 @@ fn look_up(
         name.now args.now (found_of f)) }
 {
     match *way {
-        Way::Local => variable(alloc, table, scope, name),
-        Way::OwnField => variable(alloc, table, scope, name),
-        Way::FieldOn(class) => field_of(alloc, table, scope, class, name),
-        Way::FieldThrough(_, class) => field_of(alloc, table, scope, class, name),
-        Way::FieldAbove => super_field_found(alloc, table, scope, name),
+        Way::Local => variable(table, scope, name),
+        Way::OwnField => variable(table, scope, name),
+        Way::FieldOn(class) => field_of(table, scope, class, name),
+        Way::FieldThrough(_, class) => field_of(table, scope, class, name),
+        Way::FieldAbove => super_field_found(table, scope, name),
         Way::MethodNamed => method_named(alloc, table, scope, name, args.as_slice()),
         Way::MethodOn(class) => method_of(alloc, table, scope, class, name, args.as_slice()),
         Way::MethodThrough(_, class) => {
@@ -124,8 +110,8 @@ fn look_up(
         Way::MethodAbove => super_method_found(alloc, table, scope, name, args),
         Way::CtorOf(class) => ctor_of(alloc, table, scope, class, args.as_slice()),
         Way::CtorAbove => super_ctor_found(alloc, table, scope, args),
-        Way::TypeNamed => type_named(alloc, table, scope, name),
-        Way::TypeBehind(outer, _) => type_behind(alloc, table, scope, outer, name),
+        Way::TypeNamed => type_named(table, scope, name),
+        Way::TypeBehind(outer, _) => type_behind(table, scope, outer, name),
     }
 }
 
@@ -143,7 +129,7 @@ pub(crate) fn look_up_before(
         (found_of f)) }
 {
     if is_simple(way) {
-        variable_of(alloc, scopes, name)
+        variable_of(scopes, name)
     } else {
         look_up(
             alloc,
@@ -169,7 +155,7 @@ pub(crate) fn look_up_after(
         (pure.way_of way.now) name.now args.now (found_of f)) }
 {
     if is_simple(way) {
-        variable_to(alloc, scopes, name)
+        variable_to(scopes, name)
     } else {
         look_up(alloc, scopes.programs.after, &scopes.after, way, name, args)
     }

@@ -36,7 +36,7 @@ fn put_named(
         None => Ok(()),
         Some(number) => {
             let name = Name::new(alloc, name.as_str())?;
-            let member = scopes.image.copy(alloc)?;
+            let member = scopes.image.copy()?;
             let key = LocalKey { member, number };
             push_local(ScopeLocal { name, key }, locals)?;
             Ok(())
@@ -77,7 +77,7 @@ pub(crate) fn near(
     put_named(alloc, scopes, &class.name, &mut locals)?;
     put_maybe_named(alloc, scopes, &class.outer, &mut locals)?;
     Ok(Scope {
-        class: scopes.after.class.copy(alloc)?,
+        class: scopes.after.class.copy()?,
         is_static: scopes.after.is_static,
         locals: ScopeLocals::from_vec(locals),
     })

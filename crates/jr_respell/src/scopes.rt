@@ -117,8 +117,8 @@ impl<'a> Scopes<'a> {
         ensures naming { IfOk result (λ s. naming_of s ≡ renaming_in programs.now) }
     {
         let class = class_of_member(member);
-        let before = bare(alloc, class.copy(alloc)?, is_static);
-        let after = bare(alloc, class_to(alloc, programs.name, class)?, is_static);
+        let before = bare(alloc, class.copy()?, is_static);
+        let after = bare(alloc, class_to(programs.name, class)?, is_static);
         let image = member_to(alloc, programs.name, member)?;
         let programs = Programs {
             before: programs.before,

@@ -42,7 +42,6 @@ fn superclass<'a>(table: &'a Table, class: &ClassKey) -> Option<&'a ClassKey>
 
 /// What `super.x` finds.
 pub(crate) fn super_field_found(
-    alloc: Global,
     table: &Table,
     scope: &Scope,
     name: &Name,
@@ -53,7 +52,7 @@ pub(crate) fn super_field_found(
     table.keeps_rows();
     match superclass(table, &scope.class) {
         None => Ok(Found::Nothing),
-        Some(parent) => field_of(alloc, table, scope, parent, name),
+        Some(parent) => field_of(table, scope, parent, name),
     }
 }
 

@@ -55,7 +55,7 @@ fn lost_by(
         { at = at; declaration = decl_of declaration.now; found = f }))) }
 {
     let found = look_up_after(alloc, scopes, way, &asked.name, &asked.reference.args)?;
-    loss_of(alloc, at, declaration, found)
+    loss_of(at, declaration, found)
 }
 
 /// What is taken for the image of this name, or else the loss.

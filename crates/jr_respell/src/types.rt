@@ -33,7 +33,7 @@ pub fn simple_type(
     ensures { IfOk result (λ o. chosen.TypeIsChosen (rows_of scopes.now) (naming_of scopes.now)
         (context_of scopes.now) at name.now (option_map choice_of o)) }
 {
-    let none = no_types(alloc);
+    let none = no_types(alloc)?;
     chosen(
         alloc,
         scopes,
@@ -64,8 +64,8 @@ fn member_by_name(
 {
     scopes.programs.before.keeps_rows();
     lookups_are_exact();
-    let none = no_types(alloc);
-    let image = class_to(alloc, scopes.programs.name, class)?;
+    let none = no_types(alloc)?;
+    let image = class_to(scopes.programs.name, class)?;
     let leads = is_type(scopes.programs.after, &scopes.after, &image.name, &image);
     let to = Way::TypeBehind(&image.name, leads);
     chosen(
@@ -96,7 +96,7 @@ pub fn qualified_type(
     let table = scopes.programs.before;
     table.keeps_rows();
     lookups_are_exact();
-    let found = type_named(alloc, table, &scopes.before, outer)?;
+    let found = type_named(table, &scopes.before, outer)?;
     match class_found(&found) {
         None => Ok(None),
         Some(class) => member_by_name(alloc, scopes, at, outer, class, name),

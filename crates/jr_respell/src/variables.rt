@@ -36,7 +36,7 @@ fn by_decl(
 {
     scopes.programs.before.keeps_rows();
     lookups_are_exact();
-    let none = no_types(alloc);
+    let none = no_types(alloc)?;
     if is_local(decl) {
         chosen_for(alloc, scopes, at, name, &Way::Local, &none, decl)
     } else {
@@ -57,7 +57,7 @@ fn by_lookup(
 {
     scopes.programs.before.keeps_rows();
     lookups_are_exact();
-    let found = variable_of(alloc, scopes, name)?;
+    let found = variable_of(scopes, name)?;
     match decl_found(&found) {
         None => Ok(None),
         Some(decl) => by_decl(alloc, scopes, at, name, decl),

@@ -196,7 +196,7 @@ fn on(alloc: Global, class: &ClassKey) -> Result<Option<Operand>, AllocError>
         option_map view.operand_of o ≡ operand_of (class_key_of class.now)) }
 {
     let text = Name::new(alloc, "")?;
-    let ty = Ty::Class(class.copy(alloc)?);
+    let ty = Ty::Class(class.copy()?);
     Ok(Some(Operand { ty, text }))
 }
 

@@ -1,17 +1,18 @@
 //! A rename over a whole program.
 ghost use Rattle.std.specs.Prelude.{◌≡◌, ◌+◌, IfOk, map, sum_by, option_map};
 ghost use Rattle.jr_lex.specs.Replacing.{IsName};
+ghost use Rattle.jr_members.specs.PartView.{written_of};
 ghost use Rattle.jr_rewrite.specs.Edited.{entries_of};
 ghost use Rattle.jr_respell.specs.ChoiceView.{lost_of};
 ghost use Rattle.jr_respell.specs.Scopes.{rows_in, renaming_in, AreImages};
 ghost use Rattle.jr_renaming.specs.Effects.{Effect};
-ghost use Rattle.jr_rewriting.specs.Gathered.{effects_of, AllInOrder};
+ghost use Rattle.jr_rewriting.specs.Gathered.{effects_of, members_of, AllInOrder};
 ghost use Rattle.jr_rewriting.specs.Rewritings.{IsRewriting};
 
 use crate::files::all_outputs;
 use crate::losses::first_lost;
 use jr_bind::View;
-use jr_members::written_members;
+use jr_members::WrittenMember;
 use jr_rename::{renamed_texts_read, rows_are_named};
 use jr_renaming::{Output, files_are_rewritten};
 use jr_respell::{Lost, Programs};
@@ -68,11 +69,14 @@ fn all_respelled(outputs: &[Output]) -> Result<u32, AllocError>
 }
 
 /// The program under a rename: the files are rewritten by their written members, each walked once.
+/// These are given.
 pub fn rewrite<V: View<Span>>(
     alloc: Global,
     view: &V,
+    members: &[WrittenMember<'_, Span>],
     programs: &Programs<'_>,
 ) -> Result<Rewriting, AllocError>
+    requires members { map written_of members.now ≡ members_of (V.program view.now) }
     requires rows { rows_in programs.now ≡ (V.program view.now).rows }
     requires images { AreImages programs.now }
     requires name { IsName (renaming_in programs.now).name }
@@ -83,8 +87,7 @@ pub fn rewrite<V: View<Span>>(
     files_are_rewritten::<Span>();
     rows_are_named::<Span>();
     renamed_texts_read::<Span>();
-    let members = written_members(alloc, view.table(), view.units())?;
-    let outputs = all_outputs(alloc, view, programs, members.as_slice())?;
+    let outputs = all_outputs(alloc, view, programs, members)?;
     let lists = all_edits(alloc, outputs.as_slice())?;
     let respelled = all_respelled(outputs.as_slice())?;
     Ok(Rewriting {

@@ -44,7 +44,7 @@ fn method(rt: &impl Abort, alloc: Global, ints: usize) -> MethodKey {
     }
     let class = class(rt, alloc, "A");
     let name = name_of(rt, alloc, "m");
-    let params = Tys::from_vec(params);
+    let params = Tys::from_vec(params).expect(rt, "memory");
     MethodKey {
         class,
         name,

@@ -160,7 +160,7 @@ pub fn bind_members<L: Ledger>(
     ensures least { steps.old ≤ steps.new }
     ensures most { steps.new ≤ steps.old + length written.now }
 {
-    let mut bounds = Vec::new(alloc);
+    let mut bounds = Vec::with_capacity(alloc, written.len())?;
     for member in written {
         push_bound(alloc, table, tokens, member, &mut bounds, steps)?;
     }

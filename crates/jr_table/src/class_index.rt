@@ -62,7 +62,7 @@ fn top_places<'a>(alloc: Global, rows: &'a [Row]) -> Result<Vec<Place<'a>>, Allo
     ensures { IfOk result (λ v. map place_of v.items
         ≡ map (λ r. top_place (decl_of r.decl)) rows.now) }
 {
-    let mut places = Vec::new(alloc);
+    let mut places = Vec::with_capacity(alloc, rows.len())?;
     for row in rows {
         places.push(top_place_of(row))?;
     }
@@ -103,7 +103,7 @@ fn class_places<'a>(
     ensures { IfOk result (λ v. map place_of v.items
         ≡ map (λ r. class_place (first_of tops.now 0) top (decl_of r.decl)) rows.now) }
 {
-    let mut places = Vec::new(alloc);
+    let mut places = Vec::with_capacity(alloc, rows.len())?;
     for row in rows {
         places.push(class_place_of(tops, top, row))?;
     }

@@ -2,9 +2,9 @@
 ghost use Rattle.std.specs.Prelude.{◌≡◌, ◌↔◌, IfOk, IsTrue};
 ghost use Rattle.jr_table.specs.TypeView.{class_key_of};
 
-use crate::copies::{copy_maybe_name, copy_name};
+use crate::copies::copy_maybe_name;
 use jr_ast::Name;
-use std::alloc::{AllocError, Global};
+use std::alloc::AllocError;
 
 /// A class: its name, behind that of the class that it is a member of (JLS 8.1, 8.5).
 #[derive(Drop)]
@@ -15,11 +15,11 @@ pub struct ClassKey {
 
 impl ClassKey {
     /// The same key once more.
-    pub fn copy(&self, alloc: Global) -> Result<ClassKey, AllocError>
+    pub fn copy(&self) -> Result<ClassKey, AllocError>
         ensures { IfOk result (λ k. class_key_of k ≡ class_key_of self.now) }
     {
-        let outer = copy_maybe_name(alloc, &self.outer)?;
-        let name = copy_name(alloc, &self.name)?;
+        let outer = copy_maybe_name(&self.outer)?;
+        let name = self.name.copy()?;
         Ok(ClassKey { outer, name })
     }
 }

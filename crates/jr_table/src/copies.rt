@@ -1,23 +1,14 @@
-//! Copies of names.
+//! Copies of names that may be missing.
 ghost use Rattle.std.specs.Prelude.{◌≡◌, IfOk};
 
 use jr_ast::Name;
-use std::alloc::{AllocError, Global};
+use std::alloc::AllocError;
 
-pub(crate) fn copy_name(alloc: Global, name: &Name) -> Result<Name, AllocError>
-    ensures { IfOk result (λ n. n ≡ name.now) }
-{
-    Name::new(alloc, name.as_str())
-}
-
-pub(crate) fn copy_maybe_name(
-    alloc: Global,
-    name: &Option<Name>,
-) -> Result<Option<Name>, AllocError>
+pub(crate) fn copy_maybe_name(name: &Option<Name>) -> Result<Option<Name>, AllocError>
     ensures { IfOk result (λ n. n ≡ name.now) }
 {
     match name {
         None => Ok(None),
-        Some(name) => Ok(Some(copy_name(alloc, name)?)),
+        Some(name) => Ok(Some(name.copy()?)),
     }
 }

@@ -4,7 +4,7 @@ ghost use Rattle.jr_table.specs.KeyView.{member_key_of, local_key_of, decl_of};
 
 use crate::classes::ClassKey;
 use crate::keys::{CtorKey, FieldKey, MethodKey};
-use std::alloc::{AllocError, Global};
+use std::alloc::AllocError;
 
 /// What has code or types of its own: the head of a class, a field, a method, a constructor.
 #[derive(Drop)]
@@ -34,40 +34,40 @@ pub enum Decl {
 
 impl MemberKey {
     /// The same key once more.
-    pub fn copy(&self, alloc: Global) -> Result<MemberKey, AllocError>
+    pub fn copy(&self) -> Result<MemberKey, AllocError>
         ensures { IfOk result (λ k. member_key_of k ≡ member_key_of self.now) }
     {
         match self {
-            MemberKey::Head(key) => Ok(MemberKey::Head(key.copy(alloc)?)),
-            MemberKey::Field(key) => Ok(MemberKey::Field(key.copy(alloc)?)),
-            MemberKey::Method(key) => Ok(MemberKey::Method(key.copy(alloc)?)),
-            MemberKey::Ctor(key) => Ok(MemberKey::Ctor(key.copy(alloc)?)),
+            MemberKey::Head(key) => Ok(MemberKey::Head(key.copy()?)),
+            MemberKey::Field(key) => Ok(MemberKey::Field(key.copy()?)),
+            MemberKey::Method(key) => Ok(MemberKey::Method(key.copy()?)),
+            MemberKey::Ctor(key) => Ok(MemberKey::Ctor(key.copy()?)),
         }
     }
 }
 
 impl LocalKey {
     /// The same key once more.
-    pub fn copy(&self, alloc: Global) -> Result<LocalKey, AllocError>
+    pub fn copy(&self) -> Result<LocalKey, AllocError>
         ensures { IfOk result (λ k. local_key_of k ≡ local_key_of self.now) }
     {
         let number = self.number;
-        let member = self.member.copy(alloc)?;
+        let member = self.member.copy()?;
         Ok(LocalKey { member, number })
     }
 }
 
 impl Decl {
     /// The same declaration once more.
-    pub fn copy(&self, alloc: Global) -> Result<Decl, AllocError>
+    pub fn copy(&self) -> Result<Decl, AllocError>
         ensures { IfOk result (λ d. decl_of d ≡ decl_of self.now) }
     {
         match self {
-            Decl::Class(key) => Ok(Decl::Class(key.copy(alloc)?)),
-            Decl::Field(key) => Ok(Decl::Field(key.copy(alloc)?)),
-            Decl::Method(key) => Ok(Decl::Method(key.copy(alloc)?)),
-            Decl::Ctor(key) => Ok(Decl::Ctor(key.copy(alloc)?)),
-            Decl::Local(key) => Ok(Decl::Local(key.copy(alloc)?)),
+            Decl::Class(key) => Ok(Decl::Class(key.copy()?)),
+            Decl::Field(key) => Ok(Decl::Field(key.copy()?)),
+            Decl::Method(key) => Ok(Decl::Method(key.copy()?)),
+            Decl::Ctor(key) => Ok(Decl::Ctor(key.copy()?)),
+            Decl::Local(key) => Ok(Decl::Local(key.copy()?)),
         }
     }
 }

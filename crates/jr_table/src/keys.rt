@@ -3,10 +3,9 @@ ghost use Rattle.std.specs.Prelude.{◌≡◌, ◌↔◌, IfOk, IsTrue};
 ghost use Rattle.jr_table.specs.KeyView.{field_key_of, method_key_of, ctor_key_of};
 
 use crate::classes::ClassKey;
-use crate::copies::copy_name;
 use crate::type_lists::Tys;
 use jr_ast::Name;
-use std::alloc::{AllocError, Global};
+use std::alloc::AllocError;
 
 /// A field (JLS 8.3).
 #[derive(Drop)]
@@ -32,23 +31,23 @@ pub struct CtorKey {
 
 impl FieldKey {
     /// The same key once more.
-    pub fn copy(&self, alloc: Global) -> Result<FieldKey, AllocError>
+    pub fn copy(&self) -> Result<FieldKey, AllocError>
         ensures { IfOk result (λ k. field_key_of k ≡ field_key_of self.now) }
     {
-        let class = self.class.copy(alloc)?;
-        let name = copy_name(alloc, &self.name)?;
+        let class = self.class.copy()?;
+        let name = self.name.copy()?;
         Ok(FieldKey { class, name })
     }
 }
 
 impl MethodKey {
     /// The same key once more.
-    pub fn copy(&self, alloc: Global) -> Result<MethodKey, AllocError>
+    pub fn copy(&self) -> Result<MethodKey, AllocError>
         ensures { IfOk result (λ k. method_key_of k ≡ method_key_of self.now) }
     {
-        let class = self.class.copy(alloc)?;
-        let name = copy_name(alloc, &self.name)?;
-        let params = self.params.copy(alloc)?;
+        let class = self.class.copy()?;
+        let name = self.name.copy()?;
+        let params = self.params.copy()?;
         Ok(MethodKey {
             class,
             name,
@@ -59,11 +58,11 @@ impl MethodKey {
 
 impl CtorKey {
     /// The same key once more.
-    pub fn copy(&self, alloc: Global) -> Result<CtorKey, AllocError>
+    pub fn copy(&self) -> Result<CtorKey, AllocError>
         ensures { IfOk result (λ k. ctor_key_of k ≡ ctor_key_of self.now) }
     {
-        let class = self.class.copy(alloc)?;
-        let params = self.params.copy(alloc)?;
+        let class = self.class.copy()?;
+        let params = self.params.copy()?;
         Ok(CtorKey { class, params })
     }
 }

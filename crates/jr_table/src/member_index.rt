@@ -32,7 +32,7 @@ fn place(entry: &Entry) -> Place<'_>
 fn places<'a>(alloc: Global, entries: &'a [Entry]) -> Result<Vec<Place<'a>>, AllocError>
     ensures { IfOk result (λ v. map place_of v.items ≡ map member_place entries.now) }
 {
-    let mut places = Vec::new(alloc);
+    let mut places = Vec::with_capacity(alloc, entries.len())?;
     for entry in entries {
         places.push(place(entry))?;
     }

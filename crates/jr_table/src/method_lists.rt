@@ -15,19 +15,14 @@ impl Table {
     ghost use Rattle.jr_table.specs.MethodLists.{AreMethods};
 
     /// Puts the key of a method's row behind the others.
-    fn push_method(
-        &self,
-        alloc: Global,
-        number: u32,
-        keys: &mut Vec<MethodKey>,
-    ) -> Result<(), AllocError>
+    fn push_method(&self, number: u32, keys: &mut Vec<MethodKey>) -> Result<(), AllocError>
         ensures { OnOk result (map method_key_of keys.new.items
             ≡ map method_key_of keys.old.items ++ option_to_list (method_at self.now number)) }
     {
         let Some(key) = self.method_at(number) else {
             return Ok(());
         };
-        let key = key.copy(alloc)?;
+        let key = key.copy()?;
         keys.push(key)?;
         Ok(())
     }
@@ -50,7 +45,7 @@ impl Table {
         };
         let numbers = self.methods_named(alloc, class, name.as_str())?;
         for number in &numbers {
-            self.push_method(alloc, *number, &mut keys)?;
+            self.push_method(*number, &mut keys)?;
         }
         Ok(keys)
     }

@@ -10,7 +10,6 @@ ghost use Rattle.jr_table.specs.ClassIndex.{FindsClasses};
 
 use crate::class_index::ClassIndex;
 use crate::classes::ClassKey;
-use crate::copies::copy_name;
 use crate::decls::{Decl, MemberKey};
 use crate::entries::{Entry, Kind, Kinds, Sort};
 use crate::rows::{Mods, Row};
@@ -57,9 +56,9 @@ fn name(alloc: Global, decl: &Decl) -> Result<Name, AllocError>
     ensures { IfOk result (λ n. n ≡ pure.name_of (decl_of decl.now)) }
 {
     match decl {
-        Decl::Class(key) => copy_name(alloc, &key.name),
-        Decl::Field(key) => copy_name(alloc, &key.name),
-        Decl::Method(key) => copy_name(alloc, &key.name),
+        Decl::Class(key) => key.name.copy(),
+        Decl::Field(key) => key.name.copy(),
+        Decl::Method(key) => key.name.copy(),
         Decl::Ctor(_) => Name::new(alloc, ""),
         Decl::Local(_) => Name::new(alloc, ""),
     }
@@ -112,7 +111,7 @@ pub(crate) fn kinds(
     requires found { FindsClasses (map row_of rows.now) classes.now }
     ensures { IfOk result (λ k. k ≡ map (pure.kind_of (map row_of rows.now)) (map ty_of tys.now)) }
 {
-    let mut kinds = Vec::new(alloc);
+    let mut kinds = Vec::with_capacity(alloc, tys.len())?;
     for ty in tys {
         kinds.push(kind(rows, classes, ty))?;
     }
@@ -239,7 +238,7 @@ pub(crate) fn entries(
     requires found { FindsClasses (map row_of rows.now) classes.now }
     ensures { IfOk result (λ entries. entries.items ≡ pure.entries_of (map row_of rows.now)) }
 {
-    let mut entries = Vec::new(alloc);
+    let mut entries = Vec::with_capacity(alloc, rows.len())?;
     for row in rows {
         let entry = entry(alloc, rows, classes, row)?;
         entries.push(entry)?;

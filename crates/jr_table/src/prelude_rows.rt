@@ -62,7 +62,7 @@ fn push_ctor(alloc: Global, rows: &mut Vec<Row>, name: &str) -> Result<(), Alloc
         ≡ map row_of rows.old.items ++ pure.ctor_row [] (pure.top_key name.now) ∷ []) }
 {
     let class = top_key(alloc, name)?;
-    let params = Tys::from_vec(Vec::new(alloc));
+    let params = Tys::from_vec(Vec::new(alloc))?;
     rows.push(Row {
         decl: Decl::Ctor(CtorKey { class, params }),
         modifiers: Mods::from_vec(Vec::new(alloc)),
@@ -79,7 +79,7 @@ fn thread_key(alloc: Global, name: &str) -> Result<MethodKey, AllocError>
 {
     let class = top_key(alloc, "Thread")?;
     let name = Name::new(alloc, name)?;
-    let params = Tys::from_vec(Vec::new(alloc));
+    let params = Tys::from_vec(Vec::new(alloc))?;
     Ok(MethodKey {
         class,
         name,

@@ -83,9 +83,9 @@ impl Row {
     {
         let has_init = self.has_init;
         let modifiers = self.modifiers.copy(alloc)?;
-        let parent = copy_maybe_class(alloc, &self.parent)?;
-        let ty = copy_maybe_ty(alloc, &self.ty)?;
-        let decl = self.decl.copy(alloc)?;
+        let parent = copy_maybe_class(&self.parent)?;
+        let ty = copy_maybe_ty(&self.ty)?;
+        let decl = self.decl.copy()?;
         Ok(Row {
             decl,
             modifiers,
@@ -118,20 +118,20 @@ impl PartialEq for Row {
     }
 }
 
-fn copy_maybe_class(alloc: Global, key: &Option<ClassKey>) -> Result<Option<ClassKey>, AllocError>
+fn copy_maybe_class(key: &Option<ClassKey>) -> Result<Option<ClassKey>, AllocError>
     ensures { IfOk result (λ k. option_map class_key_of k ≡ option_map class_key_of key.now) }
 {
     match key {
         None => Ok(None),
-        Some(key) => Ok(Some(key.copy(alloc)?)),
+        Some(key) => Ok(Some(key.copy()?)),
     }
 }
 
-fn copy_maybe_ty(alloc: Global, ty: &Option<Ty>) -> Result<Option<Ty>, AllocError>
+fn copy_maybe_ty(ty: &Option<Ty>) -> Result<Option<Ty>, AllocError>
     ensures { IfOk result (λ t. option_map ty_of t ≡ option_map ty_of ty.now) }
 {
     match ty {
         None => Ok(None),
-        Some(ty) => Ok(Some(ty.copy(alloc)?)),
+        Some(ty) => Ok(Some(ty.copy()?)),
     }
 }

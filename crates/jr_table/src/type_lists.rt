@@ -3,31 +3,34 @@ ghost use Rattle.std.specs.Prelude.{◌≡◌, ◌↔◌, IfOk, IsTrue, map, len
 ghost use Rattle.jr_table.specs.TypeView.{ty_of};
 
 use crate::types::Ty;
-use std::alloc::{AllocError, Global};
+use std::alloc::AllocError;
 use std::marker::Model;
+use std::rc::RcSlice;
 
-/// A list of types, as those of parameters. Contracts see the list.
+/// A list of types, as those of parameters, which its copies share. Contracts see the list.
 #[derive(Drop)]
 pub struct Tys {
-    tys: Vec<Ty>,
+    tys: RcSlice<Ty>,
 }
 
 impl Model for Tys {
     ghost use Rattle.std.specs.Prelude.{List, map};
+    ghost use Rattle.std.specs.Rc.{rc_slice_items};
     ghost use Rattle.jr_table.specs.Keys as keys;
     ghost use Rattle.jr_table.specs.TypeView.{ty_of};
 
     ghost Value = { List keys.Ty };
 
-    ghost view = { λ t. map ty_of t.tys.items };
+    ghost view = { λ t. map ty_of (rc_slice_items t.tys) };
 }
 
 impl Tys {
     /// The list of these types.
-    pub fn from_vec(tys: Vec<Ty>) -> Tys
-        ensures { result ≡ map ty_of tys.items }
+    pub fn from_vec(tys: Vec<Ty>) -> Result<Tys, AllocError>
+        ensures { IfOk result (λ t. t ≡ map ty_of tys.items) }
     {
-        Tys { tys }
+        let tys = RcSlice::from_vec(tys)?;
+        Ok(Tys { tys })
     }
 
     /// The types.
@@ -37,15 +40,11 @@ impl Tys {
         self.tys.as_slice()
     }
 
-    /// The same list once more.
-    pub fn copy(&self, alloc: Global) -> Result<Tys, AllocError>
+    /// The same list once more. The types aren't copied.
+    pub fn copy(&self) -> Result<Tys, AllocError>
         ensures { IfOk result (λ t. t ≡ self.now) }
     {
-        let mut tys = Vec::new(alloc);
-        for ty in &self.tys {
-            let ty = ty.copy(alloc)?;
-            tys.push(ty)?;
-        }
+        let tys = self.tys.clone()?;
         Ok(Tys { tys })
     }
 }
@@ -61,7 +60,7 @@ impl PartialEq for Tys {
     fn eq(&self, other: &Tys) -> bool
         ensures { IsTrue result ↔ (self.now ≡ other.now) }
     {
-        self.tys == other.tys
+        self.as_slice() == other.as_slice()
     }
 }
 

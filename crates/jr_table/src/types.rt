@@ -3,7 +3,7 @@ ghost use Rattle.std.specs.Prelude.{◌≡◌, ◌↔◌, IfOk, IsTrue};
 ghost use Rattle.jr_table.specs.TypeView.{ty_of};
 
 use crate::classes::ClassKey;
-use std::alloc::{AllocError, Global};
+use std::alloc::AllocError;
 
 /// A type (JLS 4.1), `void`, or the type of `null`.
 #[derive(Drop)]
@@ -17,7 +17,7 @@ pub enum Ty {
 
 impl Ty {
     /// The same type once more.
-    pub fn copy(&self, alloc: Global) -> Result<Ty, AllocError>
+    pub fn copy(&self) -> Result<Ty, AllocError>
         ensures { IfOk result (λ t. ty_of t ≡ ty_of self.now) }
     {
         match self {
@@ -25,7 +25,7 @@ impl Ty {
             Ty::Boolean => Ok(Ty::Boolean),
             Ty::Void => Ok(Ty::Void),
             Ty::Null => Ok(Ty::Null),
-            Ty::Class(key) => Ok(Ty::Class(key.copy(alloc)?)),
+            Ty::Class(key) => Ok(Ty::Class(key.copy()?)),
         }
     }
 }

@@ -13,7 +13,7 @@ use jr_ast::{Class, Member, MemberKind};
 use jr_members::PartRef;
 use jr_table::{ClassKey, Decl, LocalKey, MemberKey};
 use jr_text::Span;
-use std::alloc::{AllocError, Global};
+use std::alloc::AllocError;
 
 // ---- its own name
 
@@ -36,51 +36,46 @@ fn member_begins(at: u32, member: &Member<Span>) -> bool
 }
 
 /// What a member's own name declares: that of a constructor stands for its class.
-fn decl_of_member(alloc: Global, key: &MemberKey) -> Result<Decl, AllocError>
+fn decl_of_member(key: &MemberKey) -> Result<Decl, AllocError>
     ensures { IfOk result (λ d. decl_of d ≡ declared_by (member_key_of key.now)) }
 {
     match key {
-        MemberKey::Head(key) => Ok(Decl::Class(key.copy(alloc)?)),
-        MemberKey::Field(key) => Ok(Decl::Field(key.copy(alloc)?)),
-        MemberKey::Method(key) => Ok(Decl::Method(key.copy(alloc)?)),
-        MemberKey::Ctor(key) => Ok(Decl::Class(key.class.copy(alloc)?)),
+        MemberKey::Head(key) => Ok(Decl::Class(key.copy()?)),
+        MemberKey::Field(key) => Ok(Decl::Field(key.copy()?)),
+        MemberKey::Method(key) => Ok(Decl::Method(key.copy()?)),
+        MemberKey::Ctor(key) => Ok(Decl::Class(key.class.copy()?)),
     }
 }
 
-fn class_there(alloc: Global, is_there: bool, key: &ClassKey) -> Result<Option<Decl>, AllocError>
+fn class_there(is_there: bool, key: &ClassKey) -> Result<Option<Decl>, AllocError>
     ensures { IfOk result (λ o. option_map decl_of o
         ≡ (if is_there then Some (decls.class_decl (class_key_of key.now)) else None)) }
 {
     if is_there {
-        Ok(Some(Decl::Class(key.copy(alloc)?)))
+        Ok(Some(Decl::Class(key.copy()?)))
     } else {
         Ok(None)
     }
 }
 
-fn member_there(alloc: Global, is_there: bool, key: &MemberKey) -> Result<Option<Decl>, AllocError>
+fn member_there(is_there: bool, key: &MemberKey) -> Result<Option<Decl>, AllocError>
     ensures { IfOk result (λ o. option_map decl_of o
         ≡ (if is_there then Some (declared_by (member_key_of key.now)) else None)) }
 {
     if is_there {
-        Ok(Some(decl_of_member(alloc, key)?))
+        Ok(Some(decl_of_member(key)?))
     } else {
         Ok(None)
     }
 }
 
-fn own_of_class(
-    alloc: Global,
-    at: u32,
-    key: &MemberKey,
-    class: &Class<Span>,
-) -> Result<Option<Decl>, AllocError>
+fn own_of_class(at: u32, key: &MemberKey, class: &Class<Span>) -> Result<Option<Decl>, AllocError>
     ensures { IfOk result (λ o. option_map decl_of o
         ≡ pure.own_of_class at (member_key_of key.now) (class_of class.now)) }
 {
     let is_there = class_begins(at, class);
     match key {
-        MemberKey::Head(key) => class_there(alloc, is_there, key),
+        MemberKey::Head(key) => class_there(is_there, key),
         MemberKey::Field(_) => Ok(None),
         MemberKey::Method(_) => Ok(None),
         MemberKey::Ctor(_) => Ok(None),
@@ -89,7 +84,6 @@ fn own_of_class(
 
 /// What a part's own name declares, if it begins there.
 pub(crate) fn own_name(
-    alloc: Global,
     at: u32,
     key: &MemberKey,
     part: &PartRef<'_, Span>,
@@ -98,21 +92,21 @@ pub(crate) fn own_name(
         ≡ pure.own_name at (member_key_of key.now) (part_of part.now)) }
 {
     match part {
-        PartRef::Head(class) => own_of_class(alloc, at, key, class),
-        PartRef::Member(member) => member_there(alloc, member_begins(at, member), key),
+        PartRef::Head(class) => own_of_class(at, key, class),
+        PartRef::Member(member) => member_there(member_begins(at, member), key),
     }
 }
 
 // ---- the name of a parameter or local
 
-fn local_of(alloc: Global, key: &MemberKey, number: Option<u32>) -> Result<Option<Decl>, AllocError>
+fn local_of(key: &MemberKey, number: Option<u32>) -> Result<Option<Decl>, AllocError>
     ensures { IfOk result (λ o. option_map decl_of o ≡ option_map
         (λ n. decls.local_decl (record { member = member_key_of key.now; number = n })) number) }
 {
     match number {
         None => Ok(None),
         Some(number) => Ok(Some(Decl::Local(LocalKey {
-            member: key.copy(alloc)?,
+            member: key.copy()?,
             number,
         }))),
     }
@@ -120,7 +114,6 @@ fn local_of(alloc: Global, key: &MemberKey, number: Option<u32>) -> Result<Optio
 
 /// The parameter or local of a part whose name begins there.
 pub(crate) fn local_there(
-    alloc: Global,
     at: u32,
     key: &MemberKey,
     part: &PartRef<'_, Span>,
@@ -130,6 +123,6 @@ pub(crate) fn local_there(
 {
     match part {
         PartRef::Head(_) => Ok(None),
-        PartRef::Member(member) => local_of(alloc, key, in_member(at, member)?),
+        PartRef::Member(member) => local_of(key, in_member(at, member)?),
     }
 }

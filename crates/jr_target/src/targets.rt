@@ -6,14 +6,14 @@ ghost use Rattle.jr_places.specs.FileParts.{begins};
 ghost use Rattle.jr_table.specs.KeyView.{decl_of};
 ghost use Rattle.jr_bind.specs.Programs.{units_of};
 ghost use Rattle.jr_rename.specs.Targets.{Names};
-ghost use Rattle.jr_target.specs.Listed.{HasNumbered, HasListed};
+ghost use Rattle.jr_target.specs.Listed.{members_of, HasNumbered, HasListed};
 ghost use Rattle.jr_target.specs.Names.{Finds, HasInFile};
 ghost use Rattle.jr_target.specs.ProgramTargets.{HasTargetAt, LacksTargetAt};
 
 use crate::within::has_there;
 use jr_bind::View;
 use jr_lex::{items_are_placed, one_answer};
-use jr_members::{WrittenMember, members_are_written, written_members};
+use jr_members::{WrittenMember, members_are_written};
 use jr_places::parts_are_placed;
 use jr_rename::identifier_at;
 use jr_table::Decl;
@@ -22,7 +22,6 @@ use std::alloc::{AllocError, Global};
 
 /// What the written member of a number has there, if it is one of the file.
 fn has_in_file<V: View<Span>>(
-    alloc: Global,
     view: &V,
     file: u32,
     at: u32,
@@ -35,7 +34,7 @@ fn has_in_file<V: View<Span>>(
         (option_map decl_of o)) }
 {
     if written.file == file {
-        has_there(alloc, view.table(), view.bound(number), written, at)
+        has_there(view.table(), view.bound(number), written, at)
     } else {
         Ok(None)
     }
@@ -52,7 +51,6 @@ fn member_at<'m, 'a>(
 
 /// The same by the number alone.
 fn has_numbered<V: View<Span>>(
-    alloc: Global,
     view: &V,
     file: u32,
     at: u32,
@@ -65,7 +63,7 @@ fn has_numbered<V: View<Span>>(
 {
     match member_at(members, number) {
         None => Ok(None),
-        Some(written) => has_in_file(alloc, view, file, at, number, written),
+        Some(written) => has_in_file(view, file, at, number, written),
     }
 }
 
@@ -81,7 +79,7 @@ fn has_listed<V: View<Span>>(
         (HasListed (V.program view.now) members.now file at) (option_map decl_of o)) }
 {
     for number in 0..view.bound_count() {
-        let found = has_numbered(alloc, view, file, at, number, members)?;
+        let found = has_numbered(view, file, at, number, members)?;
         if found.is_some() {
             return Ok(found);
         }
@@ -94,10 +92,12 @@ fn has_listed<V: View<Span>>(
 fn decl_named<V: View<Span>>(
     alloc: Global,
     view: &V,
+    members: &[WrittenMember<'_, Span>],
     file: u32,
     at: u32,
 ) -> Result<Option<Decl>, AllocError>
-    requires { file < length (V.program view.now).files }
+    requires file { file < length (V.program view.now).files }
+    requires members { map written_of members.now ≡ members_of (V.program view.now) }
     ensures { IfOk result (λ o. Finds (V.program view.now).rows
         (Names begins (V.program view.now).rows (V.program view.now).super_at
         (units_of (V.program view.now)) file at) (option_map decl_of o)) }
@@ -105,21 +105,21 @@ fn decl_named<V: View<Span>>(
     view.keeps_program();
     members_are_written::<Span>();
     parts_are_placed();
-    let members = written_members(alloc, view.table(), view.units())?;
-    let found = has_listed(alloc, view, file, at, members.as_slice());
-    drop(members);
-    found
+    has_listed(alloc, view, file, at, members)
 }
 
 /// The declaration that the identifier at a byte of a file declares or is bound to. A constructor's
-/// name stands for its class; what is of the prelude or of the package is none.
+/// name stands for its class; what is of the prelude or of the package is none. `members` are the
+/// written members of the program.
 pub fn target<V: View<Span>>(
     alloc: Global,
     view: &V,
+    members: &[WrittenMember<'_, Span>],
     file: u32,
     at: u32,
 ) -> Result<Option<Decl>, AllocError>
-    requires { file < length (V.program view.now).files }
+    requires file { file < length (V.program view.now).files }
+    requires members { map written_of members.now ≡ members_of (V.program view.now) }
     ensures { IfOk result (λ found. MatchOption found (LacksTargetAt (V.program view.now) file at)
         (λ d. HasTargetAt (V.program view.now) file at (decl_of d))) }
 {
@@ -129,6 +129,6 @@ pub fn target<V: View<Span>>(
     let begins = identifier_at(alloc, view.text(file), at)?;
     match begins {
         None => Ok(None),
-        Some(from) => decl_named(alloc, view, file, from),
+        Some(from) => decl_named(alloc, view, members, file, from),
     }
 }

@@ -16,7 +16,7 @@ use jr_bind::Bound;
 use jr_members::{PartRef, WrittenMember};
 use jr_table::{Decl, Facts, Table};
 use jr_text::Span;
-use std::alloc::{AllocError, Global};
+use std::alloc::AllocError;
 
 fn class_byte(class: &Class<Span>) -> u32
     ensures { result ≡ (class_mark (class_of class.now)).from }
@@ -46,30 +46,29 @@ fn first_byte(part: &PartRef<'_, Span>) -> u32
 }
 
 /// What the reference at a place of a member is bound to.
-fn bound_at(alloc: Global, bound: &Bound, at: u32) -> Result<Option<Decl>, AllocError>
+fn bound_at(bound: &Bound, at: u32) -> Result<Option<Decl>, AllocError>
     ensures { IfOk result (λ o. option_map decl_of o ≡ decl_in bound.now.references at) }
 {
     match bound.decl(at) {
         None => Ok(None),
-        Some(decl) => Ok(Some(decl.copy(alloc)?)),
+        Some(decl) => Ok(Some(decl.copy()?)),
     }
 }
 
 /// The same of a byte of the file, where the member begins at `from`.
-fn bound_there(alloc: Global, bound: &Bound, at: u32, from: u32) -> Result<Option<Decl>, AllocError>
+fn bound_there(bound: &Bound, at: u32, from: u32) -> Result<Option<Decl>, AllocError>
     ensures { IfOk result (λ o. option_map decl_of o
         ≡ pure.bound_there at from bound.now.references) }
 {
     if at < from {
         Ok(None)
     } else {
-        bound_at(alloc, bound, at - from)
+        bound_at(bound, at - from)
     }
 }
 
 /// The parameter or local whose name begins there, or what a reference there is bound to.
 fn has_within(
-    alloc: Global,
     table: &Table,
     bound: &Bound,
     written: &WrittenMember<'_, Span>,
@@ -79,10 +78,10 @@ fn has_within(
         (option_map decl_of o)) }
 {
     table.keeps_rows();
-    match local_there(alloc, at, &written.key, &written.part)? {
+    match local_there(at, &written.key, &written.part)? {
         Some(decl) => Ok(Some(decl)),
         None => {
-            let found = bound_there(alloc, bound, at, first_byte(&written.part))?;
+            let found = bound_there(bound, at, first_byte(&written.part))?;
             Ok(foreign_found(table, found))
         }
     }
@@ -90,7 +89,6 @@ fn has_within(
 
 /// What a written member declares there, or what a reference there is bound to.
 pub(crate) fn has_there(
-    alloc: Global,
     table: &Table,
     bound: &Bound,
     written: &WrittenMember<'_, Span>,
@@ -99,9 +97,9 @@ pub(crate) fn has_there(
     ensures { IfOk result (λ o. Finds table.now (HasThere at (written_of written.now) bound.now)
         (option_map decl_of o)) }
 {
-    let own = own_name(alloc, at, &written.key, &written.part)?;
+    let own = own_name(at, &written.key, &written.part)?;
     match foreign_found(table, own) {
         Some(decl) => Ok(Some(decl)),
-        None => has_within(alloc, table, bound, written, at),
+        None => has_within(table, bound, written, at),
     }
 }

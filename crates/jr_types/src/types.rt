@@ -115,6 +115,9 @@ fn find<'a>(slots: &'a [Slot], end: usize, steps: &[u32]) -> Option<&'a Ty>
     last_type(slots, here)
 }
 
+/// Most members have no more slots.
+const FEW_SLOTS: usize = 8;
+
 impl Types {
     ghost use Rattle.std.specs.Prelude.{◌≡◌, ◌≤◌, ◌-◌, ◌++◌, ◌∷◌, [], suc, length, IfOk};
 
@@ -145,6 +148,9 @@ impl Types {
         } ∷ []) }
     {
         let size = self.slots.len() - before + 1;
+        if self.slots.is_empty() {
+            self.slots.reserve(FEW_SLOTS)?;
+        }
         self.slots.push(Slot {
             size,
             count: parts,

@@ -1,30 +1,26 @@
-use Rattle.std.proofs.Common.{refl, sym, subst}
-use Rattle.std.specs.Prelude.{MatchOption}
-use Rattle.std.proofs.lemmas.Result.{IfOk-weaker}
-use Rattle.jr_table.specs.KeyView.{decl_of}
-use Rattle.jr_names.specs.ReplyView.{outcome_of}
-use Rattle.jr_rename.specs.Renames as renames
-use Rattle.jr_target.specs.ProgramTargets.{HasTargetAt, LacksTargetAt}
-use Rattle.jr_rename_plan.specs.Answers.{Answers}
-use Rattle.jr_rename_plan.specs.Plans.{Plans}
-use Rattle.jr_rename_plan.proofs.Answering.{there, plans}
+use Rattle.std.proofs.Common.{◌≡◌, ℕ, ◌<◌, ◌^◌, List, length, map, sym, ap, subst, ◌∙◌}
+use Rattle.std.proofs.lemmas.List.{length-map}
+use Rattle.jr_text.specs.declared.spans.Span.{Span}
+use Rattle.jr_ast.specs.MemberTree as syntax
+use Rattle.jr_ast.specs.View.{unit_of}
+use Rattle.jr_members.specs.Fitting.{UnitsFit}
+use Rattle.jr_members.specs.PartView.{written_of}
+use Rattle.jr_members.specs.WrittenMembers.{written_members}
+use Rattle.jr_bind.specs.Programs.{File, units_of}
+use Rattle.jr_places.specs.FileParts.{begins}
 use Rattle.jr_rename_plan.proofs.plans.plan_at.Goals as goal
 
-pub of_target-outcome-requires-clause-own : goal.of_target-outcome-requires-clause-own
-of_target-outcome-requires-clause-own g c =
+pub written_members-requires-clause-few : goal.written_members-requires-clause-few
+written_members-requires-clause-few g c =
     let p = g.V.View.program c.args.view.now in
-    let has = subst (λ o. MatchOption o (LacksTargetAt p c.args.file c.args.at) (λ d. HasTargetAt p c.args.file c.args.at (decl_of d))) c.in-Some.is c.in_ok-target.ensures in
-    let f = there p.files c.args.file c.requires.file in (has f.0 f.1).own
+    let files : length (units_of p) ≡ length p.files = length-map p.files (λ (f : File Span). f.unit) in
+    let units : length (map unit_of c.units.result.now) ≡ length c.units.result.now = length-map c.units.result.now unit_of in
+    subst (λ (n : ℕ). n < 2 ^ 32) (sym files ∙ sym (ap length c.units.ensures) ∙ units) c.keeps_program.ensures.few
 
-pub returns-in-None : goal.returns-in-None
-returns-in-None g c =
-    let p = g.V.View.program c.args.view.now in
-    let lacks = subst (λ o. MatchOption o (LacksTargetAt p c.args.file c.args.at) (λ d. HasTargetAt p c.args.file c.args.at (decl_of d))) c.in-None.is c.in_ok-target.ensures in
-    IfOk-weaker c.no_target.result _ (λ o. Plans p c.args.file c.args.at c.args.new.now (outcome_of o)) (λ o e. subst (Plans p c.args.file c.args.at c.args.new.now) (sym e) (λ f s. renames.no_target (lacks f s, refl))) c.no_target.ensures
+pub written_members-requires-clause-fits : goal.written_members-requires-clause-fits
+written_members-requires-clause-fits g c = subst (λ (us : List (syntax.Unit Span)). UnitsFit begins (λ m b. Unit {0}) us) (sym c.units.ensures) c.keeps_program.ensures.heads_fit
 
-pub returns-in-Some : goal.returns-in-Some
-returns-in-Some g c =
+pub plan_among-outcome-requires-clause-members : goal.plan_among-outcome-requires-clause-members
+plan_among-outcome-requires-clause-members g c =
     let p = g.V.View.program c.args.view.now in
-    let has = subst (λ o. MatchOption o (LacksTargetAt p c.args.file c.args.at) (λ d. HasTargetAt p c.args.file c.args.at (decl_of d))) c.in-Some.is c.in_ok-target.ensures in
-    IfOk-weaker c.of_target-outcome.result (λ o. Answers p (decl_of c.in-Some.target) c.args.new.now (outcome_of o)) (λ o. Plans p c.args.file c.args.at c.args.new.now (outcome_of o))
-    (λ o h. plans p c.args.file c.args.at c.args.new.now (decl_of c.in-Some.target) has (outcome_of o) h) c.of_target-outcome.ensures
+    ap (map written_of) c.as_slice.ensures.value ∙ c.in_ok-members.ensures ∙ (λ i. written_members begins (c.table.ensures i) (c.units.ensures i))

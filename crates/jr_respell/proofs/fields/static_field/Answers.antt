@@ -19,4 +19,4 @@ returns c =
     let x = context_of s in
     let k = class_key_of c.args.class.now in
     IfOk-weaker c.chosen.result _ _ (λ o h. of_kind rows g x c.args.at c.args.name.now field_decl (field_on k) (field_through c.args.leads (class_to g k)) [] [] field_decls (λ k. refl) (option_map choice_of o)
-    (asked_so rows g x c.args.at c.args.name.now (field_on k) _ [] _ (field_through c.args.leads (class_to g k)) _ [] c.no_types-none.ensures (λ i. field_through c.args.leads (c.in_ok-on.ensures i)) c.no_types-none.ensures (option_map choice_of o) h)) c.chosen.ensures
+    (asked_so rows g x c.args.at c.args.name.now (field_on k) _ [] _ (field_through c.args.leads (class_to g k)) _ [] c.in_ok-none.ensures (λ i. field_through c.args.leads (c.in_ok-on.ensures i)) c.in_ok-none.ensures (option_map choice_of o) h)) c.chosen.ensures

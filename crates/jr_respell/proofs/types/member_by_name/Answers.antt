@@ -35,4 +35,4 @@ returns c =
     (moved s c.requires.kept (λ rs p. IsTrue leads ↔ FindsTypeNamed rs p m.name (one (class_decl m))) c.is_type-leads.ensures) in
     IfOk-weaker c.chosen.result _ _ (λ o h. behind rows g x at old outer k leads c.requires.finds lead same (option_map choice_of o)
     (of_kind rows g x at old class_decl (type_behind outer true) to [] [] class_decls (λ k. refl) (option_map choice_of o)
-    (asked_so rows g x at old (type_behind outer true) _ [] _ to _ [] c.no_types-none.ensures (ap (λ (k : ClassKey). type_behind k.name leads) c.in_ok-image.ensures) c.no_types-none.ensures (option_map choice_of o) h))) c.chosen.ensures
+    (asked_so rows g x at old (type_behind outer true) _ [] _ to _ [] c.in_ok-none.ensures (ap (λ (k : ClassKey). type_behind k.name leads) c.in_ok-image.ensures) c.in_ok-none.ensures (option_map choice_of o) h))) c.chosen.ensures

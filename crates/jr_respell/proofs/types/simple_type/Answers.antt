@@ -16,4 +16,4 @@ returns c =
     let g = naming_of s in
     let x = context_of s in
     IfOk-weaker c.chosen.result _ _ (λ o h. of_kind rows g x c.args.at c.args.name.now class_decl type_named type_named [] [] class_decls (λ k. refl) (option_map choice_of o)
-    (asked_so rows g x c.args.at c.args.name.now type_named _ [] _ type_named _ [] c.no_types-none.ensures refl c.no_types-none.ensures (option_map choice_of o) h)) c.chosen.ensures
+    (asked_so rows g x c.args.at c.args.name.now type_named _ [] _ type_named _ [] c.in_ok-none.ensures refl c.in_ok-none.ensures (option_map choice_of o) h)) c.chosen.ensures

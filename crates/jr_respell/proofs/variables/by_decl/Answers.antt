@@ -18,7 +18,7 @@ returns-then-is_local c =
     let d = decl_of c.args.decl.now in
     let each = (c.lookups_are_exact.ensures.one rows c.keeps_rows.ensures).variable (scope_of x) c.args.name.now in
     IfOk-weaker c.chosen_for.result _ _ (λ o h. a_local rows (naming_of s) x c.args.at c.args.name.now each d c.requires.finds (sym c.is_local.ensures ∙ c.if-is_local.true) (option_map choice_of o)
-    (subst (λ (ts : List Ty). IsChosenFor rows (naming_of s) x local ts c.args.at c.args.name.now d (option_map choice_of o)) c.no_types-none.ensures h)) c.chosen_for.ensures
+    (subst (λ (ts : List Ty). IsChosenFor rows (naming_of s) x local ts c.args.at c.args.name.now d (option_map choice_of o)) c.in_ok-none.ensures h)) c.chosen_for.ensures
 
 pub returns : goal.returns
 returns c =
@@ -28,4 +28,4 @@ returns c =
     let d = decl_of c.args.decl.now in
     let each = (c.lookups_are_exact.ensures.one rows c.keeps_rows.ensures).variable (scope_of x) c.args.name.now in
     IfOk-weaker c.chosen_for-else-is_local.result _ _ (λ o h. no_local rows (naming_of s) x c.args.at c.args.name.now each d c.requires.finds (sym c.is_local.ensures ∙ c.if-is_local.false) (option_map choice_of o)
-    (subst (λ (ts : List Ty). IsChosenFor rows (naming_of s) x own_field ts c.args.at c.args.name.now d (option_map choice_of o)) c.no_types-none.ensures h)) c.chosen_for-else-is_local.ensures
+    (subst (λ (ts : List Ty). IsChosenFor rows (naming_of s) x own_field ts c.args.at c.args.name.now d (option_map choice_of o)) c.in_ok-none.ensures h)) c.chosen_for-else-is_local.ensures
