@@ -13,6 +13,7 @@ use jr_names::{DepPair, EditLists, Outcome, Refusal, Renaming};
 use jr_rename_plan::plan_at;
 use jr_sources::{Analysis, Readings, SourceFault, Sources, Whole, first_error, keep_analysis};
 use jr_steps::Steps;
+use jr_table::Table;
 use std::alloc::{AllocError, Global};
 use std::sync::ledger::Ledger;
 
@@ -50,7 +51,8 @@ fn of_outcome(outcome: Outcome) -> Planned
     }
 }
 
-// The plan over analysed sources of which no member breaks a rule.
+// The plan over analysed sources of which no member breaks a rule. To `after` goes the table of the
+// new program, where one is made.
 fn sound(
     alloc: Global,
     sources: &Sources,
@@ -59,6 +61,7 @@ fn sound(
     number: u32,
     at: u32,
     new: &Name,
+    after: &mut Option<Table>,
 ) -> Result<Planned, AllocError>
     requires readings { AreReadings (texts_of sources.now) readings.now }
     requires analysis { IsAnalysis sources.now analysis.now }
@@ -68,7 +71,7 @@ fn sound(
     ensures { IfOk result (IsPlannedSo sources.now number at new.now) }
 {
     let whole = Whole::new(sources, readings, analysis);
-    let outcome = plan_at(alloc, &whole, number, at, new)?;
+    let outcome = plan_at(alloc, &whole, number, at, new, after)?;
     Ok(of_outcome(outcome))
 }
 
@@ -81,6 +84,7 @@ fn plan_analysed(
     number: u32,
     at: u32,
     new: &Name,
+    after: &mut Option<Table>,
 ) -> Result<Planned, AllocError>
     requires readings { AreReadings (texts_of sources.now) readings.now }
     requires kept { IsKeptAnalysis sources.now kept.now }
@@ -93,13 +97,13 @@ fn plan_analysed(
         None => unreachable!(),
         Some(analysis) => match first_error(sources, analysis) {
             Some(fault) => Ok(Planned::Wrong(fault)),
-            None => sound(alloc, sources, readings, analysis, number, at, new),
+            None => sound(alloc, sources, readings, analysis, number, at, new, after),
         },
     }
 }
 
 /// What a rename of what is named at the byte of a file does to sources, which are analysed first,
-/// if they aren't yet.
+/// if they aren't yet. To `after` goes the table of the new program, where one is made.
 pub(crate) fn plan_rename<L: Ledger>(
     alloc: Global,
     sources: &Sources,
@@ -108,6 +112,7 @@ pub(crate) fn plan_rename<L: Ledger>(
     number: u32,
     at: u32,
     new: &Name,
+    after: &mut Option<Table>,
     steps: &mut Steps<L>,
 ) -> Result<Planned, AllocError>
     requires valid { AreSources sources.now }
@@ -119,9 +124,9 @@ pub(crate) fn plan_rename<L: Ledger>(
     ensures planned { IfOk result (IsPlannedSo sources.now number at new.now) }
     ensures cost { CostsBinding sources.now steps.old steps.new }
 {
-    let found = keep_analysis(alloc, sources, readings, kept, steps)?;
+    let found = keep_analysis(alloc, sources, readings, kept, None, steps)?;
     match found {
         Some(fault) => Ok(Planned::Wrong(fault)),
-        None => plan_analysed(alloc, sources, readings, kept, number, at, new),
+        None => plan_analysed(alloc, sources, readings, kept, number, at, new, after),
     }
 }

@@ -16,6 +16,7 @@ use jr_ast::Name;
 use jr_names::{EditLists, Names, Refusal, Reply};
 use jr_sources::{SourceFault, text_has_one_reading};
 use jr_steps::Steps;
+use jr_table::Table;
 use jr_text::Place;
 use std::alloc::{AllocError, Global};
 use std::sync::ledger::Ledger;
@@ -42,6 +43,7 @@ impl Session {
         changes: Vec<Change>,
         names: Vec<Name>,
         respelled: u32,
+        known: &mut Option<Table>,
         steps: &mut Steps<L>,
     ) -> Result<Reply, AllocError>
         requires { AreOfFiles (length self.old.files) changes.items }
@@ -53,7 +55,14 @@ impl Session {
     {
         text_has_one_reading();
         self.undo.reserve(1)?;
-        match try_texts(alloc, &mut self.sources, &mut self.readings, changes, steps)? {
+        match try_texts(
+            alloc,
+            &mut self.sources,
+            &mut self.readings,
+            changes,
+            known,
+            steps,
+        )? {
             Tried::Wrong(fault) => would_not_compile(alloc, fault),
             Tried::Sound { analysis, had } => {
                 sources_are_program(&self.sources, &self.readings, &analysis);
@@ -71,12 +80,15 @@ impl Session {
     /// The edits of each file are made, unless a text would be too long, or something is wrong with
     /// the sources that have the new texts.
     ///
+    /// `known` may be the table of the sources that have the new texts.
+    ///
     /// Want of memory leaves the session as it was, and so does a refusal.
     pub(crate) fn refactor<L: Ledger>(
         &mut self,
         alloc: Global,
         edits: &EditLists,
         respelled: u32,
+        known: &mut Option<Table>,
         steps: &mut Steps<L>,
     ) -> Result<Reply, AllocError>
         requires { Fit self.old.files edits.now }
@@ -88,7 +100,7 @@ impl Session {
         match new_texts(alloc, &self.sources, edits.as_slice())? {
             Made::TooLong { len } => Ok(Reply::Refused(Refusal::TooLong { len })),
             Made::Changes { changes, names } => {
-                self.change_all(alloc, changes, names, respelled, steps)
+                self.change_all(alloc, changes, names, respelled, known, steps)
             }
         }
     }

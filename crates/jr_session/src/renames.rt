@@ -15,8 +15,12 @@ use jr_names::Reply;
 use jr_renamed::plans_keep_programs;
 use jr_sources::{refusal_of_request, text_has_one_reading};
 use jr_steps::Steps;
+use jr_table::Table;
 use std::alloc::{AllocError, Global};
 use std::sync::ledger::Ledger;
+
+// Lets go a table that isn't taken.
+fn forget(_table: Option<Table>) {}
 
 impl Session {
     /// What the identifier at the byte of the file declares or is bound to gets the name, wherever
@@ -62,6 +66,29 @@ impl Session {
         ensures err { OnErr result (self.new ≡ self.old) }
         ensures work { IsWithinWork self.old (Rename file.now at new.now) steps.old steps.new }
     {
+        let mut after = None;
+        let reply = self.rename_by(alloc, file, number, at, new, &mut after, steps);
+        forget(after);
+        reply
+    }
+
+    // The same. To `after` goes the table that the plan makes, which the new sources' is, if any.
+    fn rename_by<L: Ledger>(
+        &mut self,
+        alloc: Global,
+        file: &Name,
+        number: u32,
+        at: u32,
+        new: &Name,
+        after: &mut Option<Table>,
+        steps: &mut Steps<L>,
+    ) -> Result<Reply, AllocError>
+        requires { AsksFor self.old file.now at new.now number }
+        ensures step { IfOk result (λ reply. pure.Steps self.old (Rename file.now at new.now)
+            (reply_of reply) self.new) }
+        ensures err { OnErr result (self.new ≡ self.old) }
+        ensures work { IsWithinWork self.old (Rename file.now at new.now) steps.old steps.new }
+    {
         text_has_one_reading();
         plans_keep_programs();
         let _count = self.sources.count();
@@ -73,13 +100,14 @@ impl Session {
             number,
             at,
             new,
+            after,
             steps,
         )?;
         match planned {
             Planned::Wrong(fault) => source_error(alloc, &self.sources, fault),
             Planned::Refused(refusal) => Ok(Reply::Refused(refusal)),
             Planned::Edits { edits, respelled } => {
-                self.refactor(alloc, &edits, respelled, steps)
+                self.refactor(alloc, &edits, respelled, after, steps)
             }
         }
     }

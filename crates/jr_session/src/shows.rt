@@ -112,6 +112,7 @@ impl Session {
             &self.sources,
             &self.readings,
             &mut self.analysed,
+            None,
             steps,
         )?;
         if let Some(fault) = found {

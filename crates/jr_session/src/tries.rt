@@ -12,6 +12,7 @@ use crate::changes::Change;
 use crate::turns::{exchange_all, readings_of};
 use jr_sources::{Analysis, Readings, SourceFault, Sources, Whole, first_error, keep_analysis};
 use jr_steps::Steps;
+use jr_table::Table;
 use std::alloc::{AllocError, Global};
 use std::sync::ledger::Ledger;
 
@@ -74,6 +75,7 @@ fn judge<L: Ledger>(
     alloc: Global,
     sources: &Sources,
     readings: &Readings,
+    known: &mut Option<Table>,
     steps: &mut Steps<L>,
 ) -> Result<Judged, AllocError>
     requires { AreReadings (texts_of sources.now) readings.now }
@@ -82,7 +84,7 @@ fn judge<L: Ledger>(
 {
     let _count = sources.count();
     let mut kept = None;
-    match keep_analysis(alloc, sources, readings, &mut kept, steps) {
+    match keep_analysis(alloc, sources, readings, &mut kept, known.take(), steps) {
         Ok(None) => Ok(judge_analysed(sources, kept)),
         Ok(Some(fault)) => {
             forget(kept);
@@ -98,11 +100,14 @@ fn judge<L: Ledger>(
 /// Gives files other texts, and what these read as, unless something is wrong with the sources that
 /// have them: then the old texts and readings are there again, and so they are where memory is
 /// wanted. The texts that stay are not read again.
+///
+/// `known` may be the table of the sources that have the new texts, so that no other is made.
 pub(crate) fn try_texts<L: Ledger>(
     alloc: Global,
     sources: &mut Sources,
     readings: &mut Readings,
     changes: Vec<Change>,
+    known: &mut Option<Table>,
     steps: &mut Steps<L>,
 ) -> Result<Tried, AllocError>
     requires files { AreOfFiles (length sources.old) changes.items }
@@ -119,7 +124,7 @@ pub(crate) fn try_texts<L: Ledger>(
     let mut spare = Vec::with_capacity(alloc, changes.len())?;
     let mut rest = Vec::with_capacity(alloc, changes.len())?;
     exchange_all(sources, readings, &mut had, &mut were, changes, with);
-    match judge(alloc, sources, readings, steps) {
+    match judge(alloc, sources, readings, known, steps) {
         Ok(Judged::Sound(analysis)) => Ok(Tried::Sound { analysis, had }),
         Ok(Judged::Wrong(fault)) => {
             exchange_all(sources, readings, &mut spare, &mut rest, had, were);

@@ -14,7 +14,7 @@ use Rattle.jr_session.proofs.EditLaws.{name_of_file}
 use Rattle.jr_session.proofs.RenameSteps.{the_rename, fit_planned, analysed_work, wrong_step, refused_step, refactored_step, refactored_work}
 use Rattle.jr_session.proofs.SessionSteps.{number_within}
 use Rattle.jr_session.proofs.StateLaws.{state_of}
-use Rattle.jr_session.proofs.sessions.Session.rename_asked.Goals as goal
+use Rattle.jr_session.proofs.sessions.Session.rename_by.Goals as goal
 
 pub returns-in_err-planned-clause-work : goal.returns-in_err-planned-clause-work
 returns-in_err-planned-clause-work g c = subst (λ (s : State). IsWithinWork s (the_rename c.args.file.now c.args.at c.args.new.now) c.args.steps.now c.plan_rename.new.steps) c.self.view_is
