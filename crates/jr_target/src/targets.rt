@@ -69,7 +69,6 @@ fn has_numbered<V: View<Span>>(
 
 /// What one of the written members has there.
 fn has_listed<V: View<Span>>(
-    alloc: Global,
     view: &V,
     file: u32,
     at: u32,
@@ -90,7 +89,6 @@ fn has_listed<V: View<Span>>(
 
 /// What the word that begins at a byte of a file declares or is bound to.
 fn decl_named<V: View<Span>>(
-    alloc: Global,
     view: &V,
     members: &[WrittenMember<'_, Span>],
     file: u32,
@@ -105,7 +103,7 @@ fn decl_named<V: View<Span>>(
     view.keeps_program();
     members_are_written::<Span>();
     parts_are_placed();
-    has_listed(alloc, view, file, at, members)
+    has_listed(view, file, at, members)
 }
 
 /// The declaration that the identifier at a byte of a file declares or is bound to. A constructor's
@@ -129,6 +127,6 @@ pub fn target<V: View<Span>>(
     let begins = identifier_at(alloc, view.text(file), at)?;
     match begins {
         None => Ok(None),
-        Some(from) => decl_named(alloc, view, members, file, from),
+        Some(from) => decl_named(view, members, file, from),
     }
 }
