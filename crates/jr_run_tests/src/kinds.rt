@@ -48,6 +48,17 @@ pub(crate) const ROWS: &'static str = "
 ~rename 0 18 run@class A{int m(int wait){return wait;}} => Done | \
     [{\"files\":[\"A.java\"],\"reply\":\"refactored\",\"respelled\":0}] | \
     class A{int m(int run){return run;}}
+~# Nine locals and more: those that a block takes with it come again behind it.
+~rename 0 18 z@class A{int m(int a,int b,int c,int d,int e,int f,int g){int h=a;{int i=b;int \
+    j=h;h=i+j+a;}int i=c;{int j=i;h=j+a;}return a+i+h;}} => Done | \
+    [{\"files\":[\"A.java\"],\"reply\":\"refactored\",\"respelled\":0}] | \
+    class A{int m(int z,int b,int c,int d,int e,int f,int g){int h=z;{int i=b;int \
+    j=h;h=i+j+z;}int i=c;{int j=i;h=j+z;}return z+i+h;}}
+~rename 0 95 n@class A{int m(int a,int b,int c,int d,int e,int f,int g){int h=a;{int i=b;int \
+    j=h;h=i+j+a;}int i=c;{int j=i;h=j+a;}return a+i+h;}} => Done | \
+    [{\"files\":[\"A.java\"],\"reply\":\"refactored\",\"respelled\":0}] | \
+    class A{int m(int a,int b,int c,int d,int e,int f,int g){int h=a;{int i=b;int \
+    j=h;h=i+j+a;}int n=c;{int j=n;h=j+a;}return a+n+h;}}
 ~# Of fields.
 ~rename 0 12 z@class A{int x;}class B extends A{int x;int y(){return x+super.x+((A)this).x;}} => \
     Done | [{\"files\":[\"A.java\"],\"reply\":\"refactored\",\"respelled\":0}] | \

@@ -75,6 +75,6 @@ fn rows_are_answered(rt: HostRuntime) {
     assert_rows(&rt, alloc, renaming::ROWS, 6);
     assert_rows(&rt, alloc, renaming::THREE, 8);
     assert_rows(&rt, alloc, renaming::BACK, 2);
-    assert_rows(&rt, alloc, kinds::ROWS, 64);
+    assert_rows(&rt, alloc, kinds::ROWS, 66);
     assert_rows(&rt, alloc, endings::ROWS, 11);
 }
