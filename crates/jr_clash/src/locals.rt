@@ -1,7 +1,6 @@
 //! The local or parameter with which one collides that gets a name.
-ghost use Rattle.std.specs.Prelude.{◌≡◌, ◌<◌, ◌^◌, Contains, length, map, IfOk, MatchOption};
+ghost use Rattle.std.specs.Prelude.{◌≡◌, Contains, map, IfOk, MatchOption};
 ghost use Rattle.std.specs.Prelude.{option_map};
-ghost use Rattle.jr_ast.specs.View.{unit_of};
 ghost use Rattle.jr_members.specs.Fitting.{begins_by};
 ghost use Rattle.jr_members.specs.PartView.{part_of, written_of};
 ghost use Rattle.jr_table.specs.Decls as decls;

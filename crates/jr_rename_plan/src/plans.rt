@@ -30,6 +30,17 @@ fn no_target(alloc: Global, file: u32, at: u32) -> Result<Outcome, AllocError>
     }))
 }
 
+/// The written members of the program.
+fn all_members<'a, V: View<Span>>(
+    alloc: Global,
+    view: &'a V,
+) -> Result<Vec<WrittenMember<'a, Span>>, AllocError>
+    ensures { IfOk result (λ v. map written_of v.items ≡ members_of (V.program view.now)) }
+{
+    view.keeps_program();
+    written_members(alloc, view.table(), view.units())
+}
+
 /// What a rename at a byte of a file does, by the written members of the program.
 fn plan_among<V: View<Span>>(
     alloc: Global,
@@ -78,8 +89,7 @@ pub fn plan_at<V: View<Span>>(
     requires name { IsName new.now }
     ensures { IfOk result (λ o. Plans (V.program view.now) file at new.now (outcome_of o)) }
 {
-    view.keeps_program();
-    let members = written_members(alloc, view.table(), view.units())?;
+    let members = all_members(alloc, view)?;
     let outcome = plan_among(alloc, view, members.as_slice(), file, at, new, after);
     drop(members);
     outcome
