@@ -40,17 +40,28 @@ fn words_of(rt: &impl Abort, alloc: Global, units: &[Unit<Span>]) -> Vec<u32>
     vec![in alloc; 0; units.len()].expect(rt, "memory")
 }
 
+/// The table of the program whose files have these texts, which `@` parts, or its first fault,
+/// where this table is known already.
+pub(crate) fn build_beside(
+    rt: &impl Abort,
+    alloc: Global,
+    texts: &str,
+    known: &mut Option<Table>,
+) -> Result<Table, BuildFault> {
+    let units = units_in(rt, alloc, texts);
+    let words = words_of(rt, alloc, &units);
+    assert!(rt; units.len() < 1000);
+    build(alloc, &units, &words, known)
+}
+
 /// The table of the program whose files have these texts, which `@` parts, or its first fault.
 pub(crate) fn build_texts(
     rt: &impl Abort,
     alloc: Global,
     texts: &str,
 ) -> Result<Table, BuildFault> {
-    let units = units_in(rt, alloc, texts);
-    let words = words_of(rt, alloc, &units);
-    assert!(rt; units.len() < 1000);
     let mut known = None;
-    build(alloc, &units, &words, &mut known)
+    build_beside(rt, alloc, texts, &mut known)
 }
 
 /// The table of a program without faults.

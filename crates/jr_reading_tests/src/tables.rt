@@ -1,5 +1,5 @@
 //! Members, overriding and dispatch in one small program.
-use crate::building::table_of;
+use crate::building::{build_beside, table_of};
 use crate::keys::{class_key, ctor_key, method_key, name_of, ty};
 use crate::rows::cut_at;
 use jr_names::{field_text, method_text};
@@ -170,4 +170,22 @@ fn assert_copied(rt: &impl Abort, alloc: Global) {
 #[test]
 fn copies_are_equal(rt: HostRuntime) {
     assert_copied(&rt, rt.alloc());
+}
+
+/// Asserts that the program's table has its rows, where the table of another's is known.
+fn assert_built_beside(rt: &impl Abort, alloc: Global, known: &str) {
+    let expected = table_of(rt, alloc, PROGRAM);
+    let mut known = Some(table_of(rt, alloc, known));
+    let table = build_beside(rt, alloc, PROGRAM, &mut known).expect(rt, "a program without faults");
+    assert!(rt; table.has_rows(expected.rows()));
+}
+
+#[test]
+fn known_tables_are_taken_by_their_rows(rt: HostRuntime) {
+    let alloc = rt.alloc();
+    assert_built_beside(&rt, alloc, PROGRAM);
+    assert_built_beside(&rt, alloc, "class A { int f; }");
+    let table = table_of(&rt, alloc, PROGRAM);
+    let other = table_of(&rt, alloc, "class A { int f; }@class B extends A {}");
+    assert!(rt; !table.has_rows(other.rows()));
 }
