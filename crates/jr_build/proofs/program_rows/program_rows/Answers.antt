@@ -1,4 +1,5 @@
-use Rattle.std.proofs.Common.{◌≡◌, ◌++◌, map, ap, refl}
+use Rattle.std.proofs.Common.{◌≡◌, ◌++◌, ◌∙◌, map, ap, refl}
+use Rattle.jr_table.specs.RowView.{row_of}
 use Rattle.jr_build.specs.ExactRows.{rows_of_item, rows_of_sites}
 use Rattle.jr_build.specs.HierarchyView.{hierarchy_of}
 use Rattle.jr_build.specs.SiteView.{site_of, item_of}
@@ -6,7 +7,8 @@ use Rattle.jr_build.proofs.SiteLists as lists
 use Rattle.jr_build.proofs.program_rows.program_rows.Goals as goal
 
 pub loop-site-init : goal.loop-site-init
-loop-site-init c = ap (λ rows. rows ++ rows_of_sites (hierarchy_of c.args.h.now) (map site_of c.args.sites.now)) c.in_ok-rows.ensures
+loop-site-init c = ap (λ rows. rows ++ rows_of_sites (hierarchy_of c.args.h.now) (map site_of c.args.sites.now))
+    (ap (map row_of) c.reserve.ensures.items ∙ c.in_ok-rows.ensures)
 
 pub loop-site-preserved : goal.loop-site-preserved
 loop-site-preserved c =
