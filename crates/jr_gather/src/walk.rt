@@ -208,18 +208,8 @@ pub fn operand<A: Mark>(
     ensures { IfOk result (λ _. gives.ExpGathers A.span_from here.now value at
         (expr_of part.now) (gathered out.old) (gathered out.new)) }
 {
-    match &part.kind {
-        // What these are bound to doesn't hang on where they stand, so that no path is made.
-        ExprKind::Int(_) => Ok(()),
-        ExprKind::Simple(name) => {
-            let span = part.mark.span(at);
-            simple(alloc, here, Role::Value, span.from, name, out)
-        }
-        _ => {
-            let inner = below(alloc, path, step)?;
-            expr(alloc, here, Role::Value, &inner, at, part, out)
-        }
-    }
+    let inner = below(alloc, path, step)?;
+    expr(alloc, here, Role::Value, &inner, at, part, out)
 }
 
 /// Two operands.

@@ -10,7 +10,7 @@ returns-in-None g c =
     are_types c.args.here.now (context_of c.args.here.now) c.args.path.now.steps.items c.args.parts.now c.args.first c.requires.types _
     (ap (option_map (λ v. types_of v.items)) (sym c.in-None.is) ∙ c.in_ok-types.ensures)
 
-pub returns-in-Some : goal.returns-in-Some
-returns-in-Some g c =
+pub returns-in_ok-from_vec-in-Some : goal.returns-in_ok-from_vec-in-Some
+returns-in_ok-from_vec-in-Some g c =
     are_types c.args.here.now (context_of c.args.here.now) c.args.path.now.steps.items c.args.parts.now c.args.first c.requires.types _
-    (ap Some c.from_vec.ensures ∙ ap (option_map (λ v. types_of v.items)) (sym c.in-Some.is) ∙ c.in_ok-types.ensures)
+    (ap Some c.in_ok-from_vec-in-Some.ensures ∙ ap (option_map (λ v. types_of v.items)) (sym c.in-Some.is) ∙ c.in_ok-types.ensures)
