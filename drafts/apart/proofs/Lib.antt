@@ -1,0 +1,4 @@
+pub mod Keeping
+pub mod KeptMembers
+pub mod KeptFindings
+pub mod Staying
