@@ -6,8 +6,8 @@ use Rattle.jr_table.specs.declared.entries.Entry.{Entry}
 use Rattle.jr_table.specs.Firsts.{first_that}
 use Rattle.jr_table.specs.Chains.{parent_of, outer_of, above, climb, chain_of}
 
--- what a change of entries leaves as it is, and that it neither gives nor takes a name
-pub record Keeps (name : List ℕ) (h : Entry → Entry) : Type 0 where
+-- what a change of entries leaves as it is: all but the names
+pub record Keeps (h : Entry → Entry) : Type 0 where
   pub sort : (e : Entry) → (h e).sort ≡ e.sort
   pub class : (e : Entry) → (h e).class ≡ e.class
   pub params : (e : Entry) → (h e).params ≡ e.params
@@ -15,7 +15,10 @@ pub record Keeps (name : List ℕ) (h : Entry → Entry) : Type 0 where
   pub outer : (e : Entry) → (h e).outer ≡ e.outer
   pub is_static : (e : Entry) → (h e).is_static ≡ e.is_static
   pub is_private : (e : Entry) → (h e).is_private ≡ e.is_private
-  pub name_is : (e : Entry) → bytes_eq (h e).name name ≡ bytes_eq e.name name
+
+-- and it neither gives nor takes this name
+abbrev pub KeepsName : (name : List ℕ) (h : Entry → Entry) → Type 0
+KeepsName name h = (e : Entry) → bytes_eq (h e).name name ≡ bytes_eq e.name name
 
 pub get_map : {X Y : Type 0} (f : X → Y) (xs : List X) (n : ℕ) → slice_get (map f xs) n ≡ option_map f (slice_get xs n)
 get_map f [] n = refl
@@ -39,7 +42,7 @@ first_map h test test' same (x ∷ xs) =
     ap (λ b. if b then Some 0 else option_map suc (first_that test (map h xs))) (same x)
     ∙ ap (λ o. if test' x then Some 0 else option_map suc o) (first_map h test test' same xs)
 
-module _ (name : List ℕ) (h : Entry → Entry) (k : Keeps name h) (rows : List Entry) where
+module _ (h : Entry → Entry) (k : Keeps h) (rows : List Entry) where
   pub parent : (c : ℕ) → parent_of (map h rows) c ≡ parent_of rows c
   parent c = ap (option_and_then (λ (e : Entry). e.parent)) (get_map h rows c)
       ∙ kept_at h (λ e. e.parent) k.parent (slice_get rows c)

@@ -9,18 +9,18 @@ use Rattle.jr_table.specs.Chains.{outer_of}
 use Rattle.jr_table.specs.Looking.{is_field, is_type, is_private_at, member}
 use Rattle.jr_table.specs.Access.{top_around, is_within_entry, is_within, is_accessible, is_instance_at, lacks_object}
 use Rattle.jr_table.specs.Fields.{object_answer, field_in, field_around, field_from, find_field, access_answer, find_field_of, find_member_type}
-use Rattle.jr_apart.proofs.Keeping.{Keeps, outer, get_map}
+use Rattle.jr_apart.proofs.Keeping.{Keeps, KeepsName, outer, get_map}
 use Rattle.jr_apart.proofs.KeptMembers.{field, type, private, member_same}
 
-module _ (name : List ℕ) (h : Entry → Entry) (k : Keeps name h) where
+module _ (h : Entry → Entry) (k : Keeps h) where
   instance : (rows : List Entry) (j : ℕ) → is_instance_at (map h rows) j ≡ is_instance_at rows j
   instance [] j = refl
   instance (x ∷ xs) zero = ap not (k.is_static x)
   instance (x ∷ xs) (suc j) = instance xs j
 
-module _ (name : List ℕ) (h : Entry → Entry) (k : Keeps name h) (rows : List Entry) where
+module _ (h : Entry → Entry) (k : Keeps h) (rows : List Entry) where
   top : (c : ℕ) → top_around (map h rows) c ≡ top_around rows c
-  top c = ap (λ o. unwrap_or o c) (outer name h k rows c)
+  top c = ap (λ o. unwrap_or o c) (outer h k rows c)
 
   within_of : (place : ℕ) (o : Option Entry)
       → is_within_entry (map h rows) place (option_map h o) ≡ is_within_entry rows place o
@@ -31,14 +31,14 @@ module _ (name : List ℕ) (h : Entry → Entry) (k : Keeps name h) (rows : List
   within : (place j : ℕ) → is_within (map h rows) place j ≡ is_within rows place j
   within place j = ap (is_within_entry (map h rows) place) (get_map h rows j) ∙ within_of place (slice_get rows j)
 
-  accessible : (place j : ℕ) → is_accessible (map h rows) place j ≡ is_accessible rows place j
+  pub accessible : (place j : ℕ) → is_accessible (map h rows) place j ≡ is_accessible rows place j
   unfolding is_accessible
-  accessible place j = λ i. not (private name h k rows j i) || within place j i
+  accessible place j = λ i. not (private h k rows j i) || within place j i
 
-  lacks : (place : ℕ) (is_static : Bool) (e j : ℕ)
+  pub lacks : (place : ℕ) (is_static : Bool) (e j : ℕ)
       → lacks_object (map h rows) place is_static e j ≡ lacks_object rows place is_static e j
   unfolding lacks_object
-  lacks place is_static e j = λ i. instance name h k rows j i && (is_static || not (e == place))
+  lacks place is_static e j = λ i. instance h k rows j i && (is_static || not (e == place))
 
   object : (c : ℕ) (is_static : Bool) (e j : ℕ)
       → object_answer (map h rows) c is_static e j ≡ object_answer rows c is_static e j
@@ -49,19 +49,24 @@ module _ (name : List ℕ) (h : Entry → Entry) (k : Keeps name h) (rows : List
   inside c is_static e None = refl
   inside c is_static e (Some j) = object c is_static e j
 
+  pub answer : (place : ℕ) (o : Option ℕ) → access_answer (map h rows) place o ≡ access_answer rows place o
+  answer place None = refl
+  answer place (Some j) = ap (λ b. if b then One j else NotAccessible j) (accessible place j)
+
+module _ (name : List ℕ) (h : Entry → Entry) (k : Keeps h) (n : KeepsName name h) (rows : List Entry) where
   fields : (c : ℕ) → member (map h rows) (is_field name) c ≡ member rows (is_field name) c
-  fields c = member_same name h k rows (is_field name) (field name h k) c
+  fields c = member_same h k rows (is_field name) (field name h k n) c
 
   around : (c : ℕ) (is_static : Bool) (o : Option ℕ)
       → field_around (map h rows) c is_static name o ≡ field_around rows c is_static name o
   around c is_static None = refl
   around c is_static (Some e) = ap (field_in (map h rows) c is_static e) (fields e)
-      ∙ inside c is_static e (member rows (is_field name) e)
+      ∙ inside h k rows c is_static e (member rows (is_field name) e)
 
   from : (c : ℕ) (is_static : Bool) (o : Option ℕ)
       → field_from (map h rows) c is_static name o ≡ field_from rows c is_static name o
-  from c is_static (Some j) = object c is_static c j
-  from c is_static None = ap (field_around (map h rows) c is_static name) (outer name h k rows c)
+  from c is_static (Some j) = object h k rows c is_static c j
+  from c is_static None = ap (field_around (map h rows) c is_static name) (outer h k rows c)
       ∙ around c is_static (outer_of rows c)
 
   pub field_found : (c : ℕ) (is_static : Bool)
@@ -70,16 +75,12 @@ module _ (name : List ℕ) (h : Entry → Entry) (k : Keeps name h) (rows : List
   field_found c is_static = ap (field_from (map h rows) c is_static name) (fields c)
       ∙ from c is_static (member rows (is_field name) c)
 
-  answer : (place : ℕ) (o : Option ℕ) → access_answer (map h rows) place o ≡ access_answer rows place o
-  answer place None = refl
-  answer place (Some j) = ap (λ b. if b then One j else NotAccessible j) (accessible place j)
-
   pub field_of_found : (place c : ℕ) → find_field_of (map h rows) place c name ≡ find_field_of rows place c name
   unfolding find_field_of
   field_of_found place c = ap (access_answer (map h rows) place) (fields c)
-      ∙ answer place (member rows (is_field name) c)
+      ∙ answer h k rows place (member rows (is_field name) c)
 
   pub type_found : (place c : ℕ) → find_member_type (map h rows) place c name ≡ find_member_type rows place c name
   unfolding find_member_type
-  type_found place c = ap (access_answer (map h rows) place) (member_same name h k rows (is_type name) (type name h k) c)
-      ∙ answer place (member rows (is_type name) c)
+  type_found place c = ap (access_answer (map h rows) place) (member_same h k rows (is_type name) (type name h k n) c)
+      ∙ answer h k rows place (member rows (is_type name) c)

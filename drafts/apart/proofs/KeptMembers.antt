@@ -8,26 +8,27 @@ use Rattle.jr_table.specs.declared.entries.Sort.TheVariants as sort
 use Rattle.jr_table.specs.declared.entries.Entry.{Entry}
 use Rattle.jr_table.specs.Looking.{is_sort, is_number, is_field, is_type, is_method, same_kinds, is_private_at, first_of, inherited, own_row, nearest_among, member_among, nearest, member}
 use Rattle.jr_table.specs.Chains.{chain_of}
-use Rattle.jr_apart.proofs.Keeping.{Keeps, first_map, chain}
+use Rattle.jr_apart.proofs.Keeping.{Keeps, KeepsName, first_map, chain}
 
-module _ (name : List ℕ) (h : Entry → Entry) (k : Keeps name h) where
+module _ (name : List ℕ) (h : Entry → Entry) (k : Keeps h) (n : KeepsName name h) where
   pub field : (c : ℕ) (e : Entry) → is_field name c (h e) ≡ is_field name c e
-  field c e = λ i. is_sort (k.sort e i) sort.Field && (k.class e i == c) && k.name_is e i
+  field c e = λ i. is_sort (k.sort e i) sort.Field && (k.class e i == c) && n e i
 
   pub type : (c : ℕ) (e : Entry) → is_type name c (h e) ≡ is_type name c e
-  type c e = λ i. is_sort (k.sort e i) sort.Class && is_number (k.outer e i) c && k.name_is e i
+  type c e = λ i. is_sort (k.sort e i) sort.Class && is_number (k.outer e i) c && n e i
 
   pub method : (params : List Kind) (c : ℕ) (e : Entry)
       → is_method name params c (h e) ≡ is_method name params c e
-  method params c e = λ i. is_sort (k.sort e i) sort.Method && (k.class e i == c) && k.name_is e i
+  method params c e = λ i. is_sort (k.sort e i) sort.Method && (k.class e i == c) && n e i
       && same_kinds (k.params e i) params
 
+module _ (h : Entry → Entry) (k : Keeps h) where
   pub private : (rows : List Entry) (j : ℕ) → is_private_at (map h rows) j ≡ is_private_at rows j
   private [] j = refl
   private (x ∷ xs) zero = k.is_private x
   private (x ∷ xs) (suc j) = private xs j
 
-module _ (name : List ℕ) (h : Entry → Entry) (k : Keeps name h) (rows : List Entry)
+module _ (h : Entry → Entry) (k : Keeps h) (rows : List Entry)
     (test : ℕ → Entry → Bool) (same : (c : ℕ) (e : Entry) → test c (h e) ≡ test c e) where
   pub own : (c : ℕ) → own_row (map h rows) test c ≡ own_row rows test c
   unfolding own_row
@@ -35,7 +36,7 @@ module _ (name : List ℕ) (h : Entry → Entry) (k : Keeps name h) (rows : List
 
   pub inherits : (o : Option ℕ) → inherited (map h rows) o ≡ inherited rows o
   inherits None = refl
-  inherits (Some j) = ap (λ b. if b then None else Some j) (private name h k rows j)
+  inherits (Some j) = ap (λ b. if b then None else Some j) (private h k rows j)
 
   pub nearest_of : (cs : List ℕ) → nearest_among (map h rows) test cs ≡ nearest_among rows test cs
   nearest_of [] = refl
@@ -48,8 +49,8 @@ module _ (name : List ℕ) (h : Entry → Entry) (k : Keeps name h) (rows : List
 
   pub nearest_same : (c : ℕ) → nearest (map h rows) test c ≡ nearest rows test c
   unfolding nearest
-  nearest_same c = ap (nearest_among (map h rows) test) (chain name h k rows c) ∙ nearest_of (chain_of rows c)
+  nearest_same c = ap (nearest_among (map h rows) test) (chain h k rows c) ∙ nearest_of (chain_of rows c)
 
   pub member_same : (c : ℕ) → member (map h rows) test c ≡ member rows test c
   unfolding member
-  member_same c = ap (member_among (map h rows) test) (chain name h k rows c) ∙ member_of (chain_of rows c)
+  member_same c = ap (member_among (map h rows) test) (chain h k rows c) ∙ member_of (chain_of rows c)

@@ -1,4 +1,5 @@
 pub mod Keeping
 pub mod KeptMembers
 pub mod KeptFindings
+pub mod KeptCalls
 pub mod Staying

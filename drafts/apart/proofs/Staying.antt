@@ -7,7 +7,7 @@ use Rattle.std.proofs.lemmas.Bool.{false_from_ne_true}
 use Rattle.jr_table.specs.declared.entries.Entry.{Entry}
 use Rattle.jr_table.specs.Fields.{find_field, find_field_of, find_member_type}
 use Rattle.jr_apart.specs.Apart.{with_name, is_either, before, AreApart, IsOther}
-use Rattle.jr_apart.proofs.Keeping.{Keeps}
+use Rattle.jr_apart.proofs.Keeping.{Keeps, KeepsName}
 use Rattle.jr_apart.proofs.KeptFindings.{field_found, field_of_found, type_found}
 
 -- a search that a change of names leaves as it is answers the same for both
@@ -41,8 +41,11 @@ names old new name other e true is =
     ∙ sym (name_of_other old new name other e.name is)
 names old new name other e false is = refl
 
-pub keeps : (old new name : List ℕ) → IsOther old new name → Keeps name (before old new)
-keeps old new name other = record {
+pub keeps_name : (old new name : List ℕ) → IsOther old new name → KeepsName name (before old new)
+keeps_name old new name other = λ e. names old new name other e (is_either old new e.name) refl
+
+pub keeps : (old new : List ℕ) → Keeps (before old new)
+keeps old new = record {
   sort = λ e. picked (λ x. x.sort) (is_either old new e.name) (with_name old e) e refl;
   class = λ e. picked (λ x. x.class) (is_either old new e.name) (with_name old e) e refl;
   params = λ e. picked (λ x. x.params) (is_either old new e.name) (with_name old e) e refl;
@@ -50,5 +53,4 @@ keeps old new name other = record {
   outer = λ e. picked (λ x. x.outer) (is_either old new e.name) (with_name old e) e refl;
   is_static = λ e. picked (λ x. x.is_static) (is_either old new e.name) (with_name old e) e refl;
   is_private = λ e. picked (λ x. x.is_private) (is_either old new e.name) (with_name old e) e refl;
-  name_is = λ e. names old new name other e (is_either old new e.name) refl;
 }
