@@ -204,7 +204,8 @@ fn clean_table<A>(
 /// its first place in file and text order.
 ///
 /// `known` may have a table that was made of the same program before: it is taken where it has
-/// exactly the program's rows, and no other is made.
+/// exactly the program's rows, and no other is made. Behind a call that answers a table `known` is
+/// empty; where a fault of the program is told, it has what it had.
 pub fn build<A: Mark>(
     alloc: Global,
     units: &[Unit<A>],

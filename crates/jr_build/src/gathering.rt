@@ -58,7 +58,7 @@ fn push_field<'a, A: Mark>(
         item: SiteItem::Field(FieldSite {
             at: word_place(name, at.base),
             of: *of,
-            name: name.name.as_str(),
+            name: &name.name,
             modifiers,
             written: written_type(ty, at.base),
             init: maybe_init(init, at.base),
@@ -99,7 +99,7 @@ fn push_method<'a, A: Mark>(
         item: SiteItem::Method(MethodSite {
             at: word_place(name, at.base),
             of: *of,
-            name: name.name.as_str(),
+            name: &name.name,
             modifiers,
             result: maybe_written(ret, at.base),
             params,
@@ -181,7 +181,7 @@ fn push_head<'a, A: Mark>(
 
 /// Puts the sites of a member behind the others.
 #[cycle(gathering)]
-#[tactic(auto, unfolding(jr_ast::specs::View::member_kind, crate::specs::Fitting::MemberFits, jr_table::specs::Sites::member_sites))]
+#[tactic(auto, unfolding(jr_ast::specs::View::member_kind, crate::specs::Fitting::MemberFits))]
 fn member<'a, A: Mark>(
     alloc: Global,
     sites: &mut Vec<Site<'a>>,

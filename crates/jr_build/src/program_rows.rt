@@ -18,7 +18,6 @@ use crate::signatures::meanings_of;
 use crate::sites::{
     ClassSite, CtorSite, FieldSite, MethodSite, ParamSite, Site, SiteItem, SiteKey, Written,
 };
-use jr_ast::Name;
 use jr_table::{CtorKey, Decl, FieldKey, MethodKey, Row, Ty, Tys, prelude};
 use std::alloc::{AllocError, Global};
 
@@ -91,7 +90,7 @@ fn field_row<'a>(alloc: Global, h: &Hierarchy<'a>, field: &FieldSite<'a>) -> Res
         ≡ exact.field_row (hierarchy_of h.now) (field_site_of field.now)) }
 {
     let class = owned_key(alloc, &field.of)?;
-    let name = Name::new(alloc, field.name)?;
+    let name = field.name.copy()?;
     let modifiers = owned_words(alloc, &field.modifiers)?;
     let ty = maybe_owned_type(alloc, &means(h, &field.of, &field.written))?;
     Ok(Row {
@@ -112,7 +111,7 @@ fn method_row<'a>(
         ≡ exact.method_row (hierarchy_of h.now) (method_site_of method.now)) }
 {
     let class = owned_key(alloc, &method.of)?;
-    let name = Name::new(alloc, method.name)?;
+    let name = method.name.copy()?;
     let params = param_types(alloc, h, &method.of, &method.params)?;
     let modifiers = owned_words(alloc, &method.modifiers)?;
     let ty = result_type(alloc, h, &method.of, &method.result)?;

@@ -75,12 +75,12 @@ pub(crate) fn item_signature<'a>(
         SiteItem::Class(_) => Ok(None),
         SiteItem::Field(field) => Ok(Some(Signature {
             of: field.of,
-            name: Some(field.name),
+            name: Some(field.name.as_str()),
             params: None,
         })),
         SiteItem::Method(method) => {
             let params = meanings_of(alloc, h, &method.of, &method.params)?;
-            Ok(with_params(&method.of, Some(method.name), params))
+            Ok(with_params(&method.of, Some(method.name.as_str()), params))
         }
         SiteItem::Ctor(ctor) => {
             let params = meanings_of(alloc, h, &ctor.of, &ctor.params)?;

@@ -1,5 +1,5 @@
 //! Where a program declares something: sites, in file and text order.
-use jr_ast::ModWord;
+use jr_ast::{ModWord, Name};
 
 /// A type as written, with the place of its first byte.
 #[derive(Clone, Copy, Drop)]
@@ -50,7 +50,7 @@ pub(crate) struct ClassSite<'a> {
 pub(crate) struct FieldSite<'a> {
     pub(crate) at: u32,
     pub(crate) of: SiteKey<'a>,
-    pub(crate) name: &'a str,
+    pub(crate) name: &'a Name,
     pub(crate) modifiers: Vec<ModWord>,
     pub(crate) written: Written<'a>,
     pub(crate) init: Option<InitSite>,
@@ -60,7 +60,7 @@ pub(crate) struct FieldSite<'a> {
 pub(crate) struct MethodSite<'a> {
     pub(crate) at: u32,
     pub(crate) of: SiteKey<'a>,
-    pub(crate) name: &'a str,
+    pub(crate) name: &'a Name,
     pub(crate) modifiers: Vec<ModWord>,
     /// None is `void`.
     pub(crate) result: Option<Written<'a>>,

@@ -96,8 +96,8 @@ fn name_key<'a>(item: &SiteItem<'a>) -> Option<SiteKey<'a>>
     ensures { option_map site_key_of result ≡ name_key_at (item_of item.now) }
 {
     match item {
-        SiteItem::Field(field) => member_key(&field.of, field.name),
-        SiteItem::Method(method) => member_key(&method.of, method.name),
+        SiteItem::Field(field) => member_key(&field.of, field.name.as_str()),
+        SiteItem::Method(method) => member_key(&method.of, method.name.as_str()),
         SiteItem::Class(_) | SiteItem::Ctor(_) => None,
     }
 }

@@ -40,10 +40,14 @@ fn place_if(before: Option<u32>, at: u32) -> Option<u32>
     }
 }
 
-/// Where the first parameter stands that has the name of an earlier one.
+/// Where the first parameter stands that has the name of an earlier one. Among fewer than two there
+/// is none.
 fn param_twice(alloc: Global, params: &[ParamSite<'_>]) -> Result<Option<u32>, AllocError>
     ensures { IfOk result (λ at. IsLeastAt (ParamTwice (map param_site_of params.now)) at) }
 {
+    if params.len() < 2 {
+        return Ok(None);
+    }
     let mut names = Names::new(alloc);
     let mut least = None;
     for param in params {

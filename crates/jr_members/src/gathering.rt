@@ -64,7 +64,7 @@ fn push_member<'a, A: Mark>(
 
 /// Puts the parts that a member is behind the others.
 #[cycle(gathering)]
-#[tactic(auto, unfolding(jr_ast::specs::View::member_kind, crate::specs::Fitting::MemberFits, crate::specs::Parts::member_parts))]
+#[tactic(auto, unfolding(jr_ast::specs::View::member_kind, crate::specs::Parts::member_parts))]
 fn member<'a, A: Mark>(
     parts: &mut Vec<Placed<'a, A>>,
     at: Within,

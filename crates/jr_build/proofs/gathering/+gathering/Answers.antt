@@ -1,13 +1,13 @@
-use Rattle.std.proofs.Common.{◌++◌, ◌∷◌, ◌≡◌, ℕ, List, map, option_map, refl, sym, ap, subst, ◌∙◌}
+use Rattle.std.proofs.Common.{◌++◌, [], ◌∷◌, ◌≡◌, ℕ, Some, List, map, option_map, refl, sym, ap, subst, ◌∙◌}
 use Rattle.std.proofs.lemmas.Result.{on_ok_weaker}
 use Rattle.jr_ast.specs.declared.members.Class.{out-Class}
 use Rattle.jr_ast.specs.MemberTree as syntax
-use Rattle.jr_ast.specs.View.{word_of, modifier_of, type_of, member_of, members_of, class_of, member_kind, member_row}
+use Rattle.jr_ast.specs.View.{word_of, modifier_of, type_of, param_of, expr_of, member_of, members_of, class_of, member_kind, member_row}
 use Rattle.jr_ast.proofs.Rows.{class_of-out}
 use Rattle.jr_ast.proofs.Sizes.{member_size, members_size, class_size}
 use Rattle.jr_ast.proofs.Marking.{members_add, falls_further, falls_whole_row, falls_item}
 use Rattle.jr_build.specs.Fitting.{begins_by, WordFits, MaybeTypeFits, MemberFits, ClassFits, MembersFit}
-use Rattle.jr_table.specs.Sites.{Site, class_item, word_at, written, words, writes_ctor, member_sites, class_sites, members_sites}
+use Rattle.jr_table.specs.Sites.{Site, class_item, field_item, method_item, ctor_item, word_at, written, words, param_site, init_site, writes_ctor, member_sites, class_sites, members_sites}
 use Rattle.jr_build.specs.Gathers.{in_file}
 use Rattle.jr_build.specs.SiteView.{text_of, site_of, site_key_of}
 use Rattle.jr_build.proofs.ClassParts.{class_parts, member_begins}
@@ -30,6 +30,81 @@ member-class-requires g t c =
       falls_further _ t (falls_whole_row (λ x. class_size (class_of x)) whole at.inner at.inner t refl (ap (λ d. member_size (member_kind m d)) at.is) c.decreases),
       (o, subst (λ b. ClassFits B F b (class_of at.inner)) (sym c.begin.ensures) fits),
     )
+
+-- what is put behind, in another form
+put_same : {S : Type 0} (old new own other : List S) → own ≡ other → new ≡ old ++ own → new ≡ old ++ other
+put_same old new own other same is = is ∙ ap (λ xs. old ++ xs) same
+
+pub member-returns-in-Field : goal.member-returns-in-Field
+unfolding member_kind member_row class_of member_sites class_sites members_sites
+member-returns-in-Field g t c =
+    let B = begins_by g.A.Mark.span_from in
+    let x = c.in-Field in
+    let file = c.args.at.file in
+    let key = site_key_of c.args.of.now in
+    let start = c.begin.ensures in
+    on_ok_weaker c.push_field.result
+    (λ e. put_same _ _ _ _
+    ((λ i. in_file file (field_item (record {
+      at = word_at B (start i) (word_of x.name);
+      of = key;
+      name = (word_of x.name).text;
+      modifiers = words B (map modifier_of (c.deref.ensures.value i));
+      type = written B (start i) (type_of x.ty);
+      init = option_map (init_site B (start i)) (option_map expr_of x.init);
+    }) ∷ []))
+    ∙ sym (ap (λ (d : syntax.Member g.row.A.Denot). in_file file (member_sites B c.args.at.base key d)) (ap (member_kind c.args.member.now.mark) x.is))) e) c.push_field.ensures
+
+pub member-returns-in-Method : goal.member-returns-in-Method
+unfolding member_kind member_row class_of member_sites class_sites members_sites
+member-returns-in-Method g t c =
+    let B = begins_by g.A.Mark.span_from in
+    let x = c.in-Method in
+    let file = c.args.at.file in
+    let key = site_key_of c.args.of.now in
+    let start = c.begin.ensures in
+    on_ok_weaker c.push_method.result
+    (λ e. put_same _ _ _ _
+    ((λ i. in_file file (method_item (record {
+      at = word_at B (start i) (word_of x.name);
+      of = key;
+      name = (word_of x.name).text;
+      modifiers = words B (map modifier_of (c.deref-in-Method.ensures.value i));
+      result = option_map (written B (start i)) (option_map type_of x.ret);
+      params = map (param_site B (start i)) (map param_of (c.deref-in-Method-2.ensures.value i));
+    }) ∷ []))
+    ∙ sym (ap (λ (d : syntax.Member g.row.A.Denot). in_file file (member_sites B c.args.at.base key d)) (ap (member_kind c.args.member.now.mark) x.is))) e) c.push_method.ensures
+
+pub member-returns-in-Ctor : goal.member-returns-in-Ctor
+unfolding member_kind member_row class_of member_sites class_sites members_sites
+member-returns-in-Ctor g t c =
+    let B = begins_by g.A.Mark.span_from in
+    let x = c.in-Ctor in
+    let file = c.args.at.file in
+    let key = site_key_of c.args.of.now in
+    let start = c.begin.ensures in
+    on_ok_weaker c.push_ctor.result
+    (λ e. put_same _ _ _ _
+    ((λ i. in_file file (ctor_item (record {
+      at = word_at B (start i) (word_of x.name);
+      of = key;
+      modifiers = words B (map modifier_of (c.deref-in-Ctor.ensures.value i));
+      params = map (param_site B (start i)) (map param_of (c.deref-in-Ctor-2.ensures.value i));
+    }) ∷ []))
+    ∙ sym (ap (λ (d : syntax.Member g.row.A.Denot). in_file file (member_sites B c.args.at.base key d)) (ap (member_kind c.args.member.now.mark) x.is))) e) c.push_ctor.ensures
+
+pub member-returns-in-Inner : goal.member-returns-in-Inner
+unfolding member_kind member_row class_of member_sites class_sites members_sites
+member-returns-in-Inner g t c =
+    let B = begins_by g.A.Mark.span_from in
+    let x = c.in-Inner in
+    let file = c.args.at.file in
+    let key = site_key_of c.args.of.now in
+    let start = c.begin.ensures in
+    on_ok_weaker c.class.result
+    (λ e. put_same _ _ _ _
+    ((λ i. in_file file (class_sites B (start i) (Some key.name) (class_of x.inner)))
+    ∙ sym (ap (λ (d : syntax.Member g.row.A.Denot). in_file file (member_sites B c.args.at.base key d)) (ap (member_kind c.args.member.now.mark) x.is))) e) c.class.ensures
 
 pub class-begin-requires : goal.class-begin-requires
 class-begin-requires g t c = (class_parts (begins_by g.A.Mark.span_from) g.A.Mark.fits_at c.args.at.base c.args.class.now c.requires).0

@@ -66,6 +66,14 @@ members-returns g t c =
     lists.none_left (λ xs. members_parts B c.args.at.file c.args.at.base (members_of xs)) (λ x. member_parts B c.args.at.file c.args.at.base (member_of x)) (λ x xs. refl)
     _ _ c.args.members.now c.loop-part.part-index c.loop-part-test.false refl c.loop-part.invariant
 
+pub member-begin-requires : goal.member-begin-requires
+unfolding member_kind member_row class_of MemberFits ClassFits MembersFit
+member-begin-requires g t c =
+    let B = begins_by g.A.Mark.span_from in
+    let F = g.A.Mark.fits_at in
+    let m = c.args.member.now.mark in
+    (subst (λ (d : syntax.Member g.row.A.Denot). MemberFits B F c.args.at.base d) (ap (member_kind m) c.in-Inner.is) c.requires).0
+
 pub member-class-requires : goal.member-class-requires
 unfolding member_size members_size class_size member_kind member_row class_of MemberFits ClassFits MembersFit
 member-class-requires g t c =
