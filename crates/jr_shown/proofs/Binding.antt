@@ -73,7 +73,7 @@ module _ (rows : List Row) (files : List (List Item)) (w : WrittenMember Span) (
       abbrev start : ℕ
       start = begins (part_mark w.part) w.base
 
-      refers : (file at : ℕ) (d : Decl) → MemberRefers file at d b ↔ WrittenRefers rows files file at d w
+      pub refers : (file at : ℕ) (d : Decl) → MemberRefers file at d b ↔ WrittenRefers rows files file at d w
       refers file at d = (λ h. to h.0 h.1.0 h.1.1 h.1.2, back)
         where
           to : b.file ≡ file → (n : ℕ) → at ≡ b.start + n → decl_in b.bound.references n ≡ Some d → WrittenRefers rows files file at d w
@@ -91,7 +91,7 @@ module _ (rows : List Row) (files : List (List Item)) (w : WrittenMember Span) (
               let place' : at ≡ start + n = omega (arith, low) in
               (is.file ∙ h.0, (n, place' ∙ ap (λ k. k + n) (sym is.start), (is.bound.declarations n d).1 (subst (λ k. Binds begins rows s w.key w.base w.part k d) place' ((binds at d).0 there))))
 
-      errs : (file at : ℕ) (r : Rule) → MemberErrs file at r b ↔ WrittenErrs rows files file at r w
+      pub errs : (file at : ℕ) (r : Rule) → MemberErrs file at r b ↔ WrittenErrs rows files file at r w
       errs file at r = (λ h. to h.0 h.1.0 h.1.1 h.1.2 h.1.3, back)
         where
           to : b.file ≡ file → (e : Error) → at ≡ b.start + e.at → r ≡ e.rule → Among b.bound.errors e → WrittenErrs rows files file at r w

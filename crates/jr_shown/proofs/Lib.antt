@@ -5,5 +5,6 @@ pub mod SuperWords
 pub mod Adding
 pub mod MemberSums
 pub mod Binding
+pub mod EachBound
 pub mod FileOrder
 pub mod OneOrder

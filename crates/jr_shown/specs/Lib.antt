@@ -5,3 +5,4 @@ pub mod Members
 pub mod MemberLines
 pub mod Binding
 pub mod LineLaws
+pub mod MemberLaws

@@ -14,7 +14,7 @@ mod member_lines;
 mod tokens;
 
 pub use bounds::{MemberBound, bind_members, members_of_file};
-pub use laws::lines_are_told;
+pub use laws::{lines_are_told, members_are_known};
 pub use lines::rank;
 pub use member_lines::file_lines;
 pub use tokens::Tokens;

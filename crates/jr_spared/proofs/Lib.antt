@@ -1,0 +1,13 @@
+mod ImagesStay
+mod Unmoved
+mod Namesakes
+mod Passing
+mod Dots
+mod AskedBinds
+mod NothingBroken
+mod WordsOfTypes
+mod WordsOfNames
+mod WordsOfCalls
+mod TreesStay
+mod BodiesStay
+mod MembersStay
