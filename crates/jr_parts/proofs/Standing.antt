@@ -33,6 +33,7 @@ use Rattle.jr_places.specs.PlaceLaws.{IsFile, IsPart, IsPlaced, Owns, PartsArePl
 use Rattle.jr_gather.specs.Known.{found_in}
 use Rattle.jr_sites.specs.FoundTypes.{DeclaredTypesAreFound}
 use Rattle.jr_parts.specs.Ready.{Anywhere, IsReady, IsFirstSuper, PartReady}
+use Rattle.jr_parts.specs.PartLaws.{HasHeadKey, IsSoundMember}
 use Rattle.jr_parts.proofs.Resting.{IsKeyed, StandsIn, part_ready}
 
 pub at_contains : {X : Type 0} (xs : List X) (n : ℕ) (x : X) → slice_get xs n ≡ Some x → Contains xs x
@@ -121,6 +122,10 @@ module _ (units : List (syntax.Unit Span)) (b : ℕ) (part : Part Span) where
   classes_keyed base (c ∷ cs) k (inl h) = class_keyed base None c k h
   classes_keyed base (c ∷ cs) k (inr h) = classes_keyed base cs k h
 
+head_key : (k : MemberKey) (part : Part Span) → IsKeyed k part → HasHeadKey k part
+head_key k (class_part (syntax.class m mods w t ms)) h = (h.0, h.1)
+head_key k (member_part x) h = tt
+
 -- ---- members with what is known of them
 
 pub bound_at : (rows : List Row) (places : MemberKey → ℕ) (ws : List (WrittenMember Span)) (bs : List Bound) → AreBound itself (λ m b. Unit {0}) rows places ws bs
@@ -207,6 +212,13 @@ module _ (p : Program Span) (is : IsProgram itself (λ m b. Unit {0}) p) (writte
       sound = sound_at;
       refers = refers_at b bound;
       types = bound.types;
+      found = found begins [] p.rows units is.are_rows is.rows is.clean w has;
+    }
+
+    pub is_sound : IsSoundMember p w
+    is_sound = record {
+      sound = sound_at;
+      keyed = head_key w.key w.part (classes_keyed units w.base w.part (begins wr.unit.mark 0) wr.unit.classes w.key wr.writes);
       found = found begins [] p.rows units is.are_rows is.rows is.clean w has;
     }
 

@@ -3,3 +3,4 @@ pub mod Walking
 pub mod Ready
 pub mod Gathered
 pub mod Supers
+pub mod PartLaws

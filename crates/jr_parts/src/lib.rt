@@ -6,10 +6,12 @@ mod beginnings;
 mod ctors;
 mod fields;
 mod heads;
+mod laws;
 mod members;
 mod methods;
 mod parts;
 mod supers;
 mod words;
 
+pub use laws::written_members_are_sound;
 pub use parts::part;

@@ -2,3 +2,5 @@ mod Losing
 mod Gathering
 mod Putting
 mod Whole
+mod Sparing
+mod Among

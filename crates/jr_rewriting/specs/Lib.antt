@@ -1,3 +1,4 @@
 pub mod Rewritings
 pub mod Gathered
 pub mod Lost
+pub mod Unaffected

@@ -1,15 +1,21 @@
 //! What the written members of a program give, file by file.
-ghost use Rattle.std.specs.Prelude.{◌≡◌, ℕ, Some, IfOk, OnOk, length, map, slice_get, option_map};
+ghost use Rattle.std.specs.Prelude.{◌≡◌, ℕ, List, Some, IfOk, IfSome, OnOk, length, map};
+ghost use Rattle.std.specs.Prelude.{slice_get, option_map};
 ghost use Rattle.jr_members.specs.PartView.{written_of};
 ghost use Rattle.jr_renaming.specs.Effects.{Effect, no_effect};
 ghost use Rattle.jr_respell.specs.Scopes.{rows_in, renaming_in, AreImages};
 ghost use Rattle.jr_rewriting.specs.Gathered.{effects_of, members_of, IsPut, AreNext, AreSoFar};
+ghost use Rattle.jr_rewriting.specs.Unaffected.{IsUnaffectedBy, AvoidsAll};
 
+use crate::unaffected::Unaffected;
+use jr_apart::apart_look_alike;
 use jr_bind::View;
 use jr_members::WrittenMember;
-use jr_parts::part;
+use jr_parts::{part, written_members_are_sound};
+use jr_rename::rows_are_named;
 use jr_renaming::{Output, new_output};
 use jr_respell::Programs;
+use jr_spared::spared_give_nothing;
 use jr_text::Span;
 use std::alloc::{AllocError, Global};
 
@@ -24,6 +30,33 @@ fn empty_outputs(alloc: Global, count: u32) -> Result<Vec<Output>, AllocError>
         outputs.push(new_output(alloc))?;
     }
     Ok(outputs)
+}
+
+// A member that avoids all that a rename changes gives nothing. Nothing is run by it.
+fn avoiding_gives_nothing<V: View<Span>>(
+    view: &V,
+    programs: &Programs<'_>,
+    unaffected: &Unaffected<'_>,
+    number: u32,
+    of: &WrittenMember<'_, Span>,
+)
+    requires rows { rows_in programs.now ≡ (V.program view.now).rows }
+    requires images { AreImages programs.now }
+    requires unaffected { IsUnaffectedBy (rows_in programs.now) (renaming_in programs.now)
+        unaffected.now }
+    requires number { slice_get (members_of (V.program view.now)) number
+        ≡ Some (written_of of.now) }
+    requires avoids { AvoidsAll unaffected.now (written_of of.now) }
+    ensures { (es : List Effect) → IsPut (V.program view.now) (renaming_in programs.now)
+        (written_of of.now) es es }
+{
+    view.keeps_program();
+    programs.before.keeps_rows();
+    programs.after.keeps_rows();
+    rows_are_named::<Span>();
+    written_members_are_sound();
+    apart_look_alike();
+    spared_give_nothing::<Span>();
 }
 
 /// Puts what a written member gives to its file.
@@ -59,24 +92,55 @@ fn member_at<'m, 'a>(
     members.get(number as usize)
 }
 
+/// The same, unless the member avoids all that the rename changes.
+fn put_affected<V: View<Span>>(
+    alloc: Global,
+    view: &V,
+    programs: &Programs<'_>,
+    unaffected: &Option<Unaffected<'_>>,
+    number: u32,
+    of: &WrittenMember<'_, Span>,
+    outputs: &mut Vec<Output>,
+) -> Result<(), AllocError>
+    requires rows { rows_in programs.now ≡ (V.program view.now).rows }
+    requires images { AreImages programs.now }
+    requires unaffected { IfSome unaffected.now (IsUnaffectedBy (rows_in programs.now)
+        (renaming_in programs.now)) }
+    requires number { slice_get (members_of (V.program view.now)) number
+        ≡ Some (written_of of.now) }
+    ensures { OnOk result (IsPut (V.program view.now) (renaming_in programs.now)
+        (written_of of.now) (effects_of outputs.old.items) (effects_of outputs.new.items)) }
+{
+    if let Some(unaffected) = unaffected {
+        if unaffected.spares(of) {
+            avoiding_gives_nothing(view, programs, unaffected, number, of);
+            return Ok(());
+        }
+    }
+    put_member(alloc, view, programs, number, of, outputs)
+}
+
 /// The same of the member of a number, if there is one.
 fn put_numbered<V: View<Span>>(
     alloc: Global,
     view: &V,
     programs: &Programs<'_>,
+    unaffected: &Option<Unaffected<'_>>,
     members: &[WrittenMember<'_, Span>],
     number: u32,
     outputs: &mut Vec<Output>,
 ) -> Result<(), AllocError>
     requires rows { rows_in programs.now ≡ (V.program view.now).rows }
     requires images { AreImages programs.now }
+    requires unaffected { IfSome unaffected.now (IsUnaffectedBy (rows_in programs.now)
+        (renaming_in programs.now)) }
     requires members { map written_of members.now ≡ members_of (V.program view.now) }
     ensures { OnOk result (AreNext (V.program view.now) (renaming_in programs.now)
         number (effects_of outputs.old.items) (effects_of outputs.new.items)) }
 {
     match member_at(members, number) {
         None => Ok(()),
-        Some(of) => put_member(alloc, view, programs, number, of, outputs),
+        Some(of) => put_affected(alloc, view, programs, unaffected, number, of, outputs),
     }
 }
 
@@ -94,9 +158,18 @@ pub(crate) fn all_outputs<V: View<Span>>(
         (members_of (V.program view.now)) (effects_of os.items)) }
 {
     view.keeps_program();
+    let unaffected = Unaffected::new(programs);
     let mut outputs = empty_outputs(alloc, view.file_count())?;
     for number in 0..view.bound_count() {
-        put_numbered(alloc, view, programs, members, number, &mut outputs)?;
+        put_numbered(
+            alloc,
+            view,
+            programs,
+            &unaffected,
+            members,
+            number,
+            &mut outputs,
+        )?;
     }
     Ok(outputs)
 }

@@ -4,5 +4,6 @@
 mod files;
 mod losses;
 mod programs;
+mod unaffected;
 
 pub use programs::{Rewriting, rewrite};
