@@ -11,8 +11,9 @@ const B: &str = "class B extends A{int y;int m(){return x;}}";
 
 /// Scripts over A.java and B.java; how the run ends, its report without the line end, and what the
 /// files hold in the end. A field gets the name of an inherited one, a class is renamed in both
-/// files, two renames are taken back and one is done again, and one is refused. Over A.java alone:
-/// the class in front of a type's dot comes to be another one, or gets the new name.
+/// files, two renames are taken back and one is done again; members that a rename leaves as they
+/// are are shown behind it, and named by the next; and one is refused. Over A.java alone: the class
+/// in front of a type's dot comes to be another one, or gets the new name.
 pub(crate) const ROWS: &'static str = "
 ~two [{\"step\":\"rename\",\"file\":\"B.java\",\"at\":22,\"name\":\"x\"}] => \
     Done | [{\"files\":[\"B.java\"],\"reply\":\"refactored\",\"respelled\":1}] | \
@@ -27,6 +28,19 @@ pub(crate) const ROWS: &'static str = "
     {\"files\":[\"A.java\",\"B.java\"],\"reply\":\"refactored\",\"respelled\":0},\
     {\"reply\":\"undone\"},{\"reply\":\"undone\"},{\"reply\":\"redone\"}] | \
     class C{int x;} class B extends C{int y;int m(){return x;}}
+~two [{\"step\":\"rename\",\"file\":\"B.java\",\"at\":22,\"name\":\"k\"},\
+    {\"step\":\"show\",\"file\":\"A.java\",\"what\":\"bindings\"},\
+    {\"step\":\"rename\",\"file\":\"A.java\",\"at\":12,\"name\":\"y\"},\
+    {\"step\":\"show\",\"file\":\"B.java\",\"what\":\"bindings\"},{\"step\":\"undo\"},\
+    {\"step\":\"rename\",\"file\":\"B.java\",\"at\":22,\"name\":\"x\"},\
+    {\"step\":\"show\",\"file\":\"B.java\",\"what\":\"bindings\"}] => \
+    Done | [{\"files\":[\"B.java\"],\"reply\":\"refactored\",\"respelled\":0},\
+    {\"lines\":[],\"reply\":\"shown\"},\
+    {\"files\":[\"A.java\",\"B.java\"],\"reply\":\"refactored\",\"respelled\":0},\
+    {\"lines\":[\"16 A A\",\"39 y A.y\"],\"reply\":\"shown\"},{\"reply\":\"undone\"},\
+    {\"files\":[\"B.java\"],\"reply\":\"refactored\",\"respelled\":1},\
+    {\"lines\":[\"16 A A\",\"45 x A.x\"],\"reply\":\"shown\"}] | \
+    class A{int x;} class B extends A{int x;int m(){return super.x;}}
 ~two [{\"step\":\"rename\",\"file\":\"A.java\",\"at\":6,\"name\":\"B\"},\
     {\"step\":\"rename\",\"file\":\"C.java\",\"at\":6,\"name\":\"B\"}] => \
     Refused | [{\"number\":14,\"refusal\":\"Clash B\",\"reply\":\"refused\"},\

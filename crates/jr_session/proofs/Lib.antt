@@ -32,3 +32,4 @@ pub mod BareReferences
 pub mod TakenBack
 pub mod NewRows
 pub mod NewPrograms
+pub mod Staying

@@ -1,7 +1,22 @@
 -- What comes of new texts before they are kept. Only private clauses cite this.
-use Rattle.std.specs.Prelude.{◌≡◌, List, length}
+use Rattle.std.specs.Prelude.{
+  ◌≡◌,
+  ◌==◌,
+  ℕ,
+  List,
+  length,
+  slice_get,
+  Bool,
+  true,
+  false,
+  Option,
+  Some,
+}
+use Rattle.std.specs.List.{list_any}
 use Rattle.jr_text.specs.declared.spans.Span.{Span}
 use Rattle.jr_bind.specs.Programs.{Program}
+use Rattle.jr_sources.specs.declared.analyses.Analysis.{Analysis}
+use Rattle.jr_sources.specs.declared.analyses.EarlierAnalysis.{EarlierAnalysis}
 use Rattle.jr_sources.specs.Analysed.{IsAnalysis, IsSourceWrong}
 use Rattle.jr_sources.specs.BindingErrors.{AreSound}
 use Rattle.jr_sources.specs.Sources.{Source}
@@ -34,3 +49,17 @@ IsTried sources changes now (tries.Sound analysis had) =
 -- the sources are a program without faults and errors
 abbrev pub AreSomeProgram : List Source → Type 0
 AreSomeProgram sources = (q : Program Span) × IsProgramOf sources q
+
+-- a text of the file is among those that change
+abbrev pub changes_file : List Change → (file : ℕ) → Bool
+changes_file changes file = list_any (λ (c : Change). c.file == file) changes
+
+-- a file that is said to stay is none of those that get another text
+abbrev pub AreUnchanged : List Change → (stays : List Bool) → Type 0
+AreUnchanged changes stays = (file : ℕ) → slice_get stays file ≡ Some true
+    → changes_file changes file ≡ false
+
+-- what was analysed, if it was, with these
+abbrev pub IsOfAnalysed : Option Analysis → (stays : List Bool) → Option EarlierAnalysis → Type 0
+IsOfAnalysed analysed stays given = (e : EarlierAnalysis) → given ≡ Some e
+    → (analysed ≡ Some e.analysis) × (e.stays.items ≡ stays)

@@ -124,7 +124,7 @@ pub(crate) fn plan_rename<L: Ledger>(
     ensures planned { IfOk result (IsPlannedSo sources.now number at new.now) }
     ensures cost { CostsBinding sources.now steps.old steps.new }
 {
-    let found = keep_analysis(alloc, sources, readings, kept, None, steps)?;
+    let found = keep_analysis(alloc, sources, readings, kept, steps)?;
     match found {
         Some(fault) => Ok(Planned::Wrong(fault)),
         None => plan_analysed(alloc, sources, readings, kept, number, at, new, after),

@@ -59,6 +59,7 @@ impl Session {
             alloc,
             &mut self.sources,
             &mut self.readings,
+            &mut self.analysed,
             changes,
             known,
             steps,

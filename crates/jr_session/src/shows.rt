@@ -112,7 +112,6 @@ impl Session {
             &self.sources,
             &self.readings,
             &mut self.analysed,
-            None,
             steps,
         )?;
         if let Some(fault) = found {

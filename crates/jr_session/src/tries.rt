@@ -1,16 +1,21 @@
 //! New texts are tried: what is first wrong with the sources that have them is told, or else they
 //! stay, with what was read and analysed of them.
-ghost use Rattle.std.specs.Prelude.{◌≡◌, length, IfOk, OnErr};
-ghost use Rattle.jr_sources.specs.Analysed.{CostsBinding, IsAnalysis, IsKeptAnalysis, IsFilled};
+ghost use Rattle.std.specs.Prelude.{◌≡◌, length, IfOk, OnErr, Some};
+ghost use Rattle.jr_sources.specs.Analysed.{CostsBinding, IsAnalysis, IsKeptAnalysis};
 ghost use Rattle.jr_sources.specs.BindingErrors.{AreSound};
+ghost use Rattle.jr_sources.specs.Earlier.{IsMaybeEarlier};
 ghost use Rattle.jr_sources.specs.KeptReadings.{AreReadings};
 ghost use Rattle.jr_sources.specs.Sources.{texts_of};
 ghost use Rattle.jr_session.specs.Changes.{put_back, AreOfFiles};
 ghost use Rattle.jr_session.specs.Trying.{IsJudged, IsTried, AreSomeProgram};
+ghost use Rattle.jr_session.specs.Trying.{changes_file, AreUnchanged, IsOfAnalysed};
 
 use crate::changes::Change;
 use crate::turns::{exchange_all, readings_of};
-use jr_sources::{Analysis, Readings, SourceFault, Sources, Whole, first_error, keep_analysis};
+use jr_sources::{
+    Analysed, Analysis, EarlierAnalysis, Readings, SourceFault, Sources, Whole, analyse,
+    first_error,
+};
 use jr_steps::Steps;
 use jr_table::Table;
 use std::alloc::{AllocError, Global};
@@ -39,23 +44,21 @@ pub(crate) enum Tried {
 }
 
 // Lets go what was analysed. A call of this costs less than to let it go in each place.
-fn forget(_kept: Option<Analysis>) {}
+fn forget(_analysis: Analysis) {}
+
+fn forget_earlier(_earlier: Option<EarlierAnalysis>) {}
 
 // What comes of sources that have no fault.
-fn judge_analysed(sources: &Sources, kept: Option<Analysis>) -> Judged
-    requires kept { IsKeptAnalysis sources.now kept }
-    requires filled { IsFilled kept }
+fn judge_analysed(sources: &Sources, analysis: Analysis) -> Judged
+    requires { IsAnalysis sources.now analysis }
     ensures { IsJudged sources.now result }
 {
-    match kept {
-        None => unreachable!(),
-        Some(analysis) => match first_error(sources, &analysis) {
-            Some(error) => {
-                forget(Some(analysis));
-                Judged::Wrong(error)
-            }
-            None => Judged::Sound(analysis),
-        },
+    match first_error(sources, &analysis) {
+        Some(error) => {
+            forget(analysis);
+            Judged::Wrong(error)
+        }
+        None => Judged::Sound(analysis),
     }
 }
 
@@ -76,42 +79,36 @@ fn judge<L: Ledger>(
     sources: &Sources,
     readings: &Readings,
     known: &mut Option<Table>,
+    earlier: &mut Option<EarlierAnalysis>,
     steps: &mut Steps<L>,
 ) -> Result<Judged, AllocError>
-    requires { AreReadings (texts_of sources.now) readings.now }
+    requires readings { AreReadings (texts_of sources.now) readings.now }
+    requires earlier { IsMaybeEarlier sources.now earlier.old }
     ensures judged { IfOk result (IsJudged sources.now) }
     ensures cost { CostsBinding sources.now steps.old steps.new }
 {
     let _count = sources.count();
-    let mut kept = None;
-    match keep_analysis(alloc, sources, readings, &mut kept, known.take(), steps) {
-        Ok(None) => Ok(judge_analysed(sources, kept)),
-        Ok(Some(fault)) => {
-            forget(kept);
-            Ok(Judged::Wrong(fault))
-        }
-        Err(error) => {
-            forget(kept);
-            Err(error)
-        }
+    match analyse(alloc, sources, readings, known, earlier, steps)? {
+        Analysed::Program(analysis) => Ok(judge_analysed(sources, analysis)),
+        Analysed::Fault(fault) => Ok(Judged::Wrong(fault)),
     }
 }
 
-/// Gives files other texts, and what these read as, unless something is wrong with the sources that
-/// have them: then the old texts and readings are there again, and so they are where memory is
-/// wanted. The texts that stay are not read again.
-///
-/// `known` may be the table of the sources that have the new texts, so that no other is made.
-pub(crate) fn try_texts<L: Ledger>(
+// Gives files other texts, and what these read as, unless something is wrong with the sources that
+// have them: then the old texts and readings are there again, and so they are where memory is
+// wanted. The texts that stay are not read again.
+fn try_by<L: Ledger>(
     alloc: Global,
     sources: &mut Sources,
     readings: &mut Readings,
     changes: Vec<Change>,
     known: &mut Option<Table>,
+    earlier: &mut Option<EarlierAnalysis>,
     steps: &mut Steps<L>,
 ) -> Result<Tried, AllocError>
     requires files { AreOfFiles (length sources.old) changes.items }
     requires readings { AreReadings (texts_of sources.old) readings.old }
+    requires earlier { IsMaybeEarlier (put_back sources.old changes.items) earlier.old }
     ensures tried { IfOk result (IsTried sources.old changes.items sources.new) }
     ensures err { OnErr result (sources.new ≡ sources.old) }
     ensures readings { AreReadings (texts_of sources.new) readings.new }
@@ -124,7 +121,7 @@ pub(crate) fn try_texts<L: Ledger>(
     let mut spare = Vec::with_capacity(alloc, changes.len())?;
     let mut rest = Vec::with_capacity(alloc, changes.len())?;
     exchange_all(sources, readings, &mut had, &mut were, changes, with);
-    match judge(alloc, sources, readings, known, steps) {
+    match judge(alloc, sources, readings, known, earlier, steps) {
         Ok(Judged::Sound(analysis)) => Ok(Tried::Sound { analysis, had }),
         Ok(Judged::Wrong(fault)) => {
             exchange_all(sources, readings, &mut spare, &mut rest, had, were);
@@ -135,4 +132,72 @@ pub(crate) fn try_texts<L: Ledger>(
             Err(error)
         }
     }
+}
+
+// Whether the file of the number gets another text.
+fn is_changed(changes: &[Change], file: u32) -> bool
+    ensures { result ≡ changes_file changes.now file }
+{
+    changes.iter().any(|change| change.file == file)
+}
+
+// For each of so many files, whether its text stays.
+fn unchanged(alloc: Global, count: u32, changes: &[Change]) -> Result<Vec<bool>, AllocError>
+    ensures { IfOk result (λ stays. AreUnchanged changes.now stays.items) }
+{
+    let mut stays = Vec::with_capacity(alloc, count as usize)?;
+    for file in 0..count {
+        stays.push(!is_changed(changes, file))?;
+    }
+    Ok(stays)
+}
+
+// What was analysed before files got other texts, if it was.
+fn earlier_of(analysed: Option<Analysis>, stays: Vec<bool>) -> Option<EarlierAnalysis>
+    ensures { IsOfAnalysed analysed stays.items result }
+{
+    match analysed {
+        None => None,
+        Some(analysis) => Some(EarlierAnalysis { analysis, stays }),
+    }
+}
+
+/// Gives files other texts, and what these read as, unless something is wrong with the sources that
+/// have them: then the old texts and readings are there again, and so they are where memory is
+/// wanted. The texts that stay are not read again.
+///
+/// `known` may be the table of the sources that have the new texts, so that no other is made. What
+/// was analysed of the old texts is taken, so that members that keep what is bound of them need not
+/// be bound again.
+pub(crate) fn try_texts<L: Ledger>(
+    alloc: Global,
+    sources: &mut Sources,
+    readings: &mut Readings,
+    analysed: &mut Option<Analysis>,
+    changes: Vec<Change>,
+    known: &mut Option<Table>,
+    steps: &mut Steps<L>,
+) -> Result<Tried, AllocError>
+    requires files { AreOfFiles (length sources.old) changes.items }
+    requires readings { AreReadings (texts_of sources.old) readings.old }
+    requires analysed { IsKeptAnalysis sources.old analysed.old }
+    ensures tried { IfOk result (IsTried sources.old changes.items sources.new) }
+    ensures err { OnErr result (sources.new ≡ sources.old) }
+    ensures readings { AreReadings (texts_of sources.new) readings.new }
+    ensures analysed { IsKeptAnalysis sources.new analysed.new }
+    ensures cost { CostsBinding (put_back sources.old changes.items) steps.old steps.new }
+{
+    let stays = unchanged(alloc, sources.count(), changes.as_slice())?;
+    let mut earlier = earlier_of(analysed.take(), stays);
+    let tried = try_by(
+        alloc,
+        sources,
+        readings,
+        changes,
+        known,
+        &mut earlier,
+        steps,
+    );
+    forget_earlier(earlier);
+    tried
 }

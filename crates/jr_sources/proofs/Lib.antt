@@ -19,3 +19,4 @@ pub mod Nearer
 pub mod WholeProgram
 pub mod FirstErrors
 pub mod MembersFew
+pub mod Rebinding

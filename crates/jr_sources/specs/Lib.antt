@@ -13,3 +13,4 @@ pub mod Broken
 pub mod Whole
 pub mod Asking
 pub mod WholeView
+pub mod Earlier

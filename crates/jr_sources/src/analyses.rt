@@ -11,6 +11,13 @@ pub struct Analysis {
     pub members: Vec<MemberBound>,
 }
 
+/// What was analysed of earlier sources, and for each file whether its text is the same now.
+#[derive(Drop)]
+pub struct EarlierAnalysis {
+    pub analysis: Analysis,
+    pub stays: Vec<bool>,
+}
+
 /// The first fault of sources: the number of its file, its byte, and the name of its kind.
 #[derive(Drop)]
 pub struct SourceFault {

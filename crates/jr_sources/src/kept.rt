@@ -59,8 +59,8 @@ impl Readings {
         Ok(())
     }
 
-    /// Puts a reading in the place of that of the file of the number, and hands out the one that was
-    /// there.
+    /// Puts a reading in the place of that of the file of the number, and hands out the one that
+    /// was there.
     pub fn exchange(&mut self, number: u32, reading: Reading) -> Reading
         requires units { number < length self.old.units.items }
         requires words { number < length self.old.words.items }

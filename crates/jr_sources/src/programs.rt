@@ -1,16 +1,21 @@
 //! Sources are analysed: their table is made, and their members are bound.
-ghost use Rattle.std.specs.Prelude.{map, IfOk, IfNone, MatchOption};
+ghost use Rattle.std.specs.Prelude.{◌+◌, ◌≤◌, length, map, IfOk, IfNone, MatchOption};
 ghost use Rattle.jr_ast.specs.View.{unit_of};
 ghost use Rattle.jr_table.specs.Sites.{sites_of};
 ghost use Rattle.jr_table.specs.ProgramRows.{AreProgramRows};
+ghost use Rattle.jr_members.specs.PartView.{written_of};
 ghost use Rattle.jr_places.specs.FileParts.{begins};
+ghost use Rattle.jr_shown.specs.Members.{EachOf, CanBind, AreKnown, AreEachBound};
+ghost use Rattle.jr_shown.specs.Members.{AreInFileOrder, AreWrittenInOrder};
+ghost use Rattle.jr_rebind.specs.Rebinding.{IsRebinding};
 ghost use Rattle.jr_sources.specs.Analysed.{AreLexed, IsAnalysed, IsSourceFault, IsKeptAnalysis};
 ghost use Rattle.jr_sources.specs.Analysed.{IsFilled, CostsBinding};
+ghost use Rattle.jr_sources.specs.Earlier.{IsMaybeEarlier, CanRebind};
 ghost use Rattle.jr_sources.specs.FirstFault.{AreRead, AreProgram};
 ghost use Rattle.jr_sources.specs.KeptReadings.{AreReadings};
 ghost use Rattle.jr_sources.specs.Sources.{AreSources, texts_of};
 
-use crate::analyses::{Analysed, Analysis, SourceFault};
+use crate::analyses::{Analysed, Analysis, EarlierAnalysis, SourceFault};
 use crate::first_faults::first_of;
 use crate::kept::Readings;
 use crate::reading_laws::text_has_one_reading;
@@ -18,14 +23,79 @@ use crate::sources::Sources;
 use jr_ast::Unit;
 use jr_build::{BuildFault, build};
 use jr_lex::one_answer;
-use jr_members::{members_are_written, written_members};
+use jr_members::{WrittenMember, members_are_written, written_members};
 use jr_places::{one_is_bound, parts_are_placed};
-use jr_shown::{Tokens, bind_members};
+use jr_rebind::rebind_members;
+use jr_shown::{MemberBound, Tokens, bind_members};
 use jr_steps::Steps;
 use jr_table::Table;
 use jr_text::Span;
 use std::alloc::{AllocError, Global};
 use std::sync::ledger::Ledger;
+
+// What binding knows of written members, by what it knew of those of earlier sources.
+fn bind_by<L: Ledger>(
+    alloc: Global,
+    table: &Table,
+    tokens: &[Tokens],
+    written: &[WrittenMember<'_, Span>],
+    earlier: EarlierAnalysis,
+    steps: &mut Steps<L>,
+) -> Result<Vec<MemberBound>, AllocError>
+    requires each { EachOf (CanBind table.now tokens.now) (map written_of written.now) }
+    requires earlier { IsRebinding earlier.analysis.table table.now tokens.now
+        (map written_of written.now) earlier.stays.items earlier.analysis.members.items }
+    ensures known { IfOk result (λ bounds.
+        AreKnown table.now tokens.now (map written_of written.now) bounds.items) }
+    ensures each { IfOk result (λ bounds.
+        AreEachBound table.now tokens.now (map written_of written.now) bounds.items) }
+    ensures order { IfOk result (λ bounds. AreWrittenInOrder (map written_of written.now)
+        → AreInFileOrder bounds.items) }
+    ensures least { steps.old ≤ steps.new }
+    ensures most { steps.new ≤ steps.old + length written.now }
+{
+    let EarlierAnalysis { analysis, stays } = earlier;
+    let Analysis {
+        table: before,
+        members,
+    } = analysis;
+    rebind_members(
+        alloc,
+        &before,
+        table,
+        tokens,
+        written,
+        stays.as_slice(),
+        members,
+        steps,
+    )
+}
+
+// The same, if that is given, which is of no use then; else by themselves.
+fn bind_written<L: Ledger>(
+    alloc: Global,
+    table: &Table,
+    tokens: &[Tokens],
+    written: &[WrittenMember<'_, Span>],
+    earlier: &mut Option<EarlierAnalysis>,
+    steps: &mut Steps<L>,
+) -> Result<Vec<MemberBound>, AllocError>
+    requires each { EachOf (CanBind table.now tokens.now) (map written_of written.now) }
+    requires earlier { CanRebind table.now tokens.now (map written_of written.now) earlier.old }
+    ensures known { IfOk result (λ bounds.
+        AreKnown table.now tokens.now (map written_of written.now) bounds.items) }
+    ensures each { IfOk result (λ bounds.
+        AreEachBound table.now tokens.now (map written_of written.now) bounds.items) }
+    ensures order { IfOk result (λ bounds. AreWrittenInOrder (map written_of written.now)
+        → AreInFileOrder bounds.items) }
+    ensures least { steps.old ≤ steps.new }
+    ensures most { steps.new ≤ steps.old + length written.now }
+{
+    match earlier.take() {
+        None => bind_members(alloc, table, tokens, written, steps),
+        Some(earlier) => bind_by(alloc, table, tokens, written, earlier, steps),
+    }
+}
 
 // What is known of sources that are a program with these units, tokens and this table.
 fn bind_all<L: Ledger>(
@@ -35,12 +105,14 @@ fn bind_all<L: Ledger>(
     words: &[u32],
     tokens: &[Tokens],
     table: Table,
+    earlier: &mut Option<EarlierAnalysis>,
     steps: &mut Steps<L>,
 ) -> Result<Analysed, AllocError>
     requires valid { AreSources sources.now }
     requires program { AreProgram sources.now (map unit_of units.now) words.now }
     requires lexed { AreLexed (texts_of sources.now) tokens.now }
     requires rows { AreProgramRows (sites_of begins (map unit_of units.now)) table }
+    requires earlier { IsMaybeEarlier sources.now earlier.old }
     ensures analysed { IfOk result (IsAnalysed sources.now) }
     ensures cost { CostsBinding sources.now steps.old steps.new }
 {
@@ -51,7 +123,7 @@ fn bind_all<L: Ledger>(
     one_is_bound();
     table.keeps_rows();
     let written = written_members(alloc, &table, units)?;
-    let members = bind_members(alloc, &table, tokens, written.as_slice(), steps)?;
+    let members = bind_written(alloc, &table, tokens, written.as_slice(), earlier, steps)?;
     Ok(Analysed::Program(Analysis { table, members }))
 }
 
@@ -63,11 +135,13 @@ fn analyse_units<L: Ledger>(
     words: &[u32],
     tokens: &[Tokens],
     known: &mut Option<Table>,
+    earlier: &mut Option<EarlierAnalysis>,
     steps: &mut Steps<L>,
 ) -> Result<Analysed, AllocError>
     requires valid { AreSources sources.now }
     requires read { AreRead sources.now (map unit_of units.now) words.now }
     requires lexed { AreLexed (texts_of sources.now) tokens.now }
+    requires earlier { IsMaybeEarlier sources.now earlier.old }
     ensures analysed { IfOk result (IsAnalysed sources.now) }
     ensures cost { CostsBinding sources.now steps.old steps.new }
 {
@@ -78,7 +152,7 @@ fn analyse_units<L: Ledger>(
             kind: kind.name(),
         })),
         Err(BuildFault::Memory) => Err(AllocError),
-        Ok(table) => bind_all(alloc, sources, units, words, tokens, table, steps),
+        Ok(table) => bind_all(alloc, sources, units, words, tokens, table, earlier, steps),
     }
 }
 
@@ -103,16 +177,22 @@ fn file_fault(sources: &Sources, readings: &Readings) -> Option<SourceFault>
     }
 }
 
-// What is known of sources, or their first fault.
-fn analyse<L: Ledger>(
+/// What is known of sources, or their first fault.
+///
+/// `known` may be a table that was made before: it is taken where it has exactly the rows of these
+/// sources. `earlier` may be what was analysed of other sources: of the members of files that stay,
+/// those keep what is bound of them that refer to nothing by a name in which the tables differ.
+pub fn analyse<L: Ledger>(
     alloc: Global,
     sources: &Sources,
     readings: &Readings,
     known: &mut Option<Table>,
+    earlier: &mut Option<EarlierAnalysis>,
     steps: &mut Steps<L>,
 ) -> Result<Analysed, AllocError>
     requires valid { AreSources sources.now }
     requires readings { AreReadings (texts_of sources.now) readings.now }
+    requires earlier { IsMaybeEarlier sources.now earlier.old }
     ensures analysed { IfOk result (IsAnalysed sources.now) }
     ensures cost { CostsBinding sources.now steps.old steps.new }
 {
@@ -125,19 +205,41 @@ fn analyse<L: Ledger>(
             readings.words.as_slice(),
             readings.tokens.as_slice(),
             known,
+            earlier,
             steps,
         ),
     }
 }
 
-// Analyses sources, unless what they give is kept already. `known` is taken where it is their
-// table.
-fn keep_by<L: Ledger>(
+// Lets go what wasn't taken.
+fn forget(_known: Option<Table>, _earlier: Option<EarlierAnalysis>) {}
+
+// What is known of sources, of which nothing is known before.
+fn analyse_anew<L: Ledger>(
+    alloc: Global,
+    sources: &Sources,
+    readings: &Readings,
+    steps: &mut Steps<L>,
+) -> Result<Analysed, AllocError>
+    requires valid { AreSources sources.now }
+    requires readings { AreReadings (texts_of sources.now) readings.now }
+    ensures analysed { IfOk result (IsAnalysed sources.now) }
+    ensures cost { CostsBinding sources.now steps.old steps.new }
+{
+    let mut known = None;
+    let mut earlier = None;
+    let analysed = analyse(alloc, sources, readings, &mut known, &mut earlier, steps);
+    forget(known, earlier);
+    analysed
+}
+
+/// Analyses sources, unless what they give is kept already. A fault is told, the first of the
+/// sources; where there is none, what was analysed is kept.
+pub fn keep_analysis<L: Ledger>(
     alloc: Global,
     sources: &Sources,
     readings: &Readings,
     kept: &mut Option<Analysis>,
-    known: &mut Option<Table>,
     steps: &mut Steps<L>,
 ) -> Result<Option<SourceFault>, AllocError>
     requires valid { AreSources sources.now }
@@ -151,41 +253,11 @@ fn keep_by<L: Ledger>(
     if kept.is_some() {
         return Ok(None);
     }
-    match analyse(alloc, sources, readings, known, steps)? {
+    match analyse_anew(alloc, sources, readings, steps)? {
         Analysed::Fault(fault) => Ok(Some(fault)),
         Analysed::Program(analysis) => {
             *kept = Some(analysis);
             Ok(None)
         }
     }
-}
-
-// Lets go a table that isn't taken.
-fn forget(_known: Option<Table>) {}
-
-/// Analyses sources, unless what they give is kept already. A fault is told, the first of the
-/// sources; where there is none, what was analysed is kept.
-///
-/// `known` may be a table that was made before: it is taken where it has exactly the rows of these
-/// sources.
-pub fn keep_analysis<L: Ledger>(
-    alloc: Global,
-    sources: &Sources,
-    readings: &Readings,
-    kept: &mut Option<Analysis>,
-    known: Option<Table>,
-    steps: &mut Steps<L>,
-) -> Result<Option<SourceFault>, AllocError>
-    requires valid { AreSources sources.now }
-    requires readings { AreReadings (texts_of sources.now) readings.now }
-    requires kept { IsKeptAnalysis sources.now kept.old }
-    ensures kept { IsKeptAnalysis sources.now kept.new }
-    ensures found { IfOk result (λ fault.
-        MatchOption fault (IsFilled kept.new) (IsSourceFault sources.now)) }
-    ensures cost { CostsBinding sources.now steps.old steps.new }
-{
-    let mut known = known;
-    let found = keep_by(alloc, sources, readings, kept, &mut known, steps);
-    forget(known);
-    found
 }

@@ -1,7 +1,4 @@
 use Rattle.jr_session.proofs.tries.judge_analysed.Goals as goal
 
-pub first_error-requires : goal.first_error-requires
-first_error-requires c = c.requires.kept c.in-Some.analysis c.in-Some.is
-
-pub returns-in-None-first_error : goal.returns-in-None-first_error
-returns-in-None-first_error c = (c.requires.kept c.in-Some.analysis c.in-Some.is, c.in-None-first_error.ensures)
+pub returns-in-None : goal.returns-in-None
+returns-in-None c = (c.requires, c.in-None.ensures)

@@ -1,10 +1,11 @@
-use Rattle.jr_session.proofs.Trying.{files_again}
+use Rattle.std.proofs.Common.{List, subst}
+use Rattle.jr_session.specs.declared.changes.Change.{Change}
+use Rattle.jr_session.specs.Trying.{AreUnchanged}
+use Rattle.jr_session.proofs.Staying.{earlier_serves}
 use Rattle.jr_session.proofs.tries.try_texts.Goals as goal
 
-pub exchange_all-requires-in-Ok-Wrong-clause-files : goal.exchange_all-requires-in-Ok-Wrong-clause-files
-exchange_all-requires-in-Ok-Wrong-clause-files g c =
-    files_again c.args.sources.now c.exchange_all.new.sources c.args.changes.items c.in_ok-had.had.items c.exchange_all.new.had.items c.in_ok-had.ensures.items c.exchange_all.ensures.changed
-
-pub exchange_all-requires-in-Err-clause-files : goal.exchange_all-requires-in-Err-clause-files
-exchange_all-requires-in-Err-clause-files g c =
-    files_again c.args.sources.now c.exchange_all.new.sources c.args.changes.items c.in_ok-had.had.items c.exchange_all.new.had.items c.in_ok-had.ensures.items c.exchange_all.ensures.changed
+pub try_by-tried-requires-clause-earlier : goal.try_by-tried-requires-clause-earlier
+try_by-tried-requires-clause-earlier g c =
+    let stays = c.in_ok-stays.stays.items in
+    let same : AreUnchanged c.args.changes.items stays = subst (λ (cs : List Change). AreUnchanged cs stays) c.as_slice.ensures.value c.in_ok-stays.ensures in
+    earlier_serves c.args.sources.now c.args.changes.items stays same c.args.analysed.now c.take.result c.requires.analysed c.take.ensures.value c.earlier_of-earlier.result c.earlier_of-earlier.ensures

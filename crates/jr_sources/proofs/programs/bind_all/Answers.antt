@@ -9,6 +9,7 @@ use Rattle.jr_places.specs.FileParts.{begins}
 use Rattle.jr_shown.specs.Members.{EachOf, CanBind, AreKnown, AreEachBound, AreWrittenInOrder}
 use Rattle.jr_sources.proofs.Analysing.{counts, costs, written_few, all_bind, known_refers, known_errs, known_token, known_once}
 use Rattle.jr_sources.proofs.PartsFit.{units_gathered}
+use Rattle.jr_sources.proofs.Rebinding.{rebinding}
 use Rattle.jr_sources.proofs.WrittenOrder.{written_rise}
 use Rattle.jr_sources.proofs.programs.bind_all.Goals as goal
 
@@ -22,8 +23,8 @@ written_members-requires-clause-few g c =
 pub written_members-requires-clause-fits : goal.written_members-requires-clause-fits
 written_members-requires-clause-fits g c = units_gathered _ (map unit_of c.args.units.now)
 
-pub bind_members-requires : goal.bind_members-requires
-bind_members-requires g c =
+pub bind_written-requires-clause-each : goal.bind_written-requires-clause-each
+bind_written-requires-clause-each g c =
     let units = map unit_of c.args.units.now in
     let toks = c.args.tokens.now in
     let ws = map written_of c.in_ok-written.written.items in
@@ -31,23 +32,30 @@ bind_members-requires g c =
     let all = all_bind c.args.sources.now units c.args.words.now c.requires.program c.args.table c.keeps_rows.ensures toks c.requires.lexed c.one_answer.ensures.items c.parts_are_placed.ensures.parts c.parts_are_placed.ensures.supers c.one_is_bound.ensures ws law in
     subst (λ xs. EachOf (CanBind c.args.table toks) (map written_of xs)) (sym c.as_slice.ensures.value) all
 
+pub bind_written-requires-clause-earlier : goal.bind_written-requires-clause-earlier
+bind_written-requires-clause-earlier g c =
+    let units = map unit_of c.args.units.now in
+    let written = ap (map written_of) c.as_slice.ensures.value ∙ c.in_ok-written.ensures in
+    λ e h. rebinding c.text_has_one_reading.ensures c.one_answer.ensures.items c.args.sources.now units c.args.words.now c.requires.program.read c.args.tokens.now c.requires.lexed
+    c.args.table (map written_of c.as_slice.result.now) written e (c.requires.earlier e h)
+
 pub returns-in_err-members-clause-cost : goal.returns-in_err-members-clause-cost
 returns-in_err-members-clause-cost g c =
     let units = map unit_of c.args.units.now in
     let count : length c.as_slice.result.now ≡ length (written_members begins c.args.table units) = ap length c.as_slice.ensures.value ∙ sym (length-map c.in_ok-written.written.items written_of) ∙ ap length c.in_ok-written.ensures in
     let few = written_few c.args.table units in
-    let least = c.bind_members.ensures.least in
-    let most = c.bind_members.ensures.most in
-    costs c.text_has_one_reading.ensures c.args.sources.now units c.args.words.now c.requires.program c.args.steps.now c.bind_members.new.steps least (omega (arith, most, count, few))
+    let least = c.bind_written.ensures.least in
+    let most = c.bind_written.ensures.most in
+    costs c.text_has_one_reading.ensures c.args.sources.now units c.args.words.now c.requires.program c.args.steps.now c.bind_written.new.steps least (omega (arith, most, count, few))
 
 pub returns-clause-cost : goal.returns-clause-cost
 returns-clause-cost g c =
     let units = map unit_of c.args.units.now in
     let count : length c.as_slice.result.now ≡ length (written_members begins c.args.table units) = ap length c.as_slice.ensures.value ∙ sym (length-map c.in_ok-written.written.items written_of) ∙ ap length c.in_ok-written.ensures in
     let few = written_few c.args.table units in
-    let least = c.bind_members.ensures.least in
-    let most = c.bind_members.ensures.most in
-    costs c.text_has_one_reading.ensures c.args.sources.now units c.args.words.now c.requires.program c.args.steps.now c.bind_members.new.steps least (omega (arith, most, count, few))
+    let least = c.bind_written.ensures.least in
+    let most = c.bind_written.ensures.most in
+    costs c.text_has_one_reading.ensures c.args.sources.now units c.args.words.now c.requires.program c.args.steps.now c.bind_written.new.steps least (omega (arith, most, count, few))
 
 pub returns-clause-analysed : goal.returns-clause-analysed
 returns-clause-analysed g c =
