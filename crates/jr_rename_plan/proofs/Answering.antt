@@ -1,5 +1,5 @@
 -- What is answered, put together from what the calls below answer.
-use Rattle.std.proofs.Common.{◌≡◌, ℕ, ◌<◌, List, Option, Some, None, refl, sym, ap, subst, ◌∙◌, inl, inr, length, arith}
+use Rattle.std.proofs.Common.{◌≡◌, ℕ, ◌<◌, List, Option, Some, None, refl, sym, subst, ◌∙◌, inl, inr, length, arith}
 use Rattle.std.specs.Prelude.{slice_get, option_map}
 use Rattle.std.proofs.lemmas.Option.{slice_get-map, slice_get_cases}
 use Rattle.jr_text.specs.declared.spans.Span.{Span}
@@ -8,6 +8,7 @@ use Rattle.jr_ast.specs.MemberTree as syntax
 use Rattle.jr_grammar.specs.Reads.{Reads}
 use Rattle.jr_table.specs.Keys.{ClassKey, MethodKey}
 use Rattle.jr_table.specs.Decls.{Decl}
+use Rattle.jr_table.specs.Rows.{Row}
 use Rattle.jr_names.specs.Refusals.{Refusal, prelude_method, override_changed, lost_binding}
 use Rattle.jr_names.specs.Replies.{Outcome, planned, not_planned}
 use Rattle.jr_bind.specs.Programs.{File, Program, IsProgram, units_of}
@@ -19,6 +20,7 @@ use Rattle.jr_rename.specs.Renames.{Renames, OfPrelude, Clashes, Overrides, IsRe
 use Rattle.jr_grammar.specs.Layout.{itself}
 use Rattle.jr_rewriting.specs.Rewritings.{IsRewriting}
 use Rattle.jr_target.specs.ProgramTargets.{HasTargetAt}
+use Rattle.jr_rename_plan.specs.Afters.{PlansRows, AnswersRows}
 use Rattle.jr_rename_plan.specs.Answers.{Gives, SparesPrelude, AnswersKeeping, AnswersOf, Answers}
 use Rattle.jr_rename_plan.specs.Plans.{Plans}
 
@@ -97,3 +99,13 @@ module _ (p : Program Span) where
       },
     )
     plans (not_planned r) h = refused r h
+
+    -- its new rows have the property
+    pub plans_rows : (o : Outcome) (P : List Row → Type 0) → AnswersRows p d new o P → PlansRows p file at new o P
+    unfolding plans
+    plans_rows (planned edits renaming respelled lost) P ((g, gives, inl (q, e, h)), kept, is) = absurd cc
+    plans_rows (planned edits renaming respelled lost) P ((g, gives, inr (none, inl (q, e, h))), kept, is) = absurd cc
+    plans_rows (planned edits renaming respelled lost) P ((g, gives, inr (none, inr (clear, inl (q, e, h)))), kept, is) = absurd cc
+    plans_rows (planned edits renaming respelled lost) P ((g, gives, inr (none, inr (clear, inr (keeps, (w, pairs, nothing))))), kept, is) =
+        λ f s. ((plans (planned edits renaming respelled lost) (g, gives, inr (none, inr (clear, inr (keeps, (w, pairs, nothing)))))).1 f s, kept, is)
+    plans_rows (not_planned r) P h = tt

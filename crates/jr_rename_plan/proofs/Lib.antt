@@ -2,3 +2,4 @@ mod Changing
 mod Naming
 mod Answering
 mod LocalRows
+mod Telling

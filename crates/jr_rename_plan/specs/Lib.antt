@@ -1,3 +1,4 @@
+pub mod Afters
 pub mod Plans
 pub mod Steps
 pub mod Answers

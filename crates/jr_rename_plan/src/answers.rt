@@ -14,9 +14,12 @@ ghost use Rattle.jr_rename.specs.RenameLaws.{IsFair};
 ghost use Rattle.jr_rename.specs.Renames.{pairs_of};
 ghost use Rattle.jr_respell.specs.Scopes.{rows_in, renaming_in, AreImages};
 ghost use Rattle.jr_rewriting.specs.Gathered.{members_of};
+ghost use Rattle.jr_rename_plan.specs.declared.afters.After.TheVariants.{Unknown};
+ghost use Rattle.jr_rename_plan.specs.Afters.{TellsRows};
 ghost use Rattle.jr_rename_plan.specs.Answers.{AnswersOf, AnswersKeeping};
 ghost use Rattle.jr_rename_plan.specs.OneLocal.{IsLocal, IsOfOneLocal};
 
+use crate::afters::{After, put};
 use crate::pairs::changed_pairs;
 use jr_bind::View;
 use jr_family::dispatch_change;
@@ -155,28 +158,32 @@ fn is_of_one_local(g: &NewName) -> bool
 }
 
 /// What comes of a renaming that collides with nothing. Where a local is renamed, the new program
-/// has the same table. Else that table is made, and handed out in `after`.
+/// has the same table. Else that table is made, and told in `after`.
 pub(crate) fn of_renaming<V: View<Span>>(
     alloc: Global,
     view: &V,
     members: &[WrittenMember<'_, Span>],
     g: &NewName,
-    after: &mut Option<Table>,
+    after: &mut After,
 ) -> Result<Outcome, AllocError>
     requires members { map written_of members.now ≡ members_of (V.program view.now) }
     requires fair { IsFair (V.program view.now).rows (renaming_of g.now) }
     requires name { IsName (renaming_of g.now).name }
-    ensures { IfOk result (λ o. AnswersOf (V.program view.now) (renaming_of g.now)
+    requires blank { after.old ≡ Unknown }
+    ensures outcome { IfOk result (λ o. AnswersOf (V.program view.now) (renaming_of g.now)
         (outcome_of o)) }
+    ensures after { TellsRows (V.program view.now).rows
+        (pure.rows_to (renaming_of g.now) (V.program view.now).rows) after.new }
 {
     locals_keep_keys();
     let before = view.table();
     if is_of_one_local(g) {
+        put(after, After::Same);
         of_tables(alloc, view, members, g, before, before)
     } else {
         let table = table_after(alloc, before, g)?;
         let outcome = of_tables(alloc, view, members, g, before, &table);
-        *after = Some(table);
+        put(after, After::Images(table));
         outcome
     }
 }

@@ -4,11 +4,13 @@
 //! with it, and asks for each refusal in turn; last it rewrites the program (JLS 6).
 #![tactic(auto)]
 
+mod afters;
 mod answers;
 mod pairs;
 mod plans;
 mod steps;
 mod targets;
 
+pub use afters::After;
 pub use plans::plan_at;
 pub use steps::plan;

@@ -6,14 +6,16 @@ ghost use Rattle.jr_names.specs.Refusals.{bad_target};
 ghost use Rattle.jr_names.specs.Replies.{not_planned};
 ghost use Rattle.jr_names.specs.ReplyView.{outcome_of};
 ghost use Rattle.jr_rewriting.specs.Gathered.{members_of};
+ghost use Rattle.jr_rename_plan.specs.declared.afters.After.TheVariants.{Unknown};
 ghost use Rattle.jr_rename_plan.specs.Plans.{Plans};
+ghost use Rattle.jr_rename_plan.specs.Afters.{IsAfter};
 
+use crate::afters::After;
 use crate::targets::of_target;
 use jr_ast::Name;
 use jr_bind::View;
 use jr_members::{WrittenMember, written_members};
 use jr_names::{Need, Outcome, Refusal};
-use jr_table::Table;
 use jr_target::target;
 use jr_text::{Place, Span};
 use std::alloc::{AllocError, Global};
@@ -49,12 +51,15 @@ fn plan_among<V: View<Span>>(
     file: u32,
     at: u32,
     new: &Name,
-    after: &mut Option<Table>,
+    after: &mut After,
 ) -> Result<Outcome, AllocError>
     requires members { map written_of members.now ≡ members_of (V.program view.now) }
     requires file { file < length (V.program view.now).files }
     requires name { IsName new.now }
-    ensures { IfOk result (λ o. Plans (V.program view.now) file at new.now (outcome_of o)) }
+    requires blank { after.old ≡ Unknown }
+    ensures plan { IfOk result (λ o. Plans (V.program view.now) file at new.now (outcome_of o)) }
+    ensures after { IfOk result (λ o. IsAfter (V.program view.now) file at new.now (outcome_of o)
+        after.new) }
 {
     view.keeps_program();
     match target(alloc, view, members, file, at)? {
@@ -74,20 +79,22 @@ fn plan_among<V: View<Span>>(
 /// name collides (`Clash`), dispatch would change (`OverrideChanged`), a reference has no spelling
 /// (`LostBinding`) (JLS 6).
 ///
-/// Where the table of the new program was made for it, that is handed out in `after`, so that who
-/// needs it need not make it again. Nothing is promised of it: compare its rows with those that it
-/// has to have.
+/// What is then known of the table of the new program is told in `after`, so that who needs that
+/// table need not make it again.
 pub fn plan_at<V: View<Span>>(
     alloc: Global,
     view: &V,
     file: u32,
     at: u32,
     new: &Name,
-    after: &mut Option<Table>,
+    after: &mut After,
 ) -> Result<Outcome, AllocError>
     requires file { file < length (V.program view.now).files }
     requires name { IsName new.now }
-    ensures { IfOk result (λ o. Plans (V.program view.now) file at new.now (outcome_of o)) }
+    requires blank { after.old ≡ Unknown }
+    ensures plan { IfOk result (λ o. Plans (V.program view.now) file at new.now (outcome_of o)) }
+    ensures after { IfOk result (λ o. IsAfter (V.program view.now) file at new.now (outcome_of o)
+        after.new) }
 {
     let members = all_members(alloc, view)?;
     let outcome = plan_among(alloc, view, members.as_slice(), file, at, new, after);

@@ -5,6 +5,7 @@ ghost use Rattle.jr_names.specs.ReplyView.{outcome_of};
 ghost use Rattle.jr_rename_plan.specs.Plans.{Plans};
 ghost use Rattle.jr_rename_plan.specs.Steps.{HasName, IsFileOf, IsRename, PlansStep};
 
+use crate::afters::{After, forget};
 use crate::plans::plan_at;
 use jr_ast::Name;
 use jr_bind::View;
@@ -47,9 +48,9 @@ fn plan_in<V: View<Span>>(
         × Plans (V.program view.now) number at new.now (outcome_of o)) }
 {
     let number = file_of(view, file);
-    let mut after = None;
+    let mut after = After::Unknown;
     let outcome = plan_at(alloc, view, number, at, new, &mut after);
-    drop(after);
+    forget(after);
     outcome
 }
 

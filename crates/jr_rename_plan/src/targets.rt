@@ -6,13 +6,17 @@ ghost use Rattle.jr_table.specs.KeyView.{decl_of};
 ghost use Rattle.jr_names.specs.ReplyView.{outcome_of};
 ghost use Rattle.jr_rename.specs.Families.{AreRenamed};
 ghost use Rattle.jr_rename.specs.Targets.{IsOfPrelude};
+ghost use Rattle.jr_rename.specs.Images.{rows_to};
 ghost use Rattle.jr_rename.specs.ImageView.{renaming_of};
 ghost use Rattle.jr_bind.specs.Programs.{units_of};
 ghost use Rattle.jr_places.specs.FileParts.{begins};
 ghost use Rattle.jr_rename.specs.Clashes.{IsClear};
 ghost use Rattle.jr_rewriting.specs.Gathered.{members_of};
+ghost use Rattle.jr_rename_plan.specs.declared.afters.After.TheVariants.{Unknown};
+ghost use Rattle.jr_rename_plan.specs.Afters.{TellsRowsOf, AnswersAfter};
 ghost use Rattle.jr_rename_plan.specs.Answers.{Answers, SparesPrelude, AnswersSparing, AnswersOf};
 
+use crate::afters::{After, doubt, is_no_class};
 use crate::answers::of_renaming;
 use jr_ast::Name;
 use jr_bind::View;
@@ -21,7 +25,7 @@ use jr_family::{family, prelude_method};
 use jr_members::WrittenMember;
 use jr_names::{Outcome, Refusal};
 use jr_rename::{DeclSet, NewName, renamings_stay_fair, rows_are_named};
-use jr_table::{Decl, Table};
+use jr_table::Decl;
 use jr_text::Span;
 use std::alloc::{AllocError, Global};
 
@@ -32,7 +36,7 @@ fn freely<V: View<Span>>(
     members: &[WrittenMember<'_, Span>],
     target: &Decl,
     g: &NewName,
-    after: &mut Option<Table>,
+    after: &mut After,
 ) -> Result<Outcome, AllocError>
     requires members { map written_of members.now ≡ members_of (V.program view.now) }
     requires renamed { AreRenamed (V.program view.now).rows (decl_of target.now)
@@ -42,13 +46,22 @@ fn freely<V: View<Span>>(
     requires clear { IsClear begins (V.program view.now).rows (units_of (V.program view.now))
         (decl_of target.now) g.now.name }
     requires name { IsName g.now.name }
-    ensures { IfOk result (λ o. AnswersOf (V.program view.now) (renaming_of g.now)
+    requires blank { after.old ≡ Unknown }
+    ensures outcome { IfOk result (λ o. AnswersOf (V.program view.now) (renaming_of g.now)
         (outcome_of o)) }
+    ensures after { TellsRowsOf (decl_of target.now) (V.program view.now).rows
+        (rows_to (renaming_of g.now) (V.program view.now).rows) after.new }
 {
     view.keeps_program();
     renamings_stay_fair::<Span>();
     rows_are_named::<Span>();
-    of_renaming(alloc, view, members, g, after)
+    let outcome = of_renaming(alloc, view, members, g, after);
+    if is_no_class(target) {
+        outcome
+    } else {
+        doubt(after);
+        outcome
+    }
 }
 
 /// What comes of a target whose new name changes no method of the prelude.
@@ -58,7 +71,7 @@ fn sparing<V: View<Span>>(
     members: &[WrittenMember<'_, Span>],
     target: &Decl,
     g: &NewName,
-    after: &mut Option<Table>,
+    after: &mut After,
 ) -> Result<Outcome, AllocError>
     requires members { map written_of members.now ≡ members_of (V.program view.now) }
     requires renamed { AreRenamed (V.program view.now).rows (decl_of target.now)
@@ -66,8 +79,11 @@ fn sparing<V: View<Span>>(
     requires own { IsOfPrelude (V.program view.now).rows (decl_of target.now) → ⊥ }
     requires spares { SparesPrelude (V.program view.now) (decl_of target.now) g.now.name }
     requires name { IsName g.now.name }
-    ensures { IfOk result (λ o. AnswersSparing (V.program view.now) (decl_of target.now)
+    requires blank { after.old ≡ Unknown }
+    ensures outcome { IfOk result (λ o. AnswersSparing (V.program view.now) (decl_of target.now)
         g.now.name (renaming_of g.now) (outcome_of o)) }
+    ensures after { TellsRowsOf (decl_of target.now) (V.program view.now).rows
+        (rows_to (renaming_of g.now) (V.program view.now).rows) after.new }
 {
     match clash(alloc, view, members, target, g.decls.as_slice(), &g.name)? {
         Some(with) => Ok(Outcome::Refused(Refusal::Clash { with })),
@@ -82,13 +98,16 @@ pub(crate) fn of_target<V: View<Span>>(
     members: &[WrittenMember<'_, Span>],
     target: &Decl,
     new: &Name,
-    after: &mut Option<Table>,
+    after: &mut After,
 ) -> Result<Outcome, AllocError>
     requires members { map written_of members.now ≡ members_of (V.program view.now) }
     requires own { IsOfPrelude (V.program view.now).rows (decl_of target.now) → ⊥ }
     requires name { IsName new.now }
-    ensures { IfOk result (λ o. Answers (V.program view.now) (decl_of target.now) new.now
+    requires blank { after.old ≡ Unknown }
+    ensures outcome { IfOk result (λ o. Answers (V.program view.now) (decl_of target.now) new.now
         (outcome_of o)) }
+    ensures after { IfOk result (λ o. AnswersAfter (V.program view.now) (decl_of target.now) new.now
+        (outcome_of o) after.new) }
 {
     let decls = family(alloc, view.table(), target)?;
     let told = prelude_method(alloc, view.table(), target, decls.as_slice(), new)?;

@@ -10,6 +10,7 @@ use Rattle.jr_grammar.specs.Layout.{itself}
 use Rattle.jr_grammar.specs.Reads.{Reads}
 use Rattle.jr_table.specs.Decls.{Decl, class_decl, field_decl, method_decl, constructor_decl, local_decl}
 use Rattle.jr_table.specs.Context.{Context}
+use Rattle.jr_table.specs.Faults.{PackageLine, IsClean}
 use Rattle.jr_table.specs.Sites.{Site, sites_of}
 use Rattle.jr_names.specs.Refusals.{prelude_method}
 use Rattle.jr_bind.specs.Programs.{File, Program, units_of}
@@ -89,16 +90,19 @@ module _ (p : Program Span) (text : List ℕ) (file at : ℕ) (new : List ℕ) (
 
   -- ---- the new program
 
-  becomes : PlansBecome Span Span → (news : List (UnitTree Span)) → map without_marks news ≡ map (λ (o : Rewritten (UnitTree Span)). without_marks o.tree) is.planned.files → Becomes itself begins [] p.rows p.super_at (units_of p) is.planned.target is.planned.g news
-  becomes law news e = law itself begins [] p.rows p.super_at (units_of p) news text file at new edits renaming respelled is.planned is.program.are_rows is.program.rows is.program.clean names.1 e
+  abbrev New : List (UnitTree Span) → Type 0
+  New news = map without_marks news ≡ map (λ (o : Rewritten (UnitTree Span)). without_marks o.tree) is.planned.files
 
-  pub are_images : PlansBecome Span Span → LocalsGiveImages Span Span → FieldsGiveImages Span Span → MethodsGiveImages Span Span → IsNoClass is.planned.target → (news : List (UnitTree Span))
-      → map without_marks news ≡ map (λ (o : Rewritten (UnitTree Span)). without_marks o.tree) is.planned.files → AreImages itself begins [] p.rows (units_of p) is.planned.g news
-  are_images plans locals fields methods kind news e = by is.planned.target kind (becomes plans news e)
+  becomes : PlansBecome Span Span → (packages : List (Option PackageLine)) → IsClean packages (sites_of begins (units_of p)) → (news : List (UnitTree Span)) → New news → Becomes itself begins packages p.rows p.super_at (units_of p) is.planned.target is.planned.g news
+  becomes law packages clean news e = law itself begins packages p.rows p.super_at (units_of p) news text file at new edits renaming respelled is.planned is.program.are_rows is.program.rows clean names.1 e
+
+  pub are_images : PlansBecome Span Span → LocalsGiveImages Span Span → FieldsGiveImages Span Span → MethodsGiveImages Span Span → IsNoClass is.planned.target → (packages : List (Option PackageLine)) → IsClean packages (sites_of begins (units_of p)) → (news : List (UnitTree Span)) → New news
+      → AreImages itself begins packages p.rows (units_of p) is.planned.g news
+  are_images plans locals fields methods kind packages clean news e = by is.planned.target kind (becomes plans packages clean news e)
     where
-      by : (d : Decl) → IsNoClass d → Becomes itself begins [] p.rows p.super_at (units_of p) d is.planned.g news → AreImages itself begins [] p.rows (units_of p) is.planned.g news
-      by (local_decl k) h b = locals itself begins k [] p.rows p.super_at (units_of p) is.planned.g news b
-      by (field_decl k) h b = fields itself begins k [] p.rows p.super_at (units_of p) is.planned.g news b
-      by (method_decl k) h b = methods itself begins k [] p.rows p.super_at (units_of p) is.planned.g news b
+      by : (d : Decl) → IsNoClass d → Becomes itself begins packages p.rows p.super_at (units_of p) d is.planned.g news → AreImages itself begins packages p.rows (units_of p) is.planned.g news
+      by (local_decl k) h b = locals itself begins k packages p.rows p.super_at (units_of p) is.planned.g news b
+      by (field_decl k) h b = fields itself begins k packages p.rows p.super_at (units_of p) is.planned.g news b
+      by (method_decl k) h b = methods itself begins k packages p.rows p.super_at (units_of p) is.planned.g news b
       by (class_decl k) h b = absurd h
       by (constructor_decl k) h b = absurd h

@@ -1,5 +1,5 @@
 -- Laws of plans of renames, as statements.
-use Rattle.std.specs.Prelude.{◌≡◌, ℕ, List, [], map, Some, slice_get}
+use Rattle.std.specs.Prelude.{◌≡◌, ℕ, List, [], map, Option, Some, slice_get}
 use Rattle.jr_text.specs.declared.spans.Span.{Span}
 use Rattle.jr_text.specs.Edits.{Entry, AreEdits, FitsIn}
 use Rattle.jr_text.specs.Splices.{splice}
@@ -15,6 +15,7 @@ use Rattle.jr_table.specs.Decls.{
   constructor_decl,
   local_decl,
 }
+use Rattle.jr_table.specs.Faults.{PackageLine, IsClean}
 use Rattle.jr_table.specs.Sites.{sites_of}
 use Rattle.jr_bind.specs.Programs.{File, Program, IsProgram, units_of}
 use Rattle.jr_places.specs.FileParts.{begins}
@@ -82,3 +83,14 @@ NewProgramsAreImages = (p : Program Span) (text : List ℕ) (file at : ℕ) (new
     → (news : List (UnitTree Span)) → map without_marks news
     ≡ map (λ (o : Rewritten (UnitTree Span)). without_marks o.tree) is.planned.files
     → AreImages itself begins [] p.rows (units_of p) is.planned.g news
+
+-- the same with the files' package lines: where these have no fault, neither have lines of the same
+-- packages before the new trees
+abbrev pub NewProgramsStayClean : Type 0
+NewProgramsStayClean = (p : Program Span) (text : List ℕ) (file at : ℕ) (new : List ℕ)
+    (edits : List (List Entry)) (renaming : List (Decl × Decl)) (respelled : ℕ)
+    → (is : IsPlanIn p text file at new edits renaming respelled) → IsNoClass is.planned.target
+    → (packages : List (Option PackageLine)) → IsClean packages (sites_of begins (units_of p))
+    → (news : List (UnitTree Span)) → map without_marks news
+    ≡ map (λ (o : Rewritten (UnitTree Span)). without_marks o.tree) is.planned.files
+    → AreImages itself begins packages p.rows (units_of p) is.planned.g news

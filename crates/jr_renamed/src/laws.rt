@@ -1,5 +1,6 @@
 //! Laws of plans that no call's clause can carry.
 ghost use Rattle.jr_renamed.specs.PlanLaws.{NewTextsRead, ReferencesStay, NewProgramsAreImages};
+ghost use Rattle.jr_renamed.specs.PlanLaws.{NewProgramsStayClean};
 
 use jr_rename::{
     fields_give_images, locals_give_images, methods_give_images, plans_become, references_are_kept,
@@ -11,11 +12,13 @@ use jr_text::Span;
 /// its edits, reads as its new tree; each reference of the new trees is bound, by binding's own
 /// relations over the new rows, to the image of what it was bound to (JLS 6); and, where no class
 /// is renamed, the new files' declarations have no fault, their rows are the images of the old
-/// rows, and each member stands where the one stood whose image it is.
+/// rows, and each member stands where the one stood whose image it is. So it is with any package
+/// lines, where the old files have no fault with them.
 pub fn plans_keep_programs()
     ensures texts { NewTextsRead }
     ensures references { ReferencesStay }
     ensures programs { NewProgramsAreImages }
+    ensures clean { NewProgramsStayClean }
 {
     rows_are_named::<Span>();
     renamed_texts_read::<Span>();

@@ -31,5 +31,8 @@ pub mod BareBinding
 pub mod BareReferences
 pub mod TakenBack
 pub mod NewRows
+pub mod NewTrees
+pub mod NewTables
 pub mod NewPrograms
 pub mod Staying
+pub mod NewTells

@@ -1,17 +1,14 @@
 -- The program behind a rename: it is read as the planned trees, and its references lead to the
 -- images.
-use Rattle.std.proofs.Common.{◌≡◌, ℕ, zero, suc, List, [], ◌∷◌, map, length, Some, refl, sym, ap, subst, ◌∙◌, arith}
+use Rattle.std.proofs.Common.{◌≡◌, ℕ, List, [], ◌∷◌, map, length, Some, refl, sym, ap, subst, ◌∙◌}
 use Rattle.std.specs.Prelude.{slice_get}
-use Rattle.std.proofs.lemmas.List.{length-map}
-use Rattle.std.proofs.lemmas.Option.{same_Some, none-some, slice_get_within}
 use Rattle.jr_text.specs.declared.spans.Span.{Span}
-use Rattle.jr_text.specs.Edits.{Entry, FitsIn}
+use Rattle.jr_text.specs.Edits.{Entry}
 use Rattle.jr_text.specs.Splices.{splice}
 use Rattle.jr_text.specs.SpliceLaws.{UntouchedBytesMove}
 use Rattle.jr_ast.specs.MemberTree.{Unit as UnitTree}
 use Rattle.jr_grammar.specs.Bare.{bare_unit}
 use Rattle.jr_grammar.specs.Layout.{itself}
-use Rattle.jr_grammar.specs.Reads.{Reads}
 use Rattle.jr_table.specs.Rows.{Row}
 use Rattle.jr_table.specs.Conditions.{AreRows}
 use Rattle.jr_table.specs.Keyed.{DispatchesTo}
@@ -20,10 +17,9 @@ use Rattle.jr_names.specs.declared.steps.Step.{Step}
 use Rattle.jr_names.specs.declared.steps.Step.TheVariants as step
 use Rattle.jr_names.specs.Replies.{Reply}
 use Rattle.jr_punit.specs.OneReading.{OneReading}
-use Rattle.jr_bind.specs.Programs.{File, Program, units_of}
+use Rattle.jr_bind.specs.Programs.{Program, units_of}
 use Rattle.jr_places.specs.FileParts.{begins}
 use Rattle.jr_rewrite.specs.AlongMembers.{AlongUnits}
-use Rattle.jr_rewrite.specs.Rewrites.{Choosing, RewritesUnits}
 use Rattle.jr_rewrite.specs.Rewritten.{Rewritten}
 use Rattle.jr_rewrite.proofs.UnbaredMembers.{unit_bare}
 use Rattle.jr_rename.specs.ImageLaws.{without_marks, AreImages, PlansBecome}
@@ -36,54 +32,17 @@ use Rattle.jr_class_rename.specs.ClassLaws.{BuiltRowsAreImages, ConstructorsGive
 use Rattle.jr_family.specs.Kept.{DispatchIsKept}
 use Rattle.jr_sources.specs.Sources.{Source}
 use Rattle.jr_sources.specs.Whole.{IsProgramOf}
-use Rattle.jr_sources.proofs.AllRead.{element, text_there}
-use Rattle.jr_sources.proofs.Analysing.{counts}
-use Rattle.jr_sources.proofs.WholeProgram.{length-files}
 use Rattle.jr_session.specs.NewTexts.{with_edits}
 use Rattle.jr_session.specs.Promises.{IsSpliced, KeepsProgram, Promises, RenamesKeepPrograms}
 use Rattle.jr_session.specs.Renaming.{IsRenamed}
 use Rattle.jr_session.specs.States.{State}
 use Rattle.jr_session.specs.Stepping.{Steps}
-use Rattle.jr_session.proofs.Planning.{file as file_there}
 use Rattle.jr_session.proofs.BareReferences.{kept_bare, written_bare, super_kept_bare, parent_kept_bare}
 use Rattle.jr_session.proofs.NewRows.{new_rows}
+use Rattle.jr_session.proofs.NewTrees.{count_with, with_at, units_are, became, trees as new_trees}
 use Rattle.jr_session.proofs.TakenBack.{renamed_of, undone_after}
 
--- ---- new sources
-
-count_with : (ss : List Source) (es : List (List Entry)) → length (with_edits ss es) ≡ length ss
-count_with [] es = refl
-count_with (s ∷ ss) [] = refl
-count_with (s ∷ ss) (e ∷ es) = ap suc (count_with ss es)
-
-with_at : (ss : List Source) (es : List (List Entry)) (i : ℕ) (s : Source) (e : List Entry) → slice_get ss i ≡ Some s → slice_get es i ≡ Some e → slice_get (with_edits ss es) i ≡ Some (record { name = s.name; text = splice s.text e })
-with_at [] es i s e at is = absurd (none-some s at)
-with_at (x ∷ ss) [] i s e at is = absurd (none-some e is)
-with_at (x ∷ ss) (y ∷ es) zero s e at is =
-    let a = same_Some x s at in
-    let b = same_Some y e is in
-    λ j. (let z : Source = a j in Some (record { name = z.name; text = splice z.text (b j) }))
-with_at (x ∷ ss) (y ∷ es) (suc i) s e at is = with_at ss es i s e at is
-
-count_files : (sources : List Source) (p : Program Span) → IsProgramOf sources p → length p.files ≡ length sources
-count_files sources p is = ap length is.files ∙ length-files sources is.units (counts sources is.units is.words is.program.read).0
-
 -- ---- trees
-
-many_units : (C : Choosing Span) (sites : List Site) (us : List (UnitTree Span)) (os : List (Rewritten (UnitTree Span))) → RewritesUnits itself C sites us os → length os ≡ length us
-many_units C sites [] os h = ap length h
-many_units C sites (u ∷ us) os (o, ps, r, rest, are) = ap length are ∙ ap suc (many_units C sites us ps rest)
-
-same_trees : (fs : List (File Span)) (os : List (Rewritten (UnitTree Span))) → length fs ≡ length os
-    → ((i : ℕ) (f : File Span) (o : Rewritten (UnitTree Span)) → slice_get fs i ≡ Some f → slice_get os i ≡ Some o → bare_unit f.unit ≡ bare_unit o.tree)
-    → map without_marks (map (λ (f : File Span). f.unit) fs) ≡ map (λ (o : Rewritten (UnitTree Span)). without_marks o.tree) os
-same_trees [] [] n h = refl
-same_trees [] (o ∷ os) n h = absurd (omega (arith, n))
-same_trees (f ∷ fs) [] n h = absurd (omega (arith, n))
-same_trees (f ∷ fs) (o ∷ os) n h =
-    let first = h 0 f o refl refl in
-    let rest = same_trees fs os (omega (arith, n)) (λ i x y a b. h (suc i) x y a b) in
-    λ i. first i ∷ rest i
 
 trees_bare : (os : List (Rewritten (UnitTree Span))) → map bare_unit (trees_of os) ≡ map (λ (o : Rewritten (UnitTree Span)). without_marks o.tree) os
 trees_bare [] = refl
@@ -133,45 +92,19 @@ module _ (one : OneReading Span) (named : RowsAreNamed Span) (dots : NamesHaveNo
     plan : IsPlanIn p is.short.plan.text is.short.plan.number at new is.edits is.short.plan.renaming n
     plan = record { program = before.is; name = is.short.plan.posed.asked.name; planned = is.short.plan.planned }
 
-    -- what the file of a number has become
-    abbrev New : ℕ → Source → Type 0
-    New i old = (o : Rewritten (UnitTree Span)) × (e : List Entry) × (slice_get plan.planned.files i ≡ Some o) × (slice_get is.edits i ≡ Some e)
-        × Reads (splice old.text e) o.tree × IsSpliced old (record { name = old.name; text = splice old.text e }) e
-
-    became : (i : ℕ) (old : Source) → slice_get s.files i ≡ Some old → New i old
-    became i old there =
-        let f = file_there s.files p before i at new (slice_get_within s.files i old there) in
-        let r = read p is.short.plan.text is.short.plan.number at new is.edits is.short.plan.renaming n plan i f.0 f.1 in
-        let same : f.0.text ≡ old.text = same_Some f.0.text old.text (sym f.2 ∙ text_there s.files i old there) in
-        let fits = subst (λ (x : List ℕ). FitsIn x r.1) same r.4.fits in (
-          r.0,
-          r.1,
-          r.2,
-          r.3,
-          subst (λ (x : List ℕ). Reads (splice x r.1) r.0.tree) same r.4.reads,
-          record { name = refl; text = refl; are = r.4.are; fits = fits; stay = λ k lt away. (move old.text r.1 k r.4.are fits lt away).1 },
-        )
-
     trees : map without_marks (units_of is.q) ≡ map (λ (o : Rewritten (UnitTree Span)). without_marks o.tree) plan.planned.files
-    trees =
-        let many = count_files news is.q is.program ∙ count_with s.files is.edits in
-        let planned = many_units _ _ (units_of p) plan.planned.files plan.planned.rewrite ∙ length-map p.files (λ (f : File Span). f.unit) ∙ count_files s.files p before in
-        same_trees is.q.files plan.planned.files (many ∙ sym planned) each
-      where
-        each : (i : ℕ) (f : File Span) (o : Rewritten (UnitTree Span)) → slice_get is.q.files i ≡ Some f → slice_get plan.planned.files i ≡ Some o → bare_unit f.unit ≡ bare_unit o.tree
-        each i f o there stands =
-            let lt = slice_get_within is.q.files i f there in
-            let many = count_files news is.q is.program in
-            let total = count_with s.files is.edits in
-            let old = element s.files i (omega (arith, lt, many, total)) in
-            let b = became i old.0 old.1 in
-            let h = file_there news is.q is.program i at new (omega (arith, lt, many)) in
-            let same : h.0 ≡ f = same_Some h.0 f (sym h.1 ∙ there) in
-            let text : h.0.text ≡ splice old.0.text b.1 = same_Some h.0.text (splice old.0.text b.1) (sym h.2 ∙ text_there news i (record { name = old.0.name; text = splice old.0.text b.1 }) (with_at s.files is.edits i old.0 b.1 old.1 b.3)) in
-            let r = is.program.is.reads i f there in
-            let reads : Reads (splice old.0.text b.1) f.unit = subst (λ (x : List ℕ). Reads x f.unit) (sym (ap (λ (x : File Span). x.text) same) ∙ text) (record { items = r.items; lexes = r.lexes; is = r.is }) in
-            let tree : b.0 ≡ o = same_Some b.0 o (sym b.2 ∙ stands) in
-            one.unit (splice old.0.text b.1) f.unit o.tree reads (subst (λ (x : Rewritten (UnitTree Span)). Reads (splice old.0.text b.1) x.tree) tree b.4)
+    trees = ap (map without_marks) (units_are news is.q is.program)
+        ∙ new_trees read s.files p before is.short.plan.text is.short.plan.number at new is.edits is.short.plan.renaming n plan one is.program.units is.program.words is.program.program.read
+
+    texts : (i : ℕ) (old : Source) → slice_get s.files i ≡ Some old → (source : Source) × (e : List Entry) × (slice_get news i ≡ Some source) × (slice_get is.edits i ≡ Some e) × IsSpliced old source e
+    texts i old there =
+        let b = became read s.files p before is.short.plan.text is.short.plan.number at new is.edits is.short.plan.renaming n plan i old there in (
+          record { name = old.name; text = splice old.text b.1 },
+          b.1,
+          with_at s.files is.edits i old b.1 there b.3,
+          b.3,
+          record { name = refl; text = refl; are = b.4.are; fits = b.4.fits; stay = λ k lt away. (move old.text b.1 k b.4.are b.4.fits lt away).1 },
+        )
 
     files_are : t.files ≡ news
     files_are = ap (λ (x : State). x.files) is.becomes
@@ -204,7 +137,7 @@ module _ (one : OneReading Span) (named : RowsAreNamed Span) (dots : NamesHaveNo
       count = ap length files_are ∙ count_with s.files is.edits;
       back = λ answer u h. undone_after s t file at new names n is u answer h;
       texts = λ i old there.
-          (let b = became i old there in (record { name = old.name; text = splice old.text b.1 }, b.1, subst (λ (ss : List Source). slice_get ss i ≡ Some (record { name = old.name; text = splice old.text b.1 })) (sym files_are) (with_at s.files is.edits i old b.1 there b.3), b.3, b.5));
+          (let b = texts i old there in (b.0, b.1, subst (λ (ss : List Source). slice_get ss i ≡ Some b.0) (sym files_are) b.2, b.3, b.4));
     }
 
 pub renames_keep : OneReading Span → RowsAreNamed Span → NamesHaveNoDot → PlansBecome Span Span → NewTextsRead → ReferencesStay → NewProgramsAreImages → BuiltRowsAreImages Span Span → ConstructorsGiveImages Span Span → DispatchIsKept → UntouchedBytesMove → RenamesKeepPrograms

@@ -19,3 +19,5 @@ pub mod Making
 pub mod Trying
 pub mod Refactoring
 pub mod Promises
+pub mod TableTells
+pub mod NewTables

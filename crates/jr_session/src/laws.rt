@@ -1,4 +1,5 @@
 //! What holds of each step.
+ghost use Rattle.jr_session.specs.NewTables.{NewTables};
 ghost use Rattle.jr_session.specs.Promises.{RenamesKeepPrograms};
 ghost use Rattle.jr_session.specs.StepLaws.{HasOneAnswer, HasOneShow, RenamesAreRefusedFirst};
 
@@ -62,4 +63,13 @@ pub fn accepted_renames_keep_programs()
     plans_keep_programs();
     dispatch_is_kept();
     untouched_bytes_move();
+}
+
+/// Where no class is renamed, what a plan's edits make of sources that are a program has no fault
+/// of declarations if it reads as units, and its rows are the images of the old rows.
+pub(crate) fn new_tables()
+    ensures { NewTables }
+{
+    one_reading::<Span>();
+    plans_keep_programs();
 }

@@ -1,19 +1,21 @@
 //! A rename is planned, over what is analysed.
-ghost use Rattle.std.specs.Prelude.{◌<◌, ◌≡◌, IfOk, length};
+ghost use Rattle.std.specs.Prelude.{◌<◌, ◌≡◌, IfOk, Some, length};
 ghost use Rattle.jr_lex.specs.Replacing.{IsName};
 ghost use Rattle.jr_names.specs.ReplyView.{outcome_of};
 ghost use Rattle.jr_sources.specs.Analysed.{CostsBinding, IsAnalysis, IsKeptAnalysis, IsFilled};
 ghost use Rattle.jr_sources.specs.BindingErrors.{AreSound};
 ghost use Rattle.jr_sources.specs.KeptReadings.{AreReadings};
 ghost use Rattle.jr_sources.specs.Sources.{AreSources, texts_of};
+ghost use Rattle.jr_rename_plan.specs.declared.afters.After.TheVariants.{Unknown};
+ghost use Rattle.jr_session.specs.TableTells.{PlanTells};
 ghost use Rattle.jr_session.specs.Planning.{IsPlannedSo, IsOfOutcome};
 
+use crate::laws::new_tables;
 use jr_ast::Name;
 use jr_names::{DepPair, EditLists, Outcome, Refusal, Renaming};
-use jr_rename_plan::plan_at;
+use jr_rename_plan::{After, plan_at};
 use jr_sources::{Analysis, Readings, SourceFault, Sources, Whole, first_error, keep_analysis};
 use jr_steps::Steps;
-use jr_table::Table;
 use std::alloc::{AllocError, Global};
 use std::sync::ledger::Ledger;
 
@@ -61,15 +63,19 @@ fn sound(
     number: u32,
     at: u32,
     new: &Name,
-    after: &mut Option<Table>,
+    after: &mut After,
 ) -> Result<Planned, AllocError>
     requires readings { AreReadings (texts_of sources.now) readings.now }
     requires analysis { IsAnalysis sources.now analysis.now }
     requires sound { AreSound sources.now }
     requires number { number < length sources.now }
     requires name { IsName new.now }
-    ensures { IfOk result (IsPlannedSo sources.now number at new.now) }
+    requires blank { after.old ≡ Unknown }
+    ensures planned { IfOk result (IsPlannedSo sources.now number at new.now) }
+    ensures told { IfOk result (λ planned.
+        PlanTells sources.now (Some analysis.now) planned after.new) }
 {
+    new_tables();
     let whole = Whole::new(sources, readings, analysis);
     let outcome = plan_at(alloc, &whole, number, at, new, after)?;
     Ok(of_outcome(outcome))
@@ -84,14 +90,16 @@ fn plan_analysed(
     number: u32,
     at: u32,
     new: &Name,
-    after: &mut Option<Table>,
+    after: &mut After,
 ) -> Result<Planned, AllocError>
     requires readings { AreReadings (texts_of sources.now) readings.now }
     requires kept { IsKeptAnalysis sources.now kept.now }
     requires filled { IsFilled kept.now }
     requires number { number < length sources.now }
     requires name { IsName new.now }
-    ensures { IfOk result (IsPlannedSo sources.now number at new.now) }
+    requires blank { after.old ≡ Unknown }
+    ensures planned { IfOk result (IsPlannedSo sources.now number at new.now) }
+    ensures told { IfOk result (λ planned. PlanTells sources.now kept.now planned after.new) }
 {
     match kept {
         None => unreachable!(),
@@ -112,7 +120,7 @@ pub(crate) fn plan_rename<L: Ledger>(
     number: u32,
     at: u32,
     new: &Name,
-    after: &mut Option<Table>,
+    after: &mut After,
     steps: &mut Steps<L>,
 ) -> Result<Planned, AllocError>
     requires valid { AreSources sources.now }
@@ -120,8 +128,10 @@ pub(crate) fn plan_rename<L: Ledger>(
     requires kept { IsKeptAnalysis sources.now kept.old }
     requires number { number < length sources.now }
     requires name { IsName new.now }
+    requires blank { after.old ≡ Unknown }
     ensures kept { IsKeptAnalysis sources.now kept.new }
     ensures planned { IfOk result (IsPlannedSo sources.now number at new.now) }
+    ensures told { IfOk result (λ planned. PlanTells sources.now kept.new planned after.new) }
     ensures cost { CostsBinding sources.now steps.old steps.new }
 {
     let found = keep_analysis(alloc, sources, readings, kept, steps)?;

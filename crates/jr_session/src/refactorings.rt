@@ -3,9 +3,11 @@ ghost use Rattle.std.specs.Prelude.{◌≡◌, length, IfOk, OnErr};
 ghost use Rattle.jr_names.specs.ReplyView.{reply_of};
 ghost use Rattle.jr_names.specs.Refusals as refusals;
 ghost use Rattle.jr_names.specs.Replies.{refused};
-ghost use Rattle.jr_sources.specs.Analysed.{CostsBinding};
+ghost use Rattle.jr_sources.specs.Analysed.{CostsBinding, IsKeptAnalysis};
 ghost use Rattle.jr_session.specs.Changes.{put_back, AreOfFiles};
 ghost use Rattle.jr_session.specs.Making.{Fit};
+ghost use Rattle.jr_session.specs.TableTells.{TellsTable};
+ghost use Rattle.jr_session.specs.NewTexts.{with_edits};
 ghost use Rattle.jr_session.specs.Refactoring.{IsTriedBy, IsRefactoredBy, CostsRefactoring};
 
 use crate::changes::{Change, Earlier};
@@ -14,9 +16,9 @@ use crate::sessions::Session;
 use crate::tries::{Tried, sources_are_program, try_texts};
 use jr_ast::Name;
 use jr_names::{EditLists, Names, Refusal, Reply};
-use jr_sources::{SourceFault, text_has_one_reading};
+use jr_rename_plan::After;
+use jr_sources::{Analysis, SourceFault, text_has_one_reading};
 use jr_steps::Steps;
-use jr_table::Table;
 use jr_text::Place;
 use std::alloc::{AllocError, Global};
 use std::sync::ledger::Ledger;
@@ -43,10 +45,13 @@ impl Session {
         changes: Vec<Change>,
         names: Vec<Name>,
         respelled: u32,
-        known: &mut Option<Table>,
+        after: &mut After,
+        analysed: &mut Option<Analysis>,
         steps: &mut Steps<L>,
     ) -> Result<Reply, AllocError>
-        requires { AreOfFiles (length self.old.files) changes.items }
+        requires files { AreOfFiles (length self.old.files) changes.items }
+        requires analysed { IsKeptAnalysis self.old.files analysed.old }
+        requires told { TellsTable (put_back self.old.files changes.items) analysed.old after.old }
         ensures step { IfOk result (λ reply. IsTriedBy self.old
             (put_back self.old.files changes.items) names.items respelled (reply_of reply)
             self.new) }
@@ -59,9 +64,9 @@ impl Session {
             alloc,
             &mut self.sources,
             &mut self.readings,
-            &mut self.analysed,
+            analysed,
             changes,
-            known,
+            after,
             steps,
         )? {
             Tried::Wrong(fault) => would_not_compile(alloc, fault),
@@ -81,7 +86,8 @@ impl Session {
     /// The edits of each file are made, unless a text would be too long, or something is wrong with
     /// the sources that have the new texts.
     ///
-    /// `known` may be the table of the sources that have the new texts.
+    /// `after` tells of the table of the sources that have the new texts, and `analysed` is what
+    /// was analysed of the old ones, which is of no use then.
     ///
     /// Want of memory leaves the session as it was, and so does a refusal.
     pub(crate) fn refactor<L: Ledger>(
@@ -89,10 +95,13 @@ impl Session {
         alloc: Global,
         edits: &EditLists,
         respelled: u32,
-        known: &mut Option<Table>,
+        after: &mut After,
+        analysed: &mut Option<Analysis>,
         steps: &mut Steps<L>,
     ) -> Result<Reply, AllocError>
-        requires { Fit self.old.files edits.now }
+        requires fit { Fit self.old.files edits.now }
+        requires analysed { IsKeptAnalysis self.old.files analysed.old }
+        requires told { TellsTable (with_edits self.old.files edits.now) analysed.old after.old }
         ensures step { IfOk result (λ reply.
             IsRefactoredBy self.old edits.now respelled (reply_of reply) self.new) }
         ensures err { OnErr result (self.new ≡ self.old) }
@@ -101,7 +110,7 @@ impl Session {
         match new_texts(alloc, &self.sources, edits.as_slice())? {
             Made::TooLong { len } => Ok(Reply::Refused(Refusal::TooLong { len })),
             Made::Changes { changes, names } => {
-                self.change_all(alloc, changes, names, respelled, known, steps)
+                self.change_all(alloc, changes, names, respelled, after, analysed, steps)
             }
         }
     }

@@ -1,6 +1,7 @@
 //! A rename: asked, planned, made, and bound again.
 ghost use Rattle.std.specs.Prelude.{◌≡◌, IfOk, OnErr};
 ghost use Rattle.jr_names.specs.ReplyView.{reply_of};
+ghost use Rattle.jr_rename_plan.specs.declared.afters.After.TheVariants.{Unknown};
 ghost use Rattle.jr_names.specs.declared.steps.Step.TheVariants.{Rename};
 ghost use Rattle.jr_session.specs.Refactoring.{AsksFor};
 ghost use Rattle.jr_session.specs.Stepping as pure;
@@ -12,15 +13,17 @@ use crate::sessions::Session;
 use crate::shows::source_error;
 use jr_ast::Name;
 use jr_names::Reply;
+use jr_rename_plan::After;
 use jr_renamed::plans_keep_programs;
-use jr_sources::{refusal_of_request, text_has_one_reading};
+use jr_sources::{Analysis, refusal_of_request, text_has_one_reading};
 use jr_steps::Steps;
-use jr_table::Table;
 use std::alloc::{AllocError, Global};
 use std::sync::ledger::Ledger;
 
-// Lets go a table that isn't taken.
-fn forget(_table: Option<Table>) {}
+// Lets go what isn't taken.
+fn forget(_after: After) {}
+
+fn forget_analysis(_analysed: Option<Analysis>) {}
 
 impl Session {
     /// What the identifier at the byte of the file declares or is bound to gets the name, wherever
@@ -66,13 +69,13 @@ impl Session {
         ensures err { OnErr result (self.new ≡ self.old) }
         ensures work { IsWithinWork self.old (Rename file.now at new.now) steps.old steps.new }
     {
-        let mut after = None;
+        let mut after = After::Unknown;
         let reply = self.rename_by(alloc, file, number, at, new, &mut after, steps);
         forget(after);
         reply
     }
 
-    // The same. To `after` goes the table that the plan makes, which the new sources' is, if any.
+    // The same. To `after` goes what the plan knows of the new sources' table.
     fn rename_by<L: Ledger>(
         &mut self,
         alloc: Global,
@@ -80,10 +83,11 @@ impl Session {
         number: u32,
         at: u32,
         new: &Name,
-        after: &mut Option<Table>,
+        after: &mut After,
         steps: &mut Steps<L>,
     ) -> Result<Reply, AllocError>
-        requires { AsksFor self.old file.now at new.now number }
+        requires asks { AsksFor self.old file.now at new.now number }
+        requires blank { after.old ≡ Unknown }
         ensures step { IfOk result (λ reply. pure.Steps self.old (Rename file.now at new.now)
             (reply_of reply) self.new) }
         ensures err { OnErr result (self.new ≡ self.old) }
@@ -107,7 +111,10 @@ impl Session {
             Planned::Wrong(fault) => source_error(alloc, &self.sources, fault),
             Planned::Refused(refusal) => Ok(Reply::Refused(refusal)),
             Planned::Edits { edits, respelled } => {
-                self.refactor(alloc, &edits, respelled, after, steps)
+                let mut analysed = self.analysed.take();
+                let reply = self.refactor(alloc, &edits, respelled, after, &mut analysed, steps);
+                forget_analysis(analysed);
+                reply
             }
         }
     }

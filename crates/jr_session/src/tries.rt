@@ -1,24 +1,29 @@
 //! New texts are tried: what is first wrong with the sources that have them is told, or else they
 //! stay, with what was read and analysed of them.
 ghost use Rattle.std.specs.Prelude.{◌≡◌, length, IfOk, OnErr, Some};
-ghost use Rattle.jr_sources.specs.Analysed.{CostsBinding, IsAnalysis, IsKeptAnalysis};
+ghost use Rattle.jr_rename_plan.specs.declared.afters.After.TheVariants.{Same};
+ghost use Rattle.jr_sources.specs.Analysed.{CostsBinding, IsAnalysed, IsAnalysis};
+ghost use Rattle.jr_sources.specs.Analysed.{IsKeptAnalysis};
 ghost use Rattle.jr_sources.specs.BindingErrors.{AreSound};
 ghost use Rattle.jr_sources.specs.Earlier.{IsMaybeEarlier};
 ghost use Rattle.jr_sources.specs.KeptReadings.{AreReadings};
-ghost use Rattle.jr_sources.specs.Sources.{texts_of};
+ghost use Rattle.jr_sources.specs.Sources.{AreSources, texts_of};
 ghost use Rattle.jr_session.specs.Changes.{put_back, AreOfFiles};
+ghost use Rattle.jr_session.specs.TableTells.{TellsNow, TellsTable};
 ghost use Rattle.jr_session.specs.Trying.{IsJudged, IsTried, AreSomeProgram};
 ghost use Rattle.jr_session.specs.Trying.{changes_file, AreUnchanged, IsOfAnalysed};
 
 use crate::changes::Change;
 use crate::turns::{exchange_all, readings_of};
+use jr_rename_plan::After;
 use jr_sources::{
     Analysed, Analysis, EarlierAnalysis, Readings, SourceFault, Sources, Whole, analyse,
-    first_error,
+    analyse_same, analyse_with, first_error,
 };
 use jr_steps::Steps;
 use jr_table::Table;
 use std::alloc::{AllocError, Global};
+use std::mem;
 use std::sync::ledger::Ledger;
 
 /// What comes of sources that are analysed.
@@ -73,22 +78,95 @@ pub(crate) fn sources_are_program(sources: &Sources, readings: &Readings, analys
     let _whole = Whole::new(sources, readings, analysis);
 }
 
+fn forget_table(_table: Option<Table>) {}
+
+// What is known of sources of which this may be the table.
+fn analyse_known<L: Ledger>(
+    alloc: Global,
+    sources: &Sources,
+    readings: &Readings,
+    known: Option<Table>,
+    earlier: &mut Option<EarlierAnalysis>,
+    steps: &mut Steps<L>,
+) -> Result<Analysed, AllocError>
+    requires valid { AreSources sources.now }
+    requires readings { AreReadings (texts_of sources.now) readings.now }
+    requires earlier { IsMaybeEarlier sources.now earlier.old }
+    ensures analysed { IfOk result (IsAnalysed sources.now) }
+    ensures cost { CostsBinding sources.now steps.old steps.new }
+{
+    let mut known = known;
+    let analysed = analyse(alloc, sources, readings, &mut known, earlier, steps);
+    forget_table(known);
+    analysed
+}
+
+// What is known of sources that have the table of the earlier ones, if what was analysed of these
+// is given.
+fn analyse_again<L: Ledger>(
+    alloc: Global,
+    sources: &Sources,
+    readings: &Readings,
+    earlier: &mut Option<EarlierAnalysis>,
+    steps: &mut Steps<L>,
+) -> Result<Analysed, AllocError>
+    requires valid { AreSources sources.now }
+    requires readings { AreReadings (texts_of sources.now) readings.now }
+    requires earlier { IsMaybeEarlier sources.now earlier.old }
+    requires told { TellsNow sources.now earlier.old Same }
+    ensures analysed { IfOk result (IsAnalysed sources.now) }
+    ensures cost { CostsBinding sources.now steps.old steps.new }
+{
+    match earlier.take() {
+        Some(earlier) => analyse_same(alloc, sources, readings, earlier, steps),
+        None => analyse_known(alloc, sources, readings, None, earlier, steps),
+    }
+}
+
+// What is known of sources, by what is known of their table.
+fn analyse_told<L: Ledger>(
+    alloc: Global,
+    sources: &Sources,
+    readings: &Readings,
+    after: After,
+    earlier: &mut Option<EarlierAnalysis>,
+    steps: &mut Steps<L>,
+) -> Result<Analysed, AllocError>
+    requires valid { AreSources sources.now }
+    requires readings { AreReadings (texts_of sources.now) readings.now }
+    requires earlier { IsMaybeEarlier sources.now earlier.old }
+    requires told { TellsNow sources.now earlier.old after }
+    ensures analysed { IfOk result (IsAnalysed sources.now) }
+    ensures cost { CostsBinding sources.now steps.old steps.new }
+{
+    match after {
+        After::Images(table) => analyse_with(alloc, sources, readings, table, earlier, steps),
+        After::Same => analyse_again(alloc, sources, readings, earlier, steps),
+        After::Maybe(table) => {
+            analyse_known(alloc, sources, readings, Some(table), earlier, steps)
+        }
+        After::Unknown => analyse_known(alloc, sources, readings, None, earlier, steps),
+    }
+}
+
 // What comes of sources that read so: their members are bound.
 fn judge<L: Ledger>(
     alloc: Global,
     sources: &Sources,
     readings: &Readings,
-    known: &mut Option<Table>,
+    after: &mut After,
     earlier: &mut Option<EarlierAnalysis>,
     steps: &mut Steps<L>,
 ) -> Result<Judged, AllocError>
     requires readings { AreReadings (texts_of sources.now) readings.now }
     requires earlier { IsMaybeEarlier sources.now earlier.old }
+    requires told { TellsNow sources.now earlier.old after.old }
     ensures judged { IfOk result (IsJudged sources.now) }
     ensures cost { CostsBinding sources.now steps.old steps.new }
 {
     let _count = sources.count();
-    match analyse(alloc, sources, readings, known, earlier, steps)? {
+    let told = mem::replace(after, After::Unknown);
+    match analyse_told(alloc, sources, readings, told, earlier, steps)? {
         Analysed::Program(analysis) => Ok(judge_analysed(sources, analysis)),
         Analysed::Fault(fault) => Ok(Judged::Wrong(fault)),
     }
@@ -102,13 +180,14 @@ fn try_by<L: Ledger>(
     sources: &mut Sources,
     readings: &mut Readings,
     changes: Vec<Change>,
-    known: &mut Option<Table>,
+    after: &mut After,
     earlier: &mut Option<EarlierAnalysis>,
     steps: &mut Steps<L>,
 ) -> Result<Tried, AllocError>
     requires files { AreOfFiles (length sources.old) changes.items }
     requires readings { AreReadings (texts_of sources.old) readings.old }
     requires earlier { IsMaybeEarlier (put_back sources.old changes.items) earlier.old }
+    requires told { TellsNow (put_back sources.old changes.items) earlier.old after.old }
     ensures tried { IfOk result (IsTried sources.old changes.items sources.new) }
     ensures err { OnErr result (sources.new ≡ sources.old) }
     ensures readings { AreReadings (texts_of sources.new) readings.new }
@@ -121,7 +200,7 @@ fn try_by<L: Ledger>(
     let mut spare = Vec::with_capacity(alloc, changes.len())?;
     let mut rest = Vec::with_capacity(alloc, changes.len())?;
     exchange_all(sources, readings, &mut had, &mut were, changes, with);
-    match judge(alloc, sources, readings, known, earlier, steps) {
+    match judge(alloc, sources, readings, after, earlier, steps) {
         Ok(Judged::Sound(analysis)) => Ok(Tried::Sound { analysis, had }),
         Ok(Judged::Wrong(fault)) => {
             exchange_all(sources, readings, &mut spare, &mut rest, had, were);
@@ -166,21 +245,22 @@ fn earlier_of(analysed: Option<Analysis>, stays: Vec<bool>) -> Option<EarlierAna
 /// have them: then the old texts and readings are there again, and so they are where memory is
 /// wanted. The texts that stay are not read again.
 ///
-/// `known` may be the table of the sources that have the new texts, so that no other is made. What
-/// was analysed of the old texts is taken, so that members that keep what is bound of them need not
-/// be bound again.
+/// `after` tells of the table of the sources that have the new texts, so that no other is made.
+/// What was analysed of the old texts is taken, so that members that keep what is bound of them
+/// need not be bound again.
 pub(crate) fn try_texts<L: Ledger>(
     alloc: Global,
     sources: &mut Sources,
     readings: &mut Readings,
     analysed: &mut Option<Analysis>,
     changes: Vec<Change>,
-    known: &mut Option<Table>,
+    after: &mut After,
     steps: &mut Steps<L>,
 ) -> Result<Tried, AllocError>
     requires files { AreOfFiles (length sources.old) changes.items }
     requires readings { AreReadings (texts_of sources.old) readings.old }
     requires analysed { IsKeptAnalysis sources.old analysed.old }
+    requires told { TellsTable (put_back sources.old changes.items) analysed.old after.old }
     ensures tried { IfOk result (IsTried sources.old changes.items sources.new) }
     ensures err { OnErr result (sources.new ≡ sources.old) }
     ensures readings { AreReadings (texts_of sources.new) readings.new }
@@ -194,7 +274,7 @@ pub(crate) fn try_texts<L: Ledger>(
         sources,
         readings,
         changes,
-        known,
+        after,
         &mut earlier,
         steps,
     );

@@ -20,3 +20,4 @@ pub mod WholeProgram
 pub mod FirstErrors
 pub mod MembersFew
 pub mod Rebinding
+pub mod Binding

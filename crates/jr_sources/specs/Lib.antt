@@ -14,3 +14,4 @@ pub mod Whole
 pub mod Asking
 pub mod WholeView
 pub mod Earlier
+pub mod Tables

@@ -1,19 +1,17 @@
 //! Sources are analysed: their table is made, and their members are bound.
 ghost use Rattle.std.specs.Prelude.{◌+◌, ◌≤◌, length, map, IfOk, IfNone, MatchOption};
 ghost use Rattle.jr_ast.specs.View.{unit_of};
-ghost use Rattle.jr_table.specs.Sites.{sites_of};
-ghost use Rattle.jr_table.specs.ProgramRows.{AreProgramRows};
 ghost use Rattle.jr_members.specs.PartView.{written_of};
-ghost use Rattle.jr_places.specs.FileParts.{begins};
 ghost use Rattle.jr_shown.specs.Members.{EachOf, CanBind, AreKnown, AreEachBound};
 ghost use Rattle.jr_shown.specs.Members.{AreInFileOrder, AreWrittenInOrder};
 ghost use Rattle.jr_rebind.specs.Rebinding.{IsRebinding};
 ghost use Rattle.jr_sources.specs.Analysed.{AreLexed, IsAnalysed, IsSourceFault, IsKeptAnalysis};
 ghost use Rattle.jr_sources.specs.Analysed.{IsFilled, CostsBinding};
-ghost use Rattle.jr_sources.specs.Earlier.{IsMaybeEarlier, CanRebind};
-ghost use Rattle.jr_sources.specs.FirstFault.{AreRead, AreProgram};
+ghost use Rattle.jr_sources.specs.Earlier.{IsEarlier, IsMaybeEarlier, CanRebind};
+ghost use Rattle.jr_sources.specs.FirstFault.{AreRead};
 ghost use Rattle.jr_sources.specs.KeptReadings.{AreReadings};
 ghost use Rattle.jr_sources.specs.Sources.{AreSources, texts_of};
+ghost use Rattle.jr_sources.specs.Tables.{IsTableOf};
 
 use crate::analyses::{Analysed, Analysis, EarlierAnalysis, SourceFault};
 use crate::first_faults::first_of;
@@ -97,7 +95,7 @@ fn bind_written<L: Ledger>(
     }
 }
 
-// What is known of sources that are a program with these units, tokens and this table.
+// What is known of sources that read as units, have these tokens, and this table.
 fn bind_all<L: Ledger>(
     alloc: Global,
     sources: &Sources,
@@ -109,9 +107,9 @@ fn bind_all<L: Ledger>(
     steps: &mut Steps<L>,
 ) -> Result<Analysed, AllocError>
     requires valid { AreSources sources.now }
-    requires program { AreProgram sources.now (map unit_of units.now) words.now }
+    requires read { AreRead sources.now (map unit_of units.now) words.now }
     requires lexed { AreLexed (texts_of sources.now) tokens.now }
-    requires rows { AreProgramRows (sites_of begins (map unit_of units.now)) table }
+    requires table { IsTableOf sources.now table }
     requires earlier { IsMaybeEarlier sources.now earlier.old }
     ensures analysed { IfOk result (IsAnalysed sources.now) }
     ensures cost { CostsBinding sources.now steps.old steps.new }
@@ -124,6 +122,49 @@ fn bind_all<L: Ledger>(
     table.keeps_rows();
     let written = written_members(alloc, &table, units)?;
     let members = bind_written(alloc, &table, tokens, written.as_slice(), earlier, steps)?;
+    Ok(Analysed::Program(Analysis { table, members }))
+}
+
+// The same where the table is that of the earlier sources.
+fn bind_same<L: Ledger>(
+    alloc: Global,
+    sources: &Sources,
+    units: &[Unit<Span>],
+    words: &[u32],
+    tokens: &[Tokens],
+    earlier: EarlierAnalysis,
+    steps: &mut Steps<L>,
+) -> Result<Analysed, AllocError>
+    requires valid { AreSources sources.now }
+    requires read { AreRead sources.now (map unit_of units.now) words.now }
+    requires lexed { AreLexed (texts_of sources.now) tokens.now }
+    requires table { IsTableOf sources.now earlier.analysis.table }
+    requires earlier { IsEarlier sources.now earlier }
+    ensures analysed { IfOk result (IsAnalysed sources.now) }
+    ensures cost { CostsBinding sources.now steps.old steps.new }
+{
+    text_has_one_reading();
+    one_answer();
+    members_are_written::<Span>();
+    parts_are_placed();
+    one_is_bound();
+    let EarlierAnalysis { analysis, stays } = earlier;
+    let Analysis {
+        table,
+        members: before,
+    } = analysis;
+    table.keeps_rows();
+    let written = written_members(alloc, &table, units)?;
+    let members = rebind_members(
+        alloc,
+        &table,
+        &table,
+        tokens,
+        written.as_slice(),
+        stays.as_slice(),
+        before,
+        steps,
+    )?;
     Ok(Analysed::Program(Analysis { table, members }))
 }
 
@@ -145,6 +186,7 @@ fn analyse_units<L: Ledger>(
     ensures analysed { IfOk result (IsAnalysed sources.now) }
     ensures cost { CostsBinding sources.now steps.old steps.new }
 {
+    text_has_one_reading();
     match build(alloc, units, words, known) {
         Err(BuildFault::At { file, at, kind }) => Ok(Analysed::Fault(SourceFault {
             file,
@@ -205,6 +247,74 @@ pub fn analyse<L: Ledger>(
             readings.words.as_slice(),
             readings.tokens.as_slice(),
             known,
+            earlier,
+            steps,
+        ),
+    }
+}
+
+/// What is known of sources, or their first fault, where this is their table unless one of them has
+/// a fault by itself.
+pub fn analyse_with<L: Ledger>(
+    alloc: Global,
+    sources: &Sources,
+    readings: &Readings,
+    table: Table,
+    earlier: &mut Option<EarlierAnalysis>,
+    steps: &mut Steps<L>,
+) -> Result<Analysed, AllocError>
+    requires valid { AreSources sources.now }
+    requires readings { AreReadings (texts_of sources.now) readings.now }
+    requires table { IsTableOf sources.now table }
+    requires earlier { IsMaybeEarlier sources.now earlier.old }
+    ensures analysed { IfOk result (IsAnalysed sources.now) }
+    ensures cost { CostsBinding sources.now steps.old steps.new }
+{
+    match file_fault(sources, readings) {
+        Some(fault) => {
+            drop(table);
+            Ok(Analysed::Fault(fault))
+        }
+        None => bind_all(
+            alloc,
+            sources,
+            readings.units.as_slice(),
+            readings.words.as_slice(),
+            readings.tokens.as_slice(),
+            table,
+            earlier,
+            steps,
+        ),
+    }
+}
+
+/// What is known of sources, or their first fault, where their table is that of the earlier sources
+/// unless one of them has a fault by itself.
+pub fn analyse_same<L: Ledger>(
+    alloc: Global,
+    sources: &Sources,
+    readings: &Readings,
+    earlier: EarlierAnalysis,
+    steps: &mut Steps<L>,
+) -> Result<Analysed, AllocError>
+    requires valid { AreSources sources.now }
+    requires readings { AreReadings (texts_of sources.now) readings.now }
+    requires earlier { IsEarlier sources.now earlier }
+    requires table { IsTableOf sources.now earlier.analysis.table }
+    ensures analysed { IfOk result (IsAnalysed sources.now) }
+    ensures cost { CostsBinding sources.now steps.old steps.new }
+{
+    match file_fault(sources, readings) {
+        Some(fault) => {
+            drop(earlier);
+            Ok(Analysed::Fault(fault))
+        }
+        None => bind_same(
+            alloc,
+            sources,
+            readings.units.as_slice(),
+            readings.words.as_slice(),
+            readings.tokens.as_slice(),
             earlier,
             steps,
         ),

@@ -84,7 +84,8 @@ impl<'a> Whole<'a> {
         requires readings { AreReadings (texts_of sources.now) readings.now }
         requires analysis { IsAnalysis sources.now analysis.now }
         requires sound { AreSound sources.now }
-        ensures { IsProgramOf sources.now (whole_of result) }
+        ensures program { IsProgramOf sources.now (whole_of result) }
+        ensures rows { (whole_of result).rows ≡ analysis.now.table }
     {
         text_has_one_reading();
         one_answer();

@@ -11,5 +11,11 @@ plan_among-outcome-requires-clause-file g c = c.requires.file
 pub plan_among-outcome-requires-clause-name : goal.plan_among-outcome-requires-clause-name
 plan_among-outcome-requires-clause-name g c = c.requires.name
 
-pub returns : goal.returns
-returns g c = c.plan_among-outcome.ensures
+pub plan_among-outcome-requires-clause-blank : goal.plan_among-outcome-requires-clause-blank
+plan_among-outcome-requires-clause-blank g c = c.requires.blank
+
+pub returns-clause-plan : goal.returns-clause-plan
+returns-clause-plan g c = c.plan_among-outcome.ensures.plan
+
+pub returns-clause-after : goal.returns-clause-after
+returns-clause-after g c = c.plan_among-outcome.ensures.after

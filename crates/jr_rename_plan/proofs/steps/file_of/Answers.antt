@@ -1,5 +1,4 @@
-use Rattle.std.proofs.Common.{◌≡◌, length, arith}
-use Rattle.jr_rename_plan.specs.Steps.{HasName}
+use Rattle.std.proofs.Common.{arith}
 use Rattle.jr_rename_plan.proofs.Naming.{within, none_next}
 use Rattle.jr_rename_plan.proofs.steps.file_of.Goals as goal
 

@@ -8,4 +8,4 @@ pub plan_at-outcome-requires-clause-file : goal.plan_at-outcome-requires-clause-
 plan_at-outcome-requires-clause-file g c = within (g.V.View.program c.args.view.now) c.args.file.now c.file_of-number.result c.file_of-number.ensures.has
 
 pub returns : goal.returns
-returns g c = IfOk-weaker c.plan_at-outcome.result (λ o. Plans (g.V.View.program c.args.view.now) c.file_of-number.result c.args.at c.args.new.now (outcome_of o)) _ (λ o h. (c.file_of-number.result, c.file_of-number.ensures, h)) c.plan_at-outcome.ensures
+returns g c = IfOk-weaker c.plan_at-outcome.result (λ o. Plans (g.V.View.program c.args.view.now) c.file_of-number.result c.args.at c.args.new.now (outcome_of o)) _ (λ o h. (c.file_of-number.result, c.file_of-number.ensures, h)) c.plan_at-outcome.ensures.plan

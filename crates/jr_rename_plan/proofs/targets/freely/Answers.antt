@@ -5,8 +5,8 @@ use Rattle.jr_rename.specs.ImageView.{renaming_of}
 use Rattle.jr_rename_plan.proofs.Answering.{no_method, reads}
 use Rattle.jr_rename_plan.proofs.targets.freely.Goals as goal
 
-pub of_renaming-requires-clause-fair : goal.of_renaming-requires-clause-fair
-of_renaming-requires-clause-fair g c =
+pub of_renaming-outcome-requires-clause-fair : goal.of_renaming-outcome-requires-clause-fair
+of_renaming-outcome-requires-clause-fair g c =
     let p = g.V.View.program c.args.view.now in
     c.renamings_stay_fair.ensures begins p.rows (units_of p) (decl_of c.args.target.now) (renaming_of c.args.g.now) c.keeps_program.ensures.are_rows c.keeps_program.ensures.rows c.requires.renamed c.requires.own
     (no_method p (decl_of c.args.target.now) c.args.g.now.name c.requires.spares) c.requires.clear

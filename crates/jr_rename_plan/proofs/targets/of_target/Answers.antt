@@ -6,12 +6,14 @@ use Rattle.jr_names.specs.ReplyView.{outcome_of}
 use Rattle.jr_rename.specs.Families.{AreRenamed}
 use Rattle.jr_rename.specs.Images.{Renaming}
 use Rattle.jr_rename.specs.Refusals.{ChangesPrelude}
+use Rattle.jr_rename_plan.specs.Afters.{AnswersAfter}
 use Rattle.jr_rename_plan.specs.Answers.{Gives, SparesPrelude, AnswersSparing, Answers}
 use Rattle.jr_rename_plan.proofs.Answering.{told, spares}
+use Rattle.jr_rename_plan.proofs.Telling.{answered}
 use Rattle.jr_rename_plan.proofs.targets.of_target.Goals as goal
 
-pub returns-in-Some : goal.returns-in-Some
-returns-in-Some g c =
+pub returns-in-Some-clause-outcome : goal.returns-in-Some-clause-outcome
+returns-in-Some-clause-outcome g c =
     let p = g.V.View.program c.args.view.now in
     let d = decl_of c.args.target.now in
     let decls = map decl_of c.in_ok-decls.decls.items in
@@ -36,8 +38,8 @@ sparing-requires-clause-spares g c =
     let same : c.in_ok-name.name ≡ c.args.new.now = c.in_ok-name.ensures ∙ c.as_str.ensures in
     subst (SparesPrelude p d) (sym same) (spares p d c.args.new.now (subst (λ rows. (text : List ℕ) → ChangesPrelude rows d c.args.new.now text → ⊥) c.table-2.ensures none))
 
-pub returns : goal.returns
-returns g c =
+pub returns-clause-outcome : goal.returns-clause-outcome
+returns-clause-outcome g c =
     let p = g.V.View.program c.args.view.now in
     let d = decl_of c.args.target.now in
     let of : Renaming = record { decls = c.in_ok-all.all; name = c.in_ok-name.name } in
@@ -47,4 +49,18 @@ returns g c =
     let none = subst (λ o. IfNone o ((text : List ℕ) → ChangesPrelude c.table-2.result.now d c.args.new.now text → ⊥)) c.in-None.is c.in_ok-told.ensures.none in
     let free = spares p d c.args.new.now (subst (λ rows. (text : List ℕ) → ChangesPrelude rows d c.args.new.now text → ⊥) c.table-2.ensures none) in
     IfOk-weaker c.sparing.result (λ o. AnswersSparing p d c.in_ok-name.name of (outcome_of o)) (λ o. Answers p d c.args.new.now (outcome_of o))
-    (λ o h. (of, gives, inr (free, subst (λ n. AnswersSparing p d n of (outcome_of o)) same h))) c.sparing.ensures
+    (λ o h. (of, gives, inr (free, subst (λ n. AnswersSparing p d n of (outcome_of o)) same h))) c.sparing.ensures.outcome
+
+pub returns-clause-after : goal.returns-clause-after
+returns-clause-after g c =
+    let p = g.V.View.program c.args.view.now in
+    let d = decl_of c.args.target.now in
+    let of : Renaming = record { decls = c.in_ok-all.all; name = c.in_ok-name.name } in
+    let renamed = subst (AreRenamed p.rows d) (sym c.in_ok-all.ensures) (subst (λ rows. AreRenamed rows d (map decl_of c.in_ok-decls.decls.items)) c.table.ensures c.in_ok-decls.ensures) in
+    let same : c.in_ok-name.name ≡ c.args.new.now = c.in_ok-name.ensures ∙ c.as_str.ensures in
+    let gives : Gives p d c.args.new.now of = record { renamed = renamed; name = same } in
+    let none = subst (λ o. IfNone o ((text : List ℕ) → ChangesPrelude c.table-2.result.now d c.args.new.now text → ⊥)) c.in-None.is c.in_ok-told.ensures.none in
+    let free = spares p d c.args.new.now (subst (λ rows. (text : List ℕ) → ChangesPrelude rows d c.args.new.now text → ⊥) c.table-2.ensures none) in
+    let after = c.sparing.new.after in
+    IfOk-weaker c.sparing.result (λ o. AnswersSparing p d c.in_ok-name.name of (outcome_of o)) (λ o. AnswersAfter p d c.args.new.now (outcome_of o) after)
+    (λ o h. answered p d c.args.new.now (outcome_of o) (of, gives, inr (free, subst (λ n. AnswersSparing p d n of (outcome_of o)) same h)) after c.sparing.ensures.after) c.sparing.ensures.outcome

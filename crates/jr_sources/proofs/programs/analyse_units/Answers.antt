@@ -10,6 +10,7 @@ use Rattle.jr_build.specs.Packages.{lines_of}
 use Rattle.jr_build.specs.declared.faults.BuildFault.{BuildFault}
 use Rattle.jr_places.specs.FileParts.{begins}
 use Rattle.jr_sources.proofs.Analysing.{counts}
+use Rattle.jr_sources.proofs.Binding.{table_of}
 use Rattle.jr_sources.proofs.ReadUnits.{units_headed}
 use Rattle.jr_sources.proofs.SiteFiles.{lines_are}
 use Rattle.jr_sources.proofs.SourceFaults.{source_fault}
@@ -34,11 +35,11 @@ build-requires-clause-fits g c = units_fit _ (map unit_of c.args.units.now)
 pub build-requires-clause-heads : goal.build-requires-clause-heads
 build-requires-clause-heads g c = units_headed c.args.sources.now (map unit_of c.args.units.now) c.args.words.now c.requires.read
 
-pub bind_all-requires-clause-program : goal.bind_all-requires-clause-program
-bind_all-requires-clause-program g c = record {
-  read = c.requires.read;
-  clean = subst (λ (ps : List (Option PackageLine)). IsClean ps (sites_of begins (map unit_of c.args.units.now))) (sym (lines_are (map unit_of c.args.units.now) c.args.words.now)) c.in-Ok.ensures.clean;
-}
+pub bind_all-requires-clause-table : goal.bind_all-requires-clause-table
+bind_all-requires-clause-table g c =
+    let us = map unit_of c.args.units.now in
+    let clean = subst (λ (ps : List (Option PackageLine)). IsClean ps (sites_of begins us)) (sym (lines_are us c.args.words.now)) c.in-Ok.ensures.clean in
+    table_of c.text_has_one_reading.ensures c.args.sources.now us c.args.words.now (record { read = c.requires.read; clean = clean }) _ c.in-Ok.ensures.rows
 
 pub returns-in-Err-At-clause-analysed : goal.returns-in-Err-At-clause-analysed
 returns-in-Err-At-clause-analysed g c =

@@ -1,11 +1,13 @@
-use Rattle.std.proofs.Common.{◌≡◌, ◌∷◌, ◌++◌, [], List, refl, sym, ap, subst, ◌∙◌}
+use Rattle.std.proofs.Common.{◌≡◌, ◌∷◌, ◌++◌, [], List, length, refl, sym, ap, subst, ◌∙◌}
 use Rattle.std.specs.Prelude.{IfOk}
 use Rattle.std.proofs.lemmas.Result.{IfOk-weaker}
 use Rattle.jr_names.specs.ReplyView.{reply_of}
 use Rattle.jr_names.specs.Replies.{refactored}
 use Rattle.jr_session.specs.declared.changes.Earlier.{Earlier}
 use Rattle.jr_session.specs.declared.tries.Tried.TheVariants as tries
-use Rattle.jr_session.specs.Changes.{put_back}
+use Rattle.jr_sources.specs.Analysed.{IsKeptAnalysis}
+use Rattle.jr_session.specs.Changes.{put_back, AreOfFiles}
+use Rattle.jr_session.specs.TableTells.{TellsTable}
 use Rattle.jr_session.specs.Refactoring.{IsTriedBy}
 use Rattle.jr_session.specs.States.{State}
 use Rattle.jr_session.specs.Trying.{IsTried}
@@ -45,3 +47,12 @@ returns-in-Sound-clause-step g c =
     subst (λ ns. IsTriedBy c.args.self.now (put_back c.args.self.now.files c.args.changes.items) c.args.names.items c.args.respelled (refactored ns c.args.respelled) now) (sym c.from_vec.ensures)
     (subst (λ (s : State). IsTriedBy s (put_back s.files c.args.changes.items) c.args.names.items c.args.respelled (refactored c.args.names.items c.args.respelled) now) c.self.view_is
     (tried_sound c.self.inside.sources c.try_texts.new.sources c.args.changes.items c.self.inside.undo.items c.push_reserved.new.self.items c.self.inside.redo.items c.clear.new.self.items c.self.inside.shown c.args.names.items c.args.respelled c.in-Sound.analysis step tried kept c.clear.ensures.items c.text_has_one_reading.ensures c.sources_are_program.ensures))
+
+pub try_texts-requires-clause-files : goal.try_texts-requires-clause-files
+try_texts-requires-clause-files g c = subst (λ (s : State). AreOfFiles (length s.files) c.args.changes.items) (sym c.self.view_is) c.requires.files
+
+pub try_texts-requires-clause-analysed : goal.try_texts-requires-clause-analysed
+try_texts-requires-clause-analysed g c = subst (λ (s : State). IsKeptAnalysis s.files c.args.analysed.now) (sym c.self.view_is) c.requires.analysed
+
+pub try_texts-requires-clause-told : goal.try_texts-requires-clause-told
+try_texts-requires-clause-told g c = subst (λ (s : State). TellsTable (put_back s.files c.args.changes.items) c.args.analysed.now c.args.after.now) (sym c.self.view_is) c.requires.told

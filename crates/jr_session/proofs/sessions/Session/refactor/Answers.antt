@@ -1,8 +1,10 @@
-use Rattle.std.proofs.Common.{subst}
+use Rattle.std.proofs.Common.{List, sym, subst}
 use Rattle.std.proofs.lemmas.Result.{IfOk-weaker}
 use Rattle.jr_names.specs.ReplyView.{reply_of}
 use Rattle.jr_session.specs.declared.made.Made.TheVariants as makes
+use Rattle.jr_sources.specs.Sources.{Source}
 use Rattle.jr_session.specs.Making.{IsMade}
+use Rattle.jr_session.specs.TableTells.{TellsTable}
 use Rattle.jr_session.specs.States.{State}
 use Rattle.jr_session.proofs.Refactored.{made_long, made_tried}
 use Rattle.jr_session.proofs.sessions.Session.refactor.Goals as goal
@@ -17,3 +19,9 @@ returns-in-Changes-clause-step g c =
     let inside : IsMade c.self.inside.sources c.args.edits.now (makes.Changes c.in-Changes.changes c.in-Changes.names) = subst (λ es. IsMade c.self.inside.sources es (makes.Changes c.in-Changes.changes c.in-Changes.names)) c.as_slice.ensures (subst (IsMade c.self.inside.sources c.as_slice.result.now) c.in-Changes.is c.in_ok-len.ensures) in
     let made : IsMade c.args.self.now.files c.args.edits.now (makes.Changes c.in-Changes.changes c.in-Changes.names) = subst (λ (s : State). IsMade s.files c.args.edits.now (makes.Changes c.in-Changes.changes c.in-Changes.names)) c.self.view_is inside in
     IfOk-weaker c.change_all.result _ _ (λ reply h. made_tried c.args.self.now c.args.edits.now c.in-Changes.changes.items c.in-Changes.names.items c.args.respelled made.0 made.1 (record { within = made.3; together = made.4 }) (reply_of reply) c.change_all.new.self h) c.change_all.ensures.step
+
+pub change_all-requires-clause-told : goal.change_all-requires-clause-told
+change_all-requires-clause-told g c =
+    let inside : IsMade c.self.inside.sources c.args.edits.now (makes.Changes c.in-Changes.changes c.in-Changes.names) = subst (λ es. IsMade c.self.inside.sources es (makes.Changes c.in-Changes.changes c.in-Changes.names)) c.as_slice.ensures (subst (IsMade c.self.inside.sources c.as_slice.result.now) c.in-Changes.is c.in_ok-len.ensures) in
+    let made : IsMade c.args.self.now.files c.args.edits.now (makes.Changes c.in-Changes.changes c.in-Changes.names) = subst (λ (s : State). IsMade s.files c.args.edits.now (makes.Changes c.in-Changes.changes c.in-Changes.names)) c.self.view_is inside in
+    subst (λ (ss : List Source). TellsTable ss c.args.analysed.now c.args.after.now) (sym made.0) c.requires.told

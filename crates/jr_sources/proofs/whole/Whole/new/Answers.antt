@@ -1,5 +1,7 @@
 use Rattle.std.proofs.Common.{map, sym, ap, subst, ◌∙◌}
+use Rattle.jr_text.specs.declared.spans.Span.{Span}
 use Rattle.jr_ast.specs.View.{unit_of}
+use Rattle.jr_bind.specs.Programs.{Program}
 use Rattle.jr_places.specs.FileParts.{begins}
 use Rattle.jr_sources.specs.Whole.{IsProgramOf}
 use Rattle.jr_sources.proofs.FirstErrors.{none_err}
@@ -18,8 +20,8 @@ of-requires c =
     let few = bounds_few c.items_are_placed.ensures.items c.items_are_placed.ensures.last ss a is valid c.total-total.ensures.within in
     are_whole ss a is valid c.keeps_rows.ensures c.one_answer.ensures.items law (none_err ss a is c.requires.sound) (map unit_of c.as_slice.result.now) units few
 
-pub returns : goal.returns
-returns c =
+pub returns-clause-program : goal.returns-clause-program
+returns-clause-program c =
     let ss = c.args.sources.now in
     let a = c.args.analysis.now in
     let is = c.requires.analysis in
@@ -29,3 +31,6 @@ returns c =
     let few = bounds_few c.items_are_placed.ensures.items c.items_are_placed.ensures.last ss a is valid c.total-total.ensures.within in
     let whole = are_whole ss a is valid c.keeps_rows.ensures c.one_answer.ensures.items law (none_err ss a is c.requires.sound) (map unit_of c.as_slice.result.now) units few in
     subst (IsProgramOf ss) (sym c.of.ensures) (program_is ss a is (map unit_of c.as_slice.result.now) units whole.program)
+
+pub returns-clause-rows : goal.returns-clause-rows
+returns-clause-rows c = ap (λ (p : Program Span). p.rows) c.of.ensures
