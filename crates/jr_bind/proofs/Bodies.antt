@@ -17,15 +17,15 @@ use Rattle.jr_table.specs.Walks.{stmt_notes, else_notes, stmts_notes, body_notes
 use Rattle.jr_table.specs.declared.rules.Rule.TheVariants as rule
 use Rattle.jr_table.proofs.Breaking.{has_append}
 use Rattle.jr_bind.specs.declared.completing.Behind.{Behind}
-use Rattle.jr_notes.specs.declared.places.Place.{Place}
-use Rattle.jr_locals.specs.declared.locals.Locals.{Locals}
-use Rattle.jr_notes.specs.declared.findings.Note as raw
-use Rattle.jr_locals.specs.Helds.{Held, held_of, key_of, local_of}
-use Rattle.jr_locals.specs.Tracked.{Tracked, locals_of}
-use Rattle.jr_notes.specs.Places.{member_of, context_of, AreTyped, Knows}
-use Rattle.jr_notes.specs.Fits.{FitsStmt, FitsElse, FitsStmts}
-use Rattle.jr_notes.specs.Logs.{Adds}
-use Rattle.jr_notes.specs.Logs as logs
+use Rattle.jr_bind_expr.specs.declared.places.Place.{Place}
+use Rattle.jr_scopes.specs.declared.locals.Locals.{Locals}
+use Rattle.jr_bind_expr.specs.declared.findings.Note as raw
+use Rattle.jr_scopes.specs.Helds.{Held, held_of, key_of, local_of}
+use Rattle.jr_scopes.specs.Tracked.{Tracked, locals_of}
+use Rattle.jr_bind_expr.specs.Places.{member_of, context_of, AreTyped, Knows}
+use Rattle.jr_bind_expr.specs.Fits.{FitsStmt, FitsElse, FitsStmts}
+use Rattle.jr_bind_expr.specs.Logs.{Adds}
+use Rattle.jr_bind_expr.specs.Logs as logs
 use Rattle.jr_bind.specs.Flow.{reached, ItemPasses, BodyPasses}
 
 pub falls_first : (whole n size shown t : ℕ) → shown ≡ size → whole ≡ suc (size + n) → 4 * whole ≡ t → 4 * shown + 1 < t

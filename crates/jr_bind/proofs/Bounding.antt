@@ -14,9 +14,9 @@ use Rattle.jr_table.specs.Notes.{Note, refers, breaks, Has, found_note}
 use Rattle.jr_table.specs.Walks.{part_notes}
 use Rattle.jr_table.specs.Errors.{Part, part_mark, Binds, Breaks, Error, AreErrors, AreInOrder, Among}
 use Rattle.jr_table.specs.NotingLaws.{PartIsNoted, AreErrorsOfLogs}
-use Rattle.jr_notes.specs.Arms.{one_decl}
-use Rattle.jr_notes.specs.Logs.{Adds}
-use Rattle.jr_types.specs.Slots.{Slot, find_type}
+use Rattle.jr_bind_expr.specs.Arms.{one_decl}
+use Rattle.jr_bind_expr.specs.Logs.{Adds}
+use Rattle.jr_expr_types.specs.Slots.{Slot, find_type}
 use Rattle.jr_bind.specs.Bounds.{Reference, decl_in, Bound, TypeInPart, BindsOnce, IsBound}
 use Rattle.jr_bind.specs.BoundLogs.{reference_at, found_references, note_references, references_in, IsBoundOfLog}
 

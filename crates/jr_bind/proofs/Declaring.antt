@@ -18,17 +18,17 @@ use Rattle.jr_table.specs.Binding.{type}
 use Rattle.jr_table.specs.Meanings.{class_found, find_in, Reference, reference, type_references}
 use Rattle.jr_table.specs.Notes.{found_note}
 use Rattle.jr_table.specs.HeadNotes.{declared_note, declared_notes, param_references}
-use Rattle.jr_notes.specs.declared.findings.Note as raw
-use Rattle.jr_notes.specs.declared.findings.Note.TheVariants.{Finds}
-use Rattle.jr_notes.specs.declared.findings.Sought.TheVariants as sought
-use Rattle.jr_notes.specs.declared.findings.Finding.TheVariants as finding
-use Rattle.jr_notes.specs.Arms.{is_nothing}
-use Rattle.jr_notes.specs.Findings.{note_of}
-use Rattle.jr_notes.specs.Logs.{notes_of}
-use Rattle.jr_notes.specs.Numbered.{in_class}
+use Rattle.jr_bind_expr.specs.declared.findings.Note as raw
+use Rattle.jr_bind_expr.specs.declared.findings.Note.TheVariants.{Finds}
+use Rattle.jr_bind_expr.specs.declared.findings.Sought.TheVariants as sought
+use Rattle.jr_bind_expr.specs.declared.findings.Finding.TheVariants as finding
+use Rattle.jr_bind_expr.specs.Arms.{is_nothing}
+use Rattle.jr_bind_expr.specs.Findings.{note_of}
+use Rattle.jr_bind_expr.specs.Logs.{notes_of}
+use Rattle.jr_bind_expr.specs.Numbered.{in_class}
 use Rattle.jr_bind.specs.DeclaredTypes.{is_told, PutsIf, PutsDeclared, PutsReferences, FitsParams}
-use Rattle.jr_notes.specs.Fits.{FitsType}
-use Rattle.jr_notes.proofs.Numbers.{named_is, types_are}
+use Rattle.jr_bind_expr.specs.Fits.{FitsType}
+use Rattle.jr_bind_expr.proofs.Numbers.{named_is, types_are}
 
 module _ (rows : List Row) where
   pub told_one : (j : ℕ) → is_nothing (shown rows (One j)) ≡ false → true ≡ is_told (shown rows (One j))

@@ -30,17 +30,17 @@ use Rattle.jr_table.specs.Meanings.{row_of, superclass_of, own_superclass, type_
 use Rattle.jr_table.specs.Notes.{breaks, when, test_found}
 use Rattle.jr_table.specs.HeadNotes.{top_found, declared_notes, parent_references, is_final_super, lacks_super_ctor, head_notes}
 use Rattle.jr_table.proofs.RowLaws.{the_number, number_stands, entry_at}
-use Rattle.jr_notes.specs.declared.args.Args as raw_args
-use Rattle.jr_notes.specs.declared.findings.Note as raw
-use Rattle.jr_notes.specs.declared.findings.Note.TheVariants.{Breaks}
-use Rattle.jr_notes.specs.ArgsView.{kinds_of}
-use Rattle.jr_notes.specs.Arms.{PutsWhen, ctor_answer, one_decl}
-use Rattle.jr_notes.specs.Findings.{note_of}
-use Rattle.jr_notes.specs.Logs.{notes_of}
+use Rattle.jr_bind_expr.specs.declared.args.Args as raw_args
+use Rattle.jr_bind_expr.specs.declared.findings.Note as raw
+use Rattle.jr_bind_expr.specs.declared.findings.Note.TheVariants.{Breaks}
+use Rattle.jr_bind_expr.specs.ArgsView.{kinds_of}
+use Rattle.jr_bind_expr.specs.Arms.{PutsWhen, ctor_answer, one_decl}
+use Rattle.jr_bind_expr.specs.Findings.{note_of}
+use Rattle.jr_bind_expr.specs.Logs.{notes_of}
 use Rattle.jr_bind.specs.Heads.{is_final_at, is_ctor_member, parent_notes, PutsOfClass, PutsTop, IsSuperCtor, IsLacking}
 use Rattle.jr_bind.specs.DeclaredTypes.{PutsReferences}
-use Rattle.jr_notes.proofs.Scoped.{class_is}
-use Rattle.jr_notes.proofs.Numbers.{ctors_are}
+use Rattle.jr_bind_expr.proofs.Scoped.{class_is}
+use Rattle.jr_bind_expr.proofs.Numbers.{ctors_are}
 
 module _ (rows : List Row) where
   pub top_none : (name : List ℕ) → number_of rows (top_class name) ≡ None → shown rows Nothing ≡ top_found rows name

@@ -17,21 +17,21 @@ use Rattle.jr_table.specs.Meanings.{written_type, type_of_local, type_of, type_r
 use Rattle.jr_table.specs.Notes.{Note, reference_notes, unless, suits, breaks}
 use Rattle.jr_table.specs.Walks.{notes_of}
 use Rattle.jr_ast.specs.Marks.{exp_mark}
-use Rattle.jr_notes.specs.declared.places.Place.{Place}
-use Rattle.jr_locals.specs.declared.helds.Held as raw_held
-use Rattle.jr_locals.specs.declared.locals.Locals.{Locals}
-use Rattle.jr_locals.specs.Tracked.{Tracked, locals_of}
-use Rattle.jr_notes.specs.declared.findings.Note as raw
-use Rattle.jr_locals.specs.Helds.{Held, held_of, key_of, local_of, last_number, type_of as held_type_of}
-use Rattle.jr_notes.specs.Places.{member_of, context_of, IsRowedIf, bare, IsTyped, AreTyped, Knows}
-use Rattle.jr_notes.specs.Logs.{Adds}
-use Rattle.jr_notes.specs.Logs as logs
+use Rattle.jr_bind_expr.specs.declared.places.Place.{Place}
+use Rattle.jr_scopes.specs.declared.helds.Held as raw_held
+use Rattle.jr_scopes.specs.declared.locals.Locals.{Locals}
+use Rattle.jr_scopes.specs.Tracked.{Tracked, locals_of}
+use Rattle.jr_bind_expr.specs.declared.findings.Note as raw
+use Rattle.jr_scopes.specs.Helds.{Held, held_of, key_of, local_of, last_number, type_of as held_type_of}
+use Rattle.jr_bind_expr.specs.Places.{member_of, context_of, IsRowedIf, bare, IsTyped, AreTyped, Knows}
+use Rattle.jr_bind_expr.specs.Logs.{Adds}
+use Rattle.jr_bind_expr.specs.Logs as logs
 use Rattle.jr_bind.specs.Flow.{reached}
 use Rattle.jr_bind.specs.StmtArms.{redeclared_notes, InitAdds, LocalPasses}
-use Rattle.jr_notes.proofs.Lasts.{last_is}
-use Rattle.jr_notes.proofs.Abouting.{bare_type}
-use Rattle.jr_notes.proofs.Rowing.{written_rowed}
-use Rattle.jr_notes.proofs.Adding.{adds_exact, adds_then}
+use Rattle.jr_bind_expr.proofs.Lasts.{last_is}
+use Rattle.jr_bind_expr.proofs.Abouting.{bare_type}
+use Rattle.jr_bind_expr.proofs.Rowing.{written_rowed}
+use Rattle.jr_bind_expr.proofs.Adding.{adds_exact, adds_then}
 
 is_some_of : {X Y : Type 0} (f : X → Y) (o : Option X) → is_some (option_map f o) ≡ is_some o
 is_some_of f None = refl

@@ -12,11 +12,11 @@ use Rattle.jr_table.specs.Entries.{number_of, class_number, class_of_member, cla
 use Rattle.jr_table.specs.Context.{parameters}
 use Rattle.jr_table.specs.HeadRules.{types_of}
 use Rattle.jr_table.proofs.RowLaws.{number_stands, the_number, entry_stands, some_inside}
-use Rattle.jr_locals.specs.declared.helds.Held as raw
-use Rattle.jr_locals.specs.Helds.{Held, held_of, local_of}
-use Rattle.jr_notes.specs.Places.{decl_of, IsRowed, AreTyped}
+use Rattle.jr_scopes.specs.declared.helds.Held as raw
+use Rattle.jr_scopes.specs.Helds.{Held, held_of, local_of}
+use Rattle.jr_bind_expr.specs.Places.{decl_of, IsRowed, AreTyped}
 use Rattle.jr_bind.specs.Parameters.{held_parameter, held_parameters}
-use Rattle.jr_notes.proofs.Scoped.{class_is}
+use Rattle.jr_bind_expr.proofs.Scoped.{class_is}
 
 pub none_left : {X : Type 0} (xs : List X) → length xs ≡ 0 → xs ≡ []
 none_left [] h = refl

@@ -22,19 +22,19 @@ use Rattle.jr_table.specs.HeadNotes as heads
 use Rattle.jr_table.specs.Errors.{member_part}
 use Rattle.jr_table.specs.Walks.{notes_of, maybe_notes, super_args_notes, body_notes, member_notes, part_notes}
 use Rattle.jr_bind.specs.declared.completing.Behind.{Behind}
-use Rattle.jr_notes.specs.declared.places.Place.{Place}
-use Rattle.jr_notes.specs.declared.findings.Note as raw
-use Rattle.jr_notes.specs.Abouts.{kind_at}
-use Rattle.jr_notes.specs.Places.{member_of, context_of}
-use Rattle.jr_notes.specs.Logs.{Adds}
-use Rattle.jr_notes.specs.Logs as logs
+use Rattle.jr_bind_expr.specs.declared.places.Place.{Place}
+use Rattle.jr_bind_expr.specs.declared.findings.Note as raw
+use Rattle.jr_bind_expr.specs.Abouts.{kind_at}
+use Rattle.jr_bind_expr.specs.Places.{member_of, context_of}
+use Rattle.jr_bind_expr.specs.Logs.{Adds}
+use Rattle.jr_bind_expr.specs.Logs as logs
 use Rattle.jr_bind.specs.Flow.{BodyPasses}
 use Rattle.jr_bind.specs.StmtArms.{InitAdds}
 use Rattle.jr_bind.specs.DeclarationArms as arms
 use Rattle.jr_bind.specs.Supers as supers
 use Rattle.jr_bind.specs.PartNotes.{field_notes, method_notes, ctor_notes}
-use Rattle.jr_notes.proofs.Adding.{adds_exact, adds_then, adds_before}
-use Rattle.jr_notes.proofs.Rowing.{row_rowed}
+use Rattle.jr_bind_expr.proofs.Adding.{adds_exact, adds_then, adds_before}
+use Rattle.jr_bind_expr.proofs.Rowing.{row_rowed}
 use Rattle.jr_bind.proofs.StmtArming.{row_kind}
 
 -- the member of a place

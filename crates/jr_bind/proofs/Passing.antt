@@ -15,16 +15,16 @@ use Rattle.jr_table.specs.declared.rules.Rule.TheVariants as rule
 use Rattle.jr_table.specs.Notes.{Note, breaks, unless, own_stmt_notes, is_true_literal, completes, else_completes, list_completes}
 use Rattle.jr_table.specs.Walks.{notes_of, maybe_notes, stmt_notes, else_notes, stmts_notes, body_notes}
 use Rattle.jr_bind.specs.declared.completing.Behind.{Behind}
-use Rattle.jr_notes.specs.declared.places.Place.{Place}
-use Rattle.jr_locals.specs.declared.locals.Locals.{Locals}
-use Rattle.jr_locals.specs.Tracked.{Tracked, locals_of}
-use Rattle.jr_notes.specs.declared.findings.Note as raw
-use Rattle.jr_notes.specs.Places.{member_of, context_of, Knows}
-use Rattle.jr_notes.specs.Logs.{Adds}
-use Rattle.jr_notes.specs.Logs as logs
+use Rattle.jr_bind_expr.specs.declared.places.Place.{Place}
+use Rattle.jr_scopes.specs.declared.locals.Locals.{Locals}
+use Rattle.jr_scopes.specs.Tracked.{Tracked, locals_of}
+use Rattle.jr_bind_expr.specs.declared.findings.Note as raw
+use Rattle.jr_bind_expr.specs.Places.{member_of, context_of, Knows}
+use Rattle.jr_bind_expr.specs.Logs.{Adds}
+use Rattle.jr_bind_expr.specs.Logs as logs
 use Rattle.jr_bind.specs.Flow.{reached, unreached, behind_branches, behind_loop, behind_both, Passes, StmtPasses, InnerPasses, ElsePasses, BodyPasses, ItemPasses}
 use Rattle.jr_bind.specs.StmtArms.{checked_notes, looped_notes, locked_notes, returned_notes, local_notes}
-use Rattle.jr_notes.proofs.Adding.{adds_exact, adds_none, adds_then}
+use Rattle.jr_bind_expr.proofs.Adding.{adds_exact, adds_none, adds_then}
 use Rattle.jr_bind.proofs.Bodies.{Inside, inside_same, inside_after, cut_back, cut_context, cut_knows}
 
 -- one context, one member

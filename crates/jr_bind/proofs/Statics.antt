@@ -6,7 +6,7 @@ use Rattle.jr_ast.specs.declared.parts.Modifier.{Modifier}
 use Rattle.jr_ast.specs.View.{modifier_of}
 use Rattle.jr_table.specs.Entries.{is_static_word}
 use Rattle.jr_table.specs.HeadRules.{is_static_member}
-use Rattle.jr_notes.proofs.Steps.{left_is}
+use Rattle.jr_bind_expr.proofs.Steps.{left_is}
 
 pub map_count : {X Y : Type 0} (f : X → Y) (xs : List X) → length xs ≡ length (map f xs)
 map_count f [] = refl

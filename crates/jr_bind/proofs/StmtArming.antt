@@ -15,14 +15,14 @@ use Rattle.jr_table.specs.Meanings.{row_of, type_of}
 use Rattle.jr_table.specs.Notes.{breaks, unless, when, is_true_literal, is_class_type, value_type, value_return_notes, returned_type}
 use Rattle.jr_table.specs.Notes as notes
 use Rattle.jr_table.proofs.RowLaws.{entry_at}
-use Rattle.jr_notes.specs.declared.meanings.Meaning.{Meaning}
-use Rattle.jr_notes.specs.Abouts.{kind_at}
-use Rattle.jr_notes.specs.Numbered.{class_in, is_boolean, suits}
-use Rattle.jr_notes.specs.Means.{Means}
-use Rattle.jr_notes.specs.Places.{IsRowedIf}
+use Rattle.jr_bind_expr.specs.declared.meanings.Meaning.{Meaning}
+use Rattle.jr_bind_expr.specs.Abouts.{kind_at}
+use Rattle.jr_bind_expr.specs.Numbered.{class_in, is_boolean, suits}
+use Rattle.jr_bind_expr.specs.Means.{Means}
+use Rattle.jr_bind_expr.specs.Places.{IsRowedIf}
 use Rattle.jr_bind.specs.StmtArms.{condition_notes, loop_notes, lock_notes, value_kind, value_notes, init_notes, checked_notes, looped_notes, locked_notes}
-use Rattle.jr_notes.proofs.TypeTests.{boolean_is, suits_is}
-use Rattle.jr_notes.proofs.Rowing.{row_rowed}
+use Rattle.jr_bind_expr.proofs.TypeTests.{boolean_is, suits_is}
+use Rattle.jr_bind_expr.proofs.Rowing.{row_rowed}
 
 module _ (rows : List Row) where
   -- what a method returns

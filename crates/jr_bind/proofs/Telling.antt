@@ -12,7 +12,7 @@ use Rattle.jr_table.specs.Lookup.{decl_at, shown_one, shown_two, shown}
 use Rattle.jr_table.specs.Binding.{Sought}
 use Rattle.jr_table.specs.Notes.{missing_rule, found_note, breaks}
 use Rattle.jr_table.specs.ErrorLists.{error_of, same_error, drop_repeats, order_number}
-use Rattle.jr_notes.specs.Arms.{is_nothing}
+use Rattle.jr_bind_expr.specs.Arms.{is_nothing}
 use Rattle.jr_bind.specs.declared.errors.BindError as raw
 use Rattle.jr_bind.specs.ErrorView.{found_rule}
 use Rattle.jr_bind.specs.ErrorView.{error_of as shown_error}

@@ -7,10 +7,10 @@ use Rattle.jr_table.specs.Rows.{Row}
 use Rattle.jr_table.specs.Conditions.{AreRows}
 use Rattle.jr_table.specs.LookupLaws.{KeysAreFound}
 use Rattle.jr_table.specs.Errors.{Part, class_part, member_part}
-use Rattle.jr_types.specs.Slots.{Slot, find_type}
-use Rattle.jr_types.specs.Trees.{flat, type_at, PathsLeadToTypes}
-use Rattle.jr_types.specs.TypedTrees.{leaf, part_tree}
-use Rattle.jr_types.specs.TypedLaws.{TypesAreAt}
+use Rattle.jr_expr_types.specs.Slots.{Slot, find_type}
+use Rattle.jr_expr_types.specs.Trees.{flat, type_at, PathsLeadToTypes}
+use Rattle.jr_expr_types.specs.TypedTrees.{leaf, part_tree}
+use Rattle.jr_expr_types.specs.TypedLaws.{TypesAreAt}
 use Rattle.jr_bind.specs.Bounds.{TypeInPart}
 
 leaf_has_none : (path : List ℕ) → type_at leaf path ≡ None

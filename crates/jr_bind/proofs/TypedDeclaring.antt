@@ -9,11 +9,11 @@ use Rattle.jr_table.specs.Rows.{Row}
 use Rattle.jr_table.specs.Context.{Context}
 use Rattle.jr_table.specs.Errors.{member_part}
 use Rattle.jr_table.specs.HeadRules.{plain, with_parameters, is_static_member}
-use Rattle.jr_types.specs.Slots.{Slot}
-use Rattle.jr_types.specs.Trees.{Parts, node, none, count, flat, flats}
-use Rattle.jr_types.specs.TypedTrees.{leaf, put_leaf, put_leaves, put_args, put_maybe, put_stmts, put_type, part_tree}
+use Rattle.jr_expr_types.specs.Slots.{Slot}
+use Rattle.jr_expr_types.specs.Trees.{Parts, node, none, count, flat, flats}
+use Rattle.jr_expr_types.specs.TypedTrees.{leaf, put_leaf, put_leaves, put_args, put_maybe, put_stmts, put_type, part_tree}
 use Rattle.jr_bind.specs.TypedFlow.{named_count, args_count, args_slots}
-use Rattle.jr_notes.proofs.TypedParts.{row_flats, row_counted}
+use Rattle.jr_bind_expr.proofs.TypedParts.{row_flats, row_counted}
 
 pub leaves_flats : (n : ℕ) (ps : Parts) → flats (put_leaves n ps) ≡ flats ps ++ flats (put_leaves n none)
 unfolding flats

@@ -7,12 +7,12 @@ use Rattle.jr_ast.specs.declared.stmts.Stmt.{Stmt}
 use Rattle.jr_ast.specs.View.{stmt_of, stmts_of}
 use Rattle.jr_table.specs.Rows.{Row}
 use Rattle.jr_table.specs.Context.{Context, after, locals_in}
-use Rattle.jr_types.specs.Slots.{Slot}
-use Rattle.jr_types.specs.Trees.{Tree, Parts, none, put, count, flat, flats}
-use Rattle.jr_types.specs.TypedTrees.{exp_tree, put_maybe, stmt_parts, put_else, put_stmts, stmt_tree}
+use Rattle.jr_expr_types.specs.Slots.{Slot}
+use Rattle.jr_expr_types.specs.Trees.{Tree, Parts, none, put, count, flat, flats}
+use Rattle.jr_expr_types.specs.TypedTrees.{exp_tree, put_maybe, stmt_parts, put_else, put_stmts, stmt_tree}
 use Rattle.jr_bind.specs.TypedFlow.{maybe_count, else_count, body_count, maybe_slots, else_slots, body_slots}
-use Rattle.jr_notes.proofs.Steps.{left_is}
-use Rattle.jr_notes.proofs.TypedParts.{start, add}
+use Rattle.jr_bind_expr.proofs.Steps.{left_is}
+use Rattle.jr_bind_expr.proofs.TypedParts.{start, add}
 
 -- parts that stand in one row
 

@@ -17,7 +17,7 @@ use Rattle.std.specs.List.Sorted.{IsPermutation}
 use Rattle.jr_table.specs.Decls.{MemberKey, Decl}
 use Rattle.jr_table.specs.Notes.{Note, refers, breaks}
 use Rattle.jr_table.specs.ErrorLists.{errors_of_log}
-use Rattle.jr_types.specs.Slots.{Slot}
+use Rattle.jr_expr_types.specs.Slots.{Slot}
 use Rattle.jr_bind.specs.Bounds.{Reference, Bound}
 
 -- No reference stands before the first byte of a member; one that would is left out.

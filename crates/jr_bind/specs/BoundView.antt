@@ -2,7 +2,7 @@
 use Rattle.std.specs.Prelude.{List, map}
 use Rattle.jr_table.specs.KeyView.{member_key_of, decl_of}
 use Rattle.jr_table.specs.declared.decls.MemberKey.{MemberKey}
-use Rattle.jr_types.specs.Slots.{Slot}
+use Rattle.jr_expr_types.specs.Slots.{Slot}
 use Rattle.jr_bind.specs.declared.errors.BindError.{BindError}
 use Rattle.jr_bind.specs.declared.bounds.Reference as raw
 use Rattle.jr_bind.specs.ErrorView.{error_of}

@@ -27,7 +27,7 @@ use Rattle.jr_table.specs.Errors.{
   AreErrors,
 }
 use Rattle.jr_table.specs.TypesAt.{TypeAt}
-use Rattle.jr_types.specs.Slots.{Slot, find_type}
+use Rattle.jr_expr_types.specs.Slots.{Slot, find_type}
 use Rattle.jr_bind.specs.PartFits.{FitsPart}
 
 -- a reference, by the place of its first byte, and what it means

@@ -26,12 +26,12 @@ use Rattle.jr_table.specs.Context.{Context, scope_of}
 use Rattle.jr_table.specs.Binding.{type}
 use Rattle.jr_table.specs.Meanings.{class_found, find_in, Reference, reference}
 use Rattle.jr_table.specs.HeadNotes.{declared_note, declared_notes}
-use Rattle.jr_notes.specs.declared.findings.Note as raw
-use Rattle.jr_notes.specs.declared.findings.Note.TheVariants.{Finds}
-use Rattle.jr_notes.specs.declared.findings.Sought.TheVariants as sought
-use Rattle.jr_notes.specs.declared.findings.Finding.TheVariants as finding
-use Rattle.jr_notes.specs.Logs.{notes_of}
-use Rattle.jr_notes.specs.Fits.{FitsType}
+use Rattle.jr_bind_expr.specs.declared.findings.Note as raw
+use Rattle.jr_bind_expr.specs.declared.findings.Note.TheVariants.{Finds}
+use Rattle.jr_bind_expr.specs.declared.findings.Sought.TheVariants as sought
+use Rattle.jr_bind_expr.specs.declared.findings.Finding.TheVariants as finding
+use Rattle.jr_bind_expr.specs.Logs.{notes_of}
+use Rattle.jr_bind_expr.specs.Fits.{FitsType}
 
 -- what is noted of a reference in a declaration: what it is bound to, or what isn't accessible
 abbrev pub is_told : Found → Bool

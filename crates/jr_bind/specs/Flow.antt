@@ -9,10 +9,10 @@ use Rattle.jr_table.specs.Notes.{Note, breaks, unless, completes, else_completes
 use Rattle.jr_table.specs.Walks.{stmt_notes, else_notes, body_notes}
 use Rattle.jr_table.specs.declared.rules.Rule.TheVariants as rule
 use Rattle.jr_bind.specs.declared.completing.Behind.{Behind}
-use Rattle.jr_notes.specs.declared.places.Place.{Place}
-use Rattle.jr_notes.specs.declared.findings.Note as raw
-use Rattle.jr_notes.specs.Places.{member_of, context_of, Knows}
-use Rattle.jr_notes.specs.Logs.{notes_of, Adds}
+use Rattle.jr_bind_expr.specs.declared.places.Place.{Place}
+use Rattle.jr_bind_expr.specs.declared.findings.Note as raw
+use Rattle.jr_bind_expr.specs.Places.{member_of, context_of, Knows}
+use Rattle.jr_bind_expr.specs.Logs.{notes_of, Adds}
 
 abbrev pub reached : ℕ → Behind
 reached number = record { number = number; completes = true }

@@ -38,10 +38,10 @@ use Rattle.jr_table.specs.HeadNotes.{
   lacks_super_ctor,
 }
 use Rattle.jr_table.specs.declared.rules.Rule.TheVariants as rule
-use Rattle.jr_notes.specs.declared.findings.Note as raw
-use Rattle.jr_notes.specs.declared.args.Args as raw_args
-use Rattle.jr_notes.specs.ArgsView.{kinds_of}
-use Rattle.jr_notes.specs.Logs.{notes_of}
+use Rattle.jr_bind_expr.specs.declared.findings.Note as raw
+use Rattle.jr_bind_expr.specs.declared.args.Args as raw_args
+use Rattle.jr_bind_expr.specs.ArgsView.{kinds_of}
+use Rattle.jr_bind_expr.specs.Logs.{notes_of}
 use Rattle.jr_bind.specs.DeclaredTypes.{FitsMaybeType}
 
 -- whether the class of this number is final

@@ -5,7 +5,7 @@ use Rattle.jr_table.specs.Keys.{Ty}
 use Rattle.jr_table.specs.Rows.{Row}
 use Rattle.jr_table.specs.Entries.{kind_of}
 use Rattle.jr_table.specs.Context.{known, Context}
-use Rattle.jr_locals.specs.Helds.{Held}
+use Rattle.jr_scopes.specs.Helds.{Held}
 
 module _ {A : Type 0} (rows : List Row) where
   abbrev pub held_parameter : ℕ → syntax.Param A → Ty → Held

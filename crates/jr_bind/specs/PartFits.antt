@@ -3,7 +3,7 @@ use Rattle.std.specs.Prelude.{ℕ, Option, Some, None}
 use Rattle.jr_ast.specs.Tree as tree
 use Rattle.jr_ast.specs.MemberTree as syntax
 use Rattle.jr_table.specs.Errors.{Part, class_part, member_part}
-use Rattle.jr_notes.specs.Fits.{FitsType, FitsExps, FitsMaybe, FitsStmts}
+use Rattle.jr_bind_expr.specs.Fits.{FitsType, FitsExps, FitsMaybe, FitsStmts}
 use Rattle.jr_bind.specs.DeclaredTypes.{FitsMaybeType, FitsParams}
 use Rattle.jr_bind.specs.Heads.{FitsHead}
 

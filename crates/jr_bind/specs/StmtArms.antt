@@ -45,16 +45,16 @@ use Rattle.jr_table.specs.Notes.{
   value_return_notes,
 }
 use Rattle.jr_table.specs.declared.rules.Rule.TheVariants as rule
-use Rattle.jr_notes.specs.declared.meanings.Meaning.{Meaning}
+use Rattle.jr_bind_expr.specs.declared.meanings.Meaning.{Meaning}
 use Rattle.jr_bind.specs.declared.completing.Behind.{Behind}
-use Rattle.jr_notes.specs.declared.places.Place.{Place}
-use Rattle.jr_notes.specs.declared.findings.Note as raw
-use Rattle.jr_notes.specs.Places.{member_of, context_of, IsRowedIf}
-use Rattle.jr_notes.specs.Logs.{Adds}
-use Rattle.jr_notes.specs.Logs as logs
+use Rattle.jr_bind_expr.specs.declared.places.Place.{Place}
+use Rattle.jr_bind_expr.specs.declared.findings.Note as raw
+use Rattle.jr_bind_expr.specs.Places.{member_of, context_of, IsRowedIf}
+use Rattle.jr_bind_expr.specs.Logs.{Adds}
+use Rattle.jr_bind_expr.specs.Logs as logs
 use Rattle.jr_bind.specs.Flow.{Passes}
-use Rattle.jr_notes.specs.Numbered as number
-use Rattle.jr_notes.specs.Numbered.{is_boolean, class_in}
+use Rattle.jr_bind_expr.specs.Numbered as number
+use Rattle.jr_bind_expr.specs.Numbered.{is_boolean, class_in}
 
 -- by numbers
 

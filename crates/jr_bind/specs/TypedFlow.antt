@@ -15,10 +15,10 @@ use Rattle.jr_ast.specs.Tree as tree
 use Rattle.jr_ast.specs.StatementTree as statement
 use Rattle.jr_table.specs.Rows.{Row}
 use Rattle.jr_table.specs.Context.{Context, local_of, in_own, after, locals_in}
-use Rattle.jr_types.specs.Slots.{Slot}
-use Rattle.jr_types.specs.Trees.{Parts, none, put, flat}
-use Rattle.jr_types.specs.TypedTrees.{put_leaf, exp_tree, stmt_tree}
-use Rattle.jr_notes.specs.TypedSlots.{row_slots, row_count}
+use Rattle.jr_expr_types.specs.Slots.{Slot}
+use Rattle.jr_expr_types.specs.Trees.{Parts, none, put, flat}
+use Rattle.jr_expr_types.specs.TypedTrees.{put_leaf, exp_tree, stmt_tree}
+use Rattle.jr_bind_expr.specs.TypedSlots.{row_slots, row_count}
 
 module _ {A : Type 0} where
   abbrev pub maybe_count : Option (tree.Exp A) → ℕ

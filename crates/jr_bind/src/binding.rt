@@ -17,7 +17,7 @@ ghost use Rattle.jr_members.specs.PartView.{part_of};
 ghost use Rattle.jr_members.specs.WrittenMembers.{decl_of_member};
 ghost use Rattle.jr_bind.specs.BoundLogs.{IsBoundOfLog};
 ghost use Rattle.jr_bind.specs.Bounds.{BindsOnce, IsBound, FitsWhole};
-ghost use Rattle.jr_notes.specs.Logs.{notes_of};
+ghost use Rattle.jr_bind_expr.specs.Logs.{notes_of};
 
 use crate::bounds::Bound;
 use crate::errors::errors_of_log;
@@ -25,11 +25,11 @@ use crate::part_notes::note_part;
 use crate::references::references_of_log;
 use jr_ast::{Class, Member, Unit};
 use jr_members::{PartRef, WrittenMember, members_are_written, written_members};
-use jr_notes::Note;
+use jr_bind_expr::Note;
 use jr_steps::Steps;
 use jr_table::{MemberKey, Table, errors_are_told, lookups_are_exact, parts_are_noted};
 use jr_text::Mark;
-use jr_types::{Types, paths_lead_to_types, types_are_at};
+use jr_expr_types::{Types, paths_lead_to_types, types_are_at};
 use std::alloc::{AllocError, Global};
 use std::sync::ledger::Ledger;
 

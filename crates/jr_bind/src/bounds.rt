@@ -10,7 +10,7 @@ ghost use Rattle.jr_bind.specs.Bounds.{decl_in};
 use crate::errors::BindError;
 use jr_ast::Path;
 use jr_table::{Decl, Facts, MemberKey, Ty};
-use jr_types::Types;
+use jr_expr_types::Types;
 use std::marker::Model;
 
 /// A reference, by its place from the member's first byte, and what it means.
@@ -88,7 +88,7 @@ impl Bound {
 
 impl Facts for Bound {
     ghost use Rattle.jr_bind.specs.Bounds.{decl_in};
-    ghost use Rattle.jr_types.specs.Slots.{find_type};
+    ghost use Rattle.jr_expr_types.specs.Slots.{find_type};
 
     ghost key = { λ b. b.member };
 

@@ -4,12 +4,12 @@ ghost use Rattle.jr_ast.specs.View.{word_of, type_of, param_of};
 ghost use Rattle.jr_table.specs.Lookup.{shown};
 ghost use Rattle.jr_table.specs.Meanings.{type_references};
 ghost use Rattle.jr_table.specs.HeadNotes.{param_references, result_references};
-ghost use Rattle.jr_notes.specs.Fits.{FitsNamed, FitsType};
+ghost use Rattle.jr_bind_expr.specs.Fits.{FitsNamed, FitsType};
 ghost use Rattle.jr_bind.specs.DeclaredTypes as pure;
 
 use jr_ast::{Ident, Param, TypeKind, TypeRef};
 use jr_lookup::type_at;
-use jr_notes::{Finding, Note, Sought, class_found, is_nothing, type_in};
+use jr_bind_expr::{Finding, Note, Sought, class_found, is_nothing, type_in};
 use jr_table::{Answer, Table};
 use jr_text::Mark;
 use std::alloc::AllocError;
@@ -84,7 +84,7 @@ fn put_dotted<A: Mark>(
 }
 
 /// The names of a type, seen from a class.
-#[tactic(auto, unfolding(jr_notes::specs::Fits::FitsType))]
+#[tactic(auto, unfolding(jr_bind_expr::specs::Fits::FitsType))]
 pub(crate) fn put_type<A: Mark>(
     table: &Table,
     class: u32,

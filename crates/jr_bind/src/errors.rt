@@ -7,11 +7,11 @@ ghost use Rattle.jr_table.specs.Errors.{rule_rank};
 ghost use Rattle.jr_table.specs.Notes.{missing_rule};
 ghost use Rattle.jr_table.specs.Notes as notes;
 ghost use Rattle.jr_table.specs.ErrorLists as lists;
-ghost use Rattle.jr_notes.specs.Findings.{note_of, sought_of};
-ghost use Rattle.jr_notes.specs.Logs.{notes_of};
+ghost use Rattle.jr_bind_expr.specs.Findings.{note_of, sought_of};
+ghost use Rattle.jr_bind_expr.specs.Logs.{notes_of};
 ghost use Rattle.jr_bind.specs.ErrorView.{error_of, found_rule};
 
-use jr_notes::{Finding, Note, Sought, is_nothing};
+use jr_bind_expr::{Finding, Note, Sought, is_nothing};
 use jr_table::{Answer, Rule, Table, errors_are_told};
 use std::alloc::{AllocError, Global};
 

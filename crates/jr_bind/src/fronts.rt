@@ -1,13 +1,13 @@
 //! What stands in front of a member's expressions, in a tree of types.
 ghost use Rattle.std.specs.Prelude.{◌≡◌, ◌++◌, IfOk, option_map};
 ghost use Rattle.jr_ast.specs.View.{type_of};
-ghost use Rattle.jr_types.specs.Trees.{none, count, flats};
-ghost use Rattle.jr_types.specs.TypedTrees.{put_leaves};
+ghost use Rattle.jr_expr_types.specs.Trees.{none, count, flats};
+ghost use Rattle.jr_expr_types.specs.TypedTrees.{put_leaves};
 ghost use Rattle.jr_bind.specs.TypedFlow.{named_count};
 
 use jr_ast::TypeRef;
-use jr_notes::{more_parts, put_leaf};
-use jr_types::Types;
+use jr_bind_expr::{more_parts, put_leaf};
+use jr_expr_types::Types;
 use std::alloc::AllocError;
 
 /// Parts in which no expression stands.

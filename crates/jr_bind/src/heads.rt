@@ -4,13 +4,13 @@ ghost use Rattle.jr_ast.specs.View.{type_of, member_of, members_of, class_of};
 ghost use Rattle.jr_table.specs.Sites.{writes_ctor};
 ghost use Rattle.jr_table.specs.Lookup.{shown};
 ghost use Rattle.jr_table.specs.HeadNotes as notes;
-ghost use Rattle.jr_notes.specs.Fits.{FitsType};
+ghost use Rattle.jr_bind_expr.specs.Fits.{FitsType};
 ghost use Rattle.jr_bind.specs.DeclaredTypes.{FitsMaybeType};
 ghost use Rattle.jr_bind.specs.Heads as pure;
 
 use crate::declared::{put_declared, put_type};
 use jr_ast::{Class, Member, MemberKind, Name, TypeKind, TypeRef};
-use jr_notes::{Args, Note, ctor_in, has_final, is_one, put_raw, row_at};
+use jr_bind_expr::{Args, Note, ctor_in, has_final, is_one, put_raw, row_at};
 use jr_table::{Answer, Rule, Table};
 use jr_text::Mark;
 use std::alloc::{AllocError, Global};
@@ -27,7 +27,7 @@ fn top(table: &Table, name: &Name) -> Answer
 }
 
 /// A superclass's name, where no class is around (JLS 6.3).
-#[tactic(auto, unfolding(jr_notes::specs::Fits::FitsType))]
+#[tactic(auto, unfolding(jr_bind_expr::specs::Fits::FitsType))]
 fn put_top<A: Mark>(
     table: &Table,
     base: u32,

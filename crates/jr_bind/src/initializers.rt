@@ -5,19 +5,19 @@ ghost use Rattle.jr_table.specs.Decls as decls;
 ghost use Rattle.jr_table.specs.HeadRules.{plain};
 ghost use Rattle.jr_table.specs.HeadNotes.{init_notes};
 ghost use Rattle.jr_table.specs.Walks as walks;
-ghost use Rattle.jr_types.specs.Trees.{flat};
-ghost use Rattle.jr_types.specs.TypedTrees.{exp_tree};
-ghost use Rattle.jr_notes.specs.Places.{context_of, Knows};
-ghost use Rattle.jr_notes.specs.Fits.{FitsExp, FitsMaybe};
-ghost use Rattle.jr_notes.specs.Logs.{notes_of, Adds};
+ghost use Rattle.jr_expr_types.specs.Trees.{flat};
+ghost use Rattle.jr_expr_types.specs.TypedTrees.{exp_tree};
+ghost use Rattle.jr_bind_expr.specs.Places.{context_of, Knows};
+ghost use Rattle.jr_bind_expr.specs.Fits.{FitsExp, FitsMaybe};
+ghost use Rattle.jr_bind_expr.specs.Logs.{notes_of, Adds};
 ghost use Rattle.jr_bind.specs.TypedFlow.{maybe_slots};
 
 use crate::locals::local_init;
 use jr_ast::Expr;
-use jr_notes::{Note, Place, Role, kind_at, walk_expr};
+use jr_bind_expr::{Note, Place, Role, kind_at, walk_expr};
 use jr_table::{MemberKey, Table};
 use jr_text::Mark;
-use jr_types::Types;
+use jr_expr_types::Types;
 use std::alloc::{AllocError, Global};
 
 /// An expression of which nothing more is to be noted.

@@ -6,13 +6,13 @@ ghost use Rattle.jr_table.specs.Decls as decls;
 ghost use Rattle.jr_table.specs.KeyView.{member_key_of};
 ghost use Rattle.jr_table.specs.Entries.{number_of, class_of_member};
 ghost use Rattle.jr_table.specs.HeadRules.{plain, with_parameters};
-ghost use Rattle.jr_notes.specs.Places.{context_of, decl_of, Knows};
+ghost use Rattle.jr_bind_expr.specs.Places.{context_of, decl_of, Knows};
 ghost use Rattle.jr_bind.specs.Parameters.{in_instance};
 
 use crate::parameters::{param_types, parameters};
 use jr_ast::Param;
-use jr_locals::Locals;
-use jr_notes::Place;
+use jr_scopes::Locals;
+use jr_bind_expr::Place;
 use jr_table::{MemberKey, Table};
 use std::alloc::{AllocError, Global};
 

@@ -2,14 +2,14 @@
 ghost use Rattle.std.specs.Prelude.{◌≡◌, ◌++◌, map, IfOk, option_map};
 ghost use Rattle.jr_ast.specs.View.{word_of, type_of, param_of};
 ghost use Rattle.jr_table.specs.HeadNotes.{override_notes};
-ghost use Rattle.jr_notes.specs.Places.{member_of, Knows};
-ghost use Rattle.jr_notes.specs.Logs.{notes_of};
+ghost use Rattle.jr_bind_expr.specs.Places.{member_of, Knows};
+ghost use Rattle.jr_bind_expr.specs.Logs.{notes_of};
 ghost use Rattle.jr_bind.specs.DeclaredTypes.{FitsMaybeType, FitsParams};
 ghost use Rattle.jr_bind.specs.DeclarationArms as pure;
 
 use crate::declared::{put_params, put_result};
 use jr_ast::{Ident, Param, TypeRef};
-use jr_notes::{Note, Place, is_object_method, put_when};
+use jr_bind_expr::{Note, Place, is_object_method, put_when};
 use jr_override::overrides_badly;
 use jr_table::{MemberKey, Rule, Table};
 use jr_text::Mark;

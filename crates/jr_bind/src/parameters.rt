@@ -4,13 +4,13 @@ ghost use Rattle.jr_ast.specs.View.{param_of};
 ghost use Rattle.jr_table.specs.TypeView.{ty_of};
 ghost use Rattle.jr_table.specs.KeyView.{member_key_of};
 ghost use Rattle.jr_table.specs.HeadRules.{types_of};
-ghost use Rattle.jr_locals.specs.Helds.{held_of};
-ghost use Rattle.jr_locals.specs.Tracked.{Tracked, helds_of};
+ghost use Rattle.jr_scopes.specs.Helds.{held_of};
+ghost use Rattle.jr_scopes.specs.Tracked.{Tracked, helds_of};
 ghost use Rattle.jr_bind.specs.Parameters as pure;
 
 use crate::locals::next;
 use jr_ast::Param;
-use jr_locals::{Held, HeldType, Locals};
+use jr_scopes::{Held, HeldType, Locals};
 use jr_table::{MemberKey, Table, Ty};
 use std::alloc::{AllocError, Global};
 

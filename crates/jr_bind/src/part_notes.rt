@@ -5,22 +5,22 @@ ghost use Rattle.jr_table.specs.KeyView.{member_key_of};
 ghost use Rattle.jr_table.specs.Entries.{number_of};
 ghost use Rattle.jr_table.specs.Errors.{class_part};
 ghost use Rattle.jr_table.specs.Walks as walks;
-ghost use Rattle.jr_types.specs.Trees.{flat};
-ghost use Rattle.jr_types.specs.TypedTrees.{part_tree};
+ghost use Rattle.jr_expr_types.specs.Trees.{flat};
+ghost use Rattle.jr_expr_types.specs.TypedTrees.{part_tree};
 ghost use Rattle.jr_members.specs.PartView.{part_of};
-ghost use Rattle.jr_notes.specs.Places.{decl_of};
+ghost use Rattle.jr_bind_expr.specs.Places.{decl_of};
 ghost use Rattle.jr_bind.specs.Heads.{FitsHead};
-ghost use Rattle.jr_notes.specs.Logs.{notes_of, Adds};
+ghost use Rattle.jr_bind_expr.specs.Logs.{notes_of, Adds};
 ghost use Rattle.jr_bind.specs.PartFits.{FitsPart};
 
 use crate::heads::put_head;
 use crate::member_notes::note_member;
 use jr_ast::Class;
 use jr_members::PartRef;
-use jr_notes::{Note, put_leaf};
+use jr_bind_expr::{Note, put_leaf};
 use jr_table::{MemberKey, Table};
 use jr_text::Mark;
-use jr_types::Types;
+use jr_expr_types::Types;
 use std::alloc::{AllocError, Global};
 
 /// The head of a class, where the key is that of a class.

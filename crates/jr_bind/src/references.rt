@@ -4,15 +4,15 @@ ghost use Rattle.std.specs.List.Sorted.{IsPermutation, IsNonDecreasingBy};
 ghost use Rattle.jr_table.specs.Decls.{local_decl};
 ghost use Rattle.jr_table.specs.KeyView.{member_key_of, decl_of};
 ghost use Rattle.jr_table.specs.Lookup.{shown};
-ghost use Rattle.jr_notes.specs.Arms.{one_decl};
+ghost use Rattle.jr_bind_expr.specs.Arms.{one_decl};
 ghost use Rattle.jr_bind.specs.BoundLogs as logs;
 ghost use Rattle.jr_bind.specs.BoundView.{reference_of};
-ghost use Rattle.jr_notes.specs.Findings.{note_of};
-ghost use Rattle.jr_locals.specs.Helds.{key_of};
-ghost use Rattle.jr_notes.specs.Logs.{notes_of};
+ghost use Rattle.jr_bind_expr.specs.Findings.{note_of};
+ghost use Rattle.jr_scopes.specs.Helds.{key_of};
+ghost use Rattle.jr_bind_expr.specs.Logs.{notes_of};
 
 use crate::bounds::Reference;
-use jr_notes::{Finding, Note, decl_at, one_row};
+use jr_bind_expr::{Finding, Note, decl_at, one_row};
 use jr_table::{Answer, Decl, LocalKey, MemberKey, Table};
 use std::alloc::{AllocError, Global};
 

@@ -1,10 +1,10 @@
 //! The walk over statements (JLS 14): notes and trees of types.
 ghost use Rattle.std.specs.Prelude.{◌≡◌, ◌++◌, IfOk};
 ghost use Rattle.jr_ast.specs.View.{stmt_of, stmts_of, else_of};
-ghost use Rattle.jr_types.specs.Trees.{flat, flats};
-ghost use Rattle.jr_types.specs.TypedTrees.{stmt_parts, stmt_tree};
-ghost use Rattle.jr_notes.specs.Places.{context_of, Knows};
-ghost use Rattle.jr_notes.specs.Fits.{FitsStmt, FitsElse, FitsStmts};
+ghost use Rattle.jr_expr_types.specs.Trees.{flat, flats};
+ghost use Rattle.jr_expr_types.specs.TypedTrees.{stmt_parts, stmt_tree};
+ghost use Rattle.jr_bind_expr.specs.Places.{context_of, Knows};
+ghost use Rattle.jr_bind_expr.specs.Fits.{FitsStmt, FitsElse, FitsStmts};
 ghost use Rattle.jr_bind.specs.Flow as flow;
 ghost use Rattle.jr_bind.specs.TypedFlow.{else_slots, body_slots};
 
@@ -15,10 +15,10 @@ use crate::locals::local;
 use crate::stmt_nodes::close_stmt;
 use crate::stmt_parts::{condition, eval, lock, loop_condition, return_value};
 use jr_ast::{Stmt, StmtKind};
-use jr_notes::{Note, Place, put_unless};
+use jr_bind_expr::{Note, Place, put_unless};
 use jr_table::{Rule, Table};
 use jr_text::Mark;
-use jr_types::Types;
+use jr_expr_types::Types;
 use std::alloc::{AllocError, Global};
 
 /// Notes what a statement breaks, and what its parts find and break, and makes the trees of its

@@ -3,14 +3,14 @@ ghost use Rattle.std.specs.Prelude.{◌≡◌, ◌≤◌, ◌+◌, ℕ, None, Li
 ghost use Rattle.jr_ast.specs.View.{expr_of, stmt_of, else_of};
 ghost use Rattle.jr_table.specs.Context.{Context};
 ghost use Rattle.jr_table.specs.Rows.{Row};
-ghost use Rattle.jr_types.specs.Trees.{count};
-ghost use Rattle.jr_types.specs.TypedTrees.{stmt_parts};
+ghost use Rattle.jr_expr_types.specs.Trees.{count};
+ghost use Rattle.jr_expr_types.specs.TypedTrees.{stmt_parts};
 ghost use Rattle.jr_bind.specs.TypedFlow.{maybe_count, else_count};
-ghost use Rattle.jr_notes.specs.TypedSlots.{Puts};
+ghost use Rattle.jr_bind_expr.specs.TypedSlots.{Puts};
 
 use jr_ast::{Expr, Stmt, StmtKind};
-use jr_notes::more_parts;
-use jr_types::Types;
+use jr_bind_expr::more_parts;
+use jr_expr_types::Types;
 use std::alloc::AllocError;
 
 /// How many parts an expression is that may be missing.
@@ -34,7 +34,7 @@ fn branch_parts<A>(of: &Option<Box<Stmt<A>>>) -> usize
 }
 
 /// How many parts a statement has.
-#[tactic(auto, unfolding(jr_ast::specs::View::stmt_kind, jr_types::specs::TypedTrees::stmt_parts))]
+#[tactic(auto, unfolding(jr_ast::specs::View::stmt_kind, jr_expr_types::specs::TypedTrees::stmt_parts))]
 fn part_count<A>(of: &Stmt<A>) -> Result<usize, AllocError>
     ensures { (rows : List Row) (n : ℕ) (c : Context)
         → IfOk result (λ m. m ≡ count (stmt_parts rows n c (stmt_of of.now))) }

@@ -2,11 +2,11 @@
 ghost use Rattle.std.specs.Prelude.{◌≡◌, ◌++◌, ◌∷◌, [], IfOk, is_some, option_map};
 ghost use Rattle.jr_table.specs.Entries.{entries_of, kind_of};
 ghost use Rattle.jr_table.specs.Notes.{breaks, when, returned_type};
-ghost use Rattle.jr_notes.specs.Places.{member_of, Knows};
-ghost use Rattle.jr_notes.specs.Logs.{notes_of};
+ghost use Rattle.jr_bind_expr.specs.Places.{member_of, Knows};
+ghost use Rattle.jr_bind_expr.specs.Logs.{notes_of};
 ghost use Rattle.jr_bind.specs.StmtArms as pure;
 
-use jr_notes::{Meaning, Note, Place, class_in, is_boolean, kind_at, put_unless, put_when, suits};
+use jr_bind_expr::{Meaning, Note, Place, class_in, is_boolean, kind_at, put_unless, put_when, suits};
 use jr_table::{Kind, MemberKey, Rule, Table};
 use std::alloc::AllocError;
 

@@ -3,21 +3,21 @@ ghost use Rattle.std.specs.Prelude.{◌≡◌, ◌++◌, IfOk, option_map};
 ghost use Rattle.jr_ast.specs.View.{expr_of};
 ghost use Rattle.jr_table.specs.Walks as walks;
 ghost use Rattle.jr_table.specs.Binding.{value, statement};
-ghost use Rattle.jr_types.specs.Trees.{flat};
-ghost use Rattle.jr_types.specs.TypedTrees.{exp_tree};
-ghost use Rattle.jr_notes.specs.Places.{context_of, member_of, Knows};
-ghost use Rattle.jr_notes.specs.Fits.{FitsExp, FitsMaybe};
-ghost use Rattle.jr_notes.specs.Logs.{notes_of, Adds};
+ghost use Rattle.jr_expr_types.specs.Trees.{flat};
+ghost use Rattle.jr_expr_types.specs.TypedTrees.{exp_tree};
+ghost use Rattle.jr_bind_expr.specs.Places.{context_of, member_of, Knows};
+ghost use Rattle.jr_bind_expr.specs.Fits.{FitsExp, FitsMaybe};
+ghost use Rattle.jr_bind_expr.specs.Logs.{notes_of, Adds};
 ghost use Rattle.jr_bind.specs.StmtArms as pure;
 ghost use Rattle.jr_bind.specs.TypedFlow.{maybe_slots};
 
 use crate::completing::is_true;
 use crate::stmt_notes::{due, put_condition, put_lock, put_loop, put_no_value, put_value};
 use jr_ast::Expr;
-use jr_notes::{Note, Place, Role, walk_expr};
+use jr_bind_expr::{Note, Place, Role, walk_expr};
 use jr_table::Table;
 use jr_text::Mark;
-use jr_types::Types;
+use jr_expr_types::Types;
 use std::alloc::{AllocError, Global};
 
 /// The condition of an `if`.

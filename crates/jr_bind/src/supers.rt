@@ -5,20 +5,20 @@ ghost use Rattle.jr_table.specs.HeadRules.{plain};
 ghost use Rattle.jr_table.specs.Notes.{when, breaks};
 ghost use Rattle.jr_table.specs.HeadNotes as heads;
 ghost use Rattle.jr_table.specs.Walks as walks;
-ghost use Rattle.jr_notes.specs.Places.{context_of, member_of, Knows};
-ghost use Rattle.jr_notes.specs.Fits.{FitsExps};
-ghost use Rattle.jr_notes.specs.Logs.{notes_of, Adds};
+ghost use Rattle.jr_bind_expr.specs.Places.{context_of, member_of, Knows};
+ghost use Rattle.jr_bind_expr.specs.Fits.{FitsExps};
+ghost use Rattle.jr_bind_expr.specs.Logs.{notes_of, Adds};
 ghost use Rattle.jr_bind.specs.PartFits.{FitsMaybeArgs};
 ghost use Rattle.jr_bind.specs.Supers as pure;
 ghost use Rattle.jr_bind.specs.TypedFlow.{args_slots};
-ghost use Rattle.jr_notes.specs.TypedSlots.{row_slots};
+ghost use Rattle.jr_bind_expr.specs.TypedSlots.{row_slots};
 
 use crate::heads::{lacks_super_ctor, super_ctor};
 use jr_ast::Expr;
-use jr_notes::{Note, Place, put_method, put_when, walk_args};
+use jr_bind_expr::{Note, Place, put_method, put_when, walk_args};
 use jr_table::{Rule, Table};
 use jr_text::Mark;
-use jr_types::Types;
+use jr_expr_types::Types;
 use std::alloc::{AllocError, Global};
 
 /// A written `super(..)`: its arguments, and the constructor that it finds.

@@ -14,9 +14,9 @@ use Rattle.jr_table.specs.Somewhere.{InStmt, InElse, InStmts}
 use Rattle.jr_table.specs.TypesAt.{TypeBelow, TypeInStmt, TypeInElse, TypeInStmts}
 use Rattle.jr_rewrite.specs.Rewritten.{joined}
 use Rattle.jr_rewrite.specs.Rewrites.{Choosing, RewritesExp, RewritesMaybe, RewritesStmt, RewritesElse, RewritesStmts}
-use Rattle.jr_types.specs.Slots.{find_type}
+use Rattle.jr_expr_types.specs.Slots.{find_type}
 use Rattle.jr_bind.specs.Bounds.{Bound}
-use Rattle.jr_notes.specs.Fits.{FitsType, FitsStmt, FitsElse, FitsStmts}
+use Rattle.jr_bind_expr.specs.Fits.{FitsType, FitsStmt, FitsElse, FitsStmts}
 use Rattle.jr_bind.proofs.Bodies.{Inside, inside_same, inside_after}
 use Rattle.jr_rename.specs.Images.{Renaming}
 use Rattle.jr_rename.specs.Spelling.{spelling}

@@ -11,7 +11,7 @@ use Rattle.jr_ast.specs.View.{stmt_of, stmts_of, else_of}
 use Rattle.jr_ast.proofs.Sizes.{stmt_size, stmts_size, else_size}
 use Rattle.jr_table.specs.Context.{in_own, local_of, locals_in, locals_in_else, locals_in_row}
 use Rattle.jr_table.specs.Binding.{value, statement as whole}
-use Rattle.jr_notes.specs.Fits.{FitsType}
+use Rattle.jr_bind_expr.specs.Fits.{FitsType}
 use Rattle.jr_gather.specs.declared.here.Here as raw
 use Rattle.jr_gather.specs.Known.{rows_of, context_of, IsKnown, ExpReady, TypeIsBound}
 use Rattle.jr_gather.specs.Walks.{ExpGathers}

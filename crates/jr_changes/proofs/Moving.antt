@@ -5,8 +5,8 @@ use Rattle.std.specs.Prelude.{option_map}
 use Rattle.jr_ast.specs.Tree as tree
 use Rattle.jr_table.specs.Decls.{MemberKey}
 use Rattle.jr_table.specs.Context.{Context, local_type, in_own, local_of}
-use Rattle.jr_locals.specs.Helds.{Held, key_of}
-use Rattle.jr_locals.specs.Helds as helds
+use Rattle.jr_scopes.specs.Helds.{Held, key_of}
+use Rattle.jr_scopes.specs.Helds as helds
 use Rattle.jr_respell.specs.declared.scopes.Scopes.{Scopes}
 use Rattle.jr_respell.specs.Scopes as scopes
 use Rattle.jr_respell.specs.Scopes.{IsKept, AreBeside, locals_in, member_of}

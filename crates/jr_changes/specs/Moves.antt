@@ -12,7 +12,7 @@ use Rattle.jr_table.specs.Context.{
   locals_in_else,
   locals_in_row,
 }
-use Rattle.jr_locals.specs.Helds.{Held, key_of}
+use Rattle.jr_scopes.specs.Helds.{Held, key_of}
 use Rattle.jr_gather.specs.declared.here.Here as raw
 use Rattle.jr_renaming.specs.Effects.{Effect}
 use Rattle.jr_gather.specs.Known.{rows_of, naming_of, context_of, IsKnown}

@@ -26,9 +26,9 @@ use Rattle.jr_table.specs.TypesAt.{TypeInStmt, TypeInElse, TypeInStmts}
 use Rattle.jr_table.specs.ExpressionRules.{ExpBreaks}
 use Rattle.jr_table.specs.StatementRules.{StmtBreaks, ListBreaks, StmtBindsItself}
 use Rattle.jr_table.specs.declared.rules.Rule.{Rule}
-use Rattle.jr_types.specs.Slots.{find_type}
+use Rattle.jr_expr_types.specs.Slots.{find_type}
 use Rattle.jr_bind.specs.Bounds.{Bound}
-use Rattle.jr_notes.specs.Fits.{FitsExp, FitsStmt, FitsElse, FitsStmts}
+use Rattle.jr_bind_expr.specs.Fits.{FitsExp, FitsStmt, FitsElse, FitsStmts}
 use Rattle.jr_gather.specs.declared.here.Here as raw
 use Rattle.jr_gather.specs.Known.{
   rows_of,

@@ -2,15 +2,15 @@
 ghost use Rattle.std.specs.Prelude.{◌≡◌, length, option_map, IfOk};
 ghost use Rattle.jr_ast.specs.View.{word_of, type_of};
 ghost use Rattle.jr_table.specs.Context.{in_own, local_of, local_type, outer_text};
-ghost use Rattle.jr_locals.specs.Helds.{held_of};
-ghost use Rattle.jr_locals.specs.Helds.{type_of as held_type_of};
+ghost use Rattle.jr_scopes.specs.Helds.{held_of};
+ghost use Rattle.jr_scopes.specs.Helds.{type_of as held_type_of};
 ghost use Rattle.jr_gather.specs.Known.{context_of, IsKnown};
 ghost use Rattle.jr_changes.specs.Moves as pure;
 ghost use Rattle.jr_changes.specs.Moves.{Goes};
 
 use jr_ast::{Ident, Name, TypeKind, TypeRef};
 use jr_gather::Here;
-use jr_locals::{Held, HeldType};
+use jr_scopes::{Held, HeldType};
 use std::alloc::AllocError;
 
 fn outer_name<A>(of: &Option<Ident<A>>) -> Option<&Name>

@@ -9,7 +9,7 @@ use Rattle.jr_ast.specs.declared.exprs.Expr.{Expr}
 use Rattle.jr_ast.specs.View.{expr_of, exprs_of, target_of}
 use Rattle.jr_ast.proofs.Sizes.{exp_size, exps_size, target_size}
 use Rattle.jr_table.specs.Binding.{Role, value, left}
-use Rattle.jr_notes.specs.Fits.{FitsType, FitsExps}
+use Rattle.jr_bind_expr.specs.Fits.{FitsType, FitsExps}
 use Rattle.jr_gather.specs.declared.here.Here as raw
 use Rattle.jr_renaming.specs.Effects.{Effect}
 use Rattle.jr_gather.specs.Known.{rows_of, context_of, ExpReady, RowReady, TargetReady, TypesCreation, first_of, NameIsBound, DottedIsBound, SuperFieldIsBound, CallIsBound, SuperCallIsBound, CreationIsBound, TypeIsBound}

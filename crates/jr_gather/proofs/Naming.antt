@@ -17,7 +17,7 @@ use Rattle.jr_table.specs.Binding.{left, Sought, variable, type, word_at, IsClas
 use Rattle.jr_table.specs.Somewhere.{Somewhere}
 use Rattle.jr_table.specs.Meanings.{find_left, find_left_of, class_name_of, class_on, field_found}
 use Rattle.jr_table.proofs.Typing.{left_iff, left_of_iff}
-use Rattle.jr_notes.specs.Fits.{FitsExp}
+use Rattle.jr_bind_expr.specs.Fits.{FitsExp}
 use Rattle.jr_gather.specs.declared.here.Here as raw
 use Rattle.jr_ast.proofs.Sizes.{exp_size}
 use Rattle.jr_rename.specs.Images.{Renaming}

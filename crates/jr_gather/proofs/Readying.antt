@@ -8,7 +8,7 @@ use Rattle.jr_table.specs.Keys.{Ty}
 use Rattle.jr_table.specs.Binding.{Role, value, left, HasType}
 use Rattle.jr_table.specs.TypesAt.{TypeBelow}
 use Rattle.jr_table.specs.Somewhere.{Somewhere, InTarget, InRow}
-use Rattle.jr_notes.specs.Fits.{FitsExp, FitsTarget, FitsExps, FitsType}
+use Rattle.jr_bind_expr.specs.Fits.{FitsExp, FitsTarget, FitsExps, FitsType}
 use Rattle.jr_gather.specs.declared.here.Here as raw
 use Rattle.jr_gather.specs.Known.{rows_of, context_of, ExpReady, RowReady, TargetReady, TypesExp, TypesCreation, first_of}
 use Rattle.jr_gather.proofs.Typed.{own_type, part, row_one, row_two, row_first, row_rest}

@@ -10,7 +10,7 @@ use Rattle.jr_ast.proofs.Rows.{expr_mark_is}
 use Rattle.jr_ast.proofs.Sizes.{exp_size, exps_size, target_size}
 use Rattle.jr_table.specs.Binding.{value, left}
 use Rattle.jr_rewrite.specs.Respellings.{Choice}
-use Rattle.jr_notes.proofs.Steps.{left_is}
+use Rattle.jr_bind_expr.proofs.Steps.{left_is}
 use Rattle.jr_gather.specs.declared.here.Here as raw
 use Rattle.jr_renaming.specs.declared.outputs.Start as raw_start
 use Rattle.jr_renaming.specs.Effects.{Effect, both, effect_of}

@@ -51,9 +51,9 @@ use Rattle.jr_table.specs.Somewhere.{Somewhere, InRow, InTarget}
 use Rattle.jr_table.specs.TypesAt.{TypeBelow, TypeInRow, count_args}
 use Rattle.jr_table.specs.ExpressionRules.{ExpBreaks}
 use Rattle.jr_table.specs.declared.rules.Rule.{Rule}
-use Rattle.jr_types.specs.Slots.{find_type}
+use Rattle.jr_expr_types.specs.Slots.{find_type}
 use Rattle.jr_bind.specs.Bounds.{Bound, decl_in}
-use Rattle.jr_notes.specs.Fits.{FitsExp, FitsTarget, FitsExps, FitsType}
+use Rattle.jr_bind_expr.specs.Fits.{FitsExp, FitsTarget, FitsExps, FitsType}
 use Rattle.jr_spell.specs.declared.references.RefForm.TheVariants as ref
 use Rattle.jr_rename.specs.Images.{Renaming, class_to, types_to, rows_to, scope_to}
 use Rattle.jr_rename.specs.Spelling as spells

@@ -4,7 +4,7 @@ ghost use Rattle.jr_ast.specs.View.{word_of, expr_of, exprs_of};
 ghost use Rattle.jr_table.specs.TypeView.{class_key_of, ty_of};
 ghost use Rattle.jr_table.specs.KeyView.{decl_of};
 ghost use Rattle.jr_table.specs.Binding.{left};
-ghost use Rattle.jr_notes.specs.Fits.{FitsExp};
+ghost use Rattle.jr_bind_expr.specs.Fits.{FitsExp};
 ghost use Rattle.jr_gather.specs.Known as pure;
 ghost use Rattle.jr_gather.specs.Known.{rows_of, context_of, IsKnown, ExpReady};
 ghost use Rattle.jr_gather.specs.Known.{SoundExp, RefersExp, TypesRow, found_at};

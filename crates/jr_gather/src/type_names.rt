@@ -1,7 +1,7 @@
 //! Written types.
 ghost use Rattle.std.specs.Prelude.{Some, None, IfOk, option_map};
 ghost use Rattle.jr_ast.specs.View.{word_of, type_of};
-ghost use Rattle.jr_notes.specs.Fits.{FitsNamed, FitsType};
+ghost use Rattle.jr_bind_expr.specs.Fits.{FitsNamed, FitsType};
 ghost use Rattle.jr_gather.specs.Known.{rows_of, context_of, IsKnown, TypeIsBound};
 ghost use Rattle.jr_gather.specs.Known as pure;
 ghost use Rattle.jr_gather.specs.Walks as gives;

@@ -3,7 +3,7 @@ ghost use Rattle.std.specs.Prelude.{◌≡◌, ◌++◌, ◌∷◌, [], IfOk};
 ghost use Rattle.jr_ast.specs.Tree as tree;
 ghost use Rattle.jr_ast.specs.View.{word_of, type_of, expr_of, exprs_of, target_of};
 ghost use Rattle.jr_table.specs.Binding.{value, left};
-ghost use Rattle.jr_notes.specs.Fits.{FitsType};
+ghost use Rattle.jr_bind_expr.specs.Fits.{FitsType};
 ghost use Rattle.jr_respell.specs.ChoiceView.{choice_of};
 ghost use Rattle.jr_gather.specs.Known.{role_of, rows_of, context_of, IsKnown, TypeIsBound};
 ghost use Rattle.jr_gather.specs.Known.{ExpReady, RowReady, TargetReady, TypesRow};

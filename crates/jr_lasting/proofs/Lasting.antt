@@ -9,10 +9,10 @@ use Rattle.jr_table.specs.Conditions.{AreRows}
 use Rattle.jr_table.specs.Errors.{Part, class_part, member_part, part_mark, Error, AreErrors}
 use Rattle.jr_table.specs.TypesAt.{TypeAt}
 use Rattle.jr_bind.specs.Bounds.{Bound, IsBound, TypeInPart}
-use Rattle.jr_apart.specs.Apart.{AreApart, IsCleanMember}
-use Rattle.jr_apart.specs.Alike.{LookAlike}
-use Rattle.jr_apart.specs.Avoids.{AvoidsPart}
-use Rattle.jr_apart.specs.Lasting.{ApartLookAlike, PartsLast, TypesLast, PartLasts}
+use Rattle.jr_mentions.specs.Apart.{AreApart, IsCleanMember}
+use Rattle.jr_mentions.specs.Alike.{LookAlike}
+use Rattle.jr_mentions.specs.Avoids.{AvoidsPart}
+use Rattle.jr_mentions.specs.Lasting.{ApartLookAlike, PartsLast, TypesLast, PartLasts}
 use Rattle.jr_lasting.specs.Lasting.{BoundsLast}
 
 chain : {P Q R : Type 0} → (P ↔ Q) → (Q ↔ R) → P ↔ R

@@ -5,8 +5,8 @@ use Rattle.jr_table.specs.Rows.{Row}
 use Rattle.jr_table.specs.Conditions.{AreRows}
 use Rattle.jr_table.specs.Errors.{Part}
 use Rattle.jr_bind.specs.Bounds.{Bound, IsBound}
-use Rattle.jr_apart.specs.Apart.{AreApart, IsCleanMember}
-use Rattle.jr_apart.specs.Avoids.{AvoidsPart}
+use Rattle.jr_mentions.specs.Apart.{AreApart, IsCleanMember}
+use Rattle.jr_mentions.specs.Avoids.{AvoidsPart}
 
 -- what is right of a member that refers to nothing by the names is right where rows differ in them
 abbrev pub BoundsLast : Type 0 → Type 0

@@ -1,7 +1,7 @@
 //! The law that no call's clause can carry.
 ghost use Rattle.jr_lasting.specs.Lasting.{BoundsLast};
 
-use jr_apart::{apart_look_alike, parts_last, types_last};
+use jr_mentions::{apart_look_alike, parts_last, types_last};
 use jr_text::Mark;
 
 /// What is bound of a member that refers to nothing by some names is bound of it too where rows

@@ -17,7 +17,7 @@ use Rattle.jr_table.specs.Errors.{Part, class_part, member_part, InUnits}
 use Rattle.jr_members.proofs.Anywhere.{classes_found}
 use Rattle.jr_places.specs.FileParts.{begins}
 use Rattle.jr_rename.specs.Clashes.{DeclaresUnder, IsUnder, TakesPlace, ClassClashes, LocalClashes, Under, HasRow, HasPlace, Collides, ClashesWith}
-use Rattle.jr_target.proofs.Nowhere.{exp_none, row_none}
+use Rattle.jr_cursor.proofs.Nowhere.{exp_none, row_none}
 
 -- ---- locals in scope are the member's
 

@@ -28,7 +28,7 @@ use Rattle.jr_rename.specs.RenameLaws.{IsFair}
 use Rattle.jr_rename.specs.Renames.{pairs_of, Rewrite, Renames, LacksTarget, OfPrelude, Clashes, Overrides, Loses, IsRefused, IsPlanned}
 use Rattle.jr_rename.specs.Renames as renames
 use Rattle.jr_rename.specs.TextLaws.{RowsAreNamed, NamesHaveNoDot}
-use Rattle.jr_target.specs.TargetLaws.{OneIsTarget}
+use Rattle.jr_cursor.specs.TargetLaws.{OneIsTarget}
 use Rattle.jr_one_plan.specs.OnePlan.{AreAlike, RewritingIsOne, PlansSo, RefusesSo, HasOnePlan}
 use Rattle.jr_one_plan.proofs.Alike.{renamed_alike, become_same}
 use Rattle.jr_one_plan.proofs.OneClash.{one_clash}

@@ -16,7 +16,7 @@ use Rattle.jr_table.specs.LookupLaws.{EachHasOne}
 use Rattle.jr_table.specs.Context.{Context, scope_of}
 use Rattle.jr_table.specs.Binding.{TypeRefers, FindsIn, FindsFor, SuperCtorFinds}
 use Rattle.jr_table.specs.HeadRules.{ParamsRefer, MaybeTypeRefers}
-use Rattle.jr_notes.specs.Fits.{FitsType}
+use Rattle.jr_bind_expr.specs.Fits.{FitsType}
 use Rattle.jr_bind.specs.DeclaredTypes.{FitsParams, FitsMaybeType}
 use Rattle.jr_places.specs.FileParts.{begins}
 use Rattle.jr_gather.specs.Known.{IsOne, SuperCtorIsBound}

@@ -14,7 +14,7 @@ use Rattle.jr_table.specs.Context.{Context}
 use Rattle.jr_table.specs.Errors.{Part, class_part, member_part}
 use Rattle.jr_table.specs.HeadRules as rules
 use Rattle.jr_bind.specs.Programs.{Program}
-use Rattle.jr_notes.proofs.Steps.{left_is}
+use Rattle.jr_bind_expr.proofs.Steps.{left_is}
 use Rattle.jr_rewrite.specs.Respellings.{Choice, stays, becomes, loses}
 use Rattle.jr_rewrite.specs.Rewritten.{Rewritten, within, joined}
 use Rattle.jr_rewrite.specs.Rewrites.{declared_by, DeclaredOut, RewritesType, RewritesParams, RewritesHead, with_losses}

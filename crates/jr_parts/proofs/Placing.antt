@@ -15,7 +15,7 @@ use Rattle.jr_table.specs.Rows.{Row}
 use Rattle.jr_table.specs.Context.{Context, Local, parameters}
 use Rattle.jr_table.specs.HeadRules.{plain, with_parameters, types_of}
 use Rattle.jr_table.specs.Binding.{value}
-use Rattle.jr_locals.specs.Helds.{Held, local_of, key_of}
+use Rattle.jr_scopes.specs.Helds.{Held, local_of, key_of}
 use Rattle.jr_bind.specs.Bounds.{Bound}
 use Rattle.jr_rewrite.specs.Rewrites.{RewritesType, RewritesMaybe, RewritesStmts, RewritesSuper}
 use Rattle.jr_rename.specs.Images.{Renaming}

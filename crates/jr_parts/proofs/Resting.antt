@@ -21,7 +21,7 @@ use Rattle.jr_table.specs.StatementRules.{StmtBreaks, ListBreaks, StmtBindsItsel
 use Rattle.jr_table.specs.TypesAt.{TypeAt, TypeBelow, TypeInMaybe, TypeInRow, TypeInSuper, TypeInStmts, count_args, count_type, count_super}
 use Rattle.jr_table.specs.declared.rules.Rule.{Rule}
 use Rattle.jr_table.specs.declared.rules.Rule.TheVariants as rule
-use Rattle.jr_types.specs.Slots.{find_type}
+use Rattle.jr_expr_types.specs.Slots.{find_type}
 use Rattle.jr_bind.specs.Bounds.{Bound}
 use Rattle.jr_bind.specs.DeclaredTypes.{FitsMaybeType}
 use Rattle.jr_bind.specs.Programs.{Program}

@@ -36,8 +36,8 @@ use Rattle.jr_table.specs.Errors.{Part, class_part, member_part, Breaks, Binds}
 use Rattle.jr_table.specs.Binding.{value}
 use Rattle.jr_table.specs.TypesAt.{count_type, count_super}
 use Rattle.jr_table.specs.declared.rules.Rule.{Rule}
-use Rattle.jr_types.specs.Slots.{find_type}
-use Rattle.jr_notes.specs.Fits.{FitsType, FitsExps}
+use Rattle.jr_expr_types.specs.Slots.{find_type}
+use Rattle.jr_bind_expr.specs.Fits.{FitsType, FitsExps}
 use Rattle.jr_bind.specs.Bounds.{Bound, FitsWhole, TypeInPart}
 use Rattle.jr_bind.specs.Programs.{File, Program}
 use Rattle.jr_bind.specs.SuperPlaces.{IsSuperAt}

@@ -4,14 +4,14 @@ ghost use Rattle.jr_ast.specs.View.{param_of};
 ghost use Rattle.jr_table.specs.TypeView.{ty_of};
 ghost use Rattle.jr_table.specs.KeyView.{member_key_of};
 ghost use Rattle.jr_table.specs.HeadRules.{plain, with_parameters, types_of};
-ghost use Rattle.jr_locals.specs.Helds.{held_of};
+ghost use Rattle.jr_scopes.specs.Helds.{held_of};
 ghost use Rattle.jr_respell.specs.Scopes.{IsKept, AreBeside, locals_in};
 ghost use Rattle.jr_parts.specs.Walking.{key_of, CanWalk, Begins, held_param, held_params};
 
 use jr_ast::{Param, Path};
 use jr_bind::Bound;
 use jr_gather::{Here, next};
-use jr_locals::{Held, HeldType};
+use jr_scopes::{Held, HeldType};
 use jr_respell::{Programs, Scopes};
 use jr_table::{MemberKey, Ty};
 use jr_text::Span;

@@ -1,7 +1,7 @@
 //! Which locals are found while scopes are entered and left.
 use crate::keys::name_of;
 use jr_ast::Name;
-use jr_locals::{Held, HeldType, Locals};
+use jr_scopes::{Held, HeldType, Locals};
 use jr_table::Kind;
 
 fn local<'a>(name: &'a Name, number: u32) -> Held<'a> {

@@ -13,7 +13,7 @@ use Rattle.jr_bind.specs.Bounds.{IsBound}
 use Rattle.jr_places.specs.FileParts.{begins}
 use Rattle.jr_shown.specs.declared.bounds.MemberBound.{MemberBound}
 use Rattle.jr_shown.specs.Members.{IsSuperPlace, IsEachBound, AreEachBound}
-use Rattle.jr_apart.specs.Apart.{AreApart}
+use Rattle.jr_mentions.specs.Apart.{AreApart}
 use Rattle.jr_lasting.specs.Lasting.{BoundsLast}
 use Rattle.jr_rebind.specs.Rebinding.{IsRebinding}
 use Rattle.jr_rebind.specs.RebindSteps.{IsSpared, Keeps, AreOfSameFiles, IsRebound, AreRebound}

@@ -21,8 +21,8 @@ use Rattle.jr_table.specs.Rows.{Row}
 use Rattle.jr_members.specs.WrittenMembers.{WrittenMember}
 use Rattle.jr_shown.specs.declared.bounds.MemberBound.{MemberBound}
 use Rattle.jr_shown.specs.Members.{IsEachBound}
-use Rattle.jr_apart.specs.Apart.{IsCleanMember}
-use Rattle.jr_apart.specs.Avoids.{AvoidsPart}
+use Rattle.jr_mentions.specs.Apart.{IsCleanMember}
+use Rattle.jr_mentions.specs.Avoids.{AvoidsPart}
 
 -- it is none of the names, and refers to nothing by them
 pub record IsSpared (names : List (List ℕ)) (w : WrittenMember Span) : Type 0 where

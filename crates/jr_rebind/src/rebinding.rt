@@ -3,13 +3,13 @@ ghost use Rattle.std.specs.Prelude.{◌≡◌, ◌≤◌, ◌<◌, ◌+◌, IfOk
 ghost use Rattle.jr_members.specs.PartView.{written_of};
 ghost use Rattle.jr_shown.specs.Members.{AreKnown, CanBind, EachOf};
 ghost use Rattle.jr_shown.specs.Members.{AreInFileOrder, AreWrittenInOrder, AreEachBound};
-ghost use Rattle.jr_apart.specs.Apart.{AreApart};
-ghost use Rattle.jr_apart.specs.ApartView.{names_in};
+ghost use Rattle.jr_mentions.specs.Apart.{AreApart};
+ghost use Rattle.jr_mentions.specs.ApartView.{names_in};
 ghost use Rattle.jr_rebind.specs.Rebinding.{IsRebinding};
 ghost use Rattle.jr_rebind.specs.RebindSteps.{PutsBound, RebindsOne, AreRebound};
 
 use crate::sparing::{keeps, same_files};
-use jr_apart::{Apart, apart};
+use jr_mentions::{Apart, apart};
 use jr_lasting::bounds_last;
 use jr_members::WrittenMember;
 use jr_shown::{MemberBound, Tokens, bind_members, members_are_known};

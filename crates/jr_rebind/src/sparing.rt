@@ -2,11 +2,11 @@
 ghost use Rattle.std.specs.Prelude.{◌≡◌, IsTrue, Some, true, map, slice_get};
 ghost use Rattle.jr_table.specs.KeyView.{member_key_of};
 ghost use Rattle.jr_members.specs.PartView.{part_of, written_of};
-ghost use Rattle.jr_apart.specs.ApartView.{names_in};
-ghost use Rattle.jr_apart.specs.Avoids.{AvoidsPart};
+ghost use Rattle.jr_mentions.specs.ApartView.{names_in};
+ghost use Rattle.jr_mentions.specs.Avoids.{AvoidsPart};
 ghost use Rattle.jr_rebind.specs.RebindSteps.{IsSpared, Keeps, AreOfSameFiles};
 
-use jr_apart::Apart;
+use jr_mentions::Apart;
 use jr_members::{PartRef, WrittenMember};
 use jr_shown::MemberBound;
 use jr_table::{Facts, MemberKey};

@@ -19,7 +19,7 @@ use Rattle.jr_rename.specs.Renames as renames
 use Rattle.jr_rename.specs.Renames.{Renames, OfPrelude, Clashes, Overrides, IsRefused}
 use Rattle.jr_grammar.specs.Layout.{itself}
 use Rattle.jr_rewriting.specs.Rewritings.{IsRewriting}
-use Rattle.jr_target.specs.ProgramTargets.{HasTargetAt}
+use Rattle.jr_cursor.specs.ProgramTargets.{HasTargetAt}
 use Rattle.jr_rename_plan.specs.Afters.{PlansRows, AnswersRows}
 use Rattle.jr_rename_plan.specs.Answers.{Gives, SparesPrelude, AnswersKeeping, AnswersOf, Answers}
 use Rattle.jr_rename_plan.specs.Plans.{Plans}

@@ -5,7 +5,7 @@ use Rattle.jr_table.specs.Decls.{Decl}
 use Rattle.jr_names.specs.Replies.{Outcome}
 use Rattle.jr_bind.specs.Programs.{Program}
 use Rattle.jr_rename.specs.Images.{rows_to}
-use Rattle.jr_target.specs.ProgramTargets.{HasTargetAt}
+use Rattle.jr_cursor.specs.ProgramTargets.{HasTargetAt}
 use Rattle.jr_rename_plan.specs.declared.afters.After.{After}
 use Rattle.jr_rename_plan.specs.declared.afters.After.TheVariants as after
 use Rattle.jr_rename_plan.specs.Afters.{IsAfter, AnswersAfter, TellsRowsOf}

@@ -22,7 +22,7 @@ ghost use Rattle.jr_rename_plan.specs.OneLocal.{IsLocal, IsOfOneLocal};
 use crate::afters::{After, put};
 use crate::pairs::changed_pairs;
 use jr_bind::View;
-use jr_family::dispatch_change;
+use jr_dispatch::dispatch_change;
 use jr_members::WrittenMember;
 use jr_names::{EditLists, Outcome, Refusal};
 use jr_rename::{NewName, locals_keep_keys, rows_to};

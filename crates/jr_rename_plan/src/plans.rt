@@ -16,7 +16,7 @@ use jr_ast::Name;
 use jr_bind::View;
 use jr_members::{WrittenMember, written_members};
 use jr_names::{Need, Outcome, Refusal};
-use jr_target::target;
+use jr_cursor::target;
 use jr_text::{Place, Span};
 use std::alloc::{AllocError, Global};
 

@@ -21,7 +21,7 @@ use crate::answers::of_renaming;
 use jr_ast::Name;
 use jr_bind::View;
 use jr_clash::clash;
-use jr_family::{family, prelude_method};
+use jr_dispatch::{family, prelude_method};
 use jr_members::WrittenMember;
 use jr_names::{Outcome, Refusal};
 use jr_rename::{DeclSet, NewName, renamings_stay_fair, rows_are_named};

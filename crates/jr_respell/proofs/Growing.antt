@@ -1,8 +1,8 @@
 -- The images of the locals in scope, while locals are put and taken away.
 use Rattle.std.proofs.Common.{◌≡◌, ℕ, zero, suc, List, [], ◌∷◌, ◌++◌, map, take, refl, sym, ap, ◌∙◌}
 use Rattle.jr_table.specs.Decls.{MemberKey}
-use Rattle.jr_locals.specs.declared.helds.Held as raw
-use Rattle.jr_locals.specs.Helds.{held_of}
+use Rattle.jr_scopes.specs.declared.helds.Held as raw
+use Rattle.jr_scopes.specs.Helds.{held_of}
 use Rattle.jr_rename.specs.Images.{Renaming, member_to}
 use Rattle.jr_respell.specs.Scopes.{seen, seen_to}
 

@@ -6,8 +6,8 @@ use Rattle.jr_table.specs.Rows.{Row}
 use Rattle.jr_table.specs.Scope.{Scope, ScopeLocal, last_named}
 use Rattle.jr_lookup.specs.ScopeView as view
 use Rattle.jr_table.specs.Context.{scope_of, scope_local}
-use Rattle.jr_locals.specs.Helds.{Held, key_of, local_of, last_number}
-use Rattle.jr_locals.specs.Tracked.{helds_of}
+use Rattle.jr_scopes.specs.Helds.{Held, key_of, local_of, last_number}
+use Rattle.jr_scopes.specs.Tracked.{helds_of}
 use Rattle.jr_rename.specs.Images.{Renaming, member_to, scope_local_to}
 use Rattle.jr_respell.specs.declared.scopes.Scopes as raw
 use Rattle.jr_respell.specs.Scopes.{rows_to, naming_of, member_of, locals_in, context_of, place_to, seen, seen_to, IsKept}

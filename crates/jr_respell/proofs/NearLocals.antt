@@ -5,8 +5,8 @@ use Rattle.std.specs.Str.{bytes_eq}
 use Rattle.std.specs.Cmp.Lexicographic.{bytes_decides}
 use Rattle.jr_table.specs.Decls.{MemberKey, LocalKey}
 use Rattle.jr_table.specs.Scope.{ScopeLocal, last_named, or_later, key_if_named}
-use Rattle.jr_locals.specs.Helds.{Held, key_of, number_if_named, last_number}
-use Rattle.jr_locals.specs.Helds as held
+use Rattle.jr_scopes.specs.Helds.{Held, key_of, number_if_named, last_number}
+use Rattle.jr_scopes.specs.Helds as held
 use Rattle.jr_respell.specs.Scopes.{seen}
 use Rattle.jr_respell.specs.Near.{if_found}
 

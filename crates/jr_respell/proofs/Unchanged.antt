@@ -15,7 +15,7 @@ use Rattle.jr_table.specs.Scope.{Scope, last_named}
 use Rattle.jr_table.specs.Lookup.{FindsVariable, find_variable, local_or, shown, shown_one, decl_at}
 use Rattle.jr_table.specs.LookupLaws.{KeysAreFound}
 use Rattle.jr_table.specs.Context.{scope_of}
-use Rattle.jr_locals.specs.Helds.{key_of, last_number}
+use Rattle.jr_scopes.specs.Helds.{key_of, last_number}
 use Rattle.jr_spell.specs.declared.spellings.Form.TheVariants.{Asked}
 use Rattle.jr_rewrite.specs.Respellings.{stays, same}
 use Rattle.jr_rename.specs.Images.{Renaming, name_to, field_to, member_to, decl_to, row_to}

@@ -7,8 +7,8 @@ use Rattle.jr_table.specs.TypeView.{class_key_of}
 use Rattle.jr_table.specs.KeyView.{member_key_of}
 use Rattle.jr_table.specs.Scope.{Scope, ScopeLocal}
 use Rattle.jr_table.specs.Context.{Context}
-use Rattle.jr_locals.specs.Helds.{Held, key_of, local_of}
-use Rattle.jr_locals.specs.Tracked.{Tracked, helds_of}
+use Rattle.jr_scopes.specs.Helds.{Held, key_of, local_of}
+use Rattle.jr_scopes.specs.Tracked.{Tracked, helds_of}
 use Rattle.jr_rename.specs.Images.{Renaming, name_to, class_to, member_to, scope_to}
 use Rattle.jr_rename.specs.Images as images
 use Rattle.jr_rename.specs.ImageView.{renaming_of}

@@ -7,8 +7,8 @@ use Rattle.jr_table.specs.Found.{one}
 use Rattle.jr_table.specs.Scope.{Scope}
 use Rattle.jr_table.specs.Lookup.{FindsVariable, decl_at}
 use Rattle.jr_lookup.specs.ScopeView.{scope_of}
-use Rattle.jr_locals.specs.Helds.{key_of, last_number}
-use Rattle.jr_locals.specs.Tracked.{helds_of}
+use Rattle.jr_scopes.specs.Helds.{key_of, last_number}
+use Rattle.jr_scopes.specs.Tracked.{helds_of}
 use Rattle.jr_rename.specs.Images.{is_renamed}
 use Rattle.jr_respell.specs.declared.scopes.Scopes as raw
 use Rattle.jr_respell.specs.Scopes.{naming_of, member_of}

@@ -2,7 +2,7 @@
 ghost use Rattle.std.specs.Prelude.{◌≡◌, IfOk};
 ghost use Rattle.jr_table.specs.Decls.{local_decl};
 ghost use Rattle.jr_table.specs.KeyView.{member_key_of, decl_of};
-ghost use Rattle.jr_locals.specs.Helds.{key_of};
+ghost use Rattle.jr_scopes.specs.Helds.{key_of};
 ghost use Rattle.jr_rewrite.specs.Rewrites.{declared_by};
 ghost use Rattle.jr_rename.specs.Images as images;
 ghost use Rattle.jr_rename.specs.ImageView.{renaming_of};

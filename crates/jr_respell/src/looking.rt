@@ -9,7 +9,7 @@ ghost use Rattle.jr_table.specs.Lookup.{FindsVariable, FindsTypeNamed, FindsType
 ghost use Rattle.jr_table.specs.Binding.{FindsIn};
 ghost use Rattle.jr_table.specs.Context as context;
 ghost use Rattle.jr_lookup.specs.ScopeView.{scope_of};
-ghost use Rattle.jr_locals.specs.Helds.{key_of};
+ghost use Rattle.jr_scopes.specs.Helds.{key_of};
 ghost use Rattle.jr_respell.specs.Scopes.{
   IsKept,
   rows_of,

@@ -4,13 +4,13 @@ ghost use Rattle.jr_table.specs.Decls.{local_decl};
 ghost use Rattle.jr_table.specs.Entries.{class_of_member};
 ghost use Rattle.jr_table.specs.TypeView.{class_key_of};
 ghost use Rattle.jr_table.specs.KeyView.{member_key_of};
-ghost use Rattle.jr_locals.specs.Helds.{key_of};
+ghost use Rattle.jr_scopes.specs.Helds.{key_of};
 ghost use Rattle.jr_rename.specs.Images as pure;
 ghost use Rattle.jr_rename.specs.ImageView.{renaming_of};
 
 use crate::programs::Programs;
 use jr_ast::Name;
-use jr_locals::{Held, Locals};
+use jr_scopes::{Held, Locals};
 use jr_lookup::{Scope, ScopeLocals};
 use jr_rename::{NewName, class_to, member_to};
 use jr_table::{ClassKey, MemberKey};
@@ -88,7 +88,7 @@ fn bare(alloc: Global, class: ClassKey, is_static: bool) -> Scope
 impl<'a> Scopes<'a> {
     ghost use Rattle.std.specs.Prelude.{[], ◌∷◌, ◌++◌, length, take, OnOk, option_map};
     ghost use Rattle.jr_table.specs.HeadRules.{plain};
-    ghost use Rattle.jr_locals.specs.Helds.{held_of};
+    ghost use Rattle.jr_scopes.specs.Helds.{held_of};
     ghost use Rattle.jr_respell.specs.Scopes.{
       AreImages,
       IsKept,

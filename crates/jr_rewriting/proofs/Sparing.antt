@@ -18,7 +18,7 @@ use Rattle.jr_rename.specs.Images.{Renaming}
 use Rattle.jr_rename.specs.Spelling.{spelling}
 use Rattle.jr_renaming.specs.Effects.{Effect, no_effect}
 use Rattle.jr_renaming.specs.Files.{PartGives, OneGives}
-use Rattle.jr_apart.specs.Apart.{is_among, IsOther}
+use Rattle.jr_mentions.specs.Apart.{is_among, IsOther}
 use Rattle.jr_spared.specs.Spared.{IsSpared, IsKeyed}
 use Rattle.jr_parts.specs.PartLaws.{HasHeadKey}
 use Rattle.jr_rewriting.specs.Gathered.{IsPut}

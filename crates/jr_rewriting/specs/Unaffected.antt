@@ -13,9 +13,9 @@ use Rattle.jr_table.specs.Decls.{
 }
 use Rattle.jr_table.specs.KeyView.{local_key_of}
 use Rattle.jr_table.specs.Rows.{Row}
-use Rattle.jr_apart.specs.Apart.{is_among, AreApart, IsCleanMember}
-use Rattle.jr_apart.specs.ApartView.{names_in}
-use Rattle.jr_apart.specs.Avoids.{AvoidsPart}
+use Rattle.jr_mentions.specs.Apart.{is_among, AreApart, IsCleanMember}
+use Rattle.jr_mentions.specs.ApartView.{names_in}
+use Rattle.jr_mentions.specs.Avoids.{AvoidsPart}
 use Rattle.jr_members.specs.WrittenMembers.{WrittenMember}
 use Rattle.jr_rename.specs.Images.{Renaming, rows_to}
 use Rattle.jr_rewriting.specs.declared.unaffected.Unaffected as raw

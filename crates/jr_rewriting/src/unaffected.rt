@@ -3,12 +3,12 @@ ghost use Rattle.std.specs.Prelude.{◌≡◌, ◌↔◌, ◌∷◌, [], IfSome,
 ghost use Rattle.jr_table.specs.Decls.{local_decl};
 ghost use Rattle.jr_table.specs.KeyView.{decl_of, local_key_of, member_key_of};
 ghost use Rattle.jr_members.specs.PartView.{part_of, written_of};
-ghost use Rattle.jr_apart.specs.ApartView.{names_in};
-ghost use Rattle.jr_apart.specs.Avoids.{AvoidsPart};
+ghost use Rattle.jr_mentions.specs.ApartView.{names_in};
+ghost use Rattle.jr_mentions.specs.Avoids.{AvoidsPart};
 ghost use Rattle.jr_respell.specs.Scopes.{rows_in, renaming_in, AreImages};
 ghost use Rattle.jr_rewriting.specs.Unaffected as pure;
 
-use jr_apart::{Apart, apart};
+use jr_mentions::{Apart, apart};
 use jr_members::{PartRef, WrittenMember};
 use jr_respell::Programs;
 use jr_table::{Decl, LocalKey, MemberKey};

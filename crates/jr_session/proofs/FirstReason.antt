@@ -19,7 +19,7 @@ use Rattle.jr_rename.specs.ImageLaws.{RenamingsStayFair}
 use Rattle.jr_rename.specs.Images.{Renaming}
 use Rattle.jr_rename.specs.Renames as renames
 use Rattle.jr_rename.specs.TextLaws.{RowsAreNamed, NamesHaveNoDot}
-use Rattle.jr_target.specs.TargetLaws.{OneIsTarget}
+use Rattle.jr_cursor.specs.TargetLaws.{OneIsTarget}
 use Rattle.jr_one_plan.specs.OnePlan.{PlanIsOne, RewritingIsOne, RefusesSo, PlansSo}
 use Rattle.jr_sources.specs.Asking.{CanStand}
 use Rattle.jr_sources.specs.BindingErrors.{IsFirstWrong}

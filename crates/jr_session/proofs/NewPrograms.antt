@@ -29,7 +29,7 @@ use Rattle.jr_rename.specs.RenameLaws.{trees_of}
 use Rattle.jr_rename.specs.TextLaws.{RowsAreNamed, NamesHaveNoDot}
 use Rattle.jr_renamed.specs.PlanLaws.{IsPlanIn, NewTextsRead, ReferencesStay, NewProgramsAreImages}
 use Rattle.jr_class_rename.specs.ClassLaws.{BuiltRowsAreImages, ConstructorsGiveImages}
-use Rattle.jr_family.specs.Kept.{DispatchIsKept}
+use Rattle.jr_dispatch.specs.Kept.{DispatchIsKept}
 use Rattle.jr_sources.specs.Sources.{Source}
 use Rattle.jr_sources.specs.Whole.{IsProgramOf}
 use Rattle.jr_session.specs.NewTexts.{with_edits}

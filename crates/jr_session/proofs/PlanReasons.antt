@@ -27,7 +27,7 @@ use Rattle.jr_rename.specs.Refusals.{ChangesDispatch}
 use Rattle.jr_rename.specs.RenameLaws.{IsFair}
 use Rattle.jr_rename.specs.Renames as renames
 use Rattle.jr_rename.specs.TextLaws.{RowsAreNamed, NamesHaveNoDot}
-use Rattle.jr_target.specs.TargetLaws.{OneIsTarget}
+use Rattle.jr_cursor.specs.TargetLaws.{OneIsTarget}
 use Rattle.jr_one_plan.specs.OnePlan.{AreAlike, RewritingIsOne, PlansSo, RefusesSo}
 use Rattle.jr_one_plan.proofs.Alike.{renamed_alike}
 use Rattle.jr_one_plan.proofs.OneProgram.{beside, IsWhole, file_at, is_beside, super_same, target_to}

@@ -13,7 +13,7 @@ use Rattle.jr_table.specs.Binding as role
 use Rattle.jr_table.specs.Somewhere.{InMaybe, InStmt, InElse, InStmts}
 use Rattle.jr_table.specs.ExpressionRules.{ExpBreaks}
 use Rattle.jr_table.specs.StatementRules.{StmtBreaks, ListBreaks}
-use Rattle.jr_apart.specs.Avoids.{AvoidsMaybe, AvoidsStmt, AvoidsElse, AvoidsStmts}
+use Rattle.jr_mentions.specs.Avoids.{AvoidsMaybe, AvoidsStmt, AvoidsElse, AvoidsStmts}
 use Rattle.jr_rewrite.specs.Respellings.{stays}
 use Rattle.jr_rewrite.specs.Rewritten.{plain, within, joined, word_out}
 use Rattle.jr_rewrite.specs.Rewrites.{DeclaredOut, RewritesType, RewritesMaybe, RewritesStmt, RewritesElse, RewritesStmts}

@@ -20,8 +20,8 @@ use Rattle.jr_table.specs.Sites.{class_key}
 use Rattle.jr_table.specs.ExpressionRules.{ExpBreaks}
 use Rattle.jr_table.specs.StatementRules.{StmtBreaks, ListBreaks}
 use Rattle.jr_table.specs.Errors.{Part, class_part, member_part, Breaks, InMember}
-use Rattle.jr_apart.specs.Apart.{IsCleanMember}
-use Rattle.jr_apart.specs.Avoids.{AvoidsMember, AvoidsArgs, AvoidsPart}
+use Rattle.jr_mentions.specs.Apart.{IsCleanMember}
+use Rattle.jr_mentions.specs.Avoids.{AvoidsMember, AvoidsArgs, AvoidsPart}
 use Rattle.jr_sites.specs.FoundTypes.{TypeIsFound, MaybeTypeIsFound, ParamTypesAreFound, MaybeParentIsFound, ParentIsFound, DeclaresFound}
 use Rattle.jr_rewrite.specs.Respellings.{stays}
 use Rattle.jr_rewrite.specs.Rewritten.{plain, within, joined}

@@ -7,7 +7,7 @@ use Rattle.jr_table.specs.Rows.{Row}
 use Rattle.jr_table.specs.Context.{Context}
 use Rattle.jr_table.specs.Binding.{Role, value, left, type}
 use Rattle.jr_table.specs.Somewhere.{Somewhere, InTarget, InRow}
-use Rattle.jr_apart.specs.Avoids.{AvoidsExp, AvoidsTarget, AvoidsRow}
+use Rattle.jr_mentions.specs.Avoids.{AvoidsExp, AvoidsTarget, AvoidsRow}
 use Rattle.jr_rewrite.specs.Respellings.{stays}
 use Rattle.jr_rewrite.specs.Rewritten.{plain, within, joined, word_out, name_out, field_out, super_field_out, Called, simple_call_out, dotted_call_out}
 use Rattle.jr_rewrite.specs.Rewrites.{Choosing, RewritesType, RewritesExp, RewritesTarget, RewritesRow, with_losses}

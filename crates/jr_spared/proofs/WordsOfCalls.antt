@@ -17,8 +17,8 @@ use Rattle.jr_spell.specs.declared.references.RefForm.TheVariants as ref
 use Rattle.jr_spell.specs.declared.spellings.Form.TheVariants.{Asked}
 use Rattle.jr_spell.specs.Taken.{IsTaken}
 use Rattle.jr_rewrite.specs.Respellings.{stays}
-use Rattle.jr_apart.specs.Apart.{IsOther}
-use Rattle.jr_apart.specs.Avoids.{AvoidsExp}
+use Rattle.jr_mentions.specs.Apart.{IsOther}
+use Rattle.jr_mentions.specs.Avoids.{AvoidsExp}
 use Rattle.jr_rename.specs.Images.{Renaming, class_to, method_to, ctor_to, types_to, rows_to, scope_to}
 use Rattle.jr_rename.specs.Spelling.{reference, behind_words, operand_of, SimpleCallSpells, CallSpells, SuperCallSpells, CreationSpells, SuperCtorSpells, ExpSpells}
 use Rattle.jr_spared.proofs.ImagesStay.{IsWithin, types_same, ctor_same}

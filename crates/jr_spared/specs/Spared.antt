@@ -15,9 +15,9 @@ use Rattle.jr_table.specs.Conditions.{AreRows}
 use Rattle.jr_table.specs.Context.{Context}
 use Rattle.jr_table.specs.Errors.{Part, class_part, member_part, Breaks}
 use Rattle.jr_table.specs.declared.rules.Rule.{Rule}
-use Rattle.jr_apart.specs.Apart.{IsOther, IsCleanMember}
-use Rattle.jr_apart.specs.Alike.{LookAlike}
-use Rattle.jr_apart.specs.Avoids.{AvoidsPart}
+use Rattle.jr_mentions.specs.Apart.{IsOther, IsCleanMember}
+use Rattle.jr_mentions.specs.Alike.{LookAlike}
+use Rattle.jr_mentions.specs.Avoids.{AvoidsPart}
 use Rattle.jr_sites.specs.FoundTypes.{DeclaresFound}
 use Rattle.jr_rename.specs.Images.{Renaming, is_renamed, rows_to}
 use Rattle.jr_rename.specs.OneLocal.{HaveNoDots}

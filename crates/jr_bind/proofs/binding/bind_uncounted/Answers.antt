@@ -2,12 +2,12 @@ use Rattle.std.proofs.Common.{List, [], ◌++◌, sym, ap, subst, ◌∙◌}
 use Rattle.std.proofs.lemmas.Result.{IfOk-weaker}
 use Rattle.jr_table.specs.KeyView.{member_key_of}
 use Rattle.jr_table.specs.Walks.{part_notes}
-use Rattle.jr_types.specs.Trees.{flat}
-use Rattle.jr_types.specs.TypedTrees.{part_tree}
+use Rattle.jr_expr_types.specs.Trees.{flat}
+use Rattle.jr_expr_types.specs.TypedTrees.{part_tree}
 use Rattle.jr_members.specs.Fitting.{begins_by}
 use Rattle.jr_members.specs.PartView.{part_of}
-use Rattle.jr_notes.specs.declared.findings.Note as raw
-use Rattle.jr_notes.specs.Logs.{notes_of, Adds}
+use Rattle.jr_bind_expr.specs.declared.findings.Note as raw
+use Rattle.jr_bind_expr.specs.Logs.{notes_of, Adds}
 use Rattle.jr_bind.proofs.Bounding.{is_bound}
 use Rattle.jr_bind.proofs.TypedBounds.{typed_part}
 use Rattle.jr_bind.proofs.binding.bind_uncounted.Goals as goal

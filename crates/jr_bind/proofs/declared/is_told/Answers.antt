@@ -1,7 +1,7 @@
 use Rattle.std.proofs.Common.{◌≡◌, false, sym, ap, ◌∙◌, subst}
 use Rattle.jr_table.specs.declared.answers.Answer.{Answer}
 use Rattle.jr_table.specs.Lookup.{shown}
-use Rattle.jr_notes.specs.Arms.{is_nothing}
+use Rattle.jr_bind_expr.specs.Arms.{is_nothing}
 use Rattle.jr_bind.specs.DeclaredTypes.{is_told}
 use Rattle.jr_bind.proofs.Declaring.{told_one, told_private, told_static, told_many, told_none}
 use Rattle.jr_bind.proofs.declared.is_told.Goals as goal

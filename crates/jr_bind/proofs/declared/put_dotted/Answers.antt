@@ -3,7 +3,7 @@ use Rattle.std.proofs.lemmas.Result.{IfOk-weaker}
 use Rattle.jr_text.specs.declared.spans.Span.{Span}
 use Rattle.jr_table.specs.Entries.{entries_of}
 use Rattle.jr_table.specs.Fields.{find_member_type}
-use Rattle.jr_notes.specs.Numbered.{in_class}
+use Rattle.jr_bind_expr.specs.Numbered.{in_class}
 use Rattle.jr_bind.proofs.Declaring.{dotted_found}
 use Rattle.jr_bind.proofs.declared.put_dotted.Goals as goal
 

@@ -1,7 +1,7 @@
 use Rattle.std.proofs.Common.{ℕ, refl, sym, ap, subst}
 use Rattle.jr_text.specs.declared.spans.Span.{Span}
 use Rattle.jr_ast.specs.View.{type_of}
-use Rattle.jr_notes.specs.Fits.{FitsType}
+use Rattle.jr_bind_expr.specs.Fits.{FitsType}
 use Rattle.jr_bind.proofs.Declaring.{params_fit, params_step, params_end}
 use Rattle.jr_bind.proofs.declared.put_params.Goals as goal
 

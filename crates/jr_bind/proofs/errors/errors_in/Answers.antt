@@ -1,7 +1,7 @@
 use Rattle.std.proofs.Common.{◌++◌, ◌+◌, map, drop, sym, ap, ◌∙◌, append_assoc}
 use Rattle.std.proofs.lemmas.List.{append-nil, drop_all, drop_more}
 use Rattle.jr_table.specs.ErrorLists as lists
-use Rattle.jr_notes.specs.Logs.{notes_of}
+use Rattle.jr_bind_expr.specs.Logs.{notes_of}
 use Rattle.jr_bind.specs.ErrorView.{error_of}
 use Rattle.jr_bind.proofs.errors.errors_in.Goals as goal
 

@@ -4,7 +4,7 @@ use Rattle.std.proofs.lemmas.List.Sorted.{IsPermutation-map}
 use Rattle.std.specs.List.Sorted.{IsPermutation}
 use Rattle.jr_table.specs.Errors.{Error}
 use Rattle.jr_table.specs.ErrorLists.{each_once}
-use Rattle.jr_notes.specs.Logs.{notes_of}
+use Rattle.jr_bind_expr.specs.Logs.{notes_of}
 use Rattle.jr_bind.specs.ErrorView.{error_of}
 use Rattle.jr_bind.proofs.Telling.{sorted_shown}
 use Rattle.jr_bind.proofs.errors.errors_of_log.Goals as goal

@@ -1,8 +1,8 @@
 use Rattle.std.proofs.Common.{◌≡◌, false, sym, ap, ◌∙◌, subst, Some}
 use Rattle.jr_table.specs.declared.answers.Answer.{Answer}
 use Rattle.jr_table.specs.Lookup.{shown}
-use Rattle.jr_notes.specs.Arms.{is_nothing}
-use Rattle.jr_notes.specs.Findings.{sought_of}
+use Rattle.jr_bind_expr.specs.Arms.{is_nothing}
+use Rattle.jr_bind_expr.specs.Findings.{sought_of}
 use Rattle.jr_bind.specs.ErrorView.{found_rule}
 use Rattle.jr_bind.proofs.Telling.{rule_one, rule_none, rule_many, rule_private, rule_static}
 use Rattle.jr_bind.proofs.errors.found_rule.Goals as goal

@@ -1,7 +1,7 @@
 use Rattle.std.proofs.Common.{arith}
 use Rattle.std.proofs.lemmas.Result.{IfOk-weaker}
-use Rattle.jr_types.specs.Trees.{none}
-use Rattle.jr_types.specs.TypedTrees.{put_leaves}
+use Rattle.jr_expr_types.specs.Trees.{none}
+use Rattle.jr_expr_types.specs.TypedTrees.{put_leaves}
 use Rattle.jr_bind.proofs.TypedDeclaring.{leaves_flats, leaves_counted}
 use Rattle.jr_bind.proofs.TypedPassing.{add_more}
 use Rattle.jr_bind.proofs.fronts.put_front.Goals as goal

@@ -1,7 +1,7 @@
 use Rattle.std.proofs.Common.{◌++◌, sym, ap, add-one, ◌∙◌}
-use Rattle.jr_types.specs.Trees.{none, flats}
-use Rattle.jr_types.specs.TypedTrees.{leaf, put_leaves}
-use Rattle.jr_notes.proofs.TypedParts.{start, add}
+use Rattle.jr_expr_types.specs.Trees.{none, flats}
+use Rattle.jr_expr_types.specs.TypedTrees.{leaf, put_leaves}
+use Rattle.jr_bind_expr.proofs.TypedParts.{start, add}
 use Rattle.jr_bind.proofs.fronts.put_row.Goals as goal
 
 pub loop-leaf-init : goal.loop-leaf-init

@@ -1,6 +1,6 @@
 use Rattle.std.proofs.Common.{◌≡◌, ◌++◌}
-use Rattle.jr_types.specs.Trees.{none, flats}
-use Rattle.jr_types.specs.TypedTrees.{put_leaves}
+use Rattle.jr_expr_types.specs.Trees.{none, flats}
+use Rattle.jr_expr_types.specs.TypedTrees.{put_leaves}
 use Rattle.jr_bind.proofs.fronts.put_row.Given as goal
 
 abbrev pub invariant-loop-leaf : goal.invariant-loop-leaf

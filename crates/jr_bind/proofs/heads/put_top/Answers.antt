@@ -8,7 +8,7 @@ use Rattle.jr_ast.specs.declared.names.Ident.{Ident}
 use Rattle.jr_ast.specs.View.{word_of, type_of, type_kind}
 use Rattle.jr_table.specs.Lookup.{shown}
 use Rattle.jr_table.specs.HeadNotes.{top_found, declared_note}
-use Rattle.jr_notes.specs.Logs.{notes_of}
+use Rattle.jr_bind_expr.specs.Logs.{notes_of}
 use Rattle.jr_bind.specs.DeclaredTypes.{PutsDeclared}
 use Rattle.jr_bind.specs.Heads.{PutsTop}
 use Rattle.jr_bind.proofs.heads.put_top.Goals as goal

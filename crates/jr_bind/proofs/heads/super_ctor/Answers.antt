@@ -1,7 +1,7 @@
 use Rattle.std.proofs.Common.{ap, ◌∙◌}
 use Rattle.std.proofs.lemmas.Result.{IfOk-weaker}
-use Rattle.jr_notes.specs.ArgsView.{kinds_of}
-use Rattle.jr_notes.specs.Arms.{ctor_answer}
+use Rattle.jr_bind_expr.specs.ArgsView.{kinds_of}
+use Rattle.jr_bind_expr.specs.Arms.{ctor_answer}
 use Rattle.jr_bind.proofs.Heading.{super_is}
 use Rattle.jr_bind.proofs.heads.super_ctor.Goals as goal
 

@@ -7,8 +7,8 @@ use Rattle.jr_table.specs.KeyView.{member_key_of, field_key_of, method_key_of, c
 use Rattle.jr_table.specs.Entries.{number_of}
 use Rattle.jr_table.specs.HeadRules.{plain}
 use Rattle.jr_table.specs.Walks.{maybe_notes}
-use Rattle.jr_notes.specs.Places.{decl_of}
-use Rattle.jr_notes.specs.Logs.{notes_of}
+use Rattle.jr_bind_expr.specs.Places.{decl_of}
+use Rattle.jr_bind_expr.specs.Logs.{notes_of}
 use Rattle.jr_bind.proofs.Parting.{member_here, init_head, init_method, init_ctor, init_field}
 use Rattle.jr_bind.proofs.initializers.put_assigned.Goals as goal
 

@@ -6,7 +6,7 @@ use Rattle.jr_ast.specs.View.{expr_of}
 use Rattle.jr_table.specs.HeadRules.{plain}
 use Rattle.jr_table.specs.HeadNotes.{init_notes}
 use Rattle.jr_table.specs.Walks.{maybe_notes}
-use Rattle.jr_notes.specs.Logs.{notes_of, Adds}
+use Rattle.jr_bind_expr.specs.Logs.{notes_of, Adds}
 use Rattle.jr_bind.proofs.initializers.put_initializer.Goals as goal
 
 pub returns-in-Some-clause-notes : goal.returns-in-Some-clause-notes

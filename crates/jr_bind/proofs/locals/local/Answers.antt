@@ -2,11 +2,11 @@ use Rattle.std.proofs.Common.{◌++◌, ℕ, None, ap, subst, sym, ◌∙◌}
 use Rattle.jr_ast.specs.View.{word_of, type_of, expr_of}
 use Rattle.jr_bind.specs.declared.completing.Behind.{Behind}
 use Rattle.jr_bind.specs.StmtArms.{LocalPasses}
-use Rattle.jr_types.specs.Trees.{none, flat}
-use Rattle.jr_types.specs.TypedTrees.{leaf, put_leaf, exp_tree}
+use Rattle.jr_expr_types.specs.Trees.{none, flat}
+use Rattle.jr_expr_types.specs.TypedTrees.{leaf, put_leaf, exp_tree}
 use Rattle.jr_table.specs.Context.{in_own, local_of}
-use Rattle.jr_notes.specs.Places.{context_of}
-use Rattle.jr_notes.proofs.TypedParts.{start, add}
+use Rattle.jr_bind_expr.specs.Places.{context_of}
+use Rattle.jr_bind_expr.proofs.TypedParts.{start, add}
 use Rattle.jr_bind.proofs.LocalSteps.{with_held, local_whole}
 use Rattle.jr_bind.proofs.locals.local.Goals as goal
 

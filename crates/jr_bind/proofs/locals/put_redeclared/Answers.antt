@@ -7,8 +7,8 @@ use Rattle.jr_table.specs.Notes.{when, breaks}
 use Rattle.jr_table.specs.Scope.{last_named}
 use Rattle.jr_table.specs.Context.{scope_of}
 use Rattle.jr_table.specs.declared.rules.Rule.TheVariants as rule
-use Rattle.jr_notes.specs.Places.{context_of, member_of}
-use Rattle.jr_notes.specs.Logs.{notes_of}
+use Rattle.jr_bind_expr.specs.Places.{context_of, member_of}
+use Rattle.jr_bind_expr.specs.Logs.{notes_of}
 use Rattle.jr_bind.proofs.LocalSteps.{held_is}
 use Rattle.jr_bind.proofs.locals.put_redeclared.Goals as goal
 

@@ -9,16 +9,16 @@ use Rattle.jr_table.specs.HeadRules.{plain, with_parameters}
 use Rattle.jr_table.specs.Walks.{super_args_notes}
 use Rattle.jr_bind.specs.Flow.{BodyPasses}
 use Rattle.jr_bind.specs.Parameters.{in_instance}
-use Rattle.jr_notes.specs.Logs.{notes_of, Adds}
+use Rattle.jr_bind_expr.specs.Logs.{notes_of, Adds}
 use Rattle.jr_bind.specs.Supers.{super_notes}
-use Rattle.jr_notes.proofs.Scoped.{class_is}
+use Rattle.jr_bind_expr.proofs.Scoped.{class_is}
 use Rattle.jr_bind.proofs.Statics.{map_count}
 use Rattle.jr_bind.proofs.Parting.{member_here, adds_at, body_adds, ctor_whole}
-use Rattle.jr_types.specs.Trees.{none}
-use Rattle.jr_types.specs.TypedTrees.{put_leaves, put_args, put_stmts}
+use Rattle.jr_expr_types.specs.Trees.{none}
+use Rattle.jr_expr_types.specs.TypedTrees.{put_leaves, put_args, put_stmts}
 use Rattle.jr_bind.specs.TypedFlow.{args_slots, body_slots}
-use Rattle.jr_notes.proofs.Oks.{IfOk-any}
-use Rattle.jr_notes.proofs.TypedParts.{close, within}
+use Rattle.jr_bind_expr.proofs.Oks.{IfOk-any}
+use Rattle.jr_bind_expr.proofs.TypedParts.{close, within}
 use Rattle.jr_bind.proofs.TypedPassing.{add_more, body_flats, body_counted, body_length}
 use Rattle.jr_bind.proofs.TypedDeclaring.{args_flats, args_counted}
 use Rattle.jr_bind.proofs.member_notes.note_ctor.Goals as goal

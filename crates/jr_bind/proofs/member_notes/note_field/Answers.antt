@@ -6,13 +6,13 @@ use Rattle.jr_table.specs.Decls.{MemberKey, class_decl}
 use Rattle.jr_table.specs.KeyView.{member_key_of}
 use Rattle.jr_table.specs.Entries.{number_of, class_of_member}
 use Rattle.jr_table.specs.HeadRules.{plain}
-use Rattle.jr_notes.proofs.Scoped.{class_is}
+use Rattle.jr_bind_expr.proofs.Scoped.{class_is}
 use Rattle.jr_bind.proofs.Parting.{member_here, field_whole}
-use Rattle.jr_types.specs.Trees.{none}
-use Rattle.jr_types.specs.TypedTrees.{put_leaves, put_maybe}
+use Rattle.jr_expr_types.specs.Trees.{none}
+use Rattle.jr_expr_types.specs.TypedTrees.{put_leaves, put_maybe}
 use Rattle.jr_bind.specs.TypedFlow.{maybe_slots}
-use Rattle.jr_notes.proofs.Oks.{IfOk-any}
-use Rattle.jr_notes.proofs.TypedParts.{close, within}
+use Rattle.jr_bind_expr.proofs.Oks.{IfOk-any}
+use Rattle.jr_bind_expr.proofs.TypedParts.{close, within}
 use Rattle.jr_bind.proofs.TypedPassing.{add_more, maybe_flats, maybe_counted}
 use Rattle.jr_bind.proofs.member_notes.note_field.Goals as goal
 

@@ -12,15 +12,15 @@ use Rattle.jr_table.specs.Errors.{member_part}
 use Rattle.jr_table.specs.HeadRules.{with_parameters, is_static_member}
 use Rattle.jr_table.specs.Walks.{member_notes}
 use Rattle.jr_bind.specs.DeclaredTypes.{FitsMaybeType, FitsParams}
-use Rattle.jr_notes.specs.Fits.{FitsStmts}
-use Rattle.jr_notes.specs.Logs.{notes_of, Adds}
+use Rattle.jr_bind_expr.specs.Fits.{FitsStmts}
+use Rattle.jr_bind_expr.specs.Logs.{notes_of, Adds}
 use Rattle.jr_bind.specs.PartFits.{FitsMaybeArgs, FitsMember}
 use Rattle.jr_bind.specs.PartNotes.{field_notes, method_notes, ctor_notes}
-use Rattle.jr_notes.proofs.Adding.{adds_none}
-use Rattle.jr_types.specs.Trees.{none, node, flat}
-use Rattle.jr_types.specs.TypedTrees.{put_leaves, put_args, put_stmts, part_tree}
+use Rattle.jr_bind_expr.proofs.Adding.{adds_none}
+use Rattle.jr_expr_types.specs.Trees.{none, node, flat}
+use Rattle.jr_expr_types.specs.TypedTrees.{put_leaves, put_args, put_stmts, part_tree}
 use Rattle.jr_bind.specs.TypedFlow.{named_count}
-use Rattle.jr_notes.proofs.Oks.{IfOk-any}
+use Rattle.jr_bind_expr.proofs.Oks.{IfOk-any}
 use Rattle.jr_bind.proofs.Statics.{map_count}
 use Rattle.jr_bind.proofs.TypedDeclaring.{field_typed, method_typed, constructor_typed}
 use Rattle.jr_bind.proofs.member_notes.note_member.Goals as goal

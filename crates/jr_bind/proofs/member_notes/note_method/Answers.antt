@@ -6,15 +6,15 @@ use Rattle.jr_table.specs.Decls.{MemberKey}
 use Rattle.jr_table.specs.KeyView.{member_key_of}
 use Rattle.jr_table.specs.HeadRules.{with_parameters}
 use Rattle.jr_bind.specs.Flow.{BodyPasses}
-use Rattle.jr_notes.specs.Logs.{notes_of}
+use Rattle.jr_bind_expr.specs.Logs.{notes_of}
 use Rattle.jr_bind.specs.DeclarationArms as arms
 use Rattle.jr_bind.proofs.Statics.{map_count}
 use Rattle.jr_bind.proofs.Parting.{member_here, body_adds, method_whole}
-use Rattle.jr_types.specs.Trees.{none, count, flats}
-use Rattle.jr_types.specs.TypedTrees.{put_leaves, put_stmts}
+use Rattle.jr_expr_types.specs.Trees.{none, count, flats}
+use Rattle.jr_expr_types.specs.TypedTrees.{put_leaves, put_stmts}
 use Rattle.jr_bind.specs.TypedFlow.{named_count, body_slots}
-use Rattle.jr_notes.proofs.Oks.{IfOk-any}
-use Rattle.jr_notes.proofs.TypedParts.{close, within}
+use Rattle.jr_bind_expr.proofs.Oks.{IfOk-any}
+use Rattle.jr_bind_expr.proofs.TypedParts.{close, within}
 use Rattle.jr_bind.proofs.TypedPassing.{add_more, body_flats, body_counted, body_length}
 use Rattle.jr_bind.proofs.member_notes.note_method.Goals as goal
 

@@ -2,7 +2,7 @@ use Rattle.std.proofs.Common.{Option, Vec, Global, sym, ap, ◌∙◌}
 use Rattle.jr_ast.specs.declared.exprs.Expr.{Expr}
 use Rattle.jr_ast.specs.View.{args_of}
 use Rattle.jr_bind.specs.TypedFlow.{args_count}
-use Rattle.jr_notes.proofs.TypedParts.{args_length}
+use Rattle.jr_bind_expr.proofs.TypedParts.{args_length}
 use Rattle.jr_bind.proofs.member_notes.super_parts.Goals as goal
 
 pub returns-in-Some : goal.returns-in-Some

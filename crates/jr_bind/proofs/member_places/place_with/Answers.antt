@@ -4,9 +4,9 @@ use Rattle.jr_table.proofs.RowLaws.{number_stands, within}
 use Rattle.jr_table.specs.KeyView.{member_key_of}
 use Rattle.jr_table.specs.Context.{parameters}
 use Rattle.jr_table.specs.HeadRules.{types_of}
-use Rattle.jr_locals.specs.Helds.{local_of}
-use Rattle.jr_locals.specs.Tracked.{helds_of}
-use Rattle.jr_notes.specs.Places.{context_of, decl_of, AreTyped}
+use Rattle.jr_scopes.specs.Helds.{local_of}
+use Rattle.jr_scopes.specs.Tracked.{helds_of}
+use Rattle.jr_bind_expr.specs.Places.{context_of, decl_of, AreTyped}
 use Rattle.jr_bind.specs.Parameters.{held_parameters}
 use Rattle.jr_bind.proofs.ParamSteps.{held_are, parameters_typed}
 use Rattle.jr_bind.proofs.member_places.place_with.Goals as goal

@@ -1,8 +1,8 @@
 use Rattle.std.proofs.Common.{None, map}
 use Rattle.jr_table.proofs.RowLaws.{number_stands, within}
 use Rattle.jr_table.specs.KeyView.{member_key_of}
-use Rattle.jr_locals.specs.Helds.{held_of, local_of}
-use Rattle.jr_notes.specs.Places.{context_of, decl_of}
+use Rattle.jr_scopes.specs.Helds.{held_of, local_of}
+use Rattle.jr_bind_expr.specs.Places.{context_of, decl_of}
 use Rattle.jr_bind.proofs.member_places.plain_place.Goals as goal
 
 pub class_of-requires : goal.class_of-requires

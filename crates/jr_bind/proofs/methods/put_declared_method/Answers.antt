@@ -8,10 +8,10 @@ use Rattle.jr_table.specs.HeadRules.{plain}
 use Rattle.jr_table.specs.Notes.{Note, breaks, when, is_object_method}
 use Rattle.jr_table.specs.HeadNotes.{result_references, param_references, override_notes}
 use Rattle.jr_table.specs.declared.rules.Rule.TheVariants as rule
-use Rattle.jr_notes.specs.Places.{member_of}
-use Rattle.jr_notes.specs.Logs.{notes_of}
+use Rattle.jr_bind_expr.specs.Places.{member_of}
+use Rattle.jr_bind_expr.specs.Logs.{notes_of}
 use Rattle.jr_bind.specs.DeclarationArms.{missing_notes}
-use Rattle.jr_notes.proofs.Scoped.{class_is}
+use Rattle.jr_bind_expr.proofs.Scoped.{class_is}
 use Rattle.jr_bind.proofs.Declaring.{declared_append}
 use Rattle.jr_bind.proofs.methods.put_declared_method.Goals as goal
 

@@ -6,8 +6,8 @@ use Rattle.jr_table.specs.Entries.{number_of}
 use Rattle.jr_table.specs.Notes.{breaks, when}
 use Rattle.jr_table.specs.HeadNotes.{override_notes}
 use Rattle.jr_table.specs.declared.rules.Rule.TheVariants as rule
-use Rattle.jr_notes.specs.Places.{member_of, decl_of}
-use Rattle.jr_notes.specs.Logs.{notes_of}
+use Rattle.jr_bind_expr.specs.Places.{member_of, decl_of}
+use Rattle.jr_bind_expr.specs.Logs.{notes_of}
 use Rattle.jr_bind.proofs.methods.put_override.Goals as goal
 
 pub returns-in-Method : goal.returns-in-Method

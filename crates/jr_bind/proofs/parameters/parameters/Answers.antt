@@ -4,9 +4,9 @@ use Rattle.jr_ast.specs.declared.parts.Param.{Param}
 use Rattle.jr_ast.specs.View.{param_of}
 use Rattle.jr_table.specs.declared.types.Ty as raw_ty
 use Rattle.jr_table.specs.TypeView.{ty_of}
-use Rattle.jr_locals.specs.Tracked.{locals_of}
+use Rattle.jr_scopes.specs.Tracked.{locals_of}
 use Rattle.jr_bind.specs.Parameters.{held_parameters}
-use Rattle.jr_notes.proofs.Steps.{left_is}
+use Rattle.jr_bind_expr.proofs.Steps.{left_is}
 use Rattle.jr_bind.proofs.ParamSteps.{none_left, Goes, goes_typeless, goes_end}
 use Rattle.jr_bind.proofs.parameters.parameters.Goals as goal
 

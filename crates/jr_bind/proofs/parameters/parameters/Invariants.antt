@@ -1,7 +1,7 @@
 use Rattle.std.proofs.Common.{drop, map}
 use Rattle.jr_ast.specs.View.{param_of}
 use Rattle.jr_table.specs.TypeView.{ty_of}
-use Rattle.jr_locals.specs.Tracked.{Tracked, locals_of}
+use Rattle.jr_scopes.specs.Tracked.{Tracked, locals_of}
 use Rattle.jr_bind.specs.Parameters.{held_parameters}
 use Rattle.jr_bind.proofs.ParamSteps.{Goes}
 use Rattle.jr_bind.proofs.parameters.parameters.Given as goal

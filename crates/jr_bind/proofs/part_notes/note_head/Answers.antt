@@ -7,9 +7,9 @@ use Rattle.jr_table.specs.Decls.{MemberKey, head}
 use Rattle.jr_table.specs.Entries.{number_of}
 use Rattle.jr_table.specs.Errors.{class_part}
 use Rattle.jr_table.specs.Walks.{part_notes}
-use Rattle.jr_notes.specs.Places.{decl_of}
-use Rattle.jr_notes.specs.Logs.{notes_of, Adds}
-use Rattle.jr_notes.proofs.Adding.{adds_exact}
+use Rattle.jr_bind_expr.specs.Places.{decl_of}
+use Rattle.jr_bind_expr.specs.Logs.{notes_of, Adds}
+use Rattle.jr_bind_expr.proofs.Adding.{adds_exact}
 use Rattle.jr_bind.proofs.part_notes.note_head.Goals as goal
 
 pub returns-in-Head : goal.returns-in-Head

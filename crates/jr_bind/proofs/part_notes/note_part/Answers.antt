@@ -5,7 +5,7 @@ use Rattle.jr_table.specs.KeyView.{member_key_of}
 use Rattle.jr_table.specs.Errors.{Part}
 use Rattle.jr_table.specs.Notes.{Note}
 use Rattle.jr_table.specs.Walks.{part_notes}
-use Rattle.jr_notes.specs.Logs.{notes_of, Adds}
+use Rattle.jr_bind_expr.specs.Logs.{notes_of, Adds}
 use Rattle.jr_members.specs.PartView.{part_of}
 use Rattle.jr_bind.proofs.Parting.{part_member}
 use Rattle.jr_bind.proofs.part_notes.note_part.Goals as goal

@@ -3,7 +3,7 @@ use Rattle.std.proofs.lemmas.List.{append-nil, drop_all, drop_more}
 use Rattle.jr_table.specs.KeyView.{member_key_of}
 use Rattle.jr_bind.specs.BoundLogs as logs
 use Rattle.jr_bind.specs.BoundView.{reference_of}
-use Rattle.jr_notes.specs.Logs.{notes_of}
+use Rattle.jr_bind_expr.specs.Logs.{notes_of}
 use Rattle.jr_bind.proofs.references.references_in.Goals as goal
 
 pub loop-note-init : goal.loop-note-init

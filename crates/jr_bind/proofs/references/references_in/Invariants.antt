@@ -2,7 +2,7 @@ use Rattle.std.proofs.Common.{◌≡◌, ◌++◌, map, drop}
 use Rattle.jr_table.specs.KeyView.{member_key_of}
 use Rattle.jr_bind.specs.BoundLogs as logs
 use Rattle.jr_bind.specs.BoundView.{reference_of}
-use Rattle.jr_notes.specs.Logs.{notes_of}
+use Rattle.jr_bind_expr.specs.Logs.{notes_of}
 use Rattle.jr_bind.proofs.references.references_in.Given as goal
 
 abbrev pub invariant-loop-note : goal.invariant-loop-note

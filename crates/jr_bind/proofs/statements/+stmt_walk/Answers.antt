@@ -8,17 +8,17 @@ use Rattle.jr_ast.specs.declared.stmts.Stmt.{Stmt}
 use Rattle.jr_ast.specs.View.{word_of, type_of, expr_of, stmt_of, stmts_of, else_of, stmt_kind, stmt_row, held_else}
 use Rattle.jr_ast.proofs.Rows.{stmt_kind-If, stmt_kind-Block, stmt_kind-Sync}
 use Rattle.jr_ast.proofs.Sizes.{stmt_size, stmts_size, else_size}
-use Rattle.jr_locals.specs.Tracked.{locals_of}
+use Rattle.jr_scopes.specs.Tracked.{locals_of}
 use Rattle.jr_bind.specs.declared.completing.Behind.{Behind}
-use Rattle.jr_notes.specs.Places.{context_of}
-use Rattle.jr_notes.specs.Fits.{FitsType, FitsExp, FitsMaybe, FitsStmt, FitsElse, FitsStmts}
+use Rattle.jr_bind_expr.specs.Places.{context_of}
+use Rattle.jr_bind_expr.specs.Fits.{FitsType, FitsExp, FitsMaybe, FitsStmt, FitsElse, FitsStmts}
 use Rattle.jr_bind.specs.Flow.{reached, unreached, behind_branches, behind_loop, StmtPasses, InnerPasses, ElsePasses, BodyPasses, ItemPasses}
 use Rattle.jr_bind.proofs.Passing.{empty_passes, eval_passes, return_passes, local_passes, loop_passes, branch_passes, block_passes, sync_passes, none_passes, some_passes, inner_passes, item_passes}
 use Rattle.jr_bind.proofs.Bodies.{own_fits_stmt, shown_fits_stmt, shown_fits_body, left_fits_stmt, falls_first, falls_second, falls_only, falls_list, falls_held, falls_item, Going, going_start, item_goes, list_ends}
-use Rattle.jr_types.specs.Trees.{flat, flats}
-use Rattle.jr_types.specs.TypedTrees.{stmt_parts, stmt_tree}
+use Rattle.jr_expr_types.specs.Trees.{flat, flats}
+use Rattle.jr_expr_types.specs.TypedTrees.{stmt_parts, stmt_tree}
 use Rattle.jr_bind.specs.TypedFlow.{else_slots, body_slots}
-use Rattle.jr_notes.proofs.TypedParts.{start as start_of, close, within}
+use Rattle.jr_bind_expr.proofs.TypedParts.{start as start_of, close, within}
 use Rattle.jr_bind.proofs.TypedPassing.{eval_slots, return_slots, loop_slots, branch_slots, block_slots, sync_slots, next_body, body_ends}
 use Rattle.jr_bind.proofs.statements.+stmt_walk.Goals as goal
 

@@ -1,9 +1,9 @@
 use Rattle.std.proofs.Common.{◌+◌, ◌*◌, ◌≡◌, ◌++◌, drop, length}
 use Rattle.jr_ast.specs.View.{stmt_of, stmts_of, else_of}
 use Rattle.jr_ast.proofs.Sizes.{stmt_size, stmts_size, else_size}
-use Rattle.jr_locals.specs.Tracked.{locals_of}
-use Rattle.jr_notes.specs.Fits.{FitsStmts}
-use Rattle.jr_notes.specs.Places.{context_of}
+use Rattle.jr_scopes.specs.Tracked.{locals_of}
+use Rattle.jr_bind_expr.specs.Fits.{FitsStmts}
+use Rattle.jr_bind_expr.specs.Places.{context_of}
 use Rattle.jr_bind.specs.TypedFlow.{body_slots}
 use Rattle.jr_bind.proofs.Bodies.{Going}
 use Rattle.jr_bind.proofs.statements.+stmt_walk.Given as goal

@@ -3,8 +3,8 @@ use Rattle.std.proofs.lemmas.Result.{IfOk-weaker}
 use Rattle.std.specs.Prelude.{option_map}
 use Rattle.jr_ast.specs.View.{expr_of, stmts_of, else_of, stmt_kind, stmt_row, held_else}
 use Rattle.jr_ast.proofs.Rows.{stmt_kind-If, stmt_kind-Block, stmt_kind-Sync}
-use Rattle.jr_types.specs.Trees.{count}
-use Rattle.jr_types.specs.TypedTrees.{stmt_parts}
+use Rattle.jr_expr_types.specs.Trees.{count}
+use Rattle.jr_expr_types.specs.TypedTrees.{stmt_parts}
 use Rattle.jr_bind.proofs.TypedPassing.{return_counted, branch_counted, block_counted, sync_counted, body_length}
 use Rattle.jr_bind.proofs.stmt_nodes.part_count.Goals as goal
 

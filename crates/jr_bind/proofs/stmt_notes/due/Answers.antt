@@ -4,7 +4,7 @@ use Rattle.jr_table.specs.Decls.{MemberKey, method, method_decl}
 use Rattle.jr_table.specs.KeyView.{member_key_of, method_key_of}
 use Rattle.jr_table.specs.Entries.{number_of, kind_of}
 use Rattle.jr_table.specs.Notes.{returned_type}
-use Rattle.jr_notes.specs.Places.{member_of, decl_of}
+use Rattle.jr_bind_expr.specs.Places.{member_of, decl_of}
 use Rattle.jr_bind.specs.StmtArms.{value_kind}
 use Rattle.jr_bind.proofs.StmtArming.{value_is, row_kind}
 use Rattle.jr_bind.proofs.stmt_notes.due.Goals as goal

@@ -4,9 +4,9 @@ use Rattle.jr_ast.specs.View.{expr_of}
 use Rattle.jr_table.specs.Binding.{value}
 use Rattle.jr_table.specs.Notes.{Note}
 use Rattle.jr_table.specs.Walks as walks
-use Rattle.jr_notes.specs.Places.{context_of, member_of}
-use Rattle.jr_notes.specs.Logs.{notes_of, Adds}
-use Rattle.jr_notes.proofs.Adding.{adds_exact, adds_before}
+use Rattle.jr_bind_expr.specs.Places.{context_of, member_of}
+use Rattle.jr_bind_expr.specs.Logs.{notes_of, Adds}
+use Rattle.jr_bind_expr.proofs.Adding.{adds_exact, adds_before}
 use Rattle.jr_bind.proofs.StmtArming.{locked_is}
 use Rattle.jr_bind.proofs.stmt_parts.lock.Goals as goal
 

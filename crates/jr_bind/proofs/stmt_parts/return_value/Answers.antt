@@ -7,10 +7,10 @@ use Rattle.jr_ast.specs.View.{expr_of}
 use Rattle.jr_table.specs.Notes.{returned_type, when, breaks}
 use Rattle.jr_table.specs.Walks as walks
 use Rattle.jr_table.specs.declared.rules.Rule.TheVariants as rule
-use Rattle.jr_notes.specs.Places.{context_of, member_of}
-use Rattle.jr_notes.specs.Logs.{notes_of, Adds}
+use Rattle.jr_bind_expr.specs.Places.{context_of, member_of}
+use Rattle.jr_bind_expr.specs.Logs.{notes_of, Adds}
 use Rattle.jr_bind.specs.StmtArms as pure
-use Rattle.jr_notes.proofs.Adding.{adds_exact}
+use Rattle.jr_bind_expr.proofs.Adding.{adds_exact}
 use Rattle.jr_bind.proofs.StmtArming.{none_due}
 use Rattle.jr_bind.proofs.stmt_parts.return_value.Goals as goal
 

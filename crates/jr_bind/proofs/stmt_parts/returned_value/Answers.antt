@@ -4,13 +4,13 @@ use Rattle.jr_ast.specs.View.{expr_of}
 use Rattle.jr_table.specs.Binding.{value}
 use Rattle.jr_table.specs.Notes.{Note}
 use Rattle.jr_table.specs.Walks as walks
-use Rattle.jr_notes.specs.Places.{context_of, member_of}
-use Rattle.jr_notes.specs.Logs.{notes_of, Adds}
+use Rattle.jr_bind_expr.specs.Places.{context_of, member_of}
+use Rattle.jr_bind_expr.specs.Logs.{notes_of, Adds}
 use Rattle.jr_bind.specs.StmtArms as pure
-use Rattle.jr_notes.proofs.Adding.{adds_exact, adds_before}
+use Rattle.jr_bind_expr.proofs.Adding.{adds_exact, adds_before}
 use Rattle.jr_table.specs.Entries.{entries_of}
 use Rattle.jr_table.specs.Notes.{returned_type}
-use Rattle.jr_notes.proofs.Rowing.{rowed}
+use Rattle.jr_bind_expr.proofs.Rowing.{rowed}
 use Rattle.jr_bind.proofs.StmtArming.{returned_is, returned_rowed}
 use Rattle.jr_bind.proofs.stmt_parts.returned_value.Goals as goal
 

@@ -8,15 +8,15 @@ use Rattle.jr_table.specs.Notes.{when, breaks}
 use Rattle.jr_table.specs.HeadNotes.{lacks_super_ctor}
 use Rattle.jr_table.specs.Walks.{args_notes, super_args_notes}
 use Rattle.jr_table.specs.declared.rules.Rule.TheVariants as rule
-use Rattle.jr_notes.specs.Places.{context_of, member_of}
-use Rattle.jr_notes.specs.Logs.{notes_of, Adds}
-use Rattle.jr_notes.specs.Fits.{FitsExps}
+use Rattle.jr_bind_expr.specs.Places.{context_of, member_of}
+use Rattle.jr_bind_expr.specs.Logs.{notes_of, Adds}
+use Rattle.jr_bind_expr.specs.Fits.{FitsExps}
 use Rattle.jr_bind.specs.PartFits.{FitsMaybeArgs}
 use Rattle.jr_bind.specs.Supers.{written_notes, super_notes}
-use Rattle.jr_notes.proofs.Adding.{adds_exact}
+use Rattle.jr_bind_expr.proofs.Adding.{adds_exact}
 use Rattle.jr_bind.specs.TypedFlow.{args_slots}
-use Rattle.jr_notes.specs.TypedSlots.{row_slots}
-use Rattle.jr_notes.proofs.Oks.{IfOk-any}
+use Rattle.jr_bind_expr.specs.TypedSlots.{row_slots}
+use Rattle.jr_bind_expr.proofs.Oks.{IfOk-any}
 use Rattle.jr_bind.proofs.supers.put_super.Goals as goal
 
 pub returns-in-None-clause-notes : goal.returns-in-None-clause-notes

@@ -6,10 +6,10 @@ use Rattle.jr_table.specs.Found.{Found}
 use Rattle.jr_table.specs.Meanings.{types_of}
 use Rattle.jr_table.specs.Notes.{found_note}
 use Rattle.jr_table.specs.Walks.{args_notes}
-use Rattle.jr_notes.specs.Places.{context_of, member_of}
-use Rattle.jr_notes.specs.Logs.{notes_of}
+use Rattle.jr_bind_expr.specs.Places.{context_of, member_of}
+use Rattle.jr_bind_expr.specs.Logs.{notes_of}
 use Rattle.jr_bind.specs.Supers.{written_notes}
-use Rattle.jr_notes.proofs.Adding.{adds_exact, adds_before}
+use Rattle.jr_bind_expr.proofs.Adding.{adds_exact, adds_before}
 use Rattle.jr_bind.proofs.supers.put_written.Goals as goal
 
 pub returns-clause-notes : goal.returns-clause-notes

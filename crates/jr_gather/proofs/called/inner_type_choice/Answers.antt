@@ -8,7 +8,7 @@ use Rattle.jr_ast.proofs.Rows.{expr_mark_is}
 use Rattle.jr_table.specs.Keys.{Ty}
 use Rattle.jr_table.specs.TypeView.{class_key_of}
 use Rattle.jr_table.specs.Binding.{value, left, statement, variable}
-use Rattle.jr_notes.proofs.Steps.{own_fits}
+use Rattle.jr_bind_expr.proofs.Steps.{own_fits}
 use Rattle.jr_respell.specs.ChoiceView.{choice_of}
 use Rattle.jr_respell.specs.Chosen as chosen
 use Rattle.jr_gather.specs.declared.here.Role.{Role}

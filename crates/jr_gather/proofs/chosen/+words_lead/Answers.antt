@@ -7,7 +7,7 @@ use Rattle.jr_ast.specs.View.{expr_of}
 use Rattle.jr_ast.proofs.Rows.{expr_mark_is}
 use Rattle.jr_ast.proofs.Sizes.{exp_size}
 use Rattle.jr_table.specs.TypeView.{class_key_of}
-use Rattle.jr_notes.proofs.Steps.{own_fits}
+use Rattle.jr_bind_expr.proofs.Steps.{own_fits}
 use Rattle.jr_gather.specs.Known.{rows_of, naming_of, context_of}
 use Rattle.jr_gather.proofs.Naming.{front_ready, front_smaller, unqualified, behind_none, behind_lost, behind_led}
 use Rattle.jr_gather.proofs.chosen.+words_lead.Goals as goal

@@ -5,7 +5,7 @@ use Rattle.jr_ast.specs.Marks.{exp_mark}
 use Rattle.jr_ast.specs.View.{word_of, expr_of}
 use Rattle.jr_ast.proofs.Rows.{expr_mark_is}
 use Rattle.jr_table.specs.TypeView.{class_key_of}
-use Rattle.jr_notes.proofs.Steps.{own_fits}
+use Rattle.jr_bind_expr.proofs.Steps.{own_fits}
 use Rattle.jr_gather.specs.Known.{rows_of, context_of}
 use Rattle.jr_gather.proofs.Naming.{named_is, unnamed, word_fits}
 use Rattle.jr_gather.proofs.meanings.named_class.Goals as goal

@@ -2,7 +2,7 @@ use Rattle.std.proofs.Common.{◌≡◌, ◌+◌, ◌∷◌, ◌++◌, [], List,
 use Rattle.std.proofs.lemmas.List.{drop_all, map-append}
 use Rattle.std.specs.Prelude.{option_map}
 use Rattle.jr_table.specs.TypeView.{ty_of}
-use Rattle.jr_notes.proofs.Steps.{left_is}
+use Rattle.jr_bind_expr.proofs.Steps.{left_is}
 use Rattle.jr_gather.specs.MeaningView.{types_of, types_from}
 use Rattle.jr_gather.proofs.Typed.{part_type, with_all, all_none, types_lost, types_go, types_end}
 use Rattle.jr_gather.proofs.meanings.part_types.Goals as goal

@@ -6,7 +6,7 @@ use Rattle.jr_ast.specs.Tree as tree
 use Rattle.jr_ast.specs.declared.names.Ident.{Ident}
 use Rattle.jr_ast.specs.View.{word_of, type_of, type_kind, expr_of, exprs_of}
 use Rattle.jr_table.specs.Binding.{value, left}
-use Rattle.jr_notes.specs.Fits.{FitsNamed, FitsType}
+use Rattle.jr_bind_expr.specs.Fits.{FitsNamed, FitsType}
 use Rattle.jr_respell.specs.ChoiceView.{choice_of}
 use Rattle.jr_respell.specs.Chosen as chosen
 use Rattle.jr_rename.specs.Spelling as spells

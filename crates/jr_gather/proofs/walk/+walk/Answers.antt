@@ -11,7 +11,7 @@ use Rattle.jr_ast.specs.View.{word_of, type_of, expr_of, exprs_of, target_of, ex
 use Rattle.jr_ast.proofs.Rows.{expr_kind-Call_to, expr_kind-SuperCall, expr_kind-New}
 use Rattle.jr_ast.proofs.Sizes.{exp_size, exps_size, target_size}
 use Rattle.jr_table.specs.Binding.{value, left}
-use Rattle.jr_notes.proofs.Steps.{own_fits, left_is}
+use Rattle.jr_bind_expr.proofs.Steps.{own_fits, left_is}
 use Rattle.jr_respell.specs.ChoiceView.{choice_of}
 use Rattle.jr_rename.specs.Spelling as spells
 use Rattle.jr_renaming.specs.Effects.{Effect}

@@ -5,9 +5,9 @@ use Rattle.jr_ast.specs.declared.parts.Param.{Param}
 use Rattle.jr_ast.specs.View.{param_of}
 use Rattle.jr_table.specs.declared.types.Ty as raw_ty
 use Rattle.jr_table.specs.TypeView.{ty_of}
-use Rattle.jr_locals.specs.Helds.{held_of}
+use Rattle.jr_scopes.specs.Helds.{held_of}
 use Rattle.jr_respell.specs.Scopes.{locals_in}
-use Rattle.jr_notes.proofs.Steps.{left_is}
+use Rattle.jr_bind_expr.proofs.Steps.{left_is}
 use Rattle.jr_bind.proofs.ParamSteps.{none_left}
 use Rattle.jr_parts.specs.Walking.{held_params}
 use Rattle.jr_parts.proofs.Placing.{Goes, goes_begin, goes_on, goes_typeless, goes_end, stays_beside, then_beside}

@@ -3,7 +3,7 @@ use Rattle.jr_text.specs.declared.spans.Span.{Span}
 use Rattle.jr_ast.specs.declared.parts.Param.{Param}
 use Rattle.jr_ast.specs.View.{param_of}
 use Rattle.jr_table.specs.HeadRules.{plain}
-use Rattle.jr_notes.proofs.Steps.{left_is}
+use Rattle.jr_bind_expr.proofs.Steps.{left_is}
 use Rattle.jr_renaming.specs.OutputView.{gathered}
 use Rattle.jr_parts.specs.Walking.{key_of, rows_of, naming_of}
 use Rattle.jr_parts.specs.Ready.{ParamsReady}

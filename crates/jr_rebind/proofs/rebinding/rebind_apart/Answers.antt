@@ -1,6 +1,6 @@
 use Rattle.std.proofs.Common.{map, subst}
 use Rattle.jr_members.specs.PartView.{written_of}
-use Rattle.jr_apart.specs.ApartView.{names_in}
+use Rattle.jr_mentions.specs.ApartView.{names_in}
 use Rattle.jr_rebind.specs.RebindSteps.{AreOfSameFiles}
 use Rattle.jr_rebind.proofs.OneByOne.{as_many}
 use Rattle.jr_rebind.proofs.Lasting.{are_rebound}

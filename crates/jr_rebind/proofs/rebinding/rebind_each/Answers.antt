@@ -1,6 +1,6 @@
 use Rattle.std.proofs.Common.{◌≡◌, ◌<◌, ◌≤◌, ◌+◌, length, arith}
 use Rattle.jr_members.specs.PartView.{written_of}
-use Rattle.jr_apart.specs.ApartView.{names_in}
+use Rattle.jr_mentions.specs.ApartView.{names_in}
 use Rattle.jr_shown.specs.Members.{CanBind}
 use Rattle.jr_shown.proofs.Membership.{each_map}
 use Rattle.jr_rebind.proofs.OneByOne.{step, last}

@@ -1,6 +1,6 @@
 use Rattle.std.proofs.Common.{◌≤◌, ◌+◌, map}
 use Rattle.jr_members.specs.PartView.{written_of}
-use Rattle.jr_apart.specs.ApartView.{names_in}
+use Rattle.jr_mentions.specs.ApartView.{names_in}
 use Rattle.jr_rebind.proofs.OneByOne.{AreReboundTo}
 use Rattle.jr_rebind.proofs.rebinding.rebind_each.Given as goal
 

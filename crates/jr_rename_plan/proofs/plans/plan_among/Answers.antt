@@ -4,7 +4,7 @@ use Rattle.std.proofs.lemmas.Result.{IfOk-weaker}
 use Rattle.jr_table.specs.KeyView.{decl_of}
 use Rattle.jr_names.specs.ReplyView.{outcome_of}
 use Rattle.jr_rename.specs.Renames as renames
-use Rattle.jr_target.specs.ProgramTargets.{HasTargetAt, LacksTargetAt}
+use Rattle.jr_cursor.specs.ProgramTargets.{HasTargetAt, LacksTargetAt}
 use Rattle.jr_rename_plan.specs.Afters.{IsAfter, AnswersAfter}
 use Rattle.jr_rename_plan.specs.Answers.{Answers}
 use Rattle.jr_rename_plan.specs.Plans.{Plans}

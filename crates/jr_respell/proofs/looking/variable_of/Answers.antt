@@ -4,7 +4,7 @@ use Rattle.std.proofs.lemmas.Result.{IfOk-weaker}
 use Rattle.jr_table.specs.FoundView.{found_of}
 use Rattle.jr_table.specs.Lookup.{FindsVariable}
 use Rattle.jr_table.specs.Context.{scope_of}
-use Rattle.jr_locals.specs.Helds.{key_of}
+use Rattle.jr_scopes.specs.Helds.{key_of}
 use Rattle.jr_respell.specs.Scopes.{rows_of, context_of, member_of}
 use Rattle.jr_respell.proofs.Kept.{own_last, moved_old}
 use Rattle.jr_respell.proofs.SimpleNames.{finds_local, finds_bare}

@@ -1,5 +1,5 @@
 use Rattle.jr_table.specs.KeyView.{decl_of}
-use Rattle.jr_apart.specs.ApartView.{names_in}
+use Rattle.jr_mentions.specs.ApartView.{names_in}
 use Rattle.jr_rewriting.proofs.Among.{among_goes, among_ends}
 use Rattle.jr_rewriting.proofs.unaffected.are_among.Goals as goal
 

@@ -1,6 +1,6 @@
 use Rattle.std.proofs.Common.{None, map}
 use Rattle.jr_table.specs.KeyView.{member_key_of}
-use Rattle.jr_locals.specs.Helds.{held_of, local_of}
+use Rattle.jr_scopes.specs.Helds.{held_of, local_of}
 use Rattle.jr_respell.specs.Scopes.{context_of}
 use Rattle.jr_respell.proofs.scopes.Scopes.begin.Goals as goal
 

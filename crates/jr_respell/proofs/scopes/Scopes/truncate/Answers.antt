@@ -1,6 +1,6 @@
 use Rattle.std.proofs.Common.{map, ap, ◌∙◌}
-use Rattle.jr_locals.specs.Helds.{held_of}
-use Rattle.jr_locals.specs.Tracked.{locals_of}
+use Rattle.jr_scopes.specs.Helds.{held_of}
+use Rattle.jr_scopes.specs.Tracked.{locals_of}
 use Rattle.jr_respell.specs.Scopes.{naming_of, member_of}
 use Rattle.jr_respell.proofs.Growing.{take_images, map_take}
 use Rattle.jr_respell.proofs.Oks.{on_both, on_any}

@@ -2,8 +2,8 @@ use Rattle.std.proofs.Common.{List, map, subst}
 use Rattle.std.specs.Prelude.{IfSome}
 use Rattle.jr_table.specs.KeyView.{decl_of}
 use Rattle.jr_table.specs.Rows.{Row}
-use Rattle.jr_apart.specs.Apart.{AreApart}
-use Rattle.jr_apart.specs.ApartView.{names_in}
+use Rattle.jr_mentions.specs.Apart.{AreApart}
+use Rattle.jr_mentions.specs.ApartView.{names_in}
 use Rattle.jr_respell.specs.Scopes.{rows_in, renaming_in}
 use Rattle.jr_rewriting.proofs.Among.{is_unaffected}
 use Rattle.jr_rewriting.proofs.unaffected.Unaffected.new.Goals as goal

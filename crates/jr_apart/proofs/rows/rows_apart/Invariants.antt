@@ -1,8 +1,0 @@
-use Rattle.jr_table.specs.RowView.{row_of}
-use Rattle.jr_apart.specs.ApartView.{names_of}
-use Rattle.jr_apart.proofs.Stepping.{FirstApart}
-use Rattle.jr_apart.proofs.Settling.{AllowsAll}
-use Rattle.jr_apart.proofs.rows.rows_apart.Given as goal
-
-abbrev pub invariant-loop-number : goal.invariant-loop-number
-invariant-loop-number l = FirstApart row_of (names_of l.apart.0) l.before l.after l.number × AllowsAll row_of (names_of l.apart.0) l.before l.after

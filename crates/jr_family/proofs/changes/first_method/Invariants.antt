@@ -1,8 +1,0 @@
-use Rattle.std.proofs.Common.{ℕ, ◌<◌}
-use Rattle.jr_table.specs.Entries.{entries_of}
-use Rattle.jr_family.specs.Changes.{ChangesAt}
-use Rattle.jr_family.proofs.changes.first_method.Given as goal
-
--- none of the rows so far
-abbrev pub invariant-loop-number : goal.invariant-loop-number
-invariant-loop-number l = (i : ℕ) → i < l.number → ChangesAt (entries_of l.old) (entries_of l.new) l.class i → ⊥

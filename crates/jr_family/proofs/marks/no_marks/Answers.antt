@@ -1,5 +1,0 @@
-use Rattle.jr_family.proofs.Marking.{none_marked}
-use Rattle.jr_family.proofs.marks.no_marks.Goals as goal
-
-pub returns : goal.returns
-returns c = none_marked c.args.count c.in_ok-marks.marks.items (c.in_ok-marks.ensures.items_if_clones_equal (λ y h. h))

@@ -1,6 +1,0 @@
-use Rattle.jr_table.specs.Entries.{entries_of}
-use Rattle.jr_family.specs.Moves.{AreMoves}
-use Rattle.jr_family.proofs.moves.moves.Given as goal
-
-abbrev pub invariant-loop-number : goal.invariant-loop-number
-invariant-loop-number l = AreMoves (entries_of l.old) (entries_of l.new) l.number l.numbers.items

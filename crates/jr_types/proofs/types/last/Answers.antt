@@ -1,7 +1,0 @@
-use Rattle.std.proofs.Common.{map, ◌∙◌}
-use Rattle.jr_types.specs.SlotView.{slot_of}
-use Rattle.jr_types.proofs.StepLaws.{last_get}
-use Rattle.jr_types.proofs.types.last.Goals as goal
-
-pub returns : goal.returns
-returns c = c.slot_at.ensures ∙ last_get (map slot_of c.args.slots.now) c.args.end c.if-end-eq0.false
