@@ -8,7 +8,7 @@ use Rattle.jr_table.specs.Decls.{MemberKey}
 use Rattle.jr_table.specs.Rows.{Row}
 use Rattle.jr_table.specs.Entries.{number_of}
 use Rattle.jr_table.specs.KeyView.{member_key_of}
-use Rattle.jr_table.specs.Sites.{sites_of}
+use Rattle.jr_table.specs.Declared.{declarations_of}
 use Rattle.jr_table.specs.Errors.{Part, InUnits}
 use Rattle.jr_members.specs.declared.keyed.WrittenMember as raw
 use Rattle.jr_members.specs.PartView.{part_of, written_of}
@@ -34,7 +34,7 @@ pub to_mapped : {X Y : Type 0} (f : X → Y) (xs : List X) (x : X) → Contains 
 to_mapped f xs x h = in_contains (map f xs) (f x) (mapped_in f xs x (contains_in xs x h))
 
 module _ {A : Type 0} (begins : A → ℕ → ℕ) (units : List (syntax.Unit A)) (rows : List Row) (members : List (WrittenMember A)) (are : AreWritten begins units rows members)
-    (P : MemberKey → (base : ℕ) → Part A → Type 0) (k : MemberKey) (written : InUnits begins (sites_of begins units) P units k) where
+    (P : MemberKey → (base : ℕ) → Part A → Type 0) (k : MemberKey) (written : InUnits begins (declarations_of begins units) P units k) where
   pub is_there : (w : WrittenMember A) × Contains members w × (w.key ≡ k) × P w.key w.base w.part
   is_there =
       let m = member_written begins units P k written in
@@ -48,8 +48,8 @@ module _ {A : Type 0} (begins : A → ℕ → ℕ) (units : List (syntax.Unit A)
       subst (λ (x : WrittenMember A). P x.key x.base x.part) (are.one v.0 w v.1 c (v.2 ∙ sym e)) v.3
 
   -- and what holds of it holds of a member that is written
-  pub is_member : (Q : MemberKey → (base : ℕ) → Part A → Type 0) (w : WrittenMember A) → Contains members w → w.key ≡ k → Q w.key w.base w.part → InUnits begins (sites_of begins units) Q units k
-  is_member Q w c e has = subst (InUnits begins (sites_of begins units) Q units) e (written_member begins units Q w.file w.key w.base w.part (are.each w c) has)
+  pub is_member : (Q : MemberKey → (base : ℕ) → Part A → Type 0) (w : WrittenMember A) → Contains members w → w.key ≡ k → Q w.key w.base w.part → InUnits begins (declarations_of begins units) Q units k
+  is_member Q w c e has = subst (InUnits begins (declarations_of begins units) Q units) e (written_member begins units Q w.file w.key w.base w.part (are.each w c) has)
 
 pub is_some_where : {X : Type 0} (o : Option X) (P : Type 0) (Q : X → Type 0) → MatchOption o P Q → (P → ⊥) → IsSome o
 is_some_where None P Q h n = absurd (n h)
@@ -57,7 +57,7 @@ is_some_where (Some x) P Q h n = refl
 
 -- the same of the Rust values that stand for the members
 module _ {A : Type 0} (begins : A → ℕ → ℕ) (units : List (syntax.Unit A)) (rows : List Row) (raws : List (raw.WrittenMember A)) (are : AreWritten begins units rows (map written_of raws))
-    (P : MemberKey → (base : ℕ) → Part A → Type 0) (k : MemberKey) (written : InUnits begins (sites_of begins units) P units k) where
+    (P : MemberKey → (base : ℕ) → Part A → Type 0) (k : MemberKey) (written : InUnits begins (declarations_of begins units) P units k) where
   abbrev Is : raw.WrittenMember A → Type 0
   Is w = Contains raws w × (member_key_of w.key ≡ k)
 
@@ -73,5 +73,5 @@ module _ {A : Type 0} (begins : A → ℕ → ℕ) (units : List (syntax.Unit A)
   pub found_has : (w : raw.WrittenMember A) → Is w → P (member_key_of w.key) w.base (part_of w.part)
   found_has w is = has_it begins units rows (map written_of raws) are P k written (written_of w) (to_mapped written_of raws w is.0) is.1
 
-  pub found_is : (Q : MemberKey → (base : ℕ) → Part A → Type 0) (w : raw.WrittenMember A) → Is w → Q (member_key_of w.key) w.base (part_of w.part) → InUnits begins (sites_of begins units) Q units k
+  pub found_is : (Q : MemberKey → (base : ℕ) → Part A → Type 0) (w : raw.WrittenMember A) → Is w → Q (member_key_of w.key) w.base (part_of w.part) → InUnits begins (declarations_of begins units) Q units k
   found_is Q w is has = is_member begins units rows (map written_of raws) are P k written Q (written_of w) (to_mapped written_of raws w is.0) is.1 has

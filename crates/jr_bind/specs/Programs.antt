@@ -22,7 +22,7 @@ use Rattle.jr_grammar.specs.Reads.{ReadsWithSpans}
 use Rattle.jr_table.specs.Decls.{MemberKey}
 use Rattle.jr_table.specs.Rows.{Row}
 use Rattle.jr_table.specs.Conditions.{AreRows}
-use Rattle.jr_table.specs.Sites.{sites_of}
+use Rattle.jr_table.specs.Declared.{declarations_of}
 use Rattle.jr_table.specs.ProgramRows.{AreProgramRows}
 use Rattle.jr_table.specs.Faults.{IsClean}
 use Rattle.jr_table.specs.Errors.{part_mark, IsSound}
@@ -78,8 +78,8 @@ module _ {A : Type 0} (tells : A → ℕ → Span) (Fits : A → ℕ → Type 0)
         → FitsWhole (begins_by tells) Fits w.base w.part
     -- the rows are those of the files, which have no fault of classes and members
     pub are_rows : AreRows p.rows
-    pub rows : AreProgramRows (sites_of (begins_by tells) (units_of p)) p.rows
-    pub clean : IsClean [] (sites_of (begins_by tells) (units_of p))
+    pub rows : AreProgramRows (declarations_of (begins_by tells) (units_of p)) p.rows
+    pub clean : IsClean [] (declarations_of (begins_by tells) (units_of p))
     -- no member breaks a rule
     pub sound : IsSound (begins_by tells) p.rows p.super_at (units_of p)
     pub supers : (w : WrittenMember A) → Contains (members_of p) w → HasSuperPlace p w

@@ -10,7 +10,7 @@ ghost use Rattle.jr_table.specs.Errors.{part_mark, InUnits};
 ghost use Rattle.jr_table.specs.ErrorLists.{errors_of_log};
 ghost use Rattle.jr_table.specs.KeyView.{member_key_of};
 ghost use Rattle.jr_table.specs.ProgramRows.{AreProgramRows};
-ghost use Rattle.jr_table.specs.Sites.{sites_of};
+ghost use Rattle.jr_table.specs.Declared.{declarations_of};
 ghost use Rattle.jr_table.specs.Walks.{part_notes};
 ghost use Rattle.jr_members.specs.Fitting.{begins_by, UnitsFit};
 ghost use Rattle.jr_members.specs.PartView.{part_of};
@@ -176,15 +176,15 @@ pub fn bind_member<A: Mark, L: Ledger>(
 ) -> Result<Bound, AllocError>
     requires few { length units.now < 2 ^ 32 }
     requires fits { UnitsFit (begins_by A.span_from) A.fits_at (map unit_of units.now) }
-    requires rows { AreProgramRows (sites_of (begins_by A.span_from) (map unit_of units.now))
+    requires rows { AreProgramRows (declarations_of (begins_by A.span_from) (map unit_of units.now))
         table.now }
     requires written { InUnits (begins_by A.span_from)
-        (sites_of (begins_by A.span_from) (map unit_of units.now))
+        (declarations_of (begins_by A.span_from) (map unit_of units.now))
         (λ k base part. FitsWhole (begins_by A.span_from) A.fits_at base part
         × BindsOnce (begins_by A.span_from) table.now super_at k base part)
         (map unit_of units.now) (member_key_of member.now) }
     ensures bound { IfOk result (λ b. InUnits (begins_by A.span_from)
-        (sites_of (begins_by A.span_from) (map unit_of units.now))
+        (declarations_of (begins_by A.span_from) (map unit_of units.now))
         (λ k base part. IsBound (begins_by A.span_from) table.now super_at k base part b)
         (map unit_of units.now) (member_key_of member.now)) }
     ensures step { steps.new ≡ steps.old + 1 }

@@ -9,7 +9,7 @@ use Rattle.jr_table.specs.declared.kinds.DeclKind.TheVariants as kind
 use Rattle.jr_table.specs.Entries.{is_private_word}
 use Rattle.jr_table.specs.Keys.{ClassKey}
 use Rattle.jr_table.specs.Prelude.{top_key, object_key}
-use Rattle.jr_table.specs.Sites.{ClassSite, Item, class_item, field_item, method_item, ctor_item, Site}
+use Rattle.jr_table.specs.Declared.{DeclaredClass, Item, class_item, field_item, method_item, ctor_item, DeclaredItem}
 use Rattle.jr_table.specs.Resolving.{HasWord, DeclaresClass, IsDeclared, IsTopClass, IsPreludeClass, IsPreludeSubclass, IsPrivateClass}
 use Rattle.jr_table.specs.Faults.{At, Place, HasFault}
 use Rattle.jr_build.specs.KeyIndex.{class_key_at}
@@ -22,20 +22,20 @@ inside x y e = cc
 abbrev pub within : List (Option ClassKey) → ℕ → Option ClassKey
 within ks j = option_and_then (λ k. k) (slice_get ks j)
 
--- site j declares class k
-abbrev pub Declares : List Site → ℕ → ClassKey → Type 0
-Declares sites j k = (file : ℕ) × (c : ClassSite) × At sites j file (class_item c) × (c.key ≡ k)
+-- declaration j declares class k
+abbrev pub Declares : List DeclaredItem → ℕ → ClassKey → Type 0
+Declares declarations j k = (file : ℕ) × (c : DeclaredClass) × At declarations j file (class_item c) × (c.key ≡ k)
 
 -- class k is the prelude's, with number m among its classes
 abbrev pub IsPreludeAt : ℕ → ClassKey → Type 0
 IsPreludeAt m k = within prelude_classes m ≡ Some k
 
-declares_more : (s : Site) (ss : List Site) (j : ℕ) (k : ClassKey) → Declares ss j k → Declares (s ∷ ss) (suc j) k
+declares_more : (s : DeclaredItem) (ss : List DeclaredItem) (j : ℕ) (k : ClassKey) → Declares ss j k → Declares (s ∷ ss) (suc j) k
 declares_more s ss j k (file, c, at, e) = (file, c, record { stands = at.stands }, e)
 
 -- the class of a number
-pub split : (sites : List Site) (j : ℕ) (k : ClassKey) → within (class_keys sites) j ≡ Some k
-    → Declares sites j k ⊎ ((m : ℕ) × (j ≡ length sites + m) × IsPreludeAt m k)
+pub split : (declarations : List DeclaredItem) (j : ℕ) (k : ClassKey) → within (class_keys declarations) j ≡ Some k
+    → Declares declarations j k ⊎ ((m : ℕ) × (j ≡ length declarations + m) × IsPreludeAt m k)
 split [] j k h = inr (j, omega arith, h)
 split (s ∷ ss) zero k h = inl (by s.item refl h)
   where
@@ -51,13 +51,13 @@ split (s ∷ ss) (suc j) k h = by (split ss j k h)
     by (inl d) = inl (declares_more s ss j k d)
     by (inr (m, e, p)) = inr (m, omega (arith, e), p)
 
-pub stands_at : (sites : List Site) (j file : ℕ) (c : ClassSite) → slice_get sites j ≡ Some (record { file = file; item = class_item c })
-    → within (class_keys sites) j ≡ Some c.key
+pub stands_at : (declarations : List DeclaredItem) (j file : ℕ) (c : DeclaredClass) → slice_get declarations j ≡ Some (record { file = file; item = class_item c })
+    → within (class_keys declarations) j ≡ Some c.key
 stands_at [] j file c h = absurd cc
-stands_at (s ∷ ss) zero file c h = ap (λ (x : Site). class_key_at x.item) (inside _ _ h)
+stands_at (s ∷ ss) zero file c h = ap (λ (x : DeclaredItem). class_key_at x.item) (inside _ _ h)
 stands_at (s ∷ ss) (suc j) file c h = stands_at ss j file c h
 
-pub prelude_stands : (sites : List Site) (m : ℕ) (k : ClassKey) → IsPreludeAt m k → within (class_keys sites) (length sites + m) ≡ Some k
+pub prelude_stands : (declarations : List DeclaredItem) (m : ℕ) (k : ClassKey) → IsPreludeAt m k → within (class_keys declarations) (length declarations + m) ≡ Some k
 prelude_stands [] m k h = let e : 0 + m ≡ m = omega arith in ap (within prelude_classes) e ∙ h
 prelude_stands (s ∷ ss) m k h = let e : suc (length ss) + m ≡ suc (length ss + m) = omega arith in ap (within (class_keys (s ∷ ss))) e ∙ prelude_stands ss m k h
 
@@ -171,22 +171,22 @@ any_private (w ∷ ws) (inr h) = by (is_private_word w) (any_private ws h)
     by true e = refl
     by false e = e
 
-private_at : (sites : List Site) (j file : ℕ) (c : ClassSite) → slice_get sites j ≡ Some (record { file = file; item = class_item c })
-    → unwrap_or (slice_get (privates_of sites) j) false ≡ list_any is_private_word c.modifiers
+private_at : (declarations : List DeclaredItem) (j file : ℕ) (c : DeclaredClass) → slice_get declarations j ≡ Some (record { file = file; item = class_item c })
+    → unwrap_or (slice_get (privates_of declarations) j) false ≡ list_any is_private_word c.modifiers
 private_at [] j file c h = absurd cc
-private_at (s ∷ ss) zero file c h = ap (λ (x : Site). is_private_item x.item) (inside _ _ h)
+private_at (s ∷ ss) zero file c h = ap (λ (x : DeclaredItem). is_private_item x.item) (inside _ _ h)
 private_at (s ∷ ss) (suc j) file c h = private_at ss j file c h
 
-none_behind : (sites : List Site) (m : ℕ) → unwrap_or (slice_get (privates_of sites) (length sites + m)) false ≡ false
+none_behind : (declarations : List DeclaredItem) (m : ℕ) → unwrap_or (slice_get (privates_of declarations) (length declarations + m)) false ≡ false
 none_behind [] m = refl
 none_behind (s ∷ ss) m = let e : suc (length ss) + m ≡ suc (length ss + m) = omega arith in ap (λ n. unwrap_or (slice_get (privates_of (s ∷ ss)) n) false) e ∙ none_behind ss m
 
-module _ (sites : List Site) (unique : AreUnique sites) where
+module _ (declarations : List DeclaredItem) (unique : AreUnique declarations) where
   order : (a b : ℕ) → ((a < b) ⊎ (b < a)) ⊎ (a ≡ b)
   order a b = grind arith
 
-  -- one site declares a class
-  one_declares : (i j : ℕ) (k : ClassKey) → Declares sites i k → Declares sites j k → i ≡ j
+  -- one declaration declares a class
+  one_declares : (i j : ℕ) (k : ClassKey) → Declares declarations i k → Declares declarations j k → i ≡ j
   one_declares i j k (f, c, a, e) (g, d, b, e') = by (order i j)
     where
       by : (((i < j) ⊎ (j < i)) ⊎ (i ≡ j)) → i ≡ j
@@ -194,40 +194,40 @@ module _ (sites : List Site) (unique : AreUnique sites) where
       by (inl (inl lt)) = absurd (unique.once (record { file = g; at = d.at }) (j, d, b, refl, inl (i, f, c, lt, a, e ∙ sym e')))
       by (inl (inr lt)) = absurd (unique.once (record { file = f; at = c.at }) (i, c, a, refl, inl (j, g, d, lt, b, e' ∙ sym e)))
 
-  pub not_reserved : (j : ℕ) (k : ClassKey) → Declares sites j k → IsPreludeClass k.name → ⊥
+  pub not_reserved : (j : ℕ) (k : ClassKey) → Declares declarations j k → IsPreludeClass k.name → ⊥
   not_reserved j k (f, c, a, e) is = unique.unreserved (record { file = f; at = c.at }) (j, c, a, inl (subst (λ (x : ClassKey). IsPreludeClass x.name) (sym e) is), refl)
 
-  pub one_number : (i j : ℕ) (k : ClassKey) → within (class_keys sites) i ≡ Some k → within (class_keys sites) j ≡ Some k → i ≡ j
-  one_number i j k a b = by (split sites i k a) (split sites j k b)
+  pub one_number : (i j : ℕ) (k : ClassKey) → within (class_keys declarations) i ≡ Some k → within (class_keys declarations) j ≡ Some k → i ≡ j
+  one_number i j k a b = by (split declarations i k a) (split declarations j k b)
     where
-      by : (Declares sites i k ⊎ ((m : ℕ) × (i ≡ length sites + m) × IsPreludeAt m k)) → (Declares sites j k ⊎ ((m : ℕ) × (j ≡ length sites + m) × IsPreludeAt m k)) → i ≡ j
+      by : (Declares declarations i k ⊎ ((m : ℕ) × (i ≡ length declarations + m) × IsPreludeAt m k)) → (Declares declarations j k ⊎ ((m : ℕ) × (j ≡ length declarations + m) × IsPreludeAt m k)) → i ≡ j
       by (inl d) (inl e) = one_declares i j k d e
       by (inl d) (inr (n, e, p)) = absurd (not_reserved i k d (prelude_class n k p).1)
       by (inr (m, e, p)) (inl d) = absurd (not_reserved j k d (prelude_class m k p).1)
-      by (inr (m, e, p)) (inr (n, f, q)) = e ∙ ap (λ x. length sites + x) (prelude_once m n k p q) ∙ sym f
+      by (inr (m, e, p)) (inr (n, f, q)) = e ∙ ap (λ x. length declarations + x) (prelude_once m n k p q) ∙ sym f
 
--- one number has one site
-pub one_site : (sites : List Site) (n f g : ℕ) (x y : Item) → slice_get sites n ≡ Some (record { file = f; item = x }) → slice_get sites n ≡ Some (record { file = g; item = y }) → (f ≡ g) × (x ≡ y)
-one_site sites n f g x y h k =
+-- one number has one declaration
+pub one_declaration : (declarations : List DeclaredItem) (n f g : ℕ) (x y : Item) → slice_get declarations n ≡ Some (record { file = f; item = x }) → slice_get declarations n ≡ Some (record { file = g; item = y }) → (f ≡ g) × (x ≡ y)
+one_declaration declarations n f g x y h k =
     let s = inside _ _ (sym h ∙ k) in
-    (ap (λ (z : Site). z.file) s, ap (λ (z : Site). z.item) s)
+    (ap (λ (z : DeclaredItem). z.file) s, ap (λ (z : DeclaredItem). z.item) s)
 
-pub class_in : Item → ClassSite → ClassSite
+pub class_in : Item → DeclaredClass → DeclaredClass
 class_in (class_item c) d = c
 class_in _ d = d
 
-pub same_class_site : (c d : ClassSite) → class_item c ≡ class_item d → c ≡ d
-same_class_site c d e = cc
+pub same_class_declaration : (c d : DeclaredClass) → class_item c ≡ class_item d → c ≡ d
+same_class_declaration c d e = cc
 
-module _ (sites : List Site) (h : Hierarchy) (has : HasClasses sites h) where
-  pub to_within : (j : ℕ) (k : ClassKey) → key_at h j ≡ Some k → within (class_keys sites) j ≡ Some k
+module _ (declarations : List DeclaredItem) (h : Hierarchy) (has : HasClasses declarations h) where
+  pub to_within : (j : ℕ) (k : ClassKey) → key_at h j ≡ Some k → within (class_keys declarations) j ≡ Some k
   to_within j k e = ap (λ ks. within ks j) (sym has.keys) ∙ e
 
-  pub from_within : (j : ℕ) (k : ClassKey) → within (class_keys sites) j ≡ Some k → key_at h j ≡ Some k
+  pub from_within : (j : ℕ) (k : ClassKey) → within (class_keys declarations) j ≡ Some k → key_at h j ≡ Some k
   from_within j k e = ap (λ ks. within ks j) has.keys ∙ e
 
   pub same_number : (i j : ℕ) (k : ClassKey) → key_at h i ≡ Some k → key_at h j ≡ Some k → i ≡ j
-  same_number i j k a b = one_number sites has.unique i j k (to_within i k a) (to_within j k b)
+  same_number i j k a b = one_number declarations has.unique i j k (to_within i k a) (to_within j k b)
 
   pub number_has : (k : ClassKey) (j : ℕ) → h.number k ≡ Some j → key_at h j ≡ Some k
   number_has k j e = subst (λ o. MatchOption o ((i : ℕ) → key_at h i ≡ Some k → ⊥) (λ i. key_at h i ≡ Some k)) e (has.finds k)
@@ -243,61 +243,61 @@ module _ (sites : List Site) (h : Hierarchy) (has : HasClasses sites h) where
       by (Some i) n = n ∙ ap Some (same_number i j k (number_has k i n) e)
 
   -- declared classes
-  pub declared_number : (k : ClassKey) (c : ClassSite) (d : DeclaresClass sites k c) → key_at h d.number ≡ Some k
-  declared_number k c d = from_within d.number k (stands_at sites d.number d.file c d.stands ∙ ap Some d.is)
+  pub declared_number : (k : ClassKey) (c : DeclaredClass) (d : DeclaresClass declarations k c) → key_at h d.number ≡ Some k
+  declared_number k c d = from_within d.number k (stands_at declarations d.number d.file c d.stands ∙ ap Some d.is)
 
-  pub is_declared : (k : ClassKey) → IsDeclared sites k → (j : ℕ) × (key_at h j ≡ Some k)
+  pub is_declared : (k : ClassKey) → IsDeclared declarations k → (j : ℕ) × (key_at h j ≡ Some k)
   is_declared k (c, d) = (d.number, declared_number k c d)
 
-  pub declares_class : (j : ℕ) (k : ClassKey) → Declares sites j k → IsDeclared sites k
+  pub declares_class : (j : ℕ) (k : ClassKey) → Declares declarations j k → IsDeclared declarations k
   declares_class j k (f, c, a, e) = (c, record { number = j; file = f; stands = a.stands; is = e })
 
-  pub one_class : (k : ClassKey) (c d : ClassSite) → DeclaresClass sites k c → DeclaresClass sites k d → c ≡ d
+  pub one_class : (k : ClassKey) (c d : DeclaredClass) → DeclaresClass declarations k c → DeclaresClass declarations k d → c ≡ d
   one_class k c d a b =
       let e = same_number a.number b.number k (declared_number k c a) (declared_number k d b) in
-      same_class_site c d (one_site sites b.number a.file b.file (class_item c) (class_item d) (ap (slice_get sites) (sym e) ∙ a.stands) b.stands).1
+      same_class_declaration c d (one_declaration declarations b.number a.file b.file (class_item c) (class_item d) (ap (slice_get declarations) (sym e) ∙ a.stands) b.stands).1
 
   -- the classes of numbers
-  pub declares_at : (j : ℕ) (k : ClassKey) → key_at h j ≡ Some k → Declares sites j k ⊎ ((m : ℕ) × (j ≡ length sites + m) × IsPreludeAt m k)
-  declares_at j k e = split sites j k (to_within j k e)
+  pub declares_at : (j : ℕ) (k : ClassKey) → key_at h j ≡ Some k → Declares declarations j k ⊎ ((m : ℕ) × (j ≡ length declarations + m) × IsPreludeAt m k)
+  declares_at j k e = split declarations j k (to_within j k e)
 
   top_eta : (k : ClassKey) → k.outer ≡ None → k ≡ top_key k.name
   top_eta k e = λ i. record { outer = e i; name = k.name }
 
-  pub top_class : (j : ℕ) (name : List ℕ) → key_at h j ≡ Some (top_key name) → IsTopClass sites name
+  pub top_class : (j : ℕ) (name : List ℕ) → key_at h j ≡ Some (top_key name) → IsTopClass declarations name
   top_class j name e = by (declares_at j (top_key name) e)
     where
-      by : (Declares sites j (top_key name) ⊎ ((m : ℕ) × (j ≡ length sites + m) × IsPreludeAt m (top_key name))) → IsTopClass sites name
+      by : (Declares declarations j (top_key name) ⊎ ((m : ℕ) × (j ≡ length declarations + m) × IsPreludeAt m (top_key name))) → IsTopClass declarations name
       by (inl d) = inl (declares_class j (top_key name) d)
       by (inr (m, e, p)) = inr (prelude_class m (top_key name) p).1
 
-  pub top_number : (name : List ℕ) → IsTopClass sites name → (j : ℕ) × (key_at h j ≡ Some (top_key name))
+  pub top_number : (name : List ℕ) → IsTopClass declarations name → (j : ℕ) × (key_at h j ≡ Some (top_key name))
   top_number name (inl d) = is_declared (top_key name) d
   top_number name (inr p) =
       let m = prelude_has name p in
-      (length sites + m.0, from_within (length sites + m.0) (top_key name) (prelude_stands sites m.0 (top_key name) m.1))
+      (length declarations + m.0, from_within (length declarations + m.0) (top_key name) (prelude_stands declarations m.0 (top_key name) m.1))
 
-  pub inner_declared : (j : ℕ) (k : ClassKey) (outer : List ℕ) → key_at h j ≡ Some k → k.outer ≡ Some outer → Declares sites j k
+  pub inner_declared : (j : ℕ) (k : ClassKey) (outer : List ℕ) → key_at h j ≡ Some k → k.outer ≡ Some outer → Declares declarations j k
   inner_declared j k outer e some = by (declares_at j k e)
     where
-      by : (Declares sites j k ⊎ ((m : ℕ) × (j ≡ length sites + m) × IsPreludeAt m k)) → Declares sites j k
+      by : (Declares declarations j k ⊎ ((m : ℕ) × (j ≡ length declarations + m) × IsPreludeAt m k)) → Declares declarations j k
       by (inl d) = d
       by (inr (m, e, p)) = let n = (prelude_class m k p).0 in absurd cc
 
   -- privacy
-  is_private : (j : ℕ) → is_private_at h j ≡ unwrap_or (slice_get (privates_of sites) j) false
+  is_private : (j : ℕ) → is_private_at h j ≡ unwrap_or (slice_get (privates_of declarations) j) false
   is_private j = ap (λ ps. unwrap_or (slice_get ps j) false) has.privates
 
-  pub private_class : (j : ℕ) (k : ClassKey) → key_at h j ≡ Some k → is_private_at h j ≡ true → IsPrivateClass sites k
+  pub private_class : (j : ℕ) (k : ClassKey) → key_at h j ≡ Some k → is_private_at h j ≡ true → IsPrivateClass declarations k
   private_class j k e t = by (declares_at j k e)
     where
-      by : (Declares sites j k ⊎ ((m : ℕ) × (j ≡ length sites + m) × IsPreludeAt m k)) → IsPrivateClass sites k
-      by (inl (f, c, a, is)) = (c, record { number = j; file = f; stands = a.stands; is = is }, has_private c.modifiers (sym (private_at sites j f c a.stands) ∙ sym (is_private j) ∙ t))
+      by : (Declares declarations j k ⊎ ((m : ℕ) × (j ≡ length declarations + m) × IsPreludeAt m k)) → IsPrivateClass declarations k
+      by (inl (f, c, a, is)) = (c, record { number = j; file = f; stands = a.stands; is = is }, has_private c.modifiers (sym (private_at declarations j f c a.stands) ∙ sym (is_private j) ∙ t))
       by (inr (m, same, p)) =
-          let f : is_private_at h j ≡ false = is_private j ∙ ap (λ n. unwrap_or (slice_get (privates_of sites) n) false) same ∙ none_behind sites m in
+          let f : is_private_at h j ≡ false = is_private j ∙ ap (λ n. unwrap_or (slice_get (privates_of declarations) n) false) same ∙ none_behind declarations m in
           absurd cc
 
-  pub class_private : (j : ℕ) (k : ClassKey) → key_at h j ≡ Some k → IsPrivateClass sites k → is_private_at h j ≡ true
+  pub class_private : (j : ℕ) (k : ClassKey) → key_at h j ≡ Some k → IsPrivateClass declarations k → is_private_at h j ≡ true
   class_private j k e (c, d, w) =
       let same = same_number d.number j k (declared_number k c d) e in
-      ap (is_private_at h) (sym same) ∙ is_private d.number ∙ private_at sites d.number d.file c d.stands ∙ any_private c.modifiers w
+      ap (is_private_at h) (sym same) ∙ is_private d.number ∙ private_at declarations d.number d.file c d.stands ∙ any_private c.modifiers w

@@ -4,12 +4,12 @@ use Rattle.std.specs.Prelude.{◌⊎◌, Result, Ok, Err, OnOk, IfOk, IfErr}
 use Rattle.jr_build.specs.declared.faults.BuildFault.{BuildFault}
 use Rattle.jr_table.specs.declared.kinds.DeclKind.{DeclKind}
 use Rattle.jr_table.specs.declared.kinds.DeclKind.TheVariants as kind
-use Rattle.jr_table.specs.Sites.{Site}
+use Rattle.jr_table.specs.Declared.{DeclaredItem}
 use Rattle.jr_table.specs.Faults.{Place, PackageLine, HasFault, IsFirstFault, IsClean, IsUpTo, rank_of}
 use Rattle.jr_build.specs.Builds.{IsCleanBelow}
 use Rattle.jr_build.specs.Places.{IsEarliest}
 
-module _ (packages : List (Option PackageLine)) (sites : List Site) where
+module _ (packages : List (Option PackageLine)) (declarations : List DeclaredItem) where
   -- each rank is of one kind
   kind_of : ℕ → DeclKind
   kind_of (suc zero) = kind.PackageDiffers
@@ -23,7 +23,7 @@ module _ (packages : List (Option PackageLine)) (sites : List Site) where
   kind_of (suc (suc (suc (suc (suc (suc (suc (suc (suc zero))))))))) = kind.BadModifiers
   kind_of _ = kind.StaticInit
 
-  of_rank : (k : DeclKind) → kind_of (rank_of packages sites k) ≡ k
+  of_rank : (k : DeclKind) → kind_of (rank_of packages declarations k) ≡ k
   unfolding kind_of
   of_rank kind.PackageDiffers = refl
   of_rank kind.PreludeName = refl
@@ -36,38 +36,38 @@ module _ (packages : List (Option PackageLine)) (sites : List Site) where
   of_rank kind.BadModifiers = refl
   of_rank kind.StaticInit = refl
 
-  pub same_kind : (j k : DeclKind) → rank_of packages sites j ≡ rank_of packages sites k → j ≡ k
+  pub same_kind : (j k : DeclKind) → rank_of packages declarations j ≡ rank_of packages declarations k → j ≡ k
   same_kind j k e = sym (of_rank j) ∙ ap kind_of e ∙ of_rank k
 
   split : (m n : ℕ) → m < n + 1 → (m < n) ⊎ (m ≡ n)
   split m n h = grind arith
 
   -- one kind more has no fault
-  pub next_clean : (k : DeclKind) → IsCleanBelow packages sites (rank_of packages sites k) → IsEarliest (HasFault packages sites k) None
-      → IsCleanBelow packages sites (rank_of packages sites k + 1)
-  next_clean k below none l p lt has = elim (split (rank_of packages sites l) (rank_of packages sites k) lt) [
+  pub next_clean : (k : DeclKind) → IsCleanBelow packages declarations (rank_of packages declarations k) → IsEarliest (HasFault packages declarations k) None
+      → IsCleanBelow packages declarations (rank_of packages declarations k + 1)
+  next_clean k below none l p lt has = elim (split (rank_of packages declarations l) (rank_of packages declarations k) lt) [
     | inl less ↦ below l p less has
-    | inr same ↦ none p (subst (λ m. HasFault packages sites m p) (same_kind l k same) has)
+    | inr same ↦ none p (subst (λ m. HasFault packages declarations m p) (same_kind l k same) has)
   ]
 
   or_less : (m n : ℕ) → (n ≤ m) ⊎ (m < n)
   or_less m n = grind arith
 
-  pub first_fault : (k : DeclKind) (p : Place) → IsCleanBelow packages sites (rank_of packages sites k) → IsEarliest (HasFault packages sites k) (Some p)
-      → IsFirstFault packages sites k p
+  pub first_fault : (k : DeclKind) (p : Place) → IsCleanBelow packages declarations (rank_of packages declarations k) → IsEarliest (HasFault packages declarations k) (Some p)
+      → IsFirstFault packages declarations k p
   first_fault k p below earliest = record {
     has = earliest.0;
-    lowest = λ l q has. elim (or_less (rank_of packages sites l) (rank_of packages sites k)) [
+    lowest = λ l q has. elim (or_less (rank_of packages declarations l) (rank_of packages declarations k)) [
       | inl le ↦ le
       | inr less ↦ absurd (below l q less has)
     ];
     first = earliest.1;
   }
 
-  pub none_first : IsCleanBelow packages sites 1
+  pub none_first : IsCleanBelow packages declarations 1
   none_first k p lt has = by k lt
     where
-      by : (l : DeclKind) → rank_of packages sites l < 1 → ⊥
+      by : (l : DeclKind) → rank_of packages declarations l < 1 → ⊥
       by kind.PackageDiffers h = omega (arith, h)
       by kind.PreludeName h = omega (arith, h)
       by kind.TwiceClass h = omega (arith, h)
@@ -79,10 +79,10 @@ module _ (packages : List (Option PackageLine)) (sites : List Site) where
       by kind.BadModifiers h = omega (arith, h)
       by kind.StaticInit h = omega (arith, h)
 
-  pub all_clean : IsCleanBelow packages sites 11 → IsClean packages sites
+  pub all_clean : IsCleanBelow packages declarations 11 → IsClean packages declarations
   all_clean below k p has = below k p (by k) has
     where
-      by : (l : DeclKind) → rank_of packages sites l < 11
+      by : (l : DeclKind) → rank_of packages declarations l < 11
       by kind.PackageDiffers = omega arith
       by kind.PreludeName = omega arith
       by kind.TwiceClass = omega arith

@@ -1,12 +1,12 @@
--- The earliest place that has a property, found site by site.
+-- The earliest place that has a property, found declaration by declaration.
 use Rattle.std.proofs.Common.{◌≡◌, ℕ, zero, suc, ◌+◌, ◌<◌, ◌≤◌, List, [], ◌∷◌, length, get_or, map, Option, Some, None, refl, sym, ap, subst, ◌∙◌, inl, inr, arith}
 use Rattle.std.specs.Prelude.{slice_get, ◌⊎◌, ◌↔◌}
 use Rattle.std.proofs.lemmas.Option.{slice_get_within}
 use Rattle.jr_table.specs.Faults.{Place, IsUpTo}
 use Rattle.jr_build.specs.Places.{IsEarliest, IsEarlier, within_file}
-use Rattle.jr_table.specs.Sites.{Item, Site}
+use Rattle.jr_table.specs.Declared.{Item, DeclaredItem}
 use Rattle.jr_table.specs.Faults.{At}
-use Rattle.jr_build.specs.SiteFaults.{IsLeastAt, Among}
+use Rattle.jr_build.specs.DeclarationFaults.{IsLeastAt, Among}
 
 up_to_on : (p q r : Place) → IsUpTo p q → IsUpTo q r → IsUpTo p r
 up_to_on p q r (inl a) (inl b) = inl (omega (arith, a, b))
@@ -45,42 +45,42 @@ map_stands f (y ∷ ys) (suc i) x lt e = map_stands f ys i x (omega arith) e
 pub inside : {X : Type 0} (x y : X) → Some x ≡ Some y → x ≡ y
 inside x y e = cc
 
--- one number has one site
-pub one_site : (sites : List Site) (n f g : ℕ) (x y : Item) → slice_get sites n ≡ Some (record { file = f; item = x }) → slice_get sites n ≡ Some (record { file = g; item = y }) → (f ≡ g) × (x ≡ y)
-one_site sites n f g x y h k =
+-- one number has one declaration
+pub one_declaration : (declarations : List DeclaredItem) (n f g : ℕ) (x y : Item) → slice_get declarations n ≡ Some (record { file = f; item = x }) → slice_get declarations n ≡ Some (record { file = g; item = y }) → (f ≡ g) × (x ≡ y)
+one_declaration declarations n f g x y h k =
     let s = inside _ _ (sym h ∙ k) in
-    (ap (λ (z : Site). z.file) s, ap (λ (z : Site). z.item) s)
+    (ap (λ (z : DeclaredItem). z.file) s, ap (λ (z : DeclaredItem). z.item) s)
 
-module _ (sites : List Site) (Fault : ℕ → Item → ℕ → Type 0) where
+module _ (declarations : List DeclaredItem) (Fault : ℕ → Item → ℕ → Type 0) where
   split : (m n : ℕ) → m < n + 1 → (m < n) ⊎ (m ≡ n)
   split m n h = grind arith
 
-  pub none_among : IsEarliest (Among sites Fault 0) None
+  pub none_among : IsEarliest (Among declarations Fault 0) None
   none_among p h = let l = h.below in omega arith
 
-  -- one site more
-  pub one_more : (n file : ℕ) (item : Item) (best : Option Place) (here : Option ℕ) (r : Option Place) → slice_get sites n ≡ Some (record { file = file; item = item })
-      → IsEarliest (Among sites Fault n) best → IsLeastAt (Fault n item) here → IsEarlier best (within_file file here) r → IsEarliest (Among sites Fault (n + 1)) r
+  -- one declaration more
+  pub one_more : (n file : ℕ) (item : Item) (best : Option Place) (here : Option ℕ) (r : Option Place) → slice_get declarations n ≡ Some (record { file = file; item = item })
+      → IsEarliest (Among declarations Fault n) best → IsLeastAt (Fault n item) here → IsEarlier best (within_file file here) r → IsEarliest (Among declarations Fault (n + 1)) r
   one_more n file item best here r at so_far own e =
-      same_property (λ p. Among sites Fault n p ⊎ ((p.file ≡ file) × Fault n item p.at)) (Among sites Fault (n + 1)) to from r
-      (joined (Among sites Fault n) (λ p. (p.file ≡ file) × Fault n item p.at) best (within_file file here) r so_far (in_one_file (Fault n item) file here own) e)
+      same_property (λ p. Among declarations Fault n p ⊎ ((p.file ≡ file) × Fault n item p.at)) (Among declarations Fault (n + 1)) to from r
+      (joined (Among declarations Fault n) (λ p. (p.file ≡ file) × Fault n item p.at) best (within_file file here) r so_far (in_one_file (Fault n item) file here own) e)
     where
-      to : (p : Place) → (Among sites Fault n p ⊎ ((p.file ≡ file) × Fault n item p.at)) → Among sites Fault (n + 1) p
+      to : (p : Place) → (Among declarations Fault n p ⊎ ((p.file ≡ file) × Fault n item p.at)) → Among declarations Fault (n + 1) p
       to p (inl h) = record { number = h.number; below = let l = h.below in omega (arith, l); item = h.item; stands = h.stands; has = h.has }
       to p (inr (f, h)) = record { number = n; below = omega arith; item = item; stands = record { stands = at ∙ ap (λ z. Some (record { file = z; item = item })) (sym f) }; has = h }
 
-      of : (p : Place) (h : Among sites Fault (n + 1) p) → ((h.number < n) ⊎ (h.number ≡ n)) → Among sites Fault n p ⊎ ((p.file ≡ file) × Fault n item p.at)
+      of : (p : Place) (h : Among declarations Fault (n + 1) p) → ((h.number < n) ⊎ (h.number ≡ n)) → Among declarations Fault n p ⊎ ((p.file ≡ file) × Fault n item p.at)
       of p h (inl l) = inl (record { number = h.number; below = l; item = h.item; stands = h.stands; has = h.has })
       of p h (inr e) =
-          let same = one_site sites n p.file file h.item item (ap (slice_get sites) (sym e) ∙ h.stands.stands) at in
+          let same = one_declaration declarations n p.file file h.item item (ap (slice_get declarations) (sym e) ∙ h.stands.stands) at in
           inr (same.0, subst (λ x. Fault n x p.at) same.1 (subst (λ m. Fault m h.item p.at) e h.has))
 
-      from : (p : Place) → Among sites Fault (n + 1) p → Among sites Fault n p ⊎ ((p.file ≡ file) × Fault n item p.at)
+      from : (p : Place) → Among declarations Fault (n + 1) p → Among declarations Fault n p ⊎ ((p.file ≡ file) × Fault n item p.at)
       from p h = of p h (split h.number n h.below)
 
-  -- all sites
-  pub all : (n : ℕ) → length sites ≤ n → (r : Option Place) → IsEarliest (Among sites Fault n) r
-      → IsEarliest (λ p. (i : ℕ) × (item : Item) × At sites i p.file item × Fault i item p.at) r
-  all n past r h = same_property (Among sites Fault n) (λ p. (i : ℕ) × (item : Item) × At sites i p.file item × Fault i item p.at)
+  -- all declarations
+  pub all : (n : ℕ) → length declarations ≤ n → (r : Option Place) → IsEarliest (Among declarations Fault n) r
+      → IsEarliest (λ p. (i : ℕ) × (item : Item) × At declarations i p.file item × Fault i item p.at) r
+  all n past r h = same_property (Among declarations Fault n) (λ p. (i : ℕ) × (item : Item) × At declarations i p.file item × Fault i item p.at)
       (λ p a. (a.number, a.item, a.stands, a.has))
-      (λ p (i, item, at, has). record { number = i; below = let l = slice_get_within sites i _ at.stands in omega (arith, l, past); item = item; stands = at; has = has }) r h
+      (λ p (i, item, at, has). record { number = i; below = let l = slice_get_within declarations i _ at.stands in omega (arith, l, past); item = item; stands = at; has = has }) r h

@@ -2,7 +2,7 @@
 use Rattle.std.proofs.Common.{◌≡◌, ℕ, ◌≤◌, min, Option, Some, None, sym, ap, subst, ◌∙◌, inl, inr, arith}
 use Rattle.std.specs.Prelude.{◌⊎◌}
 use Rattle.std.proofs.Math.Nat.{min-eq_left, min-eq_right}
-use Rattle.jr_build.specs.SiteFaults.{IsLeastAt}
+use Rattle.jr_build.specs.DeclarationFaults.{IsLeastAt}
 use Rattle.jr_build.specs.TypeFaults.{lesser}
 
 pub same_least : (P Q : ℕ → Type 0) → ((a : ℕ) → P a → Q a) → ((a : ℕ) → Q a → P a)

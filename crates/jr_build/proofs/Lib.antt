@@ -1,6 +1,6 @@
-pub mod SiteLists
+pub mod DeclarationLists
 pub mod Earliest
-pub mod SiteFaultLaws
+pub mod DeclarationFaultLaws
 pub mod Indexed
 pub mod WordLaws
 pub mod PackageLaws

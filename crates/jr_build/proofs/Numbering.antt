@@ -5,8 +5,8 @@ use Rattle.std.specs.Option.{MatchOption}
 use Rattle.std.specs.Str.{bytes_eq}
 use Rattle.std.specs.Cmp.Lexicographic.{bytes_decides}
 use Rattle.std.proofs.lemmas.Option.{slice_get_within, slice_get-get_or, slice_get-map}
-use Rattle.jr_build.specs.declared.sites.SiteKey.{SiteKey}
-use Rattle.jr_build.specs.SiteView.{site_key_of}
+use Rattle.jr_build.specs.declared.declarations.DeclaredKey.{DeclaredKey}
+use Rattle.jr_build.specs.DeclaredView.{declaration_key_of}
 use Rattle.jr_build.specs.HierarchyView.{keys_of}
 use Rattle.jr_table.specs.Keys.{ClassKey}
 use Rattle.jr_table.specs.SameKeys.{same_class, class_decides}
@@ -114,13 +114,13 @@ module _ (keys : List (Option ClassKey)) where
   inner_to n m f past h = λ i outer name lt e none. all_inner n f past h i outer name e none
 
 -- the class of a number of a row
-class_of_row : (row : List (Option SiteKey)) (n : ℕ) (d : Option SiteKey) → n < length row → class_in (keys_of row) n ≡ option_map site_key_of (get_or row n d)
-class_of_row row n d lt = ap (λ o. option_and_then (λ k. k) o) (slice_get-map (option_map site_key_of) row n ∙ ap (option_map (option_map site_key_of)) (slice_get-get_or row n d lt))
+class_of_row : (row : List (Option DeclaredKey)) (n : ℕ) (d : Option DeclaredKey) → n < length row → class_in (keys_of row) n ≡ option_map declaration_key_of (get_or row n d)
+class_of_row row n d lt = ap (λ o. option_and_then (λ k. k) o) (slice_get-map (option_map declaration_key_of) row n ∙ ap (option_map (option_map declaration_key_of)) (slice_get-get_or row n d lt))
 
-pub more_of_row : (row : List (Option SiteKey)) (n : ℕ) (d : Option SiteKey) (old new : KeyIndex) → n < length row → PutsMaybe old (option_map site_key_of (get_or row n d)) n new
+pub more_of_row : (row : List (Option DeclaredKey)) (n : ℕ) (d : Option DeclaredKey) (old new : KeyIndex) → n < length row → PutsMaybe old (option_map declaration_key_of (get_or row n d)) n new
     → IsNumbering (keys_of row) n (number_at old) → IsNumbering (keys_of row) (n + 1) (number_at new)
-more_of_row row n d old new lt puts h = one_more (keys_of row) n (option_map site_key_of (get_or row n d)) old new (class_of_row row n d lt) puts h
+more_of_row row n d old new lt puts h = one_more (keys_of row) n (option_map declaration_key_of (get_or row n d)) old new (class_of_row row n d lt) puts h
 
-pub more_inner : (row : List (Option SiteKey)) (n : ℕ) (d : Option SiteKey) (f g : List ℕ → Option ℕ) → n < length row → PutsInner f (option_map site_key_of (get_or row n d)) n g
+pub more_inner : (row : List (Option DeclaredKey)) (n : ℕ) (d : Option DeclaredKey) (f g : List ℕ → Option ℕ) → n < length row → PutsInner f (option_map declaration_key_of (get_or row n d)) n g
     → HasInner (keys_of row) n f → HasInner (keys_of row) (n + 1) g
-more_inner row n d f g lt puts h = one_inner (keys_of row) n (option_map site_key_of (get_or row n d)) f g (class_of_row row n d lt) puts h
+more_inner row n d f g lt puts h = one_inner (keys_of row) n (option_map declaration_key_of (get_or row n d)) f g (class_of_row row n d lt) puts h

@@ -9,11 +9,11 @@ use Rattle.jr_ast.specs.declared.members.Unit.{Unit}
 use Rattle.jr_table.specs.Faults.{Place, IsUpTo}
 use Rattle.jr_table.specs.declared.kinds.DeclKind.TheVariants as kind
 use Rattle.jr_build.specs.Places.{IsEarliest}
-use Rattle.jr_table.specs.Sites.{Site}
+use Rattle.jr_table.specs.Declared.{DeclaredItem}
 use Rattle.jr_table.specs.Faults.{PackageLine, names_of, line_at, HasFault}
 use Rattle.jr_build.specs.Packages.{package_names, line_of, lines_of}
 use Rattle.jr_build.proofs.Earliest.{inside}
-use Rattle.jr_build.proofs.SiteLists.{rest_is}
+use Rattle.jr_build.proofs.DeclarationLists.{rest_is}
 
 -- two lists with the same first name are equal exactly where the rests are
 pub heads_same : (x y : List ℕ) (xs ys : List (List ℕ)) → x ≡ y → (x ∷ xs ≡ y ∷ ys) ↔ (xs ≡ ys)
@@ -52,12 +52,12 @@ file_of_line (x ∷ xs) [] i l h = absurd cc
 file_of_line (x ∷ xs) (y ∷ ys) zero l h = (x, y, refl, refl, sym (inside _ _ h))
 file_of_line (x ∷ xs) (y ∷ ys) (suc i) l h = file_of_line xs ys i l h
 
-module _ {A : Type 0} (ats : List ℕ) (us : List (Unit A)) (sites : List Site) where
+module _ {A : Type 0} (ats : List ℕ) (us : List (Unit A)) (declarations : List DeclaredItem) where
   -- the files so far have the first one's names
   abbrev pub SameSoFar : ℕ → Type 0
   SameSoFar n = (i : ℕ) (u v : Unit A) → i < n → slice_get us i ≡ Some u → slice_get us 0 ≡ Some v → package_names (map word_of u.package.items) ≡ package_names (map word_of v.package.items)
 
-  named : (p : Place) → HasFault (lines_of ats (map unit_of us)) sites kind.PackageDiffers p
+  named : (p : Place) → HasFault (lines_of ats (map unit_of us)) declarations kind.PackageDiffers p
       → (at : ℕ) × (u : Unit A) × (v : Unit A) × (slice_get ats p.file ≡ Some at) × (slice_get us p.file ≡ Some u) × (slice_get us 0 ≡ Some v)
       × (package_names (map word_of u.package.items) ≡ package_names (map word_of v.package.items) → ⊥) × (p.at ≡ line_at (line_of at (map word_of u.package.items)))
   named p (first, own, h, k, differ, place) =
@@ -73,7 +73,7 @@ module _ {A : Type 0} (ats : List ℕ) (us : List (Unit A)) (sites : List Site) 
         place ∙ ap line_at o.4,
       )
 
-  pub none_differ : (n : ℕ) → length us ≤ n → SameSoFar n → IsEarliest (HasFault (lines_of ats (map unit_of us)) sites kind.PackageDiffers) None
+  pub none_differ : (n : ℕ) → length us ≤ n → SameSoFar n → IsEarliest (HasFault (lines_of ats (map unit_of us)) declarations kind.PackageDiffers) None
   none_differ n past same p h = let d = named p h in d.6 (same p.file d.1 d.2 (let l = inside us p.file d.1 d.4 in omega (arith, l, past)) d.4 d.5)
     where
       inside : (xs : List (Unit A)) (i : ℕ) (x : Unit A) → slice_get xs i ≡ Some x → i < length xs
@@ -83,10 +83,10 @@ module _ {A : Type 0} (ats : List ℕ) (us : List (Unit A)) (sites : List Site) 
 
   pub first_differs : (n at : ℕ) (u v : Unit A) → SameSoFar n → slice_get ats n ≡ Some at → slice_get us n ≡ Some u → slice_get us 0 ≡ Some v
       → (package_names (map word_of u.package.items) ≡ package_names (map word_of v.package.items) → ⊥)
-      → IsEarliest (HasFault (lines_of ats (map unit_of us)) sites kind.PackageDiffers) (Some (record { file = n; at = line_at (line_of at (map word_of u.package.items)) }))
+      → IsEarliest (HasFault (lines_of ats (map unit_of us)) declarations kind.PackageDiffers) (Some (record { file = n; at = line_at (line_of at (map word_of u.package.items)) }))
   first_differs n at u v same has_at has_u has_v differ = (here, λ q h. later q (named q h) (order q.file n))
     where
-      here : HasFault (lines_of ats (map unit_of us)) sites kind.PackageDiffers (record { file = n; at = line_at (line_of at (map word_of u.package.items)) })
+      here : HasFault (lines_of ats (map unit_of us)) declarations kind.PackageDiffers (record { file = n; at = line_at (line_of at (map word_of u.package.items)) })
       here = let f = first_line ats us v has_v n at has_at in (
         line_of f.0 (map word_of v.package.items),
         line_of at (map word_of u.package.items),

@@ -12,8 +12,8 @@ use Rattle.jr_table.specs.Chains.{parent_of}
 use Rattle.jr_table.specs.Chains as chains
 use Rattle.jr_table.specs.Prelude.{prelude_rows, top_key, object_key}
 use Rattle.jr_table.specs.Resolving.{IsParent, Climbs, IsPreludeSubclass}
-use Rattle.jr_table.specs.Sites.{ClassSite, Item, class_item, field_item, method_item, ctor_item, Site}
-use Rattle.jr_build.specs.ExactRows.{unwritten, class_row, field_row, method_row, ctor_row, rows_of_item, rows_of_sites}
+use Rattle.jr_table.specs.Declared.{DeclaredClass, Item, class_item, field_item, method_item, ctor_item, DeclaredItem}
+use Rattle.jr_build.specs.ExactRows.{unwritten, class_row, field_row, method_row, ctor_row, rows_of_item, rows_of_declarations}
 use Rattle.jr_build.specs.Hierarchies.{Hierarchy, parent_key}
 use Rattle.jr_build.specs.Superclasses.{HasNoCycle}
 use Rattle.jr_build.proofs.Apart.{In, in_either, stands_in}
@@ -64,15 +64,15 @@ step rows c p e =
 class_of_decl : (x y : ClassKey) → class_decl x ≡ class_decl y → x ≡ y
 class_of_decl x y e = cc
 
-module _ (sites : List Site) (h : Hierarchy) (extends : (k p : ClassKey) → (parent_key h k ≡ Some p) ↔ IsParent sites k p) where
+module _ (declarations : List DeclaredItem) (h : Hierarchy) (extends : (k p : ClassKey) → (parent_key h k ≡ Some p) ↔ IsParent declarations k p) where
   abbrev Rows : List Row
-  Rows = prelude_rows ++ rows_of_sites h sites
+  Rows = prelude_rows ++ rows_of_declarations h declarations
 
   -- a row with a superclass is that of a class, and says what the class extends
   abbrev Extends : Row → ClassKey → Type 0
-  Extends r k = (q : ClassKey) × (r.decl ≡ class_decl q) × IsParent sites q k
+  Extends r k = (q : ClassKey) × (r.decl ≡ class_decl q) × IsParent declarations q k
 
-  prelude_extends : (name : List ℕ) (k : ClassKey) → IsPreludeSubclass name → Some object_key ≡ Some k → IsParent sites (top_key name) k
+  prelude_extends : (name : List ℕ) (k : ClassKey) → IsPreludeSubclass name → Some object_key ≡ Some k → IsParent declarations (top_key name) k
   prelude_extends name k sub e = inl (refl, inr (sub, sym (inside _ _ e)))
 
   prelude_row_extends : (r : Row) (k : ClassKey) → In prelude_rows r → r.parent ≡ Some k → Extends r k
@@ -96,25 +96,25 @@ module _ (sites : List Site) (h : Hierarchy) (extends : (k p : ClassKey) → (pa
   item_row_extends (ctor_item x) r k z p = let y = ap (λ (y : Row). y.parent) (only h (ctor_row h x) r z) ∙ p in absurd cc
 
   row_extends : (j : ℕ) (r : Row) (k : ClassKey) → slice_get Rows j ≡ Some r → r.parent ≡ Some k → Extends r k
-  row_extends j r k at p = elim (in_either prelude_rows (rows_of_sites h sites) r (stands_in Rows j r at)) [
+  row_extends j r k at p = elim (in_either prelude_rows (rows_of_declarations h declarations) r (stands_in Rows j r at)) [
     | inl pre ↦ prelude_row_extends r k pre p
-    | inr own ↦ (let x = item_of_row h sites r own in item_row_extends x.1.item r k x.3 p)
+    | inr own ↦ (let x = item_of_row h declarations r own in item_row_extends x.1.item r k x.3 p)
   ]
 
-  climbs : (n c d : ℕ) → chains.Climbs (entries_of Rows) n c d → (q : ClassKey) → IsRowOf Rows (class_decl q) c → (z : ClassKey) × IsRowOf Rows (class_decl z) d × Climbs sites n q z
+  climbs : (n c d : ℕ) → chains.Climbs (entries_of Rows) n c d → (q : ClassKey) → IsRowOf Rows (class_decl q) c → (z : ClassKey) × IsRowOf Rows (class_decl z) d × Climbs declarations n q z
   climbs zero c d e q row = (q, subst (IsRowOf Rows (class_decl q)) e row, refl)
   climbs (suc n) c d (p, parent, rest) q row =
       let s = step Rows c p parent in
       let x = row_extends c s.0 s.1 s.2 s.3 in
       let same = class_of_decl x.0 q (sym x.1 ∙ ap (λ (y : Row). y.decl) (inside _ _ (sym s.2 ∙ row.stands)) ∙ row.declares) in
       let more = climbs n p d rest s.1 s.4 in
-      (more.0, more.1, (s.1, subst (λ k. IsParent sites k s.1) same x.2, more.2))
+      (more.0, more.1, (s.1, subst (λ k. IsParent declarations k s.1) same x.2, more.2))
 
-  pub no_cycle : HasNoCycle sites → chains.HasNoCycle (entries_of Rows)
+  pub no_cycle : HasNoCycle declarations → chains.HasNoCycle (entries_of Rows)
   no_cycle none c n (p, parent, rest) =
       let s = step Rows c p parent in
       let x = row_extends c s.0 s.1 s.2 s.3 in
       let row : IsRowOf Rows (class_decl x.0) c = record { row = s.0; stands = s.2; declares = x.1 } in
       let back = climbs (suc n) c c (p, parent, rest) x.0 row in
       let same = class_of_decl back.0 x.0 (sym back.1.declares ∙ ap (λ (y : Row). y.decl) (inside _ _ (sym back.1.stands ∙ s.2)) ∙ x.1) in
-      none x.0 n (subst (Climbs sites (suc n) x.0) same back.2)
+      none x.0 n (subst (Climbs declarations (suc n) x.0) same back.2)

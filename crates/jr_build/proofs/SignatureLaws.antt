@@ -12,16 +12,16 @@ use Rattle.jr_build.specs.declared.meanings.Meaning as raw_meaning
 use Rattle.jr_build.specs.declared.meanings.Meaning.TheVariants as meaning_case
 use Rattle.jr_build.specs.declared.signatures.Signature as raw
 use Rattle.jr_build.specs.declared.signatures.SignatureIndex.{SignatureIndex}
-use Rattle.jr_build.specs.declared.sites.SiteKey.{SiteKey}
-use Rattle.jr_build.specs.declared.sites.ParamSite as raw_param
+use Rattle.jr_build.specs.declared.declarations.DeclaredKey.{DeclaredKey}
+use Rattle.jr_build.specs.declared.declarations.DeclaredParam as raw_param
 use Rattle.jr_build.specs.Hierarchies.{Hierarchy, meaning}
 use Rattle.jr_build.specs.HierarchyView.{meaning_of}
 use Rattle.jr_build.specs.Signatures.{Signature, same_signature, signature_view, number_under, PutsSignature, meanings}
-use Rattle.jr_build.specs.SiteView.{text_of, site_key_of, param_site_of, written_of}
+use Rattle.jr_build.specs.DeclaredView.{text_of, declaration_key_of, param_declaration_of, written_of}
 use Rattle.jr_build.proofs.KeyLaws.{outer_tests}
 
 -- the test of the parts is that of the pure parts
-module _ (K : SiteKey → SiteKey → Bool) (key_is : (x y : SiteKey) → K x y ≡ same_class (site_key_of x) (site_key_of y))
+module _ (K : DeclaredKey → DeclaredKey → Bool) (key_is : (x y : DeclaredKey) → K x y ≡ same_class (declaration_key_of x) (declaration_key_of y))
     (R : Bor (List ℕ) → Bor (List ℕ) → Bool) (text_is : (x y : Bor (List ℕ)) → R x y ≡ pointwise nat_eq x.now y.now)
     (M : raw_meaning.Meaning → raw_meaning.Meaning → Bool) (meaning_is : (x y : raw_meaning.Meaning) → M x y ≡ same_ty (meaning_of x) (meaning_of y)) where
   types_tests : (xs ys : List raw_meaning.Meaning) → pointwise M xs ys ≡ same_types (map meaning_of xs) (map meaning_of ys)
@@ -54,18 +54,18 @@ module _ (E : raw.Signature → raw.Signature → Bool) (tests : (x y : raw.Sign
   puts own m n w u s = sym (found_is n s) ∙ u.0 s ∙ (λ i. cond (tests own s i) w (found_is m s i))
 
 -- what parameters mean, one after another
-module _ (h : Hierarchy) (k : ClassKey) (ps : List raw_param.ParamSite) where
+module _ (h : Hierarchy) (k : ClassKey) (ps : List raw_param.DeclaredParam) where
   abbrev Left : ℕ → Option (List Ty)
-  Left i = meanings h k (map param_site_of (drop i ps))
+  Left i = meanings h k (map param_declaration_of (drop i ps))
 
   abbrev Whole : Option (List Ty)
-  Whole = meanings h k (map param_site_of ps)
+  Whole = meanings h k (map param_declaration_of ps)
 
-  step : (i : ℕ) (d : raw_param.ParamSite) → i < length ps → Left i
+  step : (i : ℕ) (d : raw_param.DeclaredParam) → i < length ps → Left i
       ≡ option_and_then (λ t. option_map (λ ts. t ∷ ts) (Left (i + 1))) (meaning h k (written_of (get_or ps i d).written))
-  step i d lt = ap (λ qs. meanings h k (map param_site_of qs)) (drop-cons ps i d lt ∙ ap (λ n. get_or ps i d ∷ drop n ps) (sym (add-one i)))
+  step i d lt = ap (λ qs. meanings h k (map param_declaration_of qs)) (drop-cons ps i d lt ∙ ap (λ n. get_or ps i d ∷ drop n ps) (sym (add-one i)))
 
-  pub not_meant : (i : ℕ) (d : raw_param.ParamSite) (so_far : List Ty) → i < length ps → meaning h k (written_of (get_or ps i d).written) ≡ None
+  pub not_meant : (i : ℕ) (d : raw_param.DeclaredParam) (so_far : List Ty) → i < length ps → meaning h k (written_of (get_or ps i d).written) ≡ None
       → option_map (λ ts. so_far ++ ts) (Left i) ≡ Whole → None ≡ Whole
   not_meant i d so_far lt none inv =
       sym (ap (λ o. option_map (λ ts. so_far ++ ts) o) (step i d lt ∙ ap (option_and_then (λ t. option_map (λ ts. t ∷ ts) (Left (i + 1)))) none)) ∙ inv
@@ -75,7 +75,7 @@ module _ (h : Hierarchy) (k : ClassKey) (ps : List raw_param.ParamSite) where
   joins before after t None e = refl
   joins before after t (Some ts) e = ap Some (ap (λ b. b ++ ts) e ∙ append_assoc before (t ∷ []) ts)
 
-  pub one_meant : (i : ℕ) (d : raw_param.ParamSite) (before after : List Ty) (t : Ty) → i < length ps
+  pub one_meant : (i : ℕ) (d : raw_param.DeclaredParam) (before after : List Ty) (t : Ty) → i < length ps
       → Some t ≡ meaning h k (written_of (get_or ps i d).written) → after ≡ before ++ t ∷ []
       → option_map (λ ts. before ++ ts) (Left i) ≡ Whole → option_map (λ ts. after ++ ts) (Left (i + 1)) ≡ Whole
   one_meant i d before after t lt some e inv =
@@ -91,7 +91,7 @@ module _ (h : Hierarchy) (k : ClassKey) (ps : List raw_param.ParamSite) where
 
   pub at_end : (i : ℕ) (so_far : List Ty) → length ps ≤ i → option_map (λ ts. so_far ++ ts) (Left i) ≡ Whole → Some so_far ≡ Whole
   at_end i so_far past inv =
-      ap Some (sym (append-nil so_far)) ∙ sym (ap (λ qs. option_map (λ ts. so_far ++ ts) (meanings h k (map param_site_of qs))) (drop_all i ps past)) ∙ inv
+      ap Some (sym (append-nil so_far)) ∙ sym (ap (λ qs. option_map (λ ts. so_far ++ ts) (meanings h k (map param_declaration_of qs))) (drop_all i ps past)) ∙ inv
 
 pub none_is : {X : Type 0} (o : Option X) → ((x : X) → o ≡ Some x → ⊥) → o ≡ None
 none_is None h = refl

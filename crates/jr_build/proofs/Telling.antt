@@ -4,7 +4,7 @@ use Rattle.std.specs.Prelude.{slice_get, slice_set, option_and_then, is_some, �
 use Rattle.jr_index.specs.Parents.{next, AreWithin, ComesEarly}
 use Rattle.jr_table.specs.Keys.{ClassKey}
 use Rattle.jr_table.specs.Prelude.{top_key}
-use Rattle.jr_table.specs.Sites.{ClassSite, Item, class_item, field_item, method_item, ctor_item, Site}
+use Rattle.jr_table.specs.Declared.{DeclaredClass, Item, class_item, field_item, method_item, ctor_item, DeclaredItem}
 use Rattle.jr_table.specs.Faults.{At}
 use Rattle.jr_table.specs.Resolving.{TopParent}
 use Rattle.jr_build.specs.Hierarchies.{Hierarchy, key_at, parent_at, parent_of_item, first_told, tells, with_parent, unknown}
@@ -49,19 +49,19 @@ is_told h j item p e = by (parent_at h j) refl e
 pub not_told : (h : Hierarchy) (j : ℕ) (item : Item) → tells h j item ≡ None → parent_at h j ≡ None → parent_of_item h item ≡ None
 not_told h j item e f = ap (λ o. first_told o (parent_of_item h item)) (sym f) ∙ e
 
-module _ (sites : List Site) (early : (parents : List (Option ℕ)) (n : ℕ) → AreWithin parents n → ComesEarly parents n) where
+module _ (declarations : List DeclaredItem) (early : (parents : List (Option ℕ)) (n : ℕ) → AreWithin parents n → ComesEarly parents n) where
   order : (a b : ℕ) → (a ≡ b) ⊎ (a ≡ b → ⊥)
   order a b = grind arith
 
   -- another superclass
-  module _ (h : Hierarchy) (knows : KnowsTops sites h) (j p : ℕ) (none : parent_at h j ≡ None) (is : IsParentAt sites h j p) where
+  module _ (h : Hierarchy) (knows : KnowsTops declarations h) (j p : ℕ) (none : parent_at h j ≡ None) (is : IsParentAt declarations h j p) where
     h' : Hierarchy
     h' = record h { parents = slice_set h.parents j (Some p) }
 
     inside_list : j < length h.parents
-    inside_list = let l = below sites h early knows j is.class is.is_class in let s = knows.size in omega (arith, l, s)
+    inside_list = let l = below declarations h early knows j is.class is.is_class in let s = knows.size in omega (arith, l, s)
 
-    with_one : KnowsTops sites (with_parent h j (Some p))
+    with_one : KnowsTops declarations (with_parent h j (Some p))
     unfolding h'
     with_one = record {
       classes = record { unique = knows.classes.unique; keys = knows.classes.keys; privates = knows.classes.privates; inner = knows.classes.inner; finds = knows.classes.finds };
@@ -70,14 +70,14 @@ module _ (sites : List Site) (early : (parents : List (Option ℕ)) (n : ℕ) �
       tops = λ i name q e t. tops i (knows.tops i name q e t) (order i j);
     }
       where
-        again : (i q : ℕ) → IsParentAt sites h i q → IsParentAt sites (with_parent h j (Some p)) i q
+        again : (i q : ℕ) → IsParentAt declarations h i q → IsParentAt declarations (with_parent h j (Some p)) i q
         again i q a = record { class = a.class; parent = a.parent; is_class = a.is_class; is_parent = a.is_parent; extends = a.extends }
 
-        each : (i q : ℕ) → next (slice_set h.parents j (Some p)) i ≡ Some q → ((i ≡ j) ⊎ (i ≡ j → ⊥)) → IsParentAt sites (with_parent h j (Some p)) i q
+        each : (i q : ℕ) → next (slice_set h.parents j (Some p)) i ≡ Some q → ((i ≡ j) ⊎ (i ≡ j → ⊥)) → IsParentAt declarations (with_parent h j (Some p)) i q
         each i q e (inr other) = again i q (knows.each i q (sym (next_other h.parents j i (Some p) other) ∙ e))
         each i q e (inl same) =
             let mine : p ≡ q = inside _ _ (sym (next_same h.parents j (Some p) inside_list) ∙ ap (next (slice_set h.parents j (Some p))) (sym same) ∙ e) in
-            again i q (subst (λ x. IsParentAt sites h x q) (sym same) (subst (IsParentAt sites h j) mine is))
+            again i q (subst (λ x. IsParentAt declarations h x q) (sym same) (subst (IsParentAt declarations h j) mine is))
 
         tops : (i : ℕ) {q : ClassKey} → HasParent h i q → ((i ≡ j) ⊎ (i ≡ j → ⊥)) → HasParent (with_parent h j (Some p)) i q
         tops i a (inr other) = record { number = a.number; known = next_other h.parents j i (Some p) other ∙ a.known; is = a.is }
@@ -86,21 +86,21 @@ module _ (sites : List Site) (early : (parents : List (Option ℕ)) (n : ℕ) �
     fewer_unknown : unknown (with_parent h j (Some p)).parents < unknown h.parents
     fewer_unknown = fewer h.parents j p inside_list none
 
-  module _ (h : Hierarchy) (knows : KnowsTops sites h) (j file : ℕ) where
-    parent_told : (item : Item) (p : ℕ) → At sites j file item → parent_of_item h item ≡ Some p → IsParentAt sites h j p
-    parent_told (class_item c) p at e = told_parent sites h early knows j file c p at e
+  module _ (h : Hierarchy) (knows : KnowsTops declarations h) (j file : ℕ) where
+    parent_told : (item : Item) (p : ℕ) → At declarations j file item → parent_of_item h item ≡ Some p → IsParentAt declarations h j p
+    parent_told (class_item c) p at e = told_parent declarations h early knows j file c p at e
     parent_told (field_item f) p at e = absurd cc
     parent_told (method_item m) p at e = absurd cc
     parent_told (ctor_item c) p at e = absurd cc
 
-    pub holds_on : (item : Item) → At sites j file item → KnowsTops sites (with_parent h j (tells h j item))
+    pub holds_on : (item : Item) → At declarations j file item → KnowsTops declarations (with_parent h j (tells h j item))
     holds_on item at = by (tells h j item) refl
       where
-        by : (o : Option ℕ) → tells h j item ≡ o → KnowsTops sites (with_parent h j o)
+        by : (o : Option ℕ) → tells h j item ≡ o → KnowsTops declarations (with_parent h j o)
         by None e = knows
         by (Some p) e = let t = is_told h j item p e in with_one h knows j p t.0 (parent_told item p at t.1)
 
-    pub count_falls : (item : Item) → At sites j file item → is_some (tells h j item) ≡ true → unknown (with_parent h j (tells h j item)).parents < unknown h.parents
+    pub count_falls : (item : Item) → At declarations j file item → is_some (tells h j item) ≡ true → unknown (with_parent h j (tells h j item)).parents < unknown h.parents
     count_falls item at some = by (tells h j item) refl some
       where
         by : (o : Option ℕ) → tells h j item ≡ o → is_some o ≡ true → unknown (with_parent h j o).parents < unknown h.parents

@@ -8,14 +8,14 @@ use Rattle.jr_table.specs.declared.kinds.DeclKind.TheVariants as kind
 use Rattle.jr_table.specs.Keys.{ClassKey, Ty}
 use Rattle.jr_table.specs.SameKeys.{same_class, same_types, class_decides, maybe_name_decides, types_decide}
 use Rattle.jr_table.specs.Resolving.{Means}
-use Rattle.jr_table.specs.Sites.{Written, ParamSite, Item, class_item, field_item, method_item, ctor_item, Site}
+use Rattle.jr_table.specs.Declared.{Written, DeclaredParam, Item, class_item, field_item, method_item, ctor_item, DeclaredItem}
 use Rattle.jr_table.specs.Faults.{Place, At, PackageLine, HasFault, SameTypes, SameMember, ParamTwice, params_of, name_at}
 use Rattle.jr_build.specs.declared.signatures.Signature as raw
 use Rattle.jr_build.specs.declared.signatures.SignatureIndex.{SignatureIndex}
 use Rattle.jr_build.specs.Hierarchies.{Hierarchy, meaning}
 use Rattle.jr_build.specs.Places.{IsEarliest}
 use Rattle.jr_build.specs.Signatures.{Signature, same_signature, signature_view, number_under, PutsSignature, meanings, signature_of, HasEarlierMember, TwiceMemberAt, member_twice}
-use Rattle.jr_build.specs.SiteFaults.{IsLeastAt, Among}
+use Rattle.jr_build.specs.DeclarationFaults.{IsLeastAt, Among}
 use Rattle.jr_build.specs.TypeFaults.{lesser}
 use Rattle.jr_build.proofs.Earliest.{same_property, all, inside}
 use Rattle.jr_build.proofs.Knowing as knowing
@@ -46,29 +46,29 @@ pub pairs_of : (o : Option Ty) (m : Option (List Ty)) (ts : List Ty) → option_
 pairs_of None m ts e = absurd cc
 pairs_of (Some t) m ts e = let u = made_of (λ us. t ∷ us) m ts e in (t, u.0, refl, u.1, u.2)
 
-module _ (sites : List Site) (h : Hierarchy) where
-  -- the sites whose signatures are known
+module _ (declarations : List DeclaredItem) (h : Hierarchy) where
+  -- the declarations whose signatures are known
   abbrev pub Has : ℕ → raw.Signature → Type 0
-  Has n r = knowing.Has signature_view same_signature signature_decides (λ (s : Site). signature_of h s.item) sites n r
+  Has n r = knowing.Has signature_view same_signature signature_decides (λ (s : DeclaredItem). signature_of h s.item) declarations n r
 
   abbrev pub Knows : ℕ → raw.Signature → Option ℕ → Type 0
-  Knows n r o = knowing.Knows signature_view same_signature signature_decides (λ (s : Site). signature_of h s.item) sites n r o
+  Knows n r o = knowing.Knows signature_view same_signature signature_decides (λ (s : DeclaredItem). signature_of h s.item) declarations n r o
 
   pub none_known : (t : SignatureIndex) → ((r : raw.Signature) → number_under t r ≡ None) → (r : raw.Signature) → Knows 0 r (number_under t r)
-  none_known t = knowing.none_known signature_view same_signature signature_decides (λ (s : Site). signature_of h s.item) sites (number_under t)
+  none_known t = knowing.none_known signature_view same_signature signature_decides (λ (s : DeclaredItem). signature_of h s.item) declarations (number_under t)
 
-  pub one_known : (n file w : ℕ) (item : Item) (own : Option raw.Signature) (old new : SignatureIndex) → slice_get sites n ≡ Some (record { file = file; item = item })
+  pub one_known : (n file w : ℕ) (item : Item) (own : Option raw.Signature) (old new : SignatureIndex) → slice_get declarations n ≡ Some (record { file = file; item = item })
       → option_map signature_view own ≡ signature_of h item → PutsSignature old own w new
       → ((r : raw.Signature) → Knows n r (number_under old r)) → (r : raw.Signature) → Knows (n + 1) r (number_under new r)
   one_known n file w item None old new here is puts known =
-      knowing.nothing_known signature_view same_signature signature_decides (λ (s : Site). signature_of h s.item) sites n (record { file = file; item = item })
+      knowing.nothing_known signature_view same_signature signature_decides (λ (s : DeclaredItem). signature_of h s.item) declarations n (record { file = file; item = item })
       (number_under old) (number_under new) here (sym is) puts known
   one_known n file w item (Some own) old new here is puts known =
-      knowing.one_known signature_view same_signature signature_decides (λ (s : Site). signature_of h s.item) sites n w (record { file = file; item = item }) own
+      knowing.one_known signature_view same_signature signature_decides (λ (s : DeclaredItem). signature_of h s.item) declarations n w (record { file = file; item = item }) own
       (number_under old) (number_under new) here (sym is) puts known
 
-module _ (sites : List Site) (h : Hierarchy) (means : (k : ClassKey) (w : Written) (t : Ty) → (meaning h k w ≡ Some t) ↔ Means sites k w t) where
-  same_types_of : (k : ClassKey) (ps qs : List ParamSite) (ts : List Ty) → meanings h k ps ≡ Some ts → meanings h k qs ≡ Some ts → SameTypes sites k ps qs
+module _ (declarations : List DeclaredItem) (h : Hierarchy) (means : (k : ClassKey) (w : Written) (t : Ty) → (meaning h k w ≡ Some t) ↔ Means declarations k w t) where
+  same_types_of : (k : ClassKey) (ps qs : List DeclaredParam) (ts : List Ty) → meanings h k ps ≡ Some ts → meanings h k qs ≡ Some ts → SameTypes declarations k ps qs
   same_types_of k [] [] ts e f = tt
   same_types_of k [] (q ∷ qs) ts e f = let p = pairs_of (meaning h k q.type) (meanings h k qs) ts f in let x = p.4 ∙ sym (inside _ _ e) in absurd cc
   same_types_of k (p ∷ ps) [] ts e f = let q = pairs_of (meaning h k p.type) (meanings h k ps) ts e in let x = q.4 ∙ sym (inside _ _ f) in absurd cc
@@ -82,7 +82,7 @@ module _ (sites : List Site) (h : Hierarchy) (means : (k : ClassKey) (w : Writte
         same_types_of k ps qs x.1 x.3 (y.3 ∙ ap Some (sym rest)),
       )
 
-  types_same : (k : ClassKey) (ps qs : List ParamSite) → SameTypes sites k ps qs → (ts : List Ty) × (meanings h k ps ≡ Some ts) × (meanings h k qs ≡ Some ts)
+  types_same : (k : ClassKey) (ps qs : List DeclaredParam) → SameTypes declarations k ps qs → (ts : List Ty) × (meanings h k ps ≡ Some ts) × (meanings h k qs ≡ Some ts)
   types_same k [] [] s = ([], refl, refl)
   types_same k [] (q ∷ qs) s = absurd s
   types_same k (p ∷ ps) [] s = absurd s
@@ -93,7 +93,7 @@ module _ (sites : List Site) (h : Hierarchy) (means : (k : ClassKey) (w : Writte
         (λ i. option_and_then (λ t. option_map (λ us. t ∷ us) (r.2 i)) ((means k q.type t).1 n i)),
       )
 
-  pub same_member : (l m : Item) (s : Signature) → signature_of h l ≡ Some s → signature_of h m ≡ Some s → SameMember sites l m
+  pub same_member : (l m : Item) (s : Signature) → signature_of h l ≡ Some s → signature_of h m ≡ Some s → SameMember declarations l m
   same_member (class_item c) m s e f = absurd cc
   same_member l (class_item c) s e f = absurd cc
   same_member (field_item f) (field_item g) s e k = let both = inside _ _ (e ∙ sym k) in
@@ -126,7 +126,7 @@ module _ (sites : List Site) (h : Hierarchy) (means : (k : ClassKey) (w : Writte
       let x = made_of _ (meanings h m.of m.params) s f in let y = made_of _ (meanings h d.of d.params) s e in
       let z = ap (λ (x : Signature). x.name) (x.2 ∙ sym y.2) in absurd cc
 
-  pub member_same : (l m : Item) → SameMember sites l m → (s : Signature) × (signature_of h l ≡ Some s) × (signature_of h m ≡ Some s)
+  pub member_same : (l m : Item) → SameMember declarations l m → (s : Signature) × (signature_of h l ≡ Some s) × (signature_of h m ≡ Some s)
   member_same (field_item f) (field_item g) (of, name) = (
     record { of = f.of; name = Some f.name; params = None },
     refl,
@@ -159,9 +159,9 @@ module _ (sites : List Site) (h : Hierarchy) (means : (k : ClassKey) (w : Writte
 
   -- the fault of an item
   abbrev Again : ℕ → Item → ℕ → Type 0
-  Again j m at = HasEarlierMember sites j m × (at ≡ name_at m)
+  Again j m at = HasEarlierMember declarations j m × (at ≡ name_at m)
 
-  with_signature : (j : ℕ) (m : Item) (r : raw.Signature) (before : Option ℕ) → Some (signature_view r) ≡ signature_of h m → Knows sites h j r before
+  with_signature : (j : ℕ) (m : Item) (r : raw.Signature) (before : Option ℕ) → Some (signature_view r) ≡ signature_of h m → Knows declarations h j r before
       → IsLeastAt (Again j m) (member_twice m before)
   with_signature j m r (Some w) is (i, x, lt, at, has) =
       (((i, x.file, x.item, lt, record { stands = at }, same_member x.item m (signature_view r) has (sym is)), refl), λ b h. let e = h.1 in omega (arith, e))
@@ -170,26 +170,26 @@ module _ (sites : List Site) (h : Hierarchy) (means : (k : ClassKey) (w : Writte
       none (i, record { file = file; item = l }, lt, stands.stands, s.1 ∙ sym s.2 ∙ sym is)
 
   pub again_or_not : (j : ℕ) (m : Item) (own : Option raw.Signature) (index : SignatureIndex) (before : Option ℕ) → option_map signature_view own ≡ signature_of h m
-      → before ≡ option_and_then (number_under index) own → ((r : raw.Signature) → Knows sites h j r (number_under index r))
+      → before ≡ option_and_then (number_under index) own → ((r : raw.Signature) → Knows declarations h j r (number_under index r))
       → IsLeastAt (Again j m) (member_twice m before)
   again_or_not j m None index before is e known = subst (λ o. IsLeastAt (Again j m) (member_twice m o)) (sym e)
       (λ at ((i, file, l, lt, stands, same), k). let s = member_same l m same in let x = is ∙ s.2 in absurd cc)
-  again_or_not j m (Some r) index before is e known = with_signature j m r before is (subst (Knows sites h j r) (sym e) (known r))
+  again_or_not j m (Some r) index before is e known = with_signature j m r before is (subst (Knows declarations h j r) (sym e) (known r))
 
   pub twice_or_not : (j : ℕ) (m : Item) (again in_params : Option ℕ) → IsLeastAt (Again j m) again → IsLeastAt (ParamTwice (params_of m)) in_params
-      → IsLeastAt (TwiceMemberAt sites j m) (lesser again in_params)
+      → IsLeastAt (TwiceMemberAt declarations j m) (lesser again in_params)
   twice_or_not j m again in_params a b = least_of (Again j m) (ParamTwice (params_of m)) again in_params a b
 
-module _ (sites : List Site) where
-  pub twice_members : (packages : List (Option PackageLine)) (n : ℕ) → length sites ≤ n → (r : Option Place) → IsEarliest (Among sites (TwiceMemberAt sites) n) r
-      → IsEarliest (HasFault packages sites kind.TwiceMember) r
-  twice_members packages n end r e = same_property (λ p. (j : ℕ) × (m : Item) × At sites j p.file m × TwiceMemberAt sites j m p.at) (HasFault packages sites kind.TwiceMember)
-      to from r (all sites (TwiceMemberAt sites) n end r e)
+module _ (declarations : List DeclaredItem) where
+  pub twice_members : (packages : List (Option PackageLine)) (n : ℕ) → length declarations ≤ n → (r : Option Place) → IsEarliest (Among declarations (TwiceMemberAt declarations) n) r
+      → IsEarliest (HasFault packages declarations kind.TwiceMember) r
+  twice_members packages n end r e = same_property (λ p. (j : ℕ) × (m : Item) × At declarations j p.file m × TwiceMemberAt declarations j m p.at) (HasFault packages declarations kind.TwiceMember)
+      to from r (all declarations (TwiceMemberAt declarations) n end r e)
     where
-      to : (p : Place) → ((j : ℕ) × (m : Item) × At sites j p.file m × TwiceMemberAt sites j m p.at) → HasFault packages sites kind.TwiceMember p
+      to : (p : Place) → ((j : ℕ) × (m : Item) × At declarations j p.file m × TwiceMemberAt declarations j m p.at) → HasFault packages declarations kind.TwiceMember p
       to p (j, m, at, inl ((i, file, l, lt, stands, same), e)) = (j, m, at, inl (i, file, l, lt, stands, same, e))
       to p (j, m, at, inr t) = (j, m, at, inr t)
 
-      from : (p : Place) → HasFault packages sites kind.TwiceMember p → (j : ℕ) × (m : Item) × At sites j p.file m × TwiceMemberAt sites j m p.at
+      from : (p : Place) → HasFault packages declarations kind.TwiceMember p → (j : ℕ) × (m : Item) × At declarations j p.file m × TwiceMemberAt declarations j m p.at
       from p (j, m, at, inl (i, file, l, lt, stands, same, e)) = (j, m, at, inl ((i, file, l, lt, stands, same), e))
       from p (j, m, at, inr t) = (j, m, at, inr t)

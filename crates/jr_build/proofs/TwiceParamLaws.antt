@@ -6,22 +6,22 @@ use Rattle.std.specs.Cmp.Lexicographic.{pointwise, bytes_decides}
 use Rattle.std.proofs.lemmas.Option.{slice_get_within, slice_get-get_or}
 use Rattle.jr_index.specs.Names.{named, PutsNumber}
 use Rattle.jr_index.specs.declared.names.Names.{Names}
-use Rattle.jr_build.specs.declared.sites.ParamSite as raw
-use Rattle.jr_build.specs.SiteView.{param_site_of}
-use Rattle.jr_table.specs.Sites.{ParamSite}
+use Rattle.jr_build.specs.declared.declarations.DeclaredParam as raw
+use Rattle.jr_build.specs.DeclaredView.{param_declaration_of}
+use Rattle.jr_table.specs.Declared.{DeclaredParam}
 use Rattle.jr_table.specs.Faults.{ParamTwice}
-use Rattle.jr_build.specs.SiteFaults.{IsLeastAt}
+use Rattle.jr_build.specs.DeclarationFaults.{IsLeastAt}
 use Rattle.jr_build.specs.TypeFaults.{lesser}
 use Rattle.jr_build.proofs.Earliest.{inside}
 use Rattle.jr_build.proofs.Knowing as knowing
 use Rattle.jr_build.proofs.Least.{same_least, least_of}
 
-module _ (ps : List ParamSite) where
+module _ (ps : List DeclaredParam) where
   abbrev pub Has : ℕ → List ℕ → Type 0
-  Has n q = knowing.Has (λ x. x) (pointwise nat_eq) bytes_decides (λ (p : ParamSite). Some p.name) ps n q
+  Has n q = knowing.Has (λ x. x) (pointwise nat_eq) bytes_decides (λ (p : DeclaredParam). Some p.name) ps n q
 
   abbrev pub Knows : ℕ → List ℕ → Option ℕ → Type 0
-  Knows n q o = knowing.Knows (λ x. x) (pointwise nat_eq) bytes_decides (λ (p : ParamSite). Some p.name) ps n q o
+  Knows n q o = knowing.Knows (λ x. x) (pointwise nat_eq) bytes_decides (λ (p : DeclaredParam). Some p.name) ps n q o
 
   -- the second of two of the first n stands there
   pub record TwiceIn (n at : ℕ) : Type 0 where
@@ -35,18 +35,18 @@ module _ (ps : List ParamSite) where
   none_twice = λ at t. let l = t.within in omega (arith, l)
 
   pub none_known : (t : List ℕ → Option ℕ) → ((q : List ℕ) → t q ≡ None) → (q : List ℕ) → Knows 0 q (t q)
-  none_known = knowing.none_known (λ x. x) (pointwise nat_eq) bytes_decides (λ (p : ParamSite). Some p.name) ps
+  none_known = knowing.none_known (λ x. x) (pointwise nat_eq) bytes_decides (λ (p : DeclaredParam). Some p.name) ps
 
-  pub one_known : (n w : ℕ) (x : ParamSite) (old new : List ℕ → Option ℕ) → slice_get ps n ≡ Some x
+  pub one_known : (n w : ℕ) (x : DeclaredParam) (old new : List ℕ → Option ℕ) → slice_get ps n ≡ Some x
       → ((q : List ℕ) → new q ≡ cond (pointwise nat_eq x.name q) (Some w) (old q)) → ((q : List ℕ) → Knows n q (old q)) → (q : List ℕ) → Knows (n + 1) q (new q)
-  one_known n w x old new here = knowing.one_known (λ x. x) (pointwise nat_eq) bytes_decides (λ (p : ParamSite). Some p.name) ps n w x x.name old new here refl
+  one_known n w x old new here = knowing.one_known (λ x. x) (pointwise nat_eq) bytes_decides (λ (p : DeclaredParam). Some p.name) ps n w x x.name old new here refl
 
   -- the name of parameter n stood before
-  here_or_not : (n : ℕ) (x : ParamSite) (before : Option ℕ) → Knows n x.name before → IsLeastAt (λ at. Has n x.name × (at ≡ x.at)) (option_map (λ w. x.at) before)
+  here_or_not : (n : ℕ) (x : DeclaredParam) (before : Option ℕ) → Knows n x.name before → IsLeastAt (λ at. Has n x.name × (at ≡ x.at)) (option_map (λ w. x.at) before)
   here_or_not n x (Some w) has = ((has, refl), λ b h. let e = h.1 in omega (arith, e))
   here_or_not n x None none = λ at h. none h.0
 
-  pub one_more : (n : ℕ) (x : ParamSite) (least before : Option ℕ) → slice_get ps n ≡ Some x → Knows n x.name before
+  pub one_more : (n : ℕ) (x : DeclaredParam) (least before : Option ℕ) → slice_get ps n ≡ Some x → Knows n x.name before
       → IsLeastAt (TwiceIn n) least → IsLeastAt (TwiceIn (n + 1)) (lesser least (option_map (λ w. x.at) before))
   one_more n x least before here knows so_far =
       same_least (λ at. TwiceIn n at ⊎ (Has n x.name × (at ≡ x.at))) (TwiceIn (n + 1)) to from (lesser least (option_map (λ w. x.at) before))
@@ -65,8 +65,8 @@ module _ (ps : List ParamSite) where
           let second = inside t.twice.second x (sym t.twice.other ∙ ap (slice_get ps) e ∙ here) in
           let before = t.twice.before in
           inr (
-            (t.twice.i, t.twice.first, omega (arith, before, e), t.twice.one, ap Some (t.twice.same ∙ ap (λ (p : ParamSite). p.name) second)),
-            sym t.twice.place ∙ ap (λ (p : ParamSite). p.at) second,
+            (t.twice.i, t.twice.first, omega (arith, before, e), t.twice.one, ap Some (t.twice.same ∙ ap (λ (p : DeclaredParam). p.name) second)),
+            sym t.twice.place ∙ ap (λ (p : DeclaredParam). p.at) second,
           )
 
       from : (at : ℕ) → TwiceIn (n + 1) at → TwiceIn n at ⊎ (Has n x.name × (at ≡ x.at))
@@ -83,22 +83,22 @@ map_get f (y ∷ ys) zero x e = ap (λ o. option_map f o) e
 map_get f (y ∷ ys) (suc i) x e = map_get f ys i x e
 
 -- the parameters of a method, with `d` past the last
-module _ (ps : List raw.ParamSite) (i : ℕ) (d : raw.ParamSite) (lt : i < length ps) (old new : Names) where
-  abbrev one : ParamSite
-  one = param_site_of (get_or ps i d)
+module _ (ps : List raw.DeclaredParam) (i : ℕ) (d : raw.DeclaredParam) (lt : i < length ps) (old new : Names) where
+  abbrev one : DeclaredParam
+  one = param_declaration_of (get_or ps i d)
 
-  here : slice_get (map param_site_of ps) i ≡ Some one
-  here = map_get param_site_of ps i (get_or ps i d) (slice_get-get_or ps i d lt)
+  here : slice_get (map param_declaration_of ps) i ≡ Some one
+  here = map_get param_declaration_of ps i (get_or ps i d) (slice_get-get_or ps i d lt)
 
   pub least_more : (least before place r : Option ℕ) → before ≡ named old (get_or ps i d).name.now
       → place ≡ option_map (λ w. (get_or ps i d).at) before → r ≡ lesser least place
-      → ((q : List ℕ) → Knows (map param_site_of ps) i q (named old q))
-      → IsLeastAt (TwiceIn (map param_site_of ps) i) least → IsLeastAt (TwiceIn (map param_site_of ps) (i + 1)) r
+      → ((q : List ℕ) → Knows (map param_declaration_of ps) i q (named old q))
+      → IsLeastAt (TwiceIn (map param_declaration_of ps) i) least → IsLeastAt (TwiceIn (map param_declaration_of ps) (i + 1)) r
   least_more least before place r e f g known so_far =
-      subst (IsLeastAt (TwiceIn (map param_site_of ps) (i + 1))) (sym (g ∙ ap (lesser least) f))
-      (one_more (map param_site_of ps) i one least before here
-      (subst (Knows (map param_site_of ps) i (get_or ps i d).name.now) (sym e) (known (get_or ps i d).name.now)) so_far)
+      subst (IsLeastAt (TwiceIn (map param_declaration_of ps) (i + 1))) (sym (g ∙ ap (lesser least) f))
+      (one_more (map param_declaration_of ps) i one least before here
+      (subst (Knows (map param_declaration_of ps) i (get_or ps i d).name.now) (sym e) (known (get_or ps i d).name.now)) so_far)
 
   pub known_more : PutsNumber old (get_or ps i d).name.now (get_or ps i d).at new
-      → ((q : List ℕ) → Knows (map param_site_of ps) i q (named old q)) → (q : List ℕ) → Knows (map param_site_of ps) (i + 1) q (named new q)
-  known_more puts known = one_known (map param_site_of ps) i (get_or ps i d).at one (λ q. named old q) (λ q. named new q) here puts known
+      → ((q : List ℕ) → Knows (map param_declaration_of ps) i q (named old q)) → (q : List ℕ) → Knows (map param_declaration_of ps) (i + 1) q (named new q)
+  known_more puts known = one_known (map param_declaration_of ps) i (get_or ps i d).at one (λ q. named old q) (λ q. named new q) here puts known

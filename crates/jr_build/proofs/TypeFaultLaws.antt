@@ -6,17 +6,17 @@ use Rattle.jr_table.specs.declared.kinds.DeclKind.TheVariants as kind
 use Rattle.jr_table.specs.Keys.{ClassKey, Ty}
 use Rattle.jr_table.specs.Keys as keys
 use Rattle.jr_table.specs.Resolving.{Means}
-use Rattle.jr_table.specs.Sites.{Written, int, boolean, named, ParamSite, MethodSite, FieldSite, CtorSite, Item, field_item, method_item, ctor_item, class_item, Site}
+use Rattle.jr_table.specs.Declared.{Written, int, boolean, named, DeclaredParam, DeclaredMethod, DeclaredField, DeclaredCtor, Item, field_item, method_item, ctor_item, class_item, DeclaredItem}
 use Rattle.jr_table.specs.Faults.{Place, At, PackageLine, HasFault, Writes, WritesType}
-use Rattle.jr_build.specs.declared.sites.ParamSite as raw
+use Rattle.jr_build.specs.declared.declarations.DeclaredParam as raw
 use Rattle.jr_build.specs.Hierarchies.{Hierarchy, meaning}
 use Rattle.jr_build.specs.Places.{IsEarliest}
-use Rattle.jr_build.specs.SiteFaults.{IsLeastAt, Among}
-use Rattle.jr_build.specs.SiteView.{param_site_of, written_of}
+use Rattle.jr_build.specs.DeclarationFaults.{IsLeastAt, Among}
+use Rattle.jr_build.specs.DeclaredView.{param_declaration_of, written_of}
 use Rattle.jr_build.specs.TypeFaults.{lesser, MeansNothing, MaybeNothing, AnyNothing, NothingAt}
 use Rattle.jr_build.proofs.Earliest.{same_property, all}
 use Rattle.jr_build.proofs.Least.{same_least, least_of}
-use Rattle.jr_build.proofs.SiteLists.{map_join}
+use Rattle.jr_build.proofs.DeclarationLists.{map_join}
 
 module _ (h : Hierarchy) (k : ClassKey) where
   -- a type by itself
@@ -47,7 +47,7 @@ module _ (h : Hierarchy) (k : ClassKey) where
       (λ a (v, is, m). subst (λ x. MeansNothing h k x a) (sym (let e : w ≡ v = cc in e)) m) r
 
   -- those of parameters, one after another
-  writes_one_more : (ps : List ParamSite) (p : ParamSite) (w : Written) → Writes (ps ++ p ∷ []) w ↔ (Writes ps w ⊎ (p.type ≡ w))
+  writes_one_more : (ps : List DeclaredParam) (p : DeclaredParam) (w : Written) → Writes (ps ++ p ∷ []) w ↔ (Writes ps w ⊎ (p.type ≡ w))
   writes_one_more [] p w = (to, from)
     where
       to : ((p.type ≡ w) ⊎ ⊥) → ⊥ ⊎ (p.type ≡ w)
@@ -68,23 +68,23 @@ module _ (h : Hierarchy) (k : ClassKey) where
       from f (inl (inr y)) = inr (f (inl y))
       from f (inr e) = inr (f (inr e))
 
-  pub any_more : (ps : List raw.ParamSite) (i : ℕ) (d : raw.ParamSite) (best here : Option ℕ) → i < length ps
-      → IsLeastAt (AnyNothing h k (map param_site_of (take i ps))) best
+  pub any_more : (ps : List raw.DeclaredParam) (i : ℕ) (d : raw.DeclaredParam) (best here : Option ℕ) → i < length ps
+      → IsLeastAt (AnyNothing h k (map param_declaration_of (take i ps))) best
       → IsLeastAt (MeansNothing h k (written_of (get_or ps i d).written)) here
-      → IsLeastAt (AnyNothing h k (map param_site_of (take (i + 1) ps))) (lesser best here)
+      → IsLeastAt (AnyNothing h k (map param_declaration_of (take (i + 1) ps))) (lesser best here)
   any_more ps i d best here lt so_far own =
       subst (λ qs. IsLeastAt (AnyNothing h k qs) (lesser best here)) (sym whole)
       (same_least (λ n. AnyNothing h k before n ⊎ MeansNothing h k one.type n) (AnyNothing h k (before ++ one ∷ [])) to from (lesser best here)
       (least_of (AnyNothing h k before) (MeansNothing h k one.type) best here so_far own))
     where
-      one : ParamSite
-      one = param_site_of (get_or ps i d)
+      one : DeclaredParam
+      one = param_declaration_of (get_or ps i d)
 
-      before : List ParamSite
-      before = map param_site_of (take i ps)
+      before : List DeclaredParam
+      before = map param_declaration_of (take i ps)
 
-      whole : map param_site_of (take (i + 1) ps) ≡ before ++ one ∷ []
-      whole = ap (λ n. map param_site_of (take n ps)) (add-one i) ∙ ap (λ xs. map param_site_of xs) (take-suc ps i d lt) ∙ map_join param_site_of (take i ps) (get_or ps i d ∷ [])
+      whole : map param_declaration_of (take (i + 1) ps) ≡ before ++ one ∷ []
+      whole = ap (λ n. map param_declaration_of (take n ps)) (add-one i) ∙ ap (λ xs. map param_declaration_of xs) (take-suc ps i d lt) ∙ map_join param_declaration_of (take i ps) (get_or ps i d ∷ [])
 
       to : (n : ℕ) → (AnyNothing h k before n ⊎ MeansNothing h k one.type n) → AnyNothing h k (before ++ one ∷ []) n
       to n (inl (w, writes, m)) = (w, (writes_one_more before one w).1 (inl writes), m)
@@ -101,15 +101,15 @@ module _ (h : Hierarchy) where
   pub of_class : (c : _) → IsLeastAt (NothingAt h (class_item c)) None
   of_class c = λ at (k, w, writes, m). writes
 
-  pub of_field : (f : FieldSite) (r : Option ℕ) → IsLeastAt (MeansNothing h f.of f.type) r → IsLeastAt (NothingAt h (field_item f)) r
+  pub of_field : (f : DeclaredField) (r : Option ℕ) → IsLeastAt (MeansNothing h f.of f.type) r → IsLeastAt (NothingAt h (field_item f)) r
   of_field f r = same_least (MeansNothing h f.of f.type) (NothingAt h (field_item f)) (λ a m. (f.of, f.type, (refl, refl), m))
       (λ a (k, w, (of, is), m). subst (λ x. MeansNothing h f.of x a) (sym is) (subst (λ x. MeansNothing h x w a) (sym of) m)) r
 
-  pub of_ctor : (c : CtorSite) (r : Option ℕ) → IsLeastAt (AnyNothing h c.of c.params) r → IsLeastAt (NothingAt h (ctor_item c)) r
+  pub of_ctor : (c : DeclaredCtor) (r : Option ℕ) → IsLeastAt (AnyNothing h c.of c.params) r → IsLeastAt (NothingAt h (ctor_item c)) r
   of_ctor c r = same_least (AnyNothing h c.of c.params) (NothingAt h (ctor_item c)) (λ a (w, writes, m). (c.of, w, (refl, writes), m))
       (λ a (k, w, (of, writes), m). (w, writes, subst (λ x. MeansNothing h x w a) (sym of) m)) r
 
-  pub of_method : (m : MethodSite) (a b : Option ℕ) → IsLeastAt (MaybeNothing h m.of m.result) a → IsLeastAt (AnyNothing h m.of m.params) b
+  pub of_method : (m : DeclaredMethod) (a b : Option ℕ) → IsLeastAt (MaybeNothing h m.of m.result) a → IsLeastAt (AnyNothing h m.of m.params) b
       → IsLeastAt (NothingAt h (method_item m)) (lesser a b)
   of_method m a b in_result in_params =
       same_least (λ n. MaybeNothing h m.of m.result n ⊎ AnyNothing h m.of m.params n) (NothingAt h (method_item m)) to from (lesser a b)
@@ -124,18 +124,18 @@ module _ (h : Hierarchy) where
       from n (k, w, (of, inr writes), x) = inr (w, writes, subst (λ y. MeansNothing h y w n) (sym of) x)
 
 -- the fault
-module _ (packages : List (Option PackageLine)) (sites : List Site) (h : Hierarchy)
-    (means : (k : ClassKey) (w : Written) (t : Ty) → (meaning h k w ≡ Some t) ↔ Means sites k w t) where
+module _ (packages : List (Option PackageLine)) (declarations : List DeclaredItem) (h : Hierarchy)
+    (means : (k : ClassKey) (w : Written) (t : Ty) → (meaning h k w ≡ Some t) ↔ Means declarations k w t) where
   meant_or_not : (o : Option Ty) → (o ≡ None) ⊎ ((t : Ty) × (o ≡ Some t))
   meant_or_not None = inl refl
   meant_or_not (Some t) = inr (t, refl)
 
-  pub no_types : (n : ℕ) → length sites ≤ n → (r : Option Place) → IsEarliest (Among sites (λ _. NothingAt h) n) r
-      → IsEarliest (HasFault packages sites kind.NoTy) r
-  no_types n end r e = same_property (λ p. (i : ℕ) × (item : Item) × At sites i p.file item × NothingAt h item p.at) (HasFault packages sites kind.NoTy)
-      to from r (all sites (λ _. NothingAt h) n end r e)
+  pub no_types : (n : ℕ) → length declarations ≤ n → (r : Option Place) → IsEarliest (Among declarations (λ _. NothingAt h) n) r
+      → IsEarliest (HasFault packages declarations kind.NoTy) r
+  no_types n end r e = same_property (λ p. (i : ℕ) × (item : Item) × At declarations i p.file item × NothingAt h item p.at) (HasFault packages declarations kind.NoTy)
+      to from r (all declarations (λ _. NothingAt h) n end r e)
     where
-      to : (p : Place) → ((i : ℕ) × (item : Item) × At sites i p.file item × NothingAt h item p.at) → HasFault packages sites kind.NoTy p
+      to : (p : Place) → ((i : ℕ) × (item : Item) × At declarations i p.file item × NothingAt h item p.at) → HasFault packages declarations kind.NoTy p
       to p (i, item, at, (k, w, writes, (outer, name, is, none))) = (
         i,
         item,
@@ -147,7 +147,7 @@ module _ (packages : List (Option PackageLine)) (sites : List Site) (h : Hierarc
         λ t m. let e = (means k (named p.at outer name) t).1 m in let f = ap (meaning h k) (sym is) ∙ none in cc,
       )
 
-      from : (p : Place) → HasFault packages sites kind.NoTy p → (i : ℕ) × (item : Item) × At sites i p.file item × NothingAt h item p.at
+      from : (p : Place) → HasFault packages declarations kind.NoTy p → (i : ℕ) × (item : Item) × At declarations i p.file item × NothingAt h item p.at
       from p (i, item, k, outer, name, at, writes, none) = (i, item, at, (k, named p.at outer name, writes, (outer, name, refl, nothing (meant_or_not (meaning h k (named p.at outer name))))))
         where
           nothing : ((meaning h k (named p.at outer name) ≡ None) ⊎ ((t : Ty) × (meaning h k (named p.at outer name) ≡ Some t))) → meaning h k (named p.at outer name) ≡ None

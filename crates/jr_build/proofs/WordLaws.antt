@@ -7,7 +7,7 @@ use Rattle.jr_ast.specs.declared.operators.ModWord.{ModWord}
 use Rattle.jr_ast.specs.declared.operators.ModWord.TheVariants as word
 use Rattle.jr_table.specs.Resolving.{HasWord}
 use Rattle.jr_table.specs.Faults.{IsTwice, IsAccess, AreBad}
-use Rattle.jr_build.specs.SiteFaults.{HasTwice, HasTwoAccesses, HasOther}
+use Rattle.jr_build.specs.DeclarationFaults.{HasTwice, HasTwoAccesses, HasOther}
 
 pub contained : (ws : List ModWord) (w : ModWord) → Contains ws w → HasWord ws w
 contained [] w (k, lt, e) = absurd (omega (arith, lt))

@@ -18,26 +18,26 @@ use Rattle.std.specs.Prelude.{
 use Rattle.jr_table.specs.Keys.{ClassKey, Ty, void}
 use Rattle.jr_table.specs.Decls.{class_decl, field_decl, method_decl, constructor_decl}
 use Rattle.jr_table.specs.Rows.{Row}
-use Rattle.jr_table.specs.Sites.{
+use Rattle.jr_table.specs.Declared.{
   Written,
-  ParamSite,
-  ClassSite,
-  FieldSite,
-  MethodSite,
-  CtorSite,
+  DeclaredParam,
+  DeclaredClass,
+  DeclaredField,
+  DeclaredMethod,
+  DeclaredCtor,
   Item,
   class_item,
   field_item,
   method_item,
   ctor_item,
-  Site,
+  DeclaredItem,
 }
 use Rattle.jr_table.specs.ProgramRows.{is_access}
 use Rattle.jr_build.specs.Hierarchies.{Hierarchy, meaning, parent_key}
 use Rattle.jr_build.specs.Signatures.{meanings}
 
 -- the constructor that isn't written
-abbrev pub unwritten : ClassSite → Row
+abbrev pub unwritten : DeclaredClass → Row
 unwritten c = record {
   decl = constructor_decl (record { class = c.key; params = [] });
   modifiers = filter is_access c.modifiers;
@@ -48,14 +48,14 @@ unwritten c = record {
 
 module _ (h : Hierarchy) where
   -- none, where one of them means nothing
-  abbrev pub param_types : ClassKey → List ParamSite → List Ty
+  abbrev pub param_types : ClassKey → List DeclaredParam → List Ty
   param_types k ps = unwrap_or (meanings h k ps) []
 
   abbrev pub result_type : ClassKey → Option Written → Option Ty
   result_type k None = Some void
   result_type k (Some w) = meaning h k w
 
-  abbrev pub class_row : ClassSite → Row
+  abbrev pub class_row : DeclaredClass → Row
   class_row c = record {
     decl = class_decl c.key;
     modifiers = c.modifiers;
@@ -64,7 +64,7 @@ module _ (h : Hierarchy) where
     has_init = false;
   }
 
-  abbrev pub field_row : FieldSite → Row
+  abbrev pub field_row : DeclaredField → Row
   field_row f = record {
     decl = field_decl (record { class = f.of; name = f.name });
     modifiers = f.modifiers;
@@ -73,7 +73,7 @@ module _ (h : Hierarchy) where
     has_init = is_some f.init;
   }
 
-  abbrev pub method_row : MethodSite → Row
+  abbrev pub method_row : DeclaredMethod → Row
   method_row m = record {
     decl = method_decl (record
         { class = m.of; name = m.name; params = param_types m.of m.params });
@@ -83,7 +83,7 @@ module _ (h : Hierarchy) where
     has_init = false;
   }
 
-  abbrev pub ctor_row : CtorSite → Row
+  abbrev pub ctor_row : DeclaredCtor → Row
   ctor_row c = record {
     decl = constructor_decl (record { class = c.of; params = param_types c.of c.params });
     modifiers = c.modifiers;
@@ -92,7 +92,7 @@ module _ (h : Hierarchy) where
     has_init = false;
   }
 
-  abbrev pub class_rows : ClassSite → Bool → List Row
+  abbrev pub class_rows : DeclaredClass → Bool → List Row
   class_rows c true = class_row c ∷ []
   class_rows c false = class_row c ∷ unwritten c ∷ []
 
@@ -102,6 +102,6 @@ module _ (h : Hierarchy) where
   rows_of_item (method_item m) = method_row m ∷ []
   rows_of_item (ctor_item c) = ctor_row c ∷ []
 
-  abbrev pub rows_of_sites : List Site → List Row
-  rows_of_sites [] = []
-  rows_of_sites (s ∷ ss) = rows_of_item s.item ++ rows_of_sites ss
+  abbrev pub rows_of_declarations : List DeclaredItem → List Row
+  rows_of_declarations [] = []
+  rows_of_declarations (s ∷ ss) = rows_of_item s.item ++ rows_of_declarations ss

@@ -1,5 +1,5 @@
 -- What the heads of a program's classes meet, as the grammar has them (JLS 8.1.4, 8.5), and what
--- the sites do that come of them.
+-- the declarations do that come of them.
 use Rattle.std.specs.Prelude.{
   ◌≡◌,
   ℕ,
@@ -17,18 +17,18 @@ use Rattle.jr_ast.specs.Tree as tree
 use Rattle.jr_ast.specs.MemberTree as syntax
 use Rattle.jr_table.specs.Keys.{ClassKey}
 use Rattle.jr_table.specs.Prelude.{top_key}
-use Rattle.jr_table.specs.Sites.{
+use Rattle.jr_table.specs.Declared.{
   Written,
   int,
   boolean,
-  ClassSite,
-  CtorSite,
+  DeclaredClass,
+  DeclaredCtor,
   Item,
   class_item,
   field_item,
   method_item,
   ctor_item,
-  Site,
+  DeclaredItem,
 }
 use Rattle.jr_table.specs.Resolving.{DeclaresClass, IsDeclared}
 use Rattle.jr_table.specs.Faults.{At}
@@ -74,16 +74,16 @@ IsOwner (field_item f) k = f.of ≡ k
 IsOwner (method_item m) k = m.of ≡ k
 IsOwner (ctor_item c) k = c.of ≡ k
 
-pub record AreHeaded (sites : List Site) : Type 0 where
+pub record AreHeaded (declarations : List DeclaredItem) : Type 0 where
   -- a member's class is declared
-  pub owned : (i file : ℕ) (item : Item) (k : ClassKey) → At sites i file item → IsOwner item k
-      → IsDeclared sites k
+  pub owned : (i file : ℕ) (item : Item) (k : ClassKey) → At declarations i file item → IsOwner item k
+      → IsDeclared declarations k
   -- so is the class around a member class, which is no member class
-  pub outers : (i file : ℕ) (c : ClassSite) (outer : List ℕ) → At sites i file (class_item c)
-      → c.key.outer ≡ Some outer → IsDeclared sites (top_key outer)
+  pub outers : (i file : ℕ) (c : DeclaredClass) (outer : List ℕ) → At declarations i file (class_item c)
+      → c.key.outer ≡ Some outer → IsDeclared declarations (top_key outer)
   -- a superclass is named
-  pub named : (i file : ℕ) (c : ClassSite) → At sites i file (class_item c)
+  pub named : (i file : ℕ) (c : DeclaredClass) → At declarations i file (class_item c)
       → (c.parent ≡ Some int → ⊥) × (c.parent ≡ Some boolean → ⊥)
   -- where a constructor is written, its class says so
-  pub ctors : (i file : ℕ) (c : CtorSite) → At sites i file (ctor_item c)
-      → (d : ClassSite) × DeclaresClass sites c.of d × (d.has_ctor ≡ true)
+  pub ctors : (i file : ℕ) (c : DeclaredCtor) → At declarations i file (ctor_item c)
+      → (d : DeclaredClass) × DeclaresClass declarations c.of d × (d.has_ctor ≡ true)

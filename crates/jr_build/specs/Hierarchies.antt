@@ -31,24 +31,24 @@ use Rattle.jr_build.specs.KeyIndex.{class_key_at}
 use Rattle.jr_table.specs.Keys.{ClassKey, Ty, class}
 use Rattle.jr_table.specs.Keys as keys
 use Rattle.jr_table.specs.Prelude.{top_key, object_key}
-use Rattle.jr_table.specs.Sites.{
+use Rattle.jr_table.specs.Declared.{
   Written,
   int,
   boolean,
   named,
-  ClassSite,
+  DeclaredClass,
   Item,
   class_item,
   field_item,
   method_item,
   ctor_item,
-  Site,
+  DeclaredItem,
 }
 
--- The classes of a program and the prelude. A class of the program has the number of its site, and
--- the prelude's stand behind all sites.
+-- The classes of a program and the prelude. A class of the program has the number of its declaration, and
+-- the prelude's stand behind all declarations.
 pub record Hierarchy : Type 0 where
-  -- the class of each number; none where the site declares no class
+  -- the class of each number; none where the declaration declares no class
   pub keys : List (Option ClassKey)
   pub privates : List Bool
   -- the number of a class
@@ -70,11 +70,11 @@ prelude_classes = Some object_key
     ∷ Some (top_key (codes "Thread"))
     ∷ []
 
-abbrev pub site_keys : List Site → List (Option ClassKey)
-site_keys ss = map (λ (s : Site). class_key_at s.item) ss
+abbrev pub declaration_keys : List DeclaredItem → List (Option ClassKey)
+declaration_keys ss = map (λ (s : DeclaredItem). class_key_at s.item) ss
 
-abbrev pub class_keys : List Site → List (Option ClassKey)
-class_keys ss = site_keys ss ++ prelude_classes
+abbrev pub class_keys : List DeclaredItem → List (Option ClassKey)
+class_keys ss = declaration_keys ss ++ prelude_classes
 
 abbrev pub is_private_item : Item → Bool
 is_private_item (class_item c) = list_any is_private_word c.modifiers
@@ -82,8 +82,8 @@ is_private_item (field_item f) = false
 is_private_item (method_item m) = false
 is_private_item (ctor_item c) = false
 
-abbrev pub privates_of : List Site → List Bool
-privates_of ss = map (λ (s : Site). is_private_item s.item) ss
+abbrev pub privates_of : List DeclaredItem → List Bool
+privates_of ss = map (λ (s : DeclaredItem). is_private_item s.item) ss
 
 -- lookup
 
@@ -225,12 +225,12 @@ parent_of_outer_item h (ctor_item c) = None
 abbrev pub prelude_parents : Hierarchy → List (Option ℕ)
 prelude_parents h = None ∷ h.number object_key ∷ h.number object_key ∷ h.number object_key ∷ []
 
-abbrev pub site_parents : Hierarchy → List Site → List (Option ℕ)
-site_parents h ss = map (λ (s : Site). parent_of_outer_item h s.item) ss
+abbrev pub declaration_parents : Hierarchy → List DeclaredItem → List (Option ℕ)
+declaration_parents h ss = map (λ (s : DeclaredItem). parent_of_outer_item h s.item) ss
 
 -- the superclasses of top-level and prelude classes
-abbrev pub top_parents : Hierarchy → List Site → List (Option ℕ)
-top_parents h ss = site_parents h ss ++ prelude_parents h
+abbrev pub top_parents : Hierarchy → List DeclaredItem → List (Option ℕ)
+top_parents h ss = declaration_parents h ss ++ prelude_parents h
 
 -- a superclass more
 

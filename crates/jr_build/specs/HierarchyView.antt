@@ -4,14 +4,14 @@ use Rattle.jr_table.specs.Keys.{ClassKey, Ty, int, boolean, class}
 use Rattle.jr_build.specs.declared.hierarchies.Hierarchy as raw
 use Rattle.jr_build.specs.declared.meanings.Meaning as raw_meaning
 use Rattle.jr_build.specs.declared.meanings.Meaning.TheVariants as meant
-use Rattle.jr_build.specs.declared.sites.SiteKey.{SiteKey}
+use Rattle.jr_build.specs.declared.declarations.DeclaredKey.{DeclaredKey}
 use Rattle.jr_index.specs.Names.{named}
 use Rattle.jr_build.specs.KeyIndex.{number_at}
-use Rattle.jr_build.specs.SiteView.{site_key_of}
+use Rattle.jr_build.specs.DeclaredView.{declaration_key_of}
 use Rattle.jr_build.specs.Hierarchies.{Hierarchy}
 
-abbrev pub keys_of : List (Option SiteKey) → List (Option ClassKey)
-keys_of ks = map (option_map site_key_of) ks
+abbrev pub keys_of : List (Option DeclaredKey) → List (Option ClassKey)
+keys_of ks = map (option_map declaration_key_of) ks
 
 unfoldable pub hierarchy_of : raw.Hierarchy → Hierarchy
 hierarchy_of h = record {
@@ -25,4 +25,4 @@ hierarchy_of h = record {
 abbrev pub meaning_of : raw_meaning.Meaning → Ty
 meaning_of meant.Int = int
 meaning_of meant.Boolean = boolean
-meaning_of (meant.Class k) = class (site_key_of k)
+meaning_of (meant.Class k) = class (declaration_key_of k)

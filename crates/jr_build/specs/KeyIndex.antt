@@ -4,14 +4,14 @@ use Rattle.std.specs.Option.{MatchOption}
 use Rattle.std.specs.HashMap.{get_by}
 use Rattle.jr_table.specs.Keys.{ClassKey}
 use Rattle.jr_table.specs.SameKeys.{same_class}
-use Rattle.jr_table.specs.Sites.{Item, class_item, field_item, method_item, Site}
+use Rattle.jr_table.specs.Declared.{Item, class_item, field_item, method_item, DeclaredItem}
 use Rattle.jr_table.specs.Faults.{At}
-use Rattle.jr_build.specs.SiteView.{site_key_of}
+use Rattle.jr_build.specs.DeclaredView.{declaration_key_of}
 use Rattle.jr_build.specs.declared.key_index.KeyIndex.{KeyIndex}
 
 -- the number under the key, if there is one
 abbrev pub number_at : KeyIndex → ClassKey → Option ℕ
-number_at t k = get_by (λ x. same_class k (site_key_of x)) t.numbers
+number_at t k = get_by (λ x. same_class k (declaration_key_of x)) t.numbers
 
 -- new has this number under the key, and the others as they were
 abbrev pub PutsKey : KeyIndex → ClassKey → ℕ → KeyIndex → Type 0
@@ -38,13 +38,13 @@ name_key_at (field_item f) = key_in f.of.outer f.of.name f.name
 name_key_at (method_item m) = key_in m.of.outer m.of.name m.name
 name_key_at _ = None
 
-module _ (key_of : Item → Option ClassKey) (sites : List Site) where
-  -- site i, among the first n, has the key
+module _ (key_of : Item → Option ClassKey) (declarations : List DeclaredItem) where
+  -- declaration i, among the first n, has the key
   abbrev pub HasKey : ℕ → ClassKey → ℕ → Type 0
-  HasKey n k i = (file : ℕ) × (item : Item) × (i < n) × At sites i file item
+  HasKey n k i = (file : ℕ) × (item : Item) × (i < n) × At declarations i file item
       × (key_of item ≡ Some k)
 
-  -- the index has, of each key, a site among the first n that has it, if one has
+  -- the index has, of each key, a declaration among the first n that has it, if one has
   abbrev pub IsIndexOf : ℕ → KeyIndex → Type 0
   IsIndexOf n t = (k : ClassKey) →
       MatchOption (number_at t k) ((i : ℕ) → HasKey n k i → ⊥) (HasKey n k)

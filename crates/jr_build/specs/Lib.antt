@@ -1,10 +1,10 @@
-pub mod SiteView
+pub mod DeclaredView
 pub mod Places
 pub mod Gathers
 pub mod Fitting
 pub mod Packages
 pub mod KeyIndex
-pub mod SiteFaults
+pub mod DeclarationFaults
 pub mod Hierarchies
 pub mod HierarchyView
 pub mod Superclasses

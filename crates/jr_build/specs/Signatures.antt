@@ -23,21 +23,21 @@ use Rattle.std.specs.Cmp.Lexicographic.{pointwise}
 use Rattle.std.specs.HashMap.{get_by}
 use Rattle.jr_table.specs.Keys.{ClassKey, Ty}
 use Rattle.jr_table.specs.SameKeys.{same_class, same_types}
-use Rattle.jr_table.specs.Sites.{
-  ParamSite,
+use Rattle.jr_table.specs.Declared.{
+  DeclaredParam,
   Item,
   class_item,
   field_item,
   method_item,
   ctor_item,
-  Site,
+  DeclaredItem,
 }
 use Rattle.jr_table.specs.Faults.{At, SameMember, ParamTwice, params_of, name_at}
 use Rattle.jr_build.specs.declared.signatures.Signature as raw
 use Rattle.jr_build.specs.declared.signatures.SignatureIndex.{SignatureIndex}
 use Rattle.jr_build.specs.Hierarchies.{Hierarchy, meaning}
 use Rattle.jr_build.specs.HierarchyView.{meaning_of}
-use Rattle.jr_build.specs.SiteView.{text_of, site_key_of}
+use Rattle.jr_build.specs.DeclaredView.{text_of, declaration_key_of}
 
 -- a member's class, its name and the types of its parameters; a constructor has no name, and a
 -- field no parameters
@@ -53,7 +53,7 @@ same_signature s t = same_class s.of t.of && (option_eq (pointwise nat_eq) s.nam
 -- the signature that a Rust value stands for
 abbrev pub signature_view : raw.Signature → Signature
 signature_view s = record {
-  of = site_key_of s.of;
+  of = declaration_key_of s.of;
   name = option_map text_of s.name;
   params = option_map (λ v. map meaning_of v.items) s.params;
 }
@@ -72,7 +72,7 @@ PutsSignature old (Some own) number new = (s : raw.Signature) → number_under n
 
 module _ (h : Hierarchy) where
   -- what the types of parameters mean, if each means something
-  abbrev pub meanings : ClassKey → List ParamSite → Option (List Ty)
+  abbrev pub meanings : ClassKey → List DeclaredParam → Option (List Ty)
   meanings k [] = Some []
   meanings k (p ∷ ps) =
       option_and_then (λ t. option_map (λ ts. t ∷ ts) (meanings k ps)) (meaning h k p.type)
@@ -91,14 +91,14 @@ module _ (h : Hierarchy) where
             Some ts;
       }) (meanings c.of c.params)
 
--- an earlier site declares what the item does
-abbrev pub HasEarlierMember : List Site → ℕ → Item → Type 0
-HasEarlierMember sites j m = (i : ℕ) × (file : ℕ) × (l : Item) × (i < j) × At sites i file l
-    × SameMember sites l m
+-- an earlier declaration declares what the item does
+abbrev pub HasEarlierMember : List DeclaredItem → ℕ → Item → Type 0
+HasEarlierMember declarations j m = (i : ℕ) × (file : ℕ) × (l : Item) × (i < j) × At declarations i file l
+    × SameMember declarations l m
 
 -- an item is declared twice, or a parameter is, and the second stands there
-abbrev pub TwiceMemberAt : List Site → ℕ → Item → ℕ → Type 0
-TwiceMemberAt sites j m at = (HasEarlierMember sites j m × (at ≡ name_at m))
+abbrev pub TwiceMemberAt : List DeclaredItem → ℕ → Item → ℕ → Type 0
+TwiceMemberAt declarations j m at = (HasEarlierMember declarations j m × (at ≡ name_at m))
     ⊎ ParamTwice (params_of m) at
 
 -- where an item is at fault of which another was under its signature before, or wasn't

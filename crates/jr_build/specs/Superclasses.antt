@@ -21,18 +21,18 @@ use Rattle.std.specs.Str.{bytes_eq}
 use Rattle.jr_table.specs.declared.kinds.DeclKind.TheVariants as kind
 use Rattle.jr_table.specs.Keys.{ClassKey}
 use Rattle.jr_table.specs.Prelude.{top_key}
-use Rattle.jr_table.specs.Sites.{
+use Rattle.jr_table.specs.Declared.{
   Written,
   int,
   boolean,
   named,
-  ClassSite,
+  DeclaredClass,
   Item,
   class_item,
   field_item,
   method_item,
   ctor_item,
-  Site,
+  DeclaredItem,
 }
 use Rattle.jr_table.specs.Resolving.{TopParent, IsParent, Climbs, DeclaresClass}
 use Rattle.jr_table.specs.Faults.{Place, At, HasFault}
@@ -48,9 +48,9 @@ use Rattle.jr_build.specs.Hierarchies.{
 }
 
 -- no class has a name of the prelude, and none is declared twice
-pub record AreUnique (sites : List Site) : Type 0 where
-  pub unreserved : (p : Place) → HasFault [] sites kind.PreludeName p → ⊥
-  pub once : (p : Place) → HasFault [] sites kind.TwiceClass p → ⊥
+pub record AreUnique (declarations : List DeclaredItem) : Type 0 where
+  pub unreserved : (p : Place) → HasFault [] declarations kind.PreludeName p → ⊥
+  pub once : (p : Place) → HasFault [] declarations kind.TwiceClass p → ⊥
 
 -- the first n classes are found by these numbers
 abbrev pub IsNumbering : List (Option ClassKey) → (n : ℕ) → (ClassKey → Option ℕ) → Type 0
@@ -76,22 +76,22 @@ HasInner keys n inner = (i : ℕ) (outer name : List ℕ) → i < n
     → class_in keys i ≡ Some (inner_key outer name) → inner name ≡ None → ⊥
 
 -- the classes, whatever is known of superclasses
-pub record HasClasses (sites : List Site) (h : Hierarchy) : Type 0 where
-  pub unique : AreUnique sites
-  pub keys : h.keys ≡ class_keys sites
-  pub privates : h.privates ≡ privates_of sites
+pub record HasClasses (declarations : List DeclaredItem) (h : Hierarchy) : Type 0 where
+  pub unique : AreUnique declarations
+  pub keys : h.keys ≡ class_keys declarations
+  pub privates : h.privates ≡ privates_of declarations
   pub inner : (j : ℕ) (outer name : List ℕ) → key_at h j ≡ Some (inner_key outer name)
       → h.inner name ≡ None → ⊥
   pub finds : (k : ClassKey)
       → MatchOption (h.number k) ((i : ℕ) → key_at h i ≡ Some k → ⊥) (λ i. key_at h i ≡ Some k)
 
 -- number j has number p, which is its superclass
-pub record IsParentAt (sites : List Site) (h : Hierarchy) (j p : ℕ) : Type 0 where
+pub record IsParentAt (declarations : List DeclaredItem) (h : Hierarchy) (j p : ℕ) : Type 0 where
   pub class : ClassKey
   pub parent : ClassKey
   pub is_class : key_at h j ≡ Some class
   pub is_parent : key_at h p ≡ Some parent
-  pub extends : IsParent sites class parent
+  pub extends : IsParent declarations class parent
 
 -- where number j is the class, it has its superclass p
 pub record HasParent (h : Hierarchy) (j : ℕ) (p : ClassKey) : Type 0 where
@@ -100,36 +100,36 @@ pub record HasParent (h : Hierarchy) (j : ℕ) (p : ClassKey) : Type 0 where
   pub is : key_at h number ≡ Some p
 
 -- what is known of superclasses holds, and those of top-level and prelude classes are known
-pub record KnowsTops (sites : List Site) (h : Hierarchy) : Type 0 where
-  pub classes : HasClasses sites h
+pub record KnowsTops (declarations : List DeclaredItem) (h : Hierarchy) : Type 0 where
+  pub classes : HasClasses declarations h
   pub size : length h.parents ≡ length h.keys
-  pub each : (j p : ℕ) → parent_at h j ≡ Some p → IsParentAt sites h j p
+  pub each : (j p : ℕ) → parent_at h j ≡ Some p → IsParentAt declarations h j p
   pub tops : (j : ℕ) (name : List ℕ) (p : ClassKey) → key_at h j ≡ Some (top_key name)
-      → TopParent sites name p → HasParent h j p
+      → TopParent declarations name p → HasParent h j p
 
 -- nothing more can be told of a member class whose superclass isn't known
-abbrev pub IsSettled : List Site → Hierarchy → Type 0
-IsSettled sites h = (j file : ℕ) (c : ClassSite) (outer : List ℕ) → At sites j file (class_item c)
+abbrev pub IsSettled : List DeclaredItem → Hierarchy → Type 0
+IsSettled declarations h = (j file : ℕ) (c : DeclaredClass) (outer : List ℕ) → At declarations j file (class_item c)
     → c.key.outer ≡ Some outer → parent_at h j ≡ None → parent_of_item h (class_item c) ≡ None
 
 -- each superclass is known
-pub record IsHierarchy (sites : List Site) (h : Hierarchy) : Type 0 where
-  pub tops : KnowsTops sites h
-  pub all : (j : ℕ) (k p : ClassKey) → key_at h j ≡ Some k → IsParent sites k p → HasParent h j p
+pub record IsHierarchy (declarations : List DeclaredItem) (h : Hierarchy) : Type 0 where
+  pub tops : KnowsTops declarations h
+  pub all : (j : ℕ) (k p : ClassKey) → key_at h j ≡ Some k → IsParent declarations k p → HasParent h j p
 
--- faults of single sites
+-- faults of single declarations
 
 -- the class names a superclass there that it hasn't
-abbrev pub UnparentedAt : List Site → Item → ℕ → Type 0
-UnparentedAt sites (class_item c) at = (outer : Option (List ℕ)) × (name : List ℕ)
-    × (c.parent ≡ Some (named at outer name)) × ((q : ClassKey) → IsParent sites c.key q → ⊥)
-UnparentedAt sites _ at = ⊥
+abbrev pub UnparentedAt : List DeclaredItem → Item → ℕ → Type 0
+UnparentedAt declarations (class_item c) at = (outer : Option (List ℕ)) × (name : List ℕ)
+    × (c.parent ≡ Some (named at outer name)) × ((q : ClassKey) → IsParent declarations c.key q → ⊥)
+UnparentedAt declarations _ at = ⊥
 
 -- the class is its own superclass through others
-abbrev pub OnCycleAt : List Site → Item → ℕ → Type 0
-OnCycleAt sites (class_item c) at =
-    (at ≡ c.at) × ((steps : ℕ) × Climbs sites (suc steps) c.key c.key)
-OnCycleAt sites _ at = ⊥
+abbrev pub OnCycleAt : List DeclaredItem → Item → ℕ → Type 0
+OnCycleAt declarations (class_item c) at =
+    (at ≡ c.at) × ((steps : ℕ) × Climbs declarations (suc steps) c.key c.key)
+OnCycleAt declarations _ at = ⊥
 
 -- exact: where they are, by what is known of the superclass
 
@@ -148,15 +148,15 @@ on_cycle_of _ _ = None
 -- laws of programs in which each class has its superclass, and none is on a cycle
 
 -- a class has one superclass at most
-abbrev pub HasOneParent : List Site → Type 0
-HasOneParent sites =
-    (k p q : ClassKey) → IsParent sites k p → IsParent sites k q → p ≡ q
+abbrev pub HasOneParent : List DeclaredItem → Type 0
+HasOneParent declarations =
+    (k p q : ClassKey) → IsParent declarations k p → IsParent declarations k q → p ≡ q
 
-abbrev pub HasNoCycle : List Site → Type 0
-HasNoCycle sites = (k : ClassKey) (steps : ℕ) → Climbs sites (suc steps) k k → ⊥
+abbrev pub HasNoCycle : List DeclaredItem → Type 0
+HasNoCycle declarations = (k : ClassKey) (steps : ℕ) → Climbs declarations (suc steps) k k → ⊥
 
 -- each declared class has a superclass, unless it names a type that is no class
-abbrev pub HasParents : List Site → Type 0
-HasParents sites = (k : ClassKey) (c : ClassSite) → DeclaresClass sites k c
+abbrev pub HasParents : List DeclaredItem → Type 0
+HasParents declarations = (k : ClassKey) (c : DeclaredClass) → DeclaresClass declarations k c
     → (c.parent ≡ Some int → ⊥) → (c.parent ≡ Some boolean → ⊥)
-    → (p : ClassKey) × IsParent sites k p
+    → (p : ClassKey) × IsParent declarations k p

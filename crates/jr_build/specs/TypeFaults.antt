@@ -2,14 +2,14 @@
 use Rattle.std.specs.Prelude.{◌≡◌, ℕ, List, Option, Some, None, min, ◌↔◌}
 use Rattle.jr_table.specs.Keys.{ClassKey, Ty}
 use Rattle.jr_table.specs.Resolving.{Means}
-use Rattle.jr_table.specs.Sites.{Written, named, ParamSite, Item, Site}
+use Rattle.jr_table.specs.Declared.{Written, named, DeclaredParam, Item, DeclaredItem}
 use Rattle.jr_table.specs.Faults.{Writes, WritesType}
 use Rattle.jr_build.specs.Hierarchies.{Hierarchy, meaning}
 
 -- the meanings of types are known
-abbrev pub KnowsMeanings : List Site → Hierarchy → Type 0
-KnowsMeanings sites h =
-    (k : ClassKey) (w : Written) (t : Ty) → (meaning h k w ≡ Some t) ↔ Means sites k w t
+abbrev pub KnowsMeanings : List DeclaredItem → Hierarchy → Type 0
+KnowsMeanings declarations h =
+    (k : ClassKey) (w : Written) (t : Ty) → (meaning h k w ≡ Some t) ↔ Means declarations k w t
 
 -- the lesser of two numbers, where there is one
 abbrev pub lesser : Option ℕ → Option ℕ → Option ℕ
@@ -26,7 +26,7 @@ module _ (h : Hierarchy) where
   abbrev pub MaybeNothing : ClassKey → Option Written → ℕ → Type 0
   MaybeNothing k t at = (w : Written) × (t ≡ Some w) × MeansNothing k w at
 
-  abbrev pub AnyNothing : ClassKey → List ParamSite → ℕ → Type 0
+  abbrev pub AnyNothing : ClassKey → List DeclaredParam → ℕ → Type 0
   AnyNothing k ps at = (w : Written) × Writes ps w × MeansNothing k w at
 
   -- a type that the item writes means nothing, and stands there

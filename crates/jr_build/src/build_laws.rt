@@ -6,32 +6,32 @@ ghost use Rattle.jr_table.specs.Faults.{PackageLine, IsClean};
 ghost use Rattle.jr_table.specs.Prelude.{prelude_rows};
 ghost use Rattle.jr_table.specs.ProgramRows.{AreProgramRows};
 ghost use Rattle.jr_table.specs.Rows.{Row};
-ghost use Rattle.jr_table.specs.Sites.{Site, sites_of};
-ghost use Rattle.jr_build.specs.ExactRows.{rows_of_sites};
+ghost use Rattle.jr_table.specs.Declared.{DeclaredItem, declarations_of};
+ghost use Rattle.jr_build.specs.ExactRows.{rows_of_declarations};
 ghost use Rattle.jr_build.specs.Heads.{UnitsHeads, AreHeaded};
 ghost use Rattle.jr_build.specs.Hierarchies.{Hierarchy};
 ghost use Rattle.jr_build.specs.Superclasses.{IsHierarchy};
 
 use crate::laws::{hierarchies_are_exact, superclasses_are_sound};
 
-/// Members' classes are declared, and what the grammar says of heads holds of sites.
-pub(crate) fn sites_are_headed<A>()
+/// Members' classes are declared, and what the grammar says of heads holds of declarations.
+pub(crate) fn declarations_are_headed<A>()
     ensures { (begins : A → ℕ → ℕ) (us : List (syntax.Unit A)) → UnitsHeads us
-        → AreHeaded (sites_of begins us) }
+        → AreHeaded (declarations_of begins us) }
 {}
 
 /// Where there is no fault, these are the rows of the program, and they meet what rows must.
 pub(crate) fn clean_rows_are_sound()
-    ensures rows { (packages : List (Option PackageLine)) (sites : List Site) (h : Hierarchy)
-        → IsHierarchy sites h → AreHeaded sites → IsClean packages sites
-        → AreProgramRows sites (prelude_rows ++ rows_of_sites h sites) }
-    ensures meet { (packages : List (Option PackageLine)) (sites : List Site) (h : Hierarchy)
-        → IsHierarchy sites h → AreHeaded sites → IsClean packages sites
-        → length (prelude_rows ++ rows_of_sites h sites) < 2 ^ 32
-        → AreRows (prelude_rows ++ rows_of_sites h sites) }
+    ensures rows { (packages : List (Option PackageLine)) (declarations : List DeclaredItem) (h : Hierarchy)
+        → IsHierarchy declarations h → AreHeaded declarations → IsClean packages declarations
+        → AreProgramRows declarations (prelude_rows ++ rows_of_declarations h declarations) }
+    ensures meet { (packages : List (Option PackageLine)) (declarations : List DeclaredItem) (h : Hierarchy)
+        → IsHierarchy declarations h → AreHeaded declarations → IsClean packages declarations
+        → length (prelude_rows ++ rows_of_declarations h declarations) < 2 ^ 32
+        → AreRows (prelude_rows ++ rows_of_declarations h declarations) }
     // No others are.
-    ensures only { (sites : List Site) (h : Hierarchy) → IsHierarchy sites h
-        → (rows others : List Row) → AreProgramRows sites rows → AreProgramRows sites others
+    ensures only { (declarations : List DeclaredItem) (h : Hierarchy) → IsHierarchy declarations h
+        → (rows others : List Row) → AreProgramRows declarations rows → AreProgramRows declarations others
         → rows ≡ others }
 {
     hierarchies_are_exact();

@@ -8,28 +8,28 @@ ghost use Rattle.jr_table.specs.Prelude.{prelude_rows};
 ghost use Rattle.jr_table.specs.ProgramRows.{AreProgramRows};
 ghost use Rattle.jr_table.specs.RowView.{row_of};
 ghost use Rattle.jr_table.specs.Rows as pure_rows;
-ghost use Rattle.jr_table.specs.Sites as pure;
+ghost use Rattle.jr_table.specs.Declared as pure;
 ghost use Rattle.jr_build.specs.declared.faults.BuildFault.TheVariants as fault;
 ghost use Rattle.jr_build.specs.Builds.{IsFoundFault, IsCleanBelow};
-ghost use Rattle.jr_build.specs.ExactRows.{rows_of_sites};
+ghost use Rattle.jr_build.specs.ExactRows.{rows_of_declarations};
 ghost use Rattle.jr_build.specs.Fitting.{begins_by, UnitsFit};
 ghost use Rattle.jr_build.specs.Heads.{UnitsHeads, AreHeaded};
 ghost use Rattle.jr_build.specs.HierarchyView.{hierarchy_of};
 ghost use Rattle.jr_build.specs.Packages.{lines_of};
 ghost use Rattle.jr_build.specs.Places.{place_of, IsEarliest};
-ghost use Rattle.jr_build.specs.SiteView.{site_of};
+ghost use Rattle.jr_build.specs.DeclaredView.{declaration_of};
 ghost use Rattle.jr_build.specs.Superclasses.{IsHierarchy};
 
-use crate::build_laws::{clean_rows_are_sound, sites_are_headed};
+use crate::build_laws::{clean_rows_are_sound, declarations_are_headed};
 use crate::class_faults::{cycle, no_superclass};
 use crate::faults::BuildFault;
-use crate::gathering::program_sites;
+use crate::gathering::program_declarations;
 use crate::hierarchies::Hierarchy;
 use crate::laws::hierarchies_are_exact;
 use crate::packages::package_differs;
 use crate::program_rows::program_rows;
-use crate::site_faults::{bad_modifiers, prelude_name, static_init};
-use crate::sites::Site;
+use crate::declaration_faults::{bad_modifiers, prelude_name, static_init};
+use crate::declarations::DeclaredItem;
 use crate::superclasses::hierarchy;
 use crate::twice_classes::{member_type_name, twice_class};
 use crate::twice_members::twice_member;
@@ -41,14 +41,14 @@ use std::alloc::{AllocError, Global};
 
 /// There is no fault of the kind, or this is its earliest place.
 fn none_of(kind: DeclKind, place: Option<Place>) -> Result<(), BuildFault>
-    ensures clean { (packages : List (Option PackageLine)) (sites : List pure.Site)
-        → IsCleanBelow packages sites (rank_of packages sites kind)
-        → IsEarliest (HasFault packages sites kind) (option_map place_of place)
-        → OnOk result (IsCleanBelow packages sites (rank_of packages sites kind + 1)) }
-    ensures fault { (packages : List (Option PackageLine)) (sites : List pure.Site)
-        → IsCleanBelow packages sites (rank_of packages sites kind)
-        → IsEarliest (HasFault packages sites kind) (option_map place_of place)
-        → IfErr result (IsFoundFault packages sites) }
+    ensures clean { (packages : List (Option PackageLine)) (declarations : List pure.DeclaredItem)
+        → IsCleanBelow packages declarations (rank_of packages declarations kind)
+        → IsEarliest (HasFault packages declarations kind) (option_map place_of place)
+        → OnOk result (IsCleanBelow packages declarations (rank_of packages declarations kind + 1)) }
+    ensures fault { (packages : List (Option PackageLine)) (declarations : List pure.DeclaredItem)
+        → IsCleanBelow packages declarations (rank_of packages declarations kind)
+        → IsEarliest (HasFault packages declarations kind) (option_map place_of place)
+        → IfErr result (IsFoundFault packages declarations) }
 {
     match place {
         None => Ok(()),
@@ -65,53 +65,53 @@ fn no_name_fault<A>(
     alloc: Global,
     units: &[Unit<A>],
     words: &[u32],
-    sites: &[Site<'_>],
+    declarations: &[DeclaredItem<'_>],
 ) -> Result<(), BuildFault>
     requires units { length units.now < 2 ^ 32 }
     requires words { length words.now ≡ length units.now }
-    requires few { length sites.now < 2 ^ 32 }
+    requires few { length declarations.now < 2 ^ 32 }
     ensures clean { OnOk result (IsCleanBelow (lines_of words.now (map unit_of units.now))
-        (map site_of sites.now) 4) }
+        (map declaration_of declarations.now) 4) }
     ensures fault { IfErr result (IsFoundFault (lines_of words.now (map unit_of units.now))
-        (map site_of sites.now)) }
+        (map declaration_of declarations.now)) }
 {
     none_of(DeclKind::PackageDiffers, package_differs(units, words))?;
-    none_of(DeclKind::PreludeName, prelude_name(sites))?;
-    none_of(DeclKind::TwiceClass, twice_class(alloc, sites)?)
+    none_of(DeclKind::PreludeName, prelude_name(declarations))?;
+    none_of(DeclKind::TwiceClass, twice_class(alloc, declarations)?)
 }
 
 /// There is no fault of superclasses and of types, or this is the first.
-fn no_type_fault<'a>(alloc: Global, sites: &[Site<'a>], h: &Hierarchy<'a>) -> Result<(), BuildFault>
-    requires few { length sites.now + 4 < 2 ^ 32 }
-    requires known { IsHierarchy (map site_of sites.now) (hierarchy_of h.now) }
+fn no_type_fault<'a>(alloc: Global, declarations: &[DeclaredItem<'a>], h: &Hierarchy<'a>) -> Result<(), BuildFault>
+    requires few { length declarations.now + 4 < 2 ^ 32 }
+    requires known { IsHierarchy (map declaration_of declarations.now) (hierarchy_of h.now) }
     ensures clean { (packages : List (Option PackageLine))
-        → IsCleanBelow packages (map site_of sites.now) 4
-        → OnOk result (IsCleanBelow packages (map site_of sites.now) 8) }
+        → IsCleanBelow packages (map declaration_of declarations.now) 4
+        → OnOk result (IsCleanBelow packages (map declaration_of declarations.now) 8) }
     ensures fault { (packages : List (Option PackageLine))
-        → IsCleanBelow packages (map site_of sites.now) 4
-        → IfErr result (IsFoundFault packages (map site_of sites.now)) }
+        → IsCleanBelow packages (map declaration_of declarations.now) 4
+        → IfErr result (IsFoundFault packages (map declaration_of declarations.now)) }
 {
     hierarchies_are_exact();
-    none_of(DeclKind::NoSuperclass, no_superclass(sites, h))?;
-    none_of(DeclKind::Cycle, cycle(alloc, sites, h)?)?;
-    none_of(DeclKind::NoTy, no_type(sites, h))?;
-    none_of(DeclKind::TwiceMember, twice_member(alloc, sites, h)?)
+    none_of(DeclKind::NoSuperclass, no_superclass(declarations, h))?;
+    none_of(DeclKind::Cycle, cycle(alloc, declarations, h)?)?;
+    none_of(DeclKind::NoTy, no_type(declarations, h))?;
+    none_of(DeclKind::TwiceMember, twice_member(alloc, declarations, h)?)
 }
 
 /// There is no fault of member types' names, of modifiers and of initializers, or this is the
 /// first.
-fn no_site_fault(alloc: Global, sites: &[Site<'_>]) -> Result<(), BuildFault>
-    requires few { length sites.now < 2 ^ 32 }
+fn no_declaration_fault(alloc: Global, declarations: &[DeclaredItem<'_>]) -> Result<(), BuildFault>
+    requires few { length declarations.now < 2 ^ 32 }
     ensures clean { (packages : List (Option PackageLine))
-        → IsCleanBelow packages (map site_of sites.now) 8
-        → OnOk result (IsCleanBelow packages (map site_of sites.now) 11) }
+        → IsCleanBelow packages (map declaration_of declarations.now) 8
+        → OnOk result (IsCleanBelow packages (map declaration_of declarations.now) 11) }
     ensures fault { (packages : List (Option PackageLine))
-        → IsCleanBelow packages (map site_of sites.now) 8
-        → IfErr result (IsFoundFault packages (map site_of sites.now)) }
+        → IsCleanBelow packages (map declaration_of declarations.now) 8
+        → IfErr result (IsFoundFault packages (map declaration_of declarations.now)) }
 {
-    none_of(DeclKind::MemberTypeName, member_type_name(alloc, sites)?)?;
-    none_of(DeclKind::BadModifiers, bad_modifiers(sites))?;
-    none_of(DeclKind::StaticInit, static_init(sites))
+    none_of(DeclKind::MemberTypeName, member_type_name(alloc, declarations)?)?;
+    none_of(DeclKind::BadModifiers, bad_modifiers(declarations))?;
+    none_of(DeclKind::StaticInit, static_init(declarations))
 }
 
 /// The table that is known, where it has exactly these rows.
@@ -146,55 +146,55 @@ fn known_or_new(
 /// Rows have numbers of 32 bits, and more of them are more than memory holds.
 fn table_of<'a>(
     alloc: Global,
-    sites: &[Site<'a>],
+    declarations: &[DeclaredItem<'a>],
     h: &Hierarchy<'a>,
     known: &mut Option<Table>,
 ) -> Result<Table, BuildFault>
-    requires { length (prelude_rows ++ rows_of_sites (hierarchy_of h.now) (map site_of sites.now))
+    requires { length (prelude_rows ++ rows_of_declarations (hierarchy_of h.now) (map declaration_of declarations.now))
         < 2 ^ 32
-        → AreRows (prelude_rows ++ rows_of_sites (hierarchy_of h.now) (map site_of sites.now)) }
+        → AreRows (prelude_rows ++ rows_of_declarations (hierarchy_of h.now) (map declaration_of declarations.now)) }
     ensures ok { IfOk result (λ table. table
-        ≡ prelude_rows ++ rows_of_sites (hierarchy_of h.now) (map site_of sites.now)) }
+        ≡ prelude_rows ++ rows_of_declarations (hierarchy_of h.now) (map declaration_of declarations.now)) }
     ensures memory { IfErr result (λ e. e ≡ fault.Memory) }
 {
-    let rows = program_rows(alloc, sites, h)?;
+    let rows = program_rows(alloc, declarations, h)?;
     if rows.len() > u32::MAX as usize {
         return Err(BuildFault::Memory);
     }
     Ok(known_or_new(alloc, rows, known)?)
 }
 
-/// How many sites have numbers, so that the prelude's classes have numbers behind them.
+/// How many declarations have numbers, so that the prelude's classes have numbers behind them.
 const MOST_SITES: usize = 4_294_967_291;
 
-/// The table of a program of these sites, or its first fault.
+/// The table of a program of these declarations, or its first fault.
 fn clean_table<A>(
     alloc: Global,
     units: &[Unit<A>],
     words: &[u32],
-    sites: &[Site<'_>],
+    declarations: &[DeclaredItem<'_>],
     known: &mut Option<Table>,
 ) -> Result<Table, BuildFault>
     requires units { length units.now < 2 ^ 32 }
     requires words { length words.now ≡ length units.now }
-    requires headed { AreHeaded (map site_of sites.now) }
+    requires headed { AreHeaded (map declaration_of declarations.now) }
     ensures clean { OnOk result (IsClean (lines_of words.now (map unit_of units.now))
-        (map site_of sites.now)) }
-    ensures rows { IfOk result (λ table. AreProgramRows (map site_of sites.now) table) }
+        (map declaration_of declarations.now)) }
+    ensures rows { IfOk result (λ table. AreProgramRows (map declaration_of declarations.now) table) }
     ensures only { IfOk result (λ table. (rows : List pure_rows.Row)
-        → AreProgramRows (map site_of sites.now) rows → rows ≡ table) }
+        → AreProgramRows (map declaration_of declarations.now) rows → rows ≡ table) }
     ensures fault { IfErr result (IsFoundFault (lines_of words.now (map unit_of units.now))
-        (map site_of sites.now)) }
+        (map declaration_of declarations.now)) }
 {
-    if sites.len() > MOST_SITES {
+    if declarations.len() > MOST_SITES {
         return Err(BuildFault::Memory);
     }
-    no_name_fault(alloc, units, words, sites)?;
-    let h = hierarchy(alloc, sites)?;
-    no_type_fault(alloc, sites, &h)?;
-    no_site_fault(alloc, sites)?;
+    no_name_fault(alloc, units, words, declarations)?;
+    let h = hierarchy(alloc, declarations)?;
+    no_type_fault(alloc, declarations, &h)?;
+    no_declaration_fault(alloc, declarations)?;
     clean_rows_are_sound();
-    table_of(alloc, sites, &h, known)
+    table_of(alloc, declarations, &h, known)
 }
 
 /// The table of a program: its rows, the prelude's in front.
@@ -217,17 +217,17 @@ pub fn build<A: Mark>(
     requires fits { UnitsFit (begins_by A.span_from) A.fits_at (map unit_of units.now) }
     requires heads { UnitsHeads (map unit_of units.now) }
     ensures clean { OnOk result (IsClean (lines_of words.now (map unit_of units.now))
-        (pure.sites_of (begins_by A.span_from) (map unit_of units.now))) }
+        (pure.declarations_of (begins_by A.span_from) (map unit_of units.now))) }
     ensures rows { IfOk result (λ table.
-        AreProgramRows (pure.sites_of (begins_by A.span_from) (map unit_of units.now)) table) }
+        AreProgramRows (pure.declarations_of (begins_by A.span_from) (map unit_of units.now)) table) }
     // No other list is the rows of the program.
     ensures only { IfOk result (λ table. (rows : List pure_rows.Row)
-        → AreProgramRows (pure.sites_of (begins_by A.span_from) (map unit_of units.now)) rows
+        → AreProgramRows (pure.declarations_of (begins_by A.span_from) (map unit_of units.now)) rows
         → rows ≡ table) }
     ensures fault { IfErr result (IsFoundFault (lines_of words.now (map unit_of units.now))
-        (pure.sites_of (begins_by A.span_from) (map unit_of units.now))) }
+        (pure.declarations_of (begins_by A.span_from) (map unit_of units.now))) }
 {
-    sites_are_headed::<A>();
-    let sites = program_sites(alloc, units)?;
-    clean_table(alloc, units, words, &sites, known)
+    declarations_are_headed::<A>();
+    let declarations = program_declarations(alloc, units)?;
+    clean_table(alloc, units, words, &declarations, known)
 }

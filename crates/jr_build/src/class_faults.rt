@@ -4,14 +4,14 @@ ghost use Rattle.std.specs.Prelude.{List, Option, length, map, option_map};
 ghost use Rattle.jr_table.specs.declared.kinds.DeclKind.TheVariants as kind;
 ghost use Rattle.jr_table.specs.Faults.{PackageLine, HasFault};
 ghost use Rattle.jr_build.specs.Places.{place_of, IsEarliest};
-ghost use Rattle.jr_build.specs.SiteView.{item_of, site_of, written_of};
+ghost use Rattle.jr_build.specs.DeclaredView.{item_of, declaration_of, written_of};
 ghost use Rattle.jr_build.specs.HierarchyView.{hierarchy_of};
 ghost use Rattle.jr_build.specs.Superclasses.{IsHierarchy};
 ghost use Rattle.jr_build.specs.Superclasses.{unparented_in, unparented_of, on_cycle_of};
 
 use crate::hierarchies::Hierarchy;
 use crate::places::{earlier, in_file};
-use crate::sites::{Site, SiteItem, Written};
+use crate::declarations::{DeclaredItem, DeclaredKind, Written};
 use jr_index::on_cycle;
 use jr_text::Place;
 use std::alloc::{AllocError, Global};
@@ -44,58 +44,58 @@ fn named_without(written: &Written<'_>, parent: Option<u32>) -> Option<u32>
 }
 
 /// Where a class names a superclass that it hasn't.
-fn unparented_at(item: &SiteItem<'_>, parent: Option<u32>) -> Option<u32>
+fn unparented_at(item: &DeclaredKind<'_>, parent: Option<u32>) -> Option<u32>
     ensures { result ≡ unparented_of (item_of item.now) parent }
 {
     match item {
-        SiteItem::Class(class) => unparented_in(&class.parent, parent),
-        SiteItem::Field(_) | SiteItem::Method(_) | SiteItem::Ctor(_) => None,
+        DeclaredKind::Class(class) => unparented_in(&class.parent, parent),
+        DeclaredKind::Field(_) | DeclaredKind::Method(_) | DeclaredKind::Ctor(_) => None,
     }
 }
 
 /// The earliest name of a superclass that isn't found (JLS 8.1.4).
-pub(crate) fn no_superclass<'a>(sites: &[Site<'a>], hierarchy: &Hierarchy<'a>) -> Option<Place>
-    requires few { length sites.now + 4 < 2 ^ 32 }
-    requires is { IsHierarchy (map site_of sites.now) (hierarchy_of hierarchy.now) }
+pub(crate) fn no_superclass<'a>(declarations: &[DeclaredItem<'a>], hierarchy: &Hierarchy<'a>) -> Option<Place>
+    requires few { length declarations.now + 4 < 2 ^ 32 }
+    requires is { IsHierarchy (map declaration_of declarations.now) (hierarchy_of hierarchy.now) }
     ensures { (packages : List (Option PackageLine)) →
-        IsEarliest (HasFault packages (map site_of sites.now) kind.NoSuperclass)
+        IsEarliest (HasFault packages (map declaration_of declarations.now) kind.NoSuperclass)
         (option_map place_of result) }
 {
     let mut first = None;
-    for (number, site) in sites.iter().enumerate() {
-        let at = unparented_at(&site.item, hierarchy.parent_at(number as u32));
-        first = earlier(first, in_file(site.file, at));
+    for (number, declaration) in declarations.iter().enumerate() {
+        let at = unparented_at(&declaration.item, hierarchy.parent_at(number as u32));
+        first = earlier(first, in_file(declaration.file, at));
     }
     first
 }
 
 /// Where an item is a class that is on a cycle.
-fn on_cycle_at(item: &SiteItem<'_>, on: bool) -> Option<u32>
+fn on_cycle_at(item: &DeclaredKind<'_>, on: bool) -> Option<u32>
     ensures { result ≡ on_cycle_of (item_of item.now) on }
 {
     match item {
-        SiteItem::Class(class) => { if on { Some(class.at) } else { None } }
-        SiteItem::Field(_) | SiteItem::Method(_) | SiteItem::Ctor(_) => None,
+        DeclaredKind::Class(class) => { if on { Some(class.at) } else { None } }
+        DeclaredKind::Field(_) | DeclaredKind::Method(_) | DeclaredKind::Ctor(_) => None,
     }
 }
 
 /// The earliest class that is its own superclass through others (JLS 8.1.4).
 pub(crate) fn cycle<'a>(
     alloc: Global,
-    sites: &[Site<'a>],
+    declarations: &[DeclaredItem<'a>],
     hierarchy: &Hierarchy<'a>,
 ) -> Result<Option<Place>, AllocError>
-    requires few { length sites.now + 4 < 2 ^ 32 }
-    requires is { IsHierarchy (map site_of sites.now) (hierarchy_of hierarchy.now) }
+    requires few { length declarations.now + 4 < 2 ^ 32 }
+    requires is { IsHierarchy (map declaration_of declarations.now) (hierarchy_of hierarchy.now) }
     ensures { IfOk result (λ place. (packages : List (Option PackageLine)) →
-        IsEarliest (HasFault packages (map site_of sites.now) kind.Cycle)
+        IsEarliest (HasFault packages (map declaration_of declarations.now) kind.Cycle)
         (option_map place_of place)) }
 {
     let on = on_cycle(alloc, &hierarchy.parents)?;
     let mut first = None;
-    for (number, site) in sites.iter().enumerate() {
-        let at = on_cycle_at(&site.item, on[number]);
-        first = earlier(first, in_file(site.file, at));
+    for (number, declaration) in declarations.iter().enumerate() {
+        let at = on_cycle_at(&declaration.item, on[number]);
+        first = earlier(first, in_file(declaration.file, at));
     }
     Ok(first)
 }

@@ -3,50 +3,50 @@ ghost use Rattle.std.specs.Prelude.{◌≡◌, ◌++◌, ◌<◌, ◌^◌, IfOk,
 ghost use Rattle.std.specs.List.{list_any};
 ghost use Rattle.jr_table.specs.Entries.{is_private_word};
 ghost use Rattle.jr_build.specs.KeyIndex.{number_at};
-ghost use Rattle.jr_build.specs.SiteView.{item_of, site_of};
+ghost use Rattle.jr_build.specs.DeclaredView.{item_of, declaration_of};
 ghost use Rattle.jr_build.specs.HierarchyView.{keys_of};
 ghost use Rattle.jr_build.specs.Hierarchies as pure;
 ghost use Rattle.jr_index.specs.Names.{named};
-ghost use Rattle.jr_build.specs.SiteView.{site_key_of};
+ghost use Rattle.jr_build.specs.DeclaredView.{declaration_key_of};
 ghost use Rattle.jr_build.specs.Superclasses.{IsNumbering, HasInner, PutsInner};
 
 use crate::key_index::KeyIndex;
-use crate::sites::{Site, SiteItem, SiteKey};
+use crate::declarations::{DeclaredItem, DeclaredKind, DeclaredKey};
 use crate::twice_classes::class_key;
 use jr_ast::ModWord;
 use jr_index::Names;
 use std::alloc::{AllocError, Global};
 
-/// The class that each site declares.
-fn site_keys<'a>(alloc: Global, sites: &[Site<'a>]) -> Result<Vec<Option<SiteKey<'a>>>, AllocError>
+/// The class that each declaration declares.
+fn declaration_keys<'a>(alloc: Global, declarations: &[DeclaredItem<'a>]) -> Result<Vec<Option<DeclaredKey<'a>>>, AllocError>
     ensures { IfOk result (λ keys.
-        keys_of keys.items ≡ pure.site_keys (map site_of sites.now)) }
+        keys_of keys.items ≡ pure.declaration_keys (map declaration_of declarations.now)) }
 {
     let mut keys = Vec::new(alloc);
-    for site in sites {
-        keys.push(class_key(&site.item))?;
+    for declaration in declarations {
+        keys.push(class_key(&declaration.item))?;
     }
     Ok(keys)
 }
 
 /// Puts a class behind the others that is no member class.
-fn push_top<'a>(keys: &mut Vec<Option<SiteKey<'a>>>, name: &'a str) -> Result<(), AllocError>
+fn push_top<'a>(keys: &mut Vec<Option<DeclaredKey<'a>>>, name: &'a str) -> Result<(), AllocError>
     ensures { OnOk result
         (keys_of keys.new.items ≡ keys_of keys.old.items ++ pure.one_class name.now) }
 {
-    keys.push(Some(SiteKey { outer: None, name }))?;
+    keys.push(Some(DeclaredKey { outer: None, name }))?;
     Ok(())
 }
 
-/// The class of each number: those of the sites, and the prelude's behind them.
+/// The class of each number: those of the declarations, and the prelude's behind them.
 pub(crate) fn class_keys<'a>(
     alloc: Global,
-    sites: &[Site<'a>],
-) -> Result<Vec<Option<SiteKey<'a>>>, AllocError>
+    declarations: &[DeclaredItem<'a>],
+) -> Result<Vec<Option<DeclaredKey<'a>>>, AllocError>
     ensures { IfOk result (λ keys.
-        keys_of keys.items ≡ pure.class_keys (map site_of sites.now)) }
+        keys_of keys.items ≡ pure.class_keys (map declaration_of declarations.now)) }
 {
-    let mut keys = site_keys(alloc, sites)?;
+    let mut keys = declaration_keys(alloc, declarations)?;
     push_top(&mut keys, "Object")?;
     push_top(&mut keys, "String")?;
     push_top(&mut keys, "Class")?;
@@ -70,23 +70,23 @@ fn has_private(words: &[ModWord]) -> bool
 }
 
 /// Whether an item declares a private class.
-fn is_private(item: &SiteItem<'_>) -> bool
+fn is_private(item: &DeclaredKind<'_>) -> bool
     ensures { result ≡ pure.is_private_item (item_of item.now) }
 {
     match item {
-        SiteItem::Class(class) => has_private(&class.modifiers),
-        SiteItem::Field(_) | SiteItem::Method(_) | SiteItem::Ctor(_) => false,
+        DeclaredKind::Class(class) => has_private(&class.modifiers),
+        DeclaredKind::Field(_) | DeclaredKind::Method(_) | DeclaredKind::Ctor(_) => false,
     }
 }
 
-/// Whether each site declares a private class.
-pub(crate) fn privates(alloc: Global, sites: &[Site<'_>]) -> Result<Vec<bool>, AllocError>
+/// Whether each declaration declares a private class.
+pub(crate) fn privates(alloc: Global, declarations: &[DeclaredItem<'_>]) -> Result<Vec<bool>, AllocError>
     ensures { IfOk result (λ privates.
-        privates.items ≡ pure.privates_of (map site_of sites.now)) }
+        privates.items ≡ pure.privates_of (map declaration_of declarations.now)) }
 {
     let mut privates = Vec::new(alloc);
-    for site in sites {
-        privates.push(is_private(&site.item))?;
+    for declaration in declarations {
+        privates.push(is_private(&declaration.item))?;
     }
     Ok(privates)
 }
@@ -94,10 +94,10 @@ pub(crate) fn privates(alloc: Global, sites: &[Site<'_>]) -> Result<Vec<bool>, A
 /// Puts the number under the name of a member class.
 fn put_inner<'a>(
     inner: &mut Names<'a>,
-    key: &Option<SiteKey<'a>>,
+    key: &Option<DeclaredKey<'a>>,
     number: u32,
 ) -> Result<(), AllocError>
-    ensures { OnOk result (PutsInner (named inner.old) (option_map site_key_of key.now) number
+    ensures { OnOk result (PutsInner (named inner.old) (option_map declaration_key_of key.now) number
         (named inner.new)) }
 {
     match key {
@@ -115,7 +115,7 @@ fn put_inner<'a>(
 /// The member classes by their names alone.
 pub(crate) fn inner_names<'a>(
     alloc: Global,
-    keys: &[Option<SiteKey<'a>>],
+    keys: &[Option<DeclaredKey<'a>>],
 ) -> Result<Names<'a>, AllocError>
     requires { length keys.now < 2 ^ 32 }
     ensures { IfOk result (λ inner. HasInner (keys_of keys.now) (length keys.now) (named inner)) }
@@ -130,7 +130,7 @@ pub(crate) fn inner_names<'a>(
 /// The numbers by classes.
 pub(crate) fn numbers<'a>(
     alloc: Global,
-    keys: &[Option<SiteKey<'a>>],
+    keys: &[Option<DeclaredKey<'a>>],
 ) -> Result<KeyIndex<'a>, AllocError>
     requires { length keys.now < 2 ^ 32 }
     ensures { IfOk result (λ index.

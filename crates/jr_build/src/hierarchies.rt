@@ -1,15 +1,15 @@
 //! Classes by numbers, with the superclass of each.
 use crate::key_index::KeyIndex;
-use crate::sites::SiteKey;
+use crate::declarations::DeclaredKey;
 use jr_index::Names;
 
 /// The classes of a program and the prelude.
 ///
-/// A class of the program has the number of its site, and the prelude's stand behind all sites.
+/// A class of the program has the number of its declaration, and the prelude's stand behind all declarations.
 #[derive(Drop)]
 pub(crate) struct Hierarchy<'a> {
-    /// The class of each number; none where the site declares no class.
-    pub(crate) keys: Vec<Option<SiteKey<'a>>>,
+    /// The class of each number; none where the declaration declares no class.
+    pub(crate) keys: Vec<Option<DeclaredKey<'a>>>,
     pub(crate) privates: Vec<bool>,
     pub(crate) index: KeyIndex<'a>,
     /// Member classes by their names alone.
@@ -21,14 +21,14 @@ pub(crate) struct Hierarchy<'a> {
 impl<'a> Hierarchy<'a> {
     ghost use Rattle.std.specs.Prelude.{◌≡◌, option_map};
     ghost use Rattle.jr_table.specs.Prelude.{top_key};
-    ghost use Rattle.jr_build.specs.SiteView.{site_key_of};
+    ghost use Rattle.jr_build.specs.DeclaredView.{declaration_key_of};
     ghost use Rattle.jr_build.specs.HierarchyView.{hierarchy_of};
     ghost use Rattle.jr_build.specs.Hierarchies as pure;
 
     /// The number of a class.
     #[tactic(auto, unfolding(crate::specs::HierarchyView::hierarchy_of))]
-    pub(crate) fn number(&self, class: &SiteKey<'a>) -> Option<u32>
-        ensures { result ≡ (hierarchy_of self.now).number (site_key_of class.now) }
+    pub(crate) fn number(&self, class: &DeclaredKey<'a>) -> Option<u32>
+        ensures { result ≡ (hierarchy_of self.now).number (declaration_key_of class.now) }
     {
         self.index.find(class)
     }
@@ -37,14 +37,14 @@ impl<'a> Hierarchy<'a> {
     pub(crate) fn top(&self, name: &'a str) -> Option<u32>
         ensures { result ≡ (hierarchy_of self.now).number (top_key name.now) }
     {
-        self.number(&SiteKey { outer: None, name })
+        self.number(&DeclaredKey { outer: None, name })
     }
 
     /// The number of a member class.
     pub(crate) fn inner(&self, outer: &'a str, name: &'a str) -> Option<u32>
         ensures { result ≡ (hierarchy_of self.now).number (pure.inner_key outer.now name.now) }
     {
-        self.number(&SiteKey {
+        self.number(&DeclaredKey {
             outer: Some(outer),
             name,
         })
@@ -60,8 +60,8 @@ impl<'a> Hierarchy<'a> {
 
     /// The class of a number.
     #[tactic(auto, unfolding(crate::specs::HierarchyView::hierarchy_of))]
-    pub(crate) fn key_at(&self, number: u32) -> Option<SiteKey<'a>>
-        ensures { option_map site_key_of result ≡ pure.key_at (hierarchy_of self.now) number }
+    pub(crate) fn key_at(&self, number: u32) -> Option<DeclaredKey<'a>>
+        ensures { option_map declaration_key_of result ≡ pure.key_at (hierarchy_of self.now) number }
     {
         match self.keys.get(number as usize) {
             None => None,
@@ -92,8 +92,8 @@ impl<'a> Hierarchy<'a> {
     }
 
     /// The member class that a class declares, where that is a top-level class.
-    pub(crate) fn own(&self, class: &SiteKey<'a>, name: &'a str) -> Option<u32>
-        ensures { result ≡ pure.own (hierarchy_of self.now) (site_key_of class.now) name.now }
+    pub(crate) fn own(&self, class: &DeclaredKey<'a>, name: &'a str) -> Option<u32>
+        ensures { result ≡ pure.own (hierarchy_of self.now) (declaration_key_of class.now) name.now }
     {
         match class.outer {
             None => self.inner(class.name, name),
@@ -128,8 +128,8 @@ impl<'a> Hierarchy<'a> {
     }
 
     /// The superclass of a class, as far as it is known.
-    pub(crate) fn parent_of(&self, class: &SiteKey<'a>) -> Option<u32>
-        ensures { result ≡ pure.parent_of (hierarchy_of self.now) (site_key_of class.now) }
+    pub(crate) fn parent_of(&self, class: &DeclaredKey<'a>) -> Option<u32>
+        ensures { result ≡ pure.parent_of (hierarchy_of self.now) (declaration_key_of class.now) }
     {
         match self.number(class) {
             None => None,

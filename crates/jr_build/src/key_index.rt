@@ -1,18 +1,18 @@
 //! Numbers by keys.
-use crate::sites::SiteKey;
+use crate::declarations::DeclaredKey;
 use std::alloc::{AllocError, Global};
 use std::collections::HashMap;
 
 /// Numbers by keys of classes, or of members by their name.
 #[derive(Drop)]
 pub(crate) struct KeyIndex<'a> {
-    numbers: HashMap<SiteKey<'a>, u32>,
+    numbers: HashMap<DeclaredKey<'a>, u32>,
 }
 
 impl<'a> KeyIndex<'a> {
     ghost use Rattle.std.specs.Prelude.{◌≡◌, None, IfOk, OnOk, option_map, option_and_then};
     ghost use Rattle.jr_table.specs.Keys.{ClassKey};
-    ghost use Rattle.jr_build.specs.SiteView.{site_key_of};
+    ghost use Rattle.jr_build.specs.DeclaredView.{declaration_key_of};
     ghost use Rattle.jr_build.specs.KeyIndex.{number_at, PutsKey, PutsMaybe};
 
     /// No keys.
@@ -25,9 +25,9 @@ impl<'a> KeyIndex<'a> {
     }
 
     /// Puts the number under the key, and answers the one before.
-    pub(crate) fn put(&mut self, key: &SiteKey<'a>, number: u32) -> Result<Option<u32>, AllocError>
-        ensures before { IfOk result (λ before. before ≡ number_at self.old (site_key_of key.now)) }
-        ensures put { OnOk result (PutsKey self.old (site_key_of key.now) number self.new) }
+    pub(crate) fn put(&mut self, key: &DeclaredKey<'a>, number: u32) -> Result<Option<u32>, AllocError>
+        ensures before { IfOk result (λ before. before ≡ number_at self.old (declaration_key_of key.now)) }
+        ensures put { OnOk result (PutsKey self.old (declaration_key_of key.now) number self.new) }
     {
         let before = self.numbers.insert(*key, number)?;
         Ok(before)
@@ -36,13 +36,13 @@ impl<'a> KeyIndex<'a> {
     /// Puts the number under the key, if there is one, and answers the one before.
     pub(crate) fn put_maybe(
         &mut self,
-        key: &Option<SiteKey<'a>>,
+        key: &Option<DeclaredKey<'a>>,
         number: u32,
     ) -> Result<Option<u32>, AllocError>
         ensures before { IfOk result (λ before.
-            before ≡ option_and_then (number_at self.old) (option_map site_key_of key.now)) }
+            before ≡ option_and_then (number_at self.old) (option_map declaration_key_of key.now)) }
         ensures put { OnOk result
-            (PutsMaybe self.old (option_map site_key_of key.now) number self.new) }
+            (PutsMaybe self.old (option_map declaration_key_of key.now) number self.new) }
     {
         match key {
             None => Ok(None),
@@ -51,8 +51,8 @@ impl<'a> KeyIndex<'a> {
     }
 
     /// The number under the key.
-    pub(crate) fn find(&self, key: &SiteKey<'a>) -> Option<u32>
-        ensures { result ≡ number_at self.now (site_key_of key.now) }
+    pub(crate) fn find(&self, key: &DeclaredKey<'a>) -> Option<u32>
+        ensures { result ≡ number_at self.now (declaration_key_of key.now) }
     {
         self.numbers.get(key).copied()
     }

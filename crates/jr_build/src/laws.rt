@@ -2,7 +2,7 @@
 ghost use Rattle.std.specs.Prelude.{◌≡◌, ℕ, List, Option, Some, ◌↔◌};
 ghost use Rattle.jr_table.specs.declared.kinds.DeclKind.TheVariants as kind;
 ghost use Rattle.jr_table.specs.Keys.{ClassKey, Ty};
-ghost use Rattle.jr_table.specs.Sites.{Site, Written};
+ghost use Rattle.jr_table.specs.Declared.{DeclaredItem, Written};
 ghost use Rattle.jr_table.specs.Faults.{Place, PackageLine, HasFault};
 ghost use Rattle.jr_table.specs.Resolving.{Means, IsParent};
 ghost use Rattle.jr_build.specs.Hierarchies.{Hierarchy, meaning, parent_key};
@@ -15,20 +15,20 @@ ghost use Rattle.jr_build.specs.Superclasses.{
 
 /// What a hierarchy finds is what types mean and classes extend.
 pub(crate) fn hierarchies_are_exact()
-    ensures means { (sites : List Site) (h : Hierarchy) → IsHierarchy sites h
+    ensures means { (declarations : List DeclaredItem) (h : Hierarchy) → IsHierarchy declarations h
         → (k : ClassKey) (w : Written) (t : Ty)
-        → (meaning h k w ≡ Some t) ↔ Means sites k w t }
-    ensures extends { (sites : List Site) (h : Hierarchy) → IsHierarchy sites h
-        → (k p : ClassKey) → (parent_key h k ≡ Some p) ↔ IsParent sites k p }
+        → (meaning h k w ≡ Some t) ↔ Means declarations k w t }
+    ensures extends { (declarations : List DeclaredItem) (h : Hierarchy) → IsHierarchy declarations h
+        → (k p : ClassKey) → (parent_key h k ≡ Some p) ↔ IsParent declarations k p }
 {}
 
 /// Where no fault of superclasses is, each class has one superclass, and none is on a cycle.
 pub(crate) fn superclasses_are_sound()
-    ensures one { (sites : List Site) (h : Hierarchy) → IsHierarchy sites h → HasOneParent sites }
-    ensures parents { (packages : List (Option PackageLine)) (sites : List Site) (h : Hierarchy)
-        → IsHierarchy sites h
-        → ((p : Place) → HasFault packages sites kind.NoSuperclass p → ⊥) → HasParents sites }
-    ensures acyclic { (packages : List (Option PackageLine)) (sites : List Site) (h : Hierarchy)
-        → IsHierarchy sites h
-        → ((p : Place) → HasFault packages sites kind.Cycle p → ⊥) → HasNoCycle sites }
+    ensures one { (declarations : List DeclaredItem) (h : Hierarchy) → IsHierarchy declarations h → HasOneParent declarations }
+    ensures parents { (packages : List (Option PackageLine)) (declarations : List DeclaredItem) (h : Hierarchy)
+        → IsHierarchy declarations h
+        → ((p : Place) → HasFault packages declarations kind.NoSuperclass p → ⊥) → HasParents declarations }
+    ensures acyclic { (packages : List (Option PackageLine)) (declarations : List DeclaredItem) (h : Hierarchy)
+        → IsHierarchy declarations h
+        → ((p : Place) → HasFault packages declarations kind.Cycle p → ⊥) → HasNoCycle declarations }
 {}

@@ -1,4 +1,4 @@
-//! The table of a program, from its trees: sites, faults of declarations, rows.
+//! The table of a program, from its trees: declarations, faults of declarations, rows.
 #![tactic(auto)]
 
 mod build_laws;
@@ -20,9 +20,9 @@ mod packages;
 mod places;
 mod program_rows;
 mod signatures;
-mod site_faults;
-mod site_parts;
-mod sites;
+mod declaration_faults;
+mod declaration_parts;
+mod declarations;
 mod superclasses;
 mod twice_classes;
 mod twice_members;

@@ -1,18 +1,18 @@
 //! What written types mean.
 ghost use Rattle.std.specs.Prelude.{◌≡◌, option_map};
-ghost use Rattle.jr_build.specs.SiteView.{site_key_of, text_of, written_of};
+ghost use Rattle.jr_build.specs.DeclaredView.{declaration_key_of, text_of, written_of};
 ghost use Rattle.jr_build.specs.HierarchyView.{hierarchy_of, meaning_of};
 ghost use Rattle.jr_build.specs.Hierarchies as pure;
 
 use crate::hierarchies::Hierarchy;
-use crate::sites::{SiteKey, Written};
+use crate::declarations::{DeclaredKey, Written};
 
 /// The type that a written one means.
 #[derive(Clone, Copy, PartialEq, Eq, Hash, Drop)]
 pub(crate) enum Meaning<'a> {
     Int,
     Boolean,
-    Class(SiteKey<'a>),
+    Class(DeclaredKey<'a>),
 }
 
 /// The type of a class by its number.
@@ -27,11 +27,11 @@ fn class_meaning<'a>(hierarchy: &Hierarchy<'a>, class: Option<u32>) -> Option<Me
 /// What a type means that is written in the body of a class; none where it means nothing.
 pub(crate) fn means<'a>(
     hierarchy: &Hierarchy<'a>,
-    of: &SiteKey<'a>,
+    of: &DeclaredKey<'a>,
     written: &Written<'a>,
 ) -> Option<Meaning<'a>>
     ensures { option_map meaning_of result
-        ≡ pure.meaning (hierarchy_of hierarchy.now) (site_key_of of.now) (written_of written.now) }
+        ≡ pure.meaning (hierarchy_of hierarchy.now) (declaration_key_of of.now) (written_of written.now) }
 {
     match written {
         Written::Int => Some(Meaning::Int),
@@ -43,9 +43,9 @@ pub(crate) fn means<'a>(
 }
 
 /// The superclass of a class; none where it has none.
-pub(crate) fn parent<'a>(hierarchy: &Hierarchy<'a>, of: &SiteKey<'a>) -> Option<SiteKey<'a>>
-    ensures { option_map site_key_of result
-        ≡ pure.parent_key (hierarchy_of hierarchy.now) (site_key_of of.now) }
+pub(crate) fn parent<'a>(hierarchy: &Hierarchy<'a>, of: &DeclaredKey<'a>) -> Option<DeclaredKey<'a>>
+    ensures { option_map declaration_key_of result
+        ≡ pure.parent_key (hierarchy_of hierarchy.now) (declaration_key_of of.now) }
 {
     match hierarchy.parent_of(of) {
         None => None,

@@ -1,10 +1,10 @@
 //! Member types, and what a class's name means.
 use crate::hierarchies::Hierarchy;
-use crate::sites::SiteKey;
+use crate::declarations::DeclaredKey;
 
 impl<'a> Hierarchy<'a> {
     ghost use Rattle.std.specs.Prelude.{◌≡◌, option_map, length};
-    ghost use Rattle.jr_build.specs.SiteView.{site_key_of, text_of};
+    ghost use Rattle.jr_build.specs.DeclaredView.{declaration_key_of, text_of};
     ghost use Rattle.jr_build.specs.HierarchyView.{hierarchy_of};
     ghost use Rattle.jr_build.specs.Hierarchies as pure;
 
@@ -51,9 +51,9 @@ impl<'a> Hierarchy<'a> {
     }
 
     /// The member type of a class: the class that it declares, or else what it inherits (JLS 8.5).
-    pub(crate) fn member_type(&self, class: &SiteKey<'a>, name: &'a str) -> Option<u32>
+    pub(crate) fn member_type(&self, class: &DeclaredKey<'a>, name: &'a str) -> Option<u32>
         ensures { result
-            ≡ pure.member_type (hierarchy_of self.now) (site_key_of class.now) name.now }
+            ≡ pure.member_type (hierarchy_of self.now) (declaration_key_of class.now) name.now }
     {
         match self.own(class, name) {
             Some(own) => Some(own),
@@ -86,7 +86,7 @@ impl<'a> Hierarchy<'a> {
         ensures { result ≡ pure.found_in_top (hierarchy_of self.now) outer.now name.now }
     {
         match self.member_type(
-            &SiteKey {
+            &DeclaredKey {
                 outer: None,
                 name: outer,
             },
@@ -109,9 +109,9 @@ impl<'a> Hierarchy<'a> {
     }
 
     /// What a simple name means in a class (JLS 6.4.1).
-    fn found_type(&self, class: &SiteKey<'a>, name: &'a str) -> Option<u32>
+    fn found_type(&self, class: &DeclaredKey<'a>, name: &'a str) -> Option<u32>
         ensures { result
-            ≡ pure.found_type (hierarchy_of self.now) (site_key_of class.now) name.now }
+            ≡ pure.found_type (hierarchy_of self.now) (declaration_key_of class.now) name.now }
     {
         match self.member_type(class, name) {
             Some(class) => Some(class),
@@ -122,11 +122,11 @@ impl<'a> Hierarchy<'a> {
     /// The class that a name means in a class, perhaps written behind another.
     pub(crate) fn meant_class(
         &self,
-        class: &SiteKey<'a>,
+        class: &DeclaredKey<'a>,
         left: &Option<&'a str>,
         name: &'a str,
     ) -> Option<u32>
-        ensures { result ≡ pure.meant_class (hierarchy_of self.now) (site_key_of class.now)
+        ensures { result ≡ pure.meant_class (hierarchy_of self.now) (declaration_key_of class.now)
             (option_map text_of left.now) name.now }
     {
         match left {

@@ -5,7 +5,7 @@ ghost use Rattle.jr_ast.specs.declared.operators.ModWord.TheVariants as word;
 ghost use Rattle.jr_table.specs.Resolving.{HasWord};
 ghost use Rattle.jr_table.specs.Faults.{IsTwice, IsAccess, TopWord, InnerWord};
 ghost use Rattle.jr_table.specs.Faults.{FieldWord, MethodWord, AreBad};
-ghost use Rattle.jr_build.specs.SiteFaults.{May, HasTwice, HasTwoAccesses, HasOther};
+ghost use Rattle.jr_build.specs.DeclarationFaults.{May, HasTwice, HasTwoAccesses, HasOther};
 
 use jr_ast::ModWord;
 

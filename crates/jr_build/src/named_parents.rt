@@ -1,10 +1,10 @@
 //! The class that is named as a superclass.
 use crate::hierarchies::Hierarchy;
-use crate::sites::{SiteItem, Written};
+use crate::declarations::{DeclaredKind, Written};
 
 impl<'a> Hierarchy<'a> {
     ghost use Rattle.std.specs.Prelude.{◌≡◌, Some, option_map};
-    ghost use Rattle.jr_build.specs.SiteView.{item_of, written_of, text_of};
+    ghost use Rattle.jr_build.specs.DeclaredView.{item_of, written_of, text_of};
     ghost use Rattle.jr_build.specs.HierarchyView.{hierarchy_of};
     ghost use Rattle.jr_build.specs.Hierarchies as pure;
 
@@ -70,12 +70,12 @@ impl<'a> Hierarchy<'a> {
     }
 
     /// What the class that an item declares names as its superclass.
-    pub(crate) fn parent_of_item(&self, item: &SiteItem<'a>) -> Option<u32>
+    pub(crate) fn parent_of_item(&self, item: &DeclaredKind<'a>) -> Option<u32>
         ensures { result ≡ pure.parent_of_item (hierarchy_of self.now) (item_of item.now) }
     {
         match item {
-            SiteItem::Class(class) => self.parent_in(&class.key.outer, &class.parent),
-            SiteItem::Field(_) | SiteItem::Method(_) | SiteItem::Ctor(_) => None,
+            DeclaredKind::Class(class) => self.parent_in(&class.key.outer, &class.parent),
+            DeclaredKind::Field(_) | DeclaredKind::Method(_) | DeclaredKind::Ctor(_) => None,
         }
     }
 
@@ -91,12 +91,12 @@ impl<'a> Hierarchy<'a> {
     }
 
     /// What a top-level class names as its superclass; nothing of other items.
-    pub(crate) fn parent_of_outer_item(&self, item: &SiteItem<'a>) -> Option<u32>
+    pub(crate) fn parent_of_outer_item(&self, item: &DeclaredKind<'a>) -> Option<u32>
         ensures { result ≡ pure.parent_of_outer_item (hierarchy_of self.now) (item_of item.now) }
     {
         match item {
-            SiteItem::Class(class) => self.parent_of_outer(&class.key.outer, &class.parent),
-            SiteItem::Field(_) | SiteItem::Method(_) | SiteItem::Ctor(_) => None,
+            DeclaredKind::Class(class) => self.parent_of_outer(&class.key.outer, &class.parent),
+            DeclaredKind::Field(_) | DeclaredKind::Method(_) | DeclaredKind::Ctor(_) => None,
         }
     }
 }

@@ -1,12 +1,12 @@
 //! In which order superclasses of member classes are found: that of a class behind those that it
 //! waits for.
 use crate::hierarchies::Hierarchy;
-use crate::sites::{Site, SiteItem, Written};
+use crate::declarations::{DeclaredItem, DeclaredKind, Written};
 use std::alloc::{AllocError, Global};
 
 impl<'a> Hierarchy<'a> {
     ghost use Rattle.std.specs.Prelude.{◌+◌, ◌<◌, ◌^◌, length, map};
-    ghost use Rattle.jr_build.specs.SiteView.{site_of};
+    ghost use Rattle.jr_build.specs.DeclaredView.{declaration_of};
     ghost use Rattle.jr_build.specs.HierarchyView.{hierarchy_of};
     ghost use Rattle.jr_build.specs.Superclasses.{KnowsTops};
 
@@ -40,25 +40,25 @@ impl<'a> Hierarchy<'a> {
     }
 
     /// The class that the superclass of an item's class waits for.
-    fn awaits(&self, item: &SiteItem<'a>) -> Option<u32> {
+    fn awaits(&self, item: &DeclaredKind<'a>) -> Option<u32> {
         match item {
-            SiteItem::Class(class) => match class.key.outer {
+            DeclaredKind::Class(class) => match class.key.outer {
                 None => None,
                 Some(around) => match &class.parent {
                     None => None,
                     Some(written) => self.awaited_by(around, written),
                 },
             },
-            SiteItem::Field(_) | SiteItem::Method(_) | SiteItem::Ctor(_) => None,
+            DeclaredKind::Field(_) | DeclaredKind::Method(_) | DeclaredKind::Ctor(_) => None,
         }
     }
 
     /// The class that a number's waits for, where it isn't marked.
-    fn next_awaited(&self, number: u32, sites: &[Site<'a>], marks: &[bool]) -> Option<u32> {
-        let Some(site) = sites.get(number as usize) else {
+    fn next_awaited(&self, number: u32, declarations: &[DeclaredItem<'a>], marks: &[bool]) -> Option<u32> {
+        let Some(declaration) = declarations.get(number as usize) else {
             return None;
         };
-        let Some(class) = self.awaits(&site.item) else {
+        let Some(class) = self.awaits(&declaration.item) else {
             return None;
         };
         match marks.get(class as usize) {
@@ -68,14 +68,14 @@ impl<'a> Hierarchy<'a> {
     }
 
     /// Keeps what is told of a number's superclass.
-    fn tell_at(&mut self, number: u32, sites: &[Site<'a>])
-        requires { KnowsTops (map site_of sites.now) (hierarchy_of self.old) }
-        ensures { KnowsTops (map site_of sites.now) (hierarchy_of self.new) }
+    fn tell_at(&mut self, number: u32, declarations: &[DeclaredItem<'a>])
+        requires { KnowsTops (map declaration_of declarations.now) (hierarchy_of self.old) }
+        ensures { KnowsTops (map declaration_of declarations.now) (hierarchy_of self.new) }
     {
-        match sites.get(number as usize) {
+        match declarations.get(number as usize) {
             None => (),
-            Some(site) => {
-                let _told = self.tell(number, &site.item);
+            Some(declaration) => {
+                let _told = self.tell(number, &declaration.item);
             }
         }
     }
@@ -84,20 +84,20 @@ impl<'a> Hierarchy<'a> {
     /// or for what is waited for already, its superclass is told. Each class is marked once.
     fn follow(
         &mut self,
-        sites: &[Site<'a>],
+        declarations: &[DeclaredItem<'a>],
         marks: &mut [bool],
         stack: &mut Vec<u32>,
     ) -> Result<(), AllocError>
-        requires { KnowsTops (map site_of sites.now) (hierarchy_of self.old) }
-        ensures { KnowsTops (map site_of sites.now) (hierarchy_of self.new) }
+        requires { KnowsTops (map declaration_of declarations.now) (hierarchy_of self.old) }
+        ensures { KnowsTops (map declaration_of declarations.now) (hierarchy_of self.new) }
     {
         for _turn in 0..marks.len().saturating_mul(2) {
             let Some(last) = stack.last().copied() else {
                 return Ok(());
             };
-            match self.next_awaited(last, sites, marks) {
+            match self.next_awaited(last, declarations, marks) {
                 None => {
-                    self.tell_at(last, sites);
+                    self.tell_at(last, declarations);
                     let _last = stack.pop();
                 }
                 Some(class) => {
@@ -115,17 +115,17 @@ impl<'a> Hierarchy<'a> {
     pub(crate) fn tell_in_order(
         &mut self,
         alloc: Global,
-        sites: &[Site<'a>],
+        declarations: &[DeclaredItem<'a>],
     ) -> Result<(), AllocError>
-        requires few { length sites.now + 4 < 2 ^ 32 }
-        requires knows { KnowsTops (map site_of sites.now) (hierarchy_of self.old) }
-        ensures { KnowsTops (map site_of sites.now) (hierarchy_of self.new) }
+        requires few { length declarations.now + 4 < 2 ^ 32 }
+        requires knows { KnowsTops (map declaration_of declarations.now) (hierarchy_of self.old) }
+        ensures { KnowsTops (map declaration_of declarations.now) (hierarchy_of self.new) }
     {
         let mut marks = vec![in alloc; false; self.keys.len()]?;
         let mut stack = Vec::new(alloc);
-        for number in 0..sites.len() {
+        for number in 0..declarations.len() {
             stack.push(number as u32)?;
-            self.follow(sites, &mut marks, &mut stack)?;
+            self.follow(declarations, &mut marks, &mut stack)?;
         }
         Ok(())
     }

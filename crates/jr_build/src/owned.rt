@@ -3,10 +3,10 @@ ghost use Rattle.std.specs.Prelude.{◌≡◌, IfOk, filter, map, option_map};
 ghost use Rattle.jr_table.specs.ProgramRows as rows;
 ghost use Rattle.jr_table.specs.TypeView.{class_key_of, ty_of};
 ghost use Rattle.jr_build.specs.HierarchyView.{meaning_of};
-ghost use Rattle.jr_build.specs.SiteView.{text_of, site_key_of};
+ghost use Rattle.jr_build.specs.DeclaredView.{text_of, declaration_key_of};
 
 use crate::meanings::Meaning;
-use crate::sites::SiteKey;
+use crate::declarations::DeclaredKey;
 use jr_ast::{ModWord, Name};
 use jr_table::{ClassKey, Mods, Ty, Tys};
 use std::alloc::{AllocError, Global};
@@ -21,8 +21,8 @@ fn maybe_name(alloc: Global, name: Option<&str>) -> Result<Option<Name>, AllocEr
 }
 
 /// A class's key, with names of its own.
-pub(crate) fn owned_key(alloc: Global, key: &SiteKey<'_>) -> Result<ClassKey, AllocError>
-    ensures { IfOk result (λ k. class_key_of k ≡ site_key_of key.now) }
+pub(crate) fn owned_key(alloc: Global, key: &DeclaredKey<'_>) -> Result<ClassKey, AllocError>
+    ensures { IfOk result (λ k. class_key_of k ≡ declaration_key_of key.now) }
 {
     let outer = maybe_name(alloc, key.outer)?;
     let name = Name::new(alloc, key.name)?;
@@ -32,9 +32,9 @@ pub(crate) fn owned_key(alloc: Global, key: &SiteKey<'_>) -> Result<ClassKey, Al
 /// A class's key, if there is one, with names of its own.
 pub(crate) fn maybe_owned_key(
     alloc: Global,
-    key: &Option<SiteKey<'_>>,
+    key: &Option<DeclaredKey<'_>>,
 ) -> Result<Option<ClassKey>, AllocError>
-    ensures { IfOk result (λ k. option_map class_key_of k ≡ option_map site_key_of key.now) }
+    ensures { IfOk result (λ k. option_map class_key_of k ≡ option_map declaration_key_of key.now) }
 {
     match key {
         None => Ok(None),

@@ -5,7 +5,7 @@ ghost use Rattle.jr_table.specs.declared.kinds.DeclKind.TheVariants as kind;
 ghost use Rattle.jr_table.specs.Faults.{HasFault, line_at};
 ghost use Rattle.jr_build.specs.Packages.{package_names, line_of, lines_of};
 ghost use Rattle.jr_build.specs.Places.{place_of, IsEarliest};
-ghost use Rattle.jr_table.specs.Sites.{Site};
+ghost use Rattle.jr_table.specs.Declared.{DeclaredItem};
 
 use jr_ast::{Ident, Unit};
 use jr_text::Place;
@@ -46,8 +46,8 @@ fn line_place<A>(names: &[Ident<A>], word: u32) -> u32
 pub(crate) fn package_differs<A>(units: &[Unit<A>], words: &[u32]) -> Option<Place>
     requires few { length units.now < 2 ^ 32 }
     requires each { length words.now ≡ length units.now }
-    ensures { (sites : List Site) → IsEarliest
-        (HasFault (lines_of words.now (map unit_of units.now)) sites kind.PackageDiffers)
+    ensures { (declarations : List DeclaredItem) → IsEarliest
+        (HasFault (lines_of words.now (map unit_of units.now)) declarations kind.PackageDiffers)
         (option_map place_of result) }
 {
     for (file, unit) in units.iter().enumerate() {

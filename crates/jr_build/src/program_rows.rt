@@ -5,9 +5,9 @@ ghost use Rattle.jr_table.specs.RowView.{row_of};
 ghost use Rattle.jr_table.specs.TypeView.{ty_of};
 ghost use Rattle.jr_build.specs.ExactRows as exact;
 ghost use Rattle.jr_build.specs.HierarchyView.{hierarchy_of};
-ghost use Rattle.jr_build.specs.SiteView.{site_key_of, written_of, param_site_of};
-ghost use Rattle.jr_build.specs.SiteView.{class_site_of, field_site_of, method_site_of};
-ghost use Rattle.jr_build.specs.SiteView.{ctor_site_of, item_of, site_of};
+ghost use Rattle.jr_build.specs.DeclaredView.{declaration_key_of, written_of, param_declaration_of};
+ghost use Rattle.jr_build.specs.DeclaredView.{class_declaration_of, field_declaration_of, method_declaration_of};
+ghost use Rattle.jr_build.specs.DeclaredView.{ctor_declaration_of, item_of, declaration_of};
 
 use crate::hierarchies::Hierarchy;
 use crate::meanings::{means, parent};
@@ -15,8 +15,8 @@ use crate::owned::{
     access_words, maybe_owned_key, maybe_owned_type, owned_key, owned_types, owned_words,
 };
 use crate::signatures::meanings_of;
-use crate::sites::{
-    ClassSite, CtorSite, FieldSite, MethodSite, ParamSite, Site, SiteItem, SiteKey, Written,
+use crate::declarations::{
+    DeclaredClass, DeclaredCtor, DeclaredField, DeclaredMethod, DeclaredParam, DeclaredItem, DeclaredKind, DeclaredKey, Written,
 };
 use jr_table::{CtorKey, Decl, FieldKey, MethodKey, Row, Ty, Tys, prelude};
 use std::alloc::{AllocError, Global};
@@ -25,11 +25,11 @@ use std::alloc::{AllocError, Global};
 fn param_types<'a>(
     alloc: Global,
     h: &Hierarchy<'a>,
-    of: &SiteKey<'a>,
-    params: &[ParamSite<'a>],
+    of: &DeclaredKey<'a>,
+    params: &[DeclaredParam<'a>],
 ) -> Result<Tys, AllocError>
-    ensures { IfOk result (λ ts. ts ≡ exact.param_types (hierarchy_of h.now) (site_key_of of.now)
-        (map param_site_of params.now)) }
+    ensures { IfOk result (λ ts. ts ≡ exact.param_types (hierarchy_of h.now) (declaration_key_of of.now)
+        (map param_declaration_of params.now)) }
 {
     match meanings_of(alloc, h, of, params)? {
         None => Tys::from_vec(Vec::new(alloc)),
@@ -41,11 +41,11 @@ fn param_types<'a>(
 fn result_type<'a>(
     alloc: Global,
     h: &Hierarchy<'a>,
-    of: &SiteKey<'a>,
+    of: &DeclaredKey<'a>,
     written: &Option<Written<'a>>,
 ) -> Result<Option<Ty>, AllocError>
     ensures { IfOk result (λ t. option_map ty_of t ≡ exact.result_type (hierarchy_of h.now)
-        (site_key_of of.now) (option_map written_of written.now)) }
+        (declaration_key_of of.now) (option_map written_of written.now)) }
 {
     match written {
         None => Ok(Some(Ty::Void)),
@@ -53,9 +53,9 @@ fn result_type<'a>(
     }
 }
 
-fn class_row<'a>(alloc: Global, h: &Hierarchy<'a>, class: &ClassSite<'a>) -> Result<Row, AllocError>
+fn class_row<'a>(alloc: Global, h: &Hierarchy<'a>, class: &DeclaredClass<'a>) -> Result<Row, AllocError>
     ensures { IfOk result (λ r. row_of r
-        ≡ exact.class_row (hierarchy_of h.now) (class_site_of class.now)) }
+        ≡ exact.class_row (hierarchy_of h.now) (class_declaration_of class.now)) }
 {
     let key = owned_key(alloc, &class.key)?;
     let modifiers = owned_words(alloc, &class.modifiers)?;
@@ -70,8 +70,8 @@ fn class_row<'a>(alloc: Global, h: &Hierarchy<'a>, class: &ClassSite<'a>) -> Res
 }
 
 /// The row of a constructor that isn't written: it has the class's access (JLS 8.8.9).
-fn unwritten_row(alloc: Global, class: &ClassSite<'_>) -> Result<Row, AllocError>
-    ensures { IfOk result (λ r. row_of r ≡ exact.unwritten (class_site_of class.now)) }
+fn unwritten_row(alloc: Global, class: &DeclaredClass<'_>) -> Result<Row, AllocError>
+    ensures { IfOk result (λ r. row_of r ≡ exact.unwritten (class_declaration_of class.now)) }
 {
     let key = owned_key(alloc, &class.key)?;
     let modifiers = access_words(alloc, &class.modifiers)?;
@@ -85,9 +85,9 @@ fn unwritten_row(alloc: Global, class: &ClassSite<'_>) -> Result<Row, AllocError
     })
 }
 
-fn field_row<'a>(alloc: Global, h: &Hierarchy<'a>, field: &FieldSite<'a>) -> Result<Row, AllocError>
+fn field_row<'a>(alloc: Global, h: &Hierarchy<'a>, field: &DeclaredField<'a>) -> Result<Row, AllocError>
     ensures { IfOk result (λ r. row_of r
-        ≡ exact.field_row (hierarchy_of h.now) (field_site_of field.now)) }
+        ≡ exact.field_row (hierarchy_of h.now) (field_declaration_of field.now)) }
 {
     let class = owned_key(alloc, &field.of)?;
     let name = field.name.copy()?;
@@ -105,10 +105,10 @@ fn field_row<'a>(alloc: Global, h: &Hierarchy<'a>, field: &FieldSite<'a>) -> Res
 fn method_row<'a>(
     alloc: Global,
     h: &Hierarchy<'a>,
-    method: &MethodSite<'a>,
+    method: &DeclaredMethod<'a>,
 ) -> Result<Row, AllocError>
     ensures { IfOk result (λ r. row_of r
-        ≡ exact.method_row (hierarchy_of h.now) (method_site_of method.now)) }
+        ≡ exact.method_row (hierarchy_of h.now) (method_declaration_of method.now)) }
 {
     let class = owned_key(alloc, &method.of)?;
     let name = method.name.copy()?;
@@ -128,9 +128,9 @@ fn method_row<'a>(
     })
 }
 
-fn ctor_row<'a>(alloc: Global, h: &Hierarchy<'a>, ctor: &CtorSite<'a>) -> Result<Row, AllocError>
+fn ctor_row<'a>(alloc: Global, h: &Hierarchy<'a>, ctor: &DeclaredCtor<'a>) -> Result<Row, AllocError>
     ensures { IfOk result (λ r. row_of r
-        ≡ exact.ctor_row (hierarchy_of h.now) (ctor_site_of ctor.now)) }
+        ≡ exact.ctor_row (hierarchy_of h.now) (ctor_declaration_of ctor.now)) }
 {
     let class = owned_key(alloc, &ctor.of)?;
     let params = param_types(alloc, h, &ctor.of, &ctor.params)?;
@@ -149,10 +149,10 @@ fn push_class<'a>(
     alloc: Global,
     rows: &mut Vec<Row>,
     h: &Hierarchy<'a>,
-    class: &ClassSite<'a>,
+    class: &DeclaredClass<'a>,
 ) -> Result<(), AllocError>
     ensures { OnOk result (map row_of rows.new.items ≡ map row_of rows.old.items
-        ++ exact.class_rows (hierarchy_of h.now) (class_site_of class.now) class.now.has_ctor) }
+        ++ exact.class_rows (hierarchy_of h.now) (class_declaration_of class.now) class.now.has_ctor) }
 {
     rows.push(class_row(alloc, h, class)?)?;
     if !class.has_ctor {
@@ -166,41 +166,41 @@ fn push_item<'a>(
     alloc: Global,
     rows: &mut Vec<Row>,
     h: &Hierarchy<'a>,
-    item: &SiteItem<'a>,
+    item: &DeclaredKind<'a>,
 ) -> Result<(), AllocError>
     ensures { OnOk result (map row_of rows.new.items ≡ map row_of rows.old.items
         ++ exact.rows_of_item (hierarchy_of h.now) (item_of item.now)) }
 {
     match item {
-        SiteItem::Class(class) => push_class(alloc, rows, h, class),
-        SiteItem::Field(field) => {
+        DeclaredKind::Class(class) => push_class(alloc, rows, h, class),
+        DeclaredKind::Field(field) => {
             rows.push(field_row(alloc, h, field)?)?;
             Ok(())
         }
-        SiteItem::Method(method) => {
+        DeclaredKind::Method(method) => {
             rows.push(method_row(alloc, h, method)?)?;
             Ok(())
         }
-        SiteItem::Ctor(ctor) => {
+        DeclaredKind::Ctor(ctor) => {
             rows.push(ctor_row(alloc, h, ctor)?)?;
             Ok(())
         }
     }
 }
 
-/// The rows of a program: the prelude's, and those of its sites.
+/// The rows of a program: the prelude's, and those of its declarations.
 pub(crate) fn program_rows<'a>(
     alloc: Global,
-    sites: &[Site<'a>],
+    declarations: &[DeclaredItem<'a>],
     h: &Hierarchy<'a>,
 ) -> Result<Vec<Row>, AllocError>
     ensures { IfOk result (λ rows. map row_of rows.items ≡ pure_prelude.prelude_rows
-        ++ exact.rows_of_sites (hierarchy_of h.now) (map site_of sites.now)) }
+        ++ exact.rows_of_declarations (hierarchy_of h.now) (map declaration_of declarations.now)) }
 {
     let mut rows = prelude(alloc)?;
-    rows.reserve(sites.len())?;
-    for site in sites {
-        push_item(alloc, &mut rows, h, &site.item)?;
+    rows.reserve(declarations.len())?;
+    for declaration in declarations {
+        push_item(alloc, &mut rows, h, &declaration.item)?;
     }
     Ok(rows)
 }

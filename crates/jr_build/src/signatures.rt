@@ -3,11 +3,11 @@ ghost use Rattle.std.specs.Prelude.{◌≡◌, IfOk, Option, Some, map, option_m
 ghost use Rattle.jr_build.specs.Hierarchies.{meaning};
 ghost use Rattle.jr_build.specs.HierarchyView.{hierarchy_of, meaning_of};
 ghost use Rattle.jr_build.specs.Signatures.{signature_view, meanings, signature_of};
-ghost use Rattle.jr_build.specs.SiteView.{text_of, site_key_of, param_site_of, item_of};
+ghost use Rattle.jr_build.specs.DeclaredView.{text_of, declaration_key_of, param_declaration_of, item_of};
 
 use crate::hierarchies::Hierarchy;
 use crate::meanings::{Meaning, means};
-use crate::sites::{ParamSite, SiteItem, SiteKey};
+use crate::declarations::{DeclaredParam, DeclaredKind, DeclaredKey};
 use std::alloc::{AllocError, Global};
 use std::collections::HashMap;
 
@@ -15,7 +15,7 @@ use std::collections::HashMap;
 /// field no parameters.
 #[derive(PartialEq, Eq, Hash, Drop)]
 pub(crate) struct Signature<'a> {
-    of: SiteKey<'a>,
+    of: DeclaredKey<'a>,
     name: Option<&'a str>,
     params: Option<Vec<Meaning<'a>>>,
 }
@@ -24,11 +24,11 @@ pub(crate) struct Signature<'a> {
 pub(crate) fn meanings_of<'a>(
     alloc: Global,
     h: &Hierarchy<'a>,
-    of: &SiteKey<'a>,
-    params: &[ParamSite<'a>],
+    of: &DeclaredKey<'a>,
+    params: &[DeclaredParam<'a>],
 ) -> Result<Option<Vec<Meaning<'a>>>, AllocError>
     ensures { IfOk result (λ r. option_map (λ v. map meaning_of v.items) r
-        ≡ meanings (hierarchy_of h.now) (site_key_of of.now) (map param_site_of params.now)) }
+        ≡ meanings (hierarchy_of h.now) (declaration_key_of of.now) (map param_declaration_of params.now)) }
 {
     let mut list = Vec::new(alloc);
     for param in params {
@@ -42,12 +42,12 @@ pub(crate) fn meanings_of<'a>(
 
 /// The signature of a member with these parameters, if each of their types means something.
 fn with_params<'a>(
-    of: &SiteKey<'a>,
+    of: &DeclaredKey<'a>,
     name: Option<&'a str>,
     params: Option<Vec<Meaning<'a>>>,
 ) -> Option<Signature<'a>>
     ensures { option_map signature_view result ≡ option_map (λ ts. record {
-      of = site_key_of of.now;
+      of = declaration_key_of of.now;
       name = option_map text_of name.entry;
       params = Some ts;
     }) (option_map (λ v. map meaning_of v.items) params.entry) }
@@ -66,23 +66,23 @@ fn with_params<'a>(
 pub(crate) fn item_signature<'a>(
     alloc: Global,
     h: &Hierarchy<'a>,
-    item: &SiteItem<'a>,
+    item: &DeclaredKind<'a>,
 ) -> Result<Option<Signature<'a>>, AllocError>
     ensures { IfOk result (λ s. option_map signature_view s
         ≡ signature_of (hierarchy_of h.now) (item_of item.now)) }
 {
     match item {
-        SiteItem::Class(_) => Ok(None),
-        SiteItem::Field(field) => Ok(Some(Signature {
+        DeclaredKind::Class(_) => Ok(None),
+        DeclaredKind::Field(field) => Ok(Some(Signature {
             of: field.of,
             name: Some(field.name.as_str()),
             params: None,
         })),
-        SiteItem::Method(method) => {
+        DeclaredKind::Method(method) => {
             let params = meanings_of(alloc, h, &method.of, &method.params)?;
             Ok(with_params(&method.of, Some(method.name.as_str()), params))
         }
-        SiteItem::Ctor(ctor) => {
+        DeclaredKind::Ctor(ctor) => {
             let params = meanings_of(alloc, h, &ctor.of, &ctor.params)?;
             Ok(with_params(&ctor.of, None, params))
         }

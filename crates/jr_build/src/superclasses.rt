@@ -1,45 +1,45 @@
 //! The superclass of each class.
 ghost use Rattle.std.specs.Prelude.{◌≡◌, ◌+◌, ◌<◌, ◌^◌, IfOk, length, map};
-ghost use Rattle.jr_build.specs.SiteView.{site_of};
+ghost use Rattle.jr_build.specs.DeclaredView.{declaration_of};
 ghost use Rattle.jr_build.specs.HierarchyView.{hierarchy_of};
 ghost use Rattle.jr_build.specs.Hierarchies as pure;
 ghost use Rattle.jr_build.specs.Superclasses.{AreUnique, HasClasses, KnowsTops, IsHierarchy};
 
 use crate::class_numbers::{class_keys, inner_names, numbers, privates};
 use crate::hierarchies::Hierarchy;
-use crate::sites::{Site, SiteItem};
+use crate::declarations::{DeclaredItem, DeclaredKind};
 use std::alloc::{AllocError, Global};
 
 impl<'a> Hierarchy<'a> {
     ghost use Rattle.std.specs.Prelude.{◌≡◌, ◌+◌, ◌<◌, ◌^◌, IsTrue, IfOk, false};
     ghost use Rattle.std.specs.Prelude.{length, map, is_some};
-    ghost use Rattle.jr_build.specs.SiteView.{item_of, site_of};
+    ghost use Rattle.jr_build.specs.DeclaredView.{item_of, declaration_of};
     ghost use Rattle.jr_build.specs.HierarchyView.{hierarchy_of};
     ghost use Rattle.jr_build.specs.Hierarchies as pure;
     ghost use Rattle.jr_build.specs.Superclasses.{KnowsTops, IsSettled, IsHierarchy};
 
-    /// What the sites' top-level classes name.
-    fn site_parents(
+    /// What the declarations' top-level classes name.
+    fn declaration_parents(
         &self,
         alloc: Global,
-        sites: &[Site<'a>],
+        declarations: &[DeclaredItem<'a>],
     ) -> Result<Vec<Option<u32>>, AllocError>
         ensures { IfOk result (λ parents. parents.items
-            ≡ pure.site_parents (hierarchy_of self.now) (map site_of sites.now)) }
+            ≡ pure.declaration_parents (hierarchy_of self.now) (map declaration_of declarations.now)) }
     {
         let mut parents = Vec::new(alloc);
-        for site in sites {
-            parents.push(self.parent_of_outer_item(&site.item))?;
+        for declaration in declarations {
+            parents.push(self.parent_of_outer_item(&declaration.item))?;
         }
         Ok(parents)
     }
 
     /// The superclasses of top-level classes and of the prelude's.
-    fn top_parents(&self, alloc: Global, sites: &[Site<'a>]) -> Result<Vec<Option<u32>>, AllocError>
+    fn top_parents(&self, alloc: Global, declarations: &[DeclaredItem<'a>]) -> Result<Vec<Option<u32>>, AllocError>
         ensures { IfOk result (λ parents. parents.items
-            ≡ pure.top_parents (hierarchy_of self.now) (map site_of sites.now)) }
+            ≡ pure.top_parents (hierarchy_of self.now) (map declaration_of declarations.now)) }
     {
-        let mut parents = self.site_parents(alloc, sites)?;
+        let mut parents = self.declaration_parents(alloc, declarations)?;
         let object = self.top("Object");
         parents.push(None)?;
         parents.push(object)?;
@@ -49,7 +49,7 @@ impl<'a> Hierarchy<'a> {
     }
 
     /// What is told of the superclass of a number, where it isn't known.
-    fn new_parent(&self, number: u32, item: &SiteItem<'a>) -> Option<u32>
+    fn new_parent(&self, number: u32, item: &DeclaredKind<'a>) -> Option<u32>
         ensures { result ≡ pure.tells (hierarchy_of self.now) number (item_of item.now) }
     {
         match self.parent_at(number) {
@@ -59,7 +59,7 @@ impl<'a> Hierarchy<'a> {
     }
 
     /// Keeps what is told of the superclass of a number, and answers whether something is.
-    pub(crate) fn tell(&mut self, number: u32, item: &SiteItem<'a>) -> bool
+    pub(crate) fn tell(&mut self, number: u32, item: &DeclaredKind<'a>) -> bool
         requires { number < length self.old.parents.items }
         ensures told { hierarchy_of self.new ≡ pure.with_parent (hierarchy_of self.old) number
             (pure.tells (hierarchy_of self.old) number (item_of item.now)) }
@@ -76,18 +76,18 @@ impl<'a> Hierarchy<'a> {
     }
 
     /// Looks once at each class whose superclass isn't known, and answers whether one was found.
-    fn round(&mut self, sites: &[Site<'a>]) -> bool
-        requires few { length sites.now + 4 < 2 ^ 32 }
-        requires knows { KnowsTops (map site_of sites.now) (hierarchy_of self.old) }
-        ensures knows { KnowsTops (map site_of sites.now) (hierarchy_of self.new) }
+    fn round(&mut self, declarations: &[DeclaredItem<'a>]) -> bool
+        requires few { length declarations.now + 4 < 2 ^ 32 }
+        requires knows { KnowsTops (map declaration_of declarations.now) (hierarchy_of self.old) }
+        ensures knows { KnowsTops (map declaration_of declarations.now) (hierarchy_of self.new) }
         ensures settled { result ≡ false
-            → IsSettled (map site_of sites.now) (hierarchy_of self.new) }
+            → IsSettled (map declaration_of declarations.now) (hierarchy_of self.new) }
         ensures fewer { IsTrue result → pure.unknown (hierarchy_of self.new).parents
             < pure.unknown (hierarchy_of self.old).parents }
     {
         let mut found = false;
-        for (number, site) in sites.iter().enumerate() {
-            let told = self.tell(number as u32, &site.item);
+        for (number, declaration) in declarations.iter().enumerate() {
+            let told = self.tell(number as u32, &declaration.item);
             found = found | told;
         }
         found
@@ -95,13 +95,13 @@ impl<'a> Hierarchy<'a> {
 
     /// Finds what is left of superclasses of member classes, round by round, until a round finds
     /// none: mostly the first.
-    fn settle(&mut self, sites: &[Site<'a>])
-        requires few { length sites.now + 4 < 2 ^ 32 }
-        requires knows { KnowsTops (map site_of sites.now) (hierarchy_of self.old) }
-        ensures { IsHierarchy (map site_of sites.now) (hierarchy_of self.new) }
+    fn settle(&mut self, declarations: &[DeclaredItem<'a>])
+        requires few { length declarations.now + 4 < 2 ^ 32 }
+        requires knows { KnowsTops (map declaration_of declarations.now) (hierarchy_of self.old) }
+        ensures { IsHierarchy (map declaration_of declarations.now) (hierarchy_of self.new) }
     {
         loop {
-            let found = self.round(sites);
+            let found = self.round(declarations);
             if !found {
                 return;
             }
@@ -110,13 +110,13 @@ impl<'a> Hierarchy<'a> {
 }
 
 /// The classes, with no superclasses.
-fn classes<'a>(alloc: Global, sites: &[Site<'a>]) -> Result<Hierarchy<'a>, AllocError>
-    requires few { length sites.now + 4 < 2 ^ 32 }
-    requires unique { AreUnique (map site_of sites.now) }
-    ensures { IfOk result (λ h. HasClasses (map site_of sites.now) (hierarchy_of h)) }
+fn classes<'a>(alloc: Global, declarations: &[DeclaredItem<'a>]) -> Result<Hierarchy<'a>, AllocError>
+    requires few { length declarations.now + 4 < 2 ^ 32 }
+    requires unique { AreUnique (map declaration_of declarations.now) }
+    ensures { IfOk result (λ h. HasClasses (map declaration_of declarations.now) (hierarchy_of h)) }
 {
-    let keys = class_keys(alloc, sites)?;
-    let privates = privates(alloc, sites)?;
+    let keys = class_keys(alloc, declarations)?;
+    let privates = privates(alloc, declarations)?;
     let index = numbers(alloc, &keys)?;
     let inner = inner_names(alloc, &keys)?;
     Ok(Hierarchy {
@@ -129,24 +129,24 @@ fn classes<'a>(alloc: Global, sites: &[Site<'a>]) -> Result<Hierarchy<'a>, Alloc
 }
 
 /// The classes, with the superclasses of top-level classes.
-fn with_tops<'a>(alloc: Global, sites: &[Site<'a>]) -> Result<Hierarchy<'a>, AllocError>
-    requires few { length sites.now + 4 < 2 ^ 32 }
-    requires unique { AreUnique (map site_of sites.now) }
-    ensures { IfOk result (λ h. KnowsTops (map site_of sites.now) (hierarchy_of h)) }
+fn with_tops<'a>(alloc: Global, declarations: &[DeclaredItem<'a>]) -> Result<Hierarchy<'a>, AllocError>
+    requires few { length declarations.now + 4 < 2 ^ 32 }
+    requires unique { AreUnique (map declaration_of declarations.now) }
+    ensures { IfOk result (λ h. KnowsTops (map declaration_of declarations.now) (hierarchy_of h)) }
 {
-    let mut hierarchy = classes(alloc, sites)?;
-    hierarchy.parents = hierarchy.top_parents(alloc, sites)?;
+    let mut hierarchy = classes(alloc, declarations)?;
+    hierarchy.parents = hierarchy.top_parents(alloc, declarations)?;
     Ok(hierarchy)
 }
 
 /// The classes of a program, each with its superclass where it has one (JLS 8.1.4).
-pub(crate) fn hierarchy<'a>(alloc: Global, sites: &[Site<'a>]) -> Result<Hierarchy<'a>, AllocError>
-    requires few { length sites.now + 4 < 2 ^ 32 }
-    requires unique { AreUnique (map site_of sites.now) }
-    ensures { IfOk result (λ h. IsHierarchy (map site_of sites.now) (hierarchy_of h)) }
+pub(crate) fn hierarchy<'a>(alloc: Global, declarations: &[DeclaredItem<'a>]) -> Result<Hierarchy<'a>, AllocError>
+    requires few { length declarations.now + 4 < 2 ^ 32 }
+    requires unique { AreUnique (map declaration_of declarations.now) }
+    ensures { IfOk result (λ h. IsHierarchy (map declaration_of declarations.now) (hierarchy_of h)) }
 {
-    let mut hierarchy = with_tops(alloc, sites)?;
-    hierarchy.tell_in_order(alloc, sites)?;
-    hierarchy.settle(sites);
+    let mut hierarchy = with_tops(alloc, declarations)?;
+    hierarchy.tell_in_order(alloc, declarations)?;
+    hierarchy.settle(declarations);
     Ok(hierarchy)
 }

@@ -6,22 +6,22 @@ ghost use Rattle.jr_table.specs.Faults.{PackageLine, HasFault, ParamTwice};
 ghost use Rattle.jr_build.specs.HierarchyView.{hierarchy_of};
 ghost use Rattle.jr_build.specs.Places.{place_of, IsEarliest};
 ghost use Rattle.jr_build.specs.Signatures.{member_twice};
-ghost use Rattle.jr_build.specs.SiteFaults.{IsLeastAt};
-ghost use Rattle.jr_build.specs.SiteView.{param_site_of, item_of, site_of};
+ghost use Rattle.jr_build.specs.DeclarationFaults.{IsLeastAt};
+ghost use Rattle.jr_build.specs.DeclaredView.{param_declaration_of, item_of, declaration_of};
 ghost use Rattle.jr_build.specs.TypeFaults.{KnowsMeanings};
 
 use crate::hierarchies::Hierarchy;
 use crate::places::{earlier, in_file};
 use crate::signatures::{SignatureIndex, item_signature};
-use crate::site_faults::name_place;
-use crate::sites::{ParamSite, Site, SiteItem};
+use crate::declaration_faults::name_place;
+use crate::declarations::{DeclaredParam, DeclaredItem, DeclaredKind};
 use crate::type_faults::lesser_of;
 use jr_index::Names;
 use jr_text::Place;
 use std::alloc::{AllocError, Global};
 
 /// Where an item is at fault of which another was under its signature before, or wasn't.
-fn member_twice_at(item: &SiteItem<'_>, before: Option<u32>) -> Option<u32>
+fn member_twice_at(item: &DeclaredKind<'_>, before: Option<u32>) -> Option<u32>
     ensures { result ≡ member_twice (item_of item.now) before }
 {
     match before {
@@ -42,8 +42,8 @@ fn place_if(before: Option<u32>, at: u32) -> Option<u32>
 
 /// Where the first parameter stands that has the name of an earlier one. Among fewer than two there
 /// is none.
-fn param_twice(alloc: Global, params: &[ParamSite<'_>]) -> Result<Option<u32>, AllocError>
-    ensures { IfOk result (λ at. IsLeastAt (ParamTwice (map param_site_of params.now)) at) }
+fn param_twice(alloc: Global, params: &[DeclaredParam<'_>]) -> Result<Option<u32>, AllocError>
+    ensures { IfOk result (λ at. IsLeastAt (ParamTwice (map param_declaration_of params.now)) at) }
 {
     if params.len() < 2 {
         return Ok(None);
@@ -58,13 +58,13 @@ fn param_twice(alloc: Global, params: &[ParamSite<'_>]) -> Result<Option<u32>, A
 }
 
 /// The parameters of an item.
-fn params_of<'s, 'a>(item: &'s SiteItem<'a>) -> &'s [ParamSite<'a>]
-    ensures { map param_site_of result.now ≡ faults.params_of (item_of item.now) }
+fn params_of<'s, 'a>(item: &'s DeclaredKind<'a>) -> &'s [DeclaredParam<'a>]
+    ensures { map param_declaration_of result.now ≡ faults.params_of (item_of item.now) }
 {
     match item {
-        SiteItem::Method(method) => &method.params,
-        SiteItem::Ctor(ctor) => &ctor.params,
-        SiteItem::Class(_) | SiteItem::Field(_) => &[],
+        DeclaredKind::Method(method) => &method.params,
+        DeclaredKind::Ctor(ctor) => &ctor.params,
+        DeclaredKind::Class(_) | DeclaredKind::Field(_) => &[],
     }
 }
 
@@ -72,23 +72,23 @@ fn params_of<'s, 'a>(item: &'s SiteItem<'a>) -> &'s [ParamSite<'a>]
 /// an earlier one.
 pub(crate) fn twice_member<'a>(
     alloc: Global,
-    sites: &[Site<'a>],
+    declarations: &[DeclaredItem<'a>],
     h: &Hierarchy<'a>,
 ) -> Result<Option<Place>, AllocError>
-    requires few { length sites.now < 2 ^ 32 }
-    requires known { KnowsMeanings (map site_of sites.now) (hierarchy_of h.now) }
+    requires few { length declarations.now < 2 ^ 32 }
+    requires known { KnowsMeanings (map declaration_of declarations.now) (hierarchy_of h.now) }
     ensures { IfOk result (λ place. (packages : List (Option PackageLine)) →
-        IsEarliest (HasFault packages (map site_of sites.now) kind.TwiceMember)
+        IsEarliest (HasFault packages (map declaration_of declarations.now) kind.TwiceMember)
         (option_map place_of place)) }
 {
     let mut index = SignatureIndex::new(alloc);
     let mut first = None;
-    for (number, site) in sites.iter().enumerate() {
-        let signature = item_signature(alloc, h, &site.item)?;
+    for (number, declaration) in declarations.iter().enumerate() {
+        let signature = item_signature(alloc, h, &declaration.item)?;
         let before = index.put(signature, number as u32)?;
-        let in_params = param_twice(alloc, params_of(&site.item))?;
-        let at = lesser_of(member_twice_at(&site.item, before), in_params);
-        first = earlier(first, in_file(site.file, at));
+        let in_params = param_twice(alloc, params_of(&declaration.item))?;
+        let at = lesser_of(member_twice_at(&declaration.item, before), in_params);
+        first = earlier(first, in_file(declaration.file, at));
     }
     Ok(first)
 }

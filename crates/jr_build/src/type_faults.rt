@@ -4,17 +4,17 @@ ghost use Rattle.jr_table.specs.declared.kinds.DeclKind.TheVariants as kind;
 ghost use Rattle.jr_table.specs.Faults.{PackageLine, HasFault};
 ghost use Rattle.jr_build.specs.HierarchyView.{hierarchy_of};
 ghost use Rattle.jr_build.specs.Places.{place_of, IsEarliest};
-ghost use Rattle.jr_build.specs.SiteFaults.{IsLeastAt};
-ghost use Rattle.jr_build.specs.SiteView.{site_key_of, written_of, param_site_of};
-ghost use Rattle.jr_build.specs.SiteView.{method_site_of, item_of, site_of};
-ghost use Rattle.jr_table.specs.Sites.{method_item};
+ghost use Rattle.jr_build.specs.DeclarationFaults.{IsLeastAt};
+ghost use Rattle.jr_build.specs.DeclaredView.{declaration_key_of, written_of, param_declaration_of};
+ghost use Rattle.jr_build.specs.DeclaredView.{method_declaration_of, item_of, declaration_of};
+ghost use Rattle.jr_table.specs.Declared.{method_item};
 ghost use Rattle.jr_build.specs.TypeFaults.{lesser, MeansNothing, MaybeNothing};
 ghost use Rattle.jr_build.specs.TypeFaults.{AnyNothing, NothingAt, KnowsMeanings};
 
 use crate::hierarchies::Hierarchy;
 use crate::meanings::means;
 use crate::places::{earlier, in_file};
-use crate::sites::{MethodSite, ParamSite, Site, SiteItem, SiteKey, Written};
+use crate::declarations::{DeclaredMethod, DeclaredParam, DeclaredItem, DeclaredKind, DeclaredKey, Written};
 use jr_text::Place;
 
 /// The lesser of two numbers, where there is one.
@@ -30,9 +30,9 @@ pub(crate) fn lesser_of(first: Option<u32>, second: Option<u32>) -> Option<u32>
 }
 
 /// Where a type stands that means nothing in a class.
-fn nothing_at<'a>(h: &Hierarchy<'a>, of: &SiteKey<'a>, written: &Written<'a>) -> Option<u32>
+fn nothing_at<'a>(h: &Hierarchy<'a>, of: &DeclaredKey<'a>, written: &Written<'a>) -> Option<u32>
     ensures { IsLeastAt
-        (MeansNothing (hierarchy_of h.now) (site_key_of of.now) (written_of written.now))
+        (MeansNothing (hierarchy_of h.now) (declaration_key_of of.now) (written_of written.now))
         result }
 {
     match means(h, of, written) {
@@ -47,10 +47,10 @@ fn nothing_at<'a>(h: &Hierarchy<'a>, of: &SiteKey<'a>, written: &Written<'a>) ->
 /// Where a type stands, if one is written, that means nothing in a class.
 fn maybe_nothing_at<'a>(
     h: &Hierarchy<'a>,
-    of: &SiteKey<'a>,
+    of: &DeclaredKey<'a>,
     written: &Option<Written<'a>>,
 ) -> Option<u32>
-    ensures { IsLeastAt (MaybeNothing (hierarchy_of h.now) (site_key_of of.now)
+    ensures { IsLeastAt (MaybeNothing (hierarchy_of h.now) (declaration_key_of of.now)
         (option_map written_of written.now)) result }
 {
     match written {
@@ -60,9 +60,9 @@ fn maybe_nothing_at<'a>(
 }
 
 /// Where the first of the parameters' types stands that mean nothing in a class.
-fn any_nothing_at<'a>(h: &Hierarchy<'a>, of: &SiteKey<'a>, params: &[ParamSite<'a>]) -> Option<u32>
-    ensures { IsLeastAt (AnyNothing (hierarchy_of h.now) (site_key_of of.now)
-        (map param_site_of params.now)) result }
+fn any_nothing_at<'a>(h: &Hierarchy<'a>, of: &DeclaredKey<'a>, params: &[DeclaredParam<'a>]) -> Option<u32>
+    ensures { IsLeastAt (AnyNothing (hierarchy_of h.now) (declaration_key_of of.now)
+        (map param_declaration_of params.now)) result }
 {
     let mut least = None;
     for param in params {
@@ -72,9 +72,9 @@ fn any_nothing_at<'a>(h: &Hierarchy<'a>, of: &SiteKey<'a>, params: &[ParamSite<'
 }
 
 /// Where the first type of a method stands that means nothing.
-fn method_nothing_at<'a>(h: &Hierarchy<'a>, method: &MethodSite<'a>) -> Option<u32>
+fn method_nothing_at<'a>(h: &Hierarchy<'a>, method: &DeclaredMethod<'a>) -> Option<u32>
     ensures { IsLeastAt
-        (NothingAt (hierarchy_of h.now) (method_item (method_site_of method.now))) result }
+        (NothingAt (hierarchy_of h.now) (method_item (method_declaration_of method.now))) result }
 {
     let in_result = maybe_nothing_at(h, &method.of, &method.result);
     let in_params = any_nothing_at(h, &method.of, &method.params);
@@ -82,27 +82,27 @@ fn method_nothing_at<'a>(h: &Hierarchy<'a>, method: &MethodSite<'a>) -> Option<u
 }
 
 /// Where the first type that an item writes stands that means nothing.
-fn item_nothing_at<'a>(h: &Hierarchy<'a>, item: &SiteItem<'a>) -> Option<u32>
+fn item_nothing_at<'a>(h: &Hierarchy<'a>, item: &DeclaredKind<'a>) -> Option<u32>
     ensures { IsLeastAt (NothingAt (hierarchy_of h.now) (item_of item.now)) result }
 {
     match item {
-        SiteItem::Class(_) => None,
-        SiteItem::Field(field) => nothing_at(h, &field.of, &field.written),
-        SiteItem::Method(method) => method_nothing_at(h, method),
-        SiteItem::Ctor(ctor) => any_nothing_at(h, &ctor.of, &ctor.params),
+        DeclaredKind::Class(_) => None,
+        DeclaredKind::Field(field) => nothing_at(h, &field.of, &field.written),
+        DeclaredKind::Method(method) => method_nothing_at(h, method),
+        DeclaredKind::Ctor(ctor) => any_nothing_at(h, &ctor.of, &ctor.params),
     }
 }
 
 /// The earliest type that means nothing.
-pub(crate) fn no_type<'a>(sites: &[Site<'a>], h: &Hierarchy<'a>) -> Option<Place>
-    requires { KnowsMeanings (map site_of sites.now) (hierarchy_of h.now) }
+pub(crate) fn no_type<'a>(declarations: &[DeclaredItem<'a>], h: &Hierarchy<'a>) -> Option<Place>
+    requires { KnowsMeanings (map declaration_of declarations.now) (hierarchy_of h.now) }
     ensures { (packages : List (Option PackageLine)) →
-        IsEarliest (HasFault packages (map site_of sites.now) kind.NoTy)
+        IsEarliest (HasFault packages (map declaration_of declarations.now) kind.NoTy)
         (option_map place_of result) }
 {
     let mut first = None;
-    for site in sites {
-        first = earlier(first, in_file(site.file, item_nothing_at(h, &site.item)));
+    for declaration in declarations {
+        first = earlier(first, in_file(declaration.file, item_nothing_at(h, &declaration.item)));
     }
     first
 }

@@ -5,9 +5,9 @@ use Rattle.jr_table.specs.Decls.{Decl, class_decl, field_decl, method_decl, cons
 use Rattle.jr_table.specs.Rows.{Row}
 use Rattle.jr_table.specs.Prelude.{top_key}
 use Rattle.jr_table.specs.Context.{Context}
-use Rattle.jr_table.specs.Sites.{sites_of}
+use Rattle.jr_table.specs.Declared.{declarations_of}
 use Rattle.jr_build.proofs.OneRows.{program_once}
-use Rattle.jr_members.proofs.SiteRows.{once, not_reserved}
+use Rattle.jr_members.proofs.DeclarationRows.{once, not_reserved}
 use Rattle.jr_places.proofs.MeansOnce.{means_once, parent_once}
 use Rattle.jr_rename.specs.Families.{AreRenamed}
 use Rattle.jr_rename.specs.Images.{Renaming, is_renamed, rows_to}
@@ -18,7 +18,7 @@ use Rattle.jr_class_rename.specs.ClassLaws.{ConstructorsGiveImages}
 use Rattle.jr_class_rename.proofs.Renamed.{Keeps, any_among}
 use Rattle.jr_class_rename.proofs.Objects.{object_old, object_named, object_of}
 use Rattle.jr_class_rename.proofs.TreesBeside.{units_go}
-use Rattle.jr_class_rename.proofs.SitesBeside.{all_sites}
+use Rattle.jr_class_rename.proofs.DeclarationsBeside.{all_declarations}
 use Rattle.jr_class_rename.proofs.NewAgreeing.{Both}
 use Rattle.jr_class_rename.proofs.NewRows.{program_rows}
 use Rattle.jr_class_rename.proofs.MembersBeside.{member_images}
@@ -34,35 +34,35 @@ not_renamed rows k g are d never = by (is_renamed g d) refl
 pub ctor_images : {A B : Type 0} → ReferencesAreKept A → RenamingsStayFair A → ConstructorsGiveImages A B
 ctor_images kept fair_law tells begins' packages rows others super_at units k g news c =
     let b = c.becomes in
-    let ss = sites_of (λ m base. (tells m base).from) units in
-    let ts = sites_of begins' news in
-    let fair = fair_law (λ m base. (tells m base).from) rows units (constructor_decl k) g b.are b.of_sites b.renamed b.own b.no_prelude b.clear b.whole c.dotless in
+    let ss = declarations_of (λ m base. (tells m base).from) units in
+    let ts = declarations_of begins' news in
+    let fair = fair_law (λ m base. (tells m base).from) rows units (constructor_decl k) g b.are b.of_declarations b.renamed b.own b.no_prelude b.clear b.whole c.dotless in
     let stays = not_renamed rows k g b.renamed in
     let keeps : Keeps rows g = record {
       local = λ l. stays (local_decl l) (λ e. absurd cc);
       field = λ f. stays (field_decl f) (λ e. absurd cc);
       method = λ m. stays (method_decl m) (λ e. absurd cc);
       prelude = λ name is. stays (class_decl (top_key name)) (λ e. absurd cc);
-      object_old = object_old rows b.are packages ss b.clean (program_agrees rows ss b.are b.of_sites);
+      object_old = object_old rows b.are packages ss b.clean (program_agrees rows ss b.are b.of_declarations);
       object_named = object_named (rows_to g rows) fair.are;
       object_of = object_of (rows_to g rows) fair.are;
     } in
     let along = kept tells rows g (λ (c : Context). super_at c.member) units b.files b.are fair b.rewrite b.kept in
     let beside = units_go rows g keeps tells begins' (λ (c : Context). super_at c.member) ss units c.headed b.files b.rewrite along news b.read in
-    let to = all_sites rows g keeps tells begins' (λ (c : Context). super_at c.member) ss units news beside in
+    let to = all_declarations rows g keeps tells begins' (λ (c : Context). super_at c.member) ss units news beside in
     let two : Both rows g ss ts = record {
       keeps = keeps;
-      agree = program_agrees rows ss b.are b.of_sites;
+      agree = program_agrees rows ss b.are b.of_declarations;
       are = fair.are;
       to = to;
-      tops = tops_agree rows ss b.are b.of_sites packages b.clean;
-      parents = parents_agree rows ss b.are b.of_sites packages b.clean;
-      once = once ss rows b.are b.of_sites;
-      free = not_reserved ss rows b.are b.of_sites;
-      old_parent = superclass_of ss rows b.of_sites;
+      tops = tops_agree rows ss b.are b.of_declarations packages b.clean;
+      parents = parents_agree rows ss b.are b.of_declarations packages b.clean;
+      once = once ss rows b.are b.of_declarations;
+      free = not_reserved ss rows b.are b.of_declarations;
+      old_parent = superclass_of ss rows b.of_declarations;
       new_parent = superclass_of ts others c.new_rows;
     } in
-    let rows_are = program_rows rows g ss ts two b.of_sites (prelude_stay rows g b.are fair.are) in
+    let rows_are = program_rows rows g ss ts two b.of_declarations (prelude_stay rows g b.are fair.are) in
     let clean = c.clean packages refl in (
       record {
         rows_are = rows_are;

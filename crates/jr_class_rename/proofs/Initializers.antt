@@ -16,7 +16,7 @@ use Rattle.jr_table.specs.Scope.{Scope}
 use Rattle.jr_table.specs.Lookup.{FindsTypeNamed, FindsTypeOf}
 use Rattle.jr_table.specs.Context.{Context, scope_of, WritesType}
 use Rattle.jr_table.specs.Binding.{Role, value}
-use Rattle.jr_table.specs.Sites.{InitSite, init_site, is_minus, is_number, is_object, has_none, is_simple}
+use Rattle.jr_table.specs.Declared.{DeclaredInit, init_declaration, is_minus, is_number, is_object, has_none, is_simple}
 use Rattle.jr_rewrite.specs.Rewritten.{Rewritten}
 use Rattle.jr_rewrite.specs.Rewrites.{Choosing, RewritesExp, RewritesMaybe}
 use Rattle.jr_rewrite.specs.Along.{Along, AlongRow, AlongMaybe}
@@ -177,16 +177,16 @@ module _ (rows : List Row) (g : Renaming) (keeps : Keeps rows g) {A B : Type 0} 
   simple_goes c d r at n (tree.assign m e f) y o made along h = absurd cc
   simple_goes c d r at n (tree.compound m op e f) y o made along h = absurd cc
 
-  site_simple : (x y : InitSite) → Some x ≡ Some y → x.is_simple ≡ y.is_simple
-  site_simple x y e = ap (λ (z : InitSite). z.is_simple) (same_Some x y e)
+  declaration_simple : (x y : DeclaredInit) → Some x ≡ Some y → x.is_simple ≡ y.is_simple
+  declaration_simple x y e = ap (λ (z : DeclaredInit). z.is_simple) (same_Some x y e)
 
   pub init_goes : (c d : Context) (at n j : ℕ) (init z : Option (tree.Exp A)) (q : Rewritten (Option (tree.Exp A))) → RewritesMaybe tells Chosen c at init q
       → AlongMaybe begins begins (IsKept begins begins g rows) (IsWritten begins begins g rows) c d at n init z → (last : Option (tree.Exp B)) → option_map (map_exp no_mark) last ≡ option_map (map_exp no_mark) z
-      → (x y : InitSite) → option_map (init_site begins at) init ≡ Some x → option_map (init_site begins' j) last ≡ Some y → x.is_simple ≡ true → y.is_simple ≡ true
+      → (x y : DeclaredInit) → option_map (init_declaration begins at) init ≡ Some x → option_map (init_declaration begins' j) last ≡ Some y → x.is_simple ≡ true → y.is_simple ≡ true
   init_goes c d at n j None z q made along last e x y f h simple = absurd cc
   init_goes c d at n j (Some v) z q made along None e x y f h simple = absurd cc
   init_goes c d at n j (Some v) z q (p, inner, is) (w, same, along) (Some l) e x y f h simple =
       let bare : map_exp no_mark l ≡ map_exp no_mark w = same_Some _ _ (e ∙ ap (option_map (map_exp no_mark)) same) in
-      let old : is_simple begins v ≡ true = site_simple (init_site begins at v) x f ∙ simple in
+      let old : is_simple begins v ≡ true = declaration_simple (init_declaration begins at v) x f ∙ simple in
       let new : is_simple begins w ≡ true = simple_goes c d value at n v w p inner along old in
-      sym (site_simple (init_site begins' j l) y h) ∙ sym (simple_bare begins' l) ∙ ap (is_simple nowhere) bare ∙ simple_bare begins w ∙ new
+      sym (declaration_simple (init_declaration begins' j l) y h) ∙ sym (simple_bare begins' l) ∙ ap (is_simple nowhere) bare ∙ simple_bare begins w ∙ new

@@ -8,7 +8,7 @@ use Rattle.jr_table.specs.Rows.{Row}
 use Rattle.jr_table.specs.Prelude.{top_key}
 use Rattle.jr_table.specs.Found.{one}
 use Rattle.jr_table.specs.HeadRules.{TopFinds}
-use Rattle.jr_table.specs.Sites.{InitSite, Written, named, ParamSite, ClassSite, FieldSite, MethodSite, CtorSite, Item, class_item, field_item, method_item, ctor_item, Site}
+use Rattle.jr_table.specs.Declared.{DeclaredInit, Written, named, DeclaredParam, DeclaredClass, DeclaredField, DeclaredMethod, DeclaredCtor, Item, class_item, field_item, method_item, ctor_item, DeclaredItem}
 use Rattle.jr_rename.specs.Images.{Renaming, class_to, type_to, rows_to}
 use Rattle.jr_class_rename.proofs.WrittenTypes.{WrittenAs}
 
@@ -38,34 +38,34 @@ module _ (rows : List Row) (g : Renaming) where
   ResultTo of (Some w) (Some v) = TypeTo of w v
   ResultTo of _ _ = ⊥
 
-  abbrev pub ParamsTo : ClassKey → List ParamSite → List ParamSite → Type 0
+  abbrev pub ParamsTo : ClassKey → List DeclaredParam → List DeclaredParam → Type 0
   ParamsTo of [] [] = Unit {0}
   ParamsTo of (p ∷ ps) (q ∷ qs) = TypeTo of p.type q.type × (q.name ≡ p.name) × ParamsTo of ps qs
   ParamsTo of _ _ = ⊥
 
-  pub record ClassTo (c d : ClassSite) : Type 0 where
+  pub record ClassTo (c d : DeclaredClass) : Type 0 where
     pub key : d.key ≡ class_to g c.key
     pub words : d.modifiers ≡ c.modifiers
     pub ctor : d.has_ctor ≡ c.has_ctor
     pub parent : ParentTo c.key.outer c.parent d.parent
 
-  pub record FieldTo (f h : FieldSite) : Type 0 where
+  pub record FieldTo (f h : DeclaredField) : Type 0 where
     pub of : h.of ≡ class_to g f.of
     pub name : h.name ≡ f.name
     pub words : h.modifiers ≡ f.modifiers
     pub type : TypeTo f.of f.type h.type
     pub init : is_some h.init ≡ is_some f.init
     -- one that a static field may have stays so
-    pub simple : (i j : InitSite) → f.init ≡ Some i → h.init ≡ Some j → i.is_simple ≡ true → j.is_simple ≡ true
+    pub simple : (i j : DeclaredInit) → f.init ≡ Some i → h.init ≡ Some j → i.is_simple ≡ true → j.is_simple ≡ true
 
-  pub record MethodTo (m n : MethodSite) : Type 0 where
+  pub record MethodTo (m n : DeclaredMethod) : Type 0 where
     pub of : n.of ≡ class_to g m.of
     pub name : n.name ≡ m.name
     pub words : n.modifiers ≡ m.modifiers
     pub result : ResultTo m.of m.result n.result
     pub params : ParamsTo m.of m.params n.params
 
-  pub record CtorTo (c d : CtorSite) : Type 0 where
+  pub record CtorTo (c d : DeclaredCtor) : Type 0 where
     pub of : d.of ≡ class_to g c.of
     pub words : d.modifiers ≡ c.modifiers
     pub params : ParamsTo c.of c.params d.params
@@ -82,10 +82,10 @@ module _ (rows : List Row) (g : Renaming) where
   ItemsTo (x ∷ xs) (y ∷ ys) = ItemTo x y × ItemsTo xs ys
   ItemsTo _ _ = ⊥
 
-  abbrev pub SitesTo : List Site → List Site → Type 0
-  SitesTo [] [] = Unit {0}
-  SitesTo (s ∷ ss) (t ∷ ts) = (s.file ≡ t.file) × ItemTo s.item t.item × SitesTo ss ts
-  SitesTo _ _ = ⊥
+  abbrev pub DeclarationsTo : List DeclaredItem → List DeclaredItem → Type 0
+  DeclarationsTo [] [] = Unit {0}
+  DeclarationsTo (s ∷ ss) (t ∷ ts) = (s.file ≡ t.file) × ItemTo s.item t.item × DeclarationsTo ss ts
+  DeclarationsTo _ _ = ⊥
 
   pub items_join : (xs ys us vs : List Item) → ItemsTo xs ys → ItemsTo us vs → ItemsTo (xs ++ us) (ys ++ vs)
   items_join [] [] us vs h k = k
@@ -93,19 +93,19 @@ module _ (rows : List Row) (g : Renaming) where
   items_join (x ∷ xs) [] us vs h k = absurd h
   items_join (x ∷ xs) (y ∷ ys) us vs h k = (h.0, items_join xs ys us vs h.1 k)
 
-  pub sites_join : (file : ℕ) (xs ys : List Item) (ss ts : List Site) → ItemsTo xs ys → SitesTo ss ts
-      → SitesTo (map (λ (i : Item). record { file = file; item = i }) xs ++ ss) (map (λ (i : Item). record { file = file; item = i }) ys ++ ts)
-  sites_join file [] [] ss ts h k = k
-  sites_join file [] (y ∷ ys) ss ts h k = absurd h
-  sites_join file (x ∷ xs) [] ss ts h k = absurd h
-  sites_join file (x ∷ xs) (y ∷ ys) ss ts h k = (refl, h.0, sites_join file xs ys ss ts h.1 k)
+  pub declarations_join : (file : ℕ) (xs ys : List Item) (ss ts : List DeclaredItem) → ItemsTo xs ys → DeclarationsTo ss ts
+      → DeclarationsTo (map (λ (i : Item). record { file = file; item = i }) xs ++ ss) (map (λ (i : Item). record { file = file; item = i }) ys ++ ts)
+  declarations_join file [] [] ss ts h k = k
+  declarations_join file [] (y ∷ ys) ss ts h k = absurd h
+  declarations_join file (x ∷ xs) [] ss ts h k = absurd h
+  declarations_join file (x ∷ xs) (y ∷ ys) ss ts h k = (refl, h.0, declarations_join file xs ys ss ts h.1 k)
 
   -- the class in the place of a class
-  abbrev pub ClassAt : List Site → ℕ → ClassSite → Type 0
+  abbrev pub ClassAt : List DeclaredItem → ℕ → DeclaredClass → Type 0
   ClassAt ss i c = (file : ℕ) × (slice_get ss i ≡ Some (record { file = file; item = class_item c }))
 
-  class_beside : (x y : Item) → ItemTo x y → (c : ClassSite) → x ≡ class_item c → (d : ClassSite) × (y ≡ class_item d) × ClassTo c d
-  class_beside (class_item c) (class_item d) h b e = let same : c ≡ b = cc in (d, refl, subst (λ (z : ClassSite). ClassTo z d) same h)
+  class_beside : (x y : Item) → ItemTo x y → (c : DeclaredClass) → x ≡ class_item c → (d : DeclaredClass) × (y ≡ class_item d) × ClassTo c d
+  class_beside (class_item c) (class_item d) h b e = let same : c ≡ b = cc in (d, refl, subst (λ (z : DeclaredClass). ClassTo z d) same h)
   class_beside (class_item c) (field_item d) h b e = absurd h
   class_beside (class_item c) (method_item d) h b e = absurd h
   class_beside (class_item c) (ctor_item d) h b e = absurd h
@@ -113,8 +113,8 @@ module _ (rows : List Row) (g : Renaming) where
   class_beside (method_item c) y h b e = absurd cc
   class_beside (ctor_item c) y h b e = absurd cc
 
-  class_behind : (x y : Item) → ItemTo x y → (d : ClassSite) → y ≡ class_item d → (c : ClassSite) × (x ≡ class_item c) × ClassTo c d
-  class_behind (class_item c) (class_item d) h b e = let same : d ≡ b = cc in (c, refl, subst (λ (z : ClassSite). ClassTo c z) same h)
+  class_behind : (x y : Item) → ItemTo x y → (d : DeclaredClass) → y ≡ class_item d → (c : DeclaredClass) × (x ≡ class_item c) × ClassTo c d
+  class_behind (class_item c) (class_item d) h b e = let same : d ≡ b = cc in (c, refl, subst (λ (z : DeclaredClass). ClassTo c z) same h)
   class_behind (class_item c) (field_item d) h b e = absurd cc
   class_behind (class_item c) (method_item d) h b e = absurd cc
   class_behind (class_item c) (ctor_item d) h b e = absurd cc
@@ -131,22 +131,22 @@ module _ (rows : List Row) (g : Renaming) where
   class_behind (ctor_item c) (method_item d) h b e = absurd cc
   class_behind (ctor_item c) (ctor_item d) h b e = absurd cc
 
-  some_site : (s t : Site) → Some s ≡ Some t → s ≡ t
-  some_site s t e = cc
+  some_declaration : (s t : DeclaredItem) → Some s ≡ Some t → s ≡ t
+  some_declaration s t e = cc
 
-  pub class_forth : (ss ts : List Site) → SitesTo ss ts → (i : ℕ) (c : ClassSite) → ClassAt ss i c → (d : ClassSite) × ClassAt ts i d × ClassTo c d
+  pub class_forth : (ss ts : List DeclaredItem) → DeclarationsTo ss ts → (i : ℕ) (c : DeclaredClass) → ClassAt ss i c → (d : DeclaredClass) × ClassAt ts i d × ClassTo c d
   class_forth [] ts h i c (f, e) = absurd cc
   class_forth (s ∷ ss) [] h i c (f, e) = absurd h
   class_forth (s ∷ ss) (t ∷ ts) h zero c (f, e) =
-      let r = class_beside s.item t.item h.1 c (ap (λ (x : Site). x.item) (some_site s (record { file = f; item = class_item c }) e)) in
+      let r = class_beside s.item t.item h.1 c (ap (λ (x : DeclaredItem). x.item) (some_declaration s (record { file = f; item = class_item c }) e)) in
       (r.0, (t.file, λ n. Some (record { file = t.file; item = r.1 n })), r.2)
   class_forth (s ∷ ss) (t ∷ ts) h (suc i) c (f, e) = class_forth ss ts h.2 i c (f, e)
 
-  pub class_back : (ss ts : List Site) → SitesTo ss ts → (i : ℕ) (d : ClassSite) → ClassAt ts i d → (c : ClassSite) × ClassAt ss i c × ClassTo c d
+  pub class_back : (ss ts : List DeclaredItem) → DeclarationsTo ss ts → (i : ℕ) (d : DeclaredClass) → ClassAt ts i d → (c : DeclaredClass) × ClassAt ss i c × ClassTo c d
   class_back [] [] h i d (f, e) = absurd cc
   class_back [] (t ∷ ts) h i d (f, e) = absurd h
   class_back (s ∷ ss) [] h i d (f, e) = absurd h
   class_back (s ∷ ss) (t ∷ ts) h zero d (f, e) =
-      let r = class_behind s.item t.item h.1 d (ap (λ (x : Site). x.item) (some_site t (record { file = f; item = class_item d }) e)) in
+      let r = class_behind s.item t.item h.1 d (ap (λ (x : DeclaredItem). x.item) (some_declaration t (record { file = f; item = class_item d }) e)) in
       (r.0, (s.file, λ n. Some (record { file = s.file; item = r.1 n })), r.2)
   class_back (s ∷ ss) (t ∷ ts) h (suc i) d (f, e) = class_back ss ts h.2 i d (f, e)

@@ -4,7 +4,7 @@ mod Renamed
 mod ItemsBeside
 mod Initializers
 mod TreesBeside
-mod SitesBeside
+mod DeclarationsBeside
 mod NewAgreeing
 mod NewRows
 mod MembersBeside

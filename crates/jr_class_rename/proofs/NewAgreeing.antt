@@ -1,4 +1,4 @@
--- The images of the rows agree with the sites of the new program.
+-- The images of the rows agree with the declarations of the new program.
 use Rattle.std.proofs.Common.{◌≡◌, ℕ, zero, suc, List, Option, Some, None, refl, sym, ap, subst, ◌∙◌, inl, inr}
 use Rattle.std.specs.Prelude.{option_map, slice_get}
 use Rattle.std.specs.List.{list_any}
@@ -14,7 +14,7 @@ use Rattle.jr_table.specs.Members.{IsMemberType}
 use Rattle.jr_table.specs.Found.{one}
 use Rattle.jr_table.specs.HeadRules.{TopFinds}
 use Rattle.jr_table.specs.Context.{IsSuperclass}
-use Rattle.jr_table.specs.Sites.{Written, int, boolean, named, ClassSite, Site}
+use Rattle.jr_table.specs.Declared.{Written, int, boolean, named, DeclaredClass, DeclaredItem}
 use Rattle.jr_table.specs.Resolving.{DeclaresClass, IsPreludeClass, IsPreludeSubclass, TopNames, TopParent, MemberNames, TypeWithin, HasMemberType, IsParent}
 use Rattle.jr_build.proofs.Looks.{key}
 use Rattle.jr_members.proofs.Meaning.{OneClass, Unreserved}
@@ -23,7 +23,7 @@ use Rattle.jr_sites.proofs.Agreeing.{Agree, TopsAgree, ParentsAgree, ClassRow, o
 use Rattle.jr_sites.proofs.MemberTypesFound.{top_found, RowWith}
 use Rattle.jr_class_rename.proofs.WrittenTypes.{WrittenAs, named_in_top, parent_meant}
 use Rattle.jr_class_rename.proofs.Renamed.{Keeps, prelude_stays, object_stays}
-use Rattle.jr_class_rename.proofs.ItemsBeside.{ParentTo, ClassTo, SitesTo, class_forth, class_back}
+use Rattle.jr_class_rename.proofs.ItemsBeside.{ParentTo, ClassTo, DeclarationsTo, class_forth, class_back}
 
 class_of_decl : (x y : ClassKey) → class_decl x ≡ class_decl y → x ≡ y
 class_of_decl x y e = cc
@@ -40,7 +40,7 @@ some_row : (g : Renaming) (o : Option Row) (r : Row) → option_map (row_to g) o
 some_row g None r e = absurd cc
 some_row g (Some x) r e = (x, refl, same_Some _ _ e)
 
-module _ (rows : List Row) (g : Renaming) (keeps : Keeps rows g) (ss ts : List Site) (a : Agree rows ss) (are : AreRows (rows_to g rows)) (to : SitesTo rows g ss ts) where
+module _ (rows : List Row) (g : Renaming) (keeps : Keeps rows g) (ss ts : List DeclaredItem) (a : Agree rows ss) (are : AreRows (rows_to g rows)) (to : DeclarationsTo rows g ss ts) where
   abbrev Rows : List Row
   Rows = rows_to g rows
 
@@ -55,13 +55,13 @@ module _ (rows : List Row) (g : Renaming) (keeps : Keeps rows g) (ss ts : List S
       (l.0, record { row = r.0; stands = r.1; declares = l.1 }, l.2, r.2)
 
   -- the class that was declared there
-  pub site_behind : (k : ClassKey) (d : ClassSite) → DeclaresClass ts k d → (c : ClassSite) × DeclaresClass ss c.key c × ClassTo rows g c d × (class_to g c.key ≡ k)
-  site_behind k d at =
+  pub declaration_behind : (k : ClassKey) (d : DeclaredClass) → DeclaresClass ts k d → (c : DeclaredClass) × DeclaresClass ss c.key c × ClassTo rows g c d × (class_to g c.key ≡ k)
+  declaration_behind k d at =
       let r = class_back rows g ss ts to at.number d (at.file, at.stands) in
       (r.0, record { number = at.number; file = r.1.0; stands = r.1.1; is = refl }, r.2, sym r.2.key ∙ at.is)
 
-  pub site_ahead : (k : ClassKey) (c : ClassSite) → DeclaresClass ss k c → (d : ClassSite) × DeclaresClass ts (class_to g k) d × ClassTo rows g c d
-  site_ahead k c at =
+  pub declaration_ahead : (k : ClassKey) (c : DeclaredClass) → DeclaresClass ss k c → (d : DeclaredClass) × DeclaresClass ts (class_to g k) d × ClassTo rows g c d
+  declaration_ahead k c at =
       let r = class_forth rows g ss ts to at.number c (at.file, at.stands) in
       (r.0, record { number = at.number; file = r.1.0; stands = r.1.1; is = r.2.key ∙ ap (class_to g) at.is }, r.2)
 
@@ -74,7 +74,7 @@ module _ (rows : List Row) (g : Renaming) (keeps : Keeps rows g) (ss ts : List S
   new_agree = record {
     rows_are = are;
     declared_row = λ k d at.
-        let c = site_behind k d at in
+        let c = declaration_behind k d at in
         let r = a.declared_row c.0.key c.0 c.1 in
         subst (λ (x : ClassKey). (j : ℕ) × (i : ClassRow Rows x j) × (i.row.modifiers ≡ d.modifiers)) c.3 (r.0, image_row c.0.key r.0 r.1, r.2 ∙ sym c.2.words);
     prelude_row = λ name is.
@@ -84,7 +84,7 @@ module _ (rows : List Row) (g : Renaming) (keeps : Keeps rows g) (ss ts : List S
         let l = row_behind k j i in
         let words : i.row.modifiers ≡ l.1.row.modifiers = sym (ap (λ (x : Row). x.modifiers) l.3) in
         elim (a.row_class l.0 j l.1) [
-          | inl (c, at, same) ↦ (let d = site_ahead l.0 c at in inl (d.0, subst (λ (x : ClassKey). DeclaresClass ts x d.0) l.2 d.1, words ∙ same ∙ sym d.2.words))
+          | inl (c, at, same) ↦ (let d = declaration_ahead l.0 c at in inl (d.0, subst (λ (x : ClassKey). DeclaresClass ts x d.0) l.2 d.1, words ∙ same ∙ sym d.2.words))
           | inr (top, is, seen) ↦ (
               let whole = sym (top_is l.0 top is) ∙ l.2 in
               inr (sym (ap (λ (x : ClassKey). x.outer) whole) ∙ top, subst (λ (x : ClassKey). IsPreludeClass x.name) whole is, ap (list_any is_private_word) words ∙ seen)
@@ -126,31 +126,31 @@ module _ (g : Renaming) where
   outer_some (Some m) n e = (m, refl, ap top_key (same_Some _ _ e))
 
 -- what is asked of the two programs
-pub record Both (rows : List Row) (g : Renaming) (ss ts : List Site) : Type 0 where
+pub record Both (rows : List Row) (g : Renaming) (ss ts : List DeclaredItem) : Type 0 where
   pub keeps : Keeps rows g
   pub agree : Agree rows ss
   pub are : AreRows (rows_to g rows)
-  pub to : SitesTo rows g ss ts
+  pub to : DeclarationsTo rows g ss ts
   pub tops : TopsAgree rows ss
   pub parents : ParentsAgree rows ss
   pub once : OneClass ss
   pub free : Unreserved ss
   -- each class has a superclass
-  pub old_parent : (k : ClassKey) (c : ClassSite) → DeclaresClass ss k c → (p : ClassKey) × IsParent ss k p
-  pub new_parent : (k : ClassKey) (d : ClassSite) → DeclaresClass ts k d → (q : ClassKey) × IsParent ts k q
+  pub old_parent : (k : ClassKey) (c : DeclaredClass) → DeclaresClass ss k c → (p : ClassKey) × IsParent ss k p
+  pub new_parent : (k : ClassKey) (d : DeclaredClass) → DeclaresClass ts k d → (q : ClassKey) × IsParent ts k q
 
-module _ (rows : List Row) (g : Renaming) (ss ts : List Site) (two : Both rows g ss ts) where
+module _ (rows : List Row) (g : Renaming) (ss ts : List DeclaredItem) (two : Both rows g ss ts) where
   abbrev New : List Row
   New = rows_to g rows
 
   pub new_one : Agree New ts
   new_one = new_agree rows g two.keeps ss ts two.agree two.are two.to
 
-  behind : (k : ClassKey) (d : ClassSite) → DeclaresClass ts k d → (c : ClassSite) × DeclaresClass ss c.key c × ClassTo rows g c d × (class_to g c.key ≡ k)
-  behind k d at = site_behind rows g two.keeps ss ts two.agree two.are two.to k d at
+  behind : (k : ClassKey) (d : DeclaredClass) → DeclaresClass ts k d → (c : DeclaredClass) × DeclaresClass ss c.key c × ClassTo rows g c d × (class_to g c.key ≡ k)
+  behind k d at = declaration_behind rows g two.keeps ss ts two.agree two.are two.to k d at
 
-  ahead : (k : ClassKey) (c : ClassSite) → DeclaresClass ss k c → (d : ClassSite) × DeclaresClass ts (class_to g k) d × ClassTo rows g c d
-  ahead k c at = site_ahead rows g two.keeps ss ts two.agree two.are two.to k c at
+  ahead : (k : ClassKey) (c : DeclaredClass) → DeclaresClass ss k c → (d : DeclaredClass) × DeclaresClass ts (class_to g k) d × ClassTo rows g c d
+  ahead k c at = declaration_ahead rows g two.keeps ss ts two.agree two.are two.to k c at
 
   image_super : (k p : ClassKey) → IsSuperclass rows k p → IsSuperclass New (class_to g k) (class_to g p)
   image_super k p h = image_parent rows g two.keeps ss ts two.agree two.are two.to k p h
@@ -165,17 +165,17 @@ module _ (rows : List Row) (g : Renaming) (ss ts : List Site) (two : Both rows g
   top_of k e = λ i. record { outer = sym e i; name = k.name }
 
   -- what an old class names
-  old_top : (c : ClassSite) → DeclaresClass ss c.key c → c.key.outer ≡ None → (p : ClassKey) × TopNames ss c.parent p × IsSuperclass rows c.key p
+  old_top : (c : DeclaredClass) → DeclaresClass ss c.key c → c.key.outer ≡ None → (p : ClassKey) × TopNames ss c.parent p × IsSuperclass rows c.key p
   old_top c at top = let h = two.old_parent c.key c at in by h.0 h.1
     where
       by : (p : ClassKey) → IsParent ss c.key p → (p : ClassKey) × TopNames ss c.parent p × IsSuperclass rows c.key p
       by p (inl (none, inl (b, there, names))) =
           let same = two.once c.key b c (subst (λ (k : ClassKey). DeclaresClass ss k b) (top_of c.key top) there) at in
-          (p, subst (λ (x : ClassSite). TopNames ss x.parent p) same names, two.parents.up c.key p (inl (none, inl (b, there, names))))
+          (p, subst (λ (x : DeclaredClass). TopNames ss x.parent p) same names, two.parents.up c.key p (inl (none, inl (b, there, names))))
       by p (inl (none, inr (sub, e))) = absurd (two.free c.key.name c (subst (λ (k : ClassKey). DeclaresClass ss k c) (sym (top_of c.key top)) at) sub)
       by p (inr (o, b, some, there, names)) = let never = sym top ∙ some in absurd cc
 
-  old_inner : (c : ClassSite) (o : List ℕ) → DeclaresClass ss c.key c → c.key.outer ≡ Some o → (p : ClassKey) × MemberNames ss (HasMemberType ss) o c.parent p × IsSuperclass rows c.key p
+  old_inner : (c : DeclaredClass) (o : List ℕ) → DeclaresClass ss c.key c → c.key.outer ≡ Some o → (p : ClassKey) × MemberNames ss (HasMemberType ss) o c.parent p × IsSuperclass rows c.key p
   old_inner c o at some = let h = two.old_parent c.key c at in by h.0 h.1
     where
       by : (p : ClassKey) → IsParent ss c.key p → (p : ClassKey) × MemberNames ss (HasMemberType ss) o c.parent p × IsSuperclass rows c.key p
@@ -184,7 +184,7 @@ module _ (rows : List Row) (g : Renaming) (ss ts : List Site) (two : Both rows g
           let same = two.once c.key b c there at in
           let around : x ≡ o = same_Some _ _ (sym is ∙ some) in (
             p,
-            subst (λ (z : ClassSite). MemberNames ss (HasMemberType ss) o z.parent p) same (subst (λ (z : List ℕ). MemberNames ss (HasMemberType ss) z b.parent p) around names),
+            subst (λ (z : DeclaredClass). MemberNames ss (HasMemberType ss) o z.parent p) same (subst (λ (z : List ℕ). MemberNames ss (HasMemberType ss) z b.parent p) around names),
             two.parents.up c.key p (inr (x, b, is, there, names)),
           )
 
@@ -208,7 +208,7 @@ module _ (rows : List Row) (g : Renaming) (ss ts : List Site) (two : Both rows g
   top_parent name q (inl (none, h)) = h
   top_parent name q (inr (o, b, some, there, names)) = absurd cc
 
-  declared_down : (name : List ℕ) (q : ClassKey) → IsSuperclass New (top_key name) q → (l : ClassKey) → class_to g l ≡ top_key name → (c : ClassSite) → DeclaresClass ss l c → TopParent ts name q
+  declared_down : (name : List ℕ) (q : ClassKey) → IsSuperclass New (top_key name) q → (l : ClassKey) → class_to g l ≡ top_key name → (c : DeclaredClass) → DeclaresClass ss l c → TopParent ts name q
   declared_down name q s l is c at =
       let d = ahead l c at in
       let h = two.new_parent (top_key name) d.0 (subst (λ (x : ClassKey). DeclaresClass ts x d.0) is d.1) in
@@ -251,7 +251,7 @@ module _ (rows : List Row) (g : Renaming) (ss ts : List Site) (two : Both rows g
   class_in d (class k) = k
 
   names_up : (T : ClassKey → List ℕ → ClassKey → Type 0) → ((c : ClassKey) (n : List ℕ) (q : ClassKey) → T c n q → (e : ℕ) → ClassRow New c e → RowWith New (IsMemberType (entries_of New) n e) q)
-      → (o n : List ℕ) (d : ClassSite) (q : ClassKey) → DeclaresClass ts (key (Some o) n) d → MemberNames ts T o d.parent q → IsSuperclass New (key (Some o) n) q
+      → (o n : List ℕ) (d : DeclaredClass) (q : ClassKey) → DeclaresClass ts (key (Some o) n) d → MemberNames ts T o d.parent q → IsSuperclass New (key (Some o) n) q
   names_up T found o n d q at names =
       let c = behind (key (Some o) n) d at in
       let m = outer_some g c.0.key.outer o (ap (λ (x : ClassKey). x.outer) c.3) in

@@ -12,25 +12,25 @@ use Rattle.jr_table.specs.Rows.{Row}
 use Rattle.jr_table.specs.Prelude.{top_key}
 use Rattle.jr_table.specs.Entries.{entries_of}
 use Rattle.jr_table.specs.Chains as chains
-use Rattle.jr_table.specs.Sites.{Written, ParamSite, InitSite, ClassSite, FieldSite, Item, class_item, field_item, method_item, ctor_item, Site}
+use Rattle.jr_table.specs.Declared.{Written, DeclaredParam, DeclaredInit, DeclaredClass, DeclaredField, Item, class_item, field_item, method_item, ctor_item, DeclaredItem}
 use Rattle.jr_table.specs.Resolving.{HasWord, Climbs, Means}
 use Rattle.jr_table.specs.ProgramRows.{MeanTypes, MeansResult, AreProgramRows}
 use Rattle.jr_table.specs.Faults.{PackageLine, names_of, line_at, IsReserved, IsNamedAsOuter, TopWord, InnerWord, FieldWord, MethodWord, IsAccess, AreBad, ClassWordsBad, WordsBad, name_at, Writes, WritesType, params_of, InitIsBad, IsClean}
 use Rattle.jr_rename.specs.Images.{Renaming, outer_to, rows_to}
-use Rattle.jr_sites.proofs.RowsOfSites.{Gives, gives}
+use Rattle.jr_sites.proofs.RowsOfDeclarations.{Gives, gives}
 use Rattle.jr_sites.proofs.Agreeing.{ClassRow, one_row, superclass_row, parent_number, outer_row}
 use Rattle.jr_class_rename.proofs.ItemsBeside.{ParamsTo, FieldTo, ItemTo, class_back}
 use Rattle.jr_class_rename.proofs.NewAgreeing.{Both, new_one, new_parents}
 use Rattle.jr_class_rename.proofs.NewNames.{HasRow, Fresh, new_name, name_case, as_outer, item_back, one_class, member_back, its_name_back}
 
 -- the types that an item writes mean something, where it has its row
-params_meant : (ts : List Site) (k : ClassKey) (ps : List ParamSite) (us : List Ty) (w : Written) → MeanTypes ts k ps us → Writes ps w → (t : Ty) × Means ts k w t
+params_meant : (ts : List DeclaredItem) (k : ClassKey) (ps : List DeclaredParam) (us : List Ty) (w : Written) → MeanTypes ts k ps us → Writes ps w → (t : Ty) × Means ts k w t
 params_meant ts k [] us w m h = absurd h
 params_meant ts k (p ∷ ps) [] w m h = absurd m
 params_meant ts k (p ∷ ps) (u ∷ us) w m (inl e) = (u, subst (λ (z : Written). Means ts k z u) e m.0)
 params_meant ts k (p ∷ ps) (u ∷ us) w m (inr h) = params_meant ts k ps us w m.1 h
 
-item_meant : (ts : List Site) (rows : List Row) (y : Item) → Gives ts y rows → (k : ClassKey) (w : Written) → WritesType y k w → (t : Ty) × Means ts k w t
+item_meant : (ts : List DeclaredItem) (rows : List Row) (y : Item) → Gives ts y rows → (k : ClassKey) (w : Written) → WritesType y k w → (t : Ty) × Means ts k w t
 item_meant ts rows (class_item c) g k w h = absurd h
 item_meant ts rows (field_item f) (r, there, is) k w (of, type) = (is.type, subst (λ (z : ClassKey). Means ts z w is.type) of (subst (λ (z : Written). Means ts f.of z is.type) type is.means))
 item_meant ts rows (method_item m) (r, there, is) k w (of, inl result) =
@@ -40,14 +40,14 @@ item_meant ts rows (ctor_item c) (r, there, is) k w (of, writes) = subst (λ (z 
 
 module _ (rows : List Row) (g : Renaming) where
   -- parameters keep their names
-  list_back : (of : ClassKey) (ps qs : List ParamSite) → ParamsTo rows g of ps qs → (n : ℕ) (q : ParamSite) → slice_get qs n ≡ Some q → (p : ParamSite) × (slice_get ps n ≡ Some p) × (q.name ≡ p.name)
+  list_back : (of : ClassKey) (ps qs : List DeclaredParam) → ParamsTo rows g of ps qs → (n : ℕ) (q : DeclaredParam) → slice_get qs n ≡ Some q → (p : DeclaredParam) × (slice_get ps n ≡ Some p) × (q.name ≡ p.name)
   list_back of [] [] h n q e = absurd cc
   list_back of [] (x ∷ qs) h n q e = absurd h
   list_back of (p ∷ ps) [] h n q e = absurd h
-  list_back of (p ∷ ps) (x ∷ qs) h zero q e = (p, refl, ap (λ (z : ParamSite). z.name) (sym (same_Some x q e)) ∙ h.1)
+  list_back of (p ∷ ps) (x ∷ qs) h zero q e = (p, refl, ap (λ (z : DeclaredParam). z.name) (sym (same_Some x q e)) ∙ h.1)
   list_back of (p ∷ ps) (x ∷ qs) h (suc n) q e = list_back of ps qs h.2 n q e
 
-  params_back : (x y : Item) → ItemTo rows g x y → (n : ℕ) (q : ParamSite) → slice_get (params_of y) n ≡ Some q → (p : ParamSite) × (slice_get (params_of x) n ≡ Some p) × (q.name ≡ p.name)
+  params_back : (x y : Item) → ItemTo rows g x y → (n : ℕ) (q : DeclaredParam) → slice_get (params_of y) n ≡ Some q → (p : DeclaredParam) × (slice_get (params_of x) n ≡ Some p) × (q.name ≡ p.name)
   params_back (class_item x) (class_item y) h n q e = absurd cc
   params_back (class_item x) (field_item y) h n q e = absurd h
   params_back (class_item x) (method_item y) h n q e = absurd h
@@ -66,7 +66,7 @@ module _ (rows : List Row) (g : Renaming) where
   params_back (ctor_item x) (ctor_item y) h n q e = list_back x.of x.params y.params h.params n q e
 
   -- modifiers stay
-  class_words : (o : Option (List ℕ)) (c d : ClassSite) → d.modifiers ≡ c.modifiers → ClassWordsBad d (outer_to g o) → ClassWordsBad c o
+  class_words : (o : Option (List ℕ)) (c d : DeclaredClass) → d.modifiers ≡ c.modifiers → ClassWordsBad d (outer_to g o) → ClassWordsBad c o
   class_words None c d e h = subst (AreBad TopWord) e h
   class_words (Some o) c d e (inl h) = inl (subst (AreBad InnerWord) e h)
   class_words (Some o) c d e (inr h) = inr (λ x. h (subst (λ (ws : List ModWord). HasWord ws word.Static) (sym e) x))
@@ -90,11 +90,11 @@ module _ (rows : List Row) (g : Renaming) where
   words_back (ctor_item x) (ctor_item y) h w = subst (AreBad IsAccess) h.words w
 
   -- an initializer of another form
-  form_back : (f h : FieldSite) → FieldTo rows g f h → (j : InitSite) → h.init ≡ Some j → j.is_simple ≡ false → (o : Option InitSite) → f.init ≡ o → (i : InitSite) × (f.init ≡ Some i) × (i.is_simple ≡ false)
+  form_back : (f h : DeclaredField) → FieldTo rows g f h → (j : DeclaredInit) → h.init ≡ Some j → j.is_simple ≡ false → (o : Option DeclaredInit) → f.init ≡ o → (i : DeclaredInit) × (f.init ≡ Some i) × (i.is_simple ≡ false)
   form_back f h x j is other None e = let never = sym (ap is_some is) ∙ x.init ∙ ap is_some e in absurd cc
   form_back f h x j is other (Some i) e = by i.is_simple refl
     where
-      by : (b : Bool) → i.is_simple ≡ b → (i : InitSite) × (f.init ≡ Some i) × (i.is_simple ≡ false)
+      by : (b : Bool) → i.is_simple ≡ b → (i : DeclaredInit) × (f.init ≡ Some i) × (i.is_simple ≡ false)
       by true t = let never = sym (x.simple i j e is t) ∙ other in absurd cc
       by false t = (i, e, t)
 
@@ -117,12 +117,12 @@ module _ (rows : List Row) (g : Renaming) where
   init_back (ctor_item x) (method_item y) at h w = absurd h
   init_back (ctor_item x) (ctor_item y) at h w = absurd w
 
-module _ (rows : List Row) (g : Renaming) (ss ts : List Site) (two : Both rows g ss ts) (k : ClassKey) (fresh : Fresh rows g k) (packages : List (Option PackageLine)) (clean : IsClean packages ss) (program : AreProgramRows ss rows) (news : AreProgramRows ts (rows_to g rows)) where
+module _ (rows : List Row) (g : Renaming) (ss ts : List DeclaredItem) (two : Both rows g ss ts) (k : ClassKey) (fresh : Fresh rows g k) (packages : List (Option PackageLine)) (clean : IsClean packages ss) (program : AreProgramRows ss rows) (news : AreProgramRows ts (rows_to g rows)) where
   abbrev New : List Row
   New = rows_to g rows
 
-  site_row : (i file : ℕ) (c : ClassSite) → slice_get ss i ≡ Some (record { file = file; item = class_item c }) → HasRow rows (class_decl c.key)
-  site_row i file c at = let r = two.agree.declared_row c.key c (record { number = i; file = file; stands = at; is = refl }) in (r.0, r.1)
+  declaration_row : (i file : ℕ) (c : DeclaredClass) → slice_get ss i ≡ Some (record { file = file; item = class_item c }) → HasRow rows (class_decl c.key)
+  declaration_row i file c at = let r = two.agree.declared_row c.key c (record { number = i; file = file; stands = at; is = refl }) in (r.0, r.1)
 
   above : (j : ClassKey) → HasRow rows (class_decl j) → (o : List ℕ) → j.outer ≡ Some o → HasRow rows (class_decl (top_key o))
   above j row o e = let r = outer_row rows two.agree.rows_are j row.0 o row.1 e in (r.0, r.1)
@@ -144,7 +144,7 @@ module _ (rows : List Row) (g : Renaming) (ss ts : List Site) (two : Both rows g
       let m = superclass_row New two.are j p s in
       (m.0, parent_number New two.are j p c m.0 x s m.1, climbs n p l more m.0 m.1 d y)
 
-  new_row : (i file : ℕ) (d : ClassSite) → slice_get ts i ≡ Some (record { file = file; item = class_item d }) → (n : ℕ) × ClassRow New d.key n
+  new_row : (i file : ℕ) (d : DeclaredClass) → slice_get ts i ≡ Some (record { file = file; item = class_item d }) → (n : ℕ) × ClassRow New d.key n
   new_row i file d at = let r = (new_one rows g ss ts two).declared_row d.key d (record { number = i; file = file; stands = at; is = refl }) in (r.0, r.1)
 
   cycle : (j : ClassKey) (steps : ℕ) → Climbs ts (suc steps) j j → (n : ℕ) × ClassRow New j n → ⊥
@@ -171,11 +171,11 @@ module _ (rows : List Row) (g : Renaming) (ss ts : List Site) (two : Both rows g
     is_clean kind.TwiceClass p (j, d, at, place, inl (i, file, e, less, first, same_key)) =
         let c = class_back rows g ss ts two.to j d (p.file, at.stands) in
         let b = class_back rows g ss ts two.to i e (file, first.stands) in
-        let one = one_class rows g ss ts two b.0.key c.0.key (site_row i b.1.0 b.0 b.1.1) (site_row j c.1.0 c.0 c.1.1) (sym b.2.key ∙ same_key ∙ c.2.key) in
+        let one = one_class rows g ss ts two b.0.key c.0.key (declaration_row i b.1.0 b.0 b.1.1) (declaration_row j c.1.0 c.0 c.1.1) (sym b.2.key ∙ same_key ∙ c.2.key) in
         clean kind.TwiceClass (record { file = c.1.0; at = c.0.at }) (j, c.0, record { stands = c.1.1 }, refl, inl (i, b.1.0, b.0, less, record { stands = b.1.1 }, one))
     is_clean kind.TwiceClass p (j, d, at, place, inr named) =
         let c = class_back rows g ss ts two.to j d (p.file, at.stands) in
-        let row = site_row j c.1.0 c.0 c.1.1 in
+        let row = declaration_row j c.1.0 c.0 c.1.1 in
         let old = as_outer rows g k fresh c.0.key row (above c.0.key row) (subst IsNamedAsOuter c.2.key named) in
         clean kind.TwiceClass (record { file = c.1.0; at = c.0.at }) (j, c.0, record { stands = c.1.1 }, refl, inr old)
     is_clean kind.NoSuperclass p (i, d, outer, name, at, parent, none) =
@@ -204,7 +204,7 @@ module _ (rows : List Row) (g : Renaming) (ss ts : List Site) (two : Both rows g
     is_clean kind.MemberTypeName p (i, j, file, d, b, at, there, has, place) =
         let c = class_back rows g ss ts two.to i d (p.file, at.stands) in
         let x = item_back rows g ss ts two.to j file b there.stands in
-        let row = site_row i c.1.0 c.0 c.1.1 in
+        let row = declaration_row i c.1.0 c.0 c.1.1 in
         let old = its_name_back rows g ss ts two program k fresh i j x.1 c.0 d row (above c.0.key row) c.2 x.0 b x.2 x.3 has in
         clean kind.MemberTypeName (record { file = c.1.0; at = c.0.at }) (i, j, x.1, c.0, x.0, record { stands = c.1.1 }, record { stands = x.2 }, old, refl)
     is_clean kind.BadModifiers p (i, y, at, bad, place) =

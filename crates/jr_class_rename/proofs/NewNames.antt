@@ -17,16 +17,16 @@ use Rattle.jr_table.specs.Found.{one}
 use Rattle.jr_table.specs.Scope.{Scope}
 use Rattle.jr_table.specs.Lookup.{ByKeys}
 use Rattle.jr_table.specs.Context.{NamesClass}
-use Rattle.jr_table.specs.Sites.{Written, int, boolean, named, ParamSite, ClassSite, FieldSite, MethodSite, CtorSite, Item, class_item, field_item, method_item, ctor_item, Site}
+use Rattle.jr_table.specs.Declared.{Written, int, boolean, named, DeclaredParam, DeclaredClass, DeclaredField, DeclaredMethod, DeclaredCtor, Item, class_item, field_item, method_item, ctor_item, DeclaredItem}
 use Rattle.jr_table.specs.Resolving.{Means}
 use Rattle.jr_table.specs.ProgramRows.{AreProgramRows}
 use Rattle.jr_table.specs.Faults.{SameTypes, SameMember, HasItsName}
 use Rattle.jr_build.proofs.Apart.{in_stands}
 use Rattle.jr_rename.specs.Images.{Renaming, is_renamed, name_to, outer_to, class_to, type_to, rows_to}
-use Rattle.jr_sites.proofs.RowsOfSites.{gives}
+use Rattle.jr_sites.proofs.RowsOfDeclarations.{gives}
 use Rattle.jr_sites.proofs.Agreeing.{ClassRow, one_key}
 use Rattle.jr_class_rename.proofs.WrittenTypes.{place, WrittenAs, meant, written_means}
-use Rattle.jr_class_rename.proofs.ItemsBeside.{ParamsTo, ClassTo, ItemTo, SitesTo}
+use Rattle.jr_class_rename.proofs.ItemsBeside.{ParamsTo, ClassTo, ItemTo, DeclarationsTo}
 use Rattle.jr_class_rename.proofs.NewAgreeing.{Both, image_row, new_one, new_tops, new_parents}
 use Rattle.jr_class_rename.proofs.NewRows.{declarer}
 
@@ -73,17 +73,17 @@ module _ (rows : List Row) (g : Renaming) (k : ClassKey) (name : Fresh rows g k)
       by m some same (inr a) (inr b) = absurd (let never = ap (λ (z : ClassKey). z.outer) (a.0 ∙ sym b.0) ∙ some in cc)
 
 -- an item and what stood there
-pub item_back : (rows : List Row) (g : Renaming) (ss ts : List Site) → SitesTo rows g ss ts → (i f : ℕ) (y : Item) → slice_get ts i ≡ Some (record { file = f; item = y })
+pub item_back : (rows : List Row) (g : Renaming) (ss ts : List DeclaredItem) → DeclarationsTo rows g ss ts → (i f : ℕ) (y : Item) → slice_get ts i ≡ Some (record { file = f; item = y })
     → (x : Item) × (e : ℕ) × (slice_get ss i ≡ Some (record { file = e; item = x })) × ItemTo rows g x y
 item_back rows g [] [] h i f y at = absurd cc
 item_back rows g [] (t ∷ ts) h i f y at = absurd h
 item_back rows g (s ∷ ss) [] h i f y at = absurd h
 item_back rows g (s ∷ ss) (t ∷ ts) h zero f y at =
     let same : t ≡ record { file = f; item = y } = same_Some t (record { file = f; item = y }) at in
-    (s.item, s.file, refl, subst (λ (z : Item). ItemTo rows g s.item z) (ap (λ (z : Site). z.item) same) h.1)
+    (s.item, s.file, refl, subst (λ (z : Item). ItemTo rows g s.item z) (ap (λ (z : DeclaredItem). z.item) same) h.1)
 item_back rows g (s ∷ ss) (t ∷ ts) h (suc i) f y at = item_back rows g ss ts h.2 i f y at
 
-module _ (rows : List Row) (g : Renaming) (ss ts : List Site) (two : Both rows g ss ts) where
+module _ (rows : List Row) (g : Renaming) (ss ts : List DeclaredItem) (two : Both rows g ss ts) where
   abbrev New : List Row
   New = rows_to g rows
 
@@ -150,7 +150,7 @@ module _ (rows : List Row) (g : Renaming) (ss ts : List Site) (two : Both rows g
   class_has of (named at o n) t (l, names, is) j e = subst (λ (x : ClassKey). HasRow rows (class_decl x)) (class_of_type l j (sym is ∙ e)) (names_row (place of) o n l names)
 
   -- what two types mean in the new program they meant in the old one
-  types_back : (of : ClassKey) (n : ℕ) → ClassRow rows of n → (ps qs us vs : List ParamSite) → ParamsTo rows g of ps us → ParamsTo rows g of qs vs → SameTypes ts (class_to g of) us vs → SameTypes ss of ps qs
+  types_back : (of : ClassKey) (n : ℕ) → ClassRow rows of n → (ps qs us vs : List DeclaredParam) → ParamsTo rows g of ps us → ParamsTo rows g of qs vs → SameTypes ts (class_to g of) us vs → SameTypes ss of ps qs
   types_back of n i [] [] [] [] a b h = tt
   types_back of n i [] [] [] (v ∷ vs) a b h = absurd h
   types_back of n i [] [] (u ∷ us) vs a b h = absurd a
@@ -185,14 +185,14 @@ module _ (rows : List Row) (g : Renaming) (ss ts : List Site) (two : Both rows g
 
   -- the owner of a member
   module _ (program : AreProgramRows ss rows) where
-    field_row : (i file : ℕ) (f : FieldSite) → slice_get ss i ≡ Some (record { file = file; item = field_item f }) → HasRow rows (field_decl (record { class = f.of; name = f.name })) × HasRow rows (class_decl f.of)
+    field_row : (i file : ℕ) (f : DeclaredField) → slice_get ss i ≡ Some (record { file = file; item = field_item f }) → HasRow rows (field_decl (record { class = f.of; name = f.name })) × HasRow rows (class_decl f.of)
     field_row i file f at =
         let r = gives ss rows program i file (field_item f) at in
         let n = in_stands rows r.0 r.1 in
         let decl = ap (λ (z : Row). z.decl) r.2.is in
         ((n.0, record { row = r.0; stands = n.1; declares = decl }), declarer rows g ss ts two r.0 (field_decl (record { class = f.of; name = f.name })) r.1 decl)
 
-    method_row : (i file : ℕ) (m : MethodSite) → slice_get ss i ≡ Some (record { file = file; item = method_item m })
+    method_row : (i file : ℕ) (m : DeclaredMethod) → slice_get ss i ≡ Some (record { file = file; item = method_item m })
         → ((us : List Ty) × HasRow rows (method_decl (record { class = m.of; name = m.name; params = us }))) × HasRow rows (class_decl m.of)
     method_row i file m at =
         let r = gives ss rows program i file (method_item m) at in
@@ -200,7 +200,7 @@ module _ (rows : List Row) (g : Renaming) (ss ts : List Site) (two : Both rows g
         let decl = ap (λ (z : Row). z.decl) r.2.is in
         ((r.2.params, (n.0, record { row = r.0; stands = n.1; declares = decl })), declarer rows g ss ts two r.0 (method_decl (record { class = m.of; name = m.name; params = r.2.params })) r.1 decl)
 
-    ctor_row : (i file : ℕ) (c : CtorSite) → slice_get ss i ≡ Some (record { file = file; item = ctor_item c }) → HasRow rows (class_decl c.of)
+    ctor_row : (i file : ℕ) (c : DeclaredCtor) → slice_get ss i ≡ Some (record { file = file; item = ctor_item c }) → HasRow rows (class_decl c.of)
     ctor_row i file c at =
         let r = gives ss rows program i file (ctor_item c) at in
         declarer rows g ss ts two r.0 (constructor_decl (record { class = c.of; params = r.2.params })) r.1 (ap (λ (z : Row). z.decl) r.2.is)
@@ -253,7 +253,7 @@ module _ (rows : List Row) (g : Renaming) (ss ts : List Site) (two : Both rows g
     member_back i j f e (ctor_item x) (method_item y) (ctor_item a) (ctor_item b) p q h k same = absurd k
 
     -- a member with the name of a member class of its class
-    pub its_name_back : (k : ClassKey) → Fresh rows g k → (j i f : ℕ) (c d : ClassSite) → HasRow rows (class_decl c.key) → ((o : List ℕ) → c.key.outer ≡ Some o → HasRow rows (class_decl (top_key o)))
+    pub its_name_back : (k : ClassKey) → Fresh rows g k → (j i f : ℕ) (c d : DeclaredClass) → HasRow rows (class_decl c.key) → ((o : List ℕ) → c.key.outer ≡ Some o → HasRow rows (class_decl (top_key o)))
         → ClassTo rows g c d → (x y : Item) → slice_get ss i ≡ Some (record { file = f; item = x }) → ItemTo rows g x y → HasItsName d.key y → HasItsName c.key x
     its_name_back k fresh j i f c d row above h (field_item x) (field_item y) at to (top, around, called) =
         let r = field_row i f x at in

@@ -9,22 +9,22 @@ use Rattle.jr_table.specs.Prelude.{prelude_rows}
 use Rattle.jr_table.specs.Entries.{class_of}
 use Rattle.jr_table.specs.Conditions.{as_declarer}
 use Rattle.jr_table.specs.Context.{IsSuperclass}
-use Rattle.jr_table.specs.Sites.{Written, ParamSite, ClassSite, FieldSite, MethodSite, CtorSite, Item, class_item, field_item, method_item, ctor_item, Site}
+use Rattle.jr_table.specs.Declared.{Written, DeclaredParam, DeclaredClass, DeclaredField, DeclaredMethod, DeclaredCtor, Item, class_item, field_item, method_item, ctor_item, DeclaredItem}
 use Rattle.jr_table.specs.Resolving.{Means}
-use Rattle.jr_table.specs.ProgramRows.{is_access, MeanTypes, MeansResult, IsClassRow, IsFieldRow, IsMethodRow, IsCtorRow, unwritten_row, AreRowsOfSites, AreProgramRows}
+use Rattle.jr_table.specs.ProgramRows.{is_access, MeanTypes, MeansResult, IsClassRow, IsFieldRow, IsMethodRow, IsCtorRow, unwritten_row, AreRowsOfDeclarations, AreProgramRows}
 use Rattle.jr_build.proofs.Apart.{In, in_right, in_stands}
 use Rattle.jr_rename.specs.Images.{Renaming, name_to, class_to, type_to, types_to, decl_to, row_to, rows_to}
 use Rattle.jr_sites.proofs.Agreeing.{ClassRow}
 use Rattle.jr_class_rename.proofs.WrittenTypes.{meant, written_means}
 use Rattle.jr_class_rename.proofs.Renamed.{kept_name}
-use Rattle.jr_class_rename.proofs.ItemsBeside.{TypeTo, ResultTo, ParamsTo, ClassTo, FieldTo, MethodTo, CtorTo, ItemTo, SitesTo}
+use Rattle.jr_class_rename.proofs.ItemsBeside.{TypeTo, ResultTo, ParamsTo, ClassTo, FieldTo, MethodTo, CtorTo, ItemTo, DeclarationsTo}
 use Rattle.jr_class_rename.proofs.NewAgreeing.{Both, image_row, image_parent, new_one, new_tops, new_parents}
 
 map_both : {S U : Type 0} (f : S → U) (xs ys : List S) → map f (xs ++ ys) ≡ map f xs ++ map f ys
 map_both f [] ys = refl
 map_both f (x ∷ xs) ys = ap (λ zs. f x ∷ zs) (map_both f xs ys)
 
-module _ (rows : List Row) (g : Renaming) (ss ts : List Site) (two : Both rows g ss ts) where
+module _ (rows : List Row) (g : Renaming) (ss ts : List DeclaredItem) (two : Both rows g ss ts) where
   -- what a type of the new program means
   pub type_means : (of : ClassKey) (n : ℕ) → ClassRow rows of n → (w v : Written) → TypeTo rows g of w v → (t : Ty) → Means ss of w t → Means ts (class_to g of) v (type_to g t)
   type_means of n i w v x t m =
@@ -33,7 +33,7 @@ module _ (rows : List Row) (g : Renaming) (ss ts : List Site) (two : Both rows g
       subst (Means ts (class_to g of) v) (ap (type_to g) (sym same))
       (written_means (rows_to g rows) ts (new_one rows g ss ts two) (new_tops rows g ss ts two) (new_parents rows g ss ts two) (class_to g of) n row v (type_to g x.type) x.new)
 
-  pub params_mean : (of : ClassKey) (n : ℕ) → ClassRow rows of n → (ps qs : List ParamSite) → ParamsTo rows g of ps qs → (us : List Ty) → MeanTypes ss of ps us → MeanTypes ts (class_to g of) qs (types_to g us)
+  pub params_mean : (of : ClassKey) (n : ℕ) → ClassRow rows of n → (ps qs : List DeclaredParam) → ParamsTo rows g of ps qs → (us : List Ty) → MeanTypes ss of ps us → MeanTypes ts (class_to g of) qs (types_to g us)
   params_mean of n i [] [] h [] m = tt
   params_mean of n i [] [] h (u ∷ us) m = absurd m
   params_mean of n i [] (q ∷ qs) h us m = absurd h
@@ -51,7 +51,7 @@ module _ (rows : List Row) (g : Renaming) (ss ts : List Site) (two : Both rows g
   pub declarer : (r : Row) (d : Decl) → In rows r → r.decl ≡ d → (c : ℕ) × ClassRow rows (class_of d) c
   declarer r d h e = let n = in_stands rows r h in two.agree.rows_are.named n.0 r (class_of d) n.1 (as_declarer (ap class_of e))
 
-  class_row_to : (c d : ClassSite) (r : Row) → ClassTo rows g c d → IsClassRow ss c r → IsClassRow ts d (row_to g r)
+  class_row_to : (c d : DeclaredClass) (r : Row) → ClassTo rows g c d → IsClassRow ss c r → IsClassRow ts d (row_to g r)
   class_row_to c d r h is = record {
     decl = ap (decl_to g) is.decl ∙ ap class_decl (sym h.key);
     modifiers = is.modifiers ∙ sym h.words;
@@ -63,7 +63,7 @@ module _ (rows : List Row) (g : Renaming) (ss ts : List Site) (two : Both rows g
     has_init = is.has_init;
   }
 
-  unwritten_to : (c d : ClassSite) → ClassTo rows g c d → row_to g (unwritten_row ss c) ≡ unwritten_row ts d
+  unwritten_to : (c d : DeclaredClass) → ClassTo rows g c d → row_to g (unwritten_row ss c) ≡ unwritten_row ts d
   unwritten_to c d h = λ i. record {
     decl = constructor_decl (record { class = sym h.key i; params = [] });
     modifiers = filter is_access (sym h.words i);
@@ -72,7 +72,7 @@ module _ (rows : List Row) (g : Renaming) (ss ts : List Site) (two : Both rows g
     has_init = false;
   }
 
-  field_row_to : (f h : FieldSite) (r : Row) → In rows r → FieldTo rows g f h → IsFieldRow ss f r → IsFieldRow ts h (row_to g r)
+  field_row_to : (f h : DeclaredField) (r : Row) → In rows r → FieldTo rows g f h → IsFieldRow ss f r → IsFieldRow ts h (row_to g r)
   field_row_to f h r there x is =
       let c = declarer r (field_decl (record { class = f.of; name = f.name })) there (ap (λ (z : Row). z.decl) is.is) in
       let named : name_to g (field_decl (record { class = f.of; name = f.name })) f.name ≡ h.name = kept_name g (field_decl (record { class = f.of; name = f.name })) f.name (two.keeps.field (record { class = f.of; name = f.name })) ∙ sym x.name in
@@ -88,7 +88,7 @@ module _ (rows : List Row) (g : Renaming) (ss ts : List Site) (two : Both rows g
         });
       }
 
-  method_row_to : (m n : MethodSite) (r : Row) → In rows r → MethodTo rows g m n → IsMethodRow ss m r → IsMethodRow ts n (row_to g r)
+  method_row_to : (m n : DeclaredMethod) (r : Row) → In rows r → MethodTo rows g m n → IsMethodRow ss m r → IsMethodRow ts n (row_to g r)
   method_row_to m n r there x is =
       let c = declarer r (method_decl (record { class = m.of; name = m.name; params = is.params })) there (ap (λ (z : Row). z.decl) is.is) in
       let named : name_to g (method_decl (record { class = m.of; name = m.name; params = is.params })) m.name ≡ n.name =
@@ -107,7 +107,7 @@ module _ (rows : List Row) (g : Renaming) (ss ts : List Site) (two : Both rows g
         });
       }
 
-  ctor_row_to : (c d : CtorSite) (r : Row) → In rows r → CtorTo rows g c d → IsCtorRow ss c r → IsCtorRow ts d (row_to g r)
+  ctor_row_to : (c d : DeclaredCtor) (r : Row) → In rows r → CtorTo rows g c d → IsCtorRow ss c r → IsCtorRow ts d (row_to g r)
   ctor_row_to c d r there x is =
       let n = declarer r (constructor_decl (record { class = c.of; params = is.params })) there (ap (λ (z : Row). z.decl) is.is) in
       record {
@@ -133,11 +133,11 @@ module _ (rows : List Row) (g : Renaming) (ss ts : List Site) (two : Both rows g
   here_within : (r : Row) (rest own : List Row) → own ≡ r ∷ rest → Within own → In rows r
   here_within r rest own e h = h r (subst (λ (rs : List Row). In rs r) (sym e) (inl refl))
 
-  module _ (xs ys : List Site) (others : (rest : List Row) → Within rest → AreRowsOfSites ss xs rest → AreRowsOfSites ts ys (rows_to g rest)) (f e : ℕ) where
+  module _ (xs ys : List DeclaredItem) (others : (rest : List Row) → Within rest → AreRowsOfDeclarations ss xs rest → AreRowsOfDeclarations ts ys (rows_to g rest)) (f e : ℕ) where
     class_case : (a b : ℕ) (k l : ClassKey) (m n : List ModWord) (p q : Option Written) (c d : Bool)
         → ClassTo rows g (record { at = a; key = k; modifiers = m; parent = p; has_ctor = c }) (record { at = b; key = l; modifiers = n; parent = q; has_ctor = d })
-        → (own : List Row) → Within own → AreRowsOfSites ss (record { file = f; item = class_item (record { at = a; key = k; modifiers = m; parent = p; has_ctor = c }) } ∷ xs) own
-        → AreRowsOfSites ts (record { file = e; item = class_item (record { at = b; key = l; modifiers = n; parent = q; has_ctor = d }) } ∷ ys) (rows_to g own)
+        → (own : List Row) → Within own → AreRowsOfDeclarations ss (record { file = f; item = class_item (record { at = a; key = k; modifiers = m; parent = p; has_ctor = c }) } ∷ xs) own
+        → AreRowsOfDeclarations ts (record { file = e; item = class_item (record { at = b; key = l; modifiers = n; parent = q; has_ctor = d }) } ∷ ys) (rows_to g own)
     class_case a b k l m n p q true true h own w (r, rest, is, row, more) =
         (row_to g r, rows_to g rest, ap (rows_to g) is, class_row_to _ _ r h row, others rest (rest_within (r ∷ []) rest own is w) more)
     class_case a b k l m n p q true false h own w are = absurd (let never = h.ctor in cc)
@@ -150,7 +150,7 @@ module _ (rows : List Row) (g : Renaming) (ss ts : List Site) (two : Both rows g
       others rest (rest_within (r ∷ unwritten_row ss (record { at = a; key = k; modifiers = m; parent = p; has_ctor = false }) ∷ []) rest own is w) more,
     )
 
-    item_case : (x y : Item) → ItemTo rows g x y → (own : List Row) → Within own → AreRowsOfSites ss (record { file = f; item = x } ∷ xs) own → AreRowsOfSites ts (record { file = e; item = y } ∷ ys) (rows_to g own)
+    item_case : (x y : Item) → ItemTo rows g x y → (own : List Row) → Within own → AreRowsOfDeclarations ss (record { file = f; item = x } ∷ xs) own → AreRowsOfDeclarations ts (record { file = e; item = y } ∷ ys) (rows_to g own)
     item_case (class_item c) (class_item d) h own w are = class_case c.at d.at c.key d.key c.modifiers d.modifiers c.parent d.parent c.has_ctor d.has_ctor h own w are
     item_case (class_item c) (field_item d) h own w are = absurd h
     item_case (class_item c) (method_item d) h own w are = absurd h
@@ -171,7 +171,7 @@ module _ (rows : List Row) (g : Renaming) (ss ts : List Site) (two : Both rows g
     item_case (ctor_item c) (ctor_item d) h own w (r, rest, is, row, more) =
         (row_to g r, rows_to g rest, ap (rows_to g) is, ctor_row_to c d r (here_within r rest own is w) h row, others rest (rest_within (r ∷ []) rest own is w) more)
 
-  own_rows : (xs ys : List Site) → SitesTo rows g xs ys → (own : List Row) → Within own → AreRowsOfSites ss xs own → AreRowsOfSites ts ys (rows_to g own)
+  own_rows : (xs ys : List DeclaredItem) → DeclarationsTo rows g xs ys → (own : List Row) → Within own → AreRowsOfDeclarations ss xs own → AreRowsOfDeclarations ts ys (rows_to g own)
   own_rows [] [] h own w are = ap (rows_to g) are
   own_rows [] (t ∷ ys) h own w are = absurd h
   own_rows (s ∷ xs) [] h own w are = absurd h

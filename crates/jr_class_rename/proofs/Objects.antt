@@ -14,7 +14,7 @@ use Rattle.jr_table.specs.Members.{DeclaresType, MemberAmong}
 use Rattle.jr_table.specs.Found.{one}
 use Rattle.jr_table.specs.Scope.{Scope}
 use Rattle.jr_table.specs.Lookup.{FindsTypeNamed, FindsTypeOf}
-use Rattle.jr_table.specs.Sites.{Site}
+use Rattle.jr_table.specs.Declared.{DeclaredItem}
 use Rattle.jr_table.specs.Faults.{PackageLine, IsClean, IsReserved}
 use Rattle.jr_table.proofs.RowLaws.{row_at}
 use Rattle.jr_sites.proofs.Agreeing.{Agree, ClassRow, one_key, then_of}
@@ -54,8 +54,8 @@ module _ (rows : List Row) (are : AreRows rows) where
   object_of s o name (number.FromStatic j, finds, row) = row
 
   -- no member class is called so
-  pub object_old : (packages : List (Option PackageLine)) (sites : List Site) → IsClean packages sites → Agree rows sites → (s : Scope) (k : ClassKey) → FindsTypeNamed rows s (codes "Object") (one (class_decl k)) → k ≡ object_key
-  object_old packages sites clean a s k (number.One j, inl (e, inner, member), row) =
+  pub object_old : (packages : List (Option PackageLine)) (declarations : List DeclaredItem) → IsClean packages declarations → Agree rows declarations → (s : Scope) (k : ClassKey) → FindsTypeNamed rows s (codes "Object") (one (class_decl k)) → k ≡ object_key
+  object_old packages declarations clean a s k (number.One j, inl (e, inner, member), row) =
       let named = among_named (codes "Object") j k row member.chain member.among in
       elim (a.row_class k j row) [
         | inl (at, d, words) ↦ absurd (
@@ -64,8 +64,8 @@ module _ (rows : List Row) (are : AreRows rows) where
             )
         | inr (top, is, seen) ↦ (let never = sym top ∙ named.1.1 in absurd cc)
       ]
-  object_old packages sites clean a s k (number.One j, inr (none, there), row) = one_key rows are j k object_key row there
-  object_old packages sites clean a s k (number.Nothing, finds, row) = absurd row
-  object_old packages sites clean a s k (number.Many i j, finds, row) = absurd row
-  object_old packages sites clean a s k (number.NotAccessible j, finds, row) = absurd row
-  object_old packages sites clean a s k (number.FromStatic j, finds, row) = absurd row
+  object_old packages declarations clean a s k (number.One j, inr (none, there), row) = one_key rows are j k object_key row there
+  object_old packages declarations clean a s k (number.Nothing, finds, row) = absurd row
+  object_old packages declarations clean a s k (number.Many i j, finds, row) = absurd row
+  object_old packages declarations clean a s k (number.NotAccessible j, finds, row) = absurd row
+  object_old packages declarations clean a s k (number.FromStatic j, finds, row) = absurd row

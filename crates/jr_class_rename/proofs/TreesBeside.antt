@@ -18,7 +18,7 @@ use Rattle.jr_table.specs.Entries.{class_of_member}
 use Rattle.jr_table.specs.Found.{one}
 use Rattle.jr_table.specs.Context.{Context, scope_of, NamesClass, WritesType}
 use Rattle.jr_table.specs.HeadRules.{plain, is_static_member, TopFinds}
-use Rattle.jr_table.specs.Sites.{written, words, param_site, init_site, class_key, member_sites, Site}
+use Rattle.jr_table.specs.Declared.{written, words, param_declaration, init_declaration, class_key, member_declarations, DeclaredItem}
 use Rattle.jr_build.specs.Heads.{NamesClass as NamesSuperclass, MayHold, ClassHeads, MemberHeads, MembersHeads, ClassesHeads, UnitsHeads}
 use Rattle.jr_rewrite.specs.Rewritten.{Rewritten}
 use Rattle.jr_rewrite.specs.Rewrites.{Choosing, TypeOut, RewritesType, RewritesParams, RewritesResult, RewritesMember, RewritesParent, RewritesClass, RewritesMembers, RewritesOne, RewritesClasses, RewritesUnits}
@@ -114,7 +114,7 @@ same_front None (Some w) e = absurd cc
 same_front (Some v) None e = absurd cc
 same_front (Some v) (Some w) e = sym e
 
-module _ (rows : List Row) (g : Renaming) (keeps : Keeps rows g) {A B : Type 0} (tells : A → ℕ → Span) (begins' : B → ℕ → ℕ) (super_at : Context → ℕ) (ss : List Site) where
+module _ (rows : List Row) (g : Renaming) (keeps : Keeps rows g) {A B : Type 0} (tells : A → ℕ → Span) (begins' : B → ℕ → ℕ) (super_at : Context → ℕ) (ss : List DeclaredItem) where
   abbrev begins : A → ℕ → ℕ
   begins m b = (tells m b).from
 
@@ -131,7 +131,7 @@ module _ (rows : List Row) (g : Renaming) (keeps : Keeps rows g) {A B : Type 0} 
       × ParentTo rows g o (option_map (written begins (begins m b)) t) (option_map (written begins' (begins' k i)) u)
 
   abbrev pub MemberTo : (b i : ℕ) → (of of' : ClassKey) → syntax.Member A → syntax.Member B → Type 0
-  MemberTo b i of of' x y = ItemsTo rows g (member_sites begins b of x) (member_sites begins' i of' y)
+  MemberTo b i of of' x y = ItemsTo rows g (member_declarations begins b of x) (member_declarations begins' i of' y)
 
   -- ---- written types
 
@@ -200,7 +200,7 @@ module _ (rows : List Row) (g : Renaming) (keeps : Keeps rows g) {A B : Type 0} 
 
   params_go : (of : ClassKey) (k l : MemberKey) → class_of_member k ≡ of → class_of_member l ≡ of → (m at j n : ℕ) (ps : List (syntax.Param A)) (o : Rewritten (List (syntax.Param A))) → RewritesParams tells Chosen k m at ps o
       → (ys : List (syntax.Param A)) → ys ≡ o.tree → ParamsAlong l at n ps ys → (qs : List (syntax.Param B)) → map (map_param no_mark) qs ≡ map (map_param no_mark) ys
-      → ParamsTo rows g of (map (param_site begins at) ps) (map (param_site begins' j) qs)
+      → ParamsTo rows g of (map (param_declaration begins at) ps) (map (param_declaration begins' j) qs)
   params_go of k l is was m at j n [] o made ys whole along [] e = tt
   params_go of k l is was m at j n [] o made ys whole along (q ∷ qs) e = let f = e ∙ ap (map (map_param no_mark)) along in absurd cc
   params_go of k l is was m at j n (p ∷ ps) o made ys whole (y, rest, same, final, goes, more) [] e = let f = e ∙ ap (map (map_param no_mark)) same in absurd cc
@@ -263,7 +263,7 @@ module _ (rows : List Row) (g : Renaming) (keeps : Keeps rows g) {A B : Type 0} 
         → RewritesMember tells Chosen (member.field (record { class = of; name = w.text })) b (syntax.field m mods t w init) o
         → OneAlong (member.field (record { class = of; name = w.text })) b n (syntax.field m mods t w init) o.tree
         → (y : syntax.Member B) → map_member no_mark y ≡ map_member no_mark o.tree → MemberTo b i of of' (syntax.field m mods t w init) y
-    unfolding map_member member_sites
+    unfolding map_member member_declarations
     field_goes m mods t w init o (p, v, q, type, name, value, is) (j, ms, u, x, z, form, same_mods, goes, maybe) (syntax.field k nods r s last) e =
         let key = member.field (record { class = of; name = w.text }) in
         let f = e ∙ ap (map_member no_mark) form in
@@ -274,9 +274,9 @@ module _ (rows : List Row) (g : Renaming) (keeps : Keeps rows g) {A B : Type 0} 
                 ∙ kept_name g (field_decl (record { class = of; name = w.text })) w.text (keeps.field (record { class = of; name = w.text }));
             words = same_words mods ms nods same_mods (ap mods_in f);
             type = type_goes of key key refl refl (begins m b) (begins' k i) t p type u goes.means r (same_Some _ _ (ap type_in f));
-            init = some_map (init_site begins' (begins' k i)) last ∙ sym (some_map (map_exp no_mark) last) ∙ ap (λ (x : syntax.Member Bare). is_some (init_in x)) f ∙ some_map (map_exp no_mark) z
+            init = some_map (init_declaration begins' (begins' k i)) last ∙ sym (some_map (map_exp no_mark) last) ∙ ap (λ (x : syntax.Member Bare). is_some (init_in x)) f ∙ some_map (map_exp no_mark) z
                 ∙ maybe_along (plain key (is_static_member begins mods)) (plain (member_to g key) (is_static_member begins ms)) (begins m b) (begins j n) init z maybe
-                ∙ sym (some_map (init_site begins (begins m b)) init);
+                ∙ sym (some_map (init_declaration begins (begins m b)) init);
             simple = λ x y. init_goes rows g keeps tells begins' super_at (plain key (is_static_member begins mods)) (plain (member_to g key) (is_static_member begins ms)) (begins m b) (begins j n) (begins' k i) init z q value maybe last (ap init_in f) x y;
           },
           tt,
@@ -289,7 +289,7 @@ module _ (rows : List Row) (g : Renaming) (keeps : Keeps rows g) {A B : Type 0} 
         → RewritesMember tells Chosen (member.method (record { class = of; name = w.text; params = ts })) b (syntax.method m mods t w ps body) o
         → OneAlong (member.method (record { class = of; name = w.text; params = us })) b n (syntax.method m mods t w ps body) o.tree
         → (y : syntax.Member B) → map_member no_mark y ≡ map_member no_mark o.tree → MemberTo b i of of' (syntax.method m mods t w ps body) y
-    unfolding map_member member_sites
+    unfolding map_member member_declarations
     method_goes m mods t w ps body o ts us (p, v, q, z, type, name, params, inside, is) (j, ms, u, x, ys, body', form, same_mods, result, along, rest) (syntax.method k nods r s qs last) e =
         let key = member.method (record { class = of; name = w.text; params = ts }) in
         let key' = member.method (record { class = of; name = w.text; params = us }) in
@@ -313,7 +313,7 @@ module _ (rows : List Row) (g : Renaming) (keeps : Keeps rows g) {A B : Type 0} 
         → RewritesMember tells Chosen (member.constructor (record { class = of; params = ts })) b (syntax.constructor m mods w ps args body) o
         → OneAlong (member.constructor (record { class = of; params = us })) b n (syntax.constructor m mods w ps args body) o.tree
         → (y : syntax.Member B) → map_member no_mark y ≡ map_member no_mark o.tree → MemberTo b i of of' (syntax.constructor m mods w ps args body) y
-    unfolding map_member member_sites
+    unfolding map_member member_declarations
     ctor_goes m mods w ps args body o ts us (v, q, p, z, name, params, super, inside, is) (j, ms, x, ys, es, body', form, same_mods, along, given, rest) (syntax.constructor k nods s qs args' last) e =
         let key = member.constructor (record { class = of; params = ts }) in
         let key' = member.constructor (record { class = of; params = us }) in

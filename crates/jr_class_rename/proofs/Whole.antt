@@ -8,23 +8,23 @@ use Rattle.jr_table.specs.Rows.{Row}
 use Rattle.jr_table.specs.Prelude.{prelude_rows, class_row, top_key, object_key}
 use Rattle.jr_table.specs.Conditions.{AreRows}
 use Rattle.jr_table.specs.Context.{Context}
-use Rattle.jr_table.specs.Sites.{Site, ClassSite, class_item, sites_of}
+use Rattle.jr_table.specs.Declared.{DeclaredItem, DeclaredClass, class_item, declarations_of}
 use Rattle.jr_table.specs.Resolving.{IsPreludeClass, DeclaresClass, IsParent}
 use Rattle.jr_table.specs.ProgramRows.{AreProgramRows}
 use Rattle.jr_build.proofs.OneRows.{program_once}
-use Rattle.jr_members.proofs.SiteRows.{once, not_reserved}
+use Rattle.jr_members.proofs.DeclarationRows.{once, not_reserved}
 use Rattle.jr_places.proofs.MeansOnce.{means_once, parent_once}
 use Rattle.jr_rename.specs.Targets.{IsOfPrelude}
 use Rattle.jr_rename.specs.Images.{Renaming, row_to, rows_to}
 use Rattle.jr_rename.specs.RenameLaws.{ReferencesAreKept}
 use Rattle.jr_rename.specs.ImageLaws.{ClassesStayFair}
-use Rattle.jr_sites.proofs.RowsOfSites.{gives}
+use Rattle.jr_sites.proofs.RowsOfDeclarations.{gives}
 use Rattle.jr_sites.proofs.Programs.{program_agrees, tops_agree, parents_agree}
 use Rattle.jr_class_rename.specs.ClassLaws.{ClassesGiveImages, BuiltRowsAreImages}
 use Rattle.jr_class_rename.proofs.Renamed.{Keeps, target, not_target}
 use Rattle.jr_class_rename.proofs.Objects.{object_old, object_named, object_of}
 use Rattle.jr_class_rename.proofs.TreesBeside.{units_go}
-use Rattle.jr_class_rename.proofs.SitesBeside.{all_sites}
+use Rattle.jr_class_rename.proofs.DeclarationsBeside.{all_declarations}
 use Rattle.jr_class_rename.proofs.NewAgreeing.{Both}
 use Rattle.jr_class_rename.proofs.NewRows.{program_rows}
 use Rattle.jr_class_rename.proofs.NewNames.{Fresh}
@@ -64,11 +64,11 @@ module _ (rows : List Row) (are : AreRows rows) where
   of_prelude name (inr (inr (inr e))) =
       (4, early 4 8 refl (omega arith), record { row = class_row [] (codes "Thread") (Some object_key); stands = ap (λ (xs : List Row). slice_get xs 4) are.prelude; declares = ap (λ (n : List ℕ). class_decl (top_key n)) (sym e) })
 
--- each class has a superclass, where the rows are those of the sites
-pub superclass_of : (sites : List Site) (rows : List Row) → AreProgramRows sites rows → (k : ClassKey) (c : ClassSite) → DeclaresClass sites k c → (p : ClassKey) × IsParent sites k p
-superclass_of sites rows program k c at =
-    let r = gives sites rows program at.number at.file (class_item c) at.stands in
-    (r.2.superclass, subst (λ (x : ClassKey). IsParent sites x r.2.superclass) at.is r.2.is_parent)
+-- each class has a superclass, where the rows are those of the declarations
+pub superclass_of : (declarations : List DeclaredItem) (rows : List Row) → AreProgramRows declarations rows → (k : ClassKey) (c : DeclaredClass) → DeclaresClass declarations k c → (p : ClassKey) × IsParent declarations k p
+superclass_of declarations rows program k c at =
+    let r = gives declarations rows program at.number at.file (class_item c) at.stands in
+    (r.2.superclass, subst (λ (x : ClassKey). IsParent declarations x r.2.superclass) at.is r.2.is_parent)
 
 class_of_decl : (x y : ClassKey) → class_decl x ≡ class_decl y → x ≡ y
 class_of_decl x y e = cc
@@ -76,15 +76,15 @@ class_of_decl x y e = cc
 pub class_images : {A B : Type 0} → ReferencesAreKept A → ClassesStayFair A → ClassesGiveImages A B
 class_images kept fair_law tells begins' packages rows super_at units k g news c above =
     let b = c.becomes in
-    let ss = sites_of (λ m base. (tells m base).from) units in
-    let ts = sites_of begins' news in
-    let fair = fair_law (λ m base. (tells m base).from) rows units k g b.are b.of_sites b.renamed b.own b.clear b.whole c.whole in
+    let ss = declarations_of (λ m base. (tells m base).from) units in
+    let ts = declarations_of begins' news in
+    let fair = fair_law (λ m base. (tells m base).from) rows units k g b.are b.of_declarations b.renamed b.own b.clear b.whole c.whole in
     let keeps : Keeps rows g = record {
       local = λ l. not_target rows k g b.renamed (local_decl l) (λ e. absurd cc);
       field = λ f. not_target rows k g b.renamed (field_decl f) (λ e. absurd cc);
       method = λ m. not_target rows k g b.renamed (method_decl m) (λ e. absurd cc);
       prelude = λ name is. not_target rows k g b.renamed (class_decl (top_key name)) (λ e. b.own (subst (IsOfPrelude rows) e (of_prelude rows b.are name is)));
-      object_old = object_old rows b.are packages ss b.clean (program_agrees rows ss b.are b.of_sites);
+      object_old = object_old rows b.are packages ss b.clean (program_agrees rows ss b.are b.of_declarations);
       object_named = object_named (rows_to g rows) fair.are;
       object_of = object_of (rows_to g rows) fair.are;
     } in
@@ -97,32 +97,32 @@ class_images kept fair_law tells begins' packages rows super_at units k g news c
     } in
     let along = kept tells rows g (λ (c : Context). super_at c.member) units b.files b.are fair b.rewrite b.kept in
     let beside = units_go rows g keeps tells begins' (λ (c : Context). super_at c.member) ss units c.heads b.files b.rewrite along news b.read in
-    let to = all_sites rows g keeps tells begins' (λ (c : Context). super_at c.member) ss units news beside in
+    let to = all_declarations rows g keeps tells begins' (λ (c : Context). super_at c.member) ss units news beside in
     let two : Both rows g ss ts = record {
       keeps = keeps;
-      agree = program_agrees rows ss b.are b.of_sites;
+      agree = program_agrees rows ss b.are b.of_declarations;
       are = fair.are;
       to = to;
-      tops = tops_agree rows ss b.are b.of_sites packages b.clean;
-      parents = parents_agree rows ss b.are b.of_sites packages b.clean;
-      once = once ss rows b.are b.of_sites;
-      free = not_reserved ss rows b.are b.of_sites;
-      old_parent = superclass_of ss rows b.of_sites;
+      tops = tops_agree rows ss b.are b.of_declarations packages b.clean;
+      parents = parents_agree rows ss b.are b.of_declarations packages b.clean;
+      once = once ss rows b.are b.of_declarations;
+      free = not_reserved ss rows b.are b.of_declarations;
+      old_parent = superclass_of ss rows b.of_declarations;
       new_parent = above;
     } in
-    let rows_are = program_rows rows g ss ts two b.of_sites (prelude_stay rows g b.are fair.are) in
+    let rows_are = program_rows rows g ss ts two b.of_declarations (prelude_stay rows g b.are fair.are) in
     record {
       rows_are = rows_are;
       fair = fair;
-      clean = λ lines names. is_clean rows g ss ts two k fresh packages b.clean b.of_sites rows_are lines names;
+      clean = λ lines names. is_clean rows g ss ts two k fresh packages b.clean b.of_declarations rows_are lines names;
       members = member_images rows g ss ts two tells begins' (λ (c : Context). super_at c.member) units refl news beside;
     }
 
 pub built_rows : {A B : Type 0} → ReferencesAreKept A → ClassesStayFair A → BuiltRowsAreImages A B
 built_rows kept fair_law tells begins' packages rows others super_at units k g news c program =
-    let images = class_images kept fair_law tells begins' packages rows super_at units k g news c (superclass_of (sites_of begins' news) others program) in
+    let images = class_images kept fair_law tells begins' packages rows super_at units k g news c (superclass_of (declarations_of begins' news) others program) in
     let clean = images.clean packages refl in (
-      program_once (sites_of begins' news) (λ j w t u x y. means_once packages (sites_of begins' news) clean j w t u x y) (λ j p q x y. parent_once packages (sites_of begins' news) clean j p q x y)
+      program_once (declarations_of begins' news) (λ j w t u x y. means_once packages (declarations_of begins' news) clean j w t u x y) (λ j p q x y. parent_once packages (declarations_of begins' news) clean j p q x y)
           others (rows_to g rows) program images.rows_are,
       images,
     )

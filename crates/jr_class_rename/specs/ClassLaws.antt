@@ -6,7 +6,7 @@ use Rattle.jr_ast.specs.MemberTree as syntax
 use Rattle.jr_table.specs.Keys.{ClassKey, CtorKey}
 use Rattle.jr_table.specs.Decls.{MemberKey, class_decl, constructor_decl}
 use Rattle.jr_table.specs.Rows.{Row}
-use Rattle.jr_table.specs.Sites.{ClassSite, Site, sites_of}
+use Rattle.jr_table.specs.Declared.{DeclaredClass, DeclaredItem, declarations_of}
 use Rattle.jr_table.specs.Resolving.{DeclaresClass, IsParent}
 use Rattle.jr_table.specs.ProgramRows.{AreProgramRows}
 use Rattle.jr_table.specs.Faults.{PackageLine, names_of, IsClean}
@@ -16,9 +16,9 @@ use Rattle.jr_rename.specs.Images.{Renaming, rows_to}
 use Rattle.jr_rename.specs.ImageLaws.{Becomes, AreImages}
 
 -- each class that is declared has a superclass (JLS 8.1.4)
-abbrev pub HaveSuperclasses : List Site → Type 0
-HaveSuperclasses sites = (k : ClassKey) (c : ClassSite) → DeclaresClass sites k c
-    → (p : ClassKey) × IsParent sites k p
+abbrev pub HaveSuperclasses : List DeclaredItem → Type 0
+HaveSuperclasses declarations = (k : ClassKey) (c : DeclaredClass) → DeclaresClass declarations k c
+    → (p : ClassKey) × IsParent declarations k p
 
 module _ {A B : Type 0} (tells : A → ℕ → Span) (begins' : B → ℕ → ℕ) where
   -- the class is renamed, to a name without a dot, where no member class holds classes
@@ -35,7 +35,7 @@ ClassesGiveImages A B = (tells : A → ℕ → Span) (begins' : B → ℕ → �
     (packages : List (Option PackageLine)) (rows : List Row) (super_at : MemberKey → ℕ)
     (units : List (syntax.Unit A)) (k : ClassKey) (g : Renaming) (news : List (syntax.Unit B))
     → ClassBecomes tells begins' packages rows super_at units k g news
-    → HaveSuperclasses (sites_of begins' news) → AreImages tells begins' packages rows units g news
+    → HaveSuperclasses (declarations_of begins' news) → AreImages tells begins' packages rows units g news
 
 -- the rows that are made of the new trees
 abbrev pub BuiltRowsAreImages : Type 0 → Type 0 → Type 0
@@ -43,7 +43,7 @@ BuiltRowsAreImages A B = (tells : A → ℕ → Span) (begins' : B → ℕ → �
     (packages : List (Option PackageLine)) (rows others : List Row) (super_at : MemberKey → ℕ)
     (units : List (syntax.Unit A)) (k : ClassKey) (g : Renaming) (news : List (syntax.Unit B))
     → ClassBecomes tells begins' packages rows super_at units k g news
-    → AreProgramRows (sites_of begins' news) others
+    → AreProgramRows (declarations_of begins' news) others
     → (others ≡ rows_to g rows) × AreImages tells begins' packages rows units g news
 
 module _ {A B : Type 0} (tells : A → ℕ → Span) (begins' : B → ℕ → ℕ) where
@@ -55,9 +55,9 @@ module _ {A B : Type 0} (tells : A → ℕ → Span) (begins' : B → ℕ → �
     pub becomes : Becomes tells begins' packages rows super_at units (constructor_decl k) g news
     pub headed : UnitsHeads units
     pub dotless : position_or_len is_dot g.name ≡ length g.name
-    pub new_rows : AreProgramRows (sites_of begins' news) others
+    pub new_rows : AreProgramRows (declarations_of begins' news) others
     pub clean : (lines : List (Option PackageLine)) → map names_of lines ≡ map names_of packages
-        → IsClean lines (sites_of begins' news)
+        → IsClean lines (declarations_of begins' news)
 
 -- they are the images too
 abbrev pub ConstructorsGiveImages : Type 0 → Type 0 → Type 0

@@ -15,7 +15,7 @@ use Rattle.jr_grammar.specs.Tokens.{placed_of}
 use Rattle.jr_grammar.proofs.Layouts.{all_spans_from-span}
 use Rattle.jr_table.specs.Decls.{MemberKey, Decl}
 use Rattle.jr_table.specs.Rows.{Row}
-use Rattle.jr_table.specs.Sites.{sites_of}
+use Rattle.jr_table.specs.Declared.{declarations_of}
 use Rattle.jr_table.specs.Errors.{Part, class_part, member_part, part_mark, Binds}
 use Rattle.jr_members.specs.WrittenMembers.{WrittenMember, written_members}
 use Rattle.jr_members.specs.WrittenLaws.{AreWritten, IsWritten, MembersAreWritten}
@@ -119,7 +119,7 @@ module _ (p : Program Span) (is : IsProgram itself (λ m b. Unit {0}) p) (writte
         unit = wr.unit;
         stands = wr.stands;
         member = w.key;
-        has = found_classes begins (sites_of begins units) Is w.base w.part (begins wr.unit.mark 0) wr.unit.classes w.key (refl, refl, refl) wr.writes;
+        has = found_classes begins (declarations_of begins units) Is w.base w.part (begins wr.unit.mark 0) wr.unit.classes w.key (refl, refl, refl) wr.writes;
       } in
       let stands = super_stands r.items w.part (p.super_at w.key) (λ e. is.supers w has e f.0 f.1 r.items r.lexes) in
       let there = placed units w.file f.0.text r.items file w.key w.base w.part part (p.super_at w.key) stands p.rows in
@@ -164,13 +164,13 @@ module _ (p : Program Span) (is : IsProgram itself (λ m b. Unit {0}) p) (writte
           unit = wr.unit;
           stands = wr.stands;
           member = (written_of w).key;
-          names = found_classes begins (sites_of begins units) (λ k base part. Has at d k base part) (written_of w).base (written_of w).part (begins wr.unit.mark 0) wr.unit.classes (written_of w).key
+          names = found_classes begins (declarations_of begins units) (λ k base part. Has at d k base part) (written_of w).base (written_of w).part (begins wr.unit.mark 0) wr.unit.classes (written_of w).key
               (found_has (written_of w) b known at d has) wr.writes;
         }
 
     names_listed : (d : Decl) → AllNames d → (IsOfPrelude p.rows d → ⊥) → (e : Decl) × HasListed p members file at e × (IsOfPrelude p.rows e → ⊥)
     names_listed d h own =
-        let f = classes_found begins (sites_of begins units) (λ k base part. Has at d k base part) (begins h.unit.mark 0) h.unit.classes h.member h.names in
+        let f = classes_found begins (declarations_of begins units) (λ k base part. Has at d k base part) (begins h.unit.mark 0) h.unit.classes h.member h.names in
         let m = law.all file h.member f.base f.part (record { unit = h.unit; stands = h.stands; writes = f.there }) in
         let w = m.0 in
         let has = subst (λ (k : MemberKey). Has at d k w.base w.part) (sym m.3) (subst (λ (b : ℕ). Has at d h.member b w.part) (sym m.4) (subst (λ (q : Part Span). Has at d h.member f.base q) (sym m.5) f.has)) in

@@ -17,7 +17,7 @@ use Rattle.jr_table.specs.Conditions.{AreRows}
 use Rattle.jr_table.specs.LookupLaws.{HasOne, EachHasOne}
 use Rattle.jr_table.specs.BindingLaws.{IsBound}
 use Rattle.jr_table.specs.Context.{Context}
-use Rattle.jr_table.specs.Sites.{Site, class_key}
+use Rattle.jr_table.specs.Declared.{DeclaredItem, class_key}
 use Rattle.jr_table.specs.Errors.{Part, class_part, member_part, Binds, Declares, InClass, InMembers, InInner, InClasses}
 use Rattle.jr_places.specs.FileParts.{begins, IsSuperAt, SuperStands, WithSuper}
 use Rattle.jr_places.proofs.TokenOrder.{Rising}
@@ -136,31 +136,31 @@ module _ (text : List ℕ) (items : List Item) (rising : Rising (placed_of text 
 
   -- ---- classes
 
-  module _ (sites : List Site) (keys : (base : ℕ) (of : ClassKey) (x : syntax.Member Span) → HasOne (Declares begins sites base of x)) where
+  module _ (declarations : List DeclaredItem) (keys : (base : ℕ) (of : ClassKey) (x : syntax.Member Span) → HasOne (Declares begins declarations base of x)) where
     mutual
       unfolding InClass InMembers InInner
 
-      class_has : (base : ℕ) (outer : Option (List ℕ)) (c : syntax.Class Span) → Over All (Stands (class_layout c)) (λ at d. (k : MemberKey) × InClass begins sites (λ l b part. PartHas rows items l b part at d) base outer c k)
+      class_has : (base : ℕ) (outer : Option (List ℕ)) (c : syntax.Class Span) → Over All (Stands (class_layout c)) (λ at d. (k : MemberKey) × InClass begins declarations (λ l b part. PartHas rows items l b part at d) base outer c k)
       class_has base outer (syntax.class m mods w t ms) = turn
           (node (pass (pass (join (keyed (λ k l x y. x ∙ sym y) (λ k is. head_name k base m mods w t ms)) (join (keyed (λ k l x y. x ∙ sym y) (λ k is. head_parent k base m mods w t ms))
           (pass (only (members_have (begins m base) (class_key begins outer w.text) ms))))))))
           (λ at d. head_parts)
 
-      members_have : (base : ℕ) (of : ClassKey) (ms : syntax.Members Span) → Over All (Stands (members_layout ms)) (λ at d. (k : MemberKey) × InMembers begins sites (λ l b part. PartHas rows items l b part at d) base of ms k)
+      members_have : (base : ℕ) (of : ClassKey) (ms : syntax.Members Span) → Over All (Stands (members_layout ms)) (λ at d. (k : MemberKey) × InMembers begins declarations (λ l b part. PartHas rows items l b part at d) base of ms k)
       members_have base of syntax.end = empty (λ at d h. h.1)
       members_have base of (syntax.more x xs) = turn (join (member_has base of x) (only (members_have base of xs))) (λ at d. sum_out)
 
       member_has : (base : ℕ) (of : ClassKey) (x : syntax.Member Span) → Over All (Stands (member_layout x))
-          (λ at d. (k : MemberKey) × ((Declares begins sites base of x k × PartHas rows items k base (member_part x) at d) ⊎ InInner begins sites (λ l b part. PartHas rows items l b part at d) base of x k))
+          (λ at d. (k : MemberKey) × ((Declares begins declarations base of x k × PartHas rows items k base (member_part x) at d) ⊎ InInner begins declarations (λ l b part. PartHas rows items l b part at d) base of x k))
       member_has base of (syntax.field m mods t w init) = turn (keyed (keys base of (syntax.field m mods t w init)) (λ k is. part_has k base (syntax.field m mods t w init))) (λ at d. key_first (λ k h. h))
       member_has base of (syntax.method m mods t w ps body) = turn (keyed (keys base of (syntax.method m mods t w ps body)) (λ k is. part_has k base (syntax.method m mods t w ps body))) (λ at d. key_first (λ k h. h))
       member_has base of (syntax.constructor m mods w ps args body) =
           turn (keyed (keys base of (syntax.constructor m mods w ps args body)) (λ k is. part_has k base (syntax.constructor m mods w ps args body))) (λ at d. key_first (λ k h. h))
       member_has base of (syntax.inner m c) = turn (node (only (class_has (begins m base) (Some of.name) c))) (λ at d. key_second (λ k h. h.0))
 
-    classes_have : (base : ℕ) (cs : List (syntax.Class Span)) → Over All (Stands (classes_layout cs)) (λ at d. (k : MemberKey) × InClasses begins sites (λ l b part. PartHas rows items l b part at d) base cs k)
+    classes_have : (base : ℕ) (cs : List (syntax.Class Span)) → Over All (Stands (classes_layout cs)) (λ at d. (k : MemberKey) × InClasses begins declarations (λ l b part. PartHas rows items l b part at d) base cs k)
     classes_have base [] = empty (λ at d h. h.1)
     classes_have base (c ∷ cs) = turn (join (class_has base None c) (only (classes_have base cs))) (λ at d. sum_out)
 
-    pub unit_has : (u : syntax.Unit Span) → Over All (StandInOrder (unit_layouts u)) (λ at d. (k : MemberKey) × InClasses begins sites (λ l b part. PartHas rows items l b part at d) (begins u.mark 0) u.classes k)
+    pub unit_has : (u : syntax.Unit Span) → Over All (StandInOrder (unit_layouts u)) (λ at d. (k : MemberKey) × InClasses begins declarations (λ l b part. PartHas rows items l b part at d) (begins u.mark 0) u.classes k)
     unit_has u = pass (only (classes_have (begins u.mark 0) u.classes))

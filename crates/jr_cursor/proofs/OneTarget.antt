@@ -13,7 +13,7 @@ use Rattle.jr_grammar.specs.Tokens.{placed_of}
 use Rattle.jr_table.specs.Decls.{MemberKey, Decl}
 use Rattle.jr_table.specs.LookupLaws.{KeysFound, OneAnswer}
 use Rattle.jr_table.specs.BindingLaws.{AreBound}
-use Rattle.jr_table.specs.Sites.{sites_of}
+use Rattle.jr_table.specs.Declared.{declarations_of}
 use Rattle.jr_table.specs.Errors.{Part, Binds, InClasses}
 use Rattle.jr_members.specs.WrittenMembers.{written_members}
 use Rattle.jr_members.specs.WrittenLaws.{AreWritten, IsWritten, MembersAreWritten}
@@ -57,14 +57,14 @@ module _ (placed : ItemsPlaced) (keys : KeysFound) (single : OneAnswer) (bound :
     part_has at d k base part w (inr h) = with_reference p.rows reads.items k base part at d ((part_binds p.rows reads.items (p.super_at k) k base part (super_there k base part w) at d).1 h)
 
     in_unit : (x : IsFile units file f.text reads.items) (at : ℕ) (d : Decl) (h : Names begins p.rows p.super_at units file at d)
-        → InClasses begins (sites_of begins units) (λ k base part. PartHas p.rows reads.items k base part at d) (begins x.unit.mark 0) x.unit.classes h.member
+        → InClasses begins (declarations_of begins units) (λ k base part. PartHas p.rows reads.items k base part at d) (begins x.unit.mark 0) x.unit.classes h.member
     in_unit x at d h =
         let c =
-        classes_found begins (sites_of begins units) (λ k base part. PartDeclares begins k base part at d ⊎ Binds begins p.rows (p.super_at k) k base part at d) (begins h.unit.mark 0) h.unit.classes h.member h.names in
+        classes_found begins (declarations_of begins units) (λ k base part. PartDeclares begins k base part at d ⊎ Binds begins p.rows (p.super_at k) k base part at d) (begins h.unit.mark 0) h.unit.classes h.member h.names in
         let w : IsWritten begins units file h.member c.base c.part = record { unit = h.unit; stands = h.stands; writes = c.there } in
         let has =
-        found_classes begins (sites_of begins units) (λ k base part. PartHas p.rows reads.items k base part at d) c.base c.part (begins h.unit.mark 0) h.unit.classes h.member (part_has at d h.member c.base c.part w c.has) c.there in
-        subst (λ (u : syntax.Unit Span). InClasses begins (sites_of begins units) (λ k base part. PartHas p.rows reads.items k base part at d) (begins u.mark 0) u.classes h.member)
+        found_classes begins (declarations_of begins units) (λ k base part. PartHas p.rows reads.items k base part at d) c.base c.part (begins h.unit.mark 0) h.unit.classes h.member (part_has at d h.member c.base c.part w c.has) c.there in
+        subst (λ (u : syntax.Unit Span). InClasses begins (declarations_of begins units) (λ k base part. PartHas p.rows reads.items k base part at d) (begins u.mark 0) u.classes h.member)
         (same_Some h.unit x.unit (sym h.stands ∙ x.stands)) has
 
     one_name : (at : ℕ) (d e : Decl) → Names begins p.rows p.super_at units file at d → Names begins p.rows p.super_at units file at e → d ≡ e
@@ -72,7 +72,7 @@ module _ (placed : ItemsPlaced) (keys : KeysFound) (single : OneAnswer) (bound :
         let rises : Rising (placed_of f.text reads.items) = tokens_rise f.text placed reads.items reads.lexes in
         let marked = marked_file units file f.text f.unit unit_stands reads in
         let holds =
-        (unit_has f.text reads.items rises p.rows is.are_rows (single p.rows is.are_rows) (bound p.rows is.are_rows (keys p.rows is.are_rows)) (sites_of begins units) (declares_once [] (sites_of begins units) is.clean) marked.unit).over
+        (unit_has f.text reads.items rises p.rows is.are_rows (single p.rows is.are_rows) (bound p.rows is.are_rows (keys p.rows is.are_rows)) (declarations_of begins units) (declares_once [] (declarations_of begins units) is.clean) marked.unit).over
         (placed_of f.text reads.items) rises (whole_piece (placed_of f.text reads.items)) marked.is.marks in
         holds.one at d e (h.member, in_unit marked at d h) (k.member, in_unit marked at e k)
 

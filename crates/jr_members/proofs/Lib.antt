@@ -1,5 +1,5 @@
 pub mod Meaning
-pub mod SiteRows
+pub mod DeclarationRows
 pub mod Walking
 pub mod UnitsWalked
 pub mod PartLists

@@ -9,29 +9,29 @@ use Rattle.jr_table.specs.Rows.{Row}
 use Rattle.jr_table.specs.Prelude.{prelude_rows}
 use Rattle.jr_table.specs.Entries.{IsRowOf}
 use Rattle.jr_table.specs.Conditions.{AreRows}
-use Rattle.jr_table.specs.Sites.{Site, sites_of, sites_from}
-use Rattle.jr_table.specs.ProgramRows.{AreRowsOfSites, AreProgramRows}
+use Rattle.jr_table.specs.Declared.{DeclaredItem, declarations_of, declarations_from}
+use Rattle.jr_table.specs.ProgramRows.{AreRowsOfDeclarations, AreProgramRows}
 use Rattle.jr_table.specs.Errors.{Part, InClasses}
 use Rattle.jr_table.proofs.RowLaws.{the_number}
 use Rattle.jr_members.specs.Parts.{parts_from, units_parts}
 use Rattle.jr_members.specs.WrittenMembers.{WrittenMember, decl_of_member, members_at, written_members}
 use Rattle.jr_members.specs.WrittenLaws.{AreWritten}
 use Rattle.jr_members.proofs.Meaning.{OneClass, Unreserved}
-use Rattle.jr_members.proofs.SiteRows.{once, not_reserved}
+use Rattle.jr_members.proofs.DeclarationRows.{once, not_reserved}
 use Rattle.jr_members.proofs.Walking.{In, Walked, none_walked, walked_on, OfClasses, classes_walked, one_of_row}
 
-module _ {A : Type 0} (begins : A → ℕ → ℕ) (sites : List Site) (rows : List Row) (one_class : OneClass sites) (unreserved : Unreserved sites) where
+module _ {A : Type 0} (begins : A → ℕ → ℕ) (declarations : List DeclaredItem) (rows : List Row) (one_class : OneClass declarations) (unreserved : Unreserved declarations) where
   abbrev pub OfUnits : (first : ℕ) → List (syntax.Unit A) → (f : ℕ) (k : MemberKey) (b : ℕ) (p : Part A) → Type 0
   OfUnits first [] f k b p = ⊥
-  OfUnits first (u ∷ us) f k b p = OfClasses begins sites rows one_class unreserved first (begins u.mark 0) u.classes f k b p ⊎ OfUnits (suc first) us f k b p
+  OfUnits first (u ∷ us) f k b p = OfClasses begins declarations rows one_class unreserved first (begins u.mark 0) u.classes f k b p ⊎ OfUnits (suc first) us f k b p
 
-  units_walked : (first : ℕ) (us : List (syntax.Unit A)) (row : ℕ) → AreRowsOfSites sites (sites_from begins first us) (drop row rows)
-      → Walked begins sites rows (OfUnits first us) (parts_from begins first us) [] row
-  units_walked first [] row are = none_walked begins sites rows (OfUnits first []) (λ f k b p h. h) [] row are
+  units_walked : (first : ℕ) (us : List (syntax.Unit A)) (row : ℕ) → AreRowsOfDeclarations declarations (declarations_from begins first us) (drop row rows)
+      → Walked begins declarations rows (OfUnits first us) (parts_from begins first us) [] row
+  units_walked first [] row are = none_walked begins declarations rows (OfUnits first []) (λ f k b p h. h) [] row are
   units_walked first (u ∷ us) row are =
-      let here = classes_walked begins sites rows one_class unreserved first (begins u.mark 0) u.classes (sites_from begins (suc first) us) row are in
+      let here = classes_walked begins declarations rows one_class unreserved first (begins u.mark 0) u.classes (declarations_from begins (suc first) us) row are in
       let there = units_walked (suc first) us here.next here.left in
-      walked_on begins sites rows (OfClasses begins sites rows one_class unreserved first (begins u.mark 0) u.classes) (OfUnits (suc first) us) _ _ (sites_from begins (suc first) us) [] row here there
+      walked_on begins declarations rows (OfClasses begins declarations rows one_class unreserved first (begins u.mark 0) u.classes) (OfUnits (suc first) us) _ _ (declarations_from begins (suc first) us) [] row here there
 
   -- the unit of a file's number
   record InUnit (first : ℕ) (us : List (syntax.Unit A)) (f : ℕ) (k : MemberKey) (b : ℕ) (p : Part A) : Type 0 where
@@ -39,7 +39,7 @@ module _ {A : Type 0} (begins : A → ℕ → ℕ) (sites : List Site) (rows : L
     is : f ≡ first + behind
     unit : syntax.Unit A
     stands : slice_get us behind ≡ Some unit
-    writes : InClasses begins sites (λ j c q. (c ≡ b) × (q ≡ p)) (begins unit.mark 0) unit.classes k
+    writes : InClasses begins declarations (λ j c q. (c ≡ b) × (q ≡ p)) (begins unit.mark 0) unit.classes k
 
   to_unit : (first : ℕ) (us : List (syntax.Unit A)) (f : ℕ) (k : MemberKey) (b : ℕ) (p : Part A) → OfUnits first us f k b p → InUnit first us f k b p
   to_unit first [] f k b p h = absurd h
@@ -53,10 +53,10 @@ module _ {A : Type 0} (begins : A → ℕ → ℕ) (sites : List Site) (rows : L
   inside x y e = cc
 
   from_unit : (first : ℕ) (us : List (syntax.Unit A)) (i : ℕ) (u : syntax.Unit A) → slice_get us i ≡ Some u → (k : MemberKey) (b : ℕ) (p : Part A)
-      → InClasses begins sites (λ j c q. (c ≡ b) × (q ≡ p)) (begins u.mark 0) u.classes k → OfUnits first us (first + i) k b p
+      → InClasses begins declarations (λ j c q. (c ≡ b) × (q ≡ p)) (begins u.mark 0) u.classes k → OfUnits first us (first + i) k b p
   from_unit first [] i u e k b p h = absurd cc
   from_unit first (v ∷ us) zero u e k b p h =
-      inl (omega arith, subst (λ (x : syntax.Unit A). InClasses begins sites (λ j c q. (c ≡ b) × (q ≡ p)) (begins x.mark 0) x.classes k) (sym (inside v u e)) h)
+      inl (omega arith, subst (λ (x : syntax.Unit A). InClasses begins declarations (λ j c q. (c ≡ b) × (q ≡ p)) (begins x.mark 0) x.classes k) (sym (inside v u e)) h)
   from_unit first (v ∷ us) (suc i) u e k b p h =
       let same : suc first + i ≡ first + suc i = omega arith in
       inr (subst (λ f. OfUnits (suc first) us f k b p) same (from_unit (suc first) us i u e k b p h))
@@ -75,22 +75,22 @@ in_contains [] x h = absurd h
 in_contains (y ∷ ys) x (inl e) = (0, omega arith, e)
 in_contains (y ∷ ys) x (inr h) = let r = in_contains ys x h in let lt = r.1 in (suc r.0, omega (arith, lt), r.2)
 
-module _ {A : Type 0} (begins : A → ℕ → ℕ) (units : List (syntax.Unit A)) (rows : List Row) (are : AreRows rows) (program : AreProgramRows (sites_of begins units) rows) where
-  abbrev sites : List Site
-  sites = sites_of begins units
+module _ {A : Type 0} (begins : A → ℕ → ℕ) (units : List (syntax.Unit A)) (rows : List Row) (are : AreRows rows) (program : AreProgramRows (declarations_of begins units) rows) where
+  abbrev declarations : List DeclaredItem
+  declarations = declarations_of begins units
 
-  one_class : OneClass sites
-  one_class = once sites rows are program
+  one_class : OneClass declarations
+  one_class = once declarations rows are program
 
-  unreserved : Unreserved sites
-  unreserved = not_reserved sites rows are program
+  unreserved : Unreserved declarations
+  unreserved = not_reserved declarations rows are program
 
   own_rows : drop (length prelude_rows) rows ≡ program.0
   own_rows = ap (drop (length prelude_rows)) program.1 ∙ drop-append_seam prelude_rows program.0
 
-  walked : Walked begins sites rows (OfUnits begins sites rows one_class unreserved 0 units) (units_parts begins units) [] (length prelude_rows)
-  unfolding sites_of units_parts
-  walked = units_walked begins sites rows one_class unreserved 0 units (length prelude_rows) (subst (AreRowsOfSites sites (sites_from begins 0 units)) (sym own_rows) program.2)
+  walked : Walked begins declarations rows (OfUnits begins declarations rows one_class unreserved 0 units) (units_parts begins units) [] (length prelude_rows)
+  unfolding declarations_of units_parts
+  walked = units_walked begins declarations rows one_class unreserved 0 units (length prelude_rows) (subst (AreRowsOfDeclarations declarations (declarations_from begins 0 units)) (sym own_rows) program.2)
 
   members_are : written_members begins rows units ≡ walked.members
   unfolding written_members members_at
@@ -103,12 +103,12 @@ module _ {A : Type 0} (begins : A → ℕ → ℕ) (units : List (syntax.Unit A)
   are_written = subst (AreWritten begins units rows) (sym members_are) (record {
     each = λ w c. (let h = contains_in walked.members w c in
         let e = walked.each w h in
-        let u = to_unit begins sites rows one_class unreserved 0 units w.file w.key w.base w.part e.is_written in
+        let u = to_unit begins declarations rows one_class unreserved 0 units w.file w.key w.base w.part e.is_written in
         let f : w.file ≡ u.behind = (let g = u.is in omega (arith, g)) in
         record { unit = u.unit; stands = ap (slice_get units) f ∙ u.stands; writes = u.writes });
     all = λ file k base part h. (let same : 0 + file ≡ file = omega arith in
         let f = walked.all file k base part
-        (subst (λ n. OfUnits begins sites rows one_class unreserved 0 units n k base part) same (from_unit begins sites rows one_class unreserved 0 units file h.unit h.stands k base part h.writes)) in
+        (subst (λ n. OfUnits begins declarations rows one_class unreserved 0 units n k base part) same (from_unit begins declarations rows one_class unreserved 0 units file h.unit h.stands k base part h.writes)) in
         (f.member, in_contains walked.members f.member f.there, f.file_is, f.key_is, f.base_is, f.part_is));
     row = λ w c. the_number rows are (decl_of_member w.key) w.row (is_row w (contains_in walked.members w c));
     one = λ v w c d e. (let h = contains_in walked.members v c in

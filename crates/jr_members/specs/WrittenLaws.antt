@@ -5,7 +5,7 @@ use Rattle.jr_table.specs.Decls.{MemberKey}
 use Rattle.jr_table.specs.Rows.{Row}
 use Rattle.jr_table.specs.Entries.{number_of}
 use Rattle.jr_table.specs.Conditions.{AreRows}
-use Rattle.jr_table.specs.Sites.{sites_of}
+use Rattle.jr_table.specs.Declared.{declarations_of}
 use Rattle.jr_table.specs.ProgramRows.{AreProgramRows}
 use Rattle.jr_table.specs.Errors.{Part, InClasses}
 use Rattle.jr_members.specs.WrittenMembers.{WrittenMember, decl_of_member, written_members}
@@ -15,7 +15,7 @@ module _ {A : Type 0} (begins : A → ℕ → ℕ) (units : List (syntax.Unit A)
   pub record IsWritten (file : ℕ) (k : MemberKey) (base : ℕ) (part : Part A) : Type 0 where
     pub unit : syntax.Unit A
     pub stands : slice_get units file ≡ Some unit
-    pub writes : InClasses begins (sites_of begins units) (λ j b p. (b ≡ base) × (p ≡ part))
+    pub writes : InClasses begins (declarations_of begins units) (λ j b p. (b ≡ base) × (p ≡ part))
         (begins unit.mark 0) unit.classes k
 
   -- the list has exactly the members that are written
@@ -34,5 +34,5 @@ module _ {A : Type 0} (begins : A → ℕ → ℕ) (units : List (syntax.Unit A)
 
 abbrev pub MembersAreWritten : Type 0 → Type 0
 MembersAreWritten A = (begins : A → ℕ → ℕ) (units : List (syntax.Unit A)) (rows : List Row)
-    → AreRows rows → AreProgramRows (sites_of begins units) rows
+    → AreRows rows → AreProgramRows (declarations_of begins units) rows
     → AreWritten begins units rows (written_members begins rows units)

@@ -9,7 +9,7 @@ use Rattle.jr_table.specs.Keys.{ClassKey, Ty}
 use Rattle.jr_table.specs.Decls.{MemberKey, LocalKey, Decl, class_decl, field_decl, method_decl, constructor_decl, local_decl}
 use Rattle.jr_table.specs.Rows.{Row}
 use Rattle.jr_table.specs.Entries.{IsRowOf}
-use Rattle.jr_table.specs.Sites.{sites_of}
+use Rattle.jr_table.specs.Declared.{declarations_of}
 use Rattle.jr_table.specs.Context.{Context, Local, local_of, parameters, after, locals_in}
 use Rattle.jr_table.specs.Somewhere.{InStmt, InElse, InStmts}
 use Rattle.jr_table.specs.HeadRules.{with_parameters, is_static_member, types_of}
@@ -145,10 +145,10 @@ module _ (rows : List Row) (units : List (syntax.Unit Span)) where
 
   -- ---- the first collision
 
-  in_units : (us : List (syntax.Unit Span)) (k j : LocalKey) (name other : List ℕ) (i : MemberKey) → InUnits begins (sites_of begins units) (λ i base part. IsUnder begins k name j other i base part) us i → j.member ≡ k.member
+  in_units : (us : List (syntax.Unit Span)) (k j : LocalKey) (name other : List ℕ) (i : MemberKey) → InUnits begins (declarations_of begins units) (λ i base part. IsUnder begins k name j other i base part) us i → j.member ≡ k.member
   in_units [] k j name other i h = absurd h
   in_units (u ∷ us) k j name other i (inl h) =
-      let f = classes_found begins (sites_of begins units) (λ i base part. IsUnder begins k name j other i base part) (begins u.mark 0) u.classes i h in
+      let f = classes_found begins (declarations_of begins units) (λ i base part. IsUnder begins k name j other i base part) (begins u.mark 0) u.classes i h in
       of_part k j name other i f.base f.part f.has
   in_units (u ∷ us) k j name other i (inr h) = in_units us k j name other i h
 

@@ -8,7 +8,7 @@ use Rattle.jr_grammar.specs.Layout.{itself}
 use Rattle.jr_table.specs.Decls.{MemberKey, head, field, method, constructor, Decl}
 use Rattle.jr_table.specs.Rows.{Row}
 use Rattle.jr_table.specs.Found.{Found, one}
-use Rattle.jr_table.specs.Sites.{sites_of}
+use Rattle.jr_table.specs.Declared.{declarations_of}
 use Rattle.jr_table.specs.ProgramRows.{AreProgramRows}
 use Rattle.jr_table.specs.HeadRules.{DeclarationRefers}
 use Rattle.jr_table.specs.Errors.{Part, class_part, member_part, Binds}
@@ -34,8 +34,8 @@ module _ (p q : Program Span) (is : IsWhole p) (also : IsWhole q) (same : p.file
   units_same = ap (map (λ (f : File Span). f.unit)) same
 
   rows_same : p.rows ≡ q.rows
-  rows_same = program_once (sites_of begins (units_of p)) (λ k w. means_once [] (sites_of begins (units_of p)) is.clean k w) (λ k. parent_once [] (sites_of begins (units_of p)) is.clean k) p.rows q.rows is.rows
-      (subst (λ (us : List (syntax.Unit Span)). AreProgramRows (sites_of begins us) q.rows) (sym units_same) also.rows)
+  rows_same = program_once (declarations_of begins (units_of p)) (λ k w. means_once [] (declarations_of begins (units_of p)) is.clean k w) (λ k. parent_once [] (declarations_of begins (units_of p)) is.clean k) p.rows q.rows is.rows
+      (subst (λ (us : List (syntax.Unit Span)). AreProgramRows (declarations_of begins us) q.rows) (sym units_same) also.rows)
 
   pub is_beside : beside p q.super_at q.bounds ≡ q
   is_beside = λ i. record { files = same i; rows = rows_same i; super_at = q.super_at; bounds = q.bounds }
@@ -99,7 +99,7 @@ module _ (rows : List Row) (units : List (syntax.Unit Span)) (s t : MemberKey �
   pub target_to : (text : List ℕ) (file at : ℕ) (d : Decl) → IsTarget begins rows s units text file at d → IsTarget begins rows t units text file at d
   target_to text file at d x =
       let n = x.names in
-      let f = classes_found begins (sites_of begins units) (Has s x.from d) (begins n.unit.mark 0) n.unit.classes n.member n.names in
+      let f = classes_found begins (declarations_of begins units) (Has s x.from d) (begins n.unit.mark 0) n.unit.classes n.member n.names in
       record {
         from = x.from;
         holds = x.holds;
@@ -107,7 +107,7 @@ module _ (rows : List Row) (units : List (syntax.Unit Span)) (s t : MemberKey �
           unit = n.unit;
           stands = n.stands;
           member = n.member;
-          names = found_classes begins (sites_of begins units) (Has t x.from d) f.base f.part (begins n.unit.mark 0) n.unit.classes n.member
+          names = found_classes begins (declarations_of begins units) (Has t x.from d) f.base f.part (begins n.unit.mark 0) n.unit.classes n.member
               (has_to f.base f.part (record { unit = n.unit; stands = n.stands; writes = f.there }) f.has) f.there;
         };
         own = x.own;

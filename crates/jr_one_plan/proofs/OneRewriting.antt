@@ -12,7 +12,7 @@ use Rattle.jr_table.specs.Binding.{Role, value, left}
 use Rattle.jr_table.specs.Binding as role
 use Rattle.jr_table.specs.Context.{Context, local_of, local_key, in_own, after, locals_in}
 use Rattle.jr_table.specs.HeadRules.{plain as no_locals, with_parameters, is_static_member}
-use Rattle.jr_table.specs.Sites.{Site, class_key}
+use Rattle.jr_table.specs.Declared.{DeclaredItem, class_key}
 use Rattle.jr_table.specs.Errors.{Part, member_part, Declares, InClass, InMembers, InInner, InClasses}
 use Rattle.jr_members.proofs.Anywhere.{IsAt}
 use Rattle.jr_rewrite.specs.Respellings.{Choice}
@@ -212,9 +212,9 @@ module _ {A : Type 0} (tells : A → ℕ → Span) (Fine : MemberKey → Part A 
 
   -- ---- programs
 
-  module _ (sites : List Site) (keys : (base : ℕ) (of : ClassKey) (q : syntax.Member A) → HasOne (Declares begins sites base of q)) where
-    keyed : (base : ℕ) (of : ClassKey) (q : syntax.Member A) → ((k : MemberKey) → Declares begins sites base of q k → Fine k (member_part q)) → (o p : Rewritten (syntax.Member A))
-        → ByKey tells C sites base of q o → ByKey tells D sites base of q p → o ≡ p
+  module _ (declarations : List DeclaredItem) (keys : (base : ℕ) (of : ClassKey) (q : syntax.Member A) → HasOne (Declares begins declarations base of q)) where
+    keyed : (base : ℕ) (of : ClassKey) (q : syntax.Member A) → ((k : MemberKey) → Declares begins declarations base of q k → Fine k (member_part q)) → (o p : Rewritten (syntax.Member A))
+        → ByKey tells C declarations base of q o → ByKey tells D declarations base of q p → o ≡ p
     keyed base of q fine o p x y = member_one x.0 base q (fine x.0 x.1) o p x.2 (subst (λ (k : MemberKey). RewritesMember tells D k base q p) (sym (keys base of q x.0 y.0 x.1 y.1)) y.2)
 
     -- each member that is written there is fine
@@ -224,38 +224,38 @@ module _ {A : Type 0} (tells : A → ℕ → Span) (Fine : MemberKey → Part A 
     mutual
       unfolding RewritesClass RewritesMembers RewritesOne InClass InMembers InInner
 
-      class_one : (base : ℕ) (outer : Option (List ℕ)) (q : syntax.Class A) → AllFine (λ P. InClass begins sites P base outer q) → (o p : Rewritten (syntax.Class A)) → RewritesClass tells C sites base outer q o → RewritesClass tells D sites base outer q p → o ≡ p
+      class_one : (base : ℕ) (outer : Option (List ℕ)) (q : syntax.Class A) → AllFine (λ P. InClass begins declarations P base outer q) → (o p : Rewritten (syntax.Class A)) → RewritesClass tells C declarations base outer q o → RewritesClass tells D declarations base outer q p → o ≡ p
       class_one base outer (syntax.class m mods w t ms) fine o p x y =
           of_two (λ (q : H) (r : Rewritten (syntax.Members A)). joined (λ (u : tree.Word A × Option (tree.TypeName A)) zs. syntax.class m mods u.0 u.1 zs) q r)
           (head_one outer base (syntax.class m mods w t ms) x.0 y.0 x.2 y.2) (members_one (begins m base) (class_key begins outer w.text) ms (λ k b part h. fine k b part (inr h)) x.1 y.1 x.3 y.3) x.4 y.4
 
-      members_one : (base : ℕ) (of : ClassKey) (q : syntax.Members A) → AllFine (λ P. InMembers begins sites P base of q) → (o p : Rewritten (syntax.Members A)) → RewritesMembers tells C sites base of q o → RewritesMembers tells D sites base of q p → o ≡ p
+      members_one : (base : ℕ) (of : ClassKey) (q : syntax.Members A) → AllFine (λ P. InMembers begins declarations P base of q) → (o p : Rewritten (syntax.Members A)) → RewritesMembers tells C declarations base of q o → RewritesMembers tells D declarations base of q p → o ≡ p
       members_one base of syntax.end fine o p x y = x ∙ sym y
       members_one base of (syntax.more q qs) fine o p x y =
           of_two (λ (r : Rewritten (syntax.Member A)) (s : Rewritten (syntax.Members A)). joined (λ z zs. syntax.more z zs) r s)
           (one_one base of q (λ k b part h. fine k b part (inl h)) x.0 y.0 x.2 y.2) (members_one base of qs (λ k b part h. fine k b part (inr h)) x.1 y.1 x.3 y.3) x.4 y.4
 
-      one_one : (base : ℕ) (of : ClassKey) (q : syntax.Member A) → AllFine (λ P k. (Declares begins sites base of q k × P k base (member_part q)) ⊎ InInner begins sites P base of q k) → (o p : Rewritten (syntax.Member A))
-          → RewritesOne tells C sites base of q o → RewritesOne tells D sites base of q p → o ≡ p
+      one_one : (base : ℕ) (of : ClassKey) (q : syntax.Member A) → AllFine (λ P k. (Declares begins declarations base of q k × P k base (member_part q)) ⊎ InInner begins declarations P base of q k) → (o p : Rewritten (syntax.Member A))
+          → RewritesOne tells C declarations base of q o → RewritesOne tells D declarations base of q p → o ≡ p
       one_one base of (syntax.inner m c) fine o p x y =
           of_one (λ (r : Rewritten (syntax.Class A)). within (λ z. syntax.inner m z) r) (class_one (begins m base) (Some of.name) c (λ k b part h. fine k b part (inr h)) x.0 y.0 x.1 y.1) x.2 y.2
       one_one base of (syntax.field m mods t w init) fine o p x y = keyed base of (syntax.field m mods t w init) (λ k d. fine k base _ (inl (d, (refl, refl)))) o p x y
       one_one base of (syntax.method m mods t w ps body) fine o p x y = keyed base of (syntax.method m mods t w ps body) (λ k d. fine k base _ (inl (d, (refl, refl)))) o p x y
       one_one base of (syntax.constructor m mods w ps args body) fine o p x y = keyed base of (syntax.constructor m mods w ps args body) (λ k d. fine k base _ (inl (d, (refl, refl)))) o p x y
 
-    classes_one : (base : ℕ) (cs : List (syntax.Class A)) → AllFine (λ P. InClasses begins sites P base cs) → (o p : Rewritten (List (syntax.Class A))) → RewritesClasses tells C sites base cs o → RewritesClasses tells D sites base cs p → o ≡ p
+    classes_one : (base : ℕ) (cs : List (syntax.Class A)) → AllFine (λ P. InClasses begins declarations P base cs) → (o p : Rewritten (List (syntax.Class A))) → RewritesClasses tells C declarations base cs o → RewritesClasses tells D declarations base cs p → o ≡ p
     classes_one base [] fine o p x y = x ∙ sym y
     classes_one base (c ∷ cs) fine o p x y =
         of_two (λ (q : Rewritten (syntax.Class A)) (r : Rewritten (List (syntax.Class A))). joined (λ z zs. z ∷ zs) q r)
         (class_one base None c (λ k b part h. fine k b part (inl h)) x.0 y.0 x.2 y.2) (classes_one base cs (λ k b part h. fine k b part (inr h)) x.1 y.1 x.3 y.3) x.4 y.4
 
     abbrev UnitFine : syntax.Unit A → Type 0
-    UnitFine u = AllFine (λ P. InClasses begins sites P (begins u.mark 0) u.classes)
+    UnitFine u = AllFine (λ P. InClasses begins declarations P (begins u.mark 0) u.classes)
 
-    unit_one : (u : syntax.Unit A) → UnitFine u → (o p : Rewritten (syntax.Unit A)) → RewritesUnit tells C sites u o → RewritesUnit tells D sites u p → o ≡ p
+    unit_one : (u : syntax.Unit A) → UnitFine u → (o p : Rewritten (syntax.Unit A)) → RewritesUnit tells C declarations u o → RewritesUnit tells D declarations u p → o ≡ p
     unit_one u fine o p x y = of_one (λ (q : Rewritten (List (syntax.Class A))). within (λ cs. record { mark = u.mark; package_name = u.package_name; classes = cs }) q) (classes_one (begins u.mark 0) u.classes fine x.0 y.0 x.1 y.1) x.2 y.2
 
-    pub units_one : (us : List (syntax.Unit A)) → ((n : ℕ) (u : syntax.Unit A) → slice_get us n ≡ Some u → UnitFine u) → (os ps : List (Rewritten (syntax.Unit A))) → RewritesUnits tells C sites us os → RewritesUnits tells D sites us ps → os ≡ ps
+    pub units_one : (us : List (syntax.Unit A)) → ((n : ℕ) (u : syntax.Unit A) → slice_get us n ≡ Some u → UnitFine u) → (os ps : List (Rewritten (syntax.Unit A))) → RewritesUnits tells C declarations us os → RewritesUnits tells D declarations us ps → os ≡ ps
     units_one [] fine os ps x y = x ∙ sym y
     units_one (u ∷ us) fine os ps x y =
         of_two (λ (o : Rewritten (syntax.Unit A)) (rest : List (Rewritten (syntax.Unit A))). o ∷ rest) (unit_one u (fine zero u refl) x.0 y.0 x.2 y.2) (units_one us (λ n v e. fine (suc n) v e) x.1 y.1 x.3 y.3) x.4 y.4

@@ -18,7 +18,7 @@ use Rattle.jr_grammar.proofs.Layouts.{all_spans_from-span}
 use Rattle.jr_table.specs.Keys.{ClassKey}
 use Rattle.jr_table.specs.Decls.{MemberKey, head, Decl}
 use Rattle.jr_table.specs.Rows.{Row}
-use Rattle.jr_table.specs.Sites.{sites_of}
+use Rattle.jr_table.specs.Declared.{declarations_of}
 use Rattle.jr_table.specs.LookupLaws.{OneAnswer}
 use Rattle.jr_table.specs.Errors.{Part, class_part, member_part, part_mark, Binds, Breaks, InClasses, InClass, InMembers, InInner}
 use Rattle.jr_table.specs.declared.rules.Rule.{Rule}
@@ -98,11 +98,11 @@ module _ (units : List (syntax.Unit Span)) (b : ℕ) (part : Part Span) where
   mutual
     unfolding InClass InMembers InInner
 
-    class_keyed : (base : ℕ) (outer : Option (List ℕ)) (c : syntax.Class Span) (k : MemberKey) → InClass begins (sites_of begins units) IsThere base outer c k → IsKeyed k part
+    class_keyed : (base : ℕ) (outer : Option (List ℕ)) (c : syntax.Class Span) (k : MemberKey) → InClass begins (declarations_of begins units) IsThere base outer c k → IsKeyed k part
     class_keyed base outer (syntax.class m mods w t ms) k (inl (e, (at, is))) = subst (IsKeyed k) is (record { outer = outer; name = w.text }, e, refl)
     class_keyed base outer (syntax.class m mods w t ms) k (inr h) = members_keyed (begins m base) (record { outer = outer; name = w.text }) ms k h
 
-    members_keyed : (base : ℕ) (of : ClassKey) (xs : syntax.Members Span) (k : MemberKey) → InMembers begins (sites_of begins units) IsThere base of xs k → IsKeyed k part
+    members_keyed : (base : ℕ) (of : ClassKey) (xs : syntax.Members Span) (k : MemberKey) → InMembers begins (declarations_of begins units) IsThere base of xs k → IsKeyed k part
     members_keyed base of syntax.end k h = absurd h
     members_keyed base of (syntax.more (syntax.field m mods t w init) xs) k (inl (inl (d, (at, is)))) = subst (IsKeyed k) is tt
     members_keyed base of (syntax.more (syntax.method m mods t w ps body) xs) k (inl (inl (d, (at, is)))) = subst (IsKeyed k) is tt
@@ -111,13 +111,13 @@ module _ (units : List (syntax.Unit Span)) (b : ℕ) (part : Part Span) where
     members_keyed base of (syntax.more x xs) k (inl (inr h)) = inner_keyed base of x k h
     members_keyed base of (syntax.more x xs) k (inr h) = members_keyed base of xs k h
 
-    inner_keyed : (base : ℕ) (of : ClassKey) (x : syntax.Member Span) (k : MemberKey) → InInner begins (sites_of begins units) IsThere base of x k → IsKeyed k part
+    inner_keyed : (base : ℕ) (of : ClassKey) (x : syntax.Member Span) (k : MemberKey) → InInner begins (declarations_of begins units) IsThere base of x k → IsKeyed k part
     inner_keyed base of (syntax.inner m c) k h = class_keyed (begins m base) (Some of.name) c k h
     inner_keyed base of (syntax.field m mods t w init) k h = absurd h
     inner_keyed base of (syntax.method m mods t w ps body) k h = absurd h
     inner_keyed base of (syntax.constructor m mods w ps args body) k h = absurd h
 
-  classes_keyed : (base : ℕ) (cs : List (syntax.Class Span)) (k : MemberKey) → InClasses begins (sites_of begins units) IsThere base cs k → IsKeyed k part
+  classes_keyed : (base : ℕ) (cs : List (syntax.Class Span)) (k : MemberKey) → InClasses begins (declarations_of begins units) IsThere base cs k → IsKeyed k part
   classes_keyed base [] k h = absurd h
   classes_keyed base (c ∷ cs) k (inl h) = class_keyed base None c k h
   classes_keyed base (c ∷ cs) k (inr h) = classes_keyed base cs k h
@@ -182,7 +182,7 @@ module _ (p : Program Span) (is : IsProgram itself (λ m b. Unit {0}) p) (writte
           unit = wr.unit;
           stands = wr.stands;
           member = w.key;
-          has = found_classes begins (sites_of begins units) Is w.base w.part (begins wr.unit.mark 0) wr.unit.classes w.key (refl, refl, refl) wr.writes;
+          has = found_classes begins (declarations_of begins units) Is w.base w.part (begins wr.unit.mark 0) wr.unit.classes w.key (refl, refl, refl) wr.writes;
         } in
         let stands = super_stands r.items w.part (p.super_at w.key) (λ e. is.supers w has e f.0 f.1 r.items r.lexes) in
         placed units w.file f.0.text r.items file w.key w.base w.part part (p.super_at w.key) stands p.rows

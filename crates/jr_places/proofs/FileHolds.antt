@@ -16,7 +16,7 @@ use Rattle.jr_table.specs.Conditions.{AreRows}
 use Rattle.jr_table.specs.LookupLaws.{HasOne, EachHasOne}
 use Rattle.jr_table.specs.BindingLaws.{IsBound}
 use Rattle.jr_table.specs.Context.{Context}
-use Rattle.jr_table.specs.Sites.{Site, class_key}
+use Rattle.jr_table.specs.Declared.{DeclaredItem, class_key}
 use Rattle.jr_table.specs.Errors.{class_part, member_part, Binds, Declares, InClass, InMembers, InInner, InClasses}
 use Rattle.jr_places.specs.FileParts.{begins, IsSuperAt, BindsAt}
 use Rattle.jr_places.proofs.TokenOrder.{Rising}
@@ -94,30 +94,30 @@ module _ (text : List ℕ) (items : List Item) (rising : Rising (placed_of text 
 
   -- ---- classes
 
-  module _ (sites : List Site) (keys : (base : ℕ) (of : ClassKey) (x : syntax.Member Span) → HasOne (Declares begins sites base of x)) where
+  module _ (declarations : List DeclaredItem) (keys : (base : ℕ) (of : ClassKey) (x : syntax.Member Span) → HasOne (Declares begins declarations base of x)) where
     mutual
       unfolding InClass InMembers InInner
 
-      class_over : (base : ℕ) (outer : Option (List ℕ)) (c : syntax.Class Span) → Over All (Stands (class_layout c)) (λ at d. (k : MemberKey) × InClass begins sites (λ l b part. BindsAt rows items l b part at d) base outer c k)
+      class_over : (base : ℕ) (outer : Option (List ℕ)) (c : syntax.Class Span) → Over All (Stands (class_layout c)) (λ at d. (k : MemberKey) × InClass begins declarations (λ l b part. BindsAt rows items l b part at d) base outer c k)
       class_over base outer (syntax.class m mods w t ms) = turn
           (node (pass (pass (pass (join (keyed (λ k l x y. x ∙ sym y) (λ k is. head_over k base m mods w t ms)) (pass (only (members_over (begins m base) (class_key begins outer w.text) ms))))))))
           (λ at d. sum_out)
 
-      members_over : (base : ℕ) (of : ClassKey) (ms : syntax.Members Span) → Over All (Stands (members_layout ms)) (λ at d. (k : MemberKey) × InMembers begins sites (λ l b part. BindsAt rows items l b part at d) base of ms k)
+      members_over : (base : ℕ) (of : ClassKey) (ms : syntax.Members Span) → Over All (Stands (members_layout ms)) (λ at d. (k : MemberKey) × InMembers begins declarations (λ l b part. BindsAt rows items l b part at d) base of ms k)
       members_over base of syntax.end = empty (λ at d h. h.1)
       members_over base of (syntax.more x xs) = turn (join (member_over base of x) (only (members_over base of xs))) (λ at d. sum_out)
 
       member_over : (base : ℕ) (of : ClassKey) (x : syntax.Member Span) → Over All (Stands (member_layout x))
-          (λ at d. (k : MemberKey) × ((Declares begins sites base of x k × BindsAt rows items k base (member_part x) at d) ⊎ InInner begins sites (λ l b part. BindsAt rows items l b part at d) base of x k))
+          (λ at d. (k : MemberKey) × ((Declares begins declarations base of x k × BindsAt rows items k base (member_part x) at d) ⊎ InInner begins declarations (λ l b part. BindsAt rows items l b part at d) base of x k))
       member_over base of (syntax.field m mods t w init) = turn (keyed (keys base of (syntax.field m mods t w init)) (λ k is. part_over k base (syntax.field m mods t w init))) (λ at d. key_first (λ k h. h))
       member_over base of (syntax.method m mods t w ps body) = turn (keyed (keys base of (syntax.method m mods t w ps body)) (λ k is. part_over k base (syntax.method m mods t w ps body))) (λ at d. key_first (λ k h. h))
       member_over base of (syntax.constructor m mods w ps args body) =
           turn (keyed (keys base of (syntax.constructor m mods w ps args body)) (λ k is. part_over k base (syntax.constructor m mods w ps args body))) (λ at d. key_first (λ k h. h))
       member_over base of (syntax.inner m c) = turn (node (only (class_over (begins m base) (Some of.name) c))) (λ at d. key_second (λ k h. h.0))
 
-    classes_over : (base : ℕ) (cs : List (syntax.Class Span)) → Over All (Stands (classes_layout cs)) (λ at d. (k : MemberKey) × InClasses begins sites (λ l b part. BindsAt rows items l b part at d) base cs k)
+    classes_over : (base : ℕ) (cs : List (syntax.Class Span)) → Over All (Stands (classes_layout cs)) (λ at d. (k : MemberKey) × InClasses begins declarations (λ l b part. BindsAt rows items l b part at d) base cs k)
     classes_over base [] = empty (λ at d h. h.1)
     classes_over base (c ∷ cs) = turn (join (class_over base None c) (only (classes_over base cs))) (λ at d. sum_out)
 
-    pub unit_over : (u : syntax.Unit Span) → Over All (StandInOrder (unit_layouts u)) (λ at d. (k : MemberKey) × InClasses begins sites (λ l b part. BindsAt rows items l b part at d) (begins u.mark 0) u.classes k)
+    pub unit_over : (u : syntax.Unit Span) → Over All (StandInOrder (unit_layouts u)) (λ at d. (k : MemberKey) × InClasses begins declarations (λ l b part. BindsAt rows items l b part at d) (begins u.mark 0) u.classes k)
     unit_over u = pass (only (classes_over (begins u.mark 0) u.classes))

@@ -10,7 +10,7 @@ use Rattle.jr_ast.specs.Tree as tree
 use Rattle.jr_ast.specs.MemberTree as syntax
 use Rattle.jr_table.specs.Decls.{MemberKey, Decl}
 use Rattle.jr_table.specs.Rows.{Row}
-use Rattle.jr_table.specs.Sites.{sites_of}
+use Rattle.jr_table.specs.Declared.{declarations_of}
 use Rattle.jr_table.specs.Errors.{Part, class_part, member_part, Breaks, Binds, InClasses}
 use Rattle.jr_table.specs.declared.rules.Rule.{Rule}
 
@@ -89,4 +89,4 @@ pub record InFile (units : List (syntax.Unit Span)) (file : ℕ)
   pub unit : syntax.Unit Span
   pub stands : slice_get units file ≡ Some unit
   pub member : MemberKey
-  pub has : InClasses begins (sites_of begins units) P (begins unit.mark 0) unit.classes member
+  pub has : InClasses begins (declarations_of begins units) P (begins unit.mark 0) unit.classes member

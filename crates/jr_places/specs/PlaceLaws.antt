@@ -11,7 +11,7 @@ use Rattle.jr_grammar.specs.Tokens.{placed_of}
 use Rattle.jr_grammar.specs.Units.{IsMarkedUnit}
 use Rattle.jr_table.specs.Decls.{MemberKey, Decl}
 use Rattle.jr_table.specs.Rows.{Row}
-use Rattle.jr_table.specs.Sites.{sites_of}
+use Rattle.jr_table.specs.Declared.{declarations_of}
 use Rattle.jr_table.specs.Faults.{PackageLine, IsClean}
 use Rattle.jr_table.specs.Conditions.{AreRows}
 use Rattle.jr_table.specs.Errors.{Part, class_part, member_part, Breaks, Binds}
@@ -38,7 +38,7 @@ pub record IsFile (units : List (UnitTree Span)) (file : ℕ) (text : List ℕ)
 abbrev pub OneIsBound : Type 0
 OneIsBound = (packages : List (Option PackageLine)) (units : List (UnitTree Span)) (file : ℕ)
     (text : List ℕ) (items : List Item) (rows : List Row)
-    → IsFile units file text items → IsClean packages (sites_of begins units) → AreRows rows
+    → IsFile units file text items → IsClean packages (declarations_of begins units) → AreRows rows
     → (at : ℕ) (d e : Decl) → InFile units file (λ k base part. BindsAt rows items k base part at d)
     → InFile units file (λ k base part. BindsAt rows items k base part at e) → d ≡ e
 

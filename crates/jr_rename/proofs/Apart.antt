@@ -5,7 +5,7 @@ use Rattle.jr_table.specs.Decls.{field_decl, method_decl}
 use Rattle.jr_table.specs.Rows.{Row}
 use Rattle.jr_rename.specs.Images.{Renaming, is_renamed, name_to}
 use Rattle.jr_rename.proofs.Still.{keeps_name, gets_name}
-use Rattle.jr_rename.proofs.SiteRows.{RowFor}
+use Rattle.jr_rename.proofs.DeclarationRows.{RowFor}
 use Rattle.jr_rename.proofs.FairImages.{KeysApart}
 use Rattle.jr_rename.proofs.MemberNames.{OfMembers}
 

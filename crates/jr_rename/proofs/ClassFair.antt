@@ -10,7 +10,7 @@ use Rattle.jr_table.specs.Decls.{class_decl, field_decl, method_decl, constructo
 use Rattle.jr_table.specs.Rows.{Row}
 use Rattle.jr_table.specs.Conditions.{AreRows}
 use Rattle.jr_table.specs.Prelude.{prelude_rows, class_row, ctor_row, thread_key, thread_row, top_key, object_key}
-use Rattle.jr_table.specs.Sites.{sites_of}
+use Rattle.jr_table.specs.Declared.{declarations_of}
 use Rattle.jr_spell.specs.Binds.{is_dot}
 use Rattle.jr_rename.specs.Targets.{IsOfPrelude}
 use Rattle.jr_rename.specs.Families.{AreRenamed}
@@ -18,7 +18,7 @@ use Rattle.jr_rename.specs.Images.{Renaming, is_renamed, class_to, row_to, rows_
 use Rattle.jr_rename.specs.Clashes.{IsClear}
 use Rattle.jr_rename.specs.ImageLaws.{ClassesStayFair}
 use Rattle.jr_rename.proofs.Still.{with_target, without_target, keeps_name, gets_name}
-use Rattle.jr_rename.proofs.SiteRows.{no_locals}
+use Rattle.jr_rename.proofs.DeclarationRows.{no_locals}
 use Rattle.jr_rename.proofs.FairClasses.{OfClass, class_rows}
 
 module _ (g : Renaming) where
@@ -96,7 +96,7 @@ module _ (rows : List Row) (k : ClassKey) (g : Renaming) (are : AreRows rows) (r
   new_name whole j false h own = subst (λ (n : List ℕ). position_or_len is_dot n ≡ length n) (sym (keeps_name g (class_decl j) j.name h)) own
 
 pub classes_fair : {A : Type 0} → ClassesStayFair A
-classes_fair begins rows units k g are of_sites renamed own clear whole new_whole =
+classes_fair begins rows units k g are of_declarations renamed own clear whole new_whole =
     let string = unrenamed rows k g are renamed own (top_key (codes "String")) (string_row rows k g are renamed) in
     let class = unrenamed rows k g are renamed own (top_key (codes "Class")) (class_class_row rows k g are renamed) in
     let same = prelude_stays g (unrenamed rows k g are renamed own object_key (object_row rows k g are renamed)) string class
@@ -104,7 +104,7 @@ classes_fair begins rows units k g are of_sites renamed own clear whole new_whol
     (without_target rows (class_decl k) g renamed (method_decl (thread_key (codes "run"))) (λ e. absurd cc))
     (without_target rows (class_decl k) g renamed (method_decl (thread_key (codes "start"))) (λ e. absurd cc)) in
     record {
-      are = class_rows g rows (of_class rows k g are renamed begins units clear) are (no_locals (sites_of begins units) rows of_sites) same;
+      are = class_rows g rows (of_class rows k g are renamed begins units clear) are (no_locals (declarations_of begins units) rows of_declarations) same;
       names = λ j i is. new_name rows k g are renamed new_whole j (is_renamed g (class_decl j)) refl (whole j i is);
       string = stays g (codes "String") string;
       class = stays g (codes "Class") class;

@@ -9,12 +9,12 @@ use Rattle.jr_ast.specs.declared.operators.ModWord.TheVariants as word
 use Rattle.jr_table.specs.declared.kinds.DeclKind.TheVariants as kind
 use Rattle.jr_table.specs.Keys.{ClassKey}
 use Rattle.jr_table.specs.Decls.{MemberKey, method, constructor}
-use Rattle.jr_table.specs.Sites.{Written, int, boolean, named, ParamSite, InitSite, ClassSite, Item, class_item, field_item, method_item, ctor_item, Site}
+use Rattle.jr_table.specs.Declared.{Written, int, boolean, named, DeclaredParam, DeclaredInit, DeclaredClass, Item, class_item, field_item, method_item, ctor_item, DeclaredItem}
 use Rattle.jr_table.specs.Resolving.{HasWord, IsParent, Climbs}
 use Rattle.jr_table.specs.Faults.{PackageLine, names_of, line_at, At, IsReserved, IsNamedAsOuter, TopWord, InnerWord, FieldWord, MethodWord, IsAccess, AreBad, ClassWordsBad, WordsBad, name_at, Writes, WritesType, SameMember, params_of, ParamTwice, HasItsName, InitIsBad, IsClean}
 use Rattle.jr_rename.specs.Images.{Renaming}
 use Rattle.jr_rename.proofs.SameClasses.{Alike, MaybeAlike, parent_goes, climbs_go, means_goes}
-use Rattle.jr_rename.proofs.SiteImages.{forms_of, ClassTo, ParamsTo, ItemTo, SitesTo, Beside, site_back, class_beside, classes_forth, classes_back}
+use Rattle.jr_rename.proofs.DeclarationImages.{forms_of, ClassTo, ParamsTo, ItemTo, DeclarationsTo, Beside, declaration_back, class_beside, classes_forth, classes_back}
 
 pub map_some : {X Y : Type 0} (f : X → Y) (o : Option X) (y : Y) → option_map f o ≡ Some y → (x : X) × (o ≡ Some x) × (f x ≡ y)
 map_some f None y e = absurd cc
@@ -42,17 +42,17 @@ result_back None (Some v) t h e = absurd h
 result_back (Some w) None t h e = absurd h
 result_back (Some w) (Some v) t h e = let same : v ≡ t = cc in (w, refl, subst (Alike w) same h)
 
-class_words : (o : Option (List ℕ)) (c d : ClassSite) → d.modifiers ≡ c.modifiers → ClassWordsBad d o → ClassWordsBad c o
+class_words : (o : Option (List ℕ)) (c d : DeclaredClass) → d.modifiers ≡ c.modifiers → ClassWordsBad d o → ClassWordsBad c o
 class_words None c d e h = subst (AreBad TopWord) e h
 class_words (Some o) c d e (inl h) = inl (subst (AreBad InnerWord) e h)
 class_words (Some o) c d e (inr h) = inr (λ x. h (subst (λ (ws : List ModWord). HasWord ws word.Static) (sym e) x))
 
-form_back : (x y : Option InitSite) (j : InitSite) → forms_of y ≡ forms_of x → y ≡ Some j → j.is_simple ≡ false → (i : InitSite) × (x ≡ Some i) × (i.is_simple ≡ false)
+form_back : (x y : Option DeclaredInit) (j : DeclaredInit) → forms_of y ≡ forms_of x → y ≡ Some j → j.is_simple ≡ false → (i : DeclaredInit) × (x ≡ Some i) × (i.is_simple ≡ false)
 form_back None y j e at other = let f = ap forms_of (sym at) ∙ e in absurd cc
 form_back (Some i) y j e at other = let f : Some j.is_simple ≡ Some i.is_simple = ap forms_of (sym at) ∙ e in let same : j.is_simple ≡ i.is_simple = cc in (i, refl, sym same ∙ other)
 
-module _ (g : Renaming) (ss : List Site) where
-  params_back : (k : MemberKey) (n : ℕ) (ps qs : List ParamSite) (t : Written) → ParamsTo g k n ps qs → Writes qs t → (u : Written) × Writes ps u × Alike u t
+module _ (g : Renaming) (ss : List DeclaredItem) where
+  params_back : (k : MemberKey) (n : ℕ) (ps qs : List DeclaredParam) (t : Written) → ParamsTo g k n ps qs → Writes qs t → (u : Written) × Writes ps u × Alike u t
   params_back k n [] [] t h w = absurd w
   params_back k n [] (q ∷ qs) t h w = absurd h
   params_back k n (p ∷ ps) [] t h w = absurd h
@@ -118,21 +118,21 @@ module _ (g : Renaming) (ss : List Site) where
   init_back (ctor_item c) (ctor_item d) at h w = absurd w
 
 -- the faults of names that members and parameters get
-pub record NamesAreClear (g : Renaming) (ss ts : List Site) : Type 0 where
+pub record NamesAreClear (g : Renaming) (ss ts : List DeclaredItem) : Type 0 where
   pub twice : (i j f e : ℕ) (x y a b : Item) → i < j → Beside g ss i f x a ss ts → Beside g ss j e y b ss ts → SameMember ts a b → ⊥
   pub params : (i f at : ℕ) (x a : Item) → Beside g ss i f x a ss ts → ParamTwice (params_of a) at → ⊥
-  pub inner : (i j f e : ℕ) (c d : ClassSite) (y b : Item) → Beside g ss i f (class_item c) (class_item d) ss ts → Beside g ss j e y b ss ts → HasItsName d.key b → ⊥
+  pub inner : (i j f e : ℕ) (c d : DeclaredClass) (y b : Item) → Beside g ss i f (class_item c) (class_item d) ss ts → Beside g ss j e y b ss ts → HasItsName d.key b → ⊥
 
-module _ (g : Renaming) (packages lines : List (Option PackageLine)) (ss ts : List Site) (clean : IsClean packages ss) (to : SitesTo g ss ss ts) (clear : NamesAreClear g ss ts)
+module _ (g : Renaming) (packages lines : List (Option PackageLine)) (ss ts : List DeclaredItem) (clean : IsClean packages ss) (to : DeclarationsTo g ss ss ts) (clear : NamesAreClear g ss ts)
     (same : map names_of lines ≡ map names_of packages) where
   line_back : (i : ℕ) (l : Option PackageLine) → slice_get lines i ≡ Some l → (m : Option PackageLine) × (slice_get packages i ≡ Some m) × (names_of m ≡ names_of l)
   line_back i l e = map_some names_of (slice_get packages i) (names_of l)
       (sym (slice_get-map names_of packages i) ∙ ap (λ (xs : List (List (List ℕ))). slice_get xs i) (sym same) ∙ slice_get-map names_of lines i ∙ ap (option_map names_of) e)
 
   item_back : (i f : ℕ) (y : Item) → At ts i f y → (x : Item) × Beside g ss i f x y ss ts
-  item_back i f y at = site_back g ss ss ts to i f y at.stands
+  item_back i f y at = declaration_back g ss ss ts to i f y at.stands
 
-  class_back : (i f : ℕ) (d : ClassSite) → At ts i f (class_item d) → (c : ClassSite) × At ss i f (class_item c) × ClassTo c d × Beside g ss i f (class_item c) (class_item d) ss ts
+  class_back : (i f : ℕ) (d : DeclaredClass) → At ts i f (class_item d) → (c : DeclaredClass) × At ss i f (class_item c) × ClassTo c d × Beside g ss i f (class_item c) (class_item d) ss ts
   class_back i f d at =
       let r = item_back i f (class_item d) at in
       let b = class_beside g ss r.0 d r.1.to in

@@ -17,7 +17,7 @@ use Rattle.jr_rename.specs.Images.{Renaming, is_renamed, name_to, outer_to, clas
 use Rattle.jr_rename.proofs.Still.{keeps_name, gets_name}
 use Rattle.jr_rename.proofs.RowImages.{map_both}
 use Rattle.jr_rename.proofs.CleanImages.{map_some}
-use Rattle.jr_rename.proofs.SiteRows.{RowFor, NoLocals, no_local_at}
+use Rattle.jr_rename.proofs.DeclarationRows.{RowFor, NoLocals, no_local_at}
 use Rattle.jr_rename.proofs.FairImages.{class_in, field_in, method_in, ctor_in}
 
 both_ways : (a b : Bool) → (a ≡ true → b ≡ true) → (b ≡ true → a ≡ true) → a ≡ b

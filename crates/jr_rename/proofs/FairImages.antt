@@ -17,7 +17,7 @@ use Rattle.jr_rename.proofs.Still.{IsStill, class_same, type_same, types_same, p
 use Rattle.jr_rename.proofs.RowImages.{map_both}
 use Rattle.jr_rename.proofs.CleanImages.{map_some}
 use Rattle.jr_rename.proofs.TypesFound.{of_same, outer_same, count_same, parent_at, class_row}
-use Rattle.jr_rename.proofs.SiteRows.{RowFor, NoLocals, no_local_at}
+use Rattle.jr_rename.proofs.DeclarationRows.{RowFor, NoLocals, no_local_at}
 
 -- fields, and methods, that have rows and get one name have one
 pub record KeysApart (g : Renaming) (rows : List Row) : Type 0 where

@@ -6,7 +6,7 @@ use Rattle.jr_table.specs.Keys.{FieldKey}
 use Rattle.jr_table.specs.Decls.{class_decl, field_decl, method_decl, local_decl}
 use Rattle.jr_table.specs.Rows.{Row}
 use Rattle.jr_table.specs.Prelude.{thread_key}
-use Rattle.jr_table.specs.Sites.{sites_of}
+use Rattle.jr_table.specs.Declared.{declarations_of}
 use Rattle.jr_rename.specs.Families.{AreRenamed}
 use Rattle.jr_rename.specs.Images.{Renaming, is_renamed}
 use Rattle.jr_rename.specs.Clashes.{IsClear}
@@ -39,4 +39,4 @@ module _ (rows : List Row) (k : FieldKey) (g : Renaming) (are : AreRenamed rows 
 pub field_images : {A B : Type 0} → FieldsGiveImages A B
 field_images tells begins' k packages rows super_at units g news b =
     still_images tells begins' (field_decl k) packages rows super_at units g news b (field_still rows k g b.renamed) (members_apart g rows (of_field rows k g b.renamed (λ m base. (tells m base).from) units b.clear))
-    (λ ts to. member_names g rows (of_field rows k g b.renamed (λ m base. (tells m base).from) units b.clear) packages (sites_of (λ m base. (tells m base).from) units) b.clean b.of_sites ts to)
+    (λ ts to. member_names g rows (of_field rows k g b.renamed (λ m base. (tells m base).from) units b.clear) packages (declarations_of (λ m base. (tells m base).from) units) b.clean b.of_declarations ts to)

@@ -6,16 +6,16 @@ use Rattle.jr_table.specs.declared.kinds.DeclKind.TheVariants as kind
 use Rattle.jr_table.specs.Keys.{ClassKey, FieldKey, MethodKey, Ty}
 use Rattle.jr_table.specs.Decls.{MemberKey, method, constructor, LocalKey, Decl, class_decl, field_decl, method_decl, local_decl}
 use Rattle.jr_table.specs.Rows.{Row}
-use Rattle.jr_table.specs.Sites.{ParamSite, ClassSite, FieldSite, MethodSite, Item, class_item, field_item, method_item, ctor_item, Site}
+use Rattle.jr_table.specs.Declared.{DeclaredParam, DeclaredClass, DeclaredField, DeclaredMethod, Item, class_item, field_item, method_item, ctor_item, DeclaredItem}
 use Rattle.jr_table.specs.ProgramRows.{MeanTypes, AreProgramRows}
 use Rattle.jr_table.specs.Faults.{PackageLine, name_at, SameTypes, SameMember, params_of, ParamTwice, HasItsName, IsClean}
 use Rattle.jr_rename.specs.Images.{Renaming, is_renamed, name_to}
 use Rattle.jr_rename.proofs.Still.{keeps_name, gets_name}
 use Rattle.jr_rename.proofs.OneMeaning.{means_once, mean_types_once}
-use Rattle.jr_rename.proofs.SiteImages.{ParamsTo, ItemTo, SitesTo, Beside}
+use Rattle.jr_rename.proofs.DeclarationImages.{ParamsTo, ItemTo, DeclarationsTo, Beside}
 use Rattle.jr_rename.proofs.CleanImages.{NamesAreClear}
 use Rattle.jr_rename.proofs.LocalNames.{field_beside, method_beside, ctor_beside, param_at, types_back}
-use Rattle.jr_rename.proofs.SiteRows.{RowFor, has_row}
+use Rattle.jr_rename.proofs.DeclarationRows.{RowFor, has_row}
 
 -- what is known of the renaming of fields or methods: those that get the name have one name, and
 -- none takes the place of another
@@ -28,16 +28,16 @@ pub record OfMembers (g : Renaming) (rows : List Row) : Type 0 where
   pub clear_method : (m : MethodKey) (d : Decl) → is_renamed g (method_decl m) ≡ true → RowFor rows d
       → (d ≡ method_decl (record { class = m.class; name = g.name; params = m.params })) ⊎ ((m.class.outer ≡ None) × (d ≡ class_decl (record { outer = Some m.class.name; name = g.name }))) → ⊥
 
-module _ (g : Renaming) (rows : List Row) (of : OfMembers g rows) (packages : List (Option PackageLine)) (ss : List Site) (clean : IsClean packages ss) (are : AreProgramRows ss rows) where
-  abbrev field_key : FieldSite → FieldKey
+module _ (g : Renaming) (rows : List Row) (of : OfMembers g rows) (packages : List (Option PackageLine)) (ss : List DeclaredItem) (clean : IsClean packages ss) (are : AreProgramRows ss rows) where
+  abbrev field_key : DeclaredField → FieldKey
   field_key f = record { class = f.of; name = f.name }
 
-  abbrev method_key : MethodSite → List Ty → MethodKey
+  abbrev method_key : DeclaredMethod → List Ty → MethodKey
   method_key m us = record { class = m.of; name = m.name; params = us }
 
-  module _ (ts : List Site) (to : SitesTo g ss ss ts) where
+  module _ (ts : List DeclaredItem) (to : DeclarationsTo g ss ss ts) where
     -- fields of one class that have one name had one before
-    module _ (i j e f : ℕ) (c d : FieldSite) (at_c : slice_get ss i ≡ Some (record { file = e; item = field_item c })) (at_d : slice_get ss j ≡ Some (record { file = f; item = field_item d })) (of_same : c.of ≡ d.of) where
+    module _ (i j e f : ℕ) (c d : DeclaredField) (at_c : slice_get ss i ≡ Some (record { file = e; item = field_item c })) (at_d : slice_get ss j ≡ Some (record { file = f; item = field_item d })) (of_same : c.of ≡ d.of) where
       field_names : (a b : Bool) → is_renamed g (field_decl (field_key c)) ≡ a → is_renamed g (field_decl (field_key d)) ≡ b
           → name_to g (field_decl (field_key c)) c.name ≡ name_to g (field_decl (field_key d)) d.name → c.name ≡ d.name
       field_names false false p q h = sym (keeps_name g (field_decl (field_key c)) c.name p) ∙ h ∙ keeps_name g (field_decl (field_key d)) d.name q
@@ -50,9 +50,9 @@ module _ (g : Renaming) (rows : List Row) (of : OfMembers g rows) (packages : Li
       field_names true true p q h = of.fields (field_key c) (field_key d) p q
 
     -- methods of one class and one list of types
-    module _ (i j e f : ℕ) (c d : MethodSite) (us vs : List Ty) (mean_c : MeanTypes ss c.of c.params us) (mean_d : MeanTypes ss d.of d.params vs)
+    module _ (i j e f : ℕ) (c d : DeclaredMethod) (us vs : List Ty) (mean_c : MeanTypes ss c.of c.params us) (mean_d : MeanTypes ss d.of d.params vs)
         (at_c : slice_get ss i ≡ Some (record { file = e; item = method_item c })) (at_d : slice_get ss j ≡ Some (record { file = f; item = method_item d })) (of_same : c.of ≡ d.of) (types : us ≡ vs) where
-      row_of : (k f : ℕ) (m : MethodSite) (ws : List Ty) → MeanTypes ss m.of m.params ws → slice_get ss k ≡ Some (record { file = f; item = method_item m }) → RowFor rows (method_decl (method_key m ws))
+      row_of : (k f : ℕ) (m : DeclaredMethod) (ws : List Ty) → MeanTypes ss m.of m.params ws → slice_get ss k ≡ Some (record { file = f; item = method_item m }) → RowFor rows (method_decl (method_key m ws))
       row_of k f m ws mean at =
           let r = has_row ss rows are k f (method_item m) at in
           subst (λ (z : List Ty). RowFor rows (method_decl (method_key m z))) (mean_types_once packages ss clean m.of m.params r.0 ws r.1 mean) r.2
@@ -69,7 +69,7 @@ module _ (g : Renaming) (rows : List Row) (of : OfMembers g rows) (packages : Li
       method_names true true p q h = of.methods (method_key c us) (method_key d vs) p q
 
     -- lists of types that are the same, by what they mean
-    one_list : (k : ClassKey) (ps rs : List ParamSite) (us vs : List Ty) → SameTypes ss k ps rs → MeanTypes ss k ps us → MeanTypes ss k rs vs → us ≡ vs
+    one_list : (k : ClassKey) (ps rs : List DeclaredParam) (us vs : List Ty) → SameTypes ss k ps rs → MeanTypes ss k ps us → MeanTypes ss k rs vs → us ≡ vs
     one_list k [] [] [] [] h x y = refl
     one_list k [] [] [] (v ∷ vs) h x y = absurd y
     one_list k [] [] (u ∷ us) vs h x y = absurd x
@@ -125,21 +125,21 @@ module _ (g : Renaming) (rows : List Row) (of : OfMembers g rows) (packages : Li
         ))
 
     -- the name of a member class
-    module _ (i e : ℕ) (c : ClassSite) (at_c : slice_get ss i ≡ Some (record { file = e; item = class_item c })) where
+    module _ (i e : ℕ) (c : DeclaredClass) (at_c : slice_get ss i ≡ Some (record { file = e; item = class_item c })) where
       class_is : (of_key : ClassKey) → c.key.outer ≡ Some of_key.name → g.name ≡ c.key.name → class_decl c.key ≡ class_decl (record { outer = Some of_key.name; name = g.name })
       class_is of_key outer named = λ n. class_decl (record { outer = outer n; name = sym named n })
 
-      field_apart : (d : FieldSite) (b : Bool) → is_renamed g (field_decl (field_key d)) ≡ b → d.of.outer ≡ None → c.key.outer ≡ Some d.of.name → name_to g (field_decl (field_key d)) d.name ≡ c.key.name → d.name ≡ c.key.name
+      field_apart : (d : DeclaredField) (b : Bool) → is_renamed g (field_decl (field_key d)) ≡ b → d.of.outer ≡ None → c.key.outer ≡ Some d.of.name → name_to g (field_decl (field_key d)) d.name ≡ c.key.name → d.name ≡ c.key.name
       field_apart d false p top outer h = sym (keeps_name g (field_decl (field_key d)) d.name p) ∙ h
       field_apart d true p top outer h =
           absurd (of.clear_field (field_key d) (class_decl c.key) p (has_row ss rows are i e (class_item c) at_c) (inr (top, class_is d.of outer (sym (gets_name g (field_decl (field_key d)) d.name p) ∙ h))))
 
-      method_apart : (d : MethodSite) (us : List Ty) (b : Bool) → is_renamed g (method_decl (method_key d us)) ≡ b → d.of.outer ≡ None → c.key.outer ≡ Some d.of.name → name_to g (method_decl (method_key d us)) d.name ≡ c.key.name → d.name ≡ c.key.name
+      method_apart : (d : DeclaredMethod) (us : List Ty) (b : Bool) → is_renamed g (method_decl (method_key d us)) ≡ b → d.of.outer ≡ None → c.key.outer ≡ Some d.of.name → name_to g (method_decl (method_key d us)) d.name ≡ c.key.name → d.name ≡ c.key.name
       method_apart d us false p top outer h = sym (keeps_name g (method_decl (method_key d us)) d.name p) ∙ h
       method_apart d us true p top outer h =
           absurd (of.clear_method (method_key d us) (class_decl c.key) p (has_row ss rows are i e (class_item c) at_c) (inr (top, class_is d.of outer (sym (gets_name g (method_decl (method_key d us)) d.name p) ∙ h))))
 
-      named_before : (d : ClassSite) (y b : Item) → d.key ≡ c.key → ItemTo g ss y b → HasItsName d.key b → HasItsName c.key y
+      named_before : (d : DeclaredClass) (y b : Item) → d.key ≡ c.key → ItemTo g ss y b → HasItsName d.key b → HasItsName c.key y
       named_before d y (class_item b) key h s = absurd s
       named_before d y (field_item b) key h s =
           let f = field_beside g ss y b h in
@@ -157,7 +157,7 @@ module _ (g : Renaming) (rows : List Row) (of : OfMembers g rows) (packages : Li
     param_name : (u : MemberKey) (n : ℕ) (q : List ℕ) (p : List ℕ) → q ≡ name_to g (local_decl (record { member = u; number = n })) p → q ≡ p
     param_name u n q p e = e ∙ keeps_name g (local_decl (record { member = u; number = n })) p (of.local (record { member = u; number = n }))
 
-    params_before : (u : MemberKey) (ps qs : List ParamSite) → ParamsTo g u 0 ps qs → (at : ℕ) → ParamTwice qs at → (b : ℕ) × ParamTwice ps b
+    params_before : (u : MemberKey) (ps qs : List DeclaredParam) → ParamsTo g u 0 ps qs → (at : ℕ) → ParamTwice qs at → (b : ℕ) × ParamTwice ps b
     params_before u ps qs h at t =
         let p = param_at g ss u 0 ps qs h t.i t.i t.first (omega arith) t.one in
         let q = param_at g ss u 0 ps qs h t.j t.j t.second (omega arith) t.other in (
@@ -175,8 +175,8 @@ module _ (g : Renaming) (rows : List Row) (of : OfMembers g rows) (packages : Li
           },
         )
 
-    none_twice : (xs : List ParamSite) (at : ℕ) → xs ≡ [] → ParamTwice xs at → ⊥
-    none_twice xs at e h = let p = sym (ap (λ (y : List ParamSite). slice_get y h.i) e) ∙ h.one in absurd cc
+    none_twice : (xs : List DeclaredParam) (at : ℕ) → xs ≡ [] → ParamTwice xs at → ⊥
+    none_twice xs at e h = let p = sym (ap (λ (y : List DeclaredParam). slice_get y h.i) e) ∙ h.one in absurd cc
 
     params_clear : (i f at : ℕ) (x a : Item) → Beside g ss i f x a ss ts → ParamTwice (params_of a) at → ⊥
     params_clear i f at x (class_item a) b h = none_twice [] at refl h

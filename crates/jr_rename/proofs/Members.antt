@@ -12,7 +12,7 @@ use Rattle.jr_table.specs.Rows.{Row}
 use Rattle.jr_table.specs.Prelude.{top_key}
 use Rattle.jr_table.specs.Found.{one}
 use Rattle.jr_table.specs.Scope.{Scope}
-use Rattle.jr_table.specs.Sites.{Site, class_key}
+use Rattle.jr_table.specs.Declared.{DeclaredItem, class_key}
 use Rattle.jr_table.specs.Context.{Context, Local, scope_of, parameters}
 use Rattle.jr_table.specs.HeadRules.{plain as no_locals, with_parameters, types_of, is_static_member, TopFinds}
 use Rattle.jr_table.specs.Binding.{Role, HaveTypes, SuperCtorFinds}
@@ -250,12 +250,12 @@ module _ {A : Type 0} (tells : A → ℕ → Span) (rows : List Row) (g : Renami
 
   -- ---- classes and files
 
-  module _ (sites : List Site) where
+  module _ (declarations : List DeclaredItem) where
     mutual
       unfolding RewritesClass RewritesMembers RewritesOne AlongClass AlongMembers AlongOne
 
-      pub class_along : (b i : ℕ) (outer : Option (List ℕ)) (x : syntax.Class A) (q : Rewritten (syntax.Class A)) → RewritesClass tells Chosen sites b outer x q → q.losses ≡ []
-          → AlongClass at_mark at_mark Keeps Writes Supers Parents (member_to g) sites b i outer x q.tree
+      pub class_along : (b i : ℕ) (outer : Option (List ℕ)) (x : syntax.Class A) (q : Rewritten (syntax.Class A)) → RewritesClass tells Chosen declarations b outer x q → q.losses ≡ []
+          → AlongClass at_mark at_mark Keeps Writes Supers Parents (member_to g) declarations b i outer x q.tree
       class_along b i outer (syntax.class m mods w t ms) q (p, z, (v, u, declared, parent, word), members, is) none =
           let all = lost_none q (joined (λ (u : tree.Word A × Option (tree.TypeName A)) xs. syntax.class m mods u.0 u.1 xs) p z) is none in
           let front = lost_none p (joined (λ u x. (u, x)) v u) word (left_none p.losses z.losses all) in (
@@ -270,34 +270,34 @@ module _ {A : Type 0} (tells : A → ℕ → Span) (rows : List Row) (g : Renami
             members_along _ _ (class_key at_mark outer w.text) ms z members (right_none p.losses z.losses all),
           )
 
-      pub members_along : (b i : ℕ) (of : ClassKey) (xs : syntax.Members A) (q : Rewritten (syntax.Members A)) → RewritesMembers tells Chosen sites b of xs q → q.losses ≡ []
-          → AlongMembers at_mark at_mark Keeps Writes Supers Parents (member_to g) sites b i of xs q.tree
+      pub members_along : (b i : ℕ) (of : ClassKey) (xs : syntax.Members A) (q : Rewritten (syntax.Members A)) → RewritesMembers tells Chosen declarations b of xs q → q.losses ≡ []
+          → AlongMembers at_mark at_mark Keeps Writes Supers Parents (member_to g) declarations b i of xs q.tree
       members_along b i of syntax.end q is none = ap (λ (x : Rewritten (syntax.Members A)). x.tree) is
       members_along b i of (syntax.more x xs) q (p, z, made, rest, is) none = let all = lost_none q (joined (λ y ys. syntax.more y ys) p z) is none in
           (p.tree, z.tree, ap (λ (x : Rewritten (syntax.Members A)). x.tree) is, one_along b i of x p made (left_none p.losses z.losses all), members_along b i of xs z rest (right_none p.losses z.losses all))
 
-      one_along : (b i : ℕ) (of : ClassKey) (x : syntax.Member A) (q : Rewritten (syntax.Member A)) → RewritesOne tells Chosen sites b of x q → q.losses ≡ []
-          → AlongOne at_mark at_mark Keeps Writes Supers Parents (member_to g) sites b i of x q.tree
+      one_along : (b i : ℕ) (of : ClassKey) (x : syntax.Member A) (q : Rewritten (syntax.Member A)) → RewritesOne tells Chosen declarations b of x q → q.losses ≡ []
+          → AlongOne at_mark at_mark Keeps Writes Supers Parents (member_to g) declarations b i of x q.tree
       one_along b i of (syntax.inner m c) q (p, made, is) none =
           (m, p.tree, ap (λ (x : Rewritten (syntax.Member A)). x.tree) is, class_along _ _ (Some of.name) c p made (lost_none q (within (λ d. syntax.inner m d) p) is none))
       one_along b i of (syntax.field m mods t w init) q (k, declares, made) none = (k, declares, member_along k b i (syntax.field m mods t w init) q made none)
       one_along b i of (syntax.method m mods t w ps body) q (k, declares, made) none = (k, declares, member_along k b i (syntax.method m mods t w ps body) q made none)
       one_along b i of (syntax.constructor m mods w ps args body) q (k, declares, made) none = (k, declares, member_along k b i (syntax.constructor m mods w ps args body) q made none)
 
-    classes_along : (b i : ℕ) (cs : List (syntax.Class A)) (q : Rewritten (List (syntax.Class A))) → RewritesClasses tells Chosen sites b cs q → q.losses ≡ []
-        → AlongClasses at_mark at_mark Keeps Writes Supers Parents (member_to g) sites b i cs q.tree
+    classes_along : (b i : ℕ) (cs : List (syntax.Class A)) (q : Rewritten (List (syntax.Class A))) → RewritesClasses tells Chosen declarations b cs q → q.losses ≡ []
+        → AlongClasses at_mark at_mark Keeps Writes Supers Parents (member_to g) declarations b i cs q.tree
     classes_along b i [] q is none = ap (λ (x : Rewritten (List (syntax.Class A))). x.tree) is
     classes_along b i (c ∷ cs) q (p, z, made, rest, is) none = let all = lost_none q (joined (λ d ds. d ∷ ds) p z) is none in
         (p.tree, z.tree, ap (λ (x : Rewritten (List (syntax.Class A))). x.tree) is, class_along b i None c p made (left_none p.losses z.losses all), classes_along b i cs z rest (right_none p.losses z.losses all))
 
-    unit_along : (u : syntax.Unit A) (q : Rewritten (syntax.Unit A)) → RewritesUnit tells Chosen sites u q → q.losses ≡ [] → AlongUnit at_mark at_mark Keeps Writes Supers Parents (member_to g) sites u q.tree
-    unit_along u q (p, made, is) none = subst (λ (x : Rewritten (syntax.Unit A)). AlongUnit at_mark at_mark Keeps Writes Supers Parents (member_to g) sites u x.tree) (sym is)
+    unit_along : (u : syntax.Unit A) (q : Rewritten (syntax.Unit A)) → RewritesUnit tells Chosen declarations u q → q.losses ≡ [] → AlongUnit at_mark at_mark Keeps Writes Supers Parents (member_to g) declarations u q.tree
+    unit_along u q (p, made, is) none = subst (λ (x : Rewritten (syntax.Unit A)). AlongUnit at_mark at_mark Keeps Writes Supers Parents (member_to g) declarations u x.tree) (sym is)
         (classes_along _ _ u.classes p made (lost_none q (within (λ cs. record { mark = u.mark; package_name = u.package_name; classes = cs }) p) is none))
 
     -- whole programs
-    pub units_along : (us : List (syntax.Unit A)) (files : List (Rewritten (syntax.Unit A))) → RewritesUnits tells Chosen sites us files
+    pub units_along : (us : List (syntax.Unit A)) (files : List (Rewritten (syntax.Unit A))) → RewritesUnits tells Chosen declarations us files
         → ((i : ℕ) (o : Rewritten (syntax.Unit A)) → slice_get files i ≡ Some o → o.losses ≡ [])
-        → AlongUnits at_mark at_mark Keeps Writes Supers Parents (member_to g) sites us (map (λ (o : Rewritten (syntax.Unit A)). o.tree) files)
+        → AlongUnits at_mark at_mark Keeps Writes Supers Parents (member_to g) declarations us (map (λ (o : Rewritten (syntax.Unit A)). o.tree) files)
     units_along [] files is none = ap (map (λ (o : Rewritten (syntax.Unit A)). o.tree)) is
     units_along (u ∷ us) files (o, rest, made, others, is) none =
         let each : (i : ℕ) (x : Rewritten (syntax.Unit A)) → slice_get (o ∷ rest) i ≡ Some x → x.losses ≡ [] = λ i x e. none i x (ap (λ (fs : List (Rewritten (syntax.Unit A))). slice_get fs i) is ∙ e) in (

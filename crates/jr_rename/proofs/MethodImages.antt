@@ -12,7 +12,7 @@ use Rattle.jr_table.specs.Entries.{IsRowOf, name_of, entry_of, entries_of}
 use Rattle.jr_table.specs.Keyed.{Overrides}
 use Rattle.jr_table.specs.Conditions.{AreRows}
 use Rattle.jr_table.specs.Prelude.{prelude_rows, thread_key, thread_row}
-use Rattle.jr_table.specs.Sites.{sites_of}
+use Rattle.jr_table.specs.Declared.{declarations_of}
 use Rattle.jr_names.specs.DeclTexts.{decl_text}
 use Rattle.jr_rename.specs.Targets.{IsOfPrelude}
 use Rattle.jr_rename.specs.Families.{InFamily, itself, above, below, AreRenamed}
@@ -88,4 +88,4 @@ module _ (rows : List Row) (k : MethodKey) (g : Renaming) (are : AreRenamed rows
 pub method_images : {A B : Type 0} → MethodsGiveImages A B
 method_images tells begins' k packages rows super_at units g news b =
     still_images tells begins' (method_decl k) packages rows super_at units g news b (method_still rows k g b.renamed b.are b.no_prelude) (members_apart g rows (of_method rows k g b.renamed (λ m base. (tells m base).from) units b.clear))
-    (λ ts to. member_names g rows (of_method rows k g b.renamed (λ m base. (tells m base).from) units b.clear) packages (sites_of (λ m base. (tells m base).from) units) b.clean b.of_sites ts to)
+    (λ ts to. member_names g rows (of_method rows k g b.renamed (λ m base. (tells m base).from) units b.clear) packages (declarations_of (λ m base. (tells m base).from) units) b.clean b.of_declarations ts to)

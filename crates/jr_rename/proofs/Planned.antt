@@ -5,9 +5,9 @@ use Rattle.jr_rename.specs.Clashes.{IsClear}
 use Rattle.jr_rename.specs.ImageLaws.{PlansBecome}
 
 pub planned : {A B : Type 0} → PlansBecome A B
-planned tells begins' packages rows super_at units news text file at new edits renaming respelled p are of_sites clean whole read = record {
+planned tells begins' packages rows super_at units news text file at new edits renaming respelled p are of_declarations clean whole read = record {
   are = are;
-  of_sites = of_sites;
+  of_declarations = of_declarations;
   clean = clean;
   whole = whole;
   renamed = p.renames.renamed;

@@ -5,13 +5,13 @@ use Rattle.jr_table.specs.Keys.{CtorKey}
 use Rattle.jr_table.specs.Decls.{LocalKey, class_decl, field_decl, method_decl, constructor_decl, local_decl}
 use Rattle.jr_table.specs.Rows.{Row}
 use Rattle.jr_table.specs.Prelude.{thread_key}
-use Rattle.jr_table.specs.Sites.{sites_of}
+use Rattle.jr_table.specs.Declared.{declarations_of}
 use Rattle.jr_rename.specs.Families.{AreRenamed}
 use Rattle.jr_rename.specs.Images.{Renaming}
 use Rattle.jr_rename.specs.ImageLaws.{RenamingsStayFair}
 use Rattle.jr_rename.proofs.Still.{IsStill, without_target}
 use Rattle.jr_rename.proofs.Apart.{members_apart, unrenamed_apart}
-use Rattle.jr_rename.proofs.SiteRows.{no_locals}
+use Rattle.jr_rename.proofs.DeclarationRows.{no_locals}
 use Rattle.jr_rename.proofs.FairImages.{KeysApart, fair}
 use Rattle.jr_rename.proofs.LocalImages.{still_of}
 use Rattle.jr_rename.proofs.FieldImages.{field_still, of_field}
@@ -36,12 +36,12 @@ local_apart rows k g are = unrenamed_apart g rows (λ f. without_target rows (lo
     (λ m. without_target rows (local_decl k) g are (method_decl m) (λ e. absurd cc))
 
 pub renamings_fair : {A : Type 0} → RenamingsStayFair A
-renamings_fair begins rows units (class_decl k) g are of_sites renamed own never clear whole new_whole = classes_fair begins rows units k g are of_sites renamed own clear whole new_whole
-renamings_fair begins rows units (field_decl k) g are of_sites renamed own never clear whole new_whole =
-    fair g (field_still rows k g renamed) rows (members_apart g rows (of_field rows k g renamed begins units clear)) are (no_locals (sites_of begins units) rows of_sites) whole
-renamings_fair begins rows units (method_decl k) g are of_sites renamed own never clear whole new_whole =
-    fair g (method_still rows k g renamed are never) rows (members_apart g rows (of_method rows k g renamed begins units clear)) are (no_locals (sites_of begins units) rows of_sites) whole
-renamings_fair begins rows units (constructor_decl k) g are of_sites renamed own never clear whole new_whole =
-    fair g (ctor_still rows k g renamed) rows (ctor_apart rows k g renamed) are (no_locals (sites_of begins units) rows of_sites) whole
-renamings_fair begins rows units (local_decl k) g are of_sites renamed own never clear whole new_whole =
-    fair g (still_of rows k g renamed) rows (local_apart rows k g renamed) are (no_locals (sites_of begins units) rows of_sites) whole
+renamings_fair begins rows units (class_decl k) g are of_declarations renamed own never clear whole new_whole = classes_fair begins rows units k g are of_declarations renamed own clear whole new_whole
+renamings_fair begins rows units (field_decl k) g are of_declarations renamed own never clear whole new_whole =
+    fair g (field_still rows k g renamed) rows (members_apart g rows (of_field rows k g renamed begins units clear)) are (no_locals (declarations_of begins units) rows of_declarations) whole
+renamings_fair begins rows units (method_decl k) g are of_declarations renamed own never clear whole new_whole =
+    fair g (method_still rows k g renamed are never) rows (members_apart g rows (of_method rows k g renamed begins units clear)) are (no_locals (declarations_of begins units) rows of_declarations) whole
+renamings_fair begins rows units (constructor_decl k) g are of_declarations renamed own never clear whole new_whole =
+    fair g (ctor_still rows k g renamed) rows (ctor_apart rows k g renamed) are (no_locals (declarations_of begins units) rows of_declarations) whole
+renamings_fair begins rows units (local_decl k) g are of_declarations renamed own never clear whole new_whole =
+    fair g (still_of rows k g renamed) rows (local_apart rows k g renamed) are (no_locals (declarations_of begins units) rows of_declarations) whole

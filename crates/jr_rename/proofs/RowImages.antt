@@ -6,35 +6,35 @@ use Rattle.jr_table.specs.Keys.{ClassKey, Ty}
 use Rattle.jr_table.specs.Decls.{MemberKey, method, constructor, class_decl, field_decl, method_decl, constructor_decl}
 use Rattle.jr_table.specs.Rows.{Row}
 use Rattle.jr_table.specs.Prelude.{prelude_rows}
-use Rattle.jr_table.specs.Sites.{Written, ParamSite, InitSite, ClassSite, FieldSite, MethodSite, CtorSite, Item, class_item, field_item, method_item, ctor_item, Site}
+use Rattle.jr_table.specs.Declared.{Written, DeclaredParam, DeclaredInit, DeclaredClass, DeclaredField, DeclaredMethod, DeclaredCtor, Item, class_item, field_item, method_item, ctor_item, DeclaredItem}
 use Rattle.jr_table.specs.Resolving.{IsParent, Means}
-use Rattle.jr_table.specs.ProgramRows.{is_access, MeanTypes, MeansResult, IsClassRow, unwritten_row, IsFieldRow, IsMethodRow, IsCtorRow, AreRowsOfSites, AreProgramRows}
+use Rattle.jr_table.specs.ProgramRows.{is_access, MeanTypes, MeansResult, IsClassRow, unwritten_row, IsFieldRow, IsMethodRow, IsCtorRow, AreRowsOfDeclarations, AreProgramRows}
 use Rattle.jr_table.specs.Faults.{PackageLine, IsClean}
 use Rattle.jr_rename.specs.Images.{Renaming, name_to, class_to, type_to, decl_to, row_to, rows_to}
 use Rattle.jr_rename.proofs.SameClasses.{ClassesGo, parent_goes, means_goes, result_goes}
 use Rattle.jr_rename.proofs.Still.{IsStill, class_same, type_same, types_same, prelude_same}
 use Rattle.jr_rename.proofs.OneMeaning.{mean_types_once}
-use Rattle.jr_rename.proofs.SiteImages.{forms_of, ClassTo, ParamsTo, FieldTo, MethodTo, CtorTo, ItemTo, SitesTo, classes_forth, classes_back}
+use Rattle.jr_rename.proofs.DeclarationImages.{forms_of, ClassTo, ParamsTo, FieldTo, MethodTo, CtorTo, ItemTo, DeclarationsTo, classes_forth, classes_back}
 
 pub map_both : {S U : Type 0} (f : S → U) (xs ys : List S) → map f (xs ++ ys) ≡ map f xs ++ map f ys
 map_both f [] ys = refl
 map_both f (x ∷ xs) ys = ap (λ zs. f x ∷ zs) (map_both f xs ys)
 
-some_form : (x : Option InitSite) → is_some (forms_of x) ≡ is_some x
+some_form : (x : Option DeclaredInit) → is_some (forms_of x) ≡ is_some x
 some_form None = refl
 some_form (Some i) = refl
 
-some_same : (x y : Option InitSite) → forms_of y ≡ forms_of x → is_some x ≡ is_some y
+some_same : (x y : Option DeclaredInit) → forms_of y ≡ forms_of x → is_some x ≡ is_some y
 some_same x y e = sym (some_form x) ∙ ap is_some (sym e) ∙ some_form y
 
-module _ (g : Renaming) (still : IsStill g) (packages : List (Option PackageLine)) (ss ts : List Site) (clean : IsClean packages ss) (to : SitesTo g ss ss ts) where
+module _ (g : Renaming) (still : IsStill g) (packages : List (Option PackageLine)) (ss ts : List DeclaredItem) (clean : IsClean packages ss) (to : DeclarationsTo g ss ss ts) where
   abbrev go : ClassesGo ss ts
   go = classes_forth g ss ss ts to
 
   abbrev back : ClassesGo ts ss
   back = classes_back g ss ss ts to
 
-  pub mean_to : (k : ClassKey) (j : MemberKey) (n : ℕ) (ps qs : List ParamSite) (us : List Ty) → ParamsTo g j n ps qs → MeanTypes ss k ps us → MeanTypes ts k qs us
+  pub mean_to : (k : ClassKey) (j : MemberKey) (n : ℕ) (ps qs : List DeclaredParam) (us : List Ty) → ParamsTo g j n ps qs → MeanTypes ss k ps us → MeanTypes ts k qs us
   mean_to k j n [] [] [] h x = x
   mean_to k j n [] [] (u ∷ us) h x = absurd x
   mean_to k j n [] (q ∷ qs) us h x = absurd h
@@ -42,7 +42,7 @@ module _ (g : Renaming) (still : IsStill g) (packages : List (Option PackageLine
   mean_to k j n (p ∷ ps) (q ∷ qs) [] h x = absurd x
   mean_to k j n (p ∷ ps) (q ∷ qs) (u ∷ us) h x = (means_goes ss ts go back k p.type q.type u h.0 x.0, mean_to k j (suc n) ps qs us h.2 x.1)
 
-  class_row_to : (c d : ClassSite) (r : Row) → ClassTo c d → IsClassRow ss c r → IsClassRow ts d (row_to g r)
+  class_row_to : (c d : DeclaredClass) (r : Row) → ClassTo c d → IsClassRow ss c r → IsClassRow ts d (row_to g r)
   class_row_to c d r h is = record {
     decl = ap (decl_to g) is.decl ∙ ap class_decl (class_same g still c.key ∙ sym h.key);
     modifiers = is.modifiers ∙ sym h.words;
@@ -53,7 +53,7 @@ module _ (g : Renaming) (still : IsStill g) (packages : List (Option PackageLine
     has_init = is.has_init;
   }
 
-  unwritten_to : (c d : ClassSite) → ClassTo c d → row_to g (unwritten_row ss c) ≡ unwritten_row ts d
+  unwritten_to : (c d : DeclaredClass) → ClassTo c d → row_to g (unwritten_row ss c) ≡ unwritten_row ts d
   unwritten_to c d h = λ i. record {
     decl = constructor_decl (record { class = (class_same g still c.key ∙ sym h.key) i; params = [] });
     modifiers = filter is_access (sym h.words i);
@@ -62,7 +62,7 @@ module _ (g : Renaming) (still : IsStill g) (packages : List (Option PackageLine
     has_init = false;
   }
 
-  field_row_to : (f h : FieldSite) (r : Row) → FieldTo g f h → IsFieldRow ss f r → IsFieldRow ts h (row_to g r)
+  field_row_to : (f h : DeclaredField) (r : Row) → FieldTo g f h → IsFieldRow ss f r → IsFieldRow ts h (row_to g r)
   field_row_to f h r x is = record {
     type = is.type;
     means = subst (λ (k : ClassKey). Means ts k h.type is.type) (sym x.of) (means_goes ss ts go back f.of f.type h.type is.type x.type is.means);
@@ -75,7 +75,7 @@ module _ (g : Renaming) (still : IsStill g) (packages : List (Option PackageLine
     });
   }
 
-  method_row_to : (m n : MethodSite) (r : Row) → MethodTo g ss m n → IsMethodRow ss m r → IsMethodRow ts n (row_to g r)
+  method_row_to : (m n : DeclaredMethod) (r : Row) → MethodTo g ss m n → IsMethodRow ss m r → IsMethodRow ts n (row_to g r)
   method_row_to m n r x is =
       let one : is.params ≡ x.types = mean_types_once packages ss clean m.of m.params is.params x.types is.mean x.mean in
       let named : name_to g (method_decl (record { class = m.of; name = m.name; params = is.params })) m.name ≡ n.name =
@@ -94,7 +94,7 @@ module _ (g : Renaming) (still : IsStill g) (packages : List (Option PackageLine
         });
       }
 
-  ctor_row_to : (c d : CtorSite) (r : Row) → CtorTo g ss c d → IsCtorRow ss c r → IsCtorRow ts d (row_to g r)
+  ctor_row_to : (c d : DeclaredCtor) (r : Row) → CtorTo g ss c d → IsCtorRow ss c r → IsCtorRow ts d (row_to g r)
   ctor_row_to c d r x is = record {
     params = is.params;
     mean = subst (λ (k : ClassKey). MeanTypes ts k d.params is.params) (sym x.of) (mean_to c.of (constructor (record { class = c.of; params = x.types })) 0 c.params d.params is.params x.params is.mean);
@@ -109,11 +109,11 @@ module _ (g : Renaming) (still : IsStill g) (packages : List (Option PackageLine
 
   -- ---- all rows
 
-  module _ (xs ys : List Site) (others : (rest : List Row) → AreRowsOfSites ss xs rest → AreRowsOfSites ts ys (rows_to g rest)) (f e : ℕ) where
+  module _ (xs ys : List DeclaredItem) (others : (rest : List Row) → AreRowsOfDeclarations ss xs rest → AreRowsOfDeclarations ts ys (rows_to g rest)) (f e : ℕ) where
     class_case : (a b : ℕ) (k l : ClassKey) (m n : List ModWord) (p q : Option Written) (c d : Bool)
         → ClassTo (record { at = a; key = k; modifiers = m; parent = p; has_ctor = c }) (record { at = b; key = l; modifiers = n; parent = q; has_ctor = d })
-        → (own : List Row) → AreRowsOfSites ss (record { file = f; item = class_item (record { at = a; key = k; modifiers = m; parent = p; has_ctor = c }) } ∷ xs) own
-        → AreRowsOfSites ts (record { file = e; item = class_item (record { at = b; key = l; modifiers = n; parent = q; has_ctor = d }) } ∷ ys) (rows_to g own)
+        → (own : List Row) → AreRowsOfDeclarations ss (record { file = f; item = class_item (record { at = a; key = k; modifiers = m; parent = p; has_ctor = c }) } ∷ xs) own
+        → AreRowsOfDeclarations ts (record { file = e; item = class_item (record { at = b; key = l; modifiers = n; parent = q; has_ctor = d }) } ∷ ys) (rows_to g own)
     class_case a b k l m n p q true true h own (r, rest, is, row, more) = (row_to g r, rows_to g rest, ap (rows_to g) is, class_row_to _ _ r h row, others rest more)
     class_case a b k l m n p q true false h own are = absurd (let never = h.ctor in cc)
     class_case a b k l m n p q false true h own are = absurd (let never = h.ctor in cc)
@@ -125,7 +125,7 @@ module _ (g : Renaming) (still : IsStill g) (packages : List (Option PackageLine
       others rest more,
     )
 
-    item_case : (x y : Item) → ItemTo g ss x y → (own : List Row) → AreRowsOfSites ss (record { file = f; item = x } ∷ xs) own → AreRowsOfSites ts (record { file = e; item = y } ∷ ys) (rows_to g own)
+    item_case : (x y : Item) → ItemTo g ss x y → (own : List Row) → AreRowsOfDeclarations ss (record { file = f; item = x } ∷ xs) own → AreRowsOfDeclarations ts (record { file = e; item = y } ∷ ys) (rows_to g own)
     item_case (class_item c) (class_item d) h own are = class_case c.at d.at c.key d.key c.modifiers d.modifiers c.parent d.parent c.has_ctor d.has_ctor h own are
     item_case (class_item c) (field_item d) h own are = absurd h
     item_case (class_item c) (method_item d) h own are = absurd h
@@ -143,7 +143,7 @@ module _ (g : Renaming) (still : IsStill g) (packages : List (Option PackageLine
     item_case (ctor_item c) (method_item d) h own are = absurd h
     item_case (ctor_item c) (ctor_item d) h own (r, rest, is, row, more) = (row_to g r, rows_to g rest, ap (rows_to g) is, ctor_row_to c d r h row, others rest more)
 
-  own_rows : (xs ys : List Site) → SitesTo g ss xs ys → (own : List Row) → AreRowsOfSites ss xs own → AreRowsOfSites ts ys (rows_to g own)
+  own_rows : (xs ys : List DeclaredItem) → DeclarationsTo g ss xs ys → (own : List Row) → AreRowsOfDeclarations ss xs own → AreRowsOfDeclarations ts ys (rows_to g own)
   own_rows [] [] h own are = ap (rows_to g) are
   own_rows [] (t ∷ ys) h own are = absurd h
   own_rows (s ∷ xs) [] h own are = absurd h

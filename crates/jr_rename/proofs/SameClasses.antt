@@ -5,7 +5,7 @@ use Rattle.jr_ast.specs.declared.operators.ModWord.{ModWord}
 use Rattle.jr_ast.specs.declared.operators.ModWord.TheVariants as word
 use Rattle.jr_table.specs.Keys.{ClassKey, Ty}
 use Rattle.jr_table.specs.Prelude.{top_key}
-use Rattle.jr_table.specs.Sites.{Written, int, boolean, named, ClassSite, Site}
+use Rattle.jr_table.specs.Declared.{Written, int, boolean, named, DeclaredClass, DeclaredItem}
 use Rattle.jr_table.specs.Resolving.{HasWord, DeclaresClass, IsDeclared, IsTopClass, TopNames, TopParent, IsPrivateClass, member_key, TopMemberType, HasTopMemberType, FindsInTop, MemberNames, TypeWithin, HasMemberType, IsParent, Climbs, FindsAround, FindsType, Means}
 use Rattle.jr_table.specs.ProgramRows.{MeansResult}
 
@@ -39,13 +39,13 @@ maybe_back (Some w) None h = absurd h
 maybe_back (Some w) (Some v) h = alike_back w v h
 
 -- the class is declared there too
-abbrev pub ClassThere : List Site → ClassKey → ClassSite → Type 0
-ClassThere ts k at = (b : ClassSite) × DeclaresClass ts k b × (b.modifiers ≡ at.modifiers) × MaybeAlike at.parent b.parent
+abbrev pub ClassThere : List DeclaredItem → ClassKey → DeclaredClass → Type 0
+ClassThere ts k at = (b : DeclaredClass) × DeclaresClass ts k b × (b.modifiers ≡ at.modifiers) × MaybeAlike at.parent b.parent
 
-abbrev pub ClassesGo : List Site → List Site → Type 0
-ClassesGo ss ts = (k : ClassKey) (at : ClassSite) → DeclaresClass ss k at → ClassThere ts k at
+abbrev pub ClassesGo : List DeclaredItem → List DeclaredItem → Type 0
+ClassesGo ss ts = (k : ClassKey) (at : DeclaredClass) → DeclaresClass ss k at → ClassThere ts k at
 
-module _ (ss ts : List Site) (go : ClassesGo ss ts) where
+module _ (ss ts : List DeclaredItem) (go : ClassesGo ss ts) where
   declared : (k : ClassKey) → IsDeclared ss k → IsDeclared ts k
   declared k (at, is) = let there = go k at is in (there.0, there.1)
 
@@ -72,7 +72,7 @@ module _ (ss ts : List Site) (go : ClassesGo ss ts) where
   top_parent name p (inl (at, is, names)) = let there = go (top_key name) at is in inl (there.0, there.1, top_names at.parent there.0.parent p there.3 names)
   top_parent name p (inr x) = inr x
 
-module _ (ss ts : List Site) (go : ClassesGo ss ts) (back : ClassesGo ts ss) where
+module _ (ss ts : List DeclaredItem) (go : ClassesGo ss ts) (back : ClassesGo ts ss) where
   top_member : (up : ℕ) (of name : List ℕ) (q : ClassKey) → TopMemberType ss up of name q → TopMemberType ts up of name q
   top_member zero of name q x = (x.0, declared ss ts go q x.1)
   top_member (suc up) of name q x = (
@@ -86,7 +86,7 @@ module _ (ss ts : List Site) (go : ClassesGo ss ts) (back : ClassesGo ts ss) whe
   has_top : (of name : List ℕ) (q : ClassKey) → HasTopMemberType ss of name q → HasTopMemberType ts of name q
   has_top of name q (up, x) = (up, top_member up of name q x)
 
-module _ (ss ts : List Site) (go : ClassesGo ss ts) (back : ClassesGo ts ss) where
+module _ (ss ts : List DeclaredItem) (go : ClassesGo ss ts) (back : ClassesGo ts ss) where
   in_top : (of name : List ℕ) (q : ClassKey) → FindsInTop ss of name q → FindsInTop ts of name q
   in_top of name q (inl x) = inl (has_top ss ts go back of name q x)
   in_top of name q (inr (none, is, top)) = inr (λ r h. none r (has_top ts ss back go of name r h), is, top_class ss ts go name top)
@@ -142,7 +142,7 @@ module _ (ss ts : List Site) (go : ClassesGo ss ts) (back : ClassesGo ts ss) whe
   around None name q x = (x.0, top_class ss ts go name x.1)
   around (Some o) name q x = in_top o name q x
 
-module _ (ss ts : List Site) (go : ClassesGo ss ts) (back : ClassesGo ts ss) where
+module _ (ss ts : List DeclaredItem) (go : ClassesGo ss ts) (back : ClassesGo ts ss) where
   finds_type : (c : ClassKey) (name : List ℕ) (q : ClassKey) → FindsType ss c name q → FindsType ts c name q
   finds_type c name q (inl x) = inl (has_member ss ts go back c name q x)
   finds_type c name q (inr (none, x)) = inr (λ r h. none r (has_member ts ss back go c name r h), around ss ts go back c.outer name q x)

@@ -6,34 +6,34 @@ use Rattle.jr_ast.specs.MemberTree as syntax
 use Rattle.jr_table.specs.Decls.{MemberKey, Decl}
 use Rattle.jr_table.specs.Rows.{Row}
 use Rattle.jr_table.specs.Context.{Context}
-use Rattle.jr_table.specs.Sites.{Site, sites_of}
+use Rattle.jr_table.specs.Declared.{DeclaredItem, declarations_of}
 use Rattle.jr_table.specs.Faults.{PackageLine}
 use Rattle.jr_rename.specs.Images.{Renaming}
 use Rattle.jr_rename.specs.ImageLaws.{Becomes, AreImages}
 use Rattle.jr_rename.proofs.Still.{IsStill}
-use Rattle.jr_rename.proofs.SiteImages.{SitesTo}
+use Rattle.jr_rename.proofs.DeclarationImages.{DeclarationsTo}
 use Rattle.jr_rename.proofs.TypesFound.{named_goes, member_named_goes}
 use Rattle.jr_rename.proofs.TypesStay.{TypesKeep}
 use Rattle.jr_rename.proofs.TreeImages.{units_go}
-use Rattle.jr_rename.proofs.SitesBeside.{all_sites, member_images}
+use Rattle.jr_rename.proofs.DeclarationsBeside.{all_declarations, member_images}
 use Rattle.jr_rename.proofs.RowImages.{program_rows}
 use Rattle.jr_rename.proofs.CleanImages.{NamesAreClear, is_clean}
-use Rattle.jr_rename.proofs.SiteRows.{no_locals}
+use Rattle.jr_rename.proofs.DeclarationRows.{no_locals}
 use Rattle.jr_rename.proofs.FairImages.{KeysApart, fair}
 
 pub still_images : {A B : Type 0} (tells : A → ℕ → Span) (begins' : B → ℕ → ℕ) (d : Decl) (packages : List (Option PackageLine)) (rows : List Row) (super_at : MemberKey → ℕ) (units : List (syntax.Unit A)) (g : Renaming) (news : List (syntax.Unit B))
     → Becomes tells begins' packages rows super_at units d g news → IsStill g → KeysApart g rows
-    → ((ts : List Site) → SitesTo g (sites_of (λ m base. (tells m base).from) units) (sites_of (λ m base. (tells m base).from) units) ts → NamesAreClear g (sites_of (λ m base. (tells m base).from) units) ts)
+    → ((ts : List DeclaredItem) → DeclarationsTo g (declarations_of (λ m base. (tells m base).from) units) (declarations_of (λ m base. (tells m base).from) units) ts → NamesAreClear g (declarations_of (λ m base. (tells m base).from) units) ts)
     → AreImages tells begins' packages rows units g news
 still_images tells begins' d packages rows super_at units g news b still apart names =
     let keep : TypesKeep rows g = record { still = still; named = named_goes g still rows; member = member_named_goes g still rows; whole = b.whole } in
-    let ss = sites_of (λ m base. (tells m base).from) units in
-    let ts = sites_of begins' news in
+    let ss = declarations_of (λ m base. (tells m base).from) units in
+    let ts = declarations_of begins' news in
     let beside = units_go rows g keep tells begins' (λ (c : Context). super_at c.member) ss units b.files b.rewrite b.kept news b.read in
-    let to = all_sites rows g keep tells begins' (λ (c : Context). super_at c.member) ss units news beside in
+    let to = all_declarations rows g keep tells begins' (λ (c : Context). super_at c.member) ss units news beside in
     record {
-      rows_are = program_rows g still packages ss ts b.clean to rows b.of_sites;
+      rows_are = program_rows g still packages ss ts b.clean to rows b.of_declarations;
       clean = λ lines same. is_clean g packages lines ss ts b.clean to (names ts to) same;
-      fair = fair g still rows apart b.are (no_locals ss rows b.of_sites) b.whole;
+      fair = fair g still rows apart b.are (no_locals ss rows b.of_declarations) b.whole;
       members = member_images rows g keep tells begins' (λ (c : Context). super_at c.member) ss packages b.clean ts to units news beside;
     }

@@ -393,5 +393,5 @@ module _ {A : Type 0} (begins : A → ℕ → ℕ) (rows : List Row) (g : Renami
 
 -- The text of a file that is renamed reads as its new tree.
 pub renamed_texts_read : (A : Type 0) → RenamedTextsRead A
-renamed_texts_read A tells rows g super_at sites bytes u o named new_is h w =
-    rewritten_reads tells (spelling (λ m b. (tells m b).from) rows g super_at) (spelling_suits (λ m b. (tells m b).from) rows g new_is named super_at) sites bytes u o h w
+renamed_texts_read A tells rows g super_at declarations bytes u o named new_is h w =
+    rewritten_reads tells (spelling (λ m b. (tells m b).from) rows g super_at) (spelling_suits (λ m b. (tells m b).from) rows g new_is named super_at) declarations bytes u o h w

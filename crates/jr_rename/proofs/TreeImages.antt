@@ -13,7 +13,7 @@ use Rattle.jr_table.specs.Decls as member
 use Rattle.jr_table.specs.Rows.{Row}
 use Rattle.jr_table.specs.Context.{Context}
 use Rattle.jr_table.specs.HeadRules.{plain, is_static_member}
-use Rattle.jr_table.specs.Sites.{written, words, param_site, init_site, is_simple, class_key, member_sites, Site}
+use Rattle.jr_table.specs.Declared.{written, words, param_declaration, init_declaration, is_simple, class_key, member_declarations, DeclaredItem}
 use Rattle.jr_table.specs.ProgramRows.{MeanTypes}
 use Rattle.jr_rewrite.specs.Respellings.{Choice, text_of}
 use Rattle.jr_rewrite.specs.Rewritten.{Rewritten}
@@ -25,7 +25,7 @@ use Rattle.jr_rename.specs.Beside.{ClassBeside, MembersBeside, MemberBeside, Cla
 use Rattle.jr_rename.proofs.Chosen.{renamed_text, left_none, right_none}
 use Rattle.jr_rename.proofs.SameClasses.{Alike, MaybeAlike}
 use Rattle.jr_rename.proofs.Still.{keeps_name}
-use Rattle.jr_rename.proofs.SiteImages.{forms_of, ParamsTo, ItemsTo}
+use Rattle.jr_rename.proofs.DeclarationImages.{forms_of, ParamsTo, ItemsTo}
 use Rattle.jr_rename.proofs.TypesStay.{TypesKeep, type_stays, superclass_stays}
 use Rattle.jr_rename.proofs.InitsStay.{nowhere, simple_bare, forms_stay}
 
@@ -132,11 +132,11 @@ maybe_simple : {A : Type 0} (begins : A → ℕ → ℕ) (e : Option (tree.Exp A
 maybe_simple begins None = refl
 maybe_simple begins (Some e) = ap (λ (b : Bool). Some b) (simple_bare begins e)
 
-forms_are : {A : Type 0} (begins : A → ℕ → ℕ) (at : ℕ) (e : Option (tree.Exp A)) → forms_of (option_map (init_site begins at) e) ≡ option_map (is_simple begins) e
+forms_are : {A : Type 0} (begins : A → ℕ → ℕ) (at : ℕ) (e : Option (tree.Exp A)) → forms_of (option_map (init_declaration begins at) e) ≡ option_map (is_simple begins) e
 forms_are begins at None = refl
 forms_are begins at (Some e) = refl
 
-module _ (rows : List Row) (g : Renaming) (keep : TypesKeep rows g) {A B : Type 0} (tells : A → ℕ → Span) (begins' : B → ℕ → ℕ) (super_at : Context → ℕ) (ss : List Site) where
+module _ (rows : List Row) (g : Renaming) (keep : TypesKeep rows g) {A B : Type 0} (tells : A → ℕ → Span) (begins' : B → ℕ → ℕ) (super_at : Context → ℕ) (ss : List DeclaredItem) where
   abbrev begins : A → ℕ → ℕ
   begins m b = (tells m b).from
 
@@ -150,7 +150,7 @@ module _ (rows : List Row) (g : Renaming) (keep : TypesKeep rows g) {A B : Type 
       × MaybeAlike (option_map (written begins (begins m b)) t) (option_map (written begins' (begins' k i)) u)
 
   abbrev pub MemberTo : (b i : ℕ) → (of of' : ClassKey) → syntax.Member A → syntax.Member B → Type 0
-  MemberTo b i of of' x y = ItemsTo g ss (member_sites begins b of x) (member_sites begins' i of' y)
+  MemberTo b i of of' x y = ItemsTo g ss (member_declarations begins b of x) (member_declarations begins' i of' y)
 
   declared_text : (d : Decl) (at : ℕ) (w : tree.Word A) (v : Rewritten (tree.Word A)) → DeclaredOut tells Chosen d at w v → v.tree.text ≡ name_to g d w.text
   declared_text d at w v (h, is, out) = ap (λ (x : Rewritten (tree.Word A)). x.tree.text) out ∙ ap (λ (x : Choice). text_of x w.text) is ∙ renamed_text w.text (name_to g d w.text)
@@ -159,7 +159,7 @@ module _ (rows : List Row) (g : Renaming) (keep : TypesKeep rows g) {A B : Type 
   same_words mods nods e = sym (words_bare begins' nods) ∙ ap (words nowhere) e ∙ words_bare begins mods
 
   params_go : (k : MemberKey) (n at j : ℕ) (ps : List (syntax.Param A)) (o : Rewritten (List (syntax.Param A))) → RewritesParams tells Chosen k n at ps o → o.losses ≡ []
-      → (qs : List (syntax.Param B)) → map (map_param no_mark) qs ≡ map (map_param no_mark) o.tree → ParamsTo g k n (map (param_site begins at) ps) (map (param_site begins' j) qs)
+      → (qs : List (syntax.Param B)) → map (map_param no_mark) qs ≡ map (map_param no_mark) o.tree → ParamsTo g k n (map (param_declaration begins at) ps) (map (param_declaration begins' j) qs)
   params_go k n at j [] o is none [] e = tt
   params_go k n at j [] o is none (q ∷ qs) e = let f = e ∙ ap (λ (x : Rewritten (List (syntax.Param A))). map (map_param no_mark) x.tree) is in absurd cc
   params_go k n at j (p ∷ ps) o (t, v, rest, type, name, more, is) none [] e = let f = e ∙ ap (λ (x : Rewritten (List (syntax.Param A))). map (map_param no_mark) x.tree) is in absurd cc
@@ -194,7 +194,7 @@ module _ (rows : List Row) (g : Renaming) (keep : TypesKeep rows g) {A B : Type 
     field_goes : (m : A) (mods : List (syntax.Modifier A)) (t : tree.TypeName A) (w : tree.Word A) (init : Option (tree.Exp A)) (o : Rewritten (syntax.Member A))
         → RewritesMember tells Chosen (member.field (record { class = of; name = w.text })) b (syntax.field m mods t w init) o → o.losses ≡ []
         → (y : syntax.Member B) → map_member no_mark y ≡ map_member no_mark o.tree → MemberTo b i of of' (syntax.field m mods t w init) y
-    unfolding map_member member_sites
+    unfolding map_member member_declarations
     field_goes m mods t w init o (p, v, q, type, name, value, is) none (syntax.field k nods u z form) e =
         let f = e ∙ ap (λ (x : Rewritten (syntax.Member A)). map_member no_mark x.tree) is in
         let all : (p.losses ++ v.losses) ++ q.losses ≡ [] = sym (ap (λ (x : Rewritten (syntax.Member A)). x.losses) is) ∙ none in
@@ -216,10 +216,10 @@ module _ (rows : List Row) (g : Renaming) (keep : TypesKeep rows g) {A B : Type 
     field_goes m mods t w init o (p, v, q, type, name, value, is) none (syntax.inner k c) e = let f = e ∙ ap (λ (x : Rewritten (syntax.Member A)). map_member no_mark x.tree) is in absurd cc
 
     method_goes : (m : A) (mods : List (syntax.Modifier A)) (t : Option (tree.TypeName A)) (w : tree.Word A) (ps : List (syntax.Param A)) (body : _) (o : Rewritten (syntax.Member A)) (ts : List Ty)
-        → MeanTypes ss of (map (param_site begins (begins m b)) ps) ts
+        → MeanTypes ss of (map (param_declaration begins (begins m b)) ps) ts
         → RewritesMember tells Chosen (member.method (record { class = of; name = w.text; params = ts })) b (syntax.method m mods t w ps body) o → o.losses ≡ []
         → (y : syntax.Member B) → map_member no_mark y ≡ map_member no_mark o.tree → MemberTo b i of of' (syntax.method m mods t w ps body) y
-    unfolding map_member member_sites
+    unfolding map_member member_declarations
     method_goes m mods t w ps body o ts mean (p, v, q, z, type, name, params, inside, is) none (syntax.method k nods u x qs rest) e =
         let f = e ∙ ap (λ (x : Rewritten (syntax.Member A)). map_member no_mark x.tree) is in
         let all : (p.losses ++ v.losses) ++ (q.losses ++ z.losses) ≡ [] = sym (ap (λ (x : Rewritten (syntax.Member A)). x.losses) is) ∙ none in
@@ -242,10 +242,10 @@ module _ (rows : List Row) (g : Renaming) (keep : TypesKeep rows g) {A B : Type 
     method_goes m mods t w ps body o ts mean (p, v, q, z, type, name, params, inside, is) none (syntax.inner k c) e = let f = e ∙ ap (λ (x : Rewritten (syntax.Member A)). map_member no_mark x.tree) is in absurd cc
 
     ctor_goes : (m : A) (mods : List (syntax.Modifier A)) (w : tree.Word A) (ps : List (syntax.Param A)) (args : Option (tree.Exps A)) (body : _) (o : Rewritten (syntax.Member A)) (ts : List Ty)
-        → MeanTypes ss of (map (param_site begins (begins m b)) ps) ts
+        → MeanTypes ss of (map (param_declaration begins (begins m b)) ps) ts
         → RewritesMember tells Chosen (member.constructor (record { class = of; params = ts })) b (syntax.constructor m mods w ps args body) o → o.losses ≡ []
         → (y : syntax.Member B) → map_member no_mark y ≡ map_member no_mark o.tree → MemberTo b i of of' (syntax.constructor m mods w ps args body) y
-    unfolding map_member member_sites
+    unfolding map_member member_declarations
     ctor_goes m mods w ps args body o ts mean (v, q, p, z, name, params, super, inside, is) none (syntax.constructor k nods x qs given rest) e =
         let f = e ∙ ap (λ (x : Rewritten (syntax.Member A)). map_member no_mark x.tree) is in
         let all : (v.losses ++ q.losses) ++ (p.losses ++ z.losses) ≡ [] = sym (ap (λ (x : Rewritten (syntax.Member A)). x.losses) is) ∙ none in

@@ -15,7 +15,7 @@ use Rattle.jr_table.specs.Decls.{
 use Rattle.jr_table.specs.Rows.{Row}
 use Rattle.jr_table.specs.Prelude.{top_key}
 use Rattle.jr_table.specs.Entries.{IsRowOf, name_of}
-use Rattle.jr_table.specs.Sites.{sites_of}
+use Rattle.jr_table.specs.Declared.{declarations_of}
 use Rattle.jr_table.specs.Context.{Context, Local, local_key}
 use Rattle.jr_table.specs.Errors.{Part, member_part, InMember, InUnits}
 use Rattle.jr_rename.specs.Families.{IsRenamedWith}
@@ -113,12 +113,12 @@ ClassClashes k new _ = ⊥
 
 module _ {A : Type 0} (begins : A → ℕ → ℕ) (rows : List Row) (units : List (syntax.Unit A)) where
   abbrev pub IsLocalNamed : LocalKey → (name : List ℕ) → Type 0
-  IsLocalNamed k name = (i : MemberKey) × InUnits begins (sites_of begins units)
+  IsLocalNamed k name = (i : MemberKey) × InUnits begins (declarations_of begins units)
       (λ i base part. HasLocal begins k name i base part) units i
 
   abbrev pub Under : (k : LocalKey) → (name : List ℕ) → (j : LocalKey) → (other : List ℕ) → Type 0
   Under k name j other = (i : MemberKey)
-      × InUnits begins (sites_of begins units) (λ i base part.
+      × InUnits begins (declarations_of begins units) (λ i base part.
       IsUnder begins k name j other i base part) units i
 
   -- another local of the new name would be in the scope of local k, or hold it in its own (JLS 6.4)

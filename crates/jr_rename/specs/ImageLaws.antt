@@ -20,7 +20,7 @@ use Rattle.jr_table.specs.Decls.{
 use Rattle.jr_table.specs.Rows.{Row}
 use Rattle.jr_table.specs.Entries.{IsRowOf}
 use Rattle.jr_table.specs.Conditions.{AreRows}
-use Rattle.jr_table.specs.Sites.{Site, sites_of, class_key}
+use Rattle.jr_table.specs.Declared.{DeclaredItem, declarations_of, class_key}
 use Rattle.jr_table.specs.ProgramRows.{AreProgramRows}
 use Rattle.jr_table.specs.Faults.{PackageLine, names_of, IsClean}
 use Rattle.jr_table.specs.Errors.{Declares}
@@ -54,8 +54,8 @@ module _ {A B : Type 0} (tells : A → ℕ → Span) (begins' : B → ℕ → �
       (super_at : MemberKey → ℕ) (units : List (syntax.Unit A)) (d : Decl) (g : Renaming)
       (news : List (syntax.Unit B)) : Type 0 where
     pub are : AreRows rows
-    pub of_sites : AreProgramRows (sites_of begins units) rows
-    pub clean : IsClean packages (sites_of begins units)
+    pub of_declarations : AreProgramRows (declarations_of begins units) rows
+    pub clean : IsClean packages (declarations_of begins units)
     -- no byte of a class's name is a dot
     pub whole : (k : ClassKey) (j : ℕ) → IsRowOf rows (class_decl k) j
         → position_or_len is_dot k.name ≡ length k.name
@@ -77,20 +77,20 @@ module _ {A B : Type 0} (tells : A → ℕ → Span) (begins' : B → ℕ → �
       class_key begins' p v.text ≡ class_to g (class_key begins o w.text)
 
   -- member y declares the image of what member x does
-  abbrev pub IsMemberImage : Renaming → (sites sites' : List Site) → (base base' : ℕ)
+  abbrev pub IsMemberImage : Renaming → (declarations declarations' : List DeclaredItem) → (base base' : ℕ)
       → (of of' : ClassKey) → syntax.Member A → syntax.Member B → Type 0
-  IsMemberImage g sites sites' b i of of' x y = (k : MemberKey)
-      → Declares begins sites b of x k → Declares begins' sites' i of' y (member_to g k)
+  IsMemberImage g declarations declarations' b i of of' x y = (k : MemberKey)
+      → Declares begins declarations b of x k → Declares begins' declarations' i of' y (member_to g k)
 
   pub record AreImages (packages : List (Option PackageLine)) (rows : List Row)
       (units : List (syntax.Unit A)) (g : Renaming) (news : List (syntax.Unit B)) : Type 0 where
-    pub rows_are : AreProgramRows (sites_of begins' news) (rows_to g rows)
+    pub rows_are : AreProgramRows (declarations_of begins' news) (rows_to g rows)
     -- so that all references are kept
     pub fair : IsFair rows g
     pub clean : (lines : List (Option PackageLine)) → map names_of lines ≡ map names_of packages
-        → IsClean lines (sites_of begins' news)
+        → IsClean lines (declarations_of begins' news)
     pub members : UnitsBeside begins begins' (IsClassImage g)
-        (IsMemberImage g (sites_of begins units) (sites_of begins' news)) units news
+        (IsMemberImage g (declarations_of begins units) (declarations_of begins' news)) units news
 
   -- for a declaration
   abbrev pub GivesImages : Decl → Type 0
@@ -118,8 +118,8 @@ PlansBecome A B = (tells : A → ℕ → Span) (begins' : B → ℕ → ℕ)
     (units : List (syntax.Unit A)) (news : List (syntax.Unit B)) (text : List ℕ) (file at : ℕ)
     (new : List ℕ) (edits : List (List Entry)) (renaming : List (Decl × Decl)) (respelled : ℕ)
     → (p : IsPlanned tells rows super_at units text file at new edits renaming respelled)
-    → AreRows rows → AreProgramRows (sites_of (begins tells begins') units) rows
-    → IsClean packages (sites_of (begins tells begins') units)
+    → AreRows rows → AreProgramRows (declarations_of (begins tells begins') units) rows
+    → IsClean packages (declarations_of (begins tells begins') units)
     → ((k : ClassKey) (j : ℕ) → IsRowOf rows (class_decl k) j
     → position_or_len is_dot k.name ≡ length k.name)
     → map without_marks news
@@ -129,7 +129,7 @@ PlansBecome A B = (tells : A → ℕ → Span) (begins' : B → ℕ → ℕ)
 -- where a class is renamed, the images of the rows meet what rows must
 abbrev pub ClassesStayFair : Type 0 → Type 0
 ClassesStayFair A = (begins : A → ℕ → ℕ) (rows : List Row) (units : List (syntax.Unit A))
-    (k : ClassKey) (g : Renaming) → AreRows rows → AreProgramRows (sites_of begins units) rows
+    (k : ClassKey) (g : Renaming) → AreRows rows → AreProgramRows (declarations_of begins units) rows
     → AreRenamed rows (class_decl k) g.decls → (IsOfPrelude rows (class_decl k) → ⊥)
     → IsClear begins rows units (class_decl k) g.name
     → ((j : ClassKey) (i : ℕ) → IsRowOf rows (class_decl j) i
@@ -141,7 +141,7 @@ ClassesStayFair A = (begins : A → ℕ → ℕ) (rows : List Row) (units : List
 -- it, the images of the rows meet what rows must.
 abbrev pub RenamingsStayFair : Type 0 → Type 0
 RenamingsStayFair A = (begins : A → ℕ → ℕ) (rows : List Row) (units : List (syntax.Unit A))
-    (d : Decl) (g : Renaming) → AreRows rows → AreProgramRows (sites_of begins units) rows
+    (d : Decl) (g : Renaming) → AreRows rows → AreProgramRows (declarations_of begins units) rows
     → AreRenamed rows d g.decls → (IsOfPrelude rows d → ⊥)
     → ((text : List ℕ) → HasPreludeMethod rows d text → ⊥) → IsClear begins rows units d g.name
     → ((j : ClassKey) (i : ℕ) → IsRowOf rows (class_decl j) i

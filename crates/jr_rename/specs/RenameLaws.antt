@@ -10,7 +10,7 @@ use Rattle.jr_table.specs.Rows.{Row}
 use Rattle.jr_table.specs.Prelude.{top_key}
 use Rattle.jr_table.specs.Entries.{IsRowOf}
 use Rattle.jr_table.specs.Conditions.{AreRows}
-use Rattle.jr_table.specs.Sites.{sites_of}
+use Rattle.jr_table.specs.Declared.{declarations_of}
 use Rattle.jr_table.specs.Context.{Context}
 use Rattle.jr_spell.specs.Binds.{is_dot}
 use Rattle.jr_rewrite.specs.Rewritten.{Rewritten}
@@ -44,10 +44,10 @@ ReferencesAreKept A = (tells : A → ℕ → Span) (rows : List Row) (g : Renami
     (files : List (Rewritten (syntax.Unit A)))
     → AreRows rows → IsFair rows g
     → RewritesUnits tells (spelling (λ m b. (tells m b).from) rows g super_at)
-    (sites_of (λ m b. (tells m b).from) units) units files
+    (declarations_of (λ m b. (tells m b).from) units) units files
     → KeepsAll files
     → AlongUnits (λ m b. (tells m b).from) (λ m b. (tells m b).from)
     (IsKept (λ m b. (tells m b).from) (λ m b. (tells m b).from) g rows)
     (IsWritten (λ m b. (tells m b).from) (λ m b. (tells m b).from) g rows)
     (IsSuperKept g rows) (IsParentKept g rows) (member_to g)
-    (sites_of (λ m b. (tells m b).from) units) units (trees_of files)
+    (declarations_of (λ m b. (tells m b).from) units) units (trees_of files)

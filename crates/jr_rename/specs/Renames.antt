@@ -7,7 +7,7 @@ use Rattle.jr_table.specs.Keys.{ClassKey, MethodKey}
 use Rattle.jr_table.specs.Decls.{MemberKey, Decl}
 use Rattle.jr_table.specs.SameDecls.{same_decl}
 use Rattle.jr_table.specs.Rows.{Row}
-use Rattle.jr_table.specs.Sites.{sites_of}
+use Rattle.jr_table.specs.Declared.{declarations_of}
 use Rattle.jr_table.specs.Context.{Context}
 use Rattle.jr_names.specs.Refusals.{
   Refusal,
@@ -39,7 +39,7 @@ module _ {A : Type 0} (tells : A → ℕ → Span) (rows : List Row) (super_at :
   abbrev pub Rewrite : Renaming → List (Rewritten (syntax.Unit A)) → Type 0
   Rewrite g files = RewritesUnits tells
       (spelling (λ m b. (tells m b).from) rows g (λ (c : Context). super_at c.member))
-      (sites_of (λ m b. (tells m b).from) units) units files
+      (declarations_of (λ m b. (tells m b).from) units) units files
 
   -- what is renamed by the step at a byte of a file that has the text
   pub record Renames (text : List ℕ) (file at : ℕ) (new : List ℕ) (d : Decl) (g : Renaming) : Type 0

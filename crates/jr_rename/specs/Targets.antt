@@ -24,7 +24,7 @@ use Rattle.jr_table.specs.Decls.{MemberKey, head, Decl, class_decl, local_decl}
 use Rattle.jr_table.specs.Rows.{Row}
 use Rattle.jr_table.specs.Entries.{IsRowOf}
 use Rattle.jr_table.specs.Prelude.{prelude_rows}
-use Rattle.jr_table.specs.Sites.{sites_of}
+use Rattle.jr_table.specs.Declared.{declarations_of}
 use Rattle.jr_table.specs.Context.{Context, local_key}
 use Rattle.jr_table.specs.Errors.{Part, class_part, member_part, InMember, InClasses, Binds}
 use Rattle.jr_rewrite.specs.Rewrites.{declared_by}
@@ -94,7 +94,7 @@ module _ {A : Type 0} (begins : A → ℕ → ℕ) (rows : List Row) (super_at :
     pub unit : syntax.Unit A
     pub stands : slice_get units file ≡ Some unit
     pub member : MemberKey
-    pub names : InClasses begins (sites_of begins units)
+    pub names : InClasses begins (declarations_of begins units)
         (λ k base part. PartDeclares begins k base part at d
         ⊎ Binds begins rows (super_at k) k base part at d) (begins unit.mark 0) unit.classes member
 

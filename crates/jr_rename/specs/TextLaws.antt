@@ -17,7 +17,7 @@ use Rattle.jr_table.specs.Decls.{
 }
 use Rattle.jr_table.specs.Rows.{Row}
 use Rattle.jr_table.specs.Entries.{IsRowOf}
-use Rattle.jr_table.specs.Sites.{Site, sites_of}
+use Rattle.jr_table.specs.Declared.{DeclaredItem, declarations_of}
 use Rattle.jr_table.specs.ProgramRows.{AreProgramRows}
 use Rattle.jr_table.specs.Context.{Context}
 use Rattle.jr_spell.specs.Binds.{is_dot}
@@ -55,12 +55,12 @@ abbrev pub RowsAreNamed : Type 0 → Type 0
 RowsAreNamed A = (begins : A → ℕ → ℕ) (rows : List Row) (units : List (UnitTree A))
     → ((file : ℕ) (unit : UnitTree A) → slice_get units file ≡ Some unit
     → (bytes : List ℕ) × Reads bytes unit)
-    → AreProgramRows (sites_of begins units) rows → AreNamed rows × HaveNoDots rows
+    → AreProgramRows (declarations_of begins units) rows → AreNamed rows × HaveNoDots rows
 
 abbrev pub RenamedTextsRead : Type 0 → Type 0
 RenamedTextsRead A = (tells : A → ℕ → Span) (rows : List Row) (g : Renaming)
-    (super_at : Context → ℕ) (sites : List Site) (bytes : List ℕ) (unit : UnitTree A)
+    (super_at : Context → ℕ) (declarations : List DeclaredItem) (bytes : List ℕ) (unit : UnitTree A)
     (o : Rewritten (UnitTree A)) → AreNamed rows → IsName g.name
     → ReadsWithSpans tells bytes unit
-    → RewritesUnit tells (spelling (λ m b. (tells m b).from) rows g super_at) sites unit o
+    → RewritesUnit tells (spelling (λ m b. (tells m b).from) rows g super_at) declarations unit o
     → IsRewritten bytes o

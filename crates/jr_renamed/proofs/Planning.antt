@@ -11,7 +11,7 @@ use Rattle.jr_grammar.specs.Reads.{Reads}
 use Rattle.jr_table.specs.Decls.{Decl, class_decl, field_decl, method_decl, constructor_decl, local_decl}
 use Rattle.jr_table.specs.Context.{Context}
 use Rattle.jr_table.specs.Faults.{PackageLine, IsClean}
-use Rattle.jr_table.specs.Sites.{Site, sites_of}
+use Rattle.jr_table.specs.Declared.{DeclaredItem, declarations_of}
 use Rattle.jr_names.specs.Refusals.{prelude_method}
 use Rattle.jr_bind.specs.Programs.{File, Program, units_of}
 use Rattle.jr_places.specs.FileParts.{begins}
@@ -33,11 +33,11 @@ some_of f None y e = absurd cc
 some_of f (Some x) y e = let same : f x ≡ y = cc in (x, refl, same)
 
 -- each unit is rewritten
-one_unit : (C : Choosing Span) (sites : List Site) (us : List (UnitTree Span)) (os : List (Rewritten (UnitTree Span))) → RewritesUnits itself C sites us os → (i : ℕ) (u : UnitTree Span) → slice_get us i ≡ Some u → (o : Rewritten (UnitTree Span)) × (slice_get os i ≡ Some o) × RewritesUnit itself C sites u o
-one_unit C sites [] os h i u e = absurd (none-some u e)
-one_unit C sites (v ∷ us) os (o, ps, r, rest, are) zero u e = (o, ap (λ (l : List (Rewritten (UnitTree Span))). slice_get l 0) are, subst (λ (x : UnitTree Span). RewritesUnit itself C sites x o) (same_Some v u e) r)
-one_unit C sites (v ∷ us) os (o, ps, r, rest, are) (suc i) u e =
-    let m = one_unit C sites us ps rest i u e in
+one_unit : (C : Choosing Span) (declarations : List DeclaredItem) (us : List (UnitTree Span)) (os : List (Rewritten (UnitTree Span))) → RewritesUnits itself C declarations us os → (i : ℕ) (u : UnitTree Span) → slice_get us i ≡ Some u → (o : Rewritten (UnitTree Span)) × (slice_get os i ≡ Some o) × RewritesUnit itself C declarations u o
+one_unit C declarations [] os h i u e = absurd (none-some u e)
+one_unit C declarations (v ∷ us) os (o, ps, r, rest, are) zero u e = (o, ap (λ (l : List (Rewritten (UnitTree Span))). slice_get l 0) are, subst (λ (x : UnitTree Span). RewritesUnit itself C declarations x o) (same_Some v u e) r)
+one_unit C declarations (v ∷ us) os (o, ps, r, rest, are) (suc i) u e =
+    let m = one_unit C declarations us ps rest i u e in
     (m.0, ap (λ (l : List (Rewritten (UnitTree Span))). slice_get l (suc i)) are ∙ m.1, m.2)
 
 module _ (p : Program Span) (text : List ℕ) (file at : ℕ) (new : List ℕ) (edits : List (List Entry)) (renaming : List (Decl × Decl)) (respelled : ℕ) (is : IsPlanIn p text file at new edits renaming respelled) (named : RowsAreNamed Span) where
@@ -60,8 +60,8 @@ module _ (p : Program Span) (text : List ℕ) (file at : ℕ) (new : List ℕ) (
   new_text law i f stands =
       let C = spelling (λ m b. (itself m b).from) p.rows is.planned.g (λ (c : Context). p.super_at c.member) in
       let unit : slice_get (units_of p) i ≡ Some f.unit = slice_get-map (λ (x : File Span). x.unit) p.files i ∙ ap (option_map (λ (x : File Span). x.unit)) stands in
-      let o = one_unit C (sites_of begins (units_of p)) (units_of p) is.planned.files is.planned.rewrite i f.unit unit in
-      let r : IsRewritten f.text o.0 = law itself p.rows is.planned.g (λ (c : Context). p.super_at c.member) (sites_of begins (units_of p)) f.text f.unit o.0 names.0
+      let o = one_unit C (declarations_of begins (units_of p)) (units_of p) is.planned.files is.planned.rewrite i f.unit unit in
+      let r : IsRewritten f.text o.0 = law itself p.rows is.planned.g (λ (c : Context). p.super_at c.member) (declarations_of begins (units_of p)) f.text f.unit o.0 names.0
       (subst (λ (n : List ℕ). IsName n) (sym name_is) is.name) (is.program.reads i f stands) o.2 in
       let edit : slice_get edits i ≡ Some (entries_of o.0.changes) = ap (λ (l : List (List Entry)). slice_get l i) is.planned.edits_are
       ∙ slice_get-map (λ (x : Rewritten (UnitTree Span)). entries_of x.changes) is.planned.files i ∙ ap (option_map (λ (x : Rewritten (UnitTree Span)). entries_of x.changes)) o.1 in (
@@ -93,10 +93,10 @@ module _ (p : Program Span) (text : List ℕ) (file at : ℕ) (new : List ℕ) (
   abbrev New : List (UnitTree Span) → Type 0
   New news = map without_marks news ≡ map (λ (o : Rewritten (UnitTree Span)). without_marks o.tree) is.planned.files
 
-  becomes : PlansBecome Span Span → (packages : List (Option PackageLine)) → IsClean packages (sites_of begins (units_of p)) → (news : List (UnitTree Span)) → New news → Becomes itself begins packages p.rows p.super_at (units_of p) is.planned.target is.planned.g news
+  becomes : PlansBecome Span Span → (packages : List (Option PackageLine)) → IsClean packages (declarations_of begins (units_of p)) → (news : List (UnitTree Span)) → New news → Becomes itself begins packages p.rows p.super_at (units_of p) is.planned.target is.planned.g news
   becomes law packages clean news e = law itself begins packages p.rows p.super_at (units_of p) news text file at new edits renaming respelled is.planned is.program.are_rows is.program.rows clean names.1 e
 
-  pub are_images : PlansBecome Span Span → LocalsGiveImages Span Span → FieldsGiveImages Span Span → MethodsGiveImages Span Span → IsNoClass is.planned.target → (packages : List (Option PackageLine)) → IsClean packages (sites_of begins (units_of p)) → (news : List (UnitTree Span)) → New news
+  pub are_images : PlansBecome Span Span → LocalsGiveImages Span Span → FieldsGiveImages Span Span → MethodsGiveImages Span Span → IsNoClass is.planned.target → (packages : List (Option PackageLine)) → IsClean packages (declarations_of begins (units_of p)) → (news : List (UnitTree Span)) → New news
       → AreImages itself begins packages p.rows (units_of p) is.planned.g news
   are_images plans locals fields methods kind packages clean news e = by is.planned.target kind (becomes plans packages clean news e)
     where

@@ -16,7 +16,7 @@ use Rattle.jr_table.specs.Decls.{
   local_decl,
 }
 use Rattle.jr_table.specs.Faults.{PackageLine, IsClean}
-use Rattle.jr_table.specs.Sites.{sites_of}
+use Rattle.jr_table.specs.Declared.{declarations_of}
 use Rattle.jr_bind.specs.Programs.{File, Program, IsProgram, units_of}
 use Rattle.jr_places.specs.FileParts.{begins}
 use Rattle.jr_rewrite.specs.AlongMembers.{AlongUnits}
@@ -64,7 +64,7 @@ ReferencesStay = (p : Program Span) (text : List ℕ) (file at : ℕ) (new : Lis
     → AlongUnits begins begins (IsKept begins begins is.planned.g p.rows)
     (IsWritten begins begins is.planned.g p.rows) (IsSuperKept is.planned.g p.rows)
     (IsParentKept is.planned.g p.rows) (member_to is.planned.g)
-    (sites_of begins (units_of p)) (units_of p) (trees_of is.planned.files)
+    (declarations_of begins (units_of p)) (units_of p) (trees_of is.planned.files)
 
 -- what is renamed is no class
 abbrev pub IsNoClass : Decl → Type 0
@@ -90,7 +90,7 @@ abbrev pub NewProgramsStayClean : Type 0
 NewProgramsStayClean = (p : Program Span) (text : List ℕ) (file at : ℕ) (new : List ℕ)
     (edits : List (List Entry)) (renaming : List (Decl × Decl)) (respelled : ℕ)
     → (is : IsPlanIn p text file at new edits renaming respelled) → IsNoClass is.planned.target
-    → (packages : List (Option PackageLine)) → IsClean packages (sites_of begins (units_of p))
+    → (packages : List (Option PackageLine)) → IsClean packages (declarations_of begins (units_of p))
     → (news : List (UnitTree Span)) → map without_marks news
     ≡ map (λ (o : Rewritten (UnitTree Span)). without_marks o.tree) is.planned.files
     → AreImages itself begins packages p.rows (units_of p) is.planned.g news

@@ -6,7 +6,7 @@ use Rattle.jr_ast.specs.Tree as tree
 use Rattle.jr_ast.specs.MemberTree as syntax
 use Rattle.jr_table.specs.Keys.{ClassKey}
 use Rattle.jr_table.specs.Decls.{MemberKey, head}
-use Rattle.jr_table.specs.Sites.{Site, class_key}
+use Rattle.jr_table.specs.Declared.{DeclaredItem, class_key}
 use Rattle.jr_table.specs.Errors.{Part, class_part, member_part}
 use Rattle.jr_members.specs.WrittenMembers.{WrittenMember}
 use Rattle.jr_rewrite.specs.Rewritten.{Rewritten, plain, within, joined}
@@ -73,9 +73,9 @@ module _ {A : Type 0} (tells : A → ℕ → Span) (C : Choosing A) where
   of_right file [] vs h = h
   of_right file (u ∷ us) vs h = of_right file us vs h.1
 
-  module _ (sites : List Site) (file : ℕ) where
-    one_gives : (base : ℕ) (of : ClassKey) (x : syntax.Member A) (ws : List (WrittenMember A)) (e : Effect) → OfFile file ws → OfOne begins sites base of x ws → AllGive tells C file ws e
-        → (o : Rewritten (syntax.Member A)) × ByKey tells C sites base of x o × (e ≡ effect_of o)
+  module _ (declarations : List DeclaredItem) (file : ℕ) where
+    one_gives : (base : ℕ) (of : ClassKey) (x : syntax.Member A) (ws : List (WrittenMember A)) (e : Effect) → OfFile file ws → OfOne begins declarations base of x ws → AllGive tells C file ws e
+        → (o : Rewritten (syntax.Member A)) × ByKey tells C declarations base of x o × (e ≡ effect_of o)
     one_gives base of x ws e own (w, k, is, declares, as_is) h =
         let f = first_gives file w k base (member_part x) [] e as_is (subst (OfFile file) is own) (subst (λ xs. AllGive tells C file xs e) is h) in
         let g = f.gives in
@@ -84,8 +84,8 @@ module _ {A : Type 0} (tells : A → ℕ → Span) (C : Choosing A) where
     mutual
       unfolding OfClass OfMembers OfMember RewritesClass RewritesMembers RewritesOne
 
-      class_gives : (base : ℕ) (outer : Option (List ℕ)) (c : syntax.Class A) (ws : List (WrittenMember A)) (e : Effect) → OfFile file ws → OfClass begins sites base outer c ws → AllGive tells C file ws e
-          → (o : Rewritten (syntax.Class A)) × RewritesClass tells C sites base outer c o × (e ≡ effect_of o)
+      class_gives : (base : ℕ) (outer : Option (List ℕ)) (c : syntax.Class A) (ws : List (WrittenMember A)) (e : Effect) → OfFile file ws → OfClass begins declarations base outer c ws → AllGive tells C file ws e
+          → (o : Rewritten (syntax.Class A)) × RewritesClass tells C declarations base outer c o × (e ≡ effect_of o)
       class_gives base outer (syntax.class m mods w t ms) ws e own (h, rest, is, as_is, members) gives =
           let whole = subst (OfFile file) is own in
           let f = first_gives file h (head (class_key begins outer w.text)) base (class_part (syntax.class m mods w t ms)) rest e as_is whole (subst (λ xs. AllGive tells C file xs e) is gives) in
@@ -96,8 +96,8 @@ module _ {A : Type 0} (tells : A → ℕ → Span) (C : Choosing A) where
             f.is ∙ (λ i. both (p.2 i) (q.2 i)),
           )
 
-      members_give : (base : ℕ) (of : ClassKey) (xs : syntax.Members A) (ws : List (WrittenMember A)) (e : Effect) → OfFile file ws → OfMembers begins sites base of xs ws → AllGive tells C file ws e
-          → (o : Rewritten (syntax.Members A)) × RewritesMembers tells C sites base of xs o × (e ≡ effect_of o)
+      members_give : (base : ℕ) (of : ClassKey) (xs : syntax.Members A) (ws : List (WrittenMember A)) (e : Effect) → OfFile file ws → OfMembers begins declarations base of xs ws → AllGive tells C file ws e
+          → (o : Rewritten (syntax.Members A)) × RewritesMembers tells C declarations base of xs o × (e ≡ effect_of o)
       members_give base of syntax.end ws e own is gives = (plain syntax.end, refl, subst (λ xs. AllGive tells C file xs e) is gives)
       members_give base of (syntax.more x xs) ws e own (us, vs, is, one, more) gives =
           let whole = subst (OfFile file) is own in
@@ -106,8 +106,8 @@ module _ {A : Type 0} (tells : A → ℕ → Span) (C : Choosing A) where
           let q = members_give base of xs vs s.second (of_right file us vs whole) more s.other in
           (joined (λ y ys. syntax.more y ys) p.0 q.0, (p.0, q.0, p.1, q.1, refl), s.is ∙ (λ i. both (p.2 i) (q.2 i)))
 
-      member_gives : (base : ℕ) (of : ClassKey) (x : syntax.Member A) (ws : List (WrittenMember A)) (e : Effect) → OfFile file ws → OfMember begins sites base of x ws → AllGive tells C file ws e
-          → (o : Rewritten (syntax.Member A)) × RewritesOne tells C sites base of x o × (e ≡ effect_of o)
+      member_gives : (base : ℕ) (of : ClassKey) (x : syntax.Member A) (ws : List (WrittenMember A)) (e : Effect) → OfFile file ws → OfMember begins declarations base of x ws → AllGive tells C file ws e
+          → (o : Rewritten (syntax.Member A)) × RewritesOne tells C declarations base of x o × (e ≡ effect_of o)
       member_gives base of (syntax.inner m c) ws e own h gives =
           let p = class_gives (begins m base) (Some of.name) c ws e own h gives in
           (within (λ d. syntax.inner m d) p.0, (p.0, p.1, refl), p.2)
@@ -115,8 +115,8 @@ module _ {A : Type 0} (tells : A → ℕ → Span) (C : Choosing A) where
       member_gives base of (syntax.method m mods t w ps body) ws e own h gives = one_gives base of (syntax.method m mods t w ps body) ws e own h gives
       member_gives base of (syntax.constructor m mods w ps args body) ws e own h gives = one_gives base of (syntax.constructor m mods w ps args body) ws e own h gives
 
-    classes_give : (base : ℕ) (cs : List (syntax.Class A)) (ws : List (WrittenMember A)) (e : Effect) → OfFile file ws → OfClasses begins sites base cs ws → AllGive tells C file ws e
-        → (o : Rewritten (List (syntax.Class A))) × RewritesClasses tells C sites base cs o × (e ≡ effect_of o)
+    classes_give : (base : ℕ) (cs : List (syntax.Class A)) (ws : List (WrittenMember A)) (e : Effect) → OfFile file ws → OfClasses begins declarations base cs ws → AllGive tells C file ws e
+        → (o : Rewritten (List (syntax.Class A))) × RewritesClasses tells C declarations base cs o × (e ≡ effect_of o)
     classes_give base [] ws e own is gives = (plain [], refl, subst (λ xs. AllGive tells C file xs e) is gives)
     classes_give base (c ∷ cs) ws e own (us, vs, is, one, more) gives =
         let whole = subst (OfFile file) is own in
@@ -125,15 +125,15 @@ module _ {A : Type 0} (tells : A → ℕ → Span) (C : Choosing A) where
         let q = classes_give base cs vs s.second (of_right file us vs whole) more s.other in
         (joined (λ d ds. d ∷ ds) p.0 q.0, (p.0, q.0, p.1, q.1, refl), s.is ∙ (λ i. both (p.2 i) (q.2 i)))
 
-    unit_gives : (u : syntax.Unit A) (ws : List (WrittenMember A)) (e : Effect) → OfFile file ws → OfClasses begins sites (begins u.mark 0) u.classes ws → AllGive tells C file ws e
-        → (o : Rewritten (syntax.Unit A)) × RewritesUnit tells C sites u o × (e ≡ effect_of o)
+    unit_gives : (u : syntax.Unit A) (ws : List (WrittenMember A)) (e : Effect) → OfFile file ws → OfClasses begins declarations (begins u.mark 0) u.classes ws → AllGive tells C file ws e
+        → (o : Rewritten (syntax.Unit A)) × RewritesUnit tells C declarations u o × (e ≡ effect_of o)
     unit_gives u ws e own h gives =
         let p = classes_give (begins u.mark 0) u.classes ws e own h gives in
         (within (λ cs. record { mark = u.mark; package_name = u.package_name; classes = cs }) p.0, (p.0, p.1, refl), p.2)
 
-  module _ (sites : List Site) where
+  module _ (declarations : List DeclaredItem) where
     -- files behind one give nothing to it
-    none_behind : (file first : ℕ) (us : List (syntax.Unit A)) (ws : List (WrittenMember A)) (e : Effect) → file < first → OfUnits begins sites first us ws → AllGive tells C file ws e → e ≡ no_effect
+    none_behind : (file first : ℕ) (us : List (syntax.Unit A)) (ws : List (WrittenMember A)) (e : Effect) → file < first → OfUnits begins declarations first us ws → AllGive tells C file ws e → e ≡ no_effect
     none_behind file first [] ws e less is h = subst (λ xs. AllGive tells C file xs e) is h
     none_behind file first (u ∷ us) ws e less (xs, ys, is, own, classes, rest) h =
         let s = split file xs ys e (subst (λ zs. AllGive tells C file zs e) is h) in
@@ -144,15 +144,15 @@ module _ {A : Type 0} (tells : A → ℕ → Span) (C : Choosing A) where
     inside : {X : Type 0} (x y : X) → Some x ≡ Some y → x ≡ y
     inside x y e = cc
 
-    pub file_gives : (first i : ℕ) (us : List (syntax.Unit A)) (u : syntax.Unit A) (ws : List (WrittenMember A)) (e : Effect) → slice_get us i ≡ Some u → OfUnits begins sites first us ws
-        → AllGive tells C (first + i) ws e → (o : Rewritten (syntax.Unit A)) × RewritesUnit tells C sites u o × (e ≡ effect_of o)
+    pub file_gives : (first i : ℕ) (us : List (syntax.Unit A)) (u : syntax.Unit A) (ws : List (WrittenMember A)) (e : Effect) → slice_get us i ≡ Some u → OfUnits begins declarations first us ws
+        → AllGive tells C (first + i) ws e → (o : Rewritten (syntax.Unit A)) × RewritesUnit tells C declarations u o × (e ≡ effect_of o)
     file_gives first i [] u ws e at h gives = absurd cc
     file_gives first zero (v ∷ us) u ws e at (xs, ys, is, own, classes, rest) gives =
         let here : first + 0 ≡ first = omega arith in
         let s = split first xs ys e (subst (λ n. AllGive tells C n (xs ++ ys) e) here (subst (λ zs. AllGive tells C (first + 0) zs e) is gives)) in
-        let p = unit_gives sites first v xs s.first own classes s.one in
+        let p = unit_gives declarations first v xs s.first own classes s.one in
         let none = none_behind first (suc first) us ys s.second (omega arith) rest s.other in
-        subst (λ (x : syntax.Unit A). (o : Rewritten (syntax.Unit A)) × RewritesUnit tells C sites x o × (e ≡ effect_of o)) (inside v u at)
+        subst (λ (x : syntax.Unit A). (o : Rewritten (syntax.Unit A)) × RewritesUnit tells C declarations x o × (e ≡ effect_of o)) (inside v u at)
         (p.0, p.1, s.is ∙ ap (both s.first) none ∙ both_none s.first ∙ p.2)
     file_gives first (suc i) (v ∷ us) u ws e at (xs, ys, is, own, classes, rest) gives =
         let here : first + suc i ≡ suc first + i = omega arith in

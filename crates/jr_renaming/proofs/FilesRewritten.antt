@@ -6,7 +6,7 @@ use Rattle.jr_ast.specs.MemberTree as syntax
 use Rattle.jr_table.specs.Decls.{MemberKey}
 use Rattle.jr_table.specs.Rows.{Row}
 use Rattle.jr_table.specs.Context.{Context}
-use Rattle.jr_table.specs.Sites.{Site, sites_of}
+use Rattle.jr_table.specs.Declared.{DeclaredItem, declarations_of}
 use Rattle.jr_table.specs.ProgramRows.{AreProgramRows}
 use Rattle.jr_members.specs.WrittenMembers.{written_members}
 use Rattle.jr_rewrite.specs.Rewritten.{Rewritten}
@@ -19,14 +19,14 @@ use Rattle.jr_renaming.specs.FileLaws.{AreGathered, AreRewritten}
 use Rattle.jr_renaming.proofs.Ordered.{members_in_order}
 use Rattle.jr_renaming.proofs.Assembling.{file_gives}
 
-module _ {A : Type 0} (tells : A → ℕ → Span) (C : Choosing A) (sites : List Site) where
+module _ {A : Type 0} (tells : A → ℕ → Span) (C : Choosing A) (declarations : List DeclaredItem) where
   abbrev Gives : syntax.Unit A → Effect → Type 0
-  Gives u e = (o : Rewritten (syntax.Unit A)) × RewritesUnit tells C sites u o × (e ≡ effect_of o)
+  Gives u e = (o : Rewritten (syntax.Unit A)) × RewritesUnit tells C declarations u o × (e ≡ effect_of o)
 
   -- one behind the other
   units_give : (us : List (syntax.Unit A)) (es : List Effect) → length es ≡ length us
       → ((i : ℕ) (u : syntax.Unit A) (e : Effect) → slice_get us i ≡ Some u → slice_get es i ≡ Some e → Gives u e)
-      → (os : List (Rewritten (syntax.Unit A))) × RewritesUnits tells C sites us os × (map (λ (o : Rewritten (syntax.Unit A)). effect_of o) os ≡ es)
+      → (os : List (Rewritten (syntax.Unit A))) × RewritesUnits tells C declarations us os × (map (λ (o : Rewritten (syntax.Unit A)). effect_of o) os ≡ es)
   units_give [] [] same each = ([], refl, refl)
   units_give [] (e ∷ es) same each = absurd (omega (arith, same))
   units_give (u ∷ us) [] same each = absurd (omega (arith, same))
@@ -42,11 +42,11 @@ module _ {A : Type 0} (tells : A → ℕ → Span) (rows : List Row) (super_at :
   abbrev C : Choosing A
   C = spelling begins rows g (λ (c : Context). super_at c.member)
 
-  pub are_rewritten : (es : List Effect) → AreProgramRows (sites_of begins units) rows → AreGathered tells rows super_at units g es → AreRewritten tells rows super_at units g es
+  pub are_rewritten : (es : List Effect) → AreProgramRows (declarations_of begins units) rows → AreGathered tells rows super_at units g es → AreRewritten tells rows super_at units g es
   are_rewritten es program gathered =
       let ordered = members_in_order begins units rows program in
-      let all = units_give tells C (sites_of begins units) units es gathered.one_each
-      (λ i u e at_u at_e. file_gives tells C (sites_of begins units) 0 i units u (written_members begins rows units) e at_u ordered
+      let all = units_give tells C (declarations_of begins units) units es gathered.one_each
+      (λ i u e at_u at_e. file_gives tells C (declarations_of begins units) 0 i units u (written_members begins rows units) e at_u ordered
       (subst (λ n. AllGive tells C n (written_members begins rows units) e) (counted i) (gathered.each i e at_e))) in
       record { files = all.0; are = all.1; effects = all.2 }
     where

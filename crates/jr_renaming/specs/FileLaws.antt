@@ -5,7 +5,7 @@ use Rattle.jr_ast.specs.MemberTree as syntax
 use Rattle.jr_table.specs.Decls.{MemberKey}
 use Rattle.jr_table.specs.Rows.{Row}
 use Rattle.jr_table.specs.Context.{Context}
-use Rattle.jr_table.specs.Sites.{sites_of}
+use Rattle.jr_table.specs.Declared.{declarations_of}
 use Rattle.jr_table.specs.ProgramRows.{AreProgramRows}
 use Rattle.jr_members.specs.WrittenMembers.{written_members}
 use Rattle.jr_rewrite.specs.Rewritten.{Rewritten}
@@ -35,5 +35,5 @@ module _ {A : Type 0} (tells : A → ℕ → Span) (rows : List Row) (super_at :
 abbrev pub FilesAreRewritten : Type 0 → Type 0
 FilesAreRewritten A = (tells : A → ℕ → Span) (rows : List Row) (super_at : MemberKey → ℕ)
     (units : List (syntax.Unit A)) (g : Renaming) (es : List Effect)
-    → AreProgramRows (sites_of (λ m b. (tells m b).from) units) rows
+    → AreProgramRows (declarations_of (λ m b. (tells m b).from) units) rows
     → AreGathered tells rows super_at units g es → AreRewritten tells rows super_at units g es

@@ -12,7 +12,7 @@ use Rattle.jr_table.specs.Binding.{value}
 use Rattle.jr_table.specs.Binding as role
 use Rattle.jr_table.specs.Context.{Context, local_of, in_own, after, locals_in}
 use Rattle.jr_table.specs.HeadRules.{plain as no_locals, with_parameters, is_static_member}
-use Rattle.jr_table.specs.Sites.{Site, class_key}
+use Rattle.jr_table.specs.Declared.{DeclaredItem, class_key}
 use Rattle.jr_rewrite.specs.Respellings.{Choice, text_of}
 use Rattle.jr_rewrite.specs.Rewritten.{Rewritten}
 use Rattle.jr_rewrite.specs.Suitable.{AreSuitable}
@@ -102,7 +102,7 @@ module _ {A : Type 0} (tells : A → ℕ → Span) (C : Choosing A) where
     parent_shaped outer base None o w h = subst (λ z. IsParent z.tree) (sym w) tt
     parent_shaped outer base (Some t) o w h = subst (λ z. IsParent z.tree) (sym w.2) (type_named tells C (C.parent_qualifier outer base t) (C.parent outer base t) base t w.0 w.1 h)
 
-    module _ (sites : List Site) where
+    module _ (declarations : List DeclaredItem) where
       -- The class's own word, and each that a constructor of it has, become one.
       abbrev Renames : ClassKey → (name new : List ℕ) → Type 0
       Renames of name new = (v : tree.Word A) (g : Choice) → v.text ≡ name → C.declared (class_decl of) v g → text_of g v.text ≡ new
@@ -110,7 +110,7 @@ module _ {A : Type 0} (tells : A → ℕ → Span) (C : Choosing A) where
       mutual
         unfolding RewritesClass RewritesMembers RewritesOne
 
-        class_shaped : (nested : Bool) (base : ℕ) (outer : Option (List ℕ)) (x : syntax.Class A) (o : Rewritten (syntax.Class A)) → RewritesClass tells C sites base outer x o
+        class_shaped : (nested : Bool) (base : ℕ) (outer : Option (List ℕ)) (x : syntax.Class A) (o : Rewritten (syntax.Class A)) → RewritesClass tells C declarations base outer x o
             → ClassShaped nested x → ClassShaped nested o.tree
         class_shaped nested base outer (syntax.class m mods v t ms) o w h =
             let at : ℕ = (tells m base).from in
@@ -125,14 +125,14 @@ module _ {A : Type 0} (tells : A → ℕ → Span) (C : Choosing A) where
             (parent_shaped outer at t head.1 head.3 h.0, subst (λ (z : Rewritten (tree.Word A)). MembersShaped nested z.tree.text w.1.tree) (sym named.2) members))
 
         members_shaped : (nested : Bool) (name new : List ℕ) → (base : ℕ) (of : ClassKey) → Renames of name new → (xs : syntax.Members A) (o : Rewritten (syntax.Members A))
-            → RewritesMembers tells C sites base of xs o → MembersShaped nested name xs → MembersShaped nested new o.tree
+            → RewritesMembers tells C declarations base of xs o → MembersShaped nested name xs → MembersShaped nested new o.tree
         members_shaped nested name new base of renames syntax.end o w h = subst (λ z. MembersShaped nested new z.tree) (sym w) tt
         members_shaped nested name new base of renames (syntax.more x xs) o w h =
             subst (λ z. MembersShaped nested new z.tree) (sym w.4)
             (one_shaped nested name new base of renames x w.0 w.2 h.0, members_shaped nested name new base of renames xs w.1 w.3 h.1)
 
         one_shaped : (nested : Bool) (name new : List ℕ) → (base : ℕ) (of : ClassKey) → Renames of name new → (x : syntax.Member A) (o : Rewritten (syntax.Member A))
-            → RewritesOne tells C sites base of x o → MemberShaped nested name x → MemberShaped nested new o.tree
+            → RewritesOne tells C declarations base of x o → MemberShaped nested name x → MemberShaped nested new o.tree
         one_shaped nested name new base of renames (syntax.inner m c) o w h =
             subst (λ z. MemberShaped nested new z.tree) (sym w.2) (h.0, class_shaped true (tells m base).from (Some of.name) c w.0 w.1 h.1)
         one_shaped nested name new base of renames (syntax.field m mods t v init) o w h =
@@ -151,9 +151,9 @@ module _ {A : Type 0} (tells : A → ℕ → Span) (C : Choosing A) where
             subst (λ z. MemberShaped nested new z.tree) (sym r.8)
             (text, super_call_shaped (with_parameters k true ps) at args r.2 r.6 h.1, stmts_shaped (length ps) (with_parameters k false ps) at body r.3 r.7 h.2)
 
-      classes_shaped : (base : ℕ) (xs : List (syntax.Class A)) (o : Rewritten (List (syntax.Class A))) → RewritesClasses tells C sites base xs o → ClassesShaped xs → ClassesShaped o.tree
+      classes_shaped : (base : ℕ) (xs : List (syntax.Class A)) (o : Rewritten (List (syntax.Class A))) → RewritesClasses tells C declarations base xs o → ClassesShaped xs → ClassesShaped o.tree
       classes_shaped base [] o w h = subst (λ z. ClassesShaped z.tree) (sym w) tt
       classes_shaped base (x ∷ xs) o w h = subst (λ z. ClassesShaped z.tree) (sym w.4) (class_shaped false base None x w.0 w.2 h.0, classes_shaped base xs w.1 w.3 h.1)
 
-      pub unit_shaped : (u : syntax.Unit A) (o : Rewritten (syntax.Unit A)) → RewritesUnit tells C sites u o → UnitShaped u → UnitShaped o.tree
+      pub unit_shaped : (u : syntax.Unit A) (o : Rewritten (syntax.Unit A)) → RewritesUnit tells C declarations u o → UnitShaped u → UnitShaped o.tree
       unit_shaped u o w h = subst (λ z. UnitShaped z.tree) (sym w.2) (classes_shaped (begins tells C u.mark 0) u.classes w.0 w.1 h)

@@ -18,7 +18,7 @@ use Rattle.jr_table.specs.Decls.{MemberKey, class_decl, local_decl}
 use Rattle.jr_table.specs.Binding.{value}
 use Rattle.jr_table.specs.Context.{Context}
 use Rattle.jr_table.specs.HeadRules.{plain as no_locals, with_parameters, is_static_member}
-use Rattle.jr_table.specs.Sites.{Site, class_key}
+use Rattle.jr_table.specs.Declared.{DeclaredItem, class_key}
 use Rattle.jr_rewrite.specs.Respellings.{Change}
 use Rattle.jr_rewrite.specs.Rewritten.{Rewritten}
 use Rattle.jr_rewrite.specs.Suitable.{AreSuitable}
@@ -165,11 +165,11 @@ module _ {A : Type 0} (tells : A → ℕ → Span) where
         (λ bs f. stmts_steps tells C fit (length params) (with_parameters k false params) at body w.3 bs w.7 f) end_steps)))))))))
     plain_member_steps k base (syntax.inner m of) o ps w h = absurd w
 
-    module _ (sites : List Site) where
+    module _ (declarations : List DeclaredItem) where
       mutual
         unfolding RewritesClass RewritesMembers RewritesOne
 
-        class_steps : (base : ℕ) (outer : Option (List ℕ)) (x : syntax.Class A) (o : Rewritten (syntax.Class A)) (ps : Tokens) → RewritesClass tells C sites base outer x o
+        class_steps : (base : ℕ) (outer : Option (List ℕ)) (x : syntax.Class A) (o : Rewritten (syntax.Class A)) (ps : Tokens) → RewritesClass tells C declarations base outer x o
             → Stands (spans_from tells base (class_layout x)) ps → Stepped ps o.changes (class_toks o.tree)
         class_steps base outer (syntax.class m mods v t ms) o ps w h =
             let at : ℕ = (tells m base).from in
@@ -191,7 +191,7 @@ module _ {A : Type 0} (tells : A → ℕ → Span) where
             (λ ys n. closing_steps ys cs (members_toks w.1.tree) (symbol CloseBrace ∷ []) n
             (λ zs b. members_steps at (class_key (begins tells C) outer v.text) ms w.1 zs w.3 b) end_steps))))))))
 
-        members_steps : (base : ℕ) (of : ClassKey) (xs : syntax.Members A) (o : Rewritten (syntax.Members A)) (ps : Tokens) → RewritesMembers tells C sites base of xs o
+        members_steps : (base : ℕ) (of : ClassKey) (xs : syntax.Members A) (o : Rewritten (syntax.Members A)) (ps : Tokens) → RewritesMembers tells C declarations base of xs o
             → Stands (spans_from tells base (members_layout xs)) ps → Stepped ps o.changes (members_toks o.tree)
         members_steps base of syntax.end o ps w h = subst (λ z. Stepped ps z.changes (members_toks z.tree)) (sym w) (none_steps ps h)
         members_steps base of (syntax.more x xs) o ps w h =
@@ -199,7 +199,7 @@ module _ {A : Type 0} (tells : A → ℕ → Span) where
             (both_steps ps w.0.changes w.1.changes (member_toks w.0.tree) (members_toks w.1.tree) h (λ qs g. one_steps base of x w.0 qs w.2 g)
             (λ qs g. last_steps qs w.1.changes (members_toks w.1.tree) g (λ rs l. members_steps base of xs w.1 rs w.3 l)))
 
-        one_steps : (base : ℕ) (of : ClassKey) (x : syntax.Member A) (o : Rewritten (syntax.Member A)) (ps : Tokens) → RewritesOne tells C sites base of x o
+        one_steps : (base : ℕ) (of : ClassKey) (x : syntax.Member A) (o : Rewritten (syntax.Member A)) (ps : Tokens) → RewritesOne tells C declarations base of x o
             → Stands (spans_from tells base (member_layout x)) ps → Stepped ps o.changes (member_toks o.tree)
         one_steps base of (syntax.inner m c) o ps w h =
             subst (λ z. Stepped ps z.changes (member_toks z.tree)) (sym w.2)
@@ -208,7 +208,7 @@ module _ {A : Type 0} (tells : A → ℕ → Span) where
         one_steps base of (syntax.method m mods t v params body) o ps w h = plain_member_steps w.0 base (syntax.method m mods t v params body) o ps w.2 h
         one_steps base of (syntax.constructor m mods v params args body) o ps w h = plain_member_steps w.0 base (syntax.constructor m mods v params args body) o ps w.2 h
 
-      classes_steps : (base : ℕ) (xs : List (syntax.Class A)) (o : Rewritten (List (syntax.Class A))) (ps : Tokens) → RewritesClasses tells C sites base xs o
+      classes_steps : (base : ℕ) (xs : List (syntax.Class A)) (o : Rewritten (List (syntax.Class A))) (ps : Tokens) → RewritesClasses tells C declarations base xs o
           → Stands (spans_from tells base (classes_layout xs)) ps → Stepped ps o.changes (classes_toks o.tree)
       classes_steps base [] o ps w h = subst (λ z. Stepped ps z.changes (classes_toks z.tree)) (sym w) (none_steps ps h)
       classes_steps base (x ∷ xs) o ps w h =
@@ -216,9 +216,9 @@ module _ {A : Type 0} (tells : A → ℕ → Span) where
           (both_steps ps w.0.changes w.1.changes (class_toks w.0.tree) (classes_toks w.1.tree) h (λ qs g. class_steps base None x w.0 qs w.2 g)
           (λ qs g. last_steps qs w.1.changes (classes_toks w.1.tree) g (λ rs l. classes_steps base xs w.1 rs w.3 l)))
 
-      pub unit_steps : (u : syntax.Unit A) (o : Rewritten (syntax.Unit A)) (ps : Tokens) → (tells u.mark 0).from ≡ 0 → RewritesUnit tells C sites u o
+      pub unit_steps : (u : syntax.Unit A) (o : Rewritten (syntax.Unit A)) (ps : Tokens) → (tells u.mark 0).from ≡ 0 → RewritesUnit tells C declarations u o
           → StandInOrder (all_spans_from tells 0 (unit_layouts u)) ps → Stepped ps o.changes (unit_toks o.tree)
       unit_steps u o ps at w h =
           subst (λ z. Stepped ps z.changes (unit_toks z.tree)) (sym w.2)
           (both_steps ps [] w.0.changes (package_toks u.package_name) (classes_toks w.0.tree) h (package_steps 0 u.package_name)
-          (λ qs g. last_steps qs w.0.changes (classes_toks w.0.tree) g (λ rs l. classes_steps 0 u.classes w.0 rs (subst (λ n. RewritesClasses tells C sites n u.classes w.0) at w.1) l)))
+          (λ qs g. last_steps qs w.0.changes (classes_toks w.0.tree) g (λ rs l. classes_steps 0 u.classes w.0 rs (subst (λ n. RewritesClasses tells C declarations n u.classes w.0) at w.1) l)))

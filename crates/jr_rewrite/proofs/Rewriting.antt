@@ -13,7 +13,7 @@ use Rattle.jr_grammar.specs.Bare.{Bare, no_mark, bare_unit}
 use Rattle.jr_grammar.specs.Reads.{Reads, ReadsWithSpans}
 use Rattle.jr_grammar.proofs.RemarkedShape.{unit_ignores_marks}
 use Rattle.jr_table.specs.Keys.{ClassKey}
-use Rattle.jr_table.specs.Sites.{Site}
+use Rattle.jr_table.specs.Declared.{DeclaredItem}
 use Rattle.jr_rewrite.specs.Respellings.{Change}
 use Rattle.jr_rewrite.specs.Rewritten.{Rewritten}
 use Rattle.jr_rewrite.specs.Edited.{entries_of}
@@ -41,10 +41,10 @@ woven_reads bytes cs u w shaped =
     }
 
 -- for any choices that suit
-pub rewritten_reads : {A : Type 0} (tells : A → ℕ → Span) (C : Choosing A) → AreSuitable C → (sites : List Site) (bytes : List ℕ) (u : UnitTree A) (o : Rewritten (UnitTree A))
-    → ReadsWithSpans tells bytes u → RewritesUnit tells C sites u o → IsRewritten bytes o
-rewritten_reads tells C fit sites bytes u o h w =
-    let s = unit_steps tells C fit sites u o (placed_of bytes h.items) (ap (λ (z : Span). z.from) h.file) w h.spans in
+pub rewritten_reads : {A : Type 0} (tells : A → ℕ → Span) (C : Choosing A) → AreSuitable C → (declarations : List DeclaredItem) (bytes : List ℕ) (u : UnitTree A) (o : Rewritten (UnitTree A))
+    → ReadsWithSpans tells bytes u → RewritesUnit tells C declarations u o → IsRewritten bytes o
+rewritten_reads tells C fit declarations bytes u o h w =
+    let s = unit_steps tells C fit declarations u o (placed_of bytes h.items) (ap (λ (z : Span). z.from) h.file) w h.spans in
     let all = steps_woven s.steps None h.items bytes [] bytes refl (lexes_tiled bytes h.items h.lexes) (sym s.olds_are) s.flow tt in
     let woven : Woven bytes [] bytes o.changes (unit_toks o.tree) =
     subst (λ ts. Woven bytes [] bytes o.changes ts) s.news_are (subst (λ cs. Woven bytes [] bytes cs (news s.steps)) s.changes_are all) in
@@ -52,7 +52,7 @@ rewritten_reads tells C fit sites bytes u o h w =
       in_order = in_order 0 bytes o.changes woven.fit;
       edits = edits bytes o.changes woven.fit;
       fits = fits bytes o.changes woven.fit;
-      reads = woven_reads bytes o.changes o.tree woven (unit_shaped tells C fit sites u o w h.is.shaped);
+      reads = woven_reads bytes o.changes o.tree woven (unit_shaped tells C fit declarations u o w h.is.shaped);
     }
 
 all_are_suitable : {A : Type 0} (new_name : ClassKey → List ℕ → List ℕ) → AreSuitable (all_suitable {A = A} new_name)
@@ -67,7 +67,7 @@ all_are_suitable {A} new_name = record {
 }
 
 pub rewritings_read : {A : Type 0} (tells : A → ℕ → Span) → RewritingsRead tells
-rewritings_read tells new_name sites bytes u o h w = rewritten_reads tells (all_suitable new_name) (all_are_suitable new_name) sites bytes u o h w
+rewritings_read tells new_name declarations bytes u o h w = rewritten_reads tells (all_suitable new_name) (all_are_suitable new_name) declarations bytes u o h w
 
 -- ---- read again
 

@@ -14,7 +14,7 @@ use Rattle.jr_table.specs.Entries.{is_static_word}
 use Rattle.jr_table.specs.Binding.{Role}
 use Rattle.jr_table.specs.Context.{Context, Local, known, parameters}
 use Rattle.jr_table.specs.HeadRules.{plain, types_of, with_parameters, is_static_member}
-use Rattle.jr_table.specs.Sites.{Site, class_key}
+use Rattle.jr_table.specs.Declared.{DeclaredItem, class_key}
 use Rattle.jr_rewrite.specs.Along.{AlongMaybe, AlongStmts}
 use Rattle.jr_rewrite.specs.AlongMembers.{mod_words, AlongParams, AlongResult, AlongSuper, AlongMember, AlongParent, AlongClass, AlongMembers, AlongOne, AlongClasses, AlongUnit}
 use Rattle.jr_rewrite.proofs.BareForms.{bare_maybe}
@@ -263,12 +263,12 @@ module _ {A B D : Type 0} (begins : A → ℕ → ℕ) (begins' : B → ℕ → 
         )
     plain_member_bare k b i j (syntax.inner m of) y z q a = absurd a
 
-    module _ (sites : List Site) where
+    module _ (declarations : List DeclaredItem) where
       mutual
         unfolding AlongClass AlongMembers AlongOne map_member map_members map_class
 
         pub class_bare : (b i j : ℕ) (outer : Option (List ℕ)) (x : syntax.Class A) (y : syntax.Class B) (z : syntax.Class D) → bare_class y ≡ bare_class z
-            → AlongClass begins begins' P T S H to sites b i outer x y → AlongClass begins begins'' P' T' S' H' to sites b j outer x z
+            → AlongClass begins begins' P T S H to declarations b i outer x y → AlongClass begins begins'' P' T' S' H' to declarations b j outer x z
         class_bare b i j outer (syntax.class m mods w u xs) y z q a =
             let r = class_back z (bare_modifiers a.1) (bare_word a.2) (bare_maybe_type a.3) (bare_members a.4) (sym q ∙ ap bare_class a.5) in (
               r.0,
@@ -283,14 +283,14 @@ module _ {A B D : Type 0} (begins : A → ℕ → ℕ) (begins' : B → ℕ → 
             )
 
         members_bare : (b i j : ℕ) (of : ClassKey) (xs : syntax.Members A) (y : syntax.Members B) (z : syntax.Members D) → bare_members y ≡ bare_members z
-            → AlongMembers begins begins' P T S H to sites b i of xs y → AlongMembers begins begins'' P' T' S' H' to sites b j of xs z
+            → AlongMembers begins begins' P T S H to declarations b i of xs y → AlongMembers begins begins'' P' T' S' H' to declarations b j of xs z
         members_bare b i j of syntax.end y z q a = end_back z (sym q ∙ ap bare_members a)
         members_bare b i j of (syntax.more x xs) y z q a =
             let r = more_back z (bare_member a.0) (bare_members a.1) (sym q ∙ ap bare_members a.2) in
             (r.0, r.1, r.2, one_bare b i j of x a.0 r.0 (sym r.3) a.3, members_bare b i j of xs a.1 r.1 (sym r.4) a.4)
 
         one_bare : (b i j : ℕ) (of : ClassKey) (x : syntax.Member A) (y : syntax.Member B) (z : syntax.Member D) → bare_member y ≡ bare_member z
-            → AlongOne begins begins' P T S H to sites b i of x y → AlongOne begins begins'' P' T' S' H' to sites b j of x z
+            → AlongOne begins begins' P T S H to declarations b i of x y → AlongOne begins begins'' P' T' S' H' to declarations b j of x z
         one_bare b i j of (syntax.inner m c) y z q a =
             let r = inner_back z (bare_class a.1) (sym q ∙ ap bare_member a.2) in
             (r.0, r.1, r.2, class_bare (begins m b) (begins' a.0 i) (begins'' r.0 j) (Some of.name) c a.1 r.1 (sym r.3) a.3)
@@ -299,13 +299,13 @@ module _ {A B D : Type 0} (begins : A → ℕ → ℕ) (begins' : B → ℕ → 
         one_bare b i j of (syntax.constructor m mods w ps args body) y z q a = (a.0, a.1, plain_member_bare a.0 b i j (syntax.constructor m mods w ps args body) y z q a.2)
 
       classes_bare : (b i j : ℕ) (xs : List (syntax.Class A)) (y : List (syntax.Class B)) (z : List (syntax.Class D)) → bare_classes y ≡ bare_classes z
-          → AlongClasses begins begins' P T S H to sites b i xs y → AlongClasses begins begins'' P' T' S' H' to sites b j xs z
+          → AlongClasses begins begins' P T S H to declarations b i xs y → AlongClasses begins begins'' P' T' S' H' to declarations b j xs z
       classes_bare b i j [] y z q a = no_classes_back z (sym q ∙ ap bare_classes a)
       classes_bare b i j (c ∷ cs) y z q a =
           let r = classes_back z (bare_class a.0) (bare_classes a.1) (sym q ∙ ap bare_classes a.2) in
           (r.0, r.1, r.2, class_bare b i j None c a.0 r.0 (sym r.3) a.3, classes_bare b i j cs a.1 r.1 (sym r.4) a.4)
 
-      pub unit_bare : (u : syntax.Unit A) (y : syntax.Unit B) (z : syntax.Unit D) → bare_unit y ≡ bare_unit z → AlongUnit begins begins' P T S H to sites u y
-          → AlongUnit begins begins'' P' T' S' H' to sites u z
+      pub unit_bare : (u : syntax.Unit A) (y : syntax.Unit B) (z : syntax.Unit D) → bare_unit y ≡ bare_unit z → AlongUnit begins begins' P T S H to declarations u y
+          → AlongUnit begins begins'' P' T' S' H' to declarations u z
       unit_bare u y z q a =
           classes_bare (begins u.mark 0) (begins' y.mark 0) (begins'' z.mark 0) u.classes y.classes z.classes (ap (λ (v : syntax.Unit Bare). v.classes) q) a

@@ -8,7 +8,7 @@ use Rattle.jr_grammar.specs.Bare.{bare_unit}
 use Rattle.jr_grammar.specs.Units.{OneUnit}
 use Rattle.jr_grammar.specs.Reads.{Reads, ReadsWithSpans}
 use Rattle.jr_table.specs.Keys.{ClassKey}
-use Rattle.jr_table.specs.Sites.{Site}
+use Rattle.jr_table.specs.Declared.{DeclaredItem}
 use Rattle.jr_rewrite.specs.Rewritten.{Rewritten}
 use Rattle.jr_rewrite.specs.Edited.{entries_of, AreInOrder}
 use Rattle.jr_rewrite.specs.Suitable.{all_suitable}
@@ -25,9 +25,9 @@ pub record IsRewritten {A : Type 0} (bytes : List ℕ) (o : Rewritten (UnitTree 
 -- Where each choice suits its place, the text of a rewritten file reads as its new tree.
 abbrev pub RewritingsRead : {A : Type 0} → (A → ℕ → Span) → Type 0
 RewritingsRead {A} tells =
-    (new_name : ClassKey → List ℕ → List ℕ) (sites : List Site) (bytes : List ℕ)
+    (new_name : ClassKey → List ℕ → List ℕ) (declarations : List DeclaredItem) (bytes : List ℕ)
     (unit : UnitTree A) (o : Rewritten (UnitTree A)) → ReadsWithSpans tells bytes unit
-    → RewritesUnit tells (all_suitable new_name) sites unit o → IsRewritten bytes o
+    → RewritesUnit tells (all_suitable new_name) declarations unit o → IsRewritten bytes o
 
 -- Whatever tree the new text is read as, it is the new one but for its marks, where no two units
 -- spell the same tokens and no text is cut in two ways.

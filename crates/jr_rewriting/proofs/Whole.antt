@@ -11,7 +11,7 @@ use Rattle.jr_lex.specs.Replacing.{IsName}
 use Rattle.jr_ast.specs.MemberTree as syntax
 use Rattle.jr_grammar.specs.Reads.{Reads, ReadsWithSpans}
 use Rattle.jr_table.specs.Context.{Context}
-use Rattle.jr_table.specs.Sites.{Site, sites_of}
+use Rattle.jr_table.specs.Declared.{DeclaredItem, declarations_of}
 use Rattle.jr_bind.specs.Programs.{File, Program, IsProgram, units_of}
 use Rattle.jr_places.specs.FileParts.{begins}
 use Rattle.jr_rewrite.specs.Respellings.{Loss}
@@ -120,19 +120,19 @@ module _ (p : Program Span) (g : Renaming) where
   pub gathered_all : (es : List Effect) → AreSoFar p g (members_of p) es → AreGathered itself p.rows p.super_at (units_of p) g es
   gathered_all es so = record { one_each = so.as_many ∙ sym (length-map p.files (λ (f : File Span). f.unit)); each = so.each }
 
-  each_unit : (sites : List Site) (us : List (syntax.Unit Span)) (os : List (Rewritten (syntax.Unit Span))) → RewritesUnits itself (spelling begins p.rows g (λ (c : Context). p.super_at c.member)) sites us os
+  each_unit : (declarations : List DeclaredItem) (us : List (syntax.Unit Span)) (os : List (Rewritten (syntax.Unit Span))) → RewritesUnits itself (spelling begins p.rows g (λ (c : Context). p.super_at c.member)) declarations us os
       → (i : ℕ) (o : Rewritten (syntax.Unit Span)) → slice_get os i ≡ Some o
-      → (u : syntax.Unit Span) × (slice_get us i ≡ Some u) × RewritesUnit itself (spelling begins p.rows g (λ (c : Context). p.super_at c.member)) sites u o
-  each_unit sites [] os h i o s = absurd (none os h i s)
+      → (u : syntax.Unit Span) × (slice_get us i ≡ Some u) × RewritesUnit itself (spelling begins p.rows g (λ (c : Context). p.super_at c.member)) declarations u o
+  each_unit declarations [] os h i o s = absurd (none os h i s)
     where
       none : (os : List (Rewritten (syntax.Unit Span))) → os ≡ [] → (i : ℕ) → slice_get os i ≡ Some o → ⊥
       none [] e i t = absurd cc
       none (x ∷ xs) e i t = absurd cc
-  each_unit sites (u ∷ us) os (q, qs, one, rest, is) zero o s =
+  each_unit declarations (u ∷ us) os (q, qs, one, rest, is) zero o s =
       let t : slice_get (q ∷ qs) zero ≡ Some o = ap (λ (xs : List (Rewritten (syntax.Unit Span))). slice_get xs zero) (sym is) ∙ s in
       let same : q ≡ o = cc in
-      (u, refl, subst (RewritesUnit itself (spelling begins p.rows g (λ (c : Context). p.super_at c.member)) sites u) same one)
-  each_unit sites (u ∷ us) os (q, qs, one, rest, is) (suc i) o s = each_unit sites us qs rest i o (ap (λ (xs : List (Rewritten (syntax.Unit Span))). slice_get xs (suc i)) (sym is) ∙ s)
+      (u, refl, subst (RewritesUnit itself (spelling begins p.rows g (λ (c : Context). p.super_at c.member)) declarations u) same one)
+  each_unit declarations (u ∷ us) os (q, qs, one, rest, is) (suc i) o s = each_unit declarations us qs rest i o (ap (λ (xs : List (Rewritten (syntax.Unit Span))). slice_get xs (suc i)) (sym is) ∙ s)
 
   pub reads_there : {tells : Span → ℕ → Span} {Fits : Span → ℕ → Type 0} → IsProgram tells Fits p → (file : ℕ) (unit : syntax.Unit Span) → slice_get (units_of p) file ≡ Some unit → (bytes : List ℕ) × ReadsWithSpans tells bytes unit
   reads_there {tells} h file unit e =
@@ -147,9 +147,9 @@ module _ (p : Program Span) (g : Renaming) where
       → (es : List Effect) → AreRewritten itself p.rows p.super_at (units_of p) g es → AllInOrder es
   in_order law named name reads es w i e s =
       let o = file_of w.files es w.effects i e s in
-      let u = each_unit (sites_of begins (units_of p)) (units_of p) w.files w.are i o.0 o.1 in
+      let u = each_unit (declarations_of begins (units_of p)) (units_of p) w.files w.are i o.0 o.1 in
       let r = reads i u.0 u.1 in
-      subst (λ (x : Effect). AreInOrder 0 x.changes) o.2 (law itself p.rows g (λ (c : Context). p.super_at c.member) (sites_of begins (units_of p)) r.0 u.0 o.0 named name r.1 u.2).in_order
+      subst (λ (x : Effect). AreInOrder 0 x.changes) o.2 (law itself p.rows g (λ (c : Context). p.super_at c.member) (declarations_of begins (units_of p)) r.0 u.0 o.0 named name r.1 u.2).in_order
 
   pub rewriting : (es : List Effect) (edits : List (List Entry)) (respelled : ℕ) (lost : Option (ℕ × Loss)) → AreRewritten itself p.rows p.super_at (units_of p) g es
       → edits ≡ map (λ (e : Effect). entries_of e.changes) es → respelled ≡ sum_by (λ (e : Effect). e.respelled) es → (lost ≡ None → LoseNothing es) → ((file : ℕ) (l : Loss) → lost ≡ Some (file, l) → IsFirstLoss es file l)

@@ -8,7 +8,7 @@ use Rattle.jr_ast.specs.MemberTree as syntax
 use Rattle.jr_table.specs.Decls.{MemberKey}
 use Rattle.jr_table.specs.Rows.{Row}
 use Rattle.jr_table.specs.Conditions.{AreRows}
-use Rattle.jr_table.specs.Sites.{sites_of}
+use Rattle.jr_table.specs.Declared.{declarations_of}
 use Rattle.jr_table.specs.Errors.{Part, InUnits}
 use Rattle.jr_members.specs.WrittenLaws.{IsWritten}
 use Rattle.jr_members.proofs.Anywhere.{written_member}
@@ -25,7 +25,7 @@ module _ (units : List (syntax.Unit Span)) (rows : List Row) where
   abbrev pub CanBind : MemberKey → (base : ℕ) → Part Span → Type 0
   CanBind k base part = FitsWhole begins (λ m at. Unit {0}) base part × BindsOnce begins rows 0 k base part
 
-  pub can_bind : (text : List ℕ) (items : List Item) → IsFile units 0 text items → length units ≡ 1 → AreRows rows → PartsArePlaced → (file : ℕ) (k : MemberKey) (base : ℕ) (part : Part Span) → IsWritten begins units file k base part → SuperStands items part 0 → InUnits begins (sites_of begins units) CanBind units k
+  pub can_bind : (text : List ℕ) (items : List Item) → IsFile units 0 text items → length units ≡ 1 → AreRows rows → PartsArePlaced → (file : ℕ) (k : MemberKey) (base : ℕ) (part : Part Span) → IsWritten begins units file k base part → SuperStands items part 0 → InUnits begins (declarations_of begins units) CanBind units k
   can_bind text items is one fit placed file k base part w stands =
       let lt = slice_get_within units file w.unit w.stands in
       let first : file ≡ 0 = omega (arith, lt, one) in

@@ -8,7 +8,7 @@ ghost use Rattle.jr_punit.specs.Parsing.{IsUnitOf};
 ghost use Rattle.jr_build.specs.Heads.{UnitsHeads};
 ghost use Rattle.jr_table.specs.Errors.{member_part};
 ghost use Rattle.jr_table.specs.ProgramRows.{AreProgramRows};
-ghost use Rattle.jr_table.specs.Sites.{sites_of};
+ghost use Rattle.jr_table.specs.Declared.{declarations_of};
 ghost use Rattle.jr_members.specs.PartView.{part_of};
 ghost use Rattle.jr_places.specs.FileParts.{begins, SuperStands};
 ghost use Rattle.jr_places.specs.PlaceLaws.{IsFile};
@@ -57,7 +57,7 @@ fn units_in(rt: &impl Abort, alloc: Global, text: &Text) -> Vec<Unit<Span>>
 fn table_in(rt: &impl Abort, alloc: Global, units: &[Unit<Span>]) -> Table
     requires heads { UnitsHeads (map unit_of units.now) }
     requires one { length units.now ≡ 1 }
-    ensures { AreProgramRows (sites_of begins (map unit_of units.now)) result }
+    ensures { AreProgramRows (declarations_of begins (map unit_of units.now)) result }
 {
     let words = vec![in alloc; 0; 1].expect(rt, "memory");
     let mut known = None;

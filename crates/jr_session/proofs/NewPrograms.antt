@@ -12,7 +12,7 @@ use Rattle.jr_grammar.specs.Layout.{itself}
 use Rattle.jr_table.specs.Rows.{Row}
 use Rattle.jr_table.specs.Conditions.{AreRows}
 use Rattle.jr_table.specs.Keyed.{DispatchesTo}
-use Rattle.jr_table.specs.Sites.{Site, sites_of}
+use Rattle.jr_table.specs.Declared.{DeclaredItem, declarations_of}
 use Rattle.jr_names.specs.declared.steps.Step.{Step}
 use Rattle.jr_names.specs.declared.steps.Step.TheVariants as step
 use Rattle.jr_names.specs.Replies.{Reply}
@@ -54,10 +54,10 @@ no_units_back : (zs : List (UnitTree Span)) → map bare_unit zs ≡ [] → zs �
 no_units_back [] e = refl
 no_units_back (z ∷ zs) e = absurd cc
 
-module _ (g : Renaming) (rows : List Row) (sites : List Site) where
+module _ (g : Renaming) (rows : List Row) (declarations : List DeclaredItem) where
   units_bare : (us ys zs : List (UnitTree Span)) → map bare_unit zs ≡ map bare_unit ys
-      → AlongUnits begins begins (IsKept begins begins g rows) (IsWritten begins begins g rows) (IsSuperKept g rows) (IsParentKept g rows) (member_to g) sites us ys
-      → AlongUnits begins begins (IsKept begins begins g rows) (IsWritten begins begins g rows) (IsSuperKept g rows) (IsParentKept g rows) (member_to g) sites us zs
+      → AlongUnits begins begins (IsKept begins begins g rows) (IsWritten begins begins g rows) (IsSuperKept g rows) (IsParentKept g rows) (member_to g) declarations us ys
+      → AlongUnits begins begins (IsKept begins begins g rows) (IsWritten begins begins g rows) (IsSuperKept g rows) (IsParentKept g rows) (member_to g) declarations us zs
   units_bare [] ys zs e h = no_units_back zs (e ∙ ap (map bare_unit) h)
   units_bare (u ∷ us) ys [] e (v, rest, is, first, more) = (let p = e ∙ ap (map bare_unit) is in absurd cc)
   units_bare (u ∷ us) ys (z ∷ zs) e (v, rest, is, first, more) =
@@ -68,7 +68,7 @@ module _ (g : Renaming) (rows : List Row) (sites : List Site) where
         zs,
         refl,
         unit_bare begins begins begins (IsKept begins begins g rows) (IsWritten begins begins g rows) (IsSuperKept g rows) (IsParentKept g rows) (IsKept begins begins g rows) (IsWritten begins begins g rows) (IsSuperKept g rows) (IsParentKept g rows) (member_to g)
-            (kept_bare begins begins g rows) (written_bare begins begins g rows) (super_kept_bare g rows) (parent_kept_bare g rows) sites u v z (sym one) first,
+            (kept_bare begins begins g rows) (written_bare begins begins g rows) (super_kept_bare g rows) (parent_kept_bare g rows) declarations u v z (sym one) first,
         units_bare us rest zs others more,
       )
 
@@ -129,7 +129,7 @@ module _ (one : OneReading Span) (named : RowsAreNamed Span) (dots : NamesHaveNo
       trees = trees;
       rows = new_images.0;
       images = new_images.1;
-      references = units_bare plan.planned.g p.rows (sites_of begins (units_of p)) (units_of p) (trees_of plan.planned.files) (units_of is.q) (trees ∙ sym (trees_bare plan.planned.files))
+      references = units_bare plan.planned.g p.rows (declarations_of begins (units_of p)) (units_of p) (trees_of plan.planned.files) (units_of is.q) (trees ∙ sym (trees_bare plan.planned.files))
           (references p is.short.plan.text is.short.plan.number at new is.edits is.short.plan.renaming n plan);
       dispatch = λ of m was runs.
           subst (λ (rows : List Row). DispatchesTo rows (class_to plan.planned.g of) (method_to plan.planned.g m) (method_to plan.planned.g was)) (sym new_images.0)

@@ -11,7 +11,7 @@ use Rattle.jr_grammar.specs.Reads.{Reads}
 use Rattle.jr_table.specs.Decls.{Decl, class_decl, field_decl, method_decl, constructor_decl, local_decl}
 use Rattle.jr_table.specs.Faults.{PackageLine, names_of, IsClean}
 use Rattle.jr_table.specs.ProgramRows.{AreProgramRows}
-use Rattle.jr_table.specs.Sites.{sites_of}
+use Rattle.jr_table.specs.Declared.{declarations_of}
 use Rattle.jr_build.specs.Heads.{UnitsHeads}
 use Rattle.jr_bind.specs.Programs.{File, Program, units_of}
 use Rattle.jr_places.specs.FileParts.{begins}
@@ -61,8 +61,8 @@ module _ (sources : List Source) (p : Program Span) (before : IsProgramOf source
     made : Made is.planned.target
     made = plans itself begins [] p.rows p.super_at (units_of p) (units_of q) text file at new edits renaming respelled is.planned is.program.are_rows is.program.rows is.program.clean (named begins p.rows (units_of p) reads is.program.rows).1 trees
 
-    once : AreProgramRows (sites_of begins (units_of q)) (rows_to g p.rows) → q.rows ≡ rows_to g p.rows
-    once rows = rows_once [] (sites_of begins (units_of q)) behind.is.clean q.rows (rows_to g p.rows) behind.is.rows rows
+    once : AreProgramRows (declarations_of begins (units_of q)) (rows_to g p.rows) → q.rows ≡ rows_to g p.rows
+    once rows = rows_once [] (declarations_of begins (units_of q)) behind.is.clean q.rows (rows_to g p.rows) behind.is.rows rows
 
     name_is : IsName g.name
     name_is = subst (λ (n : List ℕ). IsName n) (sym is.planned.renames.name) is.name
@@ -86,7 +86,7 @@ module _ (sources : List Source) (p : Program Span) (before : IsProgramOf source
               headed = heads_of sources p before;
               dotless = dots g.name name_is;
               new_rows = behind.is.rows;
-              clean = λ lines same. subst (λ (ls : List (Option PackageLine)). IsClean ls (sites_of begins (units_of q))) (sym (no_lines lines same)) behind.is.clean;
+              clean = λ lines same. subst (λ (ls : List (Option PackageLine)). IsClean ls (declarations_of begins (units_of q))) (sym (no_lines lines same)) behind.is.clean;
             }) in
             (r.1, r.0)
         by (class_decl k) e =

@@ -9,7 +9,7 @@ use Rattle.jr_grammar.specs.Bare.{bare_word}
 use Rattle.jr_table.specs.Decls.{Decl}
 use Rattle.jr_table.specs.Faults.{PackageLine, names_of, IsClean}
 use Rattle.jr_table.specs.ProgramRows.{AreProgramRows}
-use Rattle.jr_table.specs.Sites.{Site, sites_of}
+use Rattle.jr_table.specs.Declared.{DeclaredItem, declarations_of}
 use Rattle.jr_punit.specs.OneReading.{OneReading}
 use Rattle.jr_bind.specs.Programs.{Program, units_of}
 use Rattle.jr_places.specs.FileParts.{begins}
@@ -70,11 +70,11 @@ lines_names (u ∷ us) (w ∷ words) n =
     λ i. first i ∷ rest i
 
 -- packages stay
-packages_stay : (C : Choosing Span) (sites : List Site) (us : List (UnitTree Span)) (os : List (Rewritten (UnitTree Span))) → RewritesUnits itself C sites us os → map (λ (o : Rewritten (UnitTree Span)). package_of o.tree) os ≡ map package_of us
-packages_stay C sites [] os h = ap (λ (l : List (Rewritten (UnitTree Span))). map (λ (o : Rewritten (UnitTree Span)). package_of o.tree) l) h
-packages_stay C sites (u ∷ us) os (o, ps, r, rest, are) =
+packages_stay : (C : Choosing Span) (declarations : List DeclaredItem) (us : List (UnitTree Span)) (os : List (Rewritten (UnitTree Span))) → RewritesUnits itself C declarations us os → map (λ (o : Rewritten (UnitTree Span)). package_of o.tree) os ≡ map package_of us
+packages_stay C declarations [] os h = ap (λ (l : List (Rewritten (UnitTree Span))). map (λ (o : Rewritten (UnitTree Span)). package_of o.tree) l) h
+packages_stay C declarations (u ∷ us) os (o, ps, r, rest, are) =
     let first : package_of o.tree ≡ package_of u = ap (λ (x : Rewritten (UnitTree Span)). package_of x.tree) r.2 in
-    let more = packages_stay C sites us ps rest in
+    let more = packages_stay C declarations us ps rest in
     ap (λ (l : List (Rewritten (UnitTree Span))). map (λ (x : Rewritten (UnitTree Span)). package_of x.tree) l) are ∙ (λ i. first i ∷ more i)
 
 -- ---- the table
@@ -92,8 +92,8 @@ module _ (one : OneReading Span) (read : NewTextsRead) (law : NewProgramsStayCle
     units_before : units_of p ≡ before.units
     units_before = units_are sources p before
 
-    clean : IsClean old (sites_of begins (units_of p))
-    clean = subst (λ (us : List (UnitTree Span)). IsClean old (sites_of begins us)) (sym units_before) before.program.clean
+    clean : IsClean old (declarations_of begins (units_of p))
+    clean = subst (λ (us : List (UnitTree Span)). IsClean old (declarations_of begins us)) (sym units_before) before.program.clean
 
     read_as : map without_marks units ≡ map (λ (o : Rewritten (UnitTree Span)). without_marks o.tree) plan.planned.files
     read_as = trees read sources p before text number at new edits renaming respelled plan one units words are
@@ -107,7 +107,7 @@ module _ (one : OneReading Span) (read : NewTextsRead) (law : NewProgramsStayCle
         ∙ packages_stay _ _ (units_of p) plan.planned.files plan.planned.rewrite ∙ ap (map package_of) units_before
         ∙ sym (lines_names before.units before.words (as_many sources before.units before.words before.program.read))
 
-    table : AreProgram (with_edits sources edits) units words × AreProgramRows (sites_of begins units) (rows_to plan.planned.g p.rows)
+    table : AreProgram (with_edits sources edits) units words × AreProgramRows (declarations_of begins units) (rows_to plan.planned.g p.rows)
     table = (record { read = are; clean = images.clean (package_lines units words) same }, images.rows_are)
 
 pub new_tables : OneReading Span → NewTextsRead → NewProgramsStayClean → NewTables

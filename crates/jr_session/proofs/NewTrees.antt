@@ -11,7 +11,7 @@ use Rattle.jr_grammar.specs.Bare.{bare_unit}
 use Rattle.jr_grammar.specs.Layout.{itself}
 use Rattle.jr_grammar.specs.Reads.{Reads}
 use Rattle.jr_table.specs.Decls.{Decl}
-use Rattle.jr_table.specs.Sites.{Site}
+use Rattle.jr_table.specs.Declared.{DeclaredItem}
 use Rattle.jr_punit.specs.OneReading.{OneReading}
 use Rattle.jr_bind.specs.Programs.{File, Program, units_of}
 use Rattle.jr_rewrite.specs.Rewrites.{Choosing, RewritesUnits}
@@ -53,9 +53,9 @@ units_are sources p is = ap (λ (fs : List (File Span)). map (λ (f : File Span)
 
 -- ---- trees
 
-many_units : (C : Choosing Span) (sites : List Site) (us : List (UnitTree Span)) (os : List (Rewritten (UnitTree Span))) → RewritesUnits itself C sites us os → length os ≡ length us
-many_units C sites [] os h = ap length h
-many_units C sites (u ∷ us) os (o, ps, r, rest, are) = ap length are ∙ ap suc (many_units C sites us ps rest)
+many_units : (C : Choosing Span) (declarations : List DeclaredItem) (us : List (UnitTree Span)) (os : List (Rewritten (UnitTree Span))) → RewritesUnits itself C declarations us os → length os ≡ length us
+many_units C declarations [] os h = ap length h
+many_units C declarations (u ∷ us) os (o, ps, r, rest, are) = ap length are ∙ ap suc (many_units C declarations us ps rest)
 
 same_trees : (us : List (UnitTree Span)) (os : List (Rewritten (UnitTree Span))) → length us ≡ length os
     → ((i : ℕ) (u : UnitTree Span) (o : Rewritten (UnitTree Span)) → slice_get us i ≡ Some u → slice_get os i ≡ Some o → bare_unit u ≡ bare_unit o.tree)

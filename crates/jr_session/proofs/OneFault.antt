@@ -9,7 +9,7 @@ use Rattle.jr_names.specs.Refusals.{Refusal, no_such_file, source_error, report_
 use Rattle.jr_table.specs.declared.kinds.DeclKind.{DeclKind}
 use Rattle.jr_table.specs.Faults.{Place, PackageLine, HasFault as HasDeclFault, IsFirstFault, IsUpTo, rank_of as kind_rank}
 use Rattle.jr_table.specs.Names.{kind_name}
-use Rattle.jr_table.specs.Sites.{Site, sites_of}
+use Rattle.jr_table.specs.Declared.{DeclaredItem, declarations_of}
 use Rattle.jr_build.proofs.Cleaning.{same_kind}
 use Rattle.jr_places.specs.FileParts.{begins}
 use Rattle.jr_shown.specs.Lines.{bytes_of}
@@ -38,14 +38,14 @@ one_place p q (inr g) (inr h) =
     let at : p.at ≡ q.at = omega (arith, le, ge) in
     λ i. record { file = file i; at = at i }
 
-module _ (packages : List (Option PackageLine)) (sites : List Site) where
-  first_once : (k l : DeclKind) (p q : Place) → IsFirstFault packages sites k p → IsFirstFault packages sites l q → (k ≡ l) × (p ≡ q)
+module _ (packages : List (Option PackageLine)) (declarations : List DeclaredItem) where
+  first_once : (k l : DeclKind) (p q : Place) → IsFirstFault packages declarations k p → IsFirstFault packages declarations l q → (k ≡ l) × (p ≡ q)
   first_once k l p q g h =
       let le = g.lowest l q h.has in
       let ge = h.lowest k p g.has in
-      let rank : kind_rank packages sites k ≡ kind_rank packages sites l = omega (arith, le, ge) in
-      let kind : k ≡ l = same_kind packages sites k l rank in
-      (kind, one_place p q (g.first q (subst (λ (m : DeclKind). HasDeclFault packages sites m q) (sym kind) h.has)) (h.first p (subst (λ (m : DeclKind). HasDeclFault packages sites m p) kind g.has)))
+      let rank : kind_rank packages declarations k ≡ kind_rank packages declarations l = omega (arith, le, ge) in
+      let kind : k ≡ l = same_kind packages declarations k l rank in
+      (kind, one_place p q (g.first q (subst (λ (m : DeclKind). HasDeclFault packages declarations m q) (sym kind) h.has)) (h.first p (subst (λ (m : DeclKind). HasDeclFault packages declarations m p) kind g.has)))
 
 -- ---- of sources
 
@@ -69,10 +69,10 @@ module _ (reading : HasOneReading) (ss : List Source) where
     one_declaration : IsDeclarationFault ss f a k → IsDeclarationFault ss h b l → Same f h a b k l
     one_declaration x y =
         let read = read_once reading ss y.units x.units y.words x.words y.read x.read in
-        let first : IsFirstFault (package_lines x.units x.words) (sites_of begins x.units) y.of y.place =
-        subst (λ (ws : List ℕ). IsFirstFault (package_lines x.units ws) (sites_of begins x.units) y.of y.place) read.1
-        (subst (λ (us : List (UnitTree Span)). IsFirstFault (package_lines us y.words) (sites_of begins us) y.of y.place) read.0 y.first) in
-        let same = first_once (package_lines x.units x.words) (sites_of begins x.units) x.of y.of x.place y.place x.first first in
+        let first : IsFirstFault (package_lines x.units x.words) (declarations_of begins x.units) y.of y.place =
+        subst (λ (ws : List ℕ). IsFirstFault (package_lines x.units ws) (declarations_of begins x.units) y.of y.place) read.1
+        (subst (λ (us : List (UnitTree Span)). IsFirstFault (package_lines us y.words) (declarations_of begins us) y.of y.place) read.0 y.first) in
+        let same = first_once (package_lines x.units x.words) (declarations_of begins x.units) x.of y.of x.place y.place x.first first in
         let source = same_Some (record { name = f; text = x.text }) (record { name = h; text = y.text }) (sym x.stands ∙ ap (λ (p : Place). slice_get ss p.file) same.1 ∙ y.stands) in
         (ap (λ (s : Source). s.name) source, x.told_at ∙ ap (λ (p : Place). p.at) same.1 ∙ sym y.told_at, x.told ∙ ap kind_name same.0 ∙ sym y.told)
 

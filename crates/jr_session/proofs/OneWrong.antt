@@ -14,7 +14,7 @@ use Rattle.jr_table.specs.Decls.{MemberKey}
 use Rattle.jr_table.specs.Rows.{Row}
 use Rattle.jr_table.specs.Errors.{Part, class_part, member_part, part_mark, Error, Breaks, InClasses, InUnits, rule_rank}
 use Rattle.jr_table.specs.Names.{rule_name}
-use Rattle.jr_table.specs.Sites.{Site, sites_of}
+use Rattle.jr_table.specs.Declared.{DeclaredItem, declarations_of}
 use Rattle.jr_table.specs.ProgramRows.{AreProgramRows}
 use Rattle.jr_table.specs.declared.rules.Rule.{Rule}
 use Rattle.jr_members.specs.WrittenLaws.{IsWritten, MembersAreWritten}
@@ -61,10 +61,10 @@ super_stands items (member_part (syntax.constructor m mods w ps (Some args) body
 super_stands items (member_part (syntax.inner m of)) base at h = tt
 
 -- a member of some file
-to_units : (sites : List Site) (P : MemberKey → (base : ℕ) → Part Span → Type 0) (us : List (UnitTree Span)) (k : MemberKey) (i : ℕ) (u : UnitTree Span) → slice_get us i ≡ Some u → InClasses begins sites P (begins u.mark 0) u.classes k → InUnits begins sites P us k
-to_units sites P [] k i u e h = absurd (none-some u e)
-to_units sites P (v ∷ us) k zero u e h = inl (subst (λ (x : UnitTree Span). InClasses begins sites P (begins x.mark 0) x.classes k) (sym (same_Some v u e)) h)
-to_units sites P (v ∷ us) k (suc i) u e h = inr (to_units sites P us k i u e h)
+to_units : (declarations : List DeclaredItem) (P : MemberKey → (base : ℕ) → Part Span → Type 0) (us : List (UnitTree Span)) (k : MemberKey) (i : ℕ) (u : UnitTree Span) → slice_get us i ≡ Some u → InClasses begins declarations P (begins u.mark 0) u.classes k → InUnits begins declarations P us k
+to_units declarations P [] k i u e h = absurd (none-some u e)
+to_units declarations P (v ∷ us) k zero u e h = inl (subst (λ (x : UnitTree Span). InClasses begins declarations P (begins x.mark 0) x.classes k) (sym (same_Some v u e)) h)
+to_units declarations P (v ∷ us) k (suc i) u e h = inr (to_units declarations P us k i u e h)
 
 -- ---- no member of a program breaks a rule
 
@@ -72,8 +72,8 @@ module _ (reading : HasOneReading) (items_once : OneItems) (placed : PartsArePla
   units_are : units_of p ≡ is.units
   units_are = ap (map (λ (f : File Span). f.unit)) is.files ∙ units_files ss is.units (counts ss is.units is.words is.program.read).0
 
-  are_rows : AreProgramRows (sites_of begins is.units) p.rows
-  are_rows = subst (λ (us : List (UnitTree Span)). AreProgramRows (sites_of begins us) p.rows) units_are is.is.rows
+  are_rows : AreProgramRows (declarations_of begins is.units) p.rows
+  are_rows = subst (λ (us : List (UnitTree Span)). AreProgramRows (declarations_of begins us) p.rows) units_are is.is.rows
 
   -- of a written member the program says where its `super(..)` stands
   super_there : (w : WrittenMember Span) → Contains (written_members begins p.rows is.units) w → (s : Source) → slice_get ss w.file ≡ Some s → (items : List Item) → Lexes s.text items → SuperStands items w.part (p.super_at w.key)
@@ -88,8 +88,8 @@ module _ (reading : HasOneReading) (items_once : OneItems) (placed : PartsArePla
     breaks : InFile is.units file (λ k base part. BreaksAt p.rows h.items k base part at r)
     breaks =
         let units : h.units ≡ is.units = (read_once reading ss h.units is.units h.words is.words h.program.read is.program.read).0 in
-        let theirs = subst (λ (us : List (UnitTree Span)). AreProgramRows (sites_of begins us) h.rows) units h.are_rows in
-        let rows : h.rows ≡ p.rows = rows_once (package_lines is.units is.words) (sites_of begins is.units) is.program.clean h.rows p.rows theirs are_rows in
+        let theirs = subst (λ (us : List (UnitTree Span)). AreProgramRows (declarations_of begins us) h.rows) units h.are_rows in
+        let rows : h.rows ≡ p.rows = rows_once (package_lines is.units is.words) (declarations_of begins is.units) is.program.clean h.rows p.rows theirs are_rows in
         subst (λ (us : List (UnitTree Span)). InFile us file (λ k base part. BreaksAt p.rows h.items k base part at r)) units
         (subst (λ (rs : List Row). InFile h.units file (λ k base part. BreaksAt rs h.items k base part at r)) rows h.breaks)
 
@@ -119,14 +119,14 @@ module _ (reading : HasOneReading) (items_once : OneItems) (placed : PartsArePla
         let le : from ≤ at = owns_from w.base w.part at (place.breaks_within at r b) in
         let e : Error = record { at = at - from; rule = r } in
         let back : at ≡ from + (at - from) = omega (arith, le) in
-        let found : InUnits begins (sites_of begins is.units) (λ k base part. Breaks begins p.rows (p.super_at k) k base part (begins (part_mark part) base + e.at) e.rule) is.units w.key =
-        to_units (sites_of begins is.units) _ is.units w.key file wr.unit wr.stands
-        (in_classes (sites_of begins is.units) (λ j c q. (c ≡ w.base) × (q ≡ w.part)) (λ k base part. Breaks begins p.rows (p.super_at k) k base part (begins (part_mark part) base + e.at) e.rule) w.key
+        let found : InUnits begins (declarations_of begins is.units) (λ k base part. Breaks begins p.rows (p.super_at k) k base part (begins (part_mark part) base + e.at) e.rule) is.units w.key =
+        to_units (declarations_of begins is.units) _ is.units w.key file wr.unit wr.stands
+        (in_classes (declarations_of begins is.units) (λ j c q. (c ≡ w.base) × (q ≡ w.part)) (λ k base part. Breaks begins p.rows (p.super_at k) k base part (begins (part_mark part) base + e.at) e.rule) w.key
         (λ c q eq. subst (λ (base : ℕ). Breaks begins p.rows (p.super_at w.key) w.key base q (begins (part_mark q) base + e.at) r) (sym eq.0)
         (subst (λ (part : Part Span). Breaks begins p.rows (p.super_at w.key) w.key w.base part (begins (part_mark part) w.base + e.at) r) (sym eq.1)
         (subst (λ (place : ℕ). Breaks begins p.rows (p.super_at w.key) w.key w.base w.part place r) back b)))
         (begins wr.unit.mark 0) wr.unit.classes wr.writes) in
-        is.is.sound w.key e (subst (λ (us : List (UnitTree Span)). InUnits begins (sites_of begins us) (λ k base part. Breaks begins p.rows (p.super_at k) k base part (begins (part_mark part) base + e.at) e.rule) us w.key) (sym units_are) found)
+        is.is.sound w.key e (subst (λ (us : List (UnitTree Span)). InUnits begins (declarations_of begins us) (λ k base part. Breaks begins p.rows (p.super_at k) k base part (begins (part_mark part) base + e.at) e.rule) us w.key) (sym units_are) found)
 
     none_breaks : ⊥
     none_breaks =

@@ -10,7 +10,7 @@ use Rattle.jr_bind.specs.Programs.{File, Program, units_of}
 use Rattle.jr_rename.specs.Renames as renames
 use Rattle.jr_rewrite.specs.Rewrites.{Choosing, RewritesUnits}
 use Rattle.jr_rewrite.specs.Rewritten.{Rewritten}
-use Rattle.jr_table.specs.Sites.{Site}
+use Rattle.jr_table.specs.Declared.{DeclaredItem}
 use Rattle.jr_names.specs.Refusals.{Refusal}
 use Rattle.jr_sources.specs.Sources.{Source, IsFile, HasName, names_of}
 use Rattle.jr_sources.specs.Whole.{files_of, IsProgramOf}
@@ -30,9 +30,9 @@ few_files [] us = omega arith
 few_files (s ∷ ss) [] = omega arith
 few_files (s ∷ ss) (u ∷ us) = let few = few_files ss us in omega (arith, few)
 
-as_many : {A : Type 0} (tells : A → ℕ → Span) (C : Choosing A) (sites : List Site) (us : List (syntax.Unit A)) (os : List (Rewritten (syntax.Unit A))) → RewritesUnits tells C sites us os → length os ≡ length us
-as_many tells C sites [] os h = ap length h
-as_many tells C sites (u ∷ us) os h = let rest = as_many tells C sites us h.1 h.3 in let all = ap length h.4 in omega (arith, rest, all)
+as_many : {A : Type 0} (tells : A → ℕ → Span) (C : Choosing A) (declarations : List DeclaredItem) (us : List (syntax.Unit A)) (os : List (Rewritten (syntax.Unit A))) → RewritesUnits tells C declarations us os → length os ≡ length us
+as_many tells C declarations [] os h = ap length h
+as_many tells C declarations (u ∷ us) os h = let rest = as_many tells C declarations us h.1 h.3 in let all = ap length h.4 in omega (arith, rest, all)
 
 named : (sources : List Source) (number : ℕ) (name : List ℕ) → HasName sources number name → number < length sources
 named sources number name has = let within = slice_get_within (names_of sources) number name has in let all = length-map sources (λ (s : Source). s.name) in omega (arith, within, all)

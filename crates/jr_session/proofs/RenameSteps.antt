@@ -9,7 +9,7 @@ use Rattle.jr_text.specs.Edits.{Entry, FitsIn}
 use Rattle.jr_lex.specs.Replacing.{IsName}
 use Rattle.jr_ast.specs.MemberTree as syntax
 use Rattle.jr_grammar.specs.Layout.{itself}
-use Rattle.jr_table.specs.Sites.{Site}
+use Rattle.jr_table.specs.Declared.{DeclaredItem}
 use Rattle.jr_names.specs.declared.steps.Step.{Step}
 use Rattle.jr_names.specs.declared.steps.Step.TheVariants as step
 use Rattle.jr_names.specs.Refusals.{Refusal, no_such_file, source_error}
@@ -44,9 +44,9 @@ use Rattle.jr_session.proofs.Showing.{one_name}
 -- ---- the edits of a plan fit
 
 -- each unit is rewritten
-many_units : (C : Choosing Span) (sites : List Site) (us : List (syntax.Unit Span)) (os : List (Rewritten (syntax.Unit Span))) → RewritesUnits itself C sites us os → length os ≡ length us
-many_units C sites [] os h = ap length h
-many_units C sites (u ∷ us) os (o, ps, r, rest, are) = ap length are ∙ ap suc (many_units C sites us ps rest)
+many_units : (C : Choosing Span) (declarations : List DeclaredItem) (us : List (syntax.Unit Span)) (os : List (Rewritten (syntax.Unit Span))) → RewritesUnits itself C declarations us os → length os ≡ length us
+many_units C declarations [] os h = ap length h
+many_units C declarations (u ∷ us) os (o, ps, r, rest, are) = ap length are ∙ ap suc (many_units C declarations us ps rest)
 
 fit_all : (ss : List Source) (es : List (List Entry)) → length es ≡ length ss → ((i : ℕ) (s : Source) → slice_get ss i ≡ Some s → (e : List Entry) × (slice_get es i ≡ Some e) × FitsIn s.text e) → Fit ss es
 fit_all [] [] n h = tt

@@ -8,7 +8,7 @@ use Rattle.jr_lex.specs.Lexes.{Lexes}
 use Rattle.jr_ast.specs.MemberTree.{Unit as UnitTree}
 use Rattle.jr_table.specs.Decls.{Decl}
 use Rattle.jr_table.specs.declared.rules.Rule.{Rule}
-use Rattle.jr_table.specs.Sites.{sites_of}
+use Rattle.jr_table.specs.Declared.{declarations_of}
 use Rattle.jr_table.specs.ProgramRows.{AreProgramRows}
 use Rattle.jr_places.specs.FileParts.{begins}
 use Rattle.jr_shown.specs.declared.bounds.MemberBound.{MemberBound}
@@ -85,8 +85,8 @@ module _ (reading : HasOneReading) (items_once : OneItems) (order : OneInOrder) 
   one_lines : (xs ys : List Line) → AreLinesOf sources number xs → AreLinesOf sources number ys → xs ≡ ys
   one_lines xs ys g h =
       let units : g.units ≡ h.units = (read_once reading sources g.units h.units g.words h.words g.program.read h.program.read).0 in
-      let others : AreProgramRows (sites_of begins g.units) h.rows = subst (λ (us : List (UnitTree Span)). AreProgramRows (sites_of begins us) h.rows) (sym units) h.are_rows in
-      let rows : g.rows ≡ h.rows = rows_once (package_lines g.units g.words) (sites_of begins g.units) g.program.clean g.rows h.rows g.are_rows others in
+      let others : AreProgramRows (declarations_of begins g.units) h.rows = subst (λ (us : List (UnitTree Span)). AreProgramRows (declarations_of begins us) h.rows) (sym units) h.are_rows in
+      let rows : g.rows ≡ h.rows = rows_once (package_lines g.units g.words) (declarations_of begins g.units) g.program.clean g.rows h.rows g.are_rows others in
       let source : g.source ≡ h.source = same_Some g.source h.source (sym g.stands ∙ h.stands) in
       let items : g.items ≡ h.items = items_once g.source.text g.items h.items g.lexes (subst (λ (s : Source). Lexes s.text h.items) (sym source) h.lexes) in
       let same : (l : Line) → HasLine g.units g.rows number g.source.text g.items l ≡ HasLine h.units h.rows number h.source.text h.items l = λ l i. HasLine (units i) (rows i) number (source i).text (items i) l in

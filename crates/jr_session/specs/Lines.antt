@@ -5,7 +5,7 @@ use Rattle.jr_lex.specs.declared.items.Item.{Item}
 use Rattle.jr_lex.specs.Lexes.{Lexes}
 use Rattle.jr_ast.specs.MemberTree as syntax
 use Rattle.jr_table.specs.Rows.{Row}
-use Rattle.jr_table.specs.Sites.{sites_of}
+use Rattle.jr_table.specs.Declared.{declarations_of}
 use Rattle.jr_table.specs.ProgramRows.{AreProgramRows}
 use Rattle.jr_places.specs.FileParts.{begins, BindsAt, BreaksAt, InFile}
 use Rattle.jr_shown.specs.Lines.{Line, reference, broken, line_text, AreLines}
@@ -31,7 +31,7 @@ pub record AreLinesOf (sources : List Source) (file : ℕ) (lines : List Line) :
   pub words : List ℕ
   pub program : AreProgram sources units words
   pub rows : List Row
-  pub are_rows : AreProgramRows (sites_of begins units) rows
+  pub are_rows : AreProgramRows (declarations_of begins units) rows
   pub source : Source
   pub stands : slice_get sources file ≡ Some source
   pub items : List Item

@@ -9,7 +9,7 @@ use Rattle.jr_table.specs.Keys.{ClassKey, MethodKey}
 use Rattle.jr_table.specs.Decls.{Decl}
 use Rattle.jr_table.specs.Errors.{IsSound}
 use Rattle.jr_table.specs.Keyed.{DispatchesTo}
-use Rattle.jr_table.specs.Sites.{sites_of}
+use Rattle.jr_table.specs.Declared.{declarations_of}
 use Rattle.jr_names.specs.declared.steps.Step.{Step}
 use Rattle.jr_names.specs.declared.steps.Step.TheVariants as step
 use Rattle.jr_names.specs.Refusals.{Refusal}
@@ -87,7 +87,7 @@ pub record KeepsProgram (s : State) (file : List ℕ) (at : ℕ) (new : List ℕ
   pub references : AlongUnits begins begins (IsKept begins begins plan.planned.g p.rows)
       (IsWritten begins begins plan.planned.g p.rows) (IsSuperKept plan.planned.g p.rows)
       (IsParentKept plan.planned.g p.rows) (member_to plan.planned.g)
-      (sites_of begins (units_of p)) (units_of p) (units_of q)
+      (declarations_of begins (units_of p)) (units_of p) (units_of q)
   -- each file is spliced by its edits, and there are no others
   pub count : length t.files ≡ length s.files
   pub texts : (i : ℕ) (old : Source) → slice_get s.files i ≡ Some old

@@ -1,4 +1,4 @@
--- Rows and sites of one program: classes, whether they are private, what they declare and their
+-- Rows and declarations of one program: classes, whether they are private, what they declare and their
 -- superclasses, by the numbers of rows.
 use Rattle.std.proofs.Common.{◌≡◌, ℕ, List, [], ◌∷◌, Option, Some, None, true, false, refl, sym, ap, subst, ◌∙◌, inl, inr}
 use Rattle.std.specs.Prelude.{◌⊎◌, slice_get, option_and_then}
@@ -13,28 +13,28 @@ use Rattle.jr_table.specs.Conditions.{AreRows, as_outer, as_superclass}
 use Rattle.jr_table.specs.Chains.{parent_of, outer_of, GoesUp, IsChain, chain_of}
 use Rattle.jr_table.specs.Members.{DeclaresType, IsPrivate, MemberAmong, IsMemberType}
 use Rattle.jr_table.specs.Context.{IsSuperclass}
-use Rattle.jr_table.specs.Sites.{ClassSite, Site}
+use Rattle.jr_table.specs.Declared.{DeclaredClass, DeclaredItem}
 use Rattle.jr_table.specs.Resolving.{DeclaresClass, IsDeclared, IsTopClass, IsPreludeClass, IsPrivateClass, TopParent, IsParent, member_key}
 use Rattle.jr_table.proofs.RowLaws.{number_stands, the_number, entry_stands, row_at, acyclic_rows}
 use Rattle.jr_table.proofs.OneEach.{is_class_decl}
 use Rattle.jr_build.proofs.ClassNumbers.{has_private, any_private}
 
--- the classes with rows are those that the sites declare, and the prelude's
-pub record Agree (rows : List Row) (sites : List Site) : Type 0 where
+-- the classes with rows are those that the declarations declare, and the prelude's
+pub record Agree (rows : List Row) (declarations : List DeclaredItem) : Type 0 where
   pub rows_are : AreRows rows
-  pub declared_row : (k : ClassKey) (at : ClassSite) → DeclaresClass sites k at → (j : ℕ) × (i : IsRowOf rows (class_decl k) j) × (i.row.modifiers ≡ at.modifiers)
+  pub declared_row : (k : ClassKey) (at : DeclaredClass) → DeclaresClass declarations k at → (j : ℕ) × (i : IsRowOf rows (class_decl k) j) × (i.row.modifiers ≡ at.modifiers)
   pub prelude_row : (name : List ℕ) → IsPreludeClass name → (j : ℕ) × IsRowOf rows (class_decl (top_key name)) j
-  pub row_class : (k : ClassKey) (j : ℕ) (i : IsRowOf rows (class_decl k) j) → ((at : ClassSite) × DeclaresClass sites k at × (i.row.modifiers ≡ at.modifiers)) ⊎ ((k.outer ≡ None) × IsPreludeClass k.name × (list_any is_private_word i.row.modifiers ≡ false))
+  pub row_class : (k : ClassKey) (j : ℕ) (i : IsRowOf rows (class_decl k) j) → ((at : DeclaredClass) × DeclaresClass declarations k at × (i.row.modifiers ≡ at.modifiers)) ⊎ ((k.outer ≡ None) × IsPreludeClass k.name × (list_any is_private_word i.row.modifiers ≡ false))
 
 -- superclasses of top-level and prelude classes
-pub record TopsAgree (rows : List Row) (sites : List Site) : Type 0 where
-  pub up : (name : List ℕ) (p : ClassKey) → TopParent sites name p → IsSuperclass rows (top_key name) p
-  pub down : (name : List ℕ) (p : ClassKey) → IsSuperclass rows (top_key name) p → TopParent sites name p
+pub record TopsAgree (rows : List Row) (declarations : List DeclaredItem) : Type 0 where
+  pub up : (name : List ℕ) (p : ClassKey) → TopParent declarations name p → IsSuperclass rows (top_key name) p
+  pub down : (name : List ℕ) (p : ClassKey) → IsSuperclass rows (top_key name) p → TopParent declarations name p
 
 -- of all classes
-pub record ParentsAgree (rows : List Row) (sites : List Site) : Type 0 where
-  pub up : (k p : ClassKey) → IsParent sites k p → IsSuperclass rows k p
-  pub down : (k p : ClassKey) → IsSuperclass rows k p → IsParent sites k p
+pub record ParentsAgree (rows : List Row) (declarations : List DeclaredItem) : Type 0 where
+  pub up : (k p : ClassKey) → IsParent declarations k p → IsSuperclass rows k p
+  pub down : (k p : ClassKey) → IsSuperclass rows k p → IsParent declarations k p
 
 pub inside : {X : Type 0} (x y : X) → Some x ≡ Some y → x ≡ y
 inside x y e = cc
@@ -125,28 +125,28 @@ module _ (rows : List Row) (are : AreRows rows) where
     among = inr (none, member.among, shown);
   }
 
-module _ (rows : List Row) (sites : List Site) (a : Agree rows sites) where
-  pub top_row : (name : List ℕ) → IsTopClass sites name → (j : ℕ) × ClassRow rows (top_key name) j
+module _ (rows : List Row) (declarations : List DeclaredItem) (a : Agree rows declarations) where
+  pub top_row : (name : List ℕ) → IsTopClass declarations name → (j : ℕ) × ClassRow rows (top_key name) j
   top_row name (inl (at, d)) = let r = a.declared_row (top_key name) at d in (r.0, r.1)
   top_row name (inr is) = a.prelude_row name is
 
-  pub row_top : (name : List ℕ) (j : ℕ) → ClassRow rows (top_key name) j → IsTopClass sites name
+  pub row_top : (name : List ℕ) (j : ℕ) → ClassRow rows (top_key name) j → IsTopClass declarations name
   row_top name j i = elim (a.row_class (top_key name) j i) [
     | inl d ↦ inl (d.0, d.1)
     | inr p ↦ inr p.1
   ]
 
-  pub inner_row : (k : ClassKey) → IsDeclared sites k → (j : ℕ) × ClassRow rows k j
+  pub inner_row : (k : ClassKey) → IsDeclared declarations k → (j : ℕ) × ClassRow rows k j
   inner_row k (at, d) = let r = a.declared_row k at d in (r.0, r.1)
 
-  pub row_inner : (of name : List ℕ) (j : ℕ) → ClassRow rows (record { outer = Some of; name = name }) j → IsDeclared sites (member_key sites of name)
+  pub row_inner : (of name : List ℕ) (j : ℕ) → ClassRow rows (record { outer = Some of; name = name }) j → IsDeclared declarations (member_key declarations of name)
   row_inner of name j i = elim (a.row_class (record { outer = Some of; name = name }) j i) [
     | inl d ↦ (d.0, d.1)
     | inr p ↦ (let never = p.0 in absurd cc)
   ]
 
   -- private classes
-  pub private_row : (k : ClassKey) (j : ℕ) → ClassRow rows k j → IsPrivateClass sites k → IsPrivate (entries_of rows) j
+  pub private_row : (k : ClassKey) (j : ℕ) → ClassRow rows k j → IsPrivateClass declarations k → IsPrivate (entries_of rows) j
   private_row k j i (at, d, word) =
       let r = a.declared_row k at d in
       let same = one_row rows a.rows_are k j r.0 i r.1 in
@@ -157,7 +157,7 @@ module _ (rows : List Row) (sites : List Site) (a : Agree rows sites) where
         private = ap (λ (x : Row). list_any is_private_word x.modifiers) row ∙ ap (list_any is_private_word) r.2 ∙ any_private at.modifiers word;
       }
 
-  pub row_private : (k : ClassKey) (j : ℕ) → ClassRow rows k j → IsPrivate (entries_of rows) j → IsPrivateClass sites k
+  pub row_private : (k : ClassKey) (j : ℕ) → ClassRow rows k j → IsPrivate (entries_of rows) j → IsPrivateClass declarations k
   row_private k j i p =
       let e : entry_of rows i.row ≡ p.row = inside (entry_of rows i.row) p.row (sym (entry_stands rows j i.row i.stands) ∙ p.stands) in
       let is : list_any is_private_word i.row.modifiers ≡ true = ap (λ (x : Entry). x.is_private) e ∙ p.private in

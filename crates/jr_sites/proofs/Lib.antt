@@ -1,7 +1,7 @@
-pub mod RowsOfSites
+pub mod RowsOfDeclarations
 pub mod Agreeing
 pub mod MemberTypesFound
 pub mod Programs
-pub mod Sited
+pub mod StandsDeclared
 pub mod TypesFound
 pub mod DeclaredFound

@@ -8,7 +8,7 @@ use Rattle.jr_table.specs.Rows.{Row}
 use Rattle.jr_table.specs.Prelude.{top_key}
 use Rattle.jr_table.specs.Entries.{class_of_member}
 use Rattle.jr_table.specs.Conditions.{AreRows}
-use Rattle.jr_table.specs.Sites.{sites_of}
+use Rattle.jr_table.specs.Declared.{declarations_of}
 use Rattle.jr_table.specs.ProgramRows.{AreProgramRows}
 use Rattle.jr_table.specs.Faults.{PackageLine, IsClean}
 use Rattle.jr_table.specs.Found.{Found, one, not_accessible}
@@ -69,6 +69,6 @@ module _ {A : Type 0} (rows : List Row) where
 abbrev pub DeclaredTypesAreFound : Type 0 → Type 0
 DeclaredTypesAreFound A = (begins : A → ℕ → ℕ) (packages : List (Option PackageLine))
     (rows : List Row) (units : List (syntax.Unit A)) → AreRows rows
-    → AreProgramRows (sites_of begins units) rows → IsClean packages (sites_of begins units)
+    → AreProgramRows (declarations_of begins units) rows → IsClean packages (declarations_of begins units)
     → (w : WrittenMember A) → Contains (written_members begins rows units) w
     → DeclaresFound rows w.key w.part

@@ -1,4 +1,4 @@
-//! What the types and superclasses that a program writes mean, by its sites, is what lookup finds
+//! What the types and superclasses that a program writes mean, by its declarations, is what lookup finds
 //! by its rows.
 #![tactic(auto)]
 

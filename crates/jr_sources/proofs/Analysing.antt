@@ -12,7 +12,7 @@ use Rattle.jr_grammar.specs.Units.{IsMarkedUnit}
 use Rattle.jr_table.specs.Decls.{MemberKey, Decl}
 use Rattle.jr_table.specs.Rows.{Row}
 use Rattle.jr_table.specs.Conditions.{AreRows}
-use Rattle.jr_table.specs.Sites.{sites_of}
+use Rattle.jr_table.specs.Declared.{declarations_of}
 use Rattle.jr_table.specs.Errors.{Part, class_part, member_part, part_mark}
 use Rattle.jr_table.specs.Faults as faults
 use Rattle.jr_table.specs.declared.rules.Rule.{Rule}
@@ -91,8 +91,8 @@ no_fault law ss us ws p file at kind (inl h) =
     law.never_both h.text r.0 r.1 h.fault r.3 h.has
 no_fault law ss us ws p file at kind (inr h) =
     let one = read_once law ss h.units us h.words ws h.read p.read in
-    p.clean h.of h.place (subst (λ (x : List ℕ). faults.HasFault (package_lines us x) (sites_of begins us) h.of h.place) one.1
-    (subst (λ (x : List (UnitTree Span)). faults.HasFault (package_lines x h.words) (sites_of begins x) h.of h.place) one.0 h.first.has))
+    p.clean h.of h.place (subst (λ (x : List ℕ). faults.HasFault (package_lines us x) (declarations_of begins us) h.of h.place) one.1
+    (subst (λ (x : List (UnitTree Span)). faults.HasFault (package_lines x h.words) (declarations_of begins x) h.of h.place) one.0 h.first.has))
 
 -- ---- the parts of a program are as many as its members at most
 

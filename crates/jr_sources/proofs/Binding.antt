@@ -5,7 +5,7 @@ use Rattle.jr_lex.specs.declared.items.Item.{Item}
 use Rattle.jr_ast.specs.MemberTree.{Unit as UnitTree}
 use Rattle.jr_table.specs.Rows.{Row}
 use Rattle.jr_table.specs.Conditions.{AreRows}
-use Rattle.jr_table.specs.Sites.{sites_of}
+use Rattle.jr_table.specs.Declared.{declarations_of}
 use Rattle.jr_table.specs.ProgramRows.{AreProgramRows}
 use Rattle.jr_members.specs.WrittenMembers.{WrittenMember, written_members}
 use Rattle.jr_members.specs.WrittenLaws.{AreWritten, MembersAreWritten}
@@ -23,11 +23,11 @@ use Rattle.jr_sources.proofs.WrittenOrder.{written_rise}
 
 -- the rows of a program are a table of its sources
 pub table_of : HasOneReading → (sources : List Source) (units : List (UnitTree Span)) (words : List ℕ) → AreProgram sources units words
-    → (rows : List Row) → AreProgramRows (sites_of begins units) rows → IsTableOf sources rows
+    → (rows : List Row) → AreProgramRows (declarations_of begins units) rows → IsTableOf sources rows
 table_of law sources units words program rows are us ws read =
     let one = read_once law sources units us words ws program.read read in (
       subst (AreProgram sources us) one.1 (subst (λ (u : List (UnitTree Span)). AreProgram sources u words) one.0 program),
-      subst (λ (u : List (UnitTree Span)). AreProgramRows (sites_of begins u) rows) one.0 are,
+      subst (λ (u : List (UnitTree Span)). AreProgramRows (declarations_of begins u) rows) one.0 are,
     )
 
 -- what binding counts

@@ -9,7 +9,7 @@ use Rattle.jr_lex.specs.Places.{ItemsPlaced}
 use Rattle.jr_ast.specs.MemberTree.{Unit as UnitTree}
 use Rattle.jr_table.specs.Rows.{Row}
 use Rattle.jr_table.specs.Names.{rule_name}
-use Rattle.jr_table.specs.Sites.{Site, sites_of}
+use Rattle.jr_table.specs.Declared.{DeclaredItem, declarations_of}
 use Rattle.jr_table.specs.ProgramRows.{AreProgramRows}
 use Rattle.jr_table.specs.Faults.{PackageLine, IsClean}
 use Rattle.jr_table.specs.declared.rules.Rule.{Rule}
@@ -31,8 +31,8 @@ use Rattle.jr_sources.proofs.SourceFaults.{name_there}
 use Rattle.jr_sources.proofs.SourceLaws.{length-texts}
 
 -- a program has one table
-pub rows_once : (packages : List (Option PackageLine)) (sites : List Site) → IsClean packages sites → (rows others : List Row) → AreProgramRows sites rows → AreProgramRows sites others → rows ≡ others
-rows_once packages sites clean rows others g h = program_once sites (means_once packages sites clean) (parent_once packages sites clean) rows others g h
+pub rows_once : (packages : List (Option PackageLine)) (declarations : List DeclaredItem) → IsClean packages declarations → (rows others : List Row) → AreProgramRows declarations rows → AreProgramRows declarations others → rows ≡ others
+rows_once packages declarations clean rows others g h = program_once declarations (means_once packages declarations clean) (parent_once packages declarations clean) rows others g h
 
 -- a token begins within the text
 begins_within : (bytes : List ℕ) (items : List Item) → ItemsPlaced → Lexes bytes items → (at : ℕ) → BeginsToken items at → at < length bytes
@@ -74,8 +74,8 @@ module _ (sources : List Source) (a : Analysis) (is : IsAnalysis sources a) wher
   errs_from : HasOneReading → OneItems → (f at : ℕ) (r : Rule) → BreaksRule sources f at r → SomeErrs a.members.items f at r
   errs_from reading items_once f at r h =
       let units : h.units ≡ is.units = (read_once reading sources h.units is.units h.words is.words h.program.read is.program.read).0 in
-      let others : AreProgramRows (sites_of begins is.units) h.rows = subst (λ (us : List (UnitTree Span)). AreProgramRows (sites_of begins us) h.rows) units h.are_rows in
-      let rows : h.rows ≡ a.table = rows_once (package_lines is.units is.words) (sites_of begins is.units) is.program.clean h.rows a.table others is.rows in
+      let others : AreProgramRows (declarations_of begins is.units) h.rows = subst (λ (us : List (UnitTree Span)). AreProgramRows (declarations_of begins us) h.rows) units h.are_rows in
+      let rows : h.rows ≡ a.table = rows_once (package_lines is.units is.words) (declarations_of begins is.units) is.program.clean h.rows a.table others is.rows in
       let lt = slice_get_within sources f h.source h.stands in
       let n = lexed_count (texts_of sources) is.tokens is.lexed in
       let m = length-texts sources in

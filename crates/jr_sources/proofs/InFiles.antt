@@ -5,7 +5,7 @@ use Rattle.jr_text.specs.declared.spans.Span.{Span}
 use Rattle.jr_ast.specs.MemberTree as syntax
 use Rattle.jr_table.specs.Keys.{ClassKey}
 use Rattle.jr_table.specs.Decls.{MemberKey}
-use Rattle.jr_table.specs.Sites.{Site, sites_of}
+use Rattle.jr_table.specs.Declared.{DeclaredItem, declarations_of}
 use Rattle.jr_table.specs.Errors.{Part, InClass, InMembers, InInner, InClasses}
 use Rattle.jr_members.specs.WrittenLaws.{IsWritten}
 use Rattle.jr_places.specs.FileParts.{begins, InFile}
@@ -33,33 +33,33 @@ each_from P (x ∷ xs) f = (f x (0, omega arith, refl), each_from P xs (λ y c. 
 
 -- ---- one member, with other properties
 
-module _ (sites : List Site) (P Q : MemberKey → (base : ℕ) → Part Span → Type 0) (k : MemberKey) (f : (b : ℕ) (p : Part Span) → P k b p → Q k b p) where
+module _ (declarations : List DeclaredItem) (P Q : MemberKey → (base : ℕ) → Part Span → Type 0) (k : MemberKey) (f : (b : ℕ) (p : Part Span) → P k b p → Q k b p) where
   mutual
     unfolding InClass InMembers InInner
 
-    in_class : (base : ℕ) (o : Option (List ℕ)) (c : syntax.Class Span) → InClass begins sites P base o c k → InClass begins sites Q base o c k
+    in_class : (base : ℕ) (o : Option (List ℕ)) (c : syntax.Class Span) → InClass begins declarations P base o c k → InClass begins declarations Q base o c k
     in_class base o (syntax.class m mods w t ms) (inl h) = inl (h.0, f base _ h.1)
     in_class base o (syntax.class m mods w t ms) (inr h) = inr (in_members (begins m base) _ ms h)
 
-    in_members : (base : ℕ) (of : ClassKey) (ms : syntax.Members Span) → InMembers begins sites P base of ms k → InMembers begins sites Q base of ms k
+    in_members : (base : ℕ) (of : ClassKey) (ms : syntax.Members Span) → InMembers begins declarations P base of ms k → InMembers begins declarations Q base of ms k
     in_members base of syntax.end h = h
     in_members base of (syntax.more x xs) (inl (inl h)) = inl (inl (h.0, f base _ h.1))
     in_members base of (syntax.more x xs) (inl (inr h)) = inl (inr (in_inner base of x h))
     in_members base of (syntax.more x xs) (inr h) = inr (in_members base of xs h)
 
-    in_inner : (base : ℕ) (of : ClassKey) (x : syntax.Member Span) → InInner begins sites P base of x k → InInner begins sites Q base of x k
+    in_inner : (base : ℕ) (of : ClassKey) (x : syntax.Member Span) → InInner begins declarations P base of x k → InInner begins declarations Q base of x k
     in_inner base of (syntax.inner m c) h = in_class (begins m base) (Some of.name) c h
     in_inner base of (syntax.field m mods t w init) h = h
     in_inner base of (syntax.method m mods t w ps body) h = h
     in_inner base of (syntax.constructor m mods w ps args body) h = h
 
-  pub in_classes : (base : ℕ) (cs : List (syntax.Class Span)) → InClasses begins sites P base cs k → InClasses begins sites Q base cs k
+  pub in_classes : (base : ℕ) (cs : List (syntax.Class Span)) → InClasses begins declarations P base cs k → InClasses begins declarations Q base cs k
   in_classes base [] h = h
   in_classes base (c ∷ cs) (inl h) = inl (in_class base None c h)
   in_classes base (c ∷ cs) (inr h) = inr (in_classes base cs h)
 
 -- and the part itself
-module _ (sites : List Site) (P : MemberKey → (base : ℕ) → Part Span → Type 0) (k : MemberKey) where
+module _ (declarations : List DeclaredItem) (P : MemberKey → (base : ℕ) → Part Span → Type 0) (k : MemberKey) where
   abbrev The : (base : ℕ) → Part Span → MemberKey → (base : ℕ) → Part Span → Type 0
   The b p j c q = (c ≡ b) × (q ≡ p)
 
@@ -69,23 +69,23 @@ module _ (sites : List Site) (P : MemberKey → (base : ℕ) → Part Span → T
   mutual
     unfolding InClass InMembers InInner
 
-    some_class : (base : ℕ) (o : Option (List ℕ)) (c : syntax.Class Span) → InClass begins sites P base o c k → Found (λ R. InClass begins sites R base o c k)
+    some_class : (base : ℕ) (o : Option (List ℕ)) (c : syntax.Class Span) → InClass begins declarations P base o c k → Found (λ R. InClass begins declarations R base o c k)
     some_class base o (syntax.class m mods w t ms) (inl h) = (base, _, h.1, inl (h.0, (refl, refl)))
     some_class base o (syntax.class m mods w t ms) (inr h) = let r = some_members (begins m base) _ ms h in (r.0, r.1, r.2, inr r.3)
 
-    some_members : (base : ℕ) (of : ClassKey) (ms : syntax.Members Span) → InMembers begins sites P base of ms k → Found (λ R. InMembers begins sites R base of ms k)
+    some_members : (base : ℕ) (of : ClassKey) (ms : syntax.Members Span) → InMembers begins declarations P base of ms k → Found (λ R. InMembers begins declarations R base of ms k)
     some_members base of syntax.end h = absurd h
     some_members base of (syntax.more x xs) (inl (inl h)) = (base, _, h.1, inl (inl (h.0, (refl, refl))))
     some_members base of (syntax.more x xs) (inl (inr h)) = let r = some_inner base of x h in (r.0, r.1, r.2, inl (inr r.3))
     some_members base of (syntax.more x xs) (inr h) = let r = some_members base of xs h in (r.0, r.1, r.2, inr r.3)
 
-    some_inner : (base : ℕ) (of : ClassKey) (x : syntax.Member Span) → InInner begins sites P base of x k → Found (λ R. InInner begins sites R base of x k)
+    some_inner : (base : ℕ) (of : ClassKey) (x : syntax.Member Span) → InInner begins declarations P base of x k → Found (λ R. InInner begins declarations R base of x k)
     some_inner base of (syntax.inner m c) h = some_class (begins m base) (Some of.name) c h
     some_inner base of (syntax.field m mods t w init) h = absurd h
     some_inner base of (syntax.method m mods t w ps body) h = absurd h
     some_inner base of (syntax.constructor m mods w ps args body) h = absurd h
 
-  pub some_classes : (base : ℕ) (cs : List (syntax.Class Span)) → InClasses begins sites P base cs k → Found (λ R. InClasses begins sites R base cs k)
+  pub some_classes : (base : ℕ) (cs : List (syntax.Class Span)) → InClasses begins declarations P base cs k → Found (λ R. InClasses begins declarations R base cs k)
   some_classes base [] h = absurd h
   some_classes base (c ∷ cs) (inl h) = let r = some_class base None c h in (r.0, r.1, r.2, inl r.3)
   some_classes base (c ∷ cs) (inr h) = let r = some_classes base cs h in (r.0, r.1, r.2, inr r.3)
@@ -98,7 +98,7 @@ module _ (units : List (syntax.Unit Span)) (file : ℕ) where
     unit = w.unit;
     stands = w.stands;
     member = k;
-    has = in_classes (sites_of begins units) (λ j b q. (b ≡ base) × (q ≡ part)) P k (λ b q e. subst (λ x. P k x q) (sym e.0) (subst (P k base) (sym e.1) p)) (begins w.unit.mark 0) w.unit.classes w.writes;
+    has = in_classes (declarations_of begins units) (λ j b q. (b ≡ base) × (q ≡ part)) P k (λ b q e. subst (λ x. P k x q) (sym e.0) (subst (P k base) (sym e.1) p)) (begins w.unit.mark 0) w.unit.classes w.writes;
   }
 
   pub is_part : (k : MemberKey) (base : ℕ) (part : Part Span) → IsWritten begins units file k base part → IsPart units file k base part
@@ -106,5 +106,5 @@ module _ (units : List (syntax.Unit Span)) (file : ℕ) where
 
   pub written_in : (P : MemberKey → (base : ℕ) → Part Span → Type 0) (h : InFile units file P) → (base : ℕ) × (part : Part Span) × P h.member base part × IsWritten begins units file h.member base part
   written_in P h =
-      let r = some_classes (sites_of begins units) P h.member (begins h.unit.mark 0) h.unit.classes h.has in
+      let r = some_classes (declarations_of begins units) P h.member (begins h.unit.mark 0) h.unit.classes h.has in
       (r.0, r.1, r.2, record { unit = h.unit; stands = h.stands; writes = r.3 })

@@ -8,7 +8,7 @@ pub mod Heads
 pub mod Spans
 pub mod PartsFit
 pub mod InFiles
-pub mod SiteFiles
+pub mod DeclarationFiles
 pub mod Analysing
 pub mod WrittenOrder
 pub mod Lexing

@@ -6,7 +6,7 @@ use Rattle.jr_text.specs.declared.spans.Span.{Span}
 use Rattle.jr_ast.specs.MemberTree.{Unit as UnitTree}
 use Rattle.jr_table.specs.declared.kinds.DeclKind.{DeclKind}
 use Rattle.jr_table.specs.Names.{kind_name}
-use Rattle.jr_table.specs.Sites.{sites_of}
+use Rattle.jr_table.specs.Declared.{declarations_of}
 use Rattle.jr_table.specs.Faults.{IsFirstFault}
 use Rattle.jr_build.specs.Packages.{lines_of}
 use Rattle.jr_places.specs.FileParts.{begins}
@@ -19,7 +19,7 @@ use Rattle.jr_sources.specs.FirstOf.{IsFileFaultAt}
 use Rattle.jr_sources.specs.Sources.{Source, HasName, names_of}
 use Rattle.jr_sources.proofs.AllRead.{element}
 use Rattle.jr_sources.proofs.Analysing.{counts}
-use Rattle.jr_sources.proofs.SiteFiles.{lines_are, fault_file}
+use Rattle.jr_sources.proofs.DeclarationFiles.{lines_are, fault_file}
 
 pub name_there : (ss : List Source) (i : ℕ) (s : Source) → slice_get ss i ≡ Some s → HasName ss i s.name
 name_there [] i s e = absurd (none-some s e)
@@ -38,9 +38,9 @@ file_fault_told sources number f h = (
 )
 
 pub build_fault_told : (sources : List Source) (units : List (UnitTree Span)) (words : List ℕ) → AreRead sources units words → (kind : DeclKind) (file at : ℕ)
-    → IsFirstFault (lines_of words units) (sites_of begins units) kind (record { file = file; at = at }) → ToldOf sources file at (kind_name kind)
+    → IsFirstFault (lines_of words units) (declarations_of begins units) kind (record { file = file; at = at }) → ToldOf sources file at (kind_name kind)
 build_fault_told sources units words read kind file at h =
-    let first = subst (λ ps. IsFirstFault ps (sites_of begins units) kind (record { file = file; at = at })) (sym (lines_are units words)) h in
+    let first = subst (λ ps. IsFirstFault ps (declarations_of begins units) kind (record { file = file; at = at })) (sym (lines_are units words)) h in
     let lt = fault_file units words kind (record { file = file; at = at }) first.has in
     let n = (counts sources units words read).0 in
     let s = element sources file (omega (arith, lt, n)) in (
@@ -51,7 +51,7 @@ build_fault_told sources units words read kind file at h =
 
 -- and the fault as it is kept
 pub source_fault : (sources : List Source) (units : List (UnitTree Span)) (words : List ℕ) → AreRead sources units words → (kind : DeclKind) (file at : ℕ)
-    → IsFirstFault (lines_of words units) (sites_of begins units) kind (record { file = file; at = at }) → (f : SourceFault) → f.file ≡ file → f.at ≡ at → f.kind.now ≡ kind_name kind → IsSourceFault sources f
+    → IsFirstFault (lines_of words units) (declarations_of begins units) kind (record { file = file; at = at }) → (f : SourceFault) → f.file ≡ file → f.at ≡ at → f.kind.now ≡ kind_name kind → IsSourceFault sources f
 source_fault sources units words read kind file at h f e e' told =
     let t = build_fault_told sources units words read kind file at h in record {
       name = t.0;

@@ -18,7 +18,7 @@ use Rattle.jr_table.specs.Decls.{MemberKey}
 use Rattle.jr_table.specs.Rows.{Row}
 use Rattle.jr_table.specs.SameDecls.{same_member, member_decides}
 use Rattle.jr_table.specs.Conditions.{AreRows}
-use Rattle.jr_table.specs.Sites.{Site, sites_of}
+use Rattle.jr_table.specs.Declared.{DeclaredItem, declarations_of}
 use Rattle.jr_table.specs.ProgramRows.{AreProgramRows}
 use Rattle.jr_table.specs.Faults.{PackageLine, IsClean}
 use Rattle.jr_table.specs.declared.kinds.DeclKind.TheVariants as kind
@@ -97,17 +97,17 @@ reads_with text u w h = record {
 }
 
 -- no package line differs where there is none
-no_lines : (packages : List (Option PackageLine)) (sites : List Site) → IsClean packages sites → IsClean [] sites
-no_lines packages sites h kind.PackageDiffers p f = absurd (none-some f.0 f.2)
-no_lines packages sites h kind.PreludeName p f = h kind.PreludeName p f
-no_lines packages sites h kind.TwiceClass p f = h kind.TwiceClass p f
-no_lines packages sites h kind.NoSuperclass p f = h kind.NoSuperclass p f
-no_lines packages sites h kind.Cycle p f = h kind.Cycle p f
-no_lines packages sites h kind.NoTy p f = h kind.NoTy p f
-no_lines packages sites h kind.TwiceMember p f = h kind.TwiceMember p f
-no_lines packages sites h kind.MemberTypeName p f = h kind.MemberTypeName p f
-no_lines packages sites h kind.BadModifiers p f = h kind.BadModifiers p f
-no_lines packages sites h kind.StaticInit p f = h kind.StaticInit p f
+no_lines : (packages : List (Option PackageLine)) (declarations : List DeclaredItem) → IsClean packages declarations → IsClean [] declarations
+no_lines packages declarations h kind.PackageDiffers p f = absurd (none-some f.0 f.2)
+no_lines packages declarations h kind.PreludeName p f = h kind.PreludeName p f
+no_lines packages declarations h kind.TwiceClass p f = h kind.TwiceClass p f
+no_lines packages declarations h kind.NoSuperclass p f = h kind.NoSuperclass p f
+no_lines packages declarations h kind.Cycle p f = h kind.Cycle p f
+no_lines packages declarations h kind.NoTy p f = h kind.NoTy p f
+no_lines packages declarations h kind.TwiceMember p f = h kind.TwiceMember p f
+no_lines packages declarations h kind.MemberTypeName p f = h kind.MemberTypeName p f
+no_lines packages declarations h kind.BadModifiers p f = h kind.BadModifiers p f
+no_lines packages declarations h kind.StaticInit p f = h kind.StaticInit p f
 
 -- ---- where `super(..)` stands
 
@@ -187,10 +187,10 @@ module _ (rows : List Row) (files : List (List Item)) where
 
 -- ---- a member of some file
 
-in_units : (sites : List Site) (P : MemberKey → (base : ℕ) → Part Span → Type 0) (us : List (UnitTree Span)) (k : MemberKey) → InUnits begins sites P us k → (i : ℕ) × (u : UnitTree Span) × (slice_get us i ≡ Some u) × InClasses begins sites P (begins u.mark 0) u.classes k
-in_units sites P [] k h = absurd h
-in_units sites P (u ∷ us) k (inl h) = (0, u, refl, h)
-in_units sites P (u ∷ us) k (inr h) = let m = in_units sites P us k h in (suc m.0, m.1, m.2, m.3)
+in_units : (declarations : List DeclaredItem) (P : MemberKey → (base : ℕ) → Part Span → Type 0) (us : List (UnitTree Span)) (k : MemberKey) → InUnits begins declarations P us k → (i : ℕ) × (u : UnitTree Span) × (slice_get us i ≡ Some u) × InClasses begins declarations P (begins u.mark 0) u.classes k
+in_units declarations P [] k h = absurd h
+in_units declarations P (u ∷ us) k (inl h) = (0, u, refl, h)
+in_units declarations P (u ∷ us) k (inr h) = let m = in_units declarations P us k h in (suc m.0, m.1, m.2, m.3)
 
 -- ---- the whole
 
@@ -214,7 +214,7 @@ module _ (sources : List Source) (a : Analysis) (is : IsAnalysis sources a) (val
 
   sound : IsSound begins a.table (super_in bounds) is.units
   sound k e h =
-      let u = in_units (sites_of begins is.units) _ is.units k h in
+      let u = in_units (declarations_of begins is.units) _ is.units k h in
       let r = written_in is.units u.0 (λ j base part. Breaks begins a.table (super_in bounds j) j base part (begins (part_mark part) base + e.at) e.rule) (record { unit = u.1; stands = u.2; member = k; has = u.3 }) in
       let m = law.all u.0 k r.0 r.1 r.3 in
       let w = m.0 in
@@ -255,8 +255,8 @@ module _ (sources : List Source) (a : Analysis) (is : IsAnalysis sources a) (val
     heads_fit = units_gathered begins (units_of whole);
     members_fit = λ w has. whole_fits begins w.base w.part;
     are_rows = fit;
-    rows = subst (λ (us : List (UnitTree Span)). AreProgramRows (sites_of begins us) a.table) (sym units_are) is.rows;
-    clean = subst (λ (us : List (UnitTree Span)). IsClean [] (sites_of begins us)) (sym units_are) (no_lines (package_lines is.units is.words) (sites_of begins is.units) is.program.clean);
+    rows = subst (λ (us : List (UnitTree Span)). AreProgramRows (declarations_of begins us) a.table) (sym units_are) is.rows;
+    clean = subst (λ (us : List (UnitTree Span)). IsClean [] (declarations_of begins us)) (sym units_are) (no_lines (package_lines is.units is.words) (declarations_of begins is.units) is.program.clean);
     sound = subst (λ (us : List (UnitTree Span)). IsSound begins a.table (super_in bounds) us) (sym units_are) sound;
     supers = λ w has. supers w (subst (λ (ws : List (WrittenMember Span)). Contains ws w) members_are has);
     bound = subst (λ (ws : List (WrittenMember Span)). AreBound itself Anywhere a.table (super_in bounds) ws (map (λ (b : MemberBound). b.bound) bounds)) (sym members_are) (each_bound a.table is.tokens (super_in bounds) written bounds is.each place_is);

@@ -6,7 +6,7 @@ use Rattle.jr_lex.specs.declared.items.Item.{Item}
 use Rattle.jr_lex.specs.Lexes.{Lexes}
 use Rattle.jr_ast.specs.MemberTree.{Unit as UnitTree}
 use Rattle.jr_table.specs.Decls.{Decl}
-use Rattle.jr_table.specs.Sites.{sites_of}
+use Rattle.jr_table.specs.Declared.{declarations_of}
 use Rattle.jr_table.specs.ProgramRows.{AreProgramRows}
 use Rattle.jr_table.specs.declared.rules.Rule.{Rule}
 use Rattle.jr_places.specs.FileParts.{begins, BindsAt, BreaksAt, InFile}
@@ -31,7 +31,7 @@ pub record IsAnalysis (sources : List Source) (a : Analysis) : Type 0 where
   pub units : List (UnitTree Span)
   pub words : List ℕ
   pub program : AreProgram sources units words
-  pub rows : AreProgramRows (sites_of begins units) a.table
+  pub rows : AreProgramRows (declarations_of begins units) a.table
   pub tokens : List (List Item)
   pub lexed : AreLexed (texts_of sources) tokens
   pub order : AreInFileOrder a.members.items

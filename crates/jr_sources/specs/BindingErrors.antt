@@ -8,7 +8,7 @@ use Rattle.jr_ast.specs.MemberTree.{Unit as UnitTree}
 use Rattle.jr_table.specs.Rows.{Row}
 use Rattle.jr_table.specs.Names.{rule_name}
 use Rattle.jr_table.specs.Errors.{rule_rank}
-use Rattle.jr_table.specs.Sites.{sites_of}
+use Rattle.jr_table.specs.Declared.{declarations_of}
 use Rattle.jr_table.specs.ProgramRows.{AreProgramRows}
 use Rattle.jr_table.specs.declared.rules.Rule.{Rule}
 use Rattle.jr_places.specs.FileParts.{begins, BreaksAt, InFile}
@@ -21,7 +21,7 @@ pub record BreaksRule (sources : List Source) (file at : ℕ) (r : Rule) : Type 
   pub words : List ℕ
   pub program : AreProgram sources units words
   pub rows : List Row
-  pub are_rows : AreProgramRows (sites_of begins units) rows
+  pub are_rows : AreProgramRows (declarations_of begins units) rows
   pub source : Source
   pub stands : slice_get sources file ≡ Some source
   pub items : List Item

@@ -18,7 +18,7 @@ use Rattle.jr_ast.specs.Tree as tree
 use Rattle.jr_ast.specs.MemberTree.{Unit as UnitTree}
 use Rattle.jr_table.specs.declared.kinds.DeclKind.{DeclKind}
 use Rattle.jr_table.specs.Names.{kind_name}
-use Rattle.jr_table.specs.Sites.{sites_of}
+use Rattle.jr_table.specs.Declared.{declarations_of}
 use Rattle.jr_table.specs.Faults.{Place, PackageLine, IsFirstFault, IsClean}
 use Rattle.jr_places.specs.FileParts.{begins}
 use Rattle.jr_sources.specs.declared.faults.ReadingFault.{ReadingFault}
@@ -70,7 +70,7 @@ pub record IsDeclarationFault (sources : List Source) (file : List ℕ) (at : �
   pub read : AreRead sources units words
   pub of : DeclKind
   pub place : Place
-  pub first : IsFirstFault (package_lines units words) (sites_of begins units) of place
+  pub first : IsFirstFault (package_lines units words) (declarations_of begins units) of place
   pub text : List ℕ
   pub stands : slice_get sources place.file ≡ Some (record { name = file; text = text })
   pub told_at : at ≡ place.at
@@ -86,4 +86,4 @@ IsFirstFaultOf sources file at kind =
 pub record AreProgram (sources : List Source) (units : List (UnitTree Span))
     (words : List ℕ) : Type 0 where
   pub read : AreRead sources units words
-  pub clean : IsClean (package_lines units words) (sites_of begins units)
+  pub clean : IsClean (package_lines units words) (declarations_of begins units)

@@ -3,7 +3,7 @@ use Rattle.std.specs.Prelude.{ℕ, List}
 use Rattle.jr_text.specs.declared.spans.Span.{Span}
 use Rattle.jr_ast.specs.MemberTree.{Unit as UnitTree}
 use Rattle.jr_table.specs.Rows.{Row}
-use Rattle.jr_table.specs.Sites.{sites_of}
+use Rattle.jr_table.specs.Declared.{declarations_of}
 use Rattle.jr_table.specs.ProgramRows.{AreProgramRows}
 use Rattle.jr_places.specs.FileParts.{begins}
 use Rattle.jr_sources.specs.Sources.{Source}
@@ -13,4 +13,4 @@ use Rattle.jr_sources.specs.FirstFault.{AreRead, AreProgram}
 abbrev pub IsTableOf : List Source → List Row → Type 0
 IsTableOf sources rows = (units : List (UnitTree Span)) (words : List ℕ)
     → AreRead sources units words
-    → AreProgram sources units words × AreProgramRows (sites_of begins units) rows
+    → AreProgram sources units words × AreProgramRows (declarations_of begins units) rows

@@ -27,23 +27,23 @@ use Rattle.jr_ast.specs.declared.operators.ModWord.TheVariants as word
 use Rattle.jr_table.specs.declared.kinds.DeclKind.{DeclKind}
 use Rattle.jr_table.specs.declared.kinds.DeclKind.TheVariants as kind
 use Rattle.jr_table.specs.Keys.{ClassKey, Ty}
-use Rattle.jr_table.specs.Sites.{
+use Rattle.jr_table.specs.Declared.{
   Written,
   int,
   boolean,
   named,
-  ParamSite,
-  InitSite,
-  ClassSite,
-  FieldSite,
-  MethodSite,
-  CtorSite,
+  DeclaredParam,
+  DeclaredInit,
+  DeclaredClass,
+  DeclaredField,
+  DeclaredMethod,
+  DeclaredCtor,
   Item,
   class_item,
   field_item,
   method_item,
   ctor_item,
-  Site,
+  DeclaredItem,
 }
 use Rattle.jr_table.specs.Resolving.{HasWord, IsPreludeClass, IsParent, Climbs, Means}
 
@@ -69,9 +69,9 @@ abbrev pub line_at : Option PackageLine → ℕ
 line_at None = 0
 line_at (Some l) = l.at
 
--- site i of a file
-pub record At (sites : List Site) (i file : ℕ) (item : Item) : Type 0 where
-  pub stands : slice_get sites i ≡ Some (record { file = file; item = item })
+-- declaration i of a file
+pub record At (declarations : List DeclaredItem) (i file : ℕ) (item : Item) : Type 0 where
+  pub stands : slice_get declarations i ≡ Some (record { file = file; item = item })
 
 abbrev pub IsReserved : List ℕ → Type 0
 IsReserved name = IsPreludeClass name ⊎ (name ≡ codes "Runnable")
@@ -125,7 +125,7 @@ AreBad May ws = ((w : ModWord) × IsTwice ws w)
     ⊎ (HasWord ws word.Final × HasWord ws word.Volatile)))
 
 -- a member class is declared `static` too
-abbrev pub ClassWordsBad : ClassSite → Option (List ℕ) → Type 0
+abbrev pub ClassWordsBad : DeclaredClass → Option (List ℕ) → Type 0
 ClassWordsBad c None = AreBad TopWord c.modifiers
 ClassWordsBad c (Some outer) = AreBad InnerWord c.modifiers ⊎ (HasWord c.modifiers word.Static → ⊥)
 
@@ -143,7 +143,7 @@ name_at (method_item m) = m.at
 name_at (ctor_item c) = c.at
 
 -- the types that a member writes, and where it stands
-abbrev pub Writes : List ParamSite → Written → Type 0
+abbrev pub Writes : List DeclaredParam → Written → Type 0
 Writes [] t = ⊥
 Writes (p ∷ ps) t = (p.type ≡ t) ⊎ Writes ps t
 
@@ -153,12 +153,12 @@ WritesType (field_item f) k t = (f.of ≡ k) × (f.type ≡ t)
 WritesType (method_item m) k t = (m.of ≡ k) × ((m.result ≡ Some t) ⊎ Writes m.params t)
 WritesType (ctor_item c) k t = (c.of ≡ k) × Writes c.params t
 
-module _ (sites : List Site) where
+module _ (declarations : List DeclaredItem) where
   -- the types of two lists of parameters are the same
-  abbrev pub SameTypes : ClassKey → List ParamSite → List ParamSite → Type 0
+  abbrev pub SameTypes : ClassKey → List DeclaredParam → List DeclaredParam → Type 0
   SameTypes k [] [] = Unit {0}
   SameTypes k (p ∷ ps) (q ∷ qs) =
-      ((t : Ty) × Means sites k p.type t × Means sites k q.type t) × SameTypes k ps qs
+      ((t : Ty) × Means declarations k p.type t × Means declarations k q.type t) × SameTypes k ps qs
   SameTypes k _ _ = ⊥
 
   -- the later of two members declares what the earlier does
@@ -169,18 +169,18 @@ module _ (sites : List Site) where
   SameMember (ctor_item c) (ctor_item d) = (c.of ≡ d.of) × SameTypes c.of c.params d.params
   SameMember _ _ = ⊥
 
-abbrev pub params_of : Item → List ParamSite
+abbrev pub params_of : Item → List DeclaredParam
 params_of (method_item m) = m.params
 params_of (ctor_item c) = c.params
 params_of _ = []
 
 -- the second of two parameters of one name stands there
-pub record ParamTwice (ps : List ParamSite) (at : ℕ) : Type 0 where
+pub record ParamTwice (ps : List DeclaredParam) (at : ℕ) : Type 0 where
   pub i : ℕ
   pub j : ℕ
   pub before : i < j
-  pub first : ParamSite
-  pub second : ParamSite
+  pub first : DeclaredParam
+  pub second : DeclaredParam
   pub one : slice_get ps i ≡ Some first
   pub other : slice_get ps j ≡ Some second
   pub same : first.name ≡ second.name
@@ -195,39 +195,39 @@ HasItsName k _ = ⊥
 -- a static field has an initializer of another form there
 abbrev pub InitIsBad : Item → ℕ → Type 0
 InitIsBad (field_item f) at = HasWord f.modifiers word.Static
-    × ((i : InitSite) × (f.init ≡ Some i) × (i.is_simple ≡ false) × (i.at ≡ at))
+    × ((i : DeclaredInit) × (f.init ≡ Some i) × (i.is_simple ≡ false) × (i.at ≡ at))
 InitIsBad _ at = ⊥
 
-module _ (packages : List (Option PackageLine)) (sites : List Site) where
+module _ (packages : List (Option PackageLine)) (declarations : List DeclaredItem) where
   -- a fault of the kind stands there
   abbrev pub HasFault : DeclKind → Place → Type 0
   HasFault kind.PackageDiffers p = (first : Option PackageLine) × (own : Option PackageLine)
       × (slice_get packages 0 ≡ Some first) × (slice_get packages p.file ≡ Some own)
       × (names_of own ≢ names_of first) × (p.at ≡ line_at own)
-  HasFault kind.PreludeName p = (i : ℕ) × (c : ClassSite) × At sites i p.file (class_item c)
+  HasFault kind.PreludeName p = (i : ℕ) × (c : DeclaredClass) × At declarations i p.file (class_item c)
       × IsReserved c.key.name × (p.at ≡ c.at)
   HasFault kind.TwiceClass p =
-      (j : ℕ) × (c : ClassSite) × At sites j p.file (class_item c) × (p.at ≡ c.at)
-      × (((i : ℕ) × (file : ℕ) × (d : ClassSite) × (i < j) × At sites i file (class_item d)
+      (j : ℕ) × (c : DeclaredClass) × At declarations j p.file (class_item c) × (p.at ≡ c.at)
+      × (((i : ℕ) × (file : ℕ) × (d : DeclaredClass) × (i < j) × At declarations i file (class_item d)
       × (d.key ≡ c.key)) ⊎ IsNamedAsOuter c.key)
-  HasFault kind.NoSuperclass p = (i : ℕ) × (c : ClassSite) × (outer : Option (List ℕ))
-      × (name : List ℕ) × At sites i p.file (class_item c)
+  HasFault kind.NoSuperclass p = (i : ℕ) × (c : DeclaredClass) × (outer : Option (List ℕ))
+      × (name : List ℕ) × At declarations i p.file (class_item c)
       × (c.parent ≡ Some (named p.at outer name))
-      × ((q : ClassKey) → IsParent sites c.key q → ⊥)
-  HasFault kind.Cycle p = (i : ℕ) × (c : ClassSite) × (steps : ℕ) × At sites i p.file (class_item c)
-      × Climbs sites (suc steps) c.key c.key × (p.at ≡ c.at)
+      × ((q : ClassKey) → IsParent declarations c.key q → ⊥)
+  HasFault kind.Cycle p = (i : ℕ) × (c : DeclaredClass) × (steps : ℕ) × At declarations i p.file (class_item c)
+      × Climbs declarations (suc steps) c.key c.key × (p.at ≡ c.at)
   HasFault kind.NoTy p = (i : ℕ) × (item : Item) × (k : ClassKey) × (outer : Option (List ℕ))
-      × (name : List ℕ) × At sites i p.file item × WritesType item k (named p.at outer name)
-      × ((t : Ty) → Means sites k (named p.at outer name) t → ⊥)
-  HasFault kind.TwiceMember p = (j : ℕ) × (m : Item) × At sites j p.file m
-      × (((i : ℕ) × (file : ℕ) × (l : Item) × (i < j) × At sites i file l × SameMember sites l m
+      × (name : List ℕ) × At declarations i p.file item × WritesType item k (named p.at outer name)
+      × ((t : Ty) → Means declarations k (named p.at outer name) t → ⊥)
+  HasFault kind.TwiceMember p = (j : ℕ) × (m : Item) × At declarations j p.file m
+      × (((i : ℕ) × (file : ℕ) × (l : Item) × (i < j) × At declarations i file l × SameMember declarations l m
       × (p.at ≡ name_at m)) ⊎ ParamTwice (params_of m) p.at)
-  HasFault kind.MemberTypeName p = (i : ℕ) × (j : ℕ) × (file : ℕ) × (c : ClassSite) × (m : Item)
-      × At sites i p.file (class_item c) × At sites j file m × HasItsName c.key m × (p.at ≡ c.at)
+  HasFault kind.MemberTypeName p = (i : ℕ) × (j : ℕ) × (file : ℕ) × (c : DeclaredClass) × (m : Item)
+      × At declarations i p.file (class_item c) × At declarations j file m × HasItsName c.key m × (p.at ≡ c.at)
   HasFault kind.BadModifiers p =
-      (i : ℕ) × (item : Item) × At sites i p.file item × WordsBad item × (p.at ≡ name_at item)
+      (i : ℕ) × (item : Item) × At declarations i p.file item × WordsBad item × (p.at ≡ name_at item)
   HasFault kind.StaticInit p =
-      (i : ℕ) × (item : Item) × At sites i p.file item × InitIsBad item p.at
+      (i : ℕ) × (item : Item) × At declarations i p.file item × InitIsBad item p.at
 
   -- the order of the kinds
   abbrev pub rank_of : DeclKind → ℕ

@@ -4,14 +4,14 @@ use Rattle.jr_ast.specs.View.{unit_of}
 use Rattle.jr_build.specs.Builds.{IsCleanBelow, IsFoundFault}
 use Rattle.jr_build.specs.HierarchyView.{hierarchy_of}
 use Rattle.jr_build.specs.Packages.{lines_of}
-use Rattle.jr_build.specs.SiteView.{site_of}
+use Rattle.jr_build.specs.DeclaredView.{declaration_of}
 use Rattle.jr_build.proofs.Cleaning.{none_first, err_clean, err_fault}
 use Rattle.jr_build.proofs.builds.no_name_fault.Goals as goal
 
 pub returns-in_err-none_of : goal.returns-in_err-none_of
 returns-in_err-none_of g c =
     let pk = lines_of c.args.words.now (map unit_of c.args.units.now) in
-    let ss = map site_of c.args.sites.now in
+    let ss = map declaration_of c.args.declarations.now in
     let p = err_from_is_err_and c.from_residual.result c.from_residual.ensures.1 in
     record {
       clean = err_clean c.from_residual.result _ p.0 p.1;
@@ -22,7 +22,7 @@ returns-in_err-none_of g c =
 pub returns-in_err-none_of-2 : goal.returns-in_err-none_of-2
 returns-in_err-none_of-2 g c =
     let pk = lines_of c.args.words.now (map unit_of c.args.units.now) in
-    let ss = map site_of c.args.sites.now in
+    let ss = map declaration_of c.args.declarations.now in
     let p = err_from_is_err_and c.from_residual-in_err-none_of-2.result c.from_residual-in_err-none_of-2.ensures.1 in
     let b2 = c.in_ok-none_of.ensures.clean pk ss (none_first pk ss) (c.package_differs.ensures ss) in
     record {
@@ -34,7 +34,7 @@ returns-in_err-none_of-2 g c =
 pub returns-in_err-twice_class : goal.returns-in_err-twice_class
 returns-in_err-twice_class g c =
     let pk = lines_of c.args.words.now (map unit_of c.args.units.now) in
-    let ss = map site_of c.args.sites.now in
+    let ss = map declaration_of c.args.declarations.now in
     let p = err_from_is_err_and c.from_residual-in_err-twice_class.result c.from_residual-in_err-twice_class.ensures.1 in
     record {
       clean = err_clean c.from_residual-in_err-twice_class.result _ p.0 p.1;
@@ -44,7 +44,7 @@ returns-in_err-twice_class g c =
 pub returns : goal.returns
 returns g c =
     let pk = lines_of c.args.words.now (map unit_of c.args.units.now) in
-    let ss = map site_of c.args.sites.now in
+    let ss = map declaration_of c.args.declarations.now in
     let b2 = c.in_ok-none_of.ensures.clean pk ss (none_first pk ss) (c.package_differs.ensures ss) in
     let b3 = c.in_ok-none_of-2.ensures.clean pk ss b2 (c.prelude_name.ensures pk) in
     record {

@@ -2,13 +2,13 @@ use Rattle.std.proofs.Common.{map, sym, ap, subst}
 use Rattle.std.proofs.lemmas.Result.{err_from_is_err_and}
 use Rattle.jr_build.specs.Builds.{IsCleanBelow, IsFoundFault}
 use Rattle.jr_build.specs.HierarchyView.{hierarchy_of}
-use Rattle.jr_build.specs.SiteView.{site_of}
+use Rattle.jr_build.specs.DeclaredView.{declaration_of}
 use Rattle.jr_build.proofs.Cleaning.{err_clean, err_fault}
 use Rattle.jr_build.proofs.builds.no_type_fault.Goals as goal
 
 pub returns-in_err-none_of : goal.returns-in_err-none_of
 returns-in_err-none_of c =
-    let ss = map site_of c.args.sites.now in
+    let ss = map declaration_of c.args.declarations.now in
     let p = err_from_is_err_and c.from_residual.result c.from_residual.ensures.1 in
     record {
       clean = λ packages below. err_clean c.from_residual.result _ p.0 p.1;
@@ -19,7 +19,7 @@ returns-in_err-none_of c =
 
 pub returns-in_err-cycle : goal.returns-in_err-cycle
 returns-in_err-cycle c =
-    let ss = map site_of c.args.sites.now in
+    let ss = map declaration_of c.args.declarations.now in
     let p = err_from_is_err_and c.from_residual-in_err-cycle.result c.from_residual-in_err-cycle.ensures.1 in
     record {
       clean = λ packages below. err_clean c.from_residual-in_err-cycle.result _ p.0 p.1;
@@ -28,7 +28,7 @@ returns-in_err-cycle c =
 
 pub returns-in_err-none_of-2 : goal.returns-in_err-none_of-2
 returns-in_err-none_of-2 c =
-    let ss = map site_of c.args.sites.now in
+    let ss = map declaration_of c.args.declarations.now in
     let p = err_from_is_err_and c.from_residual-in_err-none_of-2.result c.from_residual-in_err-none_of-2.ensures.1 in
     record {
       clean = λ packages below. err_clean c.from_residual-in_err-none_of-2.result _ p.0 p.1;
@@ -40,7 +40,7 @@ returns-in_err-none_of-2 c =
 
 pub returns-in_err-none_of-3 : goal.returns-in_err-none_of-3
 returns-in_err-none_of-3 c =
-    let ss = map site_of c.args.sites.now in
+    let ss = map declaration_of c.args.declarations.now in
     let p = err_from_is_err_and c.from_residual-in_err-none_of-3.result c.from_residual-in_err-none_of-3.ensures.1 in
     record {
       clean = λ packages below. err_clean c.from_residual-in_err-none_of-3.result _ p.0 p.1;
@@ -53,7 +53,7 @@ returns-in_err-none_of-3 c =
 
 pub returns-in_err-twice_member : goal.returns-in_err-twice_member
 returns-in_err-twice_member c =
-    let ss = map site_of c.args.sites.now in
+    let ss = map declaration_of c.args.declarations.now in
     let p = err_from_is_err_and c.from_residual-in_err-twice_member.result c.from_residual-in_err-twice_member.ensures.1 in
     record {
       clean = λ packages below. err_clean c.from_residual-in_err-twice_member.result _ p.0 p.1;
@@ -62,7 +62,7 @@ returns-in_err-twice_member c =
 
 pub returns : goal.returns
 returns c =
-    let ss = map site_of c.args.sites.now in
+    let ss = map declaration_of c.args.declarations.now in
     record {
       clean = λ packages below.
           let b1 = c.in_ok-none_of.ensures.clean packages ss below (c.no_superclass.ensures packages) in
@@ -77,9 +77,9 @@ returns c =
     }
 
 pub no_type-requires : goal.no_type-requires
-no_type-requires c = c.hierarchies_are_exact.ensures.means (map site_of c.args.sites.now)
+no_type-requires c = c.hierarchies_are_exact.ensures.means (map declaration_of c.args.declarations.now)
     (hierarchy_of c.args.h.now) c.requires.known
 
 pub twice_member-requires-clause-known : goal.twice_member-requires-clause-known
 twice_member-requires-clause-known c = c.hierarchies_are_exact.ensures.means
-    (map site_of c.args.sites.now) (hierarchy_of c.args.h.now) c.requires.known
+    (map declaration_of c.args.declarations.now) (hierarchy_of c.args.h.now) c.requires.known

@@ -6,14 +6,14 @@ use Rattle.jr_build.proofs.builds.none_of.Goals as goal
 
 pub returns-in-None : goal.returns-in-None
 returns-in-None c = record {
-  clean = λ packages sites below earliest. next_clean packages sites c.args.kind below
-      (subst (λ o. IsEarliest (HasFault packages sites c.args.kind) (option_map place_of o)) c.in-None.is earliest);
-  fault = λ packages sites below earliest. tt;
+  clean = λ packages declarations below earliest. next_clean packages declarations c.args.kind below
+      (subst (λ o. IsEarliest (HasFault packages declarations c.args.kind) (option_map place_of o)) c.in-None.is earliest);
+  fault = λ packages declarations below earliest. tt;
 }
 
 pub returns-in-Some : goal.returns-in-Some
 returns-in-Some c = record {
-  clean = λ packages sites below earliest. tt;
-  fault = λ packages sites below earliest. first_fault packages sites c.args.kind (place_of c.in-Some.place) below
-      (subst (λ o. IsEarliest (HasFault packages sites c.args.kind) (option_map place_of o)) c.in-Some.is earliest);
+  clean = λ packages declarations below earliest. tt;
+  fault = λ packages declarations below earliest. first_fault packages declarations c.args.kind (place_of c.in-Some.place) below
+      (subst (λ o. IsEarliest (HasFault packages declarations c.args.kind) (option_map place_of o)) c.in-Some.is earliest);
 }

@@ -1,11 +1,11 @@
 use Rattle.std.proofs.Common.{map, option_map}
 use Rattle.jr_build.specs.Places.{place_of, IsEarliest}
-use Rattle.jr_build.specs.SiteFaults.{Among}
-use Rattle.jr_build.specs.SiteView.{site_of}
+use Rattle.jr_build.specs.DeclarationFaults.{Among}
+use Rattle.jr_build.specs.DeclaredView.{declaration_of}
 use Rattle.jr_build.specs.Superclasses.{UnparentedAt}
 use Rattle.jr_build.proofs.class_faults.no_superclass.Given as goal
 
--- it is the earliest among the sites so far
+-- it is the earliest among the declarations so far
 abbrev pub invariant-loop-number : goal.invariant-loop-number
 invariant-loop-number l =
-    IsEarliest (Among (map site_of l.sites) (λ _. UnparentedAt (map site_of l.sites)) l.number) (option_map place_of l.first)
+    IsEarliest (Among (map declaration_of l.declarations) (λ _. UnparentedAt (map declaration_of l.declarations)) l.number) (option_map place_of l.first)

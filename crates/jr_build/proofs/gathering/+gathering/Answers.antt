@@ -7,11 +7,11 @@ use Rattle.jr_ast.proofs.Rows.{class_of-out}
 use Rattle.jr_ast.proofs.Sizes.{member_size, members_size, class_size}
 use Rattle.jr_ast.proofs.Marking.{members_add, falls_further, falls_whole_row, falls_item}
 use Rattle.jr_build.specs.Fitting.{begins_by, WordFits, MaybeTypeFits, MemberFits, ClassFits, MembersFit}
-use Rattle.jr_table.specs.Sites.{Site, class_item, field_item, method_item, ctor_item, word_at, written, words, param_site, init_site, writes_ctor, member_sites, class_sites, members_sites}
+use Rattle.jr_table.specs.Declared.{DeclaredItem, class_item, field_item, method_item, ctor_item, word_at, written, words, param_declaration, init_declaration, writes_ctor, member_declarations, class_declarations, members_declarations}
 use Rattle.jr_build.specs.Gathers.{in_file}
-use Rattle.jr_build.specs.SiteView.{text_of, site_of, site_key_of}
+use Rattle.jr_build.specs.DeclaredView.{text_of, declaration_of, declaration_key_of}
 use Rattle.jr_build.proofs.ClassParts.{class_parts, member_begins}
-use Rattle.jr_build.proofs.SiteLists as lists
+use Rattle.jr_build.proofs.DeclarationLists as lists
 use Rattle.jr_build.proofs.gathering.+gathering.Goals as goal
 
 pub member-begin-requires : goal.member-begin-requires
@@ -36,12 +36,12 @@ put_same : {S : Type 0} (old new own other : List S) → own ≡ other → new �
 put_same old new own other same is = is ∙ ap (λ xs. old ++ xs) same
 
 pub member-returns-in-Field : goal.member-returns-in-Field
-unfolding member_kind member_row class_of member_sites class_sites members_sites
+unfolding member_kind member_row class_of member_declarations class_declarations members_declarations
 member-returns-in-Field g t c =
     let B = begins_by g.A.Mark.span_from in
     let x = c.in-Field in
     let file = c.args.at.file in
-    let key = site_key_of c.args.of.now in
+    let key = declaration_key_of c.args.of.now in
     let start = c.begin.ensures in
     on_ok_weaker c.push_field.result
     (λ e. put_same _ _ _ _
@@ -51,17 +51,17 @@ member-returns-in-Field g t c =
       name = (word_of x.name).text;
       modifiers = words B (map modifier_of (c.deref.ensures.value i));
       type = written B (start i) (type_of x.ty);
-      init = option_map (init_site B (start i)) (option_map expr_of x.init);
+      init = option_map (init_declaration B (start i)) (option_map expr_of x.init);
     }) ∷ []))
-    ∙ sym (ap (λ (d : syntax.Member g.row.A.Denot). in_file file (member_sites B c.args.at.base key d)) (ap (member_kind c.args.member.now.mark) x.is))) e) c.push_field.ensures
+    ∙ sym (ap (λ (d : syntax.Member g.row.A.Denot). in_file file (member_declarations B c.args.at.base key d)) (ap (member_kind c.args.member.now.mark) x.is))) e) c.push_field.ensures
 
 pub member-returns-in-Method : goal.member-returns-in-Method
-unfolding member_kind member_row class_of member_sites class_sites members_sites
+unfolding member_kind member_row class_of member_declarations class_declarations members_declarations
 member-returns-in-Method g t c =
     let B = begins_by g.A.Mark.span_from in
     let x = c.in-Method in
     let file = c.args.at.file in
-    let key = site_key_of c.args.of.now in
+    let key = declaration_key_of c.args.of.now in
     let start = c.begin.ensures in
     on_ok_weaker c.push_method.result
     (λ e. put_same _ _ _ _
@@ -71,17 +71,17 @@ member-returns-in-Method g t c =
       name = (word_of x.name).text;
       modifiers = words B (map modifier_of (c.deref-in-Method.ensures.value i));
       result = option_map (written B (start i)) (option_map type_of x.ret);
-      params = map (param_site B (start i)) (map param_of (c.deref-in-Method-2.ensures.value i));
+      params = map (param_declaration B (start i)) (map param_of (c.deref-in-Method-2.ensures.value i));
     }) ∷ []))
-    ∙ sym (ap (λ (d : syntax.Member g.row.A.Denot). in_file file (member_sites B c.args.at.base key d)) (ap (member_kind c.args.member.now.mark) x.is))) e) c.push_method.ensures
+    ∙ sym (ap (λ (d : syntax.Member g.row.A.Denot). in_file file (member_declarations B c.args.at.base key d)) (ap (member_kind c.args.member.now.mark) x.is))) e) c.push_method.ensures
 
 pub member-returns-in-Ctor : goal.member-returns-in-Ctor
-unfolding member_kind member_row class_of member_sites class_sites members_sites
+unfolding member_kind member_row class_of member_declarations class_declarations members_declarations
 member-returns-in-Ctor g t c =
     let B = begins_by g.A.Mark.span_from in
     let x = c.in-Ctor in
     let file = c.args.at.file in
-    let key = site_key_of c.args.of.now in
+    let key = declaration_key_of c.args.of.now in
     let start = c.begin.ensures in
     on_ok_weaker c.push_ctor.result
     (λ e. put_same _ _ _ _
@@ -89,22 +89,22 @@ member-returns-in-Ctor g t c =
       at = word_at B (start i) (word_of x.name);
       of = key;
       modifiers = words B (map modifier_of (c.deref-in-Ctor.ensures.value i));
-      params = map (param_site B (start i)) (map param_of (c.deref-in-Ctor-2.ensures.value i));
+      params = map (param_declaration B (start i)) (map param_of (c.deref-in-Ctor-2.ensures.value i));
     }) ∷ []))
-    ∙ sym (ap (λ (d : syntax.Member g.row.A.Denot). in_file file (member_sites B c.args.at.base key d)) (ap (member_kind c.args.member.now.mark) x.is))) e) c.push_ctor.ensures
+    ∙ sym (ap (λ (d : syntax.Member g.row.A.Denot). in_file file (member_declarations B c.args.at.base key d)) (ap (member_kind c.args.member.now.mark) x.is))) e) c.push_ctor.ensures
 
 pub member-returns-in-Inner : goal.member-returns-in-Inner
-unfolding member_kind member_row class_of member_sites class_sites members_sites
+unfolding member_kind member_row class_of member_declarations class_declarations members_declarations
 member-returns-in-Inner g t c =
     let B = begins_by g.A.Mark.span_from in
     let x = c.in-Inner in
     let file = c.args.at.file in
-    let key = site_key_of c.args.of.now in
+    let key = declaration_key_of c.args.of.now in
     let start = c.begin.ensures in
     on_ok_weaker c.class.result
     (λ e. put_same _ _ _ _
-    ((λ i. in_file file (class_sites B (start i) (Some key.name) (class_of x.inner)))
-    ∙ sym (ap (λ (d : syntax.Member g.row.A.Denot). in_file file (member_sites B c.args.at.base key d)) (ap (member_kind c.args.member.now.mark) x.is))) e) c.class.ensures
+    ((λ i. in_file file (class_declarations B (start i) (Some key.name) (class_of x.inner)))
+    ∙ sym (ap (λ (d : syntax.Member g.row.A.Denot). in_file file (member_declarations B c.args.at.base key d)) (ap (member_kind c.args.member.now.mark) x.is))) e) c.class.ensures
 
 pub class-begin-requires : goal.class-begin-requires
 class-begin-requires g t c = (class_parts (begins_by g.A.Mark.span_from) g.A.Mark.fits_at c.args.at.base c.args.class.now c.requires).0
@@ -138,7 +138,7 @@ class-members-requires g t c =
     )
 
 pub class-returns : goal.class-returns
-unfolding member_sites class_sites members_sites
+unfolding member_declarations class_declarations members_declarations
 class-returns g t c =
     let B = begins_by g.A.Mark.span_from in
     let x = out-Class _ c.args.class.now in
@@ -156,8 +156,8 @@ class-returns g t c =
         parent = option_map (written B (start i)) (option_map type_of x.parent);
         has_ctor = writes_ctor B (members_of (c.deref-2.ensures.value i));
       });
-    } ∷ in_file c.args.at.file (members_sites B (start i) (record { outer = outer; name = name i }) (members_of (c.deref-3.ensures.value i))))
-    ∙ sym (ap (λ d. in_file c.args.at.file (class_sites B c.args.at.base outer d)) (class_of-out _ c.args.class.now)))) c.members.ensures
+    } ∷ in_file c.args.at.file (members_declarations B (start i) (record { outer = outer; name = name i }) (members_of (c.deref-3.ensures.value i))))
+    ∙ sym (ap (λ d. in_file c.args.at.file (class_declarations B c.args.at.base outer d)) (class_of-out _ c.args.class.now)))) c.members.ensures
 
 pub members-member-requires : goal.members-member-requires
 unfolding MemberFits ClassFits MembersFit
@@ -169,18 +169,18 @@ members-member-requires g t c =
     λ κs o. (falls_item (λ x. member_size (member_of x)) (λ xs. members_size (members_of xs)) members_add c.args.members.now c.loop-part.part-index c.part-item.result t c.loop-part-test.true c.part-item.is c.decreases, (o, fits))
 
 pub members-loop-part-preserved : goal.members-loop-part-preserved
-unfolding member_sites class_sites members_sites
+unfolding member_declarations class_declarations members_declarations
 members-loop-part-preserved g t c =
     let B = begins_by g.A.Mark.span_from in
-    lists.one_more (λ xs. in_file c.args.at.file (members_sites B c.args.at.base (site_key_of c.args.of.now) (members_of xs))) (λ x. in_file c.args.at.file (member_sites B c.args.at.base (site_key_of c.args.of.now) (member_of x)))
-    (λ x xs. lists.map_join _ (member_sites B c.args.at.base (site_key_of c.args.of.now) (member_of x)) (members_sites B c.args.at.base (site_key_of c.args.of.now) (members_of xs)))
+    lists.one_more (λ xs. in_file c.args.at.file (members_declarations B c.args.at.base (declaration_key_of c.args.of.now) (members_of xs))) (λ x. in_file c.args.at.file (member_declarations B c.args.at.base (declaration_key_of c.args.of.now) (member_of x)))
+    (λ x xs. lists.map_join _ (member_declarations B c.args.at.base (declaration_key_of c.args.of.now) (member_of x)) (members_declarations B c.args.at.base (declaration_key_of c.args.of.now) (members_of xs)))
     _ _ _ c.args.members.now c.loop-part.part-index c.part-item.result
     c.loop-part-test.true c.part-item.is c.in_ok-member.ensures c.loop-part.invariant
 
 pub members-returns : goal.members-returns
-unfolding member_sites class_sites members_sites
+unfolding member_declarations class_declarations members_declarations
 members-returns g t c =
     let B = begins_by g.A.Mark.span_from in
-    lists.none_left (λ xs. in_file c.args.at.file (members_sites B c.args.at.base (site_key_of c.args.of.now) (members_of xs))) (λ x. in_file c.args.at.file (member_sites B c.args.at.base (site_key_of c.args.of.now) (member_of x)))
-    (λ x xs. lists.map_join _ (member_sites B c.args.at.base (site_key_of c.args.of.now) (member_of x)) (members_sites B c.args.at.base (site_key_of c.args.of.now) (members_of xs)))
+    lists.none_left (λ xs. in_file c.args.at.file (members_declarations B c.args.at.base (declaration_key_of c.args.of.now) (members_of xs))) (λ x. in_file c.args.at.file (member_declarations B c.args.at.base (declaration_key_of c.args.of.now) (member_of x)))
+    (λ x xs. lists.map_join _ (member_declarations B c.args.at.base (declaration_key_of c.args.of.now) (member_of x)) (members_declarations B c.args.at.base (declaration_key_of c.args.of.now) (members_of xs)))
     _ _ c.args.members.now c.loop-part.part-index c.loop-part-test.false refl c.loop-part.invariant

@@ -2,9 +2,9 @@ use Rattle.std.proofs.Common.{◌+◌, ◌*◌, ◌≡◌, ◌++◌, drop, map}
 use Rattle.jr_ast.specs.View.{class_of, member_of, members_of}
 use Rattle.jr_ast.proofs.Sizes.{member_size, class_size, members_size}
 use Rattle.jr_build.specs.Fitting.{begins_by}
-use Rattle.jr_table.specs.Sites.{members_sites}
+use Rattle.jr_table.specs.Declared.{members_declarations}
 use Rattle.jr_build.specs.Gathers.{in_file}
-use Rattle.jr_build.specs.SiteView.{site_of, site_key_of}
+use Rattle.jr_build.specs.DeclaredView.{declaration_of, declaration_key_of}
 use Rattle.jr_build.proofs.gathering.+gathering.Given as goal
 
 abbrev pub decreases-member : goal.decreases-member
@@ -19,5 +19,5 @@ decreases-members g l = 3 * members_size (members_of l.members.now) + 1
 -- what is gathered, with what is left, is all
 abbrev pub invariant-members-loop-part : goal.invariant-members-loop-part
 invariant-members-loop-part g l =
-    map site_of l.sites.items ++ in_file l.at.file (members_sites (begins_by g.A.Mark.span_from) l.at.base (site_key_of l.of) (members_of (drop l.part-index l.members)))
-    ≡ map site_of l.initial.sites.items ++ in_file l.at.file (members_sites (begins_by g.A.Mark.span_from) l.at.base (site_key_of l.of) (members_of l.members))
+    map declaration_of l.declarations.items ++ in_file l.at.file (members_declarations (begins_by g.A.Mark.span_from) l.at.base (declaration_key_of l.of) (members_of (drop l.part-index l.members)))
+    ≡ map declaration_of l.initial.declarations.items ++ in_file l.at.file (members_declarations (begins_by g.A.Mark.span_from) l.at.base (declaration_key_of l.of) (members_of l.members))

@@ -1,9 +1,9 @@
 use Rattle.std.proofs.Common.{map, refl, Option, None}
 use Rattle.jr_ast.specs.View.{class_of}
 use Rattle.jr_build.specs.Fitting.{begins_by, ClassFits, ClassesFit}
-use Rattle.jr_table.specs.Sites.{class_sites, classes_sites}
+use Rattle.jr_table.specs.Declared.{class_declarations, classes_declarations}
 use Rattle.jr_build.specs.Gathers.{in_file}
-use Rattle.jr_build.proofs.SiteLists as lists
+use Rattle.jr_build.proofs.DeclarationLists as lists
 use Rattle.jr_build.proofs.gathering.classes.Goals as goal
 
 pub class-requires : goal.class-requires
@@ -15,14 +15,14 @@ class-requires g c =
 pub loop-part-preserved : goal.loop-part-preserved
 loop-part-preserved g c =
     let B = begins_by g.A.Mark.span_from in
-    lists.one_more (λ xs. in_file c.args.at.file (classes_sites B c.args.at.base (map class_of xs))) (λ x. in_file c.args.at.file (class_sites B c.args.at.base None (class_of x)))
-    (λ x xs. lists.map_join _ (class_sites B c.args.at.base None (class_of x)) (classes_sites B c.args.at.base (map class_of xs)))
+    lists.one_more (λ xs. in_file c.args.at.file (classes_declarations B c.args.at.base (map class_of xs))) (λ x. in_file c.args.at.file (class_declarations B c.args.at.base None (class_of x)))
+    (λ x xs. lists.map_join _ (class_declarations B c.args.at.base None (class_of x)) (classes_declarations B c.args.at.base (map class_of xs)))
     _ _ _ c.args.classes.now c.loop-part.part-index c.part-item.result
     c.loop-part-test.true c.part-item.is c.in_ok-class.ensures c.loop-part.invariant
 
 pub returns : goal.returns
 returns g c =
     let B = begins_by g.A.Mark.span_from in
-    lists.none_left (λ xs. in_file c.args.at.file (classes_sites B c.args.at.base (map class_of xs))) (λ x. in_file c.args.at.file (class_sites B c.args.at.base None (class_of x)))
-    (λ x xs. lists.map_join _ (class_sites B c.args.at.base None (class_of x)) (classes_sites B c.args.at.base (map class_of xs)))
+    lists.none_left (λ xs. in_file c.args.at.file (classes_declarations B c.args.at.base (map class_of xs))) (λ x. in_file c.args.at.file (class_declarations B c.args.at.base None (class_of x)))
+    (λ x xs. lists.map_join _ (class_declarations B c.args.at.base None (class_of x)) (classes_declarations B c.args.at.base (map class_of xs)))
     _ _ c.args.classes.now c.loop-part.part-index c.loop-part-test.false refl c.loop-part.invariant

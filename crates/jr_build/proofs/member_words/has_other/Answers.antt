@@ -1,4 +1,4 @@
-use Rattle.jr_build.specs.SiteFaults.{May}
+use Rattle.jr_build.specs.DeclarationFaults.{May}
 use Rattle.jr_build.proofs.WordLaws.{other_found, other_left, no_other}
 use Rattle.jr_build.proofs.member_words.has_other.Goals as goal
 

@@ -1,5 +1,5 @@
 use Rattle.std.proofs.Common.{drop}
-use Rattle.jr_build.specs.SiteFaults.{HasOther, May}
+use Rattle.jr_build.specs.DeclarationFaults.{HasOther, May}
 use Rattle.jr_build.proofs.member_words.has_other.Given as goal
 
 -- one that may not stand there is among those that are left, if one is among all

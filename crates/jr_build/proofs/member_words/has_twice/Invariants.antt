@@ -1,5 +1,5 @@
 use Rattle.std.proofs.Common.{drop}
-use Rattle.jr_build.specs.SiteFaults.{HasTwice}
+use Rattle.jr_build.specs.DeclarationFaults.{HasTwice}
 use Rattle.jr_build.proofs.member_words.has_twice.Given as goal
 
 -- a word stands twice among those that are left, if one does among all

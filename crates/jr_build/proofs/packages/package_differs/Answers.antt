@@ -9,7 +9,7 @@ use Rattle.jr_build.proofs.PackageLaws.{first_differs, none_differ, same_more}
 use Rattle.jr_build.proofs.packages.package_differs.Goals as goal
 
 pub returns-then-not-same_package : goal.returns-then-not-same_package
-returns-then-not-same_package g c = λ sites.
+returns-then-not-same_package g c = λ declarations.
     let us = c.args.units.now in
     let ats = c.args.words.now in
     let n = c.loop-file.file in
@@ -17,9 +17,9 @@ returns-then-not-same_package g c = λ sites.
     let each = c.requires.each in
     let place = c.line_place.ensures
     ∙ ap (λ is. line_at (line_of (get_or ats n 0) (map word_of is))) c.deref-then-not-same_package.ensures.value in
-    subst (λ a. IsEarliest (HasFault (lines_of ats (map unit_of us)) sites kind.PackageDiffers)
+    subst (λ a. IsEarliest (HasFault (lines_of ats (map unit_of us)) declarations kind.PackageDiffers)
     (Some (record { file = n; at = a }))) (sym place)
-    (first_differs ats us sites n (get_or ats n 0) c.index-units-file.result c.index-units-0.result
+    (first_differs ats us declarations n (get_or ats n 0) c.index-units-file.result c.index-units-0.result
     c.loop-file.invariant (slice_get-get_or ats n 0 (omega (arith, lt, each)))
     (slice_get_read us (length us) n c.index-units-file.result refl lt c.index-units-file.is)
     (slice_get_read us (length us) 0 c.index-units-0.result refl (omega (arith, lt)) c.index-units-0.is)
@@ -44,5 +44,5 @@ loop-file-preserved g c =
     c.loop-file.invariant
 
 pub returns : goal.returns
-returns g c = λ sites. none_differ c.args.words.now c.args.units.now sites c.loop-file.file
+returns g c = λ declarations. none_differ c.args.words.now c.args.units.now declarations c.loop-file.file
     c.loop-file-test.false c.loop-file.invariant

@@ -1,24 +1,24 @@
 use Rattle.std.proofs.Common.{◌≡◌, ◌++◌, ◌∙◌, map, ap, refl}
 use Rattle.jr_table.specs.RowView.{row_of}
-use Rattle.jr_build.specs.ExactRows.{rows_of_item, rows_of_sites}
+use Rattle.jr_build.specs.ExactRows.{rows_of_item, rows_of_declarations}
 use Rattle.jr_build.specs.HierarchyView.{hierarchy_of}
-use Rattle.jr_build.specs.SiteView.{site_of, item_of}
-use Rattle.jr_build.proofs.SiteLists as lists
+use Rattle.jr_build.specs.DeclaredView.{declaration_of, item_of}
+use Rattle.jr_build.proofs.DeclarationLists as lists
 use Rattle.jr_build.proofs.program_rows.program_rows.Goals as goal
 
-pub loop-site-init : goal.loop-site-init
-loop-site-init c = ap (λ rows. rows ++ rows_of_sites (hierarchy_of c.args.h.now) (map site_of c.args.sites.now))
+pub loop-declaration-init : goal.loop-declaration-init
+loop-declaration-init c = ap (λ rows. rows ++ rows_of_declarations (hierarchy_of c.args.h.now) (map declaration_of c.args.declarations.now))
     (ap (map row_of) c.reserve.ensures.items ∙ c.in_ok-rows.ensures)
 
-pub loop-site-preserved : goal.loop-site-preserved
-loop-site-preserved c =
+pub loop-declaration-preserved : goal.loop-declaration-preserved
+loop-declaration-preserved c =
     let h = hierarchy_of c.args.h.now in
-    lists.one_more (λ xs. rows_of_sites h (map site_of xs)) (λ x. rows_of_item h (item_of x.item))
-    (λ x xs. refl) _ _ _ c.args.sites.now c.loop-site.site-index c.site-item.result
-    c.loop-site-test.true c.site-item.is c.in_ok-push_item.ensures c.loop-site.invariant
+    lists.one_more (λ xs. rows_of_declarations h (map declaration_of xs)) (λ x. rows_of_item h (item_of x.item))
+    (λ x xs. refl) _ _ _ c.args.declarations.now c.loop-declaration.declaration-index c.declaration-item.result
+    c.loop-declaration-test.true c.declaration-item.is c.in_ok-push_item.ensures c.loop-declaration.invariant
 
 pub returns : goal.returns
 returns c =
     let h = hierarchy_of c.args.h.now in
-    lists.none_left (λ xs. rows_of_sites h (map site_of xs)) (λ x. rows_of_item h (item_of x.item))
-    (λ x xs. refl) _ _ c.args.sites.now c.loop-site.site-index c.loop-site-test.false refl c.loop-site.invariant
+    lists.none_left (λ xs. rows_of_declarations h (map declaration_of xs)) (λ x. rows_of_item h (item_of x.item))
+    (λ x xs. refl) _ _ c.args.declarations.now c.loop-declaration.declaration-index c.loop-declaration-test.false refl c.loop-declaration.invariant

@@ -1,10 +1,10 @@
 use Rattle.std.proofs.Common.{map, option_map}
 use Rattle.jr_build.specs.Places.{place_of, IsEarliest}
-use Rattle.jr_build.specs.SiteFaults.{Among, MemberNamedAt}
-use Rattle.jr_build.specs.SiteView.{site_of}
+use Rattle.jr_build.specs.DeclarationFaults.{Among, MemberNamedAt}
+use Rattle.jr_build.specs.DeclaredView.{declaration_of}
 use Rattle.jr_build.proofs.twice_classes.member_type_name.Given as goal
 
--- it is the earliest among the sites so far
-abbrev pub invariant-loop-site : goal.invariant-loop-site
-invariant-loop-site l = IsEarliest (Among (map site_of l.sites) (λ _. MemberNamedAt (map site_of l.sites)) l.site-index)
+-- it is the earliest among the declarations so far
+abbrev pub invariant-loop-declaration : goal.invariant-loop-declaration
+invariant-loop-declaration l = IsEarliest (Among (map declaration_of l.declarations) (λ _. MemberNamedAt (map declaration_of l.declarations)) l.declaration-index)
     (option_map place_of l.first)

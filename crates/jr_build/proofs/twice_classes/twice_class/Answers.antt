@@ -4,37 +4,37 @@ use Rattle.jr_table.specs.Faults.{Place}
 use Rattle.jr_table.specs.Keys.{ClassKey}
 use Rattle.jr_build.specs.KeyIndex.{number_at, PutsMaybe, class_key_at}
 use Rattle.jr_build.specs.Places.{place_of, IsEarlier, within_file}
-use Rattle.jr_build.specs.SiteFaults.{TwiceClassAt, IsLeastAt}
-use Rattle.jr_build.specs.SiteView.{site_of, item_of}
+use Rattle.jr_build.specs.DeclarationFaults.{TwiceClassAt, IsLeastAt}
+use Rattle.jr_build.specs.DeclaredView.{declaration_of, item_of}
 use Rattle.jr_build.proofs.Earliest as earliest
 use Rattle.jr_build.proofs.Indexed as indexed
-use Rattle.jr_build.proofs.SiteFaultLaws as laws
+use Rattle.jr_build.proofs.DeclarationFaultLaws as laws
 use Rattle.jr_build.proofs.twice_classes.twice_class.Goals as goal
 
 pub loop-number-init : goal.loop-number-init
 loop-number-init c = record {
-  first = earliest.none_among (map site_of c.args.sites.now) (TwiceClassAt (map site_of c.args.sites.now));
-  index = indexed.no_keys class_key_at (map site_of c.args.sites.now) c.new-index.result c.new-index.ensures;
+  first = earliest.none_among (map declaration_of c.args.declarations.now) (TwiceClassAt (map declaration_of c.args.declarations.now));
+  index = indexed.no_keys class_key_at (map declaration_of c.args.declarations.now) c.new-index.result c.new-index.ensures;
 }
 
 pub loop-number-preserved : goal.loop-number-preserved
 loop-number-preserved c =
-    let sites = map site_of c.args.sites.now in
+    let declarations = map declaration_of c.args.declarations.now in
     let n = c.loop-number.number in
-    let site = c.index-sites-number.result in
-    let item = item_of site.item in
-    let at = earliest.map_stands site_of c.args.sites.now n site c.loop-number-test.true c.index-sites-number.is in
+    let declaration = c.index-declarations-number.result in
+    let item = item_of declaration.item in
+    let at = earliest.map_stands declaration_of c.args.declarations.now n declaration c.loop-number-test.true c.index-declarations-number.is in
     let before = c.in_ok-before.ensures.before ∙ ap (option_and_then (number_at c.loop-number.index)) c.class_key.ensures in
     let E : Option Place → Type 0 = λ o. IsEarlier (option_map place_of c.loop-number.first) o
     (option_map place_of c.earlier-first.result) in
     record {
-      first = earliest.one_more sites (TwiceClassAt sites) n site.file item (option_map place_of c.loop-number.first)
+      first = earliest.one_more declarations (TwiceClassAt declarations) n declaration.file item (option_map place_of c.loop-number.first)
           c.twice_at.result (option_map place_of c.earlier-first.result) at c.loop-number.invariant.first
-          (subst (λ o. IsLeastAt (TwiceClassAt sites n item) o) (sym c.twice_at.ensures) (indexed.twice_or_not sites n item c.loop-number.index c.in_ok-before.before c.loop-number.invariant.index before))
+          (subst (λ o. IsLeastAt (TwiceClassAt declarations n item) o) (sym c.twice_at.ensures) (indexed.twice_or_not declarations n item c.loop-number.index c.in_ok-before.before c.loop-number.invariant.index before))
           (subst E c.in_file.ensures c.earlier-first.ensures);
-      index = indexed.key_more class_key_at sites n site.file item _ c.loop-number.index c.put_maybe.new.self at c.class_key.ensures c.in_ok-before.ensures.put c.loop-number.invariant.index;
+      index = indexed.key_more class_key_at declarations n declaration.file item _ c.loop-number.index c.put_maybe.new.self at c.class_key.ensures c.in_ok-before.ensures.put c.loop-number.invariant.index;
     }
 
 pub returns : goal.returns
-returns c = λ packages. laws.twice_classes packages (map site_of c.args.sites.now) c.loop-number.number (laws.past c.args.sites.now c.loop-number.number c.loop-number-test.false)
+returns c = λ packages. laws.twice_classes packages (map declaration_of c.args.declarations.now) c.loop-number.number (laws.past c.args.declarations.now c.loop-number.number c.loop-number-test.false)
     (option_map place_of c.loop-number.first) c.loop-number.invariant.first

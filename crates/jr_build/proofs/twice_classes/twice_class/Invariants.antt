@@ -1,14 +1,14 @@
 use Rattle.std.proofs.Common.{map, option_map}
 use Rattle.jr_build.specs.KeyIndex.{class_key_at, IsIndexOf}
 use Rattle.jr_build.specs.Places.{place_of, IsEarliest}
-use Rattle.jr_build.specs.SiteFaults.{Among, TwiceClassAt}
-use Rattle.jr_build.specs.SiteView.{site_of}
+use Rattle.jr_build.specs.DeclarationFaults.{Among, TwiceClassAt}
+use Rattle.jr_build.specs.DeclaredView.{declaration_of}
 use Rattle.jr_build.proofs.twice_classes.twice_class.Given as goal
 
--- it is the earliest among the sites so far, whose classes are in the index
+-- it is the earliest among the declarations so far, whose classes are in the index
 abbrev pub invariant-loop-number : goal.invariant-loop-number
 invariant-loop-number l = record {
-  first : IsEarliest (Among (map site_of l.sites) (TwiceClassAt (map site_of l.sites)) l.number)
+  first : IsEarliest (Among (map declaration_of l.declarations) (TwiceClassAt (map declaration_of l.declarations)) l.number)
       (option_map place_of l.first);
-  index : IsIndexOf class_key_at (map site_of l.sites) l.number l.index;
+  index : IsIndexOf class_key_at (map declaration_of l.declarations) l.number l.index;
 }

@@ -1,15 +1,15 @@
 use Rattle.std.proofs.Common.{map, ap, sym, subst, ◌∙◌, refl, length}
 use Rattle.std.proofs.lemmas.List.{length-map}
 use Rattle.jr_index.specs.Names.{named}
-use Rattle.jr_build.specs.SiteFaults.{IsLeastAt}
-use Rattle.jr_build.specs.SiteView.{param_site_of}
+use Rattle.jr_build.specs.DeclarationFaults.{IsLeastAt}
+use Rattle.jr_build.specs.DeclaredView.{param_declaration_of}
 use Rattle.jr_build.proofs.TwiceParamLaws as params
 use Rattle.jr_build.proofs.twice_members.param_twice.Goals as goal
 
 pub loop-param-init : goal.loop-param-init
 loop-param-init c = record {
-  least = params.none_twice (map param_site_of c.args.params.now);
-  known = params.none_known (map param_site_of c.args.params.now) (λ q. named c.new-names.result q) c.new-names.ensures;
+  least = params.none_twice (map param_declaration_of c.args.params.now);
+  known = params.none_known (map param_declaration_of c.args.params.now) (λ q. named c.new-names.result q) c.new-names.ensures;
 }
 
 pub loop-param-preserved : goal.loop-param-preserved
@@ -23,5 +23,5 @@ loop-param-preserved c = record {
 }
 
 pub returns : goal.returns
-returns c = params.at_end (map param_site_of c.args.params.now) c.loop-param.param-index
+returns c = params.at_end (map param_declaration_of c.args.params.now) c.loop-param.param-index
     (simp length-map c.loop-param-test.false) c.loop-param.least c.loop-param.invariant.least

@@ -1,13 +1,13 @@
 use Rattle.std.proofs.Common.{ℕ, List, map}
 use Rattle.jr_index.specs.Names.{named}
-use Rattle.jr_build.specs.SiteFaults.{IsLeastAt}
-use Rattle.jr_build.specs.SiteView.{param_site_of}
+use Rattle.jr_build.specs.DeclarationFaults.{IsLeastAt}
+use Rattle.jr_build.specs.DeclaredView.{param_declaration_of}
 use Rattle.jr_build.proofs.TwiceParamLaws.{TwiceIn, Knows}
 use Rattle.jr_build.proofs.twice_members.param_twice.Given as goal
 
 -- it is the least among the parameters so far, whose names are known
 abbrev pub invariant-loop-param : goal.invariant-loop-param
 invariant-loop-param l = record {
-  least : IsLeastAt (TwiceIn (map param_site_of l.params) l.param-index) l.least;
-  known : (q : List ℕ) → Knows (map param_site_of l.params) l.param-index q (named l.names q);
+  least : IsLeastAt (TwiceIn (map param_declaration_of l.params) l.param-index) l.least;
+  known : (q : List ℕ) → Knows (map param_declaration_of l.params) l.param-index q (named l.names q);
 }

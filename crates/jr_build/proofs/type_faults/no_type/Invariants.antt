@@ -1,13 +1,13 @@
 use Rattle.std.proofs.Common.{map, option_map}
 use Rattle.jr_build.specs.HierarchyView.{hierarchy_of}
 use Rattle.jr_build.specs.Places.{place_of, IsEarliest}
-use Rattle.jr_build.specs.SiteFaults.{Among}
-use Rattle.jr_build.specs.SiteView.{site_of}
+use Rattle.jr_build.specs.DeclarationFaults.{Among}
+use Rattle.jr_build.specs.DeclaredView.{declaration_of}
 use Rattle.jr_build.specs.TypeFaults.{NothingAt}
 use Rattle.jr_build.proofs.type_faults.no_type.Given as goal
 
--- it is the earliest among the sites so far
-abbrev pub invariant-loop-site : goal.invariant-loop-site
-invariant-loop-site l = IsEarliest
-    (Among (map site_of l.sites) (λ _. NothingAt (hierarchy_of l.h)) l.site-index)
+-- it is the earliest among the declarations so far
+abbrev pub invariant-loop-declaration : goal.invariant-loop-declaration
+invariant-loop-declaration l = IsEarliest
+    (Among (map declaration_of l.declarations) (λ _. NothingAt (hierarchy_of l.h)) l.declaration-index)
     (option_map place_of l.first)

@@ -8,7 +8,7 @@ use Rattle.jr_grammar.specs.Tokens.{placed_of}
 use Rattle.jr_table.specs.Decls.{MemberKey}
 use Rattle.jr_table.specs.LookupLaws.{KeysFound, OneAnswer}
 use Rattle.jr_table.specs.BindingLaws.{AreBound}
-use Rattle.jr_table.specs.Sites.{sites_of}
+use Rattle.jr_table.specs.Declared.{declarations_of}
 use Rattle.jr_table.specs.Errors.{Part, InClasses}
 use Rattle.jr_places.specs.FileParts.{begins}
 use Rattle.jr_places.specs.PlaceLaws.{IsFile, IsPart, PartsArePlaced, SupersStand}
@@ -22,8 +22,8 @@ use Rattle.jr_places.proofs.laws.parts_are_placed.Goals as goal
 module _ (units : List (UnitTree Span)) (file : ℕ) (text : List ℕ) (items : List Item) (is : IsFile units file text items) (rises : Rising (placed_of text items)) where
   part_stands : (k : MemberKey) (base : ℕ) (part : Part Span) → IsPart units file k base part → PartStands (placed_of text items) part
   part_stands k base part x =
-      let has = subst (λ (u : UnitTree Span). InClasses begins (sites_of begins units) (λ l b p. (l ≡ k) × (b ≡ base) × (p ≡ part)) (begins u.mark 0) u.classes x.member) (same_Some _ _ (sym x.stands ∙ is.stands)) x.has in
-      let found = unit_parts (placed_of text items) (sites_of begins units) (λ l b p. (l ≡ k) × (b ≡ base) × (p ≡ part)) is.unit x.member has (placed_of text items) (whole_piece (placed_of text items)) is.is.marks in
+      let has = subst (λ (u : UnitTree Span). InClasses begins (declarations_of begins units) (λ l b p. (l ≡ k) × (b ≡ base) × (p ≡ part)) (begins u.mark 0) u.classes x.member) (same_Some _ _ (sym x.stands ∙ is.stands)) x.has in
+      let found = unit_parts (placed_of text items) (declarations_of begins units) (λ l b p. (l ≡ k) × (b ≡ base) × (p ≡ part)) is.unit x.member has (placed_of text items) (whole_piece (placed_of text items)) is.is.marks in
       subst (PartStands (placed_of text items)) found.2.0.2 found.2.1
 
 placed : ItemsPlaced → KeysFound → OneAnswer → AreBound Span → PartsArePlaced

@@ -1,8 +1,8 @@
 use Rattle.std.proofs.Common.{map}
-use Rattle.jr_build.specs.SiteView.{site_of}
+use Rattle.jr_build.specs.DeclaredView.{declaration_of}
 use Rattle.jr_build.specs.HierarchyView.{hierarchy_of}
 use Rattle.jr_build.specs.Superclasses.{KnowsTops}
 use Rattle.jr_build.proofs.hierarchies.Hierarchy.follow.Given as goal
 
 abbrev pub invariant-loop-turn : goal.invariant-loop-turn
-invariant-loop-turn l = KnowsTops (map site_of l.sites) (hierarchy_of l.self)
+invariant-loop-turn l = KnowsTops (map declaration_of l.declarations) (hierarchy_of l.self)

@@ -1,5 +1,5 @@
 use Rattle.std.proofs.Common.{map}
-use Rattle.jr_build.specs.SiteView.{site_of}
+use Rattle.jr_build.specs.DeclaredView.{declaration_of}
 use Rattle.jr_build.specs.HierarchyView.{hierarchy_of}
 use Rattle.jr_build.proofs.HierarchyLaws.{comes_early}
 use Rattle.jr_build.proofs.Settling.{all_known}
@@ -7,4 +7,4 @@ use Rattle.jr_build.proofs.hierarchies.Hierarchy.settle.Goals as goal
 
 pub returns-then-not-found : goal.returns-then-not-found
 returns-then-not-found c =
-    all_known (map site_of c.args.sites.now) (hierarchy_of c.round-found.new.self) comes_early c.round-found.ensures.knows (c.round-found.ensures.settled c.if-not-found.true)
+    all_known (map declaration_of c.args.declarations.now) (hierarchy_of c.round-found.new.self) comes_early c.round-found.ensures.knows (c.round-found.ensures.settled c.if-not-found.true)

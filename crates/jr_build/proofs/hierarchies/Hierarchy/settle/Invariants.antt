@@ -1,12 +1,12 @@
 use Rattle.std.proofs.Common.{map}
-use Rattle.jr_build.specs.SiteView.{site_of}
+use Rattle.jr_build.specs.DeclaredView.{declaration_of}
 use Rattle.jr_build.specs.HierarchyView.{hierarchy_of}
 use Rattle.jr_build.specs.Hierarchies.{unknown}
 use Rattle.jr_build.specs.Superclasses.{KnowsTops}
 use Rattle.jr_build.proofs.hierarchies.Hierarchy.settle.Given as goal
 
 abbrev pub invariant-loop-found : goal.invariant-loop-found
-invariant-loop-found l = KnowsTops (map site_of l.sites) (hierarchy_of l.self)
+invariant-loop-found l = KnowsTops (map declaration_of l.declarations) (hierarchy_of l.self)
 
 abbrev pub decreases-loop-found : goal.decreases-loop-found
 decreases-loop-found l = unknown (hierarchy_of l.self).parents

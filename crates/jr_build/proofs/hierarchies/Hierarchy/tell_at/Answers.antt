@@ -2,7 +2,7 @@ use Rattle.std.proofs.Common.{◌≡◌, ◌<◌, length, map, sym, subst}
 use Rattle.std.proofs.lemmas.List.{length-map}
 use borrow.Author.Tests.{ltb-true}
 use Rattle.jr_table.specs.Faults.{At}
-use Rattle.jr_build.specs.SiteView.{site_of, item_of}
+use Rattle.jr_build.specs.DeclaredView.{declaration_of, item_of}
 use Rattle.jr_build.specs.HierarchyView.{hierarchy_of}
 use Rattle.jr_build.specs.Superclasses.{KnowsTops}
 use Rattle.jr_build.proofs.Earliest.{map_stands}
@@ -13,15 +13,15 @@ use Rattle.jr_build.proofs.hierarchies.Hierarchy.tell_at.Goals as goal
 
 pub tell-told-requires : goal.tell-told-requires
 tell-told-requires c =
-    let less : c.args.number < length c.args.sites.now = ltb-true _ _ (sym c.in-Some.ensures.lookup.0) in
+    let less : c.args.number < length c.args.declarations.now = ltb-true _ _ (sym c.in-Some.ensures.lookup.0) in
     parents_size c.args.self.now c.args.number
-    (in_reach (map site_of c.args.sites.now) (hierarchy_of c.args.self.now) c.requires c.args.number (simp length-map less))
+    (in_reach (map declaration_of c.args.declarations.now) (hierarchy_of c.args.self.now) c.requires c.args.number (simp length-map less))
 
 pub returns-in-Some : goal.returns-in-Some
 returns-in-Some c =
-    let sites = map site_of c.args.sites.now in
-    let site = c.in-Some.site.now in
-    let less : c.args.number < length c.args.sites.now = ltb-true _ _ (sym c.in-Some.ensures.lookup.0) in
-    let at : At sites c.args.number site.file (item_of site.item) = record { stands = map_stands site_of c.args.sites.now c.args.number site less c.in-Some.ensures.lookup.1 } in
-    subst (KnowsTops sites) (sym c.tell-told.ensures.told)
-    (holds_on sites comes_early (hierarchy_of c.args.self.now) c.requires c.args.number site.file (item_of site.item) at)
+    let declarations = map declaration_of c.args.declarations.now in
+    let declaration = c.in-Some.declaration.now in
+    let less : c.args.number < length c.args.declarations.now = ltb-true _ _ (sym c.in-Some.ensures.lookup.0) in
+    let at : At declarations c.args.number declaration.file (item_of declaration.item) = record { stands = map_stands declaration_of c.args.declarations.now c.args.number declaration less c.in-Some.ensures.lookup.1 } in
+    subst (KnowsTops declarations) (sym c.tell-told.ensures.told)
+    (holds_on declarations comes_early (hierarchy_of c.args.self.now) c.requires c.args.number declaration.file (item_of declaration.item) at)
