@@ -24,12 +24,12 @@ use crate::errors::errors_of_log;
 use crate::part_notes::note_part;
 use crate::references::references_of_log;
 use jr_ast::{Class, Member, Unit};
-use jr_members::{PartRef, WrittenMember, members_are_written, written_members};
 use jr_bind_expr::Note;
+use jr_expr_types::{Types, paths_lead_to_types, types_are_at};
+use jr_members::{PartRef, WrittenMember, members_are_written, written_members};
 use jr_steps::Steps;
 use jr_table::{MemberKey, Table, errors_are_told, lookups_are_exact, parts_are_noted};
 use jr_text::Mark;
-use jr_expr_types::{Types, paths_lead_to_types, types_are_at};
 use std::alloc::{AllocError, Global};
 use std::sync::ledger::Ledger;
 

@@ -9,8 +9,8 @@ ghost use Rattle.jr_bind.specs.Bounds.{decl_in};
 
 use crate::errors::BindError;
 use jr_ast::Path;
-use jr_table::{Decl, Facts, MemberKey, Ty};
 use jr_expr_types::Types;
+use jr_table::{Decl, Facts, MemberKey, Ty};
 use std::marker::Model;
 
 /// A reference, by its place from the member's first byte, and what it means.

@@ -8,8 +8,8 @@ ghost use Rattle.jr_bind_expr.specs.Fits.{FitsNamed, FitsType};
 ghost use Rattle.jr_bind.specs.DeclaredTypes as pure;
 
 use jr_ast::{Ident, Param, TypeKind, TypeRef};
-use jr_lookup::type_at;
 use jr_bind_expr::{Finding, Note, Sought, class_found, is_nothing, type_in};
+use jr_lookup::type_at;
 use jr_table::{Answer, Table};
 use jr_text::Mark;
 use std::alloc::AllocError;

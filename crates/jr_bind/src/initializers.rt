@@ -15,9 +15,9 @@ ghost use Rattle.jr_bind.specs.TypedFlow.{maybe_slots};
 use crate::locals::local_init;
 use jr_ast::Expr;
 use jr_bind_expr::{Note, Place, Role, kind_at, walk_expr};
+use jr_expr_types::Types;
 use jr_table::{MemberKey, Table};
 use jr_text::Mark;
-use jr_expr_types::Types;
 use std::alloc::{AllocError, Global};
 
 /// An expression of which nothing more is to be noted.

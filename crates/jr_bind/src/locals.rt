@@ -21,11 +21,11 @@ ghost use Rattle.jr_bind.specs.TypedFlow.{local_parts};
 use crate::completing::{Behind, reachable_from};
 use crate::stmt_notes::put_init;
 use jr_ast::{Expr, Ident, Name, TypeKind, TypeRef};
-use jr_scopes::{Held, HeldType};
 use jr_bind_expr::{Note, Place, Role, put_leaf, put_when, walk_expr, written_type};
+use jr_expr_types::Types;
+use jr_scopes::{Held, HeldType};
 use jr_table::{Kind, Rule, Table};
 use jr_text::Mark;
-use jr_expr_types::Types;
 use std::alloc::{AllocError, Global};
 
 fn outer_name<'a, A>(of: &'a Option<Ident<A>>) -> Option<&'a Name>

@@ -30,9 +30,9 @@ use crate::stmt_nodes::maybe_parts;
 use crate::supers::put_super;
 use jr_ast::{Expr, Ident, Member, MemberKind, ModWord, Modifier, Param, Stmt, TypeRef};
 use jr_bind_expr::{Note, more_parts, put_leaf};
+use jr_expr_types::Types;
 use jr_table::{MemberKey, Table};
 use jr_text::Mark;
-use jr_expr_types::Types;
 use std::alloc::{AllocError, Global};
 
 fn is_static_word(word: ModWord) -> bool

@@ -11,8 +11,8 @@ ghost use Rattle.jr_bind.specs.Parameters.{in_instance};
 
 use crate::parameters::{param_types, parameters};
 use jr_ast::Param;
-use jr_scopes::Locals;
 use jr_bind_expr::Place;
+use jr_scopes::Locals;
 use jr_table::{MemberKey, Table};
 use std::alloc::{AllocError, Global};
 

@@ -16,11 +16,11 @@ ghost use Rattle.jr_bind.specs.PartFits.{FitsPart};
 use crate::heads::put_head;
 use crate::member_notes::note_member;
 use jr_ast::Class;
-use jr_members::PartRef;
 use jr_bind_expr::{Note, put_leaf};
+use jr_expr_types::Types;
+use jr_members::PartRef;
 use jr_table::{MemberKey, Table};
 use jr_text::Mark;
-use jr_expr_types::Types;
 use std::alloc::{AllocError, Global};
 
 /// The head of a class, where the key is that of a class.

@@ -16,9 +16,9 @@ use crate::stmt_nodes::close_stmt;
 use crate::stmt_parts::{condition, eval, lock, loop_condition, return_value};
 use jr_ast::{Stmt, StmtKind};
 use jr_bind_expr::{Note, Place, put_unless};
+use jr_expr_types::Types;
 use jr_table::{Rule, Table};
 use jr_text::Mark;
-use jr_expr_types::Types;
 use std::alloc::{AllocError, Global};
 
 /// Notes what a statement breaks, and what its parts find and break, and makes the trees of its

@@ -6,7 +6,9 @@ ghost use Rattle.jr_bind_expr.specs.Places.{member_of, Knows};
 ghost use Rattle.jr_bind_expr.specs.Logs.{notes_of};
 ghost use Rattle.jr_bind.specs.StmtArms as pure;
 
-use jr_bind_expr::{Meaning, Note, Place, class_in, is_boolean, kind_at, put_unless, put_when, suits};
+use jr_bind_expr::{
+    Meaning, Note, Place, class_in, is_boolean, kind_at, put_unless, put_when, suits,
+};
 use jr_table::{Kind, MemberKey, Rule, Table};
 use std::alloc::AllocError;
 

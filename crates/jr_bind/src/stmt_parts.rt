@@ -15,9 +15,9 @@ use crate::completing::is_true;
 use crate::stmt_notes::{due, put_condition, put_lock, put_loop, put_no_value, put_value};
 use jr_ast::Expr;
 use jr_bind_expr::{Note, Place, Role, walk_expr};
+use jr_expr_types::Types;
 use jr_table::Table;
 use jr_text::Mark;
-use jr_expr_types::Types;
 use std::alloc::{AllocError, Global};
 
 /// The condition of an `if`.

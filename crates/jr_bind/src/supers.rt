@@ -16,9 +16,9 @@ ghost use Rattle.jr_bind_expr.specs.TypedSlots.{row_slots};
 use crate::heads::{lacks_super_ctor, super_ctor};
 use jr_ast::Expr;
 use jr_bind_expr::{Note, Place, put_method, put_when, walk_args};
+use jr_expr_types::Types;
 use jr_table::{Rule, Table};
 use jr_text::Mark;
-use jr_expr_types::Types;
 use std::alloc::{AllocError, Global};
 
 /// A written `super(..)`: its arguments, and the constructor that it finds.

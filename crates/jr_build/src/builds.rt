@@ -22,14 +22,14 @@ ghost use Rattle.jr_build.specs.Superclasses.{IsHierarchy};
 
 use crate::build_laws::{clean_rows_are_sound, declarations_are_headed};
 use crate::class_faults::{cycle, no_superclass};
+use crate::declaration_faults::{bad_modifiers, prelude_name, static_init};
+use crate::declarations::DeclaredItem;
 use crate::faults::BuildFault;
 use crate::gathering::program_declarations;
 use crate::hierarchies::Hierarchy;
 use crate::laws::hierarchies_are_exact;
 use crate::packages::package_differs;
 use crate::program_rows::program_rows;
-use crate::declaration_faults::{bad_modifiers, prelude_name, static_init};
-use crate::declarations::DeclaredItem;
 use crate::superclasses::hierarchy;
 use crate::twice_classes::{member_type_name, twice_class};
 use crate::twice_members::twice_member;
@@ -81,7 +81,11 @@ fn no_name_fault<A>(
 }
 
 /// There is no fault of superclasses and of types, or this is the first.
-fn no_type_fault<'a>(alloc: Global, declarations: &[DeclaredItem<'a>], h: &Hierarchy<'a>) -> Result<(), BuildFault>
+fn no_type_fault<'a>(
+    alloc: Global,
+    declarations: &[DeclaredItem<'a>],
+    h: &Hierarchy<'a>,
+) -> Result<(), BuildFault>
     requires few { length declarations.now + 4 < 2 ^ 32 }
     requires known { IsHierarchy (map declaration_of declarations.now) (hierarchy_of h.now) }
     ensures clean { (packages : List (Option PackageLine))
@@ -109,7 +113,10 @@ fn no_declaration_fault(alloc: Global, declarations: &[DeclaredItem<'_>]) -> Res
         → IsCleanBelow packages (map declaration_of declarations.now) 8
         → IfErr result (IsFoundFault packages (map declaration_of declarations.now)) }
 {
-    none_of(DeclKind::MemberTypeName, member_type_name(alloc, declarations)?)?;
+    none_of(
+        DeclKind::MemberTypeName,
+        member_type_name(alloc, declarations)?,
+    )?;
     none_of(DeclKind::BadModifiers, bad_modifiers(declarations))?;
     none_of(DeclKind::StaticInit, static_init(declarations))
 }

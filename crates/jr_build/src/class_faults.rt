@@ -9,9 +9,9 @@ ghost use Rattle.jr_build.specs.HierarchyView.{hierarchy_of};
 ghost use Rattle.jr_build.specs.Superclasses.{IsHierarchy};
 ghost use Rattle.jr_build.specs.Superclasses.{unparented_in, unparented_of, on_cycle_of};
 
+use crate::declarations::{DeclaredItem, DeclaredKind, Written};
 use crate::hierarchies::Hierarchy;
 use crate::places::{earlier, in_file};
-use crate::declarations::{DeclaredItem, DeclaredKind, Written};
 use jr_index::on_cycle;
 use jr_text::Place;
 use std::alloc::{AllocError, Global};
@@ -54,7 +54,10 @@ fn unparented_at(item: &DeclaredKind<'_>, parent: Option<u32>) -> Option<u32>
 }
 
 /// The earliest name of a superclass that isn't found (JLS 8.1.4).
-pub(crate) fn no_superclass<'a>(declarations: &[DeclaredItem<'a>], hierarchy: &Hierarchy<'a>) -> Option<Place>
+pub(crate) fn no_superclass<'a>(
+    declarations: &[DeclaredItem<'a>],
+    hierarchy: &Hierarchy<'a>,
+) -> Option<Place>
     requires few { length declarations.now + 4 < 2 ^ 32 }
     requires is { IsHierarchy (map declaration_of declarations.now) (hierarchy_of hierarchy.now) }
     ensures { (packages : List (Option PackageLine)) →

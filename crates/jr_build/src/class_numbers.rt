@@ -10,15 +10,18 @@ ghost use Rattle.jr_index.specs.Names.{named};
 ghost use Rattle.jr_build.specs.DeclaredView.{declaration_key_of};
 ghost use Rattle.jr_build.specs.Superclasses.{IsNumbering, HasInner, PutsInner};
 
+use crate::declarations::{DeclaredItem, DeclaredKey, DeclaredKind};
 use crate::key_index::KeyIndex;
-use crate::declarations::{DeclaredItem, DeclaredKind, DeclaredKey};
 use crate::twice_classes::class_key;
 use jr_ast::ModWord;
 use jr_index::Names;
 use std::alloc::{AllocError, Global};
 
 /// The class that each declaration declares.
-fn declaration_keys<'a>(alloc: Global, declarations: &[DeclaredItem<'a>]) -> Result<Vec<Option<DeclaredKey<'a>>>, AllocError>
+fn declaration_keys<'a>(
+    alloc: Global,
+    declarations: &[DeclaredItem<'a>],
+) -> Result<Vec<Option<DeclaredKey<'a>>>, AllocError>
     ensures { IfOk result (λ keys.
         keys_of keys.items ≡ pure.declaration_keys (map declaration_of declarations.now)) }
 {
@@ -80,7 +83,10 @@ fn is_private(item: &DeclaredKind<'_>) -> bool
 }
 
 /// Whether each declaration declares a private class.
-pub(crate) fn privates(alloc: Global, declarations: &[DeclaredItem<'_>]) -> Result<Vec<bool>, AllocError>
+pub(crate) fn privates(
+    alloc: Global,
+    declarations: &[DeclaredItem<'_>],
+) -> Result<Vec<bool>, AllocError>
     ensures { IfOk result (λ privates.
         privates.items ≡ pure.privates_of (map declaration_of declarations.now)) }
 {

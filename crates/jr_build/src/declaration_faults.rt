@@ -8,9 +8,9 @@ ghost use Rattle.jr_build.specs.DeclarationFaults.{ReservedAt, BadWordsAt, IsLea
 ghost use Rattle.jr_table.specs.Declared as pure_declarations;
 ghost use Rattle.jr_build.specs.DeclaredView.{class_declaration_of, field_declaration_of, item_of, declaration_of};
 
+use crate::declarations::{DeclaredClass, DeclaredField, DeclaredItem, DeclaredKind};
 use crate::member_words::{Allowed, are_bad, has_word};
 use crate::places::{earlier, in_file};
-use crate::declarations::{DeclaredClass, DeclaredField, DeclaredItem, DeclaredKind};
 use jr_ast::ModWord;
 use jr_text::Place;
 
@@ -124,7 +124,10 @@ pub(crate) fn prelude_name(declarations: &[DeclaredItem<'_>]) -> Option<Place>
 {
     let mut first = None;
     for declaration in declarations {
-        first = earlier(first, in_file(declaration.file, reserved_at(&declaration.item)));
+        first = earlier(
+            first,
+            in_file(declaration.file, reserved_at(&declaration.item)),
+        );
     }
     first
 }
@@ -137,7 +140,10 @@ pub(crate) fn bad_modifiers(declarations: &[DeclaredItem<'_>]) -> Option<Place>
 {
     let mut first = None;
     for declaration in declarations {
-        first = earlier(first, in_file(declaration.file, bad_words_at(&declaration.item)));
+        first = earlier(
+            first,
+            in_file(declaration.file, bad_words_at(&declaration.item)),
+        );
     }
     first
 }
@@ -150,7 +156,10 @@ pub(crate) fn static_init(declarations: &[DeclaredItem<'_>]) -> Option<Place>
 {
     let mut first = None;
     for declaration in declarations {
-        first = earlier(first, in_file(declaration.file, bad_init_at(&declaration.item)));
+        first = earlier(
+            first,
+            in_file(declaration.file, bad_init_at(&declaration.item)),
+        );
     }
     first
 }

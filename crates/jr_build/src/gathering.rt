@@ -14,9 +14,13 @@ ghost use Rattle.jr_build.specs.Fitting.{MemberFits, ClassFits, MembersFit, Clas
 ghost use Rattle.jr_build.specs.Gathers.{in_file, Gathers};
 
 use crate::declaration_parts::{
-    begin, has_ctor, maybe_init, maybe_written, mod_words, param_declarations, word_place, written_type,
+    begin, has_ctor, maybe_init, maybe_written, mod_words, param_declarations, word_place,
+    written_type,
 };
-use crate::declarations::{DeclaredClass, DeclaredCtor, DeclaredField, DeclaredMethod, DeclaredItem, DeclaredKind, DeclaredKey};
+use crate::declarations::{
+    DeclaredClass, DeclaredCtor, DeclaredField, DeclaredItem, DeclaredKey, DeclaredKind,
+    DeclaredMethod,
+};
 use jr_ast::{Class, Expr, Ident, Member, MemberKind, Modifier, Param, TypeRef, Unit};
 use jr_text::Mark;
 use std::alloc::{AllocError, Global};

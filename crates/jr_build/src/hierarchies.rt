@@ -1,6 +1,6 @@
 //! Classes by numbers, with the superclass of each.
-use crate::key_index::KeyIndex;
 use crate::declarations::DeclaredKey;
+use crate::key_index::KeyIndex;
 use jr_index::Names;
 
 /// The classes of a program and the prelude.

@@ -25,7 +25,11 @@ impl<'a> KeyIndex<'a> {
     }
 
     /// Puts the number under the key, and answers the one before.
-    pub(crate) fn put(&mut self, key: &DeclaredKey<'a>, number: u32) -> Result<Option<u32>, AllocError>
+    pub(crate) fn put(
+        &mut self,
+        key: &DeclaredKey<'a>,
+        number: u32,
+    ) -> Result<Option<u32>, AllocError>
         ensures before { IfOk result (λ before. before ≡ number_at self.old (declaration_key_of key.now)) }
         ensures put { OnOk result (PutsKey self.old (declaration_key_of key.now) number self.new) }
     {

@@ -4,8 +4,8 @@ ghost use Rattle.jr_build.specs.DeclaredView.{declaration_key_of, text_of, writt
 ghost use Rattle.jr_build.specs.HierarchyView.{hierarchy_of, meaning_of};
 ghost use Rattle.jr_build.specs.Hierarchies as pure;
 
-use crate::hierarchies::Hierarchy;
 use crate::declarations::{DeclaredKey, Written};
+use crate::hierarchies::Hierarchy;
 
 /// The type that a written one means.
 #[derive(Clone, Copy, PartialEq, Eq, Hash, Drop)]

@@ -1,6 +1,6 @@
 //! Member types, and what a class's name means.
-use crate::hierarchies::Hierarchy;
 use crate::declarations::DeclaredKey;
+use crate::hierarchies::Hierarchy;
 
 impl<'a> Hierarchy<'a> {
     ghost use Rattle.std.specs.Prelude.{◌≡◌, option_map, length};

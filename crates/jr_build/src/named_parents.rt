@@ -1,6 +1,6 @@
 //! The class that is named as a superclass.
-use crate::hierarchies::Hierarchy;
 use crate::declarations::{DeclaredKind, Written};
+use crate::hierarchies::Hierarchy;
 
 impl<'a> Hierarchy<'a> {
     ghost use Rattle.std.specs.Prelude.{◌≡◌, Some, option_map};

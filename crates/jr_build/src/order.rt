@@ -1,7 +1,7 @@
 //! In which order superclasses of member classes are found: that of a class behind those that it
 //! waits for.
-use crate::hierarchies::Hierarchy;
 use crate::declarations::{DeclaredItem, DeclaredKind, Written};
+use crate::hierarchies::Hierarchy;
 use std::alloc::{AllocError, Global};
 
 impl<'a> Hierarchy<'a> {
@@ -54,7 +54,12 @@ impl<'a> Hierarchy<'a> {
     }
 
     /// The class that a number's waits for, where it isn't marked.
-    fn next_awaited(&self, number: u32, declarations: &[DeclaredItem<'a>], marks: &[bool]) -> Option<u32> {
+    fn next_awaited(
+        &self,
+        number: u32,
+        declarations: &[DeclaredItem<'a>],
+        marks: &[bool],
+    ) -> Option<u32> {
         let Some(declaration) = declarations.get(number as usize) else {
             return None;
         };

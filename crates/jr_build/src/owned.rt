@@ -5,8 +5,8 @@ ghost use Rattle.jr_table.specs.TypeView.{class_key_of, ty_of};
 ghost use Rattle.jr_build.specs.HierarchyView.{meaning_of};
 ghost use Rattle.jr_build.specs.DeclaredView.{text_of, declaration_key_of};
 
-use crate::meanings::Meaning;
 use crate::declarations::DeclaredKey;
+use crate::meanings::Meaning;
 use jr_ast::{ModWord, Name};
 use jr_table::{ClassKey, Mods, Ty, Tys};
 use std::alloc::{AllocError, Global};

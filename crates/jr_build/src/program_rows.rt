@@ -9,15 +9,16 @@ ghost use Rattle.jr_build.specs.DeclaredView.{declaration_key_of, written_of, pa
 ghost use Rattle.jr_build.specs.DeclaredView.{class_declaration_of, field_declaration_of, method_declaration_of};
 ghost use Rattle.jr_build.specs.DeclaredView.{ctor_declaration_of, item_of, declaration_of};
 
+use crate::declarations::{
+    DeclaredClass, DeclaredCtor, DeclaredField, DeclaredItem, DeclaredKey, DeclaredKind,
+    DeclaredMethod, DeclaredParam, Written,
+};
 use crate::hierarchies::Hierarchy;
 use crate::meanings::{means, parent};
 use crate::owned::{
     access_words, maybe_owned_key, maybe_owned_type, owned_key, owned_types, owned_words,
 };
 use crate::signatures::meanings_of;
-use crate::declarations::{
-    DeclaredClass, DeclaredCtor, DeclaredField, DeclaredMethod, DeclaredParam, DeclaredItem, DeclaredKind, DeclaredKey, Written,
-};
 use jr_table::{CtorKey, Decl, FieldKey, MethodKey, Row, Ty, Tys, prelude};
 use std::alloc::{AllocError, Global};
 
@@ -53,7 +54,11 @@ fn result_type<'a>(
     }
 }
 
-fn class_row<'a>(alloc: Global, h: &Hierarchy<'a>, class: &DeclaredClass<'a>) -> Result<Row, AllocError>
+fn class_row<'a>(
+    alloc: Global,
+    h: &Hierarchy<'a>,
+    class: &DeclaredClass<'a>,
+) -> Result<Row, AllocError>
     ensures { IfOk result (λ r. row_of r
         ≡ exact.class_row (hierarchy_of h.now) (class_declaration_of class.now)) }
 {
@@ -85,7 +90,11 @@ fn unwritten_row(alloc: Global, class: &DeclaredClass<'_>) -> Result<Row, AllocE
     })
 }
 
-fn field_row<'a>(alloc: Global, h: &Hierarchy<'a>, field: &DeclaredField<'a>) -> Result<Row, AllocError>
+fn field_row<'a>(
+    alloc: Global,
+    h: &Hierarchy<'a>,
+    field: &DeclaredField<'a>,
+) -> Result<Row, AllocError>
     ensures { IfOk result (λ r. row_of r
         ≡ exact.field_row (hierarchy_of h.now) (field_declaration_of field.now)) }
 {
@@ -128,7 +137,11 @@ fn method_row<'a>(
     })
 }
 
-fn ctor_row<'a>(alloc: Global, h: &Hierarchy<'a>, ctor: &DeclaredCtor<'a>) -> Result<Row, AllocError>
+fn ctor_row<'a>(
+    alloc: Global,
+    h: &Hierarchy<'a>,
+    ctor: &DeclaredCtor<'a>,
+) -> Result<Row, AllocError>
     ensures { IfOk result (λ r. row_of r
         ≡ exact.ctor_row (hierarchy_of h.now) (ctor_declaration_of ctor.now)) }
 {

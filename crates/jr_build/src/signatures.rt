@@ -5,9 +5,9 @@ ghost use Rattle.jr_build.specs.HierarchyView.{hierarchy_of, meaning_of};
 ghost use Rattle.jr_build.specs.Signatures.{signature_view, meanings, signature_of};
 ghost use Rattle.jr_build.specs.DeclaredView.{text_of, declaration_key_of, param_declaration_of, item_of};
 
+use crate::declarations::{DeclaredKey, DeclaredKind, DeclaredParam};
 use crate::hierarchies::Hierarchy;
 use crate::meanings::{Meaning, means};
-use crate::declarations::{DeclaredParam, DeclaredKind, DeclaredKey};
 use std::alloc::{AllocError, Global};
 use std::collections::HashMap;
 

@@ -6,8 +6,8 @@ ghost use Rattle.jr_build.specs.Hierarchies as pure;
 ghost use Rattle.jr_build.specs.Superclasses.{AreUnique, HasClasses, KnowsTops, IsHierarchy};
 
 use crate::class_numbers::{class_keys, inner_names, numbers, privates};
-use crate::hierarchies::Hierarchy;
 use crate::declarations::{DeclaredItem, DeclaredKind};
+use crate::hierarchies::Hierarchy;
 use std::alloc::{AllocError, Global};
 
 impl<'a> Hierarchy<'a> {
@@ -35,7 +35,11 @@ impl<'a> Hierarchy<'a> {
     }
 
     /// The superclasses of top-level classes and of the prelude's.
-    fn top_parents(&self, alloc: Global, declarations: &[DeclaredItem<'a>]) -> Result<Vec<Option<u32>>, AllocError>
+    fn top_parents(
+        &self,
+        alloc: Global,
+        declarations: &[DeclaredItem<'a>],
+    ) -> Result<Vec<Option<u32>>, AllocError>
         ensures { IfOk result (λ parents. parents.items
             ≡ pure.top_parents (hierarchy_of self.now) (map declaration_of declarations.now)) }
     {
@@ -110,7 +114,10 @@ impl<'a> Hierarchy<'a> {
 }
 
 /// The classes, with no superclasses.
-fn classes<'a>(alloc: Global, declarations: &[DeclaredItem<'a>]) -> Result<Hierarchy<'a>, AllocError>
+fn classes<'a>(
+    alloc: Global,
+    declarations: &[DeclaredItem<'a>],
+) -> Result<Hierarchy<'a>, AllocError>
     requires few { length declarations.now + 4 < 2 ^ 32 }
     requires unique { AreUnique (map declaration_of declarations.now) }
     ensures { IfOk result (λ h. HasClasses (map declaration_of declarations.now) (hierarchy_of h)) }
@@ -129,7 +136,10 @@ fn classes<'a>(alloc: Global, declarations: &[DeclaredItem<'a>]) -> Result<Hiera
 }
 
 /// The classes, with the superclasses of top-level classes.
-fn with_tops<'a>(alloc: Global, declarations: &[DeclaredItem<'a>]) -> Result<Hierarchy<'a>, AllocError>
+fn with_tops<'a>(
+    alloc: Global,
+    declarations: &[DeclaredItem<'a>],
+) -> Result<Hierarchy<'a>, AllocError>
     requires few { length declarations.now + 4 < 2 ^ 32 }
     requires unique { AreUnique (map declaration_of declarations.now) }
     ensures { IfOk result (λ h. KnowsTops (map declaration_of declarations.now) (hierarchy_of h)) }
@@ -140,7 +150,10 @@ fn with_tops<'a>(alloc: Global, declarations: &[DeclaredItem<'a>]) -> Result<Hie
 }
 
 /// The classes of a program, each with its superclass where it has one (JLS 8.1.4).
-pub(crate) fn hierarchy<'a>(alloc: Global, declarations: &[DeclaredItem<'a>]) -> Result<Hierarchy<'a>, AllocError>
+pub(crate) fn hierarchy<'a>(
+    alloc: Global,
+    declarations: &[DeclaredItem<'a>],
+) -> Result<Hierarchy<'a>, AllocError>
     requires few { length declarations.now + 4 < 2 ^ 32 }
     requires unique { AreUnique (map declaration_of declarations.now) }
     ensures { IfOk result (λ h. IsHierarchy (map declaration_of declarations.now) (hierarchy_of h)) }

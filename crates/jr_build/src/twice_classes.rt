@@ -9,9 +9,9 @@ ghost use Rattle.jr_build.specs.Places.{place_of, IsEarliest};
 ghost use Rattle.jr_build.specs.DeclarationFaults.{named_twice, twice_of, member_named};
 ghost use Rattle.jr_build.specs.DeclaredView.{declaration_key_of, item_of, declaration_of};
 
+use crate::declarations::{DeclaredItem, DeclaredKey, DeclaredKind};
 use crate::key_index::KeyIndex;
 use crate::places::{earlier, in_file};
-use crate::declarations::{DeclaredItem, DeclaredKind, DeclaredKey};
 use jr_text::Place;
 use std::alloc::{AllocError, Global};
 
@@ -62,7 +62,10 @@ pub(crate) fn class_key<'a>(item: &DeclaredKind<'a>) -> Option<DeclaredKey<'a>>
 }
 
 /// The earliest class that is declared a second time, or that has the name of the class around it.
-pub(crate) fn twice_class(alloc: Global, declarations: &[DeclaredItem<'_>]) -> Result<Option<Place>, AllocError>
+pub(crate) fn twice_class(
+    alloc: Global,
+    declarations: &[DeclaredItem<'_>],
+) -> Result<Option<Place>, AllocError>
     requires { length declarations.now < 2 ^ 32 }
     ensures { IfOk result (λ place. (packages : List (Option PackageLine)) →
         IsEarliest (HasFault packages (map declaration_of declarations.now) kind.TwiceClass)
@@ -72,7 +75,10 @@ pub(crate) fn twice_class(alloc: Global, declarations: &[DeclaredItem<'_>]) -> R
     let mut first = None;
     for (number, declaration) in declarations.iter().enumerate() {
         let before = index.put_maybe(&class_key(&declaration.item), number as u32)?;
-        first = earlier(first, in_file(declaration.file, twice_at(&declaration.item, before)));
+        first = earlier(
+            first,
+            in_file(declaration.file, twice_at(&declaration.item, before)),
+        );
     }
     Ok(first)
 }
@@ -103,7 +109,10 @@ fn name_key<'a>(item: &DeclaredKind<'a>) -> Option<DeclaredKey<'a>>
 }
 
 /// The fields and methods of top-level classes by their names.
-fn names_of_members<'a>(alloc: Global, declarations: &[DeclaredItem<'a>]) -> Result<KeyIndex<'a>, AllocError>
+fn names_of_members<'a>(
+    alloc: Global,
+    declarations: &[DeclaredItem<'a>],
+) -> Result<KeyIndex<'a>, AllocError>
     requires { length declarations.now < 2 ^ 32 }
     ensures { IfOk result (λ index.
         IsIndexOf name_key_at (map declaration_of declarations.now) (length declarations.now) index) }

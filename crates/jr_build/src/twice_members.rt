@@ -10,11 +10,11 @@ ghost use Rattle.jr_build.specs.DeclarationFaults.{IsLeastAt};
 ghost use Rattle.jr_build.specs.DeclaredView.{param_declaration_of, item_of, declaration_of};
 ghost use Rattle.jr_build.specs.TypeFaults.{KnowsMeanings};
 
+use crate::declaration_faults::name_place;
+use crate::declarations::{DeclaredItem, DeclaredKind, DeclaredParam};
 use crate::hierarchies::Hierarchy;
 use crate::places::{earlier, in_file};
 use crate::signatures::{SignatureIndex, item_signature};
-use crate::declaration_faults::name_place;
-use crate::declarations::{DeclaredParam, DeclaredItem, DeclaredKind};
 use crate::type_faults::lesser_of;
 use jr_index::Names;
 use jr_text::Place;

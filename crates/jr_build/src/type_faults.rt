@@ -11,10 +11,12 @@ ghost use Rattle.jr_table.specs.Declared.{method_item};
 ghost use Rattle.jr_build.specs.TypeFaults.{lesser, MeansNothing, MaybeNothing};
 ghost use Rattle.jr_build.specs.TypeFaults.{AnyNothing, NothingAt, KnowsMeanings};
 
+use crate::declarations::{
+    DeclaredItem, DeclaredKey, DeclaredKind, DeclaredMethod, DeclaredParam, Written,
+};
 use crate::hierarchies::Hierarchy;
 use crate::meanings::means;
 use crate::places::{earlier, in_file};
-use crate::declarations::{DeclaredMethod, DeclaredParam, DeclaredItem, DeclaredKind, DeclaredKey, Written};
 use jr_text::Place;
 
 /// The lesser of two numbers, where there is one.
@@ -60,7 +62,11 @@ fn maybe_nothing_at<'a>(
 }
 
 /// Where the first of the parameters' types stands that mean nothing in a class.
-fn any_nothing_at<'a>(h: &Hierarchy<'a>, of: &DeclaredKey<'a>, params: &[DeclaredParam<'a>]) -> Option<u32>
+fn any_nothing_at<'a>(
+    h: &Hierarchy<'a>,
+    of: &DeclaredKey<'a>,
+    params: &[DeclaredParam<'a>],
+) -> Option<u32>
     ensures { IsLeastAt (AnyNothing (hierarchy_of h.now) (declaration_key_of of.now)
         (map param_declaration_of params.now)) result }
 {
@@ -102,7 +108,10 @@ pub(crate) fn no_type<'a>(declarations: &[DeclaredItem<'a>], h: &Hierarchy<'a>) 
 {
     let mut first = None;
     for declaration in declarations {
-        first = earlier(first, in_file(declaration.file, item_nothing_at(h, &declaration.item)));
+        first = earlier(
+            first,
+            in_file(declaration.file, item_nothing_at(h, &declaration.item)),
+        );
     }
     first
 }

@@ -2,10 +2,10 @@
 ghost use Rattle.jr_one_plan.specs.OnePlan.{RenamedAreAlike, AlikeBecomeTheSame};
 ghost use Rattle.jr_one_plan.specs.OnePlan.{RewritingIsOne, PlanIsOne};
 
+use jr_cursor::one_is_target;
 use jr_members::members_are_written;
 use jr_rename::{renamings_stay_fair, rows_are_named};
 use jr_table::{lookups_are_exact, types_are_exact};
-use jr_cursor::one_is_target;
 use jr_text::Span;
 
 /// What is renamed with a declaration is one set, and what declarations, rows and scopes become

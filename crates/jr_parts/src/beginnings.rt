@@ -11,8 +11,8 @@ ghost use Rattle.jr_parts.specs.Walking.{key_of, CanWalk, Begins, held_param, he
 use jr_ast::{Param, Path};
 use jr_bind::Bound;
 use jr_gather::{Here, next};
-use jr_scopes::{Held, HeldType};
 use jr_respell::{Programs, Scopes};
+use jr_scopes::{Held, HeldType};
 use jr_table::{MemberKey, Ty};
 use jr_text::Span;
 use std::alloc::{AllocError, Global};

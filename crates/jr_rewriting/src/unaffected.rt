@@ -8,8 +8,8 @@ ghost use Rattle.jr_mentions.specs.Avoids.{AvoidsPart};
 ghost use Rattle.jr_respell.specs.Scopes.{rows_in, renaming_in, AreImages};
 ghost use Rattle.jr_rewriting.specs.Unaffected as pure;
 
-use jr_mentions::{Apart, apart};
 use jr_members::{PartRef, WrittenMember};
+use jr_mentions::{Apart, apart};
 use jr_respell::Programs;
 use jr_table::{Decl, LocalKey, MemberKey};
 use jr_text::Span;

@@ -4,6 +4,7 @@ ghost use Rattle.jr_session.specs.Promises.{RenamesKeepPrograms};
 ghost use Rattle.jr_session.specs.StepLaws.{HasOneAnswer, HasOneShow, RenamesAreRefusedFirst};
 
 use jr_class_rename::{classes_give_images, constructors_give_images};
+use jr_cursor::one_is_target;
 use jr_dispatch::dispatch_is_kept;
 use jr_lex::one_answer;
 use jr_members::members_are_written;
@@ -14,7 +15,6 @@ use jr_rename::{plans_become, renamings_stay_fair, rows_are_named};
 use jr_renamed::plans_keep_programs;
 use jr_shown::lines_are_told;
 use jr_sources::text_has_one_reading;
-use jr_cursor::one_is_target;
 use jr_text::{Span, untouched_bytes_move};
 
 /// A step has one reply and leaves one state, and a show's lines are those of the present sources,
