@@ -5,7 +5,7 @@ Makes or brings up to date the repository TO, a copy of FROM in which the crates
 kept (--keep), nor built by a gate or another clone, have their specs, types and contracts as they are, and bodies that
 want memory (`Err(AllocError)`) or are `unreachable!()`; laws have empty ones. What proved those bodies is gone.
 With --modules, CRATE keeps the bodies of these modules of its own alone. Lemma files of stubs that no one cites go too.
-Crates that FROM lacks, or has otherwise, are taken from the folders named by --more (/work/h4/crates/jr_rebind).
+Crates that FROM lacks, or has otherwise, are taken from the folders named by --more (/work/h4/crates/jr_cache).
 Then in TO: python3 bench/clones.py check CRATE --allow-holes --only CRATE::MODULE ..
 """
 import os, re, shutil, subprocess, sys

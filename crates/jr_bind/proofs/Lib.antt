@@ -14,3 +14,6 @@ pub mod MemberFound
 pub mod TypedPassing
 pub mod TypedDeclaring
 pub mod TypedBounds
+pub mod Accesses
+pub mod Climbing
+pub mod Above

@@ -14,3 +14,5 @@ pub mod BoundLogs
 pub mod SuperPlaces
 pub mod Programs
 pub mod TypedFlow
+pub mod OverrideWords
+pub mod OverrideClashes

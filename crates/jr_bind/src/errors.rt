@@ -3,7 +3,6 @@ ghost use Rattle.std.specs.Prelude.{◌≡◌, ◌++◌, [], ◌∷◌, map, IfO
 ghost use Rattle.std.specs.List.Sorted.{IsPermutation, IsNonDecreasingBy};
 ghost use Rattle.jr_table.specs.Decls.{MemberKey};
 ghost use Rattle.jr_table.specs.Lookup.{shown};
-ghost use Rattle.jr_table.specs.Errors.{rule_rank};
 ghost use Rattle.jr_table.specs.Notes.{missing_rule};
 ghost use Rattle.jr_table.specs.Notes as notes;
 ghost use Rattle.jr_table.specs.ErrorLists as lists;
@@ -22,49 +21,17 @@ pub struct BindError {
     pub rule: Rule,
 }
 
-/// Where a rule stands among those at one place.
-fn rank(rule: Rule) -> u64
-    ensures { result ≡ rule_rank rule }
-{
-    match rule {
-        Rule::NoVariable => 1,
-        Rule::NoType => 2,
-        Rule::NoMethod => 3,
-        Rule::Ambiguous => 4,
-        Rule::Private => 5,
-        Rule::StaticContext => 6,
-        Rule::StaticThroughValue => 7,
-        Rule::InstanceThroughType => 8,
-        Rule::TypeMismatch => 9,
-        Rule::Operands => 10,
-        Rule::BadCast => 11,
-        Rule::FinalAssigned => 12,
-        Rule::Redeclared => 13,
-        Rule::Forward => 14,
-        Rule::VoidValue => 15,
-        Rule::ReturnForm => 16,
-        Rule::MissingReturn => 17,
-        Rule::Unreachable => 18,
-        Rule::ConstantCondition => 19,
-        Rule::Override => 20,
-        Rule::SuperCtor => 21,
-        Rule::FinalClass => 22,
-        Rule::ObjectMethod => 23,
-        Rule::Deep => 24,
-    }
-}
-
 /// A number by which errors are in order.
 fn order(error: &BindError) -> u64
     ensures { result ≡ lists.order_number (error_of error.now) }
 {
-    u64::from(error.at) * 32 + rank(error.rule)
+    u64::from(error.at) * 32 + error.rule.rank()
 }
 
 fn is_same(error: BindError, other: BindError) -> bool
     ensures { result ≡ lists.same_error (error_of error) (error_of other) }
 {
-    (error.at == other.at) & (rank(error.rule) == rank(other.rule))
+    (error.at == other.at) & (error.rule.rank() == other.rule.rank())
 }
 
 /// The rule that is broken where nothing is found.

@@ -8,12 +8,12 @@ use Rattle.jr_table.specs.Context.{Context}
 use Rattle.jr_table.specs.Declared.{declarations_of}
 use Rattle.jr_build.proofs.OneRows.{program_once}
 use Rattle.jr_members.proofs.DeclarationRows.{once, not_reserved}
-use Rattle.jr_places.proofs.MeansOnce.{means_once, parent_once}
+use Rattle.jr_program_laws.proofs.MeansOnce.{means_once, parent_once}
 use Rattle.jr_rename.specs.Families.{AreRenamed}
 use Rattle.jr_rename.specs.Images.{Renaming, is_renamed, rows_to}
 use Rattle.jr_rename.specs.RenameLaws.{ReferencesAreKept}
 use Rattle.jr_rename.specs.ImageLaws.{RenamingsStayFair}
-use Rattle.jr_sites.proofs.Programs.{program_agrees, tops_agree, parents_agree}
+use Rattle.jr_program_laws.proofs.Programs.{program_agrees, tops_agree, parents_agree}
 use Rattle.jr_class_rename.specs.ClassLaws.{ConstructorsGiveImages}
 use Rattle.jr_class_rename.proofs.Renamed.{Keeps, any_among}
 use Rattle.jr_class_rename.proofs.Objects.{object_old, object_named, object_of}

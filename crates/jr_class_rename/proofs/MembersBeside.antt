@@ -14,7 +14,7 @@ use Rattle.jr_members.proofs.Walking.{In, in_left, in_right}
 use Rattle.jr_rename.specs.Images.{Renaming, types_to, member_to}
 use Rattle.jr_rename.specs.Beside.{ClassBeside, MembersBeside, MemberBeside, ClassesBeside, UnitsBeside}
 use Rattle.jr_rename.specs.ImageLaws.{IsClassImage, IsMemberImage}
-use Rattle.jr_sites.proofs.Agreeing.{ClassRow}
+use Rattle.jr_program_laws.proofs.Agreeing.{ClassRow}
 use Rattle.jr_class_rename.proofs.Renamed.{kept_name}
 use Rattle.jr_class_rename.proofs.TreesBeside.{HeadTo, MemberTo}
 use Rattle.jr_class_rename.proofs.NewAgreeing.{Both}

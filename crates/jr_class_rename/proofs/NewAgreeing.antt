@@ -19,8 +19,8 @@ use Rattle.jr_table.specs.Resolving.{DeclaresClass, IsPreludeClass, IsPreludeSub
 use Rattle.jr_build.proofs.Looks.{key}
 use Rattle.jr_members.proofs.Meaning.{OneClass, Unreserved}
 use Rattle.jr_rename.specs.Images.{Renaming, outer_to, class_to, type_to, decl_to, row_to, rows_to}
-use Rattle.jr_sites.proofs.Agreeing.{Agree, TopsAgree, ParentsAgree, ClassRow, one_row, parent_number, superclass_row, inherited_member, type_declared, row_private, outer_row}
-use Rattle.jr_sites.proofs.MemberTypesFound.{top_found, RowWith}
+use Rattle.jr_program_laws.proofs.Agreeing.{Agree, TopsAgree, ParentsAgree, ClassRow, one_row, parent_number, superclass_row, inherited_member, type_declared, row_private, outer_row}
+use Rattle.jr_program_laws.proofs.MemberTypesFound.{top_found, RowWith}
 use Rattle.jr_class_rename.proofs.WrittenTypes.{WrittenAs, named_in_top, parent_meant}
 use Rattle.jr_class_rename.proofs.Renamed.{Keeps, prelude_stays, object_stays}
 use Rattle.jr_class_rename.proofs.ItemsBeside.{ParentTo, ClassTo, DeclarationsTo, class_forth, class_back}

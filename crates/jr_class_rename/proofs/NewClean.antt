@@ -17,8 +17,8 @@ use Rattle.jr_table.specs.Resolving.{HasWord, Climbs, Means}
 use Rattle.jr_table.specs.ProgramRows.{MeanTypes, MeansResult, AreProgramRows}
 use Rattle.jr_table.specs.Faults.{PackageLine, names_of, line_at, IsReserved, IsNamedAsOuter, TopWord, InnerWord, FieldWord, MethodWord, IsAccess, AreBad, ClassWordsBad, WordsBad, name_at, Writes, WritesType, params_of, InitIsBad, IsClean}
 use Rattle.jr_rename.specs.Images.{Renaming, outer_to, rows_to}
-use Rattle.jr_sites.proofs.RowsOfDeclarations.{Gives, gives}
-use Rattle.jr_sites.proofs.Agreeing.{ClassRow, one_row, superclass_row, parent_number, outer_row}
+use Rattle.jr_program_laws.proofs.RowsOfDeclarations.{Gives, gives}
+use Rattle.jr_program_laws.proofs.Agreeing.{ClassRow, one_row, superclass_row, parent_number, outer_row}
 use Rattle.jr_class_rename.proofs.ItemsBeside.{ParamsTo, FieldTo, ItemTo, class_back}
 use Rattle.jr_class_rename.proofs.NewAgreeing.{Both, new_one, new_parents}
 use Rattle.jr_class_rename.proofs.NewNames.{HasRow, Fresh, new_name, name_case, as_outer, item_back, one_class, member_back, its_name_back}

@@ -23,8 +23,8 @@ use Rattle.jr_table.specs.ProgramRows.{AreProgramRows}
 use Rattle.jr_table.specs.Faults.{SameTypes, SameMember, HasItsName}
 use Rattle.jr_build.proofs.Apart.{in_stands}
 use Rattle.jr_rename.specs.Images.{Renaming, is_renamed, name_to, outer_to, class_to, type_to, rows_to}
-use Rattle.jr_sites.proofs.RowsOfDeclarations.{gives}
-use Rattle.jr_sites.proofs.Agreeing.{ClassRow, one_key}
+use Rattle.jr_program_laws.proofs.RowsOfDeclarations.{gives}
+use Rattle.jr_program_laws.proofs.Agreeing.{ClassRow, one_key}
 use Rattle.jr_class_rename.proofs.WrittenTypes.{place, WrittenAs, meant, written_means}
 use Rattle.jr_class_rename.proofs.ItemsBeside.{ParamsTo, ClassTo, ItemTo, DeclarationsTo}
 use Rattle.jr_class_rename.proofs.NewAgreeing.{Both, image_row, new_one, new_tops, new_parents}

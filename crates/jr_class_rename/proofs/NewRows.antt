@@ -14,7 +14,7 @@ use Rattle.jr_table.specs.Resolving.{Means}
 use Rattle.jr_table.specs.ProgramRows.{is_access, MeanTypes, MeansResult, IsClassRow, IsFieldRow, IsMethodRow, IsCtorRow, unwritten_row, AreRowsOfDeclarations, AreProgramRows}
 use Rattle.jr_build.proofs.Apart.{In, in_right, in_stands}
 use Rattle.jr_rename.specs.Images.{Renaming, name_to, class_to, type_to, types_to, decl_to, row_to, rows_to}
-use Rattle.jr_sites.proofs.Agreeing.{ClassRow}
+use Rattle.jr_program_laws.proofs.Agreeing.{ClassRow}
 use Rattle.jr_class_rename.proofs.WrittenTypes.{meant, written_means}
 use Rattle.jr_class_rename.proofs.Renamed.{kept_name}
 use Rattle.jr_class_rename.proofs.ItemsBeside.{TypeTo, ResultTo, ParamsTo, ClassTo, FieldTo, MethodTo, CtorTo, ItemTo, DeclarationsTo}

@@ -17,7 +17,7 @@ use Rattle.jr_table.specs.Lookup.{FindsTypeNamed, FindsTypeOf}
 use Rattle.jr_table.specs.Declared.{DeclaredItem}
 use Rattle.jr_table.specs.Faults.{PackageLine, IsClean, IsReserved}
 use Rattle.jr_table.proofs.RowLaws.{row_at}
-use Rattle.jr_sites.proofs.Agreeing.{Agree, ClassRow, one_key, then_of}
+use Rattle.jr_program_laws.proofs.Agreeing.{Agree, ClassRow, one_key, then_of}
 
 module _ (rows : List Row) (are : AreRows rows) where
   -- a member class has the name that it is found by, and a class around it

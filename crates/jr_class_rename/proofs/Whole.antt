@@ -13,13 +13,13 @@ use Rattle.jr_table.specs.Resolving.{IsPreludeClass, DeclaresClass, IsParent}
 use Rattle.jr_table.specs.ProgramRows.{AreProgramRows}
 use Rattle.jr_build.proofs.OneRows.{program_once}
 use Rattle.jr_members.proofs.DeclarationRows.{once, not_reserved}
-use Rattle.jr_places.proofs.MeansOnce.{means_once, parent_once}
+use Rattle.jr_program_laws.proofs.MeansOnce.{means_once, parent_once}
 use Rattle.jr_rename.specs.Targets.{IsOfPrelude}
 use Rattle.jr_rename.specs.Images.{Renaming, row_to, rows_to}
 use Rattle.jr_rename.specs.RenameLaws.{ReferencesAreKept}
 use Rattle.jr_rename.specs.ImageLaws.{ClassesStayFair}
-use Rattle.jr_sites.proofs.RowsOfDeclarations.{gives}
-use Rattle.jr_sites.proofs.Programs.{program_agrees, tops_agree, parents_agree}
+use Rattle.jr_program_laws.proofs.RowsOfDeclarations.{gives}
+use Rattle.jr_program_laws.proofs.Programs.{program_agrees, tops_agree, parents_agree}
 use Rattle.jr_class_rename.specs.ClassLaws.{ClassesGiveImages, BuiltRowsAreImages}
 use Rattle.jr_class_rename.proofs.Renamed.{Keeps, target, not_target}
 use Rattle.jr_class_rename.proofs.Objects.{object_old, object_named, object_of}

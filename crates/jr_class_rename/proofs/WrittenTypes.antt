@@ -20,8 +20,8 @@ use Rattle.jr_table.specs.Resolving.{FindsInTop, MemberNames, HasMemberType, Mea
 use Rattle.jr_table.proofs.LookupLaws.{one_answers}
 use Rattle.jr_table.proofs.FieldLaws.{one_type_of}
 use Rattle.jr_table.proofs.OneEach.{class_stands}
-use Rattle.jr_sites.proofs.Agreeing.{Agree, TopsAgree, ParentsAgree, ClassRow, one_key}
-use Rattle.jr_sites.proofs.MemberTypesFound.{type_found, has_found, found_type, found_has, in_top_found, RowWith}
+use Rattle.jr_program_laws.proofs.Agreeing.{Agree, TopsAgree, ParentsAgree, ClassRow, one_key}
+use Rattle.jr_program_laws.proofs.MemberTypesFound.{type_found, has_found, found_type, found_has, in_top_found, RowWith}
 
 -- in the body of a class
 abbrev pub place : ClassKey → Scope

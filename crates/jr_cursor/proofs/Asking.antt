@@ -25,8 +25,8 @@ use Rattle.jr_members.proofs.Anywhere.{classes_found, found_classes}
 use Rattle.jr_bind.specs.Bounds.{Bound, IsBound}
 use Rattle.jr_bind.specs.Programs.{File, Program, IsProgram, AreBound, units_of}
 use Rattle.jr_bind.specs.SuperPlaces as bind
-use Rattle.jr_places.specs.FileParts.{begins, HasTokenAt, IsSuperAt, SuperStands}
-use Rattle.jr_places.specs.PlaceLaws.{IsFile, IsPart, Owns, PartsArePlaced}
+use Rattle.jr_program_laws.specs.FileParts.{begins, HasTokenAt, IsSuperAt, SuperStands}
+use Rattle.jr_program_laws.specs.PlaceLaws.{IsFile, IsPart, Owns, PartsArePlaced}
 use Rattle.jr_rename.specs.Targets.{IsOfPrelude, PartDeclares, Names}
 use Rattle.jr_cursor.specs.Names.{own_name, local_there, HasThere, HasInFile, Finds}
 use Rattle.jr_cursor.specs.Listed.{HasListed}

@@ -19,15 +19,15 @@ use Rattle.jr_table.specs.BindingLaws.{IsBound}
 use Rattle.jr_table.specs.Context.{Context}
 use Rattle.jr_table.specs.Declared.{DeclaredItem, class_key}
 use Rattle.jr_table.specs.Errors.{Part, class_part, member_part, Binds, Declares, InClass, InMembers, InInner, InClasses}
-use Rattle.jr_places.specs.FileParts.{begins, IsSuperAt, SuperStands, WithSuper}
-use Rattle.jr_places.proofs.TokenOrder.{Rising}
-use Rattle.jr_places.proofs.Holding.{Over, join, pass, only, node, turn, empty}
-use Rattle.jr_places.proofs.Filling.{member_fills}
-use Rattle.jr_places.proofs.Supers.{Knowing}
-use Rattle.jr_places.proofs.ItemTokens.{first_of_span}
-use Rattle.jr_places.proofs.MembersHold.{parent_over}
-use Rattle.jr_places.proofs.MemberParts.{member_binds}
-use Rattle.jr_places.proofs.SuperPlaces.{super_once}
+use Rattle.jr_program_laws.specs.FileParts.{begins, IsSuperAt, SuperStands, WithSuper}
+use Rattle.jr_program_laws.proofs.TokenOrder.{Rising}
+use Rattle.jr_program_laws.proofs.Holding.{Over, join, pass, only, node, turn, empty}
+use Rattle.jr_program_laws.proofs.Filling.{member_fills}
+use Rattle.jr_program_laws.proofs.Supers.{Knowing}
+use Rattle.jr_program_laws.proofs.ItemTokens.{first_of_span}
+use Rattle.jr_program_laws.proofs.MembersHold.{parent_over}
+use Rattle.jr_program_laws.proofs.MemberParts.{member_binds}
+use Rattle.jr_program_laws.proofs.SuperPlaces.{super_once}
 use Rattle.jr_rename.specs.Targets.{PartDeclares}
 use Rattle.jr_cursor.proofs.Nowhere.{neither}
 use Rattle.jr_cursor.proofs.Declaring.{from_part}

@@ -20,13 +20,13 @@ use Rattle.jr_table.specs.Binding.{value, SuperCtorFinds}
 use Rattle.jr_table.specs.HeadRules.{plain, with_parameters, is_static_member, MaybeTypeRefers}
 use Rattle.jr_table.specs.Somewhere.{InMaybe}
 use Rattle.jr_table.specs.Errors.{InMember}
-use Rattle.jr_places.specs.FileParts.{begins}
-use Rattle.jr_places.proofs.MemberParts.{OnExp, OnStmt, OnList, MemberBinds}
-use Rattle.jr_places.proofs.Holding.{Over, join, pass, only, node, turn, empty}
-use Rattle.jr_places.proofs.Supers.{Knowing, knowing_node, beyond, beyond_with, within_with, super_leads, lacks_token, word_lacks, modifiers_lack, params_lack}
-use Rattle.jr_places.proofs.FoundOnce.{same_decl, super_ctor_once}
-use Rattle.jr_places.proofs.ExpressionsHold.{type_over, args_over}
-use Rattle.jr_places.proofs.StatementsHold.{exp}
+use Rattle.jr_program_laws.specs.FileParts.{begins}
+use Rattle.jr_program_laws.proofs.MemberParts.{OnExp, OnStmt, OnList, MemberBinds}
+use Rattle.jr_program_laws.proofs.Holding.{Over, join, pass, only, node, turn, empty}
+use Rattle.jr_program_laws.proofs.Supers.{Knowing, knowing_node, beyond, beyond_with, within_with, super_leads, lacks_token, word_lacks, modifiers_lack, params_lack}
+use Rattle.jr_program_laws.proofs.FoundOnce.{same_decl, super_ctor_once}
+use Rattle.jr_program_laws.proofs.ExpressionsHold.{type_over, args_over}
+use Rattle.jr_program_laws.proofs.StatementsHold.{exp}
 use Rattle.jr_rename.specs.Targets.{StandsAt, MemberDeclares, LocalDeclares}
 use Rattle.jr_rewrite.specs.Rewrites.{declared_by}
 use Rattle.jr_cursor.proofs.Nowhere.{exp_none, row_none}

@@ -20,11 +20,11 @@ use Rattle.jr_table.specs.Binding.{Role, value, TypeRefers}
 use Rattle.jr_table.specs.Binding as role
 use Rattle.jr_table.specs.HeadRules.{ParamsRefer}
 use Rattle.jr_table.specs.Somewhere.{InExp, InMaybe, InStmt, InElse, InStmts}
-use Rattle.jr_places.specs.FileParts.{begins}
-use Rattle.jr_places.proofs.MemberParts.{OnExp, OnStmt, OnList}
-use Rattle.jr_places.proofs.Holding.{Over, join, pass, only, node, turn, empty}
-use Rattle.jr_places.proofs.ExpressionsHold.{without, type_over, word_over}
-use Rattle.jr_places.proofs.StatementsHold.{exp}
+use Rattle.jr_program_laws.specs.FileParts.{begins}
+use Rattle.jr_program_laws.proofs.MemberParts.{OnExp, OnStmt, OnList}
+use Rattle.jr_program_laws.proofs.Holding.{Over, join, pass, only, node, turn, empty}
+use Rattle.jr_program_laws.proofs.ExpressionsHold.{without, type_over, word_over}
+use Rattle.jr_program_laws.proofs.StatementsHold.{exp}
 use Rattle.jr_rename.specs.Targets.{StandsAt, LocalDeclares, ParamDeclares}
 use Rattle.jr_cursor.proofs.Nowhere.{neither, exp_none}
 

@@ -19,12 +19,12 @@ use Rattle.jr_members.specs.WrittenMembers.{written_members}
 use Rattle.jr_members.specs.WrittenLaws.{AreWritten, IsWritten, MembersAreWritten}
 use Rattle.jr_members.proofs.Anywhere.{classes_found, found_classes}
 use Rattle.jr_bind.specs.Programs.{File, Program, IsProgram, units_of}
-use Rattle.jr_places.specs.FileParts.{begins, SuperStands}
-use Rattle.jr_places.specs.PlaceLaws.{IsFile}
-use Rattle.jr_places.proofs.TokenOrder.{Rising, whole_piece}
-use Rattle.jr_places.proofs.ItemTokens.{tokens_rise}
-use Rattle.jr_places.proofs.MeansOnce.{declares_once}
-use Rattle.jr_places.proofs.SuperPlaces.{part_binds}
+use Rattle.jr_program_laws.specs.FileParts.{begins, SuperStands}
+use Rattle.jr_program_laws.specs.PlaceLaws.{IsFile}
+use Rattle.jr_program_laws.proofs.TokenOrder.{Rising, whole_piece}
+use Rattle.jr_program_laws.proofs.ItemTokens.{tokens_rise}
+use Rattle.jr_program_laws.proofs.MeansOnce.{declares_once}
+use Rattle.jr_program_laws.proofs.SuperPlaces.{part_binds}
 use Rattle.jr_rename.specs.Targets.{PartDeclares, Names, IsTarget}
 use Rattle.jr_cursor.proofs.Holders.{one_begins}
 use Rattle.jr_cursor.proofs.Asking.{marked_file, super_stands}

@@ -6,7 +6,7 @@ use Rattle.jr_members.specs.declared.keyed.WrittenMember as raw
 use Rattle.jr_members.specs.PartView.{written_of}
 use Rattle.jr_members.specs.WrittenMembers.{WrittenMember, written_members}
 use Rattle.jr_bind.specs.Programs.{Program, units_of}
-use Rattle.jr_places.specs.FileParts.{begins}
+use Rattle.jr_program_laws.specs.FileParts.{begins}
 use Rattle.jr_cursor.specs.Names.{HasInFile}
 
 -- those that the files of a program write

@@ -2,7 +2,7 @@
 ghost use Rattle.std.specs.Prelude.{◌≡◌, ◌<◌, Some, length, map, IfOk, MatchOption, option_map};
 ghost use Rattle.std.specs.Prelude.{slice_get};
 ghost use Rattle.jr_members.specs.PartView.{written_of};
-ghost use Rattle.jr_places.specs.FileParts.{begins};
+ghost use Rattle.jr_program_laws.specs.FileParts.{begins};
 ghost use Rattle.jr_table.specs.KeyView.{decl_of};
 ghost use Rattle.jr_bind.specs.Programs.{units_of};
 ghost use Rattle.jr_rename.specs.Targets.{Names};
@@ -14,7 +14,7 @@ use crate::within::has_there;
 use jr_bind::View;
 use jr_lex::{items_are_placed, one_answer};
 use jr_members::{WrittenMember, members_are_written};
-use jr_places::parts_are_placed;
+use jr_program_laws::parts_are_placed;
 use jr_rename::identifier_at;
 use jr_table::Decl;
 use jr_text::Span;

@@ -31,8 +31,8 @@ use Rattle.jr_rename.specs.Spelling.{renamed, spelled, WordsLead, TypeLeads, OnO
 use Rattle.jr_respell.specs.Ways.{Way, local, own_field, field_on, field_through, field_above, method_named, method_on, method_through, method_above, ctor_of, ctor_above, type_named, type_behind, name_in, reference_by, Finds}
 use Rattle.jr_respell.specs.Taking.{Asked, asked, SpellsAt}
 use Rattle.jr_bind.specs.SuperPlaces.{writes_super}
-use Rattle.jr_places.specs.FileParts.{begins}
-use Rattle.jr_places.proofs.FoundOnce.{same_decl, field_once, super_field_once, call_once, super_call_once, creation_once, super_ctor_once}
+use Rattle.jr_program_laws.specs.FileParts.{begins}
+use Rattle.jr_program_laws.proofs.FoundOnce.{same_decl, field_once, super_field_once, call_once, super_call_once, creation_once, super_ctor_once}
 use Rattle.jr_one_plan.specs.OnePlan.{AreAlike}
 use Rattle.jr_one_plan.proofs.OneRewriting.{Agree}
 use Rattle.jr_one_plan.proofs.Alike.{Makes, makes, makes_same, class_same}

@@ -15,7 +15,7 @@ use Rattle.jr_table.specs.Somewhere.{InStmt, InElse, InStmts}
 use Rattle.jr_table.specs.HeadRules.{with_parameters, is_static_member, types_of}
 use Rattle.jr_table.specs.Errors.{Part, class_part, member_part, InUnits}
 use Rattle.jr_members.proofs.Anywhere.{classes_found}
-use Rattle.jr_places.specs.FileParts.{begins}
+use Rattle.jr_program_laws.specs.FileParts.{begins}
 use Rattle.jr_rename.specs.Clashes.{DeclaresUnder, IsUnder, TakesPlace, ClassClashes, LocalClashes, Under, HasRow, HasPlace, Collides, ClashesWith}
 use Rattle.jr_cursor.proofs.Nowhere.{exp_none, row_none}
 

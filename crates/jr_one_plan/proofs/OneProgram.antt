@@ -18,8 +18,8 @@ use Rattle.jr_members.proofs.Anywhere.{classes_found, found_classes}
 use Rattle.jr_bind.specs.Bounds.{Bound}
 use Rattle.jr_bind.specs.Programs.{File, Program, IsProgram, units_of}
 use Rattle.jr_bind.specs.SuperPlaces.{writes_super}
-use Rattle.jr_places.specs.FileParts.{begins}
-use Rattle.jr_places.proofs.MeansOnce.{means_once, parent_once}
+use Rattle.jr_program_laws.specs.FileParts.{begins}
+use Rattle.jr_program_laws.proofs.MeansOnce.{means_once, parent_once}
 use Rattle.jr_rename.specs.Targets.{PartDeclares, IsTarget}
 
 -- the same files and rows, with other places of written `super(..)`

@@ -18,10 +18,10 @@ use Rattle.jr_table.specs.Binding.{TypeRefers, FindsIn, FindsFor, SuperCtorFinds
 use Rattle.jr_table.specs.HeadRules.{ParamsRefer, MaybeTypeRefers}
 use Rattle.jr_bind_expr.specs.Fits.{FitsType}
 use Rattle.jr_bind.specs.DeclaredTypes.{FitsParams, FitsMaybeType}
-use Rattle.jr_places.specs.FileParts.{begins}
+use Rattle.jr_program_laws.specs.FileParts.{begins}
 use Rattle.jr_gather.specs.Known.{IsOne, SuperCtorIsBound}
 use Rattle.jr_gather.proofs.Bound.{type_bound}
-use Rattle.jr_sites.specs.FoundTypes.{Tells, TypeIsFound, MaybeTypeIsFound, ParamTypesAreFound}
+use Rattle.jr_program_laws.specs.FoundTypes.{Tells, TypeIsFound, MaybeTypeIsFound, ParamTypesAreFound}
 use Rattle.jr_parts.specs.Ready.{Anywhere, TypeReady, ResultReady, ParamsReady, TopReady, TopNameReady}
 
 -- what a class is found by isn't nothing

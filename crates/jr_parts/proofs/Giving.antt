@@ -24,7 +24,7 @@ use Rattle.jr_renaming.specs.OutputView.{lost}
 use Rattle.jr_renaming.proofs.Joining.{gathers_none, gathers_within, both_assoc, both_none}
 use Rattle.jr_rename.specs.Spelling.{SuperCtorSpells, spelling}
 use Rattle.jr_renaming.specs.Files.{PartGives}
-use Rattle.jr_places.specs.FileParts.{begins}
+use Rattle.jr_program_laws.specs.FileParts.{begins}
 use Rattle.jr_gather.specs.declared.here.Here as raw_here
 use Rattle.jr_gather.specs.Known as here
 use Rattle.jr_gather.specs.Walks as gathers

@@ -26,7 +26,7 @@ use Rattle.jr_respell.specs.Scopes.{context_of, locals_in, member_of, AreBeside}
 use Rattle.jr_gather.specs.declared.here.Here as raw_here
 use Rattle.jr_gather.specs.Known as here
 use Rattle.jr_gather.specs.Walks as gathers
-use Rattle.jr_places.specs.FileParts.{begins}
+use Rattle.jr_program_laws.specs.FileParts.{begins}
 use Rattle.jr_changes.specs.Ready.{ExpReadyIn, StmtsReadyIn, MaybeReady, StmtsReady}
 use Rattle.jr_changes.specs.Bodies.{MaybeGathers, StmtsGather}
 use Rattle.jr_parts.specs.declared.beginnings.Walked as raw

@@ -25,8 +25,8 @@ use Rattle.jr_expr_types.specs.Slots.{find_type}
 use Rattle.jr_bind.specs.Bounds.{Bound}
 use Rattle.jr_bind.specs.DeclaredTypes.{FitsMaybeType}
 use Rattle.jr_bind.specs.Programs.{Program}
-use Rattle.jr_places.specs.FileParts.{begins}
-use Rattle.jr_sites.specs.FoundTypes.{MaybeParentIsFound}
+use Rattle.jr_program_laws.specs.FileParts.{begins}
+use Rattle.jr_program_laws.specs.FoundTypes.{MaybeParentIsFound}
 use Rattle.jr_parts.specs.Ready.{Anywhere, IsReady, MaybeParentReady, HeadReady, MemberReady, HasSuperAt, PartReady, FieldReady, MethodReady, CtorReady, MaybeSuperReady, InitReady}
 use Rattle.jr_parts.proofs.Finding.{type_ready, result_ready, params_ready, ctor_bound}
 

@@ -28,10 +28,10 @@ use Rattle.jr_members.proofs.Anywhere.{found_classes, written_member}
 use Rattle.jr_bind.specs.Bounds.{Bound, IsBound, decl_in}
 use Rattle.jr_bind.specs.Programs.{File, Program, IsProgram, AreBound, HasSuperPlace, units_of}
 use Rattle.jr_bind.specs.SuperPlaces as bind
-use Rattle.jr_places.specs.FileParts.{begins, HasTokenAt, IsSuperAt, SuperStands}
-use Rattle.jr_places.specs.PlaceLaws.{IsFile, IsPart, IsPlaced, Owns, PartsArePlaced}
+use Rattle.jr_program_laws.specs.FileParts.{begins, HasTokenAt, IsSuperAt, SuperStands}
+use Rattle.jr_program_laws.specs.PlaceLaws.{IsFile, IsPart, IsPlaced, Owns, PartsArePlaced}
 use Rattle.jr_gather.specs.Known.{found_in}
-use Rattle.jr_sites.specs.FoundTypes.{DeclaredTypesAreFound}
+use Rattle.jr_program_laws.specs.FoundTypes.{DeclaredTypesAreFound}
 use Rattle.jr_parts.specs.Ready.{Anywhere, IsReady, IsFirstSuper, PartReady}
 use Rattle.jr_parts.specs.PartLaws.{HasHeadKey, IsSoundMember}
 use Rattle.jr_parts.proofs.Resting.{IsKeyed, StandsIn, part_ready}

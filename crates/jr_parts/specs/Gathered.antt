@@ -12,7 +12,7 @@ use Rattle.jr_table.specs.Errors.{Part, class_part, member_part}
 use Rattle.jr_table.specs.Context.{Context}
 use Rattle.jr_table.specs.HeadRules.{plain, with_parameters, is_static_member}
 use Rattle.jr_bind.specs.Programs.{Program}
-use Rattle.jr_places.specs.FileParts.{begins}
+use Rattle.jr_program_laws.specs.FileParts.{begins}
 use Rattle.jr_rewrite.specs.Respellings.{Choice}
 use Rattle.jr_rewrite.specs.Rewrites.{
   Choosing,

@@ -8,8 +8,8 @@ use Rattle.jr_table.specs.Errors.{Part, class_part, member_part, Breaks}
 use Rattle.jr_table.specs.declared.rules.Rule.{Rule}
 use Rattle.jr_members.specs.WrittenMembers.{WrittenMember, written_members}
 use Rattle.jr_bind.specs.Programs.{Program, IsProgram, units_of}
-use Rattle.jr_places.specs.FileParts.{begins}
-use Rattle.jr_sites.specs.FoundTypes.{DeclaresFound}
+use Rattle.jr_program_laws.specs.FileParts.{begins}
+use Rattle.jr_program_laws.specs.FoundTypes.{DeclaresFound}
 use Rattle.jr_parts.specs.Ready.{Anywhere}
 
 -- the head of a class goes by the key of a head

@@ -41,7 +41,7 @@ use Rattle.jr_bind_expr.specs.Fits.{FitsType, FitsExps}
 use Rattle.jr_bind.specs.Bounds.{Bound, FitsWhole, TypeInPart}
 use Rattle.jr_bind.specs.Programs.{File, Program}
 use Rattle.jr_bind.specs.SuperPlaces.{IsSuperAt}
-use Rattle.jr_places.specs.FileParts.{begins}
+use Rattle.jr_program_laws.specs.FileParts.{begins}
 use Rattle.jr_gather.specs.Known.{
   found_in,
   SoundRow,
@@ -52,7 +52,7 @@ use Rattle.jr_gather.specs.Known.{
 }
 use Rattle.jr_changes.specs.Ready.{ExpReadyIn, StmtsReadyIn}
 use Rattle.jr_grammar.specs.Layout.{itself}
-use Rattle.jr_sites.specs.FoundTypes.{DeclaresFound}
+use Rattle.jr_program_laws.specs.FoundTypes.{DeclaresFound}
 
 abbrev pub Anywhere : Span → ℕ → Type 0
 Anywhere m base = Unit {0}

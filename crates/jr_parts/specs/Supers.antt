@@ -3,7 +3,7 @@ use Rattle.std.specs.Prelude.{◌≡◌, ℕ, List, Some, Bool, true, false}
 use Rattle.jr_text.specs.declared.spans.Span.{Span}
 use Rattle.jr_ast.specs.Tree as tree
 use Rattle.jr_table.specs.Context.{Context}
-use Rattle.jr_places.specs.FileParts.{begins}
+use Rattle.jr_program_laws.specs.FileParts.{begins}
 use Rattle.jr_rewrite.specs.Respellings.{Choice, stays, becomes, loses}
 use Rattle.jr_rewrite.specs.Rewrites.{RewritesSuper}
 use Rattle.jr_rename.specs.Spelling.{SuperCtorSpells}

@@ -17,7 +17,7 @@ use jr_gather::{Here, exprs, super_ctor_choice};
 use jr_lex::{Item, LexFault, lex};
 use jr_renaming::{Output, keep_loss};
 use jr_respell::Choice;
-use jr_shown::Tokens;
+use jr_program::Tokens;
 use jr_text::{Span, Text};
 use std::alloc::{AllocError, Global};
 

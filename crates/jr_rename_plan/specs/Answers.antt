@@ -9,7 +9,7 @@ use Rattle.jr_table.specs.Decls.{Decl}
 use Rattle.jr_names.specs.Refusals.{Refusal}
 use Rattle.jr_names.specs.Replies.{Outcome, planned, not_planned}
 use Rattle.jr_bind.specs.Programs.{Program, units_of}
-use Rattle.jr_places.specs.FileParts.{begins}
+use Rattle.jr_program_laws.specs.FileParts.{begins}
 use Rattle.jr_rewrite.specs.Rewritten.{Rewritten}
 use Rattle.jr_rewrite.specs.Edited.{entries_of}
 use Rattle.jr_rename.specs.Families.{AreRenamed}

@@ -9,7 +9,7 @@ ghost use Rattle.jr_rename.specs.Targets.{IsOfPrelude};
 ghost use Rattle.jr_rename.specs.Images.{rows_to};
 ghost use Rattle.jr_rename.specs.ImageView.{renaming_of};
 ghost use Rattle.jr_bind.specs.Programs.{units_of};
-ghost use Rattle.jr_places.specs.FileParts.{begins};
+ghost use Rattle.jr_program_laws.specs.FileParts.{begins};
 ghost use Rattle.jr_rename.specs.Clashes.{IsClear};
 ghost use Rattle.jr_rewriting.specs.Gathered.{members_of};
 ghost use Rattle.jr_rename_plan.specs.declared.afters.After.TheVariants.{Unknown};

@@ -14,7 +14,7 @@ use Rattle.jr_table.specs.Faults.{PackageLine, IsClean}
 use Rattle.jr_table.specs.Declared.{DeclaredItem, declarations_of}
 use Rattle.jr_names.specs.Refusals.{prelude_method}
 use Rattle.jr_bind.specs.Programs.{File, Program, units_of}
-use Rattle.jr_places.specs.FileParts.{begins}
+use Rattle.jr_program_laws.specs.FileParts.{begins}
 use Rattle.jr_rewrite.specs.Edited.{entries_of}
 use Rattle.jr_rewrite.specs.RewriteLaws.{IsRewritten}
 use Rattle.jr_rewrite.specs.Rewrites.{Choosing, RewritesUnit, RewritesUnits}

@@ -18,7 +18,7 @@ use Rattle.jr_table.specs.Decls.{
 use Rattle.jr_table.specs.Faults.{PackageLine, IsClean}
 use Rattle.jr_table.specs.Declared.{declarations_of}
 use Rattle.jr_bind.specs.Programs.{File, Program, IsProgram, units_of}
-use Rattle.jr_places.specs.FileParts.{begins}
+use Rattle.jr_program_laws.specs.FileParts.{begins}
 use Rattle.jr_rewrite.specs.AlongMembers.{AlongUnits}
 use Rattle.jr_rewrite.specs.Rewritten.{Rewritten}
 use Rattle.jr_rename.specs.ImageLaws.{without_marks, AreImages}

@@ -13,7 +13,7 @@ use Rattle.jr_grammar.specs.Reads.{Reads, ReadsWithSpans}
 use Rattle.jr_table.specs.Context.{Context}
 use Rattle.jr_table.specs.Declared.{DeclaredItem, declarations_of}
 use Rattle.jr_bind.specs.Programs.{File, Program, IsProgram, units_of}
-use Rattle.jr_places.specs.FileParts.{begins}
+use Rattle.jr_program_laws.specs.FileParts.{begins}
 use Rattle.jr_rewrite.specs.Respellings.{Loss}
 use Rattle.jr_rewrite.specs.Rewritten.{Rewritten}
 use Rattle.jr_rewrite.specs.Rewrites.{RewritesUnit, RewritesUnits}

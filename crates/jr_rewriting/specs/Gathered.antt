@@ -4,7 +4,7 @@ use Rattle.jr_text.specs.declared.spans.Span.{Span}
 use Rattle.jr_table.specs.Context.{Context}
 use Rattle.jr_members.specs.WrittenMembers.{WrittenMember, written_members}
 use Rattle.jr_bind.specs.Programs.{Program, units_of}
-use Rattle.jr_places.specs.FileParts.{begins}
+use Rattle.jr_program_laws.specs.FileParts.{begins}
 use Rattle.jr_rename.specs.Images.{Renaming}
 use Rattle.jr_rename.specs.Spelling.{spelling}
 use Rattle.jr_renaming.specs.declared.outputs.Output as raw

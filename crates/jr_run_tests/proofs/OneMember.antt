@@ -13,8 +13,8 @@ use Rattle.jr_table.specs.Errors.{Part, InUnits}
 use Rattle.jr_members.specs.WrittenLaws.{IsWritten}
 use Rattle.jr_members.proofs.Anywhere.{written_member}
 use Rattle.jr_bind.specs.Bounds.{BindsOnce, FitsWhole}
-use Rattle.jr_places.specs.FileParts.{begins, SuperStands}
-use Rattle.jr_places.specs.PlaceLaws.{IsFile, IsPart, PartsArePlaced}
+use Rattle.jr_program_laws.specs.FileParts.{begins, SuperStands}
+use Rattle.jr_program_laws.specs.PlaceLaws.{IsFile, IsPart, PartsArePlaced}
 use Rattle.jr_sources.proofs.InFiles.{is_part}
 use Rattle.jr_sources.proofs.PartsFit.{whole_fits}
 

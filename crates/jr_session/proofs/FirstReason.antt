@@ -12,7 +12,7 @@ use Rattle.jr_names.specs.Refusals.{Refusal, no_such_file, bad_place, bad_name, 
 use Rattle.jr_names.specs.Replies.{Reply, refused}
 use Rattle.jr_members.specs.WrittenLaws.{MembersAreWritten}
 use Rattle.jr_bind.specs.Programs.{File, Program, units_of}
-use Rattle.jr_places.specs.PlaceLaws.{PartsArePlaced}
+use Rattle.jr_program_laws.specs.PlaceLaws.{PartsArePlaced}
 use Rattle.jr_rewrite.specs.Edited.{entries_of}
 use Rattle.jr_rewrite.specs.Rewritten.{Rewritten}
 use Rattle.jr_rename.specs.ImageLaws.{RenamingsStayFair}

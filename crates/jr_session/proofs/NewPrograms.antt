@@ -18,7 +18,7 @@ use Rattle.jr_names.specs.declared.steps.Step.TheVariants as step
 use Rattle.jr_names.specs.Replies.{Reply}
 use Rattle.jr_punit.specs.OneReading.{OneReading}
 use Rattle.jr_bind.specs.Programs.{Program, units_of}
-use Rattle.jr_places.specs.FileParts.{begins}
+use Rattle.jr_program_laws.specs.FileParts.{begins}
 use Rattle.jr_rewrite.specs.AlongMembers.{AlongUnits}
 use Rattle.jr_rewrite.specs.Rewritten.{Rewritten}
 use Rattle.jr_rewrite.proofs.UnbaredMembers.{unit_bare}

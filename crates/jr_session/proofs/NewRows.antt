@@ -14,7 +14,7 @@ use Rattle.jr_table.specs.ProgramRows.{AreProgramRows}
 use Rattle.jr_table.specs.Declared.{declarations_of}
 use Rattle.jr_build.specs.Heads.{UnitsHeads}
 use Rattle.jr_bind.specs.Programs.{File, Program, units_of}
-use Rattle.jr_places.specs.FileParts.{begins}
+use Rattle.jr_program_laws.specs.FileParts.{begins}
 use Rattle.jr_rewrite.specs.Rewritten.{Rewritten}
 use Rattle.jr_rename.specs.Images.{Renaming, rows_to}
 use Rattle.jr_rename.specs.ImageLaws.{without_marks, Becomes, AreImages, PlansBecome}

@@ -11,8 +11,8 @@ use Rattle.jr_table.specs.Faults.{Place, PackageLine, HasFault as HasDeclFault, 
 use Rattle.jr_table.specs.Names.{kind_name}
 use Rattle.jr_table.specs.Declared.{DeclaredItem, declarations_of}
 use Rattle.jr_build.proofs.Cleaning.{same_kind}
-use Rattle.jr_places.specs.FileParts.{begins}
-use Rattle.jr_shown.specs.Lines.{bytes_of}
+use Rattle.jr_program_laws.specs.FileParts.{begins}
+use Rattle.jr_lines.specs.Lines.{bytes_of}
 use Rattle.jr_sources.specs.declared.faults.ReadingFault.{ReadingFault}
 use Rattle.jr_sources.specs.FaultNames.{fault_name}
 use Rattle.jr_sources.specs.ReadingFaults.{HasFault}

@@ -12,7 +12,7 @@ use Rattle.jr_names.specs.Refusals.{Refusal, no_such_file, bad_place, bad_name, 
 use Rattle.jr_bind.specs.Programs.{Program, units_of}
 use Rattle.jr_rename.specs.Renames as renames
 use Rattle.jr_one_plan.specs.OnePlan.{HasOnePlan, PlanIsOne}
-use Rattle.jr_places.specs.PlaceLaws.{PartsArePlaced}
+use Rattle.jr_program_laws.specs.PlaceLaws.{PartsArePlaced}
 use Rattle.jr_members.specs.WrittenLaws.{MembersAreWritten}
 use Rattle.jr_sources.specs.Asking.{CanStand}
 use Rattle.jr_sources.specs.BindingErrors.{IsFirstWrong}

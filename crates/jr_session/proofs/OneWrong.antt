@@ -21,9 +21,9 @@ use Rattle.jr_members.specs.WrittenLaws.{IsWritten, MembersAreWritten}
 use Rattle.jr_members.specs.WrittenMembers.{WrittenMember, written_members}
 use Rattle.jr_bind.specs.Programs.{File, Program, units_of, members_of}
 use Rattle.jr_bind.specs.SuperPlaces as pure
-use Rattle.jr_places.specs.FileParts.{begins, InFile, BreaksAt, SuperStands, IsSuperAt}
-use Rattle.jr_places.specs.PlaceLaws.{IsFile, IsPlaced, PartsArePlaced, Owns}
-use Rattle.jr_shown.proofs.LineOrder.{one_rule}
+use Rattle.jr_program_laws.specs.FileParts.{begins, InFile, BreaksAt, SuperStands, IsSuperAt}
+use Rattle.jr_program_laws.specs.PlaceLaws.{IsFile, IsPlaced, PartsArePlaced, Owns}
+use Rattle.jr_lines.proofs.LineOrder.{one_rule}
 use Rattle.jr_sources.specs.BindingErrors.{BreaksRule, IsNoLater, IsFirstWrong}
 use Rattle.jr_sources.specs.FirstFault.{package_lines}
 use Rattle.jr_sources.specs.ReadingLaws.{HasOneReading}

@@ -5,7 +5,7 @@ use Rattle.jr_names.specs.declared.steps.Step.TheVariants as step
 use Rattle.jr_names.specs.declared.steps.What.TheVariants as what
 use Rattle.jr_names.specs.Replies.{shown}
 use Rattle.jr_names.specs.Refusals.{Refusal, no_such_file, bad_place, bad_name, source_error, bad_target, prelude_method, conditional, has_return, two_results, many_targets, may_be_null, recursive, assigned, clash, override_changed, lost_binding, would_not_compile, lost_dependence, bad_span, too_long, nothing_to_undo, nothing_to_redo, report_full, too_many_sites}
-use Rattle.jr_shown.specs.Lines.{bytes_of}
+use Rattle.jr_lines.specs.Lines.{bytes_of}
 use Rattle.jr_sources.specs.Sources.{LacksFile, IsFile, Differ}
 use Rattle.jr_session.specs.States.{State}
 use Rattle.jr_sources.specs.FirstFault.{IsFirstFaultOf}

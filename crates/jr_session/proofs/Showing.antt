@@ -3,7 +3,7 @@ use Rattle.std.proofs.Common.{◌≡◌, ℕ, ◌+◌, ◌<◌, ◌≤◌, List,
 use Rattle.std.specs.Prelude.{Some}
 use Rattle.jr_names.specs.Replies.{Reply, refused, shown as shown_reply}
 use Rattle.jr_names.specs.Refusals.{source_error, report_full}
-use Rattle.jr_shown.specs.Lines.{bytes_of}
+use Rattle.jr_lines.specs.Lines.{bytes_of}
 use Rattle.jr_sources.specs.declared.analyses.Analysis.{Analysis}
 use Rattle.jr_session.specs.declared.changes.Earlier.{Earlier}
 use Rattle.jr_sources.specs.declared.analyses.SourceFault.{SourceFault}

@@ -10,13 +10,13 @@ use Rattle.jr_table.specs.Decls.{Decl}
 use Rattle.jr_table.specs.declared.rules.Rule.{Rule}
 use Rattle.jr_table.specs.Declared.{declarations_of}
 use Rattle.jr_table.specs.ProgramRows.{AreProgramRows}
-use Rattle.jr_places.specs.FileParts.{begins}
-use Rattle.jr_shown.specs.declared.bounds.MemberBound.{MemberBound}
-use Rattle.jr_shown.specs.Lines.{Line, reference, broken, line_text, AreLines}
-use Rattle.jr_shown.specs.LineLaws.{OneInOrder}
-use Rattle.jr_shown.specs.Members.{AnyOf, MemberRefers, MemberErrs}
-use Rattle.jr_shown.specs.MemberLines.{IsLineOf}
-use Rattle.jr_shown.proofs.Membership.{chain, any_filter}
+use Rattle.jr_program_laws.specs.FileParts.{begins}
+use Rattle.jr_program.specs.declared.bounds.MemberBound.{MemberBound}
+use Rattle.jr_lines.specs.Lines.{Line, reference, broken, line_text, AreLines}
+use Rattle.jr_lines.specs.LineLaws.{OneInOrder}
+use Rattle.jr_program.specs.Members.{AnyOf, MemberRefers, MemberErrs}
+use Rattle.jr_lines.specs.MemberLines.{IsLineOf}
+use Rattle.jr_program.proofs.Membership.{chain, any_filter}
 use Rattle.jr_sources.specs.declared.analyses.Analysis.{Analysis}
 use Rattle.jr_sources.specs.Analysed.{IsAnalysis}
 use Rattle.jr_sources.specs.FirstFault.{package_lines}

@@ -15,7 +15,7 @@ use Rattle.jr_names.specs.Refusals.{bad_span, too_long, would_not_compile, sourc
 use Rattle.jr_session.specs.States.{State, begun, changed, IsUndone, IsRedone}
 use Rattle.jr_sources.specs.ReadingFaults.{first_token_at}
 use Rattle.jr_session.specs.Refusing.{IsFirstRefusal, rank_of}
-use Rattle.jr_shown.specs.Lines.{reference, broken, line_text, bytes_of, ComesBefore, AreInOrder}
+use Rattle.jr_lines.specs.Lines.{reference, broken, line_text, bytes_of, ComesBefore, AreInOrder}
 use Rattle.jr_session.proofs.EditLaws.{first_bad_span}
 
 -- ---- lines

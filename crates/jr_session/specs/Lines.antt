@@ -7,9 +7,9 @@ use Rattle.jr_ast.specs.MemberTree as syntax
 use Rattle.jr_table.specs.Rows.{Row}
 use Rattle.jr_table.specs.Declared.{declarations_of}
 use Rattle.jr_table.specs.ProgramRows.{AreProgramRows}
-use Rattle.jr_places.specs.FileParts.{begins, BindsAt, BreaksAt, InFile}
-use Rattle.jr_shown.specs.Lines.{Line, reference, broken, line_text, AreLines}
-use Rattle.jr_shown.specs.Tokens.{IsTokenText}
+use Rattle.jr_program_laws.specs.FileParts.{begins, BindsAt, BreaksAt, InFile}
+use Rattle.jr_lines.specs.Lines.{Line, reference, broken, line_text, AreLines}
+use Rattle.jr_program.specs.Tokens.{IsTokenText}
 use Rattle.jr_sources.specs.Sources.{Source}
 use Rattle.jr_sources.specs.FirstFault.{AreProgram}
 

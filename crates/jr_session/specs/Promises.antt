@@ -15,7 +15,7 @@ use Rattle.jr_names.specs.declared.steps.Step.TheVariants as step
 use Rattle.jr_names.specs.Refusals.{Refusal}
 use Rattle.jr_names.specs.Replies.{Reply, refused, undone}
 use Rattle.jr_bind.specs.Programs.{Program, units_of}
-use Rattle.jr_places.specs.FileParts.{begins}
+use Rattle.jr_program_laws.specs.FileParts.{begins}
 use Rattle.jr_rewrite.specs.AlongMembers.{AlongUnits}
 use Rattle.jr_rewrite.specs.Rewritten.{Rewritten}
 use Rattle.jr_rename.specs.ImageLaws.{without_marks, AreImages}

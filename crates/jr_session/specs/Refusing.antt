@@ -40,7 +40,7 @@ use Rattle.jr_session.specs.States.{State}
 use Rattle.jr_session.specs.Lengths.{AreTooLong}
 use Rattle.jr_session.specs.Renaming.{IsRefusedRename}
 use Rattle.jr_sources.specs.FirstFault.{IsFirstFaultOf}
-use Rattle.jr_shown.specs.Lines.{bytes_of}
+use Rattle.jr_lines.specs.Lines.{bytes_of}
 use Rattle.jr_session.specs.Lines.{AreLineTexts}
 
 -- ---- steps

@@ -8,7 +8,7 @@ use Rattle.jr_names.specs.Replies.{Reply, edited, refactored, shown, undone, red
 use Rattle.jr_session.specs.States.{State, changed, IsUndone, IsRedone}
 use Rattle.jr_session.specs.Renaming.{IsRenamed}
 use Rattle.jr_session.specs.Refusing.{IsEdit, WouldShow, Refuses, Grants}
-use Rattle.jr_shown.specs.Lines.{bytes_of}
+use Rattle.jr_lines.specs.Lines.{bytes_of}
 
 -- the file is spliced by the one span, and the texts before can be undone
 pub record IsEdited (s : State) (of : Step) (t : State) : Type 0 where

@@ -9,11 +9,11 @@ use jr_dispatch::dispatch_is_kept;
 use jr_lex::one_answer;
 use jr_members::members_are_written;
 use jr_one_plan::{plan_is_one, rewriting_is_one};
-use jr_places::parts_are_placed;
+use jr_program_laws::parts_are_placed;
 use jr_punit::one_reading;
 use jr_rename::{plans_become, renamings_stay_fair, rows_are_named};
 use jr_renamed::plans_keep_programs;
-use jr_shown::lines_are_told;
+use jr_lines::lines_are_told;
 use jr_sources::text_has_one_reading;
 use jr_text::{Span, untouched_bytes_move};
 

@@ -19,10 +19,10 @@ use Rattle.jr_table.specs.declared.rules.Rule.{Rule}
 use Rattle.jr_members.specs.Parts.{Placed, units_parts}
 use Rattle.jr_members.specs.WrittenMembers.{WrittenMember, written_members, members_at, put_member, row_count}
 use Rattle.jr_members.specs.WrittenLaws.{AreWritten, IsWritten}
-use Rattle.jr_places.specs.FileParts.{begins, BindsAt, BreaksAt, InFile, SuperStands, BeginsToken}
-use Rattle.jr_places.specs.PlaceLaws.{IsFile, OneIsBound, PartsArePlaced, SupersStand, IsPlaced, Owns}
-use Rattle.jr_shown.specs.Members.{AnyOf, EachOf, MemberRefers, MemberErrs, WrittenRefers, WrittenErrs, AreKnown, CanBind, IsSuperPlace}
-use Rattle.jr_shown.specs.declared.bounds.MemberBound.{MemberBound}
+use Rattle.jr_program_laws.specs.FileParts.{begins, BindsAt, BreaksAt, InFile, SuperStands, BeginsToken}
+use Rattle.jr_program_laws.specs.PlaceLaws.{IsFile, OneIsBound, PartsArePlaced, SupersStand, IsPlaced, Owns}
+use Rattle.jr_program.specs.Members.{AnyOf, EachOf, MemberRefers, MemberErrs, WrittenRefers, WrittenErrs, AreKnown, CanBind, IsSuperPlace}
+use Rattle.jr_program.specs.declared.bounds.MemberBound.{MemberBound}
 use Rattle.jr_sources.specs.ReadingFaults.{ReadsAs}
 use Rattle.jr_sources.specs.ReadingLaws.{HasOneReading}
 use Rattle.jr_sources.specs.Sources.{Source, texts_of}

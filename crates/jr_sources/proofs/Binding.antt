@@ -9,9 +9,9 @@ use Rattle.jr_table.specs.Declared.{declarations_of}
 use Rattle.jr_table.specs.ProgramRows.{AreProgramRows}
 use Rattle.jr_members.specs.WrittenMembers.{WrittenMember, written_members}
 use Rattle.jr_members.specs.WrittenLaws.{AreWritten, MembersAreWritten}
-use Rattle.jr_places.specs.FileParts.{begins}
-use Rattle.jr_places.specs.PlaceLaws.{OneIsBound, PartsArePlaced, SupersStand}
-use Rattle.jr_shown.specs.Members.{EachOf, CanBind, AreKnown, AreEachBound, AreWrittenInOrder, AreInFileOrder}
+use Rattle.jr_program_laws.specs.FileParts.{begins}
+use Rattle.jr_program_laws.specs.PlaceLaws.{OneIsBound, PartsArePlaced, SupersStand}
+use Rattle.jr_program.specs.Members.{EachOf, CanBind, AreKnown, AreEachBound, AreWrittenInOrder, AreInFileOrder}
 use Rattle.jr_sources.specs.declared.analyses.Analysis.{Analysis}
 use Rattle.jr_sources.specs.ReadingLaws.{HasOneReading}
 use Rattle.jr_sources.specs.Sources.{Source, texts_of}

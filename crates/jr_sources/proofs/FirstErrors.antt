@@ -14,9 +14,9 @@ use Rattle.jr_table.specs.ProgramRows.{AreProgramRows}
 use Rattle.jr_table.specs.Faults.{PackageLine, IsClean}
 use Rattle.jr_table.specs.declared.rules.Rule.{Rule}
 use Rattle.jr_build.proofs.OneRows.{program_once}
-use Rattle.jr_places.specs.FileParts.{begins, BreaksAt, BeginsToken, InFile}
-use Rattle.jr_places.proofs.MeansOnce.{means_once, parent_once}
-use Rattle.jr_shown.proofs.TokenPlaces.{is_placed}
+use Rattle.jr_program_laws.specs.FileParts.{begins, BreaksAt, BeginsToken, InFile}
+use Rattle.jr_program_laws.proofs.MeansOnce.{means_once, parent_once}
+use Rattle.jr_program.proofs.TokenPlaces.{is_placed}
 use Rattle.jr_sources.specs.declared.analyses.Analysis.{Analysis}
 use Rattle.jr_sources.specs.declared.analyses.SourceFault.{SourceFault}
 use Rattle.jr_sources.specs.Analysed.{IsAnalysis, IsSourceWrong}

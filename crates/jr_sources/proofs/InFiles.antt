@@ -8,9 +8,9 @@ use Rattle.jr_table.specs.Decls.{MemberKey}
 use Rattle.jr_table.specs.Declared.{DeclaredItem, declarations_of}
 use Rattle.jr_table.specs.Errors.{Part, InClass, InMembers, InInner, InClasses}
 use Rattle.jr_members.specs.WrittenLaws.{IsWritten}
-use Rattle.jr_places.specs.FileParts.{begins, InFile}
-use Rattle.jr_places.specs.PlaceLaws.{IsPart}
-use Rattle.jr_shown.specs.Members.{AnyOf, EachOf}
+use Rattle.jr_program_laws.specs.FileParts.{begins, InFile}
+use Rattle.jr_program_laws.specs.PlaceLaws.{IsPart}
+use Rattle.jr_program.specs.Members.{AnyOf, EachOf}
 
 -- ---- lists
 

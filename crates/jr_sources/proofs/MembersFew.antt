@@ -19,8 +19,8 @@ use Rattle.jr_grammar.specs.Tokens.{Token, word, keyword, symbol, with_placed, p
 use Rattle.jr_members.specs.Parts.{class_parts, members_parts, member_parts, classes_parts, parts_from, units_parts}
 use Rattle.jr_members.specs.WrittenMembers.{written_members}
 use Rattle.jr_pexpr.proofs.Few.{few}
-use Rattle.jr_places.specs.FileParts.{begins}
-use Rattle.jr_shown.specs.Members.{IsEachBound}
+use Rattle.jr_program_laws.specs.FileParts.{begins}
+use Rattle.jr_program.specs.Members.{IsEachBound}
 use Rattle.jr_sources.specs.declared.analyses.Analysis.{Analysis}
 use Rattle.jr_sources.specs.Analysed.{IsAnalysis}
 use Rattle.jr_sources.specs.FirstFault.{AreRead}

@@ -6,9 +6,9 @@ use Rattle.jr_table.specs.declared.rules.Rule.{Rule}
 use Rattle.jr_table.specs.Errors.{Error, rule_rank, Among}
 use Rattle.jr_bind.specs.declared.errors.BindError as raw
 use Rattle.jr_bind.specs.ErrorView.{error_of}
-use Rattle.jr_shown.specs.declared.bounds.MemberBound.{MemberBound}
-use Rattle.jr_shown.specs.Members.{AnyOf, MemberErrs}
-use Rattle.jr_shown.proofs.Membership.{chain, both, flip, none, regroup, any_push, any_more_at, any_end, any_map}
+use Rattle.jr_program.specs.declared.bounds.MemberBound.{MemberBound}
+use Rattle.jr_program.specs.Members.{AnyOf, MemberErrs}
+use Rattle.jr_program.proofs.Membership.{chain, both, flip, none, regroup, any_push, any_more_at, any_end, any_map}
 use Rattle.jr_sources.specs.declared.broken.Broken.{Broken}
 use Rattle.jr_sources.specs.BindingErrors.{IsNoLater}
 use Rattle.jr_sources.specs.Broken.{SomeErrs, IsOneOf, IsFirstOfAll, IsNearer}

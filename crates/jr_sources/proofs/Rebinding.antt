@@ -10,8 +10,8 @@ use Rattle.jr_ast.specs.MemberTree.{Unit as UnitTree}
 use Rattle.jr_table.specs.Rows.{Row}
 use Rattle.jr_table.specs.Conditions.{AreRows}
 use Rattle.jr_members.specs.WrittenMembers.{WrittenMember, written_members}
-use Rattle.jr_places.specs.FileParts.{begins}
-use Rattle.jr_rebind.specs.Rebinding.{IsRebinding}
+use Rattle.jr_program_laws.specs.FileParts.{begins}
+use Rattle.jr_cache.specs.Rebinding.{IsRebinding}
 use Rattle.jr_sources.specs.Sources.{Source, texts_of}
 use Rattle.jr_sources.specs.ReadingFaults.{ReadsAs}
 use Rattle.jr_sources.specs.ReadingLaws.{HasOneReading}

@@ -9,7 +9,7 @@ use Rattle.jr_table.specs.Names.{kind_name}
 use Rattle.jr_table.specs.Declared.{declarations_of}
 use Rattle.jr_table.specs.Faults.{IsFirstFault}
 use Rattle.jr_build.specs.Packages.{lines_of}
-use Rattle.jr_places.specs.FileParts.{begins}
+use Rattle.jr_program_laws.specs.FileParts.{begins}
 use Rattle.jr_sources.specs.declared.faults.ReadingFault.{ReadingFault}
 use Rattle.jr_sources.specs.declared.analyses.SourceFault.{SourceFault}
 use Rattle.jr_sources.specs.Analysed.{IsSourceFault}

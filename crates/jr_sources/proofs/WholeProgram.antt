@@ -29,9 +29,9 @@ use Rattle.jr_members.specs.WrittenLaws.{AreWritten}
 use Rattle.jr_bind.specs.Bounds.{IsBound}
 use Rattle.jr_bind.specs.SuperPlaces as pure
 use Rattle.jr_bind.specs.Programs.{File, Program, IsProgram, AreBound, units_of, members_of}
-use Rattle.jr_places.specs.FileParts.{begins, IsSuperAt}
-use Rattle.jr_shown.specs.declared.bounds.MemberBound.{MemberBound}
-use Rattle.jr_shown.specs.Members.{AnyOf, MemberErrs, IsSuperPlace, IsEachBound, AreEachBound}
+use Rattle.jr_program_laws.specs.FileParts.{begins, IsSuperAt}
+use Rattle.jr_program.specs.declared.bounds.MemberBound.{MemberBound}
+use Rattle.jr_program.specs.Members.{AnyOf, MemberErrs, IsSuperPlace, IsEachBound, AreEachBound}
 use Rattle.jr_sources.specs.declared.analyses.Analysis.{Analysis}
 use Rattle.jr_sources.specs.Analysed.{AreLexed, IsAnalysis}
 use Rattle.jr_sources.specs.FirstFault.{AreRead, package_lines}

@@ -9,8 +9,8 @@ use Rattle.jr_table.specs.Rows.{Row}
 use Rattle.jr_table.specs.Prelude.{prelude_rows}
 use Rattle.jr_members.specs.Parts.{Placed, class_parts, members_parts, member_parts, classes_parts, parts_from, units_parts}
 use Rattle.jr_members.specs.WrittenMembers.{WrittenMember, put_member, members_at, row_count, written_members}
-use Rattle.jr_places.specs.FileParts.{begins}
-use Rattle.jr_shown.specs.Members.{AreWrittenInOrder}
+use Rattle.jr_program_laws.specs.FileParts.{begins}
+use Rattle.jr_program.specs.Members.{AreWrittenInOrder}
 
 -- ---- numbers that don't fall, from one up to another
 

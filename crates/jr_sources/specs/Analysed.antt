@@ -9,10 +9,10 @@ use Rattle.jr_table.specs.Decls.{Decl}
 use Rattle.jr_table.specs.Declared.{declarations_of}
 use Rattle.jr_table.specs.ProgramRows.{AreProgramRows}
 use Rattle.jr_table.specs.declared.rules.Rule.{Rule}
-use Rattle.jr_places.specs.FileParts.{begins, BindsAt, BreaksAt, InFile}
+use Rattle.jr_program_laws.specs.FileParts.{begins, BindsAt, BreaksAt, InFile}
 use Rattle.jr_members.specs.WrittenMembers.{written_members}
-use Rattle.jr_places.specs.FileParts.{BeginsToken}
-use Rattle.jr_shown.specs.Members.{AnyOf, MemberRefers, MemberErrs, AreEachBound, AreInFileOrder}
+use Rattle.jr_program_laws.specs.FileParts.{BeginsToken}
+use Rattle.jr_program.specs.Members.{AnyOf, MemberRefers, MemberErrs, AreEachBound, AreInFileOrder}
 use Rattle.jr_sources.specs.declared.analyses.Analysis.{Analysis}
 use Rattle.jr_sources.specs.declared.analyses.Analysed.{Analysed}
 use Rattle.jr_sources.specs.declared.analyses.Analysed.TheVariants as what

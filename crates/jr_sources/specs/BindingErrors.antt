@@ -11,7 +11,7 @@ use Rattle.jr_table.specs.Errors.{rule_rank}
 use Rattle.jr_table.specs.Declared.{declarations_of}
 use Rattle.jr_table.specs.ProgramRows.{AreProgramRows}
 use Rattle.jr_table.specs.declared.rules.Rule.{Rule}
-use Rattle.jr_places.specs.FileParts.{begins, BreaksAt, InFile}
+use Rattle.jr_program_laws.specs.FileParts.{begins, BreaksAt, InFile}
 use Rattle.jr_sources.specs.Sources.{Source, HasName}
 use Rattle.jr_sources.specs.FirstFault.{IsFirstFaultOf, AreProgram}
 

@@ -2,8 +2,8 @@
 use Rattle.std.specs.Prelude.{◌≡◌, ℕ, ◌+◌, ◌⊎◌, List, MatchOption, Option, Some}
 use Rattle.jr_table.specs.declared.rules.Rule.{Rule}
 use Rattle.jr_table.specs.Errors.{Error}
-use Rattle.jr_shown.specs.declared.bounds.MemberBound.{MemberBound}
-use Rattle.jr_shown.specs.Members.{AnyOf, MemberErrs}
+use Rattle.jr_program.specs.declared.bounds.MemberBound.{MemberBound}
+use Rattle.jr_program.specs.Members.{AnyOf, MemberErrs}
 use Rattle.jr_sources.specs.declared.broken.Broken.{Broken}
 use Rattle.jr_sources.specs.BindingErrors.{IsNoLater, IsFirst}
 

@@ -4,7 +4,7 @@ use Rattle.jr_text.specs.declared.spans.Span.{Span}
 use Rattle.jr_lex.specs.declared.items.Item.{Item}
 use Rattle.jr_table.specs.Rows.{Row}
 use Rattle.jr_members.specs.WrittenMembers.{WrittenMember}
-use Rattle.jr_rebind.specs.Rebinding.{IsRebinding}
+use Rattle.jr_cache.specs.Rebinding.{IsRebinding}
 use Rattle.jr_sources.specs.declared.analyses.EarlierAnalysis.{EarlierAnalysis}
 use Rattle.jr_sources.specs.Sources.{Source, texts_of}
 use Rattle.jr_sources.specs.Analysed.{IsAnalysis}

@@ -5,7 +5,7 @@ use Rattle.jr_ast.specs.MemberTree.{Unit as UnitTree}
 use Rattle.jr_table.specs.Rows.{Row}
 use Rattle.jr_table.specs.Declared.{declarations_of}
 use Rattle.jr_table.specs.ProgramRows.{AreProgramRows}
-use Rattle.jr_places.specs.FileParts.{begins}
+use Rattle.jr_program_laws.specs.FileParts.{begins}
 use Rattle.jr_sources.specs.Sources.{Source}
 use Rattle.jr_sources.specs.FirstFault.{AreRead, AreProgram}
 

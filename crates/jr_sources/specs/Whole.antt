@@ -8,7 +8,7 @@ use Rattle.jr_table.specs.Rows.{Row}
 use Rattle.jr_table.specs.SameDecls.{same_member}
 use Rattle.jr_bind.specs.Bounds.{Bound}
 use Rattle.jr_bind.specs.Programs.{File, Program, IsProgram}
-use Rattle.jr_shown.specs.declared.bounds.MemberBound.{MemberBound}
+use Rattle.jr_program.specs.declared.bounds.MemberBound.{MemberBound}
 use Rattle.jr_sources.specs.FirstFault.{AreProgram}
 use Rattle.jr_sources.specs.Sources.{Source}
 

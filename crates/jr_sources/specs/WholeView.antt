@@ -5,7 +5,7 @@ use Rattle.jr_ast.specs.declared.members.Unit.{Unit}
 use Rattle.jr_ast.specs.View.{unit_of}
 use Rattle.jr_table.specs.Rows.{Row}
 use Rattle.jr_bind.specs.Programs.{Program}
-use Rattle.jr_shown.specs.declared.bounds.MemberBound.{MemberBound}
+use Rattle.jr_program.specs.declared.bounds.MemberBound.{MemberBound}
 use Rattle.jr_sources.specs.Sources.{Source}
 use Rattle.jr_sources.specs.Whole.{program_of}
 

@@ -1,6 +1,6 @@
 //! What was analysed of sources.
 
-use jr_shown::MemberBound;
+use jr_program::MemberBound;
 use jr_table::Table;
 
 /// What was analysed of sources without a fault: their table, and what binding knows of their

@@ -1,12 +1,12 @@
 //! The first of the rules that the members of a program break.
 ghost use Rattle.std.specs.Prelude.{◌≡◌, ◌+◌, ◌↔◌, ◌++◌, ◌∷◌, [], ◌⊎◌, List, map, IsTrue};
 ghost use Rattle.jr_bind.specs.ErrorView.{error_of};
-ghost use Rattle.jr_shown.specs.declared.bounds.MemberBound as raw;
+ghost use Rattle.jr_program.specs.declared.bounds.MemberBound as raw;
 ghost use Rattle.jr_sources.specs.BindingErrors.{IsNoLater};
 ghost use Rattle.jr_sources.specs.Broken.{SomeErrs, IsOneOf, IsFirstOfAll, IsNearer};
 
 use jr_bind::BindError;
-use jr_shown::{MemberBound, rank};
+use jr_program::MemberBound;
 use jr_table::Rule;
 
 /// A rule that is broken, with the number of the file and the byte there.
@@ -22,7 +22,7 @@ fn is_no_later(one: &Broken, other: &Broken) -> bool
     ensures { IsTrue result ↔ IsNoLater one.now.file one.now.at one.now.rule
         other.now.file other.now.at other.now.rule }
 {
-    let of_rule = (one.at == other.at) & (rank(one.rule) <= rank(other.rule));
+    let of_rule = (one.at == other.at) & (one.rule.rank() <= other.rule.rank());
     let of_place = (one.at < other.at) | of_rule;
     (one.file < other.file) | ((one.file == other.file) & of_place)
 }

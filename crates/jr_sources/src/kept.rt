@@ -5,7 +5,7 @@ ghost use Rattle.std.specs.Prelude.{IfOk, OnOk, Some};
 use crate::faults::ReadingFault;
 use crate::readings::Reading;
 use jr_ast::Unit;
-use jr_shown::Tokens;
+use jr_program::Tokens;
 use jr_text::Span;
 use std::alloc::{AllocError, Global};
 use std::mem;

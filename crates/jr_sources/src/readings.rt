@@ -12,7 +12,7 @@ use jr_ast::Unit;
 use jr_lex::{Item, ItemKind, LexFault, lex, measure};
 use jr_pexpr::ParseFault;
 use jr_punit::parse_unit;
-use jr_shown::Tokens;
+use jr_program::Tokens;
 use jr_text::{Span, Text};
 use std::alloc::{AllocError, Global};
 

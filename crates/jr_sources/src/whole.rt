@@ -16,7 +16,7 @@ use jr_ast::Unit;
 use jr_bind::{Bound, View};
 use jr_lex::{items_are_placed, one_answer};
 use jr_members::members_are_written;
-use jr_shown::MemberBound;
+use jr_program::MemberBound;
 use jr_table::Table;
 use jr_text::{Span, Text};
 use std::marker::Model;
@@ -36,7 +36,7 @@ impl<'a> Model for Whole<'a> {
     ghost use Rattle.jr_ast.specs.declared.members.Unit as raw;
     ghost use Rattle.jr_ast.specs.View.{unit_of};
     ghost use Rattle.jr_table.specs.Rows.{Row};
-    ghost use Rattle.jr_shown.specs.declared.bounds.MemberBound as bounds;
+    ghost use Rattle.jr_program.specs.declared.bounds.MemberBound as bounds;
     ghost use Rattle.jr_sources.specs.Sources.{Source};
     ghost use Rattle.jr_sources.specs.Whole.{AreWhole};
     ghost use Rattle.jr_ast.specs.contracts.members.Class as classes;

@@ -22,7 +22,7 @@ use Rattle.jr_table.specs.StatementRules.{StmtBreaks, ListBreaks}
 use Rattle.jr_table.specs.Errors.{Part, class_part, member_part, Breaks, InMember}
 use Rattle.jr_mentions.specs.Apart.{IsCleanMember}
 use Rattle.jr_mentions.specs.Avoids.{AvoidsMember, AvoidsArgs, AvoidsPart}
-use Rattle.jr_sites.specs.FoundTypes.{TypeIsFound, MaybeTypeIsFound, ParamTypesAreFound, MaybeParentIsFound, ParentIsFound, DeclaresFound}
+use Rattle.jr_program_laws.specs.FoundTypes.{TypeIsFound, MaybeTypeIsFound, ParamTypesAreFound, MaybeParentIsFound, ParentIsFound, DeclaresFound}
 use Rattle.jr_rewrite.specs.Respellings.{stays}
 use Rattle.jr_rewrite.specs.Rewritten.{plain, within, joined}
 use Rattle.jr_rewrite.specs.Rewrites.{declared_by, with_losses, RewritesType, RewritesParams, RewritesResult, RewritesSuper, RewritesMember, RewritesParent, RewritesHead}

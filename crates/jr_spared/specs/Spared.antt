@@ -18,7 +18,7 @@ use Rattle.jr_table.specs.declared.rules.Rule.{Rule}
 use Rattle.jr_mentions.specs.Apart.{IsOther, IsCleanMember}
 use Rattle.jr_mentions.specs.Alike.{LookAlike}
 use Rattle.jr_mentions.specs.Avoids.{AvoidsPart}
-use Rattle.jr_sites.specs.FoundTypes.{DeclaresFound}
+use Rattle.jr_program_laws.specs.FoundTypes.{DeclaresFound}
 use Rattle.jr_rename.specs.Images.{Renaming, is_renamed, rows_to}
 use Rattle.jr_rename.specs.OneLocal.{HaveNoDots}
 use Rattle.jr_rename.specs.Spelling.{spelling}

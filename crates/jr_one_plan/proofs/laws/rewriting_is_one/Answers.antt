@@ -5,8 +5,8 @@ use Rattle.jr_bind.specs.Programs.{Program, units_of}
 use Rattle.jr_bind.specs.SuperPlaces.{writes_super}
 use Rattle.jr_grammar.specs.Layout.{itself}
 use Rattle.jr_text.specs.declared.spans.Span.{Span}
-use Rattle.jr_places.specs.FileParts.{begins}
-use Rattle.jr_places.proofs.MeansOnce.{declares_once}
+use Rattle.jr_program_laws.specs.FileParts.{begins}
+use Rattle.jr_program_laws.proofs.MeansOnce.{declares_once}
 use Rattle.jr_rename.specs.Images.{rows_to}
 use Rattle.jr_rename.specs.Renames.{Rewrite}
 use Rattle.jr_rename.specs.Spelling.{spelling}

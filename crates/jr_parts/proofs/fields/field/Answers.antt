@@ -4,7 +4,7 @@ use Rattle.std.proofs.lemmas.Result.{IfOk-weaker}
 use Rattle.std.specs.Prelude.{option_map}
 use Rattle.jr_ast.specs.View.{expr_of, modifier_of}
 use Rattle.jr_table.specs.HeadRules.{plain, is_static_member}
-use Rattle.jr_places.specs.FileParts.{begins}
+use Rattle.jr_program_laws.specs.FileParts.{begins}
 use Rattle.jr_renaming.specs.OutputView.{gathered}
 use Rattle.jr_parts.specs.Walking.{key_of, rows_of, naming_of}
 use Rattle.jr_parts.specs.Ready.{InitReady}

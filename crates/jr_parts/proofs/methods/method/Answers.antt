@@ -2,7 +2,7 @@ use Rattle.std.proofs.Common.{ℕ, Bool, length, map, sym, subst}
 use Rattle.std.proofs.lemmas.Result.{IfOk-weaker}
 use Rattle.jr_ast.specs.View.{param_of, stmts_of, modifier_of}
 use Rattle.jr_table.specs.HeadRules.{with_parameters, is_static_member}
-use Rattle.jr_places.specs.FileParts.{begins}
+use Rattle.jr_program_laws.specs.FileParts.{begins}
 use Rattle.jr_renaming.specs.OutputView.{gathered}
 use Rattle.jr_parts.specs.Walking.{key_of, rows_of, naming_of}
 use Rattle.jr_parts.specs.Ready.{BodyReady}

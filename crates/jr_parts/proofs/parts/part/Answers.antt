@@ -6,7 +6,7 @@ use Rattle.jr_table.specs.Rows.{Row}
 use Rattle.jr_table.specs.Errors.{part_mark}
 use Rattle.jr_members.specs.PartView.{written_of}
 use Rattle.jr_bind.specs.Bounds.{Bound, IsBound}
-use Rattle.jr_places.specs.FileParts.{begins}
+use Rattle.jr_program_laws.specs.FileParts.{begins}
 use Rattle.jr_renaming.specs.OutputView.{gathered}
 use Rattle.jr_respell.specs.Scopes.{rows_in, renaming_in}
 use Rattle.jr_parts.specs.Ready.{PartReady}

@@ -1,6 +1,6 @@
 use Rattle.std.proofs.Common.{ℕ, List, subst}
 use Rattle.jr_lex.specs.declared.items.Item.{Item}
-use Rattle.jr_places.specs.FileParts.{IsSuperAt}
+use Rattle.jr_program_laws.specs.FileParts.{IsSuperAt}
 use Rattle.jr_parts.proofs.Standing.{lexed, no_super, the_super}
 use Rattle.jr_parts.proofs.supers.super_at.Goals as goal
 

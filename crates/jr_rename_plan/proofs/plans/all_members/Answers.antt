@@ -7,7 +7,7 @@ use Rattle.jr_ast.specs.View.{unit_of}
 use Rattle.jr_members.specs.Fitting.{UnitsFit}
 use Rattle.jr_members.specs.WrittenMembers.{written_members}
 use Rattle.jr_bind.specs.Programs.{File, units_of}
-use Rattle.jr_places.specs.FileParts.{begins}
+use Rattle.jr_program_laws.specs.FileParts.{begins}
 use Rattle.jr_rename_plan.proofs.plans.all_members.Goals as goal
 
 pub written_members-requires-clause-few : goal.written_members-requires-clause-few

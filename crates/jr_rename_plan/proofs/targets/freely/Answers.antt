@@ -1,6 +1,6 @@
 use Rattle.jr_table.specs.KeyView.{decl_of}
 use Rattle.jr_bind.specs.Programs.{units_of}
-use Rattle.jr_places.specs.FileParts.{begins}
+use Rattle.jr_program_laws.specs.FileParts.{begins}
 use Rattle.jr_rename.specs.ImageView.{renaming_of}
 use Rattle.jr_rename_plan.proofs.Answering.{no_method, reads}
 use Rattle.jr_rename_plan.proofs.targets.freely.Goals as goal

@@ -3,7 +3,7 @@ use Rattle.jr_grammar.specs.Layout.{itself}
 use Rattle.jr_table.specs.Rows.{Row}
 use Rattle.jr_table.specs.Conditions.{AreRows}
 use Rattle.jr_bind.specs.Programs.{units_of}
-use Rattle.jr_places.specs.FileParts.{begins}
+use Rattle.jr_program_laws.specs.FileParts.{begins}
 use Rattle.jr_members.specs.PartView.{written_of}
 use Rattle.jr_mentions.specs.ApartView.{names_in}
 use Rattle.jr_rename.specs.Images.{rows_to}

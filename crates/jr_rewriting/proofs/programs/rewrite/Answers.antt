@@ -1,7 +1,7 @@
 use Rattle.std.proofs.Common.{sym, ap, subst, ◌∙◌}
 use Rattle.std.specs.Prelude.{map, option_map, sum_by}
 use Rattle.jr_bind.specs.Programs.{units_of}
-use Rattle.jr_places.specs.FileParts.{begins}
+use Rattle.jr_program_laws.specs.FileParts.{begins}
 use Rattle.jr_respell.specs.Scopes.{renaming_in}
 use Rattle.jr_respell.specs.ChoiceView.{lost_of}
 use Rattle.jr_rewrite.specs.Edited.{entries_of}

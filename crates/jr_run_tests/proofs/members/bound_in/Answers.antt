@@ -6,7 +6,7 @@ use Rattle.jr_table.specs.KeyView.{member_key_of}
 use Rattle.jr_members.specs.PartView.{part_of, written_of}
 use Rattle.jr_members.specs.WrittenMembers.{WrittenMember, written_members}
 use Rattle.jr_members.specs.WrittenLaws.{AreWritten}
-use Rattle.jr_places.specs.FileParts.{begins}
+use Rattle.jr_program_laws.specs.FileParts.{begins}
 use Rattle.jr_bind.proofs.MemberFound.{to_mapped}
 use Rattle.jr_sources.proofs.PartsFit.{units_gathered}
 use Rattle.jr_run_tests.proofs.OneMember.{of_ok, can_bind}

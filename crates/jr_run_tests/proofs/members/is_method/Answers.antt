@@ -2,7 +2,7 @@ use Rattle.std.proofs.Common.{sym, subst}
 use Rattle.jr_text.specs.declared.spans.Span.{Span}
 use Rattle.jr_members.specs.declared.parts.PartRef.{PartRef}
 use Rattle.jr_members.specs.PartView.{part_of}
-use Rattle.jr_places.specs.FileParts.{SuperStands}
+use Rattle.jr_program_laws.specs.FileParts.{SuperStands}
 use Rattle.jr_run_tests.proofs.members.is_method.Goals as goal
 
 pub returns-in-Member : goal.returns-in-Member

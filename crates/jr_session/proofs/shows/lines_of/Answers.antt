@@ -3,7 +3,7 @@ use Rattle.std.specs.Prelude.{Some, slice_get}
 use Rattle.std.proofs.lemmas.Option.{slice_get_read}
 use Rattle.std.proofs.lemmas.Result.{IfOk-weaker}
 use Rattle.jr_lex.specs.declared.items.Item.{Item}
-use Rattle.jr_shown.specs.Members.{AnyOf, MemberRefers, AreInFileOrder}
+use Rattle.jr_program.specs.Members.{AnyOf, MemberRefers, AreInFileOrder}
 use Rattle.jr_sources.specs.Sources.{texts_of}
 use Rattle.jr_sources.proofs.Analysing.{lexed_each}
 use Rattle.jr_sources.proofs.WholeProgram.{kept_tokens}

@@ -1,5 +1,5 @@
 use Rattle.std.proofs.Common.{◌≡◌, ◌+◌, take}
-use Rattle.jr_shown.specs.Lines.{bytes_of}
+use Rattle.jr_lines.specs.Lines.{bytes_of}
 use Rattle.jr_session.proofs.shows.shown_with.Given as goal
 
 abbrev pub invariant-loop-line : goal.invariant-loop-line

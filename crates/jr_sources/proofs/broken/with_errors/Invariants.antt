@@ -1,5 +1,5 @@
 use Rattle.std.proofs.Common.{List}
-use Rattle.jr_shown.specs.declared.bounds.MemberBound.{MemberBound}
+use Rattle.jr_program.specs.declared.bounds.MemberBound.{MemberBound}
 use Rattle.jr_sources.specs.Broken.{SomeErrs, IsFirstOfAll}
 use Rattle.jr_sources.proofs.Nearer.{UpTo}
 use Rattle.jr_sources.proofs.broken.with_errors.Given as goal

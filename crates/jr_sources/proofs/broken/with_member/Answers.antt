@@ -1,6 +1,6 @@
 use Rattle.std.proofs.Common.{◌≡◌, ◌++◌, ◌∷◌, [], List, subst}
 use Rattle.jr_table.specs.Errors.{Error}
-use Rattle.jr_shown.specs.declared.bounds.MemberBound.{MemberBound}
+use Rattle.jr_program.specs.declared.bounds.MemberBound.{MemberBound}
 use Rattle.std.specs.Prelude.{◌⊎◌}
 use Rattle.jr_sources.specs.Broken.{SomeErrs, IsOneOf, IsFirstOfAll}
 use Rattle.jr_sources.proofs.Nearer.{told_as, one_more}

@@ -1,6 +1,6 @@
 use Rattle.std.proofs.Common.{◌≡◌, List, subst}
 use Rattle.std.specs.Prelude.{Option, Some, None}
-use Rattle.jr_shown.specs.declared.bounds.MemberBound.{MemberBound}
+use Rattle.jr_program.specs.declared.bounds.MemberBound.{MemberBound}
 use Rattle.jr_sources.specs.declared.broken.Broken.{Broken}
 use Rattle.jr_sources.specs.Broken.{SomeErrs, IsFirstOfAll}
 use Rattle.jr_sources.proofs.FirstErrors.{are_sound}

@@ -8,7 +8,7 @@ use Rattle.jr_table.specs.Names.{kind_name}
 use Rattle.jr_build.specs.Builds.{IsFoundFault}
 use Rattle.jr_build.specs.Packages.{lines_of}
 use Rattle.jr_build.specs.declared.faults.BuildFault.{BuildFault}
-use Rattle.jr_places.specs.FileParts.{begins}
+use Rattle.jr_program_laws.specs.FileParts.{begins}
 use Rattle.jr_sources.proofs.Analysing.{counts}
 use Rattle.jr_sources.proofs.Binding.{table_of}
 use Rattle.jr_sources.proofs.ReadUnits.{units_headed}

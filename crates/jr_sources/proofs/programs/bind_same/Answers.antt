@@ -3,7 +3,7 @@ use Rattle.std.specs.Prelude.{Bool}
 use Rattle.std.proofs.lemmas.List.{length-map}
 use Rattle.jr_ast.specs.View.{unit_of}
 use Rattle.jr_members.specs.PartView.{written_of}
-use Rattle.jr_rebind.specs.Rebinding.{IsRebinding}
+use Rattle.jr_cache.specs.Rebinding.{IsRebinding}
 use Rattle.jr_sources.proofs.Analysing.{counts}
 use Rattle.jr_sources.proofs.Binding.{counted, can_bind, analysis}
 use Rattle.jr_sources.proofs.PartsFit.{units_gathered}

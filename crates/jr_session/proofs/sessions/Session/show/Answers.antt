@@ -4,7 +4,7 @@ use Rattle.std.proofs.lemmas.Result.{IfOk-weaker}
 use Rattle.jr_names.specs.Replies.{refused, shown as shown_reply}
 use Rattle.jr_names.specs.ReplyView.{reply_of}
 use Rattle.jr_names.specs.Refusals.{report_full}
-use Rattle.jr_shown.specs.Lines.{bytes_of}
+use Rattle.jr_lines.specs.Lines.{bytes_of}
 use Rattle.jr_sources.specs.declared.analyses.SourceFault.{SourceFault}
 use Rattle.jr_sources.specs.Analysed.{IsAnalysis, IsFilled, IsSourceFault}
 use Rattle.jr_sources.specs.Sources.{HasName}

@@ -1,0 +1,4 @@
+pub mod LineOrder
+pub mod Adding
+pub mod MemberSums
+pub mod OneOrder

@@ -1,0 +1,4 @@
+pub mod Lines
+pub mod LineView
+pub mod MemberLines
+pub mod LineLaws

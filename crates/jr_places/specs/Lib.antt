@@ -1,2 +1,0 @@
-pub mod FileParts
-pub mod PlaceLaws

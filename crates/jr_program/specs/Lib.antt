@@ -1,0 +1,4 @@
+pub mod Tokens
+pub mod Members
+pub mod Binding
+pub mod MemberLaws

@@ -1,9 +1,0 @@
-use Rattle.std.proofs.Common.{◌≤◌, ◌+◌, map}
-use Rattle.jr_members.specs.PartView.{written_of}
-use Rattle.jr_mentions.specs.ApartView.{names_in}
-use Rattle.jr_rebind.proofs.OneByOne.{AreReboundTo}
-use Rattle.jr_rebind.proofs.rebinding.rebind_each.Given as goal
-
-abbrev pub invariant-loop-number : goal.invariant-loop-number
-invariant-loop-number g l = AreReboundTo l.table l.tokens (names_in l.names) l.stays (map written_of l.written) l.number l.initial.bounds.items l.bounds.items
-    × ((l.initial.steps ≤ l.steps) × (l.steps ≤ l.initial.steps + l.number))

@@ -1,2 +1,0 @@
-pub mod Rebinding
-pub mod RebindSteps

@@ -1,8 +1,0 @@
-//! The members of a program are bound anew after a change: what was bound of those that the change
-//! doesn't reach is kept.
-#![tactic(auto)]
-
-mod rebinding;
-mod sparing;
-
-pub use rebinding::rebind_members;
