@@ -8,9 +8,9 @@ ghost use Rattle.jr_bind.specs.DeclaredTypes.{FitsMaybeType, FitsParams};
 ghost use Rattle.jr_bind.specs.DeclarationArms as pure;
 
 use crate::declared::{put_params, put_result};
+use crate::overriding::overrides_badly;
 use jr_ast::{Ident, Param, TypeRef};
 use jr_bind_expr::{Note, Place, is_object_method, put_when};
-use crate::overriding::overrides_badly;
 use jr_table::{MemberKey, Rule, Table};
 use jr_text::Mark;
 use std::alloc::AllocError;

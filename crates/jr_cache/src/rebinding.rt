@@ -9,9 +9,9 @@ ghost use Rattle.jr_cache.specs.Rebinding.{IsRebinding};
 ghost use Rattle.jr_cache.specs.RebindSteps.{PutsBound, RebindsOne, AreRebound};
 
 use crate::sparing::{keeps, same_files};
-use jr_mentions::{Apart, apart};
 use jr_cache::bounds_last;
 use jr_members::WrittenMember;
+use jr_mentions::{Apart, apart};
 use jr_program::{MemberBound, Tokens, bind_members, members_are_known};
 use jr_steps::Steps;
 use jr_table::Table;

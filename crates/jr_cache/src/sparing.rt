@@ -6,8 +6,8 @@ ghost use Rattle.jr_mentions.specs.ApartView.{names_in};
 ghost use Rattle.jr_mentions.specs.Avoids.{AvoidsPart};
 ghost use Rattle.jr_cache.specs.RebindSteps.{IsSpared, Keeps, AreOfSameFiles};
 
-use jr_mentions::Apart;
 use jr_members::{PartRef, WrittenMember};
+use jr_mentions::Apart;
 use jr_program::MemberBound;
 use jr_table::{Facts, MemberKey};
 use jr_text::Span;

@@ -18,8 +18,8 @@ use Rattle.jr_expr_types.specs.Slots.{find_type}
 use Rattle.jr_bind.specs.Bounds.{Bound}
 use Rattle.jr_bind_expr.specs.Fits.{FitsType, FitsStmt, FitsElse, FitsStmts}
 use Rattle.jr_bind.proofs.Bodies.{Inside, inside_same, inside_after}
-use Rattle.jr_rename.specs.Images.{Renaming}
-use Rattle.jr_rename.specs.Spelling.{spelling}
+use Rattle.jr_images.specs.Images.{Renaming}
+use Rattle.jr_images.specs.Spelling.{spelling}
 use Rattle.jr_gather.specs.declared.here.Here as raw
 use Rattle.jr_renaming.specs.Effects.{Effect, both, effect_of, Gathers}
 use Rattle.jr_gather.specs.Known.{rows_of, naming_of, context_of, IsKnown, ExpReady, TypeIsBound}

@@ -27,7 +27,7 @@ use Rattle.jr_bind.specs.Programs.{File, Program, IsProgram, AreBound, units_of}
 use Rattle.jr_bind.specs.SuperPlaces as bind
 use Rattle.jr_program_laws.specs.FileParts.{begins, HasTokenAt, IsSuperAt, SuperStands}
 use Rattle.jr_program_laws.specs.PlaceLaws.{IsFile, IsPart, Owns, PartsArePlaced}
-use Rattle.jr_rename.specs.Targets.{IsOfPrelude, PartDeclares, Names}
+use Rattle.jr_images.specs.Targets.{IsOfPrelude, PartDeclares, Names}
 use Rattle.jr_cursor.specs.Names.{own_name, local_there, HasThere, HasInFile, Finds}
 use Rattle.jr_cursor.specs.Listed.{HasListed}
 use Rattle.jr_cursor.proofs.SearchLaws.{numbered}

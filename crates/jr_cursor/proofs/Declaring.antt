@@ -9,7 +9,7 @@ use Rattle.jr_table.specs.Context.{Context}
 use Rattle.jr_table.specs.HeadRules.{with_parameters, is_static_member}
 use Rattle.jr_table.specs.Errors.{Part, class_part, member_part, InMember}
 use Rattle.jr_program_laws.specs.FileParts.{begins}
-use Rattle.jr_rename.specs.Targets.{LocalDeclares, ParamDeclares, MemberDeclares, PartDeclares}
+use Rattle.jr_images.specs.Targets.{LocalDeclares, ParamDeclares, MemberDeclares, PartDeclares}
 use Rattle.jr_rewrite.specs.Rewrites.{declared_by}
 use Rattle.jr_cursor.specs.Searches.{start, in_params, in_code, in_member}
 use Rattle.jr_cursor.specs.Names.{member_begins, own_name, local_there}

@@ -8,7 +8,7 @@ use Rattle.jr_table.specs.Rows.{Row}
 use Rattle.jr_table.specs.Prelude.{prelude_rows}
 use Rattle.jr_table.specs.Conditions.{AreRows}
 use Rattle.jr_bind.specs.Bounds.{Reference, decl_in}
-use Rattle.jr_rename.specs.Targets.{IsOfPrelude}
+use Rattle.jr_images.specs.Targets.{IsOfPrelude}
 use Rattle.jr_cursor.specs.Names.{Finds, bound_there}
 
 -- ---- answers

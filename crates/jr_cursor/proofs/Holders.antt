@@ -5,7 +5,7 @@ use Rattle.std.proofs.lemmas.Option.{none-some, same_Some}
 use Rattle.jr_lex.specs.declared.items.Item.{Item}
 use Rattle.jr_lex.specs.Lexes.{Lexes}
 use Rattle.jr_lex.specs.Places.{ItemsPlaced, end_of}
-use Rattle.jr_rename.specs.Targets.{HoldsIdentifier}
+use Rattle.jr_images.specs.Targets.{HoldsIdentifier}
 
 end_from : (e : ℕ) (front : List Item) (i : Item) → fold (λ (n : ℕ) (x : Item). x.span.to) e (front ++ i ∷ []) ≡ i.span.to
 end_from e [] i = refl

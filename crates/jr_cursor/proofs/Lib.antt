@@ -1,3 +1,4 @@
+mod Holding
 pub mod Nowhere
 mod SearchLaws
 mod Loops

@@ -28,7 +28,7 @@ use Rattle.jr_program_laws.proofs.ItemTokens.{first_of_span}
 use Rattle.jr_program_laws.proofs.MembersHold.{parent_over}
 use Rattle.jr_program_laws.proofs.MemberParts.{member_binds}
 use Rattle.jr_program_laws.proofs.SuperPlaces.{super_once}
-use Rattle.jr_rename.specs.Targets.{PartDeclares}
+use Rattle.jr_images.specs.Targets.{PartDeclares}
 use Rattle.jr_cursor.proofs.Nowhere.{neither}
 use Rattle.jr_cursor.proofs.Declaring.{from_part}
 use Rattle.jr_cursor.proofs.NamedParts.{nothing, name_over}

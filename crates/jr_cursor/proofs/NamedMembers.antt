@@ -27,7 +27,7 @@ use Rattle.jr_program_laws.proofs.Supers.{Knowing, knowing_node, beyond, beyond_
 use Rattle.jr_program_laws.proofs.FoundOnce.{same_decl, super_ctor_once}
 use Rattle.jr_program_laws.proofs.ExpressionsHold.{type_over, args_over}
 use Rattle.jr_program_laws.proofs.StatementsHold.{exp}
-use Rattle.jr_rename.specs.Targets.{StandsAt, MemberDeclares, LocalDeclares}
+use Rattle.jr_images.specs.Targets.{StandsAt, MemberDeclares, LocalDeclares}
 use Rattle.jr_rewrite.specs.Rewrites.{declared_by}
 use Rattle.jr_cursor.proofs.Nowhere.{exp_none, row_none}
 use Rattle.jr_cursor.proofs.NamedParts.{never, HasIn, stmts_declare, stmts_refer, name_over, stmts_over, HasParam, params_over}

@@ -25,7 +25,7 @@ use Rattle.jr_program_laws.proofs.MemberParts.{OnExp, OnStmt, OnList}
 use Rattle.jr_program_laws.proofs.Holding.{Over, join, pass, only, node, turn, empty}
 use Rattle.jr_program_laws.proofs.ExpressionsHold.{without, type_over, word_over}
 use Rattle.jr_program_laws.proofs.StatementsHold.{exp}
-use Rattle.jr_rename.specs.Targets.{StandsAt, LocalDeclares, ParamDeclares}
+use Rattle.jr_images.specs.Targets.{StandsAt, LocalDeclares, ParamDeclares}
 use Rattle.jr_cursor.proofs.Nowhere.{neither, exp_none}
 
 pub never : ⊥ → ⊥

@@ -13,7 +13,7 @@ use Rattle.jr_members.specs.PartView.{written_of}
 use Rattle.jr_members.specs.WrittenMembers.{WrittenMember}
 use Rattle.jr_bind.specs.Bounds.{Bound}
 use Rattle.jr_bind.specs.Programs.{Program}
-use Rattle.jr_rename.specs.Targets.{IsOfPrelude}
+use Rattle.jr_images.specs.Targets.{IsOfPrelude}
 use Rattle.jr_cursor.specs.Names.{Finds, local_there, HasWithin, HasThere, HasInFile}
 use Rattle.jr_cursor.specs.Listed.{HasNumbered, HasListed}
 use Rattle.jr_cursor.proofs.Declaring.{local_declares}

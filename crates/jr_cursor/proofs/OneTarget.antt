@@ -25,7 +25,7 @@ use Rattle.jr_program_laws.proofs.TokenOrder.{Rising, whole_piece}
 use Rattle.jr_program_laws.proofs.ItemTokens.{tokens_rise}
 use Rattle.jr_program_laws.proofs.MeansOnce.{declares_once}
 use Rattle.jr_program_laws.proofs.SuperPlaces.{part_binds}
-use Rattle.jr_rename.specs.Targets.{PartDeclares, Names, IsTarget}
+use Rattle.jr_images.specs.Targets.{PartDeclares, Names, IsTarget}
 use Rattle.jr_cursor.proofs.Holders.{one_begins}
 use Rattle.jr_cursor.proofs.Asking.{marked_file, super_stands}
 use Rattle.jr_cursor.proofs.NamedFiles.{PartHas, with_super, with_reference, unit_has}

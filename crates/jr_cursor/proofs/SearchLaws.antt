@@ -11,7 +11,7 @@ use Rattle.jr_table.specs.Decls.{MemberKey, Decl, local_decl}
 use Rattle.jr_table.specs.Context.{Context, locals_in, locals_in_else, locals_in_row, after}
 use Rattle.jr_table.specs.Somewhere.{InStmt, InElse, InStmts}
 use Rattle.jr_program_laws.specs.FileParts.{begins}
-use Rattle.jr_rename.specs.Targets.{LocalDeclares, ParamDeclares}
+use Rattle.jr_images.specs.Targets.{LocalDeclares, ParamDeclares}
 use Rattle.jr_cursor.specs.declared.searches.Search.{Search}
 use Rattle.jr_cursor.specs.Searches.{or_else, number_there, meet, in_params, in_stmt, in_else, in_stmts}
 use Rattle.jr_cursor.proofs.Nowhere.{neither, exp_none}

@@ -1,3 +1,4 @@
+pub mod Words
 pub mod ProgramTargets
 pub mod Searches
 pub mod Names

@@ -34,7 +34,7 @@ use Rattle.jr_table.specs.Errors.{Part, class_part, member_part, part_mark}
 use Rattle.jr_members.specs.WrittenMembers.{WrittenMember}
 use Rattle.jr_bind.specs.Bounds.{Reference, decl_in, Bound}
 use Rattle.jr_bind.specs.Programs.{Program}
-use Rattle.jr_rename.specs.Targets.{IsOfPrelude}
+use Rattle.jr_images.specs.Targets.{IsOfPrelude}
 use Rattle.jr_rewrite.specs.Rewrites.{declared_by}
 use Rattle.jr_cursor.specs.Searches.{in_member}
 

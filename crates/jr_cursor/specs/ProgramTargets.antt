@@ -4,7 +4,7 @@ use Rattle.jr_text.specs.declared.spans.Span.{Span}
 use Rattle.jr_table.specs.Decls.{Decl}
 use Rattle.jr_bind.specs.Programs.{File, Program, units_of}
 use Rattle.jr_program_laws.specs.FileParts.{begins}
-use Rattle.jr_rename.specs.Targets.{IsTarget, HasNoTarget}
+use Rattle.jr_images.specs.Targets.{IsTarget, HasNoTarget}
 
 -- it names this declaration, which is none of the prelude's
 abbrev pub HasTargetAt : Program Span → (file at : ℕ) → Decl → Type 0

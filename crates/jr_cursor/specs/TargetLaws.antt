@@ -5,7 +5,7 @@ use Rattle.jr_grammar.specs.Layout.{itself}
 use Rattle.jr_table.specs.Decls.{Decl}
 use Rattle.jr_bind.specs.Programs.{File, Program, IsProgram, units_of}
 use Rattle.jr_program_laws.specs.FileParts.{begins}
-use Rattle.jr_rename.specs.Targets.{IsTarget}
+use Rattle.jr_images.specs.Targets.{IsTarget}
 
 -- the identifier at a byte of a file of a program names one declaration at most
 abbrev pub OneIsTarget : Type 0

@@ -11,6 +11,7 @@ mod preludes;
 mod searches;
 mod targets;
 mod within;
+mod words;
 
 pub use laws::one_is_target;
 pub use targets::target;

@@ -3,7 +3,7 @@ ghost use Rattle.std.specs.Prelude.{◌≡◌, ◌↔◌, Some, IsTrue, option_m
 ghost use Rattle.jr_table.specs.Entries.{IsRowOf};
 ghost use Rattle.jr_table.specs.KeyView.{decl_of};
 ghost use Rattle.jr_table.specs.RowView.{row_of};
-ghost use Rattle.jr_rename.specs.Targets.{IsOfPrelude};
+ghost use Rattle.jr_images.specs.Targets.{IsOfPrelude};
 ghost use Rattle.jr_cursor.specs.Names.{Finds};
 
 use jr_table::{Decl, Row, Table};

@@ -20,7 +20,7 @@ use Rattle.jr_table.proofs.MemberLaws.{Says}
 use Rattle.jr_table.proofs.StepsUp as steps
 use Rattle.jr_table.proofs.Testing.{virtual_says}
 use Rattle.jr_table.proofs.Border.{MethodHere, method_here, VirtualAt, virtual_at, no_over, no_under}
-use Rattle.jr_rename.specs.Families.{InFamily, itself, above, below, Among, AreRenamed, IsRenamedWith}
+use Rattle.jr_images.specs.Families.{InFamily, itself, above, below, Among, AreRenamed, IsRenamedWith}
 use Rattle.jr_dispatch.specs.Highest.{Owns, IsHighest, IsBelow, HasBelow}
 use Rattle.jr_dispatch.proofs.Upwards.{upwards, comparable}
 

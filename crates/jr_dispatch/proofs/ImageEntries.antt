@@ -13,7 +13,7 @@ use Rattle.jr_table.specs.Conditions.{AreRows, TypesName, as_declarer, as_superc
 use Rattle.jr_table.specs.Chains.{parent_of}
 use Rattle.jr_table.proofs.RowLaws.{the_number, row_at, acyclic_rows, entry_at}
 use Rattle.jr_table.proofs.OneEach.{class_stands, one_virtual}
-use Rattle.jr_rename.specs.Images.{Renaming, class_to, type_to, types_to, member_to, decl_to, row_to, rows_to}
+use Rattle.jr_images.specs.Images.{Renaming, class_to, type_to, types_to, member_to, decl_to, row_to, rows_to}
 use Rattle.jr_dispatch.specs.Changes.{IsLike, AreAlike}
 use Rattle.jr_dispatch.proofs.Parting.{Programs}
 

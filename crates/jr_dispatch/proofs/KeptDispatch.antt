@@ -7,8 +7,8 @@ use Rattle.jr_table.specs.Rows.{Row}
 use Rattle.jr_table.specs.Entries.{entries_of}
 use Rattle.jr_table.specs.Conditions.{AreRows}
 use Rattle.jr_table.specs.Keyed.{DispatchesTo}
-use Rattle.jr_rename.specs.Images.{Renaming, class_to, method_to, rows_to}
-use Rattle.jr_rename.specs.Refusals.{ChangesDispatch}
+use Rattle.jr_images.specs.Images.{Renaming, class_to, method_to, rows_to}
+use Rattle.jr_images.specs.Refusals.{ChangesDispatch}
 use Rattle.jr_dispatch.specs.Kept.{DispatchIsKept}
 use Rattle.jr_dispatch.proofs.ImageEntries.{row_goes}
 use Rattle.jr_dispatch.proofs.KeyedChanges.{programs, found}

@@ -16,8 +16,8 @@ use Rattle.jr_table.specs.Looking.{is_virtual, nearest}
 use Rattle.jr_table.proofs.RowLaws.{the_number, row_at, entry_stands, acyclic_rows}
 use Rattle.jr_table.proofs.OneEach.{is_class_decl, one_virtual}
 use Rattle.jr_table.proofs.Border.{is_virtual_at, MethodHere, method_here, MethodFound, the_method}
-use Rattle.jr_rename.specs.Images.{Renaming, class_to, method_to, decl_to, row_to, rows_to}
-use Rattle.jr_rename.specs.Refusals.{ChangesDispatch, IsFirstChange}
+use Rattle.jr_images.specs.Images.{Renaming, class_to, method_to, decl_to, row_to, rows_to}
+use Rattle.jr_images.specs.Refusals.{ChangesDispatch, IsFirstChange}
 use Rattle.jr_dispatch.specs.Keys.{declared_class, class_at}
 use Rattle.jr_dispatch.specs.Changes.{AreAlike, HasNames, ChangesAt, IsClassAt, IsFirstChangeAt}
 use Rattle.jr_dispatch.proofs.Connected.{same_row, one_key}

@@ -12,7 +12,7 @@ use Rattle.jr_table.specs.Chains.{In}
 use Rattle.jr_table.specs.KeyView.{decl_of}
 use Rattle.jr_table.proofs.RowLaws.{as_many}
 use Rattle.jr_table.proofs.Ascending.{in_left, in_right, in_either}
-use Rattle.jr_rename.specs.Families.{Among}
+use Rattle.jr_images.specs.Families.{Among}
 use Rattle.jr_dispatch.specs.Highest.{IsBelow, HasBelow}
 use Rattle.jr_dispatch.specs.Changes.{IsFirst, IsParted, ArePartedClasses, IsLowClass, ChangesAt}
 

@@ -15,9 +15,9 @@ use Rattle.jr_table.specs.Notes.{is_object_method}
 use Rattle.jr_table.proofs.RowLaws.{number_stands, the_number}
 use Rattle.jr_table.proofs.DeclarationTests.{object_method_iff}
 use Rattle.jr_names.specs.DeclTexts.{decl_text}
-use Rattle.jr_rename.specs.Targets.{IsOfPrelude}
-use Rattle.jr_rename.specs.Families.{InFamily, Among, AreRenamed, IsRenamedWith}
-use Rattle.jr_rename.specs.Refusals.{IsMethod, HasPreludeMethod, ChangesPrelude}
+use Rattle.jr_images.specs.Targets.{IsOfPrelude}
+use Rattle.jr_images.specs.Families.{InFamily, Among, AreRenamed, IsRenamedWith}
+use Rattle.jr_images.specs.Refusals.{IsMethod, HasPreludeMethod, ChangesPrelude}
 use Rattle.jr_dispatch.specs.Told.{HasPrelude, IsTold, is_early, is_prelude_method}
 
 -- ---- places in lists

@@ -4,8 +4,8 @@ use Rattle.jr_table.specs.Keys.{ClassKey, MethodKey}
 use Rattle.jr_table.specs.Rows.{Row}
 use Rattle.jr_table.specs.Conditions.{AreRows}
 use Rattle.jr_table.specs.Keyed.{DispatchesTo}
-use Rattle.jr_rename.specs.Images.{Renaming, class_to, method_to, rows_to}
-use Rattle.jr_rename.specs.Refusals.{ChangesDispatch}
+use Rattle.jr_images.specs.Images.{Renaming, class_to, method_to, rows_to}
+use Rattle.jr_images.specs.Refusals.{ChangesDispatch}
 
 -- Where it changes no dispatch, a method that is dispatched on an object of a class to another has
 -- an image that is dispatched, on an object of the class's image, to the image of that one

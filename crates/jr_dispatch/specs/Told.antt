@@ -12,9 +12,9 @@ use Rattle.jr_table.specs.Rows.{Row}
 use Rattle.jr_table.specs.Entries.{number_of}
 use Rattle.jr_table.specs.ExpressionRules.{IsObjectMethod}
 use Rattle.jr_names.specs.DeclTexts.{decl_text}
-use Rattle.jr_rename.specs.Targets.{IsOfPrelude}
-use Rattle.jr_rename.specs.Families.{Among}
-use Rattle.jr_rename.specs.Refusals.{IsMethod}
+use Rattle.jr_images.specs.Targets.{IsOfPrelude}
+use Rattle.jr_images.specs.Families.{Among}
+use Rattle.jr_images.specs.Refusals.{IsMethod}
 
 -- one of these is a method of the prelude
 pub record HasPrelude (rows : List Row) (decls : List Decl) (text : List ℕ) : Type 0 where

@@ -5,14 +5,14 @@ ghost use Rattle.jr_table.specs.Keys as keys;
 ghost use Rattle.jr_table.specs.Entries.{method_at};
 ghost use Rattle.jr_table.specs.TypeView.{class_key_of};
 ghost use Rattle.jr_table.specs.KeyView.{method_key_of};
-ghost use Rattle.jr_rename.specs.Images.{rows_to};
-ghost use Rattle.jr_rename.specs.ImageView.{renaming_of};
-ghost use Rattle.jr_rename.specs.Refusals.{ChangesDispatch, IsFirstChange};
+ghost use Rattle.jr_images.specs.Images.{rows_to};
+ghost use Rattle.jr_images.specs.ImageView.{renaming_of};
+ghost use Rattle.jr_images.specs.Refusals.{ChangesDispatch, IsFirstChange};
 ghost use Rattle.jr_dispatch.specs.Keys.{class_at};
 ghost use Rattle.jr_dispatch.specs.Kept.{DispatchIsKept};
 
 use crate::changes::first_change;
-use jr_rename::NewName;
+use jr_images::NewName;
 use jr_table::{ClassKey, Decl, MethodKey, Table};
 use std::alloc::{AllocError, Global};
 

@@ -6,7 +6,7 @@ ghost use Rattle.jr_table.specs.Decls as pure;
 ghost use Rattle.jr_table.specs.Entries.{IsRowOf, entries_of};
 ghost use Rattle.jr_table.specs.KeyView.{method_key_of, decl_of};
 ghost use Rattle.jr_table.specs.RowView.{row_of};
-ghost use Rattle.jr_rename.specs.Families.{Among, AreRenamed};
+ghost use Rattle.jr_images.specs.Families.{Among, AreRenamed};
 ghost use Rattle.jr_dispatch.specs.Highest.{IsBelow, HasBelow};
 
 use crate::tops::{highest, is_own, virtual_entry};

@@ -6,8 +6,8 @@ ghost use Rattle.jr_table.specs.ExpressionRules.{IsObjectMethod};
 ghost use Rattle.jr_table.specs.Notes as notes;
 ghost use Rattle.jr_table.specs.KeyView.{decl_of};
 ghost use Rattle.jr_names.specs.DeclTexts as texts;
-ghost use Rattle.jr_rename.specs.Families.{AreRenamed};
-ghost use Rattle.jr_rename.specs.Refusals.{ChangesPrelude};
+ghost use Rattle.jr_images.specs.Families.{AreRenamed};
+ghost use Rattle.jr_images.specs.Refusals.{ChangesPrelude};
 ghost use Rattle.jr_dispatch.specs.Told as pure;
 ghost use Rattle.jr_dispatch.specs.Told.{IsTold};
 

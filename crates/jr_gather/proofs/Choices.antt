@@ -16,8 +16,8 @@ use Rattle.jr_table.specs.Binding.{Role, value, left, statement, variable, type,
 use Rattle.jr_table.specs.Meanings.{find_left, find_left_of, own_superclass, field_found, call_found, target_found, ctor_found, created_class, types_of}
 use Rattle.jr_table.proofs.Typing.{left_iff, left_of_iff, own_super_iff}
 use Rattle.jr_rewrite.specs.Respellings.{Choice}
-use Rattle.jr_rename.specs.Images.{Renaming}
-use Rattle.jr_rename.specs.Spelling as spells
+use Rattle.jr_images.specs.Images.{Renaming}
+use Rattle.jr_images.specs.Spelling as spells
 use Rattle.jr_respell.specs.Chosen.{unmarked, ChoosesOf, VariableIsChosen, ClassIsChosen, FieldIsChosen, StaticFieldIsChosen, MemberClassIsChosen, SuperFieldIsChosen, SimpleCallIsChosen, CallIsChosen, StaticCallIsChosen, SuperCallIsChosen, CreationIsChosen, SuperCtorIsChosen, TypeIsChosen, QualifierIsChosen, QualifiedTypeIsChosen}
 use Rattle.jr_gather.specs.Known.{IsOne, NameIsBound, NameSpells, DottedIsBound, DottedSpells, SuperFieldIsBound, CallIsBound, SuperCallIsBound, CreationIsBound, SuperCtorIsBound, TypeNameIsBound, InnerNameIsBound, IsValueOf, NoField, Creates}
 use Rattle.jr_gather.proofs.Sorts.{found_variable, found_field, found_type, found_inner, found_method, found_call, found_ctor}

@@ -14,8 +14,8 @@ use Rattle.jr_rewrite.specs.Rewritten.{Rewritten, plain, within, joined, count_o
 use Rattle.jr_rewrite.specs.Puts.{before_changes, behind_changes, super_parts, class_changes, drops_class}
 use Rattle.jr_rewrite.specs.Rewrites.{RewritesType, RewritesExp, RewritesTarget, RewritesRow, with_losses}
 use Rattle.jr_rewrite.proofs.Putting.{dotted_is_parts, super_is_parts, qualified_is_parts}
-use Rattle.jr_rename.specs.Images.{Renaming}
-use Rattle.jr_rename.specs.Spelling.{VariableSpells, ClassSpells, spelling}
+use Rattle.jr_images.specs.Images.{Renaming}
+use Rattle.jr_images.specs.Spelling.{VariableSpells, ClassSpells, spelling}
 use Rattle.jr_respell.specs.Chosen.{unmarked}
 use Rattle.jr_gather.specs.declared.here.Here as raw
 use Rattle.jr_renaming.specs.Effects.{Effect, no_effect, both, effect_of, Gathers}

@@ -20,8 +20,8 @@ use Rattle.jr_table.proofs.Typing.{left_iff, left_of_iff}
 use Rattle.jr_bind_expr.specs.Fits.{FitsExp}
 use Rattle.jr_gather.specs.declared.here.Here as raw
 use Rattle.jr_ast.proofs.Sizes.{exp_size}
-use Rattle.jr_rename.specs.Images.{Renaming}
-use Rattle.jr_rename.specs.Spelling.{WordsLead}
+use Rattle.jr_images.specs.Images.{Renaming}
+use Rattle.jr_images.specs.Spelling.{WordsLead}
 use Rattle.jr_respell.specs.Chosen.{LeadsFirst, LeadsBehind}
 use Rattle.jr_gather.specs.Known.{rows_of, found_at, SoundExp, RefersExp}
 use Rattle.jr_gather.specs.MeaningView.{class_in, last_word, front, IsNamed}

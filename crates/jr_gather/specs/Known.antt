@@ -55,8 +55,8 @@ use Rattle.jr_expr_types.specs.Slots.{find_type}
 use Rattle.jr_bind.specs.Bounds.{Bound, decl_in}
 use Rattle.jr_bind_expr.specs.Fits.{FitsExp, FitsTarget, FitsExps, FitsType}
 use Rattle.jr_spell.specs.declared.references.RefForm.TheVariants as ref
-use Rattle.jr_rename.specs.Images.{Renaming, class_to, types_to, rows_to, scope_to}
-use Rattle.jr_rename.specs.Spelling as spells
+use Rattle.jr_images.specs.Images.{Renaming, class_to, types_to, rows_to, scope_to}
+use Rattle.jr_images.specs.Spelling as spells
 use Rattle.jr_rewrite.specs.Respellings.{Choice}
 use Rattle.jr_respell.specs.Scopes as scopes
 use Rattle.jr_respell.specs.Chosen.{unmarked}

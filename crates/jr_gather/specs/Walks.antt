@@ -14,7 +14,7 @@ use Rattle.jr_rewrite.specs.Rewrites.{
   RewritesExp,
   RewritesRow,
 }
-use Rattle.jr_rename.specs.Spelling.{
+use Rattle.jr_images.specs.Spelling.{
   spelling,
   SuperFieldSpells,
   SimpleCallSpells,

@@ -5,7 +5,7 @@ ghost use Rattle.jr_ast.specs.View.{expr_of, exprs_of, type_of};
 ghost use Rattle.jr_table.specs.TypeView.{class_key_of};
 ghost use Rattle.jr_table.specs.Binding.{IsClassName, HaveTypes, left};
 ghost use Rattle.jr_bind_expr.specs.Fits.{FitsExp};
-ghost use Rattle.jr_rename.specs.Spelling as spells;
+ghost use Rattle.jr_images.specs.Spelling as spells;
 ghost use Rattle.jr_respell.specs.ChoiceView.{choice_of};
 ghost use Rattle.jr_respell.specs.Chosen.{unmarked};
 ghost use Rattle.jr_respell.specs.Chosen as chosen;

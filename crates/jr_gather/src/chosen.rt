@@ -4,7 +4,7 @@ ghost use Rattle.jr_ast.specs.View.{expr_of};
 ghost use Rattle.jr_table.specs.TypeView.{class_key_of};
 ghost use Rattle.jr_table.specs.Binding.{IsClassName, left};
 ghost use Rattle.jr_bind_expr.specs.Fits.{FitsExp};
-ghost use Rattle.jr_rename.specs.Spelling as spells;
+ghost use Rattle.jr_images.specs.Spelling as spells;
 ghost use Rattle.jr_respell.specs.ChoiceView.{choice_of};
 ghost use Rattle.jr_respell.specs.Chosen.{VariableIsChosen, unmarked};
 ghost use Rattle.jr_gather.specs.Known as pure;

@@ -10,13 +10,12 @@ ghost use Rattle.jr_program.specs.Members.{AnyOf, MemberRefers};
 ghost use Rattle.jr_lines.specs.MemberLines.{IsLineOf, Adds, IsLineAt, IsReferenceAt};
 ghost use Rattle.jr_lines.specs.MemberLines.{HasReference, HasError, IsErrorAt, IsMemberLine};
 
-use jr_program::MemberBound;
 use crate::line_texts::texts_of;
 use crate::lines::{Byte, Line, in_order};
-use jr_program::Tokens;
 use jr_ast::Name;
 use jr_bind::{BindError, Reference};
 use jr_lex::items_are_placed;
+use jr_program::{MemberBound, Tokens};
 use jr_table::{Decl, Facts};
 use jr_text::Text;
 use std::alloc::{AllocError, Global};

@@ -18,11 +18,11 @@ use Rattle.jr_bind_expr.proofs.Steps.{left_is}
 use Rattle.jr_rewrite.specs.Respellings.{Choice, stays, becomes, loses}
 use Rattle.jr_rewrite.specs.Rewritten.{Rewritten, within, joined}
 use Rattle.jr_rewrite.specs.Rewrites.{declared_by, DeclaredOut, RewritesType, RewritesParams, RewritesHead, with_losses}
-use Rattle.jr_rename.specs.Images.{Renaming}
+use Rattle.jr_images.specs.Images.{Renaming}
 use Rattle.jr_renaming.specs.Effects.{Effect, both, effect_of, Gathers}
 use Rattle.jr_renaming.specs.OutputView.{lost}
 use Rattle.jr_renaming.proofs.Joining.{gathers_none, gathers_within, both_assoc, both_none}
-use Rattle.jr_rename.specs.Spelling.{SuperCtorSpells, spelling}
+use Rattle.jr_images.specs.Spelling.{SuperCtorSpells, spelling}
 use Rattle.jr_renaming.specs.Files.{PartGives}
 use Rattle.jr_program_laws.specs.FileParts.{begins}
 use Rattle.jr_gather.specs.declared.here.Here as raw_here

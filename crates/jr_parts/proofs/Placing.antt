@@ -18,8 +18,8 @@ use Rattle.jr_table.specs.Binding.{value}
 use Rattle.jr_scopes.specs.Helds.{Held, local_of, key_of}
 use Rattle.jr_bind.specs.Bounds.{Bound}
 use Rattle.jr_rewrite.specs.Rewrites.{RewritesType, RewritesMaybe, RewritesStmts, RewritesSuper}
-use Rattle.jr_rename.specs.Images.{Renaming}
-use Rattle.jr_rename.specs.Spelling.{spelling}
+use Rattle.jr_images.specs.Images.{Renaming}
+use Rattle.jr_images.specs.Spelling.{spelling}
 use Rattle.jr_renaming.specs.Effects.{Effect, Gathers}
 use Rattle.jr_respell.specs.declared.scopes.Scopes as raw_scopes
 use Rattle.jr_respell.specs.Scopes.{context_of, locals_in, member_of, AreBeside}

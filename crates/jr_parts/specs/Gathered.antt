@@ -30,8 +30,8 @@ use Rattle.jr_rewrite.specs.Rewrites.{
   RewritesHead,
   RewritesMember,
 }
-use Rattle.jr_rename.specs.Images.{Renaming}
-use Rattle.jr_rename.specs.Spelling.{spelling}
+use Rattle.jr_images.specs.Images.{Renaming}
+use Rattle.jr_images.specs.Spelling.{spelling}
 use Rattle.jr_respell.specs.Chosen.{TopParentIsChosen}
 use Rattle.jr_renaming.specs.Effects.{Effect, both, Gathers}
 use Rattle.jr_renaming.specs.OutputView.{alone}

@@ -6,7 +6,7 @@ use Rattle.jr_table.specs.Context.{Context}
 use Rattle.jr_program_laws.specs.FileParts.{begins}
 use Rattle.jr_rewrite.specs.Respellings.{Choice, stays, becomes, loses}
 use Rattle.jr_rewrite.specs.Rewrites.{RewritesSuper}
-use Rattle.jr_rename.specs.Spelling.{SuperCtorSpells}
+use Rattle.jr_images.specs.Spelling.{SuperCtorSpells}
 use Rattle.jr_renaming.specs.Effects.{Effect, both, Gathers}
 use Rattle.jr_renaming.specs.OutputView.{lost}
 use Rattle.jr_gather.specs.declared.here.Here as raw

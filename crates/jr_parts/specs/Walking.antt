@@ -8,7 +8,7 @@ use Rattle.jr_table.specs.KeyView.{member_key_of}
 use Rattle.jr_table.specs.Rows.{Row}
 use Rattle.jr_table.specs.Context.{Context, known}
 use Rattle.jr_scopes.specs.Helds.{Held}
-use Rattle.jr_rename.specs.Images.{Renaming}
+use Rattle.jr_images.specs.Images.{Renaming}
 use Rattle.jr_respell.specs.Scopes.{rows_in, renaming_in, AreImages}
 use Rattle.jr_gather.specs.declared.here.Here as raw_here
 use Rattle.jr_gather.specs.Known as here

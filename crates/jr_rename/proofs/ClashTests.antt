@@ -15,8 +15,8 @@ use Rattle.jr_table.specs.Rows.{Row}
 use Rattle.jr_table.specs.RowView.{row_of}
 use Rattle.jr_table.specs.Entries.{IsRowOf}
 use Rattle.jr_table.proofs.Testing.{and_both}
-use Rattle.jr_rename.proofs.Imaging.{unless}
-use Rattle.jr_rename.specs.Clashes.{TakesPlace, ClassClashes, member_class}
+use Rattle.jr_images.proofs.Imaging.{unless}
+use Rattle.jr_images.specs.Clashes.{TakesPlace, ClassClashes, member_class}
 use Rattle.jr_rename.specs.RowClashes.{has_none, is_outer, is_member_class, takes_place, is_named, is_within, class_clashes, one_takes_place, OneTakesPlace, IsFirstRow, NoRowHas}
 
 none_decides : (o : Option (List ℕ)) → Decides (has_none o) (o ≡ None)

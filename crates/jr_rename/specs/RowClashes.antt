@@ -8,8 +8,8 @@ use Rattle.jr_table.specs.Decls.{Decl, class_decl, field_decl, method_decl}
 use Rattle.jr_table.specs.SameKeys.{same_name, same_class, same_types}
 use Rattle.jr_table.specs.Rows.{Row}
 use Rattle.jr_table.specs.Entries.{IsRowOf}
-use Rattle.jr_rename.specs.Families.{Among}
-use Rattle.jr_rename.specs.Clashes.{TakesPlace}
+use Rattle.jr_images.specs.Families.{Among}
+use Rattle.jr_images.specs.Clashes.{TakesPlace}
 
 -- ---- tests
 

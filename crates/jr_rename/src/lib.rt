@@ -1,26 +1,24 @@
-//! Rename of any declaration.
+//! The plan of a rename: which edits it makes, or why it is refused.
+//!
+//! [`plan`] takes the step and finds its file. [`plan_at`] finds the target, then what is renamed
+//! with it, and asks for each refusal in turn; last it rewrites the program (JLS 6).
+//! A declaration with which the new name collides is found by the kind of the target (`clashes`):
+//! for a local or parameter one walk over its member (`walks`) knows those in scope; for all else
+//! the rows tell (`rows`, `row_clashes`).
 #![tactic(auto)]
 
-mod decl_sets;
-mod decl_tests;
-mod images;
-mod laws;
-mod method_index;
-mod new_programs;
+mod afters;
+mod answers;
+mod clashes;
+mod locals;
+mod pairs;
+mod plans;
 mod row_clashes;
-mod text_laws;
-mod words;
+mod rows;
+mod steps;
+mod targets;
+mod walks;
 
-pub use decl_sets::DeclSet;
-pub use images::{
-    NewName, class_to, ctor_to, decl_to, field_to, local_to, member_to, method_to, rows_to,
-    type_to, types_to,
-};
-pub use laws::{locals_keep_keys, references_are_kept};
-pub use new_programs::{
-    classes_stay_fair, fields_give_images, locals_give_images, methods_give_images, plans_become,
-    renamings_stay_fair,
-};
-pub use row_clashes::{class_clash, member_clash};
-pub use text_laws::{renamed_texts_read, rows_are_named};
-pub use words::identifier_at;
+pub use afters::After;
+pub use plans::plan_at;
+pub use steps::plan;

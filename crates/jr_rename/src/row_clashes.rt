@@ -5,7 +5,7 @@ ghost use Rattle.jr_table.specs.declared.rows.Row as raw;
 ghost use Rattle.jr_table.specs.TypeView.{class_key_of};
 ghost use Rattle.jr_table.specs.KeyView.{decl_of};
 ghost use Rattle.jr_table.specs.RowView.{row_of};
-ghost use Rattle.jr_rename.specs.Clashes.{ClassClashes};
+ghost use Rattle.jr_images.specs.Clashes.{ClassClashes};
 ghost use Rattle.jr_rename.specs.RowClashes as pure;
 ghost use Rattle.jr_rename.specs.RowClashes.{IsFirstRow, NoRowHas, OneTakesPlace};
 

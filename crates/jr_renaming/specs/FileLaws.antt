@@ -9,9 +9,9 @@ use Rattle.jr_table.specs.Declared.{declarations_of}
 use Rattle.jr_table.specs.ProgramRows.{AreProgramRows}
 use Rattle.jr_members.specs.WrittenMembers.{written_members}
 use Rattle.jr_rewrite.specs.Rewritten.{Rewritten}
-use Rattle.jr_rename.specs.Images.{Renaming}
-use Rattle.jr_rename.specs.Spelling.{spelling}
-use Rattle.jr_rename.specs.Renames.{Rewrite}
+use Rattle.jr_images.specs.Images.{Renaming}
+use Rattle.jr_images.specs.Spelling.{spelling}
+use Rattle.jr_images.specs.Renames.{Rewrite}
 use Rattle.jr_renaming.specs.Effects.{Effect, effect_of}
 use Rattle.jr_renaming.specs.Files.{AllGive}
 

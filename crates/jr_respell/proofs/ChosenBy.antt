@@ -8,8 +8,8 @@ use Rattle.jr_table.specs.Found.{Found, one}
 use Rattle.jr_table.specs.Lookup.{FindsVariable, FindsTypeNamed}
 use Rattle.jr_table.specs.Context.{Context, scope_of}
 use Rattle.jr_rewrite.specs.Respellings.{Choice}
-use Rattle.jr_rename.specs.Images.{Renaming, class_to}
-use Rattle.jr_rename.specs.Spelling.{TypeLeads}
+use Rattle.jr_images.specs.Images.{Renaming, class_to}
+use Rattle.jr_images.specs.Spelling.{TypeLeads}
 use Rattle.jr_respell.specs.Chosen.{ChoosesOf, VariableIsChosen, QualifiedTypeIsChosen}
 use Rattle.jr_respell.specs.Ways.{Way, local, own_field, type_behind, leads_to, is_local, is_field, Finds, SpellsBy, IsChosenFor, IsChosenBy}
 use Rattle.jr_respell.proofs.DeclKinds.{local_decls, field_decls}

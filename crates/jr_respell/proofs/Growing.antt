@@ -3,7 +3,7 @@ use Rattle.std.proofs.Common.{◌≡◌, ℕ, zero, suc, List, [], ◌∷◌, �
 use Rattle.jr_table.specs.Decls.{MemberKey}
 use Rattle.jr_scopes.specs.declared.helds.Held as raw
 use Rattle.jr_scopes.specs.Helds.{held_of}
-use Rattle.jr_rename.specs.Images.{Renaming, member_to}
+use Rattle.jr_images.specs.Images.{Renaming, member_to}
 use Rattle.jr_respell.specs.Scopes.{seen, seen_to}
 
 pub map_push : {X Y : Type 0} (f : X → Y) (xs : List X) (x : X) → map f (xs ++ x ∷ []) ≡ map f xs ++ f x ∷ []

@@ -8,7 +8,7 @@ use Rattle.jr_lookup.specs.ScopeView as view
 use Rattle.jr_table.specs.Context.{scope_of, scope_local}
 use Rattle.jr_scopes.specs.Helds.{Held, key_of, local_of, last_number}
 use Rattle.jr_scopes.specs.Tracked.{helds_of}
-use Rattle.jr_rename.specs.Images.{Renaming, member_to, scope_local_to}
+use Rattle.jr_images.specs.Images.{Renaming, member_to, scope_local_to}
 use Rattle.jr_respell.specs.declared.scopes.Scopes as raw
 use Rattle.jr_respell.specs.Scopes.{rows_to, naming_of, member_of, locals_in, context_of, place_to, seen, seen_to, IsKept}
 use Rattle.jr_respell.specs.Near.{if_found, if_maybe_found}

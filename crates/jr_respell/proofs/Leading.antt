@@ -4,10 +4,10 @@ use Rattle.jr_table.specs.Keys.{ClassKey}
 use Rattle.jr_table.specs.Decls.{class_decl}
 use Rattle.jr_table.specs.Found.{Found, one}
 use Rattle.jr_rewrite.specs.Respellings.{Choice, loses}
-use Rattle.jr_rename.specs.Spelling.{renamed}
+use Rattle.jr_images.specs.Spelling.{renamed}
 use Rattle.jr_respell.specs.Taking.{RenamesOrLoses}
 
--- as in `jr_rename: Spelling.SpellsLeft`
+-- as in `jr_images: Spelling.SpellsLeft`
 abbrev pub LeadsOrLoses : (at : ℕ) → (old : List ℕ) → (k image : ClassKey) → (Leads : Type 0) → (Finds : Found → Type 0) → Choice → Type 0
 LeadsOrLoses at old k image Leads Finds h = (Leads × (h ≡ renamed old image.name))
     ⊎ ((Leads → ⊥) × ((f : Found) × Finds f × (h ≡ loses (record { at = at; declaration = class_decl k; found = f }))))

@@ -6,7 +6,7 @@ use Rattle.jr_table.specs.Rows.{Row}
 use Rattle.jr_table.specs.Context.{Context}
 use Rattle.jr_spell.specs.References.{Reference}
 use Rattle.jr_rewrite.specs.Respellings.{Choice}
-use Rattle.jr_rename.specs.Images.{Renaming, name_to, rows_to, scope_to}
+use Rattle.jr_images.specs.Images.{Renaming, name_to, rows_to, scope_to}
 use Rattle.jr_respell.specs.Taking.{asked, SpellsAt}
 use Rattle.jr_respell.specs.Ways.{Way, name_in, reference_by, Finds, SpellsTo}
 

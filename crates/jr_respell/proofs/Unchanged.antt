@@ -18,8 +18,8 @@ use Rattle.jr_table.specs.Context.{scope_of}
 use Rattle.jr_scopes.specs.Helds.{key_of, last_number}
 use Rattle.jr_spell.specs.declared.spellings.Form.TheVariants.{Asked}
 use Rattle.jr_rewrite.specs.Respellings.{stays, same}
-use Rattle.jr_rename.specs.Images.{Renaming, name_to, field_to, member_to, decl_to, row_to}
-use Rattle.jr_rename.specs.Spelling.{renamed, respelled}
+use Rattle.jr_images.specs.Images.{Renaming, name_to, field_to, member_to, decl_to, row_to}
+use Rattle.jr_images.specs.Spelling.{renamed, respelled}
 use Rattle.jr_respell.specs.declared.scopes.Scopes as raw
 use Rattle.jr_respell.specs.Scopes.{rows_of, naming_of, rows_to, member_of, locals_in, context_of, place_to, IsKept}
 use Rattle.jr_respell.specs.Chosen.{VariableIsChosen}

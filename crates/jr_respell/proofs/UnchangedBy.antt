@@ -21,7 +21,7 @@ use Rattle.jr_spell.specs.declared.spellings.Form.TheVariants.{Asked}
 use Rattle.jr_spell.specs.Binds.{is_dot, has_dot, front_word, last_word}
 use Rattle.jr_spell.specs.Taken.{IsTaken}
 use Rattle.jr_rewrite.specs.Respellings.{stays}
-use Rattle.jr_rename.specs.Images.{Renaming, name_to, decl_to}
+use Rattle.jr_images.specs.Images.{Renaming, name_to, decl_to}
 use Rattle.jr_respell.specs.declared.scopes.Scopes as raw
 use Rattle.jr_respell.specs.Scopes.{rows_of, naming_of, rows_to, context_of, place_to, IsKept}
 use Rattle.jr_respell.specs.Ways.{Way, local, own_field, field_on, field_through, field_above, method_named, method_on, method_through, method_above, ctor_of, ctor_above, type_named, type_behind, is_class, is_field, is_method, is_ctor, leads_to, name_in, reference_by, Finds, IsChosenBy}

@@ -1,4 +1,4 @@
--- What is chosen for one reference, by `jr_rename: Spelling`: where the old lookup finds one
+-- What is chosen for one reference, by `jr_images: Spelling`: where the old lookup finds one
 -- declaration, its choice; and where it finds none, none. Operands and arguments go by their old
 -- types, trees by their words.
 use Rattle.std.specs.Prelude.{ℕ, List, [], Option, Some, None, Bool, IsTrue, ◌↔◌}
@@ -32,7 +32,7 @@ use Rattle.jr_spell.specs.declared.references.RefForm.TheVariants as ref
 use Rattle.jr_spell.specs.References.{Reference}
 use Rattle.jr_spell.specs.Binds.{LeadsTo, LeadsIn}
 use Rattle.jr_rewrite.specs.Respellings.{Choice}
-use Rattle.jr_rename.specs.Images.{
+use Rattle.jr_images.specs.Images.{
   Renaming,
   name_to,
   class_to,
@@ -42,8 +42,8 @@ use Rattle.jr_rename.specs.Images.{
   rows_to,
   scope_to,
 }
-use Rattle.jr_rename.specs.Spelling as spelling
-use Rattle.jr_rename.specs.Spelling.{operand_of, reference, behind_words, dotted, TypeLeads}
+use Rattle.jr_images.specs.Spelling as spelling
+use Rattle.jr_images.specs.Spelling.{operand_of, reference, behind_words, dotted, TypeLeads}
 
 -- trees don't come into what is said here
 abbrev pub unmarked : ℕ → ℕ → ℕ

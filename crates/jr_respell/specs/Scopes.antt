@@ -9,9 +9,9 @@ use Rattle.jr_table.specs.Scope.{Scope, ScopeLocal}
 use Rattle.jr_table.specs.Context.{Context}
 use Rattle.jr_scopes.specs.Helds.{Held, key_of, local_of}
 use Rattle.jr_scopes.specs.Tracked.{Tracked, helds_of}
-use Rattle.jr_rename.specs.Images.{Renaming, name_to, class_to, member_to, scope_to}
-use Rattle.jr_rename.specs.Images as images
-use Rattle.jr_rename.specs.ImageView.{renaming_of}
+use Rattle.jr_images.specs.Images.{Renaming, name_to, class_to, member_to, scope_to}
+use Rattle.jr_images.specs.Images as images
+use Rattle.jr_images.specs.ImageView.{renaming_of}
 use Rattle.jr_respell.specs.declared.programs.Programs as raw_programs
 use Rattle.jr_respell.specs.declared.scopes.Scopes as raw
 

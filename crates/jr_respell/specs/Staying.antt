@@ -9,7 +9,7 @@ use Rattle.jr_table.specs.Lookup.{FindsVariable, decl_at}
 use Rattle.jr_lookup.specs.ScopeView.{scope_of}
 use Rattle.jr_scopes.specs.Helds.{key_of, last_number}
 use Rattle.jr_scopes.specs.Tracked.{helds_of}
-use Rattle.jr_rename.specs.Images.{is_renamed}
+use Rattle.jr_images.specs.Images.{is_renamed}
 use Rattle.jr_respell.specs.declared.scopes.Scopes as raw
 use Rattle.jr_respell.specs.Scopes.{naming_of, member_of}
 

@@ -11,7 +11,7 @@ use Rattle.jr_spell.specs.References.{Reference}
 use Rattle.jr_spell.specs.ReferenceView.{reference_of}
 use Rattle.jr_spell.specs.Taken.{IsTaken, NoneBinds}
 use Rattle.jr_rewrite.specs.Respellings.{Choice, loses}
-use Rattle.jr_rename.specs.Spelling.{spelled, renamed}
+use Rattle.jr_images.specs.Spelling.{spelled, renamed}
 use Rattle.jr_respell.specs.declared.asking.Asked as raw
 
 -- a reference as it is asked: the image of its declaration, and the name of that

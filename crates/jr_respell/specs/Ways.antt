@@ -29,8 +29,8 @@ use Rattle.jr_spell.specs.declared.references.RefForm.{RefForm}
 use Rattle.jr_spell.specs.declared.references.RefForm.TheVariants as ref
 use Rattle.jr_spell.specs.References.{Reference, Operand}
 use Rattle.jr_rewrite.specs.Respellings.{Choice}
-use Rattle.jr_rename.specs.Images.{Renaming, name_to, decl_to, rows_to, scope_to}
-use Rattle.jr_rename.specs.Spelling.{operand_of, dotted}
+use Rattle.jr_images.specs.Images.{Renaming, name_to, decl_to, rows_to, scope_to}
+use Rattle.jr_images.specs.Spelling.{operand_of, dotted}
 use Rattle.jr_respell.specs.declared.ways.Way as raw
 use Rattle.jr_respell.specs.declared.ways.Way.TheVariants as variant
 use Rattle.jr_respell.specs.Chosen.{ChoosesOf}

@@ -10,7 +10,7 @@ use crate::scopes::Scopes;
 use crate::taking::chosen;
 use crate::ways::Way;
 use jr_ast::Name;
-use jr_rename::{class_to, types_to};
+use jr_images::{class_to, types_to};
 use jr_table::{ClassKey, Tys};
 use std::alloc::{AllocError, Global};
 

@@ -9,7 +9,7 @@ ghost use Rattle.jr_spell.specs.ReferenceView.{reference_of};
 ghost use Rattle.jr_spell.specs.Taken.{IsTaken, NoneBinds};
 ghost use Rattle.jr_rewrite.specs.Respellings as respellings;
 ghost use Rattle.jr_rewrite.specs.RespellingView.{front_view};
-ghost use Rattle.jr_rename.specs.Spelling as pure;
+ghost use Rattle.jr_images.specs.Spelling as pure;
 ghost use Rattle.jr_respell.specs.ChoiceView.{front_of, lost_of, choice_of};
 ghost use Rattle.jr_respell.specs.Scopes.{IsKept, rows_to, place_to};
 ghost use Rattle.jr_respell.specs.Taking.{Takes, asked_of};

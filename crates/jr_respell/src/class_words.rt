@@ -6,7 +6,7 @@ ghost use Rattle.jr_respell.specs.Chosen.{LeadsFirst, LeadsBehind};
 
 use crate::nearby::near;
 use crate::scopes::Scopes;
-use jr_rename::class_to;
+use jr_images::class_to;
 use jr_spell::{leads_in, leads_simply};
 use jr_table::{ClassKey, lookups_are_exact};
 use std::alloc::{AllocError, Global};

@@ -27,8 +27,8 @@ use crate::looking::{variable_of, variable_to};
 use crate::programs::Programs;
 use crate::scopes::Scopes;
 use jr_ast::Name;
+use jr_images::class_to;
 use jr_lookup::{field_of, member_type, type_named};
-use jr_rename::class_to;
 use jr_table::{ClassKey, Decl, Found, Table, lookups_are_exact};
 use std::alloc::{AllocError, Global};
 

@@ -4,16 +4,16 @@ ghost use Rattle.jr_table.specs.Decls.{local_decl};
 ghost use Rattle.jr_table.specs.KeyView.{member_key_of, decl_of};
 ghost use Rattle.jr_scopes.specs.Helds.{key_of};
 ghost use Rattle.jr_rewrite.specs.Rewrites.{declared_by};
-ghost use Rattle.jr_rename.specs.Images as images;
-ghost use Rattle.jr_rename.specs.ImageView.{renaming_of};
-ghost use Rattle.jr_rename.specs.Spelling as pure;
+ghost use Rattle.jr_images.specs.Images as images;
+ghost use Rattle.jr_images.specs.ImageView.{renaming_of};
+ghost use Rattle.jr_images.specs.Spelling as pure;
 ghost use Rattle.jr_respell.specs.ChoiceView.{choice_of};
 
 use crate::choices::Choice;
 use crate::choosing::renaming;
 use crate::scopes::local_name;
 use jr_ast::Name;
-use jr_rename::NewName;
+use jr_images::NewName;
 use jr_table::{Decl, MemberKey};
 use std::alloc::{AllocError, Global};
 

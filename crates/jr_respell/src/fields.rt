@@ -11,7 +11,7 @@ use crate::scopes::Scopes;
 use crate::taking::chosen;
 use crate::ways::Way;
 use jr_ast::Name;
-use jr_rename::class_to;
+use jr_images::class_to;
 use jr_table::ClassKey;
 use std::alloc::{AllocError, Global};
 

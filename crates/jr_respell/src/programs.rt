@@ -1,5 +1,5 @@
 //! A program beside the one in which declarations have another name.
-use jr_rename::NewName;
+use jr_images::NewName;
 use jr_table::Table;
 
 /// A program, the program with the images of its rows, and the declarations that get another name.

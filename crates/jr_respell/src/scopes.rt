@@ -5,14 +5,14 @@ ghost use Rattle.jr_table.specs.Entries.{class_of_member};
 ghost use Rattle.jr_table.specs.TypeView.{class_key_of};
 ghost use Rattle.jr_table.specs.KeyView.{member_key_of};
 ghost use Rattle.jr_scopes.specs.Helds.{key_of};
-ghost use Rattle.jr_rename.specs.Images as pure;
-ghost use Rattle.jr_rename.specs.ImageView.{renaming_of};
+ghost use Rattle.jr_images.specs.Images as pure;
+ghost use Rattle.jr_images.specs.ImageView.{renaming_of};
 
 use crate::programs::Programs;
 use jr_ast::Name;
-use jr_scopes::{Held, Locals};
+use jr_images::{NewName, class_to, member_to};
 use jr_lookup::{Scope, ScopeLocals};
-use jr_rename::{NewName, class_to, member_to};
+use jr_scopes::{Held, Locals};
 use jr_table::{ClassKey, MemberKey};
 use std::alloc::{AllocError, Global};
 

@@ -25,7 +25,7 @@ use crate::scopes::Scopes;
 use crate::staying_by::stays_by;
 use crate::ways::{Way, leads_to};
 use jr_ast::Name;
-use jr_rename::decl_to;
+use jr_images::decl_to;
 use jr_table::{Decl, Tys, lookups_are_exact};
 use std::alloc::{AllocError, Global};
 

@@ -3,7 +3,7 @@ ghost use Rattle.std.specs.Prelude.{◌≡◌, IfOk, option_map, Some};
 ghost use Rattle.jr_table.specs.TypeView.{class_key_of};
 ghost use Rattle.jr_table.specs.KeyView.{decl_of};
 ghost use Rattle.jr_spell.specs.ReferenceView as view;
-ghost use Rattle.jr_rename.specs.Spelling.{operand_of, dotted};
+ghost use Rattle.jr_images.specs.Spelling.{operand_of, dotted};
 ghost use Rattle.jr_respell.specs.Ways as pure;
 
 use jr_ast::Name;

@@ -8,7 +8,7 @@ use Rattle.jr_table.specs.Decls.{Decl}
 use Rattle.jr_mentions.specs.Apart.{AreApart}
 use Rattle.jr_mentions.specs.ApartView.{names_in}
 use Rattle.jr_mentions.specs.declared.names.Apart.{Apart}
-use Rattle.jr_rename.specs.Images.{Renaming, rows_to}
+use Rattle.jr_images.specs.Images.{Renaming, rows_to}
 use Rattle.jr_rewriting.specs.declared.unaffected.Unaffected as raw
 use Rattle.jr_rewriting.specs.Unaffected.{IsAmong, AreAmong, AreAvoidable, local_in, IsUnaffectedBy}
 

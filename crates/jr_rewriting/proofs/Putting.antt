@@ -15,8 +15,8 @@ use Rattle.jr_table.specs.Rows.{Row}
 use Rattle.jr_bind.specs.Bounds.{Bound}
 use Rattle.jr_bind.specs.Programs.{Program, IsProgram, AreBound, units_of}
 use Rattle.jr_program_laws.specs.FileParts.{begins}
-use Rattle.jr_rename.specs.Images.{Renaming}
-use Rattle.jr_rename.specs.Spelling.{spelling}
+use Rattle.jr_images.specs.Images.{Renaming}
+use Rattle.jr_images.specs.Spelling.{spelling}
 use Rattle.jr_renaming.specs.declared.outputs.Output as raw
 use Rattle.jr_renaming.specs.OutputView.{gathered}
 use Rattle.jr_renaming.specs.Effects.{Effect, no_effect, both}

@@ -14,8 +14,8 @@ use Rattle.jr_members.specs.WrittenMembers.{WrittenMember}
 use Rattle.jr_bind.specs.Programs.{Program}
 use Rattle.jr_program_laws.specs.FileParts.{begins}
 use Rattle.jr_grammar.specs.Layout.{itself}
-use Rattle.jr_rename.specs.Images.{Renaming}
-use Rattle.jr_rename.specs.Spelling.{spelling}
+use Rattle.jr_images.specs.Images.{Renaming}
+use Rattle.jr_images.specs.Spelling.{spelling}
 use Rattle.jr_renaming.specs.Effects.{Effect, no_effect}
 use Rattle.jr_renaming.specs.Files.{PartGives, OneGives}
 use Rattle.jr_mentions.specs.Apart.{is_among, IsOther}

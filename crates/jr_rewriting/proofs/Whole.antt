@@ -20,11 +20,11 @@ use Rattle.jr_rewrite.specs.Rewrites.{RewritesUnit, RewritesUnits}
 use Rattle.jr_rewrite.specs.Edited.{entries_of, AreInOrder}
 use Rattle.jr_respell.specs.declared.choices.Lost as raw
 use Rattle.jr_respell.specs.ChoiceView.{lost_of}
-use Rattle.jr_rename.specs.Images.{Renaming}
-use Rattle.jr_rename.specs.Spelling.{spelling}
-use Rattle.jr_rename.specs.Refusals as refusals
-use Rattle.jr_rename.specs.RenameLaws.{KeepsAll}
-use Rattle.jr_rename.specs.TextLaws.{AreNamed, RenamedTextsRead}
+use Rattle.jr_images.specs.Images.{Renaming}
+use Rattle.jr_images.specs.Spelling.{spelling}
+use Rattle.jr_images.specs.Refusals as refusals
+use Rattle.jr_images.specs.RenameLaws.{KeepsAll}
+use Rattle.jr_images.specs.TextLaws.{AreNamed, RenamedTextsRead}
 use Rattle.jr_renaming.specs.Effects.{Effect, effect_of}
 use Rattle.jr_renaming.specs.FileLaws.{AreGathered, AreRewritten}
 use Rattle.jr_grammar.specs.Layout.{itself}

@@ -5,8 +5,8 @@ use Rattle.jr_table.specs.Context.{Context}
 use Rattle.jr_members.specs.WrittenMembers.{WrittenMember, written_members}
 use Rattle.jr_bind.specs.Programs.{Program, units_of}
 use Rattle.jr_program_laws.specs.FileParts.{begins}
-use Rattle.jr_rename.specs.Images.{Renaming}
-use Rattle.jr_rename.specs.Spelling.{spelling}
+use Rattle.jr_images.specs.Images.{Renaming}
+use Rattle.jr_images.specs.Spelling.{spelling}
 use Rattle.jr_renaming.specs.declared.outputs.Output as raw
 use Rattle.jr_renaming.specs.OutputView.{gathered}
 use Rattle.jr_renaming.specs.Effects.{Effect, both}

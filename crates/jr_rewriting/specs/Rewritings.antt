@@ -7,10 +7,10 @@ use Rattle.jr_bind.specs.Programs.{Program, units_of}
 use Rattle.jr_rewrite.specs.Respellings.{Loss}
 use Rattle.jr_rewrite.specs.Rewritten.{Rewritten}
 use Rattle.jr_rewrite.specs.Edited.{entries_of}
-use Rattle.jr_rename.specs.Images.{Renaming}
-use Rattle.jr_rename.specs.Refusals.{IsFirstLoss}
-use Rattle.jr_rename.specs.RenameLaws.{KeepsAll}
-use Rattle.jr_rename.specs.Renames.{Rewrite}
+use Rattle.jr_images.specs.Images.{Renaming}
+use Rattle.jr_images.specs.Refusals.{IsFirstLoss}
+use Rattle.jr_images.specs.RenameLaws.{KeepsAll}
+use Rattle.jr_images.specs.Renames.{Rewrite}
 use Rattle.jr_grammar.specs.Layout.{itself}
 
 -- The files are rewritten with these edits, so many references are respelled in all, and this is

@@ -17,7 +17,7 @@ use Rattle.jr_mentions.specs.Apart.{is_among, AreApart, IsCleanMember}
 use Rattle.jr_mentions.specs.ApartView.{names_in}
 use Rattle.jr_mentions.specs.Avoids.{AvoidsPart}
 use Rattle.jr_members.specs.WrittenMembers.{WrittenMember}
-use Rattle.jr_rename.specs.Images.{Renaming, rows_to}
+use Rattle.jr_images.specs.Images.{Renaming, rows_to}
 use Rattle.jr_rewriting.specs.declared.unaffected.Unaffected as raw
 
 -- a field or a method of one of the names

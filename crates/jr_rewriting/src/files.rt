@@ -9,10 +9,10 @@ ghost use Rattle.jr_rewriting.specs.Unaffected.{IsUnaffectedBy, AvoidsAll};
 
 use crate::unaffected::Unaffected;
 use jr_bind::View;
+use jr_images::rows_are_named;
 use jr_members::WrittenMember;
 use jr_mentions::apart_look_alike;
 use jr_parts::{part, written_members_are_sound};
-use jr_rename::rows_are_named;
 use jr_renaming::{Output, new_output};
 use jr_respell::Programs;
 use jr_spared::spared_give_nothing;

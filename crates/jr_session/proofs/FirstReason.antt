@@ -15,12 +15,12 @@ use Rattle.jr_bind.specs.Programs.{File, Program, units_of}
 use Rattle.jr_program_laws.specs.PlaceLaws.{PartsArePlaced}
 use Rattle.jr_rewrite.specs.Edited.{entries_of}
 use Rattle.jr_rewrite.specs.Rewritten.{Rewritten}
-use Rattle.jr_rename.specs.ImageLaws.{RenamingsStayFair}
-use Rattle.jr_rename.specs.Images.{Renaming}
-use Rattle.jr_rename.specs.Renames as renames
-use Rattle.jr_rename.specs.TextLaws.{RowsAreNamed, NamesHaveNoDot}
+use Rattle.jr_rename_laws.specs.ImageLaws.{RenamingsStayFair}
+use Rattle.jr_images.specs.Images.{Renaming}
+use Rattle.jr_images.specs.Renames as renames
+use Rattle.jr_images.specs.TextLaws.{RowsAreNamed, NamesHaveNoDot}
 use Rattle.jr_cursor.specs.TargetLaws.{OneIsTarget}
-use Rattle.jr_one_plan.specs.OnePlan.{PlanIsOne, RewritingIsOne, RefusesSo, PlansSo}
+use Rattle.jr_rename_laws.specs.OnePlan.{PlanIsOne, RewritingIsOne, RefusesSo, PlansSo}
 use Rattle.jr_sources.specs.Asking.{CanStand}
 use Rattle.jr_sources.specs.BindingErrors.{IsFirstWrong}
 use Rattle.jr_sources.specs.ReadingLaws.{HasOneReading}

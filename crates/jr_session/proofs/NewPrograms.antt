@@ -22,13 +22,13 @@ use Rattle.jr_program_laws.specs.FileParts.{begins}
 use Rattle.jr_rewrite.specs.AlongMembers.{AlongUnits}
 use Rattle.jr_rewrite.specs.Rewritten.{Rewritten}
 use Rattle.jr_rewrite.proofs.UnbaredMembers.{unit_bare}
-use Rattle.jr_rename.specs.ImageLaws.{without_marks, AreImages, PlansBecome}
-use Rattle.jr_rename.specs.Images.{Renaming, class_to, method_to, member_to, rows_to}
-use Rattle.jr_rename.specs.Keeping.{IsKept, IsWritten, IsSuperKept, IsParentKept}
-use Rattle.jr_rename.specs.RenameLaws.{trees_of}
-use Rattle.jr_rename.specs.TextLaws.{RowsAreNamed, NamesHaveNoDot}
-use Rattle.jr_renamed.specs.PlanLaws.{IsPlanIn, NewTextsRead, ReferencesStay, NewProgramsAreImages}
-use Rattle.jr_class_rename.specs.ClassLaws.{BuiltRowsAreImages, ConstructorsGiveImages}
+use Rattle.jr_rename_laws.specs.ImageLaws.{without_marks, AreImages, PlansBecome}
+use Rattle.jr_images.specs.Images.{Renaming, class_to, method_to, member_to, rows_to}
+use Rattle.jr_images.specs.Keeping.{IsKept, IsWritten, IsSuperKept, IsParentKept}
+use Rattle.jr_images.specs.RenameLaws.{trees_of}
+use Rattle.jr_images.specs.TextLaws.{RowsAreNamed, NamesHaveNoDot}
+use Rattle.jr_rename_laws.specs.PlanLaws.{IsPlanIn, NewTextsRead, ReferencesStay, NewProgramsAreImages}
+use Rattle.jr_rename_laws.specs.ClassLaws.{BuiltRowsAreImages, ConstructorsGiveImages}
 use Rattle.jr_dispatch.specs.Kept.{DispatchIsKept}
 use Rattle.jr_sources.specs.Sources.{Source}
 use Rattle.jr_sources.specs.Whole.{IsProgramOf}

@@ -16,11 +16,11 @@ use Rattle.jr_build.specs.Heads.{UnitsHeads}
 use Rattle.jr_bind.specs.Programs.{File, Program, units_of}
 use Rattle.jr_program_laws.specs.FileParts.{begins}
 use Rattle.jr_rewrite.specs.Rewritten.{Rewritten}
-use Rattle.jr_rename.specs.Images.{Renaming, rows_to}
-use Rattle.jr_rename.specs.ImageLaws.{without_marks, Becomes, AreImages, PlansBecome}
-use Rattle.jr_rename.specs.TextLaws.{RowsAreNamed, NamesHaveNoDot}
-use Rattle.jr_renamed.specs.PlanLaws.{IsPlanIn, IsNoClass, NewProgramsAreImages}
-use Rattle.jr_class_rename.specs.ClassLaws.{BuiltRowsAreImages, ConstructorsGiveImages}
+use Rattle.jr_images.specs.Images.{Renaming, rows_to}
+use Rattle.jr_rename_laws.specs.ImageLaws.{without_marks, Becomes, AreImages, PlansBecome}
+use Rattle.jr_images.specs.TextLaws.{RowsAreNamed, NamesHaveNoDot}
+use Rattle.jr_rename_laws.specs.PlanLaws.{IsPlanIn, IsNoClass, NewProgramsAreImages}
+use Rattle.jr_rename_laws.specs.ClassLaws.{BuiltRowsAreImages, ConstructorsGiveImages}
 use Rattle.jr_sources.specs.Sources.{Source}
 use Rattle.jr_sources.specs.Whole.{IsProgramOf}
 use Rattle.jr_sources.proofs.Analysing.{counts}

@@ -15,9 +15,9 @@ use Rattle.jr_bind.specs.Programs.{Program, units_of}
 use Rattle.jr_program_laws.specs.FileParts.{begins}
 use Rattle.jr_rewrite.specs.Rewrites.{Choosing, RewritesUnits}
 use Rattle.jr_rewrite.specs.Rewritten.{Rewritten}
-use Rattle.jr_rename.specs.ImageLaws.{without_marks, AreImages}
-use Rattle.jr_rename.specs.Images.{rows_to}
-use Rattle.jr_renamed.specs.PlanLaws.{IsPlanIn, IsNoClass, NewTextsRead, NewProgramsStayClean}
+use Rattle.jr_rename_laws.specs.ImageLaws.{without_marks, AreImages}
+use Rattle.jr_images.specs.Images.{rows_to}
+use Rattle.jr_rename_laws.specs.PlanLaws.{IsPlanIn, IsNoClass, NewTextsRead, NewProgramsStayClean}
 use Rattle.jr_sources.specs.FirstFault.{AreRead, AreProgram, package_line, package_lines}
 use Rattle.jr_sources.specs.Sources.{Source}
 use Rattle.jr_sources.specs.Whole.{IsProgramOf}

@@ -11,11 +11,11 @@ use Rattle.jr_table.specs.Rows.{Row}
 use Rattle.jr_names.specs.Replies.{Outcome, planned, not_planned}
 use Rattle.jr_names.specs.Sites.{DepPair}
 use Rattle.jr_bind.specs.Programs.{File, Program, units_of}
-use Rattle.jr_rename.specs.Images.{rows_to}
-use Rattle.jr_renamed.specs.PlanLaws.{IsPlanIn}
-use Rattle.jr_rename_plan.specs.Afters.{PlansRows, IsAfter}
-use Rattle.jr_rename_plan.specs.declared.afters.After.{After}
-use Rattle.jr_rename_plan.specs.declared.afters.After.TheVariants as after
+use Rattle.jr_images.specs.Images.{rows_to}
+use Rattle.jr_rename_laws.specs.PlanLaws.{IsPlanIn}
+use Rattle.jr_rename.specs.Afters.{PlansRows, IsAfter}
+use Rattle.jr_rename.specs.declared.afters.After.{After}
+use Rattle.jr_rename.specs.declared.afters.After.TheVariants as after
 use Rattle.jr_sources.specs.declared.analyses.Analysis.{Analysis}
 use Rattle.jr_sources.specs.declared.analyses.EarlierAnalysis.{EarlierAnalysis}
 use Rattle.jr_sources.specs.Sources.{Source}

@@ -16,8 +16,8 @@ use Rattle.jr_punit.specs.OneReading.{OneReading}
 use Rattle.jr_bind.specs.Programs.{File, Program, units_of}
 use Rattle.jr_rewrite.specs.Rewrites.{Choosing, RewritesUnits}
 use Rattle.jr_rewrite.specs.Rewritten.{Rewritten}
-use Rattle.jr_rename.specs.ImageLaws.{without_marks}
-use Rattle.jr_renamed.specs.PlanLaws.{IsPlanIn, IsNewText, NewTextsRead}
+use Rattle.jr_rename_laws.specs.ImageLaws.{without_marks}
+use Rattle.jr_rename_laws.specs.PlanLaws.{IsPlanIn, IsNewText, NewTextsRead}
 use Rattle.jr_sources.specs.FirstFault.{AreRead}
 use Rattle.jr_sources.specs.Sources.{Source}
 use Rattle.jr_sources.specs.Whole.{IsProgramOf}

@@ -10,8 +10,8 @@ use Rattle.jr_grammar.specs.Layout.{itself}
 use Rattle.jr_table.specs.Decls.{Decl}
 use Rattle.jr_names.specs.Refusals.{Refusal, no_such_file, bad_place, bad_name, source_error, would_not_compile, too_long}
 use Rattle.jr_bind.specs.Programs.{Program, units_of}
-use Rattle.jr_rename.specs.Renames as renames
-use Rattle.jr_one_plan.specs.OnePlan.{HasOnePlan, PlanIsOne}
+use Rattle.jr_images.specs.Renames as renames
+use Rattle.jr_rename_laws.specs.OnePlan.{HasOnePlan, PlanIsOne}
 use Rattle.jr_program_laws.specs.PlaceLaws.{PartsArePlaced}
 use Rattle.jr_members.specs.WrittenLaws.{MembersAreWritten}
 use Rattle.jr_sources.specs.Asking.{CanStand}

@@ -11,7 +11,7 @@ use Rattle.jr_sources.specs.Sources.{Differ}
 use Rattle.jr_session.specs.States.{State, IsUndone, IsRedone}
 use Rattle.jr_session.specs.Refusing.{IsFirstRefusal, IsGranted}
 use Rattle.jr_members.specs.WrittenLaws.{MembersAreWritten}
-use Rattle.jr_one_plan.specs.OnePlan.{PlanIsOne}
+use Rattle.jr_rename_laws.specs.OnePlan.{PlanIsOne}
 use Rattle.jr_program_laws.specs.PlaceLaws.{PartsArePlaced}
 use Rattle.jr_sources.proofs.Analysing.{OneItems}
 use Rattle.jr_sources.specs.ReadingLaws.{HasOneReading}

@@ -19,19 +19,19 @@ use Rattle.jr_bind.specs.SuperPlaces.{writes_super}
 use Rattle.jr_program_laws.specs.FileParts.{begins}
 use Rattle.jr_rewrite.specs.Edited.{entries_of}
 use Rattle.jr_rewrite.specs.Rewritten.{Rewritten}
-use Rattle.jr_rename.specs.Clashes.{IsClear}
-use Rattle.jr_rename.specs.Families.{AreRenamed}
-use Rattle.jr_rename.specs.ImageLaws.{RenamingsStayFair}
-use Rattle.jr_rename.specs.Images.{Renaming}
-use Rattle.jr_rename.specs.Refusals.{ChangesDispatch}
-use Rattle.jr_rename.specs.RenameLaws.{IsFair}
-use Rattle.jr_rename.specs.Renames as renames
-use Rattle.jr_rename.specs.TextLaws.{RowsAreNamed, NamesHaveNoDot}
+use Rattle.jr_images.specs.Clashes.{IsClear}
+use Rattle.jr_images.specs.Families.{AreRenamed}
+use Rattle.jr_rename_laws.specs.ImageLaws.{RenamingsStayFair}
+use Rattle.jr_images.specs.Images.{Renaming}
+use Rattle.jr_images.specs.Refusals.{ChangesDispatch}
+use Rattle.jr_images.specs.RenameLaws.{IsFair}
+use Rattle.jr_images.specs.Renames as renames
+use Rattle.jr_images.specs.TextLaws.{RowsAreNamed, NamesHaveNoDot}
 use Rattle.jr_cursor.specs.TargetLaws.{OneIsTarget}
-use Rattle.jr_one_plan.specs.OnePlan.{AreAlike, RewritingIsOne, PlansSo, RefusesSo}
-use Rattle.jr_one_plan.proofs.Alike.{renamed_alike}
-use Rattle.jr_one_plan.proofs.OneProgram.{beside, IsWhole, file_at, is_beside, super_same, target_to}
-use Rattle.jr_one_plan.proofs.OneRefusal.{change_to}
+use Rattle.jr_rename_laws.specs.OnePlan.{AreAlike, RewritingIsOne, PlansSo, RefusesSo}
+use Rattle.jr_rename_laws.proofs.Alike.{renamed_alike}
+use Rattle.jr_rename_laws.proofs.OneProgram.{beside, IsWhole, file_at, is_beside, super_same, target_to}
+use Rattle.jr_rename_laws.proofs.OneRefusal.{change_to}
 use Rattle.jr_session.specs.Refusing.{rank_of}
 use Rattle.jr_session.specs.RenameReasons as reason
 use Rattle.jr_session.specs.RenameReasons.{Targets, IsPlanReason}

@@ -4,7 +4,7 @@ use Rattle.std.specs.Prelude.{Some, slice_get}
 use Rattle.jr_text.specs.declared.spans.Span.{Span}
 use Rattle.jr_names.specs.Replies.{Outcome}
 use Rattle.jr_bind.specs.Programs.{File, Program}
-use Rattle.jr_rename_plan.specs.Plans.{Plans}
+use Rattle.jr_rename.specs.Plans.{Plans}
 use Rattle.jr_sources.specs.Sources.{Source}
 use Rattle.jr_sources.specs.Whole.{IsProgramOf}
 use Rattle.jr_sources.proofs.AllRead.{element, text_there}

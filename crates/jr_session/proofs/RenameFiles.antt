@@ -7,7 +7,7 @@ use Rattle.jr_text.specs.Edits.{Entry}
 use Rattle.jr_ast.specs.MemberTree as syntax
 use Rattle.jr_ast.specs.MemberTree.{Unit as UnitTree}
 use Rattle.jr_bind.specs.Programs.{File, Program, units_of}
-use Rattle.jr_rename.specs.Renames as renames
+use Rattle.jr_images.specs.Renames as renames
 use Rattle.jr_rewrite.specs.Rewrites.{Choosing, RewritesUnits}
 use Rattle.jr_rewrite.specs.Rewritten.{Rewritten}
 use Rattle.jr_table.specs.Declared.{DeclaredItem}

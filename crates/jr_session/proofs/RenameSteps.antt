@@ -18,7 +18,7 @@ use Rattle.jr_bind.specs.Programs.{File, units_of}
 use Rattle.jr_rewrite.specs.Rewrites.{Choosing, RewritesUnits}
 use Rattle.jr_rewrite.specs.Rewritten.{Rewritten}
 use Rattle.jr_rewrite.specs.Edited.{entries_of}
-use Rattle.jr_renamed.specs.PlanLaws.{IsPlanIn, NewTextsRead}
+use Rattle.jr_rename_laws.specs.PlanLaws.{IsPlanIn, NewTextsRead}
 use Rattle.jr_sources.specs.declared.analyses.SourceFault.{SourceFault}
 use Rattle.jr_sources.specs.Analysed.{IsSourceWrong, CostsBinding}
 use Rattle.jr_sources.specs.Asking.{IsUnasked}

@@ -4,8 +4,8 @@ use Rattle.jr_text.specs.declared.spans.Span.{Span}
 use Rattle.jr_text.specs.Edits.{Entry}
 use Rattle.jr_table.specs.Decls.{Decl}
 use Rattle.jr_bind.specs.Programs.{Program}
-use Rattle.jr_rename.specs.Images.{rows_to}
-use Rattle.jr_renamed.specs.PlanLaws.{IsPlanIn, IsNoClass}
+use Rattle.jr_images.specs.Images.{rows_to}
+use Rattle.jr_rename_laws.specs.PlanLaws.{IsPlanIn, IsNoClass}
 use Rattle.jr_sources.specs.Sources.{Source}
 use Rattle.jr_sources.specs.Tables.{IsTableOf}
 use Rattle.jr_sources.specs.Whole.{IsProgramOf}

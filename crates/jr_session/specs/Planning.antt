@@ -9,7 +9,7 @@ use Rattle.jr_names.specs.RefusalView.{refusal_of}
 use Rattle.jr_names.specs.Replies.{Outcome, planned, not_planned}
 use Rattle.jr_names.specs.Sites.{DepPair}
 use Rattle.jr_bind.specs.Programs.{Program, units_of}
-use Rattle.jr_rename.specs.Renames.{IsPlanned, IsRefused}
+use Rattle.jr_images.specs.Renames.{IsPlanned, IsRefused}
 use Rattle.jr_sources.specs.Analysed.{IsSourceWrong}
 use Rattle.jr_sources.specs.Sources.{Source}
 use Rattle.jr_sources.specs.Whole.{IsProgramOf}

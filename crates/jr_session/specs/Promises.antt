@@ -18,10 +18,10 @@ use Rattle.jr_bind.specs.Programs.{Program, units_of}
 use Rattle.jr_program_laws.specs.FileParts.{begins}
 use Rattle.jr_rewrite.specs.AlongMembers.{AlongUnits}
 use Rattle.jr_rewrite.specs.Rewritten.{Rewritten}
-use Rattle.jr_rename.specs.ImageLaws.{without_marks, AreImages}
-use Rattle.jr_rename.specs.Images.{class_to, method_to, member_to, rows_to}
-use Rattle.jr_rename.specs.Keeping.{IsKept, IsWritten, IsSuperKept, IsParentKept}
-use Rattle.jr_renamed.specs.PlanLaws.{IsPlanIn}
+use Rattle.jr_rename_laws.specs.ImageLaws.{without_marks, AreImages}
+use Rattle.jr_images.specs.Images.{class_to, method_to, member_to, rows_to}
+use Rattle.jr_images.specs.Keeping.{IsKept, IsWritten, IsSuperKept, IsParentKept}
+use Rattle.jr_rename_laws.specs.PlanLaws.{IsPlanIn}
 use Rattle.jr_sources.specs.Sources.{Source, texts_of}
 use Rattle.jr_sources.specs.Whole.{IsProgramOf}
 use Rattle.jr_session.specs.Renaming.{IsAsked}

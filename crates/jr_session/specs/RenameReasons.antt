@@ -19,8 +19,8 @@ use Rattle.jr_names.specs.Refusals.{
 use Rattle.jr_bind.specs.Programs.{Program, units_of}
 use Rattle.jr_rewrite.specs.Edited.{entries_of}
 use Rattle.jr_rewrite.specs.Rewritten.{Rewritten}
-use Rattle.jr_rename.specs.Images.{Renaming}
-use Rattle.jr_rename.specs.Renames as renames
+use Rattle.jr_images.specs.Images.{Renaming}
+use Rattle.jr_images.specs.Renames as renames
 use Rattle.jr_sources.specs.Asking.{CanStand}
 use Rattle.jr_sources.specs.BindingErrors.{IsFirstWrong}
 use Rattle.jr_sources.specs.Sources.{IsFile, HasName, LacksFile, texts_of}

@@ -6,7 +6,7 @@ use Rattle.jr_text.specs.Edits.{Entry}
 use Rattle.jr_lex.specs.Replacing.{IsName}
 use Rattle.jr_table.specs.Decls.{Decl}
 use Rattle.jr_bind.specs.Programs.{Program, units_of}
-use Rattle.jr_rename.specs.Renames as renames
+use Rattle.jr_images.specs.Renames as renames
 use Rattle.jr_names.specs.Refusals.{Refusal, no_such_file, bad_place, bad_name, source_error}
 use Rattle.jr_names.specs.Refusals.{would_not_compile, too_long}
 use Rattle.jr_sources.specs.Sources.{IsFile, HasName, LacksFile, texts_of, total_of}

@@ -2,8 +2,8 @@
 -- this.
 use Rattle.std.specs.Prelude.{◌≡◌, List, Option, Some}
 use Rattle.jr_text.specs.Edits.{Entry}
-use Rattle.jr_rename_plan.specs.declared.afters.After.{After}
-use Rattle.jr_rename_plan.specs.declared.afters.After.TheVariants as after
+use Rattle.jr_rename.specs.declared.afters.After.{After}
+use Rattle.jr_rename.specs.declared.afters.After.TheVariants as after
 use Rattle.jr_sources.specs.declared.analyses.Analysis.{Analysis}
 use Rattle.jr_sources.specs.declared.analyses.EarlierAnalysis.{EarlierAnalysis}
 use Rattle.jr_sources.specs.Sources.{Source}

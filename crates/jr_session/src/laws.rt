@@ -3,17 +3,18 @@ ghost use Rattle.jr_session.specs.NewTables.{NewTables};
 ghost use Rattle.jr_session.specs.Promises.{RenamesKeepPrograms};
 ghost use Rattle.jr_session.specs.StepLaws.{HasOneAnswer, HasOneShow, RenamesAreRefusedFirst};
 
-use jr_class_rename::{classes_give_images, constructors_give_images};
 use jr_cursor::one_is_target;
 use jr_dispatch::dispatch_is_kept;
+use jr_images::rows_are_named;
 use jr_lex::one_answer;
+use jr_lines::lines_are_told;
 use jr_members::members_are_written;
-use jr_one_plan::{plan_is_one, rewriting_is_one};
 use jr_program_laws::parts_are_placed;
 use jr_punit::one_reading;
-use jr_rename::{plans_become, renamings_stay_fair, rows_are_named};
-use jr_renamed::plans_keep_programs;
-use jr_lines::lines_are_told;
+use jr_rename_laws::{
+    classes_give_images, constructors_give_images, plan_is_one, plans_become, plans_keep_programs,
+    renamings_stay_fair, rewriting_is_one,
+};
 use jr_sources::text_has_one_reading;
 use jr_text::{Span, untouched_bytes_move};
 

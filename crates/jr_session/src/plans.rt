@@ -6,14 +6,14 @@ ghost use Rattle.jr_sources.specs.Analysed.{CostsBinding, IsAnalysis, IsKeptAnal
 ghost use Rattle.jr_sources.specs.BindingErrors.{AreSound};
 ghost use Rattle.jr_sources.specs.KeptReadings.{AreReadings};
 ghost use Rattle.jr_sources.specs.Sources.{AreSources, texts_of};
-ghost use Rattle.jr_rename_plan.specs.declared.afters.After.TheVariants.{Unknown};
+ghost use Rattle.jr_rename.specs.declared.afters.After.TheVariants.{Unknown};
 ghost use Rattle.jr_session.specs.TableTells.{PlanTells};
 ghost use Rattle.jr_session.specs.Planning.{IsPlannedSo, IsOfOutcome};
 
 use crate::laws::new_tables;
 use jr_ast::Name;
 use jr_names::{DepPair, EditLists, Outcome, Refusal, Renaming};
-use jr_rename_plan::{After, plan_at};
+use jr_rename::{After, plan_at};
 use jr_sources::{Analysis, Readings, SourceFault, Sources, Whole, first_error, keep_analysis};
 use jr_steps::Steps;
 use std::alloc::{AllocError, Global};

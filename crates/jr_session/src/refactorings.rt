@@ -16,7 +16,7 @@ use crate::sessions::Session;
 use crate::tries::{Tried, sources_are_program, try_texts};
 use jr_ast::Name;
 use jr_names::{EditLists, Names, Refusal, Reply};
-use jr_rename_plan::After;
+use jr_rename::After;
 use jr_sources::{Analysis, SourceFault, text_has_one_reading};
 use jr_steps::Steps;
 use jr_text::Place;

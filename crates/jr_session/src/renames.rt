@@ -1,7 +1,7 @@
 //! A rename: asked, planned, made, and bound again.
 ghost use Rattle.std.specs.Prelude.{◌≡◌, IfOk, OnErr};
 ghost use Rattle.jr_names.specs.ReplyView.{reply_of};
-ghost use Rattle.jr_rename_plan.specs.declared.afters.After.TheVariants.{Unknown};
+ghost use Rattle.jr_rename.specs.declared.afters.After.TheVariants.{Unknown};
 ghost use Rattle.jr_names.specs.declared.steps.Step.TheVariants.{Rename};
 ghost use Rattle.jr_session.specs.Refactoring.{AsksFor};
 ghost use Rattle.jr_session.specs.Stepping as pure;
@@ -13,8 +13,8 @@ use crate::sessions::Session;
 use crate::shows::source_error;
 use jr_ast::Name;
 use jr_names::Reply;
-use jr_rename_plan::After;
-use jr_renamed::plans_keep_programs;
+use jr_rename::After;
+use jr_rename_laws::plans_keep_programs;
 use jr_sources::{Analysis, refusal_of_request, text_has_one_reading};
 use jr_steps::Steps;
 use std::alloc::{AllocError, Global};

@@ -1,7 +1,7 @@
 //! New texts are tried: what is first wrong with the sources that have them is told, or else they
 //! stay, with what was read and analysed of them.
 ghost use Rattle.std.specs.Prelude.{◌≡◌, length, IfOk, OnErr, Some};
-ghost use Rattle.jr_rename_plan.specs.declared.afters.After.TheVariants.{Same};
+ghost use Rattle.jr_rename.specs.declared.afters.After.TheVariants.{Same};
 ghost use Rattle.jr_sources.specs.Analysed.{CostsBinding, IsAnalysed, IsAnalysis};
 ghost use Rattle.jr_sources.specs.Analysed.{IsKeptAnalysis};
 ghost use Rattle.jr_sources.specs.BindingErrors.{AreSound};
@@ -15,7 +15,7 @@ ghost use Rattle.jr_session.specs.Trying.{changes_file, AreUnchanged, IsOfAnalys
 
 use crate::changes::Change;
 use crate::turns::{exchange_all, readings_of};
-use jr_rename_plan::After;
+use jr_rename::After;
 use jr_sources::{
     Analysed, Analysis, EarlierAnalysis, Readings, SourceFault, Sources, Whole, analyse,
     analyse_same, analyse_with, first_error,

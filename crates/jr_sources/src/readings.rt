@@ -11,8 +11,8 @@ use crate::faults::{FaultKind, ReadingFault};
 use jr_ast::Unit;
 use jr_lex::{Item, ItemKind, LexFault, lex, measure};
 use jr_pexpr::ParseFault;
-use jr_punit::parse_unit;
 use jr_program::Tokens;
+use jr_punit::parse_unit;
 use jr_text::{Span, Text};
 use std::alloc::{AllocError, Global};
 

@@ -11,7 +11,7 @@ use Rattle.jr_spell.specs.declared.references.RefForm.TheVariants as ref
 use Rattle.jr_spell.specs.declared.spellings.Form.TheVariants.{Asked}
 use Rattle.jr_spell.specs.Binds.{last_word}
 use Rattle.jr_spell.specs.Taken.{IsTaken}
-use Rattle.jr_rename.specs.Spelling.{reference, operand_of, behind_words, dotted}
+use Rattle.jr_images.specs.Spelling.{reference, operand_of, behind_words, dotted}
 use Rattle.jr_spared.proofs.Dots.{IsWhole, whole_front, whole_last, dotted_front, dotted_last}
 
 module _ (rows : List Row) (s : Scope) where

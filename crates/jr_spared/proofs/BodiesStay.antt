@@ -17,7 +17,7 @@ use Rattle.jr_mentions.specs.Avoids.{AvoidsMaybe, AvoidsStmt, AvoidsElse, Avoids
 use Rattle.jr_rewrite.specs.Respellings.{stays}
 use Rattle.jr_rewrite.specs.Rewritten.{plain, within, joined, word_out}
 use Rattle.jr_rewrite.specs.Rewrites.{DeclaredOut, RewritesType, RewritesMaybe, RewritesStmt, RewritesElse, RewritesStmts}
-use Rattle.jr_rename.specs.Images.{Renaming, is_renamed, name_to}
+use Rattle.jr_images.specs.Images.{Renaming, is_renamed, name_to}
 use Rattle.jr_spared.proofs.ImagesStay.{IsWithin, within_own, within_after, name_same, local_kept, scope_same}
 use Rattle.jr_spared.proofs.Unmoved.{GivesNothing, both_none, stays_so}
 use Rattle.jr_spared.proofs.Passing.{Known}

@@ -13,7 +13,7 @@ use Rattle.jr_table.specs.Scope.{ScopeLocal, FindsLocal}
 use Rattle.jr_table.specs.Context.{Context, Local, scope_local, scope_of, in_own, after, local_of, parameters}
 use Rattle.jr_table.specs.HeadRules.{plain, types_of, with_parameters}
 use Rattle.jr_mentions.specs.Apart.{IsCleanMember}
-use Rattle.jr_rename.specs.Images.{Renaming, is_renamed, name_to, outer_to, class_to, type_to, types_to, field_to, method_to, ctor_to, member_to, local_to, scope_local_to, scope_to}
+use Rattle.jr_images.specs.Images.{Renaming, is_renamed, name_to, outer_to, class_to, type_to, types_to, field_to, method_to, ctor_to, member_to, local_to, scope_local_to, scope_to}
 use Rattle.jr_spared.specs.Spared.{IsSpared}
 
 pub name_same : (g : Renaming) (d : Decl) (old : List ℕ) → is_renamed g d ≡ false → name_to g d old ≡ old

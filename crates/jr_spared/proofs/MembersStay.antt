@@ -26,7 +26,7 @@ use Rattle.jr_program_laws.specs.FoundTypes.{TypeIsFound, MaybeTypeIsFound, Para
 use Rattle.jr_rewrite.specs.Respellings.{stays}
 use Rattle.jr_rewrite.specs.Rewritten.{plain, within, joined}
 use Rattle.jr_rewrite.specs.Rewrites.{declared_by, with_losses, RewritesType, RewritesParams, RewritesResult, RewritesSuper, RewritesMember, RewritesParent, RewritesHead}
-use Rattle.jr_rename.specs.Images.{Renaming, is_renamed}
+use Rattle.jr_images.specs.Images.{Renaming, is_renamed}
 use Rattle.jr_renaming.specs.Effects.{no_effect}
 use Rattle.jr_renaming.specs.Files.{PartGives}
 use Rattle.jr_spared.specs.Spared.{IsKeyed}

@@ -18,8 +18,8 @@ use Rattle.jr_table.specs.BindingLaws.{IsBound}
 use Rattle.jr_table.specs.Context.{Context, IsSuperclass}
 use Rattle.jr_mentions.specs.Apart.{IsOther, IsClean, IsCleanMember}
 use Rattle.jr_mentions.specs.Alike.{IsCleanFound, LookAlike}
-use Rattle.jr_rename.specs.Images.{Renaming, class_to, field_to, method_to, decl_to, row_to, rows_to}
-use Rattle.jr_rename.specs.OneLocal.{HaveNoDots}
+use Rattle.jr_images.specs.Images.{Renaming, class_to, field_to, method_to, decl_to, row_to, rows_to}
+use Rattle.jr_images.specs.OneLocal.{HaveNoDots}
 use Rattle.jr_spared.specs.Spared.{IsSpared}
 use Rattle.jr_spared.proofs.ImagesStay.{class_same, field_same, method_same}
 

@@ -11,8 +11,8 @@ use Rattle.jr_mentions.specs.Avoids.{AvoidsExp, AvoidsTarget, AvoidsRow}
 use Rattle.jr_rewrite.specs.Respellings.{stays}
 use Rattle.jr_rewrite.specs.Rewritten.{plain, within, joined, word_out, name_out, field_out, super_field_out, Called, simple_call_out, dotted_call_out}
 use Rattle.jr_rewrite.specs.Rewrites.{Choosing, RewritesType, RewritesExp, RewritesTarget, RewritesRow, with_losses}
-use Rattle.jr_rename.specs.Images.{Renaming}
-use Rattle.jr_rename.specs.Spelling.{spelling}
+use Rattle.jr_images.specs.Images.{Renaming}
+use Rattle.jr_images.specs.Spelling.{spelling}
 use Rattle.jr_spared.proofs.ImagesStay.{IsWithin, scope_same}
 use Rattle.jr_spared.proofs.Unmoved.{GivesNothing, both_none, dotted_none}
 use Rattle.jr_spared.proofs.Passing.{Known}

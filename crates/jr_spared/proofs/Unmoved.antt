@@ -4,7 +4,7 @@ use Rattle.std.specs.Cmp.Lexicographic.{bytes_decides}
 use Rattle.std.specs.Prelude.{if◌then◌else◌}
 use Rattle.jr_rewrite.specs.Respellings.{stays, same}
 use Rattle.jr_rewrite.specs.Rewritten.{Rewritten}
-use Rattle.jr_rename.specs.Spelling.{renamed, respelled}
+use Rattle.jr_images.specs.Spelling.{renamed, respelled}
 use Rattle.jr_renaming.specs.Effects.{Effect, no_effect, both, effect_of}
 
 -- something is rewritten so, without an effect

@@ -20,8 +20,8 @@ use Rattle.jr_spell.specs.Taken.{IsTaken}
 use Rattle.jr_rewrite.specs.Respellings.{stays}
 use Rattle.jr_mentions.specs.Apart.{IsOther}
 use Rattle.jr_mentions.specs.Avoids.{AvoidsExp, AvoidsTarget, AvoidsRow}
-use Rattle.jr_rename.specs.Images.{Renaming, name_to, class_to, field_to, local_to, rows_to, scope_to}
-use Rattle.jr_rename.specs.Spelling.{reference, behind_words, operand_of, WordsLead, LocalSpells, OwnFieldSpells, VariableSpells, FieldSpells, SuperFieldSpells, ExpSpells}
+use Rattle.jr_images.specs.Images.{Renaming, name_to, class_to, field_to, local_to, rows_to, scope_to}
+use Rattle.jr_images.specs.Spelling.{reference, behind_words, operand_of, WordsLead, LocalSpells, OwnFieldSpells, VariableSpells, FieldSpells, SuperFieldSpells, ExpSpells}
 use Rattle.jr_spared.proofs.ImagesStay.{IsWithin, name_same, found_own, local_kept, local_same, scope_same}
 use Rattle.jr_spared.proofs.Unmoved.{stays_so}
 use Rattle.jr_spared.proofs.Namesakes.{IsField, found_variable, found_field, found_type, found_inner, type_named, inner_named, field_row}

@@ -19,9 +19,9 @@ use Rattle.jr_mentions.specs.Apart.{IsOther, IsCleanMember}
 use Rattle.jr_mentions.specs.Alike.{LookAlike}
 use Rattle.jr_mentions.specs.Avoids.{AvoidsPart}
 use Rattle.jr_program_laws.specs.FoundTypes.{DeclaresFound}
-use Rattle.jr_rename.specs.Images.{Renaming, is_renamed, rows_to}
-use Rattle.jr_rename.specs.OneLocal.{HaveNoDots}
-use Rattle.jr_rename.specs.Spelling.{spelling}
+use Rattle.jr_images.specs.Images.{Renaming, is_renamed, rows_to}
+use Rattle.jr_images.specs.OneLocal.{HaveNoDots}
+use Rattle.jr_images.specs.Spelling.{spelling}
 use Rattle.jr_renaming.specs.Effects.{no_effect}
 use Rattle.jr_renaming.specs.Files.{PartGives}
 

@@ -6,7 +6,7 @@ use Rattle.jr_renaming.specs.OutputView.{gathered}
 use Rattle.jr_gather.specs.Known.{context_of}
 use Rattle.jr_renaming.specs.Effects.{Gathers}
 use Rattle.jr_rewrite.specs.Rewrites.{RewritesExp}
-use Rattle.jr_rename.specs.Spelling.{spelling}
+use Rattle.jr_images.specs.Spelling.{spelling}
 use Rattle.jr_changes.specs.Ready.{ExpReadyIn}
 use Rattle.jr_changes.specs.Moves.{without_own}
 use Rattle.jr_changes.proofs.Bodying.{moved, moved_back}

@@ -1,6 +1,6 @@
 use Rattle.std.proofs.Common.{ℕ, ◌<◌}
 use Rattle.jr_table.specs.Decls.{Decl}
-use Rattle.jr_rename.specs.Targets.{IsOfPrelude}
+use Rattle.jr_images.specs.Targets.{IsOfPrelude}
 use Rattle.jr_cursor.specs.Listed.{HasNumbered}
 use Rattle.jr_cursor.proofs.targets.has_listed.Given as goal
 

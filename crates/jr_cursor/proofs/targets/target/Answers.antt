@@ -1,5 +1,5 @@
 use Rattle.std.proofs.lemmas.Result.{IfOk-weaker}
-use Rattle.jr_rename.specs.Targets.{HoldsIdentifier}
+use Rattle.jr_images.specs.Targets.{HoldsIdentifier}
 use Rattle.jr_cursor.proofs.Telling.{some_at, lexed, none_told, word_told}
 use Rattle.jr_cursor.proofs.targets.target.Goals as goal
 

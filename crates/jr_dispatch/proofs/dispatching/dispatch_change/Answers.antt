@@ -1,7 +1,7 @@
 use Rattle.std.proofs.Common.{◌≡◌, ℕ, List, Option, Some, None, sym, ap, subst, ◌∙◌}
 use Rattle.std.specs.Prelude.{IfSome, IfNone}
 use Rattle.jr_table.specs.Entries.{entries_of}
-use Rattle.jr_rename.specs.ImageView.{renaming_of}
+use Rattle.jr_images.specs.ImageView.{renaming_of}
 use Rattle.jr_dispatch.specs.Changes.{ChangesAt, IsClassAt, IsFirstChangeAt}
 use Rattle.jr_dispatch.proofs.KeyedChanges.{are_alike, no_change, first_of, shows_class, shows_method}
 use Rattle.jr_dispatch.proofs.dispatching.dispatch_change.Goals as goal

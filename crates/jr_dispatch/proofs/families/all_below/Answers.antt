@@ -3,7 +3,7 @@ use Rattle.std.specs.Prelude.{◌↔◌}
 use Rattle.jr_table.specs.declared.decls.Decl as raw
 use Rattle.jr_table.specs.Decls.{Decl}
 use Rattle.jr_table.specs.KeyView.{decl_of}
-use Rattle.jr_rename.specs.Families.{Among}
+use Rattle.jr_images.specs.Families.{Among}
 use Rattle.jr_dispatch.specs.Highest.{HasBelow}
 use Rattle.jr_dispatch.proofs.Rounds.{none_yet, round}
 use Rattle.jr_dispatch.proofs.families.all_below.Goals as goal

@@ -1,7 +1,7 @@
 use Rattle.std.specs.Prelude.{map, ◌↔◌}
 use Rattle.jr_table.specs.Decls.{Decl}
 use Rattle.jr_table.specs.KeyView.{decl_of}
-use Rattle.jr_rename.specs.Families.{Among}
+use Rattle.jr_images.specs.Families.{Among}
 use Rattle.jr_dispatch.specs.Highest.{HasBelow}
 use Rattle.jr_dispatch.proofs.families.all_below.Given as goal
 

@@ -5,7 +5,7 @@ use Rattle.jr_table.specs.KeyView.{method_key_of, decl_of}
 use Rattle.jr_table.specs.Entries.{entries_of}
 use Rattle.jr_table.specs.Looking.{is_virtual}
 use Rattle.jr_table.proofs.RowLaws.{number_stands}
-use Rattle.jr_rename.specs.Families.{AreRenamed}
+use Rattle.jr_images.specs.Families.{AreRenamed}
 use Rattle.jr_dispatch.specs.Highest.{IsHighest}
 use Rattle.jr_dispatch.proofs.Belows.{ok_then}
 use Rattle.jr_dispatch.proofs.Connected.{without_row, not_virtual, are_all}

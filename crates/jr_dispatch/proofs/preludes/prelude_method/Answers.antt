@@ -1,6 +1,6 @@
 use Rattle.std.proofs.Common.{map, sym, ap, subst, ◌∙◌}
 use Rattle.jr_table.specs.KeyView.{decl_of}
-use Rattle.jr_rename.specs.Refusals.{IsMethod}
+use Rattle.jr_images.specs.Refusals.{IsMethod}
 use Rattle.jr_dispatch.proofs.Telling.{told_method, no_method}
 use Rattle.jr_dispatch.proofs.preludes.prelude_method.Goals as goal
 

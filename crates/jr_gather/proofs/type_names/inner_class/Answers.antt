@@ -9,7 +9,7 @@ use Rattle.jr_table.specs.Binding.{value, left}
 use Rattle.jr_bind_expr.specs.Fits.{FitsNamed, FitsType}
 use Rattle.jr_respell.specs.ChoiceView.{choice_of}
 use Rattle.jr_respell.specs.Chosen as chosen
-use Rattle.jr_rename.specs.Spelling as spells
+use Rattle.jr_images.specs.Spelling as spells
 use Rattle.jr_renaming.specs.Effects.{Effect, both}
 use Rattle.jr_renaming.specs.OutputView as out
 use Rattle.jr_renaming.specs.OutputView.{gathered}

@@ -13,7 +13,7 @@ use Rattle.jr_ast.proofs.Sizes.{exp_size, exps_size, target_size}
 use Rattle.jr_table.specs.Binding.{value, left}
 use Rattle.jr_bind_expr.proofs.Steps.{own_fits, left_is}
 use Rattle.jr_respell.specs.ChoiceView.{choice_of}
-use Rattle.jr_rename.specs.Spelling as spells
+use Rattle.jr_images.specs.Spelling as spells
 use Rattle.jr_renaming.specs.Effects.{Effect}
 use Rattle.jr_renaming.specs.OutputView.{gathered}
 use Rattle.jr_gather.specs.Known.{role_of, rows_of, naming_of, context_of, DottedSpells, ExpReady, RowReady, TargetReady, TypesRow, TypesCreation, CallIsBound, first_of}

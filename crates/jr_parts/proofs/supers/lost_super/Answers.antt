@@ -1,7 +1,7 @@
 use Rattle.std.proofs.Common.{ℕ, subst}
 use Rattle.jr_ast.specs.View.{exprs_of}
 use Rattle.jr_program_laws.specs.FileParts.{begins}
-use Rattle.jr_rename.specs.Spelling.{SuperCtorSpells}
+use Rattle.jr_images.specs.Spelling.{SuperCtorSpells}
 use Rattle.jr_respell.specs.ChoiceView.{choice_of}
 use Rattle.jr_gather.specs.Known.{rows_of, naming_of, context_of}
 use Rattle.jr_gather.proofs.Oks.{on_ok}

@@ -1,6 +1,6 @@
 use Rattle.jr_table.specs.TypeView.{class_key_of}
 use Rattle.jr_table.specs.KeyView.{decl_of}
-use Rattle.jr_rename.specs.Clashes.{ClassClashes}
+use Rattle.jr_images.specs.Clashes.{ClassClashes}
 use Rattle.jr_rename.specs.RowClashes.{class_clashes}
 use Rattle.std.proofs.Common.{ap}
 use Rattle.jr_rename.proofs.ClashTests.{if_some, class_clash_decides, first_row, no_row}

@@ -1,7 +1,7 @@
 use Rattle.std.proofs.Common.{map, sym, ◌∙◌}
 use Rattle.jr_table.specs.KeyView.{decl_of}
 use Rattle.jr_rename.specs.RowClashes.{takes_place, one_takes_place}
-use Rattle.jr_rename.proofs.Imaging.{any_map}
+use Rattle.jr_images.proofs.Imaging.{any_map}
 use Rattle.jr_rename.proofs.ClashTests.{none_takes}
 use Rattle.jr_rename.proofs.row_clashes.one_takes_place.Goals as goal
 

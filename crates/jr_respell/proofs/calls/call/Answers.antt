@@ -3,7 +3,7 @@ use Rattle.std.proofs.lemmas.Result.{IfOk-weaker}
 use Rattle.std.specs.Prelude.{option_map}
 use Rattle.jr_table.specs.Decls.{method_decl}
 use Rattle.jr_table.specs.TypeView.{class_key_of}
-use Rattle.jr_rename.specs.Images.{class_to, types_to}
+use Rattle.jr_images.specs.Images.{class_to, types_to}
 use Rattle.jr_respell.specs.ChoiceView.{choice_of}
 use Rattle.jr_respell.specs.Scopes.{rows_of, naming_of, context_of}
 use Rattle.jr_respell.specs.Ways.{method_on}

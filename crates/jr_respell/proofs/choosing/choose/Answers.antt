@@ -3,7 +3,7 @@ use Rattle.std.specs.Prelude.{IfSome}
 use Rattle.jr_table.specs.KeyView.{decl_of}
 use Rattle.jr_spell.specs.ReferenceView.{reference_of}
 use Rattle.jr_spell.specs.Taken.{IsTaken}
-use Rattle.jr_rename.specs.Spelling.{spelled}
+use Rattle.jr_images.specs.Spelling.{spelled}
 use Rattle.jr_respell.specs.Scopes.{rows_to, place_to}
 use Rattle.jr_respell.proofs.choosing.choose.Goals as goal
 

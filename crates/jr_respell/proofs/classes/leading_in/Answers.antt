@@ -8,7 +8,7 @@ use Rattle.jr_table.specs.LookupLaws.{EachHasOne}
 use Rattle.jr_table.specs.Rows.{Row}
 use Rattle.jr_table.specs.TypeView.{class_key_of}
 use Rattle.jr_spell.specs.Binds.{LeadsIn}
-use Rattle.jr_rename.specs.Images.{class_to}
+use Rattle.jr_images.specs.Images.{class_to}
 use Rattle.jr_respell.specs.ChoiceView.{choice_of}
 use Rattle.jr_respell.specs.Scopes.{naming_of, place_to, rows_to}
 use Rattle.jr_respell.proofs.Founds.{not_nothing, nothing_is, something_is}

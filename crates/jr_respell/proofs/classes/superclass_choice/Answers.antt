@@ -6,12 +6,12 @@ use Rattle.jr_table.specs.FoundView.{found_of}
 use Rattle.jr_table.specs.HeadRules.{TopFinds}
 use Rattle.jr_table.specs.Rows.{Row}
 use Rattle.jr_table.specs.TypeView.{class_key_of}
-use Rattle.jr_rename.specs.Images.{class_to}
+use Rattle.jr_images.specs.Images.{class_to}
 use Rattle.jr_respell.specs.ChoiceView.{choice_of}
 use Rattle.jr_respell.specs.Scopes.{renaming_in, rows_in}
 use Rattle.jr_respell.proofs.Leading.{image_is, leads}
 use Rattle.jr_respell.proofs.TopFounds.{top_one}
-use Rattle.jr_rename.specs.Images as images
+use Rattle.jr_images.specs.Images as images
 use Rattle.jr_respell.proofs.classes.superclass_choice.Goals as goal
 
 pub returns : goal.returns

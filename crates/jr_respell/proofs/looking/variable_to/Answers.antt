@@ -8,7 +8,7 @@ use Rattle.jr_table.specs.FoundView.{found_of}
 use Rattle.jr_table.specs.Lookup.{FindsVariable}
 use Rattle.jr_table.specs.LookupLaws.{KeysAreFound}
 use Rattle.jr_scopes.specs.Helds.{key_of}
-use Rattle.jr_rename.specs.Images.{member_to}
+use Rattle.jr_images.specs.Images.{member_to}
 use Rattle.jr_respell.specs.Scopes.{naming_of, member_of, rows_to, place_to}
 use Rattle.jr_respell.proofs.Kept.{image_last, moved}
 use Rattle.jr_respell.proofs.SimpleNames.{finds_local, finds_bare}

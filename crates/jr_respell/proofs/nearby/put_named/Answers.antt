@@ -2,7 +2,7 @@ use Rattle.std.proofs.Common.{[], ◌∷◌, ◌++◌, map, sym, ap, ◌∙◌}
 use Rattle.std.specs.Prelude.{option_map}
 use Rattle.jr_lookup.specs.LocalView.{local_of}
 use Rattle.jr_scopes.specs.Helds.{key_of}
-use Rattle.jr_rename.specs.Images.{member_to}
+use Rattle.jr_images.specs.Images.{member_to}
 use Rattle.jr_respell.specs.Scopes.{naming_of, member_of}
 use Rattle.jr_respell.specs.Near.{if_found}
 use Rattle.jr_respell.proofs.Growing.{map_push}

@@ -5,7 +5,7 @@ use Rattle.jr_table.specs.Keys.{ClassKey}
 use Rattle.jr_table.specs.Decls.{class_decl}
 use Rattle.jr_table.specs.TypeView.{class_key_of}
 use Rattle.jr_table.specs.Context.{scope_of}
-use Rattle.jr_rename.specs.Images.{class_to}
+use Rattle.jr_images.specs.Images.{class_to}
 use Rattle.jr_respell.specs.ChoiceView.{choice_of}
 use Rattle.jr_respell.specs.Scopes.{rows_of, naming_of, context_of, rows_to, place_to}
 use Rattle.jr_table.specs.Found.{one}

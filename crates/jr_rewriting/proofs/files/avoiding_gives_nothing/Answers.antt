@@ -6,7 +6,7 @@ use Rattle.jr_bind.specs.Programs.{units_of}
 use Rattle.jr_program_laws.specs.FileParts.{begins}
 use Rattle.jr_members.specs.PartView.{written_of}
 use Rattle.jr_mentions.specs.ApartView.{names_in}
-use Rattle.jr_rename.specs.Images.{rows_to}
+use Rattle.jr_images.specs.Images.{rows_to}
 use Rattle.jr_respell.specs.Scopes.{renaming_in}
 use Rattle.jr_rewriting.specs.Unaffected.{local_in, IsUnaffectedBy}
 use Rattle.jr_rewriting.proofs.Sparing.{spared, contained, is_keyed, put_nothing}

@@ -1,4 +1,4 @@
-use Rattle.jr_rename.specs.Images.{rows_to}
+use Rattle.jr_images.specs.Images.{rows_to}
 use Rattle.jr_spared.proofs.MembersStay.{part_gives}
 use Rattle.jr_spared.proofs.laws.spared_give_nothing.Goals as goal
 

@@ -1,7 +1,7 @@
 use Rattle.std.proofs.Common.{map, ap, ◌∙◌}
 use Rattle.jr_scopes.specs.Helds.{held_of, key_of}
 use Rattle.jr_scopes.specs.Tracked.{locals_of}
-use Rattle.jr_rename.specs.Images.{member_to}
+use Rattle.jr_images.specs.Images.{member_to}
 use Rattle.jr_respell.specs.Scopes.{naming_of, member_of}
 use Rattle.jr_respell.proofs.Growing.{push_image, map_push}
 use Rattle.jr_respell.proofs.Oks.{on_both, on_any}

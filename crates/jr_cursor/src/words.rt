@@ -1,0 +1,68 @@
+//! The identifier at a place of a text.
+ghost use Rattle.std.specs.Prelude.{◌≡◌, ◌↔◌, ℕ, List, None, IsTrue, IfOk, IfSome};
+ghost use Rattle.jr_lex.specs.declared.items.Item.{Item};
+ghost use Rattle.jr_lex.specs.declared.items.ItemKind.TheVariants as item;
+ghost use Rattle.jr_lex.specs.declared.items.TokenKind.TheVariants as token;
+ghost use Rattle.jr_lex.specs.Lexes.{Lexes};
+ghost use Rattle.jr_images.specs.Targets.{HoldsIdentifier};
+ghost use Rattle.jr_cursor.specs.Words.{Holds, IsHolder};
+
+use jr_lex::{Item, ItemKind, LexFault, TokenKind, lex};
+use jr_text::Text;
+use std::alloc::{AllocError, Global};
+
+fn is_word(kind: &TokenKind) -> bool
+    ensures { IsTrue result ↔ (kind.now ≡ token.Word) }
+{
+    match kind {
+        TokenKind::Word => true,
+        TokenKind::Keyword(_) => false,
+        TokenKind::Int(_) => false,
+        TokenKind::Text => false,
+        TokenKind::Mark(_) => false,
+    }
+}
+
+fn is_identifier(kind: &ItemKind) -> bool
+    ensures { IsTrue result ↔ (kind.now ≡ item.Token token.Word) }
+{
+    match kind {
+        ItemKind::Token(kind) => is_word(kind),
+        ItemKind::Blank => false,
+        ItemKind::Comment => false,
+    }
+}
+
+/// Whether the item is an identifier that holds the byte.
+fn holds(item: &Item, at: u32) -> bool
+    ensures { IsTrue result ↔ Holds item.now at }
+{
+    is_identifier(&item.kind) & ((item.span.from <= at) & (at < item.span.to))
+}
+
+/// Where the identifier begins that holds the byte.
+fn holder(items: &[Item], at: u32) -> Option<u32>
+    ensures some { IfSome result (IsHolder items.now at) }
+    ensures none { result ≡ None → (from : ℕ) → IsHolder items.now at from → ⊥ }
+{
+    for item in items {
+        if holds(item, at) {
+            return Some(item.span.from);
+        }
+    }
+    None
+}
+
+/// Where the identifier of a text begins that holds the byte, which has no fault of its tokens.
+pub fn identifier_at(alloc: Global, text: &Text, at: u32) -> Result<Option<u32>, AllocError>
+    requires { (items : List Item) × Lexes text.now items }
+    ensures some { IfOk result (λ found. IfSome found (HoldsIdentifier text.now at)) }
+    ensures none { IfOk result (λ found. found ≡ None
+        → (from : ℕ) → HoldsIdentifier text.now at from → ⊥) }
+{
+    match lex(alloc, text) {
+        Ok(items) => Ok(holder(items.as_slice(), at)),
+        Err(LexFault::Memory) => Err(AllocError),
+        Err(_) => unreachable!(),
+    }
+}

@@ -1,0 +1,14 @@
+pub mod Targets
+pub mod Families
+pub mod Images
+pub mod MethodIndex
+pub mod DeclSets
+pub mod ImageView
+pub mod Spelling
+pub mod Clashes
+pub mod Refusals
+pub mod Renames
+pub mod Keeping
+pub mod RenameLaws
+pub mod OneLocal
+pub mod TextLaws

@@ -1,0 +1,111 @@
+-- What is answered, put together from what the calls below answer.
+use Rattle.std.proofs.Common.{◌≡◌, ℕ, ◌<◌, List, Option, Some, None, refl, sym, subst, ◌∙◌, inl, inr, length, arith}
+use Rattle.std.specs.Prelude.{slice_get, option_map}
+use Rattle.std.proofs.lemmas.Option.{slice_get-map, slice_get_cases}
+use Rattle.jr_text.specs.declared.spans.Span.{Span}
+use Rattle.jr_text.specs.Edits.{Entry}
+use Rattle.jr_ast.specs.MemberTree as syntax
+use Rattle.jr_grammar.specs.Reads.{Reads}
+use Rattle.jr_table.specs.Keys.{ClassKey, MethodKey}
+use Rattle.jr_table.specs.Decls.{Decl}
+use Rattle.jr_table.specs.Rows.{Row}
+use Rattle.jr_names.specs.Refusals.{Refusal, prelude_method, override_changed, lost_binding}
+use Rattle.jr_names.specs.Replies.{Outcome, planned, not_planned}
+use Rattle.jr_bind.specs.Programs.{File, Program, IsProgram, units_of}
+use Rattle.jr_rewrite.specs.Respellings.{Loss}
+use Rattle.jr_images.specs.Images.{Renaming}
+use Rattle.jr_images.specs.Refusals.{HasPreludeMethod, ChangesPrelude, IsFirstChange}
+use Rattle.jr_images.specs.Renames as renames
+use Rattle.jr_images.specs.Renames.{Renames, OfPrelude, Clashes, Overrides, IsRefused}
+use Rattle.jr_grammar.specs.Layout.{itself}
+use Rattle.jr_rewriting.specs.Rewritings.{IsRewriting}
+use Rattle.jr_cursor.specs.ProgramTargets.{HasTargetAt}
+use Rattle.jr_rename.specs.Afters.{PlansRows, AnswersRows}
+use Rattle.jr_rename.specs.Answers.{Gives, SparesPrelude, AnswersKeeping, AnswersOf, Answers}
+use Rattle.jr_rename.specs.Plans.{Plans}
+
+pub some_of : {X Y : Type 0} (f : X → Y) (o : Option X) (y : Y) → option_map f o ≡ Some y → (x : X) × (o ≡ Some x) × (f x ≡ y)
+some_of f None y e = absurd cc
+some_of f (Some x) y e = let same : f x ≡ y = cc in (x, refl, same)
+
+pub there : {X : Type 0} (xs : List X) (i : ℕ) → i < length xs → (x : X) × (slice_get xs i ≡ Some x)
+there xs i h =
+    elim (slice_get_cases xs i).1 [
+      | inl found ↦ (found.0, found.2)
+      | inr past ↦ absurd (omega (arith, h, past.0))
+    ]
+
+module _ (p : Program Span) where
+  -- ---- what comes of a renaming
+
+  pub loses : (g : Renaming) (edits : List (List Entry)) (respelled : ℕ) (lost : Option (ℕ × Loss)) → IsRewriting p g edits respelled lost → (file : ℕ) (l : Loss) → lost ≡ Some (file, l)
+      → AnswersKeeping p g (not_planned (lost_binding (record { file = file; at = l.at }) l.declaration l.found))
+  loses g edits respelled lost w file l e = (w.files, file, l, w.are, w.first file l e, refl)
+
+  pub overridden : (g : Renaming) (k : ClassKey) (m : MethodKey) → IsFirstChange p.rows g k m → AnswersOf p g (not_planned (override_changed k m))
+  overridden g k m h = inl (override_changed k m, refl, (k, m, h, refl))
+
+  -- ---- what comes of a target
+
+  pub told : (d : Decl) (new : List ℕ) (g : Renaming) (text : List ℕ) → Gives p d new g → ChangesPrelude p.rows d new text → Answers p d new (not_planned (prelude_method text))
+  told d new g text gives h = (g, gives, inl (prelude_method text, refl, (text, h, refl)))
+
+  pub spares : (d : Decl) (new : List ℕ) → ((text : List ℕ) → ChangesPrelude p.rows d new text → ⊥) → SparesPrelude p d new
+  spares d new none q (text, change, is) = none text change
+
+  pub no_method : (d : Decl) (new : List ℕ) → SparesPrelude p d new → (text : List ℕ) → HasPreludeMethod p.rows d text → ⊥
+  no_method d new none text h = none (prelude_method text) (text, inl h, refl)
+
+  pub reads : {tells : Span → ℕ → Span} {Fits : Span → ℕ → Type 0} → IsProgram tells Fits p → (file : ℕ) (unit : syntax.Unit Span) → slice_get (units_of p) file ≡ Some unit → (bytes : List ℕ) × Reads bytes unit
+  reads h file unit e =
+      let f = some_of (λ (x : File Span). x.unit) (slice_get p.files file) unit (sym (slice_get-map (λ (x : File Span). x.unit) p.files file) ∙ e) in
+      let r = h.reads file f.0 f.1 in
+      (f.0.text, subst (Reads f.0.text) f.2 (record { items = r.items; lexes = r.lexes; is = r.is }))
+
+  -- ---- what is planned
+
+  module _ (file at : ℕ) (new : List ℕ) (d : Decl) (has : HasTargetAt p file at d) where
+    named : (g : Renaming) → Gives p d new g → (f : File Span) → slice_get p.files file ≡ Some f → Renames itself p.rows p.super_at (units_of p) f.text file at new d g
+    named g gives f s = record { target = has f s; renamed = gives.renamed; name = gives.name }
+
+    refused : (r : Refusal) → Answers p d new (not_planned r) → (f : File Span) → slice_get p.files file ≡ Some f → IsRefused itself p.rows p.super_at (units_of p) f.text file at new r
+    refused r (g, gives, inl (q, e, h)) f s =
+        let same : q ≡ r = cc in renames.of_prelude (named g gives f s) (subst (λ (x : Refusal). OfPrelude itself p.rows p.super_at (units_of p) d new x) same h)
+    refused r (g, gives, inr (none, inl (q, e, h))) f s =
+        let same : q ≡ r = cc in renames.clashes (named g gives f s) none (subst (λ (x : Refusal). Clashes itself p.rows p.super_at (units_of p) d new x) same h)
+    refused r (g, gives, inr (none, inr (clear, inl (q, e, h)))) f s =
+        let same : q ≡ r = cc in renames.overrides (named g gives f s) none clear (subst (λ (x : Refusal). Overrides itself p.rows p.super_at (units_of p) g x) same h)
+    refused r (g, gives, inr (none, inr (clear, inr (keeps, h)))) f s = renames.loses (named g gives f s) none clear keeps h
+
+    pub plans : (o : Outcome) → Answers p d new o → Plans p file at new o
+    plans (planned edits renaming respelled lost) (g, gives, inl (q, e, h)) = absurd cc
+    plans (planned edits renaming respelled lost) (g, gives, inr (none, inl (q, e, h))) = absurd cc
+    plans (planned edits renaming respelled lost) (g, gives, inr (none, inr (clear, inl (q, e, h)))) = absurd cc
+    plans (planned edits renaming respelled lost) (g, gives, inr (none, inr (clear, inr (keeps, (w, pairs, nothing))))) = (
+      nothing,
+      λ f s. record {
+        target = d;
+        g = g;
+        renames = named g gives f s;
+        no_prelude = none;
+        clear = clear;
+        dispatch = keeps;
+        files = w.files;
+        rewrite = w.rewrite;
+        kept = w.kept;
+        edits_are = w.edits_are;
+        renaming_is = pairs;
+        respelled_is = w.respelled_is;
+      },
+    )
+    plans (not_planned r) h = refused r h
+
+    -- its new rows have the property
+    pub plans_rows : (o : Outcome) (P : List Row → Type 0) → AnswersRows p d new o P → PlansRows p file at new o P
+    unfolding plans
+    plans_rows (planned edits renaming respelled lost) P ((g, gives, inl (q, e, h)), kept, is) = absurd cc
+    plans_rows (planned edits renaming respelled lost) P ((g, gives, inr (none, inl (q, e, h))), kept, is) = absurd cc
+    plans_rows (planned edits renaming respelled lost) P ((g, gives, inr (none, inr (clear, inl (q, e, h)))), kept, is) = absurd cc
+    plans_rows (planned edits renaming respelled lost) P ((g, gives, inr (none, inr (clear, inr (keeps, (w, pairs, nothing))))), kept, is) =
+        λ f s. ((plans (planned edits renaming respelled lost) (g, gives, inr (none, inr (clear, inr (keeps, (w, pairs, nothing)))))).1 f s, kept, is)
+    plans_rows (not_planned r) P h = tt

@@ -1,9 +1,0 @@
-use Rattle.std.proofs.Common.{◌≡◌, map, take}
-use Rattle.jr_index.specs.Linked.{place_of}
-use Rattle.jr_table.specs.declared.decls.Decl.{Decl}
-use Rattle.jr_table.specs.KeyView.{decl_of}
-use Rattle.jr_rename.specs.MethodIndex.{outer_place}
-use Rattle.jr_rename.proofs.method_index.outer_places.Given as goal
-
-abbrev pub invariant-loop-decl : goal.invariant-loop-decl
-invariant-loop-decl l = map place_of l.places.items ≡ map (λ (d : Decl). outer_place (decl_of d)) (take l.decl-index l.decls)

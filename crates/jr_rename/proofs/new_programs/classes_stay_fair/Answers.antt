@@ -1,5 +1,0 @@
-use Rattle.jr_rename.proofs.ClassFair.{classes_fair}
-use Rattle.jr_rename.proofs.new_programs.classes_stay_fair.Goals as goal
-
-pub returns : goal.returns
-returns A c = classes_fair

@@ -1,5 +1,0 @@
-use Rattle.jr_rename.proofs.LocalImages.{local_images}
-use Rattle.jr_rename.proofs.new_programs.locals_give_images.Goals as goal
-
-pub returns : goal.returns
-returns A B c = local_images c

@@ -1,0 +1,6 @@
+pub mod Standing
+pub mod Beside
+pub mod ImageLaws
+pub mod PlanLaws
+pub mod ClassLaws
+pub mod OnePlan

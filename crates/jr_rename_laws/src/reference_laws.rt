@@ -1,0 +1,29 @@
+//! Laws of rename that no call's clause can carry.
+ghost use Rattle.jr_images.specs.RenameLaws.{ReferencesAreKept};
+ghost use Rattle.jr_images.specs.OneLocal.{LocalsKeepDecls, LocalsKeepRows, LocalsAreFair};
+
+use jr_spell::spellings_rebind;
+use jr_table::{lookups_are_exact, types_are_exact};
+use jr_text::Mark;
+
+/// Where every reference takes the first spelling that binds to the image of its declaration, each
+/// one is bound to that image in the new program, by binding's own relations; each written type
+/// means the image of the type that it meant, each superclass and each written `super(..)` the
+/// image of its class and constructor. For locals, fields, methods with their families and classes
+/// alike, and for all of the language.
+pub fn references_are_kept<A: Mark>()
+    ensures { ReferencesAreKept A }
+{
+    spellings_rebind::<A>();
+    lookups_are_exact();
+    types_are_exact::<A>();
+}
+
+/// Where one local or parameter is renamed, every key is its own image: the new program has the
+/// old rows, and the law on references asks nothing but that the rows are those of a program, with
+/// identifiers for names.
+pub fn locals_keep_keys()
+    ensures decls { LocalsKeepDecls }
+    ensures rows { LocalsKeepRows }
+    ensures fair { LocalsAreFair }
+{}

@@ -1,5 +1,0 @@
-mod Changing
-mod Naming
-mod Answering
-mod LocalRows
-mod Telling

@@ -1,6 +1,0 @@
-pub mod Afters
-pub mod Plans
-pub mod Steps
-pub mod Answers
-pub mod Pairs
-pub mod OneLocal
