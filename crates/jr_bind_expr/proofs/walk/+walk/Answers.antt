@@ -7,8 +7,7 @@ use Rattle.jr_ast.specs.Tree as tree
 use Rattle.jr_ast.specs.declared.exprs.Expr.{Expr}
 use Rattle.jr_ast.specs.View.{word_of, type_of, expr_of, exprs_of, target_of, expr_kind, expr_row, held_target}
 use Rattle.jr_ast.proofs.Rows.{expr_kind-Call_to, expr_kind-SuperCall, expr_kind-New}
-use Rattle.jr_ast.proofs.Sizes.{exp_size, exps_size, target_size}
-use Rattle.jr_ast.proofs.Marking.{falls_left, falls_right, falls_whole_row, falls_item}
+use Rattle.jr_ast.proofs.Sizes.{exp_size, exps_size, target_size, falls_left, falls_right, falls_whole_row, falls_item}
 use Rattle.jr_table.specs.Entries.{kind_of}
 use Rattle.jr_table.specs.Lookup.{shown}
 use Rattle.jr_table.specs.Meanings.{types_of}

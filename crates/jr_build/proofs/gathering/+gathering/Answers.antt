@@ -4,8 +4,7 @@ use Rattle.jr_ast.specs.declared.members.Class.{out-Class}
 use Rattle.jr_ast.specs.MemberTree as syntax
 use Rattle.jr_ast.specs.View.{word_of, modifier_of, type_of, param_of, expr_of, member_of, members_of, class_of, member_kind, member_row}
 use Rattle.jr_ast.proofs.Rows.{class_of-out}
-use Rattle.jr_ast.proofs.Sizes.{member_size, members_size, class_size}
-use Rattle.jr_ast.proofs.Marking.{members_add, falls_further, falls_whole_row, falls_item}
+use Rattle.jr_ast.proofs.Sizes.{member_size, members_size, class_size, members_add, falls_further, falls_whole_row, falls_item}
 use Rattle.jr_build.specs.Fitting.{begins_by, WordFits, MaybeTypeFits, MemberFits, ClassFits, MembersFit}
 use Rattle.jr_table.specs.Declared.{DeclaredItem, class_item, field_item, method_item, ctor_item, word_at, written, words, param_declaration, init_declaration, writes_ctor, member_declarations, class_declarations, members_declarations}
 use Rattle.jr_build.specs.Gathers.{in_file}

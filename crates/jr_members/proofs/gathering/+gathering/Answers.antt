@@ -4,8 +4,7 @@ use Rattle.jr_ast.specs.declared.members.Class.{out-Class}
 use Rattle.jr_ast.specs.MemberTree as syntax
 use Rattle.jr_ast.specs.View.{member_of, members_of, class_of, member_kind, member_row}
 use Rattle.jr_ast.proofs.Rows.{class_of-out}
-use Rattle.jr_ast.proofs.Sizes.{member_size, members_size, class_size}
-use Rattle.jr_ast.proofs.Marking.{members_add, falls_further, falls_whole_row, falls_item}
+use Rattle.jr_ast.proofs.Sizes.{member_size, members_size, class_size, members_add, falls_further, falls_whole_row, falls_item}
 use Rattle.jr_table.specs.Errors.{class_part}
 use Rattle.jr_members.specs.Fitting.{begins_by, MemberFits, ClassFits, MembersFit}
 use Rattle.jr_members.specs.Parts.{placed, member_parts, class_parts, members_parts}

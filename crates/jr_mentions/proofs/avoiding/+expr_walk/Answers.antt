@@ -2,8 +2,7 @@ use Rattle.std.proofs.Common.{sym, ap, ◌∙◌}
 use Rattle.std.specs.Prelude.{◌&&◌}
 use Rattle.jr_ast.specs.View.{expr_of, exprs_of, target_of, expr_kind, expr_row, held_target}
 use Rattle.jr_ast.proofs.Rows.{expr_kind-Call_to, expr_kind-SuperCall, expr_kind-New}
-use Rattle.jr_ast.proofs.Sizes.{exp_size, exps_size, target_size}
-use Rattle.jr_ast.proofs.Marking.{exps_add}
+use Rattle.jr_ast.proofs.Sizes.{exp_size, exps_size, target_size, exps_add}
 use Rattle.jr_mentions.specs.ApartView.{names_in}
 use Rattle.jr_mentions.specs.AvoidTests.{avoids_exp, avoids_target, avoids_row}
 use Rattle.jr_mentions.proofs.TestLoops.{all_fails, all_goes, all_ends}

@@ -2,8 +2,7 @@ use Rattle.std.proofs.Common.{sym, ap, ◌∙◌}
 use Rattle.std.specs.Prelude.{◌&&◌}
 use Rattle.jr_ast.specs.View.{stmt_of, stmts_of, else_of, stmt_kind, stmt_row, held_else}
 use Rattle.jr_ast.proofs.Rows.{stmt_kind-If, stmt_kind-Block, stmt_kind-Sync}
-use Rattle.jr_ast.proofs.Sizes.{stmt_size, stmts_size, else_size}
-use Rattle.jr_ast.proofs.Marking.{stmts_add}
+use Rattle.jr_ast.proofs.Sizes.{stmt_size, stmts_size, else_size, stmts_add}
 use Rattle.jr_mentions.specs.ApartView.{names_in}
 use Rattle.jr_mentions.specs.AvoidTests.{avoids_stmt, avoids_else, avoids_stmts}
 use Rattle.jr_mentions.proofs.TestLoops.{all_fails, all_goes, all_ends}

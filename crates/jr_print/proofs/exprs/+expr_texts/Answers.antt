@@ -6,8 +6,7 @@ use Rattle.jr_print.specs.ExpressionText.{printed, printed_target, printed_args,
 use Rattle.jr_print.proofs.Puts.{put_one, put_two, put_three, put_four, put_item, put_all, call_text, cast_text}
 use Rattle.jr_ast.specs.View.{word_of, type_of, expr_of, exprs_of, target_of, expr_kind, expr_row, held_target}
 use Rattle.jr_ast.proofs.Rows.{expr_kind-Call_to, expr_kind-SuperCall, expr_kind-New}
-use Rattle.jr_ast.proofs.Sizes.{exp_size, exps_size, target_size}
-use Rattle.jr_ast.proofs.Marking.{exps_add}
+use Rattle.jr_ast.proofs.Sizes.{exp_size, exps_size, target_size, exps_add}
 use Rattle.jr_print.proofs.Measures.{less, less_one, falls_left, falls_right, falls_only, falls_held, falls_same, falls_item, falls_first, falls_rest}
 use Rattle.jr_print.proofs.exprs.+expr_texts.Goals as goal
 

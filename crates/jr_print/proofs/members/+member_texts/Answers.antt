@@ -8,8 +8,7 @@ use Rattle.jr_print.proofs.Puts.{put_one, put_two, put_four, put_five, put_six, 
 use Rattle.jr_ast.specs.declared.members.Class.{out-Class}
 use Rattle.jr_ast.specs.View.{word_of, modifier_of, type_of, param_of, expr_of, args_of, stmts_of, member_of, members_of, class_of, member_kind, member_row}
 use Rattle.jr_ast.proofs.Rows.{class_of-out}
-use Rattle.jr_ast.proofs.Sizes.{member_size, members_size, class_size}
-use Rattle.jr_ast.proofs.Marking.{members_add}
+use Rattle.jr_ast.proofs.Sizes.{member_size, members_size, class_size, members_add}
 use Rattle.jr_print.proofs.Measures.{less, less_one, falls_only, falls_item}
 use Rattle.jr_print.proofs.members.+member_texts.Goals as goal
 

@@ -6,8 +6,7 @@ use Rattle.jr_print.specs.StatementText.{printed_variable, printed_stmt, printed
 use Rattle.jr_print.proofs.Puts.{put_one, put_two, put_three, put_four, put_item, put_all, braced, locked, local_text, if_text}
 use Rattle.jr_ast.specs.View.{type_of, word_of, expr_of, stmt_of, stmts_of, else_of, stmt_kind, stmt_row, held_else}
 use Rattle.jr_ast.proofs.Rows.{stmt_kind-If, stmt_kind-Block, stmt_kind-Sync}
-use Rattle.jr_ast.proofs.Sizes.{stmt_size, stmts_size, else_size}
-use Rattle.jr_ast.proofs.Marking.{stmts_add}
+use Rattle.jr_ast.proofs.Sizes.{stmt_size, stmts_size, else_size, stmts_add}
 use Rattle.jr_print.proofs.Measures.{less, less_one, less_two, falls_left, falls_right, falls_only, falls_held, falls_same, falls_item}
 use Rattle.jr_print.proofs.stmts.+stmt_texts.Goals as goal
 

@@ -1,0 +1,10 @@
+pub mod NodeView
+pub mod Seeks
+pub mod Same
+pub mod With
+pub mod Reaches
+pub mod Lent
+pub mod StmtLent
+pub mod PathKinds
+pub mod PathLent
+pub mod MemberLent
