@@ -1,3 +1,9 @@
+-- Statements: `StmtArming`, `Bodies`, `Passing`, `LocalSteps`. Declarations: `Declaring`,
+-- `Heading`, `ParamSteps`, `Statics`, `Parting` (a whole part). `Bounding` has a member's `Bound`
+-- from its log, by `jr_table: parts_are_noted`; `Searching`, `Telling`: references by halves,
+-- errors; `MemberFound`: by key. The tree of types: `TypedPassing`, `TypedDeclaring`,
+-- `TypedBounds`. Overriding: `Accesses`, `Climbing` (one step upwards), `Above` (what is found
+-- class by class is what the relation finds among all rows).
 pub mod Telling
 pub mod StmtArming
 pub mod Passing

@@ -1,4 +1,12 @@
-//! What an expression says: its notes and the tree of its types, made in one walk (JLS 6, 15).
+//! What an expression says: its notes and the tree of its types, made in one walk (JLS 6, 15). It
+//! is the lower half of `jr_bind`, and knows no statements and no other member's body.
+//!
+//! `places`: a [`Place`] is what is known where an expression stands (`specs/Places: Knows`).
+//! `walk` goes over expressions, a small function an arm (`names`, `fields`, `invocations`,
+//! `operators`, `type_names`), each of which answers a [`Meaning`], writes its notes into a log
+//! (`notes`: what a reference finds, or a rule that is broken) and its nodes behind the slots of a
+//! tree of types (`typing`). What statements and declarations take of it too is public: `kinds`,
+//! `rows`, `abouts`, `args`, `findings`, `variables`, `calls`.
 #![tactic(auto)]
 
 mod abouts;

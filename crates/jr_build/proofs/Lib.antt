@@ -1,3 +1,11 @@
+-- `Earliest`, `Least`: the step from a kind of fault to the next, for all searches. Items:
+-- `DeclarationLists`, `Heading`, `ClassParts`, `Indexed`, `KeyLaws`, `Apart`. Searches, a file
+-- each: `PackageLaws`, `WordLaws`, `DeclarationFaultLaws`, `TypeFaultLaws`, `TwiceParamLaws`,
+-- `TwiceMemberLaws` (`SignatureLaws`, `Knowing`). Superclasses, lowest first: `ClassNumbers`,
+-- `Nearest`, `Looks`, `MemberTypes`, `OneParent`, `Settling`, `HierarchyLaws`, `Tops`, `Telling`,
+-- `Numbering`, `Rounds`, `MeaningLaws`, `Cycling`, `Unparented`, `CleanClasses`. Rows: `OwnRows`,
+-- `NamedRows`, `CtorLaws`, `RowCycles`, `ProgramRows`; `OneRows`: a program has one table;
+-- `Cleaning`: no fault of any kind.
 pub mod DeclarationLists
 pub mod Earliest
 pub mod DeclarationFaultLaws

@@ -1,3 +1,5 @@
+-- Lowest first: `Moving` (places), `Bodying` (statements from their parts, what their parts rest
+-- on, and the loop over a list), `Limbs` (each arm as the code sees it, and the measures).
 mod Moving
 mod Bodying
 mod Limbs

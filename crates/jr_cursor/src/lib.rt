@@ -1,7 +1,10 @@
-//! What is to be renamed: the declaration that the identifier at a byte of a program names.
+//! What the identifier at a byte of a program names: the declaration that it declares or is bound
+//! to. It asks for no refactoring.
 //!
-//! [`target`] asks each written member of the file: its own name, the names of its parameters and
-//! locals by one walk (`searches`), and what binding knows of a reference there.
+//! `targets`: [`target`] finds where the identifier begins that holds the byte (`words`), asks each
+//! written member of the file: its own name, the names of its parameters and locals (`names`;
+//! `searches` is one walk that counts locals), and what binding knows of a reference there
+//! (`within`); what is of the prelude is passed over (`preludes`). Marks are spans. `laws`:
 //! [`one_is_target`] says that there is one at most.
 #![tactic(auto)]
 

@@ -1,3 +1,8 @@
+-- `Upwards`, `Climbing`, `Connected`: what stands in or below the highest class is all that
+-- overriding connects. `Parting`: dispatch changes on a class exactly where it is below a method
+-- that is parted, for any two programs that differ in names alone; `Asking`, `Moving`, `Rounds`,
+-- `Belows`, `Lows`, `Marking`: nothing else is parted, and the walks that find it. `ImageEntries`:
+-- a rename's program is such a one. `KeyedChanges`, `Telling`: numbers and keys. `KeptDispatch`.
 pub mod Upwards
 pub mod Climbing
 pub mod Connected

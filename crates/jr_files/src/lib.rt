@@ -1,7 +1,9 @@
-//! Files of a run: sources are fetched from a shelf, and changed texts are stored there.
+//! Files of a run, over any shelf: sources are fetched, and changed texts are stored. It knows no
+//! Java.
 //!
-//! `specs/Sources.antt` says which files can be the sources of a run, and which fault others have.
-//! Storing takes no memory.
+//! `specs/Sources` says which files can be the sources of a run, and which fault others have.
+//! `fetches`: sources in order, with the running total, and their bytes beside them. `stores`:
+//! texts are stored in order, without memory. `faults`.
 #![tactic(auto)]
 
 mod faults;

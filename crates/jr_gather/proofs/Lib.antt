@@ -1,3 +1,6 @@
+-- Lowest first: `Sorts` (a thing is not two), `Bound` (what isn't broken is bound), `Choices`
+-- (something is chosen), `Naming` (classes by place), `Typed` (types by path), `Giving` (nodes from
+-- their parts), `Readying`, `Arms`, `Stepping`, `Oks` (nodes as the code sees them).
 mod Sorts
 pub mod Bound
 pub mod Choices

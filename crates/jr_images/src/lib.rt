@@ -1,4 +1,18 @@
-//! What becomes of declarations, keys, types and rows under a rename: their images.
+//! What declarations, rows and scopes become under a rename, and what a rename means, as
+//! definitions that the crates of the walk and of the plan cite. It walks over no tree, and knows
+//! no plan.
+//!
+//! `images`: the key, type, declaration and rows of the new program for each of the old. An image
+//! is a function of the list of renamed declarations, tested by equality; no old name is kept
+//! beside it. `decl_sets`: a [`DeclSet`] is the declarations that get the name; where they are
+//! several methods, `method_index` finds each by the class around its class and by its class's
+//! name, so that no key is asked against all of them. `decl_tests`: its tests.
+//! `text_laws`: each renamed text reads as its new tree.
+//!
+//! Definitions: `Targets` (what an identifier declares or is bound to), `Families` (what is renamed
+//! with it), `Images`, `Spelling` (how each reference is asked in the new program, and the first
+//! spelling that binds to the image: the `jr_rewrite: Choosing` of a rename), `Refusals`, `Renames`
+//! (the order of refusals; what is planned).
 #![tactic(auto)]
 
 mod decl_sets;

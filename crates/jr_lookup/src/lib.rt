@@ -1,5 +1,11 @@
 //! What a name finds: variables, types, members, methods and constructors (JLS 6, 15.9.3, 15.11,
-//! 15.12).
+//! 15.12). It knows no bodies: a place is a [`Scope`].
+//!
+//! `lookups` has the seven calls by keys, each with one clause, its relation of `jr_table: Lookup`.
+//! Below them the same by numbers (`fields`, `type_names`, `calls`), which copy no key; a walk that
+//! binds a member uses these. `access`, `choice` (the most specific of several: each is set against
+//! the best so far, and the one that is left against all), `shown` (numbers to keys), `scopes`,
+//! `scope_local`, `scope_locals`, `locals` (what is in scope).
 #![tactic(auto)]
 
 mod access;

@@ -1,3 +1,12 @@
+-- `apart_look_alike`: entries are taken to a normal form, in which a field or method of one of the
+-- names gets one that is another than what is looked for (`Normal`); under it each exact lookup by
+-- number is the same (`Keeping`, `KeptMembers`, `KeptFindings`, `KeptCalls`, `SameOverriding`).
+-- That what is found has none of the names comes from the relations (`CleanRows`, `CleanAnswers`).
+-- `LooksAlike` joins them. `parts_last`, `types_last`: along the exact functions of jr_table, one
+-- file a sort (`SameTests`, `SameMeanings`, `SameOwnNotes`, `SameStatementNotes`, `SameHeadNotes`,
+-- `SamePartNotes`, `TypesCarried`), joined by `PartsLasting`. Code: `RowPairs`, `EntryPairs`,
+-- `NamePairs`, `RowTests`, `Stepping`, `Settling` (the walk over rows); `AvoidLaws`, `NoNames`,
+-- `PartsAvoid`, `TestLoops`, `TreeLoops`, `TreeMeasures` (the walk over a tree).
 pub mod SameMeanings
 pub mod SameTests
 pub mod SameOwnNotes

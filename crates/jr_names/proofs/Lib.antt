@@ -1,1 +1,2 @@
+-- `JoinLaws`: texts that are joined from parts.
 pub mod JoinLaws

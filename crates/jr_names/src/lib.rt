@@ -1,8 +1,9 @@
-//! What passes between a script, a session and a report.
+//! What passes between a script, a session and a report: plain data, and no body of a program.
 //!
-//! A [`Step`] is what a script asks for, a [`Reply`] what the session answers, and an [`Outcome`]
-//! what a refactoring plans. Contracts see them as the plain values of `specs/`, with keys as those
-//! of `jr_table`, and kept texts as their bytes. `decl_texts` writes declarations.
+//! A [`Step`] is what a script asks for, a [`Reply`] what the session answers, a [`Refusal`] why
+//! not, and an [`Outcome`] what a refactoring plans. Contracts see them as the plain values of
+//! `specs/`, with keys as those of `jr_table`, and kept texts as their bytes; one view a type.
+//! `decl_texts` writes declarations.
 #![tactic(auto)]
 
 mod decl_texts;

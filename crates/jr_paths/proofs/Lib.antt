@@ -1,3 +1,7 @@
+-- Reads: `Seeking`, `Walking`. Writes: `Picks` and `Puts` (one child), `PathSplits`, `Halves`,
+-- `Levels`, `Lending` (a path in halves, and what is lent once a borrow ends), `ExprWrites`,
+-- `StmtWrites`, `MemberWrites`, `Turning`; `WithLaws`, `WithAgain`, `WithChildren`: what a replaced
+-- child leaves as it was. Copies: `Marking`.
 pub mod Seeking
 pub mod Walking
 pub mod Marking

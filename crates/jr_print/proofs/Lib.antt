@@ -1,3 +1,8 @@
+-- A printed text is a list of parts, each a token or a single space (`TextParts`), with what
+-- follows as an argument (`ExpressionParts`, `StatementParts`, `MemberParts`). Three laws of each
+-- kind of tree: the parts join to the text (`..Joined`); their tokens are the spelling (`Written`,
+-- `Lexed`); no two neighbours run together (`..Apart`, by `Beside`). `jr_lex: pieces_lex` does the
+-- rest, once for all.
 pub mod Cases
 pub mod Measures
 pub mod StartLaws

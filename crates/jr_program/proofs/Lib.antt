@@ -1,3 +1,6 @@
+-- `TokenPlaces`, `SuperWords`: tokens by place, words `super`. `Membership`, `Comparing`,
+-- `EachBound`, `Binding`: one bound of each member, in order. `FileOrder`: members stay in the
+-- order of their files.
 pub mod Comparing
 pub mod Membership
 pub mod TokenPlaces

@@ -1,8 +1,11 @@
-//! A program as what is bound of its members.
+//! A program as what is bound of its members. It knows no refactoring, and no reader of units.
 //!
-//! [`bind_members`] binds the written members of a program, [`members_of_file`] finds those of a
-//! file among them. [`Tokens`] are a file's, for the names of references and the places of
-//! `super(..)`, which no tree keeps.
+//! `bounds`: [`bind_members`] is one walk over the written members of a program, which binds each,
+//! with the place of its written `super(..)`, and keeps what is known of it with its file, its
+//! first byte and that place, one of each in their order; [`members_of_file`] finds those of a file
+//! by halves. `tokens`: [`Tokens`] are a file's items with the places of its words `super`, which
+//! no tree keeps; the token at a byte is found by halves. `laws`: members of which each is bound
+//! are known.
 #![tactic(auto)]
 
 mod bounds;

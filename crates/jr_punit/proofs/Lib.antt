@@ -1,3 +1,11 @@
+-- Laws on machines for lists of statements, parameters, arguments, members, classes, units: that
+-- each is complete and sound (`StatementComplete`, `StatementSound`, `OwnComplete`, `OwnSound`,
+-- `Arguments`, `Parameters`, `Types`), that stops are exact (`StatementEnds`, `OwnEnds`), classes
+-- and units (`Classes`, `ClassSteps`, `MemberReads`, `UnitReads`). One machine reads inside another
+-- (`jr_pstmt: Inside`): it goes on where it can, else what is whole in it is taken by the outer
+-- one. The files named `..Stands` say that marks are spans, those named `Bare..` and `ReadsAlike`
+-- that marks play no part. `StopPlaces`, `UnitWalks`, `UnitParses`, `UnitAnswers`, `OneReading`:
+-- what `parse_unit` answers. `Expressions` and `ExpressionStands` gather what is cited of jr_pexpr.
 pub mod Cases
 pub mod Expressions
 pub mod Types

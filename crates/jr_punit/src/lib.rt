@@ -1,4 +1,16 @@
 //! Compilation units: how tokens are read as members, classes and units (JLS 7, 8).
+//!
+//! [`parse_unit`] answers the unit that a text is, with its spans, or a fault of syntax at the
+//! first byte of the first token with which no unit goes on. It is the one reader that callers
+//! need, and knows no declarations.
+//!
+//! `unit_state` (the package's words, the classes behind, the class at hand) hands each token to
+//! `class_state`, that to `member_state`, that to `own` (a member that is no class) or to
+//! `inner_class`, and these to lists of statements, `params`, `args`, types and expressions. Each
+//! layer is an enum with the states of its machine (`specs/`, a file a machine), and each function
+//! has one exact clause by it. `leads`, `beginnings`, `heads`, `fields`, `bodies`, `constructors`:
+//! the parts of `own`. A machine steps in place, `true` where it went on; no tree is cloned, and
+//! nothing calls itself for each level of statements. `parsing`: the loop over the items.
 #![tactic(auto)]
 
 mod args;

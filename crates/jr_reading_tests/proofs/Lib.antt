@@ -1,2 +1,3 @@
+-- `Heads`, `Spans`: what units of read texts have, as `jr_build: build` asks it.
 pub mod Heads
 pub mod Spans

@@ -1,10 +1,17 @@
-//! Tests of what cuts texts into tokens, reads trees of them, holds trees and prints them; and of a
-//! program's table, of what looks names up in it, and of what stands on them.
+//! Tests of what cuts texts into tokens, reads trees of them, holds trees and prints them; of a
+//! program's table, of what looks names up in it, and of what stands on them. Public calls alone.
 //!
 //! What is expected is what the Java Language Specification and `javac` say of a text, or the
-//! specification of a format. Programs are texts: they are read, and tables are built of them. All
-//! of it is one crate, since each crate of tests proves anew how the trees that it holds are
-//! dropped.
+//! specification of a format. Questions and answers stand in texts, a row a line, which one loop
+//! reads (`rows`). Programs are texts: `building` reads them and builds their tables, `keys` and
+//! `scopes` make keys and places of texts. All of it is one crate: a crate with a test is proved a
+//! second time, and each crate of tests proves anew how the trees that it holds are dropped.
+//!
+//! `lexing`, `limits`, `faults`: items and texts of each size up to the limits. `samples`, `trees`,
+//! `paths`, `deepest`, `drops`: trees made by hand, paths and copies, the stack that the deepest
+//! trees take, what a drop frees. `reading`, `expressions` with `shown`, `units`, `printing`: texts
+//! read and trees printed. `tables`, `builds`, `programs`, `lookups`, `spellings`, `locals`,
+//! `types`, `names`, `rewriting`: declarations and what stands on them.
 #![tactic(auto)]
 
 #[cfg(test)]

@@ -1,10 +1,18 @@
-//! The plan of a rename: which edits it makes, or why it is refused.
+//! Rename: its one call [`plan`] answers the edits of a rename, or the first refusal that applies
+//! (JLS 6). It knows no session and no other refactoring.
 //!
-//! [`plan`] takes the step and finds its file. [`plan_at`] finds the target, then what is renamed
-//! with it, and asks for each refusal in turn; last it rewrites the program (JLS 6).
-//! A declaration with which the new name collides is found by the kind of the target (`clashes`):
-//! for a local or parameter one walk over its member (`walks`) knows those in scope; for all else
-//! the rows tell (`rows`, `row_clashes`).
+//! `steps`: [`plan`] finds the file of the step's name. `plans`: lists the written members, once
+//! for all that ask of them, and asks for the target. `targets`: what is renamed with it, a method
+//! of the prelude, a clash. `answers`: makes the table of the new program, asks for dispatch, and
+//! has the program rewritten. Each of these answers from its place in the order of refusals on
+//! (`specs/Answers`), so that the clause of each is that of the next or a refusal. `pairs` compares
+//! the rows of both tables. `afters`: what is known of the new table.
+//!
+//! `clashes` asks by the kind of the target with what a new name collides. `locals`: of a local or
+//! parameter one walk over its member (`walks`) keeps who is in scope, the number of the next
+//! local, whether the local has the name already, and the least number of one that it would meet
+//! (JLS 6.3, 6.4). `rows`, `row_clashes`: of all else the first row tells; only rows that have the
+//! new name are compared.
 #![tactic(auto)]
 
 mod afters;

@@ -1,6 +1,16 @@
-//! Laws of renames: each reference is bound to the image of its declaration, the new program's rows
-//! are the images of the old ones, the new texts read as the new trees, and a rename is planned in
-//! one way or refused for one reason. Nothing is run by it.
+//! Laws of each plan of a rename; nothing is run by them. They ask of a plan no more than that it
+//! is one, in a program without faults and errors (`jr_bind: IsProgram`).
+//!
+//! Where nothing is lost, each reference, written type, superclass and `super(..)` of the new trees
+//! is bound by the new rows, from scratch, to the image of what it was bound to
+//! (`references_are_kept`). Where no class is renamed, the images of the old rows are the rows of
+//! the new program, which has no fault of declarations (`locals_give_images`, `fields_give_images`,
+//! `methods_give_images`). Where a class is renamed that holds if each class of the new trees has a
+//! superclass (`classes_give_images`): a private class that loses its name may lay another class of
+//! that name open. `constructors_give_images`: the same of a constructor, with which nothing gets
+//! another name. `plans_keep_programs` has these for a plan. What is renamed is one set, a program
+//! is rewritten in one way, and a step is planned in one way or refused for one reason
+//! (`renamed_is_one`, `rewriting_is_one`, `plan_is_one`).
 #![tactic(auto)]
 
 mod class_laws;

@@ -1,5 +1,13 @@
-//! What a rename gathers of a program: the law that files are rewritten member by member, and what
-//! comes of the words that are walked.
+//! What a rename gathers of a program, and the law that its walk stands on.
+//!
+//! `outputs`: an [`Output`] has the changes in text order, how many references are respelled, which
+//! are lost; a call a form of word puts what is chosen for it. A name in front of a dot, or in
+//! front of a member class, is put first; `put_end` and `put_member_class` take away what was
+//! gathered since `start_of` where it goes.
+//!
+//! `laws`: `files_are_rewritten`. Files are rewritten (`jr_images: Renames.Rewrite`) by rewriting
+//! the written members of `jr_members: written_members`, each by itself and in the order of that
+//! list. So the walk is one loop over that list, and needs none over classes, units and files.
 #![tactic(auto)]
 
 mod laws;

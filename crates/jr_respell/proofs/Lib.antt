@@ -1,3 +1,9 @@
+-- `NearScopes`, `NearLocals`: a spelling binds in a near scope exactly where it binds in the
+-- place's. `Kept`: what lookups see of what is kept. `OneEach`: a way finds one thing. `ChosenBy`:
+-- what is chosen by a way is what is chosen of one kind of declaration. `Founds`, `Finds`,
+-- `TopFounds`, `DeclKinds`: what is found, by kind. `Leading`, `Refuting`, `Parents`, `Above`:
+-- words of classes. `SimpleNames`, `Unchanged`, `UnchangedBy`: names that stay. `Spells`,
+-- `Growing`, `Oks` serve these.
 mod NearLocals
 mod NearScopes
 mod Kept

@@ -1,5 +1,19 @@
 //! How each reference of a program is spelled where declarations get another name: the choice for
-//! one reference at a time.
+//! one reference at a time, given by what its name is looked up with. The walk over trees stands
+//! above it; it knows none.
+//!
+//! `programs`: the old table, the new one, the names. `scopes`: what is known at a place in both
+//! programs. A call a form of reference looks the old declaration up and answers its choice, or
+//! none where the lookup finds no such declaration: `variables`, `fields`, `calls`, `ctors`,
+//! `types`, `classes` and `class_words` (in front of a dot), `superclasses`, `declaring` (declared
+//! names). `choices`: what comes of a word, with owned texts.
+//!
+//! All forms but classes in front of a dot go one way: `ways` says how a name is looked up and how
+//! its image is asked; `taking` looks it up the one way (`looking`), takes the image of what is
+//! found (`finding`), and asks for that the other way (`asking`). `choosing` is `jr_spell:
+//! take_form` in a scope with no locals but those that can bear on the reference (`nearby`). Nearly
+//! all names stay as they are, and these cost no copies: `staying`, `staying_by` look a name up by
+//! number in both tables; what they don't cover goes the long way.
 #![tactic(auto)]
 
 mod asking;

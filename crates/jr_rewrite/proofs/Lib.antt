@@ -1,3 +1,10 @@
+-- By steps over the tokens from left to right (`Steps`: stay, cast, swap, close).
+-- `ExpressionSteps`, `StatementSteps`, `MemberSteps` flatten a rewriting; `Woven`, `Weaving` turn
+-- steps into lexemes of the new text, with `Turning` for what stands directly in front of a change;
+-- `Parts`, `Cuts`, `Tiles`, `Skipping`, `Stepping`, `WordSteps`, `NewTokens` serve these.
+-- `ExpressionShapes`, `MemberShapes` keep the side conditions of the grammar. `Rewriting` has the
+-- laws. `Entries`, `Putting`, `Pushing`: the code's changes and edits. `BareForms`, `Unbared`,
+-- `UnbaredMembers`: what stands along a tree stands along each that is equal but for marks.
 pub mod Turning
 pub mod Parts
 pub mod Cuts

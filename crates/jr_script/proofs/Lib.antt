@@ -1,3 +1,5 @@
+-- `MemberLaws`, `NameLaws`, `CountLaws`: members of an object. `OneStep`, `StepLaws`: an object is
+-- one step or has one fault, a line a row. `ElementLaws`, `OneScript`: an array. `ReportLaws`.
 pub mod MemberLaws
 pub mod CountLaws
 pub mod NameLaws

@@ -1,3 +1,10 @@
+-- States: `Histories`, `Places`, `KeptLaws`, `StateLaws`, `LengthLaws`, `EditLaws`, `Exchanging`,
+-- `Turning`, `SessionSteps`, `StepCases`, `StepFiles`, `RefusalCases`, `Telling` (the places that a
+-- refusal tells). Shows: `ShownLines`, `ShowSteps`, `Showing`. A rename: `Making`, `Planning`,
+-- `Trying`, `Staying`, `Refactored`, `RenameFiles`, `RenameSteps`, `NewTables`, `NewTells`. One
+-- answer: `OneAnswer` (edits, undoing, redoing), `OneFault`, `OneWrong`, `OneRename`, `OneStep`;
+-- `PlanReasons`, `FirstReason`. Promises: `NewPrograms`, `NewTrees`, `NewRows`, `BareBinding` (what
+-- a tree's references find doesn't depend on its marks), `BareReferences`, `TakenBack`.
 pub mod Histories
 pub mod Places
 pub mod KeptLaws

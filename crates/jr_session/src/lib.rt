@@ -1,9 +1,20 @@
-//! Sessions: the sources of a program, edits of them, and what can be undone.
+//! Sessions: the sources of a program while they are changed, what can be undone, what is shown of
+//! them, and what a refactoring promises. It knows no refactoring from inside: it asks for a plan.
 //!
-//! A [`Session`] holds files, each with a name of its own and a text. What each text reads as is
-//! kept beside it. Contracts see a session as the `State` of `specs/States.antt`, and what a step
-//! does as the relation of `specs/Stepping.antt`; why it is refused is in `specs/Refusing.antt`,
-//! and what an accepted rename promises in `specs/Promises.antt`.
+//! Contracts see a [`Session`] as the `State` of `specs/States`, and what a step does as the
+//! relation of `specs/Stepping`; why it is refused is in `Refusing`, what an accepted rename
+//! promises in `Promises`. What is kept beside the texts is an invariant (`Kept`), which says that
+//! it is what reading and analysing from scratch give; no public clause mentions it.
+//!
+//! `steps` sends a step to the call that answers it. `sessions`, `begins`, `edits`, `shows`,
+//! `renames`. `changes`: what a step changed, for undoing. `splices`: what an edit would make of a
+//! file. `turns`: files get other texts with their readings, the last first, and the old ones go on
+//! two lists; each step takes the room for the lists first, so that nothing fails once it has
+//! begun. `plans` analyses and plans; `refactorings` makes the edits, whatever planned them;
+//! `made`: the new texts, or the length that is too long; `tries` reads and binds the new program,
+//! and puts all back where something is wrong. `laws`: one reply and one state a step
+//! (`step_has_one_answer`), the first reason of a refusal (`renames_are_refused_first`), what an
+//! accepted rename promises, from its step alone (`accepted_renames_keep_programs`).
 #![tactic(auto)]
 
 mod begins;

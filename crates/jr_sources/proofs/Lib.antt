@@ -1,3 +1,9 @@
+-- Sources: `SourceLaws`, `Entries`, `Totals`. Readings: `Lexing`, `AllRead`, `Faulty`, `Filled`,
+-- `FirstTokens`, `Heads`, `Spans`, `PartsFit`, `ReadUnits`. Analyses: `Analysing`, `SourceFaults`,
+-- `InFiles`, `DeclarationFiles`, `WrittenOrder` (members in the order of their files),
+-- `MembersFew`; `Binding` has what all calls say of bound members, `Rebinding` what is kept.
+-- `Nearer`, `FirstErrors`: the first broken rule. `WholeProgram`: sources without faults and errors
+-- are a program, and the tokens by which members are bound are those of the readings.
 pub mod SourceLaws
 pub mod Entries
 pub mod Totals

@@ -1,8 +1,18 @@
 //! The sources of a program: files with names of their own, what each reads as, their first fault,
-//! and what is analysed of them where they have none.
+//! and what is analysed of them where they have none. It knows no step of a session.
 //!
-//! [`Sources`] are the files, [`Readings`] what each text reads as by itself, and an [`Analysis`]
-//! what the files together give: their table, their tokens, and what binding knows of each member.
+//! `sources`: names and texts; contracts see a list of them. `faults`, `readings`: a text is lexed
+//! once, measured and parsed. `kept`: the readings of all files, side by side, since the table is
+//! built from a slice of units; one of them is exchanged for another without memory.
+//! `first_faults`: the first of the faults. `reading_laws`: a text has one unit, or one fault.
+//!
+//! `analyses`, `programs`: the first fault of a file, or else of declarations, is told; where there
+//! is none the table and all bound members are kept. `analyse` may be given what was analysed of
+//! earlier sources with which files' texts are the same, and binds by it (`jr_cache`);
+//! `analyse_with` takes the table from the caller, who knows that it is that of the sources if
+//! these read; `analyse_same` that of the earlier sources. `broken`, `errors`: the first rule that
+//! a member breaks. `asks`: what refuses a refactoring before its sources are analysed. `whole`:
+//! sources without faults and errors, as they are lent to refactorings.
 #![tactic(auto)]
 
 mod analyses;

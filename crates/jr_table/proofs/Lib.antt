@@ -1,3 +1,17 @@
+-- Rows and members: `RowLaws`, `ClassLaws`, `Chaining`, `Ending`, `StepsUp`, `SpanLaws`; one walk
+-- for all that is looked for (`MemberLaws`, `MemberWalk`, `Testing`, `OneEach`, `FirstLaws`), by
+-- what places rows have (`WantedPlaces`, `MethodPlaces`, `CtorPlaces`); methods of a name in order
+-- (`GatherLaws`, `GatherWalk`, `Gathered`, `InOrder`, `CollectWalk`, `Ascending`); numbers and keys
+-- (`Border`). Lookup is exact: `FieldLaws`, `Inward`, `Accessing`, `Assigning`, `Choosing`,
+-- `OneCtor`, `CallLaws`, `ScopeLaws`, `ShowingLaws`, joined by `LookupLaws`. Types and references:
+-- `RowTypes`, `Typing`, `TypeTests`, `ReferenceLaws`, `Referring`, `TypeNotes`,
+-- `DeclaredReferences`. What is noted is what is broken, and nothing else: `Noting`, `Walking`,
+-- `Everywhere`, tests of rules (`FlowTests`, `DeclarationTests`, `OverrideTests`), one file a sort
+-- of rule (`Breaking..`: a `data` of the rules that its nodes may break, a lemma a kind of node,
+-- one that takes the `data` to the relation), `BindingDeclarations`, `BindingNothing`, joined by
+-- `MemberNotes`. `ErrorOrder`, `ErrorLaws`: errors in order, each once. `Same..`: equality of keys,
+-- kinds and lists. `Cases`, `LookupCases`, `BindingCases..`, `BindingSamples`: small programs as
+-- theorems.
 pub mod SameArms
 pub mod SameLists
 pub mod FirstLaws

@@ -1,4 +1,22 @@
-//! The declarations of a program: keys, rows, the table.
+//! The declarations of a program: keys, types, rows, the table; and what lookup, binding and the
+//! rules mean, as definitions that every crate can cite. It knows no bodies as code, only their
+//! pure trees.
+//!
+//! A declaration is known outside by its key, inside by the number of its row: `entries_of` makes
+//! of the rows a list in which each class that a row names is the number of that class's row. All
+//! relations on superclasses and members are over entries and numbers; `specs/Keyed` says them of
+//! keys. Crates above work on numbers and hand out keys at their border.
+//!
+//! A table keeps its rows, their entries, and indexes made once in `of_rows`: `class_index`,
+//! `member_index` (rows by the class that they are found in and their name), `spans` (when a class
+//! is entered and left on a walk of the tree of classes; the walk of `numbered` promises nothing,
+//! its numbers are tested, and where they fail the call climbs). `wanted` is what is looked for
+//! among members, `climbing` the one loop that finds it; `gathering`, `overloads`, `signatures`:
+//! methods of a name. `kinds`, `rules`: faults and rules by name. `facts`: what binding knows.
+//!
+//! `lookup_laws`, `binding_laws`, `noting_laws`: laws on public functions with empty bodies. Pure
+//! keys stand in specs that name no Rust type, views in `TypeView`, `KeyView`, `RowView`,
+//! `FoundView`. Behind `-- exact` in a file of specs stands the function that a body computes.
 #![tactic(auto)]
 
 mod answers;

@@ -1,11 +1,13 @@
 //! The top call: what a command line asks for is done between a shelf of files and a sink for
-//! output.
+//! output. It carries the promise of the program in its contract, and knows no Java.
 //!
-//! `run` is all of it. The words are read; the files that they name are fetched and checked; a
-//! session does the one step of a rename, or the steps of a script to the end; and then what is to
-//! be written is written: changed files to the shelf, a text, a line or a report to the sink. The
-//! `Status` that comes back has a number for the process to end with, and a `Message` for standard
-//! error. `serve` runs the words and does both.
+//! `runs`: [`run`] goes from words to a [`Status`]. `renames` fetches one file, and `answers` makes
+//! a session with it, does the one step, and makes the text or the line (`lines`). `scripts` begins
+//! a run: script, steps, files, session; `replies` takes the steps; `outputs` builds all output and
+//! then writes it. Both commands give `run` one record, `specs/Runs: Comes`: what is written, or
+//! why a run ends before. `statuses`, `messages`: the number, and the line for standard error,
+//! which takes no memory. `endings`: [`serve`] runs the words between a shelf, a sink and a sink
+//! for standard error, and ends; it has `run`'s clauses and those on number and message.
 #![tactic(auto)]
 
 mod answers;
