@@ -17,8 +17,6 @@ mod laws;
 mod linked;
 mod name_table;
 mod names;
-#[cfg(test)]
-mod tests;
 
 pub use cycles::{first_on_cycle, on_cycle};
 pub use index::Index;

@@ -7,7 +7,5 @@
 #![tactic(auto)]
 
 mod counters;
-#[cfg(test)]
-mod tests;
 
 pub use counters::Steps;
