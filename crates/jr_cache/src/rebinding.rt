@@ -8,8 +8,8 @@ ghost use Rattle.jr_mentions.specs.ApartView.{names_in};
 ghost use Rattle.jr_cache.specs.Rebinding.{IsRebinding};
 ghost use Rattle.jr_cache.specs.RebindSteps.{PutsBound, RebindsOne, AreRebound};
 
+use crate::laws::bounds_last;
 use crate::sparing::{keeps, same_files};
-use jr_cache::bounds_last;
 use jr_members::WrittenMember;
 use jr_mentions::{Apart, apart};
 use jr_program::{MemberBound, Tokens, bind_members, members_are_known};
