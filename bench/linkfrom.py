@@ -1,5 +1,5 @@
 #!/usr/bin/env python3
-"""linkfrom.py CLONE: links into the clone what running gates (/tmp/rt-copy-*/repo) and other clones have built of the same text."""
+"""linkfrom.py CLONE: links into the clone what running gates (/tmp/rt-copy-*/repo) and clones beside it have built of the same text."""
 import glob, importlib.util, importlib.machinery, os, sys, shutil, subprocess
 clone = os.path.realpath(sys.argv[1])
 spec = importlib.util.spec_from_file_location("clones", clone + "/bench/clones.py")
@@ -8,7 +8,7 @@ m.ROOT = clone
 m.remember_stamps()
 os.chdir(clone)
 mine = {c.name: c for c in m.LIB.crates_below(clone)}
-places = [p for p in glob.glob('/tmp/rt-copy-*/repo') + glob.glob('/work/*') if os.path.isdir(p + '/crates') and os.path.realpath(p) != clone]
+places = [p for p in glob.glob('/tmp/rt-copy-*/repo') + glob.glob(os.path.dirname(clone) + '/*') if os.path.isdir(p + '/crates') and os.path.realpath(p) != clone]
 def text(folder):
     h = []
     for base in ('src', 'specs', 'proofs'):

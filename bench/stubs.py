@@ -5,7 +5,7 @@ Makes or brings up to date the repository TO, a copy of FROM in which the crates
 kept (--keep), nor built by a gate or another clone, have their specs, types and contracts as they are, and bodies that
 want memory (`Err(AllocError)`) or are `unreachable!()`; laws have empty ones. What proved those bodies is gone.
 With --modules, CRATE keeps the bodies of these modules of its own alone. Lemma files of stubs that no one cites go too.
-Crates that FROM lacks, or has otherwise, are taken from the folders named by --more (/work/h4/crates/jr_cache).
+Crates that FROM lacks, or has otherwise, are taken from the folders named by --more (CLONE/crates/NAME).
 Then in TO: python3 bench/clones.py check CRATE --allow-holes --only CRATE::MODULE ..
 """
 import os, re, shutil, subprocess, sys
@@ -220,7 +220,7 @@ def main(src, to, target, *words):
                             CITED.setdefault(crate, set()).add(cited)
     for it in below:
         put(place.get(it, f"{src}/crates/{it}"), f"{to}/crates/{it}", False)
-    subprocess.run([sys.executable, "/work/bin/linkfrom.py", to], stdout=subprocess.DEVNULL)
+    subprocess.run([sys.executable, os.path.join(os.path.dirname(os.path.abspath(__file__)), "linkfrom.py"), to], stdout=subprocess.DEVNULL)
     built = {it for it in below if os.path.exists(f"{to}/crates/{it}/out/rlib/{it}.rlib")}
     # what lies beside a stripped crate is no longer built over it
     for it in [l.split(":")[0].strip() for l in lines]:

@@ -3,7 +3,7 @@
 each in a folder of $ROOM/work, with what the files hold in the end."""
 import json, os
 room, here = os.environ["ROOM"], os.path.dirname(os.path.abspath(__file__))
-text = open(f"{here}/../../bench/renames.py").read()
+text = open(f"{here}/../renames.py").read()
 text = text[:text.rindex("\nmain()")]
 names = {"__name__": "bench"}
 exec(compile(text, "renames", "exec"), names)

@@ -14,7 +14,7 @@ with open(sys.argv[1]) as f, open(sys.argv[2],'w') as g:
                 g.write(line.replace('{ ','{ uwtable noinline ').replace('#0','#901'))
                 line=line.replace('{ ','{ uwtable ')
         elif prof and line.startswith('define '):
-            m=re.search(r'@"?(jr_(?:session|sources|rename_plan|rewriting|parts|renaming|gather|changes|respell|target|family|clash|build|members|bind|rename|table|punit|lex|shown|top|text|notes|locals|types|index|spell|lookup|override|places|sites|renamed)::[^"(]*)',line)
+            m=re.search(r'@"?(jr_\w+::[^"(]*)',line)
             if m or 'Destruct::drop' in line:
                 line=re.sub(r'#0 \{',r'#901 {',line)
         g.write(line)
