@@ -2,14 +2,13 @@
 //!
 //! Three things stand side by side: the Rust types, the pure trees that clauses speak of
 //! (`specs/Tree`, `StatementTree`, `MemberTree`), and the views from the ones to the others
-//! (`specs/View`, `NodeView`), which alone know the generated constructors. All definitions of the
-//! crates above are over pure trees. It knows no tokens, no declarations and no text.
+//! (`specs/View`), which alone know the generated constructors. All definitions of the crates above
+//! are over pure trees. It knows no tokens, no declarations and no text.
 //!
-//! A [`Name`] is a text that its copies share, so that copying a name takes no memory. Each node
-//! has a constructor function (`exprs`, `stmts`, `members`, `parts`); `nodes` and `children` lend a
-//! node's mark and its parts. `StmtKind` is dropped by a loop that goes on with the last statement
-//! it holds: a text within the limits nests thousands of statements, and a call for each would take
-//! too much stack.
+//! A [`Name`] is a text that its copies share, so that copying a name takes no memory. Expressions,
+//! statements, members, classes and units have constructor functions (`exprs`, `stmts`, `members`).
+//! `StmtKind` is dropped by a loop that goes on with the last statement it holds: a text within the
+//! limits nests thousands of statements, and a call for each would take too much stack.
 //!
 //! Walks of paths, writes through them and copies with other marks are in `jr_paths`.
 #![tactic(auto)]
