@@ -25,7 +25,7 @@ use Rattle.jr_table.specs.Chains.{parent_of, outer_of}
 use Rattle.jr_table.specs.Lookup.{shown_one, shown}
 use Rattle.jr_table.specs.Context.{scope_of}
 use Rattle.jr_table.specs.HeadRules.{plain}
-use Rattle.jr_table.specs.Declared.{writes_ctor}
+use Rattle.jr_table.specs.DeclaredItems.{writes_ctor}
 use Rattle.jr_table.specs.Meanings.{row_of, superclass_of, own_superclass, type_references}
 use Rattle.jr_table.specs.Notes.{breaks, when, test_found}
 use Rattle.jr_table.specs.HeadNotes.{top_found, declared_notes, parent_references, is_final_super, lacks_super_ctor, head_notes}

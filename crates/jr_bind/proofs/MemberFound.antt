@@ -8,7 +8,7 @@ use Rattle.jr_table.specs.Decls.{MemberKey}
 use Rattle.jr_table.specs.Rows.{Row}
 use Rattle.jr_table.specs.Entries.{number_of}
 use Rattle.jr_table.specs.KeyView.{member_key_of}
-use Rattle.jr_table.specs.Declared.{declarations_of}
+use Rattle.jr_table.specs.DeclaredItems.{declarations_of}
 use Rattle.jr_table.specs.Errors.{Part, InUnits}
 use Rattle.jr_members.specs.declared.keyed.WrittenMember as raw
 use Rattle.jr_members.specs.PartView.{part_of, written_of}

@@ -22,7 +22,7 @@ use Rattle.jr_grammar.specs.Reads.{ReadsWithSpans}
 use Rattle.jr_table.specs.Decls.{MemberKey}
 use Rattle.jr_table.specs.Rows.{Row}
 use Rattle.jr_table.specs.Conditions.{AreRows}
-use Rattle.jr_table.specs.Declared.{declarations_of}
+use Rattle.jr_table.specs.DeclaredItems.{declarations_of}
 use Rattle.jr_table.specs.ProgramRows.{AreProgramRows}
 use Rattle.jr_table.specs.Faults.{IsClean}
 use Rattle.jr_table.specs.Errors.{part_mark, IsSound}

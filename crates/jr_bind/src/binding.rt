@@ -10,7 +10,7 @@ ghost use Rattle.jr_table.specs.Errors.{part_mark, InUnits};
 ghost use Rattle.jr_table.specs.ErrorLists.{errors_of_log};
 ghost use Rattle.jr_table.specs.KeyView.{member_key_of};
 ghost use Rattle.jr_table.specs.ProgramRows.{AreProgramRows};
-ghost use Rattle.jr_table.specs.Declared.{declarations_of};
+ghost use Rattle.jr_table.specs.DeclaredItems.{declarations_of};
 ghost use Rattle.jr_table.specs.Walks.{part_notes};
 ghost use Rattle.jr_members.specs.Fitting.{begins_by, UnitsFit};
 ghost use Rattle.jr_members.specs.PartView.{part_of};

@@ -1,7 +1,7 @@
 //! What the head of a class notes (JLS 8.1.1.2, 8.1.4, 8.8.9).
 ghost use Rattle.std.specs.Prelude.{◌≡◌, Some, IfOk, option_map};
 ghost use Rattle.jr_ast.specs.View.{type_of, member_of, members_of, class_of};
-ghost use Rattle.jr_table.specs.Declared.{writes_ctor};
+ghost use Rattle.jr_table.specs.DeclaredItems.{writes_ctor};
 ghost use Rattle.jr_table.specs.Lookup.{shown};
 ghost use Rattle.jr_table.specs.HeadNotes as notes;
 ghost use Rattle.jr_bind_expr.specs.Fits.{FitsType};

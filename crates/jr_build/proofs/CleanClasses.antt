@@ -4,7 +4,7 @@ use Rattle.std.specs.Prelude.{option_and_then, codes, ◌⊎◌}
 use Rattle.jr_table.specs.declared.kinds.DeclKind.TheVariants as kind
 use Rattle.jr_table.specs.Keys.{ClassKey}
 use Rattle.jr_table.specs.Prelude.{top_key, object_key}
-use Rattle.jr_table.specs.Declared.{Written, int, boolean, named, DeclaredClass, DeclaredItem}
+use Rattle.jr_table.specs.DeclaredItems.{Written, int, boolean, named, DeclaredClass, DeclaredItem}
 use Rattle.jr_table.specs.Resolving.{DeclaresClass, IsPreludeClass, IsPreludeSubclass, TopNames, MemberNames, HasMemberType, IsParent, Climbs}
 use Rattle.jr_table.specs.Faults.{Place, PackageLine, HasFault}
 use Rattle.jr_build.specs.Hierarchies.{Hierarchy, key_at, parent_key}

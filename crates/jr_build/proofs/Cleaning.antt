@@ -4,7 +4,7 @@ use Rattle.std.specs.Prelude.{◌⊎◌, Result, Ok, Err, OnOk, IfOk, IfErr}
 use Rattle.jr_build.specs.declared.faults.BuildFault.{BuildFault}
 use Rattle.jr_table.specs.declared.kinds.DeclKind.{DeclKind}
 use Rattle.jr_table.specs.declared.kinds.DeclKind.TheVariants as kind
-use Rattle.jr_table.specs.Declared.{DeclaredItem}
+use Rattle.jr_table.specs.DeclaredItems.{DeclaredItem}
 use Rattle.jr_table.specs.Faults.{Place, PackageLine, HasFault, IsFirstFault, IsClean, IsUpTo, rank_of}
 use Rattle.jr_build.specs.Builds.{IsCleanBelow}
 use Rattle.jr_build.specs.Places.{IsEarliest}

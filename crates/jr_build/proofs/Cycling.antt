@@ -5,7 +5,7 @@ use Rattle.jr_index.specs.Parents.{next, up, Returns}
 use Rattle.jr_index.specs.Cycles.{AreOnCycle}
 use Rattle.jr_table.specs.declared.kinds.DeclKind.TheVariants as kind
 use Rattle.jr_table.specs.Keys.{ClassKey}
-use Rattle.jr_table.specs.Declared.{DeclaredClass, Item, class_item, field_item, method_item, ctor_item, DeclaredItem}
+use Rattle.jr_table.specs.DeclaredItems.{DeclaredClass, Item, class_item, field_item, method_item, ctor_item, DeclaredItem}
 use Rattle.jr_table.specs.Resolving.{IsParent, Climbs}
 use Rattle.jr_table.specs.Faults.{Place, At, PackageLine, HasFault}
 use Rattle.jr_build.specs.Places.{IsEarliest}

@@ -5,7 +5,7 @@ use Rattle.jr_table.specs.Faults.{Place}
 use Rattle.jr_table.specs.declared.kinds.DeclKind.TheVariants as kind
 use Rattle.jr_build.specs.declared.declarations.DeclaredItem as raw
 use Rattle.jr_build.specs.Places.{IsEarliest}
-use Rattle.jr_table.specs.Declared.{Item, class_item, field_item, method_item, ctor_item, DeclaredItem}
+use Rattle.jr_table.specs.DeclaredItems.{Item, class_item, field_item, method_item, ctor_item, DeclaredItem}
 use Rattle.jr_build.specs.DeclaredView.{declaration_of}
 use Rattle.jr_table.specs.Faults.{At, PackageLine, HasFault, InitIsBad}
 use Rattle.jr_build.specs.DeclarationFaults.{ReservedAt, BadWordsAt, TwiceClassAt, MemberNamedAt, Among}

@@ -4,7 +4,7 @@ use Rattle.std.specs.Prelude.{slice_get, ◌⊎◌, ◌↔◌}
 use Rattle.std.proofs.lemmas.Option.{slice_get_within}
 use Rattle.jr_table.specs.Faults.{Place, IsUpTo}
 use Rattle.jr_build.specs.Places.{IsEarliest, IsEarlier, within_file}
-use Rattle.jr_table.specs.Declared.{Item, DeclaredItem}
+use Rattle.jr_table.specs.DeclaredItems.{Item, DeclaredItem}
 use Rattle.jr_table.specs.Faults.{At}
 use Rattle.jr_build.specs.DeclarationFaults.{IsLeastAt, Among}
 

@@ -5,7 +5,7 @@ use Rattle.jr_ast.specs.Tree as tree
 use Rattle.jr_ast.specs.MemberTree as syntax
 use Rattle.jr_table.specs.Keys.{ClassKey}
 use Rattle.jr_table.specs.Prelude.{top_key}
-use Rattle.jr_table.specs.Declared.{Written, int, boolean, named, DeclaredClass, DeclaredCtor, Item, class_item, field_item, method_item, ctor_item, DeclaredItem, written, writes_ctor, member_declarations, class_declarations, members_declarations, classes_declarations, declarations_from, declarations_of}
+use Rattle.jr_table.specs.DeclaredItems.{Written, int, boolean, named, DeclaredClass, DeclaredCtor, Item, class_item, field_item, method_item, ctor_item, DeclaredItem, written, writes_ctor, member_declarations, class_declarations, members_declarations, classes_declarations, declarations_from, declarations_of}
 use Rattle.jr_table.specs.Resolving.{DeclaresClass, IsDeclared}
 use Rattle.jr_table.specs.Faults.{At}
 use Rattle.jr_build.specs.Gathers.{in_file}

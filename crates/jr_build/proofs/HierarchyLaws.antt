@@ -4,7 +4,7 @@ use Rattle.std.proofs.lemmas.List.{length-map}
 use Rattle.jr_index.specs.Parents.{AreWithin, ComesEarly}
 use Rattle.jr_index.specs.Cycles.{AreOnCycle}
 use Rattle.jr_index.proofs.Early.{early}
-use Rattle.jr_table.specs.Declared.{DeclaredItem}
+use Rattle.jr_table.specs.DeclaredItems.{DeclaredItem}
 use Rattle.jr_build.specs.declared.hierarchies.Hierarchy.{Hierarchy}
 use Rattle.jr_build.specs.declared.declarations.DeclaredKey.{DeclaredKey}
 use Rattle.jr_index.specs.Names.{named}

@@ -6,7 +6,7 @@ use Rattle.std.specs.Cmp.Lexicographic.{pointwise}
 use Rattle.std.proofs.lemmas.Option.{slice_get_within}
 use Rattle.jr_table.specs.Keys.{ClassKey}
 use Rattle.jr_table.specs.SameKeys.{same_class, class_decides, maybe_name_decides}
-use Rattle.jr_table.specs.Declared.{Item, class_item, field_item, method_item, ctor_item, DeclaredClass, DeclaredItem}
+use Rattle.jr_table.specs.DeclaredItems.{Item, class_item, field_item, method_item, ctor_item, DeclaredClass, DeclaredItem}
 use Rattle.jr_table.specs.Faults.{At, IsNamedAsOuter, HasItsName}
 use Rattle.jr_build.specs.KeyIndex.{number_at, PutsKey, PutsMaybe, class_key_at, key_in, name_key_at, HasKey, IsIndexOf}
 use Rattle.jr_build.specs.DeclarationFaults.{HasEarlier, TwiceClassAt, MemberNamedAt, IsLeastAt, named_twice, twice_of, member_named}

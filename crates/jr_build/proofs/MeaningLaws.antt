@@ -4,7 +4,7 @@ use Rattle.std.specs.Prelude.{option_and_then, option_map, ◌⊎◌, ◌↔◌}
 use Rattle.jr_table.specs.Keys.{ClassKey, Ty, class}
 use Rattle.jr_table.specs.Keys as keys
 use Rattle.jr_table.specs.Prelude.{top_key}
-use Rattle.jr_table.specs.Declared.{Written, int, boolean, named, DeclaredClass, DeclaredItem}
+use Rattle.jr_table.specs.DeclaredItems.{Written, int, boolean, named, DeclaredClass, DeclaredItem}
 use Rattle.jr_table.specs.Resolving.{DeclaresClass, IsPrivateClass, IsTopClass, FindsInTop, MemberNames, TypeWithin, HasMemberType, IsParent, FindsAround, FindsType, Means}
 use Rattle.jr_build.specs.Hierarchies.{Hierarchy, key_at, parent_of, parent_key, first_of, member_type, member_type_of, found_around, found_type, meant_class, class_type, meaning}
 use Rattle.jr_build.specs.Superclasses.{KnowsTops, IsHierarchy, HasParent}

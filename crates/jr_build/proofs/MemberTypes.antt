@@ -5,7 +5,7 @@ use Rattle.std.proofs.lemmas.Option.{slice_get_within}
 use Rattle.jr_index.specs.Parents.{AreWithin, ComesEarly}
 use Rattle.jr_table.specs.Keys.{ClassKey}
 use Rattle.jr_table.specs.Prelude.{top_key, object_key}
-use Rattle.jr_table.specs.Declared.{DeclaredClass, DeclaredItem}
+use Rattle.jr_table.specs.DeclaredItems.{DeclaredClass, DeclaredItem}
 use Rattle.jr_table.specs.Resolving.{IsDeclared, IsTopClass, TopParent, IsPrivateClass, IsPreludeSubclass, member_key, TopMemberType, HasTopMemberType, FindsInTop, HasMemberType, IsParent}
 use Rattle.jr_build.specs.Hierarchies.{Hierarchy, key_at, parent_at, is_private_at, first_of, inner_key, own, own_at, nearest, inherited, parent_of, only_if, nearest_from, nearest_above, member_type, found_in_top}
 use Rattle.jr_build.specs.Superclasses.{HasClasses, KnowsTops, IsParentAt, HasParent}

@@ -9,7 +9,7 @@ use Rattle.jr_table.specs.Prelude as prelude
 use Rattle.jr_table.specs.Prelude.{prelude_rows, top_key, object_key}
 use Rattle.jr_table.specs.Conditions.{TypesName, Names, as_declarer, as_outer, as_superclass, as_type, as_parameter}
 use Rattle.jr_table.specs.Resolving.{DeclaresClass, IsDeclared}
-use Rattle.jr_table.specs.Declared.{Written, int, boolean, named, DeclaredParam, DeclaredClass, DeclaredField, DeclaredMethod, DeclaredCtor, Item, class_item, field_item, method_item, ctor_item, DeclaredItem}
+use Rattle.jr_table.specs.DeclaredItems.{Written, int, boolean, named, DeclaredParam, DeclaredClass, DeclaredField, DeclaredMethod, DeclaredCtor, Item, class_item, field_item, method_item, ctor_item, DeclaredItem}
 use Rattle.jr_table.specs.Faults.{At}
 use Rattle.jr_build.specs.ExactRows.{unwritten, param_types, result_type, class_row, field_row, method_row, ctor_row, class_rows, rows_of_item, rows_of_declarations}
 use Rattle.jr_build.specs.Heads.{AreHeaded}

@@ -4,7 +4,7 @@ use Rattle.std.specs.Prelude.{◌⊎◌}
 use Rattle.jr_index.specs.Parents.{AreWithin, ComesEarly}
 use Rattle.jr_table.specs.Keys.{ClassKey}
 use Rattle.jr_table.specs.Prelude.{top_key, object_key}
-use Rattle.jr_table.specs.Declared.{Written, int, boolean, named, DeclaredClass, DeclaredItem}
+use Rattle.jr_table.specs.DeclaredItems.{Written, int, boolean, named, DeclaredClass, DeclaredItem}
 use Rattle.jr_table.specs.Resolving.{DeclaresClass, IsPreludeSubclass, TopParent, TopNames, HasTopMemberType, FindsInTop, MemberNames, TypeWithin, HasMemberType, IsParent}
 use Rattle.jr_build.specs.Hierarchies.{Hierarchy, key_at}
 use Rattle.jr_build.specs.Superclasses.{KnowsTops}

@@ -8,7 +8,7 @@ use Rattle.jr_table.specs.Rows.{Row}
 use Rattle.jr_table.specs.Prelude.{prelude_rows}
 use Rattle.jr_table.specs.ProgramRows.{MeanTypes, MeansResult, IsClassRow, IsFieldRow, IsMethodRow, IsCtorRow, AreRowsOfDeclarations, AreProgramRows, unwritten_row}
 use Rattle.jr_table.specs.Resolving.{IsParent, Means}
-use Rattle.jr_table.specs.Declared.{Written, DeclaredParam, DeclaredClass, DeclaredField, DeclaredMethod, DeclaredCtor, Item, class_item, field_item, method_item, ctor_item, DeclaredItem}
+use Rattle.jr_table.specs.DeclaredItems.{Written, DeclaredParam, DeclaredClass, DeclaredField, DeclaredMethod, DeclaredCtor, Item, class_item, field_item, method_item, ctor_item, DeclaredItem}
 
 module _ (declarations : List DeclaredItem) (means : (k : ClassKey) (w : Written) (t u : Ty) → Means declarations k w t → Means declarations k w u → t ≡ u)
     (parents : (k p q : ClassKey) → IsParent declarations k p → IsParent declarations k q → p ≡ q) where

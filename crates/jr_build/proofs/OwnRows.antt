@@ -10,7 +10,7 @@ use Rattle.jr_table.specs.Rows.{Row}
 use Rattle.jr_table.specs.Entries.{class_of}
 use Rattle.jr_table.specs.Prelude.{prelude_rows}
 use Rattle.jr_table.specs.Resolving.{Means, DeclaresClass, IsDeclared, IsPreludeClass}
-use Rattle.jr_table.specs.Declared.{Written, int, boolean, named, DeclaredParam, DeclaredClass, DeclaredField, DeclaredMethod, DeclaredCtor, Item, class_item, field_item, method_item, ctor_item, DeclaredItem}
+use Rattle.jr_table.specs.DeclaredItems.{Written, int, boolean, named, DeclaredParam, DeclaredClass, DeclaredField, DeclaredMethod, DeclaredCtor, Item, class_item, field_item, method_item, ctor_item, DeclaredItem}
 use Rattle.jr_table.specs.Faults.{Place, At, PackageLine, HasFault, IsClean, Writes, WritesType, SameMember, name_at}
 use Rattle.jr_build.specs.ExactRows.{unwritten, param_types, result_type, class_row, field_row, method_row, ctor_row, class_rows, rows_of_item, rows_of_declarations}
 use Rattle.jr_build.specs.Heads.{IsOwner, AreHeaded}

@@ -9,7 +9,7 @@ use Rattle.jr_ast.specs.declared.members.Unit.{Unit}
 use Rattle.jr_table.specs.Faults.{Place, IsUpTo}
 use Rattle.jr_table.specs.declared.kinds.DeclKind.TheVariants as kind
 use Rattle.jr_build.specs.Places.{IsEarliest}
-use Rattle.jr_table.specs.Declared.{DeclaredItem}
+use Rattle.jr_table.specs.DeclaredItems.{DeclaredItem}
 use Rattle.jr_table.specs.Faults.{PackageLine, names_of, line_at, HasFault}
 use Rattle.jr_build.specs.Packages.{package_names, line_of, lines_of}
 use Rattle.jr_build.proofs.Earliest.{inside}

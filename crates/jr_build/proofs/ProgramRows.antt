@@ -7,7 +7,7 @@ use Rattle.jr_table.specs.Rows.{Row}
 use Rattle.jr_table.specs.Prelude.{prelude_rows}
 use Rattle.jr_table.specs.ProgramRows.{MeanTypes, MeansResult, IsClassRow, IsFieldRow, IsMethodRow, IsCtorRow, AreRowsOfDeclarations, AreProgramRows}
 use Rattle.jr_table.specs.Resolving.{IsParent, Means}
-use Rattle.jr_table.specs.Declared.{Written, DeclaredParam, DeclaredClass, DeclaredField, DeclaredMethod, DeclaredCtor, Item, class_item, field_item, method_item, ctor_item, DeclaredItem}
+use Rattle.jr_table.specs.DeclaredItems.{Written, DeclaredParam, DeclaredClass, DeclaredField, DeclaredMethod, DeclaredCtor, Item, class_item, field_item, method_item, ctor_item, DeclaredItem}
 use Rattle.jr_table.specs.Faults.{At, PackageLine, IsClean, Writes, WritesType}
 use Rattle.jr_build.specs.ExactRows.{param_types, result_type, class_row, field_row, method_row, ctor_row, class_rows, rows_of_item, rows_of_declarations}
 use Rattle.jr_build.specs.Heads.{AreHeaded}

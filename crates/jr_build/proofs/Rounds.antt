@@ -2,7 +2,7 @@
 use Rattle.std.proofs.Common.{◌≡◌, ℕ, suc, ◌+◌, ◌<◌, ◌≤◌, List, [], ◌∷◌, length, Option, Some, None, Bool, true, false, refl, sym, ap, subst, ◌∙◌, inl, inr, arith}
 use Rattle.std.specs.Prelude.{slice_get, is_some, ◌⊎◌, ◌||◌}
 use Rattle.std.proofs.lemmas.Option.{slice_get_within}
-use Rattle.jr_table.specs.Declared.{DeclaredClass, Item, class_item, DeclaredItem}
+use Rattle.jr_table.specs.DeclaredItems.{DeclaredClass, Item, class_item, DeclaredItem}
 use Rattle.jr_table.specs.Faults.{At}
 use Rattle.jr_build.specs.Hierarchies.{Hierarchy, class_keys, declaration_keys, prelude_classes, parent_at, parent_of_item, tells, with_parent, unknown}
 use Rattle.jr_build.specs.Superclasses.{KnowsTops, IsSettled}

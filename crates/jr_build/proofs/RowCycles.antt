@@ -12,7 +12,7 @@ use Rattle.jr_table.specs.Chains.{parent_of}
 use Rattle.jr_table.specs.Chains as chains
 use Rattle.jr_table.specs.Prelude.{prelude_rows, top_key, object_key}
 use Rattle.jr_table.specs.Resolving.{IsParent, Climbs, IsPreludeSubclass}
-use Rattle.jr_table.specs.Declared.{DeclaredClass, Item, class_item, field_item, method_item, ctor_item, DeclaredItem}
+use Rattle.jr_table.specs.DeclaredItems.{DeclaredClass, Item, class_item, field_item, method_item, ctor_item, DeclaredItem}
 use Rattle.jr_build.specs.ExactRows.{unwritten, class_row, field_row, method_row, ctor_row, rows_of_item, rows_of_declarations}
 use Rattle.jr_build.specs.Hierarchies.{Hierarchy, parent_key}
 use Rattle.jr_build.specs.Superclasses.{HasNoCycle}

@@ -4,7 +4,7 @@ use Rattle.std.specs.Prelude.{◌⊎◌, option_and_then, slice_get}
 use Rattle.jr_index.specs.Parents.{AreWithin, ComesEarly}
 use Rattle.jr_table.specs.Keys.{ClassKey}
 use Rattle.jr_table.specs.Prelude.{top_key, object_key}
-use Rattle.jr_table.specs.Declared.{Written, int, boolean, named, DeclaredClass, Item, class_item, DeclaredItem}
+use Rattle.jr_table.specs.DeclaredItems.{Written, int, boolean, named, DeclaredClass, Item, class_item, DeclaredItem}
 use Rattle.jr_table.specs.Faults.{At}
 use Rattle.jr_table.specs.Resolving.{DeclaresClass, TopParent, TopNames, IsTopClass, HasTopMemberType, FindsInTop, MemberNames, TypeWithin, HasMemberType, IsParent}
 use Rattle.jr_build.specs.Hierarchies.{Hierarchy, key_at, parent_at, own, member_type, member_type_at, member_type_of, found_in_top, parent_of_top, parent_of_inner, parent_in, parent_of_item}

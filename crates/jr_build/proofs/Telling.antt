@@ -4,7 +4,7 @@ use Rattle.std.specs.Prelude.{slice_get, slice_set, option_and_then, is_some, â—
 use Rattle.jr_index.specs.Parents.{next, AreWithin, ComesEarly}
 use Rattle.jr_table.specs.Keys.{ClassKey}
 use Rattle.jr_table.specs.Prelude.{top_key}
-use Rattle.jr_table.specs.Declared.{DeclaredClass, Item, class_item, field_item, method_item, ctor_item, DeclaredItem}
+use Rattle.jr_table.specs.DeclaredItems.{DeclaredClass, Item, class_item, field_item, method_item, ctor_item, DeclaredItem}
 use Rattle.jr_table.specs.Faults.{At}
 use Rattle.jr_table.specs.Resolving.{TopParent}
 use Rattle.jr_build.specs.Hierarchies.{Hierarchy, key_at, parent_at, parent_of_item, first_told, tells, with_parent, unknown}

@@ -4,7 +4,7 @@ use Rattle.std.specs.Prelude.{slice_get, option_and_then, codes, ◌⊎◌}
 use Rattle.jr_index.specs.Parents.{next}
 use Rattle.jr_table.specs.Keys.{ClassKey}
 use Rattle.jr_table.specs.Prelude.{top_key, object_key}
-use Rattle.jr_table.specs.Declared.{Written, int, boolean, named, DeclaredClass, Item, class_item, field_item, method_item, ctor_item, DeclaredItem}
+use Rattle.jr_table.specs.DeclaredItems.{Written, int, boolean, named, DeclaredClass, Item, class_item, field_item, method_item, ctor_item, DeclaredItem}
 use Rattle.jr_table.specs.Faults.{At}
 use Rattle.jr_table.specs.Resolving.{DeclaresClass, TopParent, IsParent, IsPreludeSubclass}
 use Rattle.jr_build.specs.Hierarchies.{Hierarchy, key_at, class_keys, declaration_keys, parent_of_top, parent_of_outer, parent_of_outer_item, prelude_parents, declaration_parents, top_parents}

@@ -8,7 +8,7 @@ use Rattle.jr_table.specs.declared.kinds.DeclKind.TheVariants as kind
 use Rattle.jr_table.specs.Keys.{ClassKey, Ty}
 use Rattle.jr_table.specs.SameKeys.{same_class, same_types, class_decides, maybe_name_decides, types_decide}
 use Rattle.jr_table.specs.Resolving.{Means}
-use Rattle.jr_table.specs.Declared.{Written, DeclaredParam, Item, class_item, field_item, method_item, ctor_item, DeclaredItem}
+use Rattle.jr_table.specs.DeclaredItems.{Written, DeclaredParam, Item, class_item, field_item, method_item, ctor_item, DeclaredItem}
 use Rattle.jr_table.specs.Faults.{Place, At, PackageLine, HasFault, SameTypes, SameMember, ParamTwice, params_of, name_at}
 use Rattle.jr_build.specs.declared.signatures.Signature as raw
 use Rattle.jr_build.specs.declared.signatures.SignatureIndex.{SignatureIndex}

@@ -8,7 +8,7 @@ use Rattle.jr_index.specs.Names.{named, PutsNumber}
 use Rattle.jr_index.specs.declared.names.Names.{Names}
 use Rattle.jr_build.specs.declared.declarations.DeclaredParam as raw
 use Rattle.jr_build.specs.DeclaredView.{param_declaration_of}
-use Rattle.jr_table.specs.Declared.{DeclaredParam}
+use Rattle.jr_table.specs.DeclaredItems.{DeclaredParam}
 use Rattle.jr_table.specs.Faults.{ParamTwice}
 use Rattle.jr_build.specs.DeclarationFaults.{IsLeastAt}
 use Rattle.jr_build.specs.TypeFaults.{lesser}

@@ -6,7 +6,7 @@ use Rattle.jr_table.specs.declared.kinds.DeclKind.TheVariants as kind
 use Rattle.jr_table.specs.Keys.{ClassKey, Ty}
 use Rattle.jr_table.specs.Keys as keys
 use Rattle.jr_table.specs.Resolving.{Means}
-use Rattle.jr_table.specs.Declared.{Written, int, boolean, named, DeclaredParam, DeclaredMethod, DeclaredField, DeclaredCtor, Item, field_item, method_item, ctor_item, class_item, DeclaredItem}
+use Rattle.jr_table.specs.DeclaredItems.{Written, int, boolean, named, DeclaredParam, DeclaredMethod, DeclaredField, DeclaredCtor, Item, field_item, method_item, ctor_item, class_item, DeclaredItem}
 use Rattle.jr_table.specs.Faults.{Place, At, PackageLine, HasFault, Writes, WritesType}
 use Rattle.jr_build.specs.declared.declarations.DeclaredParam as raw
 use Rattle.jr_build.specs.Hierarchies.{Hierarchy, meaning}

@@ -1,7 +1,7 @@
 -- What a table's making answers.
 use Rattle.std.specs.Prelude.{◌≡◌, ℕ, ◌<◌, List, Option, Some, None}
 use Rattle.jr_table.specs.declared.kinds.DeclKind.{DeclKind}
-use Rattle.jr_table.specs.Declared.{DeclaredItem}
+use Rattle.jr_table.specs.DeclaredItems.{DeclaredItem}
 use Rattle.jr_table.specs.Faults.{Place, PackageLine, HasFault, IsFirstFault, rank_of}
 use Rattle.jr_build.specs.declared.faults.BuildFault.{BuildFault}
 use Rattle.jr_build.specs.declared.faults.BuildFault.TheVariants as fault

@@ -21,7 +21,7 @@ use Rattle.jr_ast.specs.declared.operators.ModWord.{ModWord}
 use Rattle.jr_table.specs.Faults.{Place}
 use Rattle.jr_table.specs.Resolving.{HasWord}
 use Rattle.jr_table.specs.Keys.{ClassKey}
-use Rattle.jr_table.specs.Declared.{Item, class_item, DeclaredClass, DeclaredItem}
+use Rattle.jr_table.specs.DeclaredItems.{Item, class_item, DeclaredClass, DeclaredItem}
 use Rattle.jr_build.specs.KeyIndex.{number_at}
 use Rattle.jr_build.specs.declared.key_index.KeyIndex.{KeyIndex}
 use Rattle.jr_table.specs.Faults.{

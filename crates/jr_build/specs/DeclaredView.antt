@@ -14,7 +14,7 @@ use Rattle.jr_build.specs.declared.declarations.DeclaredKind as raw_item
 use Rattle.jr_build.specs.declared.declarations.DeclaredKind.TheVariants as item
 use Rattle.jr_build.specs.declared.declarations.DeclaredItem as raw_declaration
 use Rattle.jr_table.specs.Keys.{ClassKey}
-use Rattle.jr_table.specs.Declared.{
+use Rattle.jr_table.specs.DeclaredItems.{
   Written,
   int,
   boolean,

@@ -18,7 +18,7 @@ use Rattle.std.specs.Prelude.{
 use Rattle.jr_table.specs.Keys.{ClassKey, Ty, void}
 use Rattle.jr_table.specs.Decls.{class_decl, field_decl, method_decl, constructor_decl}
 use Rattle.jr_table.specs.Rows.{Row}
-use Rattle.jr_table.specs.Declared.{
+use Rattle.jr_table.specs.DeclaredItems.{
   Written,
   DeclaredParam,
   DeclaredClass,

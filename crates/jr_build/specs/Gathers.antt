@@ -1,7 +1,7 @@
 -- What a function that gathers declarations says of its list.
 use Rattle.std.specs.Prelude.{◌≡◌, ℕ, List, ◌++◌, Result, OnOk, map}
 use Rattle.jr_build.specs.declared.declarations.DeclaredItem as raw
-use Rattle.jr_table.specs.Declared.{Item, DeclaredItem}
+use Rattle.jr_table.specs.DeclaredItems.{Item, DeclaredItem}
 use Rattle.jr_build.specs.DeclaredView.{declaration_of}
 
 -- the declarations of a file

@@ -17,7 +17,7 @@ use Rattle.jr_ast.specs.Tree as tree
 use Rattle.jr_ast.specs.MemberTree as syntax
 use Rattle.jr_table.specs.Keys.{ClassKey}
 use Rattle.jr_table.specs.Prelude.{top_key}
-use Rattle.jr_table.specs.Declared.{
+use Rattle.jr_table.specs.DeclaredItems.{
   Written,
   int,
   boolean,

@@ -31,7 +31,7 @@ use Rattle.jr_build.specs.KeyIndex.{class_key_at}
 use Rattle.jr_table.specs.Keys.{ClassKey, Ty, class}
 use Rattle.jr_table.specs.Keys as keys
 use Rattle.jr_table.specs.Prelude.{top_key, object_key}
-use Rattle.jr_table.specs.Declared.{
+use Rattle.jr_table.specs.DeclaredItems.{
   Written,
   int,
   boolean,

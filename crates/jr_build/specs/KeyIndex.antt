@@ -4,7 +4,7 @@ use Rattle.std.specs.Option.{MatchOption}
 use Rattle.std.specs.HashMap.{get_by}
 use Rattle.jr_table.specs.Keys.{ClassKey}
 use Rattle.jr_table.specs.SameKeys.{same_class}
-use Rattle.jr_table.specs.Declared.{Item, class_item, field_item, method_item, DeclaredItem}
+use Rattle.jr_table.specs.DeclaredItems.{Item, class_item, field_item, method_item, DeclaredItem}
 use Rattle.jr_table.specs.Faults.{At}
 use Rattle.jr_build.specs.DeclaredView.{declaration_key_of}
 use Rattle.jr_build.specs.declared.key_index.KeyIndex.{KeyIndex}

@@ -2,7 +2,7 @@
 use Rattle.std.specs.Prelude.{◌≡◌, ℕ, List, Option, Some, None, min, ◌↔◌}
 use Rattle.jr_table.specs.Keys.{ClassKey, Ty}
 use Rattle.jr_table.specs.Resolving.{Means}
-use Rattle.jr_table.specs.Declared.{Written, named, DeclaredParam, Item, DeclaredItem}
+use Rattle.jr_table.specs.DeclaredItems.{Written, named, DeclaredParam, Item, DeclaredItem}
 use Rattle.jr_table.specs.Faults.{Writes, WritesType}
 use Rattle.jr_build.specs.Hierarchies.{Hierarchy, meaning}
 

@@ -6,7 +6,7 @@ ghost use Rattle.jr_table.specs.Faults.{PackageLine, IsClean};
 ghost use Rattle.jr_table.specs.Prelude.{prelude_rows};
 ghost use Rattle.jr_table.specs.ProgramRows.{AreProgramRows};
 ghost use Rattle.jr_table.specs.Rows.{Row};
-ghost use Rattle.jr_table.specs.Declared.{DeclaredItem, declarations_of};
+ghost use Rattle.jr_table.specs.DeclaredItems.{DeclaredItem, declarations_of};
 ghost use Rattle.jr_build.specs.ExactRows.{rows_of_declarations};
 ghost use Rattle.jr_build.specs.Heads.{UnitsHeads, AreHeaded};
 ghost use Rattle.jr_build.specs.Hierarchies.{Hierarchy};

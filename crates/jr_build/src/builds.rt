@@ -8,7 +8,7 @@ ghost use Rattle.jr_table.specs.Prelude.{prelude_rows};
 ghost use Rattle.jr_table.specs.ProgramRows.{AreProgramRows};
 ghost use Rattle.jr_table.specs.RowView.{row_of};
 ghost use Rattle.jr_table.specs.Rows as pure_rows;
-ghost use Rattle.jr_table.specs.Declared as pure;
+ghost use Rattle.jr_table.specs.DeclaredItems as pure;
 ghost use Rattle.jr_build.specs.declared.faults.BuildFault.TheVariants as fault;
 ghost use Rattle.jr_build.specs.Builds.{IsFoundFault, IsCleanBelow};
 ghost use Rattle.jr_build.specs.ExactRows.{rows_of_declarations};

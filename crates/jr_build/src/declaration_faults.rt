@@ -5,7 +5,7 @@ ghost use Rattle.jr_table.specs.Faults.{IsReserved, WordsBad, ClassWordsBad, Ini
 ghost use Rattle.jr_table.specs.Faults.{PackageLine, HasFault};
 ghost use Rattle.jr_build.specs.Places.{place_of, IsEarliest};
 ghost use Rattle.jr_build.specs.DeclarationFaults.{ReservedAt, BadWordsAt, IsLeastAt};
-ghost use Rattle.jr_table.specs.Declared as pure_declarations;
+ghost use Rattle.jr_table.specs.DeclaredItems as pure_declarations;
 ghost use Rattle.jr_build.specs.DeclaredView.{class_declaration_of, field_declaration_of, item_of, declaration_of};
 
 use crate::declarations::{DeclaredClass, DeclaredField, DeclaredItem, DeclaredKind};

@@ -2,9 +2,9 @@
 ghost use Rattle.std.specs.Prelude.{◌≡◌, IfOk, map, option_map, [], ◌∷◌, ◌&&◌};
 ghost use Rattle.jr_ast.specs.View.{word_of, modifier_of, type_of, param_of, expr_of, exprs_of};
 ghost use Rattle.jr_ast.specs.View.{members_of};
-ghost use Rattle.jr_table.specs.Declared.{word_at, written, words, param_declaration, init_declaration};
-ghost use Rattle.jr_table.specs.Declared.{is_minus, is_number, is_object, has_none, is_simple};
-ghost use Rattle.jr_table.specs.Declared.{writes_ctor};
+ghost use Rattle.jr_table.specs.DeclaredItems.{word_at, written, words, param_declaration, init_declaration};
+ghost use Rattle.jr_table.specs.DeclaredItems.{is_minus, is_number, is_object, has_none, is_simple};
+ghost use Rattle.jr_table.specs.DeclaredItems.{writes_ctor};
 ghost use Rattle.jr_build.specs.DeclaredView.{written_of, param_declaration_of, init_declaration_of};
 ghost use Rattle.jr_build.specs.Fitting.{begins_by, WordFits, TypeFits, MaybeTypeFits};
 ghost use Rattle.jr_build.specs.Fitting.{InitFits, ParamFits, ParamsFit};

@@ -3,10 +3,10 @@ ghost use Rattle.std.specs.Prelude.{◌≡◌, ◌++◌, [], ◌∷◌, ◌<◌,
 ghost use Rattle.std.specs.Prelude.{option_map};
 ghost use Rattle.jr_ast.specs.View.{word_of, modifier_of, type_of, param_of, expr_of};
 ghost use Rattle.jr_ast.specs.View.{class_of, member_of, members_of, unit_of};
-ghost use Rattle.jr_table.specs.Declared.{word_at, written, words, param_declaration, init_declaration, writes_ctor};
-ghost use Rattle.jr_table.specs.Declared.{member_declarations, class_declarations, members_declarations, declarations_of};
-ghost use Rattle.jr_table.specs.Declared.{class_item, field_item, method_item, ctor_item};
-ghost use Rattle.jr_table.specs.Declared.{classes_declarations, declarations_from};
+ghost use Rattle.jr_table.specs.DeclaredItems.{word_at, written, words, param_declaration, init_declaration, writes_ctor};
+ghost use Rattle.jr_table.specs.DeclaredItems.{member_declarations, class_declarations, members_declarations, declarations_of};
+ghost use Rattle.jr_table.specs.DeclaredItems.{class_item, field_item, method_item, ctor_item};
+ghost use Rattle.jr_table.specs.DeclaredItems.{classes_declarations, declarations_from};
 ghost use Rattle.jr_build.specs.DeclaredView.{text_of, declaration_key_of, declaration_of};
 ghost use Rattle.jr_build.specs.Fitting.{begins_by, WordFits, TypeFits, MaybeTypeFits};
 ghost use Rattle.jr_build.specs.Fitting.{InitFits, ParamsFit};
@@ -228,7 +228,7 @@ fn member<'a, A: Mark>(
 
 /// Puts the declarations of a class and of its members behind the others.
 #[cycle(gathering)]
-#[tactic(auto, unfolding(crate::specs::Fitting::ClassFits, jr_table::specs::Declared::class_declarations))]
+#[tactic(auto, unfolding(crate::specs::Fitting::ClassFits, jr_table::specs::DeclaredItems::class_declarations))]
 fn class<'a, A: Mark>(
     alloc: Global,
     declarations: &mut Vec<DeclaredItem<'a>>,

@@ -2,7 +2,7 @@
 ghost use Rattle.std.specs.Prelude.{◌≡◌, ℕ, List, Option, Some, ◌↔◌};
 ghost use Rattle.jr_table.specs.declared.kinds.DeclKind.TheVariants as kind;
 ghost use Rattle.jr_table.specs.Keys.{ClassKey, Ty};
-ghost use Rattle.jr_table.specs.Declared.{DeclaredItem, Written};
+ghost use Rattle.jr_table.specs.DeclaredItems.{DeclaredItem, Written};
 ghost use Rattle.jr_table.specs.Faults.{Place, PackageLine, HasFault};
 ghost use Rattle.jr_table.specs.Resolving.{Means, IsParent};
 ghost use Rattle.jr_build.specs.Hierarchies.{Hierarchy, meaning, parent_key};

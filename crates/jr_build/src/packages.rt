@@ -5,7 +5,7 @@ ghost use Rattle.jr_table.specs.declared.kinds.DeclKind.TheVariants as kind;
 ghost use Rattle.jr_table.specs.Faults.{HasFault, line_at};
 ghost use Rattle.jr_build.specs.Packages.{package_names, line_of, lines_of};
 ghost use Rattle.jr_build.specs.Places.{place_of, IsEarliest};
-ghost use Rattle.jr_table.specs.Declared.{DeclaredItem};
+ghost use Rattle.jr_table.specs.DeclaredItems.{DeclaredItem};
 
 use jr_ast::{Ident, Unit};
 use jr_text::Place;

@@ -7,7 +7,7 @@ ghost use Rattle.jr_build.specs.Places.{place_of, IsEarliest};
 ghost use Rattle.jr_build.specs.DeclarationFaults.{IsLeastAt};
 ghost use Rattle.jr_build.specs.DeclaredView.{declaration_key_of, written_of, param_declaration_of};
 ghost use Rattle.jr_build.specs.DeclaredView.{method_declaration_of, item_of, declaration_of};
-ghost use Rattle.jr_table.specs.Declared.{method_item};
+ghost use Rattle.jr_table.specs.DeclaredItems.{method_item};
 ghost use Rattle.jr_build.specs.TypeFaults.{lesser, MeansNothing, MaybeNothing};
 ghost use Rattle.jr_build.specs.TypeFaults.{AnyNothing, NothingAt, KnowsMeanings};
 

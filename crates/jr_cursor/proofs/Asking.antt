@@ -15,7 +15,7 @@ use Rattle.jr_grammar.specs.Tokens.{placed_of}
 use Rattle.jr_grammar.proofs.Layouts.{all_spans_from-span}
 use Rattle.jr_table.specs.Decls.{MemberKey, Decl}
 use Rattle.jr_table.specs.Rows.{Row}
-use Rattle.jr_table.specs.Declared.{declarations_of}
+use Rattle.jr_table.specs.DeclaredItems.{declarations_of}
 use Rattle.jr_table.specs.Errors.{Part, class_part, member_part, part_mark, Binds}
 use Rattle.jr_members.specs.WrittenMembers.{WrittenMember, written_members}
 use Rattle.jr_members.specs.WrittenLaws.{AreWritten, IsWritten, MembersAreWritten}

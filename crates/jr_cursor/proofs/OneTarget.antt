@@ -13,7 +13,7 @@ use Rattle.jr_grammar.specs.Tokens.{placed_of}
 use Rattle.jr_table.specs.Decls.{MemberKey, Decl}
 use Rattle.jr_table.specs.LookupLaws.{KeysFound, OneAnswer}
 use Rattle.jr_table.specs.BindingLaws.{AreBound}
-use Rattle.jr_table.specs.Declared.{declarations_of}
+use Rattle.jr_table.specs.DeclaredItems.{declarations_of}
 use Rattle.jr_table.specs.Errors.{Part, Binds, InClasses}
 use Rattle.jr_members.specs.WrittenMembers.{written_members}
 use Rattle.jr_members.specs.WrittenLaws.{AreWritten, IsWritten, MembersAreWritten}

@@ -1,6 +1,6 @@
--- `MethodWalks`, `Imaging`, `Holding`: the code's sets, images and identifier. `SuitableSpelling`,
--- `IdentifierNames`, `RowNames`: a spelling suits its place, since rows' names are identifiers; so
--- each renamed text reads as its tree.
+-- `MethodWalks`, `Imaging`: the code's sets and images. `Forms`: forms of references.
+-- `SuitableSpelling`, `IdentifierNames`, `RowNames`: a spelling suits its place, since rows' names
+-- are identifiers; so each renamed text reads as its tree.
 pub mod Forms
 pub mod SuitableSpelling
 pub mod Imaging

@@ -13,7 +13,7 @@ use Rattle.jr_table.specs.Keys.{ClassKey}
 use Rattle.jr_table.specs.Decls.{class_decl}
 use Rattle.jr_table.specs.Rows.{Row}
 use Rattle.jr_table.specs.Prelude.{prelude_rows}
-use Rattle.jr_table.specs.Declared.{Written, Item, class_item, field_item, method_item, ctor_item, DeclaredItem, class_key, member_declarations, class_declarations, members_declarations, classes_declarations, declarations_from, declarations_of}
+use Rattle.jr_table.specs.DeclaredItems.{Written, Item, class_item, field_item, method_item, ctor_item, DeclaredItem, class_key, member_declarations, class_declarations, members_declarations, classes_declarations, declarations_from, declarations_of}
 use Rattle.jr_table.specs.ProgramRows.{AreRowsOfDeclarations}
 use Rattle.jr_images.specs.TextLaws.{IsOuterName, IsNamedClass, IsNamedDecl, AreNamed, RowsAreNamed}
 use Rattle.jr_images.proofs.IdentifierNames.{without_dot, object_name, string_name, class_name, thread_name, run_name, start_name}

@@ -15,7 +15,7 @@ use Rattle.jr_table.specs.Decls.{
 use Rattle.jr_table.specs.Rows.{Row}
 use Rattle.jr_table.specs.Prelude.{top_key}
 use Rattle.jr_table.specs.Entries.{IsRowOf, name_of}
-use Rattle.jr_table.specs.Declared.{declarations_of}
+use Rattle.jr_table.specs.DeclaredItems.{declarations_of}
 use Rattle.jr_table.specs.Context.{Context, Local, local_key}
 use Rattle.jr_table.specs.Errors.{Part, member_part, InMember, InUnits}
 use Rattle.jr_images.specs.Families.{IsRenamedWith}

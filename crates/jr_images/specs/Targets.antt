@@ -24,7 +24,7 @@ use Rattle.jr_table.specs.Decls.{MemberKey, head, Decl, class_decl, local_decl}
 use Rattle.jr_table.specs.Rows.{Row}
 use Rattle.jr_table.specs.Entries.{IsRowOf}
 use Rattle.jr_table.specs.Prelude.{prelude_rows}
-use Rattle.jr_table.specs.Declared.{declarations_of}
+use Rattle.jr_table.specs.DeclaredItems.{declarations_of}
 use Rattle.jr_table.specs.Context.{Context, local_key}
 use Rattle.jr_table.specs.Errors.{Part, class_part, member_part, InMember, InClasses, Binds}
 use Rattle.jr_rewrite.specs.Rewrites.{declared_by}

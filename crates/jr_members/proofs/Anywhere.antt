@@ -4,7 +4,7 @@ use Rattle.std.specs.Prelude.{slice_get}
 use Rattle.jr_ast.specs.MemberTree as syntax
 use Rattle.jr_table.specs.Keys.{ClassKey}
 use Rattle.jr_table.specs.Decls.{MemberKey}
-use Rattle.jr_table.specs.Declared.{DeclaredItem, declarations_of, class_key}
+use Rattle.jr_table.specs.DeclaredItems.{DeclaredItem, declarations_of, class_key}
 use Rattle.jr_table.specs.Errors.{Part, class_part, member_part, InClass, InMembers, InInner, InClasses, InUnits}
 use Rattle.jr_members.specs.WrittenLaws.{IsWritten}
 

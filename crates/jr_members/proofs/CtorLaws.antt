@@ -4,7 +4,7 @@ use Rattle.std.proofs.lemmas.List.{drop_all}
 use Rattle.jr_ast.specs.MemberTree as syntax
 use Rattle.jr_ast.specs.declared.members.Member.{Member}
 use Rattle.jr_ast.specs.View.{member_of, members_of}
-use Rattle.jr_table.specs.Declared.{writes_ctor}
+use Rattle.jr_table.specs.DeclaredItems.{writes_ctor}
 use Rattle.jr_members.specs.WrittenMembers.{is_ctor}
 use Rattle.jr_members.proofs.PartLists.{rest_is}
 

@@ -7,7 +7,7 @@ use Rattle.jr_table.specs.Rows.{Row}
 use Rattle.jr_table.specs.Entries.{IsRowOf}
 use Rattle.jr_table.specs.Conditions.{AreRows}
 use Rattle.jr_table.specs.Prelude.{prelude_rows, top_key}
-use Rattle.jr_table.specs.Declared.{Written, DeclaredClass, Item, class_item, field_item, method_item, ctor_item, DeclaredItem}
+use Rattle.jr_table.specs.DeclaredItems.{Written, DeclaredClass, Item, class_item, field_item, method_item, ctor_item, DeclaredItem}
 use Rattle.jr_table.specs.Resolving.{DeclaresClass}
 use Rattle.jr_table.specs.ProgramRows.{AreRowsOfDeclarations, AreProgramRows}
 use Rattle.jr_members.proofs.Meaning.{OneClass, Unreserved}

@@ -3,7 +3,7 @@
 use Rattle.std.proofs.Common.{◌≡◌, ℕ, zero, suc, List, [], ◌∷◌, Option, Some, None, refl, sym, ap, subst, ◌∙◌, inl, inr}
 use Rattle.jr_table.specs.Keys.{ClassKey, Ty, class}
 use Rattle.jr_table.specs.Prelude.{top_key}
-use Rattle.jr_table.specs.Declared.{Written, int, boolean, named, DeclaredParam, DeclaredClass, DeclaredItem}
+use Rattle.jr_table.specs.DeclaredItems.{Written, int, boolean, named, DeclaredParam, DeclaredClass, DeclaredItem}
 use Rattle.jr_table.specs.Resolving.{DeclaresClass, IsDeclared, IsPreludeSubclass, TopParent, TopNames, TopMemberType, HasTopMemberType, FindsInTop, MemberNames, TypeWithin, HasMemberType, FindsAround, FindsType, Means}
 use Rattle.jr_table.specs.ProgramRows.{MeanTypes}
 

@@ -9,7 +9,7 @@ use Rattle.jr_table.specs.Rows.{Row}
 use Rattle.jr_table.specs.Prelude.{prelude_rows}
 use Rattle.jr_table.specs.Entries.{IsRowOf}
 use Rattle.jr_table.specs.Conditions.{AreRows}
-use Rattle.jr_table.specs.Declared.{DeclaredItem, declarations_of, declarations_from}
+use Rattle.jr_table.specs.DeclaredItems.{DeclaredItem, declarations_of, declarations_from}
 use Rattle.jr_table.specs.ProgramRows.{AreRowsOfDeclarations, AreProgramRows}
 use Rattle.jr_table.specs.Errors.{Part, InClasses}
 use Rattle.jr_table.proofs.RowLaws.{the_number}

@@ -7,7 +7,7 @@ use Rattle.jr_ast.specs.MemberTree as syntax
 use Rattle.jr_table.specs.Keys.{ClassKey}
 use Rattle.jr_table.specs.Decls.{MemberKey, head, field, method, constructor, Decl}
 use Rattle.jr_table.specs.Rows.{Row}
-use Rattle.jr_table.specs.Declared.{Item, class_item, DeclaredItem, class_key, writes_ctor, word_at, words, written, param_declaration, member_declarations, class_declarations, members_declarations, classes_declarations}
+use Rattle.jr_table.specs.DeclaredItems.{Item, class_item, DeclaredItem, class_key, writes_ctor, word_at, words, written, param_declaration, member_declarations, class_declarations, members_declarations, classes_declarations}
 use Rattle.jr_table.specs.ProgramRows.{AreRowsOfDeclarations}
 use Rattle.jr_table.specs.Errors.{Part, class_part, member_part, Declares, InClass, InMembers, InInner, InClasses}
 use Rattle.jr_members.specs.Parts.{Placed, placed, class_parts, members_parts, member_parts, classes_parts}

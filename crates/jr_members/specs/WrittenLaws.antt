@@ -5,7 +5,7 @@ use Rattle.jr_table.specs.Decls.{MemberKey}
 use Rattle.jr_table.specs.Rows.{Row}
 use Rattle.jr_table.specs.Entries.{number_of}
 use Rattle.jr_table.specs.Conditions.{AreRows}
-use Rattle.jr_table.specs.Declared.{declarations_of}
+use Rattle.jr_table.specs.DeclaredItems.{declarations_of}
 use Rattle.jr_table.specs.ProgramRows.{AreProgramRows}
 use Rattle.jr_table.specs.Errors.{Part, InClasses}
 use Rattle.jr_members.specs.WrittenMembers.{WrittenMember, decl_of_member, written_members}

@@ -32,7 +32,7 @@ use Rattle.jr_table.specs.Decls.{
 }
 use Rattle.jr_table.specs.Rows.{Row}
 use Rattle.jr_table.specs.Prelude.{prelude_rows}
-use Rattle.jr_table.specs.Declared.{writes_ctor}
+use Rattle.jr_table.specs.DeclaredItems.{writes_ctor}
 use Rattle.jr_table.specs.Errors.{Part, class_part, member_part}
 use Rattle.jr_members.specs.Parts.{Placed, units_parts}
 

@@ -5,7 +5,7 @@ ghost use Rattle.jr_ast.specs.View.{class_of, member_of, members_of, unit_of};
 ghost use Rattle.jr_table.specs.Errors.{class_part};
 ghost use Rattle.jr_table.specs.KeyView.{decl_of, member_key_of};
 ghost use Rattle.jr_table.specs.RowView.{row_of};
-ghost use Rattle.jr_table.specs.Declared.{writes_ctor};
+ghost use Rattle.jr_table.specs.DeclaredItems.{writes_ctor};
 ghost use Rattle.jr_members.specs.Fitting.{begins_by, UnitsFit};
 ghost use Rattle.jr_members.specs.PartView.{part_of, placed_of, written_of};
 ghost use Rattle.jr_members.specs.WrittenMembers as members;

@@ -1,7 +1,7 @@
 //! Parts of a program that are members of their own.
 ghost use Rattle.std.specs.Prelude.{◌≡◌};
 ghost use Rattle.jr_ast.specs.View.{member_of, members_of};
-ghost use Rattle.jr_table.specs.Declared.{writes_ctor};
+ghost use Rattle.jr_table.specs.DeclaredItems.{writes_ctor};
 
 use jr_ast::{Class, Member, MemberKind};
 

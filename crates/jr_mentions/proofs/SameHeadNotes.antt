@@ -10,7 +10,7 @@ use Rattle.jr_table.specs.Decls.{MemberKey, head, field, method, constructor, cl
 use Rattle.jr_table.specs.Rows.{Row}
 use Rattle.jr_table.specs.Entries.{top_class}
 use Rattle.jr_table.specs.Prelude.{top_key}
-use Rattle.jr_table.specs.Declared.{writes_ctor}
+use Rattle.jr_table.specs.DeclaredItems.{writes_ctor}
 use Rattle.jr_table.specs.Found.{one, nothing}
 use Rattle.jr_table.specs.Context.{Context, scope_of}
 use Rattle.jr_table.specs.Binding.{type}

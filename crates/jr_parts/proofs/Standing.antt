@@ -18,7 +18,7 @@ use Rattle.jr_grammar.proofs.Layouts.{all_spans_from-span}
 use Rattle.jr_table.specs.Keys.{ClassKey}
 use Rattle.jr_table.specs.Decls.{MemberKey, head, Decl}
 use Rattle.jr_table.specs.Rows.{Row}
-use Rattle.jr_table.specs.Declared.{declarations_of}
+use Rattle.jr_table.specs.DeclaredItems.{declarations_of}
 use Rattle.jr_table.specs.LookupLaws.{OneAnswer}
 use Rattle.jr_table.specs.Errors.{Part, class_part, member_part, part_mark, Binds, Breaks, InClasses, InClass, InMembers, InInner}
 use Rattle.jr_table.specs.declared.rules.Rule.{Rule}

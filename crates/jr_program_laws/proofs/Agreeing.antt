@@ -13,7 +13,7 @@ use Rattle.jr_table.specs.Conditions.{AreRows, as_outer, as_superclass}
 use Rattle.jr_table.specs.Chains.{parent_of, outer_of, GoesUp, IsChain, chain_of}
 use Rattle.jr_table.specs.Members.{DeclaresType, IsPrivate, MemberAmong, IsMemberType}
 use Rattle.jr_table.specs.Context.{IsSuperclass}
-use Rattle.jr_table.specs.Declared.{DeclaredClass, DeclaredItem}
+use Rattle.jr_table.specs.DeclaredItems.{DeclaredClass, DeclaredItem}
 use Rattle.jr_table.specs.Resolving.{DeclaresClass, IsDeclared, IsTopClass, IsPreludeClass, IsPrivateClass, TopParent, IsParent, member_key}
 use Rattle.jr_table.proofs.RowLaws.{number_stands, the_number, entry_stands, row_at, acyclic_rows}
 use Rattle.jr_table.proofs.OneEach.{is_class_decl}

@@ -9,7 +9,7 @@ use Rattle.jr_table.specs.Entries.{class_of, class_of_member}
 use Rattle.jr_table.specs.Conditions.{AreRows, as_declarer}
 use Rattle.jr_table.specs.Context.{scope_of}
 use Rattle.jr_table.specs.HeadRules.{plain}
-use Rattle.jr_table.specs.Declared.{DeclaredItem, member_declarations, declarations_of}
+use Rattle.jr_table.specs.DeclaredItems.{DeclaredItem, member_declarations, declarations_of}
 use Rattle.jr_table.specs.ProgramRows.{AreProgramRows}
 use Rattle.jr_table.specs.Faults.{PackageLine, IsClean}
 use Rattle.jr_table.specs.Errors.{Part, class_part, member_part}

@@ -16,7 +16,7 @@ use Rattle.jr_table.specs.Conditions.{AreRows}
 use Rattle.jr_table.specs.LookupLaws.{HasOne, EachHasOne}
 use Rattle.jr_table.specs.BindingLaws.{IsBound}
 use Rattle.jr_table.specs.Context.{Context}
-use Rattle.jr_table.specs.Declared.{DeclaredItem, class_key}
+use Rattle.jr_table.specs.DeclaredItems.{DeclaredItem, class_key}
 use Rattle.jr_table.specs.Errors.{class_part, member_part, Binds, Declares, InClass, InMembers, InInner, InClasses}
 use Rattle.jr_program_laws.specs.FileParts.{begins, IsSuperAt, BindsAt}
 use Rattle.jr_program_laws.proofs.TokenOrder.{Rising}

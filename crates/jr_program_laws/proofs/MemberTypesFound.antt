@@ -10,7 +10,7 @@ use Rattle.jr_table.specs.Chains.{parent_of, outer_of, GoesUp, IsChain}
 use Rattle.jr_table.specs.Members.{DeclaresType, IsPrivate, MemberAmong, IsMemberType}
 use Rattle.jr_table.specs.Innermost.{NoneAround}
 use Rattle.jr_table.specs.TypeNames.{HasTypeNamed, FindsType}
-use Rattle.jr_table.specs.Declared.{DeclaredClass, DeclaredItem}
+use Rattle.jr_table.specs.DeclaredItems.{DeclaredClass, DeclaredItem}
 use Rattle.jr_table.specs.Resolving as meaning
 use Rattle.jr_table.specs.Resolving.{DeclaresClass, IsDeclared, IsTopClass, TopParent, TopMemberType, HasTopMemberType, FindsInTop, TypeWithin, HasMemberType, FindsAround, IsParent, IsPrivateClass, member_key}
 use Rattle.jr_build.proofs.Looks.{key, names_so, top_type, parent_is_top, top_eta, inherits}

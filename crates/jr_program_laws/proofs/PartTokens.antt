@@ -7,7 +7,7 @@ use Rattle.jr_grammar.specs.Stands.{Tokens, InOrder, IsNode, Stands, StandInOrde
 use Rattle.jr_grammar.specs.MemberLayout.{class_layout, member_layout, members_layout, classes_layout, unit_layouts}
 use Rattle.jr_table.specs.Keys.{ClassKey}
 use Rattle.jr_table.specs.Decls.{MemberKey}
-use Rattle.jr_table.specs.Declared.{DeclaredItem, class_key}
+use Rattle.jr_table.specs.DeclaredItems.{DeclaredItem, class_key}
 use Rattle.jr_table.specs.Errors.{Part, class_part, member_part, InClass, InMembers, InInner, InClasses}
 use Rattle.jr_program_laws.specs.FileParts.{begins}
 use Rattle.jr_program_laws.proofs.TokenOrder.{Piece, front_piece, back_piece}

@@ -7,7 +7,7 @@ use Rattle.jr_table.specs.Prelude.{top_key, object_key}
 use Rattle.jr_table.specs.Entries.{IsRowOf}
 use Rattle.jr_table.specs.Conditions.{AreRows}
 use Rattle.jr_table.specs.Context.{IsSuperclass}
-use Rattle.jr_table.specs.Declared.{DeclaredClass, DeclaredItem, class_item}
+use Rattle.jr_table.specs.DeclaredItems.{DeclaredClass, DeclaredItem, class_item}
 use Rattle.jr_table.specs.Resolving.{DeclaresClass, IsPreludeSubclass, TopParent, IsParent}
 use Rattle.jr_table.specs.ProgramRows.{IsClassRow, AreProgramRows}
 use Rattle.jr_table.specs.Faults.{PackageLine, IsClean}

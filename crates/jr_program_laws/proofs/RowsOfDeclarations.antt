@@ -9,7 +9,7 @@ use Rattle.jr_table.specs.Decls.{class_decl}
 use Rattle.jr_table.specs.Rows.{Row}
 use Rattle.jr_table.specs.Prelude.{prelude_rows, top_key, object_key}
 use Rattle.jr_table.specs.Entries.{is_private_word}
-use Rattle.jr_table.specs.Declared.{Written, DeclaredClass, Item, class_item, field_item, method_item, ctor_item, DeclaredItem}
+use Rattle.jr_table.specs.DeclaredItems.{Written, DeclaredClass, Item, class_item, field_item, method_item, ctor_item, DeclaredItem}
 use Rattle.jr_table.specs.Resolving.{IsPreludeClass, IsPreludeSubclass}
 use Rattle.jr_table.specs.ProgramRows.{IsClassRow, IsFieldRow, IsMethodRow, IsCtorRow, unwritten_row, AreRowsOfDeclarations, AreProgramRows}
 use Rattle.jr_build.proofs.Apart.{In, in_left, in_right, in_either}

@@ -4,7 +4,7 @@ use Rattle.std.specs.Prelude.{map, option_map, slice_get}
 use Rattle.jr_ast.specs.MemberTree as syntax
 use Rattle.jr_table.specs.Keys.{ClassKey}
 use Rattle.jr_table.specs.Decls.{MemberKey, head}
-use Rattle.jr_table.specs.Declared.{Item, class_item, DeclaredItem, word_at, written, words, writes_ctor, class_key, member_declarations, class_declarations, members_declarations, classes_declarations, declarations_from, declarations_of}
+use Rattle.jr_table.specs.DeclaredItems.{Item, class_item, DeclaredItem, word_at, written, words, writes_ctor, class_key, member_declarations, class_declarations, members_declarations, classes_declarations, declarations_from, declarations_of}
 use Rattle.jr_table.specs.Errors.{Part, class_part, member_part, Declares, InClass, InMembers, InInner, InClasses}
 use Rattle.jr_members.specs.WrittenLaws.{IsWritten}
 use Rattle.jr_members.proofs.Anywhere.{IsAt}

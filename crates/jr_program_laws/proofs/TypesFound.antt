@@ -16,7 +16,7 @@ use Rattle.jr_table.specs.Scope.{Scope}
 use Rattle.jr_table.specs.Lookup.{FindsTypeNamed, FindsTypeOf, find_type_of}
 use Rattle.jr_table.specs.Context.{scope_of}
 use Rattle.jr_table.specs.HeadRules.{plain}
-use Rattle.jr_table.specs.Declared.{Written, DeclaredClass, DeclaredItem, written, param_declaration}
+use Rattle.jr_table.specs.DeclaredItems.{Written, DeclaredClass, DeclaredItem, written, param_declaration}
 use Rattle.jr_table.specs.Resolving as declarations
 use Rattle.jr_table.specs.Resolving.{DeclaresClass, TopNames, HasMemberType, FindsInTop, MemberNames, IsParent, Means}
 use Rattle.jr_table.specs.ProgramRows.{MeanTypes, MeansResult}

@@ -10,7 +10,7 @@ use Rattle.jr_ast.specs.Tree as tree
 use Rattle.jr_ast.specs.MemberTree as syntax
 use Rattle.jr_table.specs.Decls.{MemberKey, Decl}
 use Rattle.jr_table.specs.Rows.{Row}
-use Rattle.jr_table.specs.Declared.{declarations_of}
+use Rattle.jr_table.specs.DeclaredItems.{declarations_of}
 use Rattle.jr_table.specs.Errors.{Part, class_part, member_part, Breaks, Binds, InClasses}
 use Rattle.jr_table.specs.declared.rules.Rule.{Rule}
 

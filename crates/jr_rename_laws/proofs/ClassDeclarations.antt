@@ -5,7 +5,7 @@ use Rattle.jr_ast.specs.MemberTree as syntax
 use Rattle.jr_table.specs.Keys.{ClassKey}
 use Rattle.jr_table.specs.Rows.{Row}
 use Rattle.jr_table.specs.Context.{Context}
-use Rattle.jr_table.specs.Declared.{DeclaredItem, class_key, writes_ctor, member_declarations, class_declarations, members_declarations, classes_declarations, declarations_from, declarations_of}
+use Rattle.jr_table.specs.DeclaredItems.{DeclaredItem, class_key, writes_ctor, member_declarations, class_declarations, members_declarations, classes_declarations, declarations_from, declarations_of}
 use Rattle.jr_images.specs.Images.{Renaming}
 use Rattle.jr_rename_laws.specs.Beside.{ClassBeside, MembersBeside, MemberBeside, ClassesBeside, UnitsBeside}
 use Rattle.jr_rename_laws.proofs.Renamed.{Keeps}

@@ -10,7 +10,7 @@ use Rattle.jr_table.specs.Decls.{class_decl, field_decl, method_decl, constructo
 use Rattle.jr_table.specs.Rows.{Row}
 use Rattle.jr_table.specs.Conditions.{AreRows}
 use Rattle.jr_table.specs.Prelude.{prelude_rows, class_row, ctor_row, thread_key, thread_row, top_key, object_key}
-use Rattle.jr_table.specs.Declared.{declarations_of}
+use Rattle.jr_table.specs.DeclaredItems.{declarations_of}
 use Rattle.jr_spell.specs.Binds.{is_dot}
 use Rattle.jr_images.specs.Targets.{IsOfPrelude}
 use Rattle.jr_images.specs.Families.{AreRenamed}

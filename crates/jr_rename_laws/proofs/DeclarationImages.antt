@@ -3,7 +3,7 @@ use Rattle.std.proofs.Common.{◌≡◌, ℕ, zero, suc, List, [], ◌∷◌, �
 use Rattle.std.specs.Prelude.{map, option_map, slice_get}
 use Rattle.jr_table.specs.Keys.{Ty}
 use Rattle.jr_table.specs.Decls.{MemberKey, method, constructor, field_decl, method_decl, local_decl}
-use Rattle.jr_table.specs.Declared.{DeclaredParam, DeclaredInit, DeclaredClass, DeclaredField, DeclaredMethod, DeclaredCtor, Item, class_item, field_item, method_item, ctor_item, DeclaredItem}
+use Rattle.jr_table.specs.DeclaredItems.{DeclaredParam, DeclaredInit, DeclaredClass, DeclaredField, DeclaredMethod, DeclaredCtor, Item, class_item, field_item, method_item, ctor_item, DeclaredItem}
 use Rattle.jr_table.specs.ProgramRows.{MeanTypes}
 use Rattle.jr_images.specs.Images.{Renaming, name_to}
 use Rattle.jr_rename_laws.proofs.SameClasses.{Alike, MaybeAlike, maybe_back, ClassesGo}

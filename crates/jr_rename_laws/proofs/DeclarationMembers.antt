@@ -4,7 +4,7 @@ use Rattle.std.specs.Prelude.{◌⊎◌, map, slice_get}
 use Rattle.jr_ast.specs.MemberTree as syntax
 use Rattle.jr_table.specs.Keys.{ClassKey}
 use Rattle.jr_table.specs.Decls.{MemberKey}
-use Rattle.jr_table.specs.Declared.{DeclaredClass, Item, class_item, DeclaredItem, class_key, member_declarations, class_declarations, members_declarations, classes_declarations, declarations_from, declarations_of}
+use Rattle.jr_table.specs.DeclaredItems.{DeclaredClass, Item, class_item, DeclaredItem, class_key, member_declarations, class_declarations, members_declarations, classes_declarations, declarations_from, declarations_of}
 use Rattle.jr_table.specs.Errors.{Part, member_part, Declares, InClass, InMembers, InInner, InClasses, InUnits}
 
 abbrev Has : {T : Type 0} → List T → T → Type 0

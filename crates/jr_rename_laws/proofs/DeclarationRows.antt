@@ -7,7 +7,7 @@ use Rattle.jr_table.specs.Decls.{LocalKey, Decl, class_decl, field_decl, method_
 use Rattle.jr_table.specs.Rows.{Row}
 use Rattle.jr_table.specs.Prelude.{prelude_rows}
 use Rattle.jr_table.specs.Entries.{IsRowOf}
-use Rattle.jr_table.specs.Declared.{Written, Item, class_item, field_item, method_item, ctor_item, DeclaredItem}
+use Rattle.jr_table.specs.DeclaredItems.{Written, Item, class_item, field_item, method_item, ctor_item, DeclaredItem}
 use Rattle.jr_table.specs.ProgramRows.{MeanTypes, unwritten_row, AreRowsOfDeclarations, AreProgramRows}
 
 abbrev pub RowFor : List Row → Decl → Type 0

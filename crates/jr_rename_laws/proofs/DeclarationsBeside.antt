@@ -8,7 +8,7 @@ use Rattle.jr_table.specs.Decls.{method_decl}
 use Rattle.jr_table.specs.Decls as member
 use Rattle.jr_table.specs.Rows.{Row}
 use Rattle.jr_table.specs.Context.{Context}
-use Rattle.jr_table.specs.Declared.{DeclaredItem, param_declaration, class_key, writes_ctor, member_declarations, class_declarations, members_declarations, classes_declarations, declarations_from, declarations_of}
+use Rattle.jr_table.specs.DeclaredItems.{DeclaredItem, param_declaration, class_key, writes_ctor, member_declarations, class_declarations, members_declarations, classes_declarations, declarations_from, declarations_of}
 use Rattle.jr_table.specs.ProgramRows.{MeanTypes}
 use Rattle.jr_table.specs.Faults.{PackageLine, IsClean}
 use Rattle.jr_images.specs.Images.{Renaming, name_to, member_to}

@@ -6,7 +6,7 @@ use Rattle.jr_table.specs.Keys.{FieldKey}
 use Rattle.jr_table.specs.Decls.{class_decl, field_decl, method_decl, local_decl}
 use Rattle.jr_table.specs.Rows.{Row}
 use Rattle.jr_table.specs.Prelude.{thread_key}
-use Rattle.jr_table.specs.Declared.{declarations_of}
+use Rattle.jr_table.specs.DeclaredItems.{declarations_of}
 use Rattle.jr_images.specs.Families.{AreRenamed}
 use Rattle.jr_images.specs.Images.{Renaming, is_renamed}
 use Rattle.jr_images.specs.Clashes.{IsClear}

@@ -16,7 +16,7 @@ use Rattle.jr_table.specs.Scope.{Scope}
 use Rattle.jr_table.specs.Lookup.{FindsTypeNamed, FindsTypeOf}
 use Rattle.jr_table.specs.Context.{Context, scope_of, WritesType}
 use Rattle.jr_table.specs.Binding.{Role, value}
-use Rattle.jr_table.specs.Declared.{DeclaredInit, init_declaration, is_minus, is_number, is_object, has_none, is_simple}
+use Rattle.jr_table.specs.DeclaredItems.{DeclaredInit, init_declaration, is_minus, is_number, is_object, has_none, is_simple}
 use Rattle.jr_rewrite.specs.Rewritten.{Rewritten}
 use Rattle.jr_rewrite.specs.Rewrites.{Choosing, RewritesExp, RewritesMaybe}
 use Rattle.jr_rewrite.specs.Along.{Along, AlongRow, AlongMaybe}

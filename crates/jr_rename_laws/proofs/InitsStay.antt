@@ -7,7 +7,7 @@ use Rattle.jr_ast.specs.Remarked.{map_type, map_exp, map_exps}
 use Rattle.jr_table.specs.Rows.{Row}
 use Rattle.jr_table.specs.Context.{Context}
 use Rattle.jr_table.specs.Binding.{Role, value}
-use Rattle.jr_table.specs.Declared.{is_minus, is_number, is_object, has_none, is_simple}
+use Rattle.jr_table.specs.DeclaredItems.{is_minus, is_number, is_object, has_none, is_simple}
 use Rattle.jr_rewrite.specs.Respellings.{Front, same, alone, by_this, by_super, by_cast_this, by_class, by_outer_class, by_cast, front_of}
 use Rattle.jr_rewrite.specs.Rewritten.{Rewritten, word_to, variable_on, variable_to, super_to, operand_to, losses_of}
 use Rattle.jr_rewrite.specs.Rewrites.{Choosing, RewritesExp, RewritesRow, RewritesMaybe}

@@ -8,7 +8,7 @@ use Rattle.jr_table.specs.Rows.{Row}
 use Rattle.jr_table.specs.Prelude.{top_key}
 use Rattle.jr_table.specs.Found.{one}
 use Rattle.jr_table.specs.HeadRules.{TopFinds}
-use Rattle.jr_table.specs.Declared.{DeclaredInit, Written, named, DeclaredParam, DeclaredClass, DeclaredField, DeclaredMethod, DeclaredCtor, Item, class_item, field_item, method_item, ctor_item, DeclaredItem}
+use Rattle.jr_table.specs.DeclaredItems.{DeclaredInit, Written, named, DeclaredParam, DeclaredClass, DeclaredField, DeclaredMethod, DeclaredCtor, Item, class_item, field_item, method_item, ctor_item, DeclaredItem}
 use Rattle.jr_images.specs.Images.{Renaming, class_to, type_to, rows_to}
 use Rattle.jr_rename_laws.proofs.WrittenTypes.{WrittenAs}
 

@@ -1,5 +1,5 @@
 -- References, lowest first: `Chosen`, `Places` (rows and locals), `Dotted`, `World` (what is known
--- of the two programs), `Forms`, `Rebound` (one reference, form by form), `Types`, `OneBound`,
+-- of the two programs), `Rebound` (one reference, form by form), `Types`, `OneBound`,
 -- `Kept` (types, one recursion over expressions), `Alongside`, `Sides` (statements), `Members`. New
 -- programs: `SameClasses` (what types mean depends on the declared classes alone), `Still` (what a
 -- renaming without classes leaves), `DeclarationImages`, `RowImages`, `TypesFound`, `TypesStay`,

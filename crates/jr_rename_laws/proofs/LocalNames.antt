@@ -10,7 +10,7 @@ use Rattle.jr_table.specs.declared.kinds.DeclKind.TheVariants as kind
 use Rattle.jr_table.specs.Keys.{ClassKey, FieldKey, MethodKey, Ty}
 use Rattle.jr_table.specs.Decls.{MemberKey, method, constructor, LocalKey, field_decl, method_decl, local_decl}
 use Rattle.jr_table.specs.Rows.{Row}
-use Rattle.jr_table.specs.Declared.{DeclaredParam, DeclaredClass, DeclaredField, DeclaredMethod, DeclaredCtor, Item, class_item, field_item, method_item, ctor_item, DeclaredItem, param_declaration, member_declarations, class_declarations, declarations_of}
+use Rattle.jr_table.specs.DeclaredItems.{DeclaredParam, DeclaredClass, DeclaredField, DeclaredMethod, DeclaredCtor, Item, class_item, field_item, method_item, ctor_item, DeclaredItem, param_declaration, member_declarations, class_declarations, declarations_of}
 use Rattle.jr_table.specs.ProgramRows.{MeanTypes}
 use Rattle.jr_table.specs.Faults.{PackageLine, name_at, SameTypes, SameMember, params_of, ParamTwice, HasItsName, IsClean}
 use Rattle.jr_table.specs.Errors.{Part, member_part, Declares, InUnits}

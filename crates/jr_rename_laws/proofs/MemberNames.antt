@@ -6,7 +6,7 @@ use Rattle.jr_table.specs.declared.kinds.DeclKind.TheVariants as kind
 use Rattle.jr_table.specs.Keys.{ClassKey, FieldKey, MethodKey, Ty}
 use Rattle.jr_table.specs.Decls.{MemberKey, method, constructor, LocalKey, Decl, class_decl, field_decl, method_decl, local_decl}
 use Rattle.jr_table.specs.Rows.{Row}
-use Rattle.jr_table.specs.Declared.{DeclaredParam, DeclaredClass, DeclaredField, DeclaredMethod, Item, class_item, field_item, method_item, ctor_item, DeclaredItem}
+use Rattle.jr_table.specs.DeclaredItems.{DeclaredParam, DeclaredClass, DeclaredField, DeclaredMethod, Item, class_item, field_item, method_item, ctor_item, DeclaredItem}
 use Rattle.jr_table.specs.ProgramRows.{MeanTypes, AreProgramRows}
 use Rattle.jr_table.specs.Faults.{PackageLine, name_at, SameTypes, SameMember, params_of, ParamTwice, HasItsName, IsClean}
 use Rattle.jr_images.specs.Images.{Renaming, is_renamed, name_to}

@@ -12,7 +12,7 @@ use Rattle.jr_table.specs.Rows.{Row}
 use Rattle.jr_table.specs.Prelude.{top_key}
 use Rattle.jr_table.specs.Found.{one}
 use Rattle.jr_table.specs.Scope.{Scope}
-use Rattle.jr_table.specs.Declared.{DeclaredItem, class_key}
+use Rattle.jr_table.specs.DeclaredItems.{DeclaredItem, class_key}
 use Rattle.jr_table.specs.Context.{Context, Local, scope_of, parameters}
 use Rattle.jr_table.specs.HeadRules.{plain as no_locals, with_parameters, types_of, is_static_member, TopFinds}
 use Rattle.jr_table.specs.Binding.{Role, HaveTypes, SuperCtorFinds}

@@ -8,7 +8,7 @@ use Rattle.jr_table.specs.Decls.{field_decl, method_decl}
 use Rattle.jr_table.specs.Decls as member
 use Rattle.jr_table.specs.Rows.{Row}
 use Rattle.jr_table.specs.Context.{Context}
-use Rattle.jr_table.specs.Declared.{DeclaredItem, Item, DeclaredClass, class_item, param_declaration, class_key, member_declarations, class_declarations, members_declarations, classes_declarations, declarations_from, declarations_of}
+use Rattle.jr_table.specs.DeclaredItems.{DeclaredItem, Item, DeclaredClass, class_item, param_declaration, class_key, member_declarations, class_declarations, members_declarations, classes_declarations, declarations_from, declarations_of}
 use Rattle.jr_table.specs.ProgramRows.{MeanTypes}
 use Rattle.jr_members.proofs.Walking.{In, in_left, in_right}
 use Rattle.jr_images.specs.Images.{Renaming, types_to, member_to}

@@ -12,7 +12,7 @@ use Rattle.jr_table.specs.Entries.{IsRowOf, name_of, entry_of, entries_of}
 use Rattle.jr_table.specs.Keyed.{Overrides}
 use Rattle.jr_table.specs.Conditions.{AreRows}
 use Rattle.jr_table.specs.Prelude.{prelude_rows, thread_key, thread_row}
-use Rattle.jr_table.specs.Declared.{declarations_of}
+use Rattle.jr_table.specs.DeclaredItems.{declarations_of}
 use Rattle.jr_names.specs.DeclTexts.{decl_text}
 use Rattle.jr_images.specs.Targets.{IsOfPrelude}
 use Rattle.jr_images.specs.Families.{InFamily, itself, above, below, AreRenamed}

@@ -14,7 +14,7 @@ use Rattle.jr_table.specs.Members.{IsMemberType}
 use Rattle.jr_table.specs.Found.{one}
 use Rattle.jr_table.specs.HeadRules.{TopFinds}
 use Rattle.jr_table.specs.Context.{IsSuperclass}
-use Rattle.jr_table.specs.Declared.{Written, int, boolean, named, DeclaredClass, DeclaredItem}
+use Rattle.jr_table.specs.DeclaredItems.{Written, int, boolean, named, DeclaredClass, DeclaredItem}
 use Rattle.jr_table.specs.Resolving.{DeclaresClass, IsPreludeClass, IsPreludeSubclass, TopNames, TopParent, MemberNames, TypeWithin, HasMemberType, IsParent}
 use Rattle.jr_build.proofs.Looks.{key}
 use Rattle.jr_members.proofs.Meaning.{OneClass, Unreserved}

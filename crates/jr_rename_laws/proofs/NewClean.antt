@@ -12,7 +12,7 @@ use Rattle.jr_table.specs.Rows.{Row}
 use Rattle.jr_table.specs.Prelude.{top_key}
 use Rattle.jr_table.specs.Entries.{entries_of}
 use Rattle.jr_table.specs.Chains as chains
-use Rattle.jr_table.specs.Declared.{Written, DeclaredParam, DeclaredInit, DeclaredClass, DeclaredField, Item, class_item, field_item, method_item, ctor_item, DeclaredItem}
+use Rattle.jr_table.specs.DeclaredItems.{Written, DeclaredParam, DeclaredInit, DeclaredClass, DeclaredField, Item, class_item, field_item, method_item, ctor_item, DeclaredItem}
 use Rattle.jr_table.specs.Resolving.{HasWord, Climbs, Means}
 use Rattle.jr_table.specs.ProgramRows.{MeanTypes, MeansResult, AreProgramRows}
 use Rattle.jr_table.specs.Faults.{PackageLine, names_of, line_at, IsReserved, IsNamedAsOuter, TopWord, InnerWord, FieldWord, MethodWord, IsAccess, AreBad, ClassWordsBad, WordsBad, name_at, Writes, WritesType, params_of, InitIsBad, IsClean}

@@ -14,7 +14,7 @@ use Rattle.jr_table.specs.Members.{DeclaresType, MemberAmong}
 use Rattle.jr_table.specs.Found.{one}
 use Rattle.jr_table.specs.Scope.{Scope}
 use Rattle.jr_table.specs.Lookup.{FindsTypeNamed, FindsTypeOf}
-use Rattle.jr_table.specs.Declared.{DeclaredItem}
+use Rattle.jr_table.specs.DeclaredItems.{DeclaredItem}
 use Rattle.jr_table.specs.Faults.{PackageLine, IsClean, IsReserved}
 use Rattle.jr_table.proofs.RowLaws.{row_at}
 use Rattle.jr_program_laws.proofs.Agreeing.{Agree, ClassRow, one_key, then_of}

@@ -9,7 +9,7 @@ use Rattle.jr_table.specs.Keys.{ClassKey, Ty, class}
 use Rattle.jr_table.specs.Decls.{method, constructor}
 use Rattle.jr_table.specs.LookupLaws.{HasOne}
 use Rattle.jr_table.specs.Prelude.{top_key}
-use Rattle.jr_table.specs.Declared.{Written, int, boolean, named, DeclaredClass, DeclaredParam, DeclaredItem, class_item, param_declaration}
+use Rattle.jr_table.specs.DeclaredItems.{Written, int, boolean, named, DeclaredClass, DeclaredParam, DeclaredItem, class_item, param_declaration}
 use Rattle.jr_table.specs.Resolving.{DeclaresClass, IsDeclared, IsPreludeClass, TopNames, TopParent, TopMemberType, HasTopMemberType, FindsInTop, MemberNames, TypeWithin, HasMemberType, FindsAround, FindsType, Means}
 use Rattle.jr_table.specs.ProgramRows.{MeanTypes}
 use Rattle.jr_table.specs.Faults.{PackageLine, IsClean}

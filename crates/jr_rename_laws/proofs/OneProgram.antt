@@ -8,7 +8,7 @@ use Rattle.jr_grammar.specs.Layout.{itself}
 use Rattle.jr_table.specs.Decls.{MemberKey, head, field, method, constructor, Decl}
 use Rattle.jr_table.specs.Rows.{Row}
 use Rattle.jr_table.specs.Found.{Found, one}
-use Rattle.jr_table.specs.Declared.{declarations_of}
+use Rattle.jr_table.specs.DeclaredItems.{declarations_of}
 use Rattle.jr_table.specs.ProgramRows.{AreProgramRows}
 use Rattle.jr_table.specs.HeadRules.{DeclarationRefers}
 use Rattle.jr_table.specs.Errors.{Part, class_part, member_part, Binds}

@@ -12,7 +12,7 @@ use Rattle.jr_table.specs.Binding.{Role, value, left}
 use Rattle.jr_table.specs.Binding as role
 use Rattle.jr_table.specs.Context.{Context, local_of, local_key, in_own, after, locals_in}
 use Rattle.jr_table.specs.HeadRules.{plain as no_locals, with_parameters, is_static_member}
-use Rattle.jr_table.specs.Declared.{DeclaredItem, class_key}
+use Rattle.jr_table.specs.DeclaredItems.{DeclaredItem, class_key}
 use Rattle.jr_table.specs.Errors.{Part, member_part, Declares, InClass, InMembers, InInner, InClasses}
 use Rattle.jr_members.proofs.Anywhere.{IsAt}
 use Rattle.jr_rewrite.specs.Respellings.{Choice}

@@ -11,7 +11,7 @@ use Rattle.jr_grammar.specs.Reads.{Reads}
 use Rattle.jr_table.specs.Decls.{Decl, class_decl, field_decl, method_decl, constructor_decl, local_decl}
 use Rattle.jr_table.specs.Context.{Context}
 use Rattle.jr_table.specs.Faults.{PackageLine, IsClean}
-use Rattle.jr_table.specs.Declared.{DeclaredItem, declarations_of}
+use Rattle.jr_table.specs.DeclaredItems.{DeclaredItem, declarations_of}
 use Rattle.jr_names.specs.Refusals.{prelude_method}
 use Rattle.jr_bind.specs.Programs.{File, Program, units_of}
 use Rattle.jr_program_laws.specs.FileParts.{begins}

@@ -5,7 +5,7 @@ use Rattle.jr_table.specs.Keys.{CtorKey}
 use Rattle.jr_table.specs.Decls.{LocalKey, class_decl, field_decl, method_decl, constructor_decl, local_decl}
 use Rattle.jr_table.specs.Rows.{Row}
 use Rattle.jr_table.specs.Prelude.{thread_key}
-use Rattle.jr_table.specs.Declared.{declarations_of}
+use Rattle.jr_table.specs.DeclaredItems.{declarations_of}
 use Rattle.jr_images.specs.Families.{AreRenamed}
 use Rattle.jr_images.specs.Images.{Renaming}
 use Rattle.jr_rename_laws.specs.ImageLaws.{RenamingsStayFair}

@@ -6,7 +6,7 @@ use Rattle.jr_table.specs.Keys.{ClassKey, Ty}
 use Rattle.jr_table.specs.Decls.{MemberKey, method, constructor, class_decl, field_decl, method_decl, constructor_decl}
 use Rattle.jr_table.specs.Rows.{Row}
 use Rattle.jr_table.specs.Prelude.{prelude_rows}
-use Rattle.jr_table.specs.Declared.{Written, DeclaredParam, DeclaredInit, DeclaredClass, DeclaredField, DeclaredMethod, DeclaredCtor, Item, class_item, field_item, method_item, ctor_item, DeclaredItem}
+use Rattle.jr_table.specs.DeclaredItems.{Written, DeclaredParam, DeclaredInit, DeclaredClass, DeclaredField, DeclaredMethod, DeclaredCtor, Item, class_item, field_item, method_item, ctor_item, DeclaredItem}
 use Rattle.jr_table.specs.Resolving.{IsParent, Means}
 use Rattle.jr_table.specs.ProgramRows.{is_access, MeanTypes, MeansResult, IsClassRow, unwritten_row, IsFieldRow, IsMethodRow, IsCtorRow, AreRowsOfDeclarations, AreProgramRows}
 use Rattle.jr_table.specs.Faults.{PackageLine, IsClean}

@@ -5,7 +5,7 @@ use Rattle.jr_ast.specs.declared.operators.ModWord.{ModWord}
 use Rattle.jr_ast.specs.declared.operators.ModWord.TheVariants as word
 use Rattle.jr_table.specs.Keys.{ClassKey, Ty}
 use Rattle.jr_table.specs.Prelude.{top_key}
-use Rattle.jr_table.specs.Declared.{Written, int, boolean, named, DeclaredClass, DeclaredItem}
+use Rattle.jr_table.specs.DeclaredItems.{Written, int, boolean, named, DeclaredClass, DeclaredItem}
 use Rattle.jr_table.specs.Resolving.{HasWord, DeclaresClass, IsDeclared, IsTopClass, TopNames, TopParent, IsPrivateClass, member_key, TopMemberType, HasTopMemberType, FindsInTop, MemberNames, TypeWithin, HasMemberType, IsParent, Climbs, FindsAround, FindsType, Means}
 use Rattle.jr_table.specs.ProgramRows.{MeansResult}
 

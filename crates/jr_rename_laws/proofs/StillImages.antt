@@ -6,7 +6,7 @@ use Rattle.jr_ast.specs.MemberTree as syntax
 use Rattle.jr_table.specs.Decls.{MemberKey, Decl}
 use Rattle.jr_table.specs.Rows.{Row}
 use Rattle.jr_table.specs.Context.{Context}
-use Rattle.jr_table.specs.Declared.{DeclaredItem, declarations_of}
+use Rattle.jr_table.specs.DeclaredItems.{DeclaredItem, declarations_of}
 use Rattle.jr_table.specs.Faults.{PackageLine}
 use Rattle.jr_images.specs.Images.{Renaming}
 use Rattle.jr_rename_laws.specs.ImageLaws.{Becomes, AreImages}

@@ -13,7 +13,7 @@ use Rattle.jr_table.specs.Decls as member
 use Rattle.jr_table.specs.Rows.{Row}
 use Rattle.jr_table.specs.Context.{Context}
 use Rattle.jr_table.specs.HeadRules.{plain, is_static_member}
-use Rattle.jr_table.specs.Declared.{written, words, param_declaration, init_declaration, is_simple, class_key, member_declarations, DeclaredItem}
+use Rattle.jr_table.specs.DeclaredItems.{written, words, param_declaration, init_declaration, is_simple, class_key, member_declarations, DeclaredItem}
 use Rattle.jr_table.specs.ProgramRows.{MeanTypes}
 use Rattle.jr_rewrite.specs.Respellings.{Choice, text_of}
 use Rattle.jr_rewrite.specs.Rewritten.{Rewritten}

@@ -8,7 +8,7 @@ use Rattle.jr_table.specs.Rows.{Row}
 use Rattle.jr_table.specs.Prelude.{prelude_rows, class_row, top_key, object_key}
 use Rattle.jr_table.specs.Conditions.{AreRows}
 use Rattle.jr_table.specs.Context.{Context}
-use Rattle.jr_table.specs.Declared.{DeclaredItem, DeclaredClass, class_item, declarations_of}
+use Rattle.jr_table.specs.DeclaredItems.{DeclaredItem, DeclaredClass, class_item, declarations_of}
 use Rattle.jr_table.specs.Resolving.{IsPreludeClass, DeclaresClass, IsParent}
 use Rattle.jr_table.specs.ProgramRows.{AreProgramRows}
 use Rattle.jr_build.proofs.OneRows.{program_once}

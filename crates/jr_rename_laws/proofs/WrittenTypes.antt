@@ -14,7 +14,7 @@ use Rattle.jr_table.specs.Found.{one}
 use Rattle.jr_table.specs.Scope.{Scope}
 use Rattle.jr_table.specs.Lookup.{FindsTypeNamed, FindsTypeOf}
 use Rattle.jr_table.specs.Context.{NamesClass}
-use Rattle.jr_table.specs.Declared.{Written, int, boolean, named, DeclaredItem}
+use Rattle.jr_table.specs.DeclaredItems.{Written, int, boolean, named, DeclaredItem}
 use Rattle.jr_table.specs.Resolving as meaning
 use Rattle.jr_table.specs.Resolving.{FindsInTop, MemberNames, HasMemberType, Means}
 use Rattle.jr_table.proofs.LookupLaws.{one_answers}

@@ -6,7 +6,7 @@ use Rattle.jr_ast.specs.MemberTree as syntax
 use Rattle.jr_table.specs.Keys.{ClassKey, CtorKey}
 use Rattle.jr_table.specs.Decls.{MemberKey, class_decl, constructor_decl}
 use Rattle.jr_table.specs.Rows.{Row}
-use Rattle.jr_table.specs.Declared.{DeclaredClass, DeclaredItem, declarations_of}
+use Rattle.jr_table.specs.DeclaredItems.{DeclaredClass, DeclaredItem, declarations_of}
 use Rattle.jr_table.specs.Resolving.{DeclaresClass, IsParent}
 use Rattle.jr_table.specs.ProgramRows.{AreProgramRows}
 use Rattle.jr_table.specs.Faults.{PackageLine, names_of, IsClean}

@@ -20,7 +20,7 @@ use Rattle.jr_table.specs.Decls.{
 use Rattle.jr_table.specs.Rows.{Row}
 use Rattle.jr_table.specs.Entries.{IsRowOf}
 use Rattle.jr_table.specs.Conditions.{AreRows}
-use Rattle.jr_table.specs.Declared.{DeclaredItem, declarations_of, class_key}
+use Rattle.jr_table.specs.DeclaredItems.{DeclaredItem, declarations_of, class_key}
 use Rattle.jr_table.specs.ProgramRows.{AreProgramRows}
 use Rattle.jr_table.specs.Faults.{PackageLine, names_of, IsClean}
 use Rattle.jr_table.specs.Errors.{Declares}

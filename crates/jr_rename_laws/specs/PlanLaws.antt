@@ -16,7 +16,7 @@ use Rattle.jr_table.specs.Decls.{
   local_decl,
 }
 use Rattle.jr_table.specs.Faults.{PackageLine, IsClean}
-use Rattle.jr_table.specs.Declared.{declarations_of}
+use Rattle.jr_table.specs.DeclaredItems.{declarations_of}
 use Rattle.jr_bind.specs.Programs.{File, Program, IsProgram, units_of}
 use Rattle.jr_program_laws.specs.FileParts.{begins}
 use Rattle.jr_rewrite.specs.AlongMembers.{AlongUnits}

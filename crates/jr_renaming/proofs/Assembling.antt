@@ -6,7 +6,7 @@ use Rattle.jr_ast.specs.Tree as tree
 use Rattle.jr_ast.specs.MemberTree as syntax
 use Rattle.jr_table.specs.Keys.{ClassKey}
 use Rattle.jr_table.specs.Decls.{MemberKey, head}
-use Rattle.jr_table.specs.Declared.{DeclaredItem, class_key}
+use Rattle.jr_table.specs.DeclaredItems.{DeclaredItem, class_key}
 use Rattle.jr_table.specs.Errors.{Part, class_part, member_part}
 use Rattle.jr_members.specs.WrittenMembers.{WrittenMember}
 use Rattle.jr_rewrite.specs.Rewritten.{Rewritten, plain, within, joined}

@@ -9,7 +9,7 @@ use Rattle.jr_table.specs.Keys.{ClassKey}
 use Rattle.jr_table.specs.Decls.{MemberKey, head, field, method, constructor}
 use Rattle.jr_table.specs.Rows.{Row}
 use Rattle.jr_table.specs.Prelude.{prelude_rows}
-use Rattle.jr_table.specs.Declared.{Item, class_item, DeclaredItem, class_key, writes_ctor, word_at, words, written, member_declarations, class_declarations, members_declarations, classes_declarations, declarations_from, declarations_of}
+use Rattle.jr_table.specs.DeclaredItems.{Item, class_item, DeclaredItem, class_key, writes_ctor, word_at, words, written, member_declarations, class_declarations, members_declarations, classes_declarations, declarations_from, declarations_of}
 use Rattle.jr_table.specs.ProgramRows.{AreRowsOfDeclarations, AreProgramRows}
 use Rattle.jr_table.specs.Errors.{Part, class_part, member_part, Declares}
 use Rattle.jr_members.specs.Parts.{Placed, placed, class_parts, members_parts, member_parts, classes_parts, parts_from, units_parts}

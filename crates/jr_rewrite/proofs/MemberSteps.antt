@@ -18,7 +18,7 @@ use Rattle.jr_table.specs.Decls.{MemberKey, class_decl, local_decl}
 use Rattle.jr_table.specs.Binding.{value}
 use Rattle.jr_table.specs.Context.{Context}
 use Rattle.jr_table.specs.HeadRules.{plain as no_locals, with_parameters, is_static_member}
-use Rattle.jr_table.specs.Declared.{DeclaredItem, class_key}
+use Rattle.jr_table.specs.DeclaredItems.{DeclaredItem, class_key}
 use Rattle.jr_rewrite.specs.Respellings.{Change}
 use Rattle.jr_rewrite.specs.Rewritten.{Rewritten}
 use Rattle.jr_rewrite.specs.Suitable.{AreSuitable}

@@ -13,7 +13,7 @@ use Rattle.jr_grammar.specs.Bare.{Bare, no_mark, bare_unit}
 use Rattle.jr_grammar.specs.Reads.{Reads, ReadsWithSpans}
 use Rattle.jr_grammar.proofs.RemarkedShape.{unit_ignores_marks}
 use Rattle.jr_table.specs.Keys.{ClassKey}
-use Rattle.jr_table.specs.Declared.{DeclaredItem}
+use Rattle.jr_table.specs.DeclaredItems.{DeclaredItem}
 use Rattle.jr_rewrite.specs.Respellings.{Change}
 use Rattle.jr_rewrite.specs.Rewritten.{Rewritten}
 use Rattle.jr_rewrite.specs.Edited.{entries_of}

@@ -14,7 +14,7 @@ use Rattle.jr_table.specs.Entries.{is_static_word}
 use Rattle.jr_table.specs.Binding.{Role}
 use Rattle.jr_table.specs.Context.{Context, Local, known, parameters}
 use Rattle.jr_table.specs.HeadRules.{plain, types_of, with_parameters, is_static_member}
-use Rattle.jr_table.specs.Declared.{DeclaredItem, class_key}
+use Rattle.jr_table.specs.DeclaredItems.{DeclaredItem, class_key}
 use Rattle.jr_rewrite.specs.Along.{AlongMaybe, AlongStmts}
 use Rattle.jr_rewrite.specs.AlongMembers.{mod_words, AlongParams, AlongResult, AlongSuper, AlongMember, AlongParent, AlongClass, AlongMembers, AlongOne, AlongClasses, AlongUnit}
 use Rattle.jr_rewrite.proofs.BareForms.{bare_maybe}

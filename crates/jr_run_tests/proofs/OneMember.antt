@@ -8,7 +8,7 @@ use Rattle.jr_ast.specs.MemberTree as syntax
 use Rattle.jr_table.specs.Decls.{MemberKey}
 use Rattle.jr_table.specs.Rows.{Row}
 use Rattle.jr_table.specs.Conditions.{AreRows}
-use Rattle.jr_table.specs.Declared.{declarations_of}
+use Rattle.jr_table.specs.DeclaredItems.{declarations_of}
 use Rattle.jr_table.specs.Errors.{Part, InUnits}
 use Rattle.jr_members.specs.WrittenLaws.{IsWritten}
 use Rattle.jr_members.proofs.Anywhere.{written_member}

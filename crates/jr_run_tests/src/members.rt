@@ -8,7 +8,7 @@ ghost use Rattle.jr_punit.specs.Parsing.{IsUnitOf};
 ghost use Rattle.jr_build.specs.Heads.{UnitsHeads};
 ghost use Rattle.jr_table.specs.Errors.{member_part};
 ghost use Rattle.jr_table.specs.ProgramRows.{AreProgramRows};
-ghost use Rattle.jr_table.specs.Declared.{declarations_of};
+ghost use Rattle.jr_table.specs.DeclaredItems.{declarations_of};
 ghost use Rattle.jr_members.specs.PartView.{part_of};
 ghost use Rattle.jr_program_laws.specs.FileParts.{begins, SuperStands};
 ghost use Rattle.jr_program_laws.specs.PlaceLaws.{IsFile};

@@ -11,7 +11,7 @@ use Rattle.jr_grammar.specs.Reads.{Reads}
 use Rattle.jr_table.specs.Decls.{Decl, class_decl, field_decl, method_decl, constructor_decl, local_decl}
 use Rattle.jr_table.specs.Faults.{PackageLine, names_of, IsClean}
 use Rattle.jr_table.specs.ProgramRows.{AreProgramRows}
-use Rattle.jr_table.specs.Declared.{declarations_of}
+use Rattle.jr_table.specs.DeclaredItems.{declarations_of}
 use Rattle.jr_build.specs.Heads.{UnitsHeads}
 use Rattle.jr_bind.specs.Programs.{File, Program, units_of}
 use Rattle.jr_program_laws.specs.FileParts.{begins}

@@ -9,7 +9,7 @@ use Rattle.jr_grammar.specs.Bare.{bare_word}
 use Rattle.jr_table.specs.Decls.{Decl}
 use Rattle.jr_table.specs.Faults.{PackageLine, names_of, IsClean}
 use Rattle.jr_table.specs.ProgramRows.{AreProgramRows}
-use Rattle.jr_table.specs.Declared.{DeclaredItem, declarations_of}
+use Rattle.jr_table.specs.DeclaredItems.{DeclaredItem, declarations_of}
 use Rattle.jr_punit.specs.OneReading.{OneReading}
 use Rattle.jr_bind.specs.Programs.{Program, units_of}
 use Rattle.jr_program_laws.specs.FileParts.{begins}

@@ -9,7 +9,7 @@ use Rattle.jr_names.specs.Refusals.{Refusal, no_such_file, source_error, report_
 use Rattle.jr_table.specs.declared.kinds.DeclKind.{DeclKind}
 use Rattle.jr_table.specs.Faults.{Place, PackageLine, HasFault as HasDeclFault, IsFirstFault, IsUpTo, rank_of as kind_rank}
 use Rattle.jr_table.specs.Names.{kind_name}
-use Rattle.jr_table.specs.Declared.{DeclaredItem, declarations_of}
+use Rattle.jr_table.specs.DeclaredItems.{DeclaredItem, declarations_of}
 use Rattle.jr_build.proofs.Cleaning.{same_kind}
 use Rattle.jr_program_laws.specs.FileParts.{begins}
 use Rattle.jr_lines.specs.Lines.{bytes_of}

@@ -14,7 +14,7 @@ use Rattle.jr_table.specs.Decls.{MemberKey}
 use Rattle.jr_table.specs.Rows.{Row}
 use Rattle.jr_table.specs.Errors.{Part, class_part, member_part, part_mark, Error, Breaks, InClasses, InUnits, rule_rank}
 use Rattle.jr_table.specs.Names.{rule_name}
-use Rattle.jr_table.specs.Declared.{DeclaredItem, declarations_of}
+use Rattle.jr_table.specs.DeclaredItems.{DeclaredItem, declarations_of}
 use Rattle.jr_table.specs.ProgramRows.{AreProgramRows}
 use Rattle.jr_table.specs.declared.rules.Rule.{Rule}
 use Rattle.jr_members.specs.WrittenLaws.{IsWritten, MembersAreWritten}

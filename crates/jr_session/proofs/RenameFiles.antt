@@ -10,7 +10,7 @@ use Rattle.jr_bind.specs.Programs.{File, Program, units_of}
 use Rattle.jr_images.specs.Renames as renames
 use Rattle.jr_rewrite.specs.Rewrites.{Choosing, RewritesUnits}
 use Rattle.jr_rewrite.specs.Rewritten.{Rewritten}
-use Rattle.jr_table.specs.Declared.{DeclaredItem}
+use Rattle.jr_table.specs.DeclaredItems.{DeclaredItem}
 use Rattle.jr_names.specs.Refusals.{Refusal}
 use Rattle.jr_sources.specs.Sources.{Source, IsFile, HasName, names_of}
 use Rattle.jr_sources.specs.Whole.{files_of, IsProgramOf}

@@ -8,7 +8,7 @@ use Rattle.jr_lex.specs.Lexes.{Lexes}
 use Rattle.jr_ast.specs.MemberTree.{Unit as UnitTree}
 use Rattle.jr_table.specs.Decls.{Decl}
 use Rattle.jr_table.specs.declared.rules.Rule.{Rule}
-use Rattle.jr_table.specs.Declared.{declarations_of}
+use Rattle.jr_table.specs.DeclaredItems.{declarations_of}
 use Rattle.jr_table.specs.ProgramRows.{AreProgramRows}
 use Rattle.jr_program_laws.specs.FileParts.{begins}
 use Rattle.jr_program.specs.declared.bounds.MemberBound.{MemberBound}

@@ -5,7 +5,7 @@ use Rattle.jr_lex.specs.declared.items.Item.{Item}
 use Rattle.jr_lex.specs.Lexes.{Lexes}
 use Rattle.jr_ast.specs.MemberTree as syntax
 use Rattle.jr_table.specs.Rows.{Row}
-use Rattle.jr_table.specs.Declared.{declarations_of}
+use Rattle.jr_table.specs.DeclaredItems.{declarations_of}
 use Rattle.jr_table.specs.ProgramRows.{AreProgramRows}
 use Rattle.jr_program_laws.specs.FileParts.{begins, BindsAt, BreaksAt, InFile}
 use Rattle.jr_lines.specs.Lines.{Line, reference, broken, line_text, AreLines}

@@ -12,7 +12,7 @@ use Rattle.jr_grammar.specs.Units.{IsMarkedUnit}
 use Rattle.jr_table.specs.Decls.{MemberKey, Decl}
 use Rattle.jr_table.specs.Rows.{Row}
 use Rattle.jr_table.specs.Conditions.{AreRows}
-use Rattle.jr_table.specs.Declared.{declarations_of}
+use Rattle.jr_table.specs.DeclaredItems.{declarations_of}
 use Rattle.jr_table.specs.Errors.{Part, class_part, member_part, part_mark}
 use Rattle.jr_table.specs.Faults as faults
 use Rattle.jr_table.specs.declared.rules.Rule.{Rule}

@@ -7,7 +7,7 @@ use Rattle.jr_ast.specs.Tree as tree
 use Rattle.jr_ast.specs.MemberTree as syntax
 use Rattle.jr_table.specs.declared.kinds.DeclKind.{DeclKind}
 use Rattle.jr_table.specs.declared.kinds.DeclKind.TheVariants as kind
-use Rattle.jr_table.specs.Declared.{Item, DeclaredItem, declarations_from, declarations_of, classes_declarations}
+use Rattle.jr_table.specs.DeclaredItems.{Item, DeclaredItem, declarations_from, declarations_of, classes_declarations}
 use Rattle.jr_table.specs.Faults.{Place, PackageLine, HasFault}
 use Rattle.jr_build.specs.Packages.{line_of, lines_of}
 use Rattle.jr_program_laws.specs.FileParts.{begins}

@@ -9,7 +9,7 @@ use Rattle.jr_lex.specs.Places.{ItemsPlaced}
 use Rattle.jr_ast.specs.MemberTree.{Unit as UnitTree}
 use Rattle.jr_table.specs.Rows.{Row}
 use Rattle.jr_table.specs.Names.{rule_name}
-use Rattle.jr_table.specs.Declared.{DeclaredItem, declarations_of}
+use Rattle.jr_table.specs.DeclaredItems.{DeclaredItem, declarations_of}
 use Rattle.jr_table.specs.ProgramRows.{AreProgramRows}
 use Rattle.jr_table.specs.Faults.{PackageLine, IsClean}
 use Rattle.jr_table.specs.declared.rules.Rule.{Rule}

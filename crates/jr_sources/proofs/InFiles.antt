@@ -5,7 +5,7 @@ use Rattle.jr_text.specs.declared.spans.Span.{Span}
 use Rattle.jr_ast.specs.MemberTree as syntax
 use Rattle.jr_table.specs.Keys.{ClassKey}
 use Rattle.jr_table.specs.Decls.{MemberKey}
-use Rattle.jr_table.specs.Declared.{DeclaredItem, declarations_of}
+use Rattle.jr_table.specs.DeclaredItems.{DeclaredItem, declarations_of}
 use Rattle.jr_table.specs.Errors.{Part, InClass, InMembers, InInner, InClasses}
 use Rattle.jr_members.specs.WrittenLaws.{IsWritten}
 use Rattle.jr_program_laws.specs.FileParts.{begins, InFile}

@@ -8,7 +8,7 @@ use Rattle.jr_ast.specs.MemberTree.{Unit as UnitTree}
 use Rattle.jr_table.specs.Rows.{Row}
 use Rattle.jr_table.specs.Names.{rule_name}
 use Rattle.jr_table.specs.Errors.{rule_rank}
-use Rattle.jr_table.specs.Declared.{declarations_of}
+use Rattle.jr_table.specs.DeclaredItems.{declarations_of}
 use Rattle.jr_table.specs.ProgramRows.{AreProgramRows}
 use Rattle.jr_table.specs.declared.rules.Rule.{Rule}
 use Rattle.jr_program_laws.specs.FileParts.{begins, BreaksAt, InFile}

@@ -18,7 +18,7 @@ use Rattle.jr_ast.specs.Tree as tree
 use Rattle.jr_ast.specs.MemberTree.{Unit as UnitTree}
 use Rattle.jr_table.specs.declared.kinds.DeclKind.{DeclKind}
 use Rattle.jr_table.specs.Names.{kind_name}
-use Rattle.jr_table.specs.Declared.{declarations_of}
+use Rattle.jr_table.specs.DeclaredItems.{declarations_of}
 use Rattle.jr_table.specs.Faults.{Place, PackageLine, IsFirstFault, IsClean}
 use Rattle.jr_program_laws.specs.FileParts.{begins}
 use Rattle.jr_sources.specs.declared.faults.ReadingFault.{ReadingFault}

@@ -16,7 +16,7 @@ use Rattle.jr_table.specs.Found.{Found, not_accessible}
 use Rattle.jr_table.specs.Context.{Context, scope_of}
 use Rattle.jr_table.specs.Binding.{TypeRefers}
 use Rattle.jr_table.specs.HeadRules.{plain as no_locals, with_parameters, is_static_member, ParamsRefer, MaybeTypeRefers, ParentRefers, HeadRefers, DeclarationBreaks}
-use Rattle.jr_table.specs.Declared.{class_key}
+use Rattle.jr_table.specs.DeclaredItems.{class_key}
 use Rattle.jr_table.specs.ExpressionRules.{ExpBreaks}
 use Rattle.jr_table.specs.StatementRules.{StmtBreaks, ListBreaks}
 use Rattle.jr_table.specs.Errors.{Part, class_part, member_part, Breaks, InMember}

@@ -13,7 +13,7 @@ use Rattle.jr_table.specs.SameKeys.{same_class}
 use Rattle.jr_table.specs.Rows.{Row}
 use Rattle.jr_table.specs.Prelude.{prelude_rows, object_key}
 use Rattle.jr_table.specs.ProgramRows.{is_access}
-use Rattle.jr_table.specs.Declared.{words, writes_ctor}
+use Rattle.jr_table.specs.DeclaredItems.{words, writes_ctor}
 use Rattle.jr_table.specs.Errors.{rule_rank, class_part, member_part}
 use Rattle.jr_table.specs.Notes.{Note, refers, breaks}
 use Rattle.jr_table.specs.Walks.{part_notes}

@@ -10,7 +10,7 @@ use Rattle.jr_table.specs.Rows.{Row}
 use Rattle.jr_table.specs.Conditions.{AreRows}
 use Rattle.jr_table.specs.Entries.{number_of, top_class}
 use Rattle.jr_table.specs.Prelude.{top_key}
-use Rattle.jr_table.specs.Declared.{writes_ctor}
+use Rattle.jr_table.specs.DeclaredItems.{writes_ctor}
 use Rattle.jr_table.specs.Found.{Found, one, nothing, not_accessible}
 use Rattle.jr_table.specs.Lookup.{FindsCtorOf, find_ctor_of}
 use Rattle.jr_table.specs.LookupLaws.{Decided, KeysAreFound}

@@ -7,7 +7,7 @@ use Rattle.jr_ast.specs.StatementTree as statement
 use Rattle.jr_ast.specs.MemberTree as syntax
 use Rattle.jr_table.specs.declared.kinds.DeclKind.{DeclKind}
 use Rattle.jr_table.specs.declared.kinds.DeclKind.TheVariants as kind
-use Rattle.jr_table.specs.Declared.{DeclaredItem, DeclaredClass, declarations_of, class_declarations, class_item, field_item, method_item, named}
+use Rattle.jr_table.specs.DeclaredItems.{DeclaredItem, DeclaredClass, declarations_of, class_declarations, class_item, field_item, method_item, named}
 use Rattle.jr_table.specs.Prelude.{top_key}
 use Rattle.jr_table.specs.Resolving.{DeclaresClass, IsParent, TopParent, HasTopMemberType, IsTopClass, Climbs}
 use Rattle.jr_table.specs.Faults.{Place, PackageLine, At, HasFault}

@@ -27,7 +27,7 @@ use Rattle.jr_ast.specs.declared.operators.ModWord.TheVariants as word
 use Rattle.jr_table.specs.declared.kinds.DeclKind.{DeclKind}
 use Rattle.jr_table.specs.declared.kinds.DeclKind.TheVariants as kind
 use Rattle.jr_table.specs.Keys.{ClassKey, Ty}
-use Rattle.jr_table.specs.Declared.{
+use Rattle.jr_table.specs.DeclaredItems.{
   Written,
   int,
   boolean,

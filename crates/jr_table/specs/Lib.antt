@@ -18,7 +18,7 @@ pub mod Conditions
 pub mod Members
 pub mod Keyed
 pub mod MethodLists
-pub mod Declared
+pub mod DeclaredItems
 pub mod Resolving
 pub mod Faults
 pub mod ProgramRows

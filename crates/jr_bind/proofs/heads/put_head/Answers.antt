@@ -7,7 +7,7 @@ use Rattle.jr_ast.specs.declared.members.Class.{out-Class}
 use Rattle.jr_ast.specs.View.{word_of, modifier_of, type_of, members_of}
 use Rattle.jr_ast.proofs.Rows.{class_of-out}
 use Rattle.jr_table.specs.HeadNotes.{head_notes}
-use Rattle.jr_table.specs.Declared.{writes_ctor}
+use Rattle.jr_table.specs.DeclaredItems.{writes_ctor}
 use Rattle.jr_bind.specs.DeclaredTypes.{FitsMaybeType}
 use Rattle.jr_bind.specs.Heads.{FitsHead, PutsOfClass}
 use Rattle.jr_bind.proofs.Heading.{head_is}

@@ -4,7 +4,7 @@ use Rattle.jr_ast.specs.View.{unit_of}
 use Rattle.jr_table.specs.Faults.{IsClean}
 use Rattle.jr_table.specs.ProgramRows.{AreProgramRows}
 use Rattle.jr_table.specs.Rows.{Row}
-use Rattle.jr_table.specs.Declared.{declarations_of}
+use Rattle.jr_table.specs.DeclaredItems.{declarations_of}
 use Rattle.jr_build.specs.Builds.{IsFoundFault}
 use Rattle.jr_build.specs.Fitting.{begins_by}
 use Rattle.jr_build.specs.Heads.{AreHeaded}

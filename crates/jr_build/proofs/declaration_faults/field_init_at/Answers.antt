@@ -2,7 +2,7 @@ use Rattle.std.proofs.Common.{◌≡◌, ℕ, Option, Some, false, option_map, r
 use Rattle.jr_ast.specs.declared.operators.ModWord.{ModWord}
 use Rattle.jr_ast.specs.declared.operators.ModWord.TheVariants as word
 use Rattle.jr_table.specs.Resolving.{HasWord}
-use Rattle.jr_table.specs.Declared.{DeclaredField, DeclaredInit, field_item}
+use Rattle.jr_table.specs.DeclaredItems.{DeclaredField, DeclaredInit, field_item}
 use Rattle.jr_table.specs.Faults.{InitIsBad}
 use Rattle.jr_build.specs.DeclarationFaults.{IsLeastAt}
 use Rattle.jr_build.specs.DeclaredView.{field_declaration_of, init_declaration_of}

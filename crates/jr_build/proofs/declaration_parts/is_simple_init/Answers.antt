@@ -5,7 +5,7 @@ use Rattle.jr_ast.specs.declared.exprs.ExprKind as expr
 use Rattle.jr_ast.specs.declared.parts.TypeRef.{TypeRef}
 use Rattle.jr_ast.specs.View.{expr_of, exprs_of, type_of, expr_kind}
 use Rattle.jr_ast.proofs.Rows.{expr_kind-New}
-use Rattle.jr_table.specs.Declared.{is_simple, is_object, has_none}
+use Rattle.jr_table.specs.DeclaredItems.{is_simple, is_object, has_none}
 use Rattle.jr_build.specs.Fitting.{begins_by}
 use Rattle.jr_build.proofs.declaration_parts.is_simple_init.Goals as goal
 

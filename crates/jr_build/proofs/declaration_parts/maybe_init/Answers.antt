@@ -3,7 +3,7 @@ use Rattle.jr_ast.specs.declared.exprs.Expr.{Expr}
 use Rattle.jr_ast.specs.Marks.{exp_mark}
 use Rattle.jr_ast.specs.View.{expr_of}
 use Rattle.jr_ast.proofs.Rows.{expr_mark_is}
-use Rattle.jr_table.specs.Declared.{DeclaredInit, init_declaration, is_simple}
+use Rattle.jr_table.specs.DeclaredItems.{DeclaredInit, init_declaration, is_simple}
 use Rattle.jr_build.specs.Fitting.{begins_by, InitFits}
 use Rattle.jr_build.proofs.declaration_parts.maybe_init.Goals as goal
 

@@ -1,6 +1,6 @@
 use Rattle.std.proofs.Common.{◌≡◌, ◌++◌, drop, map}
 use Rattle.jr_ast.specs.View.{modifier_of}
-use Rattle.jr_table.specs.Declared.{words}
+use Rattle.jr_table.specs.DeclaredItems.{words}
 use Rattle.jr_build.specs.Fitting.{begins_by}
 use Rattle.jr_build.proofs.declaration_parts.mod_words.Given as goal
 

@@ -1,7 +1,7 @@
 use Rattle.std.proofs.Common.{◌≡◌, ◌++◌, drop, map}
 use Rattle.jr_ast.specs.View.{param_of}
 use Rattle.jr_build.specs.Fitting.{begins_by}
-use Rattle.jr_table.specs.Declared.{param_declaration}
+use Rattle.jr_table.specs.DeclaredItems.{param_declaration}
 use Rattle.jr_build.specs.DeclaredView.{param_declaration_of}
 use Rattle.jr_build.proofs.declaration_parts.param_declarations.Given as goal
 

@@ -6,7 +6,7 @@ use Rattle.jr_ast.specs.View.{word_of, modifier_of, type_of, param_of, expr_of, 
 use Rattle.jr_ast.proofs.Rows.{class_of-out}
 use Rattle.jr_ast.proofs.Sizes.{member_size, members_size, class_size, members_add, falls_further, falls_whole_row, falls_item}
 use Rattle.jr_build.specs.Fitting.{begins_by, WordFits, MaybeTypeFits, MemberFits, ClassFits, MembersFit}
-use Rattle.jr_table.specs.Declared.{DeclaredItem, class_item, field_item, method_item, ctor_item, word_at, written, words, param_declaration, init_declaration, writes_ctor, member_declarations, class_declarations, members_declarations}
+use Rattle.jr_table.specs.DeclaredItems.{DeclaredItem, class_item, field_item, method_item, ctor_item, word_at, written, words, param_declaration, init_declaration, writes_ctor, member_declarations, class_declarations, members_declarations}
 use Rattle.jr_build.specs.Gathers.{in_file}
 use Rattle.jr_build.specs.DeclaredView.{text_of, declaration_of, declaration_key_of}
 use Rattle.jr_build.proofs.ClassParts.{class_parts, member_begins}

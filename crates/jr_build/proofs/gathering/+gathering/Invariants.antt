@@ -2,7 +2,7 @@ use Rattle.std.proofs.Common.{◌+◌, ◌*◌, ◌≡◌, ◌++◌, drop, map}
 use Rattle.jr_ast.specs.View.{class_of, member_of, members_of}
 use Rattle.jr_ast.proofs.Sizes.{member_size, class_size, members_size}
 use Rattle.jr_build.specs.Fitting.{begins_by}
-use Rattle.jr_table.specs.Declared.{members_declarations}
+use Rattle.jr_table.specs.DeclaredItems.{members_declarations}
 use Rattle.jr_build.specs.Gathers.{in_file}
 use Rattle.jr_build.specs.DeclaredView.{declaration_of, declaration_key_of}
 use Rattle.jr_build.proofs.gathering.+gathering.Given as goal

@@ -1,7 +1,7 @@
 use Rattle.std.proofs.Common.{map, refl, Option, None}
 use Rattle.jr_ast.specs.View.{class_of}
 use Rattle.jr_build.specs.Fitting.{begins_by, ClassFits, ClassesFit}
-use Rattle.jr_table.specs.Declared.{class_declarations, classes_declarations}
+use Rattle.jr_table.specs.DeclaredItems.{class_declarations, classes_declarations}
 use Rattle.jr_build.specs.Gathers.{in_file}
 use Rattle.jr_build.proofs.DeclarationLists as lists
 use Rattle.jr_build.proofs.gathering.classes.Goals as goal

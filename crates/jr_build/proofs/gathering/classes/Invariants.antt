@@ -1,7 +1,7 @@
 use Rattle.std.proofs.Common.{◌≡◌, ◌++◌, drop, map}
 use Rattle.jr_ast.specs.View.{class_of}
 use Rattle.jr_build.specs.Fitting.{begins_by}
-use Rattle.jr_table.specs.Declared.{classes_declarations}
+use Rattle.jr_table.specs.DeclaredItems.{classes_declarations}
 use Rattle.jr_build.specs.Gathers.{in_file}
 use Rattle.jr_build.specs.DeclaredView.{declaration_of}
 use Rattle.jr_build.proofs.gathering.classes.Given as goal

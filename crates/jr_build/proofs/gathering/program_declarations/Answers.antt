@@ -3,7 +3,7 @@ use Rattle.std.proofs.lemmas.List.{append_assoc, append-nil, drop_all}
 use Rattle.jr_ast.specs.declared.members.Unit.{Unit}
 use Rattle.jr_ast.specs.View.{class_of, unit_of}
 use Rattle.jr_build.specs.Fitting.{begins_by, ClassesFit, UnitFits, UnitsFit}
-use Rattle.jr_table.specs.Declared.{DeclaredItem, classes_declarations, declarations_from, declarations_of}
+use Rattle.jr_table.specs.DeclaredItems.{DeclaredItem, classes_declarations, declarations_from, declarations_of}
 use Rattle.jr_build.specs.Gathers.{in_file}
 use Rattle.jr_build.specs.DeclaredView.{declaration_of}
 use Rattle.jr_build.proofs.DeclarationLists as lists

@@ -1,7 +1,7 @@
 use Rattle.std.proofs.Common.{◌≡◌, ◌++◌, drop, map}
 use Rattle.jr_ast.specs.View.{unit_of}
 use Rattle.jr_build.specs.Fitting.{begins_by}
-use Rattle.jr_table.specs.Declared.{declarations_from, declarations_of}
+use Rattle.jr_table.specs.DeclaredItems.{declarations_from, declarations_of}
 use Rattle.jr_build.specs.DeclaredView.{declaration_of}
 use Rattle.jr_build.proofs.gathering.program_declarations.Given as goal
 

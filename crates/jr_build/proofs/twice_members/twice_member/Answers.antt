@@ -1,7 +1,7 @@
 use Rattle.std.proofs.Common.{Option, ◌∙◌, ap, sym, subst, map, option_map, ℕ}
 use Rattle.jr_table.specs.Faults.{Place, ParamTwice, params_of}
 use Rattle.jr_table.specs.Keys.{ClassKey, Ty}
-use Rattle.jr_table.specs.Declared.{Written}
+use Rattle.jr_table.specs.DeclaredItems.{Written}
 use Rattle.jr_table.specs.Resolving.{Means}
 use Rattle.jr_build.specs.declared.signatures.Signature as raw
 use Rattle.jr_build.specs.HierarchyView.{hierarchy_of}

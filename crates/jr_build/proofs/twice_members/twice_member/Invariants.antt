@@ -1,6 +1,6 @@
 use Rattle.std.proofs.Common.{ℕ, map, option_map}
 use Rattle.jr_table.specs.Keys.{ClassKey, Ty}
-use Rattle.jr_table.specs.Declared.{Written}
+use Rattle.jr_table.specs.DeclaredItems.{Written}
 use Rattle.jr_build.specs.declared.signatures.Signature as raw
 use Rattle.jr_build.specs.HierarchyView.{hierarchy_of}
 use Rattle.jr_build.specs.Places.{place_of, IsEarliest}

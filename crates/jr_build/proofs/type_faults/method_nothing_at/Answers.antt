@@ -3,7 +3,7 @@ use Rattle.jr_build.specs.HierarchyView.{hierarchy_of}
 use Rattle.jr_build.specs.DeclarationFaults.{IsLeastAt}
 use Rattle.jr_build.specs.DeclaredView.{declaration_key_of, param_declaration_of, method_declaration_of}
 use Rattle.jr_build.specs.TypeFaults.{AnyNothing, NothingAt}
-use Rattle.jr_table.specs.Declared.{method_item}
+use Rattle.jr_table.specs.DeclaredItems.{method_item}
 use Rattle.jr_build.proofs.TypeFaultLaws.{of_method}
 use Rattle.jr_build.proofs.type_faults.method_nothing_at.Goals as goal
 

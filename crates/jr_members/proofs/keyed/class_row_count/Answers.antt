@@ -2,7 +2,7 @@ use Rattle.std.proofs.Common.{◌≡◌, Bool, true, false, sym, ap, ◌∙◌}
 use Rattle.std.specs.Prelude.{if◌then◌else◌}
 use Rattle.jr_ast.specs.View.{members_of}
 use Rattle.jr_ast.proofs.Rows.{class_of-out}
-use Rattle.jr_table.specs.Declared.{writes_ctor}
+use Rattle.jr_table.specs.DeclaredItems.{writes_ctor}
 use Rattle.jr_table.specs.Errors.{class_part}
 use Rattle.jr_members.specs.Fitting.{begins_by}
 use Rattle.jr_members.specs.WrittenMembers as members

@@ -1,6 +1,6 @@
 use Rattle.std.proofs.Common.{◌≡◌, drop}
 use Rattle.jr_ast.specs.View.{members_of}
-use Rattle.jr_table.specs.Declared.{writes_ctor}
+use Rattle.jr_table.specs.DeclaredItems.{writes_ctor}
 use Rattle.jr_members.specs.Fitting.{begins_by}
 use Rattle.jr_members.proofs.keyed.writes_ctor.Given as goal
 

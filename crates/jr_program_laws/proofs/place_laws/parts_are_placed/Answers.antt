@@ -8,7 +8,7 @@ use Rattle.jr_grammar.specs.Tokens.{placed_of}
 use Rattle.jr_table.specs.Decls.{MemberKey}
 use Rattle.jr_table.specs.LookupLaws.{KeysFound, OneAnswer}
 use Rattle.jr_table.specs.BindingLaws.{AreBound}
-use Rattle.jr_table.specs.Declared.{declarations_of}
+use Rattle.jr_table.specs.DeclaredItems.{declarations_of}
 use Rattle.jr_table.specs.Errors.{Part, InClasses}
 use Rattle.jr_program_laws.specs.FileParts.{begins}
 use Rattle.jr_program_laws.specs.PlaceLaws.{IsFile, IsPart, PartsArePlaced, SupersStand}

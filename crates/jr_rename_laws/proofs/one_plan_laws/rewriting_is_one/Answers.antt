@@ -1,6 +1,6 @@
 use Rattle.std.proofs.Common.{◌≡◌, [], true, sym, subst}
 use Rattle.jr_table.specs.Context.{Context}
-use Rattle.jr_table.specs.Declared.{declarations_of}
+use Rattle.jr_table.specs.DeclaredItems.{declarations_of}
 use Rattle.jr_bind.specs.Programs.{Program, units_of}
 use Rattle.jr_bind.specs.SuperPlaces.{writes_super}
 use Rattle.jr_grammar.specs.Layout.{itself}

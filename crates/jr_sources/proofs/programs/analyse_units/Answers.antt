@@ -2,7 +2,7 @@ use Rattle.std.proofs.Common.{◌≡◌, ◌≤◌, ℕ, List, length, map, sym,
 use Rattle.std.specs.Prelude.{Option}
 use Rattle.std.proofs.lemmas.List.{length-map}
 use Rattle.jr_ast.specs.View.{unit_of}
-use Rattle.jr_table.specs.Declared.{declarations_of}
+use Rattle.jr_table.specs.DeclaredItems.{declarations_of}
 use Rattle.jr_table.specs.Faults.{PackageLine, IsClean, IsFirstFault}
 use Rattle.jr_table.specs.Names.{kind_name}
 use Rattle.jr_build.specs.Builds.{IsFoundFault}
