@@ -1,9 +1,10 @@
 -- `MethodWalks`, `Imaging`, `Holding`: the code's sets, images and identifier. `SuitableSpelling`,
 -- `IdentifierNames`, `RowNames`: a spelling suits its place, since rows' names are identifiers; so
--- each renamed text reads as its tree.
+-- each renamed text reads as its tree. `Dotted`: the words of a class's name as it is written.
 pub mod Forms
 pub mod SuitableSpelling
 pub mod Imaging
 pub mod MethodWalks
 pub mod IdentifierNames
 pub mod RowNames
+pub mod Dotted
