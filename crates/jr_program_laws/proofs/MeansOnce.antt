@@ -127,7 +127,7 @@ module _ (packages : List (Option PackageLine)) (declarations : List DeclaredIte
       member_names_once (HasMemberType declarations) (HasMemberType declarations) (λ d name s t. has_member_once d name s t) y.0 y.1.parent p q
       (subst (λ (at : DeclaredClass). MemberNames declarations (HasMemberType declarations) y.0 at.parent p) declaration (subst (λ (o : List ℕ). MemberNames declarations (HasMemberType declarations) o x.1.parent p) outer x.4)) y.4
 
-  mean_types_once : (k : ClassKey) (ps : List DeclaredParam) → HasOne (MeanTypes declarations k ps)
+  pub mean_types_once : (k : ClassKey) (ps : List DeclaredParam) → HasOne (MeanTypes declarations k ps)
   mean_types_once k [] [] [] x y = refl
   mean_types_once k [] [] (u ∷ us) x y = absurd y
   mean_types_once k [] (t ∷ ts) us x y = absurd x

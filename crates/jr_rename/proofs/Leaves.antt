@@ -3,7 +3,7 @@ use Rattle.std.proofs.Common.{◌≡◌, ℕ, ◌+◌, Some, None, refl, subst, 
 use Rattle.jr_ast.specs.StatementTree as statement
 use Rattle.jr_table.specs.Context.{Context, locals_in, after}
 use Rattle.jr_table.specs.Somewhere.{InStmt, InElse, InStmts}
-use Rattle.jr_rename.proofs.Nowhere.{exp_none}
+use Rattle.jr_cursor.proofs.Nowhere.{exp_none}
 use Rattle.jr_rename.proofs.Scoping.{stmts_map}
 
 module _ {A : Type 0} (begins : A → ℕ → ℕ) (P : ℕ → Context → ℕ → statement.Stmt A → Type 0) where

@@ -6,7 +6,6 @@
 -- member), `Programs` (the member's answer is the program's), `RowLaws`, `ClashTests`; `Listing`,
 -- `Loops`, `Measures` serve the code.
 mod ClashTests
-mod Nowhere
 mod Least
 mod Contexts
 mod WalkLaws

@@ -8,7 +8,7 @@ use Rattle.jr_table.specs.Somewhere.{InStmt, InElse, InStmts}
 use Rattle.jr_images.specs.Clashes.{DeclaresLocal}
 use Rattle.jr_rename.specs.Walks.{Asked, Walk, is_declared, restored, in_stmt, in_else, in_stmts}
 use Rattle.jr_rename.specs.LocalAnswers.{asked_local}
-use Rattle.jr_rename.proofs.Nowhere.{neither, exp_none}
+use Rattle.jr_cursor.proofs.Nowhere.{neither, exp_none}
 use Rattle.jr_rename.proofs.Contexts.{declared_to, to_declared}
 use Rattle.jr_rename.proofs.WalkLaws.{stmt_next}
 

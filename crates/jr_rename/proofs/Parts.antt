@@ -9,7 +9,7 @@ use Rattle.jr_table.specs.HeadRules.{is_static_member}
 use Rattle.jr_table.specs.Errors.{Part, class_part, member_part}
 use Rattle.jr_images.specs.Clashes.{HasLocal, IsUnder}
 use Rattle.jr_rename.specs.LocalAnswers.{asked_local, part_walk}
-use Rattle.jr_rename.proofs.Nowhere.{exp_none, row_none}
+use Rattle.jr_cursor.proofs.Nowhere.{exp_none, row_none}
 use Rattle.jr_rename.proofs.Least.{LeastOf, least_to}
 use Rattle.jr_rename.proofs.Codes.{CodeNames, CodeUnder, CodeMeets, names_of, under_names, over_names, code_named, code_names, code_least}
 

@@ -6,7 +6,7 @@ use Rattle.jr_table.specs.Decls.{MemberKey, LocalKey}
 use Rattle.jr_table.specs.Context.{Context, Local, local_of, locals_in, after}
 use Rattle.jr_table.specs.Somewhere.{InStmt, InElse, InStmts}
 use Rattle.jr_images.specs.Clashes.{InScope, DeclaresUnder, DeclaresLocal}
-use Rattle.jr_rename.proofs.Nowhere.{exp_none}
+use Rattle.jr_cursor.proofs.Nowhere.{exp_none}
 use Rattle.jr_rename.proofs.Contexts.{last_or}
 use Rattle.jr_rename.proofs.NamedLaws.{after_member}
 

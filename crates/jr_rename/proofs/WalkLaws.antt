@@ -9,7 +9,7 @@ use Rattle.jr_table.specs.Context.{Context, locals_in, locals_in_else, locals_in
 use Rattle.jr_table.specs.Somewhere.{InStmt, InElse, InStmts}
 use Rattle.jr_rename.specs.Walks.{Asked, Held, Walk, restored, in_stmt, in_else, in_stmts}
 use Rattle.jr_rename.specs.LocalAnswers.{asked_local}
-use Rattle.jr_rename.proofs.Nowhere.{neither, exp_none}
+use Rattle.jr_cursor.proofs.Nowhere.{neither, exp_none}
 use Rattle.jr_rename.proofs.Least.{LeastOf, least_to, least_both, least_left}
 use Rattle.jr_rename.proofs.Contexts.{Beside, MeetsAt, local_met, local_beside}
 

@@ -15,7 +15,7 @@ use Rattle.jr_images.specs.Images.{Renaming, name_to, member_to}
 use Rattle.jr_rename_laws.specs.Beside.{ClassBeside, MembersBeside, MemberBeside, ClassesBeside, UnitsBeside}
 use Rattle.jr_rename_laws.specs.ImageLaws.{IsClassImage, IsMemberImage}
 use Rattle.jr_rename_laws.proofs.Still.{class_same, types_same}
-use Rattle.jr_rename_laws.proofs.OneMeaning.{mean_types_once}
+use Rattle.jr_program_laws.proofs.MeansOnce.{mean_types_once}
 use Rattle.jr_rename_laws.proofs.DeclarationImages.{ItemsTo, DeclarationsTo, items_join, declarations_join}
 use Rattle.jr_rename_laws.proofs.RowImages.{mean_to}
 use Rattle.jr_rename_laws.proofs.TypesStay.{TypesKeep}

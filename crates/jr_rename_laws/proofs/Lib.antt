@@ -1,6 +1,6 @@
--- References, lowest first: `Chosen`, `Places` (rows and locals), `Dotted`, `World` (what is known
--- of the two programs), `Rebound` (one reference, form by form), `Types`, `OneBound`,
--- `Kept` (types, one recursion over expressions), `Alongside`, `Sides` (statements), `Members`. New
+-- References, lowest first: `Chosen`, `Places` (rows and locals), `World` (what is known of the two
+-- programs), `Rebound` (one reference, form by form), `Types`, `OneBound`, `Kept` (types, one
+-- recursion over expressions), `Alongside`, `Sides` (statements), `Members`. New
 -- programs: `SameClasses` (what types mean depends on the declared classes alone), `Still` (what a
 -- renaming without classes leaves), `DeclarationImages`, `RowImages`, `TypesFound`, `TypesStay`,
 -- `InitsStay`, `TreeImages` (one recursion over classes), `DeclarationsBeside`, `CleanImages`
@@ -14,7 +14,6 @@
 -- one), `OneProgram`, `OneClash`, `OneRefusal`, `OnePlan` (one reason after the other).
 mod Chosen
 mod Places
-mod Dotted
 mod World
 mod Types
 mod OneBound
@@ -27,7 +26,6 @@ mod OneLocal
 mod SameClasses
 mod Still
 mod DeclarationImages
-mod OneMeaning
 mod RowImages
 mod TypesStay
 mod InitsStay

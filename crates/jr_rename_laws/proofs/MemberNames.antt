@@ -11,7 +11,7 @@ use Rattle.jr_table.specs.ProgramRows.{MeanTypes, AreProgramRows}
 use Rattle.jr_table.specs.Faults.{PackageLine, name_at, SameTypes, SameMember, params_of, ParamTwice, HasItsName, IsClean}
 use Rattle.jr_images.specs.Images.{Renaming, is_renamed, name_to}
 use Rattle.jr_rename_laws.proofs.Still.{keeps_name, gets_name}
-use Rattle.jr_rename_laws.proofs.OneMeaning.{means_once, mean_types_once}
+use Rattle.jr_program_laws.proofs.MeansOnce.{means_once, mean_types_once}
 use Rattle.jr_rename_laws.proofs.DeclarationImages.{ParamsTo, ItemTo, DeclarationsTo, Beside}
 use Rattle.jr_rename_laws.proofs.CleanImages.{NamesAreClear}
 use Rattle.jr_rename_laws.proofs.LocalNames.{field_beside, method_beside, ctor_beside, param_at, types_back}

@@ -13,7 +13,7 @@ use Rattle.jr_table.specs.Faults.{PackageLine, IsClean}
 use Rattle.jr_images.specs.Images.{Renaming, name_to, class_to, type_to, decl_to, row_to, rows_to}
 use Rattle.jr_rename_laws.proofs.SameClasses.{ClassesGo, parent_goes, means_goes, result_goes}
 use Rattle.jr_rename_laws.proofs.Still.{IsStill, class_same, type_same, types_same, prelude_same}
-use Rattle.jr_rename_laws.proofs.OneMeaning.{mean_types_once}
+use Rattle.jr_program_laws.proofs.MeansOnce.{mean_types_once}
 use Rattle.jr_rename_laws.proofs.DeclarationImages.{forms_of, ClassTo, ParamsTo, FieldTo, MethodTo, CtorTo, ItemTo, DeclarationsTo, classes_forth, classes_back}
 
 pub map_both : {S U : Type 0} (f : S → U) (xs ys : List S) → map f (xs ++ ys) ≡ map f xs ++ map f ys

@@ -27,7 +27,7 @@ use Rattle.jr_images.specs.Images.{Renaming, class_to, type_to, rows_to, scope_t
 use Rattle.jr_images.specs.Spelling.{renamed, respelled, outer_type, spelled, reference, behind_words, dotted, TypeLeads, spelling, TypeSpells, QualifierSpells}
 use Rattle.jr_images.specs.Keeping.{FindBoth, IsRespelled, IsFrontKept, IsTypeKept}
 use Rattle.jr_rename_laws.proofs.Chosen.{renamed_text, renamed_front, lost_some, left_none, right_none, outer_type_is}
-use Rattle.jr_rename_laws.proofs.Dotted.{IsWhole, whole_front, whole_last, dotted_front, dotted_last}
+use Rattle.jr_images.proofs.Dotted.{IsWhole, whole_front, whole_last, dotted_front, dotted_last}
 use Rattle.jr_images.proofs.Forms.{with_name}
 use Rattle.jr_rename_laws.proofs.Places.{scope_image}
 use Rattle.jr_rename_laws.proofs.World.{World}

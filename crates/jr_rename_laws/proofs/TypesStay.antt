@@ -31,7 +31,7 @@ use Rattle.jr_images.specs.Images.{Renaming, class_to, rows_to, scope_to}
 use Rattle.jr_rename_laws.specs.ImageLaws.{no_mark}
 use Rattle.jr_images.specs.Spelling.{renamed, spelled, reference, behind_words, dotted, spelling, TypeLeads, Spells, TypeSpells, QualifierSpells, ParentSpells, ParentQualifierSpells}
 use Rattle.jr_rename_laws.proofs.Chosen.{renamed_text, renamed_front, lost_some, left_none, right_none}
-use Rattle.jr_rename_laws.proofs.Dotted.{whole_front, whole_last, dotted_front, dotted_last}
+use Rattle.jr_images.proofs.Dotted.{whole_front, whole_last, dotted_front, dotted_last}
 use Rattle.jr_rename_laws.proofs.Still.{IsStill, class_same}
 
 -- ---- what is found by a name has it

@@ -14,7 +14,7 @@ use Rattle.jr_table.specs.BindingLaws.{IsBound}
 use Rattle.jr_spell.specs.Rebound.{SpellingsRebind, ClassesRebind, AreFronts}
 use Rattle.jr_images.specs.Images.{Renaming, class_to, rows_to}
 use Rattle.jr_rename_laws.specs.Standing.{ContextTo}
-use Rattle.jr_rename_laws.proofs.Dotted.{IsWhole}
+use Rattle.jr_images.proofs.Dotted.{IsWhole}
 
 pub record World (A : Type 0) (rows : List Row) (g : Renaming) (c d : Context) : Type 0 where
   pub are : AreRows (rows_to g rows)

@@ -12,7 +12,7 @@ use Rattle.jr_spell.specs.declared.spellings.Form.TheVariants.{Asked}
 use Rattle.jr_spell.specs.Binds.{last_word}
 use Rattle.jr_spell.specs.Taken.{IsTaken}
 use Rattle.jr_images.specs.Spelling.{reference, operand_of, behind_words, dotted}
-use Rattle.jr_spared.proofs.Dots.{IsWhole, whole_front, whole_last, dotted_front, dotted_last}
+use Rattle.jr_images.proofs.Dotted.{IsWhole, whole_front, whole_last, dotted_front, dotted_last}
 
 module _ (rows : List Row) (s : Scope) where
   pub local_taken : (name : List ℕ) (q : LocalKey) → FindsVariable rows s name (one (local_decl q)) → IsTaken rows s (reference ref.AsAsked name None []) (local_decl q) Asked

@@ -7,7 +7,6 @@ mod ImagesStay
 mod Unmoved
 mod Namesakes
 mod Passing
-mod Dots
 mod AskedBinds
 mod NothingBroken
 mod WordsOfTypes

@@ -19,7 +19,7 @@ use Rattle.jr_rewrite.specs.Rewritten.{plain, within, simple_type_out, qualified
 use Rattle.jr_rewrite.specs.Rewrites.{RewritesType, RewritesParent, TypeOut}
 use Rattle.jr_images.specs.Images.{Renaming, class_to, rows_to, scope_to}
 use Rattle.jr_images.specs.Spelling.{spelling, reference, behind_words, dotted, TypeLeads, TypeSpells, QualifierSpells, ParentSpells, ParentQualifierSpells}
-use Rattle.jr_spared.proofs.Dots.{IsWhole}
+use Rattle.jr_images.proofs.Dotted.{IsWhole}
 use Rattle.jr_spared.proofs.ImagesStay.{plain_scope_same}
 use Rattle.jr_spared.proofs.Unmoved.{GivesNothing, stays_so}
 use Rattle.jr_spared.proofs.Namesakes.{type_named, inner_named, type_row}
