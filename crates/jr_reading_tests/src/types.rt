@@ -1,7 +1,7 @@
 //! A tree of three levels: `a`, and `b` within a part that has no type.
 use jr_ast::Path;
-use jr_table::Ty;
 use jr_expr_types::Types;
+use jr_table::Ty;
 use std::alloc::Global;
 use std::process::Abort;
 
