@@ -1,4 +1,5 @@
 //! The texts of faults, which `thiserror` derives.
+use crate::edits;
 use crate::rows::assert_same;
 use jr_build::BuildFault;
 use jr_lex::{LexFault, TooDeep};
@@ -57,6 +58,7 @@ fn assert_of_programs(rt: &impl Abort, alloc: Global) {
 
 #[test]
 fn faults_as_texts(rt: HostRuntime) {
+    edits::assert_faults(&rt, rt.alloc());
     assert_of_texts(&rt, rt.alloc());
     assert_of_programs(&rt, rt.alloc());
 }

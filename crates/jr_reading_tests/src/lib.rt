@@ -7,6 +7,7 @@
 //! `scopes` make keys and places of texts. All of it is one crate: a crate with a test is proved a
 //! second time, and each crate of tests proves anew how the trees that it holds are dropped.
 //!
+//! `edits`, `grid`, `numbers`: what edits make of a text, the reordering grid, numbers by name.
 //! `lexing`, `limits`, `faults`: items and texts of each size up to the limits. `samples`, `trees`,
 //! `paths`, `deepest`, `drops`: trees made by hand, paths and copies, the stack that the deepest
 //! trees take, what a drop frees. `reading`, `expressions` with `shown`, `units`, `printing`: texts
@@ -23,9 +24,13 @@ mod deepest;
 #[cfg(test)]
 mod drops;
 #[cfg(test)]
+mod edits;
+#[cfg(test)]
 mod expressions;
 #[cfg(test)]
 mod faults;
+#[cfg(test)]
+mod grid;
 #[cfg(test)]
 mod keys;
 #[cfg(test)]
@@ -38,6 +43,8 @@ mod locals;
 mod lookups;
 #[cfg(test)]
 mod names;
+#[cfg(test)]
+mod numbers;
 #[cfg(test)]
 mod paths;
 #[cfg(test)]

@@ -2,7 +2,9 @@
 //! line without ` => ` is a remark.
 use crate::building::table_of;
 use crate::builds::{self, field_types, superclasses};
+use crate::edits::{self, cut, edit};
 use crate::expressions::{self, read_expression, read_whole};
+use crate::grid::{self, moves_behind};
 use crate::lexing::{self, identify, lex_text, too_deep};
 use crate::lookups::{self, find};
 use crate::names::{self, write_name};
@@ -35,6 +37,9 @@ pub(crate) fn number(rt: &impl Abort, text: &str) -> u32 {
 /// The answer to a row about a text by itself.
 fn answer_of_text(rt: &impl Abort, alloc: Global, kind: &str, asked: &str) -> String {
     match kind {
+        "part" => cut(rt, alloc, asked),
+        "edits" => edit(rt, alloc, asked),
+        "grid" => moves_behind(rt, alloc, asked),
         "lex" => lex_text(rt, alloc, asked),
         "identifier" => identify(rt, alloc, asked),
         "depth" => too_deep(rt, alloc, asked),
@@ -77,6 +82,8 @@ fn assert_rows(rt: &impl Abort, alloc: Global, program: &str, rows: &str, count:
 
 #[test]
 fn rows_about_texts(rt: HostRuntime) {
+    assert_rows(&rt, rt.alloc(), "", edits::ROWS, 11);
+    assert_rows(&rt, rt.alloc(), "", grid::ROWS, 7);
     assert_rows(&rt, rt.alloc(), "", lexing::ROWS, 79);
     assert_rows(&rt, rt.alloc(), "", expressions::ROWS, 103);
     assert_rows(&rt, rt.alloc(), "", units::ROWS, 82);

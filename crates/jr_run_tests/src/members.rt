@@ -175,6 +175,7 @@ fn bound_told<L: Ledger>(rt: &impl Abort, alloc: Global, blank: Blank) -> String
     requires some { 0 < L.parts }
 {
     let mut steps = Steps::<L>::new(blank);
+    steps.tick();
     let text = "class O{static class K{static int x;}int m(){return O.K.x;}}";
     let text = Text::new(alloc, text.as_bytes()).expect(rt, "a text");
     let units = units_in(rt, alloc, &text);
