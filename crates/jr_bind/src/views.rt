@@ -1,10 +1,12 @@
 //! A whole program that has no fault and no error, as it is lent to who reads it.
-ghost use Rattle.std.specs.Prelude.{◌≡◌, ◌<◌, Some, length, map, slice_get, option_map};
+ghost use Rattle.std.specs.Prelude.{◌≡◌, ◌<◌, Some, ForSome, length, map, slice_get, option_map};
+ghost use Rattle.jr_lex.specs.Lexes.{Lexes};
 ghost use Rattle.jr_ast.specs.View.{unit_of};
 ghost use Rattle.jr_bind.specs.Programs.{Program, IsProgram, units_of};
 
 use crate::bounds::Bound;
 use jr_ast::Unit;
+use jr_lex::Item;
 use jr_table::Table;
 use jr_text::{Mark, Text};
 
@@ -34,6 +36,12 @@ pub trait View<A: Mark> {
         requires { file < length (program self.now).files }
         ensures { option_map (λ f. f.text) (slice_get (program self.now).files file)
             ≡ Some result.now };
+
+    /// The items of a file's text: its tokens, blanks and comments.
+    fn items(&self, file: u32) -> &[Item]
+        requires { file < length (program self.now).files }
+        ensures { ForSome (slice_get (program self.now).files file)
+            (λ f. Lexes f.text result.now) };
 
     /// What the files read as.
     fn units(&self) -> &[Unit<A>]

@@ -41,6 +41,13 @@ impl Tokens {
         Ok(Tokens { items, supers })
     }
 
+    /// The items.
+    pub fn items(&self) -> &[Item]
+        ensures { result.now ≡ self.now }
+    {
+        self.items.as_slice()
+    }
+
     /// The bytes of the token that begins at this byte of the text, if one does. The tokens are
     /// those of the text.
     pub fn text_at<'a>(&self, text: &'a Text, at: u64) -> Option<&'a str>
