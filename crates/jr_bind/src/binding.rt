@@ -149,7 +149,7 @@ pub fn bind<A: Mark, L: Ledger>(
 }
 
 /// The member of a key, if it is among these.
-fn member_of_key<'m, 'a, A>(
+pub fn member_of_key<'m, 'a, A>(
     members: &'m [WrittenMember<'a, A>],
     key: &MemberKey,
 ) -> Option<&'m WrittenMember<'a, A>>

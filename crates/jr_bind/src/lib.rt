@@ -42,7 +42,7 @@ mod stmt_parts;
 mod supers;
 mod views;
 
-pub use binding::{bind, bind_member};
+pub use binding::{bind, bind_member, member_of_key};
 pub use bounds::{Bound, Reference};
 pub use errors::BindError;
 pub use views::View;

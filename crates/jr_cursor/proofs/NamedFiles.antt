@@ -22,12 +22,10 @@ use Rattle.jr_table.specs.Errors.{Part, class_part, member_part, Binds, Declares
 use Rattle.jr_program_laws.specs.FileParts.{begins, IsSuperAt, SuperStands, WithSuper}
 use Rattle.jr_program_laws.proofs.TokenOrder.{Rising}
 use Rattle.jr_program_laws.proofs.Holding.{Over, join, pass, only, node, turn, empty}
-use Rattle.jr_program_laws.proofs.Filling.{member_fills}
-use Rattle.jr_program_laws.proofs.Supers.{Knowing}
-use Rattle.jr_program_laws.proofs.ItemTokens.{first_of_span}
 use Rattle.jr_program_laws.proofs.MembersHold.{parent_over}
 use Rattle.jr_program_laws.proofs.MemberParts.{member_binds}
 use Rattle.jr_program_laws.proofs.SuperPlaces.{super_once}
+use Rattle.jr_program_laws.proofs.FileHolds.{sum_out, key_first, key_second, keyed, known}
 use Rattle.jr_images.specs.Targets.{PartDeclares}
 use Rattle.jr_cursor.proofs.Nowhere.{neither}
 use Rattle.jr_cursor.proofs.Declaring.{from_part}
@@ -57,32 +55,11 @@ with_reference rows items k base (member_part (syntax.inner m c)) at d h = inr h
 
 -- ---- what has a key of its own
 
-sum_out : {K : Type 0} {A B : K → Type 0} → ((k : K) × (A k ⊎ B k)) → ((k : K) × A k) ⊎ ((k : K) × B k)
-sum_out (k, inl a) = inl (k, a)
-sum_out (k, inr b) = inr (k, b)
-
-key_first : {K : Type 0} {A B : K → Type 0} → ((k : K) → B k → ⊥) → ((k : K) × (A k ⊎ B k)) → (k : K) × A k
-key_first none (k, inl a) = (k, a)
-key_first none (k, inr b) = absurd (none k b)
-
-key_second : {K : Type 0} {A B : K → Type 0} → ((k : K) → A k → ⊥) → ((k : K) × (A k ⊎ B k)) → (k : K) × B k
-key_second none (k, inl a) = absurd (none k a)
-key_second none (k, inr b) = (k, b)
-
 -- the name of a class, what stands behind it, and its members
 head_parts : {K : Type 0} {D N P M : K → Type 0} → ((k : K) × ((D k × (N k ⊎ P k)) ⊎ M k)) → ((k : K) × (D k × N k)) ⊎ (((k : K) × (D k × P k)) ⊎ ((k : K) × M k))
 head_parts (k, inl (is, inl n)) = inl (k, (is, n))
 head_parts (k, inl (is, inr p)) = inr (inl (k, (is, p)))
 head_parts (k, inr m) = inr (inr (k, m))
-
--- a key that only one may be
-keyed : {all : Tokens} {K : Type 0} {P : Tokens → Type 0} {D : K → Type 0} {R : K → ℕ → Decl → Type 0} → HasOne D → ((k : K) → D k → Over all P (R k)) → Over all P (λ at d. (k : K) × (D k × R k at d))
-keyed {all} {K} {P} {D} {R} single f = record {
-  over = λ ps rising piece h. record {
-    within = λ at d r. ((f r.0 r.1.0).over ps rising piece h).within at d r.1.1;
-    one = λ at d e r t. ((f r.0 r.1.0).over ps rising piece h).one at d e r.1.1 (subst (λ (k : K). R k at e) (sym (single r.0 t.0 r.1.0 t.1.0)) t.1.1);
-  };
-}
 
 module _ (text : List ℕ) (items : List Item) (rising : Rising (placed_of text items)) (rows : List Row) (fit : AreRows rows) (lookups : EachHasOne rows) (bounds : (c : Context) → IsBound Span rows c) where
   abbrev All : Tokens
@@ -93,19 +70,11 @@ module _ (text : List ℕ) (items : List Item) (rising : Rising (placed_of text 
   in_words s k base x at d (inl h) = inl (from_part k base x at d h)
   in_words s k base x at d (inr h) = inr ((member_binds rows s k base x at d).0 h)
 
-  -- where a written `super(..)` stands, the first word `super` of the constructor does
-  known : (s : ℕ) (m : Span) (mods : List (syntax.Modifier Span)) (w : tree.Word Span) (ps : List (syntax.Param Span)) (args : Option (tree.Exps Span)) (body : statement.Stmts Span) {R : ℕ → Decl → Type 0} → IsSuperAt items m s
-      → Over All (Knowing s (Stands (member_layout (syntax.constructor m mods w ps args body)))) R → Over All (Stands (member_layout (syntax.constructor m mods w ps args body))) R
-  known s m mods w ps args body is f = record {
-    over = λ qs rises piece h.
-        f.over qs rises piece (record { is = h; first = first_of_span text items qs m s rising piece ((member_fills (syntax.constructor m mods w ps args body)).fills qs h) h.mark is });
-  }
-
   super_part_has : (k : MemberKey) (base : ℕ) (m : Span) (mods : List (syntax.Modifier Span)) (w : tree.Word Span) (ps : List (syntax.Param Span)) (args : tree.Exps Span) (body : statement.Stmts Span)
       → Over All (Stands (member_layout (syntax.constructor m mods w ps (Some args) body)))
       (λ at d. (s : ℕ) × (IsSuperAt items m s × (PartDeclares begins k base (member_part (syntax.constructor m mods w ps (Some args) body)) at d ⊎ Binds begins rows s k base (member_part (syntax.constructor m mods w ps (Some args) body)) at d)))
   super_part_has k base m mods w ps args body = keyed (super_once items m)
-      (λ s is. known s m mods w ps (Some args) body is (turn (super_ctor_has All rows fit lookups bounds s k base m mods w ps args body) (λ at d. in_words s k base (syntax.constructor m mods w ps (Some args) body) at d)))
+      (λ s is. known text items rising rows fit lookups bounds s m mods w ps (Some args) body is (turn (super_ctor_has All rows fit lookups bounds s k base m mods w ps args body) (λ at d. in_words s k base (syntax.constructor m mods w ps (Some args) body) at d)))
 
   -- ---- parts
 

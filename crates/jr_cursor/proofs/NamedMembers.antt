@@ -26,7 +26,7 @@ use Rattle.jr_program_laws.proofs.Holding.{Over, join, pass, only, node, turn, e
 use Rattle.jr_program_laws.proofs.Supers.{Knowing, knowing_node, beyond, beyond_with, within_with, super_leads, lacks_token, word_lacks, modifiers_lack, params_lack}
 use Rattle.jr_program_laws.proofs.FoundOnce.{same_decl, super_ctor_once}
 use Rattle.jr_program_laws.proofs.ExpressionsHold.{type_over, args_over}
-use Rattle.jr_program_laws.proofs.StatementsHold.{exp}
+use Rattle.jr_program_laws.proofs.MembersHold.{init_over}
 use Rattle.jr_images.specs.Targets.{StandsAt, MemberDeclares, LocalDeclares}
 use Rattle.jr_rewrite.specs.Rewrites.{declared_by}
 use Rattle.jr_cursor.proofs.Nowhere.{exp_none, row_none}
@@ -93,10 +93,6 @@ module _ (all : Tokens) (rows : List Row) (fit : AreRows rows) (lookups : EachHa
   result_over c base None = empty (λ at d h. h)
   result_over c base (Some t) = only (type_over all rows fit lookups bounds c base t)
 
-  init_over : (c : Context) (base : ℕ) (init : Option (tree.Exp Span)) → Over all (Stands (init_layout init)) (λ at d. InMaybe begins (OnExp rows at d) (OnStmt rows at d) (OnList rows at d) c base init)
-  init_over c base None = empty (λ at d h. h)
-  init_over c base (Some e) = pass (only (exp all rows fit lookups bounds c value base e))
-
   name : (k : MemberKey) (base : ℕ) (w : tree.Word Span) → Over all (Stands (word_layout w)) (λ at d. StandsAt begins base w at × (d ≡ declared_by k))
   name k base w = name_over all rows fit lookups bounds base w (declared_by k)
 
@@ -110,7 +106,7 @@ module _ (all : Tokens) (rows : List Row) (fit : AreRows rows) (lookups : EachHa
       → Over all (Stands (member_layout (syntax.field m mods t w init))) (MemberHas rows s k base (syntax.field m mods t w init))
   field_has s k base m mods t w init = turn
       (node (pass (join (type_over all rows fit lookups bounds (plain k false) (begins m base) t) (join (name k (begins m base) w)
-      (only (init_over (plain k (is_static_member begins mods)) (begins m base) init))))))
+      (only (init_over all rows fit lookups bounds (plain k (is_static_member begins mods)) (begins m base) init))))))
       (λ at d. field_parts (init_none at d (plain k (is_static_member begins mods)) (begins m base) init))
 
   pub method_has : (s : ℕ) (k : MemberKey) (base : ℕ) (m : Span) (mods : List (syntax.Modifier Span)) (t : Option (tree.TypeName Span)) (w : tree.Word Span) (ps : List (syntax.Param Span)) (body : statement.Stmts Span)

@@ -24,7 +24,7 @@ use Rattle.jr_program_laws.specs.FileParts.{begins}
 use Rattle.jr_program_laws.proofs.MemberParts.{OnExp, OnStmt, OnList}
 use Rattle.jr_program_laws.proofs.Holding.{Over, join, pass, only, node, turn, empty}
 use Rattle.jr_program_laws.proofs.ExpressionsHold.{without, type_over, word_over}
-use Rattle.jr_program_laws.proofs.StatementsHold.{exp}
+use Rattle.jr_program_laws.proofs.StatementsHold.{behind_none, around_none, exp}
 use Rattle.jr_images.specs.Targets.{StandsAt, LocalDeclares, ParamDeclares}
 use Rattle.jr_cursor.proofs.Nowhere.{neither, exp_none}
 
@@ -140,17 +140,6 @@ local_parts : {A B C : Type 0} → (A ⊎ B) ⊎ C → B ⊎ (A ⊎ C)
 local_parts (inl (inl a)) = inr (inl a)
 local_parts (inl (inr b)) = inl b
 local_parts (inr c) = inr (inr c)
-
-behind_none : {A B C : Type 0} → (A → ⊥) → (B → ⊥) → A ⊎ (B ⊎ C) → C
-behind_none f g (inl a) = absurd (f a)
-behind_none f g (inr (inl b)) = absurd (g b)
-behind_none f g (inr (inr c)) = c
-
-around_none : {A B C D : Type 0} → (A → ⊥) → (C → ⊥) → A ⊎ (B ⊎ (C ⊎ D)) → B ⊎ D
-around_none f g (inl a) = absurd (f a)
-around_none f g (inr (inl b)) = inl b
-around_none f g (inr (inr (inl c))) = absurd (g c)
-around_none f g (inr (inr (inr d))) = inr d
 
 -- the name of a parameter in front of its type, and the others behind both
 param_parts : {A B C D : Type 0} → (A ⊎ B) ⊎ (C ⊎ D) → (C ⊎ A) ⊎ (B ⊎ D)

@@ -25,9 +25,9 @@ use Rattle.jr_program_laws.proofs.TokenOrder.{Rising, whole_piece}
 use Rattle.jr_program_laws.proofs.ItemTokens.{tokens_rise}
 use Rattle.jr_program_laws.proofs.MeansOnce.{declares_once}
 use Rattle.jr_program_laws.proofs.SuperPlaces.{part_binds}
+use Rattle.jr_program.proofs.Standing.{marked_file, super_stands}
 use Rattle.jr_images.specs.Targets.{PartDeclares, Names, IsTarget}
 use Rattle.jr_cursor.proofs.Holders.{one_begins}
-use Rattle.jr_cursor.proofs.Asking.{marked_file, super_stands}
 use Rattle.jr_cursor.proofs.NamedFiles.{PartHas, with_super, with_reference, unit_has}
 
 module _ (placed : ItemsPlaced) (keys : KeysFound) (single : OneAnswer) (bound : AreBound Span) (written : MembersAreWritten Span) (p : Program Span) (is : IsProgram itself (λ m b. Unit {0}) p) where

@@ -11,10 +11,10 @@ use Rattle.jr_table.specs.declared.decls.Decl as raw
 use Rattle.jr_table.specs.KeyView.{decl_of}
 use Rattle.jr_bind.specs.Programs.{File, Program, IsProgram, units_of}
 use Rattle.jr_program_laws.specs.FileParts.{begins}
+use Rattle.jr_program.proofs.Standing.{map_some}
 use Rattle.jr_images.specs.Targets.{HoldsIdentifier, Names}
 use Rattle.jr_cursor.specs.Names.{Finds}
 use Rattle.jr_cursor.specs.ProgramTargets.{HasTargetAt, LacksTargetAt}
-use Rattle.jr_cursor.proofs.Asking.{map_some}
 use Rattle.jr_cursor.proofs.Holders.{one_begins}
 
 pub some_at : {X : Type 0} (P : X → Type 0) (o : Option X) (x : X) → o ≡ Some x → IfSome o P → P x

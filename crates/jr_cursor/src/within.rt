@@ -1,49 +1,19 @@
 //! What a written member has at a byte of its file.
 ghost use Rattle.std.specs.Prelude.{◌≡◌, Some, IfOk, option_map};
-ghost use Rattle.jr_ast.specs.Marks.{class_mark, member_mark};
-ghost use Rattle.jr_ast.specs.View.{class_of, member_of};
 ghost use Rattle.jr_bind.specs.Bounds.{decl_in};
-ghost use Rattle.jr_members.specs.PartView.{part_of, written_of};
-ghost use Rattle.jr_table.specs.Errors.{part_mark};
+ghost use Rattle.jr_members.specs.PartView.{written_of};
 ghost use Rattle.jr_table.specs.KeyView.{decl_of};
 ghost use Rattle.jr_cursor.specs.Names as pure;
 ghost use Rattle.jr_cursor.specs.Names.{Finds, HasWithin, HasThere};
 
 use crate::names::{local_there, own_name};
 use crate::preludes::foreign_found;
-use jr_ast::{Class, Member, MemberKind};
 use jr_bind::Bound;
-use jr_members::{PartRef, WrittenMember};
+use jr_members::WrittenMember;
+use jr_program::first_byte;
 use jr_table::{Decl, Facts, Table};
 use jr_text::Span;
 use std::alloc::AllocError;
-
-fn class_byte(class: &Class<Span>) -> u32
-    ensures { result ≡ (class_mark (class_of class.now)).from }
-{
-    class.mark.from
-}
-
-#[tactic(auto, unfolding(jr_ast::specs::View::member_kind))]
-fn member_byte(member: &Member<Span>) -> u32
-    ensures { result ≡ (member_mark (member_of member.now)).from }
-{
-    match &member.kind {
-        MemberKind::Field { .. } => member.mark.from,
-        MemberKind::Method { .. } => member.mark.from,
-        MemberKind::Ctor { .. } => member.mark.from,
-        MemberKind::Inner(_) => member.mark.from,
-    }
-}
-
-fn first_byte(part: &PartRef<'_, Span>) -> u32
-    ensures { result ≡ (part_mark (part_of part.now)).from }
-{
-    match part {
-        PartRef::Head(class) => class_byte(class),
-        PartRef::Member(member) => member_byte(member),
-    }
-}
 
 /// What the reference at a place of a member is bound to.
 fn bound_at(bound: &Bound, at: u32) -> Result<Option<Decl>, AllocError>

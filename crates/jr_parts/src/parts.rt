@@ -1,14 +1,11 @@
 //! What a written member of a program gives.
 ghost use Rattle.std.specs.Prelude.{◌≡◌, ◌<◌, ℕ, Some, IfOk, length, slice_get};
-ghost use Rattle.jr_ast.specs.View.{class_of, member_of};
-ghost use Rattle.jr_ast.specs.Marks.{class_mark, member_mark};
 ghost use Rattle.jr_members.specs.PartView.{part_of, written_of};
 ghost use Rattle.jr_members.specs.WrittenMembers.{written_members};
 ghost use Rattle.jr_bind.specs.Programs.{units_of};
 ghost use Rattle.jr_program_laws.specs.FileParts.{begins};
 ghost use Rattle.jr_respell.specs.Scopes.{rows_in, renaming_in, AreImages};
 ghost use Rattle.jr_renaming.specs.OutputView.{gathered};
-ghost use Rattle.jr_table.specs.Errors.{part_mark};
 ghost use Rattle.jr_parts.specs.Walking.{key_of, rows_of, naming_of, CanWalk};
 ghost use Rattle.jr_parts.specs.Ready as ready;
 ghost use Rattle.jr_parts.specs.Gathered as gives;
@@ -17,9 +14,9 @@ ghost use Rattle.jr_parts.specs.Parts.{PartAdds};
 use crate::beginnings::Walked;
 use crate::heads::head;
 use crate::members::member;
-use jr_ast::{Class, Member, MemberKind};
 use jr_bind::{Bound, View};
 use jr_members::{PartRef, WrittenMember, members_are_written};
+use jr_program::first_byte;
 use jr_program_laws::parts_are_placed;
 use jr_renaming::Output;
 use jr_respell::Programs;
@@ -27,33 +24,6 @@ use jr_program_laws::declared_types_are_found;
 use jr_table::lookups_are_exact;
 use jr_text::Span;
 use std::alloc::{AllocError, Global};
-
-fn class_byte(class: &Class<Span>) -> u32
-    ensures { result ≡ (class_mark (class_of class.now)).from }
-{
-    class.mark.from
-}
-
-#[tactic(auto, unfolding(jr_ast::specs::View::member_kind))]
-fn member_byte(member: &Member<Span>) -> u32
-    ensures { result ≡ (member_mark (member_of member.now)).from }
-{
-    match &member.kind {
-        MemberKind::Field { .. } => member.mark.from,
-        MemberKind::Method { .. } => member.mark.from,
-        MemberKind::Ctor { .. } => member.mark.from,
-        MemberKind::Inner(_) => member.mark.from,
-    }
-}
-
-fn first_byte(part: &PartRef<'_, Span>) -> u32
-    ensures { result ≡ (part_mark (part_of part.now)).from }
-{
-    match part {
-        PartRef::Head(class) => class_byte(class),
-        PartRef::Member(member) => member_byte(member),
-    }
-}
 
 /// What a part gives that is walked.
 fn walk<'a, V: View<Span>>(

@@ -84,7 +84,8 @@ fn member_byte(member: &Member<Span>) -> u32
     }
 }
 
-fn first_byte(part: &PartRef<'_, Span>) -> u32
+/// The first byte of a part whose marks are spans.
+pub fn first_byte(part: &PartRef<'_, Span>) -> u32
     ensures { result ≡ (part_mark (part_of part.now)).from }
 {
     match part {

@@ -12,6 +12,6 @@ mod bounds;
 mod laws;
 mod tokens;
 
-pub use bounds::{MemberBound, bind_members, members_of_file};
+pub use bounds::{MemberBound, bind_members, first_byte, members_of_file};
 pub use laws::members_are_known;
 pub use tokens::Tokens;

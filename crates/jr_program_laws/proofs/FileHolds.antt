@@ -30,20 +30,20 @@ use Rattle.jr_program_laws.proofs.SuperPlaces.{super_once}
 
 -- ---- what has a key of its own
 
-sum_out : {K : Type 0} {A B : K → Type 0} → ((k : K) × (A k ⊎ B k)) → ((k : K) × A k) ⊎ ((k : K) × B k)
+pub sum_out : {K : Type 0} {A B : K → Type 0} → ((k : K) × (A k ⊎ B k)) → ((k : K) × A k) ⊎ ((k : K) × B k)
 sum_out (k, inl a) = inl (k, a)
 sum_out (k, inr b) = inr (k, b)
 
-key_first : {K : Type 0} {A B : K → Type 0} → ((k : K) → B k → ⊥) → ((k : K) × (A k ⊎ B k)) → (k : K) × A k
+pub key_first : {K : Type 0} {A B : K → Type 0} → ((k : K) → B k → ⊥) → ((k : K) × (A k ⊎ B k)) → (k : K) × A k
 key_first none (k, inl a) = (k, a)
 key_first none (k, inr b) = absurd (none k b)
 
-key_second : {K : Type 0} {A B : K → Type 0} → ((k : K) → A k → ⊥) → ((k : K) × (A k ⊎ B k)) → (k : K) × B k
+pub key_second : {K : Type 0} {A B : K → Type 0} → ((k : K) → A k → ⊥) → ((k : K) × (A k ⊎ B k)) → (k : K) × B k
 key_second none (k, inl a) = absurd (none k a)
 key_second none (k, inr b) = (k, b)
 
 -- a key that only one may be
-keyed : {all : Tokens} {K : Type 0} {P : Tokens → Type 0} {D : K → Type 0} {R : K → ℕ → Decl → Type 0} → HasOne D → ((k : K) → D k → Over all P (R k)) → Over all P (λ at d. (k : K) × (D k × R k at d))
+pub keyed : {all : Tokens} {K : Type 0} {P : Tokens → Type 0} {D : K → Type 0} {R : K → ℕ → Decl → Type 0} → HasOne D → ((k : K) → D k → Over all P (R k)) → Over all P (λ at d. (k : K) × (D k × R k at d))
 keyed {all} {K} {P} {D} {R} single f = record {
   over = λ ps rising piece h. record {
     within = λ at d r. ((f r.0 r.1.0).over ps rising piece h).within at d r.1.1;
@@ -56,7 +56,7 @@ module _ (text : List ℕ) (items : List Item) (rising : Rising (placed_of text 
   All = placed_of text items
 
   -- where a written `super(..)` stands, the first word `super` of the constructor does
-  known : (s : ℕ) (m : Span) (mods : List (syntax.Modifier Span)) (w : tree.Word Span) (ps : List (syntax.Param Span)) (args : Option (tree.Exps Span)) (body : statement.Stmts Span) {R : ℕ → Decl → Type 0} → IsSuperAt items m s
+  pub known : (s : ℕ) (m : Span) (mods : List (syntax.Modifier Span)) (w : tree.Word Span) (ps : List (syntax.Param Span)) (args : Option (tree.Exps Span)) (body : statement.Stmts Span) {R : ℕ → Decl → Type 0} → IsSuperAt items m s
       → Over All (Knowing s (Stands (member_layout (syntax.constructor m mods w ps args body)))) R → Over All (Stands (member_layout (syntax.constructor m mods w ps args body))) R
   known s m mods w ps args body is f = record {
     over = λ qs rises piece h.

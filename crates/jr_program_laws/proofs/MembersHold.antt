@@ -64,7 +64,7 @@ module _ (all : Tokens) (rows : List Row) (fit : AreRows rows) (lookups : EachHa
   params_over c base [] = empty (λ at d h. h)
   params_over c base (p ∷ ps) = join (param_over c p) (only (more_params_over c base ps))
 
-  init_over : (c : Context) (base : ℕ) (init : Option (tree.Exp Span)) → Over all (Stands (init_layout init)) (λ at d. InMaybe begins (OnExp rows at d) (OnStmt rows at d) (OnList rows at d) c base init)
+  pub init_over : (c : Context) (base : ℕ) (init : Option (tree.Exp Span)) → Over all (Stands (init_layout init)) (λ at d. InMaybe begins (OnExp rows at d) (OnStmt rows at d) (OnList rows at d) c base init)
   init_over c base None = empty (λ at d h. h)
   init_over c base (Some e) = pass (only (exp all rows fit lookups bounds c value base e))
 

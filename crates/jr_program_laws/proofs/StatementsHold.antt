@@ -24,12 +24,12 @@ neither : {A B : Type 0} → (A → ⊥) → (B → ⊥) → A ⊎ B → ⊥
 neither f g (inl a) = f a
 neither f g (inr b) = g b
 
-behind_none : {A B C : Type 0} → (A → ⊥) → (B → ⊥) → A ⊎ (B ⊎ C) → C
+pub behind_none : {A B C : Type 0} → (A → ⊥) → (B → ⊥) → A ⊎ (B ⊎ C) → C
 behind_none f g (inl a) = absurd (f a)
 behind_none f g (inr (inl b)) = absurd (g b)
 behind_none f g (inr (inr c)) = c
 
-around_none : {A B C D : Type 0} → (A → ⊥) → (C → ⊥) → A ⊎ (B ⊎ (C ⊎ D)) → B ⊎ D
+pub around_none : {A B C D : Type 0} → (A → ⊥) → (C → ⊥) → A ⊎ (B ⊎ (C ⊎ D)) → B ⊎ D
 around_none f g (inl a) = absurd (f a)
 around_none f g (inr (inl b)) = inl b
 around_none f g (inr (inr (inl c))) = absurd (g c)

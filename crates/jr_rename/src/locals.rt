@@ -1,5 +1,5 @@
 //! The local or parameter with which one collides that gets a name.
-ghost use Rattle.std.specs.Prelude.{◌≡◌, Contains, map, IfOk, MatchOption};
+ghost use Rattle.std.specs.Prelude.{◌≡◌, map, IfOk};
 ghost use Rattle.std.specs.Prelude.{option_map};
 ghost use Rattle.jr_members.specs.Fitting.{begins_by};
 ghost use Rattle.jr_members.specs.PartView.{part_of, written_of};
@@ -12,28 +12,11 @@ ghost use Rattle.jr_rename.specs.Walks.{asked_of, walk_of};
 
 use crate::walks::{Asked, Walk, in_member, start};
 use jr_ast::Name;
-use jr_bind::View;
+use jr_bind::{View, member_of_key};
 use jr_members::{PartRef, WrittenMember, members_are_written};
 use jr_table::{Decl, LocalKey, MemberKey};
 use jr_text::Mark;
 use std::alloc::{AllocError, Global};
-
-/// The member of a key, if it is among these.
-fn member_of_key<'m, 'a, A>(
-    members: &'m [WrittenMember<'a, A>],
-    key: &MemberKey,
-) -> Option<&'m WrittenMember<'a, A>>
-    ensures { MatchOption result
-        ((w : _) → Contains members.now w → member_key_of w.key ≡ member_key_of key.now → ⊥)
-        (λ w. Contains members.now w.now × (member_key_of w.now.key ≡ member_key_of key.now)) }
-{
-    for member in members {
-        if member.key == *key {
-            return Some(member);
-        }
-    }
-    None
-}
 
 /// Behind the whole part.
 fn part_walk<'a, A>(

@@ -9,10 +9,11 @@ use Rattle.jr_bind.specs.Bounds.{Bound, IsBound}
 use Rattle.jr_program_laws.specs.FileParts.{begins}
 use Rattle.jr_renaming.specs.OutputView.{gathered}
 use Rattle.jr_respell.specs.Scopes.{rows_in, renaming_in}
+use Rattle.jr_program.proofs.Standing.{at_contains, bound_at}
 use Rattle.jr_parts.specs.Ready.{PartReady}
 use Rattle.jr_parts.specs.Gathered.{PartGathers}
 use Rattle.jr_parts.proofs.Giving.{parts_add}
-use Rattle.jr_parts.proofs.Standing.{bound_at, at_contains, is_file, ready}
+use Rattle.jr_parts.proofs.Standing.{is_file, ready}
 use Rattle.jr_parts.proofs.parts.part.Goals as goal
 
 pub bound-requires : goal.bound-requires
