@@ -2,8 +2,7 @@
 ghost use Rattle.jr_parts.specs.PartLaws.{WrittenAreSound};
 
 use jr_members::members_are_written;
-use jr_program_laws::parts_are_placed;
-use jr_program_laws::declared_types_are_found;
+use jr_program_laws::{declared_types_are_found, parts_are_placed};
 use jr_table::lookups_are_exact;
 use jr_text::Span;
 

@@ -15,9 +15,9 @@ use jr_ast::{Expr, Path};
 use jr_bind::View;
 use jr_gather::{Here, exprs, super_ctor_choice};
 use jr_lex::{Item, LexFault, lex};
+use jr_program::Tokens;
 use jr_renaming::{Output, keep_loss};
 use jr_respell::Choice;
-use jr_program::Tokens;
 use jr_text::{Span, Text};
 use std::alloc::{AllocError, Global};
 
