@@ -1,5 +1,5 @@
 -- `Counting`: calls and counts. `FetchLaws`: the first fault in the order of work. `StoreLaws`:
 -- what was stored before a store that failed.
-mod Counting
+pub mod Counting
 mod StoreLaws
 mod FetchLaws

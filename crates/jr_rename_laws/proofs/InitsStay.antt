@@ -14,72 +14,9 @@ use Rattle.jr_rewrite.specs.Rewrites.{Choosing, RewritesExp, RewritesRow, Rewrit
 use Rattle.jr_images.specs.Images.{Renaming}
 use Rattle.jr_rename_laws.specs.ImageLaws.{no_mark}
 use Rattle.jr_images.specs.Spelling.{spelling}
+use Rattle.jr_rename_laws.proofs.BareTrees.{nowhere, object_bare}
 use Rattle.jr_rename_laws.proofs.Chosen.{left_none, right_none}
 use Rattle.jr_rename_laws.proofs.TypesStay.{TypesKeep, type_stays}
-
--- ---- marks say nothing of it
-
-abbrev pub nowhere : Unit {0} → ℕ → ℕ
-nowhere m b = 0
-
-module _ {A : Type 0} (begins : A → ℕ → ℕ) where
-  abbrev bare : tree.Exp A → tree.Exp (Unit {0})
-  bare e = map_exp no_mark e
-
-  number_bare : (e : tree.Exp A) → is_number nowhere (bare e) ≡ is_number begins e
-  unfolding map_exp
-  number_bare (tree.number m n) = refl
-  number_bare (tree.truth m b) = refl
-  number_bare (tree.null m) = refl
-  number_bare (tree.string m s) = refl
-  number_bare (tree.name m w) = refl
-  number_bare (tree.field m e w) = refl
-  number_bare (tree.super_field m w) = refl
-  number_bare (tree.this m) = refl
-  number_bare (tree.class_literal m t) = refl
-  number_bare (tree.call m to w args) = refl
-  number_bare (tree.super_call m w args) = refl
-  number_bare (tree.create m t args) = refl
-  number_bare (tree.paren m e) = refl
-  number_bare (tree.cast m t e) = refl
-  number_bare (tree.unary m op e) = refl
-  number_bare (tree.bump m op e) = refl
-  number_bare (tree.binary m op x y) = refl
-  number_bare (tree.assign m x y) = refl
-  number_bare (tree.compound m op x y) = refl
-
-  pub object_bare : (t : tree.TypeName A) → is_object nowhere (map_type no_mark t) ≡ is_object begins t
-  object_bare (tree.int m) = refl
-  object_bare (tree.boolean m) = refl
-  object_bare (tree.named m None w) = refl
-  object_bare (tree.named m (Some v) w) = refl
-
-  none_bare : (es : tree.Exps A) → has_none nowhere (map_exps no_mark es) ≡ has_none begins es
-  unfolding map_exps
-  none_bare tree.end = refl
-  none_bare (tree.more e es) = refl
-
-  pub simple_bare : (e : tree.Exp A) → is_simple nowhere (bare e) ≡ is_simple begins e
-  unfolding map_exp map_exps
-  simple_bare (tree.number m n) = refl
-  simple_bare (tree.truth m b) = refl
-  simple_bare (tree.null m) = refl
-  simple_bare (tree.string m s) = refl
-  simple_bare (tree.name m w) = refl
-  simple_bare (tree.field m e w) = refl
-  simple_bare (tree.super_field m w) = refl
-  simple_bare (tree.this m) = refl
-  simple_bare (tree.class_literal m t) = refl
-  simple_bare (tree.call m to w args) = refl
-  simple_bare (tree.super_call m w args) = refl
-  simple_bare (tree.create m t args) = λ i. object_bare t i && none_bare args i
-  simple_bare (tree.paren m e) = refl
-  simple_bare (tree.cast m t e) = refl
-  simple_bare (tree.unary m op e) = ap (λ (b : Bool). is_minus begins op && b) (number_bare e)
-  simple_bare (tree.bump m op e) = refl
-  simple_bare (tree.binary m op x y) = refl
-  simple_bare (tree.assign m x y) = refl
-  simple_bare (tree.compound m op x y) = refl
 
 -- ---- a reference has none of these forms, whatever it becomes
 

@@ -28,6 +28,7 @@ mod Still
 mod DeclarationImages
 mod RowImages
 mod TypesStay
+mod BareTrees
 mod InitsStay
 mod TreeImages
 mod DeclarationsBeside

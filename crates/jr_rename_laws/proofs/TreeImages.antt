@@ -22,75 +22,13 @@ use Rattle.jr_images.specs.Images.{Renaming, name_to}
 use Rattle.jr_rename_laws.specs.ImageLaws.{no_mark}
 use Rattle.jr_images.specs.Spelling.{spelling}
 use Rattle.jr_rename_laws.specs.Beside.{ClassBeside, MembersBeside, MemberBeside, ClassesBeside, UnitsBeside}
+use Rattle.jr_rename_laws.proofs.BareTrees.{cons_head, cons_rest, Bare, mods_in, name_in, params_in, type_in, init_in, class_mods, class_name, class_parent, class_members, front_in, word_in, same_front, nowhere, simple_bare}
 use Rattle.jr_rename_laws.proofs.Chosen.{renamed_text, left_none, right_none}
 use Rattle.jr_rename_laws.proofs.SameClasses.{Alike, MaybeAlike}
 use Rattle.jr_rename_laws.proofs.Still.{keeps_name}
 use Rattle.jr_rename_laws.proofs.DeclarationImages.{forms_of, ParamsTo, ItemsTo}
 use Rattle.jr_rename_laws.proofs.TypesStay.{TypesKeep, type_stays, superclass_stays}
-use Rattle.jr_rename_laws.proofs.InitsStay.{nowhere, simple_bare, forms_stay}
-
-cons_head : {T : Type 0} (x y : T) (xs ys : List T) → x ∷ xs ≡ y ∷ ys → x ≡ y
-cons_head x y xs ys e = let p : x ≡ y = cc in p
-
-cons_rest : {T : Type 0} (x y : T) (xs ys : List T) → x ∷ xs ≡ y ∷ ys → xs ≡ ys
-cons_rest x y xs ys e = let p : xs ≡ ys = cc in p
-
--- ---- what a tree without marks has
-
-abbrev Bare : Type 0
-Bare = Unit {0}
-
-abbrev mods_in : syntax.Member Bare → List (syntax.Modifier Bare)
-mods_in (syntax.field m mods t w init) = mods
-mods_in (syntax.method m mods t w ps body) = mods
-mods_in (syntax.constructor m mods w ps args body) = mods
-mods_in (syntax.inner m c) = []
-
-abbrev name_in : syntax.Member Bare → List ℕ
-name_in (syntax.field m mods t w init) = w.text
-name_in (syntax.method m mods t w ps body) = w.text
-name_in (syntax.constructor m mods w ps args body) = w.text
-name_in (syntax.inner m c) = []
-
-abbrev params_in : syntax.Member Bare → List (syntax.Param Bare)
-params_in (syntax.field m mods t w init) = []
-params_in (syntax.method m mods t w ps body) = ps
-params_in (syntax.constructor m mods w ps args body) = ps
-params_in (syntax.inner m c) = []
-
-abbrev type_in : syntax.Member Bare → Option (tree.TypeName Bare)
-type_in (syntax.field m mods t w init) = Some t
-type_in (syntax.method m mods t w ps body) = t
-type_in (syntax.constructor m mods w ps args body) = None
-type_in (syntax.inner m c) = None
-
-abbrev init_in : syntax.Member Bare → Option (tree.Exp Bare)
-init_in (syntax.field m mods t w init) = init
-init_in (syntax.method m mods t w ps body) = None
-init_in (syntax.constructor m mods w ps args body) = None
-init_in (syntax.inner m c) = None
-
-abbrev class_mods : syntax.Class Bare → List (syntax.Modifier Bare)
-class_mods (syntax.class m mods w t ms) = mods
-
-abbrev class_name : syntax.Class Bare → List ℕ
-class_name (syntax.class m mods w t ms) = w.text
-
-abbrev class_parent : syntax.Class Bare → Option (tree.TypeName Bare)
-class_parent (syntax.class m mods w t ms) = t
-
-abbrev class_members : syntax.Class Bare → syntax.Members Bare
-class_members (syntax.class m mods w t ms) = ms
-
-abbrev front_in : tree.TypeName Bare → Option (List ℕ)
-front_in (tree.int m) = None
-front_in (tree.boolean m) = None
-front_in (tree.named m o w) = option_map (λ (v : tree.Word Bare). v.text) o
-
-abbrev word_in : tree.TypeName Bare → List ℕ
-word_in (tree.int m) = []
-word_in (tree.boolean m) = []
-word_in (tree.named m o w) = w.text
+use Rattle.jr_rename_laws.proofs.InitsStay.{forms_stay}
 
 module _ {A B : Type 0} (begins : A → ℕ → ℕ) (begins' : B → ℕ → ℕ) where
   abbrev old_type : tree.TypeName A → tree.TypeName Bare
@@ -98,14 +36,6 @@ module _ {A B : Type 0} (begins : A → ℕ → ℕ) (begins' : B → ℕ → �
 
   abbrev new_type : tree.TypeName B → tree.TypeName Bare
   new_type t = map_type no_mark t
-
-  same_front : (o : Option (tree.Word A)) (p : Option (tree.Word B))
-      → option_map (λ (v : tree.Word Bare). v.text) (option_map (map_word no_mark) p) ≡ option_map (λ (v : tree.Word Bare). v.text) (option_map (map_word no_mark) o)
-      → option_map (λ (v : tree.Word A). v.text) o ≡ option_map (λ (v : tree.Word B). v.text) p
-  same_front None None e = refl
-  same_front None (Some w) e = absurd cc
-  same_front (Some v) None e = absurd cc
-  same_front (Some v) (Some w) e = sym e
 
   alike_types : (b i : ℕ) (t : tree.TypeName A) (u : tree.TypeName B) → new_type u ≡ old_type t → Alike (written begins b t) (written begins' i u)
   alike_types b i (tree.int m) (tree.int k) e = tt

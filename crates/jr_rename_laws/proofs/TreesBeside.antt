@@ -30,73 +30,11 @@ use Rattle.jr_images.specs.Keeping.{IsKept, IsWritten, IsSuperKept, IsParentKept
 use Rattle.jr_images.specs.RenameLaws.{trees_of}
 use Rattle.jr_images.specs.Spelling.{spelling, ParentQualifierSpells, ParentSpells}
 use Rattle.jr_rename_laws.specs.Beside.{ClassBeside, MembersBeside, MemberBeside, ClassesBeside, UnitsBeside}
+use Rattle.jr_rename_laws.proofs.BareTrees.{cons_head, cons_rest, Bare, mods_in, name_in, params_in, type_in, init_in, class_mods, class_name, class_parent, class_members, front_in, word_in, same_front}
 use Rattle.jr_rename_laws.proofs.WrittenTypes.{place, WrittenAs}
 use Rattle.jr_rename_laws.proofs.Renamed.{Keeps, kept_name, declared_text}
 use Rattle.jr_rename_laws.proofs.Initializers.{init_goes}
 use Rattle.jr_rename_laws.proofs.ItemsBeside.{TypeTo, ParentTo, ResultTo, ParamsTo, ItemsTo}
-
-cons_head : {T : Type 0} (x y : T) (xs ys : List T) → x ∷ xs ≡ y ∷ ys → x ≡ y
-cons_head x y xs ys e = let p : x ≡ y = cc in p
-
-cons_rest : {T : Type 0} (x y : T) (xs ys : List T) → x ∷ xs ≡ y ∷ ys → xs ≡ ys
-cons_rest x y xs ys e = let p : xs ≡ ys = cc in p
-
--- ---- what a tree without marks has
-
-abbrev Bare : Type 0
-Bare = Unit {0}
-
-abbrev mods_in : syntax.Member Bare → List (syntax.Modifier Bare)
-mods_in (syntax.field m mods t w init) = mods
-mods_in (syntax.method m mods t w ps body) = mods
-mods_in (syntax.constructor m mods w ps args body) = mods
-mods_in (syntax.inner m c) = []
-
-abbrev name_in : syntax.Member Bare → List ℕ
-name_in (syntax.field m mods t w init) = w.text
-name_in (syntax.method m mods t w ps body) = w.text
-name_in (syntax.constructor m mods w ps args body) = w.text
-name_in (syntax.inner m c) = []
-
-abbrev params_in : {A : Type 0} → syntax.Member A → List (syntax.Param A)
-params_in (syntax.field m mods t w init) = []
-params_in (syntax.method m mods t w ps body) = ps
-params_in (syntax.constructor m mods w ps args body) = ps
-params_in (syntax.inner m c) = []
-
-abbrev type_in : syntax.Member Bare → Option (tree.TypeName Bare)
-type_in (syntax.field m mods t w init) = Some t
-type_in (syntax.method m mods t w ps body) = t
-type_in (syntax.constructor m mods w ps args body) = None
-type_in (syntax.inner m c) = None
-
-abbrev init_in : syntax.Member Bare → Option (tree.Exp Bare)
-init_in (syntax.field m mods t w init) = init
-init_in (syntax.method m mods t w ps body) = None
-init_in (syntax.constructor m mods w ps args body) = None
-init_in (syntax.inner m c) = None
-
-abbrev class_mods : syntax.Class Bare → List (syntax.Modifier Bare)
-class_mods (syntax.class m mods w t ms) = mods
-
-abbrev class_name : syntax.Class Bare → List ℕ
-class_name (syntax.class m mods w t ms) = w.text
-
-abbrev class_parent : syntax.Class Bare → Option (tree.TypeName Bare)
-class_parent (syntax.class m mods w t ms) = t
-
-abbrev class_members : {A : Type 0} → syntax.Class A → syntax.Members A
-class_members (syntax.class m mods w t ms) = ms
-
-abbrev front_in : tree.TypeName Bare → Option (List ℕ)
-front_in (tree.int m) = None
-front_in (tree.boolean m) = None
-front_in (tree.named m o w) = option_map (λ (v : tree.Word Bare). v.text) o
-
-abbrev word_in : tree.TypeName Bare → List ℕ
-word_in (tree.int m) = []
-word_in (tree.boolean m) = []
-word_in (tree.named m o w) = w.text
 
 bare_words : {A : Type 0} (mods : List (syntax.Modifier A)) → map (λ (m : syntax.Modifier Bare). m.word) (map (map_modifier no_mark) mods) ≡ mod_words mods
 bare_words [] = refl
@@ -105,14 +43,6 @@ bare_words (m ∷ ms) = ap (λ ws. m.word ∷ ws) (bare_words ms)
 some_map : {X Y : Type 0} (f : X → Y) (o : Option X) → is_some (option_map f o) ≡ is_some o
 some_map f None = refl
 some_map f (Some x) = refl
-
-same_front : {A B : Type 0} (o : Option (tree.Word A)) (p : Option (tree.Word B))
-    → option_map (λ (v : tree.Word Bare). v.text) (option_map (map_word no_mark) p) ≡ option_map (λ (v : tree.Word Bare). v.text) (option_map (map_word no_mark) o)
-    → option_map (λ (v : tree.Word A). v.text) o ≡ option_map (λ (v : tree.Word B). v.text) p
-same_front None None e = refl
-same_front None (Some w) e = absurd cc
-same_front (Some v) None e = absurd cc
-same_front (Some v) (Some w) e = sym e
 
 module _ (rows : List Row) (g : Renaming) (keeps : Keeps rows g) {A B : Type 0} (tells : A → ℕ → Span) (begins' : B → ℕ → ℕ) (super_at : Context → ℕ) (ss : List DeclaredItem) where
   abbrev begins : A → ℕ → ℕ

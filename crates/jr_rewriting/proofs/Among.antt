@@ -5,15 +5,13 @@ use Rattle.std.proofs.lemmas.List.{drop_all}
 use Rattle.std.specs.Prelude.{Option, Some, None, IfSome}
 use Rattle.jr_table.specs.Rows.{Row}
 use Rattle.jr_table.specs.Decls.{Decl}
+use Rattle.jr_bind_expr.proofs.Steps.{left_is}
 use Rattle.jr_mentions.specs.Apart.{AreApart}
 use Rattle.jr_mentions.specs.ApartView.{names_in}
 use Rattle.jr_mentions.specs.declared.names.Apart.{Apart}
 use Rattle.jr_images.specs.Images.{Renaming, rows_to}
 use Rattle.jr_rewriting.specs.declared.unaffected.Unaffected as raw
 use Rattle.jr_rewriting.specs.Unaffected.{IsAmong, AreAmong, AreAvoidable, local_in, IsUnaffectedBy}
-
-left_is : {T : Type 0} (xs : List T) (i : ℕ) (x : T) → i < length xs → x ≡ get_or xs i x → drop i xs ≡ x ∷ drop (i + 1) xs
-left_is xs i x lt is = drop-cons xs i x lt ∙ ap (λ z. z ∷ drop (suc i) xs) (sym is) ∙ ap (λ n. x ∷ drop n xs) (sym (add-one i))
 
 module _ {X : Type 0} (decl : X → Decl) (names : List (List ℕ)) (xs : List X) where
   -- if those that are left are of these names, so are all

@@ -7,6 +7,7 @@ use Rattle.std.proofs.lemmas.Bool.{cases_Bool}
 use Rattle.std.proofs.lemmas.List.{length-map, length-set}
 use Rattle.std.proofs.lemmas.Option.{slice_get-map, slice_get_within, slice_get_cases}
 use Rattle.jr_text.specs.declared.spans.Span.{Span}
+use Rattle.jr_index.proofs.Setting.{set_here, set_there}
 use Rattle.jr_table.specs.Context.{Context}
 use Rattle.jr_members.specs.Fitting.{begins_by}
 use Rattle.jr_members.specs.WrittenMembers.{WrittenMember, written_members}
@@ -25,18 +26,6 @@ use Rattle.jr_grammar.specs.Layout.{itself}
 use Rattle.jr_parts.specs.Parts.{PartAdds}
 use Rattle.jr_rewriting.specs.Gathered.{effects_of, members_of, IsPut, AreNext, AreSoFar}
 use Rattle.jr_rewriting.proofs.Gathering.{both_nothing, all_join}
-
-set_here : {T : Type 0} (xs : List T) (i : ℕ) (x y : T) → i < length xs → x ≡ get_or xs i x → (slice_get (set xs i y) i ≡ Some y) × (slice_get xs i ≡ Some x)
-set_here [] i x y lt is = absurd (omega arith)
-set_here (z ∷ xs) zero x y lt is = (refl, ap Some (sym is))
-set_here (z ∷ xs) (suc i) x y lt is = set_here xs i x y (omega arith) is
-
-set_there : {T : Type 0} (xs : List T) (i c : ℕ) (y : T) → c ≢ i → slice_get (set xs i y) c ≡ slice_get xs c
-set_there [] i c y n = refl
-set_there (z ∷ xs) zero zero y n = absurd (n refl)
-set_there (z ∷ xs) zero (suc c) y n = refl
-set_there (z ∷ xs) (suc i) zero y n = refl
-set_there (z ∷ xs) (suc i) (suc c) y n = set_there xs i c y (λ e. n (ap suc e))
 
 same_effect : (a b : Effect) → Some a ≡ Some b → a ≡ b
 same_effect a b e = cc

@@ -16,30 +16,10 @@ use Rattle.jr_files.specs.declared.faults.FilesFault.TheVariants.{Unread, BadSou
 use Rattle.jr_files.specs.declared.faults.SourceFault.{SourceFault}
 use Rattle.jr_files.specs.Fetching.{IsFilesFault, IsInOrder, IsUnread, OnUnread, Served, UnlessUnread}
 use Rattle.jr_files.specs.Sources.{HoldsSome, IsBadSource}
+use Rattle.jr_files.proofs.Counting.{rose_sum, known_then}
 use Rattle.jr_top.specs.declared.statuses.Status.TheVariants as status
 use Rattle.jr_top.specs.Ends.{EndsUnwritten, HasBadScript, HasBadSource, ReadsUpTo, fault_status}
 use Rattle.jr_top.specs.Scripts.{HoldsScript}
-
--- ---- counts
-
-pub rose_sum : (m n a b c : ℕ) → c < 2 ^ 64 → RoseBy m a b → RoseBy n b c → RoseBy (m + n) a c
-rose_sum m n a b c fits (inl p) (inl q) = inl (omega (arith, p, q))
-rose_sum m n a b c fits (inl p) (inr q) = inr q
-rose_sum m n a b c fits (inr p) (inl q) = inr (omega (arith, p, q, fits))
-rose_sum m n a b c fits (inr p) (inr q) = inr q
-
-pub known_then : (files : Option Files) (a b c : Option (List ℕ)) → OnSome files (b ≡ a) → OnSome files (c ≡ b) → OnSome files (c ≡ a)
-known_then None a b c p q = tt
-known_then (Some f) a b c p q = q ∙ p
-
-pub served_then : (m n : ℕ) (f f' f'' : Option Files) (a a' a'' : Option (List ℕ)) (x x' x'' y y' y'' : ℕ) → y'' < 2 ^ 64
-    → Served m f f' a a' x x' y y' → Served n f' f'' a' a'' x' x'' y' y'' → Served (m + n) f f'' a a'' x x'' y y''
-served_then m n f f' f'' a a' a'' x x' x'' y y' y'' fits one two = record {
-  keeps = two.keeps ∙ one.keeps;
-  missed_stays = known_then f a a' a'' one.missed_stays (subst (λ h. OnSome h (a'' ≡ a')) one.keeps two.missed_stays);
-  faults_stay = two.faults_stay ∙ one.faults_stay;
-  count = rose_sum m n y y' y'' fits one.count two.count;
-}
 
 -- ---- the four ends
 

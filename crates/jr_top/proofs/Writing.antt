@@ -18,7 +18,7 @@ use Rattle.jr_top.specs.Outputs.{FailedInReport, FailedInStores, Output, WroteAl
 use Rattle.jr_top.specs.OutputView.{text_of}
 use Rattle.jr_top.specs.Scripts.{AreStores, Follow, IsRunOutput, sources_from}
 use Rattle.jr_top.proofs.Changed.{same_names}
-use Rattle.jr_top.proofs.EarlyEnds.{rose_sum}
+use Rattle.jr_files.proofs.Counting.{rose_sum}
 
 -- the output of a run that has begun
 pub run_output : (files : Option Files) (out : Option (List ℕ)) (script : Operand) (operands : List raw.Operand) (steps : List Step) (session after : State) (read : List (List ℕ)) (replies : List Reply) (output : Output)

@@ -2,7 +2,8 @@ use Rattle.std.proofs.Common.{length, map}
 use Rattle.std.proofs.lemmas.Result.{err_from_is_err_and}
 use Rattle.jr_words.specs.Asked.{operand_of}
 use Rattle.jr_top.proofs.Beginning.{has_begun}
-use Rattle.jr_top.proofs.EarlyEnds.{behind_script, served_then}
+use Rattle.jr_files.proofs.Counting.{served_then}
+use Rattle.jr_top.proofs.EarlyEnds.{behind_script}
 use Rattle.jr_top.proofs.scripts.begin.Goals as goal
 
 pub returns-in_err-steps-clause-err : goal.returns-in_err-steps-clause-err

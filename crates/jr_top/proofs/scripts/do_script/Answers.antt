@@ -7,7 +7,7 @@ use Rattle.jr_words.specs.Asked.{operand_of}
 use Rattle.jr_files.specs.Views.{store_of}
 use Rattle.jr_top.specs.OutputView.{dir_of, output_of, text_of}
 use Rattle.jr_top.specs.Scripts.{AreStores, Follow, HasNoRefusal, HasRefusal, sources_from}
-use Rattle.jr_top.proofs.EarlyEnds.{known_then}
+use Rattle.jr_files.proofs.Counting.{known_then}
 use Rattle.jr_top.proofs.Settled.{on_done, on_refused, settled}
 use Rattle.jr_top.proofs.Beginning.{few_now, names_now, places_now, read_count, steps_served}
 use Rattle.jr_top.proofs.Unwritten.{none_done, none_refused, none_write_fault, run_ends, stays}
