@@ -14,46 +14,12 @@ use Rattle.jr_table.specs.Chains.{parent_of}
 use Rattle.jr_table.proofs.RowLaws.{the_number, row_at, acyclic_rows, entry_at}
 use Rattle.jr_table.proofs.OneEach.{class_stands, one_virtual}
 use Rattle.jr_images.specs.Images.{Renaming, class_to, type_to, types_to, member_to, decl_to, row_to, rows_to}
+use Rattle.jr_images.proofs.Imaging.{map_some}
+use Rattle.jr_images.proofs.KeyImages.{decl_class_to, params_to, sort_to, new_entry, at_new}
 use Rattle.jr_dispatch.specs.Changes.{IsLike, AreAlike}
 use Rattle.jr_dispatch.proofs.Parting.{Programs}
 
--- what has an image
-map_some : {X Y : Type 0} (f : X → Y) (o : Option X) (y : Y) → option_map f o ≡ Some y → (x : X) × (o ≡ Some x) × (f x ≡ y)
-map_some f None y e = absurd cc
-map_some f (Some x) y e = (x, refl, let z : f x ≡ y = cc in z)
-
-map_twice : {X Y Z : Type 0} (f : Y → Z) (h : X → Y) (o : Option X) → option_map f (option_map h o) ≡ option_map (λ x. f (h x)) o
-map_twice f h None = refl
-map_twice f h (Some x) = refl
-
 module _ (g : Renaming) where
-  of_member : (k : MemberKey) → class_of_member (member_to g k) ≡ class_to g (class_of_member k)
-  of_member (head k) = refl
-  of_member (field k) = refl
-  of_member (method k) = refl
-  of_member (constructor k) = refl
-
-  of_decl : (d : Decl) → class_of (decl_to g d) ≡ class_to g (class_of d)
-  of_decl (class_decl k) = refl
-  of_decl (field_decl k) = refl
-  of_decl (method_decl k) = refl
-  of_decl (constructor_decl k) = refl
-  of_decl (local_decl k) = of_member k.member
-
-  params_to : (d : Decl) → params_of (decl_to g d) ≡ types_to g (params_of d)
-  params_to (class_decl k) = refl
-  params_to (field_decl k) = refl
-  params_to (method_decl k) = refl
-  params_to (constructor_decl k) = refl
-  params_to (local_decl k) = refl
-
-  sort_to : (d : Decl) → sort_of (decl_to g d) ≡ sort_of d
-  sort_to (class_decl k) = refl
-  sort_to (field_decl k) = refl
-  sort_to (method_decl k) = refl
-  sort_to (constructor_decl k) = refl
-  sort_to (local_decl k) = refl
-
   module _ (rows : List Row) where
     pub row_goes : (d : Decl) (j : ℕ) → IsRowOf rows d j → IsRowOf (rows_to g rows) (decl_to g d) j
     row_goes d j r = record {
@@ -85,29 +51,23 @@ module _ (g : Renaming) where
       parent_to None named = refl
       parent_to (Some k) named = let n = named k refl in number_to k n.0 n.1
 
-      abbrev pub new_entry : Row → Entry
-      new_entry r = entry_of (rows_to g rows) (row_to g r)
-
       module _ (j : ℕ) (r : Row) (at : slice_get rows j ≡ Some r) where
-        class_entry : (new_entry r).class ≡ (entry_of rows r).class
-        class_entry = let n = are.named j r (class_of r.decl) at (as_declarer refl) in ap (class_number (rows_to g rows)) (of_decl r.decl) ∙ class_number_to (class_of r.decl) n.0 n.1
+        class_entry : (new_entry g rows r).class ≡ (entry_of rows r).class
+        class_entry = let n = are.named j r (class_of r.decl) at (as_declarer refl) in ap (class_number (rows_to g rows)) (decl_class_to g r.decl) ∙ class_number_to (class_of r.decl) n.0 n.1
 
-        params_entry : (new_entry r).params ≡ (entry_of rows r).params
-        params_entry = ap (map (kind_of (rows_to g rows))) (params_to r.decl) ∙ kinds_to (params_of r.decl) (λ k h. are.named j r k at (as_parameter h))
+        params_entry : (new_entry g rows r).params ≡ (entry_of rows r).params
+        params_entry = ap (map (kind_of (rows_to g rows))) (params_to g r.decl) ∙ kinds_to (params_of r.decl) (λ k h. are.named j r k at (as_parameter h))
 
-        parent_entry : (new_entry r).parent ≡ (entry_of rows r).parent
+        parent_entry : (new_entry g rows r).parent ≡ (entry_of rows r).parent
         parent_entry = parent_to r.parent (λ k e. are.named j r k at (as_superclass e))
 
-        like : IsLike (entry_of rows r) (new_entry r)
-        like = record { of_sort = sort_to r.decl; of_class = class_entry; takes = params_entry; private = refl; static = refl }
-
-      at_new : (j : ℕ) → slice_get (entries_of (rows_to g rows)) j ≡ option_map new_entry (slice_get rows j)
-      at_new j = entry_at (rows_to g rows) j ∙ ap (option_map (entry_of (rows_to g rows))) (slice_get-map (row_to g) rows j) ∙ map_twice (entry_of (rows_to g rows)) (row_to g) (slice_get rows j)
+        like : IsLike (entry_of rows r) (new_entry g rows r)
+        like = record { of_sort = sort_to g r.decl; of_class = class_entry; takes = params_entry; private = refl; static = refl }
 
       parent_at : (c : ℕ) → parent_of (entries_of (rows_to g rows)) c ≡ parent_of (entries_of rows) c
-      parent_at c = ap (option_and_then (λ (x : Entry). x.parent)) (at_new c) ∙ of (slice_get rows c) refl ∙ sym (ap (option_and_then (λ (x : Entry). x.parent)) (entry_at rows c))
+      parent_at c = ap (option_and_then (λ (x : Entry). x.parent)) (at_new g rows c) ∙ of (slice_get rows c) refl ∙ sym (ap (option_and_then (λ (x : Entry). x.parent)) (entry_at rows c))
         where
-          of : (o : Option Row) → slice_get rows c ≡ o → option_and_then (λ (x : Entry). x.parent) (option_map new_entry o) ≡ option_and_then (λ (x : Entry). x.parent) (option_map (entry_of rows) o)
+          of : (o : Option Row) → slice_get rows c ≡ o → option_and_then (λ (x : Entry). x.parent) (option_map (new_entry g rows) o) ≡ option_and_then (λ (x : Entry). x.parent) (option_map (entry_of rows) o)
           of None e = refl
           of (Some r) e = parent_entry c r e
 
@@ -116,8 +76,8 @@ module _ (g : Renaming) where
         parents = parent_at;
         there = λ j e at.
             let r = map_some (entry_of rows) (slice_get rows j) e (sym (entry_at rows j) ∙ at) in
-            (new_entry r.0, at_new j ∙ ap (option_map new_entry) r.1, subst (λ (z : Entry). IsLike z (new_entry r.0)) r.2 (like j r.0 r.1));
+            (new_entry g rows r.0, at_new g rows j ∙ ap (option_map (new_entry g rows)) r.1, subst (λ (z : Entry). IsLike z (new_entry g rows r.0)) r.2 (like j r.0 r.1));
         back = λ j f at.
-            let r = map_some new_entry (slice_get rows j) f (sym (at_new j) ∙ at) in
+            let r = map_some (new_entry g rows) (slice_get rows j) f (sym (at_new g rows j) ∙ at) in
             (entry_of rows r.0, entry_at rows j ∙ ap (option_map (entry_of rows)) r.1, subst (λ (z : Entry). IsLike (entry_of rows r.0) z) r.2 (like j r.0 r.1));
       }

@@ -1,10 +1,11 @@
--- `MethodWalks`, `Imaging`: the code's sets and images. `Forms`: forms of references.
--- `SuitableSpelling`, `IdentifierNames`, `RowNames`: a spelling suits its place, since rows' names
--- are identifiers; so each renamed text reads as its tree. `Dotted`: the words of a class's name as
--- it is written.
+-- `MethodWalks`, `Imaging`: the code's sets and lists of images. `KeyImages`: what images of keys
+-- and rows are of, and what keeps its name. `Forms`: forms of references. `SuitableSpelling`,
+-- `IdentifierNames`, `RowNames`: a spelling suits its place, since rows' names are identifiers; so
+-- each renamed text reads as its tree. `Dotted`: the words of a class's name as it is written.
 pub mod Forms
 pub mod SuitableSpelling
 pub mod Imaging
+pub mod KeyImages
 pub mod MethodWalks
 pub mod IdentifierNames
 pub mod RowNames

@@ -11,6 +11,7 @@ use Rattle.jr_table.specs.Decls.{Decl}
 use Rattle.jr_table.specs.Rows.{Row}
 use Rattle.jr_names.specs.Refusals.{Refusal, prelude_method, override_changed, lost_binding}
 use Rattle.jr_names.specs.Replies.{Outcome, planned, not_planned}
+use Rattle.jr_images.proofs.Imaging.{map_some}
 use Rattle.jr_bind.specs.Programs.{File, Program, IsProgram, units_of}
 use Rattle.jr_rewrite.specs.Respellings.{Loss}
 use Rattle.jr_images.specs.Images.{Renaming}
@@ -23,10 +24,6 @@ use Rattle.jr_cursor.specs.ProgramTargets.{HasTargetAt}
 use Rattle.jr_rename.specs.Afters.{PlansRows, AnswersRows}
 use Rattle.jr_rename.specs.Answers.{Gives, SparesPrelude, AnswersKeeping, AnswersOf, Answers}
 use Rattle.jr_rename.specs.Plans.{Plans}
-
-pub some_of : {X Y : Type 0} (f : X → Y) (o : Option X) (y : Y) → option_map f o ≡ Some y → (x : X) × (o ≡ Some x) × (f x ≡ y)
-some_of f None y e = absurd cc
-some_of f (Some x) y e = let same : f x ≡ y = cc in (x, refl, same)
 
 pub there : {X : Type 0} (xs : List X) (i : ℕ) → i < length xs → (x : X) × (slice_get xs i ≡ Some x)
 there xs i h =
@@ -58,7 +55,7 @@ module _ (p : Program Span) where
 
   pub reads : {tells : Span → ℕ → Span} {Fits : Span → ℕ → Type 0} → IsProgram tells Fits p → (file : ℕ) (unit : syntax.Unit Span) → slice_get (units_of p) file ≡ Some unit → (bytes : List ℕ) × Reads bytes unit
   reads h file unit e =
-      let f = some_of (λ (x : File Span). x.unit) (slice_get p.files file) unit (sym (slice_get-map (λ (x : File Span). x.unit) p.files file) ∙ e) in
+      let f = map_some (λ (x : File Span). x.unit) (slice_get p.files file) unit (sym (slice_get-map (λ (x : File Span). x.unit) p.files file) ∙ e) in
       let r = h.reads file f.0 f.1 in
       (f.0.text, subst (Reads f.0.text) f.2 (record { items = r.items; lexes = r.lexes; is = r.is }))
 

@@ -1,17 +1,14 @@
 -- Written members as a function has them, and what a program says of them.
 use Rattle.std.proofs.Common.{◌≡◌, List, Option, Some, None, map, refl, sym, ap, subst, ◌∙◌}
 use Rattle.std.specs.Prelude.{slice_get, Contains, option_map, MatchOption}
-use Rattle.std.proofs.lemmas.Option.{none-some, same_Some, slice_get-map, slice_get_within, slice_get-get_or, get_or_from_slice_get}
+use Rattle.std.proofs.lemmas.Option.{same_Some, slice_get-map, slice_get_within, slice_get-get_or, get_or_from_slice_get}
 use Rattle.jr_table.specs.Decls.{Decl, MemberKey}
 use Rattle.jr_table.specs.declared.decls.Decl as raw_decl
 use Rattle.jr_table.specs.KeyView.{decl_of}
+use Rattle.jr_images.proofs.Imaging.{map_some}
 use Rattle.jr_members.specs.declared.keyed.WrittenMember as raw
 use Rattle.jr_members.specs.PartView.{written_of}
 use Rattle.jr_members.specs.WrittenMembers.{WrittenMember}
-
-map_some : {X Y : Type 0} (f : X → Y) (o : Option X) (y : Y) → option_map f o ≡ Some y → (x : X) × (o ≡ Some x) × (f x ≡ y)
-map_some f None y e = absurd (none-some y e)
-map_some f (Some x) y e = (x, refl, same_Some (f x) y e)
 
 contains_map : {X Y : Type 0} (f : X → Y) (xs : List X) (x : X) → Contains xs x → Contains (map f xs) (f x)
 contains_map f xs x (k, lt, is) =

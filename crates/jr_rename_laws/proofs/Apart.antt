@@ -4,7 +4,8 @@ use Rattle.jr_table.specs.Keys.{FieldKey, MethodKey}
 use Rattle.jr_table.specs.Decls.{field_decl, method_decl}
 use Rattle.jr_table.specs.Rows.{Row}
 use Rattle.jr_images.specs.Images.{Renaming, is_renamed, name_to}
-use Rattle.jr_rename_laws.proofs.Still.{keeps_name, gets_name}
+use Rattle.jr_images.proofs.KeyImages.{keeps_name}
+use Rattle.jr_rename_laws.proofs.Still.{gets_name}
 use Rattle.jr_rename_laws.proofs.DeclarationRows.{RowFor}
 use Rattle.jr_rename_laws.proofs.FairImages.{KeysApart}
 use Rattle.jr_rename_laws.proofs.MemberNames.{OfMembers}

@@ -16,8 +16,9 @@ use Rattle.jr_images.specs.Targets.{IsOfPrelude}
 use Rattle.jr_images.specs.Families.{AreRenamed}
 use Rattle.jr_images.specs.Images.{Renaming, is_renamed, class_to, row_to, rows_to}
 use Rattle.jr_images.specs.Clashes.{IsClear}
+use Rattle.jr_images.proofs.KeyImages.{keeps_name}
 use Rattle.jr_rename_laws.specs.ImageLaws.{ClassesStayFair}
-use Rattle.jr_rename_laws.proofs.Still.{with_target, without_target, keeps_name, gets_name}
+use Rattle.jr_rename_laws.proofs.Still.{with_target, without_target, gets_name}
 use Rattle.jr_rename_laws.proofs.DeclarationRows.{no_locals}
 use Rattle.jr_rename_laws.proofs.FairClasses.{OfClass, class_rows}
 

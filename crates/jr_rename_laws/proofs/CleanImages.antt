@@ -13,12 +13,9 @@ use Rattle.jr_table.specs.DeclaredItems.{Written, int, boolean, named, DeclaredP
 use Rattle.jr_table.specs.Resolving.{HasWord, IsParent, Climbs}
 use Rattle.jr_table.specs.Faults.{PackageLine, names_of, line_at, At, IsReserved, IsNamedAsOuter, TopWord, InnerWord, FieldWord, MethodWord, IsAccess, AreBad, ClassWordsBad, WordsBad, name_at, Writes, WritesType, SameMember, params_of, ParamTwice, HasItsName, InitIsBad, IsClean}
 use Rattle.jr_images.specs.Images.{Renaming}
+use Rattle.jr_images.proofs.Imaging.{map_some}
 use Rattle.jr_rename_laws.proofs.SameClasses.{Alike, MaybeAlike, parent_goes, climbs_go, means_goes}
 use Rattle.jr_rename_laws.proofs.DeclarationImages.{forms_of, ClassTo, ParamsTo, ItemTo, DeclarationsTo, Beside, declaration_back, class_beside, classes_forth, classes_back}
-
-pub map_some : {X Y : Type 0} (f : X → Y) (o : Option X) (y : Y) → option_map f o ≡ Some y → (x : X) × (o ≡ Some x) × (f x ≡ y)
-map_some f None y e = absurd cc
-map_some f (Some x) y e = (x, refl, cc)
 
 -- ---- parts of items
 

@@ -15,7 +15,8 @@ use Rattle.jr_images.specs.RenameLaws.{ReferencesAreKept}
 use Rattle.jr_rename_laws.specs.ImageLaws.{RenamingsStayFair}
 use Rattle.jr_program_laws.proofs.Programs.{program_agrees, tops_agree, parents_agree}
 use Rattle.jr_rename_laws.specs.ClassLaws.{ConstructorsGiveImages}
-use Rattle.jr_rename_laws.proofs.Renamed.{Keeps, any_among}
+use Rattle.jr_rename_laws.proofs.Still.{any_among}
+use Rattle.jr_rename_laws.proofs.Renamed.{Keeps}
 use Rattle.jr_rename_laws.proofs.Objects.{object_old, object_named, object_of}
 use Rattle.jr_rename_laws.proofs.TreesBeside.{units_go}
 use Rattle.jr_rename_laws.proofs.ClassDeclarations.{all_declarations}

@@ -13,10 +13,12 @@ use Rattle.jr_table.specs.Prelude.{prelude_rows, top_key}
 use Rattle.jr_table.specs.Entries.{IsRowOf, number_of, class_of_member, class_of, params_of, outer_name, entry_of, entries_of}
 use Rattle.jr_table.specs.Chains.{parent_of, Climbs}
 use Rattle.jr_table.specs.Conditions.{TypesName, Names, as_declarer, as_outer, as_superclass, as_type, as_parameter, AreRows}
+use Rattle.jr_table.proofs.RowLaws.{entry_at}
 use Rattle.jr_images.specs.Images.{Renaming, is_renamed, name_to, outer_to, class_to, type_to, types_to, member_to, decl_to, row_to, rows_to}
-use Rattle.jr_rename_laws.proofs.Still.{keeps_name, gets_name}
+use Rattle.jr_images.proofs.KeyImages.{keeps_name, decl_class_to, params_to, new_entry, at_new, old_row}
+use Rattle.jr_images.proofs.Imaging.{map_some}
+use Rattle.jr_rename_laws.proofs.Still.{gets_name}
 use Rattle.jr_rename_laws.proofs.RowImages.{map_both}
-use Rattle.jr_rename_laws.proofs.CleanImages.{map_some}
 use Rattle.jr_rename_laws.proofs.DeclarationRows.{RowFor, NoLocals, no_local_at}
 use Rattle.jr_rename_laws.proofs.FairImages.{class_in, field_in, method_in, ctor_in}
 
@@ -178,34 +180,19 @@ module _ (g : Renaming) (rows : List Row) (of : OfClass g rows) (are : AreRows r
   number_same : (k : ClassKey) → HasClass k → number_of (rows_to g rows) (class_decl (class_to g k)) ≡ number_of rows (class_decl k)
   number_same k y = number_in rows k all_have y
 
-  abbrev new_entry : Row → Entry
-  new_entry r = entry_of (rows_to g rows) (row_to g r)
-
-  at_old : (j : ℕ) → slice_get (entries_of rows) j ≡ option_map (entry_of rows) (slice_get rows j)
-  unfolding entries_of
-  at_old j = slice_get-map (entry_of rows) rows j
-
-  map_twice : (o : Option Row) → option_map (entry_of (rows_to g rows)) (option_map (row_to g) o) ≡ option_map new_entry o
-  map_twice None = refl
-  map_twice (Some r) = refl
-
-  at_new : (j : ℕ) → slice_get (entries_of (rows_to g rows)) j ≡ option_map new_entry (slice_get rows j)
-  unfolding entries_of
-  at_new j = slice_get-map (entry_of (rows_to g rows)) (rows_to g rows) j ∙ ap (option_map (entry_of (rows_to g rows))) (slice_get-map (row_to g) rows j) ∙ map_twice (slice_get rows j)
-
   parent_number : (o : Option ClassKey) → ((k : ClassKey) → o ≡ Some k → HasClass k)
       → option_and_then (λ (k : ClassKey). number_of (rows_to g rows) (class_decl k)) (option_map (class_to g) o) ≡ option_and_then (λ (k : ClassKey). number_of rows (class_decl k)) o
   parent_number None h = refl
   parent_number (Some k) h = number_same k (h k refl)
 
   parents : (o : Option Row) → ((r : Row) → o ≡ Some r → (k : ClassKey) → r.parent ≡ Some k → HasClass k)
-      → option_and_then (λ (r : Entry). r.parent) (option_map new_entry o) ≡ option_and_then (λ (r : Entry). r.parent) (option_map (entry_of rows) o)
+      → option_and_then (λ (r : Entry). r.parent) (option_map (new_entry g rows) o) ≡ option_and_then (λ (r : Entry). r.parent) (option_map (entry_of rows) o)
   parents None h = refl
   parents (Some r) h = parent_number r.parent (h r refl)
 
   parent_at : (c : ℕ) → parent_of (entries_of (rows_to g rows)) c ≡ parent_of (entries_of rows) c
-  parent_at c = ap (option_and_then (λ (r : Entry). r.parent)) (at_new c)
-      ∙ parents (slice_get rows c) (λ r at k e. are.named c r k at (as_superclass e)) ∙ sym (ap (option_and_then (λ (r : Entry). r.parent)) (at_old c))
+  parent_at c = ap (option_and_then (λ (r : Entry). r.parent)) (at_new g rows c)
+      ∙ parents (slice_get rows c) (λ r at k e. are.named c r k at (as_superclass e)) ∙ sym (ap (option_and_then (λ (r : Entry). r.parent)) (entry_at rows c))
 
   climbs_back : (steps c d : ℕ) → Climbs (entries_of (rows_to g rows)) steps c d → Climbs (entries_of rows) steps c d
   climbs_back zero c d h = h
@@ -215,26 +202,6 @@ module _ (g : Renaming) (rows : List Row) (of : OfClass g rows) (are : AreRows r
 
   abbrev NamesOld : Row → ClassKey → Type 0
   NamesOld r k = (j : ClassKey) × Names r j × (class_to g j ≡ k)
-
-  member_class_of : (k : MemberKey) → class_of_member (member_to g k) ≡ class_to g (class_of_member k)
-  member_class_of (head k) = refl
-  member_class_of (field k) = refl
-  member_class_of (method k) = refl
-  member_class_of (constructor k) = refl
-
-  class_of_image : (d : Decl) → class_of (decl_to g d) ≡ class_to g (class_of d)
-  class_of_image (class_decl k) = refl
-  class_of_image (field_decl k) = refl
-  class_of_image (method_decl k) = refl
-  class_of_image (constructor_decl k) = refl
-  class_of_image (local_decl k) = member_class_of k.member
-
-  params_of_image : (d : Decl) → params_of (decl_to g d) ≡ types_to g (params_of d)
-  params_of_image (class_decl k) = refl
-  params_of_image (field_decl k) = refl
-  params_of_image (method_decl k) = refl
-  params_of_image (constructor_decl k) = refl
-  params_of_image (local_decl k) = refl
 
   outer_of_image : (d : Decl) (name : List ℕ) → outer_name (decl_to g d) ≡ Some name → (n : List ℕ) × (outer_name d ≡ Some n) × (class_to g (top_key n) ≡ top_key name)
   outer_of_image (class_decl k) name e = let r = map_some (λ (n : List ℕ). name_to g (class_decl (top_key n)) n) k.outer name e in (r.0, r.1, ap top_key r.2)
@@ -256,22 +223,17 @@ module _ (g : Renaming) (rows : List Row) (of : OfClass g rows) (are : AreRows r
   list_names (t ∷ ts) k (inr h) = let r = list_names ts k h in (r.0, inr r.1, r.2)
 
   names_back : (r : Row) (k : ClassKey) → Names (row_to g r) k → NamesOld r k
-  names_back r k (as_declarer is) = (class_of r.decl, as_declarer refl, sym (class_of_image r.decl) ∙ is)
+  names_back r k (as_declarer is) = (class_of r.decl, as_declarer refl, sym (decl_class_to g r.decl) ∙ is)
   names_back r k (as_outer name has is) = let o = outer_of_image r.decl name has in (top_key o.0, as_outer o.0 o.1 refl, o.2 ∙ sym is)
   names_back r k (as_superclass is) = let o = map_some (class_to g) r.parent k is in (o.0, as_superclass o.1, o.2)
   names_back r k (as_type is) =
       let o = map_some (type_to g) r.type (class k) is in
       let c = class_type o.0 k o.2 in
       (c.0, as_type (o.1 ∙ ap (λ (t : Ty). Some t) c.1), c.2)
-  names_back r k (as_parameter is) = let o = list_names (params_of r.decl) k (subst (λ (ts : List Ty). TypesName ts k) (params_of_image r.decl) is) in (o.0, as_parameter o.1, o.2)
+  names_back r k (as_parameter is) = let o = list_names (params_of r.decl) k (subst (λ (ts : List Ty). TypesName ts k) (params_to g r.decl) is) in (o.0, as_parameter o.1, o.2)
 
   class_image_row : (k : ClassKey) (j : ℕ) → IsRowOf rows (class_decl k) j → IsRowOf (rows_to g rows) (class_decl (class_to g k)) j
   class_image_row k j is = record { row = row_to g is.row; stands = slice_get-map (row_to g) rows j ∙ ap (option_map (row_to g)) is.stands; declares = ap (decl_to g) is.declares }
-
-  old_row : (d : Decl) (i : ℕ) → IsRowOf (rows_to g rows) d i → (r : Row) × (slice_get rows i ≡ Some r) × (decl_to g r.decl ≡ d)
-  old_row d i is =
-      let r = map_some (row_to g) (slice_get rows i) is.row (sym (slice_get-map (row_to g) rows i) ∙ is.stands) in
-      (r.0, r.1, ap (λ (z : Row). z.decl) r.2 ∙ is.declares)
 
   count_same : (xs : List Row) → length (rows_to g xs) ≡ length xs
   count_same [] = refl
@@ -284,8 +246,8 @@ module _ (g : Renaming) (rows : List Row) (of : OfClass g rows) (are : AreRows r
       own = rows_to g are.own;
       prelude = ap (rows_to g) are.prelude ∙ map_both (row_to g) prelude_rows are.own ∙ ap (λ (front : List Row). front ++ rows_to g are.own) same;
       one_each = λ d i j a b.
-          let x = old_row d i a in
-          let y = old_row d j b in
+          let x = old_row g rows d i a in
+          let y = old_row g rows d j b in
           let one : x.0.decl ≡ y.0.decl = one_decl x.0.decl y.0.decl (all_have i x.0 x.1) (all_have j y.0 y.1) (no_local_at rows plain i x.0 x.1) (x.2 ∙ sym y.2) in
           are.one_each y.0.decl i j (record { row = x.0; stands = x.1; declares = one }) (record { row = y.0; stands = y.1; declares = refl });
       named = λ j row k at names.

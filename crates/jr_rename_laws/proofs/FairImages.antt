@@ -13,9 +13,10 @@ use Rattle.jr_table.specs.Conditions.{TypesName, Names, as_declarer, as_outer, a
 use Rattle.jr_spell.specs.Binds.{is_dot}
 use Rattle.jr_images.specs.Images.{Renaming, name_to, class_to, type_to, types_to, decl_to, row_to, rows_to}
 use Rattle.jr_images.specs.RenameLaws.{IsFair}
+use Rattle.jr_images.proofs.Imaging.{map_some}
+use Rattle.jr_images.proofs.KeyImages.{old_row}
 use Rattle.jr_rename_laws.proofs.Still.{IsStill, class_same, type_same, types_same, prelude_same}
 use Rattle.jr_rename_laws.proofs.RowImages.{map_both}
-use Rattle.jr_rename_laws.proofs.CleanImages.{map_some}
 use Rattle.jr_rename_laws.proofs.TypesFound.{of_same, outer_same, count_same, parent_at, class_row}
 use Rattle.jr_rename_laws.proofs.DeclarationRows.{RowFor, NoLocals, no_local_at}
 
@@ -100,12 +101,6 @@ module _ (g : Renaming) (still : IsStill g) (rows : List Row) (apart : KeysApart
   one_decl (constructor_decl k) (local_decl l) a b no_local h = absurd cc
   one_decl (local_decl k) e a b no_local h = absurd (no_local k refl)
 
-  -- the old row of a new one
-  old_row : (d : Decl) (i : ℕ) → IsRowOf (rows_to g rows) d i → (r : Row) × (slice_get rows i ≡ Some r) × (decl_to g r.decl ≡ d)
-  old_row d i is =
-      let r = map_some (row_to g) (slice_get rows i) is.row (sym (slice_get-map (row_to g) rows i) ∙ is.stands) in
-      (r.0, r.1, ap (λ (z : Row). z.decl) r.2 ∙ is.declares)
-
   row_of : (i : ℕ) (r : Row) → slice_get rows i ≡ Some r → IsRowOf rows r.decl i
   row_of i r at = record { row = r; stands = at; declares = refl }
 
@@ -140,8 +135,8 @@ module _ (g : Renaming) (still : IsStill g) (rows : List Row) (apart : KeysApart
       own = rows_to g are.own;
       prelude = ap (rows_to g) are.prelude ∙ map_both (row_to g) prelude_rows are.own ∙ ap (λ (front : List Row). front ++ rows_to g are.own) (prelude_same g still);
       one_each = λ d i j a b.
-          let x = old_row d i a in
-          let y = old_row d j b in
+          let x = old_row g rows d i a in
+          let y = old_row g rows d j b in
           let same : x.0.decl ≡ y.0.decl = one_decl x.0.decl y.0.decl (i, row_of i x.0 x.1) (j, row_of j y.0 y.1) (no_local_at rows plain i x.0 x.1) (x.2 ∙ sym y.2) in
           are.one_each y.0.decl i j (record { row = x.0; stands = x.1; declares = same }) (row_of j y.0 y.1);
       named = λ j row k at names.

@@ -17,11 +17,13 @@ use Rattle.jr_table.specs.Errors.{Part, member_part, Declares, InUnits}
 use Rattle.jr_images.specs.Families.{AreRenamed}
 use Rattle.jr_images.specs.Images.{Renaming, is_renamed, name_to}
 use Rattle.jr_images.specs.Clashes.{HasParameter, HasLocal, IsUnder, IsLocalNamed, Under, IsClear}
+use Rattle.jr_images.proofs.KeyImages.{keeps_name}
+use Rattle.jr_images.proofs.Imaging.{map_some}
 use Rattle.jr_rename_laws.proofs.SameClasses.{alike_back, means_goes}
-use Rattle.jr_rename_laws.proofs.Still.{with_target, without_target, keeps_name, gets_name}
+use Rattle.jr_rename_laws.proofs.Still.{with_target, without_target, gets_name}
 use Rattle.jr_rename_laws.proofs.DeclarationImages.{ParamsTo, FieldTo, MethodTo, CtorTo, ItemTo, DeclarationsTo, Beside, classes_forth, classes_back}
 use Rattle.jr_rename_laws.proofs.DeclarationMembers.{of_declaration}
-use Rattle.jr_rename_laws.proofs.CleanImages.{map_some, NamesAreClear}
+use Rattle.jr_rename_laws.proofs.CleanImages.{NamesAreClear}
 
 -- ---- what an item of a kind stands beside
 

@@ -10,7 +10,8 @@ use Rattle.jr_table.specs.DeclaredItems.{DeclaredParam, DeclaredClass, DeclaredF
 use Rattle.jr_table.specs.ProgramRows.{MeanTypes, AreProgramRows}
 use Rattle.jr_table.specs.Faults.{PackageLine, name_at, SameTypes, SameMember, params_of, ParamTwice, HasItsName, IsClean}
 use Rattle.jr_images.specs.Images.{Renaming, is_renamed, name_to}
-use Rattle.jr_rename_laws.proofs.Still.{keeps_name, gets_name}
+use Rattle.jr_images.proofs.KeyImages.{keeps_name}
+use Rattle.jr_rename_laws.proofs.Still.{gets_name}
 use Rattle.jr_program_laws.proofs.MeansOnce.{means_once, mean_types_once}
 use Rattle.jr_rename_laws.proofs.DeclarationImages.{ParamsTo, ItemTo, DeclarationsTo, Beside}
 use Rattle.jr_rename_laws.proofs.CleanImages.{NamesAreClear}

@@ -12,10 +12,10 @@ use Rattle.jr_table.specs.DeclaredItems.{DeclaredItem, Item, DeclaredClass, clas
 use Rattle.jr_table.specs.ProgramRows.{MeanTypes}
 use Rattle.jr_members.proofs.Walking.{In, in_left, in_right}
 use Rattle.jr_images.specs.Images.{Renaming, types_to, member_to}
+use Rattle.jr_images.proofs.KeyImages.{keeps_name}
 use Rattle.jr_rename_laws.specs.Beside.{ClassBeside, MembersBeside, MemberBeside, ClassesBeside, UnitsBeside}
 use Rattle.jr_rename_laws.specs.ImageLaws.{IsClassImage, IsMemberImage}
 use Rattle.jr_program_laws.proofs.Agreeing.{ClassRow}
-use Rattle.jr_rename_laws.proofs.Renamed.{kept_name}
 use Rattle.jr_rename_laws.proofs.TreesBeside.{HeadTo, MemberTo}
 use Rattle.jr_rename_laws.proofs.NewAgreeing.{Both}
 use Rattle.jr_rename_laws.proofs.NewRows.{params_mean}
@@ -56,14 +56,14 @@ module _ (rows : List Row) (g : Renaming) (ss ts : List DeclaredItem) (two : Bot
   member_image : (b i : ℕ) (of of' : ClassKey) → HasClass of → (x : syntax.Member A) (y : syntax.Member B) → Each b i of of' x y → IsMemberImage tells begins' g ss ts b i of of' x y
   unfolding member_declarations class_declarations
   member_image b i of of' row (syntax.field m mods t w init) (syntax.field k nods u v form) h j is =
-      let named = kept_name g (field_decl (record { class = of; name = w.text })) w.text (two.keeps.field (record { class = of; name = w.text })) ∙ sym h.0.name in
+      let named = keeps_name g (field_decl (record { class = of; name = w.text })) w.text (two.keeps.field (record { class = of; name = w.text })) ∙ sym h.0.name in
       ap (member_to g) is ∙ (λ n. member.field (record { class = sym h.0.of n; name = named n }))
   member_image b i of of' row (syntax.field m mods t w init) (syntax.method k nods u v qs rest) h j is = absurd h.0
   member_image b i of of' row (syntax.field m mods t w init) (syntax.constructor k nods v qs given rest) h j is = absurd h.0
   member_image b i of of' row (syntax.field m mods t w init) (syntax.inner k (syntax.class l lods v u ns)) h j is = absurd h.0
   member_image b i of of' row (syntax.method m mods t w ps body) (syntax.field k nods u v form) h j is = absurd h.0
   member_image b i of of' row (syntax.method m mods t w ps body) (syntax.method k nods u v qs rest) h j (us, mean, is) =
-      let named = kept_name g (method_decl (record { class = of; name = w.text; params = us })) w.text (two.keeps.method (record { class = of; name = w.text; params = us })) ∙ sym h.0.name in (
+      let named = keeps_name g (method_decl (record { class = of; name = w.text; params = us })) w.text (two.keeps.method (record { class = of; name = w.text; params = us })) ∙ sym h.0.name in (
         types_to g us,
         subst (λ (z : ClassKey). MeanTypes ts z (map (param_declaration begins' (begins' k i)) qs) (types_to g us)) (sym h.0.of)
             (params_mean rows g ss ts two of row.0 row.1 (map (param_declaration begins (begins m b)) ps) (map (param_declaration begins' (begins' k i)) qs) h.0.params us mean),

@@ -15,8 +15,8 @@ use Rattle.jr_table.specs.ProgramRows.{is_access, MeanTypes, MeansResult, IsClas
 use Rattle.jr_build.proofs.Apart.{In, in_right, in_stands}
 use Rattle.jr_images.specs.Images.{Renaming, name_to, class_to, type_to, types_to, decl_to, row_to, rows_to}
 use Rattle.jr_program_laws.proofs.Agreeing.{ClassRow}
+use Rattle.jr_images.proofs.KeyImages.{keeps_name}
 use Rattle.jr_rename_laws.proofs.WrittenTypes.{meant, written_means}
-use Rattle.jr_rename_laws.proofs.Renamed.{kept_name}
 use Rattle.jr_rename_laws.proofs.ItemsBeside.{TypeTo, ResultTo, ParamsTo, ClassTo, FieldTo, MethodTo, CtorTo, ItemTo, DeclarationsTo}
 use Rattle.jr_rename_laws.proofs.NewAgreeing.{Both, image_row, image_parent, new_one, new_tops, new_parents}
 
@@ -75,7 +75,7 @@ module _ (rows : List Row) (g : Renaming) (ss ts : List DeclaredItem) (two : Bot
   field_row_to : (f h : DeclaredField) (r : Row) → In rows r → FieldTo rows g f h → IsFieldRow ss f r → IsFieldRow ts h (row_to g r)
   field_row_to f h r there x is =
       let c = declarer r (field_decl (record { class = f.of; name = f.name })) there (ap (λ (z : Row). z.decl) is.is) in
-      let named : name_to g (field_decl (record { class = f.of; name = f.name })) f.name ≡ h.name = kept_name g (field_decl (record { class = f.of; name = f.name })) f.name (two.keeps.field (record { class = f.of; name = f.name })) ∙ sym x.name in
+      let named : name_to g (field_decl (record { class = f.of; name = f.name })) f.name ≡ h.name = keeps_name g (field_decl (record { class = f.of; name = f.name })) f.name (two.keeps.field (record { class = f.of; name = f.name })) ∙ sym x.name in
       record {
         type = type_to g is.type;
         means = subst (λ (k : ClassKey). Means ts k h.type (type_to g is.type)) (sym x.of) (type_means f.of c.0 c.1 f.type h.type x.type is.type is.means);
@@ -92,7 +92,7 @@ module _ (rows : List Row) (g : Renaming) (ss ts : List DeclaredItem) (two : Bot
   method_row_to m n r there x is =
       let c = declarer r (method_decl (record { class = m.of; name = m.name; params = is.params })) there (ap (λ (z : Row). z.decl) is.is) in
       let named : name_to g (method_decl (record { class = m.of; name = m.name; params = is.params })) m.name ≡ n.name =
-      kept_name g (method_decl (record { class = m.of; name = m.name; params = is.params })) m.name (two.keeps.method (record { class = m.of; name = m.name; params = is.params })) ∙ sym x.name in
+      keeps_name g (method_decl (record { class = m.of; name = m.name; params = is.params })) m.name (two.keeps.method (record { class = m.of; name = m.name; params = is.params })) ∙ sym x.name in
       record {
         result = type_to g is.result;
         params = types_to g is.params;

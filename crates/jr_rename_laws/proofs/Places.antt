@@ -9,6 +9,7 @@ use Rattle.jr_table.specs.Entries.{IsRowOf, class_of_member}
 use Rattle.jr_table.specs.Scope.{Scope}
 use Rattle.jr_table.specs.Context.{Context, Local, Knows, IsTypeOf, IsSuperclass, scope_of, scope_local}
 use Rattle.jr_images.specs.Images.{Renaming, class_to, type_to, member_to, local_to, decl_to, row_to, rows_to, scope_to, scope_local_to}
+use Rattle.jr_images.proofs.KeyImages.{member_class_to}
 use Rattle.jr_rename_laws.specs.Standing.{LocalTo, LocalsTo, ContextTo}
 
 module _ (g : Renaming) (rows : List Row) where
@@ -52,17 +53,11 @@ module _ (g : Renaming) (rows : List Row) where
     scope_locals (l ∷ ls) [] h = absurd h
     scope_locals (l ∷ ls) (m ∷ ms) h = λ i. record { name = h.0.named i; key = h.0.key i } ∷ scope_locals ls ms h.1 i
 
-  class_of_image : (k : MemberKey) → class_of_member (member_to g k) ≡ class_to g (class_of_member k)
-  class_of_image (head k) = refl
-  class_of_image (field k) = refl
-  class_of_image (method k) = refl
-  class_of_image (constructor k) = refl
-
   module _ (c d : Context) (stand : ContextTo g rows c d) where
     -- what lookup sees there
     pub scope_image : scope_of d ≡ scope_to g c
     scope_image = λ i. record {
-      class = (ap class_of_member stand.member ∙ class_of_image c.member) i;
+      class = (ap class_of_member stand.member ∙ member_class_to g c.member) i;
       is_static = stand.static i;
       locals = scope_locals (scope_of c) (scope_of d) c.locals d.locals stand.locals i;
     }

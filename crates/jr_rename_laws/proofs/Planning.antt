@@ -20,6 +20,7 @@ use Rattle.jr_rewrite.specs.RewriteLaws.{IsRewritten}
 use Rattle.jr_rewrite.specs.Rewrites.{Choosing, RewritesUnit, RewritesUnits}
 use Rattle.jr_rewrite.specs.Rewritten.{Rewritten}
 use Rattle.jr_images.specs.Clashes.{IsClear}
+use Rattle.jr_images.proofs.Imaging.{map_some}
 use Rattle.jr_rename_laws.specs.ImageLaws.{RenamingsStayFair, PlansBecome, LocalsGiveImages, FieldsGiveImages, MethodsGiveImages, Becomes, without_marks, AreImages}
 use Rattle.jr_images.specs.OneLocal.{HaveNoDots}
 use Rattle.jr_images.specs.Refusals.{HasPreludeMethod}
@@ -27,10 +28,6 @@ use Rattle.jr_images.specs.RenameLaws.{IsFair}
 use Rattle.jr_images.specs.Spelling.{spelling}
 use Rattle.jr_images.specs.TextLaws.{AreNamed, NamesHaveNoDot, RowsAreNamed, RenamedTextsRead}
 use Rattle.jr_rename_laws.specs.PlanLaws.{IsPlanIn, IsNewText, IsNoClass}
-
-some_of : {X Y : Type 0} (f : X → Y) (o : Option X) (y : Y) → option_map f o ≡ Some y → (x : X) × (o ≡ Some x) × (f x ≡ y)
-some_of f None y e = absurd cc
-some_of f (Some x) y e = let same : f x ≡ y = cc in (x, refl, same)
 
 -- each unit is rewritten
 one_unit : (C : Choosing Span) (declarations : List DeclaredItem) (us : List (UnitTree Span)) (os : List (Rewritten (UnitTree Span))) → RewritesUnits itself C declarations us os → (i : ℕ) (u : UnitTree Span) → slice_get us i ≡ Some u → (o : Rewritten (UnitTree Span)) × (slice_get os i ≡ Some o) × RewritesUnit itself C declarations u o
@@ -43,7 +40,7 @@ one_unit C declarations (v ∷ us) os (o, ps, r, rest, are) (suc i) u e =
 module _ (p : Program Span) (text : List ℕ) (file at : ℕ) (new : List ℕ) (edits : List (List Entry)) (renaming : List (Decl × Decl)) (respelled : ℕ) (is : IsPlanIn p text file at new edits renaming respelled) (named : RowsAreNamed Span) where
   reads : (i : ℕ) (unit : UnitTree Span) → slice_get (units_of p) i ≡ Some unit → (bytes : List ℕ) × Reads bytes unit
   reads i unit e =
-      let f = some_of (λ (x : File Span). x.unit) (slice_get p.files i) unit (sym (slice_get-map (λ (x : File Span). x.unit) p.files i) ∙ e) in
+      let f = map_some (λ (x : File Span). x.unit) (slice_get p.files i) unit (sym (slice_get-map (λ (x : File Span). x.unit) p.files i) ∙ e) in
       let r = is.program.reads i f.0 f.1 in
       (f.0.text, subst (Reads f.0.text) f.2 (record { items = r.items; lexes = r.lexes; is = r.is }))
 

@@ -22,14 +22,9 @@ use Rattle.jr_rewrite.specs.Rewrites.{DeclaredOut}
 use Rattle.jr_images.specs.Families.{Among, AreRenamed}
 use Rattle.jr_images.specs.Images.{Renaming, is_renamed, name_to, class_to, rows_to}
 use Rattle.jr_images.specs.Spelling.{respelled, renamed, spelling}
-
-pub any_among : (d : Decl) (xs : List Decl) → list_any (same_decl d) xs ≡ true → Among xs d
-any_among d [] e = absurd cc
-any_among d (x ∷ xs) e = by (same_decl d x) refl (λ f. any_among d xs f)
-  where
-    by : (b : Bool) → same_decl d x ≡ b → (list_any (same_decl d) xs ≡ true → Among xs d) → (x ≡ d) ⊎ Among xs d
-    by true h go = inl (sym ((decl_decides d x).0 h))
-    by false h go = inr (go (sym (ap (λ b. b || list_any (same_decl d) xs) h) ∙ e))
+use Rattle.jr_images.proofs.KeyImages.{keeps_name}
+use Rattle.jr_rename_laws.proofs.Chosen.{renamed_text}
+use Rattle.jr_rename_laws.proofs.Still.{any_among}
 
 -- the declarations that keep their names
 pub record Keeps (rows : List Row) (g : Renaming) : Type 0 where
@@ -41,9 +36,6 @@ pub record Keeps (rows : List Row) (g : Renaming) : Type 0 where
   pub object_old : (s : Scope) (k : ClassKey) → FindsTypeNamed rows s (codes "Object") (one (class_decl k)) → k ≡ object_key
   pub object_named : (s : Scope) (name : List ℕ) → FindsTypeNamed (rows_to g rows) s name (one (class_decl object_key)) → name ≡ codes "Object"
   pub object_of : (s : Scope) (o : ClassKey) (name : List ℕ) → FindsTypeOf (rows_to g rows) s o name (one (class_decl object_key)) → ⊥
-
-pub kept_name : (g : Renaming) (d : Decl) (old : List ℕ) → is_renamed g d ≡ false → name_to g d old ≡ old
-kept_name g d old h = ap (λ b. if b then g.name else old) h
 
 module _ (rows : List Row) (k : ClassKey) (g : Renaming) (are : AreRenamed rows (class_decl k) g.decls) where
   pub target : (d : Decl) → is_renamed g d ≡ true → d ≡ class_decl k
@@ -59,18 +51,10 @@ module _ (rows : List Row) (k : ClassKey) (g : Renaming) (are : AreRenamed rows 
 module _ (rows : List Row) (g : Renaming) (keeps : Keeps rows g) where
   -- a class of the prelude
   pub prelude_stays : (name : List ℕ) → IsPreludeClass name → class_to g (top_key name) ≡ top_key name
-  prelude_stays name is = λ i. record { outer = None; name = kept_name g (class_decl (top_key name)) name (keeps.prelude name is) i }
+  prelude_stays name is = λ i. record { outer = None; name = keeps_name g (class_decl (top_key name)) name (keeps.prelude name is) i }
 
   pub object_stays : class_to g object_key ≡ object_key
   object_stays = prelude_stays (codes "Object") (inl refl)
-
--- a declared name
-renamed_text : (old new : List ℕ) → text_of (renamed old new) old ≡ new
-renamed_text old new = by (same_name old new) refl
-  where
-    by : (b : Bool) → same_name old new ≡ b → text_of (if b then stays else respelled new same) old ≡ new
-    by true h = (bytes_decides old new).0 h
-    by false h = refl
 
 pub declared_text : {A : Type 0} (tells : A → ℕ → Span) (rows : List Row) (g : Renaming) (super_at : Context → ℕ) (d : Decl) (at : ℕ) (w : tree.Word A) (v : Rewritten (tree.Word A))
     → DeclaredOut tells (spelling (λ m b. (tells m b).from) rows g super_at) d at w v → v.tree.text ≡ name_to g d w.text

@@ -11,9 +11,11 @@ use Rattle.jr_table.specs.Rows.{Row}
 use Rattle.jr_table.specs.Prelude.{prelude_rows, class_row, ctor_row, thread_key, thread_row, top_key, object_key}
 use Rattle.jr_images.specs.Families.{Among, AreRenamed, IsRenamedWith}
 use Rattle.jr_images.specs.Images.{Renaming, is_renamed, name_to, outer_to, class_to, type_to, types_to, row_to, rows_to, method_to}
+use Rattle.jr_images.proofs.KeyImages as images
+use Rattle.jr_images.proofs.KeyImages.{keeps_name}
 
 -- what is in the list is there
-any_among : (d : Decl) (xs : List Decl) → list_any (same_decl d) xs ≡ true → Among xs d
+pub any_among : (d : Decl) (xs : List Decl) → list_any (same_decl d) xs ≡ true → Among xs d
 any_among d [] e = absurd cc
 any_among d (x ∷ xs) e = by (same_decl d x) refl (λ f. any_among d xs f)
   where
@@ -50,30 +52,18 @@ pub record IsStill (g : Renaming) : Type 0 where
   pub run : is_renamed g (method_decl (thread_key (codes "run"))) ≡ false
   pub start : is_renamed g (method_decl (thread_key (codes "start"))) ≡ false
 
-pub keeps_name : (g : Renaming) (d : Decl) (old : List ℕ) → is_renamed g d ≡ false → name_to g d old ≡ old
-keeps_name g d old h = ap (λ b. if b then g.name else old) h
-
 pub gets_name : (g : Renaming) (d : Decl) (old : List ℕ) → is_renamed g d ≡ true → name_to g d old ≡ g.name
 gets_name g d old h = ap (λ b. if b then g.name else old) h
 
 module _ (g : Renaming) (still : IsStill g) where
-  outer_same : (o : Option (List ℕ)) → outer_to g o ≡ o
-  outer_same None = refl
-  outer_same (Some name) = ap (λ (n : List ℕ). Some n) (keeps_name g (class_decl (top_key name)) name (still.class (top_key name)))
-
   pub class_same : (k : ClassKey) → class_to g k ≡ k
-  class_same k = λ i. record { outer = outer_same k.outer i; name = keeps_name g (class_decl k) k.name (still.class k) i }
+  class_same k = images.class_same g still.class k
 
   pub type_same : (t : Ty) → type_to g t ≡ t
-  type_same int = refl
-  type_same boolean = refl
-  type_same void = refl
-  type_same null = refl
-  type_same (class k) = ap class (class_same k)
+  type_same t = images.type_same g still.class t
 
   pub types_same : (ts : List Ty) → types_to g ts ≡ ts
-  types_same [] = refl
-  types_same (t ∷ ts) = λ i. type_same t i ∷ types_same ts i
+  types_same ts = images.types_same g still.class ts
 
   thread_same : (name : List ℕ) → is_renamed g (method_decl (thread_key name)) ≡ false → method_to g (thread_key name) ≡ thread_key name
   thread_same name h = λ i. record { class = class_same (top_key (codes "Thread")) i; name = keeps_name g (method_decl (thread_key name)) name h i; params = [] }

@@ -19,13 +19,13 @@ use Rattle.jr_rewrite.specs.Respellings.{Choice, text_of}
 use Rattle.jr_rewrite.specs.Rewritten.{Rewritten}
 use Rattle.jr_rewrite.specs.Rewrites.{Choosing, DeclaredOut, RewritesParams, RewritesResult, RewritesMember, RewritesParent, RewritesClass, RewritesMembers, RewritesOne, RewritesClasses, RewritesUnits}
 use Rattle.jr_images.specs.Images.{Renaming, name_to}
+use Rattle.jr_images.proofs.KeyImages.{keeps_name}
 use Rattle.jr_rename_laws.specs.ImageLaws.{no_mark}
 use Rattle.jr_images.specs.Spelling.{spelling}
 use Rattle.jr_rename_laws.specs.Beside.{ClassBeside, MembersBeside, MemberBeside, ClassesBeside, UnitsBeside}
 use Rattle.jr_rename_laws.proofs.BareTrees.{cons_head, cons_rest, Bare, mods_in, name_in, params_in, type_in, init_in, class_mods, class_name, class_parent, class_members, front_in, word_in, same_front, nowhere, simple_bare}
 use Rattle.jr_rename_laws.proofs.Chosen.{renamed_text, left_none, right_none}
 use Rattle.jr_rename_laws.proofs.SameClasses.{Alike, MaybeAlike}
-use Rattle.jr_rename_laws.proofs.Still.{keeps_name}
 use Rattle.jr_rename_laws.proofs.DeclarationImages.{forms_of, ParamsTo, ItemsTo}
 use Rattle.jr_rename_laws.proofs.TypesStay.{TypesKeep, type_stays, superclass_stays}
 use Rattle.jr_rename_laws.proofs.InitsStay.{forms_stay}

@@ -25,6 +25,7 @@ use Rattle.jr_rewrite.specs.Rewrites.{Choosing, TypeOut, RewritesType, RewritesP
 use Rattle.jr_rewrite.specs.AlongMembers.{mod_words, AlongParams, AlongResult, AlongMember, AlongParent, AlongClass, AlongMembers, AlongOne, AlongClasses, AlongUnits}
 use Rattle.jr_rewrite.specs.Along.{AlongMaybe}
 use Rattle.jr_images.specs.Images.{Renaming, name_to, outer_to, class_to, type_to, member_to, rows_to}
+use Rattle.jr_images.proofs.KeyImages.{keeps_name}
 use Rattle.jr_rename_laws.specs.ImageLaws.{no_mark}
 use Rattle.jr_images.specs.Keeping.{IsKept, IsWritten, IsSuperKept, IsParentKept}
 use Rattle.jr_images.specs.RenameLaws.{trees_of}
@@ -32,7 +33,7 @@ use Rattle.jr_images.specs.Spelling.{spelling, ParentQualifierSpells, ParentSpel
 use Rattle.jr_rename_laws.specs.Beside.{ClassBeside, MembersBeside, MemberBeside, ClassesBeside, UnitsBeside}
 use Rattle.jr_rename_laws.proofs.BareTrees.{cons_head, cons_rest, Bare, mods_in, name_in, params_in, type_in, init_in, class_mods, class_name, class_parent, class_members, front_in, word_in, same_front}
 use Rattle.jr_rename_laws.proofs.WrittenTypes.{place, WrittenAs}
-use Rattle.jr_rename_laws.proofs.Renamed.{Keeps, kept_name, declared_text}
+use Rattle.jr_rename_laws.proofs.Renamed.{Keeps, declared_text}
 use Rattle.jr_rename_laws.proofs.Initializers.{init_goes}
 use Rattle.jr_rename_laws.proofs.ItemsBeside.{TypeTo, ParentTo, ResultTo, ParamsTo, ItemsTo}
 
@@ -140,7 +141,7 @@ module _ (rows : List Row) (g : Renaming) (keeps : Keeps rows g) {A B : Type 0} 
       let here = cons_head _ _ _ _ f in (
         type_goes of k l is was (begins p.mark at) (begins' q.mark j) p.type t type y.type goes.means q.type (ap (λ (x : syntax.Param Bare). x.type) here),
         ap (λ (x : syntax.Param Bare). x.name.text) here ∙ ap (λ (x : syntax.Param A). x.name.text) (cons_head _ _ _ _ both) ∙ declared_text tells rows g super_at (local_decl (record { member = k; number = m })) (begins p.mark at) p.name v name
-            ∙ kept_name g (local_decl (record { member = k; number = m })) p.name.text (keeps.local (record { member = k; number = m })),
+            ∙ keeps_name g (local_decl (record { member = k; number = m })) p.name.text (keeps.local (record { member = k; number = m })),
         params_go of k l is was (suc m) at j n ps q' more' rest (cons_rest _ _ _ _ both) more qs (cons_rest _ _ _ _ f),
       )
 
@@ -201,7 +202,7 @@ module _ (rows : List Row) (g : Renaming) (keeps : Keeps rows g) {A B : Type 0} 
           record {
             of = same;
             name = ap name_in f' ∙ declared_text tells rows g super_at (field_decl (record { class = of; name = w.text })) (begins m b) w v name
-                ∙ kept_name g (field_decl (record { class = of; name = w.text })) w.text (keeps.field (record { class = of; name = w.text }));
+                ∙ keeps_name g (field_decl (record { class = of; name = w.text })) w.text (keeps.field (record { class = of; name = w.text }));
             words = same_words mods ms nods same_mods (ap mods_in f);
             type = type_goes of key key refl refl (begins m b) (begins' k i) t p type u goes.means r (same_Some _ _ (ap type_in f));
             init = some_map (init_declaration begins' (begins' k i)) last ∙ sym (some_map (map_exp no_mark) last) ∙ ap (λ (x : syntax.Member Bare). is_some (init_in x)) f ∙ some_map (map_exp no_mark) z
@@ -228,7 +229,7 @@ module _ (rows : List Row) (g : Renaming) (keeps : Keeps rows g) {A B : Type 0} 
           record {
             of = same;
             name = ap name_in f' ∙ declared_text tells rows g super_at (method_decl (record { class = of; name = w.text; params = ts })) (begins m b) w v name
-                ∙ kept_name g (method_decl (record { class = of; name = w.text; params = ts })) w.text (keeps.method (record { class = of; name = w.text; params = ts }));
+                ∙ keeps_name g (method_decl (record { class = of; name = w.text; params = ts })) w.text (keeps.method (record { class = of; name = w.text; params = ts }));
             words = same_words mods ms nods same_mods (ap mods_in f);
             result = result_goes of key key' refl refl (begins m b) (begins' k i) (begins j n) t p type u result r (ap type_in f);
             params = params_go of key key' refl refl 0 (begins m b) (begins' k i) (begins j n) ps q params ys (ap params_in (sym form ∙ ap (λ (x : Rewritten (syntax.Member A)). x.tree) is)) along qs (ap params_in f);

@@ -21,9 +21,11 @@ use Rattle.jr_table.specs.Scope.{Scope}
 use Rattle.jr_table.specs.TypeNames.{HasTypeNamed, FindsType}
 use Rattle.jr_table.specs.Fields.{FindsMemberType}
 use Rattle.jr_table.specs.Lookup.{ByKeys, FindsTypeNamed, FindsTypeOf}
+use Rattle.jr_table.proofs.RowLaws.{entry_at}
 use Rattle.jr_images.specs.Images.{Renaming, class_to, member_to, decl_to, row_to, rows_to}
+use Rattle.jr_images.proofs.Imaging.{map_some}
+use Rattle.jr_images.proofs.KeyImages.{sort_to, new_entry, at_new}
 use Rattle.jr_rename_laws.proofs.Still.{IsStill, class_same}
-use Rattle.jr_rename_laws.proofs.CleanImages.{map_some}
 
 -- ---- entries of which the classes have the same names and places
 
@@ -130,13 +132,6 @@ module _ (g : Renaming) (still : IsStill g) where
   of_same (constructor_decl k) = class_same g still k.class
   of_same (local_decl k) = of_member k.member
 
-  sort_same : (d : Decl) → sort_of (decl_to g d) ≡ sort_of d
-  sort_same (class_decl k) = refl
-  sort_same (field_decl k) = refl
-  sort_same (method_decl k) = refl
-  sort_same (constructor_decl k) = refl
-  sort_same (local_decl k) = refl
-
   pub outer_same : (d : Decl) → outer_name (decl_to g d) ≡ outer_name d
   outer_same (class_decl k) = ap (λ (z : ClassKey). z.outer) (class_same g still k)
   outer_same (field_decl k) = refl
@@ -160,15 +155,12 @@ module _ (g : Renaming) (still : IsStill g) where
     outer_number None = refl
     outer_number (Some name) = number_same rows (top_key name)
 
-    abbrev new_entry : Row → Entry
-    new_entry r = entry_of (rows_to g rows) (row_to g r)
-
-    outer_entry : (r : Row) → (new_entry r).outer ≡ (entry_of rows r).outer
+    outer_entry : (r : Row) → (new_entry g rows r).outer ≡ (entry_of rows r).outer
     outer_entry r = ap (option_and_then (λ (name : List ℕ). number_of (rows_to g rows) (top_class name))) (outer_same r.decl) ∙ outer_number (outer_name r.decl)
 
-    entry_alike : (r : Row) → EntryAlike (entry_of rows r) (new_entry r)
+    entry_alike : (r : Row) → EntryAlike (entry_of rows r) (new_entry g rows r)
     entry_alike r = record {
-      of_sort = sort_same r.decl;
+      of_sort = sort_to g r.decl;
       class = ap (class_number (rows_to g rows)) (of_same r.decl) ∙ class_number_same rows (class_of r.decl);
       outer = outer_entry r;
       private = refl;
@@ -178,39 +170,27 @@ module _ (g : Renaming) (still : IsStill g) where
     alike_again : (e f : Entry) → EntryAlike e f → EntryAlike f e
     alike_again e f h = record { of_sort = sym h.of_sort; class = sym h.class; outer = sym h.outer; private = sym h.private; named = λ is. sym (h.named (sym h.of_sort ∙ is)) }
 
-    at_old : (j : ℕ) → slice_get (entries_of rows) j ≡ option_map (entry_of rows) (slice_get rows j)
-    unfolding entries_of
-    at_old j = slice_get-map (entry_of rows) rows j
-
-    map_twice : (o : Option Row) → option_map (entry_of (rows_to g rows)) (option_map (row_to g) o) ≡ option_map new_entry o
-    map_twice None = refl
-    map_twice (Some r) = refl
-
-    at_new : (j : ℕ) → slice_get (entries_of (rows_to g rows)) j ≡ option_map new_entry (slice_get rows j)
-    unfolding entries_of
-    at_new j = slice_get-map (entry_of (rows_to g rows)) (rows_to g rows) j ∙ ap (option_map (entry_of (rows_to g rows))) (slice_get-map (row_to g) rows j) ∙ map_twice (slice_get rows j)
-
-    parents : (o : Option Row) → option_and_then (λ (r : Entry). r.parent) (option_map new_entry o) ≡ option_and_then (λ (r : Entry). r.parent) (option_map (entry_of rows) o)
+    parents : (o : Option Row) → option_and_then (λ (r : Entry). r.parent) (option_map (new_entry g rows) o) ≡ option_and_then (λ (r : Entry). r.parent) (option_map (entry_of rows) o)
     parents None = refl
     parents (Some r) = parent_number r.parent
 
-    outers : (o : Option Row) → option_and_then (λ (r : Entry). r.outer) (option_map new_entry o) ≡ option_and_then (λ (r : Entry). r.outer) (option_map (entry_of rows) o)
+    outers : (o : Option Row) → option_and_then (λ (r : Entry). r.outer) (option_map (new_entry g rows) o) ≡ option_and_then (λ (r : Entry). r.outer) (option_map (entry_of rows) o)
     outers None = refl
     outers (Some r) = outer_entry r
 
     pub parent_at : (c : ℕ) → parent_of (entries_of (rows_to g rows)) c ≡ parent_of (entries_of rows) c
-    parent_at c = ap (option_and_then (λ (r : Entry). r.parent)) (at_new c) ∙ parents (slice_get rows c) ∙ sym (ap (option_and_then (λ (r : Entry). r.parent)) (at_old c))
+    parent_at c = ap (option_and_then (λ (r : Entry). r.parent)) (at_new g rows c) ∙ parents (slice_get rows c) ∙ sym (ap (option_and_then (λ (r : Entry). r.parent)) (entry_at rows c))
 
     outer_at : (c : ℕ) → outer_of (entries_of (rows_to g rows)) c ≡ outer_of (entries_of rows) c
-    outer_at c = ap (option_and_then (λ (r : Entry). r.outer)) (at_new c) ∙ outers (slice_get rows c) ∙ sym (ap (option_and_then (λ (r : Entry). r.outer)) (at_old c))
+    outer_at c = ap (option_and_then (λ (r : Entry). r.outer)) (at_new g rows c) ∙ outers (slice_get rows c) ∙ sym (ap (option_and_then (λ (r : Entry). r.outer)) (entry_at rows c))
 
     forth : EntriesAlike (entries_of rows) (entries_of (rows_to g rows))
     forth = record {
       parent = parent_at;
       outer = outer_at;
       there = λ j e at.
-          let r = map_some (entry_of rows) (slice_get rows j) e (sym (at_old j) ∙ at) in
-          (new_entry r.0, at_new j ∙ ap (option_map new_entry) r.1, subst (λ (z : Entry). EntryAlike z (new_entry r.0)) r.2 (entry_alike r.0));
+          let r = map_some (entry_of rows) (slice_get rows j) e (sym (entry_at rows j) ∙ at) in
+          (new_entry g rows r.0, at_new g rows j ∙ ap (option_map (new_entry g rows)) r.1, subst (λ (z : Entry). EntryAlike z (new_entry g rows r.0)) r.2 (entry_alike r.0));
     }
 
     back : EntriesAlike (entries_of (rows_to g rows)) (entries_of rows)
@@ -218,8 +198,8 @@ module _ (g : Renaming) (still : IsStill g) where
       parent = λ c. sym (parent_at c);
       outer = λ c. sym (outer_at c);
       there = λ j e at.
-          let r = map_some new_entry (slice_get rows j) e (sym (at_new j) ∙ at) in
-          (entry_of rows r.0, at_old j ∙ ap (option_map (entry_of rows)) r.1, subst (λ (z : Entry). EntryAlike z (entry_of rows r.0)) r.2 (alike_again (entry_of rows r.0) (new_entry r.0) (entry_alike r.0)));
+          let r = map_some (new_entry g rows) (slice_get rows j) e (sym (at_new g rows j) ∙ at) in
+          (entry_of rows r.0, entry_at rows j ∙ ap (option_map (entry_of rows)) r.1, subst (λ (z : Entry). EntryAlike z (entry_of rows r.0)) r.2 (alike_again (entry_of rows r.0) (new_entry g rows r.0) (entry_alike r.0)));
     }
 
     pub class_row : (k : ClassKey) (j : ℕ) → IsRowOf rows (class_decl k) j → IsRowOf (rows_to g rows) (class_decl k) j

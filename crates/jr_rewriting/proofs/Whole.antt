@@ -25,16 +25,13 @@ use Rattle.jr_images.specs.Spelling.{spelling}
 use Rattle.jr_images.specs.Refusals as refusals
 use Rattle.jr_images.specs.RenameLaws.{KeepsAll}
 use Rattle.jr_images.specs.TextLaws.{AreNamed, RenamedTextsRead}
+use Rattle.jr_images.proofs.Imaging.{map_some}
 use Rattle.jr_renaming.specs.Effects.{Effect, effect_of}
 use Rattle.jr_renaming.specs.FileLaws.{AreGathered, AreRewritten}
 use Rattle.jr_grammar.specs.Layout.{itself}
 use Rattle.jr_rewriting.specs.Gathered.{members_of, AreSoFar, AllInOrder}
 use Rattle.jr_rewriting.specs.Lost.{IsFirstLoss, LoseNothing}
 use Rattle.jr_rewriting.specs.Rewritings.{IsRewriting}
-
-some_of : {X Y : Type 0} (f : X → Y) (o : Option X) (y : Y) → option_map f o ≡ Some y → (x : X) × (o ≡ Some x) × (f x ≡ y)
-some_of f None y e = absurd cc
-some_of f (Some x) y e = let same : f x ≡ y = cc in (x, refl, same)
 
 some_same : (x y : ℕ × Loss) → Some x ≡ Some y → x ≡ y
 some_same x y e = cc
@@ -87,7 +84,7 @@ module _ {T : Type 0} (os : List (Rewritten T)) (es : List Effect) (same : map (
   -- the rewritten file of a number
   file_of : (i : ℕ) (e : Effect) → slice_get es i ≡ Some e → (o : Rewritten T) × (slice_get os i ≡ Some o) × (effect_of o ≡ e)
   file_of i e s =
-      some_of (λ (o : Rewritten T). effect_of o) (slice_get os i) e (sym (slice_get-map (λ (o : Rewritten T). effect_of o) os i) ∙ ap (λ (xs : List Effect). slice_get xs i) same ∙ s)
+      map_some (λ (o : Rewritten T). effect_of o) (slice_get os i) e (sym (slice_get-map (λ (o : Rewritten T). effect_of o) os i) ∙ ap (λ (xs : List Effect). slice_get xs i) same ∙ s)
 
   effect_at : (i : ℕ) (o : Rewritten T) → slice_get os i ≡ Some o → slice_get es i ≡ Some (effect_of o)
   effect_at i o s = ap (λ (xs : List Effect). slice_get xs i) (sym same) ∙ slice_get-map (λ (o : Rewritten T). effect_of o) os i ∙ ap (option_map (λ (o : Rewritten T). effect_of o)) s
@@ -136,7 +133,7 @@ module _ (p : Program Span) (g : Renaming) where
 
   pub reads_there : {tells : Span → ℕ → Span} {Fits : Span → ℕ → Type 0} → IsProgram tells Fits p → (file : ℕ) (unit : syntax.Unit Span) → slice_get (units_of p) file ≡ Some unit → (bytes : List ℕ) × ReadsWithSpans tells bytes unit
   reads_there {tells} h file unit e =
-      let f = some_of (λ (x : File Span). x.unit) (slice_get p.files file) unit (sym (slice_get-map (λ (x : File Span). x.unit) p.files file) ∙ e) in
+      let f = map_some (λ (x : File Span). x.unit) (slice_get p.files file) unit (sym (slice_get-map (λ (x : File Span). x.unit) p.files file) ∙ e) in
       (f.0.text, subst (ReadsWithSpans tells f.0.text) f.2 (h.reads file f.0 f.1))
 
   pub reads_plainly : {tells : Span → ℕ → Span} {Fits : Span → ℕ → Type 0} → IsProgram tells Fits p → (file : ℕ) (unit : syntax.Unit Span) → slice_get (units_of p) file ≡ Some unit → (bytes : List ℕ) × Reads bytes unit

@@ -21,16 +21,13 @@ use Rattle.jr_rename_laws.specs.ImageLaws.{without_marks, Becomes, AreImages, Pl
 use Rattle.jr_images.specs.TextLaws.{RowsAreNamed, NamesHaveNoDot}
 use Rattle.jr_rename_laws.specs.PlanLaws.{IsPlanIn, IsNoClass, NewProgramsAreImages}
 use Rattle.jr_rename_laws.specs.ClassLaws.{BuiltRowsAreImages, ConstructorsGiveImages}
+use Rattle.jr_images.proofs.Imaging.{map_some}
 use Rattle.jr_sources.specs.Sources.{Source}
 use Rattle.jr_sources.specs.Whole.{IsProgramOf}
 use Rattle.jr_sources.proofs.Analysing.{counts}
 use Rattle.jr_sources.proofs.FirstErrors.{rows_once}
 use Rattle.jr_sources.proofs.ReadUnits.{units_headed}
 use Rattle.jr_sources.proofs.WholeProgram.{units_files}
-
-some_of : {X Y : Type 0} (f : X → Y) (o : Option X) (y : Y) → option_map f o ≡ Some y → (x : X) × (o ≡ Some x) × (f x ≡ y)
-some_of f None y e = absurd cc
-some_of f (Some x) y e = let same : f x ≡ y = cc in (x, refl, same)
 
 no_lines : (lines : List (Option PackageLine)) → map names_of lines ≡ [] → lines ≡ []
 no_lines [] e = refl
@@ -51,7 +48,7 @@ module _ (sources : List Source) (p : Program Span) (before : IsProgramOf source
 
     reads : (i : ℕ) (unit : UnitTree Span) → slice_get (units_of p) i ≡ Some unit → (bytes : List ℕ) × Reads bytes unit
     reads i unit e =
-        let f = some_of (λ (x : File Span). x.unit) (slice_get p.files i) unit (sym (slice_get-map (λ (x : File Span). x.unit) p.files i) ∙ e) in
+        let f = map_some (λ (x : File Span). x.unit) (slice_get p.files i) unit (sym (slice_get-map (λ (x : File Span). x.unit) p.files i) ∙ e) in
         let r = is.program.reads i f.0 f.1 in
         (f.0.text, subst (Reads f.0.text) f.2 (record { items = r.items; lexes = r.lexes; is = r.is }))
 

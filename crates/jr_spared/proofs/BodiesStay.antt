@@ -18,7 +18,8 @@ use Rattle.jr_rewrite.specs.Respellings.{stays}
 use Rattle.jr_rewrite.specs.Rewritten.{plain, within, joined, word_out}
 use Rattle.jr_rewrite.specs.Rewrites.{DeclaredOut, RewritesType, RewritesMaybe, RewritesStmt, RewritesElse, RewritesStmts}
 use Rattle.jr_images.specs.Images.{Renaming, is_renamed, name_to}
-use Rattle.jr_spared.proofs.ImagesStay.{IsWithin, within_own, within_after, name_same, local_kept, scope_same}
+use Rattle.jr_images.proofs.KeyImages.{keeps_name}
+use Rattle.jr_spared.proofs.ImagesStay.{IsWithin, within_own, within_after, local_kept, scope_same}
 use Rattle.jr_spared.proofs.Unmoved.{GivesNothing, both_none, stays_so}
 use Rattle.jr_spared.proofs.Passing.{Known}
 use Rattle.jr_spared.proofs.NothingBroken.{type_means}
@@ -31,7 +32,7 @@ module _ {A : Type 0} (tells : A → ℕ → Span) (rows : List Row) (g : Renami
 
   -- a declared name
   pub declared_stays : (d : Decl) (at : ℕ) (w : tree.Word A) → is_renamed g d ≡ false → GivesNothing (λ o. DeclaredOut tells (C tells rows g names k known super_at) d at w o)
-  declared_stays d at w kept = (word_out tells stays at w, (stays, stays_so w.text (name_to g d w.text) (name_same g d w.text kept), refl), refl)
+  declared_stays d at w kept = (word_out tells stays at w, (stays, stays_so w.text (name_to g d w.text) (keeps_name g d w.text kept), refl), refl)
 
   -- no rule is broken in it
   abbrev SoundMaybe : Context → (at : ℕ) → Option (tree.Exp A) → Type 0

@@ -14,42 +14,22 @@ use Rattle.jr_table.specs.Context.{Context, Local, scope_local, scope_of, in_own
 use Rattle.jr_table.specs.HeadRules.{plain, types_of, with_parameters}
 use Rattle.jr_mentions.specs.Apart.{IsCleanMember}
 use Rattle.jr_images.specs.Images.{Renaming, is_renamed, name_to, outer_to, class_to, type_to, types_to, field_to, method_to, ctor_to, member_to, local_to, scope_local_to, scope_to}
+use Rattle.jr_images.proofs.KeyImages.{keeps_name, class_same, types_same}
 use Rattle.jr_spared.specs.Spared.{IsSpared}
 
-pub name_same : (g : Renaming) (d : Decl) (old : List ℕ) → is_renamed g d ≡ false → name_to g d old ≡ old
-name_same g d old h = ap (λ b. if b then g.name else old) h
-
 module _ (g : Renaming) (stays : (k : ClassKey) → is_renamed g (class_decl k) ≡ false) where
-  outer_same : (o : Option (List ℕ)) → outer_to g o ≡ o
-  outer_same None = refl
-  outer_same (Some name) = ap (λ (n : List ℕ). Some n) (name_same g (class_decl (top_key name)) name (stays (top_key name)))
-
-  pub class_same : (k : ClassKey) → class_to g k ≡ k
-  class_same k = λ i. record { outer = outer_same k.outer i; name = name_same g (class_decl k) k.name (stays k) i }
-
-  pub type_same : (t : Ty) → type_to g t ≡ t
-  type_same int = refl
-  type_same boolean = refl
-  type_same void = refl
-  type_same null = refl
-  type_same (class k) = ap class (class_same k)
-
-  pub types_same : (ts : List Ty) → types_to g ts ≡ ts
-  types_same [] = refl
-  types_same (t ∷ ts) = λ i. type_same t i ∷ types_same ts i
-
   pub field_same : (q : FieldKey) → is_renamed g (field_decl q) ≡ false → field_to g q ≡ q
-  field_same q h = λ i. record { class = class_same q.class i; name = name_same g (field_decl q) q.name h i }
+  field_same q h = λ i. record { class = class_same g stays q.class i; name = keeps_name g (field_decl q) q.name h i }
 
   pub method_same : (q : MethodKey) → is_renamed g (method_decl q) ≡ false → method_to g q ≡ q
-  method_same q h = λ i. record { class = class_same q.class i; name = name_same g (method_decl q) q.name h i; params = types_same q.params i }
+  method_same q h = λ i. record { class = class_same g stays q.class i; name = keeps_name g (method_decl q) q.name h i; params = types_same g stays q.params i }
 
   pub ctor_same : (q : CtorKey) → ctor_to g q ≡ q
-  ctor_same q = λ i. record { class = class_same q.class i; params = types_same q.params i }
+  ctor_same q = λ i. record { class = class_same g stays q.class i; params = types_same g stays q.params i }
 
   -- a place without locals
   pub plain_scope_same : (k : MemberKey) (is_static : _) → scope_to g (plain k is_static) ≡ scope_of (plain k is_static)
-  plain_scope_same k is_static = λ i. record { class = class_same (class_of_member k) i; is_static = is_static; locals = [] }
+  plain_scope_same k is_static = λ i. record { class = class_same g stays (class_of_member k) i; is_static = is_static; locals = [] }
 
 -- ---- places of one member
 
@@ -122,7 +102,7 @@ module _ (g : Renaming) (names : List (List ℕ)) (k : MemberKey) (spared : IsSp
   locals_same : (ls : List Local) → AreOwn k ls → map (scope_local_to g) ls ≡ map scope_local ls
   locals_same [] h = refl
   locals_same (l ∷ ls) h =
-      let name = name_same g (local_decl l.key) l.name (local_kept l.key h.0) in
+      let name = keeps_name g (local_decl l.key) l.name (local_kept l.key h.0) in
       let key = local_same l.key h.0 in
       λ i. record { name = name i; key = key i } ∷ locals_same ls h.1 i
 

@@ -20,8 +20,9 @@ use Rattle.jr_mentions.specs.Apart.{IsOther, IsClean, IsCleanMember}
 use Rattle.jr_mentions.specs.Alike.{IsCleanFound, LookAlike}
 use Rattle.jr_images.specs.Images.{Renaming, class_to, field_to, method_to, decl_to, row_to, rows_to}
 use Rattle.jr_images.specs.OneLocal.{HaveNoDots}
+use Rattle.jr_images.proofs.KeyImages.{class_same}
 use Rattle.jr_spared.specs.Spared.{IsSpared}
-use Rattle.jr_spared.proofs.ImagesStay.{class_same, field_same, method_same}
+use Rattle.jr_spared.proofs.ImagesStay.{field_same, method_same}
 
 pub record Known (A : Type 0) (rows : List Row) (g : Renaming) (names : List (List ℕ)) (k : MemberKey) : Type 0 where
   pub are : AreRows rows

@@ -21,7 +21,8 @@ use Rattle.jr_mentions.specs.Apart.{IsOther}
 use Rattle.jr_mentions.specs.Avoids.{AvoidsExp}
 use Rattle.jr_images.specs.Images.{Renaming, class_to, method_to, ctor_to, types_to, rows_to, scope_to}
 use Rattle.jr_images.specs.Spelling.{reference, behind_words, operand_of, SimpleCallSpells, CallSpells, SuperCallSpells, CreationSpells, SuperCtorSpells, ExpSpells}
-use Rattle.jr_spared.proofs.ImagesStay.{IsWithin, types_same, ctor_same}
+use Rattle.jr_images.proofs.KeyImages.{types_same}
+use Rattle.jr_spared.proofs.ImagesStay.{IsWithin, ctor_same}
 use Rattle.jr_spared.proofs.Unmoved.{stays_so}
 use Rattle.jr_spared.proofs.Namesakes.{found_method, found_call, found_ctor, method_row, static_ctor}
 use Rattle.jr_spared.proofs.Passing.{Known, call_goes, call_clean, method_goes, method_clean, ctor_goes, method_keeps, superclass_goes, word_back}

@@ -22,7 +22,8 @@ use Rattle.jr_mentions.specs.Apart.{IsOther}
 use Rattle.jr_mentions.specs.Avoids.{AvoidsExp, AvoidsTarget, AvoidsRow}
 use Rattle.jr_images.specs.Images.{Renaming, name_to, class_to, field_to, local_to, rows_to, scope_to}
 use Rattle.jr_images.specs.Spelling.{reference, behind_words, operand_of, WordsLead, LocalSpells, OwnFieldSpells, VariableSpells, FieldSpells, SuperFieldSpells, ExpSpells}
-use Rattle.jr_spared.proofs.ImagesStay.{IsWithin, name_same, found_own, local_kept, local_same, scope_same}
+use Rattle.jr_images.proofs.KeyImages.{keeps_name}
+use Rattle.jr_spared.proofs.ImagesStay.{IsWithin, found_own, local_kept, local_same, scope_same}
 use Rattle.jr_spared.proofs.Unmoved.{stays_so}
 use Rattle.jr_spared.proofs.Namesakes.{IsField, found_variable, found_field, found_type, found_inner, type_named, inner_named, field_row}
 use Rattle.jr_spared.proofs.Passing.{Known, variable_goes, variable_clean, field_goes, field_clean, type_goes, inner_goes, class_keeps, field_keeps, superclass_goes, word_back}
@@ -66,7 +67,7 @@ module _ {A : Type 0} (begins : A → ℕ → ℕ) (rows : List Row) (g : Renami
   local_spells : (at : ℕ) (old : List ℕ) (q : LocalKey) → FindsLocal (scope_of c).locals old q → LocalSpells begins rows g c at old q stays
   local_spells at old q finds =
       let own = found_own k c within old q finds in
-      let n : old ≡ name_to g (local_decl q) old = sym (name_same g (local_decl q) old (local_kept g names k known.spared known.own q own)) in
+      let n : old ≡ name_to g (local_decl q) old = sym (keeps_name g (local_decl q) old (local_kept g names k known.spared known.own q own)) in
       let p : q ≡ local_to g q = sym (local_same g names k known.spared known.own q own) in
       let s = place in
       let there : FindsVariable after (scope_of c) old (one (local_decl q)) = inl (q, finds, refl) in
