@@ -1,21 +1,20 @@
 -- The places of the words `super`: in text order, and no others.
-use Rattle.std.proofs.Common.{◌≡◌, ℕ, zero, suc, ◌+◌, ◌<◌, ◌≤◌, List, [], ◌∷◌, ◌++◌, length, get_or, drop, map, Bool, true, false, cond, refl, sym, ap, subst, ◌∙◌, arith, inl, inr, append_assoc, ◌-◌}
-use Rattle.std.specs.Prelude.{slice_get, Option, Some, None, filter, nat_lt, IfSome, IfNone, MatchOption}
-use Rattle.std.specs.List.{Contains, All, AllWithin}
+use Rattle.std.proofs.Common.{◌≡◌, ℕ, zero, suc, ◌+◌, ◌<◌, ◌≤◌, List, [], ◌∷◌, length, get_or, map, Bool, true, false, cond, refl, sym, ap, subst, ◌∙◌, arith, inl, inr}
+use Rattle.std.specs.Prelude.{◌⊎◌, ◌↔◌, IsTrue, slice_get, Option, Some, None, filter, nat_lt, IfSome, IfNone, MatchOption}
+use Rattle.std.specs.List.{Contains, All}
 use Rattle.std.specs.List.Sorted.{IsNonDecreasingBy, IsPartitionPoint}
-use Rattle.std.proofs.lemmas.List.{drop_more}
 use Rattle.std.proofs.lemmas.List.Kept.{IsNonDecreasingBy-filter}
 use Rattle.std.proofs.lemmas.Bool.{ltb-true, ltb-false}
+use Rattle.std.proofs.lemmas.Option.{slice_get-get_or, slice_get_within, get_or_from_slice_get}
 use Rattle.jr_text.specs.declared.spans.Span.{Span}
 use Rattle.jr_lex.specs.declared.items.Item.{Item}
 use Rattle.jr_lex.specs.declared.items.ItemKind.{ItemKind}
 use Rattle.jr_lex.specs.declared.items.ItemKind.TheVariants as item
-use Rattle.jr_lex.specs.declared.items.TokenKind.{TokenKind}
 use Rattle.jr_lex.specs.declared.items.TokenKind.TheVariants as token
 use Rattle.jr_lex.specs.declared.items.Keyword.{Keyword}
 use Rattle.jr_lex.specs.declared.items.Keyword.TheVariants as keyword
-use Rattle.jr_program_laws.specs.FileParts.{HasTokenAt, IsSuperAt}
-use Rattle.jr_program.specs.Tokens.{is_super_word, is_super_token, is_super_kind, is_super, super_places}
+use Rattle.jr_program_laws.specs.FileParts.{IsSuperAt}
+use Rattle.jr_program.specs.Tokens.{is_super_word, is_super_kind, is_super, super_places, IsWordFrom, BeginsSuper, IsSuperFrom}
 
 abbrev the_word : ItemKind
 the_word = item.Token (token.Keyword keyword.Super)
@@ -159,3 +158,50 @@ pub super_answer : (items : List Item) (span : Span) (places : List ℕ) (r : Op
     → MatchOption r ((at : ℕ) → IsSuperAt items span at → ⊥) (IsSuperAt items span)
 super_answer items span places None e a b c d = super_lacks items span (subst (All (λ other. span.from ≤ other → span.to ≤ other)) e d)
 super_answer items span places (Some at) e a b c d = super_found items span at (subst (λ ps. Contains ps at) e a) b.0 b.1 (subst (All (λ other. span.from ≤ other → at ≤ other)) e c)
+
+-- ---- what a search from the front finds
+
+module _ (items : List Item) (from : ℕ) where
+  abbrev pub NoneTo : ℕ → Type 0
+  NoneTo to = (n : ℕ) (x : Item) → n < to → slice_get items n ≡ Some x → IsWordFrom x from → ⊥
+
+  -- the item of the number is one, and none before it
+  pub super_here : IsNonDecreasingBy (λ (i : Item). i.span.from) items → (k : ℕ) (d : Item) → k < length items → NoneTo k → IsWordFrom (get_or items k d) from → IsSuperFrom items from (get_or items k d).span.from
+  super_here sorted k d small none is = record {
+    there = record { number = k; token = get_or items k d; stands = slice_get-get_or items k d small; is = kind_is (get_or items k d).kind is.0; place = refl };
+    behind = is.1;
+    first = λ other h le. by other h le (order h.number k);
+  }
+    where
+      order : (a b : ℕ) → (a < b) ⊎ (b ≤ a)
+      order a b = grind arith
+
+      later : (other : ℕ) (h : BeginsSuper items other) → k ≤ h.number → (get_or items k d).span.from ≤ other
+      later other h up =
+          let within = slice_get_within items h.number h.token h.stands in
+          let rise = sorted k h.number d up within in
+          let place = ap (λ (i : Item). i.span.from) (get_or_from_slice_get items h.number h.token d h.stands) ∙ h.place in
+          omega (arith, rise, place)
+
+      by : (other : ℕ) (h : BeginsSuper items other) → from ≤ other → (h.number < k) ⊎ (k ≤ h.number) → (get_or items k d).span.from ≤ other
+      by other h le (inl lt) = absurd (none h.number h.token lt h.stands (ap is_super_kind h.is, subst (λ n. from ≤ n) (sym h.place) le))
+      by other h le (inr up) = later other h up
+
+  -- it is none, by a test
+  pub super_behind : (k : ℕ) (d : Item) (b : Bool) → NoneTo k → (IsTrue b ↔ IsWordFrom (get_or items k d) from) → b ≡ false → NoneTo (k + 1)
+  super_behind k d b none tells isnt n x lt stands is = by (order n k)
+    where
+      order : (a b : ℕ) → (a < b) ⊎ (b ≤ a)
+      order a b = grind arith
+
+      apart : false ≡ true → ⊥
+      apart e = absurd cc
+
+      by : (n < k) ⊎ (k ≤ n) → ⊥
+      by (inl before) = none n x before stands is
+      by (inr up) =
+          let same : k ≡ n = omega (arith, lt, up) in
+          apart (sym isnt ∙ tells.1 (subst (λ (i : Item). IsWordFrom i from) (sym (subst (λ m. get_or items m d ≡ x) (sym same) (get_or_from_slice_get items n x d stands))) is))
+
+  pub super_nowhere : (k : ℕ) → length items ≤ k → NoneTo k → (at : ℕ) → BeginsSuper items at → from ≤ at → ⊥
+  super_nowhere k all none at h le = let within = slice_get_within items h.number h.token h.stands in none h.number h.token (omega (arith, within, all)) h.stands (ap is_super_kind h.is, subst (λ n. from ≤ n) (sym h.place) le)

@@ -1,5 +1,5 @@
 -- What stands at a place of a file, by its tokens.
-use Rattle.std.specs.Prelude.{◌≡◌, ℕ, List, map, filter, Bool, true, false, slice_get, Some}
+use Rattle.std.specs.Prelude.{◌≡◌, ◌≤◌, ℕ, List, IsTrue, map, filter, Bool, true, false, slice_get, Some}
 use Rattle.std.specs.List.Sorted.{IsNonDecreasingBy}
 use Rattle.jr_text.specs.Spans.{part_of}
 use Rattle.jr_lex.specs.declared.items.Item.{Item}
@@ -9,6 +9,7 @@ use Rattle.jr_lex.specs.declared.items.TokenKind.{TokenKind}
 use Rattle.jr_lex.specs.declared.items.TokenKind.TheVariants as token
 use Rattle.jr_lex.specs.declared.items.Keyword.{Keyword}
 use Rattle.jr_lex.specs.declared.items.Keyword.TheVariants as keyword
+use Rattle.jr_program_laws.specs.FileParts.{HasTokenAt}
 
 -- the bytes of the token that begins there: of a reference its name, or `new`, or `super`
 pub record IsTokenText (text : List ℕ) (items : List Item) (at : ℕ) (name : List ℕ) : Type 0 where
@@ -44,7 +45,24 @@ is_super i = is_super_kind i.kind
 abbrev pub super_places : List Item → List ℕ
 super_places items = map (λ (i : Item). i.span.from) (filter is_super items)
 
--- what is kept of a text's items
+-- ---- the first word `super` from a byte on
+
+-- it is one, and begins at the byte or behind it
+abbrev pub IsWordFrom : Item → (from : ℕ) → Type 0
+IsWordFrom i from = IsTrue (is_super i) × (from ≤ i.span.from)
+
+-- one of the words begins there
+abbrev pub BeginsSuper : List Item → (at : ℕ) → Type 0
+BeginsSuper items at = HasTokenAt items (token.Keyword keyword.Super) at
+
+-- the first of those that begin at the byte or behind it
+pub record IsSuperFrom (items : List Item) (from at : ℕ) : Type 0 where
+  pub there : BeginsSuper items at
+  pub behind : from ≤ at
+  pub first : (other : ℕ) → BeginsSuper items other → from ≤ other → at ≤ other
+
+-- ---- what is kept of a text's items
+
 pub record AreKept (items : List Item) (supers : List ℕ) : Type 0 where
   pub places : supers ≡ super_places items
   pub rising : IsNonDecreasingBy (λ (i : Item). i.span.from) items

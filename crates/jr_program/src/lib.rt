@@ -4,8 +4,8 @@
 //! with the place of its written `super(..)`, and keeps what is known of it with its file, its
 //! first byte and that place, one of each in their order; [`members_of_file`] finds those of a file
 //! by halves. `tokens`: [`Tokens`] are a file's items with the places of its words `super`, which
-//! no tree keeps; the token at a byte is found by halves. `laws`: members of which each is bound
-//! are known.
+//! no tree keeps; the token at a byte is found by halves; [`first_super`] finds the first such word
+//! of a span in items that are lent. `laws`: members of which each is bound are known.
 #![tactic(auto)]
 
 mod bounds;
@@ -14,4 +14,4 @@ mod tokens;
 
 pub use bounds::{MemberBound, bind_members, first_byte, members_of_file};
 pub use laws::members_are_known;
-pub use tokens::Tokens;
+pub use tokens::{Tokens, first_super};

@@ -1,6 +1,6 @@
 //! The tokens of a file, by their places.
-ghost use Rattle.std.specs.Prelude.{◌≡◌, ◌<◌, ◌≤◌, List, ℕ, All, Contains};
-ghost use Rattle.std.specs.Prelude.{IfOk, IfSome, IfNone, MatchOption};
+ghost use Rattle.std.specs.Prelude.{◌≡◌, ◌<◌, ◌≤◌, ◌↔◌, List, ℕ, All, Contains};
+ghost use Rattle.std.specs.Prelude.{IsTrue, IfOk, IfSome, IfNone, MatchOption};
 ghost use Rattle.std.specs.List.Sorted.{IsNonDecreasingBy};
 ghost use Rattle.jr_lex.specs.Lexes.{Lexes};
 ghost use Rattle.jr_program_laws.specs.FileParts.{IsSuperAt};
@@ -59,7 +59,7 @@ impl Tokens {
         token_at(text, self.items.as_slice(), at)
     }
 
-    /// Where the first word `super` of the span stands, if there is one.
+    /// Where the first word `super` of the span stands, if there is one: found by halves.
     pub fn super_in(&self, span: Span) -> Option<u32>
         ensures { MatchOption result ((at : ℕ) → IsSuperAt self.now span at → ⊥)
             (IsSuperAt self.now span) }
@@ -113,6 +113,40 @@ fn is_super(item: Item) -> bool
         ItemKind::Token(token) => is_super_token(token),
         ItemKind::Blank => false,
         ItemKind::Comment => false,
+    }
+}
+
+// Whether the item is a word `super` that begins at this byte or behind it.
+fn is_super_from(item: Item, from: u32) -> bool
+    ensures { IsTrue result ↔ pure.IsWordFrom item from }
+{
+    is_super(item) & (from <= item.span.from)
+}
+
+// Where the first word `super` stands that begins at this byte or behind it, if one does.
+fn super_from(items: &[Item], from: u32) -> Option<u32>
+    requires { IsNonDecreasingBy (λ i. i.span.from) items.now }
+    ensures some { IfSome result (pure.IsSuperFrom items.now from) }
+    ensures none { IfNone result ((at : ℕ) → pure.BeginsSuper items.now at → from ≤ at → ⊥) }
+{
+    for item in items {
+        if is_super_from(*item, from) {
+            return Some(item.span.from);
+        }
+    }
+    None
+}
+
+/// Where the first word `super` of the span stands among the items of a text, if there is one.
+pub fn first_super(items: &[Item], span: Span) -> Option<u32>
+    requires { (text : List ℕ) × Lexes text items.now }
+    ensures { MatchOption result ((at : ℕ) → IsSuperAt items.now span at → ⊥)
+        (IsSuperAt items.now span) }
+{
+    items_are_placed();
+    match super_from(items, span.from) {
+        None => None,
+        Some(at) => { if at < span.to { Some(at) } else { None } }
     }
 }
 
