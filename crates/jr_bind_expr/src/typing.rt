@@ -17,8 +17,8 @@ ghost use Rattle.jr_bind_expr.specs.TypedSlots.{Puts};
 
 use crate::rows::decl_at;
 use jr_ast::{Expr, ExprKind};
-use jr_table::{Decl, Kind, Table, Ty};
 use jr_expr_types::Types;
+use jr_table::{Decl, Kind, Table, Ty};
 use std::alloc::AllocError;
 
 /// The type of a class, if it is one that is declared.

@@ -29,9 +29,9 @@ use crate::places::Place;
 use crate::type_names::written_type;
 use crate::typing::{close_expr, put_leaf};
 use jr_ast::{Expr, ExprKind, TypeRef};
+use jr_expr_types::Types;
 use jr_table::{Kind, Rule, Table};
 use jr_text::Mark;
-use jr_expr_types::Types;
 use std::alloc::{AllocError, Global};
 
 /// The rows of `String` and `Class`.
