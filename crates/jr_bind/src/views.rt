@@ -1,5 +1,5 @@
 //! A whole program that has no fault and no error, as it is lent to who reads it.
-ghost use Rattle.std.specs.Prelude.{◌≡◌, ◌<◌, Some, ForSome, length, map, slice_get, option_map};
+ghost use Rattle.std.specs.Prelude.{◌≡◌, ◌<◌, Some, IfSome, length, map, slice_get, option_map};
 ghost use Rattle.jr_lex.specs.Lexes.{Lexes};
 ghost use Rattle.jr_ast.specs.View.{unit_of};
 ghost use Rattle.jr_bind.specs.Programs.{Program, IsProgram, units_of};
@@ -40,7 +40,7 @@ pub trait View<A: Mark> {
     /// The items of a file's text: its tokens, blanks and comments.
     fn items(&self, file: u32) -> &[Item]
         requires { file < length (program self.now).files }
-        ensures { ForSome (slice_get (program self.now).files file)
+        ensures { IfSome (slice_get (program self.now).files file)
             (λ f. Lexes f.text result.now) };
 
     /// What the files read as.
