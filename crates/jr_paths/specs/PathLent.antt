@@ -15,6 +15,7 @@ use Rattle.jr_ast.specs.contracts.exprs.Expr as expr
 use Rattle.jr_ast.specs.contracts.stmts.Stmt as stmt
 use Rattle.jr_ast.specs.contracts.stmts.StmtKind as stmt_kind
 use Rattle.jr_ast.specs.contracts.members.MemberKind as member_kind
+use Rattle.jr_ast.specs.MemberTree as declared
 use Rattle.jr_ast.specs.View as view
 use Rattle.jr_ast.specs.Nodes as pure
 use Rattle.jr_paths.specs.With.{with_node}
@@ -51,16 +52,22 @@ module _ (A : RattleType) where
       ≡ with_node (pure.unit (view.unit_of s.now)) path (pure.member (view.member_of w))))
       (λ n. view.unit_of n ≡ view.unit_of s.now)
 
-  abbrev pub lends_stmt_below_unit : MutBor (Unit A.Denot) → List ℕ
-      → Option (MutBor (Stmt A.Denot)) → Fml
-  lends_stmt_below_unit s path r = LendsSo (unit.the_row A) (stmt.the_row A) s r
-      (λ n w. OnSome r (pure.unit (view.unit_of n)
-      ≡ with_node (pure.unit (view.unit_of s.now)) path (pure.stmt (view.stmt_of w))))
-      (λ n. view.unit_of n ≡ view.unit_of s.now)
+-- of what `whole` tells the tree of
+module _ (S A : RattleType) (whole : S.Denot → declared.Unit A.Denot) where
+  abbrev pub lends_member_at : MutBor S.Denot → List ℕ → Option (MutBor (Member A.Denot)) → Fml
+  lends_member_at s path r = LendsSo S (member.the_row A) s r
+      (λ n w. OnSome r (pure.unit (whole n)
+      ≡ with_node (pure.unit (whole s.now)) path (pure.member (view.member_of w))))
+      (λ n. whole n ≡ whole s.now)
 
-  abbrev pub lends_expr_below_unit : MutBor (Unit A.Denot) → List ℕ
-      → Option (MutBor (Expr A.Denot)) → Fml
-  lends_expr_below_unit s path r = LendsSo (unit.the_row A) (expr.the_row A) s r
-      (λ n w. OnSome r (pure.unit (view.unit_of n)
-      ≡ with_node (pure.unit (view.unit_of s.now)) path (pure.exp (view.expr_of w))))
-      (λ n. view.unit_of n ≡ view.unit_of s.now)
+  abbrev pub lends_stmt_at : MutBor S.Denot → List ℕ → Option (MutBor (Stmt A.Denot)) → Fml
+  lends_stmt_at s path r = LendsSo S (stmt.the_row A) s r
+      (λ n w. OnSome r (pure.unit (whole n)
+      ≡ with_node (pure.unit (whole s.now)) path (pure.stmt (view.stmt_of w))))
+      (λ n. whole n ≡ whole s.now)
+
+  abbrev pub lends_expr_at : MutBor S.Denot → List ℕ → Option (MutBor (Expr A.Denot)) → Fml
+  lends_expr_at s path r = LendsSo S (expr.the_row A) s r
+      (λ n w. OnSome r (pure.unit (whole n)
+      ≡ with_node (pure.unit (whole s.now)) path (pure.exp (view.expr_of w))))
+      (λ n. whole n ≡ whole s.now)

@@ -1,3 +1,12 @@
+-- Trees that are the same but for their marks.
+use Rattle.std.specs.Prelude.{◌≡◌, List, Option, map, option_map}
+use Rattle.jr_ast.specs.Tree as tree
+use Rattle.jr_ast.specs.StatementTree as statement
+use Rattle.jr_ast.specs.MemberTree as member
+use Rattle.jr_ast.specs.Remarked.{map_word, map_modifier, map_type, map_param}
+use Rattle.jr_ast.specs.Remarked.{map_exp, map_target, map_exps, map_stmt, map_else, map_stmts}
+use Rattle.jr_ast.specs.Remarked.{map_member, map_class, map_members, map_unit}
+
 -- h and k agree on each mark and each mark that R allows for it
 abbrev pub Agree : {A B C : Type 0} → (A → B → Type 0) → (B → C) → (A → C) → Type 0
 Agree {A} {B} R h k = (a : A) (b : B) → R a b → h b ≡ k a

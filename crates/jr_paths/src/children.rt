@@ -7,13 +7,12 @@ ghost use Rattle.jr_ast.specs.View.{args_of};
 ghost use Rattle.jr_ast.specs.View.{stmt_of, stmts_of, class_of, member_of, unit_of};
 ghost use Rattle.jr_paths.specs.NodeView.{node_of};
 
-use jr_ast::{Expr, ExprKind};
-use jr_ast::{Class, Member, MemberKind, Unit};
-use jr_ast::Ident;
 use crate::nodes::Node;
-use jr_ast::{Modifier, Param, TypeKind, TypeRef};
 use crate::seeks::Seek;
-use jr_ast::{Stmt, StmtKind};
+use jr_ast::{
+    Class, Expr, ExprKind, Ident, Member, MemberKind, Modifier, Param, Stmt, StmtKind, TypeKind,
+    TypeRef, Unit,
+};
 
 /// The child of this number, where this is the only one.
 fn one<'a, A>(number: usize, node: Node<'a, A>) -> Option<Node<'a, A>>

@@ -4,10 +4,10 @@ ghost use Rattle.std.specs.Fn.{FnReturnsAt};
 ghost use Rattle.jr_paths.specs.Same as same;
 ghost use Rattle.jr_ast.specs.View.{target_of, expr_of, exprs_of, args_of};
 
-use jr_ast::{Expr, ExprKind};
 use crate::made::{Made, push_made};
 use crate::made_exprs;
 use crate::marks::{mark_by, ty, word};
+use jr_ast::{Expr, ExprKind};
 use std::alloc::Global;
 
 /// A copy, in a box.

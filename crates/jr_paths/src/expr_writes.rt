@@ -8,8 +8,8 @@ ghost use Rattle.jr_paths.specs.With.{arguments_begin, get_from};
 ghost use Rattle.jr_paths.specs.Lent.{lends_expr_among, lends_held, lends_expr_of_expr};
 ghost use Rattle.jr_paths.specs.Lent.{lends_below_expr};
 
-use jr_ast::{Expr, ExprKind};
 use crate::reaches::{One, Twice};
+use jr_ast::{Expr, ExprKind};
 
 /// The expression of this number, where the first of the row has the number `first`.
 pub(crate) fn nth_expr<A>(
@@ -38,77 +38,75 @@ fn operand_mut<A>(of: &mut Option<Box<Expr<A>>>) -> Option<&mut Expr<A>>
     }
 }
 
-impl<A> ExprKind<A> {
-    /// The number of the first argument.
-    #[tactic(auto, unfolding(jr_ast::specs::View::expr_kind))]
-    fn arguments_begin(&self) -> usize
-        ensures { (m : A) → result ≡ arguments_begin (view.expr_kind m self.now) }
-    {
-        match self {
-            ExprKind::Call(None, _, _) => 1,
-            ExprKind::Call(Some(_), _, _) => 2,
-            ExprKind::Int(_)
-            | ExprKind::Bool(_)
-            | ExprKind::Null
-            | ExprKind::Text(_)
-            | ExprKind::Simple(_)
-            | ExprKind::Field(_, _)
-            | ExprKind::SuperField(_)
-            | ExprKind::This
-            | ExprKind::ClassLit(_)
-            | ExprKind::SuperCall(_, _)
-            | ExprKind::New(_, _)
-            | ExprKind::Paren(_)
-            | ExprKind::Cast(_, _)
-            | ExprKind::Unary(_, _)
-            | ExprKind::Bump(_, _)
-            | ExprKind::Binary(_, _, _)
-            | ExprKind::Assign(_, _)
-            | ExprKind::Compound(_, _, _) => 1,
-        }
+/// The number of the first argument.
+#[tactic(auto, unfolding(jr_ast::specs::View::expr_kind))]
+fn begin_of_arguments<A>(kind: &ExprKind<A>) -> usize
+    ensures { (m : A) → result ≡ arguments_begin (view.expr_kind m kind.now) }
+{
+    match kind {
+        ExprKind::Call(None, _, _) => 1,
+        ExprKind::Call(Some(_), _, _) => 2,
+        ExprKind::Int(_)
+        | ExprKind::Bool(_)
+        | ExprKind::Null
+        | ExprKind::Text(_)
+        | ExprKind::Simple(_)
+        | ExprKind::Field(_, _)
+        | ExprKind::SuperField(_)
+        | ExprKind::This
+        | ExprKind::ClassLit(_)
+        | ExprKind::SuperCall(_, _)
+        | ExprKind::New(_, _)
+        | ExprKind::Paren(_)
+        | ExprKind::Cast(_, _)
+        | ExprKind::Unary(_, _)
+        | ExprKind::Bump(_, _)
+        | ExprKind::Binary(_, _, _)
+        | ExprKind::Assign(_, _)
+        | ExprKind::Compound(_, _, _) => 1,
     }
+}
 
-    /// The expression that is the child of this number, if it is one.
-    pub(crate) fn expr_mut(&mut self, number: usize) -> Option<&mut Expr<A>>
-        ensures* writes_back { sem 𝓛 (lends_expr_of_expr A.row self.entry number result) }
-        ensures value { (m : A) → option_map (λ x. view.expr_of x.now) result
-            ≡ option_and_then pure.as_exp (pure.child_of
-            (pure.exp (view.expr_kind m self.entry.now)) number) }
-    {
-        let first = self.arguments_begin();
-        match (self, number) {
-            (ExprKind::Field(of, _), 0) => Some(&mut **of),
-            (ExprKind::Call(target, _, _), 0) => operand_mut(target),
-            (ExprKind::Call(_, _, args), _) => nth_expr(args, first, number),
-            (ExprKind::SuperCall(_, args), _) => nth_expr(args, 1, number),
-            (ExprKind::New(_, args), _) => nth_expr(args, 1, number),
-            (ExprKind::Paren(of), 0) => Some(&mut **of),
-            (ExprKind::Cast(_, of), 1) => Some(&mut **of),
-            (ExprKind::Unary(_, of), 0) => Some(&mut **of),
-            (ExprKind::Bump(_, of), 0) => Some(&mut **of),
-            (ExprKind::Binary(_, left, _), 0) => Some(&mut **left),
-            (ExprKind::Binary(_, _, right), 1) => Some(&mut **right),
-            (ExprKind::Assign(to, _), 0) => Some(&mut **to),
-            (ExprKind::Assign(_, value), 1) => Some(&mut **value),
-            (ExprKind::Compound(_, to, _), 0) => Some(&mut **to),
-            (ExprKind::Compound(_, _, value), 1) => Some(&mut **value),
-            (ExprKind::Int(_), _) => None,
-            (ExprKind::Bool(_), _) => None,
-            (ExprKind::Null, _) => None,
-            (ExprKind::Text(_), _) => None,
-            (ExprKind::Simple(_), _) => None,
-            (ExprKind::SuperField(_), _) => None,
-            (ExprKind::This, _) => None,
-            (ExprKind::ClassLit(_), _) => None,
-            (ExprKind::Field(_, _), _) => None,
-            (ExprKind::Paren(_), _) => None,
-            (ExprKind::Cast(_, _), _) => None,
-            (ExprKind::Unary(_, _), _) => None,
-            (ExprKind::Bump(_, _), _) => None,
-            (ExprKind::Binary(_, _, _), _) => None,
-            (ExprKind::Assign(_, _), _) => None,
-            (ExprKind::Compound(_, _, _), _) => None,
-        }
+/// The expression that is the child of this number, if it is one.
+pub(crate) fn expr_of_expr<A>(kind: &mut ExprKind<A>, number: usize) -> Option<&mut Expr<A>>
+    ensures* writes_back { sem 𝓛 (lends_expr_of_expr A.row kind.entry number result) }
+    ensures value { (m : A) → option_map (λ x. view.expr_of x.now) result
+        ≡ option_and_then pure.as_exp (pure.child_of
+        (pure.exp (view.expr_kind m kind.entry.now)) number) }
+{
+    let first = begin_of_arguments(kind);
+    match (kind, number) {
+        (ExprKind::Field(of, _), 0) => Some(&mut **of),
+        (ExprKind::Call(target, _, _), 0) => operand_mut(target),
+        (ExprKind::Call(_, _, args), _) => nth_expr(args, first, number),
+        (ExprKind::SuperCall(_, args), _) => nth_expr(args, 1, number),
+        (ExprKind::New(_, args), _) => nth_expr(args, 1, number),
+        (ExprKind::Paren(of), 0) => Some(&mut **of),
+        (ExprKind::Cast(_, of), 1) => Some(&mut **of),
+        (ExprKind::Unary(_, of), 0) => Some(&mut **of),
+        (ExprKind::Bump(_, of), 0) => Some(&mut **of),
+        (ExprKind::Binary(_, left, _), 0) => Some(&mut **left),
+        (ExprKind::Binary(_, _, right), 1) => Some(&mut **right),
+        (ExprKind::Assign(to, _), 0) => Some(&mut **to),
+        (ExprKind::Assign(_, value), 1) => Some(&mut **value),
+        (ExprKind::Compound(_, to, _), 0) => Some(&mut **to),
+        (ExprKind::Compound(_, _, value), 1) => Some(&mut **value),
+        (ExprKind::Int(_), _) => None,
+        (ExprKind::Bool(_), _) => None,
+        (ExprKind::Null, _) => None,
+        (ExprKind::Text(_), _) => None,
+        (ExprKind::Simple(_), _) => None,
+        (ExprKind::SuperField(_), _) => None,
+        (ExprKind::This, _) => None,
+        (ExprKind::ClassLit(_), _) => None,
+        (ExprKind::Field(_, _), _) => None,
+        (ExprKind::Paren(_), _) => None,
+        (ExprKind::Cast(_, _), _) => None,
+        (ExprKind::Unary(_, _), _) => None,
+        (ExprKind::Bump(_, _), _) => None,
+        (ExprKind::Binary(_, _, _), _) => None,
+        (ExprKind::Assign(_, _), _) => None,
+        (ExprKind::Compound(_, _, _), _) => None,
     }
 }
 
@@ -135,7 +133,7 @@ impl<A> ExprLevel<One> for A {
         if steps.len() != 1 {
             return None;
         }
-        kind.expr_mut(steps[0] as usize)
+        expr_of_expr(kind, steps[0] as usize)
     }
 }
 

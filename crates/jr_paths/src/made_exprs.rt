@@ -4,11 +4,8 @@ ghost use Rattle.std.specs.Result.{IfOk, IsOkAnd};
 ghost use Rattle.jr_ast.specs.Tree as tree;
 ghost use Rattle.jr_ast.specs.View.{word_of, type_of, expr_of, exprs_of, target_of};
 
-use jr_ast::Expr;
 use crate::made::Made;
-use jr_ast::{Ident, Name};
-use jr_ast::{BinOp, BumpOp, UnOp};
-use jr_ast::TypeRef;
+use jr_ast::{BinOp, BumpOp, Expr, Ident, Name, TypeRef, UnOp};
 use std::alloc::Global;
 
 /// In a box, at this type alone: at any type, each call of it would cost the check more.

@@ -4,11 +4,8 @@ ghost use Rattle.std.specs.Result.{IfOk, IsOkAnd};
 ghost use Rattle.jr_ast.specs.StatementTree as tree;
 ghost use Rattle.jr_ast.specs.View.{word_of, type_of, expr_of, else_of, stmt_of, stmts_of};
 
-use jr_ast::Expr;
 use crate::made::Made;
-use jr_ast::Ident;
-use jr_ast::TypeRef;
-use jr_ast::Stmt;
+use jr_ast::{Expr, Ident, Stmt, TypeRef};
 use std::alloc::Global;
 
 /// In a box, at this type alone: at any type, each call of it would cost the check more.

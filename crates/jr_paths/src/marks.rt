@@ -4,8 +4,7 @@ ghost use Rattle.std.specs.Fn.{FnReturnsAt};
 ghost use Rattle.jr_paths.specs.Same as same;
 ghost use Rattle.jr_ast.specs.View.{word_of, modifier_of, type_of, param_of};
 
-use jr_ast::{Ident, Name};
-use jr_ast::{Modifier, Param, TypeKind, TypeRef};
+use jr_ast::{Ident, Modifier, Name, Param, TypeKind, TypeRef};
 use std::alloc::{AllocError, Global};
 
 pub(crate) fn mark_by<B, A, F: Fn(&A) -> B>(mark: &A, f: &F) -> B

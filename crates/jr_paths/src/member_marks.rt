@@ -8,14 +8,10 @@ ghost use Rattle.jr_ast.specs.View.{word_of, modifier_of, type_of, param_of, exp
 ghost use Rattle.jr_ast.specs.View.{stmts_of, class_of, member_of, members_of, unit_of};
 
 use crate::expr_marks::{maybe_args, maybe_expr};
-use jr_ast::Expr;
 use crate::made::{Made, push_made};
 use crate::marks::{mark_by, maybe_ty, modifiers, params, ty, word, words};
-use jr_ast::{Class, Member, MemberKind, Unit};
-use jr_ast::Ident;
-use jr_ast::{Modifier, Param, TypeRef};
 use crate::stmt_marks::stmts;
-use jr_ast::Stmt;
+use jr_ast::{Class, Expr, Ident, Member, MemberKind, Modifier, Param, Stmt, TypeRef, Unit};
 use std::alloc::{AllocError, Global};
 
 /// In a box, at this type alone: at any type, each call of it would cost the check more.
@@ -272,20 +268,33 @@ fn unit<B: Drop, A, F: Fn(&A) -> B>(
     Ok(Unit::new(mark_by(&of.mark, f), path, all))
 }
 
-impl<A> Unit<A> {
+/// Trees that are copied with other marks.
+pub trait WithMarks<A>: Sized {
+    /// The tree that is copied.
+    ghost whole: { Self → tree.Unit A };
+
     /// The same tree but for its marks. Where `f` has one answer for each mark, a node's new mark
     /// is the answer for its old one.
     ///
     /// `Err` comes only where memory runs out.
-    pub fn with_marks<B: Drop, F: Fn(&A) -> B + Drop>(
+    fn with_marks<B: Drop, F: Fn(&A) -> B + Drop>(
         &self,
         alloc: Global,
         f: F,
     ) -> Result<Unit<B>, AllocError>
         requires { F.IsAlwaysCallable f }
         ensures { IfOk result (λ u. same.SameUnit (FnReturnsAt F.Fn f)
-            (unit_of self.now) (unit_of u)) }
-    {
+            (whole self.now) (unit_of u)) };
+}
+
+impl<A> WithMarks<A> for Unit<A> {
+    ghost whole = { unit_of };
+
+    fn with_marks<B: Drop, F: Fn(&A) -> B + Drop>(
+        &self,
+        alloc: Global,
+        f: F,
+    ) -> Result<Unit<B>, AllocError> {
         unit(alloc, self, &f)
     }
 }

@@ -4,8 +4,8 @@ ghost use Rattle.std.specs.Borrow.{sem};
 ghost use Rattle.jr_ast.specs.Nodes as pure;
 ghost use Rattle.jr_ast.specs.View as view;
 ghost use Rattle.jr_paths.specs.With.{get_from};
-ghost use Rattle.jr_paths.specs.MemberLent.{members_begin, init_begins, left_of, names_of, at_place};
-ghost use Rattle.jr_paths.specs.MemberLent.{body_place, args_place};
+ghost use Rattle.jr_paths.specs.MemberLent.{members_begin, init_begins, left_of, names_of};
+ghost use Rattle.jr_paths.specs.MemberLent.{at_place, body_place, args_place};
 ghost use Rattle.jr_paths.specs.MemberLent.{lends_member_among, lends_member_of_class};
 ghost use Rattle.jr_paths.specs.MemberLent.{lends_class_of_member, lends_class_among};
 ghost use Rattle.jr_paths.specs.MemberLent.{lends_class_of_unit};
@@ -14,12 +14,9 @@ ghost use Rattle.jr_paths.specs.MemberLent.{lends_stmt_of_member, lends_expr_of_
 ghost use Rattle.jr_paths.specs.MemberLent.{lends_below_class};
 
 use crate::expr_writes::nth_expr;
-use jr_ast::Expr;
-use jr_ast::{Class, Member, MemberKind, Unit};
-use jr_ast::TypeRef;
 use crate::reaches::{One, Twice};
 use crate::stmt_writes::{held_expr, nth_stmt};
-use jr_ast::Stmt;
+use jr_ast::{Class, Expr, Member, MemberKind, Stmt, TypeRef, Unit};
 
 /// The member of this number, where the first of the row has the number `first`.
 pub(crate) fn nth_member<A>(
@@ -121,142 +118,136 @@ fn init_mut<A>(init: &mut Option<Expr<A>>, first: usize, number: usize) -> Optio
     held_expr(init)
 }
 
-impl<A> Class<A> {
-    /// The number of the first member.
-    fn members_begin(&self) -> usize
-        ensures { result ≡ members_begin (view.class_of self.now) }
-    {
-        match &self.parent {
-            None => self.modifiers.len() + 1,
-            Some(_) => self.modifiers.len() + 2,
-        }
-    }
-
-    /// The member that is the child of this number, if it is one.
-    pub(crate) fn member_mut(&mut self, number: usize) -> Option<&mut Member<A>>
-        ensures* writes_back { sem 𝓛 (lends_member_of_class A.row self.entry number result) }
-        ensures value { option_map (λ x. view.member_of x.now) result
-            ≡ option_and_then pure.as_member
-            (pure.child_of (pure.class (view.class_of self.entry.now)) number) }
-    {
-        let first = self.members_begin();
-        nth_member(&mut self.members, first, number)
+/// The number of the first member.
+fn begin_of_members<A>(class: &Class<A>) -> usize
+    ensures { result ≡ members_begin (view.class_of class.now) }
+{
+    match &class.parent {
+        None => class.modifiers.len() + 1,
+        Some(_) => class.modifiers.len() + 2,
     }
 }
 
-impl<A> MemberKind<A> {
-    /// The class that this member is, if it is the child of this number.
-    pub(crate) fn inner_mut(&mut self, number: usize) -> Option<&mut Class<A>>
-        ensures* writes_back { sem 𝓛 (lends_class_of_member A.row self.entry number result) }
-        ensures value { (m : A) → option_map (λ x. view.class_of x.now) result
-            ≡ option_and_then pure.as_class
-            (pure.child_of (pure.member (view.member_kind m self.entry.now)) number) }
-    {
-        match (self, number) {
-            (MemberKind::Inner(class), 0) => Some(class),
-            (MemberKind::Field { .. }, _) => None,
-            (MemberKind::Method { .. }, _) => None,
-            (MemberKind::Ctor { .. }, _) => None,
-            (MemberKind::Inner(_), _) => None,
-        }
-    }
+/// The member that is the child of this number, if it is one.
+pub(crate) fn member_of_class<A>(class: &mut Class<A>, number: usize) -> Option<&mut Member<A>>
+    ensures* writes_back { sem 𝓛 (lends_member_of_class A.row class.entry number result) }
+    ensures value { option_map (λ x. view.member_of x.now) result
+        ≡ option_and_then pure.as_member
+        (pure.child_of (pure.class (view.class_of class.entry.now)) number) }
+{
+    let first = begin_of_members(class);
+    nth_member(&mut class.members, first, number)
+}
 
-    /// The number of a field's initial value.
-    #[tactic(auto, unfolding(jr_ast::specs::View::member_kind))]
-    fn init_begins(&self) -> usize
-        ensures { (m : A) → result ≡ init_begins (view.member_kind m self.now) }
-    {
-        match self {
-            MemberKind::Field { modifiers, .. } => modifiers.len() + 2,
-            MemberKind::Method { .. } | MemberKind::Ctor { .. } | MemberKind::Inner(_) => 0,
-        }
-    }
-
-    /// Which argument of a written `super(..)` has this number.
-    #[tactic(auto, unfolding(jr_ast::specs::View::member_kind))]
-    fn args_place(&self, number: usize) -> Option<usize>
-        ensures { (m : A) → result ≡ args_place (view.member_kind m self.now) number }
-    {
-        match self {
-            MemberKind::Ctor {
-                modifiers,
-                params,
-                ..
-            } => left_after(
-                left_after(left_after(Some(number), modifiers.len()), 1),
-                params.len(),
-            ),
-            MemberKind::Field { .. } | MemberKind::Method { .. } | MemberKind::Inner(_) => None,
-        }
-    }
-
-    /// Which statement of a body has this number.
-    #[tactic(auto, unfolding(jr_ast::specs::View::member_kind))]
-    fn body_place(&self, number: usize) -> Option<usize>
-        ensures { (m : A) → result ≡ body_place (view.member_kind m self.now) number }
-    {
-        match self {
-            MemberKind::Method {
-                modifiers,
-                ret,
-                params,
-                ..
-            } => left_after(
-                left_after(left_after(Some(number), modifiers.len()), names(ret)),
-                params.len(),
-            ),
-            MemberKind::Ctor { parent_args, .. } => {
-                left_after(self.args_place(number), argument_count(parent_args))
-            }
-            MemberKind::Field { .. } | MemberKind::Inner(_) => None,
-        }
-    }
-
-    /// The statement that is the child of this number, if it is one.
-    pub(crate) fn stmt_mut(&mut self, number: usize) -> Option<&mut Stmt<A>>
-        ensures* writes_back { sem 𝓛 (lends_stmt_of_member A.row self.entry number result) }
-        ensures value { (m : A) → option_map (λ x. view.stmt_of x.now) result
-            ≡ option_and_then pure.as_stmt
-            (pure.child_of (pure.member (view.member_kind m self.entry.now)) number) }
-    {
-        let left = self.body_place(number);
-        match self {
-            MemberKind::Method { body, .. } => stmt_left(body, left),
-            MemberKind::Ctor { body, .. } => stmt_left(body, left),
-            MemberKind::Field { .. } => None,
-            MemberKind::Inner(_) => None,
-        }
-    }
-
-    /// The expression that is the child of this number, if it is one.
-    pub(crate) fn expr_mut(&mut self, number: usize) -> Option<&mut Expr<A>>
-        ensures* writes_back { sem 𝓛 (lends_expr_of_member A.row self.entry number result) }
-        ensures value { (m : A) → option_map (λ x. view.expr_of x.now) result
-            ≡ option_and_then pure.as_exp (pure.child_of
-            (pure.member (view.member_kind m self.entry.now)) number) }
-    {
-        let first = self.init_begins();
-        let left = self.args_place(number);
-        match self {
-            MemberKind::Field { init, .. } => init_mut(init, first, number),
-            MemberKind::Ctor { parent_args, .. } => arg_left(parent_args, left),
-            MemberKind::Method { .. } => None,
-            MemberKind::Inner(_) => None,
-        }
+/// The class that this member is, if it is the child of this number.
+pub(crate) fn class_of_member<A>(kind: &mut MemberKind<A>, number: usize) -> Option<&mut Class<A>>
+    ensures* writes_back { sem 𝓛 (lends_class_of_member A.row kind.entry number result) }
+    ensures value { (m : A) → option_map (λ x. view.class_of x.now) result
+        ≡ option_and_then pure.as_class
+        (pure.child_of (pure.member (view.member_kind m kind.entry.now)) number) }
+{
+    match (kind, number) {
+        (MemberKind::Inner(class), 0) => Some(class),
+        (MemberKind::Field { .. }, _) => None,
+        (MemberKind::Method { .. }, _) => None,
+        (MemberKind::Ctor { .. }, _) => None,
+        (MemberKind::Inner(_), _) => None,
     }
 }
 
-impl<A> Unit<A> {
-    /// The class that is the child of this number, if it is one.
-    pub(crate) fn class_mut(&mut self, number: usize) -> Option<&mut Class<A>>
-        ensures* writes_back { sem 𝓛 (lends_class_of_unit A.row self.entry number result) }
-        ensures value { option_map (λ x. view.class_of x.now) result
-            ≡ option_and_then pure.as_class
-            (pure.child_of (pure.unit (view.unit_of self.entry.now)) number) }
-    {
-        let first = self.package.len();
-        nth_class(&mut self.classes, first, number)
+/// The number of a field's initial value.
+#[tactic(auto, unfolding(jr_ast::specs::View::member_kind))]
+fn begin_of_init<A>(kind: &MemberKind<A>) -> usize
+    ensures { (m : A) → result ≡ init_begins (view.member_kind m kind.now) }
+{
+    match kind {
+        MemberKind::Field { modifiers, .. } => modifiers.len() + 2,
+        MemberKind::Method { .. } | MemberKind::Ctor { .. } | MemberKind::Inner(_) => 0,
     }
+}
+
+/// Which argument of a written `super(..)` has this number.
+#[tactic(auto, unfolding(jr_ast::specs::View::member_kind))]
+fn place_in_args<A>(kind: &MemberKind<A>, number: usize) -> Option<usize>
+    ensures { (m : A) → result ≡ args_place (view.member_kind m kind.now) number }
+{
+    match kind {
+        MemberKind::Ctor {
+            modifiers,
+            params,
+            ..
+        } => left_after(
+            left_after(left_after(Some(number), modifiers.len()), 1),
+            params.len(),
+        ),
+        MemberKind::Field { .. } | MemberKind::Method { .. } | MemberKind::Inner(_) => None,
+    }
+}
+
+/// Which statement of a body has this number.
+#[tactic(auto, unfolding(jr_ast::specs::View::member_kind))]
+fn place_in_body<A>(kind: &MemberKind<A>, number: usize) -> Option<usize>
+    ensures { (m : A) → result ≡ body_place (view.member_kind m kind.now) number }
+{
+    match kind {
+        MemberKind::Method {
+            modifiers,
+            ret,
+            params,
+            ..
+        } => left_after(
+            left_after(left_after(Some(number), modifiers.len()), names(ret)),
+            params.len(),
+        ),
+        MemberKind::Ctor { parent_args, .. } => {
+            left_after(place_in_args(kind, number), argument_count(parent_args))
+        }
+        MemberKind::Field { .. } | MemberKind::Inner(_) => None,
+    }
+}
+
+/// The statement that is the child of this number, if it is one.
+pub(crate) fn stmt_of_member<A>(kind: &mut MemberKind<A>, number: usize) -> Option<&mut Stmt<A>>
+    ensures* writes_back { sem 𝓛 (lends_stmt_of_member A.row kind.entry number result) }
+    ensures value { (m : A) → option_map (λ x. view.stmt_of x.now) result
+        ≡ option_and_then pure.as_stmt
+        (pure.child_of (pure.member (view.member_kind m kind.entry.now)) number) }
+{
+    let left = place_in_body(kind, number);
+    match kind {
+        MemberKind::Method { body, .. } => stmt_left(body, left),
+        MemberKind::Ctor { body, .. } => stmt_left(body, left),
+        MemberKind::Field { .. } => None,
+        MemberKind::Inner(_) => None,
+    }
+}
+
+/// The expression that is the child of this number, if it is one.
+pub(crate) fn expr_of_member<A>(kind: &mut MemberKind<A>, number: usize) -> Option<&mut Expr<A>>
+    ensures* writes_back { sem 𝓛 (lends_expr_of_member A.row kind.entry number result) }
+    ensures value { (m : A) → option_map (λ x. view.expr_of x.now) result
+        ≡ option_and_then pure.as_exp (pure.child_of
+        (pure.member (view.member_kind m kind.entry.now)) number) }
+{
+    let first = begin_of_init(kind);
+    let left = place_in_args(kind, number);
+    match kind {
+        MemberKind::Field { init, .. } => init_mut(init, first, number),
+        MemberKind::Ctor { parent_args, .. } => arg_left(parent_args, left),
+        MemberKind::Method { .. } => None,
+        MemberKind::Inner(_) => None,
+    }
+}
+
+/// The class that is the child of this number, if it is one.
+pub(crate) fn class_of_unit<A>(unit: &mut Unit<A>, number: usize) -> Option<&mut Class<A>>
+    ensures* writes_back { sem 𝓛 (lends_class_of_unit A.row unit.entry number result) }
+    ensures value { option_map (λ x. view.class_of x.now) result
+        ≡ option_and_then pure.as_class
+        (pure.child_of (pure.unit (view.unit_of unit.entry.now)) number) }
+{
+    let first = unit.package.len();
+    nth_class(&mut unit.classes, first, number)
 }
 
 /// A way down from a class to a member below it, in trees with marks of this type.
@@ -283,7 +274,7 @@ impl<A> ClassLevel<One> for A {
         if steps.len() != 1 {
             return None;
         }
-        class.member_mut(steps[0] as usize)
+        member_of_class(class, steps[0] as usize)
     }
 }
 
@@ -299,7 +290,7 @@ impl<A: ClassLevel<L>, L> ClassLevel<Twice<L>> for A {
             return <A as ClassLevel<L>>::below(class, steps);
         }
         let member = <A as ClassLevel<L>>::below(class, &steps[..2 * upper - 1])?;
-        let inner = member.kind.inner_mut(steps[2 * upper - 1] as usize)?;
+        let inner = class_of_member(&mut member.kind, steps[2 * upper - 1] as usize)?;
         <A as ClassLevel<L>>::below(inner, &steps[2 * upper..])
     }
 }

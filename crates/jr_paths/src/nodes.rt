@@ -6,12 +6,7 @@ ghost use Rattle.jr_ast.specs.View.{expr_of, stmt_of, member_of};
 ghost use Rattle.jr_paths.specs.NodeView.{node_of};
 
 use crate::children;
-use jr_ast::Expr;
-use jr_ast::{Class, Member, Unit};
-use jr_ast::Ident;
-use jr_ast::{Modifier, Param, TypeRef};
-use jr_ast::Path;
-use jr_ast::Stmt;
+use jr_ast::{Class, Expr, Ident, Member, Modifier, Param, Path, Stmt, TypeRef, Unit};
 
 /// A reference to a node of a tree: a part that has a mark. Its children are its parts that have
 /// a mark, numbered from 0 in the order of the text.

@@ -7,12 +7,8 @@ ghost use Rattle.jr_ast.specs.View.{members_of, class_of};
 ghost use Rattle.jr_paths.specs.NodeView.{node_of};
 ghost use Rattle.jr_paths.specs.Seeks.{sought};
 
-use jr_ast::Expr;
-use jr_ast::{Class, Member};
-use jr_ast::Ident;
 use crate::nodes::Node;
-use jr_ast::{Modifier, Param, TypeRef};
-use jr_ast::Stmt;
+use jr_ast::{Class, Expr, Ident, Member, Modifier, Param, Stmt, TypeRef};
 
 /// The child is found, or as many parts are still to be passed over.
 pub(crate) enum Seek<'a, A> {

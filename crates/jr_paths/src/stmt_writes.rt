@@ -8,9 +8,8 @@ ghost use Rattle.jr_paths.specs.With.{get_from};
 ghost use Rattle.jr_paths.specs.StmtLent.{lends_stmt_among, lends_held_stmt, lends_held_expr};
 ghost use Rattle.jr_paths.specs.StmtLent.{lends_stmt_of_stmt, lends_expr_of_stmt, lends_below_stmt};
 
-use jr_ast::Expr;
 use crate::reaches::{One, Twice};
-use jr_ast::{Stmt, StmtKind};
+use jr_ast::{Expr, Stmt, StmtKind};
 
 /// The statement of this number, where the first of the row has the number `first`.
 pub(crate) fn nth_stmt<A>(
@@ -50,52 +49,50 @@ pub(crate) fn held_expr<A>(of: &mut Option<Expr<A>>) -> Option<&mut Expr<A>>
     }
 }
 
-impl<A> StmtKind<A> {
-    /// The statement that is the child of this number, if it is one.
-    pub(crate) fn stmt_mut(&mut self, number: usize) -> Option<&mut Stmt<A>>
-        ensures* writes_back { sem 𝓛 (lends_stmt_of_stmt A.row self.entry number result) }
-        ensures value { (m : A) → option_map (λ x. view.stmt_of x.now) result
-            ≡ option_and_then pure.as_stmt
-            (pure.child_of (pure.stmt (view.stmt_kind m self.entry.now)) number) }
-    {
-        match (self, number) {
-            (StmtKind::If(_, yes, _), 1) => Some(&mut **yes),
-            (StmtKind::If(_, _, no), 2) => held_stmt(no),
-            (StmtKind::While(_, body), 1) => Some(&mut **body),
-            (StmtKind::Block(body), _) => nth_stmt(body, 0, number),
-            (StmtKind::Sync(_, body), _) => nth_stmt(body, 1, number),
-            (StmtKind::If(_, _, _), _) => None,
-            (StmtKind::While(_, _), _) => None,
-            (StmtKind::Local { .. }, _) => None,
-            (StmtKind::Eval(_), _) => None,
-            (StmtKind::Return(_), _) => None,
-            (StmtKind::Empty, _) => None,
-        }
+/// The statement that is the child of this number, if it is one.
+pub(crate) fn stmt_of_stmt<A>(kind: &mut StmtKind<A>, number: usize) -> Option<&mut Stmt<A>>
+    ensures* writes_back { sem 𝓛 (lends_stmt_of_stmt A.row kind.entry number result) }
+    ensures value { (m : A) → option_map (λ x. view.stmt_of x.now) result
+        ≡ option_and_then pure.as_stmt
+        (pure.child_of (pure.stmt (view.stmt_kind m kind.entry.now)) number) }
+{
+    match (kind, number) {
+        (StmtKind::If(_, yes, _), 1) => Some(&mut **yes),
+        (StmtKind::If(_, _, no), 2) => held_stmt(no),
+        (StmtKind::While(_, body), 1) => Some(&mut **body),
+        (StmtKind::Block(body), _) => nth_stmt(body, 0, number),
+        (StmtKind::Sync(_, body), _) => nth_stmt(body, 1, number),
+        (StmtKind::If(_, _, _), _) => None,
+        (StmtKind::While(_, _), _) => None,
+        (StmtKind::Local { .. }, _) => None,
+        (StmtKind::Eval(_), _) => None,
+        (StmtKind::Return(_), _) => None,
+        (StmtKind::Empty, _) => None,
     }
+}
 
-    /// The expression that is the child of this number, if it is one.
-    pub(crate) fn expr_mut(&mut self, number: usize) -> Option<&mut Expr<A>>
-        ensures* writes_back { sem 𝓛 (lends_expr_of_stmt A.row self.entry number result) }
-        ensures value { (m : A) → option_map (λ x. view.expr_of x.now) result
-            ≡ option_and_then pure.as_exp (pure.child_of
-            (pure.stmt (view.stmt_kind m self.entry.now)) number) }
-    {
-        match (self, number) {
-            (StmtKind::Local { init, .. }, 2) => Some(init),
-            (StmtKind::Eval(of), 0) => Some(of),
-            (StmtKind::If(condition, _, _), 0) => Some(condition),
-            (StmtKind::While(condition, _), 0) => Some(condition),
-            (StmtKind::Return(value), 0) => held_expr(value),
-            (StmtKind::Sync(lock, _), 0) => Some(lock),
-            (StmtKind::Local { .. }, _) => None,
-            (StmtKind::Eval(_), _) => None,
-            (StmtKind::If(_, _, _), _) => None,
-            (StmtKind::While(_, _), _) => None,
-            (StmtKind::Return(_), _) => None,
-            (StmtKind::Sync(_, _), _) => None,
-            (StmtKind::Block(_), _) => None,
-            (StmtKind::Empty, _) => None,
-        }
+/// The expression that is the child of this number, if it is one.
+pub(crate) fn expr_of_stmt<A>(kind: &mut StmtKind<A>, number: usize) -> Option<&mut Expr<A>>
+    ensures* writes_back { sem 𝓛 (lends_expr_of_stmt A.row kind.entry number result) }
+    ensures value { (m : A) → option_map (λ x. view.expr_of x.now) result
+        ≡ option_and_then pure.as_exp (pure.child_of
+        (pure.stmt (view.stmt_kind m kind.entry.now)) number) }
+{
+    match (kind, number) {
+        (StmtKind::Local { init, .. }, 2) => Some(init),
+        (StmtKind::Eval(of), 0) => Some(of),
+        (StmtKind::If(condition, _, _), 0) => Some(condition),
+        (StmtKind::While(condition, _), 0) => Some(condition),
+        (StmtKind::Return(value), 0) => held_expr(value),
+        (StmtKind::Sync(lock, _), 0) => Some(lock),
+        (StmtKind::Local { .. }, _) => None,
+        (StmtKind::Eval(_), _) => None,
+        (StmtKind::If(_, _, _), _) => None,
+        (StmtKind::While(_, _), _) => None,
+        (StmtKind::Return(_), _) => None,
+        (StmtKind::Sync(_, _), _) => None,
+        (StmtKind::Block(_), _) => None,
+        (StmtKind::Empty, _) => None,
     }
 }
 
@@ -122,7 +119,7 @@ impl<A> StmtLevel<One> for A {
         if steps.len() != 1 {
             return None;
         }
-        kind.stmt_mut(steps[0] as usize)
+        stmt_of_stmt(kind, steps[0] as usize)
     }
 }
 

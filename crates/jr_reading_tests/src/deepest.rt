@@ -2,6 +2,7 @@
 use crate::paths::{copy_unit, stmt_mark, write_stmt};
 use crate::trees::{Numbered, body_of, boxed_stmt, unit_of};
 use jr_ast::{Expr, Path, Stmt};
+use jr_paths::PathReads;
 use std::alloc::Global;
 use std::process::Abort;
 

@@ -3,6 +3,7 @@ use crate::deepest::{around, branches};
 use crate::samples::{call, sum};
 use crate::trees::{Numbered, boxed_stmt, put_stmt, unit_of, word};
 use jr_ast::{Expr, Stmt, TypeKind, TypeRef, Unit};
+use jr_paths::WithMarks;
 use std::alloc::Global;
 use std::cell::Cell;
 use std::process::Abort;

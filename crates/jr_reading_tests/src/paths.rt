@@ -2,7 +2,8 @@
 use crate::rows::{assert_same, cut_at, number};
 use crate::samples::{method, unit};
 use crate::trees::{Numbered, unit_of};
-use jr_ast::{Expr, Member, Node, Path, Stmt, Unit};
+use jr_ast::{Expr, Member, Path, Stmt, Unit};
+use jr_paths::{Node, PathReads, PathWrites, WithMarks};
 use std::alloc::Global;
 use std::process::Abort;
 

@@ -2,7 +2,7 @@ use Rattle.std.proofs.Common.{ap, sym, ◌∙◌}
 use Rattle.std.proofs.lemmas.Result.{IfOk-weaker}
 use Rattle.jr_ast.specs.Tree as tree
 use Rattle.jr_ast.specs.View.{expr_of, exprs_of, target_of, expr_kind, expr_row, held_target}
-use Rattle.jr_ast.specs.Remarked as same
+use Rattle.jr_paths.specs.Same as same
 use Rattle.jr_ast.proofs.Rows.{expr_kind-Call_to, expr_kind-SuperCall, expr_kind-New}
 use Rattle.jr_ast.proofs.Sizes.{exp_size, exps_size, target_size}
 use Rattle.jr_paths.proofs.MadeOf.{with_part, one_more_made}

@@ -1,6 +1,6 @@
 use Rattle.std.proofs.Common.{Some, option_map, ap, sym, ◌∙◌}
 use Rattle.jr_ast.specs.View.{exprs_of, args_of}
-use Rattle.jr_ast.specs.Remarked as same
+use Rattle.jr_paths.specs.Same as same
 use Rattle.jr_paths.proofs.expr_marks.maybe_args.Goals as goal
 
 pub returns-in-None : goal.returns-in-None

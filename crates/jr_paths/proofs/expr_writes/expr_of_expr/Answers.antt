@@ -7,13 +7,13 @@ use Rattle.jr_ast.specs.declared.exprs.ExprKind as expr
 use Rattle.jr_ast.specs.contracts.exprs.ExprKind.{enum}
 use Rattle.jr_paths.proofs.Lending.{on_some_also, known, given, picked}
 use Rattle.jr_paths.proofs.ExprWrites as writes
-use Rattle.jr_ast.proofs.exprs.ExprKind.expr_mut.Goals as goal
+use Rattle.jr_paths.proofs.expr_writes.expr_of_expr.Goals as goal
 
 pub returns-in-Field-eq0 : goal.returns-in-Field-eq0
 returns-in-Field-eq0 g c =
     let E = enum (param 0 g.row.A) in
     let I = c.in-Field-eq0 in
-    let self = c.args.self.now in
+    let self = c.args.kind.now in
     let number = c.args.number in
     let fields : ValuesAt E.parts 5 = (I.of, (I.field-1-0, tt)) in (
       (
@@ -34,7 +34,7 @@ pub returns-in-Call-eq0 : goal.returns-in-Call-eq0
 returns-in-Call-eq0 g c =
     let E = enum (param 0 g.row.A) in
     let I = c.in-Call-eq0 in
-    let self = c.args.self.now in
+    let self = c.args.kind.now in
     let number = c.args.number in
     let fields : ValuesAt E.parts 9 = (I.target, (I.field-1-0, (I.field-2-0, tt))) in (
       (
@@ -58,11 +58,11 @@ pub returns-in-Call-default : goal.returns-in-Call-default
 returns-in-Call-default g c =
     let E = enum (param 0 g.row.A) in
     let I = c.in-Call-default in
-    let self = c.args.self.now in
+    let self = c.args.kind.now in
     let number = c.args.number in
     let fields : ValuesAt E.parts 9 = (I.field-0-0, (I.field-1-0, (I.args, tt))) in
-    let first = c.arguments_begin-first.result in
-    let begins : (m : g.row.A.Denot) → first ≡ arguments_begin (view.expr_kind m (expr.Call I.field-0-0 I.field-1-0 I.args)) = λ m. c.arguments_begin-first.ensures m ∙ ap (λ s. arguments_begin (view.expr_kind m s)) I.is-0 in (
+    let first = c.begin_of_arguments-first.result in
+    let begins : (m : g.row.A.Denot) → first ≡ arguments_begin (view.expr_kind m (expr.Call I.field-0-0 I.field-1-0 I.args)) = λ m. c.begin_of_arguments-first.ensures m ∙ ap (λ s. arguments_begin (view.expr_kind m s)) I.is-0 in (
       (
         refl,
         λ w. on_some_also c.nth_expr.result (c.nth_expr.follows.holds w)
@@ -84,7 +84,7 @@ pub returns-in-SuperCall-default : goal.returns-in-SuperCall-default
 returns-in-SuperCall-default g c =
     let E = enum (param 0 g.row.A) in
     let I = c.in-SuperCall-default in
-    let self = c.args.self.now in
+    let self = c.args.kind.now in
     let number = c.args.number in
     let fields : ValuesAt E.parts 10 = (I.field-0-0, (I.args, tt)) in (
       (
@@ -108,7 +108,7 @@ pub returns-in-New-default : goal.returns-in-New-default
 returns-in-New-default g c =
     let E = enum (param 0 g.row.A) in
     let I = c.in-New-default in
-    let self = c.args.self.now in
+    let self = c.args.kind.now in
     let number = c.args.number in
     let fields : ValuesAt E.parts 11 = (I.field-0-0, (I.args, tt)) in (
       (
@@ -132,7 +132,7 @@ pub returns-in-Paren-eq0 : goal.returns-in-Paren-eq0
 returns-in-Paren-eq0 g c =
     let E = enum (param 0 g.row.A) in
     let I = c.in-Paren-eq0 in
-    let self = c.args.self.now in
+    let self = c.args.kind.now in
     let number = c.args.number in
     let fields : ValuesAt E.parts 12 = (I.of, tt) in (
       (
@@ -153,7 +153,7 @@ pub returns-in-Cast-eq1 : goal.returns-in-Cast-eq1
 returns-in-Cast-eq1 g c =
     let E = enum (param 0 g.row.A) in
     let I = c.in-Cast-eq1 in
-    let self = c.args.self.now in
+    let self = c.args.kind.now in
     let number = c.args.number in
     let fields : ValuesAt E.parts 13 = (I.field-0-0, (I.of, tt)) in (
       (
@@ -174,7 +174,7 @@ pub returns-in-Unary-eq0 : goal.returns-in-Unary-eq0
 returns-in-Unary-eq0 g c =
     let E = enum (param 0 g.row.A) in
     let I = c.in-Unary-eq0 in
-    let self = c.args.self.now in
+    let self = c.args.kind.now in
     let number = c.args.number in
     let fields : ValuesAt E.parts 14 = (I.field-0-0, (I.of, tt)) in (
       (
@@ -195,7 +195,7 @@ pub returns-in-Bump-eq0 : goal.returns-in-Bump-eq0
 returns-in-Bump-eq0 g c =
     let E = enum (param 0 g.row.A) in
     let I = c.in-Bump-eq0 in
-    let self = c.args.self.now in
+    let self = c.args.kind.now in
     let number = c.args.number in
     let fields : ValuesAt E.parts 15 = (I.field-0-0, (I.of, tt)) in (
       (
@@ -216,7 +216,7 @@ pub returns-in-Binary-eq0 : goal.returns-in-Binary-eq0
 returns-in-Binary-eq0 g c =
     let E = enum (param 0 g.row.A) in
     let I = c.in-Binary-eq0 in
-    let self = c.args.self.now in
+    let self = c.args.kind.now in
     let number = c.args.number in
     let fields : ValuesAt E.parts 16 = (I.field-0-0, (I.left, (I.field-2-0, tt))) in (
       (
@@ -237,7 +237,7 @@ pub returns-in-Binary-eq1 : goal.returns-in-Binary-eq1
 returns-in-Binary-eq1 g c =
     let E = enum (param 0 g.row.A) in
     let I = c.in-Binary-eq1 in
-    let self = c.args.self.now in
+    let self = c.args.kind.now in
     let number = c.args.number in
     let fields : ValuesAt E.parts 16 = (I.field-0-0, (I.field-1-0, (I.right, tt))) in (
       (
@@ -258,7 +258,7 @@ pub returns-in-Assign-eq0 : goal.returns-in-Assign-eq0
 returns-in-Assign-eq0 g c =
     let E = enum (param 0 g.row.A) in
     let I = c.in-Assign-eq0 in
-    let self = c.args.self.now in
+    let self = c.args.kind.now in
     let number = c.args.number in
     let fields : ValuesAt E.parts 17 = (I.to, (I.field-1-0, tt)) in (
       (
@@ -279,7 +279,7 @@ pub returns-in-Assign-eq1 : goal.returns-in-Assign-eq1
 returns-in-Assign-eq1 g c =
     let E = enum (param 0 g.row.A) in
     let I = c.in-Assign-eq1 in
-    let self = c.args.self.now in
+    let self = c.args.kind.now in
     let number = c.args.number in
     let fields : ValuesAt E.parts 17 = (I.field-0-0, (I.value, tt)) in (
       (
@@ -300,7 +300,7 @@ pub returns-in-Compound-eq0 : goal.returns-in-Compound-eq0
 returns-in-Compound-eq0 g c =
     let E = enum (param 0 g.row.A) in
     let I = c.in-Compound-eq0 in
-    let self = c.args.self.now in
+    let self = c.args.kind.now in
     let number = c.args.number in
     let fields : ValuesAt E.parts 18 = (I.field-0-0, (I.to, (I.field-2-0, tt))) in (
       (
@@ -321,7 +321,7 @@ pub returns-in-Compound-eq1 : goal.returns-in-Compound-eq1
 returns-in-Compound-eq1 g c =
     let E = enum (param 0 g.row.A) in
     let I = c.in-Compound-eq1 in
-    let self = c.args.self.now in
+    let self = c.args.kind.now in
     let number = c.args.number in
     let fields : ValuesAt E.parts 18 = (I.field-0-0, (I.field-1-0, (I.value, tt))) in (
       (

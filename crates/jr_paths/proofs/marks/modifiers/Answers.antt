@@ -1,5 +1,5 @@
 use Rattle.jr_ast.specs.View.{modifier_of}
-use Rattle.jr_ast.specs.Remarked as same
+use Rattle.jr_paths.specs.Same as same
 use Rattle.jr_paths.proofs.Marking.{none_yet, one_more, all_done, same_maps}
 use Rattle.jr_paths.proofs.marks.modifiers.Goals as goal
 

@@ -2,7 +2,7 @@ use Rattle.std.proofs.Common.{ap, sym, ◌∙◌, None, Some}
 use Rattle.jr_ast.specs.declared.parts.TypeKind.TheVariants.{Named}
 use Rattle.jr_ast.specs.Tree as tree
 use Rattle.jr_ast.specs.View.{type_kind}
-use Rattle.jr_ast.specs.Remarked as same
+use Rattle.jr_paths.specs.Same as same
 use Rattle.jr_paths.proofs.Marking.{mark_agrees}
 use Rattle.jr_paths.proofs.marks.ty.Goals as goal
 

@@ -5,7 +5,7 @@ use Rattle.std.specs.Fn.{FnReturnsAt}
 use Rattle.jr_ast.specs.declared.members.Class.{out-Class}
 use Rattle.jr_ast.specs.MemberTree as tree
 use Rattle.jr_ast.specs.View.{word_of, type_of, expr_of, args_of, modifier_of, param_of, stmts_of, member_of, members_of, member_kind, member_row, class_of}
-use Rattle.jr_ast.specs.Remarked as same
+use Rattle.jr_paths.specs.Same as same
 use Rattle.jr_ast.proofs.Rows.{class_of-out}
 use Rattle.jr_ast.proofs.Sizes.{member_size, members_size, class_size}
 use Rattle.jr_paths.proofs.MadeOf.{one_more_made}

@@ -1,7 +1,7 @@
 use Rattle.std.proofs.Common.{◌+◌, ◌*◌, ◌≡◌, take, map, Option}
 use Rattle.std.specs.Fn.{FnReturnsAt}
 use Rattle.jr_ast.specs.View.{class_of, member_of, members_of}
-use Rattle.jr_ast.specs.Remarked as same
+use Rattle.jr_paths.specs.Same as same
 use Rattle.jr_ast.proofs.Sizes.{member_size, class_size, members_size}
 use Rattle.jr_paths.proofs.member_marks.+member_marks.Given as goal
 

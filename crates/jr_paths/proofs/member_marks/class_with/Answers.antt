@@ -1,7 +1,7 @@
 use Rattle.std.proofs.Common.{map, ap, sym, ◌∙◌}
 use Rattle.jr_ast.specs.MemberTree as tree
 use Rattle.jr_ast.specs.View.{class_of, modifier_of}
-use Rattle.jr_ast.specs.Remarked as same
+use Rattle.jr_paths.specs.Same as same
 use Rattle.jr_paths.proofs.Marking.{mark_agrees}
 use Rattle.std.proofs.lemmas.Result.{IfOk-at_ok}
 use Rattle.jr_ast.proofs.Rows.{class_of-out}

@@ -1,6 +1,6 @@
 use Rattle.std.proofs.lemmas.Result.{IfOk-weaker}
 use Rattle.jr_ast.specs.View.{class_of}
-use Rattle.jr_ast.specs.Remarked as same
+use Rattle.jr_paths.specs.Same as same
 use Rattle.jr_paths.proofs.MadeOf.{one_more_made}
 use Rattle.jr_paths.proofs.Marking.{none_yet, all_done, same_maps}
 use Rattle.jr_paths.proofs.member_marks.classes.Goals as goal

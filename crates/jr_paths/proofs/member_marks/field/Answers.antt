@@ -2,7 +2,7 @@ use Rattle.std.proofs.Common.{ap, sym, ◌∙◌, Some, option_map}
 use Rattle.std.proofs.lemmas.Result.{IfOk-weaker}
 use Rattle.jr_ast.specs.MemberTree as tree
 use Rattle.jr_ast.specs.View.{member_of, expr_of}
-use Rattle.jr_ast.specs.Remarked as same
+use Rattle.jr_paths.specs.Same as same
 use Rattle.jr_paths.proofs.Marking.{mark_agrees}
 use Rattle.jr_paths.proofs.member_marks.field.Goals as goal
 

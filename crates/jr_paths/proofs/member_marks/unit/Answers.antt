@@ -1,6 +1,6 @@
 use Rattle.std.proofs.Common.{map, ap, ◌∙◌}
 use Rattle.jr_ast.specs.View.{word_of, class_of}
-use Rattle.jr_ast.specs.Remarked as same
+use Rattle.jr_paths.specs.Same as same
 use Rattle.jr_paths.proofs.Marking.{mark_agrees}
 use Rattle.jr_paths.proofs.member_marks.unit.Goals as goal
 

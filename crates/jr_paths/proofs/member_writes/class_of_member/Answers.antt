@@ -7,13 +7,13 @@ use Rattle.jr_ast.specs.contracts.members.MemberKind.{enum}
 use Rattle.jr_paths.proofs.Lending.{known, given, picked}
 use Rattle.jr_paths.proofs.MemberWrites as writes
 use Rattle.jr_paths.specs.With.{member_with_class}
-use Rattle.jr_ast.proofs.members.MemberKind.inner_mut.Goals as goal
+use Rattle.jr_paths.proofs.member_writes.class_of_member.Goals as goal
 
 pub returns-in-Inner-eq0 : goal.returns-in-Inner-eq0
 returns-in-Inner-eq0 g c =
     let E = enum (param 0 g.row.A) in
     let I = c.in-Inner-eq0 in
-    let self = c.args.self.now in
+    let self = c.args.kind.now in
     let number = c.args.number in
     let fields : ValuesAt E.parts 3 = (I.class, tt) in (
       (

@@ -1,11 +1,11 @@
 use Rattle.std.proofs.Common.{refl, ◌∙◌}
 use Rattle.jr_paths.proofs.Lending.{on_some_also}
 use Rattle.jr_paths.proofs.MemberWrites.{unit_write, unit_same, unit_get}
-use Rattle.jr_ast.proofs.members.Unit.class_mut.Goals as goal
+use Rattle.jr_paths.proofs.member_writes.class_of_unit.Goals as goal
 
 pub returns : goal.returns
 returns g c =
-    let u = c.args.self.now in
+    let u = c.args.unit.now in
     let first = c.len-first.result in
     let number = c.args.number in
     let counted = c.len-first.ensures in (

@@ -9,16 +9,16 @@ use Rattle.jr_paths.proofs.Lending.{on_some_also, known, given, picked}
 use Rattle.jr_paths.proofs.MemberWrites as writes
 use Rattle.jr_paths.specs.With.{get_from, with_maybe, member_with_exp}
 use Rattle.jr_paths.specs.MemberLent.{at_place, args_place, init_begins, with_arg_left}
-use Rattle.jr_ast.proofs.members.MemberKind.expr_mut.Goals as goal
+use Rattle.jr_paths.proofs.member_writes.expr_of_member.Goals as goal
 
 pub returns-in-Field : goal.returns-in-Field
 returns-in-Field g c =
     let E = enum (param 0 g.row.A) in
     let I = c.in-Field in
-    let self = c.args.self.now in
+    let self = c.args.kind.now in
     let number = c.args.number in
-    let place = c.init_begins-first.result in
-    let placed : (m : g.row.A.Denot) → place ≡ init_begins (view.member_kind m (kind.Field I.modifiers I.ty I.name I.init)) = λ m. c.init_begins-first.ensures m ∙ ap (λ s. init_begins (view.member_kind m s)) I.is in
+    let place = c.begin_of_init-first.result in
+    let placed : (m : g.row.A.Denot) → place ≡ init_begins (view.member_kind m (kind.Field I.modifiers I.ty I.name I.init)) = λ m. c.begin_of_init-first.ensures m ∙ ap (λ s. init_begins (view.member_kind m s)) I.is in
     let fields : ValuesAt E.parts 0 = (I.modifiers, (I.ty, (I.name, (I.init, tt)))) in (
       (
         refl,
@@ -41,10 +41,10 @@ pub returns-in-Ctor : goal.returns-in-Ctor
 returns-in-Ctor g c =
     let E = enum (param 0 g.row.A) in
     let I = c.in-Ctor in
-    let self = c.args.self.now in
+    let self = c.args.kind.now in
     let number = c.args.number in
-    let place = c.args_place-left.result in
-    let placed : (m : g.row.A.Denot) → place ≡ args_place (view.member_kind m (kind.Ctor I.modifiers I.name I.params I.parent_args I.body)) number = λ m. c.args_place-left.ensures m ∙ ap (λ s. args_place (view.member_kind m s) number) I.is in
+    let place = c.place_in_args-left.result in
+    let placed : (m : g.row.A.Denot) → place ≡ args_place (view.member_kind m (kind.Ctor I.modifiers I.name I.params I.parent_args I.body)) number = λ m. c.place_in_args-left.ensures m ∙ ap (λ s. args_place (view.member_kind m s) number) I.is in
     let fields : ValuesAt E.parts 2 = (I.modifiers, (I.name, (I.params, (I.parent_args, (I.body, tt))))) in (
       (
         refl,

@@ -1,14 +1,14 @@
 use Rattle.std.proofs.Common.{refl, ◌∙◌}
 use Rattle.jr_paths.proofs.Lending.{on_some_also}
 use Rattle.jr_paths.proofs.MemberWrites.{class_write, class_same, class_get}
-use Rattle.jr_ast.proofs.members.Class.member_mut.Goals as goal
+use Rattle.jr_paths.proofs.member_writes.member_of_class.Goals as goal
 
 pub returns : goal.returns
 returns g c =
-    let x = c.args.self.now in
-    let first = c.members_begin-first.result in
+    let x = c.args.class.now in
+    let first = c.begin_of_members-first.result in
     let number = c.args.number in
-    let begins = c.members_begin-first.ensures in (
+    let begins = c.begin_of_members-first.ensures in (
       (
         refl,
         λ w. on_some_also c.nth_member.result (c.nth_member.follows.holds w) (class_write _ x (c.nth_member.follows.lender w) first number w begins),

@@ -9,16 +9,16 @@ use Rattle.jr_paths.proofs.Lending.{on_some_also, known, given, picked}
 use Rattle.jr_paths.proofs.MemberWrites as writes
 use Rattle.jr_paths.specs.With.{member_with_stmt}
 use Rattle.jr_paths.specs.MemberLent.{at_place, body_place, with_stmt_left}
-use Rattle.jr_ast.proofs.members.MemberKind.stmt_mut.Goals as goal
+use Rattle.jr_paths.proofs.member_writes.stmt_of_member.Goals as goal
 
 pub returns-in-Method : goal.returns-in-Method
 returns-in-Method g c =
     let E = enum (param 0 g.row.A) in
     let I = c.in-Method in
-    let self = c.args.self.now in
+    let self = c.args.kind.now in
     let number = c.args.number in
-    let place = c.body_place-left.result in
-    let placed : (m : g.row.A.Denot) → place ≡ body_place (view.member_kind m (kind.Method I.modifiers I.ret I.name I.params I.body)) number = λ m. c.body_place-left.ensures m ∙ ap (λ s. body_place (view.member_kind m s) number) I.is in
+    let place = c.place_in_body-left.result in
+    let placed : (m : g.row.A.Denot) → place ≡ body_place (view.member_kind m (kind.Method I.modifiers I.ret I.name I.params I.body)) number = λ m. c.place_in_body-left.ensures m ∙ ap (λ s. body_place (view.member_kind m s) number) I.is in
     let fields : ValuesAt E.parts 1 = (I.modifiers, (I.ret, (I.name, (I.params, (I.body, tt))))) in (
       (
         refl,
@@ -41,10 +41,10 @@ pub returns-in-Ctor : goal.returns-in-Ctor
 returns-in-Ctor g c =
     let E = enum (param 0 g.row.A) in
     let I = c.in-Ctor in
-    let self = c.args.self.now in
+    let self = c.args.kind.now in
     let number = c.args.number in
-    let place = c.body_place-left.result in
-    let placed : (m : g.row.A.Denot) → place ≡ body_place (view.member_kind m (kind.Ctor I.modifiers I.name I.params I.parent_args I.body)) number = λ m. c.body_place-left.ensures m ∙ ap (λ s. body_place (view.member_kind m s) number) I.is in
+    let place = c.place_in_body-left.result in
+    let placed : (m : g.row.A.Denot) → place ≡ body_place (view.member_kind m (kind.Ctor I.modifiers I.name I.params I.parent_args I.body)) number = λ m. c.place_in_body-left.ensures m ∙ ap (λ s. body_place (view.member_kind m s) number) I.is in
     let fields : ValuesAt E.parts 2 = (I.modifiers, (I.name, (I.params, (I.parent_args, (I.body, tt))))) in (
       (
         refl,

@@ -6,17 +6,17 @@ use Rattle.jr_ast.specs.declared.exprs.ExprKind.TheViews as views
 use Rattle.jr_paths.proofs.Lending.{on_none, on_that, on_some_also, on_some_with}
 use Rattle.jr_paths.proofs.Halves.{one_step, one_exp, one_write, exp_child, first_step, rest_within, first_then, first_same, stmt_inject, empty_exp}
 use Rattle.jr_paths.proofs.Firsts.{exp_first_of_stmt, no_exp_first_of_stmt}
-use Rattle.jr_ast.proofs.stmts.StmtKind.expr_below.Goals as goal
+use Rattle.jr_paths.proofs.path_writes.expr_below_stmt.Goals as goal
 
 pub returns-in-0 : goal.returns-in-0
 returns-in-0 g c =
-    ((refl, λ w. tt, λ m. refl), record { writes_back = tt; value = λ m no_stmt. empty_exp (view.stmt_kind m c.args.self.now) c.args.steps.now c.in-0.is })
+    ((refl, λ w. tt, λ m. refl), record { writes_back = tt; value = λ m no_stmt. empty_exp (view.stmt_kind m c.args.kind.now) c.args.steps.now c.in-0.is })
 
 pub returns-in-1 : goal.returns-in-1
 returns-in-1 g c =
-    let N = c.expr_mut in
+    let N = c.expr_of_stmt in
     let steps = c.args.steps.now in
-    let whole = c.args.self.now in
+    let whole = c.args.kind.now in
     let one = one_step steps (omega (c.in-1.is, arith)) (omega (c.in-1.is, arith)) in (
       (
         refl,
@@ -31,7 +31,7 @@ returns-in-1 g c =
 
 pub returns-in_err-expr-in_default : goal.returns-in_err-expr-in_default
 returns-in_err-expr-in_default g c =
-    let N = c.expr_mut-in_default in
+    let N = c.expr_of_stmt-in_default in
     let steps = c.args.steps.now in
     let some : 1 ≤ length steps = grind (c.in_default, arith) in (
       (
@@ -43,17 +43,17 @@ returns-in_err-expr-in_default g c =
         writes_back = tt;
         value = λ m no_stmt.
             ap (option_map (λ x. view.expr_of x.now)) c.from_residual.ensures
-            ∙ no_exp_first_of_stmt (view.stmt_kind m c.args.self.now) (get_or steps 0 0) _ steps (first_step steps some) no_stmt
+            ∙ no_exp_first_of_stmt (view.stmt_kind m c.args.kind.now) (get_or steps 0 0) _ steps (first_step steps some) no_stmt
             (ap (option_map (λ x. view.expr_of x.now)) (sym c.in_err-expr-in_default.was) ∙ N.ensures.value m);
       },
     )
 
 pub returns-in_ok-expr-in_default : goal.returns-in_ok-expr-in_default
 returns-in_ok-expr-in_default g c =
-    let N = c.expr_mut-in_default in
+    let N = c.expr_of_stmt-in_default in
     let L = c.below in
     let steps = c.args.steps.now in
-    let whole = c.args.self.now in
+    let whole = c.args.kind.now in
     let upper = c.in_ok-expr-in_default.expr.now in
     let two : 2 ≤ length steps = grind (c.in_default, arith) in
     let some : 1 ≤ length steps = omega (two, arith) in

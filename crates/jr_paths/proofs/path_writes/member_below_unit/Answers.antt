@@ -5,14 +5,14 @@ use Rattle.jr_ast.specs.Nodes as pure
 use Rattle.jr_paths.proofs.Lending.{on_none, on_that, on_some_also}
 use Rattle.jr_paths.proofs.Halves.{first_step, rest_short, first_then, first_same}
 use Rattle.jr_paths.proofs.Turning.{class_child, unit_inject, empty_member, member_first, no_member_first}
-use Rattle.jr_ast.proofs.members.Unit.member_below.Goals as goal
+use Rattle.jr_paths.proofs.path_writes.member_below_unit.Goals as goal
 
 pub returns-then-steps-eq0 : goal.returns-then-steps-eq0
-returns-then-steps-eq0 g c = ((refl, λ w. tt, refl), record { writes_back = tt; value = empty_member (view.unit_of c.args.self.now) c.args.steps.now c.if-steps-eq0.true })
+returns-then-steps-eq0 g c = ((refl, λ w. tt, refl), record { writes_back = tt; value = empty_member (view.unit_of c.args.unit.now) c.args.steps.now c.if-steps-eq0.true })
 
 pub returns-in_err-class : goal.returns-in_err-class
 returns-in_err-class g c =
-    let N = c.class_mut in
+    let N = c.class_of_unit in
     let steps = c.args.steps.now in
     let some : 1 ≤ length steps = grind (c.if-steps-eq0.false, arith) in (
       (
@@ -24,17 +24,17 @@ returns-in_err-class g c =
         writes_back = tt;
         value =
             ap (option_map (λ x. view.member_of x.now)) c.from_residual.ensures
-            ∙ no_member_first (view.unit_of c.args.self.now) (get_or steps 0 0) _ steps (first_step steps some)
+            ∙ no_member_first (view.unit_of c.args.unit.now) (get_or steps 0 0) _ steps (first_step steps some)
             (ap (option_map (λ x. view.class_of x.now)) (sym c.in_err-class.was) ∙ N.ensures.value);
       },
     )
 
 pub returns : goal.returns
 returns g c =
-    let N = c.class_mut in
+    let N = c.class_of_unit in
     let L = c.below in
     let steps = c.args.steps.now in
-    let u = view.unit_of c.args.self.now in
+    let u = view.unit_of c.args.unit.now in
     let d = view.class_of c.in_ok-class.class.now in
     let some : 1 ≤ length steps = grind (c.if-steps-eq0.false, arith) in
     let q = take (length steps - 1) (drop 1 steps) in

@@ -6,17 +6,17 @@ use Rattle.jr_ast.specs.declared.stmts.StmtKind.TheViews as views
 use Rattle.jr_paths.proofs.Lending.{on_none, on_that, on_some_also, on_some_with}
 use Rattle.jr_paths.proofs.Halves.{one_step, one_stmt, one_write, stmt_child, first_step, rest_within, first_then, first_same, member_inject, empty_stmt_member}
 use Rattle.jr_paths.proofs.Firsts.{stmt_first_of_member, no_stmt_first_of_member}
-use Rattle.jr_ast.proofs.members.MemberKind.stmt_below.Goals as goal
+use Rattle.jr_paths.proofs.path_writes.stmt_below_member.Goals as goal
 
 pub returns-in-0 : goal.returns-in-0
 returns-in-0 g c =
-    ((refl, λ w. tt, λ m. refl), record { writes_back = tt; value = λ m no_member. empty_stmt_member (view.member_kind m c.args.self.now) c.args.steps.now c.in-0.is })
+    ((refl, λ w. tt, λ m. refl), record { writes_back = tt; value = λ m no_member. empty_stmt_member (view.member_kind m c.args.kind.now) c.args.steps.now c.in-0.is })
 
 pub returns-in-1 : goal.returns-in-1
 returns-in-1 g c =
-    let N = c.stmt_mut in
+    let N = c.stmt_of_member in
     let steps = c.args.steps.now in
-    let whole = c.args.self.now in
+    let whole = c.args.kind.now in
     let one = one_step steps (omega (c.in-1.is, arith)) (omega (c.in-1.is, arith)) in (
       (
         refl,
@@ -31,7 +31,7 @@ returns-in-1 g c =
 
 pub returns-in_err-stmt-in_default : goal.returns-in_err-stmt-in_default
 returns-in_err-stmt-in_default g c =
-    let N = c.stmt_mut-in_default in
+    let N = c.stmt_of_member-in_default in
     let steps = c.args.steps.now in
     let some : 1 ≤ length steps = grind (c.in_default, arith) in (
       (
@@ -43,17 +43,17 @@ returns-in_err-stmt-in_default g c =
         writes_back = tt;
         value = λ m no_member.
             ap (option_map (λ x. view.stmt_of x.now)) c.from_residual.ensures
-            ∙ no_stmt_first_of_member (view.member_kind m c.args.self.now) (get_or steps 0 0) _ steps (first_step steps some) no_member
+            ∙ no_stmt_first_of_member (view.member_kind m c.args.kind.now) (get_or steps 0 0) _ steps (first_step steps some) no_member
             (ap (option_map (λ x. view.stmt_of x.now)) (sym c.in_err-stmt-in_default.was) ∙ N.ensures.value m);
       },
     )
 
 pub returns-in_ok-stmt-in_default : goal.returns-in_ok-stmt-in_default
 returns-in_ok-stmt-in_default g c =
-    let N = c.stmt_mut-in_default in
+    let N = c.stmt_of_member-in_default in
     let L = c.below in
     let steps = c.args.steps.now in
-    let whole = c.args.self.now in
+    let whole = c.args.kind.now in
     let upper = c.in_ok-stmt-in_default.stmt.now in
     let two : 2 ≤ length steps = grind (c.in_default, arith) in
     let some : 1 ≤ length steps = omega (two, arith) in

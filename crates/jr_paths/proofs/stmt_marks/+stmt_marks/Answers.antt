@@ -2,7 +2,7 @@ use Rattle.std.proofs.Common.{ap, sym, ◌∙◌}
 use Rattle.std.proofs.lemmas.Result.{IfOk-weaker}
 use Rattle.jr_ast.specs.StatementTree as tree
 use Rattle.jr_ast.specs.View.{else_of, stmt_of, stmts_of, stmt_kind, stmt_row, held_else}
-use Rattle.jr_ast.specs.Remarked as same
+use Rattle.jr_paths.specs.Same as same
 use Rattle.jr_ast.proofs.Rows.{stmt_kind-If, stmt_kind-Block, stmt_kind-Sync}
 use Rattle.jr_ast.proofs.Sizes.{stmt_size, stmts_size, else_size}
 use Rattle.jr_paths.proofs.MadeOf.{with_part, one_more_made}

@@ -1,7 +1,7 @@
 use Rattle.std.proofs.Common.{◌+◌, ◌*◌, ◌≡◌, take, map, Option}
 use Rattle.std.specs.Fn.{FnReturnsAt}
 use Rattle.jr_ast.specs.View.{stmt_of, stmts_of, else_of}
-use Rattle.jr_ast.specs.Remarked as same
+use Rattle.jr_paths.specs.Same as same
 use Rattle.jr_ast.proofs.Sizes.{stmt_size, stmts_size, else_size}
 use Rattle.jr_paths.proofs.stmt_marks.+stmt_marks.Given as goal
 

@@ -7,13 +7,13 @@ use Rattle.jr_ast.specs.declared.stmts.StmtKind as stmt
 use Rattle.jr_ast.specs.contracts.stmts.StmtKind.{enum}
 use Rattle.jr_paths.proofs.Lending.{on_some_also, known, given, picked}
 use Rattle.jr_paths.proofs.StmtWrites as writes
-use Rattle.jr_ast.proofs.stmts.StmtKind.expr_mut.Goals as goal
+use Rattle.jr_paths.proofs.stmt_writes.expr_of_stmt.Goals as goal
 
 pub returns-in-Local-eq2 : goal.returns-in-Local-eq2
 returns-in-Local-eq2 g c =
     let E = enum (param 0 g.row.A) in
     let I = c.in-Local-eq2 in
-    let self = c.args.self.now in
+    let self = c.args.kind.now in
     let number = c.args.number in
     let fields : ValuesAt E.parts 0 = (I.is_final-0, (I.ty-0, (I.name-0, (I.init, tt)))) in (
       (
@@ -34,7 +34,7 @@ pub returns-in-Eval-eq0 : goal.returns-in-Eval-eq0
 returns-in-Eval-eq0 g c =
     let E = enum (param 0 g.row.A) in
     let I = c.in-Eval-eq0 in
-    let self = c.args.self.now in
+    let self = c.args.kind.now in
     let number = c.args.number in
     let fields : ValuesAt E.parts 1 = (I.of, tt) in (
       (
@@ -55,7 +55,7 @@ pub returns-in-If-eq0 : goal.returns-in-If-eq0
 returns-in-If-eq0 g c =
     let E = enum (param 0 g.row.A) in
     let I = c.in-If-eq0 in
-    let self = c.args.self.now in
+    let self = c.args.kind.now in
     let number = c.args.number in
     let fields : ValuesAt E.parts 2 = (I.condition, (I.field-1-0, (I.field-2-0, tt))) in (
       (
@@ -76,7 +76,7 @@ pub returns-in-While-eq0 : goal.returns-in-While-eq0
 returns-in-While-eq0 g c =
     let E = enum (param 0 g.row.A) in
     let I = c.in-While-eq0 in
-    let self = c.args.self.now in
+    let self = c.args.kind.now in
     let number = c.args.number in
     let fields : ValuesAt E.parts 3 = (I.condition, (I.field-1-0, tt)) in (
       (
@@ -97,7 +97,7 @@ pub returns-in-Return-eq0 : goal.returns-in-Return-eq0
 returns-in-Return-eq0 g c =
     let E = enum (param 0 g.row.A) in
     let I = c.in-Return-eq0 in
-    let self = c.args.self.now in
+    let self = c.args.kind.now in
     let number = c.args.number in
     let fields : ValuesAt E.parts 4 = (I.value, tt) in (
       (
@@ -121,7 +121,7 @@ pub returns-in-Sync-eq0 : goal.returns-in-Sync-eq0
 returns-in-Sync-eq0 g c =
     let E = enum (param 0 g.row.A) in
     let I = c.in-Sync-eq0 in
-    let self = c.args.self.now in
+    let self = c.args.kind.now in
     let number = c.args.number in
     let fields : ValuesAt E.parts 6 = (I.lock, (I.field-1-0, tt)) in (
       (

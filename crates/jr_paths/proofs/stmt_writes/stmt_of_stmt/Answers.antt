@@ -7,13 +7,13 @@ use Rattle.jr_ast.specs.declared.stmts.StmtKind as stmt
 use Rattle.jr_ast.specs.contracts.stmts.StmtKind.{enum}
 use Rattle.jr_paths.proofs.Lending.{on_some_also, known, given, picked}
 use Rattle.jr_paths.proofs.StmtWrites as writes
-use Rattle.jr_ast.proofs.stmts.StmtKind.stmt_mut.Goals as goal
+use Rattle.jr_paths.proofs.stmt_writes.stmt_of_stmt.Goals as goal
 
 pub returns-in-If-eq1 : goal.returns-in-If-eq1
 returns-in-If-eq1 g c =
     let E = enum (param 0 g.row.A) in
     let I = c.in-If-eq1 in
-    let self = c.args.self.now in
+    let self = c.args.kind.now in
     let number = c.args.number in
     let fields : ValuesAt E.parts 2 = (I.field-0-0, (I.yes, (I.field-2-0, tt))) in (
       (
@@ -34,7 +34,7 @@ pub returns-in-If-eq2 : goal.returns-in-If-eq2
 returns-in-If-eq2 g c =
     let E = enum (param 0 g.row.A) in
     let I = c.in-If-eq2 in
-    let self = c.args.self.now in
+    let self = c.args.kind.now in
     let number = c.args.number in
     let fields : ValuesAt E.parts 2 = (I.field-0-0, (I.field-1-0, (I.no, tt))) in (
       (
@@ -58,7 +58,7 @@ pub returns-in-While-eq1 : goal.returns-in-While-eq1
 returns-in-While-eq1 g c =
     let E = enum (param 0 g.row.A) in
     let I = c.in-While-eq1 in
-    let self = c.args.self.now in
+    let self = c.args.kind.now in
     let number = c.args.number in
     let fields : ValuesAt E.parts 3 = (I.field-0-0, (I.body, tt)) in (
       (
@@ -79,7 +79,7 @@ pub returns-in-Block-default : goal.returns-in-Block-default
 returns-in-Block-default g c =
     let E = enum (param 0 g.row.A) in
     let I = c.in-Block-default in
-    let self = c.args.self.now in
+    let self = c.args.kind.now in
     let number = c.args.number in
     let fields : ValuesAt E.parts 5 = (I.body, tt) in (
       (
@@ -103,7 +103,7 @@ pub returns-in-Sync-default : goal.returns-in-Sync-default
 returns-in-Sync-default g c =
     let E = enum (param 0 g.row.A) in
     let I = c.in-Sync-default in
-    let self = c.args.self.now in
+    let self = c.args.kind.now in
     let number = c.args.number in
     let fields : ValuesAt E.parts 6 = (I.field-0-0, (I.body, tt)) in (
       (

@@ -11,7 +11,7 @@ returns-then-steps-ne1 g c =
 
 pub returns : goal.returns
 returns g c =
-    let N = c.expr_mut in
+    let N = c.expr_of_expr in
     let steps = c.args.steps.now in
     let one = one_step steps (omega (c.if-steps-ne1.false, arith)) (omega (c.if-steps-ne1.false, arith)) in (
       (

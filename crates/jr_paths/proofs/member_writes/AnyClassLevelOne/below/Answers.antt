@@ -12,7 +12,7 @@ returns-then-steps-ne1 g c =
 
 pub returns : goal.returns
 returns g c =
-    let N = c.member_mut in
+    let N = c.member_of_class in
     let steps = c.args.steps.now in
     let one = one_step steps (omega (c.if-steps-ne1.false, arith)) (omega (c.if-steps-ne1.false, arith)) in
     let n = pure.class (view.class_of c.args.class.now) in (

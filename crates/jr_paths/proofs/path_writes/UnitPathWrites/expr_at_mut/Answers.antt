@@ -9,11 +9,11 @@ use Rattle.jr_paths.proofs.Lending.{on_none, on_that, on_some_also}
 use Rattle.jr_paths.proofs.Halves.{joined, node_of_member, node_of_stmt, write_join, same_join}
 use Rattle.jr_paths.proofs.PathKinds.{unit_no_exp}
 use Rattle.jr_paths.proofs.Turning.{unit_inject, none_at_all, at_below, none_below, between}
-use Rattle.jr_ast.proofs.members.Unit.expr_at_mut.Goals as goal
+use Rattle.jr_paths.proofs.path_writes.UnitPathWrites.expr_at_mut.Goals as goal
 
 pub returns-in_err-member : goal.returns-in_err-member
 returns-in_err-member g c =
-    let M = c.member_below in
+    let M = c.member_below_unit in
     let steps = c.as_slice-steps.result.now in
     let whole = c.args.path.now.steps.items in
     let same : steps ≡ whole = c.as_slice-steps.ensures.value in
@@ -34,8 +34,8 @@ returns-in_err-member g c =
 
 pub returns-then-turns : goal.returns-then-turns
 returns-then-turns g c =
-    let M = c.member_below in
-    let L = c.expr_below in
+    let M = c.member_below_unit in
+    let L = c.expr_below_member in
     let steps = c.as_slice-steps.result.now in
     let whole = c.args.path.now.steps.items in
     let same : steps ≡ whole = c.as_slice-steps.ensures.value in
@@ -69,8 +69,8 @@ returns-then-turns g c =
 
 pub returns-in_err-stmt : goal.returns-in_err-stmt
 returns-in_err-stmt g c =
-    let M = c.member_below in
-    let L = c.stmt_below in
+    let M = c.member_below_unit in
+    let L = c.stmt_below_member in
     let steps = c.as_slice-steps.result.now in
     let whole = c.args.path.now.steps.items in
     let same : steps ≡ whole = c.as_slice-steps.ensures.value in
@@ -94,9 +94,9 @@ returns-in_err-stmt g c =
 
 pub returns : goal.returns
 returns g c =
-    let M = c.member_below in
-    let L = c.stmt_below in
-    let E = c.expr_below-2 in
+    let M = c.member_below_unit in
+    let L = c.stmt_below_member in
+    let E = c.expr_below_stmt in
     let steps = c.as_slice-steps.result.now in
     let whole = c.args.path.now.steps.items in
     let same : steps ≡ whole = c.as_slice-steps.ensures.value in

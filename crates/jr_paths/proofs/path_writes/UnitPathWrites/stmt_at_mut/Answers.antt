@@ -8,11 +8,11 @@ use Rattle.jr_paths.proofs.Lending.{on_none, on_that, on_some_also}
 use Rattle.jr_paths.proofs.Halves.{joined, node_of_member, write_join, same_join}
 use Rattle.jr_paths.proofs.PathKinds.{unit_no_stmt}
 use Rattle.jr_paths.proofs.Turning.{unit_inject, none_at_all, at_below, none_below}
-use Rattle.jr_ast.proofs.members.Unit.stmt_at_mut.Goals as goal
+use Rattle.jr_paths.proofs.path_writes.UnitPathWrites.stmt_at_mut.Goals as goal
 
 pub returns-in_err-member : goal.returns-in_err-member
 returns-in_err-member g c =
-    let M = c.member_below in
+    let M = c.member_below_unit in
     let steps = c.as_slice-steps.result.now in
     let whole = c.args.path.now.steps.items in
     let same : steps ≡ whole = c.as_slice-steps.ensures.value in
@@ -33,8 +33,8 @@ returns-in_err-member g c =
 
 pub returns : goal.returns
 returns g c =
-    let M = c.member_below in
-    let L = c.stmt_below in
+    let M = c.member_below_unit in
+    let L = c.stmt_below_member in
     let steps = c.as_slice-steps.result.now in
     let whole = c.args.path.now.steps.items in
     let same : steps ≡ whole = c.as_slice-steps.ensures.value in

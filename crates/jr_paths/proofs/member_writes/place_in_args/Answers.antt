@@ -1,5 +1,5 @@
 use Rattle.jr_paths.proofs.MemberWrites.{args_placed}
-use Rattle.jr_ast.proofs.members.MemberKind.args_place.Goals as goal
+use Rattle.jr_paths.proofs.member_writes.place_in_args.Goals as goal
 
 pub returns-in-Ctor : goal.returns-in-Ctor
 returns-in-Ctor g c m =

@@ -1,5 +1,5 @@
 use Rattle.jr_paths.proofs.MemberWrites.{ctor_placed, method_placed}
-use Rattle.jr_ast.proofs.members.MemberKind.body_place.Goals as goal
+use Rattle.jr_paths.proofs.member_writes.place_in_body.Goals as goal
 
 pub returns-in-Method : goal.returns-in-Method
 returns-in-Method g c m =
@@ -12,4 +12,4 @@ pub returns-in-Ctor : goal.returns-in-Ctor
 returns-in-Ctor g c m =
     rw c.in-Ctor.is
     (ctor_placed _ m c.in-Ctor.modifiers c.in-Ctor.name c.in-Ctor.params c.in-Ctor.parent_args c.in-Ctor.body c.argument_count.result c.args.number
-    c.args_place.result c.left_after-in-Ctor.result c.argument_count.ensures (rw c.in-Ctor.is at c.args_place.ensures m) c.left_after-in-Ctor.ensures)
+    c.place_in_args.result c.left_after-in-Ctor.result c.argument_count.ensures (rw c.in-Ctor.is at c.place_in_args.ensures m) c.left_after-in-Ctor.ensures)
