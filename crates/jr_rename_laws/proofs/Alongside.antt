@@ -16,11 +16,11 @@ use Rattle.jr_rewrite.specs.Along.{Along, AlongTarget, AlongRow, OperandAlong}
 use Rattle.jr_images.specs.Images.{Renaming, class_to, field_to, method_to}
 use Rattle.jr_images.specs.Spelling.{spelled, outer_front, spelling, FieldSpells, MemberClassSpells, SimpleCallSpells, CallSpells}
 use Rattle.jr_images.specs.Keeping.{IsKept, IsWritten}
-use Rattle.jr_rename_laws.proofs.Chosen.{renamed_front, lost_some, left_none, right_none}
+use Rattle.jr_rename_laws.proofs.Chosen.{renamed_front, lost_some, left_none, right_none, lost_none}
 use Rattle.jr_images.proofs.Forms.{two_forms, three_forms, four_forms}
 use Rattle.jr_rename_laws.proofs.World.{World}
 use Rattle.jr_rename_laws.proofs.Types.{written_kept}
-use Rattle.jr_rename_laws.proofs.Kept.{lose, operand_none, kept}
+use Rattle.jr_rename_laws.proofs.Kept.{operand_none, kept}
 
 -- what may stand in front of a word behind a dot
 abbrev IsDotted : Front → Type 0
@@ -124,7 +124,7 @@ module _ {A : Type 0} (tells : A → ℕ → Span) (rows : List Row) (g : Renami
     along r b i (tree.name m v) o made none = (kept tells rows g c d w super_at r b (tree.name m v) o made none).bound b i
     along r b i (tree.super_field m v) o made none = (kept tells rows g c d w super_at r b (tree.super_field m v) o made none).bound b i
     along r b i (tree.field m e v) o (h, p, spells, inner, is) none =
-        let all = lose tells rows g c d w super_at o (field_out tells h m b e p v) is none in
+        let all = lost_none o (field_out tells h m b e p v) is none in
         let part = operand_along m p.tree (λ y. Side left ((tells m b).from) ((tells m i).from) e y) (front_of h) (elim spells [
           | inl f ↦ field_dotted (λ m b. (tells m b).from) rows g c _ e v.text h (right_none (operand_losses tells h p.losses) (losses_of h) all) f
           | inr f ↦ member_class_dotted (λ m b. (tells m b).from) rows g c r _ e v.text h (right_none (operand_losses tells h p.losses) (losses_of h) all) f
@@ -138,10 +138,10 @@ module _ {A : Type 0} (tells : A → ℕ → Span) (rows : List Row) (g : Renami
           subst (λ (y : tree.Exp A). IsKept (λ m b. (tells m b).from) (λ m b. (tells m b).from) g rows c d r b (tree.field m e v) i y) there
               ((kept tells rows g c d w super_at r b (tree.field m e v) o (h, p, spells, inner, is) none).bound b i),
         )
-    along r b i (tree.class_literal m t) o (p, types, is) none = moved r b i (tree.class_literal m t) o _ is (m, p.tree, refl, written_kept tells rows g c d w super_at _ t p types (lose tells rows g c d w super_at o _ is none))
+    along r b i (tree.class_literal m t) o (p, types, is) none = moved r b i (tree.class_literal m t) o _ is (m, p.tree, refl, written_kept tells rows g c d w super_at _ t p types (lost_none o _ is none))
     along r b i (tree.call m tree.no_target v args) o (h, p, q, spells, target, row, is) none =
         let out = is ∙ ap (λ (z : Rewritten (Called tells)). joined (λ (t : Called tells) es. tree.call m t.target t.word es) z q) target in
-        let all = lose tells rows g c d w super_at o (joined (λ (t : Called tells) es. tree.call m t.target t.word es) (simple_call_out tells h m b v) q) out none in
+        let all = lost_none o (joined (λ (t : Called tells) es. tree.call m t.target t.word es) (simple_call_out tells h m b v) q) out none in
         let there = ap (λ (z : Rewritten (tree.Exp A)). z.tree) out in (
           m,
           target_of (operand_to m (front_of h) None),
@@ -155,7 +155,7 @@ module _ {A : Type 0} (tells : A → ℕ → Span) (rows : List Row) (g : Renami
         )
     along r b i (tree.call m (tree.on e) v args) o (h, p, q, spells, (x, inner, target), row, is) none =
         let out = is ∙ ap (λ (z : Rewritten (Called tells)). joined (λ (t : Called tells) es. tree.call m t.target t.word es) z q) target in
-        let all = lose tells rows g c d w super_at o (joined (λ (t : Called tells) es. tree.call m t.target t.word es) (dotted_call_out tells h m b e x v) q) out none in
+        let all = lost_none o (joined (λ (t : Called tells) es. tree.call m t.target t.word es) (dotted_call_out tells h m b e x v) q) out none in
         let front = left_none (operand_losses tells h x.losses ++ losses_of h) q.losses all in
         let part = operand_along m x.tree (λ y. Side left ((tells m b).from) ((tells m i).from) e y) (front_of h)
         (call_dotted (λ m b. (tells m b).from) rows g c _ e v.text args h (right_none (operand_losses tells h x.losses) (losses_of h) front) spells)
@@ -172,7 +172,7 @@ module _ {A : Type 0} (tells : A → ℕ → Span) (rows : List Row) (g : Renami
               ((kept tells rows g c d w super_at r b (tree.call m (tree.on e) v args) o (h, p, q, spells, (x, inner, target), row, is) none).bound b i),
         )
     along r b i (tree.super_call m v args) o (h, q, spells, row, is) none =
-        let all = lose tells rows g c d w super_at o (joined (λ v es. tree.super_call m v es) (word_out tells h ((tells m b).from) v) q) is none in
+        let all = lost_none o (joined (λ v es. tree.super_call m v es) (word_out tells h ((tells m b).from) v) q) is none in
         let there = ap (λ (z : Rewritten (tree.Exp A)). z.tree) is in (
           m,
           word_to h v,
@@ -183,7 +183,7 @@ module _ {A : Type 0} (tells : A → ℕ → Span) (rows : List Row) (g : Renami
               ((kept tells rows g c d w super_at r b (tree.super_call m v args) o (h, q, spells, row, is) none).bound b i),
         )
     along r b i (tree.create m t args) o (h, p, q, spells, types, row, is) none =
-        let all = lose tells rows g c d w super_at o _ is none in
+        let all = lost_none o _ is none in
         let parts = right_none (losses_of h) (p.losses ++ q.losses) all in
         let there = ap (λ (z : Rewritten (tree.Exp A)). z.tree) is in (
           m,
@@ -195,19 +195,19 @@ module _ {A : Type 0} (tells : A → ℕ → Span) (rows : List Row) (g : Renami
           subst (λ (y : tree.Exp A). IsKept (λ m b. (tells m b).from) (λ m b. (tells m b).from) g rows c d r b (tree.create m t args) i y) there
               ((kept tells rows g c d w super_at r b (tree.create m t args) o (h, p, q, spells, types, row, is) none).bound b i),
         )
-    along r b i (tree.paren m e) o (p, inner, is) none = moved r b i (tree.paren m e) o (within (λ x. tree.paren m x) p) is (m, p.tree, refl, along value _ _ e p inner (lose tells rows g c d w super_at o (within (λ x. tree.paren m x) p) is none))
-    along r b i (tree.cast m t e) o (p, q, types, inner, is) none = let all = lose tells rows g c d w super_at o (joined (λ u x. tree.cast m u x) p q) is none in
+    along r b i (tree.paren m e) o (p, inner, is) none = moved r b i (tree.paren m e) o (within (λ x. tree.paren m x) p) is (m, p.tree, refl, along value _ _ e p inner (lost_none o (within (λ x. tree.paren m x) p) is none))
+    along r b i (tree.cast m t e) o (p, q, types, inner, is) none = let all = lost_none o (joined (λ u x. tree.cast m u x) p q) is none in
         moved r b i (tree.cast m t e) o (joined (λ u x. tree.cast m u x) p q) is (m, p.tree, q.tree, refl, written_kept tells rows g c d w super_at _ t p types (left_none p.losses q.losses all), along value _ _ e q inner (right_none p.losses q.losses all))
-    along r b i (tree.unary m s e) o (p, inner, is) none = moved r b i (tree.unary m s e) o (within (λ x. tree.unary m s x) p) is (m, p.tree, refl, along value _ _ e p inner (lose tells rows g c d w super_at o (within (λ x. tree.unary m s x) p) is none))
-    along r b i (tree.bump m s e) o (p, inner, is) none = moved r b i (tree.bump m s e) o (within (λ x. tree.bump m s x) p) is (m, p.tree, refl, along value _ _ e p inner (lose tells rows g c d w super_at o (within (λ x. tree.bump m s x) p) is none))
-    along r b i (tree.binary m s e f) o (p, q, one_side, other, is) none = let all = lose tells rows g c d w super_at o (joined (λ u v. tree.binary m s u v) p q) is none in
+    along r b i (tree.unary m s e) o (p, inner, is) none = moved r b i (tree.unary m s e) o (within (λ x. tree.unary m s x) p) is (m, p.tree, refl, along value _ _ e p inner (lost_none o (within (λ x. tree.unary m s x) p) is none))
+    along r b i (tree.bump m s e) o (p, inner, is) none = moved r b i (tree.bump m s e) o (within (λ x. tree.bump m s x) p) is (m, p.tree, refl, along value _ _ e p inner (lost_none o (within (λ x. tree.bump m s x) p) is none))
+    along r b i (tree.binary m s e f) o (p, q, one_side, other, is) none = let all = lost_none o (joined (λ u v. tree.binary m s u v) p q) is none in
         moved r b i (tree.binary m s e f) o (joined (λ u v. tree.binary m s u v) p q) is (m, p.tree, q.tree, refl, along value _ _ e p one_side (left_none p.losses q.losses all), along value _ _ f q other (right_none p.losses q.losses all))
-    along r b i (tree.assign m e f) o (p, q, one_side, other, is) none = let all = lose tells rows g c d w super_at o (joined (λ u v. tree.assign m u v) p q) is none in
+    along r b i (tree.assign m e f) o (p, q, one_side, other, is) none = let all = lost_none o (joined (λ u v. tree.assign m u v) p q) is none in
         moved r b i (tree.assign m e f) o (joined (λ u v. tree.assign m u v) p q) is (m, p.tree, q.tree, refl, along value _ _ e p one_side (left_none p.losses q.losses all), along value _ _ f q other (right_none p.losses q.losses all))
-    along r b i (tree.compound m s e f) o (p, q, one_side, other, is) none = let all = lose tells rows g c d w super_at o (joined (λ u v. tree.compound m s u v) p q) is none in
+    along r b i (tree.compound m s e f) o (p, q, one_side, other, is) none = let all = lost_none o (joined (λ u v. tree.compound m s u v) p q) is none in
         moved r b i (tree.compound m s e f) o (joined (λ u v. tree.compound m s u v) p q) is (m, p.tree, q.tree, refl, along value _ _ e p one_side (left_none p.losses q.losses all), along value _ _ f q other (right_none p.losses q.losses all))
 
     pub along_row : (b i : ℕ) (es : tree.Exps A) (q : Rewritten (tree.Exps A)) → RewritesRow tells Chosen c b es q → q.losses ≡ [] → SideRow b i es q.tree
     along_row b i tree.end q is none = ap (λ (z : Rewritten (tree.Exps A)). z.tree) is
-    along_row b i (tree.more e es) q (x, xs, inner, rest, is) none = let all = lose tells rows g c d w super_at q (joined (λ y ys. tree.more y ys) x xs) is none in
+    along_row b i (tree.more e es) q (x, xs, inner, rest, is) none = let all = lost_none q (joined (λ y ys. tree.more y ys) x xs) is none in
         (x.tree, xs.tree, ap (λ (z : Rewritten (tree.Exps A)). z.tree) is, along value b i e x inner (left_none x.losses xs.losses all), along_row b i es xs rest (right_none x.losses xs.losses all))

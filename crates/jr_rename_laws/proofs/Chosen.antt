@@ -1,10 +1,10 @@
 -- What a choice makes of a word.
-use Rattle.std.proofs.Common.{◌≡◌, ℕ, List, [], ◌∷◌, ◌++◌, Option, Some, None, Bool, true, false, refl, ap}
+use Rattle.std.proofs.Common.{◌≡◌, ℕ, List, [], ◌∷◌, ◌++◌, Option, Some, None, Bool, true, false, refl, sym, ap, ◌∙◌}
 use Rattle.std.specs.Prelude.{if◌then◌else◌}
 use Rattle.std.specs.Cmp.Lexicographic.{bytes_decides}
 use Rattle.jr_table.specs.SameKeys.{same_name}
 use Rattle.jr_rewrite.specs.Respellings.{same, by_outer_class, by_class, stays, loses, Loss, front_of, text_of}
-use Rattle.jr_rewrite.specs.Rewritten.{losses_of}
+use Rattle.jr_rewrite.specs.Rewritten.{Rewritten, losses_of}
 use Rattle.jr_images.specs.Spelling.{respelled, renamed, outer_front, outer_type}
 
 -- a word that gets a name has it
@@ -29,6 +29,10 @@ renamed_losses old new = by (same_name old new)
     by : (b : Bool) → losses_of (if b then stays else respelled new same) ≡ []
     by true = refl
     by false = refl
+
+-- where nothing is lost of what is made, nothing is
+pub lost_none : {T : Type 0} (o p : Rewritten T) → o ≡ p → o.losses ≡ [] → p.losses ≡ []
+lost_none {T} o p is none = sym (ap (λ (z : Rewritten T). z.losses) is) ∙ none
 
 -- what is lost isn't nothing
 pub lost_some : (l : Loss) → losses_of (loses l) ≡ [] → ⊥

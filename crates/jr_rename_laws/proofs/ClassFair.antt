@@ -19,7 +19,7 @@ use Rattle.jr_images.specs.Clashes.{IsClear}
 use Rattle.jr_images.proofs.KeyImages.{keeps_name}
 use Rattle.jr_rename_laws.specs.ImageLaws.{ClassesStayFair}
 use Rattle.jr_rename_laws.proofs.Still.{with_target, without_target, gets_name}
-use Rattle.jr_rename_laws.proofs.DeclarationRows.{no_locals}
+use Rattle.jr_rename_laws.proofs.DeclarationRows.{no_locals, early}
 use Rattle.jr_rename_laws.proofs.FairClasses.{OfClass, class_rows}
 
 module _ (g : Renaming) where
@@ -66,9 +66,6 @@ module _ (rows : List Row) (k : ClassKey) (g : Renaming) (are : AreRows rows) (r
 
   unrenamed : (own : IsOfPrelude rows (class_decl k) → ⊥) (j : ClassKey) → IsOfPrelude rows (class_decl j) → is_renamed g (class_decl j) ≡ false
   unrenamed own j old = without_target rows (class_decl k) g renamed (class_decl j) (λ e. own (subst (IsOfPrelude rows) e old))
-
-  early : (i n : ℕ) → length prelude_rows ≡ n → i < n → i < length prelude_rows
-  early i n e h = subst (λ (m : ℕ). i < m) (sym e) h
 
   object_row : IsOfPrelude rows (class_decl object_key)
   object_row = (0, early 0 8 refl (omega arith), record { row = class_row [] (codes "Object") None; stands = ap (λ (xs : List Row). slice_get xs 0) are.prelude; declares = refl })

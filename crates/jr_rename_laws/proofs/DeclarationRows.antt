@@ -1,5 +1,5 @@
 -- What a program declares has a row.
-use Rattle.std.proofs.Common.{◌≡◌, ℕ, zero, suc, List, [], ◌∷◌, ◌++◌, Option, Some, Bool, true, false, refl, sym, ap, subst, ◌∙◌}
+use Rattle.std.proofs.Common.{◌≡◌, ◌<◌, ℕ, zero, suc, length, List, [], ◌∷◌, ◌++◌, Option, Some, Bool, true, false, refl, sym, ap, subst, ◌∙◌}
 use Rattle.std.specs.Prelude.{slice_get}
 use Rattle.jr_ast.specs.declared.operators.ModWord.{ModWord}
 use Rattle.jr_table.specs.Keys.{ClassKey, Ty}
@@ -9,6 +9,10 @@ use Rattle.jr_table.specs.Prelude.{prelude_rows}
 use Rattle.jr_table.specs.Entries.{IsRowOf}
 use Rattle.jr_table.specs.DeclaredItems.{Written, Item, class_item, field_item, method_item, ctor_item, DeclaredItem}
 use Rattle.jr_table.specs.ProgramRows.{MeanTypes, unwritten_row, AreRowsOfDeclarations, AreProgramRows}
+
+-- of so many rows of the prelude
+pub early : (i n : ℕ) → length prelude_rows ≡ n → i < n → i < length prelude_rows
+early i n e h = subst (λ (m : ℕ). i < m) (sym e) h
 
 abbrev pub RowFor : List Row → Decl → Type 0
 RowFor rows d = (i : ℕ) × IsRowOf rows d i

@@ -14,11 +14,11 @@ use Rattle.jr_table.specs.Entries.{IsRowOf, number_of, class_of_member, class_of
 use Rattle.jr_table.specs.Chains.{parent_of, Climbs}
 use Rattle.jr_table.specs.Conditions.{TypesName, Names, as_declarer, as_outer, as_superclass, as_type, as_parameter, AreRows}
 use Rattle.jr_table.proofs.RowLaws.{entry_at}
+use Rattle.jr_members.proofs.Walking.{map_join}
 use Rattle.jr_images.specs.Images.{Renaming, is_renamed, name_to, outer_to, class_to, type_to, types_to, member_to, decl_to, row_to, rows_to}
 use Rattle.jr_images.proofs.KeyImages.{keeps_name, decl_class_to, params_to, new_entry, at_new, old_row}
 use Rattle.jr_images.proofs.Imaging.{map_some}
 use Rattle.jr_rename_laws.proofs.Still.{gets_name}
-use Rattle.jr_rename_laws.proofs.RowImages.{map_both}
 use Rattle.jr_rename_laws.proofs.DeclarationRows.{RowFor, NoLocals, no_local_at}
 use Rattle.jr_rename_laws.proofs.FairImages.{class_in, field_in, method_in, ctor_in}
 
@@ -244,7 +244,7 @@ module _ (g : Renaming) (rows : List Row) (of : OfClass g rows) (are : AreRows r
     pub class_rows : AreRows (rows_to g rows)
     class_rows = record {
       own = rows_to g are.own;
-      prelude = ap (rows_to g) are.prelude ∙ map_both (row_to g) prelude_rows are.own ∙ ap (λ (front : List Row). front ++ rows_to g are.own) same;
+      prelude = ap (rows_to g) are.prelude ∙ map_join (row_to g) prelude_rows are.own ∙ ap (λ (front : List Row). front ++ rows_to g are.own) same;
       one_each = λ d i j a b.
           let x = old_row g rows d i a in
           let y = old_row g rows d j b in

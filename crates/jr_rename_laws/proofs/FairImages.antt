@@ -11,12 +11,12 @@ use Rattle.jr_table.specs.Entries.{IsRowOf, params_of, entries_of}
 use Rattle.jr_table.specs.Chains.{Climbs}
 use Rattle.jr_table.specs.Conditions.{TypesName, Names, as_declarer, as_outer, as_superclass, as_type, as_parameter, AreRows}
 use Rattle.jr_spell.specs.Binds.{is_dot}
+use Rattle.jr_members.proofs.Walking.{map_join}
 use Rattle.jr_images.specs.Images.{Renaming, name_to, class_to, type_to, types_to, decl_to, row_to, rows_to}
 use Rattle.jr_images.specs.RenameLaws.{IsFair}
 use Rattle.jr_images.proofs.Imaging.{map_some}
 use Rattle.jr_images.proofs.KeyImages.{old_row}
 use Rattle.jr_rename_laws.proofs.Still.{IsStill, class_same, type_same, types_same, prelude_same}
-use Rattle.jr_rename_laws.proofs.RowImages.{map_both}
 use Rattle.jr_rename_laws.proofs.TypesFound.{of_same, outer_same, count_same, parent_at, class_row}
 use Rattle.jr_rename_laws.proofs.DeclarationRows.{RowFor, NoLocals, no_local_at}
 
@@ -133,7 +133,7 @@ module _ (g : Renaming) (still : IsStill g) (rows : List Row) (apart : KeysApart
     new_rows : AreRows (rows_to g rows)
     new_rows = record {
       own = rows_to g are.own;
-      prelude = ap (rows_to g) are.prelude ∙ map_both (row_to g) prelude_rows are.own ∙ ap (λ (front : List Row). front ++ rows_to g are.own) (prelude_same g still);
+      prelude = ap (rows_to g) are.prelude ∙ map_join (row_to g) prelude_rows are.own ∙ ap (λ (front : List Row). front ++ rows_to g are.own) (prelude_same g still);
       one_each = λ d i j a b.
           let x = old_row g rows d i a in
           let y = old_row g rows d j b in

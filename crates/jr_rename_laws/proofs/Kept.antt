@@ -29,7 +29,7 @@ use Rattle.jr_rewrite.specs.Rewrites.{Choosing, RewritesExp, RewritesTarget, Rew
 use Rattle.jr_images.specs.Images.{Renaming, class_to, type_to, types_to, field_to, method_to, ctor_to, decl_to, local_to, name_to, rows_to}
 use Rattle.jr_images.specs.Spelling.{renamed, spelled, reference, behind_words, operand_of, spelling, LocalSpells, OwnFieldSpells, ClassSpells, FieldSpells, MemberClassSpells, SuperFieldSpells, SimpleCallSpells, CallSpells, SuperCallSpells, CreationSpells}
 use Rattle.jr_images.specs.Keeping.{IsKept, IsBoundTo}
-use Rattle.jr_rename_laws.proofs.Chosen.{renamed_front, lost_some, left_none, right_none}
+use Rattle.jr_rename_laws.proofs.Chosen.{renamed_front, lost_some, left_none, right_none, lost_none}
 use Rattle.jr_images.proofs.Forms.{one_form, two_forms, with_name}
 use Rattle.jr_rename_laws.proofs.Places.{scope_image, type_image}
 use Rattle.jr_rename_laws.proofs.World.{World}
@@ -408,9 +408,6 @@ module _ {A : Type 0} (tells : A → ℕ → Span) (rows : List Row) (g : Renami
     move : (r : Role) (e : tree.Exp A) (o p : Rewritten (tree.Exp A)) → o ≡ p → Kept r e p.tree → Kept r e o.tree
     move r e o p is kept = subst (λ (z : Rewritten (tree.Exp A)). Kept r e z.tree) (sym is) kept
 
-    pub lose : {T : Type 0} (o p : Rewritten T) → o ≡ p → o.losses ≡ [] → p.losses ≡ []
-    lose {T} o p is none = sym (ap (λ (z : Rewritten T). z.losses) is) ∙ none
-
     -- of an operand, where it stays
     pub operand_none : (h : Choice) (ls : List Loss) → operand_losses tells h ls ++ losses_of h ≡ [] → drops_operand (front_of h) ≡ false → ls ≡ []
     operand_none h ls none stays = sym (ap (λ (b : Bool). if b then [] else ls) stays) ∙ left_none (operand_losses tells h ls) (losses_of h) none
@@ -429,16 +426,16 @@ module _ {A : Type 0} (tells : A → ℕ → Span) (rows : List Row) (g : Renami
         apart = λ _ k h. h;
         bound = λ b i at x h. absurd h.1;
       })
-      kept r base (tree.name m v) o (h, inl (inl (k, spells)), is) none = move r (tree.name m v) o (name_out tells h m base v) is (local_kept r m v _ h (lose o (name_out tells h m base v) is none) k spells)
-      kept r base (tree.name m v) o (h, inl (inr (k, spells)), is) none = move r (tree.name m v) o (name_out tells h m base v) is (own_field_kept r m v _ h (lose o (name_out tells h m base v) is none) k spells)
-      kept r base (tree.name m v) o (h, inr spells, is) none = move r (tree.name m v) o (name_out tells h m base v) is (class_kept r m v _ h (lose o (name_out tells h m base v) is none) r spells)
-      kept r base (tree.field m e v) o (h, p, inl spells, inner, is) none = let all = lose o (field_out tells h m base e p v) is none in
+      kept r base (tree.name m v) o (h, inl (inl (k, spells)), is) none = move r (tree.name m v) o (name_out tells h m base v) is (local_kept r m v _ h (lost_none o (name_out tells h m base v) is none) k spells)
+      kept r base (tree.name m v) o (h, inl (inr (k, spells)), is) none = move r (tree.name m v) o (name_out tells h m base v) is (own_field_kept r m v _ h (lost_none o (name_out tells h m base v) is none) k spells)
+      kept r base (tree.name m v) o (h, inr spells, is) none = move r (tree.name m v) o (name_out tells h m base v) is (class_kept r m v _ h (lost_none o (name_out tells h m base v) is none) r spells)
+      kept r base (tree.field m e v) o (h, p, inl spells, inner, is) none = let all = lost_none o (field_out tells h m base e p v) is none in
           move r (tree.field m e v) o (field_out tells h m base e p v) is (field_kept r m e p.tree v _ h (right_none (operand_losses tells h p.losses) (losses_of h) all)
           (λ stays. kept left _ e p inner (operand_none h p.losses all stays)) spells)
-      kept r base (tree.field m e v) o (h, p, inr spells, inner, is) none = let all = lose o (field_out tells h m base e p v) is none in
+      kept r base (tree.field m e v) o (h, p, inr spells, inner, is) none = let all = lost_none o (field_out tells h m base e p v) is none in
           move r (tree.field m e v) o (field_out tells h m base e p v) is (member_class_kept r m e p.tree v _ h (right_none (operand_losses tells h p.losses) (losses_of h) all)
           (λ stays. kept left _ e p inner (operand_none h p.losses all stays)) r spells)
-      kept r base (tree.super_field m v) o (h, spells, is) none = move r (tree.super_field m v) o (super_field_out tells h m base v) is (super_field_kept r m v _ h (lose o (super_field_out tells h m base v) is none) spells)
+      kept r base (tree.super_field m v) o (h, spells, is) none = move r (tree.super_field m v) o (super_field_out tells h m base v) is (super_field_kept r m v _ h (lost_none o (super_field_out tells h m base v) is none) spells)
       kept r base (tree.class_literal m t) o (p, types, is) none = move r (tree.class_literal m t) o _ is (record {
         typed = λ t h. ap (type_to g) h ∙ ap class w.class;
         named = λ k h. h;
@@ -447,36 +444,36 @@ module _ {A : Type 0} (tells : A → ℕ → Span) (rows : List Row) (g : Renami
       })
       kept r base (tree.call m tree.no_target v args) o (h, p, q, spells, target, row, is) none =
           let out = is ∙ ap (λ (z : Rewritten (Called tells)). joined (λ (t : Called tells) es. tree.call m t.target t.word es) z q) target in
-          let all = lose o (joined (λ (t : Called tells) es. tree.call m t.target t.word es) (simple_call_out tells h m base v) q) out none in
+          let all = lost_none o (joined (λ (t : Called tells) es. tree.call m t.target t.word es) (simple_call_out tells h m base v) q) out none in
           move r (tree.call m tree.no_target v args) o (joined (λ (t : Called tells) es. tree.call m t.target t.word es) (simple_call_out tells h m base v) q) out
           (simple_call_kept r m v args q.tree (λ ts types. kept_row _ args q row (right_none (losses_of h) q.losses all) ts types) _ h (left_none (losses_of h) q.losses all) spells)
       kept r base (tree.call m (tree.on e) v args) o (h, p, q, spells, (x, inner, target), row, is) none =
           let out = is ∙ ap (λ (z : Rewritten (Called tells)). joined (λ (t : Called tells) es. tree.call m t.target t.word es) z q) target in
-          let all = lose o (joined (λ (t : Called tells) es. tree.call m t.target t.word es) (dotted_call_out tells h m base e x v) q) out none in
+          let all = lost_none o (joined (λ (t : Called tells) es. tree.call m t.target t.word es) (dotted_call_out tells h m base e x v) q) out none in
           let front = left_none (operand_losses tells h x.losses ++ losses_of h) q.losses all in
           move r (tree.call m (tree.on e) v args) o (joined (λ (t : Called tells) es. tree.call m t.target t.word es) (dotted_call_out tells h m base e x v) q) out
           (call_kept r m v args q.tree (λ ts types. kept_row _ args q row (right_none (operand_losses tells h x.losses ++ losses_of h) q.losses all) ts types) _ h
           (right_none (operand_losses tells h x.losses) (losses_of h) front) e x.tree (λ stays. kept left _ e x inner (operand_none h x.losses front stays)) spells)
       kept r base (tree.super_call m v args) o (h, q, spells, row, is) none =
-          let all = lose o (joined (λ v es. tree.super_call m v es) (word_out tells h ((tells m base).from) v) q) is none in
+          let all = lost_none o (joined (λ v es. tree.super_call m v es) (word_out tells h ((tells m base).from) v) q) is none in
           move r (tree.super_call m v args) o (joined (λ v es. tree.super_call m v es) (word_out tells h ((tells m base).from) v) q) is
           (super_call_kept r m v args q.tree (λ ts types. kept_row _ args q row (right_none (losses_of h) q.losses all) ts types) _ h (left_none (losses_of h) q.losses all) spells)
       kept r base (tree.create m t args) o (h, p, q, spells, types, row, is) none =
-          let all = lose o _ is none in
+          let all = lost_none o _ is none in
           let parts = right_none (losses_of h) (p.losses ++ q.losses) all in
           move r (tree.create m t args) o _ is
           (creation_kept m t p.tree args q.tree (type_kept tells rows g c d w super_at _ t p types (left_none p.losses q.losses parts)) (λ ts have. kept_row _ args q row (right_none p.losses q.losses parts) ts have)
           base h (left_none (losses_of h) (p.losses ++ q.losses) all) r spells)
-      kept r base (tree.paren m e) o (p, inner, is) none = let part = kept value _ e p inner (lose o (within (λ x. tree.paren m x) p) is none) in
+      kept r base (tree.paren m e) o (p, inner, is) none = let part = kept value _ e p inner (lost_none o (within (λ x. tree.paren m x) p) is none) in
           move r (tree.paren m e) o (within (λ x. tree.paren m x) p) is (record { typed = part.typed; named = λ k h. h; apart = λ _ k h. h; bound = λ b i at x h. absurd h.1 })
-      kept r base (tree.cast m t e) o (p, q, types, inner, is) none = let all = lose o (joined (λ u x. tree.cast m u x) p q) is none in
+      kept r base (tree.cast m t e) o (p, q, types, inner, is) none = let all = lost_none o (joined (λ u x. tree.cast m u x) p q) is none in
           move r (tree.cast m t e) o (joined (λ u x. tree.cast m u x) p q) is
           (record { typed = type_kept tells rows g c d w super_at _ t p types (left_none p.losses q.losses all); named = λ k h. h; apart = λ _ k h. h; bound = λ b i. tt })
       kept r base (tree.unary m s e) o (p, inner, is) none = move r (tree.unary m s e) o _ is (record { typed = λ t h. ap (type_to g) h ∙ sign_stays g s; named = λ k h. h; apart = λ _ k h. h; bound = λ b i at x h. absurd h.1 })
       kept r base (tree.bump m s e) o (p, inner, is) none = move r (tree.bump m s e) o _ is (record { typed = λ t h. ap (type_to g) h; named = λ k h. h; apart = λ _ k h. h; bound = λ b i at x h. absurd h.1 })
       kept r base (tree.binary m s e f) o (p, q, one_side, other, is) none = move r (tree.binary m s e f) o _ is
           (record { typed = λ t h. ap (type_to g) h ∙ operator_stays g s; named = λ k h. h; apart = λ _ k h. h; bound = λ b i at x h. absurd h.1 })
-      kept r base (tree.assign m e f) o (p, q, one_side, other, is) none = let all = lose o (joined (λ u v. tree.assign m u v) p q) is none in let part = kept value _ e p one_side (left_none p.losses q.losses all) in
+      kept r base (tree.assign m e f) o (p, q, one_side, other, is) none = let all = lost_none o (joined (λ u v. tree.assign m u v) p q) is none in let part = kept value _ e p one_side (left_none p.losses q.losses all) in
           move r (tree.assign m e f) o (joined (λ u v. tree.assign m u v) p q) is (record { typed = part.typed; named = λ k h. h; apart = λ _ k h. h; bound = λ b i at x h. absurd h.1 })
       kept r base (tree.compound m s e f) o (p, q, one_side, other, is) none = move r (tree.compound m s e f) o _ is
           (record { typed = λ t h. ap (type_to g) h; named = λ k h. h; apart = λ _ k h. h; bound = λ b i at x h. absurd h.1 })
@@ -485,6 +482,6 @@ module _ {A : Type 0} (tells : A → ℕ → Span) (rows : List Row) (g : Renami
           → HaveTypes (rows_to g rows) d q.tree (types_to g ts)
       kept_row at tree.end q is none ts h = subst (λ (z : Rewritten (tree.Exps A)). HaveTypes (rows_to g rows) d z.tree (types_to g ts)) (sym is) (ap (types_to g) h)
       kept_row at (tree.more e es) q (x, xs, inner, rest, is) none [] h = absurd h
-      kept_row at (tree.more e es) q (x, xs, inner, rest, is) none (t ∷ ts) h = let all = lose q (joined (λ y ys. tree.more y ys) x xs) is none in
+      kept_row at (tree.more e es) q (x, xs, inner, rest, is) none (t ∷ ts) h = let all = lost_none q (joined (λ y ys. tree.more y ys) x xs) is none in
           subst (λ (z : Rewritten (tree.Exps A)). HaveTypes (rows_to g rows) d z.tree (type_to g t ∷ types_to g ts)) (sym is)
           ((kept value at e x inner (left_none x.losses xs.losses all)).typed t h.0, kept_row at es xs rest (right_none x.losses xs.losses all) ts h.1)

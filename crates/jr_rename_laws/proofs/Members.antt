@@ -26,7 +26,7 @@ use Rattle.jr_images.specs.Images.{Renaming, class_to, ctor_to, name_to, type_to
 use Rattle.jr_images.specs.Spelling.{reference, spelling, SuperCtorSpells, ParentSpells}
 use Rattle.jr_rename_laws.specs.Standing.{LocalsTo, ContextTo}
 use Rattle.jr_images.specs.Keeping.{IsKept, IsWritten, IsSuperKept, IsTopKept, IsParentKept}
-use Rattle.jr_rename_laws.proofs.Chosen.{renamed_text, renamed_front, lost_some, left_none, right_none}
+use Rattle.jr_rename_laws.proofs.Chosen.{renamed_text, renamed_front, lost_some, left_none, right_none, lost_none}
 use Rattle.jr_images.proofs.Forms.{one_form}
 use Rattle.jr_rename_laws.proofs.World.{World}
 use Rattle.jr_rename_laws.proofs.Types.{to_scope, written_kept}
@@ -69,9 +69,6 @@ module _ {A : Type 0} (tells : A → ℕ → Span) (rows : List Row) (g : Renami
 
   abbrev Parents : Option (List ℕ) → (base : ℕ) → tree.TypeName A → (base' : ℕ) → tree.TypeName A → Type 0
   Parents = IsParentKept g rows
-
-  lost_none : {T : Type 0} (o p : Rewritten T) → o ≡ p → o.losses ≡ [] → p.losses ≡ []
-  lost_none {T} o p is none = sym (ap (λ (z : Rewritten T). z.losses) is) ∙ none
 
   -- ---- what is known at the beginning of a member
 

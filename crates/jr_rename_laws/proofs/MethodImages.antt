@@ -20,6 +20,7 @@ use Rattle.jr_images.specs.Images.{Renaming, is_renamed}
 use Rattle.jr_images.specs.Clashes.{IsClear}
 use Rattle.jr_images.specs.Refusals.{HasPreludeMethod}
 use Rattle.jr_rename_laws.specs.ImageLaws.{MethodsGiveImages}
+use Rattle.jr_rename_laws.proofs.DeclarationRows.{early}
 use Rattle.jr_rename_laws.proofs.Still.{IsStill, with_target, without_target}
 use Rattle.jr_rename_laws.proofs.MemberNames.{OfMembers, member_names}
 use Rattle.jr_rename_laws.proofs.Apart.{members_apart}
@@ -68,9 +69,6 @@ module _ (rows : List Row) (k : MethodKey) (g : Renaming) (are : AreRenamed rows
         let e = h.1 in
         let same : m ≡ h.0 = cc in
         never (decl_text (method_decl h.0)) (h.0, h.2, subst (λ (z : MethodKey). IsOfPrelude rows (method_decl z)) same old, refl))
-
-    early : (i n : ℕ) → length prelude_rows ≡ n → i < n → i < length prelude_rows
-    early i n e h = subst (λ (m : ℕ). i < m) (sym e) h
 
     run_row : IsOfPrelude rows (method_decl (thread_key (codes "run")))
     run_row = (6, early 6 8 refl (omega arith), record { row = thread_row (word.Public ∷ []) (codes "run"); stands = ap (λ (xs : List Row). slice_get xs 6) of_rows.prelude; declares = refl })

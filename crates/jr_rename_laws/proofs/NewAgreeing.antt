@@ -25,7 +25,7 @@ use Rattle.jr_rename_laws.proofs.WrittenTypes.{WrittenAs, named_in_top, parent_m
 use Rattle.jr_rename_laws.proofs.Renamed.{Keeps, prelude_stays, object_stays}
 use Rattle.jr_rename_laws.proofs.ItemsBeside.{ParentTo, ClassTo, DeclarationsTo, class_forth, class_back}
 
-class_of_decl : (x y : ClassKey) → class_decl x ≡ class_decl y → x ≡ y
+pub class_of_decl : (x y : ClassKey) → class_decl x ≡ class_decl y → x ≡ y
 class_of_decl x y e = cc
 
 -- what a class row is the image of
@@ -117,7 +117,7 @@ module _ (rows : List Row) (g : Renaming) (keeps : Keeps rows g) (ss ts : List D
       new.0 ∙ sym (top_found_is Rows v (class_to g h.class) h.new) ∙ ap (class_to g) (top_found_is rows w h.class h.old ∙ sym old.0)
 
 module _ (g : Renaming) where
-  outer_none : (o : Option (List ℕ)) → outer_to g o ≡ None → o ≡ None
+  pub outer_none : (o : Option (List ℕ)) → outer_to g o ≡ None → o ≡ None
   outer_none None e = refl
   outer_none (Some o) e = absurd cc
 

@@ -27,7 +27,7 @@ use Rattle.jr_program_laws.proofs.RowsOfDeclarations.{gives}
 use Rattle.jr_program_laws.proofs.Agreeing.{ClassRow, one_key}
 use Rattle.jr_rename_laws.proofs.WrittenTypes.{place, WrittenAs, meant, written_means}
 use Rattle.jr_rename_laws.proofs.ItemsBeside.{ParamsTo, ClassTo, ItemTo, DeclarationsTo}
-use Rattle.jr_rename_laws.proofs.NewAgreeing.{Both, image_row, new_one, new_tops, new_parents}
+use Rattle.jr_rename_laws.proofs.NewAgreeing.{Both, image_row, new_one, new_tops, new_parents, outer_none}
 use Rattle.jr_rename_laws.proofs.NewRows.{declarer}
 
 abbrev pub HasRow : List Row → Decl → Type 0
@@ -173,10 +173,6 @@ module _ (rows : List Row) (g : Renaming) (ss ts : List DeclaredItem) (two : Bot
       let same = one_type a.0.type b.0.type (class_has of p.type a.0.type a.0.old) (class_has of q.type b.0.type b.0.old) (sym first ∙ second) in
       ((a.0.type, left, subst (Means ss of q.type) (sym same) right), types_back of n i ps qs us vs a.2 b.2 h.1)
 
-  no_outer : (o : Option (List ℕ)) → outer_to g o ≡ None → o ≡ None
-  no_outer None e = refl
-  no_outer (Some o) e = absurd cc
-
   -- the class around, by its name in the new program
   owner : (of of' : ClassKey) → of' ≡ class_to g of → of.outer ≡ None → HasRow rows (class_decl of) → (m : List ℕ) → HasRow rows (class_decl (top_key m)) → name_to g (class_decl (top_key m)) m ≡ of'.name → m ≡ of.name
   owner of of' same none row m there is =
@@ -258,7 +254,7 @@ module _ (rows : List Row) (g : Renaming) (ss ts : List DeclaredItem) (two : Bot
     its_name_back k fresh j i f c d row above h (field_item x) (field_item y) at to (top, around, called) =
         let r = field_row i f x at in
         let m = around_back rows g k fresh c.key.outer y.of.name (ap (λ (z : ClassKey). z.outer) (sym h.key) ∙ around) in
-        let none = no_outer x.of.outer (ap (λ (z : ClassKey). z.outer) (sym to.of) ∙ top) in
+        let none = outer_none g x.of.outer (ap (λ (z : ClassKey). z.outer) (sym to.of) ∙ top) in
         let is = owner x.of y.of to.of none r.1 m.0 (above m.0 m.1) m.2 in
         (none, m.1 ∙ ap (λ (n : List ℕ). Some n) is, by (name_case rows g k fresh c.key) r.0 (m.1 ∙ ap (λ (n : List ℕ). Some n) is) none (sym to.name ∙ called ∙ ap (λ (z : ClassKey). z.name) h.key))
       where
@@ -269,7 +265,7 @@ module _ (rows : List Row) (g : Renaming) (ss ts : List DeclaredItem) (two : Bot
     its_name_back k fresh j i f c d row above h (method_item x) (method_item y) at to (top, around, called) =
         let r = method_row i f x at in
         let m = around_back rows g k fresh c.key.outer y.of.name (ap (λ (z : ClassKey). z.outer) (sym h.key) ∙ around) in
-        let none = no_outer x.of.outer (ap (λ (z : ClassKey). z.outer) (sym to.of) ∙ top) in
+        let none = outer_none g x.of.outer (ap (λ (z : ClassKey). z.outer) (sym to.of) ∙ top) in
         let is = owner x.of y.of to.of none r.1 m.0 (above m.0 m.1) m.2 in
         (none, m.1 ∙ ap (λ (n : List ℕ). Some n) is, by (name_case rows g k fresh c.key) r.0.0 r.0.1 (m.1 ∙ ap (λ (n : List ℕ). Some n) is) none (sym to.name ∙ called ∙ ap (λ (z : ClassKey). z.name) h.key))
       where

@@ -13,16 +13,13 @@ use Rattle.jr_table.specs.DeclaredItems.{Written, DeclaredParam, DeclaredClass, 
 use Rattle.jr_table.specs.Resolving.{Means}
 use Rattle.jr_table.specs.ProgramRows.{is_access, MeanTypes, MeansResult, IsClassRow, IsFieldRow, IsMethodRow, IsCtorRow, unwritten_row, AreRowsOfDeclarations, AreProgramRows}
 use Rattle.jr_build.proofs.Apart.{In, in_right, in_stands}
+use Rattle.jr_members.proofs.Walking.{map_join}
 use Rattle.jr_images.specs.Images.{Renaming, name_to, class_to, type_to, types_to, decl_to, row_to, rows_to}
 use Rattle.jr_program_laws.proofs.Agreeing.{ClassRow}
 use Rattle.jr_images.proofs.KeyImages.{keeps_name}
 use Rattle.jr_rename_laws.proofs.WrittenTypes.{meant, written_means}
 use Rattle.jr_rename_laws.proofs.ItemsBeside.{TypeTo, ResultTo, ParamsTo, ClassTo, FieldTo, MethodTo, CtorTo, ItemTo, DeclarationsTo}
 use Rattle.jr_rename_laws.proofs.NewAgreeing.{Both, image_row, image_parent, new_one, new_tops, new_parents}
-
-map_both : {S U : Type 0} (f : S → U) (xs ys : List S) → map f (xs ++ ys) ≡ map f xs ++ map f ys
-map_both f [] ys = refl
-map_both f (x ∷ xs) ys = ap (λ zs. f x ∷ zs) (map_both f xs ys)
 
 module _ (rows : List Row) (g : Renaming) (ss ts : List DeclaredItem) (two : Both rows g ss ts) where
   -- what a type of the new program means
@@ -180,6 +177,6 @@ module _ (rows : List Row) (g : Renaming) (ss ts : List DeclaredItem) (two : Bot
   pub program_rows : AreProgramRows ss rows → rows_to g prelude_rows ≡ prelude_rows → AreProgramRows ts (rows_to g rows)
   program_rows (own, is, are) stays = (
     rows_to g own,
-    ap (rows_to g) is ∙ map_both (row_to g) prelude_rows own ∙ ap (λ (front : List Row). front ++ rows_to g own) stays,
+    ap (rows_to g) is ∙ map_join (row_to g) prelude_rows own ∙ ap (λ (front : List Row). front ++ rows_to g own) stays,
     own_rows ss ts two.to own (λ r x. subst (λ (rs : List Row). In rs r) (sym is) (in_right prelude_rows own r x)) are,
   )

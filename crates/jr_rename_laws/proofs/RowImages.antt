@@ -10,15 +10,12 @@ use Rattle.jr_table.specs.DeclaredItems.{Written, DeclaredParam, DeclaredInit, D
 use Rattle.jr_table.specs.Resolving.{IsParent, Means}
 use Rattle.jr_table.specs.ProgramRows.{is_access, MeanTypes, MeansResult, IsClassRow, unwritten_row, IsFieldRow, IsMethodRow, IsCtorRow, AreRowsOfDeclarations, AreProgramRows}
 use Rattle.jr_table.specs.Faults.{PackageLine, IsClean}
+use Rattle.jr_members.proofs.Walking.{map_join}
 use Rattle.jr_images.specs.Images.{Renaming, name_to, class_to, type_to, decl_to, row_to, rows_to}
 use Rattle.jr_rename_laws.proofs.SameClasses.{ClassesGo, parent_goes, means_goes, result_goes}
 use Rattle.jr_rename_laws.proofs.Still.{IsStill, class_same, type_same, types_same, prelude_same}
 use Rattle.jr_program_laws.proofs.MeansOnce.{mean_types_once}
 use Rattle.jr_rename_laws.proofs.DeclarationImages.{forms_of, ClassTo, ParamsTo, FieldTo, MethodTo, CtorTo, ItemTo, DeclarationsTo, classes_forth, classes_back}
-
-pub map_both : {S U : Type 0} (f : S → U) (xs ys : List S) → map f (xs ++ ys) ≡ map f xs ++ map f ys
-map_both f [] ys = refl
-map_both f (x ∷ xs) ys = ap (λ zs. f x ∷ zs) (map_both f xs ys)
 
 some_form : (x : Option DeclaredInit) → is_some (forms_of x) ≡ is_some x
 some_form None = refl
@@ -152,6 +149,6 @@ module _ (g : Renaming) (still : IsStill g) (packages : List (Option PackageLine
   pub program_rows : (rows : List Row) → AreProgramRows ss rows → AreProgramRows ts (rows_to g rows)
   program_rows rows (own, is, are) = (
     rows_to g own,
-    ap (rows_to g) is ∙ map_both (row_to g) prelude_rows own ∙ ap (λ (front : List Row). front ++ rows_to g own) (prelude_same g still),
+    ap (rows_to g) is ∙ map_join (row_to g) prelude_rows own ∙ ap (λ (front : List Row). front ++ rows_to g own) (prelude_same g still),
     own_rows ss ts to own are,
   )

@@ -19,7 +19,7 @@ use Rattle.jr_images.specs.Images.{Renaming, name_to, type_to, rows_to}
 use Rattle.jr_images.specs.Spelling.{renamed, spelling}
 use Rattle.jr_rename_laws.specs.Standing.{LocalTo, LocalsTo, ContextTo}
 use Rattle.jr_images.specs.Keeping.{IsKept, IsTypeKept, IsWritten}
-use Rattle.jr_rename_laws.proofs.Chosen.{renamed_text, left_none, right_none}
+use Rattle.jr_rename_laws.proofs.Chosen.{renamed_text, left_none, right_none, lost_none}
 use Rattle.jr_rename_laws.proofs.World.{World}
 use Rattle.jr_rename_laws.proofs.Types.{written_kept}
 use Rattle.jr_rename_laws.proofs.Alongside.{along}
@@ -105,9 +105,6 @@ module _ {A : Type 0} (tells : A → ℕ → Span) (rows : List Row) (g : Renami
   abbrev SideStmt : (n : ℕ) (c d : Context) (b i : ℕ) → statement.Stmt A → statement.Stmt A → Type 0
   SideStmt n c d b i x y = AlongStmt (λ m b. (tells m b).from) (λ m b. (tells m b).from) Keeps Writes n c d b i x y
 
-  pub gone : {T : Type 0} (o p : Rewritten T) → o ≡ p → o.losses ≡ [] → p.losses ≡ []
-  gone {T} o p is none = sym (ap (λ (z : Rewritten T). z.losses) is) ∙ none
-
   module _ (c d : Context) (stand : ContextTo g rows c d) where
     -- a local that is declared has become one
     new_local : (n : ℕ) (final : Bool) (t u : tree.TypeName A) (w : tree.Word A) (h : Choice) → ((k : Ty) → WritesType rows (scope_of c) t k → WritesType (rows_to g rows) (scope_of d) u (type_to g k))
@@ -135,14 +132,14 @@ module _ {A : Type 0} (tells : A → ℕ → Span) (rows : List Row) (g : Renami
     maybe_along b i (Some e) o (p, made, is) none = (
       p.tree,
       ap (λ (z : Rewritten (Option (tree.Exp A))). z.tree) is,
-      goes_along value b i e p made (gone o (within (λ (x : tree.Exp A). Some x) p) is none),
+      goes_along value b i e p made (lost_none o (within (λ (x : tree.Exp A). Some x) p) is none),
     )
 
     -- behind a statement
     after_to : (n : ℕ) (b : ℕ) (x : statement.Stmt A) (q : Rewritten (statement.Stmt A)) → RewritesStmt tells Chosen n c b x q → q.losses ≡ [] → ContextTo g rows (after n c x) (after n d q.tree)
     unfolding RewritesStmt
     after_to n b (statement.local m f t w e) q (p, v, z, types, (h, declared, word), inner, is) none =
-        let all = gone q (joined (λ (u : tree.TypeName A × tree.Word A) x. statement.local m f u.0 u.1 x) (joined (λ u z. (u, z)) p v) z) is none in
+        let all = lost_none q (joined (λ (u : tree.TypeName A × tree.Word A) x. statement.local m f u.0 u.1 x) (joined (λ u z. (u, z)) p v) z) is none in
         let there = ap (λ (y : Rewritten (statement.Stmt A)). y.tree) is ∙ ap (λ (y : Rewritten (tree.Word A)). statement.local m f p.tree y.tree z.tree) word in
         subst (λ (y : statement.Stmt A). ContextTo g rows (with_local c (local_of c n f t w)) (after n d y)) (sym there)
         (with_more g rows c d (local_of c n f t w) (local_of d n f p.tree (word_to h w)) stand
@@ -160,7 +157,7 @@ module _ {A : Type 0} (tells : A → ℕ → Span) (rows : List Row) (g : Renami
 
     pub stmt_along : (n : ℕ) (c d : Context) → ContextTo g rows c d → (b i : ℕ) (x : statement.Stmt A) (q : Rewritten (statement.Stmt A)) → RewritesStmt tells Chosen n c b x q → q.losses ≡ [] → SideStmt n c d b i x q.tree
     stmt_along n c d stand b i (statement.local m f t w e) q (p, v, z, types, (h, declared, word), inner, is) none =
-        let all = gone q (joined (λ (u : tree.TypeName A × tree.Word A) x. statement.local m f u.0 u.1 x) (joined (λ u z. (u, z)) p v) z) is none in
+        let all = lost_none q (joined (λ (u : tree.TypeName A × tree.Word A) x. statement.local m f u.0 u.1 x) (joined (λ u z. (u, z)) p v) z) is none in
         let goes = types_go c d stand _ t p types (left_none p.losses v.losses (left_none (p.losses ++ v.losses) z.losses all)) in (
           m,
           p.tree,
@@ -173,9 +170,9 @@ module _ {A : Type 0} (tells : A → ℕ → Span) (rows : List Row) (g : Renami
               value _ _ e z inner (right_none (p.losses ++ v.losses) z.losses all),
         )
     stmt_along n c d stand b i (statement.eval m e) q (p, inner, is) none =
-        (m, p.tree, ap (λ (y : Rewritten (statement.Stmt A)). y.tree) is, goes_along c d stand role.statement _ _ e p inner (gone q (within (λ x. statement.eval m x) p) is none))
+        (m, p.tree, ap (λ (y : Rewritten (statement.Stmt A)). y.tree) is, goes_along c d stand role.statement _ _ e p inner (lost_none q (within (λ x. statement.eval m x) p) is none))
     stmt_along n c d stand b i (statement.branch m e x other) q (p, y, z, inner, one_side, other_side, is) none =
-        let all = gone q (joined (λ (u : tree.Exp A × statement.Stmt A) v. statement.branch m u.0 u.1 v) (joined (λ u v. (u, v)) p y) z) is none in
+        let all = lost_none q (joined (λ (u : tree.Exp A × statement.Stmt A) v. statement.branch m u.0 u.1 v) (joined (λ u v. (u, v)) p y) z) is none in
         let front = left_none (p.losses ++ y.losses) z.losses all in (
           m,
           p.tree,
@@ -186,13 +183,13 @@ module _ {A : Type 0} (tells : A → ℕ → Span) (rows : List Row) (g : Renami
           stmt_along n c d stand _ _ x y one_side (right_none p.losses y.losses front),
           else_along (n + locals_in x) c d stand _ _ other z other_side (right_none (p.losses ++ y.losses) z.losses all),
         )
-    stmt_along n c d stand b i (statement.loop m e x) q (p, y, inner, body, is) none = let all = gone q (joined (λ u v. statement.loop m u v) p y) is none in
+    stmt_along n c d stand b i (statement.loop m e x) q (p, y, inner, body, is) none = let all = lost_none q (joined (λ u v. statement.loop m u v) p y) is none in
         (m, p.tree, y.tree, ap (λ (y : Rewritten (statement.Stmt A)). y.tree) is, goes_along c d stand value _ _ e p inner (left_none p.losses y.losses all), stmt_along n c d stand _ _ x y body (right_none p.losses y.losses all))
     stmt_along n c d stand b i (statement.return m e) q (p, inner, is) none =
-        (m, p.tree, ap (λ (y : Rewritten (statement.Stmt A)). y.tree) is, maybe_along c d stand _ _ e p inner (gone q (within (λ x. statement.return m x) p) is none))
+        (m, p.tree, ap (λ (y : Rewritten (statement.Stmt A)). y.tree) is, maybe_along c d stand _ _ e p inner (lost_none q (within (λ x. statement.return m x) p) is none))
     stmt_along n c d stand b i (statement.block m body) q (p, inner, is) none =
-        (m, p.tree, ap (λ (y : Rewritten (statement.Stmt A)). y.tree) is, stmts_along n c d stand _ _ body p inner (gone q (within (λ x. statement.block m x) p) is none))
-    stmt_along n c d stand b i (statement.sync m e body) q (p, y, inner, rest, is) none = let all = gone q (joined (λ u v. statement.sync m u v) p y) is none in
+        (m, p.tree, ap (λ (y : Rewritten (statement.Stmt A)). y.tree) is, stmts_along n c d stand _ _ body p inner (lost_none q (within (λ x. statement.block m x) p) is none))
+    stmt_along n c d stand b i (statement.sync m e body) q (p, y, inner, rest, is) none = let all = lost_none q (joined (λ u v. statement.sync m u v) p y) is none in
         (m, p.tree, y.tree, ap (λ (y : Rewritten (statement.Stmt A)). y.tree) is, goes_along c d stand value _ _ e p inner (left_none p.losses y.losses all), stmts_along n c d stand _ _ body y rest (right_none p.losses y.losses all))
     stmt_along n c d stand b i (statement.empty m) q is none = (m, ap (λ (y : Rewritten (statement.Stmt A)). y.tree) is)
 
@@ -200,12 +197,12 @@ module _ {A : Type 0} (tells : A → ℕ → Span) (rows : List Row) (g : Renami
         → AlongElse (λ m b. (tells m b).from) (λ m b. (tells m b).from) Keeps Writes n c d b i x q.tree
     else_along n c d stand b i statement.no_else q is none = ap (λ (y : Rewritten (statement.Else A)). y.tree) is
     else_along n c d stand b i (statement.otherwise x) q (p, inner, is) none =
-        (p.tree, ap (λ (y : Rewritten (statement.Else A)). y.tree) is, stmt_along n c d stand b i x p inner (gone q (within (λ y. statement.otherwise y) p) is none))
+        (p.tree, ap (λ (y : Rewritten (statement.Else A)). y.tree) is, stmt_along n c d stand b i x p inner (lost_none q (within (λ y. statement.otherwise y) p) is none))
 
     pub stmts_along : (n : ℕ) (c d : Context) → ContextTo g rows c d → (b i : ℕ) (xs : statement.Stmts A) (q : Rewritten (statement.Stmts A)) → RewritesStmts tells Chosen n c b xs q → q.losses ≡ []
         → AlongStmts (λ m b. (tells m b).from) (λ m b. (tells m b).from) Keeps Writes n c d b i xs q.tree
     stmts_along n c d stand b i statement.end q is none = ap (λ (y : Rewritten (statement.Stmts A)). y.tree) is
-    stmts_along n c d stand b i (statement.more x xs) q (p, z, inner, rest, is) none = let all = gone q (joined (λ y ys. statement.more y ys) p z) is none in (
+    stmts_along n c d stand b i (statement.more x xs) q (p, z, inner, rest, is) none = let all = lost_none q (joined (λ y ys. statement.more y ys) p z) is none in (
       p.tree,
       z.tree,
       ap (λ (y : Rewritten (statement.Stmts A)). y.tree) is,

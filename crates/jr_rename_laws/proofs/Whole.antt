@@ -14,6 +14,7 @@ use Rattle.jr_table.specs.ProgramRows.{AreProgramRows}
 use Rattle.jr_build.proofs.OneRows.{program_once}
 use Rattle.jr_members.proofs.DeclarationRows.{once, not_reserved}
 use Rattle.jr_program_laws.proofs.MeansOnce.{means_once, parent_once}
+use Rattle.jr_members.proofs.Walking.{map_join}
 use Rattle.jr_images.specs.Targets.{IsOfPrelude}
 use Rattle.jr_images.specs.Images.{Renaming, row_to, rows_to}
 use Rattle.jr_images.specs.RenameLaws.{ReferencesAreKept}
@@ -21,19 +22,16 @@ use Rattle.jr_rename_laws.specs.ImageLaws.{ClassesStayFair}
 use Rattle.jr_program_laws.proofs.RowsOfDeclarations.{gives}
 use Rattle.jr_program_laws.proofs.Programs.{program_agrees, tops_agree, parents_agree}
 use Rattle.jr_rename_laws.specs.ClassLaws.{ClassesGiveImages, BuiltRowsAreImages}
+use Rattle.jr_rename_laws.proofs.DeclarationRows.{early}
 use Rattle.jr_rename_laws.proofs.Renamed.{Keeps, target, not_target}
 use Rattle.jr_rename_laws.proofs.Objects.{object_old, object_named, object_of}
 use Rattle.jr_rename_laws.proofs.TreesBeside.{units_go}
 use Rattle.jr_rename_laws.proofs.ClassDeclarations.{all_declarations}
-use Rattle.jr_rename_laws.proofs.NewAgreeing.{Both}
+use Rattle.jr_rename_laws.proofs.NewAgreeing.{Both, class_of_decl}
 use Rattle.jr_rename_laws.proofs.NewRows.{program_rows}
 use Rattle.jr_rename_laws.proofs.NewNames.{Fresh}
 use Rattle.jr_rename_laws.proofs.NewClean.{is_clean}
 use Rattle.jr_rename_laws.proofs.MembersBeside.{member_images}
-
-map_both : {S U : Type 0} (f : S → U) (xs ys : List S) → map f (xs ++ ys) ≡ map f xs ++ map f ys
-map_both f [] ys = refl
-map_both f (x ∷ xs) ys = ap (λ zs. f x ∷ zs) (map_both f xs ys)
 
 -- lists that go on differently begin alike
 front_same : {X : Type 0} (xs ys us vs : List X) → length xs ≡ length ys → xs ++ us ≡ ys ++ vs → xs ≡ ys
@@ -48,12 +46,9 @@ front_same (x ∷ xs) (y ∷ ys) us vs l e =
 -- the rows of the prelude stay
 pub prelude_stay : (rows : List Row) (g : Renaming) → AreRows rows → AreRows (rows_to g rows) → rows_to g prelude_rows ≡ prelude_rows
 prelude_stay rows g old new =
-    front_same (rows_to g prelude_rows) prelude_rows (rows_to g old.own) new.own refl (sym (map_both (row_to g) prelude_rows old.own) ∙ sym (ap (rows_to g) old.prelude) ∙ new.prelude)
+    front_same (rows_to g prelude_rows) prelude_rows (rows_to g old.own) new.own refl (sym (map_join (row_to g) prelude_rows old.own) ∙ sym (ap (rows_to g) old.prelude) ∙ new.prelude)
 
 module _ (rows : List Row) (are : AreRows rows) where
-  early : (i n : ℕ) → length prelude_rows ≡ n → i < n → i < length prelude_rows
-  early i n e h = subst (λ (m : ℕ). i < m) (sym e) h
-
   pub of_prelude : (name : List ℕ) → IsPreludeClass name → IsOfPrelude rows (class_decl (top_key name))
   of_prelude name (inl e) =
       (0, early 0 8 refl (omega arith), record { row = class_row [] (codes "Object") None; stands = ap (λ (xs : List Row). slice_get xs 0) are.prelude; declares = ap (λ (n : List ℕ). class_decl (top_key n)) (sym e) })
@@ -69,9 +64,6 @@ pub superclass_of : (declarations : List DeclaredItem) (rows : List Row) → Are
 superclass_of declarations rows program k c at =
     let r = gives declarations rows program at.number at.file (class_item c) at.stands in
     (r.2.superclass, subst (λ (x : ClassKey). IsParent declarations x r.2.superclass) at.is r.2.is_parent)
-
-class_of_decl : (x y : ClassKey) → class_decl x ≡ class_decl y → x ≡ y
-class_of_decl x y e = cc
 
 pub class_images : {A B : Type 0} → ReferencesAreKept A → ClassesStayFair A → ClassesGiveImages A B
 class_images kept fair_law tells begins' packages rows super_at units k g news c above =

@@ -30,7 +30,7 @@ no_edits : (ss : List Source) → with_edits ss [] ≡ ss
 no_edits [] = refl
 no_edits (s ∷ ss) = refl
 
-length-edited : (ss : List Source) (es : List (List Entry)) → length (with_edits ss es) ≡ length ss
+pub length-edited : (ss : List Source) (es : List (List Entry)) → length (with_edits ss es) ≡ length ss
 length-edited [] es = refl
 length-edited (s ∷ ss) [] = refl
 length-edited (s ∷ ss) (e ∷ es) = ap suc (length-edited ss es)

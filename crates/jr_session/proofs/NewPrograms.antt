@@ -37,9 +37,10 @@ use Rattle.jr_session.specs.Promises.{IsSpliced, KeepsProgram, Promises, Renames
 use Rattle.jr_session.specs.Renaming.{IsRenamed}
 use Rattle.jr_session.specs.States.{State}
 use Rattle.jr_session.specs.Stepping.{Steps}
+use Rattle.jr_session.proofs.Making.{length-edited}
 use Rattle.jr_session.proofs.BareReferences.{kept_bare, written_bare, super_kept_bare, parent_kept_bare}
 use Rattle.jr_session.proofs.NewRows.{new_rows}
-use Rattle.jr_session.proofs.NewTrees.{count_with, with_at, units_are, became, trees as new_trees}
+use Rattle.jr_session.proofs.NewTrees.{with_at, units_are, became, trees as new_trees}
 use Rattle.jr_session.proofs.TakenBack.{renamed_of, undone_after}
 
 -- ---- trees
@@ -134,7 +135,7 @@ module _ (one : OneReading Span) (named : RowsAreNamed Span) (dots : NamesHaveNo
       dispatch = λ of m was runs.
           subst (λ (rows : List Row). DispatchesTo rows (class_to plan.planned.g of) (method_to plan.planned.g m) (method_to plan.planned.g was)) (sym new_images.0)
           (dispatch p.rows plan.planned.g before.is.are_rows (subst AreRows new_images.0 is.program.is.are_rows) plan.planned.dispatch of m was runs);
-      count = ap length files_are ∙ count_with s.files is.edits;
+      count = ap length files_are ∙ length-edited s.files is.edits;
       back = λ answer u h. undone_after s t file at new names n is u answer h;
       texts = λ i old there.
           (let b = texts i old there in (b.0, b.1, subst (λ (ss : List Source). slice_get ss i ≡ Some b.0) (sym files_are) b.2, b.3, b.4));

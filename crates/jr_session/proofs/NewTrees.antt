@@ -25,14 +25,10 @@ use Rattle.jr_sources.proofs.AllRead.{element, text_there}
 use Rattle.jr_sources.proofs.Analysing.{counts, unit_read}
 use Rattle.jr_sources.proofs.WholeProgram.{length-files, units_files}
 use Rattle.jr_session.specs.NewTexts.{with_edits}
+use Rattle.jr_session.proofs.Making.{length-edited}
 use Rattle.jr_session.proofs.Planning.{file as file_there}
 
 -- ---- new sources
-
-pub count_with : (ss : List Source) (es : List (List Entry)) → length (with_edits ss es) ≡ length ss
-count_with [] es = refl
-count_with (s ∷ ss) [] = refl
-count_with (s ∷ ss) (e ∷ es) = ap suc (count_with ss es)
 
 pub with_at : (ss : List Source) (es : List (List Entry)) (i : ℕ) (s : Source) (e : List Entry) → slice_get ss i ≡ Some s → slice_get es i ≡ Some e → slice_get (with_edits ss es) i ≡ Some (record { name = s.name; text = splice s.text e })
 with_at [] es i s e at is = absurd (none-some s at)
@@ -88,7 +84,7 @@ module _ (read : NewTextsRead) (sources : List Source) (p : Program Span) (befor
         same_trees units plan.planned.files (many ∙ sym planned) each
       where
         many : length units ≡ length sources
-        many = (counts (with_edits sources edits) units words are).0 ∙ count_with sources edits
+        many = (counts (with_edits sources edits) units words are).0 ∙ length-edited sources edits
 
         each : (i : ℕ) (u : UnitTree Span) (o : Rewritten (UnitTree Span)) → slice_get units i ≡ Some u → slice_get plan.planned.files i ≡ Some o → bare_unit u ≡ bare_unit o.tree
         each i u o there stands =

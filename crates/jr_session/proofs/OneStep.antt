@@ -8,6 +8,7 @@ use Rattle.jr_names.specs.Replies.{Reply, edited, refactored, shown, undone, red
 use Rattle.jr_names.specs.Refusals.{Refusal}
 use Rattle.jr_lines.specs.Lines.{bytes_of}
 use Rattle.jr_sources.specs.Sources.{Differ}
+use Rattle.jr_session.proofs.RefusalCases.{undo_no_edit}
 use Rattle.jr_session.specs.States.{State, IsUndone, IsRedone}
 use Rattle.jr_session.specs.Refusing.{IsFirstRefusal, IsGranted}
 use Rattle.jr_members.specs.WrittenLaws.{MembersAreWritten}
@@ -46,9 +47,6 @@ edit_not_redo file text from to e = cc
 edit_not_show : (file text name : List ℕ) (from to : ℕ) → step.Edit file from to text ≡ step.Show name what.Bindings → ⊥
 edit_not_show file text name from to e = cc
 
-undo_not_edit : (file text : List ℕ) (from to : ℕ) → step.Undo ≡ step.Edit file from to text → ⊥
-undo_not_edit file text from to e = cc
-
 undo_not_show : (name : List ℕ) → step.Undo ≡ step.Show name what.Bindings → ⊥
 undo_not_show name e = cc
 
@@ -73,7 +71,7 @@ edit_answers s file text from to redone t h = absurd (edit_not_redo file text fr
 edit_answers s file text from to (refused x) t h = inl (x, refl, h.0, h.1)
 
 undo_answers : (s : State) (r : Reply) (t : State) → Steps s step.Undo r t → Answers s step.Undo undone (λ u. IsUndone s u) r t
-undo_answers s edited t h = absurd (undo_not_edit h.1.edit.file h.1.text h.1.span.from h.1.span.to h.1.edit.is)
+undo_answers s edited t h = absurd (undo_no_edit h.1.edit.file h.1.text h.1.span.from h.1.span.to h.1.edit.is)
 undo_answers s (refactored a b) t h = absurd h.1
 undo_answers s (shown a) t h = absurd (undo_not_show h.1.shows.file h.1.shows.is)
 undo_answers s undone t h = inr (refl, h.0, h.1.1)

@@ -64,7 +64,7 @@ edit_refusals s file text from to (too_many_sites a b) h = absurd h
 
 -- ---- undoing
 
-undo_no_edit : (file text : List ℕ) (from to : ℕ) → step.Undo ≡ step.Edit file from to text → ⊥
+pub undo_no_edit : (file text : List ℕ) (from to : ℕ) → step.Undo ≡ step.Edit file from to text → ⊥
 undo_no_edit file text from to e = cc
 
 undo_no_show : (shown : List ℕ) → step.Undo ≡ step.Show shown what.Bindings → ⊥

@@ -10,7 +10,7 @@ use Rattle.jr_session.specs.Renaming.{IsRenamed}
 use Rattle.jr_session.specs.States.{State, IsUndone}
 use Rattle.jr_session.specs.Stepping.{Steps}
 use Rattle.jr_session.specs.Promises.{IsDone, IsTakenBack}
-use Rattle.jr_session.proofs.RefusalCases.{undo_refusals}
+use Rattle.jr_session.proofs.RefusalCases.{undo_refusals, undo_no_edit}
 
 -- ---- what an accepted rename is
 
@@ -73,9 +73,6 @@ same_sources (x ∷ ss) (y ∷ ts) n t =
     λ i. record { name = name i; text = text i } ∷ rest i
 
 -- ---- the undoing
-
-undo_no_edit : (file text : List ℕ) (from to : ℕ) → step.Undo ≡ step.Edit file from to text → ⊥
-undo_no_edit file text from to e = cc
 
 undo_no_show : (file : List ℕ) → step.Undo ≡ step.Show file what.Bindings → ⊥
 undo_no_show file e = cc
