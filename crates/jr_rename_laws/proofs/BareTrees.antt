@@ -4,7 +4,7 @@ use Rattle.std.specs.Prelude.{◌&&◌, option_map}
 use Rattle.jr_ast.specs.Tree as tree
 use Rattle.jr_ast.specs.MemberTree as syntax
 use Rattle.jr_ast.specs.Remarked.{map_word, map_type, map_exp, map_exps}
-use Rattle.jr_table.specs.Declared.{is_minus, is_number, is_object, has_none, is_simple}
+use Rattle.jr_table.specs.DeclaredItems.{is_minus, is_number, is_object, has_none, is_simple}
 use Rattle.jr_rename_laws.specs.ImageLaws.{no_mark}
 
 pub cons_head : {T : Type 0} (x y : T) (xs ys : List T) → x ∷ xs ≡ y ∷ ys → x ≡ y
