@@ -4,20 +4,8 @@ use Rattle.jr_ast.specs.declared.stmts.Stmt.{Stmt}
 use Rattle.jr_ast.specs.View.{stmt_of, stmts_of}
 use Rattle.jr_ast.proofs.Sizes.{stmt_size, stmts_size, else_size}
 
-pub falls_first : (whole n size shown t : ℕ) → shown ≡ size → whole ≡ suc (size + n) → 4 * whole ≡ t → 4 * shown + 1 < t
-falls_first whole n size shown t e w h = omega arith
-
 pub falls_second : (whole n size t : ℕ) → whole ≡ suc (n + size) → 4 * whole ≡ t → 4 * size + 2 < t
 falls_second whole n size t w h = omega arith
-
-pub falls_only : (whole size shown t : ℕ) → shown ≡ size → whole ≡ suc size → 4 * whole ≡ t → 4 * shown + 1 < t
-falls_only whole size shown t e w h = omega arith
-
-pub falls_list : (whole size shown t : ℕ) → shown ≡ size → whole ≡ suc size → 4 * whole ≡ t → 4 * shown + 2 < t
-falls_list whole size shown t e w h = omega arith
-
-pub falls_held : (n n' t : ℕ) → n ≡ n' → 4 * n' + 2 ≡ t → 4 * n + 1 < t
-falls_held n n' t e h = omega arith
 
 -- the same statement, or list, passed on
 pub falls_within : (n t : ℕ) → 4 * n + 1 ≡ t → 4 * n < t

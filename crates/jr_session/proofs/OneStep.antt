@@ -8,7 +8,7 @@ use Rattle.jr_names.specs.Replies.{Reply, edited, refactored, shown, undone, red
 use Rattle.jr_names.specs.Refusals.{Refusal}
 use Rattle.jr_lines.specs.Lines.{bytes_of}
 use Rattle.jr_sources.specs.Sources.{Differ}
-use Rattle.jr_session.proofs.RefusalCases.{undo_no_edit}
+use Rattle.jr_session.proofs.RefusalCases.{undo_no_edit, no_undo, no_redo, redo_no_edit}
 use Rattle.jr_session.specs.States.{State, IsUndone, IsRedone}
 use Rattle.jr_session.specs.Refusing.{IsFirstRefusal, IsGranted}
 use Rattle.jr_members.specs.WrittenLaws.{MembersAreWritten}
@@ -38,12 +38,6 @@ both s of done Done r q t u one same (inl g) (inr h) = absurd (h.1 g.0 g.2.appli
 both s of done Done r q t u one same (inr g) (inl h) = absurd (g.1 h.0 h.2.applies)
 both s of done Done r q t u one same (inr g) (inr h) = (g.0 ∙ sym h.0, same g.2 h.2)
 
-edit_not_undo : (file text : List ℕ) (from to : ℕ) → step.Edit file from to text ≡ step.Undo → ⊥
-edit_not_undo file text from to e = cc
-
-edit_not_redo : (file text : List ℕ) (from to : ℕ) → step.Edit file from to text ≡ step.Redo → ⊥
-edit_not_redo file text from to e = cc
-
 edit_not_show : (file text name : List ℕ) (from to : ℕ) → step.Edit file from to text ≡ step.Show name what.Bindings → ⊥
 edit_not_show file text name from to e = cc
 
@@ -52,9 +46,6 @@ undo_not_show name e = cc
 
 undo_not_redo : step.Undo ≡ step.Redo → ⊥
 undo_not_redo e = cc
-
-redo_not_edit : (file text : List ℕ) (from to : ℕ) → step.Redo ≡ step.Edit file from to text → ⊥
-redo_not_edit file text from to e = cc
 
 redo_not_show : (name : List ℕ) → step.Redo ≡ step.Show name what.Bindings → ⊥
 redo_not_show name e = cc
@@ -66,8 +57,8 @@ edit_answers : (s : State) (file text : List ℕ) (from to : ℕ) (r : Reply) (t
 edit_answers s file text from to edited t h = inr (refl, h.0, h.1)
 edit_answers s file text from to (refactored a b) t h = absurd h.1
 edit_answers s file text from to (shown a) t h = absurd (edit_not_show file text h.1.shows.file from to h.1.shows.is)
-edit_answers s file text from to undone t h = absurd (edit_not_undo file text from to h.1.0)
-edit_answers s file text from to redone t h = absurd (edit_not_redo file text from to h.1.0)
+edit_answers s file text from to undone t h = absurd (no_undo file text from to h.1.0)
+edit_answers s file text from to redone t h = absurd (no_redo file text from to h.1.0)
 edit_answers s file text from to (refused x) t h = inl (x, refl, h.0, h.1)
 
 undo_answers : (s : State) (r : Reply) (t : State) → Steps s step.Undo r t → Answers s step.Undo undone (λ u. IsUndone s u) r t
@@ -79,7 +70,7 @@ undo_answers s redone t h = absurd (undo_not_redo h.1.0)
 undo_answers s (refused x) t h = inl (x, refl, h.0, h.1)
 
 redo_answers : (s : State) (r : Reply) (t : State) → Steps s step.Redo r t → Answers s step.Redo redone (λ u. IsRedone s u) r t
-redo_answers s edited t h = absurd (redo_not_edit h.1.edit.file h.1.text h.1.span.from h.1.span.to h.1.edit.is)
+redo_answers s edited t h = absurd (redo_no_edit h.1.edit.file h.1.text h.1.span.from h.1.span.to h.1.edit.is)
 redo_answers s (refactored a b) t h = absurd h.1
 redo_answers s (shown a) t h = absurd (redo_not_show h.1.shows.file h.1.shows.is)
 redo_answers s undone t h = absurd (redo_not_undo h.1.0)

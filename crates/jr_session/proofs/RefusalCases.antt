@@ -30,10 +30,10 @@ bad_edit s file text from to f t h =
 no_show : (file text shown : List ℕ) (from to : ℕ) → step.Edit file from to text ≡ step.Show shown what.Bindings → ⊥
 no_show file text shown from to e = cc
 
-no_undo : (file text : List ℕ) (from to : ℕ) → step.Edit file from to text ≡ step.Undo → ⊥
+pub no_undo : (file text : List ℕ) (from to : ℕ) → step.Edit file from to text ≡ step.Undo → ⊥
 no_undo file text from to e = cc
 
-no_redo : (file text : List ℕ) (from to : ℕ) → step.Edit file from to text ≡ step.Redo → ⊥
+pub no_redo : (file text : List ℕ) (from to : ℕ) → step.Edit file from to text ≡ step.Redo → ⊥
 no_redo file text from to e = cc
 
 pub edit_refusals : (s : State) (file text : List ℕ) (from to : ℕ) (r : Refusal) → Applies s (step.Edit file from to text) r → MayRefuseEdit s file from to text r
@@ -101,7 +101,7 @@ undo_refusals s (too_many_sites a b) h = absurd h
 
 -- ---- redoing
 
-redo_no_edit : (file text : List ℕ) (from to : ℕ) → step.Redo ≡ step.Edit file from to text → ⊥
+pub redo_no_edit : (file text : List ℕ) (from to : ℕ) → step.Redo ≡ step.Edit file from to text → ⊥
 redo_no_edit file text from to e = cc
 
 redo_no_show : (shown : List ℕ) → step.Redo ≡ step.Show shown what.Bindings → ⊥
