@@ -4,6 +4,7 @@
 use crate::reading::{items_of, put_times, text_of};
 use crate::rows::assert_same;
 use jr_ast::{Class, Member, Path, Unit};
+use jr_paths::PathReads;
 use jr_pexpr::{ParseFault, parse_expr};
 use jr_print::{expr_text, member_text};
 use jr_punit::parse_unit;
