@@ -121,11 +121,9 @@ pub fn target<V: View<Span>>(
     ensures { IfOk result (λ found. MatchOption found (LacksTargetAt (V.program view.now) file at)
         (λ d. HasTargetAt (V.program view.now) file at (decl_of d))) }
 {
-    view.keeps_program();
     items_are_placed();
     one_answer();
-    let begins = identifier_at(alloc, view.text(file), at)?;
-    match begins {
+    match identifier_at(view.items(file), at) {
         None => Ok(None),
         Some(from) => decl_named(view, members, file, from),
     }

@@ -1,15 +1,10 @@
-//! The identifier at a place of a text.
-ghost use Rattle.std.specs.Prelude.{◌≡◌, ◌↔◌, ℕ, List, None, IsTrue, IfOk, IfSome};
-ghost use Rattle.jr_lex.specs.declared.items.Item.{Item};
+//! The identifier at a place of a text, by its items.
+ghost use Rattle.std.specs.Prelude.{◌≡◌, ◌↔◌, ℕ, None, IsTrue, IfSome};
 ghost use Rattle.jr_lex.specs.declared.items.ItemKind.TheVariants as item;
 ghost use Rattle.jr_lex.specs.declared.items.TokenKind.TheVariants as token;
-ghost use Rattle.jr_lex.specs.Lexes.{Lexes};
-ghost use Rattle.jr_images.specs.Targets.{HoldsIdentifier};
 ghost use Rattle.jr_cursor.specs.Words.{Holds, IsHolder};
 
-use jr_lex::{Item, ItemKind, LexFault, TokenKind, lex};
-use jr_text::Text;
-use std::alloc::{AllocError, Global};
+use jr_lex::{Item, ItemKind, TokenKind};
 
 fn is_word(kind: &TokenKind) -> bool
     ensures { IsTrue result ↔ (kind.now ≡ token.Word) }
@@ -40,8 +35,8 @@ fn holds(item: &Item, at: u32) -> bool
     is_identifier(&item.kind) & ((item.span.from <= at) & (at < item.span.to))
 }
 
-/// Where the identifier begins that holds the byte.
-fn holder(items: &[Item], at: u32) -> Option<u32>
+/// Where the identifier among the items of a text begins that holds the byte.
+pub fn identifier_at(items: &[Item], at: u32) -> Option<u32>
     ensures some { IfSome result (IsHolder items.now at) }
     ensures none { result ≡ None → (from : ℕ) → IsHolder items.now at from → ⊥ }
 {
@@ -51,18 +46,4 @@ fn holder(items: &[Item], at: u32) -> Option<u32>
         }
     }
     None
-}
-
-/// Where the identifier of a text begins that holds the byte, which has no fault of its tokens.
-pub fn identifier_at(alloc: Global, text: &Text, at: u32) -> Result<Option<u32>, AllocError>
-    requires { (items : List Item) × Lexes text.now items }
-    ensures some { IfOk result (λ found. IfSome found (HoldsIdentifier text.now at)) }
-    ensures none { IfOk result (λ found. found ≡ None
-        → (from : ℕ) → HoldsIdentifier text.now at from → ⊥) }
-{
-    match lex(alloc, text) {
-        Ok(items) => Ok(holder(items.as_slice(), at)),
-        Err(LexFault::Memory) => Err(AllocError),
-        Err(_) => unreachable!(),
-    }
 }

@@ -1,6 +1,6 @@
 -- A written member of a program has all that a walk over it rests on.
 use Rattle.std.proofs.Common.{◌≡◌, ℕ, zero, suc, ◌+◌, ◌-◌, ◌<◌, ◌≤◌, List, [], ◌∷◌, Option, Some, None, Bool, true, false, length, map, get_or, nat_lt, refl, sym, ap, subst, ◌∙◌, inl, inr, arith}
-use Rattle.std.specs.Prelude.{◌⊎◌, ◌↔◌, slice_get, Contains, option_map, if◌then◌else◌}
+use Rattle.std.specs.Prelude.{◌⊎◌, ◌↔◌, slice_get, Contains, option_map, IfSome, if◌then◌else◌}
 use Rattle.std.proofs.lemmas.Bool.{le-ltb}
 use Rattle.std.proofs.lemmas.Option.{slice_get-map, slice_get_within, slice_get-get_or}
 use Rattle.jr_text.specs.declared.spans.Span.{Span}
@@ -173,19 +173,20 @@ module _ (p : Program Span) (is : IsProgram itself (λ m b. Unit {0}) p) (writte
     ready b bound =
         part_ready p w.file p.rows (one p.rows is.are_rows) b start w.key w.base w.part (classes_keyed units w.base w.part (begins wr.unit.mark 0) wr.unit.classes w.key wr.writes) (is_ready b bound) (stands_in p w (is.supers w has))
 
--- ---- the text of a file, and where a word `super` stands in it
+-- ---- the items of a file that are lent, and where a word `super` stands among them
 
-pub lexed : (p : Program Span) (file : ℕ) (text : List ℕ) → option_map (λ (f : File Span). f.text) (slice_get p.files file) ≡ Some text → IsProgram itself (λ m b. Unit {0}) p → (items : List Item) × Lexes text items
-lexed p file text is program =
-    let f = map_some (λ (x : File Span). x.text) (slice_get p.files file) text is in
-    let r = program.reads file f.0 f.1 in
-    (r.items, subst (λ (t : List ℕ). Lexes t r.items) f.2 r.lexes)
+lent : (files : List (File Span)) (file : ℕ) (items : List Item) → file < length files → IfSome (slice_get files file) (λ (f : File Span). Lexes f.text items) → (f : File Span) × (slice_get files file ≡ Some f) × Lexes f.text items
+lent [] file items lt told = absurd (omega (arith, lt))
+lent (f ∷ fs) zero items lt told = (f, refl, told)
+lent (f ∷ fs) (suc n) items lt told = lent fs n items (omega (arith, lt)) told
 
-module _ (p : Program Span) (file : ℕ) (span : Span) (text : List ℕ) (items : List Item) (is : option_map (λ (f : File Span). f.text) (slice_get p.files file) ≡ Some text) (lexes : Lexes text items) where
+module _ (p : Program Span) (file : ℕ) (span : Span) (items : List Item) (is : file < length p.files) (told : IfSome (slice_get p.files file) (λ (f : File Span). Lexes f.text items)) where
+  -- they are those of a text
+  pub lexed : (text : List ℕ) × Lexes text items
+  lexed = let f = lent p.files file items is told in (f.0.text, f.2)
+
   stands_there : (n : ℕ) → IsFirstSuper p file span n → bind.IsSuperAt items span n
-  stands_there n first =
-      let f = map_some (λ (x : File Span). x.text) (slice_get p.files file) text is in
-      first f.0 f.1 items (subst (λ (t : List ℕ). Lexes t items) (sym f.2) lexes)
+  stands_there n first = let f = lent p.files file items is told in first f.0 f.1 items f.2
 
   pub no_super : (n at : ℕ) → ((other : ℕ) → IsSuperAt items span other → ⊥) → IsFirstSuper p file span n → at ≡ n
   no_super n at none first = absurd (none n (super_at items span n (stands_there n first)))

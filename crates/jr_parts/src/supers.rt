@@ -1,8 +1,6 @@
 //! Written `super(..)` (JLS 8.8.7.1).
-ghost use Rattle.std.specs.Prelude.{◌≡◌, ◌<◌, ℕ, List, length, slice_get, Some, Option, IfOk};
+ghost use Rattle.std.specs.Prelude.{◌≡◌, ◌<◌, ℕ, length, slice_get, Some, Option, IfOk};
 ghost use Rattle.std.specs.Prelude.{◌⊎◌};
-ghost use Rattle.jr_lex.specs.Lexes.{Lexes};
-ghost use Rattle.jr_lex.specs.declared.items.Item as pure_item;
 ghost use Rattle.jr_ast.specs.View.{exprs_of};
 ghost use Rattle.jr_renaming.specs.OutputView.{gathered};
 ghost use Rattle.jr_respell.specs.ChoiceView.{choice_of};
@@ -14,42 +12,20 @@ ghost use Rattle.jr_parts.specs.Supers as pure;
 use jr_ast::{Expr, Path};
 use jr_bind::View;
 use jr_gather::{Here, exprs, super_ctor_choice};
-use jr_lex::{Item, LexFault, lex};
-use jr_program::Tokens;
+use jr_program::first_super;
 use jr_renaming::{Output, keep_loss};
 use jr_respell::Choice;
-use jr_text::{Span, Text};
+use jr_text::Span;
 use std::alloc::{AllocError, Global};
 
-/// The items of a text that has no fault.
-fn items_of(alloc: Global, text: &Text) -> Result<Vec<Item>, AllocError>
-    requires { (items : List pure_item.Item) × Lexes text.now items }
-    ensures { IfOk result (λ items. Lexes text.now items.items) }
-{
-    match lex(alloc, text) {
-        Ok(items) => Ok(items),
-        Err(LexFault::Memory) => Err(AllocError),
-        Err(_) => unreachable!(),
-    }
-}
-
 /// Where the first word `super` of a span of a file stands; 0 where there is none.
-fn super_at<V: View<Span>>(
-    alloc: Global,
-    view: &V,
-    file: u32,
-    span: Span,
-) -> Result<u32, AllocError>
+fn super_at<V: View<Span>>(view: &V, file: u32, span: Span) -> u32
     requires { file < length (V.program view.now).files }
-    ensures { IfOk result (λ at. (n : ℕ) → IsFirstSuper (V.program view.now) file span n
-        → at ≡ n) }
+    ensures { (n : ℕ) → IsFirstSuper (V.program view.now) file span n → result ≡ n }
 {
-    view.keeps_program();
-    let items = items_of(alloc, view.text(file))?;
-    let tokens = Tokens::new(alloc, items)?;
-    match tokens.super_in(span) {
-        None => Ok(0),
-        Some(at) => Ok(at),
+    match first_super(view.items(file), span) {
+        None => 0,
+        Some(at) => at,
     }
 }
 
@@ -85,7 +61,7 @@ fn lost_super<V: View<Span>>(
     ensures { IfOk result (λ _. (n : ℕ) → IsFirstSuper (V.program view.now) file span n
         → pure.CallGathers here.now n (exprs_of args.now) (gathered out.old) (gathered out.new)) }
 {
-    let at = super_at(alloc, view, file, span)?;
+    let at = super_at(view, file, span);
     let choice = super_ctor_choice(alloc, here, path, first, at, args)?;
     keep_loss(choice, out)
 }

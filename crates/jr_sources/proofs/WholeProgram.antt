@@ -1,6 +1,6 @@
 -- Analysed sources of which no member breaks a rule are a whole program.
 use Rattle.std.proofs.Common.{◌≡◌, ℕ, zero, suc, ◌+◌, ◌<◌, ◌≤◌, ◌^◌, List, [], ◌∷◌, length, map, true, false, refl, sym, ap, subst, ◌∙◌, arith, inl, inr}
-use Rattle.std.specs.Prelude.{◌⊎◌, Option, Some, None, Contains, slice_get, option_map}
+use Rattle.std.specs.Prelude.{◌⊎◌, Option, Some, None, Contains, slice_get, option_map, IfSome}
 use Rattle.std.proofs.lemmas.Bool.{cases_Bool, cond-true, cond-false}
 use Rattle.std.proofs.lemmas.Option.{same_Some, none-some}
 use Rattle.jr_text.specs.declared.spans.Span.{Span}
@@ -62,6 +62,13 @@ file_at (s ∷ ss) us ws (v, vs, w, xs, eu, ew, r, rest) zero f e =
 file_at (s ∷ ss) us ws (v, vs, w, xs, eu, ew, r, rest) (suc i) f e =
     let more = file_at ss vs xs rest i f (sym (ap (λ (l : List (UnitTree Span)). slice_get (files_of (s ∷ ss) l) (suc i)) eu) ∙ e) in
     (more.0, more.1, more.2, ap (λ (l : List (UnitTree Span)). slice_get l (suc i)) eu ∙ more.3, more.4, more.5)
+
+pub items_files : (ss : List Source) (us : List (UnitTree Span)) (ts : List (List Item)) → AreLexed (texts_of ss) ts → (file : ℕ) (items : List Item) → slice_get ts file ≡ Some items → IfSome (slice_get (files_of ss us) file) (λ (f : File Span). Lexes f.text items)
+items_files [] us ts lexed file items e = tt
+items_files (s ∷ ss) [] ts lexed file items e = tt
+items_files (s ∷ ss) (u ∷ us) [] lexed file items e = absurd lexed
+items_files (s ∷ ss) (u ∷ us) (t ∷ ts) lexed zero items e = subst (Lexes s.text) (same_Some t items e) lexed.0
+items_files (s ∷ ss) (u ∷ us) (t ∷ ts) lexed (suc file) items e = items_files ss us ts lexed.1 file items e
 
 pub units_files : (ss : List Source) (us : List (UnitTree Span)) → length us ≡ length ss → map (λ (f : File Span). f.unit) (files_of ss us) ≡ us
 units_files [] [] n = refl
@@ -262,8 +269,8 @@ module _ (sources : List Source) (a : Analysis) (is : IsAnalysis sources a) (val
     bound = subst (λ (ws : List (WrittenMember Span)). AreBound itself Anywhere a.table (super_in bounds) ws (map (λ (b : MemberBound). b.bound) bounds)) (sym members_are) (each_bound a.table is.tokens (super_in bounds) written bounds is.each place_is);
   }
 
-  pub are_whole : (us : List (UnitTree Span)) → is.units ≡ us → length bounds < 2 ^ 32 → AreWhole sources us a.table bounds
-  are_whole us e few = subst (λ (xs : List (UnitTree Span)). AreWhole sources xs a.table bounds) e (record { many = count; few = few; program = is_program })
+  pub are_whole : (us : List (UnitTree Span)) → is.units ≡ us → (tokens : List (List Item)) → AreLexed (texts_of sources) tokens → length bounds < 2 ^ 32 → AreWhole sources us tokens a.table bounds
+  are_whole us e tokens lexed few = subst (λ (xs : List (UnitTree Span)). AreWhole sources xs tokens a.table bounds) e (record { many = count; lexed = lexed; few = few; program = is_program })
 
 -- ---- what each text was read as
 
@@ -286,6 +293,9 @@ none_kept law ss r h us ws read i lt = by there.0 there.1
 
 pub kept_units : HasOneReading → (ss : List Source) (r : Readings) → AreReadings (texts_of ss) r → (us : List (UnitTree Span)) (ws : List ℕ) → AreRead ss us ws → us ≡ map unit_of r.units.items
 kept_units law ss r h us ws read = (read_once law ss us (map unit_of r.units.items) ws r.words.items read (read_units ss r h (none_kept law ss r h us ws read))).0
+
+pub kept_lexed : HasOneReading → (ss : List Source) (r : Readings) → AreReadings (texts_of ss) r → (us : List (UnitTree Span)) (ws : List ℕ) → AreRead ss us ws → AreLexed (texts_of ss) r.tokens.items
+kept_lexed law ss r h us ws read = lexed_tokens ss r h (none_kept law ss r h us ws read)
 
 -- texts have their items once
 lexed_once : OneItems → (ts : List (List ℕ)) (xs ys : List (List Item)) → AreLexed ts xs → AreLexed ts ys → xs ≡ ys

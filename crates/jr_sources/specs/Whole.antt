@@ -1,6 +1,7 @@
 -- The program that analysed sources are, as refactorings see it.
 use Rattle.std.specs.Prelude.{◌≡◌, ℕ, ◌<◌, ◌^◌, List, [], ◌∷◌, map, length, if◌then◌else◌}
 use Rattle.jr_text.specs.declared.spans.Span.{Span}
+use Rattle.jr_lex.specs.declared.items.Item.{Item}
 use Rattle.jr_ast.specs.MemberTree.{Unit as UnitTree}
 use Rattle.jr_grammar.specs.Layout.{itself}
 use Rattle.jr_table.specs.Decls.{MemberKey}
@@ -9,8 +10,9 @@ use Rattle.jr_table.specs.SameDecls.{same_member}
 use Rattle.jr_bind.specs.Bounds.{Bound}
 use Rattle.jr_bind.specs.Programs.{File, Program, IsProgram}
 use Rattle.jr_program.specs.declared.bounds.MemberBound.{MemberBound}
+use Rattle.jr_sources.specs.Analysed.{AreLexed}
 use Rattle.jr_sources.specs.FirstFault.{AreProgram}
-use Rattle.jr_sources.specs.Sources.{Source}
+use Rattle.jr_sources.specs.Sources.{Source, texts_of}
 
 -- each source with its unit
 abbrev pub files_of : List Source → List (UnitTree Span) → List (File Span)
@@ -47,9 +49,10 @@ pub record IsProgramOf (sources : List Source) (p : Program Span) : Type 0 where
   pub files : p.files ≡ files_of sources units
   pub is : IsProgram itself Anywhere p
 
--- they are a program without faults and errors
-pub record AreWhole (sources : List Source) (units : List (UnitTree Span)) (rows : List Row)
-    (members : List MemberBound) : Type 0 where
+-- they are a program without faults and errors, and their texts have these tokens
+pub record AreWhole (sources : List Source) (units : List (UnitTree Span))
+    (tokens : List (List Item)) (rows : List Row) (members : List MemberBound) : Type 0 where
   pub many : length units ≡ length sources
+  pub lexed : AreLexed (texts_of sources) tokens
   pub few : length members < 2 ^ 32
   pub program : IsProgram itself Anywhere (program_of sources units rows members)

@@ -1,7 +1,8 @@
 //! A whole program, as it is lent to refactorings.
-ghost use Rattle.std.specs.Prelude.{◌≡◌, ◌<◌, Some, map, length, slice_get, option_map};
+ghost use Rattle.std.specs.Prelude.{◌≡◌, ◌<◌, Some, IfSome, map, length, slice_get, option_map};
+ghost use Rattle.jr_lex.specs.Lexes.{Lexes};
 ghost use Rattle.jr_ast.specs.View.{unit_of};
-ghost use Rattle.jr_sources.specs.Analysed.{IsAnalysis};
+ghost use Rattle.jr_sources.specs.Analysed.{AreLexed, IsAnalysis};
 ghost use Rattle.jr_sources.specs.BindingErrors.{AreSound};
 ghost use Rattle.jr_sources.specs.KeptReadings.{AreReadings};
 ghost use Rattle.jr_sources.specs.Sources.{texts_of};
@@ -14,19 +15,20 @@ use crate::reading_laws::text_has_one_reading;
 use crate::sources::Sources;
 use jr_ast::Unit;
 use jr_bind::{Bound, View};
-use jr_lex::{items_are_placed, one_answer};
+use jr_lex::{Item, items_are_placed, one_answer};
 use jr_members::members_are_written;
-use jr_program::MemberBound;
+use jr_program::{MemberBound, Tokens};
 use jr_table::Table;
 use jr_text::{Span, Text};
 use std::marker::Model;
 
-/// Sources without faults and errors, what they read as, and what was analysed of them. Contracts
-/// see the program.
+/// Sources without faults and errors, what they read as, their tokens, and what was analysed of
+/// them. Contracts see the program.
 #[derive(Drop)]
 pub struct Whole<'a> {
     sources: &'a Sources,
     units: &'a [Unit<Span>],
+    tokens: &'a [Tokens],
     analysis: &'a Analysis,
 }
 
@@ -59,14 +61,19 @@ impl<'a> Model for Whole<'a> {
       ),
     ) };
 
-    ghost invariant = { λ w. AreWhole w.sources.now (map unit_of w.units.now)
+    ghost invariant = { λ w. AreWhole w.sources.now (map unit_of w.units.now) w.tokens.now
         w.analysis.now.table w.analysis.now.members.items };
 }
 
 impl<'a> Whole<'a> {
     // The program that these are.
-    fn of(sources: &'a Sources, units: &'a [Unit<Span>], analysis: &'a Analysis) -> Whole<'a>
-        requires { AreWhole sources.now (map unit_of units.now) analysis.now.table
+    fn of(
+        sources: &'a Sources,
+        units: &'a [Unit<Span>],
+        tokens: &'a [Tokens],
+        analysis: &'a Analysis,
+    ) -> Whole<'a>
+        requires { AreWhole sources.now (map unit_of units.now) tokens.now analysis.now.table
             analysis.now.members.items }
         ensures { whole_of result ≡ program_of sources.now (map unit_of units.now)
             analysis.now.table analysis.now.members.items }
@@ -74,6 +81,7 @@ impl<'a> Whole<'a> {
         Whole {
             sources,
             units,
+            tokens,
             analysis,
         }
     }
@@ -94,7 +102,8 @@ impl<'a> Whole<'a> {
         analysis.table.keeps_rows();
         // Each file is within its limit, and so the members can be counted.
         let _total = sources.total();
-        Whole::of(sources, readings.units.as_slice(), analysis)
+        let tokens = readings.tokens.as_slice();
+        Whole::of(sources, readings.units.as_slice(), tokens, analysis)
     }
 }
 
@@ -116,6 +125,22 @@ fn text_in<'a>(sources: &'a Sources, units: &[Unit<Span>], file: u32) -> &'a Tex
         (slice_get (files_of sources.now (map unit_of units.now)) file) ≡ Some result.now }
 {
     sources.text(file)
+}
+
+// The items of a file's text.
+fn items_in<'a>(
+    sources: &Sources,
+    units: &[Unit<Span>],
+    tokens: &'a [Tokens],
+    file: u32,
+) -> &'a [Item]
+    requires many { length units.now ≡ length sources.now }
+    requires lexed { AreLexed (texts_of sources.now) tokens.now }
+    requires file { file < length (files_of sources.now (map unit_of units.now)) }
+    ensures { IfSome (slice_get (files_of sources.now (map unit_of units.now)) file)
+        (λ f. Lexes f.text result.now) }
+{
+    tokens[file as usize].items()
 }
 
 // What binding knows of the member of a number.
@@ -144,6 +169,10 @@ impl View<Span> for Whole<'_> {
 
     fn text(&self, file: u32) -> &Text {
         text_in(self.sources, self.units, file)
+    }
+
+    fn items(&self, file: u32) -> &[Item] {
+        items_in(self.sources, self.units, self.tokens, file)
     }
 
     fn units(&self) -> &[Unit<Span>] {

@@ -16,6 +16,6 @@ returns g c =
     let ch = choice_of c.in_ok-choice.choice in
     on_ok c.keep_loss.result (λ e. λ n stands. (
       ch,
-      subst (λ (i : ℕ). SuperCtorSpells begins (rows_of h) (naming_of h) i (context_of h) (exprs_of c.args.args.now) ch) (c.in_ok-at.ensures n stands) c.in_ok-choice.ensures,
+      subst (λ (i : ℕ). SuperCtorSpells begins (rows_of h) (naming_of h) i (context_of h) (exprs_of c.args.args.now) ch) (c.super_at-at.ensures n stands) c.in_ok-choice.ensures,
       e,
     )) c.keep_loss.ensures
