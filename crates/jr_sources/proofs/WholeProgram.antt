@@ -45,7 +45,7 @@ use Rattle.jr_sources.specs.KeptReadings.{AreReadings}
 use Rattle.jr_sources.specs.ReadingLaws.{HasOneReading}
 use Rattle.jr_sources.specs.Whole.{files_of, super_in, program_of, Anywhere, AreWhole, IsProgramOf}
 use Rattle.jr_sources.proofs.AllRead.{element, text_there, kept, read_units, lexed_tokens}
-use Rattle.jr_sources.proofs.Analysing.{OneItems, counts, lexed_each, read_once, source_read}
+use Rattle.jr_sources.proofs.Analysing.{OneItems, counts, lexed_count, lexed_each, read_once, source_read}
 use Rattle.jr_sources.proofs.SourceLaws.{length-texts}
 use Rattle.jr_sources.proofs.InFiles.{written_in}
 use Rattle.jr_sources.proofs.PartsFit.{whole_fits, units_gathered}
@@ -63,13 +63,6 @@ file_at (s ∷ ss) us ws (v, vs, w, xs, eu, ew, r, rest) (suc i) f e =
     let more = file_at ss vs xs rest i f (sym (ap (λ (l : List (UnitTree Span)). slice_get (files_of (s ∷ ss) l) (suc i)) eu) ∙ e) in
     (more.0, more.1, more.2, ap (λ (l : List (UnitTree Span)). slice_get l (suc i)) eu ∙ more.3, more.4, more.5)
 
-pub items_files : (ss : List Source) (us : List (UnitTree Span)) (ts : List (List Item)) → AreLexed (texts_of ss) ts → (file : ℕ) (items : List Item) → slice_get ts file ≡ Some items → IfSome (slice_get (files_of ss us) file) (λ (f : File Span). Lexes f.text items)
-items_files [] us ts lexed file items e = tt
-items_files (s ∷ ss) [] ts lexed file items e = tt
-items_files (s ∷ ss) (u ∷ us) [] lexed file items e = absurd lexed
-items_files (s ∷ ss) (u ∷ us) (t ∷ ts) lexed zero items e = subst (Lexes s.text) (same_Some t items e) lexed.0
-items_files (s ∷ ss) (u ∷ us) (t ∷ ts) lexed (suc file) items e = items_files ss us ts lexed.1 file items e
-
 pub units_files : (ss : List Source) (us : List (UnitTree Span)) → length us ≡ length ss → map (λ (f : File Span). f.unit) (files_of ss us) ≡ us
 units_files [] [] n = refl
 units_files [] (u ∷ us) n = absurd (omega (arith, n))
@@ -80,6 +73,22 @@ pub length-files : (ss : List Source) (us : List (UnitTree Span)) → length us 
 length-files [] us n = refl
 length-files (s ∷ ss) [] n = absurd (omega (arith, n))
 length-files (s ∷ ss) (u ∷ us) n = ap suc (length-files ss us (omega (arith, n)))
+
+-- each file has items
+pub file_within : (ss : List Source) (us : List (UnitTree Span)) (ts : List (List Item)) → length us ≡ length ss → AreLexed (texts_of ss) ts → (file : ℕ) → file < length (files_of ss us) → file < length ts
+file_within ss us ts count lexed file lt =
+    let n = length-files ss us count in
+    let m = length-texts ss in
+    let k = lexed_count (texts_of ss) ts lexed in
+    omega (arith, n, m, k, lt)
+
+-- those of its text
+pub items_files : (ss : List Source) (us : List (UnitTree Span)) (ts : List (List Item)) → AreLexed (texts_of ss) ts → (file : ℕ) (items : List Item) → slice_get ts file ≡ Some items → IfSome (slice_get (files_of ss us) file) (λ (f : File Span). Lexes f.text items)
+items_files [] us ts lexed file items e = tt
+items_files (s ∷ ss) [] ts lexed file items e = tt
+items_files (s ∷ ss) (u ∷ us) [] lexed file items e = absurd lexed
+items_files (s ∷ ss) (u ∷ us) (t ∷ ts) lexed zero items e = subst (Lexes s.text) (same_Some t items e) lexed.0
+items_files (s ∷ ss) (u ∷ us) (t ∷ ts) lexed (suc file) items e = items_files ss us ts lexed.1 file items e
 
 pub names_files : (ss : List Source) (us : List (UnitTree Span)) → length us ≡ length ss → (i : ℕ) → option_map (λ (f : File Span). f.name) (slice_get (files_of ss us) i) ≡ slice_get (names_of ss) i
 names_files [] us n i = refl
