@@ -8,7 +8,7 @@ use Rattle.jr_names.specs.Replies.{Reply, edited, refactored, shown, undone, red
 use Rattle.jr_names.specs.Refusals.{Refusal}
 use Rattle.jr_lines.specs.Lines.{bytes_of}
 use Rattle.jr_sources.specs.Sources.{Differ}
-use Rattle.jr_session.proofs.RefusalCases.{undo_no_edit, no_undo, no_redo, redo_no_edit}
+use Rattle.jr_session.proofs.RefusalCases.{undo_no_edit, no_undo as edit_not_undo, no_redo as edit_not_redo, redo_no_edit}
 use Rattle.jr_session.specs.States.{State, IsUndone, IsRedone}
 use Rattle.jr_session.specs.Refusing.{IsFirstRefusal, IsGranted}
 use Rattle.jr_members.specs.WrittenLaws.{MembersAreWritten}
@@ -57,8 +57,8 @@ edit_answers : (s : State) (file text : List ℕ) (from to : ℕ) (r : Reply) (t
 edit_answers s file text from to edited t h = inr (refl, h.0, h.1)
 edit_answers s file text from to (refactored a b) t h = absurd h.1
 edit_answers s file text from to (shown a) t h = absurd (edit_not_show file text h.1.shows.file from to h.1.shows.is)
-edit_answers s file text from to undone t h = absurd (no_undo file text from to h.1.0)
-edit_answers s file text from to redone t h = absurd (no_redo file text from to h.1.0)
+edit_answers s file text from to undone t h = absurd (edit_not_undo file text from to h.1.0)
+edit_answers s file text from to redone t h = absurd (edit_not_redo file text from to h.1.0)
 edit_answers s file text from to (refused x) t h = inl (x, refl, h.0, h.1)
 
 undo_answers : (s : State) (r : Reply) (t : State) → Steps s step.Undo r t → Answers s step.Undo undone (λ u. IsUndone s u) r t
