@@ -6,9 +6,8 @@ import re
 from difflib import SequenceMatcher
 from typing import Iterator, NamedTuple
 
-from .offsets import decoded
-
-TOKEN = re.compile(r"\r\n|\w+|\W")
+# Characters beyond ASCII count as parts of words, so that no edit begins or ends inside one.
+TOKEN = re.compile(rb"\r\n|[\w\x80-\xff]+|[^\w\x80-\xff]")
 FARTHEST = 24
 AGREEING = 3
 
@@ -69,20 +68,20 @@ def _starts(lines: list[bytes]) -> list[int]:
 
 def _in_line(old: bytes, new: bytes, start: int) -> Iterator[Edit]:
     """Edits of whole words between two lines, the first of which begins at byte `start`."""
-    a, b = TOKEN.findall(decoded(old)), TOKEN.findall(decoded(new))
+    a, b = TOKEN.findall(old), TOKEN.findall(new)
     i = j = 0
     while i < len(a) or j < len(b):
         if i < len(a) and j < len(b) and a[i] == b[j]:
-            start += _size(a[i : i + 1])
+            start += len(a[i])
             i, j = i + 1, j + 1
             continue
         skipped, taken = _to_agreement(a, b, i, j)
-        end = start + _size(a[i : i + skipped])
-        yield Edit(start, end, _bytes(b[j : j + taken]))
+        end = start + sum(map(len, a[i : i + skipped]))
+        yield Edit(start, end, b"".join(b[j : j + taken]))
         start, i, j = end, i + skipped, j + taken
 
 
-def _to_agreement(a: list[str], b: list[str], i: int, j: int) -> tuple[int, int]:
+def _to_agreement(a: list[bytes], b: list[bytes], i: int, j: int) -> tuple[int, int]:
     """How many words of each side differ before both agree again, or end."""
     for apart in range(1, FARTHEST):
         for skipped in range(apart + 1):
@@ -92,14 +91,6 @@ def _to_agreement(a: list[str], b: list[str], i: int, j: int) -> tuple[int, int]
             if a[x : x + AGREEING] == b[y : y + AGREEING]:
                 return skipped, apart - skipped
     return len(a) - i, len(b) - j
-
-
-def _bytes(words: list[str]) -> bytes:
-    return "".join(words).encode("utf-8", "surrogateescape")
-
-
-def _size(words: list[str]) -> int:
-    return len(_bytes(words))
 
 
 class _Known(SequenceMatcher):
@@ -119,7 +110,8 @@ def unified(path: str, old: bytes, new: bytes) -> bytes:
     groups = list(_Known(line_changes(a, b)).get_grouped_opcodes(3))
     if not groups:
         return b""
-    pieces = [f"--- {_header('a', path)}\n+++ {_header('b', path)}\n".encode("utf-8", "surrogateescape")]
+    header = f"--- {_header('a', path)}\n+++ {_header('b', path)}\n"
+    pieces = [header.encode("utf-8", "surrogateescape")]
     for group in groups:
         first, last = group[0], group[-1]
         spans = _span(first[1], last[2]), _span(first[3], last[4])

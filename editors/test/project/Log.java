@@ -1,0 +1,12 @@
+class Log {
+    private int last = 0;
+    volatile boolean open = true;
+
+    synchronized void note(int amount) {
+        last = amount;
+    }
+
+    synchronized int last() {
+        return last;
+    }
+}
