@@ -105,7 +105,7 @@ def _offered(words: list[str]) -> list[steps.Row]:
 def _refactor(asked: argparse.Namespace) -> int:
     """Puts the new texts as a diff or a WorkspaceEdit, or into the files."""
     start, end = _read_at(asked, spans=asked.row.place == "span")
-    words = [_word(getattr(asked, name)) for name in asked.row.asks]
+    words = [getattr(asked, name) for name in asked.row.asks]
     stored = meaning.refactored(asked.sources, asked.row, 0, (start, end), words)
     changes = [Change(*asked.sources[file], new) for file, new in sorted(stored.items())]
     if asked.json:
@@ -170,15 +170,6 @@ def _read(paths: list[str]) -> list[Source]:
         except (OSError, ValueError) as fault:
             raise Stopped(UNREAD, f"can't be read: {fault}", path) from fault
     return list(found.values())
-
-
-def _word(word: str) -> str:
-    """A word of the command line, which has to be text."""
-    try:
-        word.encode("utf-8")
-    except UnicodeEncodeError as fault:
-        raise Refused(Finding(None, None, f"`{word}` can't be a name", "BadName")) from fault
-    return word
 
 
 def _finding_text(sources: list[Source], finding: Finding) -> str:

@@ -47,6 +47,9 @@ def refactored(
     sources: list[Source], row: Row, file: int, span: tuple[int, int], words: list[str]
 ) -> dict[int, bytes]:
     """The new bytes of each file that the refactoring changes."""
+    for word in words:
+        if not _is_text(word):
+            raise Refused(Finding(file, span[0], f"{word!a} can't be a name", "BadName"))
     done = run(sources, [row.members(file, *span, words)])
     try:
         _raise_refusal(done.replies[0])
@@ -55,6 +58,15 @@ def refactored(
             raise
         raise Refused(refusal.finding._replace(file=file, at=span[0])) from None
     return done.stored
+
+
+def _is_text(word: str) -> bool:
+    """Whether a script can have the word: it may be bytes of a command line that are no text."""
+    try:
+        word.encode("utf-8")
+    except UnicodeEncodeError:
+        return False
+    return True
 
 
 def _raise_refusal(reply: dict) -> None:

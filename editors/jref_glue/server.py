@@ -2,6 +2,7 @@
 
 from __future__ import annotations
 
+import os
 import queue
 import sys
 import threading
@@ -65,7 +66,7 @@ class Server:
             if message and message.get("method") == "$/cancelRequest":
                 self._cancelled.add(message.get("params", {}).get("id"))
             self._inbox.put(message)
-            if message is None:
+            if message is None or message.get("method") == "exit":
                 return
 
     def _take(self, message: dict) -> None:
@@ -105,7 +106,7 @@ class Server:
         """The result of a request that is served now."""
         if method not in REQUESTS and method not in QUESTIONS:
             raise Failure(UNKNOWN_METHOD, f"{method} isn't served")
-        if (method == "initialize") != (self._state == "new"):
+        if self._state != ("new" if method == "initialize" else "running"):
             code = NOT_INITIALIZED if self._state == "new" else BAD_REQUEST
             raise Failure(code, f"{method} isn't served now")
         if method in QUESTIONS:
@@ -241,4 +242,4 @@ def main() -> int:
     try:
         return Server(sys.stdin.buffer, sys.stdout.buffer).serve()
     except BrokenPipeError:
-        return 1
+        os._exit(1)  # the thread that listens still waits, and an ordinary end would wait for it
