@@ -44,12 +44,12 @@ class Neovim(InProject):
               drive.wait(name, function() return drive.has(name .. '.java', 'write(') end)
             end
             vim.cmd('wall')
-            vim.fn.mkdir(drive.folder .. '/undone')
-            vim.cmd([[bufdo if &filetype == 'java' | undo | execute 'write ' . fnameescape($JREF_TEST_FOLDER . '/undone/' . expand('%:t')) | endif]])
+            vim.fn.mkdir(drive.folder .. '/../undone')
+            vim.cmd([[bufdo if &filetype == 'java' | undo | execute 'write ' . fnameescape($JREF_TEST_FOLDER . '/../undone/' . expand('%:t')) | endif]])
         """)
         self.assert_files("project", "renamed")
         for name in NAMES:
-            undone = (self.bank / "undone" / name).read_bytes()
+            undone = (self.folder / "undone" / name).read_bytes()
             self.assertEqual((HERE / "project" / name).read_bytes(), undone, name)
 
     def test_a_captured_name_in_a_changed_buffer(self):
@@ -143,9 +143,11 @@ class Neovim(InProject):
             vim.lsp.buf.rename('write')
             drive.wait('it', function() return drive.has('Teller.java', 'write(') end)
             vim.cmd('wall')
-            drive.put('found', { vim.fn.json_encode(started[1]) })
+            drive.put('found', { vim.fn.json_encode(started) })
         """, before="if not vim.lsp.start then" + STAND_IN + "end")
         self.assert_files("project", "renamed")
+        started = json.loads((self.bank / "found").read_text())
+        self.assertIn(["jref", 1], started or [["jref", 1]])
 
 
 if __name__ == "__main__":
