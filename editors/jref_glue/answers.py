@@ -129,9 +129,7 @@ class Answers:
             {"title": row.title, "kind": row.action, "edit": edit} for row, edit in found if edit
         ]
 
-    def _tried(
-        self, program: Program, row: Row, file: int, span: tuple[int, int]
-    ) -> dict | None:
+    def _tried(self, program: Program, row: Row, file: int, span: tuple[int, int]) -> dict | None:
         """The edit of a refactoring under a name that is free, or None where it is refused."""
         words = [meaning.fresh_name(program.sources, "extracted")] * len(row.asks)
         try:

@@ -14,6 +14,7 @@ from .offsets import NoPlace, Text
 from .program import MISUSE, UNREAD, UNWRITTEN, Source, Stopped
 from .replacing import Change, replace_all
 from .sentences import Finding, spoken
+from .telling import pointed
 
 DESCRIPTION = "Asks jref at a line and a column: both from 1, a character a column."
 ENDING = """\
@@ -43,7 +44,7 @@ def main(words: list[str]) -> int:
         status = asked.work(asked)
         sys.stdout.flush()
     except Refused as refusal:
-        print(_finding_text(asked.sources, refusal.finding), file=sys.stderr)
+        print(pointed(refusal.sources, refusal.finding), file=sys.stderr)
         status = 1
     except Stopped as stop:
         print(": ".join(filter(None, ["jref-at", stop.path, stop.sentence])), file=sys.stderr)
@@ -104,10 +105,10 @@ def _offered(words: list[str]) -> list[steps.Row]:
 
 def _refactor(asked: argparse.Namespace) -> int:
     """Puts the new texts as a diff or a WorkspaceEdit, or into the files."""
-    start, end = _read_at(asked, spans=asked.row.place == "span")
+    sources, start, end = _read_at(asked, spans=asked.row.place == "span")
     words = [getattr(asked, name) for name in asked.row.asks]
-    stored = meaning.refactored(asked.sources, asked.row, 0, (start, end), words)
-    changes = [Change(*asked.sources[file], new) for file, new in sorted(stored.items())]
+    stored = meaning.refactored(sources, asked.row, 0, (start, end), words)
+    changes = [Change(*sources[file], new) for file, new in sorted(stored.items())]
     if asked.json:
         changed = {protocol.uri_of(it.path): protocol.text_edits(it.old, it.new) for it in changes}
         print(json.dumps({"changes": changed}))
@@ -123,38 +124,38 @@ def _refactor(asked: argparse.Namespace) -> int:
 
 def _check(asked: argparse.Namespace) -> int:
     """Tells all that is wrong with the files."""
-    asked.sources = _read(asked.files)
-    findings = meaning.problems(asked.sources)
+    sources = _read(asked.files)
+    findings = meaning.problems(sources)
     for finding in findings:
-        print(_finding_text(asked.sources, finding))
+        print(pointed(sources, finding))
     return 1 if findings else 0
 
 
 def _refs(asked: argparse.Namespace) -> int:
     """Tells where the same is declared and named."""
-    start, _ = _read_at(asked, spans=False)
-    found = meaning.uses(asked.sources, 0, start)
-    told = [(place, "this is declared here") for place in found.declarations]
-    told += [(ref.place, f"{spoken(ref.declaration)} is named here") for ref in found.references]
-    for place, sentence in sorted(told):
-        print(_place_text(asked.sources, place.file, place.at, sentence))
+    sources, start, _ = _read_at(asked, spans=False)
+    found = meaning.uses(sources, 0, start)
+    said = [(place, "this is declared here") for place in found.declarations]
+    said += [(ref.place, f"{spoken(ref.declaration)} is named here") for ref in found.references]
+    for place, sentence in sorted(said):
+        print(pointed(sources, Finding(place.file, place.at, sentence, "")))
     return 0
 
 
-def _read_at(asked: argparse.Namespace, spans: bool) -> tuple[int, int]:
-    """Reads the files, and gives the bytes of the place in the first one."""
+def _read_at(asked: argparse.Namespace, spans: bool) -> tuple[list[Source], int, int]:
+    """The files, and the bytes of the place in the first one."""
     where = PLACE.fullmatch(asked.place)
     if not where or spans != bool(where["last"]):
         wanted = "FILE:LINE:COL-LINE:COL" if spans else "FILE:LINE:COL"
         raise Stopped(MISUSE, f"{asked.place} isn't {wanted}")
-    asked.sources = _read([where["file"], *asked.files])
-    text = Text(asked.sources[0].data)
+    sources = _read([where["file"], *asked.files])
+    text = Text(sources[0].data)
     try:
         start = text.byte_of_point(int(where["line"]), int(where["column"]))
         end = text.byte_of_point(int(where["last"]), int(where["end"])) if spans else start
     except NoPlace as fault:
-        raise Refused(Finding(0, None, str(fault), "BadPlace")) from fault
-    return start, end
+        raise Refused(sources, Finding(0, None, str(fault), "BadPlace")) from fault
+    return sources, start, end
 
 
 def _read(paths: list[str]) -> list[Source]:
@@ -170,18 +171,3 @@ def _read(paths: list[str]) -> list[Source]:
         except (OSError, ValueError) as fault:
             raise Stopped(UNREAD, f"can't be read: {fault}", path) from fault
     return list(found.values())
-
-
-def _finding_text(sources: list[Source], finding: Finding) -> str:
-    if finding.file is None:
-        return f"jref-at: {finding.sentence}"
-    if finding.at is None:
-        return f"{sources[finding.file].path}: {finding.sentence}"
-    return _place_text(sources, finding.file, finding.at, finding.sentence)
-
-
-def _place_text(sources: list[Source], file: int, at: int, sentence: str) -> str:
-    """A sentence with its place in front, and the line with a caret below."""
-    text = Text(sources[file].data)
-    line, column = text.point(at)
-    return f"{sources[file].path}:{line}:{column}: {sentence}\n{text.shown(at)}"

@@ -8,6 +8,7 @@ from . import meaning
 from .program import Stopped
 from .protocol import uri_of
 from .sentences import Finding
+from .telling import told
 from .workspace import SETTING, Program, Workspace
 
 ERROR, INFORMATION = 1, 3
@@ -55,20 +56,9 @@ def _tell_elsewhere(
     first = hidden[0]
     files = {it.file for it in hidden}
     others = f" (and {len(files) - 1} more files)" if len(files) > 1 else ""
-    sentence = f"{place_of(program, first)}{first.sentence}{others}; {CHOOSE}"
+    sentence = f"{told(program.sources, first)}{others}; {CHOOSE}"
     for uri in is_open:
         found[uri].append(_diagnostic(TOP, sentence, first.code, INFORMATION))
-
-
-def place_of(program: Program, finding: Finding) -> str:
-    """Where the finding is, to stand in front of its sentence."""
-    if finding.file is None:
-        return ""
-    path = program.sources[finding.file].path
-    if finding.at is None:
-        return f"{path}: "
-    line, column = program.text(finding.file).point(finding.at)
-    return f"{path}:{line}:{column}: "
 
 
 def _of_finding(program: Program, finding: Finding) -> dict:

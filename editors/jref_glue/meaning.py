@@ -6,17 +6,19 @@ import itertools
 from typing import Iterator, NamedTuple
 
 from .program import Source, run, staged_name
-from .sentences import FILE_FAULTS, Finding, of_fault, of_refusal
+from .sentences import FILE_FAULTS, RULES, Finding, of_fault, of_refusal
 from .steps import RENAME, Row
+from .telling import told
 
 AT_ONCE = 16
 
 
 class Refused(Exception):
-    """The program refuses a step: why, and where."""
+    """The program refuses a step over the sources: why, and where."""
 
-    def __init__(self, finding: Finding):
-        super().__init__(finding.sentence)
+    def __init__(self, sources: list[Source], finding: Finding):
+        super().__init__(told(sources, finding))
+        self.sources = sources
         self.finding = finding
 
 
@@ -49,14 +51,14 @@ def refactored(
     """The new bytes of each file that the refactoring changes."""
     for word in words:
         if not _is_text(word):
-            raise Refused(Finding(file, span[0], f"{word!a} can't be a name", "BadName"))
+            bad_name = Finding(file, span[0], f"{word!a} can't be a name", "BadName")
+            raise Refused(sources, bad_name)
     done = run(sources, [row.members(file, *span, words)])
-    try:
-        _raise_refusal(done.replies[0])
-    except Refused as refusal:
-        if refusal.finding.file is not None:
-            raise
-        raise Refused(refusal.finding._replace(file=file, at=span[0])) from None
+    refusal = _refusal(done.replies[0])
+    if refusal and refusal.file is None:
+        refusal = refusal._replace(file=file, at=span[0])
+    if refusal:
+        raise Refused(sources, refusal)
     return done.stored
 
 
@@ -69,9 +71,8 @@ def _is_text(word: str) -> bool:
     return True
 
 
-def _raise_refusal(reply: dict) -> None:
-    if reply["reply"] == "refused":
-        raise Refused(of_refusal(reply["refusal"]))
+def _refusal(reply: dict) -> Finding | None:
+    return of_refusal(reply["refusal"]) if reply["reply"] == "refused" else None
 
 
 def _show(file: int) -> dict:
@@ -82,22 +83,33 @@ def _shown(sources: list[Source], files: list[int]) -> Iterator[tuple[int, list[
     """The lines of each file. They go into as many reports as they need."""
     while files:
         replies = run(sources, [_show(file) for file in files]).replies
-        full = [reply.get("number") == 23 for reply in replies] + [True]
-        fitting = full.index(True)
-        if not fitting:
-            _raise_refusal(replies[0])
-        for file, reply in zip(files[:fitting], replies):
-            _raise_refusal(reply)
+        for count, (file, reply) in enumerate(zip(files, replies)):
+            refusal = _refusal(reply)
+            if refusal and refusal.code == "ReportFull" and count:
+                files = files[count:]
+                break
+            if refusal:
+                raise Refused(sources, refusal)
             yield file, reply["lines"]
-        files = files[fitting:]
+        else:
+            return
+
+
+def _parsed(line: str) -> tuple[int, str, str]:
+    """A line of a show: its byte, its word, and the declaration or rule."""
+    at, word, what = line.split(" ")
+    return int(at), word, what
+
+
+def _is_broken(word: str, what: str) -> bool:
+    """Whether a line tells a broken rule; a word of the program may be `error` too."""
+    return word == "error" and what in RULES
 
 
 def _references(file: int, lines: list[str]) -> Iterator[Reference]:
-    for line in lines:
-        at, name, declaration = line.split(" ")
-        if name != "error":
-            start = int(at)
-            yield Reference(Place(file, start, start + len(name.encode())), declaration)
+    for at, word, what in map(_parsed, lines):
+        if not _is_broken(word, what):
+            yield Reference(Place(file, at, at + len(word.encode())), what)
 
 
 def problems(sources: list[Source]) -> list[Finding]:
@@ -107,10 +119,10 @@ def problems(sources: list[Source]) -> list[Finding]:
     except Refused as refusal:
         return list(_faults(sources, refusal.finding))
     return [
-        of_fault(file, int(line.split(" ")[0]), line.split(" ")[2])
+        of_fault(file, at, what)
         for file, lines in shown
-        for line in lines
-        if line.split(" ")[1] == "error"
+        for at, word, what in map(_parsed, lines)
+        if _is_broken(word, what)
     ]
 
 
@@ -132,8 +144,7 @@ def _faults(sources: list[Source], first: Finding) -> Iterator[Finding]:
 
 def _first_fault(sources: list[Source]) -> Finding | None:
     """The first fault of files that are looked at without the others: their own come first."""
-    reply = run(sources, [_show(0)]).replies[0]
-    return of_refusal(reply["refusal"]) if reply["reply"] == "refused" else None
+    return _refusal(run(sources, [_show(0)]).replies[0])
 
 
 def fresh_name(sources: list[Source], stem: str) -> str:
@@ -155,15 +166,18 @@ def trial(sources: list[Source], file: int, at: int) -> list[Place]:
     return [
         place
         for changed, text in sorted(stored.items())
-        for place in _changed_words(changed, sources[changed].data, text.split(name.encode()))
+        for place in _changed_words(sources, changed, text.split(name.encode()))
     ]
 
 
-def _changed_words(file: int, old: bytes, pieces: list[bytes]) -> Iterator[Place]:
+def _changed_words(sources: list[Source], file: int, pieces: list[bytes]) -> Iterator[Place]:
+    """Where one word stands in the old text between the pieces of the new one."""
+    old = sources[file].data
     length = (len(old) - sum(map(len, pieces))) // (len(pieces) - 1)
     word = old[len(pieces[0]) : len(pieces[0]) + length]
     if word.join(pieces) != old:
-        raise Refused(Finding(file, None, "the places that a rename changes can't be told", "Trial"))
+        unclear = Finding(file, None, "the places that a rename changes can't be told", "Trial")
+        raise Refused(sources, unclear)
     at = 0
     for piece in pieces[:-1]:
         at += len(piece)

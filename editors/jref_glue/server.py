@@ -63,11 +63,16 @@ class Server:
                 message = wire.read(self._reader)
             except wire.Garbled as fault:
                 message = {"garbled": str(fault)}
-            if message and message.get("method") == "$/cancelRequest":
-                self._cancelled.add(message.get("params", {}).get("id"))
             self._inbox.put(message)
             if message is None or message.get("method") == "exit":
                 return
+            if message.get("method") == "$/cancelRequest":
+                self._cancel(message.get("params"))
+
+    def _cancel(self, params) -> None:
+        """Notes that a request isn't wanted any more, if it still waits."""
+        if isinstance(params, dict) and isinstance(params.get("id"), (int, str)):
+            self._cancelled.add(params["id"])
 
     def _take(self, message: dict) -> None:
         """Answers a request, or takes a notification. Answers of the client are passed over."""
@@ -78,7 +83,7 @@ class Server:
         elif message.get("method") in NOTICES and self._state == "running":
             try:
                 NOTICES[message["method"]](self, message.get("params") or {})
-            except (KeyError, TypeError, IndexError):
+            except Exception:
                 traceback.print_exc()
 
     def _answer(self, message: dict) -> None:
@@ -90,7 +95,7 @@ class Server:
         except Failure as failure:
             self._send_error(number, failure.code, str(failure))
         except Refused as refusal:
-            self._send_error(number, FAILED, self._sentence(refusal))
+            self._send_error(number, FAILED, str(refusal))
         except Stopped as stop:
             self._send_error(number, FAILED, ": ".join(filter(None, [stop.path, stop.sentence])))
         except (KeyError, TypeError, IndexError) as fault:
@@ -116,16 +121,12 @@ class Server:
     def _send_error(self, number, code: int, sentence: str) -> None:
         wire.write(self._writer, {"id": number, "error": {"code": code, "message": sentence}})
 
-    def _sentence(self, refusal: Refused) -> str:
-        """A refusal in a line, with the place that it is about."""
-        place = diagnostics.place_of(self._workspace.program(), refusal.finding)
-        return f"{place}{refusal.finding.sentence}"
-
     # The life of the server.
 
     def _initialize(self, params: dict) -> dict:
-        folders = params.get("workspaceFolders") or []
-        uris = [it["uri"] for it in folders] or [params["rootUri"]] * bool(params.get("rootUri"))
+        uris = [folder["uri"] for folder in params.get("workspaceFolders") or []]
+        if not uris and params.get("rootUri"):
+            uris = [params["rootUri"]]
         self._workspace.roots = [path for path in map(path_of, uris) if path]
         self._configure(params.get("initializationOptions"))
         client = params.get("capabilities", {}).get("workspace", {}).get("workspaceEdit", {})

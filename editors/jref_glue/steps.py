@@ -18,7 +18,7 @@ class Row:
     place: str
     asks: tuple[str, ...]
     title: str
-    action: str | None = None
+    action: str = ""
 
     def members(self, file: int, start: int, end: int, words: list[str]) -> dict:
         """The step of a script."""
@@ -41,17 +41,17 @@ class Row:
         return " ".join([self.place_usage, *(word.upper() for word in self.asks), "[FILE..]"])
 
 
+EXTRACT, INLINE, REWRITE = "refactor.extract", "refactor.inline", "refactor.rewrite"
+
 RENAME = Row("rename", "rename", "at", ("name",), "rename what is declared or named there")
 
 ROWS = (
     RENAME,
-    Row("extract-local", "extract_local", "span", ("name",), "extract a local", "refactor.extract"),
-    Row(
-        "extract-method", "extract_method", "span", ("name",), "extract a method", "refactor.extract"
-    ),
-    Row("inline-local", "inline_local", "at", (), "inline the local", "refactor.inline"),
-    Row("inline-method", "inline_method", "at", (), "inline the method here", "refactor.inline"),
-    Row("pull-up", "pull_up", "at", (), "pull up to the superclass", "refactor.rewrite"),
+    Row("extract-local", "extract_local", "span", ("name",), "extract a local", EXTRACT),
+    Row("extract-method", "extract_method", "span", ("name",), "extract a method", EXTRACT),
+    Row("inline-local", "inline_local", "at", (), "inline the local", INLINE),
+    Row("inline-method", "inline_method", "at", (), "inline the method", INLINE),
+    Row("pull-up", "pull_up", "at", (), "pull up to the superclass", REWRITE),
     Row("move-static", "move_static", "at", ("class",), "move the static method to a class"),
     Row("move-instance", "move_instance", "at", ("class", "name"), "move the method to a class"),
 )

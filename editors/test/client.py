@@ -88,7 +88,12 @@ class Client:
     def open(self, path, text=None, version=1):
         """Opens a file, with the text that the editor has of it."""
         text = path.read_bytes().decode() if text is None else text
-        document = {"uri": uri_of(str(path)), "version": version, "text": text, "languageId": "java"}
+        document = {
+            "uri": uri_of(str(path)),
+            "version": version,
+            "text": text,
+            "languageId": "java",
+        }
         self.tell("textDocument/didOpen", {"textDocument": document})
 
     def change(self, path, text, version):

@@ -49,7 +49,9 @@ class InProject(unittest.TestCase):
     def assert_files(self, *expected):
         """The project's files are those of the folders, of which later ones come first."""
         for name in NAMES:
-            wanted = [HERE / folder / name for folder in expected if (HERE / folder / name).exists()]
+            wanted = [
+                HERE / folder / name for folder in expected if (HERE / folder / name).exists()
+            ]
             self.assertEqual(wanted[-1].read_bytes(), (self.bank / name).read_bytes(), name)
         left = [path.name for path in self.bank.iterdir() if path.name.startswith(".jref-")]
         self.assertEqual([], left)

@@ -136,7 +136,9 @@ class Refusals(InProject):
         )
 
     def test_another_method_would_run(self):
-        self.put("Over.java", "class Over { void m() { } }\nclass Under extends Over { void n() { } }\n")
+        self.put(
+            "Over.java", "class Over { void m() { } }\nclass Under extends Over { void n() { } }\n"
+        )
         self.at("rename", "Over.java:2:33", "m", status=1)
         self.assertIn(
             "of an object of Under another method than before would run where Over.m() is called",
@@ -161,7 +163,9 @@ class Statuses(InProject):
     def test_output_that_cannot_be_written(self):
         words = f"{EDITORS}/jref-at rename {NOTE} write {' '.join(NAMES)} >/dev/full"
         done = call(["sh", "-c", words], self.bank)
-        self.assertEqual((4, b"jref-at: can't write: No space left on device\n"), (done.returncode, done.stderr))
+        self.assertEqual(
+            (4, b"jref-at: can't write: No space left on device\n"), (done.returncode, done.stderr)
+        )
 
     def test_sources_that_are_none(self):
         self.put("Bytes.java", b"class Bytes { } // \xff")
@@ -181,8 +185,11 @@ class Statuses(InProject):
 
     def test_no_program(self):
         for program, word in [("/nothing", "can't be run"), ("/bin/false", "report can't be read")]:
-            done = call([str(EDITORS / "jref-at"), "check", "Log.java"], self.bank,
-                        env=environment(JREF=program))
+            done = call(
+                [str(EDITORS / "jref-at"), "check", "Log.java"],
+                self.bank,
+                env=environment(JREF=program),
+            )
             self.assertEqual(8, done.returncode)
             self.assertIn(word, done.stderr.decode())
 
@@ -282,10 +289,29 @@ class Uses(InProject):
             self.places("Teller.java:12:10", *NAMES)[1].split(": ")[1],
         )
 
+    def test_words_that_are_called_error(self):
+        text = "class error { int error; int m() { int NoVariable = error; return error; } }\n"
+        self.put("error.java", text)
+        self.assertEqual(
+            [
+                "error.java:1:19: this is declared here",
+                "error.java:1:53: error.error is named here",
+                "error.java:1:67: error.error is named here",
+            ],
+            self.places("error.java:1:54"),
+        )
+        self.assertEqual("", self.at("check", "error.java"))
+        self.put("error.java", text.replace("return error", "return errors"))
+        told = self.at("check", "error.java", status=1).splitlines()[::3]
+        self.assertEqual(["error.java:1:67"] * 2, [line.split(": ")[0] for line in told])
+
     def test_where_a_rename_is_refused(self):
         self.put("Again.java", "class Again { void m(Thread t) { t.run(); t.run(); } }\n")
         self.assertEqual(
-            ["Again.java:1:36: Thread.run() is named here", "Again.java:1:45: Thread.run() is named here"],
+            [
+                "Again.java:1:36: Thread.run() is named here",
+                "Again.java:1:45: Thread.run() is named here",
+            ],
             self.places("Again.java:1:36"),
         )
 

@@ -9,8 +9,19 @@ from support import EDITORS, HERE, NAMES, InProject, call, environment
 
 def has_eglot():
     """Whether Emacs is there, and has eglot."""
-    words = ["emacs", "--batch", "-q", "--eval", "(package-initialize)", "--eval", "(require 'eglot)"]
-    return shutil.which("emacs") is not None and subprocess.run(words, capture_output=True).returncode == 0
+    words = [
+        "emacs",
+        "--batch",
+        "-q",
+        "--eval",
+        "(package-initialize)",
+        "--eval",
+        "(require 'eglot)",
+    ]
+    return (
+        shutil.which("emacs") is not None
+        and subprocess.run(words, capture_output=True).returncode == 0
+    )
 
 
 @unittest.skipUnless(has_eglot(), "there is no emacs with eglot on this machine")
@@ -21,8 +32,11 @@ class Emacs(InProject):
         path.write_text(";; -*- lexical-binding: t -*-\n" + "\n".join(forms))
         files = [HERE / "drive.el", EDITORS / "recipes" / "jref-eglot.el", path]
         words = ["emacs", "--batch", "-q", *(word for file in files for word in ("-l", str(file)))]
-        done = call(words, self.folder,
-                    env=environment(JREF_TEST_FOLDER=str(self.bank), HOME=str(self.folder)))
+        done = call(
+            words,
+            self.folder,
+            env=environment(JREF_TEST_FOLDER=str(self.bank), HOME=str(self.folder)),
+        )
         told = done.stderr.decode()
         self.assertEqual(0, done.returncode, told)
         return told
@@ -31,7 +45,7 @@ class Emacs(InProject):
         self.drive(
             '(drive-edit "Log.java")',
             '(search-forward "void note")',
-            '(backward-char 2)',
+            "(backward-char 2)",
             '(eglot-rename "write")',
             "(drive-undo)",
             "(drive-idle)",

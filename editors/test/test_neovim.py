@@ -29,14 +29,22 @@ class Neovim(InProject):
         path = self.folder / "script.lua"
         path.write_text(whole)
         words = ["nvim", "--headless", "-u", "NONE", "-i", "NONE", "-n", "--cmd", "filetype on"]
-        home = {"HOME": str(self.folder), "XDG_STATE_HOME": str(self.folder), "XDG_CACHE_HOME": str(self.folder)}
-        done = call([*words, "-c", f"luafile {path}"], self.folder,
-                    env=environment(JREF_TEST_FOLDER=str(self.bank), **home))
+        home = {
+            "HOME": str(self.folder),
+            "XDG_STATE_HOME": str(self.folder),
+            "XDG_CACHE_HOME": str(self.folder),
+        }
+        done = call(
+            [*words, "-c", f"luafile {path}"],
+            self.folder,
+            env=environment(JREF_TEST_FOLDER=str(self.bank), **home),
+        )
         self.assertEqual(0, done.returncode, done.stderr.decode())
         return done.stderr.decode()
 
     def test_a_rename_over_five_files_and_its_undo(self):
-        self.drive("""
+        self.drive(
+            """
             drive.edit('Log.java')
             vim.api.nvim_win_set_cursor(0, { 5, 22 })
             vim.lsp.buf.rename('write')
@@ -46,14 +54,16 @@ class Neovim(InProject):
             vim.cmd('wall')
             vim.fn.mkdir(drive.folder .. '/../undone')
             vim.cmd([[bufdo if &filetype == 'java' | undo | execute 'write ' . fnameescape($JREF_TEST_FOLDER . '/../undone/' . expand('%:t')) | endif]])
-        """)
+        """
+        )
         self.assert_files("project", "renamed")
         for name in NAMES:
             undone = (self.folder / "undone" / name).read_bytes()
             self.assertEqual((HERE / "project" / name).read_bytes(), undone, name)
 
     def test_a_captured_name_in_a_changed_buffer(self):
-        self.drive("""
+        self.drive(
+            """
             drive.edit('Account.java')
             vim.api.nvim_buf_set_lines(0, 0, 0, false, { '// 🏦' })
             vim.api.nvim_win_set_cursor(0, { 12, 12 })
@@ -61,33 +71,39 @@ class Neovim(InProject):
             drive.wait('it', function() return drive.has('Account.java', 'this.amount = this.amount') end)
             vim.api.nvim_buf_set_lines(0, 0, 1, false, {})
             vim.cmd('wall')
-        """)
+        """
+        )
         self.assert_files("project", "captured")
 
     def test_behind_characters_beyond_16_bits(self):
-        self.drive("""
+        self.drive(
+            """
             drive.edit('Bank.java')
             vim.fn.search('open = false')
             vim.lsp.buf.rename('shut')
             drive.wait('it', function() return drive.has('Log.java', 'boolean shut') end)
             vim.cmd('wall')
-        """)
+        """
+        )
         line = "        /* 🏦🏦 */ account.log.note(0); account.log.shut = false;\n"
         self.assertIn(line, (self.bank / "Bank.java").read_text())
 
     def test_in_lines_of_dos_with_tabs(self):
-        self.drive("""
+        self.drive(
+            """
             drive.edit('Teller.java')
             vim.fn.search('done < rounds')
             vim.lsp.buf.rename('count')
             drive.wait('it', function() return drive.has('Teller.java', 'count < rounds') end)
             vim.cmd('wall')
-        """)
+        """
+        )
         wanted = (HERE / "project" / "Teller.java").read_bytes().replace(b"done", b"count")
         self.assertEqual(wanted, (self.bank / "Teller.java").read_bytes())
 
     def test_where_things_are(self):
-        self.drive("""
+        self.drive(
+            """
             drive.edit('Teller.java')
             vim.fn.search('account.add')
             vim.fn.search('add')
@@ -99,13 +115,15 @@ class Neovim(InProject):
             drive.put('found', { vim.fn.json_encode({ place, vim.tbl_map(function(it)
               return { vim.fn.fnamemodify(vim.fn.bufname(it.bufnr), ':t'), it.lnum, it.col }
             end, vim.fn.getqflist()) }) })
-        """)
+        """
+        )
         place, uses = json.loads((self.bank / "found").read_text())
         self.assertEqual([9, 9], place)
         self.assertEqual([["Account.java", 9, 10], ["Teller.java", 13, 12]], sorted(uses))
 
     def test_a_refusal_is_told_and_changes_nothing(self):
-        told = self.drive("""
+        told = self.drive(
+            """
             drive.edit('Log.java')
             vim.api.nvim_win_set_cursor(0, { 2, 16 })
             vim.lsp.buf.rename('open')
@@ -113,7 +131,8 @@ class Neovim(InProject):
               return string.find(vim.fn.execute('messages'), 'is taken', 1, true)
             end)
             vim.cmd('wall')
-        """)
+        """
+        )
         self.assertIn("the name is taken: Log.open has it there", told)
         self.assert_files("project")
 
@@ -126,25 +145,31 @@ class Neovim(InProject):
         """
         self.drive(script)
         self.assertIn("Util.java:1:1: this isn't in the subset", (self.bank / "found").read_text())
-        self.drive("""
+        self.drive(
+            """
             drive.edit('Log.java')
             vim.api.nvim_win_set_cursor(0, { 5, 22 })
             vim.lsp.buf.rename('write')
             drive.wait('it', function() return drive.has('Teller.java', 'write(') end)
             vim.cmd('wall')
-        """, options="{ files = { '[ABLST]*.java' } }")
+        """,
+            options="{ files = { '[ABLST]*.java' } }",
+        )
         self.assert_files("project", "renamed")
 
     def test_how_later_versions_start_it(self):
         """Where Neovim has no `vim.lsp.start`, something stands for it that does as it does."""
-        self.drive("""
+        self.drive(
+            """
             drive.edit('Log.java')
             vim.api.nvim_win_set_cursor(0, { 5, 22 })
             vim.lsp.buf.rename('write')
             drive.wait('it', function() return drive.has('Teller.java', 'write(') end)
             vim.cmd('wall')
             drive.put('found', { vim.fn.json_encode(started) })
-        """, before="if not vim.lsp.start then" + STAND_IN + "end")
+        """,
+            before="if not vim.lsp.start then" + STAND_IN + "end",
+        )
         self.assert_files("project", "renamed")
         started = json.loads((self.bank / "found").read_text())
         self.assertIn(["jref", 1], started or [["jref", 1]])

@@ -11,7 +11,14 @@ MIXED = "aé\t🏦b\r\nc\r\nd\re\n".encode()
 class Offsets(unittest.TestCase):
     def test_points_count_characters(self):
         text = Text(MIXED)
-        for at, point in [(0, (1, 1)), (1, (1, 2)), (3, (1, 3)), (4, (1, 4)), (8, (1, 5)), (9, (1, 6))]:
+        for at, point in [
+            (0, (1, 1)),
+            (1, (1, 2)),
+            (3, (1, 3)),
+            (4, (1, 4)),
+            (8, (1, 5)),
+            (9, (1, 6)),
+        ]:
             self.assertEqual(point, text.point(at))
             self.assertEqual(at, text.byte_of_point(*point))
         for at, point in [(11, (2, 1)), (14, (3, 1)), (16, (4, 1)), (18, (5, 1))]:

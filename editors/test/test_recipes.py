@@ -19,7 +19,11 @@ class Recipe(InProject):
         tools.mkdir()
         os.symlink(program.find(), tools / "jref")
         os.symlink(EDITORS / "jref-at", tools / "jref-at")
-        names = {f"GIT_{who}_{what}": "test" for who in ("AUTHOR", "COMMITTER") for what in ("NAME", "EMAIL")}
+        names = {
+            f"GIT_{who}_{what}": "test"
+            for who in ("AUTHOR", "COMMITTER")
+            for what in ("NAME", "EMAIL")
+        }
         path = f"{tools}:{os.environ['PATH']}"
         self.words = environment(PATH=path, HOME=str(self.folder), GIT_CONFIG_NOSYSTEM="1", **names)
 
@@ -44,7 +48,9 @@ class CleanUp(Recipe):
 
     def test_all(self):
         self.commit()
-        told = self.clean_up("5 note write Log.java", "2 sign mark Bank.java", "1 Bank House Bank.java")
+        told = self.clean_up(
+            "5 note write Log.java", "2 sign mark Bank.java", "1 Bank House Bank.java"
+        )
         self.assertIn("5 files changed", told)
         renamed = (HERE / "renamed" / "Bank.java").read_text()
         bank = renamed.replace("class Bank", "class House").replace("String sign", "String mark")
@@ -77,7 +83,9 @@ class CleanUp(Recipe):
 class Review(Recipe):
     def review(self, status):
         self.run_it("git", "commit", "--quiet", "-a", "-m", "note becomes write")
-        told = self.run_it(RECIPES / "review-rename", "HEAD", "Log.java:5:23", "write", status=status)
+        told = self.run_it(
+            RECIPES / "review-rename", "HEAD", "Log.java:5:23", "write", status=status
+        )
         self.assertEqual(1, len(self.run_it("git", "worktree", "list").splitlines()))
         return told
 
@@ -93,12 +101,17 @@ class Review(Recipe):
             self.put(path.name, path.read_bytes().replace(b"amount > 100", b"amount > 99"))
         told = self.review(1)
         changed = [line for line in told.splitlines() if re.match(r"[-+] ", line)]
-        self.assertEqual(["-            if (amount > 100) {", "+            if (amount > 99) {"], changed)
+        self.assertEqual(
+            ["-            if (amount > 100) {", "+            if (amount > 99) {"], changed
+        )
 
 
 class VsCode(Recipe):
     def test_the_pattern_takes_what_check_prints(self):
-        self.put("Wrong.java", 'class Wrong {\n\tString s = 1; // a:1:2: b\n\tint t = "Log.java:3:4: c";\n}\n')
+        self.put(
+            "Wrong.java",
+            'class Wrong {\n\tString s = 1; // a:1:2: b\n\tint t = "Log.java:3:4: c";\n}\n',
+        )
         (task,) = json.loads((RECIPES / "vscode" / "tasks.json").read_text())["tasks"]
         matcher = task["problemMatcher"]["pattern"]
         pattern = re.compile(matcher["regexp"])

@@ -1,6 +1,5 @@
 """`jref-lsp`, asked message by message."""
 
-import json
 import os
 import unittest
 
@@ -8,7 +7,7 @@ from jref_glue.offsets import Text
 from jref_glue.protocol import path_of, uri_of
 
 from client import Client
-from support import HERE, NAMES, InProject
+from support import NAMES, InProject
 
 FAILED = -32803
 
@@ -16,7 +15,9 @@ FAILED = -32803
 def edited(text, edits):
     """The text with the edits of an answer in it."""
     found = Text(text)
-    for edit in sorted(edits, key=lambda it: found.byte_of_position(it["range"]["start"]), reverse=True):
+    for edit in sorted(
+        edits, key=lambda it: found.byte_of_position(it["range"]["start"]), reverse=True
+    ):
         start, end = (found.byte_of_position(edit["range"][side]) for side in ("start", "end"))
         text = text[:start] + edit["newText"].encode() + text[end:]
     return text
@@ -50,7 +51,10 @@ class Renames(OnServer):
         answer = client.at("rename", self.bank / "Log.java", 4, 22, newName="write")
         self.assertEqual(
             {self.uri(name): 7 if name == "Log.java" else None for name in NAMES},
-            {it["textDocument"]["uri"]: it["textDocument"]["version"] for it in answer["documentChanges"]},
+            {
+                it["textDocument"]["uri"]: it["textDocument"]["version"]
+                for it in answer["documentChanges"]
+            },
         )
         for change in answer["documentChanges"]:
             path = path_of(change["textDocument"]["uri"])
@@ -70,13 +74,16 @@ class Renames(OnServer):
         client = self.client()
         path = self.bank / "Bank.java"
         client.open(path)
-        client.change(path, "class Bank { String it = \"🏦\"; int two; int m() { return two; } }", 2)
+        client.change(path, 'class Bank { String it = "🏦"; int two; int m() { return two; } }', 2)
         answer = client.at("rename", path, 0, 36, newName="three")
         (change,) = answer["documentChanges"]
         self.assertEqual(2, change["textDocument"]["version"])
         self.assertEqual(
             [(35, 38), (57, 60)],
-            [(it["range"]["start"]["character"], it["range"]["end"]["character"]) for it in change["edits"]],
+            [
+                (it["range"]["start"]["character"], it["range"]["end"]["character"])
+                for it in change["edits"]
+            ],
         )
 
     def test_after_a_document_is_closed(self):
@@ -91,7 +98,8 @@ class Renames(OnServer):
         answer = client.at("rename", self.bank / "Log.java", 1, 16, newName="open")
         self.assertEqual(FAILED, answer["code"])
         self.assertEqual(
-            f"{self.bank}/Log.java:2:17: the name is taken: Log.open has it there", answer["message"]
+            f"{self.bank}/Log.java:2:17: the name is taken: Log.open has it there",
+            answer["message"],
         )
         answer = client.at("rename", self.bank / "Log.java", 1, 16, newName="\ud800")
         self.assertIn("can't be a name", answer["message"])
@@ -115,7 +123,10 @@ class Questions(OnServer):
         for name, line, character in [("Bank.java", 8, 31), ("Log.java", 4, 24)]:
             for wanted in (False, True):
                 found = client.at(
-                    "references", self.bank / name, line, character,
+                    "references",
+                    self.bank / name,
+                    line,
+                    character,
                     context={"includeDeclaration": wanted},
                 )
                 self.assertEqual(sorted(named + declared * wanted), self.lines(found))
@@ -131,8 +142,10 @@ class Questions(OnServer):
     def test_highlights(self):
         client = self.client()
         found = client.at("documentHighlight", self.bank / "Account.java", 2, 17)
-        self.assertEqual([(2, 16), (10, 12), (10, 22), (16, 15)],
-                         [(it["range"]["start"]["line"], it["range"]["start"]["character"]) for it in found])
+        self.assertEqual(
+            [(2, 16), (10, 12), (10, 22), (16, 15)],
+            [(it["range"]["start"]["line"], it["range"]["start"]["character"]) for it in found],
+        )
         self.assertIsNone(client.at("documentHighlight", self.bank / "Account.java", 0, 1))
 
     def test_no_actions_are_offered_that_jref_does_not_have(self):
@@ -152,7 +165,10 @@ class Diagnostics(OnServer):
         found, _ = client.wait_for_diagnostics(path)
         self.assertEqual(
             {
-                "range": {"start": {"line": 5, "character": 8}, "end": {"line": 5, "character": 12}},
+                "range": {
+                    "start": {"line": 5, "character": 8},
+                    "end": {"line": 5, "character": 12},
+                },
                 "severity": 1,
                 "code": "NoVariable",
                 "source": "jref",
@@ -176,9 +192,15 @@ class Diagnostics(OnServer):
             told["message"],
         )
         (there,) = client.wait_for_diagnostics(foreign)
-        self.assertEqual(("Syntax", 1, 0, 6), (
-            there["code"], there["range"]["start"]["line"],
-            there["range"]["start"]["character"], there["range"]["end"]["character"]))
+        self.assertEqual(
+            ("Syntax", 1, 0, 6),
+            (
+                there["code"],
+                there["range"]["start"]["line"],
+                there["range"]["start"]["character"],
+                there["range"]["end"]["character"],
+            ),
+        )
         self.assertEqual(FAILED, client.at("rename", log, 4, 22, newName="write")["code"])
         settings = {"jref": {"files": NAMES}}
         client.tell("workspace/didChangeConfiguration", {"settings": settings})
@@ -222,13 +244,17 @@ class Diagnostics(OnServer):
         bad = self.put("Bad.java", b"class Bad { } // \xff")
         client = self.client()
         client.open(self.bank / "Log.java")
-        self.assertIn("isn't UTF-8", client.wait_for_diagnostics(self.bank / "Log.java")[0]["message"])
+        self.assertIn(
+            "isn't UTF-8", client.wait_for_diagnostics(self.bank / "Log.java")[0]["message"]
+        )
         self.assertIn("isn't UTF-8", client.told[uri_of(str(bad))][0]["message"])
 
     def test_no_program(self):
         client = self.client(env={"JREF": "/nothing"})
         client.open(self.bank / "Log.java")
-        self.assertIn("can't be run", client.wait_for_diagnostics(self.bank / "Log.java")[0]["message"])
+        self.assertIn(
+            "can't be run", client.wait_for_diagnostics(self.bank / "Log.java")[0]["message"]
+        )
         answer = client.at("rename", self.bank / "Log.java", 4, 22, newName="write")
         self.assertIn("can't be run", answer["message"])
 
@@ -239,7 +265,9 @@ class Files(OnServer):
         path = self.folder / "One.java"
         client.open(path, "class One { int a; }")
         answer = client.at("rename", path, 0, 16, newName="b")
-        self.assertEqual([uri_of(str(path))], [it["textDocument"]["uri"] for it in answer["documentChanges"]])
+        self.assertEqual(
+            [uri_of(str(path))], [it["textDocument"]["uri"] for it in answer["documentChanges"]]
+        )
 
     def test_a_new_document_in_the_folder(self):
         client = self.client()
@@ -287,8 +315,11 @@ class Protocol(OnServer):
 
     def test_requests_that_are_taken_back(self):
         client = self.client()
-        params = {"textDocument": {"uri": self.uri("Log.java")},
-                  "position": {"line": 4, "character": 22}, "newName": "write"}
+        params = {
+            "textDocument": {"uri": self.uri("Log.java")},
+            "position": {"line": 4, "character": 22},
+            "newName": "write",
+        }
         for number in ("a", "b", "c"):
             client.send({"id": number, "method": "textDocument/rename", "params": params})
         client.tell("$/cancelRequest", {"id": "c"})
@@ -303,7 +334,9 @@ class Protocol(OnServer):
         self.assertEqual(1, client.end())
         client = Client(self.bank)
         client.ask("shutdown", None)
-        self.assertEqual(-32600, client.at("rename", self.bank / "Log.java", 4, 22, newName="a")["code"])
+        self.assertEqual(
+            -32600, client.at("rename", self.bank / "Log.java", 4, 22, newName="a")["code"]
+        )
         client.tell("exit", None)
         self.assertEqual((0, ""), (client.end(), client.errors))
 

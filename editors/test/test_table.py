@@ -39,7 +39,9 @@ class Rows(InProject):
             "Account.java:11:23: no expression whose value a local can take has exactly this span\n",
             self.errors,
         )
-        self.at("extract-local", "Account.java:11:23", "sum", env=environment(**self.words), status=2)
+        self.at(
+            "extract-local", "Account.java:11:23", "sum", env=environment(**self.words), status=2
+        )
         self.assertIn("isn't FILE:LINE:COL-LINE:COL", self.errors)
 
     def test_the_action(self):
