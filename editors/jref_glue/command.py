@@ -10,7 +10,7 @@ import sys
 
 from . import VERSION, edits, meaning, protocol, steps
 from .meaning import Refused
-from .offsets import NoPlace, Text
+from .offsets import NoPlace
 from .program import MISUSE, UNREAD, UNWRITTEN, Source, Stopped
 from .replacing import Change, replace_all
 from .sentences import Finding, spoken
@@ -108,7 +108,9 @@ def _refactor(asked: argparse.Namespace) -> int:
     sources, start, end = _read_at(asked, spans=asked.row.place == "span")
     words = [getattr(asked, name) for name in asked.row.asks]
     stored = meaning.refactored(sources, asked.row, 0, (start, end), words)
-    changes = [Change(*sources[file], new) for file, new in sorted(stored.items())]
+    changes = [
+        Change(sources[file].path, sources[file].data, new) for file, new in sorted(stored.items())
+    ]
     if asked.json:
         changed = {protocol.uri_of(it.path): protocol.text_edits(it.old, it.new) for it in changes}
         print(json.dumps({"changes": changed}))
@@ -149,7 +151,7 @@ def _read_at(asked: argparse.Namespace, spans: bool) -> tuple[list[Source], int,
         wanted = "FILE:LINE:COL-LINE:COL" if spans else "FILE:LINE:COL"
         raise Stopped(MISUSE, f"{asked.place} isn't {wanted}")
     sources = _read([where["file"], *asked.files])
-    text = Text(sources[0].data)
+    text = sources[0].text
     try:
         start = text.byte_of_point(int(where["line"]), int(where["column"]))
         end = text.byte_of_point(int(where["last"]), int(where["end"])) if spans else start

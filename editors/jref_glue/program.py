@@ -8,8 +8,10 @@ import shutil
 import subprocess
 import tempfile
 from dataclasses import dataclass
+from functools import cached_property
 from pathlib import Path
-from typing import NamedTuple
+
+from .offsets import Text
 
 TOP = Path(__file__).resolve().parents[2]
 LARGEST_FILE = 1_048_576
@@ -27,11 +29,17 @@ class Stopped(Exception):
         self.path = path
 
 
-class Source(NamedTuple):
+@dataclass
+class Source:
     """A file of the program: how it is called in front of people, and its bytes."""
 
     path: str
     data: bytes
+
+    @cached_property
+    def text(self) -> Text:
+        """The same bytes, with their lines."""
+        return Text(self.data)
 
 
 @dataclass

@@ -2,7 +2,6 @@
 
 from __future__ import annotations
 
-from .offsets import Text
 from .program import Source
 from .sentences import Finding
 
@@ -11,15 +10,15 @@ def told(sources: list[Source], finding: Finding) -> str:
     """The finding's sentence, behind its file, line and column as far as it has them."""
     if finding.file is None:
         return finding.sentence
-    path, data = sources[finding.file]
+    source = sources[finding.file]
     if finding.at is None:
-        return f"{path}: {finding.sentence}"
-    line, column = Text(data).point(finding.at)
-    return f"{path}:{line}:{column}: {finding.sentence}"
+        return f"{source.path}: {finding.sentence}"
+    line, column = source.text.point(finding.at)
+    return f"{source.path}:{line}:{column}: {finding.sentence}"
 
 
 def pointed(sources: list[Source], finding: Finding) -> str:
     """The same, and where it has a place the line with a caret below."""
     if finding.file is None or finding.at is None:
         return told(sources, finding)
-    return f"{told(sources, finding)}\n{Text(sources[finding.file].data).shown(finding.at)}"
+    return f"{told(sources, finding)}\n{sources[finding.file].text.shown(finding.at)}"

@@ -43,7 +43,7 @@ class Program:
 
     def text(self, file: int) -> Text:
         """The text of a file."""
-        return Text(self.sources[file].data)
+        return self.sources[file].text
 
     def location(self, place: Place) -> dict:
         """The protocol's location of a word."""

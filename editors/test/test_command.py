@@ -24,6 +24,7 @@ NOTE_DIFF = """\
 
 
 class Renames(InProject):
+    @needs("git")
     def test_a_diff(self):
         others = [name for name in NAMES if name != "Log.java"]
         found = self.at("rename", NOTE, "write", *others)
