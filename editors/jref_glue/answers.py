@@ -38,8 +38,8 @@ class Answers:
                 raise
             try:
                 return program, ask(program, file, before)
-            except Refused:
-                raise refusal from None
+            except Refused as other:
+                raise (refusal if other.finding.code == "BadTarget" else other) from None
 
     def _uses(self, params: dict) -> tuple[Program, meaning.Uses]:
         return self._at_word(params, lambda it, file, at: meaning.uses(it.sources, file, at))

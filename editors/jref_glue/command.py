@@ -30,6 +30,7 @@ WRITING = """
 With --write all new files are prepared, and then each replaces its old one; where one can't, those
 that are done are put back. A process that is killed meanwhile may leave some files replaced.
 """
+INTERRUPTED = 130
 PLACE = re.compile(
     r"(?P<file>.+?):(?P<line>\d+):(?P<column>\d+)(-(?P<last>\d+):(?P<end>\d+))?", re.DOTALL
 )
@@ -53,6 +54,8 @@ def main(words: list[str]) -> int:
         os.dup2(os.open(os.devnull, os.O_WRONLY), sys.stdout.fileno())
         print(f"jref-at: can't write: {fault.strerror}", file=sys.stderr)
         status = UNWRITTEN
+    except KeyboardInterrupt:
+        status = INTERRUPTED
     return status
 
 

@@ -28,7 +28,7 @@ def of_workspace(workspace: Workspace) -> dict[str, list[dict]]:
         _tell_stop(found, stop)
         return found
     for uri in program.uris:
-        found[uri] += []
+        found.setdefault(uri, [])
     _tell_elsewhere(found, workspace, program, problems)
     for problem in problems:
         if problem.file is not None:

@@ -6,6 +6,7 @@ import re
 import unicodedata
 from bisect import bisect_right
 
+WIDE, CUT = 100, "…"
 LINE_END = re.compile(rb"\r\n|\r|\n")
 
 
@@ -76,18 +77,13 @@ class Text:
 
     def byte_of_position(self, position: dict[str, int]) -> int:
         """The byte of a position of the protocol; one behind a line's end is that end."""
-        number = position["line"]
+        number, character = position["line"], position["character"]
         if number >= len(self._starts):
             return len(self.data)
-        units = 0
-        taken = 0
-        text = self.line(number)
-        for char in text:
-            units += utf16_length(char)
-            if units > position["character"]:
-                break
-            taken += 1
-        return self._starts[number] + self._size(text[:taken])
+        if self._ascii:
+            return min(self._starts[number] + character, self._ends[number])
+        units = self.line(number).encode("utf-16-le", "surrogatepass")[: 2 * character]
+        return self._starts[number] + self._size(units.decode("utf-16-le", "ignore"))
 
     @staticmethod
     def _size(text: str) -> int:
@@ -105,9 +101,14 @@ class Text:
         return at - self._size(before[-1]) if before else None
 
     def shown(self, at: int) -> str:
-        """The line of a byte, and a caret under it on a line of its own."""
+        """The line of a byte, and a caret under it on a line of its own; of a long line a part."""
         number, before = self._before(at)
-        return f"    {self.line(number)}\n    {''.join(map(_blank, before))}^"
+        after = self.line(number)[len(before) :]
+        if len(before) > WIDE:
+            before = CUT + before[-WIDE:]
+        if len(after) > WIDE:
+            after = after[:WIDE] + CUT
+        return f"    {before}{after}\n    {''.join(map(_blank, before))}^"
 
 
 def _blank(char: str) -> str:

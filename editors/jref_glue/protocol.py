@@ -22,11 +22,17 @@ def path_of(uri: str) -> str | None:
 
 def text_edits(old: bytes, new: bytes) -> list[dict]:
     """Edits of the old text. They are applied here first, and have to give the new one."""
-    changes = edits.between(old, new)
-    if edits.applied(old, changes) != new:
-        raise AssertionError("the edits don't give the text that jref has stored")
     text = Text(old)
-    return [
+    found = [
         {"range": text.range(edit.start, edit.end), "newText": edit.text.decode("utf-8")}
-        for edit in changes
+        for edit in edits.between(old, new)
     ]
+    if edits.applied(old, [_edit(text, it) for it in found]) != new:
+        raise AssertionError("the edits don't give the text that jref has stored")
+    return found
+
+
+def _edit(text: Text, told: dict) -> edits.Edit:
+    """An edit as an editor reads it."""
+    ends = (text.byte_of_position(told["range"][side]) for side in ("start", "end"))
+    return edits.Edit(*ends, told["newText"].encode("utf-8"))

@@ -35,11 +35,12 @@ class Program:
 
     def index(self, uri: str) -> int:
         """The number of the file of a URI."""
-        path = path_of(uri)
+        path = path_of(uri) or uri
+        real = os.path.realpath(path)
         for number, source in enumerate(self.sources):
-            if path is not None and os.path.realpath(source.path) == os.path.realpath(path):
+            if os.path.realpath(source.path) == real:
                 return number
-        raise Stopped(BAD_SOURCE, "this isn't one of the program's files", path or uri)
+        raise Stopped(BAD_SOURCE, "this isn't one of the program's files", path)
 
     def text(self, file: int) -> Text:
         """The text of a file."""

@@ -2,8 +2,9 @@
 
 import time
 import unittest
+from unittest import mock
 
-from jref_glue import edits
+from jref_glue import edits, protocol
 from jref_glue.edits import Edit
 
 from support import InProject, call, needs
@@ -41,6 +42,22 @@ class Edits(unittest.TestCase):
             started = time.monotonic()
             self.assertEqual(new, edits.applied(old, edits.between(old, new)))
             self.assertLess(time.monotonic() - started, 30)
+
+
+class ForEditors(unittest.TestCase):
+    def test_positions(self):
+        place = {"start": {"line": 1, "character": 9}, "end": {"line": 1, "character": 12}}
+        self.assertEqual(
+            [{"range": place, "newText": "größer"}],
+            protocol.text_edits(
+                "//\r\n/*🏦*/ ö+old\r\n".encode(), "//\r\n/*🏦*/ ö+größer\r\n".encode()
+            ),
+        )
+
+    def test_edits_that_are_wrong_are_not_handed_out(self):
+        wrong = mock.Mock(return_value=[Edit(0, 1, b"c")])
+        with mock.patch("jref_glue.edits.between", wrong), self.assertRaises(AssertionError):
+            protocol.text_edits(b"a", b"b")
 
 
 class Diffs(InProject):

@@ -62,6 +62,10 @@ class Offsets(unittest.TestCase):
 
     def test_carets(self):
         self.assertEqual("    \tx=1\n    \t ^", Text(b"\tx=1").shown(2))
+        long = Text(b"x" * 150 + b"y" + b"z" * 150)
+        self.assertEqual(
+            "    …" + "x" * 100 + "y" + "z" * 99 + "…\n" + " " * 105 + "^", long.shown(150)
+        )
         self.assertEqual("    a語b\n       ^", Text("a語b".encode()).shown(4))
 
 

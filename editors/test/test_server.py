@@ -101,6 +101,10 @@ class Renames(OnServer):
             f"{self.bank}/Log.java:2:17: the name is taken: Log.open has it there",
             answer["message"],
         )
+        answer = client.at("rename", self.bank / "Log.java", 1, 20, newName="open")
+        self.assertIn("Log.java:2:20: the name is taken", answer["message"])
+        answer = client.at("rename", self.bank / "Log.java", 1, 2, newName="it")
+        self.assertIn("Log.java:2:3: nothing of the program", answer["message"])
         answer = client.at("rename", self.bank / "Log.java", 1, 16, newName="\ud800")
         self.assertIn("can't be a name", answer["message"])
 
