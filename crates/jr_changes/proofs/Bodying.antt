@@ -26,7 +26,7 @@ use Rattle.jr_gather.specs.Known.{rows_of, naming_of, context_of, IsKnown, ExpRe
 use Rattle.jr_gather.specs.Walks.{choosing, ExpGathers}
 use Rattle.jr_changes.specs.Bodies.{MaybeGathers, StmtGathers, ElseGathers, StmtsGather}
 use Rattle.jr_changes.specs.Ready.{SoundElse, RefersElse, TypesElse, ExpReadyIn, StmtsReadyIn, MaybeReady, StmtReady, ElseReady, StmtsReady, BranchReady, TurnsReady, SyncReady}
-use Rattle.jr_changes.specs.Moves.{Goes, cut, own_key, StmtPasses, InnerPasses, ElsePasses, BodyPasses, BranchPasses}
+use Rattle.jr_changes.specs.Moves.{Goes, cut, own_key, StmtPasses, InnerPasses, BodyPasses}
 use Rattle.jr_changes.specs.Locals.{LocalGathers}
 use Rattle.jr_table.specs.declared.rules.Rule.TheVariants as rule
 use Rattle.jr_gather.proofs.Bound.{type_bound}
@@ -315,30 +315,8 @@ module _ {A : Type 0} (tells : A → ℕ → Span) (number : ℕ) (h : raw.Here)
         gives = p.gives;
       }
 
--- ---- what stands behind `else`, and a whole condition
+-- ---- what stands behind `else`
 
 pub else_moved : {A : Type 0} (tells : A → ℕ → Span) (Fits : A → ℕ → Type 0) (h i : raw.Here) → Goes h i (context_of h) → (n : ℕ) (path : List ℕ) (at : ℕ) (other : statement.Else A) → ElseReady tells Fits h n path at other → ElseReady tells Fits i n path at other
 else_moved tells Fits h i goes n path at other ready =
     moved_back (λ rs b f d. FitsElse (λ m b. (tells m b).from) Fits at other × SoundElse (λ m b. (tells m b).from) rs n d at other × RefersElse (λ m b. (tells m b).from) rs b f n d at other × TypesElse rs b n d path other) h i (context_of h) goes ready
-
-module _ {A : Type 0} (tells : A → ℕ → Span) (h : raw.Here) (n at : ℕ) (e : tree.Exp A) (x : statement.Stmt A) (other : statement.Else A) where
-  pub branch_passes : (k l : ℕ) (i j : raw.Here) (old one two new : Effect) → ExpGathers tells h value at e old one → InnerPasses tells n h at x k i one two → ElsePasses tells k i at other l j two new → BranchPasses tells n h at e x other l j old new
-  branch_passes k l i j old one two new test p q = record {
-    number = q.number ∙ ap (λ (y : ℕ). y + locals_in_else other) p.number;
-    goes = record {
-      known = q.goes.known;
-      context = q.goes.context ∙ p.goes.context;
-      rows = q.goes.rows ∙ p.goes.rows;
-      naming = q.goes.naming ∙ p.goes.naming;
-      bound = q.goes.bound ∙ p.goes.bound;
-      from_is = q.goes.from_is ∙ p.goes.from_is;
-    };
-    gives = (
-      one,
-      two,
-      test,
-      p.gives,
-      λ s. subst (λ y. Gathers (RewritesElse tells (choosing tells h s) y (context_of h) at other) two new) p.number
-          (moved (λ rs g d. Gathers (RewritesElse tells (spelling (λ m b. (tells m b).from) rs g s) k d at other) two new) h i (context_of h) p.goes (q.gives s)),
-    );
-  }

@@ -16,11 +16,14 @@ use Rattle.jr_gather.specs.declared.here.Here as raw
 use Rattle.jr_gather.specs.Known.{rows_of, context_of, IsKnown, ExpReady, TypeIsBound}
 use Rattle.jr_gather.specs.Walks.{ExpGathers}
 use Rattle.jr_renaming.specs.Effects.{Effect}
-use Rattle.jr_changes.specs.Bodies.{MaybeGathers}
+use Rattle.jr_changes.specs.declared.statements.Last.{Last}
+use Rattle.jr_changes.specs.declared.statements.Reached.TheVariants as reached
+use Rattle.jr_changes.specs.Bodies.{MaybeGathers, StmtGathers}
 use Rattle.jr_changes.specs.Ready.{ExpReadyIn, MaybeReady, StmtReady, StmtsReady, BranchReady, TurnsReady, SyncReady}
-use Rattle.jr_changes.specs.Moves.{StmtPasses, InnerPasses, ElsePasses, BodyPasses, BranchPasses, TurnsPasses, SyncPasses}
+use Rattle.jr_changes.specs.Moves.{StmtPasses, BodyPasses, SyncPasses}
+use Rattle.jr_changes.specs.Lasts.{IsLast, Leaves, BranchPasses, HeadPasses}
 use Rattle.jr_changes.specs.Locals.{LocalPasses}
-use Rattle.jr_changes.proofs.Bodying.{stays_here, local_gives, eval_gives, branch_gives, loop_gives, return_gives, block_gives, sync_gives, empty_gives, no_else_gives, else_gives, in_eval, in_branch, in_loop, in_return, in_block, in_sync, in_local, local_bound}
+use Rattle.jr_changes.proofs.Bodying.{stays_here, local_gives, eval_gives, branch_gives, loop_gives, return_gives, block_gives, sync_gives, empty_gives, in_eval, in_branch, in_loop, in_return, in_block, in_sync, in_local, local_bound}
 
 -- ---- measures
 
@@ -36,15 +39,8 @@ size_within [] i x lt e = absurd (omega arith)
 size_within (y ∷ ys) zero x lt e = let s = ap (λ (z : Stmt _). stmt_size (stmt_of z)) e in omega arith
 size_within (y ∷ ys) (suc i) x lt e = let h = size_within ys i x (omega arith) e in omega arith
 
-pub falls_item : {A : Type 0} (row : List (Stmt A)) (i : ℕ) (x : Stmt A) (t : ℕ) → i < length row → x ≡ get_or row i x → 5 * stmts_size (stmts_of row) + 2 ≡ t → 5 * stmt_size (stmt_of x) < t
+pub falls_item : {A : Type 0} (row : List (Stmt A)) (i : ℕ) (x : Stmt A) (t : ℕ) → i < length row → x ≡ get_or row i x → 5 * stmts_size (stmts_of row) + 2 ≡ t → 5 * stmt_size (stmt_of x) + 1 < t
 falls_item row i x t lt e h = let s = size_within row i x lt e in omega (arith, s, h)
-
-pub falls_else : {A : Type 0} (o : Option (Box (Stmt A) Global)) (b : Box (Stmt A) Global) (x : Stmt A) (t : ℕ) → o ≡ Some b → x ≡ b.value → 5 * else_size (else_of o) + 2 ≡ t → 5 * stmt_size (stmt_of x) + 1 < t
-unfolding stmt_size stmts_size else_size
-falls_else o b x t is same h =
-    let e : else_size (else_of o) ≡ stmt_size (stmt_of b.value) = ap (λ (p : Option (Box (Stmt _) Global)). else_size (else_of p)) is in
-    let s = ap (λ (z : Stmt _). stmt_size (stmt_of z)) same in
-    omega (arith, e, s, h)
 
 plus_nothing : (n k : ℕ) → k ≡ n → k ≡ n + 0
 plus_nothing n k e = omega (arith, e)
@@ -115,22 +111,35 @@ module _ {A : Type 0} (tells : A → ℕ → Span) (F : A → ℕ → Type 0) (h
     gives = eval_gives tells h n base m e old new (here (λ j. ExpGathers tells h whole j e old new) g);
   }
 
-  pub branch_returns : (e : tree.Exp A) (x y : Stmt A) (other : statement.Else A) (k : ℕ) (i : raw.Here) (old new : Effect) → x ≡ y → BranchPasses tells n h at e (stmt_of x) other k i old new
-      → Gives (statement.branch m e (stmt_of y) other) k i old new
+  pub branch_leaves : (e : tree.Exp A) (x y : Stmt A) (other : statement.Else A) (l : Last A) (i : raw.Here) (old now : Effect) → x ≡ y → BranchPasses tells F n h path at e (stmt_of x) other l i old now
+      → HeadPasses tells F n h path base (statement.branch m e (stmt_of y) other) (reached.To l) i old now
   unfolding locals_in locals_in_else locals_in_row
-  branch_returns e x y other k i old new same p =
-      let q = here (λ j. BranchPasses tells n h j e (stmt_of y) other k i old new) (subst (λ z. BranchPasses tells n h at e (stmt_of z) other k i old new) same p) in
-      record {
-        number = plus_sum n (locals_in (stmt_of y)) (locals_in_else other) k q.number;
-        goes = q.goes;
-        gives = let g = q.gives in branch_gives tells h n base m e (stmt_of y) other old g.0 g.1 new g.2 g.3 g.4;
-      }
+  branch_leaves e x y other l i old now same p =
+      let q = here (λ j. BranchPasses tells F n h path j e (stmt_of y) other l i old now) (subst (λ z. BranchPasses tells F n h path at e (stmt_of z) other l i old now) same p) in
+      let left = q.1 in (
+        q.0,
+        record {
+          goes = left.goes;
+          count = plus_sum n (locals_in (stmt_of y)) (locals_in_else other) (l.number + locals_in (stmt_of l.of.now)) left.count;
+          ready = left.ready;
+          gives = λ new g. let r = left.gives new g in branch_gives tells h n base m e (stmt_of y) other old r.0 r.1 new r.2 r.3 r.4;
+        },
+      )
 
-  pub turns_returns : (e : tree.Exp A) (x y : Stmt A) (k : ℕ) (i : raw.Here) (old new : Effect) → x ≡ y → TurnsPasses tells n h at e (stmt_of x) k i old new → Gives (statement.loop m e (stmt_of y)) k i old new
+  pub loop_leaves : (e : tree.Exp A) (x y : Stmt A) (old now : Effect) → x ≡ y → IsKnown h → ExpGathers tells h value at e old now → StmtReady tells F h n (path ++ 1 ∷ []) at (stmt_of x)
+      → IsLast (stmt_of x) (statement.loop m e (stmt_of y))
+      × Leaves tells F h (n + locals_in (statement.loop m e (stmt_of y))) (λ new. StmtGathers tells h n base (statement.loop m e (stmt_of y)) old new) (stmt_of x) n (path ++ 1 ∷ []) at h now
   unfolding locals_in locals_in_else locals_in_row
-  turns_returns e x y k i old new same p =
-      let q = here (λ j. TurnsPasses tells n h j e (stmt_of y) k i old new) (subst (λ z. TurnsPasses tells n h at e (stmt_of z) k i old new) same p) in
-      record { number = q.number; goes = q.goes; gives = let g = q.gives in loop_gives tells h n base m e (stmt_of y) old g.0 new g.1 g.2 }
+  loop_leaves e x y old now same known test ready = (
+    ap (λ (z : Stmt A). stmt_of z) same,
+    record {
+      goes = stays_here h known;
+      count = ap (λ (z : Stmt A). n + locals_in (stmt_of z)) same;
+      ready = ready;
+      gives = λ new g. loop_gives tells h n base m e (stmt_of y) old now new (here (λ j. ExpGathers tells h value j e old now) test)
+          (here (λ j. StmtGathers tells h n j (stmt_of y) now new) (subst (λ z. StmtGathers tells h n at (stmt_of z) now new) same g));
+    },
+  )
 
   pub return_returns : (known : IsKnown h) (e : Option (tree.Exp A)) (old new : Effect) → MaybeGathers tells h at e old new → Gives (statement.return m e) n h old new
   unfolding locals_in locals_in_else locals_in_row
@@ -155,12 +164,3 @@ module _ {A : Type 0} (tells : A → ℕ → Span) (F : A → ℕ → Type 0) (h
   pub empty_returns : (known : IsKnown h) (e : Effect) → Gives (statement.empty m) n h e e
   unfolding locals_in locals_in_else locals_in_row
   empty_returns known e = record { number = plus_nothing n n refl; goes = stays_here h known; gives = empty_gives tells h n base m e }
-
-module _ {A : Type 0} (tells : A → ℕ → Span) (h : raw.Here) (n at : ℕ) where
-  pub none_passes : (known : IsKnown h) (e : Effect) → ElsePasses tells n h at statement.no_else n h e e
-  unfolding locals_in locals_in_else locals_in_row
-  none_passes known e = record { number = plus_nothing n n refl; goes = stays_here h known; gives = no_else_gives tells h n at e }
-
-  pub else_passes : (x : statement.Stmt A) (k : ℕ) (i : raw.Here) (old new : Effect) → InnerPasses tells n h at x k i old new → ElsePasses tells n h at (statement.otherwise x) k i old new
-  unfolding locals_in locals_in_else locals_in_row
-  else_passes x k i old new p = record { number = p.number; goes = p.goes; gives = else_gives tells h n at x old new p.gives }

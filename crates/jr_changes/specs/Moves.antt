@@ -9,7 +9,6 @@ use Rattle.jr_table.specs.Context.{
   local_type,
   after,
   locals_in,
-  locals_in_else,
   locals_in_row,
 }
 use Rattle.jr_scopes.specs.Helds.{Held, key_of}
@@ -18,7 +17,7 @@ use Rattle.jr_renaming.specs.Effects.{Effect}
 use Rattle.jr_gather.specs.Known.{rows_of, naming_of, context_of, IsKnown}
 use Rattle.jr_table.specs.Binding.{value}
 use Rattle.jr_gather.specs.Walks.{ExpGathers}
-use Rattle.jr_changes.specs.Bodies.{StmtGathers, ElseGathers, StmtsGather}
+use Rattle.jr_changes.specs.Bodies.{StmtGathers, StmtsGather}
 
 -- another place of the same member in the same programs, where this is known
 pub record Goes (old new : raw.Here) (c : Context) : Type 0 where
@@ -77,29 +76,11 @@ module _ {A : Type 0} (tells : A → ℕ → Span) (number : ℕ) (h : raw.Here)
   InnerPasses x n i old new = Passes h i n (number + locals_in x) (context_of h)
       (StmtGathers tells h number at x old new)
 
-  abbrev pub ElsePasses : statement.Else A → (n : ℕ) → raw.Here → (old new : Effect) → Type 0
-  ElsePasses x n i old new = Passes h i n (number + locals_in_else x) (context_of h)
-      (ElseGathers tells h number at x old new)
-
   abbrev pub BodyPasses : statement.Stmts A → (n : ℕ) → raw.Here → (old new : Effect) → Type 0
   BodyPasses xs n i old new = Passes h i n (number + locals_in_row xs) (context_of h)
       (StmtsGather tells h number at xs old new)
 
   -- the parts of a statement that begins at `at`
-  abbrev pub BranchPasses : tree.Exp A → statement.Stmt A → statement.Else A → (n : ℕ) → raw.Here
-      → (old new : Effect) → Type 0
-  BranchPasses e x other n i old new =
-      Passes h i n (number + locals_in x + locals_in_else other) (context_of h)
-      ((one : Effect) × (two : Effect) × ExpGathers tells h value at e old one
-      × StmtGathers tells h number at x one two
-      × ElseGathers tells h (number + locals_in x) at other two new)
-
-  abbrev pub TurnsPasses : tree.Exp A → statement.Stmt A → (n : ℕ) → raw.Here
-      → (old new : Effect) → Type 0
-  TurnsPasses e x n i old new = Passes h i n (number + locals_in x) (context_of h)
-      ((one : Effect) × ExpGathers tells h value at e old one
-      × StmtGathers tells h number at x one new)
-
   abbrev pub SyncPasses : tree.Exp A → statement.Stmts A → (n : ℕ) → raw.Here
       → (old new : Effect) → Type 0
   SyncPasses e body n i old new = Passes h i n (number + locals_in_row body) (context_of h)

@@ -7,8 +7,9 @@ ghost use Rattle.jr_gather.specs.Walks.{ExpGathers};
 ghost use Rattle.jr_renaming.specs.OutputView.{gathered};
 ghost use Rattle.jr_changes.specs.Bodies.{MaybeGathers};
 ghost use Rattle.jr_changes.specs.Moves as gives;
-ghost use Rattle.jr_changes.specs.Ready.{MaybeReady, StmtReady, ElseReady, StmtsReady};
-ghost use Rattle.jr_changes.specs.Ready.{BranchReady, TurnsReady, SyncReady};
+ghost use Rattle.jr_changes.specs.Lasts as lasts;
+ghost use Rattle.jr_changes.specs.Ready.{MaybeReady, StmtReady, StmtsReady};
+ghost use Rattle.jr_changes.specs.Ready.{BranchReady, SyncReady};
 
 use crate::locals::local;
 use crate::places::{cut_back, depth, own};
@@ -61,6 +62,90 @@ fn eval<A: Mark>(
     expr(alloc, here, Role::Statement, &inner, at, of, out)
 }
 
+/// A statement that stands last in another one, which begins at `at`, as its part of the number
+/// `step`; `number` is that of the first local that is declared in it.
+#[derive(Drop)]
+pub(crate) struct Last<'a, A> {
+    of: &'a Stmt<A>,
+    step: u32,
+    at: u32,
+    number: u32,
+}
+
+/// How far a walk over a statement has come: behind it, where the next local has this number, or to
+/// the statement that stands last in it.
+#[derive(Drop)]
+pub(crate) enum Reached<'a, A> {
+    Behind(u32),
+    To(Last<'a, A>),
+}
+
+/// What comes of a statement but for the statement that stands last in it, if one does: a call for
+/// each of those would take stack for each of the thousands of `if` and `while` that a text may
+/// nest. A local that it declares stays in scope.
+#[cycle(stmt_walk)]
+fn head<'a, A: Mark>(
+    alloc: Global,
+    here: &mut Here<'a>,
+    path: &Path,
+    base: u32,
+    number: u32,
+    of: &'a Stmt<A>,
+    out: &mut Output,
+) -> Result<Reached<'a, A>, AllocError>
+    requires known { IsKnown here.old }
+    requires ready { StmtReady A.span_from A.fits_at here.old number path.now.steps.items base
+        (stmt_of of.now) }
+    ensures { IfOk result (λ r. lasts.HeadPasses A.span_from A.fits_at number here.old
+        path.now.steps.items base (stmt_of of.now) r here.new (gathered out.old)
+        (gathered out.new)) }
+{
+    let at = of.mark.span(base).from;
+    match &of.kind {
+        StmtKind::Local {
+            is_final,
+            ty,
+            name,
+            init,
+        } => {
+            let number = local(
+                alloc, here, path, at, number, *is_final, ty, name, init, out,
+            )?;
+            Ok(Reached::Behind(number))
+        }
+        StmtKind::Eval(value) => {
+            eval(alloc, here, path, at, value, out)?;
+            Ok(Reached::Behind(number))
+        }
+        StmtKind::If(test, yes, no) => {
+            let last = branch(alloc, here, path, at, number, test, yes, no, out)?;
+            Ok(Reached::To(last))
+        }
+        StmtKind::While(test, body) => {
+            operand(alloc, here, path, 0, at, test, out)?;
+            Ok(Reached::To(Last {
+                of: body,
+                step: 1,
+                at,
+                number,
+            }))
+        }
+        StmtKind::Return(value) => {
+            maybe(alloc, here, path, 0, at, value, out)?;
+            Ok(Reached::Behind(number))
+        }
+        StmtKind::Block(body) => {
+            let number = stmts(alloc, here, path, 0, at, number, body, out)?;
+            Ok(Reached::Behind(number))
+        }
+        StmtKind::Sync(object, body) => {
+            let number = sync(alloc, here, path, at, number, object, body, out)?;
+            Ok(Reached::Behind(number))
+        }
+        StmtKind::Empty => Ok(Reached::Behind(number)),
+    }
+}
+
 /// What comes of a statement; answers the number of the next local. A local that it declares stays
 /// in scope.
 #[cycle(stmt_walk)]
@@ -79,33 +164,22 @@ pub(crate) fn stmt<'a, A: Mark>(
     ensures { IfOk result (λ n. gives.StmtPasses A.span_from number here.old base
         (stmt_of of.now) n here.new (gathered out.old) (gathered out.new)) }
 {
-    let at = of.mark.span(base).from;
-    match &of.kind {
-        StmtKind::Local {
-            is_final,
-            ty,
-            name,
-            init,
-        } => local(
-            alloc, here, path, at, number, *is_final, ty, name, init, out,
+    match head(alloc, here, path, base, number, of, out)? {
+        Reached::Behind(number) => Ok(number),
+        Reached::To(last) => inner(
+            alloc,
+            here,
+            path,
+            last.step,
+            last.at,
+            last.number,
+            last.of,
+            out,
         ),
-        StmtKind::Eval(value) => {
-            eval(alloc, here, path, at, value, out)?;
-            Ok(number)
-        }
-        StmtKind::If(test, yes, no) => branch(alloc, here, path, at, number, test, yes, no, out),
-        StmtKind::While(test, body) => turns(alloc, here, path, at, number, test, body, out),
-        StmtKind::Return(value) => {
-            maybe(alloc, here, path, 0, at, value, out)?;
-            Ok(number)
-        }
-        StmtKind::Block(body) => stmts(alloc, here, path, 0, at, number, body, out),
-        StmtKind::Sync(object, body) => sync(alloc, here, path, at, number, object, body, out),
-        StmtKind::Empty => Ok(number),
     }
 }
 
-/// A condition and its statements.
+/// A condition and its statements, but for the last one.
 #[cycle(stmt_walk)]
 fn branch<'a, A: Mark>(
     alloc: Global,
@@ -117,40 +191,32 @@ fn branch<'a, A: Mark>(
     yes: &'a Stmt<A>,
     no: &'a Option<Box<Stmt<A>>>,
     out: &mut Output,
-) -> Result<u32, AllocError>
+) -> Result<Last<'a, A>, AllocError>
     requires known { IsKnown here.old }
     requires ready { BranchReady A.span_from A.fits_at here.old number path.now.steps.items at
         (expr_of test.now) (stmt_of yes.now) (else_of no.now) }
-    ensures { IfOk result (λ n. gives.BranchPasses A.span_from number here.old at
-        (expr_of test.now) (stmt_of yes.now) (else_of no.now) n here.new (gathered out.old)
-        (gathered out.new)) }
+    ensures { IfOk result (λ l. lasts.BranchPasses A.span_from A.fits_at number here.old
+        path.now.steps.items at (expr_of test.now) (stmt_of yes.now) (else_of no.now) l here.new
+        (gathered out.old) (gathered out.new)) }
 {
     operand(alloc, here, path, 0, at, test, out)?;
-    let number = inner(alloc, here, path, 1, at, number, yes, out)?;
-    otherwise(alloc, here, path, at, number, no, out)
-}
-
-/// A condition and the statement that is done again and again.
-#[cycle(stmt_walk)]
-fn turns<'a, A: Mark>(
-    alloc: Global,
-    here: &mut Here<'a>,
-    path: &Path,
-    at: u32,
-    number: u32,
-    condition: &Expr<A>,
-    body: &'a Stmt<A>,
-    out: &mut Output,
-) -> Result<u32, AllocError>
-    requires known { IsKnown here.old }
-    requires ready { TurnsReady A.span_from A.fits_at here.old number path.now.steps.items at
-        (expr_of condition.now) (stmt_of body.now) }
-    ensures { IfOk result (λ n. gives.TurnsPasses A.span_from number here.old at
-        (expr_of condition.now) (stmt_of body.now) n here.new (gathered out.old)
-        (gathered out.new)) }
-{
-    operand(alloc, here, path, 0, at, condition, out)?;
-    inner(alloc, here, path, 1, at, number, body, out)
+    match no {
+        None => Ok(Last {
+            of: yes,
+            step: 1,
+            at,
+            number,
+        }),
+        Some(no) => {
+            let number = inner(alloc, here, path, 1, at, number, yes, out)?;
+            Ok(Last {
+                of: no,
+                step: 2,
+                at,
+                number,
+            })
+        }
+    }
 }
 
 /// An object and the statements that hold its lock.
@@ -197,32 +263,23 @@ fn inner<'a, A: Mark>(
 {
     let depth = depth(here);
     let own = own(here);
-    let place = below(alloc, path, step)?;
-    let number = stmt(alloc, here, &place, base, number, of, out)?;
-    cut_back(here, depth, own)?;
-    Ok(number)
-}
-
-/// What stands behind `else`, if anything.
-#[cycle(stmt_walk)]
-fn otherwise<'a, A: Mark>(
-    alloc: Global,
-    here: &mut Here<'a>,
-    path: &Path,
-    at: u32,
-    number: u32,
-    of: &'a Option<Box<Stmt<A>>>,
-    out: &mut Output,
-) -> Result<u32, AllocError>
-    requires known { IsKnown here.old }
-    requires ready { ElseReady A.span_from A.fits_at here.old number
-        (path.now.steps.items ++ 2 ∷ []) at (else_of of.now) }
-    ensures { IfOk result (λ n. gives.ElsePasses A.span_from number here.old at
-        (else_of of.now) n here.new (gathered out.old) (gathered out.new)) }
-{
-    match of {
-        None => Ok(number),
-        Some(of) => inner(alloc, here, path, 2, at, number, of, out),
+    let mut place = below(alloc, path, step)?;
+    let mut base = base;
+    let mut number = number;
+    let mut of = of;
+    loop {
+        match head(alloc, here, &place, base, number, of, out)? {
+            Reached::Behind(number) => {
+                cut_back(here, depth, own)?;
+                return Ok(number);
+            }
+            Reached::To(last) => {
+                place.steps.push(last.step)?;
+                base = last.at;
+                number = last.number;
+                of = last.of;
+            }
+        }
     }
 }
 
