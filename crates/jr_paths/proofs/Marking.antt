@@ -9,7 +9,8 @@ use Rattle.jr_ast.specs.Tree as tree
 use Rattle.jr_ast.specs.StatementTree as statement
 use Rattle.jr_ast.specs.MemberTree as member
 use Rattle.jr_ast.specs.View.{expr_of, exprs_of, stmt_of, stmts_of, member_of, members_of}
-use Rattle.jr_ast.specs.Remarked.{Agree, map_exp, map_exps, map_target, map_stmt, map_stmts, map_else, map_member, map_members, map_class}
+use Rattle.jr_ast.specs.Remarked.{map_exp, map_exps, map_target, map_stmt, map_stmts, map_else, map_member, map_members, map_class}
+use Rattle.jr_paths.specs.Same.{Agree}
 use Rattle.jr_ast.proofs.Sizes.{exp_size, exps_size, target_size, stmt_size, stmts_size, else_size, member_size, members_size, class_size}
 
 pub mark_agrees : {A B C : Type 0} {R : A → B → Type 0} {h : B → C} {k : A → C} {a : A} {b : B} → Agree R h k → R a b → h b ≡ k a

@@ -2,7 +2,7 @@ use Rattle.std.proofs.Common.{ap, sym, ◌∙◌}
 use Rattle.std.proofs.lemmas.Result.{IfOk-weaker}
 use Rattle.jr_ast.specs.Tree as tree
 use Rattle.jr_ast.specs.View.{expr_of, exprs_of, target_of, expr_kind, expr_row, held_target}
-use Rattle.jr_paths.specs.Same as same
+use Rattle.jr_ast.specs.Remarked as maps
 use Rattle.jr_ast.proofs.Rows.{expr_kind-Call_to, expr_kind-SuperCall, expr_kind-New}
 use Rattle.jr_ast.proofs.Sizes.{exp_size, exps_size, target_size}
 use Rattle.jr_paths.proofs.MadeOf.{with_part, one_more_made}
@@ -130,175 +130,175 @@ expr-exprs-requires-in-New g t c =
     λ κs o. (falls_whole_row (λ xs. exps_size (exprs_of xs)) whole at.args.items c.deref-in-New.result.now t c.deref-in-New.ensures.value (ap (λ d. exp_size (expr_kind m d)) at.is ∙ ap exp_size (expr_kind-New _ m at.created at.args)) c.decreases, (o.0, (o.1.0, (o.1.1, c.requires))))
 
 pub expr-returns-in-Int : goal.expr-returns-in-Int
-unfolding same.map_exp same.map_exps same.map_target expr_kind expr_row held_target
+unfolding maps.map_exp maps.map_exps maps.map_target expr_kind expr_row held_target
 expr-returns-in-Int g t c =
     let at = c.in-Int in
     let m = c.args.of.now.mark in
     IfOk-weaker c.number.result _ _ (λ x is h k agree.
     let mark = mark_agrees agree c.mark_by-mark.ensures in
-    ap (same.map_exp h) is ∙ (λ i. tree.number (mark i) at.value) ∙ sym (ap (λ d. same.map_exp k (expr_kind m d)) at.is)) c.number.ensures
+    ap (maps.map_exp h) is ∙ (λ i. tree.number (mark i) at.value) ∙ sym (ap (λ d. maps.map_exp k (expr_kind m d)) at.is)) c.number.ensures
 
 pub expr-returns-in-Bool : goal.expr-returns-in-Bool
-unfolding same.map_exp same.map_exps same.map_target expr_kind expr_row held_target
+unfolding maps.map_exp maps.map_exps maps.map_target expr_kind expr_row held_target
 expr-returns-in-Bool g t c =
     let at = c.in-Bool in
     let m = c.args.of.now.mark in
     IfOk-weaker c.truth.result _ _ (λ x is h k agree.
     let mark = mark_agrees agree c.mark_by-mark.ensures in
-    ap (same.map_exp h) is ∙ (λ i. tree.truth (mark i) at.value) ∙ sym (ap (λ d. same.map_exp k (expr_kind m d)) at.is)) c.truth.ensures
+    ap (maps.map_exp h) is ∙ (λ i. tree.truth (mark i) at.value) ∙ sym (ap (λ d. maps.map_exp k (expr_kind m d)) at.is)) c.truth.ensures
 
 pub expr-returns-in-Null : goal.expr-returns-in-Null
-unfolding same.map_exp same.map_exps same.map_target expr_kind expr_row held_target
+unfolding maps.map_exp maps.map_exps maps.map_target expr_kind expr_row held_target
 expr-returns-in-Null g t c =
     let at = c.in-Null in
     let m = c.args.of.now.mark in
     IfOk-weaker c.null.result _ _ (λ x is h k agree.
     let mark = mark_agrees agree c.mark_by-mark.ensures in
-    ap (same.map_exp h) is ∙ (λ i. tree.null (mark i)) ∙ sym (ap (λ d. same.map_exp k (expr_kind m d)) at.is)) c.null.ensures
+    ap (maps.map_exp h) is ∙ (λ i. tree.null (mark i)) ∙ sym (ap (λ d. maps.map_exp k (expr_kind m d)) at.is)) c.null.ensures
 
 pub expr-returns-in-This : goal.expr-returns-in-This
-unfolding same.map_exp same.map_exps same.map_target expr_kind expr_row held_target
+unfolding maps.map_exp maps.map_exps maps.map_target expr_kind expr_row held_target
 expr-returns-in-This g t c =
     let at = c.in-This in
     let m = c.args.of.now.mark in
     IfOk-weaker c.this.result _ _ (λ x is h k agree.
     let mark = mark_agrees agree c.mark_by-mark.ensures in
-    ap (same.map_exp h) is ∙ (λ i. tree.this (mark i)) ∙ sym (ap (λ d. same.map_exp k (expr_kind m d)) at.is)) c.this.ensures
+    ap (maps.map_exp h) is ∙ (λ i. tree.this (mark i)) ∙ sym (ap (λ d. maps.map_exp k (expr_kind m d)) at.is)) c.this.ensures
 
 pub expr-returns-in-Text : goal.expr-returns-in-Text
-unfolding same.map_exp same.map_exps same.map_target expr_kind expr_row held_target
+unfolding maps.map_exp maps.map_exps maps.map_target expr_kind expr_row held_target
 expr-returns-in-Text g t c =
     let at = c.in-Text in
     let m = c.args.of.now.mark in
     IfOk-weaker c.string.result _ _ (λ x is h k agree.
     let mark = mark_agrees agree c.mark_by-mark.ensures in
-    ap (same.map_exp h) is ∙ (λ i. tree.string (mark i) at.text) ∙ sym (ap (λ d. same.map_exp k (expr_kind m d)) at.is)) c.string.ensures
+    ap (maps.map_exp h) is ∙ (λ i. tree.string (mark i) at.text) ∙ sym (ap (λ d. maps.map_exp k (expr_kind m d)) at.is)) c.string.ensures
 
 pub expr-returns-in-Simple : goal.expr-returns-in-Simple
-unfolding same.map_exp same.map_exps same.map_target expr_kind expr_row held_target
+unfolding maps.map_exp maps.map_exps maps.map_target expr_kind expr_row held_target
 expr-returns-in-Simple g t c =
     let at = c.in-Simple in
     let m = c.args.of.now.mark in
     IfOk-weaker c.simple.result _ _ (λ x made. with_part c.word.result made c.word.ensures (λ name' is name. λ h k agree.
     let mark = mark_agrees agree c.mark_by-mark.ensures in
-    ap (same.map_exp h) is ∙ (λ i. tree.name (mark i) (name h k agree i)) ∙ sym (ap (λ d. same.map_exp k (expr_kind m d)) at.is))) c.simple.ensures
+    ap (maps.map_exp h) is ∙ (λ i. tree.name (mark i) (name h k agree i)) ∙ sym (ap (λ d. maps.map_exp k (expr_kind m d)) at.is))) c.simple.ensures
 
 pub expr-returns-in-SuperField : goal.expr-returns-in-SuperField
-unfolding same.map_exp same.map_exps same.map_target expr_kind expr_row held_target
+unfolding maps.map_exp maps.map_exps maps.map_target expr_kind expr_row held_target
 expr-returns-in-SuperField g t c =
     let at = c.in-SuperField in
     let m = c.args.of.now.mark in
     IfOk-weaker c.super_field.result _ _ (λ x made. with_part c.word-in-SuperField.result made c.word-in-SuperField.ensures (λ name' is name. λ h k agree.
     let mark = mark_agrees agree c.mark_by-mark.ensures in
-    ap (same.map_exp h) is ∙ (λ i. tree.super_field (mark i) (name h k agree i)) ∙ sym (ap (λ d. same.map_exp k (expr_kind m d)) at.is))) c.super_field.ensures
+    ap (maps.map_exp h) is ∙ (λ i. tree.super_field (mark i) (name h k agree i)) ∙ sym (ap (λ d. maps.map_exp k (expr_kind m d)) at.is))) c.super_field.ensures
 
 pub expr-returns-in-ClassLit : goal.expr-returns-in-ClassLit
-unfolding same.map_exp same.map_exps same.map_target expr_kind expr_row held_target
+unfolding maps.map_exp maps.map_exps maps.map_target expr_kind expr_row held_target
 expr-returns-in-ClassLit g t c =
     let at = c.in-ClassLit in
     let m = c.args.of.now.mark in
     IfOk-weaker c.class_literal.result _ _ (λ x made. with_part c.ty.result made c.ty.ensures (λ kind' is kind. λ h k agree.
     let mark = mark_agrees agree c.mark_by-mark.ensures in
-    ap (same.map_exp h) is ∙ (λ i. tree.class_literal (mark i) (kind h k agree i)) ∙ sym (ap (λ d. same.map_exp k (expr_kind m d)) at.is))) c.class_literal.ensures
+    ap (maps.map_exp h) is ∙ (λ i. tree.class_literal (mark i) (kind h k agree i)) ∙ sym (ap (λ d. maps.map_exp k (expr_kind m d)) at.is))) c.class_literal.ensures
 
 pub expr-returns-in-Field : goal.expr-returns-in-Field
-unfolding same.map_exp same.map_exps same.map_target expr_kind expr_row held_target
+unfolding maps.map_exp maps.map_exps maps.map_target expr_kind expr_row held_target
 expr-returns-in-Field g t c =
     let at = c.in-Field in
     let m = c.args.of.now.mark in
     IfOk-weaker c.field.result _ _ (λ x made. with_part c.expr.result made c.expr.ensures (λ part' made1 part. with_part c.word-in-Field.result made1 c.word-in-Field.ensures (λ name' is name. λ h k agree.
     let mark = mark_agrees agree c.mark_by-mark.ensures in
-    ap (same.map_exp h) is ∙ (λ i. tree.field (mark i) ((part h k agree ∙ ap (λ y. same.map_exp k (expr_of y)) c.deref.ensures) i) (name h k agree i)) ∙ sym (ap (λ d. same.map_exp k (expr_kind m d)) at.is)))) c.field.ensures
+    ap (maps.map_exp h) is ∙ (λ i. tree.field (mark i) ((part h k agree ∙ ap (λ y. maps.map_exp k (expr_of y)) c.deref.ensures) i) (name h k agree i)) ∙ sym (ap (λ d. maps.map_exp k (expr_kind m d)) at.is)))) c.field.ensures
 
 pub expr-returns-in-Call : goal.expr-returns-in-Call
-unfolding same.map_exp same.map_exps same.map_target expr_kind expr_row held_target
+unfolding maps.map_exp maps.map_exps maps.map_target expr_kind expr_row held_target
 expr-returns-in-Call g t c =
     let at = c.in-Call in
     let m = c.args.of.now.mark in
     IfOk-weaker c.call.result _ _ (λ x made. with_part c.target_expr-target.result made c.target_expr-target.ensures (λ target' made1 target. with_part c.word-in-Call.result made1 c.word-in-Call.ensures (λ name' made2 name. with_part c.exprs.result made2 c.exprs.ensures (λ args' is args. λ h k agree.
     let mark = mark_agrees agree c.mark_by-mark.ensures in
-    ap (same.map_exp h) is ∙ (λ i. tree.call (mark i) (target h k agree i) (name h k agree i) ((args h k agree ∙ ap (λ xs. same.map_exps k (exprs_of xs)) c.deref-in-Call.ensures.value) i)) ∙ sym (ap (λ d. same.map_exp k (expr_kind m d)) at.is ∙ ap (same.map_exp k) (expr_kind-Call_to _ m at.target at.name at.args)))))) c.call.ensures
+    ap (maps.map_exp h) is ∙ (λ i. tree.call (mark i) (target h k agree i) (name h k agree i) ((args h k agree ∙ ap (λ xs. maps.map_exps k (exprs_of xs)) c.deref-in-Call.ensures.value) i)) ∙ sym (ap (λ d. maps.map_exp k (expr_kind m d)) at.is ∙ ap (maps.map_exp k) (expr_kind-Call_to _ m at.target at.name at.args)))))) c.call.ensures
 
 pub expr-returns-in-SuperCall : goal.expr-returns-in-SuperCall
-unfolding same.map_exp same.map_exps same.map_target expr_kind expr_row held_target
+unfolding maps.map_exp maps.map_exps maps.map_target expr_kind expr_row held_target
 expr-returns-in-SuperCall g t c =
     let at = c.in-SuperCall in
     let m = c.args.of.now.mark in
     IfOk-weaker c.super_call.result _ _ (λ x made. with_part c.word-in-SuperCall.result made c.word-in-SuperCall.ensures (λ name' made1 name. with_part c.exprs-in-SuperCall.result made1 c.exprs-in-SuperCall.ensures (λ args' is args. λ h k agree.
     let mark = mark_agrees agree c.mark_by-mark.ensures in
-    ap (same.map_exp h) is ∙ (λ i. tree.super_call (mark i) (name h k agree i) ((args h k agree ∙ ap (λ xs. same.map_exps k (exprs_of xs)) c.deref-in-SuperCall.ensures.value) i)) ∙ sym (ap (λ d. same.map_exp k (expr_kind m d)) at.is ∙ ap (same.map_exp k) (expr_kind-SuperCall _ m at.name at.args))))) c.super_call.ensures
+    ap (maps.map_exp h) is ∙ (λ i. tree.super_call (mark i) (name h k agree i) ((args h k agree ∙ ap (λ xs. maps.map_exps k (exprs_of xs)) c.deref-in-SuperCall.ensures.value) i)) ∙ sym (ap (λ d. maps.map_exp k (expr_kind m d)) at.is ∙ ap (maps.map_exp k) (expr_kind-SuperCall _ m at.name at.args))))) c.super_call.ensures
 
 pub expr-returns-in-New : goal.expr-returns-in-New
-unfolding same.map_exp same.map_exps same.map_target expr_kind expr_row held_target
+unfolding maps.map_exp maps.map_exps maps.map_target expr_kind expr_row held_target
 expr-returns-in-New g t c =
     let at = c.in-New in
     let m = c.args.of.now.mark in
     IfOk-weaker c.create.result _ _ (λ x made. with_part c.ty-in-New.result made c.ty-in-New.ensures (λ kind' made1 kind. with_part c.exprs-in-New.result made1 c.exprs-in-New.ensures (λ args' is args. λ h k agree.
     let mark = mark_agrees agree c.mark_by-mark.ensures in
-    ap (same.map_exp h) is ∙ (λ i. tree.create (mark i) (kind h k agree i) ((args h k agree ∙ ap (λ xs. same.map_exps k (exprs_of xs)) c.deref-in-New.ensures.value) i)) ∙ sym (ap (λ d. same.map_exp k (expr_kind m d)) at.is ∙ ap (same.map_exp k) (expr_kind-New _ m at.created at.args))))) c.create.ensures
+    ap (maps.map_exp h) is ∙ (λ i. tree.create (mark i) (kind h k agree i) ((args h k agree ∙ ap (λ xs. maps.map_exps k (exprs_of xs)) c.deref-in-New.ensures.value) i)) ∙ sym (ap (λ d. maps.map_exp k (expr_kind m d)) at.is ∙ ap (maps.map_exp k) (expr_kind-New _ m at.created at.args))))) c.create.ensures
 
 pub expr-returns-in-Paren : goal.expr-returns-in-Paren
-unfolding same.map_exp same.map_exps same.map_target expr_kind expr_row held_target
+unfolding maps.map_exp maps.map_exps maps.map_target expr_kind expr_row held_target
 expr-returns-in-Paren g t c =
     let at = c.in-Paren in
     let m = c.args.of.now.mark in
     IfOk-weaker c.paren.result _ _ (λ x made. with_part c.expr-in-Paren.result made c.expr-in-Paren.ensures (λ part' is part. λ h k agree.
     let mark = mark_agrees agree c.mark_by-mark.ensures in
-    ap (same.map_exp h) is ∙ (λ i. tree.paren (mark i) ((part h k agree ∙ ap (λ y. same.map_exp k (expr_of y)) c.deref-in-Paren.ensures) i)) ∙ sym (ap (λ d. same.map_exp k (expr_kind m d)) at.is))) c.paren.ensures
+    ap (maps.map_exp h) is ∙ (λ i. tree.paren (mark i) ((part h k agree ∙ ap (λ y. maps.map_exp k (expr_of y)) c.deref-in-Paren.ensures) i)) ∙ sym (ap (λ d. maps.map_exp k (expr_kind m d)) at.is))) c.paren.ensures
 
 pub expr-returns-in-Cast : goal.expr-returns-in-Cast
-unfolding same.map_exp same.map_exps same.map_target expr_kind expr_row held_target
+unfolding maps.map_exp maps.map_exps maps.map_target expr_kind expr_row held_target
 expr-returns-in-Cast g t c =
     let at = c.in-Cast in
     let m = c.args.of.now.mark in
     IfOk-weaker c.cast.result _ _ (λ x made. with_part c.ty-in-Cast.result made c.ty-in-Cast.ensures (λ kind' made1 kind. with_part c.expr-in-Cast.result made1 c.expr-in-Cast.ensures (λ part' is part. λ h k agree.
     let mark = mark_agrees agree c.mark_by-mark.ensures in
-    ap (same.map_exp h) is ∙ (λ i. tree.cast (mark i) (kind h k agree i) ((part h k agree ∙ ap (λ y. same.map_exp k (expr_of y)) c.deref-in-Cast.ensures) i)) ∙ sym (ap (λ d. same.map_exp k (expr_kind m d)) at.is)))) c.cast.ensures
+    ap (maps.map_exp h) is ∙ (λ i. tree.cast (mark i) (kind h k agree i) ((part h k agree ∙ ap (λ y. maps.map_exp k (expr_of y)) c.deref-in-Cast.ensures) i)) ∙ sym (ap (λ d. maps.map_exp k (expr_kind m d)) at.is)))) c.cast.ensures
 
 pub expr-returns-in-Unary : goal.expr-returns-in-Unary
-unfolding same.map_exp same.map_exps same.map_target expr_kind expr_row held_target
+unfolding maps.map_exp maps.map_exps maps.map_target expr_kind expr_row held_target
 expr-returns-in-Unary g t c =
     let at = c.in-Unary in
     let m = c.args.of.now.mark in
     IfOk-weaker c.unary.result _ _ (λ x made. with_part c.expr-in-Unary.result made c.expr-in-Unary.ensures (λ part' is part. λ h k agree.
     let mark = mark_agrees agree c.mark_by-mark.ensures in
-    ap (same.map_exp h) is ∙ (λ i. tree.unary (mark i) at.op ((part h k agree ∙ ap (λ y. same.map_exp k (expr_of y)) c.deref-in-Unary.ensures) i)) ∙ sym (ap (λ d. same.map_exp k (expr_kind m d)) at.is))) c.unary.ensures
+    ap (maps.map_exp h) is ∙ (λ i. tree.unary (mark i) at.op ((part h k agree ∙ ap (λ y. maps.map_exp k (expr_of y)) c.deref-in-Unary.ensures) i)) ∙ sym (ap (λ d. maps.map_exp k (expr_kind m d)) at.is))) c.unary.ensures
 
 pub expr-returns-in-Bump : goal.expr-returns-in-Bump
-unfolding same.map_exp same.map_exps same.map_target expr_kind expr_row held_target
+unfolding maps.map_exp maps.map_exps maps.map_target expr_kind expr_row held_target
 expr-returns-in-Bump g t c =
     let at = c.in-Bump in
     let m = c.args.of.now.mark in
     IfOk-weaker c.bump.result _ _ (λ x made. with_part c.expr-in-Bump.result made c.expr-in-Bump.ensures (λ part' is part. λ h k agree.
     let mark = mark_agrees agree c.mark_by-mark.ensures in
-    ap (same.map_exp h) is ∙ (λ i. tree.bump (mark i) at.op ((part h k agree ∙ ap (λ y. same.map_exp k (expr_of y)) c.deref-in-Bump.ensures) i)) ∙ sym (ap (λ d. same.map_exp k (expr_kind m d)) at.is))) c.bump.ensures
+    ap (maps.map_exp h) is ∙ (λ i. tree.bump (mark i) at.op ((part h k agree ∙ ap (λ y. maps.map_exp k (expr_of y)) c.deref-in-Bump.ensures) i)) ∙ sym (ap (λ d. maps.map_exp k (expr_kind m d)) at.is))) c.bump.ensures
 
 pub expr-returns-in-Binary : goal.expr-returns-in-Binary
-unfolding same.map_exp same.map_exps same.map_target expr_kind expr_row held_target
+unfolding maps.map_exp maps.map_exps maps.map_target expr_kind expr_row held_target
 expr-returns-in-Binary g t c =
     let at = c.in-Binary in
     let m = c.args.of.now.mark in
     IfOk-weaker c.binary.result _ _ (λ x made. with_part c.expr-in-Binary.result made c.expr-in-Binary.ensures (λ left' made1 left. with_part c.expr-in-Binary-2.result made1 c.expr-in-Binary-2.ensures (λ right' is right. λ h k agree.
     let mark = mark_agrees agree c.mark_by-mark.ensures in
-    ap (same.map_exp h) is ∙ (λ i. tree.binary (mark i) at.op ((left h k agree ∙ ap (λ y. same.map_exp k (expr_of y)) c.deref-in-Binary.ensures) i) ((right h k agree ∙ ap (λ y. same.map_exp k (expr_of y)) c.deref-in-Binary-2.ensures) i)) ∙ sym (ap (λ d. same.map_exp k (expr_kind m d)) at.is)))) c.binary.ensures
+    ap (maps.map_exp h) is ∙ (λ i. tree.binary (mark i) at.op ((left h k agree ∙ ap (λ y. maps.map_exp k (expr_of y)) c.deref-in-Binary.ensures) i) ((right h k agree ∙ ap (λ y. maps.map_exp k (expr_of y)) c.deref-in-Binary-2.ensures) i)) ∙ sym (ap (λ d. maps.map_exp k (expr_kind m d)) at.is)))) c.binary.ensures
 
 pub expr-returns-in-Assign : goal.expr-returns-in-Assign
-unfolding same.map_exp same.map_exps same.map_target expr_kind expr_row held_target
+unfolding maps.map_exp maps.map_exps maps.map_target expr_kind expr_row held_target
 expr-returns-in-Assign g t c =
     let at = c.in-Assign in
     let m = c.args.of.now.mark in
     IfOk-weaker c.assign.result _ _ (λ x made. with_part c.expr-in-Assign.result made c.expr-in-Assign.ensures (λ to' made1 to. with_part c.expr-in-Assign-2.result made1 c.expr-in-Assign-2.ensures (λ value' is value. λ h k agree.
     let mark = mark_agrees agree c.mark_by-mark.ensures in
-    ap (same.map_exp h) is ∙ (λ i. tree.assign (mark i) ((to h k agree ∙ ap (λ y. same.map_exp k (expr_of y)) c.deref-in-Assign.ensures) i) ((value h k agree ∙ ap (λ y. same.map_exp k (expr_of y)) c.deref-in-Assign-2.ensures) i)) ∙ sym (ap (λ d. same.map_exp k (expr_kind m d)) at.is)))) c.assign.ensures
+    ap (maps.map_exp h) is ∙ (λ i. tree.assign (mark i) ((to h k agree ∙ ap (λ y. maps.map_exp k (expr_of y)) c.deref-in-Assign.ensures) i) ((value h k agree ∙ ap (λ y. maps.map_exp k (expr_of y)) c.deref-in-Assign-2.ensures) i)) ∙ sym (ap (λ d. maps.map_exp k (expr_kind m d)) at.is)))) c.assign.ensures
 
 pub expr-returns-in-Compound : goal.expr-returns-in-Compound
-unfolding same.map_exp same.map_exps same.map_target expr_kind expr_row held_target
+unfolding maps.map_exp maps.map_exps maps.map_target expr_kind expr_row held_target
 expr-returns-in-Compound g t c =
     let at = c.in-Compound in
     let m = c.args.of.now.mark in
     IfOk-weaker c.compound.result _ _ (λ x made. with_part c.expr-in-Compound.result made c.expr-in-Compound.ensures (λ to' made1 to. with_part c.expr-in-Compound-2.result made1 c.expr-in-Compound-2.ensures (λ value' is value. λ h k agree.
     let mark = mark_agrees agree c.mark_by-mark.ensures in
-    ap (same.map_exp h) is ∙ (λ i. tree.compound (mark i) at.op ((to h k agree ∙ ap (λ y. same.map_exp k (expr_of y)) c.deref-in-Compound.ensures) i) ((value h k agree ∙ ap (λ y. same.map_exp k (expr_of y)) c.deref-in-Compound-2.ensures) i)) ∙ sym (ap (λ d. same.map_exp k (expr_kind m d)) at.is)))) c.compound.ensures
+    ap (maps.map_exp h) is ∙ (λ i. tree.compound (mark i) at.op ((to h k agree ∙ ap (λ y. maps.map_exp k (expr_of y)) c.deref-in-Compound.ensures) i) ((value h k agree ∙ ap (λ y. maps.map_exp k (expr_of y)) c.deref-in-Compound-2.ensures) i)) ∙ sym (ap (λ d. maps.map_exp k (expr_kind m d)) at.is)))) c.compound.ensures
 
 pub target_expr-expr-requires : goal.target_expr-expr-requires
 unfolding exp_size exps_size target_size
@@ -307,16 +307,16 @@ target_expr-expr-requires g t c =
     λ κs o. (falls_held _ (target_size (target_of c.args.of.now)) t same_size c.decreases, (o.0, (o.1.0, (o.1.1, c.requires))))
 
 pub target_expr-returns-in-None : goal.target_expr-returns-in-None
-unfolding same.map_exp same.map_exps same.map_target
-target_expr-returns-in-None g t c = λ h k agree. sym (ap (λ o. same.map_target k (target_of o)) c.in-None.is)
+unfolding maps.map_exp maps.map_exps maps.map_target
+target_expr-returns-in-None g t c = λ h k agree. sym (ap (λ o. maps.map_target k (target_of o)) c.in-None.is)
 
 pub target_expr-returns-in_ok-copy-in-Some : goal.target_expr-returns-in_ok-copy-in-Some
-unfolding same.map_exp same.map_exps same.map_target
+unfolding maps.map_exp maps.map_exps maps.map_target
 target_expr-returns-in_ok-copy-in-Some g t c = λ h k agree.
-    ap tree.on (c.in_ok-copy-in-Some.ensures h k agree ∙ ap (λ x. same.map_exp k (expr_of x)) c.deref.ensures) ∙ sym (ap (λ o. same.map_target k (target_of o)) c.in-Some.is)
+    ap tree.on (c.in_ok-copy-in-Some.ensures h k agree ∙ ap (λ x. maps.map_exp k (expr_of x)) c.deref.ensures) ∙ sym (ap (λ o. maps.map_target k (target_of o)) c.in-Some.is)
 
 pub exprs-loop-part-init : goal.exprs-loop-part-init
-exprs-loop-part-init g t c = λ h k agree. none_yet (λ x. same.map_exp h (expr_of x)) (λ x. same.map_exp k (expr_of x)) c.new-copies.result.items c.args.parts.now c.new-copies.ensures.items
+exprs-loop-part-init g t c = λ h k agree. none_yet (λ x. maps.map_exp h (expr_of x)) (λ x. maps.map_exp k (expr_of x)) c.new-copies.result.items c.args.parts.now c.new-copies.ensures.items
 
 pub exprs-expr-requires : goal.exprs-expr-requires
 exprs-expr-requires g t c =
@@ -324,9 +324,9 @@ exprs-expr-requires g t c =
 
 pub exprs-returns : goal.exprs-returns
 exprs-returns g t c = λ h k agree.
-    same_rows h k c.loop-part.copies.items c.args.parts.now (all_done (λ x. same.map_exp h (expr_of x)) (λ x. same.map_exp k (expr_of x)) _ _ c.loop-part.part-index c.loop-part-test.false (c.loop-part.invariant h k agree))
+    same_rows h k c.loop-part.copies.items c.args.parts.now (all_done (λ x. maps.map_exp h (expr_of x)) (λ x. maps.map_exp k (expr_of x)) _ _ c.loop-part.part-index c.loop-part-test.false (c.loop-part.invariant h k agree))
 
 pub exprs-loop-part-preserved : goal.exprs-loop-part-preserved
 exprs-loop-part-preserved g t c = λ h k agree.
-    one_more_made (λ x. same.map_exp h (expr_of x)) (λ x. same.map_exp k (expr_of x)) c.loop-part.copies.items _ c.args.parts.now c.loop-part.part-index c.part-item.result c.expr.result
+    one_more_made (λ x. maps.map_exp h (expr_of x)) (λ x. maps.map_exp k (expr_of x)) c.loop-part.copies.items _ c.args.parts.now c.loop-part.part-index c.part-item.result c.expr.result
     c.loop-part-test.true c.part-item.is c.in_ok-push_made.ensures (c.loop-part.invariant h k agree) (IfOk-weaker c.expr.result _ _ (λ x copied. copied h k agree) c.expr.ensures)

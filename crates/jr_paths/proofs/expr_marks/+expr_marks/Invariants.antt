@@ -1,6 +1,7 @@
 use Rattle.std.proofs.Common.{◌+◌, ◌*◌, ◌≡◌, take, map, Option}
 use Rattle.std.specs.Fn.{FnReturnsAt}
 use Rattle.jr_ast.specs.View.{expr_of, exprs_of, target_of}
+use Rattle.jr_ast.specs.Remarked as maps
 use Rattle.jr_paths.specs.Same as same
 use Rattle.jr_ast.proofs.Sizes.{exp_size, exps_size, target_size}
 use Rattle.jr_paths.proofs.expr_marks.+expr_marks.Given as goal
@@ -18,4 +19,4 @@ decreases-exprs g l = 3 * exps_size (exprs_of l.parts.now) + 1
 abbrev pub invariant-exprs-loop-part : goal.invariant-exprs-loop-part
 invariant-exprs-loop-part g l =
     (h : g.row.B.Denot → Option g.row.B.Denot) (k : g.row.A.Denot → Option g.row.B.Denot) → same.Agree (FnReturnsAt g.F.Fn l.f) h k
-    → map (λ x. same.map_exp h (expr_of x)) l.copies.items ≡ map (λ x. same.map_exp k (expr_of x)) (take l.part-index l.parts)
+    → map (λ x. maps.map_exp h (expr_of x)) l.copies.items ≡ map (λ x. maps.map_exp k (expr_of x)) (take l.part-index l.parts)

@@ -5,6 +5,7 @@ use Rattle.std.specs.Fn.{FnReturnsAt}
 use Rattle.jr_ast.specs.declared.members.Class.{out-Class}
 use Rattle.jr_ast.specs.MemberTree as tree
 use Rattle.jr_ast.specs.View.{word_of, type_of, expr_of, args_of, modifier_of, param_of, stmts_of, member_of, members_of, member_kind, member_row, class_of}
+use Rattle.jr_ast.specs.Remarked as maps
 use Rattle.jr_paths.specs.Same as same
 use Rattle.jr_ast.proofs.Rows.{class_of-out}
 use Rattle.jr_ast.proofs.Sizes.{member_size, members_size, class_size}
@@ -27,7 +28,7 @@ class-members-requires g t c =
     λ κs o. (falls_whole_row (λ xs. members_size (members_of xs)) whole (out-Class _ c.args.of.now).members.items c.deref.result.now t c.deref.ensures.value (ap class_size (class_of-out _ c.args.of.now)) c.decreases, (o.0, (o.1.0, (o.1.1, c.requires))))
 
 pub members-loop-part-init : goal.members-loop-part-init
-members-loop-part-init g t c = λ h k agree. none_yet (λ x. same.map_member h (member_of x)) (λ x. same.map_member k (member_of x)) c.new-copies.result.items c.args.parts.now c.new-copies.ensures.items
+members-loop-part-init g t c = λ h k agree. none_yet (λ x. maps.map_member h (member_of x)) (λ x. maps.map_member k (member_of x)) c.new-copies.result.items c.args.parts.now c.new-copies.ensures.items
 
 pub members-member-requires : goal.members-member-requires
 members-member-requires g t c =
@@ -35,12 +36,12 @@ members-member-requires g t c =
 
 pub members-loop-part-preserved : goal.members-loop-part-preserved
 members-loop-part-preserved g t c = λ h k agree.
-    one_more_made (λ x. same.map_member h (member_of x)) (λ x. same.map_member k (member_of x)) c.loop-part.copies.items _ c.args.parts.now c.loop-part.part-index c.part-item.result c.member.result
+    one_more_made (λ x. maps.map_member h (member_of x)) (λ x. maps.map_member k (member_of x)) c.loop-part.copies.items _ c.args.parts.now c.loop-part.part-index c.part-item.result c.member.result
     c.loop-part-test.true c.part-item.is c.in_ok-push_made.ensures (c.loop-part.invariant h k agree) (IfOk-weaker c.member.result _ _ (λ x copied. copied h k agree) c.member.ensures)
 
 pub members-returns : goal.members-returns
 members-returns g t c = λ h k agree.
-    same_member_rows h k c.loop-part.copies.items c.args.parts.now (all_done (λ x. same.map_member h (member_of x)) (λ x. same.map_member k (member_of x)) _ _ c.loop-part.part-index c.loop-part-test.false (c.loop-part.invariant h k agree))
+    same_member_rows h k c.loop-part.copies.items c.args.parts.now (all_done (λ x. maps.map_member h (member_of x)) (λ x. maps.map_member k (member_of x)) _ _ c.loop-part.part-index c.loop-part-test.false (c.loop-part.invariant h k agree))
 
 pub member-returns-in-Field : goal.member-returns-in-Field
 unfolding member_kind member_row class_of
@@ -80,5 +81,5 @@ member-returns-in-Inner g t c =
 
 pub class-returns : goal.class-returns
 class-returns g t c =
-    let all = IfOk-weaker c.members.result _ _ (λ ms copied h k agree. copied h k agree ∙ ap (λ xs. same.map_members k (members_of xs)) c.deref.ensures.value) c.members.ensures in
+    let all = IfOk-weaker c.members.result _ _ (λ ms copied h k agree. copied h k agree ∙ ap (λ xs. maps.map_members k (members_of xs)) c.deref.ensures.value) c.members.ensures in
     c.class_with.ensures all

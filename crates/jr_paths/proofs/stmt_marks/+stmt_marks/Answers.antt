@@ -2,7 +2,7 @@ use Rattle.std.proofs.Common.{ap, sym, ◌∙◌}
 use Rattle.std.proofs.lemmas.Result.{IfOk-weaker}
 use Rattle.jr_ast.specs.StatementTree as tree
 use Rattle.jr_ast.specs.View.{else_of, stmt_of, stmts_of, stmt_kind, stmt_row, held_else}
-use Rattle.jr_paths.specs.Same as same
+use Rattle.jr_ast.specs.Remarked as maps
 use Rattle.jr_ast.proofs.Rows.{stmt_kind-If, stmt_kind-Block, stmt_kind-Sync}
 use Rattle.jr_ast.proofs.Sizes.{stmt_size, stmts_size, else_size}
 use Rattle.jr_paths.proofs.MadeOf.{with_part, one_more_made}
@@ -50,76 +50,76 @@ stmt-stmts-requires-in-Sync g t c =
     λ κs o. (falls_whole_row (λ xs. stmts_size (stmts_of xs)) whole at.body.items c.deref-in-Sync.result.now t c.deref-in-Sync.ensures.value (ap (λ d. stmt_size (stmt_kind m d)) at.is ∙ ap stmt_size (stmt_kind-Sync _ m at.lock at.body)) c.decreases, (o.0, (o.1.0, (o.1.1, c.requires))))
 
 pub stmt-returns-in-Local : goal.stmt-returns-in-Local
-unfolding same.map_stmt same.map_stmts same.map_else stmt_kind stmt_row held_else
+unfolding maps.map_stmt maps.map_stmts maps.map_else stmt_kind stmt_row held_else
 stmt-returns-in-Local g t c =
     let at = c.in-Local in
     let m = c.args.of.now.mark in
     IfOk-weaker c.local.result _ _ (λ x made. with_part c.ty-of_type.result made c.ty-of_type.ensures (λ kind' made1 kind. with_part c.word-name.result made1 c.word-name.ensures (λ name' made2 name. with_part c.expr.result made2 c.expr.ensures (λ init' is init. λ h k agree.
     let mark = mark_agrees agree c.mark_by-mark.ensures in
-    ap (same.map_stmt h) is ∙ (λ i. tree.local (mark i) at.is_final (kind h k agree i) (name h k agree i) (init h k agree i)) ∙ sym (ap (λ d. same.map_stmt k (stmt_kind m d)) at.is))))) c.local.ensures
+    ap (maps.map_stmt h) is ∙ (λ i. tree.local (mark i) at.is_final (kind h k agree i) (name h k agree i) (init h k agree i)) ∙ sym (ap (λ d. maps.map_stmt k (stmt_kind m d)) at.is))))) c.local.ensures
 
 pub stmt-returns-in-Eval : goal.stmt-returns-in-Eval
-unfolding same.map_stmt same.map_stmts same.map_else stmt_kind stmt_row held_else
+unfolding maps.map_stmt maps.map_stmts maps.map_else stmt_kind stmt_row held_else
 stmt-returns-in-Eval g t c =
     let at = c.in-Eval in
     let m = c.args.of.now.mark in
     IfOk-weaker c.eval.result _ _ (λ x made. with_part c.expr-in-Eval.result made c.expr-in-Eval.ensures (λ value' is value. λ h k agree.
     let mark = mark_agrees agree c.mark_by-mark.ensures in
-    ap (same.map_stmt h) is ∙ (λ i. tree.eval (mark i) (value h k agree i)) ∙ sym (ap (λ d. same.map_stmt k (stmt_kind m d)) at.is))) c.eval.ensures
+    ap (maps.map_stmt h) is ∙ (λ i. tree.eval (mark i) (value h k agree i)) ∙ sym (ap (λ d. maps.map_stmt k (stmt_kind m d)) at.is))) c.eval.ensures
 
 pub stmt-returns-in-If : goal.stmt-returns-in-If
-unfolding same.map_stmt same.map_stmts same.map_else stmt_kind stmt_row held_else
+unfolding maps.map_stmt maps.map_stmts maps.map_else stmt_kind stmt_row held_else
 stmt-returns-in-If g t c =
     let at = c.in-If in
     let m = c.args.of.now.mark in
     IfOk-weaker c.conditional.result _ _ (λ x made. with_part c.expr-condition.result made c.expr-condition.ensures (λ condition' made1 condition. with_part c.stmt.result made1 c.stmt.ensures (λ yes' made2 yes. with_part c.else_stmt.result made2 c.else_stmt.ensures (λ no' is no. λ h k agree.
     let mark = mark_agrees agree c.mark_by-mark.ensures in
-    ap (same.map_stmt h) is ∙ (λ i. tree.branch (mark i) (condition h k agree i) ((yes h k agree ∙ ap (λ y. same.map_stmt k (stmt_of y)) c.deref.ensures) i) (no h k agree i)) ∙ sym (ap (λ d. same.map_stmt k (stmt_kind m d)) at.is ∙ ap (same.map_stmt k) (stmt_kind-If _ m at.condition at.yes at.no)))))) c.conditional.ensures
+    ap (maps.map_stmt h) is ∙ (λ i. tree.branch (mark i) (condition h k agree i) ((yes h k agree ∙ ap (λ y. maps.map_stmt k (stmt_of y)) c.deref.ensures) i) (no h k agree i)) ∙ sym (ap (λ d. maps.map_stmt k (stmt_kind m d)) at.is ∙ ap (maps.map_stmt k) (stmt_kind-If _ m at.condition at.yes at.no)))))) c.conditional.ensures
 
 pub stmt-returns-in-While : goal.stmt-returns-in-While
-unfolding same.map_stmt same.map_stmts same.map_else stmt_kind stmt_row held_else
+unfolding maps.map_stmt maps.map_stmts maps.map_else stmt_kind stmt_row held_else
 stmt-returns-in-While g t c =
     let at = c.in-While in
     let m = c.args.of.now.mark in
     IfOk-weaker c.while_loop.result _ _ (λ x made. with_part c.expr-in-While.result made c.expr-in-While.ensures (λ condition' made1 condition. with_part c.stmt-in-While.result made1 c.stmt-in-While.ensures (λ body' is body. λ h k agree.
     let mark = mark_agrees agree c.mark_by-mark.ensures in
-    ap (same.map_stmt h) is ∙ (λ i. tree.loop (mark i) (condition h k agree i) ((body h k agree ∙ ap (λ y. same.map_stmt k (stmt_of y)) c.deref-in-While.ensures) i)) ∙ sym (ap (λ d. same.map_stmt k (stmt_kind m d)) at.is)))) c.while_loop.ensures
+    ap (maps.map_stmt h) is ∙ (λ i. tree.loop (mark i) (condition h k agree i) ((body h k agree ∙ ap (λ y. maps.map_stmt k (stmt_of y)) c.deref-in-While.ensures) i)) ∙ sym (ap (λ d. maps.map_stmt k (stmt_kind m d)) at.is)))) c.while_loop.ensures
 
 pub stmt-returns-in-Return : goal.stmt-returns-in-Return
-unfolding same.map_stmt same.map_stmts same.map_else stmt_kind stmt_row held_else
+unfolding maps.map_stmt maps.map_stmts maps.map_else stmt_kind stmt_row held_else
 stmt-returns-in-Return g t c =
     let at = c.in-Return in
     let m = c.args.of.now.mark in
     IfOk-weaker c.return_stmt.result _ _ (λ x made. with_part c.maybe_expr.result made c.maybe_expr.ensures (λ value' is value. λ h k agree.
     let mark = mark_agrees agree c.mark_by-mark.ensures in
-    ap (same.map_stmt h) is ∙ (λ i. tree.return (mark i) (value h k agree i)) ∙ sym (ap (λ d. same.map_stmt k (stmt_kind m d)) at.is))) c.return_stmt.ensures
+    ap (maps.map_stmt h) is ∙ (λ i. tree.return (mark i) (value h k agree i)) ∙ sym (ap (λ d. maps.map_stmt k (stmt_kind m d)) at.is))) c.return_stmt.ensures
 
 pub stmt-returns-in-Block : goal.stmt-returns-in-Block
-unfolding same.map_stmt same.map_stmts same.map_else stmt_kind stmt_row held_else
+unfolding maps.map_stmt maps.map_stmts maps.map_else stmt_kind stmt_row held_else
 stmt-returns-in-Block g t c =
     let at = c.in-Block in
     let m = c.args.of.now.mark in
     IfOk-weaker c.block.result _ _ (λ x made. with_part c.stmts.result made c.stmts.ensures (λ body' is body. λ h k agree.
     let mark = mark_agrees agree c.mark_by-mark.ensures in
-    ap (same.map_stmt h) is ∙ (λ i. tree.block (mark i) ((body h k agree ∙ ap (λ xs. same.map_stmts k (stmts_of xs)) c.deref-in-Block.ensures.value) i)) ∙ sym (ap (λ d. same.map_stmt k (stmt_kind m d)) at.is ∙ ap (same.map_stmt k) (stmt_kind-Block _ m at.body)))) c.block.ensures
+    ap (maps.map_stmt h) is ∙ (λ i. tree.block (mark i) ((body h k agree ∙ ap (λ xs. maps.map_stmts k (stmts_of xs)) c.deref-in-Block.ensures.value) i)) ∙ sym (ap (λ d. maps.map_stmt k (stmt_kind m d)) at.is ∙ ap (maps.map_stmt k) (stmt_kind-Block _ m at.body)))) c.block.ensures
 
 pub stmt-returns-in-Sync : goal.stmt-returns-in-Sync
-unfolding same.map_stmt same.map_stmts same.map_else stmt_kind stmt_row held_else
+unfolding maps.map_stmt maps.map_stmts maps.map_else stmt_kind stmt_row held_else
 stmt-returns-in-Sync g t c =
     let at = c.in-Sync in
     let m = c.args.of.now.mark in
     IfOk-weaker c.sync.result _ _ (λ x made. with_part c.expr-in-Sync.result made c.expr-in-Sync.ensures (λ lock' made1 lock. with_part c.stmts-in-Sync.result made1 c.stmts-in-Sync.ensures (λ body' is body. λ h k agree.
     let mark = mark_agrees agree c.mark_by-mark.ensures in
-    ap (same.map_stmt h) is ∙ (λ i. tree.sync (mark i) (lock h k agree i) ((body h k agree ∙ ap (λ xs. same.map_stmts k (stmts_of xs)) c.deref-in-Sync.ensures.value) i)) ∙ sym (ap (λ d. same.map_stmt k (stmt_kind m d)) at.is ∙ ap (same.map_stmt k) (stmt_kind-Sync _ m at.lock at.body))))) c.sync.ensures
+    ap (maps.map_stmt h) is ∙ (λ i. tree.sync (mark i) (lock h k agree i) ((body h k agree ∙ ap (λ xs. maps.map_stmts k (stmts_of xs)) c.deref-in-Sync.ensures.value) i)) ∙ sym (ap (λ d. maps.map_stmt k (stmt_kind m d)) at.is ∙ ap (maps.map_stmt k) (stmt_kind-Sync _ m at.lock at.body))))) c.sync.ensures
 
 pub stmt-returns-in-Empty : goal.stmt-returns-in-Empty
-unfolding same.map_stmt same.map_stmts same.map_else stmt_kind stmt_row held_else
+unfolding maps.map_stmt maps.map_stmts maps.map_else stmt_kind stmt_row held_else
 stmt-returns-in-Empty g t c =
     let at = c.in-Empty in
     let m = c.args.of.now.mark in
     IfOk-weaker c.empty.result _ _ (λ x is h k agree.
     let mark = mark_agrees agree c.mark_by-mark.ensures in
-    ap (same.map_stmt h) is ∙ (λ i. tree.empty (mark i)) ∙ sym (ap (λ d. same.map_stmt k (stmt_kind m d)) at.is)) c.empty.ensures
+    ap (maps.map_stmt h) is ∙ (λ i. tree.empty (mark i)) ∙ sym (ap (λ d. maps.map_stmt k (stmt_kind m d)) at.is)) c.empty.ensures
 
 pub else_stmt-stmt-requires : goal.else_stmt-stmt-requires
 unfolding stmt_size stmts_size else_size
@@ -128,16 +128,16 @@ else_stmt-stmt-requires g t c =
     λ κs o. (falls_held _ (else_size (else_of c.args.of.now)) t same_size c.decreases, (o.0, (o.1.0, (o.1.1, c.requires))))
 
 pub else_stmt-returns-in-None : goal.else_stmt-returns-in-None
-unfolding same.map_stmt same.map_stmts same.map_else
-else_stmt-returns-in-None g t c = λ h k agree. sym (ap (λ o. same.map_else k (else_of o)) c.in-None.is)
+unfolding maps.map_stmt maps.map_stmts maps.map_else
+else_stmt-returns-in-None g t c = λ h k agree. sym (ap (λ o. maps.map_else k (else_of o)) c.in-None.is)
 
 pub else_stmt-returns-in_ok-copy-in-Some : goal.else_stmt-returns-in_ok-copy-in-Some
-unfolding same.map_stmt same.map_stmts same.map_else
+unfolding maps.map_stmt maps.map_stmts maps.map_else
 else_stmt-returns-in_ok-copy-in-Some g t c = λ h k agree.
-    ap tree.otherwise (c.in_ok-copy-in-Some.ensures h k agree ∙ ap (λ x. same.map_stmt k (stmt_of x)) c.deref.ensures) ∙ sym (ap (λ o. same.map_else k (else_of o)) c.in-Some.is)
+    ap tree.otherwise (c.in_ok-copy-in-Some.ensures h k agree ∙ ap (λ x. maps.map_stmt k (stmt_of x)) c.deref.ensures) ∙ sym (ap (λ o. maps.map_else k (else_of o)) c.in-Some.is)
 
 pub stmts-loop-part-init : goal.stmts-loop-part-init
-stmts-loop-part-init g t c = λ h k agree. none_yet (λ x. same.map_stmt h (stmt_of x)) (λ x. same.map_stmt k (stmt_of x)) c.new-copies.result.items c.args.parts.now c.new-copies.ensures.items
+stmts-loop-part-init g t c = λ h k agree. none_yet (λ x. maps.map_stmt h (stmt_of x)) (λ x. maps.map_stmt k (stmt_of x)) c.new-copies.result.items c.args.parts.now c.new-copies.ensures.items
 
 pub stmts-stmt-requires : goal.stmts-stmt-requires
 stmts-stmt-requires g t c =
@@ -145,9 +145,9 @@ stmts-stmt-requires g t c =
 
 pub stmts-loop-part-preserved : goal.stmts-loop-part-preserved
 stmts-loop-part-preserved g t c = λ h k agree.
-    one_more_made (λ x. same.map_stmt h (stmt_of x)) (λ x. same.map_stmt k (stmt_of x)) c.loop-part.copies.items _ c.args.parts.now c.loop-part.part-index c.part-item.result c.stmt.result
+    one_more_made (λ x. maps.map_stmt h (stmt_of x)) (λ x. maps.map_stmt k (stmt_of x)) c.loop-part.copies.items _ c.args.parts.now c.loop-part.part-index c.part-item.result c.stmt.result
     c.loop-part-test.true c.part-item.is c.in_ok-push_made.ensures (c.loop-part.invariant h k agree) (IfOk-weaker c.stmt.result _ _ (λ x copied. copied h k agree) c.stmt.ensures)
 
 pub stmts-returns : goal.stmts-returns
 stmts-returns g t c = λ h k agree.
-    same_stmt_rows h k c.loop-part.copies.items c.args.parts.now (all_done (λ x. same.map_stmt h (stmt_of x)) (λ x. same.map_stmt k (stmt_of x)) _ _ c.loop-part.part-index c.loop-part-test.false (c.loop-part.invariant h k agree))
+    same_stmt_rows h k c.loop-part.copies.items c.args.parts.now (all_done (λ x. maps.map_stmt h (stmt_of x)) (λ x. maps.map_stmt k (stmt_of x)) _ _ c.loop-part.part-index c.loop-part-test.false (c.loop-part.invariant h k agree))

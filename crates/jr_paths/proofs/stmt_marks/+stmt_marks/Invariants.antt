@@ -1,6 +1,7 @@
 use Rattle.std.proofs.Common.{◌+◌, ◌*◌, ◌≡◌, take, map, Option}
 use Rattle.std.specs.Fn.{FnReturnsAt}
 use Rattle.jr_ast.specs.View.{stmt_of, stmts_of, else_of}
+use Rattle.jr_ast.specs.Remarked as maps
 use Rattle.jr_paths.specs.Same as same
 use Rattle.jr_ast.proofs.Sizes.{stmt_size, stmts_size, else_size}
 use Rattle.jr_paths.proofs.stmt_marks.+stmt_marks.Given as goal
@@ -18,4 +19,4 @@ decreases-stmts g l = 3 * stmts_size (stmts_of l.parts.now) + 1
 abbrev pub invariant-stmts-loop-part : goal.invariant-stmts-loop-part
 invariant-stmts-loop-part g l =
     (h : g.row.B.Denot → Option g.row.B.Denot) (k : g.row.A.Denot → Option g.row.B.Denot) → same.Agree (FnReturnsAt g.F.Fn l.f) h k
-    → map (λ x. same.map_stmt h (stmt_of x)) l.copies.items ≡ map (λ x. same.map_stmt k (stmt_of x)) (take l.part-index l.parts)
+    → map (λ x. maps.map_stmt h (stmt_of x)) l.copies.items ≡ map (λ x. maps.map_stmt k (stmt_of x)) (take l.part-index l.parts)
