@@ -210,7 +210,13 @@ fn answer<L: Ledger>(
     text
 }
 
-fn tell_show(rt: &impl Abort, alloc: Global, first: &str, second: &str, file: &str) -> String {
+pub(crate) fn tell_show(
+    rt: &impl Abort,
+    alloc: Global,
+    first: &str,
+    second: &str,
+    file: &str,
+) -> String {
     let first = text_of(rt, alloc, first);
     let second = text_of(rt, alloc, second);
     let file = name_of(rt, alloc, file);

@@ -1,0 +1,125 @@
+//! Steps over the deepest texts of each kind that the limits allow: each has to do with the stack
+//! that a program is given.
+use crate::memory::{put, put_times, text_of};
+use crate::rows::{assert_same, cut_at, number};
+use crate::runs::run_over;
+use crate::shows::tell_show;
+use std::alloc::Global;
+use std::process::Abort;
+
+/// A member in front of what nests, and behind it. No name is a part of another word.
+const FRONT: &str = "class C{boolean F;C M(C P){boolean L=F;";
+
+const BACK: &str = "M(P).F=L;return P;}}";
+
+/// How what nests is made: how often its front and its back stand, the pieces of a front, the
+/// middle, and the pieces of a back; a piece has the number of times that it stands. At most 100
+/// brackets are open, 300 tokens stand behind the last of `;`, `{` and `}`, and 500 are `else`.
+const NESTS: &'static str = "
+~98@75*if(L)|1*{@L=F;@1*}
+~98@75*while(L)|1*{@L=F;@1*}
+~98@74*if(L)|1*synchronized(P)|1*{@L=F;@1*}
+~10@50*if(L)|1*{@L=F;@1*}|50*else;
+~98@5*if(L)|1*{@L=F;@1*}|5*else;
+~500@1*if(L);else @L=F;@
+~98@5*if(L);else |74*while(L)|1*{@L=F;@1*}
+~1@1*L=|98*(@L@98*)|1*;
+~1@1*P=|99*(C)@P@1*;
+~1@1*P=|98*M(@P@98*)|1*;
+~1@1*P=P|59*.M(P)@@1*;
+~1@1*L=|297*!@L@1*;
+~1@149*L=@L@1*;
+~1@1*L=L|148*&&L@@1*;
+";
+
+fn put_pieces(rt: &impl Abort, text: &mut String, pieces: &str) {
+    for piece in pieces.split('|') {
+        let (times, piece) = cut_at(piece, "*");
+        put_times(rt, text, piece, number(rt, times) as usize);
+    }
+}
+
+fn put_often(rt: &impl Abort, text: &mut String, pieces: &str, count: u32) {
+    for _ in 0..count {
+        put_pieces(rt, text, pieces);
+    }
+}
+
+/// The text of a row.
+fn nested(rt: &impl Abort, alloc: Global, row: &str) -> String {
+    let (count, row) = cut_at(row, "@");
+    let count = number(rt, count);
+    let (front, row) = cut_at(row, "@");
+    let (middle, back) = cut_at(row, "@");
+    let mut text = text_of(rt, alloc, FRONT);
+    put_often(rt, &mut text, front, count);
+    put(rt, &mut text, middle);
+    if back != "" {
+        put_often(rt, &mut text, back, count);
+    }
+    put(rt, &mut text, BACK);
+    text
+}
+
+/// What a name is bound to.
+fn declared(name: char) -> &'static str {
+    match name {
+        'C' => "C",
+        'F' => "C.F",
+        'M' => "C.M(C)",
+        'P' => "C.M(C)#0",
+        'L' => "C.M(C)#1",
+        _ => "",
+    }
+}
+
+/// The lines of a show: one for each name but where the front declares it.
+fn lines(rt: &impl Abort, alloc: Global, text: &str) -> String {
+    let mut lines = String::new(alloc);
+    for (at, name) in text.char_indices() {
+        let of = declared(name);
+        let declares = matches!(at, 6 | 16 | 20 | 24 | 35);
+        if of != "" && !declares {
+            write!(lines, "{at} {name} {of};").expect(rt, "memory");
+        }
+    }
+    lines
+}
+
+/// A rename to a name that stands nowhere: each that is bound to what is renamed gets it.
+fn assert_renamed(rt: &impl Abort, alloc: Global, text: &str, line: &str, old: &str, new: &str) {
+    let mut expected = text_of(rt, alloc, "Done | ");
+    let renamed = text.replace(alloc, old, new).expect(rt, "memory");
+    put(rt, &mut expected, renamed.as_str());
+    let told = run_over(rt, alloc, text.as_bytes(), line);
+    assert_same(rt, told.as_str(), expected.as_str());
+}
+
+fn assert_nested(rt: &impl Abort, alloc: Global, row: &str) {
+    let text = nested(rt, alloc, row);
+    let text = text.as_str();
+    let shown = tell_show(rt, alloc, text, "", "A.java");
+    assert_same(rt, shown.as_str(), lines(rt, alloc, text).as_str());
+    assert_renamed(rt, alloc, text, "rename A.java 6 D", "C", "D");
+    assert_renamed(rt, alloc, text, "rename A.java 16 D", "F", "D");
+    assert_renamed(rt, alloc, text, "rename A.java 20 D", "M", "D");
+    assert_renamed(rt, alloc, text, "rename A.java 35 D", "L", "D");
+}
+
+fn assert_all(rt: &impl Abort, alloc: Global, rows: &str, count: u32) {
+    let mut seen = 0u32;
+    for row in rows.split('~') {
+        if let Some(row) = row.strip_suffix("\n") {
+            if row != "" {
+                assert_nested(rt, alloc, row);
+                seen = seen.wrapping_add(1);
+            }
+        }
+    }
+    assert!(rt; seen == count);
+}
+
+#[test]
+fn deepest_texts(rt: HostRuntime) {
+    assert_all(&rt, rt.alloc(), NESTS, 14);
+}
