@@ -6,7 +6,8 @@ use Rattle.jr_ast.specs.Remarked as maps
 use Rattle.jr_ast.proofs.Rows.{expr_kind-Call_to, expr_kind-SuperCall, expr_kind-New}
 use Rattle.jr_ast.proofs.Sizes.{exp_size, exps_size, target_size}
 use Rattle.jr_paths.proofs.MadeOf.{with_part, one_more_made}
-use Rattle.jr_paths.proofs.Marking.{mark_agrees, none_yet, all_done, falls_further, falls_left, falls_right, falls_whole_row, falls_item, falls_held, same_rows, exps_add}
+use Rattle.jr_ast.proofs.Sizes.{falls_further, falls_left, falls_right, falls_whole_row, falls_item, falls_held, exps_add}
+use Rattle.jr_paths.proofs.Marking.{mark_agrees, none_yet, all_done, same_rows}
 use Rattle.jr_paths.proofs.expr_marks.+expr_marks.Goals as goal
 
 pub expr-expr-requires : goal.expr-expr-requires

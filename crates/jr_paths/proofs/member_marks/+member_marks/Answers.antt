@@ -10,7 +10,8 @@ use Rattle.jr_paths.specs.Same as same
 use Rattle.jr_ast.proofs.Rows.{class_of-out}
 use Rattle.jr_ast.proofs.Sizes.{member_size, members_size, class_size}
 use Rattle.jr_paths.proofs.MadeOf.{one_more_made}
-use Rattle.jr_paths.proofs.Marking.{none_yet, all_done, falls_further, falls_whole_row, falls_item, same_member_rows, members_add}
+use Rattle.jr_ast.proofs.Sizes.{falls_further, falls_whole_row, falls_item, members_add}
+use Rattle.jr_paths.proofs.Marking.{none_yet, all_done, same_member_rows}
 use Rattle.jr_paths.proofs.member_marks.+member_marks.Goals as goal
 
 pub member-class-requires : goal.member-class-requires

@@ -6,7 +6,8 @@ use Rattle.jr_ast.specs.Remarked as maps
 use Rattle.jr_ast.proofs.Rows.{stmt_kind-If, stmt_kind-Block, stmt_kind-Sync}
 use Rattle.jr_ast.proofs.Sizes.{stmt_size, stmts_size, else_size}
 use Rattle.jr_paths.proofs.MadeOf.{with_part, one_more_made}
-use Rattle.jr_paths.proofs.Marking.{mark_agrees, none_yet, all_done, falls_further, falls_left, falls_right, falls_whole_row, falls_item, falls_held, same_stmt_rows, stmts_add}
+use Rattle.jr_ast.proofs.Sizes.{falls_further, falls_left, falls_right, falls_whole_row, falls_item, falls_held, stmts_add}
+use Rattle.jr_paths.proofs.Marking.{mark_agrees, none_yet, all_done, same_stmt_rows}
 use Rattle.jr_paths.proofs.stmt_marks.+stmt_marks.Goals as goal
 
 pub stmt-stmt-requires : goal.stmt-stmt-requires
