@@ -86,8 +86,8 @@ fn member_below_unit<'k, A>(unit: &'k mut Unit<A>, steps: &[u32]) -> Option<&'k 
     <A as ClassLevel<Far>>::below(class, &steps[1..])
 }
 
-/// What paths lead to, to change it.
-pub trait PathWrites<A>: Sized {
+/// Changeable members at the end of paths.
+pub trait MemberWrites<A>: Sized {
     /// The tree where the paths begin.
     ghost whole: { Self → tree.Unit A };
 
@@ -98,6 +98,20 @@ pub trait PathWrites<A>: Sized {
             path.now.steps.items result) }
         ensures value { option_map (λ x. view.member_of x.now) result
             ≡ pure.member_at (pure.unit (whole self.entry.now)) path.now.steps.items };
+}
+
+impl<A> MemberWrites<A> for Unit<A> {
+    ghost whole = { view.unit_of };
+
+    fn member_at_mut(&mut self, path: &Path) -> Option<&mut Member<A>> {
+        member_below_unit(self, path.steps.as_slice())
+    }
+}
+
+/// Changeable statements at the end of paths.
+pub trait StmtWrites<A>: Sized {
+    /// The tree where the paths begin.
+    ghost whole: { Self → tree.Unit A };
 
     /// The statement to which the path leads, to change it; `None` exactly where it leads to no
     /// statement.
@@ -106,6 +120,23 @@ pub trait PathWrites<A>: Sized {
             path.now.steps.items result) }
         ensures value { option_map (λ x. view.stmt_of x.now) result
             ≡ pure.stmt_at (pure.unit (whole self.entry.now)) path.now.steps.items };
+}
+
+impl<A> StmtWrites<A> for Unit<A> {
+    ghost whole = { view.unit_of };
+
+    fn stmt_at_mut(&mut self, path: &Path) -> Option<&mut Stmt<A>> {
+        let steps = path.steps.as_slice();
+        let turns = turns_of(self, steps);
+        let member = member_below_unit(self, &steps[..turns.members])?;
+        stmt_below_member(&mut member.kind, &steps[turns.members..])
+    }
+}
+
+/// Changeable expressions at the end of paths.
+pub trait ExprWrites<A>: Sized {
+    /// The tree where the paths begin.
+    ghost whole: { Self → tree.Unit A };
 
     /// The expression to which the path leads, to change it; `None` exactly where it leads to no
     /// expression.
@@ -116,19 +147,8 @@ pub trait PathWrites<A>: Sized {
             ≡ pure.exp_at (pure.unit (whole self.entry.now)) path.now.steps.items };
 }
 
-impl<A> PathWrites<A> for Unit<A> {
+impl<A> ExprWrites<A> for Unit<A> {
     ghost whole = { view.unit_of };
-
-    fn member_at_mut(&mut self, path: &Path) -> Option<&mut Member<A>> {
-        member_below_unit(self, path.steps.as_slice())
-    }
-
-    fn stmt_at_mut(&mut self, path: &Path) -> Option<&mut Stmt<A>> {
-        let steps = path.steps.as_slice();
-        let turns = turns_of(self, steps);
-        let member = member_below_unit(self, &steps[..turns.members])?;
-        stmt_below_member(&mut member.kind, &steps[turns.members..])
-    }
 
     fn expr_at_mut(&mut self, path: &Path) -> Option<&mut Expr<A>> {
         let steps = path.steps.as_slice();

@@ -1,50 +1,76 @@
 //! The nodes to which paths lead.
 ghost use Rattle.std.specs.Prelude.{◌≡◌, option_map};
+ghost use Rattle.jr_ast.specs.MemberTree as tree;
 ghost use Rattle.jr_ast.specs.Nodes as pure;
 ghost use Rattle.jr_ast.specs.View.{expr_of, stmt_of, member_of, unit_of};
 
 use crate::nodes::Node;
 use jr_ast::{Expr, Member, Path, Stmt, Unit};
 
-/// What paths lead to.
+/// What paths lead to that begin at a unit.
+///
+/// The calls are the trait's own, over the unit that it lends: where an `impl` holds a call that
+/// lends a member, the check compares it with the trait at the whole type of members, which takes
+/// more steps than it may.
 pub trait PathReads<A>: Sized {
-    /// The node where the paths begin.
-    ghost root: { Self → pure.Node A };
+    ghost whole: { Self → tree.Unit A };
+
+    /// The unit where the paths begin.
+    fn unit(&self) -> &Unit<A>
+        ensures { unit_of result.now ≡ whole self.now };
 
     /// The expression to which the path leads; `None` exactly where it leads to no expression.
-    fn expr_at(&self, path: &Path) -> Option<&Expr<A>>
+    final fn expr_at(&self, path: &Path) -> Option<&Expr<A>>
         ensures { option_map (λ x. expr_of x.now) result
-            ≡ pure.exp_at (root self.now) path.now.steps.items };
+            ≡ pure.exp_at (pure.unit (whole self.now)) path.now.steps.items }
+    {
+        Node::Unit(self.unit()).at(path)?.as_expr()
+    }
 
     /// The statement to which the path leads; `None` exactly where it leads to no statement.
-    fn stmt_at(&self, path: &Path) -> Option<&Stmt<A>>
+    final fn stmt_at(&self, path: &Path) -> Option<&Stmt<A>>
         ensures { option_map (λ x. stmt_of x.now) result
-            ≡ pure.stmt_at (root self.now) path.now.steps.items };
+            ≡ pure.stmt_at (pure.unit (whole self.now)) path.now.steps.items }
+    {
+        Node::Unit(self.unit()).at(path)?.as_stmt()
+    }
 
     /// The member to which the path leads; `None` exactly where it leads to no member.
-    fn member_at(&self, path: &Path) -> Option<&Member<A>>
+    final fn member_at(&self, path: &Path) -> Option<&Member<A>>
         ensures { option_map (λ x. member_of x.now) result
-            ≡ pure.member_at (root self.now) path.now.steps.items };
+            ≡ pure.member_at (pure.unit (whole self.now)) path.now.steps.items }
+    {
+        Node::Unit(self.unit()).at(path)?.as_member()
+    }
 }
 
 impl<A> PathReads<A> for Unit<A> {
-    ghost root = { λ u. pure.unit (unit_of u) };
+    ghost whole = { unit_of };
 
-    fn expr_at(&self, path: &Path) -> Option<&Expr<A>> {
-        Node::Unit(self).at(path)?.as_expr()
-    }
-
-    fn stmt_at(&self, path: &Path) -> Option<&Stmt<A>> {
-        Node::Unit(self).at(path)?.as_stmt()
-    }
-
-    fn member_at(&self, path: &Path) -> Option<&Member<A>> {
-        Node::Unit(self).at(path)?.as_member()
+    fn unit(&self) -> &Unit<A> {
+        self
     }
 }
 
-impl<A> PathReads<A> for Member<A> {
-    ghost root = { λ m. pure.member (member_of m) };
+/// What paths lead to that begin at a member.
+pub trait MemberPathReads<A>: Sized {
+    ghost whole: { Self → tree.Member A };
+
+    /// The expression to which the path leads from the member; `None` exactly where it leads to no
+    /// expression.
+    fn expr_at(&self, path: &Path) -> Option<&Expr<A>>
+        ensures { option_map (λ x. expr_of x.now) result
+            ≡ pure.exp_at (pure.member (whole self.now)) path.now.steps.items };
+
+    /// The statement to which the path leads from the member; `None` exactly where it leads to no
+    /// statement.
+    fn stmt_at(&self, path: &Path) -> Option<&Stmt<A>>
+        ensures { option_map (λ x. stmt_of x.now) result
+            ≡ pure.stmt_at (pure.member (whole self.now)) path.now.steps.items };
+}
+
+impl<A> MemberPathReads<A> for Member<A> {
+    ghost whole = { member_of };
 
     fn expr_at(&self, path: &Path) -> Option<&Expr<A>> {
         Node::Member(self).at(path)?.as_expr()
@@ -52,9 +78,5 @@ impl<A> PathReads<A> for Member<A> {
 
     fn stmt_at(&self, path: &Path) -> Option<&Stmt<A>> {
         Node::Member(self).at(path)?.as_stmt()
-    }
-
-    fn member_at(&self, path: &Path) -> Option<&Member<A>> {
-        Node::Member(self).at(path)?.as_member()
     }
 }
