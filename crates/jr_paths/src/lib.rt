@@ -38,5 +38,5 @@ mod turns;
 pub use laws::one_child_is_replaced;
 pub use member_marks::WithMarks;
 pub use nodes::Node;
-pub use path_writes::{ExprWrites, MemberWrites, StmtWrites};
+pub use path_writes::{ExprPathWrites, MemberPathWrites, StmtPathWrites};
 pub use paths::{MemberPathReads, PathReads};

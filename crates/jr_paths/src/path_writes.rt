@@ -87,7 +87,7 @@ fn member_below_unit<'k, A>(unit: &'k mut Unit<A>, steps: &[u32]) -> Option<&'k 
 }
 
 /// Changeable members at the end of paths.
-pub trait MemberWrites<A>: Sized {
+pub trait MemberPathWrites<A>: Sized {
     /// The tree where the paths begin.
     ghost whole: { Self → tree.Unit A };
 
@@ -100,7 +100,7 @@ pub trait MemberWrites<A>: Sized {
             ≡ pure.member_at (pure.unit (whole self.entry.now)) path.now.steps.items };
 }
 
-impl<A> MemberWrites<A> for Unit<A> {
+impl<A> MemberPathWrites<A> for Unit<A> {
     ghost whole = { view.unit_of };
 
     fn member_at_mut(&mut self, path: &Path) -> Option<&mut Member<A>> {
@@ -109,7 +109,7 @@ impl<A> MemberWrites<A> for Unit<A> {
 }
 
 /// Changeable statements at the end of paths.
-pub trait StmtWrites<A>: Sized {
+pub trait StmtPathWrites<A>: Sized {
     /// The tree where the paths begin.
     ghost whole: { Self → tree.Unit A };
 
@@ -122,7 +122,7 @@ pub trait StmtWrites<A>: Sized {
             ≡ pure.stmt_at (pure.unit (whole self.entry.now)) path.now.steps.items };
 }
 
-impl<A> StmtWrites<A> for Unit<A> {
+impl<A> StmtPathWrites<A> for Unit<A> {
     ghost whole = { view.unit_of };
 
     fn stmt_at_mut(&mut self, path: &Path) -> Option<&mut Stmt<A>> {
@@ -134,7 +134,7 @@ impl<A> StmtWrites<A> for Unit<A> {
 }
 
 /// Changeable expressions at the end of paths.
-pub trait ExprWrites<A>: Sized {
+pub trait ExprPathWrites<A>: Sized {
     /// The tree where the paths begin.
     ghost whole: { Self → tree.Unit A };
 
@@ -147,7 +147,7 @@ pub trait ExprWrites<A>: Sized {
             ≡ pure.exp_at (pure.unit (whole self.entry.now)) path.now.steps.items };
 }
 
-impl<A> ExprWrites<A> for Unit<A> {
+impl<A> ExprPathWrites<A> for Unit<A> {
     ghost whole = { view.unit_of };
 
     fn expr_at_mut(&mut self, path: &Path) -> Option<&mut Expr<A>> {

@@ -3,7 +3,9 @@ use crate::rows::{assert_same, cut_at, number};
 use crate::samples::{method, unit};
 use crate::trees::{Numbered, unit_of};
 use jr_ast::{Expr, Member, Path, Stmt, Unit};
-use jr_paths::{ExprWrites, MemberPathReads, MemberWrites, Node, PathReads, StmtWrites, WithMarks};
+use jr_paths::{
+    ExprPathWrites, MemberPathReads, MemberPathWrites, Node, PathReads, StmtPathWrites, WithMarks,
+};
 use std::alloc::Global;
 use std::process::Abort;
 

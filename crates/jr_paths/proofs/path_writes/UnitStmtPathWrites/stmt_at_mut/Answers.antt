@@ -8,7 +8,7 @@ use Rattle.jr_paths.proofs.Lending.{on_none, on_that, on_some_also}
 use Rattle.jr_paths.proofs.Halves.{joined, node_of_member, write_join, same_join}
 use Rattle.jr_paths.proofs.PathKinds.{unit_no_stmt}
 use Rattle.jr_paths.proofs.Turning.{unit_inject, none_at_all, at_below, none_below}
-use Rattle.jr_paths.proofs.path_writes.UnitStmtWrites.stmt_at_mut.Goals as goal
+use Rattle.jr_paths.proofs.path_writes.UnitStmtPathWrites.stmt_at_mut.Goals as goal
 
 pub returns-in_err-member : goal.returns-in_err-member
 returns-in_err-member g c =

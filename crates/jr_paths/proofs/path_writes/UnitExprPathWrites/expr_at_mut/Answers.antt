@@ -9,7 +9,7 @@ use Rattle.jr_paths.proofs.Lending.{on_none, on_that, on_some_also}
 use Rattle.jr_paths.proofs.Halves.{joined, node_of_member, node_of_stmt, write_join, same_join}
 use Rattle.jr_paths.proofs.PathKinds.{unit_no_exp}
 use Rattle.jr_paths.proofs.Turning.{unit_inject, none_at_all, at_below, none_below, between}
-use Rattle.jr_paths.proofs.path_writes.UnitExprWrites.expr_at_mut.Goals as goal
+use Rattle.jr_paths.proofs.path_writes.UnitExprPathWrites.expr_at_mut.Goals as goal
 
 pub returns-in_err-member : goal.returns-in_err-member
 returns-in_err-member g c =
