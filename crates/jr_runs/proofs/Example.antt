@@ -1,6 +1,6 @@
 -- Two programs that are alike. Fields are truths, and the new program has the one where the old one has the other:
 -- `int m(int a) { int b = a + f; while (b < g) { synchronized (this) { b = m(b); f++; } } return b; }`, with f and g exchanged.
-use Rattle.std.proofs.Common.{◌≡◌, ◌<◌, ◌+◌, ℕ, Bool, true, false, not, [], ◌∷◌, Some, None, nat_eq, refl, ap, arith}
+use Rattle.std.proofs.Common.{inl, inr, ◌≡◌, ◌+◌, ℕ, Bool, true, false, not, [], ◌∷◌, Some, None, nat_eq, refl, ap, arith}
 use Rattle.jr_runs.specs.Keys.{Keys, keys_of}
 use Rattle.jr_runs.specs.Values.{int_type}
 use Rattle.jr_runs.specs.Actions.{FieldKind, plain, volatile}
@@ -8,7 +8,7 @@ use Rattle.jr_runs.specs.Rows.{Rows}
 use Rattle.jr_runs.specs.Core as core
 use Rattle.jr_runs.specs.Core.{add, less, arithmetic, comparison, post_increment, Exp, literal, this, read, assign, bump, binary, instance_call, Target, local, field_of, Exps, Stmt, declare, eval, branch, loop, return, block, sync, Stmts, Code, Method, written, Program}
 use Rattle.jr_runs.specs.KeyMaps.{KeyMap, Undoes}
-use Rattle.jr_runs.specs.Standing.{Standing, whole}
+use Rattle.jr_runs.specs.Standing.{IsFree, Standing, whole}
 use Rattle.jr_runs.specs.Images.{ExpTo, to_this, to_read, to_assign, to_bump, to_binary, to_instance_call, TargetTo, to_local, to_field_of, to_end, to_more, to_declare, to_eval, to_loop, to_return, to_block, to_sync, StmtsTo, to_no_more, to_list, CodeTo, SameRows}
 use Rattle.jr_runs.specs.Alike.{AlikeExactly}
 use Rattle.jr_runs.proofs.Renaming.{renamed_programs_are_alike}
@@ -98,10 +98,10 @@ old = program_of 100 true false kind_in_old
 abbrev new : Program J
 new = program_of 500 false true (λ f. kind_in_old (not f))
 
-abbrev no_change : Standing → Stmts J → Stmts J → Type 0
+abbrev no_change : Standing J → Stmts J → Stmts J → Type 0
 no_change s b b' = ⊥
 
-abbrev two_locals : Standing
+abbrev two_locals : Standing J
 two_locals = whole 2 (λ i. i)
 
 abbrev To : Exp J → Exp J → Type 0
@@ -112,7 +112,7 @@ StmtsImage b b' = StmtsTo exchanged (rows_with kind_in_old) no_change two_locals
 
 -- the parts of the new body for those of the old one; a step is one or more statements
 module _ (p q : ℕ) (f g : Bool) where
-  to_variable : (k n : ℕ) → n < 2 → To (variable (p + k) n) (variable (q + k) n)
+  to_variable : (k n : ℕ) → IsFree two_locals.code n → To (variable (p + k) n) (variable (q + k) n)
   to_variable k n h = to_read (Some (p + k)) (Some (q + k)) (local (Some (p + k)) n) (local (Some (q + k)) n) (to_local (Some (p + k)) (Some (q + k)) n h)
 
   to_mine : (k : ℕ) (d : Bool) → TargetTo exchanged (rows_with kind_in_old) two_locals.code (mine (p + k) d) (mine (q + k) (not d))
@@ -121,11 +121,11 @@ module _ (p q : ℕ) (f g : Bool) where
   to_field : (k : ℕ) (d : Bool) → To (read (Some (p + k)) (mine (p + k) d)) (read (Some (q + k)) (mine (q + k) (not d)))
   to_field k d = to_read (Some (p + k)) (Some (q + k)) (mine (p + k) d) (mine (q + k) (not d)) (to_mine k d)
 
-  below_0 : 0 < 2
-  below_0 = omega arith
+  below_0 : IsFree two_locals.code 0
+  below_0 = record { below = inr (inl refl); unknown = λ e. e }
 
-  below_1 : 1 < 2
-  below_1 = omega arith
+  below_1 : IsFree two_locals.code 1
+  below_1 = record { below = inl refl; unknown = λ e. e }
 
   to_call : To (called p) (called q)
   to_call = to_instance_call (Some (p + 12)) (Some (q + 12)) (this None) (this None) 0 (core.Exps.more (variable (p + 13) 1) core.Exps.end) (core.Exps.more (variable (q + 13) 1) core.Exps.end) refl
@@ -150,7 +150,7 @@ module _ (p q : ℕ) (f g : Bool) where
       (core.Stmts.more (return (Some (p + 15)) (variable (p + 16) 1)) core.Stmts.end) (core.Stmts.more (return (Some (q + 15)) (variable (q + 16) 1)) core.Stmts.end)
       (to_loop (Some (p + 4)) (Some (q + 4)) (condition p g) (condition q (not g)) (block (Some (p + 8)) [] (locked p f)) (block (Some (q + 8)) [] (locked q (not f)))
       (to_binary (Some (p + 5)) (Some (q + 5)) (comparison less) (variable (p + 6) 1) (variable (q + 6) 1) (read (Some (p + 7)) (mine (p + 7) g)) (read (Some (q + 7)) (mine (q + 7) (not g))) (to_variable 6 1 below_1) (to_field 7 g))
-      (to_block (Some (p + 8)) (Some (q + 8)) [] (locked p f) (locked q (not f)) tt to_locked))
+      (to_block (Some (p + 8)) (Some (q + 8)) [] [] (locked p f) (locked q (not f)) (record { all = λ i b g. g; only = λ i b g. g; others = λ j o g. g; known = λ i o g. g }) to_locked))
       (to_list (return (Some (p + 15)) (variable (p + 16) 1)) (return (Some (q + 15)) (variable (q + 16) 1)) core.Stmts.end core.Stmts.end (to_return (Some (p + 15)) (Some (q + 15)) (variable (p + 16) 1) (variable (q + 16) 1) (to_variable 16 1 below_1)) to_no_more)
 
   to_body : StmtsImage (body p f g) (body q (not f) (not g))

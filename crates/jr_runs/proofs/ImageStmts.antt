@@ -1,5 +1,5 @@
 -- The runs of a statement match those of its image, but for what changed statement lists owe.
-use Rattle.std.proofs.Common.{ℕ, ◌<◌, ◌⊎◌, inl, inr, List, map, Some, None, refl}
+use Rattle.std.proofs.Common.{ℕ, ◌⊎◌, inl, inr, List, Some, None, refl}
 use Rattle.jr_plans.specs.Plan.{done, act, call}
 use Rattle.jr_plans.specs.Follow.{CallBoth}
 use Rattle.jr_plans.proofs.BothWays.{both_done, both_act, both_call, both_and}
@@ -11,15 +11,16 @@ use Rattle.jr_runs.specs.Core as core
 use Rattle.jr_runs.specs.Core.{Exp, Stmt, Stmts}
 use Rattle.jr_runs.specs.Evaluation.{Flow, goes_on, returns, turn, Step, with_local, unset, non_null, on_truth, on_flow, leaving, exp, stmt, stmts}
 use Rattle.jr_runs.specs.KeyMaps.{value_image}
-use Rattle.jr_runs.specs.Standing.{Standing, Stands, SelfIs, Shifted}
+use Rattle.jr_runs.specs.Standing.{IsFree, Standing, Stands, Frame, Holding, Shifted}
 use Rattle.jr_runs.specs.Images.{ExpTo, StmtTo, to_declare, to_eval, to_branch, to_loop, to_return, to_return_nothing, to_block, to_sync, to_empty, StmtsTo, to_no_more, to_list, to_spot}
 use Rattle.jr_runs.specs.Pairs.{OutRel, ResultRel, FlowRel, Returns, SomeReturns, TurnTo}
-use Rattle.jr_runs.proofs.Locals.{shifted_write, shifted_unset}
+use Rattle.jr_runs.proofs.Locals.{shifted_write}
+use Rattle.jr_runs.proofs.Numbers.{shifted_unset}
 use Rattle.jr_runs.proofs.Matching.{Setting, Matches, match_next, match_value, match_truth, match_non_null, match_action, match_weaker}
 use Rattle.jr_runs.proofs.ImageExps.{exp_match}
 
 -- turns of loops that belong together are answered alike
-abbrev pub TurnsAnswered : {K : Keys} (g : Setting K) → (Standing → Stmts K → Stmts K → Type 0) → Type 0
+abbrev pub TurnsAnswered : {K : Keys} (g : Setting K) → (Standing K → Stmts K → Stmts K → Type 0) → Type 0
 TurnsAnswered {K = K} g Spot = (me : Value K) (c : Exp K) (b : Stmt K) (l : List (Value K)) (me' : Value K) (c' : Exp K) (b' : Stmt K) (l' : List (Value K)) (t : TurnTo g.keys g.old Spot me c b l me' c' b' l')
     → CallBoth g.more g.relation g.sides (OutRel (FlowRel g.keys (Shifted g.keys t.at t.frame) (Returns b))) (turn me c b l) (turn me' c' b' l')
 
@@ -34,7 +35,7 @@ module _ {K : Keys} (g : Setting K) where
   wider L M N i (thrown f) (value f') h = h
   wider L M N i (thrown f) (thrown f') h = h
 
-  module _ (s : Standing) (stands : Stands s) (frame : List (Value K)) (me me' : Value K) (im : SelfIs g.keys s.code.self frame me me') where
+  module _ (s : Standing K) (stands : Stands s) (frame : Frame K) (me me' : Value K) (im : Holding g.old g.keys s.code frame me me') where
     abbrev Shift : List (Value K) → List (Value K) → Type 0
     Shift l l' = Shifted g.keys s frame l l'
 
@@ -83,7 +84,7 @@ module _ {K : Keys} (g : Setting K) where
         (match_action g (FlowTo (SomeReturns b)) record { at = p; action = enter r.0 } record { at = p'; action = enter (value_image g.keys r.0) } (leaving q r.0 (stmts g.old me b r.1)) (leaving q' (value_image g.keys r.0) (stmts g.new me' b' r'.1)) refl
         (leaving_match (SomeReturns b) q q' r.0 (stmts g.old me b r.1) (stmts g.new me' b' r'.1) (f r.1 r'.1 i.1)))))
 
-    pub declare_match : (p q : At K) (n : ℕ) (e e' : Exp K) → n < s.code.size → ExpTo g.keys g.old s.code e e' → Follow ⊥ (stmt g.old me (core.declare p n e)) (stmt g.new me' (core.declare q (s.code.at n) e'))
+    pub declare_match : (p q : At K) (n : ℕ) (e e' : Exp K) → IsFree s.code n → ExpTo g.keys g.old s.code e e' → Follow ⊥ (stmt g.old me (core.declare p n e)) (stmt g.new me' (core.declare q (s.code.at n) e'))
     declare_match p q n e e' below d l l' h = match_next g Result (FlowTo ⊥) (exp g.old me e l) (exp g.new me' e' l') (λ r. done (value (goes_on (with_local r.1 n r.0)))) (λ r. done (value (goes_on (with_local r.1 (s.code.at n) r.0))))
         (exp_match g s stands frame me me' im e e' d l l' h)
         (λ r r' i. match_value g (FlowTo ⊥) (goes_on (with_local r.1 n r.0)) (goes_on (with_local r'.1 (s.code.at n) r'.0)) (shifted_write g.keys s stands frame r.1 r'.1 n r.0 r'.0 below i.0 i.1))
@@ -96,9 +97,9 @@ module _ {K : Keys} (g : Setting K) where
     return_match p q e e' d l l' h = match_next g Result (FlowTo (Unit {0})) (exp g.old me e l) (exp g.new me' e' l') (λ r. done (value (returns (Some r.0)))) (λ r. done (value (returns (Some r.0)))) (exp_match g s stands frame me me' im e e' d l l' h)
         (λ r r' i. match_value g (FlowTo (Unit {0})) (returns (Some r.0)) (returns (Some r'.0)) (i.0, tt))
 
-module _ {K : Keys} (g : Setting K) (Spot : Standing → Stmts K → Stmts K → Type 0) (turns : TurnsAnswered g Spot) where
+module _ {K : Keys} (g : Setting K) (Spot : Standing K → Stmts K → Stmts K → Type 0) (turns : TurnsAnswered g Spot) where
   -- a turn of a loop is a call that is answered
-  pub turn_match : (s : Standing) (stands : Stands s) (frame : List (Value K)) (me me' : Value K) (im : SelfIs g.keys s.code.self frame me me') (c c' : Exp K) (b b' : Stmt K) → ExpTo g.keys g.old s.code c c' → StmtTo g.keys g.old Spot s b b'
+  pub turn_match : (s : Standing K) (stands : Stands s) (frame : Frame K) (me me' : Value K) (im : Holding g.old g.keys s.code frame me me') (c c' : Exp K) (b b' : Stmt K) → ExpTo g.keys g.old s.code c c' → StmtTo g.keys g.old Spot s b b'
       → Follow g s stands frame me me' im (Returns b) (λ l. call (turn me c b l) (λ o. done o)) (λ l. call (turn me' c' b' l) (λ o. done o))
   turn_match s stands frame me me' im c c' b b' d t l l' h =
       let Q : Flow K → Flow K → Type 0 = FlowRel g.keys (Shifted g.keys s frame) (Returns b) in
@@ -108,10 +109,10 @@ module _ {K : Keys} (g : Setting K) (Spot : Standing → Stmts K → Stmts K →
 
   -- what the changed statement lists owe
   abbrev pub SpotsOwed : Type 0
-  SpotsOwed = (s : Standing) (stands : Stands s) (frame : List (Value K)) (me me' : Value K) (im : SelfIs g.keys s.code.self frame me me') (b b' : Stmts K) → Spot s b b'
+  SpotsOwed = (s : Standing K) (stands : Stands s) (frame : Frame K) (me me' : Value K) (im : Holding g.old g.keys s.code frame me me') (b b' : Stmts K) → Spot s b b'
       → (l l' : List (Value K)) → Shifted g.keys s frame l l' → Matches g (FlowRel g.keys (Shifted g.keys s frame) (SomeReturns b)) (stmts g.old me b l) (stmts g.new me' b' l')
 
-  module _ (spots : SpotsOwed) (s : Standing) (stands : Stands s) (frame : List (Value K)) (me me' : Value K) (im : SelfIs g.keys s.code.self frame me me') where
+  module _ (spots : SpotsOwed) (s : Standing K) (stands : Stands s) (frame : Frame K) (me me' : Value K) (im : Holding g.old g.keys s.code frame me me') where
     mutual
       pub stmt_match : (a a' : Stmt K) → StmtTo g.keys g.old Spot s a a' → (l l' : List (Value K)) → Shifted g.keys s frame l l' → Matches g (FlowRel g.keys (Shifted g.keys s frame) (Returns a)) (stmt g.old me a l) (stmt g.new me' a' l')
       stmt_match a a' (to_declare p q n e e' below d) l l' h = declare_match g s stands frame me me' im p q n e e' below d l l' h
@@ -120,7 +121,7 @@ module _ {K : Keys} (g : Setting K) (Spot : Standing → Stmts K → Stmts K →
       stmt_match a a' (to_loop p q c c' b b' d f) l l' h = turn_match s stands frame me me' im c c' b b' d f l l' h
       stmt_match a a' (to_return p q e e' d) l l' h = return_match g s stands frame me me' im p q e e' d l l' h
       stmt_match a a' (to_return_nothing p q) l l' h = match_value g (FlowRel g.keys (Shifted g.keys s frame) (Unit {0})) (returns None) (returns None) (tt, tt)
-      stmt_match a a' (to_block p q ns b b' below f) l l' h = stmts_match b b' f (unset ns l) (unset (map s.code.at ns) l') (shifted_unset g.keys s stands ns below frame l l' h)
+      stmt_match a a' (to_block p q ns ns' b b' d f) l l' h = stmts_match b b' f (unset ns l) (unset ns' l') (shifted_unset g.keys s ns ns' d frame l l' h)
       stmt_match a a' (to_sync p q p' q' e e' b b' d f) l l' h = sync_match g s stands frame me me' im p q p' q' e e' b b' d (λ m m' i. stmts_match b b' f m m' i) l l' h
       stmt_match a a' (to_empty p q) l l' h = match_value g (FlowRel g.keys (Shifted g.keys s frame) ⊥) (goes_on l) (goes_on l') h
 

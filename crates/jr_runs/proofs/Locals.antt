@@ -3,10 +3,13 @@ use Rattle.std.proofs.Common.{◌≡◌, ◌<◌, ◌≤◌, ℕ, zero, suc, Lis
 use Rattle.std.proofs.lemmas.Bool.{cases_eq, cases_lt}
 use Rattle.jr_runs.specs.Keys.{Keys}
 use Rattle.jr_runs.specs.Values.{Value, null}
-use Rattle.jr_runs.specs.Evaluation.{local_at, with_local, first_locals, unset}
+use Rattle.jr_runs.specs.Evaluation.{local_at, with_local, first_locals}
 use Rattle.jr_runs.specs.KeyMaps.{KeyMap, value_image}
-use Rattle.jr_runs.specs.Standing.{Standing, Stands, In, whole, Shifted}
-use Rattle.jr_runs.specs.Images.{NumbersBelow}
+use Rattle.jr_runs.specs.Standing.{upto, Standing, Stands, In, IsFree, Frame, no_frame, whole, Shifted}
+
+pub below_upto : (n i : ℕ) → In i (upto n) → i < n
+below_upto zero i h = absurd h
+below_upto (suc n) i h = ⊎_elim (λ (e : i ≡ n). omega (arith, e)) (λ g. let k : i < n = below_upto n i g in omega (arith, k)) h
 
 module _ {K : Keys} where
   pub written : (l : List (Value K)) (n : ℕ) (v : Value K) → local_at (with_local l n v) n ≡ v
@@ -25,18 +28,15 @@ module _ {K : Keys} where
   not_written (u ∷ l) (suc n) zero v h = refl
   not_written (u ∷ l) (suc n) (suc m) v h = not_written l n m v (λ e. h (ap suc e))
 
-  pub shifted_write : (r : KeyMap K) (s : Standing) → Stands s → (frame l l' : List (Value K)) (n : ℕ) (v v' : Value K) → n < s.code.size → v' ≡ value_image r v → Shifted r s frame l l' → Shifted r s frame (with_local l n v) (with_local l' (s.code.at n) v')
+  pub shifted_write : (r : KeyMap K) (s : Standing K) → Stands s → (frame : Frame K) (l l' : List (Value K)) (n : ℕ) (v v' : Value K) → IsFree s.code n → v' ≡ value_image r v → Shifted r s frame l l' → Shifted r s frame (with_local l n v) (with_local l' (s.code.at n) v')
   shifted_write r s stands frame l l' n v v' below e h = record {
     moved = λ i g. ⊎_elim
         (λ (d : i ≡ n). rw (d, written l' (s.code.at n) v', written l n v) e)
-        (λ (d : i ≡ n → ⊥). not_written l' (s.code.at n) (s.code.at i) v' (λ q. d (stands.injective i n g below q)) ∙ h.moved i g ∙ ap (value_image r) (sym (not_written l n i v d)))
+        (λ (d : i ≡ n → ⊥). not_written l' (s.code.at n) (s.code.at i) v' (λ q. d (stands.injective i n g below.below q)) ∙ h.moved i g ∙ ap (value_image r) (sym (not_written l n i v d)))
         (cases_eq i n);
-    others = λ j g. not_written l' (s.code.at n) j v' (λ q. stands.apart n below (subst (λ k. In k s.others) q g)) ∙ h.others j g;
+    others = λ j g. not_written l' (s.code.at n) j v' (λ q. stands.apart n below.below (subst (λ k. In k s.others) q g)) ∙ h.others j g;
+    known = λ i g. not_written l n i v (λ e. below.unknown (subst (λ k. In k s.code.known) e g)) ∙ h.known i g;
   }
-
-  pub shifted_unset : (r : KeyMap K) (s : Standing) → Stands s → (ns : List ℕ) → NumbersBelow s.code.size ns → (frame l l' : List (Value K)) → Shifted r s frame l l' → Shifted r s frame (unset ns l) (unset (map s.code.at ns) l')
-  shifted_unset r s stands [] b frame l l' h = h
-  shifted_unset r s stands (n ∷ ns) b frame l l' h = shifted_unset r s stands ns b.1 frame (with_local l n null) (with_local l' (s.code.at n) null) (shifted_write r s stands frame l l' n null null b.0 refl h)
 
   pub local_of_images : (r : KeyMap K) (l : List (Value K)) (i : ℕ) → local_at (map (value_image r) l) i ≡ value_image r (local_at l i)
   local_of_images r [] i = refl
@@ -59,13 +59,14 @@ module _ {K : Keys} where
 
   -- parameters start with the images of the arguments
   pub shifted_start : (r : KeyMap K) (size : ℕ) (f : ℕ → ℕ) (n : ℕ) → ((i j : ℕ) → i < size → j < size → f i ≡ f j → i ≡ j) → n ≤ size → ((i : ℕ) → i < n → f i ≡ i) → (l : List (Value K))
-      → Shifted r (whole size f) [] (first_locals n l) (first_locals n (map (value_image r) l))
+      → Shifted r (whole size f) no_frame (first_locals n l) (first_locals n (map (value_image r) l))
   shifted_start r size f n inj fewer stay l = record {
     moved = λ i below. ⊎_elim
         (λ (h : i < n). rw (stay i h, first_in n l i h) (first_in n (map (value_image r) l) i h ∙ local_of_images r l i))
-        (λ (h : n ≤ i). rw (first_out n l i h) (first_out n (map (value_image r) l) (f i) (beyond i below h)))
+        (λ (h : n ≤ i). rw (first_out n l i h) (first_out n (map (value_image r) l) (f i) (beyond i (below_upto size i below) h)))
         (cases_lt i n);
     others = λ j g. absurd g;
+    known = λ i g. absurd g;
   }
     where
       beyond : (i : ℕ) → i < size → n ≤ i → n ≤ f i

@@ -33,6 +33,6 @@ module _ {K : Keys} (r : KeyMap K) where
 -- No statement list is changed.
 pub renamed_programs_are_alike : {K : Keys} (r s : KeyMap K) → Undoes r s → Undoes s r → (P Q : Program K) → Renamed r P Q → AlikeExactly r P Q
 renamed_programs_are_alike {K = K} r s undoes there P Q h =
-    let NoSpot : Standing → Stmts K → Stmts K → Type 0 = λ a b b'. ⊥ in
+    let NoSpot : Standing K → Stmts K → Stmts K → Type 0 = λ a b b'. ⊥ in
     let c : Changes r s NoSpot 0 (Mapped r) P Q = record { there = there; joins = mapped_joins r; images = mapped_images r; programs = h } in
     alike r s undoes 0 (Mapped r) (λ u t. u ≡ t) (λ t u e. e) P Q h.rows.field_kind (starts_match r NoSpot 0 (Mapped r) P Q (programs_match r s NoSpot 0 (Mapped r) P Q c (λ Z t answered a stands frame me me' im b b' none. absurd none)))

@@ -1,5 +1,5 @@
 -- The runs of a well-typed statement match those of its image, where the changed statement lists may use types.
-use Rattle.std.proofs.Common.{◌≡◌, ◌⊎◌, inl, inr, ⊎_elim, ℕ, List, map, Option, Some, None, refl}
+use Rattle.std.proofs.Common.{◌≡◌, ◌⊎◌, inl, inr, ⊎_elim, ℕ, List, Option, Some, None, refl}
 use Rattle.jr_plans.specs.Plan.{done, act, call}
 use Rattle.jr_plans.specs.Follow.{Sides, CallBoth}
 use Rattle.jr_plans.proofs.BothWays.{both_done, both_call}
@@ -10,13 +10,13 @@ use Rattle.jr_runs.specs.Arithmetic.{Out, value}
 use Rattle.jr_runs.specs.Core.{Exp, Stmt, Stmts}
 use Rattle.jr_runs.specs.Evaluation.{Flow, goes_on, returns, Call, turn, Step, next, unset, non_null, on_truth, on_flow, leaving, exp, stmt, stmts}
 use Rattle.jr_runs.specs.KeyMaps.{value_image}
-use Rattle.jr_runs.specs.Standing.{Standing, Stands, SelfIs, Shifted}
+use Rattle.jr_runs.specs.Standing.{Standing, Stands, Frame, Holding, Shifted}
 use Rattle.jr_runs.specs.Starting.{IsReceiver}
 use Rattle.jr_runs.specs.Images.{ExpTo, StmtTo, to_declare, to_eval, to_branch, to_loop, to_return, to_return_nothing, to_block, to_sync, to_empty, StmtsTo, to_no_more, to_list, to_spot}
 use Rattle.jr_runs.specs.Pairs.{OutRel, ResultRel, FlowRel, Returns, SomeReturns, TurnTo}
 use Rattle.jr_runs.specs.Typing.{HasType, MayComplete, StmtTyped, StmtsTyped, SoundRows}
 use Rattle.jr_runs.specs.TypedRuns.{LocalsFit, FlowFits, TurnTyped}
-use Rattle.jr_runs.proofs.Locals.{shifted_unset}
+use Rattle.jr_runs.proofs.Numbers.{shifted_unset}
 use Rattle.jr_runs.proofs.Matching.{Setting, Matches, match_next, match_value, match_truth, match_non_null, match_action, match_weaker}
 use Rattle.jr_runs.proofs.ImageExps.{exp_match}
 use Rattle.jr_runs.proofs.ImageStmts.{wider, declare_match, eval_match, return_match, leaving_match}
@@ -27,19 +27,19 @@ use Rattle.jr_runs.proofs.TypedStmts.{behind_fits, stmt_well}
 use Rattle.jr_runs.proofs.TypedMatching.{narrow, known}
 
 -- turns of loops that belong together, and are well typed, are answered alike
-abbrev pub TypedTurnsAnswered : {K : Keys} (g : Setting K) → (Standing → Stmts K → Stmts K → Type 0) → Type 0
+abbrev pub TypedTurnsAnswered : {K : Keys} (g : Setting K) → (Standing K → Stmts K → Stmts K → Type 0) → Type 0
 TypedTurnsAnswered {K = K} g Spot = (me : Value K) (c : Exp K) (b : Stmt K) (l : List (Value K)) (me' : Value K) (c' : Exp K) (b' : Stmt K) (l' : List (Value K)) (t : TurnTo g.keys g.old Spot me c b l me' c' b' l') → TurnTyped g.old me c b l → TurnTyped g.new me' c' b' l'
     → CallBoth g.more g.relation g.sides (OutRel (FlowRel g.keys (Shifted g.keys t.at t.frame) (Returns b))) (turn me c b l) (turn me' c' b' l')
 
 -- what the changed statement lists owe, where old and new ones are well typed
-abbrev pub TypedSpotsOwed : {K : Keys} (g : Setting K) → (Standing → Stmts K → Stmts K → Type 0) → Type 0
-TypedSpotsOwed {K = K} g Spot = (s : Standing) (stands : Stands s) (frame : List (Value K)) (me me' : Value K) (im : SelfIs g.keys s.code.self frame me me') (C : Option K.class) → IsReceiver g.old C me → (T : Option (Ty K)) (C' : Option K.class) → IsReceiver g.new C' me' → (T' : Option (Ty K))
+abbrev pub TypedSpotsOwed : {K : Keys} (g : Setting K) → (Standing K → Stmts K → Stmts K → Type 0) → Type 0
+TypedSpotsOwed {K = K} g Spot = (s : Standing K) (stands : Stands s) (frame : Frame K) (me me' : Value K) (im : Holding g.old g.keys s.code frame me me') (C : Option K.class) → IsReceiver g.old C me → (T : Option (Ty K)) (C' : Option K.class) → IsReceiver g.new C' me' → (T' : Option (Ty K))
     → (b b' : Stmts K) → Spot s b b' → (G G' : List (ℕ × Ty K)) → StmtsTyped g.old G C T b → StmtsTyped g.new G' C' T' b' → (l l' : List (Value K)) → Shifted g.keys s frame l l' → LocalsFit g.old G l → LocalsFit g.new G' l'
     → Matches g (FlowRel g.keys (Shifted g.keys s frame) (SomeReturns b)) (stmts g.old me b l) (stmts g.new me' b' l')
 
 module _ {K : Keys} (g : Setting K) (Z : Sides (Event K) (Call K) (Out (Flow K)) (Call K) (Out (Flow K))) (is_narrow : g.sides ≡ narrow g Z) (sound : SoundRows g.old) (sound' : SoundRows g.new)
-    (Spot : Standing → Stmts K → Stmts K → Type 0) (turns : TypedTurnsAnswered g Spot) (spots : TypedSpotsOwed g Spot)
-    (s : Standing) (stands : Stands s) (frame : List (Value K)) (me me' : Value K) (im : SelfIs g.keys s.code.self frame me me')
+    (Spot : Standing K → Stmts K → Stmts K → Type 0) (turns : TypedTurnsAnswered g Spot) (spots : TypedSpotsOwed g Spot)
+    (s : Standing K) (stands : Stands s) (frame : Frame K) (me me' : Value K) (im : Holding g.old g.keys s.code frame me me')
     (C : Option K.class) (receiver : IsReceiver g.old C me) (T : Option (Ty K)) (C' : Option K.class) (receiver' : IsReceiver g.new C' me') (T' : Option (Ty K)) where
   abbrev Shift : List (Value K) → List (Value K) → Type 0
   Shift l l' = Shifted g.keys s frame l l'
@@ -84,8 +84,8 @@ module _ {K : Keys} (g : Setting K) (Z : Sides (Event K) (Call K) (Out (Flow K))
     stmt_known a a' (to_return_nothing p q) G G' D D' t t' l l' h f f' = match_value g (FlowTo (Unit {0})) (returns None) (returns None) (tt, tt)
     stmt_known a a' (to_empty p q) G G' D D' t t' l l' h f f' = match_value g (FlowTo ⊥) (goes_on l) (goes_on l') h
     stmt_known a a' (to_loop p q c c' b b' d x) G G' D D' t t' l l' h f f' = turn_known c c' b b' d x G G' t.0 t'.0 t.1 t'.1 t.2 t'.2 l l' h f f'
-    stmt_known a a' (to_block p q ns b b' below x) G G' D D' t t' l l' h f f' =
-        stmts_known b b' x G G' t.1 t'.1 (unset ns l) (unset (map s.code.at ns) l') (shifted_unset g.keys s stands ns below frame l l' h) (locals_unset g.old G ns l t.0 f) (locals_unset g.new G' (map s.code.at ns) l' t'.0 f')
+    stmt_known a a' (to_block p q ns ns' b b' d x) G G' D D' t t' l l' h f f' =
+        stmts_known b b' x G G' t.1 t'.1 (unset ns l) (unset ns' l') (shifted_unset g.keys s ns ns' d frame l l' h) (locals_unset g.old G ns l t.0 f) (locals_unset g.new G' ns' l' t'.0 f')
     stmt_known a a' (to_branch p q c c' x x' y y' d i j) G G' D D' t t' l l' h f f' =
         match_next g (λ v w. Result v w × Typed g.old G (Some boolean_type) v × Typed g.new G' (Some boolean_type) w) (FlowTo (Returns x ⊎ Returns y)) (exp g.old me c l) (exp g.new me' c' l')
         (λ r. on_truth r.0 (stmt g.old me x r.1) (stmt g.old me y r.1)) (λ r. on_truth r.0 (stmt g.new me' x' r.1) (stmt g.new me' y' r.1))

@@ -1,5 +1,5 @@
 -- Which calls of the old and of the new program belong together, and how their answers do.
-use Rattle.std.specs.Prelude.{◌≡◌, ◌<◌, ◌⊎◌, List, map, Option, Some, None, IsTrue}
+use Rattle.std.specs.Prelude.{◌≡◌, ◌⊎◌, List, map, Option, Some, None, IsTrue}
 use Rattle.jr_runs.specs.Keys.{Keys}
 use Rattle.jr_runs.specs.Values.{Value}
 use Rattle.jr_runs.specs.Rows.{Rows}
@@ -10,7 +10,7 @@ use Rattle.jr_runs.specs.Core.{block, sync, empty, Stmts}
 use Rattle.jr_runs.specs.Evaluation.{Flow, goes_on, returns, Call, invoke, construct, turn, Slot}
 use Rattle.jr_runs.specs.Evaluation.{in_local, in_static, in_object}
 use Rattle.jr_runs.specs.KeyMaps.{KeyMap, value_image}
-use Rattle.jr_runs.specs.Standing.{Standing, Stands, SelfIs, Shifted}
+use Rattle.jr_runs.specs.Standing.{Standing, Stands, IsFree, Frame, Holding, Shifted}
 use Rattle.jr_runs.specs.Images.{ExpTo, StmtTo}
 
 -- both have a value, of which Q holds, or both throw the same
@@ -24,18 +24,18 @@ abbrev pub ImageOf : {K : Keys} → KeyMap K → Value K → Value K → Type 0
 ImageOf r v v' = v' ≡ value_image r v
 
 -- a value, and the locals behind it
-abbrev pub ResultRel : {K : Keys} → KeyMap K → Standing → List (Value K)
+abbrev pub ResultRel : {K : Keys} → KeyMap K → Standing K → Frame K
     → Value K × List (Value K) → Value K
     × List (Value K) → Type 0
 ResultRel r s frame a b = ImageOf r a.0 b.0 × Shifted r s frame a.1 b.1
 
-abbrev pub ListRel : {K : Keys} → KeyMap K → Standing → List (Value K)
+abbrev pub ListRel : {K : Keys} → KeyMap K → Standing K → Frame K
     → List (Value K) × List (Value K)
     → List (Value K) × List (Value K) → Type 0
 ListRel r s frame a b = (b.0 ≡ map (value_image r) a.0) × Shifted r s frame a.1 b.1
 
-abbrev pub SlotImage : {K : Keys} → KeyMap K → Standing → Slot K → Slot K → Type 0
-SlotImage r s (in_local n) (in_local m) = (n < s.code.size) × (m ≡ s.code.at n)
+abbrev pub SlotImage : {K : Keys} → KeyMap K → Standing K → Slot K → Slot K → Type 0
+SlotImage r s (in_local n) (in_local m) = IsFree s.code n × (m ≡ s.code.at n)
 SlotImage r s (in_static p f) (in_static q g) = g ≡ r.field f
 SlotImage r s (in_object p o f) (in_object q o' g) = ImageOf r o o' × (g ≡ r.field f)
 SlotImage r s (in_local n) (in_static q g) = ⊥
@@ -45,7 +45,7 @@ SlotImage r s (in_static p f) (in_object q o' g) = ⊥
 SlotImage r s (in_object p o f) (in_local m) = ⊥
 SlotImage r s (in_object p o f) (in_static q g) = ⊥
 
-abbrev pub SlotRel : {K : Keys} → KeyMap K → Standing → List (Value K)
+abbrev pub SlotRel : {K : Keys} → KeyMap K → Standing K → Frame K
     → Slot K × List (Value K) → Slot K
     × List (Value K) → Type 0
 SlotRel r s frame a b = SlotImage r s a.0 b.0 × Shifted r s frame a.1 b.1
@@ -91,18 +91,18 @@ abbrev mutual
   SomeReturns (core.Stmts.more a b) = Returns a ⊎ SomeReturns b
 
 -- a turn of a loop, and the turn of the new loop for it
-pub record TurnTo {K : Keys} (r : KeyMap K) (R : Rows K) (Spot : Standing → Stmts K → Stmts K
+pub record TurnTo {K : Keys} (r : KeyMap K) (R : Rows K) (Spot : Standing K → Stmts K → Stmts K
     → Type 0) (me : Value K) (c : Exp K) (b : Stmt K) (l : List (Value K)) (me' : Value K)
     (c' : Exp K) (b' : Stmt K) (l' : List (Value K)) : Type 0 where
-  pub at : Standing
+  pub at : Standing K
   pub stands : Stands at
-  pub frame : List (Value K)
-  pub self : SelfIs r at.code.self frame me me'
+  pub frame : Frame K
+  pub self : Holding R r at.code frame me me'
   pub condition : ExpTo r R at.code c c'
   pub body : StmtTo r R Spot at b b'
   pub locals : Shifted r at frame l l'
 
-abbrev pub Pair : {K : Keys} → KeyMap K → Rows K → (Standing → Stmts K → Stmts K → Type 0) → Call K
+abbrev pub Pair : {K : Keys} → KeyMap K → Rows K → (Standing K → Stmts K → Stmts K → Type 0) → Call K
     → Call K → Type 0
 Pair r R Spot (invoke m me args) (invoke m' me' args') = IsTrue (R.has_method m) × (m' ≡ r.method m)
     × (me' ≡ value_image r me) × (args' ≡ map (value_image r) args)
@@ -116,7 +116,7 @@ Pair r R Spot (construct k me args) (turn me' c' b' l') = ⊥
 Pair r R Spot (turn me c b l) (invoke m' me' args') = ⊥
 Pair r R Spot (turn me c b l) (construct k' me' args') = ⊥
 
-abbrev pub Post : {K : Keys} → (r : KeyMap K) (R : Rows K) (Spot : Standing → Stmts K → Stmts K
+abbrev pub Post : {K : Keys} → (r : KeyMap K) (R : Rows K) (Spot : Standing K → Stmts K → Stmts K
     → Type 0) (c c' : Call K) → Pair r R Spot c c' → Out (Flow K) → Out (Flow K) → Type 0
 Post r R Spot (invoke m me args) (invoke m' me' args') pair = AnswerRel r
 Post r R Spot (construct k me args) (construct k' me' args') pair = AnswerRel r
