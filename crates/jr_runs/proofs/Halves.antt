@@ -48,12 +48,14 @@ module _ {K : Keys} where
 
   ending_rel : (r : KeyMap K) (o o' : Out (Flow K)) → AnswerRel r o o' → ending_of o' ≡ ending_image r (ending_of o)
   ending_rel r (value (goes_on l)) (value (goes_on l')) h = refl
-  ending_rel r (value (returns (Some v))) (value (returns (Some v'))) h = rw h.0 refl
+  ending_rel r (value (returns (Some v))) (value (returns (Some v'))) h = rw h refl
   ending_rel r (value (returns None)) (value (returns None)) h = refl
-  ending_rel r (value (returns (Some v))) (value (returns None)) h = absurd h.0
-  ending_rel r (value (returns None)) (value (returns (Some v))) h = absurd h.0
-  ending_rel r (value (goes_on l)) (value (returns v')) h = absurd h
-  ending_rel r (value (returns v)) (value (goes_on l')) h = absurd h
+  ending_rel r (value (returns (Some v))) (value (returns None)) h = absurd h
+  ending_rel r (value (returns None)) (value (returns (Some v))) h = absurd h
+  ending_rel r (value (goes_on l)) (value (returns (Some v'))) h = absurd h
+  ending_rel r (value (returns (Some v))) (value (goes_on l')) h = absurd h
+  ending_rel r (value (goes_on l)) (value (returns None)) h = refl
+  ending_rel r (value (returns None)) (value (goes_on l')) h = refl
   ending_rel r (value f) (thrown g) h = absurd h
   ending_rel r (thrown f) (value g) h = absurd h
   ending_rel r (thrown f) (thrown g) h = rw h refl

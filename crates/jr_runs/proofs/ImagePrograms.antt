@@ -13,7 +13,7 @@ use Rattle.jr_runs.specs.Evaluation.{Flow, goes_on, returns, Call, invoke, const
 use Rattle.jr_runs.specs.KeyMaps.{KeyMap, Undoes, value_image, action_image}
 use Rattle.jr_runs.specs.Standing.{no_frame, Standing, Stands, whole, Shifted}
 use Rattle.jr_runs.specs.Images.{CodeTo, MethodTo, ProgramTo}
-use Rattle.jr_runs.specs.Pairs.{OutRel, ResultRel, FlowRel, Unseen, AnswerRel, Returns, SomeReturns, TurnTo, Pair, Post}
+use Rattle.jr_runs.specs.Pairs.{OutRel, ResultRel, GivenImage, given_of, FlowRel, AnswerRel, Returns, SomeReturns, TurnTo, Pair, Post}
 use Rattle.jr_runs.proofs.Locals.{below_upto, shifted_start}
 use Rattle.jr_runs.proofs.ImageValues.{is_truth_image}
 use Rattle.jr_runs.proofs.Matching.{Setting, Matches, match_next, match_value, match_thrown, match_truth, match_answers}
@@ -24,18 +24,21 @@ module _ {K : Keys} (g : Setting K) where
   -- a caller doesn't see the locals
   pub unseen : (L : List (Value K) → List (Value K) → Type 0) (M : Type 0) (o o' : Out (Flow K)) → OutRel (FlowRel g.keys L M) o o' → AnswerRel g.keys o o'
   unseen L M (value (goes_on l)) (value (goes_on l')) h = tt
-  unseen L M (value (returns v)) (value (returns v')) h = (h.0, tt)
-  unseen L M (value (goes_on l)) (value (returns v')) h = h
-  unseen L M (value (returns v)) (value (goes_on l')) h = h
+  unseen L M (value (returns v)) (value (returns v')) h = h.0
+  unseen L M (value (goes_on l)) (value (returns v')) h = absurd h
+  unseen L M (value (returns v)) (value (goes_on l')) h = absurd h
   unseen L M (value f) (thrown f') h = h
   unseen L M (thrown f) (value f') h = h
   unseen L M (thrown f) (thrown f') h = h
 
+  abbrev Given : Flow K → Flow K → Type 0
+  Given f f' = GivenImage g.keys (given_of f) (given_of f')
+
   pub start_match : (me : Value K) → Both g.more g.relation g.sides (AnswerRel g.keys) (run_start me) (run_start (value_image g.keys me))
-  start_match me = match_answers g (FlowRel g.keys Unseen (Unit {0})) is_truth is_truth (λ v. record { at = None; action = start me v }) (λ v. record { at = None; action = start (value_image g.keys me) v })
+  start_match me = match_answers g Given is_truth is_truth (λ v. record { at = None; action = start me v }) (λ v. record { at = None; action = start (value_image g.keys me) v })
       (λ v. on_truth v (done (thrown started_before)) (done (value (returns None)))) (λ v. on_truth v (done (thrown started_before)) (done (value (returns None)))) (is_truth_image g.keys) (λ v. refl)
-      (λ v. match_truth g (FlowRel g.keys Unseen (Unit {0})) v (done (thrown started_before)) (done (value (returns None))) (done (thrown started_before)) (done (value (returns None)))
-      (match_thrown g (FlowRel g.keys Unseen (Unit {0})) started_before) (match_value g (FlowRel g.keys Unseen (Unit {0})) (returns None) (returns None) (tt, tt)))
+      (λ v. match_truth g Given v (done (thrown started_before)) (done (value (returns None))) (done (thrown started_before)) (done (value (returns None)))
+      (match_thrown g Given started_before) (match_value g Given (returns None) (returns None) tt))
 
 module _ {K : Keys} (g : Setting K) (Spot : Standing K → Stmts K → Stmts K → Type 0) (turns : TurnsAnswered g Spot) (spots : SpotsOwed g Spot turns) where
   abbrev Answers : Step K (Flow K) → Step K (Flow K) → Type 0

@@ -109,13 +109,15 @@ module _ {K : Keys} (r : KeyMap K) (s : Standing K) (frame : Frame K) where
   with_rel l l' (thrown f) (value v') h g = absurd h
 
   pub answer_rel : (l l' : List (Value K)) (o o' : Out (Flow K)) → AnswerRel r o o' → Shifted r s frame l l' → OutRel (ResultRel r s frame) (answer l o) (answer l' o')
-  answer_rel l l' (value (returns (Some v))) (value (returns (Some v'))) h g = (h.0, g)
+  answer_rel l l' (value (returns (Some v))) (value (returns (Some v'))) h g = (h, g)
   answer_rel l l' (value (returns None)) (value (returns None)) h g = (refl, g)
-  answer_rel l l' (value (returns (Some v))) (value (returns None)) h g = absurd h.0
-  answer_rel l l' (value (returns None)) (value (returns (Some v))) h g = absurd h.0
+  answer_rel l l' (value (returns (Some v))) (value (returns None)) h g = absurd h
+  answer_rel l l' (value (returns None)) (value (returns (Some v))) h g = absurd h
   answer_rel l l' (value (goes_on m)) (value (goes_on m')) h g = (refl, g)
-  answer_rel l l' (value (returns v)) (value (goes_on m)) h g = absurd h
-  answer_rel l l' (value (goes_on m)) (value (returns v)) h g = absurd h
+  answer_rel l l' (value (returns (Some v))) (value (goes_on m)) h g = absurd h
+  answer_rel l l' (value (goes_on m)) (value (returns (Some v))) h g = absurd h
+  answer_rel l l' (value (returns None)) (value (goes_on m)) h g = (refl, g)
+  answer_rel l l' (value (goes_on m)) (value (returns None)) h g = (refl, g)
   answer_rel l l' (thrown f) (thrown f') h g = h
   answer_rel l l' (value f) (thrown f') h g = absurd h
   answer_rel l l' (thrown f) (value f') h g = absurd h

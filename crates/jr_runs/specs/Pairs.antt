@@ -65,13 +65,16 @@ FlowRel r L M (returns v) (returns v') = GivenImage r v v' × M
 FlowRel r L M (goes_on l) (returns v) = ⊥
 FlowRel r L M (returns v) (goes_on l) = ⊥
 
--- A caller doesn't see the locals of what it called.
-abbrev pub Unseen : {K : Keys} → List (Value K) → List (Value K) → Type 0
-Unseen l l' = Unit {0}
+-- what a caller gets: nothing where a body goes on to its end, as where it returns nothing
+abbrev pub given_of : {K : Keys} → Flow K → Option (Value K)
+given_of (goes_on l) = None
+given_of (returns v) = v
 
--- how the outcomes of two runs of one method belong together
+-- How the outcomes of two runs of one method belong together: a caller sees what it is given, and
+-- neither the locals of what it called nor whether a body without a value returned or went on.
 abbrev pub AnswerRel : {K : Keys} → KeyMap K → Out (Flow K) → Out (Flow K) → Type 0
-AnswerRel {K = K} r o o' = OutRel (FlowRel r (Unseen {K = K}) (Unit {0})) o o'
+AnswerRel {K = K} r o o' =
+    OutRel (λ (f : Flow K) (f' : Flow K). GivenImage r (given_of f) (given_of f')) o o'
 
 -- it may return
 abbrev mutual
