@@ -14,7 +14,7 @@ use Rattle.jr_runs.specs.Evaluation.{Flow, goes_on, returns, Call, table}
 use Rattle.jr_runs.specs.Running.{Start, of_method, of_constructor, call_of, actions_of, Ending, ending_of, Whole, Bounded}
 use Rattle.jr_runs.specs.Starting.{IsStart}
 use Rattle.jr_runs.specs.KeyMaps.{KeyMap, Undoes, trace_image, start_image, ending_image}
-use Rattle.jr_runs.specs.Standing.{Standing}
+use Rattle.jr_runs.specs.Images.{Spots}
 use Rattle.jr_runs.specs.Alike.{Alike}
 use Rattle.jr_runs.specs.Pairs.{AnswerRel, Pair, Post}
 
@@ -127,7 +127,7 @@ module _ {K : Keys} (r s : KeyMap K) (undoes : Undoes r s) (n : ℕ) (W : List (
   }
 
 -- by calls that match, wherever they are made
-pub starts_match : {K : Keys} (r : KeyMap K) (Spot : Standing K → Stmts K → Stmts K → Type 0) (n : ℕ) (W : List (Event K) → List (Event K) → Type 0) (P Q : Program K)
+pub starts_match : {K : Keys} (r : KeyMap K) (Spot : Spots K) (n : ℕ) (W : List (Event K) → List (Event K) → Type 0) (P Q : Program K)
     → ((fuel : ℕ) → AnsweredBoth n W (Pair r P.rows Spot) (Post r P.rows Spot) (sides_at (table P) (table Q) fuel))
     → (c : Start K) → IsStart P.rows c → (fuel : ℕ) → CallBoth n W (sides_at (table P) (table Q) fuel) (AnswerRel r) (call_of c) (call_of (start_image r c))
 starts_match r Spot n W P Q match (of_method m me args) i fuel = match fuel (call_of (of_method m me args)) (call_of (start_image r (of_method m me args))) (i.0, refl, refl, refl)

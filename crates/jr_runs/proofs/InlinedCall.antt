@@ -16,7 +16,8 @@ use Rattle.jr_runs.specs.Core as core
 use Rattle.jr_runs.specs.Core.{Exp, static_call, Stmt, declare, eval, block, Stmts, Code, Method, written, Program}
 use Rattle.jr_runs.specs.Evaluation.{Flow, goes_on, returns, Call, invoke, Step, on_value, next, local_at, with_local, first_locals, unset, answer, exp, on_flow, stmts, run_method, table}
 use Rattle.jr_runs.specs.KeyMaps.{Undoes, same_keys, value_image}
-use Rattle.jr_runs.specs.Standing.{upto, Self, itself, held, nobody, Standing, In, SelfIn, HeldIn, CastIn, Stands, Frame, SelfIs, AllHold, AllHoldAs, Holding, Shifted}
+use Rattle.jr_runs.specs.Standing.{upto, Self, itself, held, nobody, unused, Standing, In, SelfIn, HeldIn, CastIn, Stands, Frame, SelfIs, AllHold, AllHoldAs, Holding, Shifted}
+use Rattle.jr_runs.specs.Sets.{NumberSet, everything}
 use Rattle.jr_runs.specs.Images.{NoSpot, ExpTo, StmtsTo, ProgramTo}
 use Rattle.jr_runs.specs.Pairs.{OutRel, ResultRel, FlowRel, SomeReturns, Pair, Post}
 use Rattle.jr_runs.specs.Alike.{AlikeExactly}
@@ -45,7 +46,7 @@ unfold_at : {V E S R : Type 0} (table : S → Plan V E S R R) (X : World E S R) 
 unfold_at table X f c = record { ends = λ t r h. f.ends c t r h; begins = λ t h. f.begins c t h }
 
 -- `m(arg);` becomes `{ T p = arg; body }`, and what stands behind it is kept
-pub record InlinesCall {K : Keys} (P : Program K) (s : Standing K) (old new : Stmts K) : Type 0 where
+pub record InlinesCall {K : Keys} (P : Program K) (s : Standing K) (A : NumberSet) (old new : Stmts K) (B : NumberSet) : Type 0 where
   pub method : K.method
   pub has : IsTrue (P.rows.has_method method)
   pub code : Code K
@@ -61,12 +62,15 @@ pub record InlinesCall {K : Keys} (P : Program K) (s : Standing K) (old new : St
   pub no_return : SomeReturns code.body → ⊥
   pub arg : Exp K
   pub new_arg : Exp K
-  pub arg_to : ExpTo same_keys P.rows s.code arg new_arg
+  -- behind the argument, and so behind the block
+  pub between : NumberSet
+  pub arg_to : ExpTo same_keys P.rows s.code A arg new_arg between
+  pub body_behind : NumberSet
   pub new_body : Stmts K
-  pub body_to : StmtsTo same_keys P.rows NoSpot record { code = record { mine = upto size; at = at; self = nobody; known = []; holds = []; casts = [] }; others = map s.code.at s.code.mine ++ s.others } code.body new_body
+  pub body_to : StmtsTo same_keys P.rows NoSpot record { code = record { mine = upto size; at = at; self = nobody; known = []; holds = []; casts = [] }; others = map s.code.at s.code.mine ++ s.others } everything code.body new_body body_behind
   pub rest : Stmts K
   pub new_rest : Stmts K
-  pub rest_to : StmtsTo same_keys P.rows NoSpot s rest new_rest
+  pub rest_to : StmtsTo same_keys P.rows NoSpot s between rest new_rest B
   pub eval_at : At K
   pub call_at : At K
   pub block_at : At K
@@ -79,7 +83,7 @@ same_undoes = record { class = λ k. refl; field = λ k. refl; method = λ k. re
 
 module _ {K : Keys} (P Q : Program K) (c : Changes same_keys same_keys (InlinesCall P) 0 (Mapped same_keys) P Q) (Z : Sides (Event K) (Call K) (Out (Flow K)) (Call K) (Out (Flow K))) (tables : Tables (table P) (table Q) Z)
     (answered : AnsweredBoth 0 (Mapped same_keys) (Pair same_keys P.rows (InlinesCall P)) (Post same_keys P.rows (InlinesCall P)) Z)
-    (s : Standing K) (st : Stands s) (frame : Frame K) (me me' : Value K) (im : Holding P.rows same_keys s.code frame me me') (old new : Stmts K) (x : InlinesCall P s old new) (l l' : List (Value K)) (h : Shifted same_keys s frame l l') where
+    (s : Standing K) (st : Stands s) (frame : Frame K) (me me' : Value K) (im : Holding P.rows same_keys s.code frame me me') (A : NumberSet) (old new : Stmts K) (B : NumberSet) (x : InlinesCall P s A old new B) (l l' : List (Value K)) (h : Shifted same_keys s frame A l l') where
   abbrev g : Setting K
   g = setting same_keys same_keys (InlinesCall P) 0 (Mapped same_keys) P Q c Z answered
 
@@ -128,9 +132,9 @@ module _ {K : Keys} (P Q : Program K) (c : Changes same_keys same_keys (InlinesC
     cast = cast_more s.code.casts st.cast;
   }
 
-  caller_shifted : Shifted same_keys caller start_frame l start
+  caller_shifted : Shifted same_keys caller start_frame A l start
   caller_shifted = record {
-    moved = λ i b. unset_other numbers l' (s.code.at i) (λ e. not_number i b e) ∙ h.moved i b;
+    moved = λ i b a. unset_other numbers l' (s.code.at i) (λ e. not_number i b e) ∙ h.moved i b a;
     others = λ j e. refl;
     known = h.known;
   }
@@ -139,6 +143,7 @@ module _ {K : Keys} (P Q : Program K) (c : Changes same_keys same_keys (InlinesC
   caller_self itself k q = q
   caller_self (held n) k q = still n k ∙ q
   caller_self nobody k q = q
+  caller_self unused k q = q
 
   caller_holds : (hs : List (Exp K × ℕ)) → HeldIn hs s.others → AllHold P.rows same_keys s.code.known frame me hs → AllHold P.rows same_keys s.code.known start_frame me hs
   caller_holds [] k q = tt
@@ -166,8 +171,8 @@ module _ {K : Keys} (P Q : Program K) (c : Changes same_keys same_keys (InlinesC
     cast = tt;
   }
 
-  inner_shifted : (a a' : Value K × List (Value K)) → ResultRel same_keys caller start_frame a a' → Shifted same_keys inner (record { here = []; there = with_local a'.1 (x.at 0) a'.0 }) (a.0 ∷ []) (with_local a'.1 (x.at 0) a'.0)
-  inner_shifted a a' q = record { moved = at_place; others = λ j e. refl; known = λ i k. absurd k }
+  inner_shifted : (a a' : Value K × List (Value K)) → ResultRel same_keys caller start_frame x.between a a' → Shifted same_keys inner (record { here = []; there = with_local a'.1 (x.at 0) a'.0 }) everything (a.0 ∷ []) (with_local a'.1 (x.at 0) a'.0)
+  inner_shifted a a' q = record { moved = λ i b k. at_place i b; others = λ j e. refl; known = λ i k. absurd k }
     where
       not_zero : (i : ℕ) → suc i ≡ 0 → ⊥
       not_zero i e = omega (arith, e)
@@ -180,10 +185,10 @@ module _ {K : Keys} (P Q : Program K) (c : Changes same_keys same_keys (InlinesC
           ∙ unset_null numbers l' (x.at (suc i)) (number_in (suc i) (upto_in x.size (suc i) b))
 
   -- behind the block the caller's locals are as they should be
-  back_shifted : (a a' : Value K × List (Value K)) → ResultRel same_keys caller start_frame a a' → (m m' : List (Value K)) → Shifted same_keys inner (record { here = []; there = with_local a'.1 (x.at 0) a'.0 }) m m' → Shifted same_keys s frame a.1 m'
+  back_shifted : (a a' : Value K × List (Value K)) → ResultRel same_keys caller start_frame x.between a a' → (m m' : List (Value K)) → Shifted same_keys inner (record { here = []; there = with_local a'.1 (x.at 0) a'.0 }) x.body_behind m m' → Shifted same_keys s frame x.between a.1 m'
   back_shifted a a' q m m' e = record {
-    moved = λ i b. e.others (s.code.at i) (in_left (s.code.at i) (map s.code.at s.code.mine) s.others (in_map s.code.at i s.code.mine b))
-        ∙ not_written a'.1 (x.at 0) (s.code.at i) a'.0 (λ d. x.fresh 0 i x.some b d) ∙ q.1.moved i b;
+    moved = λ i b k. e.others (s.code.at i) (in_left (s.code.at i) (map s.code.at s.code.mine) s.others (in_map s.code.at i s.code.mine b))
+        ∙ not_written a'.1 (x.at 0) (s.code.at i) a'.0 (λ d. x.fresh 0 i x.some b d) ∙ q.1.moved i b k;
     others = λ j o. e.others j (in_right j (map s.code.at s.code.mine) s.others o)
         ∙ not_written a'.1 (x.at 0) j a'.0 (λ d. x.fresh_others 0 x.some (subst (λ k. In k s.others) d o))
         ∙ q.1.others j (in_left j s.others numbers o)
@@ -192,7 +197,7 @@ module _ {K : Keys} (P Q : Program K) (c : Changes same_keys same_keys (InlinesC
   }
 
   abbrev Flows : Flow K → Flow K → Type 0
-  Flows f f' = FlowRel same_keys (Shifted same_keys s frame) (SomeReturns x.rest) f f'
+  Flows f f' = FlowRel same_keys (Shifted same_keys s frame B) (SomeReturns x.rest) f f'
 
   abbrev rest_old : Flow K → Step K (Flow K)
   rest_old f = on_flow f (λ m. stmts P.rows me x.rest m)
@@ -209,14 +214,14 @@ module _ {K : Keys} (P Q : Program K) (c : Changes same_keys same_keys (InlinesC
   abbrev body_new : List (Value K) → Step K (Flow K)
   body_new m = stmts Q.rows me' x.new_body m
 
-  rest_match : (m m' : List (Value K)) → Shifted same_keys s frame m m' → Matches g Flows (stmts P.rows me x.rest m) (stmts Q.rows me' x.new_rest m')
-  rest_match m m' e = kept_match g (InlinesCall P) turns s st frame me me' im x.rest x.new_rest x.rest_to m m' e
+  rest_match : (m m' : List (Value K)) → Shifted same_keys s frame x.between m m' → Matches g Flows (stmts P.rows me x.rest m) (stmts Q.rows me' x.new_rest m')
+  rest_match m m' e = kept_match g (InlinesCall P) turns s st frame me me' im x.between x.rest x.new_rest B x.rest_to m m' e
 
   abbrev Inner : List (Value K) → Flow K → Flow K → Type 0
-  Inner m' f f' = FlowRel same_keys (Shifted same_keys inner (record { here = []; there = m' })) (SomeReturns x.code.body) f f'
+  Inner m' f f' = FlowRel same_keys (Shifted same_keys inner (record { here = []; there = m' }) x.body_behind) (SomeReturns x.code.body) f f'
 
   -- what the call's answer leads to, and what the block's end leads to
-  answers : (a a' : Value K × List (Value K)) → ResultRel same_keys caller start_frame a a' → (o o' : Out (Flow K)) → OutRel (Inner (with_local a'.1 (x.at 0) a'.0)) o o' → Matches g Flows (after_call a.1 o) (on_value rest_new o')
+  answers : (a a' : Value K × List (Value K)) → ResultRel same_keys caller start_frame x.between a a' → (o o' : Out (Flow K)) → OutRel (Inner (with_local a'.1 (x.at 0) a'.0)) o o' → Matches g Flows (after_call a.1 o) (on_value rest_new o')
   answers a a' q (value (goes_on m)) (value (goes_on n)) e = rest_match a.1 n (back_shifted a a' q m n e)
   answers a a' q (value (returns v)) (value (returns w)) e = absurd (x.no_return e.1)
   answers a a' q (value (goes_on m)) (value (returns w)) e = absurd e
@@ -226,12 +231,12 @@ module _ {K : Keys} (P Q : Program K) (c : Changes same_keys same_keys (InlinesC
   answers a a' q (thrown f) (thrown k) e = both_done 0 (Mapped same_keys) (mapped_joins same_keys) Z (OutRel Flows) (thrown f) (thrown k) e
 
   -- the method's run and the block's
-  body_match : (a a' : Value K × List (Value K)) → ResultRel same_keys caller start_frame a a' → Matches g Flows (call (invoke x.method null (a.0 ∷ [])) (after_call a.1)) (next (body_new (with_local a'.1 (x.at 0) a'.0)) rest_new)
+  body_match : (a a' : Value K × List (Value K)) → ResultRel same_keys caller start_frame x.between a a' → Matches g Flows (call (invoke x.method null (a.0 ∷ [])) (after_call a.1)) (next (body_new (with_local a'.1 (x.at 0) a'.0)) rest_new)
   body_match a a' q =
       let m' : List (Value K) = with_local a'.1 (x.at 0) a'.0 in
       let d : Call K = invoke x.method null (a.0 ∷ []) in
       let run_is : table P d ≡ stmts P.rows null x.code.body (a.0 ∷ []) = ap (λ k. run_method P.rows null k (a.0 ∷ [])) x.is_written ∙ ap (λ n. stmts P.rows null x.code.body (first_locals n (a.0 ∷ []))) x.one_parameter in
-      let one : Matches g (Inner m') (stmts P.rows null x.code.body (a.0 ∷ [])) (body_new m') = kept_match g (InlinesCall P) turns inner inner_stands (record { here = []; there = m' }) null me' (record { self = refl; holds = tt; casts = tt }) x.code.body x.new_body x.body_to (a.0 ∷ []) m' (inner_shifted a a' q) in
+      let one : Matches g (Inner m') (stmts P.rows null x.code.body (a.0 ∷ [])) (body_new m') = kept_match g (InlinesCall P) turns inner inner_stands (record { here = []; there = m' }) null me' (record { self = refl; holds = tt; casts = tt }) everything x.code.body x.new_body x.body_behind x.body_to (a.0 ∷ []) m' (inner_shifted a a' q) in
       removed (Mapped same_keys) (table P) (table Q) Z (OutRel Flows) d (unfold_at (table P) Z.old_given tables.old_unfolds d) (fold_at (table P) Z.old_found tables.old_folds d) (after_call a.1) (next (body_new m') rest_new)
       (both_and 0 (Mapped same_keys) (mapped_joins same_keys) Z (OutRel (Inner m')) (OutRel Flows) (table P d) (after_call a.1) (body_new m') (on_value rest_new)
       (subst (λ p. Matches g (Inner m') p (body_new m')) (sym run_is) one) (answers a a' q))
@@ -262,15 +267,15 @@ module _ {K : Keys} (P Q : Program K) (c : Changes same_keys same_keys (InlinesC
   inlined : Matches g Flows (stmts P.rows me old l) (stmts Q.rows me' new l')
   inlined =
       let both : Matches g Flows (next (exp P.rows me x.arg l) (λ a. call (invoke x.method null (a.0 ∷ [])) (after_call a.1))) (next (exp Q.rows me' x.new_arg start) (λ a. next (body_new (with_local a.1 (x.at 0) a.0)) rest_new)) =
-      match_next g (ResultRel same_keys caller start_frame) Flows (exp P.rows me x.arg l) (exp Q.rows me' x.new_arg start) (λ a. call (invoke x.method null (a.0 ∷ [])) (after_call a.1)) (λ a. next (body_new (with_local a.1 (x.at 0) a.0)) rest_new)
-      (exp_match g caller caller_stands start_frame me me' caller_holding x.arg x.new_arg x.arg_to l start caller_shifted) body_match in
+      match_next g (ResultRel same_keys caller start_frame x.between) Flows (exp P.rows me x.arg l) (exp Q.rows me' x.new_arg start) (λ a. call (invoke x.method null (a.0 ∷ [])) (after_call a.1)) (λ a. next (body_new (with_local a.1 (x.at 0) a.0)) rest_new)
+      (exp_match g caller caller_stands start_frame me me' caller_holding A x.between x.arg x.new_arg x.arg_to l start caller_shifted) body_match in
       subst (λ p. Matches g Flows p (stmts Q.rows me' new l')) (sym (ap (λ b. stmts P.rows me b l) x.old_is ∙ old_form))
       (subst (λ p. Matches g Flows (next (exp P.rows me x.arg l) (λ a. call (invoke x.method null (a.0 ∷ [])) (after_call a.1))) p) (sym (ap (λ b. stmts Q.rows me' b l') x.new_is ∙ new_form)) both)
 
   -- with what the old list may do: it may return where its rest may
-  pub inlined_call : Matches g (λ f f'. FlowRel same_keys (Shifted same_keys s frame) (SomeReturns old) f f') (stmts P.rows me old l) (stmts Q.rows me' new l')
-  inlined_call = both_more 0 (Mapped same_keys) (mapped_joins same_keys) Z (OutRel Flows) (OutRel (FlowRel same_keys (Shifted same_keys s frame) (SomeReturns old))) (stmts P.rows me old l) (stmts Q.rows me' new l')
-      (wider g (Shifted same_keys s frame) (SomeReturns x.rest) (SomeReturns old) (λ y. subst SomeReturns (sym x.old_is) (inr y))) inlined
+  pub inlined_call : Matches g (λ f f'. FlowRel same_keys (Shifted same_keys s frame B) (SomeReturns old) f f') (stmts P.rows me old l) (stmts Q.rows me' new l')
+  inlined_call = both_more 0 (Mapped same_keys) (mapped_joins same_keys) Z (OutRel Flows) (OutRel (FlowRel same_keys (Shifted same_keys s frame B) (SomeReturns old))) (stmts P.rows me old l) (stmts Q.rows me' new l')
+      (wider g (Shifted same_keys s frame B) (Shifted same_keys s frame B) (SomeReturns x.rest) (SomeReturns old) (λ m m' e. e) (λ y. subst SomeReturns (sym x.old_is) (inr y))) inlined
 
 -- Programs in which any number of such calls has become blocks have the same runs.
 pub inlined_programs_are_alike : {K : Keys} (P Q : Program K) → ProgramTo same_keys (InlinesCall P) P Q → AlikeExactly same_keys P Q
@@ -278,4 +283,4 @@ inlined_programs_are_alike P Q to =
     let c : Changes same_keys same_keys (InlinesCall P) 0 (Mapped same_keys) P Q = record { there = same_undoes; joins = mapped_joins same_keys; images = mapped_images same_keys; programs = to } in
     alike same_keys same_keys same_undoes 0 (Mapped same_keys) (λ u t. u ≡ t) (λ t u e. e) P Q to.rows.field_kind
     (starts_match same_keys (InlinesCall P) 0 (Mapped same_keys) P Q (programs_match same_keys same_keys (InlinesCall P) 0 (Mapped same_keys) P Q c
-    (λ Z tables answered s stands frame me me' im b b' x l l' h. inlined_call P Q c Z tables answered s stands frame me me' im b b' x l l' h)))
+    (λ Z tables answered s stands frame me me' im A b b' B x l l' h. inlined_call P Q c Z tables answered s stands frame me me' im A b b' B x l l' h)))

@@ -5,9 +5,10 @@ use Rattle.jr_runs.specs.Keys.{Keys}
 use Rattle.jr_runs.specs.Values.{Value, null}
 use Rattle.jr_runs.specs.Evaluation.{local_at, with_local, unset}
 use Rattle.jr_runs.specs.KeyMaps.{KeyMap, value_image}
-use Rattle.jr_runs.specs.Standing.{upto, Self, itself, held, nobody, Standing, In, SelfIn, IsFree, Frame, Shifted}
+use Rattle.jr_runs.specs.Standing.{upto, Self, itself, held, nobody, unused, Standing, In, SelfIn, IsFree, Frame, Shifted}
 use Rattle.jr_runs.specs.Images.{BlockTo}
-use Rattle.jr_runs.proofs.Locals.{written, not_written}
+use Rattle.jr_runs.specs.Sets.{NumberSet, with_all}
+use Rattle.jr_runs.proofs.Locals.{in_all, written, not_written}
 
 pub is_in : (n : ℕ) (xs : List ℕ) → In n xs ⊎ (In n xs → ⊥)
 is_in n [] = inr (λ h. h)
@@ -56,13 +57,14 @@ pub self_in_more : (self : Self) (xs ys : List ℕ) → SelfIn self xs → SelfI
 self_in_more itself xs ys h = tt
 self_in_more (held k) xs ys h = in_left k xs ys h
 self_in_more nobody xs ys h = tt
+self_in_more unused xs ys h = tt
 
--- a block's locals are unset on both sides
-pub shifted_unset : {K : Keys} (r : KeyMap K) (s : Standing K) (ns ns' : List ℕ) → BlockTo s ns ns' → (frame : Frame K) (l l' : List (Value K)) → Shifted r s frame l l' → Shifted r s frame (unset ns l) (unset ns' l')
-shifted_unset r s ns ns' d frame l l' h = record {
-  moved = λ i b. ⊎_elim
+-- a block's locals are unset on both sides, and agree then
+pub shifted_unset : {K : Keys} (r : KeyMap K) (s : Standing K) (ns ns' : List ℕ) → BlockTo s ns ns' → (frame : Frame K) (A : NumberSet) (l l' : List (Value K)) → Shifted r s frame A l l' → Shifted r s frame (with_all A ns) (unset ns l) (unset ns' l')
+shifted_unset r s ns ns' d frame A l l' h = record {
+  moved = λ i b a. ⊎_elim
       (λ (g : In i ns). unset_null ns' l' (s.code.at i) (d.all i b g) ∙ ap (value_image r) (sym (unset_null ns l i g)))
-      (λ (g : In i ns → ⊥). unset_other ns' l' (s.code.at i) (λ x. g (d.only i b x)) ∙ h.moved i b ∙ ap (value_image r) (sym (unset_other ns l i g)))
+      (λ (g : In i ns → ⊥). unset_other ns' l' (s.code.at i) (λ x. g (d.only i b x)) ∙ h.moved i b (in_all A ns i g a) ∙ ap (value_image r) (sym (unset_other ns l i g)))
       (is_in i ns);
   others = λ j o. unset_other ns' l' j (λ x. d.others j o x) ∙ h.others j o;
   known = λ i g. unset_other ns l i (λ x. d.known i g x) ∙ h.known i g;

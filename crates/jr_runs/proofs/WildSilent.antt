@@ -1,6 +1,7 @@
 -- An expression of any kind goes past silent code: code that makes nothing, and writes locals that the
--- expression neither reads nor writes, and reads none that it writes.
-use Rattle.std.proofs.Common.{◌≡◌, ◌⊎◌, ℕ, List, [], ◌∷◌, ◌++◌, map, refl, sym, ap, ◌∙◌, subst, inl, inr, ⊎_elim}
+-- expression neither reads nor writes, and reads none that it writes. What the code reads agrees before
+-- the expression and behind it; what it writes agrees behind both.
+use Rattle.std.proofs.Common.{◌≡◌, ◌⊎◌, ℕ, IsTrue, List, [], ◌∷◌, ◌++◌, map, refl, sym, ap, ◌∙◌, subst, inl, inr, ⊎_elim}
 use Rattle.jr_plans.specs.Plan.{done, and_then}
 use Rattle.jr_plans.proofs.Finishing.{and_then_done}
 use Rattle.jr_runs.specs.Keys.{Keys}
@@ -9,8 +10,10 @@ use Rattle.jr_runs.specs.Arithmetic.{Out, value, thrown}
 use Rattle.jr_runs.specs.Core.{Exp}
 use Rattle.jr_runs.specs.Evaluation.{Step, on_value, next, local_at, exp}
 use Rattle.jr_runs.specs.KeyMaps.{KeyMap, value_image}
-use Rattle.jr_runs.specs.Standing.{Self, itself, held, nobody, SelfIn, SelfIs, Standing, Stands, In, Frame, Holding, Shifted}
+use Rattle.jr_runs.specs.Standing.{Self, itself, held, nobody, unused, SelfIn, SelfIs, Standing, Stands, In, Frame, Holding, Shifted}
+use Rattle.jr_runs.specs.Sets.{NumberSet, with_all}
 use Rattle.jr_runs.specs.Images.{ExpTo}
+use Rattle.jr_runs.proofs.Locals.{in_all}
 use Rattle.jr_runs.specs.Pairs.{ResultRel}
 use Rattle.jr_runs.proofs.Numbers.{is_in, in_left, in_right, in_both, in_map, map_in}
 use Rattle.jr_runs.proofs.Matching.{Setting, Matches, match_next, match_value}
@@ -67,7 +70,8 @@ next_id {K = K} {A = A} p = (λ i. and_then p (λ o. same_out o i)) ∙ and_then
 
 module _ {K : Keys} (g : Setting K) (s : Standing K) (stands : Stands s) (frame : Frame K) (me me' : Value K) (im : Holding g.old g.keys s.code frame me me')
     (reads writes : List ℕ) (own_writes : (i : ℕ) → In i writes → In i s.code.mine) (own_reads : (i : ℕ) → In i reads → In i s.code.mine) (unknown : (i : ℕ) → In i writes → In i s.code.known → ⊥)
-    (u : Update g.keys s reads writes) (e e' : Exp K) (e_to : ExpTo g.keys g.old (past s reads writes).code e e') (l l' : List (Value K)) (h : Shifted g.keys s frame l l') where
+    (u : Update g.keys s reads writes) (A B : NumberSet) (agree_before : (i : ℕ) → In i reads → IsTrue (A i)) (agree_behind : (i : ℕ) → In i reads → IsTrue (B i))
+    (e e' : Exp K) (e_to : ExpTo g.keys g.old (past s reads writes).code A e e' B) (l l' : List (Value K)) (h : Shifted g.keys s frame A l l') where
   abbrev inner : Standing K
   inner = past s reads writes
 
@@ -79,6 +83,7 @@ module _ {K : Keys} (g : Setting K) (s : Standing K) (stands : Stands s) (frame 
   self_in itself k = k
   self_in (held n) k = in_right n (map s.code.at writes) s.others k
   self_in nobody k = k
+  self_in unused k = k
 
   inner_stands : Stands inner
   inner_stands = record {
@@ -97,33 +102,34 @@ module _ {K : Keys} (g : Setting K) (s : Standing K) (stands : Stands s) (frame 
   self_is itself k q = q
   self_is (held n) k q = h.others n k ∙ q
   self_is nobody k q = q
+  self_is unused k q = q
 
   inner_holding : Holding g.old g.keys inner.code inner_frame me me'
   inner_holding = record { self = self_is s.code.self stands.self im.self; holds = tt; casts = tt }
 
-  inner_shifted : Shifted g.keys inner inner_frame (u.old l) l'
+  inner_shifted : Shifted g.keys inner inner_frame A (u.old l) l'
   inner_shifted = record {
-    moved = λ i a. (let p = left_in writes s.code.mine i a in h.moved i p.0 ∙ ap (value_image g.keys) (sym (u.old_stays l i p.1)));
+    moved = λ i a c. (let p = left_in writes s.code.mine i a in h.moved i p.0 c ∙ ap (value_image g.keys) (sym (u.old_stays l i p.1)));
     others = λ j o. refl;
     known = λ i o. refl;
   }
 
   -- behind the expression
-  module _ (m m' : List (Value K)) (q : Shifted g.keys inner inner_frame m m') where
-    kept : (i : ℕ) → In i s.code.mine → (In i writes → ⊥) → local_at m' (s.code.at i) ≡ value_image g.keys (local_at m i)
-    kept i b o = q.moved i (still_in writes s.code.mine i b o)
+  module _ (m m' : List (Value K)) (q : Shifted g.keys inner inner_frame B m m') where
+    kept : (i : ℕ) → In i s.code.mine → IsTrue (B i) → (In i writes → ⊥) → local_at m' (s.code.at i) ≡ value_image g.keys (local_at m i)
+    kept i b c o = q.moved i (still_in writes s.code.mine i b o) c
 
     read_still : (j : ℕ) → In j reads → local_at m' (s.code.at j) ≡ value_image g.keys (local_at l j)
     read_still j o = ⊎_elim
-        (λ (w : In j writes). q.others (s.code.at j) (in_left (s.code.at j) (map s.code.at writes) s.others (in_map s.code.at j writes w)) ∙ h.moved j (own_reads j o))
-        (λ (w : In j writes → ⊥). kept j (own_reads j o) w ∙ ap (value_image g.keys) (q.known j (in_left j reads (writes ++ s.code.known) o) ∙ u.old_stays l j w))
+        (λ (w : In j writes). q.others (s.code.at j) (in_left (s.code.at j) (map s.code.at writes) s.others (in_map s.code.at j writes w)) ∙ h.moved j (own_reads j o) (agree_before j o))
+        (λ (w : In j writes → ⊥). kept j (own_reads j o) (agree_behind j o) w ∙ ap (value_image g.keys) (q.known j (in_left j reads (writes ++ s.code.known) o) ∙ u.old_stays l j w))
         (is_in j writes)
 
-    behind : Shifted g.keys s frame m (u.new m')
+    behind : Shifted g.keys s frame (with_all B writes) m (u.new m')
     behind = record {
-      moved = λ i b. ⊎_elim
+      moved = λ i b c. ⊎_elim
           (λ (w : In i writes). u.image l m' read_still i w ∙ ap (value_image g.keys) (sym (q.known i (in_right i reads (writes ++ s.code.known) (in_left i writes s.code.known w)))))
-          (λ (w : In i writes → ⊥). u.new_stays m' (s.code.at i) (λ k. w (image_in i b k)) ∙ kept i b w)
+          (λ (w : In i writes → ⊥). u.new_stays m' (s.code.at i) (λ k. w (image_in i b k)) ∙ kept i b (in_all B writes i w c) w)
           (is_in i writes);
       others = λ j o. u.new_stays m' j (λ k. (let d = map_in s.code.at j writes k in stands.apart d.0 (own_writes d.0 d.1) (subst (λ n. In n s.others) d.2 o)))
           ∙ q.others j (in_right j (map s.code.at writes) s.others o) ∙ h.others j o;
@@ -131,11 +137,11 @@ module _ {K : Keys} (g : Setting K) (s : Standing K) (stands : Stands s) (frame 
     }
 
   -- the old program has the silent code first, and the new one the expression
-  pub goes_past : Matches g (ResultRel g.keys s frame) (exp g.old me e (u.old l)) (next (exp g.new me' e' l') (λ r. done (value (r.0, u.new r.1))))
-  goes_past = subst (λ p. Matches g (ResultRel g.keys s frame) p (next (exp g.new me' e' l') (λ r. done (value (r.0, u.new r.1))))) (next_id (exp g.old me e (u.old l)))
-      (match_next g (ResultRel g.keys inner inner_frame) (ResultRel g.keys s frame) (exp g.old me e (u.old l)) (exp g.new me' e' l') (λ a. done (value a)) (λ r. done (value (r.0, u.new r.1)))
-      (exp_match g inner inner_stands inner_frame me me' inner_holding e e' e_to (u.old l) l' inner_shifted)
-      (λ a a' q. match_value g (ResultRel g.keys s frame) a (a'.0, u.new a'.1) (q.0, behind a.1 a'.1 q.1)))
+  pub goes_past : Matches g (ResultRel g.keys s frame (with_all B writes)) (exp g.old me e (u.old l)) (next (exp g.new me' e' l') (λ r. done (value (r.0, u.new r.1))))
+  goes_past = subst (λ p. Matches g (ResultRel g.keys s frame (with_all B writes)) p (next (exp g.new me' e' l') (λ r. done (value (r.0, u.new r.1))))) (next_id (exp g.old me e (u.old l)))
+      (match_next g (ResultRel g.keys inner inner_frame B) (ResultRel g.keys s frame (with_all B writes)) (exp g.old me e (u.old l)) (exp g.new me' e' l') (λ a. done (value a)) (λ r. done (value (r.0, u.new r.1)))
+      (exp_match g inner inner_stands inner_frame me me' inner_holding A B e e' e_to (u.old l) l' inner_shifted)
+      (λ a a' q. match_value g (ResultRel g.keys s frame (with_all B writes)) a (a'.0, u.new a'.1) (q.0, behind a.1 a'.1 q.1)))
 
   -- ---- and the other way round: the old program has the expression first, and the new one the silent code
 
@@ -149,32 +155,33 @@ module _ {K : Keys} (g : Setting K) (s : Standing K) (stands : Stands s) (frame 
   first_self itself k q = q
   first_self (held n) k q = u.new_stays l' n (not_written n k) ∙ h.others n k ∙ q
   first_self nobody k q = q
+  first_self unused k q = q
 
   first_holding : Holding g.old g.keys inner.code first_frame me me'
   first_holding = record { self = first_self s.code.self stands.self im.self; holds = tt; casts = tt }
 
-  first_shifted : Shifted g.keys inner first_frame l (u.new l')
+  first_shifted : Shifted g.keys inner first_frame A l (u.new l')
   first_shifted = record {
-    moved = λ i a. (let p = left_in writes s.code.mine i a in u.new_stays l' (s.code.at i) (λ k. p.1 (image_in i p.0 k)) ∙ h.moved i p.0);
+    moved = λ i a c. (let p = left_in writes s.code.mine i a in u.new_stays l' (s.code.at i) (λ k. p.1 (image_in i p.0 k)) ∙ h.moved i p.0 c);
     others = λ j o. refl;
     known = λ i o. refl;
   }
 
-  module _ (m m' : List (Value K)) (q : Shifted g.keys inner first_frame m m') where
-    in_front : Shifted g.keys s frame (u.old m) m'
+  module _ (m m' : List (Value K)) (q : Shifted g.keys inner first_frame B m m') where
+    in_front : Shifted g.keys s frame (with_all B writes) (u.old m) m'
     in_front = record {
-      moved = λ i b. ⊎_elim
+      moved = λ i b c. ⊎_elim
           (λ (w : In i writes). q.others (s.code.at i) (in_left (s.code.at i) (map s.code.at writes) s.others (in_map s.code.at i writes w))
-          ∙ u.image l l' (λ j o. h.moved j (own_reads j o)) i w
+          ∙ u.image l l' (λ j o. h.moved j (own_reads j o) (agree_before j o)) i w
           ∙ ap (value_image g.keys) (sym (u.old_same l m (λ j o. q.known j (in_left j reads (writes ++ s.code.known) o)) i w)))
-          (λ (w : In i writes → ⊥). q.moved i (still_in writes s.code.mine i b w) ∙ ap (value_image g.keys) (sym (u.old_stays m i w)))
+          (λ (w : In i writes → ⊥). q.moved i (still_in writes s.code.mine i b w) (in_all B writes i w c) ∙ ap (value_image g.keys) (sym (u.old_stays m i w)))
           (is_in i writes);
       others = λ j o. q.others j (in_right j (map s.code.at writes) s.others o) ∙ u.new_stays l' j (not_written j o) ∙ h.others j o;
       known = λ i o. u.old_stays m i (λ w. unknown i w o) ∙ q.known i (in_right i reads (writes ++ s.code.known) (in_right i writes s.code.known o)) ∙ h.known i o;
     }
 
-  pub goes_before : Matches g (ResultRel g.keys s frame) (next (exp g.old me e l) (λ r. done (value (r.0, u.old r.1)))) (exp g.new me' e' (u.new l'))
-  goes_before = subst (Matches g (ResultRel g.keys s frame) (next (exp g.old me e l) (λ r. done (value (r.0, u.old r.1))))) (next_id (exp g.new me' e' (u.new l')))
-      (match_next g (ResultRel g.keys inner first_frame) (ResultRel g.keys s frame) (exp g.old me e l) (exp g.new me' e' (u.new l')) (λ r. done (value (r.0, u.old r.1))) (λ a. done (value a))
-      (exp_match g inner inner_stands first_frame me me' first_holding e e' e_to l (u.new l') first_shifted)
-      (λ a a' q. match_value g (ResultRel g.keys s frame) (a.0, u.old a.1) a' (q.0, in_front a.1 a'.1 q.1)))
+  pub goes_before : Matches g (ResultRel g.keys s frame (with_all B writes)) (next (exp g.old me e l) (λ r. done (value (r.0, u.old r.1)))) (exp g.new me' e' (u.new l'))
+  goes_before = subst (Matches g (ResultRel g.keys s frame (with_all B writes)) (next (exp g.old me e l) (λ r. done (value (r.0, u.old r.1))))) (next_id (exp g.new me' e' (u.new l')))
+      (match_next g (ResultRel g.keys inner first_frame B) (ResultRel g.keys s frame (with_all B writes)) (exp g.old me e l) (exp g.new me' e' (u.new l')) (λ r. done (value (r.0, u.old r.1))) (λ a. done (value a))
+      (exp_match g inner inner_stands first_frame me me' first_holding A B e e' e_to l (u.new l') first_shifted)
+      (λ a a' q. match_value g (ResultRel g.keys s frame (with_all B writes)) (a.0, u.old a.1) a' (q.0, in_front a.1 a'.1 q.1)))

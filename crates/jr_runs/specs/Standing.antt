@@ -1,6 +1,7 @@
 -- How old code stands in a new member: what its locals and `this` have become there, and what is
 -- known of them.
-use Rattle.std.specs.Prelude.{◌≡◌, ◌⊎◌, ℕ, zero, suc, List, [], ◌∷◌}
+use Rattle.std.specs.Prelude.{◌≡◌, ◌⊎◌, ℕ, zero, suc, List, [], ◌∷◌, IsTrue}
+use Rattle.jr_runs.specs.Sets.{NumberSet}
 use Rattle.jr_runs.specs.Keys.{Keys}
 use Rattle.jr_runs.specs.Values.{Value, null}
 use Rattle.jr_plans.specs.Plan.{done}
@@ -20,11 +21,12 @@ abbrev pub In : ℕ → List ℕ → Type 0
 In n [] = ⊥
 In n (m ∷ ms) = (n ≡ m) ⊎ In n ms
 
--- what stands for `this`: `this`, a local, or nothing
+-- what stands for `this`: `this`, a local, or null; or nothing, where the code doesn't name it
 pub data Self : Type 0 where
   itself : Self
   held : (number : ℕ) → Self
   nobody : Self
+  unused : Self
 
 -- what has become of the old code's locals, and of `this`
 pub record Renumbering (K : Keys) : Type 0 where
@@ -48,6 +50,7 @@ abbrev pub SelfIn : Self → List ℕ → Type 0
 SelfIn itself ms = Unit {0}
 SelfIn (held k) ms = In k ms
 SelfIn nobody ms = Unit {0}
+SelfIn unused ms = Unit {0}
 
 abbrev pub HeldIn : {K : Keys} → List (Exp K × ℕ) → List ℕ → Type 0
 HeldIn [] ms = Unit {0}
@@ -101,6 +104,7 @@ abbrev pub SelfIs : {K : Keys} → KeyMap K → Self → Frame K → Value K →
 SelfIs r itself frame me me' = me' ≡ value_image r me
 SelfIs r (held k) frame me me' = local_at frame.there k ≡ value_image r me
 SelfIs r nobody frame me me' = me ≡ null
+SelfIs r unused frame me me' = Unit {0}
 
 abbrev pub AreKnown : {K : Keys} → List ℕ → Frame K → List (Value K) → Type 0
 AreKnown known frame l = (i : ℕ) → In i known → local_at l i ≡ local_at frame.here i
@@ -135,10 +139,11 @@ pub record Holding {K : Keys} (R : Rows K) (r : KeyMap K) (s : Renumbering K) (f
   pub holds : AllHold R r s.known frame me s.holds
   pub casts : AllHoldAs R r s.known frame me s.casts
 
--- the new locals have the image of each old local, the further ones are as in the frame, and so are
--- the known ones
-pub record Shifted {K : Keys} (r : KeyMap K) (s : Standing K)
-    (frame : Frame K) (l l' : List (Value K)) : Type 0 where
-  pub moved : (i : ℕ) → In i s.code.mine → local_at l' (s.code.at i) ≡ value_image r (local_at l i)
+-- The locals agree: the new ones have the image of each old local of the set, the further ones are
+-- as in the frame, and so are the known ones.
+pub record Shifted {K : Keys} (r : KeyMap K) (s : Standing K) (frame : Frame K) (A : NumberSet)
+    (l l' : List (Value K)) : Type 0 where
+  pub moved : (i : ℕ) → In i s.code.mine → IsTrue (A i)
+      → local_at l' (s.code.at i) ≡ value_image r (local_at l i)
   pub others : (j : ℕ) → In j s.others → local_at l' j ≡ local_at frame.there j
   pub known : AreKnown s.code.known frame l
