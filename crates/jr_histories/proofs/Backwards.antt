@@ -1,15 +1,15 @@
 -- A map of keys that can be undone leads back: equal images are of equals, exchanges of images are
 -- exchanges, and what is asked of the image of a step holds of the step.
-use Rattle.std.proofs.Common.{◌≡◌, ◌⊎◌, ℕ, zero, suc, Bool, true, false, List, [], ◌∷◌, map, Option, Some, None, nat_eq, refl, sym, ap, ◌∙◌, subst, inl, inr, ⊎_elim}
-use Rattle.jr_plans.specs.Swaps.{Swaps, same, exchange, behind, chain}
+use Rattle.std.proofs.Common.{◌≡◌, ◌⊎◌, ℕ, zero, suc, Bool, true, false, List, [], ◌∷◌, map, Some, None, nat_eq, refl, sym, ap, ◌∙◌, subst, inl, inr, ⊎_elim}
+use Rattle.jr_plans.specs.Swaps.{same, exchange, behind, chain}
 use Rattle.jr_runs.specs.Keys.{Keys}
 use Rattle.jr_runs.specs.Values.{Value, int, truth, null, text, class_object, object, Ty, int_type, boolean_type, reference}
-use Rattle.jr_runs.specs.Actions.{FieldKind, Location, part, shared, Action, load, store, enter, exit, create, start, Trace}
+use Rattle.jr_runs.specs.Actions.{Location, part, shared, Action, load, store, enter, exit, create, start, Trace}
 use Rattle.jr_runs.specs.Rows.{Rows}
 use Rattle.jr_runs.specs.Reordering.{kind_of, location_of, stores, Free, Reordered}
 use Rattle.jr_runs.specs.KeyMaps.{KeyMap, Undoes, value_image, type_image, location_image, action_image, trace_image}
 use Rattle.jr_runs.proofs.Undoing.{value_back}
-use Rattle.jr_histories.specs.Histories.{Thread, begins, started, thread_at, Step, if_same, part_of, First, gives, makes, default_of, FirstIs, InitialIs, LastIs, Counts, number_of, made_number, NoneMakes, NoneStarts, OneStarts, MayCome, AllMayCome}
+use Rattle.jr_histories.specs.Histories.{Thread, started, thread_at, Step, if_same, part_of, First, gives, makes, default_of, FirstIs, InitialIs, LastIs, Counts, number_of, made_number, NoneMakes, NoneStarts, OneStarts, MayCome, AllMayCome}
 use Rattle.jr_histories.specs.Laws.{thread_image, step_image, first_image}
 
 module _ {K : Keys} (r : KeyMap K) where

@@ -1,15 +1,14 @@
 -- Each history of the new program is one of the old program.
-use Rattle.std.proofs.Common.{◌≡◌, ℕ, List, [], ◌∷◌, ◌++◌, map, Some, refl, sym, ap, ◌∙◌, subst}
-use Rattle.jr_plans.specs.Swaps.{Swaps, same, chain}
+use Rattle.std.proofs.Common.{◌≡◌, ℕ, List, [], ◌∷◌, ◌++◌, map, Some, sym, ap, ◌∙◌, subst}
+use Rattle.jr_plans.specs.Swaps.{same, chain}
 use Rattle.jr_runs.specs.Keys.{Keys}
 use Rattle.jr_runs.specs.Actions.{Trace}
 use Rattle.jr_runs.specs.Core.{Program}
 use Rattle.jr_runs.specs.Running.{Start, Ending, Whole}
-use Rattle.jr_runs.specs.Starting.{IsStart}
 use Rattle.jr_runs.specs.Reordering.{Reordered}
 use Rattle.jr_runs.specs.KeyMaps.{KeyMap, Undoes, value_image, trace_image, start_image}
 use Rattle.jr_runs.specs.Alike.{AlikeExactly, AlikeReordered}
-use Rattle.jr_histories.specs.Histories.{Thread, begins, started, Runs, thread_at, Step, part_of, First, makes, OfThreads, History, AreThreads}
+use Rattle.jr_histories.specs.Histories.{Thread, begins, started, Runs, thread_at, Step, part_of, First, OfThreads, History, AreThreads}
 use Rattle.jr_histories.specs.Laws.{thread_image, step_image, first_image, KeepsBeginnings}
 use Rattle.jr_histories.proofs.Backwards.{part_image, thread_to, thread_from, swaps_back, steps_back}
 

@@ -75,7 +75,7 @@ LastIs R first objects [] at v = InitialIs R first objects at v
 LastIs {K = K} R first objects (e ∷ b) at v =
     ((kind : FieldKind) × (e.action ≡ store kind at v))
     ⊎ (((kind : FieldKind) (w : Value K) → e.action ≡ store kind at w → ⊥)
-      × LastIs R first objects b at v)
+    × LastIs R first objects b at v)
 
 -- how often thread j did this
 abbrev pub Counts : {K : Keys} → ℕ → Action K → List (Step K) → ℕ → Type 0

@@ -6,7 +6,7 @@ use Rattle.jr_runs.specs.Values.{int_type}
 use Rattle.jr_runs.specs.Actions.{FieldKind, plain, volatile}
 use Rattle.jr_runs.specs.Rows.{Rows}
 use Rattle.jr_runs.specs.Core as core
-use Rattle.jr_runs.specs.Core.{add, less, arithmetic, comparison, post_increment, Exp, literal, this, read, assign, bump, binary, instance_call, Target, local, field_of, Exps, Stmt, declare, eval, branch, loop, return, block, sync, Stmts, Code, Method, written, Program}
+use Rattle.jr_runs.specs.Core.{add, less, arithmetic, comparison, post_increment, Exp, this, read, assign, bump, binary, instance_call, Target, local, field_of, Exps, declare, eval, loop, return, block, sync, Stmts, written, Program}
 use Rattle.jr_runs.specs.KeyMaps.{KeyMap, Undoes}
 use Rattle.jr_runs.specs.Sets.{everything}
 use Rattle.jr_runs.specs.Standing.{In, IsFree, Standing, whole}

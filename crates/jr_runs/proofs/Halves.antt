@@ -9,7 +9,7 @@ use Rattle.jr_runs.specs.Keys.{Keys}
 use Rattle.jr_runs.specs.Values.{Value}
 use Rattle.jr_runs.specs.Actions.{Event, Trace}
 use Rattle.jr_runs.specs.Arithmetic.{Out, value, thrown}
-use Rattle.jr_runs.specs.Core.{Stmts, Program}
+use Rattle.jr_runs.specs.Core.{Program}
 use Rattle.jr_runs.specs.Evaluation.{Flow, goes_on, returns, Call, table}
 use Rattle.jr_runs.specs.Running.{Start, of_method, of_constructor, call_of, actions_of, Ending, ending_of, Whole, Bounded}
 use Rattle.jr_runs.specs.Starting.{IsStart}

@@ -8,7 +8,7 @@ use Rattle.jr_runs.specs.Values.{Value}
 use Rattle.jr_runs.specs.Actions.{start, Event}
 use Rattle.jr_runs.specs.Fitting.{is_truth}
 use Rattle.jr_runs.specs.Arithmetic.{started_before, Out, value, thrown}
-use Rattle.jr_runs.specs.Core.{Exp, Stmt, Stmts, Code, Method, written, starts, Program}
+use Rattle.jr_runs.specs.Core.{Exp, Stmt, Code, Method, written, starts, Program}
 use Rattle.jr_runs.specs.Evaluation.{Flow, goes_on, returns, Call, invoke, construct, turn, Step, next, first_locals, on_truth, on_flow, exp, stmt, stmts, run_code, run_start, run_method, table}
 use Rattle.jr_runs.specs.KeyMaps.{KeyMap, Undoes, value_image, action_image}
 use Rattle.jr_runs.specs.Sets.{everything}

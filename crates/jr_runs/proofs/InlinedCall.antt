@@ -13,7 +13,7 @@ use Rattle.jr_runs.specs.Values.{Value, null}
 use Rattle.jr_runs.specs.Actions.{Event}
 use Rattle.jr_runs.specs.Arithmetic.{Out, value, thrown}
 use Rattle.jr_runs.specs.Core as core
-use Rattle.jr_runs.specs.Core.{Exp, static_call, Stmt, declare, eval, block, Stmts, Code, Method, written, Program}
+use Rattle.jr_runs.specs.Core.{Exp, static_call, declare, eval, block, Stmts, Code, written, Program}
 use Rattle.jr_runs.specs.Evaluation.{Flow, goes_on, returns, Call, invoke, Step, on_value, next, local_at, with_local, first_locals, unset, answer, exp, on_flow, stmts, run_method, table}
 use Rattle.jr_runs.specs.KeyMaps.{Undoes, same_keys, value_image}
 use Rattle.jr_runs.specs.Standing.{upto, Self, itself, held, nobody, unused, Standing, In, SelfIn, HeldIn, CastIn, Stands, Frame, SelfIs, AllHold, AllHoldAs, Holding, Shifted}

@@ -3,7 +3,7 @@ use Rattle.std.proofs.Common.{◌≡◌, List, [], ◌∷◌, ◌++◌, refl, sy
 use Rattle.jr_plans.specs.Follow.{Joins}
 use Rattle.jr_runs.specs.Keys.{Keys}
 use Rattle.jr_runs.specs.Actions.{Event, Trace}
-use Rattle.jr_runs.specs.Core.{Stmts, Program}
+use Rattle.jr_runs.specs.Core.{Program}
 use Rattle.jr_runs.specs.Running.{actions_of}
 use Rattle.jr_runs.specs.KeyMaps.{KeyMap, Undoes, action_image, trace_image}
 use Rattle.jr_runs.specs.Images.{Spots, Renamed}

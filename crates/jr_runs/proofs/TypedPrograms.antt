@@ -8,7 +8,7 @@ use Rattle.jr_runs.specs.Keys.{Keys}
 use Rattle.jr_runs.specs.Values.{Value, Ty}
 use Rattle.jr_runs.specs.Actions.{Event}
 use Rattle.jr_runs.specs.Arithmetic.{Out}
-use Rattle.jr_runs.specs.Core.{Stmts, Code, Method, written, starts, Program}
+use Rattle.jr_runs.specs.Core.{Code, Method, written, starts, Program}
 use Rattle.jr_runs.specs.Evaluation.{Flow, Call, invoke, construct, turn, first_locals, run_code, run_method, table}
 use Rattle.jr_runs.specs.Running.{Start, of_method, of_constructor, call_of}
 use Rattle.jr_runs.specs.Starting.{IsReceiver, ArgsFit, IsStart}

@@ -198,7 +198,7 @@ pub record HoldsLocal {K : Keys} (r : KeyMap K) (R : Rows K) (s : Standing K) (A
   pub classes : List K.class
   pub fits : (me : Value K) (l : List (Value K)) (c : K.class) → Among c classes
       → cast_value (is_instance R c (silent.result me l)) (silent.result me l)
-          ≡ value (silent.result me l)
+      ≡ value (silent.result me l)
   pub place : At K
   pub rest : Stmts K
   pub many_is : many ≡ core.Stmts.more (declare place number e') rest

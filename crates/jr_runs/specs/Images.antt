@@ -105,7 +105,7 @@ mutual
         (es es' : Exps K)
         → IsTrue (R.has_constructor k) → ExpTo r R s A e e' B → ExpsTo r R s B es es' C
         → ExpTo r R s A (super_constructor p e k es)
-            (super_constructor q e' (r.constructor k) es') C
+        (super_constructor q e' (r.constructor k) es') C
 
   pub data TargetTo {K : Keys} (r : KeyMap K) (R : Rows K) (s : Renumbering K)
       : NumberSet → Target K → Target K → NumberSet → Type 0 where

@@ -1,5 +1,5 @@
 -- The front of a list becomes a call of a method that the new program alone has: the call's runs are the front's.
-use Rattle.std.proofs.Common.{◌≡◌, ◌<◌, ℕ, zero, suc, Bool, List, [], ◌∷◌, length, map, Some, IsTrue, refl, sym, ap, ◌∙◌, subst, inl, inr, ⊎_elim}
+use Rattle.std.proofs.Common.{◌≡◌, ℕ, zero, suc, List, [], ◌∷◌, length, map, Some, IsTrue, refl, sym, ap, ◌∙◌, subst, inr, ⊎_elim}
 use Rattle.std.proofs.lemmas.Bool.{cases_eq}
 use Rattle.jr_plans.specs.Plan.{Plan, done, act, ask, call, and_then}
 use Rattle.jr_plans.specs.Reach.{World}
@@ -14,9 +14,9 @@ use Rattle.jr_runs.specs.Actions.{Event}
 use Rattle.jr_runs.specs.Rows.{Rows}
 use Rattle.jr_runs.specs.Arithmetic.{Fault, Out, value, thrown}
 use Rattle.jr_runs.specs.Core as core
-use Rattle.jr_runs.specs.Core.{Exp, static_call, Stmt, Stmts, Code, Program}
-use Rattle.jr_runs.specs.Evaluation.{Flow, goes_on, returns, Call, invoke, turn, Step, on_value, next, local_at, with_local, first_locals, answer, exp, exps, in_local, store_to, on_flow, stmt, stmts, run_method, table}
-use Rattle.jr_runs.specs.KeyMaps.{KeyMap, Undoes, same_keys, value_image}
+use Rattle.jr_runs.specs.Core.{static_call, Stmts, Program}
+use Rattle.jr_runs.specs.Evaluation.{Flow, goes_on, returns, Call, invoke, Step, on_value, next, local_at, with_local, first_locals, answer, exps, in_local, store_to, on_flow, stmt, stmts, run_method, table}
+use Rattle.jr_runs.specs.KeyMaps.{Undoes, same_keys, value_image}
 use Rattle.jr_runs.specs.Standing.{In}
 use Rattle.jr_runs.specs.Pairs.{OutRel, FlowRel, SomeReturns, Pair, Post}
 use Rattle.jr_runs.specs.Alike.{AlikeExactly}
@@ -24,8 +24,8 @@ use Rattle.jr_runs.proofs.Locals.{written, not_written}
 use Rattle.jr_runs.proofs.Matching.{Setting, Matches}
 use Rattle.jr_runs.proofs.Renaming.{Mapped, mapped_joins, mapped_images}
 use Rattle.jr_runs.specs.Sets.{NumberSet}
-use Rattle.jr_runs.specs.Standing.{unused, Standing, Stands, Frame, Holding, Shifted}
-use Rattle.jr_runs.specs.Images.{Spots, NoSpot, StmtsTo, ProgramTo}
+use Rattle.jr_runs.specs.Standing.{Standing, Stands, Frame, Holding, Shifted}
+use Rattle.jr_runs.specs.Images.{ProgramTo}
 use Rattle.jr_runs.proofs.ImageStmts.{TurnsAnswered, wider}
 use Rattle.jr_runs.proofs.Kept.{kept_match}
 use Rattle.jr_runs.proofs.ImagePrograms.{Changes, setting, turns_in, programs_match}

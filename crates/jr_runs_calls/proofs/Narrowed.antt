@@ -1,15 +1,15 @@
 -- Where only well-made calls happen, it is enough that dispatch is kept for classes at and below a method's.
-use Rattle.std.proofs.Common.{◌≡◌, ℕ, true, false, List, [], ◌∷◌, Option, Some, None, option_map, unwrap_or, IsTrue, map, refl, sym, ap, ◌∙◌, subst}
+use Rattle.std.proofs.Common.{◌≡◌, ℕ, List, Option, Some, None, option_map, unwrap_or, IsTrue, map, refl, subst}
 use Rattle.jr_plans.specs.Plan.{Plan, done, act, ask, call, and_then}
 use Rattle.jr_plans.specs.Safe.{Safe}
 use Rattle.jr_plans.specs.Follow.{Joins, Sides, Both, CallBoth}
 use Rattle.jr_plans.proofs.BothWays.{both_done, both_call, both_and, both_more}
 use Rattle.jr_plans.proofs.Safety.{safe_more, narrowed_sides, both_safe, both_safe_new}
 use Rattle.jr_runs.specs.Keys.{Keys}
-use Rattle.jr_runs.specs.Values.{Value, null}
+use Rattle.jr_runs.specs.Values.{Value}
 use Rattle.jr_runs.specs.Actions.{Event}
 use Rattle.jr_runs.specs.Rows.{Rows}
-use Rattle.jr_runs.specs.Fitting.{class_of, has_class, is_instance}
+use Rattle.jr_runs.specs.Fitting.{class_of, has_class}
 use Rattle.jr_runs.specs.Arithmetic.{null_reference, Out, value, thrown}
 use Rattle.jr_runs.specs.Evaluation.{Flow, Call, invoke, Step, on_value, next, on_class}
 use Rattle.jr_runs.specs.KeyMaps.{KeyMap, value_image}

@@ -1,15 +1,14 @@
 -- `int m() { int x = 0; x = f; x = 2; return x; }`, of which `x = f;` becomes `q(x);`: x differs until it is written again.
-use Rattle.std.proofs.Common.{◌≡◌, ◌<◌, ◌⊎◌, ℕ, zero, suc, Bool, true, false, List, [], ◌∷◌, length, Some, None, Option, IsTrue, nat_eq, cond, pos, refl, sym, ap, inl, inr, arith}
+use Rattle.std.proofs.Common.{◌≡◌, ◌⊎◌, ℕ, Bool, true, false, [], ◌∷◌, Some, None, nat_eq, cond, pos, refl, sym, inl, inr, arith}
 use Rattle.std.proofs.lemmas.Bool.{eqb-true}
 use Rattle.jr_runs.specs.Keys.{Keys, keys_of}
 use Rattle.jr_runs.specs.Values.{int, int_type}
 use Rattle.jr_runs.specs.Actions.{plain}
 use Rattle.jr_runs.specs.Rows.{Rows}
 use Rattle.jr_runs.specs.Core as core
-use Rattle.jr_runs.specs.Core.{Exp, literal, read, assign, static_call, Target, local, static_field, Stmt, declare, eval, return, Stmts, Code, Method, written, Program}
+use Rattle.jr_runs.specs.Core.{Exp, literal, read, assign, static_call, local, static_field, Stmt, declare, eval, return, Stmts, written, Program}
 use Rattle.jr_runs.specs.KeyMaps.{same_keys}
 use Rattle.jr_runs.specs.Standing.{In}
-use Rattle.jr_runs.specs.Images.{SameRows}
 use Rattle.jr_runs.specs.Alike.{AlikeExactly}
 use Rattle.jr_runs.specs.Sets.{NumberSet, everything, with_one}
 use Rattle.jr_runs.specs.Standing.{Standing, whole}

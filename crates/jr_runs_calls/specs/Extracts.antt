@@ -106,7 +106,7 @@ pub record Extracts {K : Keys} (P Q : Program K) (s : Standing K) (A : NumberSet
   pub old_is : old ≡ then piece rest
   pub new_is : new ≡ core.Stmts.more
       (given_stmt eval_at s.code.at given
-        (static_call call_at method (reads read_at s.code.at outs)))
+      (static_call call_at method (reads read_at s.code.at outs)))
       new_rest
 
 -- Any number of lists may have changed so.
