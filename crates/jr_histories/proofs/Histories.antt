@@ -51,8 +51,8 @@ histories_are_old r s undoes back n P Q alike run run' first first' keeps thread
 equal_swaps : {K : Keys} (u t : Trace K) → u ≡ t → Reordered u t
 equal_swaps u t e = subst (λ x. Reordered u x) e (same u)
 
-pub exact_runs_are_reordered : {K : Keys} (r : KeyMap K) (n : ℕ) (P Q : Program K) → AlikeExactly r P Q → AlikeReordered r 0 P Q
-exact_runs_are_reordered r n P Q a = record {
+pub exact_runs_are_reordered : {K : Keys} (r : KeyMap K) (P Q : Program K) → AlikeExactly r P Q → AlikeReordered r 0 P Q
+exact_runs_are_reordered r P Q a = record {
   injective_on_classes = a.injective_on_classes;
   injective_on_fields = a.injective_on_fields;
   keeps_kinds = a.keeps_kinds;

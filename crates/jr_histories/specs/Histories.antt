@@ -18,7 +18,7 @@ use Rattle.jr_runs.specs.Reordering.{Reordered}
 -- a thread that begins with a run, or that of a Thread object, which begins when it is started
 pub data Thread (K : Keys) : Type 0 where
   begins : (run : Start K) → Thread K
-  started : (object : Value K) → Thread K
+  started : (of : Value K) → Thread K
 
 -- What a thread runs. run: the method `run` of Thread. Of an object it is what dispatch finds.
 abbrev pub Runs : {K : Keys} → Rows K → K.method → Thread K → Start K → Type 0

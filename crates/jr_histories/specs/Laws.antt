@@ -44,5 +44,5 @@ HistoriesAreOld C F M N A =
 
 abbrev pub ExactRunsAreReordered : (C F M N A : Type 0) → Type 0
 ExactRunsAreReordered C F M N A =
-    (r : KeyMap (keys_of C F M N A)) (n : ℕ) (P Q : Program (keys_of C F M N A))
+    (r : KeyMap (keys_of C F M N A)) (P Q : Program (keys_of C F M N A))
     → AlikeExactly r P Q → AlikeReordered r 0 P Q
