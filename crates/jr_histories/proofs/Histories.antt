@@ -40,8 +40,8 @@ module _ {K : Keys} (r s : KeyMap K) (undoes : Undoes r s) (back : Undoes s r) (
     parts = part_back h g;
     own_objects = λ i j o a b. g.own_objects i j (value_image r o) (thread_to r threads i (started o) a) (thread_to r threads j (started o) b);
     objects = λ f. g.objects (r.field f);
-    one_each = λ f f' c d a b e. alike.injective_on_fields f f' (g.one_each (r.field f) (r.field f') (r.class c) (r.class d) (keeps.first f ∙ ap (first_image r) a) (keeps.first f' ∙ ap (first_image r) b) e);
-    steps = steps_back r s undoes P.rows Q.rows keeps.field_type first first' keeps.first g.objects threads [] h g.steps;
+    one_each = λ f f' c d a b e. alike.injective_on_fields f f' (g.one_each (r.field f) (r.field f') (r.class c) (r.class d) (keeps.first_value f ∙ ap (first_image r) a) (keeps.first_value f' ∙ ap (first_image r) b) e);
+    steps = steps_back r s undoes P.rows Q.rows keeps.field_type first first' keeps.first_value g.objects threads [] h g.steps;
   }
 
 pub histories_are_old : {K : Keys} (r s : KeyMap K) → Undoes r s → Undoes s r → (n : ℕ) → (P Q : Program K) → AlikeReordered r n P Q → (run run' : K.method) → (first first' : K.field → First K) → KeepsBeginnings r P.rows Q.rows run run' first first'

@@ -25,7 +25,7 @@ first_image r (makes c) = makes (r.class c)
 pub record KeepsBeginnings {K : Keys} (r : KeyMap K) (old new : Rows K) (run run' : K.method)
     (first first' : K.field → First K) : Type 0 where
   pub field_type : (f : K.field) → new.field_type (r.field f) ≡ type_image r (old.field_type f)
-  pub first : (f : K.field) → first' (r.field f) ≡ first_image r (first f)
+  pub first_value : (f : K.field) → first' (r.field f) ≡ first_image r (first f)
   pub runs : (o : Value K) (c d : Start K) → Runs old run (started o) c
       → Runs new run' (started (value_image r o)) d
       → d ≡ start_image r c
