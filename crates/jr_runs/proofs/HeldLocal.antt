@@ -17,9 +17,9 @@ use Rattle.jr_runs.specs.Evaluation.{Flow, goes_on, returns, Step, on_value, nex
 use Rattle.jr_runs.specs.KeyMaps.{value_image}
 use Rattle.jr_runs.specs.Standing.{Self, itself, held, nobody, unused, Standing, Stands, In, SelfIn, HeldIn, CastIn, Holds, AllHoldAs, Frame, SelfIs, AllHold, Holding, Shifted}
 use Rattle.jr_runs.specs.Sets.{NumberSet, with_one, with_all, Within}
-use Rattle.jr_runs.specs.Images.{Spots, NoSpot, StmtTo}
+use Rattle.jr_runs.specs.Images.{Among, Spots, NoSpot, StmtTo}
 use Rattle.jr_runs.specs.Actions.{enter}
-use Rattle.jr_runs.specs.Held.{ExpUntil, Until, until_here, until_more, until_last, StmtUntil, last_declare, last_eval, last_return, last_branch, last_block, last_lock, last_sync, holding, Among, HoldsLocal}
+use Rattle.jr_runs.specs.Held.{ExpUntil, Until, until_here, until_more, until_last, StmtUntil, last_declare, last_eval, last_return, last_branch, last_block, last_lock, last_sync, holding, HoldsLocal}
 use Rattle.jr_runs.proofs.UntilExps.{exp_until}
 use Rattle.jr_runs.specs.Pairs.{OutRel, ResultRel, FlowRel, Returns, SomeReturns}
 use Rattle.jr_runs.proofs.Locals.{written, not_written, shifted_less, shifted_write}
@@ -139,6 +139,7 @@ module _ {K : Keys} (g : Setting K) (Spot : Spots K) (turns : TurnsAnswered g Sp
     inner_holding : Holding g.old g.keys inner.code inner_frame me me'
     inner_holding = record {
       self = self_is s.code.self stands.self im.self;
+      classes = im.classes;
       holds = (
         record {
           result = v;

@@ -10,9 +10,9 @@ use Rattle.jr_runs.specs.Core as core
 use Rattle.jr_runs.specs.Core.{Exp, Target, Exps}
 use Rattle.jr_runs.specs.Evaluation.{Flow, Step, invoke, construct, next, local_at, with_local, non_null, on_truth, on_class, Slot, in_local, in_static, in_object, load_field, store_field, load_from, store_to, with_locals, cast_value, answer, constructed, exp, target, exps}
 use Rattle.jr_runs.specs.KeyMaps.{value_image, location_image}
-use Rattle.jr_runs.specs.Standing.{Self, itself, held, nobody, unused, Standing, Stands, SelfIn, HeldIn, CastIn, IsHeld, IsCast, Frame, SelfIs, AllHold, AllHoldAs, Holding, Shifted}
+use Rattle.jr_runs.specs.Standing.{Self, itself, held, nobody, unused, Standing, Stands, SelfIn, HeldIn, CastIn, IsHeld, IsCast, Frame, SelfIs, HasAll, AllHold, AllHoldAs, Holding, Shifted}
 use Rattle.jr_runs.specs.Sets.{NumberSet, Within}
-use Rattle.jr_runs.specs.Images.{SelfTo, Readable, Writable, behind_write, ExpTo, to_literal, to_this, to_held, to_held_cast, to_read, to_assign, to_compound, to_bump, to_signed, to_binary, to_both, to_either, to_cast, to_static_call, to_instance_call, to_super_call, to_create, to_super_constructor, TargetTo, to_local, to_static_field, to_field_of, ExpsTo, to_end, to_more}
+use Rattle.jr_runs.specs.Images.{Among, CastOf, uncast, cast_once, SelfTo, Readable, Writable, behind_write, ExpTo, to_literal, to_this, to_cast_this, to_held, to_held_cast, to_read, to_assign, to_compound, to_bump, to_signed, to_binary, to_both, to_either, to_cast, to_static_call, to_instance_call, to_super_call, to_create, to_super_constructor, TargetTo, to_local, to_static_field, to_field_of, ExpsTo, to_end, to_more}
 use Rattle.jr_runs.specs.Pairs.{OutRel, ImageOf, ResultRel, ListRel, SlotTo, local_slots, static_slots, object_slots, SlotRel, AnswerRel}
 use Rattle.jr_runs.proofs.Locals.{shifted_less, shifted_write}
 use Rattle.jr_runs.proofs.ImageValues.{sign_image, bumped_image, bump_value_image, calculate_rel, cast_rel, operate_rel, class_of_image, is_instance_image, is_new_image, field_fits}
@@ -115,16 +115,42 @@ module _ {K : Keys} (g : Setting K) where
           (λ later. cast_held xs all.1 inside.1 c e k later p q u A l l' h)
           is
 
-      self_value : (A : NumberSet) (self : Self) → SelfIn self s.others → SelfIs g.keys self frame me me' → (e : Exp K) → SelfTo self e → (l l' : List (Value K)) → Shift A l l' → Matches g (Result A) (done (value (me, l))) (exp g.new me' e l')
-      self_value A itself i d e t l l' h = rw t.1 (match_value g (Result A) (me, l) (me', l') (d, h))
-      self_value A (held k) i d e t l l' h = rw t.2 (match_value g (Result A) (me, l) (local_at l' k, l') (h.others k i ∙ d, h))
-      self_value A nobody i d e t l l' h = rw t.1 (match_value g (Result A) (me, l) (null, l') (rw d refl, h))
-      self_value A unused i d e t l l' h = absurd t
+      -- what stands for `this` has its image
+      self_comes : (A : NumberSet) (self : Self) → SelfIn self s.others → SelfIs g.keys self frame me me' → (x : Exp K) → SelfTo self x → (l l' : List (Value K)) → Shift A l l' → exp g.new me' x l' ≡ done (value (value_image g.keys me, l'))
+      self_comes A itself i d x t l l' h = rw t.1 (ap (λ v. done (value (v, l'))) d)
+      self_comes A (held k) i d x t l l' h = rw t.2 (ap (λ v. done (value (v, l'))) (h.others k i ∙ d))
+      self_comes A nobody i d x t l l' h = rw (t.1, d) refl
+      self_comes A unused i d x t l l' h = absurd t
+
+      cast_image : (o o' : Out (Value K)) (v : Value K) → o ≡ value v → OutRel (ImageOf g.keys) o o' → o' ≡ value (value_image g.keys v)
+      cast_image o o' v e h = image_of o' (subst (λ x. OutRel (ImageOf g.keys) x o') e h)
+        where
+          image_of : (o' : Out (Value K)) → OutRel (ImageOf g.keys) (value v) o' → o' ≡ value (value_image g.keys v)
+          image_of (value w) h = ap value h
+          image_of (thrown f) h = absurd h
+
+      one_fits : (cs : List K.class) → HasAll g.old me cs → (c : K.class) → Among c cs → cast_value (is_instance g.old c me) me ≡ value me
+      one_fits [] all c is = absurd is
+      one_fits (d ∷ cs) all c is = ⊎_elim (λ (e : c ≡ d). rw e all.0) (λ k. one_fits cs all.1 c k) is
+
+      old_cast : (p : At K) (e : Exp K) → CastOf (λ c. c) s.code.classes (core.this p) e → (l : List (Value K)) → exp g.old me e l ≡ done (value (me, l))
+      old_cast p e uncast l = refl
+      old_cast p e (cast_once q c x is d) l = rw (old_cast p x d l) (ap (λ o. done (with_locals l o)) (one_fits s.code.classes im.classes c is))
+
+      new_cast : (x e : Exp K) → CastOf g.keys.class s.code.classes x e → (l' : List (Value K)) → exp g.new me' x l' ≡ done (value (value_image g.keys me, l')) → exp g.new me' e l' ≡ done (value (value_image g.keys me, l'))
+      new_cast x e uncast l' h = h
+      new_cast x e (cast_once q c y is d) l' h = rw (new_cast x y d l' h) (ap (λ o. done (with_locals l' o))
+          (cast_image (cast_value (is_instance g.old c me) me) (cast_value (is_instance g.new (g.keys.class c) (value_image g.keys me)) (value_image g.keys me)) me (one_fits s.code.classes im.classes c is)
+          (subst (λ b. OutRel (ImageOf g.keys) (cast_value (is_instance g.old c me) me) (cast_value b (value_image g.keys me))) (sym (is_instance_image g.keys g.old g.new g.rows c me)) (cast_rel g.keys (is_instance g.old c me) me))))
+
+      cast_this : (A : NumberSet) (p : At K) (x e e' : Exp K) → SelfTo s.code.self x → CastOf (λ c. c) s.code.classes (core.this p) e → CastOf g.keys.class s.code.classes x e' → (l l' : List (Value K)) → Shift A l l' → Matches g (Result A) (exp g.old me e l) (exp g.new me' e' l')
+      cast_this A p x e e' t d d' l l' h = rw (old_cast p e d l, new_cast x e' d' l' (self_comes A s.code.self stands.self im.self x t l l' h)) (match_value g (Result A) (me, l) (value_image g.keys me, l') (refl, h))
 
       mutual
         pub exp_match : (A B : NumberSet) (e e' : Exp K) → ExpTo g.keys g.old s.code A e e' B → (l l' : List (Value K)) → Shift A l l' → Matches g (Result B) (exp g.old me e l) (exp g.new me' e' l')
         exp_match A B e e' (to_literal C p q v) l l' h = match_value g (Result A) (v, l) (value_image g.keys v, l') (refl, h)
-        exp_match A B e e' (to_this C p x d) l l' h = self_value A s.code.self stands.self im.self x d l l' h
+        exp_match A B e e' (to_this C p x d) l l' h = cast_this A p x (core.this p) x d uncast uncast l l' h
+        exp_match A B e e' (to_cast_this C p x y y' t d d') l l' h = cast_this A p x y y' t d d' l l' h
         exp_match A B e e' (to_held C p q x k is) l l' h = held_value s.code.holds im.holds stands.held x k is p q A l l' h
         exp_match A B e e' (to_held_cast C p q u c x k is) l l' h = cast_held s.code.casts im.casts stands.cast c x k is p q u A l l' h
         exp_match A B e e' (to_read C D p q t t' d a) l l' h = match_next g (Slots B t) (Result B) (target g.old me t l) (target g.new me' t' l')

@@ -52,7 +52,7 @@ module _ {K : Keys} (g : Setting K) (Spot : Spots K) (turns : TurnsAnswered g Sp
       rw t.params (both_more g.more g.relation g.joins g.sides (OutRel (FlowRel g.keys (Shifted g.keys s no_frame t.behind) (SomeReturns c.body))) (AnswerRel g.keys) (run_code g.old me c args)
       (stmts g.new (value_image g.keys me) c'.body (first_locals c.params (map (value_image g.keys) args)))
       (unseen g (Shifted g.keys s no_frame t.behind) (SomeReturns c.body))
-      (stmts_match g Spot turns spots s st no_frame me (value_image g.keys me) (record { self = refl; holds = tt; casts = tt }) everything t.behind c.body c'.body t.body (first_locals c.params args) (first_locals c.params (map (value_image g.keys) args)) (shifted_start g.keys t.size t.at c.params t.injective t.params_below t.params_stay args)))
+      (stmts_match g Spot turns spots s st no_frame me (value_image g.keys me) (record { self = refl; classes = tt; holds = tt; casts = tt }) everything t.behind c.body c'.body t.body (first_locals c.params args) (first_locals c.params (map (value_image g.keys) args)) (shifted_start g.keys t.size t.at c.params t.injective t.params_below t.params_stay args)))
 
   method_match : (m m' : Method K) → MethodTo g.keys g.old Spot m m' → (me : Value K) (args : List (Value K)) → Answers (run_method g.old me m args) (run_method g.new (value_image g.keys me) m' (map (value_image g.keys) args))
   method_match (written c) (written c') t me args = code_match c c' t me args

@@ -67,7 +67,7 @@ pub record InlinesCall {K : Keys} (P : Program K) (s : Standing K) (A : NumberSe
   pub arg_to : ExpTo same_keys P.rows s.code A arg new_arg between
   pub body_behind : NumberSet
   pub new_body : Stmts K
-  pub body_to : StmtsTo same_keys P.rows NoSpot record { code = record { mine = upto size; at = at; self = nobody; known = []; holds = []; casts = [] }; others = map s.code.at s.code.mine ++ s.others } everything code.body new_body body_behind
+  pub body_to : StmtsTo same_keys P.rows NoSpot record { code = record { mine = upto size; at = at; self = nobody; classes = []; known = []; holds = []; casts = [] }; others = map s.code.at s.code.mine ++ s.others } everything code.body new_body body_behind
   pub rest : Stmts K
   pub new_rest : Stmts K
   pub rest_to : StmtsTo same_keys P.rows NoSpot s between rest new_rest B
@@ -154,11 +154,11 @@ module _ {K : Keys} (P Q : Program K) (c : Changes same_keys same_keys (InlinesC
   caller_casts (y ∷ ys) k q = (record { holds = record { result = q.0.holds.result; comes = q.0.holds.comes; there = still y.2 k.0 ∙ q.0.holds.there }; fits = q.0.fits }, caller_casts ys k.1 q.1)
 
   caller_holding : Holding P.rows same_keys s.code start_frame me me'
-  caller_holding = record { self = caller_self s.code.self st.self im.self; holds = caller_holds s.code.holds st.held im.holds; casts = caller_casts s.code.casts st.cast im.casts }
+  caller_holding = record { self = caller_self s.code.self st.self im.self; classes = im.classes; holds = caller_holds s.code.holds st.held im.holds; casts = caller_casts s.code.casts st.cast im.casts }
 
   -- the method's body in the block, behind the parameter
   abbrev inner : Standing K
-  inner = record { code = record { mine = upto x.size; at = x.at; self = nobody; known = []; holds = []; casts = [] }; others = map s.code.at s.code.mine ++ s.others }
+  inner = record { code = record { mine = upto x.size; at = x.at; self = nobody; classes = []; known = []; holds = []; casts = [] }; others = map s.code.at s.code.mine ++ s.others }
 
   inner_stands : Stands inner
   inner_stands = record {
@@ -236,7 +236,7 @@ module _ {K : Keys} (P Q : Program K) (c : Changes same_keys same_keys (InlinesC
       let m' : List (Value K) = with_local a'.1 (x.at 0) a'.0 in
       let d : Call K = invoke x.method null (a.0 ∷ []) in
       let run_is : table P d ≡ stmts P.rows null x.code.body (a.0 ∷ []) = ap (λ k. run_method P.rows null k (a.0 ∷ [])) x.is_written ∙ ap (λ n. stmts P.rows null x.code.body (first_locals n (a.0 ∷ []))) x.one_parameter in
-      let one : Matches g (Inner m') (stmts P.rows null x.code.body (a.0 ∷ [])) (body_new m') = kept_match g (InlinesCall P) turns inner inner_stands (record { here = []; there = m' }) null me' (record { self = refl; holds = tt; casts = tt }) everything x.code.body x.new_body x.body_behind x.body_to (a.0 ∷ []) m' (inner_shifted a a' q) in
+      let one : Matches g (Inner m') (stmts P.rows null x.code.body (a.0 ∷ [])) (body_new m') = kept_match g (InlinesCall P) turns inner inner_stands (record { here = []; there = m' }) null me' (record { self = refl; classes = tt; holds = tt; casts = tt }) everything x.code.body x.new_body x.body_behind x.body_to (a.0 ∷ []) m' (inner_shifted a a' q) in
       removed (Mapped same_keys) (table P) (table Q) Z (OutRel Flows) d (unfold_at (table P) Z.old_given tables.old_unfolds d) (fold_at (table P) Z.old_found tables.old_folds d) (after_call a.1) (next (body_new m') rest_new)
       (both_and 0 (Mapped same_keys) (mapped_joins same_keys) Z (OutRel (Inner m')) (OutRel Flows) (table P d) (after_call a.1) (body_new m') (on_value rest_new)
       (subst (λ p. Matches g (Inner m') p (body_new m')) (sym run_is) one) (answers a a' q))

@@ -118,7 +118,7 @@ module _ {K : Keys} (r q : KeyMap K) (Spot : Spots K) (n : ℕ) (W : List (Event
           let st : Stands s = record { injective = λ i j a b. t.injective i j (below_upto t.size i a) (below_upto t.size j b); apart = λ x b none. none; self = tt; held = tt; cast = tt } in
           both_more n W c.joins (well_sides Z) (OutRel (FlowRel r (Shifted r s no_frame t.behind) (SomeReturns a.body))) (AnswerRel r) (run_code P.rows me a args) (run_code Q.rows (value_image r me) a' (map (value_image r) args))
           (unseen g (Shifted r s no_frame t.behind) (SomeReturns a.body))
-          (stmts_known g Z refl typed.rows typed'.rows Spot turns (spots Z tables answered) s st no_frame me (value_image r me) (record { self = refl; holds = tt; casts = tt }) C i T C' i' T' everything t.behind a.body a'.body t.body (param_context 0 Ts) (param_context 0 Ts') w.body w'.body
+          (stmts_known g Z refl typed.rows typed'.rows Spot turns (spots Z tables answered) s st no_frame me (value_image r me) (record { self = refl; classes = tt; holds = tt; casts = tt }) C i T C' i' T' everything t.behind a.body a'.body t.body (param_context 0 Ts) (param_context 0 Ts') w.body w'.body
           (first_locals a.params args) (first_locals a'.params (map (value_image r) args))
           (subst (λ k. Shifted r s no_frame everything (first_locals a.params args) (first_locals k (map (value_image r) args))) (sym t.params) (shifted_start r t.size t.at a.params t.injective t.params_below t.params_stay args))
           (subst (λ k. LocalsFit P.rows (param_context 0 Ts) (first_locals k args)) (sym w.count) (locals_start P.rows Ts args j))

@@ -57,7 +57,7 @@ still_in ws (j ∷ is) i h never = go (is_in j ws) h (λ g. still_in ws is i g n
 -- reads or writes stay as they are.
 abbrev pub past : {K : Keys} → Standing K → (reads writes : List ℕ) → Standing K
 past s reads writes = record {
-  code = record { mine = without writes s.code.mine; at = s.code.at; self = s.code.self; known = reads ++ (writes ++ s.code.known); holds = []; casts = [] };
+  code = record { mine = without writes s.code.mine; at = s.code.at; self = s.code.self; classes = s.code.classes; known = reads ++ (writes ++ s.code.known); holds = []; casts = [] };
   others = map s.code.at writes ++ s.others;
 }
 
@@ -105,7 +105,7 @@ module _ {K : Keys} (g : Setting K) (s : Standing K) (stands : Stands s) (frame 
   self_is unused k q = q
 
   inner_holding : Holding g.old g.keys inner.code inner_frame me me'
-  inner_holding = record { self = self_is s.code.self stands.self im.self; holds = tt; casts = tt }
+  inner_holding = record { self = self_is s.code.self stands.self im.self; classes = im.classes; holds = tt; casts = tt }
 
   inner_shifted : Shifted g.keys inner inner_frame A (u.old l) l'
   inner_shifted = record {
@@ -158,7 +158,7 @@ module _ {K : Keys} (g : Setting K) (s : Standing K) (stands : Stands s) (frame 
   first_self unused k q = q
 
   first_holding : Holding g.old g.keys inner.code first_frame me me'
-  first_holding = record { self = first_self s.code.self stands.self im.self; holds = tt; casts = tt }
+  first_holding = record { self = first_self s.code.self stands.self im.self; classes = im.classes; holds = tt; casts = tt }
 
   first_shifted : Shifted g.keys inner first_frame A l (u.new l')
   first_shifted = record {

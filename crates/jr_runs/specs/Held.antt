@@ -1,7 +1,7 @@
 -- A local of one program holds the value of an expression that the other program, which has no
 -- such local, evaluates wherever the one reads the local. The expression reads locals alone, and
 -- makes nothing.
-use Rattle.std.specs.Prelude.{◌≡◌, ◌⊎◌, ℕ, List, [], ◌∷◌, ◌++◌, map, IsTrue}
+use Rattle.std.specs.Prelude.{◌≡◌, ℕ, List, ◌∷◌, ◌++◌, map, IsTrue}
 use Rattle.jr_plans.specs.Plan.{done}
 use Rattle.jr_runs.specs.Keys.{Keys, At}
 use Rattle.jr_runs.specs.Values.{Value}
@@ -18,7 +18,7 @@ use Rattle.jr_runs.specs.KeyMaps.{KeyMap}
 use Rattle.jr_runs.specs.Sets.{NumberSet, with_one, with_all, Within}
 use Rattle.jr_runs.specs.Standing.{Renumbering, Standing, In, IsFree}
 use Rattle.jr_runs.specs.Images.{Readable, Writable, behind_write, NoSpot, ExpTo, ExpsTo, BlockTo}
-use Rattle.jr_runs.specs.Images.{StmtTo, StmtsTo}
+use Rattle.jr_runs.specs.Images.{Among, StmtTo, StmtsTo}
 
 -- ---- up to the last read
 
@@ -131,6 +131,7 @@ holding s reads e n cs = record {
     mine = s.code.mine;
     at = s.code.at;
     self = s.code.self;
+    classes = s.code.classes;
     known = reads ++ s.code.known;
     holds = (e, n) ∷ s.code.holds;
     casts = map (λ c. (c, e, n)) cs ++ s.code.casts;
@@ -177,10 +178,6 @@ mutual
     last_sync : (A B C : NumberSet) (p q p' q' : At K) (e e' : Exp K) (b b' : Stmts K)
         → ExpTo r R s.code A e e' B → Until r R s z B b b' C
         → StmtUntil r R s z A (core.sync p q e b) (core.sync p' q' e' b') C
-
-abbrev pub Among : {X : Type 0} → X → List X → Type 0
-Among x [] = ⊥
-Among x (y ∷ ys) = (x ≡ y) ⊎ Among x ys
 
 -- A, B: which locals agree before both lists, and behind them
 pub record HoldsLocal {K : Keys} (r : KeyMap K) (R : Rows K) (s : Standing K) (A : NumberSet)

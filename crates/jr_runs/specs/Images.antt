@@ -1,5 +1,5 @@
 -- When new code is old code with other keys, other numbers of locals and other places.
-use Rattle.std.specs.Prelude.{◌≡◌, ◌<◌, ◌≤◌, ℕ, List, Some, option_map, IsTrue}
+use Rattle.std.specs.Prelude.{◌≡◌, ◌⊎◌, ◌<◌, ◌≤◌, ℕ, List, [], ◌∷◌, Some, option_map, IsTrue}
 use Rattle.jr_runs.specs.Keys.{Keys, At}
 use Rattle.jr_runs.specs.Values.{Value, null}
 use Rattle.jr_runs.specs.Rows.{Rows}
@@ -20,6 +20,17 @@ SelfTo {K = K} itself e = (p : At K) × (e ≡ this p)
 SelfTo {K = K} (held k) e = (p : At K) × (q : At K) × (e ≡ read p (local q k))
 SelfTo {K = K} nobody e = (p : At K) × (e ≡ literal p null)
 SelfTo unused e = ⊥
+
+abbrev pub Among : {X : Type 0} → X → List X → Type 0
+Among x [] = ⊥
+Among x (y ∷ ys) = (x ≡ y) ⊎ Among x ys
+
+-- the second expression is the first, cast any number of times to these classes, or to their images
+pub data CastOf {K : Keys} (f : K.class → K.class) (cs : List K.class) (e : Exp K) : Exp K
+    → Type 0 where
+  uncast : CastOf f cs e e
+  cast_once : (p : At K) (c : K.class) (x : Exp K) → Among c cs → CastOf f cs e x
+      → CastOf f cs e (cast p (f c) x)
 
 -- a local that is read agrees
 abbrev pub Readable : {K : Keys} → NumberSet → Target K → Type 0
@@ -49,6 +60,10 @@ mutual
         → ExpTo r R s A (literal p v) (literal q (value_image r v)) A
     to_this : (A : NumberSet) (p : At K) (e : Exp K) → SelfTo s.self e
         → ExpTo r R s A (this p) e A
+    -- `this` and what stands for it, each cast or not, where the casts can't fail
+    to_cast_this : (A : NumberSet) (p : At K) (x e e' : Exp K) → SelfTo s.self x
+        → CastOf (λ c. c) s.classes (this p) e → CastOf r.class s.classes x e'
+        → ExpTo r R s A e e' A
     -- a local stands for the expression
     to_held : (A : NumberSet) (p q : At K) (e : Exp K) (k : ℕ) → IsHeld e k s.holds
         → ExpTo r R s A e (read p (local q k)) A

@@ -34,6 +34,8 @@ pub record Renumbering (K : Keys) : Type 0 where
   pub mine : List ℕ
   pub at : ℕ → ℕ
   pub self : Self
+  -- classes that `this` has, so that a cast of it to one of them can't fail
+  pub classes : List K.class
   -- those that the code doesn't write, and whose values are as in the frame
   pub known : List ℕ
   -- expressions, and the further local of the new code that is read in place of each
@@ -86,7 +88,7 @@ pub record Stands {K : Keys} (s : Standing K) : Type 0 where
 -- a whole member: `this` is `this`, and there are no further locals
 abbrev pub whole : {K : Keys} → ℕ → (ℕ → ℕ) → Standing K
 whole n f = record {
-  code = record { mine = upto n; at = f; self = itself; known = []; holds = []; casts = [] };
+  code = record { mine = upto n; at = f; self = itself; classes = []; known = []; holds = []; casts = [] };
   others = [];
 }
 
@@ -132,10 +134,16 @@ abbrev pub AllHoldAs : {K : Keys} → Rows K → KeyMap K → List ℕ → Frame
 AllHoldAs R r known frame me [] = Unit {0}
 AllHoldAs R r known frame me (h ∷ hs) = HoldsAs R r known frame me h.0 h.1 h.2 × AllHoldAs R r known frame me hs
 
+-- `this` is an instance of each, or null
+abbrev pub HasAll : {K : Keys} → Rows K → Value K → List K.class → Type 0
+HasAll R me [] = Unit {0}
+HasAll R me (c ∷ cs) = (cast_value (is_instance R c me) me ≡ value me) × HasAll R me cs
+
 -- what stands for `this` and for expressions is that
 pub record Holding {K : Keys} (R : Rows K) (r : KeyMap K) (s : Renumbering K) (frame : Frame K)
     (me me' : Value K) : Type 0 where
   pub self : SelfIs r s.self frame me me'
+  pub classes : HasAll R me s.classes
   pub holds : AllHold R r s.known frame me s.holds
   pub casts : AllHoldAs R r s.known frame me s.casts
 

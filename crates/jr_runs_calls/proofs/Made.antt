@@ -126,7 +126,7 @@ module _ {K : Keys} (P Q : Program K) (c : Changes same_keys same_keys (Extracts
   }
 
   inner_holding : Holding P.rows same_keys inner.code inner_frame me null
-  inner_holding = record { self = tt; holds = tt; casts = tt }
+  inner_holding = record { self = tt; classes = tt; holds = tt; casts = tt }
 
   abbrev Inner : Flow K → Flow K → Type 0
   Inner y y' = FlowRel same_keys (Shifted same_keys inner inner_frame x.ends) (SomeReturns x.piece) y y'

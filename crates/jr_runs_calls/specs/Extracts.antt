@@ -14,7 +14,15 @@ use Rattle.jr_runs.specs.Alike.{AlikeExactly}
 -- a piece that names no `this`, alone in a method
 abbrev pub apart : {K : Keys} → List ℕ → (ℕ → ℕ) → List ℕ → Standing K
 apart mine at known = record {
-  code = record { mine = mine; at = at; self = unused; known = known; holds = []; casts = [] };
+  code = record {
+    mine = mine;
+    at = at;
+    self = unused;
+    classes = [];
+    known = known;
+    holds = [];
+    casts = [];
+  };
   others = [];
 }
 
