@@ -1,16 +1,18 @@
 -- Two programs that are alike. Fields are truths, and the new program has the one where the old one has the other:
 -- `int m(int a) { int b = a + f; while (b < g) { synchronized (this) { b = m(b); f++; } } return b; }`, with f and g exchanged.
-use Rattle.std.proofs.Common.{◌≡◌, ◌<◌, ◌+◌, ℕ, Bool, true, false, not, [], ◌∷◌, Some, None, nat_eq, refl, ap, arith}
+use Rattle.std.proofs.Common.{inl, inr, ◌≡◌, ◌+◌, ℕ, Bool, true, false, not, [], ◌∷◌, Some, None, nat_eq, refl, ap, arith}
 use Rattle.jr_runs.specs.Keys.{Keys, keys_of}
 use Rattle.jr_runs.specs.Values.{int_type}
 use Rattle.jr_runs.specs.Actions.{FieldKind, plain, volatile}
 use Rattle.jr_runs.specs.Rows.{Rows}
 use Rattle.jr_runs.specs.Core as core
-use Rattle.jr_runs.specs.Core.{add, less, arithmetic, comparison, post_increment, Exp, literal, this, read, assign, bump, binary, instance_call, Target, local, field_of, Exps, Stmt, declare, eval, branch, loop, return, block, sync, Stmts, Code, Method, written, Program}
+use Rattle.jr_runs.specs.Core.{add, less, arithmetic, comparison, post_increment, Exp, this, read, assign, bump, binary, instance_call, Target, local, field_of, Exps, declare, eval, loop, return, block, sync, Stmts, written, Program}
 use Rattle.jr_runs.specs.KeyMaps.{KeyMap, Undoes}
-use Rattle.jr_runs.specs.Standing.{Standing, whole}
-use Rattle.jr_runs.specs.Images.{ExpTo, to_this, to_read, to_assign, to_bump, to_binary, to_instance_call, TargetTo, to_local, to_field_of, to_end, to_more, to_declare, to_eval, to_loop, to_return, to_block, to_sync, StmtsTo, to_no_more, to_list, CodeTo, SameRows}
+use Rattle.jr_runs.specs.Sets.{everything}
+use Rattle.jr_runs.specs.Standing.{In, IsFree, Standing, whole}
+use Rattle.jr_runs.specs.Images.{NoSpot, ExpTo, to_this, to_read, to_assign, to_bump, to_binary, to_instance_call, TargetTo, to_local, to_field_of, to_end, to_more, to_declare, to_eval, to_loop, to_return, to_block, to_sync, StmtsTo, to_no_more, to_list, CodeTo, SameRows}
 use Rattle.jr_runs.specs.Alike.{AlikeExactly}
+use Rattle.jr_runs.proofs.Locals.{within_one}
 use Rattle.jr_runs.proofs.Renaming.{renamed_programs_are_alike}
 
 abbrev pub J : Keys
@@ -98,69 +100,69 @@ old = program_of 100 true false kind_in_old
 abbrev new : Program J
 new = program_of 500 false true (λ f. kind_in_old (not f))
 
-abbrev no_change : Standing → Stmts J → Stmts J → Type 0
-no_change s b b' = ⊥
-
-abbrev two_locals : Standing
+abbrev two_locals : Standing J
 two_locals = whole 2 (λ i. i)
 
 abbrev To : Exp J → Exp J → Type 0
-To e e' = ExpTo exchanged (rows_with kind_in_old) two_locals.code e e'
+To e e' = ExpTo exchanged (rows_with kind_in_old) two_locals.code everything e e' everything
 
 abbrev StmtsImage : Stmts J → Stmts J → Type 0
-StmtsImage b b' = StmtsTo exchanged (rows_with kind_in_old) no_change two_locals b b'
+StmtsImage b b' = StmtsTo exchanged (rows_with kind_in_old) NoSpot two_locals everything b b' everything
 
 -- the parts of the new body for those of the old one; a step is one or more statements
 module _ (p q : ℕ) (f g : Bool) where
-  to_variable : (k n : ℕ) → n < 2 → To (variable (p + k) n) (variable (q + k) n)
-  to_variable k n h = to_read (Some (p + k)) (Some (q + k)) (local (Some (p + k)) n) (local (Some (q + k)) n) (to_local (Some (p + k)) (Some (q + k)) n h)
+  to_variable : (k n : ℕ) → In n two_locals.code.mine → To (variable (p + k) n) (variable (q + k) n)
+  to_variable k n h = to_read everything everything (Some (p + k)) (Some (q + k)) (local (Some (p + k)) n) (local (Some (q + k)) n) (to_local everything (Some (p + k)) (Some (q + k)) n h) refl
 
-  to_mine : (k : ℕ) (d : Bool) → TargetTo exchanged (rows_with kind_in_old) two_locals.code (mine (p + k) d) (mine (q + k) (not d))
-  to_mine k d = to_field_of (Some (p + k)) (Some (q + k)) (this None) (this None) d (to_this None (this None) (None, refl))
+  to_mine : (k : ℕ) (d : Bool) → TargetTo exchanged (rows_with kind_in_old) two_locals.code everything (mine (p + k) d) (mine (q + k) (not d)) everything
+  to_mine k d = to_field_of everything everything (Some (p + k)) (Some (q + k)) (this None) (this None) d (to_this everything None (this None) (None, refl))
 
   to_field : (k : ℕ) (d : Bool) → To (read (Some (p + k)) (mine (p + k) d)) (read (Some (q + k)) (mine (q + k) (not d)))
-  to_field k d = to_read (Some (p + k)) (Some (q + k)) (mine (p + k) d) (mine (q + k) (not d)) (to_mine k d)
+  to_field k d = to_read everything everything (Some (p + k)) (Some (q + k)) (mine (p + k) d) (mine (q + k) (not d)) (to_mine k d) tt
 
-  below_0 : 0 < 2
-  below_0 = omega arith
+  in_0 : In 0 two_locals.code.mine
+  in_0 = inr (inl refl)
 
-  below_1 : 1 < 2
-  below_1 = omega arith
+  in_1 : In 1 two_locals.code.mine
+  in_1 = inl refl
+
+  free_1 : IsFree two_locals.code 1
+  free_1 = record { below = in_1; unknown = λ e. e }
 
   to_call : To (called p) (called q)
-  to_call = to_instance_call (Some (p + 12)) (Some (q + 12)) (this None) (this None) 0 (core.Exps.more (variable (p + 13) 1) core.Exps.end) (core.Exps.more (variable (q + 13) 1) core.Exps.end) refl
-      (to_this None (this None) (None, refl)) (to_more (variable (p + 13) 1) (variable (q + 13) 1) core.Exps.end core.Exps.end (to_variable 13 1 below_1) to_end)
+  to_call = to_instance_call everything everything everything (Some (p + 12)) (Some (q + 12)) (this None) (this None) 0 (core.Exps.more (variable (p + 13) 1) core.Exps.end) (core.Exps.more (variable (q + 13) 1) core.Exps.end) refl
+      (to_this everything None (this None) (None, refl)) (to_more everything everything everything (variable (p + 13) 1) (variable (q + 13) 1) core.Exps.end core.Exps.end (to_variable 13 1 in_1) (to_end everything))
 
   to_monitored : StmtsImage (monitored p f) (monitored q (not f))
-  to_monitored = to_list (eval (Some (p + 11)) (assign (Some (p + 11)) (local (Some (p + 11)) 1) (called p))) (eval (Some (q + 11)) (assign (Some (q + 11)) (local (Some (q + 11)) 1) (called q)))
+  to_monitored = to_list everything everything everything (eval (Some (p + 11)) (assign (Some (p + 11)) (local (Some (p + 11)) 1) (called p))) (eval (Some (q + 11)) (assign (Some (q + 11)) (local (Some (q + 11)) 1) (called q)))
       (core.Stmts.more (eval (Some (p + 14)) (bump (Some (p + 14)) post_increment (mine (p + 14) f))) core.Stmts.end) (core.Stmts.more (eval (Some (q + 14)) (bump (Some (q + 14)) post_increment (mine (q + 14) (not f)))) core.Stmts.end)
-      (to_eval (Some (p + 11)) (Some (q + 11)) (assign (Some (p + 11)) (local (Some (p + 11)) 1) (called p)) (assign (Some (q + 11)) (local (Some (q + 11)) 1) (called q))
-      (to_assign (Some (p + 11)) (Some (q + 11)) (local (Some (p + 11)) 1) (local (Some (q + 11)) 1) (called p) (called q) (to_local (Some (p + 11)) (Some (q + 11)) 1 below_1) to_call))
-      (to_list (eval (Some (p + 14)) (bump (Some (p + 14)) post_increment (mine (p + 14) f))) (eval (Some (q + 14)) (bump (Some (q + 14)) post_increment (mine (q + 14) (not f)))) core.Stmts.end core.Stmts.end
-      (to_eval (Some (p + 14)) (Some (q + 14)) (bump (Some (p + 14)) post_increment (mine (p + 14) f)) (bump (Some (q + 14)) post_increment (mine (q + 14) (not f))) (to_bump (Some (p + 14)) (Some (q + 14)) post_increment (mine (p + 14) f) (mine (q + 14) (not f)) (to_mine 14 f)))
-      to_no_more)
+      (to_eval everything everything (Some (p + 11)) (Some (q + 11)) (assign (Some (p + 11)) (local (Some (p + 11)) 1) (called p)) (assign (Some (q + 11)) (local (Some (q + 11)) 1) (called q))
+      (to_assign everything everything everything everything (Some (p + 11)) (Some (q + 11)) (local (Some (p + 11)) 1) (local (Some (q + 11)) 1) (called p) (called q) (to_local everything (Some (p + 11)) (Some (q + 11)) 1 in_1) (λ e. e) to_call (within_one everything 1)))
+      (to_list everything everything everything (eval (Some (p + 14)) (bump (Some (p + 14)) post_increment (mine (p + 14) f))) (eval (Some (q + 14)) (bump (Some (q + 14)) post_increment (mine (q + 14) (not f)))) core.Stmts.end core.Stmts.end
+      (to_eval everything everything (Some (p + 14)) (Some (q + 14)) (bump (Some (p + 14)) post_increment (mine (p + 14) f)) (bump (Some (q + 14)) post_increment (mine (q + 14) (not f))) (to_bump everything everything everything (Some (p + 14)) (Some (q + 14)) post_increment (mine (p + 14) f) (mine (q + 14) (not f)) (to_mine 14 f) tt tt (λ i a. a)))
+      (to_no_more everything))
 
   to_locked : StmtsImage (locked p f) (locked q (not f))
-  to_locked = to_list (sync (Some (p + 9)) (Some (p + 30)) (this (Some (p + 10))) (monitored p f)) (sync (Some (q + 9)) (Some (q + 30)) (this (Some (q + 10))) (monitored q (not f))) core.Stmts.end core.Stmts.end
-      (to_sync (Some (p + 9)) (Some (p + 30)) (Some (q + 9)) (Some (q + 30)) (this (Some (p + 10))) (this (Some (q + 10))) (monitored p f) (monitored q (not f)) (to_this (Some (p + 10)) (this (Some (q + 10))) (Some (q + 10), refl)) to_monitored)
-      to_no_more
+  to_locked = to_list everything everything everything (sync (Some (p + 9)) (Some (p + 30)) (this (Some (p + 10))) (monitored p f)) (sync (Some (q + 9)) (Some (q + 30)) (this (Some (q + 10))) (monitored q (not f))) core.Stmts.end core.Stmts.end
+      (to_sync everything everything everything (Some (p + 9)) (Some (p + 30)) (Some (q + 9)) (Some (q + 30)) (this (Some (p + 10))) (this (Some (q + 10))) (monitored p f) (monitored q (not f)) (to_this everything (Some (p + 10)) (this (Some (q + 10))) (Some (q + 10), refl)) to_monitored)
+      (to_no_more everything)
 
   to_looped : StmtsImage (looped p f g) (looped q (not f) (not g))
-  to_looped = to_list (loop (Some (p + 4)) (condition p g) (block (Some (p + 8)) [] (locked p f))) (loop (Some (q + 4)) (condition q (not g)) (block (Some (q + 8)) [] (locked q (not f))))
+  to_looped = to_list everything everything everything (loop (Some (p + 4)) (condition p g) (block (Some (p + 8)) [] (locked p f))) (loop (Some (q + 4)) (condition q (not g)) (block (Some (q + 8)) [] (locked q (not f))))
       (core.Stmts.more (return (Some (p + 15)) (variable (p + 16) 1)) core.Stmts.end) (core.Stmts.more (return (Some (q + 15)) (variable (q + 16) 1)) core.Stmts.end)
-      (to_loop (Some (p + 4)) (Some (q + 4)) (condition p g) (condition q (not g)) (block (Some (p + 8)) [] (locked p f)) (block (Some (q + 8)) [] (locked q (not f)))
-      (to_binary (Some (p + 5)) (Some (q + 5)) (comparison less) (variable (p + 6) 1) (variable (q + 6) 1) (read (Some (p + 7)) (mine (p + 7) g)) (read (Some (q + 7)) (mine (q + 7) (not g))) (to_variable 6 1 below_1) (to_field 7 g))
-      (to_block (Some (p + 8)) (Some (q + 8)) [] (locked p f) (locked q (not f)) tt to_locked))
-      (to_list (return (Some (p + 15)) (variable (p + 16) 1)) (return (Some (q + 15)) (variable (q + 16) 1)) core.Stmts.end core.Stmts.end (to_return (Some (p + 15)) (Some (q + 15)) (variable (p + 16) 1) (variable (q + 16) 1) (to_variable 16 1 below_1)) to_no_more)
+      (to_loop everything everything everything everything (Some (p + 4)) (Some (q + 4)) (condition p g) (condition q (not g)) (block (Some (p + 8)) [] (locked p f)) (block (Some (q + 8)) [] (locked q (not f))) (λ i a. a)
+      (to_binary everything everything everything (Some (p + 5)) (Some (q + 5)) (comparison less) (variable (p + 6) 1) (variable (q + 6) 1) (read (Some (p + 7)) (mine (p + 7) g)) (read (Some (q + 7)) (mine (q + 7) (not g))) (to_variable 6 1 in_1) (to_field 7 g))
+      (to_block everything everything everything (Some (p + 8)) (Some (q + 8)) [] [] (locked p f) (locked q (not f)) (record { all = λ i b g. g; only = λ i b g. g; others = λ j o g. g; known = λ i o g. g }) (λ i a. a) to_locked) (λ i a. a))
+      (to_list everything everything everything (return (Some (p + 15)) (variable (p + 16) 1)) (return (Some (q + 15)) (variable (q + 16) 1)) core.Stmts.end core.Stmts.end (to_return everything everything everything (Some (p + 15)) (Some (q + 15)) (variable (p + 16) 1) (variable (q + 16) 1) (to_variable 16 1 in_1)) (to_no_more everything))
 
   to_body : StmtsImage (body p f g) (body q (not f) (not g))
-  to_body = to_list (declare (Some p) 1 (sum p f)) (declare (Some q) 1 (sum q (not f))) (looped p f g) (looped q (not f) (not g))
-      (to_declare (Some p) (Some q) 1 (sum p f) (sum q (not f)) below_1
-      (to_binary (Some (p + 1)) (Some (q + 1)) (arithmetic add) (variable (p + 2) 0) (variable (q + 2) 0) (read (Some (p + 3)) (mine (p + 3) f)) (read (Some (q + 3)) (mine (q + 3) (not f))) (to_variable 2 0 below_0) (to_field 3 f)))
+  to_body = to_list everything everything everything (declare (Some p) 1 (sum p f)) (declare (Some q) 1 (sum q (not f))) (looped p f g) (looped q (not f) (not g))
+      (to_declare everything everything everything (Some p) (Some q) 1 (sum p f) (sum q (not f)) free_1
+      (to_binary everything everything everything (Some (p + 1)) (Some (q + 1)) (arithmetic add) (variable (p + 2) 0) (variable (q + 2) 0) (read (Some (p + 3)) (mine (p + 3) f)) (read (Some (q + 3)) (mine (q + 3) (not f))) (to_variable 2 0 in_0) (to_field 3 f)) (within_one everything 1))
       to_looped
 
-same_code : (m : ℕ) → CodeTo exchanged (rows_with kind_in_old) no_change record { params = 1; body = body 100 true false } record { params = 1; body = body 500 false true }
-same_code m = record { size = 2; at = λ i. i; injective = λ i j a b e. e; params = refl; params_below = omega arith; params_stay = λ i h. refl; body = to_body 100 500 true false }
+same_code : (m : ℕ) → CodeTo exchanged (rows_with kind_in_old) NoSpot record { params = 1; body = body 100 true false } record { params = 1; body = body 500 false true }
+same_code m = record { size = 2; at = λ i. i; injective = λ i j a b e. e; params = refl; params_below = omega arith; params_stay = λ i h. refl; behind = everything; body = to_body 100 500 true false }
 
 -- they have the same runs
 pub programs_are_alike : AlikeExactly exchanged old new

@@ -9,12 +9,12 @@ use Rattle.jr_runs.specs.Keys.{Keys}
 use Rattle.jr_runs.specs.Values.{Value}
 use Rattle.jr_runs.specs.Actions.{Event, Trace}
 use Rattle.jr_runs.specs.Arithmetic.{Out, value, thrown}
-use Rattle.jr_runs.specs.Core.{Stmts, Program}
+use Rattle.jr_runs.specs.Core.{Program}
 use Rattle.jr_runs.specs.Evaluation.{Flow, goes_on, returns, Call, table}
 use Rattle.jr_runs.specs.Running.{Start, of_method, of_constructor, call_of, actions_of, Ending, ending_of, Whole, Bounded}
 use Rattle.jr_runs.specs.Starting.{IsStart}
 use Rattle.jr_runs.specs.KeyMaps.{KeyMap, Undoes, trace_image, start_image, ending_image}
-use Rattle.jr_runs.specs.Standing.{Standing}
+use Rattle.jr_runs.specs.Images.{Spots}
 use Rattle.jr_runs.specs.Alike.{Alike}
 use Rattle.jr_runs.specs.Pairs.{AnswerRel, Pair, Post}
 
@@ -48,12 +48,14 @@ module _ {K : Keys} where
 
   ending_rel : (r : KeyMap K) (o o' : Out (Flow K)) → AnswerRel r o o' → ending_of o' ≡ ending_image r (ending_of o)
   ending_rel r (value (goes_on l)) (value (goes_on l')) h = refl
-  ending_rel r (value (returns (Some v))) (value (returns (Some v'))) h = rw h.0 refl
+  ending_rel r (value (returns (Some v))) (value (returns (Some v'))) h = rw h refl
   ending_rel r (value (returns None)) (value (returns None)) h = refl
-  ending_rel r (value (returns (Some v))) (value (returns None)) h = absurd h.0
-  ending_rel r (value (returns None)) (value (returns (Some v))) h = absurd h.0
-  ending_rel r (value (goes_on l)) (value (returns v')) h = absurd h
-  ending_rel r (value (returns v)) (value (goes_on l')) h = absurd h
+  ending_rel r (value (returns (Some v))) (value (returns None)) h = absurd h
+  ending_rel r (value (returns None)) (value (returns (Some v))) h = absurd h
+  ending_rel r (value (goes_on l)) (value (returns (Some v'))) h = absurd h
+  ending_rel r (value (returns (Some v))) (value (goes_on l')) h = absurd h
+  ending_rel r (value (goes_on l)) (value (returns None)) h = refl
+  ending_rel r (value (returns None)) (value (goes_on l')) h = refl
   ending_rel r (value f) (thrown g) h = absurd h
   ending_rel r (thrown f) (value g) h = absurd h
   ending_rel r (thrown f) (thrown g) h = rw h refl
@@ -125,7 +127,7 @@ module _ {K : Keys} (r s : KeyMap K) (undoes : Undoes r s) (n : ℕ) (W : List (
   }
 
 -- by calls that match, wherever they are made
-pub starts_match : {K : Keys} (r : KeyMap K) (Spot : Standing → Stmts K → Stmts K → Type 0) (n : ℕ) (W : List (Event K) → List (Event K) → Type 0) (P Q : Program K)
+pub starts_match : {K : Keys} (r : KeyMap K) (Spot : Spots K) (n : ℕ) (W : List (Event K) → List (Event K) → Type 0) (P Q : Program K)
     → ((fuel : ℕ) → AnsweredBoth n W (Pair r P.rows Spot) (Post r P.rows Spot) (sides_at (table P) (table Q) fuel))
     → (c : Start K) → IsStart P.rows c → (fuel : ℕ) → CallBoth n W (sides_at (table P) (table Q) fuel) (AnswerRel r) (call_of c) (call_of (start_image r c))
 starts_match r Spot n W P Q match (of_method m me args) i fuel = match fuel (call_of (of_method m me args)) (call_of (start_image r (of_method m me args))) (i.0, refl, refl, refl)

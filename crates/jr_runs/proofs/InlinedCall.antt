@@ -13,16 +13,17 @@ use Rattle.jr_runs.specs.Values.{Value, null}
 use Rattle.jr_runs.specs.Actions.{Event}
 use Rattle.jr_runs.specs.Arithmetic.{Out, value, thrown}
 use Rattle.jr_runs.specs.Core as core
-use Rattle.jr_runs.specs.Core.{Exp, static_call, Stmt, declare, eval, block, Stmts, Code, Method, written, Program}
+use Rattle.jr_runs.specs.Core.{Exp, static_call, declare, eval, block, Stmts, Code, written, Program}
 use Rattle.jr_runs.specs.Evaluation.{Flow, goes_on, returns, Call, invoke, Step, on_value, next, local_at, with_local, first_locals, unset, answer, exp, on_flow, stmts, run_method, table}
 use Rattle.jr_runs.specs.KeyMaps.{Undoes, same_keys, value_image}
-use Rattle.jr_runs.specs.Standing.{nobody, Standing, In, Stands, SelfIs, Shifted}
+use Rattle.jr_runs.specs.Standing.{upto, Self, itself, held, nobody, unused, Standing, In, SelfIn, HeldIn, CastIn, Stands, Frame, SelfIs, AllHold, AllHoldAs, Holding, Shifted}
+use Rattle.jr_runs.specs.Sets.{NumberSet, everything}
 use Rattle.jr_runs.specs.Images.{NoSpot, ExpTo, StmtsTo, ProgramTo}
 use Rattle.jr_runs.specs.Pairs.{OutRel, ResultRel, FlowRel, SomeReturns, Pair, Post}
 use Rattle.jr_runs.specs.Alike.{AlikeExactly}
 use Rattle.jr_runs.proofs.Locals as locals
 use Rattle.jr_runs.proofs.Locals.{not_written}
-use Rattle.jr_runs.proofs.Numbers.{upto, in_upto, upto_in, in_map, map_in, in_left, in_right, in_both, unset_other, unset_null, self_in_more, self_is_still}
+use Rattle.jr_runs.proofs.Numbers.{in_upto, upto_in, in_map, map_in, in_left, in_right, in_both, unset_other, unset_null, self_in_more}
 use Rattle.jr_runs.proofs.Matching.{Setting, Matches, match_next}
 use Rattle.jr_runs.proofs.ImageExps.{exp_match}
 use Rattle.jr_runs.proofs.ImageStmts.{TurnsAnswered, wider}
@@ -45,7 +46,7 @@ unfold_at : {V E S R : Type 0} (table : S → Plan V E S R R) (X : World E S R) 
 unfold_at table X f c = record { ends = λ t r h. f.ends c t r h; begins = λ t h. f.begins c t h }
 
 -- `m(arg);` becomes `{ T p = arg; body }`, and what stands behind it is kept
-pub record InlinesCall {K : Keys} (P : Program K) (s : Standing) (old new : Stmts K) : Type 0 where
+pub record InlinesCall {K : Keys} (P : Program K) (s : Standing K) (A : NumberSet) (old new : Stmts K) (B : NumberSet) : Type 0 where
   pub method : K.method
   pub has : IsTrue (P.rows.has_method method)
   pub code : Code K
@@ -56,17 +57,20 @@ pub record InlinesCall {K : Keys} (P : Program K) (s : Standing) (old new : Stmt
   pub some : 0 < size
   pub at : ℕ → ℕ
   pub injective : (i j : ℕ) → i < size → j < size → at i ≡ at j → i ≡ j
-  pub fresh : (i j : ℕ) → i < size → j < s.code.size → s.code.at j ≡ at i → ⊥
+  pub fresh : (i j : ℕ) → i < size → In j s.code.mine → s.code.at j ≡ at i → ⊥
   pub fresh_others : (i : ℕ) → i < size → In (at i) s.others → ⊥
   pub no_return : SomeReturns code.body → ⊥
   pub arg : Exp K
   pub new_arg : Exp K
-  pub arg_to : ExpTo same_keys P.rows s.code arg new_arg
+  -- behind the argument, and so behind the block
+  pub between : NumberSet
+  pub arg_to : ExpTo same_keys P.rows s.code A arg new_arg between
+  pub body_behind : NumberSet
   pub new_body : Stmts K
-  pub body_to : StmtsTo same_keys P.rows NoSpot record { code = record { size = size; at = at; self = nobody }; others = map s.code.at (upto s.code.size) ++ s.others } code.body new_body
+  pub body_to : StmtsTo same_keys P.rows NoSpot record { code = record { mine = upto size; at = at; self = nobody; classes = []; known = []; holds = []; casts = [] }; others = map s.code.at s.code.mine ++ s.others } everything code.body new_body body_behind
   pub rest : Stmts K
   pub new_rest : Stmts K
-  pub rest_to : StmtsTo same_keys P.rows NoSpot s rest new_rest
+  pub rest_to : StmtsTo same_keys P.rows NoSpot s between rest new_rest B
   pub eval_at : At K
   pub call_at : At K
   pub block_at : At K
@@ -79,7 +83,7 @@ same_undoes = record { class = λ k. refl; field = λ k. refl; method = λ k. re
 
 module _ {K : Keys} (P Q : Program K) (c : Changes same_keys same_keys (InlinesCall P) 0 (Mapped same_keys) P Q) (Z : Sides (Event K) (Call K) (Out (Flow K)) (Call K) (Out (Flow K))) (tables : Tables (table P) (table Q) Z)
     (answered : AnsweredBoth 0 (Mapped same_keys) (Pair same_keys P.rows (InlinesCall P)) (Post same_keys P.rows (InlinesCall P)) Z)
-    (s : Standing) (st : Stands s) (frame : List (Value K)) (me me' : Value K) (im : SelfIs same_keys s.code.self frame me me') (old new : Stmts K) (x : InlinesCall P s old new) (l l' : List (Value K)) (h : Shifted same_keys s frame l l') where
+    (s : Standing K) (st : Stands s) (frame : Frame K) (me me' : Value K) (im : Holding P.rows same_keys s.code frame me me') (A : NumberSet) (old new : Stmts K) (B : NumberSet) (x : InlinesCall P s A old new B) (l l' : List (Value K)) (h : Shifted same_keys s frame A l l') where
   abbrev g : Setting K
   g = setting same_keys same_keys (InlinesCall P) 0 (Mapped same_keys) P Q c Z answered
 
@@ -92,74 +96,108 @@ module _ {K : Keys} (P Q : Program K) (c : Changes same_keys same_keys (InlinesC
   abbrev start : List (Value K)
   start = unset numbers l'
 
+  abbrev start_frame : Frame K
+  start_frame = record { here = frame.here; there = start }
+
   number_in : (i : ℕ) → i < x.size → In (x.at i) numbers
   number_in i b = in_map x.at i (upto x.size) (in_upto x.size i b)
 
-  not_number : (j : ℕ) → j < s.code.size → In (s.code.at j) numbers → ⊥
+  not_number : (j : ℕ) → In j s.code.mine → In (s.code.at j) numbers → ⊥
   not_number j b i = let d = map_in x.at (s.code.at j) (upto x.size) i in x.fresh d.0 j (upto_in x.size d.0 d.1) b d.2
 
   not_other : (j : ℕ) → In j s.others → In j numbers → ⊥
   not_other j o i = let d = map_in x.at j (upto x.size) i in x.fresh_others d.0 (upto_in x.size d.0 d.1) (subst (λ k. In k s.others) d.2 o)
 
   -- the caller, while its argument is evaluated: the method's locals stay unset
-  abbrev caller : Standing
+  abbrev caller : Standing K
   caller = record { code = s.code; others = s.others ++ numbers }
+
+  held_more : (hs : List (Exp K × ℕ)) → HeldIn hs s.others → HeldIn hs (s.others ++ numbers)
+  held_more [] k = tt
+  held_more (y ∷ ys) k = (in_left y.1 s.others numbers k.0, held_more ys k.1)
+
+  cast_more : (hs : List (K.class × Exp K × ℕ)) → CastIn hs s.others → CastIn hs (s.others ++ numbers)
+  cast_more [] k = tt
+  cast_more (y ∷ ys) k = (in_left y.2 s.others numbers k.0, cast_more ys k.1)
+
+  still : (j : ℕ) → In j s.others → local_at start j ≡ local_at frame.there j
+  still j e = unset_other numbers l' j (λ i. not_other j e i) ∙ h.others j e
 
   caller_stands : Stands caller
   caller_stands = record {
     injective = st.injective;
     apart = λ i b e. ⊎_elim (λ o. st.apart i b o) (λ o. not_number i b o) (in_both (s.code.at i) s.others numbers e);
     self = self_in_more s.code.self s.others numbers st.self;
+    held = held_more s.code.holds st.held;
+    cast = cast_more s.code.casts st.cast;
   }
 
-  caller_shifted : Shifted same_keys caller start l start
+  caller_shifted : Shifted same_keys caller start_frame A l start
   caller_shifted = record {
-    moved = λ i b. unset_other numbers l' (s.code.at i) (λ e. not_number i b e) ∙ h.moved i b;
+    moved = λ i b a. unset_other numbers l' (s.code.at i) (λ e. not_number i b e) ∙ h.moved i b a;
     others = λ j e. refl;
+    known = h.known;
   }
 
-  caller_self : SelfIs same_keys s.code.self start me me'
-  caller_self = self_is_still same_keys s.code.self s.others frame start me me' st.self (λ j e. unset_other numbers l' j (λ i. not_other j e i) ∙ h.others j e) im
+  caller_self : (self : Self) → SelfIn self s.others → SelfIs same_keys self frame me me' → SelfIs same_keys self start_frame me me'
+  caller_self itself k q = q
+  caller_self (held n) k q = still n k ∙ q
+  caller_self nobody k q = q
+  caller_self unused k q = q
+
+  caller_holds : (hs : List (Exp K × ℕ)) → HeldIn hs s.others → AllHold P.rows same_keys s.code.known frame me hs → AllHold P.rows same_keys s.code.known start_frame me hs
+  caller_holds [] k q = tt
+  caller_holds (y ∷ ys) k q = (record { result = q.0.result; comes = q.0.comes; there = still y.1 k.0 ∙ q.0.there }, caller_holds ys k.1 q.1)
+
+  caller_casts : (hs : List (K.class × Exp K × ℕ)) → CastIn hs s.others → AllHoldAs P.rows same_keys s.code.known frame me hs → AllHoldAs P.rows same_keys s.code.known start_frame me hs
+  caller_casts [] k q = tt
+  caller_casts (y ∷ ys) k q = (record { holds = record { result = q.0.holds.result; comes = q.0.holds.comes; there = still y.2 k.0 ∙ q.0.holds.there }; fits = q.0.fits }, caller_casts ys k.1 q.1)
+
+  caller_holding : Holding P.rows same_keys s.code start_frame me me'
+  caller_holding = record { self = caller_self s.code.self st.self im.self; classes = im.classes; holds = caller_holds s.code.holds st.held im.holds; casts = caller_casts s.code.casts st.cast im.casts }
 
   -- the method's body in the block, behind the parameter
-  abbrev inner : Standing
-  inner = record { code = record { size = x.size; at = x.at; self = nobody }; others = map s.code.at (upto s.code.size) ++ s.others }
+  abbrev inner : Standing K
+  inner = record { code = record { mine = upto x.size; at = x.at; self = nobody; classes = []; known = []; holds = []; casts = [] }; others = map s.code.at s.code.mine ++ s.others }
 
   inner_stands : Stands inner
   inner_stands = record {
-    injective = x.injective;
+    injective = λ i j a b. x.injective i j (upto_in x.size i a) (upto_in x.size j b);
     apart = λ i b e. ⊎_elim
-        (λ o. let d = map_in s.code.at (x.at i) (upto s.code.size) o in x.fresh i d.0 b (upto_in s.code.size d.0 d.1) (sym d.2))
-        (λ o. x.fresh_others i b o) (in_both (x.at i) (map s.code.at (upto s.code.size)) s.others e);
+        (λ o. let d = map_in s.code.at (x.at i) s.code.mine o in x.fresh i d.0 (upto_in x.size i b) d.1 (sym d.2))
+        (λ o. x.fresh_others i (upto_in x.size i b) o) (in_both (x.at i) (map s.code.at s.code.mine) s.others e);
     self = tt;
+    held = tt;
+    cast = tt;
   }
 
-  inner_shifted : (a a' : Value K × List (Value K)) → ResultRel same_keys caller start a a' → Shifted same_keys inner (with_local a'.1 (x.at 0) a'.0) (a.0 ∷ []) (with_local a'.1 (x.at 0) a'.0)
-  inner_shifted a a' q = record { moved = at_place; others = λ j e. refl }
+  inner_shifted : (a a' : Value K × List (Value K)) → ResultRel same_keys caller start_frame x.between a a' → Shifted same_keys inner (record { here = []; there = with_local a'.1 (x.at 0) a'.0 }) everything (a.0 ∷ []) (with_local a'.1 (x.at 0) a'.0)
+  inner_shifted a a' q = record { moved = λ i b k. at_place i b; others = λ j e. refl; known = λ i k. absurd k }
     where
       not_zero : (i : ℕ) → suc i ≡ 0 → ⊥
       not_zero i e = omega (arith, e)
 
-      at_place : (i : ℕ) → i < x.size → local_at (with_local a'.1 (x.at 0) a'.0) (x.at i) ≡ value_image same_keys (local_at (a.0 ∷ []) i)
+      at_place : (i : ℕ) → In i (upto x.size) → local_at (with_local a'.1 (x.at 0) a'.0) (x.at i) ≡ value_image same_keys (local_at (a.0 ∷ []) i)
       at_place zero b = locals.written a'.1 (x.at 0) a'.0 ∙ q.0
       at_place (suc i) b =
-          not_written a'.1 (x.at 0) (x.at (suc i)) a'.0 (λ e. absurd (not_zero i (x.injective (suc i) 0 b x.some e)))
-          ∙ q.1.others (x.at (suc i)) (in_right (x.at (suc i)) s.others numbers (number_in (suc i) b))
-          ∙ unset_null numbers l' (x.at (suc i)) (number_in (suc i) b)
+          not_written a'.1 (x.at 0) (x.at (suc i)) a'.0 (λ e. absurd (not_zero i (x.injective (suc i) 0 (upto_in x.size (suc i) b) x.some e)))
+          ∙ q.1.others (x.at (suc i)) (in_right (x.at (suc i)) s.others numbers (number_in (suc i) (upto_in x.size (suc i) b)))
+          ∙ unset_null numbers l' (x.at (suc i)) (number_in (suc i) (upto_in x.size (suc i) b))
 
   -- behind the block the caller's locals are as they should be
-  back_shifted : (a a' : Value K × List (Value K)) → ResultRel same_keys caller start a a' → (m m' : List (Value K)) → Shifted same_keys inner (with_local a'.1 (x.at 0) a'.0) m m' → Shifted same_keys s frame a.1 m'
+  back_shifted : (a a' : Value K × List (Value K)) → ResultRel same_keys caller start_frame x.between a a' → (m m' : List (Value K)) → Shifted same_keys inner (record { here = []; there = with_local a'.1 (x.at 0) a'.0 }) x.body_behind m m' → Shifted same_keys s frame x.between a.1 m'
   back_shifted a a' q m m' e = record {
-    moved = λ i b. e.others (s.code.at i) (in_left (s.code.at i) (map s.code.at (upto s.code.size)) s.others (in_map s.code.at i (upto s.code.size) (in_upto s.code.size i b)))
-        ∙ not_written a'.1 (x.at 0) (s.code.at i) a'.0 (λ d. x.fresh 0 i x.some b d) ∙ q.1.moved i b;
-    others = λ j o. e.others j (in_right j (map s.code.at (upto s.code.size)) s.others o)
+    moved = λ i b k. e.others (s.code.at i) (in_left (s.code.at i) (map s.code.at s.code.mine) s.others (in_map s.code.at i s.code.mine b))
+        ∙ not_written a'.1 (x.at 0) (s.code.at i) a'.0 (λ d. x.fresh 0 i x.some b d) ∙ q.1.moved i b k;
+    others = λ j o. e.others j (in_right j (map s.code.at s.code.mine) s.others o)
         ∙ not_written a'.1 (x.at 0) j a'.0 (λ d. x.fresh_others 0 x.some (subst (λ k. In k s.others) d o))
         ∙ q.1.others j (in_left j s.others numbers o)
         ∙ unset_other numbers l' j (λ i. not_other j o i) ∙ h.others j o;
+    known = q.1.known;
   }
 
   abbrev Flows : Flow K → Flow K → Type 0
-  Flows f f' = FlowRel same_keys (Shifted same_keys s frame) (SomeReturns x.rest) f f'
+  Flows f f' = FlowRel same_keys (Shifted same_keys s frame B) (SomeReturns x.rest) f f'
 
   abbrev rest_old : Flow K → Step K (Flow K)
   rest_old f = on_flow f (λ m. stmts P.rows me x.rest m)
@@ -176,14 +214,14 @@ module _ {K : Keys} (P Q : Program K) (c : Changes same_keys same_keys (InlinesC
   abbrev body_new : List (Value K) → Step K (Flow K)
   body_new m = stmts Q.rows me' x.new_body m
 
-  rest_match : (m m' : List (Value K)) → Shifted same_keys s frame m m' → Matches g Flows (stmts P.rows me x.rest m) (stmts Q.rows me' x.new_rest m')
-  rest_match m m' e = kept_match g (InlinesCall P) turns s st frame me me' im x.rest x.new_rest x.rest_to m m' e
+  rest_match : (m m' : List (Value K)) → Shifted same_keys s frame x.between m m' → Matches g Flows (stmts P.rows me x.rest m) (stmts Q.rows me' x.new_rest m')
+  rest_match m m' e = kept_match g (InlinesCall P) turns s st frame me me' im x.between x.rest x.new_rest B x.rest_to m m' e
 
   abbrev Inner : List (Value K) → Flow K → Flow K → Type 0
-  Inner m' f f' = FlowRel same_keys (Shifted same_keys inner m') (SomeReturns x.code.body) f f'
+  Inner m' f f' = FlowRel same_keys (Shifted same_keys inner (record { here = []; there = m' }) x.body_behind) (SomeReturns x.code.body) f f'
 
   -- what the call's answer leads to, and what the block's end leads to
-  answers : (a a' : Value K × List (Value K)) → ResultRel same_keys caller start a a' → (o o' : Out (Flow K)) → OutRel (Inner (with_local a'.1 (x.at 0) a'.0)) o o' → Matches g Flows (after_call a.1 o) (on_value rest_new o')
+  answers : (a a' : Value K × List (Value K)) → ResultRel same_keys caller start_frame x.between a a' → (o o' : Out (Flow K)) → OutRel (Inner (with_local a'.1 (x.at 0) a'.0)) o o' → Matches g Flows (after_call a.1 o) (on_value rest_new o')
   answers a a' q (value (goes_on m)) (value (goes_on n)) e = rest_match a.1 n (back_shifted a a' q m n e)
   answers a a' q (value (returns v)) (value (returns w)) e = absurd (x.no_return e.1)
   answers a a' q (value (goes_on m)) (value (returns w)) e = absurd e
@@ -193,12 +231,12 @@ module _ {K : Keys} (P Q : Program K) (c : Changes same_keys same_keys (InlinesC
   answers a a' q (thrown f) (thrown k) e = both_done 0 (Mapped same_keys) (mapped_joins same_keys) Z (OutRel Flows) (thrown f) (thrown k) e
 
   -- the method's run and the block's
-  body_match : (a a' : Value K × List (Value K)) → ResultRel same_keys caller start a a' → Matches g Flows (call (invoke x.method null (a.0 ∷ [])) (after_call a.1)) (next (body_new (with_local a'.1 (x.at 0) a'.0)) rest_new)
+  body_match : (a a' : Value K × List (Value K)) → ResultRel same_keys caller start_frame x.between a a' → Matches g Flows (call (invoke x.method null (a.0 ∷ [])) (after_call a.1)) (next (body_new (with_local a'.1 (x.at 0) a'.0)) rest_new)
   body_match a a' q =
       let m' : List (Value K) = with_local a'.1 (x.at 0) a'.0 in
       let d : Call K = invoke x.method null (a.0 ∷ []) in
       let run_is : table P d ≡ stmts P.rows null x.code.body (a.0 ∷ []) = ap (λ k. run_method P.rows null k (a.0 ∷ [])) x.is_written ∙ ap (λ n. stmts P.rows null x.code.body (first_locals n (a.0 ∷ []))) x.one_parameter in
-      let one : Matches g (Inner m') (stmts P.rows null x.code.body (a.0 ∷ [])) (body_new m') = kept_match g (InlinesCall P) turns inner inner_stands m' null me' refl x.code.body x.new_body x.body_to (a.0 ∷ []) m' (inner_shifted a a' q) in
+      let one : Matches g (Inner m') (stmts P.rows null x.code.body (a.0 ∷ [])) (body_new m') = kept_match g (InlinesCall P) turns inner inner_stands (record { here = []; there = m' }) null me' (record { self = refl; classes = tt; holds = tt; casts = tt }) everything x.code.body x.new_body x.body_behind x.body_to (a.0 ∷ []) m' (inner_shifted a a' q) in
       removed (Mapped same_keys) (table P) (table Q) Z (OutRel Flows) d (unfold_at (table P) Z.old_given tables.old_unfolds d) (fold_at (table P) Z.old_found tables.old_folds d) (after_call a.1) (next (body_new m') rest_new)
       (both_and 0 (Mapped same_keys) (mapped_joins same_keys) Z (OutRel (Inner m')) (OutRel Flows) (table P d) (after_call a.1) (body_new m') (on_value rest_new)
       (subst (λ p. Matches g (Inner m') p (body_new m')) (sym run_is) one) (answers a a' q))
@@ -229,15 +267,15 @@ module _ {K : Keys} (P Q : Program K) (c : Changes same_keys same_keys (InlinesC
   inlined : Matches g Flows (stmts P.rows me old l) (stmts Q.rows me' new l')
   inlined =
       let both : Matches g Flows (next (exp P.rows me x.arg l) (λ a. call (invoke x.method null (a.0 ∷ [])) (after_call a.1))) (next (exp Q.rows me' x.new_arg start) (λ a. next (body_new (with_local a.1 (x.at 0) a.0)) rest_new)) =
-      match_next g (ResultRel same_keys caller start) Flows (exp P.rows me x.arg l) (exp Q.rows me' x.new_arg start) (λ a. call (invoke x.method null (a.0 ∷ [])) (after_call a.1)) (λ a. next (body_new (with_local a.1 (x.at 0) a.0)) rest_new)
-      (exp_match g caller caller_stands start me me' caller_self x.arg x.new_arg x.arg_to l start caller_shifted) body_match in
+      match_next g (ResultRel same_keys caller start_frame x.between) Flows (exp P.rows me x.arg l) (exp Q.rows me' x.new_arg start) (λ a. call (invoke x.method null (a.0 ∷ [])) (after_call a.1)) (λ a. next (body_new (with_local a.1 (x.at 0) a.0)) rest_new)
+      (exp_match g caller caller_stands start_frame me me' caller_holding A x.between x.arg x.new_arg x.arg_to l start caller_shifted) body_match in
       subst (λ p. Matches g Flows p (stmts Q.rows me' new l')) (sym (ap (λ b. stmts P.rows me b l) x.old_is ∙ old_form))
       (subst (λ p. Matches g Flows (next (exp P.rows me x.arg l) (λ a. call (invoke x.method null (a.0 ∷ [])) (after_call a.1))) p) (sym (ap (λ b. stmts Q.rows me' b l') x.new_is ∙ new_form)) both)
 
   -- with what the old list may do: it may return where its rest may
-  pub inlined_call : Matches g (λ f f'. FlowRel same_keys (Shifted same_keys s frame) (SomeReturns old) f f') (stmts P.rows me old l) (stmts Q.rows me' new l')
-  inlined_call = both_more 0 (Mapped same_keys) (mapped_joins same_keys) Z (OutRel Flows) (OutRel (FlowRel same_keys (Shifted same_keys s frame) (SomeReturns old))) (stmts P.rows me old l) (stmts Q.rows me' new l')
-      (wider g (Shifted same_keys s frame) (SomeReturns x.rest) (SomeReturns old) (λ y. subst SomeReturns (sym x.old_is) (inr y))) inlined
+  pub inlined_call : Matches g (λ f f'. FlowRel same_keys (Shifted same_keys s frame B) (SomeReturns old) f f') (stmts P.rows me old l) (stmts Q.rows me' new l')
+  inlined_call = both_more 0 (Mapped same_keys) (mapped_joins same_keys) Z (OutRel Flows) (OutRel (FlowRel same_keys (Shifted same_keys s frame B) (SomeReturns old))) (stmts P.rows me old l) (stmts Q.rows me' new l')
+      (wider g (Shifted same_keys s frame B) (Shifted same_keys s frame B) (SomeReturns x.rest) (SomeReturns old) (λ m m' e. e) (λ y. subst SomeReturns (sym x.old_is) (inr y))) inlined
 
 -- Programs in which any number of such calls has become blocks have the same runs.
 pub inlined_programs_are_alike : {K : Keys} (P Q : Program K) → ProgramTo same_keys (InlinesCall P) P Q → AlikeExactly same_keys P Q
@@ -245,4 +283,4 @@ inlined_programs_are_alike P Q to =
     let c : Changes same_keys same_keys (InlinesCall P) 0 (Mapped same_keys) P Q = record { there = same_undoes; joins = mapped_joins same_keys; images = mapped_images same_keys; programs = to } in
     alike same_keys same_keys same_undoes 0 (Mapped same_keys) (λ u t. u ≡ t) (λ t u e. e) P Q to.rows.field_kind
     (starts_match same_keys (InlinesCall P) 0 (Mapped same_keys) P Q (programs_match same_keys same_keys (InlinesCall P) 0 (Mapped same_keys) P Q c
-    (λ Z tables answered s stands frame me me' im b b' x l l' h. inlined_call P Q c Z tables answered s stands frame me me' im b b' x l l' h)))
+    (λ Z tables answered s stands frame me me' im A b b' B x l l' h. inlined_call P Q c Z tables answered s stands frame me me' im A b b' B x l l' h)))

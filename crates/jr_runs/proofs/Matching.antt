@@ -10,7 +10,8 @@ use Rattle.jr_runs.specs.Rows.{Rows}
 use Rattle.jr_runs.specs.Arithmetic.{Fault, null_reference, Out, value, thrown}
 use Rattle.jr_runs.specs.Evaluation.{Flow, goes_on, returns, Call, invoke, construct, Step, on_value, next, non_null, on_truth, on_class, answer, constructed, with_locals}
 use Rattle.jr_runs.specs.KeyMaps.{KeyMap, Undoes, value_image, action_image}
-use Rattle.jr_runs.specs.Standing.{Standing, Shifted}
+use Rattle.jr_runs.specs.Sets.{NumberSet}
+use Rattle.jr_runs.specs.Standing.{Standing, Frame, Shifted}
 use Rattle.jr_runs.specs.Images.{SameRows}
 use Rattle.jr_runs.specs.Pairs.{OutRel, ImageOf, ResultRel, AnswerRel}
 use Rattle.jr_runs.proofs.Undoing.{value_back}
@@ -101,26 +102,28 @@ module _ {K : Keys} (g : Setting K) where
   pub match_weaker : {A A' : Type 0} (Q Q' : A → A' → Type 0) (p : Step K A) (p' : Step K A') → ((o : Out A) (o' : Out A') → OutRel Q o o' → OutRel Q' o o') → Matches g Q p p' → Matches g Q' p p'
   match_weaker Q Q' p p' i f = both_more g.more g.relation g.joins g.sides (OutRel Q) (OutRel Q') p p' i f
 
-module _ {K : Keys} (r : KeyMap K) (s : Standing) (frame : List (Value K)) where
-  pub with_rel : (l l' : List (Value K)) (o o' : Out (Value K)) → OutRel (ImageOf r) o o' → Shifted r s frame l l' → OutRel (ResultRel r s frame) (with_locals l o) (with_locals l' o')
+module _ {K : Keys} (r : KeyMap K) (s : Standing K) (frame : Frame K) (A : NumberSet) where
+  pub with_rel : (l l' : List (Value K)) (o o' : Out (Value K)) → OutRel (ImageOf r) o o' → Shifted r s frame A l l' → OutRel (ResultRel r s frame A) (with_locals l o) (with_locals l' o')
   with_rel l l' (value v) (value v') h g = (h, g)
   with_rel l l' (thrown f) (thrown f') h g = h
   with_rel l l' (value v) (thrown f') h g = absurd h
   with_rel l l' (thrown f) (value v') h g = absurd h
 
-  pub answer_rel : (l l' : List (Value K)) (o o' : Out (Flow K)) → AnswerRel r o o' → Shifted r s frame l l' → OutRel (ResultRel r s frame) (answer l o) (answer l' o')
-  answer_rel l l' (value (returns (Some v))) (value (returns (Some v'))) h g = (h.0, g)
+  pub answer_rel : (l l' : List (Value K)) (o o' : Out (Flow K)) → AnswerRel r o o' → Shifted r s frame A l l' → OutRel (ResultRel r s frame A) (answer l o) (answer l' o')
+  answer_rel l l' (value (returns (Some v))) (value (returns (Some v'))) h g = (h, g)
   answer_rel l l' (value (returns None)) (value (returns None)) h g = (refl, g)
-  answer_rel l l' (value (returns (Some v))) (value (returns None)) h g = absurd h.0
-  answer_rel l l' (value (returns None)) (value (returns (Some v))) h g = absurd h.0
+  answer_rel l l' (value (returns (Some v))) (value (returns None)) h g = absurd h
+  answer_rel l l' (value (returns None)) (value (returns (Some v))) h g = absurd h
   answer_rel l l' (value (goes_on m)) (value (goes_on m')) h g = (refl, g)
-  answer_rel l l' (value (returns v)) (value (goes_on m)) h g = absurd h
-  answer_rel l l' (value (goes_on m)) (value (returns v)) h g = absurd h
+  answer_rel l l' (value (returns (Some v))) (value (goes_on m)) h g = absurd h
+  answer_rel l l' (value (goes_on m)) (value (returns (Some v))) h g = absurd h
+  answer_rel l l' (value (returns None)) (value (goes_on m)) h g = (refl, g)
+  answer_rel l l' (value (goes_on m)) (value (returns None)) h g = (refl, g)
   answer_rel l l' (thrown f) (thrown f') h g = h
   answer_rel l l' (value f) (thrown f') h g = absurd h
   answer_rel l l' (thrown f) (value f') h g = absurd h
 
-  pub constructed_rel : (v v' : Value K) → ImageOf r v v' → (l l' : List (Value K)) (o o' : Out (Flow K)) → AnswerRel r o o' → Shifted r s frame l l' → OutRel (ResultRel r s frame) (constructed v l o) (constructed v' l' o')
+  pub constructed_rel : (v v' : Value K) → ImageOf r v v' → (l l' : List (Value K)) (o o' : Out (Flow K)) → AnswerRel r o o' → Shifted r s frame A l l' → OutRel (ResultRel r s frame A) (constructed v l o) (constructed v' l' o')
   constructed_rel v v' e l l' (value f) (value f') h g = (e, g)
   constructed_rel v v' e l l' (thrown f) (thrown f') h g = h
   constructed_rel v v' e l l' (value f) (thrown f') h g = absurd h

@@ -1,19 +1,16 @@
 -- Lists of numbers of locals, and locals that are unset.
-use Rattle.std.proofs.Common.{◌≡◌, ◌⊎◌, ◌<◌, ℕ, zero, suc, List, [], ◌∷◌, ◌++◌, map, refl, ap, ◌∙◌, inl, inr, ⊎_elim, arith}
+use Rattle.std.proofs.Common.{◌≡◌, ◌⊎◌, ◌<◌, ℕ, zero, suc, List, [], ◌∷◌, ◌++◌, map, refl, sym, ap, ◌∙◌, subst, inl, inr, ⊎_elim, arith}
 use Rattle.std.proofs.lemmas.Bool.{cases_eq}
 use Rattle.jr_runs.specs.Keys.{Keys}
 use Rattle.jr_runs.specs.Values.{Value, null}
 use Rattle.jr_runs.specs.Evaluation.{local_at, with_local, unset}
-use Rattle.jr_runs.specs.KeyMaps.{KeyMap}
-use Rattle.jr_runs.specs.Standing.{Self, itself, held, nobody, In, SelfIn, SelfIs}
-use Rattle.jr_runs.proofs.Locals.{written, not_written}
+use Rattle.jr_runs.specs.KeyMaps.{KeyMap, value_image}
+use Rattle.jr_runs.specs.Standing.{upto, Self, itself, held, nobody, unused, Standing, In, SelfIn, IsFree, Frame, Shifted}
+use Rattle.jr_runs.specs.Images.{BlockTo}
+use Rattle.jr_runs.specs.Sets.{NumberSet, with_all}
+use Rattle.jr_runs.proofs.Locals.{in_all, written, not_written}
 
--- n - 1, .., 0
-abbrev pub upto : ℕ → List ℕ
-upto zero = []
-upto (suc n) = n ∷ upto n
-
-is_in : (n : ℕ) (xs : List ℕ) → In n xs ⊎ (In n xs → ⊥)
+pub is_in : (n : ℕ) (xs : List ℕ) → In n xs ⊎ (In n xs → ⊥)
 is_in n [] = inr (λ h. h)
 is_in n (x ∷ xs) = ⊎_elim (λ (e : n ≡ x). inl (inl e)) (λ (d : n ≡ x → ⊥). ⊎_elim (λ h. inl (inr h)) (λ g. inr (λ h. ⊎_elim d g h)) (is_in n xs)) (cases_eq n x)
 
@@ -60,9 +57,24 @@ pub self_in_more : (self : Self) (xs ys : List ℕ) → SelfIn self xs → SelfI
 self_in_more itself xs ys h = tt
 self_in_more (held k) xs ys h = in_left k xs ys h
 self_in_more nobody xs ys h = tt
+self_in_more unused xs ys h = tt
 
--- what stands for `this` is read from the further locals
-pub self_is_still : {K : Keys} (r : KeyMap K) (self : Self) (xs : List ℕ) (frame l : List (Value K)) (me me' : Value K) → SelfIn self xs → ((j : ℕ) → In j xs → local_at l j ≡ local_at frame j) → SelfIs r self frame me me' → SelfIs r self l me me'
-self_is_still r itself xs frame l me me' i h g = g
-self_is_still r (held k) xs frame l me me' i h g = h k i ∙ g
-self_is_still r nobody xs frame l me me' i h g = g
+-- a block's locals are unset on both sides, and agree then
+pub shifted_unset : {K : Keys} (r : KeyMap K) (s : Standing K) (ns ns' : List ℕ) → BlockTo s ns ns' → (frame : Frame K) (A : NumberSet) (l l' : List (Value K)) → Shifted r s frame A l l' → Shifted r s frame (with_all A ns) (unset ns l) (unset ns' l')
+shifted_unset r s ns ns' d frame A l l' h = record {
+  moved = λ i b a. ⊎_elim
+      (λ (g : In i ns). unset_null ns' l' (s.code.at i) (d.all i b g) ∙ ap (value_image r) (sym (unset_null ns l i g)))
+      (λ (g : In i ns → ⊥). unset_other ns' l' (s.code.at i) (λ x. g (d.only i b x)) ∙ h.moved i b (in_all A ns i g a) ∙ ap (value_image r) (sym (unset_other ns l i g)))
+      (is_in i ns);
+  others = λ j o. unset_other ns' l' j (λ x. d.others j o x) ∙ h.others j o;
+  known = λ i g. unset_other ns l i (λ x. d.known i g x) ∙ h.known i g;
+}
+
+-- the images of all, and no more
+pub same_block : {K : Keys} (s : Standing K) → ((i j : ℕ) → In i s.code.mine → In j s.code.mine → s.code.at i ≡ s.code.at j → i ≡ j) → ((i : ℕ) → In i s.code.mine → In (s.code.at i) s.others → ⊥) → (ns : List ℕ) → ((n : ℕ) → In n ns → IsFree s.code n) → BlockTo s ns (map s.code.at ns)
+same_block s injective apart ns below = record {
+  all = λ i b g. in_map s.code.at i ns g;
+  only = λ i b g. let m = map_in s.code.at (s.code.at i) ns g in subst (λ n. In n ns) (sym (injective i m.0 b (below m.0 m.1).below m.2)) m.1;
+  others = λ j o g. let m = map_in s.code.at j ns g in apart m.0 (below m.0 m.1).below (subst (λ n. In n s.others) m.2 o);
+  known = λ i g x. (below i x).unknown g;
+}

@@ -3,11 +3,10 @@ use Rattle.std.proofs.Common.{◌≡◌, List, [], ◌∷◌, ◌++◌, refl, sy
 use Rattle.jr_plans.specs.Follow.{Joins}
 use Rattle.jr_runs.specs.Keys.{Keys}
 use Rattle.jr_runs.specs.Actions.{Event, Trace}
-use Rattle.jr_runs.specs.Core.{Stmts, Program}
+use Rattle.jr_runs.specs.Core.{Program}
 use Rattle.jr_runs.specs.Running.{actions_of}
 use Rattle.jr_runs.specs.KeyMaps.{KeyMap, Undoes, action_image, trace_image}
-use Rattle.jr_runs.specs.Standing.{Standing}
-use Rattle.jr_runs.specs.Images.{Renamed}
+use Rattle.jr_runs.specs.Images.{Spots, Renamed}
 use Rattle.jr_runs.specs.Alike.{AlikeExactly}
 use Rattle.jr_runs.proofs.ImagePrograms.{Changes, programs_match}
 use Rattle.jr_runs.proofs.Halves.{actions_append, alike, starts_match}
@@ -33,6 +32,6 @@ module _ {K : Keys} (r : KeyMap K) where
 -- No statement list is changed.
 pub renamed_programs_are_alike : {K : Keys} (r s : KeyMap K) → Undoes r s → Undoes s r → (P Q : Program K) → Renamed r P Q → AlikeExactly r P Q
 renamed_programs_are_alike {K = K} r s undoes there P Q h =
-    let NoSpot : Standing → Stmts K → Stmts K → Type 0 = λ a b b'. ⊥ in
+    let NoSpot : Spots K = λ a A b b' B. ⊥ in
     let c : Changes r s NoSpot 0 (Mapped r) P Q = record { there = there; joins = mapped_joins r; images = mapped_images r; programs = h } in
-    alike r s undoes 0 (Mapped r) (λ u t. u ≡ t) (λ t u e. e) P Q h.rows.field_kind (starts_match r NoSpot 0 (Mapped r) P Q (programs_match r s NoSpot 0 (Mapped r) P Q c (λ Z t answered a stands frame me me' im b b' none. absurd none)))
+    alike r s undoes 0 (Mapped r) (λ u t. u ≡ t) (λ t u e. e) P Q h.rows.field_kind (starts_match r NoSpot 0 (Mapped r) P Q (programs_match r s NoSpot 0 (Mapped r) P Q c (λ Z t answered a stands frame me me' im A b b' B none. absurd none)))

@@ -1,5 +1,5 @@
 -- The runs of a well-typed program match those of another that is its image, but for changed statement lists, which may use types.
-use Rattle.std.proofs.Common.{◌≡◌, ℕ, List, [], map, Option, Some, None, IsTrue, refl, sym, subst}
+use Rattle.std.proofs.Common.{◌≡◌, ℕ, List, map, Option, Some, None, IsTrue, refl, sym, subst}
 use Rattle.jr_plans.specs.Follow.{Sides, Both, CallBoth, AnsweredBoth, sides_at}
 use Rattle.jr_plans.specs.Safe.{WellTables}
 use Rattle.jr_plans.proofs.BothWays.{both_more}
@@ -8,18 +8,19 @@ use Rattle.jr_runs.specs.Keys.{Keys}
 use Rattle.jr_runs.specs.Values.{Value, Ty}
 use Rattle.jr_runs.specs.Actions.{Event}
 use Rattle.jr_runs.specs.Arithmetic.{Out}
-use Rattle.jr_runs.specs.Core.{Stmts, Code, Method, written, starts, Program}
+use Rattle.jr_runs.specs.Core.{Code, Method, written, starts, Program}
 use Rattle.jr_runs.specs.Evaluation.{Flow, Call, invoke, construct, turn, first_locals, run_code, run_method, table}
 use Rattle.jr_runs.specs.Running.{Start, of_method, of_constructor, call_of}
 use Rattle.jr_runs.specs.Starting.{IsReceiver, ArgsFit, IsStart}
 use Rattle.jr_runs.specs.KeyMaps.{KeyMap, value_image, start_image}
-use Rattle.jr_runs.specs.Standing.{Standing, Stands, whole, Shifted}
-use Rattle.jr_runs.specs.Images.{CodeTo, MethodTo}
+use Rattle.jr_runs.specs.Sets.{everything}
+use Rattle.jr_runs.specs.Standing.{no_frame, Stands, whole, Shifted}
+use Rattle.jr_runs.specs.Images.{Spots, CodeTo, MethodTo}
 use Rattle.jr_runs.specs.Signatures.{SameSignatures}
 use Rattle.jr_runs.specs.Pairs.{OutRel, FlowRel, AnswerRel, Returns, SomeReturns, TurnTo}
 use Rattle.jr_runs.specs.Typing.{CodeTyped, MethodTyped, param_context, WellTyped}
 use Rattle.jr_runs.specs.TypedRuns.{LocalsFit, TurnTyped, WellMade, WellAnswered}
-use Rattle.jr_runs.proofs.Locals.{shifted_start}
+use Rattle.jr_runs.proofs.Locals.{below_upto, shifted_start}
 use Rattle.jr_runs.proofs.Matching.{Setting}
 use Rattle.jr_runs.proofs.ImagePrograms.{Changes, unseen, start_match}
 use Rattle.jr_runs.proofs.TypedLocals.{locals_start}
@@ -28,7 +29,7 @@ use Rattle.jr_runs.proofs.StartImages.{method_to, method_from, constructor_to, c
 use Rattle.jr_runs.proofs.TypedImages.{TypedTurnsAnswered, TypedSpotsOwed, stmts_known, whole_turn_known}
 
 -- Calls that belong together; turns are well typed in both programs.
-abbrev pub TypedPair : {K : Keys} → KeyMap K → Program K → Program K → (Standing → Stmts K → Stmts K → Type 0) → Call K → Call K → Type 0
+abbrev pub TypedPair : {K : Keys} → KeyMap K → Program K → Program K → Spots K → Call K → Call K → Type 0
 TypedPair r P Q Spot (invoke m me args) (invoke m' me' args') = IsTrue (P.rows.has_method m) × (m' ≡ r.method m) × (me' ≡ value_image r me) × (args' ≡ map (value_image r) args)
 TypedPair r P Q Spot (construct k me args) (construct k' me' args') = IsTrue (P.rows.has_constructor k) × (k' ≡ r.constructor k) × (me' ≡ value_image r me) × (args' ≡ map (value_image r) args)
 TypedPair r P Q Spot (turn me c b l) (turn me' c' b' l') = TurnTo r P.rows Spot me c b l me' c' b' l' × TurnTyped P.rows me c b l × TurnTyped Q.rows me' c' b' l'
@@ -39,10 +40,10 @@ TypedPair r P Q Spot (construct k me args) (turn me' c' b' l') = ⊥
 TypedPair r P Q Spot (turn me c b l) (invoke m' me' args') = ⊥
 TypedPair r P Q Spot (turn me c b l) (construct k' me' args') = ⊥
 
-abbrev pub TypedPost : {K : Keys} (r : KeyMap K) (P Q : Program K) (Spot : Standing → Stmts K → Stmts K → Type 0) (c c' : Call K) → TypedPair r P Q Spot c c' → Out (Flow K) → Out (Flow K) → Type 0
+abbrev pub TypedPost : {K : Keys} (r : KeyMap K) (P Q : Program K) (Spot : Spots K) (c c' : Call K) → TypedPair r P Q Spot c c' → Out (Flow K) → Out (Flow K) → Type 0
 TypedPost r P Q Spot (invoke m me args) (invoke m' me' args') pair = AnswerRel r
 TypedPost r P Q Spot (construct k me args) (construct k' me' args') pair = AnswerRel r
-TypedPost r P Q Spot (turn me c b l) (turn me' c' b' l') pair = OutRel (FlowRel r (Shifted r pair.0.at pair.0.frame) (Returns b))
+TypedPost r P Q Spot (turn me c b l) (turn me' c' b' l') pair = OutRel (FlowRel r (Shifted r pair.0.at pair.0.frame pair.0.tested) (Returns b))
 TypedPost r P Q Spot (invoke m me args) (construct k' me' args') pair = λ a b. ⊥
 TypedPost r P Q Spot (invoke m me args) (turn me' c' b' l') pair = λ a b. ⊥
 TypedPost r P Q Spot (construct k me args) (invoke m' me' args') pair = λ a b. ⊥
@@ -50,7 +51,7 @@ TypedPost r P Q Spot (construct k me args) (turn me' c' b' l') pair = λ a b. �
 TypedPost r P Q Spot (turn me c b l) (invoke m' me' args') pair = λ a b. ⊥
 TypedPost r P Q Spot (turn me c b l) (construct k' me' args') pair = λ a b. ⊥
 
-module _ {K : Keys} (r q : KeyMap K) (Spot : Standing → Stmts K → Stmts K → Type 0) (n : ℕ) (W : List (Event K) → List (Event K) → Type 0) (P Q : Program K) (c : Changes r q Spot n W P Q) (same : SameSignatures r P.rows Q.rows) (typed : WellTyped P) (typed' : WellTyped Q) where
+module _ {K : Keys} (r q : KeyMap K) (Spot : Spots K) (n : ℕ) (W : List (Event K) → List (Event K) → Type 0) (P Q : Program K) (c : Changes r q Spot n W P Q) (same : SameSignatures r P.rows Q.rows) (typed : WellTyped P) (typed' : WellTyped Q) where
   abbrev World_pair : Type 1
   World_pair = Sides (Event K) (Call K) (Out (Flow K)) (Call K) (Out (Flow K))
 
@@ -114,12 +115,12 @@ module _ {K : Keys} (r q : KeyMap K) (Spot : Standing → Stmts K → Stmts K �
           → Both n W (well_sides Z) (AnswerRel r) (run_code P.rows me a args) (run_code Q.rows (value_image r me) a' (map (value_image r) args))
       code_known a a' t C C' Ts Ts' T T' w w' me args i j i' j' =
           let s = whole t.size t.at in
-          let st : Stands s = record { injective = t.injective; apart = λ x b none. none; self = tt } in
-          both_more n W c.joins (well_sides Z) (OutRel (FlowRel r (Shifted r s []) (SomeReturns a.body))) (AnswerRel r) (run_code P.rows me a args) (run_code Q.rows (value_image r me) a' (map (value_image r) args))
-          (unseen g (Shifted r s []) (SomeReturns a.body))
-          (stmts_known g Z refl typed.rows typed'.rows Spot turns (spots Z tables answered) s st [] me (value_image r me) refl C i T C' i' T' a.body a'.body t.body (param_context 0 Ts) (param_context 0 Ts') w.body w'.body
+          let st : Stands s = record { injective = λ i j a b. t.injective i j (below_upto t.size i a) (below_upto t.size j b); apart = λ x b none. none; self = tt; held = tt; cast = tt } in
+          both_more n W c.joins (well_sides Z) (OutRel (FlowRel r (Shifted r s no_frame t.behind) (SomeReturns a.body))) (AnswerRel r) (run_code P.rows me a args) (run_code Q.rows (value_image r me) a' (map (value_image r) args))
+          (unseen g (Shifted r s no_frame t.behind) (SomeReturns a.body))
+          (stmts_known g Z refl typed.rows typed'.rows Spot turns (spots Z tables answered) s st no_frame me (value_image r me) (record { self = refl; classes = tt; holds = tt; casts = tt }) C i T C' i' T' everything t.behind a.body a'.body t.body (param_context 0 Ts) (param_context 0 Ts') w.body w'.body
           (first_locals a.params args) (first_locals a'.params (map (value_image r) args))
-          (subst (λ k. Shifted r s [] (first_locals a.params args) (first_locals k (map (value_image r) args))) (sym t.params) (shifted_start r t.size t.at a.params t.injective t.params_below t.params_stay args))
+          (subst (λ k. Shifted r s no_frame everything (first_locals a.params args) (first_locals k (map (value_image r) args))) (sym t.params) (shifted_start r t.size t.at a.params t.injective t.params_below t.params_stay args))
           (subst (λ k. LocalsFit P.rows (param_context 0 Ts) (first_locals k args)) (sym w.count) (locals_start P.rows Ts args j))
           (subst (λ k. LocalsFit Q.rows (param_context 0 Ts') (first_locals k (map (value_image r) args))) (sym w'.count) (locals_start Q.rows Ts' (map (value_image r) args) j')))
 
@@ -144,7 +145,7 @@ module _ {K : Keys} (r q : KeyMap K) (Spot : Standing → Stmts K → Stmts K �
           let t = pair.0 in
           let w = pair.1 in
           let w' = pair.2 in
-          whole_turn_known g Z refl typed.rows typed'.rows Spot turns (spots Z tables answered) t.at t.stands t.frame me me' t.self w.class w.receiver w.result w'.class w'.receiver w'.result x x' b b' t.condition t.body w.context w'.context w.behind w'.behind
+          whole_turn_known g Z refl typed.rows typed'.rows Spot turns (spots Z tables answered) t.at t.stands t.frame me me' t.self w.class w.receiver w.result w'.class w'.receiver w'.result t.head t.tested t.behind x x' b b' t.condition t.body t.again w.context w'.context w.behind w'.behind
           w.condition w'.condition w.body w'.body l l' t.locals w.locals w'.locals
       each (invoke m me args) (construct k' me' args') pair h h' = absurd pair
       each (invoke m me args) (turn me' x' b' l') pair h h' = absurd pair

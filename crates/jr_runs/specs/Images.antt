@@ -1,5 +1,5 @@
 -- When new code is old code with other keys, other numbers of locals and other places.
-use Rattle.std.specs.Prelude.{◌≡◌, ◌<◌, ◌≤◌, ℕ, List, [], ◌∷◌, map, Some, option_map, IsTrue}
+use Rattle.std.specs.Prelude.{◌≡◌, ◌⊎◌, ◌<◌, ◌≤◌, ℕ, List, [], ◌∷◌, Some, option_map, IsTrue}
 use Rattle.jr_runs.specs.Keys.{Keys, At}
 use Rattle.jr_runs.specs.Values.{Value, null}
 use Rattle.jr_runs.specs.Rows.{Rows}
@@ -11,123 +11,198 @@ use Rattle.jr_runs.specs.Core.{static_field, field_of, Exps, Stmt, declare, eval
 use Rattle.jr_runs.specs.Core.{return, return_nothing, block, sync, empty, Stmts, Code, Method}
 use Rattle.jr_runs.specs.Core.{written, starts, Program}
 use Rattle.jr_runs.specs.KeyMaps.{KeyMap, value_image, type_image}
-use Rattle.jr_runs.specs.Standing.{Self, itself, held, nobody, Renumbering, Standing, whole}
+use Rattle.jr_runs.specs.Sets.{NumberSet, everything, with_one, with_all, Within}
+use Rattle.jr_runs.specs.Standing.{Self, itself, held, nobody, unused, Renumbering, Standing, In}
+use Rattle.jr_runs.specs.Standing.{IsHeld, IsCast, IsFree, whole}
 
 abbrev pub SelfTo : {K : Keys} → Self → Exp K → Type 0
 SelfTo {K = K} itself e = (p : At K) × (e ≡ this p)
 SelfTo {K = K} (held k) e = (p : At K) × (q : At K) × (e ≡ read p (local q k))
 SelfTo {K = K} nobody e = (p : At K) × (e ≡ literal p null)
+SelfTo unused e = ⊥
 
--- The second expression is the first with keys by r and locals by s. The locals of the first are
--- below the size, and what it calls is declared.
+abbrev pub Among : {X : Type 0} → X → List X → Type 0
+Among x [] = ⊥
+Among x (y ∷ ys) = (x ≡ y) ⊎ Among x ys
+
+-- the second expression is the first, cast any number of times to these classes, or to their images
+pub data CastOf {K : Keys} (f : K.class → K.class) (cs : List K.class) (e : Exp K) : Exp K
+    → Type 0 where
+  uncast : CastOf f cs e e
+  cast_once : (p : At K) (c : K.class) (x : Exp K) → Among c cs → CastOf f cs e x
+      → CastOf f cs e (cast p (f c) x)
+
+-- a local that is read agrees
+abbrev pub Readable : {K : Keys} → NumberSet → Target K → Type 0
+Readable A (local p n) = IsTrue (A n)
+Readable A (static_field p f) = Unit {0}
+Readable A (field_of p e f) = Unit {0}
+
+-- a local that is written is none that the code leaves alone
+abbrev pub Writable : {K : Keys} → Renumbering K → Target K → Type 0
+Writable s (local p n) = In n s.known → ⊥
+Writable s (static_field p f) = Unit {0}
+Writable s (field_of p e f) = Unit {0}
+
+-- which locals agree behind a write of the target
+abbrev pub behind_write : {K : Keys} → NumberSet → Target K → NumberSet
+behind_write A (local p n) = with_one A n
+behind_write A (static_field p f) = A
+behind_write A (field_of p e f) = A
+
+-- The second expression is the first with keys by r and locals by s, where the locals of the first
+-- set agree before, and those of the second one behind it. What the first one calls is declared.
+-- Behind a write any set will do within the written local and those that agreed; so everything may.
 mutual
-  pub data ExpTo {K : Keys} (r : KeyMap K) (R : Rows K) (s : Renumbering) : Exp K
-      → Exp K → Type 0 where
-    to_literal : (p q : At K) (v : Value K)
-        → ExpTo r R s (literal p v) (literal q (value_image r v))
-    to_this : (p : At K) (e : Exp K) → SelfTo s.self e → ExpTo r R s (this p) e
-    to_read : (p q : At K) (t t' : Target K) → TargetTo r R s t t'
-        → ExpTo r R s (read p t) (read q t')
-    to_assign : (p q : At K) (t t' : Target K) (e e' : Exp K) → TargetTo r R s t t'
-        → ExpTo r R s e e'
-        → ExpTo r R s (assign p t e) (assign q t' e')
-    to_compound : (p q : At K) (op : Arithmetic) (t t' : Target K) (e e' : Exp K)
-        → TargetTo r R s t t'
-        → ExpTo r R s e e' → ExpTo r R s (compound p op t e) (compound q op t' e')
-    to_bump : (p q : At K) (op : Bump) (t t' : Target K) → TargetTo r R s t t'
-        → ExpTo r R s (bump p op t) (bump q op t')
-    to_signed : (p q : At K) (op : Sign) (e e' : Exp K) → ExpTo r R s e e'
-        → ExpTo r R s (signed p op e) (signed q op e')
-    to_binary : (p q : At K) (op : Operator) (a a' b b' : Exp K) → ExpTo r R s a a'
-        → ExpTo r R s b b'
-        → ExpTo r R s (binary p op a b) (binary q op a' b')
-    to_both : (p q : At K) (a a' b b' : Exp K) → ExpTo r R s a a' → ExpTo r R s b b'
-        → ExpTo r R s (both p a b) (both q a' b')
-    to_either : (p q : At K) (a a' b b' : Exp K) → ExpTo r R s a a' → ExpTo r R s b b'
-        → ExpTo r R s (either p a b) (either q a' b')
-    to_cast : (p q : At K) (c : K.class) (e e' : Exp K) → ExpTo r R s e e'
-        → ExpTo r R s (cast p c e) (cast q (r.class c) e')
-    to_static_call : (p q : At K) (m : K.method) (es es' : Exps K) → IsTrue (R.has_method m)
-        → ExpsTo r R s es es' → ExpTo r R s (static_call p m es) (static_call q (r.method m) es')
-    to_instance_call : (p q : At K) (e e' : Exp K) (m : K.method) (es es' : Exps K)
-        → IsTrue (R.has_method m)
-        → ExpTo r R s e e' → ExpsTo r R s es es'
-        → ExpTo r R s (instance_call p e m es) (instance_call q e' (r.method m) es')
-    to_super_call : (p q : At K) (e e' : Exp K) (m : K.method) (es es' : Exps K)
-        → IsTrue (R.has_method m)
-        → ExpTo r R s e e' → ExpsTo r R s es es'
-        → ExpTo r R s (super_call p e m es) (super_call q e' (r.method m) es')
-    to_create : (p q : At K) (c : K.class) (k : K.constructor) (es es' : Exps K)
-        → IsTrue (R.has_constructor k) → ExpsTo r R s es es'
-        → ExpTo r R s (create p c k es) (create q (r.class c) (r.constructor k) es')
-    to_super_constructor : (p q : At K) (e e' : Exp K) (k : K.constructor) (es es' : Exps K)
-        → IsTrue (R.has_constructor k) → ExpTo r R s e e' → ExpsTo r R s es es'
-        → ExpTo r R s (super_constructor p e k es) (super_constructor q e' (r.constructor k) es')
+  pub data ExpTo {K : Keys} (r : KeyMap K) (R : Rows K) (s : Renumbering K)
+      : NumberSet → Exp K → Exp K → NumberSet → Type 0 where
+    to_literal : (A : NumberSet) (p q : At K) (v : Value K)
+        → ExpTo r R s A (literal p v) (literal q (value_image r v)) A
+    to_this : (A : NumberSet) (p : At K) (e : Exp K) → SelfTo s.self e
+        → ExpTo r R s A (this p) e A
+    -- `this` and what stands for it, each cast or not, where the casts can't fail
+    to_cast_this : (A : NumberSet) (p : At K) (x e e' : Exp K) → SelfTo s.self x
+        → CastOf (λ c. c) s.classes (this p) e → CastOf r.class s.classes x e'
+        → ExpTo r R s A e e' A
+    -- a local stands for the expression
+    to_held : (A : NumberSet) (p q : At K) (e : Exp K) (k : ℕ) → IsHeld e k s.holds
+        → ExpTo r R s A e (read p (local q k)) A
+    -- the same of one that is cast, where the old code needs no cast
+    to_held_cast : (A : NumberSet) (p q u : At K) (c : K.class) (e : Exp K) (k : ℕ)
+        → IsCast c e k s.casts
+        → ExpTo r R s A e (cast u (r.class c) (read p (local q k))) A
+    to_read : (A B : NumberSet) (p q : At K) (t t' : Target K) → TargetTo r R s A t t' B
+        → Readable B t
+        → ExpTo r R s A (read p t) (read q t') B
+    to_assign : (A B C D : NumberSet) (p q : At K) (t t' : Target K) (e e' : Exp K)
+        → TargetTo r R s A t t' B → Writable s t
+        → ExpTo r R s B e e' C → Within D (behind_write C t)
+        → ExpTo r R s A (assign p t e) (assign q t' e') D
+    to_compound : (A B C D : NumberSet) (p q : At K) (op : Arithmetic) (t t' : Target K)
+        (e e' : Exp K)
+        → TargetTo r R s A t t' B → Readable B t → Writable s t
+        → ExpTo r R s B e e' C → Within D (behind_write C t)
+        → ExpTo r R s A (compound p op t e) (compound q op t' e') D
+    to_bump : (A B C : NumberSet) (p q : At K) (op : Bump) (t t' : Target K)
+        → TargetTo r R s A t t' B → Readable B t → Writable s t → Within C (behind_write B t)
+        → ExpTo r R s A (bump p op t) (bump q op t') C
+    to_signed : (A B : NumberSet) (p q : At K) (op : Sign) (e e' : Exp K)
+        → ExpTo r R s A e e' B
+        → ExpTo r R s A (signed p op e) (signed q op e') B
+    to_binary : (A B C : NumberSet) (p q : At K) (op : Operator) (a a' b b' : Exp K)
+        → ExpTo r R s A a a' B → ExpTo r R s B b b' C
+        → ExpTo r R s A (binary p op a b) (binary q op a' b') C
+    to_both : (A B C D : NumberSet) (p q : At K) (a a' b b' : Exp K)
+        → ExpTo r R s A a a' B → ExpTo r R s B b b' C → Within D B → Within D C
+        → ExpTo r R s A (both p a b) (both q a' b') D
+    to_either : (A B C D : NumberSet) (p q : At K) (a a' b b' : Exp K)
+        → ExpTo r R s A a a' B → ExpTo r R s B b b' C → Within D B → Within D C
+        → ExpTo r R s A (either p a b) (either q a' b') D
+    to_cast : (A B : NumberSet) (p q : At K) (c : K.class) (e e' : Exp K)
+        → ExpTo r R s A e e' B
+        → ExpTo r R s A (cast p c e) (cast q (r.class c) e') B
+    to_static_call : (A B : NumberSet) (p q : At K) (m : K.method) (es es' : Exps K)
+        → IsTrue (R.has_method m) → ExpsTo r R s A es es' B
+        → ExpTo r R s A (static_call p m es) (static_call q (r.method m) es') B
+    to_instance_call : (A B C : NumberSet) (p q : At K) (e e' : Exp K) (m : K.method)
+        (es es' : Exps K)
+        → IsTrue (R.has_method m) → ExpTo r R s A e e' B → ExpsTo r R s B es es' C
+        → ExpTo r R s A (instance_call p e m es) (instance_call q e' (r.method m) es') C
+    to_super_call : (A B C : NumberSet) (p q : At K) (e e' : Exp K) (m : K.method)
+        (es es' : Exps K)
+        → IsTrue (R.has_method m) → ExpTo r R s A e e' B → ExpsTo r R s B es es' C
+        → ExpTo r R s A (super_call p e m es) (super_call q e' (r.method m) es') C
+    to_create : (A B : NumberSet) (p q : At K) (c : K.class) (k : K.constructor)
+        (es es' : Exps K)
+        → IsTrue (R.has_constructor k) → ExpsTo r R s A es es' B
+        → ExpTo r R s A (create p c k es) (create q (r.class c) (r.constructor k) es') B
+    to_super_constructor : (A B C : NumberSet) (p q : At K) (e e' : Exp K) (k : K.constructor)
+        (es es' : Exps K)
+        → IsTrue (R.has_constructor k) → ExpTo r R s A e e' B → ExpsTo r R s B es es' C
+        → ExpTo r R s A (super_constructor p e k es)
+        (super_constructor q e' (r.constructor k) es') C
 
-  pub data TargetTo {K : Keys} (r : KeyMap K) (R : Rows K) (s : Renumbering) : Target K
-      → Target K → Type 0 where
-    to_local : (p q : At K) (n : ℕ) → n < s.size → TargetTo r R s (local p n) (local q (s.at n))
-    to_static_field : (p q : At K) (f : K.field)
-        → TargetTo r R s (static_field p f) (static_field q (r.field f))
-    to_field_of : (p q : At K) (e e' : Exp K) (f : K.field) → ExpTo r R s e e'
-        → TargetTo r R s (field_of p e f) (field_of q e' (r.field f))
+  pub data TargetTo {K : Keys} (r : KeyMap K) (R : Rows K) (s : Renumbering K)
+      : NumberSet → Target K → Target K → NumberSet → Type 0 where
+    to_local : (A : NumberSet) (p q : At K) (n : ℕ) → In n s.mine
+        → TargetTo r R s A (local p n) (local q (s.at n)) A
+    to_static_field : (A : NumberSet) (p q : At K) (f : K.field)
+        → TargetTo r R s A (static_field p f) (static_field q (r.field f)) A
+    to_field_of : (A B : NumberSet) (p q : At K) (e e' : Exp K) (f : K.field)
+        → ExpTo r R s A e e' B
+        → TargetTo r R s A (field_of p e f) (field_of q e' (r.field f)) B
 
-  pub data ExpsTo {K : Keys} (r : KeyMap K) (R : Rows K) (s : Renumbering) : Exps K
-      → Exps K → Type 0 where
-    to_end : ExpsTo r R s core.Exps.end core.Exps.end
-    to_more : (e e' : Exp K) (es es' : Exps K) → ExpTo r R s e e' → ExpsTo r R s es es'
-        → ExpsTo r R s (core.Exps.more e es) (core.Exps.more e' es')
+  pub data ExpsTo {K : Keys} (r : KeyMap K) (R : Rows K) (s : Renumbering K)
+      : NumberSet → Exps K → Exps K → NumberSet → Type 0 where
+    to_end : (A : NumberSet) → ExpsTo r R s A core.Exps.end core.Exps.end A
+    to_more : (A B C : NumberSet) (e e' : Exp K) (es es' : Exps K)
+        → ExpTo r R s A e e' B → ExpsTo r R s B es es' C
+        → ExpsTo r R s A (core.Exps.more e es) (core.Exps.more e' es') C
 
-abbrev pub NumbersBelow : ℕ → List ℕ → Type 0
-NumbersBelow n [] = Unit {0}
-NumbersBelow n (i ∷ is) = (i < n) × NumbersBelow n is
+-- A block unsets the image of each local that the old block unsets, and of the old code's locals of no
+-- other; it may unset further ones, but none that stays as it is. So where a statement list in it has
+-- a local more or less, the block is still the image.
+pub record BlockTo {K : Keys} (s : Standing K) (ns ns' : List ℕ) : Type 0 where
+  pub all : (i : ℕ) → In i s.code.mine → In i ns → In (s.code.at i) ns'
+  pub only : (i : ℕ) → In i s.code.mine → In (s.code.at i) ns' → In i ns
+  pub others : (j : ℕ) → In j s.others → In j ns' → ⊥
+  pub known : (i : ℕ) → In i s.code.known → In i ns → ⊥
 
--- The same of statements, but for statement lists that Spot allows, at any depth.
+-- which changed statement lists are allowed: how they stand, and which locals agree before and behind
+abbrev pub Spots : Keys → Type 1
+Spots K = Standing K → NumberSet → Stmts K → Stmts K → NumberSet → Type 0
+
+-- The same of statements, but for statement lists that Spot allows, at any depth. A loop has a set
+-- of locals that agree wherever its condition begins: before it, and behind its body. A block's
+-- locals are unset on both sides, and so agree. Behind a return all may be said to agree.
 mutual
-  pub data StmtTo {K : Keys} (r : KeyMap K) (R : Rows K) (Spot : Standing → Stmts K → Stmts K
-      → Type 0) (s : Standing) : Stmt K → Stmt K → Type 0 where
-    to_declare : (p q : At K) (n : ℕ) (e e' : Exp K) → n < s.code.size → ExpTo r R s.code e e'
-        → StmtTo r R Spot s (declare p n e) (declare q (s.code.at n) e')
-    to_eval : (p q : At K) (e e' : Exp K) → ExpTo r R s.code e e'
-        → StmtTo r R Spot s (eval p e) (eval q e')
-    to_branch : (p q : At K) (c c' : Exp K) (a a' b b' : Stmt K) → ExpTo r R s.code c c'
-        → StmtTo r R Spot s a a'
-        → StmtTo r R Spot s b b' → StmtTo r R Spot s (branch p c a b) (branch q c' a' b')
-    to_loop : (p q : At K) (c c' : Exp K) (b b' : Stmt K) → ExpTo r R s.code c c'
-        → StmtTo r R Spot s b b'
-        → StmtTo r R Spot s (loop p c b) (loop q c' b')
-    to_return : (p q : At K) (e e' : Exp K) → ExpTo r R s.code e e'
-        → StmtTo r R Spot s (return p e) (return q e')
-    to_return_nothing : (p q : At K) → StmtTo r R Spot s (return_nothing p) (return_nothing q)
-    to_block : (p q : At K) (ns : List ℕ) (b b' : Stmts K) → NumbersBelow s.code.size ns
-        → StmtsTo r R Spot s b b'
-        → StmtTo r R Spot s (block p ns b) (block q (map s.code.at ns) b')
-    to_sync : (p q p' q' : At K) (e e' : Exp K) (b b' : Stmts K) → ExpTo r R s.code e e'
-        → StmtsTo r R Spot s b b'
-        → StmtTo r R Spot s (sync p q e b) (sync p' q' e' b')
-    to_empty : (p q : At K) → StmtTo r R Spot s (empty p) (empty q)
+  pub data StmtTo {K : Keys} (r : KeyMap K) (R : Rows K) (Spot : Spots K) (s : Standing K)
+      : NumberSet → Stmt K → Stmt K → NumberSet → Type 0 where
+    to_declare : (A B C : NumberSet) (p q : At K) (n : ℕ) (e e' : Exp K) → IsFree s.code n
+        → ExpTo r R s.code A e e' B → Within C (with_one B n)
+        → StmtTo r R Spot s A (declare p n e) (declare q (s.code.at n) e') C
+    to_eval : (A B : NumberSet) (p q : At K) (e e' : Exp K) → ExpTo r R s.code A e e' B
+        → StmtTo r R Spot s A (eval p e) (eval q e') B
+    to_branch : (A B C D E : NumberSet) (p q : At K) (c c' : Exp K) (a a' b b' : Stmt K)
+        → ExpTo r R s.code A c c' B
+        → StmtTo r R Spot s B a a' C → StmtTo r R Spot s B b b' D → Within E C → Within E D
+        → StmtTo r R Spot s A (branch p c a b) (branch q c' a' b') E
+    to_loop : (A H B C : NumberSet) (p q : At K) (c c' : Exp K) (b b' : Stmt K) → Within H A
+        → ExpTo r R s.code H c c' B → StmtTo r R Spot s B b b' C → Within H C
+        → StmtTo r R Spot s A (loop p c b) (loop q c' b') B
+    to_return : (A B C : NumberSet) (p q : At K) (e e' : Exp K) → ExpTo r R s.code A e e' B
+        → StmtTo r R Spot s A (return p e) (return q e') C
+    to_return_nothing : (A B : NumberSet) (p q : At K)
+        → StmtTo r R Spot s A (return_nothing p) (return_nothing q) B
+    to_block : (A B C : NumberSet) (p q : At K) (ns ns' : List ℕ) (b b' : Stmts K)
+        → BlockTo s ns ns'
+        → Within B (with_all A ns) → StmtsTo r R Spot s B b b' C
+        → StmtTo r R Spot s A (block p ns b) (block q ns' b') C
+    to_sync : (A B C : NumberSet) (p q p' q' : At K) (e e' : Exp K) (b b' : Stmts K)
+        → ExpTo r R s.code A e e' B → StmtsTo r R Spot s B b b' C
+        → StmtTo r R Spot s A (sync p q e b) (sync p' q' e' b') C
+    to_empty : (A : NumberSet) (p q : At K) → StmtTo r R Spot s A (empty p) (empty q) A
 
-  pub data StmtsTo {K : Keys} (r : KeyMap K) (R : Rows K) (Spot : Standing → Stmts K → Stmts K
-      → Type 0) (s : Standing) : Stmts K → Stmts K → Type 0 where
-    to_no_more : StmtsTo r R Spot s core.Stmts.end core.Stmts.end
-    to_list : (a a' : Stmt K) (b b' : Stmts K) → StmtTo r R Spot s a a' → StmtsTo r R Spot s b b'
-        → StmtsTo r R Spot s (core.Stmts.more a b) (core.Stmts.more a' b')
-    to_spot : (b b' : Stmts K) → Spot s b b' → StmtsTo r R Spot s b b'
+  pub data StmtsTo {K : Keys} (r : KeyMap K) (R : Rows K) (Spot : Spots K) (s : Standing K)
+      : NumberSet → Stmts K → Stmts K → NumberSet → Type 0 where
+    to_no_more : (A : NumberSet) → StmtsTo r R Spot s A core.Stmts.end core.Stmts.end A
+    to_list : (A B C : NumberSet) (a a' : Stmt K) (b b' : Stmts K)
+        → StmtTo r R Spot s A a a' B → StmtsTo r R Spot s B b b' C
+        → StmtsTo r R Spot s A (core.Stmts.more a b) (core.Stmts.more a' b') C
+    to_spot : (A B : NumberSet) (b b' : Stmts K) → Spot s A b b' B → StmtsTo r R Spot s A b b' B
 
--- A member's code: the parameters stay in their places.
-pub record CodeTo {K : Keys} (r : KeyMap K) (R : Rows K) (Spot : Standing → Stmts K → Stmts K
-    → Type 0) (old new : Code K) : Type 0 where
+-- A member's code: the parameters stay in their places, and all locals agree where it begins.
+pub record CodeTo {K : Keys} (r : KeyMap K) (R : Rows K) (Spot : Spots K) (old new : Code K) : Type 0 where
   pub size : ℕ
   pub at : ℕ → ℕ
   pub injective : (i j : ℕ) → i < size → j < size → at i ≡ at j → i ≡ j
   pub params : new.params ≡ old.params
   pub params_below : old.params ≤ size
   pub params_stay : (i : ℕ) → i < old.params → at i ≡ i
-  pub body : StmtsTo r R Spot (whole size at) old.body new.body
+  pub behind : NumberSet
+  pub body : StmtsTo r R Spot (whole size at) everything old.body new.body behind
 
-abbrev pub MethodTo : {K : Keys} → KeyMap K → Rows K
-    → (Standing → Stmts K → Stmts K → Type 0) → Method K
-    → Method K → Type 0
+abbrev pub MethodTo : {K : Keys} → KeyMap K → Rows K → Spots K → Method K → Method K → Type 0
 MethodTo r R Spot (written c) (written c') = CodeTo r R Spot c c'
 MethodTo r R Spot starts starts = Unit {0}
 MethodTo r R Spot (written c) starts = ⊥
@@ -150,8 +225,7 @@ pub record SameRows {K : Keys} (r : KeyMap K) (old new : Rows K) : Type 0 where
 
 -- The new program is the old one with keys by r, but for what Spot allows. It may have further
 -- methods.
-pub record ProgramTo {K : Keys} (r : KeyMap K) (Spot : Standing → Stmts K → Stmts K
-    → Type 0) (old new : Program K) : Type 0 where
+pub record ProgramTo {K : Keys} (r : KeyMap K) (Spot : Spots K) (old new : Program K) : Type 0 where
   pub rows : SameRows r old.rows new.rows
   pub methods : (m : K.method) → IsTrue (old.rows.has_method m)
       → MethodTo r old.rows Spot (old.method m) (new.method (r.method m))
@@ -159,8 +233,8 @@ pub record ProgramTo {K : Keys} (r : KeyMap K) (Spot : Standing → Stmts K → 
       → CodeTo r old.rows Spot (old.constructor k) (new.constructor (r.constructor k))
 
 -- No statement list is changed.
-abbrev pub NoSpot : {K : Keys} → Standing → Stmts K → Stmts K → Type 0
-NoSpot s b b' = ⊥
+abbrev pub NoSpot : {K : Keys} → Spots K
+NoSpot s A b b' B = ⊥
 
 -- The new program is the image of the old one.
 abbrev pub Renamed : {K : Keys} → KeyMap K → Program K → Program K → Type 0

@@ -1,17 +1,19 @@
 -- Which calls of the old and of the new program belong together, and how their answers do.
-use Rattle.std.specs.Prelude.{◌≡◌, ◌<◌, ◌⊎◌, List, map, Option, Some, None, IsTrue}
-use Rattle.jr_runs.specs.Keys.{Keys}
+use Rattle.std.specs.Prelude.{◌≡◌, ◌⊎◌, ℕ, List, map, Option, Some, None, IsTrue}
+use Rattle.jr_runs.specs.Keys.{Keys, At}
 use Rattle.jr_runs.specs.Values.{Value}
 use Rattle.jr_runs.specs.Rows.{Rows}
 use Rattle.jr_runs.specs.Arithmetic.{Out, value, thrown}
 use Rattle.jr_runs.specs.Core as core
-use Rattle.jr_runs.specs.Core.{Exp, Stmt, declare, eval, branch, loop, return, return_nothing}
+use Rattle.jr_runs.specs.Core.{Exp, Target, local, static_field, field_of, Stmt}
+use Rattle.jr_runs.specs.Core.{declare, eval, branch, loop, return, return_nothing}
 use Rattle.jr_runs.specs.Core.{block, sync, empty, Stmts}
 use Rattle.jr_runs.specs.Evaluation.{Flow, goes_on, returns, Call, invoke, construct, turn, Slot}
 use Rattle.jr_runs.specs.Evaluation.{in_local, in_static, in_object}
 use Rattle.jr_runs.specs.KeyMaps.{KeyMap, value_image}
-use Rattle.jr_runs.specs.Standing.{Standing, Stands, SelfIs, Shifted}
-use Rattle.jr_runs.specs.Images.{ExpTo, StmtTo}
+use Rattle.jr_runs.specs.Sets.{NumberSet, Within}
+use Rattle.jr_runs.specs.Standing.{In, Standing, Stands, Frame, Holding, Shifted}
+use Rattle.jr_runs.specs.Images.{ExpTo, Spots, StmtTo}
 
 -- both have a value, of which Q holds, or both throw the same
 abbrev pub OutRel : {A B : Type 0} → (A → B → Type 0) → Out A → Out B → Type 0
@@ -23,32 +25,28 @@ OutRel Q (thrown f) (value b) = ⊥
 abbrev pub ImageOf : {K : Keys} → KeyMap K → Value K → Value K → Type 0
 ImageOf r v v' = v' ≡ value_image r v
 
--- a value, and the locals behind it
-abbrev pub ResultRel : {K : Keys} → KeyMap K → Standing → List (Value K)
-    → Value K × List (Value K) → Value K
-    × List (Value K) → Type 0
-ResultRel r s frame a b = ImageOf r a.0 b.0 × Shifted r s frame a.1 b.1
+-- a value, and the locals behind it, of which those of the set agree
+abbrev pub ResultRel : {K : Keys} → KeyMap K → Standing K → Frame K → NumberSet
+    → Value K × List (Value K) → Value K × List (Value K) → Type 0
+ResultRel r s frame A a b = ImageOf r a.0 b.0 × Shifted r s frame A a.1 b.1
 
-abbrev pub ListRel : {K : Keys} → KeyMap K → Standing → List (Value K)
-    → List (Value K) × List (Value K)
-    → List (Value K) × List (Value K) → Type 0
-ListRel r s frame a b = (b.0 ≡ map (value_image r) a.0) × Shifted r s frame a.1 b.1
+abbrev pub ListRel : {K : Keys} → KeyMap K → Standing K → Frame K → NumberSet
+    → List (Value K) × List (Value K) → List (Value K) × List (Value K) → Type 0
+ListRel r s frame A a b = (b.0 ≡ map (value_image r) a.0) × Shifted r s frame A a.1 b.1
 
-abbrev pub SlotImage : {K : Keys} → KeyMap K → Standing → Slot K → Slot K → Type 0
-SlotImage r s (in_local n) (in_local m) = (n < s.code.size) × (m ≡ s.code.at n)
-SlotImage r s (in_static p f) (in_static q g) = g ≡ r.field f
-SlotImage r s (in_object p o f) (in_object q o' g) = ImageOf r o o' × (g ≡ r.field f)
-SlotImage r s (in_local n) (in_static q g) = ⊥
-SlotImage r s (in_local n) (in_object q o' g) = ⊥
-SlotImage r s (in_static p f) (in_local m) = ⊥
-SlotImage r s (in_static p f) (in_object q o' g) = ⊥
-SlotImage r s (in_object p o f) (in_local m) = ⊥
-SlotImage r s (in_object p o f) (in_static q g) = ⊥
+-- what a target comes to on both sides
+pub data SlotTo {K : Keys} (r : KeyMap K) (s : Standing K) : Target K → Slot K → Slot K
+    → Type 0 where
+  local_slots : (p : At K) (n : ℕ) → In n s.code.mine
+      → SlotTo r s (local p n) (in_local n) (in_local (s.code.at n))
+  static_slots : (p q : At K) (f : K.field)
+      → SlotTo r s (static_field p f) (in_static p f) (in_static q (r.field f))
+  object_slots : (p q : At K) (e : Exp K) (o o' : Value K) (f : K.field) → ImageOf r o o'
+      → SlotTo r s (field_of p e f) (in_object p o f) (in_object q o' (r.field f))
 
-abbrev pub SlotRel : {K : Keys} → KeyMap K → Standing → List (Value K)
-    → Slot K × List (Value K) → Slot K
-    × List (Value K) → Type 0
-SlotRel r s frame a b = SlotImage r s a.0 b.0 × Shifted r s frame a.1 b.1
+abbrev pub SlotRel : {K : Keys} → KeyMap K → Standing K → Frame K → NumberSet → Target K
+    → Slot K × List (Value K) → Slot K × List (Value K) → Type 0
+SlotRel r s frame A t a b = SlotTo r s t a.0 b.0 × Shifted r s frame A a.1 b.1
 
 abbrev pub GivenImage : {K : Keys} → KeyMap K → Option (Value K) → Option (Value K) → Type 0
 GivenImage r (Some v) (Some v') = ImageOf r v v'
@@ -65,13 +63,16 @@ FlowRel r L M (returns v) (returns v') = GivenImage r v v' × M
 FlowRel r L M (goes_on l) (returns v) = ⊥
 FlowRel r L M (returns v) (goes_on l) = ⊥
 
--- A caller doesn't see the locals of what it called.
-abbrev pub Unseen : {K : Keys} → List (Value K) → List (Value K) → Type 0
-Unseen l l' = Unit {0}
+-- what a caller gets: nothing where a body goes on to its end, as where it returns nothing
+abbrev pub given_of : {K : Keys} → Flow K → Option (Value K)
+given_of (goes_on l) = None
+given_of (returns v) = v
 
--- how the outcomes of two runs of one method belong together
+-- How the outcomes of two runs of one method belong together: a caller sees what it is given, and
+-- neither the locals of what it called nor whether a body without a value returned or went on.
 abbrev pub AnswerRel : {K : Keys} → KeyMap K → Out (Flow K) → Out (Flow K) → Type 0
-AnswerRel {K = K} r o o' = OutRel (FlowRel r (Unseen {K = K}) (Unit {0})) o o'
+AnswerRel {K = K} r o o' =
+    OutRel (λ (f : Flow K) (f' : Flow K). GivenImage r (given_of f) (given_of f')) o o'
 
 -- it may return
 abbrev mutual
@@ -90,20 +91,24 @@ abbrev mutual
   SomeReturns core.Stmts.end = ⊥
   SomeReturns (core.Stmts.more a b) = Returns a ⊎ SomeReturns b
 
--- a turn of a loop, and the turn of the new loop for it
-pub record TurnTo {K : Keys} (r : KeyMap K) (R : Rows K) (Spot : Standing → Stmts K → Stmts K
-    → Type 0) (me : Value K) (c : Exp K) (b : Stmt K) (l : List (Value K)) (me' : Value K)
-    (c' : Exp K) (b' : Stmt K) (l' : List (Value K)) : Type 0 where
-  pub at : Standing
+-- A turn of a loop, and the turn of the new loop for it. head: which locals agree where the
+-- condition begins; tested: behind the condition; behind: behind the body.
+pub record TurnTo {K : Keys} (r : KeyMap K) (R : Rows K) (Spot : Spots K) (me : Value K)
+    (c : Exp K) (b : Stmt K) (l : List (Value K)) (me' : Value K) (c' : Exp K) (b' : Stmt K)
+    (l' : List (Value K)) : Type 0 where
+  pub at : Standing K
   pub stands : Stands at
-  pub frame : List (Value K)
-  pub self : SelfIs r at.code.self frame me me'
-  pub condition : ExpTo r R at.code c c'
-  pub body : StmtTo r R Spot at b b'
-  pub locals : Shifted r at frame l l'
+  pub frame : Frame K
+  pub self : Holding R r at.code frame me me'
+  pub head : NumberSet
+  pub tested : NumberSet
+  pub behind : NumberSet
+  pub condition : ExpTo r R at.code head c c' tested
+  pub body : StmtTo r R Spot at tested b b' behind
+  pub again : Within head behind
+  pub locals : Shifted r at frame head l l'
 
-abbrev pub Pair : {K : Keys} → KeyMap K → Rows K → (Standing → Stmts K → Stmts K → Type 0) → Call K
-    → Call K → Type 0
+abbrev pub Pair : {K : Keys} → KeyMap K → Rows K → Spots K → Call K → Call K → Type 0
 Pair r R Spot (invoke m me args) (invoke m' me' args') = IsTrue (R.has_method m) × (m' ≡ r.method m)
     × (me' ≡ value_image r me) × (args' ≡ map (value_image r) args)
 Pair r R Spot (construct k me args) (construct k' me' args') = IsTrue (R.has_constructor k)
@@ -116,12 +121,12 @@ Pair r R Spot (construct k me args) (turn me' c' b' l') = ⊥
 Pair r R Spot (turn me c b l) (invoke m' me' args') = ⊥
 Pair r R Spot (turn me c b l) (construct k' me' args') = ⊥
 
-abbrev pub Post : {K : Keys} → (r : KeyMap K) (R : Rows K) (Spot : Standing → Stmts K → Stmts K
-    → Type 0) (c c' : Call K) → Pair r R Spot c c' → Out (Flow K) → Out (Flow K) → Type 0
+abbrev pub Post : {K : Keys} → (r : KeyMap K) (R : Rows K) (Spot : Spots K) (c c' : Call K)
+    → Pair r R Spot c c' → Out (Flow K) → Out (Flow K) → Type 0
 Post r R Spot (invoke m me args) (invoke m' me' args') pair = AnswerRel r
 Post r R Spot (construct k me args) (construct k' me' args') pair = AnswerRel r
 Post r R Spot (turn me c b l) (turn me' c' b' l') pair =
-    OutRel (FlowRel r (Shifted r pair.at pair.frame) (Returns b))
+    OutRel (FlowRel r (Shifted r pair.at pair.frame pair.tested) (Returns b))
 Post r R Spot (invoke m me args) (construct k' me' args') pair = λ a b. ⊥
 Post r R Spot (invoke m me args) (turn me' c' b' l') pair = λ a b. ⊥
 Post r R Spot (construct k me args) (invoke m' me' args') pair = λ a b. ⊥

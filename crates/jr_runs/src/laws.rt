@@ -1,7 +1,7 @@
 //! The laws on runs of programs, each the contract of a function that does nothing. `C`, `F`, `M`
 //! and `N` are the keys of classes, fields, methods and constructors, and `A` the places of nodes.
 ghost use Rattle.jr_runs.specs.Pieces.{PiecesChangePlaces, ReorderingsJoin};
-ghost use Rattle.jr_runs.specs.Laws.{CallsAreMadeWell, EndsFit, RenamedProgramsAreAlike};
+ghost use Rattle.jr_runs.specs.Laws.{CallsAreMadeWell, EndsFit, HeldLocalsGo, HeldLocalsKeepRuns, RenamedProgramsAreAlike};
 
 /// A program and its image under a map of keys have the same runs, both ways, and bounded runs too.
 pub fn renamed_programs_are_alike<C, F, M, N, A>()
@@ -21,4 +21,11 @@ pub fn types_are_kept<C, F, M, N, A>()
 pub fn reorderings_join<C, F, M, N, A>()
     ensures joins { ReorderingsJoin C F M N A }
     ensures pieces { PiecesChangePlaces C F M N A }
+{}
+
+/// Programs of which the one has a local for an expression that reads locals alone have the same
+/// runs, bounded ones too, wherever the local is read.
+pub fn held_locals_keep_runs<C, F, M, N, A>()
+    ensures made { HeldLocalsKeepRuns C F M N A }
+    ensures gone { HeldLocalsGo C F M N A }
 {}

@@ -1,0 +1,5 @@
+-- `Backwards`: what a map of keys with an inverse leads back, of actions, exchanges and what is asked of
+-- steps. `Histories`: so of histories. `Threads`: the same declarations keep what a thread runs.
+pub mod Backwards
+pub mod Histories
+pub mod Threads

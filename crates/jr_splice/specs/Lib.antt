@@ -1,0 +1,4 @@
+pub mod Cutting
+pub mod Near
+pub mod Parts
+pub mod Seams
