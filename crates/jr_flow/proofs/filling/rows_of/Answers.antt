@@ -1,0 +1,11 @@
+use Rattle.std.proofs.Common.{◌*◌, arith}
+use Rattle.std.proofs.lemmas.Nat.{mul-le}
+use Rattle.jr_flow.proofs.Filled.{edges_none}
+use Rattle.jr_flow.proofs.filling.rows_of.Goals as goal
+
+pub put_edges-requires-clause-inside : goal.put_edges-requires-clause-inside
+put_edges-requires-clause-inside c a b at = ?
+
+pub put_edges-requires-clause-empty : goal.put_edges-requires-clause-empty
+put_edges-requires-clause-empty c =
+    edges_none c.args.width c.args.stops.now (64 * c.args.width * c.args.width) c.in_ok-rows.rows.items (c.in_ok-rows.ensures.items_if_clones_equal (λ y h. h))
