@@ -2,11 +2,18 @@
 use Rattle.std.proofs.Common.{◌≡◌, ◌⊎◌, ◌<◌, ◌≤◌, ℕ, ◌+◌, ◌/◌, List, [], ◌∷◌, ◌++◌, length, get_or, take, sym, ap, subst, inl, inr, arith}
 use Rattle.std.proofs.Math.ListN.{replicate}
 use Rattle.std.specs.Prelude.{Contains}
-use Rattle.std.proofs.lemmas.List.Elements.{Contains-append_left, Contains-push, Contains-push_cases}
-use Rattle.jr_flow.specs.Edges.{EdgeOf}
-use Rattle.jr_flow.specs.Rows.{Has, Puts}
+use Rattle.std.proofs.lemmas.List.Elements.{All-contains, Contains-append_left, Contains-push, Contains-push_cases}
+use Rattle.jr_flow.specs.Edges.{EdgeOf, AreBelow}
+use Rattle.jr_flow.specs.Rows.{Has, Puts, width_of}
 use Rattle.jr_flow.specs.Holding.{HoldsNumbers, HoldsEdges}
 use Rattle.jr_flow.proofs.Words.{no_bits}
+
+-- the two nodes of an edge
+pub edge_ends : (edges : List (ℕ × ℕ)) (size : ℕ) → AreBelow size edges → (a b : ℕ) → EdgeOf edges a b → (a < size) × (b < size)
+edge_ends edges size below a b e = All-contains (λ (p : ℕ × ℕ). (p.0 < size) × (p.1 < size)) edges (a, b) below e
+
+pub edge_rows : (edges : List (ℕ × ℕ)) (size width : ℕ) → AreBelow size edges → width ≡ width_of size → (a b : ℕ) → EdgeOf edges a b → (a / 64 < width) × (b / 64 < width)
+edge_rows edges size width below wide a b e = let ends = edge_ends edges size below a b e in (omega arith, omega arith)
 
 pub contains_none : {X : Type 0} (x : X) → Contains [] x → ⊥
 contains_none x at = let none = at.1 in omega arith
@@ -53,7 +60,7 @@ edges_none width stops n words is = record {
 module _ (width : ℕ) (stops : List ℕ) (edges : List (ℕ × ℕ)) (from to : ℕ) (old : List ℕ) (h : HoldsEdges width stops edges old) where
   -- an edge is put
   pub edges_more : (new : List ℕ) → (Has stops width 0 to → ⊥) → Puts width from to old new → HoldsEdges width stops (edges ++ (from, to) ∷ []) new
-  edges_more new open p = record {
+  edges_more new unshut p = record {
     has = λ a b at free. has_next a b free (Contains-push_cases edges (from, to) (a, b) at);
     only = λ a b lt bit. only_next a b lt (p.only a b lt bit);
   }
@@ -67,7 +74,7 @@ module _ (width : ℕ) (stops : List ℕ) (edges : List (ℕ × ℕ)) (from to :
       only_next a b lt (inl bit) = let k = h.only a b lt bit in (Contains-append_left edges ((from, to) ∷ []) (a, b) k.0, k.1)
       only_next a b lt (inr at) = (
         subst (λ (n : ℕ). EdgeOf (edges ++ (from, to) ∷ []) n b) (sym at.0) (subst (λ (n : ℕ). EdgeOf (edges ++ (from, to) ∷ []) from n) (sym at.1) (Contains-push edges (from, to))),
-        λ stop. open (subst (λ (n : ℕ). Has stops width 0 n) at.1 stop),
+        λ stop. unshut (subst (λ (n : ℕ). Has stops width 0 n) at.1 stop),
       )
 
   -- an edge is left out, since it leads to a stop

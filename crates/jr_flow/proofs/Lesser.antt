@@ -18,16 +18,16 @@ module _ (P : ℕ → Type 0) (numbers : List ℕ) (number : ℕ) where
 
   -- a number of which it doesn't hold
   pub least_past : (o : Option ℕ) → (P number → ⊥) → IsLeast P numbers o → IsLeast P (numbers ++ number ∷ []) o
-  least_past None no h = λ n at p. by n p (either n at)
+  least_past None never h = λ n at p. by n p (either n at)
     where
       by : (n : ℕ) → P n → (Contains numbers n ⊎ (number ≡ n)) → ⊥
       by n p (inl at) = h n at p
-      by n p (inr is) = no (subst P (sym is) p)
-  least_past (Some least) no h = (Contains-append_left numbers (number ∷ []) least h.0, h.1, λ n at p. by n p (either n at))
+      by n p (inr is) = never (subst P (sym is) p)
+  least_past (Some least) never h = (Contains-append_left numbers (number ∷ []) least h.0, h.1, λ n at p. by n p (either n at))
     where
       by : (n : ℕ) → P n → (Contains numbers n ⊎ (number ≡ n)) → least ≤ n
       by n p (inl at) = h.2 n at p
-      by n p (inr is) = absurd (no (subst P (sym is) p))
+      by n p (inr is) = absurd (never (subst P (sym is) p))
 
   pub least_first : P number → IsLeast P numbers None → IsLeast P (numbers ++ number ∷ []) (Some number)
   least_first holds h = (Contains-push numbers number, holds, λ n at p. by n p (either n at))

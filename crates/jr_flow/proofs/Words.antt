@@ -32,7 +32,7 @@ empty_word words width row column is has =
     let none : bit_at (get_or words (row * width + column / 64) 0) (column % 64) ≡ 0 = ap (λ v. bit_at v (column % 64)) is ∙ bit_at-zero (column % 64) in
     omega arith
 
-zero_at : (n i : ℕ) → get_or (replicate n 0) i 0 ≡ 0
+zero_at : (n i : ℕ) → get_or {A = ℕ} (replicate n 0) i 0 ≡ 0
 zero_at n i =
     elim (cases_lt i n) [
       | inl within ↦ get_or-replicate n i 0 0 within
@@ -152,8 +152,8 @@ pub moves_added : (words : List ℕ) (place bits : ℕ) (changed : Bool) → pla
     → (changed ≡ false → bit_or (get_or words place 0) bits ≡ get_or words place 0)
     → (changed ≡ true → bit_or (get_or words place 0) bits ≡ get_or words place 0 → ⊥) → Moves words (added words place bits) changed
 unfolding room
-moves_added words place bits changed within fits same differs = record {
-  same = λ e. ap (set words place) (same e) ∙ set-get_or words place 0;
+moves_added words place bits changed within fits stays differs = record {
+  same = λ e. ap (set words place) (stays e) ∙ set-get_or words place 0;
   less = λ e.
       let ne = differs e in
       let more = le_or_l (get_or words place 0) bits in

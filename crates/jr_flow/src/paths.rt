@@ -24,10 +24,10 @@ pub fn reaching(alloc: Global, graph: &Graph, stops: &[u32]) -> Result<Reach, Al
         (PathBetween (EdgeOf graph.now.edges.items) (Contains stops.now))) }
 {
     let width = width_of(graph.size);
-    let open = row_of(alloc, width, &[])?;
+    let none = row_of(alloc, width, &[])?;
     let shut = row_of(alloc, width, stops)?;
     let steps = rows_of(alloc, graph, width, &shut)?;
-    let mut words = rows_of(alloc, graph, width, &open)?;
+    let mut words = rows_of(alloc, graph, width, &none)?;
     close(&mut words, &steps, width);
     Ok(Reach {
         size: graph.size,

@@ -1,10 +1,11 @@
 //! Rows of bits: each row has `width` words, and they stand one behind the other.
-ghost use Rattle.std.specs.Prelude.{◌≡◌, ◌↔◌, ◌+◌, ◌*◌, ◌/◌, ◌<◌, ◌≤◌, IsTrue, length, slice_index};
+ghost use Rattle.std.specs.Prelude.{◌≡◌, ◌↔◌, ◌+◌, ◌*◌, ◌/◌, ◌^◌, ◌<◌, ◌≤◌, IsTrue, length, slice_index};
 ghost use Rattle.jr_flow.specs.Rows.{width_of, Has, added, Puts, Merges, Moves};
 
 /// How many words have a bit for each number below the size.
 pub(crate) fn width_of(size: u32) -> usize
-    ensures { result ≡ width_of size }
+    ensures width { result ≡ width_of size }
+    ensures few { result ≤ 2 ^ 26 }
 {
     (size as usize + 63) / 64
 }

@@ -10,7 +10,7 @@ loop-changed-preserved c =
     goes_on c.args.width c.args.steps.now c.args.rows.now c.loop-changed.rows c.pass-changed.new.rows c.loop-changed.invariant c.pass-changed.ensures.extends
 
 pub loop-changed-smaller : goal.loop-changed-smaller
-loop-changed-smaller c = c.pass-changed.ensures.moves.less ?
+loop-changed-smaller c = c.pass-changed.ensures.moves.less c.if-not-changed.false
 
 pub returns-then-not-changed : goal.returns-then-not-changed
 returns-then-not-changed c =

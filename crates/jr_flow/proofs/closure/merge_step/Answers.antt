@@ -1,4 +1,5 @@
 use Rattle.std.proofs.Common.{◌*◌, arith}
+use Rattle.std.proofs.lemmas.Bool.{iff_false}
 use Rattle.std.proofs.lemmas.Nat.{row_fits}
 use Rattle.jr_flow.proofs.Words.{moves_none}
 use Rattle.jr_flow.proofs.Extending.{extends_merges, extends_past}
@@ -9,7 +10,7 @@ has-requires c =
     omega (arith, row_fits c.args.node c.args.width (64 * c.args.width) c.args.width (omega arith) (omega arith))
 
 pub returns-then-not-has-clause-extends : goal.returns-then-not-has-clause-extends
-returns-then-not-has-clause-extends c = extends_past c.args.width c.args.steps.now c.args.node c.args.next c.args.rows.now ?
+returns-then-not-has-clause-extends c = extends_past c.args.width c.args.steps.now c.args.node c.args.next c.args.rows.now (iff_false c.has.ensures c.if-not-has.true)
 
 pub returns-then-not-has-clause-moves : goal.returns-then-not-has-clause-moves
 returns-then-not-has-clause-moves c = moves_none c.args.rows.now
@@ -24,7 +25,7 @@ merge-requires-clause-to c =
 
 pub returns-clause-extends : goal.returns-clause-extends
 returns-clause-extends c =
-    extends_merges c.args.width c.args.steps.now c.args.node c.args.next c.args.rows.now c.merge.new.words c.requires.next ? c.merge.ensures.merges
+    extends_merges c.args.width c.args.steps.now c.args.node c.args.next c.args.rows.now c.merge.new.words c.requires.next (c.has.ensures.0 c.if-not-has.false) c.merge.ensures.merges
 
 pub returns-clause-moves : goal.returns-clause-moves
 returns-clause-moves c = c.merge.ensures.moves

@@ -1,4 +1,5 @@
 use Rattle.std.proofs.Common.{◌*◌, ◌/◌, arith}
+use Rattle.std.proofs.lemmas.Bool.{iff_false}
 use Rattle.std.proofs.lemmas.Nat.{row_fits}
 use Rattle.jr_flow.proofs.Filled.{edges_more, edges_shut}
 use Rattle.jr_flow.proofs.filling.put_edge.Goals as goal
@@ -13,4 +14,4 @@ put-requires-clause-row c =
 
 pub returns : goal.returns
 returns c edges h =
-    edges_more c.args.width c.args.stops.now edges c.args.from c.args.to c.args.rows.now h c.put.new.words ? c.put.ensures
+    edges_more c.args.width c.args.stops.now edges c.args.from c.args.to c.args.rows.now h c.put.new.words (iff_false c.has.ensures c.if-has.false) c.put.ensures

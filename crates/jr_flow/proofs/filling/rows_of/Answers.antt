@@ -1,10 +1,11 @@
 use Rattle.std.proofs.Common.{◌*◌, arith}
 use Rattle.std.proofs.lemmas.Nat.{mul-le}
-use Rattle.jr_flow.proofs.Filled.{edges_none}
+use Rattle.jr_flow.proofs.Filled.{edges_none, edge_rows}
 use Rattle.jr_flow.proofs.filling.rows_of.Goals as goal
 
 pub put_edges-requires-clause-inside : goal.put_edges-requires-clause-inside
-put_edges-requires-clause-inside c a b at = ?
+put_edges-requires-clause-inside c a b at =
+    edge_rows c.args.graph.now.edges.items c.args.graph.now.size c.args.width c.args.graph.now.below c.requires.width a b at
 
 pub put_edges-requires-clause-empty : goal.put_edges-requires-clause-empty
 put_edges-requires-clause-empty c =
