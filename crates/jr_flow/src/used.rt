@@ -20,7 +20,8 @@ fn lesser(reach: &Reach, from: u32, least: Option<u32>, read: u32) -> Option<u32
     match least {
         None => Some(read),
         Some(other) => {
-            if read < other {
+            let is_lower = read < other;
+            if is_lower {
                 Some(read)
             } else {
                 Some(other)

@@ -13,12 +13,12 @@ returns-in-None c reads h =
     least_first (Comes c.args.reach.now c.args.from) reads c.args.read (c.comes.ensures.0 c.if-not-comes.false)
     (subst (λ (o : Option ℕ). IsLeast (Comes c.args.reach.now c.args.from) reads o) c.in-None.is h)
 
-pub returns-then-read-other : goal.returns-then-read-other
-returns-then-read-other c reads h =
+pub returns-then-is_lower : goal.returns-then-is_lower
+returns-then-is_lower c reads h =
     least_lower (Comes c.args.reach.now c.args.from) reads c.args.read c.in-Some.other (c.comes.ensures.0 c.if-not-comes.false) (omega arith)
     (subst (λ (o : Option ℕ). IsLeast (Comes c.args.reach.now c.args.from) reads o) c.in-Some.is h)
 
-pub returns-else-read-other : goal.returns-else-read-other
-returns-else-read-other c reads h =
+pub returns-else-is_lower : goal.returns-else-is_lower
+returns-else-is_lower c reads h =
     least_higher (Comes c.args.reach.now c.args.from) reads c.args.read c.in-Some.other (omega arith)
     (subst (λ (o : Option ℕ). IsLeast (Comes c.args.reach.now c.args.from) reads o) c.in-Some.is h)
