@@ -47,7 +47,7 @@ pub(crate) fn row_of(
 
 /// Sets the bit of an edge, unless it leads to a stop.
 fn put_edge(rows: &mut [u64], width: usize, stops: &[u64], from: usize, to: usize)
-    requires size { length rows.old ≡ 64 * width * width }
+    requires size { 64 * width * width ≤ length rows.old }
     requires stops { length stops.now ≡ width }
     requires from { from / 64 < width }
     requires to { to / 64 < width }
@@ -60,8 +60,9 @@ fn put_edge(rows: &mut [u64], width: usize, stops: &[u64], from: usize, to: usiz
     put(rows, width, from, to);
 }
 
-fn put_edges(rows: &mut [u64], width: usize, stops: &[u64], edges: &[(u32, u32)])
-    requires size { length rows.old ≡ 64 * width * width }
+/// Sets the bits of edges, but for those that lead to a stop.
+pub(crate) fn put_edges(rows: &mut [u64], width: usize, stops: &[u64], edges: &[(u32, u32)])
+    requires size { 64 * width * width ≤ length rows.old }
     requires stops { length stops.now ≡ width }
     requires inside { (a b : ℕ) → EdgeOf edges.now a b → (a / 64 < width) × (b / 64 < width) }
     requires empty { HoldsEdges width stops.now [] rows.old }
