@@ -4,4 +4,7 @@ pub mod Least
 pub mod Rows
 pub mod Holding
 pub mod Closure
+pub mod Spreading
+pub mod Searched
 pub mod Reaching
+pub mod Nodes
