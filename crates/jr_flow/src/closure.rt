@@ -1,6 +1,6 @@
 //! Rows are closed under steps. A step is a bit too: where the steps of a node have the bit of
 //! another, the node's row gets the other's row.
-ghost use Rattle.std.specs.Prelude.{◌≡◌, ◌+◌, ◌*◌, ◌/◌, ◌<◌, ◌≤◌, ◌^◌, length};
+ghost use Rattle.std.specs.Prelude.{◌≡◌, ◌*◌, ◌/◌, ◌<◌, ◌≤◌, ◌^◌, length};
 ghost use Rattle.jr_flow.specs.Rows.{Moves};
 ghost use Rattle.jr_flow.specs.Closure.{Extends, Closes};
 

@@ -1,6 +1,6 @@
 //! One node's row is closed under the edges of a graph. It stands behind the other rows, which stay
 //! as they are.
-ghost use Rattle.std.specs.Prelude.{◌≡◌, ◌+◌, ◌*◌, ◌/◌, ◌<◌, ◌^◌, length};
+ghost use Rattle.std.specs.Prelude.{◌≡◌, ◌+◌, ◌*◌, ◌/◌, ◌<◌, ◌≤◌, ◌^◌, length};
 ghost use Rattle.jr_flow.specs.Rows.{Moves};
 ghost use Rattle.jr_flow.specs.Spreading.{Starts, Spreads, Searches};
 
@@ -14,7 +14,7 @@ pub(crate) fn start(rows: &mut [u64], width: usize, from: usize)
     if from / 64 >= width {
         return;
     }
-    let _told = merge(rows, width, from, 64 * width);
+    merge(rows, width, from, 64 * width);
 }
 
 /// Adds the row of a node to the last row, if that has the node and it is no stop.

@@ -5,7 +5,6 @@ ghost use Rattle.jr_flow.specs.Edges.{EdgeOf};
 ghost use Rattle.jr_flow.specs.Paths.{PathBetween};
 ghost use Rattle.jr_flow.specs.Least.{IsLeast};
 ghost use Rattle.jr_flow.specs.Rows.{width_of};
-ghost use Rattle.jr_flow.specs.Holding.{HoldsNumbers};
 ghost use Rattle.jr_flow.specs.Nodes.{IsReached, TellsNodes};
 ghost use Rattle.jr_flow.specs.Searched.{IsSearched};
 
