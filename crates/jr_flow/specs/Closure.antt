@@ -1,5 +1,5 @@
--- Rows that are closed under steps, which are rows too: where a step leads from a to b, the row of a
--- has the bits of the row of b.
+-- Rows that are closed under steps, which are rows too: where a step leads from a to b, the row of
+-- a has the bits of the row of b.
 use Rattle.std.specs.Prelude.{ℕ, ◌/◌, ◌<◌, ◌↔◌, List}
 use Rattle.jr_flow.specs.Rows.{Has}
 

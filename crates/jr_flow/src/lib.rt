@@ -3,14 +3,14 @@
 //! A [`Graph`] is a number of nodes and a list of edges. A path has at least one edge, so a node
 //! reaches itself only where edges lead back to it. [`reachable`] and [`reaching`] answer for all
 //! nodes at once, the latter of paths with no stop strictly between: a stop is reached, and not
-//! passed. [`reached_from`] answers for one node, and [`used_after`] finds the least of some nodes that
-//! it reaches.
+//! passed. [`reached_from`] answers for one node, and [`used_after`] finds the least of some nodes
+//! that it reaches.
 //!
 //! `specs/Paths` has paths over any relation of edges, for whoever speaks of paths; `specs/Edges`
-//! the edges of a list. `rows`: rows of bits, one behind the other. `filling`: the rows of a graph's
-//! edges. `closure`: in passes by falling node, each row gets the rows of the nodes that its steps
-//! lead to, until nothing changes. Where edges lead upwards, one pass finds all, and one sees that
-//! nothing is left. `search`: the same for one row, by rising node.
+//! the edges of a list. `rows`: rows of bits, one behind the other. `filling`: the rows of a
+//! graph's edges. `closure`: in passes by falling node, each row gets the rows of the nodes to
+//! which its steps lead, until nothing changes. Where edges lead upwards, one pass finds all, and
+//! one sees that nothing is left. `search`: the same for one row, by rising node.
 #![tactic(auto)]
 
 mod closure;

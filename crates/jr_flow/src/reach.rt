@@ -17,8 +17,8 @@ impl Reach {
     ghost use Rattle.std.specs.Prelude.{IsTrue, ◌↔◌};
     ghost use Rattle.jr_flow.specs.Reaching.{Comes};
 
-    /// Whether there is such a path from one node to another. There is none from or to a number that
-    /// is no node.
+    /// Whether there is such a path from one node to another. There is none from or to a number
+    /// that is no node.
     pub fn comes(&self, from: u32, to: u32) -> bool
         ensures { IsTrue result ↔ Comes self.now from to }
     {

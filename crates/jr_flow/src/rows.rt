@@ -1,5 +1,6 @@
 //! Rows of bits: each row has `width` words, and they stand one behind the other.
-ghost use Rattle.std.specs.Prelude.{◌≡◌, ◌↔◌, ◌+◌, ◌*◌, ◌/◌, ◌^◌, ◌<◌, ◌≤◌, IsTrue, length, slice_index};
+ghost use Rattle.std.specs.Prelude.{◌≡◌, ◌↔◌, ◌+◌, ◌*◌, ◌/◌, ◌^◌, ◌<◌, ◌≤◌};
+ghost use Rattle.std.specs.Prelude.{IsTrue, length, slice_index};
 ghost use Rattle.jr_flow.specs.Rows.{width_of, Has, added, Puts, Merges, Moves};
 
 /// How many words have a bit for each number below the size.

@@ -1,6 +1,6 @@
 //! What one node reaches.
-ghost use Rattle.std.specs.Prelude.{◌≡◌, ℕ, ◌+◌, ◌*◌, ◌≤◌, ◌^◌, List, [], ◌∷◌, ◌++◌, IfOk, Contains};
-ghost use Rattle.std.specs.Prelude.{length};
+ghost use Rattle.std.specs.Prelude.{◌≡◌, ℕ, ◌+◌, ◌*◌, ◌≤◌, ◌^◌, List, [], ◌∷◌, ◌++◌};
+ghost use Rattle.std.specs.Prelude.{IfOk, Contains, length};
 ghost use Rattle.jr_flow.specs.Edges.{EdgeOf};
 ghost use Rattle.jr_flow.specs.Paths.{PathBetween};
 ghost use Rattle.jr_flow.specs.Least.{IsLeast};
@@ -14,8 +14,8 @@ use crate::search::{spread, start};
 use crate::{Graph, Reached};
 use std::alloc::{AllocError, Global};
 
-/// The rows of a graph's edges, and behind them a row of the nodes that a node reaches. The row of no
-/// numbers is handed in.
+/// The rows of a graph's edges, and behind them a row of the nodes that a node reaches. The row of
+/// no numbers is handed in.
 fn searched(
     alloc: Global,
     graph: &Graph,
@@ -91,8 +91,8 @@ fn least_read(reached: &Reached, reads: &[u32]) -> Option<u32>
     least
 }
 
-/// The least of the reads that a path reaches which begins at a node, has at least one edge, and has
-/// no stop strictly between.
+/// The least of the reads that a path reaches which begins at a node, has at least one edge, and
+/// has no stop strictly between.
 ///
 /// A read may be a stop itself, and may be the node where the path begins. None exactly where no
 /// read is reached.
