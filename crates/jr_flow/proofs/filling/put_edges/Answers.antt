@@ -6,11 +6,13 @@ use Rattle.jr_flow.proofs.filling.put_edges.Goals as goal
 
 pub put_edge-requires-clause-from : goal.put_edge-requires-clause-from
 put_edge-requires-clause-from c =
-    (c.requires.inside _ _ (Contains-get_or c.args.edges.now c.loop-edge.edge-index (0, 0) c.loop-edge-test.true)).0
+    let edge = get_or c.args.edges.now c.loop-edge.edge-index (0, 0) in
+    (c.requires.inside edge.0 edge.1 (Contains-get_or c.args.edges.now c.loop-edge.edge-index (0, 0) c.loop-edge-test.true)).0
 
 pub put_edge-requires-clause-to : goal.put_edge-requires-clause-to
 put_edge-requires-clause-to c =
-    (c.requires.inside _ _ (Contains-get_or c.args.edges.now c.loop-edge.edge-index (0, 0) c.loop-edge-test.true)).1
+    let edge = get_or c.args.edges.now c.loop-edge.edge-index (0, 0) in
+    (c.requires.inside edge.0 edge.1 (Contains-get_or c.args.edges.now c.loop-edge.edge-index (0, 0) c.loop-edge-test.true)).1
 
 pub loop-edge-preserved : goal.loop-edge-preserved
 loop-edge-preserved c =
