@@ -53,7 +53,7 @@ numbers_past width numbers number words past h = record {
 
 pub edges_none : (width : ℕ) (stops : List ℕ) (n : ℕ) (words : List ℕ) → words ≡ replicate n 0 → HoldsEdges width stops [] words
 edges_none width stops n words is = record {
-  has = λ a b at free. absurd (contains_none (a, b) at);
+  has = λ a b at free. absurd (contains_none {X = ℕ × ℕ} (a, b) at);
   only = λ a b lt h. absurd (no_bits n words is width a b h);
 }
 
