@@ -6,5 +6,5 @@ pub mod Holding
 pub mod Closure
 pub mod Spreading
 pub mod Searched
-pub mod Reaching
+pub mod Pairs
 pub mod Nodes

@@ -2,7 +2,7 @@
 ghost use Rattle.std.specs.Prelude.{IfOk, Contains};
 ghost use Rattle.jr_flow.specs.Edges.{EdgeOf};
 ghost use Rattle.jr_flow.specs.Paths.{Path, PathBetween};
-ghost use Rattle.jr_flow.specs.Reaching.{Tells};
+ghost use Rattle.jr_flow.specs.Pairs.{Tells};
 
 use crate::closure::close;
 use crate::filling::{row_of, rows_of};

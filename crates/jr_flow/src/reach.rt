@@ -15,7 +15,7 @@ pub struct Reach {
 
 impl Reach {
     ghost use Rattle.std.specs.Prelude.{IsTrue, ◌↔◌};
-    ghost use Rattle.jr_flow.specs.Reaching.{Comes};
+    ghost use Rattle.jr_flow.specs.Pairs.{Comes};
 
     /// Whether there is such a path from one node to another. There is none from or to a number
     /// that is no node.
