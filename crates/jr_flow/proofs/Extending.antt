@@ -1,5 +1,5 @@
 -- Rows that steps extend, piece by piece: one step, the steps in a word, those of a node, of all.
-use Rattle.std.proofs.Common.{◌≡◌, ◌⊎◌, ◌<◌, ◌≤◌, ℕ, ◌+◌, ◌*◌, ◌/◌, List, get_or, sym, ap, subst, ◌∙◌, inl, inr, arith}
+use Rattle.std.proofs.Common.{◌≡◌, ◌⊎◌, ◌<◌, ◌≤◌, ℕ, ◌+◌, ◌-◌, ◌*◌, ◌/◌, List, get_or, sym, ap, subst, ◌∙◌, inl, inr, arith}
 use Rattle.jr_flow.specs.Rows.{Has, Merges}
 use Rattle.jr_flow.specs.Closure.{Derived, at_once, onward, Extends}
 use Rattle.jr_flow.proofs.Words.{empty_word}

@@ -8,9 +8,9 @@ ghost use Rattle.jr_flow.specs.Rows.{width_of};
 ghost use Rattle.jr_flow.specs.Nodes.{IsReached, TellsNodes};
 ghost use Rattle.jr_flow.specs.Searched.{IsSearched};
 
-use crate::filling::{put_edges, row_of};
+use crate::filling::row_of;
 use crate::rows::width_of;
-use crate::search::{spread, start};
+use crate::search::search_edges;
 use crate::{Graph, Reached};
 use std::alloc::{AllocError, Global};
 
@@ -33,9 +33,7 @@ fn searched(
         IsSearched width graph.now.edges.items from none.now shut.now rows.items) }
 {
     let mut rows = vec![in alloc; 0u64; (64 * width + 1) * width]?;
-    put_edges(&mut rows, width, none, &graph.edges);
-    start(&mut rows, width, from as usize);
-    spread(&mut rows, shut, width);
+    search_edges(&mut rows, width, &graph.edges, from as usize, none, shut);
     Ok(rows)
 }
 

@@ -4,15 +4,15 @@ use Rattle.jr_flow.proofs.Words.{moves_none, moves_more}
 use Rattle.jr_flow.proofs.Extending.{extends_none, extends_part, extends_past_word, bit_more}
 use Rattle.jr_flow.proofs.closure.merge_word_steps.Goals as goal
 
-pub bounds-steps : goal.bounds-steps
-bounds-steps c =
+pub bounds-steps-node : goal.bounds-steps-node
+bounds-steps-node c =
     omega (arith, row_fits c.args.node c.args.width (64 * c.args.width) c.args.width (omega arith) (omega arith))
 
-pub returns-then-steps-eq0-clause-extends : goal.returns-then-steps-eq0-clause-extends
-returns-then-steps-eq0-clause-extends c = extends_past_word c.args.width c.args.steps.now c.args.node c.args.word c.args.rows.now c.if-steps-eq0.true
+pub returns-then-steps-node-eq0-clause-extends : goal.returns-then-steps-node-eq0-clause-extends
+returns-then-steps-node-eq0-clause-extends c = extends_past_word c.args.width c.args.steps.now c.args.node c.args.word c.args.rows.now c.if-steps-node-eq0.true
 
-pub returns-then-steps-eq0-clause-moves : goal.returns-then-steps-eq0-clause-moves
-returns-then-steps-eq0-clause-moves c = moves_none c.args.rows.now
+pub returns-then-steps-node-eq0-clause-moves : goal.returns-then-steps-node-eq0-clause-moves
+returns-then-steps-node-eq0-clause-moves c = moves_none c.args.rows.now
 
 pub loop-bit-init : goal.loop-bit-init
 loop-bit-init c = record {
