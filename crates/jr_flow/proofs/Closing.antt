@@ -1,5 +1,5 @@
 -- Rows that a pass over all steps leaves as they are say all that they say with steps in front.
-use Rattle.std.proofs.Common.{◌≡◌, ◌⊎◌, ◌<◌, ℕ, ◌/◌, List, sym, subst, inl, inr}
+use Rattle.std.proofs.Common.{◌≡◌, ◌⊎◌, ◌<◌, ℕ, ◌/◌, List, subst}
 use Rattle.jr_flow.specs.Rows.{Has}
 use Rattle.jr_flow.specs.Closure.{Derived, at_once, onward, Extends, Closes}
 use Rattle.jr_flow.proofs.Extending.{extends_more, extends_part}

@@ -5,8 +5,8 @@ use Rattle.jr_flow.specs.Edges.{EdgeOf, AreBelow}
 use Rattle.jr_flow.specs.Paths as paths
 use Rattle.jr_flow.specs.Paths.{PathBetween}
 use Rattle.jr_flow.specs.Rows.{Has, Merges, width_of}
-use Rattle.jr_flow.specs.Holding.{HoldsNumbers, HoldsEdges}
-use Rattle.jr_flow.specs.Spreading.{Spread, at_once, onward, Starts, Searches}
+use Rattle.jr_flow.specs.Holding.{HoldsNumbers}
+use Rattle.jr_flow.specs.Spreading.{Spread, at_once, onward, Starts}
 use Rattle.jr_flow.specs.Searched.{IsSearched}
 use Rattle.jr_flow.proofs.Filled.{contains_none, edge_ends}
 

@@ -1,5 +1,5 @@
 -- A search on its way, and at its end.
-use Rattle.std.proofs.Common.{◌≡◌, ◌⊎◌, ◌<◌, ◌≤◌, ℕ, ◌+◌, ◌*◌, ◌/◌, List, sym, subst, inl, inr, arith}
+use Rattle.std.proofs.Common.{◌≡◌, ◌⊎◌, ◌<◌, ℕ, ◌+◌, ◌*◌, ◌/◌, List, sym, subst, inl, inr, arith}
 use Rattle.jr_flow.specs.Rows.{Has, Merges}
 use Rattle.jr_flow.specs.Spreading.{Spread, at_once, onward, Spreads, Searches}
 

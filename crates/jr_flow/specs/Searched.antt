@@ -1,5 +1,5 @@
 -- The rows of edges, with a last row of what a node reaches through them.
-use Rattle.std.specs.Prelude.{◌≡◌, ℕ, ◌*◌, List}
+use Rattle.std.specs.Prelude.{ℕ, ◌*◌, List}
 use Rattle.jr_flow.specs.Holding.{HoldsEdges}
 use Rattle.jr_flow.specs.Spreading.{Starts, Searches}
 

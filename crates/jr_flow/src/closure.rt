@@ -22,13 +22,7 @@ fn merge_step(rows: &mut [u64], steps: &[u64], width: usize, node: usize, next: 
 }
 
 /// Adds to the row of a node the rows to which the steps in one of its words lead.
-fn merge_word_steps(
-    rows: &mut [u64],
-    steps: &[u64],
-    width: usize,
-    node: usize,
-    word: usize,
-) -> bool
+fn merge_word_steps(rows: &mut [u64], steps: &[u64], width: usize, node: usize, word: usize) -> bool
     requires rows { length rows.old ≡ 64 * width * width }
     requires steps { length steps.now ≡ 64 * width * width }
     requires node { node / 64 < width }

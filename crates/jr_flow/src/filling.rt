@@ -5,8 +5,8 @@ ghost use Rattle.jr_flow.specs.Edges.{EdgeOf};
 ghost use Rattle.jr_flow.specs.Rows.{width_of};
 ghost use Rattle.jr_flow.specs.Holding.{HoldsNumbers, HoldsEdges};
 
-use crate::rows::{has, put};
 use crate::Graph;
+use crate::rows::{has, put};
 use std::alloc::{AllocError, Global};
 
 /// Sets the bit of a number, if the row has one for it.
@@ -32,11 +32,7 @@ fn put_numbers(row: &mut [u64], width: usize, numbers: &[u32])
 }
 
 /// A row that has the bits of these numbers, as far as there are bits for them.
-pub(crate) fn row_of(
-    alloc: Global,
-    width: usize,
-    numbers: &[u32],
-) -> Result<Vec<u64>, AllocError>
+pub(crate) fn row_of(alloc: Global, width: usize, numbers: &[u32]) -> Result<Vec<u64>, AllocError>
     ensures size { IfOk result (λ row. length row.items ≡ width) }
     ensures holds { IfOk result (λ row. HoldsNumbers width numbers.now row.items) }
 {

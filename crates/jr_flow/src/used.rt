@@ -70,11 +70,7 @@ fn lesser(reached: &Reached, least: Option<u32>, read: u32) -> Option<u32>
         None => Some(read),
         Some(other) => {
             let is_lower = read < other;
-            if is_lower {
-                Some(read)
-            } else {
-                Some(other)
-            }
+            if is_lower { Some(read) } else { Some(other) }
         }
     }
 }

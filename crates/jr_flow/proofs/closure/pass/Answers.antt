@@ -1,4 +1,4 @@
-use Rattle.std.proofs.Common.{◌≡◌, ◌<◌, ◌≤◌, ◌*◌, ◌/◌, arith}
+use Rattle.std.proofs.Common.{◌<◌, ◌≤◌, ◌*◌, ◌/◌, arith}
 use Rattle.jr_flow.proofs.Words.{moves_none, moves_more}
 use Rattle.jr_flow.proofs.Extending.{extends_none, extends_part, node_more}
 use Rattle.jr_flow.proofs.closure.pass.Goals as goal

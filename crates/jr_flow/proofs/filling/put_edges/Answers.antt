@@ -1,4 +1,4 @@
-use Rattle.std.proofs.Common.{List, ℕ, ◌+◌, take, get_or, sym, subst, arith}
+use Rattle.std.proofs.Common.{List, ℕ, take, get_or, sym, subst}
 use Rattle.std.proofs.lemmas.List.{take_all, take_more}
 use Rattle.std.proofs.lemmas.List.Elements.{Contains-get_or}
 use Rattle.jr_flow.specs.Holding.{HoldsEdges}

@@ -1,4 +1,4 @@
-use Rattle.std.proofs.Common.{List, ℕ, ◌+◌, take, sym, subst, arith}
+use Rattle.std.proofs.Common.{List, ℕ, take, sym, subst}
 use Rattle.std.proofs.lemmas.List.{take_all, take_more}
 use Rattle.jr_flow.specs.Holding.{HoldsNumbers}
 use Rattle.jr_flow.proofs.filling.put_numbers.Goals as goal

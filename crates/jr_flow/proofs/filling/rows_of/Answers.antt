@@ -1,6 +1,5 @@
-use Rattle.std.proofs.Common.{◌*◌, arith, List, ℕ, sym, subst, ◌∙◌}
+use Rattle.std.proofs.Common.{◌*◌, List, ℕ, sym, subst, ◌∙◌}
 use Rattle.jr_flow.specs.Edges.{AreBelow}
-use Rattle.std.proofs.lemmas.Nat.{mul-le}
 use Rattle.jr_flow.proofs.Filled.{edges_none, edge_rows}
 use Rattle.jr_flow.proofs.filling.rows_of.Goals as goal
 

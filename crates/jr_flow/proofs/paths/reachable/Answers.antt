@@ -1,4 +1,3 @@
-use Rattle.std.proofs.Common.{ℕ}
 use Rattle.std.proofs.lemmas.Result.{IfOk-weaker}
 use Rattle.jr_flow.specs.Edges.{EdgeOf}
 use Rattle.jr_flow.proofs.Telling.{no_stops}

@@ -1,4 +1,4 @@
-use Rattle.std.proofs.Common.{◌*◌, ◌/◌, ◌<◌, arith}
+use Rattle.std.proofs.Common.{◌/◌, ◌<◌, arith}
 use Rattle.jr_flow.proofs.Words.{moves_none, moves_more}
 use Rattle.jr_flow.proofs.Outward.{spreads_none, spreads_part, node_next}
 use Rattle.jr_flow.proofs.search.spread_pass.Goals as goal

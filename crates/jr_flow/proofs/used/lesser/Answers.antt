@@ -1,4 +1,4 @@
-use Rattle.std.proofs.Common.{ℕ, Option, Some, None, subst, arith}
+use Rattle.std.proofs.Common.{ℕ, Option, subst, arith}
 use Rattle.std.proofs.lemmas.Bool.{iff_false}
 use Rattle.jr_flow.specs.Least.{IsLeast}
 use Rattle.jr_flow.specs.Nodes.{IsReached}
