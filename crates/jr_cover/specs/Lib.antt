@@ -1,0 +1,15 @@
+pub mod Paths
+pub mod Ways
+pub mod Visiting
+pub mod Sites
+pub mod Covering
+pub mod Elsewhere
+pub mod Members
+pub mod Dependences
+pub mod Evaluated
+pub mod NeverNull
+pub mod Crossing
+pub mod NeverNullTrees
+pub mod Flows
+pub mod Agreement
+pub mod Footprints
