@@ -15,6 +15,7 @@ ghost use Rattle.jr_cover.specs.NeverNullMembers.{
   NeverNullGivesNoNull,
   NeverNullInitializersGiveNoNull,
 };
+ghost use Rattle.jr_cover.specs.Spots.{SpotsHaveTheirPaths};
 ghost use Rattle.jr_cover.specs.Unread.{ExpressionsReadTheirLocals, StatementsReadTheirLocals};
 
 /// In each run of a program that has a member, two actions of one activation that stand in the
@@ -80,4 +81,9 @@ pub fn pieces_come_to_their_end<C, F, M, N, L, A>()
 /// that is done at a site of the other may change places.
 pub fn crossing_pieces_are_free<C, F, M, N, L>()
     ensures { CrossingPiecesAreFree C F M N L }
+{}
+
+/// In a tree with spots the node to which a path leads from a member has that path in its spot.
+pub fn spots_have_their_paths<A>()
+    ensures { SpotsHaveTheirPaths A }
 {}

@@ -20,7 +20,8 @@
 //! law yet. `what_is_not_used_may_differ` (`Agreement`): from paths to sets of locals that agree.
 //!
 //! A member's code is that of `jr_runs`' translation by marks. `Spots` gives each node its first and
-//! last byte and its path for a mark, so that facts by bytes and by paths are facts by marks. The
+//! last byte and its path for a mark (`spots_have_their_paths`), so that facts by bytes and by paths
+//! are facts by marks. The
 //! cases of one sentence each stand in `proofs/SiteCases`, `EdgeCases` and `NeverNullCases`.
 #![tactic(auto)]
 
@@ -29,5 +30,6 @@ mod laws;
 pub use laws::{
     actions_are_covered, actions_follow_edges, crossing_pieces_are_free, never_null_gives_no_null,
     never_null_is_not_null, pieces_act_at_their_sites, pieces_come_to_their_end,
-    pieces_read_their_locals, pieces_write_their_locals, what_is_not_used_may_differ,
+    pieces_read_their_locals, pieces_write_their_locals, spots_have_their_paths,
+    what_is_not_used_may_differ,
 };
