@@ -1,5 +1,5 @@
--- What is never null in a member gives no null in its runs: the locals of a member, by its trees, and
--- the law.
+-- What is never null in a member gives no null in its runs: the locals of a member, by its trees,
+-- and the laws.
 use Rattle.std.specs.Prelude.{◌≡◌, ◌⊎◌, ◌<◌, ℕ, Bool, true, List, [], ◌∷◌, Option, Some, None}
 use Rattle.jr_ast.specs.Tree as tree
 use Rattle.jr_ast.specs.Tree.{Word}

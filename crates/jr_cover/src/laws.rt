@@ -63,8 +63,8 @@ pub fn pieces_write_their_locals<C, F, M, N, L, A>()
     ensures lists { StatementsWriteTheirLocals C F M N L A }
 {}
 
-/// Whatever the locals hold that no site of a piece reads, its runs do the same and come to the same:
-/// to one value, or one returned value, and otherwise to the same other locals.
+/// Whatever the locals hold that no site of a piece reads, its runs do the same and come to the
+/// same: to one value, or one returned value, and otherwise to the same other locals.
 pub fn pieces_read_their_locals<C, F, M, N, L, A>()
     ensures expressions { ExpressionsReadTheirLocals C F M N L A }
     ensures lists { StatementsReadTheirLocals C F M N L A }
