@@ -43,3 +43,4 @@ pub mod SiteCases
 mod EdgeCases
 pub mod SpotPaths
 mod SpotCases
+mod PieceCases
