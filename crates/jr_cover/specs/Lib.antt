@@ -17,3 +17,4 @@ pub mod Unread
 pub mod Finishing
 pub mod NeverNullMembers
 pub mod Spots
+pub mod Plain

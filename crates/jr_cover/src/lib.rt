@@ -14,7 +14,8 @@
 //! may not change places, the later site depends on the earlier. `pieces_act_at_their_sites`,
 //! `crossing_pieces_are_free` (`Footprints`): so pieces that cross may change places.
 //! `pieces_write_their_locals`: the others stay as they are; `pieces_read_their_locals` (`Unread`):
-//! the others may differ; `pieces_come_to_their_end` (`Finishing`): without calls and loops.
+//! the others may differ; `pieces_come_to_their_end` (`Finishing`): without calls and loops;
+//! `plain_expressions_are_silent` (`Plain`).
 //! `never_null_is_not_null`, `never_null_gives_no_null` (`Evaluated`, `NeverNull`,
 //! `NeverNullMembers`): of code that is well typed; that code of sound programs is well typed is no
 //! law yet. `what_is_not_used_may_differ` (`Agreement`): from paths to sets of locals that agree.
@@ -30,6 +31,6 @@ mod laws;
 pub use laws::{
     actions_are_covered, actions_follow_edges, crossing_pieces_are_free, never_null_gives_no_null,
     never_null_is_not_null, pieces_act_at_their_sites, pieces_come_to_their_end,
-    pieces_read_their_locals, pieces_write_their_locals, spots_have_their_paths,
-    what_is_not_used_may_differ,
+    pieces_read_their_locals, pieces_write_their_locals, plain_expressions_are_silent,
+    spots_have_their_paths, what_is_not_used_may_differ,
 };
