@@ -7,9 +7,10 @@
 -- sites; from it `PieceWrites`, `NeverNullMembers`, `SideBySide` and `UnreadLocals` (two plans that
 -- do the same), `PieceReads`, and `Rising`, `Unstopped`, `PieceEnds` (a plan that visits its sites
 -- in rising order ends). `PlainSilent`: plain expressions. `Agreeing`: what is not used.
--- `SpotPaths`: spots have their paths. Crates above cite `FlowLaws: flow_is` (the lists of `Flows` have what the relations of `Ways` say) and
--- `Unique: one_site` (an action is done at one site alone). `Example`: the premises can be met. The
--- files named `..Cases` have one theorem for each sentence of the rules on sites and edges.
+-- `SpotPaths`: spots have their paths. Crates above cite `FlowLaws: flow_is` (the lists of `Flows`
+-- have what the relations of `Ways` say) and `Unique: one_site` (an action is done at one site
+-- alone). `Example`: the premises can be met. The files named `..Cases` have one theorem for each
+-- sentence of the rules on sites and edges, and on pieces.
 pub mod WayLaws
 pub mod Visits
 pub mod Parts
