@@ -7,7 +7,7 @@ use Rattle.jr_sync.specs.declared.sites.DepKind.TheVariants.{Order, Field, Sync}
 use Rattle.jr_ast.specs.declared.operators.BinOp.TheVariants.{And, Or, Add}
 use Rattle.jr_ast.specs.Tree as tree
 use Rattle.jr_ast.specs.StatementTree as statement
-use Rattle.jr_runs.specs.Facts.{is_instance_field}
+use Rattle.jr_cover.specs.Facts.{is_instance_field}
 use Rattle.jr_runs.proofs.Sample.{rows}
 use Rattle.jr_cover.specs.Paths as paths
 use Rattle.jr_cover.specs.Paths.{Path}

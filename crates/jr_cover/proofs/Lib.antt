@@ -45,4 +45,5 @@ pub mod SiteCases
 mod EdgeCases
 pub mod SpotPaths
 mod SpotCases
+mod TranslationCases
 mod PieceCases

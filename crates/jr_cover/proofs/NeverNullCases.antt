@@ -2,7 +2,7 @@
 -- and one whose initializer is a local of a higher number.
 use Rattle.std.proofs.Common.{◌≡◌, ◌<◌, ℕ, zero, suc, Bool, true, false, Option, Some, None, nat_eq, refl, sym, ap, subst, arith}
 use Rattle.jr_ast.specs.Tree as tree
-use Rattle.jr_runs.specs.Facts.{Variable, is_local, is_static_field, is_instance_field}
+use Rattle.jr_cover.specs.Facts.{Variable, is_local, is_static_field, is_instance_field}
 use Rattle.jr_cover.specs.NeverNullTrees.{NamesLocal, NeverNull, this, create, paren, local}
 use Rattle.jr_cover.proofs.SiteCases.{K, facts, name, class_type}
 

@@ -13,8 +13,8 @@ use Rattle.jr_runs.specs.Rows.{Rows}
 use Rattle.jr_runs.specs.Arithmetic.{Out}
 use Rattle.jr_runs.specs.Core.{Exp, Stmt}
 use Rattle.jr_runs.specs.Evaluation.{Flow, Call, exp, stmts}
-use Rattle.jr_runs.specs.Translation.{exp_code}
-use Rattle.jr_runs.specs.StatementTranslation.{stmts_code}
+use Rattle.jr_cover.specs.Translation.{exp_code}
+use Rattle.jr_cover.specs.StatementTranslation.{stmts_code}
 use Rattle.jr_cover.specs.Ways.{Way, Edge, sites_of}
 use Rattle.jr_cover.specs.Visiting.{Leads, Visits}
 use Rattle.jr_cover.specs.Sites.{What, reads, writes, loads, stores, enters, exits, creates, checks, calls, loops, Site, at_place, Known, unless, exp_way, stmt_way, else_way, stmts_way}

@@ -9,12 +9,13 @@ use Rattle.jr_ast.specs.Tree as tree
 use Rattle.jr_runs.specs.Keys.{Keys, At}
 use Rattle.jr_runs.specs.Values.{Value, int, truth, null, text, class_object, object}
 use Rattle.jr_runs.specs.Rows.{Rows}
-use Rattle.jr_runs.specs.Facts.{Variable, is_local, is_static_field, is_instance_field}
+use Rattle.jr_cover.specs.Facts.{Variable, is_local, is_static_field, is_instance_field}
 use Rattle.jr_runs.specs.Arithmetic.{Out, value, thrown, wrapped, wrapped_int, is_zero, unless_zero, number_of, operate, sign}
 use Rattle.jr_runs.specs.Core as core
 use Rattle.jr_runs.specs.Core.{Exp, Target, Operator, arithmetic, comparison, equal, different, divide, remainder, less, greater, at_most, at_least, add, subtract, multiply, Arithmetic, Bump}
 use Rattle.jr_runs.specs.Evaluation.{Step, next, on_truth, local_at, with_locals, exp}
-use Rattle.jr_runs.specs.Translation.{exp_code, target_code, named_target, field_target, read_of, assign_of, compound_of, bump_at, bump_of, cast_at, class_literal_at, operation, arithmetic_of, sign_of, mark_of_type}
+use Rattle.jr_runs.specs.Translation.{bump_of, operation, arithmetic_of, sign_of}
+use Rattle.jr_cover.specs.Translation.{exp_code, target_code, named_target, field_target, read_of, assign_of, compound_of, bump_at, cast_at, class_literal_at, mark_of_type}
 use Rattle.jr_runs.specs.Standing.{In}
 use Rattle.jr_runs.specs.Held.{Silent}
 use Rattle.jr_cover.specs.Ways.{Way, pass, one, row, fork, leave, turns, inside, size, sites_of}

@@ -9,7 +9,7 @@ use Rattle.jr_ast.specs.Tree as tree
 use Rattle.jr_ast.specs.Tree.{Word, TypeName}
 use Rattle.jr_ast.specs.StatementTree as statement
 use Rattle.jr_runs.specs.Keys.{Keys, keys_of}
-use Rattle.jr_runs.specs.Facts.{Variable, is_local, is_static_field, is_instance_field, Facts}
+use Rattle.jr_cover.specs.Facts.{Variable, is_local, is_static_field, is_instance_field, Facts}
 use Rattle.jr_cover.specs.Ways.{sites_of}
 use Rattle.jr_cover.specs.Sites.{What, reads, writes, loads, stores, enters, exits, creates, checks, calls, loops, Site, Known, exp_way, stmt_way, method_way}
 use Rattle.jr_cover.specs.Members.{constructor_way, initializer_way}

@@ -20,8 +20,10 @@
 //! `NeverNullMembers`): of code that is well typed; that code of sound programs is well typed is no
 //! law yet. `what_is_not_used_may_differ` (`Agreement`): from paths to sets of locals that agree.
 //!
-//! A member's code is that of `jr_runs`' translation by marks. `Spots` gives each node its first
-//! and last byte and its path for a mark (`spots_have_their_paths`), so that facts by bytes and by
+//! A member's code is its tree's translation by marks (`Facts`, `Translation`,
+//! `StatementTranslation`, `MemberTranslation`): a record of this layer of what binding says, for
+//! whoever has a relation of trees and code. `Spots` gives each node its first and last byte and
+//! its path for a mark (`spots_have_their_paths`), so that facts by bytes and by
 //! paths are facts by marks. The cases of one sentence each stand in `proofs/SiteCases`,
 //! `EdgeCases` and `NeverNullCases`.
 #![tactic(auto)]
