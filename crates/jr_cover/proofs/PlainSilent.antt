@@ -253,11 +253,11 @@ module _ {K : Keys} (R : Rows K) (N : ℕ → Type 0) where
     literal_divisor p (tree.assign a t e) h d = absurd h
     literal_divisor p (tree.compound a op t e) h d = absurd h
 
-    by_value : (o v : Out (Value K)) (w : Value K) → o ≡ value w → o ≡ value (value_of o)
-    by_value o v w e = e ∙ sym (ap (λ z. value (value_of z)) e)
+    by_value : (o : Out (Value K)) (w : Value K) → o ≡ value w → o ≡ value (value_of o)
+    by_value o w e = e ∙ sym (ap (λ z. value (value_of z)) e)
 
     divided : (o : Operator) (z : ℤ) → ((v : Value K) → (w : Value K) × (operated o v (int z) ≡ value w)) → (v : Value K) → operated o v (int z) ≡ value (value_of (operated o v (int z)))
-    divided o z h v = let d = h v in by_value (operated o v (int z)) (operated o v (int z)) d.0 d.1
+    divided o z h v = let d = h v in by_value (operated o v (int z)) d.0 d.1
 
     quiet_division : (p : K.place) (o : Arithmetic) (a : Exp K) (e : tree.Exp A) (d : Literal e) → ((v : Value K) → (w : Value K) × (operated (arithmetic o) v (int d.number) ≡ value w)) → Quiet a → Quiet (core.binary (Some p) (arithmetic o) a (exp_code X.facts e))
     quiet_division p o a e d h k = subst (λ z. Quiet (core.binary (Some p) (arithmetic o) a z)) (sym d.is) (quiet_divided (Some p) d.place (arithmetic o) a (int d.number) (divided (arithmetic o) d.number h) k)
@@ -351,10 +351,10 @@ module _ {K : Keys} where
   later_listed v calls ns h = h
   later_listed v loops ns h = h
 
-  listed : (all : List (Site K)) (i : ℕ) (s : Site K) → site_at all i ≡ Some s → IsRead s.what → Listed s.what (reads_of all)
-  listed [] i s e h = none_some s e
-  listed (t ∷ all) zero s e h = let q = same_one t s e in subst (λ (z : Site K). Listed s.what (with_read z.what (reads_of all))) (sym q) (first_listed s.what (reads_of all) h)
-  listed (t ∷ all) (suc i) s e h = later_listed t.what s.what (reads_of all) (listed all i s e h)
+  is_listed : (all : List (Site K)) (i : ℕ) (s : Site K) → site_at all i ≡ Some s → IsRead s.what → Listed s.what (reads_of all)
+  is_listed [] i s e h = none_some s e
+  is_listed (t ∷ all) zero s e h = let q = same_one t s e in subst (λ (z : Site K). Listed s.what (with_read z.what (reads_of all))) (sym q) (first_listed s.what (reads_of all) h)
+  is_listed (t ∷ all) (suc i) s e h = later_listed t.what s.what (reads_of all) (is_listed all i s e h)
 
   as_plain : (R : Rows K) (ns : List ℕ) (w : What K) → Listed w ns → Plainly R (λ n. In n ns) w
   as_plain R ns (reads n) h = h
@@ -372,5 +372,5 @@ pub plain_expressions_are_silent : {C F M Q L A : Type 0} → PlainExpressionsAr
 plain_expressions_are_silent X R e h d =
     let all = sites_of (exp_way X e) in
     let ns = reads_of all in
-    let k = plain_quiet R (λ n. In n ns) X e (plain_by R (λ n. In n ns) all (λ i s g. as_plain R ns s.what (listed all i s g (h i s g))) (exp_way X e) 0 (stands_in all (exp_way X e) [] [] 0 refl (sym (append-nil all)))) d in
+    let k = plain_quiet R (λ n. In n ns) X e (plain_by R (λ n. In n ns) all (λ i s g. as_plain R ns s.what (is_listed all i s g (h i s g))) (exp_way X e) 0 (stands_in all (exp_way X e) [] [] 0 refl (sym (append-nil all)))) d in
     record { result = k.gives; comes = k.does; same = k.alike }
