@@ -1,6 +1,6 @@
 -- A piece without calls and loops comes to its end. Its plan visits its sites in rising order, so it
 -- has at most as many actions as accesses stand ahead.
-use Rattle.std.proofs.Common.{◌≡◌, ◌≤◌, ◌<◌, ℕ, zero, suc, ◌+◌, ◌-◌, Bool, true, false, List, [], ◌∷◌, ◌++◌, Option, Some, None, refl, sym, ap, subst, ◌∙◌, inl, inr, ⊎_elim, arith, append-nil}
+use Rattle.std.proofs.Common.{◌≡◌, ◌≤◌, ◌<◌, ℕ, zero, suc, ◌-◌, Bool, true, false, List, [], ◌∷◌, Option, Some, None, refl, sym, ap, subst, ◌∙◌, ⊎_elim, arith, append-nil}
 use Rattle.jr_plans.specs.Plan.{Plan, done, act, ask, call}
 use Rattle.jr_plans.specs.Finite.{Finite}
 use Rattle.jr_plans.proofs.Finishing.{finite_within}
@@ -15,7 +15,7 @@ use Rattle.jr_runs.specs.Core.{Exp, Stmt}
 use Rattle.jr_runs.specs.Evaluation.{Flow, Call, exp, stmts}
 use Rattle.jr_cover.specs.Translation.{exp_code}
 use Rattle.jr_cover.specs.StatementTranslation.{stmts_code}
-use Rattle.jr_cover.specs.Ways.{Way, Edge, sites_of}
+use Rattle.jr_cover.specs.Ways.{Way, sites_of}
 use Rattle.jr_cover.specs.Visiting.{Leads, Visits}
 use Rattle.jr_cover.specs.Sites.{What, reads, writes, loads, stores, enters, exits, creates, checks, calls, loops, Site, at_place, Known, unless, exp_way, stmt_way, else_way, stmts_way}
 use Rattle.jr_cover.specs.Covering.{DoneAt, site_at}
@@ -126,10 +126,12 @@ module _ {K : Keys} where
         let d = v u.0.0 u.0.1 in
         let m = moved (s u.0.0) p d.0 d.1 in
         let e : suc (ahead p - 1) ≡ ahead p = omega (arith, m.1) in
-        subst (λ n. Finite (AtSomeSite R all) (ask f s x) n) e
-        (u.0, λ w i. (let b = v w i in
-        let g = moved (s w) p b.0 b.1 in
-        (g.0, finite_within (AtSomeSite R all) (AtSomeSite R all) (x w) (ahead b.0) (ahead p - 1) (omega (arith, g.1)) (λ a h. h) (bounded Q (x w) b.0 (u.1 w) b.2))))
+        subst (λ n. Finite (AtSomeSite R all) (ask f s x) n) e (
+          u.0,
+          λ w i. (let b = v w i in
+              let g = moved (s w) p b.0 b.1 in
+              (g.0, finite_within (AtSomeSite R all) (AtSomeSite R all) (x w) (ahead b.0) (ahead p - 1) (omega (arith, g.1)) (λ a h. h) (bounded Q (x w) b.0 (u.1 w) b.2))),
+        )
     bounded Q (call c x) p u v = absurd u
 
   -- ---- pieces
