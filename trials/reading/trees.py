@@ -1,8 +1,7 @@
 """The tree of a text, or its first fault (JLS 8, 14, 15, without what the profile leaves out).
 
 A node is a SimpleNamespace with `kind` and `at`, the byte where it begins; a member and a
-statement have `end` too, the byte behind it, and so has what may stand in front of a dot. A word
-has `at` and `text`.
+statement have `end` too, the byte behind it, and so has an expression. A word has `at` and `text`.
 """
 import sys
 from functools import lru_cache
@@ -235,10 +234,10 @@ class Parser:
             return self.prefix_bump()
         value = self.primary()
         if value.kind in TARGETS and self.text() in ASSIGNS:
-            return self.assignment(value)
+            return self.ended(self.assignment(value))
         if value.kind in TARGETS and self.text() in BUMPS:
             self.next()
-            return Node(kind="bump", at=value.at, of=value)
+            return self.ended(Node(kind="bump", at=value.at, of=value))
         if value.kind not in CALLS:
             self.fault()
         return value
@@ -248,13 +247,13 @@ class Parser:
     def expression(self):
         value = self.binary(0)
         if value.kind in TARGETS and self.text() in ASSIGNS:
-            return self.assignment(value)
+            return self.ended(self.assignment(value))
         return value
 
     def assignment(self, target):
         op = self.next().text
         kind = "assign" if op == "=" else "compound"
-        return Node(kind=kind, at=target.at, left=target, right=self.expression())
+        return Node(kind=kind, at=target.at, op=op, left=target, right=self.expression())
 
     def binary(self, level):
         if level == len(LEVELS):
@@ -263,7 +262,7 @@ class Parser:
         while self.text() in LEVELS[level]:
             op = self.next().text
             right = self.binary(level + 1)
-            left = Node(kind="binary", at=left.at, op=op, left=left, right=right)
+            left = self.ended(Node(kind="binary", at=left.at, op=op, left=left, right=right))
         return left
 
     def unary(self):
@@ -271,8 +270,8 @@ class Parser:
         if op in ("+", "-"):
             self.next()
             if op == "-" and self.is_greatest():
-                return Node(kind="unary", at=at, op=op, of=self.primary(True))
-            return Node(kind="unary", at=at, op=op, of=self.unary())
+                return self.ended(Node(kind="unary", at=at, op=op, of=self.primary(True)))
+            return self.ended(Node(kind="unary", at=at, op=op, of=self.unary()))
         return self.prefix_bump() if op in BUMPS else self.not_sign()
 
     def is_greatest(self):
@@ -284,7 +283,7 @@ class Parser:
         target = self.primary()
         if target.kind not in TARGETS:
             self.fault()
-        return Node(kind="bump", at=at, of=target)
+        return self.ended(Node(kind="bump", at=at, of=target))
 
     def begins_cast(self):
         """Whether `(`, a name and `)` stand here, and behind them what a cast may be of."""
@@ -301,16 +300,16 @@ class Parser:
     def not_sign(self):
         at = self.at()
         if self.takes("!"):
-            return Node(kind="unary", at=at, op="!", of=self.unary())
+            return self.ended(Node(kind="unary", at=at, op="!", of=self.unary()))
         if self.begins_cast():
             self.next()
             type = self.class_type()
             self.want(")")
-            return Node(kind="cast", at=at, type=type, of=self.not_sign())
+            return self.ended(Node(kind="cast", at=at, type=type, of=self.not_sign()))
         value = self.primary()
         if value.kind in TARGETS and self.text() in BUMPS:
             self.next()
-            return Node(kind="bump", at=value.at, of=value)
+            return self.ended(Node(kind="bump", at=value.at, of=value))
         return value
 
     def args(self):
