@@ -1,0 +1,6 @@
+pub mod Agreement
+pub mod SiteLocals
+pub mod Bindings
+pub mod CodeAgreement
+pub mod Pieces
+pub mod Unused

@@ -1,0 +1,22 @@
+//! The laws, each the contract of a function that does nothing. `C`, `F`, `M` and `N` are keys of
+//! classes, fields, methods and constructors, `L` places, `A` marks, and `S` what stands at a site.
+ghost use Rattle.jr_unused_locals.specs.Agreement.{UnusedLocalsMayDiffer};
+ghost use Rattle.jr_unused_locals.specs.Unused.{ImagesHaveSets, UnusedLocalsHaveSets};
+
+/// Where no edge round a piece leads to a site from which a local is read before it is written, the
+/// local may differ behind the piece: each part of the member has an answer before it and behind it
+/// whether it agrees, true at each read, and no more at a loop's head than its body gives.
+pub fn unused_locals_may_differ<S>()
+    ensures { UnusedLocalsMayDiffer S }
+{}
+
+/// The same of all such locals of a member at once, as the sets by which its new code is the image
+/// of the old one, but for the list in which the piece stands.
+pub fn unused_locals_have_sets<C, F, M, N, L, A>()
+    ensures { UnusedLocalsHaveSets C F M N L A }
+{}
+
+/// What is the image of code is so too with sets by which the code agrees.
+pub fn images_have_sets<C, F, M, N, L>()
+    ensures { ImagesHaveSets C F M N L }
+{}
