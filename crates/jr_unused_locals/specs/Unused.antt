@@ -1,6 +1,6 @@
 -- Where no path from a piece of a member reaches a read of a local past its writes, its value behind
 -- the piece doesn't matter: sets of locals that agree, for the image of the member's code.
-use Rattle.std.specs.Prelude.{◌≡◌, ◌<◌, ℕ, Bool, false, not, IsTrue}
+use Rattle.std.specs.Prelude.{◌≡◌, ◌⊎◌, ◌↔◌, ◌<◌, ℕ, false, not, IsTrue}
 use Rattle.jr_ast.specs.StatementTree as statement
 use Rattle.jr_runs.specs.Keys.{Keys, keys_of}
 use Rattle.jr_runs.specs.Rows.{Rows}
@@ -10,9 +10,9 @@ use Rattle.jr_runs.specs.Sets.{NumberSet, everything}
 use Rattle.jr_runs.specs.Standing.{Renumbering, Standing, IsHeld, IsCast}
 use Rattle.jr_runs.specs.Images.{Spots, NoSpot, StmtsTo}
 use Rattle.jr_runs.specs.StatementTranslation.{stmts_code}
-use Rattle.jr_cover.specs.Ways.{sites_of, size}
+use Rattle.jr_cover.specs.Ways.{Way, sites_of, size, Edge}
 use Rattle.jr_cover.specs.Sites.{Known, stmts_way}
-use Rattle.jr_unused_locals.specs.Agreement.{Used, Stays}
+use Rattle.jr_unused_locals.specs.Agreement.{Stands, Round, Used, Stays}
 use Rattle.jr_unused_locals.specs.SiteLocals.{reads_at, writes_at}
 use Rattle.jr_unused_locals.specs.Bindings.{StmtsBind}
 use Rattle.jr_unused_locals.specs.CodeAgreement.{StmtsAgree}
@@ -81,3 +81,18 @@ UnusedLocalsHaveSets C F M N L A = (X : Known (keys_of C F M N L) A)
     → StmtsBind X b → Stays (stmts_way X piece) → 0 < size (stmts_way X piece)
     → (D : NumberSet) → ((x : ℕ) → IsTrue (D x) → IsUsed X r R s piece rest new_list h x → ⊥)
     → HasSets X r R s piece rest new_list b b' D
+
+-- The edges of a member are those of the piece and those round it.
+abbrev pub EdgesAreInOrRound : (S : Type 0) → Type 0
+EdgesAreInOrRound S = (m : Way S) (a : ℕ) (p : Way S) (s : Stands a p 0 m) (i j : ℕ)
+    → Edge 0 m i j ↔ (Edge a p i j ⊎ Round a p 0 m s i j)
+
+-- The way in which the piece is one part has the sites and the edges of the body.
+abbrev pub GroupingKeepsEdges : (C F M N L A : Type 0) → Type 0
+GroupingKeepsEdges C F M N L A = (X : Known (keys_of C F M N L) A)
+    (r : KeyMap (keys_of C F M N L)) (R : Rows (keys_of C F M N L))
+    (s : Standing (keys_of C F M N L)) (piece rest b : statement.Stmts A)
+    (new_list b' : Stmts (keys_of C F M N L)) (h : StmtsHold X r R s piece rest new_list b b')
+    → (sites_of (stmts_around X r R s piece rest new_list h) ≡ sites_of (stmts_way X b))
+    × ((i j : ℕ) → Edge 0 (stmts_around X r R s piece rest new_list h) i j
+    ↔ Edge 0 (stmts_way X b) i j)

@@ -1,7 +1,12 @@
 //! The laws, each the contract of a function that does nothing. `C`, `F`, `M` and `N` are keys of
 //! classes, fields, methods and constructors, `L` places, `A` marks, and `S` what stands at a site.
 ghost use Rattle.jr_unused_locals.specs.Agreement.{UnusedLocalsMayDiffer};
-ghost use Rattle.jr_unused_locals.specs.Unused.{ImagesHaveSets, UnusedLocalsHaveSets};
+ghost use Rattle.jr_unused_locals.specs.Unused.{
+  EdgesAreInOrRound,
+  GroupingKeepsEdges,
+  ImagesHaveSets,
+  UnusedLocalsHaveSets,
+};
 
 /// Where no edge round a piece leads to a site from which a local is read before it is written, the
 /// local may differ behind the piece: each part of the member has an answer before it and behind it
@@ -19,4 +24,14 @@ pub fn unused_locals_have_sets<C, F, M, N, L, A>()
 /// What is the image of code is so too with sets by which the code agrees.
 pub fn images_have_sets<C, F, M, N, L>()
     ensures { ImagesHaveSets C F M N L }
+{}
+
+/// Each edge of a member is one of the piece, or one round it.
+pub fn edges_are_in_or_round<S>()
+    ensures { EdgesAreInOrRound S }
+{}
+
+/// A body's way, grouped so that the piece is one part of it, has the body's sites and edges.
+pub fn grouping_keeps_edges<C, F, M, N, L, A>()
+    ensures { GroupingKeepsEdges C F M N L A }
 {}

@@ -15,4 +15,7 @@
 
 mod laws;
 
-pub use laws::{images_have_sets, unused_locals_have_sets, unused_locals_may_differ};
+pub use laws::{
+    edges_are_in_or_round, grouping_keeps_edges, images_have_sets, unused_locals_have_sets,
+    unused_locals_may_differ,
+};
