@@ -4,3 +4,4 @@ pub mod Bindings
 pub mod CodeAgreement
 pub mod Pieces
 pub mod Unused
+pub mod LaterWrites

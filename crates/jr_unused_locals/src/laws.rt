@@ -1,6 +1,7 @@
 //! The laws, each the contract of a function that does nothing. `C`, `F`, `M` and `N` are keys of
 //! classes, fields, methods and constructors, `L` places, `A` marks, and `S` what stands at a site.
 ghost use Rattle.jr_unused_locals.specs.Agreement.{UnusedLocalsMayDiffer};
+ghost use Rattle.jr_unused_locals.specs.LaterWrites.{UnusedLocalsPlayNoPart};
 ghost use Rattle.jr_unused_locals.specs.Unused.{
   EdgesAreInOrRound,
   GroupingKeepsEdges,
@@ -34,4 +35,11 @@ pub fn edges_are_in_or_round<S>()
 /// A body's way, grouped so that the piece is one part of it, has the body's sites and edges.
 pub fn grouping_keeps_edges<C, F, M, N, L, A>()
     ensures { GroupingKeepsEdges C F M N L A }
+{}
+
+/// Programs of which the second writes further values to locals behind pieces of methods, where no
+/// path from the piece reaches a read of the local past its writes, have the same runs, both ways,
+/// and bounded runs too.
+pub fn unused_locals_play_no_part<C, F, M, N, L, A>()
+    ensures { UnusedLocalsPlayNoPart C F M N L A }
 {}
