@@ -3,10 +3,13 @@
 -- of a member, and positions in them), `Going` (one lemma a construct), `StraightWays`, `ExpGoes`,
 -- `StmtGoes` (loops, monitors), `OutsideGoes` (code of other members), `Cover`, `Depending`: the two
 -- laws of cover. `PieceActs`, `PiecesCross`: what pieces do. `KeepsLocals`, `NeverNullRuns`: never
--- null. `Agreeing`: what is not used. Crates above cite `FlowLaws: flow_is` (the lists of `Flows`
--- have what the relations of `Ways` say) and `Unique: one_site` (an action is done at one site
--- alone). `Example`: the premises can be met. The files named `..Cases` have one theorem for each
--- sentence of the rules on sites and edges.
+-- null. `Touching`: which locals code reads and writes, and whether it calls and loops, by its
+-- sites; from it `PieceWrites`, `NeverNullMembers`, `SideBySide` and `UnreadLocals` (two plans that
+-- do the same), `PieceReads`, and `Rising`, `Unstopped`, `PieceEnds` (a plan that visits its sites
+-- in rising order ends). `Agreeing`: what is not used. `SpotPaths`: spots have their paths. Crates
+-- above cite `FlowLaws: flow_is` (the lists of `Flows` have what the relations of `Ways` say) and
+-- `Unique: one_site` (an action is done at one site alone). `Example`: the premises can be met. The
+-- files named `..Cases` have one theorem for each sentence of the rules on sites and edges.
 pub mod WayLaws
 pub mod Visits
 pub mod Parts
@@ -20,7 +23,15 @@ pub mod Depending
 pub mod Sparing
 pub mod KeepsLocals
 pub mod NeverNullRuns
+pub mod Touching
 pub mod PieceWrites
+pub mod SideBySide
+pub mod UnreadLocals
+pub mod PieceReads
+pub mod Rising
+pub mod Unstopped
+pub mod PieceEnds
+pub mod NeverNullMembers
 mod NeverNullCases
 mod Example
 pub mod Unique
@@ -30,3 +41,5 @@ pub mod PieceActs
 pub mod PiecesCross
 pub mod SiteCases
 mod EdgeCases
+pub mod SpotPaths
+mod SpotCases

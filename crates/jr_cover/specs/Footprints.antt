@@ -1,5 +1,5 @@
--- What a piece of a member does, it does at its sites. So the actions of two pieces whose footprints
--- cross may change places, pair by pair.
+-- What a piece of a member does, it does at its sites. So the actions of two pieces whose
+-- footprints cross may change places, pair by pair.
 use Rattle.std.specs.Prelude.{◌≡◌, ◌<◌, ℕ, Bool, true, false, List, ◌∷◌, ◌++◌, map, Some, None}
 use Rattle.jr_sync.specs.declared.kinds.Kind.TheVariants.{Enter, Exit, Still}
 use Rattle.jr_plans.specs.Numbered.{Numbered, NumberedRun, numbered_run, numbered_runner}

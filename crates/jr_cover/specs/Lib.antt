@@ -13,3 +13,7 @@ pub mod NeverNullTrees
 pub mod Flows
 pub mod Agreement
 pub mod Footprints
+pub mod Unread
+pub mod Finishing
+pub mod NeverNullMembers
+pub mod Spots

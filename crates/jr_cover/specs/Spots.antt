@@ -1,9 +1,11 @@
 -- Spots: where each node of a tree stands, as marks. A spot has the node's first and last byte and
 -- the path that leads to it, so whoever knows something by bytes or by paths finds it by marks.
-use Rattle.std.specs.Prelude.{ℕ, suc, List, [], ◌∷◌, ◌++◌, Option, Some, None}
+use Rattle.std.specs.Prelude.{◌≡◌, ℕ, suc, ◌+◌, List, [], ◌∷◌, ◌++◌, length, Option, Some, None}
 use Rattle.jr_ast.specs.Tree as tree
 use Rattle.jr_ast.specs.StatementTree as statement
 use Rattle.jr_ast.specs.MemberTree as declared
+use Rattle.jr_ast.specs.Nodes as nodes
+use Rattle.jr_ast.specs.Nodes.{node_at, mark_of}
 
 pub record Spot : Type 0 where
   pub first : ℕ
@@ -124,3 +126,95 @@ module _ {A : Type 0} (begins ends : A → ℕ → ℕ) where
     spot_stmts statement.end base p i = statement.end
     spot_stmts (statement.more s ss) base p i =
         statement.more (spot_stmt s base (onto p i)) (spot_stmts ss base p (suc i))
+
+  -- ---- members: i is the number of the first of a row of children
+
+  abbrev pub spot_modifier : declared.Modifier A → ℕ → List ℕ → declared.Modifier Spot
+  spot_modifier m base p = record { mark = spot m.mark base p; word = m.word }
+
+  abbrev pub spot_modifiers : List (declared.Modifier A) → (base : ℕ) → (p : List ℕ) → (i : ℕ)
+      → List (declared.Modifier Spot)
+  spot_modifiers [] base p i = []
+  spot_modifiers (m ∷ ms) base p i =
+      spot_modifier m base (onto p i) ∷ spot_modifiers ms base p (suc i)
+
+  abbrev pub spot_param : declared.Param A → ℕ → List ℕ → declared.Param Spot
+  spot_param a base p = record {
+    mark = spot a.mark base p;
+    is_final = a.is_final;
+    type = spot_type a.type (begins a.mark base) (onto p 0);
+    name = spot_word a.name (begins a.mark base) (onto p 1);
+  }
+
+  abbrev pub spot_params : List (declared.Param A) → (base : ℕ) → (p : List ℕ) → (i : ℕ)
+      → List (declared.Param Spot)
+  spot_params [] base p i = []
+  spot_params (a ∷ ps) base p i = spot_param a base (onto p i) ∷ spot_params ps base p (suc i)
+
+  -- a type that may be missing
+  abbrev pub spot_result : Option (tree.TypeName A) → (base : ℕ) → (p : List ℕ) → (i : ℕ)
+      → Option (tree.TypeName Spot)
+  spot_result None base p i = None
+  spot_result (Some t) base p i = Some (spot_type t base (onto p i))
+
+  abbrev pub result_count : Option (tree.TypeName A) → ℕ
+  result_count None = 0
+  result_count (Some t) = 1
+
+  -- the arguments of a written `super(..)`
+  abbrev pub spot_args : Option (tree.Exps A) → (base : ℕ) → (p : List ℕ) → (i : ℕ)
+      → Option (tree.Exps Spot)
+  spot_args None base p i = None
+  spot_args (Some es) base p i = Some (spot_exps es base p i)
+
+  abbrev pub exps_count : tree.Exps A → ℕ
+  exps_count tree.end = 0
+  exps_count (tree.more e es) = suc (exps_count es)
+
+  abbrev pub args_count : Option (tree.Exps A) → ℕ
+  args_count None = 0
+  args_count (Some es) = exps_count es
+
+  unfoldable mutual
+    pub spot_member : declared.Member A → ℕ → List ℕ → declared.Member Spot
+    spot_member (declared.field m mods t w init) base p =
+        declared.field (spot m base p) (spot_modifiers mods (begins m base) p 0)
+        (spot_type t (begins m base) (onto p (length mods)))
+        (spot_word w (begins m base) (onto p (suc (length mods))))
+        (spot_maybe init (begins m base) (onto p (suc (suc (length mods)))))
+    spot_member (declared.method m mods t w ps body) base p =
+        declared.method (spot m base p) (spot_modifiers mods (begins m base) p 0)
+        (spot_result t (begins m base) p (length mods))
+        (spot_word w (begins m base) (onto p (length mods + result_count t)))
+        (spot_params ps (begins m base) p (suc (length mods + result_count t)))
+        (spot_stmts body (begins m base) p (suc (length mods + result_count t) + length ps))
+    spot_member (declared.constructor m mods w ps args body) base p =
+        declared.constructor (spot m base p) (spot_modifiers mods (begins m base) p 0)
+        (spot_word w (begins m base) (onto p (length mods)))
+        (spot_params ps (begins m base) p (suc (length mods)))
+        (spot_args args (begins m base) p (suc (length mods) + length ps))
+        (spot_stmts body (begins m base) p (suc (length mods) + length ps + args_count args))
+    spot_member (declared.inner m c) base p =
+        declared.inner (spot m base p) (spot_class c (begins m base) (onto p 0))
+
+    pub spot_class : declared.Class A → ℕ → List ℕ → declared.Class Spot
+    spot_class (declared.class m mods w parent ms) base p =
+        declared.class (spot m base p) (spot_modifiers mods (begins m base) p 0)
+        (spot_word w (begins m base) (onto p (length mods)))
+        (spot_result parent (begins m base) p (suc (length mods)))
+        (spot_members ms (begins m base) p (suc (length mods) + result_count parent))
+
+    pub spot_members : declared.Members A → (base : ℕ) → (p : List ℕ) → (i : ℕ)
+        → declared.Members Spot
+    spot_members declared.end base p i = declared.end
+    spot_members (declared.more m ms) base p i =
+        declared.more (spot_member m base (onto p i)) (spot_members ms base p (suc i))
+
+-- ---- the law
+
+-- The node to which a path leads from a member has that path in its spot, behind the member's own.
+abbrev pub SpotsHaveTheirPaths : (A : Type 0) → Type 0
+SpotsHaveTheirPaths A = (begins ends : A → ℕ → ℕ) (m : declared.Member A) (base : ℕ)
+    (p q : List ℕ) (n : nodes.Node Spot)
+    → node_at (nodes.member (spot_member begins ends m base p)) q ≡ Some n
+    → (mark_of n).path ≡ p ++ q

@@ -29,7 +29,8 @@ Leads E (Some i) j = Path E i j
 -- Moves x p q: the event x may come at position p, and leads to q. Pre, Post: how a call is made at
 -- a position, and what its answer and the position behind it are.
 module _ {V E S R : Type 0} (Moves : E → Option ℕ → Option ℕ → Type 0)
-    (Pre : S → Option ℕ → Type 0) (Post : (c : S) (p : Option ℕ) → Pre c p → R → Option ℕ → Type 0) where
+    (Pre : S → Option ℕ → Type 0)
+    (Post : (c : S) (p : Option ℕ) → Pre c p → R → Option ℕ → Type 0) where
   -- each event of the plan may come where it comes, and what it comes to has Q there
   abbrev pub Visits : {A : Type 0} → (A → Option ℕ → Type 0) → Plan V E S R A → Option ℕ → Type 0
   Visits Q (done a) p = Q a p

@@ -13,18 +13,23 @@
 //! activation the earlier one's site leads to the later one's; `actions_are_covered`: where they
 //! may not change places, the later site depends on the earlier. `pieces_act_at_their_sites`,
 //! `crossing_pieces_are_free` (`Footprints`): so pieces that cross may change places.
-//! `pieces_write_their_locals`: the others stay as they are.
-//! `never_null_is_not_null` (`Evaluated`, `NeverNull`): of code that is well typed; that code of
-//! sound programs is well typed is no law yet. `what_is_not_used_may_differ` (`Agreement`): from
-//! paths to sets of locals that agree.
+//! `pieces_write_their_locals`: the others stay as they are; `pieces_read_their_locals` (`Unread`):
+//! the others may differ; `pieces_come_to_their_end` (`Finishing`): without calls and loops.
+//! `never_null_is_not_null`, `never_null_gives_no_null` (`Evaluated`, `NeverNull`,
+//! `NeverNullMembers`): of code that is well typed; that code of sound programs is well typed is no
+//! law yet. `what_is_not_used_may_differ` (`Agreement`): from paths to sets of locals that agree.
 //!
-//! A member's code is that of `jr_runs`' translation by marks. The cases of one sentence each stand
-//! in `proofs/SiteCases`, `EdgeCases` and `NeverNullCases`.
+//! A member's code is that of `jr_runs`' translation by marks. `Spots` gives each node its first
+//! and last byte and its path for a mark (`spots_have_their_paths`), so that facts by bytes and by
+//! paths are facts by marks. The cases of one sentence each stand in `proofs/SiteCases`,
+//! `EdgeCases` and `NeverNullCases`.
 #![tactic(auto)]
 
 mod laws;
 
 pub use laws::{
-    actions_are_covered, actions_follow_edges, crossing_pieces_are_free, never_null_is_not_null,
-    pieces_act_at_their_sites, pieces_write_their_locals, what_is_not_used_may_differ,
+    actions_are_covered, actions_follow_edges, crossing_pieces_are_free, never_null_gives_no_null,
+    never_null_is_not_null, pieces_act_at_their_sites, pieces_come_to_their_end,
+    pieces_read_their_locals, pieces_write_their_locals, spots_have_their_paths,
+    what_is_not_used_may_differ,
 };
