@@ -51,9 +51,9 @@ initializer_way X f name e = row (exp_way X e) (at_place (X.facts.first name.mar
 
 -- A field: the sites of its initializer, and of an instance field's the store behind them. Without an
 -- initializer there is no site.
-abbrev pub field_way : {K : Keys} {A : Type 0} → Known K A → (is_static : Bool) → K.field → Word A
+abbrev pub field_way : {K : Keys} {A : Type 0} → Known K A → (is_shared : Bool) → K.field → Word A
     → Option (tree.Exp A) → Way (Site K)
-field_way X is_static f name None = pass
+field_way X is_shared f name None = pass
 field_way X true f name (Some e) = exp_way X e
 field_way X false f name (Some e) = initializer_way X f name e
 
