@@ -14,3 +14,4 @@ pub mod Around
 pub mod UnusedSets
 pub mod Regrouped
 pub mod LaterWrites
+pub mod UsedCases

@@ -5,3 +5,4 @@ pub mod CodeAgreement
 pub mod Pieces
 pub mod Unused
 pub mod LaterWrites
+pub mod UsedCases

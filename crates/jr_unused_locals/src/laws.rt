@@ -2,6 +2,7 @@
 //! classes, fields, methods and constructors, `L` places, `A` marks, and `S` what stands at a site.
 ghost use Rattle.jr_unused_locals.specs.Agreement.{UnusedLocalsMayDiffer};
 ghost use Rattle.jr_unused_locals.specs.LaterWrites.{UnusedLocalsPlayNoPart};
+ghost use Rattle.jr_unused_locals.specs.UsedCases.{UsedCases};
 ghost use Rattle.jr_unused_locals.specs.Unused.{
   EdgesAreInOrRound,
   GroupingKeepsEdges,
@@ -42,4 +43,10 @@ pub fn grouping_keeps_edges<C, F, M, N, L, A>()
 /// and bounded runs too.
 pub fn unused_locals_play_no_part<C, F, M, N, L, A>()
     ensures { UnusedLocalsPlayNoPart C F M N L A }
+{}
+
+/// Small pieces behind which a local is used, and some behind which it isn't: in one branch, in a
+/// loop, round a loop whose condition is passed.
+pub fn used_cases()
+    ensures { UsedCases }
 {}

@@ -10,12 +10,13 @@
 //! `Agreement`: one local, by ways (`jr_cover: Ways`); `SiteLocals`: which sites read and write it;
 //! `Pieces`: a piece in a member's body, and the new body; `CodeAgreement`: the sets, over resolved
 //! code; `Bindings`: code of which each name means something, as in each sound program; `Unused`:
-//! the laws on sets; `LaterWrites`: programs that differ in such locals run alike.
+//! the laws on sets; `LaterWrites`: programs that differ in such locals run alike;
+//! `UsedCases`: small pieces.
 #![tactic(auto)]
 
 mod laws;
 
 pub use laws::{
     edges_are_in_or_round, grouping_keeps_edges, images_have_sets, unused_locals_have_sets,
-    unused_locals_may_differ, unused_locals_play_no_part,
+    unused_locals_may_differ, unused_locals_play_no_part, used_cases,
 };
