@@ -56,8 +56,8 @@ abbrev pub endless : Way (sites.Site K)
 endless = stmts_way X (only (statement.loop 23 (tree.truth 29 true) (statement.block 34
     (only (statement.eval 35 (tree.assign 35 (name 35) (tree.number 37 1)))))))
 
--- `A.m() Order 23 23`, `Order 23 35`, `Order 35 23`, `Field 35 35`, and no more: the store depends on
--- itself, as an edge leads from the loop's body back
+-- `A.m() Order 23 23`, `Order 23 35`, `Order 35 23`, `Field 35 35`, and no more: the store depends
+-- on itself, as an edge leads from the loop's body back
 pub record Endless : Type 0 where
   pub sites_are : sites_of endless ≡ at 23 loops ∷ at 35 (stores 35) ∷ []
   pub edges_are : edges endless ≡ (0, 1) ∷ (1, 0) ∷ []

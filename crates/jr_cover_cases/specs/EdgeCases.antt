@@ -1,5 +1,6 @@
--- The edges of small pieces, one for each sentence of the rules on edges (JLS 14). A comment has the
--- code, in which a letter is a local that is read; sites are numbered in the order in which they stand.
+-- The edges of small pieces, one for each sentence of the rules on edges (JLS 14). A comment has
+-- the code, in which a letter is a local that is read; sites are numbered in the order in which
+-- they stand.
 use Rattle.std.specs.Prelude.{◌≡◌, ℕ, true, [], ◌∷◌, Some, None}
 use Rattle.jr_ast.specs.declared.operators.BinOp.TheVariants.{And, Or}
 use Rattle.jr_ast.specs.Tree as tree
@@ -44,7 +45,8 @@ pub record BranchEdges : Type 0 where
       ≡ (0, 1) ∷ (1, 2) ∷ (1, 3) ∷ (0, 2) ∷ (0, 3) ∷ []
 
 pub record LoopEdges : Type 0 where
-  -- `while(a)b;c`: from the body to the condition, from the condition to the body and behind the loop
+  -- `while(a)b;c`: from the body to the condition, from the condition to the body and behind the
+  -- loop
   pub with_condition : list_edges (two (statement.loop 50 (name 3) (reading 4)) (reading 6))
       ≡ (0, 1) ∷ (1, 2) ∷ (2, 1) ∷ (1, 3) ∷ []
   -- `while(a&&b)c;d`: so from each last site of a way through the condition
@@ -72,7 +74,8 @@ pub record LoopEdges : Type 0 where
   pub alone : stmt_edges (statement.loop 50 (tree.truth 51 true) (statement.empty 70))
       ≡ (0, 0) ∷ []
 
--- from `return` through each open `Exit` to the end; an `Exit` leads on where its block may complete
+-- from `return` through each open `Exit` to the end; an `Exit` leads on where its block may
+-- complete
 pub record ReturnEdges : Type 0 where
   -- `synchronized(this){if(a)return b;c}d`: Enter 0, a 1, b 2, c 3, Exit 4, d 5
   pub return_to_exit : list_edges (two (statement.sync 50 (tree.this 51) (two (statement.branch 52

@@ -4,8 +4,8 @@ use Rattle.jr_ast.specs.Tree as tree
 use Rattle.jr_cover.specs.NeverNullTrees.{NeverNull}
 use Rattle.jr_cover_cases.specs.Samples.{facts, name, dot, word, class_type}
 
--- Local 0 is a parameter; `A a=this;` is 1, `A b=(a);` 2, `A c=new A();` 3, which is assigned later;
--- `A d=e;` 4, `A e=this;` 5, and `A g=p;` 6.
+-- Local 0 is a parameter; `A a=this;` is 1, `A b=(a);` 2, `A c=new A();` 3, which is assigned
+-- later; `A d=e;` 4, `A e=this;` 5, and `A g=p;` 6.
 abbrev pub init : ℕ → Option (tree.Exp ℕ)
 init zero = None
 init (suc zero) = Some (tree.this 51)
@@ -30,8 +30,8 @@ pub record NeverNullCases : Type 0 where
   pub local_with_this : Never (name 1)
   pub local_in_parentheses : Never (tree.paren 60 (name 1))
   pub local_with_a_lower_local : Never (name 2)
-  -- a parameter, a local that is assigned later, one that begins with a local of a higher number, one
-  -- that begins with a parameter, a field, `null`, the value of a call
+  -- a parameter, a local that is assigned later, one that begins with a local of a higher number,
+  -- one that begins with a parameter, a field, `null`, the value of a call
   pub no_parameter : Never (name 0) → ⊥
   pub no_assigned_local : Never (name 3) → ⊥
   pub no_local_with_a_higher_local : Never (name 4) → ⊥

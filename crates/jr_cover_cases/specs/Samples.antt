@@ -1,5 +1,5 @@
--- Small pieces of code, their sites and edges. Keys and marks are numbers; a node's first byte is its
--- mark, its last one the mark and 100.
+-- Small pieces of code, their sites and edges. Keys and marks are numbers; a node's first byte is
+-- its mark, its last one the mark and 100.
 use Rattle.std.specs.Prelude.{
   ℕ,
   ◌+◌,

@@ -1,4 +1,5 @@
--- The sites of small pieces, one for each sentence of the rules on sites (JLS 15.7, 15.12.4, 15.26).
+-- The sites of small pieces, one for each sentence of the rules on sites (JLS 15.7, 15.12.4,
+-- 15.26).
 use Rattle.std.specs.Prelude.{◌≡◌, false, true, [], ◌∷◌, Some, None}
 use Rattle.jr_ast.specs.declared.operators.ModWord.TheVariants.{Static, Synchronized}
 use Rattle.jr_ast.specs.declared.operators.BinOp.TheVariants.{Add, Div, Rem}
@@ -162,8 +163,8 @@ pub record InitializerSites : Type 0 where
       (Some (tree.create 50 class_type tree.end))) ≡ at 50 creates ∷ at 50 calls ∷ []
   pub of_none : sites_of (field_way X false 25 (word 26) None) ≡ []
 
--- what isn't bound: no access and no `Check`; its operand's sites stand; a call has those of a bound
--- one
+-- what isn't bound: no access and no `Check`; its operand's sites stand; a call has those of a
+-- bound one
 pub record UnboundSites : Type 0 where
   pub unbound_name : sites (name 41) ≡ []
   pub unbound_field : sites (dot (name 3) 41) ≡ at 3 (reads 3) ∷ []

@@ -1,6 +1,6 @@
--- Code in which each name means something, each static member stands behind a class or by its simple
--- name, and each instance member doesn't stand behind one (JLS 6.5, 15.11, 15.12, 15.16). Code of
--- which this doesn't hold does less than its sites say.
+-- Code in which each name means something, each static member stands behind a class or by its
+-- simple name, and each instance member doesn't stand behind one (JLS 6.5, 15.11, 15.12, 15.16).
+-- Code of which this doesn't hold does less than its sites say.
 use Rattle.std.specs.Prelude.{Bool, true, false, Option, Some, None}
 use Rattle.jr_ast.specs.Tree as tree
 use Rattle.jr_ast.specs.StatementTree as statement

@@ -23,8 +23,8 @@ use Rattle.jr_unused_locals.specs.Unused.{IsUsed}
 abbrev pub write_stmt : {K : Keys} → (p q u w : At K) → (k : ℕ) → Value K → Stmt K
 write_stmt p q u w k v = eval p (assign q (local u k) (literal w v))
 
--- The new list is the image of the old one, but that behind its front it writes to old local x: over
--- resolved code, with sets, by which x needn't agree behind the front.
+-- The new list is the image of the old one, but that behind its front it writes to old local x:
+-- over resolved code, with sets, by which x needn't agree behind the front.
 pub data WritesBehind {K : Keys} (R : Rows K) (s : Standing K) (x : ℕ)
     : NumberSet → Stmts K → Stmts K → NumberSet → Type 0 where
   writes_here : (ends behind B : NumberSet) (p q u w : At K) (v : Value K) (rest rest' : Stmts K)
@@ -50,8 +50,8 @@ module _ {K : Keys} {A : Type 0} (X : Known K A) (R : Rows K) (s : Standing K) (
         → StmtImage same_keys R s (stmt_code X.facts a) a' → AlsoWrites b b'
         → AlsoWrites (statement.more a b) (core.Stmts.more a' b')
 
--- The code of a body in which behind a piece a further value is written to a local, of which no path
--- from the piece reaches a read past its writes.
+-- The code of a body in which behind a piece a further value is written to a local, of which no
+-- path from the piece reaches a read past its writes.
 pub record WritesUnused (K : Keys) (A : Type 0) (R : Rows K) (old new : Code K) : Type 0 where
   pub locals : ℕ
   pub at : ℕ → ℕ
@@ -82,7 +82,8 @@ MethodMayWrite A R starts starts = Unit {0}
 MethodMayWrite A R (written c) starts = ⊥
 MethodMayWrite A R starts (written d) = ⊥
 
--- Where the two programs are the same but for such writes, in any number of methods, they run alike.
+-- Where the two programs are the same but for such writes, in any number of methods, they run
+-- alike.
 abbrev pub UnusedLocalsPlayNoPart : (C F M N L A : Type 0) → Type 0
 UnusedLocalsPlayNoPart C F M N L A = (P Q : Program (keys_of C F M N L))
     → SameRows same_keys P.rows Q.rows

@@ -1,5 +1,5 @@
--- A piece of a member, some statements of one list, and the member's new code, in which that list has
--- changed from the piece's first statement on, and of all else the image stands.
+-- A piece of a member, some statements of one list, and the member's new code, in which that list
+-- has changed from the piece's first statement on, and of all else the image stands.
 use Rattle.std.specs.Prelude.{ℕ, suc, ◌+◌, List}
 use Rattle.jr_ast.specs.Tree as tree
 use Rattle.jr_ast.specs.StatementTree as statement

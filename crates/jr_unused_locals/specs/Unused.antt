@@ -1,5 +1,5 @@
--- Where no path from a piece of a member reaches a read of a local past its writes, its value behind
--- the piece doesn't matter: sets of locals that agree, for the image of the member's code.
+-- Where no path from a piece of a member reaches a read of a local past its writes, its value
+-- behind the piece doesn't matter: sets of locals that agree, for the image of the member's code.
 use Rattle.std.specs.Prelude.{◌≡◌, ◌⊎◌, ◌↔◌, ◌<◌, ℕ, false, not, IsTrue}
 use Rattle.jr_ast.specs.StatementTree as statement
 use Rattle.jr_runs.specs.Keys.{Keys, keys_of}
