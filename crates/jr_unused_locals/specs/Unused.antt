@@ -1,6 +1,6 @@
 -- Where no path from a piece of a member reaches a read of a local past its writes, its value
 -- behind the piece doesn't matter: sets of locals that agree, for the image of the member's code.
-use Rattle.std.specs.Prelude.{◌≡◌, ◌⊎◌, ◌↔◌, ◌<◌, ℕ, false, not, IsTrue}
+use Rattle.std.specs.Prelude.{◌≡◌, ◌⊎◌, ◌↔◌, ◌<◌, ℕ, Bool, true, false, not, IsTrue}
 use Rattle.jr_ast.specs.StatementTree as statement
 use Rattle.jr_runs.specs.Keys.{Keys, keys_of}
 use Rattle.jr_runs.specs.Rows.{Rows}
@@ -12,7 +12,8 @@ use Rattle.jr_runs.specs.Images.{Spots, NoSpot, StmtsTo}
 use Rattle.jr_runs.specs.StatementTranslation.{stmts_code}
 use Rattle.jr_cover.specs.Ways.{Way, sites_of, size, Edge}
 use Rattle.jr_cover.specs.Sites.{Known, stmts_way}
-use Rattle.jr_unused_locals.specs.Agreement.{Stands, Round, Used, Stays}
+use Rattle.jr_cover.specs.Dependences.{PathBetween}
+use Rattle.jr_unused_locals.specs.Agreement.{Stands, Round, Comes, Used, Stays}
 use Rattle.jr_unused_locals.specs.SiteLocals.{reads_at, writes_at}
 use Rattle.jr_unused_locals.specs.Bindings.{StmtsBind}
 use Rattle.jr_unused_locals.specs.CodeAgreement.{StmtsAgree}
@@ -81,6 +82,14 @@ UnusedLocalsHaveSets C F M N L A = (X : Known (keys_of C F M N L) A)
     → StmtsBind X b → Stays (stmts_way X piece) → 0 < size (stmts_way X piece)
     → (D : NumberSet) → ((x : ℕ) → IsTrue (D x) → IsUsed X r R s piece rest new_list h x → ⊥)
     → HasSets X r R s piece rest new_list b b' D
+
+-- A read comes from a site on where the site reads, or where it doesn't write and a path without a
+-- write strictly between leads from it to a read.
+abbrev pub ComesByPaths : (S : Type 0) → Type 0
+ComesByPaths S = (reads writes : ℕ → Bool) (m : Way S) (j : ℕ)
+    → Comes reads writes (Edge 0 m) j ↔ ((reads j ≡ true)
+    ⊎ ((writes j ≡ false) × (k : ℕ) × PathBetween (Edge 0 m) (λ i. writes i ≡ true) j k
+    × (reads k ≡ true)))
 
 -- The edges of a member are those of the piece and those round it.
 abbrev pub EdgesAreInOrRound : (S : Type 0) → Type 0

@@ -4,6 +4,7 @@ ghost use Rattle.jr_unused_locals.specs.Agreement.{UnusedLocalsMayDiffer};
 ghost use Rattle.jr_unused_locals.specs.LaterWrites.{UnusedLocalsPlayNoPart};
 ghost use Rattle.jr_unused_locals.specs.UsedCases.{UsedCases};
 ghost use Rattle.jr_unused_locals.specs.Unused.{
+  ComesByPaths,
   EdgesAreInOrRound,
   GroupingKeepsEdges,
   ImagesHaveSets,
@@ -49,4 +50,10 @@ pub fn unused_locals_play_no_part<C, F, M, N, L, A>()
 /// loop, round a loop whose condition is passed.
 pub fn used_cases()
     ensures { UsedCases }
+{}
+
+/// A read comes before a write from a site on exactly where the site reads, or where it doesn't
+/// write and a path with no write strictly between leads from it to a read.
+pub fn comes_by_paths<S>()
+    ensures { ComesByPaths S }
 {}

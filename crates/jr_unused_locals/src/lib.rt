@@ -17,6 +17,6 @@
 mod laws;
 
 pub use laws::{
-    edges_are_in_or_round, grouping_keeps_edges, images_have_sets, unused_locals_have_sets,
-    unused_locals_may_differ, unused_locals_play_no_part, used_cases,
+    comes_by_paths, edges_are_in_or_round, grouping_keeps_edges, images_have_sets,
+    unused_locals_have_sets, unused_locals_may_differ, unused_locals_play_no_part, used_cases,
 };
