@@ -14,9 +14,10 @@ use Rattle.jr_runs.specs.Arithmetic.{Out, value, thrown, started_before}
 use Rattle.jr_runs.specs.Core as core
 use Rattle.jr_runs.specs.Core.{Exp, Stmt, Stmts, Code, Method, written, starts, Program}
 use Rattle.jr_runs.specs.Evaluation.{Flow, goes_on, returns, Call, invoke, construct, turn, Step, on_value, next, non_null, on_truth, on_flow, leaving, first_locals, constructed, exp, exps, stmt, stmts, run_code, run_start, run_method, table}
-use Rattle.jr_runs.specs.MemberTranslation.{is_static, is_synchronized, monitor, locked, initializer_code, Parent, parent_args, in_front, constructed_by}
-use Rattle.jr_runs.specs.Translation.{exp_code}
-use Rattle.jr_runs.specs.StatementTranslation.{stmts_code}
+use Rattle.jr_runs.specs.MemberTranslation.{is_synchronized, monitor, locked, in_front}
+use Rattle.jr_cover.specs.MemberTranslation.{is_static, initializer_code, Parent, parent_args, constructed_by}
+use Rattle.jr_cover.specs.Translation.{exp_code}
+use Rattle.jr_cover.specs.StatementTranslation.{stmts_code}
 use Rattle.jr_runs.specs.Running.{Start, of_method, of_constructor, call_of, is_activation, run_of}
 use Rattle.jr_runs.specs.TypedRuns.{OutHas}
 use Rattle.jr_cover.specs.Paths.{Path}

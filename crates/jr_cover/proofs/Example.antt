@@ -6,7 +6,8 @@ use Rattle.jr_ast.specs.MemberTree.{Modifier}
 use Rattle.jr_runs.specs.Keys.{Keys}
 use Rattle.jr_runs.specs.Rows.{Rows}
 use Rattle.jr_runs.specs.Core.{Program, written}
-use Rattle.jr_runs.specs.MemberTranslation.{method_code, no_code}
+use Rattle.jr_runs.specs.MemberTranslation.{no_code}
+use Rattle.jr_cover.specs.MemberTranslation.{method_code}
 use Rattle.jr_cover.specs.Sites.{Known, method_way}
 use Rattle.jr_cover.specs.Members.{HasMember, outside, of_method}
 

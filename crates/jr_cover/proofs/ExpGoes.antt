@@ -13,8 +13,9 @@ use Rattle.jr_runs.specs.Arithmetic.{Out, value, thrown, wrapped, calculate, num
 use Rattle.jr_runs.specs.Core as core
 use Rattle.jr_runs.specs.Core.{Exp, Stmt, Target, Exps, Operator, equal, different, comparison, arithmetic, less, greater, at_most, at_least, add, subtract, multiply, divide, remainder, Arithmetic}
 use Rattle.jr_runs.specs.Evaluation.{invoke, construct, Step, next, non_null, on_truth, on_class, Slot, in_local, in_static, in_object, load_from, store_to, local_at, with_local, with_locals, cast_value, answer, constructed, exp, target, exps}
-use Rattle.jr_runs.specs.Facts.{Variable, is_local, is_static_field, is_instance_field, Called, is_static_method, is_instance_method, Created}
-use Rattle.jr_runs.specs.Translation.{exp_code, receiver_code, target_code, exps_code, named_target, field_target, super_target, read_of, assign_of, compound_of, bump_at, call_at, super_call_at, create_at, class_literal_at, cast_at, operation, arithmetic_of, bump_of, sign_of, mark_of_type, unescaped}
+use Rattle.jr_cover.specs.Facts.{Variable, is_local, is_static_field, is_instance_field, Called, is_static_method, is_instance_method, Created}
+use Rattle.jr_runs.specs.Translation.{operation, arithmetic_of, bump_of, sign_of, unescaped}
+use Rattle.jr_cover.specs.Translation.{exp_code, receiver_code, target_code, exps_code, named_target, field_target, super_target, read_of, assign_of, compound_of, bump_at, call_at, super_call_at, create_at, class_literal_at, cast_at, mark_of_type}
 use Rattle.jr_runs.specs.TypedRuns.{OutHas}
 use Rattle.jr_cover.specs.Ways.{Way, pass, row, fork, size, Straight}
 use Rattle.jr_cover.specs.Sites.{What, Site, at_place, Known, unless, is_class_name, null_check, load_of, store_of, field_load, field_store, field_check, divisor_check, operands, exp_way, receiver_way, exps_way, receiver_check, operand_way, target_check, target_load, target_store}

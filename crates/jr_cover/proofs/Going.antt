@@ -10,8 +10,8 @@ use Rattle.jr_runs.specs.Rows.{Rows}
 use Rattle.jr_runs.specs.Arithmetic.{Out, value, thrown}
 use Rattle.jr_runs.specs.Core.{Exp, Stmt}
 use Rattle.jr_runs.specs.Evaluation.{Flow, goes_on, returns, Call, invoke, construct, turn, Step, on_value, next, non_null, on_truth, on_class}
-use Rattle.jr_runs.specs.Translation.{exp_code}
-use Rattle.jr_runs.specs.StatementTranslation.{stmt_code}
+use Rattle.jr_cover.specs.Translation.{exp_code}
+use Rattle.jr_cover.specs.StatementTranslation.{stmt_code}
 use Rattle.jr_runs.specs.TypedRuns.{OutHas}
 use Rattle.jr_cover.specs.Ways.{Way, one, row, fork, turns, size, Straight}
 use Rattle.jr_cover.specs.Visiting.{Leads, Visits}

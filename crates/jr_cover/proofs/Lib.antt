@@ -6,9 +6,9 @@
 -- null. `Touching`: which locals code reads and writes, and whether it calls and loops, by its
 -- sites; from it `PieceWrites`, `NeverNullMembers`, `SideBySide` and `UnreadLocals` (two plans that
 -- do the same), `PieceReads`, and `Rising`, `Unstopped`, `PieceEnds` (a plan that visits its sites
--- in rising order ends). `SpotPaths`: spots have their paths. Crates above cite `FlowLaws: flow_is`
--- (the lists of `Flows` have what the relations of `Ways` say) and `Unique: one_site` (an action is
--- done at one site alone). `Example`: the premises can be met.
+-- in rising order ends). `PlainSilent`: plain expressions. `SpotPaths`: spots have their paths.
+-- Crates above cite `FlowLaws: flow_is` (the lists of `Flows` have what the relations of `Ways` say)
+-- and `Unique: one_site` (an action is done at one site alone). `Example`: the premises can be met.
 pub mod WayLaws
 pub mod Visits
 pub mod Parts
@@ -31,6 +31,7 @@ pub mod Rising
 pub mod Unstopped
 pub mod PieceEnds
 pub mod NeverNullMembers
+pub mod PlainSilent
 mod Example
 pub mod Unique
 pub mod FlowLaws
@@ -38,3 +39,4 @@ pub mod PieceActs
 pub mod PiecesCross
 pub mod SpotPaths
 mod SpotCases
+mod TranslationCases

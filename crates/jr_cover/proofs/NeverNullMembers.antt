@@ -7,12 +7,13 @@ use Rattle.jr_ast.specs.StatementTree as statement
 use Rattle.jr_runs.specs.Keys.{Keys, At}
 use Rattle.jr_runs.specs.Values.{Value, int, truth, text, class_object, object}
 use Rattle.jr_runs.specs.Values as values
-use Rattle.jr_runs.specs.Facts.{Facts}
+use Rattle.jr_cover.specs.Facts.{Facts}
 use Rattle.jr_runs.specs.Core as core
 use Rattle.jr_runs.specs.Core.{Exp, Target, Exps, Stmt, Stmts, Code}
-use Rattle.jr_runs.specs.Translation.{exp_code, exps_code, named_target, read_of, create_at, class_literal_at, mark_of_type}
-use Rattle.jr_runs.specs.StatementTranslation.{stmt_code, else_code, stmts_code}
-use Rattle.jr_runs.specs.MemberTranslation.{is_synchronized, is_static, monitor, locked, in_front, Parent, parent_args}
+use Rattle.jr_cover.specs.Translation.{exp_code, exps_code, named_target, read_of, create_at, class_literal_at, mark_of_type}
+use Rattle.jr_cover.specs.StatementTranslation.{stmt_code, else_code, stmts_code}
+use Rattle.jr_runs.specs.MemberTranslation.{is_synchronized, monitor, locked, in_front}
+use Rattle.jr_cover.specs.MemberTranslation.{is_static, Parent, parent_args}
 use Rattle.jr_cover.specs.Ways.{Way, sites_of}
 use Rattle.jr_cover.specs.Sites.{What, writes, Site, Known, exp_way, exps_way}
 use Rattle.jr_cover.specs.Covering.{site_at}

@@ -10,8 +10,8 @@ use Rattle.jr_runs.specs.Actions.{Event}
 use Rattle.jr_runs.specs.Arithmetic.{Out}
 use Rattle.jr_runs.specs.Core.{Exp, Stmt, Program}
 use Rattle.jr_runs.specs.Evaluation.{Flow, Call, invoke, construct, turn, Step, exp, stmts, table}
-use Rattle.jr_runs.specs.Translation.{exp_code}
-use Rattle.jr_runs.specs.StatementTranslation.{stmts_code}
+use Rattle.jr_cover.specs.Translation.{exp_code}
+use Rattle.jr_cover.specs.StatementTranslation.{stmts_code}
 use Rattle.jr_runs.specs.Running.{is_activation}
 use Rattle.jr_cover.specs.Paths as paths
 use Rattle.jr_cover.specs.Ways.{Way, sites_of}

@@ -13,8 +13,8 @@ use Rattle.jr_runs.specs.Rows.{Rows}
 use Rattle.jr_runs.specs.Arithmetic.{Out}
 use Rattle.jr_runs.specs.Core.{Exp, Stmt}
 use Rattle.jr_runs.specs.Evaluation.{Flow, Call, exp, stmts}
-use Rattle.jr_runs.specs.Translation.{exp_code}
-use Rattle.jr_runs.specs.StatementTranslation.{stmts_code}
+use Rattle.jr_cover.specs.Translation.{exp_code}
+use Rattle.jr_cover.specs.StatementTranslation.{stmts_code}
 use Rattle.jr_cover.specs.Ways.{Way, Edge, sites_of}
 use Rattle.jr_cover.specs.Visiting.{Leads, Visits}
 use Rattle.jr_cover.specs.Sites.{What, reads, writes, loads, stores, enters, exits, creates, checks, calls, loops, Site, at_place, Known, unless, exp_way, stmt_way, else_way, stmts_way}
@@ -184,20 +184,20 @@ module _ {K : Keys} where
         (stmts_end R me (stmts_code X.facts b) (stmts_by_sites Any Any ⊥ ⊥ X b h) l)
         (stmts_goes R X (Higher R X all) (In R X all) (Nowhere R X all) (NoTurn R X all) me b 0 l None (whole w (stmts_loopless b (whole_sees Any Any ⊥ ⊥ w h)) (stmts_fair X b)) (λ f i. tt))
 
-  sees : (w : What K) → (w ≡ calls → ⊥) × (w ≡ loops → ⊥) → Sees Any Any ⊥ ⊥ w
-  sees (reads n) g = tt
-  sees (writes n) g = tt
-  sees (loads f) g = tt
-  sees (stores f) g = tt
-  sees enters g = tt
-  sees exits g = tt
-  sees creates g = tt
-  sees checks g = tt
-  sees calls g = g.0 refl
-  sees loops g = g.1 refl
+  neither : (w : What K) → (w ≡ calls → ⊥) × (w ≡ loops → ⊥) → Sees Any Any ⊥ ⊥ w
+  neither (reads n) g = tt
+  neither (writes n) g = tt
+  neither (loads f) g = tt
+  neither (stores f) g = tt
+  neither enters g = tt
+  neither exits g = tt
+  neither creates g = tt
+  neither checks g = tt
+  neither calls g = g.0 refl
+  neither loops g = g.1 refl
 
   pub all_see : (all : List (Site K)) → NoCallNoLoop all → ListSees Any Any ⊥ ⊥ all
-  all_see all h i s e = sees s.what (h i s e)
+  all_see all h i s e = neither s.what (h i s e)
 
 pub expressions_come_to_their_end : {C F M N L A : Type 0} → ExpressionsComeToTheirEnd C F M N L A
 expressions_come_to_their_end X R e h me l = exp_comes R X me e (all_see (sites_of (exp_way X e)) h) l

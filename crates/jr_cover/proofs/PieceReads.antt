@@ -4,8 +4,8 @@ use Rattle.jr_runs.specs.Keys.{Keys}
 use Rattle.jr_runs.specs.Values.{Value}
 use Rattle.jr_runs.specs.Core.{Program}
 use Rattle.jr_runs.specs.Evaluation.{Step, exp, stmts, table}
-use Rattle.jr_runs.specs.Translation.{exp_code}
-use Rattle.jr_runs.specs.StatementTranslation.{stmts_code}
+use Rattle.jr_cover.specs.Translation.{exp_code}
+use Rattle.jr_cover.specs.StatementTranslation.{stmts_code}
 use Rattle.jr_runs.specs.Pairs.{OutRel}
 use Rattle.jr_runs.specs.Running.{is_activation}
 use Rattle.jr_cover.specs.Ways.{sites_of}

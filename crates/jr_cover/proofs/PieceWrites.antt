@@ -5,8 +5,8 @@ use Rattle.jr_ast.specs.StatementTree as statement
 use Rattle.jr_runs.specs.Keys.{Keys}
 use Rattle.jr_runs.specs.Core as core
 use Rattle.jr_runs.specs.Core.{Exp, Target, Exps, Stmt, Stmts}
-use Rattle.jr_runs.specs.Translation.{exp_code, exps_code}
-use Rattle.jr_runs.specs.StatementTranslation.{stmts_code}
+use Rattle.jr_cover.specs.Translation.{exp_code, exps_code}
+use Rattle.jr_cover.specs.StatementTranslation.{stmts_code}
 use Rattle.jr_runs.specs.Evaluation.{goes_on, local_at, exp, stmts}
 use Rattle.jr_cover.specs.Ways.{sites_of}
 use Rattle.jr_cover.specs.Sites.{What, reads, writes, loads, stores, enters, exits, creates, checks, calls, loops, Site, Known, exp_way, exps_way, stmts_way}

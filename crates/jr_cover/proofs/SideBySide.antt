@@ -21,12 +21,6 @@ module _ {V E S R : Type 0} (Go : S → S → Type 0) (Back : (c d : S) → Go c
   beside_and Q U _ _ k j (both_ask f s p q h) g = both_ask f s (λ v. and_then (p v) k) (λ v. and_then (q v) j) (λ v. beside_and Q U (p v) (q v) k j (h v) g)
   beside_and Q U _ _ k j (both_call c d p q h i) g = both_call c d (λ r. and_then (p r) k) (λ t. and_then (q t) j) h (λ r t b. beside_and Q U (p r) (q t) k j (i r t b) g)
 
-  pub beside_more : {A B : Type 0} (Q U : A → B → Type 0) → ((a : A) (b : B) → Q a b → U a b) → (p : Plan V E S R A) (q : Plan V E S R B) → Beside Q p q → Beside U p q
-  beside_more Q U i _ _ (both_done a b h) = both_done a b (i a b h)
-  beside_more Q U i _ _ (both_act x p q h) = both_act x p q (beside_more Q U i p q h)
-  beside_more Q U i _ _ (both_ask f s p q h) = both_ask f s p q (λ v. beside_more Q U i (p v) (q v) (h v))
-  beside_more Q U i _ _ (both_call c d p q h j) = both_call c d p q h (λ r t b. beside_more Q U i (p r) (q t) (j r t b))
-
   -- a plan beside itself, where each call may go beside itself and equal answers are equal
   pub beside_itself : {A : Type 0} (itself : (c : S) → Go c c) → ((c : S) (r t : R) → Back c c (itself c) r t → r ≡ t) → (p : Plan V E S R A) → Beside (λ (x : A) (y : A). x ≡ y) p p
   beside_itself i e (done a) = both_done a a refl

@@ -10,8 +10,8 @@ use Rattle.jr_runs.specs.Rows.{Rows}
 use Rattle.jr_runs.specs.Arithmetic.{Out, value, thrown}
 use Rattle.jr_runs.specs.Core.{Exp, Stmt}
 use Rattle.jr_runs.specs.Evaluation.{Flow, goes_on, returns, Call, turn, Step, on_value, next, with_local, unset, non_null, on_truth, on_flow, leaving, exp, stmt, stmts}
-use Rattle.jr_runs.specs.Translation.{exp_code}
-use Rattle.jr_runs.specs.StatementTranslation.{stmt_code, else_code, stmts_code, all_declared}
+use Rattle.jr_cover.specs.Translation.{exp_code}
+use Rattle.jr_cover.specs.StatementTranslation.{stmt_code, else_code, stmts_code, all_declared}
 use Rattle.jr_cover.specs.Ways.{Way, pass, row, fork, leave, turns, inside, size, Passes, First, Ends, Last, Again, Straight}
 use Rattle.jr_cover.specs.Visiting.{Leads}
 use Rattle.jr_cover.specs.Sites.{What, Site, at_place, Known, unless, exp_way, stmt_way, else_way, stmts_way}

@@ -4,8 +4,8 @@ use Rattle.jr_ast.specs.declared.operators.BinOp.{BinOp}
 use Rattle.jr_ast.specs.declared.operators.BinOp.TheVariants.{Or, And, Eq, Ne, Lt, Gt, Le, Ge, Add, Sub, Mul, Div, Rem}
 use Rattle.jr_ast.specs.Tree as tree
 use Rattle.jr_runs.specs.Keys.{Keys}
-use Rattle.jr_runs.specs.Facts.{Variable, is_local, is_static_field, is_instance_field}
-use Rattle.jr_runs.specs.Translation.{exp_code, nothing, read_of, named_target, field_target}
+use Rattle.jr_cover.specs.Facts.{Variable, is_local, is_static_field, is_instance_field}
+use Rattle.jr_cover.specs.Translation.{exp_code, nothing, read_of, named_target, field_target}
 use Rattle.jr_cover.specs.Ways.{Way, Straight}
 use Rattle.jr_cover.specs.Sites.{What, Site, at_place, Known, unless, is_class_name, null_check, load_of, store_of, field_load, field_store, field_check, mark_of, divisor_check, operands, exp_way, receiver_way, exps_way, receiver_check, operand_way, target_check, target_load, target_store}
 

@@ -5,11 +5,12 @@ use Rattle.jr_ast.specs.declared.operators.BinOp.TheVariants.{Or, And, Eq, Ne, L
 use Rattle.jr_ast.specs.Tree as tree
 use Rattle.jr_ast.specs.StatementTree as statement
 use Rattle.jr_runs.specs.Keys.{Keys}
-use Rattle.jr_runs.specs.Facts.{Variable, is_local, is_static_field, is_instance_field, Called, is_static_method, is_instance_method, Created}
+use Rattle.jr_cover.specs.Facts.{Variable, is_local, is_static_field, is_instance_field, Called, is_static_method, is_instance_method, Created}
 use Rattle.jr_runs.specs.Core as core
 use Rattle.jr_runs.specs.Core.{Arithmetic, Bump, Exp, Target, Exps, Stmt, Stmts}
-use Rattle.jr_runs.specs.Translation.{arithmetic_of, operation, named_target, field_target, read_of, assign_of, compound_of, bump_at, bump_of, call_at, super_call_at, create_at, class_literal_at, cast_at, mark_of_type, exp_code, receiver_code, target_code, exps_code}
-use Rattle.jr_runs.specs.StatementTranslation.{declared, declared_else, all_declared, stmt_code, else_code, stmts_code}
+use Rattle.jr_runs.specs.Translation.{arithmetic_of, operation, bump_of}
+use Rattle.jr_cover.specs.Translation.{named_target, field_target, read_of, assign_of, compound_of, bump_at, call_at, super_call_at, create_at, class_literal_at, cast_at, mark_of_type, exp_code, receiver_code, target_code, exps_code}
+use Rattle.jr_cover.specs.StatementTranslation.{declared, declared_else, all_declared, stmt_code, else_code, stmts_code}
 use Rattle.jr_cover.specs.Ways.{Way, pass, one, row, fork, leave, turns, inside, size, sites_of}
 use Rattle.jr_cover.specs.Sites.{What, reads, writes, loads, stores, enters, exits, creates, checks, calls, loops, Site, Known, unless, is_class_name, load_of, store_of, operands, divisor_check, exp_way, receiver_way, exps_way, operand_way, target_load, target_store, stmt_way, else_way, stmts_way}
 use Rattle.jr_cover.specs.Covering.{site_at}

@@ -9,8 +9,8 @@ use Rattle.jr_runs.specs.Values.{Value}
 use Rattle.jr_runs.specs.Actions.{Event}
 use Rattle.jr_runs.specs.Rows.{Rows}
 use Rattle.jr_runs.specs.Evaluation.{exp, stmts}
-use Rattle.jr_runs.specs.Translation.{exp_code}
-use Rattle.jr_runs.specs.StatementTranslation.{stmts_code}
+use Rattle.jr_cover.specs.Translation.{exp_code}
+use Rattle.jr_cover.specs.StatementTranslation.{stmts_code}
 use Rattle.jr_cover.specs.Ways.{sites_of}
 use Rattle.jr_cover.specs.Sites.{
   What,

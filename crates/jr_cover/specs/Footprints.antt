@@ -12,8 +12,8 @@ use Rattle.jr_runs.specs.Rows.{Rows}
 use Rattle.jr_runs.specs.Arithmetic.{Out}
 use Rattle.jr_runs.specs.Core.{Program}
 use Rattle.jr_runs.specs.Evaluation.{goes_on, Step, local_at, exp, stmts, table}
-use Rattle.jr_runs.specs.Translation.{exp_code}
-use Rattle.jr_runs.specs.StatementTranslation.{stmts_code}
+use Rattle.jr_cover.specs.Translation.{exp_code}
+use Rattle.jr_cover.specs.StatementTranslation.{stmts_code}
 use Rattle.jr_runs.specs.Reordering.{Free, load_kind, store_kind}
 use Rattle.jr_runs.specs.Running.{is_activation}
 use Rattle.jr_cover.specs.Ways.{sites_of}

@@ -1,3 +1,7 @@
+pub mod Facts
+pub mod Translation
+pub mod StatementTranslation
+pub mod MemberTranslation
 pub mod Paths
 pub mod Ways
 pub mod Visiting
@@ -16,3 +20,4 @@ pub mod Unread
 pub mod Finishing
 pub mod NeverNullMembers
 pub mod Spots
+pub mod Plain

@@ -9,13 +9,13 @@ use Rattle.jr_runs.specs.Keys.{Keys, keys_of}
 use Rattle.jr_runs.specs.Values.{Value}
 use Rattle.jr_runs.specs.Core as core
 use Rattle.jr_runs.specs.Core.{Exp, Stmt, Stmts, Code, Method, written, starts, Program}
-use Rattle.jr_runs.specs.MemberTranslation.{
+use Rattle.jr_runs.specs.MemberTranslation.{in_front}
+use Rattle.jr_cover.specs.MemberTranslation.{
   is_static,
   method_code,
   initializer_code,
   Parent,
   constructor_code,
-  in_front,
 }
 use Rattle.jr_runs.specs.Running.{Start, run_of}
 use Rattle.jr_cover.specs.Ways.{Way, pass, row}

@@ -7,10 +7,10 @@ use Rattle.jr_ast.specs.StatementTree as statement
 use Rattle.jr_ast.specs.MemberTree.{Modifier, Param}
 use Rattle.jr_runs.specs.Keys.{Keys, keys_of}
 use Rattle.jr_runs.specs.Values.{Value, null, Ty}
-use Rattle.jr_runs.specs.Facts.{Facts, Created}
+use Rattle.jr_cover.specs.Facts.{Facts, Created}
 use Rattle.jr_runs.specs.Core.{Exp, Stmt, Code, Program}
-use Rattle.jr_runs.specs.Translation.{exp_code, mark_of_type}
-use Rattle.jr_runs.specs.MemberTranslation.{method_code, Parent, constructor_code}
+use Rattle.jr_cover.specs.Translation.{exp_code, mark_of_type}
+use Rattle.jr_cover.specs.MemberTranslation.{method_code, Parent, constructor_code}
 use Rattle.jr_runs.specs.Evaluation.{first_locals, exp}
 use Rattle.jr_runs.specs.Starting.{IsReceiver, ArgsFit}
 use Rattle.jr_runs.specs.Typing.{SoundRows, CodeTyped}

@@ -3,7 +3,7 @@
 use Rattle.std.specs.Prelude.{◌≡◌, ◌<◌, ℕ, Bool, false, List, Option, Some}
 use Rattle.jr_ast.specs.Tree as tree
 use Rattle.jr_runs.specs.Keys.{Keys}
-use Rattle.jr_runs.specs.Facts.{Facts, is_local}
+use Rattle.jr_cover.specs.Facts.{Facts, is_local}
 
 -- its local, if the expression is one in any number of parentheses
 abbrev pub NamesLocal : {K : Keys} {A : Type 0} → Facts K A → tree.Exp A → ℕ → Type 0

@@ -36,7 +36,7 @@ use Rattle.jr_ast.specs.Tree.{Word}
 use Rattle.jr_ast.specs.StatementTree as statement
 use Rattle.jr_ast.specs.MemberTree.{Modifier}
 use Rattle.jr_runs.specs.Keys.{Keys}
-use Rattle.jr_runs.specs.Facts.{Facts, Variable, is_local, is_static_field, is_instance_field}
+use Rattle.jr_cover.specs.Facts.{Facts, Variable, is_local, is_static_field, is_instance_field}
 use Rattle.jr_runs.specs.MemberTranslation.{is_synchronized}
 use Rattle.jr_cover.specs.Ways.{Way, pass, one, row, fork, leave, turns, inside}
 

@@ -14,6 +14,7 @@ ghost use Rattle.jr_cover.specs.NeverNullMembers.{
   NeverNullGivesNoNull,
   NeverNullInitializersGiveNoNull,
 };
+ghost use Rattle.jr_cover.specs.Plain.{PlainExpressionsAreSilent};
 ghost use Rattle.jr_cover.specs.Spots.{SpotsHaveTheirPaths};
 ghost use Rattle.jr_cover.specs.Unread.{ExpressionsReadTheirLocals, StatementsReadTheirLocals};
 
@@ -69,6 +70,12 @@ pub fn pieces_read_their_locals<C, F, M, N, L, A>()
 pub fn pieces_come_to_their_end<C, F, M, N, L, A>()
     ensures expressions { ExpressionsComeToTheirEnd C F M N L A }
     ensures lists { StatementsComeToTheirEnd C F M N L A }
+{}
+
+/// A plain expression, whose sites are reads of locals alone, comes to a value that depends on these
+/// locals, does nothing else, and leaves the locals as they are.
+pub fn plain_expressions_are_silent<C, F, M, N, L, A>()
+    ensures { PlainExpressionsAreSilent C F M N L A }
 {}
 
 /// Where the footprints of two pieces cross, each action that is done at a site of the one and each

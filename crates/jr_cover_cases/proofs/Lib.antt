@@ -5,3 +5,4 @@ pub mod ThrowCases
 pub mod DependenceCases
 pub mod NeverNullCases
 pub mod WrongTurns
+mod PieceCases

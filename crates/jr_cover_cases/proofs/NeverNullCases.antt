@@ -1,7 +1,7 @@
 -- Which expressions are never null: by the rules, and by cases on them.
 use Rattle.std.proofs.Common.{◌≡◌, ◌<◌, ℕ, true, false, [], Option, Some, None, refl, sym, ap, subst, arith}
 use Rattle.jr_ast.specs.Tree as tree
-use Rattle.jr_runs.specs.Facts.{Variable, is_local, is_static_field, is_instance_field}
+use Rattle.jr_cover.specs.Facts.{Variable, is_local, is_static_field, is_instance_field}
 use Rattle.jr_cover.specs.NeverNullTrees.{NamesLocal, this, create, string, class_literal, paren, local}
 use Rattle.jr_cover_cases.specs.Samples.{K, facts, name, dot, word, class_type}
 use Rattle.jr_cover_cases.specs.NeverNullCases.{init, is_assigned, Never, NeverNullCases}

@@ -5,7 +5,7 @@ use Rattle.jr_sync.specs.declared.sites.DepKind.TheVariants.{Order, Field, Sync}
 use Rattle.jr_ast.specs.declared.operators.BinOp.TheVariants.{Add}
 use Rattle.jr_ast.specs.Tree as tree
 use Rattle.jr_ast.specs.StatementTree as statement
-use Rattle.jr_runs.specs.Facts.{is_instance_field}
+use Rattle.jr_cover.specs.Facts.{is_instance_field}
 use Rattle.jr_cover.specs.Ways.{Way, sites_of, Edge}
 use Rattle.jr_cover.specs.Sites as sites
 use Rattle.jr_cover.specs.Sites.{loads, stores, loops, Known, stmts_way}

@@ -22,13 +22,7 @@ use Rattle.jr_runs.specs.Keys.{Keys, keys_of}
 use Rattle.jr_runs.specs.Values.{int_type}
 use Rattle.jr_runs.specs.Actions.{FieldKind, plain, volatile}
 use Rattle.jr_runs.specs.Rows.{Rows}
-use Rattle.jr_runs.specs.Facts.{
-  Variable,
-  is_local,
-  is_static_field,
-  is_instance_field,
-  Facts,
-}
+use Rattle.jr_cover.specs.Facts.{Variable, is_local, is_static_field, is_instance_field, Facts}
 use Rattle.jr_cover.specs.Ways.{Way, sites_of}
 use Rattle.jr_cover.specs.Flows.{flow_of}
 use Rattle.jr_cover.specs.Sites.{What, Site, Known, exp_way, stmt_way, stmts_way}

@@ -7,7 +7,7 @@ use Rattle.jr_runs.specs.Values.{Value, object}
 use Rattle.jr_runs.specs.Actions.{Event, enter, exit}
 use Rattle.jr_runs.specs.Arithmetic.{thrown, null_reference}
 use Rattle.jr_runs.specs.Core.{written, Program}
-use Rattle.jr_runs.specs.StatementTranslation.{stmts_code}
+use Rattle.jr_cover.specs.StatementTranslation.{stmts_code}
 use Rattle.jr_runs.specs.Running.{of_method, run_of}
 use Rattle.jr_cover.specs.Paths.{Path}
 use Rattle.jr_cover.specs.Ways.{Way, sites_of, Edge}

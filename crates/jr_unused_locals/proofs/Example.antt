@@ -7,11 +7,11 @@ use Rattle.jr_runs.specs.Keys.{Keys, keys_of}
 use Rattle.jr_runs.specs.Values.{Value, int, int_type}
 use Rattle.jr_runs.specs.Actions.{plain}
 use Rattle.jr_runs.specs.Rows.{Rows}
-use Rattle.jr_runs.specs.Facts.{Facts, Variable, is_local, is_static_field}
+use Rattle.jr_cover.specs.Facts.{Facts, Variable, is_local, is_static_field}
 use Rattle.jr_runs.specs.Core as core
 use Rattle.jr_runs.specs.Core.{Exp, literal, read, assign, local, static_field, Stmt, eval, return, Stmts, Code, written, Program}
 use Rattle.jr_runs.specs.KeyMaps.{same_keys}
-use Rattle.jr_runs.specs.StatementTranslation.{stmts_code}
+use Rattle.jr_cover.specs.StatementTranslation.{stmts_code}
 use Rattle.jr_runs.specs.Sets.{everything}
 use Rattle.jr_runs.specs.Standing.{Standing, whole}
 use Rattle.jr_runs.specs.Images.{NoSpot, ExpTo, to_literal, to_read, to_assign, to_local, to_static_field, StmtTo, to_eval, to_return, StmtsTo, to_no_more, to_list}

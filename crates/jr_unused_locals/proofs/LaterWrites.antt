@@ -14,7 +14,7 @@ use Rattle.jr_runs.specs.Core as core
 use Rattle.jr_runs.specs.Core.{Stmt, Stmts, Code, Method, written, starts, Program}
 use Rattle.jr_runs.specs.Evaluation.{Flow, Call, local_at, with_local, stmt, stmts}
 use Rattle.jr_runs.specs.KeyMaps.{Undoes, same_keys, value_image}
-use Rattle.jr_runs.specs.StatementTranslation.{stmt_code, stmts_code}
+use Rattle.jr_cover.specs.StatementTranslation.{stmt_code, stmts_code}
 use Rattle.jr_runs.specs.Sets.{NumberSet, everything, Within}
 use Rattle.jr_runs.specs.Standing.{In, Standing, Stands, Frame, Holding, Shifted, whole}
 use Rattle.jr_runs.specs.Images.{Spots, NoSpot, StmtTo, StmtsTo, CodeTo, MethodTo, SameRows, ProgramTo}

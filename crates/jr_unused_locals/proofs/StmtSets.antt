@@ -5,8 +5,8 @@ use Rattle.jr_ast.specs.StatementTree as statement
 use Rattle.jr_runs.specs.Keys.{Keys}
 use Rattle.jr_runs.specs.Core as core
 use Rattle.jr_runs.specs.Core.{Exp, Stmt, Stmts}
-use Rattle.jr_runs.specs.Translation.{exp_code}
-use Rattle.jr_runs.specs.StatementTranslation.{all_declared, return_at, stmt_code, else_code, stmts_code}
+use Rattle.jr_cover.specs.Translation.{exp_code}
+use Rattle.jr_cover.specs.StatementTranslation.{all_declared, return_at, stmt_code, else_code, stmts_code}
 use Rattle.jr_runs.specs.Sets.{NumberSet, with_one, Within}
 use Rattle.jr_runs.proofs.Locals.{within_all}
 use Rattle.jr_cover.specs.Ways.{Way, pass, row, fork, leave, turns, inside, size}

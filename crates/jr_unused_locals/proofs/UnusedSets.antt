@@ -7,8 +7,8 @@ use Rattle.jr_runs.specs.Keys.{Keys}
 use Rattle.jr_runs.specs.Rows.{Rows}
 use Rattle.jr_runs.specs.Core as core
 use Rattle.jr_runs.specs.KeyMaps.{KeyMap}
-use Rattle.jr_runs.specs.Translation.{exp_code}
-use Rattle.jr_runs.specs.StatementTranslation.{all_declared, stmt_code, else_code, stmts_code}
+use Rattle.jr_cover.specs.Translation.{exp_code}
+use Rattle.jr_cover.specs.StatementTranslation.{all_declared, stmt_code, else_code, stmts_code}
 use Rattle.jr_runs.specs.Sets.{NumberSet, everything}
 use Rattle.jr_runs.specs.Standing.{Standing}
 use Rattle.jr_runs.specs.Images.{Spots, NoSpot, StmtTo, to_branch, to_loop, to_block, to_sync, StmtsTo, to_list, to_spot}

@@ -5,16 +5,9 @@ use Rattle.std.specs.Prelude.{Bool, true, false, Option, Some, None}
 use Rattle.jr_ast.specs.Tree as tree
 use Rattle.jr_ast.specs.StatementTree as statement
 use Rattle.jr_runs.specs.Keys.{Keys}
-use Rattle.jr_runs.specs.Facts.{
-  Variable,
-  is_local,
-  is_static_field,
-  is_instance_field,
-  Called,
-  is_static_method,
-  is_instance_method,
-}
-use Rattle.jr_runs.specs.Translation.{arithmetic_of, mark_of_type}
+use Rattle.jr_cover.specs.Facts.{Variable, is_local, is_static_field, is_instance_field, Called, is_static_method, is_instance_method}
+use Rattle.jr_runs.specs.Translation.{arithmetic_of}
+use Rattle.jr_cover.specs.Translation.{mark_of_type}
 use Rattle.jr_cover.specs.Sites.{Known, is_class_name}
 
 abbrev pub IsThere : {T : Type 0} → Option T → Type 0

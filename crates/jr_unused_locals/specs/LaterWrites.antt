@@ -7,7 +7,7 @@ use Rattle.jr_runs.specs.Rows.{Rows}
 use Rattle.jr_runs.specs.Core as core
 use Rattle.jr_runs.specs.Core.{literal, assign, local, Stmt, eval, Stmts, Code, Method, written, starts, Program}
 use Rattle.jr_runs.specs.KeyMaps.{same_keys}
-use Rattle.jr_runs.specs.StatementTranslation.{stmt_code, stmts_code}
+use Rattle.jr_cover.specs.StatementTranslation.{stmt_code, stmts_code}
 use Rattle.jr_runs.specs.Sets.{NumberSet, Within}
 use Rattle.jr_runs.specs.Standing.{In, Standing, whole}
 use Rattle.jr_runs.specs.Images.{Spots, NoSpot, StmtTo, StmtsTo, CodeTo, SameRows}

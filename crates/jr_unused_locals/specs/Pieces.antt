@@ -7,8 +7,8 @@ use Rattle.jr_runs.specs.Keys.{Keys, At}
 use Rattle.jr_runs.specs.Rows.{Rows}
 use Rattle.jr_runs.specs.Core as core
 use Rattle.jr_runs.specs.KeyMaps.{KeyMap}
-use Rattle.jr_runs.specs.Translation.{exp_code}
-use Rattle.jr_runs.specs.StatementTranslation.{all_declared, stmt_code, else_code, stmts_code}
+use Rattle.jr_cover.specs.Translation.{exp_code}
+use Rattle.jr_cover.specs.StatementTranslation.{all_declared, stmt_code, else_code, stmts_code}
 use Rattle.jr_runs.specs.Sets.{NumberSet}
 use Rattle.jr_runs.specs.Standing.{Standing}
 use Rattle.jr_runs.specs.Images.{ExpTo, StmtTo, StmtsTo, BlockTo, NoSpot}

@@ -9,7 +9,7 @@ use Rattle.jr_runs.specs.KeyMaps.{KeyMap}
 use Rattle.jr_runs.specs.Sets.{NumberSet, everything}
 use Rattle.jr_runs.specs.Standing.{Renumbering, Standing, IsHeld, IsCast}
 use Rattle.jr_runs.specs.Images.{Spots, NoSpot, StmtsTo}
-use Rattle.jr_runs.specs.StatementTranslation.{stmts_code}
+use Rattle.jr_cover.specs.StatementTranslation.{stmts_code}
 use Rattle.jr_cover.specs.Ways.{Way, sites_of, size, Edge}
 use Rattle.jr_cover.specs.Sites.{Known, stmts_way}
 use Rattle.jr_cover.specs.Dependences.{PathBetween}
