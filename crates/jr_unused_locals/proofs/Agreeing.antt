@@ -338,7 +338,13 @@ module _ {S : Type 0} (reads writes : ℕ → Bool) (m : Way S) (a : ℕ) (p : W
                 (λ (l : Passes b × (A ≡ false)). inl (out, (refl, inl l.0), inr (goes_on n out (h l.1 n refl) q.0 (e n out (inr (inr (inr (inr (inl l.0, refl, refl)))))), q.1))) (u.2 d),
           )
 
+-- of a part of the member that holds the piece, if the local agrees where the part begins
+pub unused_in_part : {S : Type 0} (reads writes : ℕ → Bool) (m : Way S) (a : ℕ) (p : Way S) (s : Stands a p 0 m) → Stays p → 0 < size p → (Used reads writes m a p s → ⊥) → (n : ℕ) (w : Way S) (t : Stands a p n w) → Quiet reads writes n w
+    → ((i j : ℕ) → Edge n w i j → Edge 0 m i j) → ((i j : ℕ) → Round a p n w t i j → Round a p 0 m s i j) → (B : Bool) × OkAround reads writes a p n w t true B
+unused_in_part reads writes m a p s stays sized unused n w t quiet e r =
+    let u = around reads writes m a p s unused stays sized n w t true quiet e r (λ d. no_falsehood d) in
+    (u.0, u.1)
+
 pub unused_locals_may_differ : {S : Type 0} → UnusedLocalsMayDiffer S
 unused_locals_may_differ reads writes m a p s quiet stays sized unused =
-    let u = around reads writes m a p s unused stays sized 0 m s true quiet (λ i j d. d) (λ i j d. d) (λ d. no_falsehood d) in
-    (u.0, u.1)
+    unused_in_part reads writes m a p s stays sized unused 0 m s quiet (λ i j d. d) (λ i j d. d)

@@ -22,7 +22,7 @@ use Rattle.jr_cover.specs.Sites.{Site, Known, stmts_way}
 use Rattle.jr_cover.proofs.FlowLaws.{In, flow_is}
 use Rattle.jr_unused_locals.specs.Agreement.{Comes, reads_here, onward, InPiece}
 use Rattle.jr_unused_locals.specs.SiteLocals.{reads_at, writes_at}
-use Rattle.jr_unused_locals.specs.Pieces.{joined, StmtsHold, holds_here, stmts_around, stmts_begin, stmts_stands}
+use Rattle.jr_unused_locals.specs.Pieces.{nothing, joined, StmtsHold, holds_here, stmts_around, stmts_stands}
 use Rattle.jr_unused_locals.specs.Unused.{IsUsed}
 use Rattle.jr_unused_locals.specs.LaterWrites.{write_stmt, also_here, also_later, WritesUnused}
 use Rattle.jr_unused_locals.proofs.Regrouped.{edges_are_in_or_round}
@@ -166,7 +166,7 @@ from_edges i j h (inr (inl e)) c = let k : i ≡ 2 = ap (λ (p : ℕ × ℕ). p.
 from_edges i j h (inr (inr (inl e))) c = never_two (subst (λ n. ComesIn n) (ap (λ (p : ℕ × ℕ). p.1) e) c)
 from_edges i j h (inr (inr (inr e))) c = e
 
-unused : IsUsed X same_keys rows S piece rest new_list here 0 → ⊥
+unused : IsUsed X same_keys rows S piece rest new_list nothing here 0 → ⊥
 unused u = from_edges u.from u.to u.in_piece.1 (((flow_is 0 way).edges u.from u.to).back ((edges_are_in_or_round way 0 (stmts_way X piece) (stmts_stands X same_keys rows S piece rest new_list here 0) u.from u.to).1 (inr u.round))) u.comes
 
 -- ---- the programs

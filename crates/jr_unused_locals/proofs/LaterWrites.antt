@@ -29,7 +29,7 @@ use Rattle.jr_runs.proofs.Kept.{kept_stmts, kept_turns, kept_match}
 use Rattle.jr_runs.proofs.ImagePrograms.{Changes, setting, turns_in, programs_match}
 use Rattle.jr_runs.proofs.Halves.{alike, starts_match}
 use Rattle.jr_cover.specs.Sites.{Known}
-use Rattle.jr_unused_locals.specs.Pieces.{joined, StmtsHold}
+use Rattle.jr_unused_locals.specs.Pieces.{nothing, joined}
 use Rattle.jr_unused_locals.specs.CodeAgreement.{StmtsAgree}
 use Rattle.jr_unused_locals.specs.Unused.{HoldsNothing, OneSpot, IsUsed, HasSets}
 use Rattle.jr_unused_locals.specs.LaterWrites.{WritesBehind, writes_here, writes_later, LaterWrite, AlsoWrites, also_here, also_later, WritesUnused, MethodMayWrite, UnusedLocalsPlayNoPart}
@@ -64,11 +64,11 @@ module _ {K : Keys} {A : Type 0} (R : Rows K) (old new : Code K) (h : WritesUnus
   abbrev D : NumberSet
   D = λ i. nat_eq h.written_local i
 
-  stays_unused : (i : ℕ) → nat_eq h.written_local i ≡ true → IsUsed h.known same_keys R S h.piece h.rest h.new_list h.holds i → ⊥
-  stays_unused i e = subst (λ k. IsUsed h.known same_keys R S h.piece h.rest h.new_list h.holds k → ⊥) (eqb-true h.written_local i e) h.unused
+  stays_unused : (i : ℕ) → nat_eq h.written_local i ≡ true → IsUsed h.known same_keys R S h.piece h.rest h.new_list nothing h.holds i → ⊥
+  stays_unused i e = subst (λ k. IsUsed h.known same_keys R S h.piece h.rest h.new_list nothing h.holds k → ⊥) (eqb-true h.written_local i e) h.unused
 
   found : HasSets h.known same_keys R S h.piece h.rest h.new_list h.body new.body D
-  found = unused_locals_have_sets h.known same_keys R S nothing_held h.piece h.rest h.body h.new_list new.body h.holds h.binds h.no_return h.has_sites D stays_unused
+  found = unused_locals_have_sets h.known same_keys R S nothing_held h.piece h.rest h.body h.new_list new.body h.holds nothing h.binds h.no_return h.has_sites D stays_unused
 
   abbrev old_list : Stmts K
   old_list = stmts_code h.known.facts (joined h.piece h.rest)

@@ -10,8 +10,8 @@ use Rattle.jr_runs.specs.Standing.{Standing}
 use Rattle.jr_cover.specs.Ways.{Way, pass, row, fork, turns, inside, size, sites_of, Passes, LeavesAtOnce, First, Ends, Last, Leaves, Again, Edge}
 use Rattle.jr_cover.specs.Sites.{Site, Known, exp_way, stmt_way, else_way, stmts_way}
 use Rattle.jr_unused_locals.specs.Agreement.{Stands, here, in_first, in_second, in_left, in_right, in_condition, in_body, in_monitor, Round}
-use Rattle.jr_unused_locals.specs.Pieces.{joined, loop_site, lock_check, enter_site, exit_site, StmtHolds, holds_then, holds_else, holds_turned, holds_within, holds_locked, StmtsHold, holds_here, holds_first, holds_later, stmt_around, stmts_around}
-use Rattle.jr_unused_locals.specs.Unused.{GroupingKeepsEdges, EdgesAreInOrRound}
+use Rattle.jr_unused_locals.specs.Pieces.{Surround, nothing, front, monitor, surrounded, joined, loop_site, lock_check, enter_site, exit_site, StmtHolds, holds_then, holds_else, holds_turned, holds_within, holds_locked, StmtsHold, holds_here, holds_first, holds_later, stmt_around, stmts_around}
+use Rattle.jr_unused_locals.specs.Unused.{member_around, GroupingKeepsEdges, EdgesAreInOrRound}
 
 -- the first way's sites are the second's, and where control goes in the first, it does so in the second
 record Goes {S : Type 0} (v w : Way S) : Type 0 where
@@ -238,12 +238,20 @@ module _ {K : Keys} {A : Type 0} (X : Known K A) where
       all_alike (holds_first t t' b b' h y) = row_alike (stmt_around X r R s piece rest new_list h) (stmt_way X t) (stmts_way X b) (stmts_way X b) (around_alike h) (alike_itself (stmts_way X b))
       all_alike (holds_later t t' b b' y h) = row_alike (stmt_way X t) (stmt_way X t) (stmts_around X r R s piece rest new_list h) (stmts_way X b) (alike_itself (stmt_way X t)) (all_alike h)
 
-    around_is : {b : statement.Stmts A} {b' : core.Stmts K} (h : StmtsHold X r R s piece rest new_list b b')
-        → (sites_of (stmts_around X r R s piece rest new_list h) ≡ sites_of (stmts_way X b)) × ((i j : ℕ) → Edge 0 (stmts_around X r R s piece rest new_list h) i j ↔ Edge 0 (stmts_way X b) i j)
-    around_is h = let g = all_alike h in (g.0.sites, λ i j. (λ e. g.0.edge 0 i j e, λ e. g.1.edge 0 i j e))
+    -- what stands around the body is the same
+    member_alike : (u : Surround (Site K)) (v w : Way (Site K)) → Alike v w → Alike (surrounded u v) (surrounded u w)
+    member_alike nothing v w g = g
+    member_alike (front f) v w g = row_alike f f v w (alike_itself f) g
+    member_alike (monitor e x) v w g = (inside_goes e x v w g.0, inside_goes e x w v g.1)
+
+    member_is : {b : statement.Stmts A} {b' : core.Stmts K} (h : StmtsHold X r R s piece rest new_list b b') (u : Surround (Site K))
+        → (sites_of (member_around X r R s piece rest new_list u h) ≡ sites_of (surrounded u (stmts_way X b))) × ((i j : ℕ) → Edge 0 (member_around X r R s piece rest new_list u h) i j ↔ Edge 0 (surrounded u (stmts_way X b)) i j)
+    member_is {b = b} h u =
+        let g = member_alike u (stmts_around X r R s piece rest new_list h) (stmts_way X b) (all_alike h) in
+        (g.0.sites, λ i j. (λ e. g.0.edge 0 i j e, λ e. g.1.edge 0 i j e))
 
 pub grouping_keeps_edges : {C F M N L A : Type 0} → GroupingKeepsEdges C F M N L A
-grouping_keeps_edges X r R s piece rest b new_list b' h = around_is X r R s piece rest new_list h
+grouping_keeps_edges X r R s piece rest b new_list b' h u = member_is X r R s piece rest new_list h u
 
 -- ---- each edge is the piece's or round it
 

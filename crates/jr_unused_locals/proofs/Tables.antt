@@ -16,7 +16,7 @@ use Rattle.jr_cover.proofs.StraightWays.{unless_straight, exp_straight}
 use Rattle.jr_cover.proofs.Cover.{stands_in}
 use Rattle.jr_unused_locals.specs.Agreement.{Quiet}
 use Rattle.jr_unused_locals.specs.SiteLocals.{is_read, is_write, reads_at, writes_at}
-use Rattle.jr_unused_locals.specs.Pieces.{lock_check, StmtHolds, holds_then, holds_else, holds_turned, holds_within, holds_locked, StmtsHold, holds_here, holds_first, holds_later, stmt_around, stmts_around}
+use Rattle.jr_unused_locals.specs.Pieces.{Surround, nothing, front, monitor, surrounded, body_begin, lock_check, StmtHolds, holds_then, holds_else, holds_turned, holds_within, holds_locked, StmtsHold, holds_here, holds_first, holds_later, stmt_around, stmts_around}
 use Rattle.jr_unused_locals.proofs.Families.{IsTold, Told}
 
 some_is : {T : Type 0} (x y : T) → Some x ≡ Some y → x ≡ y
@@ -61,6 +61,12 @@ module _ {K : Keys} where
       append_nil : {T : Type 0} (l : List T) → l ++ [] ≡ l
       append_nil [] = refl
       append_nil (x ∷ l) = ap (λ t. x ∷ t) (append_nil l)
+
+  -- the same of a member's body
+  pub body_told : (r w : ℕ → ℕ → Bool) (u : Surround (Site K)) (a : Way (Site K)) → Told r w 0 (surrounded u a) → Told r w (body_begin u) a
+  body_told r w nothing a t = t
+  body_told r w (front f) a t = t.1
+  body_told r w (monitor e x) a t = t.2
 
   -- ---- quiet ways
 

@@ -1,6 +1,6 @@
 -- The sets of a member in which a piece has locals that aren't used: by the ways round the piece, one
 -- statement after another.
-use Rattle.std.proofs.Common.{◌≡◌, ◌<◌, ℕ, suc, ◌+◌, Bool, true, false, not, IsTrue, Some, refl, sym, subst}
+use Rattle.std.proofs.Common.{◌≡◌, ◌<◌, ℕ, suc, ◌+◌, Bool, true, false, not, IsTrue, Some, refl, sym, subst, inl, inr}
 use Rattle.jr_ast.specs.Tree as tree
 use Rattle.jr_ast.specs.StatementTree as statement
 use Rattle.jr_runs.specs.Keys.{Keys}
@@ -13,21 +13,21 @@ use Rattle.jr_runs.specs.Sets.{NumberSet, everything}
 use Rattle.jr_runs.specs.Standing.{Standing}
 use Rattle.jr_runs.specs.Images.{Spots, NoSpot, StmtTo, to_branch, to_loop, to_block, to_sync, StmtsTo, to_list, to_spot}
 use Rattle.jr_runs.proofs.Locals.{within_all}
-use Rattle.jr_cover.specs.Ways.{Way, row, fork, inside, size, sites_of}
+use Rattle.jr_cover.specs.Ways.{Way, row, fork, inside, size, sites_of, Edge}
 use Rattle.jr_cover.specs.Sites.{Site, Known, exp_way, stmt_way, else_way, stmts_way}
-use Rattle.jr_unused_locals.specs.Agreement.{here, in_second, in_left, in_right, in_monitor, Ok, Stays, Stands}
+use Rattle.jr_unused_locals.specs.Agreement.{here, in_second, in_left, in_right, in_monitor, Ok, Round, Stays, Stands}
 use Rattle.jr_unused_locals.specs.SiteLocals.{reads_at, writes_at}
 use Rattle.jr_unused_locals.specs.Bindings.{StmtBinds, StmtsBind}
 use Rattle.jr_unused_locals.specs.CodeAgreement.{ExpAgrees, StmtsAgree}
-use Rattle.jr_unused_locals.specs.Pieces.{joined, loop_site, lock_check, enter_site, exit_site, StmtHolds, holds_then, holds_else, holds_turned, holds_within, holds_locked, StmtsHold, holds_here, holds_first, holds_later, stmt_around, stmts_around, stmt_begin, stmts_begin, stmt_stands, stmts_stands}
-use Rattle.jr_unused_locals.specs.Unused.{HoldsNothing, OneSpot, IsUsed, HasSets, UnusedLocalsHaveSets, ImagesHaveSets}
-use Rattle.jr_unused_locals.proofs.Agreeing.{unused_locals_may_differ}
+use Rattle.jr_unused_locals.specs.Pieces.{Surround, nothing, front, monitor, surrounded, body_begin, stands_in_member, joined, loop_site, lock_check, enter_site, exit_site, StmtHolds, holds_then, holds_else, holds_turned, holds_within, holds_locked, StmtsHold, holds_here, holds_first, holds_later, stmt_around, stmts_around, stmt_begin, stmts_begin, stmt_stands, stmts_stands}
+use Rattle.jr_unused_locals.specs.Unused.{HoldsNothing, OneSpot, member_around, IsUsed, HasSets, UnusedLocalsHaveSets, ImagesHaveSets}
+use Rattle.jr_unused_locals.proofs.Agreeing.{unused_in_part}
 use Rattle.jr_unused_locals.proofs.Families.{Told, Oks, oks_check}
 use Rattle.jr_unused_locals.proofs.ExpSets.{exp_keeps}
 use Rattle.jr_unused_locals.proofs.StmtSets.{stmt_keeps, else_keeps, stmts_keep}
 use Rattle.jr_unused_locals.proofs.BySets.{exp_by, stmt_by, stmts_by}
 use Rattle.jr_unused_locals.proofs.Around.{OkHere, here_itself, Each, each_first, each_second, each_left, each_right, each_body, each_monitor}
-use Rattle.jr_unused_locals.proofs.Tables.{told, quiet, all_calm}
+use Rattle.jr_unused_locals.proofs.Tables.{told, body_told, quiet, all_calm}
 
 split_binds : {K : Keys} {A : Type 0} (X : Known K A) (a b : statement.Stmts A) → StmtsBind X (joined a b) → StmtsBind X a × StmtsBind X b
 split_binds X statement.end b h = (tt, h)
@@ -151,33 +151,50 @@ module _ {K : Keys} {A : Type 0} (X : Known K A) (r : KeyMap K) (R : Rows K) (s 
 
 -- ---- the laws
 
-module _ {K : Keys} {A : Type 0} (X : Known K A) (r : KeyMap K) (R : Rows K) (s : Standing K) (none : HoldsNothing s.code) (piece rest : statement.Stmts A) (new_list : core.Stmts K) {b : statement.Stmts A} {b' : core.Stmts K} (h : StmtsHold X r R s piece rest new_list b b') (D : NumberSet) where
-  abbrev M : Way (Site K)
-  M = stmts_around X r R s piece rest new_list h
+-- the edges of the body are the member's, and so are those round the piece
+body_edges : {S : Type 0} (u : Surround S) (w : Way S) (i j : ℕ) → Edge (body_begin u) w i j → Edge 0 (surrounded u w) i j
+body_edges nothing w i j e = e
+body_edges (front f) w i j e = inr (inl e)
+body_edges (monitor y x) w i j e = inl e
+
+body_rounds : {S : Type 0} {a : ℕ} {p : Way S} (u : Surround S) (w : Way S) (t : Stands a p (body_begin u) w) (i j : ℕ) → Round a p (body_begin u) w t i j → Round a p 0 (surrounded u w) (stands_in_member u t) i j
+body_rounds nothing w t i j e = e
+body_rounds (front f) w t i j e = inr (inl e)
+body_rounds (monitor y x) w t i j e = inl e
+
+module _ {K : Keys} {A : Type 0} (X : Known K A) (r : KeyMap K) (R : Rows K) (s : Standing K) (none : HoldsNothing s.code) (piece rest : statement.Stmts A) (new_list : core.Stmts K) {b : statement.Stmts A} {b' : core.Stmts K} (h : StmtsHold X r R s piece rest new_list b b') (u : Surround (Site K)) (D : NumberSet) where
+  abbrev Whole : Way (Site K)
+  Whole = member_around X r R s piece rest new_list u h
+
+  abbrev Body : Way (Site K)
+  Body = stmts_around X r R s piece rest new_list h
 
   abbrev rd : ℕ → ℕ → Bool
-  rd = reads_at (sites_of M)
+  rd = reads_at (sites_of Whole)
 
   abbrev wr : ℕ → ℕ → Bool
-  wr = writes_at (sites_of M)
+  wr = writes_at (sites_of Whole)
 
-  abbrev begins : ℕ
-  begins = stmts_begin X r R s piece rest new_list h 0
+  abbrev from : ℕ
+  from = body_begin u
 
-  abbrev place : Stands begins (stmts_way X piece) 0 M
-  place = stmts_stands X r R s piece rest new_list h 0
+  abbrev place : Stands (stmts_begin X r R s piece rest new_list h from) (stmts_way X piece) from Body
+  place = stmts_stands X r R s piece rest new_list h from
 
-  -- of each local, what agrees behind the whole
-  chosen : Stays (stmts_way X piece) → 0 < size (stmts_way X piece) → (x : ℕ) (d : Bool) → (d ≡ true → IsUsed X r R s piece rest new_list h x → ⊥) → (C : Bool) × OkHere rd wr (stmts_way X piece) d x begins 0 M place true C
+  tables : Told rd wr from Body
+  tables = body_told rd wr u Body (told Whole)
+
+  -- of each local, what agrees behind the body
+  chosen : Stays (stmts_way X piece) → 0 < size (stmts_way X piece) → (x : ℕ) (d : Bool) → (d ≡ true → IsUsed X r R s piece rest new_list u h x → ⊥) → (C : Bool) × OkHere rd wr (stmts_way X piece) d x (stmts_begin X r R s piece rest new_list h from) from Body place true C
   chosen stays sized x true unused =
-      let u = unused_locals_may_differ (rd x) (wr x) M begins (stmts_way X piece) place (quiet rd wr x M 0 (told M) (all_calm X r R s piece rest new_list h)) stays sized (unused refl) in
-      (u.0, u.1)
+      unused_in_part (rd x) (wr x) Whole (stmts_begin X r R s piece rest new_list h from) (stmts_way X piece) (stands_in_member u place) stays sized (unused refl) from Body place
+      (quiet rd wr x Body from tables (all_calm X r R s piece rest new_list h)) (λ i j e. body_edges u Body i j e) (λ i j e. body_rounds u Body place i j e)
   chosen stays sized x false unused = (true, (refl, refl))
 
-  sets : StmtsBind X b → Stays (stmts_way X piece) → 0 < size (stmts_way X piece) → ((x : ℕ) → IsTrue (D x) → IsUsed X r R s piece rest new_list h x → ⊥) → HasSets X r R s piece rest new_list b b' D
+  sets : StmtsBind X b → Stays (stmts_way X piece) → 0 < size (stmts_way X piece) → ((x : ℕ) → IsTrue (D x) → IsUsed X r R s piece rest new_list u h x → ⊥) → HasSets X r R s piece rest new_list b b' D
   sets binds stays sized unused =
       let C : NumberSet = λ x. (chosen stays sized x (D x) (λ e. unused x e)).0 in
-      let f = stmts_found X r R s none piece rest new_list rd wr D h binds 0 (told M) everything C (λ x. (chosen stays sized x (D x) (λ e. unused x e)).1) in
+      let f = stmts_found X r R s none piece rest new_list rd wr D h binds from tables everything C (λ x. (chosen stays sized x (D x) (λ e. unused x e)).1) in
       record {
         before = f.before;
         ends = f.ends;
@@ -191,7 +208,7 @@ module _ {K : Keys} {A : Type 0} (X : Known K A) (r : KeyMap K) (R : Rows K) (s 
       }
 
 pub unused_locals_have_sets : {C F M N L A : Type 0} → UnusedLocalsHaveSets C F M N L A
-unused_locals_have_sets X r R s none piece rest b new_list b' h binds stays sized D unused = sets X r R s none piece rest new_list h D binds stays sized unused
+unused_locals_have_sets X r R s none piece rest b new_list b' h u binds stays sized D unused = sets X r R s none piece rest new_list h u D binds stays sized unused
 
 pub images_have_sets : {C F M N L : Type 0} → ImagesHaveSets C F M N L
 images_have_sets r R s none old new A B before behind d g = stmts_by r R (NoSpot) s none old new d before behind g

@@ -16,7 +16,7 @@ use Rattle.jr_cover.specs.Ways.{size}
 use Rattle.jr_cover.specs.Sites.{Known, stmts_way}
 use Rattle.jr_unused_locals.specs.Agreement.{Stays}
 use Rattle.jr_unused_locals.specs.Bindings.{StmtsBind}
-use Rattle.jr_unused_locals.specs.Pieces.{StmtImage, StmtsImage, StmtsHold}
+use Rattle.jr_unused_locals.specs.Pieces.{nothing, StmtImage, StmtsImage, StmtsHold}
 use Rattle.jr_unused_locals.specs.Unused.{IsUsed}
 
 -- `k = v;`
@@ -73,7 +73,8 @@ pub record WritesUnused (K : Keys) (A : Type 0) (R : Rows K) (old new : Code K) 
   pub written_local : ℕ
   pub is_local : written_local < locals
   pub writes : AlsoWrites known R (whole locals at) written_local rest piece new_list
-  pub unused : IsUsed known same_keys R (whole locals at) piece rest new_list holds written_local → ⊥
+  pub unused : IsUsed known same_keys R (whole locals at) piece rest new_list nothing holds
+      written_local → ⊥
 
 abbrev pub MethodMayWrite : {K : Keys} → (A : Type 0) → Rows K → (old new : Method K) → Type 0
 MethodMayWrite {K = K} A R (written c) (written d) =

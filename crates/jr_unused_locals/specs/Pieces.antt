@@ -52,6 +52,31 @@ abbrev pub StmtsImage : {K : Keys} → KeyMap K → Rows K → Standing K → (o
     → Type 0
 StmtsImage {K = K} r R s b b' = (A B : NumberSet) × StmtsTo r R (NoSpot {K = K}) s A b b' B
 
+-- what stands around a member's body: nothing, the call of the superclass's constructor with its
+-- arguments in front, or the monitor of a synchronized method
+pub data Surround (S : Type 0) : Type 0 where
+  nothing : Surround S
+  front : (before : Way S) → Surround S
+  monitor : (entered exited : S) → Surround S
+
+abbrev pub surrounded : {S : Type 0} → Surround S → (body : Way S) → Way S
+surrounded nothing w = w
+surrounded (front f) w = row f w
+surrounded (monitor e x) w = inside e w x
+
+-- the number of the body's first site
+abbrev pub body_begin : {S : Type 0} → Surround S → ℕ
+body_begin nothing = 0
+body_begin (front f) = 0 + size f
+body_begin (monitor e x) = 1
+
+-- what stands in the body stands in the member
+abbrev pub stands_in_member : {S : Type 0} (u : Surround S) {a : ℕ} {p w : Way S}
+    → Stands a p (body_begin u) w → Stands a p 0 (surrounded u w)
+stands_in_member nothing t = t
+stands_in_member (front f) {w = w} t = in_second 0 f w t
+stands_in_member (monitor e x) {w = w} t = in_monitor 0 e x w t
+
 -- the sites of a loop and of a monitor themselves, by the statement's mark
 module _ {K : Keys} {A : Type 0} (X : Known K A) where
   abbrev pub loop_site : A → Site K
