@@ -13,7 +13,10 @@ use Rattle.jr_cover.proofs.FlowLaws.{In, flow_is}
 use Rattle.jr_cover_cases.specs.Samples.{K, rows, at, edges}
 use Rattle.jr_cover_cases.specs.DependenceCases.{two_loads, DependsIn, TwoLoads, endless, Endless}
 
-listed : (w : Way (Site K)) (i j : ℕ) → In (i, j) (edges w) → Edge 0 w i j
+abbrev pair : ℕ → ℕ → ℕ × ℕ
+pair i j = (i, j)
+
+listed : (w : Way (Site K)) (i j : ℕ) → In (pair i j) (edges w) → Edge 0 w i j
 listed w i j p = ((flow_is 0 w).edges i j).to p
 
 some_is : {T : Type 0} (x y : T) → Some x ≡ Some y → x ≡ y
@@ -38,22 +41,25 @@ kind_in (Some (access kind field)) = kind
 
 -- ---- locals
 
-loads_not_writes : (f n : ℕ) → loads {K = K} f ≡ writes n → ⊥
+abbrev doing : What K → What K → Type 0
+doing w v = w ≡ v
+
+loads_not_writes : (f n : ℕ) → doing (loads f) (writes n) → ⊥
 loads_not_writes f n e = cc
 
-loads_not_reads : (f n : ℕ) → loads {K = K} f ≡ reads n → ⊥
+loads_not_reads : (f n : ℕ) → doing (loads f) (reads n) → ⊥
 loads_not_reads f n e = cc
 
-stores_not_writes : (f n : ℕ) → stores {K = K} f ≡ writes n → ⊥
+stores_not_writes : (f n : ℕ) → doing (stores f) (writes n) → ⊥
 stores_not_writes f n e = cc
 
-stores_not_reads : (f n : ℕ) → stores {K = K} f ≡ reads n → ⊥
+stores_not_reads : (f n : ℕ) → doing (stores f) (reads n) → ⊥
 stores_not_reads f n e = cc
 
-loops_not_writes : (n : ℕ) → loops {K = K} ≡ writes n → ⊥
+loops_not_writes : (n : ℕ) → doing loops (writes n) → ⊥
 loops_not_writes n e = cc
 
-loops_not_reads : (n : ℕ) → loops {K = K} ≡ reads n → ⊥
+loops_not_reads : (n : ℕ) → doing loops (reads n) → ⊥
 loops_not_reads n e = cc
 
 -- ---- two loads
@@ -61,7 +67,7 @@ loops_not_reads n e = cc
 one_edge : (i j : ℕ) → Edge 0 two_loads i j → (i ≡ 0) × (j ≡ 1)
 one_edge i j e = from (((flow_is 0 two_loads).edges i j).back e)
   where
-    from : In (i, j) ((0, 1) ∷ []) → (i ≡ 0) × (j ≡ 1)
+    from : In (pair i j) (pair 0 1 ∷ []) → (i ≡ 0) × (j ≡ 1)
     from (inl p) = (ap (λ (q : ℕ × ℕ). q.0) p, ap (λ (q : ℕ × ℕ). q.1) p)
     from (inr p) = absurd p
 

@@ -171,7 +171,7 @@ unused u = from_edges u.from u.to u.in_piece.1 (((flow_is 0 way).edges u.from u.
 
 -- ---- the programs
 
-writes_nine : WritesUnused J ℕ rows old_code new_code
+writes_nine : WritesUnused X rows old_code new_code
 writes_nine = record {
   locals = 1;
   at = λ i. i;
@@ -179,7 +179,6 @@ writes_nine = record {
   same_params = refl;
   params_below = omega arith;
   params_stay = λ i h. refl;
-  known = X;
   body = joined piece rest;
   piece = piece;
   rest = rest;
@@ -196,7 +195,7 @@ writes_nine = record {
 }
 
 pub example_is_alike : AlikeExactly same_keys P Q
-example_is_alike = unused_locals_play_no_part {A = ℕ} P Q record {
+example_is_alike = unused_locals_play_no_part X P Q record {
   same_class = λ c d. refl;
   is_subclass = λ c d. refl;
   text_class = refl;

@@ -53,7 +53,7 @@ module _ {K : Keys} {A : Type 0} (X : Known K A) (R : Rows K) (s : Standing K) (
 
 -- ---- the code of one method
 
-module _ {K : Keys} {A : Type 0} (R : Rows K) (old new : Code K) (h : WritesUnused K A R old new) where
+module _ {K : Keys} {A : Type 0} (X : Known K A) (R : Rows K) (old new : Code K) (h : WritesUnused X R old new) where
   abbrev S : Standing K
   S = whole h.locals h.at
 
@@ -64,17 +64,17 @@ module _ {K : Keys} {A : Type 0} (R : Rows K) (old new : Code K) (h : WritesUnus
   abbrev D : NumberSet
   D = λ i. nat_eq h.written_local i
 
-  stays_unused : (i : ℕ) → nat_eq h.written_local i ≡ true → IsUsed h.known same_keys R S h.piece h.rest h.new_list nothing h.holds i → ⊥
-  stays_unused i e = subst (λ k. IsUsed h.known same_keys R S h.piece h.rest h.new_list nothing h.holds k → ⊥) (eqb-true h.written_local i e) h.unused
+  stays_unused : (i : ℕ) → nat_eq h.written_local i ≡ true → IsUsed X same_keys R S h.piece h.rest h.new_list nothing h.holds i → ⊥
+  stays_unused i e = subst (λ k. IsUsed X same_keys R S h.piece h.rest h.new_list nothing h.holds k → ⊥) (eqb-true h.written_local i e) h.unused
 
-  found : HasSets h.known same_keys R S h.piece h.rest h.new_list h.body new.body D
-  found = unused_locals_have_sets h.known same_keys R S nothing_held h.piece h.rest h.body h.new_list new.body h.holds nothing h.binds h.no_return h.has_sites D stays_unused
+  found : HasSets X same_keys R S h.piece h.rest h.new_list h.body new.body D
+  found = unused_locals_have_sets X same_keys R S nothing_held h.piece h.rest h.body h.new_list new.body h.holds nothing h.binds h.no_return h.has_sites D stays_unused
 
   abbrev old_list : Stmts K
-  old_list = stmts_code h.known.facts (joined h.piece h.rest)
+  old_list = stmts_code X.facts (joined h.piece h.rest)
 
   list_writes : WritesBehind R S h.written_local found.before old_list h.new_list found.list_end
-  list_writes = writes_so h.known R S nothing_held h.written_local h.rest D (eq-eqb h.written_local h.written_local refl) found.list_end found.rest_agrees h.writes found.before found.ends found.piece_agrees found.others_end
+  list_writes = writes_so X R S nothing_held h.written_local h.rest D (eq-eqb h.written_local h.written_local refl) found.list_end found.rest_agrees h.writes found.before found.ends found.piece_agrees found.others_end
 
   allowed : (B : NumberSet) (b b' : Stmts K) (C : NumberSet) → OneSpot found.before old_list h.new_list found.list_end S B b b' C → LaterWrite R S B b b' C
   allowed B b b' C e = (
@@ -96,7 +96,7 @@ module _ {K : Keys} {A : Type 0} (R : Rows K) (old new : Code K) (h : WritesUnus
     params_stay = h.params_stay;
     behind = found.end;
     body = subst (λ (z : Stmts K). StmtsTo same_keys R (LaterWrite R) S everything z new.body found.end) (sym h.old_is)
-        (other_spots same_keys R (OneSpot found.before old_list h.new_list found.list_end) (LaterWrite R) S allowed (stmts_code h.known.facts h.body) new.body found.image);
+        (other_spots same_keys R (OneSpot found.before old_list h.new_list found.list_end) (LaterWrite R) S allowed (stmts_code X.facts h.body) new.body found.image);
   }
 
 module _ {K : Keys} (R : Rows K) where
@@ -112,11 +112,11 @@ module _ {K : Keys} (R : Rows K) where
     body = kept_stmts same_keys R (LaterWrite R) (whole h.size h.at) c.body d.body h.body;
   }
 
-  method_writes : (A : Type 0) (m d : Method K) → MethodMayWrite A R m d → MethodTo same_keys R (LaterWrite R) m d
-  method_writes A (written c) (written d) h = ⊎_elim (λ k. code_kept c d k) (λ k. code_writes R c d k) h
-  method_writes A starts starts h = tt
-  method_writes A (written c) starts h = absurd h
-  method_writes A starts (written d) h = absurd h
+  method_writes : {A : Type 0} (X : Known K A) (m d : Method K) → MethodMayWrite X R m d → MethodTo same_keys R (LaterWrite R) m d
+  method_writes X (written c) (written d) h = ⊎_elim (λ k. code_kept c d k) (λ k. code_writes X R c d k) h
+  method_writes X starts starts h = tt
+  method_writes X (written c) starts h = absurd h
+  method_writes X starts (written d) h = absurd h
 
 -- ---- runs
 
@@ -163,8 +163,8 @@ runs_alike {K = K} P Q to =
     (λ Z tables answered s stands frame me me' im A b b' B d l l' h. list_matches P Q c Z answered s stands frame me me' im d.0 d.1 d.2 l l' h)))
 
 pub unused_locals_play_no_part : {C F M N L A : Type 0} → UnusedLocalsPlayNoPart C F M N L A
-unused_locals_play_no_part {A = A} P Q rows methods constructors = runs_alike P Q record {
+unused_locals_play_no_part X P Q rows methods constructors = runs_alike P Q record {
   rows = rows;
-  methods = λ m h. method_writes P.rows A (P.method m) (Q.method m) (methods m h);
+  methods = λ m h. method_writes P.rows X (P.method m) (Q.method m) (methods m h);
   constructors = λ k h. code_kept P.rows (P.constructor k) (Q.constructor k) (constructors k h);
 }

@@ -24,6 +24,18 @@ record Goes {S : Type 0} (v w : Way S) : Type 0 where
   leaves : (n i : ℕ) → Leaves n v i → Leaves n w i
   edge : (n i j : ℕ) → Edge n v i j → Edge n w i j
 
+-- what stands behind one part stands behind the other
+put : (P : ℕ → Type 0) (n : ℕ) {k m : ℕ} → k ≡ m → P (n + k) → P (n + m)
+put P n e h = subst (λ k. P (n + k)) e h
+
+-- behind a loop's condition, with another body
+ends_by : (k n i : ℕ) (C L B B' : Type 0) → (B → B') → Ends k n i C L B → Ends k n i C L B'
+ends_by zero n i C L B B' f h = h
+ends_by (suc k) n i C L B B' f h = ⊎_elim (λ x. inl x) (λ x. inr (x.0, ⊎_elim (λ y. inl y) (λ y. inr (f y)) x.1)) h
+
+no_more : (n : ℕ) → n + 0 ≡ n
+no_more n = omega arith
+
 module _ {S : Type 0} where
   itself : (w : Way S) → Goes w w
   itself w = record {
@@ -48,10 +60,6 @@ module _ {S : Type 0} where
     leaves = λ n i h. k.leaves n i (g.leaves n i h);
     edge = λ n i j h. k.edge n i j (g.edge n i j h);
   }
-
-  -- what stands behind one part stands behind the other
-  put : (P : ℕ → Type 0) (n : ℕ) {k m : ℕ} → k ≡ m → P (n + k) → P (n + m)
-  put P n e h = subst (λ k. P (n + k)) e h
 
   row_goes : (a a' b b' : Way S) → Goes a a' → Goes b b' → Goes (row a b) (row a' b')
   row_goes a a' b b' g k = record {
@@ -78,11 +86,6 @@ module _ {S : Type 0} where
     leaves = λ n i h. ⊎_elim (λ x. inl (g.leaves n i x)) (λ x. inr (put (λ m. Leaves m b' i) n g.sized (k.leaves (n + size a) i x))) h;
     edge = λ n i j h. ⊎_elim (λ x. inl (g.edge n i j x)) (λ x. inr (put (λ m. Edge m b' i j) n g.sized (k.edge (n + size a) i j x))) h;
   }
-
-  -- behind a loop's condition, with another body
-  ends_by : (k n i : ℕ) (C L B B' : Type 0) → (B → B') → Ends k n i C L B → Ends k n i C L B'
-  ends_by zero n i C L B B' f h = h
-  ends_by (suc k) n i C L B B' f h = ⊎_elim (λ x. inl x) (λ x. inr (x.0, ⊎_elim (λ y. inl y) (λ y. inr (f y)) x.1)) h
 
   turns_goes : (s : S) (c b b' : Way S) → Goes b b' → Goes (turns s c b) (turns s c b')
   turns_goes s c b b' g = record {
@@ -160,9 +163,6 @@ module _ {S : Type 0} where
     where
       on : (P : ℕ → Type 0) (n : ℕ) → P (n + size a + size b) → P (n + (size a + size b))
       on P n h = subst P (sym (behind_two a b n)) h
-
-  no_more : (n : ℕ) → n + 0 ≡ n
-  no_more n = omega arith
 
   nothing_first : (b : Way S) → Goes (row pass b) b
   nothing_first b = record {

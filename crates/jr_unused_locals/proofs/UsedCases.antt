@@ -75,24 +75,27 @@ never_one (onward j k w e c) = no_falsehood w
 abbrev all_edges : List (ℕ × ℕ)
 all_edges = (5, 6) ∷ (4, 5) ∷ (3, 4) ∷ (2, 3) ∷ (0, 1) ∷ (1, 2) ∷ (0, 2) ∷ (6, 2) ∷ (6, 1) ∷ []
 
-pair_is : (i j a b : ℕ) → (i, j) ≡ (a, b) → (i ≡ a) × (j ≡ b)
+abbrev pair : ℕ → ℕ → ℕ × ℕ
+pair i j = (i, j)
+
+pair_is : (i j a b : ℕ) → pair i j ≡ pair a b → (i ≡ a) × (j ≡ b)
 pair_is i j a b e = (ap (λ (p : ℕ × ℕ). p.0) e, ap (λ (p : ℕ × ℕ). p.1) e)
 
 module _ (i j : ℕ) (h : InPiece 2 body i) (out : InPiece 2 body j → ⊥) (c : Comes (reads_in loop_way) (writes_in loop_way) (Edge 0 loop_way) j) where
   -- an edge to a site of the piece is none to one outside
-  inner : (a b : ℕ) → 2 ≤ b → b < 7 → (i, j) ≡ (a, b) → ⊥
+  inner : (a b : ℕ) → 2 ≤ b → b < 7 → pair i j ≡ pair a b → ⊥
   inner a b l m e =
       let q : j ≡ b = (pair_is i j a b e).1 in
       out (omega (arith, l, q), omega (arith, m, q))
 
   -- an edge from another site is none from the piece
-  outer : (a b : ℕ) → a < 2 → (i, j) ≡ (a, b) → ⊥
+  outer : (a b : ℕ) → a < 2 → pair i j ≡ pair a b → ⊥
   outer a b l e =
       let q : i ≡ a = (pair_is i j a b e).0 in
       let k : 2 ≤ i = h.0 in
       omega (arith, l, q, k)
 
-  none_left : In (i, j) all_edges → ⊥
+  none_left : In (pair i j) all_edges → ⊥
   none_left (inl e) = inner 5 6 (omega arith) (omega arith) e
   none_left (inr (inl e)) = inner 4 5 (omega arith) (omega arith) e
   none_left (inr (inr (inl e))) = inner 3 4 (omega arith) (omega arith) e

@@ -52,7 +52,8 @@ module _ {K : Keys} {A : Type 0} (X : Known K A) (R : Rows K) (s : Standing K) (
 
 -- The code of a body in which behind a piece a further value is written to a local, of which no
 -- path from the piece reaches a read past its writes.
-pub record WritesUnused (K : Keys) (A : Type 0) (R : Rows K) (old new : Code K) : Type 0 where
+pub record WritesUnused {K : Keys} {A : Type 0} (X : Known K A) (R : Rows K) (old new : Code K)
+    : Type 0 where
   pub locals : ℕ
   pub at : ℕ → ℕ
   pub injective : (i j : ℕ) → i < locals → j < locals → at i ≡ at j → i ≡ j
@@ -60,36 +61,37 @@ pub record WritesUnused (K : Keys) (A : Type 0) (R : Rows K) (old new : Code K) 
   pub params_below : old.params ≤ locals
   pub params_stay : (i : ℕ) → i < old.params → at i ≡ i
   -- the body's tree, the piece, and what stands behind it in its list
-  pub known : Known K A
   pub body : statement.Stmts A
   pub piece : statement.Stmts A
   pub rest : statement.Stmts A
-  pub old_is : old.body ≡ stmts_code known.facts body
-  pub binds : StmtsBind known body
-  pub no_return : Stays (stmts_way known piece)
-  pub has_sites : 0 < size (stmts_way known piece)
+  pub old_is : old.body ≡ stmts_code X.facts body
+  pub binds : StmtsBind X body
+  pub no_return : Stays (stmts_way X piece)
+  pub has_sites : 0 < size (stmts_way X piece)
   pub new_list : Stmts K
-  pub holds : StmtsHold known same_keys R (whole locals at) piece rest new_list body new.body
+  pub holds : StmtsHold X same_keys R (whole locals at) piece rest new_list body new.body
   pub written_local : ℕ
   pub is_local : written_local < locals
-  pub writes : AlsoWrites known R (whole locals at) written_local rest piece new_list
-  pub unused : IsUsed known same_keys R (whole locals at) piece rest new_list nothing holds
+  pub writes : AlsoWrites X R (whole locals at) written_local rest piece new_list
+  pub unused : IsUsed X same_keys R (whole locals at) piece rest new_list nothing holds
       written_local → ⊥
 
-abbrev pub MethodMayWrite : {K : Keys} → (A : Type 0) → Rows K → (old new : Method K) → Type 0
-MethodMayWrite {K = K} A R (written c) (written d) =
-    CodeTo same_keys R (NoSpot {K = K}) c d ⊎ WritesUnused K A R c d
-MethodMayWrite A R starts starts = Unit {0}
-MethodMayWrite A R (written c) starts = ⊥
-MethodMayWrite A R starts (written d) = ⊥
+abbrev pub MethodMayWrite : {K : Keys} {A : Type 0} → Known K A → Rows K → (old new : Method K)
+    → Type 0
+MethodMayWrite {K = K} X R (written c) (written d) =
+    CodeTo same_keys R (NoSpot {K = K}) c d ⊎ WritesUnused X R c d
+MethodMayWrite X R starts starts = Unit {0}
+MethodMayWrite X R (written c) starts = ⊥
+MethodMayWrite X R starts (written d) = ⊥
 
 -- Where the two programs are the same but for such writes, in any number of methods, they run
 -- alike.
 abbrev pub UnusedLocalsPlayNoPart : (C F M N L A : Type 0) → Type 0
-UnusedLocalsPlayNoPart C F M N L A = (P Q : Program (keys_of C F M N L))
+UnusedLocalsPlayNoPart C F M N L A = (X : Known (keys_of C F M N L) A)
+    (P Q : Program (keys_of C F M N L))
     → SameRows same_keys P.rows Q.rows
     → ((m : M) → IsTrue (P.rows.has_method m)
-    → MethodMayWrite A P.rows (P.method m) (Q.method m))
+    → MethodMayWrite X P.rows (P.method m) (Q.method m))
     → ((k : N) → IsTrue (P.rows.has_constructor k)
     → CodeTo same_keys P.rows (NoSpot {K = keys_of C F M N L}) (P.constructor k) (Q.constructor k))
     → AlikeExactly same_keys P Q

@@ -2,4 +2,4 @@ use Rattle.jr_cover_cases.proofs.SiteCases as cases
 use Rattle.jr_cover_cases.proofs.laws.site_cases.Goals as goal
 
 pub returns : goal.returns
-returns g c = cases.site_cases
+returns c = cases.site_cases

@@ -2,4 +2,4 @@ use Rattle.jr_cover_cases.proofs.ThrowCases as cases
 use Rattle.jr_cover_cases.proofs.laws.throw_cases.Goals as goal
 
 pub returns : goal.returns
-returns g c = cases.throw_cases
+returns c = cases.throw_cases
