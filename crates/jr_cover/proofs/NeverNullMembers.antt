@@ -49,6 +49,10 @@ none_some s e = absurd (apart s e)
 same_one : {S : Type 0} (s t : S) → Some s ≡ Some t → s ≡ t
 same_one s t e = cc
 
+by_truth : (b : Bool) → (b ≡ true → ⊥) → b ≡ false
+by_truth true h = absurd (h refl)
+by_truth false h = refl
+
 true_or : (b c : Bool) → c ≡ true → (b || c) ≡ true
 true_or true c e = refl
 true_or false c e = e
@@ -127,10 +131,6 @@ module _ {K : Keys} where
         }
 
   -- ---- the code of a member is careful
-
-  by_truth : (b : Bool) → (b ≡ true → ⊥) → b ≡ false
-  by_truth true h = absurd (h refl)
-  by_truth false h = refl
 
   module _ {A : Type 0} (X : Known K A) (N : ℕ → Bool) where
     written : (w : Way (Site K)) → ((n : ℕ) → WrittenIn n w → N n ≡ false) → WritesNone N (sites_of w)

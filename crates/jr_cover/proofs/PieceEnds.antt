@@ -1,6 +1,6 @@
 -- A piece without calls and loops comes to its end. Its plan visits its sites in rising order, so it
 -- has at most as many actions as accesses stand ahead.
-use Rattle.std.proofs.Common.{◌≡◌, ◌≤◌, ◌<◌, ℕ, zero, suc, ◌+◌, ◌-◌, Bool, true, false, List, [], ◌∷◌, ◌++◌, Option, Some, None, refl, sym, ap, subst, inl, inr, ⊎_elim, arith, append-nil}
+use Rattle.std.proofs.Common.{◌≡◌, ◌≤◌, ◌<◌, ℕ, zero, suc, ◌+◌, ◌-◌, Bool, true, false, List, [], ◌∷◌, ◌++◌, Option, Some, None, refl, sym, ap, subst, ◌∙◌, inl, inr, ⊎_elim, arith, append-nil}
 use Rattle.jr_plans.specs.Plan.{Plan, done, act, ask, call}
 use Rattle.jr_plans.specs.Finite.{Finite}
 use Rattle.jr_plans.proofs.Finishing.{finite_within}
@@ -151,7 +151,7 @@ module _ {K : Keys} where
     exp_comes e h l =
         let w = exp_way X e in
         let all = sites_of w in
-        bounded R X all (going.ExpPost R X (Higher R X all) (In R X all) (Nowhere R X all) 0 w (λ (r : Value K × List (Value K)). Unit {0}) None) (exp R me (exp_code X.facts e) l) None
+        bounded R X all (going.ExpPost R X (Higher R X all) (In R X all) (Nowhere R X all) (NoTurn R X all) 0 w (λ (r : Value K × List (Value K)). Unit {0}) None) (exp R me (exp_code X.facts e) l) None
         (exp_ends R me (exp_code X.facts e) (exp_by_sites Any Any ⊥ ⊥ X e h) l)
         (exp_goes R X (Higher R X all) (In R X all) (Nowhere R X all) (NoTurn R X all) me e 0 l None (whole w (straight_loopless w (exp_straight X e)) (exp_fair X e)) (λ f i. tt))
 

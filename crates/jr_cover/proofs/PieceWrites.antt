@@ -18,6 +18,10 @@ use Rattle.jr_cover.proofs.Sparing.{SparedBy, SparingStmt, SparingStmts}
 use Rattle.jr_cover.proofs.KeepsLocals.{Untouched, exp_keeps, stmts_spare}
 use Rattle.jr_cover.proofs.NeverNullRuns.{given}
 
+spared_by : (N : ℕ → Bool) (ns : List ℕ) → AllWritten (NotOf N) ns → SparedBy N ns
+spared_by N [] h = tt
+spared_by N (n ∷ ns) h = (h.0, spared_by N ns h.1)
+
 module _ {K : Keys} (N : ℕ → Bool) where
   -- ---- code that writes no local of N
 
@@ -54,10 +58,6 @@ module _ {K : Keys} (N : ℕ → Bool) where
     exps_careful core.Exps.end h = tt
     exps_careful (core.Exps.more e es) h = (exp_careful e h.0, exps_careful es h.1)
 
-  spared_by : (ns : List ℕ) → AllWritten (NotOf N) ns → SparedBy N ns
-  spared_by [] h = tt
-  spared_by (n ∷ ns) h = (h.0, spared_by ns h.1)
-
   mutual
     stmt_sparing : (s : Stmt K) → StmtTouches Any (NotOf N) (Unit {0}) (Unit {0}) s → SparingStmt N s
     stmt_sparing (core.declare p n e) h = (exp_careful e h.0, h.1)
@@ -66,7 +66,7 @@ module _ {K : Keys} (N : ℕ → Bool) where
     stmt_sparing (core.loop p c b) h = (exp_careful c h.1, stmt_sparing b h.2)
     stmt_sparing (core.return p e) h = exp_careful e h
     stmt_sparing (core.return_nothing p) h = tt
-    stmt_sparing (core.block p ns b) h = (spared_by ns h.0, stmts_sparing b h.1)
+    stmt_sparing (core.block p ns b) h = (spared_by N ns h.0, stmts_sparing b h.1)
     stmt_sparing (core.sync p q e b) h = (exp_careful e h.0, stmts_sparing b h.1)
     stmt_sparing (core.empty p) h = tt
 

@@ -209,10 +209,6 @@ module _ {K : Keys} (Rd Wr : ℕ → Type 0) (Cl Lp : Type 0) where
   create_touches p None es k d = tt
   create_touches p (Some c) es k d = (k, d)
 
-  class_touches : (p : K.place) (c : Option K.class) → Touches (class_literal_at {K = K} p c)
-  class_touches p None = tt
-  class_touches p (Some c) = tt
-
   cast_touches : (p : K.place) (b : Bool) (c : Option K.class) (e : Exp K) → Touches e → Touches (cast_at p b c e)
   cast_touches p false c e h = h
   cast_touches p true None e h = tt
@@ -249,6 +245,10 @@ module _ {K : Keys} (Rd Wr : ℕ → Type 0) (Cl Lp : Type 0) where
   both_seen Rem a b c h = (h.0, h.1.0)
 
   module _ {A : Type 0} (X : Known K A) where
+    class_touches : (p : K.place) (c : Option K.class) → Touches (class_literal_at {K = K} p c)
+    class_touches p None = tt
+    class_touches p (Some c) = tt
+
     -- what stands in front of a dot: a class is no code
     in_front : (b : Bool) (e : tree.Exp A) → is_class_name X e ≡ b → (SeesAll (exp_way X e) → Touches (exp_code X.facts e)) → SeesAll (unless b (exp_way X e)) → Touches (exp_code X.facts e)
     in_front true e i g h = let d = class_code X e i in subst (λ c. Touches c) (sym d.1) tt

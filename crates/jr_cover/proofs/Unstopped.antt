@@ -74,10 +74,10 @@ module _ {K : Keys} (R : Rows K) where
   stores_end (in_static p f) v l = tt
   stores_end (in_object p o f) v l = on_null o (store_field R p (part o f) f v l) tt
 
-  store_gives : (x : Slot K) (v w : Value K) (l : List (Value K)) → Unstopped (next (store_to R x v l) (λ k. done (value (w, k))))
+  store_gives : (x : Slot K) (v w : Value K) (l : List (Value K)) → Unstopped (next {B = Value K × List (Value K)} (store_to R x v l) (λ k. done (value (w, k))))
   store_gives x v w l = then_on (store_to R x v l) (λ k. done (value (w, k))) (stores_end x v l) (λ k. tt)
 
-  store_computed : (o : Out (Value K)) (x : Slot K) (l : List (Value K)) → Unstopped (next (done o) (λ v. next (store_to R x v l) (λ k. done (value (v, k)))))
+  store_computed : (o : Out (Value K)) (x : Slot K) (l : List (Value K)) → Unstopped (next {B = Value K × List (Value K)} (done o) (λ v. next (store_to R x v l) (λ k. done (value (v, k)))))
   store_computed (value v) x l = store_gives x v v l
   store_computed (thrown f) x l = tt
 
