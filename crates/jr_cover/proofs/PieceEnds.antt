@@ -126,10 +126,12 @@ module _ {K : Keys} where
         let d = v u.0.0 u.0.1 in
         let m = moved (s u.0.0) p d.0 d.1 in
         let e : suc (ahead p - 1) ≡ ahead p = omega (arith, m.1) in
-        subst (λ n. Finite (AtSomeSite R all) (ask f s x) n) e
-        (u.0, λ w i. (let b = v w i in
-        let g = moved (s w) p b.0 b.1 in
-        (g.0, finite_within (AtSomeSite R all) (AtSomeSite R all) (x w) (ahead b.0) (ahead p - 1) (omega (arith, g.1)) (λ a h. h) (bounded Q (x w) b.0 (u.1 w) b.2))))
+        subst (λ n. Finite (AtSomeSite R all) (ask f s x) n) e (
+          u.0,
+          λ w i. (let b = v w i in
+              let g = moved (s w) p b.0 b.1 in
+              (g.0, finite_within (AtSomeSite R all) (AtSomeSite R all) (x w) (ahead b.0) (ahead p - 1) (omega (arith, g.1)) (λ a h. h) (bounded Q (x w) b.0 (u.1 w) b.2))),
+        )
     bounded Q (call c x) p u v = absurd u
 
   -- ---- pieces

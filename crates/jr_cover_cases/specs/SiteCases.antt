@@ -152,7 +152,7 @@ pub record StatementSites : Type 0 where
       ≡ at 50 loops ∷ at 3 (reads 3) ∷ at 4 (reads 4) ∷ []
   pub of_branch : stmt_sites (statement.branch 50 (name 3) (reading 4)
       (statement.otherwise (reading 5))) ≡ at 3 (reads 3) ∷ at 4 (reads 4) ∷ at 5 (reads 5) ∷ []
-  pub of_return :  stmt_sites (statement.return 50 (Some (name 3))) ≡ at 3 (reads 3) ∷ []
+  pub of_return : stmt_sites (statement.return 50 (Some (name 3))) ≡ at 3 (reads 3) ∷ []
   pub of_empty_return : stmt_sites (statement.return 50 None) ≡ []
 
 -- a field's initializer: its sites, and of an instance field the store at its name, with no `Check`

@@ -139,9 +139,13 @@ module _ {K : Keys} {A : Type 0} (X : Known K A) (r w : ℕ → ℕ → Bool) wh
       let x = oks_row r w n op (row ew (row cw sw)) B D h in
       let y = oks_row r w (n + size op) ew (row cw sw) x.0 D x.2 in
       let z = oks_row r w (n + size op + size ew) cw sw y.0 D y.2 in
-      let q : y.0 ≡ z.0 = a.checked (n + size op + size ew) t.1.1.0 y.0 z.0 z.1 in
-      (x.0, y.0, a.operand n t.0 B x.0 x.1, g (n + size op) t.1.0 x.0 y.0 y.1,
-      subst (λ (Z : NumberSet). Within D (behind_write Z c)) (sym q) (a.stored (n + size op + size ew + size cw) t.1.1.1 z.0 D z.2))
+      let q : y.0 ≡ z.0 = a.checked (n + size op + size ew) t.1.1.0 y.0 z.0 z.1 in (
+        x.0,
+        y.0,
+        a.operand n t.0 B x.0 x.1,
+        g (n + size op) t.1.0 x.0 y.0 y.1,
+        subst (λ (Z : NumberSet). Within D (behind_write Z c)) (sym q) (a.stored (n + size op + size ew + size cw) t.1.1.1 z.0 D z.2),
+      )
 
   changing : (op lw cw sw ew dw : Way (Site K)) (p : K.place) (o : Option Arithmetic) (c : Option (Target K)) (e : Exp K) → IsThere o → HasAim op lw cw sw c → Keeps ew e → Same dw → Keeps (row op (row lw (row ew (row dw sw)))) (compound_of p o c e)
   changing op lw cw sw ew dw p None c e i a g d n t B D h = absurd i
@@ -152,9 +156,14 @@ module _ {K : Keys} {A : Type 0} (X : Known K A) (r w : ℕ → ℕ → Bool) wh
       let l = a.loaded (n + size op) t.1.0 x.0 y.0 y.1 in
       let z = oks_row r w (n + size op + size lw) ew (row dw sw) y.0 D y.2 in
       let u = oks_row r w (n + size op + size lw + size ew) dw sw z.0 D z.2 in
-      let q : z.0 ≡ u.0 = d (n + size op + size lw + size ew) t.1.1.1.0 z.0 u.0 u.1 in
-      (y.0, z.0, subst (λ (Z : NumberSet). TargetAgrees c B Z) l.0 (a.operand n t.0 B x.0 x.1), subst (λ (Z : NumberSet). Readable Z c) l.0 l.1, g (n + size op + size lw) t.1.1.0 y.0 z.0 z.1,
-      subst (λ (Z : NumberSet). Within D (behind_write Z c)) (sym q) (a.stored (n + size op + size lw + size ew + size dw) t.1.1.1.1 u.0 D u.2))
+      let q : z.0 ≡ u.0 = d (n + size op + size lw + size ew) t.1.1.1.0 z.0 u.0 u.1 in (
+        y.0,
+        z.0,
+        subst (λ (Z : NumberSet). TargetAgrees c B Z) l.0 (a.operand n t.0 B x.0 x.1),
+        subst (λ (Z : NumberSet). Readable Z c) l.0 l.1,
+        g (n + size op + size lw) t.1.1.0 y.0 z.0 z.1,
+        subst (λ (Z : NumberSet). Within D (behind_write Z c)) (sym q) (a.stored (n + size op + size lw + size ew + size dw) t.1.1.1.1 u.0 D u.2),
+      )
 
   bumping : (op lw cw sw : Way (Site K)) (p : K.place) (o : Bump) (c : Option (Target K)) → HasAim op lw cw sw c → Keeps (row op (row lw sw)) (bump_at p o c)
   bumping op lw cw sw p o None a n t B D h = absurd a

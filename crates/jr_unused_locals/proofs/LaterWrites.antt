@@ -81,9 +81,9 @@ module _ {K : Keys} {A : Type 0} (X : Known K A) (R : Rows K) (old new : Code K)
     h.written_local,
     in_upto h.locals h.written_local h.is_local,
     subst (λ (Z : NumberSet). WritesBehind R S h.written_local Z b b' C) (sym e.0)
-    (subst (λ (z : Stmts K). WritesBehind R S h.written_local found.before z b' C) (sym e.1)
-    (subst (λ (z : Stmts K). WritesBehind R S h.written_local found.before old_list z C) (sym e.2)
-    (subst (λ (Z : NumberSet). WritesBehind R S h.written_local found.before old_list h.new_list Z) (sym e.3) list_writes))),
+        (subst (λ (z : Stmts K). WritesBehind R S h.written_local found.before z b' C) (sym e.1)
+        (subst (λ (z : Stmts K). WritesBehind R S h.written_local found.before old_list z C) (sym e.2)
+        (subst (λ (Z : NumberSet). WritesBehind R S h.written_local found.before old_list h.new_list Z) (sym e.3) list_writes))),
   )
 
   code_writes : CodeTo same_keys R (LaterWrite R) old new

@@ -44,10 +44,12 @@ module _ {K : Keys} {A : Type 0} (X : Known K A) (r w : ℕ → ℕ → Bool) wh
         let m : Way (Site K) = inside (enter_site X a) (stmts_way X s) (exit_site X a) in
         let x = oks_row r w n (exp_way X e) (row (lock_check X a e) m) B C h in
         let y = oks_row r w (n + size (exp_way X e)) (lock_check X a e) m x.0 C x.2 in
-        let q : x.0 ≡ y.0 = oks_check r w (n + size (exp_way X e)) (X.never_null e) (X.facts.first a) t.1.0 x.0 y.0 y.1 in
-        (y.0, subst (λ (Z : NumberSet). ExpAgrees (exp_code X.facts e) B Z) q (exp_keeps X r w e b.0 n t.0 B x.0 x.1),
-        stmts_keep s b.1 (suc (n + size (exp_way X e) + size (lock_check X a e))) t.1.1.2 y.0 C
-        (oks_inside r w (n + size (exp_way X e) + size (lock_check X a e)) (enter_site X a) (exit_site X a) (stmts_way X s) y.0 C y.2))
+        let q : x.0 ≡ y.0 = oks_check r w (n + size (exp_way X e)) (X.never_null e) (X.facts.first a) t.1.0 x.0 y.0 y.1 in (
+          y.0,
+          subst (λ (Z : NumberSet). ExpAgrees (exp_code X.facts e) B Z) q (exp_keeps X r w e b.0 n t.0 B x.0 x.1),
+          stmts_keep s b.1 (suc (n + size (exp_way X e) + size (lock_check X a e))) t.1.1.2 y.0 C
+              (oks_inside r w (n + size (exp_way X e) + size (lock_check X a e)) (enter_site X a) (exit_site X a) (stmts_way X s) y.0 C y.2),
+        )
     stmt_keeps (statement.empty a) b = λ n t B C h. oks_pass r w n B C h
 
     pub else_keeps : (o : statement.Else A) → ElseBinds X o → (n : ℕ) → Told r w n (else_way X o) → (B C : NumberSet) → Oks r w n (else_way X o) B C → StmtAgrees (else_code X.facts o) B C
