@@ -1,6 +1,6 @@
 -- What is never null by the trees of a member gives no null. Its derivation names some locals; these
 -- are the set for which the member's code is careful.
-use Rattle.std.proofs.Common.{◌≡◌, ◌⊎◌, ◌<◌, ℕ, Bool, true, false, ◌||◌, nat_eq, List, [], ◌∷◌, Option, Some, None, refl, sym, ap, subst, ◌∙◌, inl, inr, ⊎_elim}
+use Rattle.std.proofs.Common.{◌≡◌, ◌⊎◌, ℕ, Bool, true, false, ◌||◌, nat_eq, List, [], ◌∷◌, Option, Some, None, refl, sym, ap, subst, ◌∙◌, inl, inr, ⊎_elim}
 use Rattle.std.proofs.lemmas.Bool.{cases_eq, eq-eqb, ne_eqb}
 use Rattle.jr_ast.specs.Tree as tree
 use Rattle.jr_ast.specs.StatementTree as statement
@@ -10,13 +10,12 @@ use Rattle.jr_runs.specs.Values as values
 use Rattle.jr_cover.specs.Facts.{Facts}
 use Rattle.jr_runs.specs.Core as core
 use Rattle.jr_runs.specs.Core.{Exp, Target, Exps, Stmt, Stmts, Code}
-use Rattle.jr_cover.specs.Translation.{exp_code, exps_code, named_target, read_of, create_at, class_literal_at, mark_of_type}
+use Rattle.jr_cover.specs.Translation.{exp_code, exps_code, named_target, read_of, create_at, class_literal_at}
 use Rattle.jr_cover.specs.StatementTranslation.{stmt_code, else_code, stmts_code}
 use Rattle.jr_runs.specs.MemberTranslation.{is_synchronized, monitor, locked, in_front}
-use Rattle.jr_cover.specs.MemberTranslation.{is_static, Parent, parent_args}
+use Rattle.jr_cover.specs.MemberTranslation.{is_static, parent_args}
 use Rattle.jr_cover.specs.Ways.{Way, sites_of}
-use Rattle.jr_cover.specs.Sites.{What, writes, Site, Known, exp_way, exps_way}
-use Rattle.jr_cover.specs.Covering.{site_at}
+use Rattle.jr_cover.specs.Sites.{Site, Known, exp_way, exps_way}
 use Rattle.jr_cover.specs.Evaluated.{is_never_null}
 use Rattle.jr_cover.specs.NeverNull.{IsFree, CarefulExp, CarefulTarget, CarefulExps, CarefulStmt, CarefulStmts, NoParam}
 use Rattle.jr_cover.specs.NeverNullTrees.{NeverNull, this, create, string, class_literal, paren, local}

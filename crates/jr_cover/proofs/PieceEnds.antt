@@ -1,6 +1,6 @@
 -- A piece without calls and loops comes to its end. Its plan visits its sites in rising order, so it
 -- has at most as many actions as accesses stand ahead.
-use Rattle.std.proofs.Common.{◌≡◌, ◌≤◌, ◌<◌, ℕ, zero, suc, ◌+◌, ◌-◌, Bool, true, false, List, [], ◌∷◌, ◌++◌, Option, Some, None, refl, sym, ap, subst, ◌∙◌, inl, inr, ⊎_elim, arith, append-nil}
+use Rattle.std.proofs.Common.{◌≡◌, ◌≤◌, ◌<◌, ℕ, zero, suc, ◌-◌, Bool, true, false, List, [], ◌∷◌, Option, Some, None, refl, sym, ap, subst, ◌∙◌, ⊎_elim, arith, append-nil}
 use Rattle.jr_plans.specs.Plan.{Plan, done, act, ask, call}
 use Rattle.jr_plans.specs.Finite.{Finite}
 use Rattle.jr_plans.proofs.Finishing.{finite_within}
@@ -15,7 +15,7 @@ use Rattle.jr_runs.specs.Core.{Exp, Stmt}
 use Rattle.jr_runs.specs.Evaluation.{Flow, Call, exp, stmts}
 use Rattle.jr_cover.specs.Translation.{exp_code}
 use Rattle.jr_cover.specs.StatementTranslation.{stmts_code}
-use Rattle.jr_cover.specs.Ways.{Way, Edge, sites_of}
+use Rattle.jr_cover.specs.Ways.{Way, sites_of}
 use Rattle.jr_cover.specs.Visiting.{Leads, Visits}
 use Rattle.jr_cover.specs.Sites.{What, reads, writes, loads, stores, enters, exits, creates, checks, calls, loops, Site, at_place, Known, unless, exp_way, stmt_way, else_way, stmts_way}
 use Rattle.jr_cover.specs.Covering.{DoneAt, site_at}

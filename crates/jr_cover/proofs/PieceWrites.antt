@@ -1,5 +1,5 @@
 -- A piece leaves each local as it is of which it has no `Write` site.
-use Rattle.std.proofs.Common.{◌≡◌, ℕ, Bool, true, false, List, [], ◌∷◌, Some, refl}
+use Rattle.std.proofs.Common.{◌≡◌, ℕ, Bool, true, false, List, [], ◌∷◌, refl}
 use Rattle.jr_ast.specs.Tree as tree
 use Rattle.jr_ast.specs.StatementTree as statement
 use Rattle.jr_runs.specs.Keys.{Keys}
@@ -10,7 +10,6 @@ use Rattle.jr_cover.specs.StatementTranslation.{stmts_code}
 use Rattle.jr_runs.specs.Evaluation.{goes_on, local_at, exp, stmts}
 use Rattle.jr_cover.specs.Ways.{sites_of}
 use Rattle.jr_cover.specs.Sites.{What, reads, writes, loads, stores, enters, exits, creates, checks, calls, loops, Site, Known, exp_way, exps_way, stmts_way}
-use Rattle.jr_cover.specs.Covering.{site_at}
 use Rattle.jr_cover.specs.NeverNull.{IsFree, CarefulExp, CarefulTarget, CarefulExps}
 use Rattle.jr_cover.specs.Footprints.{WritesNone, ExpressionsWriteTheirLocals, StatementsWriteTheirLocals}
 use Rattle.jr_cover.proofs.Touching.{Any, NotOf, WrittenBy, AllWritten, Touches, TargetTouches, AllTouch, StmtTouches, StmtsTouch, Sees, ListSees, exp_by_sites, exps_by_sites, stmts_by_sites}

@@ -1,6 +1,6 @@
 -- A plain expression is silent: each construct of its code comes to a value if its parts do, and the
 -- sites that it hasn't leave no other construct.
-use Rattle.std.proofs.Common.{◌≡◌, ◌⊎◌, ℕ, zero, suc, ◌+◌, Bool, true, false, ◌||◌, not, List, [], ◌∷◌, ◌++◌, Option, Some, None, ℤ, pos, refl, sym, ap, subst, ◌∙◌, inl, inr, append-nil}
+use Rattle.std.proofs.Common.{◌≡◌, ℕ, zero, suc, ◌+◌, Bool, true, false, ◌||◌, not, List, [], ◌∷◌, Option, Some, None, ℤ, pos, refl, sym, ap, subst, ◌∙◌, inl, inr, append-nil}
 use Rattle.std.specs.Prelude.{int_div, int_rem}
 use Rattle.jr_plans.specs.Plan.{done}
 use Rattle.jr_ast.specs.declared.operators.BinOp.{BinOp}
@@ -17,11 +17,10 @@ use Rattle.jr_runs.specs.Evaluation.{Step, next, on_truth, local_at, with_locals
 use Rattle.jr_runs.specs.Translation.{bump_of, operation, arithmetic_of, sign_of}
 use Rattle.jr_cover.specs.Translation.{exp_code, target_code, named_target, field_target, read_of, assign_of, compound_of, bump_at, cast_at, class_literal_at, mark_of_type}
 use Rattle.jr_runs.specs.Standing.{In}
-use Rattle.jr_runs.specs.Held.{Silent}
 use Rattle.jr_cover.specs.Ways.{Way, pass, one, row, fork, leave, turns, inside, size, sites_of}
-use Rattle.jr_cover.specs.Sites.{What, reads, writes, loads, stores, enters, exits, creates, checks, calls, loops, Site, at_place, Known, unless, load_of, store_of, field_load, field_store, is_nonzero, mark_of, divides, divisor_check, operands, exp_way, target_store}
+use Rattle.jr_cover.specs.Sites.{What, reads, writes, loads, stores, enters, exits, creates, checks, calls, loops, Site, at_place, Known, unless, load_of, store_of, field_load, field_store, is_nonzero, mark_of, divides, operands, exp_way, target_store}
 use Rattle.jr_cover.specs.Covering.{site_at}
-use Rattle.jr_cover.specs.Plain.{IsRead, IsPlain, with_read, reads_of, DivisorFits, DivisorsFit, PlainExpressionsAreSilent}
+use Rattle.jr_cover.specs.Plain.{IsRead, with_read, reads_of, DivisorFits, DivisorsFit, PlainExpressionsAreSilent}
 use Rattle.jr_cover.proofs.Parts.{Stands}
 use Rattle.jr_cover.proofs.Cover.{stands_in}
 

@@ -1,7 +1,7 @@
 -- Without loops each edge leads to a higher number.
-use Rattle.std.proofs.Common.{◌≡◌, ◌⊎◌, ◌≤◌, ◌<◌, ℕ, suc, ◌+◌, inl, inr, ⊎_elim, arith}
+use Rattle.std.proofs.Common.{◌<◌, ℕ, suc, ◌+◌, ⊎_elim, arith}
 use Rattle.jr_cover.specs.Paths.{Path, edge, onward}
-use Rattle.jr_cover.specs.Ways.{Way, pass, one, row, fork, leave, turns, inside, size, Passes, LeavesAtOnce, First, Last, Leaves, Edge, Straight}
+use Rattle.jr_cover.specs.Ways.{Way, pass, one, row, fork, leave, turns, inside, size, Last, Leaves, Edge, Straight}
 use Rattle.jr_cover.proofs.WayLaws.{Within, first_within, last_within}
 
 abbrev pub Loopless : {S : Type 0} → Way S → Type 0

@@ -1,7 +1,7 @@
 -- Spots of small trees, as theorems by computation.
-use Rattle.std.proofs.Common.{◌≡◌, ℕ, ◌+◌, List, [], ◌∷◌, Option, Some, None, refl}
+use Rattle.std.proofs.Common.{◌≡◌, ℕ, ◌+◌, [], ◌∷◌, refl}
 use Rattle.jr_ast.specs.Tree as tree
-use Rattle.jr_cover.specs.Spots.{spot_exp, Spot}
+use Rattle.jr_cover.specs.Spots.{spot_exp}
 
 begins : ℕ → ℕ → ℕ
 begins m base = base + m

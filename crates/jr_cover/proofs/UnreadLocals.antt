@@ -2,7 +2,7 @@
 -- one lemma a construct, over both plans at once.
 use Rattle.std.proofs.Common.{◌≡◌, ℕ, Bool, true, false, List, [], ◌∷◌, Option, Some, None, unwrap_or, refl, sym, ap, subst, ◌∙◌, ⊎_elim}
 use Rattle.std.proofs.lemmas.Bool.{cases_eq}
-use Rattle.jr_plans.specs.Plan.{done, act, ask, call}
+use Rattle.jr_plans.specs.Plan.{done, act, call}
 use Rattle.jr_runs.specs.Keys.{Keys, At}
 use Rattle.jr_runs.specs.Values.{Value, int, truth, null, text, class_object, object}
 use Rattle.jr_runs.specs.Actions.{Location, part, shared, load, store, enter, exit, create, placed}

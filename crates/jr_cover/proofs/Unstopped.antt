@@ -1,17 +1,17 @@
 -- Code that calls nothing and has no loop: nothing stops its plan, as each question has an answer
 -- that fits.
-use Rattle.std.proofs.Common.{◌≡◌, ℕ, Bool, true, false, List, [], ◌∷◌, Option, Some, None, IsTrue, pos, refl}
+use Rattle.std.proofs.Common.{true, false, List, Some, IsTrue, pos, refl}
 use Rattle.jr_plans.specs.Plan.{Plan, done, act, ask, call, and_then}
 use Rattle.jr_runs.specs.Keys.{Keys, At}
 use Rattle.jr_runs.specs.Values.{Value, int, truth, null, text, class_object, object, Ty, int_type, boolean_type, reference}
-use Rattle.jr_runs.specs.Actions.{Location, part, shared, enter, exit, Event, placed}
+use Rattle.jr_runs.specs.Actions.{Location, part, shared, enter, exit, placed}
 use Rattle.jr_runs.specs.Rows.{Rows}
 use Rattle.jr_runs.specs.Fitting.{fits, is_instance}
 use Rattle.jr_runs.specs.Arithmetic.{Out, value, thrown, calculate, number_of, operate, sign, bumped, bump_value}
 use Rattle.jr_runs.specs.Core as core
 use Rattle.jr_runs.specs.Core.{Exp, Target, Exps, Stmt, Stmts}
-use Rattle.jr_runs.specs.Evaluation.{Flow, goes_on, returns, Call, Step, on_value, next, non_null, on_truth, on_flow, leaving, Slot, in_local, in_static, in_object, load_field, store_field, load_from, store_to, with_local, with_locals, unset, cast_value, exp, target, exps, stmt, stmts}
-use Rattle.jr_cover.proofs.Touching.{Any, Touches, TargetTouches, AllTouch, StmtTouches, StmtsTouch}
+use Rattle.jr_runs.specs.Evaluation.{Flow, goes_on, returns, Step, on_value, next, non_null, on_truth, on_flow, leaving, Slot, in_local, in_static, in_object, load_field, store_field, load_from, store_to, with_local, with_locals, unset, cast_value, exp, target, stmt, stmts}
+use Rattle.jr_cover.proofs.Touching.{Any, Touches, TargetTouches, StmtTouches, StmtsTouch}
 
 -- it calls nothing, and for each question some answer fits
 abbrev pub Unstopped : {V E S R A : Type 0} → Plan V E S R A → Type 0

@@ -1,15 +1,20 @@
 -- Small pieces and members: what they read, how many actions they have, and what is known of the
 -- locals of `void m(A p) { A a = this; A b = p; b = p; }`, whose parameter is local 0.
-use Rattle.std.proofs.Common.{◌≡◌, ◌⊎◌, ◌<◌, ℕ, zero, suc, Bool, true, false, List, [], ◌∷◌, Option, Some, None, nat_eq, refl, sym, ap, subst, ◌∙◌, inl, inr, ⊎_elim, arith}
+use Rattle.std.proofs.Common.{◌≡◌, ◌<◌, ℕ, zero, suc, Bool, true, false, [], ◌∷◌, Option, Some, None, nat_eq, refl, sym, ap, subst, ◌∙◌, inl, inr, ⊎_elim, arith}
 use Rattle.jr_ast.specs.Tree as tree
 use Rattle.jr_ast.specs.StatementTree as statement
-use Rattle.jr_cover.specs.Ways.{Way, sites_of}
-use Rattle.jr_cover.specs.Sites.{What, reads, writes, stores, enters, exits, calls, Site, exp_way, stmt_way}
+use Rattle.jr_cover.specs.Ways.{sites_of}
+use Rattle.jr_cover.specs.Sites.{What, reads, writes, calls, Site, exp_way, stmt_way}
 use Rattle.jr_cover.specs.Covering.{site_at}
 use Rattle.jr_cover.specs.Unread.{ReadsNone}
 use Rattle.jr_cover.specs.Finishing.{NoCallNoLoop, accesses}
+<<<<<<< HEAD:crates/jr_cover_cases/proofs/PieceCases.antt
 use Rattle.jr_cover.specs.NeverNullMembers.{WrittenIn, IsBound, LocalsAre}
 use Rattle.jr_cover_cases.specs.Samples.{K, X, word, name, class_type, at}
+=======
+use Rattle.jr_cover.specs.NeverNullMembers.{IsBound, LocalsAre}
+use Rattle.jr_cover.proofs.SiteCases.{K, X, word, name, class_type, at}
+>>>>>>> c045056c99288c0e1fc86dd8bf5790b7f0141863:crates/jr_cover/proofs/PieceCases.antt
 
 none_some : {S B : Type 0} (s : S) → None ≡ Some s → B
 none_some s e = absurd (apart s e)

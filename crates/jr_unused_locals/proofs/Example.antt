@@ -159,8 +159,11 @@ never_two : ComesIn 2 → ⊥
 never_two (reads_here j e) = no_truth e
 never_two (onward j k w e c) = no_falsehood w
 
+abbrev pair : ℕ → ℕ → ℕ × ℕ
+pair i j = (i, j)
+
 -- load of f 0, write 1, write 2, read 3
-from_edges : (i j : ℕ) → i < 2 → In (i, j) ((0, 1) ∷ (2, 3) ∷ (1, 2) ∷ []) → ComesIn j → ⊥
+from_edges : (i j : ℕ) → i < 2 → In (pair i j) (pair 0 1 ∷ pair 2 3 ∷ pair 1 2 ∷ []) → ComesIn j → ⊥
 from_edges i j h (inl e) c = never_one (subst (λ n. ComesIn n) (ap (λ (p : ℕ × ℕ). p.1) e) c)
 from_edges i j h (inr (inl e)) c = let k : i ≡ 2 = ap (λ (p : ℕ × ℕ). p.0) e in omega (arith, k, h)
 from_edges i j h (inr (inr (inl e))) c = never_two (subst (λ n. ComesIn n) (ap (λ (p : ℕ × ℕ). p.1) e) c)
