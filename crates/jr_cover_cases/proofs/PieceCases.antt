@@ -8,13 +8,8 @@ use Rattle.jr_cover.specs.Sites.{What, reads, writes, calls, Site, exp_way, stmt
 use Rattle.jr_cover.specs.Covering.{site_at}
 use Rattle.jr_cover.specs.Unread.{ReadsNone}
 use Rattle.jr_cover.specs.Finishing.{NoCallNoLoop, accesses}
-<<<<<<< HEAD:crates/jr_cover_cases/proofs/PieceCases.antt
-use Rattle.jr_cover.specs.NeverNullMembers.{WrittenIn, IsBound, LocalsAre}
-use Rattle.jr_cover_cases.specs.Samples.{K, X, word, name, class_type, at}
-=======
 use Rattle.jr_cover.specs.NeverNullMembers.{IsBound, LocalsAre}
-use Rattle.jr_cover.proofs.SiteCases.{K, X, word, name, class_type, at}
->>>>>>> c045056c99288c0e1fc86dd8bf5790b7f0141863:crates/jr_cover/proofs/PieceCases.antt
+use Rattle.jr_cover_cases.specs.Samples.{K, X, word, name, class_type, at}
 
 none_some : {S B : Type 0} (s : S) → None ≡ Some s → B
 none_some s e = absurd (apart s e)
