@@ -105,28 +105,36 @@ def product(a, b):
 
 
 def edges(n, w):
+    return edges_around(n, w, None)
+
+
+def edges_around(n, w, piece):
+    """The edges of a way but for those within a part of it."""
+    if w is piece:
+        return set()
     if w[0] == "row":
         behind = n + size(w[1])
         joined = product(lasts(n, w[1]), firsts(behind, w[2]))
-        return edges(n, w[1]) | edges(behind, w[2]) | joined
+        return edges_around(n, w[1], piece) | edges_around(behind, w[2], piece) | joined
     if w[0] == "fork":
-        return edges(n, w[1]) | edges(n + size(w[1]), w[2])
+        return edges_around(n, w[1], piece) | edges_around(n + size(w[1]), w[2], piece)
     if w[0] == "turns":
-        return edges_of_loop(n, w)
+        return edges_of_loop(n, w, piece)
     if w[0] == "inside":
         exited = {n + 1 + size(w[2])}
-        found = edges(n + 1, w[2]) | product({n}, firsts(n + 1, w[2]))
+        found = edges_around(n + 1, w[2], piece) | product({n}, firsts(n + 1, w[2]))
         found |= product(lasts(n + 1, w[2]) | leaves(n + 1, w[2]), exited)
         at_once = passes(w[2]) or leaves_at_once(w[2])
         return found | (product({n}, exited) if at_once else set())
     return set()
 
 
-def edges_of_loop(n, w):
+def edges_of_loop(n, w, piece):
     _, _, condition, body = w
     m = n + 1 + size(condition)
     again = firsts(n + 1, condition) if size(condition) else {n}
-    found = edges(n + 1, condition) | edges(m, body) | product({n}, firsts(n + 1, condition))
+    found = edges_around(n + 1, condition, piece) | edges_around(m, body, piece)
+    found |= product({n}, firsts(n + 1, condition))
     found |= product(lasts(n, w), firsts(m, body)) | product(lasts(m, body), again)
     return found | (product(lasts(n, w), again) if passes(body) else set())
 

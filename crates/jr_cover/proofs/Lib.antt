@@ -6,11 +6,9 @@
 -- null. `Touching`: which locals code reads and writes, and whether it calls and loops, by its
 -- sites; from it `PieceWrites`, `NeverNullMembers`, `SideBySide` and `UnreadLocals` (two plans that
 -- do the same), `PieceReads`, and `Rising`, `Unstopped`, `PieceEnds` (a plan that visits its sites
--- in rising order ends). `PlainSilent`: plain expressions. `Agreeing`: what is not used.
--- `SpotPaths`: spots have their paths. Crates above cite `FlowLaws: flow_is` (the lists of `Flows`
--- have what the relations of `Ways` say) and `Unique: one_site` (an action is done at one site
--- alone). `Example`: the premises can be met. The files named `..Cases` have one theorem for each
--- sentence of the rules on sites and edges, and on pieces.
+-- in rising order ends). `PlainSilent`: plain expressions. `SpotPaths`: spots have their paths.
+-- Crates above cite `FlowLaws: flow_is` (the lists of `Flows` have what the relations of `Ways` say)
+-- and `Unique: one_site` (an action is done at one site alone). `Example`: the premises can be met.
 pub mod WayLaws
 pub mod Visits
 pub mod Parts
@@ -34,16 +32,11 @@ pub mod Unstopped
 pub mod PieceEnds
 pub mod NeverNullMembers
 pub mod PlainSilent
-mod NeverNullCases
 mod Example
 pub mod Unique
 pub mod FlowLaws
-pub mod Agreeing
 pub mod PieceActs
 pub mod PiecesCross
-pub mod SiteCases
-mod EdgeCases
 pub mod SpotPaths
 mod SpotCases
 mod TranslationCases
-mod PieceCases

@@ -15,7 +15,6 @@ pub mod NeverNull
 pub mod Crossing
 pub mod NeverNullTrees
 pub mod Flows
-pub mod Agreement
 pub mod Footprints
 pub mod Unread
 pub mod Finishing

@@ -1,15 +1,17 @@
 -- A program that has a member, and the law of its actions.
-use Rattle.std.specs.Prelude.{◌≡◌, ℕ, Bool, List, Option, Some, None, IsTrue}
+use Rattle.std.specs.Prelude.{◌≡◌, ℕ, Bool, true, false, List, Option, Some, None, IsTrue}
 use Rattle.jr_ast.specs.Tree as tree
 use Rattle.jr_ast.specs.Tree.{Word}
 use Rattle.jr_ast.specs.StatementTree as statement
-use Rattle.jr_ast.specs.MemberTree.{Modifier, Param}
+use Rattle.jr_ast.specs.MemberTree as member
+use Rattle.jr_ast.specs.MemberTree.{Modifier, Param, Member}
 use Rattle.jr_runs.specs.Keys.{Keys, keys_of}
 use Rattle.jr_runs.specs.Values.{Value}
 use Rattle.jr_runs.specs.Core as core
 use Rattle.jr_runs.specs.Core.{Exp, Stmt, Stmts, Code, Method, written, starts, Program}
 use Rattle.jr_runs.specs.MemberTranslation.{in_front}
 use Rattle.jr_cover.specs.MemberTranslation.{
+  is_static,
   method_code,
   initializer_code,
   Parent,
@@ -46,6 +48,26 @@ constructor_way X p args body =
 abbrev pub initializer_way : {K : Keys} {A : Type 0} → Known K A → K.field → Word A → tree.Exp A
     → Way (Site K)
 initializer_way X f name e = row (exp_way X e) (at_place (X.facts.first name.mark) (What.stores f))
+
+-- A field: the sites of its initializer, and of an instance field's the store behind them. Without an
+-- initializer there is no site.
+abbrev pub field_way : {K : Keys} {A : Type 0} → Known K A → (is_shared : Bool) → K.field → Word A
+    → Option (tree.Exp A) → Way (Site K)
+field_way X is_shared f name None = pass
+field_way X true f name (Some e) = exp_way X e
+field_way X false f name (Some e) = initializer_way X f name e
+
+-- Any member, by its mark: the key of a field, and where a constructor's `super(..)` stands. A member
+-- class has members of its own.
+abbrev pub member_way : {K : Keys} {A : Type 0} → Known K A → (field : A → K.field)
+    → (called : A → K.place) → Member A → Way (Site K)
+member_way X field called (member.field a modifiers t name init) =
+    field_way X (is_static modifiers) (field a) name init
+member_way X field called (member.method a modifiers result name params body) =
+    method_way X a modifiers name body
+member_way X field called (member.constructor a modifiers name params args body) =
+    constructor_way X (called a) args body
+member_way X field called (member.inner a c) = pass
 
 -- what a method or constructor has to do with the member: its code is the member's, or holds it as
 -- a field's initializer, or stands outside

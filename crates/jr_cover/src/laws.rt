@@ -1,6 +1,5 @@
 //! The laws, each the contract of a function that does nothing. `C`, `F`, `M` and `N` are keys of
 //! classes, fields, methods and constructors, `L` places, `A` marks.
-ghost use Rattle.jr_cover.specs.Agreement.{WhatIsNotUsedMayDiffer};
 ghost use Rattle.jr_cover.specs.Footprints.{
   CrossingPiecesAreFree,
   ExpressionsActAtTheirSites,
@@ -44,11 +43,6 @@ pub fn never_null_is_not_null<C, F, M, N, L>()
 pub fn never_null_gives_no_null<C, F, M, N, L, A>()
     ensures members { NeverNullGivesNoNull C F M N L A }
     ensures initializers { NeverNullInitializersGiveNoNull C F M N L A }
-{}
-
-/// Where no read of a local is reached from a piece before a write, the local may differ behind it.
-pub fn what_is_not_used_may_differ<S>()
-    ensures { WhatIsNotUsedMayDiffer S }
 {}
 
 /// In each run of a piece's code, each action of the piece's own activation is done at one of its

@@ -18,14 +18,14 @@
 //! `plain_expressions_are_silent` (`Plain`).
 //! `never_null_is_not_null`, `never_null_gives_no_null` (`Evaluated`, `NeverNull`,
 //! `NeverNullMembers`): of code that is well typed; that code of sound programs is well typed is no
-//! law yet. `what_is_not_used_may_differ` (`Agreement`): from paths to sets of locals that agree.
+//! law yet.
 //!
 //! A member's code is its tree's translation by marks (`Facts`, `Translation`,
 //! `StatementTranslation`, `MemberTranslation`): a record of this layer of what binding says, for
 //! whoever has a relation of trees and code. `Spots` gives each node its first and last byte and
 //! its path for a mark (`spots_have_their_paths`), so that facts by bytes and by
-//! paths are facts by marks. The cases of one sentence each stand in `proofs/SiteCases`,
-//! `EdgeCases` and `NeverNullCases`.
+//! paths are facts by marks. `jr_cover_cases` has a case for each sentence of the rules, and
+//! `jr_unused_locals` what comes of paths for locals that aren't used.
 #![tactic(auto)]
 
 mod laws;
@@ -34,5 +34,5 @@ pub use laws::{
     actions_are_covered, actions_follow_edges, crossing_pieces_are_free, never_null_gives_no_null,
     never_null_is_not_null, pieces_act_at_their_sites, pieces_come_to_their_end,
     pieces_read_their_locals, pieces_write_their_locals, plain_expressions_are_silent,
-    spots_have_their_paths, what_is_not_used_may_differ,
+    spots_have_their_paths,
 };

@@ -2,7 +2,7 @@
 use Rattle.std.proofs.Common.{◌≡◌, ◌⊎◌, ◌<◌, ℕ, zero, suc, ◌+◌, Bool, true, false, ◌||◌, ◌&&◌, refl, inl, inr, ⊎_elim, arith}
 use Rattle.std.proofs.lemmas.Bool.{cases_eq}
 use Rattle.jr_cover.specs.Ways.{Way, pass, one, row, fork, leave, turns, inside, size, Passes, First, Ends, Last, Edge, Again}
-use Rattle.jr_cover.specs.Agreement.{Within, Stands, here, in_first, in_second, in_left, in_right, in_condition, in_body, in_monitor, Round, Ok, ok_pass, ok_one, ok_row, ok_fork, ok_leave, ok_turns, ok_inside, Quiet, OkAround, ok_piece, around_first, around_second, around_left, around_right, around_condition, around_body, around_monitor, Comes, reads_here, onward, InPiece, Used, Stays, WhatIsNotUsedMayDiffer}
+use Rattle.jr_unused_locals.specs.Agreement.{Within, Stands, here, in_first, in_second, in_left, in_right, in_condition, in_body, in_monitor, Round, Ok, ok_pass, ok_one, ok_row, ok_fork, ok_leave, ok_turns, ok_inside, Quiet, OkAround, Comes, reads_here, onward, InPiece, Used, Stays, UnusedLocalsMayDiffer}
 
 no_truth : {A : Type 0} → false ≡ true → A
 no_truth e = absurd (no e)
@@ -241,8 +241,8 @@ module _ {S : Type 0} (reads writes : ℕ → Bool) (m : Way S) (a : ℕ) (p : W
     abbrev ReadyHere : ℕ → Type 0
     ReadyHere i = InPiece a p i ⊎ Ready i
 
-    abbrev Around : ℕ → Way S → Bool → Type 0
-    Around n w A = (B : Bool) × OkAround reads writes a p n w A B × (B ≡ false → ((i : ℕ) × Last n w i × ReadyHere i) ⊎ (Passes w × (A ≡ false)))
+    abbrev Around : (n : ℕ) (w : Way S) → Stands a p n w → Bool → Type 0
+    Around n w t A = (B : Bool) × OkAround reads writes a p n w t A B × (B ≡ false → ((i : ℕ) × Last n w i × ReadyHere i) ⊎ (Passes w × (A ≡ false)))
 
     leads : (i j : ℕ) → ReadyHere i → Round a p 0 m s i j → Edge 0 m i j → Bad j
     leads i j (inl h) r e = from_piece i j h r
@@ -270,15 +270,15 @@ module _ {S : Type 0} (reads writes : ℕ → Bool) (m : Way S) (a : ℕ) (p : W
       some_last : (n : ℕ) → (i : ℕ) × Last n p i
       some_last n = last_exists p stays sized n
 
-      around : (n : ℕ) (w : Way S) (t : Stands a p n w) (A : Bool) → Quiet reads writes n w → ((i j : ℕ) → Edge n w i j → Edge 0 m i j) → ((i j : ℕ) → Round a p n w t i j → Round a p 0 m s i j) → (A ≡ false → (j : ℕ) → First n w j → Bad j) → Around n w A
-      around n w here A q e r h = let u = kept p a A q e h in (false, ok_piece A u.0 u.1, λ d. let l = some_last a in inl (l.0, l.1, inl (last_in p a l.0 l.1)))
+      around : (n : ℕ) (w : Way S) (t : Stands a p n w) (A : Bool) → Quiet reads writes n w → ((i j : ℕ) → Edge n w i j → Edge 0 m i j) → ((i j : ℕ) → Round a p n w t i j → Round a p 0 m s i j) → (A ≡ false → (j : ℕ) → First n w j → Bad j) → Around n w t A
+      around n w here A q e r h = let u = kept p a A q e h in (false, (u.0, u.1, refl), λ d. let l = some_last a in inl (l.0, l.1, inl (last_in p a l.0 l.1)))
       around n w (in_first k x y t) A q e r h =
           let u = around n x t A q.0 (λ i j d. e i j (inl d)) (λ i j d. r i j (inl d)) (λ d j f. h d j (inl f)) in
           let v = kept y (n + size x) u.0 q.1 (λ i j d. e i j (inr (inl d))) (λ d j f. ⊎_elim
           (λ (l : (i : ℕ) × Last n x i × ReadyHere i). leads l.0 j l.2 (r l.0 j (inr (inr (l.1, f)))) (e l.0 j (inr (inr (l.1, f)))))
           (λ (l : Passes x × (A ≡ false)). h l.1 j (inr (l.0, f))) (u.2 d)) in (
             v.0,
-            around_first n A u.0 v.0 x y u.1 v.1,
+            (u.0, u.1, v.1),
             λ d. ⊎_elim
                 (λ (l : (i : ℕ) × Last (n + size x) y i × Ready i). inl (l.0, inl l.1, inr l.2))
                 (λ (l : Passes y × (u.0 ≡ false)). ⊎_elim
@@ -291,7 +291,7 @@ module _ {S : Type 0} (reads writes : ℕ → Bool) (m : Way S) (a : ℕ) (p : W
           (λ (l : (i : ℕ) × Last n x i × Ready i). goes_on l.0 j l.2.0 l.2.1 (e l.0 j (inr (inr (l.1, f)))))
           (λ (l : Passes x × (A ≡ false)). h l.1 j (inr (l.0, f))) (u.2 d)) in (
             v.0,
-            around_second n A u.0 v.0 x y u.1 v.1,
+            (u.0, u.1, v.1),
             λ d. ⊎_elim
                 (λ (l : (i : ℕ) × Last (n + size x) y i × ReadyHere i). inl (l.0, inl l.1, l.2))
                 (λ (l : Passes y × (u.0 ≡ false)). ⊎_elim
@@ -302,7 +302,7 @@ module _ {S : Type 0} (reads writes : ℕ → Bool) (m : Way S) (a : ℕ) (p : W
           let u = around n x t A q.0 (λ i j d. e i j (inl d)) (λ i j d. r i j (inl d)) (λ d j f. h d j (inl f)) in
           let v = kept y (n + size x) A q.1 (λ i j d. e i j (inr d)) (λ d j f. h d j (inr f)) in (
             u.0 && v.0,
-            around_left n A u.0 v.0 (u.0 && v.0) x y u.1 v.1 (and_left u.0 v.0) (and_right u.0 v.0),
+            (u.0, v.0, u.1, v.1, and_left u.0 v.0, and_right u.0 v.0),
             λ d. ⊎_elim
                 (λ (k : u.0 ≡ false). ⊎_elim (λ (l : (i : ℕ) × Last n x i × ReadyHere i). inl (l.0, inl l.1, l.2)) (λ (l : Passes x × (A ≡ false)). inr (inl l.0, l.1)) (u.2 k))
                 (λ (k : v.0 ≡ false). ⊎_elim (λ (l : (i : ℕ) × Last (n + size x) y i × Ready i). inl (l.0, inr l.1, inr l.2)) (λ (l : Passes y × (A ≡ false)). inr (inr l.0, l.1)) (v.2 k))
@@ -312,33 +312,39 @@ module _ {S : Type 0} (reads writes : ℕ → Bool) (m : Way S) (a : ℕ) (p : W
           let u = kept x n A q.0 (λ i j d. e i j (inl d)) (λ d j f. h d j (inl f)) in
           let v = around (n + size x) y t A q.1 (λ i j d. e i j (inr d)) (λ i j d. r i j (inr d)) (λ d j f. h d j (inr f)) in (
             u.0 && v.0,
-            around_right n A u.0 v.0 (u.0 && v.0) x y u.1 v.1 (and_left u.0 v.0) (and_right u.0 v.0),
+            (u.0, v.0, u.1, v.1, and_left u.0 v.0, and_right u.0 v.0),
             λ d. ⊎_elim
                 (λ (k : u.0 ≡ false). ⊎_elim (λ (l : (i : ℕ) × Last n x i × Ready i). inl (l.0, inl l.1, inr l.2)) (λ (l : Passes x × (A ≡ false)). inr (inl l.0, l.1)) (u.2 k))
                 (λ (k : v.0 ≡ false). ⊎_elim (λ (l : (i : ℕ) × Last (n + size x) y i × ReadyHere i). inl (l.0, inr l.1, l.2)) (λ (l : Passes y × (A ≡ false)). inr (inr l.0, l.1)) (v.2 k))
                 (and_false u.0 v.0 d),
           )
       around n w (in_condition k z c b t) A q e r h =
-          let l = looped n z c b Bad ReadyHere (λ i j x d. leads i j x (r i j (inr (inr d))) (e i j (inr (inr d)))) (λ d. inr (d, q.0)) (λ H B. OkAround reads writes a p (suc n) c H B) (λ H B. Ok reads writes (suc n + size c) b H B)
+          let l = looped n z c b Bad ReadyHere (λ i j x d. leads i j x (r i j (inr (inr d))) (e i j (inr (inr d)))) (λ d. inr (d, q.0)) (λ H B. OkAround reads writes a p (suc n) c t H B) (λ H B. Ok reads writes (suc n + size c) b H B)
           (λ H d. around (suc n) c t H q.1 (λ i j f. e i j (inl f)) (λ i j f. r i j (inl f)) d)
           (λ H d. let u = kept b (suc n + size c) H q.2 (λ i j f. e i j (inr (inl f))) d in (u.0, u.1, λ f. ⊎_elim (λ (x : (i : ℕ) × Last (suc n + size c) b i × Ready i). inl (x.0, x.1, inr x.2)) (λ x. inr x) (u.2 f))) A (λ d. h d n refl) in
-          (l.1, around_condition n A l.0 l.1 l.2 z c b l.3 l.4 l.5 l.6, λ d. inl (l.7 d))
+          (l.1, (l.0, l.2, l.3, l.4, l.5, l.6), λ d. inl (l.7 d))
       around n w (in_body k z c b t) A q e r h =
-          let l = looped n z c b Bad ReadyHere (λ i j x d. leads i j x (r i j (inr (inr d))) (e i j (inr (inr d)))) (λ d. inr (d, q.0)) (λ H B. Ok reads writes (suc n) c H B) (λ H B. OkAround reads writes a p (suc n + size c) b H B)
+          let l = looped n z c b Bad ReadyHere (λ i j x d. leads i j x (r i j (inr (inr d))) (e i j (inr (inr d)))) (λ d. inr (d, q.0)) (λ H B. Ok reads writes (suc n) c H B) (λ H B. OkAround reads writes a p (suc n + size c) b t H B)
           (λ H d. let u = kept c (suc n) H q.1 (λ i j f. e i j (inl f)) d in (u.0, u.1, λ f. ⊎_elim (λ (x : (i : ℕ) × Last (suc n) c i × Ready i). inl (x.0, x.1, inr x.2)) (λ x. inr x) (u.2 f)))
           (λ H d. around (suc n + size c) b t H q.2 (λ i j f. e i j (inr (inl f))) (λ i j f. r i j (inr (inl f))) d) A (λ d. h d n refl) in
-          (l.1, around_body n A l.0 l.1 l.2 z c b l.3 l.4 l.5 l.6, λ d. inl (l.7 d))
+          (l.1, (l.0, l.2, l.3, l.4, l.5, l.6), λ d. inl (l.7 d))
       around n w (in_monitor k y x b t) A q e r h =
           let u = around (suc n) b t A q.2 (λ i j d. e i j (inl d)) (λ i j d. r i j (inl d)) (λ d j f. goes_on n j (h d n refl) q.0 (e n j (inr (inl (refl, f))))) in
           let out : ℕ = suc n + size b in (
             u.0,
-            around_monitor n A u.0 y x b u.1,
+            u.1,
             λ d. ⊎_elim
                 (λ (l : (i : ℕ) × Last (suc n) b i × ReadyHere i). inl (out, (refl, inr (l.0, l.1)), inr (leads l.0 out l.2 (r l.0 out (inr (inr (inl (l.1, refl))))) (e l.0 out (inr (inr (inl (l.1, refl))))), q.1)))
                 (λ (l : Passes b × (A ≡ false)). inl (out, (refl, inl l.0), inr (goes_on n out (h l.1 n refl) q.0 (e n out (inr (inr (inr (inr (inl l.0, refl, refl)))))), q.1))) (u.2 d),
           )
 
-pub what_is_not_used_may_differ : {S : Type 0} → WhatIsNotUsedMayDiffer S
-what_is_not_used_may_differ reads writes m a p s quiet stays sized unused =
-    let u = around reads writes m a p s unused stays sized 0 m s true quiet (λ i j d. d) (λ i j d. d) (λ d. no_falsehood d) in
+-- of a part of the member that holds the piece, if the local agrees where the part begins
+pub unused_in_part : {S : Type 0} (reads writes : ℕ → Bool) (m : Way S) (a : ℕ) (p : Way S) (s : Stands a p 0 m) → Stays p → 0 < size p → (Used reads writes m a p s → ⊥) → (n : ℕ) (w : Way S) (t : Stands a p n w) → Quiet reads writes n w
+    → ((i j : ℕ) → Edge n w i j → Edge 0 m i j) → ((i j : ℕ) → Round a p n w t i j → Round a p 0 m s i j) → (B : Bool) × OkAround reads writes a p n w t true B
+unused_in_part reads writes m a p s stays sized unused n w t quiet e r =
+    let u = around reads writes m a p s unused stays sized n w t true quiet e r (λ d. no_falsehood d) in
     (u.0, u.1)
+
+pub unused_locals_may_differ : {S : Type 0} → UnusedLocalsMayDiffer S
+unused_locals_may_differ reads writes m a p s quiet stays sized unused =
+    unused_in_part reads writes m a p s stays sized unused 0 m s quiet (λ i j d. d) (λ i j d. d)

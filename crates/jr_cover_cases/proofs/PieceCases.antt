@@ -9,7 +9,7 @@ use Rattle.jr_cover.specs.Covering.{site_at}
 use Rattle.jr_cover.specs.Unread.{ReadsNone}
 use Rattle.jr_cover.specs.Finishing.{NoCallNoLoop, accesses}
 use Rattle.jr_cover.specs.NeverNullMembers.{IsBound, LocalsAre}
-use Rattle.jr_cover.proofs.SiteCases.{K, X, word, name, class_type, at}
+use Rattle.jr_cover_cases.specs.Samples.{K, X, word, name, class_type, at}
 
 none_some : {S B : Type 0} (s : S) → None ≡ Some s → B
 none_some s e = absurd (apart s e)

@@ -97,24 +97,23 @@ module _ {S : Type 0} (reads writes : ℕ → Bool) where
   Quiet n (inside e b x) = (writes n ≡ false) × (writes (suc n + size b) ≡ false) × Quiet (suc n) b
 
   module _ (a : ℕ) (p : Way S) where
-    -- the same with the piece cut out: behind it the local doesn't agree, whatever it did in front
-    pub data OkAround : ℕ → Way S → Bool → Bool → Type 0 where
-      ok_piece : (A B : Bool) → Ok a p A B → OkAround a p A false
-      around_first : (n : ℕ) (A B C : Bool) (x y : Way S) → OkAround n x A B
-          → Ok (n + size x) y B C → OkAround n (row x y) A C
-      around_second : (n : ℕ) (A B C : Bool) (x y : Way S) → Ok n x A B
-          → OkAround (n + size x) y B C → OkAround n (row x y) A C
-      around_left : (n : ℕ) (A B C D : Bool) (x y : Way S) → OkAround n x A B
-          → Ok (n + size x) y A C → Within D B → Within D C → OkAround n (fork x y) A D
-      around_right : (n : ℕ) (A B C D : Bool) (x y : Way S) → Ok n x A B
-          → OkAround (n + size x) y A C → Within D B → Within D C → OkAround n (fork x y) A D
-      around_condition : (n : ℕ) (A H B C : Bool) (s : S) (c b : Way S) → Within H A
-          → OkAround (suc n) c H B → Ok (suc n + size c) b B C → Within H C
-          → OkAround n (turns s c b) A B
-      around_body : (n : ℕ) (A H B C : Bool) (s : S) (c b : Way S) → Within H A → Ok (suc n) c H B
-          → OkAround (suc n + size c) b B C → Within H C → OkAround n (turns s c b) A B
-      around_monitor : (n : ℕ) (A B : Bool) (e x : S) (b : Way S) → OkAround (suc n) b A B
-          → OkAround n (inside e b x) A B
+    -- The same with the piece cut out where it stands: behind it the local doesn't agree, whatever
+    -- it did in front.
+    abbrev pub OkAround : (n : ℕ) (w : Way S) → Stands a p n w → (A B : Bool) → Type 0
+    OkAround n w here A C = (B : Bool) × Ok a p A B × (C ≡ false)
+    OkAround n w (in_first m x y s) A C =
+        (B : Bool) × OkAround n x s A B × Ok (n + size x) y B C
+    OkAround n w (in_second m x y s) A C =
+        (B : Bool) × Ok n x A B × OkAround (n + size x) y s B C
+    OkAround n w (in_left m x y s) A D = (B C : Bool) × OkAround n x s A B
+        × Ok (n + size x) y A C × Within D B × Within D C
+    OkAround n w (in_right m x y s) A D = (B C : Bool) × Ok n x A B
+        × OkAround (n + size x) y s A C × Within D B × Within D C
+    OkAround n w (in_condition m z c b s) A B = (H C : Bool) × Within H A
+        × OkAround (suc n) c s H B × Ok (suc n + size c) b B C × Within H C
+    OkAround n w (in_body m z c b s) A B = (H C : Bool) × Within H A × Ok (suc n) c H B
+        × OkAround (suc n + size c) b s B C × Within H C
+    OkAround n w (in_monitor m e x b s) A B = OkAround (suc n) b s A B
 
   -- a way round the piece leads from it to a read
   pub record Used (m : Way S) (a : ℕ) (p : Way S) (s : Stands a p 0 m) : Type 0 where
@@ -135,7 +134,7 @@ Stays (turns s c b) = Stays c × Stays b
 Stays (inside e b x) = Stays b
 
 -- a piece with sites, without returns
-abbrev pub WhatIsNotUsedMayDiffer : (S : Type 0) → Type 0
-WhatIsNotUsedMayDiffer S = (reads writes : ℕ → Bool) (m : Way S) (a : ℕ) (p : Way S)
+abbrev pub UnusedLocalsMayDiffer : (S : Type 0) → Type 0
+UnusedLocalsMayDiffer S = (reads writes : ℕ → Bool) (m : Way S) (a : ℕ) (p : Way S)
     (s : Stands a p 0 m) → Quiet reads writes 0 m → Stays p → 0 < size p
-    → (Used reads writes m a p s → ⊥) → (B : Bool) × OkAround reads writes a p 0 m true B
+    → (Used reads writes m a p s → ⊥) → (B : Bool) × OkAround reads writes a p 0 m s true B
