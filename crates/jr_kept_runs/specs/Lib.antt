@@ -1,0 +1,4 @@
+pub mod KeysTo
+pub mod CastsAgree
+pub mod TablesAgree
+pub mod KeepsRuns
