@@ -28,6 +28,7 @@ use Rattle.jr_rewrite.specs.Rewrites.{Choosing, RewritesMember, RewritesOne, Rew
 use Rattle.jr_images.specs.Images.{Renaming, class_to, method_to, ctor_to, member_to, type_to, rows_to}
 use Rattle.jr_images.specs.Spelling.{spelling}
 use Rattle.jr_rename_laws.specs.Standing.{ContextTo}
+use Rattle.jr_rename_laws.specs.ImageLaws.{IsClassImage, IsMemberImage}
 use Rattle.jr_rename_laws.specs.Beside.{ClassBeside, MembersBeside, MemberBeside, ClassesBeside, UnitsBeside}
 use Rattle.jr_rename_laws.proofs.Chosen.{left_none, right_none, lost_none}
 use Rattle.jr_rename_laws.proofs.World.{World}
@@ -106,10 +107,10 @@ module _ {A : Type 0} (tells : A → ℕ → Span) (last : A → ℕ → ℕ) (r
 
   -- a class is named as the image of one, and a member declares the image of what one does
   abbrev pub IsNamed : (b i : ℕ) (o p : Option (List ℕ)) → syntax.Class A → syntax.Class A → Type 0
-  IsNamed b i o p (syntax.class m mods w t ms) (syntax.class k words v u ns) = class_key (λ m b. (tells m b).from) p v.text ≡ class_to g (class_key (λ m b. (tells m b).from) o w.text)
+  IsNamed = IsClassImage tells (λ m b. (tells m b).from) g
 
   abbrev pub IsImage : (b i : ℕ) (of of' : ClassKey) → syntax.Member A → syntax.Member A → Type 0
-  IsImage b i of of' x y = (k : MemberKey) → Declares (λ m b. (tells m b).from) declarations b of x k → Declares (λ m b. (tells m b).from) declarations' i of' y (member_to g k)
+  IsImage = IsMemberImage tells (λ m b. (tells m b).from) g declarations declarations'
 
   abbrev Nothing : MemberKey → (base : ℕ) → Part A → Type 0
   Nothing k b part = Unit {0}

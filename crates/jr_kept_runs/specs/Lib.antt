@@ -2,3 +2,4 @@ pub mod KeysTo
 pub mod CastsAgree
 pub mod TablesAgree
 pub mod KeepsRuns
+pub mod Laws

@@ -26,7 +26,7 @@ pub mod Members
 pub mod Rebound
 mod OneLocal
 mod SameClasses
-mod Still
+pub mod Still
 mod DeclarationImages
 mod RowImages
 mod TypesStay
@@ -39,7 +39,7 @@ mod CleanImages
 mod LocalNames
 mod LocalImages
 mod TypesFound
-mod DeclarationRows
+pub mod DeclarationRows
 mod MemberNames
 mod StillImages
 mod FieldImages
