@@ -7,7 +7,7 @@ use jr_text::Mark;
 /// By the rows of a program each expression, body, method, constructor and list of initializers has
 /// one code at most, whatever the marks are.
 pub fn code_is_one<A: Mark>()
-    ensures one { CodeIsOne A }
+    ensures { CodeIsOne A }
 {
     lookups_are_exact();
     types_are_exact::<A>();
@@ -15,5 +15,5 @@ pub fn code_is_one<A: Mark>()
 
 /// An exchange of what is declared with its images undoes itself.
 pub fn exchanges_undo_themselves<X>()
-    ensures undone { ExchangesUndoThemselves X }
+    ensures { ExchangesUndoThemselves X }
 {}

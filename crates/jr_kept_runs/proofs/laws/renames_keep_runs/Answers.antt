@@ -20,7 +20,7 @@ all_kept [] h = tt
 all_kept (o ∷ os) h = (h 0 o refl, all_kept os (λ i p e. h (suc i) p e))
 
 pub returns : goal.returns
-returns g c p q text file at new edits renaming respelled is read rows images =
+returns c p q text file at new edits renaming respelled is read rows images =
     let fair = images.fair in
     let tables = agree p.rows is.planned.target is.planned.g is.program.are_rows fair is.planned.renames.renamed is.planned.dispatch in
     let one_old = c.lookups_are_exact.ensures.one p.rows is.program.are_rows in
