@@ -1,5 +1,5 @@
 -- Code of statements, members and static fields, as theorems.
-use Rattle.std.proofs.Common.{◌≡◌, ℕ, List, [], ◌∷◌, None, Some, Bool, false, true, pos, negsuc, refl, inl, inr}
+use Rattle.std.proofs.Common.{◌≡◌, ℕ, List, [], ◌∷◌, None, Some, false, true, pos, negsuc, refl}
 use Rattle.std.specs.Prelude.{codes, cond, nat_eq}
 use Rattle.jr_ast.specs.declared.operators.ModWord.TheVariants as word
 use Rattle.jr_ast.specs.declared.operators.UnOp.TheVariants.{Minus}
@@ -12,18 +12,18 @@ use Rattle.jr_runs.specs.FirstValues.{gives, makes}
 use Rattle.jr_runs.specs.Actions as kind
 use Rattle.jr_table.specs.Decls.{MemberKey, head, field, method, constructor}
 use Rattle.jr_table.specs.Prelude.{object_key}
-use Rattle.jr_table.specs.Context.{locals_in, locals_in_else, locals_in_row}
+use Rattle.jr_table.specs.Context.{locals_in, locals_in_row}
 use Rattle.jr_table.specs.HeadRules.{plain, with_parameters}
 use Rattle.jr_table.specs.LookupSample.{a, q}
 use Rattle.jr_table.proofs.BindingSamples.{at_mark, w, modifier}
 use Rattle.jr_code.specs.RunKeys.{RunKeys}
 use Rattle.jr_code.specs.RunRows.{kind_of_words}
-use Rattle.jr_code.specs.Coded.{ExpCode}
+use Rattle.jr_code.specs.Coded.{ExpCode, RowCode}
 use Rattle.jr_code.specs.CodedStatements.{numbers, StatementCode, StmtCode, ElseCode, StmtsCode}
 use Rattle.jr_code.specs.CodedMembers.{MethodCoded, InitsCoded, ConstructorCoded, DefaultCoded}
 use Rattle.jr_code.specs.CodedFields.{FirstOf}
 use Rattle.jr_code.specs.Exchanged.{first, exchange}
-use Rattle.jr_code.proofs.CodedSample.{rows, h_key, a_m, a_s, q_m, a_new, q_new, in_m, at_in, here, last_of, listed}
+use Rattle.jr_code.proofs.CodedSample.{rows, h_key, a_s, q_m, a_new, q_new, in_m, at_in, here, last_of, listed}
 use Rattle.jr_code.proofs.CodedFinds.{no_args, super_found, written_super_found}
 
 -- ---- statements
@@ -151,13 +151,13 @@ written_super_is_run = (
 
 -- `static int g = 7;`, `-1`, `-2147483648`, `true`, `"a"`, `null`, `new Object()`
 first_values :
-    FirstOf (tree.number 0 7) (gives (value.int (pos 7))) ×
-    FirstOf (tree.unary 0 Minus (tree.number 1 1)) (gives (value.int (negsuc 0))) ×
-    FirstOf (tree.unary 0 Minus (tree.number 1 2147483648)) (gives (value.int (negsuc 2147483647))) ×
-    FirstOf (tree.truth 0 true) (gives (value.truth true)) ×
-    FirstOf (tree.string 0 (97 ∷ [])) (gives (value.text (97 ∷ []))) ×
-    FirstOf (tree.null 0) (gives value.null) ×
-    FirstOf (tree.create 0 (tree.named 4 None (w 4 (codes "Object"))) tree.end) (makes object_key)
+    FirstOf {A = ℕ} (tree.number 0 7) (gives (value.int (pos 7))) ×
+    FirstOf {A = ℕ} (tree.unary 0 Minus (tree.number 1 1)) (gives (value.int (negsuc 0))) ×
+    FirstOf {A = ℕ} (tree.unary 0 Minus (tree.number 1 2147483648)) (gives (value.int (negsuc 2147483647))) ×
+    FirstOf {A = ℕ} (tree.truth 0 true) (gives (value.truth true)) ×
+    FirstOf {A = ℕ} (tree.string 0 (97 ∷ [])) (gives (value.text (97 ∷ []))) ×
+    FirstOf {A = ℕ} (tree.null 0) (gives value.null) ×
+    FirstOf {A = ℕ} (tree.create 0 (tree.named 4 None (w 4 (codes "Object"))) tree.end) (makes object_key)
 first_values = (refl, refl, refl, refl, refl, refl, refl)
 
 -- what accesses of a field are (JLS 8.3.1.2, 8.3.1.4)

@@ -1,35 +1,23 @@
 -- Code of small trees, as theorems. What is expected is what the Java Language Specification says of the text.
-use Rattle.std.proofs.Common.{◌≡◌, ℕ, List, [], ◌∷◌, None, Some, false, true, pos, negsuc, refl, sym, ◌∙◌, inl, inr}
-use Rattle.std.specs.Prelude.{codes, ◌⊎◌}
-use Rattle.jr_ast.specs.declared.operators.ModWord.TheVariants as word
+use Rattle.std.proofs.Common.{◌≡◌, ℕ, [], ◌∷◌, None, Some, false, true, pos, negsuc, refl, inl, inr}
+use Rattle.std.specs.Prelude.{codes}
 use Rattle.jr_ast.specs.declared.operators.UnOp.TheVariants.{Minus}
 use Rattle.jr_ast.specs.declared.operators.BinOp.TheVariants.{And, Add}
 use Rattle.jr_ast.specs.declared.operators.BumpOp.TheVariants.{PostInc}
 use Rattle.jr_ast.specs.Tree as tree
-use Rattle.jr_ast.specs.StatementTree as statement
-use Rattle.jr_ast.specs.MemberTree as syntax
 use Rattle.jr_runs.specs.Values as value
 use Rattle.jr_runs.specs.Core as core
-use Rattle.jr_runs.specs.FirstValues.{gives, makes}
-use Rattle.jr_runs.specs.Actions as kind
 use Rattle.jr_table.specs.Keys.{int, class}
-use Rattle.jr_table.specs.Decls.{Decl, class_decl, field_decl, method_decl, constructor_decl, head, field, method, constructor, MemberKey}
+use Rattle.jr_table.specs.Decls.{Decl, field_decl, method_decl}
 use Rattle.jr_table.specs.Prelude.{object_key}
 use Rattle.jr_table.specs.Found.{one, nothing}
-use Rattle.jr_table.specs.Context.{scope_of, locals_in, locals_in_else, locals_in_row}
+use Rattle.jr_table.specs.Context.{scope_of}
 use Rattle.jr_table.specs.Binding.{HasType}
-use Rattle.jr_table.specs.HeadRules.{plain}
 use Rattle.jr_table.specs.LookupSample.{a, q}
-use Rattle.jr_table.proofs.BindingSamples.{at_mark, w, modifier}
-use Rattle.jr_code.specs.RunKeys.{RunKeys, Place}
-use Rattle.jr_code.specs.RunRows.{kind_of_words}
+use Rattle.jr_table.proofs.BindingSamples.{at_mark, w}
 use Rattle.jr_code.specs.Coded.{Code, ExpCode, TargetOf, ReceiverCode, RowCode}
-use Rattle.jr_code.specs.CodedStatements.{numbers, StatementCode, StmtCode, ElseCode, StmtsCode}
-use Rattle.jr_code.specs.CodedMembers.{MethodCoded, InitsCoded, ConstructorCoded, DefaultCoded}
-use Rattle.jr_code.specs.CodedFields.{FirstOf}
-use Rattle.jr_code.proofs.OneFound.{one_decl}
-use Rattle.jr_code.proofs.CodedSample.{rows, each, f_key, sf_key, h_key, a_m, a_s, q_m, a_new, q_new, in_m, at_in, here, last_of, listed}
-use Rattle.jr_code.proofs.CodedFinds.{word_a, f_found, sf_found, a_is_no_variable, a_named, q_named, object_named, a_sf_found, this_h_found, m_found, a_s_found, super_m_found, q_new_found, super_found, written_super_found, f_of_objects, sf_static, h_of_objects, a_m_of_objects, a_s_static, q_m_of_objects, q_below_a, q_below_object, object_not_below_q}
+use Rattle.jr_code.proofs.CodedSample.{rows, each, f_key, sf_key, h_key, a_m, a_s, q_m, q_new, in_m, here}
+use Rattle.jr_code.proofs.CodedFinds.{word_a, f_found, sf_found, a_is_no_variable, a_named, q_named, object_named, a_sf_found, this_h_found, m_found, a_s_found, super_m_found, q_new_found, f_of_objects, sf_static, h_of_objects, a_m_of_objects, a_s_static, q_m_of_objects, q_below_a, q_below_object, object_not_below_q}
 
 abbrev Codes : tree.Exp ℕ → Code → Type 0
 Codes e x = ExpCode at_mark rows in_m 0 e x

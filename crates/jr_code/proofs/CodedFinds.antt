@@ -1,10 +1,10 @@
 -- What names, fields, calls and constructors find in the sample program, at a place of Q's method; and which casts can fail.
-use Rattle.std.proofs.Common.{◌≡◌, ℕ, List, [], ◌∷◌, None, Some, false, true, refl, sym, ap, subst, ◌∙◌, inl, inr, length, arith}
-use Rattle.std.specs.Prelude.{codes, ◌⊎◌}
+use Rattle.std.proofs.Common.{◌≡◌, ℕ, List, [], ◌∷◌, None, true, refl, sym, ap, subst, ◌∙◌, inl, inr, length, arith}
+use Rattle.std.specs.Prelude.{codes}
 use Rattle.jr_ast.specs.declared.operators.ModWord.TheVariants as word
 use Rattle.jr_ast.specs.Tree as tree
-use Rattle.jr_table.specs.Keys.{ClassKey, Ty, class}
-use Rattle.jr_table.specs.Decls.{Decl, class_decl, field_decl, method_decl, constructor_decl, head}
+use Rattle.jr_table.specs.Keys.{ClassKey, class}
+use Rattle.jr_table.specs.Decls.{class_decl, field_decl, method_decl, constructor_decl, head}
 use Rattle.jr_table.specs.Prelude.{object_key, class_row}
 use Rattle.jr_table.specs.Entries.{number_of, entries_of}
 use Rattle.jr_table.specs.Chains.{IsChain, In, IsSubclassAt, chain_of}
@@ -14,18 +14,18 @@ use Rattle.jr_table.specs.Calls.{assignable, as_specific, is_named, is_ctor, met
 use Rattle.jr_table.specs.Fields.{find_field, find_field_of, find_member_type}
 use Rattle.jr_table.specs.TypeNames.{find_type}
 use Rattle.jr_table.specs.Scope.{Scope, last_named}
-use Rattle.jr_table.specs.Found.{Found, one, nothing}
+use Rattle.jr_table.specs.Found.{one, nothing}
 use Rattle.jr_table.specs.Lookup.{FindsVariable, FindsTypeNamed, FindsCtorOf, shown, find_variable, find_type_named, find_type_of, find_field_in, find_method_named, find_method_of, find_ctor_of}
 use Rattle.jr_table.specs.Meanings.{row_of, find_left, find_left_of, type_of, class_name_of, target_found, types_of}
 use Rattle.jr_table.specs.Keyed.{IsSubclass, IsAssignable}
-use Rattle.jr_table.specs.Context.{Context, scope_of, WritesType, IsStaticDecl, IsInstanceDecl, IsSuperclass}
-use Rattle.jr_table.specs.Binding.{FieldFinds, SuperFieldFinds, CallFinds, SuperCallFinds, CreationFinds, SuperCtorFinds, HaveTypes}
+use Rattle.jr_table.specs.Context.{Context, scope_of, IsStaticDecl, IsInstanceDecl, IsSuperclass}
+use Rattle.jr_table.specs.Binding.{FieldFinds, CallFinds, SuperCallFinds, CreationFinds, SuperCtorFinds, HaveTypes}
 use Rattle.jr_table.specs.HeadRules.{plain}
 use Rattle.jr_table.specs.LookupSample.{a, q, class_at, field_at, method_at}
 use Rattle.jr_table.proofs.BindingSamples.{w}
 use Rattle.jr_table.proofs.ReferenceLaws.{field_finds, call_finds, super_call_finds, creation_finds}
 use Rattle.jr_code.specs.CodedMembers.{ImplicitFinds}
-use Rattle.jr_code.proofs.CodedSample.{rows, are, found, each, f_key, sf_key, h_key, a_m, a_s, q_m, a_new, q_new, in_m}
+use Rattle.jr_code.proofs.CodedSample.{rows, are, found, f_key, sf_key, h_key, a_m, a_s, q_m, a_new, q_new, in_m}
 
 abbrev pub no_args : tree.Exps ℕ
 no_args = tree.end
@@ -63,7 +63,7 @@ pub a_sf_found : FieldFinds rows in_m word_a (codes "sf") (one (field_decl sf_ke
 unfolding is_accessible lacks_object assignable as_specific is_named is_ctor methods_named ctors_in choose_at find_method find_ctor find_call find_field find_field_of find_member_type last_named find_type shown find_variable find_type_named find_type_of find_field_in find_method_named find_method_of find_ctor_of own_row nearest member number_of entries_of chain_of row_of find_left find_left_of type_of class_name_of target_found types_of
 a_sf_found = (field_finds rows are found in_m word_a (codes "sf") (one (field_decl sf_key))).0 refl
 
-pub this_h_found : FieldFinds rows in_m (tree.this 1) (codes "h") (one (field_decl h_key))
+pub this_h_found : FieldFinds {A = ℕ} rows in_m (tree.this 1) (codes "h") (one (field_decl h_key))
 unfolding is_accessible lacks_object assignable as_specific is_named is_ctor methods_named ctors_in choose_at find_method find_ctor find_call find_field find_field_of find_member_type last_named find_type shown find_variable find_type_named find_type_of find_field_in find_method_named find_method_of find_ctor_of own_row nearest member number_of entries_of chain_of row_of find_left find_left_of type_of class_name_of target_found types_of
 this_h_found = (field_finds rows are found in_m (tree.this 1) (codes "h") (one (field_decl h_key))).0 refl
 

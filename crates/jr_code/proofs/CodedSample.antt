@@ -5,8 +5,7 @@
 use Rattle.std.proofs.Common.{◌≡◌, ℕ, ◌+◌, ◌<◌, ◌^◌, List, [], ◌∷◌, ◌++◌, length, None, false, refl, arith}
 use Rattle.std.specs.Prelude.{codes}
 use Rattle.jr_ast.specs.declared.operators.ModWord.TheVariants as word
-use Rattle.jr_ast.specs.Tree as tree
-use Rattle.jr_table.specs.Keys.{ClassKey, FieldKey, MethodKey, CtorKey}
+use Rattle.jr_table.specs.Keys.{FieldKey, MethodKey, CtorKey}
 use Rattle.jr_table.specs.Decls.{MemberKey, method}
 use Rattle.jr_table.specs.Rows.{Row}
 use Rattle.jr_table.specs.Prelude.{prelude_rows, object_key}

@@ -1,5 +1,5 @@
 -- An exchange undoes itself, if images differ and are their own images.
-use Rattle.std.proofs.Common.{◌≡◌, ℕ, zero, suc, List, [], ◌∷◌, Option, Some, None, Bool, true, false, ◌↔◌, refl, sym, ap, subst, ◌∙◌, inl, inr}
+use Rattle.std.proofs.Common.{◌≡◌, List, [], ◌∷◌, Option, Some, None, Bool, true, false, ◌↔◌, refl, sym, ap, subst, ◌∙◌, inl, inr}
 use Rattle.std.specs.Prelude.{◌⊎◌, cond, unwrap_or}
 use Rattle.jr_runs.specs.Images.{Among}
 use Rattle.jr_code.specs.Exchanged.{first, or_image, exchange}

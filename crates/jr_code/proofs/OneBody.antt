@@ -1,5 +1,5 @@
 -- A statement, a method, the initializers of a class and a constructor have one code.
-use Rattle.std.proofs.Common.{◌≡◌, ℕ, ◌+◌, List, [], ◌∷◌, ◌++◌, length, Option, Some, None, Bool, true, false, refl, sym, ap, ◌∙◌}
+use Rattle.std.proofs.Common.{◌≡◌, ℕ, ◌+◌, List, [], ◌∷◌, ◌++◌, length, Option, Some, None, Bool, true, false, sym, ap, ◌∙◌}
 use Rattle.jr_ast.specs.Tree as tree
 use Rattle.jr_ast.specs.StatementTree as statement
 use Rattle.jr_ast.specs.MemberTree as syntax
@@ -15,7 +15,7 @@ use Rattle.jr_table.specs.Binding.{word_at}
 use Rattle.jr_table.specs.BindingLaws.{IsBound}
 use Rattle.jr_table.specs.HeadRules.{plain, with_parameters, is_static_member}
 use Rattle.jr_code.specs.RunKeys.{RunKeys, Place}
-use Rattle.jr_code.specs.Coded.{Code}
+use Rattle.jr_code.specs.Coded.{Code, ExpCode}
 use Rattle.jr_code.specs.CodedStatements.{numbers, StatementCode, ListCode, ReturnCode, StmtCode, ElseCode, StmtsCode}
 use Rattle.jr_code.specs.CodedMembers.{MemberCode, MethodCoded, stored, InitBy, InitCoded, InitsCoded, ParentCoded, ConstructorCoded, DefaultCoded}
 use Rattle.jr_code.specs.Laws.{EachHasOneCode}
@@ -26,7 +26,7 @@ module _ {A : Type 0} (begins ends : A → ℕ → ℕ) (rows : List Row) (are :
   abbrev there : MemberKey → ℕ → Place
   there k at = record { member = k; at = at }
 
-  exp : (c : Context) (b : ℕ) (e : tree.Exp A) (x z : Code) → _
+  exp : (c : Context) (b : ℕ) (e : tree.Exp A) (x z : Code) → ExpCode begins rows c b e x → ExpCode begins rows c b e z → x ≡ z
   exp c b e x z = exp_once begins rows are each c (exact c) b e x z
 
   return_once : (c : Context) (b : ℕ) (p : Place) (e : Option (tree.Exp A)) → Once (ReturnCode begins ends rows c b p e)

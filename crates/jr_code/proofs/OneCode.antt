@@ -1,6 +1,5 @@
 -- An expression has one code: what its references find is one, and so are the types that decide on a cast.
-use Rattle.std.proofs.Common.{◌≡◌, ℕ, List, Some, refl, sym, ap, subst, ◌∙◌, inl, inr}
-use Rattle.jr_ast.specs.declared.operators.BinOp.{BinOp}
+use Rattle.std.proofs.Common.{◌≡◌, ℕ, List, Some, sym, ap, subst, ◌∙◌, inl, inr}
 use Rattle.jr_ast.specs.Tree as tree
 use Rattle.jr_runs.specs.Values as value
 use Rattle.jr_runs.specs.Core as core
@@ -16,7 +15,7 @@ use Rattle.jr_table.specs.Context.{Context, scope_of}
 use Rattle.jr_table.specs.Binding.{FieldFinds, SuperFieldFinds, CallFinds, SuperCallFinds, CreationFinds, word_at}
 use Rattle.jr_table.specs.BindingLaws.{IsBound}
 use Rattle.jr_code.specs.RunKeys.{RunKeys, Place}
-use Rattle.jr_code.specs.Coded.{Code, TargetCode, IsOwn, FieldCode, VariableCode, CallCode, SuperCallCode, CastCode, place, NameTarget, SuperTarget, DottedTarget, ExpCode, TargetOf, ReceiverCode, RowCode}
+use Rattle.jr_code.specs.Coded.{Code, TargetCode, IsOwn, FieldCode, VariableCode, CallCode, SuperCallCode, CastCode, NameTarget, SuperTarget, DottedTarget, ExpCode, TargetOf, ReceiverCode, RowCode}
 use Rattle.jr_code.proofs.OneFound.{one_decl, decided_one, written_once, class_once, words_differ, type_once}
 
 abbrev pub Once : {X : Type 0} → (X → Type 0) → Type 0

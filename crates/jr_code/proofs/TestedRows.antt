@@ -9,7 +9,7 @@ use Rattle.jr_table.specs.Decls.{Decl, class_decl}
 use Rattle.jr_table.specs.Rows.{Row}
 use Rattle.jr_table.specs.Prelude.{prelude_rows, top_key}
 use Rattle.jr_table.specs.Entries.{IsRowOf, number_of, class_of, params_of, outer_name, entries_of}
-use Rattle.jr_table.specs.Chains.{parent_of, Climbs}
+use Rattle.jr_table.specs.Chains.{Climbs}
 use Rattle.jr_table.specs.Conditions.{TypesName, Names, as_declarer, as_outer, as_superclass, as_type, as_parameter, AreRows}
 use Rattle.jr_table.proofs.RowLaws.{some_inside, number_stands}
 

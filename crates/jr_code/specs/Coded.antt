@@ -9,14 +9,7 @@ use Rattle.jr_runs.specs.Core as core
 use Rattle.jr_runs.specs.Core.{Arithmetic}
 use Rattle.jr_runs.specs.Translation.{unescaped, sign_of, bump_of, arithmetic_of, operation}
 use Rattle.jr_table.specs.Keys.{ClassKey, CtorKey, Ty, class}
-use Rattle.jr_table.specs.Decls.{
-  Decl,
-  class_decl,
-  field_decl,
-  method_decl,
-  constructor_decl,
-  local_decl,
-}
+use Rattle.jr_table.specs.Decls.{Decl, field_decl, method_decl, constructor_decl, local_decl}
 use Rattle.jr_table.specs.Rows.{Row}
 use Rattle.jr_table.specs.Keyed.{IsAssignable}
 use Rattle.jr_table.specs.Found.{one}

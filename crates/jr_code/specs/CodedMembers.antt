@@ -2,16 +2,14 @@
 use Rattle.std.specs.Prelude.{◌≡◌, ℕ, List, [], ◌∷◌, ◌++◌, length, Option, Some, None, Bool, true}
 use Rattle.std.specs.Prelude.{false, codes}
 use Rattle.jr_ast.specs.Tree as tree
-use Rattle.jr_ast.specs.StatementTree as statement
 use Rattle.jr_ast.specs.MemberTree as syntax
-use Rattle.jr_runs.specs.Keys.{At}
 use Rattle.jr_runs.specs.Core as core
 use Rattle.jr_runs.specs.MemberTranslation.{is_synchronized, locked, monitor, in_front, no_code}
 use Rattle.jr_table.specs.Keys.{ClassKey, FieldKey, MethodKey, CtorKey}
 use Rattle.jr_table.specs.Decls.{MemberKey, field, method, constructor, head, constructor_decl}
 use Rattle.jr_table.specs.Rows.{Row}
 use Rattle.jr_table.specs.Prelude.{top_key, object_key, thread_key}
-use Rattle.jr_table.specs.Found.{Found, one}
+use Rattle.jr_table.specs.Found.{one}
 use Rattle.jr_table.specs.Lookup.{FindsCtorOf}
 use Rattle.jr_table.specs.Context.{Context, scope_of, IsSuperclass}
 use Rattle.jr_table.specs.Binding.{FindsIn, SuperCtorFinds, word_at}

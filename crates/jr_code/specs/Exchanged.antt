@@ -2,7 +2,7 @@
 -- program and keys that are declared in the new one alone change places, and others stay. So it is
 -- one to one and onto, and its own inverse, if the given one is one to one on what is declared and
 -- leaves each image as it is.
-use Rattle.std.specs.Prelude.{ℕ, List, [], ◌∷◌, Option, Some, None, Bool, true, false, cond}
+use Rattle.std.specs.Prelude.{List, [], ◌∷◌, Option, Some, None, Bool, cond}
 use Rattle.std.specs.Prelude.{unwrap_or}
 use Rattle.jr_runs.specs.KeyMaps.{KeyMap}
 use Rattle.jr_table.specs.Keys.{ClassKey, FieldKey, MethodKey, CtorKey}
