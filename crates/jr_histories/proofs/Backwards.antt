@@ -9,7 +9,8 @@ use Rattle.jr_runs.specs.Rows.{Rows}
 use Rattle.jr_runs.specs.Reordering.{kind_of, location_of, stores, Free, Reordered}
 use Rattle.jr_runs.specs.KeyMaps.{KeyMap, Undoes, value_image, type_image, location_image, action_image, trace_image}
 use Rattle.jr_runs.proofs.Undoing.{value_back}
-use Rattle.jr_histories.specs.Histories.{Thread, started, thread_at, Step, if_same, part_of, First, gives, makes, default_of, FirstIs, InitialIs, LastIs, Counts, number_of, made_number, NoneMakes, NoneStarts, OneStarts, MayCome, AllMayCome}
+use Rattle.jr_runs.specs.FirstValues.{First, gives, makes, default_of}
+use Rattle.jr_histories.specs.Histories.{Thread, started, thread_at, Step, if_same, part_of, FirstIs, InitialIs, LastIs, Counts, number_of, made_number, NoneMakes, NoneStarts, OneStarts, MayCome, AllMayCome}
 use Rattle.jr_histories.specs.Laws.{thread_image, step_image, first_image}
 
 module _ {K : Keys} (r : KeyMap K) where

@@ -8,7 +8,8 @@ use Rattle.jr_runs.specs.Running.{Start, Ending, Whole}
 use Rattle.jr_runs.specs.Reordering.{Reordered}
 use Rattle.jr_runs.specs.KeyMaps.{KeyMap, Undoes, value_image, trace_image, start_image}
 use Rattle.jr_runs.specs.Alike.{AlikeExactly, AlikeReordered}
-use Rattle.jr_histories.specs.Histories.{Thread, begins, started, Runs, thread_at, Step, part_of, First, OfThreads, History, AreThreads}
+use Rattle.jr_runs.specs.FirstValues.{First}
+use Rattle.jr_histories.specs.Histories.{Thread, begins, started, Runs, thread_at, Step, part_of, OfThreads, History, AreThreads}
 use Rattle.jr_histories.specs.Laws.{thread_image, step_image, first_image, KeepsBeginnings}
 use Rattle.jr_histories.proofs.Backwards.{part_image, thread_to, thread_from, swaps_back, steps_back}
 

@@ -7,7 +7,8 @@ use Rattle.jr_runs.specs.Running.{Start, of_method}
 use Rattle.jr_runs.specs.KeyMaps.{KeyMap, value_image, start_image}
 use Rattle.jr_runs.specs.Images.{SameRows}
 use Rattle.jr_runs.proofs.ImageValues.{class_of_image}
-use Rattle.jr_histories.specs.Histories.{started, Runs, First}
+use Rattle.jr_runs.specs.FirstValues.{First}
+use Rattle.jr_histories.specs.Histories.{started, Runs}
 use Rattle.jr_histories.specs.Laws.{first_image, KeepsBeginnings}
 
 module _ {K : Keys} (r : KeyMap K) (R R' : Rows K) (rows : SameRows r R R') where

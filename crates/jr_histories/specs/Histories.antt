@@ -1,12 +1,12 @@
 -- Finished threads, and the order in which their actions came (JLS 17.4, with sequential memory).
 use Rattle.std.specs.Prelude.{◌≡◌, ◌⊎◌, ℕ, zero, suc, Bool, true, false, List, [], ◌∷◌, Option, Some}
-use Rattle.std.specs.Prelude.{None, unwrap_or, nat_eq, pos}
+use Rattle.std.specs.Prelude.{None, unwrap_or, nat_eq}
 use Rattle.jr_runs.specs.Keys.{Keys}
-use Rattle.jr_runs.specs.Values.{Value, int, truth, null, text, class_object, object, Ty, int_type}
-use Rattle.jr_runs.specs.Values.{boolean_type, reference}
+use Rattle.jr_runs.specs.Values.{Value, int, truth, null, text, class_object, object}
 use Rattle.jr_runs.specs.Actions.{FieldKind, Location, part, shared, Action, load, store, enter, exit}
 use Rattle.jr_runs.specs.Actions.{create, start, Trace}
 use Rattle.jr_runs.specs.Rows.{Rows}
+use Rattle.jr_runs.specs.FirstValues.{First, gives, makes, default_of}
 use Rattle.jr_runs.specs.Fitting.{class_of}
 use Rattle.jr_runs.specs.Core.{Program}
 use Rattle.jr_runs.specs.Running.{Start, of_method, Ending, Whole}
@@ -46,17 +46,6 @@ part_of i [] = []
 part_of i (e ∷ h) = if_same (nat_eq i e.thread) e.action (part_of i h)
 
 -- ---- memory: b are the steps before, the latest first
-
--- what a static field begins with: a value, or a new object that is the field's own
-pub data First (K : Keys) : Type 0 where
-  gives : (value : Value K) → First K
-  makes : (class : K.class) → First K
-
--- JLS 4.12.5
-abbrev pub default_of : {K : Keys} → Ty K → Value K
-default_of int_type = int (pos 0)
-default_of boolean_type = truth false
-default_of (reference c) = null
 
 -- objects: the number of each such field's own object
 abbrev pub FirstIs : {K : Keys} → First K → ℕ → Value K → Type 0

@@ -1,6 +1,7 @@
 -- References, lowest first: `Chosen`, `Places` (rows and locals), `World` (what is known of the two
 -- programs), `Rebound` (one reference, form by form), `Types`, `OneBound`, `Kept` (types, one
--- recursion over expressions), `Alongside`, `Sides` (statements), `Members`. New
+-- recursion over expressions), `Alongside`, `Sides` (statements), `Members`. What trees say doesn't
+-- depend on their marks: `BareBinding`. New
 -- programs: `SameClasses` (what types mean depends on the declared classes alone), `Still` (what a
 -- renaming without classes leaves), `DeclarationImages`, `RowImages`, `TypesFound`, `TypesStay`,
 -- `InitsStay`, `TreeImages` (one recursion over classes), `DeclarationsBeside`, `CleanImages`
@@ -12,19 +13,20 @@
 -- Plans: `Planned`, `Planning`. One plan: `Alike` (two renamings of the same declarations make the
 -- same of each key, row and scope), `OneRewriting`, `OneChoice` (the ways of `jr_respell: Ways` as
 -- one), `OneProgram`, `OneClash`, `OneRefusal`, `OnePlan` (one reason after the other).
-mod Chosen
-mod Places
-mod World
-mod Types
-mod OneBound
-mod Kept
+pub mod BareBinding
+pub mod Chosen
+pub mod Places
+pub mod World
+pub mod Types
+pub mod OneBound
+pub mod Kept
 mod Alongside
-mod Sides
-mod Members
-mod Rebound
+pub mod Sides
+pub mod Members
+pub mod Rebound
 mod OneLocal
 mod SameClasses
-mod Still
+pub mod Still
 mod DeclarationImages
 mod RowImages
 mod TypesStay
@@ -37,7 +39,7 @@ mod CleanImages
 mod LocalNames
 mod LocalImages
 mod TypesFound
-mod DeclarationRows
+pub mod DeclarationRows
 mod MemberNames
 mod StillImages
 mod FieldImages

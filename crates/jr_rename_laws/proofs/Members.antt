@@ -72,7 +72,7 @@ module _ {A : Type 0} (tells : A → ℕ → Span) (rows : List Row) (g : Renami
 
   -- ---- what is known at the beginning of a member
 
-  plain_to : (k : MemberKey) (is_static : Bool) → ContextTo g rows (no_locals k is_static) (no_locals (member_to g k) is_static)
+  pub plain_to : (k : MemberKey) (is_static : Bool) → ContextTo g rows (no_locals k is_static) (no_locals (member_to g k) is_static)
   plain_to k is_static = record { member = refl; static = refl; locals = tt; own = λ i l e. absurd cc }
 
   params_to : (s z : Scope) (k : MemberKey) (n b : ℕ) (ps : List (syntax.Param A)) (ts : List Ty) (q : Rewritten (List (syntax.Param A))) → RewritesParams tells Chosen k n b ps q
@@ -92,7 +92,7 @@ module _ {A : Type 0} (tells : A → ℕ → Span) (rows : List Row) (g : Renami
         params_to s z k (suc n) b ps ts rest made,
       )
 
-  with_params_to : (k : MemberKey) (is_static : Bool) (b : ℕ) (ps : List (syntax.Param A)) (q : Rewritten (List (syntax.Param A))) → RewritesParams tells Chosen k 0 b ps q
+  pub with_params_to : (k : MemberKey) (is_static : Bool) (b : ℕ) (ps : List (syntax.Param A)) (q : Rewritten (List (syntax.Param A))) → RewritesParams tells Chosen k 0 b ps q
       → ContextTo g rows (with_parameters k is_static ps) (with_parameters (member_to g k) is_static q.tree)
   with_params_to k is_static b ps q made = record {
     member = refl;

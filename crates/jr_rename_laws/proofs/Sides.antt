@@ -107,7 +107,7 @@ module _ {A : Type 0} (tells : A → ℕ → Span) (rows : List Row) (g : Renami
 
   module _ (c d : Context) (stand : ContextTo g rows c d) where
     -- a local that is declared has become one
-    new_local : (n : ℕ) (final : Bool) (t u : tree.TypeName A) (w : tree.Word A) (h : Choice) → ((k : Ty) → WritesType rows (scope_of c) t k → WritesType (rows_to g rows) (scope_of d) u (type_to g k))
+    pub new_local : (n : ℕ) (final : Bool) (t u : tree.TypeName A) (w : tree.Word A) (h : Choice) → ((k : Ty) → WritesType rows (scope_of c) t k → WritesType (rows_to g rows) (scope_of d) u (type_to g k))
         → h ≡ renamed w.text (name_to g (local_decl (local_key c n)) w.text)
         → LocalTo g rows (scope_of c) (scope_of d) (local_of c n final t w) (local_of d n final u (word_to h w))
     new_local n final t u w h goes is = record {
@@ -136,7 +136,7 @@ module _ {A : Type 0} (tells : A → ℕ → Span) (rows : List Row) (g : Renami
     )
 
     -- behind a statement
-    after_to : (n : ℕ) (b : ℕ) (x : statement.Stmt A) (q : Rewritten (statement.Stmt A)) → RewritesStmt tells Chosen n c b x q → q.losses ≡ [] → ContextTo g rows (after n c x) (after n d q.tree)
+    pub after_to : (n : ℕ) (b : ℕ) (x : statement.Stmt A) (q : Rewritten (statement.Stmt A)) → RewritesStmt tells Chosen n c b x q → q.losses ≡ [] → ContextTo g rows (after n c x) (after n d q.tree)
     unfolding RewritesStmt
     after_to n b (statement.local m f t w e) q (p, v, z, types, (h, declared, word), inner, is) none =
         let all = lost_none q (joined (λ (u : tree.TypeName A × tree.Word A) x. statement.local m f u.0 u.1 x) (joined (λ u z. (u, z)) p v) z) is none in

@@ -18,7 +18,7 @@ use Rattle.jr_table.specs.Binding.{Role, value, left, Sought, FindsIn, IsClassNa
 use Rattle.jr_table.specs.Binding as role
 use Rattle.jr_images.specs.Images.{Renaming, class_to, ctor_to, member_to, type_to, decl_to, rows_to}
 use Rattle.jr_images.specs.Keeping.{FindBoth, IsRespelled, IsFrontKept, IsTypeKept, IsBoundTo, IsKept, IsWritten, IsSuperKept, IsTopKept, IsParentKept}
-use Rattle.jr_session.proofs.BareBinding.{writes_bare, class_bare, field_bare, call_bare, super_call_bare, creation_bare, super_ctor_bare}
+use Rattle.jr_rename_laws.proofs.BareBinding.{writes_bare, class_bare, field_bare, call_bare, super_call_bare, creation_bare, super_ctor_bare}
 
 along : (P Q : Type 0) → P ≡ Q → P → Q
 along P Q same h = subst (λ (X : Type 0). X) same h

@@ -34,7 +34,6 @@ pub mod RenameFiles
 pub mod StepFiles
 pub mod RenameSteps
 pub mod Refactored
-pub mod BareBinding
 pub mod BareReferences
 pub mod TakenBack
 pub mod NewRows

@@ -1,0 +1,9 @@
+pub mod RunKeys
+pub mod Coded
+pub mod CodedStatements
+pub mod CodedMembers
+pub mod RunRows
+pub mod CodedFields
+pub mod Exchanged
+pub mod Programs
+pub mod Laws

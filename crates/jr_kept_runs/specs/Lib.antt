@@ -1,0 +1,5 @@
+pub mod KeysTo
+pub mod CastsAgree
+pub mod TablesAgree
+pub mod KeepsRuns
+pub mod Laws

@@ -1,0 +1,12 @@
+//! The code of what a refactoring rewrites is the image of the old code, so that runs are kept.
+//! Laws alone; nothing in it is executed.
+//!
+//! `specs/KeepsRuns`: what is kept of runs, whatever becomes of keys: whatever resolved programs
+//! (`jr_code`) the old and the new sources are, they are exactly alike (`jr_runs: AlikeExactly`).
+//! `KeysTo`: what becomes of keys by a renaming; `TablesAgree`, `CastsAgree`: what is asked of the
+//! two tables. Rename is the first user: it changes no statement list.
+#![tactic(auto)]
+
+mod laws;
+
+pub use laws::renames_keep_runs;
