@@ -1,11 +1,11 @@
 -- What is asked of two tables holds for a rename's.
-use Rattle.std.proofs.Common.{◌≡◌, ℕ, List}
+use Rattle.std.proofs.Common.{List}
 use Rattle.jr_table.specs.Keys.{ClassKey, MethodKey}
 use Rattle.jr_table.specs.Decls.{Decl}
 use Rattle.jr_table.specs.Rows.{Row}
 use Rattle.jr_table.specs.Conditions.{AreRows}
 use Rattle.jr_images.specs.Families.{AreRenamed}
-use Rattle.jr_images.specs.Images.{Renaming, rows_to}
+use Rattle.jr_images.specs.Images.{Renaming}
 use Rattle.jr_images.specs.Refusals.{ChangesDispatch}
 use Rattle.jr_images.specs.RenameLaws.{IsFair}
 use Rattle.jr_dispatch.proofs.ImageEntries.{alike}

@@ -1,21 +1,21 @@
 -- Calls: the code of a respelled one is the image of the old code.
-use Rattle.std.proofs.Common.{◌≡◌, ◌<◌, ℕ, List, [], ◌∷◌, ◌++◌, Option, Some, None, Bool, true, false, refl, sym, ap, subst, ◌∙◌, inl, inr}
-use Rattle.std.specs.Prelude.{slice_get, ◌⊎◌}
+use Rattle.std.proofs.Common.{◌≡◌, ◌<◌, ℕ, List, [], Option, Some, None, false, sym, ap, subst, ◌∙◌, inl, inr}
+use Rattle.std.specs.Prelude.{◌⊎◌}
 use Rattle.jr_text.specs.declared.spans.Span.{Span}
 use Rattle.jr_ast.specs.Tree as tree
 use Rattle.jr_runs.specs.Core as core
 use Rattle.jr_runs.specs.Rows as core_rows
 use Rattle.jr_runs.specs.KeyMaps.{KeyMap}
-use Rattle.jr_table.specs.Keys.{ClassKey, MethodKey, Ty, class}
-use Rattle.jr_table.specs.Decls.{Decl, class_decl, method_decl, local_decl, LocalKey}
+use Rattle.jr_table.specs.Keys.{MethodKey, Ty, class}
+use Rattle.jr_table.specs.Decls.{Decl, method_decl, local_decl, LocalKey}
 use Rattle.jr_table.specs.Rows.{Row}
-use Rattle.jr_table.specs.Found.{Found, one, nothing}
+use Rattle.jr_table.specs.Found.{one}
 use Rattle.jr_table.specs.Lookup.{FindsVariable}
 use Rattle.jr_table.specs.Context.{Context, scope_of, IsInstanceDecl}
-use Rattle.jr_table.specs.Binding.{HasType, IsClassName, HaveTypes, CallFinds, SuperCallFinds, Role, value, left, word_at}
+use Rattle.jr_table.specs.Binding.{HaveTypes, CallFinds, SuperCallFinds, value, left, word_at}
 use Rattle.jr_spell.specs.declared.references.RefForm.TheVariants as ref
 use Rattle.jr_spell.specs.declared.spellings.Form.{Form}
-use Rattle.jr_spell.specs.declared.spellings.Form.TheVariants.{Asked, OnThis, OnCastOperand, OnClass, OnOuterClass}
+use Rattle.jr_spell.specs.declared.spellings.Form.TheVariants.{Asked, OnClass, OnOuterClass}
 use Rattle.jr_spell.specs.Binds.{Binds}
 use Rattle.jr_rewrite.specs.Respellings.{Choice, front_of}
 use Rattle.jr_rewrite.specs.Rewritten.{word_to, operand_to, target_of, drops_operand, losses_of}
@@ -29,8 +29,8 @@ use Rattle.jr_rename_laws.proofs.Rebound.{call_by_name, call_on_value, call_thro
 use Rattle.jr_rename_laws.proofs.Types.{to_scope}
 use Rattle.jr_rename_laws.proofs.Kept.{Kept}
 use Rattle.jr_rename_laws.proofs.World.{World}
-use Rattle.jr_code.specs.RunKeys.{RunKeys, Place}
-use Rattle.jr_code.specs.Coded.{Code, IsOwn, CallCode, SuperCallCode, place, ExpCode, ReceiverCode, RowCode}
+use Rattle.jr_code.specs.RunKeys.{RunKeys}
+use Rattle.jr_code.specs.Coded.{Code, CallCode, SuperCallCode, place, ExpCode, ReceiverCode, RowCode}
 use Rattle.jr_kept_runs.specs.KeysTo.{keys_to, MapsAs, AreDeclared}
 use Rattle.jr_kept_runs.proofs.KeptCode.{ToExp, ToExps}
 use Rattle.jr_kept_runs.proofs.References.{To, call_no_class, super_no_class, call_image, super_call_image}

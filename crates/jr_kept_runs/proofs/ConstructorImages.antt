@@ -1,6 +1,5 @@
 -- Constructors: the code of a rewritten one is the image of the code of the old one.
-use Rattle.std.proofs.Common.{◌≡◌, ◌<◌, ◌≤◌, ℕ, zero, suc, ◌+◌, List, [], ◌∷◌, ◌++◌, Option, Some, None, Bool, true, false, refl, sym, ap, subst, ◌∙◌, inl, inr, map, length, arith}
-use Rattle.std.specs.Prelude.{slice_get, ◌⊎◌}
+use Rattle.std.proofs.Common.{◌≡◌, ℕ, ◌+◌, List, [], ◌∷◌, ◌++◌, Option, Some, None, true, false, sym, ap, subst, ◌∙◌, inl, inr, length, arith}
 use Rattle.jr_text.specs.declared.spans.Span.{Span}
 use Rattle.jr_ast.specs.Tree as tree
 use Rattle.jr_ast.specs.StatementTree as statement
@@ -10,22 +9,21 @@ use Rattle.jr_runs.specs.Core as core
 use Rattle.jr_runs.specs.Rows as core_rows
 use Rattle.jr_runs.specs.KeyMaps.{KeyMap}
 use Rattle.jr_runs.specs.MemberTranslation.{in_front}
-use Rattle.jr_table.specs.Keys.{ClassKey, FieldKey, CtorKey, Ty}
+use Rattle.jr_table.specs.Keys.{CtorKey, Ty}
 use Rattle.jr_table.specs.Decls.{MemberKey, Decl, class_decl, field_decl, constructor_decl, local_decl, LocalKey}
 use Rattle.jr_table.specs.Decls as member
 use Rattle.jr_table.specs.Rows.{Row}
 use Rattle.jr_table.specs.Entries.{IsRowOf}
-use Rattle.jr_table.specs.Found.{Found, one}
-use Rattle.jr_table.specs.Lookup.{FindsCtorOf}
-use Rattle.jr_table.specs.Context.{Context, scope_of, locals_in_row, IsSuperclass}
+use Rattle.jr_table.specs.Found.{one}
+use Rattle.jr_table.specs.Context.{Context, scope_of, locals_in_row}
 use Rattle.jr_table.specs.HeadRules.{with_parameters}
 use Rattle.jr_table.specs.Binding.{HasType, HaveTypes, SuperCtorFinds}
 use Rattle.jr_spell.specs.declared.references.RefForm.TheVariants as ref
 use Rattle.jr_spell.specs.Binds.{Binds}
 use Rattle.jr_rewrite.specs.Respellings.{Choice}
-use Rattle.jr_rewrite.specs.Rewritten.{Rewritten, joined, within, losses_of}
-use Rattle.jr_rewrite.specs.Rewrites.{Choosing, RewritesRow, RewritesSuper, RewritesMember}
-use Rattle.jr_images.specs.Images.{Renaming, class_to, ctor_to, types_to, member_to, type_to, rows_to}
+use Rattle.jr_rewrite.specs.Rewritten.{Rewritten, joined, losses_of}
+use Rattle.jr_rewrite.specs.Rewrites.{Choosing, RewritesSuper, RewritesMember}
+use Rattle.jr_images.specs.Images.{Renaming, ctor_to, types_to, member_to, type_to, rows_to}
 use Rattle.jr_images.specs.Spelling.{spelling, reference, SuperCtorSpells}
 use Rattle.jr_rename_laws.specs.Standing.{ContextTo}
 use Rattle.jr_rename_laws.proofs.Chosen.{left_none, right_none, lost_some, lost_none}
@@ -37,7 +35,6 @@ use Rattle.jr_rename_laws.proofs.Kept.{kept_row}
 use Rattle.jr_rename_laws.proofs.Members.{with_params_to}
 use Rattle.jr_code.specs.RunKeys.{RunKeys, Place}
 use Rattle.jr_code.specs.RunRows.{HasRow}
-use Rattle.jr_code.specs.Coded.{Code, RowCode}
 use Rattle.jr_code.specs.CodedStatements.{StatementCode, ListCode, StmtsCode}
 use Rattle.jr_code.specs.CodedMembers.{ImplicitFinds, ParentCoded, ConstructorCoded}
 use Rattle.jr_kept_runs.specs.KeysTo.{keys_to, MapsAs, AreDeclared}
@@ -56,7 +53,6 @@ module _ {A : Type 0} (tells : A → ℕ → Span) (last : A → ℕ → ℕ) (r
 
   abbrev Chosen : Choosing A
   Chosen = spelling (λ m b. (tells m b).from) rows g super_at
-
 
   -- one by one
   abbrev pub AllTo : ℕ → List StatementCode → List StatementCode → Type 0

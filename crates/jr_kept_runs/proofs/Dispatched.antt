@@ -1,7 +1,6 @@
 -- What is dispatched in the program of the images was dispatched.
-use Rattle.std.proofs.Common.{◌≡◌, ℕ, List, refl, subst, sym, ◌∙◌}
+use Rattle.std.proofs.Common.{ℕ, List, subst, sym}
 use Rattle.std.specs.Prelude.{map}
-use Rattle.jr_table.specs.declared.entries.Kind.{Kind}
 use Rattle.jr_table.specs.Keys.{ClassKey, MethodKey}
 use Rattle.jr_table.specs.Decls.{class_decl, method_decl}
 use Rattle.jr_table.specs.Rows.{Row}

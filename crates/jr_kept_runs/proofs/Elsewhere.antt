@@ -1,5 +1,5 @@
 -- An image of code is one wherever the new code stands: its places are free.
-use Rattle.std.proofs.Common.{◌≡◌, ℕ, List, [], ◌∷◌, Option, Some, None, refl, sym, ap, subst, ◌∙◌, inl, inr}
+use Rattle.std.proofs.Common.{◌≡◌, ℕ, List, None, sym, subst, ◌∙◌}
 use Rattle.jr_runs.specs.Values.{Value}
 use Rattle.jr_runs.specs.Core as core
 use Rattle.jr_runs.specs.Rows as core_rows

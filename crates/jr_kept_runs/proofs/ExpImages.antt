@@ -1,6 +1,5 @@
 -- Expressions: the code of a rewritten expression is the image of the code of the old one.
-use Rattle.std.proofs.Common.{◌≡◌, ◌<◌, ℕ, List, [], ◌∷◌, ◌++◌, Option, Some, None, Bool, true, false, pos, refl, sym, ap, subst, ◌∙◌, inl, inr}
-use Rattle.std.specs.Prelude.{slice_get, ◌⊎◌}
+use Rattle.std.proofs.Common.{◌≡◌, ◌<◌, ℕ, List, [], ◌++◌, Some, None, false, pos, sym, ap, subst, ◌∙◌, inl, inr}
 use Rattle.jr_text.specs.declared.spans.Span.{Span}
 use Rattle.jr_ast.specs.declared.operators.BinOp.{BinOp}
 use Rattle.jr_ast.specs.declared.operators.BinOp.TheVariants as op
@@ -9,25 +8,24 @@ use Rattle.jr_runs.specs.Values as core_value
 use Rattle.jr_runs.specs.Core as core
 use Rattle.jr_runs.specs.Rows as core_rows
 use Rattle.jr_runs.specs.Arithmetic.{wrapped}
-use Rattle.jr_runs.specs.Translation.{unescaped, sign_of, bump_of, arithmetic_of, operation}
+use Rattle.jr_runs.specs.Translation.{unescaped, sign_of, bump_of, operation}
 use Rattle.jr_runs.specs.KeyMaps.{KeyMap, value_image}
 use Rattle.jr_table.specs.Keys.{ClassKey, CtorKey, Ty, class}
 use Rattle.jr_table.specs.Decls.{Decl, class_decl, constructor_decl, local_decl, LocalKey}
 use Rattle.jr_table.specs.Rows.{Row}
 use Rattle.jr_table.specs.Entries.{IsRowOf}
 use Rattle.jr_table.specs.Keyed.{IsAssignable}
-use Rattle.jr_table.specs.Found.{Found, one, nothing}
+use Rattle.jr_table.specs.Found.{one}
 use Rattle.jr_table.specs.Scope.{Scope}
-use Rattle.jr_table.specs.Lookup.{FindsVariable, FindsTypeNamed, FindsTypeOf, FindsCtorOf, Shows}
-use Rattle.jr_table.specs.LookupLaws.{EachHasOne}
+use Rattle.jr_table.specs.Lookup.{FindsVariable, FindsCtorOf, Shows}
 use Rattle.jr_table.specs.declared.answers.Answer.{Answer}
 use Rattle.jr_table.specs.declared.answers.Answer.TheVariants as number
 use Rattle.jr_table.specs.Context.{Context, scope_of, WritesType}
 use Rattle.jr_table.specs.Binding.{HasType, HaveTypes, CreationFinds, Role, value, left}
 use Rattle.jr_spell.specs.declared.references.RefForm.TheVariants as ref
 use Rattle.jr_spell.specs.Binds.{Binds}
-use Rattle.jr_rewrite.specs.Respellings.{Choice, front_of, Loss}
-use Rattle.jr_rewrite.specs.Rewritten.{Rewritten, plain, within, joined, word_to, target_of, operand_to, drops_operand, losses_of, word_out, name_out, field_out, super_field_out, simple_call_out, dotted_call_out, operand_losses, Called}
+use Rattle.jr_rewrite.specs.Respellings.{Choice}
+use Rattle.jr_rewrite.specs.Rewritten.{Rewritten, plain, within, joined, losses_of, word_out, name_out, field_out, super_field_out, simple_call_out, dotted_call_out, operand_losses, Called}
 use Rattle.jr_rewrite.specs.Rewrites.{Choosing, RewritesExp, RewritesTarget, RewritesRow}
 use Rattle.jr_images.specs.Images.{Renaming, class_to, type_to, types_to, ctor_to, rows_to}
 use Rattle.jr_images.specs.Spelling.{spelling, reference, operand_of, CreationSpells}
@@ -36,13 +34,13 @@ use Rattle.jr_images.proofs.Forms.{one_form}
 use Rattle.jr_rename_laws.proofs.OneBound.{has_one_type}
 use Rattle.jr_code.proofs.OneFound.{decided_one, written_once}
 use Rattle.jr_rename_laws.proofs.Types.{to_scope, type_kept}
-use Rattle.jr_rename_laws.proofs.Kept.{Kept, kept, kept_row, operand_none}
+use Rattle.jr_rename_laws.proofs.Kept.{kept, kept_row, operand_none}
 use Rattle.jr_rename_laws.proofs.World.{World}
 use Rattle.jr_code.specs.RunKeys.{RunKeys, Place}
 use Rattle.jr_code.specs.Coded.{Code, TargetCode, CastCode, place, ExpCode, TargetOf, RowCode}
 use Rattle.jr_kept_runs.specs.KeysTo.{keys_to, MapsAs, AreDeclared}
 use Rattle.jr_kept_runs.specs.CastsAgree.{IsKnown, CastsAgree}
-use Rattle.jr_kept_runs.proofs.KeptCode.{ToExp, ToTarget, ToExps, literal_to, this_to, assign_to, compound_to, bump_to, signed_to, binary_to, both_to, either_to, cast_to, create_to, end_to, more_to}
+use Rattle.jr_kept_runs.proofs.KeptCode.{ToExp, ToExps, literal_to, this_to, assign_to, compound_to, bump_to, signed_to, binary_to, both_to, either_to, cast_to, create_to, end_to, more_to}
 use Rattle.jr_kept_runs.proofs.References.{exps_by}
 use Rattle.jr_kept_runs.proofs.VariableImages.{ExpGoal, TargetGoal, Goals, local_goals, own_field_goals, class_goals, super_field_goals, field_goals, member_class_goals}
 use Rattle.jr_kept_runs.proofs.CallImages.{RowGoal, simple_call_goal, super_call_goal, dotted_call_goal}
@@ -190,7 +188,6 @@ module _ {A : Type 0} (tells : A → ℕ → Span) (rows : List Row) (g : Renami
   move : (e : tree.Exp A) (o p : Rewritten (tree.Exp A)) → o ≡ p → Both e p.tree → Both e o.tree
   move e o p is goal = subst (λ (z : Rewritten (tree.Exp A)). Both e z.tree) (sym is) goal
 
-
   abbrev here : A → ℕ → Place
   here m b = place (λ m b. (tells m b).from) rows c ((tells m b).from)
 
@@ -204,7 +201,7 @@ module _ {A : Type 0} (tells : A → ℕ → Span) (rows : List Row) (g : Renami
   rows_by x X z Z a b h = subst (λ (q : core.Exps RunKeys). ToExps keys R size q z) (sym a) (subst (λ (y : core.Exps RunKeys). ToExps keys R size X y) (sym b) h)
 
   ends : (x z : core.Exps RunKeys) → x ≡ core.Exps.end → z ≡ core.Exps.end → ToExps keys R size x z
-  ends x z a b = rows_by x core.Exps.end z core.Exps.end a b to_end
+  ends x z a b = rows_by x core.Exps.end z core.Exps.end a b end_to
 
   mutual
     unfolding RewritesExp RewritesTarget RewritesRow ExpCode TargetOf RowCode

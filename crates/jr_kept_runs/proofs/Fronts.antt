@@ -1,32 +1,31 @@
 -- What a respelling puts in front of a word, as code: `this` and a cast of it are `this`, a cast of a value that can't fail is the value, and a class is nothing.
-use Rattle.std.proofs.Common.{◌≡◌, ℕ, List, [], ◌∷◌, Option, Some, None, Bool, true, refl, sym, ap, subst, ◌∙◌, inl, inr}
+use Rattle.std.proofs.Common.{◌≡◌, ℕ, List, [], ◌∷◌, Option, Some, None, true, refl, sym, ap, subst, ◌∙◌, inl, inr}
 use Rattle.std.specs.Prelude.{slice_get, ◌⊎◌}
 use Rattle.jr_text.specs.declared.spans.Span.{Span}
 use Rattle.jr_ast.specs.Tree as tree
 use Rattle.jr_runs.specs.Core as core
-use Rattle.jr_table.specs.Keys.{ClassKey, FieldKey, MethodKey, Ty, class}
-use Rattle.jr_table.specs.Decls.{Decl, class_decl, field_decl, method_decl}
+use Rattle.jr_table.specs.Keys.{ClassKey, FieldKey, Ty, class}
+use Rattle.jr_table.specs.Decls.{Decl, class_decl, field_decl}
 use Rattle.jr_table.specs.Rows.{Row}
 use Rattle.jr_table.specs.Keyed.{IsAssignable, IsSubclass}
 use Rattle.jr_table.specs.Found.{one}
-use Rattle.jr_table.specs.Scope.{Scope}
 use Rattle.jr_table.specs.Context.{Context, scope_of, NamesClass, IsInstanceDecl}
 use Rattle.jr_table.specs.Binding.{HasType}
 use Rattle.jr_spell.specs.declared.references.RefForm.TheVariants as ref
 use Rattle.jr_spell.specs.declared.spellings.Form.{Form}
 use Rattle.jr_spell.specs.declared.spellings.Form.TheVariants.{Asked, OnThis, OnSuper, OnCastThis, OnCastOperand, OnClass, OnOuterClass}
 use Rattle.jr_spell.specs.References.{Reference}
-use Rattle.jr_spell.specs.Binds.{Binds, ThroughCast}
+use Rattle.jr_spell.specs.Binds.{Binds}
 use Rattle.jr_rewrite.specs.Respellings.{Front, front_of}
-use Rattle.jr_rewrite.specs.Rewritten.{word_to, operand_to, variable_on, variable_to, super_to, target_of, new_word, cast_tree}
+use Rattle.jr_rewrite.specs.Rewritten.{word_to, operand_to, variable_to, super_to, new_word, cast_tree}
 use Rattle.jr_images.specs.Images.{Renaming, rows_to}
 use Rattle.jr_images.specs.Spelling.{spelled}
 use Rattle.jr_rename_laws.proofs.Chosen.{outer_front_is}
 use Rattle.jr_images.proofs.Forms.{two_forms, three_forms, four_forms, six_forms, with_name}
 use Rattle.jr_rename_laws.proofs.OneBound.{has_one_type}
 use Rattle.jr_rename_laws.proofs.World.{World}
-use Rattle.jr_code.specs.RunKeys.{RunKeys, Place}
-use Rattle.jr_code.specs.Coded.{Code, IsOwn, ExpCode, ReceiverCode}
+use Rattle.jr_code.specs.RunKeys.{Place}
+use Rattle.jr_code.specs.Coded.{Code, ExpCode}
 
 module _ {A : Type 0} (tells : A → ℕ → Span) (rows : List Row) (g : Renaming) (c d : Context) (w : World A rows g c d) where
   abbrev at_mark : A → ℕ → ℕ

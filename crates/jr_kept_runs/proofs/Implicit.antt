@@ -1,8 +1,7 @@
 -- What an implicit `super()` finds: the constructor without parameters of the superclass; so it is kept.
 use Rattle.std.proofs.Common.{◌≡◌, ℕ, zero, suc, List, [], ◌∷◌, Option, Some, None, Bool, true, false, refl, sym, ap, subst, ◌∙◌, inl, inr, map}
-use Rattle.std.specs.Prelude.{◌⊎◌, slice_get, option_map, unwrap_or, length, if◌then◌else◌}
+use Rattle.std.specs.Prelude.{slice_get, option_map, unwrap_or, length, if◌then◌else◌}
 use Rattle.std.proofs.lemmas.Option.{slice_get-map}
-use Rattle.jr_table.specs.declared.answers.Answer.{Answer}
 use Rattle.jr_table.specs.declared.answers.Answer.TheVariants as number
 use Rattle.jr_table.specs.declared.entries.Kind.{Kind}
 use Rattle.jr_table.specs.declared.entries.Entry.{Entry}
@@ -15,8 +14,8 @@ use Rattle.jr_table.specs.Entries.{IsRowOf, class_of, params_of, number_of, clas
 use Rattle.jr_table.specs.Conditions.{AreRows, as_declarer, as_superclass}
 use Rattle.jr_table.specs.Found.{one}
 use Rattle.jr_table.specs.Scope.{Scope}
-use Rattle.jr_table.specs.Calls.{Fit, IsCtorCandidate, FindsCtor}
-use Rattle.jr_table.specs.Lookup.{FindsCtorOf, Shows}
+use Rattle.jr_table.specs.Calls.{Fit, IsCtorCandidate}
+use Rattle.jr_table.specs.Lookup.{FindsCtorOf}
 use Rattle.jr_table.specs.Context.{Context, scope_of, IsSuperclass}
 use Rattle.jr_images.specs.Images.{Renaming, class_to, ctor_to, rows_to}
 use Rattle.jr_rename_laws.specs.Standing.{ContextTo}

@@ -1,6 +1,5 @@
 -- Initializers: the code of those of a rewritten class is kept.
-use Rattle.std.proofs.Common.{◌≡◌, ◌<◌, ◌≤◌, ℕ, zero, suc, ◌+◌, List, [], ◌∷◌, ◌++◌, Option, Some, None, Bool, true, false, refl, sym, ap, subst, ◌∙◌, inl, inr, map, length}
-use Rattle.std.specs.Prelude.{slice_get, ◌⊎◌}
+use Rattle.std.proofs.Common.{◌≡◌, ℕ, List, [], ◌∷◌, ◌++◌, Option, Some, None, Bool, true, false, refl, sym, ap, subst, ◌∙◌, inl, inr}
 use Rattle.jr_text.specs.declared.spans.Span.{Span}
 use Rattle.jr_ast.specs.Tree as tree
 use Rattle.jr_ast.specs.StatementTree as statement
@@ -8,21 +7,20 @@ use Rattle.jr_ast.specs.MemberTree as syntax
 use Rattle.jr_runs.specs.Core as core
 use Rattle.jr_runs.specs.Rows as core_rows
 use Rattle.jr_runs.specs.KeyMaps.{KeyMap}
-use Rattle.jr_table.specs.Keys.{ClassKey, FieldKey, MethodKey, CtorKey, Ty}
-use Rattle.jr_table.specs.Decls.{MemberKey, head, field, method, constructor, Decl, class_decl, field_decl, LocalKey, local_decl}
+use Rattle.jr_table.specs.Keys.{ClassKey, FieldKey, CtorKey, Ty}
+use Rattle.jr_table.specs.Decls.{MemberKey, field, Decl, class_decl, field_decl}
 use Rattle.jr_table.specs.Rows.{Row}
-use Rattle.jr_table.specs.Entries.{IsRowOf, class_of_member}
 use Rattle.jr_table.specs.Found.{one}
-use Rattle.jr_table.specs.DeclaredItems.{DeclaredItem, class_key}
-use Rattle.jr_table.specs.Errors.{Part, Declares, InMembers}
+use Rattle.jr_table.specs.DeclaredItems.{DeclaredItem}
+use Rattle.jr_table.specs.Errors.{Declares, InMembers}
 use Rattle.jr_table.specs.Context.{Context}
 use Rattle.jr_table.specs.HeadRules.{plain as no_locals, is_static_member}
-use Rattle.jr_table.specs.Binding.{HasType, SuperCtorFinds, Role, value, word_at}
-use Rattle.jr_rewrite.specs.Rewritten.{Rewritten, joined, within, word_out}
+use Rattle.jr_table.specs.Binding.{HasType, SuperCtorFinds, value, word_at}
+use Rattle.jr_rewrite.specs.Rewritten.{Rewritten, joined, within}
 use Rattle.jr_rewrite.specs.Respellings.{Choice, text_of}
 use Rattle.jr_rewrite.specs.Rewrites.{Choosing, RewritesMember, RewritesMaybe, RewritesOne, RewritesMembers}
-use Rattle.jr_images.specs.Images.{Renaming, class_to, field_to, method_to, ctor_to, member_to, name_to, type_to, rows_to}
-use Rattle.jr_images.specs.Spelling.{spelling, renamed}
+use Rattle.jr_images.specs.Images.{Renaming, class_to, field_to, ctor_to, member_to, name_to, type_to, rows_to}
+use Rattle.jr_images.specs.Spelling.{spelling}
 use Rattle.jr_rename_laws.specs.Standing.{ContextTo}
 use Rattle.jr_members.specs.WrittenMembers.{decl_of_member}
 use Rattle.jr_rename_laws.proofs.Chosen.{left_none, right_none, lost_none, renamed_text}
@@ -51,7 +49,6 @@ module _ {A : Type 0} (tells : A → ℕ → Span) (last : A → ℕ → ℕ) (r
 
   abbrev Chosen : Choosing A
   Chosen = spelling (λ m b. (tells m b).from) rows g super_at
-
 
   abbrev pub Inits : List StatementCode → List StatementCode → Type 0
   Inits ss ts = (size : ℕ) → AllTo tells last rows g super_at worlds keys maps R has no_rows casts known places places' implicit size ss ts

@@ -1,7 +1,7 @@
 -- Code that is kept: the second is the first with other keys and other places, and each local has its number. What the first one
 -- calls is declared, and its locals have numbers below n. It is an image of code (`jr_runs: Images`) in which all locals agree
 -- everywhere.
-use Rattle.std.proofs.Common.{◌≡◌, ◌<◌, ◌≤◌, ℕ, List, [], ◌∷◌, Some, IsTrue, refl}
+use Rattle.std.proofs.Common.{◌≡◌, ◌<◌, ◌≤◌, ℕ, List, IsTrue, refl}
 use Rattle.jr_runs.specs.Keys.{At}
 use Rattle.jr_runs.specs.Values.{Value}
 use Rattle.jr_runs.specs.Core as core

@@ -1,10 +1,9 @@
 -- A rewritten program whose declarations are the images of the old ones keeps the runs of each method and constructor.
-use Rattle.std.proofs.Common.{◌≡◌, ℕ, zero, suc, List, [], ◌∷◌, Option, Some, IsTrue, refl, sym, ap, subst, ◌∙◌, inl, inr, map, arith}
+use Rattle.std.proofs.Common.{◌≡◌, ℕ, List, [], ◌∷◌, Some, IsTrue, refl, sym, ap, subst, ◌∙◌, inl, inr, map, arith}
 use Rattle.std.specs.Prelude.{◌⊎◌, slice_get, option_map, codes}
 use Rattle.std.proofs.lemmas.Option.{slice_get-map}
 use Rattle.jr_text.specs.declared.spans.Span.{Span}
 use Rattle.jr_ast.specs.declared.operators.ModWord.TheVariants as word
-use Rattle.jr_ast.specs.Tree as tree
 use Rattle.jr_ast.specs.MemberTree as syntax
 use Rattle.jr_grammar.specs.Bare.{bare_unit}
 use Rattle.jr_runs.specs.Core as core
@@ -13,7 +12,7 @@ use Rattle.jr_runs.specs.KeyMaps.{KeyMap}
 use Rattle.jr_runs.specs.Images.{MethodTo, CodeTo, NoSpot}
 use Rattle.jr_runs.specs.MemberTranslation.{no_code}
 use Rattle.jr_table.specs.Keys.{ClassKey, MethodKey, CtorKey}
-use Rattle.jr_table.specs.Decls.{MemberKey, method, constructor, Decl, method_decl, constructor_decl}
+use Rattle.jr_table.specs.Decls.{MemberKey, method, constructor, method_decl, constructor_decl}
 use Rattle.jr_table.specs.Rows.{Row}
 use Rattle.jr_table.specs.Prelude.{prelude_rows, ctor_row, thread_row, top_key, object_key, thread_key}
 use Rattle.jr_table.specs.Conditions.{AreRows}
@@ -78,7 +77,7 @@ module _ {A : Type 0} (tells : A → ℕ → Span) (last : A → ℕ → ℕ) (r
     (made : RewritesUnits tells (spelling (λ m b. (tells m b).from) rows g (λ (c : Context). super_at c.member)) (declarations_of (λ (m : A) b. (tells m b).from) units) units files) (kept : AllKept files)
     (read : map bare_unit news ≡ map (λ (o : Rewritten (syntax.Unit A)). bare_unit o.tree) files)
     (beside : UnitsBeside (λ (m : A) b. (tells m b).from) (λ (m : A) b. (tells m b).from) (IsClassImage tells (λ (m : A) b. (tells m b).from) g)
-      (IsMemberImage tells (λ (m : A) b. (tells m b).from) g (declarations_of (λ (m : A) b. (tells m b).from) units) (declarations_of (λ (m : A) b. (tells m b).from) news)) units news) where
+    (IsMemberImage tells (λ (m : A) b. (tells m b).from) g (declarations_of (λ (m : A) b. (tells m b).from) units) (declarations_of (λ (m : A) b. (tells m b).from) news)) units news) where
   abbrev begins : A → ℕ → ℕ
   begins m b = (tells m b).from
 

@@ -1,13 +1,13 @@
 -- The types of expressions are of classes that have rows.
 use Rattle.std.proofs.Common.{◌≡◌, ℕ, zero, suc, List, [], ◌∷◌, ◌++◌, Option, Some, None, refl, sym, ap, subst, ◌∙◌, inl, inr}
-use Rattle.std.specs.Prelude.{slice_get, ◌⊎◌, codes}
+use Rattle.std.specs.Prelude.{slice_get, codes}
 use Rattle.jr_ast.specs.declared.operators.UnOp.{UnOp}
 use Rattle.jr_ast.specs.declared.operators.UnOp.TheVariants as sign
 use Rattle.jr_ast.specs.declared.operators.BinOp.{BinOp}
 use Rattle.jr_ast.specs.declared.operators.BinOp.TheVariants as op
 use Rattle.jr_ast.specs.declared.operators.ModWord.TheVariants as word
 use Rattle.jr_ast.specs.Tree as tree
-use Rattle.jr_table.specs.Keys.{ClassKey, Ty, int, boolean, void, null, class}
+use Rattle.jr_table.specs.Keys.{ClassKey, Ty, int, boolean, null, class}
 use Rattle.jr_table.specs.Decls.{MemberKey, head, field, method, constructor, Decl, class_decl, field_decl, method_decl, constructor_decl, local_decl}
 use Rattle.jr_table.specs.Rows.{Row}
 use Rattle.jr_table.specs.Prelude.{top_key, object_key, class_row, prelude_rows}
@@ -85,8 +85,8 @@ module _ (rows : List Row) (are : AreRows rows) where
 
   -- the types of parameters
   pub parameters_known : (k : MemberKey) → HasRow rows (decl_of_member k) → (t : Ty) → Of t (types_of k) → IsKnown rows t
-  parameters_known (head m) row t here = absurd here
-  parameters_known (field m) row t here = absurd here
+  parameters_known (head m) row t here k e = absurd here
+  parameters_known (field m) row t here k e = absurd here
   parameters_known (method m) (j, i) t here k e =
       are.named j i.row k i.stands (as_parameter (subst (λ (d : Decl). TypesName (params_of d) k) (sym i.declares) (names_it m.params t k here e)))
   parameters_known (constructor m) (j, i) t here k e =
@@ -98,7 +98,7 @@ module _ (rows : List Row) (are : AreRows rows) where
 
   -- ---- at a place
 
-  module _ {A : Type 0} (c : Context) (place : IsPlace rows c) where
+  module _ (c : Context) (place : IsPlace rows c) where
     local_known : (l : Local) (n : ℕ) → slice_get c.locals n ≡ Some l → (t : Ty) → IsLocalType rows (scope_of c) l.type t → IsKnown rows t
     local_known l n at t is = by l.type refl is
       where
@@ -116,7 +116,7 @@ module _ (rows : List Row) (are : AreRows rows) where
     by_same : (t u : Ty) → t ≡ u → IsKnown rows u → IsKnown rows t
     by_same t u e h = subst (IsKnown rows) (sym e) h
 
-    pub type_known : (e : tree.Exp A) (t : Ty) → HasType rows c e t → IsKnown rows t
+    pub type_known : {A : Type 0} (e : tree.Exp A) (t : Ty) → HasType rows c e t → IsKnown rows t
     unfolding HasType
     type_known (tree.number m n) t is = by_same t int is int_known
     type_known (tree.truth m b) t is = by_same t boolean is boolean_known
@@ -131,7 +131,7 @@ module _ (rows : List Row) (are : AreRows rows) where
     type_known (tree.super_call m w args) t (d, finds, is) = declared_known d t is
     type_known (tree.create m of args) t (k, d, writes, finds, is) = by_same t (class k) is (of_class k (written_row rows (scope_of c) of k writes))
     type_known (tree.paren m e) t is = type_known e t is
-    type_known (tree.cast m of e) t is k same = written_row rows (scope_of c) of k (subst (λ (u : Ty). WritesType rows (scope_of c) of u) same is)
+    type_known (tree.cast m of e) t is = λ k same. written_row rows (scope_of c) of k (subst (λ (u : Ty). WritesType rows (scope_of c) of u) same is)
     type_known (tree.unary m o e) t is = by_same t (sign_type o) is (sign_known o)
     type_known (tree.bump m o e) t is = by_same t int is int_known
     type_known (tree.binary m o l r) t is = by_same t (operator_type o) is (operator_known o)

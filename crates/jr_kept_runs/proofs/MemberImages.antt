@@ -1,5 +1,5 @@
 -- Members: the code of a rewritten member is the image of the code of the old one.
-use Rattle.std.proofs.Common.{◌≡◌, ◌<◌, ◌≤◌, ℕ, zero, suc, ◌+◌, List, [], ◌∷◌, ◌++◌, Option, Some, None, Bool, true, false, refl, sym, ap, subst, ◌∙◌, inl, inr, map, length, arith}
+use Rattle.std.proofs.Common.{◌≡◌, ◌≤◌, ℕ, zero, suc, ◌+◌, List, [], ◌∷◌, ◌++◌, Option, Some, None, Bool, true, false, sym, ap, subst, ◌∙◌, inl, inr, length, arith}
 use Rattle.std.specs.Prelude.{slice_get, option_map, ◌⊎◌}
 use Rattle.jr_text.specs.declared.spans.Span.{Span}
 use Rattle.jr_ast.specs.Tree as tree
@@ -10,8 +10,8 @@ use Rattle.jr_runs.specs.Values as core_value
 use Rattle.jr_runs.specs.Core as core
 use Rattle.jr_runs.specs.Rows as core_rows
 use Rattle.jr_runs.specs.KeyMaps.{KeyMap}
-use Rattle.jr_runs.specs.MemberTranslation.{is_synchronized, locked, monitor, in_front}
-use Rattle.jr_table.specs.Keys.{ClassKey, FieldKey, MethodKey, CtorKey, Ty}
+use Rattle.jr_runs.specs.MemberTranslation.{is_synchronized, locked, monitor}
+use Rattle.jr_table.specs.Keys.{ClassKey, MethodKey, Ty}
 use Rattle.jr_table.specs.Decls.{MemberKey, Decl, class_decl, field_decl, constructor_decl, local_decl, LocalKey}
 use Rattle.jr_table.specs.Decls as member
 use Rattle.jr_table.specs.Rows.{Row}
@@ -19,19 +19,19 @@ use Rattle.jr_table.specs.Entries.{IsRowOf, class_of_member}
 use Rattle.jr_table.specs.Context.{known as known_type}
 use Rattle.jr_table.specs.Context.{Context, Local, parameters, locals_in_row}
 use Rattle.jr_code.specs.RunRows.{HasRow}
-use Rattle.jr_table.specs.HeadRules.{plain as no_locals, with_parameters, types_of, is_static_member}
-use Rattle.jr_table.specs.Binding.{HasType, Role, value}
-use Rattle.jr_rewrite.specs.Rewritten.{Rewritten, joined, within}
-use Rattle.jr_rewrite.specs.Rewrites.{Choosing, RewritesExp, RewritesParams, RewritesMember}
-use Rattle.jr_images.specs.Images.{Renaming, class_to, field_to, method_to, ctor_to, member_to, type_to, rows_to}
+use Rattle.jr_table.specs.HeadRules.{with_parameters, types_of, is_static_member}
+use Rattle.jr_table.specs.Binding.{HasType}
+use Rattle.jr_rewrite.specs.Rewritten.{Rewritten, joined}
+use Rattle.jr_rewrite.specs.Rewrites.{Choosing, RewritesParams, RewritesMember}
+use Rattle.jr_images.specs.Images.{Renaming, class_to, method_to, member_to, type_to, rows_to}
 use Rattle.jr_images.specs.Spelling.{spelling}
 use Rattle.jr_rename_laws.specs.Standing.{ContextTo}
-use Rattle.jr_rename_laws.proofs.Chosen.{left_none, right_none, lost_none}
+use Rattle.jr_rename_laws.proofs.Chosen.{right_none, lost_none}
 use Rattle.jr_rename_laws.proofs.World.{World}
 use Rattle.jr_rename_laws.proofs.Members.{with_params_to}
-use Rattle.jr_code.specs.RunKeys.{RunKeys, Place}
+use Rattle.jr_code.specs.RunKeys.{RunKeys}
 use Rattle.jr_code.specs.Coded.{Code}
-use Rattle.jr_code.specs.CodedStatements.{StatementCode, ListCode, StmtsCode}
+use Rattle.jr_code.specs.CodedStatements.{ListCode, StmtsCode}
 use Rattle.jr_code.specs.CodedMembers.{MethodCoded}
 use Rattle.jr_kept_runs.specs.KeysTo.{keys_to, MapsAs, AreDeclared}
 use Rattle.jr_kept_runs.specs.CastsAgree.{IsKnown, CastsAgree, IsPlace}
@@ -65,7 +65,6 @@ module _ {A : Type 0} (tells : A → ℕ → Span) (last : A → ℕ → ℕ) (r
 
   abbrev Chosen : Choosing A
   Chosen = spelling (λ m b. (tells m b).from) rows g super_at
-
 
   pub same_length : (k : MemberKey) (n b : ℕ) (ps : List (syntax.Param A)) (q : Rewritten (List (syntax.Param A))) → RewritesParams tells Chosen k n b ps q → length q.tree ≡ length ps
   same_length k n b [] q is = ap (λ (y : Rewritten (List (syntax.Param A))). length y.tree) is

@@ -7,13 +7,13 @@ use Rattle.jr_ast.specs.Tree as tree
 use Rattle.jr_ast.specs.StatementTree as statement
 use Rattle.jr_ast.specs.MemberTree as syntax
 use Rattle.jr_ast.specs.Remarked.{map_class, map_member, map_members}
-use Rattle.jr_grammar.specs.Bare.{Bare, no_mark, bare_word, bare_class, bare_member, bare_unit}
+use Rattle.jr_grammar.specs.Bare.{Bare, no_mark, bare_class, bare_member, bare_unit}
 use Rattle.jr_runs.specs.Core as core
 use Rattle.jr_runs.specs.MemberTranslation.{in_front}
 use Rattle.jr_runs.specs.Rows as core_rows
 use Rattle.jr_runs.specs.KeyMaps.{KeyMap}
-use Rattle.jr_table.specs.Keys.{ClassKey, FieldKey, MethodKey, CtorKey, Ty}
-use Rattle.jr_table.specs.Decls.{MemberKey, head, field, method, constructor, Decl, class_decl}
+use Rattle.jr_table.specs.Keys.{ClassKey, MethodKey, CtorKey, Ty}
+use Rattle.jr_table.specs.Decls.{MemberKey, head, method, constructor, Decl, class_decl}
 use Rattle.jr_table.specs.Rows.{Row}
 use Rattle.jr_table.specs.Entries.{IsRowOf}
 use Rattle.jr_table.specs.Found.{one}
@@ -24,7 +24,7 @@ use Rattle.jr_table.specs.HeadRules.{plain as no_locals, types_of}
 use Rattle.jr_table.specs.Binding.{HasType, SuperCtorFinds}
 use Rattle.jr_members.specs.WrittenMembers.{decl_of_member}
 use Rattle.jr_rewrite.specs.Rewritten.{Rewritten, joined, within}
-use Rattle.jr_rewrite.specs.Rewrites.{Choosing, RewritesMember, RewritesOne, RewritesMembers, RewritesClass, RewritesClasses, RewritesUnit, RewritesUnits}
+use Rattle.jr_rewrite.specs.Rewrites.{Choosing, RewritesMember, RewritesOne, RewritesMembers, RewritesClass, RewritesClasses, RewritesUnits}
 use Rattle.jr_images.specs.Images.{Renaming, class_to, method_to, ctor_to, member_to, type_to, rows_to}
 use Rattle.jr_images.specs.Spelling.{spelling}
 use Rattle.jr_rename_laws.specs.Standing.{ContextTo}
@@ -35,7 +35,7 @@ use Rattle.jr_rename_laws.proofs.World.{World}
 use Rattle.jr_rename_laws.proofs.Members.{plain_to}
 use Rattle.jr_code.specs.RunKeys.{RunKeys}
 use Rattle.jr_code.specs.CodedStatements.{StatementCode}
-use Rattle.jr_code.specs.CodedMembers.{ImplicitFinds, DefaultCoded, InitsCoded, OneCoded, ClassCoded, MembersCoded, InnerCoded, ClassesCoded, UnitsCoded}
+use Rattle.jr_code.specs.CodedMembers.{ImplicitFinds, DefaultCoded, OneCoded, ClassCoded, MembersCoded, InnerCoded, ClassesCoded, UnitsCoded}
 use Rattle.jr_code.specs.RunRows.{HasRow}
 use Rattle.jr_kept_runs.specs.KeysTo.{keys_to, MapsAs, AreDeclared}
 use Rattle.jr_kept_runs.specs.CastsAgree.{IsKnown, CastsAgree, IsPlace}
@@ -44,7 +44,7 @@ use Rattle.jr_kept_runs.proofs.StmtImages.{HasNoRows}
 use Rattle.jr_kept_runs.proofs.SameBodies.{no_stmt_places, AllAgain, recode_method, recode_inits, recode_constructor}
 use Rattle.jr_kept_runs.proofs.Elsewhere.{stmt_elsewhere, code_elsewhere, method_elsewhere}
 use Rattle.jr_kept_runs.proofs.MemberImages.{Of, method_image}
-use Rattle.jr_kept_runs.proofs.ConstructorImages.{AllTo, in_front_image, implicit_row, parent_by, constructor_image}
+use Rattle.jr_kept_runs.proofs.ConstructorImages.{in_front_image, implicit_row, parent_by, constructor_image}
 use Rattle.jr_kept_runs.proofs.InitImages.{Inits, Written, inits_walk}
 
 -- a class writes the method or constructor, or has it as a constructor that isn't written (JLS 8.8.9)

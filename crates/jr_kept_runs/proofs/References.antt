@@ -1,29 +1,25 @@
 -- What the code of a reference is, by what the reference is bound to; and its image, where the new one is bound to the image.
-use Rattle.std.proofs.Common.{◌≡◌, ◌<◌, ℕ, List, [], ◌∷◌, Some, None, Bool, true, false, refl, sym, ap, subst, ◌∙◌, inl, inr, IsTrue}
-use Rattle.std.specs.Prelude.{slice_get, ◌⊎◌}
+use Rattle.std.proofs.Common.{◌≡◌, ℕ, List, Some, None, true, false, sym, ap, subst, ◌∙◌, inl, inr}
+use Rattle.std.specs.Prelude.{slice_get}
 use Rattle.std.specs.List.{list_any}
-use Rattle.jr_ast.specs.declared.operators.ModWord.{ModWord}
 use Rattle.jr_text.specs.declared.spans.Span.{Span}
 use Rattle.jr_ast.specs.Tree as tree
 use Rattle.jr_runs.specs.Core as core
 use Rattle.jr_runs.specs.Rows as core_rows
 use Rattle.jr_runs.specs.KeyMaps.{KeyMap}
-use Rattle.jr_table.specs.Keys.{ClassKey, FieldKey, MethodKey, Ty, class}
-use Rattle.jr_table.specs.Decls.{Decl, class_decl, field_decl, method_decl, constructor_decl, local_decl, LocalKey}
+use Rattle.jr_table.specs.Keys.{ClassKey, FieldKey, MethodKey}
+use Rattle.jr_table.specs.Decls.{Decl, class_decl, field_decl, method_decl, constructor_decl, local_decl}
 use Rattle.jr_table.specs.Rows.{Row}
-use Rattle.jr_table.specs.Entries.{IsRowOf, is_static_word}
-use Rattle.jr_table.specs.Keyed.{IsAssignable, IsSubclass}
-use Rattle.jr_table.specs.Found.{one}
-use Rattle.jr_table.specs.Lookup.{FindsVariable, FindsTypeNamed}
-use Rattle.jr_table.specs.Context.{Context, scope_of, WritesType, NamesClass, IsStaticDecl, IsInstanceDecl}
-use Rattle.jr_table.specs.Binding.{HasType, IsClassName, FieldFinds, SuperFieldFinds, CallFinds, SuperCallFinds, Role, value, BindsItself, word_at}
-use Rattle.jr_images.specs.Images.{Renaming, class_to, field_to, method_to, decl_to, local_to, row_to, rows_to}
+use Rattle.jr_table.specs.Entries.{is_static_word}
+use Rattle.jr_table.specs.Context.{Context, IsStaticDecl, IsInstanceDecl}
+use Rattle.jr_table.specs.Binding.{value, BindsItself, word_at}
+use Rattle.jr_images.specs.Images.{Renaming, field_to, method_to, decl_to, row_to, rows_to}
 use Rattle.jr_rename_laws.proofs.Places.{row_image}
-use Rattle.jr_rename_laws.proofs.OneBound.{one_decl, name_only, field_only, super_field_only, call_only, super_call_only, has_one_type}
+use Rattle.jr_rename_laws.proofs.OneBound.{name_only, field_only, super_field_only}
 use Rattle.jr_rename_laws.proofs.Rebound.{Stands}
 use Rattle.jr_rename_laws.proofs.World.{World}
 use Rattle.jr_code.specs.RunKeys.{RunKeys, Place}
-use Rattle.jr_code.specs.Coded.{Code, TargetCode, IsOwn, FieldCode, VariableCode, CallCode, SuperCallCode, CastCode, place, NameTarget, SuperTarget, DottedTarget, Reads, ExpCode}
+use Rattle.jr_code.specs.Coded.{Code, TargetCode, IsOwn, FieldCode, VariableCode, CallCode, SuperCallCode, place, NameTarget, SuperTarget, DottedTarget}
 use Rattle.jr_kept_runs.specs.KeysTo.{keys_to, MapsAs, AreDeclared}
 use Rattle.jr_kept_runs.proofs.KeptCode.{ToExp, ToTarget, ToExps, this_to, static_call_to, instance_call_to, super_call_to, static_field_to, field_of_to}
 

@@ -1,5 +1,5 @@
 -- A program and the one that a renaming makes of it have the same runs.
-use Rattle.std.proofs.Common.{◌≡◌, ℕ, List, IsTrue, ◌↔◌}
+use Rattle.std.proofs.Common.{List, IsTrue}
 use Rattle.jr_runs.specs.Core as core
 use Rattle.jr_runs.specs.Rows as core_rows
 use Rattle.jr_runs.specs.Images.{MethodTo, CodeTo, NoSpot}

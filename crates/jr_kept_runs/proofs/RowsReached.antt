@@ -7,16 +7,15 @@ use Rattle.jr_ast.specs.Tree as tree
 use Rattle.jr_ast.specs.StatementTree as statement
 use Rattle.jr_ast.specs.MemberTree as syntax
 use Rattle.jr_table.specs.Keys.{ClassKey, MethodKey, CtorKey, Ty}
-use Rattle.jr_table.specs.Decls.{MemberKey, head, field, method, constructor, Decl, class_decl, field_decl, method_decl, constructor_decl}
+use Rattle.jr_table.specs.Decls.{MemberKey, method, constructor, Decl, class_decl, field_decl, method_decl, constructor_decl}
 use Rattle.jr_table.specs.Rows.{Row}
 use Rattle.jr_table.specs.Prelude.{prelude_rows, top_key, object_key, thread_key}
 use Rattle.jr_table.specs.Entries.{IsRowOf, number_of}
-use Rattle.jr_table.specs.Conditions.{AreRows}
 use Rattle.jr_table.specs.DeclaredItems.{Item, class_item, DeclaredItem, class_key, writes_ctor, word_at, words, written, param_declaration, member_declarations, class_declarations, members_declarations, classes_declarations, declarations_from, declarations_of}
 use Rattle.jr_table.specs.ProgramRows.{AreRowsOfDeclarations, AreProgramRows}
-use Rattle.jr_table.specs.Errors.{Part, Declares, InUnits}
+use Rattle.jr_table.specs.Errors.{Declares, InUnits}
 use Rattle.jr_table.proofs.RowLaws.{number_stands}
-use Rattle.jr_members.specs.WrittenMembers.{WrittenMember, decl_of_member, written_members}
+use Rattle.jr_members.specs.WrittenMembers.{decl_of_member, written_members}
 use Rattle.jr_members.specs.WrittenLaws.{AreWritten}
 use Rattle.jr_members.proofs.Meaning.{OneClass, Unreserved, one_meanings}
 use Rattle.jr_members.proofs.Walking.{in_file}

@@ -1,12 +1,12 @@
 -- Statements and members that are the same but for marks have code that is the same but for places.
-use Rattle.std.proofs.Common.{◌≡◌, ℕ, zero, suc, ◌+◌, List, [], ◌∷◌, ◌++◌, length, Option, Some, None, Bool, true, false, ◌||◌, map, refl, sym, ap, subst, ◌∙◌}
+use Rattle.std.proofs.Common.{◌≡◌, ℕ, suc, ◌+◌, List, [], ◌∷◌, ◌++◌, length, Option, Some, None, Bool, true, false, ◌||◌, map, refl, sym, ap, subst, ◌∙◌}
 use Rattle.std.specs.Prelude.{option_map}
 use Rattle.std.specs.List.{list_any}
 use Rattle.jr_ast.specs.declared.operators.ModWord.{ModWord}
 use Rattle.jr_ast.specs.Tree as tree
 use Rattle.jr_ast.specs.StatementTree as statement
 use Rattle.jr_ast.specs.MemberTree as syntax
-use Rattle.jr_ast.specs.Remarked.{map_modifier, map_param, map_exp, map_exps, map_stmt, map_else, map_stmts, map_member, map_members, map_class}
+use Rattle.jr_ast.specs.Remarked.{map_modifier, map_param, map_stmt, map_else, map_stmts, map_member, map_members}
 use Rattle.jr_grammar.specs.Bare.{Bare, no_mark, bare, bare_word, bare_type, bare_args, bare_stmt, bare_stmts, bare_member}
 use Rattle.jr_runs.specs.Core as core
 use Rattle.jr_runs.specs.MemberTranslation.{is_synchronized_word, is_synchronized, locked, monitor, in_front}
@@ -25,7 +25,7 @@ use Rattle.jr_code.specs.RunKeys.{RunKeys, Place}
 use Rattle.jr_code.specs.Coded.{Code, ExpCode}
 use Rattle.jr_code.specs.CodedStatements.{numbers, StatementCode, ListCode, ReturnCode, StmtCode, ElseCode, StmtsCode}
 use Rattle.jr_code.specs.CodedMembers.{MemberCode, MethodCoded, stored, InitBy, InitCoded, InitsCoded, ParentCoded, ConstructorCoded}
-use Rattle.jr_kept_runs.proofs.SameMarks.{no_places, no_row_places, move, recode, recode_row, text_of}
+use Rattle.jr_kept_runs.proofs.SameMarks.{no_places, move, recode, recode_row, text_of}
 
 -- ---- code without places
 
@@ -232,8 +232,7 @@ module _ {A : Type 0} (begins ends : A → ℕ → ℕ) (rows : List Row) where
         let l = recode begins rows c (begins m b) (begins k i) o p values z code in
         let f = recode_stmt n c (begins m b) (begins k i) x y bodies u first in
         let g = recode_else (n + locals_in x) c (begins m b) (begins k i) w v elses q second in
-        let count : n + locals_in x ≡ n + locals_in y = ap (λ (j : ℕ). n + j) (count_same x y bodies) in
-        (
+        let count : n + locals_in x ≡ n + locals_in y = ap (λ (j : ℕ). n + j) (count_same x y bodies) in (
           core.branch (Some (there c.member (begins k i))) l.0 f.0 g.0,
           (l.0, f.0, g.0, l.1, f.1, subst (λ (j : ℕ). ElseCode begins ends rows j c (begins k i) v g.0) count g.1, refl),
           ap no_stmt_places h ∙ (λ j. core.branch None (l.2 j) (f.2 j) (g.2 j)),
@@ -295,11 +294,11 @@ module _ {A : Type 0} (begins ends : A → ℕ → ℕ) (rows : List Row) where
         → (t : core.Method RunKeys) × MethodCoded begins ends rows super_at key i y t × MethodElsewhere s t
     unfolding map_member
     recode_method key b i (syntax.method m mods t w ps body) (syntax.method k words u v qs other) e s (z, code, h) =
-        let mod : bare_modifiers mods ≡ bare_modifiers words = cc in
+        let modifiers : bare_modifiers mods ≡ bare_modifiers words = cc in
         let params : bare_params ps ≡ bare_params qs = cc in
         let bodies : bare_stmts body ≡ bare_stmts other = cc in
-        let static = static_same begins mods words mod in
-        let locks = synchronized_same mods words mod in
+        let static = static_same begins mods words modifiers in
+        let locks = synchronized_same mods words modifiers in
         let count = params_same ps qs params in
         let moved = subst (λ (n : ℕ). StmtsCode begins ends rows n (with_parameters (method key) (is_static_member begins words) qs) (begins m b) body z) count
         (subst (λ (c : Context). StmtsCode begins ends rows (length ps) c (begins m b) body z)
@@ -308,16 +307,15 @@ module _ {A : Type 0} (begins ends : A → ℕ → ℕ) (rows : List Row) where
         let p = Some (there (method key) (word_at begins m b w)) in
         let q = Some (there (method key) (ends m b)) in
         let o = Some (there (method key) (word_at begins k i v)) in
-        let r = Some (there (method key) (ends k i)) in
-        (
+        let r = Some (there (method key) (ends k i)) in (
           core.written (record { params = length qs; body = locked (is_synchronized words) o r (monitor key.class (is_static_member begins words)) l.0 }),
           (l.0, l.1, refl),
           elsewhere_by (record { params = length ps; body = locked (is_synchronized mods) p q (monitor key.class (is_static_member begins mods)) z })
               (record { params = length qs; body = locked (is_synchronized words) o r (monitor key.class (is_static_member begins words)) l.0 }) s _ h refl (record {
-              params = count;
-              body = ap (λ (s : Bool). no_list_places (locked s p q (monitor key.class (is_static_member begins mods)) z)) locks ∙ ap (λ (s : Bool). no_list_places (locked (is_synchronized words) p q (monitor key.class s) z)) static
-                  ∙ locked_places (is_synchronized words) p q o r (monitor key.class (is_static_member begins words)) z l.0 l.2;
-            }),
+                params = count;
+                body = ap (λ (s : Bool). no_list_places (locked s p q (monitor key.class (is_static_member begins mods)) z)) locks ∙ ap (λ (s : Bool). no_list_places (locked (is_synchronized words) p q (monitor key.class s) z)) static
+                    ∙ locked_places (is_synchronized words) p q o r (monitor key.class (is_static_member begins words)) z l.0 l.2;
+              }),
         )
     recode_method key b i (syntax.method m mods t w ps body) (syntax.field k words u v init) e s h = absurd cc
     recode_method key b i (syntax.method m mods t w ps body) (syntax.constructor k words v qs args other) e s h = absurd cc
@@ -336,8 +334,7 @@ module _ {A : Type 0} (begins ends : A → ℕ → ℕ) (rows : List Row) where
         let key : FieldKey = record { class = of; name = v.text } in
         let same : before ≡ key = λ j. record { class = of; name = texts j } in
         let moved = subst (λ (f : FieldKey). ExpCode begins rows (plain (field f) false) (begins m b) x z) same code in
-        let l = recode begins rows (plain (field key) false) (begins m b) (begins k i) x y e z moved in
-        (
+        let l = recode begins rows (plain (field key) false) (begins m b) (begins k i) x y e z moved in (
           stored begins ends rows super_at (there (field key) (word_at begins k i v)) key l.0 ∷ [],
           (l.0, l.1, refl),
           ap (map no_stmt_places) h ∙ (λ j. core.eval None (core.assign None (core.field_of None (core.this None) (same j)) (l.2 j)) ∷ []),
@@ -348,11 +345,11 @@ module _ {A : Type 0} (begins ends : A → ℕ → ℕ) (rows : List Row) where
     unfolding map_member
     recode_init of b i (syntax.field m mods t w None) (syntax.field k words u v None) e ss h = ([], refl, ap (map no_stmt_places) h)
     recode_init of b i (syntax.field m mods t w (Some x)) (syntax.field k words u v (Some y)) e ss h =
-        let mod : bare_modifiers mods ≡ bare_modifiers words = cc in
+        let modifiers : bare_modifiers mods ≡ bare_modifiers words = cc in
         let names : bare_word w ≡ bare_word v = cc in
         let values : bare x ≡ bare y = cc in
         recode_by (is_static_member begins words) of b i m k w v (text_of begins rows (plain (head of) false) w v names) x y values ss
-        (subst (λ (s : Bool). InitBy begins ends rows super_at s of b m w x ss) (static_same begins mods words mod) h)
+        (subst (λ (s : Bool). InitBy begins ends rows super_at s of b m w x ss) (static_same begins mods words modifiers) h)
     recode_init of b i (syntax.method m mods t w ps body) (syntax.method k words u v qs other) e ss h = ([], refl, ap (map no_stmt_places) h)
     recode_init of b i (syntax.constructor m mods w ps args body) (syntax.constructor k words v qs others other) e ss h = ([], refl, ap (map no_stmt_places) h)
     recode_init of b i (syntax.inner m c) (syntax.inner k d) e ss h = ([], refl, ap (map no_stmt_places) h)
@@ -387,8 +384,7 @@ module _ {A : Type 0} (begins ends : A → ℕ → ℕ) (rows : List Row) where
         let args : bare_args xs ≡ bare_args ys = cc in
         let l = recode_row begins rows c b i xs ys args es row in
         let at = Some (there (constructor key) (super_at (constructor key))) in
-        let f : Found = one (constructor_decl n) in
-        (
+        let f : Found = one (constructor_decl n) in (
           core.eval at (core.super_constructor at (core.this None) n l.0),
           (n, l.0, move (λ z. SuperCtorFinds rows c z f) (λ z. SuperCtorFinds rows c z f) bare_args (λ z. super_ctor_bare rows c z f) xs ys args finds, l.1, refl),
           ap no_stmt_places h ∙ ap (λ (j : core.Exps RunKeys). core.eval None (core.super_constructor None (core.this None) n j)) l.2,
@@ -409,8 +405,7 @@ module _ {A : Type 0} (begins ends : A → ℕ → ℕ) (rows : List Row) where
         let moved = subst (λ (n : ℕ). StmtsCode begins ends rows n (with_parameters (constructor key) false qs) (begins m b) body z) count
         (subst (λ (c : Context). StmtsCode begins ends rows (length ps) c (begins m b) body z) (context_same (constructor key) false ps qs params) code) in
         let l = recode_stmts (length qs) (with_parameters (constructor key) false qs) (begins m b) (begins k i) body other bodies z moved in
-        let tail = in_front_again ss ts z l.0 inits l.2 in
-        (
+        let tail = in_front_again ss ts z l.0 inits l.2 in (
           record { params = length qs; body = core.Stmts.more p.0 (in_front ts l.0) },
           (p.0, l.0, p.1, l.1, refl),
           code_by (record { params = length ps; body = core.Stmts.more u (in_front ss z) }) (record { params = length qs; body = core.Stmts.more p.0 (in_front ts l.0) }) s _ h refl

@@ -1,11 +1,8 @@
 -- Casts can fail in both programs alike.
-use Rattle.std.proofs.Common.{◌≡◌, ℕ, List, refl, sym, ap, subst, ◌∙◌, inl, inr}
-use Rattle.std.specs.Prelude.{◌⊎◌}
+use Rattle.std.proofs.Common.{◌≡◌, List, refl, sym, ap, subst, inl, inr}
 use Rattle.jr_table.specs.Keys.{ClassKey, Ty, int, boolean, void, null, class}
-use Rattle.jr_table.specs.Decls.{class_decl}
 use Rattle.jr_table.specs.Rows.{Row}
-use Rattle.jr_table.specs.Entries.{IsRowOf}
-use Rattle.jr_table.specs.Keyed.{IsSubclass, Widens, IsAssignable}
+use Rattle.jr_table.specs.Keyed.{IsSubclass, Widens}
 use Rattle.jr_images.specs.Images.{Renaming, class_to, type_to, rows_to}
 use Rattle.jr_kept_runs.specs.CastsAgree.{IsKnown, CastsAgree}
 use Rattle.jr_code.specs.Exchanged.{exchanged}

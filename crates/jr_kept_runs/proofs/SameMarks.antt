@@ -1,6 +1,5 @@
 -- Expressions that are the same but for marks have code that is the same but for places.
-use Rattle.std.proofs.Common.{◌≡◌, ℕ, List, [], ◌∷◌, Option, Some, None, refl, sym, ap, subst, ◌∙◌, inl, inr}
-use Rattle.std.specs.Prelude.{◌⊎◌}
+use Rattle.std.proofs.Common.{◌≡◌, ℕ, List, Some, None, refl, sym, ap, subst, ◌∙◌, inl, inr}
 use Rattle.jr_ast.specs.declared.operators.BinOp.{BinOp}
 use Rattle.jr_ast.specs.declared.operators.BinOp.TheVariants as op
 use Rattle.jr_ast.specs.Tree as tree
@@ -8,10 +7,9 @@ use Rattle.jr_ast.specs.Remarked.{map_exp, map_exps, map_target}
 use Rattle.jr_grammar.specs.Bare.{Bare, bare, bare_word, bare_type, bare_target, bare_args}
 use Rattle.jr_runs.specs.Core as core
 use Rattle.jr_runs.specs.Translation.{operation, sign_of, bump_of}
-use Rattle.jr_table.specs.Keys.{ClassKey, Ty, class}
+use Rattle.jr_table.specs.Keys.{Ty, class}
 use Rattle.jr_table.specs.Decls.{Decl, class_decl, field_decl, method_decl, constructor_decl, local_decl}
 use Rattle.jr_table.specs.Rows.{Row}
-use Rattle.jr_table.specs.Scope.{Scope}
 use Rattle.jr_table.specs.Found.{Found, one}
 use Rattle.jr_table.specs.Lookup.{FindsVariable}
 use Rattle.jr_table.specs.Context.{Context, scope_of, WritesType}

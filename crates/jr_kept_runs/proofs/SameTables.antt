@@ -1,6 +1,6 @@
 -- The images of a table's rows give runs the same declarations.
-use Rattle.std.proofs.Common.{◌≡◌, ℕ, zero, suc, List, [], ◌∷◌, ◌++◌, Option, Some, None, Bool, true, false, ◌↔◌, refl, sym, ap, subst, ◌∙◌, inl, inr, IsTrue, map}
-use Rattle.std.specs.Prelude.{◌⊎◌, slice_get, option_map, option_and_then, unwrap_or, codes}
+use Rattle.std.proofs.Common.{◌≡◌, ℕ, zero, suc, List, [], ◌∷◌, ◌++◌, Option, Some, None, Bool, true, false, refl, sym, ap, subst, ◌∙◌, inl, inr, IsTrue}
+use Rattle.std.specs.Prelude.{◌⊎◌, slice_get, option_map, option_and_then, codes}
 use Rattle.std.proofs.lemmas.Option.{slice_get-map}
 use Rattle.jr_runs.specs.Values as core_value
 use Rattle.jr_runs.specs.Rows as core_rows
@@ -12,16 +12,16 @@ use Rattle.jr_table.specs.SameKeys.{same_class, same_field, same_method, same_ct
 use Rattle.jr_table.specs.Rows.{Row}
 use Rattle.jr_table.specs.Prelude.{top_key, prelude_rows}
 use Rattle.jr_table.specs.Entries.{IsRowOf, entries_of}
-use Rattle.jr_table.specs.Chains.{parent_of, GoesUp, IsChain, IsSubclassAt}
-use Rattle.jr_table.specs.Conditions.{AreRows, Names, as_type}
+use Rattle.jr_table.specs.Chains.{parent_of, GoesUp, IsChain}
+use Rattle.jr_table.specs.Conditions.{as_type}
 use Rattle.jr_table.specs.Keyed.{IsSubclass, DispatchesTo}
 use Rattle.jr_images.specs.Images.{Renaming, class_to, field_to, method_to, ctor_to, type_to, decl_to, row_to, rows_to}
 use Rattle.jr_rename_laws.proofs.Places.{row_image}
 use Rattle.jr_code.specs.RunKeys.{RunKeys}
 use Rattle.jr_code.specs.RunRows.{kind_of_words, run_type, held_type, HasRow, AreRunRows}
 use Rattle.jr_kept_runs.specs.KeysTo.{keys_to, MapsAs}
-use Rattle.jr_code.specs.Exchanged.{exchange, with_key, keys_by, class_in, field_in, method_in, ctor_in, exchanged}
-use Rattle.jr_kept_runs.specs.TablesAgree.{StaysOnce, TablesAgree}
+use Rattle.jr_code.specs.Exchanged.{with_key, keys_by, class_in, field_in, method_in, ctor_in, exchanged}
+use Rattle.jr_kept_runs.specs.TablesAgree.{TablesAgree}
 use Rattle.jr_code.proofs.Exchanging.{image, undone, among_or}
 
 -- ---- declared keys

@@ -1,6 +1,6 @@
 -- Statements: the code of rewritten statements is the image of the code of the old ones.
-use Rattle.std.proofs.Common.{◌≡◌, ◌<◌, ◌≤◌, ℕ, zero, suc, ◌+◌, List, [], ◌∷◌, ◌++◌, Option, Some, None, Bool, true, false, refl, sym, ap, subst, ◌∙◌, inl, inr, map, arith}
-use Rattle.std.specs.Prelude.{slice_get, ◌⊎◌, option_map}
+use Rattle.std.proofs.Common.{◌≡◌, ◌<◌, ◌≤◌, ℕ, zero, suc, ◌+◌, List, [], ◌∷◌, ◌++◌, Option, Some, None, Bool, refl, sym, ap, subst, ◌∙◌, inl, inr, map, arith}
+use Rattle.std.specs.Prelude.{slice_get, option_map}
 use Rattle.std.proofs.lemmas.Option.{slice_get-map}
 use Rattle.jr_text.specs.declared.spans.Span.{Span}
 use Rattle.jr_ast.specs.Tree as tree
@@ -8,18 +8,17 @@ use Rattle.jr_ast.specs.StatementTree as statement
 use Rattle.jr_runs.specs.Core as core
 use Rattle.jr_runs.specs.Rows as core_rows
 use Rattle.jr_runs.specs.KeyMaps.{KeyMap}
-use Rattle.jr_table.specs.Keys.{Ty, int, boolean, class}
-use Rattle.jr_table.specs.Decls.{Decl, local_decl, LocalKey}
+use Rattle.jr_table.specs.Keys.{Ty, int, boolean}
+use Rattle.jr_table.specs.Decls.{local_decl, LocalKey}
 use Rattle.jr_table.specs.Rows.{Row}
 use Rattle.jr_table.specs.Entries.{IsRowOf}
-use Rattle.jr_table.specs.Found.{Found, one}
-use Rattle.jr_table.specs.Scope.{Scope, ScopeLocal}
+use Rattle.jr_table.specs.Found.{one}
+use Rattle.jr_table.specs.Scope.{ScopeLocal}
 use Rattle.jr_table.specs.Lookup.{FindsVariable}
 use Rattle.jr_table.specs.Context.{known as known_type}
-use Rattle.jr_table.specs.Context.{Context, Local, local_type, scope_of, scope_local, local_of, local_key, with_local, in_own, after, locals_in, locals_in_else, locals_in_row}
+use Rattle.jr_table.specs.Context.{Context, Local, local_type, scope_of, scope_local, local_of, in_own, after, locals_in, locals_in_else, locals_in_row}
 use Rattle.jr_table.specs.Binding.{HasType, Role, value}
 use Rattle.jr_table.specs.Binding as role
-use Rattle.jr_rewrite.specs.Respellings.{Choice}
 use Rattle.jr_rewrite.specs.Rewritten.{Rewritten, within, joined, word_to}
 use Rattle.jr_rewrite.specs.Rewrites.{Choosing, RewritesExp, RewritesMaybe, RewritesStmt, RewritesElse, RewritesStmts}
 use Rattle.jr_images.specs.Images.{Renaming, type_to, rows_to}
@@ -96,7 +95,6 @@ module _ {A : Type 0} (tells : A → ℕ → Span) (last : A → ℕ → ℕ) (r
 
   list_by : (s S t T : ListCode) → s ≡ S → t ≡ T → Lists S T → Lists s t
   list_by s S t T a b h = subst (λ (x : ListCode). Lists x t) (sym a) (subst (λ (y : ListCode). Lists S y) (sym b) h)
-
 
   module _ (c d : Context) (stand : ContextTo g rows c d) (below : AreBelow size c.locals) (place : IsPlace rows c) where
     exp_image : (r : Role) (b : ℕ) (e : tree.Exp A) (o : Rewritten (tree.Exp A)) → RewritesExp tells Chosen c r b e o → o.losses ≡ [] → (j i : ℕ) (x z : Code)

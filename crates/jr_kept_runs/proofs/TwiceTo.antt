@@ -1,12 +1,12 @@
 -- An image is its own image: where a class is renamed, and where none is.
 use Rattle.std.proofs.Common.{◌≡◌, ℕ, List, [], ◌∷◌, Option, Some, None, Bool, true, false, refl, sym, ap, subst, ◌∙◌}
 use Rattle.std.specs.Prelude.{if◌then◌else◌}
-use Rattle.jr_table.specs.Keys.{ClassKey, FieldKey, MethodKey, CtorKey, Ty, int, boolean, void, null, class}
+use Rattle.jr_table.specs.Keys.{ClassKey, FieldKey, MethodKey, Ty, int, boolean, void, null, class}
 use Rattle.jr_table.specs.Decls.{Decl, class_decl, field_decl, method_decl, constructor_decl, local_decl}
 use Rattle.jr_table.specs.Rows.{Row}
 use Rattle.jr_table.specs.Prelude.{top_key}
 use Rattle.jr_images.specs.Families.{AreRenamed}
-use Rattle.jr_images.specs.Images.{Renaming, is_renamed, name_to, outer_to, class_to, type_to, types_to, field_to, method_to, ctor_to}
+use Rattle.jr_images.specs.Images.{Renaming, is_renamed, name_to, outer_to, class_to, type_to, types_to, field_to, method_to}
 use Rattle.jr_images.proofs.KeyImages.{keeps_name, class_same, types_same}
 use Rattle.jr_rename_laws.proofs.Still.{with_target, is_with, without_target, gets_name}
 use Rattle.jr_kept_runs.specs.TablesAgree.{StaysOnce}

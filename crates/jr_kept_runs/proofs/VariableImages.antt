@@ -1,5 +1,5 @@
 -- Variables: the code of a respelled one is the image of the old code.
-use Rattle.std.proofs.Common.{◌≡◌, ◌<◌, ℕ, List, [], ◌∷◌, ◌++◌, Option, Some, None, Bool, true, false, refl, sym, ap, subst, ◌∙◌, inl, inr}
+use Rattle.std.proofs.Common.{◌≡◌, ◌<◌, ℕ, List, [], ◌∷◌, Option, Some, None, Bool, false, refl, sym, ap, subst, ◌∙◌, inl, inr}
 use Rattle.std.specs.Prelude.{slice_get, ◌⊎◌}
 use Rattle.jr_text.specs.declared.spans.Span.{Span}
 use Rattle.jr_ast.specs.Tree as tree
@@ -8,12 +8,11 @@ use Rattle.jr_runs.specs.Rows as core_rows
 use Rattle.jr_runs.specs.Keys.{At}
 use Rattle.jr_runs.specs.KeyMaps.{KeyMap}
 use Rattle.jr_table.specs.Keys.{ClassKey, FieldKey, Ty, class}
-use Rattle.jr_table.specs.Decls.{Decl, class_decl, field_decl, local_decl, LocalKey}
+use Rattle.jr_table.specs.Decls.{Decl, field_decl, local_decl, LocalKey}
 use Rattle.jr_table.specs.Rows.{Row}
 use Rattle.jr_table.specs.Entries.{class_of}
-use Rattle.jr_table.specs.Found.{Found, one, nothing}
+use Rattle.jr_table.specs.Found.{one, nothing}
 use Rattle.jr_table.specs.Lookup.{FindsVariable, FindsFieldIn}
-use Rattle.jr_table.specs.LookupLaws.{Decided}
 use Rattle.jr_table.specs.Context.{Context, scope_of, NamesClass, IsInstanceDecl}
 use Rattle.jr_table.specs.Keyed.{IsSubclass}
 use Rattle.jr_table.specs.Binding.{HasType, IsClassName, FieldFinds, SuperFieldFinds, Role, value, left, statement, word_at}
@@ -25,7 +24,7 @@ use Rattle.jr_spell.specs.References.{Reference}
 use Rattle.jr_spell.specs.Binds.{Binds}
 use Rattle.jr_rewrite.specs.Respellings.{Choice, front_of}
 use Rattle.jr_rewrite.specs.Rewritten.{word_to, operand_to, variable_on, variable_to, super_to, drops_operand, losses_of}
-use Rattle.jr_images.specs.Images.{Renaming, class_to, field_to, local_to, decl_to, name_to, rows_to}
+use Rattle.jr_images.specs.Images.{Renaming, class_to, field_to, local_to, name_to, rows_to}
 use Rattle.jr_images.specs.Spelling.{spelled, renamed, reference, behind_words, operand_of, LocalSpells, OwnFieldSpells, ClassSpells, FieldSpells, MemberClassSpells, SuperFieldSpells}
 use Rattle.jr_rename_laws.proofs.Chosen.{lost_some, renamed_front}
 use Rattle.jr_images.proofs.Forms.{one_form, two_forms, three_forms, with_name}
@@ -36,10 +35,10 @@ use Rattle.jr_rename_laws.proofs.Types.{to_scope}
 use Rattle.jr_rename_laws.proofs.Kept.{Kept}
 use Rattle.jr_rename_laws.proofs.World.{World}
 use Rattle.jr_code.specs.RunKeys.{RunKeys, Place}
-use Rattle.jr_code.specs.Coded.{Code, TargetCode, IsOwn, FieldCode, VariableCode, place, NameTarget, SuperTarget, DottedTarget, Reads, ExpCode, TargetOf}
+use Rattle.jr_code.specs.Coded.{Code, TargetCode, IsOwn, FieldCode, VariableCode, place, NameTarget, SuperTarget, ExpCode, TargetOf}
 use Rattle.jr_kept_runs.specs.KeysTo.{keys_to, MapsAs, AreDeclared}
-use Rattle.jr_kept_runs.proofs.KeptCode.{ToExp, ToTarget, this_to, read_to, local_to}
-use Rattle.jr_kept_runs.proofs.References.{To, name_new, dotted_new, super_new, exps_by, field_image, field_no_class}
+use Rattle.jr_kept_runs.proofs.KeptCode.{ToExp, ToTarget, this_to, read_to, local_to as kept_local}
+use Rattle.jr_kept_runs.proofs.References.{To, name_new, dotted_new, super_new, exps_by, field_image}
 use Rattle.jr_kept_runs.proofs.Fronts.{Each, IsThis, IsOf, OwnForms, own_forms, super_forms, DottedForms, value_front, class_front}
 
 -- a variable, as it may be assigned
@@ -148,7 +147,7 @@ module _ {A : Type 0} (tells : A → ℕ → Span) (rows : List Row) (g : Renami
         let is : t ≡ core.local (Some p) k.number = subst (λ (z : Decl). VariableCode rows z p t) one_old a in
         let was : u ≡ core.local (Some q) k.number = subst (λ (z : Decl). VariableCode (rows_to g rows) z q u) one_new n in
         subst (λ (z : TargetCode). ToTarget r R size z u) (sym is) (subst (λ (z : TargetCode). ToTarget r R size (core.local (Some p) k.number) z) (sym was)
-        (local_to (Some p) (Some q) k.number (below k v.text finds))))
+        (kept_local (Some p) (Some q) k.number (below k v.text finds))))
 
     pub local_goals : (k : LocalKey) → LocalSpells (λ m b. (tells m b).from) rows g c at v.text k h → Goals (tree.name m v) (NewName h)
     local_goals k (finds, inl (f, taken, is)) = subst (λ (x : Choice). Goals (tree.name m v) (NewName x)) (sym is)

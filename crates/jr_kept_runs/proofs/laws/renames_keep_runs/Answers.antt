@@ -1,6 +1,4 @@
-use Rattle.std.proofs.Common.{◌≡◌, ℕ, zero, suc, List, [], ◌∷◌, Some, refl, sym, subst}
-use Rattle.std.specs.Prelude.{slice_get}
-use Rattle.jr_text.specs.declared.spans.Span.{Span}
+use Rattle.std.proofs.Common.{suc, List, [], ◌∷◌, refl, sym, subst}
 use Rattle.jr_grammar.specs.Layout.{itself}
 use Rattle.jr_table.specs.Rows.{Row}
 use Rattle.jr_bind.specs.Programs.{units_of}
