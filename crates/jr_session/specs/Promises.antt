@@ -22,6 +22,9 @@ use Rattle.jr_rename_laws.specs.ImageLaws.{without_marks, AreImages}
 use Rattle.jr_images.specs.Images.{class_to, method_to, member_to, rows_to}
 use Rattle.jr_images.specs.Keeping.{IsKept, IsWritten, IsSuperKept, IsParentKept}
 use Rattle.jr_rename_laws.specs.PlanLaws.{IsPlanIn}
+use Rattle.jr_kept_runs.specs.KeysTo.{keys_to}
+use Rattle.jr_kept_runs.specs.KeepsRuns.{KeepsRuns}
+use Rattle.jr_kept_runs.specs.Laws.{sources_of}
 use Rattle.jr_sources.specs.Sources.{Source, texts_of}
 use Rattle.jr_sources.specs.Whole.{IsProgramOf}
 use Rattle.jr_session.specs.Renaming.{IsAsked}
@@ -88,6 +91,10 @@ pub record KeepsProgram (s : State) (file : List ℕ) (at : ℕ) (new : List ℕ
       (IsWritten begins begins plan.planned.g p.rows) (IsSuperKept plan.planned.g p.rows)
       (IsParentKept plan.planned.g p.rows) (member_to plan.planned.g)
       (declarations_of begins (units_of p)) (units_of p) (units_of q)
+  -- Whatever resolved programs p and q are, each method and constructor, on a receiver and arguments
+  -- of its types, has in q exactly the images of its runs in p, whole ones with the same end and
+  -- bounded ones, both ways.
+  pub runs : KeepsRuns (keys_to plan.planned.g) (sources_of p) (sources_of q)
   -- each file is spliced by its edits, and there are no others
   pub count : length t.files ≡ length s.files
   pub texts : (i : ℕ) (old : Source) → slice_get s.files i ≡ Some old

@@ -6,6 +6,7 @@ ghost use Rattle.jr_session.specs.StepLaws.{HasOneAnswer, HasOneShow, RenamesAre
 use jr_cursor::one_is_target;
 use jr_dispatch::dispatch_is_kept;
 use jr_images::rows_are_named;
+use jr_kept_runs::renames_keep_runs;
 use jr_lex::one_answer;
 use jr_lines::lines_are_told;
 use jr_members::members_are_written;
@@ -51,8 +52,9 @@ pub fn renames_are_refused_first()
 /// Where a session accepts a rename, the sources behind the step are a program again: read, bound
 /// and sound from scratch. It is read as the planned trees, its rows are the images of the old
 /// rows, each reference is bound in it to the image of what it was bound to (JLS 6), and what a
-/// call runs is the image of what it ran, whatever is renamed. Each byte that lies in no edit's
-/// span is as before, and an undoing right behind the rename gives back every byte of every file.
+/// call runs is the image of what it ran, whatever is renamed. Whatever resolved programs the two
+/// are, they are exactly alike. Each byte that lies in no edit's span is as before, and an undoing
+/// right behind the rename gives back every byte of every file.
 pub fn accepted_renames_keep_programs()
     ensures { RenamesKeepPrograms }
 {
@@ -63,6 +65,7 @@ pub fn accepted_renames_keep_programs()
     constructors_give_images::<Span, Span>();
     plans_keep_programs();
     dispatch_is_kept();
+    renames_keep_runs();
     untouched_bytes_move();
 }
 
