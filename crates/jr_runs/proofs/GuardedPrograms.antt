@@ -15,9 +15,9 @@ use Rattle.jr_runs.specs.Evaluation.{Flow, goes_on, returns, Call, invoke, const
 use Rattle.jr_runs.specs.KeyMaps.{KeyMap, value_image}
 use Rattle.jr_runs.specs.Sets.{everything}
 use Rattle.jr_runs.specs.Standing.{no_frame, Stands, whole, HasAll, Shifted}
-use Rattle.jr_runs.specs.Images.{Among, Spots, CodeTo, MethodTo}
+use Rattle.jr_runs.specs.Images.{Among, Spots, AllSpots, lists_alone, CodeTo, MethodTo}
 use Rattle.jr_runs.specs.TypedImages.{IsAbove, member, TypedCodeTo, TypedMethodTo}
-use Rattle.jr_runs.specs.Pairs.{OutRel, GivenImage, given_of, FlowRel, AnswerRel, SomeReturns, Pair, Post}
+use Rattle.jr_runs.specs.Pairs.{OutRel, GivenImage, given_of, FlowRel, AnswerRel, SomeReturns, PairImage, PostImage}
 use Rattle.jr_runs.proofs.Locals.{below_upto, shifted_start}
 use Rattle.jr_runs.proofs.ImageValues.{is_truth_image}
 use Rattle.jr_runs.proofs.Guarded.{Guarded, OldSafe, NewSafe, match_value, match_thrown, match_answers_safe, match_truth_safe}
@@ -33,7 +33,7 @@ none_above R me [] h = tt
 none_above R me (c ∷ cs) h = absurd (h c (inl refl))
 
 -- an image is one in which nothing is known of `this`
-pub code_of_any : {K : Keys} (r : KeyMap K) (R : Rows K) (Spot : Spots K) (c c' : Code K) → CodeTo r R Spot c c' → TypedCodeTo r R Spot None c c'
+pub code_of_any : {K : Keys} (r : KeyMap K) (R : Rows K) (Spot : Spots K) (c c' : Code K) → CodeTo r R Spot c c' → TypedCodeTo r R (lists_alone Spot) None c c'
 code_of_any r R Spot c c' t = record {
   size = t.size;
   at = t.at;
@@ -47,7 +47,7 @@ code_of_any r R Spot c c' t = record {
   body = t.body;
 }
 
-pub method_of_any : {K : Keys} (r : KeyMap K) (R : Rows K) (Spot : Spots K) (m m' : Method K) → MethodTo r R Spot m m' → TypedMethodTo r R Spot None m m'
+pub method_of_any : {K : Keys} (r : KeyMap K) (R : Rows K) (Spot : Spots K) (m m' : Method K) → MethodTo r R Spot m m' → TypedMethodTo r R (lists_alone Spot) None m m'
 method_of_any r R Spot (written c) (written c') t = code_of_any r R Spot c c' t
 method_of_any r R Spot starts starts t = tt
 method_of_any r R Spot (written c) starts t = absurd t
@@ -73,7 +73,7 @@ module _ {K : Keys} {keys : KeyMap K} {R R' : Rows K} (g : Guarded keys R R') wh
       (λ v u u'. match_truth_safe g Given v (value_image keys v) refl (done (thrown started_before)) (done (value (returns None))) (done (thrown started_before)) (done (value (returns None))) u u'
       (λ n n'. match_thrown g Given started_before) (λ n n'. match_value g Given (returns None) (returns None) tt))
 
-  module _ (Spot : Spots K) (turns : TurnsKnown g Spot) (spots : SpotsKnown g Spot) where
+  module _ (Spot : AllSpots K) (turns : TurnsKnown g Spot) (spots : SpotsKnown g Spot) where
     abbrev Answers : Step K (Flow K) → Step K (Flow K) → Type 0
     Answers p p' = Both g.more g.relation g.sides (AnswerRel keys) p p'
 
@@ -106,7 +106,7 @@ pub record Unfolded {K : Keys} {keys : KeyMap K} (P Q : Program K) (g : Guarded 
   pub new_safe : (c : Call K) → g.new_pre c → Safe g.new_pre g.new_good (g.new_good c) (table Q c)
 
 -- old and new code of methods and constructors, each with the class of which `this` is known to be, if it is
-pub record Bodies {K : Keys} (keys : KeyMap K) (Spot : Spots K) (P Q : Program K) (pre : Call K → Type 0) : Type 0 where
+pub record Bodies {K : Keys} (keys : KeyMap K) (Spot : AllSpots K) (P Q : Program K) (pre : Call K → Type 0) : Type 0 where
   pub owner : K.method → Option K.class
   pub method : (m : K.method) → IsTrue (P.rows.has_method m) → TypedMethodTo keys P.rows Spot (owner m) (P.method m) (Q.method (keys.method m))
   pub method_mine : (m : K.method) (me : Value K) (args : List (Value K)) → pre (invoke m me args) → HasMine P.rows (owner m) me
@@ -114,8 +114,8 @@ pub record Bodies {K : Keys} (keys : KeyMap K) (Spot : Spots K) (P Q : Program K
   pub constructor : (k : K.constructor) → IsTrue (P.rows.has_constructor k) → TypedCodeTo keys P.rows Spot (constructor_owner k) (P.constructor k) (Q.constructor (keys.constructor k))
   pub constructor_mine : (k : K.constructor) (me : Value K) (args : List (Value K)) → pre (construct k me args) → HasMine P.rows (constructor_owner k) me
 
-module _ {K : Keys} {keys : KeyMap K} (P Q : Program K) (g : Guarded keys P.rows Q.rows) (Spot : Spots K) (turns : TurnsKnown g Spot) (spots : SpotsKnown g Spot) (bodies : Bodies keys Spot P Q g.old_pre) where
-  pub calls_known : (d d' : Call K) (pair : Pair keys P.rows Spot d d') → g.old_pre d → OldSafe g (table P d) → NewSafe g (table Q d') → Both g.more g.relation g.sides (Post keys P.rows Spot d d' pair) (table P d) (table Q d')
+module _ {K : Keys} {keys : KeyMap K} (P Q : Program K) (g : Guarded keys P.rows Q.rows) (Spot : AllSpots K) (turns : TurnsKnown g Spot) (spots : SpotsKnown g Spot) (bodies : Bodies keys Spot P Q g.old_pre) where
+  pub calls_known : (d d' : Call K) (pair : PairImage keys P.rows Spot d d') → g.old_pre d → OldSafe g (table P d) → NewSafe g (table Q d') → Both g.more g.relation g.sides (PostImage keys P.rows Spot d d' pair) (table P d) (table Q d')
   calls_known (invoke m me args) (invoke m' me' args') pair pre o o' =
       let well : NewSafe g (run_method Q.rows (value_image keys me) (Q.method (keys.method m)) (map (value_image keys) args)) = subst (λ c. NewSafe g (table Q c)) (λ i. invoke (pair.1 i) (pair.2 i) (pair.3 i)) o' in
       rw (pair.1, pair.2, pair.3) (method_known g Spot turns spots (bodies.owner m) (P.method m) (Q.method (keys.method m)) (bodies.method m pair.0) me args (bodies.method_mine m me args pre) o well)

@@ -1,5 +1,5 @@
 -- The runs of a statement match those of its image, where calls are made as they should be on both sides (`Guarded`), but for
--- statement lists that Spot allows, which match by themselves.
+-- what Spot allows, which matches by itself.
 use Rattle.std.proofs.Common.{◌⊎◌, inl, inr, ⊎_elim, ℕ, List, Some, None, ap}
 use Rattle.jr_plans.specs.Plan.{done, act, call}
 use Rattle.jr_plans.specs.Follow.{CallBoth}
@@ -15,16 +15,16 @@ use Rattle.jr_runs.specs.Evaluation.{Flow, goes_on, returns, turn, Step, next, w
 use Rattle.jr_runs.specs.KeyMaps.{KeyMap}
 use Rattle.jr_runs.specs.Standing.{IsFree, Standing, Stands, Frame, Holding, Shifted}
 use Rattle.jr_runs.specs.Sets.{NumberSet, with_one, with_all, Within}
-use Rattle.jr_runs.specs.Images.{ExpTo, Spots, StmtTo, to_declare, to_eval, to_branch, to_loop, to_return, to_return_nothing, to_block, to_sync, to_empty, StmtsTo, to_no_more, to_list, to_spot}
-use Rattle.jr_runs.specs.Pairs.{OutRel, ImageOf, ResultRel, FlowRel, Returns, SomeReturns, TurnTo}
+use Rattle.jr_runs.specs.Images.{ExpImage, AllSpots, StmtImage, to_declare, to_eval, to_branch, to_loop, to_return, to_return_nothing, to_block, to_sync, to_empty, StmtsImage, to_no_more, to_list, to_spot}
+use Rattle.jr_runs.specs.Pairs.{OutRel, ImageOf, ResultRel, FlowRel, Returns, SomeReturns, TurnImage}
 use Rattle.jr_runs.proofs.Locals.{shifted_less, shifted_write}
 use Rattle.jr_runs.proofs.Numbers.{shifted_unset}
 use Rattle.jr_runs.proofs.Guarded.{Guarded, Matched, OldSafe, NewSafe, safe_first, match_value, match_action, match_weaker, match_next_safe, match_truth_safe, match_non_null_safe}
-use Rattle.jr_runs.proofs.GuardedExps.{exp_known}
+use Rattle.jr_runs.proofs.GuardedExps.{ExpsKnown, exp_with}
 
 -- turns of loops that belong together are answered alike, if both are taken as they should be
-abbrev pub TurnsKnown : {K : Keys} {keys : KeyMap K} {R R' : Rows K} (g : Guarded keys R R') → Spots K → Type 0
-TurnsKnown {K = K} {keys = keys} {R = R} g Spot = (me : Value K) (c : Exp K) (b : Stmt K) (l : List (Value K)) (me' : Value K) (c' : Exp K) (b' : Stmt K) (l' : List (Value K)) (t : TurnTo keys R Spot me c b l me' c' b' l') → g.old_pre (turn me c b l) → g.new_pre (turn me' c' b' l')
+abbrev pub TurnsKnown : {K : Keys} {keys : KeyMap K} {R R' : Rows K} (g : Guarded keys R R') → AllSpots K → Type 0
+TurnsKnown {K = K} {keys = keys} {R = R} g Spot = (me : Value K) (c : Exp K) (b : Stmt K) (l : List (Value K)) (me' : Value K) (c' : Exp K) (b' : Stmt K) (l' : List (Value K)) (t : TurnImage keys R Spot me c b l me' c' b' l') → g.old_pre (turn me c b l) → g.new_pre (turn me' c' b' l')
     → CallBoth g.more g.relation g.sides (OutRel (FlowRel keys (Shifted keys t.at t.frame t.tested) (Returns b))) (turn me c b l) (turn me' c' b' l')
 
 -- code that may return by more ways, and behind which less agrees
@@ -105,18 +105,19 @@ module _ {K : Keys} {keys : KeyMap K} {R R' : Rows K} (g : Guarded keys R R') wh
     return_known A B C p q e e' d l l' h o o' = match_next_safe g (ResultRel keys s frame B) (FlowTo C (Unit {0})) (exp R me e l) (exp R' me' e' l') (λ r. done (value (returns (Some r.0)))) (λ r. done (value (returns (Some r.0)))) o o' (λ n n'. d l l' h n n')
         (λ r r' i u u'. match_value g (FlowTo C (Unit {0})) (returns (Some r.0)) (returns (Some r'.0)) (i.0, tt))
 
-module _ {K : Keys} {keys : KeyMap K} {R R' : Rows K} (g : Guarded keys R R') (Spot : Spots K) where
-  -- what the changed statement lists owe
-  abbrev pub SpotsKnown : Type 0
-  SpotsKnown = (s : Standing K) (stands : Stands s) (frame : Frame K) (me me' : Value K) (im : Holding R keys s.code frame me me') (A : NumberSet) (b b' : Stmts K) (B : NumberSet) → Spot s A b b' B → (l l' : List (Value K)) → Shifted keys s frame A l l'
-      → OldSafe g (stmts R me b l) → NewSafe g (stmts R' me' b' l') → Matched g (FlowRel keys (Shifted keys s frame B) (SomeReturns b)) (stmts R me b l) (stmts R' me' b' l')
+module _ {K : Keys} {keys : KeyMap K} {R R' : Rows K} (g : Guarded keys R R') (Spot : AllSpots K) where
+  -- what the changed expressions and statement lists owe
+  pub record SpotsKnown : Type 0 where
+    pub exps : (s : Standing K) (stands : Stands s) (frame : Frame K) (me me' : Value K) (im : Holding R keys s.code frame me me') → ExpsKnown g s stands frame me me' im (Spot.exps s)
+    pub lists : (s : Standing K) (stands : Stands s) (frame : Frame K) (me me' : Value K) (im : Holding R keys s.code frame me me') (A : NumberSet) (b b' : Stmts K) (B : NumberSet) → Spot.lists s A b b' B → (l l' : List (Value K)) → Shifted keys s frame A l l'
+        → OldSafe g (stmts R me b l) → NewSafe g (stmts R' me' b' l') → Matched g (FlowRel keys (Shifted keys s frame B) (SomeReturns b)) (stmts R me b l) (stmts R' me' b' l')
 
   module _ (turns : TurnsKnown g Spot) (s : Standing K) (stands : Stands s) (frame : Frame K) (me me' : Value K) (im : Holding R keys s.code frame me me') where
     abbrev To : NumberSet → Type 0 → Flow K → Flow K → Type 0
     To B M x x' = FlowRel keys (Shifted keys s frame B) M x x'
 
     -- a turn of a loop is a call that is answered
-    pub turn_known : (H B C : NumberSet) (c c' : Exp K) (b b' : Stmt K) → ExpTo keys R s.code H c c' B → StmtTo keys R Spot s B b b' C → Within H C
+    pub turn_known : (H B C : NumberSet) (c c' : Exp K) (b b' : Stmt K) → ExpImage keys R (Spot.exps s) s.code H c c' B → StmtImage keys R Spot s B b b' C → Within H C
         → Follow g s stands frame me me' im H (Returns b) B (λ l. call (turn me c b l) (λ o. done o)) (λ l. call (turn me' c' b' l) (λ o. done o))
     turn_known H B C c c' b b' d t w l l' h o o' = both_call g.more g.relation g.joins g.sides (OutRel (To B (Returns b))) (OutRel (To B (Returns b))) (turn me c b l) (turn me' c' b' l') (λ x. done x) (λ x. done x)
         (turns me c b l me' c' b' l' record { at = s; stands = stands; frame = frame; self = im; head = H; tested = B; behind = C; condition = d; body = t; again = w; locals = h } o.0 o'.0)
@@ -124,32 +125,32 @@ module _ {K : Keys} {keys : KeyMap K} {R R' : Rows K} (g : Guarded keys R R') (S
 
     module _ (spots : SpotsKnown) where
       mutual
-        pub stmt_known : (A B : NumberSet) (a a' : Stmt K) → StmtTo keys R Spot s A a a' B → Follow g s stands frame me me' im A (Returns a) B (stmt R me a) (stmt R' me' a')
-        stmt_known A B a a' (to_declare C D E p q n e e' free d w) l l' h o o' = declare_known g s stands frame me me' im A D B p q n e e' free (exp_known g s stands frame me me' im A D e e' d) w l l' h o o'
-        stmt_known A B a a' (to_eval C D p q e e' d) l l' h o o' = eval_known g s stands frame me me' im A B p q e e' (exp_known g s stands frame me me' im A B e e' d) l l' h o o'
-        stmt_known A B a a' (to_branch C D E F G p q c c' x x' y y' d t k u v) l l' h o o' = branch_known g s stands frame me me' im A D E F B u v p q c c' x x' y y' (exp_known g s stands frame me me' im A D c c' d) (λ m m' i n n'. stmt_known D E x x' t m m' i n n') (λ m m' i n n'. stmt_known D F y y' k m m' i n n') l l' h o o'
+        pub stmt_known : (A B : NumberSet) (a a' : Stmt K) → StmtImage keys R Spot s A a a' B → Follow g s stands frame me me' im A (Returns a) B (stmt R me a) (stmt R' me' a')
+        stmt_known A B a a' (to_declare C D E p q n e e' free d w) l l' h o o' = declare_known g s stands frame me me' im A D B p q n e e' free (exp_with g s stands frame me me' im (Spot.exps s) (spots.exps s stands frame me me' im) A D e e' d) w l l' h o o'
+        stmt_known A B a a' (to_eval C D p q e e' d) l l' h o o' = eval_known g s stands frame me me' im A B p q e e' (exp_with g s stands frame me me' im (Spot.exps s) (spots.exps s stands frame me me' im) A B e e' d) l l' h o o'
+        stmt_known A B a a' (to_branch C D E F G p q c c' x x' y y' d t k u v) l l' h o o' = branch_known g s stands frame me me' im A D E F B u v p q c c' x x' y y' (exp_with g s stands frame me me' im (Spot.exps s) (spots.exps s stands frame me me' im) A D c c' d) (λ m m' i n n'. stmt_known D E x x' t m m' i n n') (λ m m' i n n'. stmt_known D F y y' k m m' i n n') l l' h o o'
         stmt_known A B a a' (to_loop C H D E p q c c' b b' u d t w) l l' h o o' = turn_known H B E c c' b b' d t w l l' (shifted_less keys s frame A H u l l' h) o o'
-        stmt_known A B a a' (to_return C D E p q e e' d) l l' h o o' = return_known g s stands frame me me' im A D B p q e e' (exp_known g s stands frame me me' im A D e e' d) l l' h o o'
+        stmt_known A B a a' (to_return C D E p q e e' d) l l' h o o' = return_known g s stands frame me me' im A D B p q e e' (exp_with g s stands frame me me' im (Spot.exps s) (spots.exps s stands frame me me' im) A D e e' d) l l' h o o'
         stmt_known A B a a' (to_return_nothing C D p q) l l' h o o' = match_value g (To B (Unit {0})) (returns None) (returns None) (tt, tt)
         stmt_known A B a a' (to_block C D E p q ns ns' b b' d w t) l l' h o o' = stmts_known D B b b' t (unset ns l) (unset ns' l')
             (shifted_less keys s frame (with_all A ns) D w (unset ns l) (unset ns' l') (shifted_unset keys s ns ns' d frame A l l' h)) o o'
-        stmt_known A B a a' (to_sync C D E p q p' q' e e' b b' d t) l l' h o o' = sync_known g s stands frame me me' im A D B p q p' q' e e' b b' (exp_known g s stands frame me me' im A D e e' d) (λ m m' i n n'. stmts_known D B b b' t m m' i n n') l l' h o o'
+        stmt_known A B a a' (to_sync C D E p q p' q' e e' b b' d t) l l' h o o' = sync_known g s stands frame me me' im A D B p q p' q' e e' b b' (exp_with g s stands frame me me' im (Spot.exps s) (spots.exps s stands frame me me' im) A D e e' d) (λ m m' i n n'. stmts_known D B b b' t m m' i n n') l l' h o o'
         stmt_known A B a a' (to_empty C p q) l l' h o o' = match_value g (To A ⊥) (goes_on l) (goes_on l') h
 
-        pub stmts_known : (A B : NumberSet) (b b' : Stmts K) → StmtsTo keys R Spot s A b b' B → Follow g s stands frame me me' im A (SomeReturns b) B (stmts R me b) (stmts R' me' b')
+        pub stmts_known : (A B : NumberSet) (b b' : Stmts K) → StmtsImage keys R Spot s A b b' B → Follow g s stands frame me me' im A (SomeReturns b) B (stmts R me b) (stmts R' me' b')
         stmts_known A B b b' (to_no_more C) l l' h o o' = match_value g (To A ⊥) (goes_on l) (goes_on l') h
         stmts_known A B b b' (to_list C D E x x' y y' t k) l l' h o o' = listed_known g s stands frame me me' im A D B x x' y y' (Returns x) (SomeReturns y) (λ m m' i n n'. stmt_known A D x x' t m m' i n n') (λ m m' i n n'. stmts_known D B y y' k m m' i n n') l l' h o o'
-        stmts_known A B b b' (to_spot C D x x' t) l l' h o o' = spots s stands frame me me' im A x x' B t l l' h o o'
+        stmts_known A B b b' (to_spot C D x x' t) l l' h o o' = spots.lists s stands frame me me' im A x x' B t l l' h o o'
 
       -- a turn of a loop, by its plan
-      pub whole_turn_known : (H B C : NumberSet) (c c' : Exp K) (b b' : Stmt K) → ExpTo keys R s.code H c c' B → StmtTo keys R Spot s B b b' C → Within H C
+      pub whole_turn_known : (H B C : NumberSet) (c c' : Exp K) (b b' : Stmt K) → ExpImage keys R (Spot.exps s) s.code H c c' B → StmtImage keys R Spot s B b b' C → Within H C
           → Follow g s stands frame me me' im H (Returns b) B
           (λ l. next (exp R me c l) (λ r. on_truth r.0 (next (stmt R me b r.1) (λ v. on_flow v (λ m. call (turn me c b m) (λ o. done o)))) (done (value (goes_on r.1)))))
           (λ l. next (exp R' me' c' l) (λ r. on_truth r.0 (next (stmt R' me' b' r.1) (λ v. on_flow v (λ m. call (turn me' c' b' m) (λ o. done o)))) (done (value (goes_on r.1)))))
       whole_turn_known H B C c c' b b' d t w l l' h o o' =
           match_next_safe g (ResultRel keys s frame B) (To B M) (exp R me c l) (exp R' me' c' l')
           (λ r. on_truth r.0 (next (stmt R me b r.1) (λ v. on_flow v again)) (done (value (goes_on r.1)))) (λ r. on_truth r.0 (next (stmt R' me' b' r.1) (λ v. on_flow v again')) (done (value (goes_on r.1)))) o o'
-          (λ n n'. exp_known g s stands frame me me' im H B c c' d l l' h n n')
+          (λ n n'. exp_with g s stands frame me me' im (Spot.exps s) (spots.exps s stands frame me me' im) H B c c' d l l' h n n')
           (λ r r' i u u'. match_truth_safe g (To B M) r.0 r'.0 i.0 (next (stmt R me b r.1) (λ v. on_flow v again)) (done (value (goes_on r.1))) (next (stmt R' me' b' r'.1) (λ v. on_flow v again')) (done (value (goes_on r'.1))) u u'
           (λ n n'. match_next_safe g (To C M) (To B M) (stmt R me b r.1) (stmt R' me' b' r'.1) (λ v. on_flow v again) (λ v. on_flow v again') n n'
           (λ z z'. stmt_known B C b b' t r.1 r'.1 i.1 z z')

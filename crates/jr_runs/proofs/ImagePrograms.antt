@@ -8,7 +8,7 @@ use Rattle.jr_runs.specs.Arithmetic.{Out}
 use Rattle.jr_runs.specs.Core.{Program}
 use Rattle.jr_runs.specs.Evaluation.{Flow, Call, invoke, construct, turn, table}
 use Rattle.jr_runs.specs.KeyMaps.{KeyMap, Undoes, value_image, action_image}
-use Rattle.jr_runs.specs.Images.{Spots, ProgramTo}
+use Rattle.jr_runs.specs.Images.{Spots, lists_alone, ProgramTo}
 use Rattle.jr_runs.specs.Pairs.{Pair, Post}
 use Rattle.jr_runs.proofs.ImageValues.{declarations, same_dispatch}
 use Rattle.jr_runs.proofs.Matching.{Setting}
@@ -53,7 +53,7 @@ pub programs_match : {K : Keys} (r q : KeyMap K) (Spot : Spots K) (n : ℕ) (W :
     → (fuel : ℕ) → AnsweredBoth n W (Pair r P.rows Spot) (Post r P.rows Spot) (sides_at (table P) (table P') fuel)
 programs_match {K = K} r q Spot n W P P' c spots = frame_both n W c.joins (table P) (table P') (Pair r P.rows Spot) (Post r P.rows Spot) each
   where
-    bodies : Bodies r Spot P P' (λ d. Unit {0})
+    bodies : Bodies r (lists_alone Spot) P P' (λ d. Unit {0})
     bodies = record {
       owner = λ m. None;
       method = λ m has. method_of_any r P.rows Spot (P.method m) (P'.method (r.method m)) (c.programs.methods m has);
@@ -67,4 +67,4 @@ programs_match {K = K} r q Spot n W P P' c spots = frame_both n W c.joins (table
     each Z t answered d d' pair =
         let g : Setting K = setting r q Spot n W P P' c Z answered in
         let turns : TurnsAnswered (setting r q Spot n W P P' c Z answered) Spot = turns_in r q Spot n W P P' c Z answered in
-        calls_known P P' (unguarded g) Spot (any_turns g Spot turns) (any_spots g Spot turns (spots Z t answered)) bodies d d' pair tt (any_safe (table P d)) (any_safe (table P' d'))
+        calls_known P P' (unguarded g) (lists_alone Spot) (any_turns g Spot turns) (any_spots g Spot turns (spots Z t answered)) bodies d d' pair tt (any_safe (table P d)) (any_safe (table P' d'))

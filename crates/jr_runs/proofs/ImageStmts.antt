@@ -11,7 +11,7 @@ use Rattle.jr_runs.specs.Evaluation.{Flow, turn, Step, on_flow, leaving, stmt, s
 use Rattle.jr_runs.specs.KeyMaps.{value_image}
 use Rattle.jr_runs.specs.Standing.{IsFree, Standing, Stands, Frame, Holding, Shifted}
 use Rattle.jr_runs.specs.Sets.{NumberSet, with_one, Within}
-use Rattle.jr_runs.specs.Images.{ExpTo, Spots, StmtTo, StmtsTo}
+use Rattle.jr_runs.specs.Images.{ExpTo, Spots, lists_alone, StmtTo, StmtsTo}
 use Rattle.jr_runs.specs.Pairs.{OutRel, FlowRel, Returns, SomeReturns, TurnTo}
 use Rattle.jr_runs.proofs.Matching.{Setting, Matches}
 use Rattle.jr_runs.proofs.Guarded.{any_safe, unguarded}
@@ -25,7 +25,7 @@ TurnsAnswered {K = K} g Spot = (me : Value K) (c : Exp K) (b : Stmt K) (l : List
     → CallBoth g.more g.relation g.sides (OutRel (FlowRel g.keys (Shifted g.keys t.at t.frame t.tested) (Returns b))) (turn me c b l) (turn me' c' b' l')
 
 -- they are so, whatever is known of calls
-pub any_turns : {K : Keys} (g : Setting K) (Spot : Spots K) → TurnsAnswered g Spot → TurnsKnown (unguarded g) Spot
+pub any_turns : {K : Keys} (g : Setting K) (Spot : Spots K) → TurnsAnswered g Spot → TurnsKnown (unguarded g) (lists_alone Spot)
 any_turns g Spot turns me c b l me' c' b' l' t made made' = turns me c b l me' c' b' l' t
 
 module _ {K : Keys} (g : Setting K) where
@@ -74,7 +74,7 @@ module _ {K : Keys} (g : Setting K) (Spot : Spots K) (turns : TurnsAnswered g Sp
   -- a turn of a loop is a call that is answered
   pub turn_match : (s : Standing K) (stands : Stands s) (frame : Frame K) (me me' : Value K) (im : Holding g.old g.keys s.code frame me me') (H B C : NumberSet) (c c' : Exp K) (b b' : Stmt K) → ExpTo g.keys g.old s.code H c c' B → StmtTo g.keys g.old Spot s B b b' C → Within H C
       → Follow g s stands frame me me' im H (Returns b) B (λ l. call (turn me c b l) (λ o. done o)) (λ l. call (turn me' c' b' l) (λ o. done o))
-  turn_match s stands frame me me' im H B C c c' b b' d t w l l' h = guarded.turn_known (unguarded g) Spot (any_turns g Spot turns) s stands frame me me' im H B C c c' b b' d t w l l' h
+  turn_match s stands frame me me' im H B C c c' b b' d t w l l' h = guarded.turn_known (unguarded g) (lists_alone Spot) (any_turns g Spot turns) s stands frame me me' im H B C c c' b b' d t w l l' h
       (any_safe (call (turn me c b l) (λ o. done o))) (any_safe (call (turn me' c' b' l') (λ o. done o)))
 
   abbrev pub SpotsOwed : Type 0
@@ -82,12 +82,15 @@ module _ {K : Keys} (g : Setting K) (Spot : Spots K) (turns : TurnsAnswered g Sp
       → (l l' : List (Value K)) → Shifted g.keys s frame A l l' → Matches g (FlowRel g.keys (Shifted g.keys s frame B) (SomeReturns b)) (stmts g.old me b l) (stmts g.new me' b' l')
 
   module _ (spots : SpotsOwed) where
-    pub any_spots : SpotsKnown (unguarded g) Spot
-    any_spots s stands frame me me' im A b b' B t l l' h o o' = spots s stands frame me me' im A b b' B t l l' h
+    pub any_spots : SpotsKnown (unguarded g) (lists_alone Spot)
+    any_spots = record {
+      exps = λ s stands frame me me' im A B e e' none l l' h o o'. absurd none;
+      lists = λ s stands frame me me' im A b b' B t l l' h o o'. spots s stands frame me me' im A b b' B t l l' h;
+    }
 
     module _ (s : Standing K) (stands : Stands s) (frame : Frame K) (me me' : Value K) (im : Holding g.old g.keys s.code frame me me') where
       pub stmt_match : (A B : NumberSet) (a a' : Stmt K) → StmtTo g.keys g.old Spot s A a a' B → (l l' : List (Value K)) → Shifted g.keys s frame A l l' → Matches g (FlowRel g.keys (Shifted g.keys s frame B) (Returns a)) (stmt g.old me a l) (stmt g.new me' a' l')
-      stmt_match A B a a' t l l' h = guarded.stmt_known (unguarded g) Spot (any_turns g Spot turns) s stands frame me me' im any_spots A B a a' t l l' h (any_safe (stmt g.old me a l)) (any_safe (stmt g.new me' a' l'))
+      stmt_match A B a a' t l l' h = guarded.stmt_known (unguarded g) (lists_alone Spot) (any_turns g Spot turns) s stands frame me me' im any_spots A B a a' t l l' h (any_safe (stmt g.old me a l)) (any_safe (stmt g.new me' a' l'))
 
       pub stmts_match : (A B : NumberSet) (b b' : Stmts K) → StmtsTo g.keys g.old Spot s A b b' B → (l l' : List (Value K)) → Shifted g.keys s frame A l l' → Matches g (FlowRel g.keys (Shifted g.keys s frame B) (SomeReturns b)) (stmts g.old me b l) (stmts g.new me' b' l')
-      stmts_match A B b b' t l l' h = guarded.stmts_known (unguarded g) Spot (any_turns g Spot turns) s stands frame me me' im any_spots A B b b' t l l' h (any_safe (stmts g.old me b l)) (any_safe (stmts g.new me' b' l'))
+      stmts_match A B b b' t l l' h = guarded.stmts_known (unguarded g) (lists_alone Spot) (any_turns g Spot turns) s stands frame me me' im any_spots A B b b' t l l' h (any_safe (stmts g.old me b l)) (any_safe (stmts g.new me' b' l'))

@@ -11,7 +11,7 @@ use Rattle.jr_runs.specs.Evaluation.{returns}
 use Rattle.jr_runs.specs.Running.{Start, of_method, plain_run}
 use Rattle.jr_runs.specs.KeyMaps.{type_image}
 use Rattle.jr_runs.specs.Sets.{everything}
-use Rattle.jr_runs.specs.Images.{NoSpot, to_literal, to_this, to_read, to_instance_call, to_local, to_field_of, to_end, to_return, StmtsTo, to_no_more, to_list}
+use Rattle.jr_runs.specs.Images.{NoSpot, lists_alone, to_literal, to_this, to_read, to_instance_call, to_local, to_field_of, to_end, to_return, StmtsTo, to_no_more, to_list}
 use Rattle.jr_runs.specs.KeptDeclarations.{SameDeclarations, SameDispatch, DispatchKept}
 use Rattle.jr_runs.specs.Signatures.{OwnerTo, SameSignatures}
 use Rattle.jr_runs.specs.TypedImages.{member, TypedCodeTo, TypedMethodTo}
@@ -24,7 +24,7 @@ use Rattle.jr_runs.proofs.PulledUpRows.{base, derived, lower, sibling, overrider
 
 -- a method's code with one statement, which returns
 one_return : (size : ℕ) (e e' : Exp J) → StmtsTo up (rows old_dispatch old_has) (NoSpot {K = J}) (member [] size (λ i. i)) everything (returned e) (returned e') everything → (params : ℕ) → params ≤ size → (C : Option Class)
-    → TypedCodeTo up (rows old_dispatch old_has) (NoSpot {K = J}) C (record { params = params; body = returned e }) (record { params = params; body = returned e' })
+    → TypedCodeTo up (rows old_dispatch old_has) (lists_alone (NoSpot {K = J})) C (record { params = params; body = returned e }) (record { params = params; body = returned e' })
 one_return size e e' t params fewer C = record { size = size; at = λ i. i; injective = λ i j a b d. d; params = refl; params_below = fewer; params_stay = λ i h. refl; classes = []; above = λ c none. absurd none; behind = everything; body = t }
 
 to_field : StmtsTo up (rows old_dispatch old_has) (NoSpot {K = J}) (member [] 0 (λ i. i)) everything (returned field_read) (returned field_read) everything
@@ -43,7 +43,7 @@ to_call = to_list everything everything everything (return None (call_of from_de
     (to_read everything everything None None (local None 0) (local None 0) (to_local everything None None 0 (inl refl)) refl) (to_end everything)))
     (to_no_more everything)
 
-methods_to : (m : Called) → IsTrue (old_has m) → TypedMethodTo up (rows old_dispatch old_has) (NoSpot {K = J}) (owner_of m) (methods from_derived m) (methods from_base (pulled m))
+methods_to : (m : Called) → IsTrue (old_has m) → TypedMethodTo up (rows old_dispatch old_has) (lists_alone (NoSpot {K = J})) (owner_of m) (methods from_derived m) (methods from_base (pulled m))
 methods_to from_base h = no h
 methods_to from_derived h = one_return 0 field_read field_read to_field 0 (omega arith) (Some derived)
 methods_to from_lower h = one_return 0 (number 3) (number 3) (to_number 3) 0 (omega arith) (Some lower)

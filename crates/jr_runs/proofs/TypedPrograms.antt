@@ -1,5 +1,5 @@
--- The runs of a well-typed program match those of another that is its image, but for changed statement lists, which may use that
--- all calls are well made. Dispatch is asked where a method may be called alone.
+-- The runs of a well-typed program match those of another that is its image, but for changed expressions and statement lists, which
+-- may use that all calls are well made. Dispatch is asked where a method may be called alone.
 use Rattle.std.proofs.Common.{◌≡◌, ℕ, List, [], ◌∷◌, map, Option, Some, None, unwrap_or, IsTrue, refl, ap, subst}
 use Rattle.jr_plans.specs.Follow.{Joins, Sides, Both, CallBoth, AnsweredBoth, sides_at}
 use Rattle.jr_plans.specs.Safe.{WellTables}
@@ -15,10 +15,10 @@ use Rattle.jr_runs.specs.Evaluation.{Flow, Call, invoke, construct, turn, table}
 use Rattle.jr_runs.specs.Running.{Start, of_method, of_constructor, call_of}
 use Rattle.jr_runs.specs.Starting.{IsReceiver, IsStart}
 use Rattle.jr_runs.specs.KeyMaps.{KeyMap, Undoes, value_image, action_image, start_image}
-use Rattle.jr_runs.specs.Images.{Spots, NoSpot}
+use Rattle.jr_runs.specs.Images.{AllSpots, lists_alone, NoSpot}
 use Rattle.jr_runs.specs.KeptDeclarations.{DispatchKept}
 use Rattle.jr_runs.specs.TypedImages.{TypedProgramTo}
-use Rattle.jr_runs.specs.Pairs.{AnswerRel, Pair, Post}
+use Rattle.jr_runs.specs.Pairs.{AnswerRel, PairImage, PostImage}
 use Rattle.jr_runs.specs.Typing.{WellTyped}
 use Rattle.jr_runs.specs.TypedRuns.{WellMade, WellAnswered}
 use Rattle.jr_runs.specs.Alike.{AlikeExactly}
@@ -27,6 +27,7 @@ use Rattle.jr_runs.proofs.GuardedStmts.{TurnsKnown, SpotsKnown}
 use Rattle.jr_runs.proofs.GuardedPrograms.{Unfolded, Bodies, calls_known}
 use Rattle.jr_runs.proofs.TypesKept.{types_are_kept}
 use Rattle.jr_runs.proofs.StartImages.{mine_above, start_to}
+use Rattle.jr_runs.proofs.Kept.{nothing_changed}
 use Rattle.jr_runs.proofs.Halves.{alike}
 use Rattle.jr_runs.proofs.Renaming.{Mapped, mapped_joins, mapped_images}
 
@@ -49,7 +50,7 @@ module _ {K : Keys} (r : KeyMap K) (old new : Rows K) (kept : DispatchKept r old
   well_found made = at_found (old.dispatch c m) refl made
 
 -- two well-typed programs, W relates an action and its image
-pub record TypedChanges {K : Keys} (r q : KeyMap K) (Spot : Spots K) (n : ℕ) (W : List (Event K) → List (Event K) → Type 0) (P Q : Program K) : Type 1 where
+pub record TypedChanges {K : Keys} (r q : KeyMap K) (Spot : AllSpots K) (n : ℕ) (W : List (Event K) → List (Event K) → Type 0) (P Q : Program K) : Type 1 where
   pub there : Undoes q r
   pub joins : Joins W
   pub images : (x y : Event K) → y.action ≡ action_image r x.action → W (x ∷ []) (y ∷ [])
@@ -57,7 +58,7 @@ pub record TypedChanges {K : Keys} (r q : KeyMap K) (Spot : Spots K) (n : ℕ) (
   pub typed_new : WellTyped Q
   pub programs : TypedProgramTo r Spot P Q
 
-module _ {K : Keys} (r q : KeyMap K) (Spot : Spots K) (n : ℕ) (W : List (Event K) → List (Event K) → Type 0) (P Q : Program K) (c : TypedChanges r q Spot n W P Q) where
+module _ {K : Keys} (r q : KeyMap K) (Spot : AllSpots K) (n : ℕ) (W : List (Event K) → List (Event K) → Type 0) (P Q : Program K) (c : TypedChanges r q Spot n W P Q) where
   abbrev BothSides : Type 1
   BothSides = Sides (Event K) (Call K) (Out (Flow K)) (Call K) (Out (Flow K))
 
@@ -67,10 +68,10 @@ module _ {K : Keys} (r q : KeyMap K) (Spot : Spots K) (n : ℕ) (W : List (Event
 
   -- calls that belong together, both well made
   abbrev pub TypedPair : Call K → Call K → Type 0
-  TypedPair d d' = Pair r P.rows Spot d d' × WellMade P.rows d × WellMade Q.rows d'
+  TypedPair d d' = PairImage r P.rows Spot d d' × WellMade P.rows d × WellMade Q.rows d'
 
   abbrev pub TypedPost : (d d' : Call K) → TypedPair d d' → Out (Flow K) → Out (Flow K) → Type 0
-  TypedPost d d' pair = Post r P.rows Spot d d' pair.0
+  TypedPost d d' pair = PostImage r P.rows Spot d d' pair.0
 
   abbrev pub Answered : BothSides → Type 0
   Answered Z = AnsweredBoth n W TypedPair TypedPost (well_sides Z)
@@ -142,13 +143,14 @@ module _ {K : Keys} (r q : KeyMap K) (Spot : Spots K) (n : ℕ) (W : List (Event
         weaker fuel (λ o o'. AnswerRel r o o' × WellAnswered P.rows d o × WellAnswered Q.rows d' o') (AnswerRel r) d d' (λ o o' e. e.0) (match fuel d d' (((h.0, refl, refl, refl), h, h'), h, h'))
 
 -- Where the same actions are made, one by one, such programs are alike.
-pub typed_alike : {K : Keys} (r s : KeyMap K) (Spot : Spots K) → Undoes r s → (P Q : Program K) (c : TypedChanges r s Spot 0 (Mapped r) P Q) → TypedSpotsMatch r s Spot 0 (Mapped r) P Q c → AlikeExactly r P Q
+pub typed_alike : {K : Keys} (r s : KeyMap K) (Spot : AllSpots K) → Undoes r s → (P Q : Program K) (c : TypedChanges r s Spot 0 (Mapped r) P Q) → TypedSpotsMatch r s Spot 0 (Mapped r) P Q c → AlikeExactly r P Q
 typed_alike r s Spot undoes P Q c spots = alike r s undoes 0 (Mapped r) (λ u t. u ≡ t) (λ t u e. e) P Q c.programs.rows.field_kind (λ x i fuel. typed_programs_match r s Spot 0 (Mapped r) P Q c spots x i fuel)
 
-pub typed_changes : {K : Keys} (r s : KeyMap K) (Spot : Spots K) → Undoes s r → (P Q : Program K) → WellTyped P → WellTyped Q → TypedProgramTo r Spot P Q → TypedChanges r s Spot 0 (Mapped r) P Q
+pub typed_changes : {K : Keys} (r s : KeyMap K) (Spot : AllSpots K) → Undoes s r → (P Q : Program K) → WellTyped P → WellTyped Q → TypedProgramTo r Spot P Q → TypedChanges r s Spot 0 (Mapped r) P Q
 typed_changes r s Spot there P Q typed typed' to = record { there = there; joins = mapped_joins r; images = mapped_images r; typed = typed; typed_new = typed'; programs = to }
 
--- No statement list is changed, and methods may have gone up.
-pub typed_images_are_alike : {K : Keys} (r s : KeyMap K) → Undoes r s → Undoes s r → (P Q : Program K) → WellTyped P → WellTyped Q → TypedProgramTo r (NoSpot {K = K}) P Q → AlikeExactly r P Q
-typed_images_are_alike {K = K} r s undoes there P Q typed typed' to = typed_alike r s (NoSpot {K = K}) undoes P Q (typed_changes r s (NoSpot {K = K}) there P Q typed typed' to)
-    (λ Z answered known a stands frame me me' im A b b' B none. absurd none)
+-- Nothing is changed, and methods may have gone up.
+pub typed_images_are_alike : {K : Keys} (r s : KeyMap K) → Undoes r s → Undoes s r → (P Q : Program K) → WellTyped P → WellTyped Q → TypedProgramTo r (lists_alone (NoSpot {K = K})) P Q → AlikeExactly r P Q
+typed_images_are_alike {K = K} r s undoes there P Q typed typed' to =
+    let c : TypedChanges r s (lists_alone (NoSpot {K = K})) 0 (Mapped r) P Q = typed_changes r s (lists_alone (NoSpot {K = K})) there P Q typed typed' to in
+    typed_alike r s (lists_alone (NoSpot {K = K})) undoes P Q c (λ Z answered known. nothing_changed (typed_guard r s (lists_alone (NoSpot {K = K})) 0 (Mapped r) P Q c Z answered))

@@ -164,8 +164,8 @@ abbrev pub ExpsTo : {K : Keys} → KeyMap K → Rows K → Renumbering K
 ExpsTo r R s A es es' B = ExpsImage r R NoExp s A es es' B
 
 -- A block unsets the image of each local that the old block unsets, and of the old code's locals of
--- no other; it may unset further ones, but none that stays as it is. So where a statement list in it
--- has a local more or less, the block is still the image.
+-- no other; it may unset further ones, but none that stays as it is. So where a statement list in
+-- it has a local more or less, the block is still the image.
 pub record BlockTo {K : Keys} (s : Standing K) (ns ns' : List ℕ) : Type 0 where
   pub all : (i : ℕ) → In i s.code.mine → In i ns → In (s.code.at i) ns'
   pub only : (i : ℕ) → In i s.code.mine → In (s.code.at i) ns' → In i ns
@@ -177,44 +177,69 @@ pub record BlockTo {K : Keys} (s : Standing K) (ns ns' : List ℕ) : Type 0 wher
 abbrev pub Spots : Keys → Type 1
 Spots K = Standing K → NumberSet → Stmts K → Stmts K → NumberSet → Type 0
 
--- The same of statements, but for statement lists that Spot allows, at any depth. A loop has a set
--- of locals that agree wherever its condition begins: before it, and behind its body. A block's
--- locals are unset on both sides, and so agree. Behind a return all may be said to agree.
+-- Which changes are allowed: of expressions, by how the code stands, and of statement lists.
+pub record AllSpots (K : Keys) : Type 1 where
+  pub exps : Standing K → ExpSpots K
+  pub lists : Spots K
+
+-- no expression is changed
+abbrev pub lists_alone : {K : Keys} → Spots K → AllSpots K
+lists_alone Spot = record { exps = λ s. NoExp; lists = Spot }
+
+-- no statement list is changed
+abbrev pub exps_alone : {K : Keys} → (Standing K → ExpSpots K) → AllSpots K
+exps_alone Here = record { exps = Here; lists = λ s A b b' B. ⊥ }
+
+-- The same of statements, but for what Spot allows, at any depth. A loop has a set of locals that
+-- agree wherever its condition begins: before it, and behind its body. A block's locals are unset
+-- on both sides, and so agree. Behind a return all may be said to agree.
 mutual
-  pub data StmtTo {K : Keys} (r : KeyMap K) (R : Rows K) (Spot : Spots K) (s : Standing K)
-      : NumberSet → Stmt K → Stmt K → NumberSet → Type 0 where
+  pub data StmtImage {K : Keys} (r : KeyMap K) (R : Rows K) (Spot : AllSpots K)
+      (s : Standing K) : NumberSet → Stmt K → Stmt K → NumberSet → Type 0 where
     to_declare : (A B C : NumberSet) (p q : At K) (n : ℕ) (e e' : Exp K) → IsFree s.code n
-        → ExpTo r R s.code A e e' B → Within C (with_one B n)
-        → StmtTo r R Spot s A (declare p n e) (declare q (s.code.at n) e') C
-    to_eval : (A B : NumberSet) (p q : At K) (e e' : Exp K) → ExpTo r R s.code A e e' B
-        → StmtTo r R Spot s A (eval p e) (eval q e') B
+        → ExpImage r R (Spot.exps s) s.code A e e' B → Within C (with_one B n)
+        → StmtImage r R Spot s A (declare p n e) (declare q (s.code.at n) e') C
+    to_eval : (A B : NumberSet) (p q : At K) (e e' : Exp K)
+        → ExpImage r R (Spot.exps s) s.code A e e' B
+        → StmtImage r R Spot s A (eval p e) (eval q e') B
     to_branch : (A B C D E : NumberSet) (p q : At K) (c c' : Exp K) (a a' b b' : Stmt K)
-        → ExpTo r R s.code A c c' B
-        → StmtTo r R Spot s B a a' C → StmtTo r R Spot s B b b' D → Within E C → Within E D
-        → StmtTo r R Spot s A (branch p c a b) (branch q c' a' b') E
+        → ExpImage r R (Spot.exps s) s.code A c c' B
+        → StmtImage r R Spot s B a a' C → StmtImage r R Spot s B b b' D → Within E C → Within E D
+        → StmtImage r R Spot s A (branch p c a b) (branch q c' a' b') E
     to_loop : (A H B C : NumberSet) (p q : At K) (c c' : Exp K) (b b' : Stmt K) → Within H A
-        → ExpTo r R s.code H c c' B → StmtTo r R Spot s B b b' C → Within H C
-        → StmtTo r R Spot s A (loop p c b) (loop q c' b') B
-    to_return : (A B C : NumberSet) (p q : At K) (e e' : Exp K) → ExpTo r R s.code A e e' B
-        → StmtTo r R Spot s A (return p e) (return q e') C
+        → ExpImage r R (Spot.exps s) s.code H c c' B → StmtImage r R Spot s B b b' C → Within H C
+        → StmtImage r R Spot s A (loop p c b) (loop q c' b') B
+    to_return : (A B C : NumberSet) (p q : At K) (e e' : Exp K)
+        → ExpImage r R (Spot.exps s) s.code A e e' B
+        → StmtImage r R Spot s A (return p e) (return q e') C
     to_return_nothing : (A B : NumberSet) (p q : At K)
-        → StmtTo r R Spot s A (return_nothing p) (return_nothing q) B
+        → StmtImage r R Spot s A (return_nothing p) (return_nothing q) B
     to_block : (A B C : NumberSet) (p q : At K) (ns ns' : List ℕ) (b b' : Stmts K)
         → BlockTo s ns ns'
-        → Within B (with_all A ns) → StmtsTo r R Spot s B b b' C
-        → StmtTo r R Spot s A (block p ns b) (block q ns' b') C
+        → Within B (with_all A ns) → StmtsImage r R Spot s B b b' C
+        → StmtImage r R Spot s A (block p ns b) (block q ns' b') C
     to_sync : (A B C : NumberSet) (p q p' q' : At K) (e e' : Exp K) (b b' : Stmts K)
-        → ExpTo r R s.code A e e' B → StmtsTo r R Spot s B b b' C
-        → StmtTo r R Spot s A (sync p q e b) (sync p' q' e' b') C
-    to_empty : (A : NumberSet) (p q : At K) → StmtTo r R Spot s A (empty p) (empty q) A
+        → ExpImage r R (Spot.exps s) s.code A e e' B → StmtsImage r R Spot s B b b' C
+        → StmtImage r R Spot s A (sync p q e b) (sync p' q' e' b') C
+    to_empty : (A : NumberSet) (p q : At K) → StmtImage r R Spot s A (empty p) (empty q) A
 
-  pub data StmtsTo {K : Keys} (r : KeyMap K) (R : Rows K) (Spot : Spots K) (s : Standing K)
-      : NumberSet → Stmts K → Stmts K → NumberSet → Type 0 where
-    to_no_more : (A : NumberSet) → StmtsTo r R Spot s A core.Stmts.end core.Stmts.end A
+  pub data StmtsImage {K : Keys} (r : KeyMap K) (R : Rows K) (Spot : AllSpots K)
+      (s : Standing K) : NumberSet → Stmts K → Stmts K → NumberSet → Type 0 where
+    to_no_more : (A : NumberSet) → StmtsImage r R Spot s A core.Stmts.end core.Stmts.end A
     to_list : (A B C : NumberSet) (a a' : Stmt K) (b b' : Stmts K)
-        → StmtTo r R Spot s A a a' B → StmtsTo r R Spot s B b b' C
-        → StmtsTo r R Spot s A (core.Stmts.more a b) (core.Stmts.more a' b') C
-    to_spot : (A B : NumberSet) (b b' : Stmts K) → Spot s A b b' B → StmtsTo r R Spot s A b b' B
+        → StmtImage r R Spot s A a a' B → StmtsImage r R Spot s B b b' C
+        → StmtsImage r R Spot s A (core.Stmts.more a b) (core.Stmts.more a' b') C
+    to_spot : (A B : NumberSet) (b b' : Stmts K) → Spot.lists s A b b' B
+        → StmtsImage r R Spot s A b b' B
+
+-- only statement lists are changed
+abbrev pub StmtTo : {K : Keys} → KeyMap K → Rows K → Spots K → Standing K
+    → NumberSet → Stmt K → Stmt K → NumberSet → Type 0
+StmtTo r R Spot s A a a' B = StmtImage r R (lists_alone Spot) s A a a' B
+
+abbrev pub StmtsTo : {K : Keys} → KeyMap K → Rows K → Spots K → Standing K
+    → NumberSet → Stmts K → Stmts K → NumberSet → Type 0
+StmtsTo r R Spot s A b b' B = StmtsImage r R (lists_alone Spot) s A b b' B
 
 -- A member's code: the parameters stay in their places, and all locals agree where it begins.
 pub record CodeTo {K : Keys} (r : KeyMap K) (R : Rows K) (Spot : Spots K)

@@ -1,5 +1,6 @@
--- When a well-typed program is the image of another but for changed statement lists: dispatch is
--- asked where a method may be called alone, and a method may have gone up to a superclass.
+-- When a well-typed program is the image of another but for changed expressions and statement
+-- lists: dispatch is asked where a method may be called alone, and a method may have gone up to a
+-- superclass.
 use Rattle.std.specs.Prelude.{◌≡◌, ◌<◌, ◌≤◌, ℕ, List, [], Option, Some, None, IsTrue}
 use Rattle.jr_runs.specs.Keys.{Keys, keys_of}
 use Rattle.jr_runs.specs.Rows.{Rows}
@@ -7,7 +8,7 @@ use Rattle.jr_runs.specs.Core.{Code, Method, written, starts, Program}
 use Rattle.jr_runs.specs.KeyMaps.{KeyMap, Undoes}
 use Rattle.jr_runs.specs.Sets.{NumberSet, everything}
 use Rattle.jr_runs.specs.Standing.{itself, Standing, upto}
-use Rattle.jr_runs.specs.Images.{Among, Spots, NoSpot, StmtsTo}
+use Rattle.jr_runs.specs.Images.{Among, AllSpots, lists_alone, NoSpot, StmtsImage}
 use Rattle.jr_runs.specs.KeptDeclarations.{SameDeclarations, DispatchKept}
 use Rattle.jr_runs.specs.Signatures.{SameSignatures}
 use Rattle.jr_runs.specs.Typing.{WellTyped}
@@ -34,7 +35,7 @@ member classes n f = record {
 }
 
 -- A member's code, as `CodeTo`; owner: the member's class.
-pub record TypedCodeTo {K : Keys} (r : KeyMap K) (R : Rows K) (Spot : Spots K)
+pub record TypedCodeTo {K : Keys} (r : KeyMap K) (R : Rows K) (Spot : AllSpots K)
     (owner : Option K.class) (old new : Code K) : Type 0 where
   pub size : ℕ
   pub at : ℕ → ℕ
@@ -46,9 +47,9 @@ pub record TypedCodeTo {K : Keys} (r : KeyMap K) (R : Rows K) (Spot : Spots K)
   pub classes : List K.class
   pub above : (c : K.class) → Among c classes → IsAbove R owner c
   pub behind : NumberSet
-  pub body : StmtsTo r R Spot (member classes size at) everything old.body new.body behind
+  pub body : StmtsImage r R Spot (member classes size at) everything old.body new.body behind
 
-abbrev pub TypedMethodTo : {K : Keys} → KeyMap K → Rows K → Spots K → Option K.class → Method K
+abbrev pub TypedMethodTo : {K : Keys} → KeyMap K → Rows K → AllSpots K → Option K.class → Method K
     → Method K → Type 0
 TypedMethodTo r R Spot owner (written c) (written c') = TypedCodeTo r R Spot owner c c'
 TypedMethodTo r R Spot owner starts starts = Unit {0}
@@ -56,7 +57,7 @@ TypedMethodTo r R Spot owner (written c) starts = ⊥
 TypedMethodTo r R Spot owner starts (written c) = ⊥
 
 -- The new program may have further methods.
-pub record TypedProgramTo {K : Keys} (r : KeyMap K) (Spot : Spots K)
+pub record TypedProgramTo {K : Keys} (r : KeyMap K) (Spot : AllSpots K)
     (old new : Program K) : Type 0 where
   pub rows : SameDeclarations r old.rows new.rows
   pub dispatch : DispatchKept r old.rows new.rows
@@ -71,4 +72,4 @@ pub record TypedProgramTo {K : Keys} (r : KeyMap K) (Spot : Spots K)
 abbrev pub TypedImagesAreAlike : (C F M N A : Type 0) → Type 0
 TypedImagesAreAlike C F M N A = (r s : KeyMap (keys_of C F M N A)) → Undoes r s → Undoes s r
     → (P Q : Program (keys_of C F M N A)) → WellTyped P → WellTyped Q
-    → TypedProgramTo r (NoSpot {K = keys_of C F M N A}) P Q → AlikeExactly r P Q
+    → TypedProgramTo r (lists_alone (NoSpot {K = keys_of C F M N A})) P Q → AlikeExactly r P Q

@@ -6,7 +6,7 @@ use Rattle.jr_runs.specs.Core.{Exp, this, literal, read, assign, local, instance
 use Rattle.jr_runs.specs.KeyMaps.{same_keys, type_image}
 use Rattle.jr_runs.specs.Sets.{everything}
 use Rattle.jr_runs.specs.Standing.{Standing}
-use Rattle.jr_runs.specs.Images.{uncast, NoSpot, to_this, to_literal, to_read, to_assign, to_local, to_field_of, to_eval, to_return, StmtsTo, to_no_more, to_list, to_spot}
+use Rattle.jr_runs.specs.Images.{uncast, NoSpot, to_this, to_literal, to_read, to_assign, to_local, to_field_of, to_eval, to_return, StmtsTo, to_no_more, to_list, to_spot, lists_alone}
 use Rattle.jr_runs.specs.TypedImages.{member, TypedCodeTo, TypedMethodTo}
 use Rattle.jr_runs.specs.Typing.{MethodTyped, WellTyped}
 use Rattle.jr_runs.specs.Alike.{AlikeExactly}
@@ -127,7 +127,7 @@ spot = record {
   new_is = refl;
 }
 
-m_to : TypedCodeTo same_keys (rows both_are params_of result_of) (Inlines P) (Some own) (record { params = 0; body = old_list }) (record { params = 0; body = new_list })
+m_to : TypedCodeTo same_keys (rows both_are params_of result_of) (lists_alone (Inlines P)) (Some own) (record { params = 0; body = old_list }) (record { params = 0; body = new_list })
 m_to = record {
   size = 0;
   at = λ i. i;
@@ -141,7 +141,7 @@ m_to = record {
   body = to_spot everything everything old_list new_list spot;
 }
 
-q_to : TypedCodeTo same_keys (rows both_are params_of result_of) (Inlines P) (Some own) (record { params = 1; body = q_body }) (record { params = 1; body = q_body })
+q_to : TypedCodeTo same_keys (rows both_are params_of result_of) (lists_alone (Inlines P)) (Some own) (record { params = 1; body = q_body }) (record { params = 1; body = q_body })
 q_to = record {
   size = 1;
   at = λ i. i;
@@ -155,7 +155,7 @@ q_to = record {
   body = own_body;
 }
 
-methods_to : (n : Name) → IsTrue (both_are n) → TypedMethodTo same_keys (rows both_are params_of result_of) (Inlines P) (Some own) (written (old_code n)) (written (new_code n))
+methods_to : (n : Name) → IsTrue (both_are n) → TypedMethodTo same_keys (rows both_are params_of result_of) (lists_alone (Inlines P)) (Some own) (written (old_code n)) (written (new_code n))
 methods_to m h = m_to
 methods_to q h = q_to
 

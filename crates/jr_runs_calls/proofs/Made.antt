@@ -12,7 +12,7 @@ use Rattle.jr_runs.specs.Evaluation.{Flow, goes_on, returns, Call, Step, on_valu
 use Rattle.jr_runs.specs.KeyMaps.{same_keys, value_image}
 use Rattle.jr_runs.specs.Standing.{In, Standing, Stands, Frame, Holding, Shifted}
 use Rattle.jr_runs.specs.Sets.{NumberSet}
-use Rattle.jr_runs.specs.Images.{ProgramTo}
+use Rattle.jr_runs.specs.Images.{ProgramTo, lists_alone}
 use Rattle.jr_runs.specs.TypedImages.{TypedProgramTo}
 use Rattle.jr_runs.specs.Typing.{WellTyped}
 use Rattle.jr_runs.specs.Pairs.{OutRel, FlowRel, SomeReturns}
@@ -30,7 +30,7 @@ use Rattle.jr_runs_calls.specs.MadeMethods.{made_exp}
 use Rattle.jr_runs_calls.specs.Extracts.{Given, nothing, assigned, declared, given_stmt, given_body, GivenFits, IsGiven, Extracts}
 use Rattle.jr_runs_calls.proofs.MadeCalls.{next_done, then_is, returns_then, same_undoes, any_unfolded, handed, made_me, called, inner, inner_frame, inner_stands, inner_agree, inner_holding, made_is, body_safe, made_body}
 
-module _ {K : Keys} (P Q : Program K) (g : Guarded same_keys P.rows Q.rows) (none_more : g.more ≡ 0) (unfolded : Unfolded P Q g) (turns : TurnsKnown g (Extracts P Q))
+module _ {K : Keys} (P Q : Program K) (g : Guarded same_keys P.rows Q.rows) (none_more : g.more ≡ 0) (unfolded : Unfolded P Q g) (turns : TurnsKnown g (lists_alone (Extracts P Q)))
     (s : Standing K) (stands : Stands s) (frame : Frame K) (me me' : Value K) (im : Holding P.rows same_keys s.code frame me me') (A : NumberSet) (old new : Stmts K) (B : NumberSet) (x : Extracts P Q s A old new B) (l l' : List (Value K)) (h : Shifted same_keys s frame A l l') where
   -- the method's receiver, its first locals, and how the piece stands in it
   abbrev receiver : Value K
@@ -184,9 +184,12 @@ extracted_programs_are_alike P Q to =
     s stands frame me me' im A b b' B x l l' h (any_safe (stmts P.rows me b l)) (any_safe (stmts Q.rows me' b' l')))))
 
 -- The same where both are well typed; then a call on `this` may be made.
-pub extracted_methods_are_alike : {K : Keys} (P Q : Program K) → WellTyped P → WellTyped Q → TypedProgramTo same_keys (Extracts P Q) P Q → AlikeExactly same_keys P Q
+pub extracted_methods_are_alike : {K : Keys} (P Q : Program K) → WellTyped P → WellTyped Q → TypedProgramTo same_keys (lists_alone (Extracts P Q)) P Q → AlikeExactly same_keys P Q
 extracted_methods_are_alike P Q typed typed' to =
-    let c : TypedChanges same_keys same_keys (Extracts P Q) 0 (Mapped same_keys) P Q = typed_changes same_keys same_keys (Extracts P Q) same_undoes P Q typed typed' to in
-    typed_alike same_keys same_keys (Extracts P Q) same_undoes P Q c
-    (λ Z answered unfolded s stands frame me me' im A b b' B x l l' h o o'.
-    extracted_list P Q (typed_guard same_keys same_keys (Extracts P Q) 0 (Mapped same_keys) P Q c Z answered) refl unfolded (typed_turns same_keys same_keys (Extracts P Q) 0 (Mapped same_keys) P Q c Z answered) s stands frame me me' im A b b' B x l l' h o o')
+    let c : TypedChanges same_keys same_keys (lists_alone (Extracts P Q)) 0 (Mapped same_keys) P Q = typed_changes same_keys same_keys (lists_alone (Extracts P Q)) same_undoes P Q typed typed' to in
+    typed_alike same_keys same_keys (lists_alone (Extracts P Q)) same_undoes P Q c
+    (λ Z answered unfolded. record {
+      exps = λ s stands frame me me' im A B e e' none l l' h o o'. absurd none;
+      lists = λ s stands frame me me' im A b b' B x l l' h o o'.
+          extracted_list P Q (typed_guard same_keys same_keys (lists_alone (Extracts P Q)) 0 (Mapped same_keys) P Q c Z answered) refl unfolded (typed_turns same_keys same_keys (lists_alone (Extracts P Q)) 0 (Mapped same_keys) P Q c Z answered) s stands frame me me' im A b b' B x l l' h o o';
+    })

@@ -6,24 +6,22 @@ use Rattle.jr_runs.specs.Keys.{Keys}
 use Rattle.jr_runs.specs.Values.{Value}
 use Rattle.jr_runs.specs.Arithmetic.{Out, value, thrown}
 use Rattle.jr_runs.specs.Core as core
-use Rattle.jr_runs.specs.Core.{Exp, Stmt, Stmts, Program}
-use Rattle.jr_runs.specs.Evaluation.{Flow, returns, Call, Step, on_value, next, answer, exp, on_flow, stmt, stmts}
+use Rattle.jr_runs.specs.Core.{Exp, Program}
+use Rattle.jr_runs.specs.Evaluation.{Flow, returns, Call, Step, on_value, next, answer, exp, on_flow, stmts}
 use Rattle.jr_runs.specs.KeyMaps.{same_keys, value_image}
 use Rattle.jr_runs.specs.Standing.{Standing, Stands, Frame, Holding, Shifted}
 use Rattle.jr_runs.specs.Sets.{NumberSet}
-use Rattle.jr_runs.specs.Images.{NoSpot, StmtTo}
+use Rattle.jr_runs.specs.Images.{exps_alone}
 use Rattle.jr_runs.specs.TypedImages.{TypedProgramTo}
 use Rattle.jr_runs.specs.Typing.{WellTyped}
-use Rattle.jr_runs.specs.Pairs.{OutRel, ResultRel, FlowRel, Returns, SomeReturns}
+use Rattle.jr_runs.specs.Pairs.{OutRel, ResultRel}
 use Rattle.jr_runs.specs.Alike.{AlikeExactly}
 use Rattle.jr_runs.proofs.Guarded.{Guarded, Matched, OldSafe, NewSafe, match_outcome, match_value, match_and_safe}
-use Rattle.jr_runs.proofs.GuardedExps.{ExpsKnown, exp_with, exp_known}
-use Rattle.jr_runs.proofs.GuardedStmts.{TurnsKnown, Follow, listed_known, declare_known, eval_known, branch_known, return_known, sync_known, stmt_known}
+use Rattle.jr_runs.proofs.GuardedExps.{ExpsKnown, exp_known}
 use Rattle.jr_runs.proofs.GuardedPrograms.{Unfolded}
-use Rattle.jr_runs.proofs.Kept.{kept_turns_known, kept_known}
 use Rattle.jr_runs.proofs.Renaming.{Mapped}
-use Rattle.jr_runs.proofs.TypedPrograms.{TypedChanges, typed_guard, typed_turns, typed_changes, typed_alike}
-use Rattle.jr_runs_calls.specs.Extracts.{ExtractsExp, StmtWith, with_declare, with_eval, with_branch, with_return, with_lock, ExtractsValues}
+use Rattle.jr_runs.proofs.TypedPrograms.{TypedChanges, typed_guard, typed_changes, typed_alike}
+use Rattle.jr_runs_calls.specs.Extracts.{ExtractsExp}
 use Rattle.jr_runs_calls.proofs.MadeCalls.{next_assoc, same_undoes, handed, made_me, called, inner, inner_frame, inner_stands, inner_agree, inner_holding, made_is, body_safe, made_body}
 
 module _ {K : Keys} (P Q : Program K) (g : Guarded same_keys P.rows Q.rows) (none_more : g.more ≡ 0) (unfolded : Unfolded P Q g) (s : Standing K) (stands : Stands s) (frame : Frame K) (me me' : Value K) (im : Holding P.rows same_keys s.code frame me me') where
@@ -97,33 +95,12 @@ module _ {K : Keys} (P Q : Program K) (g : Guarded same_keys P.rows Q.rows) (non
       let k = new_form A B old new x l l' h in
       subst (λ p. Matched g (Result B) (exp P.rows me old l) p) (sym k) (call_match A B old new x l l' h o (subst (λ p. NewSafe g p) k o'))
 
-  module _ (turns : TurnsKnown g (ExtractsValues P Q)) where
-    kept_stmt_known : (A B : NumberSet) (a a' : Stmt K) → StmtTo same_keys P.rows NoSpot s A a a' B → Follow g s stands frame me me' im A (Returns a) B (stmt P.rows me a) (stmt Q.rows me' a')
-    kept_stmt_known A B a a' d l l' h o o' = stmt_known g NoSpot (kept_turns_known g (ExtractsValues P Q) turns) s stands frame me me' im (λ b t f m m' i A1 y y' B1 none. absurd none) A B a a' d l l' h o o'
-
-    first_known : (A B : NumberSet) (a a' : Stmt K) → StmtWith same_keys P.rows (ExtractsExp P Q s) s A a a' B → Follow g s stands frame me me' im A (Returns a) B (stmt P.rows me a) (stmt Q.rows me' a')
-    first_known A B a a' (with_declare C D E p q n e e' free d w) l l' h o o' = declare_known g s stands frame me me' im A D B p q n e e' free (exp_with g s stands frame me me' im (ExtractsExp P Q s) extracted_exp A D e e' d) w l l' h o o'
-    first_known A B a a' (with_eval C D p q e e' d) l l' h o o' = eval_known g s stands frame me me' im A B p q e e' (exp_with g s stands frame me me' im (ExtractsExp P Q s) extracted_exp A B e e' d) l l' h o o'
-    first_known A B a a' (with_branch C D E F G p q c c' x x' y y' d t k u v) l l' h o o' = branch_known g s stands frame me me' im A D E F B u v p q c c' x x' y y' (exp_with g s stands frame me me' im (ExtractsExp P Q s) extracted_exp A D c c' d)
-        (kept_stmt_known D E x x' t) (kept_stmt_known D F y y' k) l l' h o o'
-    first_known A B a a' (with_return C D E p q e e' d) l l' h o o' = return_known g s stands frame me me' im A D B p q e e' (exp_with g s stands frame me me' im (ExtractsExp P Q s) extracted_exp A D e e' d) l l' h o o'
-    first_known A B a a' (with_lock C D E p q p' q' e e' b b' d t) l l' h o o' = sync_known g s stands frame me me' im A D B p q p' q' e e' b b' (exp_with g s stands frame me me' im (ExtractsExp P Q s) extracted_exp A D e e' d)
-        (λ m m' i n n'. kept_known g (ExtractsValues P Q) turns s stands frame me me' im D b b' B t m m' i n n') l l' h o o'
-
-    pub values_list : (A : NumberSet) (old new : Stmts K) (B : NumberSet) → ExtractsValues P Q s A old new B → (l l' : List (Value K)) → Shifted same_keys s frame A l l' → OldSafe g (stmts P.rows me old l) → NewSafe g (stmts Q.rows me' new l')
-        → Matched g (FlowRel same_keys (Shifted same_keys s frame B) (SomeReturns old)) (stmts P.rows me old l) (stmts Q.rows me' new l')
-    values_list A old new B x l l' h o o' =
-        let both : Matched g (FlowRel same_keys (Shifted same_keys s frame B) (SomeReturns (core.Stmts.more x.first x.rest))) (stmts P.rows me (core.Stmts.more x.first x.rest) l) (stmts Q.rows me' (core.Stmts.more x.new_first x.new_rest) l') =
-        listed_known g s stands frame me me' im A x.between B x.first x.new_first x.rest x.new_rest (Returns x.first) (SomeReturns x.rest) (first_known A x.between x.first x.new_first x.first_to)
-        (λ m m' i n n'. kept_known g (ExtractsValues P Q) turns s stands frame me me' im x.between x.rest x.new_rest B x.rest_to m m' i n n')
-        l l' h (subst (λ b. OldSafe g (stmts P.rows me b l)) x.old_is o) (subst (λ b. NewSafe g (stmts Q.rows me' b l')) x.new_is o') in
-        subst (λ b. Matched g (FlowRel same_keys (Shifted same_keys s frame B) (SomeReturns b)) (stmts P.rows me b l) (stmts Q.rows me' new l')) (sym x.old_is)
-        (subst (λ b. Matched g (FlowRel same_keys (Shifted same_keys s frame B) (SomeReturns (core.Stmts.more x.first x.rest))) (stmts P.rows me (core.Stmts.more x.first x.rest) l) (stmts Q.rows me' b l')) (sym x.new_is) both)
-
 -- Well-typed programs in which any number of expressions has become calls have the same runs.
-pub extracted_values_are_alike : {K : Keys} (P Q : Program K) → WellTyped P → WellTyped Q → TypedProgramTo same_keys (ExtractsValues P Q) P Q → AlikeExactly same_keys P Q
+pub extracted_values_are_alike : {K : Keys} (P Q : Program K) → WellTyped P → WellTyped Q → TypedProgramTo same_keys (exps_alone (ExtractsExp P Q)) P Q → AlikeExactly same_keys P Q
 extracted_values_are_alike P Q typed typed' to =
-    let c : TypedChanges same_keys same_keys (ExtractsValues P Q) 0 (Mapped same_keys) P Q = typed_changes same_keys same_keys (ExtractsValues P Q) same_undoes P Q typed typed' to in
-    typed_alike same_keys same_keys (ExtractsValues P Q) same_undoes P Q c
-    (λ Z answered unfolded s stands frame me me' im A b b' B x l l' h o o'.
-    values_list P Q (typed_guard same_keys same_keys (ExtractsValues P Q) 0 (Mapped same_keys) P Q c Z answered) refl unfolded s stands frame me me' im (typed_turns same_keys same_keys (ExtractsValues P Q) 0 (Mapped same_keys) P Q c Z answered) A b b' B x l l' h o o')
+    let c : TypedChanges same_keys same_keys (exps_alone (ExtractsExp P Q)) 0 (Mapped same_keys) P Q = typed_changes same_keys same_keys (exps_alone (ExtractsExp P Q)) same_undoes P Q typed typed' to in
+    typed_alike same_keys same_keys (exps_alone (ExtractsExp P Q)) same_undoes P Q c
+    (λ Z answered unfolded. record {
+      exps = λ s stands frame me me' im. extracted_exp P Q (typed_guard same_keys same_keys (exps_alone (ExtractsExp P Q)) 0 (Mapped same_keys) P Q c Z answered) refl unfolded s stands frame me me' im;
+      lists = λ s stands frame me me' im A b b' B none l l' h o o'. absurd none;
+    })

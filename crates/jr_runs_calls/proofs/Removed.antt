@@ -14,7 +14,7 @@ use Rattle.jr_runs.specs.Evaluation.{Flow, goes_on, returns, Call, invoke, Step,
 use Rattle.jr_runs.specs.KeyMaps.{same_keys, value_image}
 use Rattle.jr_runs.specs.Standing.{upto, Self, itself, held, nobody, unused, Standing, In, SelfIn, HeldIn, CastIn, Stands, Frame, SelfIs, HasAll, AllHold, AllHoldAs, Holding, Shifted}
 use Rattle.jr_runs.specs.Sets.{NumberSet, everything}
-use Rattle.jr_runs.specs.Images.{ProgramTo}
+use Rattle.jr_runs.specs.Images.{ProgramTo, lists_alone}
 use Rattle.jr_runs.specs.TypedImages.{TypedProgramTo}
 use Rattle.jr_runs.specs.Typing.{WellTyped}
 use Rattle.jr_runs.specs.Pairs.{OutRel, ResultRel, FlowRel, SomeReturns}
@@ -36,7 +36,7 @@ use Rattle.jr_runs_calls.specs.MadeMethods.{Receiver, no_receiver, on_this, made
 use Rattle.jr_runs_calls.specs.Inlines.{IsFound, self_there, classes_there, inlined, Inlines}
 use Rattle.jr_runs_calls.proofs.MadeCalls.{next_assoc, same_undoes, any_unfolded}
 
-module _ {K : Keys} (P Q : Program K) (g : Guarded same_keys P.rows Q.rows) (none_more : g.more ≡ 0) (unfolded : Unfolded P Q g) (turns : TurnsKnown g (Inlines P))
+module _ {K : Keys} (P Q : Program K) (g : Guarded same_keys P.rows Q.rows) (none_more : g.more ≡ 0) (unfolded : Unfolded P Q g) (turns : TurnsKnown g (lists_alone (Inlines P)))
     (s : Standing K) (st : Stands s) (frame : Frame K) (me me' : Value K) (im : Holding P.rows same_keys s.code frame me me') (A : NumberSet) (old new : Stmts K) (B : NumberSet) (x : Inlines P s A old new B) (l l' : List (Value K)) (h : Shifted same_keys s frame A l l') where
   abbrev numbers : List ℕ
   numbers = map x.at (upto x.size)
@@ -319,9 +319,12 @@ inlined_programs_are_alike P Q to =
     s stands frame me me' im A b b' B x l l' h (any_safe (stmts P.rows me b l)) (any_safe (stmts Q.rows me' b' l')))))
 
 -- The same where both are well typed; then a call on `this` may be gone.
-pub inlined_methods_are_alike : {K : Keys} (P Q : Program K) → WellTyped P → WellTyped Q → TypedProgramTo same_keys (Inlines P) P Q → AlikeExactly same_keys P Q
+pub inlined_methods_are_alike : {K : Keys} (P Q : Program K) → WellTyped P → WellTyped Q → TypedProgramTo same_keys (lists_alone (Inlines P)) P Q → AlikeExactly same_keys P Q
 inlined_methods_are_alike P Q typed typed' to =
-    let c : TypedChanges same_keys same_keys (Inlines P) 0 (Mapped same_keys) P Q = typed_changes same_keys same_keys (Inlines P) same_undoes P Q typed typed' to in
-    typed_alike same_keys same_keys (Inlines P) same_undoes P Q c
-    (λ Z answered unfolded s stands frame me me' im A b b' B x l l' h o o'.
-    inlined_list P Q (typed_guard same_keys same_keys (Inlines P) 0 (Mapped same_keys) P Q c Z answered) refl unfolded (typed_turns same_keys same_keys (Inlines P) 0 (Mapped same_keys) P Q c Z answered) s stands frame me me' im A b b' B x l l' h o o')
+    let c : TypedChanges same_keys same_keys (lists_alone (Inlines P)) 0 (Mapped same_keys) P Q = typed_changes same_keys same_keys (lists_alone (Inlines P)) same_undoes P Q typed typed' to in
+    typed_alike same_keys same_keys (lists_alone (Inlines P)) same_undoes P Q c
+    (λ Z answered unfolded. record {
+      exps = λ s stands frame me me' im A B e e' none l l' h o o'. absurd none;
+      lists = λ s stands frame me me' im A b b' B x l l' h o o'.
+          inlined_list P Q (typed_guard same_keys same_keys (lists_alone (Inlines P)) 0 (Mapped same_keys) P Q c Z answered) refl unfolded (typed_turns same_keys same_keys (lists_alone (Inlines P)) 0 (Mapped same_keys) P Q c Z answered) s stands frame me me' im A b b' B x l l' h o o';
+    })

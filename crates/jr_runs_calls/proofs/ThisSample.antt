@@ -6,7 +6,7 @@ use Rattle.jr_runs.specs.Core.{Exp, this, literal, assign, instance_call, eval, 
 use Rattle.jr_runs.specs.KeyMaps.{same_keys}
 use Rattle.jr_runs.specs.Sets.{NumberSet, everything}
 use Rattle.jr_runs.specs.Standing.{Standing}
-use Rattle.jr_runs.specs.Images.{to_this, to_literal, to_assign, to_field_of, to_eval, to_return, to_no_more, to_list, to_spot}
+use Rattle.jr_runs.specs.Images.{to_this, to_literal, to_assign, to_field_of, to_eval, to_return, to_no_more, to_list, to_spot, lists_alone}
 use Rattle.jr_runs.specs.TypedImages.{member, TypedCodeTo, TypedMethodTo}
 use Rattle.jr_runs.specs.Typing.{MethodTyped, WellTyped}
 use Rattle.jr_runs.specs.Alike.{AlikeExactly}
@@ -120,7 +120,7 @@ spot = record {
   new_is = refl;
 }
 
-code_to : TypedCodeTo same_keys (rows m_alone params_of result_of) (Extracts P Q) (Some own) (record { params = 0; body = old_list }) (record { params = 0; body = new_list })
+code_to : TypedCodeTo same_keys (rows m_alone params_of result_of) (lists_alone (Extracts P Q)) (Some own) (record { params = 0; body = old_list }) (record { params = 0; body = new_list })
 code_to = record {
   size = 0;
   at = λ i. i;
@@ -134,7 +134,7 @@ code_to = record {
   body = to_spot everything none_agrees old_list new_list spot;
 }
 
-methods_to : (n : Name) → IsTrue (m_alone n) → TypedMethodTo same_keys (rows m_alone params_of result_of) (Extracts P Q) (Some own) (written record { params = 0; body = old_list }) (written (new_code n))
+methods_to : (n : Name) → IsTrue (m_alone n) → TypedMethodTo same_keys (rows m_alone params_of result_of) (lists_alone (Extracts P Q)) (Some own) (written record { params = 0; body = old_list }) (written (new_code n))
 methods_to m h = code_to
 methods_to q h = no h
 

@@ -6,13 +6,13 @@ use Rattle.jr_runs.specs.Core.{add, arithmetic, Exp, this, read, binary, instanc
 use Rattle.jr_runs.specs.KeyMaps.{same_keys}
 use Rattle.jr_runs.specs.Sets.{NumberSet, everything}
 use Rattle.jr_runs.specs.Standing.{Standing}
-use Rattle.jr_runs.specs.Images.{to_this, to_literal, to_read, to_binary, to_field_of, to_changed, to_no_more, to_spot}
+use Rattle.jr_runs.specs.Images.{to_this, to_literal, to_read, to_binary, to_field_of, to_changed, to_return, StmtsImage, to_no_more, to_list, exps_alone}
 use Rattle.jr_runs.specs.TypedImages.{member, TypedCodeTo, TypedMethodTo}
 use Rattle.jr_runs.specs.Typing.{MethodTyped, WellTyped}
 use Rattle.jr_runs.specs.Alike.{AlikeExactly}
 use Rattle.jr_runs.proofs.TypedValues.{no}
 use Rattle.jr_runs_calls.specs.MadeMethods.{on_this}
-use Rattle.jr_runs_calls.specs.Extracts.{ExtractsExp, with_return, ExtractsValues}
+use Rattle.jr_runs_calls.specs.Extracts.{ExtractsExp}
 use Rattle.jr_runs_calls.proofs.MadeExps.{extracted_values_are_alike}
 use Rattle.jr_runs_calls.proofs.SampleRows.{own, Name, m, q, J, rows, program, m_alone, both_are, field, one, returned, sound, declared, dispatched, own_above}
 
@@ -92,21 +92,13 @@ value = record {
   new_is = refl;
 }
 
-spot : ExtractsValues P Q outer everything (returned (sum load)) (returned (sum call)) none_agrees
-spot = record {
-  first = return None (sum load);
-  new_first = return None (sum call);
-  between = none_agrees;
-  first_to = with_return everything none_agrees none_agrees None None (sum load) (sum call)
-      (to_binary everything everything none_agrees None None (arithmetic add) one one load call (to_literal everything None None (int (pos 1))) (to_changed everything none_agrees load call value));
-  rest = core.Stmts.end;
-  new_rest = core.Stmts.end;
-  rest_to = to_no_more none_agrees;
-  old_is = refl;
-  new_is = refl;
-}
+body_to : StmtsImage same_keys (rows m_alone params_of result_of) (exps_alone (ExtractsExp P Q)) outer everything (returned (sum load)) (returned (sum call)) none_agrees
+body_to = to_list everything none_agrees none_agrees (return None (sum load)) (return None (sum call)) core.Stmts.end core.Stmts.end
+    (to_return everything none_agrees none_agrees None None (sum load) (sum call)
+    (to_binary everything everything none_agrees None None (arithmetic add) one one load call (to_literal everything None None (int (pos 1))) (to_changed everything none_agrees load call value)))
+    (to_no_more none_agrees)
 
-code_to : TypedCodeTo same_keys (rows m_alone params_of result_of) (ExtractsValues P Q) (Some own) (record { params = 0; body = returned (sum load) }) (record { params = 0; body = returned (sum call) })
+code_to : TypedCodeTo same_keys (rows m_alone params_of result_of) (exps_alone (ExtractsExp P Q)) (Some own) (record { params = 0; body = returned (sum load) }) (record { params = 0; body = returned (sum call) })
 code_to = record {
   size = 0;
   at = λ i. i;
@@ -117,10 +109,10 @@ code_to = record {
   classes = own ∷ [];
   above = own_above m_alone params_of result_of;
   behind = none_agrees;
-  body = to_spot everything none_agrees (returned (sum load)) (returned (sum call)) spot;
+  body = body_to;
 }
 
-methods_to : (n : Name) → IsTrue (m_alone n) → TypedMethodTo same_keys (rows m_alone params_of result_of) (ExtractsValues P Q) (Some own) (written record { params = 0; body = returned (sum load) }) (written (new_code n))
+methods_to : (n : Name) → IsTrue (m_alone n) → TypedMethodTo same_keys (rows m_alone params_of result_of) (exps_alone (ExtractsExp P Q)) (Some own) (written record { params = 0; body = returned (sum load) }) (written (new_code n))
 methods_to m h = code_to
 methods_to q h = no h
 

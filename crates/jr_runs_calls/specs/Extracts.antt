@@ -3,13 +3,12 @@
 use Rattle.std.specs.Prelude.{◌≡◌, ◌⊎◌, ℕ, List, IsTrue}
 use Rattle.jr_runs.specs.Keys.{Keys, keys_of, At}
 use Rattle.jr_runs.specs.Core as core
-use Rattle.jr_runs.specs.Core.{Exp, read, assign, local, Stmt, declare, eval, branch, return, sync}
-use Rattle.jr_runs.specs.Core.{Stmts, Program}
-use Rattle.jr_runs.specs.Rows.{Rows}
-use Rattle.jr_runs.specs.KeyMaps.{KeyMap, same_keys}
-use Rattle.jr_runs.specs.Sets.{NumberSet, with_one, Within}
-use Rattle.jr_runs.specs.Standing.{In, Standing, IsFree}
-use Rattle.jr_runs.specs.Images.{ExpSpots, ExpImage, ExpTo, StmtTo, StmtsTo, NoSpot, ProgramTo}
+use Rattle.jr_runs.specs.Core.{Exp, read, assign, local, Stmt, declare, eval, return, Stmts}
+use Rattle.jr_runs.specs.Core.{Program}
+use Rattle.jr_runs.specs.KeyMaps.{same_keys}
+use Rattle.jr_runs.specs.Sets.{NumberSet}
+use Rattle.jr_runs.specs.Standing.{In, Standing}
+use Rattle.jr_runs.specs.Images.{ExpTo, StmtsTo, NoSpot, ProgramTo, lists_alone, exps_alone}
 use Rattle.jr_runs.specs.TypedImages.{TypedProgramTo}
 use Rattle.jr_runs.specs.Typing.{WellTyped}
 use Rattle.jr_runs.specs.Pairs.{SomeReturns}
@@ -86,7 +85,7 @@ ExtractedProgramsAreAlike C F M N A = (P Q : Program (keys_of C F M N A))
 -- In instance methods too.
 abbrev pub ExtractedMethodsAreAlike : (C F M N A : Type 0) → Type 0
 ExtractedMethodsAreAlike C F M N A = (P Q : Program (keys_of C F M N A)) → WellTyped P → WellTyped Q
-    → TypedProgramTo same_keys (Extracts P Q) P Q → AlikeExactly same_keys P Q
+    → TypedProgramTo same_keys (lists_alone (Extracts P Q)) P Q → AlikeExactly same_keys P Q
 
 -- ---- expressions
 
@@ -103,39 +102,7 @@ pub record ExtractsExp {K : Keys} (P Q : Program K) (s : Standing K) (A : Number
   pub still : (i : ℕ) → IsTrue (B i) → IsTrue (A i) × In i made.known
   pub new_is : new ≡ made_exp made
 
--- A statement in whose own expression any expressions that Here allows are changed, at any depth.
--- The condition of a loop is none of these.
-pub data StmtWith {K : Keys} (r : KeyMap K) (R : Rows K) (Here : ExpSpots K) (s : Standing K)
-    : NumberSet → Stmt K → Stmt K → NumberSet → Type 0 where
-  with_declare : (A B C : NumberSet) (p q : At K) (n : ℕ) (e e' : Exp K) → IsFree s.code n
-      → ExpImage r R Here s.code A e e' B → Within C (with_one B n)
-      → StmtWith r R Here s A (declare p n e) (declare q (s.code.at n) e') C
-  with_eval : (A B : NumberSet) (p q : At K) (e e' : Exp K) → ExpImage r R Here s.code A e e' B
-      → StmtWith r R Here s A (eval p e) (eval q e') B
-  with_branch : (A B C D E : NumberSet) (p q : At K) (c c' : Exp K) (a a' b b' : Stmt K)
-      → ExpImage r R Here s.code A c c' B
-      → StmtTo r R NoSpot s B a a' C → StmtTo r R NoSpot s B b b' D → Within E C → Within E D
-      → StmtWith r R Here s A (branch p c a b) (branch q c' a' b') E
-  with_return : (A B C : NumberSet) (p q : At K) (e e' : Exp K)
-      → ExpImage r R Here s.code A e e' B
-      → StmtWith r R Here s A (return p e) (return q e') C
-  with_lock : (A B C : NumberSet) (p q p' q' : At K) (e e' : Exp K) (b b' : Stmts K)
-      → ExpImage r R Here s.code A e e' B → StmtsTo r R NoSpot s B b b' C
-      → StmtWith r R Here s A (sync p q e b) (sync p' q' e' b') C
-
--- The first statement of a list has become one with made calls.
-pub record ExtractsValues {K : Keys} (P Q : Program K) (s : Standing K) (A : NumberSet)
-    (old new : Stmts K) (B : NumberSet) : Type 0 where
-  pub first : Stmt K
-  pub new_first : Stmt K
-  pub between : NumberSet
-  pub first_to : StmtWith same_keys P.rows (ExtractsExp P Q s) s A first new_first between
-  pub rest : Stmts K
-  pub new_rest : Stmts K
-  pub rest_to : StmtsTo same_keys P.rows NoSpot s between rest new_rest B
-  pub old_is : old ≡ core.Stmts.more first rest
-  pub new_is : new ≡ core.Stmts.more new_first new_rest
-
+-- Any number of expressions may have become calls, at any depth.
 abbrev pub ExtractedValuesAreAlike : (C F M N A : Type 0) → Type 0
 ExtractedValuesAreAlike C F M N A = (P Q : Program (keys_of C F M N A)) → WellTyped P → WellTyped Q
-    → TypedProgramTo same_keys (ExtractsValues P Q) P Q → AlikeExactly same_keys P Q
+    → TypedProgramTo same_keys (exps_alone (ExtractsExp P Q)) P Q → AlikeExactly same_keys P Q

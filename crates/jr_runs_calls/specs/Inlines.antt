@@ -6,7 +6,7 @@ use Rattle.jr_runs.specs.Core.{Exp, this, declare, eval, block, Stmts, Code, wri
 use Rattle.jr_runs.specs.KeyMaps.{same_keys}
 use Rattle.jr_runs.specs.Sets.{NumberSet, everything}
 use Rattle.jr_runs.specs.Standing.{upto, Self, nobody, In, Standing}
-use Rattle.jr_runs.specs.Images.{CastOf, Among, NoSpot, ExpTo, StmtsTo, ProgramTo}
+use Rattle.jr_runs.specs.Images.{CastOf, Among, NoSpot, ExpTo, StmtsTo, ProgramTo, lists_alone}
 use Rattle.jr_runs.specs.TypedImages.{TypedProgramTo}
 use Rattle.jr_runs.specs.Typing.{WellTyped}
 use Rattle.jr_runs.specs.Pairs.{SomeReturns}
@@ -95,4 +95,4 @@ InlinedProgramsAreAlike C F M N A = (P Q : Program (keys_of C F M N A))
 -- Of instance methods too.
 abbrev pub InlinedMethodsAreAlike : (C F M N A : Type 0) → Type 0
 InlinedMethodsAreAlike C F M N A = (P Q : Program (keys_of C F M N A)) → WellTyped P → WellTyped Q
-    → TypedProgramTo same_keys (Inlines P) P Q → AlikeExactly same_keys P Q
+    → TypedProgramTo same_keys (lists_alone (Inlines P)) P Q → AlikeExactly same_keys P Q
