@@ -74,8 +74,10 @@ module _ {K : Keys} (g : Setting K) (Spot : Spots K) (turns : TurnsAnswered g Sp
   -- a turn of a loop is a call that is answered
   pub turn_match : (s : Standing K) (stands : Stands s) (frame : Frame K) (me me' : Value K) (im : Holding g.old g.keys s.code frame me me') (H B C : NumberSet) (c c' : Exp K) (b b' : Stmt K) → ExpTo g.keys g.old s.code H c c' B → StmtTo g.keys g.old Spot s B b b' C → Within H C
       → Follow g s stands frame me me' im H (Returns b) B (λ l. call (turn me c b l) (λ o. done o)) (λ l. call (turn me' c' b' l) (λ o. done o))
-  turn_match s stands frame me me' im H B C c c' b b' d t w l l' h = guarded.turn_known (unguarded g) (lists_alone Spot) (any_turns g Spot turns) s stands frame me me' im H B C c c' b b' d t w l l' h
-      (any_safe (call (turn me c b l) (λ o. done o))) (any_safe (call (turn me' c' b' l') (λ o. done o)))
+  turn_match s stands frame me me' im H B C c c' b b' d t w l l' h =
+      let p : Step K (Flow K) = call (turn me c b l) (λ o. done o) in
+      let p' : Step K (Flow K) = call (turn me' c' b' l') (λ o. done o) in
+      guarded.turn_known (unguarded g) (lists_alone Spot) (any_turns g Spot turns) s stands frame me me' im H B C c c' b b' d t w l l' h (any_safe p) (any_safe p')
 
   abbrev pub SpotsOwed : Type 0
   SpotsOwed = (s : Standing K) (stands : Stands s) (frame : Frame K) (me me' : Value K) (im : Holding g.old g.keys s.code frame me me') (A : NumberSet) (b b' : Stmts K) (B : NumberSet) → Spot s A b b' B

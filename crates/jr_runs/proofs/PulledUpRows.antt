@@ -308,7 +308,7 @@ below_chain other other e h i = i
 
 -- what dispatch finds is declared, in the class or above it, with the same types
 abbrev pub Found : (Called → Bool) → Class → Called → Called → Type 0
-Found has c m k = IsTrue (has k) × ((e : Class) × (owner_of k ≡ Some e) × IsTrue (below c e)) × (params_of k ≡ params_of m) × (Some int_type ≡ Some (int_type {K = J}))
+Found has c m k = IsTrue (has k) × ((e : Class) × (owner_of k ≡ Some e) × IsTrue (below c e)) × (params_of k ≡ params_of m) × (◌≡◌ {A = Option (Ty J)} (Some int_type) (Some int_type))
 
 pub old_finds : (c : Class) (m k : Called) → old_dispatch c m ≡ Some k → Found old_has c m k
 old_finds base from_base k e = none_is_some k e
