@@ -6,7 +6,7 @@ use Rattle.jr_runs.specs.Core.{Exp, this, literal, read, assign, local, instance
 use Rattle.jr_runs.specs.KeyMaps.{same_keys, type_image}
 use Rattle.jr_runs.specs.Sets.{everything}
 use Rattle.jr_runs.specs.Standing.{Standing}
-use Rattle.jr_runs.specs.Images.{uncast, NoSpot, to_this, to_literal, to_read, to_assign, to_local, to_field_of, to_eval, to_return, StmtsTo, to_no_more, to_list, to_spot, lists_alone}
+use Rattle.jr_runs.specs.Images.{uncast, to_end, to_more, NoSpot, to_this, to_literal, to_read, to_assign, to_local, to_field_of, to_eval, to_return, StmtsTo, to_no_more, to_list, to_spot, lists_alone}
 use Rattle.jr_runs.specs.TypedImages.{member, TypedCodeTo, TypedMethodTo}
 use Rattle.jr_runs.specs.Typing.{MethodTyped, WellTyped}
 use Rattle.jr_runs.specs.Alike.{AlikeExactly}
@@ -97,20 +97,20 @@ spot = record {
   has = refl;
   code = record { params = 1; body = q_body };
   is_written = refl;
-  one_parameter = refl;
   receiver = on_this (this None);
   is_found = ((None, uncast), (own, inl refl, λ c b. refl));
+  args = core.Exps.more one core.Exps.end;
+  new_args = core.Exps.more one core.Exps.end;
+  params = refl;
   size = 1;
-  some = omega arith;
+  fewer = omega arith;
   at = λ i. i;
   injective = λ i j a b e. e;
   fresh = λ i j b e d. absurd e;
   fresh_others = λ i b e. e;
   no_return = neither;
-  arg = one;
-  new_arg = one;
   between = everything;
-  arg_to = to_literal everything None None (int (pos 1));
+  args_to = to_more everything everything everything one one core.Exps.end core.Exps.end (to_literal everything None None (int (pos 1))) (to_end everything);
   body_behind = everything;
   new_body = q_body;
   body_to = inlined_body;

@@ -1,12 +1,13 @@
--- A call of a method with one parameter becomes a block with the method's body.
-use Rattle.std.specs.Prelude.{◌≡◌, ◌<◌, ℕ, List, [], ◌++◌, map, unwrap_or, IsTrue}
+-- A call of a method becomes a block with its parameters' declarations and its body.
+use Rattle.std.specs.Prelude.{◌≡◌, ◌<◌, ◌≤◌, ℕ, zero, suc, List, [], ◌++◌, map, unwrap_or}
+use Rattle.std.specs.Prelude.{IsTrue}
 use Rattle.jr_runs.specs.Keys.{Keys, keys_of, At}
 use Rattle.jr_runs.specs.Core as core
-use Rattle.jr_runs.specs.Core.{Exp, this, declare, eval, block, Stmts, Code, written, Program}
+use Rattle.jr_runs.specs.Core.{Exps, this, declare, eval, block, Stmts, Code, written, Program}
 use Rattle.jr_runs.specs.KeyMaps.{same_keys}
 use Rattle.jr_runs.specs.Sets.{NumberSet, everything}
 use Rattle.jr_runs.specs.Standing.{upto, Self, nobody, In, Standing}
-use Rattle.jr_runs.specs.Images.{CastOf, Among, NoSpot, ExpTo, StmtsTo, ProgramTo, lists_alone}
+use Rattle.jr_runs.specs.Images.{CastOf, Among, NoSpot, ExpsTo, StmtsTo, ProgramTo, lists_alone}
 use Rattle.jr_runs.specs.TypedImages.{TypedProgramTo}
 use Rattle.jr_runs.specs.Typing.{WellTyped}
 use Rattle.jr_runs.specs.Pairs.{SomeReturns}
@@ -47,29 +48,39 @@ inlined receiver s size at = record {
   others = map s.code.at s.code.mine ++ s.others;
 }
 
--- `m(arg);` becomes `{ T p = arg; body }`, and what stands behind it is kept.
+abbrev pub count : {K : Keys} → Exps K → ℕ
+count core.Exps.end = zero
+count (core.Exps.more e es) = suc (count es)
+
+-- each parameter from number k on, with its argument, and then the body
+abbrev pub declares : {K : Keys} → At K → (ℕ → ℕ) → ℕ → Exps K → Stmts K → Stmts K
+declares p at k core.Exps.end b = b
+declares p at k (core.Exps.more e es) b =
+    core.Stmts.more (declare p (at k) e) (declares p at (suc k) es b)
+
+-- `m(a, ..);` becomes `{ T p = a; .. body }`, and what stands behind it is kept.
 pub record Inlines {K : Keys} (P : Program K) (s : Standing K) (A : NumberSet)
     (old new : Stmts K) (B : NumberSet) : Type 0 where
   pub method : K.method
   pub has : IsTrue (P.rows.has_method method)
   pub code : Code K
   pub is_written : P.method method ≡ written code
-  pub one_parameter : code.params ≡ 1
   pub receiver : Receiver K
   pub is_found : IsFound P s method receiver
-  -- the method's locals are below, the parameter first; at: what becomes of each
+  pub args : Exps K
+  pub new_args : Exps K
+  pub params : code.params ≡ count args
+  -- the method's locals are below, the parameters first; at: what becomes of each
   pub size : ℕ
-  pub some : 0 < size
+  pub fewer : count args ≤ size
   pub at : ℕ → ℕ
   pub injective : (i j : ℕ) → i < size → j < size → at i ≡ at j → i ≡ j
   pub fresh : (i j : ℕ) → i < size → In j s.code.mine → s.code.at j ≡ at i → ⊥
   pub fresh_others : (i : ℕ) → i < size → In (at i) s.others → ⊥
   pub no_return : SomeReturns code.body → ⊥
-  pub arg : Exp K
-  pub new_arg : Exp K
-  -- which locals agree behind the argument, and so behind the block
+  -- which locals agree behind the arguments, and so behind the block
   pub between : NumberSet
-  pub arg_to : ExpTo same_keys P.rows s.code A arg new_arg between
+  pub args_to : ExpsTo same_keys P.rows s.code A args new_args between
   pub body_behind : NumberSet
   pub new_body : Stmts K
   pub body_to : StmtsTo same_keys P.rows NoSpot (inlined receiver s size at) everything code.body
@@ -81,11 +92,9 @@ pub record Inlines {K : Keys} (P : Program K) (s : Standing K) (A : NumberSet)
   pub call_at : At K
   pub block_at : At K
   pub declare_at : At K
-  pub old_is : old ≡ core.Stmts.more
-      (eval eval_at (made_call receiver call_at method (core.Exps.more arg core.Exps.end))) rest
+  pub old_is : old ≡ core.Stmts.more (eval eval_at (made_call receiver call_at method args)) rest
   pub new_is : new ≡ core.Stmts.more
-      (block block_at (map at (upto size))
-      (core.Stmts.more (declare declare_at (at 0) new_arg) new_body)) new_rest
+      (block block_at (map at (upto size)) (declares declare_at at 0 new_args new_body)) new_rest
 
 -- Any number of calls may have become blocks. Of static methods: the types play no part.
 abbrev pub InlinedProgramsAreAlike : (C F M N A : Type 0) → Type 0
