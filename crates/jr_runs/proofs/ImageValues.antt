@@ -9,7 +9,16 @@ use Rattle.jr_runs.specs.Core.{Arithmetic, add, subtract, multiply, divide, rema
 use Rattle.jr_runs.specs.Evaluation.{cast_value}
 use Rattle.jr_runs.specs.KeyMaps.{KeyMap, value_image, type_image}
 use Rattle.jr_runs.specs.Images.{SameRows}
+use Rattle.jr_runs.specs.KeptDeclarations.{SameDeclarations, SameDispatch}
 use Rattle.jr_runs.specs.Pairs.{OutRel, ImageOf}
+
+-- what rows that are the same say of classes and fields, and of dispatch
+module _ {K : Keys} (r : KeyMap K) (R R' : Rows K) (rows : SameRows r R R') where
+  pub declarations : SameDeclarations r R R'
+  declarations = record { same_class = rows.same_class; is_subclass = rows.is_subclass; text_class = rows.text_class; class_class = rows.class_class; field_kind = rows.field_kind; field_type = rows.field_type }
+
+  pub same_dispatch : SameDispatch r R R'
+  same_dispatch = record { dispatch = rows.dispatch; found = rows.found }
 
 module _ {K : Keys} (r : KeyMap K) where
   pub same_number : (v : Value K) → number_of (value_image r v) ≡ number_of v
@@ -76,7 +85,7 @@ module _ {K : Keys} (r : KeyMap K) where
   is_truth_image (class_object c) = refl
   is_truth_image (object n c) = refl
 
-  module _ (R R' : Rows K) (rows : SameRows r R R') where
+  module _ (R R' : Rows K) (rows : SameDeclarations r R R') where
     same_test : (v w : Value K) → same_value R'.same_class (value_image r v) (value_image r w) ≡ same_value R.same_class v w
     same_test (int n) (int m) = refl
     same_test (int n) (truth b) = refl

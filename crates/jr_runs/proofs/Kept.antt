@@ -8,11 +8,12 @@ use Rattle.jr_runs.specs.Evaluation.{stmts}
 use Rattle.jr_runs.specs.KeyMaps.{KeyMap}
 use Rattle.jr_runs.specs.Standing.{Standing, Stands, Frame, Holding, Shifted}
 use Rattle.jr_runs.specs.Sets.{NumberSet}
-use Rattle.jr_runs.specs.Images.{Spots, NoSpot, StmtTo, to_declare, to_eval, to_branch, to_loop, to_return, to_return_nothing, to_block, to_sync, to_empty, StmtsTo, to_no_more, to_list, to_spot}
+use Rattle.jr_runs.specs.Images.{Spots, NoSpot, lists_alone, StmtTo, to_declare, to_eval, to_branch, to_loop, to_return, to_return_nothing, to_block, to_sync, to_empty, StmtsTo, to_no_more, to_list, to_spot}
 use Rattle.jr_runs.specs.Pairs.{FlowRel, SomeReturns, TurnTo}
 use Rattle.jr_runs.proofs.Matching.{Setting, Matches}
 use Rattle.jr_runs.proofs.ImageStmts.{TurnsAnswered, stmts_match}
-use Rattle.jr_runs.proofs.TypedImages.{TypedTurnsAnswered}
+use Rattle.jr_runs.proofs.Guarded.{Guarded, Matched, OldSafe, NewSafe}
+use Rattle.jr_runs.proofs.GuardedStmts.{TurnsKnown, SpotsKnown, stmts_known}
 
 module _ {K : Keys} (r : KeyMap K) (R : Rows K) (Spot : Spots K) (s : Standing K) where
   -- an image without changed lists is one with them
@@ -40,10 +41,23 @@ module _ {K : Keys} (g : Setting K) (Spot : Spots K) where
   pub kept_turns : TurnsAnswered g Spot → TurnsAnswered g NoSpot
   kept_turns turns me c b l me' c' b' l' t = turns me c b l me' c' b' l' (kept_turn g.keys g.old Spot me c b l me' c' b' l' t)
 
-  pub kept_typed_turns : TypedTurnsAnswered g Spot → TypedTurnsAnswered g NoSpot
-  kept_typed_turns turns me c b l me' c' b' l' t w w' = turns me c b l me' c' b' l' (kept_turn g.keys g.old Spot me c b l me' c' b' l' t) w w'
-
   -- kept code matches, wherever it stands
   pub kept_match : TurnsAnswered g Spot → (s : Standing K) → Stands s → (frame : Frame K) (me me' : Value K) → Holding g.old g.keys s.code frame me me' → (A : NumberSet) (b b' : Stmts K) (B : NumberSet) → StmtsTo g.keys g.old NoSpot s A b b' B
       → (l l' : List (Value K)) → Shifted g.keys s frame A l l' → Matches g (FlowRel g.keys (Shifted g.keys s frame B) (SomeReturns b)) (stmts g.old me b l) (stmts g.new me' b' l')
   kept_match turns s stands frame me me' im A b b' B d l l' h = stmts_match g NoSpot (kept_turns turns) (λ a t f m m' i A1 x x' B1 none. absurd none) s stands frame me me' im A B b b' d l l' h
+
+-- nothing is changed
+pub nothing_changed : {K : Keys} {keys : KeyMap K} {R R' : Rows K} (g : Guarded keys R R') → SpotsKnown g (lists_alone NoSpot)
+nothing_changed g = record {
+  exps = λ s stands frame me me' im A B e e' none l l' h o o'. absurd none;
+  lists = λ s stands frame me me' im A b b' B none l l' h o o'. absurd none;
+}
+
+-- the same where calls are made as they should be
+module _ {K : Keys} {keys : KeyMap K} {R R' : Rows K} (g : Guarded keys R R') (Spot : Spots K) where
+  pub kept_turns_known : TurnsKnown g (lists_alone Spot) → TurnsKnown g (lists_alone NoSpot)
+  kept_turns_known turns me c b l me' c' b' l' t made made' = turns me c b l me' c' b' l' (kept_turn keys R Spot me c b l me' c' b' l' t) made made'
+
+  pub kept_known : TurnsKnown g (lists_alone Spot) → (s : Standing K) → Stands s → (frame : Frame K) (me me' : Value K) → Holding R keys s.code frame me me' → (A : NumberSet) (b b' : Stmts K) (B : NumberSet) → StmtsTo keys R NoSpot s A b b' B
+      → (l l' : List (Value K)) → Shifted keys s frame A l l' → OldSafe g (stmts R me b l) → NewSafe g (stmts R' me' b' l') → Matched g (FlowRel keys (Shifted keys s frame B) (SomeReturns b)) (stmts R me b l) (stmts R' me' b' l')
+  kept_known turns s stands frame me me' im A b b' B d l l' h o o' = stmts_known g (lists_alone NoSpot) (kept_turns_known turns) s stands frame me me' im (nothing_changed g) A B b b' d l l' h o o'

@@ -12,7 +12,7 @@ use Rattle.jr_runs.specs.Evaluation.{Flow, goes_on, returns, Call, invoke, const
 use Rattle.jr_runs.specs.KeyMaps.{KeyMap, Undoes, value_image, action_image}
 use Rattle.jr_runs.specs.Sets.{NumberSet}
 use Rattle.jr_runs.specs.Standing.{Standing, Frame, Shifted}
-use Rattle.jr_runs.specs.Images.{SameRows}
+use Rattle.jr_runs.specs.KeptDeclarations.{SameDeclarations, SameDispatch}
 use Rattle.jr_runs.specs.Pairs.{OutRel, ImageOf, ResultRel, AnswerRel}
 use Rattle.jr_runs.proofs.Undoing.{value_back}
 
@@ -29,7 +29,8 @@ pub record Setting (K : Keys) : Type 1 where
   pub sides : Sides (Event K) (Call K) (Out (Flow K)) (Call K) (Out (Flow K))
   pub old : Rows K
   pub new : Rows K
-  pub rows : SameRows keys old new
+  pub rows : SameDeclarations keys old new
+  pub dispatch : SameDispatch keys old new
   -- methods and constructors are answered alike
   pub methods : (m : K.method) (v : Value K) (vs : List (Value K)) → IsTrue (old.has_method m) → CallBoth more relation sides (AnswerRel keys) (invoke m v vs) (invoke (keys.method m) (value_image keys v) (map (value_image keys) vs))
   pub constructors : (k : K.constructor) (v : Value K) (vs : List (Value K)) → IsTrue (old.has_constructor k) → CallBoth more relation sides (AnswerRel keys) (construct k v vs) (construct (keys.constructor k) (value_image keys v) (map (value_image keys) vs))

@@ -50,149 +50,200 @@ behind_write A (local p n) = with_one A n
 behind_write A (static_field p f) = A
 behind_write A (field_of p e f) = A
 
+-- which changed expressions are allowed, and which locals agree before and behind
+abbrev pub ExpSpots : Keys → Type 1
+ExpSpots K = NumberSet → Exp K → Exp K → NumberSet → Type 0
+
+abbrev pub NoExp : {K : Keys} → ExpSpots K
+NoExp A e e' B = ⊥
+
 -- The second expression is the first with keys by r and locals by s, where the locals of the first
 -- set agree before, and those of the second one behind it. What the first one calls is declared.
 -- Behind a write any set will do within the written local and those that agreed; so everything may.
+-- Where Here allows it, any expression stands for the first one.
 mutual
-  pub data ExpTo {K : Keys} (r : KeyMap K) (R : Rows K) (s : Renumbering K)
-      : NumberSet → Exp K → Exp K → NumberSet → Type 0 where
+  pub data ExpImage {K : Keys} (r : KeyMap K) (R : Rows K) (Here : ExpSpots K)
+      (s : Renumbering K) : NumberSet → Exp K → Exp K → NumberSet → Type 0 where
     to_literal : (A : NumberSet) (p q : At K) (v : Value K)
-        → ExpTo r R s A (literal p v) (literal q (value_image r v)) A
+        → ExpImage r R Here s A (literal p v) (literal q (value_image r v)) A
     to_this : (A : NumberSet) (p : At K) (e : Exp K) → SelfTo s.self e
-        → ExpTo r R s A (this p) e A
+        → ExpImage r R Here s A (this p) e A
     -- `this` and what stands for it, each cast or not, where the casts can't fail
     to_cast_this : (A : NumberSet) (p : At K) (x e e' : Exp K) → SelfTo s.self x
         → CastOf (λ c. c) s.classes (this p) e → CastOf r.class s.classes x e'
-        → ExpTo r R s A e e' A
+        → ExpImage r R Here s A e e' A
     -- a local stands for the expression
     to_held : (A : NumberSet) (p q : At K) (e : Exp K) (k : ℕ) → IsHeld e k s.holds
-        → ExpTo r R s A e (read p (local q k)) A
+        → ExpImage r R Here s A e (read p (local q k)) A
     -- the same of one that is cast, where the old code needs no cast
     to_held_cast : (A : NumberSet) (p q u : At K) (c : K.class) (e : Exp K) (k : ℕ)
         → IsCast c e k s.casts
-        → ExpTo r R s A e (cast u (r.class c) (read p (local q k))) A
-    to_read : (A B : NumberSet) (p q : At K) (t t' : Target K) → TargetTo r R s A t t' B
+        → ExpImage r R Here s A e (cast u (r.class c) (read p (local q k))) A
+    to_read : (A B : NumberSet) (p q : At K) (t t' : Target K) → TargetImage r R Here s A t t' B
         → Readable B t
-        → ExpTo r R s A (read p t) (read q t') B
+        → ExpImage r R Here s A (read p t) (read q t') B
     to_assign : (A B C D : NumberSet) (p q : At K) (t t' : Target K) (e e' : Exp K)
-        → TargetTo r R s A t t' B → Writable s t
-        → ExpTo r R s B e e' C → Within D (behind_write C t)
-        → ExpTo r R s A (assign p t e) (assign q t' e') D
+        → TargetImage r R Here s A t t' B → Writable s t
+        → ExpImage r R Here s B e e' C → Within D (behind_write C t)
+        → ExpImage r R Here s A (assign p t e) (assign q t' e') D
     to_compound : (A B C D : NumberSet) (p q : At K) (op : Arithmetic) (t t' : Target K)
         (e e' : Exp K)
-        → TargetTo r R s A t t' B → Readable B t → Writable s t
-        → ExpTo r R s B e e' C → Within D (behind_write C t)
-        → ExpTo r R s A (compound p op t e) (compound q op t' e') D
+        → TargetImage r R Here s A t t' B → Readable B t → Writable s t
+        → ExpImage r R Here s B e e' C → Within D (behind_write C t)
+        → ExpImage r R Here s A (compound p op t e) (compound q op t' e') D
     to_bump : (A B C : NumberSet) (p q : At K) (op : Bump) (t t' : Target K)
-        → TargetTo r R s A t t' B → Readable B t → Writable s t → Within C (behind_write B t)
-        → ExpTo r R s A (bump p op t) (bump q op t') C
+        → TargetImage r R Here s A t t' B → Readable B t → Writable s t
+        → Within C (behind_write B t)
+        → ExpImage r R Here s A (bump p op t) (bump q op t') C
     to_signed : (A B : NumberSet) (p q : At K) (op : Sign) (e e' : Exp K)
-        → ExpTo r R s A e e' B
-        → ExpTo r R s A (signed p op e) (signed q op e') B
+        → ExpImage r R Here s A e e' B
+        → ExpImage r R Here s A (signed p op e) (signed q op e') B
     to_binary : (A B C : NumberSet) (p q : At K) (op : Operator) (a a' b b' : Exp K)
-        → ExpTo r R s A a a' B → ExpTo r R s B b b' C
-        → ExpTo r R s A (binary p op a b) (binary q op a' b') C
+        → ExpImage r R Here s A a a' B → ExpImage r R Here s B b b' C
+        → ExpImage r R Here s A (binary p op a b) (binary q op a' b') C
     to_both : (A B C D : NumberSet) (p q : At K) (a a' b b' : Exp K)
-        → ExpTo r R s A a a' B → ExpTo r R s B b b' C → Within D B → Within D C
-        → ExpTo r R s A (both p a b) (both q a' b') D
+        → ExpImage r R Here s A a a' B → ExpImage r R Here s B b b' C → Within D B → Within D C
+        → ExpImage r R Here s A (both p a b) (both q a' b') D
     to_either : (A B C D : NumberSet) (p q : At K) (a a' b b' : Exp K)
-        → ExpTo r R s A a a' B → ExpTo r R s B b b' C → Within D B → Within D C
-        → ExpTo r R s A (either p a b) (either q a' b') D
+        → ExpImage r R Here s A a a' B → ExpImage r R Here s B b b' C → Within D B → Within D C
+        → ExpImage r R Here s A (either p a b) (either q a' b') D
     to_cast : (A B : NumberSet) (p q : At K) (c : K.class) (e e' : Exp K)
-        → ExpTo r R s A e e' B
-        → ExpTo r R s A (cast p c e) (cast q (r.class c) e') B
+        → ExpImage r R Here s A e e' B
+        → ExpImage r R Here s A (cast p c e) (cast q (r.class c) e') B
     to_static_call : (A B : NumberSet) (p q : At K) (m : K.method) (es es' : Exps K)
-        → IsTrue (R.has_method m) → ExpsTo r R s A es es' B
-        → ExpTo r R s A (static_call p m es) (static_call q (r.method m) es') B
+        → IsTrue (R.has_method m) → ExpsImage r R Here s A es es' B
+        → ExpImage r R Here s A (static_call p m es) (static_call q (r.method m) es') B
     to_instance_call : (A B C : NumberSet) (p q : At K) (e e' : Exp K) (m : K.method)
         (es es' : Exps K)
-        → IsTrue (R.has_method m) → ExpTo r R s A e e' B → ExpsTo r R s B es es' C
-        → ExpTo r R s A (instance_call p e m es) (instance_call q e' (r.method m) es') C
+        → IsTrue (R.has_method m) → ExpImage r R Here s A e e' B → ExpsImage r R Here s B es es' C
+        → ExpImage r R Here s A (instance_call p e m es) (instance_call q e' (r.method m) es') C
     to_super_call : (A B C : NumberSet) (p q : At K) (e e' : Exp K) (m : K.method)
         (es es' : Exps K)
-        → IsTrue (R.has_method m) → ExpTo r R s A e e' B → ExpsTo r R s B es es' C
-        → ExpTo r R s A (super_call p e m es) (super_call q e' (r.method m) es') C
+        → IsTrue (R.has_method m) → ExpImage r R Here s A e e' B → ExpsImage r R Here s B es es' C
+        → ExpImage r R Here s A (super_call p e m es) (super_call q e' (r.method m) es') C
     to_create : (A B : NumberSet) (p q : At K) (c : K.class) (k : K.constructor)
         (es es' : Exps K)
-        → IsTrue (R.has_constructor k) → ExpsTo r R s A es es' B
-        → ExpTo r R s A (create p c k es) (create q (r.class c) (r.constructor k) es') B
+        → IsTrue (R.has_constructor k) → ExpsImage r R Here s A es es' B
+        → ExpImage r R Here s A (create p c k es) (create q (r.class c) (r.constructor k) es') B
     to_super_constructor : (A B C : NumberSet) (p q : At K) (e e' : Exp K) (k : K.constructor)
         (es es' : Exps K)
-        → IsTrue (R.has_constructor k) → ExpTo r R s A e e' B → ExpsTo r R s B es es' C
-        → ExpTo r R s A (super_constructor p e k es)
+        → IsTrue (R.has_constructor k) → ExpImage r R Here s A e e' B
+        → ExpsImage r R Here s B es es' C
+        → ExpImage r R Here s A (super_constructor p e k es)
         (super_constructor q e' (r.constructor k) es') C
+    to_changed : (A B : NumberSet) (e e' : Exp K) → Here A e e' B → ExpImage r R Here s A e e' B
 
-  pub data TargetTo {K : Keys} (r : KeyMap K) (R : Rows K) (s : Renumbering K)
-      : NumberSet → Target K → Target K → NumberSet → Type 0 where
+  pub data TargetImage {K : Keys} (r : KeyMap K) (R : Rows K) (Here : ExpSpots K)
+      (s : Renumbering K) : NumberSet → Target K → Target K → NumberSet → Type 0 where
     to_local : (A : NumberSet) (p q : At K) (n : ℕ) → In n s.mine
-        → TargetTo r R s A (local p n) (local q (s.at n)) A
+        → TargetImage r R Here s A (local p n) (local q (s.at n)) A
     to_static_field : (A : NumberSet) (p q : At K) (f : K.field)
-        → TargetTo r R s A (static_field p f) (static_field q (r.field f)) A
+        → TargetImage r R Here s A (static_field p f) (static_field q (r.field f)) A
     to_field_of : (A B : NumberSet) (p q : At K) (e e' : Exp K) (f : K.field)
-        → ExpTo r R s A e e' B
-        → TargetTo r R s A (field_of p e f) (field_of q e' (r.field f)) B
+        → ExpImage r R Here s A e e' B
+        → TargetImage r R Here s A (field_of p e f) (field_of q e' (r.field f)) B
 
-  pub data ExpsTo {K : Keys} (r : KeyMap K) (R : Rows K) (s : Renumbering K)
-      : NumberSet → Exps K → Exps K → NumberSet → Type 0 where
-    to_end : (A : NumberSet) → ExpsTo r R s A core.Exps.end core.Exps.end A
+  pub data ExpsImage {K : Keys} (r : KeyMap K) (R : Rows K) (Here : ExpSpots K)
+      (s : Renumbering K) : NumberSet → Exps K → Exps K → NumberSet → Type 0 where
+    to_end : (A : NumberSet) → ExpsImage r R Here s A core.Exps.end core.Exps.end A
     to_more : (A B C : NumberSet) (e e' : Exp K) (es es' : Exps K)
-        → ExpTo r R s A e e' B → ExpsTo r R s B es es' C
-        → ExpsTo r R s A (core.Exps.more e es) (core.Exps.more e' es') C
+        → ExpImage r R Here s A e e' B → ExpsImage r R Here s B es es' C
+        → ExpsImage r R Here s A (core.Exps.more e es) (core.Exps.more e' es') C
 
--- A block unsets the image of each local that the old block unsets, and of the old code's locals of no
--- other; it may unset further ones, but none that stays as it is. So where a statement list in it has
--- a local more or less, the block is still the image.
+-- no expression is changed
+abbrev pub ExpTo : {K : Keys} → KeyMap K → Rows K → Renumbering K
+    → NumberSet → Exp K → Exp K → NumberSet → Type 0
+ExpTo r R s A e e' B = ExpImage r R NoExp s A e e' B
+
+abbrev pub TargetTo : {K : Keys} → KeyMap K → Rows K → Renumbering K
+    → NumberSet → Target K → Target K → NumberSet → Type 0
+TargetTo r R s A t t' B = TargetImage r R NoExp s A t t' B
+
+abbrev pub ExpsTo : {K : Keys} → KeyMap K → Rows K → Renumbering K
+    → NumberSet → Exps K → Exps K → NumberSet → Type 0
+ExpsTo r R s A es es' B = ExpsImage r R NoExp s A es es' B
+
+-- A block unsets the image of each local that the old block unsets, and of the old code's locals of
+-- no other; it may unset further ones, but none that stays as it is. So where a statement list in
+-- it has a local more or less, the block is still the image.
 pub record BlockTo {K : Keys} (s : Standing K) (ns ns' : List ℕ) : Type 0 where
   pub all : (i : ℕ) → In i s.code.mine → In i ns → In (s.code.at i) ns'
   pub only : (i : ℕ) → In i s.code.mine → In (s.code.at i) ns' → In i ns
   pub others : (j : ℕ) → In j s.others → In j ns' → ⊥
   pub known : (i : ℕ) → In i s.code.known → In i ns → ⊥
 
--- which changed statement lists are allowed: how they stand, and which locals agree before and behind
+-- which changed statement lists are allowed: how they stand, and which locals agree before and
+-- behind
 abbrev pub Spots : Keys → Type 1
 Spots K = Standing K → NumberSet → Stmts K → Stmts K → NumberSet → Type 0
 
--- The same of statements, but for statement lists that Spot allows, at any depth. A loop has a set
--- of locals that agree wherever its condition begins: before it, and behind its body. A block's
--- locals are unset on both sides, and so agree. Behind a return all may be said to agree.
+-- Which changes are allowed: of expressions, by how the code stands, and of statement lists.
+pub record AllSpots (K : Keys) : Type 1 where
+  pub exps : Standing K → ExpSpots K
+  pub lists : Spots K
+
+-- no expression is changed
+abbrev pub lists_alone : {K : Keys} → Spots K → AllSpots K
+lists_alone Spot = record { exps = λ s. NoExp; lists = Spot }
+
+-- no statement list is changed
+abbrev pub exps_alone : {K : Keys} → (Standing K → ExpSpots K) → AllSpots K
+exps_alone Here = record { exps = Here; lists = λ s A b b' B. ⊥ }
+
+-- The same of statements, but for what Spot allows, at any depth. A loop has a set of locals that
+-- agree wherever its condition begins: before it, and behind its body. A block's locals are unset
+-- on both sides, and so agree. Behind a return all may be said to agree.
 mutual
-  pub data StmtTo {K : Keys} (r : KeyMap K) (R : Rows K) (Spot : Spots K) (s : Standing K)
-      : NumberSet → Stmt K → Stmt K → NumberSet → Type 0 where
+  pub data StmtImage {K : Keys} (r : KeyMap K) (R : Rows K) (Spot : AllSpots K)
+      (s : Standing K) : NumberSet → Stmt K → Stmt K → NumberSet → Type 0 where
     to_declare : (A B C : NumberSet) (p q : At K) (n : ℕ) (e e' : Exp K) → IsFree s.code n
-        → ExpTo r R s.code A e e' B → Within C (with_one B n)
-        → StmtTo r R Spot s A (declare p n e) (declare q (s.code.at n) e') C
-    to_eval : (A B : NumberSet) (p q : At K) (e e' : Exp K) → ExpTo r R s.code A e e' B
-        → StmtTo r R Spot s A (eval p e) (eval q e') B
+        → ExpImage r R (Spot.exps s) s.code A e e' B → Within C (with_one B n)
+        → StmtImage r R Spot s A (declare p n e) (declare q (s.code.at n) e') C
+    to_eval : (A B : NumberSet) (p q : At K) (e e' : Exp K)
+        → ExpImage r R (Spot.exps s) s.code A e e' B
+        → StmtImage r R Spot s A (eval p e) (eval q e') B
     to_branch : (A B C D E : NumberSet) (p q : At K) (c c' : Exp K) (a a' b b' : Stmt K)
-        → ExpTo r R s.code A c c' B
-        → StmtTo r R Spot s B a a' C → StmtTo r R Spot s B b b' D → Within E C → Within E D
-        → StmtTo r R Spot s A (branch p c a b) (branch q c' a' b') E
+        → ExpImage r R (Spot.exps s) s.code A c c' B
+        → StmtImage r R Spot s B a a' C → StmtImage r R Spot s B b b' D → Within E C → Within E D
+        → StmtImage r R Spot s A (branch p c a b) (branch q c' a' b') E
     to_loop : (A H B C : NumberSet) (p q : At K) (c c' : Exp K) (b b' : Stmt K) → Within H A
-        → ExpTo r R s.code H c c' B → StmtTo r R Spot s B b b' C → Within H C
-        → StmtTo r R Spot s A (loop p c b) (loop q c' b') B
-    to_return : (A B C : NumberSet) (p q : At K) (e e' : Exp K) → ExpTo r R s.code A e e' B
-        → StmtTo r R Spot s A (return p e) (return q e') C
+        → ExpImage r R (Spot.exps s) s.code H c c' B → StmtImage r R Spot s B b b' C → Within H C
+        → StmtImage r R Spot s A (loop p c b) (loop q c' b') B
+    to_return : (A B C : NumberSet) (p q : At K) (e e' : Exp K)
+        → ExpImage r R (Spot.exps s) s.code A e e' B
+        → StmtImage r R Spot s A (return p e) (return q e') C
     to_return_nothing : (A B : NumberSet) (p q : At K)
-        → StmtTo r R Spot s A (return_nothing p) (return_nothing q) B
+        → StmtImage r R Spot s A (return_nothing p) (return_nothing q) B
     to_block : (A B C : NumberSet) (p q : At K) (ns ns' : List ℕ) (b b' : Stmts K)
         → BlockTo s ns ns'
-        → Within B (with_all A ns) → StmtsTo r R Spot s B b b' C
-        → StmtTo r R Spot s A (block p ns b) (block q ns' b') C
+        → Within B (with_all A ns) → StmtsImage r R Spot s B b b' C
+        → StmtImage r R Spot s A (block p ns b) (block q ns' b') C
     to_sync : (A B C : NumberSet) (p q p' q' : At K) (e e' : Exp K) (b b' : Stmts K)
-        → ExpTo r R s.code A e e' B → StmtsTo r R Spot s B b b' C
-        → StmtTo r R Spot s A (sync p q e b) (sync p' q' e' b') C
-    to_empty : (A : NumberSet) (p q : At K) → StmtTo r R Spot s A (empty p) (empty q) A
+        → ExpImage r R (Spot.exps s) s.code A e e' B → StmtsImage r R Spot s B b b' C
+        → StmtImage r R Spot s A (sync p q e b) (sync p' q' e' b') C
+    to_empty : (A : NumberSet) (p q : At K) → StmtImage r R Spot s A (empty p) (empty q) A
 
-  pub data StmtsTo {K : Keys} (r : KeyMap K) (R : Rows K) (Spot : Spots K) (s : Standing K)
-      : NumberSet → Stmts K → Stmts K → NumberSet → Type 0 where
-    to_no_more : (A : NumberSet) → StmtsTo r R Spot s A core.Stmts.end core.Stmts.end A
+  pub data StmtsImage {K : Keys} (r : KeyMap K) (R : Rows K) (Spot : AllSpots K)
+      (s : Standing K) : NumberSet → Stmts K → Stmts K → NumberSet → Type 0 where
+    to_no_more : (A : NumberSet) → StmtsImage r R Spot s A core.Stmts.end core.Stmts.end A
     to_list : (A B C : NumberSet) (a a' : Stmt K) (b b' : Stmts K)
-        → StmtTo r R Spot s A a a' B → StmtsTo r R Spot s B b b' C
-        → StmtsTo r R Spot s A (core.Stmts.more a b) (core.Stmts.more a' b') C
-    to_spot : (A B : NumberSet) (b b' : Stmts K) → Spot s A b b' B → StmtsTo r R Spot s A b b' B
+        → StmtImage r R Spot s A a a' B → StmtsImage r R Spot s B b b' C
+        → StmtsImage r R Spot s A (core.Stmts.more a b) (core.Stmts.more a' b') C
+    to_spot : (A B : NumberSet) (b b' : Stmts K) → Spot.lists s A b b' B
+        → StmtsImage r R Spot s A b b' B
+
+-- only statement lists are changed
+abbrev pub StmtTo : {K : Keys} → KeyMap K → Rows K → Spots K → Standing K
+    → NumberSet → Stmt K → Stmt K → NumberSet → Type 0
+StmtTo r R Spot s A a a' B = StmtImage r R (lists_alone Spot) s A a a' B
+
+abbrev pub StmtsTo : {K : Keys} → KeyMap K → Rows K → Spots K → Standing K
+    → NumberSet → Stmts K → Stmts K → NumberSet → Type 0
+StmtsTo r R Spot s A b b' B = StmtsImage r R (lists_alone Spot) s A b b' B
 
 -- A member's code: the parameters stay in their places, and all locals agree where it begins.
-pub record CodeTo {K : Keys} (r : KeyMap K) (R : Rows K) (Spot : Spots K) (old new : Code K) : Type 0 where
+pub record CodeTo {K : Keys} (r : KeyMap K) (R : Rows K) (Spot : Spots K)
+    (old new : Code K) : Type 0 where
   pub size : ℕ
   pub at : ℕ → ℕ
   pub injective : (i j : ℕ) → i < size → j < size → at i ≡ at j → i ≡ j

@@ -13,7 +13,7 @@ use Rattle.jr_runs.specs.Evaluation.{in_local, in_static, in_object}
 use Rattle.jr_runs.specs.KeyMaps.{KeyMap, value_image}
 use Rattle.jr_runs.specs.Sets.{NumberSet, Within}
 use Rattle.jr_runs.specs.Standing.{In, Standing, Stands, Frame, Holding, Shifted}
-use Rattle.jr_runs.specs.Images.{ExpTo, Spots, StmtTo}
+use Rattle.jr_runs.specs.Images.{ExpImage, Spots, AllSpots, lists_alone, StmtImage}
 
 -- both have a value, of which Q holds, or both throw the same
 abbrev pub OutRel : {A B : Type 0} → (A → B → Type 0) → Out A → Out B → Type 0
@@ -93,7 +93,7 @@ abbrev mutual
 
 -- A turn of a loop, and the turn of the new loop for it. head: which locals agree where the
 -- condition begins; tested: behind the condition; behind: behind the body.
-pub record TurnTo {K : Keys} (r : KeyMap K) (R : Rows K) (Spot : Spots K) (me : Value K)
+pub record TurnImage {K : Keys} (r : KeyMap K) (R : Rows K) (Spot : AllSpots K) (me : Value K)
     (c : Exp K) (b : Stmt K) (l : List (Value K)) (me' : Value K) (c' : Exp K) (b' : Stmt K)
     (l' : List (Value K)) : Type 0 where
   pub at : Standing K
@@ -103,33 +103,45 @@ pub record TurnTo {K : Keys} (r : KeyMap K) (R : Rows K) (Spot : Spots K) (me : 
   pub head : NumberSet
   pub tested : NumberSet
   pub behind : NumberSet
-  pub condition : ExpTo r R at.code head c c' tested
-  pub body : StmtTo r R Spot at tested b b' behind
+  pub condition : ExpImage r R (Spot.exps at) at.code head c c' tested
+  pub body : StmtImage r R Spot at tested b b' behind
   pub again : Within head behind
   pub locals : Shifted r at frame head l l'
 
-abbrev pub Pair : {K : Keys} → KeyMap K → Rows K → Spots K → Call K → Call K → Type 0
-Pair r R Spot (invoke m me args) (invoke m' me' args') = IsTrue (R.has_method m) × (m' ≡ r.method m)
-    × (me' ≡ value_image r me) × (args' ≡ map (value_image r) args)
-Pair r R Spot (construct k me args) (construct k' me' args') = IsTrue (R.has_constructor k)
+abbrev pub PairImage : {K : Keys} → KeyMap K → Rows K → AllSpots K → Call K → Call K → Type 0
+PairImage r R Spot (invoke m me args) (invoke m' me' args') = IsTrue (R.has_method m)
+    × (m' ≡ r.method m) × (me' ≡ value_image r me) × (args' ≡ map (value_image r) args)
+PairImage r R Spot (construct k me args) (construct k' me' args') = IsTrue (R.has_constructor k)
     × (k' ≡ r.constructor k) × (me' ≡ value_image r me) × (args' ≡ map (value_image r) args)
-Pair r R Spot (turn me c b l) (turn me' c' b' l') = TurnTo r R Spot me c b l me' c' b' l'
-Pair r R Spot (invoke m me args) (construct k' me' args') = ⊥
-Pair r R Spot (invoke m me args) (turn me' c' b' l') = ⊥
-Pair r R Spot (construct k me args) (invoke m' me' args') = ⊥
-Pair r R Spot (construct k me args) (turn me' c' b' l') = ⊥
-Pair r R Spot (turn me c b l) (invoke m' me' args') = ⊥
-Pair r R Spot (turn me c b l) (construct k' me' args') = ⊥
+PairImage r R Spot (turn me c b l) (turn me' c' b' l') = TurnImage r R Spot me c b l me' c' b' l'
+PairImage r R Spot (invoke m me args) (construct k' me' args') = ⊥
+PairImage r R Spot (invoke m me args) (turn me' c' b' l') = ⊥
+PairImage r R Spot (construct k me args) (invoke m' me' args') = ⊥
+PairImage r R Spot (construct k me args) (turn me' c' b' l') = ⊥
+PairImage r R Spot (turn me c b l) (invoke m' me' args') = ⊥
+PairImage r R Spot (turn me c b l) (construct k' me' args') = ⊥
+
+abbrev pub PostImage : {K : Keys} → (r : KeyMap K) (R : Rows K) (Spot : AllSpots K)
+    (c c' : Call K) → PairImage r R Spot c c' → Out (Flow K) → Out (Flow K) → Type 0
+PostImage r R Spot (invoke m me args) (invoke m' me' args') pair = AnswerRel r
+PostImage r R Spot (construct k me args) (construct k' me' args') pair = AnswerRel r
+PostImage r R Spot (turn me c b l) (turn me' c' b' l') pair =
+    OutRel (FlowRel r (Shifted r pair.at pair.frame pair.tested) (Returns b))
+PostImage r R Spot (invoke m me args) (construct k' me' args') pair = λ a b. ⊥
+PostImage r R Spot (invoke m me args) (turn me' c' b' l') pair = λ a b. ⊥
+PostImage r R Spot (construct k me args) (invoke m' me' args') pair = λ a b. ⊥
+PostImage r R Spot (construct k me args) (turn me' c' b' l') pair = λ a b. ⊥
+PostImage r R Spot (turn me c b l) (invoke m' me' args') pair = λ a b. ⊥
+PostImage r R Spot (turn me c b l) (construct k' me' args') pair = λ a b. ⊥
+
+-- where only statement lists are changed
+abbrev pub TurnTo : {K : Keys} → KeyMap K → Rows K → Spots K → Value K → Exp K → Stmt K
+    → List (Value K) → Value K → Exp K → Stmt K → List (Value K) → Type 0
+TurnTo r R Spot me c b l me' c' b' l' = TurnImage r R (lists_alone Spot) me c b l me' c' b' l'
+
+abbrev pub Pair : {K : Keys} → KeyMap K → Rows K → Spots K → Call K → Call K → Type 0
+Pair r R Spot c c' = PairImage r R (lists_alone Spot) c c'
 
 abbrev pub Post : {K : Keys} → (r : KeyMap K) (R : Rows K) (Spot : Spots K) (c c' : Call K)
     → Pair r R Spot c c' → Out (Flow K) → Out (Flow K) → Type 0
-Post r R Spot (invoke m me args) (invoke m' me' args') pair = AnswerRel r
-Post r R Spot (construct k me args) (construct k' me' args') pair = AnswerRel r
-Post r R Spot (turn me c b l) (turn me' c' b' l') pair =
-    OutRel (FlowRel r (Shifted r pair.at pair.frame pair.tested) (Returns b))
-Post r R Spot (invoke m me args) (construct k' me' args') pair = λ a b. ⊥
-Post r R Spot (invoke m me args) (turn me' c' b' l') pair = λ a b. ⊥
-Post r R Spot (construct k me args) (invoke m' me' args') pair = λ a b. ⊥
-Post r R Spot (construct k me args) (turn me' c' b' l') pair = λ a b. ⊥
-Post r R Spot (turn me c b l) (invoke m' me' args') pair = λ a b. ⊥
-Post r R Spot (turn me c b l) (construct k' me' args') pair = λ a b. ⊥
+Post r R Spot c c' pair = PostImage r R (lists_alone Spot) c c' pair

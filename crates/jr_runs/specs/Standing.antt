@@ -79,7 +79,8 @@ pub record IsFree {K : Keys} (s : Renumbering K) (n : ℕ) : Type 0 where
 
 -- the old locals have become locals of their own
 pub record Stands {K : Keys} (s : Standing K) : Type 0 where
-  pub injective : (i j : ℕ) → In i s.code.mine → In j s.code.mine → s.code.at i ≡ s.code.at j → i ≡ j
+  pub injective : (i j : ℕ) → In i s.code.mine → In j s.code.mine → s.code.at i ≡ s.code.at j
+      → i ≡ j
   pub apart : (i : ℕ) → In i s.code.mine → In (s.code.at i) s.others → ⊥
   pub self : SelfIn s.code.self s.others
   pub held : HeldIn s.code.holds s.others
@@ -88,7 +89,15 @@ pub record Stands {K : Keys} (s : Standing K) : Type 0 where
 -- a whole member: `this` is `this`, and there are no further locals
 abbrev pub whole : {K : Keys} → ℕ → (ℕ → ℕ) → Standing K
 whole n f = record {
-  code = record { mine = upto n; at = f; self = itself; classes = []; known = []; holds = []; casts = [] };
+  code = record {
+    mine = upto n;
+    at = f;
+    self = itself;
+    classes = [];
+    known = [];
+    holds = [];
+    casts = [];
+  };
   others = [];
 }
 
@@ -116,12 +125,15 @@ AreKnown known frame l = (i : ℕ) → In i known → local_at l i ≡ local_at 
 pub record Holds {K : Keys} (R : Rows K) (r : KeyMap K) (known : List ℕ) (frame : Frame K)
     (me : Value K) (e : Exp K) (k : ℕ) : Type 0 where
   pub result : Value K
-  pub comes : (l : List (Value K)) → AreKnown known frame l → exp R me e l ≡ done (value (result, l))
+  pub comes : (l : List (Value K)) → AreKnown known frame l
+      → exp R me e l ≡ done (value (result, l))
   pub there : local_at frame.there k ≡ value_image r result
 
-abbrev pub AllHold : {K : Keys} → Rows K → KeyMap K → List ℕ → Frame K → Value K → List (Exp K × ℕ) → Type 0
+abbrev pub AllHold : {K : Keys} → Rows K → KeyMap K → List ℕ → Frame K → Value K
+    → List (Exp K × ℕ) → Type 0
 AllHold R r known frame me [] = Unit {0}
-AllHold R r known frame me (h ∷ hs) = Holds R r known frame me h.0 h.1 × AllHold R r known frame me hs
+AllHold R r known frame me (h ∷ hs) =
+    Holds R r known frame me h.0 h.1 × AllHold R r known frame me hs
 
 -- the same, and the value is one that the class has, or null
 pub record HoldsAs {K : Keys} (R : Rows K) (r : KeyMap K) (known : List ℕ) (frame : Frame K)
@@ -132,12 +144,13 @@ pub record HoldsAs {K : Keys} (R : Rows K) (r : KeyMap K) (known : List ℕ) (fr
 abbrev pub AllHoldAs : {K : Keys} → Rows K → KeyMap K → List ℕ → Frame K → Value K
     → List (K.class × Exp K × ℕ) → Type 0
 AllHoldAs R r known frame me [] = Unit {0}
-AllHoldAs R r known frame me (h ∷ hs) = HoldsAs R r known frame me h.0 h.1 h.2 × AllHoldAs R r known frame me hs
+AllHoldAs R r known frame me (h ∷ hs) =
+    HoldsAs R r known frame me h.0 h.1 h.2 × AllHoldAs R r known frame me hs
 
--- `this` is an instance of each, or null
+-- `this` is an instance of each
 abbrev pub HasAll : {K : Keys} → Rows K → Value K → List K.class → Type 0
 HasAll R me [] = Unit {0}
-HasAll R me (c ∷ cs) = (cast_value (is_instance R c me) me ≡ value me) × HasAll R me cs
+HasAll R me (c ∷ cs) = IsTrue (is_instance R c me) × HasAll R me cs
 
 -- what stands for `this` and for expressions is that
 pub record Holding {K : Keys} (R : Rows K) (r : KeyMap K) (s : Renumbering K) (frame : Frame K)

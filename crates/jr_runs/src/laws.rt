@@ -1,11 +1,18 @@
 //! The laws on runs of programs, each the contract of a function that does nothing. `C`, `F`, `M`
 //! and `N` are the keys of classes, fields, methods and constructors, and `A` the places of nodes.
 ghost use Rattle.jr_runs.specs.Pieces.{PiecesChangePlaces, ReorderingsJoin};
+ghost use Rattle.jr_runs.specs.TypedImages.{TypedImagesAreAlike};
 ghost use Rattle.jr_runs.specs.Laws.{CallsAreMadeWell, EndsFit, HeldLocalsGo, HeldLocalsKeepRuns, RenamedProgramsAreAlike};
 
 /// A program and its image under a map of keys have the same runs, both ways, and bounded runs too.
 pub fn renamed_programs_are_alike<C, F, M, N, A>()
     ensures { RenamedProgramsAreAlike C F M N A }
+{}
+
+/// A well-typed program and another that is its image have the same runs, where methods may have
+/// gone up to superclasses, and dispatch is kept for each method's class and those below.
+pub fn typed_images_are_alike<C, F, M, N, A>()
+    ensures { TypedImagesAreAlike C F M N A }
 {}
 
 /// In a well-typed program each call and each constructor run that a well-made one makes is well

@@ -13,7 +13,8 @@ use Rattle.jr_runs.specs.Alike.{AlikeExactly}
 use Rattle.jr_runs.specs.Sets.{NumberSet, everything, with_one}
 use Rattle.jr_runs.specs.Standing.{Standing, whole}
 use Rattle.jr_runs.specs.Images.{to_literal, to_read, to_assign, to_local, to_static_field, to_declare, to_eval, to_return, to_no_more, to_list, to_spot, CodeTo}
-use Rattle.jr_runs_calls.specs.Extracts.{nothing, IsAt, Extracts}
+use Rattle.jr_runs_calls.specs.MadeMethods.{no_receiver, IsAt}
+use Rattle.jr_runs_calls.specs.Extracts.{nothing, Extracts}
 use Rattle.jr_runs_calls.proofs.Made.{extracted_programs_are_alike}
 
 abbrev J : Keys
@@ -89,19 +90,26 @@ below = inl refl
 -- nothing agrees behind the call, and the local does again when it is written
 spot : Extracts P Q outer (with_one everything 0) old_list new_list (λ i. with_one none_agrees 0 i)
 spot = record {
-  method = 1;
-  code = record { params = 1; body = piece };
-  is_written = refl;
-  mine = 0 ∷ [];
-  at = λ i. i;
-  injective = λ i j a b e. e;
-  known = [];
-  outs = 0 ∷ [];
-  params = refl;
-  are_params = is_at;
-  handed = is_handed;
-  begins = λ i. nat_eq 0 i;
-  begins_with = zero_in;
+  made = record {
+    method = 1;
+    code = record { params = 1; body = piece };
+    is_written = refl;
+    receiver = no_receiver;
+    is_called = tt;
+    mine = 0 ∷ [];
+    at = λ i. i;
+    injective = λ i j a b e. e;
+    known = [];
+    stays = λ j e. e;
+    outs = 0 ∷ [];
+    params = refl;
+    are_params = is_at;
+    begins = λ i. nat_eq 0 i;
+    begins_with = zero_in;
+    handed = is_handed;
+    call_at = None;
+    read_at = None;
+  };
   piece = piece;
   new_piece = piece;
   ends = with_one (λ i. nat_eq 0 i) 0;
@@ -117,7 +125,6 @@ spot = record {
   no_return = λ e. none e;
   behind = none_agrees;
   still = λ i e. no_truth e;
-  stays = λ j e. e;
   rest = rest;
   new_rest = rest;
   rest_to = to_list none_agrees (with_one none_agrees 0) (with_one none_agrees 0) (x_is (literal None (int (pos 2)))) (x_is (literal None (int (pos 2)))) (core.Stmts.more (return None (read None (local None 0))) core.Stmts.end) (core.Stmts.more (return None (read None (local None 0))) core.Stmts.end)
@@ -127,8 +134,6 @@ spot = record {
       (to_return (with_one none_agrees 0) (with_one none_agrees 0) (with_one none_agrees 0) None None (read None (local None 0)) (read None (local None 0)) (to_read (with_one none_agrees 0) (with_one none_agrees 0) None None (local None 0) (local None 0) (to_local (with_one none_agrees 0) None None 0 below) refl))
       (to_no_more (with_one none_agrees 0)));
   eval_at = None;
-  call_at = None;
-  read_at = None;
   old_is = refl;
   new_is = refl;
 }

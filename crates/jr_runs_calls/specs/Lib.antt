@@ -1,1 +1,3 @@
+pub mod MadeMethods
 pub mod Extracts
+pub mod Inlines
