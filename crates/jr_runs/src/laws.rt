@@ -1,5 +1,7 @@
 //! The laws on runs of programs, each the contract of a function that does nothing. `C`, `F`, `M`
 //! and `N` are the keys of classes, fields, methods and constructors, and `A` the places of nodes.
+ghost use Rattle.jr_runs.specs.Budgets.{FuelReadingsAgree};
+ghost use Rattle.jr_runs.specs.OldKeys.{ImagesByNames, KindsExtend, MapsExtend};
 ghost use Rattle.jr_runs.specs.Pieces.{PiecesChangePlaces, ReorderingsJoin};
 ghost use Rattle.jr_runs.specs.Laws.{CallsAreMadeWell, EndsFit, HeldLocalsGo, HeldLocalsKeepRuns, RenamedProgramsAreAlike};
 
@@ -28,4 +30,22 @@ pub fn reorderings_join<C, F, M, N, A>()
 pub fn held_locals_keep_runs<C, F, M, N, A>()
     ensures made { HeldLocalsKeepRuns C F M N A }
     ensures gone { HeldLocalsGo C F M N A }
+{}
+
+/// A program has the same whole and the same bounded runs, whether fuel is a depth or a budget of
+/// which each call, each constructor run and each turn of a loop takes a unit and hands on the rest.
+pub fn fuel_readings_agree<C, F, M, N, A>()
+    ensures { FuelReadingsAgree C F M N A }
+{}
+
+/// A map that is one to one on a program's keys of one kind, `X`, is there one that is one to one on
+/// all keys. What it keeps of the program's keys, `B`, that one keeps of all.
+pub fn maps_of_old_keys_extend<X, B>()
+    ensures maps { MapsExtend X }
+    ensures kinds { KindsExtend X B }
+{}
+
+/// The image of a trace depends on the classes and fields alone that it names.
+pub fn images_go_by_names<C, F, M, N, A>()
+    ensures { ImagesByNames C F M N A }
 {}
