@@ -3,7 +3,7 @@
 ghost use Rattle.jr_runs.specs.Budgets.{FuelReadingsAgree};
 ghost use Rattle.jr_runs.specs.OldKeys.{ImagesByNames, KindsExtend, MapsExtend};
 ghost use Rattle.jr_runs.specs.Pieces.{PiecesChangePlaces, ReorderingsJoin};
-ghost use Rattle.jr_runs.specs.Laws.{CallsAreMadeWell, EndsFit, HeldLocalsGo, HeldLocalsKeepRuns, RenamedProgramsAreAlike};
+ghost use Rattle.jr_runs.specs.Laws.{CallsAreMadeWell, EndsFit, RenamedProgramsAreAlike};
 
 /// A program and its image under a map of keys have the same runs, both ways, and bounded runs too.
 pub fn renamed_programs_are_alike<C, F, M, N, A>()
@@ -23,13 +23,6 @@ pub fn types_are_kept<C, F, M, N, A>()
 pub fn reorderings_join<C, F, M, N, A>()
     ensures joins { ReorderingsJoin C F M N A }
     ensures pieces { PiecesChangePlaces C F M N A }
-{}
-
-/// Programs of which the one has a local for an expression that reads locals alone have the same
-/// runs, bounded ones too, wherever the local is read.
-pub fn held_locals_keep_runs<C, F, M, N, A>()
-    ensures made { HeldLocalsKeepRuns C F M N A }
-    ensures gone { HeldLocalsGo C F M N A }
 {}
 
 /// A program has the same whole and the same bounded runs, whether fuel is a depth or a budget of

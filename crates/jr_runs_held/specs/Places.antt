@@ -1,0 +1,224 @@
+-- Where an expression stands in a statement list: what is done before it, and what with its value.
+use Rattle.std.specs.Prelude.{◌≡◌, ◌⊎◌, ℕ, List, [], ◌∷◌, ◌++◌, Some}
+use Rattle.jr_plans.specs.Plan.{done, act}
+use Rattle.jr_runs.specs.Keys.{Keys, At}
+use Rattle.jr_runs.specs.Values.{Value, null, text, class_object}
+use Rattle.jr_runs.specs.Actions.{enter, placed}
+use Rattle.jr_runs.specs.Rows.{Rows}
+use Rattle.jr_runs.specs.Arithmetic.{value}
+use Rattle.jr_runs.specs.Core as core
+use Rattle.jr_runs.specs.Core.{Exp, Stmt, Stmts}
+use Rattle.jr_runs.specs.Evaluation.{Flow, goes_on, returns, Step, next, non_null, on_truth}
+use Rattle.jr_runs.specs.Evaluation.{with_local, unset, leaving, exp, on_flow, stmt, stmts}
+use Rattle.jr_runs.specs.KeyMaps.{KeyMap}
+use Rattle.jr_runs.specs.Sets.{NumberSet, with_one, with_all, Within}
+use Rattle.jr_runs.specs.Standing.{itself, Renumbering, Standing, IsFree}
+use Rattle.jr_runs.specs.Images.{ExpTo, BlockTo, NoSpot, StmtTo, StmtsTo}
+use Rattle.jr_runs.specs.Pairs.{Returns, SomeReturns}
+use Rattle.jr_runs_held.specs.Footprint.{Access, enters, Calm, NeverNull}
+
+-- ---- what is done before
+
+pub data Piece (K : Keys) : Type 0 where
+  declared : (number : ℕ) (init : Exp K) → Piece K
+  evaluated : (of : Exp K) → Piece K
+  -- a block begins
+  opened : (locals : List ℕ) → Piece K
+  -- a monitor is entered
+  locked : (entered : At K) (lock : Exp K) → Piece K
+
+abbrev pub run_piece : {K : Keys} → Rows K → Value K → Piece K → List (Value K)
+    → Step K (List (Value K))
+run_piece R me (declared n e) l =
+    next (exp R me e l) (λ r. done (value (with_local r.1 n r.0)))
+run_piece R me (evaluated e) l = next (exp R me e l) (λ r. done (value r.1))
+run_piece R me (opened ns) l = done (value (unset ns l))
+run_piece R me (locked p e) l =
+    next (exp R me e l) (λ r. act (placed p (enter r.0)) (done (value r.1)))
+
+abbrev pub run_pieces : {K : Keys} → Rows K → Value K → List (Piece K) → List (Value K)
+    → Step K (List (Value K))
+run_pieces R me [] l = done (value l)
+run_pieces R me (b ∷ bs) l = next (run_piece R me b l) (λ m. run_pieces R me bs m)
+
+pub data CalmPiece {K : Keys} : Piece K → List ℕ → List ℕ → List (Access K) → Type 0 where
+  calm_declared : (n : ℕ) (e : Exp K) (rs ws : List ℕ) (xs : List (Access K)) → Calm e rs ws xs
+      → CalmPiece (declared n e) rs (ws ++ (n ∷ [])) xs
+  calm_evaluated : (e : Exp K) (rs ws : List ℕ) (xs : List (Access K)) → Calm e rs ws xs
+      → CalmPiece (evaluated e) rs ws xs
+  calm_opened : (ns : List ℕ) → CalmPiece (opened ns) [] ns []
+  calm_locked : (p : At K) (e : Exp K) → NeverNull e → CalmPiece (locked p e) [] [] (enters ∷ [])
+
+pub data CalmPieces {K : Keys} : List (Piece K) → List ℕ → List ℕ → List (Access K)
+    → Type 0 where
+  calm_none : CalmPieces [] [] [] []
+  calm_more : (b : Piece K) (bs : List (Piece K)) (rs ws rs' ws' : List ℕ)
+      (xs xs' : List (Access K))
+      → CalmPiece b rs ws xs → CalmPieces bs rs' ws' xs'
+      → CalmPieces (b ∷ bs) (rs ++ rs') (ws ++ ws') (xs ++ xs')
+
+-- The statement is these pieces: nothing else is done, and it doesn't return.
+mutual
+  pub data InPieces {K : Keys} : Stmt K → List (Piece K) → Type 0 where
+    one_declared : (p : At K) (n : ℕ) (e : Exp K)
+        → InPieces (core.declare p n e) (declared n e ∷ [])
+    one_evaluated : (p : At K) (e : Exp K) → InPieces (core.eval p e) (evaluated e ∷ [])
+    one_empty : (p : At K) → InPieces (core.empty p) []
+    in_a_block : (p : At K) (ns : List ℕ) (b : Stmts K) (bs : List (Piece K)) → AllInPieces b bs
+        → InPieces (core.block p ns b) (opened ns ∷ bs)
+
+  pub data AllInPieces {K : Keys} : Stmts K → List (Piece K) → Type 0 where
+    no_more_pieces : AllInPieces core.Stmts.end []
+    more_pieces : (a : Stmt K) (b : Stmts K) (cs bs : List (Piece K)) → InPieces a cs
+        → AllInPieces b bs
+        → AllInPieces (core.Stmts.more a b) (cs ++ bs)
+
+-- ---- what is done with the value, and then
+
+-- the statement whose expression it is
+pub data User (K : Keys) : Type 0 where
+  declares : (number : ℕ) → User K
+  evaluates : User K
+  gives : User K
+  chooses : (then otherwise : Stmt K) → User K
+  locks : (entered exited : At K) (body : Stmts K) → User K
+
+-- what comes behind the statement: the rest of its list, or that a monitor is left
+pub data Sequel (K : Keys) : Type 0 where
+  follows : (rest : Stmts K) → Sequel K
+  leaves : (exited : At K) (lock : Exp K) → Sequel K
+
+-- the object of a lock that never is null
+abbrev pub monitor_of : {K : Keys} → Value K → Exp K → Value K
+monitor_of me (core.literal p v) = v
+monitor_of me (core.this p) = me
+monitor_of me (core.read p t) = null
+monitor_of me (core.assign p t e) = null
+monitor_of me (core.compound p op t e) = null
+monitor_of me (core.bump p op t) = null
+monitor_of me (core.signed p op e) = null
+monitor_of me (core.binary p op a b) = null
+monitor_of me (core.both p a b) = null
+monitor_of me (core.either p a b) = null
+monitor_of me (core.cast p c e) = null
+monitor_of me (core.static_call p m es) = null
+monitor_of me (core.instance_call p e m es) = null
+monitor_of me (core.super_call p e m es) = null
+monitor_of me (core.create p c k es) = null
+monitor_of me (core.super_constructor p e k es) = null
+
+abbrev pub run_user : {K : Keys} → Rows K → Value K → User K → Value K × List (Value K)
+    → Step K (Flow K)
+run_user R me (declares n) r = done (value (goes_on (with_local r.1 n r.0)))
+run_user R me evaluates r = done (value (goes_on r.1))
+run_user R me gives r = done (value (returns (Some r.0)))
+run_user R me (chooses a b) r = on_truth r.0 (stmt R me a r.1) (stmt R me b r.1)
+run_user R me (locks p q b) r =
+    non_null r.0 (act (placed p (enter r.0)) (leaving q r.0 (stmts R me b r.1)))
+
+-- the innermost first
+abbrev pub run_sequels : {K : Keys} → Rows K → Value K → List (Sequel K) → Step K (Flow K)
+    → Step K (Flow K)
+run_sequels R me [] p = p
+run_sequels R me (follows b ∷ zs) p =
+    run_sequels R me zs (next p (λ f. on_flow f (λ m. stmts R me b m)))
+run_sequels R me (leaves q e ∷ zs) p = run_sequels R me zs (leaving q (monitor_of me e) p)
+
+-- ---- the place
+
+-- The expression e stands in the list or statement behind these pieces; then come this user and
+-- these sequels.
+mutual
+  pub data ListPlace {K : Keys} (e : Exp K) : Stmts K → List (Piece K) → User K
+      → List (Sequel K) → Type 0 where
+    in_first : (a : Stmt K) (b : Stmts K) (bs : List (Piece K)) (u : User K) (zs : List (Sequel K))
+        → StmtPlace e a bs u zs
+        → ListPlace e (core.Stmts.more a b) bs u (zs ++ (follows b ∷ []))
+    behind : (a : Stmt K) (b : Stmts K) (cs bs : List (Piece K)) (u : User K)
+        (zs : List (Sequel K))
+        → InPieces a cs → ListPlace e b bs u zs
+        → ListPlace e (core.Stmts.more a b) (cs ++ bs) u zs
+
+  pub data StmtPlace {K : Keys} (e : Exp K) : Stmt K → List (Piece K) → User K
+      → List (Sequel K) → Type 0 where
+    in_declare : (p : At K) (n : ℕ) → StmtPlace e (core.declare p n e) [] (declares n) []
+    in_eval : (p : At K) → StmtPlace e (core.eval p e) [] evaluates []
+    in_return : (p : At K) → StmtPlace e (core.return p e) [] gives []
+    in_condition : (p : At K) (a b : Stmt K)
+        → StmtPlace e (core.branch p e a b) [] (chooses a b) []
+    in_lock : (p q : At K) (b : Stmts K) → StmtPlace e (core.sync p q e b) [] (locks p q b) []
+    in_block : (p : At K) (ns : List ℕ) (b : Stmts K) (bs : List (Piece K)) (u : User K)
+        (zs : List (Sequel K))
+        → ListPlace e b bs u zs
+        → StmtPlace e (core.block p ns b) (opened ns ∷ bs) u zs
+    in_sync : (p q : At K) (x : Exp K) (b : Stmts K) (bs : List (Piece K)) (u : User K)
+        (zs : List (Sequel K))
+        → NeverNull x → ListPlace e b bs u zs
+        → StmtPlace e (core.sync p q x b) (locked p x ∷ bs) u (zs ++ (leaves q x ∷ []))
+
+-- ---- which may return
+
+abbrev pub UserReturns : {K : Keys} → User K → Type 0
+UserReturns (declares n) = ⊥
+UserReturns evaluates = ⊥
+UserReturns gives = Unit {0}
+UserReturns (chooses a b) = Returns a ⊎ Returns b
+UserReturns (locks p q b) = SomeReturns b
+
+-- M: may what stands within return?
+abbrev pub SequelsReturn : {K : Keys} → List (Sequel K) → Type 0 → Type 0
+SequelsReturn [] M = M
+SequelsReturn (follows b ∷ zs) M = SequelsReturn zs (M ⊎ SomeReturns b)
+SequelsReturn (leaves q e ∷ zs) M = SequelsReturn zs M
+
+-- ---- two programs
+
+-- the monitor of a lock that never is null, and its image
+pub data LockTo {K : Keys} (r : KeyMap K) (s : Renumbering K) : Exp K → Exp K → Type 0 where
+  to_own_lock : (p q : At K) → s.self ≡ itself → LockTo r s (core.this p) (core.this q)
+  to_text_lock : (p q : At K) (t : List ℕ)
+      → LockTo r s (core.literal p (text t)) (core.literal q (text t))
+  to_class_lock : (p q : At K) (c : K.class)
+      → LockTo r s (core.literal p (class_object c)) (core.literal q (class_object (r.class c)))
+
+pub data PieceTo {K : Keys} (r : KeyMap K) (R : Rows K) (s : Standing K)
+    : NumberSet → Piece K → Piece K → NumberSet → Type 0 where
+  to_declared : (A B C : NumberSet) (n : ℕ) (e e' : Exp K) → IsFree s.code n
+      → ExpTo r R s.code A e e' B → Within C (with_one B n)
+      → PieceTo r R s A (declared n e) (declared (s.code.at n) e') C
+  to_evaluated : (A B : NumberSet) (e e' : Exp K) → ExpTo r R s.code A e e' B
+      → PieceTo r R s A (evaluated e) (evaluated e') B
+  to_opened : (A B : NumberSet) (ns ns' : List ℕ) → BlockTo s ns ns' → Within B (with_all A ns)
+      → PieceTo r R s A (opened ns) (opened ns') B
+  to_locked : (A : NumberSet) (p q : At K) (e e' : Exp K) → LockTo r s.code e e'
+      → PieceTo r R s A (locked p e) (locked q e') A
+
+pub data PiecesTo {K : Keys} (r : KeyMap K) (R : Rows K) (s : Standing K)
+    : NumberSet → List (Piece K) → List (Piece K) → NumberSet → Type 0 where
+  to_no_piece : (A : NumberSet) → PiecesTo r R s A [] [] A
+  to_pieces : (A B C : NumberSet) (b b' : Piece K) (bs bs' : List (Piece K))
+      → PieceTo r R s A b b' B → PiecesTo r R s B bs bs' C
+      → PiecesTo r R s A (b ∷ bs) (b' ∷ bs') C
+
+pub data UserTo {K : Keys} (r : KeyMap K) (R : Rows K) (s : Standing K)
+    : NumberSet → User K → User K → NumberSet → Type 0 where
+  to_declares : (A C : NumberSet) (n : ℕ) → IsFree s.code n → Within C (with_one A n)
+      → UserTo r R s A (declares n) (declares (s.code.at n)) C
+  to_evaluates : (A : NumberSet) → UserTo r R s A evaluates evaluates A
+  to_gives : (A C : NumberSet) → UserTo r R s A gives gives C
+  to_chooses : (A C D E : NumberSet) (a a' b b' : Stmt K)
+      → StmtTo r R NoSpot s A a a' C → StmtTo r R NoSpot s A b b' D → Within E C → Within E D
+      → UserTo r R s A (chooses a b) (chooses a' b') E
+  to_locks : (A C : NumberSet) (p q p' q' : At K) (b b' : Stmts K)
+      → StmtsTo r R NoSpot s A b b' C
+      → UserTo r R s A (locks p q b) (locks p' q' b') C
+
+pub data SequelsTo {K : Keys} (r : KeyMap K) (R : Rows K) (s : Standing K)
+    : NumberSet → List (Sequel K) → List (Sequel K) → NumberSet → Type 0 where
+  to_no_sequel : (A : NumberSet) → SequelsTo r R s A [] [] A
+  to_follows : (A B C : NumberSet) (b b' : Stmts K) (zs zs' : List (Sequel K))
+      → StmtsTo r R NoSpot s A b b' B → SequelsTo r R s B zs zs' C
+      → SequelsTo r R s A (follows b ∷ zs) (follows b' ∷ zs') C
+  to_leaves : (A C : NumberSet) (p q : At K) (e e' : Exp K) (zs zs' : List (Sequel K))
+      → LockTo r s.code e e' → SequelsTo r R s A zs zs' C
+      → SequelsTo r R s A (leaves p e ∷ zs) (leaves q e' ∷ zs') C
