@@ -1,6 +1,6 @@
 -- Calm code comes to a value by at most as many actions as it has accesses, each made by one of these, whatever the answers
 -- are, and leaves alone what it doesn't write. By induction on the footprint, each node by its parts.
-use Rattle.std.proofs.Common.{◌≡◌, ◌⊎◌, ℕ, zero, suc, ◌+◌, ◌≤◌, true, false, IsTrue, List, [], ◌∷◌, ◌++◌, map, length, pos, not, ◌+ℤ◌, ◌-ℤ◌, ◌*ℤ◌, int_div, int_rem, refl, sym, ap, ◌∙◌, subst, inl, inr, ⊎_elim, arith}
+use Rattle.std.proofs.Common.{◌≡◌, ◌⊎◌, ℕ, zero, suc, ◌+◌, ◌≤◌, Bool, true, false, IsTrue, List, [], ◌∷◌, ◌++◌, map, length, pos, not, ◌+ℤ◌, ◌-ℤ◌, ◌*ℤ◌, int_div, int_rem, refl, sym, ap, ◌∙◌, subst, inl, inr, ⊎_elim, arith}
 use Rattle.std.proofs.lemmas.List.{length-append}
 use Rattle.jr_plans.specs.Plan.{done, act, ask}
 use Rattle.jr_plans.specs.Finite.{Finite, Results}
@@ -137,39 +137,39 @@ on_keeps ws ws' l m h (thrown f) g = g
 
 -- ---- expressions
 
-module _ {K : Keys} (R : Rows K) (me : Value K) (some : me ≡ null → ⊥) where
-  target_is : (t : Target K) (ns : List ℕ) (fs : List K.field) → CalmTarget t ns fs → (l : List (Value K)) → target R me t l ≡ done (value (slot_of me t, l))
+module _ {K : Keys} (R : Rows K) (me : Value K) (own : Bool) (some : IsTrue own → me ≡ null → ⊥) where
+  target_is : (t : Target K) (ns : List ℕ) (fs : List K.field) → CalmTarget own t ns fs → (l : List (Value K)) → target R me t l ≡ done (value (slot_of me t, l))
   target_is t ns fs (calm_local p n) l = refl
   target_is t ns fs (calm_static p f) l = refl
-  target_is t ns fs (calm_own p q f) l = refl
+  target_is t ns fs (calm_own p q f i) l = refl
 
   field_load : (p : At K) (f : K.field) (at : Location K) → field_in at ≡ f → Calmly R (loads f ∷ []) (λ v. Unit {0}) (load_field R p at f)
   field_load p f at e = record { finite = (some_fits R (R.field_type f), λ v h. (inl (at, v, e, refl), tt)); comes = λ v. tt }
 
-  calm_load : (t : Target K) (ns : List ℕ) (fs : List K.field) → CalmTarget t ns fs → (l : List (Value K)) → Calmly R (map loads fs) (λ v. Unit {0}) (load_from R (slot_of me t) l)
+  calm_load : (t : Target K) (ns : List ℕ) (fs : List K.field) → CalmTarget own t ns fs → (l : List (Value K)) → Calmly R (map loads fs) (λ v. Unit {0}) (load_from R (slot_of me t) l)
   calm_load t ns fs (calm_local p n) l = calm_value R [] (λ v. Unit {0}) (local_at l n) tt
   calm_load t ns fs (calm_static p f) l = field_load p f (shared f) refl
-  calm_load t ns fs (calm_own p q f) l = subst (Calmly R (loads f ∷ []) (λ v. Unit {0})) (sym (not_null me some (load_field R p (part me f) f))) (field_load p f (part me f) refl)
+  calm_load t ns fs (calm_own p q f i) l = subst (Calmly R (loads f ∷ []) (λ v. Unit {0})) (sym (not_null me (some i) (load_field R p (part me f) f))) (field_load p f (part me f) refl)
 
   field_store : (p : At K) (f : K.field) (at : Location K) → field_in at ≡ f → (v : Value K) (l : List (Value K)) → Calmly R (stores f ∷ []) (Kept [] l) (store_field R p at f v l)
   field_store p f at e v l = record { finite = (inl (at, v, e, refl), tt); comes = λ i d. refl }
 
-  calm_store : (t : Target K) (ns : List ℕ) (fs : List K.field) → CalmTarget t ns fs → (v : Value K) (l : List (Value K)) → Calmly R (map stores fs) (Kept ns l) (store_to R (slot_of me t) v l)
+  calm_store : (t : Target K) (ns : List ℕ) (fs : List K.field) → CalmTarget own t ns fs → (v : Value K) (l : List (Value K)) → Calmly R (map stores fs) (Kept ns l) (store_to R (slot_of me t) v l)
   calm_store t ns fs (calm_local p n) v l = calm_value R [] (Kept (n ∷ []) l) (with_local l n v) (λ i d. not_written l n i v (λ e. d (inl e)))
   calm_store t ns fs (calm_static p f) v l = field_store p f (shared f) refl v l
-  calm_store t ns fs (calm_own p q f) v l = subst (Calmly R (stores f ∷ []) (Kept [] l)) (sym (not_null me some (store_field R p (part me f) f v l))) (field_store p f (part me f) refl v l)
+  calm_store t ns fs (calm_own p q f i) v l = subst (Calmly R (stores f ∷ []) (Kept [] l)) (sym (not_null me (some i) (store_field R p (part me f) f v l))) (field_store p f (part me f) refl v l)
 
   abbrev Keeps : List ℕ → List (Value K) → Value K × List (Value K) → Type 0
   Keeps ws l a = Kept ws l a.1
 
   -- what is stored is what the whole comes to
-  stored : (t : Target K) (ns : List ℕ) (fs : List K.field) → CalmTarget t ns fs → (ws : List ℕ) (l m : List (Value K)) → Kept ws l m → (v w : Value K) → Calmly R (map stores fs) (Keeps (ws ++ ns) l) (next (store_to R (slot_of me t) v m) (λ o. done (value (w, o))))
+  stored : (t : Target K) (ns : List ℕ) (fs : List K.field) → CalmTarget own t ns fs → (ws : List ℕ) (l m : List (Value K)) → Kept ws l m → (v w : Value K) → Calmly R (map stores fs) (Keeps (ws ++ ns) l) (next (store_to R (slot_of me t) v m) (λ o. done (value (w, o))))
   stored t ns fs c ws l m h v w = calm_out R (map stores fs) (Kept ns m) (Keeps (ws ++ ns) l) (store_to R (slot_of me t) v m) (λ o. value (w, o)) (calm_store t ns fs c v m) (λ o g. kept_on ws ns l m o h g)
 
   later : (xs : List (Access K)) (ws ws' : List ℕ) (l m : List (Value K)) → Kept ws l m → (p : Step K (Value K × List (Value K))) → Calmly R xs (Keeps ws' m) p → Calmly R xs (Keeps (ws ++ ws') l) p
   later xs ws ws' l m h p g = record { finite = g.finite; comes = results_more (IsCame (Keeps ws' m)) (IsCame (Keeps (ws ++ ws') l)) (on_keeps ws ws' l m h) p g.comes }
 
-  pub calm_exp : (e : Exp K) (rs ws : List ℕ) (xs : List (Access K)) → Calm e rs ws xs → (l : List (Value K)) → Calmly R xs (Keeps ws l) (exp R me e l)
+  pub calm_exp : (e : Exp K) (rs ws : List ℕ) (xs : List (Access K)) → Calm own e rs ws xs → (l : List (Value K)) → Calmly R xs (Keeps ws l) (exp R me e l)
   calm_exp e rs ws xs (calm_literal p v) l = calm_value R [] (Keeps [] l) (v, l) (λ i d. refl)
   calm_exp e rs ws xs (calm_this p) l = calm_value R [] (Keeps [] l) (me, l) (λ i d. refl)
   calm_exp e rs ws xs (calm_read p t ns fs c) l =
@@ -207,15 +207,15 @@ module _ {K : Keys} (R : Rows K) (me : Value K) (some : me ≡ null → ⊥) whe
 
   -- ---- pieces
 
-  pub calm_piece : (b : Piece K) (rs ws : List ℕ) (xs : List (Access K)) → CalmPiece b rs ws xs → (l : List (Value K)) → Calmly R xs (Kept ws l) (run_piece R me b l)
+  pub calm_piece : (b : Piece K) (rs ws : List ℕ) (xs : List (Access K)) → CalmPiece own b rs ws xs → (l : List (Value K)) → Calmly R xs (Kept ws l) (run_piece R me b l)
   calm_piece b rs ws xs (calm_declared n e rs1 ws1 xs1 c) l = calm_out R xs1 (Keeps ws1 l) (Kept (ws1 ++ (n ∷ [])) l) (exp R me e l) (λ r. value (with_local r.1 n r.0)) (calm_exp e rs1 ws1 xs1 c l)
       (λ a h. kept_on ws1 (n ∷ []) l a.1 (with_local a.1 n a.0) h (λ i d. not_written a.1 n i a.0 (λ e. d (inl e))))
   calm_piece b rs ws xs (calm_evaluated e rs1 ws1 xs1 c) l = calm_out R xs1 (Keeps ws1 l) (Kept ws1 l) (exp R me e l) (λ r. value r.1) (calm_exp e rs1 ws1 xs1 c l) (λ a h. h)
   calm_piece b rs ws xs (calm_opened ns) l = calm_value R [] (Kept ns l) (unset ns l) (λ i d. unset_other ns l i d)
-  calm_piece b rs ws xs (calm_locked p e nn) l = subst (λ s. Calmly R (enters ∷ []) (Kept [] l) (next s (λ r. act (placed p (enter r.0)) (done (value r.1))))) (sym (never_value R me e nn l))
+  calm_piece b rs ws xs (calm_locked p e nn) l = subst (λ s. Calmly R (enters ∷ []) (Kept [] l) (next s (λ r. act (placed p (enter r.0)) (done (value r.1))))) (sym (never_value R me own e nn l))
       record { finite = (inl (monitor_of me e, refl), tt); comes = λ i d. refl }
 
-  pub calm_pieces : (bs : List (Piece K)) (rs ws : List ℕ) (xs : List (Access K)) → CalmPieces bs rs ws xs → (l : List (Value K)) → Calmly R xs (Kept ws l) (run_pieces R me bs l)
+  pub calm_pieces : (bs : List (Piece K)) (rs ws : List ℕ) (xs : List (Access K)) → CalmPieces own bs rs ws xs → (l : List (Value K)) → Calmly R xs (Kept ws l) (run_pieces R me bs l)
   calm_pieces bs rs ws xs calm_none l = calm_value R [] (Kept [] l) l (λ i d. refl)
   calm_pieces bs rs ws xs (calm_more b cs rs1 ws1 rs2 ws2 xs1 xs2 c d) l =
       calm_next R xs1 xs2 (Kept ws1 l) (Kept (ws1 ++ ws2) l) (run_piece R me b l) (λ m. run_pieces R me cs m) (calm_piece b rs1 ws1 xs1 c l)

@@ -1,7 +1,7 @@
 -- A local holds a calm expression that goes past calm pieces to its place: behind statements, in blocks, in a declaration, an
 -- `if`, a `return` or a lock, and through `synchronized`. `calm_match` reads from the program without the local to the one with
 -- it; which of the two is the old program is a matter of the relation of traces, and of `Turned`.
-use Rattle.std.proofs.Common.{◌≡◌, ◌⊎◌, ◌≤◌, ℕ, ◌+◌, IsTrue, List, [], ◌∷◌, ◌++◌, map, length, refl, sym, ap, ◌∙◌, subst, inl, inr, ⊎_elim, arith}
+use Rattle.std.proofs.Common.{◌≡◌, ◌⊎◌, ◌≤◌, ℕ, ◌+◌, Bool, IsTrue, List, [], ◌∷◌, ◌++◌, map, length, refl, sym, ap, ◌∙◌, subst, inl, inr, ⊎_elim, arith}
 use Rattle.jr_plans.specs.Plan.{done, and_then}
 use Rattle.jr_plans.specs.Follow.{Both}
 use Rattle.jr_plans.specs.Finite.{Finite, Each, Results}
@@ -78,7 +78,7 @@ module _ {K : Keys} (s : Standing K) (stands : Stands s) (own other further : Li
     beside_holding = record { self = self_is s.code.self stands.self im.self; classes = im.classes; holds = tt; casts = tt }
 
 -- n: by how many actions a run that is cut may be continued; A, B: which locals agree before both lists, and behind them
-pub record HoldsPastCalm {K : Keys} (r : KeyMap K) (R : Rows K) (n : ℕ) (s : Standing K) (A : NumberSet) (few many : Stmts K) (B : NumberSet) : Type 0 where
+pub record HoldsPastCalm {K : Keys} (own : Bool) (r : KeyMap K) (R : Rows K) (n : ℕ) (s : Standing K) (A : NumberSet) (few many : Stmts K) (B : NumberSet) : Type 0 where
   pub e : Exp K
   pub e' : Exp K
   pub number : ℕ
@@ -96,8 +96,8 @@ pub record HoldsPastCalm {K : Keys} (r : KeyMap K) (R : Rows K) (n : ℕ) (s : S
   pub user' : User K
   pub sequels : List (Sequel K)
   pub sequels' : List (Sequel K)
-  pub here : ListPlace e few pieces user sequels
-  pub there : ListPlace (read read_at (local name_at number)) rest pieces' user' sequels'
+  pub here : ListPlace own e few pieces user sequels
+  pub there : ListPlace own (read read_at (local name_at number)) rest pieces' user' sequels'
   -- the footprints of the pieces and of e
   pub piece_reads : List ℕ
   pub piece_writes : List ℕ
@@ -111,10 +111,10 @@ pub record HoldsPastCalm {K : Keys} (r : KeyMap K) (R : Rows K) (n : ℕ) (s : S
   pub e_reads' : List ℕ
   pub e_writes' : List ℕ
   pub e_accesses' : List (Access K)
-  pub pieces_calm : CalmPieces pieces piece_reads piece_writes piece_accesses
-  pub pieces_calm' : CalmPieces pieces' piece_reads' piece_writes' piece_accesses'
-  pub e_calm : Calm e e_reads e_writes e_accesses
-  pub e_calm' : Calm e' e_reads' e_writes' e_accesses'
+  pub pieces_calm : CalmPieces own pieces piece_reads piece_writes piece_accesses
+  pub pieces_calm' : CalmPieces own pieces' piece_reads' piece_writes' piece_accesses'
+  pub e_calm : Calm own e e_reads e_writes e_accesses
+  pub e_calm' : Calm own e' e_reads' e_writes' e_accesses'
   -- the bound is the number of accesses
   pub short : length piece_accesses + length e_accesses ≤ n
   pub no_more_pieces : length piece_accesses' ≤ length piece_accesses
@@ -152,7 +152,7 @@ turn_parts {K = K} {A = A} {B = B} {C = C} p f k = and_then_assoc p (λ a. and_t
     go (thrown t) = refl
 
 module _ {K : Keys} (g : Setting K) (Spot : Spots K) (turns : TurnsAnswered g Spot) (s : Standing K) (stands : Stands s) (frame : Frame K) (me me' : Value K) (im : Holding g.old g.keys s.code frame me me')
-    (some : me ≡ null → ⊥) (some' : me' ≡ null → ⊥) (A : NumberSet) (few many : Stmts K) (B : NumberSet) (x : HoldsPastCalm g.keys g.old g.more s A few many B)
+    (own : Bool) (some : IsTrue own → me ≡ null → ⊥) (some' : IsTrue own → me' ≡ null → ⊥) (A : NumberSet) (few many : Stmts K) (B : NumberSet) (x : HoldsPastCalm own g.keys g.old g.more s A few many B)
     (cross : (u u' v v' : List (Event K)) → Each (OneMakes g.old x.piece_accesses) u → Each (OneMakes g.old x.e_accesses) v → Mapped g.keys u u' → Mapped g.keys v v' → g.relation (u ++ v) (v' ++ u'))
     (l l' : List (Value K)) (h : Shifted g.keys s frame A l l') where
   abbrev Pair : Type 0
@@ -179,13 +179,13 @@ module _ {K : Keys} (g : Setting K) (Spot : Spots K) (turns : TurnsAnswered g Sp
   second' r = run_pieces g.new me' x.pieces' (with_local r.1 x.number r.0)
 
   calm_first : Calmly g.old x.piece_accesses (Kept x.piece_writes l) first
-  calm_first = calm_pieces g.old me some x.pieces x.piece_reads x.piece_writes x.piece_accesses x.pieces_calm l
+  calm_first = calm_pieces g.old me own some x.pieces x.piece_reads x.piece_writes x.piece_accesses x.pieces_calm l
 
   calm_second : (m : List (Value K)) → Calmly g.old x.e_accesses (λ a. Kept x.e_writes m a.1) (second m)
-  calm_second m = calm_exp g.old me some x.e x.e_reads x.e_writes x.e_accesses x.e_calm m
+  calm_second m = calm_exp g.old me own some x.e x.e_reads x.e_writes x.e_accesses x.e_calm m
 
   calm_first' : Calmly g.new x.e_accesses' (λ a. Kept x.e_writes' l' a.1) first'
-  calm_first' = calm_exp g.new me' some' x.e' x.e_reads' x.e_writes' x.e_accesses' x.e_calm' l'
+  calm_first' = calm_exp g.new me' own some' x.e' x.e_reads' x.e_writes' x.e_accesses' x.e_calm' l'
 
   finite_second : (a : Out (List (Value K))) → Finite (OneMakes g.old x.e_accesses) (on_value second a) (length x.e_accesses)
   finite_second (value m) = (calm_second m).finite
@@ -196,7 +196,7 @@ module _ {K : Keys} (g : Setting K) (Spot : Spots K) (turns : TurnsAnswered g Sp
 
   one_finite' : (r : Pair) → Finite (OneMakes g.new x.piece_accesses') (second' r) (length x.piece_accesses)
   one_finite' r = finite_within (OneMakes g.new x.piece_accesses') (OneMakes g.new x.piece_accesses') (second' r) (length x.piece_accesses') (length x.piece_accesses) x.no_more_pieces (λ a i. i)
-      (calm_pieces g.new me' some' x.pieces' x.piece_reads' x.piece_writes' x.piece_accesses' x.pieces_calm' (with_local r.1 x.number r.0)).finite
+      (calm_pieces g.new me' own some' x.pieces' x.piece_reads' x.piece_writes' x.piece_accesses' x.pieces_calm' (with_local r.1 x.number r.0)).finite
 
   finite_second' : (b : Out Pair) → Finite (OneMakes g.new x.piece_accesses') (on_value second' b) (length x.piece_accesses)
   finite_second' (value r) = one_finite' r
@@ -278,11 +278,11 @@ module _ {K : Keys} (g : Setting K) (Spot : Spots K) (turns : TurnsAnswered g Sp
   qs (value m) k = e_both m k
   qs (thrown f) k = absurd k
 
-  abbrev Turned : Out (List (Value K)) × Out Pair → Out Pair × Out (List (Value K)) → Type 0
-  Turned c d = Qq c.0 c.1 d.0 × Qp d.0 c.0 d.1
+  abbrev InOtherOrder : Out (List (Value K)) × Out Pair → Out Pair × Out (List (Value K)) → Type 0
+  InOtherOrder c d = Qq c.0 c.1 d.0 × Qp d.0 c.0 d.1
 
-  turned : Both g.more g.relation g.sides Turned (in_turn first (on_value second)) (in_turn first' (on_value second'))
-  turned = crossed g.sides (Mapped g.keys) g.relation (length x.piece_accesses) (length x.e_accesses) g.more x.short
+  changed_places : Both g.more g.relation g.sides InOtherOrder (in_turn first (on_value second)) (in_turn first' (on_value second'))
+  changed_places = crossed g.sides (Mapped g.keys) g.relation (length x.piece_accesses) (length x.e_accesses) g.more x.short
       (OneMakes g.old x.piece_accesses) (OneMakes g.old x.e_accesses) (OneMakes g.new x.piece_accesses') (OneMakes g.new x.e_accesses') cross
       first (on_value second) first' (on_value second') calm_first.finite finite_second finite_first' finite_second'
       (IsCame (Kept x.piece_writes l)) (IsCame (λ a. Kept x.e_writes' l' a.1)) calm_first.comes calm_first'.comes Qp Qq ps qs
@@ -315,12 +315,12 @@ module _ {K : Keys} (g : Setting K) (Spot : Spots K) (turns : TurnsAnswered g Sp
   reading = read x.read_at (local x.name_at x.number)
 
   abbrev on : Pair → Step K (Flow K)
-  on = then_on g.old me x.e x.user x.sequels
+  on = then_on g.old me own x.e x.user x.sequels
 
   abbrev on' : List (Value K) → Step K (Flow K)
-  on' m = then_on g.new me' reading x.user' x.sequels' (local_at m x.number, m)
+  on' m = then_on g.new me' own reading x.user' x.sequels' (local_at m x.number, m)
 
-  later : (c : Out (List (Value K)) × Out Pair) (d : Out Pair × Out (List (Value K))) → Turned c d → Matches g (To M) (on_value on c.1) (on_value on' d.1)
+  later : (c : Out (List (Value K)) × Out Pair) (d : Out Pair × Out (List (Value K))) → InOtherOrder c d → Matches g (To M) (on_value on c.1) (on_value on' d.1)
   later c d t = go c.0 c.1 d.0 d.1 t.0 t.1
     where
       go : (a : Out (List (Value K))) (b b' : Out Pair) (a' : Out (List (Value K))) → Qq a b b' → Qp b' a a' → Matches g (To M) (on_value on b) (on_value on' a')
@@ -334,13 +334,13 @@ module _ {K : Keys} (g : Setting K) (Spot : Spots K) (turns : TurnsAnswered g Sp
   -- ---- the lists
 
   old_is : stmts g.old me few l ≡ and_then (in_turn first (on_value second)) (λ c. on_value on c.1)
-  old_is = list_parts g.old me x.e few x.pieces x.user x.sequels x.here
-      (λ z. (some, calm_all_come g.old me some x.pieces x.piece_reads x.piece_writes x.piece_accesses x.pieces_calm, λ m. any_come g.old me (λ a. Kept x.e_writes m a.1) (second m) (calm_second m).comes)) l
+  old_is = list_parts g.old me own x.e few x.pieces x.user x.sequels x.here
+      (λ z. (some, calm_all_come g.old me own some x.pieces x.piece_reads x.piece_writes x.piece_accesses x.pieces_calm, λ m. any_come g.old me (λ a. Kept x.e_writes m a.1) (second m) (calm_second m).comes)) l
       ∙ sym (turn_parts first second on)
 
   rest_is : (m : List (Value K)) → stmts g.new me' x.rest m ≡ next (run_pieces g.new me' x.pieces' m) on'
-  rest_is m = list_parts g.new me' reading x.rest x.pieces' x.user' x.sequels' x.there
-      (λ z. (some', calm_all_come g.new me' some' x.pieces' x.piece_reads' x.piece_writes' x.piece_accesses' x.pieces_calm', λ o. tt)) m
+  rest_is m = list_parts g.new me' own reading x.rest x.pieces' x.user' x.sequels' x.there
+      (λ z. (some', calm_all_come g.new me' own some' x.pieces' x.piece_reads' x.piece_writes' x.piece_accesses' x.pieces_calm', λ o. tt)) m
 
   new_is : stmts g.new me' (core.Stmts.more (declare x.place x.number x.e') x.rest) l' ≡ and_then (in_turn first' (on_value second')) (λ c. on_value on' c.1)
   new_is = next_assoc first' (λ r. done (value (goes_on (with_local r.1 x.number r.0)))) (λ f. on_flow f (λ m. stmts g.new me' x.rest m))
@@ -348,12 +348,12 @@ module _ {K : Keys} (g : Setting K) (Spot : Spots K) (turns : TurnsAnswered g Sp
       ∙ sym (turn_parts first' second' on')
 
   both_match : Matches g (To M) (and_then (in_turn first (on_value second)) (λ c. on_value on c.1)) (and_then (in_turn first' (on_value second')) (λ c. on_value on' c.1))
-  both_match = both_and g.more g.relation g.joins g.sides Turned (OutRel (To M)) (in_turn first (on_value second)) (λ c. on_value on c.1) (in_turn first' (on_value second')) (λ c. on_value on' c.1) turned later
+  both_match = both_and g.more g.relation g.joins g.sides InOtherOrder (OutRel (To M)) (in_turn first (on_value second)) (λ c. on_value on c.1) (in_turn first' (on_value second')) (λ c. on_value on' c.1) changed_places later
 
   -- such a list matches
   pub calm_match : Matches g (To (SomeReturns few)) (stmts g.old me few l) (stmts g.new me' many l')
   calm_match = subst (λ b. Matches g (To (SomeReturns few)) (stmts g.old me few l) (stmts g.new me' b l')) (sym x.many_is)
       (subst (λ p. Matches g (To (SomeReturns few)) p (stmts g.new me' (core.Stmts.more (declare x.place x.number x.e') x.rest) l')) (sym old_is)
       (subst (λ p. Matches g (To (SomeReturns few)) (and_then (in_turn first (on_value second)) (λ c. on_value on c.1)) p) (sym new_is)
-      (looser g s stands frame me me' im B B (λ i a. a) M (SomeReturns few) (list_returns x.e few x.pieces x.user x.sequels x.here)
+      (looser g s stands frame me me' im B B (λ i a. a) M (SomeReturns few) (list_returns own x.e few x.pieces x.user x.sequels x.here)
       (and_then (in_turn first (on_value second)) (λ c. on_value on c.1)) (and_then (in_turn first' (on_value second')) (λ c. on_value on' c.1)) both_match)))

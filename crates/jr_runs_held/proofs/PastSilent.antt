@@ -1,7 +1,7 @@
 -- A local holds an expression of any kind, which goes past silent pieces to its place: behind statements, in blocks, in a
 -- declaration, an `if`, a `return` or a lock. `past_match` reads from the program without the local to the one with it, and by
 -- `Turned` the other way round.
-use Rattle.std.proofs.Common.{◌≡◌, ◌⊎◌, ℕ, List, [], ◌∷◌, map, IsTrue, refl, sym, ap, ◌∙◌, subst, inl, inr, ⊎_elim}
+use Rattle.std.proofs.Common.{◌≡◌, ◌⊎◌, ℕ, true, List, [], ◌∷◌, map, IsTrue, refl, sym, ap, ◌∙◌, subst, inl, inr, ⊎_elim}
 use Rattle.jr_plans.specs.Plan.{done}
 use Rattle.jr_plans.specs.Reach.{Ends}
 use Rattle.jr_runs.specs.Keys.{Keys, At}
@@ -49,8 +49,8 @@ bare s x = record {
 pub record SilentPieces {K : Keys} (r : KeyMap K) (R : Rows K) (s : Standing K) (bs bs' : List (Piece K)) (reads writes : List ℕ) : Type 0 where
   pub reads' : List ℕ
   pub writes' : List ℕ
-  pub calm : CalmPieces bs reads writes []
-  pub calm' : CalmPieces bs' reads' writes' []
+  pub calm : CalmPieces true bs reads writes []
+  pub calm' : CalmPieces true bs' reads' writes' []
   pub writes_to : (j : ℕ) → In j writes' → In j (map s.code.at writes)
   pub own_reads : (i : ℕ) → In i reads → In i s.code.mine
   pub own_writes : (i : ℕ) → In i writes → In i s.code.mine
@@ -67,10 +67,10 @@ pub record SilentPieces {K : Keys} (r : KeyMap K) (R : Rows K) (s : Standing K) 
 module _ {K : Keys} (g : Setting K) (s : Standing K) (stands : Stands s) (frame : Frame K) (me me' : Value K) (im : Holding g.old g.keys s.code frame me me')
     (bs bs' : List (Piece K)) (reads writes : List ℕ) (x : SilentPieces g.keys g.old s bs bs' reads writes) where
   old_run : (l : List (Value K)) → PieceTwins g.old me bs (λ i. In i reads) writes l l
-  old_run l = piece_twins g.old me bs reads writes [] x.calm refl (λ i. In i reads) (λ i o. o) l l (λ i o. refl)
+  old_run l = piece_twins g.old me true bs reads writes [] x.calm refl (λ i. In i reads) (λ i o. o) l l (λ i o. refl)
 
   new_run : (l : List (Value K)) → PieceTwins g.new me' bs' (λ i. In i x.reads') x.writes' l l
-  new_run l = piece_twins g.new me' bs' x.reads' x.writes' [] x.calm' refl (λ i. In i x.reads') (λ i o. o) l l (λ i o. refl)
+  new_run l = piece_twins g.new me' true bs' x.reads' x.writes' [] x.calm' refl (λ i. In i x.reads') (λ i o. o) l l (λ i o. refl)
 
   self_in : (self : Self) → (self ≡ unused) ⊎ ((self ≡ itself) × (s.code.self ≡ itself)) → SelfIn self []
   self_in self d = ⊎_elim (λ (e : self ≡ unused). subst (λ y. SelfIn y []) (sym e) tt) (λ (e : (self ≡ itself) × (s.code.self ≡ itself)). subst (λ y. SelfIn y []) (sym e.0) tt) d
@@ -90,7 +90,7 @@ module _ {K : Keys} (g : Setting K) (s : Standing K) (stands : Stands s) (frame 
     old_stays = λ l i d. (old_run l).apart.stays i d;
     new_stays = λ l j d. (new_run l).apart.stays j (λ k. d (x.writes_to j k));
     old_same = λ l m h i w.
-        let t = piece_twins g.old me bs reads writes [] x.calm refl (λ j. In j reads) (λ j o. o) l m h in
+        let t = piece_twins g.old me true bs reads writes [] x.calm refl (λ j. In j reads) (λ j o. o) l m h in
         ap (λ y. local_at y i) (one_value (old_run m).first t.second (run_pieces g.old me bs m) (old_run m).comes t.comes_too)
         ∙ t.apart.agree i (inr w)
         ∙ ap (λ y. local_at y i) (one_value t.first (old_run l).first (run_pieces g.old me bs l) t.comes (old_run l).comes);
@@ -116,8 +116,8 @@ pub record HoldsPastSilent {K : Keys} (r : KeyMap K) (R : Rows K) (s : Standing 
   pub user' : User K
   pub sequels : List (Sequel K)
   pub sequels' : List (Sequel K)
-  pub here : ListPlace e few pieces user sequels
-  pub there : ListPlace (read read_at (local name_at number)) rest pieces' user' sequels'
+  pub here : ListPlace true e few pieces user sequels
+  pub there : ListPlace true (read read_at (local name_at number)) rest pieces' user' sequels'
   -- in no monitor
   pub unlocked : LeavesIn sequels → ⊥
   pub unlocked' : LeavesIn sequels' → ⊥
@@ -138,17 +138,17 @@ module _ {K : Keys} (g : Setting K) (Spot : Spots K) (turns : TurnsAnswered g Sp
   update = silent_update g s stands frame me me' im x.pieces x.pieces' x.reads x.writes x.silent
 
   abbrev on : Value K × List (Value K) → Step K (Flow K)
-  on = then_on g.old me x.e x.user x.sequels
+  on = then_on g.old me true x.e x.user x.sequels
 
   abbrev on' : Value K × List (Value K) → Step K (Flow K)
-  on' = then_on g.new me' (read x.read_at (local x.name_at x.number)) x.user' x.sequels'
+  on' = then_on g.new me' true (read x.read_at (local x.name_at x.number)) x.user' x.sequels'
 
   old_is : (l : List (Value K)) → stmts g.old me few l ≡ next (exp g.old me x.e (update.old l)) on
-  old_is l = list_parts g.old me x.e few x.pieces x.user x.sequels x.here (λ h. absurd (x.unlocked h)) l
+  old_is l = list_parts g.old me true x.e few x.pieces x.user x.sequels x.here (λ h. absurd (x.unlocked h)) l
       ∙ ap (λ p. next p (λ m. next (exp g.old me x.e m) on)) (old_run g s stands frame me me' im x.pieces x.pieces' x.reads x.writes x.silent l).comes
 
   rest_is : (m : List (Value K)) → stmts g.new me' x.rest m ≡ on' (local_at (update.new m) x.number, update.new m)
-  rest_is m = list_parts g.new me' (read x.read_at (local x.name_at x.number)) x.rest x.pieces' x.user' x.sequels' x.there (λ h. absurd (x.unlocked' h)) m
+  rest_is m = list_parts g.new me' true (read x.read_at (local x.name_at x.number)) x.rest x.pieces' x.user' x.sequels' x.there (λ h. absurd (x.unlocked' h)) m
       ∙ ap (λ p. next p (λ o. next (exp g.new me' (read x.read_at (local x.name_at x.number)) o) on')) (new_run g s stands frame me me' im x.pieces x.pieces' x.reads x.writes x.silent m).comes
 
   module _ (l l' : List (Value K)) (h : Shifted g.keys s frame A l l') where
@@ -176,7 +176,7 @@ module _ {K : Keys} (g : Setting K) (Spot : Spots K) (turns : TurnsAnswered g Sp
     past_match = subst (λ b. Matches g (To (SomeReturns few)) (stmts g.old me few l) (stmts g.new me' b l')) (sym x.many_is)
         (subst (λ p. Matches g (To (SomeReturns few)) p (stmts g.new me' (core.Stmts.more (declare x.place x.number x.e') x.rest) l')) (sym (old_is l))
         (subst (λ p. Matches g (To (SomeReturns few)) (next (exp g.old me x.e (update.old l)) on) p) (sym new_is)
-        (looser g s stands frame me me' im B B (λ i a. a) M (SomeReturns few) (list_returns x.e few x.pieces x.user x.sequels x.here) (next (exp g.old me x.e (update.old l)) on) (next (next (exp g.new me' x.e' l') kept) on') both_match)))
+        (looser g s stands frame me me' im B B (λ i a. a) M (SomeReturns few) (list_returns true x.e few x.pieces x.user x.sequels x.here) (next (exp g.old me x.e (update.old l)) on) (next (next (exp g.new me' x.e' l') kept) on') both_match)))
 
 -- Programs of which the one has such locals, any number of them, have the same runs.
 pub past_programs_are_alike : {K : Keys} (P Q : Program K) → ProgramTo same_keys (HoldsPastSilent same_keys P.rows) P Q → AlikeExactly same_keys P Q

@@ -1,6 +1,6 @@
 -- A list with an expression in a place runs the pieces before it, then the expression, and then what uses its value and
 -- what comes behind.
-use Rattle.std.proofs.Common.{◌≡◌, ◌⊎◌, List, [], ◌∷◌, ◌++◌, refl, sym, ap, ◌∙◌, inl, inr, ⊎_elim}
+use Rattle.std.proofs.Common.{◌≡◌, ◌⊎◌, Bool, IsTrue, List, [], ◌∷◌, ◌++◌, refl, sym, ap, ◌∙◌, inl, inr, ⊎_elim}
 use Rattle.jr_plans.specs.Plan.{done, act}
 use Rattle.jr_plans.specs.Finite.{Results}
 use Rattle.jr_runs.specs.Keys.{Keys, At}
@@ -57,9 +57,9 @@ module _ {K : Keys} (R : Rows K) (me : Value K) where
       go (value a) i = tt
       go (thrown f) i = i
 
-  pub calm_all_come : (me ≡ null → ⊥) → (bs : List (Piece K)) (rs ws : List ℕ) (xs : List (Access K)) → CalmPieces bs rs ws xs → AllCome bs
-  calm_all_come some bs rs ws xs calm_none = tt
-  calm_all_come some bs rs ws xs (calm_more b cs rs1 ws1 rs2 ws2 xs1 xs2 c d) = (λ l. any_come (Kept ws1 l) (run_piece R me b l) (calm_piece R me some b rs1 ws1 xs1 c l).comes, calm_all_come some cs rs2 ws2 xs2 d)
+  pub calm_all_come : (own : Bool) → (IsTrue own → me ≡ null → ⊥) → (bs : List (Piece K)) (rs ws : List ℕ) (xs : List (Access K)) → CalmPieces own bs rs ws xs → AllCome bs
+  calm_all_come own some bs rs ws xs calm_none = tt
+  calm_all_come own some bs rs ws xs (calm_more b cs rs1 ws1 rs2 ws2 xs1 xs2 c d) = (λ l. any_come (Kept ws1 l) (run_piece R me b l) (calm_piece R me own some b rs1 ws1 xs1 c l).comes, calm_all_come own some cs rs2 ws2 xs2 d)
 
   -- ---- pieces
 
@@ -95,7 +95,7 @@ module _ {K : Keys} (R : Rows K) (me : Value K) where
 
   -- ---- the whole
 
-  module _ (e : Exp K) where
+  module _ (own : Bool) (e : Exp K) where
     -- behind the value
     abbrev pub then_on : User K → List (Sequel K) → Value K × List (Value K) → Step K (Flow K)
     then_on u zs r = run_sequels R me zs (run_user R me u r)
@@ -105,10 +105,10 @@ module _ {K : Keys} (R : Rows K) (me : Value K) where
 
     -- where a monitor is left behind, all that is done in it up to the value comes to values
     abbrev pub NoThrow : List (Piece K) → List (Sequel K) → Type 0
-    NoThrow bs zs = LeavesIn zs → (me ≡ null → ⊥) × AllCome bs × ((l : List (Value K)) → Comes (exp R me e l))
+    NoThrow bs zs = LeavesIn zs → (IsTrue own → me ≡ null → ⊥) × AllCome bs × ((l : List (Value K)) → Comes (exp R me e l))
 
     mutual
-      pub list_parts : (b : Stmts K) (bs : List (Piece K)) (u : User K) (zs : List (Sequel K)) → ListPlace e b bs u zs → NoThrow bs zs → (l : List (Value K)) → stmts R me b l ≡ Parted bs u zs l
+      pub list_parts : (b : Stmts K) (bs : List (Piece K)) (u : User K) (zs : List (Sequel K)) → ListPlace own e b bs u zs → NoThrow bs zs → (l : List (Value K)) → stmts R me b l ≡ Parted bs u zs l
       list_parts b bs u zs (in_first a c cs v ys d) n l =
           let on : Flow K → Step K (Flow K) = λ f. on_flow f (λ m. stmts R me c m) in
           let k : List (Value K) → Step K (Flow K) = λ m. next (exp R me e m) (then_on v ys) in
@@ -117,7 +117,7 @@ module _ {K : Keys} (R : Rows K) (me : Value K) where
       list_parts b bs u zs (behind a c cs ds v ys h d) n l =
           list_of_pieces a c cs ds (λ m. next (exp R me e m) (then_on v ys)) (stmt_in_pieces a cs h) (list_parts c ds v ys d (λ i. let g = n i in (g.0, all_right cs ds g.1, g.2))) l
 
-      stmt_parts : (a : Stmt K) (bs : List (Piece K)) (u : User K) (zs : List (Sequel K)) → StmtPlace e a bs u zs → NoThrow bs zs → (l : List (Value K)) → stmt R me a l ≡ Parted bs u zs l
+      stmt_parts : (a : Stmt K) (bs : List (Piece K)) (u : User K) (zs : List (Sequel K)) → StmtPlace own e a bs u zs → NoThrow bs zs → (l : List (Value K)) → stmt R me a l ≡ Parted bs u zs l
       stmt_parts a bs u zs (in_declare p i) n l = refl
       stmt_parts a bs u zs (in_eval p) n l = refl
       stmt_parts a bs u zs (in_return p) n l = refl
@@ -135,8 +135,8 @@ module _ {K : Keys} (R : Rows K) (me : Value K) where
               ap (leaving q o) (list_parts c cs v ys d (λ h. (g.0, g.1.1, g.2)) l)
               ∙ leaving_next q o (run_pieces R me cs l) k (pieces_come cs g.1.1 l)
               ∙ (λ i. next (run_pieces R me cs l) (λ m. (leaving_next q o (exp R me e m) (then_on v ys) (g.2 m) ∙ (λ j. next (exp R me e m) (λ r. sym (sequels_append ys (leaves q x ∷ []) (run_user R me v r)) j))) i)) in
-          ap (λ s. next s lock) (never_value R me x nn l) ∙ never_stops R me x nn g.0 (whole (leaving q o (stmts R me c l))) ∙ ap whole inner
-          ∙ ap (λ s. next (next (next s entered) (λ m. run_pieces R me cs m)) (λ m. next (exp R me e m) (then_on v (ys ++ (leaves q x ∷ []))))) (sym (never_value R me x nn l))
+          ap (λ s. next s lock) (never_value R me own x nn l) ∙ never_stops R me own x nn g.0 (whole (leaving q o (stmts R me c l))) ∙ ap whole inner
+          ∙ ap (λ s. next (next (next s entered) (λ m. run_pieces R me cs m)) (λ m. next (exp R me e m) (then_on v (ys ++ (leaves q x ∷ []))))) (sym (never_value R me own x nn l))
 
 -- ---- where it may return, the list may
 
@@ -145,13 +145,13 @@ sequels_return [] ys M h = h
 sequels_return (follows b ∷ zs) ys M h = sequels_return zs ys (M ⊎ SomeReturns b) h
 sequels_return (leaves q e ∷ zs) ys M h = sequels_return zs ys M h
 
-module _ {K : Keys} (e : Exp K) where
+module _ {K : Keys} (own : Bool) (e : Exp K) where
   mutual
-    pub list_returns : (b : Stmts K) (bs : List (Piece K)) (u : User K) (zs : List (Sequel K)) → ListPlace e b bs u zs → SequelsReturn zs (UserReturns u) → SomeReturns b
+    pub list_returns : (b : Stmts K) (bs : List (Piece K)) (u : User K) (zs : List (Sequel K)) → ListPlace own e b bs u zs → SequelsReturn zs (UserReturns u) → SomeReturns b
     list_returns b bs u zs (in_first a c cs v ys d) h = ⊎_elim (λ i. inl (stmt_returns a cs v ys d i)) (λ i. inr i) (sequels_return ys (follows c ∷ []) (UserReturns v) h)
     list_returns b bs u zs (behind a c cs ds v ys i d) h = inr (list_returns c ds v ys d h)
 
-    stmt_returns : (a : Stmt K) (bs : List (Piece K)) (u : User K) (zs : List (Sequel K)) → StmtPlace e a bs u zs → SequelsReturn zs (UserReturns u) → Returns a
+    stmt_returns : (a : Stmt K) (bs : List (Piece K)) (u : User K) (zs : List (Sequel K)) → StmtPlace own e a bs u zs → SequelsReturn zs (UserReturns u) → Returns a
     stmt_returns a bs u zs (in_declare p i) h = h
     stmt_returns a bs u zs (in_eval p) h = h
     stmt_returns a bs u zs (in_return p) h = h

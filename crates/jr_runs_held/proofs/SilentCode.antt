@@ -1,6 +1,6 @@
 -- Silent code, which is calm and has no access, comes to a value and makes nothing. What it comes to and what it writes
 -- depend on what it reads: by induction on the footprint, of two runs side by side.
-use Rattle.std.proofs.Common.{◌≡◌, ◌⊎◌, ℕ, true, false, List, [], ◌∷◌, ◌++◌, map, refl, sym, ap, ◌∙◌, subst, inl, inr, ⊎_elim}
+use Rattle.std.proofs.Common.{◌≡◌, ◌⊎◌, ℕ, Bool, true, false, List, [], ◌∷◌, ◌++◌, map, refl, sym, ap, ◌∙◌, subst, inl, inr, ⊎_elim}
 use Rattle.std.proofs.lemmas.Bool.{cases_eq}
 use Rattle.jr_plans.specs.Plan.{done}
 use Rattle.jr_plans.specs.Finite.{Results}
@@ -91,20 +91,20 @@ record Twins {K : Keys} (R : Rows K) (me : Value K) (e : Exp K) (P : ℕ → Typ
   comes_too : exp R me e m ≡ done (value (result, second))
   apart : Apart P ws l first second
 
-module _ {K : Keys} (R : Rows K) (me : Value K) where
+module _ {K : Keys} (R : Rows K) (me : Value K) (own : Bool) where
   computed : (op : Arithmetic) (e : Exp K) → Sure op e → (l m : List (Value K)) (v : Value K) → exp R me e l ≡ done (value (v, m)) → Computes op v
   computed op e s l m v h = subst (Results (OfValue (λ a. Computes op a.0))) h (sure_results R me op e s l)
 
   operated : (op : Operator) (e : Exp K) → SureOperator op e → (l m : List (Value K)) (v : Value K) → exp R me e l ≡ done (value (v, m)) → Operates R op v
   operated op e s l m v h = subst (Results (OfValue (λ a. Operates R op a.0))) h (sure_operator R me op e s l)
 
-  twins : (e : Exp K) (rs ws : List ℕ) (xs : List (Access K)) → Calm e rs ws xs → xs ≡ [] → (P : ℕ → Type 0) → ((i : ℕ) → In i rs → P i) → (l m : List (Value K)) → Agree P l m → Twins R me e P ws l m
+  twins : (e : Exp K) (rs ws : List ℕ) (xs : List (Access K)) → Calm own e rs ws xs → xs ≡ [] → (P : ℕ → Type 0) → ((i : ℕ) → In i rs → P i) → (l m : List (Value K)) → Agree P l m → Twins R me e P ws l m
   twins e rs ws xs (calm_literal p v) z P r l m h = record { result = v; first = l; second = m; comes = refl; comes_too = refl; apart = apart_none P l m h }
   twins e rs ws xs (calm_this p) z P r l m h = record { result = me; first = l; second = m; comes = refl; comes_too = refl; apart = apart_none P l m h }
   twins e rs ws xs (calm_read p t ns fs (calm_local q n)) z P r l m h =
       record { result = local_at l n; first = l; second = m; comes = refl; comes_too = ap (λ v. done (value (v, m))) (h n (r n (inl refl))); apart = apart_none P l m h }
   twins e rs ws xs (calm_read p t ns fs (calm_static q f)) z P r l m h = no_cons (loads f) [] z
-  twins e rs ws xs (calm_read p t ns fs (calm_own q q' f)) z P r l m h = no_cons (loads f) [] z
+  twins e rs ws xs (calm_read p t ns fs (calm_own q q' f i)) z P r l m h = no_cons (loads f) [] z
   twins e rs ws xs (calm_assign p t x ns rs1 ws1 fs xs1 (calm_local q n) c) z P r l m h =
       let a = twins x rs1 ws1 xs1 c (nil_first xs1 [] z) P r l m h in
       let k : Value K × List (Value K) → Step K (Value K × List (Value K)) = λ s. done (value (s.0, with_local s.1 n s.0)) in
@@ -117,7 +117,7 @@ module _ {K : Keys} (R : Rows K) (me : Value K) where
         apart = apart_on P ws1 (n ∷ []) l a.first a.second (with_local a.first n a.result) (with_local a.second n a.result) a.apart (apart_write (Or P ws1) a.first a.second a.apart.agree n a.result);
       }
   twins e rs ws xs (calm_assign p t x ns rs1 ws1 fs xs1 (calm_static q f) c) z P r l m h = no_cons (stores f) [] (nil_second xs1 (stores f ∷ []) z)
-  twins e rs ws xs (calm_assign p t x ns rs1 ws1 fs xs1 (calm_own q q' f) c) z P r l m h = no_cons (stores f) [] (nil_second xs1 (stores f ∷ []) z)
+  twins e rs ws xs (calm_assign p t x ns rs1 ws1 fs xs1 (calm_own q q' f i) c) z P r l m h = no_cons (stores f) [] (nil_second xs1 (stores f ∷ []) z)
   twins e rs ws xs (calm_compound p op t x ns rs1 ws1 fs xs1 (calm_local q n) c u) z P r l m h =
       let a = twins x rs1 ws1 xs1 c (nil_first xs1 [] z) P (λ i o. r i (inr o)) l m h in
       let w = computed op x u l a.first a.result a.comes (local_at l n) in
@@ -131,7 +131,7 @@ module _ {K : Keys} (R : Rows K) (me : Value K) where
         apart = apart_on P ws1 (n ∷ []) l a.first a.second (with_local a.first n w.0) (with_local a.second n w.0) a.apart (apart_write (Or P ws1) a.first a.second a.apart.agree n w.0);
       }
   twins e rs ws xs (calm_compound p op t x ns rs1 ws1 fs xs1 (calm_static q f) c u) z P r l m h = no_cons (loads f) (xs1 ++ (stores f ∷ [])) z
-  twins e rs ws xs (calm_compound p op t x ns rs1 ws1 fs xs1 (calm_own q q' f) c u) z P r l m h = no_cons (loads f) (xs1 ++ (stores f ∷ [])) z
+  twins e rs ws xs (calm_compound p op t x ns rs1 ws1 fs xs1 (calm_own q q' f i) c u) z P r l m h = no_cons (loads f) (xs1 ++ (stores f ∷ [])) z
   twins e rs ws xs (calm_bump p op t ns fs (calm_local q n)) z P r l m h =
       let v = bumped op (local_at l n) in
       record {
@@ -143,7 +143,7 @@ module _ {K : Keys} (R : Rows K) (me : Value K) where
         apart = apart_write P l m h n v;
       }
   twins e rs ws xs (calm_bump p op t ns fs (calm_static q f)) z P r l m h = no_cons (loads f) (stores f ∷ []) z
-  twins e rs ws xs (calm_bump p op t ns fs (calm_own q q' f)) z P r l m h = no_cons (loads f) (stores f ∷ []) z
+  twins e rs ws xs (calm_bump p op t ns fs (calm_own q q' f i)) z P r l m h = no_cons (loads f) (stores f ∷ []) z
   twins e rs ws xs (calm_signed p op x rs1 ws1 xs1 c) z P r l m h =
       let a = twins x rs1 ws1 xs1 c z P r l m h in
       let k : Value K × List (Value K) → Step K (Value K × List (Value K)) = λ s. done (value (sign op s.0, s.1)) in
@@ -208,9 +208,9 @@ module _ {K : Keys} (R : Rows K) (me : Value K) where
       (truth_cases a.result)
 
 -- Silent code that writes no local is what `Held` asks for.
-module _ {K : Keys} (R : Rows K) (e : Exp K) (rs : List ℕ) (c : Calm e rs [] []) where
+module _ {K : Keys} (R : Rows K) (own : Bool) (e : Exp K) (rs : List ℕ) (c : Calm own e rs [] []) where
   side_by_side : (me : Value K) (l m : List (Value K)) → ((i : ℕ) → In i rs → local_at m i ≡ local_at l i) → Twins R me e (λ i. In i rs) [] l m
-  side_by_side me l m h = twins R me e rs [] [] c refl (λ i. In i rs) (λ i o. o) l m h
+  side_by_side me l m h = twins R me own e rs [] [] c refl (λ i. In i rs) (λ i o. o) l m h
 
   alone : (me : Value K) (l : List (Value K)) → Twins R me e (λ i. In i rs) [] l l
   alone me l = side_by_side me l l (λ i o. refl)
@@ -246,7 +246,7 @@ record OnePiece {K : Keys} (R : Rows K) (me : Value K) (b : Piece K) (P : ℕ �
   comes_too : run_piece R me b m ≡ done (value second)
   apart : Apart P ws l first second
 
-module _ {K : Keys} (R : Rows K) (me : Value K) where
+module _ {K : Keys} (R : Rows K) (me : Value K) (own : Bool) where
   -- a block's locals are unset in both
   apart_unset : (P : ℕ → Type 0) (ns : List ℕ) (l m : List (Value K)) → Agree P l m → Apart P ns l (unset ns l) (unset ns m)
   apart_unset P ns l m h = record {
@@ -258,9 +258,9 @@ module _ {K : Keys} (R : Rows K) (me : Value K) where
     as_it_was = λ e. ap (λ k. unset k l) e;
   }
 
-  one_piece : (b : Piece K) (rs ws : List ℕ) (xs : List (Access K)) → CalmPiece b rs ws xs → xs ≡ [] → (P : ℕ → Type 0) → ((i : ℕ) → In i rs → P i) → (l m : List (Value K)) → Agree P l m → OnePiece R me b P ws l m
+  one_piece : (b : Piece K) (rs ws : List ℕ) (xs : List (Access K)) → CalmPiece own b rs ws xs → xs ≡ [] → (P : ℕ → Type 0) → ((i : ℕ) → In i rs → P i) → (l m : List (Value K)) → Agree P l m → OnePiece R me b P ws l m
   one_piece b rs ws xs (calm_declared n e rs1 ws1 xs1 c) z P r l m h =
-      let a = twins R me e rs1 ws1 xs1 c z P r l m h in
+      let a = twins R me own e rs1 ws1 xs1 c z P r l m h in
       let k : Value K × List (Value K) → Step K (List (Value K)) = λ s. done (value (with_local s.1 n s.0)) in
       record {
         first = with_local a.first n a.result;
@@ -270,13 +270,13 @@ module _ {K : Keys} (R : Rows K) (me : Value K) where
         apart = apart_on P ws1 (n ∷ []) l a.first a.second (with_local a.first n a.result) (with_local a.second n a.result) a.apart (apart_write (Or P ws1) a.first a.second a.apart.agree n a.result);
       }
   one_piece b rs ws xs (calm_evaluated e rs1 ws1 xs1 c) z P r l m h =
-      let a = twins R me e rs1 ws1 xs1 c z P r l m h in
+      let a = twins R me own e rs1 ws1 xs1 c z P r l m h in
       let k : Value K × List (Value K) → Step K (List (Value K)) = λ s. done (value s.1) in
       record { first = a.first; second = a.second; comes = ap (λ p. next p k) a.comes; comes_too = ap (λ p. next p k) a.comes_too; apart = a.apart }
   one_piece b rs ws xs (calm_opened ns) z P r l m h = record { first = unset ns l; second = unset ns m; comes = refl; comes_too = refl; apart = apart_unset P ns l m h }
   one_piece b rs ws xs (calm_locked p e nn) z P r l m h = no_cons enters [] z
 
-  pub piece_twins : (bs : List (Piece K)) (rs ws : List ℕ) (xs : List (Access K)) → CalmPieces bs rs ws xs → xs ≡ [] → (P : ℕ → Type 0) → ((i : ℕ) → In i rs → P i) → (l m : List (Value K)) → Agree P l m → PieceTwins R me bs P ws l m
+  pub piece_twins : (bs : List (Piece K)) (rs ws : List ℕ) (xs : List (Access K)) → CalmPieces own bs rs ws xs → xs ≡ [] → (P : ℕ → Type 0) → ((i : ℕ) → In i rs → P i) → (l m : List (Value K)) → Agree P l m → PieceTwins R me bs P ws l m
   piece_twins bs rs ws xs calm_none z P r l m h = record { first = l; second = m; comes = refl; comes_too = refl; apart = apart_none P l m h }
   piece_twins bs rs ws xs (calm_more b cs rs1 ws1 rs2 ws2 xs1 xs2 c d) z P r l m h =
       let a = one_piece b rs1 ws1 xs1 c (nil_first xs1 xs2 z) P (λ i o. r i (in_left i rs1 rs2 o)) l m h in

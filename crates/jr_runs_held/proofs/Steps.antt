@@ -1,5 +1,5 @@
 -- Pieces of code in turn, what their results have, and locks that never are null.
-use Rattle.std.proofs.Common.{◌≡◌, ◌⊎◌, ℕ, zero, suc, ◌+◌, true, false, List, refl, sym, ap, ◌∙◌, inl, inr, arith}
+use Rattle.std.proofs.Common.{◌≡◌, ◌⊎◌, ℕ, zero, suc, ◌+◌, Bool, true, false, IsTrue, List, refl, sym, ap, ◌∙◌, inl, inr, arith}
 use Rattle.jr_plans.specs.Plan.{Plan, done, act, ask, call, and_then}
 use Rattle.jr_plans.specs.Finite.{Finite, Results}
 use Rattle.jr_plans.proofs.Finishing.{and_then_assoc, and_then_done, finite_within}
@@ -110,13 +110,13 @@ not_null (text t) h p = refl
 not_null (class_object c) h p = refl
 not_null (object n c) h p = refl
 
-module _ {K : Keys} (R : Rows K) (me : Value K) where
-  pub never_value : (x : Exp K) → NeverNull x → (l : List (Value K)) → exp R me x l ≡ done (value (monitor_of me x, l))
-  never_value x (never_this p) l = refl
+module _ {K : Keys} (R : Rows K) (me : Value K) (own : Bool) where
+  pub never_value : (x : Exp K) → NeverNull own x → (l : List (Value K)) → exp R me x l ≡ done (value (monitor_of me x, l))
+  never_value x (never_this p i) l = refl
   never_value x (never_text p t) l = refl
   never_value x (never_class p c) l = refl
 
-  pub never_stops : {A : Type 0} (x : Exp K) → NeverNull x → (me ≡ null → ⊥) → (p : Step K A) → non_null (monitor_of me x) p ≡ p
-  never_stops x (never_this q) h p = not_null me h p
+  pub never_stops : {A : Type 0} (x : Exp K) → NeverNull own x → (IsTrue own → me ≡ null → ⊥) → (p : Step K A) → non_null (monitor_of me x) p ≡ p
+  never_stops x (never_this q i) h p = not_null me (h i) p
   never_stops x (never_text q t) h p = refl
   never_stops x (never_class q c) h p = refl

@@ -26,7 +26,7 @@ module _ {K : Keys} where
   same_location (part o f) = ap (λ v. part v f) (same_value o)
   same_location (shared f) = refl
 
-  same_action : (a : Action K) → action_image same_keys a ≡ a
+  pub same_action : (a : Action K) → action_image same_keys a ≡ a
   same_action (load k x v) = λ i. load k (same_location x i) (same_value v i)
   same_action (store k x v) = λ i. store k (same_location x i) (same_value v i)
   same_action (enter o) = ap enter (same_value o)

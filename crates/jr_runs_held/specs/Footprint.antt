@@ -1,6 +1,6 @@
 -- The footprint of calm code, which makes no call, can't fail and has no loop: the locals that it
 -- reads and writes, and its accesses in their order.
-use Rattle.std.specs.Prelude.{◌≡◌, ◌⊎◌, ℕ, Bool, true, false, List, [], ◌∷◌, ◌++◌, map}
+use Rattle.std.specs.Prelude.{◌≡◌, ◌⊎◌, ℕ, Bool, true, false, List, [], ◌∷◌, ◌++◌, map, IsTrue}
 use Rattle.std.specs.Prelude.{Option, Some, None, ℤ}
 use Rattle.jr_sync.specs.declared.kinds.Kind.{Kind}
 use Rattle.jr_sync.specs.declared.kinds.Kind.TheVariants.{Enter}
@@ -40,11 +40,12 @@ OneMakes R (a ∷ xs) x = Makes R a x ⊎ OneMakes R xs x
 
 -- ---- calm code
 
--- what is accessed can't fail: a local, a static field, or a field of `this`
-pub data CalmTarget {K : Keys} : Target K → List ℕ → List K.field → Type 0 where
-  calm_local : (p : At K) (n : ℕ) → CalmTarget (local p n) (n ∷ []) []
-  calm_static : (p : At K) (f : K.field) → CalmTarget (static_field p f) [] (f ∷ [])
-  calm_own : (p q : At K) (f : K.field) → CalmTarget (field_of p (this q) f) [] (f ∷ [])
+-- What is accessed can't fail: a local, a static field, or a field of `this`. own: is there a `this`?
+pub data CalmTarget {K : Keys} (own : Bool) : Target K → List ℕ → List K.field → Type 0 where
+  calm_local : (p : At K) (n : ℕ) → CalmTarget own (local p n) (n ∷ []) []
+  calm_static : (p : At K) (f : K.field) → CalmTarget own (static_field p f) [] (f ∷ [])
+  calm_own : (p q : At K) (f : K.field) → IsTrue own
+      → CalmTarget own (field_of p (this q) f) [] (f ∷ [])
 
 -- with this right operand the operator can't fail
 pub data Sure {K : Keys} : Arithmetic → Exp K → Type 0 where
@@ -62,40 +63,40 @@ pub data SureOperator {K : Keys} : Operator → Exp K → Type 0 where
 
 -- The locals that are read, those that are written, and the accesses. What is written on one of two
 -- ways alone counts as read too, since behind it shows what it was before.
-pub data Calm {K : Keys} : Exp K → List ℕ → List ℕ → List (Access K) → Type 0 where
-  calm_literal : (p : At K) (v : Value K) → Calm (literal p v) [] [] []
-  calm_this : (p : At K) → Calm (this p) [] [] []
-  calm_read : (p : At K) (t : Target K) (ns : List ℕ) (fs : List K.field) → CalmTarget t ns fs
-      → Calm (read p t) ns [] (map loads fs)
+pub data Calm {K : Keys} (own : Bool) : Exp K → List ℕ → List ℕ → List (Access K) → Type 0 where
+  calm_literal : (p : At K) (v : Value K) → Calm own (literal p v) [] [] []
+  calm_this : (p : At K) → Calm own (this p) [] [] []
+  calm_read : (p : At K) (t : Target K) (ns : List ℕ) (fs : List K.field) → CalmTarget own t ns fs
+      → Calm own (read p t) ns [] (map loads fs)
   calm_assign : (p : At K) (t : Target K) (e : Exp K) (ns rs ws : List ℕ) (fs : List K.field)
       (xs : List (Access K))
-      → CalmTarget t ns fs → Calm e rs ws xs
-      → Calm (assign p t e) rs (ws ++ ns) (xs ++ map stores fs)
+      → CalmTarget own t ns fs → Calm own e rs ws xs
+      → Calm own (assign p t e) rs (ws ++ ns) (xs ++ map stores fs)
   calm_compound : (p : At K) (op : Arithmetic) (t : Target K) (e : Exp K) (ns rs ws : List ℕ)
       (fs : List K.field) (xs : List (Access K))
-      → CalmTarget t ns fs → Calm e rs ws xs → Sure op e
-      → Calm (compound p op t e) (ns ++ rs) (ws ++ ns) (map loads fs ++ (xs ++ map stores fs))
+      → CalmTarget own t ns fs → Calm own e rs ws xs → Sure op e
+      → Calm own (compound p op t e) (ns ++ rs) (ws ++ ns) (map loads fs ++ (xs ++ map stores fs))
   calm_bump : (p : At K) (op : Bump) (t : Target K) (ns : List ℕ) (fs : List K.field)
-      → CalmTarget t ns fs
-      → Calm (bump p op t) ns ns (map loads fs ++ map stores fs)
+      → CalmTarget own t ns fs
+      → Calm own (bump p op t) ns ns (map loads fs ++ map stores fs)
   calm_signed : (p : At K) (op : Sign) (e : Exp K) (rs ws : List ℕ) (xs : List (Access K))
-      → Calm e rs ws xs → Calm (signed p op e) rs ws xs
+      → Calm own e rs ws xs → Calm own (signed p op e) rs ws xs
   calm_binary : (p : At K) (op : Operator) (a b : Exp K) (rs ws rs' ws' : List ℕ)
       (xs xs' : List (Access K))
-      → Calm a rs ws xs → Calm b rs' ws' xs' → SureOperator op b
-      → Calm (binary p op a b) (rs ++ rs') (ws ++ ws') (xs ++ xs')
+      → Calm own a rs ws xs → Calm own b rs' ws' xs' → SureOperator op b
+      → Calm own (binary p op a b) (rs ++ rs') (ws ++ ws') (xs ++ xs')
   calm_both : (p : At K) (a b : Exp K) (rs ws rs' ws' : List ℕ) (xs xs' : List (Access K))
-      → Calm a rs ws xs → Calm b rs' ws' xs'
-      → Calm (both p a b) (rs ++ (rs' ++ ws')) (ws ++ ws') (xs ++ xs')
+      → Calm own a rs ws xs → Calm own b rs' ws' xs'
+      → Calm own (both p a b) (rs ++ (rs' ++ ws')) (ws ++ ws') (xs ++ xs')
   calm_either : (p : At K) (a b : Exp K) (rs ws rs' ws' : List ℕ) (xs xs' : List (Access K))
-      → Calm a rs ws xs → Calm b rs' ws' xs'
-      → Calm (either p a b) (rs ++ (rs' ++ ws')) (ws ++ ws') (xs ++ xs')
+      → Calm own a rs ws xs → Calm own b rs' ws' xs'
+      → Calm own (either p a b) (rs ++ (rs' ++ ws')) (ws ++ ws') (xs ++ xs')
 
--- what never is null: `this` of a method that has one, a string, a Class object
-pub data NeverNull {K : Keys} : Exp K → Type 0 where
-  never_this : (p : At K) → NeverNull (this p)
-  never_text : (p : At K) (t : List ℕ) → NeverNull (literal p (text t))
-  never_class : (p : At K) (c : K.class) → NeverNull (literal p (class_object c))
+-- what never is null: `this`, a string, a Class object
+pub data NeverNull {K : Keys} (own : Bool) : Exp K → Type 0 where
+  never_this : (p : At K) → IsTrue own → NeverNull own (this p)
+  never_text : (p : At K) (t : List ℕ) → NeverNull own (literal p (text t))
+  never_class : (p : At K) (c : K.class) → NeverNull own (literal p (class_object c))
 
 -- ---- which accesses may change places
 

@@ -1,5 +1,5 @@
 -- Where an expression stands in a statement list: what is done before it, and what with its value.
-use Rattle.std.specs.Prelude.{◌≡◌, ◌⊎◌, ℕ, List, [], ◌∷◌, ◌++◌, Some}
+use Rattle.std.specs.Prelude.{◌≡◌, ◌⊎◌, ℕ, Bool, List, [], ◌∷◌, ◌++◌, Some}
 use Rattle.jr_plans.specs.Plan.{done, act}
 use Rattle.jr_runs.specs.Keys.{Keys, At}
 use Rattle.jr_runs.specs.Values.{Value, null, text, class_object}
@@ -41,21 +41,21 @@ abbrev pub run_pieces : {K : Keys} → Rows K → Value K → List (Piece K) →
 run_pieces R me [] l = done (value l)
 run_pieces R me (b ∷ bs) l = next (run_piece R me b l) (λ m. run_pieces R me bs m)
 
-pub data CalmPiece {K : Keys} : Piece K → List ℕ → List ℕ → List (Access K) → Type 0 where
-  calm_declared : (n : ℕ) (e : Exp K) (rs ws : List ℕ) (xs : List (Access K)) → Calm e rs ws xs
-      → CalmPiece (declared n e) rs (ws ++ (n ∷ [])) xs
-  calm_evaluated : (e : Exp K) (rs ws : List ℕ) (xs : List (Access K)) → Calm e rs ws xs
-      → CalmPiece (evaluated e) rs ws xs
-  calm_opened : (ns : List ℕ) → CalmPiece (opened ns) [] ns []
-  calm_locked : (p : At K) (e : Exp K) → NeverNull e → CalmPiece (locked p e) [] [] (enters ∷ [])
+pub data CalmPiece {K : Keys} (own : Bool) : Piece K → List ℕ → List ℕ → List (Access K) → Type 0 where
+  calm_declared : (n : ℕ) (e : Exp K) (rs ws : List ℕ) (xs : List (Access K)) → Calm own e rs ws xs
+      → CalmPiece own (declared n e) rs (ws ++ (n ∷ [])) xs
+  calm_evaluated : (e : Exp K) (rs ws : List ℕ) (xs : List (Access K)) → Calm own e rs ws xs
+      → CalmPiece own (evaluated e) rs ws xs
+  calm_opened : (ns : List ℕ) → CalmPiece own (opened ns) [] ns []
+  calm_locked : (p : At K) (e : Exp K) → NeverNull own e → CalmPiece own (locked p e) [] [] (enters ∷ [])
 
-pub data CalmPieces {K : Keys} : List (Piece K) → List ℕ → List ℕ → List (Access K)
+pub data CalmPieces {K : Keys} (own : Bool) : List (Piece K) → List ℕ → List ℕ → List (Access K)
     → Type 0 where
-  calm_none : CalmPieces [] [] [] []
+  calm_none : CalmPieces own [] [] [] []
   calm_more : (b : Piece K) (bs : List (Piece K)) (rs ws rs' ws' : List ℕ)
       (xs xs' : List (Access K))
-      → CalmPiece b rs ws xs → CalmPieces bs rs' ws' xs'
-      → CalmPieces (b ∷ bs) (rs ++ rs') (ws ++ ws') (xs ++ xs')
+      → CalmPiece own b rs ws xs → CalmPieces own bs rs' ws' xs'
+      → CalmPieces own (b ∷ bs) (rs ++ rs') (ws ++ ws') (xs ++ xs')
 
 -- The statement is these pieces: nothing else is done, and it doesn't return.
 mutual
@@ -129,32 +129,32 @@ run_sequels R me (leaves q e ∷ zs) p = run_sequels R me zs (leaving q (monitor
 -- The expression e stands in the list or statement behind these pieces; then come this user and
 -- these sequels.
 mutual
-  pub data ListPlace {K : Keys} (e : Exp K) : Stmts K → List (Piece K) → User K
+  pub data ListPlace {K : Keys} (own : Bool) (e : Exp K) : Stmts K → List (Piece K) → User K
       → List (Sequel K) → Type 0 where
     in_first : (a : Stmt K) (b : Stmts K) (bs : List (Piece K)) (u : User K) (zs : List (Sequel K))
-        → StmtPlace e a bs u zs
-        → ListPlace e (core.Stmts.more a b) bs u (zs ++ (follows b ∷ []))
+        → StmtPlace own e a bs u zs
+        → ListPlace own e (core.Stmts.more a b) bs u (zs ++ (follows b ∷ []))
     behind : (a : Stmt K) (b : Stmts K) (cs bs : List (Piece K)) (u : User K)
         (zs : List (Sequel K))
-        → InPieces a cs → ListPlace e b bs u zs
-        → ListPlace e (core.Stmts.more a b) (cs ++ bs) u zs
+        → InPieces a cs → ListPlace own e b bs u zs
+        → ListPlace own e (core.Stmts.more a b) (cs ++ bs) u zs
 
-  pub data StmtPlace {K : Keys} (e : Exp K) : Stmt K → List (Piece K) → User K
+  pub data StmtPlace {K : Keys} (own : Bool) (e : Exp K) : Stmt K → List (Piece K) → User K
       → List (Sequel K) → Type 0 where
-    in_declare : (p : At K) (n : ℕ) → StmtPlace e (core.declare p n e) [] (declares n) []
-    in_eval : (p : At K) → StmtPlace e (core.eval p e) [] evaluates []
-    in_return : (p : At K) → StmtPlace e (core.return p e) [] gives []
+    in_declare : (p : At K) (n : ℕ) → StmtPlace own e (core.declare p n e) [] (declares n) []
+    in_eval : (p : At K) → StmtPlace own e (core.eval p e) [] evaluates []
+    in_return : (p : At K) → StmtPlace own e (core.return p e) [] gives []
     in_condition : (p : At K) (a b : Stmt K)
-        → StmtPlace e (core.branch p e a b) [] (chooses a b) []
-    in_lock : (p q : At K) (b : Stmts K) → StmtPlace e (core.sync p q e b) [] (locks p q b) []
+        → StmtPlace own e (core.branch p e a b) [] (chooses a b) []
+    in_lock : (p q : At K) (b : Stmts K) → StmtPlace own e (core.sync p q e b) [] (locks p q b) []
     in_block : (p : At K) (ns : List ℕ) (b : Stmts K) (bs : List (Piece K)) (u : User K)
         (zs : List (Sequel K))
-        → ListPlace e b bs u zs
-        → StmtPlace e (core.block p ns b) (opened ns ∷ bs) u zs
+        → ListPlace own e b bs u zs
+        → StmtPlace own e (core.block p ns b) (opened ns ∷ bs) u zs
     in_sync : (p q : At K) (x : Exp K) (b : Stmts K) (bs : List (Piece K)) (u : User K)
         (zs : List (Sequel K))
-        → NeverNull x → ListPlace e b bs u zs
-        → StmtPlace e (core.sync p q x b) (locked p x ∷ bs) u (zs ++ (leaves q x ∷ []))
+        → NeverNull own x → ListPlace own e b bs u zs
+        → StmtPlace own e (core.sync p q x b) (locked p x ∷ bs) u (zs ++ (leaves q x ∷ []))
 
 -- ---- which may return
 
