@@ -17,8 +17,8 @@ use Rattle.jr_runs.proofs.Locals.{not_written}
 use Rattle.jr_runs.specs.Standing.{In}
 use Rattle.jr_runs.proofs.Numbers.{in_left, in_right, unset_other}
 use Rattle.jr_runs_held.specs.Footprint.{field_in, Access, loads, stores, enters, Makes, OneMakes, CalmTarget, calm_local, calm_static, calm_own, Sure, sure_add, sure_subtract, sure_multiply, sure_divide, sure_remainder, SureOperator, sure_arithmetic, sure_comparison, sure_equal, sure_different, Calm, calm_literal, calm_this, calm_read, calm_assign, calm_compound, calm_bump, calm_signed, calm_binary, calm_both, calm_either}
-use Rattle.jr_runs_held.specs.Places.{Piece, declared, evaluated, opened, locked, run_piece, run_pieces, monitor_of, CalmPiece, calm_declared, calm_evaluated, calm_opened, calm_locked, CalmPieces, calm_none, calm_more}
-use Rattle.jr_runs_held.proofs.Steps.{results_more, results_two, results_all, IsCame, came_next, finite_next, not_null, never_value, never_stops}
+use Rattle.jr_runs_held.specs.Places.{Piece, declared, evaluated, opened, locked, run_piece, run_pieces, monitor_of, slot_of, CalmPiece, calm_declared, calm_evaluated, calm_opened, calm_locked, CalmPieces, calm_none, calm_more}
+use Rattle.jr_runs_held.proofs.Steps.{results_more, results_two, results_all, IsCame, came_next, finite_next, not_null, plain_target, never_value}
 
 -- a value that fits: each load can be answered
 some_fits : {K : Keys} (R : Rows K) (T : Ty K) → (v : Value K) × IsTrue (fits R T v)
@@ -57,12 +57,6 @@ module _ {K : Keys} (R : Rows K) (me : Value K) where
   sure_operator op e (sure_comparison o x) l = results_all (OfValue (λ a. Operates R (comparison o) a.0)) (of_any (λ a. Operates R (comparison o) a.0) (λ a y. (truth (compare o (number_of y) (number_of a.0)), refl))) (exp R me e l)
   sure_operator op e (sure_equal x) l = results_all (OfValue (λ a. Operates R equal a.0)) (of_any (λ a. Operates R equal a.0) (λ a y. (truth (same_value R.same_class y a.0), refl))) (exp R me e l)
   sure_operator op e (sure_different x) l = results_all (OfValue (λ a. Operates R different a.0)) (of_any (λ a. Operates R different a.0) (λ a y. (truth (not (same_value R.same_class y a.0)), refl))) (exp R me e l)
-
--- what a target comes to
-abbrev pub slot_of : {K : Keys} → Value K → Target K → Slot K
-slot_of me (local p n) = in_local n
-slot_of me (static_field p f) = in_static p f
-slot_of me (field_of p e f) = in_object p me f
 
 -- ---- pieces that are calm
 
@@ -138,11 +132,6 @@ on_keeps ws ws' l m h (thrown f) g = g
 -- ---- expressions
 
 module _ {K : Keys} (R : Rows K) (me : Value K) (own : Bool) (some : IsTrue own → me ≡ null → ⊥) where
-  target_is : (t : Target K) (ns : List ℕ) (fs : List K.field) → CalmTarget own t ns fs → (l : List (Value K)) → target R me t l ≡ done (value (slot_of me t, l))
-  target_is t ns fs (calm_local p n) l = refl
-  target_is t ns fs (calm_static p f) l = refl
-  target_is t ns fs (calm_own p q f i) l = refl
-
   field_load : (p : At K) (f : K.field) (at : Location K) → field_in at ≡ f → Calmly R (loads f ∷ []) (λ v. Unit {0}) (load_field R p at f)
   field_load p f at e = record { finite = (some_fits R (R.field_type f), λ v h. (inl (at, v, e, refl), tt)); comes = λ v. tt }
 
@@ -173,15 +162,15 @@ module _ {K : Keys} (R : Rows K) (me : Value K) (own : Bool) (some : IsTrue own 
   calm_exp e rs ws xs (calm_literal p v) l = calm_value R [] (Keeps [] l) (v, l) (λ i d. refl)
   calm_exp e rs ws xs (calm_this p) l = calm_value R [] (Keeps [] l) (me, l) (λ i d. refl)
   calm_exp e rs ws xs (calm_read p t ns fs c) l =
-      subst (λ s. Calmly R (map loads fs) (Keeps [] l) (next s (λ r. next (load_from R r.0 r.1) (λ v. done (value (v, r.1)))))) (sym (target_is t ns fs c l))
+      subst (λ s. Calmly R (map loads fs) (Keeps [] l) (next s (λ r. next (load_from R r.0 r.1) (λ v. done (value (v, r.1)))))) (sym (plain_target R me own t ns fs c l))
       (calm_out R (map loads fs) (λ v. Unit {0}) (Keeps [] l) (load_from R (slot_of me t) l) (λ v. value (v, l)) (calm_load t ns fs c l) (λ v u i d. refl))
   calm_exp e rs ws xs (calm_assign p t x ns rs1 ws1 fs xs1 c d) l =
-      subst (λ s. Calmly R (xs1 ++ map stores fs) (Keeps (ws1 ++ ns) l) (next s (λ r. next (exp R me x r.1) (λ a. next (store_to R r.0 a.0 a.1) (λ m. done (value (a.0, m))))))) (sym (target_is t ns fs c l))
+      subst (λ s. Calmly R (xs1 ++ map stores fs) (Keeps (ws1 ++ ns) l) (next s (λ r. next (exp R me x r.1) (λ a. next (store_to R r.0 a.0 a.1) (λ m. done (value (a.0, m))))))) (sym (plain_target R me own t ns fs c l))
       (calm_next R xs1 (map stores fs) (Keeps ws1 l) (Keeps (ws1 ++ ns) l) (exp R me x l) (λ a. next (store_to R (slot_of me t) a.0 a.1) (λ m. done (value (a.0, m)))) (calm_exp x rs1 ws1 xs1 d l)
       (λ a h. stored t ns fs c ws1 l a.1 h a.0 a.0))
   calm_exp e rs ws xs (calm_compound p op t x ns rs1 ws1 fs xs1 c d u) l =
       subst (λ s. Calmly R (map loads fs ++ (xs1 ++ map stores fs)) (Keeps (ws1 ++ ns) l) (next s (λ r. next (load_from R r.0 r.1) (λ old. next (exp R me x r.1) (λ a. next (done (calculate op (number_of old) (number_of a.0))) (λ v. next (store_to R r.0 v a.1) (λ m. done (value (v, m)))))))))
-      (sym (target_is t ns fs c l))
+      (sym (plain_target R me own t ns fs c l))
       (calm_next R (map loads fs) (xs1 ++ map stores fs) (λ v. Unit {0}) (Keeps (ws1 ++ ns) l) (load_from R (slot_of me t) l)
       (λ old. next (exp R me x l) (λ a. next (done (calculate op (number_of old) (number_of a.0))) (λ v. next (store_to R (slot_of me t) v a.1) (λ m. done (value (v, m)))))) (calm_load t ns fs c l)
       (λ old z. calm_next R xs1 (map stores fs) (λ a. Keeps ws1 l a × Computes op a.0) (Keeps (ws1 ++ ns) l) (exp R me x l) (λ a. next (done (calculate op (number_of old) (number_of a.0))) (λ v. next (store_to R (slot_of me t) v a.1) (λ m. done (value (v, m)))))
@@ -189,7 +178,7 @@ module _ {K : Keys} (R : Rows K) (me : Value K) (own : Bool) (some : IsTrue own 
       (λ a h. let w = h.1 old in subst (λ o. Calmly R (map stores fs) (Keeps (ws1 ++ ns) l) (next (done o) (λ v. next (store_to R (slot_of me t) v a.1) (λ m. done (value (v, m)))))) (sym w.1)
       (stored t ns fs c ws1 l a.1 h.0 w.0 w.0))))
   calm_exp e rs ws xs (calm_bump p op t ns fs c) l =
-      subst (λ s. Calmly R (map loads fs ++ map stores fs) (Keeps ns l) (next s (λ r. next (load_from R r.0 r.1) (λ old. next (store_to R r.0 (bumped op old) r.1) (λ m. done (value (bump_value op old (bumped op old), m))))))) (sym (target_is t ns fs c l))
+      subst (λ s. Calmly R (map loads fs ++ map stores fs) (Keeps ns l) (next s (λ r. next (load_from R r.0 r.1) (λ old. next (store_to R r.0 (bumped op old) r.1) (λ m. done (value (bump_value op old (bumped op old), m))))))) (sym (plain_target R me own t ns fs c l))
       (calm_next R (map loads fs) (map stores fs) (λ v. Unit {0}) (Keeps ns l) (load_from R (slot_of me t) l) (λ old. next (store_to R (slot_of me t) (bumped op old) l) (λ m. done (value (bump_value op old (bumped op old), m)))) (calm_load t ns fs c l)
       (λ old u. stored t ns fs c [] l l (λ i d. refl) (bumped op old) (bump_value op old (bumped op old))))
   calm_exp e rs ws xs (calm_signed p op x rs1 ws1 xs1 d) l = calm_out R xs1 (Keeps ws1 l) (Keeps ws1 l) (exp R me x l) (λ r. value (sign op r.0, r.1)) (calm_exp x rs1 ws1 xs1 d l) (λ a h. h)

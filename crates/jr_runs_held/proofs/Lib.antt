@@ -4,7 +4,7 @@
 -- `CalmCode`, `SilentCode` (`calm_exp`, `calm_pieces`, `silent_is`, `piece_twins`): what a footprint says
 -- of code; `PlaceRuns`, `PlaceMatch`: an expression in its place. `PastSilent` (`past_match`) and
 -- `PastCalm` (`calm_match`, over `Quiet`): what goes past to a place, with `Passing` and `PastPrograms` of
--- whole programs.
+-- whole programs. `HeldCases`: small programs to which the laws apply.
 pub mod Steps
 pub mod Turned
 pub mod UntilExps
@@ -20,3 +20,4 @@ pub mod Quiet
 pub mod PastCalm
 pub mod Passing
 pub mod PastPrograms
+mod HeldCases

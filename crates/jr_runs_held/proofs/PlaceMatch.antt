@@ -1,24 +1,27 @@
 -- What stands before an expression in its place, and what comes behind, match those of another program.
-use Rattle.std.proofs.Common.{◌≡◌, ◌⊎◌, ℕ, List, [], ◌∷◌, Some, refl, sym, ap, subst, inl, inr}
-use Rattle.jr_plans.specs.Plan.{done, act}
+use Rattle.std.proofs.Common.{◌≡◌, ◌⊎◌, ℕ, List, [], ◌∷◌, Some, true, false, refl, sym, ap, ◌∙◌, subst, inl, inr}
+use Rattle.jr_plans.specs.Plan.{done, act, call}
 use Rattle.jr_runs.specs.Keys.{Keys, At}
-use Rattle.jr_runs.specs.Values.{Value}
+use Rattle.jr_runs.specs.Values.{Value, truth, null}
 use Rattle.jr_runs.specs.Actions.{enter, placed}
-use Rattle.jr_runs.specs.Arithmetic.{value}
-use Rattle.jr_runs.specs.Core.{Exp, Stmt, Stmts}
-use Rattle.jr_runs.specs.Evaluation.{Flow, goes_on, returns, Step, next, with_local, unset, non_null, on_truth, leaving, exp, on_flow, stmt, stmts}
+use Rattle.jr_runs.specs.Fitting.{is_instance}
+use Rattle.jr_runs.specs.Arithmetic.{Out, value, thrown, operate, sign}
+use Rattle.jr_runs.specs.Core as core
+use Rattle.jr_runs.specs.Core.{Exp, Target, Stmt, Stmts}
+use Rattle.jr_runs.specs.Evaluation.{Flow, goes_on, returns, invoke, Step, next, with_local, with_locals, cast_value, answer, unset, non_null, on_truth, leaving, exp, exps, on_flow, stmt, stmts}
 use Rattle.jr_runs.specs.KeyMaps.{value_image}
 use Rattle.jr_runs.specs.Standing.{Self, itself, Standing, Stands, Frame, SelfIs, Holding, Shifted}
-use Rattle.jr_runs.specs.Sets.{NumberSet, with_one, with_all}
+use Rattle.jr_runs.specs.Sets.{NumberSet, with_one, with_all, Within}
 use Rattle.jr_runs.specs.Images.{Spots, NoSpot, StmtTo}
-use Rattle.jr_runs.specs.Pairs.{ResultRel, FlowRel, Returns, SomeReturns}
+use Rattle.jr_runs.specs.Pairs.{OutRel, ResultRel, ListRel, SlotTo, local_slots, static_slots, object_slots, FlowRel, Returns, SomeReturns}
 use Rattle.jr_runs.proofs.Locals.{shifted_less, shifted_write}
 use Rattle.jr_runs.proofs.Numbers.{shifted_unset}
-use Rattle.jr_runs.proofs.Matching.{Setting, Matches, match_next, match_value, match_truth, match_non_null, match_action}
-use Rattle.jr_runs.proofs.ImageExps.{exp_match}
+use Rattle.jr_runs.proofs.ImageValues.{sign_image, operate_rel, is_instance_image, cast_rel}
+use Rattle.jr_runs.proofs.Matching.{Setting, Matches, match_next, match_value, match_outcome, match_truth, match_non_null, match_action, match_call, match_weaker, with_rel}
+use Rattle.jr_runs.proofs.ImageExps.{stored_match, answer_match, exp_match, exps_match}
 use Rattle.jr_runs.proofs.ImageStmts.{TurnsAnswered, looser, match_flow, leaving_match, stmt_match}
 use Rattle.jr_runs.proofs.Kept.{kept_turns, kept_match}
-use Rattle.jr_runs_held.specs.Places.{Piece, run_piece, run_pieces, User, Sequel, monitor_of, run_user, run_sequels, UserReturns, SequelsReturn, LockTo, to_own_lock, to_text_lock, to_class_lock, PieceTo, to_declared, to_evaluated, to_opened, to_locked, PiecesTo, to_no_piece, to_pieces, UserTo, to_declares, to_evaluates, to_gives, to_chooses, to_locks, SequelsTo, to_no_sequel, to_follows, to_leaves}
+use Rattle.jr_runs_held.specs.Places.{Piece, run_piece, run_pieces, Wrap, User, Sequel, monitor_of, slot_of, run_wrap, run_user, run_sequels, UserReturns, SequelsReturn, LockTo, to_own_lock, to_text_lock, to_class_lock, PieceTo, to_declared, to_evaluated, to_opened, to_locked, PiecesTo, to_no_piece, to_pieces, PlainTo, plain_local, plain_static, plain_own, WrapTo, to_assigns, to_signs, to_casts, to_operates, to_ands, to_ors, to_hands, UserTo, to_through, to_declares, to_evaluates, to_gives, to_chooses, to_locks, SequelsTo, to_no_sequel, to_follows, to_leaves}
 
 module _ {K : Keys} (g : Setting K) (s : Standing K) (stands : Stands s) (frame : Frame K) (me me' : Value K) (im : Holding g.old g.keys s.code frame me me') where
   abbrev Shift : NumberSet → List (Value K) → List (Value K) → Type 0
@@ -53,13 +56,47 @@ module _ {K : Keys} (g : Setting K) (s : Standing K) (stands : Stands s) (frame 
       (λ m m' i. pieces_match D B cs cs' f m m' i)
 
   module _ (Spot : Spots K) (turns : TurnsAnswered g Spot) where
+    less : (B C : NumberSet) → Within C B → (p p' : Step K (Value K × List (Value K))) → Matches g (ResultRel g.keys s frame B) p p' → Matches g (ResultRel g.keys s frame C) p p'
+    less B C w p p' f = match_weaker g (ResultRel g.keys s frame B) (ResultRel g.keys s frame C) p p' fewer f
+      where
+        fewer : (o o' : Out (Value K × List (Value K))) → OutRel (ResultRel g.keys s frame B) o o' → OutRel (ResultRel g.keys s frame C) o o'
+        fewer (value a) (value b) h = (h.0, shifted_less g.keys s frame B C w a.1 b.1 h.1)
+        fewer (thrown x) (thrown y) h = h
+        fewer (value a) (thrown y) h = absurd h
+        fewer (thrown x) (value b) h = absurd h
+
     abbrev FlowTo : NumberSet → Type 0 → Flow K → Flow K → Type 0
     FlowTo B M f f' = FlowRel g.keys (Shift B) M f f'
 
     kept_one : (A B : NumberSet) (a a' : Stmt K) → StmtTo g.keys g.old NoSpot s A a a' B → (l l' : List (Value K)) → Shift A l l' → Matches g (FlowTo B (Returns a)) (stmt g.old me a l) (stmt g.new me' a' l')
     kept_one A B a a' d l l' h = stmt_match g NoSpot (kept_turns g Spot turns) (λ b t f m m' i C1 y y' D1 none. absurd none) s stands frame me me' im A B a a' d l l' h
 
+    plain_slots : (t t' : Target K) → PlainTo g.keys s.code t t' → SlotTo g.keys s t (slot_of me t) (slot_of me' t')
+    plain_slots t t' (plain_local p q n b) = local_slots p n b
+    plain_slots t t' (plain_static p q f) = static_slots p q f
+    plain_slots t t' (plain_own p q x y f i) = object_slots p q (core.this x) me me' f (subst (λ (z : Self). SelfIs g.keys z frame me me') i im.self)
+
+    wrap_match : (A B : NumberSet) (w w' : Wrap K) → WrapTo g.keys g.old s A w w' B → (r r' : Value K × List (Value K)) → ResultRel g.keys s frame A r r' → Matches g (ResultRel g.keys s frame B) (run_wrap g.old me w r) (run_wrap g.new me' w' r')
+    wrap_match A B w w' (to_assigns C D t t' d u v) r r' k = stored_match g s stands frame A B t (slot_of me t) (slot_of me' t') (plain_slots t t' d) u v r.0 r'.0 r.0 r'.0 k.0 k.0 r.1 r'.1 k.1
+    wrap_match A B w w' (to_signs C op) r r' k = match_value g (ResultRel g.keys s frame A) (sign op r.0, r.1) (sign op r'.0, r'.1) (ap (sign op) k.0 ∙ sign_image g.keys op r.0, k.1)
+    wrap_match A B w w' (to_casts C c) r r' k = match_outcome g (ResultRel g.keys s frame A) (with_locals r.1 (cast_value (is_instance g.old c r.0) r.0)) (with_locals r'.1 (cast_value (is_instance g.new (g.keys.class c) r'.0) r'.0))
+        (with_rel g.keys s frame A r.1 r'.1 (cast_value (is_instance g.old c r.0) r.0) (cast_value (is_instance g.new (g.keys.class c) r'.0) r'.0) (rw (k.0, is_instance_image g.keys g.old g.new g.rows c r.0) (cast_rel g.keys (is_instance g.old c r.0) r.0)) k.1)
+    wrap_match A B w w' (to_operates C D op b b' d) r r' k = match_next g (ResultRel g.keys s frame B) (ResultRel g.keys s frame B) (exp g.old me b r.1) (exp g.new me' b' r'.1) (λ z. done (with_locals z.1 (operate g.old.same_class op r.0 z.0))) (λ z. done (with_locals z.1 (operate g.new.same_class op r'.0 z.0)))
+        (exp_match g s stands frame me me' im A B b b' d r.1 r'.1 k.1)
+        (λ z z' j. match_outcome g (ResultRel g.keys s frame B) (with_locals z.1 (operate g.old.same_class op r.0 z.0)) (with_locals z'.1 (operate g.new.same_class op r'.0 z'.0))
+        (with_rel g.keys s frame B z.1 z'.1 (operate g.old.same_class op r.0 z.0) (operate g.new.same_class op r'.0 z'.0) (rw (k.0, j.0) (operate_rel g.keys g.old g.new g.rows op r.0 z.0)) j.1))
+    wrap_match A B w w' (to_ands C D E b b' d u v) r r' k = subst (λ x. Matches g (ResultRel g.keys s frame B) (on_truth r.0 (exp g.old me b r.1) (done (value (truth false, r.1)))) (on_truth x (exp g.new me' b' r'.1) (done (value (truth false, r'.1))))) (sym k.0)
+        (match_truth g (ResultRel g.keys s frame B) r.0 (exp g.old me b r.1) (done (value (truth false, r.1))) (exp g.new me' b' r'.1) (done (value (truth false, r'.1)))
+        (less D B v (exp g.old me b r.1) (exp g.new me' b' r'.1) (exp_match g s stands frame me me' im A D b b' d r.1 r'.1 k.1)) (match_value g (ResultRel g.keys s frame B) (truth false, r.1) (truth false, r'.1) (refl, shifted_less g.keys s frame A B u r.1 r'.1 k.1)))
+    wrap_match A B w w' (to_ors C D E b b' d u v) r r' k = subst (λ x. Matches g (ResultRel g.keys s frame B) (on_truth r.0 (done (value (truth true, r.1))) (exp g.old me b r.1)) (on_truth x (done (value (truth true, r'.1))) (exp g.new me' b' r'.1))) (sym k.0)
+        (match_truth g (ResultRel g.keys s frame B) r.0 (done (value (truth true, r.1))) (exp g.old me b r.1) (done (value (truth true, r'.1))) (exp g.new me' b' r'.1) (match_value g (ResultRel g.keys s frame B) (truth true, r.1) (truth true, r'.1) (refl, shifted_less g.keys s frame A B u r.1 r'.1 k.1))
+        (less D B v (exp g.old me b r.1) (exp g.new me' b' r'.1) (exp_match g s stands frame me me' im A D b b' d r.1 r'.1 k.1)))
+    wrap_match A B w w' (to_hands C D m es es' has d) r r' k = match_next g (ListRel g.keys s frame B) (ResultRel g.keys s frame B) (exps g.old me es r.1) (exps g.new me' es' r'.1) (λ z. call (invoke m null (r.0 ∷ z.0)) (λ o. done (answer z.1 o))) (λ z. call (invoke (g.keys.method m) null (r'.0 ∷ z.0)) (λ o. done (answer z.1 o)))
+        (exps_match g s stands frame me me' im A B es es' d r.1 r'.1 k.1)
+        (λ z z' j. match_call g (ResultRel g.keys s frame B) m null null (r.0 ∷ z.0) (r'.0 ∷ z'.0) (λ o. done (answer z.1 o)) (λ o. done (answer z'.1 o)) has refl (λ i. k.0 i ∷ j.0 i) (answer_match g s stands frame B z.1 z'.1 j.1))
+
     user_match : (A B : NumberSet) (u u' : User K) → UserTo g.keys g.old s A u u' B → (r r' : Value K × List (Value K)) → ResultRel g.keys s frame A r r' → Matches g (FlowTo B (UserReturns u)) (run_user g.old me u r) (run_user g.new me' u' r')
+    user_match A B u u' (to_through C D E w w' v v' d f) r r' k = match_next g (ResultRel g.keys s frame D) (FlowTo B (UserReturns v)) (run_wrap g.old me w r) (run_wrap g.new me' w' r') (λ x. run_user g.old me v x) (λ x. run_user g.new me' v' x) (wrap_match A D w w' d r r' k) (λ x x' j. user_match D B v v' f x x' j)
     user_match A B u u' (to_declares C D n free w) r r' k = match_value g (FlowTo B ⊥) (goes_on (with_local r.1 n r.0)) (goes_on (with_local r'.1 (s.code.at n) r'.0))
         (shifted_less g.keys s frame (with_one A n) B w (with_local r.1 n r.0) (with_local r'.1 (s.code.at n) r'.0) (shifted_write g.keys s stands frame A r.1 r'.1 n r.0 r'.0 free.below free.unknown k.0 k.1))
     user_match A B u u' (to_evaluates C) r r' k = match_value g (FlowTo A ⊥) (goes_on r.1) (goes_on r'.1) k.1

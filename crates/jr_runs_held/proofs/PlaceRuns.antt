@@ -1,7 +1,7 @@
 -- A list with an expression in a place runs the pieces before it, then the expression, and then what uses its value and
 -- what comes behind.
-use Rattle.std.proofs.Common.{◌≡◌, ◌⊎◌, Bool, IsTrue, List, [], ◌∷◌, ◌++◌, refl, sym, ap, ◌∙◌, inl, inr, ⊎_elim}
-use Rattle.jr_plans.specs.Plan.{done, act}
+use Rattle.std.proofs.Common.{◌≡◌, ◌⊎◌, ℕ, Bool, true, IsTrue, List, [], ◌∷◌, ◌++◌, refl, sym, ap, ◌∙◌, inl, inr, ⊎_elim}
+use Rattle.jr_plans.specs.Plan.{done, act, call}
 use Rattle.jr_plans.specs.Finite.{Results}
 use Rattle.jr_runs.specs.Keys.{Keys, At}
 use Rattle.jr_runs.specs.Values.{Value, null}
@@ -10,11 +10,11 @@ use Rattle.jr_runs.specs.Rows.{Rows}
 use Rattle.jr_runs.specs.Arithmetic.{Out, value, thrown}
 use Rattle.jr_runs.specs.Core as core
 use Rattle.jr_runs.specs.Core.{Exp, Stmt, Stmts}
-use Rattle.jr_runs.specs.Evaluation.{Flow, goes_on, Step, next, non_null, with_local, unset, leaving, exp, on_flow, stmt, stmts}
+use Rattle.jr_runs.specs.Evaluation.{Flow, goes_on, invoke, Step, next, non_null, Slot, store_to, answer, with_local, unset, leaving, exp, exps, on_flow, stmt, stmts}
 use Rattle.jr_runs.specs.Pairs.{Returns, SomeReturns}
 use Rattle.jr_runs_held.specs.Footprint.{Access, NeverNull}
-use Rattle.jr_runs_held.specs.Places.{Piece, declared, evaluated, opened, locked, run_piece, run_pieces, CalmPiece, CalmPieces, calm_none, calm_more, InPieces, one_declared, one_evaluated, one_empty, in_a_block, AllInPieces, no_more_pieces, more_pieces, User, declares, evaluates, gives, chooses, locks, Sequel, follows, leaves, monitor_of, run_user, run_sequels, ListPlace, in_first, behind, StmtPlace, in_declare, in_eval, in_return, in_condition, in_lock, in_block, in_sync, UserReturns, SequelsReturn}
-use Rattle.jr_runs_held.proofs.Steps.{next_assoc, results_more, IsCame, came_next, leaving_next, never_value, never_stops}
+use Rattle.jr_runs_held.specs.Places.{Piece, declared, evaluated, opened, locked, run_piece, run_pieces, CalmPiece, CalmPieces, calm_none, calm_more, InPieces, one_declared, one_evaluated, one_empty, in_a_block, AllInPieces, no_more_pieces, more_pieces, Wrap, assigns, signs, casts_to, operates, ands, ors, hands, User, through, declares, evaluates, gives, chooses, locks, Sequel, follows, leaves, monitor_of, run_wrap, run_user, run_sequels, ExpPlace, at_once, in_value, in_sign, in_cast, in_left, in_and, in_or, in_argument, ListPlace, in_first, behind, StmtPlace, in_declare, in_eval, in_return, in_condition, in_lock, in_block, in_sync, UserReturns, SequelsReturn}
+use Rattle.jr_runs_held.proofs.Steps.{next_assoc, results_more, IsCame, came_next, leaving_next, plain_target, never_value, never_stops}
 use Rattle.jr_runs_held.proofs.CalmCode.{Calmly, Kept, calm_piece}
 
 -- a monitor is left somewhere behind
@@ -107,6 +107,23 @@ module _ {K : Keys} (R : Rows K) (me : Value K) where
     abbrev pub NoThrow : List (Piece K) → List (Sequel K) → Type 0
     NoThrow bs zs = LeavesIn zs → (IsTrue own → me ≡ null → ⊥) × AllCome bs × ((l : List (Value K)) → Comes (exp R me e l))
 
+    exp_parts : (x : Exp K) (u v : User K) → ExpPlace e x u v → (l : List (Value K)) → next (exp R me x l) (run_user R me u) ≡ next (exp R me e l) (run_user R me v)
+    exp_parts x u v (at_once w) l = refl
+    exp_parts x u v (in_value p t ns fs y u1 v1 c d) l =
+        let k : Slot K × List (Value K) → Step K (Value K × List (Value K)) = λ r. next (exp R me y r.1) (λ a. next (store_to R r.0 a.0 a.1) (λ m. done (value (a.0, m)))) in
+        ap (λ p. next (next p k) (run_user R me u)) (plain_target R me true t ns fs c l) ∙ next_assoc (exp R me y l) (run_wrap R me (assigns t)) (run_user R me u) ∙ exp_parts y (through (assigns t) u) v d l
+    exp_parts x u v (in_sign p op y u1 v1 d) l = next_assoc (exp R me y l) (run_wrap R me (signs op)) (run_user R me u) ∙ exp_parts y (through (signs op) u) v d l
+    exp_parts x u v (in_cast p c y u1 v1 d) l = next_assoc (exp R me y l) (run_wrap R me (casts_to c)) (run_user R me u) ∙ exp_parts y (through (casts_to c) u) v d l
+    exp_parts x u v (in_left p op y b u1 v1 d) l = next_assoc (exp R me y l) (run_wrap R me (operates op b)) (run_user R me u) ∙ exp_parts y (through (operates op b) u) v d l
+    exp_parts x u v (in_and p y b u1 v1 d) l = next_assoc (exp R me y l) (run_wrap R me (ands b)) (run_user R me u) ∙ exp_parts y (through (ands b) u) v d l
+    exp_parts x u v (in_or p y b u1 v1 d) l = next_assoc (exp R me y l) (run_wrap R me (ors b)) (run_user R me u) ∙ exp_parts y (through (ors b) u) v d l
+    exp_parts x u v (in_argument p m y es u1 v1 d) l =
+        let cons : Value K × List (Value K) → Step K (List (Value K) × List (Value K)) = λ r. next (exps R me es r.1) (λ s. done (value (r.0 ∷ s.0, s.1))) in
+        let called : List (Value K) × List (Value K) → Step K (Value K × List (Value K)) = λ s. call (invoke m null s.0) (λ o. done (answer s.1 o)) in
+        let one : next (next (exp R me y l) cons) called ≡ next (exp R me y l) (run_wrap R me (hands m es)) =
+            next_assoc (exp R me y l) cons called ∙ (λ i. next (exp R me y l) (λ r. next_assoc (exps R me es r.1) (λ s. done (value (r.0 ∷ s.0, s.1))) called i)) in
+        ap (λ p. next p (run_user R me u)) one ∙ next_assoc (exp R me y l) (run_wrap R me (hands m es)) (run_user R me u) ∙ exp_parts y (through (hands m es) u) v d l
+
     mutual
       pub list_parts : (b : Stmts K) (bs : List (Piece K)) (u : User K) (zs : List (Sequel K)) → ListPlace own e b bs u zs → NoThrow bs zs → (l : List (Value K)) → stmts R me b l ≡ Parted bs u zs l
       list_parts b bs u zs (in_first a c cs v ys d) n l =
@@ -118,11 +135,11 @@ module _ {K : Keys} (R : Rows K) (me : Value K) where
           list_of_pieces a c cs ds (λ m. next (exp R me e m) (then_on v ys)) (stmt_in_pieces a cs h) (list_parts c ds v ys d (λ i. let g = n i in (g.0, all_right cs ds g.1, g.2))) l
 
       stmt_parts : (a : Stmt K) (bs : List (Piece K)) (u : User K) (zs : List (Sequel K)) → StmtPlace own e a bs u zs → NoThrow bs zs → (l : List (Value K)) → stmt R me a l ≡ Parted bs u zs l
-      stmt_parts a bs u zs (in_declare p i) n l = refl
-      stmt_parts a bs u zs (in_eval p) n l = refl
-      stmt_parts a bs u zs (in_return p) n l = refl
-      stmt_parts a bs u zs (in_condition p x y) n l = refl
-      stmt_parts a bs u zs (in_lock p q c) n l = refl
+      stmt_parts a bs u zs (in_declare p i x v d) n l = exp_parts x (declares i) v d l
+      stmt_parts a bs u zs (in_eval p x v d) n l = exp_parts x evaluates v d l
+      stmt_parts a bs u zs (in_return p x v d) n l = exp_parts x gives v d l
+      stmt_parts a bs u zs (in_condition p x y z v d) n l = exp_parts x (chooses y z) v d l
+      stmt_parts a bs u zs (in_lock p q x c v d) n l = exp_parts x (locks p q c) v d l
       stmt_parts a bs u zs (in_block p ns c cs v ys d) n l = list_parts c cs v ys d (λ h. let g = n h in (g.0, g.1.1, g.2)) (unset ns l)
       stmt_parts a bs u zs (in_sync p q x c cs v ys nn d) n l =
           let g = n (leaves_right ys (leaves q x ∷ []) tt) in
@@ -146,16 +163,26 @@ sequels_return (follows b ∷ zs) ys M h = sequels_return zs ys (M ⊎ SomeRetur
 sequels_return (leaves q e ∷ zs) ys M h = sequels_return zs ys M h
 
 module _ {K : Keys} (own : Bool) (e : Exp K) where
+  exp_returns : (x : Exp K) (u v : User K) → ExpPlace e x u v → UserReturns v → UserReturns u
+  exp_returns x u v (at_once w) h = h
+  exp_returns x u v (in_value p t ns fs y u1 v1 c d) h = exp_returns y (through (assigns t) u) v d h
+  exp_returns x u v (in_sign p op y u1 v1 d) h = exp_returns y (through (signs op) u) v d h
+  exp_returns x u v (in_cast p c y u1 v1 d) h = exp_returns y (through (casts_to c) u) v d h
+  exp_returns x u v (in_left p op y b u1 v1 d) h = exp_returns y (through (operates op b) u) v d h
+  exp_returns x u v (in_and p y b u1 v1 d) h = exp_returns y (through (ands b) u) v d h
+  exp_returns x u v (in_or p y b u1 v1 d) h = exp_returns y (through (ors b) u) v d h
+  exp_returns x u v (in_argument p m y es u1 v1 d) h = exp_returns y (through (hands m es) u) v d h
+
   mutual
     pub list_returns : (b : Stmts K) (bs : List (Piece K)) (u : User K) (zs : List (Sequel K)) → ListPlace own e b bs u zs → SequelsReturn zs (UserReturns u) → SomeReturns b
     list_returns b bs u zs (in_first a c cs v ys d) h = ⊎_elim (λ i. inl (stmt_returns a cs v ys d i)) (λ i. inr i) (sequels_return ys (follows c ∷ []) (UserReturns v) h)
     list_returns b bs u zs (behind a c cs ds v ys i d) h = inr (list_returns c ds v ys d h)
 
     stmt_returns : (a : Stmt K) (bs : List (Piece K)) (u : User K) (zs : List (Sequel K)) → StmtPlace own e a bs u zs → SequelsReturn zs (UserReturns u) → Returns a
-    stmt_returns a bs u zs (in_declare p i) h = h
-    stmt_returns a bs u zs (in_eval p) h = h
-    stmt_returns a bs u zs (in_return p) h = h
-    stmt_returns a bs u zs (in_condition p x y) h = h
-    stmt_returns a bs u zs (in_lock p q c) h = h
+    stmt_returns a bs u zs (in_declare p i x v d) h = exp_returns x (declares i) v d h
+    stmt_returns a bs u zs (in_eval p x v d) h = exp_returns x evaluates v d h
+    stmt_returns a bs u zs (in_return p x v d) h = exp_returns x gives v d h
+    stmt_returns a bs u zs (in_condition p x y z v d) h = exp_returns x (chooses y z) v d h
+    stmt_returns a bs u zs (in_lock p q x c v d) h = exp_returns x (locks p q c) v d h
     stmt_returns a bs u zs (in_block p ns c cs v ys d) h = list_returns c cs v ys d h
     stmt_returns a bs u zs (in_sync p q x c cs v ys nn d) h = list_returns c cs v ys d (sequels_return ys (leaves q x ∷ []) (UserReturns v) h)

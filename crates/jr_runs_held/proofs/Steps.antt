@@ -9,10 +9,10 @@ use Rattle.jr_runs.specs.Values.{Value, int, truth, null, text, class_object, ob
 use Rattle.jr_runs.specs.Actions.{exit, Event, placed}
 use Rattle.jr_runs.specs.Rows.{Rows}
 use Rattle.jr_runs.specs.Arithmetic.{Out, value, thrown}
-use Rattle.jr_runs.specs.Core.{Exp}
-use Rattle.jr_runs.specs.Evaluation.{Step, on_value, next, non_null, on_truth, leaving, exp}
-use Rattle.jr_runs_held.specs.Footprint.{NeverNull, never_this, never_text, never_class}
-use Rattle.jr_runs_held.specs.Places.{monitor_of}
+use Rattle.jr_runs.specs.Core.{Exp, Target}
+use Rattle.jr_runs.specs.Evaluation.{Step, on_value, next, non_null, on_truth, leaving, exp, target}
+use Rattle.jr_runs_held.specs.Footprint.{CalmTarget, calm_local, calm_static, calm_own, NeverNull, never_this, never_text, never_class}
+use Rattle.jr_runs_held.specs.Places.{monitor_of, slot_of}
 
 pub next_assoc : {K : Keys} {A B C : Type 0} (p : Step K A) (h : A → Step K B) (k : B → Step K C) → next (next p h) k ≡ next p (λ a. next (h a) k)
 next_assoc {K = K} {A = A} {C = C} p h k = and_then_assoc p (on_value h) (on_value k) ∙ (λ i. and_then p (λ o. same_out o i))
@@ -111,6 +111,11 @@ not_null (class_object c) h p = refl
 not_null (object n c) h p = refl
 
 module _ {K : Keys} (R : Rows K) (me : Value K) (own : Bool) where
+  pub plain_target : (t : Target K) (ns : List ℕ) (fs : List K.field) → CalmTarget own t ns fs → (l : List (Value K)) → target R me t l ≡ done (value (slot_of me t, l))
+  plain_target t ns fs (calm_local p n) l = refl
+  plain_target t ns fs (calm_static p f) l = refl
+  plain_target t ns fs (calm_own p q f i) l = refl
+
   pub never_value : (x : Exp K) → NeverNull own x → (l : List (Value K)) → exp R me x l ≡ done (value (monitor_of me x, l))
   never_value x (never_this p i) l = refl
   never_value x (never_text p t) l = refl

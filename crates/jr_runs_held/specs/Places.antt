@@ -1,21 +1,25 @@
 -- Where an expression stands in a statement list: what is done before it, and what with its value.
-use Rattle.std.specs.Prelude.{◌≡◌, ◌⊎◌, ℕ, Bool, List, [], ◌∷◌, ◌++◌, Some}
-use Rattle.jr_plans.specs.Plan.{done, act}
+use Rattle.std.specs.Prelude.{◌≡◌, ◌⊎◌, ℕ, Bool, true, false, List, [], ◌∷◌, ◌++◌, Some, IsTrue}
+use Rattle.jr_plans.specs.Plan.{done, act, call}
 use Rattle.jr_runs.specs.Keys.{Keys, At}
-use Rattle.jr_runs.specs.Values.{Value, null, text, class_object}
+use Rattle.jr_runs.specs.Values.{Value, truth, null, text, class_object}
 use Rattle.jr_runs.specs.Actions.{enter, placed}
 use Rattle.jr_runs.specs.Rows.{Rows}
-use Rattle.jr_runs.specs.Arithmetic.{value}
+use Rattle.jr_runs.specs.Fitting.{is_instance}
+use Rattle.jr_runs.specs.Arithmetic.{value, operate, sign}
 use Rattle.jr_runs.specs.Core as core
-use Rattle.jr_runs.specs.Core.{Exp, Stmt, Stmts}
-use Rattle.jr_runs.specs.Evaluation.{Flow, goes_on, returns, Step, next, non_null, on_truth}
-use Rattle.jr_runs.specs.Evaluation.{with_local, unset, leaving, exp, on_flow, stmt, stmts}
+use Rattle.jr_runs.specs.Core.{Operator, Sign, Exp, Target, Exps, Stmt, Stmts}
+use Rattle.jr_runs.specs.Evaluation.{Flow, goes_on, returns, invoke, Step, next, non_null}
+use Rattle.jr_runs.specs.Evaluation.{on_truth, Slot, in_local, in_static, in_object, store_to}
+use Rattle.jr_runs.specs.Evaluation.{with_locals, cast_value, answer, with_local, unset, leaving}
+use Rattle.jr_runs.specs.Evaluation.{exp, exps, on_flow, stmt, stmts}
 use Rattle.jr_runs.specs.KeyMaps.{KeyMap}
 use Rattle.jr_runs.specs.Sets.{NumberSet, with_one, with_all, Within}
-use Rattle.jr_runs.specs.Standing.{itself, Renumbering, Standing, IsFree}
-use Rattle.jr_runs.specs.Images.{ExpTo, BlockTo, NoSpot, StmtTo, StmtsTo}
+use Rattle.jr_runs.specs.Standing.{itself, Renumbering, Standing, In, IsFree}
+use Rattle.jr_runs.specs.Images.{Writable, behind_write, ExpTo, ExpsTo, BlockTo, NoSpot, StmtTo}
+use Rattle.jr_runs.specs.Images.{StmtsTo}
 use Rattle.jr_runs.specs.Pairs.{Returns, SomeReturns}
-use Rattle.jr_runs_held.specs.Footprint.{Access, enters, Calm, NeverNull}
+use Rattle.jr_runs_held.specs.Footprint.{Access, enters, CalmTarget, Calm, NeverNull}
 
 -- ---- what is done before
 
@@ -75,8 +79,20 @@ mutual
 
 -- ---- what is done with the value, and then
 
--- the statement whose expression it is
+-- an expression around it, of which it is evaluated first
+pub data Wrap (K : Keys) : Type 0 where
+  assigns : (to : Target K) → Wrap K
+  signs : (op : Sign) → Wrap K
+  casts_to : (class : K.class) → Wrap K
+  operates : (op : Operator) (right : Exp K) → Wrap K
+  ands : (right : Exp K) → Wrap K
+  ors : (right : Exp K) → Wrap K
+  -- the first argument of a static call
+  hands : (method : K.method) (others : Exps K) → Wrap K
+
+-- what uses the value: expressions around it, and the statement whose expression it is
 pub data User (K : Keys) : Type 0 where
+  through : (wrap : Wrap K) (then : User K) → User K
   declares : (number : ℕ) → User K
   evaluates : User K
   gives : User K
@@ -107,8 +123,28 @@ monitor_of me (core.super_call p e m es) = null
 monitor_of me (core.create p c k es) = null
 monitor_of me (core.super_constructor p e k es) = null
 
+-- what a target comes to, where its object is `this`
+abbrev pub slot_of : {K : Keys} → Value K → Target K → Slot K
+slot_of me (core.local p n) = in_local n
+slot_of me (core.static_field p f) = in_static p f
+slot_of me (core.field_of p e f) = in_object p me f
+
+abbrev pub run_wrap : {K : Keys} → Rows K → Value K → Wrap K → Value K × List (Value K)
+    → Step K (Value K × List (Value K))
+run_wrap R me (assigns t) r =
+    next (store_to R (slot_of me t) r.0 r.1) (λ m. done (value (r.0, m)))
+run_wrap R me (signs op) r = done (value (sign op r.0, r.1))
+run_wrap R me (casts_to c) r = done (with_locals r.1 (cast_value (is_instance R c r.0) r.0))
+run_wrap R me (operates op b) r = next (exp R me b r.1) (λ s.
+    done (with_locals s.1 (operate R.same_class op r.0 s.0)))
+run_wrap R me (ands b) r = on_truth r.0 (exp R me b r.1) (done (value (truth false, r.1)))
+run_wrap R me (ors b) r = on_truth r.0 (done (value (truth true, r.1))) (exp R me b r.1)
+run_wrap R me (hands m es) r = next (exps R me es r.1) (λ s.
+    call (invoke m null (r.0 ∷ s.0)) (λ o. done (answer s.1 o)))
+
 abbrev pub run_user : {K : Keys} → Rows K → Value K → User K → Value K × List (Value K)
     → Step K (Flow K)
+run_user R me (through w u) r = next (run_wrap R me w r) (λ s. run_user R me u s)
 run_user R me (declares n) r = done (value (goes_on (with_local r.1 n r.0)))
 run_user R me evaluates r = done (value (goes_on r.1))
 run_user R me gives r = done (value (returns (Some r.0)))
@@ -126,6 +162,31 @@ run_sequels R me (leaves q e ∷ zs) p = run_sequels R me zs (leaving q (monitor
 
 -- ---- the place
 
+-- The expression e is evaluated first in another one. If that one's value is used by the first
+-- user, e's is by the second.
+pub data ExpPlace {K : Keys} (e : Exp K) : Exp K → User K → User K → Type 0 where
+  at_once : (u : User K) → ExpPlace e e u u
+  in_value : (p : At K) (t : Target K) (ns : List ℕ) (fs : List K.field) (x : Exp K)
+      (u v : User K)
+      → CalmTarget true t ns fs → ExpPlace e x (through (assigns t) u) v
+      → ExpPlace e (core.assign p t x) u v
+  in_sign : (p : At K) (op : Sign) (x : Exp K) (u v : User K)
+      → ExpPlace e x (through (signs op) u) v
+      → ExpPlace e (core.signed p op x) u v
+  in_cast : (p : At K) (c : K.class) (x : Exp K) (u v : User K)
+      → ExpPlace e x (through (casts_to c) u) v
+      → ExpPlace e (core.cast p c x) u v
+  in_left : (p : At K) (op : Operator) (x b : Exp K) (u v : User K)
+      → ExpPlace e x (through (operates op b) u) v
+      → ExpPlace e (core.binary p op x b) u v
+  in_and : (p : At K) (x b : Exp K) (u v : User K) → ExpPlace e x (through (ands b) u) v
+      → ExpPlace e (core.both p x b) u v
+  in_or : (p : At K) (x b : Exp K) (u v : User K) → ExpPlace e x (through (ors b) u) v
+      → ExpPlace e (core.either p x b) u v
+  in_argument : (p : At K) (m : K.method) (x : Exp K) (es : Exps K) (u v : User K)
+      → ExpPlace e x (through (hands m es) u) v
+      → ExpPlace e (core.static_call p m (core.Exps.more x es)) u v
+
 -- The expression e stands in the list or statement behind these pieces; then come this user and
 -- these sequels.
 mutual
@@ -141,12 +202,17 @@ mutual
 
   pub data StmtPlace {K : Keys} (own : Bool) (e : Exp K) : Stmt K → List (Piece K) → User K
       → List (Sequel K) → Type 0 where
-    in_declare : (p : At K) (n : ℕ) → StmtPlace own e (core.declare p n e) [] (declares n) []
-    in_eval : (p : At K) → StmtPlace own e (core.eval p e) [] evaluates []
-    in_return : (p : At K) → StmtPlace own e (core.return p e) [] gives []
-    in_condition : (p : At K) (a b : Stmt K)
-        → StmtPlace own e (core.branch p e a b) [] (chooses a b) []
-    in_lock : (p q : At K) (b : Stmts K) → StmtPlace own e (core.sync p q e b) [] (locks p q b) []
+    in_declare : (p : At K) (n : ℕ) (x : Exp K) (v : User K) → ExpPlace e x (declares n) v
+        → StmtPlace own e (core.declare p n x) [] v []
+    in_eval : (p : At K) (x : Exp K) (v : User K) → ExpPlace e x evaluates v
+        → StmtPlace own e (core.eval p x) [] v []
+    in_return : (p : At K) (x : Exp K) (v : User K) → ExpPlace e x gives v
+        → StmtPlace own e (core.return p x) [] v []
+    in_condition : (p : At K) (x : Exp K) (a b : Stmt K) (v : User K)
+        → ExpPlace e x (chooses a b) v
+        → StmtPlace own e (core.branch p x a b) [] v []
+    in_lock : (p q : At K) (x : Exp K) (b : Stmts K) (v : User K) → ExpPlace e x (locks p q b) v
+        → StmtPlace own e (core.sync p q x b) [] v []
     in_block : (p : At K) (ns : List ℕ) (b : Stmts K) (bs : List (Piece K)) (u : User K)
         (zs : List (Sequel K))
         → ListPlace own e b bs u zs
@@ -159,6 +225,7 @@ mutual
 -- ---- which may return
 
 abbrev pub UserReturns : {K : Keys} → User K → Type 0
+UserReturns (through w u) = UserReturns u
 UserReturns (declares n) = ⊥
 UserReturns evaluates = ⊥
 UserReturns gives = Unit {0}
@@ -200,8 +267,42 @@ pub data PiecesTo {K : Keys} (r : KeyMap K) (R : Rows K) (s : Standing K)
       → PieceTo r R s A b b' B → PiecesTo r R s B bs bs' C
       → PiecesTo r R s A (b ∷ bs) (b' ∷ bs') C
 
+-- what a target whose object is `this` becomes
+pub data PlainTo {K : Keys} (r : KeyMap K) (s : Renumbering K) : Target K → Target K
+    → Type 0 where
+  plain_local : (p q : At K) (n : ℕ) → In n s.mine
+      → PlainTo r s (core.local p n) (core.local q (s.at n))
+  plain_static : (p q : At K) (f : K.field)
+      → PlainTo r s (core.static_field p f) (core.static_field q (r.field f))
+  plain_own : (p q x y : At K) (f : K.field) → s.self ≡ itself
+      → PlainTo r s (core.field_of p (core.this x) f)
+      (core.field_of q (core.this y) (r.field f))
+
+pub data WrapTo {K : Keys} (r : KeyMap K) (R : Rows K) (s : Standing K)
+    : NumberSet → Wrap K → Wrap K → NumberSet → Type 0 where
+  to_assigns : (A B : NumberSet) (t t' : Target K) → PlainTo r s.code t t' → Writable s.code t
+      → Within B (behind_write A t)
+      → WrapTo r R s A (assigns t) (assigns t') B
+  to_signs : (A : NumberSet) (op : Sign) → WrapTo r R s A (signs op) (signs op) A
+  to_casts : (A : NumberSet) (c : K.class)
+      → WrapTo r R s A (casts_to c) (casts_to (r.class c)) A
+  to_operates : (A B : NumberSet) (op : Operator) (b b' : Exp K) → ExpTo r R s.code A b b' B
+      → WrapTo r R s A (operates op b) (operates op b') B
+  to_ands : (A B C : NumberSet) (b b' : Exp K) → ExpTo r R s.code A b b' B → Within C A
+      → Within C B
+      → WrapTo r R s A (ands b) (ands b') C
+  to_ors : (A B C : NumberSet) (b b' : Exp K) → ExpTo r R s.code A b b' B → Within C A
+      → Within C B
+      → WrapTo r R s A (ors b) (ors b') C
+  to_hands : (A B : NumberSet) (m : K.method) (es es' : Exps K) → IsTrue (R.has_method m)
+      → ExpsTo r R s.code A es es' B
+      → WrapTo r R s A (hands m es) (hands (r.method m) es') B
+
 pub data UserTo {K : Keys} (r : KeyMap K) (R : Rows K) (s : Standing K)
     : NumberSet → User K → User K → NumberSet → Type 0 where
+  to_through : (A B C : NumberSet) (w w' : Wrap K) (u u' : User K) → WrapTo r R s A w w' B
+      → UserTo r R s B u u' C
+      → UserTo r R s A (through w u) (through w' u') C
   to_declares : (A C : NumberSet) (n : ℕ) → IsFree s.code n → Within C (with_one A n)
       → UserTo r R s A (declares n) (declares (s.code.at n)) C
   to_evaluates : (A : NumberSet) → UserTo r R s A evaluates evaluates A
