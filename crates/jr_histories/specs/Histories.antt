@@ -1,11 +1,11 @@
 -- Finished threads, and the order in which their actions came (JLS 17.4, with sequential memory).
-use Rattle.std.specs.Prelude.{◌≡◌, ◌⊎◌, ℕ, zero, suc, Bool, true, false, List, [], ◌∷◌, Option, Some}
-use Rattle.std.specs.Prelude.{None, unwrap_or, nat_eq, pos}
+use Rattle.std.specs.Prelude.{◌≡◌, ◌⊎◌, ℕ, zero, suc, Bool, true, false, List, [], ◌∷◌, Option}
+use Rattle.std.specs.Prelude.{Some, None, unwrap_or, nat_eq, pos}
 use Rattle.jr_runs.specs.Keys.{Keys}
 use Rattle.jr_runs.specs.Values.{Value, int, truth, null, text, class_object, object, Ty, int_type}
 use Rattle.jr_runs.specs.Values.{boolean_type, reference}
-use Rattle.jr_runs.specs.Actions.{FieldKind, Location, part, shared, Action, load, store, enter, exit}
-use Rattle.jr_runs.specs.Actions.{create, start, Trace}
+use Rattle.jr_runs.specs.Actions.{FieldKind, Location, part, shared, Action, load, store, enter}
+use Rattle.jr_runs.specs.Actions.{exit, create, start, Trace}
 use Rattle.jr_runs.specs.Rows.{Rows}
 use Rattle.jr_runs.specs.Fitting.{class_of}
 use Rattle.jr_runs.specs.Core.{Program}

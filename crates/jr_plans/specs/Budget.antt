@@ -1,5 +1,5 @@
--- Runs with a budget of fuel that is handed on: a call takes a unit of what there is, and its caller
--- goes on with what the call leaves.
+-- Runs with a budget of fuel that is handed on: a call takes a unit of what there is, and its
+-- caller goes on with what the call leaves.
 use Rattle.std.specs.Prelude.{◌≡◌, ℕ, zero, suc, Bool, true, false, List, [], ◌∷◌, ◌++◌}
 use Rattle.jr_plans.specs.Plan.{Plan, done, act, ask, call}
 use Rattle.jr_plans.specs.Run.{End, ended, cut, ill_typed, Outcome, runner, Grows}
@@ -46,7 +46,8 @@ budget_within table zero c n vs = record { trace = []; end = cut; left = vs; fue
 budget_within table (suc d) c zero vs = record { trace = []; end = cut; left = vs; fuel = zero }
 budget_within table (suc d) c (suc n) vs = budget_run (budget_within table d) (table c) n vs
 
--- No call is deeper than it has units, so these bound the depth. `SpendsItsBudget` says what is run.
+-- No call is deeper than it has units, so these bound the depth. `SpendsItsBudget` says what is
+-- run.
 abbrev pub budget_runner : {V E S R : Type 0} → (S → Plan V E S R R) → BudgetRunner V E S R
 budget_runner table c n vs = budget_within table n c n vs
 

@@ -1,5 +1,5 @@
--- What is asked of a program's own keys alone, and of all keys: a map that is one to one on some keys
--- is there one that is one to one on all of them and has an inverse.
+-- What is asked of a program's own keys alone, and of all keys: a map that is one to one on some
+-- keys is there one that is one to one on all of them and has an inverse.
 use Rattle.std.specs.Prelude.{◌≡◌, ◌⊎◌, List, [], ◌∷◌, map}
 use Rattle.jr_runs.specs.Keys.{Keys, keys_of}
 use Rattle.jr_runs.specs.Values.{Value, int, truth, null, text, class_object, object}

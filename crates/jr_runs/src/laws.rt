@@ -26,13 +26,14 @@ pub fn reorderings_join<C, F, M, N, A>()
 {}
 
 /// A program has the same whole and the same bounded runs, whether fuel is a depth or a budget of
-/// which each call, each constructor run and each turn of a loop takes a unit and hands on the rest.
+/// which each call, each constructor run and each turn of a loop takes a unit, and hands on the
+/// rest.
 pub fn fuel_readings_agree<C, F, M, N, A>()
     ensures { FuelReadingsAgree C F M N A }
 {}
 
-/// A map that is one to one on a program's keys of one kind, `X`, is there one that is one to one on
-/// all keys. What it keeps of the program's keys, `B`, that one keeps of all.
+/// A map that is one to one on a program's keys of one kind, `X`, is there one that is one to one
+/// on all keys. What it keeps of the program's keys, `B`, that one keeps of all.
 pub fn maps_of_old_keys_extend<X, B>()
     ensures maps { MapsExtend X }
     ensures kinds { KindsExtend X B }

@@ -40,7 +40,8 @@ OneMakes R (a ∷ xs) x = Makes R a x ⊎ OneMakes R xs x
 
 -- ---- calm code
 
--- What is accessed can't fail: a local, a static field, or a field of `this`. own: is there a `this`?
+-- What is accessed can't fail: a local, a static field, or a field of `this`. own: is there a
+-- `this`?
 pub data CalmTarget {K : Keys} (own : Bool) : Target K → List ℕ → List K.field → Type 0 where
   calm_local : (p : At K) (n : ℕ) → CalmTarget own (local p n) (n ∷ []) []
   calm_static : (p : At K) (f : K.field) → CalmTarget own (static_field p f) [] (f ∷ [])

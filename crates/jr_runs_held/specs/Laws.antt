@@ -13,7 +13,8 @@ abbrev pub HeldLocalsKeepRuns : (C F M N A : Type 0) → Type 0
 HeldLocalsKeepRuns C F M N A = (P Q : Program (keys_of C F M N A))
     → ProgramTo same_keys (HoldsLocal same_keys P.rows) P Q → AlikeExactly same_keys P Q
 
--- The same from Q to P: inline local of such an initializer, its value cast or not where it is read.
+-- The same from Q to P: inline local of such an initializer, its value cast or not where it is
+-- read.
 abbrev pub HeldLocalsGo : (C F M N A : Type 0) → Type 0
 HeldLocalsGo C F M N A = (P Q : Program (keys_of C F M N A)) → Q.rows ≡ P.rows
     → ProgramTo same_keys (HoldsLocal same_keys P.rows) P Q → AlikeExactly same_keys Q P

@@ -45,13 +45,15 @@ abbrev pub run_pieces : {K : Keys} → Rows K → Value K → List (Piece K) →
 run_pieces R me [] l = done (value l)
 run_pieces R me (b ∷ bs) l = next (run_piece R me b l) (λ m. run_pieces R me bs m)
 
-pub data CalmPiece {K : Keys} (own : Bool) : Piece K → List ℕ → List ℕ → List (Access K) → Type 0 where
+pub data CalmPiece {K : Keys} (own : Bool) : Piece K → List ℕ → List ℕ → List (Access K)
+    → Type 0 where
   calm_declared : (n : ℕ) (e : Exp K) (rs ws : List ℕ) (xs : List (Access K)) → Calm own e rs ws xs
       → CalmPiece own (declared n e) rs (ws ++ (n ∷ [])) xs
   calm_evaluated : (e : Exp K) (rs ws : List ℕ) (xs : List (Access K)) → Calm own e rs ws xs
       → CalmPiece own (evaluated e) rs ws xs
   calm_opened : (ns : List ℕ) → CalmPiece own (opened ns) [] ns []
-  calm_locked : (p : At K) (e : Exp K) → NeverNull own e → CalmPiece own (locked p e) [] [] (enters ∷ [])
+  calm_locked : (p : At K) (e : Exp K) → NeverNull own e
+      → CalmPiece own (locked p e) [] [] (enters ∷ [])
 
 pub data CalmPieces {K : Keys} (own : Bool) : List (Piece K) → List ℕ → List ℕ → List (Access K)
     → Type 0 where
