@@ -7,19 +7,20 @@ use Rattle.jr_runs.specs.Values.{Value, int, null, text, int_type}
 use Rattle.jr_runs.specs.Actions.{plain, Event}
 use Rattle.jr_runs.specs.Rows.{Rows}
 use Rattle.jr_runs.specs.Core as core
-use Rattle.jr_runs.specs.Core.{add, less, arithmetic, comparison, Exp, literal, read, assign, binary, Target, local, static_field, Stmt, declare, eval, loop, return, block, sync, Stmts, written, Program}
+use Rattle.jr_runs.specs.Core.{add, less, arithmetic, comparison, Exp, literal, read, assign, binary, static_call, Target, local, static_field, Stmt, declare, eval, loop, return, block, sync, Stmts, written, Program}
 use Rattle.jr_runs.specs.Evaluation.{exp}
 use Rattle.jr_runs.specs.KeyMaps.{same_keys}
-use Rattle.jr_runs.specs.Sets.{NumberSet, everything}
-use Rattle.jr_runs.specs.Standing.{In, IsFree, Standing, whole}
-use Rattle.jr_runs.specs.Images.{Spots, NoSpot, ExpTo, to_literal, to_held, to_read, to_assign, to_binary, TargetTo, to_local, to_static_field, BlockTo, StmtTo, to_declare, to_eval, to_loop, to_return, to_block, StmtsTo, to_no_more, to_list, to_spot, CodeTo, SameRows, ProgramTo}
+use Rattle.jr_runs.specs.Sets.{NumberSet, everything, with_one}
+use Rattle.jr_runs.specs.Standing.{unused, In, IsFree, Standing, whole}
+use Rattle.jr_runs.specs.Images.{ExpTo, to_literal, to_held, to_read, to_assign, to_binary, to_static_call, to_local, to_static_field, to_end, BlockTo, to_declare, to_eval, to_loop, to_return, to_block, StmtsTo, to_no_more, to_list, to_spot, CodeTo, SameRows, ProgramTo}
 use Rattle.jr_runs.specs.Alike.{AlikeExactly, AlikeReordered}
 use Rattle.jr_runs.proofs.Locals.{within_one}
 use Rattle.jr_runs_held.specs.Held.{until_all, until_value, before_local, until_more, until_last, last_eval, holding, HoldsLocal}
-use Rattle.jr_runs_held.specs.Footprint.{loads, stores, enters, calm_local, calm_static, sure_add, sure_arithmetic, Calm, calm_literal, calm_read, calm_binary, never_text, MayPass, AllMayPass}
-use Rattle.jr_runs_held.specs.Places.{locked, calm_locked, calm_none, calm_more, assigns, User, through, evaluates, Sequel, follows, leaves, at_once, in_value, ListPlace, in_first, in_eval, in_sync, to_text_lock, to_locked, to_no_piece, to_pieces, plain_static, to_assigns, to_through, to_evaluates, to_no_sequel, to_follows, to_leaves}
+use Rattle.jr_runs_held.specs.Footprint.{loads, stores, enters, calm_local, calm_static, sure_add, sure_arithmetic, Calm, calm_literal, calm_read, calm_assign, calm_binary, never_text, MayPass, AllMayPass}
+use Rattle.jr_runs_held.specs.Places.{Piece, evaluated, locked, CalmPieces, calm_evaluated, calm_locked, calm_none, calm_more, one_evaluated, assigns, User, through, evaluates, Sequel, follows, leaves, at_once, in_value, ListPlace, in_first, behind_pieces, in_eval, in_sync, to_text_lock, to_evaluated, to_locked, to_no_piece, to_pieces, plain_static, to_assigns, to_through, to_evaluates, to_no_sequel, to_follows, to_leaves}
 use Rattle.jr_runs_held.proofs.SilentCode.{silent_is}
 use Rattle.jr_runs_held.proofs.HeldLocal.{held_programs_are_alike, held_locals_go}
+use Rattle.jr_runs_held.proofs.PastSilent.{SilentPieces, HoldsPastSilent, past_programs_are_alike, past_locals_go}
 use Rattle.jr_runs_held.proofs.PastCalm.{HoldsPastCalm}
 use Rattle.jr_runs_held.proofs.PastPrograms.{HoldsGo, calm_locals_go}
 
@@ -306,6 +307,115 @@ moved = record {
 
 load_moves_into_a_monitor : AlikeReordered same_keys 2 (one_method with_t) (one_method (in_monitor load_f))
 load_moves_into_a_monitor = calm_locals_go 2 (one_method (in_monitor load_f)) (one_method with_t) refl moved
+
+-- ---- a call goes past a local: `int x = 0; x = 1; g = m();` becomes `int x = 0; int t = m(); x = 1; g = t;`
+
+abbrev call_m : Exp J
+call_m = static_call None 0 core.Exps.end
+
+abbrev x_is_one : Exp J
+x_is_one = assign None (local None 0) (num 1)
+
+abbrev then_g : Exp J → Stmts J
+then_g e = core.Stmts.more (eval None x_is_one) (put_g e)
+
+abbrev called_first : Stmts J
+called_first = core.Stmts.more (declare None 1 call_m) (then_g (var 1))
+
+abbrev x_piece : List (Piece J)
+x_piece = evaluated x_is_one ∷ []
+
+behind_x : (e : Exp J) → ListPlace true e (then_g e) x_piece stores_g (follows core.Stmts.end ∷ [])
+behind_x e = behind_pieces (eval None x_is_one) (put_g e) x_piece [] stores_g (follows core.Stmts.end ∷ []) (one_evaluated None x_is_one)
+    (in_first (eval None (assign None g e)) core.Stmts.end [] stores_g [] (in_eval None (assign None g e) stores_g (in_value None g [] (false ∷ []) e evaluates stores_g (calm_static None false) (at_once stores_g))))
+
+abbrev nothing : NumberSet
+nothing i = false
+
+abbrev only_x : NumberSet
+only_x = with_one nothing 0
+
+x_is_calm : CalmPieces true x_piece [] (0 ∷ []) []
+x_is_calm = calm_more (evaluated x_is_one) [] [] (0 ∷ []) [] [] [] [] (calm_evaluated x_is_one [] (0 ∷ []) [] (calm_assign None (local None 0) (num 1) (0 ∷ []) [] [] [] [] (calm_local None 0) (calm_literal None (int (pos 1))))) calm_none
+
+x_agrees : (i : ℕ) → In i (0 ∷ []) → only_x i ≡ true
+x_agrees i o = ⊎_elim (λ (e : i ≡ 0). rw e refl) (λ (z : In i []). absurd z) o
+
+silent_x : SilentPieces same_keys rows one_local x_piece x_piece [] (0 ∷ [])
+silent_x = record {
+  reads' = [];
+  writes' = 0 ∷ [];
+  calm = x_is_calm;
+  calm' = x_is_calm;
+  writes_to = λ j o. o;
+  own_reads = λ i o. absurd o;
+  own_writes = λ i o. o;
+  unknown = λ i w k. k;
+  self = unused;
+  names = inl refl;
+  before = nothing;
+  behind = only_x;
+  needs = λ i e. no_truth e;
+  gives = x_agrees;
+  to = to_pieces nothing only_x only_x (evaluated x_is_one) (evaluated x_is_one) [] []
+      (to_evaluated nothing only_x x_is_one x_is_one (to_assign nothing nothing nothing only_x None None (local None 0) (local None 0) (num 1) (num 1) (to_local nothing None None 0 in_0) (λ e. e) (to_literal nothing None None (int (pos 1))) (λ i a. a)))
+      (to_no_piece only_x);
+}
+
+past_x : HoldsPastSilent same_keys rows one_local everything (then_g call_m) called_first everything
+past_x = record {
+  e = call_m;
+  e' = call_m;
+  number = 1;
+  fresh = not_1;
+  fresh_others = λ o. o;
+  place = None;
+  read_at = None;
+  name_at = None;
+  rest = then_g (var 1);
+  many_is = refl;
+  pieces = x_piece;
+  pieces' = x_piece;
+  user = stores_g;
+  user' = stores_g;
+  sequels = follows core.Stmts.end ∷ [];
+  sequels' = follows core.Stmts.end ∷ [];
+  here = behind_x call_m;
+  there = behind_x (var 1);
+  unlocked = λ h. h;
+  unlocked' = λ h. h;
+  reads = [];
+  writes = 0 ∷ [];
+  silent = silent_x;
+  between = everything;
+  e_to = to_static_call everything everything None None 0 core.Exps.end core.Exps.end refl (to_end everything);
+  agree_before = λ i o. absurd o;
+  agree_behind = λ i o. absurd o;
+  used = everything;
+  user_to = to_through (with_one everything 0) everything everything (assigns g) (assigns g) evaluates evaluates (to_assigns (with_one everything 0) everything g g (plain_static None None false) tt (within_one everything 0)) (to_evaluates everything);
+  sequels_to = to_follows everything everything everything core.Stmts.end core.Stmts.end [] [] (to_no_more everything) (to_no_sequel everything);
+}
+
+abbrev x_declared : Stmts J → Stmts J
+x_declared b = core.Stmts.more (declare None 0 (num 0)) b
+
+x_declared_to : StmtsTo same_keys rows (HoldsPastSilent same_keys rows) one_local everything (x_declared (then_g call_m)) (x_declared called_first) everything
+x_declared_to = to_list everything everything everything (declare None 0 (num 0)) (declare None 0 (num 0)) (then_g call_m) called_first
+    (to_declare everything everything everything None None 0 (num 0) (num 0) free_0 (to_literal everything None None (int (pos 0))) (within_one everything 0))
+    (to_spot everything everything (then_g call_m) called_first past_x)
+
+past_programs : ProgramTo same_keys (HoldsPastSilent same_keys rows) (one_method (x_declared (then_g call_m))) (one_method (x_declared called_first))
+past_programs = record {
+  rows = same_rows;
+  methods = λ m h. record { size = 1; at = λ i. i; injective = λ i j a b e. e; params = refl; params_below = omega arith; params_stay = λ i h. refl; behind = everything; body = x_declared_to };
+  constructors = λ k h. no_truth h;
+}
+
+call_comes_first : AlikeExactly same_keys (one_method (x_declared (then_g call_m))) (one_method (x_declared called_first))
+call_comes_first = past_programs_are_alike (one_method (x_declared (then_g call_m))) (one_method (x_declared called_first)) past_programs
+
+call_goes_to_its_place : AlikeExactly same_keys (one_method (x_declared called_first)) (one_method (x_declared (then_g call_m)))
+call_goes_to_its_place = past_locals_go (one_method (x_declared (then_g call_m))) (one_method (x_declared called_first)) refl past_programs
 
 -- ---- what is refused
 

@@ -13,7 +13,7 @@ use Rattle.jr_runs.specs.Core.{Exp, Stmt, Stmts}
 use Rattle.jr_runs.specs.Evaluation.{Flow, goes_on, invoke, Step, next, non_null, Slot, store_to, answer, with_local, unset, leaving, exp, exps, on_flow, stmt, stmts}
 use Rattle.jr_runs.specs.Pairs.{Returns, SomeReturns}
 use Rattle.jr_runs_held.specs.Footprint.{Access, NeverNull}
-use Rattle.jr_runs_held.specs.Places.{Piece, declared, evaluated, opened, locked, run_piece, run_pieces, CalmPiece, CalmPieces, calm_none, calm_more, InPieces, one_declared, one_evaluated, one_empty, in_a_block, AllInPieces, no_more_pieces, more_pieces, Wrap, assigns, signs, casts_to, operates, ands, ors, hands, User, through, declares, evaluates, gives, chooses, locks, Sequel, follows, leaves, monitor_of, run_wrap, run_user, run_sequels, ExpPlace, at_once, in_value, in_sign, in_cast, in_left, in_and, in_or, in_argument, ListPlace, in_first, behind, StmtPlace, in_declare, in_eval, in_return, in_condition, in_lock, in_block, in_sync, UserReturns, SequelsReturn}
+use Rattle.jr_runs_held.specs.Places.{Piece, declared, evaluated, opened, locked, run_piece, run_pieces, CalmPiece, CalmPieces, calm_none, calm_more, InPieces, one_declared, one_evaluated, one_empty, in_a_block, AllInPieces, no_more_pieces, more_pieces, Wrap, assigns, signs, casts_to, operates, ands, ors, hands, User, through, declares, evaluates, gives, chooses, locks, Sequel, follows, leaves, monitor_of, run_wrap, run_user, run_sequels, ExpPlace, at_once, in_value, in_sign, in_cast, in_left, in_and, in_or, in_argument, ListPlace, in_first, behind_pieces, StmtPlace, in_declare, in_eval, in_return, in_condition, in_lock, in_block, in_sync, UserReturns, SequelsReturn}
 use Rattle.jr_runs_held.proofs.Steps.{next_assoc, results_more, IsCame, came_next, leaving_next, plain_target, never_value, never_stops}
 use Rattle.jr_runs_held.proofs.CalmCode.{Calmly, Kept, calm_piece}
 
@@ -131,7 +131,7 @@ module _ {K : Keys} (R : Rows K) (me : Value K) where
           let k : List (Value K) → Step K (Flow K) = λ m. next (exp R me e m) (then_on v ys) in
           ap (λ p. next p on) (stmt_parts a cs v ys d (λ h. n (leaves_left ys (follows c ∷ []) h)) l) ∙ next_assoc (run_pieces R me cs l) k on
           ∙ (λ i. next (run_pieces R me cs l) (λ m. (next_assoc (exp R me e m) (then_on v ys) on ∙ (λ j. next (exp R me e m) (λ r. sym (sequels_append ys (follows c ∷ []) (run_user R me v r)) j))) i))
-      list_parts b bs u zs (behind a c cs ds v ys h d) n l =
+      list_parts b bs u zs (behind_pieces a c cs ds v ys h d) n l =
           list_of_pieces a c cs ds (λ m. next (exp R me e m) (then_on v ys)) (stmt_in_pieces a cs h) (list_parts c ds v ys d (λ i. let g = n i in (g.0, all_right cs ds g.1, g.2))) l
 
       stmt_parts : (a : Stmt K) (bs : List (Piece K)) (u : User K) (zs : List (Sequel K)) → StmtPlace own e a bs u zs → NoThrow bs zs → (l : List (Value K)) → stmt R me a l ≡ Parted bs u zs l
@@ -176,7 +176,7 @@ module _ {K : Keys} (own : Bool) (e : Exp K) where
   mutual
     pub list_returns : (b : Stmts K) (bs : List (Piece K)) (u : User K) (zs : List (Sequel K)) → ListPlace own e b bs u zs → SequelsReturn zs (UserReturns u) → SomeReturns b
     list_returns b bs u zs (in_first a c cs v ys d) h = ⊎_elim (λ i. inl (stmt_returns a cs v ys d i)) (λ i. inr i) (sequels_return ys (follows c ∷ []) (UserReturns v) h)
-    list_returns b bs u zs (behind a c cs ds v ys i d) h = inr (list_returns c ds v ys d h)
+    list_returns b bs u zs (behind_pieces a c cs ds v ys i d) h = inr (list_returns c ds v ys d h)
 
     stmt_returns : (a : Stmt K) (bs : List (Piece K)) (u : User K) (zs : List (Sequel K)) → StmtPlace own e a bs u zs → SequelsReturn zs (UserReturns u) → Returns a
     stmt_returns a bs u zs (in_declare p i x v d) h = exp_returns x (declares i) v d h

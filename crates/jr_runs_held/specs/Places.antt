@@ -197,7 +197,7 @@ mutual
     in_first : (a : Stmt K) (b : Stmts K) (bs : List (Piece K)) (u : User K) (zs : List (Sequel K))
         → StmtPlace own e a bs u zs
         → ListPlace own e (core.Stmts.more a b) bs u (zs ++ (follows b ∷ []))
-    behind : (a : Stmt K) (b : Stmts K) (cs bs : List (Piece K)) (u : User K)
+    behind_pieces : (a : Stmt K) (b : Stmts K) (cs bs : List (Piece K)) (u : User K)
         (zs : List (Sequel K))
         → InPieces a cs → ListPlace own e b bs u zs
         → ListPlace own e (core.Stmts.more a b) (cs ++ bs) u zs
