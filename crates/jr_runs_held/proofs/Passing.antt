@@ -83,7 +83,7 @@ module _ {K : Keys} (R : Rows K) where
 -- ---- relations of traces of the program without the local and the one with it
 
 module _ {K : Keys} where
-  abbrev image : List (Event K) → Trace K
+  abbrev pub image : List (Event K) → Trace K
   image t = trace_image same_keys (actions_of t)
 
   image_both : (t u : List (Event K)) → image (t ++ u) ≡ image t ++ image u

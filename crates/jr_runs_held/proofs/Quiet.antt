@@ -20,23 +20,23 @@ finite_begins F X Y (ask f s p) zero c t h = absurd c
 finite_begins F X Y (ask f s p) (suc n) c t h = ⊎_elim (λ e. inl e) (λ d. inr (d.0, d.1, d.2, d.3, finite_begins F X Y (p d.0) n (c.1 d.0 d.2).1 d.1 d.4)) h
 finite_begins F X Y (call b p) n c t h = absurd c
 
-abbrev none : {E S R : Type 0} → World E S R
-none = record { ends = λ c t r. ⊥; begins = λ c t. ⊥ }
+abbrev pub no_call_comes : {E S R : Type 0} → World E S R
+no_call_comes = record { ends = λ c t r. ⊥; begins = λ c t. ⊥ }
 
 abbrev pub no_calls : {E S R : Type 0} → Sides E S R S R
-no_calls = record { old_given = none; new_found = none; new_given = none; old_found = none }
+no_calls = record { old_given = no_call_comes; new_found = no_call_comes; new_given = no_call_comes; old_found = no_call_comes }
 
 -- pieces that come to their end match in any worlds if they do in these
 pub any_world : {V E S R A B : Type 0} (W : List E → List E → Type 0) (Z : Sides E S R S R) (Q : A → B → Type 0) (p : Plan V E S R A) (q : Plan V E S R B) (F G : E → Type 0) (n m : ℕ) → Finite F p n → Finite G q m
     → Both 0 W no_calls Q p q → Both 0 W Z Q p q
 any_world W Z Q p q F G n m c d f = record {
   forth = record {
-    ended = λ t a h. let g = f.forth.ended t a (finite_ends F Z.old_given none p n c t a h) in (g.0, g.1, finite_ends G none Z.new_found q m d g.0 g.1 g.2, g.3, g.4);
-    begun = λ t h. let g = f.forth.begun t (finite_begins F Z.old_given none p n c t h) in (g.0, g.1, g.2, finite_begins F none Z.old_given p n c (t ++ g.0) g.3, finite_begins G none Z.new_found q m d g.1 g.4, g.5);
+    ended = λ t a h. let g = f.forth.ended t a (finite_ends F Z.old_given no_call_comes p n c t a h) in (g.0, g.1, finite_ends G no_call_comes Z.new_found q m d g.0 g.1 g.2, g.3, g.4);
+    begun = λ t h. let g = f.forth.begun t (finite_begins F Z.old_given no_call_comes p n c t h) in (g.0, g.1, g.2, finite_begins F no_call_comes Z.old_given p n c (t ++ g.0) g.3, finite_begins G no_call_comes Z.new_found q m d g.1 g.4, g.5);
   };
   back = record {
-    ended = λ t a h. let g = f.back.ended t a (finite_ends G Z.new_given none q m d t a h) in (g.0, g.1, finite_ends F none Z.old_found p n c g.0 g.1 g.2, g.3, g.4);
-    begun = λ t h. let g = f.back.begun t (finite_begins G Z.new_given none q m d t h) in (g.0, g.1, g.2, finite_begins G none Z.new_given q m d (t ++ g.0) g.3, finite_begins F none Z.old_found p n c g.1 g.4, g.5);
+    ended = λ t a h. let g = f.back.ended t a (finite_ends G Z.new_given no_call_comes q m d t a h) in (g.0, g.1, finite_ends F no_call_comes Z.old_found p n c g.0 g.1 g.2, g.3, g.4);
+    begun = λ t h. let g = f.back.begun t (finite_begins G Z.new_given no_call_comes q m d t h) in (g.0, g.1, g.2, finite_begins G no_call_comes Z.new_given q m d (t ++ g.0) g.3, finite_begins F no_call_comes Z.old_found p n c g.1 g.4, g.5);
   };
 }
 

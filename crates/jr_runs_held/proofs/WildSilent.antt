@@ -28,7 +28,7 @@ pub record Update {K : Keys} (r : KeyMap K) (s : Standing K) (reads writes : Lis
   pub old_same : (l m : List (Value K)) → ((i : ℕ) → In i reads → local_at m i ≡ local_at l i) → (i : ℕ) → In i writes → local_at (old m) i ≡ local_at (old l) i
   pub image : (l l' : List (Value K)) → ((i : ℕ) → In i reads → local_at l' (s.code.at i) ≡ value_image r (local_at l i)) → (i : ℕ) → In i writes → local_at (new l') (s.code.at i) ≡ value_image r (local_at (old l) i)
 
-abbrev put_unless : {A : Type 0} → A ⊎ (A → ⊥) → ℕ → List ℕ → List ℕ
+abbrev pub put_unless : {A : Type 0} → A ⊎ (A → ⊥) → ℕ → List ℕ → List ℕ
 put_unless (inl a) i is = is
 put_unless (inr b) i is = i ∷ is
 
