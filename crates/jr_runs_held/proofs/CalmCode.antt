@@ -114,10 +114,10 @@ module _ {K : Keys} (R : Rows K) where
 abbrev pub Kept : {K : Keys} → List ℕ → List (Value K) → List (Value K) → Type 0
 Kept ws l m = (i : ℕ) → (In i ws → ⊥) → local_at m i ≡ local_at l i
 
-kept_on : {K : Keys} (ws ws' : List ℕ) (l m o : List (Value K)) → Kept ws l m → Kept ws' m o → Kept (ws ++ ws') l o
+pub kept_on : {K : Keys} (ws ws' : List ℕ) (l m o : List (Value K)) → Kept ws l m → Kept ws' m o → Kept (ws ++ ws') l o
 kept_on ws ws' l m o h g = λ i d. g i (λ j. d (in_right i ws ws' j)) ∙ h i (λ j. d (in_left i ws ws' j))
 
-kept_first : {K : Keys} (ws ws' : List ℕ) (l m : List (Value K)) → Kept ws l m → Kept (ws ++ ws') l m
+pub kept_first : {K : Keys} (ws ws' : List ℕ) (l m : List (Value K)) → Kept ws l m → Kept (ws ++ ws') l m
 kept_first ws ws' l m h = λ i d. h i (λ j. d (in_left i ws ws' j))
 
 -- what is kept behind a second piece

@@ -13,6 +13,7 @@ pub mod WildSilent
 pub mod CrossedPieces
 pub mod CalmCode
 pub mod SilentCode
+pub mod Written
 pub mod PlaceRuns
 pub mod PlaceMatch
 pub mod PastSilent

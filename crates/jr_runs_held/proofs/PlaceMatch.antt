@@ -21,7 +21,7 @@ use Rattle.jr_runs.proofs.Matching.{Setting, Matches, match_next, match_value, m
 use Rattle.jr_runs.proofs.ImageExps.{stored_match, answer_match, exp_match, exps_match}
 use Rattle.jr_runs.proofs.ImageStmts.{TurnsAnswered, looser, match_flow, leaving_match, stmt_match}
 use Rattle.jr_runs.proofs.Kept.{kept_turns, kept_match}
-use Rattle.jr_runs_held.specs.Places.{Piece, run_piece, run_pieces, Wrap, User, Sequel, monitor_of, slot_of, run_wrap, run_user, run_sequels, UserReturns, SequelsReturn, LockTo, to_own_lock, to_text_lock, to_class_lock, PieceTo, to_declared, to_evaluated, to_opened, to_locked, PiecesTo, to_no_piece, to_pieces, PlainTo, plain_local, plain_static, plain_own, WrapTo, to_assigns, to_signs, to_casts, to_operates, to_ands, to_ors, to_hands, UserTo, to_through, to_declares, to_evaluates, to_gives, to_chooses, to_locks, SequelsTo, to_no_sequel, to_follows, to_leaves}
+use Rattle.jr_runs_held.specs.Places.{Piece, run_piece, run_pieces, Wrap, User, Sequel, monitor_of, slot_of, run_wrap, run_user, run_sequels, UserReturns, SequelsReturn, LockTo, to_own_lock, to_text_lock, to_class_lock, PieceTo, to_declared, to_evaluated, to_opened, to_locked, PiecesTo, to_no_piece, to_pieces, PlainTo, plain_local, plain_static, plain_own, WrapTo, to_assigns, to_signs, to_casts, to_operates, to_operates_behind, to_ands, to_ors, to_hands, UserTo, to_through, to_declares, to_evaluates, to_gives, to_chooses, to_locks, SequelsTo, to_no_sequel, to_follows, to_leaves}
 
 module _ {K : Keys} (g : Setting K) (s : Standing K) (stands : Stands s) (frame : Frame K) (me me' : Value K) (im : Holding g.old g.keys s.code frame me me') where
   abbrev Shift : NumberSet → List (Value K) → List (Value K) → Type 0
@@ -85,6 +85,10 @@ module _ {K : Keys} (g : Setting K) (s : Standing K) (stands : Stands s) (frame 
         (exp_match g s stands frame me me' im A B b b' d r.1 r'.1 k.1)
         (λ z z' j. match_outcome g (ResultRel g.keys s frame B) (with_locals z.1 (operate g.old.same_class op r.0 z.0)) (with_locals z'.1 (operate g.new.same_class op r'.0 z'.0))
         (with_rel g.keys s frame B z.1 z'.1 (operate g.old.same_class op r.0 z.0) (operate g.new.same_class op r'.0 z'.0) (rw (k.0, j.0) (operate_rel g.keys g.old g.new g.rows op r.0 z.0)) j.1))
+    wrap_match A B w w' (to_operates_behind C D op a a' d) r r' k = match_next g (ResultRel g.keys s frame B) (ResultRel g.keys s frame B) (exp g.old me a r.1) (exp g.new me' a' r'.1) (λ z. done (with_locals z.1 (operate g.old.same_class op z.0 r.0))) (λ z. done (with_locals z.1 (operate g.new.same_class op z.0 r'.0)))
+        (exp_match g s stands frame me me' im A B a a' d r.1 r'.1 k.1)
+        (λ z z' j. match_outcome g (ResultRel g.keys s frame B) (with_locals z.1 (operate g.old.same_class op z.0 r.0)) (with_locals z'.1 (operate g.new.same_class op z'.0 r'.0))
+        (with_rel g.keys s frame B z.1 z'.1 (operate g.old.same_class op z.0 r.0) (operate g.new.same_class op z'.0 r'.0) (rw (j.0, k.0) (operate_rel g.keys g.old g.new g.rows op z.0 r.0)) j.1))
     wrap_match A B w w' (to_ands C D E b b' d u v) r r' k = subst (λ x. Matches g (ResultRel g.keys s frame B) (on_truth r.0 (exp g.old me b r.1) (done (value (truth false, r.1)))) (on_truth x (exp g.new me' b' r'.1) (done (value (truth false, r'.1))))) (sym k.0)
         (match_truth g (ResultRel g.keys s frame B) r.0 (exp g.old me b r.1) (done (value (truth false, r.1))) (exp g.new me' b' r'.1) (done (value (truth false, r'.1)))
         (less D B v (exp g.old me b r.1) (exp g.new me' b' r'.1) (exp_match g s stands frame me me' im A D b b' d r.1 r'.1 k.1)) (match_value g (ResultRel g.keys s frame B) (truth false, r.1) (truth false, r'.1) (refl, shifted_less g.keys s frame A B u r.1 r'.1 k.1)))

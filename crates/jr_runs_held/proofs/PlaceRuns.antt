@@ -7,15 +7,17 @@ use Rattle.jr_runs.specs.Keys.{Keys, At}
 use Rattle.jr_runs.specs.Values.{Value, null}
 use Rattle.jr_runs.specs.Actions.{enter, placed}
 use Rattle.jr_runs.specs.Rows.{Rows}
-use Rattle.jr_runs.specs.Arithmetic.{Out, value, thrown}
+use Rattle.jr_runs.specs.Arithmetic.{Out, value, thrown, operate}
 use Rattle.jr_runs.specs.Core as core
 use Rattle.jr_runs.specs.Core.{Exp, Stmt, Stmts}
-use Rattle.jr_runs.specs.Evaluation.{Flow, goes_on, invoke, Step, next, non_null, Slot, store_to, answer, with_local, unset, leaving, exp, exps, on_flow, stmt, stmts}
+use Rattle.jr_runs.specs.Evaluation.{Flow, goes_on, invoke, Step, next, non_null, Slot, store_to, with_locals, answer, with_local, unset, leaving, exp, exps, on_flow, stmt, stmts}
 use Rattle.jr_runs.specs.Pairs.{Returns, SomeReturns}
 use Rattle.jr_runs_held.specs.Footprint.{Access, NeverNull}
-use Rattle.jr_runs_held.specs.Places.{Piece, declared, evaluated, opened, locked, run_piece, run_pieces, CalmPiece, CalmPieces, calm_none, calm_more, InPieces, one_declared, one_evaluated, one_empty, in_a_block, AllInPieces, no_more_pieces, more_pieces, Wrap, assigns, signs, casts_to, operates, ands, ors, hands, User, through, declares, evaluates, gives, chooses, locks, Sequel, follows, leaves, monitor_of, run_wrap, run_user, run_sequels, ExpPlace, at_once, in_value, in_sign, in_cast, in_left, in_and, in_or, in_argument, ListPlace, in_first, behind_pieces, StmtPlace, in_declare, in_eval, in_return, in_condition, in_lock, in_block, in_sync, UserReturns, SequelsReturn}
+use Rattle.jr_runs_held.specs.Places.{Piece, declared, evaluated, opened, locked, run_piece, run_pieces, CalmPiece, CalmPieces, calm_none, calm_more, InPieces, one_declared, one_evaluated, one_empty, in_a_block, AllInPieces, no_more_pieces, more_pieces, Wrap, assigns, signs, casts_to, operates, operates_behind, ands, ors, hands, User, through, declares, evaluates, gives, chooses, locks, Sequel, follows, leaves, monitor_of, run_wrap, run_user, run_sequels, ExpPlace, at_once, in_value, in_sign, in_cast, in_left, in_right, in_and, in_or, in_argument, ListPlace, in_first, behind_pieces, StmtPlace, in_declare, in_eval, in_return, in_condition, in_lock, in_block, in_sync, UserReturns, SequelsReturn}
 use Rattle.jr_runs_held.proofs.Steps.{next_assoc, results_more, IsCame, came_next, leaving_next, plain_target, never_value, never_stops}
 use Rattle.jr_runs_held.proofs.CalmCode.{Calmly, Kept, calm_piece}
+use Rattle.jr_runs_held.proofs.SilentCode.{silent_is}
+use Rattle.jr_runs_held.proofs.Written.{left_behind}
 
 -- a monitor is left somewhere behind
 abbrev pub LeavesIn : {K : Keys} → List (Sequel K) → Type 0
@@ -115,6 +117,12 @@ module _ {K : Keys} (R : Rows K) (me : Value K) where
     exp_parts x u v (in_sign p op y u1 v1 d) l = next_assoc (exp R me y l) (run_wrap R me (signs op)) (run_user R me u) ∙ exp_parts y (through (signs op) u) v d l
     exp_parts x u v (in_cast p c y u1 v1 d) l = next_assoc (exp R me y l) (run_wrap R me (casts_to c)) (run_user R me u) ∙ exp_parts y (through (casts_to c) u) v d l
     exp_parts x u v (in_left p op y b u1 v1 d) l = next_assoc (exp R me y l) (run_wrap R me (operates op b)) (run_user R me u) ∙ exp_parts y (through (operates op b) u) v d l
+    exp_parts x u v (in_right p op a y rs u1 v1 c apart d) l =
+        let silent = silent_is R true a rs c in
+        let first : Value K × List (Value K) → Step K (Value K × List (Value K)) = λ r. next (exp R me y r.1) (λ s. done (with_locals s.1 (operate R.same_class op r.0 s.0))) in
+        ap (λ p. next (next p first) (run_user R me u)) (silent.comes me l)
+        ∙ ap (λ p. next p (run_user R me u)) (left_behind R me op a rs silent y apart l)
+        ∙ next_assoc (exp R me y l) (run_wrap R me (operates_behind op a)) (run_user R me u) ∙ exp_parts y (through (operates_behind op a) u) v d l
     exp_parts x u v (in_and p y b u1 v1 d) l = next_assoc (exp R me y l) (run_wrap R me (ands b)) (run_user R me u) ∙ exp_parts y (through (ands b) u) v d l
     exp_parts x u v (in_or p y b u1 v1 d) l = next_assoc (exp R me y l) (run_wrap R me (ors b)) (run_user R me u) ∙ exp_parts y (through (ors b) u) v d l
     exp_parts x u v (in_argument p m y es u1 v1 d) l =
@@ -169,6 +177,7 @@ module _ {K : Keys} (own : Bool) (e : Exp K) where
   exp_returns x u v (in_sign p op y u1 v1 d) h = exp_returns y (through (signs op) u) v d h
   exp_returns x u v (in_cast p c y u1 v1 d) h = exp_returns y (through (casts_to c) u) v d h
   exp_returns x u v (in_left p op y b u1 v1 d) h = exp_returns y (through (operates op b) u) v d h
+  exp_returns x u v (in_right p op a y rs u1 v1 c apart d) h = exp_returns y (through (operates_behind op a) u) v d h
   exp_returns x u v (in_and p y b u1 v1 d) h = exp_returns y (through (ands b) u) v d h
   exp_returns x u v (in_or p y b u1 v1 d) h = exp_returns y (through (ors b) u) v d h
   exp_returns x u v (in_argument p m y es u1 v1 d) h = exp_returns y (through (hands m es) u) v d h

@@ -40,7 +40,7 @@ any_world W Z Q p q F G n m c d f = record {
   };
 }
 
-no_call : {E S R : Type 0} (W : List E → List E → Type 0) (Q : R → R → Type 0) (c d : S) → CallBoth 0 W no_calls Q c d
+pub no_call : {E S R : Type 0} (W : List E → List E → Type 0) (Q : R → R → Type 0) (c d : S) → CallBoth 0 W no_calls Q c d
 no_call W Q c d = record {
   forth = record { ended = λ t a h. absurd h; begun = λ t h. absurd h };
   back = record { ended = λ t a h. absurd h; begun = λ t h. absurd h };

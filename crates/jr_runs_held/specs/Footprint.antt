@@ -10,10 +10,12 @@ use Rattle.jr_runs.specs.Values.{Value, int, text, class_object}
 use Rattle.jr_runs.specs.Actions.{Location, part, shared, load, store, enter, Event}
 use Rattle.jr_runs.specs.Rows.{Rows}
 use Rattle.jr_runs.specs.Arithmetic.{is_zero}
+use Rattle.jr_runs.specs.Core as core
 use Rattle.jr_runs.specs.Core.{Arithmetic, add, subtract, multiply, divide, remainder, Comparison}
 use Rattle.jr_runs.specs.Core.{Operator, arithmetic, comparison, equal, different, Sign, Bump, Exp}
 use Rattle.jr_runs.specs.Core.{literal, this, read, assign, compound, bump, signed, binary, both}
-use Rattle.jr_runs.specs.Core.{either, Target, local, static_field, field_of}
+use Rattle.jr_runs.specs.Core.{either, cast, static_call, instance_call, super_call, create}
+use Rattle.jr_runs.specs.Core.{super_constructor, Target, local, static_field, field_of, Exps}
 use Rattle.jr_runs.specs.Reordering.{load_kind, store_kind}
 
 -- what is accessed: a field, or a monitor that is entered
@@ -98,6 +100,42 @@ pub data NeverNull {K : Keys} (own : Bool) : Exp K → Type 0 where
   never_this : (p : At K) → IsTrue own → NeverNull own (this p)
   never_text : (p : At K) (t : List ℕ) → NeverNull own (literal p (text t))
   never_class : (p : At K) (c : K.class) → NeverNull own (literal p (class_object c))
+
+-- ---- any code
+
+abbrev pub own_local : {K : Keys} → Target K → List ℕ
+own_local (local p n) = n ∷ []
+own_local (static_field p f) = []
+own_local (field_of p e f) = []
+
+-- the locals that an expression of any kind may write
+abbrev mutual
+  pub writes_in : {K : Keys} → Exp K → List ℕ
+  writes_in (literal p v) = []
+  writes_in (this p) = []
+  writes_in (read p t) = target_writes t
+  writes_in (assign p t e) = target_writes t ++ (writes_in e ++ own_local t)
+  writes_in (compound p op t e) = target_writes t ++ (writes_in e ++ own_local t)
+  writes_in (bump p op t) = target_writes t ++ own_local t
+  writes_in (signed p op e) = writes_in e
+  writes_in (binary p op a b) = writes_in a ++ writes_in b
+  writes_in (both p a b) = writes_in a ++ writes_in b
+  writes_in (either p a b) = writes_in a ++ writes_in b
+  writes_in (cast p c e) = writes_in e
+  writes_in (static_call p m es) = list_writes es
+  writes_in (instance_call p e m es) = writes_in e ++ list_writes es
+  writes_in (super_call p e m es) = writes_in e ++ list_writes es
+  writes_in (create p c k es) = list_writes es
+  writes_in (super_constructor p e k es) = writes_in e ++ list_writes es
+
+  pub target_writes : {K : Keys} → Target K → List ℕ
+  target_writes (local p n) = []
+  target_writes (static_field p f) = []
+  target_writes (field_of p e f) = writes_in e
+
+  pub list_writes : {K : Keys} → Exps K → List ℕ
+  list_writes core.Exps.end = []
+  list_writes (core.Exps.more e es) = writes_in e ++ list_writes es
 
 -- ---- which accesses may change places
 

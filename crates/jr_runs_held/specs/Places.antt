@@ -19,7 +19,7 @@ use Rattle.jr_runs.specs.Standing.{itself, Renumbering, Standing, In, IsFree}
 use Rattle.jr_runs.specs.Images.{Writable, behind_write, ExpTo, ExpsTo, BlockTo, NoSpot, StmtTo}
 use Rattle.jr_runs.specs.Images.{StmtsTo}
 use Rattle.jr_runs.specs.Pairs.{Returns, SomeReturns}
-use Rattle.jr_runs_held.specs.Footprint.{Access, enters, CalmTarget, Calm, NeverNull}
+use Rattle.jr_runs_held.specs.Footprint.{Access, enters, CalmTarget, Calm, NeverNull, writes_in}
 
 -- ---- what is done before
 
@@ -87,6 +87,8 @@ pub data Wrap (K : Keys) : Type 0 where
   signs : (op : Sign) → Wrap K
   casts_to : (class : K.class) → Wrap K
   operates : (op : Operator) (right : Exp K) → Wrap K
+  -- the left operand is silent, and does as well behind it
+  operates_behind : (op : Operator) (left : Exp K) → Wrap K
   ands : (right : Exp K) → Wrap K
   ors : (right : Exp K) → Wrap K
   -- the first argument of a static call
@@ -139,6 +141,8 @@ run_wrap R me (signs op) r = done (value (sign op r.0, r.1))
 run_wrap R me (casts_to c) r = done (with_locals r.1 (cast_value (is_instance R c r.0) r.0))
 run_wrap R me (operates op b) r = next (exp R me b r.1) (λ s.
     done (with_locals s.1 (operate R.same_class op r.0 s.0)))
+run_wrap R me (operates_behind op a) r = next (exp R me a r.1) (λ s.
+    done (with_locals s.1 (operate R.same_class op s.0 r.0)))
 run_wrap R me (ands b) r = on_truth r.0 (exp R me b r.1) (done (value (truth false, r.1)))
 run_wrap R me (ors b) r = on_truth r.0 (done (value (truth true, r.1))) (exp R me b r.1)
 run_wrap R me (hands m es) r = next (exps R me es r.1) (λ s.
@@ -164,7 +168,7 @@ run_sequels R me (leaves q e ∷ zs) p = run_sequels R me zs (leaving q (monitor
 
 -- ---- the place
 
--- The expression e is evaluated first in another one. If that one's value is used by the first
+-- The expression e is evaluated first in another one, but for silent operands before it. If that one's value is used by the first
 -- user, e's is by the second.
 pub data ExpPlace {K : Keys} (e : Exp K) : Exp K → User K → User K → Type 0 where
   at_once : (u : User K) → ExpPlace e e u u
@@ -181,6 +185,11 @@ pub data ExpPlace {K : Keys} (e : Exp K) : Exp K → User K → User K → Type 
   in_left : (p : At K) (op : Operator) (x b : Exp K) (u v : User K)
       → ExpPlace e x (through (operates op b) u) v
       → ExpPlace e (core.binary p op x b) u v
+  in_right : (p : At K) (op : Operator) (a x : Exp K) (reads : List ℕ) (u v : User K)
+      → Calm true a reads [] []
+      → ((i : ℕ) → In i reads → In i (writes_in x) → ⊥)
+      → ExpPlace e x (through (operates_behind op a) u) v
+      → ExpPlace e (core.binary p op a x) u v
   in_and : (p : At K) (x b : Exp K) (u v : User K) → ExpPlace e x (through (ands b) u) v
       → ExpPlace e (core.both p x b) u v
   in_or : (p : At K) (x b : Exp K) (u v : User K) → ExpPlace e x (through (ors b) u) v
@@ -290,6 +299,9 @@ pub data WrapTo {K : Keys} (r : KeyMap K) (R : Rows K) (s : Standing K)
       → WrapTo r R s A (casts_to c) (casts_to (r.class c)) A
   to_operates : (A B : NumberSet) (op : Operator) (b b' : Exp K) → ExpTo r R s.code A b b' B
       → WrapTo r R s A (operates op b) (operates op b') B
+  to_operates_behind : (A B : NumberSet) (op : Operator) (a a' : Exp K)
+      → ExpTo r R s.code A a a' B
+      → WrapTo r R s A (operates_behind op a) (operates_behind op a') B
   to_ands : (A B C : NumberSet) (b b' : Exp K) → ExpTo r R s.code A b b' B → Within C A
       → Within C B
       → WrapTo r R s A (ands b) (ands b') C
