@@ -168,7 +168,7 @@ start_comes = record {
   enters = λ o e j d. no_start_enters worker (truth false) o e;
   is_new = λ n e. none_made n e;
   is_not_first = λ n e f c. none_made n e;
-  starts = λ o v e. (λ i. tt, λ i. sym (ap answer_in e));
+  starts = λ o v e. ((λ i. tt), (λ i. sym (ap answer_in e)));
   was_started = λ o e. main_is_not_started o e;
 }
 
@@ -243,8 +243,8 @@ no_second_entry m =
 second_entry_behind_the_exit : (j : ℕ) → (j ≡ 1 → ⊥) → (n : ℕ) × Counts j (enter worker) (does 0 (exit worker) ∷ does 0 (enter worker) ∷ []) n × Counts j (exit worker) (does 0 (exit worker) ∷ does 0 (enter worker) ∷ []) n
 second_entry_behind_the_exit zero d = (
   1,
-  inr (λ i. no_enter i.1, inl (refl, refl, 0, refl, refl)),
-  inl (refl, refl, 0, refl, inr (λ i. no_exit i.1, refl)),
+  inr ((λ i. no_enter i.1), inl (refl, refl, 0, refl, refl)),
+  inl (refl, refl, 0, refl, inr ((λ i. no_exit i.1), refl)),
 )
   where
     no_enter : exit worker ≡ enter worker → ⊥
@@ -254,8 +254,8 @@ second_entry_behind_the_exit zero d = (
     no_exit e = cc
 second_entry_behind_the_exit (suc j) d = (
   0,
-  inr (λ i. other i.0, inr (λ i. other i.0, refl)),
-  inr (λ i. other i.0, inr (λ i. other i.0, refl)),
+  inr ((λ i. other i.0), inr ((λ i. other i.0), refl)),
+  inr ((λ i. other i.0), inr ((λ i. other i.0), refl)),
 )
   where
     other : 0 ≡ suc j → ⊥

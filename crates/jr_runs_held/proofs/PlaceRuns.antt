@@ -61,7 +61,7 @@ module _ {K : Keys} (R : Rows K) (me : Value K) where
 
   pub calm_all_come : (own : Bool) → (IsTrue own → me ≡ null → ⊥) → (bs : List (Piece K)) (rs ws : List ℕ) (xs : List (Access K)) → CalmPieces own bs rs ws xs → AllCome bs
   calm_all_come own some bs rs ws xs calm_none = tt
-  calm_all_come own some bs rs ws xs (calm_more b cs rs1 ws1 rs2 ws2 xs1 xs2 c d) = (λ l. any_come (Kept ws1 l) (run_piece R me b l) (calm_piece R me own some b rs1 ws1 xs1 c l).comes, calm_all_come own some cs rs2 ws2 xs2 d)
+  calm_all_come own some bs rs ws xs (calm_more b cs rs1 ws1 rs2 ws2 xs1 xs2 c d) = ((λ l. any_come (Kept ws1 l) (run_piece R me b l) (calm_piece R me own some b rs1 ws1 xs1 c l).comes), calm_all_come own some cs rs2 ws2 xs2 d)
 
   -- ---- pieces
 

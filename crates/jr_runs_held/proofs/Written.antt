@@ -142,8 +142,8 @@ module _ {K : Keys} (R : Rows K) (me : Value K) where
         (λ s g. of_non_null (Leaves (writes_in e ++ list_writes es) l) r.0 (call (construct k r.0 s.0) (λ a. done (constructed r.0 s.1 a))) (λ o. of_constructed (writes_in e ++ list_writes es) l s.1 r.0 (kept_on (writes_in e) (list_writes es) l r.1 s.1 h g) o)))
 
     target_kept : (t : Target K) (l : List (Value K)) → Results (OfValue (Slots t l)) (target R me t l)
-    target_kept (core.local p n) l = (λ i d. refl, refl)
-    target_kept (core.static_field p f) l = (λ i d. refl, refl)
+    target_kept (core.local p n) l = ((λ i d. refl), refl)
+    target_kept (core.static_field p f) l = ((λ i d. refl), refl)
     target_kept (core.field_of p e f) l = of_next (Leaves (writes_in e) l) (Slots (core.field_of p e f) l) (exp R me e l) (λ r. done (value (in_object p r.0 f, r.1))) (exp_kept e l) (λ r h. (h, refl))
 
     exps_kept : (es : Exps K) (l : List (Value K)) → Results (OfValue (LeavesAll (list_writes es) l)) (exps R me es l)

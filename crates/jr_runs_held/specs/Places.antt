@@ -168,8 +168,8 @@ run_sequels R me (leaves q e ∷ zs) p = run_sequels R me zs (leaving q (monitor
 
 -- ---- the place
 
--- The expression e is evaluated first in another one, but for silent operands before it. If that one's value is used by the first
--- user, e's is by the second.
+-- The expression e is evaluated first in another one, but for silent operands before it. If that
+-- one's value is used by the first user, e's is by the second.
 pub data ExpPlace {K : Keys} (e : Exp K) : Exp K → User K → User K → Type 0 where
   at_once : (u : User K) → ExpPlace e e u u
   in_value : (p : At K) (t : Target K) (ns : List ℕ) (fs : List K.field) (x : Exp K)
