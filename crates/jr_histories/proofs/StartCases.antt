@@ -233,7 +233,7 @@ no_second_entry m =
     let none : d.0 ≡ 0 = ⊎_elim (λ i. absurd (no_exit i.1)) (λ i. i.1) d.2 in
     zero_is_not_one (sym none ∙ one)
   where
-    zero_is_not_one : 0 ≡ 1 → ⊥
+    zero_is_not_one : ◌≡◌ {A = ℕ} 0 1 → ⊥
     zero_is_not_one e = cc
 
     no_exit : enter worker ≡ exit worker → ⊥

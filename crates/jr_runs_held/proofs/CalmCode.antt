@@ -95,7 +95,7 @@ module _ {K : Keys} (R : Rows K) where
 
   -- what is known of its values beside
   calm_and : {A : Type 0} (xs : List (Access K)) (Q P : A → Type 0) (p : Step K A) → Calmly R xs Q p → Results (OfValue P) p → Calmly R xs (λ a. Q a × P a) p
-  calm_and xs Q P p c h = record { finite = c.finite; comes = results_more (λ o. IsCame Q o × OfValue P o) (IsCame (λ a. Q a × P a)) go p (results_two (IsCame Q) (OfValue P) p c.comes h) }
+  calm_and {A = A} xs Q P p c h = record { finite = c.finite; comes = results_more (λ o. IsCame Q o × OfValue P o) (IsCame (λ a. Q a × P a)) go p (results_two (IsCame Q) (OfValue P) p c.comes h) }
     where
       go : (o : Out A) → IsCame Q o × OfValue P o → IsCame (λ a. Q a × P a) o
       go (value a) i = i

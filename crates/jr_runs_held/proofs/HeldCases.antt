@@ -224,7 +224,7 @@ place_of e = in_first (sync None None lock (put_g e)) core.Stmts.end (locked Non
 abbrev no_local : Standing J
 no_local = whole 0 (λ i. i)
 
-holds : HoldsPastCalm false same_keys rows 2 no_local everything (in_monitor load_f) with_t everything
+abbrev holds : HoldsPastCalm false same_keys rows 2 no_local everything (in_monitor load_f) with_t everything
 holds = record {
   e = load_f;
   e' = load_f;

@@ -142,10 +142,10 @@ pub record HoldsPastCalm {K : Keys} (own : Bool) (r : KeyMap K) (R : Rows K) (n 
 
 -- two pieces in turn, and what the second's value leads to
 turn_parts : {K : Keys} {A B C : Type 0} (p : Step K A) (f : A → Step K B) (k : B → Step K C) → and_then (in_turn p (on_value f)) (λ c. on_value k c.1) ≡ next p (λ a. next (f a) k)
-turn_parts {K = K} {A = A} {B = B} {C = C} p f k = and_then_assoc p (λ a. and_then (on_value f a) (λ b. done (a, b))) (λ c. on_value k c.1) ∙ (λ i. and_then p (λ a. (one a ∙ go a) i))
+turn_parts {K = K} {A = A} {B = B} {C = C} p f k = and_then_assoc {B = Out A × Out B} p (λ a. and_then (on_value f a) (λ b. done (a, b))) (λ c. on_value k c.1) ∙ (λ i. and_then p (λ a. (one a ∙ go a) i))
   where
-    one : (a : Out A) → and_then (and_then (on_value f a) (λ b. done (a, b))) (λ c. on_value k c.1) ≡ and_then (on_value f a) (on_value {K = K} {A = B} {B = C} k)
-    one a = and_then_assoc (on_value f a) (λ b. done (a, b)) (λ c. on_value k c.1)
+    one : (a : Out A) → and_then {A = Out A × Out B} (and_then {B = Out A × Out B} (on_value f a) (λ b. done (a, b))) (λ c. on_value k c.1) ≡ and_then (on_value f a) (on_value {K = K} {A = B} {B = C} k)
+    one a = and_then_assoc {B = Out A × Out B} (on_value f a) (λ b. done (a, b)) (λ c. on_value k c.1)
 
     go : (a : Out A) → and_then (on_value f a) (on_value k) ≡ on_value {K = K} {A = A} {B = C} (λ x. next (f x) k) a
     go (value x) = refl

@@ -12,7 +12,7 @@ use Rattle.jr_runs.specs.KeyMaps.{KeyMap, value_image}
 use Rattle.jr_runs.specs.Standing.{Self, itself, held, nobody, unused, SelfIn, SelfIs, Standing, Stands, In, Frame, Holding, Shifted}
 use Rattle.jr_runs.specs.Sets.{NumberSet, with_all}
 use Rattle.jr_runs.specs.Images.{ExpTo}
-use Rattle.jr_runs.proofs.Locals.{in_all, written, not_written}
+use Rattle.jr_runs.proofs.Locals.{in_all, written, not_written as elsewhere}
 use Rattle.jr_runs.specs.Pairs.{ResultRel}
 use Rattle.jr_runs.proofs.Numbers.{is_in, in_left, in_right, in_both, in_map, map_in}
 use Rattle.jr_runs.proofs.Matching.{Setting, Matches, match_next, match_value}
@@ -37,7 +37,7 @@ abbrev pub without : List ℕ → List ℕ → List ℕ
 without ws [] = []
 without ws (i ∷ is) = put_unless (is_in i ws) i (without ws is)
 
-left_in : (ws is : List ℕ) (i : ℕ) → In i (without ws is) → In i is × (In i ws → ⊥)
+pub left_in : (ws is : List ℕ) (i : ℕ) → In i (without ws is) → In i is × (In i ws → ⊥)
 left_in ws [] i h = absurd h
 left_in ws (j ∷ is) i h = go (is_in j ws) h (λ g. left_in ws is i g)
   where
@@ -45,7 +45,7 @@ left_in ws (j ∷ is) i h = go (is_in j ws) h (λ g. left_in ws is i g)
     go (inl a) g again = (inr (again g).0, (again g).1)
     go (inr b) g again = ⊎_elim (λ (e : i ≡ j). (inl e, λ w. b (subst (λ n. In n ws) e w))) (λ k. (inr (again k).0, (again k).1)) g
 
-still_in : (ws is : List ℕ) (i : ℕ) → In i is → (In i ws → ⊥) → In i (without ws is)
+pub still_in : (ws is : List ℕ) (i : ℕ) → In i is → (In i ws → ⊥) → In i (without ws is)
 still_in ws [] i h never = absurd h
 still_in ws (j ∷ is) i h never = go (is_in j ws) h (λ g. still_in ws is i g never)
   where
@@ -147,8 +147,8 @@ module _ {K : Keys} (g : Setting K) (s : Standing K) (stands : Stands s) (frame 
     -- writing it changes nothing of what is related
     kept_too : (m m' : List (Value K)) (v : Value K) → Shifted g.keys inner inner_frame B m m' → Shifted g.keys inner inner_frame B m (with_local m' n v)
     kept_too m m' v q = record {
-      moved = λ i a c. not_written m' n (s.code.at i) v (λ e. fresh i (left_in writes s.code.mine i a).0 e) ∙ q.moved i a c;
-      others = λ j o. not_written m' n j v (not_number j o) ∙ q.others j o;
+      moved = λ i a c. elsewhere m' n (s.code.at i) v (λ e. fresh i (left_in writes s.code.mine i a).0 e) ∙ q.moved i a c;
+      others = λ j o. elsewhere m' n j v (not_number j o) ∙ q.others j o;
       known = q.known;
     }
 

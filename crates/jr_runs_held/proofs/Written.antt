@@ -125,9 +125,9 @@ module _ {K : Keys} (R : Rows K) (me : Value K) where
         (λ r h. of_next (Leaves (writes_in b) r.1) (Leaves (writes_in a ++ writes_in b) l) (exp R me b r.1) (λ s. done (with_locals s.1 (operate R.same_class op r.0 s.0))) (exp_kept b r.1)
         (λ s g. of_locals (writes_in a ++ writes_in b) l s.1 (kept_on (writes_in a) (writes_in b) l r.1 s.1 h g) (operate R.same_class op r.0 s.0)))
     exp_kept (core.both p a b) l = of_next (Leaves (writes_in a) l) (Leaves (writes_in a ++ writes_in b) l) (exp R me a l) (λ r. on_truth r.0 (exp R me b r.1) (done (value (truth false, r.1)))) (exp_kept a l)
-        (λ r h. of_truth (Leaves (writes_in a ++ writes_in b) l) r.0 (exp R me b r.1) (done (value (truth false, r.1))) (second b (writes_in a) l r.1 h) (kept_first (writes_in a) (writes_in b) l r.1 h))
+        (λ r h. of_truth (Leaves (writes_in a ++ writes_in b) l) r.0 (exp R me b r.1) (done (value (truth false, r.1))) (results_more (OfValue (Leaves (writes_in b) r.1)) (OfValue (Leaves (writes_in a ++ writes_in b) l)) (on_left (writes_in a) (writes_in b) l r.1 h) (exp R me b r.1) (exp_kept b r.1)) (kept_first (writes_in a) (writes_in b) l r.1 h))
     exp_kept (core.either p a b) l = of_next (Leaves (writes_in a) l) (Leaves (writes_in a ++ writes_in b) l) (exp R me a l) (λ r. on_truth r.0 (done (value (truth true, r.1))) (exp R me b r.1)) (exp_kept a l)
-        (λ r h. of_truth (Leaves (writes_in a ++ writes_in b) l) r.0 (done (value (truth true, r.1))) (exp R me b r.1) (kept_first (writes_in a) (writes_in b) l r.1 h) (second b (writes_in a) l r.1 h))
+        (λ r h. of_truth (Leaves (writes_in a ++ writes_in b) l) r.0 (done (value (truth true, r.1))) (exp R me b r.1) (kept_first (writes_in a) (writes_in b) l r.1 h) (results_more (OfValue (Leaves (writes_in b) r.1)) (OfValue (Leaves (writes_in a ++ writes_in b) l)) (on_left (writes_in a) (writes_in b) l r.1 h) (exp R me b r.1) (exp_kept b r.1)))
     exp_kept (core.cast p c e) l = of_next (Leaves (writes_in e) l) (Leaves (writes_in e) l) (exp R me e l) (λ r. done (with_locals r.1 (cast_value (is_instance R c r.0) r.0))) (exp_kept e l) (λ r h. of_locals (writes_in e) l r.1 h (cast_value (is_instance R c r.0) r.0))
     exp_kept (core.static_call p m es) l = of_next (LeavesAll (list_writes es) l) (Leaves (list_writes es) l) (exps R me es l) (λ s. call (invoke m null s.0) (λ o. done (answer s.1 o))) (exps_kept es l) (λ s h o. of_answer (list_writes es) l s.1 h o)
     exp_kept (core.instance_call p e m es) l = of_next (Leaves (writes_in e) l) (Leaves (writes_in e ++ list_writes es) l) (exp R me e l) (λ r. next (exps R me es r.1) (λ s. on_class (class_of R r.0) (λ c. call (invoke (unwrap_or (R.dispatch c m) m) r.0 s.0) (λ o. done (answer s.1 o))))) (exp_kept e l)
@@ -151,9 +151,6 @@ module _ {K : Keys} (R : Rows K) (me : Value K) where
     exps_kept (core.Exps.more e es) l = of_next (Leaves (writes_in e) l) (LeavesAll (writes_in e ++ list_writes es) l) (exp R me e l) (λ r. next (exps R me es r.1) (λ s. done (value (r.0 ∷ s.0, s.1)))) (exp_kept e l)
         (λ r h. of_next (LeavesAll (list_writes es) r.1) (LeavesAll (writes_in e ++ list_writes es) l) (exps R me es r.1) (λ s. done (value (r.0 ∷ s.0, s.1))) (exps_kept es r.1)
         (λ s g. kept_on (writes_in e) (list_writes es) l r.1 s.1 h g))
-
-    second : (b : Exp K) (ws : List ℕ) (l m : List (Value K)) → Kept ws l m → Results (OfValue (Leaves (ws ++ writes_in b) l)) (exp R me b m)
-    second b ws l m h = results_more (OfValue (Leaves (writes_in b) m)) (OfValue (Leaves (ws ++ writes_in b) l)) (on_left ws (writes_in b) l m h) (exp R me b m) (exp_kept b m)
 
   -- a silent left operand comes to the same behind the right one, which leaves alone what it reads
   pub left_behind : (op : Operator) (a : Exp K) (rs : List ℕ) (silent : Silent R a rs) (x : Exp K) → ((i : ℕ) → In i rs → In i (writes_in x) → ⊥) → (l : List (Value K))
