@@ -3,8 +3,8 @@ use Rattle.std.specs.Prelude.{◌≡◌, ◌⊎◌, ℕ, zero, suc, Bool, true, 
 use Rattle.std.specs.Prelude.{None, unwrap_or, nat_eq}
 use Rattle.jr_runs.specs.Keys.{Keys}
 use Rattle.jr_runs.specs.Values.{Value, int, truth, null, text, class_object, object}
-use Rattle.jr_runs.specs.Actions.{FieldKind, Location, part, shared, Action, load, store, enter, exit}
-use Rattle.jr_runs.specs.Actions.{create, start, Trace}
+use Rattle.jr_runs.specs.Actions.{FieldKind, Location, part, shared, Action, load, store, enter}
+use Rattle.jr_runs.specs.Actions.{exit, create, start, Trace}
 use Rattle.jr_runs.specs.Rows.{Rows}
 use Rattle.jr_runs.specs.FirstValues.{First, gives, makes, default_of}
 use Rattle.jr_runs.specs.Fitting.{class_of}

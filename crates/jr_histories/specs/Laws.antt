@@ -5,7 +5,8 @@ use Rattle.jr_runs.specs.Values.{Value}
 use Rattle.jr_runs.specs.Rows.{Rows}
 use Rattle.jr_runs.specs.Core.{Program}
 use Rattle.jr_runs.specs.Running.{Start}
-use Rattle.jr_runs.specs.KeyMaps.{KeyMap, Undoes, value_image, type_image, action_image, start_image}
+use Rattle.jr_runs.specs.KeyMaps.{KeyMap, Undoes, value_image, type_image, action_image}
+use Rattle.jr_runs.specs.KeyMaps.{start_image}
 use Rattle.jr_runs.specs.Alike.{AlikeExactly, AlikeReordered}
 use Rattle.jr_runs.specs.FirstValues.{First, gives, makes}
 use Rattle.jr_histories.specs.Histories.{Thread, begins, started, Runs, Step}

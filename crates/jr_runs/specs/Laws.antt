@@ -1,5 +1,4 @@
 -- The laws on runs, at any types of keys.
-use Rattle.std.specs.Prelude.{◌≡◌}
 use Rattle.jr_runs.specs.Keys.{keys_of}
 use Rattle.jr_runs.specs.Actions.{Trace}
 use Rattle.jr_runs.specs.Core.{Program}
@@ -7,9 +6,8 @@ use Rattle.jr_runs.specs.Running.{Start, Ending, Whole}
 use Rattle.jr_runs.specs.Starting.{IsStart}
 use Rattle.jr_runs.specs.Typing.{WellTyped}
 use Rattle.jr_runs.specs.TypedRuns.{EndFits, CallsAreWellMade}
-use Rattle.jr_runs.specs.KeyMaps.{KeyMap, Undoes, same_keys}
-use Rattle.jr_runs.specs.Images.{Renamed, ProgramTo}
-use Rattle.jr_runs.specs.Held.{HoldsLocal}
+use Rattle.jr_runs.specs.KeyMaps.{KeyMap, Undoes}
+use Rattle.jr_runs.specs.Images.{Renamed}
 use Rattle.jr_runs.specs.Alike.{AlikeExactly}
 
 -- r has an inverse: it is one to one, and onto all keys.
@@ -28,14 +26,3 @@ EndsFit C F M N A =
     → IsStart P.rows c → (t : Trace (keys_of C F M N A)) (e : Ending (keys_of C F M N A))
     → Whole P c t e
     → EndFits P.rows c e
-
--- Q is P but for locals that hold what P evaluates where it needs it: extract local, where what is
--- extracted reads locals alone.
-abbrev pub HeldLocalsKeepRuns : (C F M N A : Type 0) → Type 0
-HeldLocalsKeepRuns C F M N A = (P Q : Program (keys_of C F M N A))
-    → ProgramTo same_keys (HoldsLocal same_keys P.rows) P Q → AlikeExactly same_keys P Q
-
--- The same from Q to P: inline local of such an initializer, its value cast or not where it is read.
-abbrev pub HeldLocalsGo : (C F M N A : Type 0) → Type 0
-HeldLocalsGo C F M N A = (P Q : Program (keys_of C F M N A)) → Q.rows ≡ P.rows
-    → ProgramTo same_keys (HoldsLocal same_keys P.rows) P Q → AlikeExactly same_keys Q P

@@ -1,8 +1,10 @@
 //! The laws on runs of programs, each the contract of a function that does nothing. `C`, `F`, `M`
 //! and `N` are the keys of classes, fields, methods and constructors, and `A` the places of nodes.
+ghost use Rattle.jr_runs.specs.Budgets.{FuelReadingsAgree};
+ghost use Rattle.jr_runs.specs.OldKeys.{ImagesByNames, KindsExtend, MapsExtend};
 ghost use Rattle.jr_runs.specs.Pieces.{PiecesChangePlaces, ReorderingsJoin};
 ghost use Rattle.jr_runs.specs.TypedImages.{TypedImagesAreAlike};
-ghost use Rattle.jr_runs.specs.Laws.{CallsAreMadeWell, EndsFit, HeldLocalsGo, HeldLocalsKeepRuns, RenamedProgramsAreAlike};
+ghost use Rattle.jr_runs.specs.Laws.{CallsAreMadeWell, EndsFit, RenamedProgramsAreAlike};
 
 /// A program and its image under a map of keys have the same runs, both ways, and bounded runs too.
 pub fn renamed_programs_are_alike<C, F, M, N, A>()
@@ -30,9 +32,21 @@ pub fn reorderings_join<C, F, M, N, A>()
     ensures pieces { PiecesChangePlaces C F M N A }
 {}
 
-/// Programs of which the one has a local for an expression that reads locals alone have the same
-/// runs, bounded ones too, wherever the local is read.
-pub fn held_locals_keep_runs<C, F, M, N, A>()
-    ensures made { HeldLocalsKeepRuns C F M N A }
-    ensures gone { HeldLocalsGo C F M N A }
+/// A program has the same whole and the same bounded runs, whether fuel is a depth or a budget of
+/// which each call, each constructor run and each turn of a loop takes a unit, and hands on the
+/// rest.
+pub fn fuel_readings_agree<C, F, M, N, A>()
+    ensures { FuelReadingsAgree C F M N A }
+{}
+
+/// A map that is one to one on a program's keys of one kind, `X`, is there one that is one to one
+/// on all keys. What it keeps of the program's keys, `B`, that one keeps of all.
+pub fn maps_of_old_keys_extend<X, B>()
+    ensures maps { MapsExtend X }
+    ensures kinds { KindsExtend X B }
+{}
+
+/// The image of a trace depends on the classes and fields alone that it names.
+pub fn images_go_by_names<C, F, M, N, A>()
+    ensures { ImagesByNames C F M N A }
 {}

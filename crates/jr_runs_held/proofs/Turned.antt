@@ -7,7 +7,7 @@ use Rattle.jr_runs.specs.Core.{Program}
 use Rattle.jr_runs.specs.Running.{Start, of_method, of_constructor, Ending, gave, gave_nothing, threw, Whole, Bounded}
 use Rattle.jr_runs.specs.Starting.{IsStart}
 use Rattle.jr_runs.specs.KeyMaps.{same_keys, value_image, location_image, action_image, trace_image, start_image, ending_image}
-use Rattle.jr_runs.specs.Alike.{Alike}
+use Rattle.jr_runs.specs.Alike.{Alike, AlikeExactly}
 
 module _ {K : Keys} where
   same_value : (v : Value K) → value_image same_keys v ≡ v
@@ -26,7 +26,7 @@ module _ {K : Keys} where
   same_location (part o f) = ap (λ v. part v f) (same_value o)
   same_location (shared f) = refl
 
-  same_action : (a : Action K) → action_image same_keys a ≡ a
+  pub same_action : (a : Action K) → action_image same_keys a ≡ a
   same_action (load k x v) = λ i. load k (same_location x i) (same_value v i)
   same_action (store k x v) = λ i. store k (same_location x i) (same_value v i)
   same_action (enter o) = ap enter (same_value o)
@@ -88,3 +88,18 @@ module _ {K : Keys} where
     where
       starts : (c : Start K) → IsStart Q.rows c → IsStart P.rows c
       starts c i = subst (λ R. IsStart R c) rows i
+
+-- the same runs
+other_way : {K : Keys} {P Q : Program K} → AlikeExactly same_keys P Q → Alike same_keys (λ u t. t ≡ u) 0 P Q
+other_way a = record {
+  injective_on_classes = a.injective_on_classes;
+  injective_on_fields = a.injective_on_fields;
+  keeps_kinds = a.keeps_kinds;
+  ended_of_new = λ c i t e w. let g = a.ended_of_new c i t e w in (g.0, g.1, g.2, g.3, sym g.4);
+  ended_of_old = λ c i u d w. let g = a.ended_of_old c i u d w in (g.0, g.1, sym g.2);
+  bounded_of_new = λ c i t b. let g = a.bounded_of_new c i t b in (g.0, g.1, g.2, g.3, g.4, sym g.5);
+  bounded_of_old = λ c i u b. let g = a.bounded_of_old c i u b in (g.0, g.1, g.2, g.3, g.4, sym g.5);
+}
+
+pub turned_exactly : {K : Keys} (P Q : Program K) → Q.rows ≡ P.rows → AlikeExactly same_keys P Q → AlikeExactly same_keys Q P
+turned_exactly P Q rows a = let t = turned (λ u t. t ≡ u) 0 P Q rows (other_way a) in t

@@ -2,22 +2,22 @@
 -- expression neither reads nor writes, and reads none that it writes. What the code reads agrees before
 -- the expression and behind it; what it writes agrees behind both.
 use Rattle.std.proofs.Common.{◌≡◌, ◌⊎◌, ℕ, IsTrue, List, [], ◌∷◌, ◌++◌, map, refl, sym, ap, ◌∙◌, subst, inl, inr, ⊎_elim}
-use Rattle.jr_plans.specs.Plan.{done, and_then}
-use Rattle.jr_plans.proofs.Finishing.{and_then_done}
+use Rattle.jr_plans.specs.Plan.{done}
 use Rattle.jr_runs.specs.Keys.{Keys}
 use Rattle.jr_runs.specs.Values.{Value}
-use Rattle.jr_runs.specs.Arithmetic.{Out, value, thrown}
+use Rattle.jr_runs.specs.Arithmetic.{value}
 use Rattle.jr_runs.specs.Core.{Exp}
-use Rattle.jr_runs.specs.Evaluation.{Step, on_value, next, local_at, exp}
+use Rattle.jr_runs.specs.Evaluation.{Step, next, local_at, with_local, exp}
 use Rattle.jr_runs.specs.KeyMaps.{KeyMap, value_image}
 use Rattle.jr_runs.specs.Standing.{Self, itself, held, nobody, unused, SelfIn, SelfIs, Standing, Stands, In, Frame, Holding, Shifted}
 use Rattle.jr_runs.specs.Sets.{NumberSet, with_all}
 use Rattle.jr_runs.specs.Images.{ExpTo}
-use Rattle.jr_runs.proofs.Locals.{in_all}
+use Rattle.jr_runs.proofs.Locals.{in_all, written, not_written as elsewhere}
 use Rattle.jr_runs.specs.Pairs.{ResultRel}
 use Rattle.jr_runs.proofs.Numbers.{is_in, in_left, in_right, in_both, in_map, map_in}
 use Rattle.jr_runs.proofs.Matching.{Setting, Matches, match_next, match_value}
 use Rattle.jr_runs.proofs.ImageExps.{exp_match}
+use Rattle.jr_runs_held.proofs.Steps.{next_id}
 
 -- what silent code makes of locals, in the old member and in the new one: it reads these, and writes those
 pub record Update {K : Keys} (r : KeyMap K) (s : Standing K) (reads writes : List ℕ) : Type 0 where
@@ -28,7 +28,7 @@ pub record Update {K : Keys} (r : KeyMap K) (s : Standing K) (reads writes : Lis
   pub old_same : (l m : List (Value K)) → ((i : ℕ) → In i reads → local_at m i ≡ local_at l i) → (i : ℕ) → In i writes → local_at (old m) i ≡ local_at (old l) i
   pub image : (l l' : List (Value K)) → ((i : ℕ) → In i reads → local_at l' (s.code.at i) ≡ value_image r (local_at l i)) → (i : ℕ) → In i writes → local_at (new l') (s.code.at i) ≡ value_image r (local_at (old l) i)
 
-abbrev put_unless : {A : Type 0} → A ⊎ (A → ⊥) → ℕ → List ℕ → List ℕ
+abbrev pub put_unless : {A : Type 0} → A ⊎ (A → ⊥) → ℕ → List ℕ → List ℕ
 put_unless (inl a) i is = is
 put_unless (inr b) i is = i ∷ is
 
@@ -37,7 +37,7 @@ abbrev pub without : List ℕ → List ℕ → List ℕ
 without ws [] = []
 without ws (i ∷ is) = put_unless (is_in i ws) i (without ws is)
 
-left_in : (ws is : List ℕ) (i : ℕ) → In i (without ws is) → In i is × (In i ws → ⊥)
+pub left_in : (ws is : List ℕ) (i : ℕ) → In i (without ws is) → In i is × (In i ws → ⊥)
 left_in ws [] i h = absurd h
 left_in ws (j ∷ is) i h = go (is_in j ws) h (λ g. left_in ws is i g)
   where
@@ -45,7 +45,7 @@ left_in ws (j ∷ is) i h = go (is_in j ws) h (λ g. left_in ws is i g)
     go (inl a) g again = (inr (again g).0, (again g).1)
     go (inr b) g again = ⊎_elim (λ (e : i ≡ j). (inl e, λ w. b (subst (λ n. In n ws) e w))) (λ k. (inr (again k).0, (again k).1)) g
 
-still_in : (ws is : List ℕ) (i : ℕ) → In i is → (In i ws → ⊥) → In i (without ws is)
+pub still_in : (ws is : List ℕ) (i : ℕ) → In i is → (In i ws → ⊥) → In i (without ws is)
 still_in ws [] i h never = absurd h
 still_in ws (j ∷ is) i h never = go (is_in j ws) h (λ g. still_in ws is i g never)
   where
@@ -60,13 +60,6 @@ past s reads writes = record {
   code = record { mine = without writes s.code.mine; at = s.code.at; self = s.code.self; classes = s.code.classes; known = reads ++ (writes ++ s.code.known); holds = []; casts = [] };
   others = map s.code.at writes ++ s.others;
 }
-
-next_id : {K : Keys} {A : Type 0} (p : Step K A) → next p (λ a. done (value a)) ≡ p
-next_id {K = K} {A = A} p = (λ i. and_then p (λ o. same_out o i)) ∙ and_then_done p
-  where
-    same_out : (o : Out A) → on_value {K = K} (λ a. done (value a)) o ≡ done o
-    same_out (value a) = refl
-    same_out (thrown f) = refl
 
 module _ {K : Keys} (g : Setting K) (s : Standing K) (stands : Stands s) (frame : Frame K) (me me' : Value K) (im : Holding g.old g.keys s.code frame me me')
     (reads writes : List ℕ) (own_writes : (i : ℕ) → In i writes → In i s.code.mine) (own_reads : (i : ℕ) → In i reads → In i s.code.mine) (unknown : (i : ℕ) → In i writes → In i s.code.known → ⊥)
@@ -142,6 +135,32 @@ module _ {K : Keys} (g : Setting K) (s : Standing K) (stands : Stands s) (frame 
       (match_next g (ResultRel g.keys inner inner_frame B) (ResultRel g.keys s frame (with_all B writes)) (exp g.old me e (u.old l)) (exp g.new me' e' l') (λ a. done (value a)) (λ r. done (value (r.0, u.new r.1)))
       (exp_match g inner inner_stands inner_frame me me' inner_holding A B e e' e_to (u.old l) l' inner_shifted)
       (λ a a' q. match_value g (ResultRel g.keys s frame (with_all B writes)) a (a'.0, u.new a'.1) (q.0, behind a.1 a'.1 q.1)))
+
+  -- The same where a further local n of the new code first keeps what the expression comes to, and holds it behind.
+  module _ (n : ℕ) (fresh : (i : ℕ) → In i s.code.mine → s.code.at i ≡ n → ⊥) (fresh_others : In n s.others → ⊥) where
+    not_image : In n (map s.code.at writes) → ⊥
+    not_image k = let d = map_in s.code.at n writes k in fresh d.0 (own_writes d.0 d.1) (sym d.2)
+
+    not_number : (j : ℕ) → In j inner.others → j ≡ n → ⊥
+    not_number j o e = ⊎_elim (λ k. not_image (subst (λ x. In x (map s.code.at writes)) e k)) (λ k. fresh_others (subst (λ x. In x s.others) e k)) (in_both j (map s.code.at writes) s.others o)
+
+    -- writing it changes nothing of what is related
+    kept_too : (m m' : List (Value K)) (v : Value K) → Shifted g.keys inner inner_frame B m m' → Shifted g.keys inner inner_frame B m (with_local m' n v)
+    kept_too m m' v q = record {
+      moved = λ i a c. elsewhere m' n (s.code.at i) v (λ e. fresh i (left_in writes s.code.mine i a).0 e) ∙ q.moved i a c;
+      others = λ j o. elsewhere m' n j v (not_number j o) ∙ q.others j o;
+      known = q.known;
+    }
+
+    abbrev pub keep : Value K × List (Value K) → Step K (Value K × List (Value K))
+    keep r = let m = u.new (with_local r.1 n r.0) in done (value (local_at m n, m))
+
+    pub past_and_held : Matches g (ResultRel g.keys s frame (with_all B writes)) (exp g.old me e (u.old l)) (next (exp g.new me' e' l') keep)
+    past_and_held = subst (λ p. Matches g (ResultRel g.keys s frame (with_all B writes)) p (next (exp g.new me' e' l') keep)) (next_id (exp g.old me e (u.old l)))
+        (match_next g (ResultRel g.keys inner inner_frame B) (ResultRel g.keys s frame (with_all B writes)) (exp g.old me e (u.old l)) (exp g.new me' e' l') (λ a. done (value a)) keep
+        (exp_match g inner inner_stands inner_frame me me' inner_holding A B e e' e_to (u.old l) l' inner_shifted)
+        (λ a a' q. let m = with_local a'.1 n a'.0 in
+        match_value g (ResultRel g.keys s frame (with_all B writes)) a (local_at (u.new m) n, u.new m) (u.new_stays m n not_image ∙ written a'.1 n a'.0 ∙ q.0, behind a.1 m (kept_too a.1 a'.1 a'.0 q.1))))
 
   -- ---- and the other way round: the old program has the expression first, and the new one the silent code
 

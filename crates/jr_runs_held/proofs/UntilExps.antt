@@ -14,7 +14,7 @@ use Rattle.jr_runs.specs.Sets.{NumberSet}
 use Rattle.jr_runs.specs.Standing.{Standing, Stands, Frame, Holding, Shifted}
 use Rattle.jr_runs.proofs.Locals.{shifted_less}
 use Rattle.jr_runs.specs.Images.{ExpTo}
-use Rattle.jr_runs.specs.Held.{ExpUntil, until_all, until_read, until_signed, until_cast, until_left, until_right, until_both, until_either, until_target, until_value, until_operand, until_added, until_bumped, until_static_call, until_called, until_given, until_created, TargetUntil, until_object, TargetBefore, before_local, before_static, before_object, ExpsUntil, until_first, until_later}
+use Rattle.jr_runs_held.specs.Held.{ExpUntil, until_all, until_read, until_signed, until_cast, until_left, until_right, until_both, until_either, until_target, until_value, until_operand, until_added, until_bumped, until_static_call, until_called, until_given, until_created, TargetUntil, until_object, TargetBefore, before_local, before_static, before_object, ExpsUntil, until_first, until_later}
 use Rattle.jr_runs.specs.Pairs.{OutRel, ImageOf, ResultRel, ListRel, SlotTo, local_slots, static_slots, object_slots, SlotRel}
 use Rattle.jr_runs.proofs.ImageValues.{sign_image, bumped_image, bump_value_image, calculate_rel, cast_rel, operate_rel, is_instance_image, is_new_image}
 use Rattle.jr_runs.proofs.Matching.{Setting, Matches, match_next, match_outcome, match_value, match_truth, match_answers, match_call, match_construct, match_weaker, with_rel}

@@ -2,10 +2,8 @@
 -- code reads the local: inline local of an initializer that reads locals alone, seen from the program
 -- without the local.
 use Rattle.std.proofs.Common.{◌≡◌, ◌⊎◌, ℕ, Some, List, [], ◌∷◌, ◌++◌, map, refl, sym, ap, ◌∙◌, subst, inl, inr, ⊎_elim}
-use Rattle.jr_plans.specs.Plan.{Plan, done, act, ask, call, and_then}
-use Rattle.jr_plans.specs.Finite.{Results}
+use Rattle.jr_plans.specs.Plan.{done, act}
 use Rattle.jr_plans.proofs.BothWays.{both_more}
-use Rattle.jr_plans.proofs.Finishing.{and_then_assoc}
 use Rattle.jr_plans.proofs.Resulting.{both_results}
 use Rattle.jr_runs.specs.Fitting.{is_instance}
 use Rattle.jr_runs.specs.Keys.{Keys, At}
@@ -13,14 +11,15 @@ use Rattle.jr_runs.specs.Values.{Value}
 use Rattle.jr_runs.specs.Arithmetic.{Out, value, thrown}
 use Rattle.jr_runs.specs.Core as core
 use Rattle.jr_runs.specs.Core.{Exp, Stmt, declare, Stmts}
-use Rattle.jr_runs.specs.Evaluation.{Flow, goes_on, returns, Step, on_value, next, local_at, with_local, unset, non_null, on_truth, leaving, cast_value, exp, on_flow, stmt, stmts}
+use Rattle.jr_runs.specs.Evaluation.{Flow, goes_on, returns, Step, next, local_at, with_local, unset, non_null, on_truth, leaving, cast_value, exp, on_flow, stmt, stmts}
 use Rattle.jr_runs.specs.KeyMaps.{value_image}
 use Rattle.jr_runs.specs.Standing.{Self, itself, held, nobody, unused, Standing, Stands, In, SelfIn, HeldIn, CastIn, Holds, AllHoldAs, Frame, SelfIs, AllHold, Holding, Shifted}
 use Rattle.jr_runs.specs.Sets.{NumberSet, with_one, with_all, Within}
 use Rattle.jr_runs.specs.Images.{Among, Spots, NoSpot, StmtTo}
 use Rattle.jr_runs.specs.Actions.{enter}
-use Rattle.jr_runs.specs.Held.{ExpUntil, Until, until_here, until_more, until_last, StmtUntil, last_declare, last_eval, last_return, last_branch, last_block, last_lock, last_sync, holding, HoldsLocal}
-use Rattle.jr_runs.proofs.UntilExps.{exp_until}
+use Rattle.jr_runs_held.specs.Held.{ExpUntil, Until, until_here, until_more, until_last, StmtUntil, last_declare, last_eval, last_return, last_branch, last_block, last_lock, last_sync, holding, HoldsLocal}
+use Rattle.jr_runs_held.proofs.Steps.{next_assoc, results_all}
+use Rattle.jr_runs_held.proofs.UntilExps.{exp_until}
 use Rattle.jr_runs.specs.Pairs.{OutRel, ResultRel, FlowRel, Returns, SomeReturns}
 use Rattle.jr_runs.proofs.Locals.{written, not_written, shifted_less, shifted_write}
 use Rattle.jr_runs.proofs.Numbers.{in_left, in_right, shifted_unset}
@@ -31,24 +30,11 @@ use Rattle.jr_runs.proofs.Kept.{kept_turns, kept_match}
 use Rattle.jr_runs.specs.Core.{Program}
 use Rattle.jr_runs.specs.KeyMaps.{Undoes, same_keys}
 use Rattle.jr_runs.specs.Images.{ProgramTo}
-use Rattle.jr_runs.specs.Alike.{Alike, AlikeExactly}
-use Rattle.jr_runs.proofs.Turned.{turned}
+use Rattle.jr_runs.specs.Alike.{AlikeExactly}
+use Rattle.jr_runs_held.proofs.Turned.{turned_exactly}
 use Rattle.jr_runs.proofs.ImagePrograms.{Changes, setting, turns_in, programs_match}
 use Rattle.jr_runs.proofs.Halves.{alike, starts_match}
 use Rattle.jr_runs.proofs.Renaming.{Mapped, mapped_joins, mapped_images}
-
-next_assoc : {K : Keys} {A B C : Type 0} (p : Step K A) (h : A → Step K B) (k : B → Step K C) → next (next p h) k ≡ next p (λ a. next (h a) k)
-next_assoc {K = K} {A = A} {C = C} p h k = and_then_assoc p (on_value h) (on_value k) ∙ (λ i. and_then p (λ o. same_out o i))
-  where
-    same_out : (o : Out A) → and_then (on_value h o) (on_value k) ≡ on_value {K = K} {B = C} (λ a. next (h a) k) o
-    same_out (value a) = refl
-    same_out (thrown f) = refl
-
-anything : {V E S R A : Type 0} (p : Plan V E S R A) → Results (λ a. Unit {0}) p
-anything (done a) = tt
-anything (act x p) = anything p
-anything (ask f t p) = λ v. anything (p v)
-anything (call c p) = λ r. anything (p r)
 
 module _ {K : Keys} (g : Setting K) (Spot : Spots K) (turns : TurnsAnswered g Spot) (s : Standing K) (stands : Stands s) (frame : Frame K) (me me' : Value K) (im : Holding g.old g.keys s.code frame me me')
     (A : NumberSet) (few many : Stmts K) (B : NumberSet) (x : HoldsLocal g.keys g.old s A few many B) where
@@ -260,7 +246,7 @@ module _ {K : Keys} (g : Setting K) (Spot : Spots K) (turns : TurnsAnswered g Sp
       subst (λ p. Matches g (ResultRel g.keys s frame x.between) p (exp g.new me' x.e' l')) (x.silent.comes me l) (exp_match g s stands frame me me' im A x.between x.e x.e' x.e_to l l' h) in
       let one : Matches g (λ a a'. One l a × ResultRel g.keys s frame x.between a a') (done (value (v, l))) (exp g.new me' x.e' l') =
       both_more g.more g.relation g.joins g.sides (λ a b. OutRel (ResultRel g.keys s frame x.between) a b × (a ≡ value (v, l)) × Unit {0}) (OutRel (λ a a'. One l a × ResultRel g.keys s frame x.between a a')) (done (value (v, l))) (exp g.new me' x.e' l') (only l)
-      (both_results g.more g.relation g.sides (OutRel (ResultRel g.keys s frame x.between)) (λ o. o ≡ value (v, l)) (λ o. Unit {0}) (done (value (v, l))) (exp g.new me' x.e' l') refl (anything (exp g.new me' x.e' l')) first) in
+      (both_results g.more g.relation g.sides (OutRel (ResultRel g.keys s frame x.between)) (λ o. o ≡ value (v, l)) (λ o. Unit {0}) (done (value (v, l))) (exp g.new me' x.e' l') refl (results_all (λ o. Unit {0}) (λ o. tt) (exp g.new me' x.e' l')) first) in
       subst (Matches g Q (stmts g.old me few l)) (sym (next_assoc (exp g.new me' x.e' l') d (λ f. on_flow f (λ m. stmts g.new me' x.rest m))))
       (match_next g (λ a a'. One l a × ResultRel g.keys s frame x.between a a') Q (done (value (v, l))) (exp g.new me' x.e' l') (λ r. stmts g.old me few r.1) k' one
       (λ a a' q. subst (λ m. Matches g Q (stmts g.old me few m) (k' a')) (sym q.0.1)
@@ -270,7 +256,7 @@ module _ {K : Keys} (g : Setting K) (Spot : Spots K) (turns : TurnsAnswered g Sp
   pub held_match : (l l' : List (Value K)) → Shifted g.keys s frame A l l' → Matches g (FlowRel g.keys (Shifted g.keys s frame B) (SomeReturns few)) (stmts g.old me few l) (stmts g.new me' many l')
   held_match l l' h = subst (λ b. Matches g (FlowRel g.keys (Shifted g.keys s frame B) (SomeReturns few)) (stmts g.old me few l) (stmts g.new me' b l')) (sym x.many_is) (declared_match l l' h)
 
-same_undoes : {K : Keys} → Undoes (same_keys {K = K}) same_keys
+pub same_undoes : {K : Keys} → Undoes (same_keys {K = K}) same_keys
 same_undoes = record { class = λ k. refl; field = λ k. refl; method = λ k. refl; constructor = λ k. refl }
 
 -- Programs of which the one has such locals, any number of them, have the same runs.
@@ -285,16 +271,4 @@ held_programs_are_alike {K = K} P Q to =
 
 -- and the other way round
 pub held_locals_go : {K : Keys} (P Q : Program K) → Q.rows ≡ P.rows → ProgramTo same_keys (HoldsLocal same_keys P.rows) P Q → AlikeExactly same_keys Q P
-held_locals_go {K = K} P Q rows to =
-    let a = turned (λ u t. t ≡ u) 0 P Q rows (more (held_programs_are_alike P Q to)) in a
-  where
-    more : {K : Keys} {P Q : Program K} → AlikeExactly same_keys P Q → Alike same_keys (λ u t. t ≡ u) 0 P Q
-    more a = record {
-      injective_on_classes = a.injective_on_classes;
-      injective_on_fields = a.injective_on_fields;
-      keeps_kinds = a.keeps_kinds;
-      ended_of_new = λ c i t e w. let g = a.ended_of_new c i t e w in (g.0, g.1, g.2, g.3, sym g.4);
-      ended_of_old = λ c i u d w. let g = a.ended_of_old c i u d w in (g.0, g.1, sym g.2);
-      bounded_of_new = λ c i t b. let g = a.bounded_of_new c i t b in (g.0, g.1, g.2, g.3, g.4, sym g.5);
-      bounded_of_old = λ c i u b. let g = a.bounded_of_old c i u b in (g.0, g.1, g.2, g.3, g.4, sym g.5);
-    }
+held_locals_go P Q rows to = turned_exactly P Q rows (held_programs_are_alike P Q to)

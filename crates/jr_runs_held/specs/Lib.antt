@@ -1,0 +1,4 @@
+pub mod Held
+pub mod Footprint
+pub mod Places
+pub mod Laws
