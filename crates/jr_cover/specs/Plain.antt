@@ -6,7 +6,7 @@ use Rattle.jr_runs.specs.Keys.{Keys, keys_of}
 use Rattle.jr_runs.specs.Rows.{Rows}
 use Rattle.jr_runs.specs.Arithmetic.{wrapped, is_zero}
 use Rattle.jr_cover.specs.Translation.{exp_code}
-use Rattle.jr_runs.specs.Held.{Silent}
+use Rattle.jr_runs_held.specs.Held.{Silent}
 use Rattle.jr_cover.specs.Ways.{sites_of}
 use Rattle.jr_cover.specs.Sites.{
   What,
