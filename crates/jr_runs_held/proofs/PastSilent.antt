@@ -97,6 +97,14 @@ module _ {K : Keys} (g : Setting K) (s : Standing K) (stands : Stands s) (frame 
     image = λ l l' h i w. (matched g (Shifted g.keys (bare s x.self) no_frame x.behind) (run_pieces g.old me bs l) (run_pieces g.new me' bs' l') (old_run l).first (new_run l').first (old_run l).comes (new_run l').comes (bare_match l l' h)).moved i (x.own_writes i w) (x.gives i w);
   }
 
+  old_update : (l : List (Value K)) → run_pieces g.old me bs l ≡ done (value (silent_update.old l))
+  unfolding silent_update
+  old_update l = (old_run l).comes
+
+  new_update : (l : List (Value K)) → run_pieces g.new me' bs' l ≡ done (value (silent_update.new l))
+  unfolding silent_update
+  new_update l = (new_run l).comes
+
 -- A, B: which locals agree before both lists, and behind them
 pub record HoldsPastSilent {K : Keys} (r : KeyMap K) (R : Rows K) (s : Standing K) (A : NumberSet) (few many : Stmts K) (B : NumberSet) : Type 0 where
   pub e : Exp K
@@ -145,11 +153,11 @@ module _ {K : Keys} (g : Setting K) (Spot : Spots K) (turns : TurnsAnswered g Sp
 
   old_is : (l : List (Value K)) → stmts g.old me few l ≡ next (exp g.old me x.e (update.old l)) on
   old_is l = list_parts g.old me true x.e few x.pieces x.user x.sequels x.here (λ h. absurd (x.unlocked h)) l
-      ∙ ap (λ p. next p (λ m. next (exp g.old me x.e m) on)) (old_run g s stands frame me me' im x.pieces x.pieces' x.reads x.writes x.silent l).comes
+      ∙ ap (λ p. next p (λ m. next (exp g.old me x.e m) on)) (old_update g s stands frame me me' im x.pieces x.pieces' x.reads x.writes x.silent l)
 
   rest_is : (m : List (Value K)) → stmts g.new me' x.rest m ≡ on' (local_at (update.new m) x.number, update.new m)
   rest_is m = list_parts g.new me' true (read x.read_at (local x.name_at x.number)) x.rest x.pieces' x.user' x.sequels' x.there (λ h. absurd (x.unlocked' h)) m
-      ∙ ap (λ p. next p (λ o. next (exp g.new me' (read x.read_at (local x.name_at x.number)) o) on')) (new_run g s stands frame me me' im x.pieces x.pieces' x.reads x.writes x.silent m).comes
+      ∙ ap (λ p. next p (λ o. next (exp g.new me' (read x.read_at (local x.name_at x.number)) o) on')) (new_update g s stands frame me me' im x.pieces x.pieces' x.reads x.writes x.silent m)
 
   module _ (l l' : List (Value K)) (h : Shifted g.keys s frame A l l') where
     abbrev kept : Value K × List (Value K) → Step K (Value K × List (Value K))
