@@ -299,7 +299,13 @@ moved : ProgramTo same_keys (HoldsGo (one_method (in_monitor load_f)) 2) (one_me
 moved = record {
   rows = same_rows;
   methods = λ m h. record {
-    size = 0; at = λ i. i; injective = λ i j a b e. e; params = refl; params_below = omega arith; params_stay = λ i h. refl; behind = everything;
+    size = 0;
+    at = λ i. i;
+    injective = λ i j a b e. e;
+    params = refl;
+    params_below = omega arith;
+    params_stay = λ i h. refl;
+    behind = everything;
     body = to_spot everything everything (in_monitor load_f) with_t (holds, load_passes);
   };
   constructors = λ k h. no_truth h;

@@ -129,7 +129,7 @@ module _ {K : Keys} (R : Rows K) (me : Value K) where
         let cons : Value K × List (Value K) → Step K (List (Value K) × List (Value K)) = λ r. next (exps R me es r.1) (λ s. done (value (r.0 ∷ s.0, s.1))) in
         let called : List (Value K) × List (Value K) → Step K (Value K × List (Value K)) = λ s. call (invoke m null s.0) (λ o. done (answer s.1 o)) in
         let one : next (next (exp R me y l) cons) called ≡ next (exp R me y l) (run_wrap R me (hands m es)) =
-            next_assoc (exp R me y l) cons called ∙ (λ i. next (exp R me y l) (λ r. next_assoc (exps R me es r.1) (λ s. done (value (r.0 ∷ s.0, s.1))) called i)) in
+        next_assoc (exp R me y l) cons called ∙ (λ i. next (exp R me y l) (λ r. next_assoc (exps R me es r.1) (λ s. done (value (r.0 ∷ s.0, s.1))) called i)) in
         ap (λ p. next p (run_user R me u)) one ∙ next_assoc (exp R me y l) (run_wrap R me (hands m es)) (run_user R me u) ∙ exp_parts y (through (hands m es) u) v d l
 
     mutual
@@ -157,9 +157,9 @@ module _ {K : Keys} (R : Rows K) (me : Value K) where
           let entered : Value K × List (Value K) → Step K (List (Value K)) = λ r. act (placed p (enter r.0)) (done (value r.1)) in
           let whole : Step K (Flow K) → Step K (Flow K) = λ s. act (placed p (enter o)) s in
           let inner : leaving q o (stmts R me c l) ≡ next (run_pieces R me cs l) (λ m. next (exp R me e m) (then_on v (ys ++ (leaves q x ∷ [])))) =
-              ap (leaving q o) (list_parts c cs v ys d (λ h. (g.0, g.1.1, g.2)) l)
-              ∙ leaving_next q o (run_pieces R me cs l) k (pieces_come cs g.1.1 l)
-              ∙ (λ i. next (run_pieces R me cs l) (λ m. (leaving_next q o (exp R me e m) (then_on v ys) (g.2 m) ∙ (λ j. next (exp R me e m) (λ r. sym (sequels_append ys (leaves q x ∷ []) (run_user R me v r)) j))) i)) in
+          ap (leaving q o) (list_parts c cs v ys d (λ h. (g.0, g.1.1, g.2)) l)
+          ∙ leaving_next q o (run_pieces R me cs l) k (pieces_come cs g.1.1 l)
+          ∙ (λ i. next (run_pieces R me cs l) (λ m. (leaving_next q o (exp R me e m) (then_on v ys) (g.2 m) ∙ (λ j. next (exp R me e m) (λ r. sym (sequels_append ys (leaves q x ∷ []) (run_user R me v r)) j))) i)) in
           ap (λ s. next s lock) (never_value R me own x nn l) ∙ never_stops R me own x nn g.0 (whole (leaving q o (stmts R me c l))) ∙ ap whole inner
           ∙ ap (λ s. next (next (next s entered) (λ m. run_pieces R me cs m)) (λ m. next (exp R me e m) (then_on v (ys ++ (leaves q x ∷ []))))) (sym (never_value R me own x nn l))
 
