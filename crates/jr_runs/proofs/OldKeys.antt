@@ -6,7 +6,7 @@ use Rattle.jr_runs.specs.Values.{Value, int, truth, null, text, class_object, ob
 use Rattle.jr_runs.specs.Actions.{Location, part, shared, Action, load, store, enter, exit, create, start, Trace}
 use Rattle.jr_runs.specs.KeyMaps.{KeyMap, value_image, location_image, action_image, trace_image}
 use Rattle.jr_runs.specs.Images.{Among}
-use Rattle.jr_runs.specs.OldKeys.{AreTold, OneToOneOn, Extends, MapsExtend, KindsExtend, ValueWithin, LocationWithin, ActionWithin, TraceWithin, AgreesOn}
+use Rattle.jr_runs.specs.OldKeys.{AreTold, OneToOneOn, Extends, ValueWithin, LocationWithin, ActionWithin, TraceWithin, AgreesOn}
 
 module _ {X : Type 0} where
   abbrev chosen : (a b x : X) → (x ≡ a) ⊎ (x ≡ a → ⊥) → (x ≡ b) ⊎ (x ≡ b → ⊥) → X

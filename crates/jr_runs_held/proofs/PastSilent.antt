@@ -1,13 +1,13 @@
 -- A local holds an expression of any kind, which goes past silent pieces to its place: behind statements, in blocks, in a
 -- declaration, an `if`, a `return` or a lock. `past_match` reads from the program without the local to the one with it, and by
 -- `Turned` the other way round.
-use Rattle.std.proofs.Common.{◌≡◌, ◌⊎◌, ℕ, true, List, [], ◌∷◌, map, IsTrue, refl, sym, ap, ◌∙◌, subst, inl, inr, ⊎_elim}
+use Rattle.std.proofs.Common.{◌≡◌, ◌⊎◌, ℕ, true, List, [], map, IsTrue, refl, sym, ap, ◌∙◌, subst, inr, ⊎_elim}
 use Rattle.jr_plans.specs.Plan.{done}
 use Rattle.jr_plans.specs.Reach.{Ends}
 use Rattle.jr_runs.specs.Keys.{Keys, At}
 use Rattle.jr_runs.specs.Values.{Value}
 use Rattle.jr_runs.specs.Rows.{Rows}
-use Rattle.jr_runs.specs.Arithmetic.{Out, value}
+use Rattle.jr_runs.specs.Arithmetic.{value}
 use Rattle.jr_runs.specs.Core as core
 use Rattle.jr_runs.specs.Core.{Exp, read, local, declare, Stmts, Program}
 use Rattle.jr_runs.specs.Evaluation.{Flow, goes_on, Step, next, local_at, with_local, exp, on_flow, stmts}
@@ -25,7 +25,7 @@ use Rattle.jr_runs.proofs.Renaming.{Mapped, mapped_joins, mapped_images}
 use Rattle.jr_runs_held.specs.Places.{Piece, run_pieces, CalmPieces, PiecesTo, User, Sequel, UserReturns, SequelsReturn, ListPlace, UserTo, SequelsTo}
 use Rattle.jr_runs_held.proofs.Steps.{next_assoc, one_value}
 use Rattle.jr_runs_held.proofs.SilentCode.{PieceTwins, piece_twins}
-use Rattle.jr_runs_held.proofs.PlaceRuns.{LeavesIn, then_on, Parted, list_parts, list_returns}
+use Rattle.jr_runs_held.proofs.PlaceRuns.{LeavesIn, then_on, list_parts, list_returns}
 use Rattle.jr_runs_held.proofs.PlaceMatch.{pieces_match, later_match}
 use Rattle.jr_runs_held.proofs.WildSilent.{Update, past, past_and_held}
 use Rattle.jr_runs_held.proofs.HeldLocal.{same_undoes}

@@ -3,7 +3,7 @@
 use Rattle.std.proofs.Common.{◌≡◌, ◌⊎◌, ℕ, Bool, true, IsTrue, List, [], ◌∷◌, ◌++◌, refl, sym, ap, ◌∙◌, inl, inr, ⊎_elim}
 use Rattle.jr_plans.specs.Plan.{done, act, call}
 use Rattle.jr_plans.specs.Finite.{Results}
-use Rattle.jr_runs.specs.Keys.{Keys, At}
+use Rattle.jr_runs.specs.Keys.{Keys}
 use Rattle.jr_runs.specs.Values.{Value, null}
 use Rattle.jr_runs.specs.Actions.{enter, placed}
 use Rattle.jr_runs.specs.Rows.{Rows}
@@ -12,10 +12,10 @@ use Rattle.jr_runs.specs.Core as core
 use Rattle.jr_runs.specs.Core.{Exp, Stmt, Stmts}
 use Rattle.jr_runs.specs.Evaluation.{Flow, goes_on, invoke, Step, next, non_null, Slot, store_to, with_locals, answer, with_local, unset, leaving, exp, exps, on_flow, stmt, stmts}
 use Rattle.jr_runs.specs.Pairs.{Returns, SomeReturns}
-use Rattle.jr_runs_held.specs.Footprint.{Access, NeverNull}
-use Rattle.jr_runs_held.specs.Places.{Piece, declared, evaluated, opened, locked, run_piece, run_pieces, CalmPiece, CalmPieces, calm_none, calm_more, InPieces, one_declared, one_evaluated, one_empty, in_a_block, AllInPieces, no_more_pieces, more_pieces, Wrap, assigns, signs, casts_to, operates, operates_behind, ands, ors, hands, User, through, declares, evaluates, gives, chooses, locks, Sequel, follows, leaves, monitor_of, run_wrap, run_user, run_sequels, ExpPlace, at_once, in_value, in_sign, in_cast, in_left, in_right, in_and, in_or, in_argument, ListPlace, in_first, behind_pieces, StmtPlace, in_declare, in_eval, in_return, in_condition, in_lock, in_block, in_sync, UserReturns, SequelsReturn}
+use Rattle.jr_runs_held.specs.Footprint.{Access}
+use Rattle.jr_runs_held.specs.Places.{Piece, declared, evaluated, run_piece, run_pieces, CalmPieces, calm_none, calm_more, InPieces, one_declared, one_evaluated, one_empty, in_a_block, AllInPieces, no_more_pieces, more_pieces, assigns, signs, casts_to, operates, operates_behind, ands, ors, hands, User, through, declares, evaluates, gives, chooses, locks, Sequel, follows, leaves, monitor_of, run_wrap, run_user, run_sequels, ExpPlace, at_once, in_value, in_sign, in_cast, in_left, in_right, in_and, in_or, in_argument, ListPlace, in_first, behind_pieces, StmtPlace, in_declare, in_eval, in_return, in_condition, in_lock, in_block, in_sync, UserReturns, SequelsReturn}
 use Rattle.jr_runs_held.proofs.Steps.{next_assoc, results_more, IsCame, came_next, leaving_next, plain_target, never_value, never_stops}
-use Rattle.jr_runs_held.proofs.CalmCode.{Calmly, Kept, calm_piece}
+use Rattle.jr_runs_held.proofs.CalmCode.{Kept, calm_piece}
 use Rattle.jr_runs_held.proofs.SilentCode.{silent_is}
 use Rattle.jr_runs_held.proofs.Written.{left_behind}
 

@@ -11,7 +11,7 @@ use Rattle.jr_runs.specs.Fitting.{class_of, is_instance}
 use Rattle.jr_runs.specs.Arithmetic.{Out, value, thrown, calculate, number_of, operate, sign, bumped, bump_value}
 use Rattle.jr_runs.specs.Core as core
 use Rattle.jr_runs.specs.Core.{Operator, Exp, Target, Exps}
-use Rattle.jr_runs.specs.Evaluation.{Flow, goes_on, returns, invoke, construct, Step, on_value, next, local_at, with_local, Slot, in_local, in_static, in_object, load_from, store_to, store_field, non_null, on_truth, on_class, with_locals, cast_value, answer, constructed, exp, target, exps}
+use Rattle.jr_runs.specs.Evaluation.{Flow, goes_on, returns, invoke, construct, Step, on_value, next, Slot, in_local, in_static, in_object, load_from, store_to, store_field, non_null, on_truth, on_class, with_locals, cast_value, answer, constructed, exp, target, exps}
 use Rattle.jr_runs.specs.Standing.{In}
 use Rattle.jr_runs.proofs.Locals.{not_written}
 use Rattle.jr_runs_held.specs.Held.{Silent}
