@@ -1,6 +1,6 @@
 -- `static int f; static int main(Thread t) { t.start(); return f; }`, and a thread whose `run` is `f = 1;`: a history in which the
 -- thread is started, writes, and is read. And a monitor that is entered while another thread is in it, in no history.
-use Rattle.std.proofs.Common.{◌≡◌, ◌⊎◌, ℕ, zero, suc, Bool, true, false, List, [], ◌∷◌, Some, None, pos, refl, sym, ap, ◌∙◌, subst, inl, inr, ⊎_elim, arith}
+use Rattle.std.proofs.Common.{◌≡◌, ◌⊎◌, ℕ, zero, suc, false, List, [], ◌∷◌, Some, None, pos, refl, sym, ap, ◌∙◌, subst, inl, inr, ⊎_elim}
 use Rattle.jr_plans.specs.Swaps.{same}
 use Rattle.jr_runs.specs.Values.{Value, int, truth, null, object}
 use Rattle.jr_runs.specs.Actions.{FieldKind, plain, Location, shared, Action, load, store, enter, exit, create, start, Trace}

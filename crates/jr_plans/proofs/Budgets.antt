@@ -139,8 +139,7 @@ afford_on : {V E A B : Type 0} (t : List E) (e : End A) (vs : List V) (F : List 
     → (next : A → List V → Outcome V E B) (later : A → List V → ℕ → BudgetRun V E B) → ((a : A) (ws : List V) → Affordable (next a ws) (λ more m. later a (ws ++ more) m))
     → Affordable (goes_on t e vs next) (λ more m. budget_on (F more m).trace (F more m).end (F more m).left (F more m).fuel later)
 afford_on t (ended a) vs F k h next later g =
-    let d = g a vs in
-    (
+    let d = g a vs in (
       k + d.0,
       λ more. afford_behind more t (next a vs).trace (next a vs).end (next a vs).left (λ m. later a (vs ++ more) m) (λ m. budget_on (F more m).trace (F more m).end (F more m).left (F more m).fuel later) k d.0
           (λ m j i. ap (λ o. budget_on o.trace o.end o.left o.fuel later) (h more m (d.0 + j) (omega (arith, i)))) (d.1 more),

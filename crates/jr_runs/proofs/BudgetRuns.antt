@@ -1,5 +1,5 @@
 -- A program has the same runs, whether fuel is a depth or a budget.
-use Rattle.std.proofs.Common.{◌≡◌, List, [], ◌++◌, refl, sym, ap, ◌∙◌, subst, append_assoc, append-nil}
+use Rattle.std.proofs.Common.{◌≡◌, List, [], ◌++◌, sym, ap, ◌∙◌, subst, append_assoc, append-nil}
 use Rattle.jr_plans.specs.Run.{End, ended, cut, ill_typed, Outcome, Keeps, Grows}
 use Rattle.jr_plans.specs.Budget.{FuelReadingsAgree, without_fuel}
 use Rattle.jr_plans.proofs.Budgets.{fuel_readings_agree}
@@ -9,8 +9,8 @@ use Rattle.jr_runs.specs.Actions.{Event, Trace}
 use Rattle.jr_runs.specs.Arithmetic.{Out}
 use Rattle.jr_runs.specs.Core.{Program}
 use Rattle.jr_runs.specs.Evaluation.{Flow, Call, table}
-use Rattle.jr_runs.specs.Running.{Start, call_of, plain_run, actions_of, Ending, Whole, Bounded}
-use Rattle.jr_runs.specs.Budgets.{budget_run_of, WholeByBudget, BoundedByBudget, SameByBudget}
+use Rattle.jr_runs.specs.Running.{Start, call_of, plain_run, actions_of}
+use Rattle.jr_runs.specs.Budgets.{budget_run_of, SameByBudget}
 use Rattle.jr_runs.proofs.Halves.{actions_append}
 
 -- a longer run begins with the shorter one's trace

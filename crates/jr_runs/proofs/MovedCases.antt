@@ -5,7 +5,7 @@ use Rattle.jr_plans.specs.Run.{End, ended}
 use Rattle.jr_runs.specs.Values.{Value, null, truth, text}
 use Rattle.jr_runs.specs.Actions.{plain, volatile, shared, Action, load, store, enter, exit, Trace}
 use Rattle.jr_runs.specs.Core as core
-use Rattle.jr_runs.specs.Core.{add, less, comparison, Exp, literal, read, assign, binary, static_call, Target, local, static_field, Stmt, declare, eval, branch, loop, return, return_nothing, block, sync, empty, written}
+use Rattle.jr_runs.specs.Core.{add, less, comparison, Exp, literal, read, assign, binary, static_call, local, static_field, Stmt, declare, eval, branch, loop, return, return_nothing, block, sync, empty, written}
 use Rattle.jr_runs.specs.Running.{of_method, Ending, gave, gave_nothing}
 use Rattle.jr_runs.proofs.Sample.{K, program, code, listed, shown, number, num, var, calc, args_of}
 

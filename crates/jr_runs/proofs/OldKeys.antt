@@ -6,7 +6,7 @@ use Rattle.jr_runs.specs.Values.{Value, int, truth, null, text, class_object, ob
 use Rattle.jr_runs.specs.Actions.{Location, part, shared, Action, load, store, enter, exit, create, start, Trace}
 use Rattle.jr_runs.specs.KeyMaps.{KeyMap, value_image, location_image, action_image, trace_image}
 use Rattle.jr_runs.specs.Images.{Among}
-use Rattle.jr_runs.specs.OldKeys.{AreTold, OneToOneOn, Extends, MapsExtend, KindsExtend, ValueWithin, LocationWithin, ActionWithin, TraceWithin, AgreesOn}
+use Rattle.jr_runs.specs.OldKeys.{AreTold, OneToOneOn, Extends, ValueWithin, LocationWithin, ActionWithin, TraceWithin, AgreesOn}
 
 module _ {X : Type 0} where
   abbrev chosen : (a b x : X) → (x ≡ a) ⊎ (x ≡ a → ⊥) → (x ≡ b) ⊎ (x ≡ b → ⊥) → X
@@ -46,8 +46,8 @@ module _ {X : Type 0} where
     twice a b x = ⊎_elim
         (λ (p : x ≡ a). subst (λ y. exchange a b (exchange a b y) ≡ y) (sym p) (ap (exchange a b) (at_first a b) ∙ at_second a b))
         (λ (i : x ≡ a → ⊥). ⊎_elim
-            (λ (p : x ≡ b). subst (λ y. exchange a b (exchange a b y) ≡ y) (sym p) (ap (exchange a b) (at_second a b) ∙ at_first a b))
-            (λ (j : x ≡ b → ⊥). ap (exchange a b) (elsewhere a b x i j) ∙ elsewhere a b x i j) (told x b)) (told x a)
+        (λ (p : x ≡ b). subst (λ y. exchange a b (exchange a b y) ≡ y) (sym p) (ap (exchange a b) (at_second a b) ∙ at_first a b))
+        (λ (j : x ≡ b → ⊥). ap (exchange a b) (elsewhere a b x i j) ∙ elsewhere a b x i j) (told x b)) (told x a)
 
     pub maps_extend : (xs : List X) (f : X → X) → OneToOneOn xs f → Extends xs f
     maps_extend [] f one = record { to = λ x. x; from = λ x. x; back = λ x. refl; there = λ x. refl; agrees = λ x i. absurd i }
@@ -61,8 +61,8 @@ module _ {X : Type 0} where
           there = λ y. ap (exchange (e.to x) (f x)) (e.there (exchange (e.to x) (f x) y)) ∙ twice (e.to x) (f x) y;
           agrees = λ y m. ⊎_elim (same y)
               (λ (i : Among y xs). ⊎_elim (same y)
-                  (λ (d : y ≡ x → ⊥). elsewhere (e.to x) (f x) (e.to y) (λ q. d (sym (e.back y) ∙ ap e.from q ∙ e.back x)) (λ q. d (one y x (inr i) (inl refl) (sym (e.agrees y i) ∙ q))) ∙ e.agrees y i)
-                  (told y x)) m;
+              (λ (d : y ≡ x → ⊥). elsewhere (e.to x) (f x) (e.to y) (λ q. d (sym (e.back y) ∙ ap e.from q ∙ e.back x)) (λ q. d (one y x (inr i) (inl refl) (sym (e.agrees y i) ∙ q))) ∙ e.agrees y i)
+              (told y x)) m;
         }
 
     is_among : (x : X) (xs : List X) → Among x xs ⊎ (Among x xs → ⊥)
@@ -78,9 +78,9 @@ module _ {X : Type 0} where
     kinds_extend xs f e old new d kept none none' x = ⊎_elim
         (λ (i : Among x xs). ap new (e.agrees x i) ∙ kept x i)
         (λ (g : Among x xs → ⊥). none' (e.to x) (λ h.
-            let o = image_of f (e.to x) xs h in
-            let same : x ≡ o.0 = sym (e.back x) ∙ ap e.from (o.2 ∙ sym (e.agrees o.0 o.1)) ∙ e.back o.0 in
-            g (subst (λ y. Among y xs) (sym same) o.1)) ∙ sym (none x g))
+        let o = image_of f (e.to x) xs h in
+        let same : x ≡ o.0 = sym (e.back x) ∙ ap e.from (o.2 ∙ sym (e.agrees o.0 o.1)) ∙ e.back o.0 in
+        g (subst (λ y. Among y xs) (sym same) o.1)) ∙ sym (none x g))
         (is_among x xs)
 
 module _ {K : Keys} (cs : List K.class) (fs : List K.field) (r s : KeyMap K) (a : AgreesOn cs fs r s) where

@@ -1,8 +1,8 @@
 -- Calm code comes to a value by at most as many actions as it has accesses, each made by one of these, whatever the answers
 -- are, and leaves alone what it doesn't write. By induction on the footprint, each node by its parts.
-use Rattle.std.proofs.Common.{◌≡◌, ◌⊎◌, ℕ, zero, suc, ◌+◌, ◌≤◌, Bool, true, false, IsTrue, List, [], ◌∷◌, ◌++◌, map, length, pos, not, ◌+ℤ◌, ◌-ℤ◌, ◌*ℤ◌, int_div, int_rem, refl, sym, ap, ◌∙◌, subst, inl, inr, ⊎_elim, arith}
+use Rattle.std.proofs.Common.{◌≡◌, ◌⊎◌, ℕ, ◌+◌, Bool, true, false, IsTrue, List, [], ◌∷◌, ◌++◌, map, length, pos, not, ◌+ℤ◌, ◌-ℤ◌, ◌*ℤ◌, int_div, int_rem, refl, sym, ap, ◌∙◌, subst, inl, inr, ⊎_elim, arith}
 use Rattle.std.proofs.lemmas.List.{length-append}
-use Rattle.jr_plans.specs.Plan.{done, act, ask}
+use Rattle.jr_plans.specs.Plan.{done, act}
 use Rattle.jr_plans.specs.Finite.{Finite, Results}
 use Rattle.jr_plans.proofs.Finishing.{finite_within}
 use Rattle.jr_runs.specs.Keys.{Keys, At}
@@ -10,14 +10,14 @@ use Rattle.jr_runs.specs.Values.{Value, int, truth, null, text, class_object, ob
 use Rattle.jr_runs.specs.Actions.{Location, part, shared, enter, Event, placed}
 use Rattle.jr_runs.specs.Rows.{Rows}
 use Rattle.jr_runs.specs.Fitting.{fits}
-use Rattle.jr_runs.specs.Arithmetic.{Out, value, thrown, wrapped_int, is_zero, unless_zero, calculate, compare, number_of, operate, sign, bumped, bump_value}
-use Rattle.jr_runs.specs.Core.{Arithmetic, add, subtract, multiply, divide, remainder, Operator, comparison, equal, different, Exp, Target, local, static_field, field_of}
-use Rattle.jr_runs.specs.Evaluation.{Step, next, local_at, with_local, unset, Slot, in_local, in_static, in_object, load_from, store_to, load_field, store_field, non_null, with_locals, on_truth, exp, target}
+use Rattle.jr_runs.specs.Arithmetic.{Out, value, thrown, wrapped_int, unless_zero, calculate, compare, number_of, operate, sign, bumped, bump_value}
+use Rattle.jr_runs.specs.Core.{Arithmetic, add, subtract, multiply, Operator, comparison, equal, different, Exp, Target}
+use Rattle.jr_runs.specs.Evaluation.{Step, next, local_at, with_local, unset, load_from, store_to, load_field, store_field, with_locals, on_truth, exp}
 use Rattle.jr_runs.proofs.Locals.{not_written}
 use Rattle.jr_runs.specs.Standing.{In}
 use Rattle.jr_runs.proofs.Numbers.{in_left, in_right, unset_other}
-use Rattle.jr_runs_held.specs.Footprint.{field_in, Access, loads, stores, enters, Makes, OneMakes, CalmTarget, calm_local, calm_static, calm_own, Sure, sure_add, sure_subtract, sure_multiply, sure_divide, sure_remainder, SureOperator, sure_arithmetic, sure_comparison, sure_equal, sure_different, Calm, calm_literal, calm_this, calm_read, calm_assign, calm_compound, calm_bump, calm_signed, calm_binary, calm_both, calm_either}
-use Rattle.jr_runs_held.specs.Places.{Piece, declared, evaluated, opened, locked, run_piece, run_pieces, monitor_of, slot_of, CalmPiece, calm_declared, calm_evaluated, calm_opened, calm_locked, CalmPieces, calm_none, calm_more}
+use Rattle.jr_runs_held.specs.Footprint.{field_in, Access, loads, stores, enters, OneMakes, CalmTarget, calm_local, calm_static, calm_own, Sure, sure_add, sure_subtract, sure_multiply, sure_divide, sure_remainder, SureOperator, sure_arithmetic, sure_comparison, sure_equal, sure_different, Calm, calm_literal, calm_this, calm_read, calm_assign, calm_compound, calm_bump, calm_signed, calm_binary, calm_both, calm_either}
+use Rattle.jr_runs_held.specs.Places.{Piece, run_piece, run_pieces, monitor_of, slot_of, CalmPiece, calm_declared, calm_evaluated, calm_opened, calm_locked, CalmPieces, calm_none, calm_more}
 use Rattle.jr_runs_held.proofs.Steps.{results_more, results_two, results_all, IsCame, came_next, finite_next, not_null, plain_target, never_value}
 
 -- a value that fits: each load can be answered

@@ -1,9 +1,8 @@
 -- Small programs to which the laws on held locals apply, and accesses and bounds to which they don't.
-use Rattle.std.proofs.Common.{◌≡◌, ◌⊎◌, ℕ, Bool, true, false, List, [], ◌∷◌, Some, None, nat_eq, pos, refl, inl, inr, ⊎_elim, arith}
-use Rattle.std.proofs.lemmas.Bool.{eqb-true}
+use Rattle.std.proofs.Common.{◌≡◌, ◌⊎◌, ℕ, Bool, true, false, List, [], ◌∷◌, Some, None, nat_eq, pos, refl, inl, ⊎_elim, arith}
 use Rattle.jr_plans.specs.Finite.{Finite}
 use Rattle.jr_runs.specs.Keys.{Keys, keys_of}
-use Rattle.jr_runs.specs.Values.{Value, int, null, text, int_type}
+use Rattle.jr_runs.specs.Values.{int, null, text, int_type}
 use Rattle.jr_runs.specs.Actions.{plain, Event}
 use Rattle.jr_runs.specs.Rows.{Rows}
 use Rattle.jr_runs.specs.Core as core
@@ -12,11 +11,11 @@ use Rattle.jr_runs.specs.Evaluation.{exp}
 use Rattle.jr_runs.specs.KeyMaps.{same_keys}
 use Rattle.jr_runs.specs.Sets.{NumberSet, everything, with_one}
 use Rattle.jr_runs.specs.Standing.{unused, In, IsFree, Standing, whole}
-use Rattle.jr_runs.specs.Images.{ExpTo, to_literal, to_held, to_read, to_assign, to_binary, to_static_call, to_local, to_static_field, to_end, BlockTo, to_declare, to_eval, to_loop, to_return, to_block, StmtsTo, to_no_more, to_list, to_spot, CodeTo, SameRows, ProgramTo}
+use Rattle.jr_runs.specs.Images.{ExpTo, to_literal, to_held, to_read, to_assign, to_binary, to_static_call, to_local, to_static_field, to_end, BlockTo, to_declare, to_eval, to_loop, to_return, to_block, StmtsTo, to_no_more, to_list, to_spot, SameRows, ProgramTo}
 use Rattle.jr_runs.specs.Alike.{AlikeExactly, AlikeReordered}
 use Rattle.jr_runs.proofs.Locals.{within_one}
 use Rattle.jr_runs_held.specs.Held.{until_all, until_value, before_local, until_more, until_last, last_eval, holding, HoldsLocal}
-use Rattle.jr_runs_held.specs.Footprint.{loads, stores, enters, calm_local, calm_static, sure_add, sure_arithmetic, Calm, calm_literal, calm_read, calm_assign, calm_binary, never_text, MayPass, AllMayPass}
+use Rattle.jr_runs_held.specs.Footprint.{loads, stores, enters, calm_local, calm_static, sure_add, sure_arithmetic, Calm, calm_literal, calm_read, calm_assign, calm_binary, never_text, AllMayPass}
 use Rattle.jr_runs_held.specs.Places.{Piece, evaluated, locked, CalmPieces, calm_evaluated, calm_locked, calm_none, calm_more, one_evaluated, assigns, User, through, evaluates, Sequel, follows, leaves, at_once, in_value, ListPlace, in_first, behind_pieces, in_eval, in_sync, to_text_lock, to_evaluated, to_locked, to_no_piece, to_pieces, plain_static, to_assigns, to_through, to_evaluates, to_no_sequel, to_follows, to_leaves}
 use Rattle.jr_runs_held.proofs.SilentCode.{silent_is}
 use Rattle.jr_runs_held.proofs.HeldLocal.{held_programs_are_alike, held_locals_go}
@@ -299,7 +298,13 @@ moved : ProgramTo same_keys (HoldsGo (one_method (in_monitor load_f)) 2) (one_me
 moved = record {
   rows = same_rows;
   methods = λ m h. record {
-    size = 0; at = λ i. i; injective = λ i j a b e. e; params = refl; params_below = omega arith; params_stay = λ i h. refl; behind = everything;
+    size = 0;
+    at = λ i. i;
+    injective = λ i j a b e. e;
+    params = refl;
+    params_below = omega arith;
+    params_stay = λ i h. refl;
+    behind = everything;
     body = to_spot everything everything (in_monitor load_f) with_t (holds, load_passes);
   };
   constructors = λ k h. no_truth h;

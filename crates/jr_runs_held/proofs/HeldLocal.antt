@@ -11,7 +11,7 @@ use Rattle.jr_runs.specs.Values.{Value}
 use Rattle.jr_runs.specs.Arithmetic.{Out, value, thrown}
 use Rattle.jr_runs.specs.Core as core
 use Rattle.jr_runs.specs.Core.{Exp, Stmt, declare, Stmts}
-use Rattle.jr_runs.specs.Evaluation.{Flow, goes_on, returns, Step, next, local_at, with_local, unset, non_null, on_truth, leaving, cast_value, exp, on_flow, stmt, stmts}
+use Rattle.jr_runs.specs.Evaluation.{Flow, goes_on, returns, Step, local_at, with_local, unset, non_null, on_truth, leaving, cast_value, exp, on_flow, stmt, stmts}
 use Rattle.jr_runs.specs.KeyMaps.{value_image}
 use Rattle.jr_runs.specs.Standing.{Self, itself, held, nobody, unused, Standing, Stands, In, SelfIn, HeldIn, CastIn, Holds, AllHoldAs, Frame, SelfIs, AllHold, Holding, Shifted}
 use Rattle.jr_runs.specs.Sets.{NumberSet, with_one, with_all, Within}

@@ -2,7 +2,8 @@
 -- `UntilExps`; `Turned`: alikeness the other way round. `WildSilent` (`goes_past`, `goes_before`): an
 -- expression goes past silent code. `CrossedPieces` (`crossed`): two pieces change places.
 -- `CalmCode`, `SilentCode` (`calm_exp`, `calm_pieces`, `silent_is`, `piece_twins`): what a footprint says
--- of code; `PlaceRuns`, `PlaceMatch`: an expression in its place. `PastSilent` (`past_match`) and
+-- of code; `Written`: what code of any kind leaves alone; `PlaceRuns`, `PlaceMatch`: an expression in its
+-- place. `PastSilent` (`past_match`) and
 -- `PastCalm` (`calm_match`, over `Quiet`): what goes past to a place, with `Passing` and `PastPrograms` of
 -- whole programs. `HeldCases`: small programs to which the laws apply.
 pub mod Steps

@@ -1,5 +1,5 @@
 -- Traces of calm pieces change places where all their accesses may.
-use Rattle.std.proofs.Common.{◌≡◌, ◌⊎◌, true, false, List, [], ◌∷◌, ◌++◌, Option, Some, None, refl, sym, ap, ◌∙◌, subst, inl, inr, ⊎_elim}
+use Rattle.std.proofs.Common.{◌≡◌, ◌⊎◌, List, [], ◌∷◌, ◌++◌, Some, None, refl, sym, ap, ◌∙◌, subst, ⊎_elim}
 use Rattle.jr_plans.specs.Swaps.{same}
 use Rattle.jr_plans.specs.Follow.{Joins}
 use Rattle.jr_plans.specs.Finite.{Each}

@@ -1,10 +1,10 @@
 -- A local holds a calm expression that goes past calm pieces to its place: behind statements, in blocks, in a declaration, an
 -- `if`, a `return` or a lock, and through `synchronized`. `calm_match` reads from the program without the local to the one with
 -- it; which of the two is the old program is a matter of the relation of traces, and of `Turned`.
-use Rattle.std.proofs.Common.{◌≡◌, ◌⊎◌, ◌≤◌, ℕ, ◌+◌, Bool, IsTrue, List, [], ◌∷◌, ◌++◌, map, length, refl, sym, ap, ◌∙◌, subst, inl, inr, ⊎_elim, arith}
+use Rattle.std.proofs.Common.{◌≡◌, ◌⊎◌, ◌≤◌, ℕ, ◌+◌, Bool, IsTrue, List, [], ◌∷◌, ◌++◌, map, length, refl, sym, ap, ◌∙◌, subst, inl, inr, ⊎_elim}
 use Rattle.jr_plans.specs.Plan.{done, and_then}
 use Rattle.jr_plans.specs.Follow.{Both}
-use Rattle.jr_plans.specs.Finite.{Finite, Each, Results}
+use Rattle.jr_plans.specs.Finite.{Finite, Each}
 use Rattle.jr_plans.proofs.BothWays.{both_and}
 use Rattle.jr_plans.proofs.Finishing.{and_then_assoc, finite_within}
 use Rattle.jr_runs.specs.Keys.{Keys, At}
@@ -28,7 +28,7 @@ use Rattle.jr_runs.proofs.ImageStmts.{TurnsAnswered, looser}
 use Rattle.jr_runs.proofs.Renaming.{Mapped}
 use Rattle.jr_runs_held.specs.Footprint.{Access, OneMakes, Calm}
 use Rattle.jr_runs_held.specs.Places.{Piece, run_pieces, CalmPieces, PiecesTo, User, Sequel, UserReturns, SequelsReturn, ListPlace, UserTo, SequelsTo}
-use Rattle.jr_runs_held.proofs.Steps.{next_assoc, results_more, IsCame}
+use Rattle.jr_runs_held.proofs.Steps.{next_assoc, IsCame}
 use Rattle.jr_runs_held.proofs.CalmCode.{Calmly, Kept, calm_exp, calm_pieces}
 use Rattle.jr_runs_held.proofs.PlaceRuns.{any_come, calm_all_come, then_on, list_parts, list_returns}
 use Rattle.jr_runs_held.proofs.PlaceMatch.{pieces_match, later_match}

@@ -1,7 +1,7 @@
 -- Programs of which the one has locals that hold calm expressions, where what lies between may change places with them, have
 -- the same runs up to exchanges that the grid allows: with the local as the new one, and as the old one. No piece may access
 -- a field of `this` here, since nothing is known of `this` without types; `calm_match` asks that it isn't null there.
-use Rattle.std.proofs.Common.{◌≡◌, ℕ, Bool, true, false, IsTrue, refl}
+use Rattle.std.proofs.Common.{◌≡◌, ℕ, true, false, IsTrue}
 use Rattle.jr_runs.specs.Keys.{Keys}
 use Rattle.jr_runs.specs.Values.{Value, null}
 use Rattle.jr_runs.specs.Core.{Program}

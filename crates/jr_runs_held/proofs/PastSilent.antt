@@ -1,13 +1,13 @@
 -- A local holds an expression of any kind, which goes past silent pieces to its place: behind statements, in blocks, in a
 -- declaration, an `if`, a `return` or a lock. `past_match` reads from the program without the local to the one with it, and by
 -- `Turned` the other way round.
-use Rattle.std.proofs.Common.{◌≡◌, ◌⊎◌, ℕ, true, List, [], ◌∷◌, map, IsTrue, refl, sym, ap, ◌∙◌, subst, inl, inr, ⊎_elim}
+use Rattle.std.proofs.Common.{◌≡◌, ◌⊎◌, ℕ, true, List, [], map, IsTrue, refl, sym, ap, ◌∙◌, subst, inr, ⊎_elim}
 use Rattle.jr_plans.specs.Plan.{done}
 use Rattle.jr_plans.specs.Reach.{Ends}
 use Rattle.jr_runs.specs.Keys.{Keys, At}
 use Rattle.jr_runs.specs.Values.{Value}
 use Rattle.jr_runs.specs.Rows.{Rows}
-use Rattle.jr_runs.specs.Arithmetic.{Out, value}
+use Rattle.jr_runs.specs.Arithmetic.{value}
 use Rattle.jr_runs.specs.Core as core
 use Rattle.jr_runs.specs.Core.{Exp, read, local, declare, Stmts, Program}
 use Rattle.jr_runs.specs.Evaluation.{Flow, goes_on, Step, next, local_at, with_local, exp, on_flow, stmts}
@@ -25,7 +25,7 @@ use Rattle.jr_runs.proofs.Renaming.{Mapped, mapped_joins, mapped_images}
 use Rattle.jr_runs_held.specs.Places.{Piece, run_pieces, CalmPieces, PiecesTo, User, Sequel, UserReturns, SequelsReturn, ListPlace, UserTo, SequelsTo}
 use Rattle.jr_runs_held.proofs.Steps.{next_assoc, one_value}
 use Rattle.jr_runs_held.proofs.SilentCode.{PieceTwins, piece_twins}
-use Rattle.jr_runs_held.proofs.PlaceRuns.{LeavesIn, then_on, Parted, list_parts, list_returns}
+use Rattle.jr_runs_held.proofs.PlaceRuns.{LeavesIn, then_on, list_parts, list_returns}
 use Rattle.jr_runs_held.proofs.PlaceMatch.{pieces_match, later_match}
 use Rattle.jr_runs_held.proofs.WildSilent.{Update, past, past_and_held}
 use Rattle.jr_runs_held.proofs.HeldLocal.{same_undoes}
@@ -97,6 +97,14 @@ module _ {K : Keys} (g : Setting K) (s : Standing K) (stands : Stands s) (frame 
     image = λ l l' h i w. (matched g (Shifted g.keys (bare s x.self) no_frame x.behind) (run_pieces g.old me bs l) (run_pieces g.new me' bs' l') (old_run l).first (new_run l').first (old_run l).comes (new_run l').comes (bare_match l l' h)).moved i (x.own_writes i w) (x.gives i w);
   }
 
+  old_update : (l : List (Value K)) → run_pieces g.old me bs l ≡ done (value (silent_update.old l))
+  unfolding silent_update
+  old_update l = (old_run l).comes
+
+  new_update : (l : List (Value K)) → run_pieces g.new me' bs' l ≡ done (value (silent_update.new l))
+  unfolding silent_update
+  new_update l = (new_run l).comes
+
 -- A, B: which locals agree before both lists, and behind them
 pub record HoldsPastSilent {K : Keys} (r : KeyMap K) (R : Rows K) (s : Standing K) (A : NumberSet) (few many : Stmts K) (B : NumberSet) : Type 0 where
   pub e : Exp K
@@ -145,11 +153,11 @@ module _ {K : Keys} (g : Setting K) (Spot : Spots K) (turns : TurnsAnswered g Sp
 
   old_is : (l : List (Value K)) → stmts g.old me few l ≡ next (exp g.old me x.e (update.old l)) on
   old_is l = list_parts g.old me true x.e few x.pieces x.user x.sequels x.here (λ h. absurd (x.unlocked h)) l
-      ∙ ap (λ p. next p (λ m. next (exp g.old me x.e m) on)) (old_run g s stands frame me me' im x.pieces x.pieces' x.reads x.writes x.silent l).comes
+      ∙ ap (λ p. next p (λ m. next (exp g.old me x.e m) on)) (old_update g s stands frame me me' im x.pieces x.pieces' x.reads x.writes x.silent l)
 
   rest_is : (m : List (Value K)) → stmts g.new me' x.rest m ≡ on' (local_at (update.new m) x.number, update.new m)
   rest_is m = list_parts g.new me' true (read x.read_at (local x.name_at x.number)) x.rest x.pieces' x.user' x.sequels' x.there (λ h. absurd (x.unlocked' h)) m
-      ∙ ap (λ p. next p (λ o. next (exp g.new me' (read x.read_at (local x.name_at x.number)) o) on')) (new_run g s stands frame me me' im x.pieces x.pieces' x.reads x.writes x.silent m).comes
+      ∙ ap (λ p. next p (λ o. next (exp g.new me' (read x.read_at (local x.name_at x.number)) o) on')) (new_update g s stands frame me me' im x.pieces x.pieces' x.reads x.writes x.silent m)
 
   module _ (l l' : List (Value K)) (h : Shifted g.keys s frame A l l') where
     abbrev kept : Value K × List (Value K) → Step K (Value K × List (Value K))

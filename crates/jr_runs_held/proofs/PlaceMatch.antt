@@ -1,5 +1,5 @@
 -- What stands before an expression in its place, and what comes behind, match those of another program.
-use Rattle.std.proofs.Common.{◌≡◌, ◌⊎◌, ℕ, List, [], ◌∷◌, Some, true, false, refl, sym, ap, ◌∙◌, subst, inl, inr}
+use Rattle.std.proofs.Common.{◌≡◌, ◌⊎◌, List, ◌∷◌, Some, true, false, refl, sym, ap, ◌∙◌, subst, inl, inr}
 use Rattle.jr_plans.specs.Plan.{done, act, call}
 use Rattle.jr_runs.specs.Keys.{Keys, At}
 use Rattle.jr_runs.specs.Values.{Value, truth, null}
@@ -7,10 +7,10 @@ use Rattle.jr_runs.specs.Actions.{enter, placed}
 use Rattle.jr_runs.specs.Fitting.{is_instance}
 use Rattle.jr_runs.specs.Arithmetic.{Out, value, thrown, operate, sign}
 use Rattle.jr_runs.specs.Core as core
-use Rattle.jr_runs.specs.Core.{Exp, Target, Stmt, Stmts}
+use Rattle.jr_runs.specs.Core.{Exp, Target, Stmt}
 use Rattle.jr_runs.specs.Evaluation.{Flow, goes_on, returns, invoke, Step, next, with_local, with_locals, cast_value, answer, unset, non_null, on_truth, leaving, exp, exps, on_flow, stmt, stmts}
 use Rattle.jr_runs.specs.KeyMaps.{value_image}
-use Rattle.jr_runs.specs.Standing.{Self, itself, Standing, Stands, Frame, SelfIs, Holding, Shifted}
+use Rattle.jr_runs.specs.Standing.{Self, Standing, Stands, Frame, SelfIs, Holding, Shifted}
 use Rattle.jr_runs.specs.Sets.{NumberSet, with_one, with_all, Within}
 use Rattle.jr_runs.specs.Images.{Spots, NoSpot, StmtTo}
 use Rattle.jr_runs.specs.Pairs.{OutRel, ResultRel, ListRel, SlotTo, local_slots, static_slots, object_slots, FlowRel, Returns, SomeReturns}

@@ -3,7 +3,7 @@
 use Rattle.std.proofs.Common.{◌≡◌, ◌⊎◌, ℕ, Bool, true, IsTrue, List, [], ◌∷◌, ◌++◌, refl, sym, ap, ◌∙◌, inl, inr, ⊎_elim}
 use Rattle.jr_plans.specs.Plan.{done, act, call}
 use Rattle.jr_plans.specs.Finite.{Results}
-use Rattle.jr_runs.specs.Keys.{Keys, At}
+use Rattle.jr_runs.specs.Keys.{Keys}
 use Rattle.jr_runs.specs.Values.{Value, null}
 use Rattle.jr_runs.specs.Actions.{enter, placed}
 use Rattle.jr_runs.specs.Rows.{Rows}
@@ -12,10 +12,10 @@ use Rattle.jr_runs.specs.Core as core
 use Rattle.jr_runs.specs.Core.{Exp, Stmt, Stmts}
 use Rattle.jr_runs.specs.Evaluation.{Flow, goes_on, invoke, Step, next, non_null, Slot, store_to, with_locals, answer, with_local, unset, leaving, exp, exps, on_flow, stmt, stmts}
 use Rattle.jr_runs.specs.Pairs.{Returns, SomeReturns}
-use Rattle.jr_runs_held.specs.Footprint.{Access, NeverNull}
-use Rattle.jr_runs_held.specs.Places.{Piece, declared, evaluated, opened, locked, run_piece, run_pieces, CalmPiece, CalmPieces, calm_none, calm_more, InPieces, one_declared, one_evaluated, one_empty, in_a_block, AllInPieces, no_more_pieces, more_pieces, Wrap, assigns, signs, casts_to, operates, operates_behind, ands, ors, hands, User, through, declares, evaluates, gives, chooses, locks, Sequel, follows, leaves, monitor_of, run_wrap, run_user, run_sequels, ExpPlace, at_once, in_value, in_sign, in_cast, in_left, in_right, in_and, in_or, in_argument, ListPlace, in_first, behind_pieces, StmtPlace, in_declare, in_eval, in_return, in_condition, in_lock, in_block, in_sync, UserReturns, SequelsReturn}
+use Rattle.jr_runs_held.specs.Footprint.{Access}
+use Rattle.jr_runs_held.specs.Places.{Piece, declared, evaluated, run_piece, run_pieces, CalmPieces, calm_none, calm_more, InPieces, one_declared, one_evaluated, one_empty, in_a_block, AllInPieces, no_more_pieces, more_pieces, assigns, signs, casts_to, operates, operates_behind, ands, ors, hands, User, through, declares, evaluates, gives, chooses, locks, Sequel, follows, leaves, monitor_of, run_wrap, run_user, run_sequels, ExpPlace, at_once, in_value, in_sign, in_cast, in_left, in_right, in_and, in_or, in_argument, ListPlace, in_first, behind_pieces, StmtPlace, in_declare, in_eval, in_return, in_condition, in_lock, in_block, in_sync, UserReturns, SequelsReturn}
 use Rattle.jr_runs_held.proofs.Steps.{next_assoc, results_more, IsCame, came_next, leaving_next, plain_target, never_value, never_stops}
-use Rattle.jr_runs_held.proofs.CalmCode.{Calmly, Kept, calm_piece}
+use Rattle.jr_runs_held.proofs.CalmCode.{Kept, calm_piece}
 use Rattle.jr_runs_held.proofs.SilentCode.{silent_is}
 use Rattle.jr_runs_held.proofs.Written.{left_behind}
 
@@ -129,7 +129,7 @@ module _ {K : Keys} (R : Rows K) (me : Value K) where
         let cons : Value K × List (Value K) → Step K (List (Value K) × List (Value K)) = λ r. next (exps R me es r.1) (λ s. done (value (r.0 ∷ s.0, s.1))) in
         let called : List (Value K) × List (Value K) → Step K (Value K × List (Value K)) = λ s. call (invoke m null s.0) (λ o. done (answer s.1 o)) in
         let one : next (next (exp R me y l) cons) called ≡ next (exp R me y l) (run_wrap R me (hands m es)) =
-            next_assoc (exp R me y l) cons called ∙ (λ i. next (exp R me y l) (λ r. next_assoc (exps R me es r.1) (λ s. done (value (r.0 ∷ s.0, s.1))) called i)) in
+        next_assoc (exp R me y l) cons called ∙ (λ i. next (exp R me y l) (λ r. next_assoc (exps R me es r.1) (λ s. done (value (r.0 ∷ s.0, s.1))) called i)) in
         ap (λ p. next p (run_user R me u)) one ∙ next_assoc (exp R me y l) (run_wrap R me (hands m es)) (run_user R me u) ∙ exp_parts y (through (hands m es) u) v d l
 
     mutual
@@ -157,9 +157,9 @@ module _ {K : Keys} (R : Rows K) (me : Value K) where
           let entered : Value K × List (Value K) → Step K (List (Value K)) = λ r. act (placed p (enter r.0)) (done (value r.1)) in
           let whole : Step K (Flow K) → Step K (Flow K) = λ s. act (placed p (enter o)) s in
           let inner : leaving q o (stmts R me c l) ≡ next (run_pieces R me cs l) (λ m. next (exp R me e m) (then_on v (ys ++ (leaves q x ∷ [])))) =
-              ap (leaving q o) (list_parts c cs v ys d (λ h. (g.0, g.1.1, g.2)) l)
-              ∙ leaving_next q o (run_pieces R me cs l) k (pieces_come cs g.1.1 l)
-              ∙ (λ i. next (run_pieces R me cs l) (λ m. (leaving_next q o (exp R me e m) (then_on v ys) (g.2 m) ∙ (λ j. next (exp R me e m) (λ r. sym (sequels_append ys (leaves q x ∷ []) (run_user R me v r)) j))) i)) in
+          ap (leaving q o) (list_parts c cs v ys d (λ h. (g.0, g.1.1, g.2)) l)
+          ∙ leaving_next q o (run_pieces R me cs l) k (pieces_come cs g.1.1 l)
+          ∙ (λ i. next (run_pieces R me cs l) (λ m. (leaving_next q o (exp R me e m) (then_on v ys) (g.2 m) ∙ (λ j. next (exp R me e m) (λ r. sym (sequels_append ys (leaves q x ∷ []) (run_user R me v r)) j))) i)) in
           ap (λ s. next s lock) (never_value R me own x nn l) ∙ never_stops R me own x nn g.0 (whole (leaving q o (stmts R me c l))) ∙ ap whole inner
           ∙ ap (λ s. next (next (next s entered) (λ m. run_pieces R me cs m)) (λ m. next (exp R me e m) (then_on v (ys ++ (leaves q x ∷ []))))) (sym (never_value R me own x nn l))
 

@@ -1,6 +1,6 @@
 -- Silent code, which is calm and has no access, comes to a value and makes nothing. What it comes to and what it writes
 -- depend on what it reads: by induction on the footprint, of two runs side by side.
-use Rattle.std.proofs.Common.{◌≡◌, ◌⊎◌, ℕ, Bool, true, false, List, [], ◌∷◌, ◌++◌, map, refl, sym, ap, ◌∙◌, subst, inl, inr, ⊎_elim}
+use Rattle.std.proofs.Common.{◌≡◌, ◌⊎◌, ℕ, Bool, true, false, List, [], ◌∷◌, ◌++◌, refl, sym, ap, ◌∙◌, subst, inl, inr, ⊎_elim}
 use Rattle.std.proofs.lemmas.Bool.{cases_eq}
 use Rattle.jr_plans.specs.Plan.{done}
 use Rattle.jr_plans.specs.Finite.{Results}
@@ -13,9 +13,9 @@ use Rattle.jr_runs.specs.Evaluation.{Step, next, local_at, with_local, unset, wi
 use Rattle.jr_runs.specs.Standing.{In}
 use Rattle.jr_runs.proofs.Locals.{written, not_written}
 use Rattle.jr_runs.proofs.Numbers.{is_in, in_left, in_right, in_both, unset_other, unset_null}
-use Rattle.jr_runs_held.specs.Footprint.{Access, loads, stores, enters, Sure, SureOperator, CalmTarget, calm_local, calm_static, calm_own, Calm, calm_literal, calm_this, calm_read, calm_assign, calm_compound, calm_bump, calm_signed, calm_binary, calm_both, calm_either}
+use Rattle.jr_runs_held.specs.Footprint.{Access, loads, stores, enters, Sure, SureOperator, calm_local, calm_static, calm_own, Calm, calm_literal, calm_this, calm_read, calm_assign, calm_compound, calm_bump, calm_signed, calm_binary, calm_both, calm_either}
 use Rattle.jr_runs_held.specs.Held.{Silent}
-use Rattle.jr_runs_held.specs.Places.{Piece, declared, evaluated, opened, locked, run_piece, run_pieces, CalmPiece, calm_declared, calm_evaluated, calm_opened, calm_locked, CalmPieces, calm_none, calm_more}
+use Rattle.jr_runs_held.specs.Places.{Piece, run_piece, run_pieces, CalmPiece, calm_declared, calm_evaluated, calm_opened, calm_locked, CalmPieces, calm_none, calm_more}
 use Rattle.jr_runs_held.proofs.Steps.{one_value, truth_cases}
 use Rattle.jr_runs_held.proofs.CalmCode.{Computes, Operates, OfValue, sure_results, sure_operator, Kept}
 

@@ -11,7 +11,7 @@ use Rattle.jr_runs.specs.Fitting.{class_of, is_instance}
 use Rattle.jr_runs.specs.Arithmetic.{Out, value, thrown, calculate, number_of, operate, sign, bumped, bump_value}
 use Rattle.jr_runs.specs.Core as core
 use Rattle.jr_runs.specs.Core.{Operator, Exp, Target, Exps}
-use Rattle.jr_runs.specs.Evaluation.{Flow, goes_on, returns, invoke, construct, Step, on_value, next, local_at, with_local, Slot, in_local, in_static, in_object, load_from, store_to, store_field, non_null, on_truth, on_class, with_locals, cast_value, answer, constructed, exp, target, exps}
+use Rattle.jr_runs.specs.Evaluation.{Flow, goes_on, returns, invoke, construct, Step, on_value, next, Slot, in_local, in_static, in_object, load_from, store_to, store_field, non_null, on_truth, on_class, with_locals, cast_value, answer, constructed, exp, target, exps}
 use Rattle.jr_runs.specs.Standing.{In}
 use Rattle.jr_runs.proofs.Locals.{not_written}
 use Rattle.jr_runs_held.specs.Held.{Silent}
@@ -115,7 +115,7 @@ module _ {K : Keys} (R : Rows K) (me : Value K) where
         (λ r h. of_next (λ v. Unit {0}) (Leaves (target_writes t ++ (writes_in e ++ own_local t)) l) (load_from R r.0 r.1)
         (λ old. next (exp R me e r.1) (λ s. next (done (calculate op (number_of old) (number_of s.0))) (λ v. next (store_to R r.0 v s.1) (λ m. done (value (v, m)))))) (of_all (load_from R r.0 r.1))
         (λ old u. of_next (Leaves (writes_in e) r.1) (Leaves (target_writes t ++ (writes_in e ++ own_local t)) l) (exp R me e r.1) (λ s. next (done (calculate op (number_of old) (number_of s.0))) (λ v. next (store_to R r.0 v s.1) (λ m. done (value (v, m))))) (exp_kept e r.1)
-        (λ s g. of_next (λ v. Unit {0}) (Leaves (target_writes t ++ (writes_in e ++ own_local t)) l) (done (calculate op (number_of old) (number_of s.0))) (λ v. next (store_to R r.0 v s.1) (λ m. done (value (v, m)))) (of_all (done (calculate op (number_of old) (number_of s.0))))
+        (λ s g. of_next (λ v. Unit {0}) (Leaves (target_writes t ++ (writes_in e ++ own_local t)) l) (done (calculate op (number_of old) (number_of s.0))) (λ v. next (store_to R r.0 v s.1) (λ m. done (value (v, m)))) (of_all {K = K} (done (calculate op (number_of old) (number_of s.0))))
         (λ v w. of_stored t (target_writes t) (writes_in e) l r.1 s.1 h.0 g r.0 h.1 v v))))
     exp_kept (core.bump p op t) l = of_next (Slots t l) (Leaves (target_writes t ++ own_local t) l) (target R me t l) (λ r. next (load_from R r.0 r.1) (λ old. next (store_to R r.0 (bumped op old) r.1) (λ m. done (value (bump_value op old (bumped op old), m))))) (target_kept t l)
         (λ r h. of_next (λ v. Unit {0}) (Leaves (target_writes t ++ own_local t) l) (load_from R r.0 r.1) (λ old. next (store_to R r.0 (bumped op old) r.1) (λ m. done (value (bump_value op old (bumped op old), m)))) (of_all (load_from R r.0 r.1))
