@@ -1,6 +1,6 @@
 -- Programs of which the second writes to unused locals behind pieces run as the first: by the sets of
 -- the law on unused locals, the list that writes more matches the list that doesn't.
-use Rattle.std.proofs.Common.{◌≡◌, ◌⊎◌, ℕ, Bool, true, false, not, IsTrue, nat_eq, List, refl, sym, ap, ◌∙◌, subst, ⊎_elim}
+use Rattle.std.proofs.Common.{◌≡◌, ℕ, Bool, true, false, not, IsTrue, nat_eq, List, refl, sym, ap, ◌∙◌, subst, ⊎_elim}
 use Rattle.std.proofs.lemmas.Bool.{eqb-true, eq-eqb}
 use Rattle.jr_plans.specs.Follow.{Sides, AnsweredBoth}
 use Rattle.jr_ast.specs.StatementTree as statement

@@ -3,7 +3,6 @@ use Rattle.std.proofs.Common.{◌≡◌, ℕ, suc, ◌+◌, Bool, Option, Some, 
 use Rattle.jr_ast.specs.Tree as tree
 use Rattle.jr_ast.specs.StatementTree as statement
 use Rattle.jr_runs.specs.Keys.{Keys}
-use Rattle.jr_runs.specs.Core.{Exp, Stmt, Stmts}
 use Rattle.jr_cover.specs.Translation.{exp_code}
 use Rattle.jr_cover.specs.StatementTranslation.{all_declared, return_at, stmt_code, else_code, stmts_code}
 use Rattle.jr_runs.specs.Sets.{NumberSet}
