@@ -1,5 +1,5 @@
 -- The dependences along listed edges; that there are no more by cases on kinds and sites.
-use Rattle.std.proofs.Common.{◌≡◌, ◌⊎◌, ℕ, zero, suc, Bool, true, false, List, [], ◌∷◌, Option, Some, None, refl, sym, ap, ◌∙◌, subst, inl, inr, ⊎_elim, arith}
+use Rattle.std.proofs.Common.{◌≡◌, ◌⊎◌, ℕ, zero, suc, true, false, [], ◌∷◌, Option, Some, None, refl, sym, ap, subst, inl, inr, ⊎_elim, arith}
 use Rattle.jr_sync.specs.declared.kinds.Kind.{Kind}
 use Rattle.jr_sync.specs.declared.kinds.Kind.TheVariants.{Load, Store, VolatileLoad, Enter}
 use Rattle.jr_sync.specs.declared.sites.DepKind.{DepKind}
@@ -8,7 +8,7 @@ use Rattle.jr_sync.specs.Grid.{is_allowed}
 use Rattle.jr_cover.specs.Ways.{Way, sites_of, Edge}
 use Rattle.jr_cover.specs.Sites.{What, reads, writes, loads, stores, loops, Site}
 use Rattle.jr_cover.specs.Covering.{site_at}
-use Rattle.jr_cover.specs.Dependences.{PathBetween, edge, onward, Access, access, access_of, Related, Depends}
+use Rattle.jr_cover.specs.Dependences.{PathBetween, edge, onward, Access, access, Related}
 use Rattle.jr_cover.proofs.FlowLaws.{In, flow_is}
 use Rattle.jr_cover_cases.specs.Samples.{K, rows, at, edges}
 use Rattle.jr_cover_cases.specs.DependenceCases.{two_loads, DependsIn, TwoLoads, endless, Endless}

@@ -1,5 +1,5 @@
 -- The run and the sites by computation, the paths along listed edges.
-use Rattle.std.proofs.Common.{◌≡◌, ℕ, refl, inl, inr}
+use Rattle.std.proofs.Common.{ℕ, refl, inl, inr}
 use Rattle.jr_cover.specs.Paths.{Path, edge, onward}
 use Rattle.jr_cover.specs.Ways.{Edge}
 use Rattle.jr_cover.proofs.FlowLaws.{In, flow_is}

@@ -1,7 +1,7 @@
 -- The edges of small pieces, one for each sentence of the rules on edges (JLS 14). A comment has
 -- the code, in which a letter is a local that is read; sites are numbered in the order in which
 -- they stand.
-use Rattle.std.specs.Prelude.{◌≡◌, ℕ, true, [], ◌∷◌, Some, None}
+use Rattle.std.specs.Prelude.{◌≡◌, true, [], ◌∷◌, Some, None}
 use Rattle.jr_ast.specs.declared.operators.BinOp.TheVariants.{And, Or}
 use Rattle.jr_ast.specs.Tree as tree
 use Rattle.jr_ast.specs.StatementTree as statement

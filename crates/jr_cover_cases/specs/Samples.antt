@@ -1,20 +1,6 @@
 -- Small pieces of code, their sites and edges. Keys and marks are numbers; a node's first byte is
 -- its mark, its last one the mark and 100.
-use Rattle.std.specs.Prelude.{
-  ℕ,
-  ◌+◌,
-  Bool,
-  true,
-  false,
-  List,
-  [],
-  ◌∷◌,
-  Option,
-  Some,
-  None,
-  nat_lt,
-  nat_eq,
-}
+use Rattle.std.specs.Prelude.{ℕ, ◌+◌, Bool, true, false, List, [], Option, Some, None, nat_lt, nat_eq}
 use Rattle.jr_ast.specs.Tree as tree
 use Rattle.jr_ast.specs.Tree.{Word, TypeName}
 use Rattle.jr_ast.specs.StatementTree as statement

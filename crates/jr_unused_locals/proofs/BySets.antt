@@ -1,14 +1,13 @@
 -- The image of code, with the sets of locals that agree in the old code.
-use Rattle.std.proofs.Common.{◌≡◌, ℕ, refl, sym, subst}
+use Rattle.std.proofs.Common.{◌≡◌, subst}
 use Rattle.jr_runs.specs.Keys.{Keys, At}
-use Rattle.jr_runs.specs.Values.{Value}
 use Rattle.jr_runs.specs.Rows.{Rows}
 use Rattle.jr_runs.specs.Core as core
 use Rattle.jr_runs.specs.Core.{Exp, Target, Exps, Stmt, Stmts}
 use Rattle.jr_runs.specs.KeyMaps.{KeyMap, value_image}
 use Rattle.jr_runs.specs.Sets.{NumberSet}
-use Rattle.jr_runs.specs.Standing.{Renumbering, Standing, IsHeld, IsCast}
-use Rattle.jr_runs.specs.Images.{CastOf, uncast, cast_once, SelfTo, ExpTo, to_literal, to_this, to_cast_this, to_held, to_held_cast, to_read, to_assign, to_compound, to_bump, to_signed, to_binary, to_both, to_either, to_cast, to_static_call, to_instance_call, to_super_call, to_create, to_super_constructor, TargetTo, to_local, to_static_field, to_field_of, ExpsTo, to_end, to_more, Spots, NoSpot, StmtTo, to_declare, to_eval, to_branch, to_loop, to_return, to_return_nothing, to_block, to_sync, to_empty, StmtsTo, to_no_more, to_list, to_spot}
+use Rattle.jr_runs.specs.Standing.{Renumbering, Standing}
+use Rattle.jr_runs.specs.Images.{CastOf, uncast, cast_once, ExpTo, to_literal, to_this, to_cast_this, to_held, to_held_cast, to_read, to_assign, to_compound, to_bump, to_signed, to_binary, to_both, to_either, to_cast, to_static_call, to_instance_call, to_super_call, to_create, to_super_constructor, TargetTo, to_local, to_static_field, to_field_of, ExpsTo, to_end, to_more, Spots, NoSpot, StmtTo, to_declare, to_eval, to_branch, to_loop, to_return, to_return_nothing, to_block, to_sync, to_empty, StmtsTo, to_no_more, to_list, to_spot}
 use Rattle.jr_unused_locals.specs.CodeAgreement.{ExpAgrees, TargetAgrees, ExpsAgree, StmtAgrees, StmtsAgree}
 use Rattle.jr_unused_locals.specs.Unused.{HoldsNothing}
 

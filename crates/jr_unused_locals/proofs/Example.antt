@@ -1,13 +1,13 @@
 -- `int m(){x=f;x=2;return x;}`, of which the piece is `x=f;`: x isn't used behind it, so the program
 -- that has `x=9;` there runs alike. The premises of the laws can be met.
-use Rattle.std.proofs.Common.{◌≡◌, ◌⊎◌, ◌<◌, ℕ, zero, suc, Bool, true, false, [], ◌∷◌, Option, Some, None, nat_eq, pos, refl, ap, subst, inl, inr, arith}
+use Rattle.std.proofs.Common.{◌≡◌, ◌<◌, ℕ, zero, suc, true, false, [], ◌∷◌, Option, Some, None, nat_eq, pos, refl, ap, subst, inl, inr, arith}
 use Rattle.jr_ast.specs.Tree as tree
 use Rattle.jr_ast.specs.StatementTree as statement
 use Rattle.jr_runs.specs.Keys.{Keys, keys_of}
 use Rattle.jr_runs.specs.Values.{Value, int, int_type}
 use Rattle.jr_runs.specs.Actions.{plain}
 use Rattle.jr_runs.specs.Rows.{Rows}
-use Rattle.jr_cover.specs.Facts.{Facts, Variable, is_local, is_static_field}
+use Rattle.jr_cover.specs.Facts.{Variable, is_local, is_static_field}
 use Rattle.jr_runs.specs.Core as core
 use Rattle.jr_runs.specs.Core.{Exp, literal, read, assign, local, static_field, Stmt, eval, return, Stmts, Code, written, Program}
 use Rattle.jr_runs.specs.KeyMaps.{same_keys}
@@ -20,7 +20,7 @@ use Rattle.jr_runs.proofs.Locals.{within_one}
 use Rattle.jr_cover.specs.Ways.{Way, sites_of, Edge}
 use Rattle.jr_cover.specs.Sites.{Site, Known, stmts_way}
 use Rattle.jr_cover.proofs.FlowLaws.{In, flow_is}
-use Rattle.jr_unused_locals.specs.Agreement.{Comes, reads_here, onward, InPiece}
+use Rattle.jr_unused_locals.specs.Agreement.{Comes, reads_here, onward}
 use Rattle.jr_unused_locals.specs.SiteLocals.{reads_at, writes_at}
 use Rattle.jr_unused_locals.specs.Pieces.{nothing, joined, StmtsHold, holds_here, stmts_around, stmts_stands}
 use Rattle.jr_unused_locals.specs.Unused.{IsUsed}

@@ -8,7 +8,7 @@ use Rattle.jr_runs.specs.Core as core
 use Rattle.jr_runs.specs.Core.{Exp, Target, Exps, Operator, equal, different, comparison, arithmetic, less, greater, at_most, at_least, add, subtract, multiply, divide, remainder, Arithmetic, Bump}
 use Rattle.jr_cover.specs.Facts.{Variable, is_local, is_static_field, is_instance_field, Called, is_static_method, is_instance_method, Created}
 use Rattle.jr_runs.specs.Translation.{operation, arithmetic_of, bump_of}
-use Rattle.jr_cover.specs.Translation.{exp_code, target_code, exps_code, receiver_code, named_target, field_target, super_target, read_of, assign_of, compound_of, bump_at, call_at, super_call_at, create_at, class_literal_at, cast_at, mark_of_type}
+use Rattle.jr_cover.specs.Translation.{exp_code, target_code, exps_code, named_target, field_target, super_target, read_of, assign_of, compound_of, bump_at, call_at, super_call_at, create_at, class_literal_at, cast_at, mark_of_type}
 use Rattle.jr_runs.specs.Sets.{NumberSet, Within}
 use Rattle.jr_runs.specs.Images.{Readable, behind_write}
 use Rattle.jr_cover.specs.Ways.{Way, pass, row, fork, size}

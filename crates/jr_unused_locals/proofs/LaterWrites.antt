@@ -1,8 +1,7 @@
 -- Programs of which the second writes to unused locals behind pieces run as the first: by the sets of
 -- the law on unused locals, the list that writes more matches the list that doesn't.
-use Rattle.std.proofs.Common.{◌≡◌, ◌⊎◌, ◌<◌, ℕ, Bool, true, false, not, IsTrue, nat_eq, List, refl, sym, ap, ◌∙◌, subst, inl, inr, ⊎_elim}
-use Rattle.std.proofs.lemmas.Bool.{cases_eq, eqb-true, eq-eqb}
-use Rattle.jr_plans.specs.Plan.{done}
+use Rattle.std.proofs.Common.{◌≡◌, ℕ, Bool, true, false, not, IsTrue, nat_eq, List, refl, sym, ap, ◌∙◌, subst, ⊎_elim}
+use Rattle.std.proofs.lemmas.Bool.{eqb-true, eq-eqb}
 use Rattle.jr_plans.specs.Follow.{Sides, AnsweredBoth}
 use Rattle.jr_ast.specs.StatementTree as statement
 use Rattle.jr_runs.specs.Keys.{Keys}
@@ -10,14 +9,13 @@ use Rattle.jr_runs.specs.Values.{Value}
 use Rattle.jr_runs.specs.Actions.{Event}
 use Rattle.jr_runs.specs.Rows.{Rows}
 use Rattle.jr_runs.specs.Arithmetic.{Out}
-use Rattle.jr_runs.specs.Core as core
-use Rattle.jr_runs.specs.Core.{Stmt, Stmts, Code, Method, written, starts, Program}
-use Rattle.jr_runs.specs.Evaluation.{Flow, Call, local_at, with_local, stmt, stmts}
-use Rattle.jr_runs.specs.KeyMaps.{Undoes, same_keys, value_image}
+use Rattle.jr_runs.specs.Core.{Stmts, Code, Method, written, starts, Program}
+use Rattle.jr_runs.specs.Evaluation.{Flow, Call, with_local, stmts}
+use Rattle.jr_runs.specs.KeyMaps.{Undoes, same_keys}
 use Rattle.jr_cover.specs.StatementTranslation.{stmt_code, stmts_code}
-use Rattle.jr_runs.specs.Sets.{NumberSet, everything, Within}
+use Rattle.jr_runs.specs.Sets.{NumberSet, everything}
 use Rattle.jr_runs.specs.Standing.{In, Standing, Stands, Frame, Holding, Shifted, whole}
-use Rattle.jr_runs.specs.Images.{Spots, NoSpot, StmtTo, StmtsTo, CodeTo, MethodTo, SameRows, ProgramTo}
+use Rattle.jr_runs.specs.Images.{NoSpot, StmtsTo, CodeTo, MethodTo, ProgramTo}
 use Rattle.jr_runs.specs.Pairs.{FlowRel, Returns, SomeReturns, Pair, Post}
 use Rattle.jr_runs.specs.Alike.{AlikeExactly}
 use Rattle.jr_runs.proofs.Locals.{not_written, shifted_less}

@@ -1,13 +1,12 @@
 -- A list whose front is one part of its way has the sites and edges of the list, wherever it stands.
 use Rattle.std.proofs.Common.{◌≡◌, ◌⊎◌, ◌↔◌, ℕ, zero, suc, ◌+◌, List, [], ◌∷◌, ◌++◌, refl, sym, ap, ◌∙◌, subst, inl, inr, ⊎_elim, arith}
-use Rattle.jr_ast.specs.Tree as tree
 use Rattle.jr_ast.specs.StatementTree as statement
 use Rattle.jr_runs.specs.Keys.{Keys}
 use Rattle.jr_runs.specs.Rows.{Rows}
 use Rattle.jr_runs.specs.Core as core
 use Rattle.jr_runs.specs.KeyMaps.{KeyMap}
 use Rattle.jr_runs.specs.Standing.{Standing}
-use Rattle.jr_cover.specs.Ways.{Way, pass, row, fork, turns, inside, size, sites_of, Passes, LeavesAtOnce, First, Ends, Last, Leaves, Again, Edge}
+use Rattle.jr_cover.specs.Ways.{Way, pass, row, fork, turns, inside, size, sites_of, Passes, LeavesAtOnce, First, Ends, Last, Leaves, Edge}
 use Rattle.jr_cover.specs.Sites.{Site, Known, exp_way, stmt_way, else_way, stmts_way}
 use Rattle.jr_unused_locals.specs.Agreement.{Stands, here, in_first, in_second, in_left, in_right, in_condition, in_body, in_monitor, Round}
 use Rattle.jr_unused_locals.specs.Pieces.{Surround, nothing, front, monitor, surrounded, joined, loop_site, lock_check, enter_site, exit_site, StmtHolds, holds_then, holds_else, holds_turned, holds_within, holds_locked, StmtsHold, holds_here, holds_first, holds_later, stmt_around, stmts_around}

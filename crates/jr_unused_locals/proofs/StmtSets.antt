@@ -1,15 +1,13 @@
 -- The same of statements.
-use Rattle.std.proofs.Common.{◌≡◌, ℕ, suc, ◌+◌, Bool, true, false, Option, Some, None, refl, sym, ◌∙◌, subst}
+use Rattle.std.proofs.Common.{◌≡◌, ℕ, suc, ◌+◌, Bool, Option, Some, None, subst}
 use Rattle.jr_ast.specs.Tree as tree
 use Rattle.jr_ast.specs.StatementTree as statement
 use Rattle.jr_runs.specs.Keys.{Keys}
-use Rattle.jr_runs.specs.Core as core
-use Rattle.jr_runs.specs.Core.{Exp, Stmt, Stmts}
 use Rattle.jr_cover.specs.Translation.{exp_code}
 use Rattle.jr_cover.specs.StatementTranslation.{all_declared, return_at, stmt_code, else_code, stmts_code}
-use Rattle.jr_runs.specs.Sets.{NumberSet, with_one, Within}
+use Rattle.jr_runs.specs.Sets.{NumberSet}
 use Rattle.jr_runs.proofs.Locals.{within_all}
-use Rattle.jr_cover.specs.Ways.{Way, pass, row, fork, leave, turns, inside, size}
+use Rattle.jr_cover.specs.Ways.{Way, row, fork, leave, inside, size}
 use Rattle.jr_cover.specs.Sites.{What, Site, at_place, Known, exp_way, returned_way, stmt_way, else_way, stmts_way}
 use Rattle.jr_unused_locals.specs.Bindings.{ValueBinds, StmtBinds, ElseBinds, StmtsBind}
 use Rattle.jr_unused_locals.specs.CodeAgreement.{ExpAgrees, StmtAgrees, StmtsAgree}

@@ -1,7 +1,6 @@
 -- The sets of a member in which a piece has locals that aren't used: by the ways round the piece, one
 -- statement after another.
-use Rattle.std.proofs.Common.{◌≡◌, ◌<◌, ℕ, suc, ◌+◌, Bool, true, false, not, IsTrue, Some, refl, sym, subst, inl, inr}
-use Rattle.jr_ast.specs.Tree as tree
+use Rattle.std.proofs.Common.{◌≡◌, ◌<◌, ℕ, suc, ◌+◌, Bool, true, false, not, IsTrue, Some, refl, subst, inl, inr}
 use Rattle.jr_ast.specs.StatementTree as statement
 use Rattle.jr_runs.specs.Keys.{Keys}
 use Rattle.jr_runs.specs.Rows.{Rows}

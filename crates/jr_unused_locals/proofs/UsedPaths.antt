@@ -1,5 +1,5 @@
 -- From where a read comes, by paths: step by step both ways.
-use Rattle.std.proofs.Common.{◌≡◌, ◌⊎◌, ◌↔◌, ℕ, Bool, true, false, refl, sym, ◌∙◌, inl, inr, ⊎_elim}
+use Rattle.std.proofs.Common.{◌≡◌, ◌⊎◌, ℕ, Bool, true, false, refl, sym, ◌∙◌, inl, inr, ⊎_elim}
 use Rattle.jr_cover.specs.Ways.{Way, Edge}
 use Rattle.jr_cover.specs.Dependences as paths
 use Rattle.jr_cover.specs.Dependences.{PathBetween}
