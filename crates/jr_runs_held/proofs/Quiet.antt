@@ -60,6 +60,7 @@ quiet g = record {
   old = g.old;
   new = g.new;
   rows = g.rows;
+  dispatch = g.dispatch;
   methods = λ m v vs has. no_call (Mapped g.keys) (AnswerRel g.keys) (invoke m v vs) (invoke (g.keys.method m) (value_image g.keys v) (map (value_image g.keys) vs));
   constructors = λ k v vs has. no_call (Mapped g.keys) (AnswerRel g.keys) (construct k v vs) (construct (g.keys.constructor k) (value_image g.keys v) (map (value_image g.keys) vs));
 }
