@@ -1,5 +1,5 @@
 -- A call of a method becomes a block with its parameters' declarations and its body: the block's runs are the call's.
-use Rattle.std.proofs.Common.{◌≡◌, ◌<◌, ◌≤◌, ◌+◌, ℕ, zero, suc, List, [], ◌∷◌, ◌++◌, length, map, Option, unwrap_or, IsTrue, refl, sym, ap, ◌∙◌, ◌⊎◌, Some, inl, subst, inr, ⊎_elim, arith, append-nil, append_assoc}
+use Rattle.std.proofs.Common.{◌≡◌, ◌<◌, ◌≤◌, ◌+◌, ℕ, suc, List, [], ◌∷◌, ◌++◌, length, map, Option, unwrap_or, IsTrue, refl, sym, ap, ◌∙◌, ◌⊎◌, Some, inl, subst, inr, ⊎_elim, arith, append-nil, append_assoc}
 use Rattle.std.proofs.lemmas.Bool.{cases_eq}
 use Rattle.jr_plans.specs.Plan.{done, call, and_then}
 use Rattle.jr_plans.specs.Follow.{Both}
@@ -37,28 +37,8 @@ use Rattle.jr_runs.proofs.TypedPrograms.{TypedChanges, typed_guard, typed_turns,
 use Rattle.jr_runs_calls.specs.MadeMethods.{Receiver, no_receiver, on_this, made_call}
 use Rattle.jr_runs_calls.specs.Extracts.{then}
 use Rattle.jr_runs_calls.specs.Inlines.{IsFound, self_there, classes_there, inlined, count, declares, Used, dropped, assigned, returned, used_stmt, last_old, last_new, ValueTo, UsedFits, behind_used, Inlines}
+use Rattle.jr_runs_calls.proofs.ArgumentLists.{last_at, other_at, length_one_more, first_all}
 use Rattle.jr_runs_calls.proofs.MadeCalls.{next_assoc, then_is, same_undoes, any_unfolded}
-
--- ---- arguments that come one by one
-
-module _ {K : Keys} where
-  last_at : (vs : List (Value K)) (v : Value K) → local_at (vs ++ (v ∷ [])) (length vs) ≡ v
-  last_at [] v = refl
-  last_at (u ∷ vs) v = last_at vs v
-
-  other_at : (vs : List (Value K)) (v : Value K) (i : ℕ) → (i ≡ length vs → ⊥) → local_at vs i ≡ local_at (vs ++ (v ∷ [])) i
-  other_at [] v zero d = absurd (d refl)
-  other_at [] v (suc i) d = refl
-  other_at (u ∷ vs) v zero d = refl
-  other_at (u ∷ vs) v (suc i) d = other_at vs v i (λ e. d (ap suc e))
-
-  length_one_more : (vs : List (Value K)) (v : Value K) → length (vs ++ (v ∷ [])) ≡ suc (length vs)
-  length_one_more [] v = refl
-  length_one_more (u ∷ vs) v = ap suc (length_one_more vs v)
-
-  first_all : (vs : List (Value K)) → first_locals (length vs) vs ≡ vs
-  first_all [] = refl
-  first_all (v ∷ vs) = ap (λ l. v ∷ l) (first_all vs)
 
 module _ {K : Keys} (P Q : Program K) (g : Guarded same_keys P.rows Q.rows) (none_more : g.more ≡ 0) (unfolded : Unfolded P Q g) (turns : TurnsKnown g (lists_alone (Inlines P)))
     (s : Standing K) (st : Stands s) (frame : Frame K) (me me' : Value K) (im : Holding P.rows same_keys s.code frame me me') (A : NumberSet) (old new : Stmts K) (B : NumberSet) (x : Inlines P s A old new B) (l l' : List (Value K)) (h : Shifted same_keys s frame A l l') where
