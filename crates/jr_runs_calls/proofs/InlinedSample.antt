@@ -11,7 +11,7 @@ use Rattle.jr_runs.specs.TypedImages.{member, TypedCodeTo, TypedMethodTo}
 use Rattle.jr_runs.specs.Typing.{MethodTyped, WellTyped}
 use Rattle.jr_runs.specs.Alike.{AlikeExactly}
 use Rattle.jr_runs_calls.specs.MadeMethods.{on_this}
-use Rattle.jr_runs_calls.specs.Inlines.{inlined, Inlines}
+use Rattle.jr_runs_calls.specs.Inlines.{inlined, dropped, Inlines}
 use Rattle.jr_runs_calls.proofs.Removed.{inlined_methods_are_alike}
 use Rattle.jr_runs.proofs.TypedValues.{no}
 use Rattle.jr_runs_calls.proofs.SampleRows.{own, Name, m, q, J, rows, program, both_are, field, one, returned, none_is_some, neither, sound, declared, dispatched, own_above}
@@ -108,12 +108,23 @@ spot = record {
   injective = λ i j a b e. e;
   fresh = λ i j b e d. absurd e;
   fresh_others = λ i b e. e;
+  used = dropped;
+  fits = tt;
+  body = q_body;
+  result = one;
+  last_at = None;
+  body_is = refl;
   no_return = neither;
   between = everything;
   args_to = to_more everything everything everything one one core.Exps.end core.Exps.end (to_literal everything None None (int (pos 1))) (to_end everything);
   body_behind = everything;
   new_body = q_body;
   body_to = inlined_body;
+  new_result = one;
+  result_behind = everything;
+  result_to = tt;
+  behind = everything;
+  still = λ i a. a;
   rest = returned nought;
   new_rest = returned nought;
   rest_to = to_list everything everything everything (return None nought) (return None nought) core.Stmts.end core.Stmts.end

@@ -6,6 +6,7 @@
 pub mod MadeCalls
 pub mod Made
 pub mod MadeExps
+mod ArgumentLists
 pub mod Removed
 mod Sample
 mod SampleRows
