@@ -10,7 +10,8 @@ use Rattle.jr_runs.specs.Evaluation.{goes_on, returns}
 use Rattle.jr_runs.specs.Running.{Start, of_method, Ending, gave, gave_nothing, Whole}
 use Rattle.jr_runs.specs.Reordering.{Reordered}
 use Rattle.jr_runs.proofs.Sample.{K, rows, program, code, number, num, var, args_of}
-use Rattle.jr_histories.specs.Histories.{Thread, begins, started, Runs, thread_at, Step, part_of, First, gives, makes, Counts, MayCome, History}
+use Rattle.jr_histories.specs.Histories.{Thread, begins, started, Runs, thread_at, Step, part_of, Counts, MayCome, History}
+use Rattle.jr_runs.specs.FirstValues.{First, gives, makes}
 
 -- method 1 is `run` of Thread, and method 2 its `start`
 abbrev P : Program K
