@@ -3,15 +3,15 @@ use Rattle.std.proofs.Common.{◌≡◌, ◌⊎◌, ℕ, Bool, true, false, not,
 use Rattle.jr_ast.specs.StatementTree as statement
 use Rattle.jr_runs.specs.Keys.{Keys}
 use Rattle.jr_runs.specs.Sets.{NumberSet}
-use Rattle.jr_cover.specs.Ways.{Way, sites_of, Passes, First, Last, Edge}
+use Rattle.jr_cover.specs.Ways.{Way, Passes, First, Last, Edge}
 use Rattle.jr_cover.specs.Sites.{Site, Known, stmts_way}
 use Rattle.jr_cover.specs.Dependences as paths
 use Rattle.jr_cover.specs.Dependences.{PathBetween}
 use Rattle.jr_unused_locals.specs.Agreement.{Ok, Quiet, Comes, reads_here, onward}
 use Rattle.jr_unused_locals.specs.Bindings.{StmtsBind}
-use Rattle.jr_unused_locals.specs.Beginnings.{ReadFirst, UnwrittenPath, list_reads, list_writes, IsReadFirst, MayStay, SetsOfList, UnreadLocalsMayDiffer}
+use Rattle.jr_unused_locals.specs.Beginnings.{ReadFirst, UnwrittenPath, list_reads, list_writes, IsReadFirst, SetsOfList, UnreadLocalsMayDiffer}
 use Rattle.jr_unused_locals.proofs.Keeping.{no_falsehood, kept}
-use Rattle.jr_unused_locals.proofs.Families.{Told, all_agree}
+use Rattle.jr_unused_locals.proofs.Families.{all_agree}
 use Rattle.jr_unused_locals.proofs.StmtSets.{stmts_keep}
 use Rattle.jr_unused_locals.proofs.Tables.{told, quiet, stmts_calm}
 

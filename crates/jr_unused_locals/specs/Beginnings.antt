@@ -6,7 +6,7 @@ use Rattle.jr_runs.specs.Keys.{Keys, keys_of}
 use Rattle.jr_runs.specs.Sets.{NumberSet}
 use Rattle.jr_cover.specs.StatementTranslation.{stmts_code}
 use Rattle.jr_cover.specs.Ways.{Way, sites_of, Passes, First, Last, Edge}
-use Rattle.jr_cover.specs.Sites.{Site, Known, stmts_way}
+use Rattle.jr_cover.specs.Sites.{Known, stmts_way}
 use Rattle.jr_cover.specs.Dependences.{PathBetween}
 use Rattle.jr_unused_locals.specs.Agreement.{Comes}
 use Rattle.jr_unused_locals.specs.SiteLocals.{reads_at, writes_at}
