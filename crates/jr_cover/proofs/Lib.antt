@@ -11,6 +11,7 @@
 -- have what the relations of `Ways` say) and `Unique: one_site` (an action is done at one site
 -- alone). `Example`: the premises can be met. The files named `..Cases` have one theorem for each
 -- sentence of the rules on sites and edges, and on pieces.
+pub mod Apart
 pub mod WayLaws
 pub mod Visits
 pub mod Parts
