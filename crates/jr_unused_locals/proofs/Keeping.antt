@@ -1,21 +1,13 @@
 -- A local of which it is known where it may differ, through a way that is kept, by induction on ways.
 -- A loop's head agrees first for a try, and if what its body gives is less, it doesn't.
-use Rattle.std.proofs.Common.{◌≡◌, ◌⊎◌, ◌<◌, ℕ, zero, suc, ◌+◌, Bool, true, false, ◌||◌, ◌&&◌, refl, inl, inr, ⊎_elim, arith}
+use Rattle.std.proofs.Common.{◌≡◌, ◌⊎◌, ◌<◌, ℕ, zero, suc, ◌+◌, Bool, true, false, ◌||◌, ◌&&◌, refl, sym, inl, inr, ⊎_elim, arith}
 use Rattle.std.proofs.lemmas.Bool.{cases_eq}
 use Rattle.jr_cover.specs.Ways.{Way, pass, one, row, fork, leave, turns, inside, size, Passes, First, Ends, Last, Edge, Again}
+use Rattle.jr_cover.proofs.Apart.{false_true}
 use Rattle.jr_unused_locals.specs.Agreement.{Within, Ok, ok_pass, ok_one, ok_row, ok_fork, ok_leave, ok_turns, ok_inside, Quiet, Stays}
 
-no_truth : {A : Type 0} → false ≡ true → A
-no_truth e = absurd (no e)
-  where
-    no : false ≡ true → ⊥
-    no d = cc
-
 pub no_falsehood : {A : Type 0} → true ≡ false → A
-no_falsehood e = absurd (no e)
-  where
-    no : true ≡ false → ⊥
-    no d = cc
+no_falsehood e = false_true (sym e)
 
 -- what has a last site has a site
 last_sized : {S : Type 0} (w : Way S) (n i : ℕ) → Last n w i → 0 < size w
@@ -137,7 +129,7 @@ module _ {S : Type 0} (n : ℕ) (s : S) (c b : Way S) (Bad : ℕ → Type 0) (R 
           let x = cond false (λ e. d.first_c) in
           let last = last_of x.0 false (λ p e. d.through p) x.2 in
           let y = body x.0 (λ e j f. let l = last e in first_b l.0 j l.1 l.2 f) in
-          (false, x.0, y.0, (λ e. no_truth e), x.1, y.1, (λ e. no_truth e), last)
+          (false, x.0, y.0, (λ e. false_true e), x.1, y.1, (λ e. false_true e), last)
 
       agreeing : (x : (B : Bool) × OkC true B × (B ≡ false → ((i : ℕ) × Last (suc n) c i × R i) ⊎ (Passes c × (true ≡ false)))) → (C : Bool) → OkB x.0 C → (C ≡ false → ((i : ℕ) × Last (suc n + size c) b i × R i) ⊎ (Passes b × (x.0 ≡ false))) → Looped OkC OkB true
       agreeing x true o post = (true, x.0, true, (λ e. e), x.1, o, (λ e. e), last_of x.0 true (λ p e. no_falsehood e) x.2)
@@ -161,7 +153,7 @@ and_left false c h = h
 
 pub and_right : (b c : Bool) → b && c ≡ true → c ≡ true
 and_right true c h = h
-and_right false c h = no_truth h
+and_right false c h = false_true h
 
 pub and_false : (b c : Bool) → b && c ≡ false → (b ≡ false) ⊎ (c ≡ false)
 and_false true c h = inr h

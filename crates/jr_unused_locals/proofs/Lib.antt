@@ -7,6 +7,7 @@
 -- `BySets: exp_by, stmt_by, stmts_by, other_spots`, `StmtSets: stmts_keep`.
 pub mod Keeping
 pub mod Agreeing
+pub mod UsedPaths
 pub mod Families
 pub mod ExpSets
 pub mod StmtSets
@@ -18,5 +19,4 @@ pub mod ListBeginnings
 pub mod Regrouped
 pub mod LaterWrites
 pub mod UsedCases
-pub mod UsedPaths
 pub mod Example

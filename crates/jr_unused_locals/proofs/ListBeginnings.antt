@@ -11,6 +11,7 @@ use Rattle.jr_unused_locals.specs.Agreement.{Ok, Quiet, Comes, reads_here, onwar
 use Rattle.jr_unused_locals.specs.Bindings.{StmtsBind}
 use Rattle.jr_unused_locals.specs.Beginnings.{ReadFirst, UnwrittenPath, list_reads, list_writes, IsReadFirst, SetsOfList, UnreadLocalsMayDiffer}
 use Rattle.jr_unused_locals.proofs.Keeping.{no_falsehood, kept}
+use Rattle.jr_unused_locals.proofs.UsedPaths.{not_both}
 use Rattle.jr_unused_locals.proofs.Families.{all_agree}
 use Rattle.jr_unused_locals.proofs.StmtSets.{stmts_keep}
 use Rattle.jr_unused_locals.proofs.Tables.{told, quiet, stmts_calm}
@@ -32,12 +33,6 @@ module _ {S : Type 0} (reads writes : ℕ → Bool) (w : Way S) where
 
   abbrev Led : ℕ → Type 0
   Led j = (i : ℕ) × First 0 w i × ((i ≡ j) ⊎ ((writes i ≡ false) × PathBetween (Edge 0 w) (λ k. writes k ≡ true) i j))
-
-  not_both : (b : Bool) → b ≡ false → b ≡ true → ⊥
-  not_both b e d = no (sym e ∙ d)
-    where
-      no : false ≡ true → ⊥
-      no q = cc
 
   -- by the path behind the site
   before_path : (j k : ℕ) → Reached j → writes j ≡ false → PathBetween (Edge 0 w) (λ i. writes i ≡ true) j k → Led k
