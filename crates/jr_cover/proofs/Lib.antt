@@ -9,6 +9,7 @@
 -- in rising order ends). `PlainSilent`: plain expressions. `SpotPaths`: spots have their paths.
 -- Crates above cite `FlowLaws: flow_is` (the lists of `Flows` have what the relations of `Ways` say)
 -- and `Unique: one_site` (an action is done at one site alone). `Example`: the premises can be met.
+pub mod Apart
 pub mod WayLaws
 pub mod Visits
 pub mod Parts

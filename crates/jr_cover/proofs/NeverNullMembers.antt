@@ -1,7 +1,7 @@
 -- What is never null by the trees of a member gives no null. Its derivation names some locals; these
 -- are the set for which the member's code is careful.
 use Rattle.std.proofs.Common.{◌≡◌, ◌⊎◌, ℕ, Bool, true, false, ◌||◌, nat_eq, List, [], ◌∷◌, Option, Some, None, refl, sym, ap, subst, ◌∙◌, inl, inr, ⊎_elim}
-use Rattle.std.proofs.lemmas.Bool.{cases_eq, eq-eqb, ne_eqb}
+use Rattle.std.proofs.lemmas.Bool.{cases_eq, eq-eqb, ne_eqb, false_from_ne_true}
 use Rattle.jr_ast.specs.Tree as tree
 use Rattle.jr_ast.specs.StatementTree as statement
 use Rattle.jr_runs.specs.Keys.{Keys, At}
@@ -23,6 +23,7 @@ use Rattle.jr_cover.specs.Footprints.{WritesNone}
 use Rattle.jr_cover.specs.NeverNullMembers.{WrittenIn, ExpAssigns, ArgsAssign, StmtAssigns, ElseAssigns, StmtsAssign, StmtDeclares, ElseDeclares, StmtsDeclare, IsBound, LocalsAre, AllCareful, HasBody, of_method, of_constructor, NeverNullGivesNoNull, NeverNullInitializersGiveNoNull}
 use Rattle.jr_cover.proofs.NeverNullRuns.{never_null_is_not_null}
 use Rattle.jr_cover.proofs.PieceWrites.{exp_spares, exps_spare}
+use Rattle.jr_cover.proofs.Apart.{none_some, same_one, false_true}
 
 abbrev no_local : ℕ → Bool
 no_local n = false
@@ -32,25 +33,6 @@ no_local n = false
 abbrev is_among : ℕ → List ℕ → Bool
 is_among i [] = false
 is_among i (n ∷ ns) = nat_eq n i || is_among i ns
-
-false_true : {B : Type 0} → false ≡ true → B
-false_true e = absurd (apart e)
-  where
-    apart : false ≡ true → ⊥
-    apart j = cc
-
-none_some : {S B : Type 0} (s : S) → None ≡ Some s → B
-none_some s e = absurd (apart s e)
-  where
-    apart : {S : Type 0} (s : S) → None ≡ Some s → ⊥
-    apart s j = cc
-
-same_one : {S : Type 0} (s t : S) → Some s ≡ Some t → s ≡ t
-same_one s t e = cc
-
-by_truth : (b : Bool) → (b ≡ true → ⊥) → b ≡ false
-by_truth true h = absurd (h refl)
-by_truth false h = refl
 
 true_or : (b c : Bool) → c ≡ true → (b || c) ≡ true
 true_or true c e = refl
@@ -174,7 +156,7 @@ module _ {K : Keys} where
   module _ {A : Type 0} (X : Known K A) (init : ℕ → Option (tree.Exp A)) (is_assigned : ℕ → Bool) (args : Option (tree.Exps A)) (body : statement.Stmts A) (params : ℕ) (locals : LocalsAre X init is_assigned params args body)
       (N : ℕ → Bool) (known : (i : ℕ) → N i ≡ true → Kept X.facts init is_assigned N i) where
     not_assigned : (n : ℕ) → ArgsAssign X n args ⊎ StmtsAssign X n body → N n ≡ false
-    not_assigned n h = by_truth (N n) (λ e. absurd (false_true (sym (known n e).1 ∙ locals.assigns n h)))
+    not_assigned n h = false_from_ne_true (N n) (λ e. absurd (false_true (sym (known n e).1 ∙ locals.assigns n h)))
 
     as_declared : (n : ℕ) (e : tree.Exp A) → StmtsDeclare X.facts n e body → N n ≡ true → is_never_null N (exp_code X.facts e) ≡ true
     as_declared n e h t =
@@ -183,7 +165,7 @@ module _ {K : Keys} where
         subst (λ z. is_never_null N (exp_code X.facts z) ≡ true) q k.3
 
     no_parameter : NoParam N params
-    no_parameter n h = by_truth (N n) (λ e. let k = known n e in none_some k.0 (sym (locals.parameters n h) ∙ k.2))
+    no_parameter n h = false_from_ne_true (N n) (λ e. let k = known n e in none_some k.0 (sym (locals.parameters n h) ∙ k.2))
 
     body_careful : CarefulStmts N (stmts_code X.facts body)
     body_careful = stmts_careful X N body (λ n h. not_assigned n (inr h)) as_declared

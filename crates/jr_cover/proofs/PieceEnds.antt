@@ -32,17 +32,9 @@ use Rattle.jr_cover.proofs.Depending.{accessed}
 use Rattle.jr_cover.proofs.Touching.{Any, Sees, SeesAll, ListSees, whole_sees, exp_by_sites, stmts_by_sites}
 use Rattle.jr_cover.proofs.Rising.{Loopless, straight_loopless, rises, path_rises}
 use Rattle.jr_cover.proofs.Unstopped.{Unstopped, exp_ends, stmts_end}
+use Rattle.jr_cover.proofs.Apart.{none_some, same_one}
 
 -- ---- how many accesses stand ahead
-
-none_some : {S B : Type 0} (s : S) → None ≡ Some s → B
-none_some s e = absurd (apart s e)
-  where
-    apart : {S : Type 0} (s : S) → None ≡ Some s → ⊥
-    apart s j = cc
-
-same_one : {S : Type 0} (s t : S) → Some s ≡ Some t → s ≡ t
-same_one s t e = cc
 
 module _ {K : Keys} where
   abbrev accesses_from : ℕ → List (Site K) → ℕ

@@ -23,15 +23,7 @@ use Rattle.jr_cover.specs.Covering.{site_at}
 use Rattle.jr_cover.specs.Plain.{IsRead, with_read, reads_of, DivisorFits, DivisorsFit, PlainExpressionsAreSilent}
 use Rattle.jr_cover.proofs.Parts.{Stands}
 use Rattle.jr_cover.proofs.Cover.{stands_in}
-
-none_some : {S B : Type 0} (s : S) → None ≡ Some s → B
-none_some s e = absurd (apart s e)
-  where
-    apart : {S : Type 0} (s : S) → None ≡ Some s → ⊥
-    apart s j = cc
-
-same_one : {S : Type 0} (s t : S) → Some s ≡ Some t → s ≡ t
-same_one s t e = cc
+use Rattle.jr_cover.proofs.Apart.{none_some, same_one}
 
 -- N: locals that may be read
 module _ {K : Keys} (R : Rows K) (N : ℕ → Type 0) where

@@ -9,15 +9,7 @@ use Rattle.jr_ast.specs.MemberTree as declared
 use Rattle.jr_ast.specs.Nodes as nodes
 use Rattle.jr_ast.specs.Nodes.{Node, mark_of, exps, stmts, members, maybe, type_children, target_children, exp_children, else_children, stmt_children, args_children, member_children, class_children, children_of, child_of, node_at}
 use Rattle.jr_cover.specs.Spots.{Spot, onto, spot_word, spot_named, spot_type, spot_exp, spot_exps, spot_maybe, spot_stmt, spot_else, spot_stmts, spot_modifier, spot_modifiers, spot_param, spot_params, spot_result, result_count, spot_args, exps_count, args_count, spot_member, spot_class, spot_members, SpotsHaveTheirPaths}
-
-none_some : {S B : Type 0} (s : S) → None ≡ Some s → B
-none_some s e = absurd (apart s e)
-  where
-    apart : {S : Type 0} (s : S) → None ≡ Some s → ⊥
-    apart s j = cc
-
-same_one : {S : Type 0} (s t : S) → Some s ≡ Some t → s ≡ t
-same_one s t e = cc
+use Rattle.jr_cover.proofs.Apart.{none_some, same_one}
 
 module _ {A : Type 0} (begins ends : A → ℕ → ℕ) where
   -- a node with its spots, whose path is this

@@ -9,16 +9,8 @@ use Rattle.jr_cover.specs.Covering.{site_at}
 use Rattle.jr_cover.specs.Unread.{ReadsNone}
 use Rattle.jr_cover.specs.Finishing.{NoCallNoLoop, accesses}
 use Rattle.jr_cover.specs.NeverNullMembers.{IsBound, LocalsAre}
+use Rattle.jr_cover.proofs.Apart.{none_some, same_one, false_true}
 use Rattle.jr_cover_cases.specs.Samples.{K, X, word, name, class_type, at}
-
-none_some : {S B : Type 0} (s : S) → None ≡ Some s → B
-none_some s e = absurd (apart s e)
-  where
-    apart : {S : Type 0} (s : S) → None ≡ Some s → ⊥
-    apart s j = cc
-
-same_one : {S : Type 0} (s t : S) → Some s ≡ Some t → s ≡ t
-same_one s t e = cc
 
 abbrev doing : What K → What K → Type 0
 doing w v = w ≡ v
@@ -50,10 +42,7 @@ b_is_unread (suc zero) s n e q = absurd (write_is_no_read 2 n (ap (λ (z : Site 
 b_is_unread (suc (suc i)) s n e q = none_some s e
 
 p_is_read : ReadsNone {K = K} (λ n. nat_eq n 0) (sites_of (exp_way X assigned)) → ⊥
-p_is_read h = true_is_not_false (h 0 (at 0 (reads 0)) 0 refl refl)
-  where
-    true_is_not_false : true ≡ false → ⊥
-    true_is_not_false e = cc
+p_is_read h = false_true (sym (h 0 (at 0 (reads 0)) 0 refl refl))
 
 -- ---- actions
 
@@ -115,10 +104,7 @@ locals_are = record {
 
 -- that no local is assigned isn't so
 some_local_is_assigned : LocalsAre X init (λ n. false) 1 None body → ⊥
-some_local_is_assigned h = false_is_not_true (h.assigns 2 (inr (inr (inr (inl (1, at 2 (writes 2), refl, refl))))))
-  where
-    false_is_not_true : false ≡ true → ⊥
-    false_is_not_true e = cc
+some_local_is_assigned h = false_true (h.assigns 2 (inr (inr (inr (inl (1, at 2 (writes 2), refl, refl))))))
 
 -- and neither is it that `a` is a parameter, whatever it begins with
 first_local_is_no_parameter : (other : ℕ → Option (tree.Exp ℕ)) → LocalsAre X other is_assigned 2 None body → ⊥

@@ -126,7 +126,7 @@ module _ {K : Keys} {A : Type 0} (X : Known K A) where
     else_calm statement.no_else = tt
     else_calm (statement.otherwise s) = stmt_calm s
 
-    stmts_calm : (b : statement.Stmts A) → Calm (stmts_way X b)
+    pub stmts_calm : (b : statement.Stmts A) → Calm (stmts_way X b)
     stmts_calm statement.end = tt
     stmts_calm (statement.more s b) = (stmt_calm s, stmts_calm b)
 

@@ -3,6 +3,7 @@ use Rattle.std.proofs.Common.{◌≡◌, ◌⊎◌, ℕ, Bool, true, false, refl
 use Rattle.jr_cover.specs.Ways.{Way, Edge}
 use Rattle.jr_cover.specs.Dependences as paths
 use Rattle.jr_cover.specs.Dependences.{PathBetween}
+use Rattle.jr_cover.proofs.Apart.{false_true}
 use Rattle.jr_unused_locals.specs.Agreement.{Comes, reads_here, onward}
 use Rattle.jr_unused_locals.specs.Unused.{ComesByPaths}
 
@@ -10,11 +11,8 @@ not_true : (b : Bool) → (b ≡ true → ⊥) → b ≡ false
 not_true true h = absurd (h refl)
 not_true false h = refl
 
-not_both : (b : Bool) → b ≡ false → b ≡ true → ⊥
-not_both b e d = no (sym e ∙ d)
-  where
-    no : false ≡ true → ⊥
-    no q = cc
+pub not_both : (b : Bool) → b ≡ false → b ≡ true → ⊥
+not_both b e d = false_true (sym e ∙ d)
 
 module _ {S : Type 0} (reads writes : ℕ → Bool) (m : Way S) where
   abbrev Leads : ℕ → Type 0

@@ -4,5 +4,6 @@ pub mod Bindings
 pub mod CodeAgreement
 pub mod Pieces
 pub mod Unused
+pub mod Beginnings
 pub mod LaterWrites
 pub mod UsedCases

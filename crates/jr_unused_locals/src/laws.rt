@@ -1,6 +1,7 @@
 //! The laws, each the contract of a function that does nothing. `C`, `F`, `M` and `N` are keys of
 //! classes, fields, methods and constructors, `L` places, `A` marks, and `S` what stands at a site.
 ghost use Rattle.jr_unused_locals.specs.Agreement.{UnusedLocalsMayDiffer};
+ghost use Rattle.jr_unused_locals.specs.Beginnings.{UnreadLocalsMayDiffer};
 ghost use Rattle.jr_unused_locals.specs.LaterWrites.{UnusedLocalsPlayNoPart};
 ghost use Rattle.jr_unused_locals.specs.UsedCases.{UsedCases};
 ghost use Rattle.jr_unused_locals.specs.Unused.{
@@ -22,6 +23,13 @@ pub fn unused_locals_may_differ<S>()
 /// of the old one, but for the list in which the piece stands.
 pub fn unused_locals_have_sets<C, F, M, N, L, A>()
     ensures { UnusedLocalsHaveSets C F M N L A }
+{}
+
+/// Locals that no path from where a list of statements begins reads before it writes them may differ
+/// there: the list agrees with all others before it, and behind it with these and with each local
+/// that is written on each path to its end.
+pub fn unread_locals_may_differ<C, F, M, N, L, A>()
+    ensures { UnreadLocalsMayDiffer C F M N L A }
 {}
 
 /// What is the image of code is so too with sets by which the code agrees.

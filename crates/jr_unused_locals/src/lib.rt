@@ -10,13 +10,14 @@
 //! `Agreement`: one local, by ways (`jr_cover: Ways`); `SiteLocals`: which sites read and write it;
 //! `Pieces`: a piece in a member's body, and the new body; `CodeAgreement`: the sets, over resolved
 //! code; `Bindings`: code of which each name means something, as in each sound program; `Unused`:
-//! the laws on sets; `LaterWrites`: programs that differ in such locals run alike;
-//! `UsedCases`: small pieces.
+//! the laws on sets; `Beginnings`: what a list alone doesn't read first, as of a piece that becomes
+//! a method; `LaterWrites`: programs that differ in such locals run alike; `UsedCases`: small pieces.
 #![tactic(auto)]
 
 mod laws;
 
 pub use laws::{
     comes_by_paths, edges_are_in_or_round, grouping_keeps_edges, images_have_sets,
-    unused_locals_have_sets, unused_locals_may_differ, unused_locals_play_no_part, used_cases,
+    unread_locals_may_differ, unused_locals_have_sets, unused_locals_may_differ,
+    unused_locals_play_no_part, used_cases,
 };
