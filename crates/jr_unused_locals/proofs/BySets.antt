@@ -7,7 +7,7 @@ use Rattle.jr_runs.specs.Core.{Exp, Target, Exps, Stmt, Stmts}
 use Rattle.jr_runs.specs.KeyMaps.{KeyMap, value_image}
 use Rattle.jr_runs.specs.Sets.{NumberSet}
 use Rattle.jr_runs.specs.Standing.{Renumbering, Standing}
-use Rattle.jr_runs.specs.Images.{CastOf, uncast, cast_once, ExpTo, to_literal, to_this, to_cast_this, to_held, to_held_cast, to_read, to_assign, to_compound, to_bump, to_signed, to_binary, to_both, to_either, to_cast, to_static_call, to_instance_call, to_super_call, to_create, to_super_constructor, TargetTo, to_local, to_static_field, to_field_of, ExpsTo, to_end, to_more, Spots, NoSpot, StmtTo, to_declare, to_eval, to_branch, to_loop, to_return, to_return_nothing, to_block, to_sync, to_empty, StmtsTo, to_no_more, to_list, to_spot}
+use Rattle.jr_runs.specs.Images.{CastOf, uncast, cast_once, ExpTo, to_changed, to_literal, to_this, to_cast_this, to_held, to_held_cast, to_read, to_assign, to_compound, to_bump, to_signed, to_binary, to_both, to_either, to_cast, to_static_call, to_instance_call, to_super_call, to_create, to_super_constructor, TargetTo, to_local, to_static_field, to_field_of, ExpsTo, to_end, to_more, Spots, NoSpot, StmtTo, to_declare, to_eval, to_branch, to_loop, to_return, to_return_nothing, to_block, to_sync, to_empty, StmtsTo, to_no_more, to_list, to_spot}
 use Rattle.jr_unused_locals.specs.CodeAgreement.{ExpAgrees, TargetAgrees, ExpsAgree, StmtAgrees, StmtsAgree}
 use Rattle.jr_unused_locals.specs.Unused.{HoldsNothing}
 
@@ -38,6 +38,7 @@ module _ {K : Keys} (r : KeyMap K) (R : Rows K) (s : Renumbering K) (none : Hold
     exp_by e e' (to_super_call E F G p q f f' m es es' h d k) A C g = to_super_call A g.0 C p q f f' m es es' h (exp_by f f' d A g.0 g.1) (exps_by es es' k g.0 C g.2)
     exp_by e e' (to_create E F p q c k es es' h d) A B g = to_create A B p q c k es es' h (exps_by es es' d A B g)
     exp_by e e' (to_super_constructor E F G p q f f' k es es' h d m) A C g = to_super_constructor A g.0 C p q f f' k es es' h (exp_by f f' d A g.0 g.1) (exps_by es es' m g.0 C g.2)
+    exp_by e e' (to_changed E F x x' d) A B g = absurd d
 
     target_by : {E E' : NumberSet} (t t' : Target K) → TargetTo r R s E t t' E' → (A B : NumberSet) → TargetAgrees t A B → TargetTo r R s A t t' B
     target_by t t' (to_local E p q n h) A B g = subst (λ (Z : NumberSet). TargetTo r R s A (core.local p n) (core.local q (s.at n)) Z) g (to_local A p q n h)
