@@ -5,6 +5,7 @@ jr_images with the lemmas that it stands on. No word of a statement changes: fil
 It works on the working tree of a clone (`git add -A crates` makes the moves git's), does nothing where it has been run,
 and says what it found no place for. Behind it: `python3 bench/costs.py table`, `rt fmt` in each crate that it names.
 """
+import hashlib
 import os
 import re
 import subprocess
@@ -327,6 +328,13 @@ def write_documents(changes):
                         write_text(path, old.sub(lambda it: HOMES[it[1]], text))
 
 
+def check_heads(written_from):
+    for path, sum_then in written_from.items():
+        head = "".join(it for it in read(path).splitlines(True) if it.startswith(("//!", "--")))
+        if hashlib.sha256(head.encode()).hexdigest()[:12] != sum_then:
+            print(f"{path}: it says something else than when its words in moves_texts.py were written; put that in")
+
+
 def check_names():
     for crate in (*NEW, IMAGES, LAWS):
         mods = modules(crate)
@@ -353,7 +361,8 @@ def main():
     if os.path.isdir(f"crates/{WORDS}"):
         print("it has been run")
         return
-    from moves_texts import CHANGES, HEADS, PAGES, REMARKS
+    from moves_texts import CHANGES, HEADS, PAGES, REMARKS, WRITTEN_FROM
+    check_heads(WRITTEN_FROM)
     old = [it for it in HOMES if os.path.isdir(f"crates/{it}")]
     sources, exports = {it: modules(it) for it in old}, {it: exports_of(it) for it in old}
     libraries = [(new, library(old, new, kind), kind)

@@ -174,6 +174,28 @@ HEADS = {
 """,
 }
 
+# what these pages and heads said when those above were written
+WRITTEN_FROM = {
+    "crates/jr_respell/src/lib.rt": "8393898784b3",
+    "crates/jr_respell/proofs/Lib.antt": "f62632e658c8",
+    "crates/jr_renaming/src/lib.rt": "fb9d4dd18ab5",
+    "crates/jr_renaming/proofs/Lib.antt": "7d3fe3f858c9",
+    "crates/jr_gather/src/lib.rt": "1e85caa40edc",
+    "crates/jr_gather/proofs/Lib.antt": "ca14f7cc458b",
+    "crates/jr_changes/src/lib.rt": "beb5ea670201",
+    "crates/jr_changes/proofs/Lib.antt": "c67f3869d86c",
+    "crates/jr_parts/src/lib.rt": "276ed694e895",
+    "crates/jr_parts/proofs/Lib.antt": "c8e31dfe0220",
+    "crates/jr_spared/src/lib.rt": "1db438a628cf",
+    "crates/jr_spared/proofs/Lib.antt": "3cd9c461e5b5",
+    "crates/jr_rewriting/src/lib.rt": "81bcee88f238",
+    "crates/jr_rewriting/proofs/Lib.antt": "3b925c082dc1",
+    "crates/jr_images/src/lib.rt": "d067235811f8",
+    "crates/jr_images/proofs/Lib.antt": "c7f12259d59d",
+    "crates/jr_rename_laws/src/lib.rt": "55de8e8fc34d",
+    "crates/jr_rename_laws/proofs/Lib.antt": "fa9616d82905",
+}
+
 ARCHITECTURE = [
     ("`jr_rewrite`, `jr_images`, `jr_respell`, `jr_cursor`, `jr_dispatch`, and the walk: `jr_renaming`, `jr_gather` "
      "(expressions), `jr_changes` (statements), `jr_parts` (members), `jr_spared`, `jr_rewriting` (the program).",
