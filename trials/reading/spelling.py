@@ -7,7 +7,7 @@ import copy
 from collections import Counter
 
 from .binding import Binding
-from .lookup import Lookup
+from .lookup import NONE, Lookup
 from .program import Row, decl_text, is_class
 
 
@@ -188,19 +188,26 @@ class Spelling(Binding):
             self.lost.append((word.at, decl, asked))
 
     def member_class_words(self, place, type, outer, decl):
-        key, above = self.to.cls(decl[1]), self.to.cls(outer[1])
+        """Two references: the class behind the dot, asked by both words, and that in front of it
+        where it stays. In front of a dot a type has room for one word alone."""
+        key = self.to.cls(decl[1])
         asked_outer = self.new.type(place, self.word(outer, type.outer.text))
-        asked = self.new.member_type(place, above, self.word(decl, type.name.text))
+        asked = NONE
+        if asked_outer[0] == "one":
+            text = self.word(decl, type.name.text)
+            asked = self.new.member_type(place, asked_outer[1][1], text)
         text = key[1] if self.names_type(place, key) else self.outer_spelling(place, key)
-        if asked_outer == self.one(outer) and asked == self.one(decl):
-            self.put(type.outer, outer)
-            self.put(type.name, decl)
-        elif text is not None:
+        if asked != self.one(decl) and text is not None:
             self.respell(type.outer.at, type.name, text, "class")
-        elif asked_outer != self.one(outer):
-            self.lost.append((type.outer.at, outer, asked_outer))
+            return
+        if asked == self.one(decl):
+            self.put(type.name, decl)
         else:
             self.lost.append((type.name.at, decl, asked))
+        if asked_outer == self.one(outer):
+            self.put(type.outer, outer)
+        else:
+            self.lost.append((type.outer.at, outer, asked_outer))
 
     # expressions
 
@@ -321,40 +328,59 @@ class Spelling(Binding):
             (on.name, self.left_member(place, outer, on.name.text)[1])
         ]
 
-    def chain_findings(self, new, chain):
-        """What each word finds in the new program, those before it as they were bound."""
-        findings, above = [], None
-        for word, decl in chain:
-            text = self.word(decl, word.text)
-            if above is None:
-                findings.append(self.new.left(new, text))
-            else:
-                findings.append(self.new.left_member(new, self.to.cls(above[1]), text))
-            above = decl
-        return findings
+    def words_find(self, place, texts):
+        """What words with dots between them find in front of a further dot."""
+        found = self.new.left(place, texts[0])
+        for text in texts[1:]:
+            found = self.behind(place, found, text)
+        return found
+
+    def behind(self, place, found, text):
+        """What a word finds in front of a dot, behind words that find this."""
+        if found[0] == "one" and found[1][0] == "class":
+            return self.new.left_member(place, found[1][1], text)
+        type = self.new.found_type(place, found)
+        return self.new.field(place, type, text) if is_class(type) else NONE
+
+    def front_texts(self, chain):
+        return [self.word(decl, word.text) for word, decl in chain]
+
+    def spell_class_in_front(self, new, on, chain):
+        """A class in front of a dot, and those in front of it where it is as asked."""
+        word, decl = chain[-1]
+        asked = self.words_find(new, self.front_texts(chain))
+        fronts = self.class_fronts(new, self.to.cls(decl[1]))
+        if asked != self.one(decl) and fronts:
+            self.respell(on.at, word, fronts[0], "class")
+            return
+        if asked == self.one(decl):
+            self.put(word, decl)
+        else:
+            self.lost.append((word.at, decl, asked))
+        if len(chain) > 1:
+            self.spell_class_in_front(new, on.on, chain[:-1])
 
     def spell_through_class(self, place, new, role, e):
         types = self.types_after(place, e)
         if role == "left" and e.kind == "field":
             old = self.left_member(place, self.class_named(place, e.on), e.name.text)
             if old[1][0] == "class":
-                return
+                return  # the member behind it speaks of it
         else:
             old = self.value_found(place, e)
         decl, chain = old[1], self.chain(place, e.on)
         text, key = self.word(decl, e.name.text), self.to.cls(decl[1])
-        findings = self.chain_findings(new, chain)
-        broken = [(word, d, f) for (word, d), f in zip(chain, findings) if f != self.one(d)]
-        asked = self.member(self.new, new, self.to.cls(chain[-1][1][1]), e, text, types)
-        if not broken and asked == self.one(decl):
-            for word, bound in chain + [(e.name, decl)]:
-                self.put(word, bound)
-        elif self.member(self.new, new, key, e, text, types) == self.one(decl) and (
-            self.class_fronts(new, key)
-        ):
-            self.respell(e.on.at, e.name, self.class_fronts(new, key)[0] + "." + text, decl[0])
-        elif broken:
-            word, bound, finding = broken[0]
-            self.lost.append((word.at, bound, finding))
+        front = self.words_find(new, self.front_texts(chain))
+        by_class = front[0] == "one" and front[1][0] == "class"
+        of = front[1][1] if by_class else self.new.found_type(new, front)
+        asked = self.member(self.new, new, of, e, text, types) if is_class(of) else NONE
+        binds = by_class and asked == self.one(decl)
+        fronts = self.class_fronts(new, key)
+        if not binds and fronts and self.member(self.new, new, key, e, text, types) == self.one(decl):
+            self.respell(e.on.at, e.name, fronts[0] + "." + text, decl[0])
+            return
+        if binds:
+            self.put(e.name, decl)
         else:
             self.lost.append((e.name.at, decl, asked))
+        self.spell_class_in_front(new, e.on, chain)

@@ -1,3 +1,4 @@
 pub mod Lasting
 pub mod Rebinding
+pub mod ChangedPrograms
 pub mod RebindSteps

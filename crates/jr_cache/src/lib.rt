@@ -10,9 +10,11 @@
 //! That bounds are kept at all is measured and not promised. It knows no refactoring.
 #![tactic(auto)]
 
+mod changed;
 mod laws;
 mod rebinding;
 mod sparing;
 
+pub use changed::ChangedProgram;
 pub use laws::bounds_last;
 pub use rebinding::rebind_members;

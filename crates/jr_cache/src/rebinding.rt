@@ -1,13 +1,14 @@
 //! Members are bound anew, and some keep what was bound of them.
 ghost use Rattle.std.specs.Prelude.{◌≡◌, ◌≤◌, ◌<◌, ◌+◌, IfOk, OnOk, length, map};
 ghost use Rattle.jr_members.specs.PartView.{written_of};
-ghost use Rattle.jr_program.specs.Members.{AreKnown, CanBind, EachOf};
-ghost use Rattle.jr_program.specs.Members.{AreInFileOrder, AreWrittenInOrder, AreEachBound};
+ghost use Rattle.jr_program.specs.Members.{CanBind};
 ghost use Rattle.jr_mentions.specs.Apart.{AreApart};
 ghost use Rattle.jr_mentions.specs.ApartView.{names_in};
-ghost use Rattle.jr_cache.specs.Rebinding.{IsRebinding};
+ghost use Rattle.jr_cache.specs.ChangedPrograms.{CanBindEach, ComesOf, AreBoundOf};
+ghost use Rattle.jr_cache.specs.ChangedPrograms.{AreKnownOf, AreOrderedAsWritten};
 ghost use Rattle.jr_cache.specs.RebindSteps.{PutsBound, RebindsOne, AreRebound};
 
+use crate::changed::ChangedProgram;
 use crate::laws::bounds_last;
 use crate::sparing::{keeps, same_files};
 use jr_members::WrittenMember;
@@ -50,51 +51,55 @@ fn bind_anew<L: Ledger>(
 /// Leaves what was bound of a member in its place, where the member keeps it.
 fn rebind_one<L: Ledger>(
     alloc: Global,
+    program: &ChangedProgram<'_, '_>,
     names: &Apart<'_>,
-    table: &Table,
-    tokens: &[Tokens],
-    stays: &[bool],
     member: &WrittenMember<'_, Span>,
     number: usize,
     bounds: &mut Vec<MemberBound>,
     steps: &mut Steps<L>,
 ) -> Result<(), AllocError>
-    requires can { CanBind table.now tokens.now (written_of member.now) }
+    requires can { CanBind program.now.table.now program.now.tokens.now (written_of member.now) }
     requires within { number < length bounds.old.items }
-    ensures rebinds { OnOk result (RebindsOne table.now tokens.now (names_in names.now) stays.now
-        (written_of member.now) number bounds.old.items bounds.new.items) }
+    ensures rebinds { OnOk result (RebindsOne program.now.table.now program.now.tokens.now
+        (names_in names.now) program.now.stays.now (written_of member.now) number
+        bounds.old.items bounds.new.items) }
     ensures least { steps.old ≤ steps.new }
     ensures most { steps.new ≤ steps.old + 1 }
 {
-    if keeps(names, stays, member, &bounds[number]) {
+    if keeps(names, program.stays, member, &bounds[number]) {
         return Ok(());
     }
-    bind_anew(alloc, table, tokens, member, number, bounds, steps)
+    bind_anew(
+        alloc,
+        program.table,
+        program.tokens,
+        member,
+        number,
+        bounds,
+        steps,
+    )
 }
 
 /// Goes through the members, and binds those that don't keep what was bound.
 fn rebind_each<L: Ledger>(
     alloc: Global,
+    program: &ChangedProgram<'_, '_>,
     names: &Apart<'_>,
-    table: &Table,
-    tokens: &[Tokens],
-    stays: &[bool],
-    written: &[WrittenMember<'_, Span>],
     bounds: &mut Vec<MemberBound>,
     steps: &mut Steps<L>,
 ) -> Result<(), AllocError>
-    requires can { EachOf (CanBind table.now tokens.now) (map written_of written.now) }
-    requires count { length written.now ≡ length bounds.old.items }
-    ensures rebinds { OnOk result (AreRebound table.now tokens.now (names_in names.now) stays.now
-        (map written_of written.now) bounds.old.items bounds.new.items) }
+    requires can { CanBindEach program.now }
+    requires count { length program.now.written.now ≡ length bounds.old.items }
+    ensures rebinds { OnOk result (AreRebound program.now.table.now program.now.tokens.now
+        (names_in names.now) program.now.stays.now (map written_of program.now.written.now)
+        bounds.old.items bounds.new.items) }
     ensures least { steps.old ≤ steps.new }
-    ensures most { steps.new ≤ steps.old + length written.now }
+    ensures most { steps.new ≤ steps.old + length program.now.written.now }
 {
+    let written = program.written;
     for number in 0..written.len() {
         let member = &written[number];
-        rebind_one(
-            alloc, names, table, tokens, stays, member, number, bounds, steps,
-        )?;
+        rebind_one(alloc, program, names, member, number, bounds, steps)?;
     }
     Ok(())
 }
@@ -103,100 +108,68 @@ fn rebind_each<L: Ledger>(
 /// by them lasts.
 fn rebind_apart<L: Ledger>(
     alloc: Global,
+    program: &ChangedProgram<'_, '_>,
     names: &Apart<'_>,
-    before: &Table,
-    table: &Table,
-    tokens: &[Tokens],
-    written: &[WrittenMember<'_, Span>],
-    stays: &[bool],
     earlier: Vec<MemberBound>,
     steps: &mut Steps<L>,
 ) -> Result<Vec<MemberBound>, AllocError>
-    requires apart { AreApart (names_in names.now) before.now table.now }
-    requires can { EachOf (CanBind table.now tokens.now) (map written_of written.now) }
-    requires rebinding { IsRebinding before.now table.now tokens.now (map written_of written.now)
-        stays.now earlier.items }
-    ensures each { IfOk result (λ bounds.
-        AreEachBound table.now tokens.now (map written_of written.now) bounds.items) }
+    requires apart { AreApart (names_in names.now) program.now.before.now program.now.table.now }
+    requires can { CanBindEach program.now }
+    requires comes { ComesOf program.now earlier.items }
+    ensures each { IfOk result (λ bounds. AreBoundOf program.now bounds.items) }
     ensures least { steps.old ≤ steps.new }
-    ensures most { steps.new ≤ steps.old + length written.now }
+    ensures most { steps.new ≤ steps.old + length program.now.written.now }
 {
-    if !same_files(written, earlier.as_slice()) {
-        return bind_members(alloc, table, tokens, written, steps);
+    if !same_files(program.written, earlier.as_slice()) {
+        return bind_members(alloc, program.table, program.tokens, program.written, steps);
     }
     bounds_last::<Span>();
-    before.keeps_rows();
-    table.keeps_rows();
+    program.before.keeps_rows();
+    program.table.keeps_rows();
     let mut bounds = earlier;
-    rebind_each(
-        alloc,
-        names,
-        table,
-        tokens,
-        stays,
-        written,
-        &mut bounds,
-        steps,
-    )?;
+    rebind_each(alloc, program, names, &mut bounds, steps)?;
     Ok(bounds)
 }
 
 /// One bound each, those that were bound before where they last.
 fn rebind<L: Ledger>(
     alloc: Global,
-    before: &Table,
-    table: &Table,
-    tokens: &[Tokens],
-    written: &[WrittenMember<'_, Span>],
-    stays: &[bool],
+    program: &ChangedProgram<'_, '_>,
     earlier: Vec<MemberBound>,
     steps: &mut Steps<L>,
 ) -> Result<Vec<MemberBound>, AllocError>
-    requires can { EachOf (CanBind table.now tokens.now) (map written_of written.now) }
-    requires rebinding { IsRebinding before.now table.now tokens.now (map written_of written.now)
-        stays.now earlier.items }
-    ensures each { IfOk result (λ bounds.
-        AreEachBound table.now tokens.now (map written_of written.now) bounds.items) }
+    requires can { CanBindEach program.now }
+    requires comes { ComesOf program.now earlier.items }
+    ensures each { IfOk result (λ bounds. AreBoundOf program.now bounds.items) }
     ensures least { steps.old ≤ steps.new }
-    ensures most { steps.new ≤ steps.old + length written.now }
+    ensures most { steps.new ≤ steps.old + length program.now.written.now }
 {
-    match apart(before, table) {
-        None => bind_members(alloc, table, tokens, written, steps),
-        Some(names) => rebind_apart(
-            alloc, &names, before, table, tokens, written, stays, earlier, steps,
-        ),
+    match apart(program.before, program.table) {
+        None => bind_members(alloc, program.table, program.tokens, program.written, steps),
+        Some(names) => rebind_apart(alloc, program, &names, earlier, steps),
     }
 }
 
-/// What binding knows of written members, in their order. `tokens` has those of each file, by its
-/// number. `earlier` was bound of the members of the program `before`; `stays` tells of files that
-/// they have the tree and the tokens that they had. A member of such a file that refers to nothing
-/// by the names in which the programs differ keeps what was bound of it.
+/// What binding knows of the members of a program, in their order. `earlier` was bound of the
+/// members of the program before. A member of a file that stays keeps what was bound of it, if it
+/// refers to nothing by the names in which the programs differ.
 ///
 /// Each member counts one step at most.
 pub fn rebind_members<L: Ledger>(
     alloc: Global,
-    before: &Table,
-    table: &Table,
-    tokens: &[Tokens],
-    written: &[WrittenMember<'_, Span>],
-    stays: &[bool],
+    program: &ChangedProgram<'_, '_>,
     earlier: Vec<MemberBound>,
     steps: &mut Steps<L>,
 ) -> Result<Vec<MemberBound>, AllocError>
-    requires can { EachOf (CanBind table.now tokens.now) (map written_of written.now) }
-    requires rebinding { IsRebinding before.now table.now tokens.now (map written_of written.now)
-        stays.now earlier.items }
-    ensures known { IfOk result (λ bounds.
-        AreKnown table.now tokens.now (map written_of written.now) bounds.items) }
+    requires can { CanBindEach program.now }
+    requires comes { ComesOf program.now earlier.items }
+    ensures known { IfOk result (λ bounds. AreKnownOf program.now bounds.items) }
     // One each, in the same order.
-    ensures each { IfOk result (λ bounds.
-        AreEachBound table.now tokens.now (map written_of written.now) bounds.items) }
-    ensures order { IfOk result (λ bounds. AreWrittenInOrder (map written_of written.now)
-        → AreInFileOrder bounds.items) }
+    ensures each { IfOk result (λ bounds. AreBoundOf program.now bounds.items) }
+    ensures order { IfOk result (λ bounds. AreOrderedAsWritten program.now bounds.items) }
     ensures least { steps.old ≤ steps.new }
-    ensures most { steps.new ≤ steps.old + length written.now }
+    ensures most { steps.new ≤ steps.old + length program.now.written.now }
 {
     members_are_known();
-    rebind(alloc, before, table, tokens, written, stays, earlier, steps)
+    rebind(alloc, program, earlier, steps)
 }

@@ -8,7 +8,7 @@ use Rattle.jr_ast.specs.StatementTree as statement
 use Rattle.jr_ast.specs.MemberTree as syntax
 use Rattle.jr_runs.specs.Values as value
 use Rattle.jr_runs.specs.Core as core
-use Rattle.jr_runs.specs.FirstValues.{gives, makes}
+use Rattle.jr_runs.specs.FirstValues.{First, gives, makes}
 use Rattle.jr_runs.specs.Actions as kind
 use Rattle.jr_table.specs.Decls.{MemberKey, head, field, method, constructor}
 use Rattle.jr_table.specs.Prelude.{object_key}
@@ -158,7 +158,15 @@ first_values :
     FirstOf {A = ℕ} (tree.string 0 (97 ∷ [])) (gives (value.text (97 ∷ []))) ×
     FirstOf {A = ℕ} (tree.null 0) (gives value.null) ×
     FirstOf {A = ℕ} (tree.create 0 (tree.named 4 None (w 4 (codes "Object"))) tree.end) (makes object_key)
-first_values = (refl, refl, refl, refl, refl, refl, refl)
+first_values = (refl, refl, refl, refl, refl, refl, (refl, refl))
+
+-- an object of another class, and one with arguments, are no first values
+other_objects : (x : First RunKeys) → (FirstOf {A = ℕ} (tree.create 0 (tree.named 4 None (w 4 (codes "Q"))) tree.end) x → ⊥)
+    × (FirstOf {A = ℕ} (tree.create 0 (tree.named 4 None (w 4 (codes "Object"))) (tree.more (tree.null 0) tree.end)) x → ⊥)
+other_objects x = (λ h. absurd (differ h.0), λ h. absurd h)
+  where
+    differ : codes "Q" ≡ codes "Object" → ⊥
+    differ e = cc
 
 -- what accesses of a field are (JLS 8.3.1.2, 8.3.1.4)
 kinds : (kind_of_words [] ≡ kind.plain) × (kind_of_words (word.Private ∷ word.Final ∷ []) ≡ kind.final) × (kind_of_words (word.Static ∷ word.Volatile ∷ []) ≡ kind.volatile)

@@ -43,7 +43,8 @@ abbrev pub IsOwn : Code → Type 0
 IsOwn z = z ≡ core.this None
 
 module _ (rows : List Row) where
-  -- A field at a place: what stands in front of a static one is dropped.
+  -- A field at a place. In front of a static one stands a class at most, which is dropped: a value
+  -- there breaks a rule (`StaticThroughValue`).
   abbrev pub FieldCode : (Receiver : Code → Type 0) → Decl → Place → TargetCode → Type 0
   FieldCode Receiver (field_decl k) p t =
       (IsStaticDecl rows (field_decl k) × (t ≡ core.static_field (Some p) k))

@@ -2,7 +2,7 @@
 -- the field's own for `new Object()`, and else the default of the type (JLS 4.12.5, 12.4.2). No
 -- action of a run gives it to them.
 use Rattle.std.specs.Prelude.{◌≡◌, ℕ, List, [], ◌∷◌, Option, Some, None, Bool, true, false, pos}
-use Rattle.std.specs.Prelude.{neg_ℤ}
+use Rattle.std.specs.Prelude.{neg_ℤ, codes}
 use Rattle.jr_ast.specs.declared.operators.UnOp.{UnOp}
 use Rattle.jr_ast.specs.declared.operators.UnOp.TheVariants.{Minus}
 use Rattle.jr_ast.specs.Tree as tree
@@ -31,6 +31,12 @@ module _ {A : Type 0} where
   SignedFirst Minus e x = NegatedFirst e x
   SignedFirst _ e x = ⊥
 
+  -- `new Object()` alone
+  abbrev pub CreatedFirst : tree.TypeName A → tree.Exps A → First RunKeys → Type 0
+  CreatedFirst (tree.named m None w) tree.end x =
+      (w.text ≡ codes "Object") × (x ≡ makes object_key)
+  CreatedFirst _ _ x = ⊥
+
   -- the forms that a static field's initializer may have (`DeclaredItems: is_simple`)
   abbrev pub FirstOf : tree.Exp A → First RunKeys → Type 0
   FirstOf (tree.number m n) x = x ≡ gives (int (wrapped (pos n)))
@@ -38,7 +44,7 @@ module _ {A : Type 0} where
   FirstOf (tree.null m) x = x ≡ gives null
   FirstOf (tree.string m s) x = x ≡ gives (text (unescaped false s))
   FirstOf (tree.unary m sign e) x = SignedFirst sign e x
-  FirstOf (tree.create m t args) x = x ≡ makes object_key
+  FirstOf (tree.create m t args) x = CreatedFirst t args x
   FirstOf _ x = ⊥
 
 module _ {A : Type 0} (begins : A → ℕ → ℕ) (first : FieldKey → First RunKeys) where

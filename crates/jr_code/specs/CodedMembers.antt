@@ -139,7 +139,7 @@ module _ {A : Type 0} (begins ends : A → ℕ → ℕ) (rows : List Row) (super
     UnitsCoded [] = Unit {0}
     UnitsCoded (u ∷ us) = ClassesCoded (begins u.mark 0) u.classes × UnitsCoded us
 
--- the prelude's constructors and Thread's `run` do nothing, and its `start` starts (JLS 17.2)
+-- the prelude's constructors and Thread's `run` do nothing, and its `start` starts (JLS 17.4.2)
 pub record HasPrelude (P : core.Program RunKeys) : Type 0 where
   pub object : P.constructor (record { class = object_key; params = [] }) ≡ no_code
   pub thread : P.constructor (record { class = top_key (codes "Thread"); params = [] }) ≡ no_code

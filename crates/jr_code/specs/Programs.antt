@@ -18,9 +18,10 @@ pub record HasNoMore (rows : List Row) (P : core.Program RunKeys) : Type 0 where
   pub constructor : (k : CtorKey) → (HasRow rows (constructor_decl k) → ⊥)
       → P.constructor k ≡ no_code
 
--- P is what these units are, with their rows. `begins m base`, `ends m base`: the places of the
--- first and the last byte of a node with the mark m whose parent begins at base. `super_at k`: that
--- of the word `super` of a constructor's written `super(..)`.
+-- P is what these units are by these rows: what each declares, and the code of its members. What
+-- static fields begin with stands apart (`CodedFields`). `begins m base`, `ends m base`: the places
+-- of the first and the last byte of a node with the mark m whose parent begins at base. `super_at
+-- k`: that of the word `super`, if the constructor writes `super(..)`.
 pub record IsCodeOf {A : Type 0} (begins ends : A → ℕ → ℕ) (rows : List Row)
     (super_at : MemberKey → ℕ) (units : List (syntax.Unit A)) (P : core.Program RunKeys) : Type 0
   where

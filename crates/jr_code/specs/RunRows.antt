@@ -14,6 +14,7 @@ use Rattle.std.specs.Prelude.{
   false,
   codes,
   IsTrue,
+  ◌⊎◌,
   ◌↔◌,
   unwrap_or,
   option_and_then,
@@ -77,7 +78,9 @@ HasRow rows d = (j : ℕ) × IsRowOf rows d j
 
 pub record AreRunRows (rows : List Row) (R : core.Rows RunKeys) : Type 0 where
   pub same_class : (c d : ClassKey) → IsTrue (R.same_class c d) ↔ (c ≡ d)
-  pub is_subclass : (c d : ClassKey) → IsTrue (R.is_subclass c d) ↔ IsSubclass rows c d
+  -- a class goes with itself, also one that isn't declared (JLS 4.10)
+  pub is_subclass : (c d : ClassKey)
+      → IsTrue (R.is_subclass c d) ↔ ((c ≡ d) ⊎ IsSubclass rows c d)
   pub text_class : R.text_class ≡ top_key (codes "String")
   pub class_class : R.class_class ≡ top_key (codes "Class")
   pub field_kind : (k : FieldKey) (j : ℕ) (i : IsRowOf rows (field_decl k) j)

@@ -5,7 +5,7 @@ use Rattle.std.specs.Cmp.Lexicographic.{bytes_decides}
 use Rattle.jr_ast.specs.Tree as tree
 use Rattle.jr_table.specs.SameKeys.{same_name}
 use Rattle.jr_spell.specs.declared.spellings.Form.{Form}
-use Rattle.jr_spell.specs.declared.spellings.Form.TheVariants.{Asked, OnThis, OnSuper, OnCastThis, OnClass, OnOuterClass}
+use Rattle.jr_spell.specs.declared.spellings.Form.TheVariants.{Asked, OnThis, OnSuper, OnCastThis, OnClass, OnOuterClass, ClassInFront, OuterClassInFront}
 use Rattle.jr_rewrite.specs.Respellings.{Front, same, stays, front_of}
 use Rattle.jr_rewrite.specs.Rewritten.{word_to}
 use Rattle.jr_images.specs.Spelling.{respelled, renamed}
@@ -26,6 +26,12 @@ three_forms P a b c zero f q = let p : Asked ≡ f = cc in subst P p a
 three_forms P a b c (suc zero) f q = let p : OnClass ≡ f = cc in subst P p b
 three_forms P a b c (suc (suc zero)) f q = let p : OnOuterClass ≡ f = cc in subst P p c
 three_forms P a b c (suc (suc (suc n))) f q = absurd cc
+
+pub front_forms : (P : Form → Type 0) → P Asked → P ClassInFront → P OuterClassInFront → (n : ℕ) (f : Form) → slice_get (Asked ∷ ClassInFront ∷ OuterClassInFront ∷ []) n ≡ Some f → P f
+front_forms P a b c zero f q = let p : Asked ≡ f = cc in subst P p a
+front_forms P a b c (suc zero) f q = let p : ClassInFront ≡ f = cc in subst P p b
+front_forms P a b c (suc (suc zero)) f q = let p : OuterClassInFront ≡ f = cc in subst P p c
+front_forms P a b c (suc (suc (suc n))) f q = absurd cc
 
 pub four_forms : (P : Form → Type 0) → P Asked → P OnThis → P OnClass → P OnOuterClass → (n : ℕ) (f : Form) → slice_get (Asked ∷ OnThis ∷ OnClass ∷ OnOuterClass ∷ []) n ≡ Some f → P f
 four_forms P a b c d zero f q = let p : Asked ≡ f = cc in subst P p a

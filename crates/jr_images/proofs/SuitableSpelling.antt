@@ -21,16 +21,16 @@ use Rattle.jr_table.specs.Context.{Context, scope_of, IsSuperclass}
 use Rattle.jr_table.specs.Binding.{HasType, IsClassName, TargetFinds, HaveTypes, FindsIn, FindsFor, On, Role, value, left, statement}
 use Rattle.jr_table.specs.HeadRules.{plain, TopFinds}
 use Rattle.jr_spell.specs.declared.spellings.Form.{Form}
-use Rattle.jr_spell.specs.declared.spellings.Form.TheVariants.{Asked, OnCastThis, OnCastOperand, OnClass, OnOuterClass, Class, OuterClass}
+use Rattle.jr_spell.specs.declared.spellings.Form.TheVariants.{Asked, OnCastThis, OnCastOperand, OnClass, OnOuterClass, Class, OuterClass, ClassInFront, OuterClassInFront}
 use Rattle.jr_spell.specs.References.{Reference}
 use Rattle.jr_spell.specs.Spellings.{forms}
-use Rattle.jr_rewrite.specs.Respellings.{Front, same, by_class, by_outer_class, Choice, stays, text_of}
+use Rattle.jr_rewrite.specs.Respellings.{Front, same, alone, by_class, by_outer_class, Choice, stays, text_of}
 use Rattle.jr_rewrite.specs.Suitable.{AreNames, Suits, MayStandAlone, MayStandBeforeVariable, MayStandBeforeMethod, MayStandBeforeType, MayBeCast, IsPath, MayStandFor, SuitsExp, AreSuitable}
 use Rattle.jr_rewrite.proofs.Rewriting.{rewritten_reads}
 use Rattle.jr_images.specs.Images.{Renaming, is_renamed, name_to, outer_to, class_to, field_to, method_to, decl_to}
 use Rattle.jr_images.specs.Spelling.{respelled, renamed, outer_front, outer_type, spelled, Spells, SpellsLeft, VariableSpells, ClassSpells, FieldSpells, MemberClassSpells, SuperFieldSpells, SimpleCallSpells, CallSpells, SuperCallSpells, ExpSpells, TypeSpells, QualifierSpells, ParentSpells, ParentQualifierSpells, spelling}
 use Rattle.jr_images.specs.TextLaws.{IsOuterName, IsNamedClass, AreNamed, RenamedTextsRead}
-use Rattle.jr_images.proofs.Forms.{one_form, two_forms, three_forms, four_forms, six_forms}
+use Rattle.jr_images.proofs.Forms.{one_form, two_forms, three_forms, front_forms, four_forms, six_forms}
 
 -- ---- what is found has a row
 
@@ -182,15 +182,22 @@ module _ {A : Type 0} (begins : A → ℕ → ℕ) (rows : List Row) (g : Renami
   outer_class May by_one by_two None name o n = (n, by_one name)
   outer_class May by_one by_two (Some outer) name o n = ((o, n), by_two outer name)
 
-  outer_of_type : (outer : Option (List ℕ)) (name : List ℕ) → IsOuterName outer
-      → (let k : ClassKey = record { outer = outer; name = name } in AreNames (outer_type k) × MayStandBeforeType (outer_type k))
-  outer_of_type None name o = (tt, tt)
-  outer_of_type (Some outer) name o = (o, tt)
+  outer_of_type : (May : Front → Type 0) → May alone → ((n : List ℕ) → May (by_class n)) → (outer : Option (List ℕ)) (name : List ℕ) → IsOuterName outer
+      → (let k : ClassKey = record { outer = outer; name = name } in AreNames (outer_type k) × May (outer_type k))
+  outer_of_type May bare by_one None name o = (tt, bare)
+  outer_of_type May bare by_one (Some outer) name o = (o, by_one outer)
 
   -- every form's front may stand there, but a cast of an operand
   on_outer : (May : Front → Type 0) → ((n : List ℕ) → May (by_class n)) → ((o n : List ℕ) → May (by_outer_class o n)) → (old new : List ℕ) (k : ClassKey) → IsName new → IsNamedClass k
       → Suits May (spelled old new k OnOuterClass)
   on_outer May by_one by_two old new k n h = (let o = outer_class May by_one by_two k.outer k.name h.0 h.1 in (n, o.0, o.1))
+
+  -- of a class in front of a dot
+  class_in_front : (May : Front → Type 0) → May same → May alone → ((n : List ℕ) → May (by_class n)) → (old : List ℕ) (k : ClassKey) → IsNamedClass k
+      → (n : ℕ) (f : Form) → slice_get (Asked ∷ ClassInFront ∷ OuterClassInFront ∷ []) n ≡ Some f → Suits May (spelled old k.name k f)
+  class_in_front May may bare by_one old k h =
+      let o = outer_of_type May bare by_one k.outer k.name h.0 in
+      front_forms (λ f. Suits May (spelled old k.name k f)) (renamed_suits May may old k.name (λ e. h.1)) (h.1, tt, bare) (h.1, o.0, o.1)
 
   spells_suits : (May : Front → Type 0) (s : Scope) (at : ℕ) (old new : List ℕ) (d : Decl) (r : Reference) (Finds : Found → Type 0) (h : Choice)
       → ((n : ℕ) (f : Form) → slice_get (forms r.form (decl_to g d)) n ≡ Some f → Suits May (spelled old new (class_of (decl_to g d)) f))
@@ -221,7 +228,10 @@ module _ {A : Type 0} (begins : A → ℕ → ℕ) (rows : List Row) (g : Renami
       (on_outer MayStandBeforeVariable (λ n. tt) (λ o n. tt) old (field_to g q).name (class_to g q.class) new of)) t.1.1
 
   class_suits : (c : Context) (r : Role) (at : ℕ) (old : List ℕ) (h : Choice) → ClassSpells begins rows g c r at old h → Suits MayStandBeforeVariable h
-  class_suits c left at old h t = left_suits MayStandBeforeVariable tt at old t.0 _ _ h (keys_row rows _ (class_decl t.0) t.2) t.3
+  class_suits c left at old h t =
+      let row = keys_row rows _ (class_decl t.0) t.2 in
+      spells_suits MayStandBeforeVariable _ at old (class_to g t.0).name (class_decl t.0) _ _ h
+      (class_in_front MayStandBeforeVariable tt tt (λ n. tt) old (class_to g t.0) (class_named t.0 (named (class_decl t.0) row.0 row.1))) t.5
   class_suits c value at old h t = absurd t
   class_suits c statement at old h t = absurd t
 
@@ -264,7 +274,11 @@ module _ {A : Type 0} (begins : A → ℕ → ℕ) (rows : List Row) (g : Renami
       ]
 
   member_class_suits : (c : Context) (r : Role) (at : ℕ) (e : tree.Exp A) (old : List ℕ) (h : Choice) → MemberClassSpells begins rows g c r at e old h → Suits (MayStandFor e) h
-  member_class_suits c left at e old h t = left_suits (MayStandFor e) tt at old t.1 _ _ h (keys_row rows _ (class_decl t.1) t.4) t.5
+  member_class_suits c left at e old h t =
+      let row = keys_row rows _ (class_decl t.1) t.4 in
+      let path = class_path rows c e t.0 t.2 in
+      spells_suits (MayStandFor e) _ at old (class_to g t.1).name (class_decl t.1) _ _ h
+      (class_in_front (MayStandFor e) tt path (λ n. path) old (class_to g t.1) (class_named t.1 (named (class_decl t.1) row.0 row.1))) t.9
   member_class_suits c value at e old h t = absurd t
   member_class_suits c statement at e old h t = absurd t
 
@@ -341,7 +355,7 @@ module _ {A : Type 0} (begins : A → ℕ → ℕ) (rows : List Row) (g : Renami
   class_forms old k h (suc zero) f q = (let p : Class ≡ f = cc in subst (λ x. Suits MayStandBeforeType (spelled old k.name k x)) p (h.1, tt, tt))
   class_forms old k h (suc (suc zero)) f q =
       let p : OuterClass ≡ f = cc in
-      let o = outer_of_type k.outer k.name h.0 in
+      let o = outer_of_type MayStandBeforeType tt (λ n. tt) k.outer k.name h.0 in
       subst (λ x. Suits MayStandBeforeType (spelled old k.name k x)) p (h.1, o.0, o.1)
   class_forms old k h (suc (suc (suc n))) f q = absurd cc
 
@@ -353,7 +367,7 @@ module _ {A : Type 0} (begins : A → ℕ → ℕ) (rows : List Row) (g : Renami
       spells_suits MayStandBeforeType _ _ w.text (class_to g t.0).name (class_decl t.0) _ _ h (class_forms w.text (class_to g t.0) (class_named t.0 (named (class_decl t.0) row.0 row.1))) t.2
   type_suits c base (tree.named m (Some v) w) h t =
       let row = keys_row rows _ (class_decl t.1) t.3 in
-      spells_suits MayStandBeforeType _ _ w.text (class_to g t.1).name (class_decl t.1) _ _ h (class_forms w.text (class_to g t.1) (class_named t.1 (named (class_decl t.1) row.0 row.1))) t.6
+      spells_suits MayStandBeforeType _ _ w.text (class_to g t.1).name (class_decl t.1) _ _ h (class_forms w.text (class_to g t.1) (class_named t.1 (named (class_decl t.1) row.0 row.1))) t.4
 
   qualifier_suits : (c : Context) (base : ℕ) (t : tree.TypeName A) (h : Choice) → QualifierSpells begins rows g c base t h → Suits MayStandAlone h
   qualifier_suits c base (tree.int m) h t = absurd t

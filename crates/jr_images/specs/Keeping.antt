@@ -10,8 +10,14 @@ use Rattle.jr_table.specs.Prelude.{top_key}
 use Rattle.jr_table.specs.Found.{one}
 use Rattle.jr_table.specs.Scope.{Scope}
 use Rattle.jr_table.specs.Lookup.{FindsTypeNamed, FindsTypeOf}
-use Rattle.jr_table.specs.Context.{Context, scope_of, WritesType}
-use Rattle.jr_table.specs.Binding.{Role, BindsItself, CreationFinds, SuperCtorFinds}
+use Rattle.jr_table.specs.Context.{Context, scope_of, NamesClass, WritesType}
+use Rattle.jr_table.specs.Binding.{
+  Role,
+  IsClassName,
+  BindsItself,
+  CreationFinds,
+  SuperCtorFinds,
+}
 use Rattle.jr_table.specs.HeadRules.{plain, TopFinds}
 use Rattle.jr_images.specs.Images.{
   Renaming,
@@ -40,22 +46,28 @@ module _ (g : Renaming) (rows : List Row) where
 
 module _ {A B : Type 0} (g : Renaming) (rows : List Row) where
   -- Of a type behind the name of class o, which was class k: a class stands in front of its dot,
-  -- and is bound to the image of o, and the name behind it to that of k. Or else the two new names
-  -- would not find the two images, and the type is respelled, the old class in front gone.
+  -- and is bound to the image of o, and the name behind it to that of k. Or else the two new names,
+  -- looked up as they are, would not find the image of k, and the type is respelled, the old class
+  -- in front gone.
   abbrev pub IsFrontKept : (old new : Scope) → tree.TypeName A → tree.TypeName B → Type 0
   IsFrontKept old new (tree.named m (Some v) w) u = (o k : ClassKey)
       → FindsTypeNamed rows old v.text (one (class_decl o))
       → FindsTypeOf rows old o w.text (one (class_decl k))
       → ((j : B) × (x y : tree.Word B) × (u ≡ tree.named j (Some x) y)
       × FindBoth g rows new o k x.text y.text)
-      ⊎ ((FindBoth g rows new o k (class_to g o).name (class_to g k).name → ⊥)
-      × IsRespelled g rows k u)
+      ⊎ ((NamesClass (rows_to g rows) new (Some (class_to g o).name) (class_to g k).name
+      (class_to g k) → ⊥) × IsRespelled g rows k u)
   IsFrontKept old new _ u = Unit {0}
 
   pub record IsTypeKept (old new : Scope) (t : tree.TypeName A) (u : tree.TypeName B)
       : Type 0 where
     pub means : (k : Ty) → WritesType rows old t k → WritesType (rows_to g rows) new u (type_to g k)
     pub front : IsFrontKept old new t u
+
+-- where nothing stands in front of it any more, a class stood there
+abbrev pub WasOnClass : {A B : Type 0} → List Row → Context → tree.Exp A → tree.Exp B → Type 0
+WasOnClass rows c e (tree.name k w) = (o : ClassKey) × IsClassName rows c e o
+WasOnClass rows c e _ = Unit {0}
 
 module _ {B : Type 0} (begins : B → ℕ → ℕ) (g : Renaming) (rows : List Row) where
   -- some reference of y itself is bound to the declaration, in the new program
@@ -72,6 +84,9 @@ module _ {A B : Type 0} (begins : A → ℕ → ℕ) (begins' : B → ℕ → �
         → IsBoundTo begins' g rows d r i y (decl_to g x)
     IsKept c d r b (tree.class_literal m t) i y = Unit {0}
     IsKept c d r b (tree.cast m t e) i y = Unit {0}
+    IsKept c d r b (tree.field m e w) i y = ((at : ℕ) (x : Decl)
+        → BindsItself begins rows c r b (tree.field m e w) at x
+        → IsBoundTo begins' g rows d r i y (decl_to g x)) × WasOnClass rows c e y
     IsKept c d r b e i y = (at : ℕ) (x : Decl) → BindsItself begins rows c r b e at x
         → IsBoundTo begins' g rows d r i y (decl_to g x)
 

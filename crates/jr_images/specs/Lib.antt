@@ -4,6 +4,7 @@ pub mod Images
 pub mod MethodIndex
 pub mod DeclSets
 pub mod ImageView
+pub mod Words
 pub mod Spelling
 pub mod Clashes
 pub mod Refusals
@@ -12,3 +13,4 @@ pub mod Keeping
 pub mod RenameLaws
 pub mod OneLocal
 pub mod TextLaws
+pub mod Standing

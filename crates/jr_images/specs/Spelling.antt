@@ -1,7 +1,8 @@
 -- How each reference of the old program is spelled in the new one: the first spelling that binds to
 -- the image of its declaration is taken, and what has none is lost (JLS 6.4.1, 6.4.2, 6.5). All is
 -- asked of the new rows and the new scope, with the images of the old operands' and arguments'
--- types.
+-- types. Each class in front of a dot is a reference of its own; what is asked behind it is looked
+-- up by the words as they are (`Words`), whatever class these find.
 use Rattle.std.specs.Prelude.{
   ◌≡◌,
   ℕ,
@@ -11,11 +12,7 @@ use Rattle.std.specs.Prelude.{
   Option,
   Some,
   None,
-  Bool,
-  true,
   false,
-  IsTrue,
-  ◌↔◌,
   codes,
   ◌⊎◌,
   if◌then◌else◌,
@@ -79,9 +76,10 @@ use Rattle.jr_spell.specs.declared.spellings.Form.TheVariants.{
   OnOuterClass,
   Class,
   OuterClass,
+  ClassInFront,
+  OuterClassInFront,
 }
 use Rattle.jr_spell.specs.References.{Reference, Operand}
-use Rattle.jr_spell.specs.Binds.{LeadsTo, LeadsIn}
 use Rattle.jr_spell.specs.Taken.{IsTaken, NoneBinds}
 use Rattle.jr_rewrite.specs.Respellings.{
   Front,
@@ -99,6 +97,15 @@ use Rattle.jr_rewrite.specs.Respellings.{
   loses,
 }
 use Rattle.jr_rewrite.specs.Rewrites.{Choosing}
+use Rattle.jr_images.specs.Words.{
+  InFront,
+  named_class,
+  FindsBehind,
+  FindsNext,
+  FirstStands,
+  NextStands,
+  WordsStand,
+}
 use Rattle.jr_images.specs.Images.{
   Renaming,
   name_to,
@@ -146,6 +153,8 @@ spelled old new k OnClass = respelled new (by_class k.name)
 spelled old new k OnOuterClass = respelled new (outer_front k)
 spelled old new k Class = respelled k.name alone
 spelled old new k OuterClass = respelled k.name (outer_type k)
+spelled old new k ClassInFront = respelled k.name alone
+spelled old new k OuterClassInFront = respelled k.name (outer_type k)
 
 -- ---- references
 
@@ -155,30 +164,20 @@ operand_of k = Some (record { ty = class k; text = [] })
 
 abbrev pub reference : RefForm → (asked : List ℕ) → Option Operand → List Ty → Reference
 reference form asked operand args =
-    record { form = form; asked = asked; operand = operand; leads = true; args = args }
+    record { form = form; asked = asked; operand = operand; front = None; args = args }
 
--- behind the words of a class, which lead to it, or don't
-abbrev pub behind_words : (leads : Bool) → Reference → Reference
-behind_words leads r = record
-    { form = r.form; asked = r.asked; operand = r.operand; leads = leads; args = r.args }
+-- behind words that stand so, or of such words
+abbrev pub behind_words : InFront → Reference → Reference
+behind_words w r = record {
+  form = r.form;
+  asked = r.asked;
+  operand = r.operand;
+  front = named_class w;
+  args = r.args;
+}
 
 abbrev pub dotted : (front back : List ℕ) → List ℕ
 dotted front back = front ++ (codes "." ++ back)
-
--- The words of a class in front of a dot, with the new names, lead to the image of the class: the
--- first to the image of what it meant, and so each further one behind the class in front of it,
--- and none is a variable's or a field's name (JLS 6.4.2, 6.5.2).
-module _ {A : Type 0} (rows : List Row) (g : Renaming) (c : Context) where
-  abbrev pub WordsLead : tree.Exp A → ClassKey → Type 0
-  WordsLead (tree.field m e w) k = (o : ClassKey) × IsClassName rows c e o × WordsLead e o
-      × LeadsIn (rows_to g rows) (scope_to g c) (class_to g o) (class_to g k).name (class_to g k)
-  WordsLead _ k =
-      LeadsTo (rows_to g rows) (scope_to g c) None (class_to g k).name (class_to g k)
-
--- the name of a class as a type, with the new name, leads to its image (JLS 6.5.5)
-abbrev pub TypeLeads : List Row → Renaming → Context → ClassKey → Type 0
-TypeLeads rows g c k = FindsTypeNamed (rows_to g rows) (scope_to g c) (class_to g k).name
-    (one (class_decl (class_to g k)))
 
 module _ {A : Type 0} (begins : A → ℕ → ℕ) (rows : List Row) (g : Renaming) where
   abbrev pub lost : (at : ℕ) → Decl → Found → Choice
@@ -193,7 +192,8 @@ module _ {A : Type 0} (begins : A → ℕ → ℕ) (rows : List Row) (g : Renami
       ⊎ (NoneBinds (rows_to g rows) s r (decl_to g d) × ((f : Found) × Finds f
       × (h ≡ lost at d f)))
 
-  -- the same of a class's name in front of a dot, which has no other spelling
+  -- the same of a class that has no other spelling: as a type in front of a dot, since a type has
+  -- one dot, and the superclass of a top-level class
   abbrev pub SpellsLeft : (at : ℕ) → (old : List ℕ) → ClassKey → (Leads : Type 0)
       → (Finds : Found → Type 0) → Choice → Type 0
   SpellsLeft at old k Leads Finds h = (Leads × (h ≡ renamed old (class_to g k).name))
@@ -221,8 +221,10 @@ module _ {A : Type 0} (begins : A → ℕ → ℕ) (rows : List Row) (g : Renami
   -- a class in front of a dot, where no variable has the name (JLS 6.4.2, 6.5.2)
   abbrev pub ClassSpells : Context → Role → (at : ℕ) → (old : List ℕ) → Choice → Type 0
   ClassSpells c left at old h = (k : ClassKey) × FindsVariable rows (scope_of c) old nothing
-      × FindsTypeNamed rows (scope_of c) old (one (class_decl k)) × SpellsLeft at old k
-      (LeadsTo (rows_to g rows) (scope_to g c) None (class_to g k).name (class_to g k))
+      × FindsTypeNamed rows (scope_of c) old (one (class_decl k))
+      × (w : InFront) × FirstStands rows g c k w
+      × Spells (scope_to g c) at old (class_to g k).name (class_decl k)
+      (behind_words w (reference ref.ClassInFront (class_to g k).name None []))
       (FindsLeft (rows_to g rows) (scope_to g c) (class_to g k).name) h
   ClassSpells c _ at old h = ⊥
 
@@ -241,20 +243,24 @@ module _ {A : Type 0} (begins : A → ℕ → ℕ) (rows : List Row) (g : Renami
       (λ k. Spells (scope_to g c) at old (field_to g f).name (field_decl f)
       (reference ref.FieldOn (field_to g f).name (operand_of (class_to g k)) [])
       (FindsFieldIn (rows_to g rows) (scope_to g c) (class_to g k) (field_to g f).name) h)
-      (λ k. (leads : Bool) × (IsTrue leads ↔ WordsLead rows g c e k)
+      (λ k. (w : InFront) × WordsStand rows g c e k w
       × Spells (scope_to g c) at old (field_to g f).name (field_decl f)
-      (behind_words leads
+      (behind_words w
       (reference ref.ThroughClass (field_to g f).name (operand_of (class_to g k)) []))
-      (FindsFieldIn (rows_to g rows) (scope_to g c) (class_to g k) (field_to g f).name) h)
+      (FindsBehind w
+      (λ o. FindsFieldIn (rows_to g rows) (scope_to g c) o (field_to g f).name)) h)
 
   -- a member class in front of a further dot, where no field has the name (JLS 6.5.2)
   abbrev pub MemberClassSpells : Context → Role → (at : ℕ) → tree.Exp A → (old : List ℕ) → Choice
       → Type 0
   MemberClassSpells c left at e old h = (o k : ClassKey) × IsClassName rows c e o
       × FindsFieldIn rows (scope_of c) o old nothing
-      × FindsTypeOf rows (scope_of c) o old (one (class_decl k)) × SpellsLeft at old k
-      (LeadsIn (rows_to g rows) (scope_to g c) (class_to g o) (class_to g k).name (class_to g k))
-      (FindsLeftOf (rows_to g rows) (scope_to g c) (class_to g o) (class_to g k).name) h
+      × FindsTypeOf rows (scope_of c) o old (one (class_decl k))
+      × (v : InFront) × WordsStand rows g c e o v × (w : InFront) × NextStands rows g c v k w
+      × Spells (scope_to g c) at old (class_to g k).name (class_decl k)
+      (behind_words w
+      (reference ref.ClassInFront (class_to g k).name (operand_of (class_to g o)) []))
+      (FindsNext rows g c v (class_to g k).name) h
   MemberClassSpells c _ at e old h = ⊥
 
   abbrev pub SuperFieldSpells : Context → (at : ℕ) → (old : List ℕ) → Choice → Type 0
@@ -283,12 +289,12 @@ module _ {A : Type 0} (begins : A → ℕ → ℕ) (rows : List Row) (g : Renami
       (reference ref.MethodOn (method_to g q).name (operand_of (class_to g k)) (types_to g ts))
       (FindsMethodOf (rows_to g rows) (scope_to g c) (class_to g k) (method_to g q).name
       (types_to g ts)) h)
-      (λ k. (leads : Bool) × (IsTrue leads ↔ WordsLead rows g c e k)
+      (λ k. (w : InFront) × WordsStand rows g c e k w
       × Spells (scope_to g c) at old (method_to g q).name (method_decl q)
-      (behind_words leads (reference ref.ThroughClass (method_to g q).name
+      (behind_words w (reference ref.ThroughClass (method_to g q).name
       (operand_of (class_to g k)) (types_to g ts)))
-      (FindsMethodOf (rows_to g rows) (scope_to g c) (class_to g k) (method_to g q).name
-      (types_to g ts)) h)
+      (FindsBehind w (λ o. FindsMethodOf (rows_to g rows) (scope_to g c) o (method_to g q).name
+      (types_to g ts))) h)
 
   abbrev pub SuperCallSpells : Context → (at : ℕ) → (old : List ℕ) → tree.Exps A → Choice → Type 0
   SuperCallSpells c at old args h = (q : MethodKey) × (ts : List Ty)
@@ -353,10 +359,8 @@ module _ {A : Type 0} (begins : A → ℕ → ℕ) (rows : List Row) (g : Renami
   TypeSpells c base (tree.named m (Some v) w) h = (o k : ClassKey)
       × FindsTypeNamed rows (scope_of c) v.text (one (class_decl o))
       × FindsTypeOf rows (scope_of c) o w.text (one (class_decl k))
-      × (leads : Bool) × (IsTrue leads ↔ TypeLeads rows g c o)
       × Spells (scope_to g c) (word_at begins m base w) w.text (class_to g k).name (class_decl k)
-      (behind_words leads
-      (reference ref.ClassName (dotted (class_to g o).name (class_to g k).name) None []))
+      (reference ref.ClassName (dotted (class_to g o).name (class_to g k).name) None [])
       (QualifiedFinds (scope_to g c) (class_to g o).name (class_to g k).name) h
   TypeSpells c base _ h = ⊥
 

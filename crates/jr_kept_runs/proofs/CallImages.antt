@@ -21,14 +21,14 @@ use Rattle.jr_rewrite.specs.Respellings.{Choice, front_of}
 use Rattle.jr_rewrite.specs.Rewritten.{word_to, operand_to, target_of, drops_operand, losses_of}
 use Rattle.jr_images.specs.Images.{Renaming, class_to, method_to, types_to, rows_to}
 use Rattle.jr_images.specs.Spelling.{spelled, reference, behind_words, operand_of, SimpleCallSpells, CallSpells, SuperCallSpells}
-use Rattle.jr_rename_laws.proofs.Chosen.{lost_some}
+use Rattle.jr_images.proofs.Chosen.{lost_some}
 use Rattle.jr_images.proofs.Forms.{one_form}
-use Rattle.jr_rename_laws.proofs.OneBound.{call_only, super_call_only}
+use Rattle.jr_images.proofs.OneBound.{call_only, super_call_only}
 use Rattle.jr_code.proofs.OneFound.{decided_one}
-use Rattle.jr_rename_laws.proofs.Rebound.{call_by_name, call_on_value, call_through_class, call_by_super}
-use Rattle.jr_rename_laws.proofs.Types.{to_scope}
-use Rattle.jr_rename_laws.proofs.Kept.{Kept}
-use Rattle.jr_rename_laws.proofs.World.{World}
+use Rattle.jr_images.proofs.Rebound.{call_by_name, call_on_value, call_through_class, call_by_super}
+use Rattle.jr_images.proofs.Types.{to_scope}
+use Rattle.jr_images.proofs.Kept.{Kept}
+use Rattle.jr_images.proofs.World.{World}
 use Rattle.jr_code.specs.RunKeys.{RunKeys}
 use Rattle.jr_code.specs.Coded.{Code, CallCode, SuperCallCode, place, ExpCode, ReceiverCode, RowCode}
 use Rattle.jr_kept_runs.specs.KeysTo.{keys_to, MapsAs, AreDeclared}
@@ -163,22 +163,22 @@ module _ {A : Type 0} (tells : A → ℕ → Span) (rows : List Row) (g : Renami
       Dotted x = tree.call m (target_of (operand_to m (front_of x) (Some y))) (word_to x v) es
 
       pub dotted_call_goal : CallSpells (λ m b. (tells m b).from) rows g c at e v.text args h → Goal (tree.call m (tree.on e) v args) (Dotted h)
-      dotted_call_goal (k, ts, finds, types, inl (o, named, (leads, lead, inl (f, taken, is)))) = subst (λ (x : Choice). Goal (tree.call m (tree.on e) v args) (Dotted x)) (sym is)
+      dotted_call_goal (k, ts, finds, types, inl (o, named, (words, stand, inl (f, taken, is)))) = subst (λ (x : Choice). Goal (tree.call m (tree.on e) v args) (Dotted x)) (sym is)
           (dotted_goal m v (word_to (spelled v.text (method_to g k).name (method_to g k).class f) v) args es row k e y _
           (class_front tells rows g c d w m v.mark v.text (method_to g k).name (method_decl (method_to g k)) (method_to g k).class y taken.place f taken.stands never
-          (class_outer tells rows g c d w r maps R has size below (behind_words leads (reference ref.ThroughClass (method_to g k).name (operand_of (class_to g o)) (types_to g ts))) (method_decl (method_to g k)) f binds))
+          (class_outer tells rows g c d w r maps R has size below (behind_words words (reference ref.ThroughClass (method_to g k).name (operand_of (class_to g o)) (types_to g ts))) (method_decl (method_to g k)) f binds))
           (inr never) finds
           (call_through_class (λ m b. (tells m b).from) (rows_to g rows) w.are w.one_new d w.new w.rebind w.fronts m v.mark v.text (method_to g k) es (types_to g ts) (args_to ts types)
-          y (class_to g o) leads taken.place f taken.stands
+          y (class_to g o) words taken.place f taken.stands
           (λ asked. (holds (ap (λ (q : Choice). drops_operand (front_of q)) (is ∙ ap (spelled v.text (method_to g k).name (method_to g k).class) asked) ∙ renamed_holds tells rows g c d w r maps R has size below v.text (method_to g k).name)).0.named o named)
           binds))
         where
-          binds : Binds (rows_to g rows) (scope_of d) (behind_words leads (reference ref.ThroughClass (method_to g k).name (operand_of (class_to g o)) (types_to g ts))) (method_decl (method_to g k)) f
-          binds = to_scope tells rows g c d w (behind_words leads (reference ref.ThroughClass (method_to g k).name (operand_of (class_to g o)) (types_to g ts))) (method_decl (method_to g k)) f taken.binds
+          binds : Binds (rows_to g rows) (scope_of d) (behind_words words (reference ref.ThroughClass (method_to g k).name (operand_of (class_to g o)) (types_to g ts))) (method_decl (method_to g k)) f
+          binds = to_scope tells rows g c d w (behind_words words (reference ref.ThroughClass (method_to g k).name (operand_of (class_to g o)) (types_to g ts))) (method_decl (method_to g k)) f taken.binds
 
           never : IsNever k
-          never = class_static tells rows g c d w r maps R has size below (class_to g o) leads (method_to g k).name (types_to g ts) (method_decl (method_to g k)) taken.place f taken.stands binds
-      dotted_call_goal (k, ts, finds, types, inl (o, named, (leads, lead, inr (none_binds, (f, found, is))))) = absurd (lost_some _ (sym (ap losses_of is) ∙ none))
+          never = class_static tells rows g c d w r maps R has size below (class_to g o) words (method_to g k).name (types_to g ts) (method_decl (method_to g k)) taken.place f taken.stands binds
+      dotted_call_goal (k, ts, finds, types, inl (o, named, (words, stand, inr (none_binds, (f, found, is))))) = absurd (lost_some _ (sym (ap losses_of is) ∙ none))
       dotted_call_goal (k, ts, finds, types, inr (not, (o, type, inl (f, taken, is)))) = subst (λ (x : Choice). Goal (tree.call m (tree.on e) v args) (Dotted x)) (sym is)
           (dotted_goal m v (word_to (spelled v.text (method_to g k).name (method_to g k).class f) v) args es row k e y _
           (value_front tells rows g c d w m v.mark v.text (method_to g k).name (method_decl (method_to g k)) (method_to g k).class y (class_to g o) (part.0.typed (class o) type) taken.place f taken.stands

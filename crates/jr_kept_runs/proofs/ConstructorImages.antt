@@ -10,7 +10,7 @@ use Rattle.jr_runs.specs.Rows as core_rows
 use Rattle.jr_runs.specs.KeyMaps.{KeyMap}
 use Rattle.jr_runs.specs.MemberTranslation.{in_front}
 use Rattle.jr_table.specs.Keys.{CtorKey, Ty}
-use Rattle.jr_table.specs.Decls.{MemberKey, Decl, class_decl, field_decl, constructor_decl, local_decl, LocalKey}
+use Rattle.jr_table.specs.Decls.{MemberKey, Decl, class_decl, constructor_decl}
 use Rattle.jr_table.specs.Decls as member
 use Rattle.jr_table.specs.Rows.{Row}
 use Rattle.jr_table.specs.Entries.{IsRowOf}
@@ -25,14 +25,14 @@ use Rattle.jr_rewrite.specs.Rewritten.{Rewritten, joined, losses_of}
 use Rattle.jr_rewrite.specs.Rewrites.{Choosing, RewritesSuper, RewritesMember}
 use Rattle.jr_images.specs.Images.{Renaming, ctor_to, types_to, member_to, type_to, rows_to}
 use Rattle.jr_images.specs.Spelling.{spelling, reference, SuperCtorSpells}
-use Rattle.jr_rename_laws.specs.Standing.{ContextTo}
-use Rattle.jr_rename_laws.proofs.Chosen.{left_none, right_none, lost_some, lost_none}
+use Rattle.jr_images.specs.Standing.{ContextTo}
+use Rattle.jr_images.proofs.Chosen.{left_none, right_none, lost_some, lost_none}
 use Rattle.jr_images.proofs.Forms.{one_form}
 use Rattle.jr_code.proofs.OneFound.{super_once as one_super}
-use Rattle.jr_rename_laws.proofs.World.{World}
-use Rattle.jr_rename_laws.proofs.Types.{to_scope}
-use Rattle.jr_rename_laws.proofs.Kept.{kept_row}
-use Rattle.jr_rename_laws.proofs.Members.{with_params_to}
+use Rattle.jr_images.proofs.World.{World}
+use Rattle.jr_images.proofs.Types.{to_scope}
+use Rattle.jr_images.proofs.Kept.{kept_row}
+use Rattle.jr_images.proofs.Members.{with_params_to}
 use Rattle.jr_code.specs.RunKeys.{RunKeys, Place}
 use Rattle.jr_code.specs.RunRows.{HasRow}
 use Rattle.jr_code.specs.CodedStatements.{StatementCode, ListCode, StmtsCode}

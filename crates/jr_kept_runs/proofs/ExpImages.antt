@@ -26,16 +26,16 @@ use Rattle.jr_spell.specs.declared.references.RefForm.TheVariants as ref
 use Rattle.jr_spell.specs.Binds.{Binds}
 use Rattle.jr_rewrite.specs.Respellings.{Choice}
 use Rattle.jr_rewrite.specs.Rewritten.{Rewritten, plain, within, joined, losses_of, word_out, name_out, field_out, super_field_out, simple_call_out, dotted_call_out, operand_losses, Called}
-use Rattle.jr_rewrite.specs.Rewrites.{Choosing, RewritesExp, RewritesTarget, RewritesRow}
+use Rattle.jr_rewrite.specs.Rewrites.{Choosing, RewritesExp, RewritesRow, TransformsExp, TransformsTarget, TransformsRow}
 use Rattle.jr_images.specs.Images.{Renaming, class_to, type_to, types_to, ctor_to, rows_to}
 use Rattle.jr_images.specs.Spelling.{spelling, reference, operand_of, CreationSpells}
-use Rattle.jr_rename_laws.proofs.Chosen.{lost_some, left_none, right_none, lost_none}
+use Rattle.jr_images.proofs.Chosen.{lost_some, left_none, right_none, lost_none}
 use Rattle.jr_images.proofs.Forms.{one_form}
-use Rattle.jr_rename_laws.proofs.OneBound.{has_one_type}
+use Rattle.jr_images.proofs.OneBound.{has_one_type}
 use Rattle.jr_code.proofs.OneFound.{decided_one, written_once}
-use Rattle.jr_rename_laws.proofs.Types.{to_scope, type_kept}
-use Rattle.jr_rename_laws.proofs.Kept.{kept, kept_row, operand_none}
-use Rattle.jr_rename_laws.proofs.World.{World}
+use Rattle.jr_images.proofs.Types.{to_scope, type_kept}
+use Rattle.jr_images.proofs.Kept.{kept, kept_row, operand_none}
+use Rattle.jr_images.proofs.World.{World}
 use Rattle.jr_code.specs.RunKeys.{RunKeys, Place}
 use Rattle.jr_code.specs.Coded.{Code, TargetCode, CastCode, place, ExpCode, TargetOf, RowCode}
 use Rattle.jr_kept_runs.specs.KeysTo.{keys_to, MapsAs, AreDeclared}
@@ -204,7 +204,7 @@ module _ {A : Type 0} (tells : A → ℕ → Span) (rows : List Row) (g : Renami
   ends x z a b = rows_by x core.Exps.end z core.Exps.end a b end_to
 
   mutual
-    unfolding RewritesExp RewritesTarget RewritesRow ExpCode TargetOf RowCode
+    unfolding TransformsExp TransformsTarget TransformsRow ExpCode TargetOf RowCode
 
     pub images : (r : Role) (base : ℕ) (e : tree.Exp A) (o : Rewritten (tree.Exp A)) → RewritesExp tells Chosen c r base e o → o.losses ≡ [] → Both e o.tree
     images r base (tree.number m n) o is none = move (tree.number m n) o (plain (tree.number m n)) is ((λ b i x z old new. literal_pair (here m b) (there m i) (core_value.int (wrapped (pos n))) x z old new), (λ b i t u old new. absurd old))

@@ -1,5 +1,5 @@
 -- What a respelling puts in front of a word, as code: `this` and a cast of it are `this`, a cast of a value that can't fail is the value, and a class is nothing.
-use Rattle.std.proofs.Common.{◌≡◌, ℕ, List, [], ◌∷◌, Option, Some, None, true, refl, sym, ap, subst, ◌∙◌, inl, inr}
+use Rattle.std.proofs.Common.{◌≡◌, ℕ, List, [], ◌∷◌, Option, Some, None, refl, sym, ap, subst, ◌∙◌, inl, inr}
 use Rattle.std.specs.Prelude.{slice_get, ◌⊎◌}
 use Rattle.jr_text.specs.declared.spans.Span.{Span}
 use Rattle.jr_ast.specs.Tree as tree
@@ -20,10 +20,10 @@ use Rattle.jr_rewrite.specs.Respellings.{Front, front_of}
 use Rattle.jr_rewrite.specs.Rewritten.{word_to, operand_to, variable_to, super_to, new_word, cast_tree}
 use Rattle.jr_images.specs.Images.{Renaming, rows_to}
 use Rattle.jr_images.specs.Spelling.{spelled}
-use Rattle.jr_rename_laws.proofs.Chosen.{outer_front_is}
+use Rattle.jr_images.proofs.Chosen.{outer_front_is}
 use Rattle.jr_images.proofs.Forms.{two_forms, three_forms, four_forms, six_forms, with_name}
-use Rattle.jr_rename_laws.proofs.OneBound.{has_one_type}
-use Rattle.jr_rename_laws.proofs.World.{World}
+use Rattle.jr_images.proofs.OneBound.{has_one_type}
+use Rattle.jr_images.proofs.World.{World}
 use Rattle.jr_code.specs.RunKeys.{Place}
 use Rattle.jr_code.specs.Coded.{Code, ExpCode}
 
@@ -86,7 +86,7 @@ module _ {A : Type 0} (tells : A → ℕ → Span) (rows : List Row) (g : Renami
 
   module _ (m n : A) (old : List ℕ) (k : FieldKey) where
     abbrev simple : Reference
-    simple = record { form = ref.FieldSimple; asked = k.name; operand = None; leads = true; args = [] }
+    simple = record { form = ref.FieldSimple; asked = k.name; operand = None; front = None; args = [] }
 
     abbrev SimpleTo : Form → Type 0
     SimpleTo f = Binds (rows_to g rows) (scope_of d) simple (field_decl k) f
@@ -106,7 +106,7 @@ module _ {A : Type 0} (tells : A → ℕ → Span) (rows : List Row) (g : Renami
     -- ---- by `super`
 
     abbrev of_super : Reference
-    of_super = record { form = ref.FieldSuper; asked = k.name; operand = None; leads = true; args = [] }
+    of_super = record { form = ref.FieldSuper; asked = k.name; operand = None; front = None; args = [] }
 
     abbrev SuperTo : Form → Type 0
     SuperTo f = Binds (rows_to g rows) (scope_of d) of_super (field_decl k) f

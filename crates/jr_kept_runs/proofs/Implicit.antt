@@ -18,8 +18,8 @@ use Rattle.jr_table.specs.Calls.{Fit, IsCtorCandidate}
 use Rattle.jr_table.specs.Lookup.{FindsCtorOf}
 use Rattle.jr_table.specs.Context.{Context, scope_of, IsSuperclass}
 use Rattle.jr_images.specs.Images.{Renaming, class_to, ctor_to, rows_to}
-use Rattle.jr_rename_laws.specs.Standing.{ContextTo}
-use Rattle.jr_rename_laws.proofs.Places.{scope_image, superclass_image}
+use Rattle.jr_images.specs.Standing.{ContextTo}
+use Rattle.jr_images.proofs.Places.{scope_image, superclass_image}
 use Rattle.jr_code.specs.CodedMembers.{ImplicitFinds}
 
 -- ---- numbers of classes

@@ -18,14 +18,14 @@ use Rattle.jr_table.specs.HeadRules.{plain as no_locals, is_static_member}
 use Rattle.jr_table.specs.Binding.{HasType, SuperCtorFinds, value, word_at}
 use Rattle.jr_rewrite.specs.Rewritten.{Rewritten, joined, within}
 use Rattle.jr_rewrite.specs.Respellings.{Choice, text_of}
-use Rattle.jr_rewrite.specs.Rewrites.{Choosing, RewritesMember, RewritesMaybe, RewritesOne, RewritesMembers}
+use Rattle.jr_rewrite.specs.Rewrites.{Choosing, RewritesMember, RewritesMaybe, RewritesOne, RewritesMembers, TransformsMembers, TransformsOne}
 use Rattle.jr_images.specs.Images.{Renaming, class_to, field_to, ctor_to, member_to, name_to, type_to, rows_to}
 use Rattle.jr_images.specs.Spelling.{spelling}
-use Rattle.jr_rename_laws.specs.Standing.{ContextTo}
+use Rattle.jr_images.specs.Standing.{ContextTo}
 use Rattle.jr_members.specs.WrittenMembers.{decl_of_member}
-use Rattle.jr_rename_laws.proofs.Chosen.{left_none, right_none, lost_none, renamed_text}
-use Rattle.jr_rename_laws.proofs.World.{World}
-use Rattle.jr_rename_laws.proofs.Members.{plain_to}
+use Rattle.jr_images.proofs.Chosen.{left_none, right_none, lost_none, renamed_text}
+use Rattle.jr_images.proofs.World.{World}
+use Rattle.jr_images.proofs.Members.{plain_to}
 use Rattle.jr_code.specs.RunKeys.{RunKeys, Place}
 use Rattle.jr_code.specs.Coded.{Code, ExpCode}
 use Rattle.jr_code.specs.CodedStatements.{StatementCode}
@@ -134,7 +134,7 @@ module _ {A : Type 0} (tells : A → ℕ → Span) (last : A → ℕ → ℕ) (r
 
   pub inits_walk : (of of' : ClassKey) → of' ≡ class_to g of → HasRow rows (class_decl of) → (b : ℕ) (ms : syntax.Members A) (q : Rewritten (syntax.Members A)) → RewritesMembers tells Chosen declarations b of ms q → q.losses ≡ []
       → Written b of ms → (ss ts : List StatementCode) → InitsCoded begins last rows places of b ms ss → InitsCoded begins last (rows_to g rows) places' of' b q.tree ts → Inits ss ts
-  unfolding RewritesMembers RewritesOne InitsCoded InMembers
+  unfolding TransformsMembers TransformsOne InitsCoded InMembers
   inits_walk of of' to owner b syntax.end q is none written ss ts old new =
       let n : ts ≡ [] = subst (λ (z : Rewritten (syntax.Members A)). InitsCoded begins last (rows_to g rows) places' of' b z.tree ts) is new in
       subst (λ (z : List StatementCode). Inits z ts) (sym old) (subst (λ (z : List StatementCode). Inits [] z) (sym n) (λ size. tt))

@@ -28,10 +28,10 @@ use Rattle.jr_rewrite.specs.Rewritten.{Rewritten}
 use Rattle.jr_rewrite.specs.Rewrites.{RewritesUnits}
 use Rattle.jr_images.specs.Images.{Renaming, method_to, ctor_to, row_to, rows_to}
 use Rattle.jr_images.specs.Spelling.{spelling}
-use Rattle.jr_rename_laws.specs.Standing.{ContextTo}
+use Rattle.jr_images.specs.Standing.{ContextTo}
 use Rattle.jr_rename_laws.specs.Beside.{UnitsBeside}
 use Rattle.jr_rename_laws.specs.ImageLaws.{IsClassImage, IsMemberImage}
-use Rattle.jr_rename_laws.proofs.World.{World}
+use Rattle.jr_images.proofs.World.{World}
 use Rattle.jr_rename_laws.proofs.DeclarationRows.{no_locals, no_local_at}
 use Rattle.jr_code.specs.RunKeys.{RunKeys}
 use Rattle.jr_code.specs.Exchanged.{exchanged}

@@ -12,7 +12,7 @@ use Rattle.jr_runs.specs.Rows as core_rows
 use Rattle.jr_runs.specs.KeyMaps.{KeyMap}
 use Rattle.jr_runs.specs.MemberTranslation.{is_synchronized, locked, monitor}
 use Rattle.jr_table.specs.Keys.{ClassKey, MethodKey, Ty}
-use Rattle.jr_table.specs.Decls.{MemberKey, Decl, class_decl, field_decl, constructor_decl, local_decl, LocalKey}
+use Rattle.jr_table.specs.Decls.{MemberKey, class_decl}
 use Rattle.jr_table.specs.Decls as member
 use Rattle.jr_table.specs.Rows.{Row}
 use Rattle.jr_table.specs.Entries.{IsRowOf, class_of_member}
@@ -25,10 +25,10 @@ use Rattle.jr_rewrite.specs.Rewritten.{Rewritten, joined}
 use Rattle.jr_rewrite.specs.Rewrites.{Choosing, RewritesParams, RewritesMember}
 use Rattle.jr_images.specs.Images.{Renaming, class_to, method_to, member_to, type_to, rows_to}
 use Rattle.jr_images.specs.Spelling.{spelling}
-use Rattle.jr_rename_laws.specs.Standing.{ContextTo}
-use Rattle.jr_rename_laws.proofs.Chosen.{right_none, lost_none}
-use Rattle.jr_rename_laws.proofs.World.{World}
-use Rattle.jr_rename_laws.proofs.Members.{with_params_to}
+use Rattle.jr_images.specs.Standing.{ContextTo}
+use Rattle.jr_images.proofs.Chosen.{right_none, lost_none}
+use Rattle.jr_images.proofs.World.{World}
+use Rattle.jr_images.proofs.Members.{with_params_to}
 use Rattle.jr_code.specs.RunKeys.{RunKeys}
 use Rattle.jr_code.specs.Coded.{Code}
 use Rattle.jr_code.specs.CodedStatements.{ListCode, StmtsCode}

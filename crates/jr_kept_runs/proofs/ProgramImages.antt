@@ -24,15 +24,15 @@ use Rattle.jr_table.specs.HeadRules.{plain as no_locals, types_of}
 use Rattle.jr_table.specs.Binding.{HasType, SuperCtorFinds}
 use Rattle.jr_members.specs.WrittenMembers.{decl_of_member}
 use Rattle.jr_rewrite.specs.Rewritten.{Rewritten, joined, within}
-use Rattle.jr_rewrite.specs.Rewrites.{Choosing, RewritesMember, RewritesOne, RewritesMembers, RewritesClass, RewritesClasses, RewritesUnits}
+use Rattle.jr_rewrite.specs.Rewrites.{Choosing, RewritesMember, RewritesOne, RewritesMembers, RewritesClass, RewritesClasses, RewritesUnits, TransformsClass, TransformsMembers, TransformsOne}
 use Rattle.jr_images.specs.Images.{Renaming, class_to, method_to, ctor_to, member_to, type_to, rows_to}
 use Rattle.jr_images.specs.Spelling.{spelling}
-use Rattle.jr_rename_laws.specs.Standing.{ContextTo}
+use Rattle.jr_images.specs.Standing.{ContextTo}
 use Rattle.jr_rename_laws.specs.ImageLaws.{IsClassImage, IsMemberImage}
 use Rattle.jr_rename_laws.specs.Beside.{ClassBeside, MembersBeside, MemberBeside, ClassesBeside, UnitsBeside}
-use Rattle.jr_rename_laws.proofs.Chosen.{left_none, right_none, lost_none}
-use Rattle.jr_rename_laws.proofs.World.{World}
-use Rattle.jr_rename_laws.proofs.Members.{plain_to}
+use Rattle.jr_images.proofs.Chosen.{left_none, right_none, lost_none}
+use Rattle.jr_images.proofs.World.{World}
+use Rattle.jr_images.proofs.Members.{plain_to}
 use Rattle.jr_code.specs.RunKeys.{RunKeys}
 use Rattle.jr_code.specs.CodedStatements.{StatementCode}
 use Rattle.jr_code.specs.CodedMembers.{ImplicitFinds, DefaultCoded, OneCoded, ClassCoded, MembersCoded, InnerCoded, ClassesCoded, UnitsCoded}
@@ -140,7 +140,7 @@ module _ {A : Type 0} (tells : A → ℕ → Span) (last : A → ℕ → ℕ) (r
   inits_elsewhere (s ∷ ss) [] (u ∷ us) e h size = absurd cc
 
   rewrites_ctor : (b : ℕ) (of : ClassKey) (ms : syntax.Members A) (q : Rewritten (syntax.Members A)) → RewritesMembers tells Chosen declarations b of ms q → writes_ctor begins q.tree ≡ writes_ctor begins ms
-  unfolding RewritesMembers RewritesOne
+  unfolding TransformsMembers TransformsOne
   rewrites_ctor b of syntax.end q is = ap (λ (l : Rewritten (syntax.Members A)). writes_ctor begins l.tree) is
   rewrites_ctor b of (syntax.more (syntax.field m mods t w init) xs) q (p, z, (k, declares, (x, v, y, types, declared, made, that)), rest, is) =
       ap (λ (l : Rewritten (syntax.Members A)). writes_ctor begins l.tree) is ∙ ap (λ (l : Rewritten (syntax.Member A)). writes_ctor begins (syntax.more l.tree z.tree)) that ∙ rewrites_ctor b of xs z rest
@@ -215,7 +215,7 @@ module _ {A : Type 0} (tells : A → ℕ → Span) (last : A → ℕ → ℕ) (r
   -- ---- classes
 
   mutual
-    unfolding RewritesClass RewritesMembers RewritesOne ClassBeside MembersBeside MemberBeside ClassCoded MembersCoded InnerCoded InClass InMembers InInner OfClass OfMembers OfMember map_class map_member map_members
+    unfolding TransformsClass TransformsMembers TransformsOne ClassBeside MembersBeside MemberBeside ClassCoded MembersCoded InnerCoded InClass InMembers InInner OfClass OfMembers OfMember map_class map_member map_members
 
     pub class_walk : (b i : ℕ) (o p : Option (List ℕ)) (c : syntax.Class A) (q : Rewritten (syntax.Class A)) (d : syntax.Class A) → bare_class d ≡ bare_class q.tree → RewritesClass tells Chosen declarations b o c q → q.losses ≡ []
         → ClassBeside begins begins IsNamed IsImage b i o p c d → ((k : MemberKey) → InClass begins declarations Nothing b o c k → HasRow rows (decl_of_member k))

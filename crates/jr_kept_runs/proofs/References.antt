@@ -14,10 +14,10 @@ use Rattle.jr_table.specs.Entries.{is_static_word}
 use Rattle.jr_table.specs.Context.{Context, IsStaticDecl, IsInstanceDecl}
 use Rattle.jr_table.specs.Binding.{value, BindsItself, word_at}
 use Rattle.jr_images.specs.Images.{Renaming, field_to, method_to, decl_to, row_to, rows_to}
-use Rattle.jr_rename_laws.proofs.Places.{row_image}
-use Rattle.jr_rename_laws.proofs.OneBound.{name_only, field_only, super_field_only}
-use Rattle.jr_rename_laws.proofs.Rebound.{Stands}
-use Rattle.jr_rename_laws.proofs.World.{World}
+use Rattle.jr_images.proofs.Places.{row_image}
+use Rattle.jr_images.proofs.OneBound.{name_only, field_only, super_field_only}
+use Rattle.jr_images.proofs.Rebound.{Stands}
+use Rattle.jr_images.proofs.World.{World}
 use Rattle.jr_code.specs.RunKeys.{RunKeys, Place}
 use Rattle.jr_code.specs.Coded.{Code, TargetCode, IsOwn, FieldCode, VariableCode, CallCode, SuperCallCode, place, NameTarget, SuperTarget, DottedTarget}
 use Rattle.jr_kept_runs.specs.KeysTo.{keys_to, MapsAs, AreDeclared}

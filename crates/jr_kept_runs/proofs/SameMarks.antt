@@ -218,7 +218,7 @@ module _ {A : Type 0} (begins : A → ℕ → ℕ) (rows : List Row) (c : Contex
         let ops : s ≡ t = cc in
         let n = recode (begins m b) (begins k i) o p values x first in
         let l = recode (begins m b) (begins k i) f g others y second in
-        subst (λ j. Again i (tree.binary k j p g) z) ops (operation (place begins rows c (begins k i)) s n.0 l.0, (n.0, l.0, n.1, l.1, refl), ap no_places h ∙ operation_recode s _ (place begins rows c (begins k i)) x y n.0 l.0 n.2 l.2)
+        subst (λ j. Again i (tree.binary k j p g) z) ops (operation (place begins rows c (begins k i)) s n.0 l.0, (n.0, l.0, n.1, l.1, refl {a = operation (place begins rows c (begins k i)) s n.0 l.0}), ap no_places h ∙ operation_recode s _ (place begins rows c (begins k i)) x y n.0 l.0 n.2 l.2)
     recode b i (tree.assign m o f) (tree.assign k p g) e z (x, y, first, second, h) =
         let values : bare o ≡ bare p = cc in
         let others : bare f ≡ bare g = cc in

@@ -16,7 +16,7 @@ use Rattle.jr_table.specs.Chains.{parent_of, GoesUp, IsChain}
 use Rattle.jr_table.specs.Conditions.{as_type}
 use Rattle.jr_table.specs.Keyed.{IsSubclass, DispatchesTo}
 use Rattle.jr_images.specs.Images.{Renaming, class_to, field_to, method_to, ctor_to, type_to, decl_to, row_to, rows_to}
-use Rattle.jr_rename_laws.proofs.Places.{row_image}
+use Rattle.jr_images.proofs.Places.{row_image}
 use Rattle.jr_code.specs.RunKeys.{RunKeys}
 use Rattle.jr_code.specs.RunRows.{kind_of_words, run_type, held_type, HasRow, AreRunRows}
 use Rattle.jr_kept_runs.specs.KeysTo.{keys_to, MapsAs}
@@ -317,8 +317,14 @@ module _ (rows : List Row) (g : Renaming) (a : TablesAgree rows g) where
           (λ h. (old.same_class c d).1 (sym (undoes.class c) ∙ ap r.class ((new.same_class (r.class c) (r.class d)).0 h) ∙ undoes.class d))
           (λ h. (new.same_class (r.class c) (r.class d)).1 (ap r.class ((old.same_class c d).0 h)));
       is_subclass = λ c d. same_truth (S.is_subclass (r.class c) (r.class d)) (R.is_subclass c d)
-          (λ h. (old.is_subclass c d).1 (sub_back c d ((new.is_subclass (r.class c) (r.class d)).0 h)))
-          (λ h. (new.is_subclass (r.class c) (r.class d)).1 (sub_forth c d ((old.is_subclass c d).0 h)));
+          (λ h. (old.is_subclass c d).1 (elim ((new.is_subclass (r.class c) (r.class d)).0 h) [
+            | inl same ↦ inl (sym (undoes.class c) ∙ ap r.class same ∙ undoes.class d)
+            | inr below ↦ inr (sub_back c d below)
+          ]))
+          (λ h. (new.is_subclass (r.class c) (r.class d)).1 (elim ((old.is_subclass c d).0 h) [
+            | inl same ↦ inl (ap r.class same)
+            | inr below ↦ inr (sub_forth c d below)
+          ]));
       text_class = new.text_class ∙ sym a.string ∙ sym (maps.class (top_key (codes "String")) 2 (string_row 2 (top_key (codes "String")) _ refl refl a.old.own refl)) ∙ ap r.class (sym old.text_class);
       class_class = new.class_class ∙ sym a.class ∙ sym (maps.class (top_key (codes "Class")) 3 (string_row 3 (top_key (codes "Class")) _ refl refl a.old.own refl)) ∙ ap r.class (sym old.class_class);
       field_kind = kind_same;

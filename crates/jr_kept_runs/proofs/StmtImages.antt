@@ -20,14 +20,14 @@ use Rattle.jr_table.specs.Context.{Context, Local, local_type, scope_of, scope_l
 use Rattle.jr_table.specs.Binding.{HasType, Role, value}
 use Rattle.jr_table.specs.Binding as role
 use Rattle.jr_rewrite.specs.Rewritten.{Rewritten, within, joined, word_to}
-use Rattle.jr_rewrite.specs.Rewrites.{Choosing, RewritesExp, RewritesMaybe, RewritesStmt, RewritesElse, RewritesStmts}
+use Rattle.jr_rewrite.specs.Rewrites.{Choosing, RewritesExp, RewritesMaybe, RewritesStmt, RewritesElse, RewritesStmts, TransformsStmt, TransformsElse, TransformsStmts}
 use Rattle.jr_images.specs.Images.{Renaming, type_to, rows_to}
 use Rattle.jr_images.specs.Spelling.{spelling}
-use Rattle.jr_rename_laws.specs.Standing.{ContextTo}
-use Rattle.jr_rename_laws.proofs.Chosen.{left_none, right_none, lost_none}
-use Rattle.jr_rename_laws.proofs.World.{World}
-use Rattle.jr_rename_laws.proofs.Types.{written_kept}
-use Rattle.jr_rename_laws.proofs.Sides.{own_more, new_local, after_to}
+use Rattle.jr_images.specs.Standing.{ContextTo}
+use Rattle.jr_images.proofs.Chosen.{left_none, right_none, lost_none}
+use Rattle.jr_images.proofs.World.{World}
+use Rattle.jr_images.proofs.Types.{written_kept}
+use Rattle.jr_images.proofs.Sides.{own_more, new_local, after_to}
 use Rattle.jr_code.specs.RunKeys.{RunKeys, Place}
 use Rattle.jr_code.specs.Coded.{Code, ExpCode}
 use Rattle.jr_code.specs.CodedStatements.{numbers, StatementCode, ListCode, ReturnCode, StmtCode, ElseCode, StmtsCode}
@@ -152,7 +152,7 @@ module _ {A : Type 0} (tells : A → ℕ → Span) (last : A → ℕ → ℕ) (r
 
   -- as many locals are declared
   mutual
-    unfolding RewritesStmt RewritesElse RewritesStmts locals_in locals_in_else locals_in_row
+    unfolding TransformsStmt TransformsElse TransformsStmts locals_in locals_in_else locals_in_row
 
     same_count : (n : ℕ) (c : Context) (b : ℕ) (x : statement.Stmt A) (q : Rewritten (statement.Stmt A)) → RewritesStmt tells Chosen n c b x q → locals_in q.tree ≡ locals_in x
     same_count n c b (statement.local m f t w e) q (p, v, z, types, declared, inner, is) = ap (λ (y : Rewritten (statement.Stmt A)). locals_in y.tree) is
@@ -175,7 +175,7 @@ module _ {A : Type 0} (tells : A → ℕ → Span) (last : A → ℕ → ℕ) (r
         ∙ (λ i. same_count n c b x p inner i + same_count_row (n + locals_in x) (after n c x) b xs z rest i)
 
   mutual
-    unfolding RewritesStmt RewritesElse RewritesStmts StmtCode ElseCode StmtsCode locals_in locals_in_else locals_in_row
+    unfolding TransformsStmt TransformsElse TransformsStmts StmtCode ElseCode StmtsCode locals_in locals_in_else locals_in_row
 
     pub stmt_images : (n : ℕ) (c d : Context) → ContextTo g rows c d → AreBelow size c.locals → IsPlace rows c → (b : ℕ) (x : statement.Stmt A) (q : Rewritten (statement.Stmt A)) → RewritesStmt tells Chosen n c b x q → q.losses ≡ []
         → n + locals_in x ≤ size → StmtGoal n n c d x q.tree

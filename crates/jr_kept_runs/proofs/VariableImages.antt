@@ -1,5 +1,5 @@
 -- Variables: the code of a respelled one is the image of the old code.
-use Rattle.std.proofs.Common.{◌≡◌, ◌<◌, ℕ, List, [], ◌∷◌, Option, Some, None, Bool, false, refl, sym, ap, subst, ◌∙◌, inl, inr}
+use Rattle.std.proofs.Common.{◌≡◌, ◌<◌, ℕ, List, [], ◌∷◌, Option, Some, None, false, refl, sym, ap, subst, ◌∙◌, inl, inr}
 use Rattle.std.specs.Prelude.{slice_get, ◌⊎◌}
 use Rattle.jr_text.specs.declared.spans.Span.{Span}
 use Rattle.jr_ast.specs.Tree as tree
@@ -25,15 +25,16 @@ use Rattle.jr_spell.specs.Binds.{Binds}
 use Rattle.jr_rewrite.specs.Respellings.{Choice, front_of}
 use Rattle.jr_rewrite.specs.Rewritten.{word_to, operand_to, variable_on, variable_to, super_to, drops_operand, losses_of}
 use Rattle.jr_images.specs.Images.{Renaming, class_to, field_to, local_to, name_to, rows_to}
+use Rattle.jr_images.specs.Words.{InFront}
 use Rattle.jr_images.specs.Spelling.{spelled, renamed, reference, behind_words, operand_of, LocalSpells, OwnFieldSpells, ClassSpells, FieldSpells, MemberClassSpells, SuperFieldSpells}
-use Rattle.jr_rename_laws.proofs.Chosen.{lost_some, renamed_front}
+use Rattle.jr_images.proofs.Chosen.{lost_some, renamed_front}
 use Rattle.jr_images.proofs.Forms.{one_form, two_forms, three_forms, with_name}
-use Rattle.jr_rename_laws.proofs.OneBound.{one_decl, not_nothing, class_one}
+use Rattle.jr_images.proofs.OneBound.{one_decl, not_nothing, class_one}
 use Rattle.jr_code.proofs.OneFound.{decided_one}
-use Rattle.jr_rename_laws.proofs.Rebound.{simple_field, field_on_value, field_by_super, field_through}
-use Rattle.jr_rename_laws.proofs.Types.{to_scope}
-use Rattle.jr_rename_laws.proofs.Kept.{Kept}
-use Rattle.jr_rename_laws.proofs.World.{World}
+use Rattle.jr_images.proofs.Rebound.{simple_field, field_on_value, field_by_super, field_through}
+use Rattle.jr_images.proofs.Types.{to_scope}
+use Rattle.jr_images.proofs.Kept.{Kept}
+use Rattle.jr_images.proofs.World.{World}
 use Rattle.jr_code.specs.RunKeys.{RunKeys, Place}
 use Rattle.jr_code.specs.Coded.{Code, TargetCode, IsOwn, FieldCode, VariableCode, place, NameTarget, SuperTarget, ExpCode, TargetOf}
 use Rattle.jr_kept_runs.specs.KeysTo.{keys_to, MapsAs, AreDeclared}
@@ -181,7 +182,7 @@ module _ {A : Type 0} (tells : A → ℕ → Span) (rows : List Row) (g : Renami
     -- a class has no code
     pub class_goals : (o : Role) → ClassSpells (λ m b. (tells m b).from) rows g c o at v.text h → (y : tree.Exp A) → Goals (tree.name m v) y
     unfolding ExpCode TargetOf
-    class_goals left (k, free, finds, spells) y = (
+    class_goals left (k, free, finds, words, stands, spells) y = (
       λ b i x z (t, (q, found, code), is) new. absurd (not_nothing q (w.one_old.variable (scope_of c) v.text (one q) nothing found free)),
       λ b i t u (q, found, code) new. absurd (not_nothing q (w.one_old.variable (scope_of c) v.text (one q) nothing found free)),
     )
@@ -227,10 +228,10 @@ module _ {A : Type 0} (tells : A → ℕ → Span) (rows : List Row) (g : Renami
       by (q, class_is, through) = let same : o ≡ q = cc in (through.named, subst (λ (z : ClassKey). IsSubclass (rows_to g rows) z (class_of x)) (sym same) through.above)
 
   -- through a class it is no instance member, and the outer class is the one that it has
-  pub class_static : (o : ClassKey) (leads : Bool) (asked : List ℕ) (args : List Ty) (x : Decl) (place : ℕ) (f : Form) → slice_get (Asked ∷ OnClass ∷ OnOuterClass ∷ []) place ≡ Some f
-      → Binds (rows_to g rows) (scope_of d) (behind_words leads (reference ref.ThroughClass asked (operand_of o) args)) x f → IsInstanceDecl (rows_to g rows) x → ⊥
-  class_static o leads asked args x place f there = three_forms (λ f. Binds (rows_to g rows) (scope_of d) (behind_words leads (reference ref.ThroughClass asked (operand_of o) args)) x f → IsInstanceDecl (rows_to g rows) x → ⊥)
-      (λ binds. binds.2.member.static) (λ binds. binds.1.static) (λ binds. binds.3.static) place f there
+  pub class_static : (o : ClassKey) (words : InFront) (asked : List ℕ) (args : List Ty) (x : Decl) (place : ℕ) (f : Form) → slice_get (Asked ∷ OnClass ∷ OnOuterClass ∷ []) place ≡ Some f
+      → Binds (rows_to g rows) (scope_of d) (behind_words words (reference ref.ThroughClass asked (operand_of o) args)) x f → IsInstanceDecl (rows_to g rows) x → ⊥
+  class_static o words asked args x place f there = three_forms (λ f. Binds (rows_to g rows) (scope_of d) (behind_words words (reference ref.ThroughClass asked (operand_of o) args)) x f → IsInstanceDecl (rows_to g rows) x → ⊥)
+      (λ binds. binds.2.static) (λ binds. binds.1.static) (λ binds. binds.3.static) place f there
 
   pub class_outer : (r2 : Reference) (x : Decl) (f : Form) → Binds (rows_to g rows) (scope_of d) r2 x f → f ≡ OnOuterClass → (o : List ℕ) × ((class_of x).outer ≡ Some o)
   class_outer r2 x f binds is = let b = subst (λ (z : Form). Binds (rows_to g rows) (scope_of d) r2 x z) is binds in (b.0, b.1)
@@ -283,23 +284,23 @@ module _ {A : Type 0} (tells : A → ℕ → Span) (rows : List Row) (g : Renami
         (cast_above (class_to g o) ref.FieldOn (field_to g k).name [] (field_decl (field_to g k)) f binds))
         (field_on_value (λ m b. (tells m b).from) (rows_to g rows) w.are w.one_new d w.new w.rebind w.fronts m v.mark v.text (field_to g k) y (class_to g o) (part.0.typed (class o) type) (part.0.apart not) n f there binds)
 
-    class_field : (k : FieldKey) → FieldFinds rows c e v.text (one (field_decl k)) → (o : ClassKey) → IsClassName rows c e o → (leads : Bool)
+    class_field : (k : FieldKey) → FieldFinds rows c e v.text (one (field_decl k)) → (o : ClassKey) → IsClassName rows c e o → (words : InFront)
         → (n : ℕ) (f : Form) → slice_get (Asked ∷ OnClass ∷ OnOuterClass ∷ []) n ≡ Some f
-        → Binds (rows_to g rows) (scope_of d) (behind_words leads (reference ref.ThroughClass (field_to g k).name (operand_of (class_to g o)) [])) (field_decl (field_to g k)) f
+        → Binds (rows_to g rows) (scope_of d) (behind_words words (reference ref.ThroughClass (field_to g k).name (operand_of (class_to g o)) [])) (field_decl (field_to g k)) f
         → h ≡ spelled v.text (field_to g k).name (field_to g k).class f → Goals (tree.field m e v) (NewField (spelled v.text (field_to g k).name (field_to g k).class f))
-    class_field k finds o named leads n f there binds is =
-        let never = class_static (class_to g o) leads (field_to g k).name [] (field_decl (field_to g k)) n f there binds in
+    class_field k finds o named words n f there binds is =
+        let never = class_static (class_to g o) words (field_to g k).name [] (field_decl (field_to g k)) n f there binds in
         dotted_target k finds (word_to (spelled v.text (field_to g k).name (field_to g k).class f) v) (operand_to m (front_of (spelled v.text (field_to g k).name (field_to g k).class f)) (Some y)) (inr never)
         (class_front tells rows g c d w m v.mark v.text (field_to g k).name (field_decl (field_to g k)) (field_to g k).class y n f there never
-        (class_outer (behind_words leads (reference ref.ThroughClass (field_to g k).name (operand_of (class_to g o)) [])) (field_decl (field_to g k)) f binds))
-        (field_through (λ m b. (tells m b).from) (rows_to g rows) w.are w.one_new d w.new w.rebind w.fronts m v.mark v.text (field_to g k) y (class_to g o) leads n f there
+        (class_outer (behind_words words (reference ref.ThroughClass (field_to g k).name (operand_of (class_to g o)) [])) (field_decl (field_to g k)) f binds))
+        (field_through (λ m b. (tells m b).from) (rows_to g rows) w.are w.one_new d w.new w.rebind w.fronts m v.mark v.text (field_to g k) y (class_to g o) words n f there
         (λ asked. (holds (ap (λ (q : Choice). drops_operand (front_of q)) (is ∙ ap (spelled v.text (field_to g k).name (field_to g k).class) asked) ∙ renamed_holds v.text (field_to g k).name)).0.named o named) binds)
 
     pub field_goals : FieldSpells (λ m b. (tells m b).from) rows g c at e v.text h → Goals (tree.field m e v) (NewField h)
-    field_goals (k, finds, inl (o, named, (leads, lead, inl (f, taken, is)))) = subst (λ (x : Choice). Goals (tree.field m e v) (NewField x)) (sym is)
-        (class_field k finds o named leads taken.place f taken.stands
-        (to_scope tells rows g c d w (behind_words leads (reference ref.ThroughClass (field_to g k).name (operand_of (class_to g o)) [])) (field_decl (field_to g k)) f taken.binds) is)
-    field_goals (k, finds, inl (o, named, (leads, lead, inr (none_binds, (f, found, is))))) = absurd (lost_some _ (sym (ap losses_of is) ∙ none))
+    field_goals (k, finds, inl (o, named, (words, stand, inl (f, taken, is)))) = subst (λ (x : Choice). Goals (tree.field m e v) (NewField x)) (sym is)
+        (class_field k finds o named words taken.place f taken.stands
+        (to_scope tells rows g c d w (behind_words words (reference ref.ThroughClass (field_to g k).name (operand_of (class_to g o)) [])) (field_decl (field_to g k)) f taken.binds) is)
+    field_goals (k, finds, inl (o, named, (words, stand, inr (none_binds, (f, found, is))))) = absurd (lost_some _ (sym (ap losses_of is) ∙ none))
     field_goals (k, finds, inr (not, (o, type, inl (f, taken, is)))) = subst (λ (x : Choice). Goals (tree.field m e v) (NewField x)) (sym is)
         (value_field k finds not o type taken.place f taken.stands
         (to_scope tells rows g c d w (reference ref.FieldOn (field_to g k).name (operand_of (class_to g o)) []) (field_decl (field_to g k)) f taken.binds) is)
@@ -314,7 +315,7 @@ module _ {A : Type 0} (tells : A → ℕ → Span) (rows : List Row) (g : Renami
 
     pub member_class_goals : (o : Role) → MemberClassSpells (λ m b. (tells m b).from) rows g c o at e v.text h → (z : tree.Exp A) → Goals (tree.field m e v) z
     unfolding ExpCode TargetOf
-    member_class_goals left (o, k, owner, free, finds, spells) z = (
+    member_class_goals left (o, k, owner, free, finds, front, before, words, stands, spells) z = (
       λ b i x q (t, (n, found, code), is) new. absurd (no_member_class o owner free n found),
       λ b i t u (n, found, code) new. absurd (no_member_class o owner free n found),
     )

@@ -20,11 +20,11 @@ use Rattle.jr_lex.specs.Symbols.{symbol_text}
 use Rattle.jr_lex.specs.Lexemes.{IsLexeme}
 use Rattle.jr_lex.specs.Lexes.{IsItemAt, Cuts, IsEnd}
 use Rattle.jr_lex.specs.Replacing.{item_of}
-use Rattle.jr_lex.specs.Beside.{goes_on, number_beside, beside, Piece, IsPiece, ArePieces, first_beside, AreApart, join_pieces, items_from, PiecesLex}
+use Rattle.jr_lex.specs.Beside.{goes_on, spoils_number, EndsBefore, number_beside, beside, Piece, IsPiece, ArePieces, first_beside, AreApart, join_pieces, items_from, PiecesLex}
 use Rattle.jr_lex.proofs.WordLaws.{keyword-IsWord}
 use Rattle.jr_lex.proofs.FirstLaws.{is_ascii_other, other-start, digit-blank, blank_cases, word_start-blank, word_start-digit}
 use Rattle.jr_lex.proofs.ScanLaws.{byte_len-chars}
-use Rattle.jr_lex.proofs.EndLaws.{spoils_number, EndsBefore, lexeme_ends}
+use Rattle.jr_lex.proofs.EndLaws.{lexeme_ends}
 
 -- ---- how a lexeme begins
 
@@ -121,6 +121,10 @@ goes_apart symbol.ShiftRight c apart digit = or_from (c == 61) (c == 62) (apart 
 goes_apart symbol.UnsignedShiftRight c apart digit = apart 61 refl
 goes_apart _ c apart digit = refl
 
+-- what begins a word goes on in no symbol
+pub word_goes : (s : Symbol) (c : ℕ) → is_word_start c ≡ true → goes_on s c ≡ false
+word_goes s c starts = goes_apart s c (word_apart c starts) (word_start-digit c starts)
+
 goes_apart-digit : (s : Symbol) (c : ℕ) → number_beside s ≡ true → is_digit c ≡ true → goes_on s c ≡ false
 goes_apart-digit symbol.Dot c h digit = absurd (false≢true h)
 goes_apart-digit symbol.Colon c h digit = digit_apart c digit 58 refl
@@ -205,14 +209,14 @@ behind_number n (item.Token (token.Mark s)) h = both_fail is_word_part (λ c. c 
 behind_symbol : (s : Symbol) (l : ItemKind) → beside (item.Token (token.Mark s)) l ≡ true → Begins l (goes_on s)
 behind_symbol s item.Blank h = λ c blank. goes_apart s c (blank_apart c blank) (blank_digit c blank)
 behind_symbol s item.Comment h = absurd (false≢true h)
-behind_symbol s (item.Token token.Word) h = λ c starts. goes_apart s c (word_apart c starts) (word_start-digit c starts)
-behind_symbol s (item.Token (token.Keyword k)) h = λ c starts. goes_apart s c (word_apart c starts) (word_start-digit c starts)
+behind_symbol s (item.Token token.Word) h = word_goes s
+behind_symbol s (item.Token (token.Keyword k)) h = word_goes s
 behind_symbol s (item.Token (token.Int n)) h = λ c digit. goes_apart-digit s c h digit
 behind_symbol s (item.Token token.Text) h = no_quote s
 behind_symbol s (item.Token (token.Mark t)) h = not-true _ h
 
 -- what may stand behind lets a lexeme end
-lets_end : (k l : ItemKind) (front rest : List ℕ) → beside k l ≡ true → IsLexeme l front → EndsBefore k (front ++ rest)
+pub lets_end : (k l : ItemKind) (front rest : List ℕ) → beside k l ≡ true → IsLexeme l front → EndsBefore k (front ++ rest)
 lets_end item.Blank item.Blank front rest h lexeme = absurd (false≢true h)
 lets_end item.Blank item.Comment front rest h lexeme = absurd (false≢true h)
 lets_end item.Blank (item.Token u) front rest h lexeme = first_of_lexeme is_blank (item.Token u) front rest lexeme (behind_blank u)

@@ -1,5 +1,5 @@
 //! The reordering grid, as the "Can Reorder" table of the JSR-133 Cookbook has it.
-use jr_sync::{Kind, is_allowed};
+use jr_sync::{Kind, allowed};
 use std::alloc::Global;
 use std::process::Abort;
 
@@ -40,7 +40,7 @@ pub(crate) fn moves_behind(rt: &impl Abort, alloc: Global, name: &str) -> String
         Kind::Exit,
         Kind::Still,
     ] {
-        if is_allowed(first, second) {
+        if allowed(first, second) {
             write!(&mut told, " {second:?}").expect(rt, "memory");
         }
     }

@@ -96,5 +96,5 @@ fn rows_about_programs(rt: HostRuntime) {
     assert_rows(&rt, rt.alloc(), "", names::ROWS, 7);
     assert_rows(&rt, rt.alloc(), lookups::PROGRAM, lookups::ROWS, 52);
     assert_rows(&rt, rt.alloc(), tables::PROGRAM, tables::ROWS, 35);
-    assert_rows(&rt, rt.alloc(), spellings::PROGRAM, spellings::ROWS, 83);
+    assert_rows(&rt, rt.alloc(), spellings::PROGRAM, spellings::ROWS, 98);
 }

@@ -1,10 +1,10 @@
 //! How references are spelled in one small program.
-use crate::keys::{class_key, decl, name_of, ty, tys};
+use crate::keys::{decl, name_of, ty, tys};
 use crate::rows::cut_at;
 use crate::scopes::scope;
-use jr_lookup::Scope;
-use jr_spell::{Operand, RefForm, Reference, is_type, leads_in, leads_simply, respell};
-use jr_table::{Decl, Table};
+use jr_lookup::{Scope, field_of, member_type, type_named, variable};
+use jr_spell::{Operand, RefForm, Reference, respell};
+use jr_table::{ClassKey, Decl, Found, Table};
 use std::alloc::Global;
 use std::process::Abort;
 
@@ -29,9 +29,9 @@ class U { static class E extends V.G {} static class O {} }
 ";
 
 /// The form of a reference; a place's class, with `static` in front if it is in a static context;
-/// its locals; the asked spelling; the operand's type and text, or through a class the classes that
-/// its words mean, or of a type's name the class in front of its dot; the declaration's kind, class
-/// and name; the types of arguments; and the spelling that is expected, nothing if there is none.
+/// its locals; the asked spelling; the operand's type and text, or the class that stands in front
+/// of the dot; the declaration's kind, class and name; the types of arguments; and the spelling
+/// that is expected, nothing if there is none.
 pub(crate) const ROWS: &'static str = "
 ~# A field by its simple name.
 ~spell FieldSimple C;;x;;field C x => x
@@ -93,37 +93,41 @@ pub(crate) const ROWS: &'static str = "
 ~# A method that is asked for as a field has no spelling.
 ~spell FieldSimple C;;m;;method B m =>\x20
 ~# A field or a method through a class.
-~spell ThroughClass W.D;;B.s;B B;field A s => B.s
+~spell ThroughClass W.D;;B.s;B;field A s => B.s
 ~# The class hides the field.
-~spell ThroughClass W.D;;C.s;C C;field A s => A.s
+~spell ThroughClass W.D;;C.s;C;field A s => A.s
 ~# A local obscures the class.
-~spell ThroughClass W.D;B;B.s;B B;field A s => A.s
-~spell ThroughClass W.D;B A;B.s;B B;field A s =>\x20
+~spell ThroughClass W.D;B;B.s;B;field A s => A.s
+~spell ThroughClass W.D;B A;B.s;B;field A s =>\x20
 ~# A class below one that has the member, and a local that obscures it.
-~spell ThroughClass W;;D.t;W.D W.D;field O.I t => D.t
-~spell ThroughClass W;D;D.t;W.D W.D;field O.I t => O.I.t
+~spell ThroughClass W;;D.t;W.D;field O.I t => D.t
+~spell ThroughClass W;D;D.t;W.D;field O.I t => O.I.t
 ~# A class that is written behind another, and a local that obscures that one.
-~spell ThroughClass B;;O.I.t;O.I O,O.I;field O.I t => O.I.t
-~spell ThroughClass O;O;O.I.t;O.I O,O.I;field O.I t => I.t
+~spell ThroughClass B;;O.I.t;O.I;field O.I t => O.I.t
+~spell ThroughClass O;O;O.I.t;O.I;field O.I t => I.t
 ~# Behind a class that has it as a member type.
-~spell ThroughClass B;;E.I.t;O.I E,O.I;field O.I t => E.I.t
+~spell ThroughClass B;;E.I.t;O.I;field O.I t => E.I.t
 ~# Behind more words, and a local that obscures the first one.
-~spell ThroughClass B;;V.G.I.t;O.I V,V.G,O.I;field O.I t => V.G.I.t
-~spell ThroughClass B;V;V.G.I.t;O.I V,V.G,O.I;field O.I t => O.I.t
+~spell ThroughClass B;;V.G.I.t;O.I;field O.I t => V.G.I.t
+~spell ThroughClass B;V;V.G.I.t;O.I;field O.I t => O.I.t
 ~# No local obscures a further word.
-~spell ThroughClass B;G I;V.G.I.t;O.I V,V.G,O.I;field O.I t => V.G.I.t
-~# A word that is another class's member, though the last one is found.
-~spell ThroughClass B;;V.G.I.t;O.I V,E,O.I;field O.I t => O.I.t
+~spell ThroughClass B;G I;V.G.I.t;O.I;field O.I t => V.G.I.t
+~# Words that find another class, which has the member too.
+~spell ThroughClass Y;;E.I.t;O.I;field O.I t => E.I.t
+~# One that has no such member class.
+~spell ThroughClass Z;;O.I.t;O.I;field O.I t => I.t
+~# The class that stands in front has no such member.
+~spell ThroughClass B;;E.I.t;A;field O.I t => O.I.t
 ~# An instance field.
-~spell ThroughClass W.D;;B.x;B B;field B x =>\x20
+~spell ThroughClass W.D;;B.x;B;field B x =>\x20
 ~# A field obscures the class.
-~spell ThroughClass O;;A.s;A A;field A s =>\x20
+~spell ThroughClass O;;A.s;A;field A s =>\x20
 ~# Methods.
-~spell ThroughClass W.D;;B.sm;B B;method A sm => B.sm
-~spell ThroughClass W.D;;C.sm;C C;method A sm => A.sm
-~spell ThroughClass W;D;D.u;W.D W.D;method O.I u => O.I.u
+~spell ThroughClass W.D;;B.sm;B;method A sm => B.sm
+~spell ThroughClass W.D;;C.sm;C;method A sm => A.sm
+~spell ThroughClass W;D;D.u;W.D;method O.I u => O.I.u
 ~# An instance method.
-~spell ThroughClass W.D;;B.m;B B;method B m =>\x20
+~spell ThroughClass W.D;;B.m;B;method B m =>\x20
 ~# A method by its simple name.
 ~spell MethodSimple C;;m;;method B m => m
 ~# A class hides the static method (JLS 8.4.8.2).
@@ -154,18 +158,40 @@ pub(crate) const ROWS: &'static str = "
 ~# A name that is not in scope.
 ~spell ClassName B;;I;;class O.I => O.I
 ~# As it is written, behind its class or one below that.
-~spell ClassName B;;O.I;O;class O.I => O.I
-~spell ClassName B;;E.I;E;class O.I => E.I
+~spell ClassName B;;O.I;;class O.I => O.I
+~spell ClassName B;;E.I;;class O.I => E.I
 ~# Another class has the name in front.
-~spell ClassName Z;;O.I;O;class O.I => I
+~spell ClassName Z;;O.I;;class O.I => I
 ~# It has the member class too.
-~spell ClassName Y;;E.I;E;class O.I => O.I
+~spell ClassName Y;;E.I;;class O.I => E.I
 ~# So it has, and another class has the name of the class around.
-~spell ClassName U;;E.I;E;class O.I =>\x20
+~spell ClassName U;;E.I;;class O.I => E.I
+~spell ClassName U;;O.I;;class O.I =>\x20
 ~# A private class.
-~spell ClassName B;;O.H;O;class O.H =>\x20
+~spell ClassName B;;O.H;;class O.H =>\x20
 ~# Another class has the name.
 ~spell ClassName E;;B;;class B =>\x20
+~# A class in front of a dot.
+~spell ClassInFront O;;I;;class O.I => I
+~# A local obscures it.
+~spell ClassInFront O;I;I;;class O.I => O.I
+~# A name that is not in scope.
+~spell ClassInFront B;;I;;class O.I => O.I
+~# As it is written, behind its class or one below that.
+~spell ClassInFront B;;O.I;O;class O.I => O.I
+~spell ClassInFront B;;E.I;E;class O.I => E.I
+~# A local obscures the first word, and the class around.
+~spell ClassInFront B;E;E.I;E;class O.I => O.I
+~spell ClassInFront B;E O;E.I;E;class O.I =>\x20
+~# No local obscures a further word.
+~spell ClassInFront B;I;E.I;E;class O.I => E.I
+~# Another class has the name in front: one with the member class, and one without.
+~spell ClassInFront Y;;E.I;E;class O.I => E.I
+~spell ClassInFront Z;;O.I;O;class O.I => I
+~# The class that stands in front has no such member class.
+~spell ClassInFront B;;E.I;A;class O.I => O.I
+~# A field obscures it.
+~spell ClassInFront O;;A;;class A =>\x20
 ~# A local, a method by `super`, a constructor.
 ~spell AsAsked C;i;i;;local 0 => i
 ~# A later local of the name.
@@ -193,6 +219,7 @@ fn form_named(form: &str) -> RefForm {
         "MethodSimple" => RefForm::MethodSimple,
         "MethodOn" => RefForm::MethodOn,
         "ClassName" => RefForm::ClassName,
+        "ClassInFront" => RefForm::ClassInFront,
         _ => RefForm::AsAsked,
     }
 }
@@ -213,53 +240,111 @@ fn target(rt: &impl Abort, alloc: Global, place: &str, text: &str) -> Box<Decl> 
     decl(rt, alloc, kind, class, name, "")
 }
 
-/// Whether words in front of a dot lead to these classes, one after the other.
-fn words_lead(rt: &impl Abort, alloc: Global, table: &Table, scope: &Scope, path: &str) -> bool {
-    let mut leads = true;
-    let mut around = None;
-    for word in path.split(',') {
-        let class = class_key(rt, alloc, word);
-        leads = leads
-            & match &around {
-                None => leads_simply(table, scope, &class.name, &class),
-                Some(outer) => leads_in(table, scope, outer, &class.name, &class),
-            };
-        around = Some(class);
+fn as_class(rt: &impl Abort, decl: &Decl) -> Option<ClassKey> {
+    match decl {
+        Decl::Class(key) => Some(key.copy().expect(rt, "memory")),
+        Decl::Field(_) => None,
+        Decl::Method(_) => None,
+        Decl::Ctor(_) => None,
+        Decl::Local(_) => None,
     }
-    leads
 }
 
-/// Whether the name of a class as a type leads to it; so where there is none.
-fn type_leads(rt: &impl Abort, alloc: Global, table: &Table, scope: &Scope, word: &str) -> bool {
-    if word.is_empty() {
-        return true;
+/// The class that is found, if one is and nothing obscures it.
+fn found_class(rt: &impl Abort, obscuring: &Found, found: &Found) -> Option<ClassKey> {
+    match obscuring {
+        Found::Nothing => match found {
+            Found::One(decl) => as_class(rt, decl),
+            Found::Nothing => None,
+            Found::Many(_, _) => None,
+            Found::NotAccessible(_) => None,
+            Found::FromStatic(_) => None,
+        },
+        Found::One(_) => None,
+        Found::Many(_, _) => None,
+        Found::NotAccessible(_) => None,
+        Found::FromStatic(_) => None,
     }
-    let class = class_key(rt, alloc, word);
-    is_type(table, scope, &class.name, &class)
 }
 
-/// Whether the words in front of the last dot lead to the classes that they mean.
-fn leads(
+/// The class that a first word finds in front of a dot, if it finds one.
+fn first_class(
+    rt: &impl Abort,
+    alloc: Global,
+    table: &Table,
+    scope: &Scope,
+    word: &str,
+) -> Option<ClassKey> {
+    let name = name_of(rt, alloc, word);
+    let obscuring = variable(table, scope, &name).expect(rt, "memory");
+    let found = type_named(table, scope, &name).expect(rt, "memory");
+    found_class(rt, &obscuring, &found)
+}
+
+/// The same of a word behind the name of a class.
+fn next_class(
+    rt: &impl Abort,
+    alloc: Global,
+    table: &Table,
+    scope: &Scope,
+    around: &Option<ClassKey>,
+    word: &str,
+) -> Option<ClassKey> {
+    match around {
+        None => None,
+        Some(class) => {
+            let name = name_of(rt, alloc, word);
+            let obscuring = field_of(table, scope, class, &name).expect(rt, "memory");
+            let found = member_type(table, scope, class, &name).expect(rt, "memory");
+            found_class(rt, &obscuring, &found)
+        }
+    }
+}
+
+/// The class that words find in front of a dot, all of them or all but the last.
+fn words_class(
+    rt: &impl Abort,
+    alloc: Global,
+    table: &Table,
+    scope: &Scope,
+    words: &str,
+    all: bool,
+) -> Option<ClassKey> {
+    let mut before = None;
+    let mut last = None;
+    let mut is_first = true;
+    for word in words.split('.') {
+        let next = if is_first {
+            first_class(rt, alloc, table, scope, word)
+        } else {
+            next_class(rt, alloc, table, scope, &last, word)
+        };
+        before = last;
+        last = next;
+        is_first = false;
+    }
+    if all { last } else { before }
+}
+
+/// The class that the asked words find where it is asked by one.
+fn front(
     rt: &impl Abort,
     alloc: Global,
     table: &Table,
     scope: &Scope,
     form: &str,
-    of: &str,
-) -> bool {
+    asked: &str,
+) -> Option<ClassKey> {
     match form {
-        "ThroughClass" => {
-            let (_, path) = cut_at(of, " ");
-            words_lead(rt, alloc, table, scope, path)
-        }
-        "ClassName" => type_leads(rt, alloc, table, scope, of),
-        _ => true,
+        "ThroughClass" => words_class(rt, alloc, table, scope, asked, false),
+        "ClassInFront" => words_class(rt, alloc, table, scope, asked, true),
+        _ => None,
     }
 }
 
-/// A type, and a text or the classes of words; nothing where there is neither.
-fn operand(rt: &impl Abort, alloc: Global, form: &str, text: &str) -> Option<Operand> {
-    if text.is_empty() | (form == "ClassName") {
+/// A type, and a text; nothing where there is neither.
+fn operand(rt: &impl Abort, alloc: Global, text: &str) -> Option<Operand> {
+    if text.is_empty() {
         return None;
     }
     let (of, text) = cut_at(text, " ");
@@ -274,17 +359,17 @@ fn reference(
     form: &str,
     asked: &str,
     of: &str,
-    leads: bool,
+    front: Option<ClassKey>,
     args: &str,
 ) -> Box<Reference> {
     let asked = name_of(rt, alloc, asked);
     let args = tys(rt, alloc, args);
-    let operand = operand(rt, alloc, form, of);
+    let operand = operand(rt, alloc, of);
     let reference = Reference {
         form: form_named(form),
         asked,
         operand,
-        leads,
+        front,
         args,
     };
     Box::new(alloc, reference).expect(rt, "memory")
@@ -300,8 +385,8 @@ pub(crate) fn spell(rt: &impl Abort, alloc: Global, table: &Table, asked: &str) 
     let (of, rest) = cut_at(rest, ";");
     let (named, args) = cut_at(rest, ";");
     let scope = place(rt, alloc, at, locals);
-    let leads = leads(rt, alloc, table, &scope, form, of);
-    let reference = reference(rt, alloc, form, asked, of, leads, args);
+    let front = front(rt, alloc, table, &scope, form, asked);
+    let reference = reference(rt, alloc, form, asked, of, front, args);
     let target = target(rt, alloc, at, named);
     let spelling = respell(alloc, table, &scope, &reference, &target).expect(rt, "memory");
     match &spelling {

@@ -19,7 +19,7 @@ use Rattle.jr_images.specs.Refusals.{HasPreludeMethod, ChangesPrelude, IsFirstCh
 use Rattle.jr_images.specs.Renames as renames
 use Rattle.jr_images.specs.Renames.{Renames, OfPrelude, Clashes, Overrides, IsRefused}
 use Rattle.jr_grammar.specs.Layout.{itself}
-use Rattle.jr_rewriting.specs.Rewritings.{IsRewriting}
+use Rattle.jr_new_files.specs.Rewritings.{IsRewriting}
 use Rattle.jr_cursor.specs.ProgramTargets.{HasTargetAt}
 use Rattle.jr_rename.specs.Afters.{PlansRows, AnswersRows}
 use Rattle.jr_rename.specs.Answers.{Gives, SparesPrelude, AnswersKeeping, AnswersOf, Answers}

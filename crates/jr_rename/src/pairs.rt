@@ -2,11 +2,11 @@
 ghost use Rattle.std.specs.Prelude.{◌≡◌, ◌++◌, ◌∷◌, [], IfOk, OnOk};
 ghost use Rattle.jr_table.specs.KeyView.{decl_of};
 ghost use Rattle.jr_images.specs.Renames.{pairs_of};
-ghost use Rattle.jr_respell.specs.Scopes.{rows_in, renaming_in, AreImages};
+ghost use Rattle.jr_new_words.specs.Scopes.{rows_in, renaming_in, AreImages};
 ghost use Rattle.jr_rename.specs.Pairs.{pairs_view, changed};
 
 use jr_names::Renaming;
-use jr_respell::Programs;
+use jr_new_words::Programs;
 use jr_table::Decl;
 use std::alloc::{AllocError, Global};
 

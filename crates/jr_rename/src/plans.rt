@@ -5,7 +5,7 @@ ghost use Rattle.jr_members.specs.PartView.{written_of};
 ghost use Rattle.jr_names.specs.Refusals.{bad_target};
 ghost use Rattle.jr_names.specs.Replies.{not_planned};
 ghost use Rattle.jr_names.specs.ReplyView.{outcome_of};
-ghost use Rattle.jr_rewriting.specs.Gathered.{members_of};
+ghost use Rattle.jr_new_files.specs.FileEffects.{members_of};
 ghost use Rattle.jr_rename.specs.declared.afters.After.TheVariants.{Unknown};
 ghost use Rattle.jr_rename.specs.Plans.{Plans};
 ghost use Rattle.jr_rename.specs.Afters.{IsAfter};

@@ -11,7 +11,7 @@ ghost use Rattle.jr_images.specs.ImageView.{renaming_of};
 ghost use Rattle.jr_bind.specs.Programs.{units_of};
 ghost use Rattle.jr_program_laws.specs.FileParts.{begins};
 ghost use Rattle.jr_images.specs.Clashes.{IsClear};
-ghost use Rattle.jr_rewriting.specs.Gathered.{members_of};
+ghost use Rattle.jr_new_files.specs.FileEffects.{members_of};
 ghost use Rattle.jr_rename.specs.declared.afters.After.TheVariants.{Unknown};
 ghost use Rattle.jr_rename.specs.Afters.{TellsRowsOf, AnswersAfter};
 ghost use Rattle.jr_rename.specs.Answers.{Answers, SparesPrelude, AnswersSparing, AnswersOf};

@@ -67,7 +67,7 @@ module _ (g h : Renaming) (alike : AreAlike g h) where
   member_same (method k) = λ i. method (method_same k i)
   member_same (constructor k) = λ i. constructor (record { class = class_same k.class i; params = types_same k.params i })
 
-  local_same : (k : LocalKey) → local_to g k ≡ local_to h k
+  pub local_same : (k : LocalKey) → local_to g k ≡ local_to h k
   local_same k = λ i. record { member = member_same k.member i; number = k.number }
 
   decl_same : (d : Decl) → decl_to g d ≡ decl_to h d

@@ -1,5 +1,5 @@
 -- Where a class is renamed, the new rows are fair.
-use Rattle.std.proofs.Common.{◌≡◌, ℕ, ◌<◌, List, [], ◌∷◌, length, Option, Some, None, Bool, true, false, refl, sym, ap, subst, ◌∙◌, inr, arith}
+use Rattle.std.proofs.Common.{◌≡◌, ℕ, List, [], ◌∷◌, length, Option, Some, None, Bool, true, false, refl, sym, ap, subst, ◌∙◌, inr, arith}
 use Rattle.std.specs.Prelude.{option_map, slice_get, codes}
 use Rattle.std.specs.List.{position_or_len}
 use Rattle.jr_ast.specs.MemberTree as syntax

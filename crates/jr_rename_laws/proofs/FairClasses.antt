@@ -5,17 +5,17 @@ use Rattle.std.specs.Prelude.{◌^◌, option_map, option_and_then, slice_get, i
 use Rattle.std.proofs.lemmas.Option.{slice_get-map, same_Some}
 use Rattle.jr_table.specs.declared.entries.Entry.{Entry}
 use Rattle.jr_table.specs.Keys.{ClassKey, FieldKey, MethodKey, CtorKey, Ty, int, boolean, void, null, class}
-use Rattle.jr_table.specs.Decls.{MemberKey, head, field, method, constructor, LocalKey, Decl, class_decl, field_decl, method_decl, constructor_decl, local_decl}
+use Rattle.jr_table.specs.Decls.{field, method, LocalKey, Decl, class_decl, field_decl, method_decl, constructor_decl, local_decl}
 use Rattle.jr_table.specs.SameDecls.{same_decl}
 use Rattle.jr_table.specs.SameKeys.{same_class, class_decides}
 use Rattle.jr_table.specs.Rows.{Row}
 use Rattle.jr_table.specs.Prelude.{prelude_rows, top_key}
-use Rattle.jr_table.specs.Entries.{IsRowOf, number_of, class_of_member, class_of, params_of, outer_name, entry_of, entries_of}
+use Rattle.jr_table.specs.Entries.{IsRowOf, number_of, class_of, params_of, outer_name, entry_of, entries_of}
 use Rattle.jr_table.specs.Chains.{parent_of, Climbs}
 use Rattle.jr_table.specs.Conditions.{TypesName, Names, as_declarer, as_outer, as_superclass, as_type, as_parameter, AreRows}
 use Rattle.jr_table.proofs.RowLaws.{entry_at}
 use Rattle.jr_members.proofs.Walking.{map_join}
-use Rattle.jr_images.specs.Images.{Renaming, is_renamed, name_to, outer_to, class_to, type_to, types_to, member_to, decl_to, row_to, rows_to}
+use Rattle.jr_images.specs.Images.{Renaming, is_renamed, name_to, outer_to, class_to, type_to, types_to, decl_to, row_to, rows_to}
 use Rattle.jr_images.proofs.KeyImages.{keeps_name, decl_class_to, params_to, new_entry, at_new, old_row}
 use Rattle.jr_images.proofs.Imaging.{map_some}
 use Rattle.jr_rename_laws.proofs.Still.{gets_name}

@@ -5,7 +5,7 @@ use Rattle.std.specs.Cmp.Lexicographic.{bytes_decides}
 use Rattle.std.proofs.lemmas.Option.{same_Some}
 use Rattle.jr_text.specs.declared.spans.Span.{Span}
 use Rattle.jr_ast.specs.Tree as tree
-use Rattle.jr_ast.specs.Remarked.{map_type, map_exp, map_exps}
+use Rattle.jr_ast.specs.Remarked.{map_exp}
 use Rattle.jr_table.specs.Keys.{ClassKey, class}
 use Rattle.jr_table.specs.Decls.{class_decl}
 use Rattle.jr_table.specs.Rows.{Row}
@@ -18,7 +18,7 @@ use Rattle.jr_table.specs.Context.{Context, scope_of, WritesType}
 use Rattle.jr_table.specs.Binding.{Role, value}
 use Rattle.jr_table.specs.DeclaredItems.{DeclaredInit, init_declaration, is_minus, is_number, is_object, has_none, is_simple}
 use Rattle.jr_rewrite.specs.Rewritten.{Rewritten}
-use Rattle.jr_rewrite.specs.Rewrites.{Choosing, RewritesExp, RewritesMaybe}
+use Rattle.jr_rewrite.specs.Rewrites.{Choosing, RewritesExp, RewritesMaybe, TransformsExp}
 use Rattle.jr_rewrite.specs.Along.{Along, AlongRow, AlongMaybe}
 use Rattle.jr_images.specs.Images.{Renaming, class_to, rows_to}
 use Rattle.jr_rename_laws.specs.ImageLaws.{no_mark}
@@ -83,7 +83,7 @@ module _ (rows : List Row) (g : Renaming) (keeps : Keeps rows g) {A B : Type 0} 
   none_goes c d at n (tree.more e args) es along h = absurd cc
 
   simple_goes : (c d : Context) (r : Role) (at n : ℕ) (e y : tree.Exp A) (o : Rewritten (tree.Exp A)) → RewritesExp tells Chosen c r at e o → ExpAlong c d r at n e y → is_simple begins e ≡ true → is_simple begins y ≡ true
-  unfolding Along RewritesExp
+  unfolding Along TransformsExp
   simple_goes c d r at n (tree.number m v) y o made (k, is) h = ap (is_simple begins) is
   simple_goes c d r at n (tree.truth m b) y o made (k, is) h = ap (is_simple begins) is
   simple_goes c d r at n (tree.null m) y o made (k, is) h = ap (is_simple begins) is

@@ -3,19 +3,19 @@ use Rattle.std.proofs.Common.{◌≡◌, ℕ, List, [], ◌++◌, Option, Some, 
 use Rattle.std.specs.Prelude.{◌&&◌, option_map}
 use Rattle.jr_text.specs.declared.spans.Span.{Span}
 use Rattle.jr_ast.specs.Tree as tree
-use Rattle.jr_ast.specs.Remarked.{map_type, map_exp, map_exps}
+use Rattle.jr_ast.specs.Remarked.{map_type}
 use Rattle.jr_table.specs.Rows.{Row}
 use Rattle.jr_table.specs.Context.{Context}
 use Rattle.jr_table.specs.Binding.{Role, value}
 use Rattle.jr_table.specs.DeclaredItems.{is_minus, is_number, is_object, has_none, is_simple}
 use Rattle.jr_rewrite.specs.Respellings.{Front, same, alone, by_this, by_super, by_cast_this, by_class, by_outer_class, by_cast, front_of}
 use Rattle.jr_rewrite.specs.Rewritten.{Rewritten, word_to, variable_on, variable_to, super_to, operand_to, losses_of}
-use Rattle.jr_rewrite.specs.Rewrites.{Choosing, RewritesExp, RewritesRow, RewritesMaybe}
+use Rattle.jr_rewrite.specs.Rewrites.{Choosing, RewritesExp, RewritesRow, RewritesMaybe, TransformsExp, TransformsRow}
 use Rattle.jr_images.specs.Images.{Renaming}
 use Rattle.jr_rename_laws.specs.ImageLaws.{no_mark}
 use Rattle.jr_images.specs.Spelling.{spelling}
 use Rattle.jr_rename_laws.proofs.BareTrees.{nowhere, object_bare}
-use Rattle.jr_rename_laws.proofs.Chosen.{left_none, right_none}
+use Rattle.jr_images.proofs.Chosen.{left_none, right_none}
 use Rattle.jr_rename_laws.proofs.TypesStay.{TypesKeep, type_stays}
 
 -- ---- a reference has none of these forms, whatever it becomes
@@ -77,7 +77,7 @@ module _ (rows : List Row) (g : Renaming) (keep : TypesKeep rows g) {A : Type 0}
   Chosen = spelling begins rows g super_at
 
   number_stays : (c : Context) (r : Role) (at : ℕ) (e : tree.Exp A) (o : Rewritten (tree.Exp A)) → RewritesExp tells Chosen c r at e o → is_number begins o.tree ≡ is_number begins e
-  unfolding RewritesExp
+  unfolding TransformsExp
   number_stays c r at (tree.number m n) o is = ap (λ (x : Rewritten (tree.Exp A)). is_number begins x.tree) is
   number_stays c r at (tree.truth m b) o is = ap (λ (x : Rewritten (tree.Exp A)). is_number begins x.tree) is
   number_stays c r at (tree.null m) o is = ap (λ (x : Rewritten (tree.Exp A)). is_number begins x.tree) is
@@ -99,7 +99,7 @@ module _ (rows : List Row) (g : Renaming) (keep : TypesKeep rows g) {A : Type 0}
   number_stays c r at (tree.compound m op x y) o (p, q, left, right, is) = ap (λ (x : Rewritten (tree.Exp A)). is_number begins x.tree) is
 
   none_stays : (c : Context) (at : ℕ) (es : tree.Exps A) (o : Rewritten (tree.Exps A)) → RewritesRow tells Chosen c at es o → has_none begins o.tree ≡ has_none begins es
-  unfolding RewritesRow
+  unfolding TransformsRow
   none_stays c at tree.end o is = ap (λ (x : Rewritten (tree.Exps A)). has_none begins x.tree) is
   none_stays c at (tree.more e es) o (p, q, inner, row, is) = ap (λ (x : Rewritten (tree.Exps A)). has_none begins x.tree) is
 
@@ -107,7 +107,7 @@ module _ (rows : List Row) (g : Renaming) (keep : TypesKeep rows g) {A : Type 0}
   object_stays t u e = sym (object_bare begins u) ∙ ap (is_object nowhere) e ∙ object_bare begins t
 
   pub simple_stays : (c : Context) (r : Role) (at : ℕ) (e : tree.Exp A) (o : Rewritten (tree.Exp A)) → RewritesExp tells Chosen c r at e o → o.losses ≡ [] → is_simple begins o.tree ≡ is_simple begins e
-  unfolding RewritesExp
+  unfolding TransformsExp
   simple_stays c r at (tree.number m n) o is none = ap (λ (x : Rewritten (tree.Exp A)). is_simple begins x.tree) is
   simple_stays c r at (tree.truth m b) o is none = ap (λ (x : Rewritten (tree.Exp A)). is_simple begins x.tree) is
   simple_stays c r at (tree.null m) o is none = ap (λ (x : Rewritten (tree.Exp A)). is_simple begins x.tree) is

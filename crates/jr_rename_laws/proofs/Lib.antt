@@ -1,29 +1,17 @@
--- References, lowest first: `Chosen`, `Places` (rows and locals), `World` (what is known of the two
--- programs), `Rebound` (one reference, form by form), `Types`, `OneBound`, `Kept` (types, one
--- recursion over expressions), `Alongside`, `Sides` (statements), `Members`. What trees say doesn't
--- depend on their marks: `BareBinding`. New
--- programs: `SameClasses` (what types mean depends on the declared classes alone), `Still` (what a
--- renaming without classes leaves), `DeclarationImages`, `RowImages`, `TypesFound`, `TypesStay`,
--- `InitsStay`, `TreeImages` (one recursion over classes), `DeclarationsBeside`, `CleanImages`
--- (faults), `FairImages`, `Apart`, `StillImages` (the whole), and one file a kind of declaration;
--- `FairClasses`, `ClassFair`, `RenamingFair`: rows are fair where a class is renamed too. Classes:
--- `WrittenTypes`, `Objects`, `ItemsBeside`, `Initializers`, `TreesBeside`, `NewAgreeing` (images of
--- rows agree with the new declarations: superclasses of top-level classes first, then of member
--- classes by how many looks they take), `NewRows`, `NewNames`, `NewClean`, `Whole`, `Constructors`.
--- Plans: `Planned`, `Planning`. One plan: `Alike` (two renamings of the same declarations make the
--- same of each key, row and scope), `OneRewriting`, `OneChoice` (the ways of `jr_respell: Ways` as
--- one), `OneProgram`, `OneClash`, `OneRefusal`, `OnePlan` (one reason after the other).
+-- Lowest first. New programs: `SameClasses` (what types mean depends on the declared classes
+-- alone), `Still` (what a renaming without classes leaves), `DeclarationImages`, `RowImages`,
+-- `TypesFound`, `TypesStay`, `InitsStay`, `TreeImages` (one recursion over classes),
+-- `DeclarationsBeside`, `CleanImages` (faults), `FairImages`, `Apart`, `StillImages` (the whole),
+-- and one file a kind of declaration; `OneLocal`: keys where one local is renamed; `FairClasses`,
+-- `ClassFair`, `RenamingFair`: rows are fair where a class is renamed too. Classes: `WrittenTypes`,
+-- `Objects`, `ItemsBeside`, `Initializers`, `TreesBeside`, `NewAgreeing` (images of rows agree with
+-- the new declarations: superclasses of top-level classes first, then of member classes by how many
+-- looks they take), `NewRows`, `NewNames`, `NewClean`, `Whole`, `Constructors`. Plans: `Planned`,
+-- `Planning`. One plan: `Alike` (two renamings of the same declarations make the same of each key,
+-- row and scope), `OneRewriting`, `WordsOnce` (words in front of a dot), `OneChoice` (the ways of
+-- `jr_new_words: Ways` as one), `OneProgram`, `OneClash`, `OneRefusal`, `OnePlan` (one reason after
+-- the other).
 pub mod BareBinding
-pub mod Chosen
-pub mod Places
-pub mod World
-pub mod Types
-pub mod OneBound
-pub mod Kept
-mod Alongside
-pub mod Sides
-pub mod Members
-pub mod Rebound
 mod OneLocal
 mod SameClasses
 pub mod Still
@@ -67,6 +55,7 @@ mod Whole
 mod Constructors
 pub mod Alike
 mod OneRewriting
+mod WordsOnce
 mod OneChoice
 pub mod OneProgram
 mod OneClash

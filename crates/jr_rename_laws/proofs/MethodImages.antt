@@ -1,5 +1,5 @@
 -- The program that the renaming of a family of methods makes.
-use Rattle.std.proofs.Common.{◌≡◌, ℕ, ◌<◌, List, [], ◌∷◌, length, Some, true, false, refl, sym, ap, subst, ◌∙◌, arith}
+use Rattle.std.proofs.Common.{◌≡◌, ℕ, List, [], ◌∷◌, Some, true, false, refl, sym, ap, subst, ◌∙◌, arith}
 use Rattle.std.specs.Prelude.{codes, option_map, slice_get}
 use Rattle.std.proofs.lemmas.Option.{slice_get-map, same_Some}
 use Rattle.jr_ast.specs.MemberTree as syntax
@@ -11,7 +11,7 @@ use Rattle.jr_table.specs.Rows.{Row}
 use Rattle.jr_table.specs.Entries.{IsRowOf, name_of, entry_of, entries_of}
 use Rattle.jr_table.specs.Keyed.{Overrides}
 use Rattle.jr_table.specs.Conditions.{AreRows}
-use Rattle.jr_table.specs.Prelude.{prelude_rows, thread_key, thread_row}
+use Rattle.jr_table.specs.Prelude.{thread_key, thread_row}
 use Rattle.jr_table.specs.DeclaredItems.{declarations_of}
 use Rattle.jr_names.specs.DeclTexts.{decl_text}
 use Rattle.jr_images.specs.Targets.{IsOfPrelude}

@@ -1,6 +1,6 @@
 -- For each word of a program one thing is chosen, whatever list the renaming goes by.
-use Rattle.std.proofs.Common.{◌≡◌, ℕ, ◌<◌, List, [], ◌∷◌, Option, Some, None, Bool, true, false, refl, sym, ap, subst, ◌∙◌, inl, inr}
-use Rattle.std.specs.Prelude.{◌⊎◌, ◌↔◌, IsTrue, slice_get}
+use Rattle.std.proofs.Common.{◌≡◌, ℕ, ◌<◌, List, [], ◌∷◌, Option, Some, None, true, false, refl, sym, ap, subst, ◌∙◌, inl, inr}
+use Rattle.std.specs.Prelude.{◌⊎◌, slice_get}
 use Rattle.std.proofs.lemmas.Bool.{cases_order}
 use Rattle.std.proofs.lemmas.Option.{same_Some}
 use Rattle.jr_text.specs.declared.spans.Span.{Span}
@@ -20,22 +20,25 @@ use Rattle.jr_table.specs.Binding.{HasType, IsClassName, HaveTypes, FindsIn, Rol
 use Rattle.jr_table.specs.Binding as role
 use Rattle.jr_table.specs.HeadRules.{plain, with_parameters, TopFinds}
 use Rattle.jr_table.specs.Prelude.{top_key}
+use Rattle.jr_spell.specs.declared.references.RefForm.TheVariants as ref
 use Rattle.jr_spell.specs.declared.spellings.Form.{Form}
-use Rattle.jr_spell.specs.References.{Reference}
+use Rattle.jr_spell.specs.References.{Operand, Reference}
 use Rattle.jr_spell.specs.Spellings.{forms}
-use Rattle.jr_spell.specs.Binds.{LeadsTo, LeadsIn}
 use Rattle.jr_spell.specs.Taken.{IsTaken}
 use Rattle.jr_rewrite.specs.Respellings.{Choice, loses}
 use Rattle.jr_images.specs.Images.{Renaming, class_to, types_to, rows_to, scope_to}
-use Rattle.jr_images.specs.Spelling.{renamed, spelled, WordsLead, TypeLeads, OnOperand, VariableSpells, ClassSpells, FieldSpells, MemberClassSpells, SuperFieldSpells, SimpleCallSpells, CallSpells, SuperCallSpells, ExpSpells, CreationSpells, SuperCtorSpells, TypeSpells, QualifierSpells, ParentSpells, ParentQualifierSpells, spelling}
-use Rattle.jr_respell.specs.Ways.{Way, local, own_field, field_on, field_through, field_above, method_named, method_on, method_through, method_above, ctor_of, ctor_above, type_named, type_behind, name_in, reference_by, Finds}
-use Rattle.jr_respell.specs.Taking.{Asked, asked, SpellsAt}
+use Rattle.jr_images.specs.Words.{InFront, class_name, value_of, neither, FindsNext}
+use Rattle.jr_images.specs.Spelling.{renamed, spelled, reference, operand_of, behind_words, OnOperand, VariableSpells, ClassSpells, FieldSpells, MemberClassSpells, SuperFieldSpells, SimpleCallSpells, CallSpells, SuperCallSpells, ExpSpells, CreationSpells, SuperCtorSpells, TypeSpells, QualifierSpells, ParentSpells, ParentQualifierSpells, spelling}
+use Rattle.jr_new_words.specs.Ways.{Way, local, own_field, field_on, field_through, field_above, method_named, method_on, method_through, method_above, ctor_of, ctor_above, type_named, type_behind, name_in, reference_by, Finds}
+use Rattle.jr_new_words.specs.Taking.{Asked, asked, SpellsAt}
+use Rattle.jr_new_words.proofs.OneEach.{behind_one}
 use Rattle.jr_bind.specs.SuperPlaces.{writes_super}
 use Rattle.jr_program_laws.specs.FileParts.{begins}
 use Rattle.jr_program_laws.proofs.FoundOnce.{same_decl, field_once, super_field_once, call_once, super_call_once, creation_once, super_ctor_once}
 use Rattle.jr_rename_laws.specs.OnePlan.{AreAlike}
 use Rattle.jr_rename_laws.proofs.OneRewriting.{Agree}
-use Rattle.jr_rename_laws.proofs.Alike.{Makes, makes, makes_same, class_same}
+use Rattle.jr_rename_laws.proofs.WordsOnce.{first_one, next_one, words_one}
+use Rattle.jr_rename_laws.proofs.Alike.{Makes, makes, makes_same}
 
 -- ---- the first form that binds, or the loss
 
@@ -55,7 +58,13 @@ spelled_once rows s a at old d Found' single h k (inr x) (inl y) = absurd (x.0 y
 spelled_once rows s a at old d Found' single h k (inr x) (inr y) =
     x.1.2 ∙ ap (λ (f : Found). loses (record { at = at; declaration = d; found = f })) (single x.1.0 y.1.0 x.1.1 y.1.1) ∙ sym y.1.2
 
--- a class in front of a dot
+-- with what is found by another relation
+with_finds : {rows : List Row} {s : Scope} {at : ℕ} {d : Decl} {Finds : Found → Type 0} {h : Choice} (a : Asked) (old : List ℕ) (Others : Found → Type 0) → ((f : Found) → Finds f → Others f)
+    → SpellsAt rows s a at old d Finds h → SpellsAt rows s a at old d Others h
+with_finds a old Others to (inl x) = inl x
+with_finds a old Others to (inr (none, (f, finds, is))) = inr (none, (f, to f finds, is))
+
+-- a class that has no other spelling
 abbrev LeftBy : (at : ℕ) → (old : List ℕ) → ClassKey → (name : List ℕ) → (Leads : Type 0) → (Finds : Found → Type 0) → Choice → Type 0
 LeftBy at old k name Leads Finds h = (Leads × (h ≡ renamed old name)) ⊎ ((Leads → ⊥) × ((f : Found) × Finds f × (h ≡ loses (record { at = at; declaration = class_decl k; found = f }))))
 
@@ -95,16 +104,16 @@ module _ (rows : List Row) (fit : AreRows rows) (each : EachHasOne rows) where
   finds_once s local name ts = each.variable s name
   finds_once s own_field name ts = each.variable s name
   finds_once s (field_on k) name ts = each.field_in s k name
-  finds_once s (field_through leads k) name ts = each.field_in s k name
+  finds_once s (field_through w k) name ts = behind_one w (λ o f. FindsFieldIn rows s o name f) (λ o. each.field_in s o name)
   finds_once s field_above name ts = in_once (IsSuperclass rows s.class) (λ k f. FindsFieldIn rows s k name f) (superclass_once s.class) (λ k. each.field_in s k name)
   finds_once s method_named name ts = each.method_named s name ts
   finds_once s (method_on k) name ts = each.method_of s k name ts
-  finds_once s (method_through leads k) name ts = each.method_of s k name ts
+  finds_once s (method_through w k) name ts = behind_one w (λ o f. FindsMethodOf rows s o name ts f) (λ o. each.method_of s o name ts)
   finds_once s method_above name ts = in_once (IsSuperclass rows s.class) (λ k f. FindsMethodOf rows s k name ts f) (superclass_once s.class) (λ k. each.method_of s k name ts)
   finds_once s (ctor_of k) name ts = each.ctor_of s k ts
   finds_once s ctor_above name ts = in_once (IsSuperclass rows s.class) (λ k f. FindsCtorOf rows s k ts f) (superclass_once s.class) (λ k. each.ctor_of s k ts)
   finds_once s type_named name ts = each.type_named s name
-  finds_once s (type_behind outer leads) name ts = in_once (λ k. FindsTypeNamed rows s outer (one (class_decl k))) (λ k f. FindsTypeOf rows s k name f) (named_once s outer) (λ k. each.type_of s k name)
+  finds_once s (type_behind outer) name ts = in_once (λ k. FindsTypeNamed rows s outer (one (class_decl k))) (λ k f. FindsTypeOf rows s k name f) (named_once s outer) (λ k. each.type_of s k name)
 
 module _ (rows : List Row) (c : Context) (bound : IsBound Span rows c) where
   class_once : (e : tree.Exp Span) → HasOne (IsClassName rows c e)
@@ -119,25 +128,6 @@ module _ (rows : List Row) (c : Context) (bound : IsBound Span rows c) where
   types_once (tree.more e es) [] us p q = absurd p
   types_once (tree.more e es) (t ∷ ts) [] p q = absurd q
   types_once (tree.more e es) (t ∷ ts) (u ∷ us) p q = λ i. type_once e t u p.0 q.0 i ∷ types_once es ts us p.1 q.1 i
-
--- the words of a class lead to it alike
-leads_over : {A : Type 0} (rows : List Row) (p q : Renaming) → makes p ≡ makes q → (c : Context) (e : tree.Exp A) (k : ClassKey) → WordsLead rows p c e k → WordsLead rows q c e k
-leads_over rows p q same c (tree.field m e w) k (o, on, lead, behind) = (
-  o,
-  on,
-  leads_over rows p q same c e o lead,
-  subst (λ (m : Makes). LeadsIn (m.rows rows) (m.scopes c) (m.classes o) (m.classes k).name (m.classes k)) same behind,
-)
-leads_over rows p q same c e k lead = subst (λ (m : Makes). LeadsTo (m.rows rows) (m.scopes c) None (m.classes k).name (m.classes k)) same lead
-
-type_leads_over : (rows : List Row) (p q : Renaming) → makes p ≡ makes q → (c : Context) (k : ClassKey) → TypeLeads rows p c k → TypeLeads rows q c k
-type_leads_over rows p q same c k lead = subst (λ (m : Makes). FindsTypeNamed (m.rows rows) (m.scopes c) (m.classes k).name (one (class_decl (m.classes k)))) same lead
-
-same_truth : (a b : Bool) → (IsTrue a → IsTrue b) → (IsTrue b → IsTrue a) → a ≡ b
-same_truth true true to back = refl
-same_truth true false to back = let x : false ≡ true = to refl in absurd cc
-same_truth false true to back = let x : false ≡ true = back refl in absurd cc
-same_truth false false to back = refl
 
 value_key : (j k : ClassKey) → class j ≡ class k → j ≡ k
 value_key j k e = cc
@@ -192,10 +182,16 @@ module _ (rows : List Row) (fit : AreRows rows) (each : EachHasOne rows) (bounds
   variable_one c at old a b (inl x) (inr y) = let e = same_decl (local_decl x.0) (field_decl y.0) (each.variable (scope_of c) old (one (local_decl x.0)) (one (field_decl y.0)) x.1.0 y.1.0) in absurd cc
   variable_one c at old a b (inr x) (inl y) = let e = same_decl (field_decl x.0) (local_decl y.0) (each.variable (scope_of c) old (one (field_decl x.0)) (one (local_decl y.0)) x.1.0 y.1.0) in absurd cc
 
+  -- a class in front of a dot, by words that stand so; behind a class, or not
+  abbrev FrontBy : Makes → Context → (at : ℕ) → (old : List ℕ) → Option Operand → ClassKey → InFront → (Finds : Found → Type 0) → Choice → Type 0
+  FrontBy m c at old on k w Finds x = SpellsAt (m.rows rows) (m.scopes c) (asked (behind_words w (reference ref.ClassInFront (m.classes k).name on [])) (class_decl (m.classes k)) (m.classes k).name) at old (class_decl k) Finds x
+
   class_one : (c : Context) (r : Role) (at : ℕ) (old : List ℕ) (a b : Choice) → ClassSpells begins rows g c r at old a → ClassSpells begins rows h c r at old b → a ≡ b
-  class_one c left at old a b x y = carried
-      (λ m (k : ClassKey). LeftBy at old k (m.classes k).name (LeadsTo (m.rows rows) (m.scopes c) None (m.classes k).name (m.classes k)) (FindsLeft (m.rows rows) (m.scopes c) (m.classes k).name))
-      (λ k. left_once at old k _ _ _ (new_each.left (scope_to g c) (class_to g k).name)) x.0 y.0 (named_once rows fit each (scope_of c) old x.0 y.0 x.2 y.2) a b x.3 y.3
+  class_one c left at old a b x y =
+      let k = named_once rows fit each (scope_of c) old x.0 y.0 x.2 y.2 in
+      let w = first_one rows each g h alike c new_fit new_each x.0 y.0 k x.3 y.3 x.4 y.4 in
+      carried {P = ClassKey × InFront} (λ m p. FrontBy m c at old None p.0 p.1 (FindsLeft (m.rows rows) (m.scopes c) (m.classes p.0).name))
+      (λ p. spelled_once (rows_to g rows) (scope_to g c) _ at old (class_decl p.0) _ (new_each.left (scope_to g c) (class_to g p.0).name)) (x.0, x.3) (y.0, y.3) (λ i. (k i, w i)) a b x.5 y.5
   class_one c value at old a b x y = absurd x
   class_one c role.statement at old a b x y = absurd x
 
@@ -211,32 +207,46 @@ module _ (rows : List Row) (fit : AreRows rows) (each : EachHasOne rows) (bounds
   operand_one c e (inr x) (inl y) through on = absurd (x.0 y.0 y.1)
   operand_one c e (inr x) (inr y) through on = on x.1.0 y.1.0 (value_key x.1.0 y.1.0 (type_once rows c (bounds c) e (class x.1.0) (class y.1.0) x.1.1 y.1.1)) x.1.2 y.1.2
 
-  leads_one : (c : Context) (e : tree.Exp Span) (k l : ClassKey) → k ≡ l → (a b : Bool) → (IsTrue a ↔ WordsLead rows g c e k) → (IsTrue b ↔ WordsLead rows h c e l) → a ≡ b
-  leads_one c e k l s a b x y = same_truth a b
-      (λ t. y.1 (leads_over rows g h (makes_same g h alike) c e l (subst (WordsLead rows g c e) s (x.0 t))))
-      (λ t. x.1 (subst (WordsLead rows g c e) (sym s) (leads_over rows h g (sym (makes_same g h alike)) c e l (y.0 t))))
-
-  type_leads_one : (c : Context) (k l : ClassKey) → k ≡ l → (a b : Bool) → (IsTrue a ↔ TypeLeads rows g c k) → (IsTrue b ↔ TypeLeads rows h c l) → a ≡ b
-  type_leads_one c k l s a b x y = same_truth a b
-      (λ t. y.1 (type_leads_over rows g h (makes_same g h alike) c l (subst (TypeLeads rows g c) s (x.0 t))))
-      (λ t. x.1 (subst (TypeLeads rows g c) (sym s) (type_leads_over rows h g (sym (makes_same g h alike)) c l (y.0 t))))
-
   field_one : (c : Context) (at : ℕ) (e : tree.Exp Span) (old : List ℕ) (a b : Choice) → FieldSpells begins rows g c at e old a → FieldSpells begins rows h c at e old b → a ≡ b
   field_one c at e old a b x y =
       let d = same_decl (field_decl x.0) (field_decl y.0) (field_once rows fit each c (bounds c) e old (one (field_decl x.0)) (one (field_decl y.0)) x.1 y.1) in
       operand_one c e x.2 y.2
       (λ k l s v w. asks_one c at old (record { way = λ m. field_through v.0 (m.classes k); types = []; decl = field_decl x.0 }) (record { way = λ m. field_through w.0 (m.classes l); types = []; decl = field_decl y.0 })
-      (λ i. record { way = λ m. field_through (leads_one c e k l s v.0 w.0 v.1 w.1 i) (m.classes (s i)); types = []; decl = d i }) a b v.2 w.2)
+      (λ i. record { way = λ m. field_through (words_one rows each g h alike c new_fit new_each (bounds c) e k l s v.0 w.0 v.1 w.1 i) (m.classes (s i)); types = []; decl = d i }) a b v.2 w.2)
       (λ k l s v w. asks_one c at old (record { way = λ m. field_on (m.classes k); types = []; decl = field_decl x.0 }) (record { way = λ m. field_on (m.classes l); types = []; decl = field_decl y.0 })
       (λ i. record { way = λ m. field_on (m.classes (s i)); types = []; decl = d i }) a b v w)
+
+  -- what is found behind words that stand so, by what becomes of each key
+  abbrev NextBy : Makes → Context → InFront → (name : List ℕ) → Found → Type 0
+  NextBy m c (class_name k) name f = FindsLeftOf (m.rows rows) (m.scopes c) k name f
+  NextBy m c (value_of k) name f = FindsFieldIn (m.rows rows) (m.scopes c) k name f
+  NextBy m c neither name f = f ≡ nothing
+
+  next_by : (r : Renaming) (c : Context) (v : InFront) (name : List ℕ) (f : Found) → FindsNext rows r c v name f → NextBy (makes r) c v name f
+  next_by r c (class_name k) name f x = x
+  next_by r c (value_of k) name f x = x
+  next_by r c neither name f x = x
+
+  next_by_once : (c : Context) (v : InFront) (name : List ℕ) → HasOne (NextBy (makes g) c v name)
+  next_by_once c (class_name k) name a b x y = new_each.left_of (scope_to g c) k name a b x y
+  next_by_once c (value_of k) name a b x y = new_each.field_in (scope_to g c) k name a b x y
+  next_by_once c neither name a b x y = x ∙ sym y
+
+  -- a member class in front of a dot is asked so, behind that of its operand
+  abbrev asked_so : Renaming → (o k : ClassKey) → InFront → Asked
+  asked_so r o k w = asked (behind_words w (reference ref.ClassInFront (class_to r k).name (operand_of (class_to r o)) [])) (class_decl (class_to r k)) (class_to r k).name
 
   member_class_one : (c : Context) (r : Role) (at : ℕ) (e : tree.Exp Span) (old : List ℕ) (a b : Choice) → MemberClassSpells begins rows g c r at e old a → MemberClassSpells begins rows h c r at e old b → a ≡ b
   member_class_one c left at e old a b x y =
       let o : x.0 ≡ y.0 = class_once rows c (bounds c) e x.0 y.0 x.2 y.2 in
       let k = inner_once c old x.0 y.0 o x.1 y.1 x.4 y.4 in
-      carried {P = ClassKey × ClassKey}
-      (λ m p. LeftBy at old p.1 (m.classes p.1).name (LeadsIn (m.rows rows) (m.scopes c) (m.classes p.0) (m.classes p.1).name (m.classes p.1)) (FindsLeftOf (m.rows rows) (m.scopes c) (m.classes p.0) (m.classes p.1).name))
-      (λ p. left_once at old p.1 _ _ _ (new_each.left_of (scope_to g c) (class_to g p.0) (class_to g p.1).name)) (x.0, x.1) (y.0, y.1) (λ i. (o i, k i)) a b x.5 y.5
+      let front = words_one rows each g h alike c new_fit new_each (bounds c) e x.0 y.0 o x.5 y.5 x.6 y.6 in
+      let w = next_one rows each g h alike c new_fit new_each x.5 y.5 front x.1 y.1 k x.7 y.7 x.8 y.8 in
+      carried {P = ClassKey × ClassKey × InFront × InFront}
+      (λ m p. FrontBy m c at old (operand_of (m.classes p.0)) p.1 p.3 (NextBy m c p.2 (m.classes p.1).name))
+      (λ p. spelled_once (rows_to g rows) (scope_to g c) _ at old (class_decl p.1) _ (next_by_once c p.2 (class_to g p.1).name)) (x.0, x.1, x.5, x.7) (y.0, y.1, y.5, y.7) (λ i. (o i, k i, front i, w i)) a b
+      (with_finds (asked_so g x.0 x.1 x.7) old _ (λ f finds. next_by g c x.5 (class_to g x.1).name f finds) x.9)
+      (with_finds (asked_so h y.0 y.1 y.7) old _ (λ f finds. next_by h c y.5 (class_to h y.1).name f finds) y.9)
   member_class_one c value at e old a b x y = absurd x
   member_class_one c role.statement at e old a b x y = absurd x
 
@@ -264,7 +274,7 @@ module _ (rows : List Row) (fit : AreRows rows) (each : EachHasOne rows) (bounds
       let ts = types_once rows c (bounds c) args x.1 y.1 x.3 y.3 in
       operand_one c e x.4 y.4
       (λ k l s v w. asks_one c at old (record { way = λ m. method_through v.0 (m.classes k); types = x.1; decl = method_decl x.0 }) (record { way = λ m. method_through w.0 (m.classes l); types = y.1; decl = method_decl y.0 })
-      (λ i. record { way = λ m. method_through (leads_one c e k l s v.0 w.0 v.1 w.1 i) (m.classes (s i)); types = ts i; decl = d i }) a b v.2 w.2)
+      (λ i. record { way = λ m. method_through (words_one rows each g h alike c new_fit new_each (bounds c) e k l s v.0 w.0 v.1 w.1 i) (m.classes (s i)); types = ts i; decl = d i }) a b v.2 w.2)
       (λ k l s v w. asks_one c at old (record { way = λ m. method_on (m.classes k); types = x.1; decl = method_decl x.0 }) (record { way = λ m. method_on (m.classes l); types = y.1; decl = method_decl y.0 })
       (λ i. record { way = λ m. method_on (m.classes (s i)); types = ts i; decl = d i }) a b v w)
 
@@ -322,9 +332,8 @@ module _ (rows : List Row) (fit : AreRows rows) (each : EachHasOne rows) (bounds
   type_choice c base (tree.named m (Some v) w) a b x y =
       let o = named_once rows fit each (scope_of c) v.text x.0 y.0 x.2 y.2 in
       let k = inner_once c w.text x.0 y.0 o x.1 y.1 x.3 y.3 in
-      let leads = type_leads_one c x.0 y.0 o x.4 y.4 x.5 y.5 in
-      asks_one c _ w.text (record { way = λ m. type_behind (m.classes x.0).name x.4; types = []; decl = class_decl x.1 }) (record { way = λ m. type_behind (m.classes y.0).name y.4; types = []; decl = class_decl y.1 })
-      (λ i. record { way = λ m. type_behind (m.classes (o i)).name (leads i); types = []; decl = class_decl (k i) }) a b x.6 y.6
+      asks_one c _ w.text (record { way = λ m. type_behind (m.classes x.0).name; types = []; decl = class_decl x.1 }) (record { way = λ m. type_behind (m.classes y.0).name; types = []; decl = class_decl y.1 })
+      (λ i. record { way = λ m. type_behind (m.classes (o i)).name; types = []; decl = class_decl (k i) }) a b x.4 y.4
 
   qualifier_choice : (c : Context) (base : ℕ) (t : tree.TypeName Span) (a b : Choice) → QualifierSpells begins rows g c base t a → QualifierSpells begins rows h c base t b → a ≡ b
   qualifier_choice c base (tree.int m) a b x y = absurd x

@@ -25,7 +25,7 @@ use Rattle.jr_rename_laws.specs.ImageLaws.{RenamingsStayFair}
 use Rattle.jr_images.specs.Images.{Renaming}
 use Rattle.jr_images.specs.Refusals.{ChangesDispatch, IsFirstLoss}
 use Rattle.jr_images.specs.RenameLaws.{IsFair}
-use Rattle.jr_images.specs.Renames.{pairs_of, Rewrite, Renames, LacksTarget, OfPrelude, Clashes, Overrides, Loses, IsRefused, IsPlanned}
+use Rattle.jr_images.specs.Renames.{pairs_of, Rewrite, Renames, LacksTarget, OfPrelude, Clashes, Overrides, Loses}
 use Rattle.jr_images.specs.Renames as renames
 use Rattle.jr_images.specs.TextLaws.{RowsAreNamed, NamesHaveNoDot}
 use Rattle.jr_cursor.specs.TargetLaws.{OneIsTarget}

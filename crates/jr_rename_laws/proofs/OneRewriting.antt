@@ -17,7 +17,7 @@ use Rattle.jr_table.specs.Errors.{Part, member_part, Declares, InClass, InMember
 use Rattle.jr_members.proofs.Anywhere.{IsAt}
 use Rattle.jr_rewrite.specs.Respellings.{Choice}
 use Rattle.jr_rewrite.specs.Rewritten.{Rewritten, within, joined, word_out, name_out, field_out, super_field_out, Called, simple_call_out, dotted_call_out, simple_type_out, qualified_type_out}
-use Rattle.jr_rewrite.specs.Rewrites.{Choosing, declared_by, DeclaredOut, TypeOut, RewritesType, with_losses, RewritesExp, RewritesTarget, RewritesRow, RewritesMaybe, RewritesStmt, RewritesElse, RewritesStmts, RewritesParams, RewritesResult, RewritesSuper, RewritesMember, RewritesParent, RewritesHead, ByKey, RewritesClass, RewritesMembers, RewritesOne, RewritesClasses, RewritesUnit, RewritesUnits}
+use Rattle.jr_rewrite.specs.Rewrites.{Choosing, declared_by, DeclaredOut, TypeOut, RewritesType, with_losses, RewritesExp, RewritesTarget, RewritesRow, RewritesMaybe, RewritesStmt, RewritesElse, RewritesStmts, RewritesParams, RewritesResult, RewritesSuper, RewritesMember, RewritesParent, RewritesHead, ByKey, RewritesClass, RewritesMembers, RewritesOne, RewritesClasses, RewritesUnit, RewritesUnits, TransformsExp, TransformsTarget, TransformsRow, TransformsStmt, TransformsElse, TransformsStmts, TransformsClass, TransformsMembers, TransformsOne}
 
 -- two choose the same; for a written `super(..)` where its member is fine
 pub record Agree {A : Type 0} (Fine : MemberKey → Part A → Type 0) (C D : Choosing A) : Type 0 where
@@ -77,7 +77,7 @@ module _ {A : Type 0} (tells : A → ℕ → Span) (Fine : MemberKey → Part A 
   -- ---- expressions
 
   mutual
-    unfolding RewritesExp RewritesTarget RewritesRow
+    unfolding TransformsExp TransformsTarget TransformsRow
 
     exp_one : (c : Context) (r : Role) (base : ℕ) (e : tree.Exp A) (o p : E) → RewritesExp tells C c r base e o → RewritesExp tells D c r base e p → o ≡ p
     exp_one c r base (tree.number m n) o p x y = x ∙ sym y
@@ -133,7 +133,7 @@ module _ {A : Type 0} (tells : A → ℕ → Span) (Fine : MemberKey → Part A 
   Ss = Rewritten (statement.Stmts A)
 
   mutual
-    unfolding RewritesStmt RewritesElse RewritesStmts
+    unfolding TransformsStmt TransformsElse TransformsStmts
 
     stmt_one : (n : ℕ) (c : Context) (base : ℕ) (s : statement.Stmt A) (o p : S) → RewritesStmt tells C n c base s o → RewritesStmt tells D n c base s p → o ≡ p
     stmt_one n c base (statement.local m f t w e) o p x y =
@@ -222,7 +222,7 @@ module _ {A : Type 0} (tells : A → ℕ → Span) (Fine : MemberKey → Part A 
     AllFine In = (k : MemberKey) (base : ℕ) (part : Part A) → In (IsAt base part) k → Fine k part
 
     mutual
-      unfolding RewritesClass RewritesMembers RewritesOne InClass InMembers InInner
+      unfolding TransformsClass TransformsMembers TransformsOne InClass InMembers InInner
 
       class_one : (base : ℕ) (outer : Option (List ℕ)) (q : syntax.Class A) → AllFine (λ P. InClass begins declarations P base outer q) → (o p : Rewritten (syntax.Class A)) → RewritesClass tells C declarations base outer q o → RewritesClass tells D declarations base outer q p → o ≡ p
       class_one base outer (syntax.class m mods w t ms) fine o p x y =

@@ -1,14 +1,10 @@
 -- The names that the renaming of a class gives.
-use Rattle.std.proofs.Common.{◌≡◌, ℕ, List, [], ◌∷◌, None, Bool, true, false, refl, sym, ap, ◌∙◌, inl, inr}
-use Rattle.std.specs.Prelude.{if◌then◌else◌, ◌||◌, codes, ◌⊎◌}
-use Rattle.std.specs.List.{list_any}
-use Rattle.std.specs.Cmp.Lexicographic.{bytes_decides}
+use Rattle.std.proofs.Common.{◌≡◌, ℕ, List, None, Bool, true, false, refl, ap, ◌∙◌, inl}
+use Rattle.std.specs.Prelude.{codes}
 use Rattle.jr_text.specs.declared.spans.Span.{Span}
 use Rattle.jr_ast.specs.Tree as tree
 use Rattle.jr_table.specs.Keys.{ClassKey, FieldKey, MethodKey}
 use Rattle.jr_table.specs.Decls.{LocalKey, Decl, class_decl, field_decl, method_decl, local_decl}
-use Rattle.jr_table.specs.SameDecls.{same_decl, decl_decides}
-use Rattle.jr_table.specs.SameKeys.{same_name}
 use Rattle.jr_table.specs.Rows.{Row}
 use Rattle.jr_table.specs.Prelude.{top_key, object_key}
 use Rattle.jr_table.specs.Resolving.{IsPreludeClass}
@@ -16,14 +12,14 @@ use Rattle.jr_table.specs.Found.{one}
 use Rattle.jr_table.specs.Scope.{Scope}
 use Rattle.jr_table.specs.Lookup.{FindsTypeNamed, FindsTypeOf}
 use Rattle.jr_table.specs.Context.{Context}
-use Rattle.jr_rewrite.specs.Respellings.{same, stays, Choice, text_of}
+use Rattle.jr_rewrite.specs.Respellings.{Choice, text_of}
 use Rattle.jr_rewrite.specs.Rewritten.{Rewritten}
 use Rattle.jr_rewrite.specs.Rewrites.{DeclaredOut}
-use Rattle.jr_images.specs.Families.{Among, AreRenamed}
+use Rattle.jr_images.specs.Families.{AreRenamed}
 use Rattle.jr_images.specs.Images.{Renaming, is_renamed, name_to, class_to, rows_to}
-use Rattle.jr_images.specs.Spelling.{respelled, renamed, spelling}
+use Rattle.jr_images.specs.Spelling.{spelling}
 use Rattle.jr_images.proofs.KeyImages.{keeps_name}
-use Rattle.jr_rename_laws.proofs.Chosen.{renamed_text}
+use Rattle.jr_images.proofs.Chosen.{renamed_text}
 use Rattle.jr_rename_laws.proofs.Still.{any_among}
 
 -- the declarations that keep their names

@@ -1,6 +1,6 @@
 -- The rows of the new program are the images of the old rows, where no class is renamed.
 use Rattle.std.proofs.Common.{◌≡◌, ℕ, suc, List, [], ◌∷◌, ◌++◌, Option, Some, None, Bool, true, false, refl, sym, ap, subst, ◌∙◌}
-use Rattle.std.specs.Prelude.{map, option_map, is_some, filter}
+use Rattle.std.specs.Prelude.{option_map, is_some, filter}
 use Rattle.jr_ast.specs.declared.operators.ModWord.{ModWord}
 use Rattle.jr_table.specs.Keys.{ClassKey, Ty}
 use Rattle.jr_table.specs.Decls.{MemberKey, method, constructor, class_decl, field_decl, method_decl, constructor_decl}

@@ -4,13 +4,13 @@ use Rattle.std.specs.Prelude.{if◌then◌else◌, ◌||◌, codes, ◌⊎◌, o
 use Rattle.std.specs.List.{list_any}
 use Rattle.jr_ast.specs.declared.operators.ModWord.{ModWord}
 use Rattle.jr_ast.specs.declared.operators.ModWord.TheVariants as word
-use Rattle.jr_table.specs.Keys.{ClassKey, Ty, int, boolean, void, null, class}
+use Rattle.jr_table.specs.Keys.{ClassKey, Ty, void, class}
 use Rattle.jr_table.specs.Decls.{Decl, class_decl, method_decl, constructor_decl}
 use Rattle.jr_table.specs.SameDecls.{same_decl, decl_decides}
 use Rattle.jr_table.specs.Rows.{Row}
 use Rattle.jr_table.specs.Prelude.{prelude_rows, class_row, ctor_row, thread_key, thread_row, top_key, object_key}
 use Rattle.jr_images.specs.Families.{Among, AreRenamed, IsRenamedWith}
-use Rattle.jr_images.specs.Images.{Renaming, is_renamed, name_to, outer_to, class_to, type_to, types_to, row_to, rows_to, method_to}
+use Rattle.jr_images.specs.Images.{Renaming, is_renamed, name_to, class_to, type_to, types_to, row_to, rows_to, method_to}
 use Rattle.jr_images.proofs.KeyImages as images
 use Rattle.jr_images.proofs.KeyImages.{keeps_name}
 

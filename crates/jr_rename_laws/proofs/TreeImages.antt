@@ -6,7 +6,7 @@ use Rattle.std.proofs.lemmas.Option.{same_Some}
 use Rattle.jr_text.specs.declared.spans.Span.{Span}
 use Rattle.jr_ast.specs.Tree as tree
 use Rattle.jr_ast.specs.MemberTree as syntax
-use Rattle.jr_ast.specs.Remarked.{map_word, map_modifier, map_type, map_param, map_exp, map_member, map_class, map_members, map_unit}
+use Rattle.jr_ast.specs.Remarked.{map_modifier, map_type, map_param, map_exp, map_member, map_class, map_members, map_unit}
 use Rattle.jr_table.specs.Keys.{ClassKey, Ty}
 use Rattle.jr_table.specs.Decls.{MemberKey, Decl, class_decl, field_decl, method_decl, local_decl}
 use Rattle.jr_table.specs.Decls as member
@@ -17,14 +17,14 @@ use Rattle.jr_table.specs.DeclaredItems.{written, words, param_declaration, init
 use Rattle.jr_table.specs.ProgramRows.{MeanTypes}
 use Rattle.jr_rewrite.specs.Respellings.{Choice, text_of}
 use Rattle.jr_rewrite.specs.Rewritten.{Rewritten}
-use Rattle.jr_rewrite.specs.Rewrites.{Choosing, DeclaredOut, RewritesParams, RewritesResult, RewritesMember, RewritesParent, RewritesClass, RewritesMembers, RewritesOne, RewritesClasses, RewritesUnits}
+use Rattle.jr_rewrite.specs.Rewrites.{Choosing, DeclaredOut, RewritesParams, RewritesResult, RewritesMember, RewritesParent, RewritesClass, RewritesMembers, RewritesOne, RewritesClasses, RewritesUnits, TransformsClass, TransformsMembers, TransformsOne}
 use Rattle.jr_images.specs.Images.{Renaming, name_to}
 use Rattle.jr_images.proofs.KeyImages.{keeps_name}
 use Rattle.jr_rename_laws.specs.ImageLaws.{no_mark}
 use Rattle.jr_images.specs.Spelling.{spelling}
 use Rattle.jr_rename_laws.specs.Beside.{ClassBeside, MembersBeside, MemberBeside, ClassesBeside, UnitsBeside}
 use Rattle.jr_rename_laws.proofs.BareTrees.{cons_head, cons_rest, Bare, mods_in, name_in, params_in, type_in, init_in, class_mods, class_name, class_parent, class_members, front_in, word_in, same_front, nowhere, simple_bare}
-use Rattle.jr_rename_laws.proofs.Chosen.{renamed_text, left_none, right_none}
+use Rattle.jr_images.proofs.Chosen.{renamed_text, left_none, right_none}
 use Rattle.jr_rename_laws.proofs.SameClasses.{Alike, MaybeAlike}
 use Rattle.jr_rename_laws.proofs.DeclarationImages.{forms_of, ParamsTo, ItemsTo}
 use Rattle.jr_rename_laws.proofs.TypesStay.{TypesKeep, type_stays, superclass_stays}
@@ -199,7 +199,7 @@ module _ (rows : List Row) (g : Renaming) (keep : TypesKeep rows g) {A B : Type 
   head_text outer at w v name = declared_text (class_decl (class_key begins outer w.text)) at w v name ∙ keeps_name g (class_decl (class_key begins outer w.text)) w.text (keep.still.class (class_key begins outer w.text))
 
   mutual
-    unfolding RewritesClass RewritesMembers RewritesOne ClassBeside MembersBeside MemberBeside map_member map_class map_members
+    unfolding TransformsClass TransformsMembers TransformsOne ClassBeside MembersBeside MemberBeside map_member map_class map_members
 
     pub class_goes : (b i : ℕ) (outer outer' : Option (List ℕ)) → outer' ≡ outer → (c : syntax.Class A) (o : Rewritten (syntax.Class A)) → RewritesClass tells Chosen ss b outer c o → o.losses ≡ []
         → (d : syntax.Class B) → map_class no_mark d ≡ map_class no_mark o.tree → ClassBeside begins begins' HeadTo MemberTo b i outer outer' c d

@@ -7,10 +7,10 @@ use Rattle.jr_text.specs.declared.spans.Span.{Span}
 use Rattle.jr_ast.specs.Tree as tree
 use Rattle.jr_ast.specs.StatementTree as statement
 use Rattle.jr_ast.specs.MemberTree as syntax
-use Rattle.jr_ast.specs.Remarked.{map_word, map_modifier, map_type, map_param, map_exp, map_member, map_class, map_members, map_unit}
+use Rattle.jr_ast.specs.Remarked.{map_modifier, map_type, map_param, map_exp, map_member, map_class, map_members, map_unit}
 use Rattle.jr_table.specs.Keys.{ClassKey, Ty, class}
 use Rattle.jr_table.specs.Keys as keys
-use Rattle.jr_table.specs.Decls.{MemberKey, head, Decl, class_decl, field_decl, method_decl, local_decl}
+use Rattle.jr_table.specs.Decls.{MemberKey, head, class_decl, field_decl, method_decl, local_decl}
 use Rattle.jr_table.specs.Decls as member
 use Rattle.jr_table.specs.Rows.{Row}
 use Rattle.jr_table.specs.Prelude.{top_key}
@@ -21,7 +21,7 @@ use Rattle.jr_table.specs.HeadRules.{plain, is_static_member, TopFinds}
 use Rattle.jr_table.specs.DeclaredItems.{written, words, param_declaration, init_declaration, class_key, member_declarations, DeclaredItem}
 use Rattle.jr_build.specs.Heads.{NamesClass as NamesSuperclass, MayHold, ClassHeads, MemberHeads, MembersHeads, ClassesHeads, UnitsHeads}
 use Rattle.jr_rewrite.specs.Rewritten.{Rewritten}
-use Rattle.jr_rewrite.specs.Rewrites.{Choosing, TypeOut, RewritesType, RewritesParams, RewritesResult, RewritesMember, RewritesParent, RewritesClass, RewritesMembers, RewritesOne, RewritesClasses, RewritesUnits}
+use Rattle.jr_rewrite.specs.Rewrites.{Choosing, TypeOut, RewritesType, RewritesParams, RewritesResult, RewritesMember, RewritesParent, RewritesClass, RewritesMembers, RewritesOne, RewritesClasses, RewritesUnits, TransformsClass, TransformsMembers, TransformsOne}
 use Rattle.jr_rewrite.specs.AlongMembers.{mod_words, AlongParams, AlongResult, AlongMember, AlongParent, AlongClass, AlongMembers, AlongOne, AlongClasses, AlongUnits}
 use Rattle.jr_rewrite.specs.Along.{AlongMaybe}
 use Rattle.jr_images.specs.Images.{Renaming, name_to, outer_to, class_to, type_to, member_to, rows_to}
@@ -70,7 +70,7 @@ module _ (rows : List Row) (g : Renaming) (keeps : Keeps rows g) {A B : Type 0} 
   old_type c b (tree.int m) p is = (keys.int, refl)
   old_type c b (tree.boolean m) p is = (keys.boolean, refl)
   old_type c b (tree.named m None w) p (h, (k, finds, spells), is) = (class k, (k, finds, refl))
-  old_type c b (tree.named m (Some v) w) p (q, h, qualifier, (o, k, front, back, leads, lead, spells), is) = (class k, (k, (o, front, back), refl))
+  old_type c b (tree.named m (Some v) w) p (q, h, qualifier, (o, k, front, back, spells), is) = (class k, (k, (o, front, back), refl))
 
   as_written : (of : ClassKey) (b : ℕ) (t : tree.TypeName A) (u : Ty) → WritesType rows (place of) t u → WrittenAs rows of (written begins b t) u
   as_written of b (tree.int m) u h = h
@@ -277,7 +277,7 @@ module _ (rows : List Row) (g : Renaming) (keeps : Keeps rows g) {A B : Type 0} 
       ap (λ (k : ClassKey). Some k.name) same ∙ ap (λ (k : ClassKey). Some (name_to g (class_decl k) of.name)) whole
 
   mutual
-    unfolding RewritesClass RewritesMembers RewritesOne AlongClass AlongMembers AlongOne ClassBeside MembersBeside MemberBeside ClassHeads MembersHeads MemberHeads map_member map_class map_members
+    unfolding TransformsClass TransformsMembers TransformsOne AlongClass AlongMembers AlongOne ClassBeside MembersBeside MemberBeside ClassHeads MembersHeads MemberHeads map_member map_class map_members
 
     class_goes : (nested : Bool) (b i n : ℕ) (outer outer' : Option (List ℕ)) → outer' ≡ outer_to g outer → (MayHold nested → outer ≡ None) → (c : syntax.Class A) → ClassHeads nested c
         → (o : Rewritten (syntax.Class A)) → RewritesClass tells Chosen ss b outer c o → ClassAlong b n outer c o.tree

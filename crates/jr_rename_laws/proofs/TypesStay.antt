@@ -1,6 +1,6 @@
 -- Written types stay as they are where no class is renamed: the spelling that was asked binds.
-use Rattle.std.proofs.Common.{◌≡◌, ℕ, zero, suc, ◌<◌, List, [], ◌∷◌, ◌++◌, length, Option, Some, None, Bool, true, false, refl, sym, ap, subst, ◌∙◌, inl, inr, arith}
-use Rattle.std.specs.Prelude.{IsTrue, option_map, slice_get, if◌then◌else◌}
+use Rattle.std.proofs.Common.{◌≡◌, ℕ, zero, suc, ◌<◌, List, [], ◌∷◌, ◌++◌, length, Option, Some, None, false, refl, sym, ap, subst, ◌∙◌, inl, inr, arith}
+use Rattle.std.specs.Prelude.{option_map, slice_get, if◌then◌else◌}
 use Rattle.std.specs.List.{position_or_len}
 use Rattle.std.proofs.lemmas.Option.{slice_get-map, same_Some}
 use Rattle.jr_text.specs.declared.spans.Span.{Span}
@@ -29,8 +29,8 @@ use Rattle.jr_rewrite.specs.Rewritten.{Rewritten, word_to, qualifier_to, losses_
 use Rattle.jr_rewrite.specs.Rewrites.{Choosing, TypeOut, RewritesType}
 use Rattle.jr_images.specs.Images.{Renaming, class_to, rows_to, scope_to}
 use Rattle.jr_rename_laws.specs.ImageLaws.{no_mark}
-use Rattle.jr_images.specs.Spelling.{renamed, spelled, reference, behind_words, dotted, spelling, TypeLeads, Spells, TypeSpells, QualifierSpells, ParentSpells, ParentQualifierSpells}
-use Rattle.jr_rename_laws.proofs.Chosen.{renamed_text, renamed_front, lost_some, left_none, right_none}
+use Rattle.jr_images.specs.Spelling.{renamed, spelled, reference, dotted, spelling, Spells, TypeSpells, QualifierSpells, ParentSpells, ParentQualifierSpells}
+use Rattle.jr_images.proofs.Chosen.{renamed_text, renamed_front, lost_some, left_none, right_none}
 use Rattle.jr_images.proofs.Dotted.{whole_front, whole_last, dotted_front, dotted_last}
 use Rattle.jr_rename_laws.proofs.Still.{IsStill, class_same}
 
@@ -101,13 +101,13 @@ module _ (rows : List Row) (g : Renaming) (keep : TypesKeep rows g) where
   whole_of c name k h = let j = found_at rows (scope_of c) name k h in keep.whole k j.0 j.1
 
   -- a class that is asked by this text binds so, and the asked spelling is the first
-  module _ (s : Scope) (text : List ℕ) (leads : Bool) (k : ClassKey) (binds : IsTrue leads × NamesClass (rows_to g rows) s (front_word text) (last_word text) k) where
+  module _ (s : Scope) (text : List ℕ) (k : ClassKey) (binds : NamesClass (rows_to g rows) s (front_word text) (last_word text) k) where
     first_asked : (f : Form) (n : ℕ) → slice_get (Asked ∷ Class ∷ OuterClass ∷ []) n ≡ Some f
-        → ((i : ℕ) (x : Form) → i < n → slice_get (Asked ∷ Class ∷ OuterClass ∷ []) i ≡ Some x → Binds (rows_to g rows) s (behind_words leads (reference ref.ClassName text None [])) (class_decl k) x → ⊥) → f ≡ Asked
+        → ((i : ℕ) (x : Form) → i < n → slice_get (Asked ∷ Class ∷ OuterClass ∷ []) i ≡ Some x → Binds (rows_to g rows) s (reference ref.ClassName text None []) (class_decl k) x → ⊥) → f ≡ Asked
     first_asked f zero at none = sym (same_Some _ _ at)
     first_asked f (suc n) at none = absurd (none 0 Asked (omega arith) refl binds)
 
-    taken_asked : (f : Form) → IsTaken (rows_to g rows) s (behind_words leads (reference ref.ClassName text None [])) (class_decl k) f → f ≡ Asked
+    taken_asked : (f : Form) → IsTaken (rows_to g rows) s (reference ref.ClassName text None []) (class_decl k) f → f ≡ Asked
     taken_asked f t = first_asked f t.place t.stands t.first
 
   simple_binds : (c : Context) (name : List ℕ) (k : ClassKey) → FindsTypeNamed rows (scope_of c) name (one (class_decl k)) → NamesClass (rows_to g rows) (scope_to g c) (front_word k.name) (last_word k.name) k
@@ -116,10 +116,6 @@ module _ (rows : List Row) (g : Renaming) (keep : TypesKeep rows g) where
       let own = subst (λ (n : List ℕ). FindsTypeNamed (rows_to g rows) (scope_to g c) n (one (class_decl k))) (sym (named_is rows (scope_of c) name k h)) (to_named c name k h) in
       subst (λ (o : Option (List ℕ)). NamesClass (rows_to g rows) (scope_to g c) o (last_word k.name) k) (sym (whole_front k.name whole))
       (subst (λ (n : List ℕ). NamesClass (rows_to g rows) (scope_to g c) None n k) (sym (whole_last k.name whole)) own)
-
-  type_leads : (c : Context) (name : List ℕ) (k : ClassKey) → FindsTypeNamed rows (scope_of c) name (one (class_decl k)) → TypeLeads rows g c k
-  type_leads c name k h = subst (λ (j : ClassKey). FindsTypeNamed (rows_to g rows) (scope_to g c) j.name (one (class_decl j))) (sym (class_same g keep.still k))
-      (subst (λ (n : List ℕ). FindsTypeNamed (rows_to g rows) (scope_to g c) n (one (class_decl k))) (sym (named_is rows (scope_of c) name k h)) (to_named c name k h))
 
   qualified_binds : (c : Context) (front name : List ℕ) (o k : ClassKey) → FindsTypeNamed rows (scope_of c) front (one (class_decl o)) → FindsTypeOf rows (scope_of c) o name (one (class_decl k))
       → NamesClass (rows_to g rows) (scope_to g c) (front_word (dotted o.name k.name)) (last_word (dotted o.name k.name)) k
@@ -135,13 +131,13 @@ module _ (rows : List Row) (g : Renaming) (keep : TypesKeep rows g) where
     begins m b = (tells m b).from
 
     -- spelled as a class's name
-    spelled_stays : (s : Scope) (at : ℕ) (old text : List ℕ) (leads : Bool) (k : ClassKey) (Finds : Found → Type 0) (h : Choice) → k.name ≡ old
-        → IsTrue leads × NamesClass (rows_to g rows) s (front_word text) (last_word text) (class_to g k)
-        → Spells begins rows g s at old (class_to g k).name (class_decl k) (behind_words leads (reference ref.ClassName text None [])) Finds h → losses_of h ≡ [] → Stays h old
-    spelled_stays s at old text leads k Finds h named binds (inl (f, taken, is)) none =
-        let asked = taken_asked s text leads (class_to g k) binds f taken in
+    spelled_stays : (s : Scope) (at : ℕ) (old text : List ℕ) (k : ClassKey) (Finds : Found → Type 0) (h : Choice) → k.name ≡ old
+        → NamesClass (rows_to g rows) s (front_word text) (last_word text) (class_to g k)
+        → Spells begins rows g s at old (class_to g k).name (class_decl k) (reference ref.ClassName text None []) Finds h → losses_of h ≡ [] → Stays h old
+    spelled_stays s at old text k Finds h named binds (inl (f, taken, is)) none =
+        let asked = taken_asked s text (class_to g k) binds f taken in
         renamed_stays old (class_to g k).name h (is ∙ ap (spelled old (class_to g k).name (class_to g k)) asked) (ap (λ (x : ClassKey). x.name) (class_same g keep.still k) ∙ named)
-    spelled_stays s at old text leads k Finds h named binds (inr (never, (f, finds, is))) none = absurd (lost_some _ (sym (ap losses_of is) ∙ none))
+    spelled_stays s at old text k Finds h named binds (inr (never, (f, finds, is))) none = absurd (lost_some _ (sym (ap losses_of is) ∙ none))
 
     -- the word of a type, and the one in front of its dot
     abbrev pub back_of : tree.TypeName A → List ℕ
@@ -159,15 +155,13 @@ module _ (rows : List Row) (g : Renaming) (keep : TypesKeep rows g) where
     name_stays c base (tree.int m) h x none = absurd x
     name_stays c base (tree.boolean m) h x none = absurd x
     name_stays c base (tree.named m None w) h (k, names, spells) none =
-        spelled_stays (scope_to g c) _ w.text (class_to g k).name true k _ h (named_is rows (scope_of c) w.text k names)
-        (refl, subst (λ (j : ClassKey). NamesClass (rows_to g rows) (scope_to g c) (front_word j.name) (last_word j.name) j) (sym (class_same g keep.still k)) (simple_binds c w.text k names))
+        spelled_stays (scope_to g c) _ w.text (class_to g k).name k _ h (named_is rows (scope_of c) w.text k names)
+        (subst (λ (j : ClassKey). NamesClass (rows_to g rows) (scope_to g c) (front_word j.name) (last_word j.name) j) (sym (class_same g keep.still k)) (simple_binds c w.text k names))
         spells none
-    name_stays c base (tree.named m (Some v) w) h (o, k, front, back, leads, lead, spells) none =
-        spelled_stays (scope_to g c) _ w.text (dotted (class_to g o).name (class_to g k).name) leads k _ h (member_is rows (scope_of c) o w.text k back) (
-          lead.1 (type_leads c v.text o front),
-          subst (λ (i : ClassKey). NamesClass (rows_to g rows) (scope_to g c) (front_word (dotted i.name (class_to g k).name)) (last_word (dotted i.name (class_to g k).name)) (class_to g k)) (sym (class_same g keep.still o))
-              (subst (λ (j : ClassKey). NamesClass (rows_to g rows) (scope_to g c) (front_word (dotted o.name j.name)) (last_word (dotted o.name j.name)) j) (sym (class_same g keep.still k)) (qualified_binds c v.text w.text o k front back)),
-        )
+    name_stays c base (tree.named m (Some v) w) h (o, k, front, back, spells) none =
+        spelled_stays (scope_to g c) _ w.text (dotted (class_to g o).name (class_to g k).name) k _ h (member_is rows (scope_of c) o w.text k back)
+        (subst (λ (i : ClassKey). NamesClass (rows_to g rows) (scope_to g c) (front_word (dotted i.name (class_to g k).name)) (last_word (dotted i.name (class_to g k).name)) (class_to g k)) (sym (class_same g keep.still o))
+        (subst (λ (j : ClassKey). NamesClass (rows_to g rows) (scope_to g c) (front_word (dotted o.name j.name)) (last_word (dotted o.name j.name)) j) (sym (class_same g keep.still k)) (qualified_binds c v.text w.text o k front back)))
         spells none
 
     left_stays : (c : Context) (base : ℕ) (t : tree.TypeName A) (h : Choice) → QualifierSpells begins rows g c base t h → losses_of h ≡ [] → Stays h (left_of t)

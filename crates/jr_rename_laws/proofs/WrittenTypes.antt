@@ -16,7 +16,7 @@ use Rattle.jr_table.specs.Lookup.{FindsTypeNamed, FindsTypeOf}
 use Rattle.jr_table.specs.Context.{NamesClass}
 use Rattle.jr_table.specs.DeclaredItems.{Written, int, boolean, named, DeclaredItem}
 use Rattle.jr_table.specs.Resolving as meaning
-use Rattle.jr_table.specs.Resolving.{FindsInTop, MemberNames, HasMemberType, Means}
+use Rattle.jr_table.specs.Resolving.{MemberNames, HasMemberType, Means}
 use Rattle.jr_table.proofs.LookupLaws.{one_answers}
 use Rattle.jr_table.proofs.FieldLaws.{one_type_of}
 use Rattle.jr_table.proofs.OneEach.{class_stands}

@@ -1,4 +1,3 @@
-pub mod Standing
 pub mod Beside
 pub mod ImageLaws
 pub mod PlanLaws

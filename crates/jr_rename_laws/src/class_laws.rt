@@ -3,7 +3,7 @@ ghost use Rattle.jr_rename_laws.specs.ClassLaws.{ClassesGiveImages, BuiltRowsAre
 ghost use Rattle.jr_rename_laws.specs.ClassLaws.{ConstructorsGiveImages};
 
 use crate::new_programs::{classes_stay_fair, renamings_stay_fair};
-use crate::reference_laws::references_are_kept;
+use jr_images::references_are_kept;
 use jr_text::Mark;
 
 /// Where a class is renamed and each class of the new trees, read again, has a superclass, these

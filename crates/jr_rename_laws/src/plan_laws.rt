@@ -5,8 +5,7 @@ ghost use Rattle.jr_rename_laws.specs.PlanLaws.{NewProgramsStayClean};
 use crate::new_programs::{
     fields_give_images, locals_give_images, methods_give_images, plans_become, renamings_stay_fair,
 };
-use crate::reference_laws::references_are_kept;
-use jr_images::{renamed_texts_read, rows_are_named};
+use jr_images::{references_are_kept, renamed_texts_read, rows_are_named};
 use jr_text::Span;
 
 /// Whatever is planned in a program without faults and errors: the text of each file, spliced by

@@ -12,7 +12,7 @@ use Rattle.jr_text.proofs.Pairs.{AllPairs-insert}
 use Rattle.jr_text.proofs.SpliceProofs.{join_from-splice}
 use Rattle.jr_rewrite.specs.Respellings.{Change}
 use Rattle.jr_rewrite.specs.Edited.{entries_from, entries_of, AreInOrder}
-use Rattle.jr_rewrite.proofs.Weaving.{join_changes, Fit}
+use Rattle.jr_rewrite.specs.Woven.{join_changes, Fit}
 
 -- ---- the splice
 

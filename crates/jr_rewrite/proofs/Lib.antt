@@ -1,11 +1,11 @@
 -- By steps over the tokens from left to right (`Steps`: stay, cast, swap, close).
 -- `ExpressionSteps`, `StatementSteps`, `MemberSteps` flatten a rewriting; `Woven`, `Weaving` turn
--- steps into lexemes of the new text, with `Turning` for what stands directly in front of a change;
--- `Parts`, `Cuts`, `Tiles`, `Skipping`, `Stepping`, `WordSteps`, `NewTokens` serve these.
--- `ExpressionShapes`, `MemberShapes` keep the side conditions of the grammar. `Rewriting` has the
--- laws. `Entries`, `Putting`, `Pushing`: the code's changes and edits. `BareForms`, `Unbared`,
--- `UnbaredMembers`: what stands along a tree stands along each that is equal but for marks.
-pub mod Turning
+-- steps into lexemes of the new text, where what stands directly in front of a change stays what it
+-- is (`jr_lex: Yields`); `Parts`, `Cuts`, `Tiles`, `Skipping`, `Stepping`, `WordSteps`, `NewTokens`
+-- serve these. `ExpressionShapes`, `MemberShapes` keep the side conditions of the grammar.
+-- `Rewriting` has the laws. `Entries`, `Putting`, `Pushing`: the code's changes and edits.
+-- `BareForms`, `Unbared`, `UnbaredMembers`: what stands along a tree stands along each that is equal
+-- but for marks.
 pub mod Parts
 pub mod Cuts
 pub mod Steps
@@ -14,6 +14,7 @@ pub mod Firsts
 pub mod Weaving
 pub mod Skipping
 pub mod Woven
+pub mod SpotWeaving
 pub mod Entries
 pub mod Stepping
 pub mod WordSteps

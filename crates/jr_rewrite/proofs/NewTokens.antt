@@ -138,7 +138,7 @@ module _ {A : Type 0} (m : A) (w : tree.Word A) where
       where
         by_front : (f : Front) → MayStandFor old f → behind_dot f r.text (toks e) ≡ target_toks (target_of (operand_to m f (Some e))) ++ (word r.text ∷ [])
         by_front same may = sym (append_assoc (toks e) (symbol Dot ∷ []) (word r.text ∷ []))
-        by_front alone may = sym (append_assoc (toks e) (symbol Dot ∷ []) (word r.text ∷ []))
+        by_front alone may = refl
         by_front by_this may = refl
         by_front by_super may = absurd may
         by_front (by_cast_this k) may = refl

@@ -19,8 +19,7 @@ use Rattle.jr_lex.specs.Words.{IsIdentifier, keyword_text}
 use Rattle.jr_lex.specs.Symbols.{symbol_text}
 use Rattle.jr_lex.specs.Lexemes.{IsLexeme}
 use Rattle.jr_lex.specs.Replacing.{IsName}
-use Rattle.jr_lex.specs.Beside.{Piece}
-use Rattle.jr_lex.proofs.EndLaws.{EndsBefore}
+use Rattle.jr_lex.specs.Beside.{Piece, EndsBefore}
 use Rattle.jr_lex.proofs.FirstLaws.{start-apart, word_start-digit}
 use Rattle.jr_grammar.specs.Tokens.{Token}
 use Rattle.jr_grammar.specs.Tokens as token
@@ -77,9 +76,9 @@ tokens (mark s ∷ ps) = token.symbol s ∷ tokens ps
 
 -- ---- what is put in
 
--- `((K) `
+-- `((K)`, behind which a space stands
 abbrev pub cast_parts : List ℕ → List Part
-cast_parts k = mark symbol.OpenParen ∷ mark symbol.OpenParen ∷ name k ∷ mark symbol.CloseParen ∷ space ∷ []
+cast_parts k = mark symbol.OpenParen ∷ mark symbol.OpenParen ∷ name k ∷ mark symbol.CloseParen ∷ []
 
 abbrev pub front_parts : Front → List Part
 front_parts same = []
@@ -105,7 +104,7 @@ respelled_join (by_class k) x = simp (append_assoc, append-nil)
 respelled_join (by_outer_class o k) x = simp (append_assoc, append-nil)
 respelled_join (by_cast k) x = ap (λ b. codes ")." ++ b) (append-nil x)
 
-pub cast_join : (k : List ℕ) → join (cast_parts k) ≡ cast_text k
+pub cast_join : (k : List ℕ) → join (cast_parts k) ++ (32 ∷ []) ≡ cast_text k
 cast_join k = simp (append_assoc, append-nil)
 
 -- ---- lexemes
@@ -212,5 +211,9 @@ respelled_lined (by_class k) x rest h n stops = (h, part_dot, (tt, dot_name x re
 respelled_lined (by_outer_class o k) x rest h n stops = (h.0, part_dot, (tt, dot_more k _ rest h.1, (h.1, part_dot, (tt, dot_name x rest n, (n, stops, tt)))))
 respelled_lined (by_cast k) x rest h n stops = close_lined x rest n stops
 
-pub cast_lined : (k rest : List ℕ) → IsName k → first_passes is_blank rest ≡ false → Lined (cast_parts k) rest
-cast_lined k rest h stops = (tt, refl, (tt, paren_name k _ rest, (h, part_close, (tt, refl, (tt, stops, tt)))))
+close_anything : (rest : List ℕ) → EndsBefore (item.Token (kind.Mark symbol.CloseParen)) rest
+close_anything [] = refl
+close_anything (c ∷ cs) = refl
+
+pub cast_lined : (k rest : List ℕ) → IsName k → Lined (cast_parts k) rest
+cast_lined k rest h = (tt, refl, (tt, paren_name k _ rest, (h, part_close, (tt, close_anything rest, tt))))

@@ -1,70 +1,72 @@
 -- Steps of parts, one behind the other, are steps of the whole.
-use Rattle.std.proofs.Common.{◌≡◌, ℕ, List, [], ◌∷◌, ◌++◌, refl, sym, ap, ◌∙◌, append_assoc, append-nil}
+use Rattle.std.proofs.Common.{◌≡◌, ℕ, Bool, true, false, Some, None, List, [], ◌∷◌, ◌++◌, refl, sym, ap, ◌∙◌, append_assoc, append-nil}
 use Rattle.jr_text.specs.declared.spans.Span.{Span}
 use Rattle.jr_lex.specs.declared.items.Symbol.TheVariants.{Dot}
 use Rattle.jr_grammar.specs.Tokens.{Token, word, symbol, Placed}
 use Rattle.jr_grammar.specs.Layout.{Layout, token, node, row, Layouts, done, ◌then◌, laid, all_laid}
-use Rattle.jr_grammar.specs.Stands.{Tokens, span_of, IsAlone, InOrder, IsNode, Stands, StandInOrder}
+use Rattle.jr_grammar.specs.Stands.{Tokens, last_to, span_of, IsAlone, InOrder, IsNode, Stands, StandInOrder}
 use Rattle.jr_rewrite.specs.Respellings.{Change}
-use Rattle.jr_rewrite.proofs.Steps.{stay, Stepped, nothing_stepped, joined_stepped}
+use Rattle.jr_rewrite.specs.Woven.{Weaving}
+use Rattle.jr_rewrite.proofs.Steps.{stay, weave, Stepped, nothing_stepped, joined_stepped, tight_unless}
 
 -- the same for tokens, changes and new tokens that are equal
-pub stepped_as : (ps qs : Tokens) (cs ds : List Change) (ts us : List Token) → ps ≡ qs → cs ≡ ds → ts ≡ us → Stepped ps cs ts → Stepped qs ds us
+pub stepped_as : {W : Weaving} {l : Bool} (ps qs : Tokens) (cs ds : List Change) (ts us : List Token) → ps ≡ qs → cs ≡ ds → ts ≡ us → Stepped W l ps cs ts → Stepped W l qs ds us
 stepped_as ps qs cs ds ts us e f g s = record {
   steps = s.steps;
+  tight = s.tight;
   olds_are = s.olds_are ∙ e;
   changes_are = s.changes_are ∙ f;
   news_are = s.news_are ∙ g;
   flow = s.flow;
 }
 
-pub stepped_new : (ps : Tokens) (cs : List Change) (ts us : List Token) → ts ≡ us → Stepped ps cs ts → Stepped ps cs us
+pub stepped_new : {W : Weaving} {l : Bool} (ps : Tokens) (cs : List Change) (ts us : List Token) → ts ≡ us → Stepped W l ps cs ts → Stepped W l ps cs us
 stepped_new ps cs ts us e s = stepped_as ps ps cs cs ts us refl refl e s
 
 -- no tokens
-pub none_steps : (ps : Tokens) → ps ≡ [] → Stepped ps [] []
+pub none_steps : {W : Weaving} {l : Bool} (ps : Tokens) → ps ≡ [] → Stepped W l ps [] []
 none_steps ps e = stepped_as [] ps [] [] [] [] (sym e) refl refl nothing_stepped
 
 -- a token that stays
-pub stay_steps : (p : Placed Span) → Stepped (p ∷ []) [] (p.token ∷ [])
-stay_steps p = record { steps = stay p ∷ []; olds_are = refl; changes_are = refl; news_are = refl; flow = tt }
+pub stay_steps : {W : Weaving} {l : Bool} (p : Placed Span) → Stepped W l (p ∷ []) [] (p.token ∷ [])
+stay_steps {l = l} p = record { steps = stay p ∷ []; olds_are = refl; changes_are = refl; news_are = refl; flow = tt; tight = tight_unless l (stay p ∷ []) tt }
 
-pub alone_steps : (t : Token) (ps : Tokens) → IsAlone t ps → Stepped ps [] (t ∷ [])
+pub alone_steps : {W : Weaving} {l : Bool} (t : Token) (ps : Tokens) → IsAlone t ps → Stepped W l ps [] (t ∷ [])
 alone_steps t ps h = stepped_as (h.placed ∷ []) ps [] [] (h.placed.token ∷ []) (t ∷ []) (sym h.alone) refl (ap (λ u. u ∷ []) h.is) (stay_steps h.placed)
 
 -- ---- parts in order
 
-pub both_steps : {P Q : Tokens → Type 0} (ps : Tokens) (cs ds : List Change) (ts us : List Token) → InOrder P Q ps → ((qs : Tokens) → P qs → Stepped qs cs ts)
-    → ((qs : Tokens) → Q qs → Stepped qs ds us) → Stepped ps (cs ++ ds) (ts ++ us)
+pub both_steps : {W : Weaving} {l : Bool} {P Q : Tokens → Type 0} (ps : Tokens) (cs ds : List Change) (ts us : List Token) → InOrder P Q ps → ((qs : Tokens) → P qs → Stepped W l qs cs ts)
+    → ((qs : Tokens) → Q qs → Stepped W l qs ds us) → Stepped W l ps (cs ++ ds) (ts ++ us)
 both_steps ps cs ds ts us h first rest =
     stepped_as (h.front ++ h.back) ps (cs ++ ds) (cs ++ ds) (ts ++ us) (ts ++ us) (sym h.whole) refl refl (joined_stepped h.front h.back cs ds ts us (first h.front h.first) (rest h.back h.rest))
 
 -- a token that stays in front
-pub token_steps : {t : Token} {Q : Tokens → Type 0} (ps : Tokens) (ds : List Change) (us : List Token) → InOrder (IsAlone t) Q ps → ((qs : Tokens) → Q qs → Stepped qs ds us) → Stepped ps ds (t ∷ us)
-token_steps {t} ps ds us h rest = both_steps ps [] ds (t ∷ []) us h (alone_steps t) rest
+pub token_steps : {W : Weaving} {l : Bool} {t : Token} {Q : Tokens → Type 0} (ps : Tokens) (ds : List Change) (us : List Token) → InOrder (IsAlone t) Q ps → ((qs : Tokens) → Q qs → Stepped W l qs ds us) → Stepped W l ps ds (t ∷ us)
+token_steps {t = t} ps ds us h rest = both_steps ps [] ds (t ∷ []) us h (alone_steps t) rest
 
 -- nothing changes in what is behind
-pub closing_steps : {P Q : Tokens → Type 0} (ps : Tokens) (cs : List Change) (ts us : List Token) → InOrder P Q ps → ((qs : Tokens) → P qs → Stepped qs cs ts)
-    → ((qs : Tokens) → Q qs → Stepped qs [] us) → Stepped ps cs (ts ++ us)
+pub closing_steps : {W : Weaving} {l : Bool} {P Q : Tokens → Type 0} (ps : Tokens) (cs : List Change) (ts us : List Token) → InOrder P Q ps → ((qs : Tokens) → P qs → Stepped W l qs cs ts)
+    → ((qs : Tokens) → Q qs → Stepped W l qs [] us) → Stepped W l ps cs (ts ++ us)
 closing_steps ps cs ts us h first rest = stepped_as ps ps (cs ++ []) cs (ts ++ us) (ts ++ us) refl (append-nil cs) refl (both_steps ps cs [] ts us h first rest)
 
 -- the last part
-pub last_steps : {P : Tokens → Type 0} (ps : Tokens) (cs : List Change) (ts : List Token) → InOrder P (λ qs. qs ≡ []) ps → ((qs : Tokens) → P qs → Stepped qs cs ts) → Stepped ps cs ts
+pub last_steps : {W : Weaving} {l : Bool} {P : Tokens → Type 0} (ps : Tokens) (cs : List Change) (ts : List Token) → InOrder P (λ qs. qs ≡ []) ps → ((qs : Tokens) → P qs → Stepped W l qs cs ts) → Stepped W l ps cs ts
 last_steps ps cs ts h first = stepped_new ps cs (ts ++ []) ts (append-nil ts) (closing_steps ps cs ts [] h first none_steps)
 
 -- the last token
-pub end_steps : {t : Token} (ps : Tokens) → InOrder (IsAlone t) (λ qs. qs ≡ []) ps → Stepped ps [] (t ∷ [])
+pub end_steps : {W : Weaving} {l : Bool} {t : Token} (ps : Tokens) → InOrder (IsAlone t) (λ qs. qs ≡ []) ps → Stepped W l ps [] (t ∷ [])
 end_steps ps h = token_steps ps [] [] h none_steps
 
 -- ---- parts that stay
 
 mutual
-  pub laid_steps : (x : Layout Span) (ps : Tokens) → Stands x ps → Stepped ps [] (laid x)
+  pub laid_steps : {W : Weaving} {l : Bool} (x : Layout Span) (ps : Tokens) → Stands x ps → Stepped W l ps [] (laid x)
   laid_steps (token t) ps h = alone_steps t ps h
   laid_steps (node m parts) ps h = all_laid_steps parts ps h.parts
   laid_steps (row parts) ps h = all_laid_steps parts ps h
 
-  pub all_laid_steps : (xs : Layouts Span) (ps : Tokens) → StandInOrder xs ps → Stepped ps [] (all_laid xs)
+  pub all_laid_steps : {W : Weaving} {l : Bool} (xs : Layouts Span) (ps : Tokens) → StandInOrder xs ps → Stepped W l ps [] (all_laid xs)
   all_laid_steps done ps h = none_steps ps h
   all_laid_steps (x then xs) ps h = both_steps ps [] [] (laid x) (all_laid xs) h (laid_steps x) (all_laid_steps xs)
 
@@ -88,6 +90,29 @@ rest_some ps h rest = go h.front h.whole
     go : (front : Tokens) → ps ≡ front ++ h.back → IsSome ps
     go [] e = (let s = rest h.back h.rest in (s.0, s.1, e ∙ s.2))
     go (p ∷ front) e = (p, front ++ h.back, e)
+
+-- ---- spots
+
+-- an expression, which has tokens
+pub part_woven : {W : Weaving} (ps : Tokens) (cs : List Change) (ts : List Token) → IsSome ps → W ps cs ts (Some (last_to ps)) → Stepped W false ps cs ts
+part_woven ps cs ts some h = record {
+  steps = weave ps cs ts (Some (last_to ps)) ∷ [];
+  olds_are = append-nil ps;
+  changes_are = append-nil cs;
+  news_are = append-nil ts;
+  flow = (h, tt);
+  tight = (some, refl, tt);
+}
+
+pub list_woven : {W : Weaving} (ps : Tokens) (cs : List Change) (ts : List Token) → W ps cs ts None → Stepped W true ps cs ts
+list_woven ps cs ts h = record {
+  steps = weave ps cs ts None ∷ [];
+  olds_are = append-nil ps;
+  changes_are = append-nil cs;
+  news_are = append-nil ts;
+  flow = (h, tt);
+  tight = tt;
+}
 
 -- ---- a word
 

@@ -4,26 +4,17 @@ use Rattle.std.specs.Prelude.{encode_utf8_all}
 use Rattle.std.specs.Str.{IsUtf8, chars}
 use Rattle.std.proofs.lemmas.Str.{encodes-append, encodes-chars, scalars-chars, chars-encodes, IsUtf8-nil, IsUtf8-append}
 use Rattle.std.proofs.Math.Utf8.{scalars}
+use Rattle.jr_text.specs.declared.spans.Span.{Span}
 use Rattle.jr_lex.specs.declared.items.Item.{Item}
-use Rattle.jr_lex.specs.Lexes.{Lexes, Cuts, IsEnd, IsItemAt, span_of}
+use Rattle.jr_lex.specs.Lexes.{Lexes, Cuts, IsEnd, IsItemAt}
 use Rattle.jr_lex.proofs.ReplaceLaws.{scalars_parts}
-use Rattle.jr_rewrite.proofs.Cuts.{IsCut, item_cut}
+use Rattle.jr_lex.specs.Near.{IsCut}
+use Rattle.jr_rewrite.specs.Woven.{Fronts, MayFront, Fronted, Tiled}
+use Rattle.jr_lex.proofs.OneLexeme.{item_cut}
 
--- the item has these bytes, from the place on, in front of others
-pub record IsTile (at : ℕ) (item : Item) (front rest : List ℕ) : Type 0 where
-  pub place : item.span ≡ span_of at (at + length front)
-  pub is_text : IsUtf8 front
-  pub cut : IsCut item.kind (chars front) (chars rest)
-
--- the items stand one behind the other from the place on, and take the bytes
-abbrev pub Tiled : ℕ → List ℕ → List Item → Type 0
-Tiled at bytes [] = bytes ≡ []
-Tiled at bytes (item ∷ items) =
-    (front rest : List ℕ) × (bytes ≡ front ++ rest) × IsTile at item front rest × Tiled (at + length front) rest items
-
-cuts_tiled : (at : ℕ) (cs : List ℕ) (items : List Item) → scalars cs ≡ true → Cuts IsEnd at cs items → Tiled at (encode_utf8_all cs) items
-cuts_tiled at cs [] s h = ap encode_utf8_all h
-cuts_tiled at cs (item ∷ items) s h =
+cuts_tiled : (F : Fronts) (at : ℕ) (cs : List ℕ) (items : List Item) → scalars cs ≡ true → Fronted F items → Cuts IsEnd at cs items → Tiled F at (encode_utf8_all cs) items
+cuts_tiled F at cs [] s g h = ap encode_utf8_all h
+cuts_tiled F at cs (item ∷ items) s g h =
     let front = h.0 in
     let rest = h.1 in
     let e : cs ≡ front ++ rest = h.2.taken.parts in
@@ -36,15 +27,16 @@ cuts_tiled at cs (item ∷ items) s h =
         place = h.2.place;
         is_text = (front, (parts.0, refl));
         cut = subst (λ f. IsCut item.kind f (chars (encode_utf8_all rest))) (sym (chars-encodes front parts.0)) (subst (IsCut item.kind front) (sym (chars-encodes rest parts.1)) here);
+        fronts = subst (λ n. MayFront F n item.kind) (ap (λ (x : Span). x.to) h.2.place) g.0;
       },
-      cuts_tiled (at + length (encode_utf8_all front)) rest items parts.1 h.3,
+      cuts_tiled F (at + length (encode_utf8_all front)) rest items parts.1 g.1 h.3,
     )
 
 -- the items of a text take its bytes
-pub lexes_tiled : (text : List ℕ) (items : List Item) → Lexes text items → Tiled 0 text items
-lexes_tiled text items h = subst (λ bs. Tiled 0 bs items) (encodes-chars text h.is_text) (cuts_tiled 0 (chars text) items (scalars-chars text h.is_text) h.cut)
+pub lexes_tiled : (F : Fronts) (text : List ℕ) (items : List Item) → Fronted F items → Lexes text items → Tiled F 0 text items
+lexes_tiled F text items g h = subst (λ bs. Tiled F 0 bs items) (encodes-chars text h.is_text) (cuts_tiled F 0 (chars text) items (scalars-chars text h.is_text) g h.cut)
 
 -- the bytes of items are a text
-pub tiled_text : (at : ℕ) (bytes : List ℕ) (items : List Item) → Tiled at bytes items → IsUtf8 bytes
-tiled_text at bytes [] t = subst IsUtf8 (sym t) IsUtf8-nil
-tiled_text at bytes (item ∷ items) t = subst IsUtf8 (sym t.2) (IsUtf8-append t.0 t.1 t.3.is_text (tiled_text (at + length t.0) t.1 items t.4))
+pub tiled_text : (F : Fronts) (at : ℕ) (bytes : List ℕ) (items : List Item) → Tiled F at bytes items → IsUtf8 bytes
+tiled_text F at bytes [] t = subst IsUtf8 (sym t) IsUtf8-nil
+tiled_text F at bytes (item ∷ items) t = subst IsUtf8 (sym t.2) (IsUtf8-append t.0 t.1 t.3.is_text (tiled_text F (at + length t.0) t.1 items t.4))

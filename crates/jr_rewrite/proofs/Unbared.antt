@@ -103,8 +103,12 @@ module _ {A B D : Type 0} (begins : A → ℕ → ℕ) (begins' : B → ℕ → 
           (k.0, k.1, k.2, t c d (begins m b) u (begins' h.0 i) (begins'' k.0 j) h.1 k.1 (sym k.3) h.3)
       along_bare c d r b i j (tree.name m w) y z q h = p c d r b (tree.name m w) i j y z q h
       along_bare c d r b i j (tree.super_field m w) y z q h = p c d r b (tree.super_field m w) i j y z q h
-      along_bare c d r b i j (tree.field m e w) y z q h =
-          let k = field_back z (bare h.1) (bare_word h.2) (sym q ∙ ap bare h.3) in (
+      along_bare c d r b i j (tree.field m e w) y z q (inr h) =
+          let k = name_back z (bare_word h.1) (sym q ∙ ap bare h.3) in
+          inr (k.0, k.1, h.2, k.2, p c d r b (tree.field m e w) i j (tree.name h.0 h.1) (tree.name k.0 k.1) (sym (ap bare h.3) ∙ q ∙ ap bare k.2) h.4)
+      along_bare c d r b i j (tree.field m e w) y z q (inl h) =
+          let k = field_back z (bare h.1) (bare_word h.2) (sym q ∙ ap bare h.3) in
+          inl (
             k.0,
             k.1,
             k.2,

@@ -1,8 +1,11 @@
 pub mod Respellings
 pub mod Rewritten
+pub mod Spots
 pub mod Rewrites
 pub mod Along
 pub mod Suitable
+pub mod Woven
+pub mod SuitableSpots
 pub mod Edited
 pub mod RewriteLaws
 pub mod RespellingView

@@ -142,11 +142,11 @@ MayBeCast (tree.binary m op x y) = Unit {0}
 MayBeCast (tree.assign m x y) = Unit {0}
 MayBeCast (tree.compound m op x y) = Unit {0}
 
--- of a name behind e and a dot: what takes e's place stands where a class stood, and a cast goes
--- around what begins with no number
+-- of a name behind e and a dot: what takes e's place, or nothing, stands where a class stood, and a
+-- cast goes around what begins with no number
 abbrev pub MayStandFor : {A : Type 0} → tree.Exp A → Front → Type 0
 MayStandFor e same = Unit {0}
-MayStandFor e alone = Unit {0}
+MayStandFor e alone = IsPath e
 MayStandFor e by_this = IsPath e
 MayStandFor e by_super = ⊥
 MayStandFor e (by_cast_this k) = IsPath e

@@ -14,7 +14,7 @@ use std::alloc::{AllocError, Global};
 pub enum Front<'a> {
     /// What stood there.
     Same,
-    /// Nothing: a type's name without a class in front.
+    /// Nothing: a class without what stood in front of its dot.
     Alone,
     /// `this.`
     ByThis,
@@ -44,7 +44,7 @@ impl<'a> Front<'a> {
     {
         match self {
             Front::Same => false,
-            Front::Alone => false,
+            Front::Alone => true,
             Front::ByThis => true,
             Front::BySuper => true,
             Front::ByCastThis(_) => true,

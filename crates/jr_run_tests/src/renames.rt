@@ -48,23 +48,78 @@ pub(crate) const ROWS: &'static str = "
 ~source rename A.java 131 M@class W{static class X{static int f;}}class N extends W{}class \
     T{static class N extends W{}}class S extends T{private static class N{}}class A extends \
     S{int m(){return N.X.f;}} => \
-    Done | class W{static class X{static int f;}}class N extends W{}class T{static class N \
-    extends W{}}class S extends T{private static class M{}}class A extends S{int m(){return \
-    W.X.f;}}
+    Refused | refused 16 LostBinding A.java:168 N found T.N\n
 ~# A class in front of the dot of a type comes to be another one, which has the member class too:
-~# another spelling is taken, or the class in front is lost.
+~# the type stays, and the class in front is lost.
 ~source rename A.java 131 M@class W{static class X{static int f;}}class N extends W{}class \
     T{static class N extends W{}}class S extends T{private static class N{}}class A extends \
     S{N.X v;} => \
-    Done | class W{static class X{static int f;}}class N extends W{}class T{static class N \
-    extends W{}}class S extends T{private static class M{}}class A extends S{W.X v;}
+    Refused | refused 16 LostBinding A.java:153 N found T.N\n
 ~source rename A.java 128 M@class W{static class X{}}class N extends W{}class T extends W{static \
     class N extends W{}}class S extends T{private static class N{}}class A extends S{N.X v;} => \
-    Done | class W{static class X{}}class N extends W{}class T extends W{static class N extends \
-    W{}}class S extends T{private static class M{}}class A extends S{X v;}
+    Refused | refused 16 LostBinding A.java:150 N found T.N\n
 ~source rename A.java 124 M@class W{static class X{}}class N extends W{}class T{static class \
     N{}static class W{}}class S extends T{private static class N{}}class A extends S{N.X v;} => \
     Refused | refused 16 LostBinding A.java:146 N found T.N\n
+~# Words in front of a dot are asked as they are, whatever class they find: the member stays, and
+~# the class in front is spelled by its own words, or lost.
+~source rename A.java 77 M@class T{static class N{static int x;}}class S extends T{private \
+    static class N{}}class U{static class N extends T.N{}static class A extends S{int \
+    m(){return N.x;}}} => \
+    Done | class T{static class N{static int x;}}class S extends T{private static class \
+    M{}}class U{static class N extends T.N{}static class A extends S{int m(){return U.N.x;}}}
+~source rename A.java 89 M@class T{static class N{static int x(){return 1;}}}class S extends \
+    T{private static class N{}}class U{static class N extends T.N{}static class A extends \
+    S{int m(){return N.x();}}} => \
+    Done | class T{static class N{static int x(){return 1;}}}class S extends T{private static \
+    class M{}}class U{static class N extends T.N{}static class A extends S{int m(){return \
+    U.N.x();}}}
+~source rename A.java 131 M@class O{static class K{static int x;}}class U extends O{}class \
+    T{static class O extends U{}}class S extends T{private static class O{}}class A extends \
+    S{O.K f;int m(){return O.K.x;}} => \
+    Refused | refused 16 LostBinding A.java:153 O found T.O\n
+~source rename A.java 131 M@class O{static class K{static int x;}}class U extends O{}class \
+    T{static class O extends U{}}class S extends T{private static class O{}}class A extends \
+    S{int m(){return O.K.x;}} => \
+    Refused | refused 16 LostBinding A.java:168 O found T.O\n
+~source rename A.java 115 M@class D{static int x;}class N extends D{}class T{static class N \
+    extends D{}}class S extends T{private static class N{}}class A extends S{int m(){return \
+    N.x;}} => \
+    Refused | refused 16 LostBinding A.java:152 N found T.N\n
+~source rename A.java 112 M@class P{static class K{static int x;}}class T{static class N \
+    extends P{}}class S extends T{private static class N{}}class U{static class N extends \
+    T.N{}static class A extends S{int m(){return N.K.x;}}} => \
+    Done | class P{static class K{static int x;}}class T{static class N extends P{}}class S \
+    extends T{private static class M{}}class U{static class N extends T.N{}static class A \
+    extends S{int m(){return U.N.K.x;}}}
+~source rename A.java 99 M@class P{static class K{}}class T{static class N extends P{}}class S \
+    extends T{private static class N{}}class U{static class N extends T.N{}static class A \
+    extends S{N.K f;}} => \
+    Refused | refused 16 LostBinding A.java:164 U.N found T.N\n
+~# The member is found in no class of that name any more: with another spelling the class is gone.
+~source rename A.java 105 M@class D{static int x;}class N extends D{}class T{static class \
+    N{}}class S extends T{private static class N{}}class A extends S{int m(){return N.x;}} => \
+    Done | class D{static int x;}class N extends D{}class T{static class N{}}class S extends \
+    T{private static class M{}}class A extends S{int m(){return D.x;}}
+~source rename A.java 126 M@class D{static void r(){}}class N extends D{}class T{static class \
+    N{static void r(){}}}class S extends T{private static class N{}}class A extends S{void \
+    m(){N.r();}} => \
+    Done | class D{static void r(){}}class N extends D{}class T{static class N{static void \
+    r(){}}}class S extends T{private static class M{}}class A extends S{void m(){D.r();}}
+~# A local or a field stands in the way of the words.
+~source rename A.java 66 K@class D{static int x;}class O{static class K extends D{}int m(int \
+    q,int D){return K.x;}} => \
+    Refused | refused 16 LostBinding A.java:84 D.x found none\n
+~source rename A.java 47 K@class B{static void r(){}}class C{static class M extends B{}static \
+    void n(int K,int B){M.r();}} => \
+    Refused | refused 16 LostBinding A.java:89 B.r() found none\n
+~source rename A.java 6 y@class B{static int y;static class K extends B{}static int m(){return \
+    B.K.y;}} => \
+    Refused | refused 16 LostBinding A.java:73 B.y found none\n
+~source rename A.java 146 C@class B{static class K{static int h;}}class C extends B{static \
+    class K extends B{}}class A{static int B;static class E extends C{static int n(int \
+    f){return C.K.K.h;}}} => \
+    Refused | refused 16 LostBinding A.java:160 B.K found none\n
 ~source rename A.java 6 B@class A{static int f=-2147483648;} => \
     Done | class B{static int f=-2147483648;}
 ~source rename A.java 29 B@class A{static void m(){{int a=1;}}} => \

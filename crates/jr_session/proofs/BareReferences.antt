@@ -12,12 +12,12 @@ use Rattle.jr_table.specs.Prelude.{top_key}
 use Rattle.jr_table.specs.Scope.{Scope}
 use Rattle.jr_table.specs.Found.{Found, one}
 use Rattle.jr_table.specs.Lookup.{FindsTypeNamed, FindsTypeOf, FindsLeftOf}
-use Rattle.jr_table.specs.Context.{Context, scope_of, WritesType}
+use Rattle.jr_table.specs.Context.{Context, scope_of, NamesClass, WritesType}
 use Rattle.jr_table.specs.HeadRules.{plain, TopFinds}
 use Rattle.jr_table.specs.Binding.{Role, value, left, Sought, FindsIn, IsClassName, FieldFinds, CallFinds, SuperCallFinds, CreationFinds, SuperCtorFinds, SuperFieldFinds, word_at, TypeRefers, NameFinds, DottedFinds, Refers}
 use Rattle.jr_table.specs.Binding as role
 use Rattle.jr_images.specs.Images.{Renaming, class_to, ctor_to, member_to, type_to, decl_to, rows_to}
-use Rattle.jr_images.specs.Keeping.{FindBoth, IsRespelled, IsFrontKept, IsTypeKept, IsBoundTo, IsKept, IsWritten, IsSuperKept, IsTopKept, IsParentKept}
+use Rattle.jr_images.specs.Keeping.{FindBoth, IsRespelled, IsFrontKept, IsTypeKept, WasOnClass, IsBoundTo, IsKept, IsWritten, IsSuperKept, IsTopKept, IsParentKept}
 use Rattle.jr_rename_laws.proofs.BareBinding.{writes_bare, class_bare, field_bare, call_bare, super_call_bare, creation_bare, super_ctor_bare}
 
 along : (P Q : Type 0) → P ≡ Q → P → Q
@@ -153,6 +153,13 @@ behind_back : {B : Type 0} (z : tree.TypeName B) (o w : tree.Word Bare) → bare
 behind_back (tree.named k (Some x) y) o w e = (k, x, y, refl, cc, cc)
 behind_back _ o w e = absurd cc
 
+module _ {A B : Type 0} (rows : List Row) (c : Context) where
+  was_bare : (x : tree.Exp A) (y z : tree.Exp B) → bare y ≡ bare z → WasOnClass rows c x y → WasOnClass rows c x z
+  unfolding map_exp
+  was_bare x (tree.name m v) (tree.name k w) e h = h
+  was_bare x _ (tree.name k w) e h = absurd cc
+  was_bare x y _ e h = tt
+
 module _ {B : Type 0} (g : Renaming) (rows : List Row) where
   respelled_bare : (k : ClassKey) (u v : tree.TypeName B) → bare_type u ≡ bare_type v → IsRespelled g rows k u → IsRespelled g rows k v
   respelled_bare k u v e (j, w, text, inl is) =
@@ -164,7 +171,7 @@ module _ {B : Type 0} (g : Renaming) (rows : List Row) where
 
   abbrev FrontIn : Scope → (o k : ClassKey) → tree.TypeName B → Type 0
   FrontIn new o k u = ((j : B) × (x y : tree.Word B) × (u ≡ tree.named j (Some x) y) × FindBoth g rows new o k x.text y.text)
-      ⊎ ((FindBoth g rows new o k (class_to g o).name (class_to g k).name → ⊥) × IsRespelled g rows k u)
+      ⊎ ((NamesClass (rows_to g rows) new (Some (class_to g o).name) (class_to g k).name (class_to g k) → ⊥) × IsRespelled g rows k u)
 
   front_bare : (new : Scope) (o k : ClassKey) (u v : tree.TypeName B) → bare_type u ≡ bare_type v → FrontIn new o k u → FrontIn new o k v
   front_bare new o k u v e (inl (j, x, y, is, both)) =
@@ -201,7 +208,7 @@ module _ {A B : Type 0} (begins : A → ℕ → ℕ) (begins' : B → ℕ → �
   kept_bare c d r b (tree.null m) i j y z e h = λ at q f. bound_bare d r i j y z e (decl_to g q) (h at q f)
   kept_bare c d r b (tree.string m t) i j y z e h = λ at q f. bound_bare d r i j y z e (decl_to g q) (h at q f)
   kept_bare c d r b (tree.name m w) i j y z e h = λ at q f. bound_bare d r i j y z e (decl_to g q) (h at q f)
-  kept_bare c d r b (tree.field m x w) i j y z e h = λ at q f. bound_bare d r i j y z e (decl_to g q) (h at q f)
+  kept_bare c d r b (tree.field m x w) i j y z e h = (λ at q f. bound_bare d r i j y z e (decl_to g q) (h.0 at q f), was_bare rows c x y z e h.1)
   kept_bare c d r b (tree.super_field m w) i j y z e h = λ at q f. bound_bare d r i j y z e (decl_to g q) (h at q f)
   kept_bare c d r b (tree.this m) i j y z e h = λ at q f. bound_bare d r i j y z e (decl_to g q) (h at q f)
   kept_bare c d r b (tree.call m to w args) i j y z e h = λ at q f. bound_bare d r i j y z e (decl_to g q) (h at q f)

@@ -1,16 +1,15 @@
 -- What a plan tells of the table of the new sources, and who is told it.
 use Rattle.std.proofs.Common.{◌≡◌, ℕ, ◌<◌, List, length, sym, ap, subst, ◌∙◌}
-use Rattle.std.specs.Prelude.{Option, Some, Bool, slice_get}
+use Rattle.std.specs.Prelude.{Option, Some, Bool}
 use Rattle.std.proofs.lemmas.Option.{same_Some}
 use Rattle.jr_text.specs.declared.spans.Span.{Span}
 use Rattle.jr_text.specs.Edits.{Entry}
 use Rattle.jr_lex.specs.Replacing.{IsName}
-use Rattle.jr_grammar.specs.Layout.{itself}
 use Rattle.jr_table.specs.Decls.{Decl}
 use Rattle.jr_table.specs.Rows.{Row}
-use Rattle.jr_names.specs.Replies.{Outcome, planned, not_planned}
+use Rattle.jr_names.specs.Replies.{Outcome, planned}
 use Rattle.jr_names.specs.Sites.{DepPair}
-use Rattle.jr_bind.specs.Programs.{File, Program, units_of}
+use Rattle.jr_bind.specs.Programs.{Program}
 use Rattle.jr_images.specs.Images.{rows_to}
 use Rattle.jr_rename_laws.specs.PlanLaws.{IsPlanIn}
 use Rattle.jr_rename.specs.Afters.{PlansRows, IsAfter}

@@ -1,5 +1,5 @@
 -- A rename stays in the files of its session: the names, and the places that its refusals tell.
-use Rattle.std.proofs.Common.{◌≡◌, ◌∙◌, ◌<◌, ◌≤◌, ℕ, zero, suc, ap, arith, refl, sym, subst, List, [], ◌∷◌, length, map, slice_get, Some}
+use Rattle.std.proofs.Common.{◌≡◌, ◌∙◌, ◌<◌, ◌≤◌, ℕ, ap, arith, refl, sym, subst, List, [], ◌∷◌, length}
 use Rattle.std.proofs.lemmas.List.{length-map}
 use Rattle.std.proofs.lemmas.Option.{slice_get_within}
 use Rattle.jr_text.specs.declared.spans.Span.{Span}

@@ -1,11 +1,11 @@
 -- What was analysed before files got other texts serves for those that stay.
 use Rattle.std.proofs.Common.{◌≡◌, ℕ, zero, suc, List, [], ◌∷◌, ◌++◌, length, refl, sym, ap, subst, ◌∙◌, true≢false, inl, inr}
-use Rattle.std.specs.Prelude.{◌⊎◌, Option, Some, None, Bool, true, false, not, ◌||◌, ◌==◌, slice_get}
+use Rattle.std.specs.Prelude.{◌⊎◌, Option, Some, Bool, true, false, not, ◌||◌, ◌==◌, slice_get}
 use Rattle.std.proofs.lemmas.Bool.Decides.{Decides-eqb}
 use Rattle.std.proofs.lemmas.Option.{same_Some, none-some}
 use Rattle.jr_sources.specs.Sources.{Source, texts_of, with_text}
-use Rattle.jr_sources.specs.Analysed.{IsAnalysis, IsKeptAnalysis}
-use Rattle.jr_sources.specs.Earlier.{IsEarlier, IsMaybeEarlier}
+use Rattle.jr_sources.specs.Analysed.{IsKeptAnalysis}
+use Rattle.jr_sources.specs.Earlier.{IsMaybeEarlier}
 use Rattle.jr_sources.specs.declared.analyses.Analysis.{Analysis}
 use Rattle.jr_sources.specs.declared.analyses.EarlierAnalysis.{EarlierAnalysis}
 use Rattle.jr_session.specs.declared.changes.Change.{Change}

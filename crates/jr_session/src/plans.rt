@@ -19,6 +19,15 @@ use jr_steps::Steps;
 use std::alloc::{AllocError, Global};
 use std::sync::ledger::Ledger;
 
+/// A rename that is asked for: of what the identifier at this byte of the file of this number
+/// names, and the name that it gets.
+#[derive(Clone, Copy, Drop)]
+pub(crate) struct RenameRequest<'a> {
+    pub number: u32,
+    pub at: u32,
+    pub new: &'a Name,
+}
+
 /// What comes of planning a rename.
 #[derive(Drop)]
 pub(crate) enum Planned {
@@ -60,24 +69,30 @@ fn sound(
     sources: &Sources,
     readings: &Readings,
     analysis: &Analysis,
-    number: u32,
-    at: u32,
-    new: &Name,
+    request: &RenameRequest<'_>,
     after: &mut After,
 ) -> Result<Planned, AllocError>
     requires readings { AreReadings (texts_of sources.now) readings.now }
     requires analysis { IsAnalysis sources.now analysis.now }
     requires sound { AreSound sources.now }
-    requires number { number < length sources.now }
-    requires name { IsName new.now }
+    requires number { request.now.number < length sources.now }
+    requires name { IsName request.now.new.now }
     requires blank { after.old ≡ Unknown }
-    ensures planned { IfOk result (IsPlannedSo sources.now number at new.now) }
+    ensures planned { IfOk result (IsPlannedSo sources.now request.now.number
+        request.now.at request.now.new.now) }
     ensures told { IfOk result (λ planned.
         PlanTells sources.now (Some analysis.now) planned after.new) }
 {
     new_tables();
     let whole = Whole::new(sources, readings, analysis);
-    let outcome = plan_at(alloc, &whole, number, at, new, after)?;
+    let outcome = plan_at(
+        alloc,
+        &whole,
+        request.number,
+        request.at,
+        request.new,
+        after,
+    )?;
     Ok(of_outcome(outcome))
 }
 
@@ -87,25 +102,24 @@ fn plan_analysed(
     sources: &Sources,
     readings: &Readings,
     kept: &Option<Analysis>,
-    number: u32,
-    at: u32,
-    new: &Name,
+    request: &RenameRequest<'_>,
     after: &mut After,
 ) -> Result<Planned, AllocError>
     requires readings { AreReadings (texts_of sources.now) readings.now }
     requires kept { IsKeptAnalysis sources.now kept.now }
     requires filled { IsFilled kept.now }
-    requires number { number < length sources.now }
-    requires name { IsName new.now }
+    requires number { request.now.number < length sources.now }
+    requires name { IsName request.now.new.now }
     requires blank { after.old ≡ Unknown }
-    ensures planned { IfOk result (IsPlannedSo sources.now number at new.now) }
+    ensures planned { IfOk result (IsPlannedSo sources.now request.now.number
+        request.now.at request.now.new.now) }
     ensures told { IfOk result (λ planned. PlanTells sources.now kept.now planned after.new) }
 {
     match kept {
         None => unreachable!(),
         Some(analysis) => match first_error(sources, analysis) {
             Some(fault) => Ok(Planned::Wrong(fault)),
-            None => sound(alloc, sources, readings, analysis, number, at, new, after),
+            None => sound(alloc, sources, readings, analysis, request, after),
         },
     }
 }
@@ -117,26 +131,25 @@ pub(crate) fn plan_rename<L: Ledger>(
     sources: &Sources,
     readings: &Readings,
     kept: &mut Option<Analysis>,
-    number: u32,
-    at: u32,
-    new: &Name,
+    request: &RenameRequest<'_>,
     after: &mut After,
     steps: &mut Steps<L>,
 ) -> Result<Planned, AllocError>
     requires valid { AreSources sources.now }
     requires readings { AreReadings (texts_of sources.now) readings.now }
     requires kept { IsKeptAnalysis sources.now kept.old }
-    requires number { number < length sources.now }
-    requires name { IsName new.now }
+    requires number { request.now.number < length sources.now }
+    requires name { IsName request.now.new.now }
     requires blank { after.old ≡ Unknown }
     ensures kept { IsKeptAnalysis sources.now kept.new }
-    ensures planned { IfOk result (IsPlannedSo sources.now number at new.now) }
+    ensures planned { IfOk result (IsPlannedSo sources.now request.now.number
+        request.now.at request.now.new.now) }
     ensures told { IfOk result (λ planned. PlanTells sources.now kept.new planned after.new) }
     ensures cost { CostsBinding sources.now steps.old steps.new }
 {
     let found = keep_analysis(alloc, sources, readings, kept, steps)?;
     match found {
         Some(fault) => Ok(Planned::Wrong(fault)),
-        None => plan_analysed(alloc, sources, readings, kept, number, at, new, after),
+        None => plan_analysed(alloc, sources, readings, kept, request, after),
     }
 }

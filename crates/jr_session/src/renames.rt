@@ -8,20 +8,27 @@ ghost use Rattle.jr_session.specs.Stepping as pure;
 ghost use Rattle.jr_session.specs.Work.{IsWithinWork};
 
 use crate::edits::no_such_file;
-use crate::plans::{Planned, plan_rename};
+use crate::plans::{Planned, RenameRequest, plan_rename};
 use crate::sessions::Session;
 use crate::shows::source_error;
 use jr_ast::Name;
 use jr_names::Reply;
 use jr_rename::After;
 use jr_rename_laws::plans_keep_programs;
-use jr_sources::{Analysis, refusal_of_request, text_has_one_reading};
+use jr_sources::{Analysis, forget_known, refusal_of_request, text_has_one_reading};
 use jr_steps::Steps;
 use std::alloc::{AllocError, Global};
 use std::sync::ledger::Ledger;
 
 // Lets go what isn't taken.
-fn forget(_after: After) {}
+fn forget(after: After) {
+    match after {
+        After::Unknown => {}
+        After::Same => {}
+        After::Images(table) => forget_known(Some(table)),
+        After::Maybe(table) => forget_known(Some(table)),
+    }
+}
 
 fn forget_analysis(_analysed: Option<Analysis>) {}
 
@@ -46,10 +53,12 @@ impl Session {
         let Some(number) = self.sources.find(file.as_str()) else {
             return no_such_file(alloc, file);
         };
-        let refusal = refusal_of_request(alloc, file, self.sources.text(number), at, new)?;
-        match refusal {
-            Some(refusal) => Ok(Reply::Refused(refusal)),
-            None => self.rename_asked(alloc, file, number, at, new, steps),
+        match refusal_of_request(alloc, file, self.sources.text(number), at, new) {
+            Err(error) => Err(error),
+            Ok(refusal) => match refusal {
+                Some(refusal) => Ok(Reply::Refused(refusal)),
+                None => self.rename_asked(alloc, file, number, at, new, steps),
+            },
         }
     }
 
@@ -70,7 +79,8 @@ impl Session {
         ensures work { IsWithinWork self.old (Rename file.now at new.now) steps.old steps.new }
     {
         let mut after = After::Unknown;
-        let reply = self.rename_by(alloc, file, number, at, new, &mut after, steps);
+        let request = &RenameRequest { number, at, new };
+        let reply = self.rename_by(alloc, file, request, &mut after, steps);
         forget(after);
         reply
     }
@@ -80,18 +90,18 @@ impl Session {
         &mut self,
         alloc: Global,
         file: &Name,
-        number: u32,
-        at: u32,
-        new: &Name,
+        request: &RenameRequest<'_>,
         after: &mut After,
         steps: &mut Steps<L>,
     ) -> Result<Reply, AllocError>
-        requires asks { AsksFor self.old file.now at new.now number }
+        requires asks { AsksFor self.old file.now request.now.at request.now.new.now
+            request.now.number }
         requires blank { after.old ≡ Unknown }
-        ensures step { IfOk result (λ reply. pure.Steps self.old (Rename file.now at new.now)
-            (reply_of reply) self.new) }
+        ensures step { IfOk result (λ reply. pure.Steps self.old
+            (Rename file.now request.now.at request.now.new.now) (reply_of reply) self.new) }
         ensures err { OnErr result (self.new ≡ self.old) }
-        ensures work { IsWithinWork self.old (Rename file.now at new.now) steps.old steps.new }
+        ensures work { IsWithinWork self.old
+            (Rename file.now request.now.at request.now.new.now) steps.old steps.new }
     {
         text_has_one_reading();
         plans_keep_programs();
@@ -101,9 +111,7 @@ impl Session {
             &self.sources,
             &self.readings,
             &mut self.analysed,
-            number,
-            at,
-            new,
+            request,
             after,
             steps,
         )?;

@@ -18,7 +18,7 @@ use crate::turns::{exchange_all, readings_of};
 use jr_rename::After;
 use jr_sources::{
     Analysed, Analysis, EarlierAnalysis, Readings, SourceFault, Sources, Whole, analyse,
-    analyse_same, analyse_with, first_error,
+    analyse_same, analyse_with, first_error, forget_known,
 };
 use jr_steps::Steps;
 use jr_table::Table;
@@ -78,8 +78,6 @@ pub(crate) fn sources_are_program(sources: &Sources, readings: &Readings, analys
     let _whole = Whole::new(sources, readings, analysis);
 }
 
-fn forget_table(_table: Option<Table>) {}
-
 // What is known of sources of which this may be the table.
 fn analyse_known<L: Ledger>(
     alloc: Global,
@@ -97,7 +95,7 @@ fn analyse_known<L: Ledger>(
 {
     let mut known = known;
     let analysed = analyse(alloc, sources, readings, &mut known, earlier, steps);
-    forget_table(known);
+    forget_known(known);
     analysed
 }
 

@@ -106,7 +106,7 @@ pub(crate) fn change(
     let mut were = Vec::with_capacity(alloc, changes.len())?;
     undo.reserve(1)?;
     exchange_all(sources, readings, &mut had, &mut were, changes, with);
-    undo.push(Earlier { changes: had }).unwrap();
+    undo.push_reserved(Earlier { changes: had });
     redo.clear();
     Ok(())
 }
@@ -147,7 +147,7 @@ fn turn(
     let mut were = were;
     let step = from.pop().unwrap();
     exchange_all(sources, readings, &mut had, &mut were, step.changes, with);
-    onto.push(Earlier { changes: had }).unwrap();
+    onto.push_reserved(Earlier { changes: had });
 }
 
 /// Takes the last step back, which can then be taken back again. False where there is none.

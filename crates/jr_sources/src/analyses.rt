@@ -1,21 +1,64 @@
 //! What was analysed of sources.
+ghost use Rattle.std.specs.Prelude.{◌≡◌};
 
 use jr_program::MemberBound;
 use jr_table::Table;
 
 /// What was analysed of sources without a fault: their table, and what binding knows of their
 /// members, in file and text order.
-#[derive(Drop)]
 pub struct Analysis {
     pub table: Table,
     pub members: Vec<MemberBound>,
 }
 
+// Written out, so that it is proved here, once: what is derived is proved anew in each crate above,
+// and in pieces in each function that lets an analysis go.
+impl Drop for Analysis {
+    fn drop(self) {
+        let Analysis {
+            table: _,
+            members: _,
+        } = self;
+    }
+}
+
+impl Analysis {
+    // The parts. What has a written drop is taken apart by its own calls alone.
+    fn parts(self) -> (Table, Vec<MemberBound>)
+        ensures table { result.0 ≡ self.table }
+        ensures members { result.1 ≡ self.members }
+    {
+        let Analysis { table, members } = self;
+        (table, members)
+    }
+}
+
 /// What was analysed of earlier sources, and for each file whether its text is the same now.
-#[derive(Drop)]
 pub struct EarlierAnalysis {
     pub analysis: Analysis,
     pub stays: Vec<bool>,
+}
+
+impl Drop for EarlierAnalysis {
+    fn drop(self) {
+        let EarlierAnalysis {
+            analysis: _,
+            stays: _,
+        } = self;
+    }
+}
+
+impl EarlierAnalysis {
+    // The parts, and those of the analysis.
+    pub(crate) fn parts(self) -> (Table, Vec<MemberBound>, Vec<bool>)
+        ensures table { result.0 ≡ self.analysis.table }
+        ensures members { result.1.items ≡ self.analysis.members.items }
+        ensures stays { result.2.items ≡ self.stays.items }
+    {
+        let EarlierAnalysis { analysis, stays } = self;
+        let (table, members) = analysis.parts();
+        (table, members, stays)
+    }
 }
 
 /// The first fault of sources: the number of its file, its byte, and the name of its kind.

@@ -13,12 +13,24 @@ use std::mem;
 /// The readings of the files, by their numbers: units side by side, as the table is built from
 /// them, with the places of their first tokens, with all their tokens, and with the faults. A file
 /// with a fault has a unit without classes, and no tokens.
-#[derive(Drop)]
 pub struct Readings {
     pub units: Vec<Unit<Span>>,
     pub words: Vec<u32>,
     pub tokens: Vec<Tokens>,
     pub faults: Vec<Option<ReadingFault>>,
+}
+
+// Written out, so that it is proved here: what is derived is proved anew in each crate above, with
+// all trees.
+impl Drop for Readings {
+    fn drop(self) {
+        let Readings {
+            units: _,
+            words: _,
+            tokens: _,
+            faults: _,
+        } = self;
+    }
 }
 
 impl Readings {
@@ -29,10 +41,11 @@ impl Readings {
         ensures tokens { IfOk result (λ r. r.tokens.items ≡ []) }
         ensures faults { IfOk result (λ r. r.faults.items ≡ []) }
     {
-        let units = Vec::with_capacity(alloc, count)?;
+        // What is dearest to let go comes last.
         let words = Vec::with_capacity(alloc, count)?;
-        let tokens = Vec::with_capacity(alloc, count)?;
         let faults = Vec::with_capacity(alloc, count)?;
+        let tokens = Vec::with_capacity(alloc, count)?;
+        let units = Vec::with_capacity(alloc, count)?;
         Ok(Readings {
             units,
             words,
@@ -52,10 +65,16 @@ impl Readings {
         ensures faults { OnOk result
             (self.new.faults.items ≡ self.old.faults.items ++ reading.fault ∷ []) }
     {
-        self.words.push(reading.word)?;
-        self.faults.push(reading.fault)?;
-        self.tokens.push(reading.tokens)?;
-        self.units.push(reading.unit)?;
+        // All room is made first, so that no part has to be let go.
+        self.words.reserve(1)?;
+        self.faults.reserve(1)?;
+        self.tokens.reserve(1)?;
+        self.units.reserve(1)?;
+        let (unit, word, tokens, fault) = reading.parts();
+        self.units.push_reserved(unit);
+        self.words.push_reserved(word);
+        self.tokens.push_reserved(tokens);
+        self.faults.push_reserved(fault);
         Ok(())
     }
 
@@ -78,10 +97,11 @@ impl Readings {
         ensures fault { slice_get self.old.faults.items number ≡ Some result.fault }
     {
         let at = number as usize;
-        let unit = mem::replace(&mut self.units[at], reading.unit);
-        let word = mem::replace(&mut self.words[at], reading.word);
-        let tokens = mem::replace(&mut self.tokens[at], reading.tokens);
-        let fault = mem::replace(&mut self.faults[at], reading.fault);
+        let (unit, word, tokens, fault) = reading.parts();
+        let unit = mem::replace(&mut self.units[at], unit);
+        let word = mem::replace(&mut self.words[at], word);
+        let tokens = mem::replace(&mut self.tokens[at], tokens);
+        let fault = mem::replace(&mut self.faults[at], fault);
         Reading {
             unit,
             word,

@@ -33,7 +33,7 @@ pub use asks::refusal_of_request;
 pub use errors::first_error;
 pub use faults::{FaultKind, ReadingFault};
 pub use kept::Readings;
-pub use programs::{analyse, analyse_same, analyse_with, keep_analysis};
+pub use programs::{analyse, analyse_same, analyse_with, forget_known, keep_analysis};
 pub use reading_laws::text_has_one_reading;
 pub use readings::{Reading, read};
 pub use sources::{MAX_FILES, MAX_TOTAL_LEN, Sources};

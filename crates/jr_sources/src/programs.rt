@@ -20,7 +20,7 @@ use crate::reading_laws::text_has_one_reading;
 use crate::sources::Sources;
 use jr_ast::Unit;
 use jr_build::{BuildFault, build};
-use jr_cache::rebind_members;
+use jr_cache::{ChangedProgram, rebind_members};
 use jr_lex::one_answer;
 use jr_members::{WrittenMember, members_are_written, written_members};
 use jr_program::{MemberBound, Tokens, bind_members};
@@ -30,6 +30,23 @@ use jr_table::Table;
 use jr_text::Span;
 use std::alloc::{AllocError, Global};
 use std::sync::ledger::Ledger;
+
+// Files that are read, without faults: their trees, the places of their first tokens, and their
+// tokens.
+#[derive(Clone, Copy, Drop)]
+struct ReadFiles<'a> {
+    units: &'a [Unit<Span>],
+    words: &'a [u32],
+    tokens: &'a [Tokens],
+}
+
+// Lets a table go. A call of this costs less than to let it go in each place, and an unused
+// parameter less than `drop`.
+fn forget_table(_table: Table) {}
+
+fn forget_bounds(_members: Vec<MemberBound>) {}
+
+fn forget_written(_written: Vec<WrittenMember<'_, Span>>) {}
 
 // What binding knows of written members, by what it knew of those of earlier sources.
 fn bind_by<L: Ledger>(
@@ -52,21 +69,17 @@ fn bind_by<L: Ledger>(
     ensures least { steps.old ≤ steps.new }
     ensures most { steps.new ≤ steps.old + length written.now }
 {
-    let EarlierAnalysis { analysis, stays } = earlier;
-    let Analysis {
-        table: before,
-        members,
-    } = analysis;
-    rebind_members(
-        alloc,
-        &before,
+    let (before, members, stays) = earlier.parts();
+    let program = &ChangedProgram {
         table,
         tokens,
         written,
-        stays.as_slice(),
-        members,
-        steps,
-    )
+        before: &before,
+        stays: stays.as_slice(),
+    };
+    let bound = rebind_members(alloc, program, members, steps);
+    forget_table(before);
+    bound
 }
 
 // The same, if that is given, which is of no use then; else by themselves.
@@ -99,16 +112,14 @@ fn bind_written<L: Ledger>(
 fn bind_all<L: Ledger>(
     alloc: Global,
     sources: &Sources,
-    units: &[Unit<Span>],
-    words: &[u32],
-    tokens: &[Tokens],
+    files: &ReadFiles<'_>,
     table: Table,
     earlier: &mut Option<EarlierAnalysis>,
     steps: &mut Steps<L>,
 ) -> Result<Analysed, AllocError>
     requires valid { AreSources sources.now }
-    requires read { AreRead sources.now (map unit_of units.now) words.now }
-    requires lexed { AreLexed (texts_of sources.now) tokens.now }
+    requires read { AreRead sources.now (map unit_of files.now.units.now) files.now.words.now }
+    requires lexed { AreLexed (texts_of sources.now) files.now.tokens.now }
     requires table { IsTableOf sources.now table }
     requires earlier { IsMaybeEarlier sources.now earlier.old }
     ensures analysed { IfOk result (IsAnalysed sources.now) }
@@ -120,24 +131,39 @@ fn bind_all<L: Ledger>(
     parts_are_placed();
     one_is_bound();
     table.keeps_rows();
-    let written = written_members(alloc, &table, units)?;
-    let members = bind_written(alloc, &table, tokens, written.as_slice(), earlier, steps)?;
-    Ok(Analysed::Program(Analysis { table, members }))
+    let Ok(written) = written_members(alloc, &table, files.units) else {
+        forget_table(table);
+        return Err(AllocError);
+    };
+    let bound = bind_written(
+        alloc,
+        &table,
+        files.tokens,
+        written.as_slice(),
+        earlier,
+        steps,
+    );
+    forget_written(written);
+    match bound {
+        Ok(members) => Ok(Analysed::Program(Analysis { table, members })),
+        Err(error) => {
+            forget_table(table);
+            Err(error)
+        }
+    }
 }
 
 // The same where the table is that of the earlier sources.
 fn bind_same<L: Ledger>(
     alloc: Global,
     sources: &Sources,
-    units: &[Unit<Span>],
-    words: &[u32],
-    tokens: &[Tokens],
+    files: &ReadFiles<'_>,
     earlier: EarlierAnalysis,
     steps: &mut Steps<L>,
 ) -> Result<Analysed, AllocError>
     requires valid { AreSources sources.now }
-    requires read { AreRead sources.now (map unit_of units.now) words.now }
-    requires lexed { AreLexed (texts_of sources.now) tokens.now }
+    requires read { AreRead sources.now (map unit_of files.now.units.now) files.now.words.now }
+    requires lexed { AreLexed (texts_of sources.now) files.now.tokens.now }
     requires table { IsTableOf sources.now earlier.analysis.table }
     requires earlier { IsEarlier sources.now earlier }
     ensures analysed { IfOk result (IsAnalysed sources.now) }
@@ -148,53 +174,57 @@ fn bind_same<L: Ledger>(
     members_are_written::<Span>();
     parts_are_placed();
     one_is_bound();
-    let EarlierAnalysis { analysis, stays } = earlier;
-    let Analysis {
-        table,
-        members: before,
-    } = analysis;
+    let parts = earlier.parts();
+    let (table, before, stays) = parts;
     table.keeps_rows();
-    let written = written_members(alloc, &table, units)?;
-    let members = rebind_members(
-        alloc,
-        &table,
-        &table,
-        tokens,
-        written.as_slice(),
-        stays.as_slice(),
-        before,
-        steps,
-    )?;
-    Ok(Analysed::Program(Analysis { table, members }))
+    let Ok(written) = written_members(alloc, &table, files.units) else {
+        forget_bounds(before);
+        forget_table(table);
+        return Err(AllocError);
+    };
+    let program = &ChangedProgram {
+        table: &table,
+        tokens: files.tokens,
+        written: written.as_slice(),
+        before: &table,
+        stays: stays.as_slice(),
+    };
+    let bound = rebind_members(alloc, program, before, steps);
+    forget_written(written);
+    match bound {
+        Ok(members) => Ok(Analysed::Program(Analysis { table, members })),
+        Err(error) => {
+            forget_table(table);
+            Err(error)
+        }
+    }
 }
 
 // What is known of sources that read as units.
 fn analyse_units<L: Ledger>(
     alloc: Global,
     sources: &Sources,
-    units: &[Unit<Span>],
-    words: &[u32],
-    tokens: &[Tokens],
+    files: &ReadFiles<'_>,
     known: &mut Option<Table>,
     earlier: &mut Option<EarlierAnalysis>,
     steps: &mut Steps<L>,
 ) -> Result<Analysed, AllocError>
     requires valid { AreSources sources.now }
-    requires read { AreRead sources.now (map unit_of units.now) words.now }
-    requires lexed { AreLexed (texts_of sources.now) tokens.now }
+    requires read { AreRead sources.now (map unit_of files.now.units.now) files.now.words.now }
+    requires lexed { AreLexed (texts_of sources.now) files.now.tokens.now }
     requires earlier { IsMaybeEarlier sources.now earlier.old }
     ensures analysed { IfOk result (IsAnalysed sources.now) }
     ensures cost { CostsBinding sources.now steps.old steps.new }
 {
     text_has_one_reading();
-    match build(alloc, units, words, known) {
+    match build(alloc, files.units, files.words, known) {
         Err(BuildFault::At { file, at, kind }) => Ok(Analysed::Fault(SourceFault {
             file,
             at,
             kind: kind.name(),
         })),
         Err(BuildFault::Memory) => Err(AllocError),
-        Ok(table) => bind_all(alloc, sources, units, words, tokens, table, earlier, steps),
+        Ok(table) => bind_all(alloc, sources, files, table, earlier, steps),
     }
 }
 
@@ -243,9 +273,11 @@ pub fn analyse<L: Ledger>(
         None => analyse_units(
             alloc,
             sources,
-            readings.units.as_slice(),
-            readings.words.as_slice(),
-            readings.tokens.as_slice(),
+            &ReadFiles {
+                units: readings.units.as_slice(),
+                words: readings.words.as_slice(),
+                tokens: readings.tokens.as_slice(),
+            },
             known,
             earlier,
             steps,
@@ -272,15 +304,17 @@ pub fn analyse_with<L: Ledger>(
 {
     match file_fault(sources, readings) {
         Some(fault) => {
-            drop(table);
+            forget_table(table);
             Ok(Analysed::Fault(fault))
         }
         None => bind_all(
             alloc,
             sources,
-            readings.units.as_slice(),
-            readings.words.as_slice(),
-            readings.tokens.as_slice(),
+            &ReadFiles {
+                units: readings.units.as_slice(),
+                words: readings.words.as_slice(),
+                tokens: readings.tokens.as_slice(),
+            },
             table,
             earlier,
             steps,
@@ -312,17 +346,26 @@ pub fn analyse_same<L: Ledger>(
         None => bind_same(
             alloc,
             sources,
-            readings.units.as_slice(),
-            readings.words.as_slice(),
-            readings.tokens.as_slice(),
+            &ReadFiles {
+                units: readings.units.as_slice(),
+                words: readings.words.as_slice(),
+                tokens: readings.tokens.as_slice(),
+            },
             earlier,
             steps,
         ),
     }
 }
 
-// Lets go what wasn't taken.
-fn forget(_known: Option<Table>, _earlier: Option<EarlierAnalysis>) {}
+/// Lets go a table that wasn't taken.
+pub fn forget_known(known: Option<Table>) {
+    match known {
+        Some(table) => forget_table(table),
+        None => {}
+    }
+}
+
+fn forget_earlier(_earlier: Option<EarlierAnalysis>) {}
 
 // What is known of sources, of which nothing is known before.
 fn analyse_anew<L: Ledger>(
@@ -339,7 +382,8 @@ fn analyse_anew<L: Ledger>(
     let mut known = None;
     let mut earlier = None;
     let analysed = analyse(alloc, sources, readings, &mut known, &mut earlier, steps);
-    forget(known, earlier);
+    forget_known(known);
+    forget_earlier(earlier);
     analysed
 }
 

@@ -18,13 +18,43 @@ use std::alloc::{AllocError, Global};
 
 /// What a text reads as. A text with a fault has a unit without classes and no tokens, which say
 /// nothing.
-#[derive(Drop)]
 pub struct Reading {
     pub unit: Unit<Span>,
     /// Where the first token begins.
     pub word: u32,
     pub tokens: Tokens,
     pub fault: Option<ReadingFault>,
+}
+
+// Written out, so that it is proved here: what is derived is proved anew in each crate above, with
+// all trees.
+impl Drop for Reading {
+    fn drop(self) {
+        let Reading {
+            unit: _,
+            word: _,
+            tokens: _,
+            fault: _,
+        } = self;
+    }
+}
+
+impl Reading {
+    // The parts. What has a written drop is taken apart by its own calls alone.
+    pub(crate) fn parts(self) -> (Unit<Span>, u32, Tokens, Option<ReadingFault>)
+        ensures unit { result.0 ≡ self.unit }
+        ensures word { result.1 ≡ self.word }
+        ensures tokens { result.2 ≡ self.tokens }
+        ensures fault { result.3 ≡ self.fault }
+    {
+        let Reading {
+            unit,
+            word,
+            tokens,
+            fault,
+        } = self;
+        (unit, word, tokens, fault)
+    }
 }
 
 // The reading of a text that has a fault.

@@ -1,11 +1,11 @@
 -- The table, the texts and the words, on small examples.
-use Rattle.std.proofs.Common.{◌≡◌, ℕ, List, [], ◌∷◌, Some, None, true, refl}
+use Rattle.std.proofs.Common.{◌≡◌, ℕ, List, [], ◌∷◌, Some, None, refl}
 use Rattle.std.specs.Prelude.{codes}
 use Rattle.jr_table.specs.Keys.{ClassKey, class}
 use Rattle.jr_table.specs.Decls.{Decl, class_decl, field_decl}
 use Rattle.jr_table.specs.Prelude.{top_key}
 use Rattle.jr_spell.specs.declared.references.RefForm.TheVariants as ref
-use Rattle.jr_spell.specs.declared.spellings.Form.TheVariants.{Asked, OnThis, OnSuper, OnCastThis, OnCastOperand, OnClass, OnOuterClass, Class, OuterClass}
+use Rattle.jr_spell.specs.declared.spellings.Form.TheVariants.{Asked, OnThis, OnSuper, OnCastThis, OnCastOperand, OnClass, OnOuterClass, Class, OuterClass, ClassInFront, OuterClassInFront}
 use Rattle.jr_spell.specs.References.{Reference}
 use Rattle.jr_spell.specs.Spellings.{forms, text_of}
 use Rattle.jr_spell.specs.Binds.{front_word, last_word}
@@ -26,7 +26,7 @@ on_e = record {
   form = ref.FieldOn;
   asked = codes "e.t";
   operand = Some (record { ty = class (top_key (codes "D")); text = codes "e" });
-  leads = true;
+  front = None;
   args = [];
 }
 
@@ -54,6 +54,12 @@ as_class = refl
 as_outer_class : text_of on_e i OuterClass ≡ codes "O.I"
 as_outer_class = refl
 
+in_front : text_of on_e i ClassInFront ≡ codes "I"
+in_front = refl
+
+as_outer_in_front : text_of on_e i OuterClassInFront ≡ codes "O.I"
+as_outer_in_front = refl
+
 as_asked : text_of on_e t Asked ≡ codes "e.t"
 as_asked = refl
 
@@ -66,6 +72,9 @@ no_method_as_a_field = refl
 
 classes : forms ref.ClassName i ≡ Asked ∷ Class ∷ OuterClass ∷ []
 classes = refl
+
+classes_in_front : forms ref.ClassInFront i ≡ Asked ∷ ClassInFront ∷ OuterClassInFront ∷ []
+classes_in_front = refl
 
 -- words
 front_of_two : front_word (codes "O.I") ≡ Some (codes "O")

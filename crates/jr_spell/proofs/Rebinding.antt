@@ -14,7 +14,7 @@ use Rattle.jr_table.specs.BindingLaws.{IsBound}
 use Rattle.jr_spell.specs.declared.references.RefForm.{RefForm}
 use Rattle.jr_spell.specs.declared.references.RefForm.TheVariants as ref
 use Rattle.jr_spell.specs.declared.spellings.Form.{Form}
-use Rattle.jr_spell.specs.declared.spellings.Form.TheVariants.{Asked, OnThis, OnSuper, OnCastThis, OnCastOperand, OnClass, OnOuterClass, Class, OuterClass}
+use Rattle.jr_spell.specs.declared.spellings.Form.TheVariants.{Asked, OnThis, OnSuper, OnCastThis, OnCastOperand, OnClass, OnOuterClass, Class, OuterClass, ClassInFront, OuterClassInFront}
 use Rattle.jr_spell.specs.References.{Operand, Reference, class_of_type, class_of_operand}
 use Rattle.jr_spell.specs.Binds.{LeadsTo, ThroughValue, ThroughClass, ThroughCast, ThroughSuperclass, BindsAlone, BindsAsked, Binds, front_word, last_word}
 use Rattle.jr_spell.specs.Rebound.{IsVariable, IsCall, IsMemberOn, IsMemberOfSuper, IsThis, IsCast, IsClassWords, IsTypeWords, IsAloneTree, IsAskedTree, IsTree, IsAskedType, IsTypeTree, Fits, IsRebound, AreFronts}
@@ -122,10 +122,10 @@ module _ {A : Type 0} (begins : A → ℕ → ℕ) (rows : List Row) (c : Contex
 
   pub through_rebinds : (r : Reference) (d : Decl) (k : ClassKey) (e : tree.Exp A) (args : tree.Exps A) (x : tree.Exp A) → BindsAsked rows (scope_of c) r d ref.ThroughClass
       → class_of_operand r.operand ≡ Some k → IsClassName rows c e k → HaveTypes rows c args r.args → IsMemberOn d e args x → IsRebound begins rows c d x
-  through_rebinds r d k e args x (b, is, through) of_k named types member =
-      let p : Some k ≡ Some b = sym of_k ∙ is in
-      let same : k ≡ b = cc in
-      on_class args r.args types d b e x through.member (subst (λ (z : ClassKey). IsClassName rows c e z) same named) member
+  through_rebinds r d k e args x (b, is, found, (q, of_q, through)) of_k named types member =
+      let p : Some k ≡ Some q = sym of_k ∙ of_q in
+      let same : k ≡ q = cc in
+      on_class args r.args types d q e x through (subst (λ (z : ClassKey). IsClassName rows c e z) same named) member
 
   module _ (r : Reference) (d : Decl) (e : tree.Exp A) (args : tree.Exps A) (fits : Fits begins rows c r e args) where
     on_operand : (x : tree.Exp A) (o : ClassKey) → class_of_operand r.operand ≡ Some o → ThroughValue rows (scope_of c) r.args o d → IsMemberOn d e args x → IsRebound begins rows c d x
@@ -153,6 +153,7 @@ module _ {A : Type 0} (begins : A → ℕ → ℕ) (rows : List Row) (c : Contex
     asked ref.MethodSimple x finds shape = simple_method args r.args fits.have_types d r.asked x finds shape
     asked ref.MethodOn x (o, is, through) shape = on_operand x o is through shape
     asked ref.ClassName x finds shape = absurd shape
+    asked ref.ClassInFront x finds shape = absurd shape
     asked ref.AsAsked x finds shape = alone d x finds shape
 
     pub rebinds : (f : Form) (x : tree.Exp A) → Binds rows (scope_of c) r d f → IsTree r d e args f x → IsRebound begins rows c d x
@@ -171,6 +172,8 @@ module _ {A : Type 0} (begins : A → ℕ → ℕ) (rows : List Row) (c : Contex
         (words_name rows c (Some front) (class_of d).name (class_of d) y (subst (λ o. LeadsTo rows (scope_of c) (Some o) (class_of d).name (class_of d)) same leads) words) member
     rebinds Class x finds shape = absurd shape
     rebinds OuterClass x finds shape = absurd shape
+    rebinds ClassInFront x finds shape = absurd shape
+    rebinds OuterClassInFront x finds shape = absurd shape
 
 module _ {A : Type 0} (rows : List Row) (c : Context) (r : Reference) (d : Decl) where
   written : (outer : Option (List ℕ)) (name : List ℕ) (k : ClassKey) (u : tree.TypeName A) → NamesClass rows (scope_of c) outer name k → IsTypeWords outer name u → WritesType rows (scope_of c) u (class k)
@@ -180,7 +183,8 @@ module _ {A : Type 0} (rows : List Row) (c : Context) (r : Reference) (d : Decl)
       (k, subst (λ o. NamesClass rows (scope_of c) (Some o) w.text k) (sym front) (subst (λ n. NamesClass rows (scope_of c) (Some outer) n k) (sym last) named), refl)
 
   asked_class : (f : RefForm) (u : tree.TypeName A) → BindsAsked rows (scope_of c) r d f → IsAskedType r d f u → WritesType rows (scope_of c) u (class (class_of d))
-  asked_class ref.ClassName u named words = written (front_word r.asked) (last_word r.asked) (class_of d) u named.1 words
+  asked_class ref.ClassName u named words = written (front_word r.asked) (last_word r.asked) (class_of d) u named words
+  asked_class ref.ClassInFront u named words = absurd words
   asked_class ref.FieldSimple u named words = absurd words
   asked_class ref.FieldOn u named words = absurd words
   asked_class ref.FieldSuper u named words = absurd words
@@ -196,6 +200,8 @@ module _ {A : Type 0} (rows : List Row) (c : Context) (r : Reference) (d : Decl)
       let e : Some outer ≡ Some front = sym has ∙ is in
       let same : outer ≡ front = cc in
       written (Some front) (class_of d).name (class_of d) u (subst (λ o. NamesClass rows (scope_of c) (Some o) (class_of d).name (class_of d)) same named) words
+  class_rebinds ClassInFront u named words = absurd words
+  class_rebinds OuterClassInFront u named words = absurd words
   class_rebinds OnThis u named words = absurd words
   class_rebinds OnSuper u named words = absurd words
   class_rebinds OnCastThis u named words = absurd words

@@ -1,6 +1,6 @@
 -- The pure references and spellings that Rust values stand for.
 use Rattle.std.specs.Prelude.{option_map}
-use Rattle.jr_table.specs.TypeView.{ty_of}
+use Rattle.jr_table.specs.TypeView.{class_key_of, ty_of}
 use Rattle.jr_spell.specs.declared.references.Operand as raw_operand
 use Rattle.jr_spell.specs.declared.references.Reference as raw_reference
 use Rattle.jr_spell.specs.declared.spellings.Spelling as raw_spelling
@@ -15,7 +15,7 @@ reference_of r = record {
   form = r.form;
   asked = r.asked;
   operand = option_map operand_of r.operand;
-  leads = r.leads;
+  front = option_map class_key_of r.front;
   args = r.args;
 }
 

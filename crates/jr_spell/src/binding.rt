@@ -1,19 +1,22 @@
 //! Whether a spelling binds.
-ghost use Rattle.std.specs.Prelude.{◌≡◌, ◌↔◌, IsTrue, IfOk, None, option_map};
+ghost use Rattle.std.specs.Prelude.{◌≡◌, ◌↔◌, IsTrue, IfOk, Some, None, option_map};
 ghost use Rattle.jr_table.specs.TypeView.{class_key_of, ty_of};
 ghost use Rattle.jr_table.specs.KeyView.{decl_of};
+ghost use Rattle.jr_table.specs.Entries.{class_of};
 ghost use Rattle.jr_lookup.specs.ScopeView.{scope_of};
 ghost use Rattle.jr_spell.specs.declared.references.RefForm.TheVariants as ref;
 ghost use Rattle.jr_spell.specs.References.{class_of_type, class_of_operand};
 ghost use Rattle.jr_spell.specs.ReferenceView.{operand_of, reference_of};
-ghost use Rattle.jr_spell.specs.Binds.{ThroughCast, ThroughSuperclass, ThroughWritten};
+ghost use Rattle.jr_spell.specs.Binds.{ThroughCast, ThroughSuperclass, ThroughOperand};
 ghost use Rattle.jr_spell.specs.Binds.{BindsOnThis, BindsOnSuper, BindsOnOperand};
 ghost use Rattle.jr_spell.specs.Binds.{BindsOnCastThis, BindsOnCastOperand, BindsOnAskedClass};
 ghost use Rattle.jr_spell.specs.Binds.{BindsOnClass, BindsOnOuterClass, BindsAsClass};
-ghost use Rattle.jr_spell.specs.Binds.{BindsAsOuterClass, BindsConstructor, BindsAlone};
+ghost use Rattle.jr_spell.specs.Binds.{BindsAsOuterClass, BindsAsOuterInFront};
+ghost use Rattle.jr_spell.specs.Binds.{BehindOperand, BindsAskedInFront};
+ghost use Rattle.jr_spell.specs.Binds.{BindsConstructor, BindsAlone};
 ghost use Rattle.jr_spell.specs.Binds.{BindsAsked, Binds};
 
-use crate::classes::{is_type, is_type_in, is_type_text, leads_dotted, leads_simply};
+use crate::classes::{is_type, is_type_in, is_type_text, leads_dotted, leads_in, leads_simply};
 use crate::declaring::declaring_class;
 use crate::members::{is_ctor, is_method_named, is_on_class, is_on_value};
 use crate::references::{RefForm, Reference};
@@ -176,25 +179,21 @@ fn on_cast_operand(
     }
 }
 
-/// Whether the words in front of the dot lead to the class, whose member is the declaration and no
+/// Whether the member of the class that stands in front of the dot is the declaration, and no
 /// instance one.
-fn on_written_class(
+fn on_operand_class(
     alloc: Global,
     table: &Table,
     scope: &Scope,
     reference: &Reference,
-    leads: bool,
-    class: &ClassKey,
     target: &Decl,
 ) -> Result<bool, AllocError>
-    ensures { IfOk result (λ b. IsTrue b ↔ ThroughWritten table.now (scope_of scope.now)
-        (reference_of reference.now).args leads (class_key_of class.now)
-        (decl_of target.now)) }
+    ensures { IfOk result (λ b. IsTrue b ↔ ThroughOperand table.now (scope_of scope.now)
+        (reference_of reference.now) (decl_of target.now)) }
 {
-    if leads {
-        is_on_class(alloc, table, scope, &reference.args, class, target)
-    } else {
-        Ok(false)
+    match class_of_operand(reference) {
+        None => Ok(false),
+        Some(class) => is_on_class(alloc, table, scope, &reference.args, class, target),
     }
 }
 
@@ -209,22 +208,16 @@ fn on_asked_class(
     ensures { IfOk result (λ b. IsTrue b ↔ BindsOnAskedClass table.now (scope_of scope.now)
         (reference_of reference.now) (decl_of target.now)) }
 {
-    match &reference.operand {
+    match &reference.front {
         None => Ok(false),
-        Some(operand) => match class_of_type(&operand.ty) {
-            None => Ok(false),
-            Some(class) => {
-                on_written_class(
-                    alloc,
-                    table,
-                    scope,
-                    reference,
-                    reference.leads,
-                    class,
-                    target,
-                )
+        Some(front) => {
+            let has = is_on_class(alloc, table, scope, &reference.args, front, target)?;
+            if has {
+                on_operand_class(alloc, table, scope, reference, target)
+            } else {
+                Ok(false)
             }
-        },
+        }
     }
 }
 
@@ -348,16 +341,57 @@ fn as_written(
     ensures { IfOk result (λ b. IsTrue b ↔ BindsAsked table.now (scope_of scope.now)
         (reference_of reference.now) (decl_of target.now) ref.ClassName) }
 {
-    if reference.leads {
-        is_type_text(
-            alloc,
-            table,
-            scope,
-            &reference.asked,
-            declaring_class(target),
-        )
-    } else {
-        Ok(false)
+    is_type_text(
+        alloc,
+        table,
+        scope,
+        &reference.asked,
+        declaring_class(target),
+    )
+}
+
+/// Whether the asked words of a class in front of a dot find it.
+fn finds_front(reference: &Reference, target: &Decl) -> bool
+    ensures { IsTrue result
+        ↔ ((reference_of reference.now).front ≡ Some (class_of (decl_of target.now))) }
+{
+    let class = declaring_class(target);
+    match &reference.front {
+        None => false,
+        Some(front) => *front == *class,
+    }
+}
+
+/// Whether the class is found behind the class that stands in front of its dot, if one does.
+fn behind_operand(table: &Table, scope: &Scope, reference: &Reference, target: &Decl) -> bool
+    ensures { IsTrue result ↔ BehindOperand table.now (scope_of scope.now)
+        (reference_of reference.now) (decl_of target.now)
+        (class_of_operand (reference_of reference.now).operand) }
+{
+    let class = declaring_class(target);
+    match class_of_operand(reference) {
+        None => true,
+        Some(front) => leads_in(table, scope, front, &class.name, class),
+    }
+}
+
+/// Whether a class in front of a dot binds as it is asked.
+fn as_front(table: &Table, scope: &Scope, reference: &Reference, target: &Decl) -> bool
+    ensures { IsTrue result ↔ BindsAskedInFront table.now (scope_of scope.now)
+        (reference_of reference.now) (decl_of target.now) }
+{
+    finds_front(reference, target) & behind_operand(table, scope, reference, target)
+}
+
+/// Whether `Outer.K` binds in front of a dot.
+fn as_outer_front(table: &Table, scope: &Scope, reference: &Reference, target: &Decl) -> bool
+    ensures { IsTrue result ↔ BindsAsOuterInFront table.now (scope_of scope.now)
+        (reference_of reference.now) (decl_of target.now) }
+{
+    let class = declaring_class(target);
+    match &class.outer {
+        None => false,
+        Some(outer) => leads_dotted(table, scope, outer, &class.name, class),
     }
 }
 
@@ -383,6 +417,7 @@ fn as_asked(
         }
         RefForm::MethodOn => on_operand(alloc, table, scope, reference, target),
         RefForm::ClassName => as_written(alloc, table, scope, reference, target),
+        RefForm::ClassInFront => Ok(as_front(table, scope, reference, target)),
         RefForm::AsAsked => alone(alloc, table, scope, reference, target),
     }
 }
@@ -410,5 +445,7 @@ pub(crate) fn binds(
         Form::OnOuterClass => on_outer_class(alloc, table, scope, reference, target),
         Form::Class => Ok(is_type(table, scope, &class.name, class)),
         Form::OuterClass => Ok(as_outer_class(table, scope, reference, target)),
+        Form::ClassInFront => Ok(leads_simply(table, scope, &class.name, class)),
+        Form::OuterClassInFront => Ok(as_outer_front(table, scope, reference, target)),
     }
 }

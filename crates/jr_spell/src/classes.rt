@@ -52,7 +52,7 @@ fn is_class(found: Option<&ClassKey>, class: &ClassKey) -> bool
 }
 
 /// Whether a simple name finds the class as a type.
-pub fn is_type(table: &Table, scope: &Scope, name: &Name, class: &ClassKey) -> bool
+pub(crate) fn is_type(table: &Table, scope: &Scope, name: &Name, class: &ClassKey) -> bool
     ensures { IsTrue result ↔ NamesClass table.now (scope_of scope.now) None name.now
         (class_key_of class.now) }
 {
@@ -81,7 +81,7 @@ pub(crate) fn is_type_in(
 }
 
 /// Whether a simple name in front of a dot is the class's.
-pub fn leads_simply(table: &Table, scope: &Scope, name: &Name, class: &ClassKey) -> bool
+pub(crate) fn leads_simply(table: &Table, scope: &Scope, name: &Name, class: &ClassKey) -> bool
     ensures { IsTrue result ↔ LeadsTo table.now (scope_of scope.now) None name.now
         (class_key_of class.now) }
 {
@@ -89,7 +89,7 @@ pub fn leads_simply(table: &Table, scope: &Scope, name: &Name, class: &ClassKey)
 }
 
 /// Whether the class is the member type of the name of a class, which has no field of the name.
-pub fn leads_in(
+pub(crate) fn leads_in(
     table: &Table,
     scope: &Scope,
     around: &ClassKey,

@@ -25,7 +25,6 @@ mod taking;
 mod texts;
 mod variables;
 
-pub use classes::{is_type, leads_in, leads_simply};
 pub use laws::spellings_rebind;
 pub use references::{Operand, RefForm, Reference};
 pub use respelling::respell;

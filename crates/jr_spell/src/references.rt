@@ -1,6 +1,6 @@
 //! References that a refactoring keeps.
 use jr_ast::Name;
-use jr_table::{Ty, Tys};
+use jr_table::{ClassKey, Ty, Tys};
 
 /// What a reference is, before it is spelled anew: a row of the table of spellings.
 #[derive(Clone, Copy, PartialEq, Eq, Debug, Drop)]
@@ -19,6 +19,8 @@ pub enum RefForm {
     MethodOn,
     /// A class as the name of a type.
     ClassName,
+    /// A class in front of a dot, in an expression.
+    ClassInFront,
     /// A local, a method by `super`, or a constructor.
     AsAsked,
 }
@@ -40,9 +42,9 @@ pub struct Reference {
     /// `B.x`, `m`, `K`, `Outer.K`.
     pub asked: Name,
     pub operand: Option<Operand>,
-    /// Whether each word of a class in front of its last dot leads to what it meant, where the
-    /// reference is spelled; so where there are none.
-    pub leads: bool,
+    /// The class that the asked words in front of the last dot find where the reference is
+    /// spelled, if they find one; of a class in front of a dot, all of its words.
+    pub front: Option<ClassKey>,
     /// The static types of a call's arguments.
     pub args: Tys,
 }

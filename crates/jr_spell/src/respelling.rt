@@ -107,6 +107,10 @@ pub(crate) fn forms(form: RefForm, target: &Decl) -> &'static [Form]
         ),
         RefForm::MethodOn => to_method(&[Form::Asked, Form::OnCastOperand], target),
         RefForm::ClassName => to_class(&[Form::Asked, Form::Class, Form::OuterClass], target),
+        RefForm::ClassInFront => to_class(
+            &[Form::Asked, Form::ClassInFront, Form::OuterClassInFront],
+            target,
+        ),
         RefForm::AsAsked => to_other(&[Form::Asked], target),
     }
 }
@@ -141,8 +145,8 @@ fn spelling(
 ///
 /// A spelling binds where its lookup gives the declaration, it breaks none of the rules on static
 /// contexts, on static members through values and on instance members through classes, and each
-/// class word in it finds that class itself and no variable, field or other class. A cast is tried
-/// only where its class is the operand's or a superclass of it.
+/// `K` and `Outer.K` of the table finds that class itself and no variable, field or other class. A
+/// cast is tried only where its class is the operand's or a superclass of it.
 pub fn respell(
     alloc: Global,
     table: &Table,

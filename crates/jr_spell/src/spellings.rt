@@ -23,6 +23,10 @@ pub enum Form {
     Class,
     /// `Outer.K`
     OuterClass,
+    /// `K` in front of a dot
+    ClassInFront,
+    /// `Outer.K` in front of a dot
+    OuterClassInFront,
 }
 
 /// A spelling, without a call's arguments, and whether it is the asked one.

@@ -81,5 +81,7 @@ pub(crate) fn text(
         Form::OnOuterClass => outer_member(alloc, class, name),
         Form::Class => Name::new(alloc, class.name.as_str()),
         Form::OuterClass => class_name(alloc, class),
+        Form::ClassInFront => Name::new(alloc, class.name.as_str()),
+        Form::OuterClassInFront => class_name(alloc, class),
     }
 }

@@ -13,16 +13,18 @@ use Rattle.jr_lex.specs.Characters.{is_blank, is_digit, is_word_start, all_pass,
 use Rattle.jr_lex.specs.Words.{IsWord as IsWordText}
 use Rattle.jr_lex.specs.Symbols.{symbol_text}
 use Rattle.jr_lex.specs.Lexemes.{IsLexeme}
-use Rattle.jr_lex.specs.Beside.{Piece, join_pieces, goes_on}
+use Rattle.jr_lex.specs.Beside.{Piece, join_pieces, goes_on, EndsBefore}
+use Rattle.jr_lex.specs.Near.{IsCut, NoNewDot}
+use Rattle.jr_lex.specs.Seams.{Meets}
 use Rattle.jr_lex.proofs.FirstLaws.{other-start}
 use Rattle.jr_lex.proofs.WordLaws.{keyword-IsWord}
 use Rattle.jr_lex.proofs.ScanMeaning.{no_empty}
-use Rattle.jr_lex.proofs.EndLaws.{EndsBefore}
+use Rattle.jr_lex.proofs.OneLexeme.{lexeme_cut, cut_near, comment_cut, blank_ends, token_no_blank, comment_begins, comment_no_blank}
+use Rattle.jr_lex.proofs.Yields.{near_run, same_line}
 use Rattle.jr_grammar.specs.Tokens.{Token}
-use Rattle.jr_splice.specs.Cutting.{IsCut, chars_in, AreCutBefore, with_token, own_token, tokens_in}
-use Rattle.jr_splice.specs.Near.{Near, NoNewDot, EndsLine}
-use Rattle.jr_splice.specs.Parts.{Meets, LastIs}
-use Rattle.jr_splice.proofs.Cut.{AreCut, lexeme_cut, cut_near, comment_cut, blank_ends, token_no_blank, comment_begins, comment_no_blank}
+use Rattle.jr_splice.specs.Cutting.{chars_in, AreCutBefore, with_token, own_token, tokens_in}
+use Rattle.jr_splice.specs.Parts.{LastIs}
+use Rattle.jr_splice.proofs.Cut.{AreCut}
 
 -- ---- lexemes in front of anything
 
@@ -150,11 +152,6 @@ last_piece p old text ts u c g meets = by_kind p.kind refl
 some_chars : (k : ItemKind) (front rest : List ℕ) → IsCut k front rest → front ≡ [] → ⊥
 some_chars k front rest c e = no_empty k (subst (IsLexeme k) e c.taken.lexeme)
 
-near_run : (front old other : List ℕ) → (front ≡ [] → ⊥) → (front ≡ 46 ∷ [] → NoNewDot old other) → Near (front ++ old) (front ++ other)
-near_run [] old other h dot = absurd (h refl)
-near_run (c ∷ []) old other h dot = (refl, λ e. dot (ap (λ n. n ∷ []) e))
-near_run (c ∷ d ∷ cs) old other h dot = (refl, λ _ e. e)
-
 -- a lexeme of one dot is that symbol, and no dot meets it
 dot_kind : (k : ItemKind) (old other : List ℕ) → IsLexeme k (46 ∷ []) → Meets k old other → NoNewDot old other
 dot_kind Blank old other h meets = absurd (false≢true h.1)
@@ -189,10 +186,6 @@ last_dot q (x ∷ xs) old other h meets e =
     two (n ∷ []) [] c some some' e = some' refl
     two (n ∷ []) (m ∷ b) c some some' e = cc
     two (n ∷ m ∷ a) b c some some' e = cc
-
-same_line : (k : ItemKind) (front rest other : List ℕ) → (front ≡ [] → ⊥) → EndsLine k (front ++ rest) (front ++ other)
-same_line k [] rest other some = absurd (some refl)
-same_line k (c ∷ cs) rest other some = λ comment ends. ends
 
 -- Lexemes that were cut in front of one text are cut in front of another, if the last may meet it.
 pub glue : (ps : List Piece) (old text : List ℕ) (ts : List Token) → AreCutBefore ps old → Glued text ts → LastIs (λ k. Meets k old (chars text)) ps

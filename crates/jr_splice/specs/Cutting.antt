@@ -3,17 +3,10 @@
 use Rattle.std.specs.Prelude.{ℕ, List, [], ◌∷◌, ◌++◌, length, Option, Some, None}
 use Rattle.std.specs.Str.{IsUtf8, chars}
 use Rattle.jr_lex.specs.declared.items.ItemKind.{ItemKind}
-use Rattle.jr_lex.specs.declared.faults.LexFault.{LexFault}
-use Rattle.jr_lex.specs.Lexemes.{IsLexemeAt}
-use Rattle.jr_lex.specs.Faults.{IsFaultAt}
 use Rattle.jr_lex.specs.Lexes.{span_of}
 use Rattle.jr_lex.specs.Beside.{Piece}
+use Rattle.jr_lex.specs.Near.{IsCut}
 use Rattle.jr_grammar.specs.Tokens.{Token, token_of}
-
--- front is the longest lexeme there, and nothing is wrong, wherever the text begins
-pub record IsCut (kind : ItemKind) (front rest : List ℕ) : Type 0 where
-  pub taken : IsLexemeAt (front ++ rest) kind front rest
-  pub sound : (at : ℕ) (fault : LexFault) → IsFaultAt at (front ++ rest) fault → ⊥
 
 -- the characters of lexemes
 abbrev pub chars_in : List Piece → List ℕ

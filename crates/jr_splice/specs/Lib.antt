@@ -1,4 +1,2 @@
 pub mod Cutting
-pub mod Near
 pub mod Parts
-pub mod Seams

@@ -3,13 +3,11 @@ use Rattle.std.specs.Prelude.{◌≡◌, ℕ, List, [], ◌∷◌, ◌++◌}
 use Rattle.std.specs.Str.{chars}
 use Rattle.jr_lex.specs.declared.items.Item.{Item}
 use Rattle.jr_lex.specs.declared.items.ItemKind.{ItemKind}
-use Rattle.jr_lex.specs.declared.items.ItemKind.TheVariants.{Token as TokenItem, Blank, Comment}
 use Rattle.jr_lex.specs.Lexes.{Lexes}
 use Rattle.jr_lex.specs.Beside.{Piece, join_pieces}
-use Rattle.jr_lex.proofs.EndLaws.{EndsBefore}
+use Rattle.jr_lex.specs.Seams.{Meets}
 use Rattle.jr_grammar.specs.Tokens.{Token, tokens_of}
 use Rattle.jr_splice.specs.Cutting.{AreCutBefore, tokens_in}
-use Rattle.jr_splice.specs.Near.{EndsLine}
 
 -- lexemes that are cut in front of `old`: a run of the old text, or a made text with no `old`
 pub record Part : Type 0 where
@@ -31,13 +29,6 @@ tokens_before [] ts = ts
 tokens_before (p ∷ ps) ts = tokens_in p.pieces ++ tokens_before ps ts
 
 -- ---- seams
-
--- What may come directly behind a lexeme of the kind, behind which `old` stood: what ends a token;
--- anything behind a blank, as blanks become one; and behind a comment what leaves its line's end.
-abbrev pub Meets : ItemKind → (old other : List ℕ) → Type 0
-Meets (TokenItem k) old other = EndsBefore (TokenItem k) other
-Meets Blank old other = Unit {0}
-Meets Comment old other = EndsLine Comment old other
 
 -- the last of the lexemes, if there is one
 abbrev pub LastIs : (ItemKind → Type 0) → List Piece → Type 0

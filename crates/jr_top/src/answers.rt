@@ -5,6 +5,7 @@ ghost use Rattle.jr_names.specs.ReplyView.{reply_of};
 ghost use Rattle.jr_script.specs.RefusalTexts.{ArePlacesIn, places_of};
 ghost use Rattle.jr_script.specs.Reports.{reply_places};
 ghost use Rattle.jr_sources.specs.Sources.{IsFile, names_of};
+ghost use Rattle.jr_sources.specs.SourceView.{sources_of};
 ghost use Rattle.jr_session.specs.Promises.{Promises};
 ghost use Rattle.jr_session.specs.Stepping.{Steps};
 ghost use Rattle.jr_top.specs.Lines.{refusal_line as line_of};
@@ -38,20 +39,38 @@ pub(crate) fn answer_of(
 {
     let mut session = begin_with(alloc, file, source)?;
     let reply = rename_in(alloc, &mut session, file, at, name)?;
-    answer_to(alloc, file, &session, &reply)
+    let answer = answer_to(alloc, file, &session, &reply);
+    forget_reply(reply);
+    answer
+}
+
+// Lets a reply go. Where it is let go within another function, that function's proof goes through
+// its variants.
+fn forget_reply(_reply: Reply) {}
+
+// The one file, under its name.
+fn one_file(alloc: Global, file: &str, source: Text) -> Result<Vec<(String, Text)>, AllocError>
+    ensures { IfOk result (λ files. sources_of files.items
+        ≡ record { name = file.now; text = source } ∷ []) }
+{
+    let name = String::from_str(alloc, file)?;
+    let mut files = Vec::with_capacity(alloc, 1)?;
+    files.push_reserved((name, source));
+    Ok(files)
 }
 
 // The session of the one file.
 fn begin_with(alloc: Global, file: &str, source: Text) -> Result<Session, AllocError>
     ensures { IfOk result (λ session. session ≡ opened file.now source) }
 {
-    let mut files = Vec::with_capacity(alloc, 1)?;
-    let name = String::from_str(alloc, file)?;
-    files.push((name, source))?;
+    let files = one_file(alloc, file, source)?;
     match Session::begin(alloc, files) {
         Ok(session) => Ok(session),
         // It is one file, of no more bytes than a text has: what is left is want of memory.
-        Err(_) => Err(AllocError),
+        Err(fault) => {
+            drop(fault);
+            Err(AllocError)
+        }
     }
 }
 
@@ -69,8 +88,12 @@ fn rename_in(
         Promises session.old (Step.Rename file.now at name.now) (reply_of reply) session.new) }
 {
     let step = rename_step(alloc, file, at, name)?;
-    take_step(alloc, session, &step)
+    let reply = take_step(alloc, session, &step);
+    forget_step(step);
+    reply
 }
+
+fn forget_step(_step: Step) {}
 
 fn rename_step(alloc: Global, file: &str, at: u32, name: &str) -> Result<Step, AllocError>
     ensures { IfOk result (λ step. step ≡ Step.Rename file.now at name.now) }
@@ -103,9 +126,9 @@ fn line_answer(alloc: Global, file: &str, refusal: &Refusal) -> Result<Answer, A
     ensures { IfOk result (λ answer. (answer.refused ≡ true)
         × (string_bytes answer.output ≡ line_of (file.now ∷ []) (refusal_of refusal.now))) }
 {
-    let mut files = Vec::with_capacity(alloc, 1)?;
     let name = Name::new(alloc, file)?;
-    files.push(name)?;
+    let mut files = Vec::with_capacity(alloc, 1)?;
+    files.push_reserved(name);
     let output = refusal_line(alloc, files.as_slice(), refusal)?;
     Ok(Answer {
         refused: true,

@@ -25,10 +25,19 @@ use jr_words::Operand;
 use std::alloc::{AllocError, Global};
 
 /// What a run writes: the files that changed, and then the report.
-#[derive(Drop)]
 pub(crate) struct Output<'a> {
     pub stores: Vec<Store<'a>>,
     pub report: String,
+}
+
+// Written out: what is derived is proved in pieces in each function that lets an output go.
+impl Drop for Output<'_> {
+    fn drop(self) {
+        let Output {
+            stores: _,
+            report: _,
+        } = self;
+    }
 }
 
 /// What a run writes whose files held the bytes `read`, and are those of the session now.

@@ -1,5 +1,5 @@
 //! Steps done by a session.
-ghost use Rattle.std.specs.Prelude.{◌≡◌, ◌<◌, ◌↔◌, All, map, IfOk, IsTrue};
+ghost use Rattle.std.specs.Prelude.{◌≡◌, ◌<◌, ◌↔◌, ◌++◌, ◌∷◌, [], All, map, IfOk, IsTrue, OnOk};
 ghost use Rattle.jr_names.specs.ReplyView.{reply_of};
 ghost use Rattle.jr_session.specs.Promises.{Promises};
 ghost use Rattle.jr_session.specs.Serving.{IsServed};
@@ -46,9 +46,18 @@ fn take_counted<L: Ledger>(
     let mut counter = Steps::<L>::new(blank);
     for step in steps {
         let reply = session.step(alloc, step, &mut counter)?;
-        replies.push(reply)?;
+        push_reply(&mut replies, reply)?;
     }
     Ok(replies)
+}
+
+// Puts a reply behind the others. Where that fails within another function, that function's proof
+// goes through the variants of the reply that comes back.
+fn push_reply(replies: &mut Vec<Reply>, reply: Reply) -> Result<(), AllocError>
+    ensures { OnOk result (replies.new.items ≡ replies.old.items ++ reply ∷ []) }
+{
+    replies.push(reply)?;
+    Ok(())
 }
 
 /// What the session answers to the step.

@@ -24,6 +24,25 @@ use jr_shelf::{FetchFault, Shelf, Sink};
 use jr_words::Operand;
 use std::alloc::Global;
 
+// What a run begins with: the steps of the script, a session with the files, and the bytes that
+// each file held.
+struct Begun {
+    steps: Vec<Step>,
+    session: Session,
+    read: Vec<Vec<u8>>,
+}
+
+// Written out: what is derived is proved in pieces in each function that lets it go.
+impl Drop for Begun {
+    fn drop(self) {
+        let Begun {
+            steps: _,
+            session: _,
+            read: _,
+        } = self;
+    }
+}
+
 /// Fetches the script and the files, does the steps, stores the files that changed, in the folder
 /// `out` where there is one, and gives the sink the report.
 pub(crate) fn run_script<S: Shelf, K: Sink>(
@@ -88,15 +107,16 @@ fn do_script<S: Shelf, K: Sink>(
     ensures sink_faults { K.faults sink.old ≤ K.faults sink.new }
     ensures sink_faults_stay { OnAnswer result (K.faults sink.new ≡ K.faults sink.old) }
 {
-    let (steps, mut session, read) = match begin(alloc, script, files, shelf) {
+    let mut begun = match begin(alloc, script, files, shelf) {
         Ok(begun) => begun,
         Err(status) => return status,
     };
-    let Ok(replies) = take_steps(alloc, &mut session, steps.as_slice()) else {
+    let Ok(replies) = take_steps(alloc, &mut begun.session, begun.steps.as_slice()) else {
         return Status::NoMemory;
     };
     let replies = replies.as_slice();
-    let Ok(output) = output_of(alloc, out, files, read.as_slice(), &session, replies) else {
+    let read = begun.read.as_slice();
+    let Ok(output) = output_of(alloc, out, files, read, &begun.session, replies) else {
         return Status::NoMemory;
     };
     match write(&output, shelf, sink) {
@@ -114,11 +134,12 @@ fn begin<S: Shelf>(
     script: &Operand,
     files: &[Operand],
     shelf: &mut S,
-) -> Result<(Vec<Step>, Session, Vec<Vec<u8>>), Status>
+) -> Result<Begun, Status>
     requires count { length files.now < 2 ^ 32 }
     requires differ { Differ (map operand_of files.now) }
     ensures ok { IfOk result (λ b. IsBegun (S.holds shelf.old) (operand_of script.now)
-        (map operand_of files.now) b.0.items b.1 (map (λ bytes. bytes.items) b.2.items)) }
+        (map operand_of files.now) b.steps.items b.session
+        (map (λ bytes. bytes.items) b.read.items)) }
     ensures served { OnOk result (Served (1 + length files.now)
         (S.holds shelf.old) (S.holds shelf.new) (S.missed shelf.old) (S.missed shelf.new)
         (S.faults shelf.old) (S.faults shelf.new) (S.served shelf.old) (S.served shelf.new)) }
@@ -133,10 +154,20 @@ fn begin<S: Shelf>(
         Ok(fetched) => {
             let Fetched { sources, bytes } = fetched;
             match Session::begin(alloc, sources) {
-                Ok(session) => Ok((steps, session, bytes)),
+                Ok(session) => {
+                    let begun = Begun {
+                        steps,
+                        session,
+                        read: bytes,
+                    };
+                    Ok(begun)
+                }
                 // The number, the names and the lengths of the files were looked at: what is left
                 // is want of memory.
-                Err(_) => Err(Status::NoMemory),
+                Err(fault) => {
+                    drop(fault);
+                    Err(Status::NoMemory)
+                }
             }
         }
     }

@@ -5,5 +5,5 @@ use Rattle.jr_cache.proofs.OneByOne.{AreReboundTo}
 use Rattle.jr_cache.proofs.rebinding.rebind_each.Given as goal
 
 abbrev pub invariant-loop-number : goal.invariant-loop-number
-invariant-loop-number g l = AreReboundTo l.table l.tokens (names_in l.names) l.stays (map written_of l.written) l.number l.initial.bounds.items l.bounds.items
+invariant-loop-number g l = AreReboundTo l.program.table.now l.program.tokens.now (names_in l.names) l.program.stays.now (map written_of l.program.written.now) l.number l.initial.bounds.items l.bounds.items
     × ((l.initial.steps ≤ l.steps) × (l.steps ≤ l.initial.steps + l.number))

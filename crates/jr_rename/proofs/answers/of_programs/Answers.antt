@@ -1,7 +1,7 @@
 use Rattle.std.proofs.Common.{sym, ap, subst}
 use Rattle.std.specs.Prelude.{option_map}
-use Rattle.jr_respell.specs.Scopes.{renaming_in}
-use Rattle.jr_respell.specs.ChoiceView.{lost_of}
+use Rattle.jr_new_words.specs.Scopes.{renaming_in}
+use Rattle.jr_new_words.specs.ChoiceView.{lost_of}
 use Rattle.jr_rename.specs.Answers.{AnswersKeeping}
 use Rattle.jr_rename.proofs.Answering.{loses}
 use Rattle.jr_rename.proofs.answers.of_programs.Goals as goal

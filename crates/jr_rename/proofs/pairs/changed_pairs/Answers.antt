@@ -1,5 +1,5 @@
 use Rattle.std.proofs.Common.{◌∙◌}
-use Rattle.jr_respell.specs.Scopes.{rows_in, renaming_in}
+use Rattle.jr_new_words.specs.Scopes.{rows_in, renaming_in}
 use Rattle.jr_rename.specs.Pairs.{pairs_view}
 use Rattle.jr_rename.proofs.Changing.{next}
 use Rattle.jr_rename.proofs.pairs.changed_pairs.Goals as goal

@@ -1,4 +1,4 @@
-use Rattle.std.proofs.Common.{◌≡◌, ◌∷◌, ◌++◌, [], Bool, length, refl, ap, ◌∙◌, arith, if◌then◌else◌}
+use Rattle.std.proofs.Common.{◌≡◌, ◌∷◌, ◌++◌, [], length, refl, ap, ◌∙◌, arith}
 use Rattle.std.specs.Prelude.{Option, option_to_list}
 use Rattle.jr_session.specs.declared.changes.Earlier.{Earlier}
 use Rattle.jr_session.proofs.Turning.{last_count, turned_by}
@@ -26,5 +26,5 @@ pub returns-clause-turn : goal.returns-clause-turn
 returns-clause-turn c =
     let was : Earlier = record { changes = c.exchange_all.new.had } in
     let last : c.args.from.now.items ≡ c.pop.new.self.items ++ c.unwrap-step.result ∷ [] = c.pop.ensures.items ∙ ap (λ (o : Option Earlier). c.pop.new.self.items ++ option_to_list o) c.unwrap-step.ensures in
-    let kept : c.push.new.self.items ≡ c.args.onto.now.items ++ was ∷ [] = c.push.ensures.items ∙ ap (λ (b : Bool). if b then c.args.onto.now.items ++ was ∷ [] else c.args.onto.now.items) (c.push.ensures.succeeds c.requires.room) in
-    turned_by c.args.sources.now c.exchange_all.new.sources c.args.from.now.items c.pop.new.self.items c.args.onto.now.items c.push.new.self.items c.unwrap-step.result was c.args.had.items c.exchange_all.new.had.items c.requires.empty c.exchange_all.ensures.changed refl last kept
+    let kept : c.push_reserved.new.self.items ≡ c.args.onto.now.items ++ was ∷ [] = c.push_reserved.ensures.items in
+    turned_by c.args.sources.now c.exchange_all.new.sources c.args.from.now.items c.pop.new.self.items c.args.onto.now.items c.push_reserved.new.self.items c.unwrap-step.result was c.args.had.items c.exchange_all.new.had.items c.requires.empty c.exchange_all.ensures.changed refl last kept

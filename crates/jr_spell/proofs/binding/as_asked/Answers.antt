@@ -46,6 +46,14 @@ returns-in-MethodOn c =
     let d = decl_of c.args.target.now in
     subst (λ f. IfOk c.on_operand-in-MethodOn.result (λ b. IsTrue b ↔ BindsAsked rows s r d f)) (sym c.in-MethodOn.is) c.on_operand-in-MethodOn.ensures
 
+pub returns-in-ClassInFront : goal.returns-in-ClassInFront
+returns-in-ClassInFront c =
+    let rows = c.args.table.now in
+    let s = scope_of c.args.scope.now in
+    let r = reference_of c.args.reference.now in
+    let d = decl_of c.args.target.now in
+    subst (λ f. IsTrue c.as_front.result ↔ BindsAsked rows s r d f) (sym c.in-ClassInFront.is) c.as_front.ensures
+
 pub returns-in-AsAsked : goal.returns-in-AsAsked
 returns-in-AsAsked c =
     let rows = c.args.table.now in

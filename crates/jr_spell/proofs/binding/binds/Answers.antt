@@ -4,7 +4,7 @@ use Rattle.jr_lookup.specs.ScopeView.{scope_of}
 use Rattle.std.specs.Result.{IfOk}
 use Rattle.jr_spell.specs.ReferenceView.{reference_of}
 use Rattle.jr_table.specs.Context.{NamesClass}
-use Rattle.jr_spell.specs.Binds.{Binds}
+use Rattle.jr_spell.specs.Binds.{LeadsTo, Binds}
 use Rattle.jr_spell.proofs.binding.binds.Goals as goal
 
 pub returns-in-Asked : goal.returns-in-Asked
@@ -71,3 +71,12 @@ returns-in-Class c =
     let d = decl_of c.args.target.now in
     let named = subst (λ k. IsTrue c.is_type.result ↔ NamesClass rows s None k.name k) c.declaring_class-class.ensures c.is_type.ensures in
     subst (λ f. IsTrue c.is_type.result ↔ Binds rows s r d f) (sym c.in-Class.is) named
+
+pub returns-in-ClassInFront : goal.returns-in-ClassInFront
+returns-in-ClassInFront c =
+    let rows = c.args.table.now in
+    let s = scope_of c.args.scope.now in
+    let r = reference_of c.args.reference.now in
+    let d = decl_of c.args.target.now in
+    let leads = subst (λ k. IsTrue c.leads_simply.result ↔ LeadsTo rows s None k.name k) c.declaring_class-class.ensures c.leads_simply.ensures in
+    subst (λ f. IsTrue c.leads_simply.result ↔ Binds rows s r d f) (sym c.in-ClassInFront.is) leads

@@ -9,13 +9,13 @@ use Rattle.jr_top.specs.Renames.{opened}
 use Rattle.jr_top.proofs.OneFile.{answered, its_places, one_name}
 use Rattle.jr_top.proofs.answers.answer_of.Goals as goal
 
-pub answer_to-requires-clause-names : goal.answer_to-requires-clause-names
-answer_to-requires-clause-names c =
+pub answer_to-answer-requires-clause-names : goal.answer_to-answer-requires-clause-names
+answer_to-answer-requires-clause-names c =
     let steps = subst (λ (s : State). Steps s (Rename c.args.file.now c.args.at c.args.name.now) (reply_of c.in_ok-reply.reply) c.rename_in.new.session) c.in_ok-session.ensures c.in_ok-reply.ensures.step in
     one_name c.args.file.now c.args.source c.args.at c.args.name.now (reply_of c.in_ok-reply.reply) c.rename_in.new.session steps
 
-pub answer_to-requires-clause-places : goal.answer_to-requires-clause-places
-answer_to-requires-clause-places c =
+pub answer_to-answer-requires-clause-places : goal.answer_to-answer-requires-clause-places
+answer_to-answer-requires-clause-places c =
     let steps = subst (λ (s : State). Steps s (Rename c.args.file.now c.args.at c.args.name.now) (reply_of c.in_ok-reply.reply) c.rename_in.new.session) c.in_ok-session.ensures c.in_ok-reply.ensures.step in
     its_places c.args.file.now c.args.source c.args.at c.args.name.now (reply_of c.in_ok-reply.reply) c.rename_in.new.session steps
 
@@ -23,4 +23,4 @@ pub returns : goal.returns
 returns c =
     let steps = subst (λ (s : State). Steps s (Rename c.args.file.now c.args.at c.args.name.now) (reply_of c.in_ok-reply.reply) c.rename_in.new.session) c.in_ok-session.ensures c.in_ok-reply.ensures.step in
     let promise = subst (λ (s : State). Promises s (Rename c.args.file.now c.args.at c.args.name.now) (reply_of c.in_ok-reply.reply) c.rename_in.new.session) c.in_ok-session.ensures c.in_ok-reply.ensures.promises in
-    IfOk-weaker c.answer_to.result _ _ (λ answer put. answered c.args.file.now c.args.source c.args.at c.args.name.now (reply_of c.in_ok-reply.reply) c.rename_in.new.session steps promise answer.refused (string_bytes answer.output) put) c.answer_to.ensures
+    IfOk-weaker c.answer_to-answer.result _ _ (λ answer put. answered c.args.file.now c.args.source c.args.at c.args.name.now (reply_of c.in_ok-reply.reply) c.rename_in.new.session steps promise answer.refused (string_bytes answer.output) put) c.answer_to-answer.ensures

@@ -1,7 +1,6 @@
 use Rattle.std.proofs.Common.{◌∙◌, ap}
 use Rattle.jr_session.specs.States.{begun}
-use Rattle.jr_top.proofs.OneFile.{one_source}
 use Rattle.jr_top.proofs.answers.begin_with.Goals as goal
 
 pub returns-in-Ok : goal.returns-in-Ok
-returns-in-Ok c = c.in-Ok.ensures.ok ∙ ap begun (one_source _ _ _ _ _ c.in_ok-files.ensures.items c.in_ok-push.ensures.items c.in_ok-name.ensures.ok)
+returns-in-Ok c = c.in-Ok.ensures.ok ∙ ap begun c.in_ok-files.ensures

@@ -13,5 +13,5 @@ pub returns-in-Some-refusal-clause-step : goal.returns-in-Some-refusal-clause-st
 returns-in-Some-refusal-clause-step g c =
     let named : HasName c.self.inside.sources c.in-Some.number c.args.file.now = subst (HasName c.self.inside.sources c.in-Some.number) c.as_str.ensures c.in-Some.ensures.found in
     let stands : IsFile c.self.inside.sources c.in-Some.number c.args.file.now c.text.result.now = file_of c.self.inside.sources c.in-Some.number c.args.file.now c.text.result.now named c.text.ensures in
-    let why : IsUnasked c.args.file.now c.text.result.now c.args.at c.args.new.now (refusal_of c.in-Some-refusal.refusal) = subst (λ o. MatchOption o (CanStand c.text.result.now c.args.at × IsName c.args.new.now) (λ r. IsUnasked c.args.file.now c.text.result.now c.args.at c.args.new.now (refusal_of r))) c.in-Some-refusal.is c.in_ok-refusal.ensures in
+    let why : IsUnasked c.args.file.now c.text.result.now c.args.at c.args.new.now (refusal_of c.in-Some-refusal.refusal) = subst (λ o. MatchOption o (CanStand c.text.result.now c.args.at × IsName c.args.new.now) (λ r. IsUnasked c.args.file.now c.text.result.now c.args.at c.args.new.now (refusal_of r))) c.in-Some-refusal.is c.in-Ok.ensures in
     unasked_step c.args.self.now c.args.file.now c.args.at c.args.new.now c.in-Some.number c.text.result.now (subst (λ (s : State). IsFile s.files c.in-Some.number c.args.file.now c.text.result.now) c.self.view_is stands) (refusal_of c.in-Some-refusal.refusal) why

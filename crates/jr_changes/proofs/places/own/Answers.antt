@@ -1,5 +1,0 @@
-use Rattle.jr_changes.proofs.Moving.{own_is}
-use Rattle.jr_changes.proofs.places.own.Goals as goal
-
-pub returns : goal.returns
-returns c = own_is c.args.here.now

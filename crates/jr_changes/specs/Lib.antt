@@ -1,5 +1,0 @@
-pub mod Bodies
-pub mod Moves
-pub mod Ready
-pub mod Locals
-pub mod Lasts

@@ -1,0 +1,3 @@
+pub mod Depends
+pub mod Known
+pub mod Listed

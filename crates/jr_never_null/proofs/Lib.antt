@@ -1,0 +1,2 @@
+-- `Flagging`: flags that are made one by one.
+pub mod Flagging

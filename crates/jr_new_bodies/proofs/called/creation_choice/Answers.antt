@@ -1,0 +1,37 @@
+use Rattle.std.proofs.Common.{◌≡◌, ℕ, Option, Some, None, ap, sym, subst, ◌∙◌, inl, inr, refl}
+use Rattle.std.specs.Prelude.{option_map}
+use Rattle.jr_text.specs.declared.spans.Span.{Span}
+use Rattle.jr_ast.specs.Tree as tree
+use Rattle.jr_ast.specs.Marks.{exp_mark}
+use Rattle.jr_ast.specs.View.{word_of, type_of, expr_of, exprs_of}
+use Rattle.jr_ast.proofs.Rows.{expr_mark_is}
+use Rattle.jr_table.specs.Keys.{Ty}
+use Rattle.jr_table.specs.TypeView.{class_key_of}
+use Rattle.jr_table.specs.Binding.{value, left, statement, variable}
+use Rattle.jr_bind_expr.proofs.Steps.{own_fits}
+use Rattle.jr_new_words.specs.ChoiceView.{choice_of}
+use Rattle.jr_new_words.specs.Chosen as chosen
+use Rattle.jr_new_bodies.specs.declared.here.Role.{Role}
+use Rattle.jr_new_bodies.specs.Known.{rows_of, naming_of, context_of, role_of, NameIsBound, NameSpells, DottedIsBound, DottedSpells}
+use Rattle.jr_new_bodies.specs.MeaningView.{AreTypes}
+use Rattle.jr_new_bodies.proofs.Choices as choices
+use Rattle.jr_new_bodies.proofs.Choices.{some_where, some_here, of_some}
+use Rattle.jr_new_bodies.proofs.Typed.{writes_is, creation_at}
+use Rattle.jr_new_bodies.proofs.called.creation_choice.Goals as goal
+
+pub unwrap-types-requires : goal.unwrap-types-requires
+unwrap-types-requires g c =
+    let h = c.args.here.now in
+    let rows = rows_of h in
+    let n = naming_of h in
+    let x = context_of h in
+    let are = c.keeps_rows.ensures in
+    let keys = c.lookups_are_exact.ensures.keys rows are in
+    let B = λ (k : g.row.A.Denot) (b : ℕ). (g.A.Mark.span_from k b).from in
+    let exact = c.types_are_exact.ensures.bound rows are keys x in
+    some_here c.in_ok-types.types (AreTypes rows x (exprs_of c.args.args.now)) c.in_ok-types.ensures (choices.creation_types rows are keys n x B (exprs_of c.args.args.now) (type_of c.args.ty.now) (exact.creations (type_of c.args.ty.now) (exprs_of c.args.args.now)) c.requires.bound)
+
+pub typed_creation-requires : goal.typed_creation-requires
+typed_creation-requires g c =
+    let have = subst (AreTypes (rows_of c.args.here.now) (context_of c.args.here.now) (exprs_of c.args.args.now)) c.unwrap-types.ensures c.in_ok-types.ensures in
+    record { known = c.requires.known; created = c.requires.created; types = have; bound = c.requires.bound }

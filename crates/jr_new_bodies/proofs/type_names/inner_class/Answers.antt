@@ -1,0 +1,44 @@
+use Rattle.std.proofs.Common.{◌≡◌, ℕ, Option, Some, None, ap, sym, subst, ◌∙◌, refl}
+use Rattle.std.specs.Prelude.{option_map, IfOk}
+use Rattle.std.proofs.lemmas.Result.{IfOk-weaker}
+use Rattle.jr_text.specs.declared.spans.Span.{Span}
+use Rattle.jr_ast.specs.Tree as tree
+use Rattle.jr_ast.specs.declared.names.Ident.{Ident}
+use Rattle.jr_ast.specs.View.{word_of, type_of, type_kind, expr_of, exprs_of}
+use Rattle.jr_table.specs.Binding.{value, left}
+use Rattle.jr_bind_expr.specs.Fits.{FitsNamed, FitsType}
+use Rattle.jr_new_words.specs.ChoiceView.{choice_of}
+use Rattle.jr_new_words.specs.Chosen as chosen
+use Rattle.jr_images.specs.Spelling as spells
+use Rattle.jr_new_bodies.specs.Effects.{Effect, both}
+use Rattle.jr_new_bodies.specs.OutputView as out
+use Rattle.jr_new_bodies.specs.OutputView.{gathered}
+use Rattle.jr_new_bodies.specs.Known.{rows_of, naming_of, context_of, role_of, NamedIsBound, NameSpells, TypeIsBound}
+use Rattle.jr_new_bodies.specs.Walks.{NamedGathers, TypeGathers}
+use Rattle.jr_new_bodies.proofs.Bound.{named_bound}
+use Rattle.jr_new_bodies.proofs.Giving as gives
+use Rattle.jr_new_bodies.proofs.Oks.{on_ok}
+use Rattle.jr_new_bodies.proofs.type_names.inner_class.Goals as goal
+
+pub returns : goal.returns
+returns g c =
+    let T = g.A.Mark.span_from in
+    let F = g.A.Mark.fits_at in
+    let B = λ (k : g.row.A.Denot) (b : ℕ). (g.A.Mark.span_from k b).from in
+    let h = c.args.here.now in
+    let rows = rows_of h in
+    let n = naming_of h in
+    let x = context_of h in
+    let old = gathered c.args.out.now in
+    let p = choice_of c.in_ok-first.first in
+    let ch = choice_of c.in_ok-choice.choice in
+    let v = c.args.outer.now.name in
+    let text = c.args.name.now.name in
+    let e0 = gathered c.args.out.now in
+    on_ok c.put_member_class.result (λ ends. let e = ends e0 (out.alone p c.span-before.result) c.start_of-from.ensures c.in_ok-put_alone.ensures in (
+      p,
+      ch,
+      subst (λ (k : ℕ). chosen.QualifierIsChosen rows n x k v (Some p)) (ap (λ (z : Span). z.from) c.span-before.ensures) c.in_ok-first.ensures,
+      subst (λ (k : ℕ). chosen.QualifiedTypeIsChosen rows n x k v text (Some ch)) (ap (λ (z : Span). z.from) c.span-word.ensures) c.in_ok-choice.ensures,
+      e ∙ ap (λ (s : Span). both old (out.qualified p ch s c.span-word.result)) c.span-before.ensures ∙ ap (λ (s : Span). both old (out.qualified p ch (T c.args.outer.now.mark c.args.at) s)) c.span-word.ensures,
+    )) c.put_member_class.ensures

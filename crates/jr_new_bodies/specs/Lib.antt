@@ -1,0 +1,10 @@
+pub mod Effects
+pub mod OutputView
+pub mod Known
+pub mod Walks
+pub mod MeaningView
+pub mod Bodies
+pub mod Moves
+pub mod Ready
+pub mod Locals
+pub mod Lasts

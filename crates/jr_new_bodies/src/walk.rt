@@ -1,0 +1,478 @@
+//! The walk over an expression.
+ghost use Rattle.std.specs.Prelude.{◌≡◌, ◌++◌, ◌∷◌, [], IfOk};
+ghost use Rattle.jr_ast.specs.Tree as tree;
+ghost use Rattle.jr_ast.specs.View.{word_of, type_of, expr_of, exprs_of, target_of};
+ghost use Rattle.jr_table.specs.Binding.{value, left};
+ghost use Rattle.jr_bind_expr.specs.Fits.{FitsType};
+ghost use Rattle.jr_new_words.specs.ChoiceView.{choice_of};
+ghost use Rattle.jr_new_bodies.specs.Known.{role_of, rows_of, context_of, IsKnown, TypeIsBound};
+ghost use Rattle.jr_new_bodies.specs.Known.{ExpReady, RowReady, TargetReady, TypesRow};
+ghost use Rattle.jr_new_bodies.specs.Known.{TypesCreation, first_of};
+ghost use Rattle.jr_new_bodies.specs.Known as pure;
+ghost use Rattle.jr_new_bodies.specs.Walks as gives;
+ghost use Rattle.jr_new_bodies.specs.OutputView.{gathered};
+
+use crate::called::{call_choice, creation_choice, simple_call_choice, super_call_choice};
+use crate::chosen::{dotted_choice, name_choice, super_field_choice};
+use crate::here::{Here, Role, below, next};
+use crate::outputs::{Output, keep_loss, put_alone, put_end, put_front, put_on_super, start_of};
+use crate::type_names::written_type;
+use jr_ast::{Expr, ExprKind, Ident, Path, TypeRef};
+use jr_new_words::Choice;
+use jr_text::{Mark, Span};
+use std::alloc::{AllocError, Global};
+
+/// A simple name, in a node that begins at `at`.
+fn simple<A: Mark>(
+    alloc: Global,
+    here: &Here<'_>,
+    role: Role,
+    at: u32,
+    name: &Ident<A>,
+    out: &mut Output,
+) -> Result<(), AllocError>
+    requires known { IsKnown here.now }
+    requires fits { A.fits_at name.now.mark at }
+    requires bound { pure.NameIsBound (rows_of here.now) (context_of here.now)
+        (role_of role) name.now.name }
+    ensures { IfOk result (λ _. gives.SimpleGathers A.span_from here.now (role_of role) at
+        (word_of name.now) (gathered out.old) (gathered out.new)) }
+{
+    let word = name.mark.span(at);
+    let choice = name_choice(alloc, here, role, word.from, &name.name)?;
+    put_alone(alloc, word, choice, out)
+}
+
+/// A field behind `super`, in a node of this span.
+fn on_super<A: Mark>(
+    alloc: Global,
+    here: &Here<'_>,
+    node: Span,
+    name: &Ident<A>,
+    out: &mut Output,
+) -> Result<(), AllocError>
+    requires known { IsKnown here.now }
+    requires fits { A.fits_at name.now.mark node.from }
+    requires bound { pure.SuperFieldIsBound (rows_of here.now) (context_of here.now)
+        name.now.name }
+    ensures { IfOk result (λ _. gives.SuperGathers A.span_from here.now node (word_of name.now)
+        (gathered out.old) (gathered out.new)) }
+{
+    let word = name.mark.span(node.from);
+    let choice = super_field_choice(alloc, here, word.from, &name.name)?;
+    put_on_super(alloc, node, word, choice, out)
+}
+
+/// The word of a call without a target, in a node that begins at `at`.
+fn call_word<A: Mark>(
+    alloc: Global,
+    here: &Here<'_>,
+    path: &Path,
+    at: u32,
+    name: &Ident<A>,
+    args: &[Expr<A>],
+    out: &mut Output,
+) -> Result<(), AllocError>
+    requires known { IsKnown here.now }
+    requires fits { A.fits_at name.now.mark at }
+    requires types { TypesRow here.now (context_of here.now) path.now.steps.items 1
+        (exprs_of args.now) }
+    requires bound { pure.CallIsBound (λ m b. (A.span_from m b).from) (rows_of here.now)
+        (context_of here.now) tree.no_target name.now.name (exprs_of args.now) }
+    ensures { IfOk result (λ _. gives.CalledGathers A.span_from here.now at (word_of name.now)
+        (exprs_of args.now) (gathered out.old) (gathered out.new)) }
+{
+    let word = name.mark.span(at);
+    let choice = simple_call_choice(alloc, here, path, args, word.from, &name.name)?;
+    put_alone(alloc, word, choice, out)
+}
+
+/// The word of a call behind `super`, in a node that begins at `at`.
+fn called_on_super<A: Mark>(
+    alloc: Global,
+    here: &Here<'_>,
+    path: &Path,
+    at: u32,
+    name: &Ident<A>,
+    args: &[Expr<A>],
+    out: &mut Output,
+) -> Result<(), AllocError>
+    requires known { IsKnown here.now }
+    requires fits { A.fits_at name.now.mark at }
+    requires types { TypesRow here.now (context_of here.now) path.now.steps.items 1
+        (exprs_of args.now) }
+    requires bound { pure.SuperCallIsBound (λ m b. (A.span_from m b).from) (rows_of here.now)
+        (context_of here.now) name.now.name (exprs_of args.now) }
+    ensures { IfOk result (λ _. gives.SuperCalledGathers A.span_from here.now at
+        (word_of name.now) (exprs_of args.now) (gathered out.old) (gathered out.new)) }
+{
+    let word = name.mark.span(at);
+    let choice = super_call_choice(alloc, here, path, args, word.from, &name.name)?;
+    put_alone(alloc, word, choice, out)
+}
+
+/// The class and the constructor of a creation that begins at `at`.
+fn creation_words<A: Mark>(
+    alloc: Global,
+    here: &Here<'_>,
+    path: &Path,
+    at: u32,
+    ty: &TypeRef<A>,
+    args: &[Expr<A>],
+    out: &mut Output,
+) -> Result<(), AllocError>
+    requires known { IsKnown here.now }
+    requires fits { FitsType (λ m b. (A.span_from m b).from) A.fits_at at (type_of ty.now) }
+    requires created { TypesCreation here.now (context_of here.now) path.now.steps.items
+        (type_of ty.now) (exprs_of args.now) }
+    requires types { TypesRow here.now (context_of here.now) path.now.steps.items 1
+        (exprs_of args.now) }
+    requires type_bound { TypeIsBound (λ m b. (A.span_from m b).from) (rows_of here.now)
+        (context_of here.now) at (type_of ty.now) }
+    requires bound { pure.CreationIsBound (λ m b. (A.span_from m b).from) (rows_of here.now)
+        (context_of here.now) (type_of ty.now) (exprs_of args.now) }
+    ensures { IfOk result (λ _. gives.CreatedGathers A.span_from here.now at (type_of ty.now)
+        (exprs_of args.now) (gathered out.old) (gathered out.new)) }
+{
+    let choice = creation_choice(alloc, here, path, at, ty, args)?;
+    keep_loss(choice, out)?;
+    written_type(alloc, here, at, ty, out)
+}
+
+/// The number of a call's first argument among its parts.
+fn first_argument<A>(target: &Option<Box<Expr<A>>>) -> u32
+    ensures { result ≡ first_of (target_of target.now) }
+{
+    match target {
+        None => 1,
+        Some(_) => 2,
+    }
+}
+
+/// What comes of an expression.
+#[cycle(walk)]
+pub(crate) fn expr<A: Mark>(
+    alloc: Global,
+    here: &Here<'_>,
+    role: Role,
+    path: &Path,
+    base: u32,
+    of: &Expr<A>,
+    out: &mut Output,
+) -> Result<(), AllocError>
+    requires known { IsKnown here.now }
+    requires ready { ExpReady A.span_from A.fits_at here.now (role_of role)
+        path.now.steps.items base (expr_of of.now) }
+    ensures { IfOk result (λ _. gives.ExpGathers A.span_from here.now (role_of role) base
+        (expr_of of.now) (gathered out.old) (gathered out.new)) }
+{
+    let span = of.mark.span(base);
+    let at = span.from;
+    match &of.kind {
+        ExprKind::Int(_) => Ok(()),
+        ExprKind::Bool(_) => Ok(()),
+        ExprKind::Null => Ok(()),
+        ExprKind::Text(_) => Ok(()),
+        ExprKind::This => Ok(()),
+        ExprKind::ClassLit(ty) => written_type(alloc, here, at, ty, out),
+        ExprKind::Simple(name) => simple(alloc, here, role, at, name, out),
+        ExprKind::Field(part, name) => field(alloc, here, role, path, at, part, name, out),
+        ExprKind::SuperField(name) => on_super(alloc, here, span, name, out),
+        ExprKind::Call(target, name, args) => call(alloc, here, path, at, target, name, args, out),
+        ExprKind::SuperCall(name, args) => super_call(alloc, here, path, at, name, args, out),
+        ExprKind::New(ty, args) => create(alloc, here, path, at, ty, args, out),
+        ExprKind::Paren(part) => operand(alloc, here, path, 0, at, part, out),
+        ExprKind::Cast(ty, part) => cast(alloc, here, path, at, ty, part, out),
+        ExprKind::Unary(_, part) => operand(alloc, here, path, 0, at, part, out),
+        ExprKind::Bump(_, part) => operand(alloc, here, path, 0, at, part, out),
+        ExprKind::Binary(_, left, right) => pair(alloc, here, path, at, left, right, out),
+        ExprKind::Assign(to, value) => pair(alloc, here, path, at, to, value, out),
+        ExprKind::Compound(_, to, value) => pair(alloc, here, path, at, to, value, out),
+    }
+}
+
+/// An operand, which is the part of this number.
+#[cycle(walk)]
+pub(crate) fn operand<A: Mark>(
+    alloc: Global,
+    here: &Here<'_>,
+    path: &Path,
+    step: u32,
+    at: u32,
+    part: &Expr<A>,
+    out: &mut Output,
+) -> Result<(), AllocError>
+    requires known { IsKnown here.now }
+    requires ready { ExpReady A.span_from A.fits_at here.now value
+        (path.now.steps.items ++ step ∷ []) at (expr_of part.now) }
+    ensures { IfOk result (λ _. gives.ExpGathers A.span_from here.now value at
+        (expr_of part.now) (gathered out.old) (gathered out.new)) }
+{
+    let inner = below(alloc, path, step)?;
+    expr(alloc, here, Role::Value, &inner, at, part, out)
+}
+
+/// Two operands.
+#[cycle(walk)]
+fn pair<A: Mark>(
+    alloc: Global,
+    here: &Here<'_>,
+    path: &Path,
+    at: u32,
+    left: &Expr<A>,
+    right: &Expr<A>,
+    out: &mut Output,
+) -> Result<(), AllocError>
+    requires known { IsKnown here.now }
+    requires ready_left { ExpReady A.span_from A.fits_at here.now value
+        (path.now.steps.items ++ 0 ∷ []) at (expr_of left.now) }
+    requires ready_right { ExpReady A.span_from A.fits_at here.now value
+        (path.now.steps.items ++ 1 ∷ []) at (expr_of right.now) }
+    ensures { IfOk result (λ _. gives.PairGathers A.span_from here.now at (expr_of left.now)
+        (expr_of right.now) (gathered out.old) (gathered out.new)) }
+{
+    operand(alloc, here, path, 0, at, left, out)?;
+    operand(alloc, here, path, 1, at, right, out)
+}
+
+/// A type and an operand.
+#[cycle(walk)]
+fn cast<A: Mark>(
+    alloc: Global,
+    here: &Here<'_>,
+    path: &Path,
+    at: u32,
+    ty: &TypeRef<A>,
+    part: &Expr<A>,
+    out: &mut Output,
+) -> Result<(), AllocError>
+    requires known { IsKnown here.now }
+    requires fits { FitsType (λ m b. (A.span_from m b).from) A.fits_at at (type_of ty.now) }
+    requires bound { TypeIsBound (λ m b. (A.span_from m b).from) (rows_of here.now)
+        (context_of here.now) at (type_of ty.now) }
+    requires ready { ExpReady A.span_from A.fits_at here.now value
+        (path.now.steps.items ++ 1 ∷ []) at (expr_of part.now) }
+    ensures { IfOk result (λ _. gives.CastGathers A.span_from here.now at (type_of ty.now)
+        (expr_of part.now) (gathered out.old) (gathered out.new)) }
+{
+    written_type(alloc, here, at, ty, out)?;
+    operand(alloc, here, path, 1, at, part, out)
+}
+
+/// An operand, and the word behind its dot, for which this is chosen.
+#[cycle(walk)]
+fn operand_and_word<A: Mark>(
+    alloc: Global,
+    here: &Here<'_>,
+    path: &Path,
+    at: u32,
+    part: &Expr<A>,
+    word: Span,
+    choice: Choice,
+    out: &mut Output,
+) -> Result<(), AllocError>
+    requires known { IsKnown here.now }
+    requires ready { ExpReady A.span_from A.fits_at here.now left path.now.steps.items at
+        (expr_of part.now) }
+    ensures { IfOk result (λ _. gives.DottedGathers A.span_from here.now (choice_of choice) at
+        word (expr_of part.now) (gathered out.old) (gathered out.new)) }
+{
+    let operand = part.mark.span(at);
+    put_front(alloc, operand, &choice, out)?;
+    let from = start_of(out);
+    expr(alloc, here, Role::Left, path, at, part, out)?;
+    put_end(alloc, operand, word, from, choice, out)
+}
+
+/// A name behind an operand and a dot.
+#[cycle(walk)]
+fn field<A: Mark>(
+    alloc: Global,
+    here: &Here<'_>,
+    role: Role,
+    path: &Path,
+    at: u32,
+    part: &Expr<A>,
+    name: &Ident<A>,
+    out: &mut Output,
+) -> Result<(), AllocError>
+    requires known { IsKnown here.now }
+    requires ready { ExpReady A.span_from A.fits_at here.now left
+        (path.now.steps.items ++ 0 ∷ []) at (expr_of part.now) }
+    requires fits { A.fits_at name.now.mark at }
+    requires bound { pure.DottedIsBound (λ m b. (A.span_from m b).from) (rows_of here.now)
+        (context_of here.now) (role_of role) (expr_of part.now) name.now.name }
+    ensures { IfOk result (λ _. gives.FieldGathers A.span_from here.now (role_of role) at
+        (expr_of part.now) (word_of name.now) (gathered out.old) (gathered out.new)) }
+{
+    let word = name.mark.span(at);
+    let inner = below(alloc, path, 0)?;
+    let choice = dotted_choice(alloc, here, role, &inner, at, part, word.from, &name.name)?;
+    operand_and_word(alloc, here, &inner, at, part, word, choice, out)
+}
+
+/// A call on an operand, without its arguments.
+#[cycle(walk)]
+fn call_on<A: Mark>(
+    alloc: Global,
+    here: &Here<'_>,
+    path: &Path,
+    at: u32,
+    part: &Expr<A>,
+    name: &Ident<A>,
+    args: &[Expr<A>],
+    out: &mut Output,
+) -> Result<(), AllocError>
+    requires known { IsKnown here.now }
+    requires ready { ExpReady A.span_from A.fits_at here.now left
+        (path.now.steps.items ++ 0 ∷ []) at (expr_of part.now) }
+    requires fits { A.fits_at name.now.mark at }
+    requires types { TypesRow here.now (context_of here.now) path.now.steps.items 2
+        (exprs_of args.now) }
+    requires bound { pure.CallIsBound (λ m b. (A.span_from m b).from) (rows_of here.now)
+        (context_of here.now) (tree.on (expr_of part.now)) name.now.name (exprs_of args.now) }
+    ensures { IfOk result (λ _. gives.CallOnGathers A.span_from here.now at (expr_of part.now)
+        (word_of name.now) (exprs_of args.now) (gathered out.old) (gathered out.new)) }
+{
+    let word = name.mark.span(at);
+    let inner = below(alloc, path, 0)?;
+    let choice = call_choice(
+        alloc, here, path, &inner, at, part, args, word.from, &name.name,
+    )?;
+    operand_and_word(alloc, here, &inner, at, part, word, choice, out)
+}
+
+/// A call's target and word.
+#[cycle(walk)]
+fn target_word<A: Mark>(
+    alloc: Global,
+    here: &Here<'_>,
+    path: &Path,
+    at: u32,
+    target: &Option<Box<Expr<A>>>,
+    name: &Ident<A>,
+    args: &[Expr<A>],
+    out: &mut Output,
+) -> Result<(), AllocError>
+    requires known { IsKnown here.now }
+    requires ready { TargetReady A.span_from A.fits_at here.now path.now.steps.items at
+        (target_of target.now) }
+    requires fits { A.fits_at name.now.mark at }
+    requires types { TypesRow here.now (context_of here.now) path.now.steps.items
+        (first_of (target_of target.now)) (exprs_of args.now) }
+    requires bound { pure.CallIsBound (λ m b. (A.span_from m b).from) (rows_of here.now)
+        (context_of here.now) (target_of target.now) name.now.name (exprs_of args.now) }
+    ensures { IfOk result (λ _. gives.TargetGathers A.span_from here.now at
+        (target_of target.now) (word_of name.now) (exprs_of args.now) (gathered out.old)
+        (gathered out.new)) }
+{
+    match target {
+        None => call_word(alloc, here, path, at, name, args, out),
+        Some(part) => call_on(alloc, here, path, at, part, name, args, out),
+    }
+}
+
+/// A call.
+#[cycle(walk)]
+fn call<A: Mark>(
+    alloc: Global,
+    here: &Here<'_>,
+    path: &Path,
+    at: u32,
+    target: &Option<Box<Expr<A>>>,
+    name: &Ident<A>,
+    args: &[Expr<A>],
+    out: &mut Output,
+) -> Result<(), AllocError>
+    requires known { IsKnown here.now }
+    requires ready { TargetReady A.span_from A.fits_at here.now path.now.steps.items at
+        (target_of target.now) }
+    requires ready_args { RowReady A.span_from A.fits_at here.now path.now.steps.items
+        (first_of (target_of target.now)) at (exprs_of args.now) }
+    requires fits { A.fits_at name.now.mark at }
+    requires bound { pure.CallIsBound (λ m b. (A.span_from m b).from) (rows_of here.now)
+        (context_of here.now) (target_of target.now) name.now.name (exprs_of args.now) }
+    ensures { IfOk result (λ _. gives.CallGathers A.span_from here.now at
+        (target_of target.now) (word_of name.now) (exprs_of args.now) (gathered out.old)
+        (gathered out.new)) }
+{
+    target_word(alloc, here, path, at, target, name, args, out)?;
+    exprs(alloc, here, path, first_argument(target), at, args, out)
+}
+
+/// A call behind `super`.
+#[cycle(walk)]
+fn super_call<A: Mark>(
+    alloc: Global,
+    here: &Here<'_>,
+    path: &Path,
+    at: u32,
+    name: &Ident<A>,
+    args: &[Expr<A>],
+    out: &mut Output,
+) -> Result<(), AllocError>
+    requires known { IsKnown here.now }
+    requires ready { RowReady A.span_from A.fits_at here.now path.now.steps.items 1 at
+        (exprs_of args.now) }
+    requires fits { A.fits_at name.now.mark at }
+    requires bound { pure.SuperCallIsBound (λ m b. (A.span_from m b).from) (rows_of here.now)
+        (context_of here.now) name.now.name (exprs_of args.now) }
+    ensures { IfOk result (λ _. gives.SuperCallGathers A.span_from here.now at
+        (word_of name.now) (exprs_of args.now) (gathered out.old) (gathered out.new)) }
+{
+    called_on_super(alloc, here, path, at, name, args, out)?;
+    exprs(alloc, here, path, 1, at, args, out)
+}
+
+/// A creation.
+#[cycle(walk)]
+fn create<A: Mark>(
+    alloc: Global,
+    here: &Here<'_>,
+    path: &Path,
+    at: u32,
+    ty: &TypeRef<A>,
+    args: &[Expr<A>],
+    out: &mut Output,
+) -> Result<(), AllocError>
+    requires known { IsKnown here.now }
+    requires fits { FitsType (λ m b. (A.span_from m b).from) A.fits_at at (type_of ty.now) }
+    requires ready { RowReady A.span_from A.fits_at here.now path.now.steps.items 1 at
+        (exprs_of args.now) }
+    requires created { TypesCreation here.now (context_of here.now) path.now.steps.items
+        (type_of ty.now) (exprs_of args.now) }
+    requires type_bound { TypeIsBound (λ m b. (A.span_from m b).from) (rows_of here.now)
+        (context_of here.now) at (type_of ty.now) }
+    requires bound { pure.CreationIsBound (λ m b. (A.span_from m b).from) (rows_of here.now)
+        (context_of here.now) (type_of ty.now) (exprs_of args.now) }
+    ensures { IfOk result (λ _. gives.CreateGathers A.span_from here.now at (type_of ty.now)
+        (exprs_of args.now) (gathered out.old) (gathered out.new)) }
+{
+    creation_words(alloc, here, path, at, ty, args, out)?;
+    exprs(alloc, here, path, 1, at, args, out)
+}
+
+/// Arguments, the first of which is the part of this number.
+#[cycle(walk)]
+pub fn exprs<A: Mark>(
+    alloc: Global,
+    here: &Here<'_>,
+    path: &Path,
+    first: u32,
+    at: u32,
+    parts: &[Expr<A>],
+    out: &mut Output,
+) -> Result<(), AllocError>
+    requires known { IsKnown here.now }
+    requires ready { RowReady A.span_from A.fits_at here.now path.now.steps.items first at
+        (exprs_of parts.now) }
+    ensures { IfOk result (λ _. gives.RowGathers A.span_from here.now at (exprs_of parts.now)
+        (gathered out.old) (gathered out.new)) }
+{
+    let mut step = first;
+    for part in parts {
+        operand(alloc, here, path, step, at, part, out)?;
+        step = next(step)?;
+    }
+    Ok(())
+}

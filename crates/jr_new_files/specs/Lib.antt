@@ -1,0 +1,13 @@
+pub mod Files
+pub mod FileLaws
+pub mod Parts
+pub mod Walking
+pub mod Ready
+pub mod PartEffects
+pub mod Supers
+pub mod PartLaws
+pub mod Spared
+pub mod Rewritings
+pub mod FileEffects
+pub mod Lost
+pub mod Unaffected

@@ -1,0 +1,23 @@
+-- What is chosen for a reference is chosen for one that is equal to it.
+use Rattle.std.proofs.Common.{◌≡◌, ℕ, List, subst}
+use Rattle.jr_table.specs.Keys.{Ty}
+use Rattle.jr_table.specs.Decls.{Decl}
+use Rattle.jr_table.specs.Rows.{Row}
+use Rattle.jr_table.specs.Context.{Context}
+use Rattle.jr_spell.specs.References.{Reference}
+use Rattle.jr_rewrite.specs.Respellings.{Choice}
+use Rattle.jr_images.specs.Images.{Renaming, name_to, rows_to, scope_to}
+use Rattle.jr_new_words.specs.Taking.{asked, SpellsAt}
+use Rattle.jr_new_words.specs.Ways.{Way, name_in, reference_by, Finds, SpellsTo}
+
+module _ (rows : List Row) (g : Renaming) (c : Context) (image : Decl) (w : Way) (ts : List Ty) (at : ℕ) (old : List ℕ) (d : Decl) where
+  abbrev pub asked_name : List ℕ
+  asked_name = name_in image (name_to g d old)
+
+  module _ (r : Reference) (n : List ℕ) (r_is : r ≡ reference_by w asked_name ts) (n_is : n ≡ asked_name) where
+    same : asked r image n ≡ asked (reference_by w asked_name ts) image asked_name
+    same = λ i. record { reference = r_is i; target = image; name = n_is i }
+
+    -- what is asked so is that reference
+    pub spells_so : (h : Choice) → SpellsAt (rows_to g rows) (scope_to g c) (asked r image n) at old d (Finds (rows_to g rows) (scope_to g c) w n r.args) h → SpellsTo rows g c image w ts at old d h
+    spells_so h x = subst (λ a. SpellsAt (rows_to g rows) (scope_to g c) a at old d (Finds (rows_to g rows) (scope_to g c) w a.name a.reference.args) h) same x

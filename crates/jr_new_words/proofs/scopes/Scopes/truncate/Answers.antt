@@ -1,0 +1,29 @@
+use Rattle.std.proofs.Common.{map, ap, ◌∙◌}
+use Rattle.jr_scopes.specs.Helds.{held_of}
+use Rattle.jr_scopes.specs.Tracked.{locals_of}
+use Rattle.jr_new_words.specs.Scopes.{naming_of, member_of}
+use Rattle.jr_new_words.proofs.Growing.{take_images, map_take}
+use Rattle.jr_new_words.proofs.Oks.{on_both, on_any}
+use Rattle.jr_new_words.proofs.scopes.Scopes.truncate.Goals as goal
+
+pub returns-clause-kept : goal.returns-clause-kept
+returns-clause-kept c =
+    let s = c.args.self.now in
+    let kept = c.requires in
+    on_both c.truncate-2.result _ _ _ (λ locals tracked. record {
+      rows = kept.rows;
+      class = kept.class;
+      no_locals = kept.no_locals;
+      image = kept.image;
+      image_class = kept.image_class;
+      image_static = kept.image_static;
+      image_locals = kept.image_locals;
+      tracked = c.in_ok-truncate.ensures.tracked;
+      renamed_tracked = tracked;
+      renamed = take_images (naming_of s) (member_of s) c.args.depth (locals_of s.renamed) (locals_of s.locals) _ _ locals c.in_ok-truncate.ensures.locals kept.renamed;
+    }) c.truncate-2.ensures.locals c.truncate-2.ensures.tracked
+
+pub returns-clause-locals : goal.returns-clause-locals
+returns-clause-locals c =
+    let s = c.args.self.now in
+    on_any c.truncate-2.result _ (ap (map held_of) c.in_ok-truncate.ensures.locals ∙ map_take held_of c.args.depth (locals_of s.locals))

@@ -1,0 +1,22 @@
+use Rattle.std.proofs.Common.{map, sym, ap, ◌∙◌}
+use Rattle.jr_table.specs.TypeView.{class_key_of}
+use Rattle.jr_table.specs.Entries.{kind_of, entries_of}
+use Rattle.jr_table.specs.Calls.{find_method}
+use Rattle.jr_table.specs.Lookup.{find_method_of, FindsMethodOf, shown}
+use Rattle.jr_lookup.specs.ScopeView.{scope_of}
+use Rattle.jr_new_words.proofs.Oks.{some_weaker}
+use Rattle.jr_new_words.proofs.UnchangedBy.{finds_at}
+use Rattle.jr_new_words.proofs.staying_by.method_row.Goals as goal
+
+pub returns : goal.returns
+unfolding find_method_of
+returns c =
+    let rows = c.args.table.now in
+    let s = scope_of c.args.scope.now in
+    let k = class_key_of c.args.class.now in
+    let name = c.args.name.now in
+    let ts = c.args.args.now in
+    let kinds = c.as_slice-2.ensures ∙ c.in_ok-kinds.ensures ∙ ap (map (kind_of rows)) c.as_slice.ensures in
+    let exact = (c.lookups_are_exact.ensures.keys rows c.keeps_rows.ensures).method_of s k name ts in
+    let is = c.in_ok-answer.ensures ∙ (λ i. find_method (entries_of rows) (c.number_or_none-place.ensures i) (c.number_or_none-class.ensures i) (c.as_str.ensures i) (kinds i)) in
+    some_weaker c.one_row.result _ _ (λ j e. finds_at rows (find_method_of rows s k name ts) (FindsMethodOf rows s k name ts) exact c.in_ok-answer.answer (ap (shown rows) (sym is)) j e) c.one_row.ensures

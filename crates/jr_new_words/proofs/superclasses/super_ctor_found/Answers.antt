@@ -1,0 +1,24 @@
+use Rattle.std.proofs.Common.{refl, subst, inl, inr}
+use Rattle.std.specs.Result.{IfOk}
+use Rattle.std.proofs.lemmas.Result.{IfOk-weaker}
+use Rattle.jr_table.specs.TypeView.{class_key_of}
+use Rattle.jr_table.specs.FoundView.{found_of}
+use Rattle.jr_table.specs.Lookup.{FindsCtorOf}
+use Rattle.jr_table.specs.Context.{IsSuperclass}
+use Rattle.jr_table.specs.Binding.{FindsIn}
+use Rattle.jr_lookup.specs.ScopeView.{scope_of}
+use Rattle.jr_new_words.proofs.Parents.{no_superclass, the_superclass}
+use Rattle.jr_new_words.proofs.superclasses.super_ctor_found.Goals as goal
+
+pub returns-in-None : goal.returns-in-None
+returns-in-None c = inr (no_superclass c.args.table.now c.keeps_rows.ensures _ c.in-None.ensures, refl)
+
+pub returns-in-Some : goal.returns-in-Some
+returns-in-Some c =
+    let rows = c.args.table.now in
+    let s = scope_of c.args.scope.now in
+    let p = class_key_of c.in-Some.parent.now in
+    let above = the_superclass rows c.keeps_rows.ensures s.class p c.in-Some.ensures in
+    IfOk-weaker c.ctor_of.result (λ f. FindsCtorOf rows s p c.args.args.now (found_of f)) (λ f. FindsIn (IsSuperclass rows s.class) (λ k x. FindsCtorOf rows s k c.args.args.now x) (found_of f))
+    (λ f finds. inl (p, above, finds))
+    (subst (λ ts. IfOk c.ctor_of.result (λ f. FindsCtorOf rows s p ts (found_of f))) c.as_slice.ensures c.ctor_of.ensures)

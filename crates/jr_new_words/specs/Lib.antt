@@ -1,0 +1,11 @@
+pub mod Scopes
+pub mod ChoiceView
+pub mod FrontView
+pub mod Valued
+pub mod Chosen
+pub mod Taking
+pub mod Near
+pub mod Finding
+pub mod Ways
+pub mod Staying
+pub mod StayingBy

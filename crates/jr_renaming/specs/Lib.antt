@@ -1,4 +1,0 @@
-pub mod Effects
-pub mod OutputView
-pub mod Files
-pub mod FileLaws

@@ -1,4 +1,0 @@
-use Rattle.jr_respell.proofs.staying_by.is_field_on_class.Goals as goal
-
-pub returns-then-is_class_member : goal.returns-then-is_class_member
-returns-then-is_class_member c = λ t. (c.is_field.ensures t, c.is_class_member.ensures c.if-is_class_member.true)

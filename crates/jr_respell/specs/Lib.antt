@@ -1,9 +1,0 @@
-pub mod Scopes
-pub mod ChoiceView
-pub mod Chosen
-pub mod Taking
-pub mod Near
-pub mod Finding
-pub mod Ways
-pub mod Staying
-pub mod StayingBy

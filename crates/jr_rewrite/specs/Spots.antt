@@ -1,0 +1,54 @@
+-- Spots: where a refactoring rewrites a part of a tree in its own way. Within a spot parts are
+-- rewritten again by the same relations, perhaps by other choices.
+use Rattle.std.specs.Prelude.{◌⊎◌, ℕ, ◌≤◌}
+use Rattle.jr_ast.specs.Tree as tree
+use Rattle.jr_ast.specs.StatementTree as statement
+use Rattle.jr_ast.specs.MemberTree as syntax
+use Rattle.jr_grammar.specs.Shape.{level_of, IsTarget, IsStatementForm}
+use Rattle.jr_table.specs.Keys.{ClassKey}
+use Rattle.jr_table.specs.Binding.{Role}
+use Rattle.jr_table.specs.Context.{Context}
+use Rattle.jr_rewrite.specs.Rewritten.{Rewritten}
+
+-- what the node around asks of an expression: that it binds so tightly, that it can be assigned, or
+-- that it can be a statement
+pub data Asks : Type 0 where
+  level : (least : ℕ) → Asks
+  a_target : Asks
+  a_statement : Asks
+
+abbrev pub Takes : {A : Type 0} → Asks → tree.Exp A → Type 0
+Takes (level least) e = least ≤ level_of e
+Takes a_target e = IsTarget e
+Takes a_statement e = IsStatementForm e
+
+-- what becomes of an expression of which so much is asked, which stands so where its parent begins
+-- at base; of the rest of a list of statements, whose next local has a number; and of the rest of
+-- the members of a class
+pub record Spots (A : Type 0) : Type 1 where
+  pub part : Asks → Context → Role → (base : ℕ) → tree.Exp A → Rewritten (tree.Exp A) → Type 0
+  pub list : (next : ℕ) → Context → (base : ℕ) → statement.Stmts A
+      → Rewritten (statement.Stmts A) → Type 0
+  pub members : (base : ℕ) → ClassKey → syntax.Members A → Rewritten (syntax.Members A) → Type 0
+
+-- all is rewritten node by node, or there are spots
+pub data Spotted (A : Type 0) : Type 1 where
+  nowhere : Spotted A
+  spotted : (spots : Spots A) → Spotted A
+
+-- node by node, or as a spot has it
+module _ {A : Type 0} where
+  abbrev pub OrPart : Spotted A → Asks → Context → Role → (base : ℕ) → tree.Exp A
+      → Rewritten (tree.Exp A) → (ByNode : Type 0) → Type 0
+  OrPart nowhere k c r base e o ByNode = ByNode
+  OrPart (spotted s) k c r base e o ByNode = ByNode ⊎ s.part k c r base e o
+
+  abbrev pub OrList : Spotted A → (next : ℕ) → Context → (base : ℕ) → statement.Stmts A
+      → Rewritten (statement.Stmts A) → (ByNode : Type 0) → Type 0
+  OrList nowhere n c base xs o ByNode = ByNode
+  OrList (spotted s) n c base xs o ByNode = ByNode ⊎ s.list n c base xs o
+
+  abbrev pub OrMembers : Spotted A → (base : ℕ) → ClassKey → syntax.Members A
+      → Rewritten (syntax.Members A) → (ByNode : Type 0) → Type 0
+  OrMembers nowhere base of xs o ByNode = ByNode
+  OrMembers (spotted s) base of xs o ByNode = ByNode ⊎ s.members base of xs o

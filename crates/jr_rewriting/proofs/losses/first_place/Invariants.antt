@@ -1,8 +1,0 @@
-use Rattle.std.proofs.Common.{◌≡◌, ℕ, ◌<◌, [], Some}
-use Rattle.std.specs.Prelude.{slice_get}
-use Rattle.jr_renaming.specs.Effects.{Effect}
-use Rattle.jr_rewriting.specs.Gathered.{effects_of}
-use Rattle.jr_rewriting.proofs.losses.first_place.Given as goal
-
-abbrev pub invariant-loop-file : goal.invariant-loop-file
-invariant-loop-file l = (i : ℕ) (e : Effect) → i < l.file → slice_get (effects_of l.outputs) i ≡ Some e → e.losses ≡ []

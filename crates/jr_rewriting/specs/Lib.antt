@@ -1,4 +1,0 @@
-pub mod Rewritings
-pub mod Gathered
-pub mod Lost
-pub mod Unaffected
