@@ -50,10 +50,18 @@ pub(crate) const ROWS: &'static str = "
     W{static class X{static int f;}}class N extends W{}class T{static class N extends W{}}class S \
     extends T{private static class N{}}class A extends S{N.X v;}\"},\
     {\"step\":\"rename\",\"file\":\"A.java\",\"at\":131,\"name\":\"M\"}] => \
+    Refused | [{\"reply\":\"edited\"},{\"number\":16,\"refusal\":\"LostBinding A.java:153 N \
+    found T.N\",\"reply\":\"refused\"}] | class W{static class X{static int f;}}class N extends \
+    W{}class T{static class N extends W{}}class S extends T{private static class N{}}class A \
+    extends S{N.X v;}
+~one 0 [{\"step\":\"edit\",\"file\":\"A.java\",\"from\":0,\"to\":9,\"text\":\"class \
+    W{static class X{static int f;}}class N extends W{}class T{static class N{}}class S \
+    extends T{private static class N{}}class A extends S{N.X v;}\"},\
+    {\"step\":\"rename\",\"file\":\"A.java\",\"at\":121,\"name\":\"M\"}] => \
     Done | [{\"reply\":\"edited\"},\
     {\"files\":[\"A.java\"],\"reply\":\"refactored\",\"respelled\":1}] | \
-    class W{static class X{static int f;}}class N extends W{}class T{static class N extends \
-    W{}}class S extends T{private static class M{}}class A extends S{W.X v;}
+    class W{static class X{static int f;}}class N extends W{}class T{static class N{}}class \
+    S extends T{private static class M{}}class A extends S{W.X v;}
 ~one 0 [{\"step\":\"edit\",\"file\":\"A.java\",\"from\":0,\"to\":9,\"text\":\"class \
     W{static class X{}}class N extends W{}class A{N.X v;}\"},\
     {\"step\":\"rename\",\"file\":\"A.java\",\"at\":31,\"name\":\"M\"}] => \

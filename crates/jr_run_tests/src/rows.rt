@@ -72,7 +72,7 @@ fn rows_are_answered(rt: HostRuntime) {
     assert_rows(&rt, alloc, runs::WORDS, 13);
     assert_rows(&rt, alloc, runs::FAULTS, 11);
     assert_rows(&rt, alloc, renames::ROWS, 53);
-    assert_rows(&rt, alloc, renaming::ROWS, 7);
+    assert_rows(&rt, alloc, renaming::ROWS, 8);
     assert_rows(&rt, alloc, renaming::THREE, 8);
     assert_rows(&rt, alloc, renaming::BACK, 2);
     assert_rows(&rt, alloc, kinds::ROWS, 66);
