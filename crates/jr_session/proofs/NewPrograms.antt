@@ -17,7 +17,7 @@ use Rattle.jr_names.specs.declared.steps.Step.{Step}
 use Rattle.jr_names.specs.declared.steps.Step.TheVariants as step
 use Rattle.jr_names.specs.Replies.{Reply}
 use Rattle.jr_punit.specs.OneReading.{OneReading}
-use Rattle.jr_bind.specs.Programs.{Program, units_of}
+use Rattle.jr_bind.specs.Programs.{Program, IsProgram, units_of}
 use Rattle.jr_program_laws.specs.FileParts.{begins}
 use Rattle.jr_rewrite.specs.AlongMembers.{AlongUnits}
 use Rattle.jr_rewrite.specs.Rewritten.{Rewritten}
@@ -31,10 +31,11 @@ use Rattle.jr_rename_laws.specs.PlanLaws.{IsPlanIn, NewTextsRead, ReferencesStay
 use Rattle.jr_rename_laws.specs.ClassLaws.{BuiltRowsAreImages, ConstructorsGiveImages}
 use Rattle.jr_dispatch.specs.Kept.{DispatchIsKept}
 use Rattle.jr_kept_runs.specs.Laws.{RenamesKeepRuns}
+use Rattle.jr_sound_code.specs.Laws.{ProgramsHaveCode, CodeOfProgramsIsOne, SoundProgramsAreWellTyped}
 use Rattle.jr_sources.specs.Sources.{Source}
-use Rattle.jr_sources.specs.Whole.{IsProgramOf}
+use Rattle.jr_sources.specs.Whole.{Anywhere, IsProgramOf}
 use Rattle.jr_session.specs.NewTexts.{with_edits}
-use Rattle.jr_session.specs.Promises.{IsSpliced, KeepsProgram, Promises, RenamesKeepPrograms}
+use Rattle.jr_session.specs.Promises.{IsSpliced, HasOneCode, KeepsProgram, Promises, RenamesKeepPrograms}
 use Rattle.jr_session.specs.Renaming.{IsRenamed}
 use Rattle.jr_session.specs.States.{State}
 use Rattle.jr_session.specs.Stepping.{Steps}
@@ -74,9 +75,19 @@ module _ (g : Renaming) (rows : List Row) (declarations : List DeclaredItem) whe
         units_bare us rest zs others more,
       )
 
+-- ---- code
+
+abbrev pub HasOneCodeEach : Type 0
+HasOneCodeEach = (p : Program Span) → IsProgram itself Anywhere p → HasOneCode p
+
+pub one_code : ProgramsHaveCode → CodeOfProgramsIsOne → SoundProgramsAreWellTyped → HasOneCodeEach
+one_code have one typed p is =
+    let c = have p is in
+    record { code = c.0; is = c.1; one = λ other h. one p is c.0 other c.1 h; typed = typed p is c.0 c.1 }
+
 -- ---- the law
 
-module _ (one : OneReading Span) (named : RowsAreNamed Span) (dots : NamesHaveNoDot) (plans : PlansBecome Span Span) (read : NewTextsRead) (references : ReferencesStay) (images : NewProgramsAreImages) (built : BuiltRowsAreImages Span Span) (ctors : ConstructorsGiveImages Span Span) (dispatch : DispatchIsKept) (runs : RenamesKeepRuns) (move : UntouchedBytesMove)
+module _ (one : OneReading Span) (named : RowsAreNamed Span) (dots : NamesHaveNoDot) (plans : PlansBecome Span Span) (read : NewTextsRead) (references : ReferencesStay) (images : NewProgramsAreImages) (built : BuiltRowsAreImages Span Span) (ctors : ConstructorsGiveImages Span Span) (dispatch : DispatchIsKept) (runs : RenamesKeepRuns) (coded : HasOneCodeEach) (move : UntouchedBytesMove)
     (s t : State) (file : List ℕ) (at : ℕ) (new : List ℕ) (names : List (List ℕ)) (n : ℕ) (is : IsRenamed s file at new names n t)
   where
     abbrev p : Program Span
@@ -136,6 +147,8 @@ module _ (one : OneReading Span) (named : RowsAreNamed Span) (dots : NamesHaveNo
       dispatch = λ of m was runs.
           subst (λ (rows : List Row). DispatchesTo rows (class_to plan.planned.g of) (method_to plan.planned.g m) (method_to plan.planned.g was)) (sym new_images.0)
           (dispatch p.rows plan.planned.g before.is.are_rows (subst AreRows new_images.0 is.program.is.are_rows) plan.planned.dispatch of m was runs);
+      code_before = coded p before.is;
+      code_behind = coded is.q is.program.is;
       runs = runs p is.q is.short.plan.text is.short.plan.number at new is.edits is.short.plan.renaming n plan trees new_images.0 new_images.1;
       count = ap length files_are ∙ length-edited s.files is.edits;
       back = λ answer u h. undone_after s t file at new names n is u answer h;
@@ -143,10 +156,10 @@ module _ (one : OneReading Span) (named : RowsAreNamed Span) (dots : NamesHaveNo
           (let b = texts i old there in (b.0, b.1, subst (λ (ss : List Source). slice_get ss i ≡ Some b.0) (sym files_are) b.2, b.3, b.4));
     }
 
-pub renames_keep : OneReading Span → RowsAreNamed Span → NamesHaveNoDot → PlansBecome Span Span → NewTextsRead → ReferencesStay → NewProgramsAreImages → BuiltRowsAreImages Span Span → ConstructorsGiveImages Span Span → DispatchIsKept → RenamesKeepRuns → UntouchedBytesMove → RenamesKeepPrograms
-renames_keep one named dots plans read references images built ctors dispatch runs move s t file at new reply h done =
+pub renames_keep : OneReading Span → RowsAreNamed Span → NamesHaveNoDot → PlansBecome Span Span → NewTextsRead → ReferencesStay → NewProgramsAreImages → BuiltRowsAreImages Span Span → ConstructorsGiveImages Span Span → DispatchIsKept → RenamesKeepRuns → HasOneCodeEach → UntouchedBytesMove → RenamesKeepPrograms
+renames_keep one named dots plans read references images built ctors dispatch runs coded move s t file at new reply h done =
     let r = renamed_of s t file at new reply h done in
-    keeps one named dots plans read references images built ctors dispatch runs move s t file at new r.0 r.1 r.2
+    keeps one named dots plans read references images built ctors dispatch runs coded move s t file at new r.0 r.1 r.2
 
 -- ---- all steps
 

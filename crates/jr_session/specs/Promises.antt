@@ -16,6 +16,9 @@ use Rattle.jr_names.specs.Refusals.{Refusal}
 use Rattle.jr_names.specs.Replies.{Reply, refused, undone}
 use Rattle.jr_bind.specs.Programs.{Program, units_of}
 use Rattle.jr_program_laws.specs.FileParts.{begins}
+use Rattle.jr_runs.specs.Core as core
+use Rattle.jr_runs.specs.Typing.{WellTyped}
+use Rattle.jr_code.specs.RunKeys.{RunKeys}
 use Rattle.jr_rewrite.specs.AlongMembers.{AlongUnits}
 use Rattle.jr_rewrite.specs.Rewritten.{Rewritten}
 use Rattle.jr_rename_laws.specs.ImageLaws.{without_marks, AreImages}
@@ -23,7 +26,7 @@ use Rattle.jr_images.specs.Images.{class_to, method_to, member_to, rows_to}
 use Rattle.jr_images.specs.Keeping.{IsKept, IsWritten, IsSuperKept, IsParentKept}
 use Rattle.jr_rename_laws.specs.PlanLaws.{IsPlanIn}
 use Rattle.jr_kept_runs.specs.KeysTo.{keys_to}
-use Rattle.jr_kept_runs.specs.KeepsRuns.{KeepsRuns}
+use Rattle.jr_kept_runs.specs.KeepsRuns.{AreCode, KeepsRuns}
 use Rattle.jr_kept_runs.specs.Laws.{sources_of}
 use Rattle.jr_sources.specs.Sources.{Source, texts_of}
 use Rattle.jr_sources.specs.Whole.{IsProgramOf}
@@ -53,6 +56,14 @@ pub record IsTakenBack (s t : State) (reply : Reply) (u : State) : Type 0 where
   pub undo : u.undo ≡ s.undo
   pub redo : u.redo ≡ texts_of t.files ∷ []
   pub shown : u.shown ≡ s.shown
+
+-- The program is a resolved one, as runs see it, and just one; this one is well typed, so calls in
+-- its runs are made on receivers of the class and arguments of the types.
+pub record HasOneCode (p : Program Span) : Type 0 where
+  pub code : core.Program RunKeys
+  pub is : AreCode (sources_of p) code
+  pub one : (other : core.Program RunKeys) → AreCode (sources_of p) other → code ≡ other
+  pub typed : WellTyped code
 
 -- The sources `s.files` are the program p, for which the rename is planned, and the sources
 -- `t.files` are the program q: read, bound and sound from scratch.
@@ -91,9 +102,12 @@ pub record KeepsProgram (s : State) (file : List ℕ) (at : ℕ) (new : List ℕ
       (IsWritten begins begins plan.planned.g p.rows) (IsSuperKept plan.planned.g p.rows)
       (IsParentKept plan.planned.g p.rows) (member_to plan.planned.g)
       (declarations_of begins (units_of p)) (units_of p) (units_of q)
-  -- Whatever resolved programs p and q are, each method and constructor, on a receiver and arguments
-  -- of its types, has in q exactly the images of its runs in p, whole ones with the same end and
-  -- bounded ones, both ways.
+  -- each of the two is a resolved program, just one
+  pub code_before : HasOneCode p
+  pub code_behind : HasOneCode q
+  -- These are exactly alike: each method and constructor, on a receiver and arguments of its types,
+  -- has in q exactly the images of its runs in p, whole ones with the same end and bounded ones,
+  -- both ways.
   pub runs : KeepsRuns (keys_to plan.planned.g) (sources_of p) (sources_of q)
   -- each file is spliced by its edits, and there are no others
   pub count : length t.files ≡ length s.files

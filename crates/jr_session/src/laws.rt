@@ -16,6 +16,7 @@ use jr_rename_laws::{
     classes_give_images, constructors_give_images, plan_is_one, plans_become, plans_keep_programs,
     renamings_stay_fair, rewriting_is_one,
 };
+use jr_sound_code::{programs_have_code, sound_programs_are_well_typed};
 use jr_sources::text_has_one_reading;
 use jr_text::{Span, untouched_bytes_move};
 
@@ -52,9 +53,9 @@ pub fn renames_are_refused_first()
 /// Where a session accepts a rename, the sources behind the step are a program again: read, bound
 /// and sound from scratch. It is read as the planned trees, its rows are the images of the old
 /// rows, each reference is bound in it to the image of what it was bound to (JLS 6), and what a
-/// call runs is the image of what it ran, whatever is renamed. Whatever resolved programs the two
-/// are, they are exactly alike. Each byte that lies in no edit's span is as before, and an undoing
-/// right behind the rename gives back every byte of every file.
+/// call runs is the image of what it ran, whatever is renamed. Each of the two has resolved code,
+/// just one and well typed, and these are exactly alike. Each byte that lies in no edit's span is
+/// as before, and an undoing right behind the rename gives back every byte of every file.
 pub fn accepted_renames_keep_programs()
     ensures { RenamesKeepPrograms }
 {
@@ -66,6 +67,8 @@ pub fn accepted_renames_keep_programs()
     plans_keep_programs();
     dispatch_is_kept();
     renames_keep_runs();
+    programs_have_code();
+    sound_programs_are_well_typed();
     untouched_bytes_move();
 }
 
