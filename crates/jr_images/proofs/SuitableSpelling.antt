@@ -27,8 +27,10 @@ use Rattle.jr_spell.specs.Spellings.{forms}
 use Rattle.jr_rewrite.specs.Respellings.{Front, same, alone, by_class, by_outer_class, Choice, stays, text_of}
 use Rattle.jr_rewrite.specs.Suitable.{AreNames, Suits, MayStandAlone, MayStandBeforeVariable, MayStandBeforeMethod, MayStandBeforeType, MayBeCast, IsPath, MayStandFor, SuitsExp, AreSuitable}
 use Rattle.jr_rewrite.proofs.Rewriting.{rewritten_reads}
-use Rattle.jr_images.specs.Images.{Renaming, is_renamed, name_to, outer_to, class_to, field_to, method_to, decl_to}
-use Rattle.jr_images.specs.Spelling.{respelled, renamed, outer_front, outer_type, spelled, Spells, SpellsLeft, VariableSpells, ClassSpells, FieldSpells, MemberClassSpells, SuperFieldSpells, SimpleCallSpells, CallSpells, SuperCallSpells, ExpSpells, TypeSpells, QualifierSpells, ParentSpells, ParentQualifierSpells, spelling}
+use Rattle.jr_images.specs.Images.{Renaming, is_renamed, name_to, outer_to, class_to, field_to, method_to}
+use Rattle.jr_images.specs.Regions.{Images, Region, images_of, region_of}
+use Rattle.jr_images.specs.NamedImages.{AreNamedImages}
+use Rattle.jr_images.specs.Spelling.{respelled, renamed, outer_front, outer_type, spelled, OfImage, TakenChoice, LeftChoice, VariableChoice, ClassChoice, FieldChoice, MemberClassChoice, SuperFieldChoice, SimpleCallChoice, CallChoice, SuperCallChoice, ExpChoice, TypeChoice, QualifierChoice, ParentChoice, ParentQualifierChoice, choosing, spelling}
 use Rattle.jr_images.specs.TextLaws.{IsOuterName, IsNamedClass, AreNamed, RenamedTextsRead}
 use Rattle.jr_images.proofs.Forms.{one_form, two_forms, three_forms, front_forms, four_forms, six_forms}
 
@@ -152,28 +154,13 @@ renamed_suits May may old new name = by (same_name old new) refl
     by true e = tt
     by false e = (name e, tt, may)
 
-module _ {A : Type 0} (begins : A → ℕ → ℕ) (rows : List Row) (g : Renaming) (new_is : IsName g.name) (named : AreNamed rows) where
-  name_is : (d : Decl) (old : List ℕ) → IsName old → IsName (name_to g d old)
-  name_is d old h = by (is_renamed g d)
-    where
-      by : (b : Bool) → IsName (if b then g.name else old)
-      by true = new_is
-      by false = h
+module _ {A : Type 0} (begins : A → ℕ → ℕ) (rows : List Row) (R : Region A) (named : AreNamedImages rows R.seen.images) where
+  abbrev images : Images
+  images = R.seen.images
 
-  -- what isn't renamed keeps its text, whatever it is
-  kept_suits : (May : Front → Type 0) → May same → (d : Decl) (old : List ℕ) → Suits May (renamed old (name_to g d old))
-  kept_suits May may d old = by (is_renamed g d)
-    where
-      by : (b : Bool) → Suits May (renamed old (if b then g.name else old))
-      by true = renamed_suits May may old g.name (λ e. new_is)
-      by false = renamed_suits May may old old (λ e. absurd (both_ways (same_name old old) e ((bytes_decides old old).1 refl)))
-
-  class_named : (k : ClassKey) → IsNamedClass k → IsNamedClass (class_to g k)
-  class_named k h = (outer k.outer h.0, name_is (class_decl k) k.name h.1)
-    where
-      outer : (o : Option (List ℕ)) → IsOuterName o → IsOuterName (outer_to g o)
-      outer None n = tt
-      outer (Some o) n = name_is (class_decl (top_key o)) o n
+  -- a declared name
+  kept_suits : (May : Front → Type 0) → May same → (d : Decl) (old : List ℕ) → Suits May (renamed old (images.name_to d old))
+  kept_suits May may d old = renamed_suits May may old (images.name_to d old) (named.declared d old)
 
   -- ---- spellings
 
@@ -199,53 +186,60 @@ module _ {A : Type 0} (begins : A → ℕ → ℕ) (rows : List Row) (g : Renami
       let o = outer_of_type May bare by_one k.outer k.name h.0 in
       front_forms (λ f. Suits May (spelled old k.name k f)) (renamed_suits May may old k.name (λ e. h.1)) (h.1, tt, bare) (h.1, o.0, o.1)
 
-  spells_suits : (May : Front → Type 0) (s : Scope) (at : ℕ) (old new : List ℕ) (d : Decl) (r : Reference) (Finds : Found → Type 0) (h : Choice)
-      → ((n : ℕ) (f : Form) → slice_get (forms r.form (decl_to g d)) n ≡ Some f → Suits May (spelled old new (class_of (decl_to g d)) f))
-      → Spells begins rows g s at old new d r Finds h → Suits May h
-  spells_suits May s at old new d r Finds h each (inl t) = subst (Suits May) (sym t.2) (each t.1.place t.0 t.1.stands)
-  spells_suits May s at old new d r Finds h each (inr t) = subst (Suits May) (sym t.1.2) tt
+  spells_suits : (May : Front → Type 0) (s : Scope) (at : ℕ) (old new : List ℕ) (d i : Decl) (r : Reference) (Finds : Found → Type 0) (h : Choice)
+      → ((n : ℕ) (f : Form) → slice_get (forms r.form (i)) n ≡ Some f → Suits May (spelled old new (class_of (i)) f))
+      → TakenChoice begins rows R s at old new d i r Finds h → Suits May h
+  spells_suits May s at old new d i r Finds h each (inl t) = subst (Suits May) (sym t.2) (each t.1.place t.0 t.1.stands)
+  spells_suits May s at old new d i r Finds h each (inr t) = subst (Suits May) (sym t.1.2) tt
 
   left_suits : (May : Front → Type 0) → May same → (at : ℕ) (old : List ℕ) (k : ClassKey) (Leads : Type 0) (Finds : Found → Type 0) (h : Choice) → HasRow rows (class_decl k)
-      → SpellsLeft begins rows g at old k Leads Finds h → Suits May h
+      → LeftChoice begins rows R at old k Leads Finds h → Suits May h
   left_suits May may at old k Leads Finds h row (inl t) =
-      subst (Suits May) (sym t.1) (renamed_suits May may old (class_to g k).name (λ e. (class_named k (named (class_decl k) row.0 row.1)).1))
+      subst (Suits May) (sym t.1) (renamed_suits May may old (images.class_to k).name (λ e. (named.class k row.0 row.1).1))
   left_suits May may at old k Leads Finds h row (inr t) = subst (Suits May) (sym t.1.2) tt
 
   -- ---- variables
 
-  local_suits : (c : Context) (at : ℕ) (old : List ℕ) (h : Choice) → VariableSpells begins rows g c at old h → Suits MayStandBeforeVariable h
+  -- of a local that is kept, and of one that is gone
+  of_image : {T : Type 0} {Kept : LocalKey → Type 0} {Gone : Type 0} (k : Option LocalKey) → OfImage k Kept Gone → ((i : LocalKey) → Kept i → T) → (Gone → T) → T
+  of_image (Some i) h is_kept is_gone = is_kept i h
+  of_image None h is_kept is_gone = is_gone h
+
+  local_suits : (c : Context) (at : ℕ) (old : List ℕ) (h : Choice) → VariableChoice begins rows R c at old h → Suits MayStandBeforeVariable h
   local_suits c at old h (inl t) =
-      spells_suits MayStandBeforeVariable _ at old _ (local_decl t.0) _ _ h (one_form (λ f. Suits MayStandBeforeVariable (spelled old _ _ f)) (kept_suits MayStandBeforeVariable tt (local_decl t.0) old)) t.1.1
+      of_image (R.seen.local_to c t.0) t.1.1
+      (λ i u. spells_suits MayStandBeforeVariable _ at old _ (local_decl t.0) _ _ _ h (one_form (λ f. Suits MayStandBeforeVariable (spelled old _ _ f)) (kept_suits MayStandBeforeVariable tt (local_decl t.0) old)) u)
+      (λ u. subst (Suits MayStandBeforeVariable) (sym u.2) tt)
   local_suits c at old h (inr t) =
       let q : FieldKey = t.0 in
       let row = own_field_row rows (scope_of c) old q t.1.0 in
-      let is = named (field_decl q) row.0 row.1 in
-      let of = class_named q.class is.0 in
-      let new = name_is (field_decl q) q.name is.1 in
-      spells_suits MayStandBeforeVariable _ at old (field_to g q).name (field_decl q) _ _ h
-      (six_forms (λ f. Suits MayStandBeforeVariable (spelled old (field_to g q).name (class_to g q.class) f))
-      (renamed_suits MayStandBeforeVariable tt old (field_to g q).name (λ e. new)) (new, tt, tt) (new, tt, tt) (new, of.1, tt) (new, of.1, tt)
-      (on_outer MayStandBeforeVariable (λ n. tt) (λ o n. tt) old (field_to g q).name (class_to g q.class) new of)) t.1.1
+      let is = named.field q row.0 row.1 in
+      let of = is.0 in
+      let new = is.1 in
+      spells_suits MayStandBeforeVariable _ at old (images.field_to q).name (field_decl q) _ _ _ h
+      (six_forms (λ f. Suits MayStandBeforeVariable (spelled old (images.field_to q).name (images.field_to q).class f))
+      (renamed_suits MayStandBeforeVariable tt old (images.field_to q).name (λ e. new)) (new, tt, tt) (new, tt, tt) (new, of.1, tt) (new, of.1, tt)
+      (on_outer MayStandBeforeVariable (λ n. tt) (λ o n. tt) old (images.field_to q).name (images.field_to q).class new of)) t.1.1
 
-  class_suits : (c : Context) (r : Role) (at : ℕ) (old : List ℕ) (h : Choice) → ClassSpells begins rows g c r at old h → Suits MayStandBeforeVariable h
+  class_suits : (c : Context) (r : Role) (at : ℕ) (old : List ℕ) (h : Choice) → ClassChoice begins rows R c r at old h → Suits MayStandBeforeVariable h
   class_suits c left at old h t =
       let row = keys_row rows _ (class_decl t.0) t.2 in
-      spells_suits MayStandBeforeVariable _ at old (class_to g t.0).name (class_decl t.0) _ _ h
-      (class_in_front MayStandBeforeVariable tt tt (λ n. tt) old (class_to g t.0) (class_named t.0 (named (class_decl t.0) row.0 row.1))) t.5
+      spells_suits MayStandBeforeVariable _ at old (images.class_to t.0).name (class_decl t.0) _ _ _ h
+      (class_in_front MayStandBeforeVariable tt tt (λ n. tt) old (images.class_to t.0) (named.class t.0 row.0 row.1)) t.5
   class_suits c value at old h t = absurd t
   class_suits c statement at old h t = absurd t
 
-  super_field_suits : (c : Context) (at : ℕ) (old : List ℕ) (h : Choice) → SuperFieldSpells begins rows g c at old h → Suits MayStandBeforeVariable h
+  super_field_suits : (c : Context) (at : ℕ) (old : List ℕ) (h : Choice) → SuperFieldChoice begins rows R c at old h → Suits MayStandBeforeVariable h
   super_field_suits c at old h t =
       let q : FieldKey = t.0 in
       let found = found_in (IsSuperclass rows (scope_of c).class) (λ k f. FindsFieldIn rows (scope_of c) k old f) (field_decl q) t.1 in
       let row = keys_row rows _ (field_decl q) found.2 in
-      let is = named (field_decl q) row.0 row.1 in
-      let of = class_named q.class is.0 in
-      let new = name_is (field_decl q) q.name is.1 in
-      spells_suits MayStandBeforeVariable _ at old (field_to g q).name (field_decl q) _ _ h
-      (two_forms (λ f. Suits MayStandBeforeVariable (spelled old (field_to g q).name (class_to g q.class) f)) OnCastThis
-      (renamed_suits MayStandBeforeVariable tt old (field_to g q).name (λ e. new)) (new, of.1, tt)) t.2
+      let is = named.field q row.0 row.1 in
+      let of = is.0 in
+      let new = is.1 in
+      spells_suits MayStandBeforeVariable _ at old (images.field_to q).name (field_decl q) _ _ _ h
+      (two_forms (λ f. Suits MayStandBeforeVariable (spelled old (images.field_to q).name (images.field_to q).class f)) OnCastThis
+      (renamed_suits MayStandBeforeVariable tt old (images.field_to q).name (λ e. new)) (new, of.1, tt)) t.2
 
   -- ---- behind a dot
 
@@ -260,71 +254,71 @@ module _ {A : Type 0} (begins : A → ℕ → ℕ) (rows : List Row) (g : Renami
       three_forms (λ f. Suits (MayStandFor e) (spelled old new k f)) (renamed_suits (MayStandFor e) tt old new (λ q. n)) (n, h.1, path)
       (on_outer (MayStandFor e) (λ m. path) (λ o m. path) old new k n h)
 
-  field_suits : (c : Context) (at : ℕ) (e : tree.Exp A) (old : List ℕ) (h : Choice) → FieldSpells begins rows g c at e old h → Suits (MayStandFor e) h
+  field_suits : (c : Context) (at : ℕ) (e : tree.Exp A) (old : List ℕ) (h : Choice) → FieldChoice begins rows R c at e old h → Suits (MayStandFor e) h
   field_suits c at e old h t =
       let q : FieldKey = t.0 in
       let found = found_in (On (λ k. IsClassName rows c e k) (λ t. HasType rows c e t)) (λ k f. FindsFieldIn rows (scope_of c) k old f) (field_decl q) t.1 in
       let row = keys_row rows _ (field_decl q) found.2 in
-      let is = named (field_decl q) row.0 row.1 in
-      let of = class_named q.class is.0 in
-      let new = name_is (field_decl q) q.name is.1 in
+      let is = named.field q row.0 row.1 in
+      let of = is.0 in
+      let new = is.1 in
       elim t.2 [
-        | inl x ↦ spells_suits (MayStandFor e) _ at old (field_to g q).name (field_decl q) _ _ h (through_class e old (field_to g q).name (class_to g q.class) new of (class_path rows c e x.0 x.1)) x.2.2
-        | inr x ↦ spells_suits (MayStandFor e) _ at old (field_to g q).name (field_decl q) _ _ h (on_value e old (field_to g q).name (class_to g q.class) new of (typed_cast rows c e x.1.0 x.1.1)) x.1.2
+        | inl x ↦ spells_suits (MayStandFor e) _ at old (images.field_to q).name (field_decl q) _ _ _ h (through_class e old (images.field_to q).name (images.field_to q).class new of (class_path rows c e x.0 x.1)) x.2.2
+        | inr x ↦ spells_suits (MayStandFor e) _ at old (images.field_to q).name (field_decl q) _ _ _ h (on_value e old (images.field_to q).name (images.field_to q).class new of (typed_cast rows c e x.1.0 x.1.1)) x.1.2
       ]
 
-  member_class_suits : (c : Context) (r : Role) (at : ℕ) (e : tree.Exp A) (old : List ℕ) (h : Choice) → MemberClassSpells begins rows g c r at e old h → Suits (MayStandFor e) h
+  member_class_suits : (c : Context) (r : Role) (at : ℕ) (e : tree.Exp A) (old : List ℕ) (h : Choice) → MemberClassChoice begins rows R c r at e old h → Suits (MayStandFor e) h
   member_class_suits c left at e old h t =
       let row = keys_row rows _ (class_decl t.1) t.4 in
       let path = class_path rows c e t.0 t.2 in
-      spells_suits (MayStandFor e) _ at old (class_to g t.1).name (class_decl t.1) _ _ h
-      (class_in_front (MayStandFor e) tt path (λ n. path) old (class_to g t.1) (class_named t.1 (named (class_decl t.1) row.0 row.1))) t.9
+      spells_suits (MayStandFor e) _ at old (images.class_to t.1).name (class_decl t.1) _ _ _ h
+      (class_in_front (MayStandFor e) tt path (λ n. path) old (images.class_to t.1) (named.class t.1 row.0 row.1)) t.9
   member_class_suits c value at e old h t = absurd t
   member_class_suits c statement at e old h t = absurd t
 
   -- ---- calls
 
-  simple_call_suits : (c : Context) (at : ℕ) (old : List ℕ) (args : tree.Exps A) (h : Choice) → SimpleCallSpells begins rows g c at old args h → Suits MayStandBeforeMethod h
+  simple_call_suits : (c : Context) (at : ℕ) (old : List ℕ) (args : tree.Exps A) (h : Choice) → SimpleCallChoice begins rows R c at old args h → Suits MayStandBeforeMethod h
   unfolding TargetFinds
   simple_call_suits c at old args h t =
       let q : MethodKey = t.0 in
       let found = found_for (λ ts. HaveTypes rows c args ts) (λ ts f. FindsMethodNamed rows (scope_of c) old ts f) (method_decl q) t.2 in
       let row = keys_row rows _ (method_decl q) found.2 in
-      let is = named (method_decl q) row.0 row.1 in
-      let of = class_named q.class is.0 in
-      let new = name_is (method_decl q) q.name is.1 in
-      spells_suits MayStandBeforeMethod _ at old (method_to g q).name (method_decl q) _ _ h
-      (four_forms (λ f. Suits MayStandBeforeMethod (spelled old (method_to g q).name (class_to g q.class) f))
-      (renamed_suits MayStandBeforeMethod tt old (method_to g q).name (λ e. new)) (new, tt, tt) (new, of.1, tt)
-      (on_outer MayStandBeforeMethod (λ n. tt) (λ o n. tt) old (method_to g q).name (class_to g q.class) new of)) t.4
+      let is = named.method q row.0 row.1 in
+      let of = is.0 in
+      let new = is.1 in
+      spells_suits MayStandBeforeMethod _ at old (images.method_to q).name (method_decl q) _ _ _ h
+      (four_forms (λ f. Suits MayStandBeforeMethod (spelled old (images.method_to q).name (images.method_to q).class f))
+      (renamed_suits MayStandBeforeMethod tt old (images.method_to q).name (λ e. new)) (new, tt, tt) (new, of.1, tt)
+      (on_outer MayStandBeforeMethod (λ n. tt) (λ o n. tt) old (images.method_to q).name (images.method_to q).class new of)) t.4
 
-  call_suits : (c : Context) (at : ℕ) (e : tree.Exp A) (old : List ℕ) (args : tree.Exps A) (h : Choice) → CallSpells begins rows g c at e old args h → Suits (MayStandFor e) h
+  call_suits : (c : Context) (at : ℕ) (e : tree.Exp A) (old : List ℕ) (args : tree.Exps A) (h : Choice) → CallChoice begins rows R c at e old args h → Suits (MayStandFor e) h
   unfolding TargetFinds
   call_suits c at e old args h t =
       let q : MethodKey = t.0 in
       let found = found_in (On (λ k. IsClassName rows c e k) (λ t. HasType rows c e t)) (λ k. FindsFor (λ ts. HaveTypes rows c args ts) (λ ts f. FindsMethodOf rows (scope_of c) k old ts f)) (method_decl q) t.2 in
       let inner = found_for (λ ts. HaveTypes rows c args ts) (λ ts f. FindsMethodOf rows (scope_of c) found.0 old ts f) (method_decl q) found.2 in
       let row = keys_row rows _ (method_decl q) inner.2 in
-      let is = named (method_decl q) row.0 row.1 in
-      let of = class_named q.class is.0 in
-      let new = name_is (method_decl q) q.name is.1 in
+      let is = named.method q row.0 row.1 in
+      let of = is.0 in
+      let new = is.1 in
       elim t.4 [
-        | inl x ↦ spells_suits (MayStandFor e) _ at old (method_to g q).name (method_decl q) _ _ h (through_class e old (method_to g q).name (class_to g q.class) new of (class_path rows c e x.0 x.1)) x.2.2
-        | inr x ↦ spells_suits (MayStandFor e) _ at old (method_to g q).name (method_decl q) _ _ h (on_value e old (method_to g q).name (class_to g q.class) new of (typed_cast rows c e x.1.0 x.1.1)) x.1.2
+        | inl x ↦ spells_suits (MayStandFor e) _ at old (images.method_to q).name (method_decl q) _ _ _ h (through_class e old (images.method_to q).name (images.method_to q).class new of (class_path rows c e x.0 x.1)) x.2.2
+        | inr x ↦ spells_suits (MayStandFor e) _ at old (images.method_to q).name (method_decl q) _ _ _ h (on_value e old (images.method_to q).name (images.method_to q).class new of (typed_cast rows c e x.1.0 x.1.1)) x.1.2
       ]
 
-  super_call_suits : (c : Context) (at : ℕ) (old : List ℕ) (args : tree.Exps A) (h : Choice) → SuperCallSpells begins rows g c at old args h → Suits MayStandAlone h
+  super_call_suits : (c : Context) (at : ℕ) (old : List ℕ) (args : tree.Exps A) (h : Choice) → SuperCallChoice begins rows R c at old args h → Suits MayStandAlone h
   super_call_suits c at old args h t =
       let q : MethodKey = t.0 in
       let found = found_in (IsSuperclass rows (scope_of c).class) (λ k. FindsFor (λ ts. HaveTypes rows c args ts) (λ ts f. FindsMethodOf rows (scope_of c) k old ts f)) (method_decl q) t.2 in
       let inner = found_for (λ ts. HaveTypes rows c args ts) (λ ts f. FindsMethodOf rows (scope_of c) found.0 old ts f) (method_decl q) found.2 in
       let row = keys_row rows _ (method_decl q) inner.2 in
-      let is = named (method_decl q) row.0 row.1 in
-      let new = name_is (method_decl q) q.name is.1 in
-      spells_suits MayStandAlone _ at old (method_to g q).name (method_decl q) _ _ h
-      (one_form (λ f. Suits MayStandAlone (spelled old (method_to g q).name (class_to g q.class) f)) (renamed_suits MayStandAlone tt old (method_to g q).name (λ e. new))) t.4
+      let is = named.method q row.0 row.1 in
+      let new = is.1 in
+      spells_suits MayStandAlone _ at old (images.method_to q).name (method_decl q) _ _ _ h
+      (one_form (λ f. Suits MayStandAlone (spelled old (images.method_to q).name (images.method_to q).class f)) (renamed_suits MayStandAlone tt old (images.method_to q).name (λ e. new))) t.4
 
-  exp_suits : (c : Context) (r : Role) (base : ℕ) (e : tree.Exp A) (h : Choice) → ExpSpells begins rows g c r base e h → SuitsExp e h
+  exp_suits : (c : Context) (r : Role) (base : ℕ) (e : tree.Exp A) (h : Choice) → ExpChoice begins rows R c r base e h → SuitsExp e h
   exp_suits c r base (tree.name m w) h (inl t) = local_suits c _ w.text h t
   exp_suits c r base (tree.name m w) h (inr t) = class_suits c r _ w.text h t
   exp_suits c r base (tree.field m e w) h (inl t) = field_suits c _ e w.text h t
@@ -359,17 +353,17 @@ module _ {A : Type 0} (begins : A → ℕ → ℕ) (rows : List Row) (g : Renami
       subst (λ x. Suits MayStandBeforeType (spelled old k.name k x)) p (h.1, o.0, o.1)
   class_forms old k h (suc (suc (suc n))) f q = absurd cc
 
-  type_suits : (c : Context) (base : ℕ) (t : tree.TypeName A) (h : Choice) → TypeSpells begins rows g c base t h → Suits MayStandBeforeType h
+  type_suits : (c : Context) (base : ℕ) (t : tree.TypeName A) (h : Choice) → TypeChoice begins rows R c base t h → Suits MayStandBeforeType h
   type_suits c base (tree.int m) h t = absurd t
   type_suits c base (tree.boolean m) h t = absurd t
   type_suits c base (tree.named m None w) h t =
       let row = keys_row rows _ (class_decl t.0) t.1 in
-      spells_suits MayStandBeforeType _ _ w.text (class_to g t.0).name (class_decl t.0) _ _ h (class_forms w.text (class_to g t.0) (class_named t.0 (named (class_decl t.0) row.0 row.1))) t.2
+      spells_suits MayStandBeforeType _ _ w.text (images.class_to t.0).name (class_decl t.0) _ _ _ h (class_forms w.text (images.class_to t.0) (named.class t.0 row.0 row.1)) t.2
   type_suits c base (tree.named m (Some v) w) h t =
       let row = keys_row rows _ (class_decl t.1) t.3 in
-      spells_suits MayStandBeforeType _ _ w.text (class_to g t.1).name (class_decl t.1) _ _ h (class_forms w.text (class_to g t.1) (class_named t.1 (named (class_decl t.1) row.0 row.1))) t.4
+      spells_suits MayStandBeforeType _ _ w.text (images.class_to t.1).name (class_decl t.1) _ _ _ h (class_forms w.text (images.class_to t.1) (named.class t.1 row.0 row.1)) t.4
 
-  qualifier_suits : (c : Context) (base : ℕ) (t : tree.TypeName A) (h : Choice) → QualifierSpells begins rows g c base t h → Suits MayStandAlone h
+  qualifier_suits : (c : Context) (base : ℕ) (t : tree.TypeName A) (h : Choice) → QualifierChoice begins rows R c base t h → Suits MayStandAlone h
   qualifier_suits c base (tree.int m) h t = absurd t
   qualifier_suits c base (tree.boolean m) h t = absurd t
   qualifier_suits c base (tree.named m None w) h t = absurd t
@@ -382,19 +376,19 @@ module _ {A : Type 0} (begins : A → ℕ → ℕ) (rows : List Row) (g : Renami
       one_same d e q = cc
   top_row name k (inr t) = absurd (nothing_apart (class_decl k) t.1)
 
-  parent_suits : (outer : Option (List ℕ)) (base : ℕ) (t : tree.TypeName A) (h : Choice) → ParentSpells begins rows g outer base t h → Suits MayStandBeforeType h
+  parent_suits : (outer : Option (List ℕ)) (base : ℕ) (t : tree.TypeName A) (h : Choice) → ParentChoice begins rows R outer base t h → Suits MayStandBeforeType h
   parent_suits (Some outer) base t h k = type_suits (plain (head (top_key outer)) false) base t h k
   parent_suits None base (tree.named m None w) h k = left_suits MayStandBeforeType tt _ w.text k.0 _ _ h (top_row w.text k.0 k.1) k.2
   parent_suits None base (tree.named m (Some v) w) h k = absurd k
   parent_suits None base (tree.int m) h k = absurd k
   parent_suits None base (tree.boolean m) h k = absurd k
 
-  parent_qualifier_suits : (outer : Option (List ℕ)) (base : ℕ) (t : tree.TypeName A) (h : Choice) → ParentQualifierSpells begins rows g outer base t h → Suits MayStandAlone h
+  parent_qualifier_suits : (outer : Option (List ℕ)) (base : ℕ) (t : tree.TypeName A) (h : Choice) → ParentQualifierChoice begins rows R outer base t h → Suits MayStandAlone h
   parent_qualifier_suits (Some outer) base t h k = qualifier_suits (plain (head (top_key outer)) false) base t h k
   parent_qualifier_suits None base t h k = absurd k
 
-  pub spelling_suits : (super_at : Context → ℕ) → AreSuitable (spelling begins rows g super_at)
-  spelling_suits super_at = record {
+  pub choosing_suits : (super_at : Context → ℕ) → AreSuitable (choosing begins rows R super_at)
+  choosing_suits super_at = record {
     expression = exp_suits;
     qualifier = qualifier_suits;
     type = type_suits;
@@ -402,8 +396,44 @@ module _ {A : Type 0} (begins : A → ℕ → ℕ) (rows : List Row) (g : Renami
     parent = parent_suits;
     declared = λ d w h k. subst (Suits MayStandAlone) (sym k) (kept_suits MayStandAlone tt d w.text);
     one_name = λ k v w a b e p q.
-        ap (λ h. text_of h v.text) p ∙ (λ i. text_of (renamed (e i) (name_to g (class_decl k) (e i))) (e i)) ∙ sym (ap (λ h. text_of h w.text) q);
+        ap (λ h. text_of h v.text) p ∙ (λ i. text_of (renamed (e i) (images.name_to (class_decl k) (e i))) (e i)) ∙ sym (ap (λ h. text_of h w.text) q);
   }
+
+-- ---- a rename
+
+module _ (rows : List Row) (g : Renaming) (new_is : IsName g.name) (named : AreNamed rows) where
+  name_is : (d : Decl) (old : List ℕ) → IsName old → IsName (name_to g d old)
+  name_is d old h = by (is_renamed g d)
+    where
+      by : (b : Bool) → IsName (if b then g.name else old)
+      by true = new_is
+      by false = h
+
+  class_named : (k : ClassKey) → IsNamedClass k → IsNamedClass (class_to g k)
+  class_named k h = (outer k.outer h.0, name_is (class_decl k) k.name h.1)
+    where
+      outer : (o : Option (List ℕ)) → IsOuterName o → IsOuterName (outer_to g o)
+      outer None n = tt
+      outer (Some o) n = name_is (class_decl (top_key o)) o n
+
+  -- what isn't renamed keeps its text
+  declared_named : (d : Decl) (old : List ℕ) → same_name old (name_to g d old) ≡ false → IsName (name_to g d old)
+  declared_named d old = by (is_renamed g d)
+    where
+      by : (b : Bool) → same_name old (if b then g.name else old) ≡ false → IsName (if b then g.name else old)
+      by true e = new_is
+      by false e = absurd (both_ways (same_name old old) e ((bytes_decides old old).1 refl))
+
+  pub rename_named : AreNamedImages rows (images_of rows g)
+  rename_named = record {
+    class = λ k j row. class_named k (named (class_decl k) j row);
+    field = λ k j row. (let is = named (field_decl k) j row in (class_named k.class is.0, name_is (field_decl k) k.name is.1));
+    method = λ k j row. (let is = named (method_decl k) j row in (class_named k.class is.0, name_is (method_decl k) k.name is.1));
+    declared = declared_named;
+  }
+
+pub spelling_suits : {A : Type 0} (begins : A → ℕ → ℕ) (rows : List Row) (g : Renaming) → IsName g.name → AreNamed rows → (super_at : Context → ℕ) → AreSuitable (spelling begins rows g super_at)
+spelling_suits begins rows g new_is named super_at = choosing_suits begins rows (region_of rows g) (rename_named rows g new_is named) super_at
 
 -- The text of a file that is renamed reads as its new tree.
 pub renamed_texts_read : (A : Type 0) → RenamedTextsRead A

@@ -4,6 +4,7 @@ pub mod Images
 pub mod MethodIndex
 pub mod DeclSets
 pub mod ImageView
+pub mod Regions
 pub mod Words
 pub mod Spelling
 pub mod Clashes
@@ -13,4 +14,5 @@ pub mod Keeping
 pub mod RenameLaws
 pub mod OneLocal
 pub mod TextLaws
+pub mod NamedImages
 pub mod Standing

@@ -12,7 +12,8 @@
 //! rows, from scratch, to the image of what it was bound to (`references_are_kept`).
 //!
 //! Definitions: `Targets` (what an identifier declares or is bound to), `Families` (what is renamed
-//! with it), `Images`, `Spelling` (how each reference is asked in the new program, and the first
+//! with it), `Images`, `Regions` (the same for any refactoring, of which a rename is a case: images of
+//! keys, what is seen from a place, the types that expressions have now), `Words` and `Spelling` (how each reference is asked in the new program, and the first
 //! spelling that binds to the image: the `jr_rewrite: Choosing` of a rename), `Standing` (places of
 //! the new program beside those of the old one), `Keeping`, `Refusals`, `Renames` (the order of
 //! refusals; what is planned).

@@ -1,5 +1,5 @@
 -- A rewritten expression is shaped where the old one is.
-use Rattle.std.proofs.Common.{◌≡◌, inl, inr, suc, ℕ, ◌≤◌, ◌<◌, Bool, false, Option, Some, None, refl, sym, ap, ◌∙◌, subst, arith}
+use Rattle.std.proofs.Common.{◌≡◌, inl, inr, suc, ℕ, ◌≤◌, Bool, false, Option, Some, None, refl, sym, ap, ◌∙◌, subst, arith}
 use Rattle.jr_text.specs.declared.spans.Span.{Span}
 use Rattle.jr_ast.specs.declared.operators.BinOp.{BinOp}
 use Rattle.jr_ast.specs.declared.operators.BinOp.TheVariants.{Or, And, Eq, Ne, Lt, Gt, Le, Ge, Add, Sub, Mul, Div, Rem}

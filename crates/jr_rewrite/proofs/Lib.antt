@@ -1,9 +1,10 @@
--- By steps over the tokens from left to right (`Steps`: stay, cast, swap, close).
+-- By steps over the tokens from left to right (`Steps`: stay, cast, swap, close, a spot's run).
 -- `ExpressionSteps`, `StatementSteps`, `MemberSteps` flatten a rewriting; `Woven`, `Weaving` turn
 -- steps into lexemes of the new text, where what stands directly in front of a change stays what it
 -- is (`jr_lex: Yields`); `Parts`, `Cuts`, `Tiles`, `Skipping`, `Stepping`, `WordSteps`, `NewTokens`
 -- serve these. `ExpressionShapes`, `MemberShapes` keep the side conditions of the grammar.
 -- `Rewriting` has the laws. `Entries`, `Putting`, `Pushing`: the code's changes and edits.
+-- `SpotWeaving`, `Moved`: what spots need of texts, and a piece that moves.
 -- `BareForms`, `Unbared`, `UnbaredMembers`: what stands along a tree stands along each that is equal
 -- but for marks.
 pub mod Parts
@@ -15,6 +16,7 @@ pub mod Weaving
 pub mod Skipping
 pub mod Woven
 pub mod SpotWeaving
+pub mod Moved
 pub mod Entries
 pub mod Stepping
 pub mod WordSteps

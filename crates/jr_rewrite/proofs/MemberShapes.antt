@@ -13,10 +13,10 @@ use Rattle.jr_table.specs.Binding as role
 use Rattle.jr_table.specs.Context.{Context, local_of, in_own, after, locals_in}
 use Rattle.jr_table.specs.HeadRules.{plain as no_locals, with_parameters, is_static_member}
 use Rattle.jr_table.specs.DeclaredItems.{DeclaredItem, class_key}
-use Rattle.jr_rewrite.specs.Respellings.{Choice, text_of}
+use Rattle.jr_rewrite.specs.Respellings.{text_of}
 use Rattle.jr_rewrite.specs.Rewritten.{Rewritten}
 use Rattle.jr_rewrite.specs.Suitable.{AreSuitable}
-use Rattle.jr_rewrite.specs.Spots.{level, a_statement, Spotted, nowhere, spotted, OrList, OrMembers}
+use Rattle.jr_rewrite.specs.Spots.{level, a_statement, Spotted, nowhere, spotted, OrList, OrMembers, OrClass}
 use Rattle.jr_rewrite.specs.Rewrites.{declared_by, Choosing, begins, TransformsMaybe, TransformsSuper, TransformsStmt, TransformsElse, TransformsStmts, RewritesParent, TransformsClass, TransformsMembers, TransformsOne, TransformsClasses, TransformsUnit, TransformsList}
 use Rattle.jr_rewrite.specs.Woven.{Weaving}
 use Rattle.jr_rewrite.specs.SuitableSpots.{BecomesName, SpotsSuit}
@@ -33,6 +33,11 @@ or_members : {A : Type 0} (tells : A → ℕ → Span) (S : Spotted A) (C : Choo
     → MembersShaped nested new o.tree
 or_members tells nowhere C W suit nested name new base of xs o w renames h go = go w
 or_members tells (spotted s) C W suit nested name new base of xs o w renames h go = elim w [ inl x ↦ go x | inr x ↦ suit.members_shaped base of xs o x nested name new renames h ]
+
+or_class : {A : Type 0} (tells : A → ℕ → Span) (S : Spotted A) (C : Choosing A) (W : Weaving) → SpotsSuit tells C W S → {N : Type 0} (nested : Bool) (base : ℕ) (outer : Option (List ℕ))
+    (x : syntax.Class A) (o : Rewritten (syntax.Class A)) → OrClass S base outer x o N → ClassShaped nested x → (N → ClassShaped nested o.tree) → ClassShaped nested o.tree
+or_class tells nowhere C W suit nested base outer x o w h go = go w
+or_class tells (spotted s) C W suit nested base outer x o w h go = elim w [ inl y ↦ go y | inr y ↦ suit.whole_shaped base outer x o y nested h ]
 
 module _ {A : Type 0} (tells : A → ℕ → Span) (C : Choosing A) (S : Spotted A) where
   -- ---- statements
@@ -125,6 +130,10 @@ module _ {A : Type 0} (tells : A → ℕ → Span) (C : Choosing A) (S : Spotted
     parent_shaped outer base (Some t) o w h = subst (λ z. IsParent z.tree) (sym w.2) (type_named tells C (C.parent_qualifier outer base t) (C.parent outer base t) base t w.0 w.1 h)
 
     module _ (declarations : List DeclaredItem) where
+      in_class : {N : Type 0} (nested : Bool) (base : ℕ) (outer : Option (List ℕ)) (x : syntax.Class A) (o : Rewritten (syntax.Class A)) → OrClass S base outer x o N → ClassShaped nested x
+          → (N → ClassShaped nested o.tree) → ClassShaped nested o.tree
+      in_class nested base outer x o w h go = or_class tells S C W suit nested base outer x o w h go
+
       in_members : {N : Type 0} (nested : Bool) (name new : List ℕ) (base : ℕ) (of : ClassKey) (xs : syntax.Members A) (o : Rewritten (syntax.Members A)) → OrMembers S base of xs o N
           → BecomesName C of name new → MembersShaped nested name xs → (N → MembersShaped nested new o.tree) → MembersShaped nested new o.tree
       in_members nested name new base of xs o w renames h go = or_members tells S C W suit nested name new base of xs o w renames h go
@@ -156,7 +165,7 @@ module _ {A : Type 0} (tells : A → ℕ → Span) (C : Choosing A) (S : Spotted
         one_shaped : (nested : Bool) (name new : List ℕ) → (base : ℕ) (of : ClassKey) → BecomesName C of name new → (x : syntax.Member A) (o : Rewritten (syntax.Member A))
             → TransformsOne tells C S declarations base of x o → MemberShaped nested name x → MemberShaped nested new o.tree
         one_shaped nested name new base of renames (syntax.inner m c) o w h =
-            subst (λ z. MemberShaped nested new z.tree) (sym w.2) (h.0, class_shaped true (tells m base).from (Some of.name) c w.0 w.1 h.1)
+            subst (λ z. MemberShaped nested new z.tree) (sym w.2) (h.0, in_class true (tells m base).from (Some of.name) c w.0 w.1 h.1 (λ y. class_shaped true (tells m base).from (Some of.name) c w.0 y h.1))
         one_shaped nested name new base of renames (syntax.field m mods t v init) o w h =
             let r = w.2 in
             subst (λ z. MemberShaped nested new z.tree) (sym r.6) (maybe_shaped (no_locals w.0 (is_static_member (begins tells C) mods)) (tells m base).from init r.2 r.5 h)
@@ -175,7 +184,7 @@ module _ {A : Type 0} (tells : A → ℕ → Span) (C : Choosing A) (S : Spotted
 
       classes_shaped : (base : ℕ) (xs : List (syntax.Class A)) (o : Rewritten (List (syntax.Class A))) → TransformsClasses tells C S declarations base xs o → ClassesShaped xs → ClassesShaped o.tree
       classes_shaped base [] o w h = subst (λ z. ClassesShaped z.tree) (sym w) tt
-      classes_shaped base (x ∷ xs) o w h = subst (λ z. ClassesShaped z.tree) (sym w.4) (class_shaped false base None x w.0 w.2 h.0, classes_shaped base xs w.1 w.3 h.1)
+      classes_shaped base (x ∷ xs) o w h = subst (λ z. ClassesShaped z.tree) (sym w.4) (in_class false base None x w.0 w.2 h.0 (λ y. class_shaped false base None x w.0 y h.0), classes_shaped base xs w.1 w.3 h.1)
 
       pub unit_shaped : (u : syntax.Unit A) (o : Rewritten (syntax.Unit A)) → TransformsUnit tells C S declarations u o → UnitShaped u → UnitShaped o.tree
       unit_shaped u o w h = subst (λ z. UnitShaped z.tree) (sym w.2) (classes_shaped (begins tells C u.mark 0) u.classes w.0 w.1 h)

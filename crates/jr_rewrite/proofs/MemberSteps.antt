@@ -22,7 +22,7 @@ use Rattle.jr_table.specs.DeclaredItems.{DeclaredItem, class_key}
 use Rattle.jr_rewrite.specs.Respellings.{Change}
 use Rattle.jr_rewrite.specs.Rewritten.{Rewritten}
 use Rattle.jr_rewrite.specs.Suitable.{AreSuitable}
-use Rattle.jr_rewrite.specs.Spots.{level, Spotted, nowhere, spotted, OrMembers}
+use Rattle.jr_rewrite.specs.Spots.{level, Spotted, nowhere, spotted, OrMembers, OrClass}
 use Rattle.jr_rewrite.specs.Rewrites.{declared_by, Choosing, begins, DeclaredOut, RewritesType, TransformsMaybe, RewritesParams, RewritesResult, TransformsSuper, TransformsMember, RewritesParent, TransformsClass, TransformsMembers, TransformsOne, TransformsClasses, TransformsUnit}
 use Rattle.jr_rewrite.specs.Woven.{Weaving}
 use Rattle.jr_rewrite.specs.SuitableSpots.{SpotsSuit}
@@ -60,7 +60,17 @@ module _ {A : Type 0} (tells : A → ℕ → Span) where
   or_members (spotted s) C W suit base of xs o ps w h go =
       elim w [ inl x ↦ go x | inr x ↦ list_woven ps o.changes (members_toks o.tree) (suit.members base of xs o ps x h) ]
 
+  or_class : (S : Spotted A) (C : Choosing A) (W : Weaving) → SpotsSuit tells C W S → {N : Type 0} (base : ℕ) (outer : Option (List ℕ)) (x : syntax.Class A) (o : Rewritten (syntax.Class A)) (ps : Tokens)
+      → OrClass S base outer x o N → Stands (spans_from tells base (class_layout x)) ps → (N → Stepped W true ps o.changes (class_toks o.tree)) → Stepped W true ps o.changes (class_toks o.tree)
+  or_class nowhere C W suit base outer x o ps w h go = go w
+  or_class (spotted s) C W suit base outer x o ps w h go =
+      elim w [ inl y ↦ go y | inr y ↦ list_woven ps o.changes (class_toks o.tree) (suit.whole base outer x o ps y h) ]
+
   module _ (C : Choosing A) (S : Spotted A) (W : Weaving) (fit : AreSuitable C) (suit : SpotsSuit tells C W S) where
+    in_class : {N : Type 0} (base : ℕ) (outer : Option (List ℕ)) (x : syntax.Class A) (o : Rewritten (syntax.Class A)) (ps : Tokens) → OrClass S base outer x o N
+        → Stands (spans_from tells base (class_layout x)) ps → (N → Stepped W true ps o.changes (class_toks o.tree)) → Stepped W true ps o.changes (class_toks o.tree)
+    in_class base outer x o ps w h go = or_class S C W suit base outer x o ps w h go
+
     in_members : {N : Type 0} (base : ℕ) (of : ClassKey) (xs : syntax.Members A) (o : Rewritten (syntax.Members A)) (ps : Tokens) → OrMembers S base of xs o N
         → Stands (spans_from tells base (members_layout xs)) ps → (N → Stepped W true ps o.changes (members_toks o.tree)) → Stepped W true ps o.changes (members_toks o.tree)
     in_members base of xs o ps w h go = or_members S C W suit base of xs o ps w h go
@@ -217,7 +227,7 @@ module _ {A : Type 0} (tells : A → ℕ → Span) where
             → Stands (spans_from tells base (member_layout x)) ps → Stepped W true ps o.changes (member_toks o.tree)
         one_steps base of (syntax.inner m c) o ps w h =
             subst (λ z. Stepped W true ps z.changes (member_toks z.tree)) (sym w.2)
-            (last_steps ps w.0.changes (class_toks w.0.tree) h.parts (λ qs g. class_steps (tells m base).from (Some of.name) c w.0 qs w.1 g))
+            (last_steps ps w.0.changes (class_toks w.0.tree) h.parts (λ qs g. in_class (tells m base).from (Some of.name) c w.0 qs w.1 g (λ y. class_steps (tells m base).from (Some of.name) c w.0 qs y g)))
         one_steps base of (syntax.field m mods t v init) o ps w h = plain_member_steps w.0 base (syntax.field m mods t v init) o ps w.2 h
         one_steps base of (syntax.method m mods t v params body) o ps w h = plain_member_steps w.0 base (syntax.method m mods t v params body) o ps w.2 h
         one_steps base of (syntax.constructor m mods v params args body) o ps w h = plain_member_steps w.0 base (syntax.constructor m mods v params args body) o ps w.2 h
@@ -227,7 +237,7 @@ module _ {A : Type 0} (tells : A → ℕ → Span) where
       classes_steps base [] o ps w h = subst (λ z. Stepped W true ps z.changes (classes_toks z.tree)) (sym w) (none_steps ps h)
       classes_steps base (x ∷ xs) o ps w h =
           subst (λ z. Stepped W true ps z.changes (classes_toks z.tree)) (sym w.4)
-          (both_steps ps w.0.changes w.1.changes (class_toks w.0.tree) (classes_toks w.1.tree) h (λ qs g. class_steps base None x w.0 qs w.2 g)
+          (both_steps ps w.0.changes w.1.changes (class_toks w.0.tree) (classes_toks w.1.tree) h (λ qs g. in_class base None x w.0 qs w.2 g (λ y. class_steps base None x w.0 qs y g))
           (λ qs g. last_steps qs w.1.changes (classes_toks w.1.tree) g (λ rs l. classes_steps base xs w.1 rs w.3 l)))
 
       pub unit_steps : (u : syntax.Unit A) (o : Rewritten (syntax.Unit A)) (ps : Tokens) → (tells u.mark 0).from ≡ 0 → TransformsUnit tells C S declarations u o

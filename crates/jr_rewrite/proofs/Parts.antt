@@ -14,7 +14,7 @@ use Rattle.jr_lex.specs.declared.items.Keyword.{Keyword}
 use Rattle.jr_lex.specs.declared.items.Keyword.TheVariants as keyword
 use Rattle.jr_lex.specs.declared.items.Symbol.{Symbol}
 use Rattle.jr_lex.specs.declared.items.Symbol.TheVariants as symbol
-use Rattle.jr_lex.specs.Characters.{is_digit, is_blank, is_word_start, is_word_part, first_passes, all_pass}
+use Rattle.jr_lex.specs.Characters.{is_digit, is_word_start, is_word_part, first_passes, all_pass}
 use Rattle.jr_lex.specs.Words.{IsIdentifier, keyword_text}
 use Rattle.jr_lex.specs.Symbols.{symbol_text}
 use Rattle.jr_lex.specs.Lexemes.{IsLexeme}

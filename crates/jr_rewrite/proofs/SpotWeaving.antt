@@ -1,15 +1,16 @@
 -- What spots need of texts: steps weave, one run behind the other weaves, a run is replaced by
 -- lexemes, and lexemes are put in front of a run.
-use Rattle.std.proofs.Common.{◌≡◌, ◌⊎◌, inl, inr, ℕ, ◌-◌, ◌≤◌, take, drop, ◌==◌, true, false, Bool, List, [], ◌∷◌, ◌++◌, length, Option, Some, None, refl, sym, ap, ◌∙◌, subst, arith}
+use Rattle.std.proofs.Common.{◌≡◌, ◌⊎◌, inl, inr, ℕ, ◌-◌, ◌≤◌, take, drop, ◌==◌, false, Bool, List, [], ◌∷◌, ◌++◌, length, Option, Some, None, refl, sym, ap, ◌∙◌, subst, arith}
 use Rattle.std.specs.Prelude.{slice_range}
 use Rattle.std.specs.Str.{IsUtf8, chars}
+use Rattle.std.proofs.lemmas.Bool.{both_ways}
 use Rattle.std.proofs.lemmas.List.{append_assoc, append-nil}
-use Rattle.std.proofs.lemmas.Str.{chars-append, IsCharBoundary-at_seam}
+use Rattle.std.proofs.lemmas.Str.{IsCharBoundary-at_seam}
 use Rattle.jr_text.specs.declared.spans.Span.{Span}
-use Rattle.jr_lex.specs.declared.items.Item.{Item}
 use Rattle.jr_lex.specs.declared.items.ItemKind.{ItemKind}
 use Rattle.jr_lex.specs.declared.items.ItemKind.TheVariants.{Token as TokenItem, Blank, Comment}
 use Rattle.jr_lex.specs.declared.items.TokenKind.{TokenKind}
+use Rattle.jr_lex.specs.Characters.{first_passes}
 use Rattle.jr_lex.specs.Lexemes.{IsLexeme}
 use Rattle.jr_lex.specs.Beside.{Piece, join_pieces, EndsBefore}
 use Rattle.jr_lex.specs.Near.{IsCut, NoNewDot, EndsLine}
@@ -17,19 +18,19 @@ use Rattle.jr_lex.specs.Seams.{Meets}
 use Rattle.jr_lex.proofs.ScanMeaning.{no_empty}
 use Rattle.jr_lex.proofs.OneLexeme.{lexeme_cut, comment_cut, cut_near}
 use Rattle.jr_lex.proofs.Yields.{near_run, same_line}
-use Rattle.jr_grammar.specs.Tokens.{Token, Placed, placed_of}
+use Rattle.jr_grammar.specs.Tokens.{Token, Placed}
 use Rattle.jr_grammar.specs.Stands.{Tokens, first_from, last_to, span_of}
 use Rattle.jr_rewrite.specs.Respellings.{Change}
 use Rattle.jr_rewrite.specs.Rewritten.{change}
 use Rattle.jr_splice.specs.Cutting.{chars_in, AreCutBefore, with_token, own_token, tokens_in}
 use Rattle.jr_splice.specs.Parts.{LastIs}
 use Rattle.jr_splice.proofs.Gluing.{Glued, glue, chars_before}
-use Rattle.jr_rewrite.specs.Woven.{Fronts, MayFront, YieldsAt, Tiled, join_changes, Woven, EndsHere, WovenFrom, Weaves}
+use Rattle.jr_rewrite.specs.Woven.{Fronts, MayFront, YieldsAt, join_changes, Woven, WovenFrom, Weaves}
 use Rattle.jr_rewrite.proofs.Tiles.{tiled_text}
 use Rattle.jr_rewrite.proofs.Weaving.{woven_glued, kept_glued}
-use Rattle.jr_rewrite.proofs.Steps.{Step, changes, news, olds, end_of, end_of_some, Stepped}
-use Rattle.jr_rewrite.proofs.Skipping.{Skipped, skip_run}
-use Rattle.jr_rewrite.proofs.Woven.{AtToken, to_token, on_token, begins_at, tiled_here, steps_weave}
+use Rattle.jr_rewrite.proofs.Steps.{changes, olds, end_of, end_of_some, Stepped}
+use Rattle.jr_rewrite.proofs.Skipping.{skip_run}
+use Rattle.jr_rewrite.proofs.Woven.{to_token, on_token, begins_at, tiled_here, steps_weave}
 
 -- ---- steps, and one run behind the other
 
@@ -78,11 +79,11 @@ more_tokens (Some t) us ts = refl
 -- Lexemes that are cut in front of one text are so in front of what takes its place, if it yields to
 -- the last of them.
 pub pieces_front : {F : Fronts} {at : ℕ} (ps : List Piece) (old text : List ℕ) (ts : List Token) → AreCutBefore ps old → YieldsAt F at old (chars text) → LastIs (MayFront F at) ps
-    → ((k : ItemKind) → EndsLine k old (chars text)) → Glued text ts → Glued (join_pieces ps ++ text) (tokens_in ps ++ ts)
+    → LastIs (λ k. k ≡ Comment → ⊥) ps → Glued text ts → Glued (join_pieces ps ++ text) (tokens_in ps ++ ts)
 pieces_front [] old text ts h y may line g = g
 pieces_front (p ∷ []) old text ts h y may line g =
     subst (λ t. Glued (t ++ text) (tokens_in (p ∷ []) ++ ts)) (sym (append-nil p.text))
-    (subst (Glued (p.text ++ text)) (sym (more_tokens (own_token p.kind p.text) [] ts)) (kept_glued p.kind p.text old text ts h.0 h.1 g (y.cut p.kind (chars p.text) may (line p.kind) h.1)))
+    (subst (Glued (p.text ++ text)) (sym (more_tokens (own_token p.kind p.text) [] ts)) (kept_glued p.kind p.text old text ts h.0 h.1 g (y.cut p.kind (chars p.text) may (λ comment ends. absurd (line comment)) h.1)))
 pieces_front (p ∷ q ∷ qs) old text ts h y may line g =
     let rest = pieces_front (q ∷ qs) old text ts h.2 y may line g in
     let more : List ℕ = chars_in (q ∷ qs) in
@@ -131,11 +132,11 @@ pieces_woven {F = F} bytes pre post pre' rest ps old cs ts e e' l u u' cut come 
 -- ---- a run is replaced
 
 module _ (F : Fronts) (bytes : List ℕ) where
-  -- Lexemes that are cut in front of what stands behind the run, and may come in front of it.
+  -- Lexemes that are cut in front of what stands behind the run, the last no comment, and that may come behind what stands in front of it.
   pub record MayReplace (run : Tokens) (ps : List Piece) : Type 0 where
     pub cut : (front rest : List ℕ) → bytes ≡ front ++ rest → length front ≡ last_to run → AreCutBefore ps (chars rest)
     pub last : LastIs (MayFront F (last_to run)) ps
-    pub goes_on : (front rest : List ℕ) → bytes ≡ front ++ rest → length front ≡ last_to run → (k : ItemKind) (other : List ℕ) → EndsLine k (chars rest) other
+    pub no_comment : LastIs (λ k. k ≡ Comment → ⊥) ps
     pub come : (at : ℕ) → at ≡ first_from run → MayCome F at ps
 
   pub replace_weaves : (p : Placed Span) (run : Tokens) (ps : List Piece) → MayReplace (p ∷ run) ps
@@ -149,7 +150,7 @@ module _ (F : Fronts) (bytes : List ℕ) where
       let rest_text = tiled_text F (length s.front) s.rest s.after s.tiled in
       let from : p.mark.from ≡ length pre' = begins_at bytes pre' post' p (run ++ more) t in
       let last : LastIs (MayFront F (length s.front)) ps = subst (λ n. LastIs (MayFront F n) ps) s.last may.last in
-      let g = pieces_front ps (chars s.rest) (join_pieces behind.pieces) us cut behind.yields last (λ k. may.goes_on s.front s.rest s.whole (sym s.last) k (chars (join_pieces behind.pieces))) (woven_glued behind) in
+      let g = pieces_front ps (chars s.rest) (join_pieces behind.pieces) us cut behind.yields last may.no_comment (woven_glued behind) in
       let put = pieces_woven bytes pre' post' s.front s.rest ps (chars s.rest) ds us t.whole s.whole s.beyond text rest_text cut (may.come (length pre') (sym from)) behind g in
       on_token bytes pre' post' p (run ++ more) t (change (span_of (p ∷ run)) (join_pieces ps) ∷ ds) (tokens_in ps ++ us)
       (subst (λ m. Woven F bytes pre' post' (change (record { from = p.mark.from; to = m }) (join_pieces ps) ∷ ds) (tokens_in ps ++ us)) (sym s.last)
@@ -182,3 +183,55 @@ module _ (F : Fronts) (bytes : List ℕ) where
       last_meets [] other h = tt
       last_meets (q ∷ []) other h = h other
       last_meets (q ∷ r ∷ qs) other h = last_meets (r ∷ qs) other h
+
+  -- ---- a run goes
+
+  -- What may stand in front of the run may stand in front of what comes behind it, which begins with no dot.
+  pub record MayGo (run : Tokens) : Type 0 where
+    pub fronts : (k : TokenKind) → F (first_from run) k → F (last_to run) k
+    pub ends : (front rest : List ℕ) → bytes ≡ front ++ rest → length front ≡ last_to run → (k : TokenKind) → F (first_from run) k → EndsBefore (TokenItem k) (chars rest)
+    pub no_dot : (front rest : List ℕ) → bytes ≡ front ++ rest → length front ≡ last_to run → first_passes (λ c. c == 46) (chars rest) ≡ false
+
+  gone_yields : (at to : ℕ) (old rest new : List ℕ) → ((k : TokenKind) → F at k → F to k) → ((k : TokenKind) → F at k → EndsBefore (TokenItem k) rest) → first_passes (λ c. c == 46) rest ≡ false
+      → YieldsAt F to rest new → YieldsAt F at old new
+  gone_yields at to old rest new fronts ends dot y = record { cut = by_kind; no_dot = λ is. absurd (both_ways (first_passes (λ c. c == 46) rest) dot (y.no_dot is)) }
+    where
+      no_comment : (k : TokenKind) → TokenItem k ≡ Comment → ⊥
+      no_comment k e = cc
+
+      by_kind : (k : ItemKind) (front : List ℕ) → MayFront F at k → EndsLine k old new → IsCut k front old → (k ≡ Blank) ⊎ IsCut k front new
+      by_kind (TokenItem k) front may line c =
+          y.cut (TokenItem k) front (fronts k may) (λ comment ends. absurd (no_comment k comment)) (lexeme_cut (TokenItem k) front rest c.taken.lexeme (ends k may))
+      by_kind Blank front may line c = inl refl
+      by_kind Comment front may line c = inr (comment_cut front old new line c)
+
+  gone_text : (at to : ℕ) (cs : List Change) (new : List ℕ) → join_changes to bytes cs ≡ new → join_changes at bytes (change (record { from = at; to = to }) [] ∷ cs) ≡ new
+  gone_text at to cs new e =
+      let no_wide : at - at ≡ 0 = omega arith in
+      let none : slice_range bytes at at ≡ [] = ap (λ n. take n (drop at bytes)) no_wide in
+      (λ i. (none i ++ []) ++ e i)
+
+  pub erase_weaves : (p : Placed Span) (run : Tokens) → MayGo (p ∷ run) → Weaves F bytes (p ∷ run) (change (span_of (p ∷ run)) [] ∷ []) [] (Some (last_to (p ∷ run)))
+  erase_weaves p run may more ds us w items pre post e tiled placed here =
+      (to_token items bytes pre post p (run ++ more) (change (span_of (p ∷ run)) [] ∷ ds) us e tiled placed (λ pre' post' t.
+      (let there = tiled_here bytes pre' post' p (run ++ more) t in
+      let s = skip_run (t.item ∷ t.items) bytes pre' post' p run more t.whole there t.placed in
+      let behind = w s.after s.front s.rest s.whole s.tiled s.placed s.last in
+      let text = tiled_text F (length pre') post' (t.item ∷ t.items) there in
+      let rest_text = tiled_text F (length s.front) s.rest s.after s.tiled in
+      let from : p.mark.from ≡ length pre' = begins_at bytes pre' post' p (run ++ more) t in
+      let new : List ℕ = join_pieces behind.pieces in
+      let yields : YieldsAt F p.mark.from (chars post') (chars new) =
+      gone_yields p.mark.from (last_to (p ∷ run)) (chars post') (chars s.rest) (chars new) may.fronts (may.ends s.front s.rest s.whole (sym s.last)) (may.no_dot s.front s.rest s.whole (sym s.last))
+      (subst (λ n. YieldsAt F n (chars s.rest) (chars new)) (sym s.last) behind.yields) in
+      let gone : Woven F bytes pre' post' (change (record { from = length pre'; to = length s.front }) [] ∷ ds) us = record {
+        pieces = behind.pieces;
+        fit = (omega arith, s.beyond, IsCharBoundary-at_seam bytes pre' post' t.whole text, IsCharBoundary-at_seam bytes s.front s.rest s.whole rest_text, behind.fit);
+        text_is = gone_text (length pre') (length s.front) ds new behind.text_is;
+        cut = behind.cut;
+        yields = subst (λ n. YieldsAt F n (chars post') (chars new)) from yields;
+        tokens_are = behind.tokens_are;
+      } in
+      on_token bytes pre' post' p (run ++ more) t (change (span_of (p ∷ run)) [] ∷ ds) us
+      (subst (λ m. Woven F bytes pre' post' (change (record { from = p.mark.from; to = m }) [] ∷ ds) us) (sym s.last)
+      (subst (λ n. Woven F bytes pre' post' (change (record { from = n; to = length s.front }) [] ∷ ds) us) (sym from) gone))))).woven

@@ -1,7 +1,7 @@
 -- What steps make of a text: at each place the bytes that are left become lexemes again.
 use Rattle.std.proofs.Common.{◌≡◌, ◌⊎◌, inl, inr, Option, Some, None, ℕ, suc, ◌+◌, ◌-◌, ◌≤◌, List, [], ◌∷◌, ◌++◌, length, take, drop, refl, sym, ap, ◌∙◌, subst, arith}
 use Rattle.std.specs.Prelude.{slice_range}
-use Rattle.std.specs.Str.{IsUtf8, IsCharBoundary, chars}
+use Rattle.std.specs.Str.{IsUtf8, chars}
 use Rattle.std.proofs.lemmas.List.{append_assoc, append-nil, length-append, drop_at}
 use Rattle.std.proofs.lemmas.Str.{chars-append, IsCharBoundary-at_seam}
 use Rattle.jr_lex.specs.declared.items.ItemKind.{ItemKind}

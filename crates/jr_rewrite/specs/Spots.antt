@@ -1,6 +1,6 @@
 -- Spots: where a refactoring rewrites a part of a tree in its own way. Within a spot parts are
 -- rewritten again by the same relations, perhaps by other choices.
-use Rattle.std.specs.Prelude.{◌⊎◌, ℕ, ◌≤◌}
+use Rattle.std.specs.Prelude.{◌⊎◌, ℕ, ◌≤◌, List, Option}
 use Rattle.jr_ast.specs.Tree as tree
 use Rattle.jr_ast.specs.StatementTree as statement
 use Rattle.jr_ast.specs.MemberTree as syntax
@@ -23,13 +23,15 @@ Takes a_target e = IsTarget e
 Takes a_statement e = IsStatementForm e
 
 -- what becomes of an expression of which so much is asked, which stands so where its parent begins
--- at base; of the rest of a list of statements, whose next local has a number; and of the rest of
--- the members of a class
+-- at base; of the rest of a list of statements, whose next local has a number; of the rest of the
+-- members of a class; and of a class, by the class around it, in front of whose last brace
+-- something is put
 pub record Spots (A : Type 0) : Type 1 where
   pub part : Asks → Context → Role → (base : ℕ) → tree.Exp A → Rewritten (tree.Exp A) → Type 0
   pub list : (next : ℕ) → Context → (base : ℕ) → statement.Stmts A
       → Rewritten (statement.Stmts A) → Type 0
   pub members : (base : ℕ) → ClassKey → syntax.Members A → Rewritten (syntax.Members A) → Type 0
+  pub whole : (base : ℕ) → Option (List ℕ) → syntax.Class A → Rewritten (syntax.Class A) → Type 0
 
 -- all is rewritten node by node, or there are spots
 pub data Spotted (A : Type 0) : Type 1 where
@@ -52,3 +54,8 @@ module _ {A : Type 0} where
       → Rewritten (syntax.Members A) → (ByNode : Type 0) → Type 0
   OrMembers nowhere base of xs o ByNode = ByNode
   OrMembers (spotted s) base of xs o ByNode = ByNode ⊎ s.members base of xs o
+
+  abbrev pub OrClass : Spotted A → (base : ℕ) → Option (List ℕ) → syntax.Class A
+      → Rewritten (syntax.Class A) → (ByNode : Type 0) → Type 0
+  OrClass nowhere base outer x o ByNode = ByNode
+  OrClass (spotted s) base outer x o ByNode = ByNode ⊎ s.whole base outer x o

@@ -7,15 +7,15 @@ use Rattle.jr_ast.specs.StatementTree as statement
 use Rattle.jr_ast.specs.MemberTree as syntax
 use Rattle.jr_grammar.specs.Spelling.{toks}
 use Rattle.jr_grammar.specs.StatementSpelling.{stmts_toks}
-use Rattle.jr_grammar.specs.MemberSpelling.{members_toks}
+use Rattle.jr_grammar.specs.MemberSpelling.{class_toks, members_toks}
 use Rattle.jr_grammar.specs.Layout.{spans_from}
 use Rattle.jr_grammar.specs.ExpressionLayout.{exp_layout}
 use Rattle.jr_grammar.specs.StatementLayout.{stmts_layout}
-use Rattle.jr_grammar.specs.MemberLayout.{members_layout}
+use Rattle.jr_grammar.specs.MemberLayout.{class_layout, members_layout}
 use Rattle.jr_grammar.specs.Stands.{Tokens, last_to, Stands}
 use Rattle.jr_grammar.specs.Shape.{ShapedBehind}
 use Rattle.jr_grammar.specs.StatementShape.{StmtsShaped}
-use Rattle.jr_grammar.specs.MemberShape.{MembersShaped}
+use Rattle.jr_grammar.specs.MemberShape.{ClassShaped, MembersShaped}
 use Rattle.jr_table.specs.Keys.{ClassKey}
 use Rattle.jr_table.specs.Decls.{class_decl}
 use Rattle.jr_table.specs.Binding.{Role}
@@ -60,6 +60,13 @@ pub record AreSuitableSpots {A : Type 0} (tells : A → ℕ → Span) (C : Choos
       (o : Rewritten (syntax.Members A)) → s.members base of xs o
       → (nested : Bool) (name new : List ℕ) → BecomesName C of name new
       → MembersShaped nested name xs → MembersShaped nested new o.tree
+  -- a class
+  pub whole : (base : ℕ) (outer : Option (List ℕ)) (x : syntax.Class A)
+      (o : Rewritten (syntax.Class A)) (ps : Tokens) → s.whole base outer x o
+      → Stands (spans_from tells base (class_layout x)) ps → W ps o.changes (class_toks o.tree) None
+  pub whole_shaped : (base : ℕ) (outer : Option (List ℕ)) (x : syntax.Class A)
+      (o : Rewritten (syntax.Class A)) → s.whole base outer x o → (nested : Bool)
+      → ClassShaped nested x → ClassShaped nested o.tree
 
 -- where there are spots, they suit
 abbrev pub SpotsSuit : {A : Type 0} → (A → ℕ → Span) → Choosing A → Weaving → Spotted A → Type 0

@@ -11,6 +11,7 @@ use Rattle.std.specs.Prelude.{
   ◌∷◌,
   ◌++◌,
   length,
+  take,
   drop,
   Option,
   Some,
@@ -78,6 +79,10 @@ abbrev pub join_changes : ℕ → List ℕ → List Change → List ℕ
 join_changes at bytes [] = drop at bytes
 join_changes at bytes (c ∷ cs) =
     slice_range bytes at c.span.from ++ c.text ++ join_changes c.span.to bytes cs
+
+-- a piece of the text with its own changes, as it is put elsewhere
+abbrev pub with_changes : List ℕ → Span → List Change → List ℕ
+with_changes bytes piece cs = join_changes piece.from (take piece.to bytes) cs
 
 -- changes one behind the other, at which the bytes can be cut
 abbrev pub Fit : ℕ → List ℕ → List Change → Type 0

@@ -1,0 +1,3 @@
+pub mod Transforms
+pub mod Reasons
+pub mod Renaming
