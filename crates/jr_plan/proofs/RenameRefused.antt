@@ -1,10 +1,11 @@
--- Why a rename is refused, as a refactoring, is why `jr_images: Renames` says that it is.
-use Rattle.std.proofs.Common.{◌≡◌, ℕ, zero, suc, ◌+◌, ◌<◌, ◌≤◌, List, [], ◌∷◌, ◌++◌, length, Option, Some, refl, sym, ap, ◌∙◌, subst, ◌⊎◌, inl, inr, arith}
+-- Why a rename is refused, as a refactoring, is why `jr_images: Renames` says that it is, and the
+-- other way round.
+use Rattle.std.proofs.Common.{◌≡◌, ℕ, zero, suc, ◌+◌, ◌<◌, ◌≤◌, List, [], ◌∷◌, ◌++◌, All, length, Option, Some, refl, sym, ap, ◌∙◌, subst, ◌⊎◌, inl, inr, arith}
 use Rattle.std.specs.Prelude.{slice_get}
 use Rattle.std.proofs.lemmas.Bool.{cases_lt}
 use Rattle.std.specs.List.{AllByRecursion}
 use Rattle.std.proofs.lemmas.List.{append-nil, append_assoc, length-append}
-use Rattle.std.proofs.lemmas.List.Elements.{All-from_recursion}
+use Rattle.std.proofs.lemmas.List.Elements.{All-from_recursion, All-head, All-tail}
 use Rattle.jr_text.specs.declared.spans.Span.{Span}
 use Rattle.jr_ast.specs.MemberTree as syntax
 use Rattle.jr_grammar.specs.Layout.{itself}
@@ -13,14 +14,11 @@ use Rattle.jr_bind.specs.Programs.{Program, units_of}
 use Rattle.jr_rewrite.specs.Respellings.{Loss}
 use Rattle.jr_rewrite.specs.Rewritten.{Rewritten}
 use Rattle.jr_images.specs.Renames as rename
-use Rattle.jr_images.specs.Refusals.{IsFirstLoss}
-use Rattle.jr_plan.specs.Transforms.{kept, Lost, kept_lost, kept_from}
+use Rattle.jr_images.specs.Refusals.{IsLost, IsFirstLoss}
+use Rattle.jr_plan.specs.Transforms.{kept, Lost, kept_lost, kept_from, all_lost}
 use Rattle.jr_plan.specs.Reasons.{Precedes, IsFirstLost, IsRefused, by_itself, overrides, loses}
 use Rattle.jr_plan.specs.Renaming.{renaming}
-use Rattle.jr_plan.proofs.Rename.{back_dispatch, first_change}
-
-abbrev Files : Type 0
-Files = List (Rewritten (syntax.Unit Span))
+use Rattle.jr_plan.proofs.Rename.{Files, rewrite_to, rewrite_back, all_kept_lost, back_dispatch, there_dispatch, change_back, first_change}
 
 abbrev lost_in : ℕ → Loss → Lost
 lost_in n l = record { origin = kept; file = n; loss = l }
@@ -174,17 +172,100 @@ first_loss os x h =
     not_before : (i j : ℕ) → (i < j → ⊥) → j ≤ i
     not_before i j h = elim (cases_lt i j) [ inl less ↦ absurd (h less) | inr least ↦ least ]
 
+-- ---- and back
+
+all_there : (P : Loss → Type 0) (xs ys : List Loss) (m : Loss) → All P (xs ++ m ∷ ys) → P m
+all_there P [] ys m h = All-head P m ys h
+all_there P (x ∷ xs) ys m h = all_there P xs ys m (All-tail P x (xs ++ m ∷ ys) h)
+
+loss_head : (a b : Loss) (xs ys : List Loss) → a ∷ xs ≡ b ∷ ys → a ≡ b
+loss_head a b xs ys e = cc
+
+loss_tail : (a b : Loss) (xs ys : List Loss) → a ∷ xs ≡ b ∷ ys → xs ≡ ys
+loss_tail a b xs ys e = cc
+
+-- where one loss is the first of a file, each has no lesser place
+at_least : (l m : Loss) (front back other rest : List Loss) → front ++ l ∷ back ≡ other ++ m ∷ rest → All (λ (x : Loss). l.at < x.at) front → All (λ (x : Loss). l.at ≤ x.at) back → l.at ≤ m.at
+at_least l m [] back [] rest e a b = (let same = ap (λ (x : Loss). x.at) (loss_head l m back rest e) in omega (arith, same))
+at_least l m [] back (o ∷ other) rest e a b = all_there (λ (x : Loss). l.at ≤ x.at) other rest m (subst (λ (xs : List Loss). All (λ (x : Loss). l.at ≤ x.at) xs) (loss_tail l o back (other ++ m ∷ rest) e) b)
+at_least l m (f ∷ front) back [] rest e a b =
+    let same = ap (λ (x : Loss). x.at) (loss_head f m (front ++ l ∷ back) rest e) in
+    let less = All-head (λ (x : Loss). l.at < x.at) f front a in
+    omega (arith, same, less)
+at_least l m (f ∷ front) back (o ∷ other) rest e a b = at_least l m front back other rest (loss_tail f o (front ++ l ∷ back) (other ++ m ∷ rest) e) (All-tail (λ (x : Loss). l.at < x.at) f front a) b
+
+-- what stands in front of it is among those in front
+in_front : (P : Loss → Type 0) (l m : Loss) (front back other rest : List Loss) → front ++ l ∷ back ≡ other ++ m ∷ rest → length other < length front → All P front → P m
+in_front P l m [] back other rest e less a = absurd (omega (arith, less))
+in_front P l m (f ∷ front) back [] rest e less a = subst P (loss_head f m (front ++ l ∷ back) rest e) (All-head P f front a)
+in_front P l m (f ∷ front) back (o ∷ other) rest e less a = in_front P l m front back other rest (loss_tail f o (front ++ l ∷ back) (other ++ m ∷ rest) e) (omega (arith, less)) (All-tail P f front a)
+
+module _ (os : Files) (j : ℕ) (l : Loss) (h : IsFirstLoss os j l) where
+  -- the parts of one file's losses
+  same_parts : (i : ℕ) (m : Loss) (other : IsLost os i m) → j ≡ i → h.lost.front ++ l ∷ h.lost.back ≡ other.front ++ m ∷ other.back
+  same_parts i m other same =
+      let of : h.lost.of ≡ other.of = same_item h.lost.of other.of (sym h.lost.stands ∙ ap (slice_get os) same ∙ other.stands) in
+      sym h.lost.parts ∙ ap (λ (o : Rewritten (syntax.Unit Span)). o.losses) of ∙ other.parts
+
+  lost_at : (i : ℕ) (y : Lost) → Located 0 os i y → (m : Loss) × (k : ℕ) × (y ≡ lost_in k m) × (other : IsLost os k m) × (i ≡ ahead os k + length other.front)
+  lost_at i y a =
+      let number : 0 + a.j ≡ a.j = omega arith in
+      (a.l, a.j, a.is ∙ ap (λ k. lost_in k a.l) number, record { of = a.o; stands = a.stands; front = a.front; back = a.back; parts = a.parts }, a.index)
+
+  none_precedes : (m : Loss) (k : ℕ) (other : IsLost os k m) → Precedes (lost_in k m) (lost_in j l) → ⊥
+  none_precedes m k other (inl file) = let least = h.first_file k m other in omega (arith, file, least)
+  none_precedes m k other (inr (same, inl less)) =
+      let least = at_least l m h.lost.front h.lost.back other.front other.back (same_parts k m other (sym same)) h.first_place h.others in
+      omega (arith, less, least)
+  none_precedes m k other (inr (same, inr rank)) = let none = rank.1 in omega (arith, none)
+
+  comes_before : (m : Loss) (k : ℕ) (other : IsLost os k m) → ahead os k + length other.front < ahead os j + length h.lost.front → Precedes (lost_in j l) (lost_in k m)
+  comes_before m k other less = elim (cases_lt j k) [
+    | inl file ↦ inl file
+    | inr behind ↦
+        (let least = h.first_file k m other in
+        let same : j ≡ k = omega (arith, behind, least) in
+        let short : length other.front < length h.lost.front = (let e : ahead os j ≡ ahead os k = ap (ahead os) same in omega (arith, less, e)) in
+        inr (same, inl (in_front (λ (x : Loss). l.at < x.at) l m h.lost.front h.lost.back other.front other.back (same_parts k m other same) short h.first_place)))
+  ]
+
+  first_lost : IsFirstLost (kept_from 0 os) (lost_in j l)
+  first_lost = record {
+    number = ahead os j + length h.lost.front;
+    stands = stands_there os j h.lost.of h.lost.front l h.lost.back h.lost.stands h.lost.parts;
+    least = λ i y e before.
+        (let a = lost_at i y (located 0 os i y e) in
+        none_precedes a.0 a.1 a.3 (subst (λ z. Precedes z (lost_in j l)) a.2 before));
+    earlier = λ i y less e.
+        (let a = lost_at i y (located 0 os i y e) in
+        subst (Precedes (lost_in j l)) (sym a.2) (comes_before a.0 a.1 a.3 (subst (λ n. n < ahead os j + length h.lost.front) a.4 less)));
+  }
+
 -- ---- all refusals
 
-module _ (p : Program Span) (text : List ℕ) (file at : ℕ) (new : List ℕ) where
-  pub refused_is : (r : Refusal) → IsRefused p (renaming p text file at new) r → rename.IsRefused itself p.rows p.super_at (units_of p) text file at new r
-  refused_is r (by_itself (inl h)) = rename.no_target h
-  refused_is r (by_itself (inr h)) = elim h.3 [
+module _ (p : Program Span) (text : List ℕ) (file at : ℕ) (new : List ℕ) (r : Refusal) where
+  pub refused_is : IsRefused p (renaming p text file at new) r → rename.IsRefused itself p.rows p.super_at (units_of p) text file at new r
+  refused_is (by_itself (inl h)) = rename.no_target h
+  refused_is (by_itself (inr h)) = elim h.3 [
     | inl prelude ↦ rename.of_prelude h.2 prelude
     | inr clash ↦ rename.clashes h.2 clash.0 clash.1
   ]
-  refused_is r (overrides let_go x h) = rename.overrides x.renames x.no_prelude x.clear (h.0, h.1, first_change p.rows x.g h.0 h.1 h.2, h.3)
-  refused_is r (loses let_go x dispatch h) =
-      let a = first_loss x.files h.0 (subst (λ all. IsFirstLost all h.0) (append-nil (kept_from 0 x.files)) h.1) in
+  refused_is (overrides x h) = rename.overrides x.renames x.no_prelude x.clear (h.0, h.1, first_change p.rows x.g h.0 h.1 h.2, h.3)
+  refused_is (loses x dispatch h) =
+      let a = first_loss h.0.files h.1 (subst (λ all. IsFirstLost all h.1) (all_kept_lost p x.g h.0) h.2) in
       rename.loses x.renames x.no_prelude x.clear (λ k m changes. dispatch k m (back_dispatch p.rows x.g k m changes))
-      (x.files, a.file, a.l, x.rewrite, a.first, h.2 ∙ ap (λ (y : Lost). lost_binding (record { file = y.file; at = y.loss.at }) y.loss.declaration y.loss.found) a.is)
+      (h.0.files, a.file, a.l, rewrite_back p x.g h.0, a.first, h.3 ∙ ap (λ (y : Lost). lost_binding (record { file = y.file; at = y.loss.at }) y.loss.declaration y.loss.found) a.is)
+
+  pub refused_from : rename.IsRefused itself p.rows p.super_at (units_of p) text file at new r → IsRefused p (renaming p text file at new) r
+  refused_from (rename.no_target h) = by_itself (inl h)
+  refused_from (rename.of_prelude {d} {g} of h) = by_itself (inr (d, g, of, inl h))
+  refused_from (rename.clashes {d} {g} of none h) = by_itself (inr (d, g, of, inr (none, h)))
+  refused_from (rename.overrides {d} {g} of none clear h) =
+      overrides (record { target = d; g = g; renames = of; no_prelude = none; clear = clear }) (h.0, h.1, change_back p.rows g h.0 h.1 h.2, h.3)
+  refused_from (rename.loses {d} {g} of none clear keeps h) =
+      loses (record { target = d; g = g; renames = of; no_prelude = none; clear = clear }) (λ k m changes. keeps k m (there_dispatch p.rows g k m changes)) (
+        rewrite_to p g h.0 h.3,
+        lost_in h.1 h.2,
+        subst (λ all. IsFirstLost all (lost_in h.1 h.2)) (sym (append-nil (kept_from 0 h.0))) (first_lost h.0 h.1 h.2 h.4),
+        h.5,
+      )

@@ -19,6 +19,8 @@ use Rattle.jr_images.specs.Refusals.{HasPreludeMethod, ChangesPrelude, IsFirstCh
 use Rattle.jr_images.specs.Renames as renames
 use Rattle.jr_images.specs.Renames.{Renames, OfPrelude, Clashes, Overrides, IsRefused}
 use Rattle.jr_grammar.specs.Layout.{itself}
+use Rattle.jr_plan.proofs.Rename.{planned_from}
+use Rattle.jr_plan.proofs.RenameRefused.{refused_from}
 use Rattle.jr_new_files.specs.Rewritings.{IsRewriting}
 use Rattle.jr_cursor.specs.ProgramTargets.{HasTargetAt}
 use Rattle.jr_rename.specs.Afters.{PlansRows, AnswersRows}
@@ -65,14 +67,14 @@ module _ (p : Program Span) where
     named : (g : Renaming) → Gives p d new g → (f : File Span) → slice_get p.files file ≡ Some f → Renames itself p.rows p.super_at (units_of p) f.text file at new d g
     named g gives f s = record { target = has f s; renamed = gives.renamed; name = gives.name }
 
-    refused : (r : Refusal) → Answers p d new (not_planned r) → (f : File Span) → slice_get p.files file ≡ Some f → IsRefused itself p.rows p.super_at (units_of p) f.text file at new r
-    refused r (g, gives, inl (q, e, h)) f s =
+    refused_so : (r : Refusal) → Answers p d new (not_planned r) → (f : File Span) → slice_get p.files file ≡ Some f → IsRefused itself p.rows p.super_at (units_of p) f.text file at new r
+    refused_so r (g, gives, inl (q, e, h)) f s =
         let same : q ≡ r = cc in renames.of_prelude (named g gives f s) (subst (λ (x : Refusal). OfPrelude itself p.rows p.super_at (units_of p) d new x) same h)
-    refused r (g, gives, inr (none, inl (q, e, h))) f s =
+    refused_so r (g, gives, inr (none, inl (q, e, h))) f s =
         let same : q ≡ r = cc in renames.clashes (named g gives f s) none (subst (λ (x : Refusal). Clashes itself p.rows p.super_at (units_of p) d new x) same h)
-    refused r (g, gives, inr (none, inr (clear, inl (q, e, h)))) f s =
+    refused_so r (g, gives, inr (none, inr (clear, inl (q, e, h)))) f s =
         let same : q ≡ r = cc in renames.overrides (named g gives f s) none clear (subst (λ (x : Refusal). Overrides itself p.rows p.super_at (units_of p) g x) same h)
-    refused r (g, gives, inr (none, inr (clear, inr (keeps, h)))) f s = renames.loses (named g gives f s) none clear keeps h
+    refused_so r (g, gives, inr (none, inr (clear, inr (keeps, h)))) f s = renames.loses (named g gives f s) none clear keeps h
 
     pub plans : (o : Outcome) → Answers p d new o → Plans p file at new o
     plans (planned edits renaming respelled lost) (g, gives, inl (q, e, h)) = absurd cc
@@ -80,7 +82,7 @@ module _ (p : Program Span) where
     plans (planned edits renaming respelled lost) (g, gives, inr (none, inr (clear, inl (q, e, h)))) = absurd cc
     plans (planned edits renaming respelled lost) (g, gives, inr (none, inr (clear, inr (keeps, (w, pairs, nothing))))) = (
       nothing,
-      λ f s. record {
+      λ f s. planned_from p f.text file at new edits renaming respelled (record {
         target = d;
         g = g;
         renames = named g gives f s;
@@ -93,9 +95,9 @@ module _ (p : Program Span) where
         edits_are = w.edits_are;
         renaming_is = pairs;
         respelled_is = w.respelled_is;
-      },
+      }),
     )
-    plans (not_planned r) h = refused r h
+    plans (not_planned r) h = λ f s. refused_from p f.text file at new r (refused_so r h f s)
 
     -- its new rows have the property
     pub plans_rows : (o : Outcome) (P : List Row → Type 0) → AnswersRows p d new o P → PlansRows p file at new o P

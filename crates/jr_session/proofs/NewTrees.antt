@@ -73,7 +73,7 @@ module _ (read : NewTextsRead) (sources : List Source) (p : Program Span) (befor
 
     pub became : (i : ℕ) (old : Source) → slice_get sources i ≡ Some old → New i old
     became i old there =
-        let f = file_there sources p before i at new (slice_get_within sources i old there) in
+        let f = file_there sources p before i (slice_get_within sources i old there) in
         let r = read p text number at new edits renaming respelled plan i f.0 f.1 in
         let same : f.0.text ≡ old.text = same_Some f.0.text old.text (sym f.2 ∙ text_there sources i old there) in
         (r.0, r.1, r.2, r.3, subst (λ (x : List ℕ). IsNewText x r.1 r.0.tree) same r.4)

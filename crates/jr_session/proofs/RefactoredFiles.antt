@@ -1,4 +1,4 @@
--- A rename stays in the files of its session: the names, and the places that its refusals tell.
+-- A refactoring stays in the files of its session: the names, and the places that its refusals tell.
 use Rattle.std.proofs.Common.{◌≡◌, ◌∙◌, ◌<◌, ◌≤◌, ℕ, ap, arith, refl, sym, subst, List, [], ◌∷◌, length}
 use Rattle.std.proofs.lemmas.List.{length-map}
 use Rattle.std.proofs.lemmas.Option.{slice_get_within}
@@ -11,13 +11,20 @@ use Rattle.jr_images.specs.Renames as renames
 use Rattle.jr_rewrite.specs.Rewrites.{Choosing, RewritesUnits}
 use Rattle.jr_rewrite.specs.Rewritten.{Rewritten}
 use Rattle.jr_table.specs.DeclaredItems.{DeclaredItem}
+use Rattle.jr_sync.specs.declared.sites.DepKind.{DepKind}
 use Rattle.jr_names.specs.Refusals.{Refusal}
+use Rattle.jr_names.specs.Sites.{SiteAt}
+use Rattle.jr_plan.specs.Reasons.{IsRefused}
 use Rattle.jr_sources.specs.Sources.{Source, IsFile, HasName, names_of}
 use Rattle.jr_sources.specs.Whole.{files_of, IsProgramOf}
 use Rattle.jr_grammar.specs.Layout.{itself}
 use Rattle.jr_session.specs.NewTexts.{with_edits}
 use Rattle.jr_session.proofs.Telling.{TellsIn}
-use Rattle.jr_session.specs.Renaming as renaming
+use Rattle.jr_plan.proofs.RenameRefused.{refused_is}
+use Rattle.jr_session.specs.Asked.{rename}
+use Rattle.jr_session.specs.Refactored as why
+use Rattle.jr_session.specs.Refactored.{IsPosed, IsPlan, transform_of, RefusesRefactoring, Refactors}
+use Rattle.jr_session.specs.Requests.{Request}
 use Rattle.jr_session.specs.States.{State}
 
 with_edits_names : (sources : List Source) (edits : List (List Entry)) → names_of (with_edits sources edits) ≡ names_of sources
@@ -47,11 +54,34 @@ of_program sources p is =
     let units = length-map p.files (λ (f : File Span). f.unit) in
     omega (arith, few, files, units)
 
-module _ (s : State) (file : List ℕ) (at : ℕ) (new : List ℕ) where
-  pub renamed_names : (names : List (List ℕ)) (respelled : ℕ) (t : State) → renaming.IsRenamed s file at new names respelled t → names_of t.files ≡ names_of s.files
-  renamed_names names respelled t is = ap (λ (u : State). names_of u.files) is.becomes ∙ with_edits_names s.files is.edits
+-- ---- of any refactoring
 
-  planned_places : (p : Program Span) (number : ℕ) (text : List ℕ) (r : Refusal) → renaming.IsPosed s file at new p number text
+-- its own refusals, and the sites that it crosses, are in files of the session
+pub record TellsItsOwn (s : State) (ask : Request) : Type 0 where
+  pub refused : (p : Program Span) (number : ℕ) (text : List ℕ) (r : Refusal) → IsPosed s ask p number text → IsRefused p (ask.refactoring p text number) r → TellsIn (length s.files) r
+  pub crossed : (edits : List (List Entry)) (respelled : ℕ) (plan : IsPlan s ask edits respelled) (kind : DepKind) (first second : SiteAt) → (transform_of s ask plan).Crosses kind first second
+      → (first.place.file < length s.files) × (second.place.file < length s.files)
+
+module _ (s : State) (ask : Request) where
+  pub refactored_names : (names : List (List ℕ)) (respelled : ℕ) (t : State) → Refactors s ask names respelled t → names_of t.files ≡ names_of s.files
+  refactored_names names respelled t is = ap (λ (u : State). names_of u.files) is.becomes ∙ with_edits_names s.files is.edits
+
+  pub refused_places : TellsItsOwn s ask → (r : Refusal) → RefusesRefactoring s ask r → TellsIn (length s.files) r
+  refused_places own r (why.no_file lacks is) = subst (TellsIn (length s.files)) (sym is) tt
+  refused_places own r (why.at_no_place number at text stands bad is) = subst (TellsIn (length s.files)) (sym is) tt
+  refused_places own r (why.no_name number text name stands can bad is) = subst (TellsIn (length s.files)) (sym is) tt
+  refused_places own r (why.wrong number text name place kind asked wrong is) = subst (TellsIn (length s.files)) (sym is) tt
+  refused_places own r (why.by_plan p number text posed h) = own.refused p number text r posed h
+  refused_places own r (why.long edits respelled len plan h is) = subst (TellsIn (length s.files)) (sym is) tt
+  refused_places own r (why.breaks edits respelled number place name kind short has wrong is) =
+      let here = named s.files number name has in subst (TellsIn (length s.files)) (sym is) here
+  refused_places own r (why.crosses edits respelled whole kind first second pair is) =
+      subst (TellsIn (length s.files)) (sym is) (own.crossed edits respelled whole.short.plan kind first second pair)
+
+-- ---- of a rename
+
+module _ (s : State) (file : List ℕ) (at : ℕ) (new : List ℕ) where
+  planned_places : (p : Program Span) (number : ℕ) (text : List ℕ) (r : Refusal) → IsPosed s (rename file at new) p number text
       → renames.IsRefused itself p.rows p.super_at (units_of p) text number at new r → TellsIn (length s.files) r
   planned_places p number text r posed (renames.no_target h) =
       let own : number < length s.files = in_files s.files number file text posed.asked.stands in subst (TellsIn (length s.files)) (sym h.1) own
@@ -65,12 +95,8 @@ module _ (s : State) (file : List ℕ) (at : ℕ) (new : List ℕ) where
       let own : h.1 < length s.files = omega (arith, there, many, few) in
       subst (TellsIn (length s.files)) (sym h.5) own
 
-  pub refused_places : (r : Refusal) → renaming.IsRefusedRename s file at new r → TellsIn (length s.files) r
-  refused_places r (renaming.no_file lacks is) = subst (TellsIn (length s.files)) (sym is) tt
-  refused_places r (renaming.at_no_place number text stands cannot is) = subst (TellsIn (length s.files)) (sym is) tt
-  refused_places r (renaming.no_name number text stands can other is) = subst (TellsIn (length s.files)) (sym is) tt
-  refused_places r (renaming.wrong number text name place kind asked wrong is) = subst (TellsIn (length s.files)) (sym is) tt
-  refused_places r (renaming.by_plan p number text posed h) = planned_places p number text r posed h
-  refused_places r (renaming.long edits respelled len plan h is) = subst (TellsIn (length s.files)) (sym is) tt
-  refused_places r (renaming.breaks edits respelled number place name kind short has wrong is) =
-      let own = named s.files number name has in subst (TellsIn (length s.files)) (sym is) own
+  pub rename_tells : TellsItsOwn s (rename file at new)
+  rename_tells = record {
+    refused = λ p number text r posed h. planned_places p number text r posed (refused_is p text number at new r h);
+    crossed = λ edits respelled plan kind first second pair. absurd pair;
+  }
