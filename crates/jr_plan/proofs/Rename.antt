@@ -1,9 +1,8 @@
--- A rename is a refactoring: what it makes fits, and what it plans is what `jr_images: Renames` says.
+-- A rename is a refactoring: what it makes fits, and its files are those of `jr_images: Renames`.
 use Rattle.std.proofs.Common.{◌≡◌, ℕ, zero, suc, List, [], ◌∷◌, ◌++◌, map, Option, Some, None, refl, sym, ap, ◌∙◌}
 use Rattle.std.specs.Prelude.{slice_get, option_map, filter, not}
 use Rattle.std.proofs.lemmas.List.{append-nil}
 use Rattle.jr_text.specs.declared.spans.Span.{Span}
-use Rattle.jr_text.specs.Edits.{Entry}
 use Rattle.jr_lex.specs.declared.items.Item.{Item}
 use Rattle.jr_lex.specs.declared.items.ItemKind.{ItemKind}
 use Rattle.jr_lex.specs.declared.items.ItemKind.TheVariants.{Token as TokenItem, Blank, Comment}
@@ -11,7 +10,7 @@ use Rattle.jr_lex.specs.Replacing.{IsName}
 use Rattle.jr_ast.specs.Tree as tree
 use Rattle.jr_ast.specs.MemberTree as syntax
 use Rattle.jr_grammar.specs.Layout.{itself}
-use Rattle.jr_table.specs.Keys.{ClassKey, MethodKey, Ty, int, boolean, void, null, class}
+use Rattle.jr_table.specs.Keys.{ClassKey, Ty, int, boolean, void, null, class}
 use Rattle.jr_table.specs.Decls.{MemberKey, head, field, method, constructor, LocalKey, Decl, class_decl, field_decl, method_decl, constructor_decl, local_decl}
 use Rattle.jr_table.specs.SameDecls.{same_decl}
 use Rattle.jr_table.specs.Rows.{Row}
@@ -31,10 +30,9 @@ use Rattle.jr_images.specs.TextLaws.{AreNamed}
 use Rattle.jr_images.proofs.SuitableSpelling.{rename_named}
 use Rattle.jr_images.specs.Renames as rename
 use Rattle.jr_images.specs.Renames.{Rewrite}
-use Rattle.jr_images.specs.Refusals as dispatching
 use Rattle.jr_plan.specs.Transforms.{TransformsFiles, Transformed, choosing_of, IsFit, Lost, kept_lost, kept_from, all_lost}
-use Rattle.jr_plan.specs.Reasons.{ChangesDispatch, IsFirstChange, row_image, pairs_of, IsPlanned}
-use Rattle.jr_plan.specs.Renaming.{rename_of, renaming}
+use Rattle.jr_plan.specs.Reasons.{row_image, pairs_of}
+use Rattle.jr_plan.specs.Renaming.{rename_of}
 
 -- ---- images
 
@@ -148,35 +146,7 @@ rename_fits p g fair named new_is = record {
   fronted = λ n f items e lexes. all_fronted items;
 }
 
--- ---- its plan, and why it is refused
-
-pub back_dispatch : (rows : List Row) (g : Renaming) (of : ClassKey) (k : MethodKey) → dispatching.ChangesDispatch rows g of k → ChangesDispatch rows (images_of rows g) of k
-back_dispatch rows g of k h = record { was = h.was; now = h.now; old = h.old; new = h.new; changed = h.changed }
-
-pub there_dispatch : (rows : List Row) (g : Renaming) (of : ClassKey) (k : MethodKey) → ChangesDispatch rows (images_of rows g) of k → dispatching.ChangesDispatch rows g of k
-there_dispatch rows g of k h = record { was = h.was; now = h.now; old = h.old; new = h.new; changed = h.changed }
-
-pub change_back : (rows : List Row) (g : Renaming) (of : ClassKey) (k : MethodKey) → dispatching.IsFirstChange rows g of k → IsFirstChange rows (images_of rows g) of k
-change_back rows g of k h = record {
-  changes = back_dispatch rows g of k h.changes;
-  class_at = h.class_at;
-  method_at = h.method_at;
-  class_row = h.class_row;
-  method_row = h.method_row;
-  first_class = λ o n i changes. h.first_class o n i (there_dispatch rows g o n changes);
-  first_method = λ n j changes. h.first_method n j (there_dispatch rows g of n changes);
-}
-
-pub first_change : (rows : List Row) (g : Renaming) (of : ClassKey) (k : MethodKey) → IsFirstChange rows (images_of rows g) of k → dispatching.IsFirstChange rows g of k
-first_change rows g of k h = record {
-  changes = there_dispatch rows g of k h.changes;
-  class_at = h.class_at;
-  method_at = h.method_at;
-  class_row = h.class_row;
-  method_row = h.method_row;
-  first_class = λ o n i changes. h.first_class o n i (back_dispatch rows g o n changes);
-  first_method = λ n j changes. h.first_method n j (back_dispatch rows g of n changes);
-}
+-- ---- what is lost
 
 no_more : (ls : List Loss) (n : ℕ) (rest : List Lost) → kept_lost n ls ++ rest ≡ [] → ls ≡ []
 no_more [] n rest e = refl
@@ -186,7 +156,7 @@ no_rest : (ls : List Loss) (n : ℕ) (rest : List Lost) → kept_lost n ls ++ re
 no_rest [] n rest e = e
 no_rest (l ∷ ls) n rest e = cc
 
-all_kept : (n : ℕ) (os : List (Rewritten (syntax.Unit Span))) → kept_from n os ≡ [] → (i : ℕ) (o : Rewritten (syntax.Unit Span)) → slice_get os i ≡ Some o → o.losses ≡ []
+pub all_kept : (n : ℕ) (os : List (Rewritten (syntax.Unit Span))) → kept_from n os ≡ [] → (i : ℕ) (o : Rewritten (syntax.Unit Span)) → slice_get os i ≡ Some o → o.losses ≡ []
 all_kept n [] e i o g = absurd (nothing i g)
   where
     nothing : (i : ℕ) → (let none : List (Rewritten (syntax.Unit Span)) = [] in slice_get none i ≡ Some o) → ⊥
@@ -197,7 +167,11 @@ all_kept n (x ∷ os) e zero o g = ap (λ (y : Rewritten (syntax.Unit Span)). y.
     same_file x o q = cc
 all_kept n (x ∷ os) e (suc i) o g = all_kept (suc n) os (no_rest x.losses n (kept_from (suc n) os) e) i o g
 
-none_lost : (n : ℕ) (os : Files) → ((i : ℕ) (o : Rewritten (syntax.Unit Span)) → slice_get os i ≡ Some o → o.losses ≡ []) → kept_from n os ≡ []
+-- where nothing is lost, no file loses anything
+pub none_loses : (p : Program Span) (g : Renaming) (to : Transformed p (rename_of p g)) → all_lost to.files to.also_lost ≡ [] → (i : ℕ) (o : Rewritten (syntax.Unit Span)) → slice_get to.files i ≡ Some o → o.losses ≡ []
+none_loses p g to none = all_kept 0 to.files (sym (all_kept_lost p g to) ∙ none)
+
+pub none_lost : (n : ℕ) (os : Files) → ((i : ℕ) (o : Rewritten (syntax.Unit Span)) → slice_get os i ≡ Some o → o.losses ≡ []) → kept_from n os ≡ []
 none_lost n [] h = refl
 none_lost n (o ∷ os) h = ap (λ ls. kept_lost n ls ++ kept_from (suc n) os) (h 0 o refl) ∙ none_lost (suc n) os (λ i x e. h (suc i) x e)
 
@@ -216,33 +190,3 @@ same_image p g (local_decl k) = ap (λ (m : MemberKey). local_decl (record { mem
 
 pub same_pairs : (p : Program Span) (g : Renaming) → pairs_of p (rename_of p g) ≡ rename.pairs_of p.rows g
 same_pairs p g = ap (λ (f : Decl → Decl). map (λ (r : Row). (r.decl, f r.decl)) (filter (λ (r : Row). not (same_decl r.decl (f r.decl))) p.rows)) (λ i d. same_image p g d i)
-
-module _ (p : Program Span) (text : List ℕ) (file at : ℕ) (new : List ℕ) (edits : List (List Entry)) (pairs : List (Decl × Decl)) (respelled : ℕ) where
-  abbrev pub planned_is : IsPlanned p (renaming p text file at new) edits pairs respelled → rename.IsPlanned itself p.rows p.super_at (units_of p) text file at new edits pairs respelled
-  planned_is h =
-      let x = h.found in
-      record {
-        target = x.target;
-        g = x.g;
-        renames = x.renames;
-        no_prelude = x.no_prelude;
-        clear = x.clear;
-        dispatch = λ k m changes. h.dispatch k m (back_dispatch p.rows x.g k m changes);
-        files = h.becomes.files;
-        rewrite = rewrite_back p x.g h.becomes;
-        kept = all_kept 0 h.becomes.files (sym (all_kept_lost p x.g h.becomes) ∙ h.kept_all);
-        edits_are = h.edits_are;
-        renaming_is = h.renaming_is ∙ same_pairs p x.g;
-        respelled_is = h.respelled_is;
-      }
-
-  abbrev pub planned_from : rename.IsPlanned itself p.rows p.super_at (units_of p) text file at new edits pairs respelled → IsPlanned p (renaming p text file at new) edits pairs respelled
-  planned_from h = record {
-    found = record { target = h.target; g = h.g; renames = h.renames; no_prelude = h.no_prelude; clear = h.clear };
-    dispatch = λ k m changes. h.dispatch k m (there_dispatch p.rows h.g k m changes);
-    becomes = rewrite_to p h.g h.files h.rewrite;
-    kept_all = append-nil (kept_from 0 h.files) ∙ none_lost 0 h.files h.kept;
-    edits_are = h.edits_are;
-    renaming_is = h.renaming_is ∙ sym (same_pairs p h.g);
-    respelled_is = h.respelled_is;
-  }

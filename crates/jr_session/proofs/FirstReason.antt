@@ -19,8 +19,7 @@ use Rattle.jr_rename_laws.specs.ImageLaws.{RenamingsStayFair}
 use Rattle.jr_images.specs.Images.{Renaming}
 use Rattle.jr_images.specs.Renames as renames
 use Rattle.jr_images.specs.TextLaws.{RowsAreNamed, NamesHaveNoDot}
-use Rattle.jr_plan.proofs.Rename.{rewrite_back, planned_is, planned_from}
-use Rattle.jr_plan.proofs.RenameRefused.{refused_is, refused_from}
+use Rattle.jr_plan.proofs.Rename.{rewrite_back}
 use Rattle.jr_cursor.specs.TargetLaws.{OneIsTarget}
 use Rattle.jr_rename_laws.specs.OnePlan.{PlanIsOne, RewritingIsOne, RefusesSo, PlansSo}
 use Rattle.jr_sources.specs.BindingErrors.{IsFirstWrong}
@@ -70,7 +69,7 @@ reason_for s file at new r (why.at_no_place number told text stands bad e) =
     reason.at_no_place number text stands is.0 (e ∙ ap (bad_place file) is.1)
 reason_for s file at new r (why.no_name number text name stands places bad e) = reason.no_name bad.0 (e ∙ ap bad_name bad.1)
 reason_for s file at new r (why.wrong number text name place kind asked first e) = reason.wrong name place kind first e
-reason_for s file at new r (why.by_plan p number text posed is) = reason.by_plan p number text posed.asked.stands posed.program (reason_of p file at text number at new r (refused_is p text number at new r is))
+reason_for s file at new r (why.by_plan p number text posed is) = reason.by_plan p number text posed.asked.stands posed.program (reason_of p file at text number at new r is)
 reason_for s file at new r (why.long edits respelled len plan too e) = reason.long edits len (would_edit s file at new edits respelled plan) too e
 reason_for s file at new r (why.breaks edits respelled number place name kind short named first e) = reason.breaks edits number place name kind (would_edit s file at new edits respelled short.plan) named first e
 reason_for s file at new r (why.crosses edits respelled whole kind first second pair e) = absurd pair
@@ -150,13 +149,13 @@ module _ (reading : HasOneReading) (items_once : OneItems) (placed : PartsArePla
       where
         by : (rank r < rank x) ⊎ RefusesSo a n at new q x → Against r x
         by (inl lt) = inl lt
-        by (inr w) = inr ((once_here reading items_once placed law s ask ones differ p q n m a b g also).refusals r x (refused_from p a n at new r u) (refused_from q a n at new x w))
+        by (inr w) = inr ((once_here reading items_once placed law s ask ones differ p q n m a b g also).refusals r x u w)
 
     against_planned : (edits : List (List Entry)) (renaming : List (Decl × Decl)) (respelled : ℕ) (x : Refusal) → PlansSo a n at new p edits renaming respelled → IsPlanReason q b m at new x → ⊥
     against_planned edits renaming respelled x u v =
         let w = subst (λ (t : List ℕ). PlansSo t n at new p edits renaming respelled → IsPlanReason q t n at new x → RefusesSo t n at new q x) the_file.2
         (plans.planned_against law targets p q g.program.is is.is files_same n at new the_file.0 the_file.1 file at edits renaming respelled x) u (reason_here x v) in
-        (once_here reading items_once placed law s ask ones differ p q n m a b g also).apart edits renaming respelled x (planned_from p a n at new edits renaming respelled u) (refused_from q a n at new x w)
+        (once_here reading items_once placed law s ask ones differ p q n m a b g also).apart edits renaming respelled x u w
 
     targets_here : (d : Decl) (h : Renaming) → Targets q b m at new d h → Targets q a n at new d h
     targets_here d h x =
@@ -172,14 +171,14 @@ module _ (reading : HasOneReading) (items_once : OneItems) (placed : PartsArePla
 
   -- the edits that there would be are those of the plan
   plan_to : (es fs : List (List Entry)) (n : ℕ) → IsPlan s ask es n → WouldEdit s file at new fs → es ≡ fs
-  plan_to es fs n h w = edits_against h.p w.p h.number w.number h.text w.text h.posed w.stands w.program es h.renaming n (planned_is h.p h.text h.number at new es h.renaming n h.planned) w.target w.g w.is w.files w.rewrite ∙ sym w.edits_are
+  plan_to es fs n h w = edits_against h.p w.p h.number w.number h.text w.text h.posed w.stands w.program es h.renaming n h.planned w.target w.g w.is w.files w.rewrite ∙ sym w.edits_are
 
   never_planned : (edits : List (List Entry)) (respelled : ℕ) → IsPlan s ask edits respelled → (q : Program Span) (m : ℕ) (b : List ℕ) → IsFile s.files m file b → IsProgramOf s.files q → (x : Refusal) → IsPlanReason q b m at new x → ⊥
-  never_planned edits respelled h q m b stands is x v = against_planned h.p q h.number m h.text b h.posed stands is edits h.renaming respelled x (planned_is h.p h.text h.number at new edits h.renaming respelled h.planned) v
+  never_planned edits respelled h q m b stands is x v = against_planned h.p q h.number m h.text b h.posed stands is edits h.renaming respelled x h.planned v
 
   against_plan : (r x : Refusal) → (rank r ≤ 8) ⊎ FromPlan s ask r → (q : Program Span) (m : ℕ) (b : List ℕ) → IsFile s.files m file b → IsProgramOf s.files q → IsPlanReason q b m at new x → Against r x
   against_plan r x (inl le) q m b stands is v = let ge = reason_rank q file at b m at new x v in inl (omega (arith, le, ge))
-  against_plan r x (inr (inl g)) q m b stands is v = against_refused g.0 q g.1 m g.2 b g.3 stands is r x (refused_is g.0 g.2 g.1 at new r g.4) v
+  against_plan r x (inr (inl g)) q m b stands is v = against_refused g.0 q g.1 m g.2 b g.3 stands is r x g.4 v
   against_plan r x (inr (inr ((edits, respelled, h), g))) q m b stands is v = absurd (never_planned edits respelled h q m b stands is x v)
 
   -- ---- those of the new texts
@@ -194,7 +193,7 @@ module _ (reading : HasOneReading) (items_once : OneItems) (placed : PartsArePla
 
       against_long : (r : Refusal) → (rank r ≤ 8) ⊎ FromPlan s ask r → Against r x
       against_long r (inl le) = let j = is_rank x (too_long len) e in inl (omega (arith, le, j))
-      against_long r (inr (inl g)) = let le = refused_rank g.0 file at g.2 g.1 at new r (refused_is g.0 g.2 g.1 at new r g.4) in let j = is_rank x (too_long len) e in inl (omega (arith, le, j))
+      against_long r (inr (inl g)) = let le = refused_rank g.0 file at g.2 g.1 at new r g.4 in let j = is_rank x (too_long len) e in inl (omega (arith, le, j))
       against_long r (inr (inr (h, inl g))) = inr (long_one reading items_once placed law s ask ones differ r x g (is_long g.0 g.1 g.3))
       against_long r (inr (inr (h, inr (short, g)))) = absurd (never_short short.0 short.1 short.2)
 
@@ -204,7 +203,7 @@ module _ (reading : HasOneReading) (items_once : OneItems) (placed : PartsArePla
 
       against_break : (r : Refusal) → (rank r ≤ 8) ⊎ FromPlan s ask r → Against r x
       against_break r (inl le) = let j = is_rank x (would_not_compile (record { file = i; at = k }) kind) e in inl (omega (arith, le, j))
-      against_break r (inr (inl g)) = let le = refused_rank g.0 file at g.2 g.1 at new r (refused_is g.0 g.2 g.1 at new r g.4) in let j = is_rank x (would_not_compile (record { file = i; at = k }) kind) e in inl (omega (arith, le, j))
+      against_break r (inr (inl g)) = let le = refused_rank g.0 file at g.2 g.1 at new r g.4 in let j = is_rank x (would_not_compile (record { file = i; at = k }) kind) e in inl (omega (arith, le, j))
       against_break r (inr (inr (h, inl g))) = let l = is_rank r (too_long g.2) g.5 in let j = is_rank x (would_not_compile (record { file = i; at = k }) kind) e in inl (omega (arith, l, j))
       against_break r (inr (inr (h, inr (short, inl g)))) = inr (breaks_one reading items_once placed law s ask ones differ r x g (is_break g.0 g.1 g.6))
       against_break r (inr (inr (h, inr (short, inr (whole, g))))) = absurd g.6

@@ -71,7 +71,7 @@ module _ (g : Renaming) (rows : List Row) (declarations : List DeclaredItem) whe
 
 -- ---- the law
 
-module _ (one : OneReading Span) (named : RowsAreNamed Span) (dots : NamesHaveNoDot) (plans : PlansBecome Span Span) (read : NewTextsRead) (references : ReferencesStay) (images : NewProgramsAreImages) (built : BuiltRowsAreImages Span Span) (ctors : ConstructorsGiveImages Span Span) (dispatch : DispatchIsKept) (runs : RenamesKeepRuns)
+module _ (one : OneReading Span) (named : RowsAreNamed Span) (dots : NamesHaveNoDot) (plans : PlansBecome Span) (read : NewTextsRead) (references : ReferencesStay) (images : NewProgramsAreImages) (built : BuiltRowsAreImages Span Span) (ctors : ConstructorsGiveImages Span Span) (dispatch : DispatchIsKept) (runs : RenamesKeepRuns)
     (s t : State) (file : List ℕ) (at : ℕ) (new : List ℕ) (names : List (List ℕ)) (n : ℕ) (is : Refactors s (rename file at new) names n t)
   where
     abbrev step_plan : IsPlan s (rename file at new) is.edits n
@@ -90,9 +90,9 @@ module _ (one : OneReading Span) (named : RowsAreNamed Span) (dots : NamesHaveNo
     plan = plan_of s file at new is.edits n step_plan
 
     abbrev g : Renaming
-    g = plan.planned.g
+    g = plan.planned.found.g
 
-    trees : map without_marks (units_of q) ≡ map (λ (o : Rewritten (UnitTree Span)). without_marks o.tree) plan.planned.files
+    trees : map without_marks (units_of q) ≡ map (λ (o : Rewritten (UnitTree Span)). without_marks o.tree) plan.planned.becomes.files
     trees = ap (map without_marks) (units_are (with_edits s.files is.edits) q is.whole.program)
         ∙ new_trees read s.files p before step_plan.text step_plan.number at new is.edits step_plan.renaming n plan one is.whole.program.units is.whole.program.words is.whole.program.program.read
 
@@ -102,7 +102,7 @@ module _ (one : OneReading Span) (named : RowsAreNamed Span) (dots : NamesHaveNo
     names_kept : KeepsNames p g q
     names_kept = record {
       images = new_images.1;
-      references = units_bare g p.rows (declarations_of begins (units_of p)) (units_of p) (trees_of plan.planned.files) (units_of q) (trees ∙ sym (trees_bare plan.planned.files))
+      references = units_bare g p.rows (declarations_of begins (units_of p)) (units_of p) (trees_of plan.planned.becomes.files) (units_of q) (trees ∙ sym (trees_bare plan.planned.becomes.files))
           (references p step_plan.text step_plan.number at new is.edits step_plan.renaming n plan);
       runs = runs p q step_plan.text step_plan.number at new is.edits step_plan.renaming n plan trees new_images.0 new_images.1;
     }
@@ -122,7 +122,7 @@ module _ (one : OneReading Span) (named : RowsAreNamed Span) (dots : NamesHaveNo
 
 -- ---- all steps
 
-pub steps_keep : OneReading Span → RowsAreNamed Span → NamesHaveNoDot → PlansBecome Span Span → NewTextsRead → ReferencesStay → NewProgramsAreImages → BuiltRowsAreImages Span Span → ConstructorsGiveImages Span Span → DispatchIsKept → RenamesKeepRuns → HasOneCodeEach → UntouchedBytesMove → StepsKeepPrograms
+pub steps_keep : OneReading Span → RowsAreNamed Span → NamesHaveNoDot → PlansBecome Span → NewTextsRead → ReferencesStay → NewProgramsAreImages → BuiltRowsAreImages Span Span → ConstructorsGiveImages Span Span → DispatchIsKept → RenamesKeepRuns → HasOneCodeEach → UntouchedBytesMove → StepsKeepPrograms
 steps_keep one named dots plans read references images built ctors dispatch runs coded move s t (step.Rename file at new) reply h =
     λ done.
     (let r = renamed_of s t file at new reply h done in

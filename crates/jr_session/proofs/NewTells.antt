@@ -11,7 +11,6 @@ use Rattle.jr_names.specs.Replies.{Outcome, planned}
 use Rattle.jr_names.specs.Sites.{DepPair}
 use Rattle.jr_bind.specs.Programs.{Program}
 use Rattle.jr_images.specs.Images.{rows_to}
-use Rattle.jr_plan.proofs.Rename.{planned_is}
 use Rattle.jr_rename_laws.specs.PlanLaws.{IsPlanIn}
 use Rattle.jr_rename.specs.Afters.{PlansRows, IsAfter}
 use Rattle.jr_rename.specs.declared.afters.After.{After}
@@ -39,7 +38,7 @@ module _ (tables : NewTables) (sources : List Source) (p : Program Span) (is : I
   new_rows edits renaming respelled lost P h =
       let f = file sources p is number within in
       let g = h f.0 f.1 in
-      let in_p : IsPlanIn p f.0.text number at new edits renaming respelled = record { program = is.is; name = name; planned = planned_is p f.0.text number at new edits renaming respelled g.0 } in
+      let in_p : IsPlanIn p f.0.text number at new edits renaming respelled = record { program = is.is; name = name; planned = g.0 } in
       (rows_to g.0.found.g p.rows, tables sources p is f.0.text number at new edits renaming respelled in_p g.1, g.2)
 
   module _ (analysis : Analysis) (rows : p.rows ≡ analysis.table) where

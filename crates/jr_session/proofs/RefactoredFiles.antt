@@ -1,5 +1,6 @@
 -- A refactoring stays in the files of its session: the names, and the places that its refusals tell.
-use Rattle.std.proofs.Common.{◌≡◌, ◌∙◌, ◌<◌, ◌≤◌, ℕ, ap, arith, refl, sym, subst, List, [], ◌∷◌, length}
+use Rattle.std.proofs.Common.{◌≡◌, ◌∙◌, ◌<◌, ◌≤◌, ℕ, ap, arith, refl, sym, subst, inl, inr, List, [], ◌∷◌, length}
+use Rattle.std.specs.Prelude.{Some, slice_get}
 use Rattle.std.proofs.lemmas.List.{length-map}
 use Rattle.std.proofs.lemmas.Option.{slice_get_within}
 use Rattle.jr_text.specs.declared.spans.Span.{Span}
@@ -7,20 +8,22 @@ use Rattle.jr_text.specs.Edits.{Entry}
 use Rattle.jr_ast.specs.MemberTree as syntax
 use Rattle.jr_ast.specs.MemberTree.{Unit as UnitTree}
 use Rattle.jr_bind.specs.Programs.{File, Program, units_of}
-use Rattle.jr_images.specs.Renames as renames
 use Rattle.jr_rewrite.specs.Rewrites.{Choosing, RewritesUnits}
 use Rattle.jr_rewrite.specs.Rewritten.{Rewritten}
 use Rattle.jr_table.specs.DeclaredItems.{DeclaredItem}
 use Rattle.jr_sync.specs.declared.sites.DepKind.{DepKind}
 use Rattle.jr_names.specs.Refusals.{Refusal}
 use Rattle.jr_names.specs.Sites.{SiteAt}
-use Rattle.jr_plan.specs.Reasons.{IsRefused}
+use Rattle.jr_plan.specs.Reasons.{IsRefused, by_itself, overrides, loses}
+use Rattle.jr_plan.specs.Renaming.{renaming}
+use Rattle.jr_plan.specs.Transforms.{Lost}
 use Rattle.jr_sources.specs.Sources.{Source, IsFile, HasName, names_of}
 use Rattle.jr_sources.specs.Whole.{files_of, IsProgramOf}
 use Rattle.jr_grammar.specs.Layout.{itself}
 use Rattle.jr_session.specs.NewTexts.{with_edits}
 use Rattle.jr_session.proofs.Telling.{TellsIn}
-use Rattle.jr_plan.proofs.RenameRefused.{refused_is}
+use Rattle.jr_plan.proofs.Rename.{rewrite_back, all_kept_lost}
+use Rattle.jr_plan.proofs.RenameLost.{lost_file}
 use Rattle.jr_session.specs.Asked.{rename}
 use Rattle.jr_session.specs.Refactored as why
 use Rattle.jr_session.specs.Refactored.{IsPosed, IsPlan, transform_of, RefusesRefactoring, Refactors}
@@ -81,22 +84,21 @@ module _ (s : State) (ask : Request) where
 -- ---- of a rename
 
 module _ (s : State) (file : List ℕ) (at : ℕ) (new : List ℕ) where
-  planned_places : (p : Program Span) (number : ℕ) (text : List ℕ) (r : Refusal) → IsPosed s (rename file at new) p number text
-      → renames.IsRefused itself p.rows p.super_at (units_of p) text number at new r → TellsIn (length s.files) r
-  planned_places p number text r posed (renames.no_target h) =
+  planned_places : (p : Program Span) (number : ℕ) (text : List ℕ) (r : Refusal) → IsPosed s (rename file at new) p number text → IsRefused p (renaming p text number at new) r → TellsIn (length s.files) r
+  planned_places p number text r posed (by_itself (inl h)) =
       let own : number < length s.files = in_files s.files number file text posed.asked.stands in subst (TellsIn (length s.files)) (sym h.1) own
-  planned_places p number text r posed (renames.of_prelude of h) = subst (TellsIn (length s.files)) (sym h.2) tt
-  planned_places p number text r posed (renames.clashes of none h) = subst (TellsIn (length s.files)) (sym h.2) tt
-  planned_places p number text r posed (renames.overrides of none clear h) = subst (TellsIn (length s.files)) (sym h.3) tt
-  planned_places p number text r posed (renames.loses of none clear stays h) =
-      let there = slice_get_within h.0 h.1 h.4.lost.of h.4.lost.stands in
-      let many = as_many _ _ _ (units_of p) h.0 h.3 in
+  planned_places p number text r posed (by_itself (inr (d, g, of, inl h))) = subst (TellsIn (length s.files)) (sym h.2) tt
+  planned_places p number text r posed (by_itself (inr (d, g, of, inr (none, h)))) = subst (TellsIn (length s.files)) (sym h.2) tt
+  planned_places p number text r posed (overrides x h) = subst (TellsIn (length s.files)) (sym h.3) tt
+  planned_places p number text r posed (loses x keeps h) =
+      let there = lost_file h.0.files h.2.number h.1 (subst (λ (all : List Lost). slice_get all h.2.number ≡ Some h.1) (all_kept_lost p x.g h.0) h.2.stands) in
+      let many = as_many _ _ _ (units_of p) h.0.files (rewrite_back p x.g h.0) in
       let few = of_program s.files p posed.program in
-      let own : h.1 < length s.files = omega (arith, there, many, few) in
-      subst (TellsIn (length s.files)) (sym h.5) own
+      let own : h.1.file < length s.files = omega (arith, there, many, few) in
+      subst (TellsIn (length s.files)) (sym h.3) own
 
   pub rename_tells : TellsItsOwn s (rename file at new)
   rename_tells = record {
-    refused = λ p number text r posed h. planned_places p number text r posed (refused_is p text number at new r h);
+    refused = λ p number text r posed h. planned_places p number text r posed h;
     crossed = λ edits respelled plan kind first second pair. absurd pair;
   }

@@ -1,9 +1,6 @@
--- A rename as a request: it is planned in one way, and what its definitions say of any refactoring is
--- what `jr_rename_laws` says of a rename.
+-- A rename as a request: it is planned in one way.
 use Rattle.std.proofs.Common.{◌≡◌, ◌⊎◌, ℕ, List, [], ◌∷◌, inl, inr}
 use Rattle.jr_text.specs.Edits.{Entry}
-use Rattle.jr_plan.proofs.Rename.{planned_is}
-use Rattle.jr_plan.proofs.RenameRefused.{refused_is}
 use Rattle.jr_rename_laws.specs.OnePlan.{PlanIsOne}
 use Rattle.jr_rename_laws.specs.PlanLaws.{IsPlanIn}
 use Rattle.jr_sources.specs.Asking.{CanStand}
@@ -14,16 +11,7 @@ use Rattle.jr_session.specs.States.{State}
 use Rattle.jr_session.proofs.OneRefactoring.{IsPlannedOnce}
 
 pub rename_once : PlanIsOne → (file : List ℕ) (at : ℕ) (new : List ℕ) → IsPlannedOnce (rename file at new)
-rename_once law file at new p q is also same number f stands name =
-    let once = law p q is also same number at f stands new name in
-    record {
-      plans = λ edits others renaming pairs respelled count a b.
-          once.plans edits others renaming pairs respelled count (planned_is p f.text number at new edits renaming respelled a) (planned_is q f.text number at new others pairs count b);
-      refusals = λ r s a b. once.refusals r s (refused_is p f.text number at new r a) (refused_is q f.text number at new s b);
-      apart = λ edits renaming respelled r a b. once.apart edits renaming respelled r (planned_is p f.text number at new edits renaming respelled a) (refused_is q f.text number at new r b);
-      crossings = λ x y k l i j m n pair other. absurd pair;
-      crossed = λ x y k i j pair. pair;
-    }
+rename_once law file at new p q is also same number f stands name = law p q is also same number at f stands new name
 
 -- the one place that may be bad
 pub bad_place_is : (text : List ℕ) (at told : ℕ) → IsBadPlace text (at ∷ []) told → (CanStand text at → ⊥) × (told ≡ at)
@@ -33,4 +21,4 @@ bad_place_is text at told (inr h) = absurd (h.1 tt)
 
 -- the plan of a step, as `jr_rename_laws` has it
 abbrev pub plan_of : (s : State) (file : List ℕ) (at : ℕ) (new : List ℕ) (edits : List (List Entry)) (respelled : ℕ) → (h : IsPlan s (rename file at new) edits respelled) → IsPlanIn h.p h.text h.number at new edits h.renaming respelled
-plan_of s file at new edits respelled h = record { program = h.posed.program.is; name = h.posed.asked.name; planned = planned_is h.p h.text h.number at new edits h.renaming respelled h.planned }
+plan_of s file at new edits respelled h = record { program = h.posed.program.is; name = h.posed.asked.name; planned = h.planned }

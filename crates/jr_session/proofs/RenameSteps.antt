@@ -18,7 +18,7 @@ use Rattle.jr_bind.specs.Programs.{File, units_of}
 use Rattle.jr_rewrite.specs.Rewrites.{Choosing, RewritesUnits}
 use Rattle.jr_rewrite.specs.Rewritten.{Rewritten}
 use Rattle.jr_rewrite.specs.Edited.{entries_of}
-use Rattle.jr_plan.proofs.Rename.{planned_is}
+use Rattle.jr_plan.proofs.Rename.{rewrite_back}
 use Rattle.jr_rename_laws.specs.PlanLaws.{IsPlanIn, NewTextsRead}
 use Rattle.jr_sources.specs.declared.analyses.SourceFault.{SourceFault}
 use Rattle.jr_sources.specs.Analysed.{IsSourceWrong, CostsBinding}
@@ -60,14 +60,14 @@ fit_all (s ∷ ss) (e ∷ es) n h =
 
 module _ (read : NewTextsRead) (sources : List Source) (number at : ℕ) (new : List ℕ) (name : IsName new) (edits : List (List Entry)) (respelled : ℕ) (plan : ArePlanned sources number at new edits respelled) where
   abbrev plan_in : IsPlanIn plan.p plan.text number at new edits plan.renaming respelled
-  plan_in = record { program = plan.program.is; name = name; planned = planned_is plan.p plan.text number at new edits plan.renaming respelled plan.planned }
+  plan_in = record { program = plan.program.is; name = name; planned = plan.planned }
 
   module _ (within : number < length sources) where
     many_edits : length edits ≡ length sources
     many_edits =
-        ap length plan_in.planned.edits_are
-        ∙ length-map plan_in.planned.files (λ (o : Rewritten (syntax.Unit Span)). entries_of o.changes)
-        ∙ many_units _ _ (units_of plan.p) plan_in.planned.files plan_in.planned.rewrite
+        ap length plan.planned.edits_are
+        ∙ length-map plan.planned.becomes.files (λ (o : Rewritten (syntax.Unit Span)). entries_of o.changes)
+        ∙ many_units _ _ (units_of plan.p) plan.planned.becomes.files (rewrite_back plan.p plan.planned.found.g plan.planned.becomes)
         ∙ length-map plan.p.files (λ (f : File Span). f.unit)
         ∙ count sources plan.p plan.program number within
 

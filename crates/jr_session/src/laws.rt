@@ -61,7 +61,7 @@ pub fn accepted_refactorings_keep_programs()
     ensures { StepsKeepPrograms }
 {
     one_reading::<Span>();
-    plans_become::<Span, Span>();
+    plans_become::<Span>();
     rows_are_named::<Span>();
     classes_give_images::<Span, Span>();
     constructors_give_images::<Span, Span>();
