@@ -109,7 +109,7 @@ rename_is_sound rows g fair = record {
 
 -- ---- files
 
-files_of : (C : Choosing Span) (ds : List DeclaredItem) (us : List (syntax.Unit Span)) (os : List (Rewritten (syntax.Unit Span))) → RewritesUnits itself C ds us os → TransformsFiles C ds (λ n. nowhere) us os
+pub files_of : (C : Choosing Span) (ds : List DeclaredItem) (us : List (syntax.Unit Span)) (os : List (Rewritten (syntax.Unit Span))) → RewritesUnits itself C ds us os → TransformsFiles C ds (λ n. nowhere) us os
 files_of C ds [] os w = w
 files_of C ds (u ∷ us) os w = (w.0, w.1, w.2, files_of C ds us w.1 w.3, w.4)
 
@@ -129,7 +129,7 @@ files_back C ds (u ∷ us) os w = (w.0, w.1, w.2, files_back C ds us w.1 w.3, w.
 abbrev pub Files : Type 0
 Files = List (Rewritten (syntax.Unit Span))
 
-pub rewrite_to : (p : Program Span) (g : Renaming) (files : Files) → Rewrite itself p.rows p.super_at (units_of p) g files → Transformed p (rename_of p g)
+abbrev pub rewrite_to : (p : Program Span) (g : Renaming) (files : Files) → Rewrite itself p.rows p.super_at (units_of p) g files → Transformed p (rename_of p g)
 rewrite_to p g files w = record { files = files; rewritten = files_of (choosing_of p (rename_of p g)) _ (units_of p) files w; also_lost = []; also = refl }
 
 pub rewrite_back : (p : Program Span) (g : Renaming) (to : Transformed p (rename_of p g)) → Rewrite itself p.rows p.super_at (units_of p) g to.files
@@ -186,7 +186,7 @@ no_rest : (ls : List Loss) (n : ℕ) (rest : List Lost) → kept_lost n ls ++ re
 no_rest [] n rest e = e
 no_rest (l ∷ ls) n rest e = cc
 
-all_kept : (n : ℕ) (os : List (Rewritten (syntax.Unit Span))) → kept_from n os ≡ [] → (i : ℕ) (o : Rewritten (syntax.Unit Span)) → slice_get os i ≡ Some o → o.losses ≡ []
+pub all_kept : (n : ℕ) (os : List (Rewritten (syntax.Unit Span))) → kept_from n os ≡ [] → (i : ℕ) (o : Rewritten (syntax.Unit Span)) → slice_get os i ≡ Some o → o.losses ≡ []
 all_kept n [] e i o g = absurd (nothing i g)
   where
     nothing : (i : ℕ) → (let none : List (Rewritten (syntax.Unit Span)) = [] in slice_get none i ≡ Some o) → ⊥
@@ -197,7 +197,7 @@ all_kept n (x ∷ os) e zero o g = ap (λ (y : Rewritten (syntax.Unit Span)). y.
     same_file x o q = cc
 all_kept n (x ∷ os) e (suc i) o g = all_kept (suc n) os (no_rest x.losses n (kept_from (suc n) os) e) i o g
 
-none_lost : (n : ℕ) (os : Files) → ((i : ℕ) (o : Rewritten (syntax.Unit Span)) → slice_get os i ≡ Some o → o.losses ≡ []) → kept_from n os ≡ []
+pub none_lost : (n : ℕ) (os : Files) → ((i : ℕ) (o : Rewritten (syntax.Unit Span)) → slice_get os i ≡ Some o → o.losses ≡ []) → kept_from n os ≡ []
 none_lost n [] h = refl
 none_lost n (o ∷ os) h = ap (λ ls. kept_lost n ls ++ kept_from (suc n) os) (h 0 o refl) ∙ none_lost (suc n) os (λ i x e. h (suc i) x e)
 
