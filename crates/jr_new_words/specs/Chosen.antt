@@ -40,6 +40,7 @@ use Rattle.jr_images.specs.Images.{
   rows_to,
   scope_to,
 }
+use Rattle.jr_images.specs.Regions.{region_of}
 use Rattle.jr_images.specs.Spelling as spelling
 use Rattle.jr_images.specs.Spelling.{operand_of, reference, behind_words, dotted}
 use Rattle.jr_images.specs.Words.{InFront, FindsBehind, FindsNext, FirstStands, NextStands}
@@ -249,8 +250,8 @@ module _ (rows : List Row) (g : Renaming) (c : Context) where
   abbrev pub QualifiedTypeSpells : (at : ℕ) → (old : List ℕ) → (o k : ClassKey) → Choice → Type 0
   QualifiedTypeSpells at old o k h = Spells at old (class_to g k).name (class_decl k)
       (reference ref.ClassName (dotted (class_to g o).name (class_to g k).name) None [])
-      (spelling.QualifiedFinds unmarked rows g (scope_to g c) (class_to g o).name
-      (class_to g k).name)
+      (spelling.QualifiedThere unmarked rows (region_of rows g) (scope_to g c)
+      (class_to g o).name (class_to g k).name)
       h
 
   -- a class, and the member class of it

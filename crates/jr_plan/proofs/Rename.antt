@@ -107,7 +107,7 @@ rename_is_sound rows g fair = record {
 
 -- ---- files
 
-files_of : (C : Choosing Span) (ds : List DeclaredItem) (us : List (syntax.Unit Span)) (os : List (Rewritten (syntax.Unit Span))) → RewritesUnits itself C ds us os → TransformsFiles C ds (λ n. nowhere) us os
+pub files_of : (C : Choosing Span) (ds : List DeclaredItem) (us : List (syntax.Unit Span)) (os : List (Rewritten (syntax.Unit Span))) → RewritesUnits itself C ds us os → TransformsFiles C ds (λ n. nowhere) us os
 files_of C ds [] os w = w
 files_of C ds (u ∷ us) os w = (w.0, w.1, w.2, files_of C ds us w.1 w.3, w.4)
 
@@ -127,7 +127,7 @@ files_back C ds (u ∷ us) os w = (w.0, w.1, w.2, files_back C ds us w.1 w.3, w.
 abbrev pub Files : Type 0
 Files = List (Rewritten (syntax.Unit Span))
 
-pub rewrite_to : (p : Program Span) (g : Renaming) (files : Files) → Rewrite itself p.rows p.super_at (units_of p) g files → Transformed p (rename_of p g)
+abbrev pub rewrite_to : (p : Program Span) (g : Renaming) (files : Files) → Rewrite itself p.rows p.super_at (units_of p) g files → Transformed p (rename_of p g)
 rewrite_to p g files w = record { files = files; rewritten = files_of (choosing_of p (rename_of p g)) _ (units_of p) files w; also_lost = []; also = refl }
 
 pub rewrite_back : (p : Program Span) (g : Renaming) (to : Transformed p (rename_of p g)) → Rewrite itself p.rows p.super_at (units_of p) g to.files
@@ -169,7 +169,7 @@ all_kept n (x ∷ os) e (suc i) o g = all_kept (suc n) os (no_rest x.losses n (k
 
 -- where nothing is lost, no file loses anything
 pub none_loses : (p : Program Span) (g : Renaming) (to : Transformed p (rename_of p g)) → all_lost to.files to.also_lost ≡ [] → (i : ℕ) (o : Rewritten (syntax.Unit Span)) → slice_get to.files i ≡ Some o → o.losses ≡ []
-none_loses p g to none = all_kept 0 to.files (sym (all_kept_lost p g to) ∙ none)
+none_loses p g to e = all_kept 0 to.files (sym (all_kept_lost p g to) ∙ e)
 
 pub none_lost : (n : ℕ) (os : Files) → ((i : ℕ) (o : Rewritten (syntax.Unit Span)) → slice_get os i ≡ Some o → o.losses ≡ []) → kept_from n os ≡ []
 none_lost n [] h = refl
