@@ -204,7 +204,7 @@ module _ (reading : HasOneReading) (items_once : OneItems) (placed : PartsArePla
   pub no_file_out : RulesOut (NoFile s ask) (HasFile s ask)
   no_file_out r g h = lacks_none s.files h.0 ask.file h.1 g.0 h.2
 
-  no_place_one : IsOne (NoPlace s ask)
+  pub no_place_one : IsOne (NoPlace s ask)
   no_place_one r q (n, a, t, is, bad, told) (m, b, u, also, worse, tells) =
       let same = one_file s.files n m ask.file t u differ is also in
       told ∙ ap (bad_place ask.file) (one_bad_place u ask.places a b (subst (λ (x : List ℕ). IsBadPlace x ask.places a) same.1 bad) worse) ∙ sym tells
@@ -213,7 +213,7 @@ module _ (reading : HasOneReading) (items_once : OneItems) (placed : PartsArePla
   no_place_out r (n, a, t, is, bad, told) h =
       bad_place_out t ask.places a bad (subst (λ (x : List ℕ). AreGoodPlaces x ask.places) (one_file s.files h.0 n ask.file h.1 t differ h.2 is).1 h.3)
 
-  no_name_one : IsOne (NoName s ask)
+  pub no_name_one : IsOne (NoName s ask)
   no_name_one r q g h = g.2 ∙ ap bad_name (one_bad_name ask.name g.0 h.0 g.1 h.1) ∙ sym h.2
 
   no_name_out : RulesOut (NoName s ask) (IsGoodName ask.name)
@@ -237,7 +237,7 @@ module _ (reading : HasOneReading) (items_once : OneItems) (placed : PartsArePla
     same_asked : (n ≡ m) × (a ≡ b)
     same_asked = one_file s.files n m ask.file a b differ g.asked.stands h.asked.stands
 
-    once_here : HasOnePlan p q (ask.refactoring p a n) (ask.refactoring q a n)
+    pub once_here : HasOnePlan p q (ask.refactoring p a n) (ask.refactoring q a n)
     once_here =
         let has = text_of_file s.files n ask.file a g.asked.stands in
         let f = file_there s.files p g.program n (slice_get_within s.files n (record { name = ask.file; text = a }) g.asked.stands) in

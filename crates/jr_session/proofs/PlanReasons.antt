@@ -108,7 +108,7 @@ module _ (p : Program Span) (t : MemberKey → ℕ) (bs : List Bound) (program :
     spared : (z : Refusal) → renames.OfPrelude itself p.rows t units e new z → ⊥
     spared = spares_to x.target e x.g h x.renames y x.no_prelude
 
-    found : IsFound other f.text number at new
+    abbrev found : IsFound other f.text number at new
     found = record { target = e; g = h; renames = y; no_prelude = spared; clear = clear_to x.target e x.g h x.renames y x.clear }
 
     dispatched : KeepsDispatch p (rename_of p x.g) → KeepsDispatch other (rename_of other h)
