@@ -8,7 +8,8 @@ use Rattle.jr_table.specs.Entries.{entries_of}
 use Rattle.jr_table.specs.Conditions.{AreRows}
 use Rattle.jr_table.specs.Keyed.{DispatchesTo}
 use Rattle.jr_images.specs.Images.{Renaming, class_to, method_to, rows_to}
-use Rattle.jr_images.specs.Refusals.{ChangesDispatch}
+use Rattle.jr_images.specs.Regions.{images_of}
+use Rattle.jr_plan.specs.Reasons.{ChangesDispatch}
 use Rattle.jr_dispatch.specs.Kept.{DispatchIsKept}
 use Rattle.jr_dispatch.proofs.ImageEntries.{row_goes}
 use Rattle.jr_dispatch.proofs.KeyedChanges.{programs, found}
@@ -25,7 +26,7 @@ module _ (rows : List Row) (g : Renaming) (are : AreRows rows) (news : AreRows (
       let later = found g rows are news (rows_to g rows) news (class_to g of) (method_to g m) o.c o.d o.j near.0 image.0 _ (row_goes g rows (class_decl of) o.c o.place) (row_goes g rows (method_decl m) o.j o.row) image.1 below near.1 in
       (later.key, later.is)
 
-  pub to_image : ((k : ClassKey) (m : MethodKey) → ChangesDispatch rows g k m → ⊥) → (of : ClassKey) (m was : MethodKey) → DispatchesTo rows of m was → DispatchesTo (rows_to g rows) (class_to g of) (method_to g m) (method_to g was)
+  pub to_image : ((k : ClassKey) (m : MethodKey) → ChangesDispatch rows (images_of rows g) k m → ⊥) → (of : ClassKey) (m was : MethodKey) → DispatchesTo rows of m was → DispatchesTo (rows_to g rows) (class_to g of) (method_to g m) (method_to g was)
   to_image none of m was o = (let n = goes of m was o in by n.0 n.1 (same_method n.0 (method_to g was)) refl)
     where
       by : (now : MethodKey) → DispatchesTo (rows_to g rows) (class_to g of) (method_to g m) now → (b : Bool) → same_method now (method_to g was) ≡ b

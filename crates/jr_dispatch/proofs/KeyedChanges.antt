@@ -17,7 +17,8 @@ use Rattle.jr_table.proofs.RowLaws.{the_number, row_at, entry_stands, acyclic_ro
 use Rattle.jr_table.proofs.OneEach.{is_class_decl, one_virtual}
 use Rattle.jr_table.proofs.Border.{is_virtual_at, MethodHere, method_here, MethodFound, the_method}
 use Rattle.jr_images.specs.Images.{Renaming, class_to, method_to, decl_to, row_to, rows_to}
-use Rattle.jr_images.specs.Refusals.{ChangesDispatch, IsFirstChange}
+use Rattle.jr_images.specs.Regions.{images_of}
+use Rattle.jr_plan.specs.Reasons.{ChangesDispatch, IsFirstChange}
 use Rattle.jr_dispatch.specs.Keys.{declared_class, class_at}
 use Rattle.jr_dispatch.specs.Changes.{AreAlike, HasNames, ChangesAt, IsClassAt, IsFirstChangeAt}
 use Rattle.jr_dispatch.proofs.Connected.{same_row, one_key}
@@ -90,7 +91,7 @@ module _ (g : Renaming) (rows : List Row) (are : AreRows rows) (news : AreRows (
     pub method : IsRowOf rows (method_decl m) j
     pub changes : ChangesAt old new c j
 
-  pub by_numbers : (of : ClassKey) (m : MethodKey) → ChangesDispatch rows g of m → IsChange of m
+  pub by_numbers : (of : ClassKey) (m : MethodKey) → ChangesDispatch rows (images_of rows g) of m → IsChange of m
   by_numbers of m h =
       let o = h.old in
       let n = h.new in
@@ -132,7 +133,7 @@ module _ (g : Renaming) (rows : List Row) (are : AreRows rows) (news : AreRows (
       (subst (IsSubclassAt (entries_of qs) c) (sym v.declared.class) below)
       ((λ i. nearest (entries_of qs) (is_virtual (v.declared.named i) (v.declared.takes i)) c) ∙ near)
 
-  pub by_keys : (of : ClassKey) (m : MethodKey) (c j : ℕ) → IsRowOf rows (class_decl of) c → IsRowOf rows (method_decl m) j → ChangesAt old new c j → ChangesDispatch rows g of m
+  pub by_keys : (of : ClassKey) (m : MethodKey) (c j : ℕ) → IsRowOf rows (class_decl of) c → IsRowOf rows (method_decl m) j → ChangesAt old new c j → ChangesDispatch rows (images_of rows g) of m
   by_keys of m c j class method h =
       let below = subclass_goes old new programs.alike.parents c h.class h.below in
       let k = nearest_some old programs.old_acyclic programs.one_old h.was h.params c h.class j h.below h.names.before in
@@ -151,7 +152,7 @@ module _ (g : Renaming) (rows : List Row) (are : AreRows rows) (news : AreRows (
             h.differs (k.1 ∙ ap Some same ∙ sym n.1);
       }
 
-  pub first_is : (of : ClassKey) (m : MethodKey) (c j : ℕ) → class_at rows c ≡ Some of → method_at rows j ≡ Some m → IsFirstChangeAt old new c j → IsFirstChange rows g of m
+  pub first_is : (of : ClassKey) (m : MethodKey) (c j : ℕ) → class_at rows c ≡ Some of → method_at rows j ≡ Some m → IsFirstChangeAt old new c j → IsFirstChange rows (images_of rows g) of m
   first_is of m c j at mt h =
       let class = class_row rows c of at in
       let method = method_row rows j m mt in
@@ -170,7 +171,7 @@ module _ (g : Renaming) (rows : List Row) (are : AreRows rows) (news : AreRows (
             subst (λ (z : ℕ). j ≤ z) (are.one_each (method_decl n) y.j i y.method r) (h.first_method y.j changes);
       }
 
-  pub none_is : ((c j : ℕ) → IsClassAt old c → ChangesAt old new c j → ⊥) → (of : ClassKey) (m : MethodKey) → ChangesDispatch rows g of m → ⊥
+  pub none_is : ((c j : ℕ) → IsClassAt old c → ChangesAt old new c j → ⊥) → (of : ClassKey) (m : MethodKey) → ChangesDispatch rows (images_of rows g) of m → ⊥
   none_is none of m x = let y = by_numbers of m x in none y.c y.j (is_class_at rows of y.c y.class) y.changes
 
 -- ---- a table of the images
@@ -182,10 +183,10 @@ module _ (g : Renaming) (rows qs : List Row) (are : AreRows rows) (fit : AreRows
   pub are_alike : AreAlike (entries_of rows) (entries_of qs)
   are_alike = subst (λ (ps : List Row). AreAlike (entries_of rows) (entries_of ps)) (sym is) (alike g rows are news)
 
-  pub no_change : ((c j : ℕ) → IsClassAt (entries_of rows) c → ChangesAt (entries_of rows) (entries_of qs) c j → ⊥) → (of : ClassKey) (m : MethodKey) → ChangesDispatch rows g of m → ⊥
+  pub no_change : ((c j : ℕ) → IsClassAt (entries_of rows) c → ChangesAt (entries_of rows) (entries_of qs) c j → ⊥) → (of : ClassKey) (m : MethodKey) → ChangesDispatch rows (images_of rows g) of m → ⊥
   no_change none = none_is g rows are news (λ c j k h. none c j k (subst (λ (ps : List Row). ChangesAt (entries_of rows) (entries_of ps) c j) (sym is) h))
 
-  pub first_of : (c j : ℕ) → IsFirstChangeAt (entries_of rows) (entries_of qs) c j → (of : ClassKey) (m : MethodKey) → class_at rows c ≡ Some of → method_at rows j ≡ Some m → IsFirstChange rows g of m
+  pub first_of : (c j : ℕ) → IsFirstChangeAt (entries_of rows) (entries_of qs) c j → (of : ClassKey) (m : MethodKey) → class_at rows c ≡ Some of → method_at rows j ≡ Some m → IsFirstChange rows (images_of rows g) of m
   first_of c j h of m at mt = first_is g rows are news of m c j at mt (subst (λ (ps : List Row). IsFirstChangeAt (entries_of rows) (entries_of ps) c j) is h)
 
   pub shows_class : (c j : ℕ) → IsFirstChangeAt (entries_of rows) (entries_of qs) c j → None ≡ class_at rows c → ⊥

@@ -7,7 +7,8 @@ ghost use Rattle.jr_table.specs.TypeView.{class_key_of};
 ghost use Rattle.jr_table.specs.KeyView.{method_key_of};
 ghost use Rattle.jr_images.specs.Images.{rows_to};
 ghost use Rattle.jr_images.specs.ImageView.{renaming_of};
-ghost use Rattle.jr_images.specs.Refusals.{ChangesDispatch, IsFirstChange};
+ghost use Rattle.jr_images.specs.Regions.{images_of};
+ghost use Rattle.jr_plan.specs.Reasons.{ChangesDispatch, IsFirstChange};
 ghost use Rattle.jr_dispatch.specs.Keys.{class_at};
 ghost use Rattle.jr_dispatch.specs.Kept.{DispatchIsKept};
 
@@ -49,10 +50,10 @@ pub fn dispatch_change(
     g: &NewName,
 ) -> Result<Option<(ClassKey, MethodKey)>, AllocError>
     requires { new.now ≡ rows_to (renaming_of g.now) old.now }
-    ensures first { IfOk result (λ o. IfSome o (λ p. IsFirstChange old.now (renaming_of g.now)
-        (class_key_of p.0) (method_key_of p.1))) }
+    ensures first { IfOk result (λ o. IfSome o (λ p. IsFirstChange old.now
+        (images_of old.now (renaming_of g.now)) (class_key_of p.0) (method_key_of p.1))) }
     ensures none { IfOk result (λ o. IfNone o ((k : keys.ClassKey) (m : keys.MethodKey)
-        → ChangesDispatch old.now (renaming_of g.now) k m → ⊥)) }
+        → ChangesDispatch old.now (images_of old.now (renaming_of g.now)) k m → ⊥)) }
 {
     old.keeps_rows();
     new.keeps_rows();

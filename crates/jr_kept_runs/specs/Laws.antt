@@ -35,7 +35,7 @@ RenamesKeepRuns = (p q : Program Span) (text : List ℕ) (file at : ℕ) (new : 
     (edits : List (List Entry)) (renaming : List (Decl × Decl)) (respelled : ℕ)
     → (is : IsPlanIn p text file at new edits renaming respelled)
     → map without_marks (units_of q)
-    ≡ map (λ (o : Rewritten (UnitTree Span)). without_marks o.tree) is.planned.files
-    → q.rows ≡ rows_to is.planned.g p.rows
-    → AreImages itself begins [] p.rows (units_of p) is.planned.g (units_of q)
-    → KeepsRuns (keys_to is.planned.g) (sources_of p) (sources_of q)
+    ≡ map (λ (o : Rewritten (UnitTree Span)). without_marks o.tree) is.planned.becomes.files
+    → q.rows ≡ rows_to is.planned.found.g p.rows
+    → AreImages itself begins [] p.rows (units_of p) is.planned.found.g (units_of q)
+    → KeepsRuns (keys_to is.planned.found.g) (sources_of p) (sources_of q)

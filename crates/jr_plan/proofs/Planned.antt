@@ -15,7 +15,7 @@ use Rattle.jr_rewrite.specs.Spots.{Spotted}
 use Rattle.jr_rewrite.specs.Rewrites.{Choosing, TransformsUnit}
 use Rattle.jr_rewrite.proofs.Rewriting.{transformed_reads}
 use Rattle.jr_images.proofs.SuitableSpelling.{choosing_suits}
-use Rattle.jr_plan.specs.Transforms.{TransformsFiles, Transform, choosing_of, IsFit}
+use Rattle.jr_plan.specs.Transforms.{TransformsFiles, Transform, Transformed, choosing_of, IsFit}
 
 none_some : {T : Type 0} (x : T) → (let none : Option T = None in none ≡ Some x) → ⊥
 none_some x e = cc
@@ -34,8 +34,8 @@ file_transforms C ds (x ∷ fs) os spots w zero f o e g =
 file_transforms C ds (x ∷ fs) os spots w (suc n) f o e g =
     file_transforms C ds fs w.1 (λ i. spots (suc i)) w.3 n f o e (ap (λ xs. slice_get xs (suc n)) (sym w.4) ∙ g)
 
-pub plans_read : (p : Program Span) (t : Transform) → IsFit p t → (n : ℕ) (f : File Span) (o : Rewritten (syntax.Unit Span)) → slice_get p.files n ≡ Some f → slice_get t.files n ≡ Some o
+pub plans_read : (p : Program Span) (t : Transform) → IsFit p t → (to : Transformed p t) → (n : ℕ) (f : File Span) (o : Rewritten (syntax.Unit Span)) → slice_get p.files n ≡ Some f → slice_get to.files n ≡ Some o
     → ReadsWithSpans itself f.text f.unit → IsRewritten f.text o
-plans_read p t fit n f o e g h =
+plans_read p t fit to n f o e g h =
     transformed_reads itself (choosing_of p t) (t.spots n) (t.fronts n) f.text (choosing_suits (λ (m : Span) b. m.from) p.rows t.region fit.named (λ (c : Context). p.super_at c.member)) (fit.spots n f e) (declarations_of (λ (m : Span) b. m.from) (units_of p)) f.unit o h
-    (fit.fronted n f h.items e h.lexes) (file_transforms (choosing_of p t) (declarations_of (λ (m : Span) b. m.from) (units_of p)) p.files t.files t.spots fit.rewritten n f o e g)
+    (fit.fronted n f h.items e h.lexes) (file_transforms (choosing_of p t) (declarations_of (λ (m : Span) b. m.from) (units_of p)) p.files to.files t.spots to.rewritten n f o e g)

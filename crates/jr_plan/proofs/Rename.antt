@@ -1,9 +1,8 @@
--- A rename is a refactoring: what it makes fits, and its plan is that of `jr_images: Renames`.
+-- A rename is a refactoring: what it makes fits, and its files are those of `jr_images: Renames`.
 use Rattle.std.proofs.Common.{◌≡◌, ℕ, zero, suc, List, [], ◌∷◌, ◌++◌, map, Option, Some, None, refl, sym, ap, ◌∙◌}
 use Rattle.std.specs.Prelude.{slice_get, option_map, filter, not}
 use Rattle.std.proofs.lemmas.List.{append-nil}
 use Rattle.jr_text.specs.declared.spans.Span.{Span}
-use Rattle.jr_text.specs.Edits.{Entry}
 use Rattle.jr_lex.specs.declared.items.Item.{Item}
 use Rattle.jr_lex.specs.declared.items.ItemKind.{ItemKind}
 use Rattle.jr_lex.specs.declared.items.ItemKind.TheVariants.{Token as TokenItem, Blank, Comment}
@@ -11,7 +10,7 @@ use Rattle.jr_lex.specs.Replacing.{IsName}
 use Rattle.jr_ast.specs.Tree as tree
 use Rattle.jr_ast.specs.MemberTree as syntax
 use Rattle.jr_grammar.specs.Layout.{itself}
-use Rattle.jr_table.specs.Keys.{ClassKey, MethodKey, Ty, int, boolean, void, null, class}
+use Rattle.jr_table.specs.Keys.{ClassKey, Ty, int, boolean, void, null, class}
 use Rattle.jr_table.specs.Decls.{MemberKey, head, field, method, constructor, LocalKey, Decl, class_decl, field_decl, method_decl, constructor_decl, local_decl}
 use Rattle.jr_table.specs.SameDecls.{same_decl}
 use Rattle.jr_table.specs.Rows.{Row}
@@ -31,10 +30,9 @@ use Rattle.jr_images.specs.TextLaws.{AreNamed}
 use Rattle.jr_images.proofs.SuitableSpelling.{rename_named}
 use Rattle.jr_images.specs.Renames as rename
 use Rattle.jr_images.specs.Renames.{Rewrite}
-use Rattle.jr_images.specs.Refusals as dispatching
-use Rattle.jr_plan.specs.Transforms.{TransformsFiles, choosing_of, IsFit, Lost, kept_lost, kept_from}
-use Rattle.jr_plan.specs.Reasons.{ChangesDispatch, IsFirstChange, row_image, pairs_of, IsPlanned}
-use Rattle.jr_plan.specs.Renaming.{rename_of, renaming}
+use Rattle.jr_plan.specs.Transforms.{TransformsFiles, Transformed, choosing_of, IsFit, Lost, kept_lost, kept_from, all_lost}
+use Rattle.jr_plan.specs.Reasons.{row_image, pairs_of}
+use Rattle.jr_plan.specs.Renaming.{rename_of}
 
 -- ---- images
 
@@ -109,7 +107,7 @@ rename_is_sound rows g fair = record {
 
 -- ---- files
 
-files_of : (C : Choosing Span) (ds : List DeclaredItem) (us : List (syntax.Unit Span)) (os : List (Rewritten (syntax.Unit Span))) → RewritesUnits itself C ds us os → TransformsFiles C ds (λ n. nowhere) us os
+pub files_of : (C : Choosing Span) (ds : List DeclaredItem) (us : List (syntax.Unit Span)) (os : List (Rewritten (syntax.Unit Span))) → RewritesUnits itself C ds us os → TransformsFiles C ds (λ n. nowhere) us os
 files_of C ds [] os w = w
 files_of C ds (u ∷ us) os w = (w.0, w.1, w.2, files_of C ds us w.1 w.3, w.4)
 
@@ -122,35 +120,33 @@ all_fronted (item ∷ items) = (by_kind item.kind, all_fronted items)
     by_kind Blank = tt
     by_kind Comment = tt
 
+files_back : (C : Choosing Span) (ds : List DeclaredItem) (us : List (syntax.Unit Span)) (os : List (Rewritten (syntax.Unit Span))) → TransformsFiles C ds (λ n. nowhere) us os → RewritesUnits itself C ds us os
+files_back C ds [] os w = w
+files_back C ds (u ∷ us) os w = (w.0, w.1, w.2, files_back C ds us w.1 w.3, w.4)
+
+abbrev pub Files : Type 0
+Files = List (Rewritten (syntax.Unit Span))
+
+abbrev pub rewrite_to : (p : Program Span) (g : Renaming) (files : Files) → Rewrite itself p.rows p.super_at (units_of p) g files → Transformed p (rename_of p g)
+rewrite_to p g files w = record { files = files; rewritten = files_of (choosing_of p (rename_of p g)) _ (units_of p) files w; also_lost = []; also = refl }
+
+pub rewrite_back : (p : Program Span) (g : Renaming) (to : Transformed p (rename_of p g)) → Rewrite itself p.rows p.super_at (units_of p) g to.files
+rewrite_back p g to = files_back (choosing_of p (rename_of p g)) _ (units_of p) to.files to.rewritten
+
+-- nothing but kept references is lost
+pub all_kept_lost : (p : Program Span) (g : Renaming) (to : Transformed p (rename_of p g)) → all_lost to.files to.also_lost ≡ kept_from 0 to.files
+all_kept_lost p g to = ap (λ also. kept_from 0 to.files ++ also) to.also ∙ append-nil (kept_from 0 to.files)
+
 -- a rename is a transform
-pub rename_fits : (p : Program Span) (g : Renaming) (files : List (Rewritten (syntax.Unit Span))) → IsFair p.rows g
-    → AreNamed p.rows → IsName g.name → Rewrite itself p.rows p.super_at (units_of p) g files → IsFit p (rename_of p g files)
-rename_fits p g files fair named new_is w = record {
+pub rename_fits : (p : Program Span) (g : Renaming) → IsFair p.rows g → AreNamed p.rows → IsName g.name → IsFit p (rename_of p g)
+rename_fits p g fair named new_is = record {
   sound = rename_is_sound p.rows g fair;
   named = rename_named p.rows g new_is named;
   spots = λ n f e. tt;
   fronted = λ n f items e lexes. all_fronted items;
-  rewritten = files_of (choosing_of p (rename_of p g files)) _ (units_of p) files w;
 }
 
--- ---- its plan, and why it is refused
-
-pub back_dispatch : (rows : List Row) (g : Renaming) (of : ClassKey) (k : MethodKey) → dispatching.ChangesDispatch rows g of k → ChangesDispatch rows (images_of rows g) of k
-back_dispatch rows g of k h = record { was = h.was; now = h.now; old = h.old; new = h.new; changed = h.changed }
-
-pub there_dispatch : (rows : List Row) (g : Renaming) (of : ClassKey) (k : MethodKey) → ChangesDispatch rows (images_of rows g) of k → dispatching.ChangesDispatch rows g of k
-there_dispatch rows g of k h = record { was = h.was; now = h.now; old = h.old; new = h.new; changed = h.changed }
-
-pub first_change : (rows : List Row) (g : Renaming) (of : ClassKey) (k : MethodKey) → IsFirstChange rows (images_of rows g) of k → dispatching.IsFirstChange rows g of k
-first_change rows g of k h = record {
-  changes = there_dispatch rows g of k h.changes;
-  class_at = h.class_at;
-  method_at = h.method_at;
-  class_row = h.class_row;
-  method_row = h.method_row;
-  first_class = λ o n i changes. h.first_class o n i (back_dispatch rows g o n changes);
-  first_method = λ n j changes. h.first_method n j (back_dispatch rows g of n changes);
-}
+-- ---- what is lost
 
 no_more : (ls : List Loss) (n : ℕ) (rest : List Lost) → kept_lost n ls ++ rest ≡ [] → ls ≡ []
 no_more [] n rest e = refl
@@ -160,7 +156,7 @@ no_rest : (ls : List Loss) (n : ℕ) (rest : List Lost) → kept_lost n ls ++ re
 no_rest [] n rest e = e
 no_rest (l ∷ ls) n rest e = cc
 
-all_kept : (n : ℕ) (os : List (Rewritten (syntax.Unit Span))) → kept_from n os ≡ [] → (i : ℕ) (o : Rewritten (syntax.Unit Span)) → slice_get os i ≡ Some o → o.losses ≡ []
+pub all_kept : (n : ℕ) (os : List (Rewritten (syntax.Unit Span))) → kept_from n os ≡ [] → (i : ℕ) (o : Rewritten (syntax.Unit Span)) → slice_get os i ≡ Some o → o.losses ≡ []
 all_kept n [] e i o g = absurd (nothing i g)
   where
     nothing : (i : ℕ) → (let none : List (Rewritten (syntax.Unit Span)) = [] in slice_get none i ≡ Some o) → ⊥
@@ -171,38 +167,26 @@ all_kept n (x ∷ os) e zero o g = ap (λ (y : Rewritten (syntax.Unit Span)). y.
     same_file x o q = cc
 all_kept n (x ∷ os) e (suc i) o g = all_kept (suc n) os (no_rest x.losses n (kept_from (suc n) os) e) i o g
 
+-- where nothing is lost, no file loses anything
+pub none_loses : (p : Program Span) (g : Renaming) (to : Transformed p (rename_of p g)) → all_lost to.files to.also_lost ≡ [] → (i : ℕ) (o : Rewritten (syntax.Unit Span)) → slice_get to.files i ≡ Some o → o.losses ≡ []
+none_loses p g to e = all_kept 0 to.files (sym (all_kept_lost p g to) ∙ e)
+
+pub none_lost : (n : ℕ) (os : Files) → ((i : ℕ) (o : Rewritten (syntax.Unit Span)) → slice_get os i ≡ Some o → o.losses ≡ []) → kept_from n os ≡ []
+none_lost n [] h = refl
+none_lost n (o ∷ os) h = ap (λ ls. kept_lost n ls ++ kept_from (suc n) os) (h 0 o refl) ∙ none_lost (suc n) os (λ i x e. h (suc i) x e)
+
 same_members : (rows : List Row) (g : Renaming) (k : MemberKey) → image_of_member (images_of rows g) k ≡ old.member_to g k
 same_members rows g (head k) = refl
 same_members rows g (field k) = refl
 same_members rows g (method k) = refl
 same_members rows g (constructor k) = refl
 
-same_image : (p : Program Span) (g : Renaming) (files : List (Rewritten (syntax.Unit Span))) (d : Decl) → row_image p (rename_of p g files) d ≡ old.decl_to g d
-same_image p g files (class_decl k) = refl
-same_image p g files (field_decl k) = refl
-same_image p g files (method_decl k) = refl
-same_image p g files (constructor_decl k) = refl
-same_image p g files (local_decl k) = ap (λ (m : MemberKey). local_decl (record { member = m; number = k.number })) (same_members p.rows g k.member)
+same_image : (p : Program Span) (g : Renaming) (d : Decl) → row_image p (rename_of p g) d ≡ old.decl_to g d
+same_image p g (class_decl k) = refl
+same_image p g (field_decl k) = refl
+same_image p g (method_decl k) = refl
+same_image p g (constructor_decl k) = refl
+same_image p g (local_decl k) = ap (λ (m : MemberKey). local_decl (record { member = m; number = k.number })) (same_members p.rows g k.member)
 
-same_pairs : (p : Program Span) (g : Renaming) (files : List (Rewritten (syntax.Unit Span))) → pairs_of p (rename_of p g files) ≡ rename.pairs_of p.rows g
-same_pairs p g files = ap (λ (f : Decl → Decl). map (λ (r : Row). (r.decl, f r.decl)) (filter (λ (r : Row). not (same_decl r.decl (f r.decl))) p.rows)) (λ i d. same_image p g files d i)
-
-module _ (p : Program Span) (text : List ℕ) (file at : ℕ) (new : List ℕ) where
-  pub planned_is : (edits : List (List Entry)) (pairs : List (Decl × Decl)) (respelled : ℕ) → IsPlanned p (renaming p text file at new) edits pairs respelled
-      → rename.IsPlanned itself p.rows p.super_at (units_of p) text file at new edits pairs respelled
-  planned_is edits pairs respelled h =
-      let x = h.found in
-      record {
-        target = x.target;
-        g = x.g;
-        renames = x.renames;
-        no_prelude = x.no_prelude;
-        clear = x.clear;
-        dispatch = λ k m changes. h.dispatch k m (back_dispatch p.rows x.g k m changes);
-        files = x.files;
-        rewrite = x.rewrite;
-        kept = all_kept 0 x.files (sym (append-nil (kept_from 0 x.files)) ∙ h.kept_all);
-        edits_are = h.edits_are;
-        renaming_is = h.renaming_is ∙ same_pairs p x.g x.files;
-        respelled_is = h.respelled_is;
-      }
+pub same_pairs : (p : Program Span) (g : Renaming) → pairs_of p (rename_of p g) ≡ rename.pairs_of p.rows g
+same_pairs p g = ap (λ (f : Decl → Decl). map (λ (r : Row). (r.decl, f r.decl)) (filter (λ (r : Row). not (same_decl r.decl (f r.decl))) p.rows)) (λ i d. same_image p g d i)

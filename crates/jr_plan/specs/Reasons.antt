@@ -33,7 +33,9 @@ use Rattle.jr_table.specs.SameDecls.{same_decl}
 use Rattle.jr_table.specs.Rows.{Row}
 use Rattle.jr_table.specs.Entries.{IsRowOf}
 use Rattle.jr_table.specs.Keyed.{DispatchesTo}
+use Rattle.jr_sync.specs.declared.sites.DepKind.{DepKind}
 use Rattle.jr_names.specs.Refusals.{Refusal, override_changed, lost_binding}
+use Rattle.jr_names.specs.Sites.{SiteAt}
 use Rattle.jr_bind.specs.Programs.{Program}
 use Rattle.jr_rewrite.specs.Rewritten.{Rewritten}
 use Rattle.jr_images.specs.Regions.{Images, image_of_member}
@@ -44,6 +46,7 @@ use Rattle.jr_plan.specs.Transforms.{
   made,
   Lost,
   Transform,
+  Transformed,
   Refactoring,
   edits_of,
   all_lost,
@@ -112,7 +115,7 @@ module _ (p : Program Span) (t : Transform) where
       (k : ClassKey) (m : MethodKey) → ChangesDispatch p.rows (images_in t) k m → ⊥
 
   abbrev pub Loses : Refusal → Type 0
-  Loses r = (x : Lost) × IsFirstLost (all_lost t) x
+  Loses r = (to : Transformed p t) × (x : Lost) × IsFirstLost (all_lost to.files to.also_lost) x
       × (r ≡ lost_binding
       (record { file = x.file; at = x.loss.at }) x.loss.declaration x.loss.found)
 
@@ -132,25 +135,41 @@ module _ (p : Program Span) (t : Transform) where
   pairs_of = map (λ (r : Row). (r.decl, row_image r.decl))
       (filter (λ (r : Row). not (same_decl r.decl (row_image r.decl))) p.rows)
 
+-- what is found says that none of its own reasons applies
 module _ (p : Program Span) (f : Refactoring) where
-  -- by none of its own reasons
-  abbrev pub IsLetGo : Type 0
-  IsLetGo = (q : Refusal) → f.Refuses q → ⊥
-
   pub data IsRefused (r : Refusal) : Type 0 where
     by_itself : f.Refuses r → IsRefused r
-    overrides : IsLetGo → (x : f.Found) → Overrides p (f.transform x) r → IsRefused r
-    loses : IsLetGo → (x : f.Found) → KeepsDispatch p (f.transform x)
-        → Loses p (f.transform x) r → IsRefused r
+    overrides : (x : f.Found) → Overrides p (f.transform x) r → IsRefused r
+    loses : (x : f.Found) → KeepsDispatch p (f.transform x) → Loses p (f.transform x) r
+        → IsRefused r
 
   -- what is planned, where it isn't refused
   pub record IsPlanned (edits : List (List Entry)) (renaming : List (Decl × Decl)) (respelled : ℕ)
       : Type 0 where
-    pub let_go : IsLetGo
     pub found : f.Found
     pub dispatch : KeepsDispatch p (f.transform found)
-    pub kept_all : all_lost (f.transform found) ≡ []
-    pub edits_are : edits ≡ edits_of (f.transform found)
+    pub becomes : Transformed p (f.transform found)
+    pub kept_all : all_lost becomes.files becomes.also_lost ≡ []
+    pub edits_are : edits ≡ edits_of becomes.files
     pub renaming_is : renaming ≡ pairs_of p (f.transform found)
     pub respelled_is : respelled
-        ≡ sum_by (λ (o : Rewritten (syntax.Unit Span)). o.respelled) (f.transform found).files
+        ≡ sum_by (λ (o : Rewritten (syntax.Unit Span)). o.respelled) becomes.files
+
+-- ---- one answer
+
+-- by each of two programs of the same files, in which it is asked so, a step is planned in the same
+-- way, or refused for the same reason
+pub record HasOnePlan (p q : Program Span) (f h : Refactoring) : Type 0 where
+  pub plans : (edits others : List (List Entry)) (renaming pairs : List (Decl × Decl))
+      (respelled count : ℕ) → IsPlanned p f edits renaming respelled
+      → IsPlanned q h others pairs count
+      → (edits ≡ others) × (renaming ≡ pairs) × (respelled ≡ count)
+  pub refusals : (r s : Refusal) → IsRefused p f r → IsRefused q h s → r ≡ s
+  pub apart : (edits : List (List Entry)) (renaming : List (Decl × Decl)) (respelled : ℕ)
+      (r : Refusal) → IsPlanned p f edits renaming respelled → IsRefused q h r → ⊥
+  -- and one pair of sites is lost
+  pub crossings : (x : f.Found) (y : h.Found) (k l : DepKind) (i j m n : SiteAt)
+      → (f.transform x).Crosses k i j → (h.transform y).Crosses l m n
+      → (k ≡ l) × (i ≡ m) × (j ≡ n)
+  pub crossed : (x : f.Found) (y : h.Found) (k : DepKind) (i j : SiteAt)
+      → (f.transform x).Crosses k i j → (h.transform y).Crosses k i j

@@ -62,16 +62,15 @@ TransformsFiles C ds spots (u ∷ us) os = (o : Rewritten (syntax.Unit Span))
 
 -- ---- what a refactoring makes of a program
 
+-- what is done, and where; what comes of a program by it is `Transformed`
 pub record Transform : Type 1 where
   -- what becomes of keys, rows and places outside of spots
   pub region : Region Span
   -- the spots of each file, and which tokens may stand in front of a place of it
   pub spots : (file : ℕ) → Spotted Span
   pub fronts : (file : ℕ) → Fronts
-  -- what comes of the files; of losses these have those of kept references
-  pub files : List (Rewritten (syntax.Unit Span))
-  -- the copied and made references that are lost, in the text order of the new trees
-  pub also_lost : List Lost
+  -- these are the copied and made references that are lost, in the text order of the new trees
+  pub AlsoLost : List Lost → Type 0
   -- 18: the pair, if there is one
   pub Crosses : (kind : DepKind) → (first second : SiteAt) → Type 0
 
@@ -91,18 +90,25 @@ pub record IsFit (p : Program Span) (t : Transform) : Type 1 where
       → SpotsSuit itself (choosing_of p t) (Weaves (t.fronts n) f.text) (t.spots n)
   pub fronted : (n : ℕ) (f : File Span) (items : List Item) → slice_get p.files n ≡ Some f
       → Lexes f.text items → Fronted (t.fronts n) items
-  -- the files are rewritten so
-  pub rewritten : TransformsFiles (choosing_of p t)
-      (declarations_of (λ (m : Span) b. m.from) (units_of p)) t.spots (units_of p) t.files
 
-abbrev pub edits_of : Transform → List (List Entry)
-edits_of t = map (λ (o : Rewritten (syntax.Unit Span)). entries_of o.changes) t.files
+-- ---- what comes of a program
+
+pub record Transformed (p : Program Span) (t : Transform) : Type 0 where
+  -- what comes of each file; of losses these have those of kept references
+  pub files : List (Rewritten (syntax.Unit Span))
+  pub rewritten : TransformsFiles (choosing_of p t)
+      (declarations_of (λ (m : Span) b. m.from) (units_of p)) t.spots (units_of p) files
+  pub also_lost : List Lost
+  pub also : t.AlsoLost also_lost
+
+abbrev pub edits_of : List (Rewritten (syntax.Unit Span)) → List (List Entry)
+edits_of files = map (λ (o : Rewritten (syntax.Unit Span)). entries_of o.changes) files
 
 -- ---- a refactoring, as it is asked
 
--- Why it is refused by itself (5 to 14, and 24), the first reason that applies; and of what it
--- finds
--- where it isn't, what it makes of the program.
+-- Why it is refused by itself (5 to 14, and 24), the first reason that applies; what it finds where
+-- none of these applies; and what it makes of a program where it finds that. Of what is refused by
+-- 15 it isn't known that the files can be rewritten.
 pub record Refactoring : Type 1 where
   pub Refuses : Refusal → Type 0
   pub Found : Type 0
@@ -118,5 +124,5 @@ abbrev pub kept_from : (file : ℕ) → List (Rewritten (syntax.Unit Span)) → 
 kept_from n [] = []
 kept_from n (o ∷ os) = kept_lost n o.losses ++ kept_from (suc n) os
 
-abbrev pub all_lost : Transform → List Lost
-all_lost t = kept_from 0 t.files ++ t.also_lost
+abbrev pub all_lost : List (Rewritten (syntax.Unit Span)) → (also : List Lost) → List Lost
+all_lost files also = kept_from 0 files ++ also

@@ -1,6 +1,7 @@
 -- What is answered, put together from what the calls below answer.
 use Rattle.std.proofs.Common.{◌≡◌, ℕ, ◌<◌, List, Option, Some, None, refl, sym, subst, ◌∙◌, inl, inr, length, arith}
 use Rattle.std.specs.Prelude.{slice_get, option_map}
+use Rattle.std.proofs.lemmas.List.{append-nil}
 use Rattle.std.proofs.lemmas.Option.{slice_get-map, slice_get_cases}
 use Rattle.jr_text.specs.declared.spans.Span.{Span}
 use Rattle.jr_text.specs.Edits.{Entry}
@@ -15,10 +16,15 @@ use Rattle.jr_images.proofs.Imaging.{map_some}
 use Rattle.jr_bind.specs.Programs.{File, Program, IsProgram, units_of}
 use Rattle.jr_rewrite.specs.Respellings.{Loss}
 use Rattle.jr_images.specs.Images.{Renaming}
-use Rattle.jr_images.specs.Refusals.{HasPreludeMethod, ChangesPrelude, IsFirstChange}
-use Rattle.jr_images.specs.Renames as renames
-use Rattle.jr_images.specs.Renames.{Renames, OfPrelude, Clashes, Overrides, IsRefused}
+use Rattle.jr_images.specs.Refusals.{HasPreludeMethod, ChangesPrelude}
+use Rattle.jr_images.specs.Regions.{images_of}
+use Rattle.jr_images.specs.Renames.{Renames, OfPrelude, Clashes}
 use Rattle.jr_grammar.specs.Layout.{itself}
+use Rattle.jr_plan.specs.Transforms.{Lost, kept_from}
+use Rattle.jr_plan.specs.Reasons.{IsFirstChange, IsFirstLost, Overrides, IsRefused, by_itself, overrides, loses as loses_one}
+use Rattle.jr_plan.specs.Renaming.{rename_of, renaming}
+use Rattle.jr_plan.proofs.Rename.{rewrite_to, none_lost, same_pairs}
+use Rattle.jr_plan.proofs.RenameLost.{lost_in, first_lost}
 use Rattle.jr_new_files.specs.Rewritings.{IsRewriting}
 use Rattle.jr_cursor.specs.ProgramTargets.{HasTargetAt}
 use Rattle.jr_rename.specs.Afters.{PlansRows, AnswersRows}
@@ -37,9 +43,14 @@ module _ (p : Program Span) where
 
   pub loses : (g : Renaming) (edits : List (List Entry)) (respelled : ℕ) (lost : Option (ℕ × Loss)) → IsRewriting p g edits respelled lost → (file : ℕ) (l : Loss) → lost ≡ Some (file, l)
       → AnswersKeeping p g (not_planned (lost_binding (record { file = file; at = l.at }) l.declaration l.found))
-  loses g edits respelled lost w file l e = (w.files, file, l, w.are, w.first file l e, refl)
+  loses g edits respelled lost w file l e = (
+    rewrite_to p g w.files w.are,
+    lost_in file l,
+    subst (λ (all : List Lost). IsFirstLost all (lost_in file l)) (sym (append-nil (kept_from 0 w.files))) (first_lost w.files file l (w.first file l e)),
+    refl,
+  )
 
-  pub overridden : (g : Renaming) (k : ClassKey) (m : MethodKey) → IsFirstChange p.rows g k m → AnswersOf p g (not_planned (override_changed k m))
+  pub overridden : (g : Renaming) (k : ClassKey) (m : MethodKey) → IsFirstChange p.rows (images_of p.rows g) k m → AnswersOf p g (not_planned (override_changed k m))
   overridden g k m h = inl (override_changed k m, refl, (k, m, h, refl))
 
   -- ---- what comes of a target
@@ -65,14 +76,14 @@ module _ (p : Program Span) where
     named : (g : Renaming) → Gives p d new g → (f : File Span) → slice_get p.files file ≡ Some f → Renames itself p.rows p.super_at (units_of p) f.text file at new d g
     named g gives f s = record { target = has f s; renamed = gives.renamed; name = gives.name }
 
-    refused : (r : Refusal) → Answers p d new (not_planned r) → (f : File Span) → slice_get p.files file ≡ Some f → IsRefused itself p.rows p.super_at (units_of p) f.text file at new r
+    refused : (r : Refusal) → Answers p d new (not_planned r) → (f : File Span) → slice_get p.files file ≡ Some f → IsRefused p (renaming p f.text file at new) r
     refused r (g, gives, inl (q, e, h)) f s =
-        let same : q ≡ r = cc in renames.of_prelude (named g gives f s) (subst (λ (x : Refusal). OfPrelude itself p.rows p.super_at (units_of p) d new x) same h)
+        let same : q ≡ r = cc in by_itself (inr (d, g, named g gives f s, inl (subst (λ (x : Refusal). OfPrelude itself p.rows p.super_at (units_of p) d new x) same h)))
     refused r (g, gives, inr (none, inl (q, e, h))) f s =
-        let same : q ≡ r = cc in renames.clashes (named g gives f s) none (subst (λ (x : Refusal). Clashes itself p.rows p.super_at (units_of p) d new x) same h)
+        let same : q ≡ r = cc in by_itself (inr (d, g, named g gives f s, inr (none, subst (λ (x : Refusal). Clashes itself p.rows p.super_at (units_of p) d new x) same h)))
     refused r (g, gives, inr (none, inr (clear, inl (q, e, h)))) f s =
-        let same : q ≡ r = cc in renames.overrides (named g gives f s) none clear (subst (λ (x : Refusal). Overrides itself p.rows p.super_at (units_of p) g x) same h)
-    refused r (g, gives, inr (none, inr (clear, inr (keeps, h)))) f s = renames.loses (named g gives f s) none clear keeps h
+        let same : q ≡ r = cc in overrides (record { target = d; g = g; renames = named g gives f s; no_prelude = none; clear = clear }) (subst (λ (x : Refusal). Overrides p (rename_of p g) x) same h)
+    refused r (g, gives, inr (none, inr (clear, inr (keeps, h)))) f s = loses_one (record { target = d; g = g; renames = named g gives f s; no_prelude = none; clear = clear }) keeps h
 
     pub plans : (o : Outcome) → Answers p d new o → Plans p file at new o
     plans (planned edits renaming respelled lost) (g, gives, inl (q, e, h)) = absurd cc
@@ -81,17 +92,12 @@ module _ (p : Program Span) where
     plans (planned edits renaming respelled lost) (g, gives, inr (none, inr (clear, inr (keeps, (w, pairs, nothing))))) = (
       nothing,
       λ f s. record {
-        target = d;
-        g = g;
-        renames = named g gives f s;
-        no_prelude = none;
-        clear = clear;
+        found = record { target = d; g = g; renames = named g gives f s; no_prelude = none; clear = clear };
         dispatch = keeps;
-        files = w.files;
-        rewrite = w.rewrite;
-        kept = w.kept;
+        becomes = rewrite_to p g w.files w.rewrite;
+        kept_all = append-nil (kept_from 0 w.files) ∙ none_lost 0 w.files w.kept;
         edits_are = w.edits_are;
-        renaming_is = pairs;
+        renaming_is = pairs ∙ sym (same_pairs p g);
         respelled_is = w.respelled_is;
       },
     )

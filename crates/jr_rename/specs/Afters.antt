@@ -4,11 +4,11 @@ use Rattle.jr_text.specs.declared.spans.Span.{Span}
 use Rattle.jr_table.specs.Decls.{Decl}
 use Rattle.jr_table.specs.Rows.{Row}
 use Rattle.jr_names.specs.Replies.{Outcome, planned, not_planned}
-use Rattle.jr_bind.specs.Programs.{File, Program, units_of}
+use Rattle.jr_bind.specs.Programs.{File, Program}
 use Rattle.jr_images.specs.Images.{rows_to}
-use Rattle.jr_images.specs.Renames.{IsPlanned}
+use Rattle.jr_plan.specs.Reasons.{IsPlanned}
+use Rattle.jr_plan.specs.Renaming as plan
 use Rattle.jr_rename_laws.specs.PlanLaws.{IsNoClass}
-use Rattle.jr_grammar.specs.Layout.{itself}
 use Rattle.jr_rename.specs.declared.afters.After.{After}
 use Rattle.jr_rename.specs.declared.afters.After.TheVariants as after
 use Rattle.jr_rename.specs.Answers.{Answers}
@@ -18,8 +18,8 @@ abbrev pub PlansRows : Program Span → (file at : ℕ) → (new : List ℕ) →
     → (List Row → Type 0) → Type 0
 PlansRows p file at new (planned edits renaming respelled lost) P = (f : File Span)
     → slice_get p.files file ≡ Some f
-    → (is : IsPlanned itself p.rows p.super_at (units_of p) f.text file at new edits renaming
-    respelled) × IsNoClass is.target × P (rows_to is.g p.rows)
+    → (is : IsPlanned p (plan.renaming p f.text file at new) edits renaming respelled)
+    × IsNoClass is.found.target × P (rows_to is.found.g p.rows)
 PlansRows p file at new (not_planned r) P = Unit {0}
 
 -- what is told is so: where a class is renamed, and where nothing is planned, nothing is

@@ -4,7 +4,6 @@ use Rattle.std.specs.Prelude.{◌≡◌, ℕ, ◌⊎◌, List, [], Some, None, m
 use Rattle.jr_text.specs.declared.spans.Span.{Span}
 use Rattle.jr_text.specs.Edits.{Entry}
 use Rattle.jr_ast.specs.MemberTree as syntax
-use Rattle.jr_table.specs.Keys.{ClassKey, MethodKey}
 use Rattle.jr_table.specs.Decls.{Decl}
 use Rattle.jr_names.specs.Refusals.{Refusal}
 use Rattle.jr_names.specs.Replies.{Outcome, planned, not_planned}
@@ -15,8 +14,9 @@ use Rattle.jr_rewrite.specs.Edited.{entries_of}
 use Rattle.jr_images.specs.Families.{AreRenamed}
 use Rattle.jr_images.specs.Images.{Renaming}
 use Rattle.jr_images.specs.Clashes.{IsClear}
-use Rattle.jr_images.specs.Refusals.{ChangesDispatch}
-use Rattle.jr_images.specs.Renames.{pairs_of, Rewrite, OfPrelude, Clashes, Overrides, Loses}
+use Rattle.jr_images.specs.Renames.{pairs_of, Rewrite, OfPrelude, Clashes}
+use Rattle.jr_plan.specs.Reasons as reason
+use Rattle.jr_plan.specs.Renaming.{rename_of}
 use Rattle.jr_grammar.specs.Layout.{itself}
 
 module _ (p : Program Span) where
@@ -31,7 +31,7 @@ module _ (p : Program Span) where
       (q : Refusal) → OfPrelude itself p.rows p.super_at (units_of p) d new q → ⊥
 
   abbrev pub KeepsDispatch : Renaming → Type 0
-  KeepsDispatch g = (k : ClassKey) (m : MethodKey) → ChangesDispatch p.rows g k m → ⊥
+  KeepsDispatch g = reason.KeepsDispatch p (rename_of p g)
 
   -- the program is rewritten, and nothing is lost
   pub record Rewrites (g : Renaming) (edits : List (List Entry)) (respelled : ℕ) : Type 0 where
@@ -50,12 +50,11 @@ module _ (p : Program Span) where
   abbrev pub AnswersKeeping : Renaming → Outcome → Type 0
   AnswersKeeping g (planned edits renaming respelled lost) =
       Rewrites g edits respelled × (renaming ≡ pairs_of p.rows g) × (lost ≡ None)
-  AnswersKeeping g (not_planned r) = Loses itself p.rows p.super_at (units_of p) g r
+  AnswersKeeping g (not_planned r) = reason.Loses p (rename_of p g) r
 
   -- of a target that collides with nothing
   abbrev pub AnswersOf : Renaming → Outcome → Type 0
-  AnswersOf g o = ((r : Refusal) × (o ≡ not_planned r)
-      × Overrides itself p.rows p.super_at (units_of p) g r)
+  AnswersOf g o = ((r : Refusal) × (o ≡ not_planned r) × reason.Overrides p (rename_of p g) r)
       ⊎ (KeepsDispatch g × AnswersKeeping g o)
 
   -- ---- what comes of a target

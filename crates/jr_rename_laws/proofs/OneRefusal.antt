@@ -1,7 +1,6 @@
--- Of the prelude's methods one is told, of changes of dispatch and of losses one is the first.
+-- Of the prelude's methods one is told, of changes of dispatch one is the first.
 use Rattle.std.proofs.Common.{◌≡◌, ℕ, zero, suc, ◌<◌, ◌≤◌, List, [], ◌∷◌, ◌++◌, All, Some, codes, refl, sym, ap, subst, ◌∙◌, inl, inr, le_antisymm, arith}
 use Rattle.std.specs.Prelude.{◌⊎◌, slice_get}
-use Rattle.std.proofs.lemmas.List.Elements.{All-head, All-tail}
 use Rattle.std.proofs.lemmas.Option.{same_Some}
 use Rattle.jr_table.specs.declared.entries.Entry.{Entry}
 use Rattle.jr_table.specs.declared.entries.Kind.{Kind}
@@ -15,12 +14,12 @@ use Rattle.jr_table.specs.Members.{DeclaresVirtual}
 use Rattle.jr_table.specs.Keyed.{Overrides, DispatchesTo}
 use Rattle.jr_table.proofs.RowLaws.{some_inside, entry_stands}
 use Rattle.jr_names.specs.DeclTexts.{decl_text}
-use Rattle.jr_rewrite.specs.Respellings.{Loss}
-use Rattle.jr_rewrite.specs.Rewritten.{Rewritten}
 use Rattle.jr_images.specs.Targets.{IsOfPrelude}
 use Rattle.jr_images.specs.Families.{InFamily, itself, above, below}
 use Rattle.jr_images.specs.Images.{Renaming}
-use Rattle.jr_images.specs.Refusals.{HasPreludeMethod, ChangesPrelude, ChangesDispatch, IsFirstChange, IsFirstLoss}
+use Rattle.jr_images.specs.Refusals.{HasPreludeMethod, ChangesPrelude}
+use Rattle.jr_images.specs.Regions.{images_of}
+use Rattle.jr_plan.specs.Reasons.{ChangesDispatch, IsFirstChange}
 use Rattle.jr_rename_laws.specs.OnePlan.{AreAlike}
 use Rattle.jr_rename_laws.proofs.Alike.{class_same, method_same, rows_same}
 use Rattle.jr_rename_laws.proofs.OneClash.{one_of_row}
@@ -106,7 +105,7 @@ module _ (rows : List Row) (fit : AreRows rows) where
 pub other_way : (g h : Renaming) → AreAlike g h → AreAlike h g
 other_way g h alike = record { members = λ e. ((alike.members e).1, (alike.members e).0); name = sym alike.name }
 
-pub change_to : (rows : List Row) (g h : Renaming) → AreAlike g h → (k : ClassKey) (m : MethodKey) → ChangesDispatch rows h k m → ChangesDispatch rows g k m
+pub change_to : (rows : List Row) (g h : Renaming) → AreAlike g h → (k : ClassKey) (m : MethodKey) → ChangesDispatch rows (images_of rows h) k m → ChangesDispatch rows (images_of rows g) k m
 change_to rows g h alike k m x = record {
   was = x.was;
   now = x.now;
@@ -115,50 +114,14 @@ change_to rows g h alike k m x = record {
   changed = λ e. x.changed (e ∙ method_same g h alike x.was);
 }
 
-pub one_change : (rows : List Row) (g h : Renaming) → AreAlike g h → (k l : ClassKey) (m n : MethodKey) → IsFirstChange rows g k m → IsFirstChange rows h l n → (k ≡ l) × (m ≡ n)
+pub one_change : (rows : List Row) (g h : Renaming) → AreAlike g h → (k l : ClassKey) (m n : MethodKey) → IsFirstChange rows (images_of rows g) k m → IsFirstChange rows (images_of rows h) l n → (k ≡ l) × (m ≡ n)
 one_change rows g h alike k l m n x y =
     let there = change_to rows g h alike l n y.changes in
     let here = change_to rows h g (other_way g h alike) k m x.changes in
     let class = class_key k l (one_of_row rows (class_decl k) (class_decl l) x.class_at y.class_at (le_antisymm (x.first_class l n y.class_at there y.class_row) (y.first_class k m x.class_at here x.class_row)) x.class_row y.class_row) in
-    let below = x.first_method n y.method_at (subst (λ (z : ClassKey). ChangesDispatch rows g z n) (sym class) there) y.method_row in
-    let over = y.first_method m x.method_at (subst (λ (z : ClassKey). ChangesDispatch rows h z m) class here) x.method_row in
+    let below = x.first_method n y.method_at (subst (λ (z : ClassKey). ChangesDispatch rows (images_of rows g) z n) (sym class) there) y.method_row in
+    let over = y.first_method m x.method_at (subst (λ (z : ClassKey). ChangesDispatch rows (images_of rows h) z m) class here) x.method_row in
     (class, method_key m n (one_of_row rows (method_decl m) (method_decl n) x.method_at y.method_at (le_antisymm below over) x.method_row y.method_row))
   where
     class_key : (a b : ClassKey) → class_decl a ≡ class_decl b → a ≡ b
     class_key a b e = cc
-
--- ---- losses
-
-all_there : (P : Loss → Type 0) (xs ys : List Loss) (m : Loss) → All P (xs ++ m ∷ ys) → P m
-all_there P [] ys m h = All-head P m ys h
-all_there P (x ∷ xs) ys m h = all_there P xs ys m (All-tail P x (xs ++ m ∷ ys) h)
-
-loss_head : (a b : Loss) (xs ys : List Loss) → a ∷ xs ≡ b ∷ ys → a ≡ b
-loss_head a b xs ys e = cc
-
-loss_tail : (a b : Loss) (xs ys : List Loss) → a ∷ xs ≡ b ∷ ys → xs ≡ ys
-loss_tail a b xs ys e = cc
-
--- the first of the least stands at one place
-one_least : (front back other rest : List Loss) (l m : Loss) → front ++ l ∷ back ≡ other ++ m ∷ rest → All (λ (x : Loss). l.at < x.at) front → All (λ (x : Loss). l.at ≤ x.at) back
-    → All (λ (x : Loss). m.at < x.at) other → All (λ (x : Loss). m.at ≤ x.at) rest → l ≡ m
-one_least [] back [] rest l m e a b c d = loss_head l m back rest e
-one_least [] back (o ∷ other) rest l m e a b c d =
-    let head = ap (λ (x : Loss). x.at) (loss_head l o back (other ++ m ∷ rest) e) in
-    let less = all_there (λ (x : Loss). l.at ≤ x.at) other rest m (subst (λ (xs : List Loss). All (λ (x : Loss). l.at ≤ x.at) xs) (loss_tail l o back (other ++ m ∷ rest) e) b) in
-    let more = All-head (λ (x : Loss). m.at < x.at) o other c in
-    absurd (omega (arith, head, less, more))
-one_least (f ∷ front) back [] rest l m e a b c d =
-    let head = ap (λ (x : Loss). x.at) (loss_head f m (front ++ l ∷ back) rest e) in
-    let less = all_there (λ (x : Loss). m.at ≤ x.at) front back l (subst (λ (xs : List Loss). All (λ (x : Loss). m.at ≤ x.at) xs) (sym (loss_tail f m (front ++ l ∷ back) rest e)) d) in
-    let more = All-head (λ (x : Loss). l.at < x.at) f front a in
-    absurd (omega (arith, head, less, more))
-one_least (f ∷ front) back (o ∷ other) rest l m e a b c d = one_least front back other rest l m (loss_tail f o (front ++ l ∷ back) (other ++ m ∷ rest) e)
-    (All-tail (λ (x : Loss). l.at < x.at) f front a) b (All-tail (λ (x : Loss). m.at < x.at) o other c) d
-
-pub one_loss : {T : Type 0} (files : List (Rewritten T)) (i j : ℕ) (l m : Loss) → IsFirstLoss files i l → IsFirstLoss files j m → (i ≡ j) × (l ≡ m)
-one_loss {T} files i j l m x y =
-    let file = le_antisymm (x.first_file j m y.lost) (y.first_file i l x.lost) in
-    let of = same_Some x.lost.of y.lost.of (sym x.lost.stands ∙ ap (slice_get files) file ∙ y.lost.stands) in
-    let parts : x.lost.front ++ l ∷ x.lost.back ≡ y.lost.front ++ m ∷ y.lost.back = sym x.lost.parts ∙ ap (λ (o : Rewritten T). o.losses) of ∙ y.lost.parts in
-    (file, one_least x.lost.front x.lost.back y.lost.front y.lost.back l m parts x.first_place x.others y.first_place y.others)

@@ -27,6 +27,7 @@ use Rattle.jr_images.specs.Refusals.{HasPreludeMethod}
 use Rattle.jr_images.specs.RenameLaws.{IsFair}
 use Rattle.jr_images.specs.Spelling.{spelling}
 use Rattle.jr_images.specs.TextLaws.{AreNamed, NamesHaveNoDot, RowsAreNamed, RenamedTextsRead}
+use Rattle.jr_plan.proofs.Rename.{rewrite_back}
 use Rattle.jr_rename_laws.specs.PlanLaws.{IsPlanIn, IsNewText, IsNoClass}
 
 -- each unit is rewritten
@@ -47,21 +48,21 @@ module _ (p : Program Span) (text : List ℕ) (file at : ℕ) (new : List ℕ) (
   abbrev names : AreNamed p.rows × HaveNoDots p.rows
   names = named begins p.rows (units_of p) reads is.program.rows
 
-  abbrev name_is : is.planned.g.name ≡ new
-  name_is = is.planned.renames.name
+  abbrev name_is : is.planned.found.g.name ≡ new
+  name_is = is.planned.found.renames.name
 
   -- ---- the new texts
 
   pub new_text : RenamedTextsRead Span → (i : ℕ) (f : File Span) → slice_get p.files i ≡ Some f
-      → (o : Rewritten (UnitTree Span)) × (e : List Entry) × (slice_get is.planned.files i ≡ Some o) × (slice_get edits i ≡ Some e) × IsNewText f.text e o.tree
+      → (o : Rewritten (UnitTree Span)) × (e : List Entry) × (slice_get is.planned.becomes.files i ≡ Some o) × (slice_get edits i ≡ Some e) × IsNewText f.text e o.tree
   new_text law i f stands =
-      let C = spelling (λ m b. (itself m b).from) p.rows is.planned.g (λ (c : Context). p.super_at c.member) in
+      let C = spelling (λ m b. (itself m b).from) p.rows is.planned.found.g (λ (c : Context). p.super_at c.member) in
       let unit : slice_get (units_of p) i ≡ Some f.unit = slice_get-map (λ (x : File Span). x.unit) p.files i ∙ ap (option_map (λ (x : File Span). x.unit)) stands in
-      let o = one_unit C (declarations_of begins (units_of p)) (units_of p) is.planned.files is.planned.rewrite i f.unit unit in
-      let r : IsRewritten f.text o.0 = law itself p.rows is.planned.g (λ (c : Context). p.super_at c.member) (declarations_of begins (units_of p)) f.text f.unit o.0 names.0
+      let o = one_unit C (declarations_of begins (units_of p)) (units_of p) is.planned.becomes.files (rewrite_back p is.planned.found.g is.planned.becomes) i f.unit unit in
+      let r : IsRewritten f.text o.0 = law itself p.rows is.planned.found.g (λ (c : Context). p.super_at c.member) (declarations_of begins (units_of p)) f.text f.unit o.0 names.0
       (subst (λ (n : List ℕ). IsName n) (sym name_is) is.name) (is.program.reads i f stands) o.2 in
       let edit : slice_get edits i ≡ Some (entries_of o.0.changes) = ap (λ (l : List (List Entry)). slice_get l i) is.planned.edits_are
-      ∙ slice_get-map (λ (x : Rewritten (UnitTree Span)). entries_of x.changes) is.planned.files i ∙ ap (option_map (λ (x : Rewritten (UnitTree Span)). entries_of x.changes)) o.1 in (
+      ∙ slice_get-map (λ (x : Rewritten (UnitTree Span)). entries_of x.changes) is.planned.becomes.files i ∙ ap (option_map (λ (x : Rewritten (UnitTree Span)). entries_of x.changes)) o.1 in (
         o.0,
         entries_of o.0.changes,
         o.1,
@@ -75,31 +76,31 @@ module _ (p : Program Span) (text : List ℕ) (file at : ℕ) (new : List ℕ) (
 
   -- ---- the renaming
 
-  no_method : (told : List ℕ) → HasPreludeMethod p.rows is.planned.target told → ⊥
-  no_method told h = is.planned.no_prelude (prelude_method told) (told, inl h, refl)
+  no_method : (told : List ℕ) → HasPreludeMethod p.rows is.planned.found.target told → ⊥
+  no_method told h = is.planned.found.no_prelude (prelude_method told) (told, inl h, refl)
 
-  clear : IsClear begins p.rows (units_of p) is.planned.target is.planned.g.name
-  clear = subst (λ (n : List ℕ). IsClear begins p.rows (units_of p) is.planned.target n) (sym name_is) is.planned.clear
+  clear : IsClear begins p.rows (units_of p) is.planned.found.target is.planned.found.g.name
+  clear = subst (λ (n : List ℕ). IsClear begins p.rows (units_of p) is.planned.found.target n) (sym name_is) is.planned.found.clear
 
-  pub is_fair : RenamingsStayFair Span → NamesHaveNoDot → IsFair p.rows is.planned.g
-  is_fair law dots = law begins p.rows (units_of p) is.planned.target is.planned.g is.program.are_rows is.program.rows is.planned.renames.renamed is.planned.renames.target.own no_method clear names.1
-      (dots is.planned.g.name (subst (λ (n : List ℕ). IsName n) (sym name_is) is.name))
+  pub is_fair : RenamingsStayFair Span → NamesHaveNoDot → IsFair p.rows is.planned.found.g
+  is_fair law dots = law begins p.rows (units_of p) is.planned.found.target is.planned.found.g is.program.are_rows is.program.rows is.planned.found.renames.renamed is.planned.found.renames.target.own no_method clear names.1
+      (dots is.planned.found.g.name (subst (λ (n : List ℕ). IsName n) (sym name_is) is.name))
 
   -- ---- the new program
 
   abbrev New : List (UnitTree Span) → Type 0
-  New news = map without_marks news ≡ map (λ (o : Rewritten (UnitTree Span)). without_marks o.tree) is.planned.files
+  New news = map without_marks news ≡ map (λ (o : Rewritten (UnitTree Span)). without_marks o.tree) is.planned.becomes.files
 
-  becomes : PlansBecome Span Span → (packages : List (Option PackageLine)) → IsClean packages (declarations_of begins (units_of p)) → (news : List (UnitTree Span)) → New news → Becomes itself begins packages p.rows p.super_at (units_of p) is.planned.target is.planned.g news
-  becomes law packages clean news e = law itself begins packages p.rows p.super_at (units_of p) news text file at new edits renaming respelled is.planned is.program.are_rows is.program.rows clean names.1 e
+  becomes : PlansBecome Span → (packages : List (Option PackageLine)) → IsClean packages (declarations_of begins (units_of p)) → (news : List (UnitTree Span)) → New news → Becomes itself begins packages p.rows p.super_at (units_of p) is.planned.found.target is.planned.found.g news
+  becomes law packages clean news e = law begins packages p news text file at new edits renaming respelled is.planned is.program.are_rows is.program.rows clean names.1 e
 
-  pub are_images : PlansBecome Span Span → LocalsGiveImages Span Span → FieldsGiveImages Span Span → MethodsGiveImages Span Span → IsNoClass is.planned.target → (packages : List (Option PackageLine)) → IsClean packages (declarations_of begins (units_of p)) → (news : List (UnitTree Span)) → New news
-      → AreImages itself begins packages p.rows (units_of p) is.planned.g news
-  are_images plans locals fields methods kind packages clean news e = by is.planned.target kind (becomes plans packages clean news e)
+  pub are_images : PlansBecome Span → LocalsGiveImages Span Span → FieldsGiveImages Span Span → MethodsGiveImages Span Span → IsNoClass is.planned.found.target → (packages : List (Option PackageLine)) → IsClean packages (declarations_of begins (units_of p)) → (news : List (UnitTree Span)) → New news
+      → AreImages itself begins packages p.rows (units_of p) is.planned.found.g news
+  are_images plans locals fields methods kind packages clean news e = by is.planned.found.target kind (becomes plans packages clean news e)
     where
-      by : (d : Decl) → IsNoClass d → Becomes itself begins packages p.rows p.super_at (units_of p) d is.planned.g news → AreImages itself begins packages p.rows (units_of p) is.planned.g news
-      by (local_decl k) h b = locals itself begins k packages p.rows p.super_at (units_of p) is.planned.g news b
-      by (field_decl k) h b = fields itself begins k packages p.rows p.super_at (units_of p) is.planned.g news b
-      by (method_decl k) h b = methods itself begins k packages p.rows p.super_at (units_of p) is.planned.g news b
+      by : (d : Decl) → IsNoClass d → Becomes itself begins packages p.rows p.super_at (units_of p) d is.planned.found.g news → AreImages itself begins packages p.rows (units_of p) is.planned.found.g news
+      by (local_decl k) h b = locals itself begins k packages p.rows p.super_at (units_of p) is.planned.found.g news b
+      by (field_decl k) h b = fields itself begins k packages p.rows p.super_at (units_of p) is.planned.found.g news b
+      by (method_decl k) h b = methods itself begins k packages p.rows p.super_at (units_of p) is.planned.found.g news b
       by (class_decl k) h b = absurd h
       by (constructor_decl k) h b = absurd h

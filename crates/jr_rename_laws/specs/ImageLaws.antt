@@ -7,6 +7,7 @@ use Rattle.jr_text.specs.declared.spans.Span.{Span}
 use Rattle.jr_text.specs.Edits.{Entry}
 use Rattle.jr_ast.specs.MemberTree as syntax
 use Rattle.jr_ast.specs.Remarked.{map_unit}
+use Rattle.jr_grammar.specs.Layout.{itself}
 use Rattle.jr_table.specs.Keys.{ClassKey, FieldKey, MethodKey}
 use Rattle.jr_table.specs.Decls.{
   MemberKey,
@@ -24,6 +25,7 @@ use Rattle.jr_table.specs.DeclaredItems.{DeclaredItem, declarations_of, class_ke
 use Rattle.jr_table.specs.ProgramRows.{AreProgramRows}
 use Rattle.jr_table.specs.Faults.{PackageLine, names_of, IsClean}
 use Rattle.jr_table.specs.Errors.{Declares}
+use Rattle.jr_bind.specs.Programs.{Program, units_of}
 use Rattle.jr_spell.specs.Binds.{is_dot}
 use Rattle.jr_rewrite.specs.Rewritten.{Rewritten}
 use Rattle.jr_images.specs.Targets.{IsOfPrelude}
@@ -32,7 +34,9 @@ use Rattle.jr_images.specs.Images.{Renaming, class_to, member_to, rows_to}
 use Rattle.jr_images.specs.Clashes.{IsClear}
 use Rattle.jr_images.specs.Refusals.{HasPreludeMethod}
 use Rattle.jr_images.specs.RenameLaws.{IsFair}
-use Rattle.jr_images.specs.Renames.{Rewrite, IsPlanned}
+use Rattle.jr_images.specs.Renames.{Rewrite}
+use Rattle.jr_plan.specs.Reasons.{IsPlanned}
+use Rattle.jr_plan.specs.Renaming as rename
 use Rattle.jr_rename_laws.specs.Beside.{UnitsBeside}
 
 -- a mark that says nothing
@@ -112,19 +116,19 @@ MethodsGiveImages A B = (tells : A → ℕ → Span) (begins' : B → ℕ → �
     → GivesImages tells begins' (method_decl k)
 
 -- what is planned is so renamed, whatever the refactored declaration is
-abbrev pub PlansBecome : Type 0 → Type 0 → Type 0
-PlansBecome A B = (tells : A → ℕ → Span) (begins' : B → ℕ → ℕ)
-    (packages : List (Option PackageLine)) (rows : List Row) (super_at : MemberKey → ℕ)
-    (units : List (syntax.Unit A)) (news : List (syntax.Unit B)) (text : List ℕ) (file at : ℕ)
-    (new : List ℕ) (edits : List (List Entry)) (renaming : List (Decl × Decl)) (respelled : ℕ)
-    → (p : IsPlanned tells rows super_at units text file at new edits renaming respelled)
-    → AreRows rows → AreProgramRows (declarations_of (begins tells begins') units) rows
-    → IsClean packages (declarations_of (begins tells begins') units)
-    → ((k : ClassKey) (j : ℕ) → IsRowOf rows (class_decl k) j
+abbrev pub PlansBecome : Type 0 → Type 0
+PlansBecome B = (begins' : B → ℕ → ℕ) (packages : List (Option PackageLine)) (p : Program Span)
+    (news : List (syntax.Unit B)) (text : List ℕ) (file at : ℕ) (new : List ℕ)
+    (edits : List (List Entry)) (renaming : List (Decl × Decl)) (respelled : ℕ)
+    → (is : IsPlanned p (rename.renaming p text file at new) edits renaming respelled)
+    → AreRows p.rows → AreProgramRows (declarations_of (begins itself begins') (units_of p)) p.rows
+    → IsClean packages (declarations_of (begins itself begins') (units_of p))
+    → ((k : ClassKey) (j : ℕ) → IsRowOf p.rows (class_decl k) j
     → position_or_len is_dot k.name ≡ length k.name)
     → map without_marks news
-    ≡ map (λ (o : Rewritten (syntax.Unit A)). without_marks o.tree) p.files
-    → Becomes tells begins' packages rows super_at units p.target p.g news
+    ≡ map (λ (o : Rewritten (syntax.Unit Span)). without_marks o.tree) is.becomes.files
+    → Becomes itself begins' packages p.rows p.super_at (units_of p) is.found.target is.found.g
+    news
 
 -- where a class is renamed, the images of the rows meet what rows must
 abbrev pub ClassesStayFair : Type 0 → Type 0

@@ -14,7 +14,9 @@ use Rattle.jr_rewrite.specs.Rewritten.{Rewritten}
 use Rattle.jr_images.specs.Families.{Among, AreRenamed}
 use Rattle.jr_images.specs.Images.{Renaming, decl_to, rows_to, scope_to}
 use Rattle.jr_images.specs.RenameLaws.{IsFair}
-use Rattle.jr_images.specs.Renames.{pairs_of, Rewrite, IsPlanned, IsRefused}
+use Rattle.jr_images.specs.Renames.{pairs_of, Rewrite}
+use Rattle.jr_plan.specs.Reasons.{IsPlanned, IsRefused, HasOnePlan}
+use Rattle.jr_plan.specs.Renaming as rename
 
 -- ---- renamings
 
@@ -52,28 +54,17 @@ RewritingIsOne = (p q : Program Span) → IsProgram itself (λ m b. Unit {0}) p
 
 module _ (text : List ℕ) (file at : ℕ) (new : List ℕ) (p : Program Span) where
   abbrev pub PlansSo : List (List Entry) → List (Decl × Decl) → (respelled : ℕ) → Type 0
-  PlansSo edits renaming respelled = IsPlanned itself p.rows p.super_at (units_of p) text file at
-      new edits renaming respelled
+  PlansSo edits renaming respelled =
+      IsPlanned p (rename.renaming p text file at new) edits renaming respelled
 
   abbrev pub RefusesSo : Refusal → Type 0
-  RefusesSo r = IsRefused itself p.rows p.super_at (units_of p) text file at new r
+  RefusesSo r = IsRefused p (rename.renaming p text file at new) r
 
--- by each of these programs a step is planned in the same way, or refused for the same reason
-pub record HasOnePlan (text : List ℕ) (file at : ℕ) (new : List ℕ) (p q : Program Span) : Type 0
-  where
-    pub plans : (edits others : List (List Entry)) (renaming pairs : List (Decl × Decl))
-        (respelled count : ℕ) → PlansSo text file at new p edits renaming respelled
-        → PlansSo text file at new q others pairs count
-        → (edits ≡ others) × (renaming ≡ pairs) × (respelled ≡ count)
-    pub refusals : (r s : Refusal) → RefusesSo text file at new p r
-        → RefusesSo text file at new q s → r ≡ s
-    pub apart : (edits : List (List Entry)) (renaming : List (Decl × Decl)) (respelled : ℕ)
-        (r : Refusal) → PlansSo text file at new p edits renaming respelled
-        → RefusesSo text file at new q r → ⊥
-
--- of programs of the same files, where the new name is an identifier
+-- Programs of the same files, where the new name is an identifier, plan a rename in the same way,
+-- or refuse it for the same reason.
 abbrev pub PlanIsOne : Type 0
 PlanIsOne = (p q : Program Span) → IsProgram itself (λ m b. Unit {0}) p
     → IsProgram itself (λ m b. Unit {0}) q → p.files ≡ q.files → (file at : ℕ) (f : File Span)
     → slice_get p.files file ≡ Some f → (new : List ℕ) → IsName new
-    → HasOnePlan f.text file at new p q
+    → HasOnePlan p q (rename.renaming p f.text file at new)
+    (rename.renaming q f.text file at new)

@@ -25,7 +25,8 @@ use Rattle.jr_rename_laws.specs.ImageLaws.{without_marks, AreImages}
 use Rattle.jr_images.specs.Images.{member_to}
 use Rattle.jr_images.specs.Keeping.{IsKept, IsWritten, IsSuperKept, IsParentKept}
 use Rattle.jr_images.specs.RenameLaws.{trees_of}
-use Rattle.jr_images.specs.Renames.{IsPlanned}
+use Rattle.jr_plan.specs.Reasons.{IsPlanned}
+use Rattle.jr_plan.specs.Renaming as rename
 
 -- the places of a mark that is a span fit, wherever the parent begins
 abbrev pub Anywhere : Span → ℕ → Type 0
@@ -36,8 +37,7 @@ pub record IsPlanIn (p : Program Span) (text : List ℕ) (file at : ℕ) (new : 
     (edits : List (List Entry)) (renaming : List (Decl × Decl)) (respelled : ℕ) : Type 0 where
   pub program : IsProgram itself Anywhere p
   pub name : IsName new
-  pub planned : IsPlanned itself p.rows p.super_at (units_of p) text file at new edits renaming
-      respelled
+  pub planned : IsPlanned p (rename.renaming p text file at new) edits renaming respelled
 
 -- the edits fit the text, and what they make of it reads as the tree
 pub record IsNewText (text : List ℕ) (edits : List Entry) (tree : UnitTree Span) : Type 0 where
@@ -52,7 +52,7 @@ NewTextsRead = (p : Program Span) (text : List ℕ) (file at : ℕ) (new : List 
     → (is : IsPlanIn p text file at new edits renaming respelled)
     → (i : ℕ) (f : File Span) → slice_get p.files i ≡ Some f
     → (o : Rewritten (UnitTree Span)) × (e : List Entry)
-    × (slice_get is.planned.files i ≡ Some o) × (slice_get edits i ≡ Some e)
+    × (slice_get is.planned.becomes.files i ≡ Some o) × (slice_get edits i ≡ Some e)
     × IsNewText f.text e o.tree
 
 -- each reference, written type, superclass and `super(..)` of the new trees means, by the new rows,
@@ -61,10 +61,10 @@ abbrev pub ReferencesStay : Type 0
 ReferencesStay = (p : Program Span) (text : List ℕ) (file at : ℕ) (new : List ℕ)
     (edits : List (List Entry)) (renaming : List (Decl × Decl)) (respelled : ℕ)
     → (is : IsPlanIn p text file at new edits renaming respelled)
-    → AlongUnits begins begins (IsKept begins begins is.planned.g p.rows)
-    (IsWritten begins begins is.planned.g p.rows) (IsSuperKept is.planned.g p.rows)
-    (IsParentKept is.planned.g p.rows) (member_to is.planned.g)
-    (declarations_of begins (units_of p)) (units_of p) (trees_of is.planned.files)
+    → AlongUnits begins begins (IsKept begins begins is.planned.found.g p.rows)
+    (IsWritten begins begins is.planned.found.g p.rows) (IsSuperKept is.planned.found.g p.rows)
+    (IsParentKept is.planned.found.g p.rows) (member_to is.planned.found.g)
+    (declarations_of begins (units_of p)) (units_of p) (trees_of is.planned.becomes.files)
 
 -- what is renamed is no class
 abbrev pub IsNoClass : Decl → Type 0
@@ -79,18 +79,18 @@ IsNoClass (constructor_decl k) = ⊥
 abbrev pub NewProgramsAreImages : Type 0
 NewProgramsAreImages = (p : Program Span) (text : List ℕ) (file at : ℕ) (new : List ℕ)
     (edits : List (List Entry)) (renaming : List (Decl × Decl)) (respelled : ℕ)
-    → (is : IsPlanIn p text file at new edits renaming respelled) → IsNoClass is.planned.target
+    → (is : IsPlanIn p text file at new edits renaming respelled) → IsNoClass is.planned.found.target
     → (news : List (UnitTree Span)) → map without_marks news
-    ≡ map (λ (o : Rewritten (UnitTree Span)). without_marks o.tree) is.planned.files
-    → AreImages itself begins [] p.rows (units_of p) is.planned.g news
+    ≡ map (λ (o : Rewritten (UnitTree Span)). without_marks o.tree) is.planned.becomes.files
+    → AreImages itself begins [] p.rows (units_of p) is.planned.found.g news
 
 -- the same with the files' package lines: where these have no fault, neither have lines of the same
 -- packages before the new trees
 abbrev pub NewProgramsStayClean : Type 0
 NewProgramsStayClean = (p : Program Span) (text : List ℕ) (file at : ℕ) (new : List ℕ)
     (edits : List (List Entry)) (renaming : List (Decl × Decl)) (respelled : ℕ)
-    → (is : IsPlanIn p text file at new edits renaming respelled) → IsNoClass is.planned.target
+    → (is : IsPlanIn p text file at new edits renaming respelled) → IsNoClass is.planned.found.target
     → (packages : List (Option PackageLine)) → IsClean packages (declarations_of begins (units_of p))
     → (news : List (UnitTree Span)) → map without_marks news
-    ≡ map (λ (o : Rewritten (UnitTree Span)). without_marks o.tree) is.planned.files
-    → AreImages itself begins packages p.rows (units_of p) is.planned.g news
+    ≡ map (λ (o : Rewritten (UnitTree Span)). without_marks o.tree) is.planned.becomes.files
+    → AreImages itself begins packages p.rows (units_of p) is.planned.found.g news

@@ -26,8 +26,8 @@ pub fn methods_give_images<A, B>()
 {}
 
 /// What is planned is a rename of which these laws speak, of whatever declaration.
-pub fn plans_become<A, B>()
-    ensures { PlansBecome A B }
+pub fn plans_become<B>()
+    ensures { PlansBecome B }
 {}
 
 /// Where a class is renamed, the images of the rows are rows as a program's: so that references

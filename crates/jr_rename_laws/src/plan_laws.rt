@@ -24,7 +24,7 @@ pub fn plans_keep_programs()
     renamed_texts_read::<Span>();
     references_are_kept::<Span>();
     renamings_stay_fair::<Span>();
-    plans_become::<Span, Span>();
+    plans_become::<Span>();
     locals_give_images::<Span, Span>();
     fields_give_images::<Span, Span>();
     methods_give_images::<Span, Span>();

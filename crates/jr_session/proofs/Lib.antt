@@ -1,10 +1,11 @@
 -- States: `Histories`, `Places`, `KeptLaws`, `StateLaws`, `LengthLaws`, `EditLaws`, `Exchanging`,
 -- `Turning`, `SessionSteps`, `StepCases`, `StepFiles`, `RefusalCases`, `Telling` (the places that a
--- refusal tells). Shows: `ShownLines`, `ShowSteps`, `Showing`. A rename: `Making`, `Planning`,
--- `Trying`, `Staying`, `Refactored`, `RenameFiles`, `RenameSteps`, `NewTables`, `NewTells`. One
--- answer: `OneAnswer` (edits, undoing, redoing), `OneFault`, `OneWrong`, `OneRename`, `OneStep`;
--- `PlanReasons`, `FirstReason`. Promises: `NewPrograms`, `NewTrees`, `NewRows`, `BareBinding` (what
--- a tree's references find doesn't depend on its marks), `BareReferences`, `TakenBack`.
+-- refusal tells). Shows: `ShownLines`, `ShowSteps`, `Showing`. A refactoring: `Making`, `Planning`,
+-- `Trying`, `Staying`, `Refactored`, `RefactoredFiles`; a rename: `RenameSteps`, `NewTables`,
+-- `NewTells`. One answer: `OneAnswer` (edits, undoing, redoing), `OneFault`, `OneWrong`,
+-- `OneRefactoring`, `RenameRequest`, `OneStep`; `PlanReasons`, `FirstReason`. Promises: `KeptPrograms`
+-- (of any refactoring, by what it shows), `NewPrograms` (of a rename), `NewTrees`, `NewRows`,
+-- `BareReferences` (what a tree's references find doesn't depend on its marks), `TakenBack`.
 pub mod Histories
 pub mod Places
 pub mod KeptLaws
@@ -18,7 +19,8 @@ pub mod StepCases
 pub mod OneAnswer
 pub mod OneFault
 pub mod OneWrong
-pub mod OneRename
+pub mod OneRefactoring
+pub mod RenameRequest
 pub mod OneStep
 pub mod PlanReasons
 pub mod FirstReason
@@ -30,7 +32,7 @@ pub mod Turning
 pub mod Planning
 pub mod Trying
 pub mod Telling
-pub mod RenameFiles
+pub mod RefactoredFiles
 pub mod StepFiles
 pub mod RenameSteps
 pub mod Refactored
@@ -39,6 +41,7 @@ pub mod TakenBack
 pub mod NewRows
 pub mod NewTrees
 pub mod NewTables
+pub mod KeptPrograms
 pub mod NewPrograms
 pub mod Staying
 pub mod NewTells

@@ -40,11 +40,11 @@ heads_of sources p is =
     subst UnitsHeads (sym units) (units_headed sources is.units is.words is.program.read)
 
 module _ (sources : List Source) (p : Program Span) (before : IsProgramOf sources p) (text : List ℕ) (file at : ℕ) (new : List ℕ) (edits : List (List Entry)) (renaming : List (Decl × Decl)) (respelled : ℕ) (is : IsPlanIn p text file at new edits renaming respelled)
-    (named : RowsAreNamed Span) (dots : NamesHaveNoDot) (plans : PlansBecome Span Span) (images : NewProgramsAreImages) (built : BuiltRowsAreImages Span Span) (ctors : ConstructorsGiveImages Span Span)
-    (news : List Source) (q : Program Span) (behind : IsProgramOf news q) (trees : map without_marks (units_of q) ≡ map (λ (o : Rewritten (UnitTree Span)). without_marks o.tree) is.planned.files)
+    (named : RowsAreNamed Span) (dots : NamesHaveNoDot) (plans : PlansBecome Span) (images : NewProgramsAreImages) (built : BuiltRowsAreImages Span Span) (ctors : ConstructorsGiveImages Span Span)
+    (news : List Source) (q : Program Span) (behind : IsProgramOf news q) (trees : map without_marks (units_of q) ≡ map (λ (o : Rewritten (UnitTree Span)). without_marks o.tree) is.planned.becomes.files)
   where
     abbrev g : Renaming
-    g = is.planned.g
+    g = is.planned.found.g
 
     reads : (i : ℕ) (unit : UnitTree Span) → slice_get (units_of p) i ≡ Some unit → (bytes : List ℕ) × Reads bytes unit
     reads i unit e =
@@ -55,25 +55,25 @@ module _ (sources : List Source) (p : Program Span) (before : IsProgramOf source
     abbrev Made : Decl → Type 0
     Made d = Becomes itself begins [] p.rows p.super_at (units_of p) d g (units_of q)
 
-    made : Made is.planned.target
-    made = plans itself begins [] p.rows p.super_at (units_of p) (units_of q) text file at new edits renaming respelled is.planned is.program.are_rows is.program.rows is.program.clean (named begins p.rows (units_of p) reads is.program.rows).1 trees
+    made : Made is.planned.found.target
+    made = plans begins [] p (units_of q) text file at new edits renaming respelled is.planned is.program.are_rows is.program.rows is.program.clean (named begins p.rows (units_of p) reads is.program.rows).1 trees
 
     once : AreProgramRows (declarations_of begins (units_of q)) (rows_to g p.rows) → q.rows ≡ rows_to g p.rows
     once rows = rows_once [] (declarations_of begins (units_of q)) behind.is.clean q.rows (rows_to g p.rows) behind.is.rows rows
 
     name_is : IsName g.name
-    name_is = subst (λ (n : List ℕ). IsName n) (sym is.planned.renames.name) is.name
+    name_is = subst (λ (n : List ℕ). IsName n) (sym is.planned.found.renames.name) is.name
 
     abbrev All : Type 0
     All = (q.rows ≡ rows_to g p.rows) × AreImages itself begins [] p.rows (units_of p) g (units_of q)
 
-    no_class : IsNoClass is.planned.target → All
+    no_class : IsNoClass is.planned.found.target → All
     no_class kind = (let are = images p text file at new edits renaming respelled is kind (units_of q) trees in (once are.rows_are, are))
 
     pub new_rows : All
-    new_rows = by is.planned.target refl
+    new_rows = by is.planned.found.target refl
       where
-        by : (d : Decl) → is.planned.target ≡ d → All
+        by : (d : Decl) → is.planned.found.target ≡ d → All
         by (local_decl k) e = no_class (subst IsNoClass (sym e) tt)
         by (field_decl k) e = no_class (subst IsNoClass (sym e) tt)
         by (method_decl k) e = no_class (subst IsNoClass (sym e) tt)

@@ -17,6 +17,7 @@ use Rattle.jr_rewrite.specs.Rewrites.{Choosing, RewritesUnits}
 use Rattle.jr_rewrite.specs.Rewritten.{Rewritten}
 use Rattle.jr_rename_laws.specs.ImageLaws.{without_marks, AreImages}
 use Rattle.jr_images.specs.Images.{rows_to}
+use Rattle.jr_plan.proofs.Rename.{rewrite_back}
 use Rattle.jr_rename_laws.specs.PlanLaws.{IsPlanIn, IsNoClass, NewTextsRead, NewProgramsStayClean}
 use Rattle.jr_sources.specs.FirstFault.{AreRead, AreProgram, package_line, package_lines}
 use Rattle.jr_sources.specs.Sources.{Source}
@@ -83,7 +84,7 @@ as_many : (ss : List Source) (us : List (UnitTree Span)) (ws : List ℕ) → Are
 as_many ss us ws h = (let n = counts ss us ws h in n.1 ∙ sym n.0)
 
 module _ (one : OneReading Span) (read : NewTextsRead) (law : NewProgramsStayClean) (sources : List Source) (p : Program Span) (before : IsProgramOf sources p)
-    (text : List ℕ) (number at : ℕ) (new : List ℕ) (edits : List (List Entry)) (renaming : List (Decl × Decl)) (respelled : ℕ) (plan : IsPlanIn p text number at new edits renaming respelled) (kind : IsNoClass plan.planned.target)
+    (text : List ℕ) (number at : ℕ) (new : List ℕ) (edits : List (List Entry)) (renaming : List (Decl × Decl)) (respelled : ℕ) (plan : IsPlanIn p text number at new edits renaming respelled) (kind : IsNoClass plan.planned.found.target)
     (units : List (UnitTree Span)) (words : List ℕ) (are : AreRead (with_edits sources edits) units words)
   where
     abbrev old : List (Option PackageLine)
@@ -95,19 +96,19 @@ module _ (one : OneReading Span) (read : NewTextsRead) (law : NewProgramsStayCle
     clean : IsClean old (declarations_of begins (units_of p))
     clean = subst (λ (us : List (UnitTree Span)). IsClean old (declarations_of begins us)) (sym units_before) before.program.clean
 
-    read_as : map without_marks units ≡ map (λ (o : Rewritten (UnitTree Span)). without_marks o.tree) plan.planned.files
+    read_as : map without_marks units ≡ map (λ (o : Rewritten (UnitTree Span)). without_marks o.tree) plan.planned.becomes.files
     read_as = trees read sources p before text number at new edits renaming respelled plan one units words are
 
-    images : AreImages itself begins old p.rows (units_of p) plan.planned.g units
+    images : AreImages itself begins old p.rows (units_of p) plan.planned.found.g units
     images = law p text number at new edits renaming respelled plan kind old clean units read_as
 
     same : map names_of (package_lines units words) ≡ map names_of old
     same = lines_names units words (as_many (with_edits sources edits) units words are)
-        ∙ sym (packages_bare units) ∙ ap (map package_of) read_as ∙ planned_bare plan.planned.files
-        ∙ packages_stay _ _ (units_of p) plan.planned.files plan.planned.rewrite ∙ ap (map package_of) units_before
+        ∙ sym (packages_bare units) ∙ ap (map package_of) read_as ∙ planned_bare plan.planned.becomes.files
+        ∙ packages_stay _ _ (units_of p) plan.planned.becomes.files (rewrite_back p plan.planned.found.g plan.planned.becomes) ∙ ap (map package_of) units_before
         ∙ sym (lines_names before.units before.words (as_many sources before.units before.words before.program.read))
 
-    table : AreProgram (with_edits sources edits) units words × AreProgramRows (declarations_of begins units) (rows_to plan.planned.g p.rows)
+    table : AreProgram (with_edits sources edits) units words × AreProgramRows (declarations_of begins units) (rows_to plan.planned.found.g p.rows)
     table = (record { read = are; clean = images.clean (package_lines units words) same }, images.rows_are)
 
 pub new_tables : OneReading Span → NewTextsRead → NewProgramsStayClean → NewTables

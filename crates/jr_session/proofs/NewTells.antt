@@ -36,10 +36,10 @@ module _ (tables : NewTables) (sources : List Source) (p : Program Span) (is : I
       → PlansRows p number at new (planned edits renaming respelled lost) P
       → (rows : List Row) × IsTableOf (with_edits sources edits) rows × P rows
   new_rows edits renaming respelled lost P h =
-      let f = file sources p is number at new within in
+      let f = file sources p is number within in
       let g = h f.0 f.1 in
       let in_p : IsPlanIn p f.0.text number at new edits renaming respelled = record { program = is.is; name = name; planned = g.0 } in
-      (rows_to g.0.g p.rows, tables sources p is f.0.text number at new edits renaming respelled in_p g.1, g.2)
+      (rows_to g.0.found.g p.rows, tables sources p is f.0.text number at new edits renaming respelled in_p g.1, g.2)
 
   module _ (analysis : Analysis) (rows : p.rows ≡ analysis.table) where
     of_edits : (edits : List (List Entry)) (renaming : List (Decl × Decl)) (respelled : ℕ) (lost : Option DepPair) (a : After)

@@ -17,6 +17,7 @@ use Rattle.jr_bind.specs.Programs.{File, Program, units_of}
 use Rattle.jr_rewrite.specs.Rewrites.{Choosing, RewritesUnits}
 use Rattle.jr_rewrite.specs.Rewritten.{Rewritten}
 use Rattle.jr_rename_laws.specs.ImageLaws.{without_marks}
+use Rattle.jr_plan.proofs.Rename.{rewrite_back}
 use Rattle.jr_rename_laws.specs.PlanLaws.{IsPlanIn, IsNewText, NewTextsRead}
 use Rattle.jr_sources.specs.FirstFault.{AreRead}
 use Rattle.jr_sources.specs.Sources.{Source}
@@ -69,24 +70,24 @@ module _ (read : NewTextsRead) (sources : List Source) (p : Program Span) (befor
   where
     -- what the file of a number becomes
     abbrev pub New : ℕ → Source → Type 0
-    New i old = (o : Rewritten (UnitTree Span)) × (e : List Entry) × (slice_get plan.planned.files i ≡ Some o) × (slice_get edits i ≡ Some e) × IsNewText old.text e o.tree
+    New i old = (o : Rewritten (UnitTree Span)) × (e : List Entry) × (slice_get plan.planned.becomes.files i ≡ Some o) × (slice_get edits i ≡ Some e) × IsNewText old.text e o.tree
 
     pub became : (i : ℕ) (old : Source) → slice_get sources i ≡ Some old → New i old
     became i old there =
-        let f = file_there sources p before i at new (slice_get_within sources i old there) in
+        let f = file_there sources p before i (slice_get_within sources i old there) in
         let r = read p text number at new edits renaming respelled plan i f.0 f.1 in
         let same : f.0.text ≡ old.text = same_Some f.0.text old.text (sym f.2 ∙ text_there sources i old there) in
         (r.0, r.1, r.2, r.3, subst (λ (x : List ℕ). IsNewText x r.1 r.0.tree) same r.4)
 
-    pub trees : OneReading Span → (units : List (UnitTree Span)) (words : List ℕ) → AreRead (with_edits sources edits) units words → map without_marks units ≡ map (λ (o : Rewritten (UnitTree Span)). without_marks o.tree) plan.planned.files
+    pub trees : OneReading Span → (units : List (UnitTree Span)) (words : List ℕ) → AreRead (with_edits sources edits) units words → map without_marks units ≡ map (λ (o : Rewritten (UnitTree Span)). without_marks o.tree) plan.planned.becomes.files
     trees one units words are =
-        let planned = many_units _ _ (units_of p) plan.planned.files plan.planned.rewrite ∙ length-map p.files (λ (f : File Span). f.unit) ∙ count_files sources p before in
-        same_trees units plan.planned.files (many ∙ sym planned) each
+        let planned = many_units _ _ (units_of p) plan.planned.becomes.files (rewrite_back p plan.planned.found.g plan.planned.becomes) ∙ length-map p.files (λ (f : File Span). f.unit) ∙ count_files sources p before in
+        same_trees units plan.planned.becomes.files (many ∙ sym planned) each
       where
         many : length units ≡ length sources
         many = (counts (with_edits sources edits) units words are).0 ∙ length-edited sources edits
 
-        each : (i : ℕ) (u : UnitTree Span) (o : Rewritten (UnitTree Span)) → slice_get units i ≡ Some u → slice_get plan.planned.files i ≡ Some o → bare_unit u ≡ bare_unit o.tree
+        each : (i : ℕ) (u : UnitTree Span) (o : Rewritten (UnitTree Span)) → slice_get units i ≡ Some u → slice_get plan.planned.becomes.files i ≡ Some o → bare_unit u ≡ bare_unit o.tree
         each i u o there stands =
             let lt = slice_get_within units i u there in
             let total = many in

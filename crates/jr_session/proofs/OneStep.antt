@@ -17,12 +17,15 @@ use Rattle.jr_program_laws.specs.PlaceLaws.{PartsArePlaced}
 use Rattle.jr_sources.proofs.Analysing.{OneItems}
 use Rattle.jr_sources.specs.ReadingLaws.{HasOneReading}
 use Rattle.jr_session.specs.Serving.{IsServed}
-use Rattle.jr_session.specs.Renaming.{IsRefusedRename, IsRenamed}
+use Rattle.jr_session.specs.Asked.{rename}
+use Rattle.jr_session.specs.Refactored.{RefusesRefactoring, Refactors}
+use Rattle.jr_session.specs.Requests.{Request}
 use Rattle.jr_session.specs.Stepping.{Steps, IsEdited, IsShown}
 use Rattle.jr_session.specs.StepLaws.{HasOneShow}
 use Rattle.jr_session.proofs.OneAnswer.{one_edited, one_refusal, one_undo_refusal, one_redo_refusal, one_undone, one_redone}
 use Rattle.jr_session.proofs.OneFault.{one_show_refusal}
-use Rattle.jr_session.proofs.OneRename.{one_rename_refusal, refused_not_done, one_renamed}
+use Rattle.jr_session.proofs.OneRefactoring.{IsPlannedOnce, one_refused, refused_not_done, one_done}
+use Rattle.jr_session.proofs.RenameRequest.{rename_once}
 use Rattle.jr_session.proofs.ShowSteps.{the_show, no_edit, no_undo, no_redo, would_once}
 
 -- a step is refused and nothing changes, or it is granted and done
@@ -95,14 +98,17 @@ show_answers s file undone t h = absurd (no_undo file h.1.0)
 show_answers s file redone t h = absurd (no_redo file h.1.0)
 show_answers s file (refused x) t h = inl (x, refl, h.0, h.1)
 
+-- ---- a refactoring
+
+-- it is refused and nothing changes, or it is done
+abbrev pub Answered : State → Request → Reply → State → Type 0
+Answered s ask r t = ((x : Refusal) × (r ≡ refused x) × RefusesRefactoring s ask x × (t ≡ s))
+    ⊎ ((names : List (List ℕ)) × (respelled : ℕ) × (r ≡ refactored names respelled) × Refactors s ask names respelled t)
+
 -- ---- a rename
 
 abbrev pub the_rename : List ℕ → ℕ → List ℕ → Step
 the_rename file at new = step.Rename file at new
-
-abbrev pub Renames : State → (file : List ℕ) → (at : ℕ) → (new : List ℕ) → Reply → State → Type 0
-Renames s file at new r t = ((x : Refusal) × (r ≡ refused x) × IsRefusedRename s file at new x × (t ≡ s))
-    ⊎ ((names : List (List ℕ)) × (respelled : ℕ) × (r ≡ refactored names respelled) × IsRenamed s file at new names respelled t)
 
 rename_not_edit : (file other text new : List ℕ) (at from to : ℕ) → the_rename file at new ≡ step.Edit other from to text → ⊥
 rename_not_edit file other text new at from to e = cc
@@ -116,7 +122,7 @@ rename_not_undo file new at e = cc
 rename_not_redo : (file new : List ℕ) (at : ℕ) → the_rename file at new ≡ step.Redo → ⊥
 rename_not_redo file new at e = cc
 
-pub rename_answers : (s : State) (file : List ℕ) (at : ℕ) (new : List ℕ) (r : Reply) (t : State) → Steps s (the_rename file at new) r t → Renames s file at new r t
+pub rename_answers : (s : State) (file : List ℕ) (at : ℕ) (new : List ℕ) (r : Reply) (t : State) → Steps s (the_rename file at new) r t → Answered s (rename file at new) r t
 rename_answers s file at new edited t h = absurd (rename_not_edit file h.1.edit.file h.1.text new at h.1.span.from h.1.span.to h.1.edit.is)
 rename_answers s file at new (refactored names respelled) t h = inr (names, respelled, refl, h.1)
 rename_answers s file at new (shown a) t h = absurd (rename_not_show file h.1.shows.file new at h.1.shows.is)
@@ -124,15 +130,14 @@ rename_answers s file at new undone t h = absurd (rename_not_undo file new at h.
 rename_answers s file at new redone t h = absurd (rename_not_redo file new at h.1.0)
 rename_answers s file at new (refused x) t h = inl (x, refl, h.0, h.1)
 
-module _ (reading : HasOneReading) (items_once : OneItems) (placed : PartsArePlaced) (law : MembersAreWritten Span) (plan_once : PlanIsOne) where
-  module _ (s : State) (file : List ℕ) (at : ℕ) (new : List ℕ) (differ : Differ s.files) where
-    both_renamed : (r q : Reply) (t u : State) → Renames s file at new r t → Renames s file at new q u → (r ≡ q) × (t ≡ u)
-    both_renamed r q t u (inl g) (inl h) = (g.1 ∙ ap refused (one_rename_refusal reading items_once placed law plan_once s file at new differ g.0 h.0 g.2 h.2) ∙ sym h.1, g.3 ∙ sym h.3)
-    both_renamed r q t u (inl g) (inr h) = absurd (refused_not_done reading items_once placed law plan_once s file at new differ g.0 h.0 h.1 u g.2 h.3)
-    both_renamed r q t u (inr g) (inl h) = absurd (refused_not_done reading items_once placed law plan_once s file at new differ h.0 g.0 g.1 t h.2 g.3)
-    both_renamed r q t u (inr g) (inr h) =
-        let same = one_renamed reading items_once placed law plan_once s file at new differ g.0 h.0 g.1 h.1 t u g.3 h.3 in
-        (g.2 ∙ (λ i. refactored (same.0 i) (same.1 i)) ∙ sym h.2, same.2)
+module _ (reading : HasOneReading) (items_once : OneItems) (placed : PartsArePlaced) (law : MembersAreWritten Span) (s : State) (ask : Request) (ones : IsPlannedOnce ask) (differ : Differ s.files) where
+  both_refactored : (r q : Reply) (t u : State) → Answered s ask r t → Answered s ask q u → (r ≡ q) × (t ≡ u)
+  both_refactored r q t u (inl g) (inl h) = (g.1 ∙ ap refused (one_refused reading items_once placed law s ask ones differ g.0 h.0 g.2 h.2) ∙ sym h.1, g.3 ∙ sym h.3)
+  both_refactored r q t u (inl g) (inr h) = absurd (refused_not_done reading items_once placed law s ask ones differ g.0 h.0 h.1 u g.2 h.3)
+  both_refactored r q t u (inr g) (inl h) = absurd (refused_not_done reading items_once placed law s ask ones differ h.0 g.0 g.1 t h.2 g.3)
+  both_refactored r q t u (inr g) (inr h) =
+      let same = one_done reading items_once placed law s ask ones differ g.0 h.0 g.1 h.1 t u g.3 h.3 in
+      (g.2 ∙ (λ i. refactored (same.0 i) (same.1 i)) ∙ sym h.2, same.2)
 
 module _ (reading : HasOneReading) (once : HasOneShow) where
   module _ (s : State) (file : List ℕ) (differ : Differ s.files) where
@@ -154,7 +159,7 @@ module _ (reading : HasOneReading) (once : HasOneShow) where
     one_answer s (step.Show file what.Bindings) r q t u differ is g h = both_shown s file differ r q t u (show_answers s file r t g) (show_answers s file q u h)
     one_answer s (step.Show file what.Dependences) r q t u differ is g h = absurd is
     one_answer s (step.Rename file at new) r q t u differ is g h =
-        both_renamed reading items_once placed law plan_once s file at new differ r q t u (rename_answers s file at new r t g) (rename_answers s file at new q u h)
+        both_refactored reading items_once placed law s (rename file at new) (rename_once plan_once file at new) differ r q t u (rename_answers s file at new r t g) (rename_answers s file at new q u h)
     one_answer s (step.ExtractLocal a b c d) r q t u differ is g h = absurd is
     one_answer s (step.ExtractMethod a b c d) r q t u differ is g h = absurd is
     one_answer s (step.InlineLocal a b) r q t u differ is g h = absurd is

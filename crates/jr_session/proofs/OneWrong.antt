@@ -78,7 +78,7 @@ module _ (reading : HasOneReading) (items_once : OneItems) (placed : PartsArePla
   -- of a written member the program says where its `super(..)` stands
   super_there : (w : WrittenMember Span) → Contains (written_members begins p.rows is.units) w → (s : Source) → slice_get ss w.file ≡ Some s → (items : List Item) → Lexes s.text items → SuperStands items w.part (p.super_at w.key)
   super_there w has s stands items lexes =
-      let f = file_there ss p is w.file 0 [] (slice_get_within ss w.file s stands) in
+      let f = file_there ss p is w.file (slice_get_within ss w.file s stands) in
       let text : f.0.text ≡ s.text = same_Some f.0.text s.text (sym f.2 ∙ text_there ss w.file s stands) in
       let there : Contains (members_of itself Anywhere p) w = subst (λ (us : List (UnitTree Span)). Contains (written_members begins p.rows us) w) (sym units_are) has in
       super_stands items w.part w.base (p.super_at w.key)

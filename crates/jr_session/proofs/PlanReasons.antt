@@ -8,7 +8,6 @@ use Rattle.jr_ast.specs.MemberTree as syntax
 use Rattle.jr_grammar.specs.Layout.{itself}
 use Rattle.jr_grammar.specs.Reads.{Reads}
 use Rattle.jr_table.specs.Decls.{MemberKey, Decl}
-use Rattle.jr_table.specs.Keys.{ClassKey, MethodKey}
 use Rattle.jr_table.specs.Errors.{Part}
 use Rattle.jr_names.specs.declared.steps.Step.TheVariants as step
 use Rattle.jr_names.specs.Refusals.{Refusal, bad_target, prelude_method, clash, override_changed, lost_binding}
@@ -23,9 +22,11 @@ use Rattle.jr_images.specs.Clashes.{IsClear}
 use Rattle.jr_images.specs.Families.{AreRenamed}
 use Rattle.jr_rename_laws.specs.ImageLaws.{RenamingsStayFair}
 use Rattle.jr_images.specs.Images.{Renaming}
-use Rattle.jr_images.specs.Refusals.{ChangesDispatch}
 use Rattle.jr_images.specs.RenameLaws.{IsFair}
 use Rattle.jr_images.specs.Renames as renames
+use Rattle.jr_plan.specs.Reasons.{Overrides, KeepsDispatch, Loses, by_itself, overrides, loses}
+use Rattle.jr_plan.specs.Renaming.{rename_of, IsFound}
+use Rattle.jr_plan.proofs.Rename.{rewrite_back}
 use Rattle.jr_images.specs.TextLaws.{RowsAreNamed, NamesHaveNoDot}
 use Rattle.jr_cursor.specs.TargetLaws.{OneIsTarget}
 use Rattle.jr_rename_laws.specs.OnePlan.{AreAlike, RewritingIsOne, PlansSo, RefusesSo}
@@ -47,26 +48,26 @@ module _ (file : List ℕ) (at : ℕ) (new : List ℕ) where
 
 module _ (p : Program Span) (name : List ℕ) (place : ℕ) (text : List ℕ) (number at : ℕ) (new : List ℕ) where
   pub refused_rank : (r : Refusal) → RefusesSo text number at new p r → ranked name place new r ≤ 32
-  refused_rank r (renames.no_target x) = let e = of_same name place new r (bad_target _ _) x.1 in omega (arith, e)
-  refused_rank r (renames.of_prelude x a) = let e = of_same name place new r (prelude_method a.0) a.2 in omega (arith, e)
-  refused_rank r (renames.clashes x none a) = let e = of_same name place new r (clash a.0) a.2 in omega (arith, e)
-  refused_rank r (renames.overrides x none clear a) = let e = of_same name place new r (override_changed a.0 a.1) a.3 in omega (arith, e)
-  refused_rank r (renames.loses x none clear keeps a) = let e = of_same name place new r (lost_binding _ _ _) a.5 in omega (arith, e)
+  refused_rank r (by_itself (inl x)) = let e = of_same name place new r (bad_target _ _) x.1 in omega (arith, e)
+  refused_rank r (by_itself (inr (d, g, x, inl a))) = let e = of_same name place new r (prelude_method a.0) a.2 in omega (arith, e)
+  refused_rank r (by_itself (inr (d, g, x, inr (none, a)))) = let e = of_same name place new r (clash a.0) a.2 in omega (arith, e)
+  refused_rank r (overrides x a) = let e = of_same name place new r (override_changed a.0 a.1) a.3 in omega (arith, e)
+  refused_rank r (loses x keeps a) = let e = of_same name place new r (lost_binding _ _ _) a.3 in omega (arith, e)
 
   pub reason_rank : (r : Refusal) → IsPlanReason p text number at new r → 10 ≤ ranked name place new r
   reason_rank r (reason.no_target x) = let e = of_same name place new r (bad_target _ _) x.1 in omega (arith, e)
   reason_rank r (reason.of_prelude d g x a) = let e = of_same name place new r (prelude_method a.0) a.2 in omega (arith, e)
   reason_rank r (reason.clashes d g x a) = let e = of_same name place new r (clash a.0) a.2 in omega (arith, e)
   reason_rank r (reason.overrides d g x a) = let e = of_same name place new r (override_changed a.0 a.1) a.3 in omega (arith, e)
-  reason_rank r (reason.loses d g x a) = let e = of_same name place new r (lost_binding _ _ _) a.5 in omega (arith, e)
+  reason_rank r (reason.loses d g x a) = let e = of_same name place new r (lost_binding _ _ _) a.3 in omega (arith, e)
 
   -- what a plan is refused for is a reason
   pub reason_of : (r : Refusal) → RefusesSo text number at new p r → IsPlanReason p text number at new r
-  reason_of r (renames.no_target x) = reason.no_target x
-  reason_of r (renames.of_prelude {d} {g} x a) = reason.of_prelude d g x a
-  reason_of r (renames.clashes {d} {g} x none a) = reason.clashes d g x a
-  reason_of r (renames.overrides {d} {g} x none clear a) = reason.overrides d g x a
-  reason_of r (renames.loses {d} {g} x none clear keeps a) = reason.loses d g x a
+  reason_of r (by_itself (inl x)) = reason.no_target x
+  reason_of r (by_itself (inr (d, g, x, inl a))) = reason.of_prelude d g x a
+  reason_of r (by_itself (inr (d, g, x, inr (none, a)))) = reason.clashes d g x a
+  reason_of r (overrides x a) = reason.overrides x.target x.g x.renames a
+  reason_of r (loses x keeps a) = reason.loses x.target x.g x.renames a
 
 -- ---- two programs of the same files
 
@@ -95,49 +96,60 @@ module _ (p : Program Span) (t : MemberKey → ℕ) (bs : List Bound) (program :
     clear_to : IsClear begins p.rows units d new → IsClear begins p.rows units e new
     clear_to clear = subst (λ (k : Decl). IsClear begins p.rows units k new) same clear
 
-    keeps_to : ((k : ClassKey) (m : MethodKey) → ChangesDispatch p.rows g k m → ⊥) → (k : ClassKey) (m : MethodKey) → ChangesDispatch p.rows h k m → ⊥
+    keeps_to : KeepsDispatch p (rename_of p g) → KeepsDispatch other (rename_of other h)
     keeps_to none k m c = none k m (change_to p.rows g h alike k m c)
 
   -- it comes behind what the plan is refused for, or the plan is refused for it
   abbrev Against : Refusal → Refusal → Type 0
   Against r q = (ranked name place new r < ranked name place new q) ⊎ RefusesSo f.text number at new other q
 
+  -- what is found, where the target is found by the other program
+  module _ (x : IsFound p f.text number at new) (e : Decl) (h : Renaming) (y : Targets other f.text number at new e h) where
+    spared : (z : Refusal) → renames.OfPrelude itself p.rows t units e new z → ⊥
+    spared = spares_to x.target e x.g h x.renames y x.no_prelude
+
+    abbrev found : IsFound other f.text number at new
+    found = record { target = e; g = h; renames = y; no_prelude = spared; clear = clear_to x.target e x.g h x.renames y x.clear }
+
+    dispatched : KeepsDispatch p (rename_of p x.g) → KeepsDispatch other (rename_of other h)
+    dispatched = keeps_to x.target e x.g h x.renames y
+
   module _ (r q : Refusal) (e : Decl) (h : Renaming) (y : Targets other f.text number at new e h) where
     to_clash : renames.Clashes itself p.rows t units e new q → RefusesSo f.text number at new p r → Against r q
-    to_clash a (renames.no_target x) = let i = of_same name place new r (bad_target _ _) x.1 in let j = of_same name place new q (clash a.0) a.2 in inl (omega (arith, i, j))
-    to_clash a (renames.of_prelude x b) = let i = of_same name place new r (prelude_method b.0) b.2 in let j = of_same name place new q (clash a.0) a.2 in inl (omega (arith, i, j))
-    to_clash a (renames.clashes {d} {g} x none b) = inr (renames.clashes y (spares_to d e g h x y none) a)
-    to_clash a (renames.overrides {d} {g} x none clear b) = inr (renames.clashes y (spares_to d e g h x y none) a)
-    to_clash a (renames.loses {d} {g} x none clear keeps b) = inr (renames.clashes y (spares_to d e g h x y none) a)
+    to_clash a (by_itself (inl x)) = let i = of_same name place new r (bad_target _ _) x.1 in let j = of_same name place new q (clash a.0) a.2 in inl (omega (arith, i, j))
+    to_clash a (by_itself (inr (d, g, x, inl b))) = let i = of_same name place new r (prelude_method b.0) b.2 in let j = of_same name place new q (clash a.0) a.2 in inl (omega (arith, i, j))
+    to_clash a (by_itself (inr (d, g, x, inr (none, b)))) = inr (by_itself (inr (e, h, y, inr (spares_to d e g h x y none, a))))
+    to_clash a (overrides x b) = inr (by_itself (inr (e, h, y, inr (spared x e h y, a))))
+    to_clash a (loses x keeps b) = inr (by_itself (inr (e, h, y, inr (spared x e h y, a))))
 
-    to_override : renames.Overrides itself p.rows t units h q → RefusesSo f.text number at new p r → Against r q
-    to_override a (renames.no_target x) = let i = of_same name place new r (bad_target _ _) x.1 in let j = of_same name place new q (override_changed a.0 a.1) a.3 in inl (omega (arith, i, j))
-    to_override a (renames.of_prelude x b) = let i = of_same name place new r (prelude_method b.0) b.2 in let j = of_same name place new q (override_changed a.0 a.1) a.3 in inl (omega (arith, i, j))
-    to_override a (renames.clashes x none b) = let i = of_same name place new r (clash b.0) b.2 in let j = of_same name place new q (override_changed a.0 a.1) a.3 in inl (omega (arith, i, j))
-    to_override a (renames.overrides {d} {g} x none clear b) = inr (renames.overrides y (spares_to d e g h x y none) (clear_to d e g h x y clear) a)
-    to_override a (renames.loses {d} {g} x none clear keeps b) = inr (renames.overrides y (spares_to d e g h x y none) (clear_to d e g h x y clear) a)
+    to_override : Overrides other (rename_of other h) q → RefusesSo f.text number at new p r → Against r q
+    to_override a (by_itself (inl x)) = let i = of_same name place new r (bad_target _ _) x.1 in let j = of_same name place new q (override_changed a.0 a.1) a.3 in inl (omega (arith, i, j))
+    to_override a (by_itself (inr (d, g, x, inl b))) = let i = of_same name place new r (prelude_method b.0) b.2 in let j = of_same name place new q (override_changed a.0 a.1) a.3 in inl (omega (arith, i, j))
+    to_override a (by_itself (inr (d, g, x, inr (none, b)))) = let i = of_same name place new r (clash b.0) b.2 in let j = of_same name place new q (override_changed a.0 a.1) a.3 in inl (omega (arith, i, j))
+    to_override a (overrides x b) = inr (overrides (found x e h y) a)
+    to_override a (loses x keeps b) = inr (overrides (found x e h y) a)
 
-    to_loss : renames.Loses itself p.rows t units h q → RefusesSo f.text number at new p r → Against r q
-    to_loss a (renames.no_target x) = let i = of_same name place new r (bad_target _ _) x.1 in let j = of_same name place new q (lost_binding _ _ _) a.5 in inl (omega (arith, i, j))
-    to_loss a (renames.of_prelude x b) = let i = of_same name place new r (prelude_method b.0) b.2 in let j = of_same name place new q (lost_binding _ _ _) a.5 in inl (omega (arith, i, j))
-    to_loss a (renames.clashes x none b) = let i = of_same name place new r (clash b.0) b.2 in let j = of_same name place new q (lost_binding _ _ _) a.5 in inl (omega (arith, i, j))
-    to_loss a (renames.overrides x none clear b) = let i = of_same name place new r (override_changed b.0 b.1) b.3 in let j = of_same name place new q (lost_binding _ _ _) a.5 in inl (omega (arith, i, j))
-    to_loss a (renames.loses {d} {g} x none clear keeps b) = inr (renames.loses y (spares_to d e g h x y none) (clear_to d e g h x y clear) (keeps_to d e g h x y keeps) a)
+    to_loss : Loses other (rename_of other h) q → RefusesSo f.text number at new p r → Against r q
+    to_loss a (by_itself (inl x)) = let i = of_same name place new r (bad_target _ _) x.1 in let j = of_same name place new q (lost_binding _ _ _) a.3 in inl (omega (arith, i, j))
+    to_loss a (by_itself (inr (d, g, x, inl b))) = let i = of_same name place new r (prelude_method b.0) b.2 in let j = of_same name place new q (lost_binding _ _ _) a.3 in inl (omega (arith, i, j))
+    to_loss a (by_itself (inr (d, g, x, inr (none, b)))) = let i = of_same name place new r (clash b.0) b.2 in let j = of_same name place new q (lost_binding _ _ _) a.3 in inl (omega (arith, i, j))
+    to_loss a (overrides x b) = let i = of_same name place new r (override_changed b.0 b.1) b.3 in let j = of_same name place new q (lost_binding _ _ _) a.3 in inl (omega (arith, i, j))
+    to_loss a (loses x keeps b) = inr (loses (found x e h y) (dispatched x e h y keeps) a)
 
   against_so : (r q : Refusal) → RefusesSo f.text number at new p r → IsPlanReason other f.text number at new q → Against r q
-  against_so r q u (reason.no_target a) = inr (renames.no_target a)
-  against_so r q u (reason.of_prelude e h y a) = inr (renames.of_prelude y a)
+  against_so r q u (reason.no_target a) = inr (by_itself (inl a))
+  against_so r q u (reason.of_prelude e h y a) = inr (by_itself (inr (e, h, y, inl a)))
   against_so r q u (reason.clashes e h y a) = to_clash r q e h y a u
   against_so r q u (reason.overrides e h y a) = to_override r q e h y a u
   against_so r q u (reason.loses e h y a) = to_loss r q e h y a u
 
   -- where there is a plan, it would be refused for the reason too
   planned_so : (edits : List (List Entry)) (renaming : List (Decl × Decl)) (respelled : ℕ) (q : Refusal) → PlansSo f.text number at new p edits renaming respelled → IsPlanReason other f.text number at new q → RefusesSo f.text number at new other q
-  planned_so edits renaming respelled q u (reason.no_target a) = renames.no_target a
-  planned_so edits renaming respelled q u (reason.of_prelude e h y a) = renames.of_prelude y a
-  planned_so edits renaming respelled q u (reason.clashes e h y a) = renames.clashes y (spares_to u.target e u.g h u.renames y u.no_prelude) a
-  planned_so edits renaming respelled q u (reason.overrides e h y a) = renames.overrides y (spares_to u.target e u.g h u.renames y u.no_prelude) (clear_to u.target e u.g h u.renames y u.clear) a
-  planned_so edits renaming respelled q u (reason.loses e h y a) = renames.loses y (spares_to u.target e u.g h u.renames y u.no_prelude) (clear_to u.target e u.g h u.renames y u.clear) (keeps_to u.target e u.g h u.renames y u.dispatch) a
+  planned_so edits renaming respelled q u (reason.no_target a) = by_itself (inl a)
+  planned_so edits renaming respelled q u (reason.of_prelude e h y a) = by_itself (inr (e, h, y, inl a))
+  planned_so edits renaming respelled q u (reason.clashes e h y a) = by_itself (inr (e, h, y, inr (spared u.found e h y, a)))
+  planned_so edits renaming respelled q u (reason.overrides e h y a) = overrides (found u.found e h y) a
+  planned_so edits renaming respelled q u (reason.loses e h y a) = loses (found u.found e h y) (dispatched u.found e h y u.dispatch) a
 
   -- ---- a plan's files are those of the target renamed, in whatever order
 
@@ -155,7 +167,8 @@ module _ (p : Program Span) (t : MemberKey → ℕ) (bs : List Bound) (program :
     files_so : (edits : List (List Entry)) (renaming : List (Decl × Decl)) (respelled : ℕ) → (u : PlansSo f.text number at new p edits renaming respelled) → (e : Decl) (h : Renaming) → Targets other f.text number at new e h
         → (files : List (Rewritten (syntax.Unit Span))) → renames.Rewrite itself p.rows t units h files → edits ≡ map (λ (o : Rewritten (syntax.Unit Span)). entries_of o.changes) files
     files_so edits renaming respelled u e h y files w =
-        let same_files = rewriting p other program also refl u.g h (alike u.target e u.g h u.renames y) (fair u.target u.g u.renames u.no_prelude u.clear) u.files files u.rewrite w in
+        let x = u.found in
+        let same_files = rewriting p other program also refl x.g h (alike x.target e x.g h x.renames y) (fair x.target x.g x.renames x.no_prelude x.clear) u.becomes.files files (rewrite_back p x.g u.becomes) w in
         u.edits_are ∙ ap (map (λ (o : Rewritten (syntax.Unit Span)). entries_of o.changes)) same_files
 
 module _ (law : MembersAreWritten Span) (targets : OneIsTarget) (p q : Program Span) (is : IsWhole p) (also : IsWhole q) (same : p.files ≡ q.files) (number at : ℕ) (new : List ℕ) (f : File Span) (stands : slice_get p.files number ≡ Some f) (name : List ℕ) (place : ℕ) where

@@ -8,7 +8,9 @@ use Rattle.jr_sources.specs.Sources.{Source, names_of, with_text}
 use Rattle.jr_session.specs.States.{State}
 use Rattle.jr_session.specs.Refusing.{Applies, Refuses}
 use Rattle.jr_session.specs.Stepping.{IsRefactored, Steps}
-use Rattle.jr_session.proofs.RenameFiles.{refused_places, renamed_names}
+use Rattle.jr_session.specs.Asked.{rename}
+use Rattle.jr_session.proofs.RefactoredFiles as refactoring
+use Rattle.jr_session.proofs.RefactoredFiles.{refused_places, rename_tells}
 use Rattle.jr_session.proofs.Telling.{TellsIn}
 
 with_text_names : (files : List Source) (number : ℕ) (text : List ℕ) → names_of (with_text files number text) ≡ names_of files
@@ -18,7 +20,7 @@ with_text_names (f ∷ fs) (suc number) text = ap (λ ns. f.name ∷ ns) (with_t
 
 -- a refactoring keeps them
 refactored_names : (s : State) (step : Step) (files : List (List ℕ)) (respelled : ℕ) (t : State) → IsRefactored s step files respelled t → names_of t.files ≡ names_of s.files
-refactored_names s (Rename file at new) files respelled t is = renamed_names s file at new files respelled t is
+refactored_names s (Rename file at new) files respelled t is = refactoring.refactored_names s (rename file at new) files respelled t is
 refactored_names s (Edit file from to text) files respelled t is = absurd is
 refactored_names s (ExtractLocal file from to name) files respelled t is = absurd is
 refactored_names s (ExtractMethod file from to name) files respelled t is = absurd is
@@ -66,7 +68,7 @@ refusal_tells s step (report_full len) applies = tt
 refusal_tells s step (too_many_sites member count) applies = absurd applies
 
 step_refusal : (s : State) (step : Step) (r : Refusal) → Refuses s step r → TellsIn (length s.files) r
-step_refusal s (Rename file at new) r h = refused_places s file at new r h
+step_refusal s (Rename file at new) r h = refused_places s (rename file at new) (rename_tells s file at new) r h
 step_refusal s (Edit file from to text) r h = refusal_tells s (Edit file from to text) r h.applies
 step_refusal s (ExtractLocal file from to name) r h = refusal_tells s (ExtractLocal file from to name) r h.applies
 step_refusal s (ExtractMethod file from to name) r h = refusal_tells s (ExtractMethod file from to name) r h.applies

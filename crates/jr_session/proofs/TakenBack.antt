@@ -1,4 +1,4 @@
--- An undoing right behind a rename.
+-- An undoing right behind a refactoring.
 use Rattle.std.proofs.Common.{◌≡◌, ℕ, List, [], ◌∷◌, ◌++◌, refl, sym, ap, ◌∙◌}
 use Rattle.jr_text.specs.Edits.{Entry}
 use Rattle.jr_names.specs.declared.steps.Step.TheVariants as step
@@ -6,7 +6,9 @@ use Rattle.jr_names.specs.declared.steps.What.TheVariants as what
 use Rattle.jr_names.specs.Replies.{Reply, edited, refactored, shown, undone, redone, refused}
 use Rattle.jr_sources.specs.Sources.{Source, names_of, texts_of}
 use Rattle.jr_session.specs.NewTexts.{with_edits}
-use Rattle.jr_session.specs.Renaming.{IsRenamed}
+use Rattle.jr_session.specs.Asked.{rename}
+use Rattle.jr_session.specs.Refactored.{Refactors}
+use Rattle.jr_session.specs.Requests.{Request}
 use Rattle.jr_session.specs.States.{State, IsUndone}
 use Rattle.jr_session.specs.Stepping.{Steps}
 use Rattle.jr_session.specs.Promises.{IsDone, IsTakenBack}
@@ -26,7 +28,7 @@ rename_no_undo file new at e = cc
 rename_no_redo : (file new : List ℕ) (at : ℕ) → step.Rename file at new ≡ step.Redo → ⊥
 rename_no_redo file new at e = cc
 
-pub renamed_of : (s t : State) (file : List ℕ) (at : ℕ) (new : List ℕ) (reply : Reply) → Steps s (step.Rename file at new) reply t → IsDone reply → (names : List (List ℕ)) × (n : ℕ) × IsRenamed s file at new names n t
+pub renamed_of : (s t : State) (file : List ℕ) (at : ℕ) (new : List ℕ) (reply : Reply) → Steps s (step.Rename file at new) reply t → IsDone reply → (names : List (List ℕ)) × (n : ℕ) × Refactors s (rename file at new) names n t
 renamed_of s t file at new edited h done = absurd (rename_no_edit file new h.1.edit.file h.1.text at h.1.span.from h.1.span.to h.1.edit.is)
 renamed_of s t file at new (refactored names n) h done = (names, n, h.1)
 renamed_of s t file at new (shown lines) h done = absurd (rename_no_show file new h.1.shows.file at h.1.shows.is)
@@ -80,7 +82,7 @@ undo_no_show file e = cc
 undo_no_redo : step.Undo ≡ step.Redo → ⊥
 undo_no_redo e = cc
 
-module _ (s t : State) (file : List ℕ) (at : ℕ) (new : List ℕ) (names : List (List ℕ)) (n : ℕ) (is : IsRenamed s file at new names n t) where
+module _ (s t : State) (ask : Request) (names : List (List ℕ)) (n : ℕ) (is : Refactors s ask names n t) where
   undo_is : t.undo ≡ s.undo ++ texts_of s.files ∷ []
   undo_is = ap (λ (x : State). x.undo) is.becomes
 

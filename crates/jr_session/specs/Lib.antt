@@ -12,7 +12,9 @@ pub mod Serving
 pub mod Work
 pub mod StepLaws
 pub mod NewTexts
-pub mod Renaming
+pub mod Requests
+pub mod Refactored
+pub mod Asked
 pub mod RenameReasons
 pub mod Planning
 pub mod Making

@@ -18,5 +18,5 @@ NewTables = (sources : List Source) (p : Program Span) → IsProgramOf sources p
     → (text : List ℕ) (number at : ℕ) (new : List ℕ) (edits : List (List Entry))
     (renaming : List (Decl × Decl)) (respelled : ℕ)
     → (plan : IsPlanIn p text number at new edits renaming respelled)
-    → IsNoClass plan.planned.target
-    → IsTableOf (with_edits sources edits) (rows_to plan.planned.g p.rows)
+    → IsNoClass plan.planned.found.target
+    → IsTableOf (with_edits sources edits) (rows_to plan.planned.found.g p.rows)

@@ -2,14 +2,14 @@
 use Rattle.std.specs.Prelude.{◌≡◌, ℕ, List, Option}
 use Rattle.jr_text.specs.declared.spans.Span.{Span}
 use Rattle.jr_text.specs.Edits.{Entry}
-use Rattle.jr_grammar.specs.Layout.{itself}
 use Rattle.jr_table.specs.Decls.{Decl}
 use Rattle.jr_names.specs.Refusals.{Refusal}
 use Rattle.jr_names.specs.RefusalView.{refusal_of}
 use Rattle.jr_names.specs.Replies.{Outcome, planned, not_planned}
 use Rattle.jr_names.specs.Sites.{DepPair}
-use Rattle.jr_bind.specs.Programs.{Program, units_of}
-use Rattle.jr_images.specs.Renames.{IsPlanned, IsRefused}
+use Rattle.jr_bind.specs.Programs.{Program}
+use Rattle.jr_plan.specs.Reasons.{IsPlanned, IsRefused}
+use Rattle.jr_plan.specs.Renaming as rename
 use Rattle.jr_sources.specs.Analysed.{IsSourceWrong}
 use Rattle.jr_sources.specs.Sources.{Source}
 use Rattle.jr_sources.specs.Whole.{IsProgramOf}
@@ -24,7 +24,7 @@ pub record IsNotPlanned (sources : List Source) (number at : ℕ) (new : List �
   pub program : IsProgramOf sources p
   pub text : List ℕ
   pub has : HasText sources number text
-  pub refused : IsRefused itself p.rows p.super_at (units_of p) text number at new r
+  pub refused : IsRefused p (rename.renaming p text number at new) r
 
 -- or these are the edits, and so many references are respelled
 pub record ArePlanned (sources : List Source) (number at : ℕ) (new : List ℕ)
@@ -34,8 +34,7 @@ pub record ArePlanned (sources : List Source) (number at : ℕ) (new : List ℕ)
   pub text : List ℕ
   pub has : HasText sources number text
   pub renaming : List (Decl × Decl)
-  pub planned : IsPlanned itself p.rows p.super_at (units_of p) text number at new edits renaming
-      respelled
+  pub planned : IsPlanned p (rename.renaming p text number at new) edits renaming respelled
 
 -- what an outcome says without the renaming, which keeps to the dependences
 abbrev pub IsOfOutcome : Outcome → Planned → Type 0

@@ -1,15 +1,13 @@
--- What a step promises beside what it does: a rename that a session accepts keeps the program.
+-- What a step promises beside what it does: a refactoring that a session accepts keeps the program.
 use Rattle.std.specs.Prelude.{◌≡◌, ℕ, ◌<◌, List, [], ◌∷◌, map, length, Some, slice_get}
 use Rattle.jr_text.specs.declared.spans.Span.{Span}
 use Rattle.jr_text.specs.Edits.{Entry, AreEdits, FitsIn}
 use Rattle.jr_text.specs.Splices.{splice, IsUntouched, moved_to}
 use Rattle.jr_ast.specs.MemberTree.{Unit as UnitTree}
-use Rattle.jr_grammar.specs.Layout.{itself}
 use Rattle.jr_table.specs.Keys.{ClassKey, MethodKey}
 use Rattle.jr_table.specs.Decls.{Decl}
 use Rattle.jr_table.specs.Errors.{IsSound}
 use Rattle.jr_table.specs.Keyed.{DispatchesTo}
-use Rattle.jr_table.specs.DeclaredItems.{declarations_of}
 use Rattle.jr_names.specs.declared.steps.Step.{Step}
 use Rattle.jr_names.specs.declared.steps.Step.TheVariants as step
 use Rattle.jr_names.specs.Refusals.{Refusal}
@@ -19,18 +17,16 @@ use Rattle.jr_program_laws.specs.FileParts.{begins}
 use Rattle.jr_runs.specs.Core as core
 use Rattle.jr_runs.specs.Typing.{WellTyped}
 use Rattle.jr_code.specs.RunKeys.{RunKeys}
-use Rattle.jr_rewrite.specs.AlongMembers.{AlongUnits}
 use Rattle.jr_rewrite.specs.Rewritten.{Rewritten}
-use Rattle.jr_rename_laws.specs.ImageLaws.{without_marks, AreImages}
-use Rattle.jr_images.specs.Images.{class_to, method_to, member_to, rows_to}
-use Rattle.jr_images.specs.Keeping.{IsKept, IsWritten, IsSuperKept, IsParentKept}
-use Rattle.jr_rename_laws.specs.PlanLaws.{IsPlanIn}
-use Rattle.jr_kept_runs.specs.KeysTo.{keys_to}
-use Rattle.jr_kept_runs.specs.KeepsRuns.{AreCode, KeepsRuns}
+use Rattle.jr_plan.specs.Reasons.{IsPlanned}
+use Rattle.jr_rename_laws.specs.ImageLaws.{without_marks}
+use Rattle.jr_kept_runs.specs.KeepsRuns.{AreCode}
 use Rattle.jr_kept_runs.specs.Laws.{sources_of}
 use Rattle.jr_sources.specs.Sources.{Source, texts_of}
 use Rattle.jr_sources.specs.Whole.{IsProgramOf}
-use Rattle.jr_session.specs.Renaming.{IsAsked}
+use Rattle.jr_session.specs.Asked.{asks_of}
+use Rattle.jr_session.specs.Refactored.{IsAsked}
+use Rattle.jr_session.specs.Requests.{Request, images_by, Asks, refactors, nothing}
 use Rattle.jr_session.specs.States.{State}
 use Rattle.jr_session.specs.Stepping.{Steps}
 
@@ -65,10 +61,9 @@ pub record HasOneCode (p : Program Span) : Type 0 where
   pub one : (other : core.Program RunKeys) → AreCode (sources_of p) other → code ≡ other
   pub typed : WellTyped code
 
--- The sources `s.files` are the program p, for which the rename is planned, and the sources
+-- The sources `s.files` are the program p, for which the refactoring is planned, and the sources
 -- `t.files` are the program q: read, bound and sound from scratch.
-pub record KeepsProgram (s : State) (file : List ℕ) (at : ℕ) (new : List ℕ) (t : State)
-    : Type 0 where
+pub record KeepsProgram (s : State) (ask : Request) (t : State) : Type 0 where
   pub p : Program Span
   pub before : IsProgramOf s.files p
   pub q : Program Span
@@ -77,38 +72,27 @@ pub record KeepsProgram (s : State) (file : List ℕ) (at : ℕ) (new : List ℕ
   pub sound : IsSound begins q.rows q.super_at (units_of q)
   pub number : ℕ
   pub text : List ℕ
-  pub asked : IsAsked s file at new number text
+  pub asked : IsAsked s ask number text
   pub edits : List (List Entry)
   pub renaming : List (Decl × Decl)
   pub respelled : ℕ
-  pub plan : IsPlanIn p text number at new edits renaming respelled
+  pub plan : IsPlanned p (ask.refactoring p text number) edits renaming respelled
   -- the new texts read as the planned trees, which are q's but for where their nodes stand
   pub trees : map without_marks (units_of q)
-      ≡ map (λ (o : Rewritten (UnitTree Span)). without_marks o.tree) plan.planned.files
-  -- q's own rows, made of its own trees, are the images of the rows of p
-  pub rows : q.rows ≡ rows_to plan.planned.g p.rows
-  -- each class and member of q stands where the one stood whose image it is, and q's declarations
-  -- have no fault
-  pub images : AreImages itself begins [] p.rows (units_of p) plan.planned.g (units_of q)
+      ≡ map (λ (o : Rewritten (UnitTree Span)). without_marks o.tree) plan.becomes.files
+  -- q's own rows, made of its own trees, are those that the refactoring states
+  pub rows : q.rows ≡ (images_by ask p text number plan.found).rows
   -- Dispatch in q is the image of dispatch in p: for each method and each class on whose objects it
   -- is dispatched, its own and those below (JLS 15.12.4.4).
   pub dispatch : (of : ClassKey) (m was : MethodKey) → DispatchesTo p.rows of m was
-      → DispatchesTo q.rows (class_to plan.planned.g of) (method_to plan.planned.g m)
-      (method_to plan.planned.g was)
-  -- Each reference of each member of p is bound, at its place in q's own trees and by q's own rows,
-  -- to the image of its declaration; each written type, superclass and `super(..)` means the image
-  -- of what it meant, and so does the class in front of a type's dot, unless the type is respelled.
-  pub references : AlongUnits begins begins (IsKept begins begins plan.planned.g p.rows)
-      (IsWritten begins begins plan.planned.g p.rows) (IsSuperKept plan.planned.g p.rows)
-      (IsParentKept plan.planned.g p.rows) (member_to plan.planned.g)
-      (declarations_of begins (units_of p)) (units_of p) (units_of q)
+      → DispatchesTo q.rows ((images_by ask p text number plan.found).class_to of)
+      ((images_by ask p text number plan.found).method_to m)
+      ((images_by ask p text number plan.found).method_to was)
+  -- what the refactoring promises besides: of references, of places, of runs
+  pub own : ask.Keeps p text number plan.found q
   -- each of the two is a resolved program, just one
   pub code_before : HasOneCode p
   pub code_behind : HasOneCode q
-  -- These are exactly alike: each method and constructor, on a receiver and arguments of its types,
-  -- has in q exactly the images of its runs in p, whole ones with the same end and bounded ones,
-  -- both ways.
-  pub runs : KeepsRuns (keys_to plan.planned.g) (sources_of p) (sources_of q)
   -- each file is spliced by its edits, and there are no others
   pub count : length t.files ≡ length s.files
   pub texts : (i : ℕ) (old : Source) → slice_get s.files i ≡ Some old
@@ -117,12 +101,16 @@ pub record KeepsProgram (s : State) (file : List ℕ) (at : ℕ) (new : List ℕ
   -- an undoing right behind the step isn't refused, and all is as it was
   pub back : (answer : Reply) (u : State) → Steps t step.Undo answer u → IsTakenBack s t answer u
 
--- of a rename that isn't refused, that it keeps the program; of another step, no more than `Steps`
-abbrev pub Promises : State → Step → Reply → State → Type 0
-Promises s (step.Rename file at new) reply t = IsDone reply → KeepsProgram s file at new t
-Promises s of reply t = Unit {0}
+-- of a refactoring that isn't refused, that it keeps the program; of another step, no more than
+-- `Steps`
+abbrev pub PromisesBy : Asks → State → Reply → State → Type 0
+PromisesBy (refactors ask) s reply t = IsDone reply → KeepsProgram s ask t
+PromisesBy nothing s reply t = Unit {0}
 
--- what a rename does is what it promises
-abbrev pub RenamesKeepPrograms : Type 0
-RenamesKeepPrograms = (s t : State) (file : List ℕ) (at : ℕ) (new : List ℕ) (reply : Reply)
-    → Steps s (step.Rename file at new) reply t → IsDone reply → KeepsProgram s file at new t
+abbrev pub Promises : State → Step → Reply → State → Type 0
+Promises s of reply t = PromisesBy (asks_of of) s reply t
+
+-- what a step does is what it promises
+abbrev pub StepsKeepPrograms : Type 0
+StepsKeepPrograms = (s t : State) (of : Step) (reply : Reply) → Steps s of reply t
+    → Promises s of reply t

@@ -11,7 +11,8 @@ use Rattle.jr_sources.specs.Sources.{Source, HasName, texts_of, total_of, total_
 use Rattle.jr_sources.specs.Whole.{IsProgramOf}
 use Rattle.jr_session.specs.Lengths.{AreWithin, AreTooLong}
 use Rattle.jr_session.specs.NewTexts.{with_edits, differing, with_files}
-use Rattle.jr_session.specs.Renaming.{IsAsked}
+use Rattle.jr_session.specs.Asked.{rename}
+use Rattle.jr_session.specs.Refactored.{IsAsked}
 use Rattle.jr_session.specs.States.{State}
 
 -- new sources are refused for what is first wrong with them, and nothing changes; or nothing is
@@ -52,4 +53,4 @@ pub data CostsRefactoring (sources : List Source) (edits : List (List Entry)) (b
 -- the file of this number has this name, in its text the offset can stand, and the new name is an
 -- identifier
 abbrev pub AsksFor : State → (file : List ℕ) → (at : ℕ) → (new : List ℕ) → (number : ℕ) → Type 0
-AsksFor s file at new number = (text : List ℕ) × IsAsked s file at new number text
+AsksFor s file at new number = (text : List ℕ) × IsAsked s (rename file at new) number text

@@ -38,7 +38,9 @@ use Rattle.jr_names.specs.RefusalNames.{refusal_number}
 use Rattle.jr_sources.specs.Sources.{IsFile, LacksFile, texts_of, with_text}
 use Rattle.jr_session.specs.States.{State}
 use Rattle.jr_session.specs.Lengths.{AreTooLong}
-use Rattle.jr_session.specs.Renaming.{IsRefusedRename}
+use Rattle.jr_session.specs.Asked.{asks_of}
+use Rattle.jr_session.specs.Refactored.{RefusesRefactoring}
+use Rattle.jr_session.specs.Requests.{Asks, refactors, nothing}
 use Rattle.jr_sources.specs.FirstFault.{IsFirstFaultOf}
 use Rattle.jr_lines.specs.Lines.{bytes_of}
 use Rattle.jr_session.specs.Lines.{AreLineTexts}
@@ -164,17 +166,23 @@ pub record IsFirstRefusal (s : State) (of : Step) (r : Refusal) : Type 0 where
   pub applies : Applies s of r
   pub first : (q : Refusal) → Applies s of q → rank_of of r ≤ rank_of of q
 
--- The step is refused for this reason: the first of those that apply. Those of a rename are told in
--- their order, each with what was found before it.
+-- The step is refused for this reason: the first of those that apply. Those of a refactoring are
+-- told in their order, each with what was found before it.
+abbrev pub RefusesBy : Asks → State → Step → Refusal → Type 0
+RefusesBy (refactors ask) s of r = RefusesRefactoring s ask r
+RefusesBy nothing s of r = IsFirstRefusal s of r
+
 abbrev pub Refuses : State → Step → Refusal → Type 0
-Refuses s (step.Rename file at new) r = IsRefusedRename s file at new r
-Refuses s of r = IsFirstRefusal s of r
+Refuses s of r = RefusesBy (asks_of of) s of r
 
 -- nothing refuses the step
 abbrev pub IsGranted : State → Step → Type 0
 IsGranted s of = (r : Refusal) → Applies s of r → ⊥
 
--- what a rename does says that nothing refuses it
+-- what a refactoring does says that nothing refuses it
+abbrev pub GrantsBy : Asks → State → Step → Type 0
+GrantsBy (refactors ask) s of = Unit {0}
+GrantsBy nothing s of = IsGranted s of
+
 abbrev pub Grants : State → Step → Type 0
-Grants s (step.Rename file at new) = Unit {0}
-Grants s of = IsGranted s of
+Grants s of = GrantsBy (asks_of of) s of

@@ -21,6 +21,8 @@ use Rattle.jr_rewrite.specs.Edited.{entries_of}
 use Rattle.jr_rewrite.specs.Rewritten.{Rewritten}
 use Rattle.jr_images.specs.Images.{Renaming}
 use Rattle.jr_images.specs.Renames as renames
+use Rattle.jr_plan.specs.Reasons.{Overrides, Loses}
+use Rattle.jr_plan.specs.Renaming.{rename_of}
 use Rattle.jr_sources.specs.Asking.{CanStand}
 use Rattle.jr_sources.specs.BindingErrors.{IsFirstWrong}
 use Rattle.jr_sources.specs.Sources.{IsFile, HasName, LacksFile, texts_of}
@@ -44,10 +46,9 @@ module _ (p : Program Span) (text : List ℕ) (number at : ℕ) (new : List ℕ)
         → renames.OfPrelude itself p.rows p.super_at (units_of p) d new r → IsPlanReason r
     clashes : (d : Decl) (g : Renaming) → Targets d g
         → renames.Clashes itself p.rows p.super_at (units_of p) d new r → IsPlanReason r
-    overrides : (d : Decl) (g : Renaming) → Targets d g
-        → renames.Overrides itself p.rows p.super_at (units_of p) g r → IsPlanReason r
-    loses : (d : Decl) (g : Renaming) → Targets d g
-        → renames.Loses itself p.rows p.super_at (units_of p) g r → IsPlanReason r
+    overrides : (d : Decl) (g : Renaming) → Targets d g → Overrides p (rename_of p g) r
+        → IsPlanReason r
+    loses : (d : Decl) (g : Renaming) → Targets d g → Loses p (rename_of p g) r → IsPlanReason r
 
 -- ---- all of them
 

@@ -6,7 +6,9 @@ use Rattle.jr_names.specs.declared.steps.Step.{Step}
 use Rattle.jr_names.specs.declared.steps.Step.TheVariants as step
 use Rattle.jr_names.specs.Replies.{Reply, edited, refactored, shown, undone, redone, refused}
 use Rattle.jr_session.specs.States.{State, changed, IsUndone, IsRedone}
-use Rattle.jr_session.specs.Renaming.{IsRenamed}
+use Rattle.jr_session.specs.Asked.{asks_of}
+use Rattle.jr_session.specs.Refactored.{Refactors}
+use Rattle.jr_session.specs.Requests.{Asks, refactors, nothing}
 use Rattle.jr_session.specs.Refusing.{IsEdit, WouldShow, Refuses, Grants}
 use Rattle.jr_lines.specs.Lines.{bytes_of}
 
@@ -30,10 +32,12 @@ pub record IsShown (s : State) (of : Step) (lines : List (List ℕ)) (t : State)
   }
 
 -- a refactoring is done to these files, with so many respelled references
+abbrev pub RefactorsBy : Asks → State → (files : List (List ℕ)) → (respelled : ℕ) → State → Type 0
+RefactorsBy (refactors ask) s files respelled t = Refactors s ask files respelled t
+RefactorsBy nothing s files respelled t = ⊥
+
 abbrev pub IsRefactored : State → Step → (files : List (List ℕ)) → (respelled : ℕ) → State → Type 0
-IsRefactored s (step.Rename file at new) files respelled t =
-    IsRenamed s file at new files respelled t
-IsRefactored s of files respelled t = ⊥
+IsRefactored s of files respelled t = RefactorsBy (asks_of of) s files respelled t
 
 -- the step is done, with this reply; what isn't here has no step yet
 abbrev pub Does : State → Step → Reply → State → Type 0

@@ -1,6 +1,6 @@
 //! What holds of each step.
 ghost use Rattle.jr_session.specs.NewTables.{NewTables};
-ghost use Rattle.jr_session.specs.Promises.{RenamesKeepPrograms};
+ghost use Rattle.jr_session.specs.Promises.{StepsKeepPrograms};
 ghost use Rattle.jr_session.specs.StepLaws.{HasOneAnswer, HasOneShow, RenamesAreRefusedFirst};
 
 use jr_cursor::one_is_target;
@@ -50,17 +50,18 @@ pub fn renames_are_refused_first()
     rewriting_is_one();
 }
 
-/// Where a session accepts a rename, the sources behind the step are a program again: read, bound
-/// and sound from scratch. It is read as the planned trees, its rows are the images of the old
-/// rows, each reference is bound in it to the image of what it was bound to (JLS 6), and what a
-/// call runs is the image of what it ran, whatever is renamed. Each of the two has resolved code,
-/// just one and well typed, and these are exactly alike. Each byte that lies in no edit's span is
-/// as before, and an undoing right behind the rename gives back every byte of every file.
-pub fn accepted_renames_keep_programs()
-    ensures { RenamesKeepPrograms }
+/// Where a session accepts a refactoring, the sources behind the step are a program again: read,
+/// bound and sound from scratch. It is read as the planned trees, its rows are those that the
+/// refactoring states, and what a call runs is the image of what it ran. Each of the two programs
+/// has resolved code, just one and well typed. Each byte that lies in no edit's span is as before,
+/// and an undoing right behind the step gives back every byte of every file. Of a rename, each
+/// reference is bound to the image of what it was bound to (JLS 6), whatever is renamed, and the
+/// resolved programs are exactly alike.
+pub fn accepted_refactorings_keep_programs()
+    ensures { StepsKeepPrograms }
 {
     one_reading::<Span>();
-    plans_become::<Span, Span>();
+    plans_become::<Span>();
     rows_are_named::<Span>();
     classes_give_images::<Span, Span>();
     constructors_give_images::<Span, Span>();

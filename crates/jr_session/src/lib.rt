@@ -2,9 +2,10 @@
 //! them, and what a refactoring promises. It knows no refactoring from inside: it asks for a plan.
 //!
 //! Contracts see a [`Session`] as the `State` of `specs/States`, and what a step does as the
-//! relation of `specs/Stepping`; why it is refused is in `Refusing`, what an accepted rename
-//! promises in `Promises`. What is kept beside the texts is an invariant (`Kept`), which says that
-//! it is what reading and analysing from scratch give; no public clause mentions it.
+//! relation of `specs/Stepping`; why it is refused is in `Refusing`, and of a refactoring, whichever
+//! it is, in `Refactored`; what an accepted one promises is in `Promises`. A refactoring that is
+//! added has a record and a line in `Asked`. What is kept beside the texts is an invariant (`Kept`),
+//! which says that it is what reading and analysing from scratch give; no public clause mentions it.
 //!
 //! `steps` sends a step to the call that answers it. `sessions`, `begins`, `edits`, `shows`,
 //! `renames`. `changes`: what a step changed, for undoing. `splices`: what an edit would make of a
@@ -14,7 +15,7 @@
 //! `made`: the new texts, or the length that is too long; `tries` reads and binds the new program,
 //! and puts all back where something is wrong. `laws`: one reply and one state a step
 //! (`step_has_one_answer`), the first reason of a refusal (`renames_are_refused_first`), what an
-//! accepted rename promises, from its step alone (`accepted_renames_keep_programs`).
+//! accepted refactoring promises, from its step alone (`accepted_refactorings_keep_programs`).
 #![tactic(auto)]
 
 mod begins;
@@ -33,6 +34,8 @@ mod tries;
 mod turns;
 
 pub use begins::BeginFault;
-pub use laws::{accepted_renames_keep_programs, renames_are_refused_first, step_has_one_answer};
+pub use laws::{
+    accepted_refactorings_keep_programs, renames_are_refused_first, step_has_one_answer,
+};
 pub use sessions::Session;
 pub use shows::MAX_SHOWN_LEN;

@@ -8,7 +8,7 @@ ghost use Rattle.jr_session.specs.Serving.{IsServed, WantsNoMemory};
 ghost use Rattle.jr_session.specs.Stepping as pure;
 ghost use Rattle.jr_session.specs.Work.{IsWithinWork};
 
-use crate::laws::accepted_renames_keep_programs;
+use crate::laws::accepted_refactorings_keep_programs;
 use crate::sessions::Session;
 use jr_names::{Reply, Step, What};
 use jr_steps::Steps;
@@ -28,8 +28,8 @@ impl Session {
     ) -> Result<Reply, AllocError>
         requires { IsServed of.now }
         ensures step { IfOk result (λ reply. pure.Steps self.old of.now (reply_of reply) self.new) }
-        // A rename that isn't refused leaves a program again, in which each reference is bound to
-        // the image of what it was bound to.
+        // A refactoring that isn't refused leaves a program again, and keeps of the one before what
+        // it promises.
         ensures promises { IfOk result (λ reply.
             Promises self.old of.now (reply_of reply) self.new) }
         ensures err { OnErr result (self.new ≡ self.old) }
@@ -39,7 +39,7 @@ impl Session {
             → IsFirstRefusal self.old of.now refusal → IsOk result }
         ensures work { IsWithinWork self.old of.now steps.old steps.new }
     {
-        accepted_renames_keep_programs();
+        accepted_refactorings_keep_programs();
         self.answer(alloc, of, steps)
     }
 

@@ -6,6 +6,7 @@ use Rattle.jr_names.specs.declared.steps.Step.TheVariants as step
 use Rattle.jr_names.specs.Refusals.{Refusal}
 use Rattle.jr_names.specs.Replies.{Reply, refused}
 use Rattle.jr_sources.specs.Sources.{Source, IsFile}
+use Rattle.jr_session.specs.Asked as asked
 use Rattle.jr_session.specs.Promises.{KeepsProgram}
 use Rattle.jr_session.specs.States.{State, begun}
 use Rattle.jr_session.specs.Stepping.{Steps}
@@ -26,7 +27,7 @@ pub record IsGranted (file source : List ℕ) (at : ℕ) (name output : List ℕ
   pub after : State
   pub steps : Steps (opened file source) (step.Rename file at name) reply after
   pub granted : ¬ IsRefusal reply
-  pub keeps : KeepsProgram (opened file source) file at name after
+  pub keeps : KeepsProgram (opened file source) (asked.rename file at name) after
   pub text : IsFile after.files 0 file output
 
 -- it refuses the step, and this is the refusal's line

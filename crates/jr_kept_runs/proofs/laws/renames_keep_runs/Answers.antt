@@ -5,6 +5,7 @@ use Rattle.jr_bind.specs.Programs.{units_of}
 use Rattle.jr_program_laws.specs.FileParts.{begins}
 use Rattle.jr_rewrite.specs.Rewritten.{Rewritten}
 use Rattle.jr_images.specs.RenameLaws.{KeepsAll}
+use Rattle.jr_plan.proofs.Rename.{rewrite_back, none_loses}
 use Rattle.jr_kept_runs.specs.KeysTo.{keys_to}
 use Rattle.jr_kept_runs.specs.KeepsRuns.{KeepsRuns}
 use Rattle.jr_kept_runs.specs.Laws.{last_of, sources_of}
@@ -20,11 +21,11 @@ all_kept (o ∷ os) h = (h 0 o refl, all_kept os (λ i p e. h (suc i) p e))
 pub returns : goal.returns
 returns c p q text file at new edits renaming respelled is read rows images =
     let fair = images.fair in
-    let tables = agree p.rows is.planned.target is.planned.g is.program.are_rows fair is.planned.renames.renamed is.planned.dispatch in
+    let tables = agree p.rows is.planned.found.target is.planned.found.g is.program.are_rows fair is.planned.found.renames.renamed is.planned.dispatch in
     let one_old = c.lookups_are_exact.ensures.one p.rows is.program.are_rows in
     let bound_old = c.types_are_exact.ensures.bound p.rows is.program.are_rows (c.lookups_are_exact.ensures.keys p.rows is.program.are_rows) in
-    subst (λ (z : List Row). KeepsRuns (keys_to is.planned.g) (sources_of p) (record { begins = begins; ends = last_of; rows = z; super_at = q.super_at; units = units_of q })) (sym rows)
-    (runs_stay itself last_of p.rows is.planned.g p.super_at q.super_at (units_of p) (units_of q) is.planned.files is.program.are_rows tables one_old bound_old
+    subst (λ (z : List Row). KeepsRuns (keys_to is.planned.found.g) (sources_of p) (record { begins = begins; ends = last_of; rows = z; super_at = q.super_at; units = units_of q })) (sym rows)
+    (runs_stay itself last_of p.rows is.planned.found.g p.super_at q.super_at (units_of p) (units_of q) is.planned.becomes.files is.program.are_rows tables one_old bound_old
     (λ from to stand. record {
       are = fair.are;
       one_old = one_old;
@@ -39,4 +40,4 @@ returns c p q text file at new edits renaming respelled is read rows images =
       string = fair.string;
       class = fair.class;
     })
-    is.program.rows (c.members_are_written.ensures begins (units_of p) p.rows is.program.are_rows is.program.rows) is.planned.rewrite (all_kept is.planned.files is.planned.kept) read images.members)
+    is.program.rows (c.members_are_written.ensures begins (units_of p) p.rows is.program.are_rows is.program.rows) (rewrite_back p is.planned.found.g is.planned.becomes) (all_kept is.planned.becomes.files (none_loses p is.planned.found.g is.planned.becomes is.planned.kept_all)) read images.members)

@@ -1,9 +1,9 @@
-use Rattle.std.proofs.Common.{refl, sym, subst}
+use Rattle.std.proofs.Common.{refl, sym, subst, inl}
 use Rattle.std.specs.Prelude.{MatchOption}
 use Rattle.std.proofs.lemmas.Result.{IfOk-weaker}
 use Rattle.jr_table.specs.KeyView.{decl_of}
 use Rattle.jr_names.specs.ReplyView.{outcome_of}
-use Rattle.jr_images.specs.Renames as renames
+use Rattle.jr_plan.specs.Reasons.{by_itself}
 use Rattle.jr_cursor.specs.ProgramTargets.{HasTargetAt, LacksTargetAt}
 use Rattle.jr_rename.specs.Afters.{IsAfter, AnswersAfter}
 use Rattle.jr_rename.specs.Answers.{Answers}
@@ -22,7 +22,7 @@ pub returns-in-None-clause-plan : goal.returns-in-None-clause-plan
 returns-in-None-clause-plan g c =
     let p = g.V.View.program c.args.view.now in
     let lacks = subst (λ o. MatchOption o (LacksTargetAt p c.args.file c.args.at) (λ d. HasTargetAt p c.args.file c.args.at (decl_of d))) c.in-None.is c.in_ok-target.ensures in
-    IfOk-weaker c.no_target.result _ (λ o. Plans p c.args.file c.args.at c.args.new.now (outcome_of o)) (λ o e. subst (Plans p c.args.file c.args.at c.args.new.now) (sym e) (λ f s. renames.no_target (lacks f s, refl))) c.no_target.ensures
+    IfOk-weaker c.no_target.result _ (λ o. Plans p c.args.file c.args.at c.args.new.now (outcome_of o)) (λ o e. subst (Plans p c.args.file c.args.at c.args.new.now) (sym e) (λ f s. by_itself (inl (lacks f s, refl)))) c.no_target.ensures
 
 pub returns-in-Some-clause-plan : goal.returns-in-Some-clause-plan
 returns-in-Some-clause-plan g c =

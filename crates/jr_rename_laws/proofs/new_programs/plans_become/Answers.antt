@@ -2,4 +2,4 @@ use Rattle.jr_rename_laws.proofs.Planned.{planned}
 use Rattle.jr_rename_laws.proofs.new_programs.plans_become.Goals as goal
 
 pub returns : goal.returns
-returns A B c = planned c
+returns B c = planned

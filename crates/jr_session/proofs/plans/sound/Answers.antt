@@ -7,12 +7,12 @@ use Rattle.jr_session.proofs.plans.sound.Goals as goal
 
 pub plan_at-requires-clause-file : goal.plan_at-requires-clause-file
 plan_at-requires-clause-file c =
-    let n = count c.args.sources.now (whole_of c.new-whole.result) c.new-whole.ensures.program c.args.request.now.number c.args.request.now.at c.args.request.now.new.now c.requires.number in
+    let n = count c.args.sources.now (whole_of c.new-whole.result) c.new-whole.ensures.program c.args.request.now.number c.requires.number in
     let lt = c.requires.number in
     omega (arith, n, lt)
 
 pub returns-clause-planned : goal.returns-clause-planned
-returns-clause-planned c = so_planned c.args.sources.now (whole_of c.new-whole.result) c.new-whole.ensures.program c.args.request.now.number c.args.request.now.at c.args.request.now.new.now c.requires.number (outcome_of c.in_ok-outcome.outcome) c.in_ok-outcome.ensures.plan c.of_outcome.result c.of_outcome.ensures
+returns-clause-planned c = so_planned c.args.sources.now (whole_of c.new-whole.result) c.new-whole.ensures.program c.args.request.now.number c.requires.number c.args.request.now.at c.args.request.now.new.now (outcome_of c.in_ok-outcome.outcome) c.in_ok-outcome.ensures.plan c.of_outcome.result c.of_outcome.ensures
 
 pub returns-clause-told : goal.returns-clause-told
 returns-clause-told c = plan_tells c.new_tables.ensures c.args.sources.now (whole_of c.new-whole.result) c.new-whole.ensures.program c.args.request.now.number c.args.request.now.at c.args.request.now.new.now c.requires.number c.requires.name

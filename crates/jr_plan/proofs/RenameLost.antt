@@ -1,28 +1,19 @@
--- Why a rename is refused, as a refactoring, is why `jr_images: Renames` says that it is.
-use Rattle.std.proofs.Common.{◌≡◌, ℕ, zero, suc, ◌+◌, ◌<◌, ◌≤◌, List, [], ◌∷◌, ◌++◌, length, Option, Some, refl, sym, ap, ◌∙◌, subst, ◌⊎◌, inl, inr, arith}
+-- The first loss of the files is the first of the kept references that are lost.
+use Rattle.std.proofs.Common.{◌≡◌, ℕ, zero, suc, ◌+◌, ◌<◌, ◌≤◌, List, [], ◌∷◌, ◌++◌, All, length, Option, Some, refl, sym, ap, ◌∙◌, subst, ◌⊎◌, inl, inr, arith}
 use Rattle.std.specs.Prelude.{slice_get}
 use Rattle.std.proofs.lemmas.Bool.{cases_lt}
-use Rattle.std.specs.List.{AllByRecursion}
-use Rattle.std.proofs.lemmas.List.{append-nil, append_assoc, length-append}
-use Rattle.std.proofs.lemmas.List.Elements.{All-from_recursion}
+use Rattle.std.proofs.lemmas.Option.{slice_get_within}
+use Rattle.std.proofs.lemmas.List.Elements.{All-head, All-tail}
 use Rattle.jr_text.specs.declared.spans.Span.{Span}
 use Rattle.jr_ast.specs.MemberTree as syntax
-use Rattle.jr_grammar.specs.Layout.{itself}
-use Rattle.jr_names.specs.Refusals.{Refusal, lost_binding}
-use Rattle.jr_bind.specs.Programs.{Program, units_of}
 use Rattle.jr_rewrite.specs.Respellings.{Loss}
 use Rattle.jr_rewrite.specs.Rewritten.{Rewritten}
-use Rattle.jr_images.specs.Renames as rename
-use Rattle.jr_images.specs.Refusals.{IsFirstLoss}
+use Rattle.jr_images.specs.Refusals.{IsLost, IsFirstLoss}
 use Rattle.jr_plan.specs.Transforms.{kept, Lost, kept_lost, kept_from}
-use Rattle.jr_plan.specs.Reasons.{Precedes, IsFirstLost, IsRefused, by_itself, overrides, loses}
-use Rattle.jr_plan.specs.Renaming.{renaming}
-use Rattle.jr_plan.proofs.Rename.{back_dispatch, first_change}
+use Rattle.jr_plan.specs.Reasons.{Precedes, IsFirstLost}
+use Rattle.jr_plan.proofs.Rename.{Files}
 
-abbrev Files : Type 0
-Files = List (Rewritten (syntax.Unit Span))
-
-abbrev lost_in : ℕ → Loss → Lost
+abbrev pub lost_in : ℕ → Loss → Lost
 lost_in n l = record { origin = kept; file = n; loss = l }
 
 -- how many are lost in the files in front of one
@@ -127,64 +118,79 @@ located n (o ∷ os) i x e = elim (here_or_behind n o.losses (kept_from (suc n) 
       })
 ]
 
+-- it is of one of the files
+pub lost_file : (os : Files) (i : ℕ) (x : Lost) → slice_get (kept_from 0 os) i ≡ Some x → x.file < length os
+lost_file os i x e =
+    let a = located 0 os i x e in
+    let there = slice_get_within os a.j a.o a.stands in
+    let file : x.file ≡ 0 + a.j = ap (λ (y : Lost). y.file) a.is in
+    omega (arith, there, file)
+
 -- ---- the first
 
-precedes_in : (n m : ℕ) (k l : Loss) → n ≡ m → Precedes (lost_in n k) (lost_in m l) → k.at < l.at
-precedes_in n m k l same (inl file) = absurd (omega (arith, same, file))
-precedes_in n m k l same (inr h) = elim h.1 [ inl less ↦ less | inr rank ↦ absurd (omega (arith, rank.1)) ]
+all_there : (P : Loss → Type 0) (xs ys : List Loss) (m : Loss) → All P (xs ++ m ∷ ys) → P m
+all_there P [] ys m h = All-head P m ys h
+all_there P (x ∷ xs) ys m h = all_there P xs ys m (All-tail P x (xs ++ m ∷ ys) h)
 
--- what holds of each that stands somewhere in a list
-each : (P : Loss → Type 0) (ls : List Loss) → ((front : List Loss) (m : Loss) (back : List Loss) → ls ≡ front ++ m ∷ back → P m) → AllByRecursion P ls
-each P [] h = tt
-each P (l ∷ ls) h = (h [] l ls refl, each P ls (λ front m back e. h (l ∷ front) m back (ap (λ xs. l ∷ xs) e)))
+loss_head : (a b : Loss) (xs ys : List Loss) → a ∷ xs ≡ b ∷ ys → a ≡ b
+loss_head a b xs ys e = cc
 
-pub record FirstOf (os : Files) (x : Lost) : Type 0 where
-  pub file : ℕ
-  pub l : Loss
-  pub is : x ≡ lost_in file l
-  pub first : IsFirstLoss os file l
+loss_tail : (a b : Loss) (xs ys : List Loss) → a ∷ xs ≡ b ∷ ys → xs ≡ ys
+loss_tail a b xs ys e = cc
 
-first_loss : (os : Files) (x : Lost) → IsFirstLost (kept_from 0 os) x → FirstOf os x
-first_loss os x h =
-    let a = located 0 os h.number x h.stands in
-    let same : 0 + a.j ≡ a.j = omega arith in
-    let file : x ≡ lost_in a.j a.l = a.is ∙ ap (λ k. lost_in k a.l) same in
-    record {
-      file = a.j;
-      l = a.l;
-      is = file;
-      first = record {
-        lost = record { of = a.o; stands = a.stands; front = a.front; back = a.back; parts = a.parts };
-        first_file = λ i m other. not_before i a.j
-            (λ before. h.least (ahead os i + length other.front) (lost_in i m) (stands_there os i other.of other.front m other.back other.stands other.parts) (subst (Precedes (lost_in i m)) (sym file) (inl before)));
-        first_place = All-from_recursion (λ (m : Loss). a.l.at < m.at) a.front (each (λ m. a.l.at < m.at) a.front (λ front m back e.
-            precedes_in a.j a.j a.l m refl
-            (subst (λ y. Precedes y (lost_in a.j m)) file
-            (h.earlier (ahead os a.j + length front) (lost_in a.j m)
-            (let long : length a.front ≡ length front + suc (length back) = ap length e ∙ length-append front (m ∷ back) in omega (arith, a.index, long))
-            (stands_there os a.j a.o front m (back ++ a.l ∷ a.back) a.stands (a.parts ∙ ap (λ xs. xs ++ a.l ∷ a.back) e ∙ append_assoc front (m ∷ back) (a.l ∷ a.back)))))));
-        others = All-from_recursion (λ (m : Loss). a.l.at ≤ m.at) a.back (each (λ m. a.l.at ≤ m.at) a.back (λ front m back e.
-            not_before m.at a.l.at
-            (λ before. h.least (ahead os a.j + length (a.front ++ a.l ∷ front)) (lost_in a.j m)
-            (stands_there os a.j a.o (a.front ++ a.l ∷ front) m back a.stands (a.parts ∙ ap (λ xs. a.front ++ a.l ∷ xs) e ∙ sym (append_assoc a.front (a.l ∷ front) (m ∷ back))))
-            (subst (Precedes (lost_in a.j m)) (sym file) (inr (refl, inl before))))));
-      };
-    }
-  where
-    not_before : (i j : ℕ) → (i < j → ⊥) → j ≤ i
-    not_before i j h = elim (cases_lt i j) [ inl less ↦ absurd (h less) | inr least ↦ least ]
+-- where one loss is the first of a file, each has no lesser place
+at_least : (l m : Loss) (front back other rest : List Loss) → front ++ l ∷ back ≡ other ++ m ∷ rest → All (λ (x : Loss). l.at < x.at) front → All (λ (x : Loss). l.at ≤ x.at) back → l.at ≤ m.at
+at_least l m [] back [] rest e a b = (let same = ap (λ (x : Loss). x.at) (loss_head l m back rest e) in omega (arith, same))
+at_least l m [] back (o ∷ other) rest e a b = all_there (λ (x : Loss). l.at ≤ x.at) other rest m (subst (λ (xs : List Loss). All (λ (x : Loss). l.at ≤ x.at) xs) (loss_tail l o back (other ++ m ∷ rest) e) b)
+at_least l m (f ∷ front) back [] rest e a b =
+    let same = ap (λ (x : Loss). x.at) (loss_head f m (front ++ l ∷ back) rest e) in
+    let less = All-head (λ (x : Loss). l.at < x.at) f front a in
+    omega (arith, same, less)
+at_least l m (f ∷ front) back (o ∷ other) rest e a b = at_least l m front back other rest (loss_tail f o (front ++ l ∷ back) (other ++ m ∷ rest) e) (All-tail (λ (x : Loss). l.at < x.at) f front a) b
 
--- ---- all refusals
+-- what stands in front of it is among those in front
+in_front : (P : Loss → Type 0) (l m : Loss) (front back other rest : List Loss) → front ++ l ∷ back ≡ other ++ m ∷ rest → length other < length front → All P front → P m
+in_front P l m [] back other rest e less a = absurd (omega (arith, less))
+in_front P l m (f ∷ front) back [] rest e less a = subst P (loss_head f m (front ++ l ∷ back) rest e) (All-head P f front a)
+in_front P l m (f ∷ front) back (o ∷ other) rest e less a = in_front P l m front back other rest (loss_tail f o (front ++ l ∷ back) (other ++ m ∷ rest) e) (omega (arith, less)) (All-tail P f front a)
 
-module _ (p : Program Span) (text : List ℕ) (file at : ℕ) (new : List ℕ) where
-  pub refused_is : (r : Refusal) → IsRefused p (renaming p text file at new) r → rename.IsRefused itself p.rows p.super_at (units_of p) text file at new r
-  refused_is r (by_itself (inl h)) = rename.no_target h
-  refused_is r (by_itself (inr h)) = elim h.3 [
-    | inl prelude ↦ rename.of_prelude h.2 prelude
-    | inr clash ↦ rename.clashes h.2 clash.0 clash.1
+module _ (os : Files) (j : ℕ) (l : Loss) (h : IsFirstLoss os j l) where
+  -- the parts of one file's losses
+  same_parts : (i : ℕ) (m : Loss) (other : IsLost os i m) → j ≡ i → h.lost.front ++ l ∷ h.lost.back ≡ other.front ++ m ∷ other.back
+  same_parts i m other same =
+      let of : h.lost.of ≡ other.of = same_item h.lost.of other.of (sym h.lost.stands ∙ ap (slice_get os) same ∙ other.stands) in
+      sym h.lost.parts ∙ ap (λ (o : Rewritten (syntax.Unit Span)). o.losses) of ∙ other.parts
+
+  lost_at : (i : ℕ) (y : Lost) → Located 0 os i y → (m : Loss) × (k : ℕ) × (y ≡ lost_in k m) × (other : IsLost os k m) × (i ≡ ahead os k + length other.front)
+  lost_at i y a =
+      let number : 0 + a.j ≡ a.j = omega arith in
+      (a.l, a.j, a.is ∙ ap (λ k. lost_in k a.l) number, record { of = a.o; stands = a.stands; front = a.front; back = a.back; parts = a.parts }, a.index)
+
+  none_precedes : (m : Loss) (k : ℕ) (other : IsLost os k m) → Precedes (lost_in k m) (lost_in j l) → ⊥
+  none_precedes m k other (inl file) = let least = h.first_file k m other in omega (arith, file, least)
+  none_precedes m k other (inr (same, inl less)) =
+      let least = at_least l m h.lost.front h.lost.back other.front other.back (same_parts k m other (sym same)) h.first_place h.others in
+      omega (arith, less, least)
+  none_precedes m k other (inr (same, inr rank)) = let none = rank.1 in omega (arith, none)
+
+  comes_before : (m : Loss) (k : ℕ) (other : IsLost os k m) → ahead os k + length other.front < ahead os j + length h.lost.front → Precedes (lost_in j l) (lost_in k m)
+  comes_before m k other less = elim (cases_lt j k) [
+    | inl file ↦ inl file
+    | inr behind ↦
+        (let least = h.first_file k m other in
+        let same : j ≡ k = omega (arith, behind, least) in
+        let short : length other.front < length h.lost.front = (let e : ahead os j ≡ ahead os k = ap (ahead os) same in omega (arith, less, e)) in
+        inr (same, inl (in_front (λ (x : Loss). l.at < x.at) l m h.lost.front h.lost.back other.front other.back (same_parts k m other same) short h.first_place)))
   ]
-  refused_is r (overrides let_go x h) = rename.overrides x.renames x.no_prelude x.clear (h.0, h.1, first_change p.rows x.g h.0 h.1 h.2, h.3)
-  refused_is r (loses let_go x dispatch h) =
-      let a = first_loss x.files h.0 (subst (λ all. IsFirstLost all h.0) (append-nil (kept_from 0 x.files)) h.1) in
-      rename.loses x.renames x.no_prelude x.clear (λ k m changes. dispatch k m (back_dispatch p.rows x.g k m changes))
-      (x.files, a.file, a.l, x.rewrite, a.first, h.2 ∙ ap (λ (y : Lost). lost_binding (record { file = y.file; at = y.loss.at }) y.loss.declaration y.loss.found) a.is)
+
+  pub first_lost : IsFirstLost (kept_from 0 os) (lost_in j l)
+  first_lost = record {
+    number = ahead os j + length h.lost.front;
+    stands = stands_there os j h.lost.of h.lost.front l h.lost.back h.lost.stands h.lost.parts;
+    least = λ i y e before.
+        (let a = lost_at i y (located 0 os i y e) in
+        none_precedes a.0 a.1 a.3 (subst (λ z. Precedes z (lost_in j l)) a.2 before));
+    earlier = λ i y less e.
+        (let a = lost_at i y (located 0 os i y e) in
+        subst (Precedes (lost_in j l)) (sym a.2) (comes_before a.0 a.1 a.3 (subst (λ n. n < ahead os j + length h.lost.front) a.4 less)));
+  }

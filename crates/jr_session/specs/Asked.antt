@@ -1,0 +1,52 @@
+-- Which refactoring each step asks for. A refactoring has its record here, and its line below.
+use Rattle.std.specs.Prelude.{ℕ, List, [], ◌∷◌, Some}
+use Rattle.jr_text.specs.declared.spans.Span.{Span}
+use Rattle.jr_grammar.specs.Layout.{itself}
+use Rattle.jr_table.specs.DeclaredItems.{declarations_of}
+use Rattle.jr_names.specs.declared.steps.Step.{Step}
+use Rattle.jr_names.specs.declared.steps.Step.TheVariants as step
+use Rattle.jr_bind.specs.Programs.{Program, units_of}
+use Rattle.jr_program_laws.specs.FileParts.{begins}
+use Rattle.jr_rewrite.specs.AlongMembers.{AlongUnits}
+use Rattle.jr_images.specs.Images.{Renaming, member_to}
+use Rattle.jr_images.specs.Keeping.{IsKept, IsWritten, IsSuperKept, IsParentKept}
+use Rattle.jr_plan.specs.Renaming.{IsFound, renaming}
+use Rattle.jr_rename_laws.specs.ImageLaws.{AreImages}
+use Rattle.jr_kept_runs.specs.KeysTo.{keys_to}
+use Rattle.jr_kept_runs.specs.KeepsRuns.{KeepsRuns}
+use Rattle.jr_kept_runs.specs.Laws.{sources_of}
+use Rattle.jr_session.specs.Requests.{Request, Asks, refactors, nothing}
+
+-- ---- rename
+
+-- what a rename promises besides
+pub record KeepsNames (p : Program Span) (g : Renaming) (q : Program Span) : Type 0 where
+  -- each class and member of q stands where the one stood whose image it is, and q's declarations
+  -- have no fault
+  pub images : AreImages itself begins [] p.rows (units_of p) g (units_of q)
+  -- Each reference of each member of p is bound, at its place in q's own trees and by q's own rows,
+  -- to the image of its declaration; each written type, superclass and `super(..)` means the image
+  -- of what it meant, and so does the class in front of a type's dot, unless the type is respelled.
+  pub references : AlongUnits begins begins (IsKept begins begins g p.rows)
+      (IsWritten begins begins g p.rows) (IsSuperKept g p.rows) (IsParentKept g p.rows)
+      (member_to g) (declarations_of begins (units_of p)) (units_of p) (units_of q)
+  -- The two resolved programs are exactly alike: each method and constructor, on a receiver and
+  -- arguments of its types, has in q exactly the images of its runs in p, whole ones with the same
+  -- end and bounded ones, both ways.
+  pub runs : KeepsRuns (keys_to g) (sources_of p) (sources_of q)
+
+-- what the identifier at the byte of the file declares or is bound to gets the name
+abbrev pub rename : (file : List ℕ) → (at : ℕ) → (new : List ℕ) → Request
+rename file at new = record {
+  file = file;
+  places = at ∷ [];
+  name = Some new;
+  refactoring = λ p text number. renaming p text number at new;
+  Keeps = λ p text number (x : IsFound p text number at new) q. KeepsNames p x.g q;
+}
+
+-- ---- all steps
+
+abbrev pub asks_of : Step → Asks
+asks_of (step.Rename file at new) = refactors (rename file at new)
+asks_of _ = nothing
