@@ -1,0 +1,92 @@
+-- What has to be computed of a text and a tree without marks, so that the text has its code.
+use Rattle.std.proofs.Common.{◌≡◌, ℕ, List, [], ◌∷◌, ◌++◌, length, ◌^◌, ◌<◌, Option, Bool, true, ◌&&◌, refl}
+use Rattle.std.specs.Prelude.{is_some, nat_lt}
+use Rattle.std.proofs.lemmas.Bool.{ltb-true}
+use Rattle.std.proofs.Math.Utf8.{scalars}
+use Rattle.jr_text.specs.declared.spans.Span.{Span}
+use Rattle.jr_ast.specs.MemberTree.{Unit as UnitTree}
+use Rattle.jr_grammar.specs.Tokens.{tokens_of}
+use Rattle.jr_grammar.specs.Bare.{Bare}
+use Rattle.jr_grammar.specs.MemberSpelling.{unit_toks}
+use Rattle.jr_grammar.specs.MemberShape.{UnitShaped}
+use Rattle.jr_grammar.proofs.Cases.Scanned.{are_ascii, cut}
+use Rattle.jr_runs.specs.Core as core
+use Rattle.jr_table.specs.Rows.{Row}
+use Rattle.jr_table.specs.Prelude.{prelude_rows}
+use Rattle.jr_table.specs.Entries.{entries_of}
+use Rattle.jr_table.specs.Conditions.{AreRows}
+use Rattle.jr_table.specs.DeclaredItems.{DeclaredItem, declarations_of}
+use Rattle.jr_table.proofs.LookupLaws.{keys_found}
+use Rattle.jr_code.specs.RunKeys.{RunKeys}
+use Rattle.jr_code.specs.CodedMembers.{HasPrelude}
+use Rattle.jr_code.proofs.TestedRows.{all_first, all_named, all_lower, are_rows}
+use Rattle.jr_code_cases.specs.Shown.{first_of, last_of, HasCode}
+use Rattle.jr_code_cases.proofs.Reading.{items, marked, reads}
+use Rattle.jr_code_cases.proofs.TopTypes.{both, all_top}
+use Rattle.jr_code_cases.proofs.DeclaredRows.{own_rows, all_pass, rows_are}
+use Rattle.jr_code_cases.proofs.ComputedProgram.{methods_declared, ctors_declared, methods_of, ctors_of, program, ClassesCheck, is_code}
+
+module _ (text : List ℕ) (tree : UnitTree Bare) where
+  abbrev pub unit : UnitTree Span
+  unit = marked text tree
+
+  abbrev pub declarations : List DeclaredItem
+  declarations = declarations_of first_of (unit ∷ [])
+
+  abbrev pub own : List Row
+  own = own_rows declarations declarations
+
+  abbrev pub rows : List Row
+  rows = prelude_rows ++ own
+
+  abbrev pub resolved : core.Program RunKeys
+  resolved = program first_of last_of rows unit
+
+  abbrev pub text_passes : Bool
+  text_passes = are_ascii text && (scalars text && is_some (cut (length text) 0 text))
+
+  abbrev pub rows_pass : Bool
+  rows_pass = all_top declarations && (all_pass declarations declarations && (all_first rows 0 rows && (all_named rows rows && (all_lower 0 (entries_of rows) && nat_lt (length rows) (2 ^ 32)))))
+
+  abbrev pub code_passes : Bool
+  code_passes = methods_declared rows (methods_of first_of last_of rows unit) && ctors_declared rows (ctors_of first_of last_of rows unit)
+
+  abbrev pub Checks : Type 0
+  Checks = ClassesCheck first_of last_of rows declarations resolved 0 unit.classes
+
+  module _ (texts : text_passes ≡ true) (shape : UnitShaped tree) (spells : unit_toks tree ≡ tokens_of text (items text)) (passes : rows_pass ≡ true) where
+    a : (are_ascii text ≡ true) × (scalars text && is_some (cut (length text) 0 text) ≡ true)
+    a = both (are_ascii text) (scalars text && is_some (cut (length text) 0 text)) texts
+
+    b : (scalars text ≡ true) × (is_some (cut (length text) 0 text) ≡ true)
+    b = both (scalars text) (is_some (cut (length text) 0 text)) a.1
+
+    c : (all_top declarations ≡ true) × (all_pass declarations declarations && (all_first rows 0 rows && (all_named rows rows && (all_lower 0 (entries_of rows) && nat_lt (length rows) (2 ^ 32)))) ≡ true)
+    c = both (all_top declarations) _ passes
+
+    d : (all_pass declarations declarations ≡ true) × (all_first rows 0 rows && (all_named rows rows && (all_lower 0 (entries_of rows) && nat_lt (length rows) (2 ^ 32))) ≡ true)
+    d = both (all_pass declarations declarations) _ c.1
+
+    e : (all_first rows 0 rows ≡ true) × (all_named rows rows && (all_lower 0 (entries_of rows) && nat_lt (length rows) (2 ^ 32)) ≡ true)
+    e = both (all_first rows 0 rows) _ d.1
+
+    f : (all_named rows rows ≡ true) × (all_lower 0 (entries_of rows) && nat_lt (length rows) (2 ^ 32) ≡ true)
+    f = both (all_named rows rows) _ e.1
+
+    g : (all_lower 0 (entries_of rows) ≡ true) × (nat_lt (length rows) (2 ^ 32) ≡ true)
+    g = both (all_lower 0 (entries_of rows)) _ f.1
+
+    are : AreRows rows
+    are = are_rows own rows refl e.0 f.0 g.0 (ltb-true (length rows) (2 ^ 32) g.1)
+
+    pub has_code : code_passes ≡ true → Checks → HasPrelude resolved → HasCode text resolved
+    has_code codes checks prelude = record {
+      unit = unit;
+      reads = reads text tree a.0 b.0 b.1 shape spells;
+      rows = rows;
+      are = are;
+      declared = rows_are declarations c.0 d.0;
+      code =
+          let m = both (methods_declared rows (methods_of first_of last_of rows unit)) (ctors_declared rows (ctors_of first_of last_of rows unit)) codes in
+          is_code first_of last_of rows are (keys_found rows are) unit c.0 checks m.0 m.1 prelude;
+    }

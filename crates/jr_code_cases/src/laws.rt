@@ -1,0 +1,5 @@
+//! The cases.
+
+/// Nothing.
+pub fn nothing()
+{}
