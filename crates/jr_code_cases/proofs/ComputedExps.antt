@@ -1,4 +1,4 @@
--- The code of expressions, computed: what is computed is their code. Casts and `super.` with a field are not computed.
+-- The code of expressions, computed: what is computed is their code.
 use Rattle.std.proofs.Common.{◌≡◌, ℕ, List, [], Option, Some, None, Bool, true, false, pos, refl, sym, ap, ◌∙◌, inl, inr}
 use Rattle.std.specs.Prelude.{option_map, slice_get, option_and_then}
 use Rattle.std.specs.List.{list_any}
@@ -8,7 +8,8 @@ use Rattle.jr_runs.specs.Arithmetic.{wrapped}
 use Rattle.jr_runs.specs.Core as core
 use Rattle.jr_runs.specs.Core.{Arithmetic}
 use Rattle.jr_runs.specs.Translation.{unescaped, sign_of, bump_of, arithmetic_of, operation}
-use Rattle.jr_table.specs.Keys.{ClassKey, FieldKey, MethodKey, CtorKey, class}
+use Rattle.jr_table.specs.Keys.{ClassKey, FieldKey, MethodKey, CtorKey, Ty, class}
+use Rattle.jr_table.specs.Keys as ty
 use Rattle.jr_table.specs.Decls.{Decl, class_decl, field_decl, method_decl, constructor_decl, local_decl}
 use Rattle.jr_table.specs.Rows.{Row}
 use Rattle.jr_table.specs.Conditions.{AreRows}
@@ -18,12 +19,15 @@ use Rattle.jr_table.specs.Lookup.{find_variable}
 use Rattle.jr_table.specs.LookupLaws.{KeysAreFound}
 use Rattle.jr_table.specs.Context.{Context, scope_of, WritesType}
 use Rattle.jr_table.specs.Binding.{FieldFinds, CallFinds, SuperCallFinds, CreationFinds, word_at}
-use Rattle.jr_table.specs.Meanings.{row_of, field_found, call_found, ctor_found, own_superclass, created_class, class_on, target_found, types_of}
+use Rattle.jr_table.specs.Meanings.{row_of, field_found, call_found, ctor_found, own_superclass, created_class, class_on, target_found, types_of, type_of, written_type}
+use Rattle.jr_table.specs.Notes.{assigns}
 use Rattle.jr_table.proofs.RowLaws.{number_stands}
-use Rattle.jr_table.proofs.Typing.{created_class_iff}
-use Rattle.jr_table.proofs.ReferenceLaws.{field_finds, call_finds, super_call_finds, creation_finds}
+use Rattle.jr_table.proofs.RowTypes.{written_iff}
+use Rattle.jr_table.proofs.Typing.{created_class_iff, typed}
+use Rattle.jr_table.proofs.TypeTests.{assigns_iff}
+use Rattle.jr_table.proofs.ReferenceLaws.{super_field_finds, field_finds, call_finds, super_call_finds, creation_finds}
 use Rattle.jr_code.specs.RunKeys.{RunKeys, Place}
-use Rattle.jr_code.specs.Coded.{Code, TargetCode, IsOwn, FieldCode, VariableCode, CallCode, SuperCallCode, NameTarget, DottedTarget, Reads, ExpCode, TargetOf, ReceiverCode, RowCode}
+use Rattle.jr_code.specs.Coded.{Code, TargetCode, IsOwn, FieldCode, VariableCode, CallCode, SuperCallCode, CastCode, NameTarget, SuperTarget, DottedTarget, Reads, ExpCode, TargetOf, ReceiverCode, RowCode}
 
 abbrev Exps : Type 0
 Exps = core.Exps RunKeys
@@ -193,6 +197,31 @@ module _ (rows : List Row) where
   super_call_is (not_accessible d) p o x e = absurd cc
   super_call_is (from_static d) p o x e = absurd cc
 
+  -- a cast of what has the first type to the second, which it need not be assignable to
+  abbrev cast_to : Bool → Ty → Place → Code → Option Code
+  cast_to true u p z = Some z
+  cast_to false (class k) p z = Some (core.cast (Some p) k z)
+  cast_to false _ p z = None
+
+  abbrev cast_by : Option Ty → Option Ty → Place → Option Code → Option Code
+  cast_by (Some t) (Some u) p (Some z) = cast_to (assigns rows t u) u p z
+  cast_by _ _ p _ = None
+
+  module _ (are : AreRows rows) where
+    cast_to_is : (t u : Ty) (b : Bool) → assigns rows t u ≡ b → (p : Place) (z x : Code) → cast_to b u p z ≡ Some x → CastCode rows t u p z x
+    cast_to_is t u true is p z x e = inl ((assigns_iff rows are t u).0 is, inside z x e)
+    cast_to_is t (class k) false is p z x e = inr (λ h. let f = sym is ∙ (assigns_iff rows are t (class k)).1 h in absurd cc, (k, refl, inside _ x e))
+    cast_to_is t ty.int false is p z x e = absurd cc
+    cast_to_is t ty.boolean false is p z x e = absurd cc
+    cast_to_is t ty.void false is p z x e = absurd cc
+    cast_to_is t ty.null false is p z x e = absurd cc
+
+    cast_is : (t u : Option Ty) (p : Place) (z : Option Code) (x : Code) → cast_by t u p z ≡ Some x → (s r : Ty) × (y : Code) × (t ≡ Some s) × (u ≡ Some r) × (z ≡ Some y) × CastCode rows s r p y x
+    cast_is (Some t) (Some u) p (Some z) x e = (t, u, z, refl, refl, refl, cast_to_is t u (assigns rows t u) refl p z x e)
+    cast_is (Some t) (Some u) p None x e = absurd cc
+    cast_is (Some t) None p z x e = absurd cc
+    cast_is None u p z x e = absurd cc
+
   create_is : (c : Option ClassKey) (f : Found) (p : Place) (o : Option Exps) (x : Code) → create_by c f p o ≡ Some x
       → (k : ClassKey) × (q : CtorKey) × (es : Exps) × (c ≡ Some k) × (f ≡ one (constructor_decl q)) × (o ≡ Some es) × (x ≡ core.create (Some p) k q es)
   create_is (Some k) (one (constructor_decl q)) p (Some es) x e = (k, q, es, refl, refl, refl, inside _ x e)
@@ -222,6 +251,9 @@ module _ {A : Type 0} (begins : A → ℕ → ℕ) (rows : List Row) (c : Contex
   abbrev dotted_target : ℕ → A → tree.Exp A → tree.Word A → Option Code → Option TargetCode
   dotted_target b m e w z = field_target rows (field_found rows c (class_on rows c e) w.text) (spot (word_at begins m b w)) z
 
+  abbrev super_target : ℕ → A → tree.Word A → Option TargetCode
+  super_target b m w = field_target rows (field_found rows c (own_superclass rows c) w.text) (spot (word_at begins m b w)) (Some (core.this None))
+
   abbrev mutual
     pub exp_code : (base : ℕ) → tree.Exp A → Option Code
     exp_code b (tree.number m n) = Some (core.literal (Some (spot (begins m b))) (int (wrapped (pos n))))
@@ -232,12 +264,12 @@ module _ {A : Type 0} (begins : A → ℕ → ℕ) (rows : List Row) (c : Contex
     exp_code b (tree.class_literal m of) = option_map (λ k. core.literal (Some (spot (begins m b))) (class_object k)) (created_class rows c of)
     exp_code b (tree.name m w) = read (begins m b) (name_target b m w)
     exp_code b (tree.field m e w) = read (begins m b) (dotted_target b m e w (exp_code (begins m b) e))
-    exp_code b (tree.super_field m w) = None
+    exp_code b (tree.super_field m w) = read (begins m b) (super_target b m w)
     exp_code b (tree.call m to w args) = call_by rows (target_found rows c to w.text (types_of rows c args)) (spot (word_at begins m b w)) (row_code (begins m b) args) (receiver_code (begins m b) to)
     exp_code b (tree.super_call m w args) = super_call_by rows (call_found rows c (own_superclass rows c) w.text (types_of rows c args)) (spot (word_at begins m b w)) (row_code (begins m b) args)
     exp_code b (tree.create m of args) = create_by rows (created_class rows c of) (ctor_found rows c (created_class rows c of) (types_of rows c args)) (spot (begins m b)) (row_code (begins m b) args)
     exp_code b (tree.paren m e) = exp_code (begins m b) e
-    exp_code b (tree.cast m of e) = None
+    exp_code b (tree.cast m of e) = cast_by rows (type_of rows c e) (written_type rows (scope_of c) of) (spot (begins m b)) (exp_code (begins m b) e)
     exp_code b (tree.unary m o e) = option_map (λ z. core.signed (Some (spot (begins m b))) (sign_of o) z) (exp_code (begins m b) e)
     exp_code b (tree.bump m o e) = option_map (λ t. core.bump (Some (spot (begins m b))) (bump_of o) t) (target_code (begins m b) e)
     exp_code b (tree.binary m o l r) = of_two (exp_code (begins m b) l) (exp_code (begins m b) r) (λ y z. operation (spot (begins m b)) o y z)
@@ -247,6 +279,7 @@ module _ {A : Type 0} (begins : A → ℕ → ℕ) (rows : List Row) (c : Contex
     pub target_code : (base : ℕ) → tree.Exp A → Option TargetCode
     target_code b (tree.name m w) = name_target b m w
     target_code b (tree.field m e w) = dotted_target b m e w (exp_code (begins m b) e)
+    target_code b (tree.super_field m w) = super_target b m w
     target_code b _ = None
 
     pub receiver_code : (at : ℕ) → tree.Target A → Option Code
@@ -269,6 +302,11 @@ module _ {A : Type 0} (begins : A → ℕ → ℕ) (rows : List Row) (are : AreR
       let v = target_is rows (field_found rows c (class_on rows c e) w.text) _ z t is in
       (v.0, (field_finds rows are found c e w.text (one v.0)).0 v.1, field_with rows (λ y. z ≡ Some y) Operand holds v.0 _ t v.2)
 
+  super_is : (b : ℕ) (m : A) (w : tree.Word A) (t : TargetCode) → super_target begins rows c b m w ≡ Some t → SuperTarget begins rows c b m w t
+  super_is b m w t e =
+      let v = target_is rows (field_found rows c (own_superclass rows c) w.text) _ (Some (core.this None)) t e in
+      (v.0, (super_field_finds rows are found c w.text (one v.0)).0 v.1, field_with rows _ IsOwn (own rows) v.0 _ t v.2)
+
   read_is : (b : ℕ) (m : A) (o : Option TargetCode) (Target : TargetCode → Type 0) → ((t : TargetCode) → o ≡ Some t → Target t) → (x : Code) → read begins rows c (begins m b) o ≡ Some x → Reads begins rows c b m Target x
   read_is b m o Target holds x e = let h = mapped o _ x e in (h.0, holds h.0 h.1, h.2)
 
@@ -284,7 +322,7 @@ module _ {A : Type 0} (begins : A → ℕ → ℕ) (rows : List Row) (are : AreR
     exp_is b (tree.name m w) x h = read_is b m (name_target begins rows c b m w) _ (λ t e. name_is b m w t e) x h
     exp_is b (tree.field m e w) x h = read_is b m (dotted_target begins rows c b m e w (exp_code begins rows c (begins m b) e)) _
         (λ t is. dotted_is b m e w (exp_code begins rows c (begins m b) e) (λ z. ExpCode begins rows c (begins m b) e z) (λ y i. exp_is (begins m b) e y i) t is) x h
-    exp_is b (tree.super_field m w) x h = absurd cc
+    exp_is b (tree.super_field m w) x h = read_is b m (super_target begins rows c b m w) _ (λ t e. super_is b m w t e) x h
     exp_is b (tree.call m to w args) x h =
         let p = call_is rows (target_found rows c to w.text (types_of rows c args)) _ (row_code begins rows c (begins m b) args) (receiver_code begins rows c (begins m b) to) x h in
         (p.0, p.1, (call_finds rows are found c to w.text args (one p.0)).0 p.2, row_is (begins m b) args p.1 p.3, call_with rows _ (λ z. ReceiverCode begins rows c (begins m b) to z) (λ y i. receiver_is (begins m b) to y i) p.0 _ p.1 x p.4)
@@ -295,7 +333,9 @@ module _ {A : Type 0} (begins : A → ℕ → ℕ) (rows : List Row) (are : AreR
         let p = create_is rows (created_class rows c of) (ctor_found rows c (created_class rows c of) (types_of rows c args)) _ (row_code begins rows c (begins m b) args) x h in
         (p.0, p.1, p.2, (created_class_iff rows are found c of p.0).0 p.3, (creation_finds rows are found c of args (one (constructor_decl p.1))).0 p.4, row_is (begins m b) args p.2 p.5, p.6)
     exp_is b (tree.paren m e) x h = exp_is (begins m b) e x h
-    exp_is b (tree.cast m of e) x h = absurd cc
+    exp_is b (tree.cast m of e) x h =
+        let p = cast_is rows are (type_of rows c e) (written_type rows (scope_of c) of) _ (exp_code begins rows c (begins m b) e) x h in
+        (p.0, p.1, p.2, (typed rows are found c e p.0).0 p.3, (written_iff rows are found (scope_of c) of p.1).0 p.4, exp_is (begins m b) e p.2 p.5, p.6)
     exp_is b (tree.unary m o e) x h = let p = mapped (exp_code begins rows c (begins m b) e) _ x h in (p.0, exp_is (begins m b) e p.0 p.1, p.2)
     exp_is b (tree.bump m o e) x h = let p = mapped (target_code begins rows c (begins m b) e) _ x h in (p.0, target_of (begins m b) e p.0 p.1, p.2)
     exp_is b (tree.binary m o l r) x h =
@@ -318,7 +358,7 @@ module _ {A : Type 0} (begins : A → ℕ → ℕ) (rows : List Row) (are : AreR
     target_of b (tree.string m s) t h = absurd cc
     target_of b (tree.this m) t h = absurd cc
     target_of b (tree.class_literal m of) t h = absurd cc
-    target_of b (tree.super_field m w) t h = absurd cc
+    target_of b (tree.super_field m w) t h = super_is b m w t h
     target_of b (tree.call m to w args) t h = absurd cc
     target_of b (tree.super_call m w args) t h = absurd cc
     target_of b (tree.create m of args) t h = absurd cc

@@ -82,10 +82,10 @@ module _ (rows : List Row) where
       by true is rest = absurd (never (subst (λ (j : CtorKey). HasRow rows (constructor_decl j)) ((ctor_decides e.0 k).0 is) (ctor_row e.0 (both (is_some (number_of rows (constructor_decl e.0))) (ctors_declared es) all).0)))
 
 module _ {A : Type 0} (begins ends : A → ℕ → ℕ) (rows : List Row) where
-  abbrev method_key : (base : ℕ) → ClassKey → A → tree.Word A → List (syntax.Param A) → MethodKey
+  abbrev pub method_key : (base : ℕ) → ClassKey → A → tree.Word A → List (syntax.Param A) → MethodKey
   method_key b of m w ps = record { class = of; name = w.text; params = meanings (map (param_declaration begins (begins m b)) ps) }
 
-  abbrev ctor_key : (base : ℕ) → ClassKey → A → List (syntax.Param A) → CtorKey
+  abbrev pub ctor_key : (base : ℕ) → ClassKey → A → List (syntax.Param A) → CtorKey
   ctor_key b of m ps = record { class = of; params = meanings (map (param_declaration begins (begins m b)) ps) }
 
   abbrev inits_of : (base : ℕ) → ClassKey → syntax.Members A → List StatementCode
@@ -158,13 +158,13 @@ module _ {A : Type 0} (begins ends : A → ℕ → ℕ) (rows : List Row) where
         × DefaultChecks (writes_ctor begins ms) (class_key begins None w.text) (inits_of (begins m b) (class_key begins None w.text) ms)
         × MembersCheck (begins m b) (class_key begins None w.text) (inits_of (begins m b) (class_key begins None w.text) ms) ms × ClassesCheck b cs
 
+pub same_method_key : (j k : MethodKey) → method j ≡ method k → j ≡ k
+same_method_key j k e = cc
+
+pub same_ctor_key : (j k : CtorKey) → constructor j ≡ constructor k → j ≡ k
+same_ctor_key j k e = cc
+
 module _ {A : Type 0} (begins ends : A → ℕ → ℕ) (rows : List Row) (are : AreRows rows) (found : KeysAreFound rows) (super_at : MemberKey → ℕ) (ds : List DeclaredItem) (top : all_top ds ≡ true) (P : core.Program RunKeys) where
-  same_method_key : (j k : MethodKey) → method j ≡ method k → j ≡ k
-  same_method_key j k e = cc
-
-  same_ctor_key : (j k : CtorKey) → constructor j ≡ constructor k → j ≡ k
-  same_ctor_key j k e = cc
-
   one_coded : (b : ℕ) (of : ClassKey) → of.outer ≡ None → (inits : List StatementCode) (x : syntax.Member A) → MemberChecks begins ends rows ds P b of inits x → OneCoded begins ends rows super_at ds P of b inits x
   one_coded b of outer inits (syntax.field m mods t w init) h = (λ k e. absurd cc, λ k e. absurd cc)
   one_coded b of outer inits (syntax.method m mods t w ps body) (have, is) = (

@@ -8,5 +8,8 @@ pub mod ComputedRunRows
 pub mod ComputedExps
 pub mod ComputedMembers
 pub mod ComputedProgram
+pub mod Sound
 pub mod Showing
 pub mod OneRun
+pub mod Computing
+pub mod Programs

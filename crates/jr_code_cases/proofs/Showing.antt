@@ -11,6 +11,7 @@ use Rattle.jr_grammar.specs.MemberSpelling.{unit_toks}
 use Rattle.jr_grammar.specs.MemberShape.{UnitShaped}
 use Rattle.jr_grammar.proofs.Cases.Scanned.{are_ascii, cut}
 use Rattle.jr_runs.specs.Core as core
+use Rattle.jr_table.specs.Decls.{MemberKey}
 use Rattle.jr_table.specs.Rows.{Row}
 use Rattle.jr_table.specs.Prelude.{prelude_rows}
 use Rattle.jr_table.specs.Entries.{entries_of}
@@ -24,6 +25,7 @@ use Rattle.jr_code_cases.specs.Shown.{first_of, last_of, HasCode}
 use Rattle.jr_code_cases.proofs.Reading.{items, marked, reads}
 use Rattle.jr_code_cases.proofs.TopTypes.{both, all_top}
 use Rattle.jr_code_cases.proofs.DeclaredRows.{own_rows, all_pass, rows_are}
+use Rattle.jr_code_cases.proofs.Sound.{classes_quiet, is_sound}
 use Rattle.jr_code_cases.proofs.ComputedProgram.{methods_declared, ctors_declared, methods_of, ctors_of, program, ClassesCheck, is_code}
 
 module _ (text : List ℕ) (tree : UnitTree Bare) where
@@ -54,7 +56,7 @@ module _ (text : List ℕ) (tree : UnitTree Bare) where
   abbrev pub Checks : Type 0
   Checks = ClassesCheck first_of last_of rows declarations resolved 0 unit.classes
 
-  module _ (texts : text_passes ≡ true) (shape : UnitShaped tree) (spells : unit_toks tree ≡ tokens_of text (items text)) (passes : rows_pass ≡ true) where
+  module _ (texts : text_passes ≡ true) (shape : UnitShaped tree) (spells : unit_toks tree ≡ tokens_of text (items text)) (passes : rows_pass ≡ true) (quiet : (super_at : MemberKey → ℕ) → classes_quiet first_of rows declarations super_at 0 unit.classes ≡ true) where
     a : (are_ascii text ≡ true) × (scalars text && is_some (cut (length text) 0 text) ≡ true)
     a = both (are_ascii text) (scalars text && is_some (cut (length text) 0 text)) texts
 
@@ -86,6 +88,7 @@ module _ (text : List ℕ) (tree : UnitTree Bare) where
       rows = rows;
       are = are;
       declared = rows_are declarations c.0 d.0;
+      sound = λ super_at. is_sound first_of rows are (keys_found rows are) super_at unit c.0 (quiet super_at);
       code =
           let m = both (methods_declared rows (methods_of first_of last_of rows unit)) (ctors_declared rows (ctors_of first_of last_of rows unit)) codes in
           is_code first_of last_of rows are (keys_found rows are) unit c.0 checks m.0 m.1 prelude;

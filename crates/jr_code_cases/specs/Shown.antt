@@ -10,6 +10,7 @@ use Rattle.jr_table.specs.Rows.{Row}
 use Rattle.jr_table.specs.Conditions.{AreRows}
 use Rattle.jr_table.specs.DeclaredItems.{declarations_of}
 use Rattle.jr_table.specs.ProgramRows.{AreProgramRows}
+use Rattle.jr_table.specs.Errors.{IsSound}
 use Rattle.jr_runs.specs.Actions.{Trace}
 use Rattle.jr_runs.specs.Core as core
 use Rattle.jr_runs.specs.Running.{Start, Ending, Whole}
@@ -31,6 +32,8 @@ pub record HasCode (text : List ℕ) (P : core.Program RunKeys) : Type 0 where
   pub rows : List Row
   pub are : AreRows rows
   pub declared : AreProgramRows (declarations_of first_of (unit ∷ [])) rows
+  -- no member breaks a rule
+  pub sound : (super_at : MemberKey → ℕ) → IsSound first_of rows super_at (unit ∷ [])
   pub code : (super_at : MemberKey → ℕ) → IsCodeOf first_of last_of rows super_at (unit ∷ []) P
 
 -- and one run of its: what is started, its actions, and how it ends
