@@ -9,7 +9,9 @@ pub mod ComputedExps
 pub mod ComputedMembers
 pub mod ComputedProgram
 pub mod Sound
+pub mod Broken
 pub mod Showing
 pub mod OneRun
 pub mod Computing
 pub mod Programs
+pub mod WrongTurns

@@ -1,5 +1,5 @@
 -- What has to be computed of a text and a tree without marks, so that the text has its code.
-use Rattle.std.proofs.Common.{◌≡◌, ℕ, List, [], ◌∷◌, ◌++◌, length, ◌^◌, ◌<◌, Option, Bool, true, ◌&&◌, refl}
+use Rattle.std.proofs.Common.{◌≡◌, ℕ, List, [], ◌∷◌, ◌++◌, length, ◌^◌, Some, Bool, true, ◌&&◌, refl}
 use Rattle.std.specs.Prelude.{is_some, nat_lt}
 use Rattle.std.proofs.lemmas.Bool.{ltb-true}
 use Rattle.std.proofs.Math.Utf8.{scalars}
@@ -17,14 +17,16 @@ use Rattle.jr_table.specs.Prelude.{prelude_rows}
 use Rattle.jr_table.specs.Entries.{entries_of}
 use Rattle.jr_table.specs.Conditions.{AreRows}
 use Rattle.jr_table.specs.DeclaredItems.{DeclaredItem, declarations_of}
+use Rattle.jr_table.specs.declared.rules.Rule.{Rule}
 use Rattle.jr_table.proofs.LookupLaws.{keys_found}
 use Rattle.jr_code.specs.RunKeys.{RunKeys}
 use Rattle.jr_code.specs.CodedMembers.{HasPrelude}
 use Rattle.jr_code.proofs.TestedRows.{all_first, all_named, all_lower, are_rows}
-use Rattle.jr_code_cases.specs.Shown.{first_of, last_of, HasCode}
+use Rattle.jr_code_cases.specs.Shown.{first_of, last_of, HasTree, HasCode, Refuses}
 use Rattle.jr_code_cases.proofs.Reading.{items, marked, reads}
 use Rattle.jr_code_cases.proofs.TopTypes.{both, all_top}
 use Rattle.jr_code_cases.proofs.DeclaredRows.{own_rows, all_pass, rows_are}
+use Rattle.jr_code_cases.proofs.Broken.{rule_of, classes_wrong, has_error}
 use Rattle.jr_code_cases.proofs.Sound.{classes_quiet, is_sound}
 use Rattle.jr_code_cases.proofs.ComputedProgram.{methods_declared, ctors_declared, methods_of, ctors_of, program, ClassesCheck, is_code}
 
@@ -56,13 +58,7 @@ module _ (text : List ℕ) (tree : UnitTree Bare) where
   abbrev pub Checks : Type 0
   Checks = ClassesCheck first_of last_of rows declarations resolved 0 unit.classes
 
-  module _ (texts : text_passes ≡ true) (shape : UnitShaped tree) (spells : unit_toks tree ≡ tokens_of text (items text)) (passes : rows_pass ≡ true) (quiet : (super_at : MemberKey → ℕ) → classes_quiet first_of rows declarations super_at 0 unit.classes ≡ true) where
-    a : (are_ascii text ≡ true) × (scalars text && is_some (cut (length text) 0 text) ≡ true)
-    a = both (are_ascii text) (scalars text && is_some (cut (length text) 0 text)) texts
-
-    b : (scalars text ≡ true) × (is_some (cut (length text) 0 text) ≡ true)
-    b = both (scalars text) (is_some (cut (length text) 0 text)) a.1
-
+  module _ (passes : rows_pass ≡ true) where
     c : (all_top declarations ≡ true) × (all_pass declarations declarations && (all_first rows 0 rows && (all_named rows rows && (all_lower 0 (entries_of rows) && nat_lt (length rows) (2 ^ 32)))) ≡ true)
     c = both (all_top declarations) _ passes
 
@@ -78,18 +74,32 @@ module _ (text : List ℕ) (tree : UnitTree Bare) where
     g : (all_lower 0 (entries_of rows) ≡ true) × (nat_lt (length rows) (2 ^ 32) ≡ true)
     g = both (all_lower 0 (entries_of rows)) _ f.1
 
-    are : AreRows rows
+    pub top : all_top declarations ≡ true
+    top = c.0
+
+    pub are : AreRows rows
     are = are_rows own rows refl e.0 f.0 g.0 (ltb-true (length rows) (2 ^ 32) g.1)
 
-    pub has_code : code_passes ≡ true → Checks → HasPrelude resolved → HasCode text resolved
-    has_code codes checks prelude = record {
-      unit = unit;
-      reads = reads text tree a.0 b.0 b.1 shape spells;
-      rows = rows;
-      are = are;
-      declared = rows_are declarations c.0 d.0;
-      sound = λ super_at. is_sound first_of rows are (keys_found rows are) super_at unit c.0 (quiet super_at);
-      code =
-          let m = both (methods_declared rows (methods_of first_of last_of rows unit)) (ctors_declared rows (ctors_of first_of last_of rows unit)) codes in
-          is_code first_of last_of rows are (keys_found rows are) unit c.0 checks m.0 m.1 prelude;
-    }
+    module _ (texts : text_passes ≡ true) (shape : UnitShaped tree) (spells : unit_toks tree ≡ tokens_of text (items text)) where
+      a : (are_ascii text ≡ true) × (scalars text && is_some (cut (length text) 0 text) ≡ true)
+      a = both (are_ascii text) (scalars text && is_some (cut (length text) 0 text)) texts
+
+      b : (scalars text ≡ true) × (is_some (cut (length text) 0 text) ≡ true)
+      b = both (scalars text) (is_some (cut (length text) 0 text)) a.1
+
+      pub has_tree : HasTree text
+      has_tree = record { unit = unit; reads = reads text tree a.0 b.0 b.1 shape spells; rows = rows; are = are; declared = rows_are declarations top d.0 }
+
+      pub has_code : ((super_at : MemberKey → ℕ) → classes_quiet first_of rows declarations super_at 0 unit.classes ≡ true) → code_passes ≡ true → Checks → HasPrelude resolved → HasCode text resolved
+      unfolding has_tree
+      has_code quiet codes checks prelude = record {
+        tree = has_tree;
+        sound = λ super_at. is_sound first_of rows are (keys_found rows are) super_at unit top (quiet super_at);
+        code =
+            let m = both (methods_declared rows (methods_of first_of last_of rows unit)) (ctors_declared rows (ctors_of first_of last_of rows unit)) codes in
+            is_code first_of last_of rows are (keys_found rows are) unit top checks m.0 m.1 prelude;
+      }
+
+      pub refuses : (rule : Rule) → ((super_at : MemberKey → ℕ) → rule_of (classes_wrong first_of rows declarations super_at 0 unit.classes) ≡ Some rule) → Refuses text rule
+      unfolding has_tree
+      refuses rule wrong = record { tree = has_tree; breaks = λ super_at. has_error first_of rows are (keys_found rows are) super_at unit top rule (wrong super_at) }

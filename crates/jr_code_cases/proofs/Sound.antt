@@ -1,6 +1,5 @@
 -- What the members of one file of top-level classes break, computed: they are sound where nothing is noted that is broken.
 use Rattle.std.proofs.Common.{◌≡◌, ℕ, ◌+◌, List, [], ◌∷◌, map, Option, Some, None, Bool, true, false, ◌&&◌, refl, sym, subst, ◌∙◌, inl, inr}
-use Rattle.std.specs.Prelude.{slice_get}
 use Rattle.jr_ast.specs.Tree as tree
 use Rattle.jr_ast.specs.StatementTree as statement
 use Rattle.jr_ast.specs.MemberTree as syntax
@@ -28,12 +27,6 @@ quiet_has [] e at r h = h
 quiet_has (refers i d ∷ ns) e at r (inl same) = absurd cc
 quiet_has (refers i d ∷ ns) e at r (inr h) = quiet_has ns e at r h
 quiet_has (breaks i s ∷ ns) e at r h = absurd cc
-
--- a note stands at a number
-pub has_at : (ns : List Note) (i : ℕ) (n : Note) → slice_get ns i ≡ Some n → Has ns n
-has_at [] i n e = absurd cc
-has_at (x ∷ ns) ℕ.zero n e = inl cc
-has_at (x ∷ ns) (ℕ.suc i) n e = inr (has_at ns i n e)
 
 module _ {A : Type 0} (begins : A → ℕ → ℕ) (rows : List Row) (ds : List DeclaredItem) (super_at : MemberKey → ℕ) where
   abbrev quiet : MemberKey → ℕ → Part A → Bool

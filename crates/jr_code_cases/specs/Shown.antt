@@ -1,5 +1,5 @@
--- What is said of a text: which tree it reads as, what this declares, which code it is, and how a
--- method of it runs.
+-- What is said of a text: which tree it reads as, what this declares, that it is sound, which code
+-- it is, and how a method of it runs.
 use Rattle.std.specs.Prelude.{◌≡◌, ◌-◌, ℕ, List, [], ◌∷◌}
 use Rattle.jr_text.specs.declared.spans.Span.{Span}
 use Rattle.jr_ast.specs.MemberTree as syntax
@@ -10,10 +10,11 @@ use Rattle.jr_table.specs.Rows.{Row}
 use Rattle.jr_table.specs.Conditions.{AreRows}
 use Rattle.jr_table.specs.DeclaredItems.{declarations_of}
 use Rattle.jr_table.specs.ProgramRows.{AreProgramRows}
-use Rattle.jr_table.specs.Errors.{IsSound}
+use Rattle.jr_table.specs.Errors.{Error, HasError, IsSound}
+use Rattle.jr_table.specs.declared.rules.Rule.{Rule}
 use Rattle.jr_runs.specs.Actions.{Trace}
 use Rattle.jr_runs.specs.Core as core
-use Rattle.jr_runs.specs.Running.{Start, Ending, Whole}
+use Rattle.jr_runs.specs.Running.{Start, Ending, Whole, Bounded}
 use Rattle.jr_code.specs.RunKeys.{RunKeys}
 use Rattle.jr_code.specs.Programs.{IsCodeOf}
 
@@ -24,17 +25,22 @@ first_of m base = m.from
 abbrev pub last_of : Span → ℕ → ℕ
 last_of m base = m.to - 1
 
--- The program whose one file has the text, from its bytes to its code. No text here writes `super(..)`,
--- so it is code wherever that stood.
-pub record HasCode (text : List ℕ) (P : core.Program RunKeys) : Type 0 where
+-- A text as a program's one file: the tree that it reads as, and the rows of what this declares.
+pub record HasTree (text : List ℕ) : Type 0 where
   pub unit : syntax.Unit Span
   pub reads : ReadsWithSpans itself text unit
   pub rows : List Row
   pub are : AreRows rows
   pub declared : AreProgramRows (declarations_of first_of (unit ∷ [])) rows
-  -- no member breaks a rule
-  pub sound : (super_at : MemberKey → ℕ) → IsSound first_of rows super_at (unit ∷ [])
-  pub code : (super_at : MemberKey → ℕ) → IsCodeOf first_of last_of rows super_at (unit ∷ []) P
+
+-- No member breaks a rule, and P is its code. No text here writes `super(..)`, so this holds
+-- wherever that stood.
+pub record HasCode (text : List ℕ) (P : core.Program RunKeys) : Type 0 where
+  pub tree : HasTree text
+  pub sound : (super_at : MemberKey → ℕ)
+      → IsSound first_of tree.rows super_at (tree.unit ∷ [])
+  pub code : (super_at : MemberKey → ℕ)
+      → IsCodeOf first_of last_of tree.rows super_at (tree.unit ∷ []) P
 
 -- and one run of its: what is started, its actions, and how it ends
 pub record Shows (text : List ℕ) (start : Start RunKeys) (trace : Trace RunKeys)
@@ -49,3 +55,16 @@ pub record ShowsOnly (text : List ℕ) (start : Start RunKeys) (trace : Trace Ru
   pub shows : Shows text start trace ending
   pub only : (other : Trace RunKeys) (end : Ending RunKeys) → Whole shows.program start other end
       → (other ≡ trace) × (end ≡ ending)
+
+-- A member breaks the rule, so that the program isn't sound.
+pub record Refuses (text : List ℕ) (rule : Rule) : Type 0 where
+  pub tree : HasTree text
+  pub breaks : (super_at : MemberKey → ℕ) → (k : MemberKey) × (at : ℕ)
+      × HasError first_of tree.rows super_at (tree.unit ∷ []) k (record { at = at; rule = rule })
+
+-- A sound program whose run begins with these actions, and comes to no end.
+pub record NeverEnds (text : List ℕ) (start : Start RunKeys) (trace : Trace RunKeys) : Type 0 where
+  pub program : core.Program RunKeys
+  pub code : HasCode text program
+  pub begins : Bounded program start trace
+  pub never : (other : Trace RunKeys) (end : Ending RunKeys) → Whole program start other end → ⊥

@@ -21,6 +21,6 @@ pub shown : Bumps
 unfolding computing
 shown = record {
   program = resolved text_of_bumps unit;
-  code = has_code text_of_bumps unit refl (grind arith) refl refl (λ s. refl) refl (refl, refl, (tt, ((refl, refl), tt)), tt) (record { object = refl; thread = refl; run = refl; start = refl });
+  code = has_code text_of_bumps unit refl refl (grind arith) refl (λ s. refl) refl (refl, refl, (tt, ((refl, refl), tt)), tt) (record { object = refl; thread = refl; run = refl; start = refl });
   runs = record { answers = an_a ∷ number 5 ∷ number 6 ∷ number 11 ∷ []; fuel = 4; out = _; trace_is = refl; end_is = refl; ending_is = refl };
 }

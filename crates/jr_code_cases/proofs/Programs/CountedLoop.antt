@@ -21,6 +21,6 @@ pub shown : CountedLoop
 unfolding computing
 shown = record {
   program = resolved text_of_counted_loop unit;
-  code = has_code text_of_counted_loop unit refl (grind arith) refl refl (λ s. refl) refl (refl, refl, (tt, ((refl, refl), tt)), tt) (record { object = refl; thread = refl; run = refl; start = refl });
+  code = has_code text_of_counted_loop unit refl refl (grind arith) refl (λ s. refl) refl (refl, refl, (tt, ((refl, refl), tt)), tt) (record { object = refl; thread = refl; run = refl; start = refl });
   runs = record { answers = number 0 ∷ number 0 ∷ number 1 ∷ number 3 ∷ []; fuel = 8; out = _; trace_is = refl; end_is = refl; ending_is = refl };
 }

@@ -21,6 +21,6 @@ pub shown : Dispatch
 unfolding computing
 shown = record {
   program = resolved text_of_dispatch unit;
-  code = has_code text_of_dispatch unit refl (grind arith) refl refl (λ s. refl) refl (refl, refl, ((refl, refl), ((refl, refl), tt)), (refl, refl, ((refl, refl), ((refl, refl), tt)), tt)) (record { object = refl; thread = refl; run = refl; start = refl });
+  code = has_code text_of_dispatch unit refl refl (grind arith) refl (λ s. refl) refl (refl, refl, ((refl, refl), ((refl, refl), tt)), (refl, refl, ((refl, refl), ((refl, refl), tt)), tt)) (record { object = refl; thread = refl; run = refl; start = refl });
   runs = record { answers = a_b ∷ []; fuel = 6; out = _; trace_is = refl; end_is = refl; ending_is = refl };
 }

@@ -19,6 +19,6 @@ pub shown : FailedCast
 unfolding computing
 shown = record {
   program = resolved text_of_failed_cast unit;
-  code = has_code text_of_failed_cast unit refl (grind arith) refl refl (λ s. refl) refl (refl, refl, tt, (refl, refl, ((refl, refl), tt), tt)) (record { object = refl; thread = refl; run = refl; start = refl });
+  code = has_code text_of_failed_cast unit refl refl (grind arith) refl (λ s. refl) refl (refl, refl, tt, (refl, refl, ((refl, refl), tt), tt)) (record { object = refl; thread = refl; run = refl; start = refl });
   runs = record { answers = an_a ∷ []; fuel = 4; out = _; trace_is = refl; end_is = refl; ending_is = refl };
 }

@@ -21,6 +21,6 @@ pub shown : Initializers
 unfolding computing
 shown = record {
   program = resolved text_of_initializers unit;
-  code = has_code text_of_initializers unit refl (grind arith) refl refl (λ s. refl) refl (refl, tt, (tt, (tt, ((refl, refl), ((refl, refl), tt)))), (refl, refl, (tt, ((refl, refl), ((refl, refl), tt))), tt)) (record { object = refl; thread = refl; run = refl; start = refl });
+  code = has_code text_of_initializers unit refl refl (grind arith) refl (λ s. refl) refl (refl, tt, (tt, (tt, ((refl, refl), ((refl, refl), tt)))), (refl, refl, (tt, ((refl, refl), ((refl, refl), tt))), tt)) (record { object = refl; thread = refl; run = refl; start = refl });
   runs = record { answers = a_b ∷ number 0 ∷ number 0 ∷ number 5 ∷ []; fuel = 6; out = _; trace_is = refl; end_is = refl; ending_is = refl };
 }

@@ -20,6 +20,6 @@ pub shown : NullReceiver
 unfolding computing
 shown = record {
   program = resolved text_of_null_receiver unit;
-  code = has_code text_of_null_receiver unit refl (grind arith) refl refl (λ s. refl) refl (refl, refl, (tt, (tt, ((refl, refl), ((refl, refl), tt)))), tt) (record { object = refl; thread = refl; run = refl; start = refl });
+  code = has_code text_of_null_receiver unit refl refl (grind arith) refl (λ s. refl) refl (refl, refl, (tt, (tt, ((refl, refl), ((refl, refl), tt)))), tt) (record { object = refl; thread = refl; run = refl; start = refl });
   runs = record { answers = number 0 ∷ number 1 ∷ []; fuel = 4; out = _; trace_is = refl; end_is = refl; ending_is = refl };
 }

@@ -23,7 +23,7 @@ unfolding computing
 shown = record {
   shows = record {
     program = resolved text_of_overflow unit;
-    code = has_code text_of_overflow unit refl (grind arith) refl refl (λ s. refl) refl (refl, refl, ((refl, refl), tt), tt) (record { object = refl; thread = refl; run = refl; start = refl });
+    code = has_code text_of_overflow unit refl refl (grind arith) refl (λ s. refl) refl (refl, refl, ((refl, refl), tt), tt) (record { object = refl; thread = refl; run = refl; start = refl });
     runs = record { answers = []; fuel = 4; out = _; trace_is = refl; end_is = refl; ending_is = refl };
   };
   only = λ other end w. one_run (resolved text_of_overflow unit) (go_of a) 4 _ refl other end w;

@@ -20,6 +20,6 @@ pub shown : VolatileFlag
 unfolding computing
 shown = record {
   program = resolved text_of_volatile_flag unit;
-  code = has_code text_of_volatile_flag unit refl (grind arith) refl refl (λ s. refl) refl (refl, refl, (tt, (tt, ((refl, refl), tt))), tt) (record { object = refl; thread = refl; run = refl; start = refl });
+  code = has_code text_of_volatile_flag unit refl refl (grind arith) refl (λ s. refl) refl (refl, refl, (tt, (tt, ((refl, refl), tt))), tt) (record { object = refl; thread = refl; run = refl; start = refl });
   runs = record { answers = truth true ∷ number 42 ∷ []; fuel = 4; out = _; trace_is = refl; end_is = refl; ending_is = refl };
 }
