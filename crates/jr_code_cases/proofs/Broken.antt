@@ -1,4 +1,4 @@
--- The first rule that a member of one file of top-level classes breaks, computed: it is broken.
+-- The first place where a member of one file of top-level classes breaks a rule, computed: it is broken there.
 use Rattle.std.proofs.Common.{◌≡◌, ℕ, ◌+◌, ◌-◌, List, [], ◌∷◌, map, Option, Some, None, Bool, true, false, ◌&&◌, refl, sym, ap, subst, ◌∙◌, inl, inr, eqb-true}
 use Rattle.std.specs.Prelude.{◌⊎◌, nat_eq}
 use Rattle.jr_ast.specs.MemberTree as syntax
@@ -10,7 +10,7 @@ use Rattle.jr_table.specs.LookupLaws.{KeysAreFound}
 use Rattle.jr_table.specs.DeclaredItems.{DeclaredItem, param_declaration, class_key, declarations_of}
 use Rattle.jr_table.specs.Notes.{Note, refers, breaks, Has}
 use Rattle.jr_table.specs.Walks.{part_notes}
-use Rattle.jr_table.specs.Errors.{Part, class_part, member_part, part_mark, Breaks, Declares, InClass, InMembers, InClasses, HasError}
+use Rattle.jr_table.specs.Errors.{Part, class_part, member_part, part_mark, Breaks, Declares, InClass, InMembers, InClasses, HasError, rule_rank}
 use Rattle.jr_table.specs.declared.rules.Rule.{Rule}
 use Rattle.jr_table.proofs.MemberNotes.{part_breaks}
 use Rattle.jr_code_cases.proofs.TopTypes.{both, all_top, meanings, have_meanings, mean}
@@ -30,11 +30,15 @@ first_is : (o p : Option Wrong) (x : Wrong) (P Q : Type 0) → (o ≡ Some x →
 first_is None p x P Q f g e = inr (g e)
 first_is (Some y) p x P Q f g e = inl (f e)
 
--- the first rule that is broken, and where
-abbrev first_broken : List Note → Option (ℕ × Rule)
-first_broken [] = None
-first_broken (refers at d ∷ ns) = first_broken ns
-first_broken (breaks at r ∷ ns) = Some (at, r)
+abbrev if_wanted : Bool → ℕ → Rule → Option (ℕ × Rule) → Option (ℕ × Rule)
+if_wanted true at r later = Some (at, r)
+if_wanted false at r later = later
+
+-- where the rule is first broken
+abbrev first_broken : Rule → List Note → Option (ℕ × Rule)
+first_broken wanted [] = None
+first_broken wanted (refers at d ∷ ns) = first_broken wanted ns
+first_broken wanted (breaks at r ∷ ns) = if_wanted (nat_eq (rule_rank r) (rule_rank wanted)) at r (first_broken wanted ns)
 
 abbrev place_or : ℕ → Option (ℕ × Rule) → ℕ
 place_or at None = at
@@ -44,10 +48,14 @@ abbrev rule_or : Rule → Option (ℕ × Rule) → Rule
 rule_or r None = r
 rule_or r (Some p) = p.1
 
-broken_has : (ns : List Note) (at : ℕ) (r : Rule) → first_broken ns ≡ Some (at, r) → Has ns (breaks at r)
-broken_has [] at r e = absurd cc
-broken_has (refers i d ∷ ns) at r e = inr (broken_has ns at r e)
-broken_has (breaks i s ∷ ns) at r e = inl (λ j. breaks (ap (place_or i) e j) (ap (rule_or s) e j))
+wanted_has : (b : Bool) (i : ℕ) (s : Rule) (later : Option (ℕ × Rule)) (ns : List Note) (at : ℕ) (r : Rule) → (later ≡ Some (at, r) → Has ns (breaks at r)) → if_wanted b i s later ≡ Some (at, r) → Has (breaks i s ∷ ns) (breaks at r)
+wanted_has true i s later ns at r again e = inl (λ j. breaks (ap (place_or i) e j) (ap (rule_or s) e j))
+wanted_has false i s later ns at r again e = inr (again e)
+
+broken_has : (wanted : Rule) (ns : List Note) (at : ℕ) (r : Rule) → first_broken wanted ns ≡ Some (at, r) → Has ns (breaks at r)
+broken_has wanted [] at r e = absurd cc
+broken_has wanted (refers i d ∷ ns) at r e = inr (broken_has wanted ns at r e)
+broken_has wanted (breaks i s ∷ ns) at r e = wanted_has (nat_eq (rule_rank s) (rule_rank wanted)) i s (first_broken wanted ns) ns at r (λ h. broken_has wanted ns at r h) e
 
 abbrev if_back : MemberKey → ℕ → ℕ → Rule → Bool → Option Wrong
 if_back k from at r true = Some (record { key = k; at = at - from; rule = r })
@@ -76,9 +84,9 @@ abbrev if_some : Bool → Option Wrong → Option Wrong
 if_some true o = o
 if_some false o = None
 
-module _ {A : Type 0} (begins : A → ℕ → ℕ) (rows : List Row) (ds : List DeclaredItem) (super_at : MemberKey → ℕ) where
+module _ {A : Type 0} (begins : A → ℕ → ℕ) (rows : List Row) (ds : List DeclaredItem) (super_at : MemberKey → ℕ) (wanted : Rule) where
   abbrev part_wrong : MemberKey → ℕ → Part A → Option Wrong
-  part_wrong k b p = counted k (begins (part_mark p) b) (first_broken (part_notes begins rows (super_at k) k b p))
+  part_wrong k b p = counted k (begins (part_mark p) b) (first_broken wanted (part_notes begins rows (super_at k) k b p))
 
   abbrev member_wrong : (base : ℕ) → ClassKey → syntax.Member A → Option Wrong
   member_wrong b of (syntax.field m mods t w init) = part_wrong (field (record { class = of; name = w.text })) b (member_part (syntax.field m mods t w init))
@@ -103,8 +111,8 @@ module _ {A : Type 0} (begins : A → ℕ → ℕ) (rows : List Row) (ds : List 
 
     part_is : (k : MemberKey) (b : ℕ) (p : Part A) → part_wrong k b p ≡ Some x → (x.key ≡ k) × Here x.key b p
     part_is k b p e =
-        let c = counted_is k (begins (part_mark p) b) (first_broken (part_notes begins rows (super_at k) k b p)) x e in
-        let h : Here k b p = subst (λ (n : ℕ). Breaks begins rows (super_at k) k b p n x.rule) (sym c.sum) ((part_breaks begins rows are found (super_at k) k b p c.at x.rule).0 (broken_has (part_notes begins rows (super_at k) k b p) c.at x.rule c.is)) in
+        let c = counted_is k (begins (part_mark p) b) (first_broken wanted (part_notes begins rows (super_at k) k b p)) x e in
+        let h : Here k b p = subst (λ (n : ℕ). Breaks begins rows (super_at k) k b p n x.rule) (sym c.sum) ((part_breaks begins rows are found (super_at k) k b p c.at x.rule).0 (broken_has wanted (part_notes begins rows (super_at k) k b p) c.at x.rule c.is)) in
         (c.key, subst (λ (j : MemberKey). Here j b p) (sym c.key) h)
 
     if_is : (b : Bool) (o : Option Wrong) → if_some b o ≡ Some x → (b ≡ true) × (o ≡ Some x)
@@ -149,14 +157,14 @@ abbrev pub rule_of : Option Wrong → Option Rule
 rule_of None = None
 rule_of (Some x) = Some x.rule
 
-module _ {A : Type 0} (begins : A → ℕ → ℕ) (rows : List Row) (are : AreRows rows) (found : KeysAreFound rows) (super_at : MemberKey → ℕ) (u : syntax.Unit A) (top : all_top (declarations_of begins (u ∷ [])) ≡ true) where
-  abbrev pub wrong : Option Wrong
-  wrong = classes_wrong begins rows (declarations_of begins (u ∷ [])) super_at (begins u.mark 0) u.classes
+module _ {A : Type 0} (begins : A → ℕ → ℕ) (rows : List Row) (are : AreRows rows) (found : KeysAreFound rows) (super_at : MemberKey → ℕ) (u : syntax.Unit A) (top : all_top (declarations_of begins (u ∷ [])) ≡ true) (wanted : Rule) where
+  abbrev wrong : Option Wrong
+  wrong = classes_wrong begins rows (declarations_of begins (u ∷ [])) super_at wanted (begins u.mark 0) u.classes
 
-  pub has_error : (r : Rule) → rule_of wrong ≡ Some r → (k : MemberKey) × (at : ℕ) × HasError begins rows super_at (u ∷ []) k (record { at = at; rule = r })
-  has_error r e = by wrong refl e
+  pub has_error : rule_of wrong ≡ Some wanted → (k : MemberKey) × (at : ℕ) × HasError begins rows super_at (u ∷ []) k (record { at = at; rule = wanted })
+  has_error e = by wrong refl e
     where
-      by : (o : Option Wrong) → wrong ≡ o → rule_of o ≡ Some r → (k : MemberKey) × (at : ℕ) × HasError begins rows super_at (u ∷ []) k (record { at = at; rule = r })
+      by : (o : Option Wrong) → wrong ≡ o → rule_of o ≡ Some wanted → (k : MemberKey) × (at : ℕ) × HasError begins rows super_at (u ∷ []) k (record { at = at; rule = wanted })
       by None is e = absurd cc
-      by (Some x) is e = let same : x.rule ≡ r = cc in
-          (x.key, x.at, subst (λ (s : Rule). HasError begins rows super_at (u ∷ []) x.key (record { at = x.at; rule = s })) same (inl (classes_are begins rows (declarations_of begins (u ∷ [])) super_at are found top x (begins u.mark 0) u.classes is)))
+      by (Some x) is e = let same : x.rule ≡ wanted = cc in
+          (x.key, x.at, subst (λ (s : Rule). HasError begins rows super_at (u ∷ []) x.key (record { at = x.at; rule = s })) same (inl (classes_are begins rows (declarations_of begins (u ∷ [])) super_at wanted are found top x (begins u.mark 0) u.classes is)))

@@ -100,6 +100,6 @@ module _ (text : List ℕ) (tree : UnitTree Bare) where
             is_code first_of last_of rows are (keys_found rows are) unit top checks m.0 m.1 prelude;
       }
 
-      pub refuses : (rule : Rule) → ((super_at : MemberKey → ℕ) → rule_of (classes_wrong first_of rows declarations super_at 0 unit.classes) ≡ Some rule) → Refuses text rule
+      pub refuses : (rule : Rule) → ((super_at : MemberKey → ℕ) → rule_of (classes_wrong first_of rows declarations super_at rule 0 unit.classes) ≡ Some rule) → Refuses text rule
       unfolding has_tree
       refuses rule wrong = record { tree = has_tree; breaks = λ super_at. has_error first_of rows are (keys_found rows are) super_at unit top rule (wrong super_at) }
