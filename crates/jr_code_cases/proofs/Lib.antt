@@ -12,6 +12,7 @@ pub mod Sound
 pub mod Broken
 pub mod Showing
 pub mod OneRun
+pub mod Memory
 pub mod Computing
 pub mod Programs
 pub mod WrongTurns

@@ -1,6 +1,6 @@
 -- What is said of a text: which tree it reads as, what this declares, that it is sound, which code
 -- it is, and how a method of it runs.
-use Rattle.std.specs.Prelude.{◌≡◌, ◌-◌, ℕ, List, [], ◌∷◌}
+use Rattle.std.specs.Prelude.{◌≡◌, ◌-◌, ℕ, List, [], ◌∷◌, map, codes}
 use Rattle.jr_text.specs.declared.spans.Span.{Span}
 use Rattle.jr_ast.specs.MemberTree as syntax
 use Rattle.jr_grammar.specs.Layout.{itself}
@@ -15,6 +15,8 @@ use Rattle.jr_table.specs.declared.rules.Rule.{Rule}
 use Rattle.jr_runs.specs.Actions.{Trace}
 use Rattle.jr_runs.specs.Core as core
 use Rattle.jr_runs.specs.Running.{Start, Ending, Whole, Bounded}
+use Rattle.jr_runs.specs.FirstValues.{First}
+use Rattle.jr_histories.specs.Histories.{begins, Step, History}
 use Rattle.jr_code.specs.RunKeys.{RunKeys}
 use Rattle.jr_code.specs.Programs.{IsCodeOf}
 
@@ -24,6 +26,10 @@ first_of m base = m.from
 
 abbrev pub last_of : Span → ℕ → ℕ
 last_of m base = m.to - 1
+
+-- one thread's actions, of which there are no others
+abbrev pub alone : Trace RunKeys → List (Step RunKeys)
+alone t = map (λ x. record { thread = 0; action = x }) t
 
 -- A text as a program's one file: the tree that it reads as, and the rows of what this declares.
 pub record HasTree (text : List ℕ) : Type 0 where
