@@ -17,7 +17,8 @@ use Rattle.jr_table.specs.DeclaredItems.{member_declarations, class_declarations
 use Rattle.jr_table.specs.Notes.{is_constant, own_notes, is_true_literal, list_completes, own_stmt_notes}
 use Rattle.jr_table.specs.Walks.{notes_of, stmts_notes, member_notes}
 use Rattle.jr_code.specs.CodedStatements.{numbers}
+use Rattle.jr_code.specs.CodedFields.{ClassFirsts, MembersFirsts, MemberFirst}
 
 unfoldable pub computing : Unit {0}
-unfolding unicode_ident is_word_start is_word_part scan extended keyword_of number_of entries_of chain_of own_row nearest member is_accessible lacks_object assignable as_specific is_named is_ctor methods_named ctors_in choose_at find_method find_ctor find_call find_field find_field_of find_member_type find_type last_named shown find_variable find_type_named find_type_of find_field_in find_method_named find_method_of find_ctor_of row_of find_left find_left_of type_of class_name_of target_found types_of locals_in locals_in_else locals_in_row member_declarations class_declarations members_declarations declarations_of is_constant own_notes is_true_literal list_completes own_stmt_notes notes_of stmts_notes member_notes numbers
+unfolding unicode_ident is_word_start is_word_part scan extended keyword_of number_of entries_of chain_of own_row nearest member is_accessible lacks_object assignable as_specific is_named is_ctor methods_named ctors_in choose_at find_method find_ctor find_call find_field find_field_of find_member_type find_type last_named shown find_variable find_type_named find_type_of find_field_in find_method_named find_method_of find_ctor_of row_of find_left find_left_of type_of class_name_of target_found types_of locals_in locals_in_else locals_in_row member_declarations class_declarations members_declarations declarations_of is_constant own_notes is_true_literal list_completes own_stmt_notes notes_of stmts_notes member_notes numbers ClassFirsts MembersFirsts MemberFirst
 computing = tt

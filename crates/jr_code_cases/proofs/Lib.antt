@@ -13,6 +13,7 @@ pub mod Broken
 pub mod Showing
 pub mod OneRun
 pub mod Memory
+pub mod ComputedFirsts
 pub mod Computing
 pub mod Programs
 pub mod WrongTurns

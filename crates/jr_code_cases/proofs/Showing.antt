@@ -1,6 +1,6 @@
 -- What has to be computed of a text and a tree without marks, so that the text has its code.
 use Rattle.std.proofs.Common.{◌≡◌, ℕ, List, [], ◌∷◌, ◌++◌, length, ◌^◌, Some, Bool, true, ◌&&◌, refl}
-use Rattle.std.specs.Prelude.{is_some, nat_lt}
+use Rattle.std.specs.Prelude.{is_some, nat_lt, codes}
 use Rattle.std.proofs.lemmas.Bool.{ltb-true}
 use Rattle.std.proofs.Math.Utf8.{scalars}
 use Rattle.jr_text.specs.declared.spans.Span.{Span}
@@ -11,9 +11,13 @@ use Rattle.jr_grammar.specs.MemberSpelling.{unit_toks}
 use Rattle.jr_grammar.specs.MemberShape.{UnitShaped}
 use Rattle.jr_grammar.proofs.Cases.Scanned.{are_ascii, cut}
 use Rattle.jr_runs.specs.Core as core
+use Rattle.jr_runs.specs.Actions.{Trace}
+use Rattle.jr_runs.specs.FirstValues.{First}
+use Rattle.jr_runs.specs.Running.{Start, Ending, Whole}
+use Rattle.jr_table.specs.Keys.{FieldKey}
 use Rattle.jr_table.specs.Decls.{MemberKey}
 use Rattle.jr_table.specs.Rows.{Row}
-use Rattle.jr_table.specs.Prelude.{prelude_rows}
+use Rattle.jr_table.specs.Prelude.{prelude_rows, thread_key}
 use Rattle.jr_table.specs.Entries.{entries_of}
 use Rattle.jr_table.specs.Conditions.{AreRows}
 use Rattle.jr_table.specs.DeclaredItems.{DeclaredItem, declarations_of}
@@ -21,12 +25,15 @@ use Rattle.jr_table.specs.declared.rules.Rule.{Rule}
 use Rattle.jr_table.proofs.LookupLaws.{keys_found}
 use Rattle.jr_code.specs.RunKeys.{RunKeys}
 use Rattle.jr_code.specs.CodedMembers.{HasPrelude}
+use Rattle.jr_code.specs.CodedFields.{UnitsFirsts}
 use Rattle.jr_code.proofs.TestedRows.{all_first, all_named, all_lower, are_rows}
-use Rattle.jr_code_cases.specs.Shown.{first_of, last_of, HasTree, HasCode, Refuses}
+use Rattle.jr_code_cases.specs.Shown.{first_of, last_of, HasTree, HasCode, Shows, Refuses}
 use Rattle.jr_code_cases.proofs.Reading.{items, marked, reads}
 use Rattle.jr_code_cases.proofs.TopTypes.{both, all_top}
 use Rattle.jr_code_cases.proofs.DeclaredRows.{own_rows, all_pass, rows_are}
 use Rattle.jr_code_cases.proofs.Broken.{rule_of, classes_wrong, has_error}
+use Rattle.jr_code_cases.proofs.ComputedFirsts.{classes_values, values_declared, first, gives_all, are_first}
+use Rattle.jr_code_cases.proofs.Memory.{AllMay, lone_history}
 use Rattle.jr_code_cases.proofs.Sound.{classes_quiet, is_sound}
 use Rattle.jr_code_cases.proofs.ComputedProgram.{methods_declared, ctors_declared, methods_of, ctors_of, program, ClassesCheck, is_code}
 
@@ -45,6 +52,10 @@ module _ (text : List ℕ) (tree : UnitTree Bare) where
 
   abbrev pub resolved : core.Program RunKeys
   resolved = program first_of last_of rows unit
+
+  -- what static fields begin with
+  abbrev pub begin : FieldKey → First RunKeys
+  begin = first first_of rows resolved.rows unit
 
   abbrev pub text_passes : Bool
   text_passes = are_ascii text && (scalars text && is_some (cut (length text) 0 text))
@@ -103,3 +114,17 @@ module _ (text : List ℕ) (tree : UnitTree Bare) where
       pub refuses : (rule : Rule) → ((super_at : MemberKey → ℕ) → rule_of (classes_wrong first_of rows declarations super_at rule 0 unit.classes) ≡ Some rule) → Refuses text rule
       unfolding has_tree
       refuses rule wrong = record { tree = has_tree; breaks = λ super_at. has_error first_of rows are (keys_found rows are) super_at unit top rule (wrong super_at) }
+
+      -- the run, with what static fields begin with, and each action where memory lets it come
+      module _ (quiet : (super_at : MemberKey → ℕ) → classes_quiet first_of rows declarations super_at 0 unit.classes ≡ true) (codes_pass : code_passes ≡ true) (checks : Checks) (prelude : HasPrelude resolved) where
+        pub shows : (start : Start RunKeys) (trace : Trace RunKeys) (ending : Ending RunKeys) → values_declared rows (classes_values first_of unit.classes) ≡ true → UnitsFirsts first_of begin (unit ∷ []) → Whole resolved start trace ending
+            → AllMay resolved.rows begin [] trace → Shows text start trace ending
+        unfolding has_tree has_code
+        shows start trace ending values firsts whole may = record {
+          program = resolved;
+          code = has_code quiet codes_pass checks prelude;
+          runs = whole;
+          first = begin;
+          firsts = are_first first_of rows resolved.rows unit values firsts;
+          history = lone_history resolved begin (gives_all first_of rows resolved.rows unit) start (thread_key (codes "run")) trace ending whole may;
+        }

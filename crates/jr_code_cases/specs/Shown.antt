@@ -5,8 +5,10 @@ use Rattle.jr_text.specs.declared.spans.Span.{Span}
 use Rattle.jr_ast.specs.MemberTree as syntax
 use Rattle.jr_grammar.specs.Layout.{itself}
 use Rattle.jr_grammar.specs.Reads.{ReadsWithSpans}
+use Rattle.jr_table.specs.Keys.{FieldKey}
 use Rattle.jr_table.specs.Decls.{MemberKey}
 use Rattle.jr_table.specs.Rows.{Row}
+use Rattle.jr_table.specs.Prelude.{thread_key}
 use Rattle.jr_table.specs.Conditions.{AreRows}
 use Rattle.jr_table.specs.DeclaredItems.{declarations_of}
 use Rattle.jr_table.specs.ProgramRows.{AreProgramRows}
@@ -18,6 +20,7 @@ use Rattle.jr_runs.specs.Running.{Start, Ending, Whole, Bounded}
 use Rattle.jr_runs.specs.FirstValues.{First}
 use Rattle.jr_histories.specs.Histories.{begins, Step, History}
 use Rattle.jr_code.specs.RunKeys.{RunKeys}
+use Rattle.jr_code.specs.CodedFields.{AreFirstValues}
 use Rattle.jr_code.specs.Programs.{IsCodeOf}
 
 -- the places of a node's first and last byte
@@ -48,12 +51,16 @@ pub record HasCode (text : List ℕ) (P : core.Program RunKeys) : Type 0 where
   pub code : (super_at : MemberKey → ℕ)
       → IsCodeOf first_of last_of tree.rows super_at (tree.unit ∷ []) P
 
--- and one run of its: what is started, its actions, and how it ends
+-- And one run of its: what is started, its actions, and how it ends. It is what a lone thread does:
+-- each load gives what was stored last, or what the field begins with.
 pub record Shows (text : List ℕ) (start : Start RunKeys) (trace : Trace RunKeys)
     (ending : Ending RunKeys) : Type 0 where
   pub program : core.Program RunKeys
   pub code : HasCode text program
   pub runs : Whole program start trace ending
+  pub first : FieldKey → First RunKeys
+  pub firsts : AreFirstValues first_of code.tree.rows (code.tree.unit ∷ []) program.rows first
+  pub history : History program (thread_key (codes "run")) first (begins start ∷ []) (alone trace)
 
 -- the same of a run that asks for nothing: it is the only one
 pub record ShowsOnly (text : List ℕ) (start : Start RunKeys) (trace : Trace RunKeys)

@@ -11,7 +11,7 @@ use Rattle.jr_grammar.specs.Bare.{Bare}
 use Rattle.jr_grammar.proofs.Cases.Forms.{w, v, ty}
 use Rattle.jr_code_cases.specs.Cases.{a, go_of, text_of_literals, Literals}
 use Rattle.jr_code_cases.proofs.Computing.{computing}
-use Rattle.jr_code_cases.proofs.Showing.{resolved, has_code}
+use Rattle.jr_code_cases.proofs.Showing.{resolved, shows}
 use Rattle.jr_code_cases.proofs.OneRun.{one_run}
 
 abbrev unit : syntax.Unit Bare
@@ -20,10 +20,6 @@ unit = record { mark = tt; package_name = []; classes = ((syntax.class tt [] (w 
 pub shown : Literals
 unfolding computing
 shown = record {
-  shows = record {
-    program = resolved text_of_literals unit;
-    code = has_code text_of_literals unit refl refl (grind arith) refl (λ s. refl) refl (refl, refl, ((refl, refl), tt), tt) (record { object = refl; thread = refl; run = refl; start = refl });
-    runs = record { answers = []; fuel = 4; out = _; trace_is = refl; end_is = refl; ending_is = refl };
-  };
+  shows = shows text_of_literals unit refl refl (grind arith) refl (λ s. refl) refl (refl, refl, ((refl, refl), tt), tt) (record { object = refl; thread = refl; run = refl; start = refl }) _ _ _ refl (((tt, tt), tt), tt) (record { answers = []; fuel = 4; out = _; trace_is = refl; end_is = refl; ending_is = refl }) tt;
   only = λ other end w. one_run (resolved text_of_literals unit) (go_of a) 4 _ refl other end w;
 }
