@@ -1,5 +1,5 @@
 -- What has to be computed of a text and a tree without marks, so that the text has its code.
-use Rattle.std.proofs.Common.{◌≡◌, ℕ, List, [], ◌∷◌, ◌++◌, length, ◌^◌, Some, Bool, true, ◌&&◌, refl}
+use Rattle.std.proofs.Common.{◌≡◌, ℕ, List, [], ◌∷◌, ◌++◌, length, ◌^◌, Some, Bool, true, ◌&&◌, refl, ◌∙◌}
 use Rattle.std.specs.Prelude.{is_some, nat_lt, codes}
 use Rattle.std.proofs.lemmas.Bool.{ltb-true}
 use Rattle.std.proofs.Math.Utf8.{scalars}
@@ -13,7 +13,10 @@ use Rattle.jr_grammar.proofs.Cases.Scanned.{are_ascii, cut}
 use Rattle.jr_runs.specs.Core as core
 use Rattle.jr_runs.specs.Actions.{Trace}
 use Rattle.jr_runs.specs.FirstValues.{First}
-use Rattle.jr_runs.specs.Running.{Start, Ending, Whole}
+use Rattle.jr_runs.specs.Running.{Start, Ending, ending_of, Whole, plain_run, actions_of}
+use Rattle.jr_runs.specs.Evaluation.{Flow}
+use Rattle.jr_runs.specs.Arithmetic.{Out}
+use Rattle.jr_plans.specs.Run.{ended}
 use Rattle.jr_table.specs.Keys.{FieldKey}
 use Rattle.jr_table.specs.Decls.{MemberKey}
 use Rattle.jr_table.specs.Rows.{Row}
@@ -27,13 +30,14 @@ use Rattle.jr_code.specs.RunKeys.{RunKeys}
 use Rattle.jr_code.specs.CodedMembers.{HasPrelude}
 use Rattle.jr_code.specs.CodedFields.{UnitsFirsts}
 use Rattle.jr_code.proofs.TestedRows.{all_first, all_named, all_lower, are_rows}
-use Rattle.jr_code_cases.specs.Shown.{first_of, last_of, HasTree, HasCode, Shows, Refuses}
+use Rattle.jr_code_cases.specs.Shown.{first_of, last_of, HasTree, HasCode, Shows, ShowsOnly, Refuses}
 use Rattle.jr_code_cases.proofs.Reading.{items, marked, reads}
 use Rattle.jr_code_cases.proofs.TopTypes.{both, all_top}
 use Rattle.jr_code_cases.proofs.DeclaredRows.{own_rows, all_pass, rows_are}
 use Rattle.jr_code_cases.proofs.Broken.{rule_of, classes_wrong, has_error}
 use Rattle.jr_code_cases.proofs.ComputedFirsts.{classes_values, values_declared, first, gives_all, are_first}
 use Rattle.jr_code_cases.proofs.Memory.{AllMay, lone_history}
+use Rattle.jr_code_cases.proofs.OneRun.{one_run}
 use Rattle.jr_code_cases.proofs.Sound.{classes_quiet, is_sound}
 use Rattle.jr_code_cases.proofs.ComputedProgram.{methods_declared, ctors_declared, methods_of, ctors_of, program, ClassesCheck, is_code}
 
@@ -127,4 +131,13 @@ module _ (text : List ℕ) (tree : UnitTree Bare) where
           first = begin;
           firsts = are_first first_of rows resolved.rows unit values firsts;
           history = lone_history resolved begin (gives_all first_of rows resolved.rows unit) start (thread_key (codes "run")) trace ending whole may;
+        }
+
+        -- the same where nothing is asked for
+        pub shows_only : (start : Start RunKeys) (trace : Trace RunKeys) (ending : Ending RunKeys) → values_declared rows (classes_values first_of unit.classes) ≡ true → UnitsFirsts first_of begin (unit ∷ []) → (n : ℕ) (out : Out (Flow RunKeys))
+            → actions_of (plain_run resolved start [] n).trace ≡ trace → (plain_run resolved start [] n).end ≡ ended out → ending_of out ≡ ending → AllMay resolved.rows begin [] trace → ShowsOnly text start trace ending
+        unfolding shows
+        shows_only start trace ending values firsts n out trace_is end_is ending_is may = record {
+          shows = shows start trace ending values firsts (record { answers = []; fuel = n; out = out; trace_is = trace_is; end_is = end_is; ending_is = ending_is }) may;
+          only = λ other end w. let one = one_run resolved start n out end_is other end w in (one.0 ∙ trace_is, one.1 ∙ ending_is);
         }
