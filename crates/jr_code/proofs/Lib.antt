@@ -5,7 +5,7 @@ pub mod OneFound
 pub mod OneCode
 pub mod OneBody
 pub mod Exchanging
-mod TestedRows
+pub mod TestedRows
 mod CodedSample
 mod CodedFinds
 mod CodedCases
