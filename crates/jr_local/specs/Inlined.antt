@@ -87,128 +87,128 @@ all_losses [] = []
 all_losses (x ∷ xs) = x.of.losses ++ all_losses xs
 
 module _ (p : Program Span) (asked : List ℕ) (file at : ℕ) (x : Found p asked file at) (type : Ty)
-    where
-  abbrev pub t : Declared p file x.key
-  t = x.declared
+  where
+    abbrev pub t : Declared p file x.key
+    t = x.declared
 
-  abbrev pub choices : Region Span → Choosing Span
-  choices R = choosing begins p.rows R (λ (c : Context). p.super_at c.member)
+    abbrev pub choices : Region Span → Choosing Span
+    choices R = choosing begins p.rows R (λ (c : Context). p.super_at c.member)
 
-  abbrev pub left_out : Region Span
-  left_out = without p.rows x.key type
+    abbrev pub left_out : Region Span
+    left_out = without p.rows x.key type
 
-  -- at E
-  abbrev pub at_init : Standing
-  at_init = at_list begins t.body.at t.way
+    -- at E
+    abbrev pub at_init : Standing
+    at_init = at_list begins t.body.at t.way
 
-  -- what is known at a read
-  abbrev pub at_read : Naming t → Context
-  at_read n = (at_list begins (behind_it t) n.way).context
+    -- what is known at a read
+    abbrev pub at_read : Naming t → Context
+    at_read n = (at_list begins (behind_it t) n.way).context
 
-  abbrev pub IsCopy : Copy → Type 0
-  IsCopy c = (n : Naming t) × IsRead t n × (exp_mark n.at ≡ c.read)
-      × TransformsExp itself (choices (in_copy p.rows x.key type (at_read n))) nowhere
-      at_init.context value at_init.base t.init c.of
+    abbrev pub IsCopy : Copy → Type 0
+    IsCopy c = (n : Naming t) × IsRead t n × (exp_mark n.at ≡ c.read)
+        × TransformsExp itself (choices (in_copy p.rows x.key type (at_read n))) nowhere
+        at_init.context value at_init.base t.init c.of
 
-  -- one for each read, in text order
-  pub record AreCopies (cs : List Copy) : Type 0 where
-    pub each : (i : ℕ) (c : Copy) → slice_get cs i ≡ Some c → IsCopy c
-    pub all : (n : Naming t) → IsRead t n
-        → Contains (map (λ (c : Copy). c.read) cs) (exp_mark n.at)
-    pub rise : AreRising cs
+    -- one for each read, in text order
+    pub record AreCopies (cs : List Copy) : Type 0 where
+      pub each : (i : ℕ) (c : Copy) → slice_get cs i ≡ Some c → IsCopy c
+      pub all : (n : Naming t) → IsRead t n
+          → Contains (map (λ (c : Copy). c.read) cs) (exp_mark n.at)
+      pub rise : AreRising cs
 
-  module _ (text : List ℕ) (items : List Item) (cs : List Copy) where
-    -- E's bytes with the copy's own changes
-    abbrev pub copied_text : Copy → List ℕ
-    copied_text c = with_changes text (exp_mark t.init) c.of.changes
+    module _ (text : List ℕ) (items : List Item) (cs : List Copy) where
+      -- E's bytes with the copy's own changes
+      abbrev pub copied_text : Copy → List ℕ
+      copied_text c = with_changes text (exp_mark t.init) c.of.changes
 
-    -- a read becomes this tree, by this text
-    abbrev pub put : Copy → tree.Exp Span → List ℕ → Rewritten (tree.Exp Span)
-    put c e bytes = record {
-      tree = e;
-      changes = change c.read (spaced items c.read (toks e) bytes) ∷ [];
-      respelled = c.of.respelled;
-      losses = [];
-    }
+      -- a read becomes this tree, by this text
+      abbrev pub put : Copy → tree.Exp Span → List ℕ → Rewritten (tree.Exp Span)
+      put c e bytes = record {
+        tree = e;
+        changes = change c.read (spaced items c.read (toks e) bytes) ∷ [];
+        respelled = c.of.respelled;
+        losses = [];
+      }
 
-    abbrev pub in_parentheses : Copy → tree.Exp Span
-    in_parentheses c = tree.paren c.read c.of.tree
+      abbrev pub in_parentheses : Copy → tree.Exp Span
+      in_parentheses c = tree.paren c.read c.of.tree
 
-    -- "each read of t becomes E, in parentheses exactly where the tree would otherwise not be
-    -- shaped": where E's form isn't what the node around asks for
-    abbrev pub Reads : Asks → tree.Exp Span → Rewritten (tree.Exp Span) → Type 0
-    Reads k e o = (c : Copy) × Contains cs c × (exp_mark e ≡ c.read)
-        × ((Takes k c.of.tree × (o ≡ put c c.of.tree (copied_text c)))
-        ⊎ ((Takes k c.of.tree → ⊥) × (o ≡ put c (in_parentheses c)
-        (codes "(" ++ copied_text c ++ codes ")"))))
+      -- "each read of t becomes E, in parentheses exactly where the tree would otherwise not be
+      -- shaped": where E's form isn't what the node around asks for
+      abbrev pub Reads : Asks → tree.Exp Span → Rewritten (tree.Exp Span) → Type 0
+      Reads k e o = (c : Copy) × Contains cs c × (exp_mark e ≡ c.read)
+          × ((Takes k c.of.tree × (o ≡ put c c.of.tree (copied_text c)))
+          ⊎ ((Takes k c.of.tree → ⊥) × (o ≡ put c (in_parentheses c)
+          (codes "(" ++ copied_text c ++ codes ")"))))
 
-    abbrev pub read_spot : Spots Span
-    read_spot = record {
-      part = λ k c r base e o. Reads k e o;
-      list = λ n c base xs o. ⊥;
-      members = λ base of xs o. ⊥;
-      whole = λ base outer d o. ⊥;
-    }
+      abbrev pub read_spot : Spots Span
+      read_spot = record {
+        part = λ k c r base e o. Reads k e o;
+        list = λ n c base xs o. ⊥;
+        members = λ base of xs o. ⊥;
+        whole = λ base outer d o. ⊥;
+      }
 
-    -- "The local t with initializer E is removed": the span goes
-    abbrev pub Inlines : (gone : Span) → (n : ℕ) → Context → (base : ℕ) → statement.Stmts Span
-        → Rewritten (statement.Stmts Span) → Type 0
-    Inlines gone n c base statement.end o = ⊥
-    Inlines gone n c base (statement.more s ss) o = (r : Rewritten (statement.Stmts Span))
-        × (stmt_mark s ≡ t.mark)
-        × TransformsList itself (choices left_out) (spotted read_spot) (n + locals_in s)
-        (after n c s) base ss r
-        × (o ≡ record {
-          tree = r.tree;
-          changes = change gone [] ∷ r.changes;
-          respelled = r.respelled;
-          losses = r.losses;
-        })
+      -- "The local t with initializer E is removed": the span goes
+      abbrev pub Inlines : (gone : Span) → (n : ℕ) → Context → (base : ℕ) → statement.Stmts Span
+          → Rewritten (statement.Stmts Span) → Type 0
+      Inlines gone n c base statement.end o = ⊥
+      Inlines gone n c base (statement.more s ss) o = (r : Rewritten (statement.Stmts Span))
+          × (stmt_mark s ≡ t.mark)
+          × TransformsList itself (choices left_out) (spotted read_spot) (n + locals_in s)
+          (after n c s) base ss r
+          × (o ≡ record {
+            tree = r.tree;
+            changes = change gone [] ∷ r.changes;
+            respelled = r.respelled;
+            losses = r.losses;
+          })
 
-    abbrev pub list_spot : (gone : Span) → Spots Span
-    list_spot gone = record {
-      part = λ k c r base e o. ⊥;
-      list = λ n c base xs o. Inlines gone n c base xs o;
-      members = λ base of ys o. ⊥;
-      whole = λ base outer d o. ⊥;
-    }
+      abbrev pub list_spot : (gone : Span) → Spots Span
+      list_spot gone = record {
+        part = λ k c r base e o. ⊥;
+        list = λ n c base xs o. Inlines gone n c base xs o;
+        members = λ base of ys o. ⊥;
+        whole = λ base outer d o. ⊥;
+      }
 
-    abbrev pub spots_if : Bool → (gone : Span) → Spotted Span
-    spots_if true gone = spotted (list_spot gone)
-    spots_if false gone = nowhere
+      abbrev pub spots_if : Bool → (gone : Span) → Spotted Span
+      spots_if true gone = spotted (list_spot gone)
+      spots_if false gone = nowhere
 
-    abbrev pub spots_of : (gone : Span) → ℕ → Spotted Span
-    spots_of gone n = spots_if (nat_eq n file) gone
+      abbrev pub spots_of : (gone : Span) → ℕ → Spotted Span
+      spots_of gone n = spots_if (nat_eq n file) gone
 
-    -- the tokens of a file may stand where they end; what ends a copy where the read ended; and
-    -- behind what goes what stands in front of it
-    abbrev pub EndsCopy : ℕ → TokenKind → Type 0
-    EndsCopy byte k = (c : Copy) × Contains cs c × (byte ≡ c.read.to)
-        × ((last_kind (toks c.of.tree) ≡ Some k)
-        ⊎ (last_kind (toks (in_parentheses c)) ≡ Some k))
+      -- the tokens of a file may stand where they end; what ends a copy where the read ended; and
+      -- behind what goes what stands in front of it
+      abbrev pub EndsCopy : ℕ → TokenKind → Type 0
+      EndsCopy byte k = (c : Copy) × Contains cs c × (byte ≡ c.read.to)
+          × ((last_kind (toks c.of.tree) ≡ Some k)
+          ⊎ (last_kind (toks (in_parentheses c)) ≡ Some k))
 
-    abbrev pub Fronted : (gone : Span) → ℕ → Fronts
-    Fronted gone n byte k = EndsToken p n byte k ⊎ ((n ≡ file)
-        × (EndsCopy byte k ⊎ ((byte ≡ gone.to) × EndsToken p n gone.from k)))
+      abbrev pub Fronted : (gone : Span) → ℕ → Fronts
+      Fronted gone n byte k = EndsToken p n byte k ⊎ ((n ≡ file)
+          × (EndsCopy byte k ⊎ ((byte ≡ gone.to) × EndsToken p n gone.from k)))
 
-  -- What becomes of the files. The spots are used: the declaration goes, and no reference to t is
-  -- left, as these have no image and would be lost.
-  pub record Made : Type 0 where
-    pub text : List ℕ
-    pub items : List Item
-    pub is_text : HasText p file text
-    pub lexes : Lexes text items
-    pub copies : List Copy
-    pub are_copies : AreCopies copies
-    pub gone : Span
-    pub is_gone : IsRemoval text t.mark gone
-    pub files : List (Rewritten (syntax.Unit Span))
-    pub rewritten : TransformsFiles (choices left_out) (declarations_of begins (units_of p))
-        (spots_of text items copies gone) (units_of p) files
-    pub o : Rewritten (syntax.Unit Span)
-    pub stands : slice_get files file ≡ Some o
-    pub goes : Contains o.changes (change gone [])
-    pub none_left : (l : Loss) → Contains o.losses l → l.declaration ≢ local_decl x.key
+    -- What becomes of the files. The spots are used: the declaration goes, and no reference to t is
+    -- left, as these have no image and would be lost.
+    pub record Made : Type 0 where
+      pub text : List ℕ
+      pub items : List Item
+      pub is_text : HasText p file text
+      pub lexes : Lexes text items
+      pub copies : List Copy
+      pub are_copies : AreCopies copies
+      pub gone : Span
+      pub is_gone : IsRemoval text t.mark gone
+      pub files : List (Rewritten (syntax.Unit Span))
+      pub rewritten : TransformsFiles (choices left_out) (declarations_of begins (units_of p))
+          (spots_of text items copies gone) (units_of p) files
+      pub o : Rewritten (syntax.Unit Span)
+      pub stands : slice_get files file ≡ Some o
+      pub goes : Contains o.changes (change gone [])
+      pub none_left : (l : Loss) → Contains o.losses l → l.declaration ≢ local_decl x.key
 
 module _ (p : Program Span) (asked : List ℕ) (file at : ℕ) (X : Known RunKeys Span)
     (kinds : FieldKey → FieldKind) where

@@ -32,7 +32,7 @@ use Rattle.jr_cover.specs.Sites.{Known, exp_way}
 use Rattle.jr_cover.specs.Plain.{IsPlain}
 use Rattle.jr_pieces.specs.Ways.{ListWay}
 use Rattle.jr_pieces.specs.Standings.{Standing, behind, at_list}
-use Rattle.jr_pieces.specs.Uses as use
+use Rattle.jr_pieces.specs.Uses as uses
 use Rattle.jr_pieces.specs.Uses.{list_use}
 use Rattle.jr_pieces.specs.Nearest.{Element, nearest}
 use Rattle.jr_pieces.specs.Bars.{list_barred}
@@ -80,10 +80,10 @@ module _ {p : Program Span} {file : ℕ} {k : LocalKey} (x : Declared p file k) 
 
   -- all but the target of `=`
   abbrev pub IsRead : Naming → Type 0
-  IsRead n = list_use n.way ≢ use.assigned
+  IsRead n = list_use n.way ≢ uses.assigned
 
   abbrev pub IsTarget : Naming → Type 0
-  IsTarget n = (list_use n.way ≡ use.assigned) ⊎ (list_use n.way ≡ use.changed)
+  IsTarget n = (list_use n.way ≡ uses.assigned) ⊎ (list_use n.way ≡ uses.changed)
 
   abbrev pub bar : Naming → Option ℕ
   bar n = list_barred begins behind_it.base None n.way

@@ -18,65 +18,64 @@ use Rattle.jr_pieces.specs.Before.{exp_before, stmt_before, list_before, list_th
 
 -- ---- what is evaluated before
 
-
 -- of `p.f=x` in front of x: the operand alone, as the test for null and the store come behind
-in_store : ExpWay (name 3) (tree.assign 70 (dot (name 2) 20) (name 3))
+abbrev in_store : ExpWay (name 3) (tree.assign 70 (dot (name 2) 20) (name 3))
 in_store = in_value 70 (dot (name 2) 20) (name 3) here
 
 before_store : exp_before X in_store ≡ at 2 (What.reads 2) ∷ []
 before_store = refl
 
 -- of `p.f+=x`: the operand, the test and the load
-in_sum : ExpWay (name 3) (tree.compound 70 Add (dot (name 2) 20) (name 3))
+abbrev in_sum : ExpWay (name 3) (tree.compound 70 Add (dot (name 2) 20) (name 3))
 in_sum = in_change 70 Add (dot (name 2) 20) (name 3) here
 
 before_sum : exp_before X in_sum ≡ at 2 (What.reads 2) ∷ at 20 What.checks ∷ at 20 (What.loads 20) ∷ []
 before_sum = refl
 
 -- of `new C(x,y)` in front of y: what is allocated, and x
-in_creation : ExpWay (name 3) (tree.create 71 class_type (tree.more (name 2) (args (name 3))))
+abbrev in_creation : ExpWay (name 3) (tree.create 71 class_type (tree.more (name 2) (args (name 3))))
 in_creation = in_created 71 class_type (tree.more (name 2) (args (name 3))) (later_argument (name 2) (args (name 3)) (first_argument (name 3) tree.end here))
 
 before_creation : exp_before X in_creation ≡ at 71 What.creates ∷ at 2 (What.reads 2) ∷ []
 before_creation = refl
 
 -- of `p.m(x)` in front of x: p, and not the test for null
-in_call : ExpWay (name 3) (tree.call 70 (tree.on (name 2)) (word 60) (args (name 3)))
+abbrev in_call : ExpWay (name 3) (tree.call 70 (tree.on (name 2)) (word 60) (args (name 3)))
 in_call = in_argument 70 (tree.on (name 2)) (word 60) (args (name 3)) (first_argument (name 3) tree.end here)
 
 before_call : exp_before X in_call ≡ at 2 (What.reads 2) ∷ []
 before_call = refl
 
 -- within a monitor: the lock, its test, and that the monitor is entered
-in_monitor : StmtWay (name 3) (statement.sync 72 (name 2) (only (reading 3)))
+abbrev in_monitor : StmtWay (name 3) (statement.sync 72 (name 2) (only (reading 3)))
 in_monitor = in_locked 72 (name 2) (only (reading 3)) (first (reading 3) statement.end (in_eval 70 (name 3) here))
 
 before_monitor : stmt_before X in_monitor ≡ at 2 (What.reads 2) ∷ at 72 What.checks ∷ at 72 What.enters ∷ []
 before_monitor = refl
 
 -- the lock itself: nothing
-in_its_lock : StmtWay (name 2) (statement.sync 72 (name 2) (only (reading 3)))
+abbrev in_its_lock : StmtWay (name 2) (statement.sync 72 (name 2) (only (reading 3)))
 in_its_lock = in_lock 72 (name 2) (only (reading 3)) here
 
 before_lock : stmt_before X in_its_lock ≡ []
 before_lock = refl
 
 -- the condition of a loop: the loop's own site
-in_loop : StmtWay (name 2) (statement.loop 73 (name 2) (reading 3))
+abbrev in_loop : StmtWay (name 2) (statement.loop 73 (name 2) (reading 3))
 in_loop = in_turning 73 (name 2) (reading 3) here
 
 before_loop : stmt_before X in_loop ≡ at 73 What.loops ∷ []
 before_loop = refl
 
 -- behind `else`: the condition and the first branch
-in_other : StmtWay (name 4) (statement.branch 74 (name 2) (reading 3) (statement.otherwise (reading 4)))
+abbrev in_other : StmtWay (name 4) (statement.branch 74 (name 2) (reading 3) (statement.otherwise (reading 4)))
 in_other = in_else 74 (name 2) (reading 3) (reading 4) (in_eval 70 (name 4) here)
 
 before_other : stmt_before X in_other ≡ at 2 (What.reads 2) ∷ at 3 (What.reads 3) ∷ []
 before_other = refl
 
 -- in the second of two statements: the whole first
-in_second : ListWay (name 3) (two (reading 2) (reading 3))
+abbrev in_second : ListWay (name 3) (two (reading 2) (reading 3))
 in_second = later (reading 2) (only (reading 3)) (first (reading 3) statement.end (in_eval 70 (name 3) here))
 
 before_second : list_before X in_second ≡ at 2 (What.reads 2) ∷ []
@@ -88,37 +87,43 @@ abbrev mark : ℕ → ℕ → ℕ
 mark m base = m
 
 -- the condition of `if` is straight, its branches aren't
-branch : statement.Stmt ℕ
+abbrev branch : statement.Stmt ℕ
 branch = statement.branch 74 (name 2) (reading 3) statement.no_else
 
-condition_is_straight : stmt_barred mark 0 None (in_condition 74 (name 2) (reading 3) statement.no_else (here {f = name 2})) ≡ None
+abbrev condition : StmtWay (name 2) branch
+condition = in_condition 74 (name 2) (reading 3) statement.no_else here
+
+condition_is_straight : stmt_barred mark 0 None condition ≡ None
 condition_is_straight = refl
 
-branch_is_barred : stmt_barred mark 0 None (in_then 74 (name 2) (reading 3) statement.no_else (in_eval 70 (name 3) here)) ≡ Some 74
+abbrev first_branch : StmtWay (name 3) branch
+first_branch = in_then 74 (name 2) (reading 3) statement.no_else (in_eval 70 (name 3) here)
+
+branch_is_barred : stmt_barred mark 0 None first_branch ≡ Some 74
 branch_is_barred = refl
 
 -- of `while(a)if(b)..` the condition of `if` is barred by the loop
-inner_condition : StmtWay (name 2) (statement.loop 73 (name 4) branch)
+abbrev inner_condition : StmtWay (name 2) (statement.loop 73 (name 4) branch)
 inner_condition = in_body 73 (name 4) branch (in_condition 74 (name 2) (reading 3) statement.no_else here)
 
 by_the_loop : stmt_barred mark 0 None inner_condition ≡ Some 73
 by_the_loop = refl
 
 -- of a condition `a&&b` the left operand is straight, the right one barred by the operator
-right_operand : ExpWay (name 3) (tree.binary 75 And (name 2) (name 3))
+abbrev right_operand : ExpWay (name 3) (tree.binary 75 And (name 2) (name 3))
 right_operand = in_right 75 And (name 2) (name 3) here
 
 by_the_operator : exp_barred mark 0 None right_operand ≡ Some 75
 by_the_operator = refl
 
-sum_operand : ExpWay (name 3) (tree.binary 75 Add (name 2) (name 3))
+abbrev sum_operand : ExpWay (name 3) (tree.binary 75 Add (name 2) (name 3))
 sum_operand = in_right 75 Add (name 2) (name 3) here
 
 no_operator : exp_barred mark 0 None sum_operand ≡ None
 no_operator = refl
 
 -- the innermost is told: of `if(a)x=b&&c` the operator
-in_branch : StmtWay (name 3) (statement.branch 74 (name 4) (statement.eval 70 (tree.assign 76 (name 5) (tree.binary 75 And (name 2) (name 3)))) statement.no_else)
+abbrev in_branch : StmtWay (name 3) (statement.branch 74 (name 4) (statement.eval 70 (tree.assign 76 (name 5) (tree.binary 75 And (name 2) (name 3)))) statement.no_else)
 in_branch = in_then 74 (name 4) (statement.eval 70 (tree.assign 76 (name 5) (tree.binary 75 And (name 2) (name 3)))) statement.no_else
     (in_eval 70 (tree.assign 76 (name 5) (tree.binary 75 And (name 2) (name 3)))
     (in_value 76 (name 5) (tree.binary 75 And (name 2) (name 3)) right_operand))
@@ -127,7 +132,7 @@ innermost_is_told : stmt_barred mark 0 None in_branch ≡ Some 75
 innermost_is_told = refl
 
 -- blocks and monitors bar nothing
-in_blocks : ListWay (name 3) (only (statement.block 77 (only (statement.sync 72 (name 2) (only (reading 3))))))
+abbrev in_blocks : ListWay (name 3) (only (statement.block 77 (only (statement.sync 72 (name 2) (only (reading 3))))))
 in_blocks = first (statement.block 77 (only (statement.sync 72 (name 2) (only (reading 3))))) statement.end
     (in_block 77 (only (statement.sync 72 (name 2) (only (reading 3)))) (first (statement.sync 72 (name 2) (only (reading 3))) statement.end in_monitor))
 
@@ -140,10 +145,10 @@ straight_between : between X (list_barred mark 0 None in_blocks) in_blocks ≡ a
 straight_between = refl
 
 -- in a branch: all of the statement that holds it
-in_a_branch : ListWay (name 3) (two branch (reading 4))
+abbrev in_a_branch : ListWay (name 3) (two branch (reading 4))
 in_a_branch = first branch (only (reading 4)) (in_then 74 (name 2) (reading 3) statement.no_else (in_eval 70 (name 3) here))
 
-pub barred_between : between X (list_barred mark 0 None in_a_branch) in_a_branch ≡ at 2 (What.reads 2) ∷ at 3 (What.reads 3) ∷ []
+barred_between : between X (list_barred mark 0 None in_a_branch) in_a_branch ≡ at 2 (What.reads 2) ∷ at 3 (What.reads 3) ∷ []
 barred_between = refl
 
 -- ---- the nearest statement
@@ -167,10 +172,10 @@ rest_behind_branch : (nearest mark start in_a_branch).rest ≡ only (reading 4)
 rest_behind_branch = refl
 
 -- behind a declaration its local is in scope, and the next one has a further number
-declaration : statement.Stmt ℕ
+abbrev declaration : statement.Stmt ℕ
 declaration = statement.local 78 false (tree.int 79) (word 5) (name 2)
 
-behind_declaration : ListWay (name 3) (two declaration (reading 3))
+abbrev behind_declaration : ListWay (name 3) (two declaration (reading 3))
 behind_declaration = later declaration (only (reading 3)) (first (reading 3) statement.end (in_eval 70 (name 3) here))
 
 number_behind : (nearest mark start behind_declaration).at.next ≡ 1
@@ -180,7 +185,7 @@ scope_behind : length (nearest mark start behind_declaration).at.context.locals 
 scope_behind = refl
 
 -- in its initializer, too
-own_initializer : ListWay (name 2) (two declaration (reading 3))
+abbrev own_initializer : ListWay (name 2) (two declaration (reading 3))
 own_initializer = first declaration (only (reading 3)) (in_init 78 false (tree.int 79) (word 5) (name 2) here)
 
 scope_within : length (at_list mark start own_initializer).context.locals ≡ 1
@@ -197,8 +202,14 @@ use_of_value = refl
 use_of_statement : list_use in_second ≡ stated
 use_of_statement = refl
 
-use_of_target : exp_use stated (in_assigned 70 (dot (name 2) 20) (name 3) (here {f = dot (name 2) 20})) ≡ assigned
+abbrev target : ExpWay (dot (name 2) 20) (tree.assign 70 (dot (name 2) 20) (name 3))
+target = in_assigned 70 (dot (name 2) 20) (name 3) here
+
+use_of_target : exp_use stated target ≡ assigned
 use_of_target = refl
 
-use_of_operand : exp_use stated (in_assigned 70 (dot (name 2) 20) (name 3) (in_front 50 (name 2) (word 20) (here {f = name 2}))) ≡ valued
+abbrev operand : ExpWay (name 2) (tree.assign 70 (dot (name 2) 20) (name 3))
+operand = in_assigned 70 (dot (name 2) 20) (name 3) (in_front 50 (name 2) (word 20) here)
+
+use_of_operand : exp_use stated operand ≡ valued
 use_of_operand = refl
