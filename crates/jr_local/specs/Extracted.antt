@@ -119,7 +119,7 @@ module _ (p : Program Span) (file from to : ℕ) (name : List ℕ) (x : Selected
 
   abbrev pub Writes : Rewritten (tree.TypeName Span) → Type 0
   Writes o = WritesType p.rows from_there (element x).at.context from
-      (stmt_mark (element x).statement) x.type o
+      (stmt_mark (element x).stmt) x.type o
 
   -- what is put in E's place
   abbrev pub name_tree : tree.Exp Span
@@ -147,8 +147,8 @@ module _ (p : Program Span) (file from to : ℕ) (name : List ℕ) (x : Selected
       type ++ codes " " ++ name ++ codes " = " ++ init ++ codes ";" ++ gap
 
   abbrev pub declaration : tree.TypeName Span → tree.Exp Span → statement.Stmt Span
-  declaration t e = statement.local (stmt_mark (element x).statement) false t
-      (class_word (stmt_mark (element x).statement) name) e
+  declaration t e = statement.local (stmt_mark (element x).stmt) false t
+      (class_word (stmt_mark (element x).stmt) name) e
 
   -- What is put, of a text with these items, with this type: E with its own changes and the gap;
   -- what S and the statements behind it become; and the whole.
@@ -180,7 +180,7 @@ module _ (p : Program Span) (file from to : ℕ) (name : List ℕ) (x : Selected
         → Rewritten (statement.Stmts Span) → Type 0
     Extracts n c base statement.end o = ⊥
     Extracts n c base (statement.more s ss) o =
-        (stmt_mark s ≡ stmt_mark (element x).statement) × Puts text items type n c base s ss o
+        (stmt_mark s ≡ stmt_mark (element x).stmt) × Puts text items type n c base s ss o
 
     abbrev pub list_spot : Spots Span
     list_spot = record {
@@ -199,7 +199,7 @@ module _ (p : Program Span) (file from to : ℕ) (name : List ℕ) (x : Selected
 
   -- what is put in front of S
   abbrev pub put_declaration : tree.TypeName Span → (init gap : List ℕ) → Change
-  put_declaration t init gap = change (before (stmt_mark (element x).statement))
+  put_declaration t init gap = change (before (stmt_mark (element x).stmt))
       (declaration_text (printed_type t) init gap)
 
   -- What becomes of the files, with the type as it is written. The spot is used: a declaration is

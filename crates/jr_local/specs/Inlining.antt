@@ -49,7 +49,7 @@ pub record Declared (p : Program Span) (file : ℕ) (k : LocalKey) : Type 0 wher
   pub is_final : Bool
   pub type : tree.TypeName Span
   pub word : tree.Word Span
-  pub is : (nearest begins body.at way).statement
+  pub is : (nearest begins body.at way).stmt
       ≡ statement.local mark is_final type word init
   pub key : local_key (nearest begins body.at way).at.context (nearest begins body.at way).at.next
       ≡ k
@@ -60,7 +60,7 @@ module _ {p : Program Span} {file : ℕ} {k : LocalKey} (x : Declared p file k) 
 
   -- what is known behind the declaration
   abbrev pub behind_it : Standing
-  behind_it = behind begins element.statement element.at
+  behind_it = behind begins element.stmt element.at
 
   -- the local is named there; "t++ reads t"
   pub record IsNamed (e : tree.Exp Span) (d : ListWay e element.rest) : Type 0 where

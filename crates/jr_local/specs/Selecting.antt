@@ -61,7 +61,7 @@ module _ {p : Program Span} {file from to : ℕ} (x : Selected p file from to) w
 
   -- S with what stands behind it in its list
   abbrev pub held_list : statement.Stmts Span
-  held_list = statement.more element.statement element.rest
+  held_list = statement.more element.stmt element.rest
 
   -- "E isn't straight below the list of S": the construct that makes it so
   abbrev pub bar : Option ℕ

@@ -161,11 +161,11 @@ start = record {
 }
 
 -- through blocks and monitors: the innermost element
-nearest_in_blocks : (nearest mark start in_blocks).statement ≡ reading 3
+nearest_in_blocks : (nearest mark start in_blocks).stmt ≡ reading 3
 nearest_in_blocks = refl
 
 -- a branch without braces is no element of a list: the `if` is
-nearest_of_branch : (nearest mark start in_a_branch).statement ≡ branch
+nearest_of_branch : (nearest mark start in_a_branch).stmt ≡ branch
 nearest_of_branch = refl
 
 rest_behind_branch : (nearest mark start in_a_branch).rest ≡ only (reading 4)
@@ -208,8 +208,8 @@ target = in_assigned 70 (dot (name 2) 20) (name 3) here
 use_of_target : exp_use stated target ≡ assigned
 use_of_target = refl
 
-abbrev operand : ExpWay (name 2) (tree.assign 70 (dot (name 2) 20) (name 3))
+abbrev pub operand : ExpWay (name 2) (tree.assign 70 (dot (name 2) 20) (name 3))
 operand = in_assigned 70 (dot (name 2) 20) (name 3) (in_front 50 (name 2) (word 20) here)
 
-use_of_operand : exp_use stated operand ≡ valued
+pub use_of_operand : exp_use stated operand ≡ valued
 use_of_operand = refl

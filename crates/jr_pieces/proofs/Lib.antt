@@ -1,4 +1,5 @@
--- `InFront`: what comes before an expression stands in front, by induction on its way. `Cases`:
--- examples, each a sentence of the rules.
+-- `InFront`: what comes before an expression stands in front, by induction on its way. `Finds`: an
+-- expression is found by its span. `Cases`: examples, each a sentence of the rules.
 pub mod InFront
-pub mod Cases
+pub mod Finds
+mod Cases

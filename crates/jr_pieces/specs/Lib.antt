@@ -6,3 +6,5 @@ pub mod Returns
 pub mod Nearest
 pub mod Bars
 pub mod Before
+pub mod Finding
+pub mod Nesting

@@ -26,9 +26,9 @@ use Rattle.jr_pieces.specs.Standings.{Standing, inside, behind, in_other}
 -- expression, which meets no further list.
 pub record Element {A : Type 0} (f : tree.Exp A) : Type 0 where
   pub at : Standing
-  pub statement : statement.Stmt A
+  pub stmt : statement.Stmt A
   pub rest : statement.Stmts A
-  pub way : StmtWay f statement
+  pub way : StmtWay f stmt
 
 abbrev pub or_element : {X : Type 0} → Option X → X → X
 or_element None x = x
@@ -53,5 +53,5 @@ module _ {A : Type 0} (begins : A → ℕ → ℕ) {f : tree.Exp A} where
 
     pub nearest : {b : statement.Stmts A} → Standing → ListWay f b → Element f
     nearest p (first s ss d) = or_element (element_within p d)
-        (record { at = p; statement = s; rest = ss; way = d })
+        (record { at = p; stmt = s; rest = ss; way = d })
     nearest p (later s ss d) = nearest (behind begins s p) d

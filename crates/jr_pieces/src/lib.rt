@@ -9,4 +9,4 @@
 
 mod laws;
 
-pub use laws::what_comes_before_stands_in_front;
+pub use laws::{spans_tell_ways, what_comes_before_stands_in_front};

@@ -1,0 +1,96 @@
+-- Marks that tell nested spans: each part's is within that of the whole and isn't all of it, and
+-- parts stand one behind the other. So it is of each tree that a text reads as, where the mark of a
+-- node tells the span from its first token to its last.
+use Rattle.std.specs.Prelude.{◌≡◌, ◌⊎◌, ℕ, ◌<◌, ◌≤◌, Option, Some, None}
+use Rattle.jr_text.specs.declared.spans.Span.{Span}
+use Rattle.jr_ast.specs.Tree as tree
+use Rattle.jr_ast.specs.StatementTree as statement
+use Rattle.jr_ast.specs.Marks.{exp_mark, stmt_mark}
+use Rattle.jr_pieces.specs.Ways.{ListWay}
+use Rattle.jr_pieces.specs.Finding.{exp_span, stmt_span, find_list, list_end, list_path}
+
+-- from the place on, within the whole, which has a byte more
+pub record Within (lo : ℕ) (part whole : Span) : Type 0 where
+  pub from : lo ≤ part.from
+  pub ordered : part.from < part.to
+  pub starts : whole.from ≤ part.from
+  pub ends : part.to ≤ whole.to
+  pub more : (whole.from < part.from) ⊎ (part.to < whole.to)
+
+module _ {A : Type 0} (tells : A → ℕ → Span) where
+  abbrev mutual
+    pub ExpNested : (base : ℕ) → tree.Exp A → Type 0
+    ExpNested base (tree.field m e w) = PartNested (tells m base) (tells m base).from e
+    ExpNested base (tree.call m tree.no_target w es) =
+        PartsNested (tells m base) (tells m base).from es
+    ExpNested base (tree.call m (tree.on e) w es) =
+        PartNested (tells m base) (tells m base).from e
+        × PartsNested (tells m base) (exp_span tells (tells m base).from e).to es
+    ExpNested base (tree.super_call m w es) = PartsNested (tells m base) (tells m base).from es
+    ExpNested base (tree.create m t es) = PartsNested (tells m base) (tells m base).from es
+    ExpNested base (tree.paren m e) = PartNested (tells m base) (tells m base).from e
+    ExpNested base (tree.cast m t e) = PartNested (tells m base) (tells m base).from e
+    ExpNested base (tree.unary m o e) = PartNested (tells m base) (tells m base).from e
+    ExpNested base (tree.bump m o e) = PartNested (tells m base) (tells m base).from e
+    ExpNested base (tree.binary m o l r) = TwoNested (tells m base) l r
+    ExpNested base (tree.assign m l r) = TwoNested (tells m base) l r
+    ExpNested base (tree.compound m o l r) = TwoNested (tells m base) l r
+    ExpNested base (tree.number m n) = Unit {0}
+    ExpNested base (tree.truth m b) = Unit {0}
+    ExpNested base (tree.null m) = Unit {0}
+    ExpNested base (tree.string m t) = Unit {0}
+    ExpNested base (tree.name m w) = Unit {0}
+    ExpNested base (tree.super_field m w) = Unit {0}
+    ExpNested base (tree.this m) = Unit {0}
+    ExpNested base (tree.class_literal m t) = Unit {0}
+
+    -- an expression that begins at the place or later
+    pub PartNested : (whole : Span) → (lo : ℕ) → tree.Exp A → Type 0
+    PartNested s lo e = Within lo (exp_span tells s.from e) s × ExpNested s.from e
+
+    pub TwoNested : (whole : Span) → (l r : tree.Exp A) → Type 0
+    TwoNested s l r = PartNested s s.from l × PartNested s (exp_span tells s.from l).to r
+
+    pub PartsNested : (whole : Span) → (lo : ℕ) → tree.Exps A → Type 0
+    PartsNested s lo tree.end = Unit {0}
+    PartsNested s lo (tree.more e es) =
+        PartNested s lo e × PartsNested s (exp_span tells s.from e).to es
+
+  abbrev mutual
+    pub StmtNested : (base : ℕ) → statement.Stmt A → Type 0
+    StmtNested base (statement.local m is_final t w e) =
+        PartNested (tells m base) (tells m base).from e
+    StmtNested base (statement.eval m e) = PartNested (tells m base) (tells m base).from e
+    StmtNested base (statement.branch m c x o) = PartNested (tells m base) (tells m base).from c
+        × StepNested (tells m base) (exp_span tells (tells m base).from c).to x
+        × ElseNested (tells m base) (stmt_span tells (tells m base).from x).to o
+    StmtNested base (statement.loop m c x) = PartNested (tells m base) (tells m base).from c
+        × StepNested (tells m base) (exp_span tells (tells m base).from c).to x
+    StmtNested base (statement.return m None) = Unit {0}
+    StmtNested base (statement.return m (Some e)) =
+        PartNested (tells m base) (tells m base).from e
+    StmtNested base (statement.block m b) = ListNested (tells m base) (tells m base).from b
+    StmtNested base (statement.sync m e b) = PartNested (tells m base) (tells m base).from e
+        × ListNested (tells m base) (exp_span tells (tells m base).from e).to b
+    StmtNested base (statement.empty m) = Unit {0}
+
+    -- a statement that begins at the place or later
+    pub StepNested : (whole : Span) → (lo : ℕ) → statement.Stmt A → Type 0
+    StepNested s lo x = Within lo (stmt_span tells s.from x) s × StmtNested s.from x
+
+    pub ElseNested : (whole : Span) → (lo : ℕ) → statement.Else A → Type 0
+    ElseNested s lo statement.no_else = Unit {0}
+    ElseNested s lo (statement.otherwise x) = StepNested s lo x
+
+    pub ListNested : (whole : Span) → (lo : ℕ) → statement.Stmts A → Type 0
+    ListNested s lo statement.end = Unit {0}
+    ListNested s lo (statement.more x xs) =
+        StepNested s lo x × ListNested s (stmt_span tells s.from x).to xs
+
+-- An expression is found by its span: no other of the list has it. The list stands within a node of
+-- the span `whole`, and its elements have numbers from `first` on.
+abbrev pub SpansTellWays : (A : Type 0) → Type 0
+SpansTellWays A = (tells : A → ℕ → Span) (whole : Span) (first : ℕ) (b : statement.Stmts A)
+    → ListNested tells whole whole.from b → (f : tree.Exp A) (d : ListWay f b) (s : Span)
+    → list_end tells whole.from d ≡ s
+    → find_list tells s whole.from first b ≡ Some (list_path first d)
