@@ -91,7 +91,7 @@ held_within lo t part whole w h = record {
     by (inr l) = inr (omega (arith, l, h.to))
 
 -- the same from an earlier place on
-from_earlier : (lo mid : ℕ) (t whole : Span) → lo ≤ mid → Within mid t whole → Within lo t whole
+pub from_earlier : (lo mid : ℕ) (t whole : Span) → lo ≤ mid → Within mid t whole → Within lo t whole
 from_earlier lo mid t whole l w = record {
   from = omega (arith, l, w.from);
   ordered = w.ordered;
@@ -323,4 +323,4 @@ module _ {A : Type 0} (tells : A → ℕ → Span) (f : tree.Exp A) where
         (λ s. onto i (find_stmt tells s whole.from x)) (list_path (suc i) d) w1 (list_done xs d whole (stmt_span tells whole.from x).to (suc i) n2)
 
 pub spans_tell_ways : {A : Type 0} → SpansTellWays A
-spans_tell_ways tells whole i b n f d s e = (list_done tells f b d whole whole.from i n).finds s e
+spans_tell_ways tells whole lo i b n f d s e = (list_done tells f b d whole lo i n).finds s e

@@ -1,11 +1,14 @@
 -- Marks that tell nested spans: each part's is within that of the whole and isn't all of it, and
 -- parts stand one behind the other. So it is of each tree that a text reads as, where the mark of a
 -- node tells the span from its first token to its last.
-use Rattle.std.specs.Prelude.{◌≡◌, ◌⊎◌, ℕ, ◌<◌, ◌≤◌, Option, Some, None}
+use Rattle.std.specs.Prelude.{◌≡◌, ◌⊎◌, ℕ, ◌<◌, ◌≤◌, [], ◌∷◌, Some, None}
 use Rattle.jr_text.specs.declared.spans.Span.{Span}
 use Rattle.jr_ast.specs.Tree as tree
 use Rattle.jr_ast.specs.StatementTree as statement
 use Rattle.jr_ast.specs.Marks.{exp_mark, stmt_mark}
+use Rattle.jr_grammar.specs.Layout.{spans_from}
+use Rattle.jr_grammar.specs.StatementLayout.{stmts_layout}
+use Rattle.jr_grammar.specs.Stands.{Tokens, Stands}
 use Rattle.jr_pieces.specs.Ways.{ListWay}
 use Rattle.jr_pieces.specs.Finding.{exp_span, stmt_span, find_list, list_end, list_path}
 
@@ -87,10 +90,30 @@ module _ {A : Type 0} (tells : A → ℕ → Span) where
     ListNested s lo (statement.more x xs) =
         StepNested s lo x × ListNested s (stmt_span tells s.from x).to xs
 
+-- ---- the law
+
 -- An expression is found by its span: no other of the list has it. The list stands within a node of
--- the span `whole`, and its elements have numbers from `first` on.
+-- the span `whole`, from the place `lo` on, and its elements have numbers from `first` on.
 abbrev pub SpansTellWays : (A : Type 0) → Type 0
-SpansTellWays A = (tells : A → ℕ → Span) (whole : Span) (first : ℕ) (b : statement.Stmts A)
-    → ListNested tells whole whole.from b → (f : tree.Exp A) (d : ListWay f b) (s : Span)
+SpansTellWays A = (tells : A → ℕ → Span) (whole : Span) (lo first : ℕ) (b : statement.Stmts A)
+    → ListNested tells whole lo b → (f : tree.Exp A) (d : ListWay f b) (s : Span)
     → list_end tells whole.from d ≡ s
     → find_list tells s whole.from first b ≡ Some (list_path first d)
+
+-- ---- of trees that are read
+
+-- tokens one behind the other, from the place on, each of a byte or more
+abbrev pub Rising : ℕ → Tokens → Type 0
+Rising lo [] = Unit {0}
+Rising lo (p ∷ ps) = (lo ≤ p.mark.from) × (p.mark.from < p.mark.to) × Rising p.mark.to ps
+
+-- where they end
+abbrev pub end_from : ℕ → Tokens → ℕ
+end_from lo [] = lo
+end_from lo (p ∷ ps) = end_from p.mark.to ps
+
+-- Where a list stands in such tokens, within a node and behind its first byte, its spans are nested.
+abbrev pub StandingListsAreNested : (A : Type 0) → Type 0
+StandingListsAreNested A = (tells : A → ℕ → Span) (whole : Span) (lo : ℕ) (b : statement.Stmts A)
+    (ps : Tokens) → Stands (spans_from tells whole.from (stmts_layout b)) ps → whole.from < lo
+    → Rising lo ps → end_from lo ps ≤ whole.to → ListNested tells whole lo b
