@@ -10,6 +10,7 @@ use Rattle.jr_pieces.specs.Ways.{ExpWay, here, in_front, in_argument, in_created
 use Rattle.jr_pieces.specs.Ways.{StmtWay, in_init, in_eval, in_condition, in_then, in_else, in_turning, in_body, in_block, in_lock, in_locked, ListWay, first, later}
 use Rattle.jr_table.specs.Decls.{head}
 use Rattle.jr_table.specs.HeadRules.{plain}
+use Rattle.jr_table.specs.Context.{locals_in}
 use Rattle.jr_pieces.specs.Standings.{Standing, at_list}
 use Rattle.jr_pieces.specs.Nearest.{nearest}
 use Rattle.jr_pieces.specs.Uses.{valued, assigned, stated, exp_use, list_use}
@@ -179,6 +180,7 @@ abbrev behind_declaration : ListWay (name 3) (two declaration (reading 3))
 behind_declaration = later declaration (only (reading 3)) (first (reading 3) statement.end (in_eval 70 (name 3) here))
 
 number_behind : (nearest mark start behind_declaration).at.next ≡ 1
+unfolding locals_in
 number_behind = refl
 
 scope_behind : length (nearest mark start behind_declaration).at.context.locals ≡ 1

@@ -7,7 +7,7 @@ use Rattle.jr_ast.specs.Tree as tree
 use Rattle.jr_ast.specs.StatementTree as statement
 use Rattle.jr_pieces.specs.Ways.{ExpWay, here, in_front, in_target, in_argument, in_super_argument, in_created, in_paren, in_cast, in_unary, in_bump, in_left, in_right, in_assigned, in_value, in_changed, in_change}
 use Rattle.jr_pieces.specs.Ways.{ExpsWay, first_argument, later_argument, StmtWay, in_init, in_eval, in_condition, in_then, in_else, in_turning, in_body, in_returned, in_block, in_lock, in_locked, ListWay, first, later}
-use Rattle.jr_pieces.specs.Finding.{same_span, onto, here_or, exp_span, stmt_span, is_behind, find_exp, find_exps, find_stmt, find_branches, find_list, exp_end, exps_end, stmt_end, list_end, exp_path, exps_path, stmt_path, list_path}
+use Rattle.jr_pieces.specs.Finding.{same_span, onto, here_or, exp_span, stmt_span, is_behind, find_exp, find_exps, find_stmt, find_list, exp_end, exps_end, stmt_end, list_end, exp_path, exps_path, stmt_path, list_path}
 use Rattle.jr_pieces.specs.Nesting.{Within, ExpNested, PartNested, PartsNested, StmtNested, ListNested, SpansTellWays}
 
 -- ---- tests
@@ -189,56 +189,56 @@ module _ {A : Type 0} (tells : A → ℕ → Span) (f : tree.Exp A) where
   mutual
     exp_done : (e : tree.Exp A) (d : ExpWay f e) (base : ℕ) → (exp_span tells base e).from < (exp_span tells base e).to → ExpNested tells base e
         → ExpDone e d base
-    exp_done e here base o n = record { held = all_held (exp_span tells base e) o; finds = itself e base }
-    exp_done _ (in_front m e w d) base o (w1, n) =
+    exp_done e here base up n = record { held = all_held (exp_span tells base e) up; finds = itself e base }
+    exp_done _ (in_front m e w d) base up (w1, n) =
         goes_in (tells m base).from (exp_end tells (tells m base).from d) (tells m base) (λ s. onto 0 (find_exp tells s (tells m base).from e)) (0 ∷ exp_path d)
         (one_part 0 (tells m base).from (exp_end tells (tells m base).from d) (exp_span tells (tells m base).from e) (tells m base) (λ s. find_exp tells s (tells m base).from e) (exp_path d) w1 (exp_done e d (tells m base).from w1.ordered n))
-    exp_done _ (in_paren m e d) base o (w1, n) =
+    exp_done _ (in_paren m e d) base up (w1, n) =
         goes_in (tells m base).from (exp_end tells (tells m base).from d) (tells m base) (λ s. onto 0 (find_exp tells s (tells m base).from e)) (0 ∷ exp_path d)
         (one_part 0 (tells m base).from (exp_end tells (tells m base).from d) (exp_span tells (tells m base).from e) (tells m base) (λ s. find_exp tells s (tells m base).from e) (exp_path d) w1 (exp_done e d (tells m base).from w1.ordered n))
-    exp_done _ (in_cast m t e d) base o (w1, n) =
+    exp_done _ (in_cast m t e d) base up (w1, n) =
         goes_in (tells m base).from (exp_end tells (tells m base).from d) (tells m base) (λ s. onto 1 (find_exp tells s (tells m base).from e)) (1 ∷ exp_path d)
         (one_part 1 (tells m base).from (exp_end tells (tells m base).from d) (exp_span tells (tells m base).from e) (tells m base) (λ s. find_exp tells s (tells m base).from e) (exp_path d) w1 (exp_done e d (tells m base).from w1.ordered n))
-    exp_done _ (in_unary m o e d) base o (w1, n) =
+    exp_done _ (in_unary m o e d) base up (w1, n) =
         goes_in (tells m base).from (exp_end tells (tells m base).from d) (tells m base) (λ s. onto 0 (find_exp tells s (tells m base).from e)) (0 ∷ exp_path d)
         (one_part 0 (tells m base).from (exp_end tells (tells m base).from d) (exp_span tells (tells m base).from e) (tells m base) (λ s. find_exp tells s (tells m base).from e) (exp_path d) w1 (exp_done e d (tells m base).from w1.ordered n))
-    exp_done _ (in_bump m o e d) base o (w1, n) =
+    exp_done _ (in_bump m o e d) base up (w1, n) =
         goes_in (tells m base).from (exp_end tells (tells m base).from d) (tells m base) (λ s. onto 0 (find_exp tells s (tells m base).from e)) (0 ∷ exp_path d)
         (one_part 0 (tells m base).from (exp_end tells (tells m base).from d) (exp_span tells (tells m base).from e) (tells m base) (λ s. find_exp tells s (tells m base).from e) (exp_path d) w1 (exp_done e d (tells m base).from w1.ordered n))
-    exp_done _ (in_target m e w es d) base o ((w1, n), n2) =
+    exp_done _ (in_target m e w es d) base up ((w1, n), n2) =
         goes_in (tells m base).from (exp_end tells (tells m base).from d) (tells m base) (λ s. if is_behind tells s (exp_span tells (tells m base).from e) then find_exps tells s (tells m base).from 2 es else onto 0 (find_exp tells s (tells m base).from e)) (0 ∷ exp_path d)
         (in_the_first 0 (tells m base).from (exp_end tells (tells m base).from d) (exp_span tells (tells m base).from e) (tells m base) (λ s. find_exp tells s (tells m base).from e) (λ s. find_exps tells s (tells m base).from 2 es) (exp_path d) w1 (exp_done e d (tells m base).from w1.ordered n))
-    exp_done _ (in_left m o l r d) base o ((w1, n), n2) =
+    exp_done _ (in_left m o l r d) base up ((w1, n), n2) =
         goes_in (tells m base).from (exp_end tells (tells m base).from d) (tells m base) (λ s. if is_behind tells s (exp_span tells (tells m base).from l) then onto 1 (find_exp tells s (tells m base).from r) else onto 0 (find_exp tells s (tells m base).from l)) (0 ∷ exp_path d)
         (in_the_first 0 (tells m base).from (exp_end tells (tells m base).from d) (exp_span tells (tells m base).from l) (tells m base) (λ s. find_exp tells s (tells m base).from l) (λ s. onto 1 (find_exp tells s (tells m base).from r)) (exp_path d) w1 (exp_done l d (tells m base).from w1.ordered n))
-    exp_done _ (in_assigned m t e d) base o ((w1, n), n2) =
+    exp_done _ (in_assigned m t e d) base up ((w1, n), n2) =
         goes_in (tells m base).from (exp_end tells (tells m base).from d) (tells m base) (λ s. if is_behind tells s (exp_span tells (tells m base).from t) then onto 1 (find_exp tells s (tells m base).from e) else onto 0 (find_exp tells s (tells m base).from t)) (0 ∷ exp_path d)
         (in_the_first 0 (tells m base).from (exp_end tells (tells m base).from d) (exp_span tells (tells m base).from t) (tells m base) (λ s. find_exp tells s (tells m base).from t) (λ s. onto 1 (find_exp tells s (tells m base).from e)) (exp_path d) w1 (exp_done t d (tells m base).from w1.ordered n))
-    exp_done _ (in_changed m o t e d) base o ((w1, n), n2) =
+    exp_done _ (in_changed m o t e d) base up ((w1, n), n2) =
         goes_in (tells m base).from (exp_end tells (tells m base).from d) (tells m base) (λ s. if is_behind tells s (exp_span tells (tells m base).from t) then onto 1 (find_exp tells s (tells m base).from e) else onto 0 (find_exp tells s (tells m base).from t)) (0 ∷ exp_path d)
         (in_the_first 0 (tells m base).from (exp_end tells (tells m base).from d) (exp_span tells (tells m base).from t) (tells m base) (λ s. find_exp tells s (tells m base).from t) (λ s. onto 1 (find_exp tells s (tells m base).from e)) (exp_path d) w1 (exp_done t d (tells m base).from w1.ordered n))
-    exp_done _ (in_right m o l r d) base o ((w1, n), (w2, n2)) =
+    exp_done _ (in_right m o l r d) base up ((w1, n), (w2, n2)) =
         goes_in (tells m base).from (exp_end tells (tells m base).from d) (tells m base) (λ s. if is_behind tells s (exp_span tells (tells m base).from l) then onto 1 (find_exp tells s (tells m base).from r) else onto 0 (find_exp tells s (tells m base).from l)) (1 ∷ exp_path d)
         (behind_it (tells m base).from (exp_end tells (tells m base).from d) (exp_span tells (tells m base).from l) (tells m base) (λ s. onto 1 (find_exp tells s (tells m base).from r)) (λ s. onto 0 (find_exp tells s (tells m base).from l)) (1 ∷ exp_path d) w1
         (one_part 1 (exp_span tells (tells m base).from l).to (exp_end tells (tells m base).from d) (exp_span tells (tells m base).from r) (tells m base) (λ s. find_exp tells s (tells m base).from r) (exp_path d) w2 (exp_done r d (tells m base).from w2.ordered n2)))
-    exp_done _ (in_value m t e d) base o ((w1, n), (w2, n2)) =
+    exp_done _ (in_value m t e d) base up ((w1, n), (w2, n2)) =
         goes_in (tells m base).from (exp_end tells (tells m base).from d) (tells m base) (λ s. if is_behind tells s (exp_span tells (tells m base).from t) then onto 1 (find_exp tells s (tells m base).from e) else onto 0 (find_exp tells s (tells m base).from t)) (1 ∷ exp_path d)
         (behind_it (tells m base).from (exp_end tells (tells m base).from d) (exp_span tells (tells m base).from t) (tells m base) (λ s. onto 1 (find_exp tells s (tells m base).from e)) (λ s. onto 0 (find_exp tells s (tells m base).from t)) (1 ∷ exp_path d) w1
         (one_part 1 (exp_span tells (tells m base).from t).to (exp_end tells (tells m base).from d) (exp_span tells (tells m base).from e) (tells m base) (λ s. find_exp tells s (tells m base).from e) (exp_path d) w2 (exp_done e d (tells m base).from w2.ordered n2)))
-    exp_done _ (in_change m o t e d) base o ((w1, n), (w2, n2)) =
+    exp_done _ (in_change m o t e d) base up ((w1, n), (w2, n2)) =
         goes_in (tells m base).from (exp_end tells (tells m base).from d) (tells m base) (λ s. if is_behind tells s (exp_span tells (tells m base).from t) then onto 1 (find_exp tells s (tells m base).from e) else onto 0 (find_exp tells s (tells m base).from t)) (1 ∷ exp_path d)
         (behind_it (tells m base).from (exp_end tells (tells m base).from d) (exp_span tells (tells m base).from t) (tells m base) (λ s. onto 1 (find_exp tells s (tells m base).from e)) (λ s. onto 0 (find_exp tells s (tells m base).from t)) (1 ∷ exp_path d) w1
         (one_part 1 (exp_span tells (tells m base).from t).to (exp_end tells (tells m base).from d) (exp_span tells (tells m base).from e) (tells m base) (λ s. find_exp tells s (tells m base).from e) (exp_path d) w2 (exp_done e d (tells m base).from w2.ordered n2)))
-    exp_done _ (in_super_argument m w es d) base o n =
+    exp_done _ (in_super_argument m w es d) base up n =
         goes_in (tells m base).from (exps_end tells (tells m base).from d) (tells m base) (λ s. find_exps tells s (tells m base).from 1 es) (exps_path 1 d)
         (row_done es d (tells m base) (tells m base).from 1 n)
-    exp_done _ (in_created m t es d) base o n =
+    exp_done _ (in_created m t es d) base up n =
         goes_in (tells m base).from (exps_end tells (tells m base).from d) (tells m base) (λ s. find_exps tells s (tells m base).from 1 es) (exps_path 1 d)
         (row_done es d (tells m base) (tells m base).from 1 n)
-    exp_done _ (in_argument m tree.no_target w es d) base o n =
+    exp_done _ (in_argument m tree.no_target w es d) base up n =
         goes_in (tells m base).from (exps_end tells (tells m base).from d) (tells m base) (λ s. find_exps tells s (tells m base).from 1 es) (exps_path 1 d)
         (row_done es d (tells m base) (tells m base).from 1 n)
-    exp_done _ (in_argument m (tree.on e) w es d) base o ((w1, n), n2) =
+    exp_done _ (in_argument m (tree.on e) w es d) base up ((w1, n), n2) =
         goes_in (tells m base).from (exps_end tells (tells m base).from d) (tells m base) (λ s. if is_behind tells s (exp_span tells (tells m base).from e) then find_exps tells s (tells m base).from 2 es else onto 0 (find_exp tells s (tells m base).from e)) (exps_path 2 d)
         (behind_it (tells m base).from (exps_end tells (tells m base).from d) (exp_span tells (tells m base).from e) (tells m base) (λ s. find_exps tells s (tells m base).from 2 es) (λ s. onto 0 (find_exp tells s (tells m base).from e)) (exps_path 2 d) w1
         (row_done es d (tells m base) (exp_span tells (tells m base).from e).to 2 n2))
@@ -278,13 +278,19 @@ module _ {A : Type 0} (tells : A → ℕ → Span) (f : tree.Exp A) where
   behind_condition whole e t Find path (w1, n) a = all_in whole.from t whole _ path
       (behind_it whole.from t (exp_span tells whole.from e) whole Find (λ s. onto 0 (find_exp tells s whole.from e)) path w1 a)
 
+  -- the second statement, where the first ends in front, and else the first
+  abbrev either : (x y : statement.Stmt A) → (base : ℕ) → Span → Option (List ℕ)
+  either x y base s = if is_behind tells s (stmt_span tells base x) then onto 2 (find_stmt tells s base y) else onto 1 (find_stmt tells s base x)
+
   mutual
     stmt_done : (x : statement.Stmt A) (d : StmtWay f x) (base : ℕ) → StmtNested tells base x → StmtDone x d base
     stmt_done _ (in_init m is_final t w e d) base n = in_only 2 (tells m base) e d n
     stmt_done _ (in_eval m e d) base n = in_only 0 (tells m base) e d n
     stmt_done _ (in_returned m e d) base n = in_only 0 (tells m base) e d n
-    stmt_done _ (in_condition m c x o d) base (n1, n2, n3) =
-        in_condition_of (tells m base) c d (λ s. find_branches tells s (tells m base).from x o) n1
+    stmt_done _ (in_condition m c x statement.no_else d) base (n1, n2) =
+        in_condition_of (tells m base) c d (λ s. onto 1 (find_stmt tells s (tells m base).from x)) n1
+    stmt_done _ (in_condition m c x (statement.otherwise y) d) base (n1, n2, n3) =
+        in_condition_of (tells m base) c d (either x y (tells m base).from) n1
     stmt_done _ (in_turning m c x d) base (n1, n2) =
         in_condition_of (tells m base) c d (λ s. onto 1 (find_stmt tells s (tells m base).from x)) n1
     stmt_done _ (in_lock m e b d) base (n1, n2) =
@@ -299,16 +305,16 @@ module _ {A : Type 0} (tells : A → ℕ → Span) (f : tree.Exp A) where
     stmt_done _ (in_block m b d) base n =
         all_in (tells m base).from (list_end tells (tells m base).from d) (tells m base) (λ s. find_list tells s (tells m base).from 0 b) (list_path 0 d)
         (list_done b d (tells m base) (tells m base).from 0 n)
-    stmt_done _ (in_then m c x statement.no_else d) base (n1, (w2, n2), n3) =
+    stmt_done _ (in_then m c x statement.no_else d) base (n1, (w2, n2)) =
         behind_condition (tells m base) c (stmt_end tells (tells m base).from d) (λ s. onto 1 (find_stmt tells s (tells m base).from x)) (1 ∷ stmt_path d) n1
         (one_part 1 (exp_span tells (tells m base).from c).to (stmt_end tells (tells m base).from d) (stmt_span tells (tells m base).from x) (tells m base)
         (λ s. find_stmt tells s (tells m base).from x) (stmt_path d) w2 (stmt_done x d (tells m base).from n2))
     stmt_done _ (in_then m c x (statement.otherwise y) d) base (n1, (w2, n2), n3) =
-        behind_condition (tells m base) c (stmt_end tells (tells m base).from d) (λ s. find_branches tells s (tells m base).from x (statement.otherwise y)) (1 ∷ stmt_path d) n1
+        behind_condition (tells m base) c (stmt_end tells (tells m base).from d) (either x y (tells m base).from) (1 ∷ stmt_path d) n1
         (in_the_first 1 (exp_span tells (tells m base).from c).to (stmt_end tells (tells m base).from d) (stmt_span tells (tells m base).from x) (tells m base)
         (λ s. find_stmt tells s (tells m base).from x) (λ s. onto 2 (find_stmt tells s (tells m base).from y)) (stmt_path d) w2 (stmt_done x d (tells m base).from n2))
     stmt_done _ (in_else m c x y d) base (n1, (w2, n2), (w3, n3)) =
-        behind_condition (tells m base) c (stmt_end tells (tells m base).from d) (λ s. find_branches tells s (tells m base).from x (statement.otherwise y)) (2 ∷ stmt_path d) n1
+        behind_condition (tells m base) c (stmt_end tells (tells m base).from d) (either x y (tells m base).from) (2 ∷ stmt_path d) n1
         (behind_it (exp_span tells (tells m base).from c).to (stmt_end tells (tells m base).from d) (stmt_span tells (tells m base).from x) (tells m base)
         (λ s. onto 2 (find_stmt tells s (tells m base).from y)) (λ s. onto 1 (find_stmt tells s (tells m base).from x)) (2 ∷ stmt_path d) w2
         (one_part 2 (stmt_span tells (tells m base).from x).to (stmt_end tells (tells m base).from d) (stmt_span tells (tells m base).from y) (tells m base)

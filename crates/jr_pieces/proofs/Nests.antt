@@ -6,11 +6,11 @@ use Rattle.jr_ast.specs.Tree as tree
 use Rattle.jr_ast.specs.StatementTree as statement
 use Rattle.jr_grammar.specs.Tokens.{Token, Placed}
 use Rattle.jr_grammar.specs.Layout.{spans_from}
-use Rattle.jr_grammar.specs.ExpressionLayout.{exp_layout, target_layout, args_layout, more_args_layout}
-use Rattle.jr_grammar.specs.StatementLayout.{stmt_layout, else_layout, stmts_layout}
+use Rattle.jr_grammar.specs.ExpressionLayout.{exp_layout, args_layout, more_args_layout}
+use Rattle.jr_grammar.specs.StatementLayout.{stmt_layout, stmts_layout}
 use Rattle.jr_grammar.specs.Stands.{Tokens, first_from, last_to, span_of, IsAlone, InOrder, IsNode, Stands}
 use Rattle.jr_pieces.specs.Finding.{exp_span, stmt_span}
-use Rattle.jr_pieces.specs.Nesting.{Within, ExpNested, PartNested, PartsNested, StmtNested, StepNested, ElseNested, ListNested, Rising, end_from, StandingListsAreNested}
+use Rattle.jr_pieces.specs.Nesting.{Within, ExpNested, PartNested, PartsNested, StmtNested, StepNested, ListNested, Rising, end_from, StandingListsAreNested}
 use Rattle.jr_pieces.proofs.Finds.{from_earlier}
 
 -- ---- runs of tokens
@@ -393,19 +393,30 @@ module _ {A : Type 0} (tells : A → ℕ → Span) where
           stmt_past (tells m base) lo4 x p4.rest room4 (exp_span tells (tells m base).from c).to (omega (arith, exp_to (tells m base) lo2 c p3 room2, rises lo3 p4.front (front_room p4 (tells m base) lo3 room3).rising)) (past_token p4 (tells m base) lo3 room3)
               (stmt_nested x (tells m base).from lo4 p4.rest.front p4.rest.first (front_room p4.rest (tells m base) lo4 room4).rising),
         )
-    stmt_nested (statement.branch m c x o) base lo ps h r =
-        let room = whole_room (tells m base) lo ps h.mark (stmt_run (statement.branch m c x o) base ps h).has r in
+    stmt_nested (statement.branch m c x statement.no_else) base lo ps h r =
+        let room = whole_room (tells m base) lo ps h.mark (stmt_run (statement.branch m c x statement.no_else) base ps h).has r in
+        let p1 = h.parts in let lo1 = end_from (tells m base).from p1.front in let room1 = back_room p1 (tells m base) (tells m base).from room in
+        let p2 = p1.rest in let lo2 = end_from lo1 p2.front in let room2 = back_room p2 (tells m base) lo1 room1 in
+        let p3 = p2.rest in let lo3 = end_from lo2 p3.front in let room3 = back_room p3 (tells m base) lo2 room2 in
+        let p4 = p3.rest in let lo4 = end_from lo3 p4.front in let room4 = back_room p4 (tells m base) lo3 room3 in
+        let p5 = p4.rest in (
+          exp_past (tells m base) lo2 c p3 room2 (tells m base).from room2.low (past_token p2 (tells m base) lo1 room1) (exp_nested c (tells m base).from lo2 p3.front p3.first (front_room p3 (tells m base) lo2 room2).rising),
+          stmt_past (tells m base) lo4 x p5 room4 (exp_span tells (tells m base).from c).to (omega (arith, exp_to (tells m base) lo2 c p3 room2, rises lo3 p4.front (front_room p4 (tells m base) lo3 room3).rising)) (past_token p4 (tells m base) lo3 room3)
+              (stmt_nested x (tells m base).from lo4 p5.front p5.first (front_room p5 (tells m base) lo4 room4).rising),
+        )
+    stmt_nested (statement.branch m c x (statement.otherwise y)) base lo ps h r =
+        let room = whole_room (tells m base) lo ps h.mark (stmt_run (statement.branch m c x (statement.otherwise y)) base ps h).has r in
         let p1 = h.parts in let lo1 = end_from (tells m base).from p1.front in let room1 = back_room p1 (tells m base) (tells m base).from room in
         let p2 = p1.rest in let lo2 = end_from lo1 p2.front in let room2 = back_room p2 (tells m base) lo1 room1 in
         let p3 = p2.rest in let lo3 = end_from lo2 p3.front in let room3 = back_room p3 (tells m base) lo2 room2 in
         let p4 = p3.rest in let lo4 = end_from lo3 p4.front in let room4 = back_room p4 (tells m base) lo3 room3 in
         let p5 = p4.rest in let lo5 = end_from lo4 p5.front in let room5 = back_room p5 (tells m base) lo4 room4 in
-        let past2 = past_token p2 (tells m base) lo1 room1 in (
-          exp_past (tells m base) lo2 c p3 room2 (tells m base).from room2.low past2 (exp_nested c (tells m base).from lo2 p3.front p3.first (front_room p3 (tells m base) lo2 room2).rising),
+        let p6 = p5.rest.first in let room6 = front_room p5.rest (tells m base) lo5 room5 in let lo6 = end_from lo5 p6.front in let room7 = back_room p6 (tells m base) lo5 room6 in (
+          exp_past (tells m base) lo2 c p3 room2 (tells m base).from room2.low (past_token p2 (tells m base) lo1 room1) (exp_nested c (tells m base).from lo2 p3.front p3.first (front_room p3 (tells m base) lo2 room2).rising),
           stmt_past (tells m base) lo4 x p5 room4 (exp_span tells (tells m base).from c).to (omega (arith, exp_to (tells m base) lo2 c p3 room2, rises lo3 p4.front (front_room p4 (tells m base) lo3 room3).rising)) (past_token p4 (tells m base) lo3 room3)
               (stmt_nested x (tells m base).from lo4 p5.front p5.first (front_room p5 (tells m base) lo4 room4).rising),
-          subst (λ (n : ℕ). ElseNested tells (tells m base) n o) (sym (stmt_to (tells m base) lo4 x p5 room4))
-              (else_nested o (tells m base) lo5 p5.rest.front p5.rest.first (still_past p5 (tells m base) lo4 room4 (past_token p4 (tells m base) lo3 room3)) (front_room p5.rest (tells m base) lo5 room5)),
+          stmt_past (tells m base) lo6 y p6.rest room7 (stmt_span tells (tells m base).from x).to (omega (arith, stmt_to (tells m base) lo4 x p5 room4, rises lo5 p6.front (front_room p6 (tells m base) lo5 room6).rising)) (past_token p6 (tells m base) lo5 room6)
+              (stmt_nested y (tells m base).from lo6 p6.rest.front p6.rest.first (front_room p6.rest (tells m base) lo6 room7).rising),
         )
     stmt_nested (statement.block m b) base lo ps h r =
         let room = whole_room (tells m base) lo ps h.mark (stmt_run (statement.block m b) base ps h).has r in
@@ -422,14 +433,6 @@ module _ {A : Type 0} (tells : A → ℕ → Span) where
           list_from_earlier (tells m base) (exp_span tells (tells m base).from e).to lo5 b (omega (arith, exp_to (tells m base) lo2 e p3 room2, rises lo3 p4.front (front_room p4 (tells m base) lo3 room3).rising, rises lo4 p5.front (front_room p5 (tells m base) lo4 room4).rising))
               (list_nested b (tells m base) lo5 p5.rest.front p5.rest.first (past_token p5 (tells m base) lo4 room4) (front_room p5.rest (tells m base) lo5 room5)),
         )
-
-    else_nested : (o : statement.Else A) (whole : Span) (lo : ℕ) (ps : Tokens) → Stands (spans_from tells whole.from (else_layout o)) ps
-        → whole.from < lo → Room whole lo ps → ElseNested tells whole lo o
-    else_nested statement.no_else whole lo ps h p room = tt
-    else_nested (statement.otherwise x) whole lo ps h p room =
-        let lo1 = end_from lo h.front in let room1 = back_room h whole lo room in
-        stmt_past whole lo1 x h.rest room1 lo (rises lo h.front (front_room h whole lo room).rising) (still_past h whole lo room p)
-        (stmt_nested x whole.from lo1 h.rest.front h.rest.first (front_room h.rest whole lo1 room1).rising)
 
     list_nested : (b : statement.Stmts A) (whole : Span) (lo : ℕ) (ps : Tokens) → Stands (spans_from tells whole.from (stmts_layout b)) ps
         → whole.from < lo → Room whole lo ps → ListNested tells whole lo b

@@ -120,17 +120,15 @@ module _ {A : Type 0} (tells : A → ℕ → Span) (s : Span) where
         here_or (is_here m base) (onto 0 (find_exp (tells m base).from e))
     find_exp base (tree.bump m o e) =
         here_or (is_here m base) (onto 0 (find_exp (tells m base).from e))
-    find_exp base (tree.binary m o l r) =
-        here_or (is_here m base) (find_two (tells m base).from l r)
-    find_exp base (tree.assign m l r) =
-        here_or (is_here m base) (find_two (tells m base).from l r)
-    find_exp base (tree.compound m o l r) =
-        here_or (is_here m base) (find_two (tells m base).from l r)
-
-    -- two operands
-    pub find_two : (base : ℕ) → (l r : tree.Exp A) → Option (List ℕ)
-    find_two base l r = if is_behind tells s (exp_span tells base l) then onto 1 (find_exp base r)
-        else onto 0 (find_exp base l)
+    find_exp base (tree.binary m o l r) = here_or (is_here m base)
+        (if is_behind tells s (exp_span tells (tells m base).from l)
+        then onto 1 (find_exp (tells m base).from r) else onto 0 (find_exp (tells m base).from l))
+    find_exp base (tree.assign m l r) = here_or (is_here m base)
+        (if is_behind tells s (exp_span tells (tells m base).from l)
+        then onto 1 (find_exp (tells m base).from r) else onto 0 (find_exp (tells m base).from l))
+    find_exp base (tree.compound m o l r) = here_or (is_here m base)
+        (if is_behind tells s (exp_span tells (tells m base).from l)
+        then onto 1 (find_exp (tells m base).from r) else onto 0 (find_exp (tells m base).from l))
 
     -- arguments, which have numbers from this one on
     pub find_exps : (base : ℕ) → (first : ℕ) → tree.Exps A → Option (List ℕ)
@@ -142,9 +140,14 @@ module _ {A : Type 0} (tells : A → ℕ → Span) (s : Span) where
     pub find_stmt : (base : ℕ) → statement.Stmt A → Option (List ℕ)
     find_stmt base (statement.local m is_final t w e) = onto 2 (find_exp (tells m base).from e)
     find_stmt base (statement.eval m e) = onto 0 (find_exp (tells m base).from e)
-    find_stmt base (statement.branch m c x o) =
+    find_stmt base (statement.branch m c x statement.no_else) =
         if is_behind tells s (exp_span tells (tells m base).from c)
-        then find_branches (tells m base).from x o else onto 0 (find_exp (tells m base).from c)
+        then onto 1 (find_stmt (tells m base).from x) else onto 0 (find_exp (tells m base).from c)
+    find_stmt base (statement.branch m c x (statement.otherwise y)) =
+        if is_behind tells s (exp_span tells (tells m base).from c)
+        then (if is_behind tells s (stmt_span tells (tells m base).from x)
+        then onto 2 (find_stmt (tells m base).from y) else onto 1 (find_stmt (tells m base).from x))
+        else onto 0 (find_exp (tells m base).from c)
     find_stmt base (statement.loop m c x) =
         if is_behind tells s (exp_span tells (tells m base).from c)
         then onto 1 (find_stmt (tells m base).from x)
@@ -156,11 +159,6 @@ module _ {A : Type 0} (tells : A → ℕ → Span) (s : Span) where
         if is_behind tells s (exp_span tells (tells m base).from e)
         then find_list (tells m base).from 1 b else onto 0 (find_exp (tells m base).from e)
     find_stmt base (statement.empty m) = None
-
-    pub find_branches : (base : ℕ) → statement.Stmt A → statement.Else A → Option (List ℕ)
-    find_branches base x statement.no_else = onto 1 (find_stmt base x)
-    find_branches base x (statement.otherwise y) = if is_behind tells s (stmt_span tells base x)
-        then onto 2 (find_stmt base y) else onto 1 (find_stmt base x)
 
     -- statements, which have numbers from this one on
     pub find_list : (base : ℕ) → (first : ℕ) → statement.Stmts A → Option (List ℕ)

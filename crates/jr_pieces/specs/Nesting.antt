@@ -23,21 +23,34 @@ pub record Within (lo : ℕ) (part whole : Span) : Type 0 where
 module _ {A : Type 0} (tells : A → ℕ → Span) where
   abbrev mutual
     pub ExpNested : (base : ℕ) → tree.Exp A → Type 0
-    ExpNested base (tree.field m e w) = PartNested (tells m base) (tells m base).from e
-    ExpNested base (tree.call m tree.no_target w es) =
-        PartsNested (tells m base) (tells m base).from es
+    ExpNested base (tree.field m e w) =
+        (Within (tells m base).from (exp_span tells (tells m base).from e) (tells m base) × ExpNested (tells m base).from e)
+    ExpNested base (tree.paren m e) =
+        (Within (tells m base).from (exp_span tells (tells m base).from e) (tells m base) × ExpNested (tells m base).from e)
+    ExpNested base (tree.cast m t e) =
+        (Within (tells m base).from (exp_span tells (tells m base).from e) (tells m base) × ExpNested (tells m base).from e)
+    ExpNested base (tree.unary m o e) =
+        (Within (tells m base).from (exp_span tells (tells m base).from e) (tells m base) × ExpNested (tells m base).from e)
+    ExpNested base (tree.bump m o e) =
+        (Within (tells m base).from (exp_span tells (tells m base).from e) (tells m base) × ExpNested (tells m base).from e)
+    ExpNested base (tree.call m tree.no_target w es) = PartsNested (tells m base) (tells m base).from es
     ExpNested base (tree.call m (tree.on e) w es) =
-        PartNested (tells m base) (tells m base).from e
+        (Within (tells m base).from (exp_span tells (tells m base).from e) (tells m base) × ExpNested (tells m base).from e)
         × PartsNested (tells m base) (exp_span tells (tells m base).from e).to es
     ExpNested base (tree.super_call m w es) = PartsNested (tells m base) (tells m base).from es
     ExpNested base (tree.create m t es) = PartsNested (tells m base) (tells m base).from es
-    ExpNested base (tree.paren m e) = PartNested (tells m base) (tells m base).from e
-    ExpNested base (tree.cast m t e) = PartNested (tells m base) (tells m base).from e
-    ExpNested base (tree.unary m o e) = PartNested (tells m base) (tells m base).from e
-    ExpNested base (tree.bump m o e) = PartNested (tells m base) (tells m base).from e
-    ExpNested base (tree.binary m o l r) = TwoNested (tells m base) l r
-    ExpNested base (tree.assign m l r) = TwoNested (tells m base) l r
-    ExpNested base (tree.compound m o l r) = TwoNested (tells m base) l r
+    ExpNested base (tree.binary m o l r) =
+        (Within (tells m base).from (exp_span tells (tells m base).from l) (tells m base) × ExpNested (tells m base).from l)
+        × (Within (exp_span tells (tells m base).from l).to (exp_span tells (tells m base).from r) (tells m base)
+        × ExpNested (tells m base).from r)
+    ExpNested base (tree.assign m l r) =
+        (Within (tells m base).from (exp_span tells (tells m base).from l) (tells m base) × ExpNested (tells m base).from l)
+        × (Within (exp_span tells (tells m base).from l).to (exp_span tells (tells m base).from r) (tells m base)
+        × ExpNested (tells m base).from r)
+    ExpNested base (tree.compound m o l r) =
+        (Within (tells m base).from (exp_span tells (tells m base).from l) (tells m base) × ExpNested (tells m base).from l)
+        × (Within (exp_span tells (tells m base).from l).to (exp_span tells (tells m base).from r) (tells m base)
+        × ExpNested (tells m base).from r)
     ExpNested base (tree.number m n) = Unit {0}
     ExpNested base (tree.truth m b) = Unit {0}
     ExpNested base (tree.null m) = Unit {0}
@@ -47,48 +60,44 @@ module _ {A : Type 0} (tells : A → ℕ → Span) where
     ExpNested base (tree.this m) = Unit {0}
     ExpNested base (tree.class_literal m t) = Unit {0}
 
-    -- an expression that begins at the place or later
-    pub PartNested : (whole : Span) → (lo : ℕ) → tree.Exp A → Type 0
-    PartNested s lo e = Within lo (exp_span tells s.from e) s × ExpNested s.from e
-
-    pub TwoNested : (whole : Span) → (l r : tree.Exp A) → Type 0
-    TwoNested s l r = PartNested s s.from l × PartNested s (exp_span tells s.from l).to r
-
+    -- arguments, the first of which begins at the place or later
     pub PartsNested : (whole : Span) → (lo : ℕ) → tree.Exps A → Type 0
     PartsNested s lo tree.end = Unit {0}
     PartsNested s lo (tree.more e es) =
-        PartNested s lo e × PartsNested s (exp_span tells s.from e).to es
+        (Within lo (exp_span tells s.from e) s × ExpNested s.from e)
+        × PartsNested s (exp_span tells s.from e).to es
+
+  -- an expression that begins at the place or later
+  abbrev pub PartNested : (whole : Span) → (lo : ℕ) → tree.Exp A → Type 0
+  PartNested s lo e = Within lo (exp_span tells s.from e) s × ExpNested s.from e
 
   abbrev mutual
     pub StmtNested : (base : ℕ) → statement.Stmt A → Type 0
-    StmtNested base (statement.local m is_final t w e) =
-        PartNested (tells m base) (tells m base).from e
+    StmtNested base (statement.local m is_final t w e) = PartNested (tells m base) (tells m base).from e
     StmtNested base (statement.eval m e) = PartNested (tells m base) (tells m base).from e
-    StmtNested base (statement.branch m c x o) = PartNested (tells m base) (tells m base).from c
-        × StepNested (tells m base) (exp_span tells (tells m base).from c).to x
-        × ElseNested (tells m base) (stmt_span tells (tells m base).from x).to o
+    StmtNested base (statement.branch m c x statement.no_else) = PartNested (tells m base) (tells m base).from c
+        × (Within (exp_span tells (tells m base).from c).to (stmt_span tells (tells m base).from x) (tells m base) × StmtNested (tells m base).from x)
+    StmtNested base (statement.branch m c x (statement.otherwise y)) = PartNested (tells m base) (tells m base).from c
+        × (Within (exp_span tells (tells m base).from c).to (stmt_span tells (tells m base).from x) (tells m base) × StmtNested (tells m base).from x)
+        × (Within (stmt_span tells (tells m base).from x).to (stmt_span tells (tells m base).from y) (tells m base) × StmtNested (tells m base).from y)
     StmtNested base (statement.loop m c x) = PartNested (tells m base) (tells m base).from c
-        × StepNested (tells m base) (exp_span tells (tells m base).from c).to x
+        × (Within (exp_span tells (tells m base).from c).to (stmt_span tells (tells m base).from x) (tells m base) × StmtNested (tells m base).from x)
     StmtNested base (statement.return m None) = Unit {0}
-    StmtNested base (statement.return m (Some e)) =
-        PartNested (tells m base) (tells m base).from e
+    StmtNested base (statement.return m (Some e)) = PartNested (tells m base) (tells m base).from e
     StmtNested base (statement.block m b) = ListNested (tells m base) (tells m base).from b
     StmtNested base (statement.sync m e b) = PartNested (tells m base) (tells m base).from e
         × ListNested (tells m base) (exp_span tells (tells m base).from e).to b
     StmtNested base (statement.empty m) = Unit {0}
 
-    -- a statement that begins at the place or later
-    pub StepNested : (whole : Span) → (lo : ℕ) → statement.Stmt A → Type 0
-    StepNested s lo x = Within lo (stmt_span tells s.from x) s × StmtNested s.from x
-
-    pub ElseNested : (whole : Span) → (lo : ℕ) → statement.Else A → Type 0
-    ElseNested s lo statement.no_else = Unit {0}
-    ElseNested s lo (statement.otherwise x) = StepNested s lo x
-
     pub ListNested : (whole : Span) → (lo : ℕ) → statement.Stmts A → Type 0
     ListNested s lo statement.end = Unit {0}
     ListNested s lo (statement.more x xs) =
-        StepNested s lo x × ListNested s (stmt_span tells s.from x).to xs
+        (Within lo (stmt_span tells s.from x) s × StmtNested s.from x)
+        × ListNested s (stmt_span tells s.from x).to xs
+
+  -- a statement that begins at the place or later
+  abbrev pub StepNested : (whole : Span) → (lo : ℕ) → statement.Stmt A → Type 0
+  StepNested s lo x = Within lo (stmt_span tells s.from x) s × StmtNested s.from x
 
 -- ---- the law
 
