@@ -300,7 +300,7 @@ module _ {A : Type 0} (tells : A → ℕ → Span) where
         let p2 = p1.rest in let lo2 = end_from lo1 p2.front in let room2 = back_room p2 (tells m base) lo1 room1 in
         let p3 = p2.rest in let lo3 = end_from lo2 p3.front in let room3 = back_room p3 (tells m base) lo2 room2 in
         let t1 = p1.first in let inner = front_room p1 (tells m base) (tells m base).from room in
-        let early = omega (
+        let early : (exp_span tells (tells m base).from e).to ≤ lo3 = omega (
           arith,
           exp_to (tells m base) (tells m base).from e t1 inner,
           rises (end_from (tells m base).from t1.front) t1.back (back_room t1 (tells m base) (tells m base).from inner).rising,
