@@ -74,7 +74,7 @@ use Rattle.jr_local.specs.Selecting.{Selected, element, RefusesExtract, IsFree}
 -- A class is a made reference, asked by its name.
 abbrev pub WritesClass : List Row → Region Span → (s : Context) → (at : ℕ) → Ty → Choice → Type 0
 WritesClass rows R c at (class k) h = TakenChoice begins rows R (there begins rows R c) at k.name
-    k.name (class_decl k) (class_decl k) (reference begins rows R ref.ClassName k.name None [])
+    k.name (class_decl k) (class_decl k) (reference ref.ClassName k.name None [])
     (FindsTypeNamed (R.seen.images.rows) (there begins rows R c) k.name) h
 WritesClass rows R c at _ h = ⊥
 
