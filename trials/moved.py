@@ -45,7 +45,8 @@ def main():
             count += 1
             if got != (reply, stores):
                 different += 1
-                print("%s\n%s\n%s\n  got    %s\n  wanted %s" % (note, step, files, got, (reply, stores)))
+                told = (note, step, files, got, (reply, stores))
+                print("%s\n%s\n%s\n  got    %s\n  wanted %s" % told)
         print("%s: %d cases, %d differ" % (path, count, different))
 
 

@@ -1,5 +1,5 @@
-"""References where a local comes or goes: how each is spelled in the new program, and what is copied
-or moved with them (JLS 6.3, 6.4)."""
+"""References where a local comes or goes: how each is spelled in the new program, and what is
+copied or moved with them (JLS 6.3, 6.4)."""
 import copy
 
 from .binding import Binding

@@ -1,5 +1,5 @@
--- What extract local makes of a program: a spot in the list of S, in which the declaration is put in
--- front of S, and a spot in S, in which the name takes the place of E.
+-- What extract local makes of a program: a spot in the list of S, in which the declaration is put
+-- in front of S, and a spot in S, in which the name takes the place of E.
 use Rattle.std.specs.Prelude.{
   ◌≡◌,
   ◌⊎◌,
@@ -128,7 +128,8 @@ module _ (p : Program Span) (file from to : ℕ) (name : List ℕ) (x : Selected
   abbrev pub named : List Item → Rewritten (tree.Exp Span)
   named items = record {
     tree = name_tree;
-    changes = change (exp_mark x.value) (spaced items (exp_mark x.value) (word name ∷ []) name) ∷ [];
+    changes = change (exp_mark x.value)
+        (spaced items (exp_mark x.value) (word name ∷ []) name) ∷ [];
     respelled = 0;
     losses = [];
   }
@@ -152,7 +153,8 @@ module _ (p : Program Span) (file from to : ℕ) (name : List ℕ) (x : Selected
 
   -- What is put, of a text with these items, with this type: E with its own changes and the gap;
   -- what S and the statements behind it become; and the whole.
-  pub record Puts (text : List ℕ) (items : List Item) (type : Rewritten (tree.TypeName Span)) (n : ℕ) (c : Context) (base : ℕ)
+  pub record Puts (text : List ℕ) (items : List Item) (type : Rewritten (tree.TypeName Span))
+      (n : ℕ) (c : Context) (base : ℕ)
       (s : statement.Stmt Span) (ss : statement.Stmts Span)
       (o : Rewritten (statement.Stmts Span)) : Type 0 where
     pub piece : Rewritten (tree.Exp Span)
@@ -238,8 +240,8 @@ module _ (p : Program Span) (file from to : ℕ) (name : List ℕ) where
       f.made.type.losses
 
   module _ (X : Known RunKeys Span) (kinds : FieldKey → FieldKind) where
-    -- 18: "`crossing(before, moved)` isn't None, where `before` lists the sites of S evaluated before
-    -- E, and `moved` those of E"
+    -- 18: "`crossing(before, moved)` isn't None, where `before` lists the sites of S evaluated
+    -- before E, and `moved` those of E"
     abbrev pub Crosses : Selected p file from to → DepKind → (first second : SiteAt) → Type 0
     Crosses x = Crossed kinds file x.body.key (stmt_before X (element x).way)
         (sites_of (exp_way X x.value))

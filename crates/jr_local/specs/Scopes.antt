@@ -184,8 +184,8 @@ module _ (rows : List Row) (t : LocalKey) (type : Ty) where
   later_there c = filter (λ (l : ScopeLocal). is_from t.member t.number l.key)
       (without_seen.scope c).locals
 
-  -- "the copied ones in the scope of the read": what E names, seen from there. In the initializer of
-  -- t no local is in scope but those in front of t, and t.
+  -- "the copied ones in the scope of the read": what E names, seen from there. In the initializer
+  -- of t no local is in scope but those in front of t, and t.
   abbrev pub in_copy : (read : Context) → Region Span
   in_copy read = plain_region (seen_with rows (earlier rows t [] type) (later_there read)
       (λ k b. without_seen.HasClass read k b))

@@ -68,8 +68,8 @@ module _ {p : Program Span} {file from to : ℕ} (x : Selected p file from to) w
   bar = stmt_barred begins element.at.base None element.way
 
   -- "A name is taken at a statement if a local or parameter of that name is in scope there, or is
-  -- declared by that statement or later in the same list, nested lists included." Those in question,
-  -- in text order.
+  -- declared by that statement or later in the same list, nested lists included." Those in
+  -- question, in text order.
   abbrev pub in_question : List ScopeLocal
   in_question = (scope_of element.at.context).locals
       ++ declared_in_list x.body.key element.at.next held_list

@@ -1,5 +1,5 @@
--- Spaces between neighbours: "where an inserted text and the byte beside it would not be read as the
--- tokens of both, one space stands between them."
+-- Spaces between neighbours: "where an inserted text and the byte beside it would not be read as
+-- the tokens of both, one space stands between them."
 use Rattle.std.specs.Prelude.{
   ℕ,
   Bool,

@@ -253,3 +253,18 @@ module _ {A : Type 0} {f : tree.Exp A} where
     pub list_path : {b : statement.Stmts A} → (first : ℕ) → ListWay f b → List ℕ
     list_path i (first x xs d) = i ∷ stmt_path d
     list_path i (later x xs d) = list_path (suc i) d
+
+-- ---- the law
+
+-- the way of this path leads to an expression of the span
+pub record LeadsTo {A : Type 0} (tells : A → ℕ → Span) (base first : ℕ) (b : statement.Stmts A)
+    (s : Span) (path : List ℕ) : Type 0 where
+  pub at : tree.Exp A
+  pub way : ListWay at b
+  pub span : list_end tells base way ≡ s
+  pub is : list_path first way ≡ path
+
+abbrev pub WhatIsFoundHasAWay : (A : Type 0) → Type 0
+WhatIsFoundHasAWay A = (tells : A → ℕ → Span) (s : Span) (base first : ℕ) (b : statement.Stmts A)
+    (path : List ℕ) → find_list tells s base first b ≡ Some path
+    → LeadsTo tells base first b s path

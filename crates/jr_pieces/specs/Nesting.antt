@@ -24,32 +24,45 @@ module _ {A : Type 0} (tells : A → ℕ → Span) where
   abbrev mutual
     pub ExpNested : (base : ℕ) → tree.Exp A → Type 0
     ExpNested base (tree.field m e w) =
-        (Within (tells m base).from (exp_span tells (tells m base).from e) (tells m base) × ExpNested (tells m base).from e)
+        (Within (tells m base).from (exp_span tells (tells m base).from e) (tells m base)
+        × ExpNested (tells m base).from e)
     ExpNested base (tree.paren m e) =
-        (Within (tells m base).from (exp_span tells (tells m base).from e) (tells m base) × ExpNested (tells m base).from e)
+        (Within (tells m base).from (exp_span tells (tells m base).from e) (tells m base)
+        × ExpNested (tells m base).from e)
     ExpNested base (tree.cast m t e) =
-        (Within (tells m base).from (exp_span tells (tells m base).from e) (tells m base) × ExpNested (tells m base).from e)
+        (Within (tells m base).from (exp_span tells (tells m base).from e) (tells m base)
+        × ExpNested (tells m base).from e)
     ExpNested base (tree.unary m o e) =
-        (Within (tells m base).from (exp_span tells (tells m base).from e) (tells m base) × ExpNested (tells m base).from e)
+        (Within (tells m base).from (exp_span tells (tells m base).from e) (tells m base)
+        × ExpNested (tells m base).from e)
     ExpNested base (tree.bump m o e) =
-        (Within (tells m base).from (exp_span tells (tells m base).from e) (tells m base) × ExpNested (tells m base).from e)
-    ExpNested base (tree.call m tree.no_target w es) = PartsNested (tells m base) (tells m base).from es
+        (Within (tells m base).from (exp_span tells (tells m base).from e) (tells m base)
+        × ExpNested (tells m base).from e)
+    ExpNested base (tree.call m tree.no_target w es) =
+        PartsNested (tells m base) (tells m base).from es
     ExpNested base (tree.call m (tree.on e) w es) =
-        (Within (tells m base).from (exp_span tells (tells m base).from e) (tells m base) × ExpNested (tells m base).from e)
+        (Within (tells m base).from (exp_span tells (tells m base).from e) (tells m base)
+        × ExpNested (tells m base).from e)
         × PartsNested (tells m base) (exp_span tells (tells m base).from e).to es
     ExpNested base (tree.super_call m w es) = PartsNested (tells m base) (tells m base).from es
     ExpNested base (tree.create m t es) = PartsNested (tells m base) (tells m base).from es
     ExpNested base (tree.binary m o l r) =
-        (Within (tells m base).from (exp_span tells (tells m base).from l) (tells m base) × ExpNested (tells m base).from l)
-        × (Within (exp_span tells (tells m base).from l).to (exp_span tells (tells m base).from r) (tells m base)
+        (Within (tells m base).from (exp_span tells (tells m base).from l) (tells m base)
+        × ExpNested (tells m base).from l)
+        × (Within (exp_span tells (tells m base).from l).to
+        (exp_span tells (tells m base).from r) (tells m base)
         × ExpNested (tells m base).from r)
     ExpNested base (tree.assign m l r) =
-        (Within (tells m base).from (exp_span tells (tells m base).from l) (tells m base) × ExpNested (tells m base).from l)
-        × (Within (exp_span tells (tells m base).from l).to (exp_span tells (tells m base).from r) (tells m base)
+        (Within (tells m base).from (exp_span tells (tells m base).from l) (tells m base)
+        × ExpNested (tells m base).from l)
+        × (Within (exp_span tells (tells m base).from l).to
+        (exp_span tells (tells m base).from r) (tells m base)
         × ExpNested (tells m base).from r)
     ExpNested base (tree.compound m o l r) =
-        (Within (tells m base).from (exp_span tells (tells m base).from l) (tells m base) × ExpNested (tells m base).from l)
-        × (Within (exp_span tells (tells m base).from l).to (exp_span tells (tells m base).from r) (tells m base)
+        (Within (tells m base).from (exp_span tells (tells m base).from l) (tells m base)
+        × ExpNested (tells m base).from l)
+        × (Within (exp_span tells (tells m base).from l).to
+        (exp_span tells (tells m base).from r) (tells m base)
         × ExpNested (tells m base).from r)
     ExpNested base (tree.number m n) = Unit {0}
     ExpNested base (tree.truth m b) = Unit {0}
@@ -73,15 +86,26 @@ module _ {A : Type 0} (tells : A → ℕ → Span) where
 
   abbrev mutual
     pub StmtNested : (base : ℕ) → statement.Stmt A → Type 0
-    StmtNested base (statement.local m is_final t w e) = PartNested (tells m base) (tells m base).from e
+    StmtNested base (statement.local m is_final t w e) =
+        PartNested (tells m base) (tells m base).from e
     StmtNested base (statement.eval m e) = PartNested (tells m base) (tells m base).from e
-    StmtNested base (statement.branch m c x statement.no_else) = PartNested (tells m base) (tells m base).from c
-        × (Within (exp_span tells (tells m base).from c).to (stmt_span tells (tells m base).from x) (tells m base) × StmtNested (tells m base).from x)
-    StmtNested base (statement.branch m c x (statement.otherwise y)) = PartNested (tells m base) (tells m base).from c
-        × (Within (exp_span tells (tells m base).from c).to (stmt_span tells (tells m base).from x) (tells m base) × StmtNested (tells m base).from x)
-        × (Within (stmt_span tells (tells m base).from x).to (stmt_span tells (tells m base).from y) (tells m base) × StmtNested (tells m base).from y)
+    StmtNested base (statement.branch m c x statement.no_else) =
+        PartNested (tells m base) (tells m base).from c
+        × (Within (exp_span tells (tells m base).from c).to
+        (stmt_span tells (tells m base).from x) (tells m base)
+        × StmtNested (tells m base).from x)
+    StmtNested base (statement.branch m c x (statement.otherwise y)) =
+        PartNested (tells m base) (tells m base).from c
+        × (Within (exp_span tells (tells m base).from c).to
+        (stmt_span tells (tells m base).from x) (tells m base)
+        × StmtNested (tells m base).from x)
+        × (Within (stmt_span tells (tells m base).from x).to
+        (stmt_span tells (tells m base).from y) (tells m base)
+        × StmtNested (tells m base).from y)
     StmtNested base (statement.loop m c x) = PartNested (tells m base) (tells m base).from c
-        × (Within (exp_span tells (tells m base).from c).to (stmt_span tells (tells m base).from x) (tells m base) × StmtNested (tells m base).from x)
+        × (Within (exp_span tells (tells m base).from c).to
+        (stmt_span tells (tells m base).from x) (tells m base)
+        × StmtNested (tells m base).from x)
     StmtNested base (statement.return m None) = Unit {0}
     StmtNested base (statement.return m (Some e)) = PartNested (tells m base) (tells m base).from e
     StmtNested base (statement.block m b) = ListNested (tells m base) (tells m base).from b
@@ -121,7 +145,8 @@ abbrev pub end_from : ℕ → Tokens → ℕ
 end_from lo [] = lo
 end_from lo (p ∷ ps) = end_from p.mark.to ps
 
--- Where a list stands in such tokens, within a node and behind its first byte, its spans are nested.
+-- Where a list stands in such tokens, within a node and behind its first byte, its spans are
+-- nested.
 abbrev pub StandingListsAreNested : (A : Type 0) → Type 0
 StandingListsAreNested A = (tells : A → ℕ → Span) (whole : Span) (lo : ℕ) (b : statement.Stmts A)
     (ps : Tokens) → Stands (spans_from tells whole.from (stmts_layout b)) ps → whole.from < lo

@@ -39,8 +39,8 @@ use Rattle.jr_pieces.specs.Ways.{
   later,
 }
 
--- for its value; as what `=` assigns; as what `op=`, `++` or `--` changes, which reads it, too; as a
--- whole expression statement
+-- for its value; as what `=` assigns; as what `op=`, `++` or `--` changes, which reads it, too; as
+-- a whole expression statement
 pub data Use : Type 0 where
   valued : Use
   assigned : Use

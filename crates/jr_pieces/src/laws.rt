@@ -1,6 +1,7 @@
 //! The laws, each the contract of a function that does nothing. `C`, `F`, `M` and `N` are keys of
 //! classes, fields, methods and constructors, `L` places, `A` marks.
 ghost use Rattle.jr_pieces.specs.Before.{WhatComesBeforeStandsInFront};
+ghost use Rattle.jr_pieces.specs.Finding.{WhatIsFoundHasAWay};
 ghost use Rattle.jr_pieces.specs.Nesting.{SpansTellWays, StandingListsAreNested};
 
 /// What is evaluated before an expression of a list, and then the expression itself, are the first
@@ -18,4 +19,9 @@ pub fn spans_tell_ways<A>()
 /// A list of statements that stands in tokens of a text has nested spans.
 pub fn standing_lists_are_nested<A>()
     ensures { StandingListsAreNested A }
+{}
+
+/// What is found by its span has a way that leads there.
+pub fn what_is_found_has_a_way<A>()
+    ensures { WhatIsFoundHasAWay A }
 {}

@@ -9,4 +9,7 @@
 
 mod laws;
 
-pub use laws::{spans_tell_ways, standing_lists_are_nested, what_comes_before_stands_in_front};
+pub use laws::{
+    spans_tell_ways, standing_lists_are_nested, what_comes_before_stands_in_front,
+    what_is_found_has_a_way,
+};
