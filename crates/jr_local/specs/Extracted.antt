@@ -15,6 +15,7 @@ use Rattle.std.specs.Prelude.{
   ◌++◌,
   map,
   Some,
+  None,
   slice_get,
   codes,
   Contains,
