@@ -152,12 +152,16 @@ class Sites:
         load = self.checked_load(t)
         return row(self.operand(t), load, self.value(e.right), test, self.store(t))
 
+    def receiver(self, e):
+        """What is in front of a call's name, evaluated: nothing where it is a class."""
+        if e.kind == "super_call" or e.on is None or self.is_class_name(e.on):
+            return PASS
+        return self.value(e.on)
+
     def call(self, e):
-        on, test = PASS, PASS
-        if e.kind == "call" and e.on is not None:
-            on = PASS if self.is_class_name(e.on) else self.value(e.on)
-            test = self.null_check(e.on, e.name.at)
-        return row(on, self.values(e.args), test, self.one(e.name.at, "calls"))
+        has_front = e.kind == "call" and e.on is not None
+        test = self.null_check(e.on, e.name.at) if has_front else PASS
+        return row(self.receiver(e), self.values(e.args), test, self.one(e.name.at, "calls"))
 
     # statements and members
 
@@ -181,9 +185,11 @@ class Sites:
         if s.kind == "block":
             return self.statements(s.body)
         if s.kind == "sync":
-            test = PASS if self.never_null(s.lock) else self.one(s.at, "checks")
-            return row(self.value(s.lock), test, self.locked(s.at, s))
+            return row(self.value(s.lock), self.lock_check(s), self.locked(s.at, s))
         return PASS
+
+    def lock_check(self, s):
+        return PASS if self.never_null(s.lock) else self.one(s.at, "checks")
 
     def locked(self, at, node):
         return ("inside", (at, "enters", None), self.statements(node.body),

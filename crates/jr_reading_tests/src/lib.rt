@@ -7,7 +7,8 @@
 //! `scopes` make keys and places of texts. All of it is one crate: a crate with a test is proved a
 //! second time, and each crate of tests proves anew how the trees that it holds are dropped.
 //!
-//! `edits`, `grid`, `numbers`: what edits make of a text, the reordering grid, numbers by name.
+//! `edits`, `layouts`, `grid`, `numbers`: what edits make of a text, where bytes go, the reordering
+//! grid, numbers by name.
 //! `lexing`, `limits`, `faults`: items and texts of each size up to the limits. `samples`, `trees`,
 //! `paths`, `deepest`, `drops`: trees made by hand, paths and copies, the stack that the deepest
 //! trees take, what a drop frees. `reading`, `expressions` with `shown`, `units`, `printing`: texts
@@ -33,6 +34,8 @@ mod faults;
 mod grid;
 #[cfg(test)]
 mod keys;
+#[cfg(test)]
+mod layouts;
 #[cfg(test)]
 mod lexing;
 #[cfg(test)]

@@ -5,6 +5,7 @@ use crate::builds::{self, field_types, superclasses};
 use crate::edits::{self, cut, edit};
 use crate::expressions::{self, read_expression, read_whole};
 use crate::grid::{self, moves_behind};
+use crate::layouts::{self, end_of_class, gap};
 use crate::lexing::{self, identify, lex_text, too_deep};
 use crate::lookups::{self, find};
 use crate::names::{self, write_name};
@@ -39,6 +40,8 @@ fn answer_of_text(rt: &impl Abort, alloc: Global, kind: &str, asked: &str) -> St
     match kind {
         "part" => cut(rt, alloc, asked),
         "edits" => edit(rt, alloc, asked),
+        "gap" => gap(rt, alloc, asked),
+        "end" => end_of_class(rt, alloc, asked),
         "grid" => moves_behind(rt, alloc, asked),
         "lex" => lex_text(rt, alloc, asked),
         "identifier" => identify(rt, alloc, asked),
@@ -83,6 +86,7 @@ fn assert_rows(rt: &impl Abort, alloc: Global, program: &str, rows: &str, count:
 #[test]
 fn rows_about_texts(rt: HostRuntime) {
     assert_rows(&rt, rt.alloc(), "", edits::ROWS, 11);
+    assert_rows(&rt, rt.alloc(), "", layouts::ROWS, 18);
     assert_rows(&rt, rt.alloc(), "", grid::ROWS, 7);
     assert_rows(&rt, rt.alloc(), "", lexing::ROWS, 79);
     assert_rows(&rt, rt.alloc(), "", expressions::ROWS, 103);

@@ -1,0 +1,2 @@
+-- `Cases`: small examples, each a sentence of the rules.
+mod Cases

@@ -1,0 +1,9 @@
+pub mod Bodies
+pub mod Spaces
+pub mod Texts
+pub mod Scopes
+pub mod Crossing
+pub mod Selecting
+pub mod Inlining
+pub mod Extracted
+pub mod Inlined

@@ -1,0 +1,10 @@
+pub mod Ways
+pub mod Standings
+pub mod Uses
+pub mod Declared
+pub mod Returns
+pub mod Nearest
+pub mod Bars
+pub mod Before
+pub mod Finding
+pub mod Nesting
