@@ -1,0 +1,2 @@
+pub mod InRegions
+pub mod KeptInRegions
