@@ -3,3 +3,5 @@
 -- region).
 pub mod RegionWorlds
 pub mod RegionTypes
+pub mod RegionKept
+pub mod RegionExpressions

@@ -34,21 +34,21 @@ module _ {A : Type 0} (rows : List Row) (R : Region A) (c d : Context) (w : Regi
       (image.0, record { row = image.1; stands = image.2; declares = declares image.1 image.3 }, image.3.type ∙ ap (option_map (type_in R)) type)
 
   -- the type of a declaration goes to its image, where the declaration isn't gone
-  pub type_goes : (x u : Decl) (t : Ty) → image_at R.seen c x ≡ Some u → IsTypeOf rows c x t → IsTypeOf (rows_in R) d u (type_in R t)
-  type_goes (local_decl k) u t image h = by (R.seen.local_to c k) refl image
+  pub decl_type_goes : (x u : Decl) (t : Ty) → image_at R.seen c x ≡ Some u → IsTypeOf rows c x t → IsTypeOf (rows_in R) d u (type_in R t)
+  decl_type_goes (local_decl k) u t image h = by (R.seen.local_to c k) refl image
     where
       by : (o : Option LocalKey) → R.seen.local_to c k ≡ o → option_map (λ (l : LocalKey). local_decl l) o ≡ Some u → IsTypeOf (rows_in R) d u (type_in R t)
       by None is e = absurd cc
       by (Some m) is e = (let p : local_decl m ≡ u = cc in subst (λ (z : Decl). IsTypeOf (rows_in R) d z (type_in R t)) p (w.stand.local_types k m t is h))
-  type_goes (class_decl k) u t image (j, i, type) =
+  decl_type_goes (class_decl k) u t image (j, i, type) =
       let p : class_decl (class_in R k) ≡ u = cc in
       subst (λ (z : Decl). IsTypeOf (rows_in R) d z (type_in R t)) p (row_type (class_decl k) (class_decl (class_in R k)) j i t type (λ s h. h.of_class k i.declares))
-  type_goes (field_decl k) u t image (j, i, type) =
+  decl_type_goes (field_decl k) u t image (j, i, type) =
       let p : field_decl (field_in R k) ≡ u = cc in
       subst (λ (z : Decl). IsTypeOf (rows_in R) d z (type_in R t)) p (row_type (field_decl k) (field_decl (field_in R k)) j i t type (λ s h. h.of_field k i.declares))
-  type_goes (method_decl k) u t image (j, i, type) =
+  decl_type_goes (method_decl k) u t image (j, i, type) =
       let p : method_decl (method_in R k) ≡ u = cc in
       subst (λ (z : Decl). IsTypeOf (rows_in R) d z (type_in R t)) p (row_type (method_decl k) (method_decl (method_in R k)) j i t type (λ s h. h.of_method k i.declares))
-  type_goes (constructor_decl k) u t image (j, i, type) =
+  decl_type_goes (constructor_decl k) u t image (j, i, type) =
       let p : constructor_decl (ctor_in R k) ≡ u = cc in
       subst (λ (z : Decl). IsTypeOf (rows_in R) d z (type_in R t)) p (row_type (constructor_decl k) (constructor_decl (ctor_in R k)) j i t type (λ s h. h.of_constructor k i.declares))
