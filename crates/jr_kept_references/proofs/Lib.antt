@@ -5,3 +5,4 @@ pub mod RegionWorlds
 pub mod RegionTypes
 pub mod RegionKept
 pub mod RegionExpressions
+pub mod Renamed

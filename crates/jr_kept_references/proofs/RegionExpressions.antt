@@ -1,5 +1,5 @@
 -- All expressions of a region: one recursion, beside spots.
-use Rattle.std.proofs.Common.{◌≡◌, ℕ, List, [], ◌∷◌, ◌++◌, Bool, false, sym, ap, subst, ◌∙◌, inl, inr}
+use Rattle.std.proofs.Common.{◌≡◌, ℕ, List, [], ◌∷◌, ◌++◌, Bool, false, refl, sym, ap, subst, ◌∙◌, inl, inr}
 use Rattle.std.specs.Prelude.{if◌then◌else◌}
 use Rattle.jr_text.specs.declared.spans.Span.{Span}
 use Rattle.jr_ast.specs.Tree as tree
@@ -88,7 +88,7 @@ module _ {A : Type 0} (tells : A → ℕ → Span) (rows : List Row) (R : Region
       kept r base (tree.truth m n) o is none = move r _ o _ is (plain r _ _ (λ t h. w.types.own c (tree.truth m n) t tt h ∙ ap (type_in R) h) (λ k h. h) (λ k h. h) (λ b i at x h. absurd h.1))
       kept r base (tree.null m) o is none = move r _ o _ is (plain r _ _ (λ t h. w.types.own c (tree.null m) t tt h ∙ ap (type_in R) h) (λ k h. h) (λ k h. h) (λ b i at x h. absurd h.1))
       kept r base (tree.string m s) o is none = move r _ o _ is
-          (plain r _ _ (λ t h. w.types.own c (tree.string m s) t tt h ∙ ap (type_in R) h ∙ ap class w.sound.images.string) (λ k h. h) (λ k h. h) (λ b i at x h. absurd h.1))
+          (plain r _ _ (λ t h. w.types.own c (tree.string m s) t tt h ∙ ap (type_in R) h ∙ ap class w.images.string) (λ k h. h) (λ k h. h) (λ b i at x h. absurd h.1))
       kept r base (tree.this m) o is none = move r _ o _ is
           (plain r _ _ (λ t h. w.types.this c m t w.stays h ∙ ap (λ (s : Scope). class s.class) (sym w.stand.scope)) (λ k h. h) (λ k h. h) (λ b i at x h. absurd h.1))
       kept r base (tree.name m v) o (h, inl (inl (k, spells)), is) none = move r (tree.name m v) o (name_out tells h m base v) is (local_kept tells rows R c d w r m v _ h (lost_none o (name_out tells h m base v) is none) k spells)
@@ -96,35 +96,35 @@ module _ {A : Type 0} (tells : A → ℕ → Span) (rows : List Row) (R : Region
       kept r base (tree.name m v) o (h, inr spells, is) none = move r (tree.name m v) o (name_out tells h m base v) is (class_kept tells rows R c d w r m v _ h (lost_none o (name_out tells h m base v) is none) r spells)
       kept r base (tree.field m e v) o (h, p, inl spells, inner, is) none = let all = lost_none o (field_out tells h m base e p v) is none in
           move r (tree.field m e v) o (field_out tells h m base e p v) is (field_kept tells rows R c d w r m e p.tree v _ h (right_none (operand_losses tells h p.losses) (losses_of h) all)
-          (λ stays. operand_kept m base e p inner (operand_none h p.losses all stays)) spells)
+          (λ stays. of_part (level primary_level) left ((tells m base).from) e p inner (operand_none h p.losses all stays) (λ y. (kept left ((tells m base).from) e p y (operand_none h p.losses all stays)).becomes)) spells)
       kept r base (tree.field m e v) o (h, p, inr spells, inner, is) none = let all = lost_none o (field_out tells h m base e p v) is none in
           move r (tree.field m e v) o (field_out tells h m base e p v) is (member_class_kept tells rows R c d w r m e p.tree v _ h (right_none (operand_losses tells h p.losses) (losses_of h) all)
-          (λ stays. operand_kept m base e p inner (operand_none h p.losses all stays)) r spells)
+          (λ stays. of_part (level primary_level) left ((tells m base).from) e p inner (operand_none h p.losses all stays) (λ y. (kept left ((tells m base).from) e p y (operand_none h p.losses all stays)).becomes)) r spells)
       kept r base (tree.super_field m v) o (h, spells, is) none = move r (tree.super_field m v) o (super_field_out tells h m base v) is (super_field_kept tells rows R c d w r m v _ h (lost_none o (super_field_out tells h m base v) is none) spells)
       kept r base (tree.class_literal m t) o (p, types, is) none = move r (tree.class_literal m t) o _ is
-          (plain r _ _ (λ u h. w.types.own c (tree.class_literal m t) u tt h ∙ ap (type_in R) h ∙ ap class w.sound.images.class) (λ k h. h) (λ k h. h) (λ b i. tt))
+          (plain r _ _ (λ u h. w.types.own c (tree.class_literal m t) u tt h ∙ ap (type_in R) h ∙ ap class w.images.class) (λ k h. h) (λ k h. h) (λ b i. tt))
       kept r base (tree.call m tree.no_target v args) o (h, p, q, spells, target, row, is) none =
           let out = is ∙ ap (λ (z : Rewritten (Called tells)). joined (λ (t : Called tells) es. tree.call m t.target t.word es) z q) target in
           let all = lost_none o (joined (λ (t : Called tells) es. tree.call m t.target t.word es) (simple_call_out tells h m base v) q) out none in
           move r (tree.call m tree.no_target v args) o (joined (λ (t : Called tells) es. tree.call m t.target t.word es) (simple_call_out tells h m base v) q) out
-          (simple_call_kept tells rows R c d w r m v args q.tree (λ ts types. kept_row _ args q row (right_none (losses_of h) q.losses all) ts (R.types_now c args ts) (w.sound.types c args ts) types) _ h (left_none (losses_of h) q.losses all) spells)
+          (simple_call_kept tells rows R c d w r m v args q.tree (λ ts types. kept_row _ args q row (right_none (losses_of h) q.losses all) ts (R.types_now c args ts) (w.args c args ts) types) _ h (left_none (losses_of h) q.losses all) spells)
       kept r base (tree.call m (tree.on e) v args) o (h, p, q, spells, (x, inner, target), row, is) none =
           let out = is ∙ ap (λ (z : Rewritten (Called tells)). joined (λ (t : Called tells) es. tree.call m t.target t.word es) z q) target in
           let all = lost_none o (joined (λ (t : Called tells) es. tree.call m t.target t.word es) (dotted_call_out tells h m base e x v) q) out none in
           let front = left_none (operand_losses tells h x.losses ++ losses_of h) q.losses all in
           move r (tree.call m (tree.on e) v args) o (joined (λ (t : Called tells) es. tree.call m t.target t.word es) (dotted_call_out tells h m base e x v) q) out
-          (call_kept tells rows R c d w r m v args q.tree (λ ts types. kept_row _ args q row (right_none (operand_losses tells h x.losses ++ losses_of h) q.losses all) ts (R.types_now c args ts) (w.sound.types c args ts) types) _ h
-          (right_none (operand_losses tells h x.losses) (losses_of h) front) e x.tree (λ stays. operand_kept m base e x inner (operand_none h x.losses front stays)) spells)
+          (call_kept tells rows R c d w r m v args q.tree (λ ts types. kept_row _ args q row (right_none (operand_losses tells h x.losses ++ losses_of h) q.losses all) ts (R.types_now c args ts) (w.args c args ts) types) _ h
+          (right_none (operand_losses tells h x.losses) (losses_of h) front) e x.tree (λ stays. of_part (level primary_level) left ((tells m base).from) e x inner (operand_none h x.losses front stays) (λ y. (kept left ((tells m base).from) e x y (operand_none h x.losses front stays)).becomes)) spells)
       kept r base (tree.super_call m v args) o (h, q, spells, row, is) none =
           let all = lost_none o (joined (λ v es. tree.super_call m v es) (word_out tells h ((tells m base).from) v) q) is none in
           move r (tree.super_call m v args) o (joined (λ v es. tree.super_call m v es) (word_out tells h ((tells m base).from) v) q) is
-          (super_call_kept tells rows R c d w r m v args q.tree (λ ts types. kept_row _ args q row (right_none (losses_of h) q.losses all) ts (R.types_now c args ts) (w.sound.types c args ts) types) _ h (left_none (losses_of h) q.losses all) spells)
+          (super_call_kept tells rows R c d w r m v args q.tree (λ ts types. kept_row _ args q row (right_none (losses_of h) q.losses all) ts (R.types_now c args ts) (w.args c args ts) types) _ h (left_none (losses_of h) q.losses all) spells)
       kept r base (tree.create m t args) o (h, p, q, spells, types, row, is) none =
           let all = lost_none o _ is none in
           let inside = right_none (losses_of h) (p.losses ++ q.losses) all in
           move r (tree.create m t args) o _ is
           (creation_kept tells rows R c d w m t p.tree args q.tree (type_kept tells rows R c d w super_at _ t p types (left_none p.losses q.losses inside))
-          (λ ts have. kept_row _ args q row (right_none p.losses q.losses inside) ts (R.types_now c args ts) (w.sound.types c args ts) have)
+          (λ ts have. kept_row _ args q row (right_none p.losses q.losses inside) ts (R.types_now c args ts) (w.args c args ts) have)
           base h (left_none (losses_of h) (p.losses ++ q.losses) all) r spells)
       kept r base (tree.paren m e) o (p, inner, is) none =
           let none_lost = lost_none o (within (λ x. tree.paren m x) p) is none in
@@ -149,10 +149,6 @@ module _ {A : Type 0} (tells : A → ℕ → Span) (rows : List Row) (R : Region
           (plain r _ _ (λ t h. subst (λ (s : Ty). HasType (rows_in R) d p.tree s) (sym (w.types.assign c m e f t)) (part.typed t h)) (λ k h. h) (λ k h. h) (λ b i at x h. absurd h.1))
       kept r base (tree.compound m s e f) o (p, q, one_side, other, is) none = move r (tree.compound m s e f) o _ is
           (plain r _ _ (λ t h. w.types.own c (tree.compound m s e f) t tt h ∙ ap (type_in R) h) (λ k h. h) (λ k h. h) (λ b i at x h. absurd h.1))
-
-      -- what stands in front of a dot
-      pub operand_kept : (m : A) (base : ℕ) (e : tree.Exp A) (p : Rewritten (tree.Exp A)) → TransformsPart tells Chosen S (level primary_level) c left ((tells m base).from) e p → p.losses ≡ [] → Gives e p.tree
-      operand_kept m base e p inner none = of_part (level primary_level) left ((tells m base).from) e p inner none (λ x. (kept left ((tells m base).from) e p x none).becomes)
 
       -- arguments have the types that the region tells
       pub kept_row : (at : ℕ) (es : tree.Exps A) (q : Rewritten (tree.Exps A)) → TransformsRow tells Chosen S c at es q → q.losses ≡ [] → (ts us : List Ty) → AreTypesNow R c es ts us → HaveTypes rows c es ts

@@ -69,7 +69,7 @@ module _ {A : Type 0} (tells : A → ℕ → Span) (rows : List Row) (R : Region
 
   -- it is bound to the declaration
   abbrev To : Decl → tree.Exp A → Type 0
-  To x y = Stands (λ m b. (tells m b).from) (rows_in R) w.sound.images.are w.one_new d w.new w.rebind w.fronts x y
+  To x y = Stands (λ m b. (tells m b).from) (rows_in R) w.images.are w.one_new d w.new w.rebind w.fronts x y
 
   -- where nothing stands in front of a field any more, a class stood there
   abbrev WasOn : tree.Exp A → tree.Exp A → Type 0
@@ -169,13 +169,13 @@ module _ {A : Type 0} (tells : A → ℕ → Span) (rows : List Row) (R : Region
         by (Some i) image (inl (f, taken, is)) = kept_name r m v (variable_to m (front_of h) None (word_to h v)) (local_decl k) (local_decl i) (ap (option_map (λ (l : LocalKey). local_decl l)) image) finds (λ j e. cc) (λ j e. cc)
             (subst (λ (x : Choice). To (local_decl i) (variable_to m (front_of x) None (word_to x v))) (sym is)
             (one_form (λ f. Binds (rows_in R) (scope_of d) own (local_decl i) f → To (local_decl i) (variable_to m (front_of (spelled v.text (name_in R (local_decl k) v.text) (class_of (local_decl i)) f)) None (word_to (spelled v.text (name_in R (local_decl k) v.text) (class_of (local_decl i)) f) v)))
-            (λ binds. simple_local (λ m b. (tells m b).from) (rows_in R) w.sound.images.are w.one_new d w.new w.rebind w.fronts m v.mark v.text i (name_in R (local_decl k) v.text) binds)
+            (λ binds. simple_local (λ m b. (tells m b).from) (rows_in R) w.images.are w.one_new d w.new w.rebind w.fronts m v.mark v.text i (name_in R (local_decl k) v.text) binds)
             taken.place f taken.stands (to_scope tells rows R c d w own (local_decl i) f taken.binds)))
 
     pub own_field_kept : (k : FieldKey) → OwnFieldChoice (λ m b. (tells m b).from) rows R c at v.text k h → Keeps r (tree.name m v) (variable_to m (front_of h) None (word_to h v))
     own_field_kept k (finds, inl (f, taken, is)) = kept_name r m v (variable_to m (front_of h) None (word_to h v)) (field_decl k) (field_decl (field_in R k)) refl finds (λ i e. cc) (λ i e. cc)
         (subst (λ (x : Choice). To (field_decl (field_in R k)) (variable_to m (front_of x) None (word_to x v))) (sym is)
-        (simple_field (λ m b. (tells m b).from) (rows_in R) w.sound.images.are w.one_new d w.new w.rebind w.fronts m v.mark v.text (field_in R k) taken.place f taken.stands
+        (simple_field (λ m b. (tells m b).from) (rows_in R) w.images.are w.one_new d w.new w.rebind w.fronts m v.mark v.text (field_in R k) taken.place f taken.stands
         (to_scope tells rows R c d w (reference ref.FieldSimple (field_in R k).name None []) (field_decl (field_in R k)) f taken.binds)))
     own_field_kept k (finds, inr (none_binds, (f, found, is))) = absurd (lost_some _ (sym (ap losses_of is) ∙ none))
 
@@ -201,7 +201,7 @@ module _ {A : Type 0} (tells : A → ℕ → Span) (rows : List Row) (R : Region
 
         there : IsClassName (rows_in R) d NewName (class_in R k)
         there = subst (λ (x : Choice). IsClassName (rows_in R) d (variable_to m (front_of x) None (word_to x v)) (class_in R k)) (sym is)
-            (class_in_front (λ m b. (tells m b).from) (rows_in R) w.sound.images.are w.one_new d w.new w.rebind w.fronts m v.mark v.text (class_in R k) words None (λ front z. variable_to m front None z)
+            (class_in_front (λ m b. (tells m b).from) (rows_in R) w.images.are w.one_new d w.new w.rebind w.fronts m v.mark v.text (class_in R k) words None (λ front z. variable_to m front None z)
             refl (λ o. refl) taken.place f taken.stands
             (λ asked binds. subst (λ (y : tree.Exp A). IsClassName (rows_in R) d y (class_in R k)) (sym (with_name (λ front z. variable_to m front None z) v.text (class_in R k).name v.mark))
             (subst (λ (s : Scope). FindsLeft (rows_in R) s (class_in R k).name (one (class_decl (class_in R k)))) (sym (w.stand.scope)) (first_named k words stands binds.0)))
@@ -245,7 +245,7 @@ module _ {A : Type 0} (tells : A → ℕ → Span) (rows : List Row) (R : Region
         let part = holds (ap (λ (y : Choice). drops_operand (front_of y)) is ∙ value_holds v.text (field_in R k).name (field_in R k).class place f there) in
         let of = field_value (rows_in R) (scope_of d) (field_in R k).name (R.type_now c e (class o)) (field_decl (field_in R k)) place f there binds in
         subst (λ (y : Choice). To (field_decl (field_in R k)) (variable_on m (operand_to m (front_of y) (Some x)) (word_to y v))) (sym is)
-        (field_on_value (λ m b. (tells m b).from) (rows_in R) w.sound.images.are w.one_new d w.new w.rebind w.fronts m v.mark v.text (field_in R k) x of.0
+        (field_on_value (λ m b. (tells m b).from) (rows_in R) w.images.are w.one_new d w.new w.rebind w.fronts m v.mark v.text (field_in R k) x of.0
         (subst (λ (s : Ty). HasType (rows_in R) d x s) of.1 (part.typed (class o) type)) (part.apart not) place f there
         (subst (λ (s : Ty). Binds (rows_in R) (scope_of d) (reference ref.FieldOn (field_in R k).name (on_type s) []) (field_decl (field_in R k)) f) of.1 binds))
 
@@ -260,7 +260,7 @@ module _ {A : Type 0} (tells : A → ℕ → Span) (rows : List Row) (R : Region
         → h ≡ spelled v.text (field_in R k).name (field_in R k).class f → To (field_decl (field_in R k)) NewField
     field_through_kept k o named words place f there binds is =
         subst (λ (y : Choice). To (field_decl (field_in R k)) (variable_on m (operand_to m (front_of y) (Some x)) (word_to y v))) (sym is)
-        (field_through (λ m b. (tells m b).from) (rows_in R) w.sound.images.are w.one_new d w.new w.rebind w.fronts m v.mark v.text (field_in R k) x (class_in R o) words place f there
+        (field_through (λ m b. (tells m b).from) (rows_in R) w.images.are w.one_new d w.new w.rebind w.fronts m v.mark v.text (field_in R k) x (class_in R o) words place f there
         (λ asked. (holds (ap (λ (y : Choice). drops_operand (front_of y)) (is ∙ ap (spelled v.text (field_in R k).name (field_in R k).class) asked) ∙ renamed_holds v.text (field_in R k).name)).named o named) binds)
 
     pub field_kept : FieldChoice (λ m b. (tells m b).from) rows R c at e v.text h → Keeps r (tree.field m e v) NewField
@@ -295,7 +295,7 @@ module _ {A : Type 0} (tells : A → ℕ → Span) (rows : List Row) (R : Region
 
         there : IsClassName (rows_in R) d NewField (class_in R k)
         there = subst (λ (y : Choice). IsClassName (rows_in R) d (variable_on m (operand_to m (front_of y) (Some x)) (word_to y v)) (class_in R k)) (sym is)
-            (class_in_front (λ m b. (tells m b).from) (rows_in R) w.sound.images.are w.one_new d w.new w.rebind w.fronts m v.mark v.text (class_in R k) words (operand_of (class_in R o)) (λ front z. variable_on m (operand_to m front (Some x)) z)
+            (class_in_front (λ m b. (tells m b).from) (rows_in R) w.images.are w.one_new d w.new w.rebind w.fronts m v.mark v.text (class_in R k) words (operand_of (class_in R o)) (λ front z. variable_on m (operand_to m front (Some x)) z)
             refl (λ o. refl) taken.place f taken.stands
             (λ asked binds.
             let part = holds (ap (λ (y : Choice). drops_operand (front_of y)) (is ∙ ap (spelled v.text (class_in R k).name (class_in R k)) asked) ∙ renamed_holds v.text (class_in R k).name) in
@@ -326,7 +326,7 @@ module _ {A : Type 0} (tells : A → ℕ → Span) (rows : List Row) (R : Region
     unfolding IsClassName
     super_field_kept (k, finds, inl (f, taken, is)) = kept_super r m v (super_to m (front_of h) (word_to h v)) (field_decl k) (field_decl (field_in R k)) refl finds (λ i e. cc) (λ i e. cc)
         (subst (λ (x : Choice). To (field_decl (field_in R k)) (super_to m (front_of x) (word_to x v))) (sym is)
-        (field_by_super (λ m b. (tells m b).from) (rows_in R) w.sound.images.are w.one_new d w.new w.rebind w.fronts m v.mark v.text (field_in R k) taken.place f taken.stands
+        (field_by_super (λ m b. (tells m b).from) (rows_in R) w.images.are w.one_new d w.new w.rebind w.fronts m v.mark v.text (field_in R k) taken.place f taken.stands
         (to_scope tells rows R c d w (reference ref.FieldSuper (field_in R k).name None []) (field_decl (field_in R k)) f taken.binds)))
     super_field_kept (k, finds, inr (none_binds, (f, found, is))) = absurd (lost_some _ (sym (ap losses_of is) ∙ none))
 
@@ -342,7 +342,7 @@ module _ {A : Type 0} (tells : A → ℕ → Span) (rows : List Row) (R : Region
     unfolding IsClassName
     simple_call_kept (k, ts, finds, types, inl (f, taken, is)) = kept_call r m tree.no_target v args (tree.call m (target_of (operand_to m (front_of h) None)) (word_to h v) es) (method_decl k) (method_decl (method_in R k)) refl finds (λ i e. cc) (λ i e. cc)
         (subst (λ (x : Choice). To (method_decl (method_in R k)) (tree.call m (target_of (operand_to m (front_of x) None)) (word_to x v) es)) (sym is)
-        (call_by_name (λ m b. (tells m b).from) (rows_in R) w.sound.images.are w.one_new d w.new w.rebind w.fronts m v.mark v.text (method_in R k) es (R.types_now c args ts) (args_to ts types) taken.place f taken.stands
+        (call_by_name (λ m b. (tells m b).from) (rows_in R) w.images.are w.one_new d w.new w.rebind w.fronts m v.mark v.text (method_in R k) es (R.types_now c args ts) (args_to ts types) taken.place f taken.stands
         (to_scope tells rows R c d w (reference ref.MethodSimple (method_in R k).name None (R.types_now c args ts)) (method_decl (method_in R k)) f taken.binds)))
     simple_call_kept (k, ts, finds, types, inr (none_binds, (f, found, is))) = absurd (lost_some _ (sym (ap losses_of is) ∙ none))
 
@@ -352,7 +352,7 @@ module _ {A : Type 0} (tells : A → ℕ → Span) (rows : List Row) (R : Region
         (subst (λ (x : Choice). To (method_decl (method_in R k)) (tree.super_call m (word_to x v) es)) (sym is)
         (one_form (λ f. Binds (rows_in R) (scope_of d) (reference ref.AsAsked (method_in R k).name None (R.types_now c args ts)) (method_decl (method_in R k)) f
         → To (method_decl (method_in R k)) (tree.super_call m (word_to (spelled v.text (method_in R k).name (method_in R k).class f) v) es))
-        (λ binds. call_by_super (λ m b. (tells m b).from) (rows_in R) w.sound.images.are w.one_new d w.new w.rebind w.fronts m v.mark v.text (method_in R k) es (R.types_now c args ts) (args_to ts types) binds)
+        (λ binds. call_by_super (λ m b. (tells m b).from) (rows_in R) w.images.are w.one_new d w.new w.rebind w.fronts m v.mark v.text (method_in R k) es (R.types_now c args ts) (args_to ts types) binds)
         taken.place f taken.stands
         (to_scope tells rows R c d w (reference ref.AsAsked (method_in R k).name None (R.types_now c args ts)) (method_decl (method_in R k)) f taken.binds)))
     super_call_kept (k, ts, finds, types, inr (none_binds, (f, found, is))) = absurd (lost_some _ (sym (ap losses_of is) ∙ none))
@@ -365,7 +365,7 @@ module _ {A : Type 0} (tells : A → ℕ → Span) (rows : List Row) (R : Region
       unfolding IsClassName
       call_kept (k, ts, finds, types, inl (o, named, (words, stands, inl (f, taken, is)))) = kept_call r m (tree.on e) v args NewCall (method_decl k) (method_decl (method_in R k)) refl finds (λ i e. cc) (λ i e. cc)
           (subst (λ (y : Choice). To (method_decl (method_in R k)) (tree.call m (target_of (operand_to m (front_of y) (Some x))) (word_to y v) es)) (sym is)
-          (call_through_class (λ m b. (tells m b).from) (rows_in R) w.sound.images.are w.one_new d w.new w.rebind w.fronts m v.mark v.text (method_in R k) es (R.types_now c args ts) (args_to ts types)
+          (call_through_class (λ m b. (tells m b).from) (rows_in R) w.images.are w.one_new d w.new w.rebind w.fronts m v.mark v.text (method_in R k) es (R.types_now c args ts) (args_to ts types)
           x (class_in R o) words taken.place f taken.stands
           (λ asked. (holds (ap (λ (y : Choice). drops_operand (front_of y)) (is ∙ ap (spelled v.text (method_in R k).name (method_in R k).class) asked) ∙ renamed_holds v.text (method_in R k).name)).named o named)
           (to_scope tells rows R c d w (behind_words words (reference ref.ThroughClass (method_in R k).name (operand_of (class_in R o)) (R.types_now c args ts))) (method_decl (method_in R k)) f taken.binds)))
@@ -376,7 +376,7 @@ module _ {A : Type 0} (tells : A → ℕ → Span) (rows : List Row) (R : Region
           let of = call_value (rows_in R) (scope_of d) (method_in R k).name (R.type_now c e (class o)) (R.types_now c args ts) (method_decl (method_in R k)) taken.place f taken.stands binds in
           kept_call r m (tree.on e) v args NewCall (method_decl k) (method_decl (method_in R k)) refl finds (λ i e. cc) (λ i e. cc)
           (subst (λ (y : Choice). To (method_decl (method_in R k)) (tree.call m (target_of (operand_to m (front_of y) (Some x))) (word_to y v) es)) (sym is)
-          (call_on_value (λ m b. (tells m b).from) (rows_in R) w.sound.images.are w.one_new d w.new w.rebind w.fronts m v.mark v.text (method_in R k) es (R.types_now c args ts) (args_to ts types)
+          (call_on_value (λ m b. (tells m b).from) (rows_in R) w.images.are w.one_new d w.new w.rebind w.fronts m v.mark v.text (method_in R k) es (R.types_now c args ts) (args_to ts types)
           x of.0 (subst (λ (s : Ty). HasType (rows_in R) d x s) of.1 (part.typed (class o) type)) (part.apart not) taken.place f taken.stands
           (subst (λ (s : Ty). Binds (rows_in R) (scope_of d) (reference ref.MethodOn (method_in R k).name (on_type s) (R.types_now c args ts)) (method_decl (method_in R k)) f) of.1 binds)))
       call_kept (k, ts, finds, types, inr (not, (o, type, inr (none_binds, (f, found, is))))) = absurd (lost_some _ (sym (ap losses_of is) ∙ none))

@@ -120,7 +120,7 @@ module _ {A : Type 0} (tells : A → ℕ → Span) (rows : List Row) (R : Region
     row_of_class name k (a, finds, shows) = found_row rows a (class_decl k) shows
 
     whole_class : (name : List ℕ) (k : ClassKey) → FindsTypeNamed rows (scope_of c) name (one (class_decl k)) → IsWhole (class_in R k).name
-    whole_class name k finds = let r = row_of_class name k finds in w.sound.images.names k r.0 r.1
+    whole_class name k finds = let r = row_of_class name k finds in w.images.names k r.0 r.1
 
     simple_case : (m : A) (v : tree.Word A) (h : Choice) → TypeChoice (λ m b. (tells m b).from) rows R c base (tree.named m None v) h → losses_of h ≡ []
         → TypeTo (tree.named m None v) (tree.named m (qualifier_to m (front_of h) None) (word_to h v))

@@ -1,6 +1,7 @@
 -- What is known of two programs at a place of a region, and what has become of declarations there.
 use Rattle.std.proofs.Common.{◌≡◌, ℕ, List, Option, Some, None, refl, subst, ap, ◌∙◌}
 use Rattle.std.specs.Prelude.{option_map}
+use Rattle.jr_ast.specs.Tree as tree
 use Rattle.jr_table.specs.Keys.{Ty}
 use Rattle.jr_table.specs.Decls.{LocalKey, Decl, class_decl, field_decl, method_decl, constructor_decl, local_decl}
 use Rattle.jr_table.specs.Rows.{Row}
@@ -9,7 +10,7 @@ use Rattle.jr_table.specs.LookupLaws.{EachHasOne}
 use Rattle.jr_table.specs.Context.{Context, IsTypeOf}
 use Rattle.jr_table.specs.BindingLaws.{IsBound}
 use Rattle.jr_spell.specs.Rebound.{SpellingsRebind, ClassesRebind, AreFronts}
-use Rattle.jr_images.specs.Regions.{IsImageRow, image_at, itself, Region, IsSound}
+use Rattle.jr_images.specs.Regions.{IsImageRow, AreImages, image_at, itself, Region, AreTypesNow}
 use Rattle.jr_kept_references.specs.InRegions.{rows_in, class_in, field_in, method_in, ctor_in, type_in, StandsFor, TellsTypes}
 
 -- what the laws of lookup, binding and spelling give of the two programs, and the place; `this` stays
@@ -21,7 +22,8 @@ pub record RegionWorld (A : Type 0) (rows : List Row) (R : Region A) (c d : Cont
   pub rebind : SpellingsRebind A
   pub classes : ClassesRebind A
   pub fronts : AreFronts A (rows_in R) d
-  pub sound : IsSound rows R
+  pub images : AreImages rows R.seen.images
+  pub args : (at : Context) (es : tree.Exps A) (ts : List Ty) → AreTypesNow R at es ts (R.types_now at es ts)
   pub types : TellsTypes rows R
   pub stand : StandsFor R rows c d
   pub stays : R.receiver ≡ itself
@@ -30,7 +32,7 @@ module _ {A : Type 0} (rows : List Row) (R : Region A) (c d : Context) (w : Regi
   row_type : (x z : Decl) (j : ℕ) (i : IsRowOf rows x j) (t : Ty) → i.row.type ≡ Some t → ((s : Row) → IsImageRow R.seen.images i.row s → s.decl ≡ z)
       → (n : ℕ) × (q : IsRowOf (rows_in R) z n) × (q.row.type ≡ Some (type_in R t))
   row_type x z j i t type declares =
-      let image = w.sound.images.images i.row j i.stands in
+      let image = w.images.images i.row j i.stands in
       (image.0, record { row = image.1; stands = image.2; declares = declares image.1 image.3 }, image.3.type ∙ ap (option_map (type_in R)) type)
 
   -- the type of a declaration goes to its image, where the declaration isn't gone

@@ -1,2 +1,3 @@
 pub mod InRegions
 pub mod KeptInRegions
+pub mod ExpressionLaws
