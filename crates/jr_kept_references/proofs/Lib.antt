@@ -1,8 +1,11 @@
 -- Lowest first: `RegionWorlds` (what is known of the two programs at a place), `RegionTypes` (written
--- types), `RegionKept` (one recursion over expressions), `Renamed` (a rename as the case of one
--- region).
+-- types), `RegionKept` (references of one node), `RegionExpressions` (one recursion over
+-- expressions), `RegionAlong` (expressions side by side). `MadeReferences`: what a refactoring makes.
+-- `Renamed`: a rename as the case of one region.
 pub mod RegionWorlds
 pub mod RegionTypes
 pub mod RegionKept
 pub mod RegionExpressions
+pub mod RegionAlong
+pub mod MadeReferences
 pub mod Renamed

@@ -1,3 +1,5 @@
 pub mod InRegions
 pub mod KeptInRegions
 pub mod ExpressionLaws
+pub mod AlongSpots
+pub mod Made
