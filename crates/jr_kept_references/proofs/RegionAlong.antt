@@ -125,7 +125,7 @@ module _ {A : Type 0} (tells : A → ℕ → Span) (rows : List Row) (R : Region
   moved r b i e o p is side = subst (λ (z : Rewritten (tree.Exp A)). Side r b i e z.tree) (sym is) side
 
   -- node by node, or as a spot has it
-  part_side : (k : Asks) (r : Role) (b i : ℕ) (e : tree.Exp A) (p : Rewritten (tree.Exp A)) → TransformsPart tells Chosen S k c r b e p → p.losses ≡ [] → (TransformsExp tells Chosen S c r b e p → Side r b i e p.tree)
+  pub part_side : (k : Asks) (r : Role) (b i : ℕ) (e : tree.Exp A) (p : Rewritten (tree.Exp A)) → TransformsPart tells Chosen S k c r b e p → p.losses ≡ [] → (TransformsExp tells Chosen S c r b e p → Side r b i e p.tree)
       → PartSide k r b i e p.tree
   part_side k r b i e p made none by_node = by S made (λ spot. spot)
     where

@@ -3,3 +3,5 @@ pub mod KeptInRegions
 pub mod ExpressionLaws
 pub mod AlongSpots
 pub mod Made
+pub mod StatementsAlong
+pub mod RegionPlaces
