@@ -1,5 +1,5 @@
 -- A made reference is bound to what is stated of it, and a made type means its class.
-use Rattle.std.proofs.Common.{◌≡◌, ℕ, zero, suc, List, [], ◌∷◌, Option, Some, None, refl, sym, subst}
+use Rattle.std.proofs.Common.{◌≡◌, ℕ, List, [], ◌∷◌, Option, Some, None, refl, sym, subst}
 use Rattle.std.specs.Prelude.{slice_get}
 use Rattle.jr_ast.specs.Tree as tree
 use Rattle.jr_table.specs.Keys.{ClassKey, class}
@@ -16,7 +16,7 @@ use Rattle.jr_spell.specs.Binds.{Binds, last_word}
 use Rattle.jr_spell.specs.Rebound.{SpellingsRebind, ClassesRebind, AreFronts, IsTypeWords}
 use Rattle.jr_rewrite.specs.Respellings.{Front, front_of}
 use Rattle.jr_rewrite.specs.Rewritten.{word_to, variable_to, qualifier_to, new_word}
-use Rattle.jr_images.specs.Spelling.{renamed, spelled, reference}
+use Rattle.jr_images.specs.Spelling.{spelled, reference}
 use Rattle.jr_images.proofs.Chosen.{outer_type_is}
 use Rattle.jr_images.proofs.Dotted.{IsWhole, whole_front, whole_last}
 use Rattle.jr_images.proofs.Forms.{with_name}

@@ -257,19 +257,34 @@ module _ {A : Type 0} (tells : A → ℕ → Span) (rows : List Row) (R : Region
         (m, p.tree, refl, part_side a_target value ((tells m b).from) ((tells m i).from) e p inner all (λ x. along value ((tells m b).from) ((tells m i).from) e p x all))
     along r b i (tree.binary m s e f) o (p, q, one_side, other, is) none =
         let all = lost_none o (joined (λ u v. tree.binary m s u v) p q) is none in let front = left_none p.losses q.losses all in let back = right_none p.losses q.losses all in
-        moved r b i (tree.binary m s e f) o (joined (λ u v. tree.binary m s u v) p q) is
-        (m, p.tree, q.tree, refl, part_side (level (rank_of s)) value ((tells m b).from) ((tells m i).from) e p one_side front (λ x. along value ((tells m b).from) ((tells m i).from) e p x front),
-        part_side (level (suc (rank_of s))) value ((tells m b).from) ((tells m i).from) f q other back (λ x. along value ((tells m b).from) ((tells m i).from) f q x back))
+        moved r b i (tree.binary m s e f) o (joined (λ u v. tree.binary m s u v) p q) is (
+          m,
+          p.tree,
+          q.tree,
+          refl,
+          part_side (level (rank_of s)) value ((tells m b).from) ((tells m i).from) e p one_side front (λ x. along value ((tells m b).from) ((tells m i).from) e p x front),
+          part_side (level (suc (rank_of s))) value ((tells m b).from) ((tells m i).from) f q other back (λ x. along value ((tells m b).from) ((tells m i).from) f q x back),
+        )
     along r b i (tree.assign m e f) o (p, q, one_side, other, is) none =
         let all = lost_none o (joined (λ u v. tree.assign m u v) p q) is none in let front = left_none p.losses q.losses all in let back = right_none p.losses q.losses all in
-        moved r b i (tree.assign m e f) o (joined (λ u v. tree.assign m u v) p q) is
-        (m, p.tree, q.tree, refl, part_side a_target value ((tells m b).from) ((tells m i).from) e p one_side front (λ x. along value ((tells m b).from) ((tells m i).from) e p x front),
-        part_side (level 0) value ((tells m b).from) ((tells m i).from) f q other back (λ x. along value ((tells m b).from) ((tells m i).from) f q x back))
+        moved r b i (tree.assign m e f) o (joined (λ u v. tree.assign m u v) p q) is (
+          m,
+          p.tree,
+          q.tree,
+          refl,
+          part_side a_target value ((tells m b).from) ((tells m i).from) e p one_side front (λ x. along value ((tells m b).from) ((tells m i).from) e p x front),
+          part_side (level 0) value ((tells m b).from) ((tells m i).from) f q other back (λ x. along value ((tells m b).from) ((tells m i).from) f q x back),
+        )
     along r b i (tree.compound m s e f) o (p, q, one_side, other, is) none =
         let all = lost_none o (joined (λ u v. tree.compound m s u v) p q) is none in let front = left_none p.losses q.losses all in let back = right_none p.losses q.losses all in
-        moved r b i (tree.compound m s e f) o (joined (λ u v. tree.compound m s u v) p q) is
-        (m, p.tree, q.tree, refl, part_side a_target value ((tells m b).from) ((tells m i).from) e p one_side front (λ x. along value ((tells m b).from) ((tells m i).from) e p x front),
-        part_side (level 0) value ((tells m b).from) ((tells m i).from) f q other back (λ x. along value ((tells m b).from) ((tells m i).from) f q x back))
+        moved r b i (tree.compound m s e f) o (joined (λ u v. tree.compound m s u v) p q) is (
+          m,
+          p.tree,
+          q.tree,
+          refl,
+          part_side a_target value ((tells m b).from) ((tells m i).from) e p one_side front (λ x. along value ((tells m b).from) ((tells m i).from) e p x front),
+          part_side (level 0) value ((tells m b).from) ((tells m i).from) f q other back (λ x. along value ((tells m b).from) ((tells m i).from) f q x back),
+        )
 
     pub along_row : (b i : ℕ) (es : tree.Exps A) (q : Rewritten (tree.Exps A)) → TransformsRow tells Chosen S c b es q → q.losses ≡ [] → SideRow b i es q.tree
     along_row b i tree.end q is none = ap (λ (z : Rewritten (tree.Exps A)). z.tree) is

@@ -1,14 +1,9 @@
 -- Expressions in a region: what stands there has the types that the region tells, and each
 -- reference stays bound to the image of what it was bound to, beside spots.
-use Rattle.std.proofs.Common.{◌≡◌, ℕ, suc, List, [], ◌∷◌, ◌++◌, Option, Some, None, Bool, false, refl, sym, ap, subst, ◌∙◌, inl, inr}
-use Rattle.std.specs.Prelude.{slice_get, if◌then◌else◌, option_map}
+use Rattle.std.proofs.Common.{◌≡◌, ℕ, List, [], ◌∷◌, Option, Some, None, false, refl, sym, ap, subst, ◌∙◌, inl, inr}
+use Rattle.std.specs.Prelude.{slice_get, option_map}
 use Rattle.jr_text.specs.declared.spans.Span.{Span}
 use Rattle.jr_ast.specs.Tree as tree
-use Rattle.jr_ast.specs.declared.operators.UnOp.{UnOp}
-use Rattle.jr_ast.specs.declared.operators.UnOp.TheVariants as sign
-use Rattle.jr_ast.specs.declared.operators.BinOp.{BinOp}
-use Rattle.jr_ast.specs.declared.operators.BinOp.TheVariants as op
-use Rattle.jr_grammar.specs.Shape.{primary_level}
 use Rattle.jr_table.specs.Keys.{ClassKey, FieldKey, CtorKey, Ty, int, boolean, void, null, class}
 use Rattle.jr_table.specs.Decls.{Decl, class_decl, field_decl, method_decl, constructor_decl, local_decl, LocalKey}
 use Rattle.jr_table.specs.Rows.{Row}
@@ -24,22 +19,20 @@ use Rattle.jr_spell.specs.declared.spellings.Form.{Form}
 use Rattle.jr_spell.specs.declared.spellings.Form.TheVariants.{Asked, OnCastOperand, OnClass, OnOuterClass}
 use Rattle.jr_spell.specs.References.{Reference, class_of_type}
 use Rattle.jr_spell.specs.Binds.{Binds}
-use Rattle.jr_rewrite.specs.Respellings.{Loss, Choice, front_of}
-use Rattle.jr_rewrite.specs.Rewritten.{Rewritten, within, joined, word_to, variable_to, variable_on, operand_to, super_to, target_of, drops_operand, losses_of, word_out, name_out, field_out, super_field_out, simple_call_out, dotted_call_out, operand_losses, Called}
-use Rattle.jr_rewrite.specs.Spots.{Asks, level, a_target, Spotted, nowhere, spotted, OrPart}
-use Rattle.jr_rewrite.specs.Rewrites.{Choosing, TransformsExp, TransformsTarget, TransformsRow, TransformsPart}
-use Rattle.jr_images.specs.Regions.{image_at, Region, AreTypesNow}
+use Rattle.jr_rewrite.specs.Respellings.{Choice, front_of}
+use Rattle.jr_rewrite.specs.Rewritten.{word_to, variable_to, variable_on, operand_to, super_to, target_of, drops_operand, losses_of}
+use Rattle.jr_images.specs.Regions.{image_at, Region}
 use Rattle.jr_images.specs.Words.{InFront, class_name, value_of, neither, named_class, FirstWord}
-use Rattle.jr_images.specs.Spelling.{renamed, spelled, reference, behind_words, operand_of, on_type, OfImage, lost, TakenChoice, choosing, LocalChoice, OwnFieldChoice, ClassChoice, FieldChoice, MemberClassChoice, SuperFieldChoice, SimpleCallChoice, CallChoice, SuperCallChoice, CreationChoice}
+use Rattle.jr_images.specs.Spelling.{renamed, spelled, reference, behind_words, operand_of, on_type, OfImage, lost, TakenChoice, LocalChoice, OwnFieldChoice, ClassChoice, FieldChoice, MemberClassChoice, SuperFieldChoice, SimpleCallChoice, CallChoice, SuperCallChoice, CreationChoice}
 use Rattle.jr_images.specs.Keeping.{WasOnClass}
-use Rattle.jr_images.proofs.Chosen.{renamed_front, lost_some, left_none, right_none, lost_none}
+use Rattle.jr_images.proofs.Chosen.{renamed_front, lost_some}
 use Rattle.jr_images.proofs.Forms.{one_form, two_forms, with_name}
 use Rattle.jr_images.proofs.OneBound.{one_decl, not_nothing, class_one, name_only, field_only, super_field_only, call_only, super_call_only, name_type, name_no_class, field_type, field_no_class, super_field_type, call_type, super_call_type}
 use Rattle.jr_images.proofs.Rebound.{IsNamed, Stands, simple_local, simple_field, field_on_value, field_by_super, field_through, class_in_front, call_by_name, call_on_value, call_through_class, call_by_super}
 use Rattle.jr_kept_references.specs.InRegions.{rows_in, class_in, field_in, method_in, ctor_in, name_in, type_in, scope_in, FindsItself}
-use Rattle.jr_kept_references.specs.KeptInRegions.{Becomes, IsBoundToImage, IsKeptIn, KeptIn, PartsBecome}
+use Rattle.jr_kept_references.specs.KeptInRegions.{Becomes, IsBoundToImage, IsKeptIn, KeptIn}
 use Rattle.jr_kept_references.proofs.RegionWorlds.{RegionWorld, decl_type_goes}
-use Rattle.jr_kept_references.proofs.RegionTypes.{to_scope, writes_one, type_kept}
+use Rattle.jr_kept_references.proofs.RegionTypes.{to_scope, writes_one}
 
 -- ---- a member on a value: the value is of a class
 

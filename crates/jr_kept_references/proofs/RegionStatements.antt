@@ -1,11 +1,9 @@
 -- Statements of a region side by side: references and written types are kept, and what stands in a
 -- spot's place is what the spot makes.
-use Rattle.std.proofs.Common.{◌≡◌, ℕ, ◌+◌, List, [], ◌∷◌, ◌++◌, Option, Some, None, refl, sym, ap, subst, ◌∙◌, inl, inr}
-use Rattle.std.specs.Prelude.{◌⊎◌}
+use Rattle.std.proofs.Common.{◌≡◌, ℕ, ◌+◌, List, [], ◌++◌, Option, Some, None, refl, ap, ◌∙◌, inl, inr}
 use Rattle.jr_text.specs.declared.spans.Span.{Span}
 use Rattle.jr_ast.specs.Tree as tree
 use Rattle.jr_ast.specs.StatementTree as statement
-use Rattle.jr_table.specs.Keys.{Ty}
 use Rattle.jr_table.specs.Decls.{local_decl}
 use Rattle.jr_table.specs.Rows.{Row}
 use Rattle.jr_table.specs.Context.{Context, scope_of, local_of, local_key, in_own, after, locals_in}
@@ -13,10 +11,10 @@ use Rattle.jr_table.specs.Binding.{Role, value}
 use Rattle.jr_table.specs.Binding as role
 use Rattle.jr_rewrite.specs.Respellings.{Choice, text_of}
 use Rattle.jr_rewrite.specs.Rewritten.{Rewritten, within, joined, word_to}
-use Rattle.jr_rewrite.specs.Spots.{Asks, level, a_statement, Spotted, nowhere, spotted, OrPart, OrList}
-use Rattle.jr_rewrite.specs.Rewrites.{Choosing, RewritesType, TransformsExp, TransformsPart, TransformsMaybe, TransformsStmt, TransformsElse, TransformsStmts, TransformsList}
+use Rattle.jr_rewrite.specs.Spots.{Asks, level, a_statement, Spotted, nowhere, spotted, OrList}
+use Rattle.jr_rewrite.specs.Rewrites.{Choosing, RewritesType, TransformsPart, TransformsMaybe, TransformsStmt, TransformsElse, TransformsStmts, TransformsList}
 use Rattle.jr_images.specs.Regions.{Region}
-use Rattle.jr_images.specs.Spelling.{renamed, choosing}
+use Rattle.jr_images.specs.Spelling.{choosing}
 use Rattle.jr_images.proofs.Chosen.{renamed_text, left_none, right_none, lost_none}
 use Rattle.jr_kept_references.specs.InRegions.{name_in, StandsFor}
 use Rattle.jr_kept_references.specs.KeptInRegions.{IsTypeKeptIn, IsKeptIn, PartsBecome}
@@ -101,9 +99,12 @@ module _ {A : Type 0} (tells : A → ℕ → Span) (rows : List Row) (R : Region
               (stands.in_initializer n z c d f t p.tree w (word_to h w) at goes.means named)
               (level 0) value ((tells m b).from) ((tells m i).from) e y inner (right_none (p.losses ++ v.losses) y.losses all),
         )
-    stmt_beside n z c d at b i (statement.eval m e) q (p, inner, is) none =
-        (m, p.tree, ap (λ (y : Rewritten (statement.Stmt A)). y.tree) is,
-        part_along c d (stands.for_it n z c d at) a_statement role.statement ((tells m b).from) ((tells m i).from) e p inner (lost_none q (within (λ x. statement.eval m x) p) is none))
+    stmt_beside n z c d at b i (statement.eval m e) q (p, inner, is) none = (
+      m,
+      p.tree,
+      ap (λ (y : Rewritten (statement.Stmt A)). y.tree) is,
+      part_along c d (stands.for_it n z c d at) a_statement role.statement ((tells m b).from) ((tells m i).from) e p inner (lost_none q (within (λ x. statement.eval m x) p) is none),
+    )
     stmt_beside n z c d at b i (statement.branch m e x other) q (p, y, r, inner, one_side, other_side, is) none =
         let all = lost_none q (joined (λ (u : tree.Exp A × statement.Stmt A) v. statement.branch m u.0 u.1 v) (joined (λ u v. (u, v)) p y) r) is none in
         let front = left_none (p.losses ++ y.losses) r.losses all in
@@ -117,21 +118,35 @@ module _ {A : Type 0} (tells : A → ℕ → Span) (rows : List Row) (R : Region
           stmt_beside n z c d at ((tells m b).from) ((tells m i).from) x y one_side body,
           else_beside (n + locals_in x) (z + locals_in y.tree) c d (stands.beside n z c d ((tells m b).from) x y at (one_side, body)) ((tells m b).from) ((tells m i).from) other r other_side (right_none (p.losses ++ y.losses) r.losses all),
         )
-    stmt_beside n z c d at b i (statement.loop m e x) q (p, y, inner, body, is) none = let all = lost_none q (joined (λ u v. statement.loop m u v) p y) is none in
-        (m, p.tree, y.tree, ap (λ (y : Rewritten (statement.Stmt A)). y.tree) is,
-        part_along c d (stands.for_it n z c d at) (level 0) value ((tells m b).from) ((tells m i).from) e p inner (left_none p.losses y.losses all),
-        stmt_beside n z c d at ((tells m b).from) ((tells m i).from) x y body (right_none p.losses y.losses all))
-    stmt_beside n z c d at b i (statement.return m e) q (p, inner, is) none =
-        (m, p.tree, ap (λ (y : Rewritten (statement.Stmt A)). y.tree) is,
-        maybe_beside c d (stands.for_it n z c d at) ((tells m b).from) ((tells m i).from) e p inner (lost_none q (within (λ x. statement.return m x) p) is none))
-    stmt_beside n z c d at b i (statement.block m body) q (p, inner, is) none = let all = lost_none q (within (λ x. statement.block m x) p) is none in
-        (m, p.tree, ap (λ (y : Rewritten (statement.Stmt A)). y.tree) is,
-        list_side n z c d ((tells m b).from) ((tells m i).from) body p inner all (λ x. stmts_beside n z c d at ((tells m b).from) ((tells m i).from) body p x all))
+    stmt_beside n z c d at b i (statement.loop m e x) q (p, y, inner, body, is) none = let all = lost_none q (joined (λ u v. statement.loop m u v) p y) is none in (
+      m,
+      p.tree,
+      y.tree,
+      ap (λ (y : Rewritten (statement.Stmt A)). y.tree) is,
+      part_along c d (stands.for_it n z c d at) (level 0) value ((tells m b).from) ((tells m i).from) e p inner (left_none p.losses y.losses all),
+      stmt_beside n z c d at ((tells m b).from) ((tells m i).from) x y body (right_none p.losses y.losses all),
+    )
+    stmt_beside n z c d at b i (statement.return m e) q (p, inner, is) none = (
+      m,
+      p.tree,
+      ap (λ (y : Rewritten (statement.Stmt A)). y.tree) is,
+      maybe_beside c d (stands.for_it n z c d at) ((tells m b).from) ((tells m i).from) e p inner (lost_none q (within (λ x. statement.return m x) p) is none),
+    )
+    stmt_beside n z c d at b i (statement.block m body) q (p, inner, is) none = let all = lost_none q (within (λ x. statement.block m x) p) is none in (
+      m,
+      p.tree,
+      ap (λ (y : Rewritten (statement.Stmt A)). y.tree) is,
+      list_side n z c d ((tells m b).from) ((tells m i).from) body p inner all (λ x. stmts_beside n z c d at ((tells m b).from) ((tells m i).from) body p x all),
+    )
     stmt_beside n z c d at b i (statement.sync m e body) q (p, y, inner, rest, is) none =
-        let all = lost_none q (joined (λ u v. statement.sync m u v) p y) is none in let back = right_none p.losses y.losses all in
-        (m, p.tree, y.tree, ap (λ (y : Rewritten (statement.Stmt A)). y.tree) is,
-        part_along c d (stands.for_it n z c d at) (level 0) value ((tells m b).from) ((tells m i).from) e p inner (left_none p.losses y.losses all),
-        list_side n z c d ((tells m b).from) ((tells m i).from) body y rest back (λ x. stmts_beside n z c d at ((tells m b).from) ((tells m i).from) body y x back))
+        let all = lost_none q (joined (λ u v. statement.sync m u v) p y) is none in let back = right_none p.losses y.losses all in (
+          m,
+          p.tree,
+          y.tree,
+          ap (λ (y : Rewritten (statement.Stmt A)). y.tree) is,
+          part_along c d (stands.for_it n z c d at) (level 0) value ((tells m b).from) ((tells m i).from) e p inner (left_none p.losses y.losses all),
+          list_side n z c d ((tells m b).from) ((tells m i).from) body y rest back (λ x. stmts_beside n z c d at ((tells m b).from) ((tells m i).from) body y x back),
+        )
     stmt_beside n z c d at b i (statement.empty m) q is none = (m, ap (λ (y : Rewritten (statement.Stmt A)). y.tree) is)
 
     pub else_beside : (n z : ℕ) (c d : Context) → At n z c d → (b i : ℕ) (x : statement.Else A) (q : Rewritten (statement.Else A)) → TransformsElse tells Chosen S n c b x q → q.losses ≡ [] → SideElse n z c d b i x q.tree

@@ -1,20 +1,18 @@
 -- A rename is the case of one region, in which all is renamed alike.
-use Rattle.std.proofs.Common.{◌≡◌, ℕ, List, [], ◌∷◌, map, Option, Some, None, refl, sym, ap, subst, ◌∙◌}
-use Rattle.std.specs.Prelude.{slice_get, option_map}
+use Rattle.std.proofs.Common.{◌≡◌, ℕ, List, [], ◌∷◌, Option, Some, None, refl, ap, subst, ◌∙◌}
+use Rattle.std.specs.Prelude.{option_map}
 use Rattle.std.proofs.lemmas.Option.{slice_get-map}
 use Rattle.jr_text.specs.declared.spans.Span.{Span}
 use Rattle.jr_ast.specs.Tree as tree
-use Rattle.jr_table.specs.Keys.{ClassKey, Ty, int, boolean, void, null, class}
+use Rattle.jr_table.specs.Keys.{Ty, int, boolean, void, null, class}
 use Rattle.jr_table.specs.Decls.{LocalKey, Decl, class_decl, field_decl, method_decl, constructor_decl, local_decl}
 use Rattle.jr_table.specs.Rows.{Row}
-use Rattle.jr_table.specs.Entries.{class_of_member}
-use Rattle.jr_table.specs.Scope.{Scope}
 use Rattle.jr_table.specs.Context.{Context, IsTypeOf}
-use Rattle.jr_table.specs.Binding.{HasType, Role, BindsItself, CreationFinds}
+use Rattle.jr_table.specs.Binding.{HasType, Role}
 use Rattle.jr_rewrite.specs.Rewritten.{Rewritten}
 use Rattle.jr_rewrite.specs.Spots.{nowhere}
 use Rattle.jr_rewrite.specs.Rewrites.{RewritesExp}
-use Rattle.jr_images.specs.Images.{Renaming, class_to, type_to, types_to, decl_to, local_to, row_to, rows_to, scope_to}
+use Rattle.jr_images.specs.Images.{Renaming, type_to, types_to, decl_to, local_to, row_to, rows_to}
 use Rattle.jr_images.specs.Regions.{image_of_type, IsImageRow, AreImages, image_at, AreTypesNow, images_of, seen_of, region_of}
 use Rattle.jr_images.specs.Spelling.{spelling}
 use Rattle.jr_images.specs.Standing.{ContextTo}
@@ -23,7 +21,7 @@ use Rattle.jr_images.specs.RenameLaws.{IsFair}
 use Rattle.jr_images.proofs.Places.{scope_image, type_image}
 use Rattle.jr_images.proofs.World.{World}
 use Rattle.jr_kept_references.specs.InRegions.{StandsFor, TellsTypes}
-use Rattle.jr_kept_references.specs.KeptInRegions.{IsBoundToImage, IsKeptIn, KeptIn}
+use Rattle.jr_kept_references.specs.KeptInRegions.{IsBoundToImage, IsKeptIn}
 use Rattle.jr_kept_references.proofs.RegionWorlds.{RegionWorld}
 use Rattle.jr_kept_references.proofs.RegionExpressions.{kept}
 

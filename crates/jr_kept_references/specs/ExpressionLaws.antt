@@ -1,4 +1,5 @@
--- The law of a rename, of expressions: each reference is bound to the image of what it was bound to.
+-- The law of a rename, of expressions: each reference is bound to the image of what it was bound
+-- to.
 use Rattle.std.specs.Prelude.{◌≡◌, ℕ, List, []}
 use Rattle.jr_text.specs.declared.spans.Span.{Span}
 use Rattle.jr_ast.specs.Tree as tree

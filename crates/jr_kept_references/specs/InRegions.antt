@@ -1,6 +1,6 @@
 -- What is known at a place of the new program by the region of the old one that it stands for, and
 -- which types expressions have there that are rewritten node by node.
-use Rattle.std.specs.Prelude.{◌≡◌, ℕ, List, Option, Some}
+use Rattle.std.specs.Prelude.{◌≡◌, ℕ, List, Some}
 use Rattle.jr_ast.specs.Tree as tree
 use Rattle.jr_table.specs.Keys.{ClassKey, FieldKey, MethodKey, CtorKey, Ty, class}
 use Rattle.jr_table.specs.Decls.{LocalKey, Decl, local_decl}
@@ -16,14 +16,7 @@ use Rattle.jr_table.specs.Binding.{
   CallFinds,
   SuperCallFinds,
 }
-use Rattle.jr_images.specs.Regions.{
-  Images,
-  image_of_type,
-  image_at,
-  Receiver,
-  itself,
-  Region,
-}
+use Rattle.jr_images.specs.Regions.{image_of_type, image_at, itself, Region}
 
 -- ---- images, by the region
 

@@ -2,7 +2,7 @@
 -- binding's own relations, to the image of the declaration that it was bound to; each written type
 -- means the image of the one that it meant; and what stands there now has the type that the region
 -- tells.
-use Rattle.std.specs.Prelude.{◌≡◌, ◌⊎◌, ℕ, List, [], Option, Some, None}
+use Rattle.std.specs.Prelude.{◌≡◌, ◌⊎◌, ℕ, List, [], Some, None}
 use Rattle.jr_ast.specs.Tree as tree
 use Rattle.jr_table.specs.Keys.{ClassKey, CtorKey, Ty}
 use Rattle.jr_table.specs.Decls.{Decl, class_decl, constructor_decl}
@@ -10,7 +10,7 @@ use Rattle.jr_table.specs.Rows.{Row}
 use Rattle.jr_table.specs.Found.{one}
 use Rattle.jr_table.specs.Scope.{Scope}
 use Rattle.jr_table.specs.Lookup.{FindsTypeNamed, FindsTypeOf}
-use Rattle.jr_table.specs.Context.{Context, scope_of, NamesClass, WritesType}
+use Rattle.jr_table.specs.Context.{Context, NamesClass, WritesType}
 use Rattle.jr_table.specs.Binding.{
   HasType,
   IsClassName,
@@ -108,8 +108,8 @@ module _ {A : Type 0} (begins : A → ℕ → ℕ) (rows : List Row) (R : Region
 
 -- ---- spots
 
--- what a spot makes of an expression has the type that the region tells, and is a class's name where
--- the expression was one: a refactoring owes it where it loses nothing
+-- what a spot makes of an expression has the type that the region tells, and is a class's name
+-- where the expression was one: a refactoring owes it where it loses nothing
 abbrev pub PartsBecome : {A : Type 0} (begins : A → ℕ → ℕ) (rows : List Row) → Region A → Spotted A
     → Type 0
 PartsBecome begins rows R nowhere = Unit {0}

@@ -45,7 +45,8 @@ module _ {A : Type 0} (rows : List Row) (d : Context) (m : A) where
       (word_to (spelled k.name k.name k.class f) (new_word_of k.name)))
   IsMade args (method_decl k) y = (ts : List Ty) × HaveTypes rows d args ts × (f : Form)
       × IsTaken rows (scope_of d) (reference ref.MethodSimple k.name None ts) (method_decl k) f
-      × (y ≡ tree.call m (target_of (operand_to m (front_of (spelled k.name k.name k.class f)) None))
+      × (y
+      ≡ tree.call m (target_of (operand_to m (front_of (spelled k.name k.name k.class f)) None))
       (word_to (spelled k.name k.name k.class f) (new_word_of k.name)) args)
   IsMade args (class_decl k) y = ⊥
   IsMade args (constructor_decl k) y = ⊥

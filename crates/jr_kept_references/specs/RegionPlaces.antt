@@ -1,5 +1,5 @@
--- How places of the new program stand for those of a member in a region: a relation of what is known
--- at both, with the numbers of the next locals, which a refactoring says.
+-- How places of the new program stand for those of a member in a region: a relation of what is
+-- known at both, with the numbers of the next locals, which a refactoring says.
 use Rattle.std.specs.Prelude.{◌≡◌, ℕ, ◌+◌, List, [], Bool}
 use Rattle.jr_text.specs.declared.spans.Span.{Span}
 use Rattle.jr_ast.specs.Tree as tree
@@ -23,7 +23,8 @@ use Rattle.jr_rewrite.specs.Rewrites.{Choosing, TransformsStmt}
 use Rattle.jr_images.specs.Regions.{Region}
 use Rattle.jr_kept_references.specs.InRegions.{rows_in, name_in, type_in, StandsFor}
 
--- where the next locals have these numbers, what is known at a place and at the one that stands for it
+-- where the next locals have these numbers, what is known at a place and at the one that stands for
+-- it
 abbrev pub Standing : Type 1
 Standing = (next next' : ℕ) → Context → Context → Type 0
 

@@ -5,9 +5,9 @@ use jr_spell::spellings_rebind;
 use jr_table::{lookups_are_exact, types_are_exact};
 use jr_text::Mark;
 
-/// Where a renamed expression loses nothing, each of its references is bound in the new program, by
-/// binding's own relations, to the image of what it was bound to: a rename is the case of one region
-/// in which all references are asked alike.
+/// Where a renamed expression loses nothing, its reference is bound in the new program, by
+/// binding's own relations, to the image of what it was bound to: a rename is the case of one
+/// region in which all references are asked alike.
 pub fn renamed_expressions_are_kept<A: Mark>()
     ensures { ExpressionsAreKept A }
 {
