@@ -1,0 +1,7 @@
+pub mod InRegions
+pub mod KeptInRegions
+pub mod ExpressionLaws
+pub mod AlongSpots
+pub mod Made
+pub mod StatementsAlong
+pub mod RegionPlaces
