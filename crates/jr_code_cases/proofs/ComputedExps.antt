@@ -312,6 +312,7 @@ module _ {A : Type 0} (begins : A → ℕ → ℕ) (rows : List Row) (are : AreR
 
   mutual
     unfolding ExpCode TargetOf ReceiverCode RowCode
+
     pub exp_is : (b : ℕ) (e : tree.Exp A) (x : Code) → exp_code begins rows c b e ≡ Some x → ExpCode begins rows c b e x
     exp_is b (tree.number m n) x h = inside _ x h
     exp_is b (tree.truth m v) x h = inside _ x h

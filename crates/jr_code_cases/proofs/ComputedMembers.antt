@@ -106,6 +106,7 @@ module _ {A : Type 0} (begins ends : A → ℕ → ℕ) (rows : List Row) (are :
 
   mutual
     unfolding StmtCode ElseCode StmtsCode
+
     pub stmt_is : (n : ℕ) (c : Context) (b : ℕ) (x : statement.Stmt A) (s : StatementCode) → stmt_code begins ends rows n c b x ≡ Some s → StmtCode begins ends rows n c b x s
     stmt_is n c b (statement.local m f t w e) s h =
         let p = mapped (exp_code begins rows (in_own c (local_of c n f t w)) (begins m b) e) _ s h in
@@ -113,9 +114,15 @@ module _ {A : Type 0} (begins ends : A → ℕ → ℕ) (rows : List Row) (are :
     stmt_is n c b (statement.eval m e) s h = let p = mapped (exp_code begins rows c (begins m b) e) _ s h in (p.0, exp_is begins rows are found c (begins m b) e p.0 p.1, p.2)
     stmt_is n c b (statement.branch m e x other) s h =
         let p = two (exp_code begins rows c (begins m b) e) (of_two (stmt_code begins ends rows n c (begins m b) x) (else_code begins ends rows (n + locals_in x) c (begins m b) other) pair) _ s h in
-        let q = two (stmt_code begins ends rows n c (begins m b) x) (else_code begins ends rows (n + locals_in x) c (begins m b) other) pair p.1 p.3 in
-        (p.0, q.0, q.1, exp_is begins rows are found c (begins m b) e p.0 p.2, stmt_is n c (begins m b) x q.0 q.2, else_is (n + locals_in x) c (begins m b) other q.1 q.3,
-          p.4 ∙ ap (λ (r : StatementCode × StatementCode). core.branch (Some (at_in c.member (begins m b))) p.0 r.0 r.1) q.4)
+        let q = two (stmt_code begins ends rows n c (begins m b) x) (else_code begins ends rows (n + locals_in x) c (begins m b) other) pair p.1 p.3 in (
+          p.0,
+          q.0,
+          q.1,
+          exp_is begins rows are found c (begins m b) e p.0 p.2,
+          stmt_is n c (begins m b) x q.0 q.2,
+          else_is (n + locals_in x) c (begins m b) other q.1 q.3,
+          p.4 ∙ ap (λ (r : StatementCode × StatementCode). core.branch (Some (at_in c.member (begins m b))) p.0 r.0 r.1) q.4,
+        )
     stmt_is n c b (statement.loop m e x) s h =
         let p = two (exp_code begins rows c (begins m b) e) (stmt_code begins ends rows n c (begins m b) x) _ s h in
         (p.0, p.1, exp_is begins rows are found c (begins m b) e p.0 p.2, stmt_is n c (begins m b) x p.1 p.3, p.4)

@@ -114,14 +114,19 @@ module _ (ds : List DeclaredItem) where
         (_, rest, refl, record { type = meaning f.type; means = means ds top f.of (none_is f.of.outer t.0) f.type t.1; is = refl }, are)
     item_are file (method_item m) xs rest e are =
         let t = both (is_none m.of.outer) (has_result m.result && have_meanings ds m.params) e in
-        let u = both (has_result m.result) (have_meanings ds m.params) t.1 in
-        (_, rest, refl, record {
-          result = result_of m.result;
-          params = meanings m.params;
-          means = means_result m.of (none_is m.of.outer t.0) m.result u.0;
-          mean = mean ds top m.of (none_is m.of.outer t.0) m.params u.1;
-          is = refl;
-        }, are)
+        let u = both (has_result m.result) (have_meanings ds m.params) t.1 in (
+          _,
+          rest,
+          refl,
+          record {
+            result = result_of m.result;
+            params = meanings m.params;
+            means = means_result m.of (none_is m.of.outer t.0) m.result u.0;
+            mean = mean ds top m.of (none_is m.of.outer t.0) m.params u.1;
+            is = refl;
+          },
+          are,
+        )
     item_are file (ctor_item c) xs rest e are =
         let t = both (is_none c.of.outer) (have_meanings ds c.params) e in
         (_, rest, refl, record { params = meanings c.params; mean = mean ds top c.of (none_is c.of.outer t.0) c.params t.1; is = refl }, are)

@@ -11,9 +11,10 @@ use Rattle.jr_grammar.specs.MemberSpelling.{unit_toks}
 use Rattle.jr_grammar.specs.MemberShape.{UnitShaped}
 use Rattle.jr_grammar.proofs.Cases.Scanned.{are_ascii, cut}
 use Rattle.jr_runs.specs.Core as core
+use Rattle.jr_runs.specs.Values.{Value}
 use Rattle.jr_runs.specs.Actions.{Trace}
 use Rattle.jr_runs.specs.FirstValues.{First}
-use Rattle.jr_runs.specs.Running.{Start, Ending, ending_of, Whole, plain_run, actions_of}
+use Rattle.jr_runs.specs.Running.{Start, Ending, gave_nothing, ending_of, Whole, plain_run, actions_of}
 use Rattle.jr_runs.specs.Evaluation.{Flow}
 use Rattle.jr_runs.specs.Arithmetic.{Out}
 use Rattle.jr_plans.specs.Run.{ended}
@@ -26,17 +27,18 @@ use Rattle.jr_table.specs.Conditions.{AreRows}
 use Rattle.jr_table.specs.DeclaredItems.{DeclaredItem, declarations_of}
 use Rattle.jr_table.specs.declared.rules.Rule.{Rule}
 use Rattle.jr_table.proofs.LookupLaws.{keys_found}
+use Rattle.jr_histories.specs.Histories.{begins, started, Step, part_of, Runs}
 use Rattle.jr_code.specs.RunKeys.{RunKeys}
 use Rattle.jr_code.specs.CodedMembers.{HasPrelude}
 use Rattle.jr_code.specs.CodedFields.{UnitsFirsts}
 use Rattle.jr_code.proofs.TestedRows.{all_first, all_named, all_lower, are_rows}
-use Rattle.jr_code_cases.specs.Shown.{first_of, last_of, HasTree, HasCode, Shows, ShowsOnly, Refuses}
+use Rattle.jr_code_cases.specs.Shown.{first_of, last_of, alone, HasTree, HasCode, Shows, ShowsOnly, ShowsBoth, Refuses}
 use Rattle.jr_code_cases.proofs.Reading.{items, marked, reads}
 use Rattle.jr_code_cases.proofs.TopTypes.{both, all_top}
 use Rattle.jr_code_cases.proofs.DeclaredRows.{own_rows, all_pass, rows_are}
 use Rattle.jr_code_cases.proofs.Broken.{rule_of, classes_wrong, has_error}
 use Rattle.jr_code_cases.proofs.ComputedFirsts.{classes_values, values_declared, first, gives_all, are_first}
-use Rattle.jr_code_cases.proofs.Memory.{AllMay, lone_history}
+use Rattle.jr_code_cases.proofs.Memory.{AllMay, of_either, lone_history, two_histories}
 use Rattle.jr_code_cases.proofs.OneRun.{one_run}
 use Rattle.jr_code_cases.proofs.Sound.{classes_quiet, is_sound}
 use Rattle.jr_code_cases.proofs.ComputedProgram.{methods_declared, ctors_declared, methods_of, ctors_of, program, ClassesCheck, is_code}
@@ -122,7 +124,7 @@ module _ (text : List ℕ) (tree : UnitTree Bare) where
       -- the run, with what static fields begin with, and each action where memory lets it come
       module _ (quiet : (super_at : MemberKey → ℕ) → classes_quiet first_of rows declarations super_at 0 unit.classes ≡ true) (codes_pass : code_passes ≡ true) (checks : Checks) (prelude : HasPrelude resolved) where
         pub shows : (start : Start RunKeys) (trace : Trace RunKeys) (ending : Ending RunKeys) → values_declared rows (classes_values first_of unit.classes) ≡ true → UnitsFirsts first_of begin (unit ∷ []) → Whole resolved start trace ending
-            → AllMay resolved.rows begin [] trace → Shows text start trace ending
+            → AllMay resolved.rows begin (begins start ∷ []) [] (alone trace) → Shows text start trace ending
         unfolding has_tree has_code
         shows start trace ending values firsts whole may = record {
           program = resolved;
@@ -130,14 +132,29 @@ module _ (text : List ℕ) (tree : UnitTree Bare) where
           runs = whole;
           first = begin;
           firsts = are_first first_of rows resolved.rows unit values firsts;
-          history = lone_history resolved begin (gives_all first_of rows resolved.rows unit) start (thread_key (codes "run")) trace ending whole may;
+          history = lone_history resolved begin (gives_all first_of rows resolved.rows unit) (thread_key (codes "run")) start trace ending whole may;
         }
 
         -- the same where nothing is asked for
         pub shows_only : (start : Start RunKeys) (trace : Trace RunKeys) (ending : Ending RunKeys) → values_declared rows (classes_values first_of unit.classes) ≡ true → UnitsFirsts first_of begin (unit ∷ []) → (n : ℕ) (out : Out (Flow RunKeys))
-            → actions_of (plain_run resolved start [] n).trace ≡ trace → (plain_run resolved start [] n).end ≡ ended out → ending_of out ≡ ending → AllMay resolved.rows begin [] trace → ShowsOnly text start trace ending
+            → actions_of (plain_run resolved start [] n).trace ≡ trace → (plain_run resolved start [] n).end ≡ ended out → ending_of out ≡ ending → AllMay resolved.rows begin (begins start ∷ []) [] (alone trace) → ShowsOnly text start trace ending
         unfolding shows
         shows_only start trace ending values firsts n out trace_is end_is ending_is may = record {
           shows = shows start trace ending values firsts (record { answers = []; fuel = n; out = out; trace_is = trace_is; end_is = end_is; ending_is = ending_is }) may;
           only = λ other end w. let one = one_run resolved start n out end_is other end w in (one.0 ∙ trace_is, one.1 ∙ ending_is);
+        }
+
+        -- two threads
+        pub shows_both : (start other : Start RunKeys) (of : Value RunKeys) (steps : List (Step RunKeys)) (ending : Ending RunKeys) → values_declared rows (classes_values first_of unit.classes) ≡ true → UnitsFirsts first_of begin (unit ∷ [])
+            → Whole resolved start (part_of 0 steps) ending → Runs resolved.rows (thread_key (codes "run")) (started of) other → Whole resolved other (part_of 1 steps) gave_nothing → of_either steps ≡ true
+            → AllMay resolved.rows begin (begins start ∷ started of ∷ []) [] steps → ShowsBoth text start other of steps ending
+        unfolding has_tree has_code
+        shows_both start other of steps ending values firsts whole runs others either may = record {
+          program = resolved;
+          code = has_code quiet codes_pass checks prelude;
+          runs = whole;
+          others = others;
+          first = begin;
+          firsts = are_first first_of rows resolved.rows unit values firsts;
+          history = two_histories resolved begin (gives_all first_of rows resolved.rows unit) (thread_key (codes "run")) start of steps (part_of 0 steps) (part_of 1 steps) ending gave_nothing other whole runs others refl refl either may;
         }

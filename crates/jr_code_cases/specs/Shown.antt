@@ -14,11 +14,12 @@ use Rattle.jr_table.specs.DeclaredItems.{declarations_of}
 use Rattle.jr_table.specs.ProgramRows.{AreProgramRows}
 use Rattle.jr_table.specs.Errors.{Error, HasError, IsSound}
 use Rattle.jr_table.specs.declared.rules.Rule.{Rule}
+use Rattle.jr_runs.specs.Values.{Value}
 use Rattle.jr_runs.specs.Actions.{Trace}
 use Rattle.jr_runs.specs.Core as core
-use Rattle.jr_runs.specs.Running.{Start, Ending, Whole, Bounded}
+use Rattle.jr_runs.specs.Running.{Start, Ending, gave_nothing, Whole, Bounded}
 use Rattle.jr_runs.specs.FirstValues.{First}
-use Rattle.jr_histories.specs.Histories.{begins, Step, History}
+use Rattle.jr_histories.specs.Histories.{begins, started, Step, part_of, History}
 use Rattle.jr_code.specs.RunKeys.{RunKeys}
 use Rattle.jr_code.specs.CodedFields.{AreFirstValues}
 use Rattle.jr_code.specs.Programs.{IsCodeOf}
@@ -68,6 +69,19 @@ pub record ShowsOnly (text : List ℕ) (start : Start RunKeys) (trace : Trace Ru
   pub shows : Shows text start trace ending
   pub only : (other : Trace RunKeys) (end : Ending RunKeys) → Whole shows.program start other end
       → (other ≡ trace) × (end ≡ ending)
+
+-- A thread that starts another, whose Thread object is told: what each of them does, and one order
+-- of their steps, in which each load gives what was stored last.
+pub record ShowsBoth (text : List ℕ) (start other : Start RunKeys) (of : Value RunKeys)
+    (steps : List (Step RunKeys)) (ending : Ending RunKeys) : Type 0 where
+  pub program : core.Program RunKeys
+  pub code : HasCode text program
+  pub runs : Whole program start (part_of 0 steps) ending
+  pub others : Whole program other (part_of 1 steps) gave_nothing
+  pub first : FieldKey → First RunKeys
+  pub firsts : AreFirstValues first_of code.tree.rows (code.tree.unit ∷ []) program.rows first
+  pub history : History program (thread_key (codes "run")) first
+      (begins start ∷ started of ∷ []) steps
 
 -- A member breaks the rule, so that the program isn't sound.
 pub record Refuses (text : List ℕ) (rule : Rule) : Type 0 where

@@ -12,10 +12,10 @@ text_of_endless = codes "class A { static int n; static int go() { while (true) 
 
 abbrev pub Endless : Type 0
 Endless = NeverEnds text_of_endless (go_of a) (
-      load plain (static_of a (codes "n")) (number 0)
-      ∷ store plain (static_of a (codes "n")) (number 1)
-      ∷ load plain (static_of a (codes "n")) (number 1)
-      ∷ [])
+    load plain (static_of a (codes "n")) (number 0)
+    ∷ store plain (static_of a (codes "n")) (number 1)
+    ∷ load plain (static_of a (codes "n")) (number 1)
+    ∷ [])
 
 -- incompatible types: void cannot be converted to int
 abbrev pub text_of_void_value : List ℕ
