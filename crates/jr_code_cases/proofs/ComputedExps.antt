@@ -1,5 +1,5 @@
 -- The code of expressions, computed: what is computed is their code.
-use Rattle.std.proofs.Common.{◌≡◌, ℕ, List, [], Option, Some, None, Bool, true, false, pos, refl, sym, ap, ◌∙◌, inl, inr}
+use Rattle.std.proofs.Common.{◌≡◌, ℕ, List, Option, Some, None, Bool, true, false, pos, refl, sym, ap, ◌∙◌, inl, inr}
 use Rattle.std.specs.Prelude.{option_map, slice_get, option_and_then}
 use Rattle.std.specs.List.{list_any}
 use Rattle.jr_ast.specs.Tree as tree
@@ -17,8 +17,8 @@ use Rattle.jr_table.specs.Entries.{IsRowOf, number_of, is_static_word}
 use Rattle.jr_table.specs.Found.{Found, one, nothing, many, not_accessible, from_static}
 use Rattle.jr_table.specs.Lookup.{find_variable}
 use Rattle.jr_table.specs.LookupLaws.{KeysAreFound}
-use Rattle.jr_table.specs.Context.{Context, scope_of, WritesType}
-use Rattle.jr_table.specs.Binding.{FieldFinds, CallFinds, SuperCallFinds, CreationFinds, word_at}
+use Rattle.jr_table.specs.Context.{Context, scope_of}
+use Rattle.jr_table.specs.Binding.{word_at}
 use Rattle.jr_table.specs.Meanings.{row_of, field_found, call_found, ctor_found, own_superclass, created_class, class_on, target_found, types_of, type_of, written_type}
 use Rattle.jr_table.specs.Notes.{assigns}
 use Rattle.jr_table.proofs.RowLaws.{number_stands}

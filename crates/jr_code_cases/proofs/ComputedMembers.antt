@@ -6,7 +6,7 @@ use Rattle.jr_ast.specs.StatementTree as statement
 use Rattle.jr_ast.specs.MemberTree as syntax
 use Rattle.jr_runs.specs.Core as core
 use Rattle.jr_runs.specs.MemberTranslation.{is_synchronized, locked, monitor, in_front}
-use Rattle.jr_table.specs.Keys.{ClassKey, FieldKey, MethodKey, CtorKey}
+use Rattle.jr_table.specs.Keys.{ClassKey, MethodKey, CtorKey}
 use Rattle.jr_table.specs.Decls.{MemberKey, head, field, method, constructor, class_decl, field_decl, method_decl, constructor_decl, local_decl}
 use Rattle.jr_table.specs.Rows.{Row}
 use Rattle.jr_table.specs.Conditions.{AreRows}
@@ -19,9 +19,8 @@ use Rattle.jr_table.specs.Meanings.{ctor_found, own_superclass}
 use Rattle.jr_table.specs.HeadRules.{plain, with_parameters, is_static_member}
 use Rattle.jr_table.proofs.Typing.{in_iff, own_super_iff}
 use Rattle.jr_code.specs.RunKeys.{RunKeys, Place}
-use Rattle.jr_code.specs.Coded.{Code, ExpCode}
 use Rattle.jr_code.specs.CodedStatements.{numbers, StatementCode, ListCode, ReturnCode, StmtCode, ElseCode, StmtsCode}
-use Rattle.jr_code.specs.CodedMembers.{MemberCode, ImplicitFinds, MethodCoded, stored, InitBy, InitCoded, InitsCoded, ConstructorCoded, DefaultCoded}
+use Rattle.jr_code.specs.CodedMembers.{MemberCode, ImplicitFinds, MethodCoded, InitBy, InitCoded, InitsCoded, ConstructorCoded, DefaultCoded}
 use Rattle.jr_code_cases.proofs.ComputedExps.{mapped, pair, of_two, two, exp_code, exp_is}
 
 inside : {X : Type 0} (x y : X) → Some x ≡ Some y → y ≡ x

@@ -1,5 +1,5 @@
 -- What runs need of a program's rows, computed.
-use Rattle.std.proofs.Common.{◌≡◌, ℕ, List, [], map, Option, Some, None, Bool, true, false, cond, refl, sym, ap, subst, ◌∙◌, inl, inr, eq-eqb, eqb-true}
+use Rattle.std.proofs.Common.{◌≡◌, ℕ, List, [], map, Option, Some, None, Bool, true, false, refl, sym, ap, subst, ◌∙◌, eq-eqb, eqb-true}
 use Rattle.std.specs.Prelude.{◌↔◌, ◌||◌, ◌==◌, is_some, slice_get, codes, IsTrue, option_and_then}
 use Rattle.std.specs.List.{list_any}
 use Rattle.jr_runs.specs.Values as value
@@ -11,7 +11,7 @@ use Rattle.jr_table.specs.SameKeys.{same_class, class_decides}
 use Rattle.jr_table.specs.Decls.{Decl, class_decl, field_decl, method_decl, constructor_decl}
 use Rattle.jr_table.specs.Rows.{Row}
 use Rattle.jr_table.specs.Prelude.{top_key}
-use Rattle.jr_table.specs.Entries.{IsRowOf, number_of, entries_of, is_static_word, kind_of, method_of, method_at}
+use Rattle.jr_table.specs.Entries.{IsRowOf, number_of, entries_of, is_static_word, kind_of, method_at}
 use Rattle.jr_table.specs.Conditions.{AreRows}
 use Rattle.jr_table.specs.Members.{DeclaresVirtual, Dispatches}
 use Rattle.jr_table.specs.Looking.{is_virtual, nearest}

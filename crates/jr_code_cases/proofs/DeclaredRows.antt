@@ -1,14 +1,14 @@
 -- The rows of a program of top-level classes, computed from what it declares.
-use Rattle.std.proofs.Common.{◌≡◌, ℕ, List, [], ◌∷◌, ◌++◌, Option, Some, None, Bool, true, false, ◌&&◌, refl, sym, ap, subst, ◌∙◌, inl, inr}
+use Rattle.std.proofs.Common.{◌≡◌, ℕ, List, [], ◌∷◌, ◌++◌, Option, Some, None, Bool, true, false, ◌&&◌, refl, inl}
 use Rattle.std.specs.Prelude.{is_some, is_none}
 use Rattle.jr_ast.specs.declared.operators.ModWord.{ModWord}
 use Rattle.jr_table.specs.Keys.{ClassKey, Ty, void}
 use Rattle.jr_table.specs.Decls.{class_decl, field_decl, method_decl, constructor_decl}
 use Rattle.jr_table.specs.Rows.{Row}
 use Rattle.jr_table.specs.Prelude.{prelude_rows, top_key, object_key}
-use Rattle.jr_table.specs.DeclaredItems.{Written, int, boolean, named, DeclaredClass, DeclaredField, DeclaredMethod, DeclaredCtor, Item, class_item, field_item, method_item, ctor_item, DeclaredItem}
+use Rattle.jr_table.specs.DeclaredItems.{Written, int, boolean, named, DeclaredClass, Item, class_item, field_item, method_item, ctor_item, DeclaredItem}
 use Rattle.jr_table.specs.Resolving.{TopNames, TopParent, IsParent}
-use Rattle.jr_table.specs.ProgramRows.{MeansResult, unwritten_row, IsClassRow, IsFieldRow, IsMethodRow, IsCtorRow, AreRowsOfDeclarations, AreProgramRows}
+use Rattle.jr_table.specs.ProgramRows.{MeansResult, unwritten_row, IsClassRow, AreRowsOfDeclarations, AreProgramRows}
 use Rattle.jr_code_cases.proofs.TopTypes.{both, find_class, found_class, all_top, meaning, meanings, is_top, top_is, has_meaning, have_meanings, means, mean}
 
 abbrev pub result_of : Option Written → Ty

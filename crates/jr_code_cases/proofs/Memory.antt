@@ -10,7 +10,7 @@ use Rattle.jr_runs.specs.Rows.{Rows}
 use Rattle.jr_runs.specs.FirstValues.{First, gives, makes, default_of}
 use Rattle.jr_runs.specs.Core.{Program}
 use Rattle.jr_runs.specs.Running.{Start, Ending, Whole}
-use Rattle.jr_histories.specs.Histories.{Thread, begins, started, thread_at, Step, if_same, part_of, InitialIs, LastIs, Counts, number_of, made_number, NoneMakes, NoneStarts, OneStarts, MayCome, AllMayCome, OfThreads, Runs, History}
+use Rattle.jr_histories.specs.Histories.{Thread, begins, started, thread_at, Step, part_of, InitialIs, LastIs, Counts, number_of, made_number, NoneMakes, NoneStarts, OneStarts, MayCome, AllMayCome, OfThreads, Runs, History}
 use Rattle.jr_runs.specs.Reordering.{Reordered}
 use Rattle.jr_table.specs.Keys.{ClassKey, FieldKey, MethodKey}
 use Rattle.jr_table.specs.SameKeys.{same_class, class_decides, same_field, field_decides}

@@ -5,9 +5,9 @@ use Rattle.jr_table.specs.Keys.{ClassKey, Ty, class}
 use Rattle.jr_table.specs.Keys as keys
 use Rattle.jr_table.specs.SameKeys.{same_name, same_class, class_decides}
 use Rattle.std.specs.Cmp.Lexicographic.{bytes_decides}
-use Rattle.jr_table.specs.Prelude.{top_key, object_key}
+use Rattle.jr_table.specs.Prelude.{top_key}
 use Rattle.jr_table.specs.DeclaredItems.{Written, int, boolean, named, DeclaredParam, DeclaredClass, Item, class_item, field_item, method_item, ctor_item, DeclaredItem}
-use Rattle.jr_table.specs.Resolving.{DeclaresClass, IsPreludeSubclass, IsPreludeClass, IsDeclared, IsTopClass, TopNames, TopParent, TopMemberType, TypeWithin, HasMemberType, FindsAround, FindsType, Means}
+use Rattle.jr_table.specs.Resolving.{DeclaresClass, IsPreludeClass, IsDeclared, IsTopClass, TopMemberType, TypeWithin, HasMemberType, FindsAround, Means}
 use Rattle.jr_table.specs.ProgramRows.{MeanTypes}
 
 pub both : (a b : Bool) → a && b ≡ true → (a ≡ true) × (b ≡ true)

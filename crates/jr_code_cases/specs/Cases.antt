@@ -214,7 +214,8 @@ FailedCast = Shows text_of_failed_cast (go_of b) (
     create an_a
     ∷ []) (threw failed_cast)
 
--- What was stored before a volatile store is there behind the load that sees it (JLS 17.4.5).
+-- What was stored before a volatile store is there behind the load that sees it (JLS 17.4.5). Here
+-- the loop turns twice; under `java` it turns some times more.
 abbrev pub text_of_handed_over : List ℕ
 text_of_handed_over =
     codes "class A extends Thread { static volatile boolean done; static int n; "
@@ -231,7 +232,9 @@ abbrev pub HandedOver : Type 0
 HandedOver = ShowsBoth text_of_handed_over (go_of a) run_of_a an_a (
     by_thread 0 (create an_a)
     ∷ by_thread 0 (start an_a (truth false))
+    ∷ by_thread 0 (load volatile (static_of a (codes "done")) (truth false))
     ∷ by_thread 1 (store plain (static_of a (codes "n")) (number 1))
+    ∷ by_thread 0 (load volatile (static_of a (codes "done")) (truth false))
     ∷ by_thread 1 (store volatile (static_of a (codes "done")) (truth true))
     ∷ by_thread 0 (load volatile (static_of a (codes "done")) (truth true))
     ∷ by_thread 0 (load plain (static_of a (codes "n")) (number 1))

@@ -12,7 +12,7 @@ use Rattle.jr_table.specs.Prelude.{thread_key}
 use Rattle.jr_table.specs.Conditions.{AreRows}
 use Rattle.jr_table.specs.DeclaredItems.{declarations_of}
 use Rattle.jr_table.specs.ProgramRows.{AreProgramRows}
-use Rattle.jr_table.specs.Errors.{Error, HasError, IsSound}
+use Rattle.jr_table.specs.Errors.{HasError, IsSound}
 use Rattle.jr_table.specs.declared.rules.Rule.{Rule}
 use Rattle.jr_runs.specs.Values.{Value}
 use Rattle.jr_runs.specs.Actions.{Trace}

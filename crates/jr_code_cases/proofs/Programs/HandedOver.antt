@@ -19,8 +19,8 @@ unit = record { mark = tt; package_name = []; classes = ((syntax.class tt [] (w 
 pub shown : HandedOver
 unfolding computing
 shown = shows_both text_of_handed_over unit refl refl (grind arith) refl (λ s. refl) refl (refl, refl, (tt, (tt, ((refl, refl), ((refl, refl), tt)))), tt) (record { object = refl; thread = refl; run = refl; start = refl }) _ _ _ _ _ refl (((tt, (tt, (tt, (tt, tt)))), tt), tt)
-    (record { answers = an_a ∷ truth false ∷ truth true ∷ number 1 ∷ []; fuel = 4; out = _; trace_is = refl; end_is = refl; ending_is = refl })
+    (record { answers = an_a ∷ truth false ∷ truth false ∷ truth false ∷ truth true ∷ number 1 ∷ []; fuel = 6; out = _; trace_is = refl; end_is = refl; ending_is = refl })
     (a, refl, refl)
     (record { answers = []; fuel = 4; out = _; trace_is = refl; end_is = refl; ending_is = refl })
     refl
-    (refl, tt, (refl, tt, (tt, refl, (tt, refl, (refl, tt, (refl, tt, tt))))))
+    (refl, tt, (refl, tt, (refl, tt, (tt, refl, (refl, tt, (tt, refl, (refl, tt, (refl, tt, tt))))))))
