@@ -8,6 +8,8 @@ pub mod ComputedRunRows
 pub mod ComputedExps
 pub mod ComputedMembers
 pub mod ComputedProgram
+pub mod Pairing
+pub mod CleanWords
 pub mod Sound
 pub mod Broken
 pub mod Showing
