@@ -72,7 +72,7 @@ module _ (ds : List DeclaredItem) where
 
   -- ---- and what it gives
 
-  none_is : {X : Type 0} (o : Option X) → is_none o ≡ true → o ≡ None
+  pub none_is : {X : Type 0} (o : Option X) → is_none o ≡ true → o ≡ None
   none_is None e = refl
   none_is (Some x) e = absurd cc
 
@@ -87,7 +87,7 @@ module _ (ds : List DeclaredItem) where
   top_parent name None is e = absurd cc
   top_parent name (Some at) is e = inl (at, found_class ds name at is, names at.parent e)
 
-  is_parent : (k : ClassKey) → is_none k.outer && has_parent (find_class ds k.name) ≡ true → IsParent ds k (parent_in (find_class ds k.name))
+  pub is_parent : (k : ClassKey) → is_none k.outer && has_parent (find_class ds k.name) ≡ true → IsParent ds k (parent_in (find_class ds k.name))
   is_parent k e = let t = both (is_none k.outer) (has_parent (find_class ds k.name)) e in inl (none_is k.outer t.0, top_parent k.name (find_class ds k.name) refl t.1)
 
   is_class_row : (c : DeclaredClass) → is_none c.key.outer && has_parent (find_class ds c.key.name) ≡ true → IsClassRow ds c (class_row c)

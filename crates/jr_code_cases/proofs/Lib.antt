@@ -10,6 +10,8 @@ pub mod ComputedMembers
 pub mod ComputedProgram
 pub mod Pairing
 pub mod CleanWords
+pub mod NoCycle
+pub mod Clean
 pub mod Sound
 pub mod Broken
 pub mod Showing

@@ -40,6 +40,7 @@ use Rattle.jr_code_cases.proofs.Broken.{rule_of, classes_wrong, has_error}
 use Rattle.jr_code_cases.proofs.ComputedFirsts.{classes_values, values_declared, first, gives_all, are_first}
 use Rattle.jr_code_cases.proofs.Memory.{AllMay, of_either, lone_history, two_histories}
 use Rattle.jr_code_cases.proofs.OneRun.{one_run}
+use Rattle.jr_code_cases.proofs.Clean.{is_clean, clean_is}
 use Rattle.jr_code_cases.proofs.Sound.{classes_quiet, is_sound}
 use Rattle.jr_code_cases.proofs.ComputedProgram.{methods_declared, ctors_declared, methods_of, ctors_of, program, ClassesCheck, is_code}
 
@@ -67,7 +68,7 @@ module _ (text : List ℕ) (tree : UnitTree Bare) where
   text_passes = are_ascii text && (scalars text && is_some (cut (length text) 0 text))
 
   abbrev pub rows_pass : Bool
-  rows_pass = all_top declarations && (all_pass declarations declarations && (all_first rows 0 rows && (all_named rows rows && (all_lower 0 (entries_of rows) && nat_lt (length rows) (2 ^ 32)))))
+  rows_pass = (all_top declarations && (all_pass declarations declarations && is_clean declarations)) && (all_first rows 0 rows && (all_named rows rows && (all_lower 0 (entries_of rows) && nat_lt (length rows) (2 ^ 32))))
 
   abbrev pub code_passes : Bool
   code_passes = methods_declared rows (methods_of first_of last_of rows unit) && ctors_declared rows (ctors_of first_of last_of rows unit)
@@ -76,14 +77,14 @@ module _ (text : List ℕ) (tree : UnitTree Bare) where
   Checks = ClassesCheck first_of last_of rows declarations resolved 0 unit.classes
 
   module _ (passes : rows_pass ≡ true) where
-    c : (all_top declarations ≡ true) × (all_pass declarations declarations && (all_first rows 0 rows && (all_named rows rows && (all_lower 0 (entries_of rows) && nat_lt (length rows) (2 ^ 32)))) ≡ true)
-    c = both (all_top declarations) _ passes
+    c : (all_top declarations && (all_pass declarations declarations && is_clean declarations) ≡ true) × (all_first rows 0 rows && (all_named rows rows && (all_lower 0 (entries_of rows) && nat_lt (length rows) (2 ^ 32))) ≡ true)
+    c = both (all_top declarations && (all_pass declarations declarations && is_clean declarations)) _ passes
 
-    d : (all_pass declarations declarations ≡ true) × (all_first rows 0 rows && (all_named rows rows && (all_lower 0 (entries_of rows) && nat_lt (length rows) (2 ^ 32))) ≡ true)
-    d = both (all_pass declarations declarations) _ c.1
+    d : (all_pass declarations declarations ≡ true) × (is_clean declarations ≡ true)
+    d = both (all_pass declarations declarations) (is_clean declarations) (both (all_top declarations) _ c.0).1
 
     e : (all_first rows 0 rows ≡ true) × (all_named rows rows && (all_lower 0 (entries_of rows) && nat_lt (length rows) (2 ^ 32)) ≡ true)
-    e = both (all_first rows 0 rows) _ d.1
+    e = both (all_first rows 0 rows) _ c.1
 
     f : (all_named rows rows ≡ true) × (all_lower 0 (entries_of rows) && nat_lt (length rows) (2 ^ 32) ≡ true)
     f = both (all_named rows rows) _ e.1
@@ -92,7 +93,7 @@ module _ (text : List ℕ) (tree : UnitTree Bare) where
     g = both (all_lower 0 (entries_of rows)) _ f.1
 
     pub top : all_top declarations ≡ true
-    top = c.0
+    top = (both (all_top declarations) (all_pass declarations declarations && is_clean declarations) c.0).0
 
     pub are : AreRows rows
     are = are_rows own rows refl e.0 f.0 g.0 (ltb-true (length rows) (2 ^ 32) g.1)
@@ -105,7 +106,7 @@ module _ (text : List ℕ) (tree : UnitTree Bare) where
       b = both (scalars text) (is_some (cut (length text) 0 text)) a.1
 
       pub has_tree : HasTree text
-      has_tree = record { unit = unit; reads = reads text tree a.0 b.0 b.1 shape spells; rows = rows; are = are; declared = rows_are declarations top d.0 }
+      has_tree = record { unit = unit; reads = reads text tree a.0 b.0 b.1 shape spells; rows = rows; are = are; declared = rows_are declarations top d.0; clean = clean_is declarations top d.0 d.1 }
 
       pub has_code : ((super_at : MemberKey → ℕ) → classes_quiet first_of rows declarations super_at 0 unit.classes ≡ true) → code_passes ≡ true → Checks → HasPrelude resolved → HasCode text resolved
       unfolding has_tree

@@ -90,7 +90,7 @@ top_at (d ∷ ds) zero x t e = let same : d ≡ x = cc in subst (λ (y : Declare
 top_at (d ∷ ds) (suc n) x t e = top_at ds n x (both (is_top_item d.item) (all_top ds) t).1 e
 
 module _ (ds : List DeclaredItem) (top : all_top ds ≡ true) where
-  no_outer : (k : ClassKey) → IsDeclared ds k → k.outer ≡ None
+  pub no_outer : (k : ClassKey) → IsDeclared ds k → k.outer ≡ None
   no_outer k (at, h) = sym (ap (λ (x : ClassKey). x.outer) h.is) ∙ none_is at.key.outer (top_at ds h.number (record { file = h.file; item = class_item at }) top h.stands)
 
   no_top_member : (up : ℕ) (of name : List ℕ) (q : ClassKey) → TopMemberType ds up of name q → ⊥

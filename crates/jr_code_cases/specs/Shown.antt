@@ -12,6 +12,7 @@ use Rattle.jr_table.specs.Prelude.{thread_key}
 use Rattle.jr_table.specs.Conditions.{AreRows}
 use Rattle.jr_table.specs.DeclaredItems.{declarations_of}
 use Rattle.jr_table.specs.ProgramRows.{AreProgramRows}
+use Rattle.jr_table.specs.Faults.{IsClean}
 use Rattle.jr_table.specs.Errors.{HasError, IsSound}
 use Rattle.jr_table.specs.declared.rules.Rule.{Rule}
 use Rattle.jr_runs.specs.Values.{Value}
@@ -35,13 +36,15 @@ last_of m base = m.to - 1
 abbrev pub alone : Trace RunKeys → List (Step RunKeys)
 alone t = map (λ x. record { thread = 0; action = x }) t
 
--- A text as a program's one file: the tree that it reads as, and the rows of what this declares.
+-- A text as a program's one file: the tree that it reads as, and the rows of what this declares,
+-- without a fault.
 pub record HasTree (text : List ℕ) : Type 0 where
   pub unit : syntax.Unit Span
   pub reads : ReadsWithSpans itself text unit
   pub rows : List Row
   pub are : AreRows rows
   pub declared : AreProgramRows (declarations_of first_of (unit ∷ [])) rows
+  pub clean : IsClean [] (declarations_of first_of (unit ∷ []))
 
 -- No member breaks a rule, and P is its code. No text here writes `super(..)`, so this holds
 -- wherever that stood.
