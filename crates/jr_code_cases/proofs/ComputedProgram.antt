@@ -21,7 +21,7 @@ use Rattle.jr_code.specs.CodedStatements.{StatementCode}
 use Rattle.jr_code.specs.CodedMembers.{MemberCode, MethodCoded, ConstructorCoded, OneCoded, ClassCoded, MembersCoded, InnerCoded, ClassesCoded, HasPrelude}
 use Rattle.jr_code.specs.Programs.{IsCodeOf}
 use Rattle.jr_code_cases.proofs.TopTypes.{both, all_top, meanings, have_meanings, one_mean}
-use Rattle.jr_code_cases.proofs.ComputedRunRows.{run_rows, are_run_rows}
+use Rattle.jr_code.proofs.RunRowsStand.{run_rows, are_run_rows}
 use Rattle.jr_code_cases.proofs.ComputedMembers.{method_code, method_is, inits_code, inits_are, ctor_code, ctor_is, default_code, default_is}
 
 abbrev MethodRow : Type 0

@@ -1,10 +1,9 @@
 -- From a text to its code by computation: `Reading` (a tree's spans), `TopTypes`, `DeclaredRows`
--- (what is declared), `ComputedRunRows`, `ComputedExps`, `ComputedMembers`, `ComputedProgram` (its
+-- (what is declared), `ComputedExps`, `ComputedMembers`, `ComputedProgram` (its
 -- code), joined by `Showing`. `OneRun`: a run that asks for nothing is the only one.
 pub mod Reading
 pub mod TopTypes
 pub mod DeclaredRows
-pub mod ComputedRunRows
 pub mod ComputedExps
 pub mod ComputedMembers
 pub mod ComputedProgram
