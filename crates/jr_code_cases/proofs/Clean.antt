@@ -1,20 +1,19 @@
 -- One file of top-level classes without faults of declarations, computed.
-use Rattle.std.proofs.Common.{◌≡◌, ◌≢◌, ℕ, zero, suc, ◌<◌, List, [], ◌∷◌, map, Option, Some, None, Bool, true, false, ◌&&◌, ◌||◌, refl, sym, ap, subst, ◌∙◌, inl, inr}
-use Rattle.std.specs.Prelude.{◌⊎◌, is_none, slice_get, not, codes}
+use Rattle.std.proofs.Common.{◌≡◌, ℕ, zero, suc, ◌<◌, List, [], ◌∷◌, Option, Some, None, Bool, true, false, ◌&&◌, ◌||◌, refl, sym, ap, subst, ◌∙◌, inl, inr}
+use Rattle.std.specs.Prelude.{is_none, slice_get, not, codes}
 use Rattle.std.specs.List.{list_any}
 use Rattle.std.specs.Cmp.Lexicographic.{bytes_decides}
 use Rattle.jr_ast.specs.declared.operators.ModWord.{ModWord}
 use Rattle.jr_ast.specs.declared.operators.ModWord.TheVariants as word
-use Rattle.jr_table.specs.declared.kinds.DeclKind.{DeclKind}
 use Rattle.jr_table.specs.declared.kinds.DeclKind.TheVariants as kind
-use Rattle.jr_table.specs.Keys.{ClassKey, Ty}
+use Rattle.jr_table.specs.Keys.{ClassKey}
 use Rattle.jr_table.specs.SameKeys.{same_name, same_class, class_decides, same_types, types_decide}
 use Rattle.jr_table.specs.Entries.{is_static_word}
-use Rattle.jr_table.specs.DeclaredItems.{Written, int, boolean, named, DeclaredParam, DeclaredInit, DeclaredClass, DeclaredField, DeclaredMethod, DeclaredCtor, Item, class_item, field_item, method_item, ctor_item, DeclaredItem}
+use Rattle.jr_table.specs.DeclaredItems.{Written, named, DeclaredParam, DeclaredInit, DeclaredClass, Item, class_item, field_item, method_item, ctor_item, DeclaredItem}
 use Rattle.jr_table.specs.Resolving.{HasWord, IsPreludeSubclass, IsPreludeClass, Means}
-use Rattle.jr_table.specs.Faults.{Place, PackageLine, At, IsReserved, TopWord, AreBad, ClassWordsBad, WordsBad, Writes, WritesType, SameTypes, SameMember, params_of, ParamTwice, HasItsName, InitIsBad, HasFault, IsClean}
+use Rattle.jr_table.specs.Faults.{At, IsReserved, ClassWordsBad, WordsBad, Writes, WritesType, SameTypes, SameMember, params_of, ParamTwice, HasItsName, InitIsBad, IsClean}
 use Rattle.jr_code_cases.proofs.TopTypes.{both, is_prelude, all_top, meaning, meanings, has_meaning, have_meanings, means, one_meaning}
-use Rattle.jr_code_cases.proofs.DeclaredRows.{parent_in, has_parent, has_result, item_passes, all_pass, none_is, is_parent}
+use Rattle.jr_code_cases.proofs.DeclaredRows.{parent_in, has_result, item_passes, all_pass, none_is, is_parent}
 use Rattle.jr_code_cases.proofs.Pairing.{all_items, item_at, pairs, pairs_at, all_pairs, pair_at}
 use Rattle.jr_code_cases.proofs.CleanWords.{words_pass, top_word, field_word, method_word, is_access, top_clean, field_clean, method_clean, ctor_clean}
 use Rattle.jr_code_cases.proofs.NoCycle.{all_rise, no_cycle}
@@ -122,7 +121,7 @@ module _ (ds : List DeclaredItem) (top : all_top ds ≡ true) (pass : all_pass d
   written_means (method_item m) e k w (of, h) =
       let t = both (is_none m.of.outer) (has_result ds m.result && have_meanings ds m.params) e in
       let u = both (has_result ds m.result) (have_meanings ds m.params) t.1 in
-      means_at k m.of of (none_is ds m.of.outer t.0) w (elim h [ | inl is ↦ result_means m.result w u.0 is | inr writes ↦ writes_mean m.params w u.1 writes ])
+      means_at k m.of of (none_is ds m.of.outer t.0) w (elim h [ inl is ↦ result_means m.result w u.0 is | inr writes ↦ writes_mean m.params w u.1 writes ])
   written_means (ctor_item c) e k w (of, writes) =
       let t = both (is_none c.of.outer) (have_meanings ds c.params) e in
       means_at k c.of of (none_is ds c.of.outer t.0) w (writes_mean c.params w t.1 writes)

@@ -1,10 +1,10 @@
 -- Modifiers that are not bad, computed.
-use Rattle.std.proofs.Common.{◌≡◌, ◌≢◌, ℕ, List, [], ◌∷◌, Option, Some, None, Bool, true, false, ◌&&◌, ◌||◌, refl, sym, ap, subst, ◌∙◌, inl, inr, eq-eqb}
+use Rattle.std.proofs.Common.{◌≡◌, ℕ, List, [], ◌∷◌, Bool, true, false, ◌&&◌, ◌||◌, refl, sym, ap, subst, ◌∙◌, inl, inr, eq-eqb}
 use Rattle.std.specs.Prelude.{◌⊎◌, nat_eq, not}
 use Rattle.jr_ast.specs.declared.operators.ModWord.{ModWord}
 use Rattle.jr_ast.specs.declared.operators.ModWord.TheVariants.{Public, Protected, Private, Static, Final, Volatile, Synchronized}
 use Rattle.jr_table.specs.Resolving.{HasWord}
-use Rattle.jr_table.specs.Faults.{IsTwice, IsAccess, TopWord, FieldWord, MethodWord, AreBad}
+use Rattle.jr_table.specs.Faults.{IsAccess, TopWord, FieldWord, MethodWord, AreBad}
 use Rattle.jr_code_cases.proofs.TopTypes.{both}
 use Rattle.jr_code_cases.proofs.Pairing.{all, pairs, pairs_at}
 

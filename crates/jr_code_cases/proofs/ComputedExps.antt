@@ -41,6 +41,9 @@ mapped (Some x) f y e = let is : f x ≡ y = cc in (x, refl, sym is)
 abbrev pub pair : {X Y : Type 0} → X → Y → X × Y
 pair x y = (x, y)
 
+compound_is : (at : Place) (a : Arithmetic) (p : TargetCode × Code) (t : TargetCode) (z x : Code) → x ≡ core.compound (Some at) a p.0 p.1 → p ≡ pair t z → x ≡ core.compound (Some at) a t z
+compound_is at a p t z x is same = is ∙ ap (λ (s : TargetCode × Code). core.compound (Some at) a s.0 s.1) same
+
 abbrev pub of_two : {X Y Z : Type 0} → Option X → Option Y → (X → Y → Z) → Option Z
 of_two None o f = None
 of_two (Some x) None f = None
@@ -348,7 +351,7 @@ module _ {A : Type 0} (begins : A → ℕ → ℕ) (rows : List Row) (are : AreR
     exp_is b (tree.compound m o l r) x h =
         let p = two (arithmetic_of o) (of_two (target_code begins rows c (begins m b) l) (exp_code begins rows c (begins m b) r) pair) _ x h in
         let q = two (target_code begins rows c (begins m b) l) (exp_code begins rows c (begins m b) r) pair p.1 p.3 in
-        (p.0, q.0, q.1, p.2, target_of (begins m b) l q.0 q.2, exp_is (begins m b) r q.1 q.3, p.4 ∙ ap (λ (s : TargetCode × Code). core.compound (Some (spot begins rows c (begins m b))) p.0 s.0 s.1) q.4)
+        (p.0, q.0, q.1, p.2, target_of (begins m b) l q.0 q.2, exp_is (begins m b) r q.1 q.3, compound_is (spot begins rows c (begins m b)) p.0 p.1 q.0 q.1 x p.4 q.4)
 
     target_of : (b : ℕ) (e : tree.Exp A) (t : TargetCode) → target_code begins rows c b e ≡ Some t → TargetOf begins rows c b e t
     target_of b (tree.name m w) t h = name_is b m w t h

@@ -1,13 +1,12 @@
 -- No class is its own superclass, computed: each names one that is declared before it, or the prelude's.
-use Rattle.std.proofs.Common.{◌≡◌, ℕ, zero, suc, ◌<◌, ◌≤◌, List, [], ◌∷◌, Option, Some, None, Bool, true, false, cond, ◌&&◌, refl, sym, ap, subst, ◌∙◌, inl, inr, arith}
+use Rattle.std.proofs.Common.{◌≡◌, ℕ, zero, suc, ◌<◌, ◌≤◌, List, [], ◌∷◌, Option, Some, None, Bool, true, cond, ◌&&◌, sym, ap, subst, ◌∙◌, inl, inr, arith}
 use Rattle.std.specs.Prelude.{nat_eq, nat_lt, codes}
 use Rattle.std.proofs.lemmas.Bool.{ltb-true, eqb-true}
 use Rattle.jr_table.specs.Keys.{ClassKey}
 use Rattle.jr_table.specs.SameKeys.{same_name, same_class}
-use Rattle.jr_table.specs.Prelude.{top_key, object_key}
+use Rattle.jr_table.specs.Prelude.{top_key}
 use Rattle.jr_table.specs.DeclaredItems.{Written, int, boolean, named, DeclaredClass, Item, class_item, field_item, method_item, ctor_item, DeclaredItem}
-use Rattle.jr_table.specs.Resolving.{DeclaresClass, IsPreludeSubclass, TopNames, TopParent, IsParent, Climbs}
-use Rattle.jr_table.specs.Faults.{At}
+use Rattle.jr_table.specs.Resolving.{DeclaresClass, IsPreludeSubclass, TopNames, IsParent, Climbs}
 use Rattle.jr_code_cases.proofs.TopTypes.{both, all_top, no_outer}
 use Rattle.jr_code_cases.proofs.DeclaredRows.{named_parent}
 use Rattle.jr_code_cases.proofs.Pairing.{all_items, item_at}

@@ -1,6 +1,6 @@
 -- Tests of all pairs of a list, and of all items of a program's declarations.
-use Rattle.std.proofs.Common.{◌≡◌, ℕ, zero, suc, ◌<◌, List, [], ◌∷◌, Option, Some, None, Bool, true, false, ◌&&◌, refl, sym, ap, subst, ◌∙◌, inl, inr, arith}
-use Rattle.std.specs.Prelude.{◌⊎◌, slice_get}
+use Rattle.std.proofs.Common.{◌≡◌, ℕ, zero, suc, ◌<◌, List, [], ◌∷◌, Some, Bool, true, ◌&&◌, subst, arith}
+use Rattle.std.specs.Prelude.{slice_get}
 use Rattle.jr_table.specs.DeclaredItems.{Item, DeclaredItem}
 use Rattle.jr_table.specs.Faults.{At}
 use Rattle.jr_code_cases.proofs.TopTypes.{both}
