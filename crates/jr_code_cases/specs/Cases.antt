@@ -120,7 +120,8 @@ Monitor = Shows text_of_monitor (go_of a) (
     ∷ exit an_a
     ∷ []) (gave (number 1))
 
--- `m()` runs what stands nearest in the object's class; `super.m()` the superclass's (JLS 15.12.4.4).
+-- `m()` runs what stands nearest in the object's class, `super.m()` what stands in the superclass
+-- (JLS 15.12.4.4).
 abbrev pub text_of_dispatch : List ℕ
 text_of_dispatch =
     codes "class A { int m() { return 1; } int k() { return m(); } } "

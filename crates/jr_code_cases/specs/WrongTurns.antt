@@ -1,5 +1,6 @@
--- The turns that an account of types could take wrong, as texts: three that are no programs, each by
--- the rule that it breaks, and one that is. `javac` refuses the three at the same words.
+-- The turns that an account of types could take wrong, as texts: three that are no programs, each
+-- by the rule that it breaks, and one that is. `javac` refuses the three too, for what stands above
+-- each.
 use Rattle.std.specs.Prelude.{ℕ, List, [], ◌∷◌, codes}
 use Rattle.jr_runs.specs.Actions.{plain, load, store}
 use Rattle.jr_table.specs.declared.rules.Rule.TheVariants as rule
