@@ -37,10 +37,10 @@ second_of_two false b e = e
 abbrev reserved : List ℕ → Bool
 reserved name = is_prelude name || same_name name (codes "Runnable")
 
-abbrev String_or : List ℕ → Bool
-String_or name = same_name name (codes "String") || (same_name name (codes "Class") || same_name name (codes "Thread"))
+abbrev is_subclass_name : List ℕ → Bool
+is_subclass_name name = same_name name (codes "String") || (same_name name (codes "Class") || same_name name (codes "Thread"))
 
-subclass_has : (name : List ℕ) → IsPreludeSubclass name → String_or name ≡ true
+subclass_has : (name : List ℕ) → IsPreludeSubclass name → is_subclass_name name ≡ true
 subclass_has name (inl is) = first_of_two (same_name name (codes "String")) _ ((bytes_decides name (codes "String")).1 is)
 subclass_has name (inr (inl is)) = second_of_two (same_name name (codes "String")) _ (first_of_two (same_name name (codes "Class")) _ ((bytes_decides name (codes "Class")).1 is))
 subclass_has name (inr (inr is)) = second_of_two (same_name name (codes "String")) _ (second_of_two (same_name name (codes "Class")) _ ((bytes_decides name (codes "Thread")).1 is))

@@ -36,28 +36,28 @@ module _ (ds : List DeclaredItem) where
   all_rise = all_items ds rises && (nat_eq (rank (codes "Object")) 0 && (nat_lt 0 (rank (codes "String")) && (nat_lt 0 (rank (codes "Class")) && nat_lt 0 (rank (codes "Thread")))))
 
   module _ (top : all_top ds ≡ true) (rise : all_rise ≡ true) where
-    a : (all_items ds rises ≡ true) × (nat_eq (rank (codes "Object")) 0 && (nat_lt 0 (rank (codes "String")) && (nat_lt 0 (rank (codes "Class")) && nat_lt 0 (rank (codes "Thread")))) ≡ true)
-    a = both (all_items ds rises) _ rise
+    rise_parts : (all_items ds rises ≡ true) × (nat_eq (rank (codes "Object")) 0 && (nat_lt 0 (rank (codes "String")) && (nat_lt 0 (rank (codes "Class")) && nat_lt 0 (rank (codes "Thread")))) ≡ true)
+    rise_parts = both (all_items ds rises) _ rise
 
-    b : (nat_eq (rank (codes "Object")) 0 ≡ true) × (nat_lt 0 (rank (codes "String")) && (nat_lt 0 (rank (codes "Class")) && nat_lt 0 (rank (codes "Thread"))) ≡ true)
-    b = both (nat_eq (rank (codes "Object")) 0) _ a.1
+    object_parts : (nat_eq (rank (codes "Object")) 0 ≡ true) × (nat_lt 0 (rank (codes "String")) && (nat_lt 0 (rank (codes "Class")) && nat_lt 0 (rank (codes "Thread"))) ≡ true)
+    object_parts = both (nat_eq (rank (codes "Object")) 0) _ rise_parts.1
 
-    c : (nat_lt 0 (rank (codes "String")) ≡ true) × (nat_lt 0 (rank (codes "Class")) && nat_lt 0 (rank (codes "Thread")) ≡ true)
-    c = both (nat_lt 0 (rank (codes "String"))) _ b.1
+    string_parts : (nat_lt 0 (rank (codes "String")) ≡ true) × (nat_lt 0 (rank (codes "Class")) && nat_lt 0 (rank (codes "Thread")) ≡ true)
+    string_parts = both (nat_lt 0 (rank (codes "String"))) _ object_parts.1
 
-    d : (nat_lt 0 (rank (codes "Class")) ≡ true) × (nat_lt 0 (rank (codes "Thread")) ≡ true)
-    d = both (nat_lt 0 (rank (codes "Class"))) _ c.1
+    class_parts : (nat_lt 0 (rank (codes "Class")) ≡ true) × (nat_lt 0 (rank (codes "Thread")) ≡ true)
+    class_parts = both (nat_lt 0 (rank (codes "Class"))) _ string_parts.1
 
     object_rank : rank (codes "Object") ≡ 0
-    object_rank = eqb-true (rank (codes "Object")) 0 b.0
+    object_rank = eqb-true (rank (codes "Object")) 0 object_parts.0
 
     above : (x : List ℕ) (name : List ℕ) → name ≡ x → nat_lt 0 (rank x) ≡ true → rank (codes "Object") < rank name
     above x name is e = subst (λ (n : ℕ). n < rank name) (sym object_rank) (subst (λ (y : List ℕ). 0 < rank y) (sym is) (ltb-true 0 (rank x) e))
 
     prelude_rises : (name : List ℕ) → IsPreludeSubclass name → rank (codes "Object") < rank name
-    prelude_rises name (inl is) = above (codes "String") name is c.0
-    prelude_rises name (inr (inl is)) = above (codes "Class") name is d.0
-    prelude_rises name (inr (inr is)) = above (codes "Thread") name is d.1
+    prelude_rises name (inl is) = above (codes "String") name is string_parts.0
+    prelude_rises name (inr (inl is)) = above (codes "Class") name is class_parts.0
+    prelude_rises name (inr (inr is)) = above (codes "Thread") name is class_parts.1
 
     named_is : (w : Option Written) (p : ClassKey) → TopNames ds w p → p ≡ named_parent w
     named_is None p h = h
@@ -68,7 +68,7 @@ module _ (ds : List DeclaredItem) where
 
     declared_rises : (k : ClassKey) (at : DeclaredClass) → DeclaresClass ds k at → (p : ClassKey) → TopNames ds at.parent p → rank p.name < rank k.name
     declared_rises k at h p names =
-        let t = ltb-true (rank (named_parent at.parent).name) (rank at.key.name) (item_at ds rises a.0 h.number h.file (class_item at) (record { stands = h.stands })) in
+        let t = ltb-true (rank (named_parent at.parent).name) (rank at.key.name) (item_at ds rises rise_parts.0 h.number h.file (class_item at) (record { stands = h.stands })) in
         subst (λ (q : ClassKey). rank q.name < rank k.name) (sym (named_is at.parent p names)) (subst (λ (q : ClassKey). rank (named_parent at.parent).name < rank q.name) h.is t)
 
     parent_rises : (k p : ClassKey) → IsParent ds k p → rank p.name < rank k.name

@@ -77,36 +77,36 @@ module _ (text : List ℕ) (tree : UnitTree Bare) where
   Checks = ClassesCheck first_of last_of rows declarations resolved 0 unit.classes
 
   module _ (passes : rows_pass ≡ true) where
-    c : (all_top declarations && (all_pass declarations declarations && is_clean declarations) ≡ true) × (all_first rows 0 rows && (all_named rows rows && (all_lower 0 (entries_of rows) && nat_lt (length rows) (2 ^ 32))) ≡ true)
-    c = both (all_top declarations && (all_pass declarations declarations && is_clean declarations)) _ passes
+    parts : (all_top declarations && (all_pass declarations declarations && is_clean declarations) ≡ true) × (all_first rows 0 rows && (all_named rows rows && (all_lower 0 (entries_of rows) && nat_lt (length rows) (2 ^ 32))) ≡ true)
+    parts = both (all_top declarations && (all_pass declarations declarations && is_clean declarations)) _ passes
 
-    d : (all_pass declarations declarations ≡ true) × (is_clean declarations ≡ true)
-    d = both (all_pass declarations declarations) (is_clean declarations) (both (all_top declarations) _ c.0).1
+    declared_parts : (all_pass declarations declarations ≡ true) × (is_clean declarations ≡ true)
+    declared_parts = both (all_pass declarations declarations) (is_clean declarations) (both (all_top declarations) _ parts.0).1
 
-    e : (all_first rows 0 rows ≡ true) × (all_named rows rows && (all_lower 0 (entries_of rows) && nat_lt (length rows) (2 ^ 32)) ≡ true)
-    e = both (all_first rows 0 rows) _ c.1
+    row_parts : (all_first rows 0 rows ≡ true) × (all_named rows rows && (all_lower 0 (entries_of rows) && nat_lt (length rows) (2 ^ 32)) ≡ true)
+    row_parts = both (all_first rows 0 rows) _ parts.1
 
-    f : (all_named rows rows ≡ true) × (all_lower 0 (entries_of rows) && nat_lt (length rows) (2 ^ 32) ≡ true)
-    f = both (all_named rows rows) _ e.1
+    named_parts : (all_named rows rows ≡ true) × (all_lower 0 (entries_of rows) && nat_lt (length rows) (2 ^ 32) ≡ true)
+    named_parts = both (all_named rows rows) _ row_parts.1
 
-    g : (all_lower 0 (entries_of rows) ≡ true) × (nat_lt (length rows) (2 ^ 32) ≡ true)
-    g = both (all_lower 0 (entries_of rows)) _ f.1
+    order_parts : (all_lower 0 (entries_of rows) ≡ true) × (nat_lt (length rows) (2 ^ 32) ≡ true)
+    order_parts = both (all_lower 0 (entries_of rows)) _ named_parts.1
 
     pub top : all_top declarations ≡ true
-    top = (both (all_top declarations) (all_pass declarations declarations && is_clean declarations) c.0).0
+    top = (both (all_top declarations) (all_pass declarations declarations && is_clean declarations) parts.0).0
 
     pub are : AreRows rows
-    are = are_rows own rows refl e.0 f.0 g.0 (ltb-true (length rows) (2 ^ 32) g.1)
+    are = are_rows own rows refl row_parts.0 named_parts.0 order_parts.0 (ltb-true (length rows) (2 ^ 32) order_parts.1)
 
     module _ (texts : text_passes ≡ true) (shape : UnitShaped tree) (spells : unit_toks tree ≡ tokens_of text (items text)) where
-      a : (are_ascii text ≡ true) × (scalars text && is_some (cut (length text) 0 text) ≡ true)
-      a = both (are_ascii text) (scalars text && is_some (cut (length text) 0 text)) texts
+      text_parts : (are_ascii text ≡ true) × (scalars text && is_some (cut (length text) 0 text) ≡ true)
+      text_parts = both (are_ascii text) (scalars text && is_some (cut (length text) 0 text)) texts
 
-      b : (scalars text ≡ true) × (is_some (cut (length text) 0 text) ≡ true)
-      b = both (scalars text) (is_some (cut (length text) 0 text)) a.1
+      cut_parts : (scalars text ≡ true) × (is_some (cut (length text) 0 text) ≡ true)
+      cut_parts = both (scalars text) (is_some (cut (length text) 0 text)) text_parts.1
 
       pub has_tree : HasTree text
-      has_tree = record { unit = unit; reads = reads text tree a.0 b.0 b.1 shape spells; rows = rows; are = are; declared = rows_are declarations top d.0; clean = clean_is declarations top d.0 d.1 }
+      has_tree = record { unit = unit; reads = reads text tree text_parts.0 cut_parts.0 cut_parts.1 shape spells; rows = rows; are = are; declared = rows_are declarations top declared_parts.0; clean = clean_is declarations top declared_parts.0 declared_parts.1 }
 
       pub has_code : ((super_at : MemberKey → ℕ) → classes_quiet first_of rows declarations super_at 0 unit.classes ≡ true) → code_passes ≡ true → Checks → HasPrelude resolved → HasCode text resolved
       unfolding has_tree
