@@ -1,5 +1,5 @@
 -- The first place where a member of one file of top-level classes breaks a rule, computed: it is broken there.
-use Rattle.std.proofs.Common.{◌≡◌, ℕ, ◌+◌, ◌-◌, List, [], ◌∷◌, map, Option, Some, None, Bool, true, false, ◌&&◌, refl, sym, ap, subst, ◌∙◌, inl, inr, eqb-true}
+use Rattle.std.proofs.Common.{◌≡◌, ℕ, ◌+◌, ◌-◌, List, [], ◌∷◌, map, Option, Some, None, Bool, true, false, refl, sym, ap, subst, inl, inr, eqb-true}
 use Rattle.std.specs.Prelude.{◌⊎◌, nat_eq}
 use Rattle.jr_ast.specs.MemberTree as syntax
 use Rattle.jr_table.specs.Keys.{ClassKey}
@@ -13,7 +13,7 @@ use Rattle.jr_table.specs.Walks.{part_notes}
 use Rattle.jr_table.specs.Errors.{Part, class_part, member_part, part_mark, Breaks, Declares, InClass, InMembers, InClasses, HasError, rule_rank}
 use Rattle.jr_table.specs.declared.rules.Rule.{Rule}
 use Rattle.jr_table.proofs.MemberNotes.{part_breaks}
-use Rattle.jr_code_cases.proofs.TopTypes.{both, all_top, meanings, have_meanings, mean}
+use Rattle.jr_code_cases.proofs.TopTypes.{all_top, meanings, have_meanings, mean}
 use Rattle.jr_code_cases.proofs.ComputedProgram.{method_key, ctor_key}
 
 -- a member, a place counted from its first byte, and a rule

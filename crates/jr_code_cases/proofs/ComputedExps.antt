@@ -1,5 +1,5 @@
 -- The code of expressions, computed: what is computed is their code.
-use Rattle.std.proofs.Common.{◌≡◌, ℕ, List, [], Option, Some, None, Bool, true, false, pos, refl, sym, ap, ◌∙◌, inl, inr}
+use Rattle.std.proofs.Common.{◌≡◌, ℕ, List, Option, Some, None, Bool, true, false, pos, refl, sym, ap, ◌∙◌, inl, inr}
 use Rattle.std.specs.Prelude.{option_map, slice_get, option_and_then}
 use Rattle.std.specs.List.{list_any}
 use Rattle.jr_ast.specs.Tree as tree
@@ -17,8 +17,8 @@ use Rattle.jr_table.specs.Entries.{IsRowOf, number_of, is_static_word}
 use Rattle.jr_table.specs.Found.{Found, one, nothing, many, not_accessible, from_static}
 use Rattle.jr_table.specs.Lookup.{find_variable}
 use Rattle.jr_table.specs.LookupLaws.{KeysAreFound}
-use Rattle.jr_table.specs.Context.{Context, scope_of, WritesType}
-use Rattle.jr_table.specs.Binding.{FieldFinds, CallFinds, SuperCallFinds, CreationFinds, word_at}
+use Rattle.jr_table.specs.Context.{Context, scope_of}
+use Rattle.jr_table.specs.Binding.{word_at}
 use Rattle.jr_table.specs.Meanings.{row_of, field_found, call_found, ctor_found, own_superclass, created_class, class_on, target_found, types_of, type_of, written_type}
 use Rattle.jr_table.specs.Notes.{assigns}
 use Rattle.jr_table.proofs.RowLaws.{number_stands}
@@ -40,6 +40,9 @@ mapped (Some x) f y e = let is : f x ≡ y = cc in (x, refl, sym is)
 
 abbrev pub pair : {X Y : Type 0} → X → Y → X × Y
 pair x y = (x, y)
+
+compound_is : (at : Place) (a : Arithmetic) (p : TargetCode × Code) (t : TargetCode) (z x : Code) → x ≡ core.compound (Some at) a p.0 p.1 → p ≡ pair t z → x ≡ core.compound (Some at) a t z
+compound_is at a p t z x is same = is ∙ ap (λ (s : TargetCode × Code). core.compound (Some at) a s.0 s.1) same
 
 abbrev pub of_two : {X Y Z : Type 0} → Option X → Option Y → (X → Y → Z) → Option Z
 of_two None o f = None
@@ -312,6 +315,7 @@ module _ {A : Type 0} (begins : A → ℕ → ℕ) (rows : List Row) (are : AreR
 
   mutual
     unfolding ExpCode TargetOf ReceiverCode RowCode
+
     pub exp_is : (b : ℕ) (e : tree.Exp A) (x : Code) → exp_code begins rows c b e ≡ Some x → ExpCode begins rows c b e x
     exp_is b (tree.number m n) x h = inside _ x h
     exp_is b (tree.truth m v) x h = inside _ x h
@@ -347,7 +351,7 @@ module _ {A : Type 0} (begins : A → ℕ → ℕ) (rows : List Row) (are : AreR
     exp_is b (tree.compound m o l r) x h =
         let p = two (arithmetic_of o) (of_two (target_code begins rows c (begins m b) l) (exp_code begins rows c (begins m b) r) pair) _ x h in
         let q = two (target_code begins rows c (begins m b) l) (exp_code begins rows c (begins m b) r) pair p.1 p.3 in
-        (p.0, q.0, q.1, p.2, target_of (begins m b) l q.0 q.2, exp_is (begins m b) r q.1 q.3, p.4 ∙ ap (λ (s : TargetCode × Code). core.compound (Some (spot begins rows c (begins m b))) p.0 s.0 s.1) q.4)
+        (p.0, q.0, q.1, p.2, target_of (begins m b) l q.0 q.2, exp_is (begins m b) r q.1 q.3, compound_is (spot begins rows c (begins m b)) p.0 p.1 q.0 q.1 x p.4 q.4)
 
     target_of : (b : ℕ) (e : tree.Exp A) (t : TargetCode) → target_code begins rows c b e ≡ Some t → TargetOf begins rows c b e t
     target_of b (tree.name m w) t h = name_is b m w t h

@@ -15,7 +15,7 @@ use Rattle.jr_table.specs.Keys.{ClassKey, FieldKey}
 use Rattle.jr_table.specs.SameKeys.{same_field, field_decides}
 use Rattle.jr_table.specs.Decls.{field_decl}
 use Rattle.jr_table.specs.Rows.{Row}
-use Rattle.jr_table.specs.Entries.{IsRowOf, number_of, is_static_word}
+use Rattle.jr_table.specs.Entries.{number_of, is_static_word}
 use Rattle.jr_table.specs.DeclaredItems.{class_key}
 use Rattle.jr_table.specs.HeadRules.{is_static_member}
 use Rattle.jr_table.specs.Meanings.{row_of}

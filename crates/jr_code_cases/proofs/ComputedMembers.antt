@@ -6,7 +6,7 @@ use Rattle.jr_ast.specs.StatementTree as statement
 use Rattle.jr_ast.specs.MemberTree as syntax
 use Rattle.jr_runs.specs.Core as core
 use Rattle.jr_runs.specs.MemberTranslation.{is_synchronized, locked, monitor, in_front}
-use Rattle.jr_table.specs.Keys.{ClassKey, FieldKey, MethodKey, CtorKey}
+use Rattle.jr_table.specs.Keys.{ClassKey, MethodKey, CtorKey}
 use Rattle.jr_table.specs.Decls.{MemberKey, head, field, method, constructor, class_decl, field_decl, method_decl, constructor_decl, local_decl}
 use Rattle.jr_table.specs.Rows.{Row}
 use Rattle.jr_table.specs.Conditions.{AreRows}
@@ -19,13 +19,16 @@ use Rattle.jr_table.specs.Meanings.{ctor_found, own_superclass}
 use Rattle.jr_table.specs.HeadRules.{plain, with_parameters, is_static_member}
 use Rattle.jr_table.proofs.Typing.{in_iff, own_super_iff}
 use Rattle.jr_code.specs.RunKeys.{RunKeys, Place}
-use Rattle.jr_code.specs.Coded.{Code, ExpCode}
+use Rattle.jr_code.specs.Coded.{Code}
 use Rattle.jr_code.specs.CodedStatements.{numbers, StatementCode, ListCode, ReturnCode, StmtCode, ElseCode, StmtsCode}
-use Rattle.jr_code.specs.CodedMembers.{MemberCode, ImplicitFinds, MethodCoded, stored, InitBy, InitCoded, InitsCoded, ConstructorCoded, DefaultCoded}
+use Rattle.jr_code.specs.CodedMembers.{MemberCode, ImplicitFinds, MethodCoded, InitBy, InitCoded, InitsCoded, ConstructorCoded, DefaultCoded}
 use Rattle.jr_code_cases.proofs.ComputedExps.{mapped, pair, of_two, two, exp_code, exp_is}
 
 inside : {X : Type 0} (x y : X) → Some x ≡ Some y → y ≡ x
 inside x y e = let is : x ≡ y = cc in sym is
+
+branch_is : (at : Place) (z : Code) (p : StatementCode × StatementCode) (y q s : StatementCode) → s ≡ core.branch (Some at) z p.0 p.1 → p ≡ pair y q → s ≡ core.branch (Some at) z y q
+branch_is at z p y q s is same = is ∙ ap (λ (r : StatementCode × StatementCode). core.branch (Some at) z r.0 r.1) same
 
 abbrev pub at_in : MemberKey → ℕ → Place
 at_in k at = record { member = k; at = at }
@@ -106,6 +109,7 @@ module _ {A : Type 0} (begins ends : A → ℕ → ℕ) (rows : List Row) (are :
 
   mutual
     unfolding StmtCode ElseCode StmtsCode
+
     pub stmt_is : (n : ℕ) (c : Context) (b : ℕ) (x : statement.Stmt A) (s : StatementCode) → stmt_code begins ends rows n c b x ≡ Some s → StmtCode begins ends rows n c b x s
     stmt_is n c b (statement.local m f t w e) s h =
         let p = mapped (exp_code begins rows (in_own c (local_of c n f t w)) (begins m b) e) _ s h in
@@ -113,9 +117,15 @@ module _ {A : Type 0} (begins ends : A → ℕ → ℕ) (rows : List Row) (are :
     stmt_is n c b (statement.eval m e) s h = let p = mapped (exp_code begins rows c (begins m b) e) _ s h in (p.0, exp_is begins rows are found c (begins m b) e p.0 p.1, p.2)
     stmt_is n c b (statement.branch m e x other) s h =
         let p = two (exp_code begins rows c (begins m b) e) (of_two (stmt_code begins ends rows n c (begins m b) x) (else_code begins ends rows (n + locals_in x) c (begins m b) other) pair) _ s h in
-        let q = two (stmt_code begins ends rows n c (begins m b) x) (else_code begins ends rows (n + locals_in x) c (begins m b) other) pair p.1 p.3 in
-        (p.0, q.0, q.1, exp_is begins rows are found c (begins m b) e p.0 p.2, stmt_is n c (begins m b) x q.0 q.2, else_is (n + locals_in x) c (begins m b) other q.1 q.3,
-          p.4 ∙ ap (λ (r : StatementCode × StatementCode). core.branch (Some (at_in c.member (begins m b))) p.0 r.0 r.1) q.4)
+        let q = two (stmt_code begins ends rows n c (begins m b) x) (else_code begins ends rows (n + locals_in x) c (begins m b) other) pair p.1 p.3 in (
+          p.0,
+          q.0,
+          q.1,
+          exp_is begins rows are found c (begins m b) e p.0 p.2,
+          stmt_is n c (begins m b) x q.0 q.2,
+          else_is (n + locals_in x) c (begins m b) other q.1 q.3,
+          branch_is (at_in c.member (begins m b)) p.0 p.1 q.0 q.1 s p.4 q.4,
+        )
     stmt_is n c b (statement.loop m e x) s h =
         let p = two (exp_code begins rows c (begins m b) e) (stmt_code begins ends rows n c (begins m b) x) _ s h in
         (p.0, p.1, exp_is begins rows are found c (begins m b) e p.0 p.2, stmt_is n c (begins m b) x p.1 p.3, p.4)

@@ -1,12 +1,11 @@
 -- The resolved program of one file of top-level classes, computed: what is computed is its code.
-use Rattle.std.proofs.Common.{◌≡◌, ℕ, List, [], ◌∷◌, ◌++◌, map, Option, Some, None, Bool, true, false, cond, ◌&&◌, refl, sym, ap, subst, ◌∙◌}
+use Rattle.std.proofs.Common.{◌≡◌, ℕ, List, [], ◌∷◌, map, Option, Some, None, Bool, true, false, cond, ◌&&◌, refl, sym, subst, ◌∙◌}
 use Rattle.std.specs.Prelude.{unwrap_or, is_some, codes}
 use Rattle.jr_ast.specs.Tree as tree
-use Rattle.jr_ast.specs.StatementTree as statement
 use Rattle.jr_ast.specs.MemberTree as syntax
 use Rattle.jr_runs.specs.Core as core
 use Rattle.jr_runs.specs.MemberTranslation.{no_code}
-use Rattle.jr_table.specs.Keys.{ClassKey, MethodKey, CtorKey, Ty}
+use Rattle.jr_table.specs.Keys.{ClassKey, MethodKey, CtorKey}
 use Rattle.jr_table.specs.SameKeys.{same_method, method_decides, same_ctor, ctor_decides}
 use Rattle.jr_table.specs.Decls.{MemberKey, method, constructor, method_decl, constructor_decl}
 use Rattle.jr_table.specs.Rows.{Row}
@@ -15,16 +14,14 @@ use Rattle.jr_table.specs.Entries.{number_of}
 use Rattle.jr_table.specs.Conditions.{AreRows}
 use Rattle.jr_table.specs.LookupLaws.{KeysAreFound}
 use Rattle.jr_table.specs.DeclaredItems.{DeclaredItem, param_declaration, class_key, writes_ctor, declarations_of}
-use Rattle.jr_table.specs.ProgramRows.{MeanTypes}
-use Rattle.jr_table.specs.Errors.{Declares}
 use Rattle.jr_table.proofs.RowLaws.{number_stands}
 use Rattle.jr_code.specs.RunKeys.{RunKeys}
 use Rattle.jr_code.specs.RunRows.{HasRow}
 use Rattle.jr_code.specs.CodedStatements.{StatementCode}
 use Rattle.jr_code.specs.CodedMembers.{MemberCode, MethodCoded, ConstructorCoded, OneCoded, ClassCoded, MembersCoded, InnerCoded, ClassesCoded, HasPrelude}
-use Rattle.jr_code.specs.Programs.{HasNoMore, IsCodeOf}
+use Rattle.jr_code.specs.Programs.{IsCodeOf}
 use Rattle.jr_code_cases.proofs.TopTypes.{both, all_top, meanings, have_meanings, one_mean}
-use Rattle.jr_code_cases.proofs.ComputedRunRows.{run_rows, are_run_rows}
+use Rattle.jr_code.proofs.RunRowsStand.{run_rows, are_run_rows}
 use Rattle.jr_code_cases.proofs.ComputedMembers.{method_code, method_is, inits_code, inits_are, ctor_code, ctor_is, default_code, default_is}
 
 abbrev MethodRow : Type 0

@@ -1,14 +1,14 @@
 -- The rows of a program of top-level classes, computed from what it declares.
-use Rattle.std.proofs.Common.{◌≡◌, ℕ, List, [], ◌∷◌, ◌++◌, Option, Some, None, Bool, true, false, ◌&&◌, refl, sym, ap, subst, ◌∙◌, inl, inr}
+use Rattle.std.proofs.Common.{◌≡◌, ℕ, List, [], ◌∷◌, ◌++◌, Option, Some, None, Bool, true, false, ◌&&◌, refl, inl}
 use Rattle.std.specs.Prelude.{is_some, is_none}
 use Rattle.jr_ast.specs.declared.operators.ModWord.{ModWord}
 use Rattle.jr_table.specs.Keys.{ClassKey, Ty, void}
 use Rattle.jr_table.specs.Decls.{class_decl, field_decl, method_decl, constructor_decl}
 use Rattle.jr_table.specs.Rows.{Row}
 use Rattle.jr_table.specs.Prelude.{prelude_rows, top_key, object_key}
-use Rattle.jr_table.specs.DeclaredItems.{Written, int, boolean, named, DeclaredClass, DeclaredField, DeclaredMethod, DeclaredCtor, Item, class_item, field_item, method_item, ctor_item, DeclaredItem}
+use Rattle.jr_table.specs.DeclaredItems.{Written, int, boolean, named, DeclaredClass, Item, class_item, field_item, method_item, ctor_item, DeclaredItem}
 use Rattle.jr_table.specs.Resolving.{TopNames, TopParent, IsParent}
-use Rattle.jr_table.specs.ProgramRows.{MeansResult, unwritten_row, IsClassRow, IsFieldRow, IsMethodRow, IsCtorRow, AreRowsOfDeclarations, AreProgramRows}
+use Rattle.jr_table.specs.ProgramRows.{MeansResult, unwritten_row, IsClassRow, AreRowsOfDeclarations, AreProgramRows}
 use Rattle.jr_code_cases.proofs.TopTypes.{both, find_class, found_class, all_top, meaning, meanings, is_top, top_is, has_meaning, have_meanings, means, mean}
 
 abbrev pub result_of : Option Written → Ty
@@ -72,7 +72,7 @@ module _ (ds : List DeclaredItem) where
 
   -- ---- and what it gives
 
-  none_is : {X : Type 0} (o : Option X) → is_none o ≡ true → o ≡ None
+  pub none_is : {X : Type 0} (o : Option X) → is_none o ≡ true → o ≡ None
   none_is None e = refl
   none_is (Some x) e = absurd cc
 
@@ -87,7 +87,7 @@ module _ (ds : List DeclaredItem) where
   top_parent name None is e = absurd cc
   top_parent name (Some at) is e = inl (at, found_class ds name at is, names at.parent e)
 
-  is_parent : (k : ClassKey) → is_none k.outer && has_parent (find_class ds k.name) ≡ true → IsParent ds k (parent_in (find_class ds k.name))
+  pub is_parent : (k : ClassKey) → is_none k.outer && has_parent (find_class ds k.name) ≡ true → IsParent ds k (parent_in (find_class ds k.name))
   is_parent k e = let t = both (is_none k.outer) (has_parent (find_class ds k.name)) e in inl (none_is k.outer t.0, top_parent k.name (find_class ds k.name) refl t.1)
 
   is_class_row : (c : DeclaredClass) → is_none c.key.outer && has_parent (find_class ds c.key.name) ≡ true → IsClassRow ds c (class_row c)
@@ -114,14 +114,19 @@ module _ (ds : List DeclaredItem) where
         (_, rest, refl, record { type = meaning f.type; means = means ds top f.of (none_is f.of.outer t.0) f.type t.1; is = refl }, are)
     item_are file (method_item m) xs rest e are =
         let t = both (is_none m.of.outer) (has_result m.result && have_meanings ds m.params) e in
-        let u = both (has_result m.result) (have_meanings ds m.params) t.1 in
-        (_, rest, refl, record {
-          result = result_of m.result;
-          params = meanings m.params;
-          means = means_result m.of (none_is m.of.outer t.0) m.result u.0;
-          mean = mean ds top m.of (none_is m.of.outer t.0) m.params u.1;
-          is = refl;
-        }, are)
+        let u = both (has_result m.result) (have_meanings ds m.params) t.1 in (
+          _,
+          rest,
+          refl,
+          record {
+            result = result_of m.result;
+            params = meanings m.params;
+            means = means_result m.of (none_is m.of.outer t.0) m.result u.0;
+            mean = mean ds top m.of (none_is m.of.outer t.0) m.params u.1;
+            is = refl;
+          },
+          are,
+        )
     item_are file (ctor_item c) xs rest e are =
         let t = both (is_none c.of.outer) (have_meanings ds c.params) e in
         (_, rest, refl, record { params = meanings c.params; mean = mean ds top c.of (none_is c.of.outer t.0) c.params t.1; is = refl }, are)

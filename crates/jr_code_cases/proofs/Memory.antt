@@ -1,6 +1,8 @@
--- A lone thread: what its loads give, which objects are new and whether a thread was started, computed from the actions before.
-use Rattle.std.proofs.Common.{◌≡◌, ℕ, zero, suc, List, [], ◌∷◌, map, Option, Some, None, Bool, true, false, ◌&&◌, refl, sym, ap, subst, ◌∙◌, inl, inr, eq-eqb, eqb-true}
-use Rattle.std.specs.Prelude.{nat_eq, not}
+-- What loads give, which objects are new and whether a thread was started, computed from the steps before. Of monitors: they
+-- are entered where no other thread has done anything.
+use Rattle.std.proofs.Common.{◌≡◌, ℕ, zero, suc, List, [], ◌∷◌, Option, Some, None, Bool, true, false, ◌&&◌, refl, sym, ap, subst, ◌∙◌, inl, inr, eq-eqb, eqb-true, arith}
+use Rattle.std.specs.Prelude.{nat_eq, nat_lt, not}
+use Rattle.std.proofs.lemmas.Bool.{ltb-true}
 use Rattle.jr_plans.specs.Swaps.{same}
 use Rattle.jr_runs.specs.Values.{Value, int, truth, null, text, class_object, object}
 use Rattle.jr_runs.specs.Actions.{FieldKind, Location, part, shared, Action, load, store, enter, exit, create, start, Trace}
@@ -8,7 +10,7 @@ use Rattle.jr_runs.specs.Rows.{Rows}
 use Rattle.jr_runs.specs.FirstValues.{First, gives, makes, default_of}
 use Rattle.jr_runs.specs.Core.{Program}
 use Rattle.jr_runs.specs.Running.{Start, Ending, Whole}
-use Rattle.jr_histories.specs.Histories.{Thread, begins, started, thread_at, Step, if_same, part_of, InitialIs, LastIs, Counts, number_of, made_number, NoneMakes, NoneStarts, OneStarts, MayCome, AllMayCome, OfThreads, Runs, History}
+use Rattle.jr_histories.specs.Histories.{Thread, begins, started, thread_at, Step, part_of, InitialIs, LastIs, Counts, number_of, made_number, NoneMakes, NoneStarts, OneStarts, MayCome, AllMayCome, OfThreads, Runs, History}
 use Rattle.jr_runs.specs.Reordering.{Reordered}
 use Rattle.jr_table.specs.Keys.{ClassKey, FieldKey, MethodKey}
 use Rattle.jr_table.specs.SameKeys.{same_class, class_decides, same_field, field_decides}
@@ -18,6 +20,10 @@ use Rattle.jr_code_cases.proofs.TopTypes.{both}
 
 abbrev V : Type 0
 V = Value RunKeys
+
+-- the steps before, the latest first
+abbrev Steps : Type 0
+Steps = List (Step RunKeys)
 
 -- ---- objects and places
 
@@ -123,10 +129,9 @@ module _ (R : Rows RunKeys) (first : FieldKey → First RunKeys) where
   last_by (create o) at later = later
   last_by (start o v) at later = later
 
-  -- the actions before, the latest first
-  abbrev last : Trace RunKeys → Location RunKeys → Option V
+  abbrev last : Steps → Location RunKeys → Option V
   last [] at = initial at
-  last (x ∷ b) at = last_by x at (last b at)
+  last (x ∷ b) at = last_by x.action at (last b at)
 
   abbrev no_objects : FieldKey → ℕ
   no_objects f = 0
@@ -139,24 +144,27 @@ module _ (R : Rows RunKeys) (first : FieldKey → First RunKeys) where
       by (gives w) is h = rw is (sym (inside w v h))
       by (makes c) is h = absurd cc
 
-  store_is : (k : FieldKind) (p at : Location RunKeys) (w v : V) (b : Trace RunKeys) (a : Option Bool) → same_place p at ≡ a → (last b at ≡ Some v → LastIs R first no_objects (alone b) at v) → by_place a w (last b at) ≡ Some v
-      → LastIs R first no_objects (alone (store k p w ∷ b)) at v
-  store_is k p at w v b None is again e = absurd cc
-  store_is k p at w v b (Some true) is again e = inl (k, λ i. store k (place_is p at is i) (inside w v e i))
-  store_is k p at w v b (Some false) is again e = inr (λ kind u same. place_differs p at is (ap (location_or p) same), again e)
+  store_is : (k : FieldKind) (p at : Location RunKeys) (w v : V) (b : Steps) (a : Option Bool) → same_place p at ≡ a → (last b at ≡ Some v → LastIs R first no_objects b at v) → by_place a w (last b at) ≡ Some v
+      → (i : ℕ) → LastIs R first no_objects (record { thread = i; action = store k p w } ∷ b) at v
+  store_is k p at w v b None is again e i = absurd cc
+  store_is k p at w v b (Some true) is again e i = inl (k, λ j. store k (place_is p at is j) (inside w v e j))
+  store_is k p at w v b (Some false) is again e i = inr (λ kind u same. place_differs p at is (ap (location_or p) same), again e)
     where
       location_or : Location RunKeys → Action RunKeys → Location RunKeys
       location_or p (store k q v) = q
       location_or p x = p
 
-  last_is : (b : Trace RunKeys) (at : Location RunKeys) (v : V) → last b at ≡ Some v → LastIs R first no_objects (alone b) at v
+  last_by_is : (i : ℕ) (x : Action RunKeys) (b : Steps) (at : Location RunKeys) (v : V) → (last b at ≡ Some v → LastIs R first no_objects b at v) → last_by x at (last b at) ≡ Some v → LastIs R first no_objects (record { thread = i; action = x } ∷ b) at v
+  last_by_is i (store k p w) b at v again e = store_is k p at w v b (same_place p at) refl again e i
+  last_by_is i (load k p w) b at v again e = inr (λ kind u same. absurd cc, again e)
+  last_by_is i (enter o) b at v again e = inr (λ kind u same. absurd cc, again e)
+  last_by_is i (exit o) b at v again e = inr (λ kind u same. absurd cc, again e)
+  last_by_is i (create o) b at v again e = inr (λ kind u same. absurd cc, again e)
+  last_by_is i (start o w) b at v again e = inr (λ kind u same. absurd cc, again e)
+
+  last_is : (b : Steps) (at : Location RunKeys) (v : V) → last b at ≡ Some v → LastIs R first no_objects b at v
   last_is [] at v e = initial_is at v e
-  last_is (store k p w ∷ b) at v e = store_is k p at w v b (same_place p at) refl (λ h. last_is b at v h) e
-  last_is (load k p w ∷ b) at v e = inr (λ kind u same. absurd cc, last_is b at v e)
-  last_is (enter o ∷ b) at v e = inr (λ kind u same. absurd cc, last_is b at v e)
-  last_is (exit o ∷ b) at v e = inr (λ kind u same. absurd cc, last_is b at v e)
-  last_is (create o ∷ b) at v e = inr (λ kind u same. absurd cc, last_is b at v e)
-  last_is (start o w ∷ b) at v e = inr (λ kind u same. absurd cc, last_is b at v e)
+  last_is (x ∷ b) at v e = last_by_is x.thread x.action b at v (λ h. last_is b at v h) e
 
 -- ---- which objects are new
 
@@ -164,19 +172,19 @@ abbrev differs : ℕ → Option ℕ → Bool
 differs n None = true
 differs n (Some m) = not (nat_eq m n)
 
-abbrev fresh : ℕ → Trace RunKeys → Bool
+abbrev fresh : ℕ → Steps → Bool
 fresh n [] = true
-fresh n (x ∷ b) = differs n (made_number x) && fresh n b
+fresh n (x ∷ b) = differs n (made_number x.action) && fresh n b
 
 differ : (n : ℕ) (o : Option ℕ) → differs n o ≡ true → o ≡ Some n → ⊥
 differ n None e is = absurd cc
 differ n (Some m) e is = let t = ap not (eq-eqb m n (inside m n is)) in true_or_false _ true e t
 
-none_makes : (n : ℕ) (b : Trace RunKeys) → fresh n b ≡ true → NoneMakes n (alone b)
+none_makes : (n : ℕ) (b : Steps) → fresh n b ≡ true → NoneMakes n b
 none_makes n [] e = tt
-none_makes n (x ∷ b) e = let t = both (differs n (made_number x)) (fresh n b) e in (differ n (made_number x) t.0, none_makes n b t.1)
+none_makes n (x ∷ b) e = let t = both (differs n (made_number x.action)) (fresh n b) e in (differ n (made_number x.action) t.0, none_makes n b t.1)
 
-abbrev is_fresh : Option ℕ → Trace RunKeys → Bool
+abbrev is_fresh : Option ℕ → Steps → Bool
 is_fresh None b = true
 is_fresh (Some n) b = fresh n b
 
@@ -195,125 +203,172 @@ was_by o (enter p) later = later
 was_by o (exit p) later = later
 was_by o (create p) later = later
 
-abbrev was : V → Trace RunKeys → Option Bool
+abbrev was : V → Steps → Option Bool
 was o [] = Some false
-was o (x ∷ b) = was_by o x (was o b)
+was o (x ∷ b) = was_by o x.action (was o b)
 
 abbrev started_or : V → Action RunKeys → V
 started_or o (start p v) = p
 started_or o _ = o
 
-not_here : (p o v : V) (b : Trace RunKeys) (a : Option Bool) → same_objects (object_in p) (object_in o) ≡ a → (was o b ≡ Some false → NoneStarts o (alone b)) → started_here a (was o b) ≡ Some false → NoneStarts o (alone (start p v ∷ b))
-not_here p o v b None is again e = absurd cc
-not_here p o v b (Some true) is again e = absurd cc
-not_here p o v b (Some false) is again e = (λ w same. object_self p (subst (λ (q : V). same_objects (object_in p) (object_in q) ≡ Some false) (sym (ap (started_or p) same)) is), again e)
+module _ (o : V) (b : Steps) (i : ℕ) where
+  abbrev with : Action RunKeys → Steps
+  with x = record { thread = i; action = x } ∷ b
 
-none_starts : (o : V) (b : Trace RunKeys) → was o b ≡ Some false → NoneStarts o (alone b)
+  not_here : (p v : V) (a : Option Bool) → same_objects (object_in p) (object_in o) ≡ a → (was o b ≡ Some false → NoneStarts o b) → started_here a (was o b) ≡ Some false → NoneStarts o (with (start p v))
+  not_here p v None is again e = absurd cc
+  not_here p v (Some true) is again e = absurd cc
+  not_here p v (Some false) is again e = (λ w same. object_self p (subst (λ (q : V). same_objects (object_in p) (object_in q) ≡ Some false) (sym (ap (started_or p) same)) is), again e)
+
+  none_by : (x : Action RunKeys) → (was o b ≡ Some false → NoneStarts o b) → was_by o x (was o b) ≡ Some false → NoneStarts o (with x)
+  none_by (start p v) again e = not_here p v (same_objects (object_in p) (object_in o)) refl again e
+  none_by (load k p v) again e = (λ w same. absurd cc, again e)
+  none_by (store k p v) again e = (λ w same. absurd cc, again e)
+  none_by (enter p) again e = (λ w same. absurd cc, again e)
+  none_by (exit p) again e = (λ w same. absurd cc, again e)
+  none_by (create p) again e = (λ w same. absurd cc, again e)
+
+  is_here : (p v : V) (a : Option Bool) → same_objects (object_in p) (object_in o) ≡ a → (was o b ≡ Some true → OneStarts o b) → started_here a (was o b) ≡ Some true → OneStarts o (with (start p v))
+  is_here p v None is again e = absurd cc
+  is_here p v (Some true) is again e = inl (v, λ j. start (objects_are p o is j) v)
+  is_here p v (Some false) is again e = inr (again e)
+
+  one_by : (x : Action RunKeys) → (was o b ≡ Some true → OneStarts o b) → was_by o x (was o b) ≡ Some true → OneStarts o (with x)
+  one_by (start p v) again e = is_here p v (same_objects (object_in p) (object_in o)) refl again e
+  one_by (load k p v) again e = inr (again e)
+  one_by (store k p v) again e = inr (again e)
+  one_by (enter p) again e = inr (again e)
+  one_by (exit p) again e = inr (again e)
+  one_by (create p) again e = inr (again e)
+
+none_starts : (o : V) (b : Steps) → was o b ≡ Some false → NoneStarts o b
 none_starts o [] e = tt
-none_starts o (start p v ∷ b) e = not_here p o v b (same_objects (object_in p) (object_in o)) refl (λ h. none_starts o b h) e
-none_starts o (load k p v ∷ b) e = (λ w same. absurd cc, none_starts o b e)
-none_starts o (store k p v ∷ b) e = (λ w same. absurd cc, none_starts o b e)
-none_starts o (enter p ∷ b) e = (λ w same. absurd cc, none_starts o b e)
-none_starts o (exit p ∷ b) e = (λ w same. absurd cc, none_starts o b e)
-none_starts o (create p ∷ b) e = (λ w same. absurd cc, none_starts o b e)
+none_starts o (x ∷ b) e = none_by o b x.thread x.action (λ h. none_starts o b h) e
 
-is_here : (p o v : V) (b : Trace RunKeys) (a : Option Bool) → same_objects (object_in p) (object_in o) ≡ a → (was o b ≡ Some true → NoneStarts o (alone b) → ⊥) → started_here a (was o b) ≡ Some true → NoneStarts o (alone (start p v ∷ b)) → ⊥
-is_here p o v b None is again e h = absurd cc
-is_here p o v b (Some true) is again e h = h.0 v (λ i. start (objects_are p o is i) v)
-is_here p o v b (Some false) is again e h = again e h.1
+one_starts : (o : V) (b : Steps) → was o b ≡ Some true → OneStarts o b
+one_starts o [] e = absurd cc
+one_starts o (x ∷ b) e = one_by o b x.thread x.action (λ h. one_starts o b h) e
 
-some_starts : (o : V) (b : Trace RunKeys) → was o b ≡ Some true → NoneStarts o (alone b) → ⊥
-some_starts o [] e h = absurd cc
-some_starts o (start p v ∷ b) e h = is_here p o v b (same_objects (object_in p) (object_in o)) refl (λ i. some_starts o b i) e h
-some_starts o (load k p v ∷ b) e h = some_starts o b e h.1
-some_starts o (store k p v ∷ b) e h = some_starts o b e h.1
-some_starts o (enter p ∷ b) e h = some_starts o b e h.1
-some_starts o (exit p ∷ b) e h = some_starts o b e h.1
-some_starts o (create p ∷ b) e h = some_starts o b e h.1
+never_both : (o : V) (b : Steps) → OneStarts o b → NoneStarts o b → ⊥
+never_both o [] one none = one
+never_both o (x ∷ b) (inl (v, is)) none = none.0 v is
+never_both o (x ∷ b) (inr one) none = never_both o b one none.1
 
 abbrev Answers : Option Bool → V → Type 0
 Answers None v = ⊥
 Answers (Some c) v = v ≡ truth c
 
-answers : (o v : V) (b : Trace RunKeys) (c : Option Bool) → was o b ≡ c → Answers c v → (v ≡ truth false → NoneStarts o (alone b)) × (NoneStarts o (alone b) → v ≡ truth false)
+answers : (o v : V) (b : Steps) (c : Option Bool) → was o b ≡ c → Answers c v → (v ≡ truth false → NoneStarts o b) × (NoneStarts o b → v ≡ truth false)
 answers o v b None is h = absurd h
 answers o v b (Some false) is h = (λ e. none_starts o b is, λ e. h)
-answers o v b (Some true) is h = (λ e. (let t : truth true ≡ truth false = sym h ∙ e in absurd cc), λ e. absurd (some_starts o b is e))
+answers o v b (Some true) is h = (λ e. (let t : truth true ≡ truth false = sym h ∙ e in absurd cc), λ e. absurd (never_both o b (one_starts o b is) e))
 
 -- ---- other threads
 
-no_counts : (j : ℕ) (a : Action RunKeys) (b : Trace RunKeys) → (j ≡ 0 → ⊥) → Counts j a (alone b) 0
-no_counts j a [] other = refl
-no_counts j a (x ∷ b) other = inr (λ h. other (sym h.0), no_counts j a b other)
+abbrev of_one : ℕ → Steps → Bool
+of_one i [] = true
+of_one i (x ∷ b) = nat_eq x.thread i && of_one i b
+
+no_counts : (i j : ℕ) (a : Action RunKeys) (b : Steps) → of_one i b ≡ true → (j ≡ i → ⊥) → Counts j a b 0
+no_counts i j a [] e other = refl
+no_counts i j a (x ∷ b) e other = let t = both (nat_eq x.thread i) (of_one i b) e in inr (λ h. other (sym h.0 ∙ eqb-true x.thread i t.0), no_counts i j a b t.1 other)
 
 -- ---- all
 
-module _ (R : Rows RunKeys) (first : FieldKey → First RunKeys) where
-  abbrev MayChecks : Trace RunKeys → Action RunKeys → Type 0
-  MayChecks b (load k at v) = last R first b at ≡ Some v
-  MayChecks b (store k at v) = Unit {0}
-  MayChecks b (enter o) = Unit {0}
-  MayChecks b (exit o) = Unit {0}
-  MayChecks b (create o) = is_fresh (number_of o) b ≡ true
-  MayChecks b (start o v) = Answers (was o b) v
+module _ (R : Rows RunKeys) (first : FieldKey → First RunKeys) (threads : List (Thread RunKeys)) where
+  abbrev ActionChecks : ℕ → Steps → Action RunKeys → Type 0
+  ActionChecks i b (load k at v) = last R first b at ≡ Some v
+  ActionChecks i b (store k at v) = Unit {0}
+  ActionChecks i b (enter o) = of_one i b ≡ true
+  ActionChecks i b (exit o) = Unit {0}
+  ActionChecks i b (create o) = is_fresh (number_of o) b ≡ true
+  ActionChecks i b (start o v) = Answers (was o b) v
 
-  abbrev pub AllMay : Trace RunKeys → Trace RunKeys → Type 0
+  -- a thread with an object was started
+  abbrev Begun : Option (Thread RunKeys) → Steps → Type 0
+  Begun None b = Unit {0}
+  Begun (Some (begins c)) b = Unit {0}
+  Begun (Some (started o)) b = was o b ≡ Some true
+
+  abbrev pub AllMay : Steps → Steps → Type 0
   AllMay b [] = Unit {0}
-  AllMay b (x ∷ t) = MayChecks b x × AllMay (x ∷ b) t
+  AllMay b (x ∷ t) = ActionChecks x.thread b x.action × Begun (thread_at threads x.thread) b × AllMay (x ∷ b) t
 
-  module _ (gives_all : (f : FieldKey) (c : ClassKey) → first f ≡ makes c → ⊥) (run : Start RunKeys) where
-    abbrev threads : List (Thread RunKeys)
-    threads = begins run ∷ []
+  new_is : (n : ℕ) (o : Option ℕ) (b : Steps) → is_fresh o b ≡ true → o ≡ Some n → NoneMakes n b
+  new_is n None b e is = absurd cc
+  new_is n (Some m) b e is = subst (λ (i : ℕ). NoneMakes i b) (inside m n is) (none_makes m b e)
 
-    abbrev step : Action RunKeys → Step RunKeys
-    step x = record { thread = 0; action = x }
+  module _ (i : ℕ) (b : Steps) where
+    loaded : (y : Action RunKeys) → ActionChecks i b y → (kind : FieldKind) (at : Location RunKeys) (v : V) → y ≡ load kind at v → LastIs R first (no_objects R first) b at v
+    loaded (load k p w) h kind at v is = let place : p ≡ at = cc in let value : w ≡ v = cc in last_is R first b at v (subst (λ (q : Location RunKeys). last R first b q ≡ Some v) place (h ∙ ap Some value))
+    loaded (store k p w) h kind at v is = absurd cc
+    loaded (enter o) h kind at v is = absurd cc
+    loaded (exit o) h kind at v is = absurd cc
+    loaded (create o) h kind at v is = absurd cc
+    loaded (start o w) h kind at v is = absurd cc
 
-    never_started : (o : V) → thread_at threads 0 ≡ Some (started o) → ⊥
-    never_started o e = absurd cc
+    entered : (y : Action RunKeys) → ActionChecks i b y → (o : V) → y ≡ enter o → (j : ℕ) → (j ≡ i → ⊥) → (n : ℕ) × Counts j (enter o) b n × Counts j (exit o) b n
+    entered (enter p) h o is j other = (0, no_counts i j (enter o) b h other, no_counts i j (exit o) b h other)
+    entered (load k p w) h o is j other = absurd cc
+    entered (store k p w) h o is j other = absurd cc
+    entered (exit p) h o is j other = absurd cc
+    entered (create p) h o is j other = absurd cc
+    entered (start p w) h o is j other = absurd cc
 
-    new_is : (n : ℕ) (o : Option ℕ) (b : Trace RunKeys) → is_fresh o b ≡ true → o ≡ Some n → NoneMakes n (alone b)
-    new_is n None b e is = absurd cc
-    new_is n (Some m) b e is = subst (λ (i : ℕ). NoneMakes i (alone b)) (inside m n is) (none_makes m b e)
+    made : (y : Action RunKeys) → ActionChecks i b y → (n : ℕ) → made_number y ≡ Some n → NoneMakes n b
+    made (create o) h n is = new_is n (number_of o) b h is
+    made (load k p w) h n is = absurd cc
+    made (store k p w) h n is = absurd cc
+    made (enter o) h n is = absurd cc
+    made (exit o) h n is = absurd cc
+    made (start o w) h n is = absurd cc
 
-    may : (b : Trace RunKeys) (x : Action RunKeys) → MayChecks b x → MayCome R first (no_objects R first) threads (alone b) (step x)
-    may b x h = record {
-      loads = λ kind at v is. loaded x h kind at v is;
-      enters = λ o is j other. (0, no_counts j (enter o) b other, no_counts j (exit o) b other);
-      is_new = λ n is. made x h n is;
+    begun : (y : Action RunKeys) → ActionChecks i b y → (o v : V) → y ≡ start o v → (v ≡ truth false → NoneStarts o b) × (NoneStarts o b → v ≡ truth false)
+    begun (start p w) h o v is = let same : p ≡ o = cc in let value : w ≡ v = cc in subst (λ (q : V). (v ≡ truth false → NoneStarts q b) × (NoneStarts q b → v ≡ truth false)) same (answers p v b (was p b) refl (subst (Answers (was p b)) value h))
+    begun (load k p w) h o v is = absurd cc
+    begun (store k p w) h o v is = absurd cc
+    begun (enter p) h o v is = absurd cc
+    begun (exit p) h o v is = absurd cc
+    begun (create p) h o v is = absurd cc
+
+    was_begun : (t : Option (Thread RunKeys)) → Begun t b → (o : V) → t ≡ Some (started o) → OneStarts o b
+    was_begun None h o is = absurd cc
+    was_begun (Some (begins c)) h o is = absurd cc
+    was_begun (Some (started p)) h o is = let same : p ≡ o = cc in subst (λ (q : V). OneStarts q b) same (one_starts p b h)
+
+  module _ (gives_all : (f : FieldKey) (c : ClassKey) → first f ≡ makes c → ⊥) where
+    may : (b : Steps) (x : Step RunKeys) → ActionChecks x.thread b x.action → Begun (thread_at threads x.thread) b → MayCome R first (no_objects R first) threads b x
+    may b x h g = record {
+      loads = λ kind at v is. loaded x.thread b x.action h kind at v is;
+      enters = λ o is j other. entered x.thread b x.action h o is j other;
+      is_new = λ n is. made x.thread b x.action h n is;
       is_not_first = λ n is f c makes none. gives_all f c makes;
-      starts = λ o v is. begun x h o v is;
-      was_started = λ o is. absurd (never_started o is);
+      starts = λ o v is. begun x.thread b x.action h o v is;
+      was_started = λ o is. was_begun x.thread b (thread_at threads x.thread) g o is;
     }
-      where
-        loaded : (y : Action RunKeys) → MayChecks b y → (kind : FieldKind) (at : Location RunKeys) (v : V) → y ≡ load kind at v → LastIs R first (no_objects R first) (alone b) at v
-        loaded (load k p w) h kind at v is = let place : p ≡ at = cc in let value : w ≡ v = cc in last_is R first b at v (subst (λ (q : Location RunKeys). last R first b q ≡ Some v) place (h ∙ ap Some value))
-        loaded (store k p w) h kind at v is = absurd cc
-        loaded (enter o) h kind at v is = absurd cc
-        loaded (exit o) h kind at v is = absurd cc
-        loaded (create o) h kind at v is = absurd cc
-        loaded (start o w) h kind at v is = absurd cc
 
-        made : (y : Action RunKeys) → MayChecks b y → (n : ℕ) → made_number y ≡ Some n → NoneMakes n (alone b)
-        made (create o) h n is = new_is n (number_of o) b h is
-        made (load k p w) h n is = absurd cc
-        made (store k p w) h n is = absurd cc
-        made (enter o) h n is = absurd cc
-        made (exit o) h n is = absurd cc
-        made (start o w) h n is = absurd cc
-
-        begun : (y : Action RunKeys) → MayChecks b y → (o v : V) → y ≡ start o v → (v ≡ truth false → NoneStarts o (alone b)) × (NoneStarts o (alone b) → v ≡ truth false)
-        begun (start p w) h o v is = let same : p ≡ o = cc in let value : w ≡ v = cc in subst (λ (q : V). (v ≡ truth false → NoneStarts q (alone b)) × (NoneStarts q (alone b) → v ≡ truth false)) same (answers p v b (was p b) refl (subst (Answers (was p b)) value h))
-        begun (load k p w) h o v is = absurd cc
-        begun (store k p w) h o v is = absurd cc
-        begun (enter p) h o v is = absurd cc
-        begun (exit p) h o v is = absurd cc
-        begun (create p) h o v is = absurd cc
-
-    all_may : (b t : Trace RunKeys) → AllMay b t → AllMayCome R first (no_objects R first) threads (alone b) (alone t)
+    all_may : (b t : Steps) → AllMay b t → AllMayCome R first (no_objects R first) threads b t
     all_may b [] h = tt
-    all_may b (x ∷ t) h = (may b x h.0, all_may (x ∷ b) t h.1)
+    all_may b (x ∷ t) h = (may b x h.0 h.1, all_may (x ∷ b) t h.2)
 
-    all_of : (t : Trace RunKeys) → OfThreads threads (alone t)
+-- each step is one of two threads
+abbrev pub of_either : Steps → Bool
+of_either [] = true
+of_either (x ∷ h) = nat_lt x.thread 2 && of_either h
+
+module _ (P : Program RunKeys) (first : FieldKey → First RunKeys) (gives_all : (f : FieldKey) (c : ClassKey) → first f ≡ makes c → ⊥) (of : MethodKey) where
+  -- a thread's run, whose actions are its steps in their order
+  Part : Steps → ℕ → Thread RunKeys → Type 0
+  Part h i x = (c : Start RunKeys) × Runs P.rows of x c × (u : Trace RunKeys) × (f : Ending RunKeys) × Whole P c u f × Reordered u (part_of i h)
+
+  part_is : (h : Steps) (i : ℕ) (x : Thread RunKeys) (c : Start RunKeys) (u : Trace RunKeys) (f : Ending RunKeys) → Runs P.rows of x c → Whole P c u f → u ≡ part_of i h → Part h i x
+  unfolding Part
+  part_is h i x c u f runs whole is = (c, runs, u, f, whole, subst (Reordered u) is (same u))
+
+  -- ---- one thread
+
+  module _ (run : Start RunKeys) where
+    all_of : (t : Trace RunKeys) → OfThreads (begins run ∷ []) (alone t)
     all_of [] = tt
     all_of (x ∷ t) = ((begins run, refl), all_of t)
 
@@ -321,27 +376,61 @@ module _ (R : Rows RunKeys) (first : FieldKey → First RunKeys) where
     own_part [] = refl
     own_part (x ∷ t) = ap (λ (u : Trace RunKeys). x ∷ u) (own_part t)
 
-module _ (P : Program RunKeys) (first : FieldKey → First RunKeys) (gives_all : (f : FieldKey) (c : ClassKey) → first f ≡ makes c → ⊥) (run : Start RunKeys) (of : MethodKey) (t : Trace RunKeys) (e : Ending RunKeys) where
-  pub lone_history : Whole P run t e → AllMay P.rows first [] t → History P of first (begins run ∷ []) (alone t)
-  lone_history whole checks = record {
-    of_threads = all_of P.rows first gives_all run t;
-    parts = parts;
-    own_objects = λ i j o a b. absurd (none i o a);
-    objects = no_objects P.rows first;
-    one_each = λ f g c d a b same. absurd (gives_all f c a);
-    steps = all_may P.rows first gives_all run [] t checks;
-  }
-    where
-      Part : ℕ → Thread RunKeys → Type 0
-      Part i x = (c : Start RunKeys) × Runs P.rows of x c × (u : Trace RunKeys) × (f : Ending RunKeys) × Whole P c u f × Reordered u (part_of i (alone t))
+    none_started : (i : ℕ) (o : V) → thread_at (begins run ∷ []) i ≡ Some (started o) → ⊥
+    none_started zero o is = absurd cc
+    none_started (suc i) o is = absurd cc
 
-      own : Part 0 (begins run)
-      own = (run, refl, t, e, whole, subst (Reordered t) (own_part P.rows first gives_all run t) (same t))
-
-      parts : (i : ℕ) (x : Thread RunKeys) → thread_at (begins run ∷ []) i ≡ Some x → Part i x
-      parts zero x is = subst (Part 0) (inside (begins run) x is) own
+    module _ (t : Trace RunKeys) (e : Ending RunKeys) (whole : Whole P run t e) where
+      parts : (i : ℕ) (x : Thread RunKeys) → thread_at (begins run ∷ []) i ≡ Some x → Part (alone t) i x
+      parts zero x is = subst (Part (alone t) 0) (inside (begins run) x is) (part_is (alone t) 0 (begins run) run t e refl whole (own_part t))
       parts (suc i) x is = absurd cc
 
-      none : (i : ℕ) (o : V) → thread_at (begins run ∷ []) i ≡ Some (started o) → ⊥
-      none zero o is = absurd cc
-      none (suc i) o is = absurd cc
+      pub lone_history : AllMay P.rows first (begins run ∷ []) [] (alone t) → History P of first (begins run ∷ []) (alone t)
+      unfolding Part
+      lone_history checks = record {
+        of_threads = all_of t;
+        parts = parts;
+        own_objects = λ i j o a b. absurd (none_started i o a);
+        objects = no_objects P.rows first;
+        one_each = λ f g c d a b same. absurd (gives_all f c a);
+        steps = all_may P.rows first (begins run ∷ []) gives_all [] (alone t) checks;
+      }
+
+  -- ---- a thread that starts another
+
+  module _ (run : Start RunKeys) (o : V) where
+    abbrev both_threads : List (Thread RunKeys)
+    both_threads = begins run ∷ started o ∷ []
+
+    one_object : (i j : ℕ) (p : V) → thread_at both_threads i ≡ Some (started p) → thread_at both_threads j ≡ Some (started p) → i ≡ j
+    one_object zero j p a b = absurd cc
+    one_object (suc zero) zero p a b = absurd cc
+    one_object (suc zero) (suc zero) p a b = refl
+    one_object (suc zero) (suc (suc j)) p a b = absurd cc
+    one_object (suc (suc i)) j p a b = absurd cc
+
+    either_thread : (i : ℕ) → nat_lt i 2 ≡ true → (x : Thread RunKeys) × (thread_at both_threads i ≡ Some x)
+    either_thread zero e = (begins run, refl)
+    either_thread (suc zero) e = (started o, refl)
+    either_thread (suc (suc i)) e = absurd (let less = ltb-true (suc (suc i)) 2 e in omega (arith, less))
+
+    all_either : (h : Steps) → of_either h ≡ true → OfThreads both_threads h
+    all_either [] e = tt
+    all_either (x ∷ h) e = let t = both (nat_lt x.thread 2) (of_either h) e in (either_thread x.thread t.0, all_either h t.1)
+
+    module _ (h : Steps) (t u : Trace RunKeys) (e f : Ending RunKeys) (d : Start RunKeys) (whole : Whole P run t e) (runs : Runs P.rows of (started o) d) (other : Whole P d u f) (own : t ≡ part_of 0 h) (others : u ≡ part_of 1 h) where
+      two_parts : (i : ℕ) (x : Thread RunKeys) → thread_at both_threads i ≡ Some x → Part h i x
+      two_parts zero x is = subst (Part h 0) (inside (begins run) x is) (part_is h 0 (begins run) run t e refl whole own)
+      two_parts (suc zero) x is = subst (Part h 1) (inside (started o) x is) (part_is h 1 (started o) d u f runs other others)
+      two_parts (suc (suc i)) x is = absurd cc
+
+      pub two_histories : of_either h ≡ true → AllMay P.rows first both_threads [] h → History P of first both_threads h
+      unfolding Part
+      two_histories either checks = record {
+        of_threads = all_either h either;
+        parts = two_parts;
+        own_objects = one_object;
+        objects = no_objects P.rows first;
+        one_each = λ f g c d a b same. absurd (gives_all f c a);
+        steps = all_may P.rows first both_threads gives_all [] h checks;
+      }

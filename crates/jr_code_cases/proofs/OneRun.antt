@@ -1,6 +1,6 @@
 -- A run that asks for nothing is the only one.
-use Rattle.std.proofs.Common.{◌≡◌, ℕ, ◌+◌, List, [], ◌∷◌, ◌++◌, refl, sym, ap, subst, ◌∙◌, arith}
-use Rattle.jr_plans.specs.Run.{End, ended, cut, ill_typed, Outcome, Keeps, Grows, runner}
+use Rattle.std.proofs.Common.{◌≡◌, ℕ, ◌+◌, List, [], ◌∷◌, ◌++◌, refl, sym, ap, ◌∙◌, arith}
+use Rattle.jr_plans.specs.Run.{End, ended, cut, ill_typed, Outcome, Keeps, runner}
 use Rattle.jr_plans.proofs.Growth.{runs_grow}
 use Rattle.jr_runs.specs.Keys.{Keys}
 use Rattle.jr_runs.specs.Values.{Value}

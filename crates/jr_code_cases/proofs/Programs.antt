@@ -12,3 +12,4 @@ pub mod Literals
 pub mod SecondStart
 pub mod Bumps
 pub mod FailedCast
+pub mod HandedOver

@@ -1,9 +1,7 @@
 -- What the members of one file of top-level classes break, computed: they are sound where nothing is noted that is broken.
-use Rattle.std.proofs.Common.{◌≡◌, ℕ, ◌+◌, List, [], ◌∷◌, map, Option, Some, None, Bool, true, false, ◌&&◌, refl, sym, subst, ◌∙◌, inl, inr}
-use Rattle.jr_ast.specs.Tree as tree
-use Rattle.jr_ast.specs.StatementTree as statement
+use Rattle.std.proofs.Common.{◌≡◌, ℕ, ◌+◌, List, [], ◌∷◌, map, None, Bool, true, false, ◌&&◌, refl, subst, ◌∙◌, inl, inr}
 use Rattle.jr_ast.specs.MemberTree as syntax
-use Rattle.jr_table.specs.Keys.{ClassKey, MethodKey, CtorKey}
+use Rattle.jr_table.specs.Keys.{ClassKey}
 use Rattle.jr_table.specs.Decls.{MemberKey, head, field, method, constructor}
 use Rattle.jr_table.specs.Rows.{Row}
 use Rattle.jr_table.specs.Conditions.{AreRows}
@@ -15,7 +13,7 @@ use Rattle.jr_table.specs.Errors.{Part, class_part, member_part, part_mark, Brea
 use Rattle.jr_table.specs.declared.rules.Rule.{Rule}
 use Rattle.jr_table.proofs.MemberNotes.{part_breaks}
 use Rattle.jr_code_cases.proofs.TopTypes.{both, all_top, meanings, have_meanings, one_mean}
-use Rattle.jr_code_cases.proofs.ComputedProgram.{method_key, ctor_key, same_method_key, same_ctor_key}
+use Rattle.jr_code_cases.proofs.ComputedProgram.{method_key, ctor_key}
 
 abbrev is_quiet : List Note → Bool
 is_quiet [] = true

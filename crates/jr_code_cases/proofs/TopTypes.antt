@@ -5,9 +5,9 @@ use Rattle.jr_table.specs.Keys.{ClassKey, Ty, class}
 use Rattle.jr_table.specs.Keys as keys
 use Rattle.jr_table.specs.SameKeys.{same_name, same_class, class_decides}
 use Rattle.std.specs.Cmp.Lexicographic.{bytes_decides}
-use Rattle.jr_table.specs.Prelude.{top_key, object_key}
+use Rattle.jr_table.specs.Prelude.{top_key}
 use Rattle.jr_table.specs.DeclaredItems.{Written, int, boolean, named, DeclaredParam, DeclaredClass, Item, class_item, field_item, method_item, ctor_item, DeclaredItem}
-use Rattle.jr_table.specs.Resolving.{DeclaresClass, IsPreludeSubclass, IsPreludeClass, IsDeclared, IsTopClass, TopNames, TopParent, TopMemberType, TypeWithin, HasMemberType, FindsAround, FindsType, Means}
+use Rattle.jr_table.specs.Resolving.{DeclaresClass, IsPreludeClass, IsDeclared, IsTopClass, TopMemberType, TypeWithin, HasMemberType, FindsAround, Means}
 use Rattle.jr_table.specs.ProgramRows.{MeanTypes}
 
 pub both : (a b : Bool) → a && b ≡ true → (a ≡ true) × (b ≡ true)
@@ -90,7 +90,7 @@ top_at (d ∷ ds) zero x t e = let same : d ≡ x = cc in subst (λ (y : Declare
 top_at (d ∷ ds) (suc n) x t e = top_at ds n x (both (is_top_item d.item) (all_top ds) t).1 e
 
 module _ (ds : List DeclaredItem) (top : all_top ds ≡ true) where
-  no_outer : (k : ClassKey) → IsDeclared ds k → k.outer ≡ None
+  pub no_outer : (k : ClassKey) → IsDeclared ds k → k.outer ≡ None
   no_outer k (at, h) = sym (ap (λ (x : ClassKey). x.outer) h.is) ∙ none_is at.key.outer (top_at ds h.number (record { file = h.file; item = class_item at }) top h.stands)
 
   no_top_member : (up : ℕ) (of name : List ℕ) (q : ClassKey) → TopMemberType ds up of name q → ⊥

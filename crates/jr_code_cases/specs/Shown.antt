@@ -12,13 +12,15 @@ use Rattle.jr_table.specs.Prelude.{thread_key}
 use Rattle.jr_table.specs.Conditions.{AreRows}
 use Rattle.jr_table.specs.DeclaredItems.{declarations_of}
 use Rattle.jr_table.specs.ProgramRows.{AreProgramRows}
-use Rattle.jr_table.specs.Errors.{Error, HasError, IsSound}
+use Rattle.jr_table.specs.Faults.{IsClean}
+use Rattle.jr_table.specs.Errors.{HasError, IsSound}
 use Rattle.jr_table.specs.declared.rules.Rule.{Rule}
+use Rattle.jr_runs.specs.Values.{Value}
 use Rattle.jr_runs.specs.Actions.{Trace}
 use Rattle.jr_runs.specs.Core as core
-use Rattle.jr_runs.specs.Running.{Start, Ending, Whole, Bounded}
+use Rattle.jr_runs.specs.Running.{Start, Ending, gave_nothing, Whole, Bounded}
 use Rattle.jr_runs.specs.FirstValues.{First}
-use Rattle.jr_histories.specs.Histories.{begins, Step, History}
+use Rattle.jr_histories.specs.Histories.{begins, started, Step, part_of, History}
 use Rattle.jr_code.specs.RunKeys.{RunKeys}
 use Rattle.jr_code.specs.CodedFields.{AreFirstValues}
 use Rattle.jr_code.specs.Programs.{IsCodeOf}
@@ -34,13 +36,15 @@ last_of m base = m.to - 1
 abbrev pub alone : Trace RunKeys → List (Step RunKeys)
 alone t = map (λ x. record { thread = 0; action = x }) t
 
--- A text as a program's one file: the tree that it reads as, and the rows of what this declares.
+-- A text as a program's one file: the tree that it reads as, and the rows of what this declares,
+-- without a fault.
 pub record HasTree (text : List ℕ) : Type 0 where
   pub unit : syntax.Unit Span
   pub reads : ReadsWithSpans itself text unit
   pub rows : List Row
   pub are : AreRows rows
   pub declared : AreProgramRows (declarations_of first_of (unit ∷ [])) rows
+  pub clean : IsClean [] (declarations_of first_of (unit ∷ []))
 
 -- No member breaks a rule, and P is its code. No text here writes `super(..)`, so this holds
 -- wherever that stood.
@@ -68,6 +72,19 @@ pub record ShowsOnly (text : List ℕ) (start : Start RunKeys) (trace : Trace Ru
   pub shows : Shows text start trace ending
   pub only : (other : Trace RunKeys) (end : Ending RunKeys) → Whole shows.program start other end
       → (other ≡ trace) × (end ≡ ending)
+
+-- A thread that starts another, whose Thread object is told: what each of them does, and one order
+-- of their steps, in which each load gives what was stored last.
+pub record ShowsBoth (text : List ℕ) (start other : Start RunKeys) (of : Value RunKeys)
+    (steps : List (Step RunKeys)) (ending : Ending RunKeys) : Type 0 where
+  pub program : core.Program RunKeys
+  pub code : HasCode text program
+  pub runs : Whole program start (part_of 0 steps) ending
+  pub others : Whole program other (part_of 1 steps) gave_nothing
+  pub first : FieldKey → First RunKeys
+  pub firsts : AreFirstValues first_of code.tree.rows (code.tree.unit ∷ []) program.rows first
+  pub history : History program (thread_key (codes "run")) first
+      (begins start ∷ started of ∷ []) steps
 
 -- A member breaks the rule, so that the program isn't sound.
 pub record Refuses (text : List ℕ) (rule : Rule) : Type 0 where

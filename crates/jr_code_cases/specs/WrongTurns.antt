@@ -1,6 +1,7 @@
--- The turns that an account of types could take wrong, as texts: three that are no programs, each by
--- the rule that it breaks, and one that is. `javac` refuses the three at the same words.
-use Rattle.std.specs.Prelude.{ℕ, List, [], ◌∷◌, ◌++◌, codes}
+-- The turns that an account of types could take wrong, as texts: three that are no programs, each
+-- by the rule that it breaks, and one that is. `javac` refuses the three too, for what stands above
+-- each.
+use Rattle.std.specs.Prelude.{ℕ, List, [], ◌∷◌, codes}
 use Rattle.jr_runs.specs.Actions.{plain, load, store}
 use Rattle.jr_table.specs.declared.rules.Rule.TheVariants as rule
 use Rattle.jr_code_cases.specs.Shown.{Refuses, NeverEnds}
@@ -12,10 +13,10 @@ text_of_endless = codes "class A { static int n; static int go() { while (true) 
 
 abbrev pub Endless : Type 0
 Endless = NeverEnds text_of_endless (go_of a) (
-      load plain (static_of a (codes "n")) (number 0)
-      ∷ store plain (static_of a (codes "n")) (number 1)
-      ∷ load plain (static_of a (codes "n")) (number 1)
-      ∷ [])
+    load plain (static_of a (codes "n")) (number 0)
+    ∷ store plain (static_of a (codes "n")) (number 1)
+    ∷ load plain (static_of a (codes "n")) (number 1)
+    ∷ [])
 
 -- incompatible types: void cannot be converted to int
 abbrev pub text_of_void_value : List ℕ

@@ -1,6 +1,19 @@
 //! The programs, each the contract of a function that does nothing.
 ghost use Rattle.jr_code_cases.specs.Cases.{
-  VolatileFlag, Overflow, ZeroDivisor, NullReceiver, CountedLoop, Monitor, Dispatch, Initializers, FirstValues, Literals, SecondStart, Bumps, FailedCast
+  VolatileFlag,
+  Overflow,
+  ZeroDivisor,
+  NullReceiver,
+  CountedLoop,
+  Monitor,
+  Dispatch,
+  Initializers,
+  FirstValues,
+  Literals,
+  SecondStart,
+  Bumps,
+  FailedCast,
+  HandedOver,
 };
 ghost use Rattle.jr_code_cases.specs.WrongTurns.{Endless, VoidValue, MissingReturn, Down};
 
@@ -67,6 +80,11 @@ pub fn bumps()
 /// A cast that fails (JLS 15.16).
 pub fn failed_cast()
     ensures { FailedCast }
+{}
+
+/// A thread that waits for what another hands over by a volatile store (JLS 17.4.5).
+pub fn handed_over()
+    ensures { HandedOver }
 {}
 
 /// `while (true)` is no loop behind which a return is missing: the program is sound, and its run

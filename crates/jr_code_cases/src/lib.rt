@@ -10,5 +10,7 @@
 mod laws;
 
 pub use laws::{
-    bumps, counted_loop, dispatch, down, endless, failed_cast, first_values, initializers, literals, missing_return, monitor, null_receiver, overflow, second_start, void_value, volatile_flag, zero_divisor
+    bumps, counted_loop, dispatch, down, endless, failed_cast, first_values, handed_over,
+    initializers, literals, missing_return, monitor, null_receiver, overflow, second_start,
+    void_value, volatile_flag, zero_divisor,
 };

@@ -20,7 +20,7 @@ use Rattle.jr_code.specs.CodedMembers.{DefaultCoded, ConstructorCoded, ClassCode
 use Rattle.jr_code.specs.Programs.{IsCodeOf}
 use Rattle.jr_code.specs.Laws.{EachHasOneCode}
 use Rattle.jr_sound_code.proofs.Finding.{static_or}
-use Rattle.jr_sound_code.proofs.RunRowsStand.{row_or}
+use Rattle.jr_code.proofs.RunRowsStand.{row_or}
 use Rattle.jr_sound_code.proofs.Reached.{LacksCtor, method_is_of, ctor_is_of}
 
 -- ---- answers that say the same are one

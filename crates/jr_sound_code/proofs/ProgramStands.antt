@@ -34,7 +34,7 @@ use Rattle.jr_code.specs.Programs.{HasNoMore, IsCodeOf}
 use Rattle.jr_sound_code.proofs.MembersStand.{Sound, SoundFields, method_stands, constructor_stands, default_stands, inits_stand}
 use Rattle.jr_sound_code.proofs.Meeting.{Meets, classes_meet}
 use Rattle.jr_sound_code.proofs.Unwritten.{unwritten_stands, prelude_row, not_prelude}
-use Rattle.jr_sound_code.proofs.RunRowsStand.{run_rows, are_run_rows}
+use Rattle.jr_code.proofs.RunRowsStand.{run_rows, are_run_rows}
 
 abbrev FoundIn : {A : Type 0} → List (WrittenMember A) → MemberKey → Type 0
 FoundIn {A} ws k = (w : WrittenMember A) × walking.In ws w × (w.key ≡ k)
@@ -202,7 +202,7 @@ module _ {A : Type 0} (begins ends : A → ℕ → ℕ) (rows : List Row) (are :
 
   pub resolved : core.Program RunKeys
   resolved = record {
-    rows = run_rows rows are;
+    rows = run_rows rows;
     method = λ k. method_by k (search (method k));
     constructor = λ q. ctor_by q (default_or q) (search (constructor q));
   }

@@ -19,4 +19,4 @@ unit = record { mark = tt; package_name = []; classes = ((syntax.class tt [] (w 
 
 pub shown : Bumps
 unfolding computing
-shown = shows text_of_bumps unit refl refl (grind arith) refl (λ s. refl) refl (refl, refl, (tt, ((refl, refl), tt)), tt) (record { object = refl; thread = refl; run = refl; start = refl }) _ _ _ refl (((tt, (tt, tt)), tt), tt) (record { answers = an_a ∷ number 5 ∷ number 6 ∷ number 11 ∷ []; fuel = 4; out = _; trace_is = refl; end_is = refl; ending_is = refl }) (refl, (tt, (refl, (tt, (refl, (tt, (refl, tt)))))))
+shown = shows text_of_bumps unit refl refl (grind arith) refl (λ s. refl) refl (refl, refl, (tt, ((refl, refl), tt)), tt) (record { object = refl; thread = refl; run = refl; start = refl }) _ _ _ refl (((tt, (tt, tt)), tt), tt) (record { answers = an_a ∷ number 5 ∷ number 6 ∷ number 11 ∷ []; fuel = 4; out = _; trace_is = refl; end_is = refl; ending_is = refl }) (refl, tt, (tt, tt, (refl, tt, (tt, tt, (refl, tt, (tt, tt, (refl, tt, tt)))))))

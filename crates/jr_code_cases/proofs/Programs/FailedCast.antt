@@ -17,4 +17,4 @@ unit = record { mark = tt; package_name = []; classes = ((syntax.class tt [] (w 
 
 pub shown : FailedCast
 unfolding computing
-shown = shows text_of_failed_cast unit refl refl (grind arith) refl (λ s. refl) refl (refl, refl, tt, (refl, refl, ((refl, refl), tt), tt)) (record { object = refl; thread = refl; run = refl; start = refl }) _ _ _ refl ((tt, ((tt, tt), tt)), tt) (record { answers = an_a ∷ []; fuel = 4; out = _; trace_is = refl; end_is = refl; ending_is = refl }) (refl, tt)
+shown = shows text_of_failed_cast unit refl refl (grind arith) refl (λ s. refl) refl (refl, refl, tt, (refl, refl, ((refl, refl), tt), tt)) (record { object = refl; thread = refl; run = refl; start = refl }) _ _ _ refl ((tt, ((tt, tt), tt)), tt) (record { answers = an_a ∷ []; fuel = 4; out = _; trace_is = refl; end_is = refl; ending_is = refl }) (refl, tt, tt)

@@ -19,4 +19,4 @@ unit = record { mark = tt; package_name = []; classes = ((syntax.class tt [] (w 
 
 pub shown : FirstValues
 unfolding computing
-shown = shows text_of_first_values unit refl refl (grind arith) refl (λ s. refl) refl (refl, refl, (tt, (tt, (tt, ((refl, refl), tt)))), tt) (record { object = refl; thread = refl; run = refl; start = refl }) _ _ _ refl (((refl, (refl, (tt, (tt, tt)))), tt), tt) (record { answers = truth true ∷ number 7 ∷ number 21 ∷ []; fuel = 4; out = _; trace_is = refl; end_is = refl; ending_is = refl }) (refl, (refl, (tt, (refl, tt))))
+shown = shows text_of_first_values unit refl refl (grind arith) refl (λ s. refl) refl (refl, refl, (tt, (tt, (tt, ((refl, refl), tt)))), tt) (record { object = refl; thread = refl; run = refl; start = refl }) _ _ _ refl (((refl, (refl, (tt, (tt, tt)))), tt), tt) (record { answers = truth true ∷ number 7 ∷ number 21 ∷ []; fuel = 4; out = _; trace_is = refl; end_is = refl; ending_is = refl }) (refl, tt, (refl, tt, (tt, tt, (refl, tt, tt))))

@@ -19,4 +19,4 @@ unit = record { mark = tt; package_name = []; classes = ((syntax.class tt [] (w 
 
 pub shown : Initializers
 unfolding computing
-shown = shows text_of_initializers unit refl refl (grind arith) refl (λ s. refl) refl (refl, tt, (tt, (tt, ((refl, refl), ((refl, refl), tt)))), (refl, refl, (tt, ((refl, refl), ((refl, refl), tt))), tt)) (record { object = refl; thread = refl; run = refl; start = refl }) _ _ _ refl (((tt, (tt, (tt, (tt, tt)))), ((tt, (tt, (tt, tt))), tt)), tt) (record { answers = a_b ∷ number 0 ∷ number 0 ∷ number 5 ∷ []; fuel = 6; out = _; trace_is = refl; end_is = refl; ending_is = refl }) (refl, (tt, (refl, (tt, (tt, (refl, (refl, tt)))))))
+shown = shows text_of_initializers unit refl refl (grind arith) refl (λ s. refl) refl (refl, tt, (tt, (tt, ((refl, refl), ((refl, refl), tt)))), (refl, refl, (tt, ((refl, refl), ((refl, refl), tt))), tt)) (record { object = refl; thread = refl; run = refl; start = refl }) _ _ _ refl (((tt, (tt, (tt, (tt, tt)))), ((tt, (tt, (tt, tt))), tt)), tt) (record { answers = a_b ∷ number 0 ∷ number 0 ∷ number 5 ∷ []; fuel = 6; out = _; trace_is = refl; end_is = refl; ending_is = refl }) (refl, tt, (tt, tt, (refl, tt, (tt, tt, (tt, tt, (refl, tt, (refl, tt, tt)))))))

@@ -18,4 +18,4 @@ unit = record { mark = tt; package_name = []; classes = ((syntax.class tt [] (w 
 
 pub shown : NullReceiver
 unfolding computing
-shown = shows text_of_null_receiver unit refl refl (grind arith) refl (λ s. refl) refl (refl, refl, (tt, (tt, ((refl, refl), ((refl, refl), tt)))), tt) (record { object = refl; thread = refl; run = refl; start = refl }) _ _ _ refl (((tt, (tt, (tt, (tt, tt)))), tt), tt) (record { answers = number 0 ∷ number 1 ∷ []; fuel = 4; out = _; trace_is = refl; end_is = refl; ending_is = refl }) (refl, (tt, (refl, tt)))
+shown = shows text_of_null_receiver unit refl refl (grind arith) refl (λ s. refl) refl (refl, refl, (tt, (tt, ((refl, refl), ((refl, refl), tt)))), tt) (record { object = refl; thread = refl; run = refl; start = refl }) _ _ _ refl (((tt, (tt, (tt, (tt, tt)))), tt), tt) (record { answers = number 0 ∷ number 1 ∷ []; fuel = 4; out = _; trace_is = refl; end_is = refl; ending_is = refl }) (refl, tt, (tt, tt, (refl, tt, tt)))

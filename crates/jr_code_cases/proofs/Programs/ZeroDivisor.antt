@@ -18,4 +18,4 @@ unit = record { mark = tt; package_name = []; classes = ((syntax.class tt [] (w 
 
 pub shown : ZeroDivisor
 unfolding computing
-shown = shows text_of_zero_divisor unit refl refl (grind arith) refl (λ s. refl) refl (refl, refl, (tt, ((refl, refl), tt)), tt) (record { object = refl; thread = refl; run = refl; start = refl }) _ _ _ refl (((tt, (tt, tt)), tt), tt) (record { answers = number 1 ∷ []; fuel = 4; out = _; trace_is = refl; end_is = refl; ending_is = refl }) (tt, (refl, tt))
+shown = shows text_of_zero_divisor unit refl refl (grind arith) refl (λ s. refl) refl (refl, refl, (tt, ((refl, refl), tt)), tt) (record { object = refl; thread = refl; run = refl; start = refl }) _ _ _ refl (((tt, (tt, tt)), tt), tt) (record { answers = number 1 ∷ []; fuel = 4; out = _; trace_is = refl; end_is = refl; ending_is = refl }) (tt, tt, (refl, tt, tt))

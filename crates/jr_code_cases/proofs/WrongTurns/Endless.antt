@@ -15,7 +15,7 @@ use Rattle.jr_runs.specs.Core as core
 use Rattle.jr_runs.specs.Evaluation.{Call, turn, table}
 use Rattle.jr_runs.specs.Running.{Ending, Whole, Bounded, plain_run}
 use Rattle.jr_code.specs.RunKeys.{RunKeys}
-use Rattle.jr_code_cases.specs.Shown.{HasCode, NeverEnds}
+use Rattle.jr_code_cases.specs.Shown.{HasCode}
 use Rattle.jr_code_cases.specs.Cases.{a, go_of, static_of, number}
 use Rattle.jr_code_cases.specs.WrongTurns.{text_of_endless, Endless}
 use Rattle.jr_code_cases.proofs.Computing.{computing}

@@ -1,6 +1,6 @@
--- What runs need of a program's rows, computed.
-use Rattle.std.proofs.Common.{◌≡◌, ℕ, List, [], map, Option, Some, None, Bool, true, false, cond, refl, sym, ap, subst, ◌∙◌, inl, inr, eq-eqb, eqb-true}
-use Rattle.std.specs.Prelude.{◌↔◌, ◌||◌, ◌==◌, is_some, slice_get, codes, IsTrue, option_and_then}
+-- What runs need of a program's rows: each question has its answer, which is computed.
+use Rattle.std.proofs.Common.{◌≡◌, ℕ, List, [], map, Option, Some, None, Bool, true, false, refl, sym, ap, subst, ◌∙◌, inl, inr, eq-eqb, eqb-true}
+use Rattle.std.specs.Prelude.{◌⊎◌, ◌↔◌, ◌||◌, ◌==◌, is_some, slice_get, codes, IsTrue, option_and_then}
 use Rattle.std.specs.List.{list_any}
 use Rattle.jr_runs.specs.Values as value
 use Rattle.jr_runs.specs.Actions.{plain}
@@ -11,7 +11,7 @@ use Rattle.jr_table.specs.SameKeys.{same_class, class_decides}
 use Rattle.jr_table.specs.Decls.{Decl, class_decl, field_decl, method_decl, constructor_decl}
 use Rattle.jr_table.specs.Rows.{Row}
 use Rattle.jr_table.specs.Prelude.{top_key}
-use Rattle.jr_table.specs.Entries.{IsRowOf, number_of, entries_of, is_static_word, kind_of, method_of, method_at}
+use Rattle.jr_table.specs.Entries.{IsRowOf, number_of, entries_of, is_static_word, kind_of, method_at}
 use Rattle.jr_table.specs.Conditions.{AreRows}
 use Rattle.jr_table.specs.Members.{DeclaresVirtual, Dispatches}
 use Rattle.jr_table.specs.Looking.{is_virtual, nearest}
@@ -85,6 +85,16 @@ module _ (rows : List Row) where
   }
 
   -- ---- rows
+
+  abbrev pub RowOr : Decl → Type 0
+  RowOr d = HasRow rows d ⊎ (HasRow rows d → ⊥)
+
+  pub row_or : (d : Decl) → RowOr d
+  row_or d = by (number_of rows d) refl
+    where
+      by : (o : Option ℕ) → number_of rows d ≡ o → RowOr d
+      by (Some j) e = inl (j, number_stands rows d j e)
+      by None e = inr (λ h. number_none rows d e h.0 h.1)
 
   no_row : (d : Decl) → (HasRow rows d → ⊥) → row_of rows d ≡ None
   unfolding row_of
