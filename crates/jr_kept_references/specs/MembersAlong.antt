@@ -31,9 +31,9 @@ ClassSpotStands {A} (spotted s) b outer x y =
     (o : Rewritten (syntax.Class A)) × s.whole b outer x o × (o.losses ≡ []) × (y ≡ o.tree)
 
 -- What holds of references, written types, expressions and lists that are spots as in
--- `StatementsAlong`; `S` of the arguments of a written `super(..)`, `H` of a superclass, by the class
--- around it; `M` of members that are a spot, `N` of a class that is. `to`: what a member's key has
--- become.
+-- `StatementsAlong`; `S` of the arguments of a written `super(..)`, `H` of a superclass, by the
+-- class around it; `M` of members that are a spot, `N` of a class that is. `to`: what a member's
+-- key has become.
 module _ {A B : Type 0} (begins : A → ℕ → ℕ) (begins' : B → ℕ → ℕ)
     (P : Context → Context → Role → (base : ℕ) → tree.Exp A → (base' : ℕ) → tree.Exp B → Type 0)
     (T : Context → Context → (base : ℕ) → tree.TypeName A → (base' : ℕ) → tree.TypeName B → Type 0)
