@@ -1,12 +1,15 @@
 -- Lowest first: `RegionWorlds` (what is known of the two programs at a place), `RegionTypes` (written
 -- types), `RegionKept` (references of one node), `RegionExpressions` (one recursion over
--- expressions), `RegionAlong`, `RegionStatements` (expressions and statements side by side).
--- `MadeReferences`: what a refactoring makes. `Renamed`: a rename as the case of one region.
+-- expressions), `RegionAlong`, `RegionStatements`, `RegionMembers` (old and new trees side by side).
+-- `MadeReferences`: what a refactoring makes. `Renamed`, `RenamedPlaces`: a rename as the case of one
+-- region.
 pub mod RegionWorlds
 pub mod RegionTypes
 pub mod RegionKept
 pub mod RegionExpressions
 pub mod RegionAlong
 pub mod RegionStatements
+pub mod RegionMembers
 pub mod MadeReferences
 pub mod Renamed
+pub mod RenamedPlaces

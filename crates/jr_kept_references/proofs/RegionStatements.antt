@@ -72,7 +72,7 @@ module _ {A : Type 0} (tells : A → ℕ → Span) (rows : List Row) (R : Region
   )
 
   -- node by node, or as a spot has it
-  list_side : (n z : ℕ) (c d : Context) (b i : ℕ) (xs : statement.Stmts A) (q : Rewritten (statement.Stmts A)) → TransformsList tells Chosen S n c b xs q → q.losses ≡ []
+  pub list_side : (n z : ℕ) (c d : Context) (b i : ℕ) (xs : statement.Stmts A) (q : Rewritten (statement.Stmts A)) → TransformsList tells Chosen S n c b xs q → q.losses ≡ []
       → (TransformsStmts tells Chosen S n c b xs q → SideStmts n z c d b i xs q.tree) → SideList n z c d b i xs q.tree
   list_side n z c d b i xs q made none by_node = by S made (λ spot. spot)
     where

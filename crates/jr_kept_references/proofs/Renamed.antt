@@ -26,7 +26,7 @@ use Rattle.jr_kept_references.proofs.RegionWorlds.{RegionWorld}
 use Rattle.jr_kept_references.proofs.RegionExpressions.{kept}
 
 module _ (rows : List Row) (g : Renaming) where
-  same_type : (t : Ty) → type_to g t ≡ image_of_type (images_of rows g) t
+  pub same_type : (t : Ty) → type_to g t ≡ image_of_type (images_of rows g) t
   same_type int = refl
   same_type boolean = refl
   same_type void = refl
@@ -82,7 +82,7 @@ module _ (rows : List Row) (g : Renaming) where
     types_now c (tree.more e es) (t ∷ ts) = (types_to g ts, refl, types_now c es ts)
 
     module _ (c d : Context) (stand : ContextTo g rows c d) where
-      stands_for : StandsFor (region_of {A = A} rows g) rows c d
+      pub stands_for : StandsFor (region_of {A = A} rows g) rows c d
       stands_for = record {
         scope = scope_image g rows c d stand;
         local_types = λ k m t is h.

@@ -3,7 +3,7 @@
 use Rattle.std.specs.Prelude.{◌≡◌, ℕ, List, Some}
 use Rattle.jr_ast.specs.Tree as tree
 use Rattle.jr_table.specs.Keys.{ClassKey, FieldKey, MethodKey, CtorKey, Ty, class}
-use Rattle.jr_table.specs.Decls.{LocalKey, Decl, local_decl}
+use Rattle.jr_table.specs.Decls.{MemberKey, LocalKey, Decl, local_decl}
 use Rattle.jr_table.specs.Rows.{Row}
 use Rattle.jr_table.specs.Found.{one}
 use Rattle.jr_table.specs.Scope.{Scope}
@@ -16,7 +16,13 @@ use Rattle.jr_table.specs.Binding.{
   CallFinds,
   SuperCallFinds,
 }
-use Rattle.jr_images.specs.Regions.{image_of_type, image_at, itself, Region}
+use Rattle.jr_images.specs.Regions.{
+  image_of_type,
+  image_of_member,
+  image_at,
+  itself,
+  Region,
+}
 
 -- ---- images, by the region
 
@@ -35,6 +41,9 @@ module _ {A : Type 0} (R : Region A) where
 
   abbrev pub ctor_in : CtorKey → CtorKey
   ctor_in = R.seen.images.ctor_to
+
+  abbrev pub member_in : MemberKey → MemberKey
+  member_in = image_of_member R.seen.images
 
   abbrev pub name_in : Decl → (old : List ℕ) → List ℕ
   name_in = R.seen.images.name_to

@@ -2,15 +2,17 @@
 -- binding's own relations, to the image of the declaration that it was bound to; each written type
 -- means the image of the one that it meant; and what stands there now has the type that the region
 -- tells.
-use Rattle.std.specs.Prelude.{◌≡◌, ◌⊎◌, ℕ, List, [], Some, None}
+use Rattle.std.specs.Prelude.{◌≡◌, ◌⊎◌, ℕ, List, [], Option, Some, None, false}
 use Rattle.jr_ast.specs.Tree as tree
 use Rattle.jr_table.specs.Keys.{ClassKey, CtorKey, Ty}
-use Rattle.jr_table.specs.Decls.{Decl, class_decl, constructor_decl}
+use Rattle.jr_table.specs.Decls.{Decl, class_decl, constructor_decl, head}
 use Rattle.jr_table.specs.Rows.{Row}
+use Rattle.jr_table.specs.Prelude.{top_key}
 use Rattle.jr_table.specs.Found.{one}
 use Rattle.jr_table.specs.Scope.{Scope}
 use Rattle.jr_table.specs.Lookup.{FindsTypeNamed, FindsTypeOf}
-use Rattle.jr_table.specs.Context.{Context, NamesClass, WritesType}
+use Rattle.jr_table.specs.Context.{Context, scope_of, NamesClass, WritesType}
+use Rattle.jr_table.specs.HeadRules.{plain, TopFinds}
 use Rattle.jr_table.specs.Binding.{
   HasType,
   IsClassName,
@@ -27,6 +29,7 @@ use Rattle.jr_kept_references.specs.InRegions.{
   rows_in,
   class_in,
   ctor_in,
+  member_in,
   type_in,
   StandsFor,
 }
@@ -116,3 +119,21 @@ PartsBecome begins rows R nowhere = Unit {0}
 PartsBecome {A} begins rows R (spotted s) = (k : Asks) (c d : Context) (r : Role) (base : ℕ)
     (e : tree.Exp A) (o : Rewritten (tree.Exp A)) → s.part k c r base e o → o.losses ≡ []
     → StandsFor R rows c d → Becomes begins rows R c d e o.tree
+
+-- ---- superclasses
+
+module _ {A : Type 0} (rows : List Row) (R : Region A) where
+  -- The superclass is the image of the one that it was: of a member class as it is seen from the
+  -- body of the class around, of a top-level class among the top-level classes (JLS 8.1.4).
+  abbrev pub IsTopKeptIn : tree.TypeName A → tree.TypeName A → Type 0
+  IsTopKeptIn (tree.named m None w) u = (j : A) × (v : tree.Word A) × (u ≡ tree.named j None v)
+      × ((k : ClassKey) → TopFinds rows w.text (one (class_decl k))
+      → TopFinds (rows_in R) v.text (one (class_decl (class_in R k))))
+  IsTopKeptIn _ u = Unit {0}
+
+  abbrev pub IsParentKeptIn : Option (List ℕ) → (base : ℕ) → tree.TypeName A → (base' : ℕ)
+      → tree.TypeName A → Type 0
+  IsParentKeptIn None b t i u = IsTopKeptIn t u
+  IsParentKeptIn (Some outer) b t i u =
+      IsTypeKeptIn R rows (scope_of (plain (head (top_key outer)) false))
+      (scope_of (plain (member_in R (head (top_key outer))) false)) t u

@@ -5,3 +5,4 @@ pub mod AlongSpots
 pub mod Made
 pub mod StatementsAlong
 pub mod RegionPlaces
+pub mod MembersAlong

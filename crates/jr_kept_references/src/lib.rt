@@ -3,11 +3,12 @@
 //!
 //! What holds of any region is said by lemmas (`proofs/RegionExpressions: kept`), as no clause can
 //! quantify over regions; `laws` says it of a rename, which is the case of one region
-//! (`proofs/Renamed`). jr_images has the same of whole programs that are renamed.
+//! (`proofs/Renamed`, `RenamedPlaces`). jr_images has the same of whole programs that are renamed.
 //!
 //! Definitions: `InRegions` (what stands at a place of the new program, and which types a region
 //! has to tell), `KeptInRegions` (what becomes of an expression and of its reference; what a spot
-//! owes), `AlongSpots`, `StatementsAlong` (old and new trees side by side, but for spots),
+//! owes), `AlongSpots`, `StatementsAlong`, `MembersAlong` (old and new trees side by side, but for
+//! spots),
 //! `RegionPlaces` (how places go down a member's statements), `Made` (references that are made),
 //! `ExpressionLaws`.
 #![tactic(auto)]
