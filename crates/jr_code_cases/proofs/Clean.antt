@@ -1,4 +1,5 @@
 -- One file of top-level classes without faults of declarations, computed.
+use Rattle.std.proofs.lemmas.Bool.{and_parts, and_from, or_left, or_right}
 use Rattle.std.proofs.Common.{◌≡◌, ℕ, zero, suc, ◌<◌, List, [], ◌∷◌, Option, Some, None, Bool, true, false, ◌&&◌, ◌||◌, refl, sym, ap, subst, ◌∙◌, inl, inr}
 use Rattle.std.specs.Prelude.{is_none, slice_get, not, codes}
 use Rattle.std.specs.List.{list_any}
@@ -12,25 +13,11 @@ use Rattle.jr_table.specs.Entries.{is_static_word}
 use Rattle.jr_table.specs.DeclaredItems.{Written, named, DeclaredParam, DeclaredInit, DeclaredClass, Item, class_item, field_item, method_item, ctor_item, DeclaredItem}
 use Rattle.jr_table.specs.Resolving.{HasWord, IsPreludeSubclass, IsPreludeClass, Means}
 use Rattle.jr_table.specs.Faults.{At, IsReserved, ClassWordsBad, WordsBad, Writes, WritesType, SameTypes, SameMember, params_of, ParamTwice, HasItsName, InitIsBad, IsClean}
-use Rattle.jr_code_cases.proofs.TopTypes.{both, is_prelude, all_top, meaning, meanings, has_meaning, have_meanings, means, one_meaning}
-use Rattle.jr_code_cases.proofs.DeclaredRows.{parent_in, has_result, item_passes, all_pass, none_is, is_parent}
+use Rattle.jr_code_cases.proofs.TopTypes.{is_prelude, all_top, meaning, meanings, has_meaning, have_meanings, means, one_meaning, none_is}
+use Rattle.jr_code_cases.proofs.DeclaredRows.{parent_in, has_result, item_passes, all_pass, is_parent}
 use Rattle.jr_code_cases.proofs.Pairing.{all_items, item_at, pairs, pairs_at, all_pairs, pair_at}
-use Rattle.jr_code_cases.proofs.CleanWords.{words_pass, top_word, field_word, method_word, is_access, top_clean, field_clean, method_clean, ctor_clean}
+use Rattle.jr_code_cases.proofs.CleanWords.{words_pass, top_word, field_word, method_word, is_access, top_clean, field_clean, method_clean, ctor_clean, false_true}
 use Rattle.jr_code_cases.proofs.NoCycle.{all_rise, no_cycle}
-
-false_true : (b : Bool) → b ≡ true → not b ≡ true → ⊥
-false_true true e f = absurd cc
-false_true false e f = absurd cc
-
-both_are : (a b : Bool) → a ≡ true → b ≡ true → a && b ≡ true
-both_are a b e f = (λ i. e i && b) ∙ f
-
-first_of_two : (a b : Bool) → a ≡ true → a || b ≡ true
-first_of_two a b e = λ i. e i || b
-
-second_of_two : (a b : Bool) → b ≡ true → a || b ≡ true
-second_of_two true b e = refl
-second_of_two false b e = e
 
 -- ---- reserved names
 
@@ -41,17 +28,17 @@ abbrev is_subclass_name : List ℕ → Bool
 is_subclass_name name = same_name name (codes "String") || (same_name name (codes "Class") || same_name name (codes "Thread"))
 
 subclass_has : (name : List ℕ) → IsPreludeSubclass name → is_subclass_name name ≡ true
-subclass_has name (inl is) = first_of_two (same_name name (codes "String")) _ ((bytes_decides name (codes "String")).1 is)
-subclass_has name (inr (inl is)) = second_of_two (same_name name (codes "String")) _ (first_of_two (same_name name (codes "Class")) _ ((bytes_decides name (codes "Class")).1 is))
-subclass_has name (inr (inr is)) = second_of_two (same_name name (codes "String")) _ (second_of_two (same_name name (codes "Class")) _ ((bytes_decides name (codes "Thread")).1 is))
+subclass_has name (inl is) = or_left (same_name name (codes "String")) _ ((bytes_decides name (codes "String")).1 is)
+subclass_has name (inr (inl is)) = or_right (same_name name (codes "String")) _ (or_left (same_name name (codes "Class")) _ ((bytes_decides name (codes "Class")).1 is))
+subclass_has name (inr (inr is)) = or_right (same_name name (codes "String")) _ (or_right (same_name name (codes "Class")) _ ((bytes_decides name (codes "Thread")).1 is))
 
 prelude_has : (name : List ℕ) → IsPreludeClass name → is_prelude name ≡ true
-prelude_has name (inl is) = first_of_two (same_name name (codes "Object")) _ ((bytes_decides name (codes "Object")).1 is)
-prelude_has name (inr h) = second_of_two (same_name name (codes "Object")) _ (subclass_has name h)
+prelude_has name (inl is) = or_left (same_name name (codes "Object")) _ ((bytes_decides name (codes "Object")).1 is)
+prelude_has name (inr h) = or_right (same_name name (codes "Object")) _ (subclass_has name h)
 
 reserved_has : (name : List ℕ) → IsReserved name → reserved name ≡ true
-reserved_has name (inl h) = first_of_two (is_prelude name) _ (prelude_has name h)
-reserved_has name (inr is) = second_of_two (is_prelude name) _ ((bytes_decides name (codes "Runnable")).1 is)
+reserved_has name (inl h) = or_left (is_prelude name) _ (prelude_has name h)
+reserved_has name (inr is) = or_right (is_prelude name) _ ((bytes_decides name (codes "Runnable")).1 is)
 
 -- ---- what is asked of each item, and of each two
 
@@ -83,28 +70,28 @@ is_clean ds = all_items ds item_clean && (all_pairs ds items_differ && all_rise 
 
 pass_at : (ds xs : List DeclaredItem) (i : ℕ) (x : DeclaredItem) → all_pass ds xs ≡ true → slice_get xs i ≡ Some x → item_passes ds x.item ≡ true
 pass_at ds [] i x e at = absurd cc
-pass_at ds (y ∷ ys) zero x e at = let same : y ≡ x = cc in subst (λ (z : DeclaredItem). item_passes ds z.item ≡ true) same (both (item_passes ds y.item) (all_pass ds ys) e).0
-pass_at ds (y ∷ ys) (suc i) x e at = pass_at ds ys i x (both (item_passes ds y.item) (all_pass ds ys) e).1 at
+pass_at ds (y ∷ ys) zero x e at = let same : y ≡ x = cc in subst (λ (z : DeclaredItem). item_passes ds z.item ≡ true) same (and_parts (item_passes ds y.item) (all_pass ds ys) e).0
+pass_at ds (y ∷ ys) (suc i) x e at = pass_at ds ys i x (and_parts (item_passes ds y.item) (all_pass ds ys) e).1 at
 
 module _ (ds : List DeclaredItem) (top : all_top ds ≡ true) (pass : all_pass ds ds ≡ true) (clean : is_clean ds ≡ true) where
   items_clean : (i file : ℕ) (x : Item) → At ds i file x → item_clean x ≡ true
-  items_clean i file x at = item_at ds item_clean (both (all_items ds item_clean) _ clean).0 i file x at
+  items_clean i file x at = item_at ds item_clean (and_parts (all_items ds item_clean) _ clean).0 i file x at
 
   differ : (i j f g : ℕ) (x y : Item) → i < j → At ds i f x → At ds j g y → same_item x y ≡ true → ⊥
-  differ i j f g x y less at other same = false_true (same_item x y) same (pair_at ds items_differ (both (all_pairs ds items_differ) _ (both (all_items ds item_clean) _ clean).1).0 i j f g x y less at other)
+  differ i j f g x y less at other same = false_true (same_item x y) same (pair_at ds items_differ (and_parts (all_pairs ds items_differ) _ (and_parts (all_items ds item_clean) _ clean).1).0 i j f g x y less at other)
 
   passes : (i file : ℕ) (x : Item) → At ds i file x → item_passes ds x ≡ true
   passes i file x at = pass_at ds ds i (record { file = file; item = x }) pass at.stands
 
   top_key_at : (i file : ℕ) (c : DeclaredClass) → At ds i file (class_item c) → c.key.outer ≡ None
-  top_key_at i file c at = none_is ds c.key.outer (both (is_none c.key.outer) _ (passes i file (class_item c) at)).0
+  top_key_at i file c at = none_is c.key.outer (and_parts (is_none c.key.outer) _ (passes i file (class_item c) at)).0
 
   -- ---- types
 
   writes_mean : (ps : List DeclaredParam) (w : Written) → have_meanings ds ps ≡ true → Writes ps w → has_meaning ds w ≡ true
   writes_mean [] w e h = absurd h
-  writes_mean (p ∷ ps) w e (inl is) = subst (λ (x : Written). has_meaning ds x ≡ true) is (both (has_meaning ds p.type) (have_meanings ds ps) e).0
-  writes_mean (p ∷ ps) w e (inr h) = writes_mean ps w (both (has_meaning ds p.type) (have_meanings ds ps) e).1 h
+  writes_mean (p ∷ ps) w e (inl is) = subst (λ (x : Written). has_meaning ds x ≡ true) is (and_parts (has_meaning ds p.type) (have_meanings ds ps) e).0
+  writes_mean (p ∷ ps) w e (inr h) = writes_mean ps w (and_parts (has_meaning ds p.type) (have_meanings ds ps) e).1 h
 
   result_means : (r : Option Written) (w : Written) → has_result ds r ≡ true → r ≡ Some w → has_meaning ds w ≡ true
   result_means None w e is = absurd cc
@@ -116,41 +103,41 @@ module _ (ds : List DeclaredItem) (top : all_top ds ≡ true) (pass : all_pass d
   written_means : (x : Item) → item_passes ds x ≡ true → (k : ClassKey) (w : Written) → WritesType x k w → Means ds k w (meaning w)
   written_means (class_item c) e k w h = absurd h
   written_means (field_item f) e k w (of, is) =
-      let t = both (is_none f.of.outer) (has_meaning ds f.type) e in
-      means_at k f.of of (none_is ds f.of.outer t.0) w (subst (λ (y : Written). has_meaning ds y ≡ true) is t.1)
+      let t = and_parts (is_none f.of.outer) (has_meaning ds f.type) e in
+      means_at k f.of of (none_is f.of.outer t.0) w (subst (λ (y : Written). has_meaning ds y ≡ true) is t.1)
   written_means (method_item m) e k w (of, h) =
-      let t = both (is_none m.of.outer) (has_result ds m.result && have_meanings ds m.params) e in
-      let u = both (has_result ds m.result) (have_meanings ds m.params) t.1 in
-      means_at k m.of of (none_is ds m.of.outer t.0) w (elim h [ inl is ↦ result_means m.result w u.0 is | inr writes ↦ writes_mean m.params w u.1 writes ])
+      let t = and_parts (is_none m.of.outer) (has_result ds m.result && have_meanings ds m.params) e in
+      let u = and_parts (has_result ds m.result) (have_meanings ds m.params) t.1 in
+      means_at k m.of of (none_is m.of.outer t.0) w (elim h [ inl is ↦ result_means m.result w u.0 is | inr writes ↦ writes_mean m.params w u.1 writes ])
   written_means (ctor_item c) e k w (of, writes) =
-      let t = both (is_none c.of.outer) (have_meanings ds c.params) e in
-      means_at k c.of of (none_is ds c.of.outer t.0) w (writes_mean c.params w t.1 writes)
+      let t = and_parts (is_none c.of.outer) (have_meanings ds c.params) e in
+      means_at k c.of of (none_is c.of.outer t.0) w (writes_mean c.params w t.1 writes)
 
   same_meanings : (k : ClassKey) → k.outer ≡ None → (ps qs : List DeclaredParam) → have_meanings ds ps ≡ true → have_meanings ds qs ≡ true → SameTypes ds k ps qs → meanings ps ≡ meanings qs
   same_meanings k outer [] [] e f h = refl
   same_meanings k outer [] (q ∷ qs) e f h = absurd h
   same_meanings k outer (p ∷ ps) [] e f h = absurd h
   same_meanings k outer (p ∷ ps) (q ∷ qs) e f ((t, a, b), rest) =
-      let u = both (has_meaning ds p.type) (have_meanings ds ps) e in
-      let v = both (has_meaning ds q.type) (have_meanings ds qs) f in
+      let u = and_parts (has_meaning ds p.type) (have_meanings ds ps) e in
+      let v = and_parts (has_meaning ds q.type) (have_meanings ds qs) f in
       let first = sym (one_meaning ds top k outer p.type t u.0 a) ∙ one_meaning ds top k outer q.type t v.0 b in
       λ i. first i ∷ same_meanings k outer ps qs u.1 v.1 rest i
 
   -- ---- members
 
   same_is : (x y : Item) → item_passes ds x ≡ true → item_passes ds y ≡ true → SameMember ds x y → same_item x y ≡ true
-  same_is (field_item f) (field_item g) e d (of, name) = both_are (same_class f.of g.of) (same_name f.name g.name) ((class_decides f.of g.of).1 of) ((bytes_decides f.name g.name).1 name)
+  same_is (field_item f) (field_item g) e d (of, name) = and_from (same_class f.of g.of) (same_name f.name g.name) ((class_decides f.of g.of).1 of) ((bytes_decides f.name g.name).1 name)
   same_is (method_item m) (method_item n) e d (of, name, types) =
-      let t = both (is_none m.of.outer) (has_result ds m.result && have_meanings ds m.params) e in
-      let u = both (is_none n.of.outer) (has_result ds n.result && have_meanings ds n.params) d in
-      let same = same_meanings m.of (none_is ds m.of.outer t.0) m.params n.params (both (has_result ds m.result) (have_meanings ds m.params) t.1).1 (both (has_result ds n.result) (have_meanings ds n.params) u.1).1 types in
-      both_are (same_class m.of n.of) (same_name m.name n.name && same_types (meanings m.params) (meanings n.params)) ((class_decides m.of n.of).1 of)
-      (both_are (same_name m.name n.name) (same_types (meanings m.params) (meanings n.params)) ((bytes_decides m.name n.name).1 name) ((types_decide (meanings m.params) (meanings n.params)).1 same))
+      let t = and_parts (is_none m.of.outer) (has_result ds m.result && have_meanings ds m.params) e in
+      let u = and_parts (is_none n.of.outer) (has_result ds n.result && have_meanings ds n.params) d in
+      let same = same_meanings m.of (none_is m.of.outer t.0) m.params n.params (and_parts (has_result ds m.result) (have_meanings ds m.params) t.1).1 (and_parts (has_result ds n.result) (have_meanings ds n.params) u.1).1 types in
+      and_from (same_class m.of n.of) (same_name m.name n.name && same_types (meanings m.params) (meanings n.params)) ((class_decides m.of n.of).1 of)
+      (and_from (same_name m.name n.name) (same_types (meanings m.params) (meanings n.params)) ((bytes_decides m.name n.name).1 name) ((types_decide (meanings m.params) (meanings n.params)).1 same))
   same_is (ctor_item c) (ctor_item b) e d (of, types) =
-      let t = both (is_none c.of.outer) (have_meanings ds c.params) e in
-      let u = both (is_none b.of.outer) (have_meanings ds b.params) d in
-      let same = same_meanings c.of (none_is ds c.of.outer t.0) c.params b.params t.1 u.1 types in
-      both_are (same_class c.of b.of) (same_types (meanings c.params) (meanings b.params)) ((class_decides c.of b.of).1 of) ((types_decide (meanings c.params) (meanings b.params)).1 same)
+      let t = and_parts (is_none c.of.outer) (have_meanings ds c.params) e in
+      let u = and_parts (is_none b.of.outer) (have_meanings ds b.params) d in
+      let same = same_meanings c.of (none_is c.of.outer t.0) c.params b.params t.1 u.1 types in
+      and_from (same_class c.of b.of) (same_types (meanings c.params) (meanings b.params)) ((class_decides c.of b.of).1 of) ((types_decide (meanings c.params) (meanings b.params)).1 same)
   same_is (class_item c) y e d h = absurd h
   same_is (field_item f) (class_item c) e d h = absurd h
   same_is (field_item f) (method_item m) e d h = absurd h
@@ -168,23 +155,23 @@ module _ (ds : List DeclaredItem) (top : all_top ds ≡ true) (pass : all_pass d
       (pairs_at (λ (p q : DeclaredParam). not (same_name p.name q.name)) ps h.i h.j h.first h.second e h.before h.one h.other)
 
   no_twice_at : (x : Item) (at : ℕ) → item_clean x ≡ true → ParamTwice (params_of x) at → ⊥
-  no_twice_at (method_item m) at e h = no_param_twice m.params at (both (words_pass method_word m.modifiers) (names_differ m.params) e).1 h
-  no_twice_at (ctor_item c) at e h = no_param_twice c.params at (both (words_pass is_access c.modifiers) (names_differ c.params) e).1 h
+  no_twice_at (method_item m) at e h = no_param_twice m.params at (and_parts (words_pass method_word m.modifiers) (names_differ m.params) e).1 h
+  no_twice_at (ctor_item c) at e h = no_param_twice c.params at (and_parts (words_pass is_access c.modifiers) (names_differ c.params) e).1 h
   no_twice_at (class_item c) at e h = absurd cc
   no_twice_at (field_item f) at e h = absurd cc
 
   -- ---- words and initializers
 
   words_clean : (i file : ℕ) (x : Item) → At ds i file x → item_clean x ≡ true → WordsBad x → ⊥
-  words_clean i file (class_item c) at e h = top_clean c.modifiers (both (not (reserved c.key.name)) (words_pass top_word c.modifiers) e).1 (subst (λ (o : Option (List ℕ)). ClassWordsBad c o) (top_key_at i file c at) h)
-  words_clean i file (field_item f) at e h = field_clean f.modifiers (both (words_pass field_word f.modifiers) (static_passes f.modifiers f.init) e).0 h
-  words_clean i file (method_item m) at e h = method_clean m.modifiers (both (words_pass method_word m.modifiers) (names_differ m.params) e).0 h
-  words_clean i file (ctor_item c) at e h = ctor_clean c.modifiers (both (words_pass is_access c.modifiers) (names_differ c.params) e).0 h
+  words_clean i file (class_item c) at e h = top_clean c.modifiers (and_parts (not (reserved c.key.name)) (words_pass top_word c.modifiers) e).1 (subst (λ (o : Option (List ℕ)). ClassWordsBad c o) (top_key_at i file c at) h)
+  words_clean i file (field_item f) at e h = field_clean f.modifiers (and_parts (words_pass field_word f.modifiers) (static_passes f.modifiers f.init) e).0 h
+  words_clean i file (method_item m) at e h = method_clean m.modifiers (and_parts (words_pass method_word m.modifiers) (names_differ m.params) e).0 h
+  words_clean i file (ctor_item c) at e h = ctor_clean c.modifiers (and_parts (words_pass is_access c.modifiers) (names_differ c.params) e).0 h
 
   has_static : (ws : List ModWord) → HasWord ws word.Static → list_any is_static_word ws ≡ true
   has_static [] h = absurd h
-  has_static (w ∷ ws) (inl is) = first_of_two (is_static_word w) _ (ap is_static_word is)
-  has_static (w ∷ ws) (inr h) = second_of_two (is_static_word w) _ (has_static ws h)
+  has_static (w ∷ ws) (inl is) = or_left (is_static_word w) _ (ap is_static_word is)
+  has_static (w ∷ ws) (inr h) = or_right (is_static_word w) _ (has_static ws h)
 
   simple : (s b : Bool) → s ≡ true → not s || b ≡ true → b ≡ true
   simple true b e f = f
@@ -199,7 +186,7 @@ module _ (ds : List DeclaredItem) (top : all_top ds ≡ true) (pass : all_pass d
       absurd cc
 
   static_clean : (x : Item) (at : ℕ) → item_clean x ≡ true → InitIsBad x at → ⊥
-  static_clean (field_item f) at e (has, (i, is, bad, place)) = init_clean f.modifiers f.init i (both (words_pass field_word f.modifiers) (static_passes f.modifiers f.init) e).1 has is bad
+  static_clean (field_item f) at e (has, (i, is, bad, place)) = init_clean f.modifiers f.init i (and_parts (words_pass field_word f.modifiers) (static_passes f.modifiers f.init) e).1 has is bad
   static_clean (class_item c) at e h = h
   static_clean (method_item m) at e h = h
   static_clean (ctor_item c) at e h = h
@@ -212,11 +199,11 @@ module _ (ds : List DeclaredItem) (top : all_top ds ≡ true) (pass : all_pass d
 
   pub clean_is : IsClean [] ds
   clean_is kind.PackageDiffers p (first, own, at, other, names, place) = absurd cc
-  clean_is kind.PreludeName p (i, c, at, name, place) = false_true (reserved c.key.name) (reserved_has c.key.name name) (both (not (reserved c.key.name)) (words_pass top_word c.modifiers) (items_clean i p.file (class_item c) at)).0
+  clean_is kind.PreludeName p (i, c, at, name, place) = false_true (reserved c.key.name) (reserved_has c.key.name name) (and_parts (not (reserved c.key.name)) (words_pass top_word c.modifiers) (items_clean i p.file (class_item c) at)).0
   clean_is kind.TwiceClass p (j, c, at, place, inl (i, file, d, less, other, same)) = differ i j file p.file (class_item d) (class_item c) less other at ((class_decides d.key c.key).1 same)
   clean_is kind.TwiceClass p (j, c, at, place, inr own) = absurd (let e = sym (top_key_at j p.file c at) ∙ own in cc)
   clean_is kind.NoSuperclass p (i, c, outer, name, at, is, never) = never (parent_in _) (is_parent ds c.key (passes i p.file (class_item c) at))
-  clean_is kind.Cycle p (i, c, steps, at, climbs, place) = no_cycle ds top (both (all_pairs ds items_differ) (all_rise ds) (both (all_items ds item_clean) _ clean).1).1 steps c.key climbs
+  clean_is kind.Cycle p (i, c, steps, at, climbs, place) = no_cycle ds top (and_parts (all_pairs ds items_differ) (all_rise ds) (and_parts (all_items ds item_clean) _ clean).1).1 steps c.key climbs
   clean_is kind.NoTy p (i, x, k, outer, name, at, writes, never) = never (meaning (named p.at outer name)) (written_means x (passes i p.file x at) k (named p.at outer name) writes)
   clean_is kind.TwiceMember p (j, m, at, inl (i, file, l, less, other, same, place)) = differ i j file p.file l m less other at (same_is l m (passes i file l other) (passes j p.file m at) same)
   clean_is kind.TwiceMember p (j, m, at, inr twice) = no_twice_at m p.at (items_clean j p.file m at) twice

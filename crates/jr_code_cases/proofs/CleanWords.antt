@@ -1,11 +1,11 @@
 -- Modifiers that are not bad, computed.
+use Rattle.std.proofs.lemmas.Bool.{and_parts}
 use Rattle.std.proofs.Common.{◌≡◌, ℕ, List, [], ◌∷◌, Bool, true, false, ◌&&◌, ◌||◌, refl, sym, ap, subst, ◌∙◌, inl, inr, eq-eqb}
 use Rattle.std.specs.Prelude.{◌⊎◌, nat_eq, not}
 use Rattle.jr_ast.specs.declared.operators.ModWord.{ModWord}
 use Rattle.jr_ast.specs.declared.operators.ModWord.TheVariants.{Public, Protected, Private, Static, Final, Volatile, Synchronized}
 use Rattle.jr_table.specs.Resolving.{HasWord}
 use Rattle.jr_table.specs.Faults.{IsAccess, TopWord, FieldWord, MethodWord, AreBad}
-use Rattle.jr_code_cases.proofs.TopTypes.{both}
 use Rattle.jr_code_cases.proofs.Pairing.{all, pairs, pairs_at}
 
 abbrev number : ModWord → ℕ
@@ -93,40 +93,40 @@ is_one Final h = absurd h
 is_one Volatile h = absurd h
 is_one Synchronized h = absurd h
 
-false_true : (b : Bool) → b ≡ true → not b ≡ true → ⊥
+pub false_true : (b : Bool) → b ≡ true → not b ≡ true → ⊥
 false_true true e f = absurd cc
 false_true false e f = absurd cc
 
 all_has : (may : ModWord → Bool) (ws : List ModWord) (w : ModWord) → all may ws ≡ true → HasWord ws w → may w ≡ true
 all_has may [] w e h = absurd h
-all_has may (x ∷ xs) w e (inl is) = subst (λ (v : ModWord). may v ≡ true) is (both (may x) (all may xs) e).0
-all_has may (x ∷ xs) w e (inr h) = all_has may xs w (both (may x) (all may xs) e).1 h
+all_has may (x ∷ xs) w e (inl is) = subst (λ (v : ModWord). may v ≡ true) is (and_parts (may x) (all may xs) e).0
+all_has may (x ∷ xs) w e (inr h) = all_has may xs w (and_parts (may x) (all may xs) e).1 h
 
 two_have : (ws : List ModWord) (v w : ModWord) → pairs go_together ws ≡ true → HasWord ws v → HasWord ws w → (v ≡ w) ⊎ ((go_together v w ≡ true) ⊎ (go_together w v ≡ true))
 two_have [] v w e h k = absurd h
 two_have (x ∷ xs) v w e (inl a) (inl b) = inl (sym a ∙ b)
-two_have (x ∷ xs) v w e (inl a) (inr k) = inr (inl (subst (λ (u : ModWord). go_together u w ≡ true) a (all_has (go_together x) xs w (both (all (go_together x) xs) (pairs go_together xs) e).0 k)))
-two_have (x ∷ xs) v w e (inr h) (inl b) = inr (inr (subst (λ (u : ModWord). go_together u v ≡ true) b (all_has (go_together x) xs v (both (all (go_together x) xs) (pairs go_together xs) e).0 h)))
-two_have (x ∷ xs) v w e (inr h) (inr k) = two_have xs v w (both (all (go_together x) xs) (pairs go_together xs) e).1 h k
+two_have (x ∷ xs) v w e (inl a) (inr k) = inr (inl (subst (λ (u : ModWord). go_together u w ≡ true) a (all_has (go_together x) xs w (and_parts (all (go_together x) xs) (pairs go_together xs) e).0 k)))
+two_have (x ∷ xs) v w e (inr h) (inl b) = inr (inr (subst (λ (u : ModWord). go_together u v ≡ true) b (all_has (go_together x) xs v (and_parts (all (go_together x) xs) (pairs go_together xs) e).0 h)))
+two_have (x ∷ xs) v w e (inr h) (inr k) = two_have xs v w (and_parts (all (go_together x) xs) (pairs go_together xs) e).1 h k
 
 no_two_access : (v w : ModWord) → IsAccess v → IsAccess w → go_together v w ≡ true → ⊥
 no_two_access v w a b e =
-    let t = both (not (nat_eq (number v) (number w))) _ e in
-    let u = both (not (is_access v && is_access w)) _ t.1 in
+    let t = and_parts (not (nat_eq (number v) (number w))) _ e in
+    let u = and_parts (not (is_access v && is_access w)) _ t.1 in
     false_true (is_access v && is_access w) ((λ i. is_one v a i && is_access w) ∙ is_one w b) u.0
 
 module _ (May : ModWord → Type 0) (may : ModWord → Bool) (means : (w : ModWord) → may w ≡ true → May w) where
   not_bad : (ws : List ModWord) → words_pass may ws ≡ true → AreBad May ws → ⊥
   not_bad ws e (inl (w, (i, j, less, at, other))) =
-      let t = pairs_at go_together ws i j w w (both (all may ws) (pairs go_together ws) e).1 less at other in
-      false_true (nat_eq (number w) (number w)) (eq-eqb (number w) (number w) refl) (both (not (nat_eq (number w) (number w))) _ t).0
-  not_bad ws e (inr (inl (v, w, differ, a, b, h, k))) = elim (two_have ws v w (both (all may ws) (pairs go_together ws) e).1 h k) [
+      let t = pairs_at go_together ws i j w w (and_parts (all may ws) (pairs go_together ws) e).1 less at other in
+      false_true (nat_eq (number w) (number w)) (eq-eqb (number w) (number w) refl) (and_parts (not (nat_eq (number w) (number w))) _ t).0
+  not_bad ws e (inr (inl (v, w, differ, a, b, h, k))) = elim (two_have ws v w (and_parts (all may ws) (pairs go_together ws) e).1 h k) [
     | inl same ↦ differ same
     | inr (inl t) ↦ no_two_access v w a b t
     | inr (inr t) ↦ no_two_access w v b a t
   ]
-  not_bad ws e (inr (inr (inl (w, has, never)))) = never (means w (all_has may ws w (both (all may ws) (pairs go_together ws) e).0 has))
-  not_bad ws e (inr (inr (inr (h, k)))) = elim (two_have ws Final Volatile (both (all may ws) (pairs go_together ws) e).1 h k) [
+  not_bad ws e (inr (inr (inl (w, has, never)))) = never (means w (all_has may ws w (and_parts (all may ws) (pairs go_together ws) e).0 has))
+  not_bad ws e (inr (inr (inr (h, k)))) = elim (two_have ws Final Volatile (and_parts (all may ws) (pairs go_together ws) e).1 h k) [
     | inl same ↦ (let n = ap number same in absurd cc)
     | inr (inl t) ↦ (let f : false ≡ true = t in absurd cc)
     | inr (inr t) ↦ (let f : false ≡ true = t in absurd cc)

@@ -54,7 +54,7 @@ two None p f z e = absurd cc
 two (Some x) None f z e = absurd cc
 two (Some x) (Some y) f z e = let is : f x y ≡ z = cc in (x, y, refl, refl, sym is)
 
-inside : {X : Type 0} (x y : X) → Some x ≡ Some y → y ≡ x
+pub inside : {X : Type 0} (x y : X) → Some x ≡ Some y → y ≡ x
 inside x y e = let is : x ≡ y = cc in sym is
 
 module _ (rows : List Row) where

@@ -1,4 +1,5 @@
 -- What static fields begin with in one file of top-level classes, computed. `new Object()` is not.
+use Rattle.std.proofs.lemmas.Bool.{and_parts}
 use Rattle.std.proofs.Common.{◌≡◌, ℕ, List, [], ◌∷◌, Option, Some, None, Bool, true, false, pos, cond, ◌&&◌, refl, sym, ap, subst, ◌∙◌}
 use Rattle.std.specs.Prelude.{neg_ℤ, unwrap_or, slice_get, option_and_then}
 use Rattle.std.specs.List.{list_any}
@@ -22,7 +23,6 @@ use Rattle.jr_table.specs.Meanings.{row_of}
 use Rattle.jr_table.proofs.RowLaws.{number_stands}
 use Rattle.jr_code.specs.RunKeys.{RunKeys}
 use Rattle.jr_code.specs.CodedFields.{UnitsFirsts, HasFirst, AreFirstValues}
-use Rattle.jr_code_cases.proofs.TopTypes.{both}
 
 abbrev V : Type 0
 V = Value RunKeys
@@ -91,16 +91,16 @@ module _ (rows : List Row) where
       by None is h = absurd cc
       by (Some j) is h =
           let i = number_stands rows (field_decl k) j is in
-          let t = both (list_any is_static_word i.row.modifiers) i.row.has_init (sym (ap begins_so i.stands) ∙ h) in
+          let t = and_parts (list_any is_static_word i.row.modifiers) i.row.has_init (sym (ap begins_so i.stands) ∙ h) in
           record { number = j; row = i; static = (j, i, t.0); init = t.1 }
 
   no_value : (es : List Valued) → values_declared es ≡ true → (k : FieldKey) (default : V) → (HasFirst rows k → ⊥) → value_in es k default ≡ default
   no_value [] all k default never = refl
-  no_value (e ∷ es) all k default never = by (same_field e.0 k) refl (no_value es (both (begins_so (row_of rows (field_decl e.0))) (values_declared es) all).1 k default never)
+  no_value (e ∷ es) all k default never = by (same_field e.0 k) refl (no_value es (and_parts (begins_so (row_of rows (field_decl e.0))) (values_declared es) all).1 k default never)
     where
       by : (b : Bool) → same_field e.0 k ≡ b → value_in es k default ≡ default → cond b e.1 (value_in es k default) ≡ default
       by false is rest = rest
-      by true is rest = absurd (never (subst (λ (j : FieldKey). HasFirst rows j) ((field_decides e.0 k).0 is) (has_first e.0 (both (begins_so (row_of rows (field_decl e.0))) (values_declared es) all).0)))
+      by true is rest = absurd (never (subst (λ (j : FieldKey). HasFirst rows j) ((field_decides e.0 k).0 is) (has_first e.0 (and_parts (begins_so (row_of rows (field_decl e.0))) (values_declared es) all).0)))
 
 module _ {A : Type 0} (begins : A → ℕ → ℕ) (rows : List Row) (R : core.Rows RunKeys) (u : syntax.Unit A) where
   abbrev pub first : FieldKey → First RunKeys

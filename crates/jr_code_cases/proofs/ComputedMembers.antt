@@ -1,5 +1,5 @@
 -- The code of statements, members and initializers, computed: what is computed is their code. A written `super(..)` isn't.
-use Rattle.std.proofs.Common.{◌≡◌, ℕ, ◌+◌, List, [], ◌∷◌, ◌++◌, length, Option, Some, None, Bool, true, false, refl, sym, ap, ◌∙◌}
+use Rattle.std.proofs.Common.{◌≡◌, ℕ, ◌+◌, List, [], ◌∷◌, ◌++◌, length, Option, Some, None, Bool, true, false, refl, ap, ◌∙◌}
 use Rattle.std.specs.Prelude.{option_map}
 use Rattle.jr_ast.specs.Tree as tree
 use Rattle.jr_ast.specs.StatementTree as statement
@@ -22,10 +22,7 @@ use Rattle.jr_code.specs.RunKeys.{RunKeys, Place}
 use Rattle.jr_code.specs.Coded.{Code}
 use Rattle.jr_code.specs.CodedStatements.{numbers, StatementCode, ListCode, ReturnCode, StmtCode, ElseCode, StmtsCode}
 use Rattle.jr_code.specs.CodedMembers.{MemberCode, ImplicitFinds, MethodCoded, InitBy, InitCoded, InitsCoded, ConstructorCoded, DefaultCoded}
-use Rattle.jr_code_cases.proofs.ComputedExps.{mapped, pair, of_two, two, exp_code, exp_is}
-
-inside : {X : Type 0} (x y : X) → Some x ≡ Some y → y ≡ x
-inside x y e = let is : x ≡ y = cc in sym is
+use Rattle.jr_code_cases.proofs.ComputedExps.{mapped, pair, of_two, two, exp_code, exp_is, inside}
 
 branch_is : (at : Place) (z : Code) (p : StatementCode × StatementCode) (y q s : StatementCode) → s ≡ core.branch (Some at) z p.0 p.1 → p ≡ pair y q → s ≡ core.branch (Some at) z y q
 branch_is at z p y q s is same = is ∙ ap (λ (r : StatementCode × StatementCode). core.branch (Some at) z r.0 r.1) same

@@ -1,4 +1,5 @@
 -- The resolved program of one file of top-level classes, computed: what is computed is its code.
+use Rattle.std.proofs.lemmas.Bool.{and_parts}
 use Rattle.std.proofs.Common.{◌≡◌, ℕ, List, [], ◌∷◌, map, Option, Some, None, Bool, true, false, cond, ◌&&◌, refl, sym, subst, ◌∙◌}
 use Rattle.std.specs.Prelude.{unwrap_or, is_some, codes}
 use Rattle.jr_ast.specs.Tree as tree
@@ -20,7 +21,7 @@ use Rattle.jr_code.specs.RunRows.{HasRow}
 use Rattle.jr_code.specs.CodedStatements.{StatementCode}
 use Rattle.jr_code.specs.CodedMembers.{MemberCode, MethodCoded, ConstructorCoded, OneCoded, ClassCoded, MembersCoded, InnerCoded, ClassesCoded, HasPrelude}
 use Rattle.jr_code.specs.Programs.{IsCodeOf}
-use Rattle.jr_code_cases.proofs.TopTypes.{both, all_top, meanings, have_meanings, one_mean}
+use Rattle.jr_code_cases.proofs.TopTypes.{all_top, meanings, have_meanings, one_mean}
 use Rattle.jr_code.proofs.RunRowsStand.{run_rows, are_run_rows}
 use Rattle.jr_code_cases.proofs.ComputedMembers.{method_code, method_is, inits_code, inits_are, ctor_code, ctor_is, default_code, default_is}
 
@@ -64,19 +65,19 @@ module _ (rows : List Row) where
 
   no_method : (es : List MethodRow) → methods_declared es ≡ true → (k : MethodKey) → (HasRow rows (method_decl k) → ⊥) → method_in es k ≡ core.written no_code
   no_method [] all k never = refl
-  no_method (e ∷ es) all k never = by (same_method e.0 k) refl (no_method es (both (is_some (number_of rows (method_decl e.0))) (methods_declared es) all).1 k never)
+  no_method (e ∷ es) all k never = by (same_method e.0 k) refl (no_method es (and_parts (is_some (number_of rows (method_decl e.0))) (methods_declared es) all).1 k never)
     where
       by : (b : Bool) → same_method e.0 k ≡ b → method_in es k ≡ core.written no_code → cond b e.1 (method_in es k) ≡ core.written no_code
       by false is rest = rest
-      by true is rest = absurd (never (subst (λ (j : MethodKey). HasRow rows (method_decl j)) ((method_decides e.0 k).0 is) (method_row e.0 (both (is_some (number_of rows (method_decl e.0))) (methods_declared es) all).0)))
+      by true is rest = absurd (never (subst (λ (j : MethodKey). HasRow rows (method_decl j)) ((method_decides e.0 k).0 is) (method_row e.0 (and_parts (is_some (number_of rows (method_decl e.0))) (methods_declared es) all).0)))
 
   no_ctor : (es : List CtorRow) → ctors_declared es ≡ true → (k : CtorKey) → (HasRow rows (constructor_decl k) → ⊥) → ctor_in es k ≡ no_code
   no_ctor [] all k never = refl
-  no_ctor (e ∷ es) all k never = by (same_ctor e.0 k) refl (no_ctor es (both (is_some (number_of rows (constructor_decl e.0))) (ctors_declared es) all).1 k never)
+  no_ctor (e ∷ es) all k never = by (same_ctor e.0 k) refl (no_ctor es (and_parts (is_some (number_of rows (constructor_decl e.0))) (ctors_declared es) all).1 k never)
     where
       by : (b : Bool) → same_ctor e.0 k ≡ b → ctor_in es k ≡ no_code → cond b e.1 (ctor_in es k) ≡ no_code
       by false is rest = rest
-      by true is rest = absurd (never (subst (λ (j : CtorKey). HasRow rows (constructor_decl j)) ((ctor_decides e.0 k).0 is) (ctor_row e.0 (both (is_some (number_of rows (constructor_decl e.0))) (ctors_declared es) all).0)))
+      by true is rest = absurd (never (subst (λ (j : CtorKey). HasRow rows (constructor_decl j)) ((ctor_decides e.0 k).0 is) (ctor_row e.0 (and_parts (is_some (number_of rows (constructor_decl e.0))) (ctors_declared es) all).0)))
 
 module _ {A : Type 0} (begins ends : A → ℕ → ℕ) (rows : List Row) where
   abbrev pub method_key : (base : ℕ) → ClassKey → A → tree.Word A → List (syntax.Param A) → MethodKey

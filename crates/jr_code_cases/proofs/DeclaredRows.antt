@@ -1,4 +1,5 @@
 -- The rows of a program of top-level classes, computed from what it declares.
+use Rattle.std.proofs.lemmas.Bool.{and_parts}
 use Rattle.std.proofs.Common.{◌≡◌, ℕ, List, [], ◌∷◌, ◌++◌, Option, Some, None, Bool, true, false, ◌&&◌, refl, inl}
 use Rattle.std.specs.Prelude.{is_some, is_none}
 use Rattle.jr_ast.specs.declared.operators.ModWord.{ModWord}
@@ -9,7 +10,7 @@ use Rattle.jr_table.specs.Prelude.{prelude_rows, top_key, object_key}
 use Rattle.jr_table.specs.DeclaredItems.{Written, int, boolean, named, DeclaredClass, Item, class_item, field_item, method_item, ctor_item, DeclaredItem}
 use Rattle.jr_table.specs.Resolving.{TopNames, TopParent, IsParent}
 use Rattle.jr_table.specs.ProgramRows.{MeansResult, unwritten_row, IsClassRow, AreRowsOfDeclarations, AreProgramRows}
-use Rattle.jr_code_cases.proofs.TopTypes.{both, find_class, found_class, all_top, meaning, meanings, is_top, top_is, has_meaning, have_meanings, means, mean}
+use Rattle.jr_code_cases.proofs.TopTypes.{find_class, found_class, all_top, meaning, meanings, is_top, top_is, has_meaning, have_meanings, means, mean, none_is}
 
 abbrev pub result_of : Option Written → Ty
 result_of None = void
@@ -72,10 +73,6 @@ module _ (ds : List DeclaredItem) where
 
   -- ---- and what it gives
 
-  pub none_is : {X : Type 0} (o : Option X) → is_none o ≡ true → o ≡ None
-  none_is None e = refl
-  none_is (Some x) e = absurd cc
-
   names : (w : Option Written) → names_parent w ≡ true → TopNames ds w (named_parent w)
   names None e = refl
   names (Some int) e = absurd cc
@@ -88,7 +85,7 @@ module _ (ds : List DeclaredItem) where
   top_parent name (Some at) is e = inl (at, found_class ds name at is, names at.parent e)
 
   pub is_parent : (k : ClassKey) → is_none k.outer && has_parent (find_class ds k.name) ≡ true → IsParent ds k (parent_in (find_class ds k.name))
-  is_parent k e = let t = both (is_none k.outer) (has_parent (find_class ds k.name)) e in inl (none_is k.outer t.0, top_parent k.name (find_class ds k.name) refl t.1)
+  is_parent k e = let t = and_parts (is_none k.outer) (has_parent (find_class ds k.name)) e in inl (none_is k.outer t.0, top_parent k.name (find_class ds k.name) refl t.1)
 
   is_class_row : (c : DeclaredClass) → is_none c.key.outer && has_parent (find_class ds c.key.name) ≡ true → IsClassRow ds c (class_row c)
   is_class_row c e = record { decl = refl; modifiers = refl; type = refl; superclass = parent_in (find_class ds c.key.name); parent = refl; is_parent = is_parent c.key e; has_init = refl }
@@ -110,11 +107,11 @@ module _ (ds : List DeclaredItem) where
     item_are : (file : ℕ) (i : Item) (xs : List DeclaredItem) (rest : List Row) → item_passes i ≡ true → AreRowsOfDeclarations ds xs rest → AreRowsOfDeclarations ds (record { file = file; item = i } ∷ xs) (item_rows i rest)
     item_are file (class_item c) xs rest e are = class_are c.at c.key c.modifiers c.parent c.has_ctor file xs rest e are
     item_are file (field_item f) xs rest e are =
-        let t = both (is_none f.of.outer) (has_meaning ds f.type) e in
+        let t = and_parts (is_none f.of.outer) (has_meaning ds f.type) e in
         (_, rest, refl, record { type = meaning f.type; means = means ds top f.of (none_is f.of.outer t.0) f.type t.1; is = refl }, are)
     item_are file (method_item m) xs rest e are =
-        let t = both (is_none m.of.outer) (has_result m.result && have_meanings ds m.params) e in
-        let u = both (has_result m.result) (have_meanings ds m.params) t.1 in (
+        let t = and_parts (is_none m.of.outer) (has_result m.result && have_meanings ds m.params) e in
+        let u = and_parts (has_result m.result) (have_meanings ds m.params) t.1 in (
           _,
           rest,
           refl,
@@ -128,12 +125,12 @@ module _ (ds : List DeclaredItem) where
           are,
         )
     item_are file (ctor_item c) xs rest e are =
-        let t = both (is_none c.of.outer) (have_meanings ds c.params) e in
+        let t = and_parts (is_none c.of.outer) (have_meanings ds c.params) e in
         (_, rest, refl, record { params = meanings c.params; mean = mean ds top c.of (none_is c.of.outer t.0) c.params t.1; is = refl }, are)
 
     own_are : (xs : List DeclaredItem) → all_pass xs ≡ true → AreRowsOfDeclarations ds xs (own_rows xs)
     own_are [] e = refl
-    own_are (x ∷ xs) e = let t = both (item_passes x.item) (all_pass xs) e in item_are x.file x.item xs (own_rows xs) t.0 (own_are xs t.1)
+    own_are (x ∷ xs) e = let t = and_parts (item_passes x.item) (all_pass xs) e in item_are x.file x.item xs (own_rows xs) t.0 (own_are xs t.1)
 
     pub rows_are : all_pass ds ≡ true → AreProgramRows ds (prelude_rows ++ own_rows ds)
     rows_are e = (own_rows ds, refl, own_are ds e)

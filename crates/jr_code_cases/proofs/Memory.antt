@@ -2,7 +2,7 @@
 -- are entered where no other thread has done anything.
 use Rattle.std.proofs.Common.{◌≡◌, ℕ, zero, suc, List, [], ◌∷◌, Option, Some, None, Bool, true, false, ◌&&◌, refl, sym, ap, subst, ◌∙◌, inl, inr, eq-eqb, eqb-true, arith}
 use Rattle.std.specs.Prelude.{nat_eq, nat_lt, not}
-use Rattle.std.proofs.lemmas.Bool.{ltb-true}
+use Rattle.std.proofs.lemmas.Bool.{ltb-true, and_parts, and_from}
 use Rattle.jr_plans.specs.Swaps.{same}
 use Rattle.jr_runs.specs.Values.{Value, int, truth, null, text, class_object, object}
 use Rattle.jr_runs.specs.Actions.{FieldKind, Location, part, shared, Action, load, store, enter, exit, create, start, Trace}
@@ -16,7 +16,6 @@ use Rattle.jr_table.specs.Keys.{ClassKey, FieldKey, MethodKey}
 use Rattle.jr_table.specs.SameKeys.{same_class, class_decides, same_field, field_decides}
 use Rattle.jr_code.specs.RunKeys.{RunKeys}
 use Rattle.jr_code_cases.specs.Shown.{alone}
-use Rattle.jr_code_cases.proofs.TopTypes.{both}
 
 abbrev V : Type 0
 V = Value RunKeys
@@ -47,7 +46,7 @@ true_or_false : (a b : Bool) → a ≡ true → a ≡ false → ⊥
 true_or_false a b t f = let e = sym t ∙ f in absurd cc
 
 objects_are : (o p : V) → same_objects (object_in o) (object_in p) ≡ Some true → o ≡ p
-objects_are (object n c) (object m d) e = let t = both (nat_eq n m) (same_class c d) (inside _ true e) in λ i. object (eqb-true n m t.0 i) ((class_decides c d).0 t.1 i)
+objects_are (object n c) (object m d) e = let t = and_parts (nat_eq n m) (same_class c d) (inside _ true e) in λ i. object (eqb-true n m t.0 i) ((class_decides c d).0 t.1 i)
 objects_are (object n c) (int z) e = absurd cc
 objects_are (object n c) (truth b) e = absurd cc
 objects_are (object n c) null e = absurd cc
@@ -59,11 +58,8 @@ objects_are null p e = absurd cc
 objects_are (text t) p e = absurd cc
 objects_are (class_object c) p e = absurd cc
 
-both_are : (a b : Bool) → a ≡ true → b ≡ true → a && b ≡ true
-both_are a b e f = (λ i. e i && b) ∙ f
-
 object_self : (o : V) → same_objects (object_in o) (object_in o) ≡ Some false → ⊥
-object_self (object n c) e = true_or_false _ true (both_are (nat_eq n n) (same_class c c) (eq-eqb n n refl) ((class_decides c c).1 refl)) (inside _ false e)
+object_self (object n c) e = true_or_false _ true (and_from (nat_eq n n) (same_class c c) (eq-eqb n n refl) ((class_decides c c).1 refl)) (inside _ false e)
 object_self (int z) e = absurd cc
 object_self (truth b) e = absurd cc
 object_self null e = absurd cc
@@ -84,7 +80,7 @@ same_place (part o f) (part p g) = both_same (same_objects (object_in o) (object
 parts_are : (o p : V) (f g : FieldKey) (a : Option Bool) → same_objects (object_in o) (object_in p) ≡ a → both_same a (same_field f g) ≡ Some true → part o f ≡ part p g
 parts_are o p f g None is e = absurd cc
 parts_are o p f g (Some a) is e =
-    let t = both a (same_field f g) (inside _ true e) in
+    let t = and_parts a (same_field f g) (inside _ true e) in
     λ i. part (objects_are o p (is ∙ ap Some t.0) i) ((field_decides f g).0 t.1 i)
 
 place_is : (p q : Location RunKeys) → same_place p q ≡ Some true → p ≡ q
@@ -182,7 +178,7 @@ differ n (Some m) e is = let t = ap not (eq-eqb m n (inside m n is)) in true_or_
 
 none_makes : (n : ℕ) (b : Steps) → fresh n b ≡ true → NoneMakes n b
 none_makes n [] e = tt
-none_makes n (x ∷ b) e = let t = both (differs n (made_number x.action)) (fresh n b) e in (differ n (made_number x.action) t.0, none_makes n b t.1)
+none_makes n (x ∷ b) e = let t = and_parts (differs n (made_number x.action)) (fresh n b) e in (differ n (made_number x.action) t.0, none_makes n b t.1)
 
 abbrev is_fresh : Option ℕ → Steps → Bool
 is_fresh None b = true
@@ -271,7 +267,7 @@ of_one i (x ∷ b) = nat_eq x.thread i && of_one i b
 
 no_counts : (i j : ℕ) (a : Action RunKeys) (b : Steps) → of_one i b ≡ true → (j ≡ i → ⊥) → Counts j a b 0
 no_counts i j a [] e other = refl
-no_counts i j a (x ∷ b) e other = let t = both (nat_eq x.thread i) (of_one i b) e in inr (λ h. other (sym h.0 ∙ eqb-true x.thread i t.0), no_counts i j a b t.1 other)
+no_counts i j a (x ∷ b) e other = let t = and_parts (nat_eq x.thread i) (of_one i b) e in inr (λ h. other (sym h.0 ∙ eqb-true x.thread i t.0), no_counts i j a b t.1 other)
 
 -- ---- all
 
@@ -416,7 +412,7 @@ module _ (P : Program RunKeys) (first : FieldKey → First RunKeys) (gives_all :
 
     all_either : (h : Steps) → of_either h ≡ true → OfThreads both_threads h
     all_either [] e = tt
-    all_either (x ∷ h) e = let t = both (nat_lt x.thread 2) (of_either h) e in (either_thread x.thread t.0, all_either h t.1)
+    all_either (x ∷ h) e = let t = and_parts (nat_lt x.thread 2) (of_either h) e in (either_thread x.thread t.0, all_either h t.1)
 
     module _ (h : Steps) (t u : Trace RunKeys) (e f : Ending RunKeys) (d : Start RunKeys) (whole : Whole P run t e) (runs : Runs P.rows of (started o) d) (other : Whole P d u f) (own : t ≡ part_of 0 h) (others : u ≡ part_of 1 h) where
       two_parts : (i : ℕ) (x : Thread RunKeys) → thread_at both_threads i ≡ Some x → Part h i x

@@ -1,13 +1,13 @@
 -- No class is its own superclass, computed: each names one that is declared before it, or the prelude's.
 use Rattle.std.proofs.Common.{◌≡◌, ℕ, zero, suc, ◌<◌, ◌≤◌, List, [], ◌∷◌, Option, Some, None, Bool, true, cond, ◌&&◌, sym, ap, subst, ◌∙◌, inl, inr, arith}
 use Rattle.std.specs.Prelude.{nat_eq, nat_lt, codes}
-use Rattle.std.proofs.lemmas.Bool.{ltb-true, eqb-true}
+use Rattle.std.proofs.lemmas.Bool.{ltb-true, eqb-true, and_parts}
 use Rattle.jr_table.specs.Keys.{ClassKey}
 use Rattle.jr_table.specs.SameKeys.{same_name, same_class}
 use Rattle.jr_table.specs.Prelude.{top_key}
 use Rattle.jr_table.specs.DeclaredItems.{Written, int, boolean, named, DeclaredClass, Item, class_item, field_item, method_item, ctor_item, DeclaredItem}
 use Rattle.jr_table.specs.Resolving.{DeclaresClass, IsPreludeSubclass, TopNames, IsParent, Climbs}
-use Rattle.jr_code_cases.proofs.TopTypes.{both, all_top, no_outer}
+use Rattle.jr_code_cases.proofs.TopTypes.{all_top, no_outer}
 use Rattle.jr_code_cases.proofs.DeclaredRows.{named_parent}
 use Rattle.jr_code_cases.proofs.Pairing.{all_items, item_at}
 
@@ -37,16 +37,16 @@ module _ (ds : List DeclaredItem) where
 
   module _ (top : all_top ds ≡ true) (rise : all_rise ≡ true) where
     rise_parts : (all_items ds rises ≡ true) × (nat_eq (rank (codes "Object")) 0 && (nat_lt 0 (rank (codes "String")) && (nat_lt 0 (rank (codes "Class")) && nat_lt 0 (rank (codes "Thread")))) ≡ true)
-    rise_parts = both (all_items ds rises) _ rise
+    rise_parts = and_parts (all_items ds rises) _ rise
 
     object_parts : (nat_eq (rank (codes "Object")) 0 ≡ true) × (nat_lt 0 (rank (codes "String")) && (nat_lt 0 (rank (codes "Class")) && nat_lt 0 (rank (codes "Thread"))) ≡ true)
-    object_parts = both (nat_eq (rank (codes "Object")) 0) _ rise_parts.1
+    object_parts = and_parts (nat_eq (rank (codes "Object")) 0) _ rise_parts.1
 
     string_parts : (nat_lt 0 (rank (codes "String")) ≡ true) × (nat_lt 0 (rank (codes "Class")) && nat_lt 0 (rank (codes "Thread")) ≡ true)
-    string_parts = both (nat_lt 0 (rank (codes "String"))) _ object_parts.1
+    string_parts = and_parts (nat_lt 0 (rank (codes "String"))) _ object_parts.1
 
     class_parts : (nat_lt 0 (rank (codes "Class")) ≡ true) × (nat_lt 0 (rank (codes "Thread")) ≡ true)
-    class_parts = both (nat_lt 0 (rank (codes "Class"))) _ string_parts.1
+    class_parts = and_parts (nat_lt 0 (rank (codes "Class"))) _ string_parts.1
 
     object_rank : rank (codes "Object") ≡ 0
     object_rank = eqb-true (rank (codes "Object")) 0 object_parts.0

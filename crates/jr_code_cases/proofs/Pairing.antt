@@ -1,9 +1,9 @@
 -- Tests of all pairs of a list, and of all items of a program's declarations.
+use Rattle.std.proofs.lemmas.Bool.{and_parts}
 use Rattle.std.proofs.Common.{◌≡◌, ℕ, zero, suc, ◌<◌, List, [], ◌∷◌, Some, Bool, true, ◌&&◌, subst, arith}
 use Rattle.std.specs.Prelude.{slice_get}
 use Rattle.jr_table.specs.DeclaredItems.{Item, DeclaredItem}
 use Rattle.jr_table.specs.Faults.{At}
-use Rattle.jr_code_cases.proofs.TopTypes.{both}
 
 abbrev pub all : {X : Type 0} → (X → Bool) → List X → Bool
 all test [] = true
@@ -17,17 +17,17 @@ pairs test (x ∷ xs) = all (test x) xs && pairs test xs
 module _ {X : Type 0} where
   pub all_at : (test : X → Bool) (xs : List X) (i : ℕ) (y : X) → all test xs ≡ true → slice_get xs i ≡ Some y → test y ≡ true
   all_at test [] i y e at = absurd cc
-  all_at test (x ∷ xs) zero y e at = let same : x ≡ y = cc in subst (λ (z : X). test z ≡ true) same (both (test x) (all test xs) e).0
-  all_at test (x ∷ xs) (suc i) y e at = all_at test xs i y (both (test x) (all test xs) e).1 at
+  all_at test (x ∷ xs) zero y e at = let same : x ≡ y = cc in subst (λ (z : X). test z ≡ true) same (and_parts (test x) (all test xs) e).0
+  all_at test (x ∷ xs) (suc i) y e at = all_at test xs i y (and_parts (test x) (all test xs) e).1 at
 
   pub pairs_at : (test : X → X → Bool) (xs : List X) (i j : ℕ) (y z : X) → pairs test xs ≡ true → i < j → slice_get xs i ≡ Some y → slice_get xs j ≡ Some z → test y z ≡ true
   pairs_at test [] i j y z e less at other = absurd cc
   pairs_at test (x ∷ xs) zero zero y z e less at other = absurd (omega (arith, less))
   pairs_at test (x ∷ xs) zero (suc j) y z e less at other =
       let same : x ≡ y = cc in
-      subst (λ (w : X). test w z ≡ true) same (all_at (test x) xs j z (both (all (test x) xs) (pairs test xs) e).0 other)
+      subst (λ (w : X). test w z ≡ true) same (all_at (test x) xs j z (and_parts (all (test x) xs) (pairs test xs) e).0 other)
   pairs_at test (x ∷ xs) (suc i) zero y z e less at other = absurd (omega (arith, less))
-  pairs_at test (x ∷ xs) (suc i) (suc j) y z e less at other = pairs_at test xs i j y z (both (all (test x) xs) (pairs test xs) e).1 (omega (arith, less)) at other
+  pairs_at test (x ∷ xs) (suc i) (suc j) y z e less at other = pairs_at test xs i j y z (and_parts (all (test x) xs) (pairs test xs) e).1 (omega (arith, less)) at other
 
 module _ (ds : List DeclaredItem) where
   abbrev pub all_items : (Item → Bool) → Bool

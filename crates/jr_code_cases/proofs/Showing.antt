@@ -1,7 +1,7 @@
 -- What has to be computed of a text and a tree without marks, so that the text has its code.
 use Rattle.std.proofs.Common.{◌≡◌, ℕ, List, [], ◌∷◌, ◌++◌, length, ◌^◌, Some, Bool, true, ◌&&◌, refl, ◌∙◌}
 use Rattle.std.specs.Prelude.{is_some, nat_lt, codes}
-use Rattle.std.proofs.lemmas.Bool.{ltb-true}
+use Rattle.std.proofs.lemmas.Bool.{ltb-true, and_parts}
 use Rattle.std.proofs.Math.Utf8.{scalars}
 use Rattle.jr_text.specs.declared.spans.Span.{Span}
 use Rattle.jr_ast.specs.MemberTree.{Unit as UnitTree}
@@ -34,7 +34,7 @@ use Rattle.jr_code.specs.CodedFields.{UnitsFirsts}
 use Rattle.jr_code.proofs.TestedRows.{all_first, all_named, all_lower, are_rows}
 use Rattle.jr_code_cases.specs.Shown.{first_of, last_of, alone, HasTree, HasCode, Shows, ShowsOnly, ShowsBoth, Refuses}
 use Rattle.jr_code_cases.proofs.Reading.{items, marked, reads}
-use Rattle.jr_code_cases.proofs.TopTypes.{both, all_top}
+use Rattle.jr_code_cases.proofs.TopTypes.{all_top}
 use Rattle.jr_code_cases.proofs.DeclaredRows.{own_rows, all_pass, rows_are}
 use Rattle.jr_code_cases.proofs.Broken.{rule_of, classes_wrong, has_error}
 use Rattle.jr_code_cases.proofs.ComputedFirsts.{classes_values, values_declared, first, gives_all, are_first}
@@ -78,32 +78,32 @@ module _ (text : List ℕ) (tree : UnitTree Bare) where
 
   module _ (passes : rows_pass ≡ true) where
     parts : (all_top declarations && (all_pass declarations declarations && is_clean declarations) ≡ true) × (all_first rows 0 rows && (all_named rows rows && (all_lower 0 (entries_of rows) && nat_lt (length rows) (2 ^ 32))) ≡ true)
-    parts = both (all_top declarations && (all_pass declarations declarations && is_clean declarations)) _ passes
+    parts = and_parts (all_top declarations && (all_pass declarations declarations && is_clean declarations)) _ passes
 
     declared_parts : (all_pass declarations declarations ≡ true) × (is_clean declarations ≡ true)
-    declared_parts = both (all_pass declarations declarations) (is_clean declarations) (both (all_top declarations) _ parts.0).1
+    declared_parts = and_parts (all_pass declarations declarations) (is_clean declarations) (and_parts (all_top declarations) _ parts.0).1
 
     row_parts : (all_first rows 0 rows ≡ true) × (all_named rows rows && (all_lower 0 (entries_of rows) && nat_lt (length rows) (2 ^ 32)) ≡ true)
-    row_parts = both (all_first rows 0 rows) _ parts.1
+    row_parts = and_parts (all_first rows 0 rows) _ parts.1
 
     named_parts : (all_named rows rows ≡ true) × (all_lower 0 (entries_of rows) && nat_lt (length rows) (2 ^ 32) ≡ true)
-    named_parts = both (all_named rows rows) _ row_parts.1
+    named_parts = and_parts (all_named rows rows) _ row_parts.1
 
     order_parts : (all_lower 0 (entries_of rows) ≡ true) × (nat_lt (length rows) (2 ^ 32) ≡ true)
-    order_parts = both (all_lower 0 (entries_of rows)) _ named_parts.1
+    order_parts = and_parts (all_lower 0 (entries_of rows)) _ named_parts.1
 
     pub top : all_top declarations ≡ true
-    top = (both (all_top declarations) (all_pass declarations declarations && is_clean declarations) parts.0).0
+    top = (and_parts (all_top declarations) (all_pass declarations declarations && is_clean declarations) parts.0).0
 
     pub are : AreRows rows
     are = are_rows own rows refl row_parts.0 named_parts.0 order_parts.0 (ltb-true (length rows) (2 ^ 32) order_parts.1)
 
     module _ (texts : text_passes ≡ true) (shape : UnitShaped tree) (spells : unit_toks tree ≡ tokens_of text (items text)) where
       text_parts : (are_ascii text ≡ true) × (scalars text && is_some (cut (length text) 0 text) ≡ true)
-      text_parts = both (are_ascii text) (scalars text && is_some (cut (length text) 0 text)) texts
+      text_parts = and_parts (are_ascii text) (scalars text && is_some (cut (length text) 0 text)) texts
 
       cut_parts : (scalars text ≡ true) × (is_some (cut (length text) 0 text) ≡ true)
-      cut_parts = both (scalars text) (is_some (cut (length text) 0 text)) text_parts.1
+      cut_parts = and_parts (scalars text) (is_some (cut (length text) 0 text)) text_parts.1
 
       pub has_tree : HasTree text
       has_tree = record { unit = unit; reads = reads text tree text_parts.0 cut_parts.0 cut_parts.1 shape spells; rows = rows; are = are; declared = rows_are declarations top declared_parts.0; clean = clean_is declarations top declared_parts.0 declared_parts.1 }
@@ -114,7 +114,7 @@ module _ (text : List ℕ) (tree : UnitTree Bare) where
         tree = has_tree;
         sound = λ super_at. is_sound first_of rows are (keys_found rows are) super_at unit top (quiet super_at);
         code =
-            let m = both (methods_declared rows (methods_of first_of last_of rows unit)) (ctors_declared rows (ctors_of first_of last_of rows unit)) codes in
+            let m = and_parts (methods_declared rows (methods_of first_of last_of rows unit)) (ctors_declared rows (ctors_of first_of last_of rows unit)) codes in
             is_code first_of last_of rows are (keys_found rows are) unit top checks m.0 m.1 prelude;
       }
 

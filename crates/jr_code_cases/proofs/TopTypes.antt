@@ -1,6 +1,8 @@
 -- What names of types mean where each class is a top-level one, computed: no class has member types.
+use Rattle.std.proofs.lemmas.Bool.{and_parts}
+use Rattle.jr_table.proofs.Assigning.{either_is}
 use Rattle.std.proofs.Common.{◌≡◌, ℕ, zero, suc, List, [], ◌∷◌, map, Option, Some, None, Bool, true, false, cond, ◌&&◌, ◌||◌, refl, sym, ap, subst, ◌∙◌, inl, inr}
-use Rattle.std.specs.Prelude.{◌⊎◌, slice_get, is_some, is_none, codes}
+use Rattle.std.specs.Prelude.{slice_get, is_some, is_none, codes}
 use Rattle.jr_table.specs.Keys.{ClassKey, Ty, class}
 use Rattle.jr_table.specs.Keys as keys
 use Rattle.jr_table.specs.SameKeys.{same_name, same_class, class_decides}
@@ -9,14 +11,6 @@ use Rattle.jr_table.specs.Prelude.{top_key}
 use Rattle.jr_table.specs.DeclaredItems.{Written, int, boolean, named, DeclaredParam, DeclaredClass, Item, class_item, field_item, method_item, ctor_item, DeclaredItem}
 use Rattle.jr_table.specs.Resolving.{DeclaresClass, IsPreludeClass, IsDeclared, IsTopClass, TopMemberType, TypeWithin, HasMemberType, FindsAround, Means}
 use Rattle.jr_table.specs.ProgramRows.{MeanTypes}
-
-pub both : (a b : Bool) → a && b ≡ true → (a ≡ true) × (b ≡ true)
-both true b e = (refl, e)
-both false b e = absurd cc
-
-either : (a b : Bool) → a || b ≡ true → (a ≡ true) ⊎ (b ≡ true)
-either true b e = inl refl
-either false b e = inr e
 
 -- ---- the classes
 
@@ -57,11 +51,11 @@ is_prelude name = same_name name (codes "Object") || (same_name name (codes "Str
 
 prelude_is : (name : List ℕ) → is_prelude name ≡ true → IsPreludeClass name
 prelude_is name e =
-    elim (either (same_name name (codes "Object")) (same_name name (codes "String") || (same_name name (codes "Class") || same_name name (codes "Thread"))) e) [
+    elim (either_is (same_name name (codes "Object")) (same_name name (codes "String") || (same_name name (codes "Class") || same_name name (codes "Thread"))) e) [
       | inl a ↦ inl ((bytes_decides name (codes "Object")).0 a)
-      | inr f ↦ elim (either (same_name name (codes "String")) (same_name name (codes "Class") || same_name name (codes "Thread")) f) [
+      | inr f ↦ elim (either_is (same_name name (codes "String")) (same_name name (codes "Class") || same_name name (codes "Thread")) f) [
         | inl a ↦ inr (inl ((bytes_decides name (codes "String")).0 a))
-        | inr g ↦ elim (either (same_name name (codes "Class")) (same_name name (codes "Thread")) g) [
+        | inr g ↦ elim (either_is (same_name name (codes "Class")) (same_name name (codes "Thread")) g) [
           | inl a ↦ inr (inr (inl ((bytes_decides name (codes "Class")).0 a)))
           | inr a ↦ inr (inr (inr ((bytes_decides name (codes "Thread")).0 a)))
         ]
@@ -80,14 +74,14 @@ abbrev pub all_top : List DeclaredItem → Bool
 all_top [] = true
 all_top (d ∷ ds) = is_top_item d.item && all_top ds
 
-none_is : {X : Type 0} (o : Option X) → is_none o ≡ true → o ≡ None
+pub none_is : {X : Type 0} (o : Option X) → is_none o ≡ true → o ≡ None
 none_is None e = refl
 none_is (Some x) e = absurd cc
 
 top_at : (ds : List DeclaredItem) (n : ℕ) (x : DeclaredItem) → all_top ds ≡ true → slice_get ds n ≡ Some x → is_top_item x.item ≡ true
 top_at [] n x t e = absurd cc
-top_at (d ∷ ds) zero x t e = let same : d ≡ x = cc in subst (λ (y : DeclaredItem). is_top_item y.item ≡ true) same (both (is_top_item d.item) (all_top ds) t).0
-top_at (d ∷ ds) (suc n) x t e = top_at ds n x (both (is_top_item d.item) (all_top ds) t).1 e
+top_at (d ∷ ds) zero x t e = let same : d ≡ x = cc in subst (λ (y : DeclaredItem). is_top_item y.item ≡ true) same (and_parts (is_top_item d.item) (all_top ds) t).0
+top_at (d ∷ ds) (suc n) x t e = top_at ds n x (and_parts (is_top_item d.item) (all_top ds) t).1 e
 
 module _ (ds : List DeclaredItem) (top : all_top ds ≡ true) where
   pub no_outer : (k : ClassKey) → IsDeclared ds k → k.outer ≡ None
@@ -154,10 +148,10 @@ module _ (ds : List DeclaredItem) where
 
     pub mean : (ps : List DeclaredParam) → have_meanings ps ≡ true → MeanTypes ds k ps (meanings ps)
     mean [] e = tt
-    mean (p ∷ ps) e = let t = both (has_meaning p.type) (have_meanings ps) e in (means p.type t.0, mean ps t.1)
+    mean (p ∷ ps) e = let t = and_parts (has_meaning p.type) (have_meanings ps) e in (means p.type t.0, mean ps t.1)
 
     pub one_mean : (ps : List DeclaredParam) (ts : List Ty) → have_meanings ps ≡ true → MeanTypes ds k ps ts → ts ≡ meanings ps
     one_mean [] [] e h = refl
     one_mean [] (t ∷ ts) e h = absurd h
     one_mean (p ∷ ps) [] e h = absurd h
-    one_mean (p ∷ ps) (t ∷ ts) e h = let u = both (has_meaning p.type) (have_meanings ps) e in λ i. one_meaning p.type t u.0 h.0 i ∷ one_mean ps ts u.1 h.1 i
+    one_mean (p ∷ ps) (t ∷ ts) e h = let u = and_parts (has_meaning p.type) (have_meanings ps) e in λ i. one_meaning p.type t u.0 h.0 i ∷ one_mean ps ts u.1 h.1 i
