@@ -1,6 +1,5 @@
 -- Sources that are fetched one behind the other.
-use Rattle.std.proofs.Common.{◌≡◌, ◌∙◌, ◌+◌, ◌<◌, ◌≤◌, ◌^◌, ℕ, suc, ap, ap₂, arith, refl, sym, subst, List, [], ◌∷◌, ◌++◌, drop, get_or, length, map, take, Option, None, Some, OnSome, IsSomeAnd, String, Vec, option_map, slice_get, string_bytes, Result, Ok, Err, IfOk}
-use Rattle.std.specs.Result.{IsOkAnd}
+use Rattle.std.proofs.Common.{◌≡◌, ◌∙◌, ◌+◌, ◌<◌, ◌≤◌, ◌^◌, ℕ, suc, ap, ap₂, arith, refl, sym, subst, List, [], ◌∷◌, ◌++◌, drop, get_or, length, map, take, Option, None, Some, OnSome, IsSomeAnd, String, Vec, option_map, slice_get, string_bytes}
 use Rattle.std.proofs.Math.Seq.{drop-cons}
 use Rattle.std.proofs.lemmas.List.{length-map, map-append, take-append-drop, take_all, take_more}
 use Rattle.std.proofs.lemmas.List.Sums.{sum_by_push}
@@ -15,8 +14,7 @@ use Rattle.jr_files.specs.declared.faults.FilesFault.{FilesFault}
 use Rattle.jr_files.specs.declared.faults.FilesFault.TheVariants.{Unread, BadSource, Memory}
 use Rattle.jr_files.specs.declared.faults.SourceFault.{SourceFault}
 use Rattle.jr_files.specs.declared.faults.SourceFault.TheVariants.{TooMany, TooLong, NotUtf8, TotalTooLong}
-use Rattle.jr_files.specs.Fetching.{EndsBadly, IsFilesFault, IsInOrder, IsOneFault, IsUnread, OnUnread, Served, UnlessUnread}
-use Rattle.jr_files.proofs.Counting.{known_then, rose_none}
+use Rattle.jr_files.specs.Fetching.{IsFilesFault, IsInOrder, IsOneFault, IsUnread, OnUnread}
 use Rattle.jr_files.specs.Sources.{AreFetched, AreSources, AreTooMany, HasFault, HoldsFault, IsFirstBad, IsSource, file_limit, total_limit, total_of}
 
 sources_more : (files : Option Files) (operands : List Operand) (texts : List (List ℕ)) (o : Operand) (t : List ℕ) → AreSources files operands texts → IsSource files o.text t
@@ -94,14 +92,6 @@ module _ {Y Z : Type 0} where
         counted = counts ∙ ap (λ n. n + length text) so_far.counted ∙ sym (total_more (map (λ s. s.1) sources) text) ∙ sym (ap total_of texts);
         within = within;
       }
-
-  -- the same, where the name was made
-  pub one_put : {E : Type 0} (files files' : Option Files) → files' ≡ files → (operands : List raw.Operand) (i : ℕ) (d : raw.Operand) (sources sources' : List (String Y × List ℕ)) (bytes bytes' : List (Vec ℕ Z)) (total total' : ℕ) (name : Result (String Y) E) (text : List ℕ) (b : Vec ℕ Z)
-      → i < length operands → SoFar files operands i sources bytes total → IfOk name (λ n. string_bytes n ≡ (get_or operands i d).text.now) → IsSource files' (get_or operands i d).text.now text → b.items ≡ text
-      → total' ≡ total + length text → total' ≤ total_limit → IsOkAnd name (λ n. sources' ≡ sources ++ (n, text) ∷ []) → bytes' ≡ bytes ++ b ∷ [] → SoFar files operands (i + 1) sources' bytes' total'
-  one_put files files' same operands i d sources sources' bytes bytes' total total' (Ok name) text b below so_far named source same_bytes counts within pushed pushed_bytes =
-      one_fetched files files' same operands i d sources sources' bytes bytes' total total' name text b below so_far named source same_bytes counts within pushed pushed_bytes
-  one_put files files' same operands i d sources sources' bytes bytes' total total' (Err e) text b below so_far named source same_bytes counts within pushed pushed_bytes = absurd pushed
 
   pub all_fetched : (files : Option Files) (operands : List raw.Operand) (i : ℕ) (sources : List (String Y × List ℕ)) (bytes : List (Vec ℕ Z)) (total : ℕ) → length operands ≤ i → SoFar files operands i sources bytes total
       → AreFetched files (map operand_of operands) (map (λ s. s.1) sources)
@@ -191,57 +181,3 @@ too_long_bad files files' same operands i d sources bytes total len text below s
     let counted : total + len ≡ total_of (map (λ s. s.1) sources) + length text = ap₂ (λ a b. a + b) so_far.counted size in
     first_bad files operands i d sources bytes total (TotalTooLong (total + len)) (get_or operands i d).word below so_far refl
     (too_long_together (total_of (map (λ s. s.1) sources)) (total + len) files name text (subst (λ f. IsSource f name text) same source) counted beyond)
-
--- ---- how fetches end
-
-known_same : (files : Option Files) (a : Option (List ℕ)) → OnSome files (a ≡ a)
-known_same None a = tt
-known_same (Some f) a = refl
-
--- no call was made
-pub none_served : (files : Option Files) (missed : Option (List ℕ)) (faults served : ℕ) → Served 0 files files missed missed faults faults served served
-none_served files missed faults served = record { keeps = refl; missed_stays = known_same files missed; faults_stay = refl; count = rose_none served }
-
--- memory ran out behind so many files
-pub memory_ends : (n : ℕ) (files files' : Option Files) (operands : List Operand) (missed missed' : Option (List ℕ)) (faults faults' served served' : ℕ)
-    → Served n files files' missed missed' faults faults' served served' → EndsBadly files operands missed missed' faults faults' served served' Memory
-memory_ends n files files' operands missed missed' faults faults' served served' h = record { fault_is = tt; unread = tt; in_order = tt; missed_stays = h.missed_stays; faults_stay = h.faults_stay }
-
-unless_missed : (files files' : Option Files) → files' ≡ files → (a b c : Option (List ℕ)) → OnSome files (b ≡ a) → (fault : FilesFault) → UnlessUnread fault (OnSome files' (c ≡ b)) → UnlessUnread fault (OnSome files (c ≡ a))
-unless_missed files files' same a b c known (Unread word) h = tt
-unless_missed files files' same a b c known (BadSource word fault) h = known_then files a b c known (subst (λ f. OnSome f (c ≡ b)) same h)
-unless_missed files files' same a b c known Memory h = known_then files a b c known (subst (λ f. OnSome f (c ≡ b)) same h)
-
-unless_faults : (a b c : ℕ) → b ≡ a → (fault : FilesFault) → UnlessUnread fault (c ≡ b) → UnlessUnread fault (c ≡ a)
-unless_faults a b c same (Unread word) h = tt
-unless_faults a b c same (BadSource word fault) h = h ∙ same
-unless_faults a b c same Memory h = h ∙ same
-
-module _ {Y Z : Type 0} where
-  -- the next file has a fault of its own, or can't be read
-  pub one_ends : (files files' : Option Files) (operands : List raw.Operand) (i : ℕ) (d : raw.Operand) (sources : List (String Y × List ℕ)) (bytes : List (Vec ℕ Z)) (total : ℕ) → i < length operands → SoFar files operands i sources bytes total
-      → (missed missed' missed'' : Option (List ℕ)) (faults faults' faults'' served served' served'' : ℕ) → Served i files files' missed missed' faults faults' served served'
-      → (fault : FilesFault) → IsOneFault fault files' (operand_of (get_or operands i d))
-      → OnUnread fault (λ word. (word ≡ (get_or operands i d).word) × Rose faults' faults'' × OnSome files' (missed'' ≡ Some (get_or operands i d).text.now) × (served'' ≡ served'))
-      → UnlessUnread fault (OnSome files' (missed'' ≡ missed')) → UnlessUnread fault (faults'' ≡ faults')
-      → EndsBadly files (map operand_of operands) missed missed'' faults faults'' served served'' fault
-  one_ends files files' operands i d sources bytes total below so_far missed missed' missed'' faults faults' faults'' served served' served'' h fault one failed stays none = record {
-    fault_is = one_bad files files' h.keeps operands i d sources bytes total below so_far fault one;
-    unread = unread_at files files' h.keeps operands i d below missed'' faults faults' faults'' served served' served'' h.faults_stay h.count fault failed;
-    in_order = first_unread files files' operands i d sources bytes total below so_far missed'' faults' faults'' served' served'' fault failed;
-    missed_stays = unless_missed files files' h.keeps missed missed' missed'' h.missed_stays fault stays;
-    faults_stay = unless_faults faults faults' faults'' h.faults_stay fault none;
-  }
-
-  -- with the next file they are too long together
-  pub too_long_ends : (files files' : Option Files) (operands : List raw.Operand) (i : ℕ) (d : raw.Operand) (sources : List (String Y × List ℕ)) (bytes : List (Vec ℕ Z)) (total len : ℕ) (text : List ℕ) → i < length operands → SoFar files operands i sources bytes total
-      → IsSource files' (get_or operands i d).text.now text → len ≡ length text → total_limit < total + len → files' ≡ files
-      → (n : ℕ) (files'' : Option Files) (missed missed'' : Option (List ℕ)) (faults faults'' served served'' : ℕ) → Served n files files'' missed missed'' faults faults'' served served''
-      → EndsBadly files (map operand_of operands) missed missed'' faults faults'' served served'' (BadSource (get_or operands i d).word (TotalTooLong (total + len)))
-  too_long_ends files files' operands i d sources bytes total len text below so_far source size beyond same n files'' missed missed'' faults faults'' served served'' h = record {
-    fault_is = too_long_bad files files' same operands i d sources bytes total len text below so_far source size beyond;
-    unread = tt;
-    in_order = tt;
-    missed_stays = h.missed_stays;
-    faults_stay = h.faults_stay;
-  }

@@ -68,16 +68,6 @@ IsFilesFault files operands Memory = Unit {0}
 
 -- ---- for private clauses
 
--- fetches that end with this fault, and what the shelf is behind them
-pub record EndsBadly (files : Option Files) (operands : List Operand)
-    (missed missed' : Option (List ℕ)) (faults faults' served served' : ℕ)
-    (fault : FilesFault) : Type 0 where
-  pub fault_is : IsFilesFault files operands fault
-  pub unread : OnUnread fault (λ word. IsUnread files operands word missed' faults faults' served served')
-  pub in_order : OnUnread fault (IsInOrder files operands)
-  pub missed_stays : UnlessUnread fault (OnSome files (missed' ≡ missed))
-  pub faults_stay : UnlessUnread fault (faults' ≡ faults)
-
 -- the fault is one of a file by itself
 abbrev pub IsOfOne : SourceFault → Type 0
 IsOfOne TooLong = Unit {0}

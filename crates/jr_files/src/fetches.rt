@@ -1,19 +1,18 @@
 //! Sources are fetched.
 ghost use Rattle.std.specs.Prelude.{◌≡◌, ◌<◌, ◌≤◌, ◌^◌, map, length, IfOk, IfErr, OnOk, OnSome};
-ghost use Rattle.std.specs.Prelude.{Some, ◌++◌, ◌∷◌, []};
-ghost use Rattle.std.specs.Result.{IsOkAnd};
+ghost use Rattle.std.specs.Prelude.{Some};
 ghost use Rattle.jr_shelf.specs.Counts.{Rose};
 ghost use Rattle.jr_words.specs.Asked.{operand_of};
-ghost use Rattle.jr_files.specs.Fetching.{EndsBadly, IsFilesFault, IsInOrder, IsOneFault, IsUnread};
+ghost use Rattle.jr_files.specs.Fetching.{IsFilesFault, IsInOrder, IsOneFault, IsUnread};
 ghost use Rattle.jr_files.specs.Fetching.{OnUnread, Served, UnlessUnread};
-ghost use Rattle.jr_files.specs.Sources.{AreFetched, IsSource, file_limit};
+ghost use Rattle.jr_files.specs.Sources.{AreFetched, IsSource};
 ghost use Rattle.jr_files.specs.Views.{AreOf, texts_of};
 
 use crate::faults::{FilesFault, SourceFault};
 use jr_shelf::{FetchFault, Shelf};
 use jr_text::{Text, TextFault};
 use jr_words::Operand;
-use std::alloc::{AllocError, Global};
+use std::alloc::Global;
 
 /// How many files a run has at most.
 pub const MAX_FILES: u32 = 256;
@@ -22,21 +21,12 @@ pub const MAX_FILES: u32 = 256;
 pub const MAX_TOTAL_LEN: u64 = 8_388_608;
 
 /// Files that were fetched.
+#[derive(Drop)]
 pub struct Fetched {
     /// Each with its name, in order.
     pub sources: Vec<(String, Text)>,
     /// The bytes of each.
     pub bytes: Vec<Vec<u8>>,
-}
-
-// Written out: what is derived is proved in pieces in each function that lets it go.
-impl Drop for Fetched {
-    fn drop(self) {
-        let Fetched {
-            sources: _,
-            bytes: _,
-        } = self;
-    }
 }
 
 /// The sources that the files hold, fetched in order.
@@ -75,29 +65,8 @@ pub fn fetch_sources<S: Shelf>(
         let count = files.len() as u32;
         return Err(bad_source(surplus, SourceFault::TooMany { count }));
     }
-    fetch_all(alloc, files, shelf)
-}
-
-// The same, where there aren't too many files.
-fn fetch_all<S: Shelf>(
-    alloc: Global,
-    files: &[Operand],
-    shelf: &mut S,
-) -> Result<Fetched, FilesFault>
-    requires { length files.now ≤ file_limit }
-    ensures ok { IfOk result (λ fetched.
-        AreFetched (S.holds shelf.old) (map operand_of files.now) (texts_of fetched)) }
-    ensures named { IfOk result (AreOf (map operand_of files.now)) }
-    ensures served { OnOk result (Served (length files.now)
-        (S.holds shelf.old) (S.holds shelf.new) (S.missed shelf.old) (S.missed shelf.new)
-        (S.faults shelf.old) (S.faults shelf.new) (S.served shelf.old) (S.served shelf.new)) }
-    ensures err { IfErr result (EndsBadly (S.holds shelf.old) (map operand_of files.now)
-        (S.missed shelf.old) (S.missed shelf.new) (S.faults shelf.old) (S.faults shelf.new)
-        (S.served shelf.old) (S.served shelf.new)) }
-    ensures keeps { S.holds shelf.new ≡ S.holds shelf.old }
-    ensures faults { S.faults shelf.old ≤ S.faults shelf.new }
-{
-    let mut fetched = room(alloc, files.len())?;
+    let mut sources = Vec::with_capacity(alloc, files.len())?;
+    let mut all_bytes = Vec::with_capacity(alloc, files.len())?;
     let mut total = 0;
     for file in files {
         let (bytes, text) = fetch_source(alloc, file, shelf)?;
@@ -106,41 +75,13 @@ fn fetch_all<S: Shelf>(
             let fault = SourceFault::TotalTooLong { len: total };
             return Err(bad_source(file, fault));
         }
-        put(
-            &mut fetched,
-            String::from_str(alloc, file.text),
-            text,
-            bytes,
-        )?;
+        sources.push((String::from_str(alloc, file.text)?, text))?;
+        all_bytes.push(bytes)?;
     }
-    Ok(fetched)
-}
-
-// No files, and room for so many.
-fn room(alloc: Global, count: usize) -> Result<Fetched, AllocError>
-    ensures sources { IfOk result (λ fetched. fetched.sources.items ≡ []) }
-    ensures bytes { IfOk result (λ fetched. fetched.bytes.items ≡ []) }
-{
-    let sources = Vec::with_capacity(alloc, count)?;
-    let bytes = Vec::with_capacity(alloc, count)?;
-    Ok(Fetched { sources, bytes })
-}
-
-// One file more, with the name that was made.
-fn put(
-    fetched: &mut Fetched,
-    name: Result<String, AllocError>,
-    text: Text,
-    bytes: Vec<u8>,
-) -> Result<(), AllocError>
-    ensures source { OnOk result (IsOkAnd name (λ name.
-        fetched.new.sources.items ≡ fetched.old.sources.items ++ (name, text) ∷ [])) }
-    ensures bytes { OnOk result
-        (fetched.new.bytes.items ≡ fetched.old.bytes.items ++ bytes ∷ []) }
-{
-    fetched.sources.push((name?, text))?;
-    fetched.bytes.push(bytes)?;
-    Ok(())
+    Ok(Fetched {
+        sources,
+        bytes: all_bytes,
+    })
 }
 
 fn bad_source(file: &Operand, fault: SourceFault) -> FilesFault
