@@ -1,0 +1,6 @@
+-- `Walking`: pieces are put behind one another. `Names`: what names do. `Spotted`: expressions as
+-- spots have what their trees have. `Arms`: each kind of expression from its parts.
+mod Walking
+mod Names
+mod Spotted
+mod Arms
