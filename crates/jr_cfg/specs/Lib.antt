@@ -5,3 +5,9 @@ pub mod Numbering
 pub mod StepView
 pub mod Routes
 pub mod Aims
+pub mod StatementRoutes
+pub mod Seen
+pub mod Placed
+pub mod SiteSteps
+pub mod MemberRoutes
+pub mod Graphs

@@ -8,18 +8,28 @@
 //! (`specs/KnownFacts`). So a footprint is the same walk, started at a piece.
 //!
 //! `here`: what is known; `puts`: single steps, and what names do; `aims`: what is read, assigned or
-//! bumped; `checks`: what may fail; `targets`; `walk`: expressions.
+//! bumped; `checks`: what may fail; `targets`; `walk`: expressions; `statements`.
 #![tactic(auto)]
 
 mod aims;
 mod checks;
+mod faults;
 mod here;
+mod member_graph;
+mod members;
+mod placing;
 mod puts;
+mod statements;
 mod step;
 mod targets;
 mod walk;
 
 pub use checks::is_never_null;
+pub use faults::CfgFault;
 pub use here::Here;
+pub use jr_sites::{PlacedSite, SiteGraph};
+pub use member_graph::graph;
+pub use placing::placed_sites;
+pub use statements::stmts;
 pub use step::{Site, Step, What};
 pub use walk::{expr, exprs};

@@ -1,0 +1,56 @@
+use Rattle.std.proofs.Common.{◌≡◌, ◌+◌, ◌-◌, ℕ, suc, List, [], ◌∷◌, ◌++◌, length, map, Bool, true, false, Option, Some, None, ap, sym, refl, subst, ◌∙◌, arith}
+use Rattle.std.specs.Prelude.{option_map}
+use Rattle.std.proofs.lemmas.List.{length-map}
+use Rattle.jr_text.specs.declared.spans.Span.{Span}
+use Rattle.jr_ast.specs.Tree as tree
+use Rattle.jr_ast.specs.MemberTree as declared
+use Rattle.jr_ast.specs.declared.exprs.Expr.{Expr}
+use Rattle.jr_ast.specs.declared.stmts.Stmt.{Stmt}
+use Rattle.jr_ast.specs.declared.parts.Param.{Param}
+use Rattle.jr_ast.specs.declared.parts.Modifier.{Modifier}
+use Rattle.jr_ast.specs.View.{word_of, type_of, expr_of, exprs_of, args_of, stmts_of, modifier_of, param_of, class_of, member_of, member_kind}
+use Rattle.jr_table.specs.Keys.{FieldKey}
+use Rattle.jr_table.specs.Decls as decls
+use Rattle.jr_table.specs.KeyView.{field_key_of, member_key_of}
+use Rattle.jr_table.specs.TypeView.{class_key_of}
+use Rattle.jr_bind_expr.specs.Fits.{FitsMaybe, FitsExps, FitsStmts}
+use Rattle.jr_runs.specs.MemberTranslation as locked
+use Rattle.jr_cover.specs.MemberTranslation as shared
+use Rattle.jr_cover.specs.Sites as sites
+use Rattle.jr_cfg.specs.Steps.{steps_of}
+use Rattle.jr_cfg.specs.KnownFacts.{Given, Others, place}
+use Rattle.jr_cfg.specs.StepView.{given, steps_in}
+use Rattle.jr_cfg.specs.Routes.{Walked, begins_by, ends_by, exp, exps}
+use Rattle.jr_cfg.specs.Routes as plain
+use Rattle.jr_cfg.specs.StatementRoutes.{Passed, NumberedAll, WalkedSo}
+use Rattle.jr_cfg.specs.StatementRoutes as list
+use Rattle.jr_cfg.specs.MemberRoutes.{FitsArgs, FitsSites, call_place}
+use Rattle.jr_cfg.specs.MemberRoutes as route
+use Rattle.jr_cfg.proofs.Walking.{on_ok_then, row_goes, Seen}
+use Rattle.jr_cfg.proofs.Bodies as body
+use Rattle.jr_cfg.proofs.members.constructor.Goals as goal
+
+pub called_body-requires : goal.called_body-requires
+called_body-requires g c = record { fits = c.requires.fits; fits_args = c.requires.fits_args }
+
+pub span-requires : goal.span-requires
+span-requires g c = c.requires.fits_name
+
+pub returns : goal.returns
+returns g c =
+    let T = g.A.Mark.span_from in
+    let F = g.A.Mark.fits_at in
+    let G = given g.F.Facts.decls g.F.Facts.types c.args.here.now in
+    let at = c.args.here.now.start in
+    let old = c.args.out.now.items in
+    let new = c.called_body.new.out.items in
+    let b = stmts_of c.args.body.now in
+    let mods = c.args.modifiers.now in
+    let ps = c.args.params.now in
+    let args = args_of c.args.args.now in
+    let f = c.in_ok-front.front in
+    let step : f.step ≡ route.constructor_front T (map modifier_of mods) (map param_of ps) =
+    c.in_ok-front.ensures.step ∙ body.constructor_front_is T (map modifier_of mods) (map param_of ps) c.len.result c.len-2.result (c.len.ensures ∙ sym (length-map mods modifier_of)) (c.len-2.ensures ∙ sym (length-map ps param_of)) in
+    let number : f.number ≡ length ps = c.in_ok-front.ensures.number ∙ c.len-2.ensures in
+    let called : c.called_at-called.result ≡ call_place args c.args.super_at (begins_by T c.args.name.now.mark at) = c.called_at-called.ensures ∙ ap (λ (z : Span). call_place args c.args.super_at z.from) c.span.ensures in
+    on_ok_then c.called_body.result (λ h. subst (λ (X : Type 0). X) (λ i. WalkedSo G (NumberedAll T (number i) [] (step i + route.arguments T args) at b) (route.constructor T (step i) at (called i) args b) old new) h) c.called_body.ensures

@@ -1,0 +1,61 @@
+use Rattle.std.proofs.Common.{◌≡◌, ◌+◌, ◌-◌, ℕ, suc, List, [], ◌∷◌, ◌++◌, length, map, Bool, true, false, Option, Some, None, ap, sym, refl, subst, ◌∙◌, arith}
+use Rattle.std.specs.Prelude.{option_map}
+use Rattle.std.proofs.lemmas.List.{length-map}
+use Rattle.jr_text.specs.declared.spans.Span.{Span}
+use Rattle.jr_ast.specs.Tree as tree
+use Rattle.jr_ast.specs.MemberTree as declared
+use Rattle.jr_ast.specs.declared.exprs.Expr.{Expr}
+use Rattle.jr_ast.specs.declared.stmts.Stmt.{Stmt}
+use Rattle.jr_ast.specs.declared.parts.Param.{Param}
+use Rattle.jr_ast.specs.declared.parts.Modifier.{Modifier}
+use Rattle.jr_ast.specs.View.{word_of, type_of, expr_of, exprs_of, args_of, stmts_of, modifier_of, param_of, class_of, member_of, member_kind}
+use Rattle.jr_table.specs.Keys.{FieldKey}
+use Rattle.jr_table.specs.Decls as decls
+use Rattle.jr_table.specs.KeyView.{field_key_of, member_key_of}
+use Rattle.jr_table.specs.TypeView.{class_key_of}
+use Rattle.jr_bind_expr.specs.Fits.{FitsMaybe, FitsExps, FitsStmts}
+use Rattle.jr_runs.specs.MemberTranslation as locked
+use Rattle.jr_cover.specs.MemberTranslation as shared
+use Rattle.jr_cover.specs.Sites as sites
+use Rattle.jr_cfg.specs.Steps.{steps_of}
+use Rattle.jr_cfg.specs.KnownFacts.{Given, Others, place}
+use Rattle.jr_cfg.specs.StepView.{given, steps_in}
+use Rattle.jr_cfg.specs.Routes.{Walked, begins_by, ends_by, exp, exps}
+use Rattle.jr_cfg.specs.Routes as plain
+use Rattle.jr_cfg.specs.StatementRoutes.{Passed, NumberedAll, WalkedSo}
+use Rattle.jr_cfg.specs.StatementRoutes as list
+use Rattle.jr_cfg.specs.MemberRoutes.{FitsArgs, FitsSites, call_place}
+use Rattle.jr_cfg.specs.MemberRoutes as route
+use Rattle.jr_cfg.proofs.Walking.{on_ok_then, row_goes, Seen}
+use Rattle.jr_cfg.proofs.Bodies as body
+use Rattle.jr_cfg.proofs.members.super_args.Goals as goal
+
+pub returns-in-None : goal.returns-in-None
+returns-in-None g c =
+    let T = g.A.Mark.span_from in
+    let F = g.A.Mark.fits_at in
+    let G = given g.F.Facts.decls g.F.Facts.types c.args.here.now in
+    let at = c.args.here.now.start in
+    let old = c.args.out.now.items in
+    let new = c.put_nothing.new.out.items in
+    on_ok_then c.put_nothing.result (λ h. subst (λ (v : _). Walked G (route.super_args T c.args.front at (args_of v)) old new) (sym c.in-None.is) h) (c.put_nothing.ensures G)
+
+pub exprs-requires : goal.exprs-requires
+exprs-requires g c =
+    let T = g.A.Mark.span_from in
+    let F = g.A.Mark.fits_at in
+    let at = c.args.here.now.start in
+    let whole = subst (λ (v : _). FitsArgs T F at (args_of v)) c.in-Some.is c.requires.fits in
+    record { fits = subst (λ (xs : List (Expr g.row.A.Denot)). FitsExps (begins_by T) F at (exprs_of xs)) (sym c.deref.ensures.value) whole }
+
+pub returns-in-Some : goal.returns-in-Some
+returns-in-Some g c =
+    let T = g.A.Mark.span_from in
+    let F = g.A.Mark.fits_at in
+    let G = given g.F.Facts.decls g.F.Facts.types c.args.here.now in
+    let at = c.args.here.now.start in
+    let old = c.args.out.now.items in
+    let new = c.exprs.new.out.items in
+    let f = c.args.front in
+    on_ok_then c.exprs.result (λ h. subst (λ (v : _). Walked G (route.super_args T f at (args_of v)) old new) (sym c.in-Some.is)
+    (subst (λ (X : Type 0). X) (λ i. Walked G (exps T (c.top-path.ensures i) f at (exprs_of (c.deref.ensures.value i))) old new) h)) c.exprs.ensures

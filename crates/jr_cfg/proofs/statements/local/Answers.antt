@@ -1,0 +1,48 @@
+use Rattle.std.proofs.Common.{◌≡◌, ◌+◌, ◌*◌, ◌<◌, ◌≤◌, ℕ, List, [], ◌∷◌, ◌++◌, Option, Some, None, ap, sym, refl, subst, ◌∙◌, drop, suc, append_assoc, arith}
+use Rattle.std.specs.Prelude.{option_map}
+use Rattle.std.specs.Global.{Global}
+use Rattle.std.specs.declared.boxed.Box.{Box}
+use Rattle.std.proofs.lemmas.List.{append-nil}
+use Rattle.jr_text.specs.declared.spans.Span.{Span}
+use Rattle.jr_ast.specs.Tree as tree
+use Rattle.jr_ast.specs.StatementTree as statement
+use Rattle.jr_ast.specs.declared.exprs.Expr.{Expr}
+use Rattle.jr_ast.specs.declared.stmts.Stmt.{Stmt}
+use Rattle.jr_ast.specs.View.{word_of, type_of, expr_of, stmt_of, stmts_of, else_of, stmt_kind, stmt_row, held_else}
+use Rattle.jr_ast.proofs.Rows.{stmt_kind-If, stmt_kind-Block, stmt_kind-Sync}
+use Rattle.jr_ast.proofs.Sizes.{stmt_size, stmts_size, else_size}
+use Rattle.jr_table.specs.Decls.{MemberKey}
+use Rattle.jr_table.specs.Context.{locals_in, locals_in_else, locals_in_row}
+use Rattle.jr_bind_expr.specs.Fits.{FitsExp, FitsMaybe, FitsStmt, FitsElse, FitsStmts}
+use Rattle.jr_cover.specs.Sites as sites
+use Rattle.jr_cfg.specs.declared.statements.Last.{Last}
+use Rattle.jr_cfg.specs.declared.statements.Reached.{Reached}
+use Rattle.jr_cfg.specs.declared.statements.Reached.TheVariants as reached
+use Rattle.jr_cfg.specs.declared.statements.Ending.{Ending}
+use Rattle.jr_cfg.specs.declared.statements.Ending.TheVariants as ending
+use Rattle.jr_cfg.specs.Steps as step
+use Rattle.jr_cfg.specs.Steps.{steps_of}
+use Rattle.jr_cfg.specs.KnownFacts.{Given, Others, place}
+use Rattle.jr_cfg.specs.StepView.{given, steps_in}
+use Rattle.jr_cfg.specs.Routes.{Route, Steps, Walked, begins_by, ends_by, exp}
+use Rattle.jr_cfg.specs.Routes as plain
+use Rattle.jr_cfg.specs.StatementRoutes as route
+use Rattle.jr_cfg.specs.StatementRoutes.{Passed, Leaves, IsLast, IsLastOf, HeadWalked, BranchWalked, endings_steps, ending_steps}
+use Rattle.jr_cfg.proofs.Walking.{on_ok_then, row_goes, walked_as, Seen}
+use Rattle.jr_cfg.proofs.Standing as standing
+use Rattle.jr_cfg.proofs.Limbs as limb
+use Rattle.jr_cfg.proofs.statements.local.Goals as goal
+
+pub operand-requires : goal.operand-requires
+operand-requires g c = record { fits = c.requires.fits }
+
+pub returns : goal.returns
+returns g c =
+    let T = g.A.Mark.span_from in
+    let G = given g.F.Facts.decls g.F.Facts.types c.args.here.now in
+    let path = c.args.path.now.steps.items in
+    let e = expr_of c.args.init.now in
+    let word = c.span-word.result.from in
+    let there : word ≡ (T c.args.name.now.mark c.args.at).from = ap (λ (z : Span). z.from) c.span-word.ensures in
+    on_ok_then c.put_row.result (λ h. subst (λ (k : ℕ). Walked G (route.local T c.args.number path c.args.at k e) c.args.out.now.items c.put_row.new.out.items) there
+    (row_goes G (exp T (path ++ 2 ∷ []) c.args.at e) (plain.done (sites.writes c.args.number) word) c.args.out.now.items c.operand.new.out.items c.put_site.new.out.items c.put_row.new.out.items c.in_ok-operand.ensures (c.in_ok-put_site.ensures G) h)) (c.put_row.ensures G.member)
