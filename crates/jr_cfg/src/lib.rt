@@ -13,6 +13,7 @@
 
 mod aims;
 mod checks;
+mod fields;
 mod here;
 mod puts;
 mod step;
