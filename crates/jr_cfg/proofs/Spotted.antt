@@ -267,8 +267,8 @@ aim_falls (tree.cast m t e) x u is = apart (aim_of (tree.cast m t e)) x u (λ z.
 aim_falls (tree.unary m op e) x u is = apart (aim_of (tree.unary m op e)) x u (λ z. z) is
 aim_falls (tree.bump m op e) x u is = apart (aim_of (tree.bump m op e)) x u (λ z. z) is
 aim_falls (tree.binary m op l r) x u is = apart (aim_of (tree.binary m op l r)) x u (λ z. z) is
-aim_falls (tree.assign m e x) x u is = apart (aim_of (tree.assign m e x)) x u (λ z. z) is
-aim_falls (tree.compound m op e x) x u is = apart (aim_of (tree.compound m op e x)) x u (λ z. z) is
+aim_falls (tree.assign m t e) x u is = apart (aim_of (tree.assign m t e)) x u (λ z. z) is
+aim_falls (tree.compound m op t e) x u is = apart (aim_of (tree.compound m op t e)) x u (λ z. z) is
 
 pub aim_fits : {A : Type 0} (tells : A → ℕ → Span) (F : A → ℕ → Type 0) (base : ℕ) (e x : tree.Exp A) (w : tree.Word A) → aim_of e ≡ dotted x w → FitsExp (begins_by tells) F base e → FitsExp (begins_by tells) F (tells (exp_mark e) base).from x × F w.mark (tells (exp_mark e) base).from
 unfolding FitsExp FitsTarget FitsExps
@@ -290,8 +290,8 @@ aim_fits tells F base (tree.cast m t e) x u is h = apart (aim_of (tree.cast m t 
 aim_fits tells F base (tree.unary m op e) x u is h = apart (aim_of (tree.unary m op e)) x u (λ z. z) is
 aim_fits tells F base (tree.bump m op e) x u is h = apart (aim_of (tree.bump m op e)) x u (λ z. z) is
 aim_fits tells F base (tree.binary m op l r) x u is h = apart (aim_of (tree.binary m op l r)) x u (λ z. z) is
-aim_fits tells F base (tree.assign m e x) x u is h = apart (aim_of (tree.assign m e x)) x u (λ z. z) is
-aim_fits tells F base (tree.compound m op e x) x u is h = apart (aim_of (tree.compound m op e x)) x u (λ z. z) is
+aim_fits tells F base (tree.assign m t e) x u is h = apart (aim_of (tree.assign m t e)) x u (λ z. z) is
+aim_fits tells F base (tree.compound m op t e) x u is h = apart (aim_of (tree.compound m op t e)) x u (λ z. z) is
 
 -- the word of an aim
 abbrev any_word : {A : Type 0} → tree.Word A → Aim A → tree.Word A

@@ -8,12 +8,14 @@
 //! (`specs/KnownFacts`). So a footprint is the same walk, started at a piece.
 //!
 //! `here`: what is known; `puts`: single steps, and what names do; `aims`: what is read, assigned or
-//! bumped; `checks`: what may fail; `targets`; `walk`: expressions; `statements`.
+//! bumped; `checks`: what may fail; `targets`; `walk`: expressions; `statements`; `members`. `fields`:
+//! rows of fields; `placing`: sites as they are handed out; `member_graph`: [`graph`].
 #![tactic(auto)]
 
 mod aims;
 mod checks;
 mod faults;
+mod fields;
 mod here;
 mod member_graph;
 mod members;

@@ -15,12 +15,13 @@ ghost use Rattle.jr_cfg.specs.SiteSteps as pure;
 ghost use Rattle.jr_cfg.specs.Steps.{sites_in};
 ghost use Rattle.jr_cfg.specs.StepView.{given, site_of, step_of, steps_in, what_of};
 
+use crate::fields::field_number;
 use crate::here::Here;
 use crate::step::{Site as Done, Step, What};
 use jr_ast::ModWord;
 use jr_sites::PlacedSite;
 use jr_sync::{Kind, Site};
-use jr_table::{Facts, FieldKey, LocalKey, MemberKey, Mods, Table, Wanted};
+use jr_table::{Facts, FieldKey, LocalKey, MemberKey, Mods, Table};
 use std::alloc::{AllocError, Global};
 
 type OwnSite = Site<FieldKey, LocalKey>;
@@ -30,11 +31,7 @@ fn modifiers<'a>(table: &'a Table, key: &FieldKey) -> Option<&'a Mods>
     ensures { option_map (λ m. m.now) result
         ≡ option_map (λ r. r.modifiers) (row_of table.now (field_key_of key.now)) }
 {
-    table.keeps_rows();
-    let Some(class) = table.class_number(&key.class) else {
-        return None;
-    };
-    let Some(number) = table.own(class, &Wanted::Field(key.name.as_str())) else {
+    let Some(number) = field_number(table, key) else {
         return None;
     };
     match table.rows().get(number as usize) {

@@ -7,8 +7,6 @@ use Rattle.jr_sync.specs.declared.kinds.Kind.TheVariants.{Load, Store, VolatileL
 use Rattle.jr_sync.specs.declared.sites.Site as shown
 use Rattle.jr_table.specs.Decls.{MemberKey}
 use Rattle.jr_table.specs.Keys.{FieldKey}
-use Rattle.jr_table.specs.Looking.{is_field, own_row}
-use Rattle.jr_table.specs.Entries.{number_of, entries_of}
 use Rattle.jr_table.specs.Decls as decls
 use Rattle.jr_table.specs.KeyView.{field_key_of, local_key_of, member_key_of}
 use Rattle.jr_code.specs.RunKeys.{RunKeys}
@@ -25,7 +23,6 @@ use Rattle.jr_cfg.specs.StepView.{given, what_of, step_of, steps_in}
 use Rattle.jr_cfg.specs.StepView as view
 use Rattle.jr_cfg.specs.KnownFacts.{Given}
 use Rattle.jr_cfg.proofs.AccessKinds.{told, loads_by, stores_by, by_final, by_volatile, by_plain}
-use Rattle.jr_cfg.proofs.FieldRows.{no_class, field_found}
 use Rattle.jr_cfg.proofs.StepLaws.{sites_more, one_site, listed}
 use Rattle.jr_cfg.proofs.placing.placed_sites.Goals as goal
 
