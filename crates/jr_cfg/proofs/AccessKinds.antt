@@ -11,7 +11,7 @@ use Rattle.jr_code.specs.RunRows.{kind_of_words, kind_by, is_volatile_word}
 use Rattle.jr_table.specs.Context.{is_final_word}
 use Rattle.jr_table.specs.Keys.{FieldKey}
 use Rattle.jr_table.specs.Rows.{Row}
-use Rattle.jr_cfg.specs.Meanings.{field_kind, row_of}
+use Rattle.jr_expr_sites.specs.Meanings.{field_kind, row_of}
 use Rattle.jr_cfg.specs.Placed.{by_kind}
 
 pub loads_by : (k : FieldKind) → by_kind Load VolatileLoad k ≡ load_kind k

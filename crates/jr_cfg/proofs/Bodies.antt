@@ -16,16 +16,16 @@ use Rattle.jr_cover.specs.Sites as sites
 use Rattle.jr_cover.specs.Spots.{spot_modifiers, spot_maybe, spot_word, spot_args, spot_member, spot_class, spot_members, exps_count}
 use Rattle.jr_cover.specs.Ways as way
 use Rattle.jr_cover.specs.Ways.{Way}
-use Rattle.jr_cfg.specs.Steps.{steps_of}
-use Rattle.jr_cfg.specs.Steps as step
-use Rattle.jr_cfg.specs.StepView.{steps_in}
-use Rattle.jr_cfg.specs.KnownFacts.{Given, Others, known_of, place}
-use Rattle.jr_cfg.specs.Routes.{Route, Steps, Walked, begins_by, ends_by, seq, done, nothing}
+use Rattle.jr_expr_sites.specs.Steps.{steps_of}
+use Rattle.jr_expr_sites.specs.Steps as step
+use Rattle.jr_expr_sites.specs.StepView.{steps_in}
+use Rattle.jr_expr_sites.specs.KnownFacts.{Given, Others, known_of, place}
+use Rattle.jr_expr_sites.specs.Routes.{Route, Steps, Walked, begins_by, ends_by, seq, done, nothing}
 use Rattle.jr_cfg.specs.StatementRoutes.{NumberedAll, WalkedSo}
 use Rattle.jr_cfg.specs.StatementRoutes as list
 use Rattle.jr_cfg.specs.MemberRoutes as route
 use Rattle.jr_cfg.specs.MemberRoutes.{NumbersMember, call_place}
-use Rattle.jr_cfg.proofs.Walking.{Seen, row_goes, three}
+use Rattle.jr_expr_sites.proofs.Walking.{Seen, row_goes, three}
 
 -- ---- modifiers are the same with other marks
 

@@ -16,7 +16,7 @@ use Rattle.jr_sites.specs.declared.sites.SiteGraph.{SiteGraph}
 use Rattle.jr_sites.specs.SiteView.{PlacedSite, placed_of}
 use Rattle.jr_cfg.specs.declared.faults.CfgFault.{CfgFault}
 use Rattle.jr_cfg.specs.Graphs.{IsGraph, IsAnswer, Stands, FollowGraph}
-use Rattle.jr_cfg.specs.KnownFacts.{Given}
+use Rattle.jr_expr_sites.specs.KnownFacts.{Given}
 use Rattle.jr_cfg.specs.Placed.{placed}
 
 site_get : {S : Type 0} (l : List S) (i : ℕ) → slice_get l i ≡ site_at l i

@@ -1,15 +1,7 @@
--- `Walking`: pieces are put behind one another. `Names`: what names do. `Spotted`: expressions as
--- spots have what their trees have. `Arms`: each kind of expression from its parts. `FieldRows`: the
--- row of a field. `Standing`: statements that stand last in others. `Limbs`: each kind of statement
--- from its parts. `Bodies`: each kind of member; `ModifierWords`: its modifiers. `NumberAt`: its
--- locals can be numbered. `StepLaws`: steps have the sites and shapes of their way; `BareWays`: what
--- stands at a site doesn't matter to edges. `AccessKinds`: kinds of accesses. `Following`: runs
--- follow the graph.
-mod Walking
-mod Names
-mod Spotted
-mod Arms
-mod FieldRows
+-- `Standing`: statements that stand last in others. `Limbs`: each kind of statement from its parts.
+-- `Bodies`: each kind of member; `ModifierWords`: its modifiers. `NumberAt`: its locals can be
+-- numbered. `StepLaws`: steps have the sites and shapes of their way; `BareWays`: what stands at a
+-- site doesn't matter to edges. `AccessKinds`: kinds of accesses. `Following`: runs follow the graph.
 mod Standing
 mod Limbs
 mod StepLaws

@@ -21,15 +21,15 @@ use Rattle.jr_cover.specs.Spots.{spot, spot_exp, spot_maybe, spot_stmt, spot_els
 use Rattle.jr_cfg.specs.declared.statements.Last.{Last}
 use Rattle.jr_cfg.specs.declared.statements.Ending.TheVariants as ending
 use Rattle.jr_cfg.specs.declared.statements.Reached.TheVariants as reached
-use Rattle.jr_cfg.specs.Steps.{steps_of, rows}
-use Rattle.jr_cfg.specs.Steps as step
-use Rattle.jr_cfg.specs.StepView.{steps_in}
-use Rattle.jr_cfg.specs.KnownFacts.{Given, Others, place}
+use Rattle.jr_expr_sites.specs.Steps.{steps_of, rows}
+use Rattle.jr_expr_sites.specs.Steps as step
+use Rattle.jr_expr_sites.specs.StepView.{steps_in}
+use Rattle.jr_expr_sites.specs.KnownFacts.{Given, Others, place}
 use Rattle.jr_cfg.specs.Numbering.{NumbersStmt, NumbersElse, NumbersStmts}
-use Rattle.jr_cfg.specs.Routes.{Route, Steps, Walked, begins_by, ends_by, exp, nothing}
+use Rattle.jr_expr_sites.specs.Routes.{Route, Steps, Walked, begins_by, ends_by, exp, nothing}
 use Rattle.jr_cfg.specs.StatementRoutes as route
 use Rattle.jr_cfg.specs.StatementRoutes.{Passed, Numbered, NumberedAll, Leaves, IsLast, IsLastOf, HeadWalked, BranchWalked, ending_steps}
-use Rattle.jr_cfg.proofs.Walking.{Seen, rows_front}
+use Rattle.jr_expr_sites.proofs.Walking.{Seen, rows_front}
 
 -- ---- measures
 

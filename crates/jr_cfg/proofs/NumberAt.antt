@@ -10,9 +10,9 @@ use Rattle.jr_table.specs.Keys.{FieldKey}
 use Rattle.jr_table.specs.Decls.{MemberKey}
 use Rattle.jr_table.specs.Context.{locals_in, locals_in_else, locals_in_row}
 use Rattle.jr_cover.specs.Spots.{Spot, spot, onto}
-use Rattle.jr_cfg.specs.KnownFacts.{Others}
+use Rattle.jr_expr_sites.specs.KnownFacts.{Others}
 use Rattle.jr_cfg.specs.MemberRoutes.{NumbersMember, HasKey, IsKeyOf, method_front, constructor_front, arguments}
-use Rattle.jr_cfg.specs.Routes.{begins_by, ends_by}
+use Rattle.jr_expr_sites.specs.Routes.{begins_by, ends_by}
 use Rattle.jr_cfg.specs.Numbering.{NumbersStmt, NumbersElse, NumbersStmts}
 
 module _ {A : Type 0} where

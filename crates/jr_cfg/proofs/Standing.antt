@@ -12,13 +12,13 @@ use Rattle.jr_cover.specs.Spots.{spot_stmt, spot_else, spot_stmts}
 use Rattle.jr_cfg.specs.Numbering.{NumbersStmt, NumbersElse, NumbersStmts}
 use Rattle.jr_cfg.specs.declared.statements.Ending.{Ending}
 use Rattle.jr_cfg.specs.declared.statements.Last.{Last}
-use Rattle.jr_cfg.specs.Steps.{steps_of}
-use Rattle.jr_cfg.specs.Steps as step
-use Rattle.jr_cfg.specs.StepView.{steps_in}
-use Rattle.jr_cfg.specs.KnownFacts.{Given, Others}
-use Rattle.jr_cfg.specs.Routes.{Route, Steps, Walked, exp}
+use Rattle.jr_expr_sites.specs.Steps.{steps_of}
+use Rattle.jr_expr_sites.specs.Steps as step
+use Rattle.jr_expr_sites.specs.StepView.{steps_in}
+use Rattle.jr_expr_sites.specs.KnownFacts.{Given, Others}
+use Rattle.jr_expr_sites.specs.Routes.{Route, Steps, Walked, exp}
 use Rattle.jr_cfg.specs.StatementRoutes.{ending_steps, onto, endings_steps, Passed, stmt, else_part, Numbered, NumberedElse, Leaves, LeavesLast, IsLastOf, IsLast, branch, BranchWalked}
-use Rattle.jr_cfg.proofs.Walking.{Seen}
+use Rattle.jr_expr_sites.proofs.Walking.{Seen}
 
 -- ---- endings
 

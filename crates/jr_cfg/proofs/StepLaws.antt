@@ -4,15 +4,15 @@ use Rattle.std.proofs.lemmas.List.{length-map, map_more}
 use Rattle.jr_table.specs.Decls.{MemberKey}
 use Rattle.jr_code.specs.RunKeys.{RunKeys}
 use Rattle.jr_cover.specs.Sites.{Site}
-use Rattle.jr_cfg.specs.declared.step.Step as raw_step
-use Rattle.jr_cfg.specs.StepView.{step_of, steps_in}
+use Rattle.jr_expr_sites.specs.declared.step.Step as raw_step
+use Rattle.jr_expr_sites.specs.StepView.{step_of, steps_in}
 use Rattle.jr_cover.specs.Ways as way
 use Rattle.jr_cover.specs.Ways.{Way, sites_of, size}
 use Rattle.jr_way_graph.specs.declared.shapes.Shape.{Shape}
 use Rattle.jr_way_graph.specs.declared.shapes.Shape.TheVariants as shape
 use Rattle.jr_way_graph.specs.Shapes.{shapes_of}
-use Rattle.jr_cfg.specs.Steps.{Step, steps_of, with_site, sites_in, shape_of}
-use Rattle.jr_cfg.specs.Steps as step
+use Rattle.jr_expr_sites.specs.Steps.{Step, steps_of, with_site, sites_in, shape_of}
+use Rattle.jr_expr_sites.specs.Steps as step
 use Rattle.jr_cfg.specs.SiteSteps.{site_in}
 
 module _ {S : Type 0} where

@@ -38,12 +38,12 @@ use Rattle.jr_sites.specs.declared.sites.SiteGraph.{SiteGraph}
 use Rattle.jr_sites.specs.SiteView.{placed_of}
 use Rattle.jr_cfg.specs.declared.faults.CfgFault.{CfgFault}
 use Rattle.jr_cfg.specs.declared.faults.CfgFault.TheVariants as fault
-use Rattle.jr_cfg.specs.KnownFacts.{Given, Others, known_of}
+use Rattle.jr_expr_sites.specs.KnownFacts.{Given, Others, known_of}
 use Rattle.jr_cfg.specs.MemberRoutes.{IsKeyOf, NumbersMember, member}
 use Rattle.jr_cfg.specs.Placed.{placed}
-use Rattle.jr_cfg.specs.Routes.{Steps}
-use Rattle.jr_cfg.specs.Steps.{steps_of}
-use Rattle.jr_cfg.specs.StepView.{steps_in}
+use Rattle.jr_expr_sites.specs.Routes.{Steps}
+use Rattle.jr_expr_sites.specs.Steps.{steps_of}
+use Rattle.jr_expr_sites.specs.StepView.{steps_in}
 
 -- the way's sites in evaluation order, and the edges between their numbers
 pub record IsGraph (g : Given) (w : Way (Site RunKeys)) (of : SiteGraph) : Type 0 where

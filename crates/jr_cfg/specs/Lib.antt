@@ -1,13 +1,7 @@
-pub mod Steps
-pub mod Meanings
-pub mod KnownFacts
 pub mod Numbering
-pub mod StepView
-pub mod Routes
-pub mod Aims
-pub mod StatementRoutes
 pub mod Seen
 pub mod Placed
 pub mod SiteSteps
+pub mod StatementRoutes
 pub mod MemberRoutes
 pub mod Graphs

@@ -15,9 +15,9 @@ use Rattle.jr_cover.specs.MemberTranslation.{is_static}
 use Rattle.jr_cover.specs.Members as members
 use Rattle.jr_cover.specs.Members.{member_way}
 use Rattle.jr_cover.specs.Spots.{spot_member, spot_args, result_count, args_count}
-use Rattle.jr_cfg.specs.KnownFacts.{Given, Others, known_of, place}
+use Rattle.jr_expr_sites.specs.KnownFacts.{Given, Others, known_of, place}
 use Rattle.jr_cfg.specs.Numbering.{NumbersStmts}
-use Rattle.jr_cfg.specs.Routes.{Route, begins_by, ends_by, exp, done, seq, nothing}
+use Rattle.jr_expr_sites.specs.Routes.{Route, begins_by, ends_by, exp, done, seq, nothing}
 use Rattle.jr_cfg.specs.StatementRoutes.{stmts, locked}
 
 -- a field's initializer is stored to the field whose key the member has

@@ -9,8 +9,8 @@ use Rattle.jr_table.specs.Decls.{MemberKey, LocalKey}
 use Rattle.jr_code.specs.RunKeys.{RunKeys}
 use Rattle.jr_cover.specs.Sites.{Site}
 use Rattle.jr_sites.specs.SiteView.{PlacedSite}
-use Rattle.jr_cfg.specs.Meanings.{field_kind}
-use Rattle.jr_cfg.specs.KnownFacts.{Given}
+use Rattle.jr_expr_sites.specs.Meanings.{field_kind}
+use Rattle.jr_expr_sites.specs.KnownFacts.{Given}
 use Rattle.jr_cfg.specs.Seen.{seen}
 
 abbrev pub own_local : MemberKey → ℕ → LocalKey

@@ -1,7 +1,7 @@
 -- The site of a step, if it has one.
 use Rattle.std.specs.Prelude.{Option, Some, None}
-use Rattle.jr_cfg.specs.Steps as step
-use Rattle.jr_cfg.specs.Steps.{Step}
+use Rattle.jr_expr_sites.specs.Steps as step
+use Rattle.jr_expr_sites.specs.Steps.{Step}
 
 abbrev pub site_in : {S : Type 0} → Step S → Option S
 site_in step.pass = None

@@ -16,12 +16,12 @@ use Rattle.jr_cfg.specs.declared.statements.Ending.TheVariants as ending
 use Rattle.jr_cfg.specs.declared.statements.Last.{Last}
 use Rattle.jr_cfg.specs.declared.statements.Reached.{Reached}
 use Rattle.jr_cfg.specs.declared.statements.Reached.TheVariants as reached
-use Rattle.jr_cfg.specs.Steps.{Step, steps_of}
-use Rattle.jr_cfg.specs.Steps as step
-use Rattle.jr_cfg.specs.StepView.{steps_in}
-use Rattle.jr_cfg.specs.KnownFacts.{Given, Others, known_of, place, is_never_null}
+use Rattle.jr_expr_sites.specs.Steps.{Step, steps_of}
+use Rattle.jr_expr_sites.specs.Steps as step
+use Rattle.jr_expr_sites.specs.StepView.{steps_in}
+use Rattle.jr_expr_sites.specs.KnownFacts.{Given, Others, known_of, place, is_never_null}
 use Rattle.jr_cfg.specs.Numbering.{NumbersStmt, NumbersElse, NumbersStmts}
-use Rattle.jr_cfg.specs.Routes.{Route, Steps, Walked, begins_by, ends_by, spots, exp, done, seq, nothing}
+use Rattle.jr_expr_sites.specs.Routes.{Route, Steps, Walked, begins_by, ends_by, spots, exp, done, seq, nothing}
 
 -- what is put behind the statement that stands last in another
 abbrev pub ending_steps : Ending → List (Step (Site RunKeys))

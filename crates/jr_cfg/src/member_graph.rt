@@ -10,15 +10,14 @@ ghost use Rattle.jr_sites.specs.SiteView.{placed_of};
 ghost use Rattle.jr_cfg.specs.Graphs.{HasSteps, IsAnswer, IsGraphOfMember, RunsFollowGraph};
 ghost use Rattle.jr_cfg.specs.MemberRoutes.{FitsSites, HasKey, known};
 ghost use Rattle.jr_cfg.specs.Placed.{placed};
-ghost use Rattle.jr_cfg.specs.StepView.{given, step_of, steps_in};
-ghost use Rattle.jr_cfg.specs.Steps as pure;
+ghost use Rattle.jr_expr_sites.specs.StepView.{given, step_of, steps_in};
+ghost use Rattle.jr_expr_sites.specs.Steps as pure;
 
 use crate::faults::CfgFault;
-use crate::here::Here;
 use crate::members::member as put_member;
 use crate::placing::placed_sites;
-use crate::step::Step;
 use jr_ast::Member;
+use jr_expr_sites::{Here, Step};
 use jr_flow::Graph;
 use jr_sites::SiteGraph;
 use jr_table::{Facts, Table};

@@ -4,18 +4,17 @@ ghost use Rattle.jr_ast.specs.View.{expr_of, stmt_of, stmts_of, else_of};
 ghost use Rattle.jr_table.specs.Context.{locals_in, locals_in_row};
 ghost use Rattle.jr_table.specs.Decls as decls;
 ghost use Rattle.jr_bind_expr.specs.Fits.{FitsExp, FitsMaybe, FitsStmt, FitsElse, FitsStmts};
-ghost use Rattle.jr_cfg.specs.KnownFacts.{Given};
-ghost use Rattle.jr_cfg.specs.Routes.{Walked, begins_by, ends_by};
+ghost use Rattle.jr_expr_sites.specs.KnownFacts.{Given};
+ghost use Rattle.jr_expr_sites.specs.Routes.{Walked, begins_by, ends_by};
 ghost use Rattle.jr_cfg.specs.StatementRoutes as route;
 ghost use Rattle.jr_cfg.specs.StatementRoutes.{Passed};
-ghost use Rattle.jr_cfg.specs.StepView.{given, steps_in};
+ghost use Rattle.jr_expr_sites.specs.StepView.{given, steps_in};
 
-use crate::checks::is_never_null;
-use crate::here::{Here, below};
-use crate::puts::{put, put_nothing, put_row, put_rows, put_site};
-use crate::step::{Site, Step, What};
-use crate::walk::{next, operand};
 use jr_ast::{Expr, Ident, Path, Stmt, StmtKind};
+use jr_expr_sites::{
+    Here, Site, Step, What, below, is_never_null, next, operand, put, put_nothing, put_row,
+    put_rows, put_site,
+};
 use jr_table::Facts;
 use jr_text::Mark;
 use std::alloc::{AllocError, Global};

@@ -27,8 +27,8 @@ use Rattle.jr_sites.specs.declared.sites.SiteGraph.{SiteGraph}
 use Rattle.jr_sites.specs.declared.sites.PlacedSite as raw
 use Rattle.jr_sites.specs.SiteView.{PlacedSite, placed_of, sites_in}
 use Rattle.jr_cfg.specs.Graphs.{IsGraph}
-use Rattle.jr_cfg.specs.KnownFacts.{Given}
-use Rattle.jr_cfg.specs.Meanings.{field_kind, row_of}
+use Rattle.jr_expr_sites.specs.KnownFacts.{Given}
+use Rattle.jr_expr_sites.specs.Meanings.{field_kind, row_of}
 use Rattle.jr_cfg.specs.Placed.{placed, own_local}
 use Rattle.jr_cfg.specs.Seen.{seen}
 use Rattle.jr_effect.specs.Covers.{CoversTrace}

@@ -12,7 +12,7 @@ use Rattle.jr_cover.specs.Ways.{Way}
 use Rattle.jr_sites.specs.declared.sites.SiteGraph.{SiteGraph}
 use Rattle.jr_dependences.specs.declared.dependence.Dependence.{Dependence}
 use Rattle.jr_cfg.specs.Graphs.{IsGraph}
-use Rattle.jr_cfg.specs.KnownFacts.{Given}
+use Rattle.jr_expr_sites.specs.KnownFacts.{Given}
 use Rattle.jr_effect.specs.Covers.{CoversTrace}
 
 abbrev pub CoversMembers : SiteGraph → List Dependence → Type 0

@@ -14,16 +14,16 @@ use Rattle.jr_flow.specs.Edges.{AreBelow}
 use Rattle.jr_way_graph.specs.declared.shapes.Shape.{Shape}
 use Rattle.jr_way_graph.specs.Shapes.{shapes_of}
 use Rattle.jr_sites.specs.SiteView.{placed_of}
-use Rattle.jr_cfg.specs.declared.step.Step as raw_step
+use Rattle.jr_expr_sites.specs.declared.step.Step as raw_step
 use Rattle.jr_cfg.specs.Graphs.{HasSteps, IsAnswer}
 use Rattle.jr_cfg.specs.MemberRoutes.{known}
 use Rattle.jr_cfg.specs.MemberRoutes as route
 use Rattle.jr_cfg.specs.Placed.{placed}
 use Rattle.jr_cfg.specs.SiteSteps.{site_in}
-use Rattle.jr_cfg.specs.Steps.{Step, sites_in, steps_of, shape_of}
-use Rattle.jr_cfg.specs.StepView.{given, step_of, steps_in}
-use Rattle.jr_cfg.specs.StepView as view
-use Rattle.jr_cfg.specs.KnownFacts.{Given, Others}
+use Rattle.jr_expr_sites.specs.Steps.{Step, sites_in, steps_of, shape_of}
+use Rattle.jr_expr_sites.specs.StepView.{given, step_of, steps_in}
+use Rattle.jr_expr_sites.specs.StepView as view
+use Rattle.jr_expr_sites.specs.KnownFacts.{Given, Others}
 use Rattle.jr_cfg.proofs.BareWays.{bare, bare_size, bare_shapes, bare_edges}
 use Rattle.jr_cfg.proofs.Following.{answer_followed}
 use Rattle.jr_cfg.proofs.NumberAt.{has_key, has_others}

@@ -1,7 +1,7 @@
 use Rattle.std.proofs.Common.{◌≡◌, ◌≤◌, length, take}
 use Rattle.jr_table.specs.Decls.{MemberKey}
-use Rattle.jr_cfg.specs.Steps.{sites_in}
-use Rattle.jr_cfg.specs.StepView.{steps_in}
+use Rattle.jr_expr_sites.specs.Steps.{sites_in}
+use Rattle.jr_expr_sites.specs.StepView.{steps_in}
 use Rattle.jr_cfg.proofs.member_graph.count_sites.Given as goal
 
 abbrev pub invariant-loop-step : goal.invariant-loop-step

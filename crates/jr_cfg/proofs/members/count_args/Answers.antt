@@ -17,16 +17,16 @@ use Rattle.jr_bind_expr.specs.Fits.{FitsMaybe, FitsExps, FitsStmts}
 use Rattle.jr_runs.specs.MemberTranslation as locked
 use Rattle.jr_cover.specs.MemberTranslation as shared
 use Rattle.jr_cover.specs.Sites as sites
-use Rattle.jr_cfg.specs.Steps.{steps_of}
-use Rattle.jr_cfg.specs.KnownFacts.{Given, Others, place}
-use Rattle.jr_cfg.specs.StepView.{given, steps_in}
-use Rattle.jr_cfg.specs.Routes.{Walked, begins_by, ends_by, exp, exps}
-use Rattle.jr_cfg.specs.Routes as plain
+use Rattle.jr_expr_sites.specs.Steps.{steps_of}
+use Rattle.jr_expr_sites.specs.KnownFacts.{Given, Others, place}
+use Rattle.jr_expr_sites.specs.StepView.{given, steps_in}
+use Rattle.jr_expr_sites.specs.Routes.{Walked, begins_by, ends_by, exp, exps}
+use Rattle.jr_expr_sites.specs.Routes as plain
 use Rattle.jr_cfg.specs.StatementRoutes.{Passed, NumberedAll, WalkedSo}
 use Rattle.jr_cfg.specs.StatementRoutes as list
 use Rattle.jr_cfg.specs.MemberRoutes.{FitsArgs, FitsSites, call_place}
 use Rattle.jr_cfg.specs.MemberRoutes as route
-use Rattle.jr_cfg.proofs.Walking.{on_ok_then, row_goes, Seen}
+use Rattle.jr_expr_sites.proofs.Walking.{on_ok_then, row_goes, Seen}
 use Rattle.jr_cfg.proofs.Bodies as body
 use Rattle.jr_cfg.proofs.members.count_args.Goals as goal
 

@@ -12,16 +12,16 @@ use Rattle.jr_table.specs.KeyView.{field_key_of, local_key_of, member_key_of}
 use Rattle.jr_code.specs.RunKeys.{RunKeys}
 use Rattle.jr_cover.specs.Sites as sites
 use Rattle.jr_sites.specs.SiteView.{PlacedSite, placed_of, site_of}
-use Rattle.jr_cfg.specs.declared.step.What as raw_what
-use Rattle.jr_cfg.specs.declared.step.Step as raw_step
-use Rattle.jr_cfg.specs.Meanings.{field_kind, row_of}
+use Rattle.jr_expr_sites.specs.declared.step.What as raw_what
+use Rattle.jr_expr_sites.specs.declared.step.Step as raw_step
+use Rattle.jr_expr_sites.specs.Meanings.{field_kind, row_of}
 use Rattle.jr_cfg.specs.Placed.{placed, own_local, by_kind}
 use Rattle.jr_cfg.specs.Seen.{seen}
 use Rattle.jr_cfg.specs.SiteSteps.{site_in}
-use Rattle.jr_cfg.specs.Steps.{Step, sites_in}
-use Rattle.jr_cfg.specs.StepView.{given, what_of, step_of, steps_in}
-use Rattle.jr_cfg.specs.StepView as view
-use Rattle.jr_cfg.specs.KnownFacts.{Given}
+use Rattle.jr_expr_sites.specs.Steps.{Step, sites_in}
+use Rattle.jr_expr_sites.specs.StepView.{given, what_of, step_of, steps_in}
+use Rattle.jr_expr_sites.specs.StepView as view
+use Rattle.jr_expr_sites.specs.KnownFacts.{Given}
 use Rattle.jr_cfg.proofs.AccessKinds.{told, loads_by, stores_by, by_final, by_volatile, by_plain}
 use Rattle.jr_cfg.proofs.StepLaws.{sites_more, one_site, listed}
 use Rattle.jr_cfg.proofs.placing.access_kind.Goals as goal

@@ -2,7 +2,7 @@ use Rattle.std.proofs.Common.{◌+◌, ◌*◌, ◌≤◌, drop}
 use Rattle.jr_ast.specs.View.{stmt_of, stmts_of, else_of}
 use Rattle.jr_ast.proofs.Sizes.{stmt_size, stmts_size, else_size}
 use Rattle.jr_table.specs.Context.{locals_in}
-use Rattle.jr_cfg.specs.StepView.{given}
+use Rattle.jr_expr_sites.specs.StepView.{given}
 use Rattle.jr_cfg.specs.StatementRoutes.{Leaves, Numbered, stmt, endings_steps}
 use Rattle.jr_cfg.proofs.Limbs.{Going}
 use Rattle.jr_cfg.proofs.statements.+stmt_walk.Given as goal

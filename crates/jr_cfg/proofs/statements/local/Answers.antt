@@ -20,15 +20,15 @@ use Rattle.jr_cfg.specs.declared.statements.Reached.{Reached}
 use Rattle.jr_cfg.specs.declared.statements.Reached.TheVariants as reached
 use Rattle.jr_cfg.specs.declared.statements.Ending.{Ending}
 use Rattle.jr_cfg.specs.declared.statements.Ending.TheVariants as ending
-use Rattle.jr_cfg.specs.Steps as step
-use Rattle.jr_cfg.specs.Steps.{steps_of}
-use Rattle.jr_cfg.specs.KnownFacts.{Given, Others, place}
-use Rattle.jr_cfg.specs.StepView.{given, steps_in}
-use Rattle.jr_cfg.specs.Routes.{Route, Steps, Walked, begins_by, ends_by, exp}
-use Rattle.jr_cfg.specs.Routes as plain
+use Rattle.jr_expr_sites.specs.Steps as step
+use Rattle.jr_expr_sites.specs.Steps.{steps_of}
+use Rattle.jr_expr_sites.specs.KnownFacts.{Given, Others, place}
+use Rattle.jr_expr_sites.specs.StepView.{given, steps_in}
+use Rattle.jr_expr_sites.specs.Routes.{Route, Steps, Walked, begins_by, ends_by, exp}
+use Rattle.jr_expr_sites.specs.Routes as plain
 use Rattle.jr_cfg.specs.StatementRoutes as route
 use Rattle.jr_cfg.specs.StatementRoutes.{Passed, Leaves, IsLast, IsLastOf, HeadWalked, BranchWalked, endings_steps, ending_steps}
-use Rattle.jr_cfg.proofs.Walking.{on_ok_then, row_goes, walked_as, Seen}
+use Rattle.jr_expr_sites.proofs.Walking.{on_ok_then, row_goes, walked_as, Seen}
 use Rattle.jr_cfg.proofs.Standing as standing
 use Rattle.jr_cfg.proofs.Limbs as limb
 use Rattle.jr_cfg.proofs.statements.local.Goals as goal
