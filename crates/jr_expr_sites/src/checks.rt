@@ -87,7 +87,8 @@ pub(crate) fn null_check<'a, F: Facts, A: Mark>(
 ) -> Result<(), AllocError>
     requires fits { FitsExp (begins_by A.span_from) A.fits_at base (expr_of of.now) }
     ensures { (path : List ℕ) → OnOk result (Walked (given F.decls F.types here.now)
-        (route.null_check A.span_from path base (expr_of of.now) word) out.old.items out.new.items) }
+        (route.null_check A.span_from path base (expr_of of.now) word)
+        out.old.items out.new.items) }
 {
     let is_class = is_class_name(here, base, of);
     let is_there = is_never_null(here, base, of);

@@ -2,7 +2,7 @@ use Rattle.std.proofs.Common.{◌≡◌, refl, sym, ap, ◌∙◌}
 use Rattle.jr_table.specs.KeyView.{field_key_of}
 use Rattle.jr_cover.specs.Sites as sites
 use Rattle.jr_expr_sites.specs.Meanings as pure
-use Rattle.jr_expr_sites.specs.KnownFacts.{Given, Others, meaning_at, place}
+use Rattle.jr_expr_sites.specs.KnownFacts.{meaning_at, place}
 use Rattle.jr_expr_sites.specs.StepView.{given, meaning_view}
 use Rattle.jr_expr_sites.proofs.Walking.{on_ok_then}
 use Rattle.jr_expr_sites.proofs.Names.{via, field_is}
