@@ -6,6 +6,7 @@ use Rattle.jr_ast.specs.Tree as tree
 use Rattle.jr_ast.specs.StatementTree as statement
 use Rattle.jr_ast.specs.MemberTree as declared
 use Rattle.jr_ast.specs.declared.exprs.Expr.{Expr}
+use Rattle.jr_ast.specs.Marks.{member_mark}
 use Rattle.jr_ast.specs.View.{exprs_of}
 use Rattle.jr_table.specs.Keys.{FieldKey}
 use Rattle.jr_code.specs.RunKeys.{RunKeys}
@@ -160,3 +161,10 @@ module _ {A : Type 0} (tells : A → ℕ → Span) (mods : List (declared.Modifi
 
   pub constructor_front_is : (ps : List (declared.Param A)) (n k : ℕ) → n ≡ length mods → k ≡ length ps → 1 + n + k ≡ route.constructor_front tells mods ps
   constructor_front_is ps n k b c = omega (arith, b, c)
+
+-- the place of a member fits
+pub sites_fit : {A : Type 0} (tells : A → ℕ → Span) (F : A → ℕ → Type 0) (base : ℕ) (m : declared.Member A) → route.FitsSites tells F base m → F (member_mark m) base
+sites_fit tells F base (declared.field m mods t w init) h = h.0
+sites_fit tells F base (declared.method m mods t w ps body) h = h.0
+sites_fit tells F base (declared.constructor m mods w ps args body) h = h.0
+sites_fit tells F base (declared.inner m c) h = h

@@ -10,9 +10,13 @@ use Rattle.jr_table.specs.Keys.{FieldKey}
 use Rattle.jr_table.specs.Decls.{MemberKey}
 use Rattle.jr_table.specs.Context.{locals_in, locals_in_else, locals_in_row}
 use Rattle.jr_cover.specs.Spots.{Spot, spot, onto}
-use Rattle.jr_expr_sites.specs.KnownFacts.{Others}
-use Rattle.jr_cfg.specs.MemberRoutes.{NumbersMember, HasKey, IsKeyOf, method_front, constructor_front, arguments}
-use Rattle.jr_expr_sites.specs.Routes.{begins_by, ends_by}
+use Rattle.jr_expr_sites.specs.KnownFacts.{Given, Others}
+use Rattle.jr_expr_sites.specs.Steps.{steps_of}
+use Rattle.jr_expr_sites.specs.StepView.{steps_in}
+use Rattle.jr_cfg.specs.Graphs.{HasSteps}
+use Rattle.jr_cfg.specs.StatementRoutes.{WalkedSo}
+use Rattle.jr_cfg.specs.MemberRoutes.{NumbersMember, HasKey, IsKeyOf, member, method_front, constructor_front, arguments}
+use Rattle.jr_expr_sites.specs.Routes.{Steps, begins_by, ends_by}
 use Rattle.jr_cfg.specs.Numbering.{NumbersStmt, NumbersElse, NumbersStmts}
 
 module _ {A : Type 0} where
@@ -47,8 +51,9 @@ module _ {A : Type 0} (begins ends : A → ℕ → ℕ) (number : Spot → ℕ) 
   further path k f g told same s q is = told s (k ∷ q) (is ∙ append_assoc path (k ∷ []) q) ∙ same q
 
   mutual
-    pub numbers_stmt : (n : ℕ) (s : statement.Stmt A) (base : ℕ) (path : List ℕ) → Tells path (at_stmt n s) → NumbersStmt begins ends number n s base path
     unfolding at_stmt at_else at_stmts NumbersStmt NumbersElse NumbersStmts
+
+    pub numbers_stmt : (n : ℕ) (s : statement.Stmt A) (base : ℕ) (path : List ℕ) → Tells path (at_stmt n s) → NumbersStmt begins ends number n s base path
     numbers_stmt n (statement.local m f t w e) base path told = told (spot begins ends w.mark (begins m base) (onto path 1)) (1 ∷ []) refl
     numbers_stmt n (statement.eval m e) base path told = tt
     numbers_stmt n (statement.branch m e s other) base path told = (
@@ -62,12 +67,10 @@ module _ {A : Type 0} (begins ends : A → ℕ → ℕ) (number : Spot → ℕ) 
     numbers_stmt n (statement.empty m) base path told = tt
 
     pub numbers_else : (n : ℕ) (s : statement.Else A) (base : ℕ) (path : List ℕ) → Tells path (at_else n s) → NumbersElse begins ends number n s base path
-    unfolding at_stmt at_else at_stmts NumbersStmt NumbersElse NumbersStmts
     numbers_else n statement.no_else base path told = tt
     numbers_else n (statement.otherwise s) base path told = numbers_stmt n s base path told
 
     pub numbers_stmts : (n : ℕ) (ss : statement.Stmts A) (base : ℕ) (path : List ℕ) (i : ℕ) → ((s : Spot) (k : ℕ) (q : List ℕ) → i ≤ k → s.path ≡ path ++ k ∷ q → number s ≡ at_stmts n ss i (k ∷ q)) → NumbersStmts begins ends number n ss base path i
-    unfolding at_stmt at_else at_stmts NumbersStmt NumbersElse NumbersStmts
     numbers_stmts n statement.end base path i told = tt
     numbers_stmts n (statement.more s ss) base path i told = (
       numbers_stmt n s base (onto path i) (λ z q is. told z i q (omega arith) (is ∙ append_assoc path (i ∷ []) q) ∙ ap (λ b. cond b (at_stmt n s q) (at_stmts (n + locals_in s) ss (suc i) (i ∷ q))) (eq-eqb i i refl)),
@@ -77,7 +80,7 @@ module _ {A : Type 0} (begins ends : A → ℕ → ℕ) (number : Spot → ℕ) 
 -- ---- of a member
 
 module _ {A : Type 0} (tells : A → ℕ → Span) where
-  others : (Spot → ℕ) → Others
+  abbrev others : (Spot → ℕ) → Others
   others number = record { called = λ s. None; created = λ s. None; class = λ s. None; number = number }
 
   list_numbers : (n : ℕ) (ss : statement.Stmts A) (base i : ℕ) → NumbersStmts (begins_by tells) (ends_by tells) (λ s. at_stmts n ss i s.path) n ss base [] i
@@ -98,3 +101,13 @@ has_key key (declared.field m mods t w init) h = h
 has_key key (declared.method m mods t w ps body) h = (some_key, tt)
 has_key key (declared.constructor m mods w ps args body) h = (some_key, tt)
 has_key key (declared.inner m c) h = (some_key, tt)
+
+-- what is written for a member is the steps of a way
+pub has_steps : {A : Type 0} (tells : A → ℕ → Span) (super_at base : ℕ) (m : declared.Member A) (g : Given) → HasKey g.member m → (old new : Steps) → old ≡ []
+    → ((k : FieldKey) → IsKeyOf g.member k m → WalkedSo g (NumbersMember tells base m) (member tells super_at base k m) old new) → HasSteps g new
+has_steps tells super_at base m g key old new none walked =
+    let k = has_key g.member m key in
+    let o = has_others tells base m in (
+      member tells super_at base k.0 m g o.0,
+      walked k.0 k.1 o.0 o.1 ∙ ap (λ (l : Steps). steps_in g.member l ++ steps_of (member tells super_at base k.0 m g o.0)) none,
+    )

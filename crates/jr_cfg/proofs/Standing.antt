@@ -96,7 +96,7 @@ module _ {A : Type 0} (tells : A → ℕ → Span) (F : A → ℕ → Type 0) (g
 
   pub yes_left : (old one : Steps) → Walked g (exp tells (path ++ 0 ∷ []) at e) old one → FitsStmt (λ m b. (tells m b).from) F at x
       → IsLastOf tells x x statement.no_else × Leaves tells F g (n + locals_in x + locals_in_else {A = A} statement.no_else) (Branching statement.no_else) (branch tells path at e x statement.no_else) x n (path ++ 1 ∷ []) at (step.pass ∷ step.fork ∷ step.row ∷ []) old one
-  unfolding locals_in locals_in_else locals_in_row
+  unfolding locals_in locals_in_else locals_in_row spot_stmt spot_else spot_stmts NumbersStmt NumbersElse NumbersStmts
   yes_left old one test fits = (
     refl,
     record {
@@ -129,3 +129,9 @@ module _ {A : Type 0} (tells : A → ℕ → Span) (F : A → ℕ → Type 0) (g
           ap (λ (l : Seen). l ++ (t ++ (step.fork ∷ step.row ∷ []))) (p.walked o h.0 ∙ ap (λ (l : Seen). l ++ s) (test o)) ∙ no_steps (steps_in g.member old) c s t;
     },
   )
+
+-- ---- endings are put
+
+pub no_items : {X : Type 0} (xs : List X) → length xs ≡ 0 → xs ≡ []
+no_items [] e = refl
+no_items (x ∷ xs) e = absurd (omega (arith, e))

@@ -8,6 +8,7 @@ ghost use Rattle.jr_expr_sites.specs.KnownFacts.{Given};
 ghost use Rattle.jr_expr_sites.specs.Routes.{Walked, begins_by, ends_by};
 ghost use Rattle.jr_cfg.specs.StatementRoutes as route;
 ghost use Rattle.jr_cfg.specs.StatementRoutes.{Passed};
+ghost use Rattle.jr_cfg.specs.declared.statements.Ending.TheVariants as endings;
 ghost use Rattle.jr_expr_sites.specs.StepView.{given, steps_in};
 
 use jr_ast::{Expr, Ident, Path, Stmt, StmtKind};
@@ -49,6 +50,14 @@ pub(crate) enum Reached<'b, A> {
     To(Last<'b, A>),
 }
 
+fn put_fork<'a>(out: &mut Vec<Step<'a>>) -> Result<(), AllocError>
+    ensures { (key : decls.MemberKey) → OnOk result (steps_in key out.new.items
+        ≡ steps_in key out.old.items ++ route.ending_steps endings.No) }
+{
+    put(Step::Fork, out)?;
+    put(Step::Row, out)
+}
+
 fn put_ending<'a>(ending: Ending, out: &mut Vec<Step<'a>>) -> Result<(), AllocError>
     ensures { (key : decls.MemberKey) → OnOk result (steps_in key out.new.items
         ≡ steps_in key out.old.items ++ route.ending_steps ending) }
@@ -56,13 +65,9 @@ fn put_ending<'a>(ending: Ending, out: &mut Vec<Step<'a>>) -> Result<(), AllocEr
     match ending {
         Ending::Yes => {
             put(Step::Pass, out)?;
-            put(Step::Fork, out)?;
-            put(Step::Row, out)
+            put_fork(out)
         }
-        Ending::No => {
-            put(Step::Fork, out)?;
-            put(Step::Row, out)
-        }
+        Ending::No => put_fork(out),
         Ending::Turn => put(Step::Turns, out),
     }
 }
@@ -336,7 +341,8 @@ pub(crate) fn stmt<'a, F: Facts, A: Mark>(
     let mut number = number;
     let mut of = of;
     loop {
-        match head(alloc, here, &place, base, number, of, out)? {
+        let reached = head(alloc, here, &place, base, number, of, out)?;
+        match reached {
             Reached::Behind(number) => {
                 put_endings(endings, out)?;
                 return Ok(number);

@@ -1,9 +1,11 @@
 use Rattle.std.proofs.Common.{◌≡◌, ◌≤◌, ◌<◌, ◌+◌, ◌-◌, ℕ, suc, List, [], ◌∷◌, ◌++◌, length, map, take, get_or, Bool, true, false, Option, Some, None, ap, sym, refl, subst, ◌∙◌, arith}
-use Rattle.std.specs.Prelude.{option_map, is_some}
+use Rattle.std.specs.Prelude.{option_map, is_some, IsTrue}
 use Rattle.std.proofs.lemmas.List.{append-nil, map-append, map_more, take_all, length-map}
 use Rattle.std.proofs.lemmas.Result.{IfOk-weaker}
 use Rattle.jr_ast.specs.View.{member_of}
+use Rattle.jr_ast.specs.Marks.{member_mark}
 use Rattle.jr_ast.proofs.Rows.{member_mark_is}
+use Rattle.jr_table.specs.KeyView.{member_key_of}
 use Rattle.jr_text.specs.declared.spans.Span.{Span}
 use Rattle.jr_table.specs.Decls.{MemberKey}
 use Rattle.jr_code.specs.RunKeys.{RunKeys}
@@ -23,10 +25,12 @@ use Rattle.jr_cfg.specs.SiteSteps.{site_in}
 use Rattle.jr_expr_sites.specs.Steps.{Step, sites_in, steps_of, shape_of}
 use Rattle.jr_expr_sites.specs.StepView.{given, step_of, steps_in}
 use Rattle.jr_expr_sites.specs.StepView as view
-use Rattle.jr_expr_sites.specs.KnownFacts.{Given, Others}
+use Rattle.jr_expr_sites.specs.KnownFacts.{Given, Others, known_of}
+use Rattle.jr_expr_sites.specs.Routes.{begins_by}
+use Rattle.jr_cfg.proofs.Bodies.{sites_fit}
 use Rattle.jr_cfg.proofs.BareWays.{bare, bare_size, bare_shapes, bare_edges}
 use Rattle.jr_cfg.proofs.Following.{answer_followed}
-use Rattle.jr_cfg.proofs.NumberAt.{has_key, has_others}
+use Rattle.jr_cfg.proofs.NumberAt.{has_steps}
 use Rattle.jr_cfg.proofs.StepLaws.{sites_append, one_site, listed, sites_of_steps, shapes_of_steps, steps_size}
 use Rattle.jr_cfg.proofs.StepLaws as step_law
 use Rattle.jr_cfg.proofs.member_graph.count_sites.Goals as goal
@@ -37,7 +41,7 @@ loop-step-init c = record { few = omega arith; counted = λ key. refl }
 pub overflow_add-count : goal.overflow_add-count
 overflow_add-count c =
     let n = c.loop-step.invariant.few in
-    let more = c.sites_at.ensures.few in
+    let more = c.sites_at-count.ensures.few in
     let all = c.requires in
     let lt = c.loop-step-test.true in
     omega (arith, n, more, all, lt)
@@ -45,10 +49,10 @@ overflow_add-count c =
 pub loop-step-preserved : goal.loop-step-preserved
 loop-step-preserved c =
     let n = c.loop-step.invariant.few in
-    let more = c.sites_at.ensures.few in
+    let more = c.sites_at-count.ensures.few in
     record {
       few = omega (arith, n, more);
-      counted = λ key. step_law.count_more key c.args.steps.now c.loop-step.step-index c.step-item.result c.loop-step-test.true c.step-item.is c.loop-step.count c.sites_at.result (c.loop-step.invariant.counted key) (c.sites_at.ensures.is key);
+      counted = λ key. step_law.count_more key c.args.steps.now c.loop-step.step-index c.step-item.result c.loop-step-test.true c.step-item.is c.loop-step.count c.sites_at-count.result (c.loop-step.invariant.counted key) (c.sites_at-count.ensures.is key);
     }
 
 pub returns : goal.returns

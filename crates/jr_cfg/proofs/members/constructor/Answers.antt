@@ -50,7 +50,7 @@ returns g c =
     let args = args_of c.args.args.now in
     let f = c.in_ok-front.front in
     let step : f.step ≡ route.constructor_front T (map modifier_of mods) (map param_of ps) =
-    c.in_ok-front.ensures.step ∙ body.constructor_front_is T (map modifier_of mods) (map param_of ps) c.len.result c.len-2.result (c.len.ensures ∙ sym (length-map mods modifier_of)) (c.len-2.ensures ∙ sym (length-map ps param_of)) in
-    let number : f.number ≡ length ps = c.in_ok-front.ensures.number ∙ c.len-2.ensures in
+    c.in_ok-front.ensures.step ∙ body.constructor_front_is T (map modifier_of mods) (map param_of ps) (length mods) (length ps) (sym (length-map mods modifier_of)) (sym (length-map ps param_of)) in
+    let number : f.number ≡ length ps = c.in_ok-front.ensures.number in
     let called : c.called_at-called.result ≡ call_place args c.args.super_at (begins_by T c.args.name.now.mark at) = c.called_at-called.ensures ∙ ap (λ (z : Span). call_place args c.args.super_at z.from) c.span.ensures in
     on_ok_then c.called_body.result (λ h. subst (λ (X : Type 0). X) (λ i. WalkedSo G (NumberedAll T (number i) [] (step i + route.arguments T args) at b) (route.constructor T (step i) at (called i) args b) old new) h) c.called_body.ensures

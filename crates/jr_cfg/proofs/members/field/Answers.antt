@@ -60,7 +60,6 @@ returns-in_ok-step-in-Some g c k is =
     let word = begins_by T c.args.name.now.mark at in
     let mods = c.args.modifiers.now in
     let e = expr_of c.in-Some.init in
-    let count : c.len.result ≡ length (map modifier_of mods) = c.len.ensures ∙ sym (length-map mods modifier_of) in
-    let step : c.in_ok-step-in-Some.step ≡ suc (suc (length (map modifier_of mods))) = c.in_ok-step-in-Some.ensures ∙ body.behind_two c.len.result (length (map modifier_of mods)) count in
+    let step : c.in_ok-step-in-Some.step ≡ suc (suc (length (map modifier_of mods))) = c.in_ok-step-in-Some.ensures ∙ body.behind_two (length mods) (length (map modifier_of mods)) (sym (length-map mods modifier_of)) in
     on_ok_then c.initializer.result (λ h. subst (λ (v : Option (Expr g.row.A.Denot)). Walked G (route.field T (map modifier_of mods) at word k (option_map expr_of v)) old new) (sym c.in-Some.is)
     (subst (λ (X : Type 0). X) (λ i. Walked G (route.initializer T (c.is_static.ensures i) (step i) at word k e) old new) h)) (c.initializer.ensures k is)

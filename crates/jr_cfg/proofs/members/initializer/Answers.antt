@@ -72,5 +72,5 @@ returns-in-Head g c k is = let e : decls.head (class_key_of c.in-Head.field-0) �
 pub returns-in-Method : goal.returns-in-Method
 returns-in-Method g c k is = let e = sym (ap member_key_of c.in-Method.is) ∙ is in absurd cc
 
-pub returns-in-Ctor : goal.returns-in-Ctor
-returns-in-Ctor g c k is = let e = sym (ap member_key_of c.in-Ctor.is) ∙ is in absurd cc
+pub returns : goal.returns
+returns g c k is = let e = sym (ap member_key_of c.in-Ctor.is) ∙ is in absurd cc

@@ -41,7 +41,7 @@ field-requires g c =
     let base = c.args.base in
     let m = c.args.member.now.mark in
     let start = c.requires.start in
-    let whole : member_of c.args.member.now ≡ declared.field m (map modifier_of c.in-Field.modifiers.items) (type_of c.in-Field.field-ty) (word_of c.in-Field.name) (option_map expr_of c.in-Field.init) = ap (member_kind m) c.in-Field.is in
+    let whole : member_of c.args.member.now ≡ declared.field m (map modifier_of c.in-Field.modifiers.items) (type_of c.in-Field.ty) (word_of c.in-Field.name) (option_map expr_of c.in-Field.init) = ap (member_kind m) c.in-Field.is in
     let f = subst (λ (x : declared.Member g.row.A.Denot). FitsSites T F base x) whole c.requires.fits in
     record {
       fits = subst (λ (n : ℕ). FitsMaybe (begins_by T) F n (option_map expr_of c.in-Field.init)) (sym start) f.2;
@@ -113,10 +113,10 @@ returns-in-Field g c k is =
     let base = c.args.base in
     let m = c.args.member.now.mark in
     let start = c.requires.start in
-    let whole : member_of c.args.member.now ≡ declared.field m (map modifier_of c.in-Field.modifiers.items) (type_of c.in-Field.field-ty) (word_of c.in-Field.name) (option_map expr_of c.in-Field.init) = ap (member_kind m) c.in-Field.is in
+    let whole : member_of c.args.member.now ≡ declared.field m (map modifier_of c.in-Field.modifiers.items) (type_of c.in-Field.ty) (word_of c.in-Field.name) (option_map expr_of c.in-Field.init) = ap (member_kind m) c.in-Field.is in
     let new = c.field.new.out.items in
     on_ok_then c.field.result (λ h. subst (λ (x : declared.Member g.row.A.Denot). WalkedSo G (route.NumbersMember T base x) (route.member T c.args.super_at base k x) old new) (sym whole)
-    (body.field_gives T G c.args.super_at base k old new m at start (map modifier_of c.in-Field.modifiers.items) (type_of c.in-Field.field-ty) (word_of c.in-Field.name) (option_map expr_of c.in-Field.init)
+    (body.field_gives T G c.args.super_at base k old new m at start (map modifier_of c.in-Field.modifiers.items) (type_of c.in-Field.ty) (word_of c.in-Field.name) (option_map expr_of c.in-Field.init)
     (subst (λ (xs : List (Modifier g.row.A.Denot)). Walked G (route.field T (map modifier_of xs) at (begins_by T c.in-Field.name.mark at) k (option_map expr_of c.in-Field.init)) old new) c.deref.ensures.value h))) (c.field.ensures k (subst (λ (x : declared.Member g.row.A.Denot). route.IsKeyOf G.member k x) whole is))
 
 pub returns-in-Method : goal.returns-in-Method

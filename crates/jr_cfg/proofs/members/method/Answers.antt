@@ -33,8 +33,8 @@ use Rattle.jr_cfg.proofs.members.method.Goals as goal
 pub locked_body-requires : goal.locked_body-requires
 locked_body-requires g c = record { fits = c.requires.fits }
 
-pub span-word-span-requires : goal.span-word-span-requires
-span-word-span-requires g c = c.requires.fits_name
+pub span-word-requires : goal.span-word-requires
+span-word-requires g c = c.requires.fits_name
 
 pub returns : goal.returns
 returns g c =
@@ -50,7 +50,7 @@ returns g c =
     let t = option_map type_of c.args.result_type.now in
     let f = c.in_ok-front.front in
     let step : f.step ≡ route.method_front T (map modifier_of mods) t (map param_of ps) =
-    c.in_ok-front.ensures.step ∙ body.method_front_is T (map modifier_of mods) t (map param_of ps) c.words_of.result c.len.result c.len-2.result c.words_of.ensures (c.len.ensures ∙ sym (length-map mods modifier_of)) (c.len-2.ensures ∙ sym (length-map ps param_of)) in
-    let number : f.number ≡ length ps = c.in_ok-front.ensures.number ∙ c.len-2.ensures in
+    c.in_ok-front.ensures.step ∙ body.method_front_is T (map modifier_of mods) t (map param_of ps) c.words_of.result (length mods) (length ps) c.words_of.ensures (sym (length-map mods modifier_of)) (sym (length-map ps param_of)) in
+    let number : f.number ≡ length ps = c.in_ok-front.ensures.number in
     let word = ap (λ (z : Span). z.from) c.span-word.ensures in
     on_ok_then c.locked_body.result (λ h. subst (λ (X : Type 0). X) (λ i. WalkedSo G (NumberedAll T (number i) [] (step i) at b) (route.method T (c.is_synchronized-is_locked.ensures i) (step i) at (word i) c.args.last b) old new) h) c.locked_body.ensures

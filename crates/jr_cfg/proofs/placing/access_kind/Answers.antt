@@ -4,7 +4,7 @@ use Rattle.std.proofs.lemmas.List.{append-nil, map-append, map_more, take_all}
 use Rattle.std.proofs.lemmas.Result.{IfOk-weaker}
 use Rattle.jr_ast.specs.declared.operators.ModWord.{ModWord}
 use Rattle.jr_sync.specs.declared.kinds.Kind.TheVariants.{Load, Store, VolatileLoad, VolatileStore, Still}
-use Rattle.jr_sync.specs.declared.sites.Site as shown
+use Rattle.jr_sync.specs.declared.sites.Site.TheVariants as shown
 use Rattle.jr_table.specs.Decls.{MemberKey}
 use Rattle.jr_table.specs.Keys.{FieldKey}
 use Rattle.jr_table.specs.Decls as decls
@@ -33,24 +33,24 @@ returns-in-None c =
     let is = sym (ap (option_map (λ m. m.now)) c.in-None.is) ∙ c.modifiers.ensures in
     told rows k None is c.args.plain c.args.volatile c.args.plain refl
 
-pub returns-then-is_final-in-Some : goal.returns-then-is_final-in-Some
-returns-then-is_final-in-Some c =
+pub returns-then-is_final : goal.returns-then-is_final
+returns-then-is_final c =
     let rows = c.args.table.now in
     let k = field_key_of c.args.key.now in
     let ws = c.in-Some.words.now in
     let is = sym (ap (option_map (λ m. m.now)) c.in-Some.is) ∙ c.modifiers.ensures in
     told rows k (Some ws) is c.args.plain c.args.volatile Still (by_final c.args.plain c.args.volatile ws (sym c.is_final.ensures ∙ c.if-is_final.true))
 
-pub returns-then-is_volatile-in-Some : goal.returns-then-is_volatile-in-Some
-returns-then-is_volatile-in-Some c =
+pub returns-then-is_volatile : goal.returns-then-is_volatile
+returns-then-is_volatile c =
     let rows = c.args.table.now in
     let k = field_key_of c.args.key.now in
     let ws = c.in-Some.words.now in
     let is = sym (ap (option_map (λ m. m.now)) c.in-Some.is) ∙ c.modifiers.ensures in
     told rows k (Some ws) is c.args.plain c.args.volatile c.args.volatile (by_volatile c.args.plain c.args.volatile ws (sym c.is_final.ensures ∙ c.if-is_final.false) (sym c.is_volatile.ensures ∙ c.if-is_volatile.true))
 
-pub returns-in-Some : goal.returns-in-Some
-returns-in-Some c =
+pub returns-else-is_volatile : goal.returns-else-is_volatile
+returns-else-is_volatile c =
     let rows = c.args.table.now in
     let k = field_key_of c.args.key.now in
     let ws = c.in-Some.words.now in

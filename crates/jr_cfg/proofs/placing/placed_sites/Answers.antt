@@ -4,7 +4,7 @@ use Rattle.std.proofs.lemmas.List.{append-nil, map-append, map_more, take_all}
 use Rattle.std.proofs.lemmas.Result.{IfOk-weaker}
 use Rattle.jr_ast.specs.declared.operators.ModWord.{ModWord}
 use Rattle.jr_sync.specs.declared.kinds.Kind.TheVariants.{Load, Store, VolatileLoad, VolatileStore, Still}
-use Rattle.jr_sync.specs.declared.sites.Site as shown
+use Rattle.jr_sync.specs.declared.sites.Site.TheVariants as shown
 use Rattle.jr_table.specs.Decls.{MemberKey}
 use Rattle.jr_table.specs.Keys.{FieldKey}
 use Rattle.jr_table.specs.Decls as decls

@@ -344,12 +344,12 @@ sync-returns g t c =
 
 pub stmt-head-requires : goal.stmt-head-requires
 stmt-head-requires g t c =
-    let l = c.loop-place in
+    let l = c.loop-endings in
     let s = l.invariant.size in
     λ κs o. (omega (arith, s, c.decreases), (o.0, (o.1, l.invariant.left.fits)))
 
-pub stmt-loop-place-init : goal.stmt-loop-place-init
-stmt-loop-place-init g t c =
+pub stmt-loop-endings-init : goal.stmt-loop-endings-init
+stmt-loop-endings-init g t c =
     let T = g.A.Mark.span_from in
     let F = g.A.Mark.fits_at in
     let G = given g.F.Facts.decls g.F.Facts.types c.args.here.now in
@@ -366,29 +366,29 @@ stmt-loop-place-init g t c =
           (subst (λ (q : List ℕ). Leaves T F G (n + locals_in x) (route.Numbered T n path base x) (route.stmt T path base x) x n q base [] old old) (sym same) (standing.leaves_all T F G n path base x old c.requires.fits));
     }
 
-pub stmt-loop-place-smaller : goal.stmt-loop-place-smaller
-stmt-loop-place-smaller g t c =
+pub stmt-loop-endings-smaller : goal.stmt-loop-endings-smaller
+stmt-loop-endings-smaller g t c =
     let T = g.A.Mark.span_from in
     let F = g.A.Mark.fits_at in
     let G = given g.F.Facts.decls g.F.Facts.types c.args.here.now in
     let path = c.args.path.now.steps.items in
-    let l = c.loop-place in
-    let p = subst (λ (r : Reached g.row.A.Denot). HeadWalked T F G l.number l.place.steps.items l.base (stmt_of l.of.now) r l.out.items c.head.new.out.items) c.in-To.is c.in_ok-head.ensures in
+    let l = c.loop-endings in
+    let p = subst (λ (r : Reached g.row.A.Denot). HeadWalked T F G l.number l.place.steps.items l.base (stmt_of l.of.now) r l.out.items c.head.new.out.items) c.in-To.is c.in_ok-reached.ensures in
     standing.last_smaller T (stmt_of c.in-To.last.of.now) (stmt_of l.of.now) p.0
 
-pub stmt-loop-place-preserved : goal.stmt-loop-place-preserved
-stmt-loop-place-preserved g t c =
+pub stmt-loop-endings-preserved : goal.stmt-loop-endings-preserved
+stmt-loop-endings-preserved g t c =
     let T = g.A.Mark.span_from in
     let F = g.A.Mark.fits_at in
     let G = given g.F.Facts.decls g.F.Facts.types c.args.here.now in
     let path = c.args.path.now.steps.items in
-    let l = c.loop-place in
+    let l = c.loop-endings in
     let x = stmt_of c.args.of.now in
     let n = c.args.number in
     let base = c.args.base in
     let old = c.args.out.now.items in
     let to = c.in-To.last in
-    let p = subst (λ (r : Reached g.row.A.Denot). HeadWalked T F G l.number l.place.steps.items l.base (stmt_of l.of.now) r l.out.items c.head.new.out.items) c.in-To.is c.in_ok-head.ensures in
+    let p = subst (λ (r : Reached g.row.A.Denot). HeadWalked T F G l.number l.place.steps.items l.base (stmt_of l.of.now) r l.out.items c.head.new.out.items) c.in-To.is c.in_ok-reached.ensures in
     let s = standing.last_smaller T (stmt_of to.of.now) (stmt_of l.of.now) p.0 in
     let fits = l.invariant.size in
     record {
@@ -397,18 +397,18 @@ stmt-loop-place-preserved g t c =
           to c.head.new.out.items (endings_steps c.push-2.new.self.items) c.push.new.self.items (standing.one_ending l.endings.items c.push-2.new.self.items to.ending c.in_ok-push-2-in-To.ensures.items) c.in_ok-push-in-To.ensures.items p.1;
     }
 
-pub stmt-returns-in_ok-put_endings-in-Behind : goal.stmt-returns-in_ok-put_endings-in-Behind
-stmt-returns-in_ok-put_endings-in-Behind g t c =
+pub stmt-returns-in-Behind : goal.stmt-returns-in-Behind
+stmt-returns-in-Behind g t c =
     let T = g.A.Mark.span_from in
     let F = g.A.Mark.fits_at in
     let G = given g.F.Facts.decls g.F.Facts.types c.args.here.now in
     let path = c.args.path.now.steps.items in
-    let l = c.loop-place in
+    let l = c.loop-endings in
     let x = stmt_of c.args.of.now in
     let n = c.args.number in
     let base = c.args.base in
     let old = c.args.out.now.items in
-    let p = subst (λ (r : Reached g.row.A.Denot). HeadWalked T F G l.number l.place.steps.items l.base (stmt_of l.of.now) r l.out.items c.head.new.out.items) c.in-Behind.is c.in_ok-head.ensures in
+    let p = subst (λ (r : Reached g.row.A.Denot). HeadWalked T F G l.number l.place.steps.items l.base (stmt_of l.of.now) r l.out.items c.head.new.out.items) c.in-Behind.is c.in_ok-reached.ensures in
     standing.leaves_behind T F G (n + locals_in x) (route.Numbered T n path base x) (route.stmt T path base x) (stmt_of l.of.now) l.number l.place.steps.items l.base (endings_steps l.endings.items) old l.out.items l.invariant.left c.in-Behind.number c.head.new.out.items c.put_endings.new.out.items (c.in_ok-put_endings-in-Behind.ensures G.member) p
 
 pub stmts-stmt-requires : goal.stmts-stmt-requires
@@ -455,4 +455,4 @@ stmts-returns g t c =
     let G = given g.F.Facts.decls g.F.Facts.types c.args.here.now in
     let path = c.args.path.now.steps.items in
     let l = c.loop-of in
-    limb.going_done T F G c.args.number path c.args.first c.args.at c.args.body.now c.args.out.now.items l.out.items c.put_nothing.new.out.items c.put_rows.new.out.items l.after l.step l.of-index _ c.loop-of-test.false l.auto.of-index refl l.invariant (c.in_ok-put_nothing.ensures G) (c.in_ok-put_rows.ensures G.member)
+    limb.going_done T F G c.args.number path c.args.first c.args.at c.args.body.now c.args.out.now.items l.out.items c.put_nothing.new.out.items c.put_rows.new.out.items l.after l.step l.of-index _ c.loop-of-test.false l.auto.of-index-end refl l.invariant (c.in_ok-put_nothing.ensures G) (c.in_ok-put_rows.ensures G.member)

@@ -25,11 +25,11 @@ decreases-stmts g l = 5 * stmts_size (stmts_of l.body.now) + 2
 abbrev pub invariant-stmts-loop-of : goal.invariant-stmts-loop-of
 invariant-stmts-loop-of g l = Going g.A.Mark.span_from g.A.Mark.fits_at (given g.F.Facts.decls g.F.Facts.types l.here) l.number l.path.steps.items l.first l.at l.body l.fn.out.items l.out.items l.after l.step l.of-index
 
-abbrev pub invariant-stmt-loop-place : goal.invariant-stmt-loop-place
-invariant-stmt-loop-place g l = record {
+abbrev pub invariant-stmt-loop-endings : goal.invariant-stmt-loop-endings
+invariant-stmt-loop-endings g l = record {
   size : stmt_size (stmt_of l.of.now) ≤ stmt_size (stmt_of l.fn.of);
   left : Leaves g.A.Mark.span_from g.A.Mark.fits_at (given g.F.Facts.decls g.F.Facts.types l.here) (l.fn.number + locals_in (stmt_of l.fn.of)) (Numbered g.A.Mark.span_from l.fn.number l.path.steps.items l.fn.base (stmt_of l.fn.of)) (stmt g.A.Mark.span_from l.path.steps.items l.fn.base (stmt_of l.fn.of)) (stmt_of l.of.now) l.number l.place.steps.items l.base (endings_steps l.endings.items) l.fn.out.items l.out.items;
 }
 
-abbrev pub decreases-stmt-loop-place : goal.decreases-stmt-loop-place
-decreases-stmt-loop-place g l = stmt_size (stmt_of l.of.now)
+abbrev pub decreases-stmt-loop-endings : goal.decreases-stmt-loop-endings
+decreases-stmt-loop-endings g l = stmt_size (stmt_of l.of.now)

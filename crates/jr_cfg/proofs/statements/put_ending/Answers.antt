@@ -33,17 +33,16 @@ use Rattle.jr_cfg.proofs.Standing as standing
 use Rattle.jr_cfg.proofs.Limbs as limb
 use Rattle.jr_cfg.proofs.statements.put_ending.Goals as goal
 
-pub returns-in-Yes : goal.returns-in-Yes
-returns-in-Yes c key =
+pub returns-in_ok-put-in-Yes : goal.returns-in_ok-put-in-Yes
+returns-in_ok-put-in-Yes c key =
     let o = steps_in key c.args.out.now.items in
-    on_ok_then c.put-3.result (λ h. subst (λ (e : Ending). steps_in key c.put-3.new.out.items ≡ o ++ ending_steps e) (sym c.in-Yes.is)
-    (h ∙ ap (λ (l : Seen). l ++ step.row ∷ []) (c.in_ok-put-2-in-Yes.ensures key ∙ ap (λ (l : Seen). l ++ step.fork ∷ []) (c.in_ok-put-in-Yes.ensures key)) ∙ append_assoc (o ++ step.pass ∷ []) (step.fork ∷ []) (step.row ∷ []) ∙ append_assoc o (step.pass ∷ []) (step.fork ∷ step.row ∷ []))) (c.put-3.ensures key)
+    on_ok_then c.put_fork.result (λ h. subst (λ (e : Ending). steps_in key c.put_fork.new.out.items ≡ o ++ ending_steps e) (sym c.in-Yes.is)
+    (h ∙ ap (λ (l : Seen). l ++ (step.fork ∷ step.row ∷ [])) (c.in_ok-put-in-Yes.ensures key) ∙ append_assoc o (step.pass ∷ []) (step.fork ∷ step.row ∷ []))) (c.put_fork.ensures key)
 
 pub returns-in-No : goal.returns-in-No
 returns-in-No c key =
     let o = steps_in key c.args.out.now.items in
-    on_ok_then c.put-2-in-No.result (λ h. subst (λ (e : Ending). steps_in key c.put-2-in-No.new.out.items ≡ o ++ ending_steps e) (sym c.in-No.is)
-    (h ∙ ap (λ (l : Seen). l ++ step.row ∷ []) (c.in_ok-put-in-No.ensures key) ∙ append_assoc o (step.fork ∷ []) (step.row ∷ []))) (c.put-2-in-No.ensures key)
+    on_ok_then c.put_fork-in-No.result (λ h. subst (λ (e : Ending). steps_in key c.put_fork-in-No.new.out.items ≡ o ++ ending_steps e) (sym c.in-No.is) h) (c.put_fork-in-No.ensures key)
 
 pub returns-in-Turn : goal.returns-in-Turn
 returns-in-Turn c key =

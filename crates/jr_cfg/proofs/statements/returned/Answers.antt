@@ -43,8 +43,8 @@ returns-in-None g c =
 pub operand-requires : goal.operand-requires
 operand-requires g c = record { fits = subst (λ (v : Option (Expr g.row.A.Denot)). FitsMaybe (begins_by g.A.Mark.span_from) g.A.Mark.fits_at c.args.at (option_map expr_of v)) c.in-Some.is c.requires.fits }
 
-pub returns-in-Some : goal.returns-in-Some
-returns-in-Some g c =
+pub returns-in_ok-put-in-Some : goal.returns-in_ok-put-in-Some
+returns-in_ok-put-in-Some g c =
     let T = g.A.Mark.span_from in
     let G = given g.F.Facts.decls g.F.Facts.types c.args.here.now in
     let path = c.args.path.now.steps.items in
