@@ -1,5 +1,5 @@
 -- The kind of a field's accesses, by the words of its row.
-use Rattle.std.proofs.Common.{◌≡◌, List, map, Bool, true, false, Option, Some, None, refl, sym, ap, ◌∙◌}
+use Rattle.std.proofs.Common.{◌≡◌, List, true, false, Option, Some, None, refl, sym, ap, ◌∙◌}
 use Rattle.std.specs.Prelude.{option_map, unwrap_or}
 use Rattle.std.specs.List.{list_any}
 use Rattle.jr_ast.specs.declared.operators.ModWord.{ModWord}

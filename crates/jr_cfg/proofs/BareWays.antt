@@ -1,5 +1,5 @@
 -- What stands at a way's sites doesn't matter to its shapes, its size and its edges.
-use Rattle.std.proofs.Common.{◌≡◌, ◌↔◌, ℕ, suc, ◌+◌, ◌∷◌, [], ◌++◌, refl, sym, ap, subst}
+use Rattle.std.proofs.Common.{◌≡◌, ◌↔◌, ℕ, suc, ◌+◌, ◌∷◌, [], ◌++◌, refl, sym, subst}
 use Rattle.jr_cover.specs.Ways.{Way, pass, one, row, fork, leave, turns, inside, size, Edge}
 use Rattle.jr_cover.specs.Flows.{Flow, flow_of, row_flow, fork_flow, turns_flow, inside_flow}
 use Rattle.jr_cover.proofs.FlowLaws.{In, Pair, flow_is}

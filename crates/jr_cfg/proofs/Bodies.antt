@@ -1,5 +1,5 @@
 -- Each kind of member from its parts, where places and numbers are shown as they are.
-use Rattle.std.proofs.Common.{◌≡◌, ℕ, zero, suc, ◌+◌, Bool, true, false, List, [], ◌∷◌, ◌++◌, length, Option, Some, None, refl, sym, ap, subst, ◌∙◌, append_assoc, arith}
+use Rattle.std.proofs.Common.{◌≡◌, ℕ, suc, ◌+◌, Bool, true, false, List, [], ◌∷◌, ◌++◌, length, Option, Some, None, refl, sym, ap, subst, ◌∙◌, append_assoc, arith}
 use Rattle.std.specs.Prelude.{◌||◌}
 use Rattle.jr_text.specs.declared.spans.Span.{Span}
 use Rattle.jr_ast.specs.Tree as tree
@@ -12,10 +12,9 @@ use Rattle.jr_table.specs.Keys.{FieldKey}
 use Rattle.jr_code.specs.RunKeys.{RunKeys}
 use Rattle.jr_runs.specs.MemberTranslation as locked
 use Rattle.jr_cover.specs.MemberTranslation as shared
-use Rattle.jr_cover.specs.Members.{field_way, super_way}
+use Rattle.jr_cover.specs.Members.{field_way}
 use Rattle.jr_cover.specs.Sites as sites
-use Rattle.jr_cover.specs.Spots.{spot_modifiers, spot_maybe, spot_word, spot_args, spot_member, spot_class, spot_members, exps_count}
-use Rattle.jr_cover.specs.Ways as way
+use Rattle.jr_cover.specs.Spots.{spot_modifiers, spot_maybe, spot_word, spot_member, spot_class, spot_members, exps_count}
 use Rattle.jr_cover.specs.Ways.{Way}
 use Rattle.jr_expr_sites.specs.Steps.{steps_of}
 use Rattle.jr_expr_sites.specs.Steps as step

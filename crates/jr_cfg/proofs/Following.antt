@@ -1,6 +1,6 @@
 -- Runs follow the graph whose sites and edges are those of a way.
-use Rattle.std.proofs.Common.{◌≡◌, ℕ, zero, suc, List, [], ◌∷◌, ◌++◌, map, Option, Some, None, refl, sym, ap, ◌∙◌}
-use Rattle.std.specs.Prelude.{◌↔◌, slice_get, option_map, Result, Ok, Err, IfOk}
+use Rattle.std.proofs.Common.{◌≡◌, ℕ, zero, suc, List, [], ◌∷◌, Some, refl, ap, ◌∙◌}
+use Rattle.std.specs.Prelude.{slice_get, option_map, Result, Ok, Err, IfOk}
 use Rattle.std.proofs.lemmas.Option.{slice_get-map}
 use Rattle.jr_flow.specs.Edges.{EdgeOf}
 use Rattle.jr_flow.specs.Paths as flow
@@ -13,7 +13,7 @@ use Rattle.jr_cover.specs.Paths as cover
 use Rattle.jr_cover.specs.Sites.{Site}
 use Rattle.jr_cover.specs.Ways.{Way, sites_of, Edge}
 use Rattle.jr_sites.specs.declared.sites.SiteGraph.{SiteGraph}
-use Rattle.jr_sites.specs.SiteView.{PlacedSite, placed_of}
+use Rattle.jr_sites.specs.SiteView.{PlacedSite}
 use Rattle.jr_cfg.specs.declared.faults.CfgFault.{CfgFault}
 use Rattle.jr_cfg.specs.Graphs.{IsGraph, IsAnswer, Stands, FollowGraph}
 use Rattle.jr_expr_sites.specs.KnownFacts.{Given}

@@ -1,13 +1,12 @@
 -- Each kind of statement from its parts, where a place and a part are shown as they are; lists of
 -- statements one by one.
 use Rattle.std.proofs.Common.{◌≡◌, ℕ, zero, suc, ◌+◌, ◌*◌, ◌<◌, ◌≤◌, Bool, List, [], ◌∷◌, ◌++◌, length, get_or, drop, Option, Some, None, refl, sym, ap, subst, ◌∙◌, append_assoc, add-one, arith}
-use Rattle.std.specs.Prelude.{option_map}
 use Rattle.std.proofs.lemmas.List.{append-nil, drop_all}
 use Rattle.jr_text.specs.declared.spans.Span.{Span}
 use Rattle.jr_ast.specs.Tree as tree
 use Rattle.jr_ast.specs.StatementTree as statement
 use Rattle.jr_ast.specs.declared.stmts.Stmt.{Stmt}
-use Rattle.jr_ast.specs.View.{stmt_of, stmts_of, else_of}
+use Rattle.jr_ast.specs.View.{stmt_of, stmts_of}
 use Rattle.jr_ast.specs.Marks.{stmt_mark}
 use Rattle.jr_ast.proofs.Rows.{stmt_mark_is}
 use Rattle.jr_ast.proofs.Sizes.{stmt_size, stmts_size, else_size}
@@ -17,7 +16,7 @@ use Rattle.jr_bind_expr.proofs.Steps.{left_is}
 use Rattle.jr_code.specs.RunKeys.{RunKeys}
 use Rattle.jr_cover.specs.Ways as way
 use Rattle.jr_cover.specs.Sites as sites
-use Rattle.jr_cover.specs.Spots.{spot, spot_exp, spot_maybe, spot_stmt, spot_else, spot_stmts}
+use Rattle.jr_cover.specs.Spots.{spot_stmt, spot_else, spot_stmts}
 use Rattle.jr_cfg.specs.declared.statements.Last.{Last}
 use Rattle.jr_cfg.specs.declared.statements.Ending.TheVariants as ending
 use Rattle.jr_cfg.specs.declared.statements.Reached.TheVariants as reached
@@ -26,9 +25,9 @@ use Rattle.jr_expr_sites.specs.Steps as step
 use Rattle.jr_expr_sites.specs.StepView.{steps_in}
 use Rattle.jr_expr_sites.specs.KnownFacts.{Given, Others, place}
 use Rattle.jr_cfg.specs.Numbering.{NumbersStmt, NumbersElse, NumbersStmts}
-use Rattle.jr_expr_sites.specs.Routes.{Route, Steps, Walked, begins_by, ends_by, exp, nothing}
+use Rattle.jr_expr_sites.specs.Routes.{Steps, Walked, begins_by, ends_by, exp, nothing}
 use Rattle.jr_cfg.specs.StatementRoutes as route
-use Rattle.jr_cfg.specs.StatementRoutes.{Passed, Numbered, NumberedAll, Leaves, IsLast, IsLastOf, HeadWalked, BranchWalked, ending_steps}
+use Rattle.jr_cfg.specs.StatementRoutes.{Passed, Numbered, NumberedAll, HeadWalked, BranchWalked, ending_steps}
 use Rattle.jr_expr_sites.proofs.Walking.{Seen, rows_front}
 
 -- ---- measures

@@ -1,14 +1,13 @@
 -- There is a function that gives the locals of a list of statements their numbers by their spots:
 -- the path to a declared word leads to its number.
-use Rattle.std.proofs.Common.{◌≡◌, ℕ, zero, suc, ◌+◌, ◌≤◌, Bool, true, false, cond, nat_eq, List, [], ◌∷◌, ◌++◌, length, None, refl, sym, ap, subst, ◌∙◌, append_assoc, arith}
-use Rattle.std.specs.Prelude.{if◌then◌else◌}
+use Rattle.std.proofs.Common.{◌≡◌, ℕ, suc, ◌+◌, ◌≤◌, cond, nat_eq, List, [], ◌∷◌, ◌++◌, length, None, refl, ap, ◌∙◌, append_assoc, arith}
 use Rattle.std.proofs.lemmas.Bool.{eq-eqb, ne_eqb}
 use Rattle.jr_text.specs.declared.spans.Span.{Span}
 use Rattle.jr_ast.specs.StatementTree as statement
 use Rattle.jr_ast.specs.MemberTree as declared
 use Rattle.jr_table.specs.Keys.{FieldKey}
 use Rattle.jr_table.specs.Decls.{MemberKey}
-use Rattle.jr_table.specs.Context.{locals_in, locals_in_else, locals_in_row}
+use Rattle.jr_table.specs.Context.{locals_in}
 use Rattle.jr_cover.specs.Spots.{Spot, spot, onto}
 use Rattle.jr_expr_sites.specs.KnownFacts.{Given, Others}
 use Rattle.jr_expr_sites.specs.Steps.{steps_of}

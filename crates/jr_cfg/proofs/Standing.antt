@@ -1,5 +1,5 @@
 -- Statements that stand last in others: what is left where the front of a statement has been walked.
-use Rattle.std.proofs.Common.{◌≡◌, ℕ, zero, suc, ◌+◌, ◌*◌, ◌<◌, ◌≤◌, List, [], ◌∷◌, ◌++◌, length, refl, sym, ap, subst, ◌∙◌, append_assoc, arith}
+use Rattle.std.proofs.Common.{◌≡◌, ℕ, suc, ◌+◌, ◌≤◌, List, [], ◌∷◌, ◌++◌, length, refl, sym, ap, subst, ◌∙◌, append_assoc, arith}
 use Rattle.std.proofs.lemmas.List.{append-nil}
 use Rattle.jr_text.specs.declared.spans.Span.{Span}
 use Rattle.jr_ast.specs.Tree as tree
@@ -17,7 +17,7 @@ use Rattle.jr_expr_sites.specs.Steps as step
 use Rattle.jr_expr_sites.specs.StepView.{steps_in}
 use Rattle.jr_expr_sites.specs.KnownFacts.{Given, Others}
 use Rattle.jr_expr_sites.specs.Routes.{Route, Steps, Walked, exp}
-use Rattle.jr_cfg.specs.StatementRoutes.{ending_steps, onto, endings_steps, Passed, stmt, else_part, Numbered, NumberedElse, Leaves, LeavesLast, IsLastOf, IsLast, branch, BranchWalked}
+use Rattle.jr_cfg.specs.StatementRoutes.{ending_steps, onto, endings_steps, Passed, stmt, Numbered, NumberedElse, Leaves, LeavesLast, IsLastOf, IsLast, branch}
 use Rattle.jr_expr_sites.proofs.Walking.{Seen}
 
 -- ---- endings

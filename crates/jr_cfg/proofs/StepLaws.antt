@@ -1,5 +1,5 @@
 -- The steps of a way have its sites and its shapes.
-use Rattle.std.proofs.Common.{◌≡◌, ℕ, suc, ◌+◌, List, [], ◌∷◌, ◌++◌, length, map, Option, Some, None, refl, sym, ap, ◌∙◌, append_assoc, arith, ◌<◌, take, get_or}
+use Rattle.std.proofs.Common.{◌≡◌, ℕ, suc, ◌+◌, List, [], ◌∷◌, ◌++◌, length, map, Option, Some, None, refl, sym, ap, ◌∙◌, arith, ◌<◌, take, get_or}
 use Rattle.std.proofs.lemmas.List.{length-map, map_more}
 use Rattle.jr_table.specs.Decls.{MemberKey}
 use Rattle.jr_code.specs.RunKeys.{RunKeys}

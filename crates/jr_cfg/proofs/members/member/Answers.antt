@@ -1,32 +1,19 @@
-use Rattle.std.proofs.Common.{◌≡◌, ◌+◌, ◌-◌, ℕ, suc, List, [], ◌∷◌, ◌++◌, length, map, Bool, true, false, Option, Some, None, ap, sym, refl, subst, ◌∙◌, arith}
+use Rattle.std.proofs.Common.{◌≡◌, ◌+◌, ◌-◌, ℕ, List, [], length, map, ap, sym, subst, ◌∙◌}
 use Rattle.std.specs.Prelude.{option_map}
 use Rattle.std.proofs.lemmas.List.{length-map}
 use Rattle.jr_text.specs.declared.spans.Span.{Span}
-use Rattle.jr_ast.specs.Tree as tree
 use Rattle.jr_ast.specs.MemberTree as declared
-use Rattle.jr_ast.specs.declared.exprs.Expr.{Expr}
 use Rattle.jr_ast.specs.declared.stmts.Stmt.{Stmt}
-use Rattle.jr_ast.specs.declared.parts.Param.{Param}
 use Rattle.jr_ast.specs.declared.parts.Modifier.{Modifier}
-use Rattle.jr_ast.specs.View.{word_of, type_of, expr_of, exprs_of, args_of, stmts_of, modifier_of, param_of, class_of, member_of, member_kind}
-use Rattle.jr_table.specs.Keys.{FieldKey}
-use Rattle.jr_table.specs.Decls as decls
-use Rattle.jr_table.specs.KeyView.{field_key_of, member_key_of}
-use Rattle.jr_table.specs.TypeView.{class_key_of}
-use Rattle.jr_bind_expr.specs.Fits.{FitsMaybe, FitsExps, FitsStmts}
+use Rattle.jr_ast.specs.View.{word_of, type_of, expr_of, args_of, stmts_of, modifier_of, param_of, class_of, member_of, member_kind}
+use Rattle.jr_bind_expr.specs.Fits.{FitsMaybe, FitsStmts}
 use Rattle.jr_runs.specs.MemberTranslation as locked
-use Rattle.jr_cover.specs.MemberTranslation as shared
-use Rattle.jr_cover.specs.Sites as sites
-use Rattle.jr_expr_sites.specs.Steps.{steps_of}
-use Rattle.jr_expr_sites.specs.KnownFacts.{Given, Others, place}
-use Rattle.jr_expr_sites.specs.StepView.{given, steps_in}
-use Rattle.jr_expr_sites.specs.Routes.{Walked, begins_by, ends_by, exp, exps}
-use Rattle.jr_expr_sites.specs.Routes as plain
-use Rattle.jr_cfg.specs.StatementRoutes.{Passed, NumberedAll, WalkedSo}
-use Rattle.jr_cfg.specs.StatementRoutes as list
+use Rattle.jr_expr_sites.specs.StepView.{given}
+use Rattle.jr_expr_sites.specs.Routes.{Walked, begins_by}
+use Rattle.jr_cfg.specs.StatementRoutes.{NumberedAll, WalkedSo}
 use Rattle.jr_cfg.specs.MemberRoutes.{FitsArgs, FitsSites, call_place}
 use Rattle.jr_cfg.specs.MemberRoutes as route
-use Rattle.jr_expr_sites.proofs.Walking.{on_ok_then, row_goes, Seen}
+use Rattle.jr_expr_sites.proofs.Walking.{on_ok_then}
 use Rattle.jr_cfg.proofs.Bodies as body
 use Rattle.jr_cfg.proofs.members.member.Goals as goal
 
@@ -35,9 +22,6 @@ unfolding member_kind
 field-requires g c =
     let T = g.A.Mark.span_from in
     let F = g.A.Mark.fits_at in
-    let G = given g.F.Facts.decls g.F.Facts.types c.args.here.now in
-    let at = c.args.here.now.start in
-    let old = c.args.out.now.items in
     let base = c.args.base in
     let m = c.args.member.now.mark in
     let start = c.requires.start in
@@ -53,12 +37,8 @@ unfolding member_kind
 span-requires g c =
     let T = g.A.Mark.span_from in
     let F = g.A.Mark.fits_at in
-    let G = given g.F.Facts.decls g.F.Facts.types c.args.here.now in
-    let at = c.args.here.now.start in
-    let old = c.args.out.now.items in
     let base = c.args.base in
     let m = c.args.member.now.mark in
-    let start = c.requires.start in
     let whole : member_of c.args.member.now ≡ declared.method m (map modifier_of c.in-Method.modifiers.items) (option_map type_of c.in-Method.ret) (word_of c.in-Method.name) (map param_of c.in-Method.params.items) (stmts_of c.in-Method.body.items) = ap (member_kind m) c.in-Method.is in
     let f = subst (λ (x : declared.Member g.row.A.Denot). FitsSites T F base x) whole c.requires.fits in
     f.0
@@ -68,9 +48,6 @@ unfolding member_kind
 method-requires g c =
     let T = g.A.Mark.span_from in
     let F = g.A.Mark.fits_at in
-    let G = given g.F.Facts.decls g.F.Facts.types c.args.here.now in
-    let at = c.args.here.now.start in
-    let old = c.args.out.now.items in
     let base = c.args.base in
     let m = c.args.member.now.mark in
     let start = c.requires.start in
@@ -87,9 +64,6 @@ unfolding member_kind
 constructor-requires g c =
     let T = g.A.Mark.span_from in
     let F = g.A.Mark.fits_at in
-    let G = given g.F.Facts.decls g.F.Facts.types c.args.here.now in
-    let at = c.args.here.now.start in
-    let old = c.args.out.now.items in
     let base = c.args.base in
     let m = c.args.member.now.mark in
     let start = c.requires.start in
@@ -106,7 +80,6 @@ pub returns-in-Field : goal.returns-in-Field
 unfolding member_kind
 returns-in-Field g c k is =
     let T = g.A.Mark.span_from in
-    let F = g.A.Mark.fits_at in
     let G = given g.F.Facts.decls g.F.Facts.types c.args.here.now in
     let at = c.args.here.now.start in
     let old = c.args.out.now.items in
@@ -123,7 +96,6 @@ pub returns-in-Method : goal.returns-in-Method
 unfolding member_kind
 returns-in-Method g c k is =
     let T = g.A.Mark.span_from in
-    let F = g.A.Mark.fits_at in
     let G = given g.F.Facts.decls g.F.Facts.types c.args.here.now in
     let at = c.args.here.now.start in
     let old = c.args.out.now.items in
@@ -142,7 +114,6 @@ pub returns-in-Ctor : goal.returns-in-Ctor
 unfolding member_kind
 returns-in-Ctor g c k is =
     let T = g.A.Mark.span_from in
-    let F = g.A.Mark.fits_at in
     let G = given g.F.Facts.decls g.F.Facts.types c.args.here.now in
     let at = c.args.here.now.start in
     let old = c.args.out.now.items in
@@ -160,7 +131,6 @@ pub returns-in-Inner : goal.returns-in-Inner
 unfolding member_kind
 returns-in-Inner g c k is =
     let T = g.A.Mark.span_from in
-    let F = g.A.Mark.fits_at in
     let G = given g.F.Facts.decls g.F.Facts.types c.args.here.now in
     let at = c.args.here.now.start in
     let old = c.args.out.now.items in

@@ -1,29 +1,9 @@
-use Rattle.std.proofs.Common.{◌≡◌, ◌+◌, ◌-◌, ℕ, suc, List, [], ◌∷◌, ◌++◌, length, map, take, get_or, Bool, true, false, Option, Some, None, ap, sym, refl, subst, ◌∙◌}
-use Rattle.std.specs.Prelude.{option_map, option_and_then, slice_get, unwrap_or}
-use Rattle.std.proofs.lemmas.List.{append-nil, map-append, map_more, take_all}
+use Rattle.std.proofs.Common.{Some, ap, ◌∙◌}
 use Rattle.std.proofs.lemmas.Result.{IfOk-weaker}
-use Rattle.jr_ast.specs.declared.operators.ModWord.{ModWord}
-use Rattle.jr_sync.specs.declared.kinds.Kind.TheVariants.{Load, Store, VolatileLoad, VolatileStore, Still}
 use Rattle.jr_sync.specs.declared.sites.Site.TheVariants as shown
-use Rattle.jr_table.specs.Decls.{MemberKey}
-use Rattle.jr_table.specs.Keys.{FieldKey}
-use Rattle.jr_table.specs.Decls as decls
-use Rattle.jr_table.specs.KeyView.{field_key_of, local_key_of, member_key_of}
-use Rattle.jr_code.specs.RunKeys.{RunKeys}
-use Rattle.jr_cover.specs.Sites as sites
-use Rattle.jr_sites.specs.SiteView.{PlacedSite, placed_of, site_of}
-use Rattle.jr_expr_sites.specs.declared.step.What as raw_what
-use Rattle.jr_expr_sites.specs.declared.step.Step as raw_step
-use Rattle.jr_expr_sites.specs.Meanings.{field_kind, row_of}
-use Rattle.jr_cfg.specs.Placed.{placed, own_local, by_kind}
-use Rattle.jr_cfg.specs.Seen.{seen}
-use Rattle.jr_cfg.specs.SiteSteps.{site_in}
-use Rattle.jr_expr_sites.specs.Steps.{Step, sites_in}
-use Rattle.jr_expr_sites.specs.StepView.{given, what_of, step_of, steps_in}
-use Rattle.jr_expr_sites.specs.StepView as view
-use Rattle.jr_expr_sites.specs.KnownFacts.{Given}
-use Rattle.jr_cfg.proofs.AccessKinds.{told, loads_by, stores_by, by_final, by_volatile, by_plain}
-use Rattle.jr_cfg.proofs.StepLaws.{sites_more, one_site, listed}
+use Rattle.jr_table.specs.KeyView.{field_key_of}
+use Rattle.jr_expr_sites.specs.Meanings.{field_kind}
+use Rattle.jr_cfg.proofs.AccessKinds.{loads_by}
 use Rattle.jr_cfg.proofs.placing.loads.Goals as goal
 
 pub returns : goal.returns

@@ -1,34 +1,25 @@
-use Rattle.std.proofs.Common.{◌≡◌, ◌+◌, ◌*◌, ◌<◌, ◌≤◌, ℕ, List, [], ◌∷◌, ◌++◌, ◌-◌, Option, Some, None, ap, sym, refl, subst, ◌∙◌, drop, suc, append_assoc, arith}
+use Rattle.std.proofs.Common.{◌≡◌, ◌+◌, ℕ, List, [], ◌∷◌, ◌++◌, ◌-◌, Option, ap, sym, refl, subst, ◌∙◌, arith}
 use Rattle.std.specs.Prelude.{option_map}
 use Rattle.std.specs.Global.{Global}
 use Rattle.std.specs.declared.boxed.Box.{Box}
-use Rattle.std.proofs.lemmas.List.{append-nil}
 use Rattle.jr_text.specs.declared.spans.Span.{Span}
-use Rattle.jr_ast.specs.Tree as tree
 use Rattle.jr_ast.specs.StatementTree as statement
-use Rattle.jr_ast.specs.declared.exprs.Expr.{Expr}
 use Rattle.jr_ast.specs.declared.stmts.Stmt.{Stmt}
-use Rattle.jr_ast.specs.View.{word_of, type_of, expr_of, stmt_of, stmts_of, else_of, stmt_kind, stmt_row, held_else}
+use Rattle.jr_ast.specs.View.{word_of, expr_of, stmt_of, stmts_of, else_of, stmt_kind, stmt_row, held_else}
 use Rattle.jr_ast.proofs.Rows.{stmt_kind-If, stmt_kind-Block, stmt_kind-Sync}
 use Rattle.jr_ast.proofs.Sizes.{stmt_size, stmts_size, else_size}
-use Rattle.jr_table.specs.Decls.{MemberKey}
-use Rattle.jr_table.specs.Context.{locals_in, locals_in_else, locals_in_row}
-use Rattle.jr_bind_expr.specs.Fits.{FitsExp, FitsMaybe, FitsStmt, FitsElse, FitsStmts}
-use Rattle.jr_cover.specs.Sites as sites
+use Rattle.jr_table.specs.Context.{locals_in, locals_in_else}
+use Rattle.jr_bind_expr.specs.Fits.{FitsStmt, FitsElse}
 use Rattle.jr_cfg.specs.declared.statements.Last.{Last}
 use Rattle.jr_cfg.specs.declared.statements.Reached.{Reached}
 use Rattle.jr_cfg.specs.declared.statements.Reached.TheVariants as reached
-use Rattle.jr_cfg.specs.declared.statements.Ending.{Ending}
 use Rattle.jr_cfg.specs.declared.statements.Ending.TheVariants as ending
 use Rattle.jr_expr_sites.specs.Steps as step
-use Rattle.jr_expr_sites.specs.Steps.{steps_of}
-use Rattle.jr_expr_sites.specs.KnownFacts.{Given, Others, place}
-use Rattle.jr_expr_sites.specs.StepView.{given, steps_in}
-use Rattle.jr_expr_sites.specs.Routes.{Route, Steps, Walked, begins_by, ends_by, exp}
-use Rattle.jr_expr_sites.specs.Routes as plain
+use Rattle.jr_expr_sites.specs.StepView.{given}
+use Rattle.jr_expr_sites.specs.Routes.{begins_by}
 use Rattle.jr_cfg.specs.StatementRoutes as route
-use Rattle.jr_cfg.specs.StatementRoutes.{Passed, Leaves, IsLast, IsLastOf, HeadWalked, BranchWalked, endings_steps, ending_steps}
-use Rattle.jr_expr_sites.proofs.Walking.{on_ok_then, row_goes, walked_as, Seen}
+use Rattle.jr_cfg.specs.StatementRoutes.{Passed, Leaves, IsLastOf, HeadWalked, BranchWalked, endings_steps}
+use Rattle.jr_expr_sites.proofs.Walking.{Seen}
 use Rattle.jr_cfg.proofs.Standing as standing
 use Rattle.jr_cfg.proofs.Limbs as limb
 use Rattle.jr_cfg.proofs.statements.+stmt_walk.Goals as goal
@@ -42,14 +33,10 @@ unfolding stmt_size stmts_size else_size stmt_kind stmt_row held_else
 head-local-requires g t c =
     let T = g.A.Mark.span_from in
     let F = g.A.Mark.fits_at in
-    let G = given g.F.Facts.decls g.F.Facts.types c.args.here.now in
-    let path = c.args.path.now.steps.items in
-    let n = c.args.number in
     let base = c.args.base in
     let m = c.args.of.now.mark in
     let at = c.span-span.result.from in
     let start : at ≡ (T m base).from = ap (λ (z : Span). z.from) c.span-span.ensures in
-    let old = c.args.out.now.items in
     let p = limb.local_fits T F base m at start _ _ (word_of c.in-Local.name) (expr_of c.in-Local.init) (subst (λ (x : statement.Stmt g.row.A.Denot). FitsStmt (begins_by T) F base x) (ap (stmt_kind m) c.in-Local.is) c.requires.fits) in
     record { fits = p.0; fits_name = p.1 }
 
@@ -58,14 +45,10 @@ unfolding stmt_size stmts_size else_size stmt_kind stmt_row held_else
 head-operand-requires g t c =
     let T = g.A.Mark.span_from in
     let F = g.A.Mark.fits_at in
-    let G = given g.F.Facts.decls g.F.Facts.types c.args.here.now in
-    let path = c.args.path.now.steps.items in
-    let n = c.args.number in
     let base = c.args.base in
     let m = c.args.of.now.mark in
     let at = c.span-span.result.from in
     let start : at ≡ (T m base).from = ap (λ (z : Span). z.from) c.span-span.ensures in
-    let old = c.args.out.now.items in
     record { fits = limb.eval_fits T F base m at start (expr_of c.in-Eval.value) (subst (λ (x : statement.Stmt g.row.A.Denot). FitsStmt (begins_by T) F base x) (ap (stmt_kind m) c.in-Eval.is) c.requires.fits) }
 
 pub head-branch-alloc-requires : goal.head-branch-alloc-requires
@@ -73,14 +56,10 @@ unfolding stmt_size stmts_size else_size stmt_kind stmt_row held_else
 head-branch-alloc-requires g t c =
     let T = g.A.Mark.span_from in
     let F = g.A.Mark.fits_at in
-    let G = given g.F.Facts.decls g.F.Facts.types c.args.here.now in
-    let path = c.args.path.now.steps.items in
-    let n = c.args.number in
     let base = c.args.base in
     let m = c.args.of.now.mark in
     let at = c.span-span.result.from in
     let start : at ≡ (T m base).from = ap (λ (z : Span). z.from) c.span-span.ensures in
-    let old = c.args.out.now.items in
     let p = limb.branch_fits T F base m at start (expr_of c.in-If.test) c.deref.result.now c.in-If.yes.value (else_of c.in-If.no) c.deref.ensures (subst (λ (x : statement.Stmt g.row.A.Denot). FitsStmt (begins_by T) F base x) (ap (stmt_kind m) c.in-If.is ∙ stmt_kind-If _ m c.in-If.test c.in-If.yes c.in-If.no) c.requires.fits) in
     λ κs o. (limb.falls_both _ _ _ _ t (ap (λ (x : Stmt g.row.A.Denot). stmt_size (stmt_of x)) c.deref.ensures) (ap stmt_size (ap (stmt_kind m) c.in-If.is ∙ stmt_kind-If _ m c.in-If.test c.in-If.yes c.in-If.no)) c.decreases, (o.0, (o.1, (p.0, (p.1, p.2)))))
 
@@ -89,14 +68,10 @@ unfolding stmt_size stmts_size else_size stmt_kind stmt_row held_else
 head-operand-requires-in-While g t c =
     let T = g.A.Mark.span_from in
     let F = g.A.Mark.fits_at in
-    let G = given g.F.Facts.decls g.F.Facts.types c.args.here.now in
-    let path = c.args.path.now.steps.items in
-    let n = c.args.number in
     let base = c.args.base in
     let m = c.args.of.now.mark in
     let at = c.span-span.result.from in
     let start : at ≡ (T m base).from = ap (λ (z : Span). z.from) c.span-span.ensures in
-    let old = c.args.out.now.items in
     record { fits = (limb.loop_fits T F base m at start (expr_of c.in-While.test) c.in-While.body.value c.in-While.body.value refl (subst (λ (x : statement.Stmt g.row.A.Denot). FitsStmt (begins_by T) F base x) (ap (stmt_kind m) c.in-While.is) c.requires.fits)).0 }
 
 pub head-returned-requires : goal.head-returned-requires
@@ -104,14 +79,10 @@ unfolding stmt_size stmts_size else_size stmt_kind stmt_row held_else
 head-returned-requires g t c =
     let T = g.A.Mark.span_from in
     let F = g.A.Mark.fits_at in
-    let G = given g.F.Facts.decls g.F.Facts.types c.args.here.now in
-    let path = c.args.path.now.steps.items in
-    let n = c.args.number in
     let base = c.args.base in
     let m = c.args.of.now.mark in
     let at = c.span-span.result.from in
     let start : at ≡ (T m base).from = ap (λ (z : Span). z.from) c.span-span.ensures in
-    let old = c.args.out.now.items in
     record { fits = limb.return_fits T F base m at start (option_map expr_of c.in-Return.value) (subst (λ (x : statement.Stmt g.row.A.Denot). FitsStmt (begins_by T) F base x) (ap (stmt_kind m) c.in-Return.is) c.requires.fits) }
 
 pub head-stmts-requires : goal.head-stmts-requires
@@ -337,7 +308,6 @@ sync-stmts-requires g t c =
 pub sync-returns : goal.sync-returns
 sync-returns g t c =
     let T = g.A.Mark.span_from in
-    let F = g.A.Mark.fits_at in
     let G = given g.F.Facts.decls g.F.Facts.types c.args.here.now in
     let path = c.args.path.now.steps.items in
     limb.sync_walked T G c.args.number path c.args.at c.args.last (expr_of c.args.object.now) (stmts_of c.args.body.now) c.in_ok-after.after c.args.out.now.items c.operand.new.out.items c.lock_check.new.out.items c.put.new.out.items c.stmts.new.out.items c.put-2.new.out.items c.put_row.new.out.items c.put_row-2.new.out.items c.in_ok-operand.ensures (c.in_ok-lock_check.ensures (path ++ 0 ∷ [])) (c.in_ok-put.ensures G.member) c.in_ok-after.ensures (c.in_ok-put-2.ensures G.member) (c.in_ok-put_row.ensures G.member) (c.in_ok-put_row-2.ensures G.member)
@@ -371,7 +341,6 @@ stmt-loop-endings-smaller g t c =
     let T = g.A.Mark.span_from in
     let F = g.A.Mark.fits_at in
     let G = given g.F.Facts.decls g.F.Facts.types c.args.here.now in
-    let path = c.args.path.now.steps.items in
     let l = c.loop-endings in
     let p = subst (λ (r : Reached g.row.A.Denot). HeadWalked T F G l.number l.place.steps.items l.base (stmt_of l.of.now) r l.out.items c.head.new.out.items) c.in-To.is c.in_ok-reached.ensures in
     standing.last_smaller T (stmt_of c.in-To.last.of.now) (stmt_of l.of.now) p.0

@@ -1,4 +1,4 @@
-use Rattle.std.proofs.Common.{◌+◌, ◌*◌, ◌≤◌, drop}
+use Rattle.std.proofs.Common.{◌+◌, ◌*◌, ◌≤◌}
 use Rattle.jr_ast.specs.View.{stmt_of, stmts_of, else_of}
 use Rattle.jr_ast.proofs.Sizes.{stmt_size, stmts_size, else_size}
 use Rattle.jr_table.specs.Context.{locals_in}
@@ -27,9 +27,9 @@ invariant-stmts-loop-of g l = Going g.A.Mark.span_from g.A.Mark.fits_at (given g
 
 abbrev pub invariant-stmt-loop-endings : goal.invariant-stmt-loop-endings
 invariant-stmt-loop-endings g l = record {
-  size : stmt_size (stmt_of l.of.now) ≤ stmt_size (stmt_of l.fn.of);
-  left : Leaves g.A.Mark.span_from g.A.Mark.fits_at (given g.F.Facts.decls g.F.Facts.types l.here) (l.fn.number + locals_in (stmt_of l.fn.of)) (Numbered g.A.Mark.span_from l.fn.number l.path.steps.items l.fn.base (stmt_of l.fn.of)) (stmt g.A.Mark.span_from l.path.steps.items l.fn.base (stmt_of l.fn.of)) (stmt_of l.of.now) l.number l.place.steps.items l.base (endings_steps l.endings.items) l.fn.out.items l.out.items;
+  size : stmt_size (stmt_of l.of) ≤ stmt_size (stmt_of l.fn.of);
+  left : Leaves g.A.Mark.span_from g.A.Mark.fits_at (given g.F.Facts.decls g.F.Facts.types l.here) (l.fn.number + locals_in (stmt_of l.fn.of)) (Numbered g.A.Mark.span_from l.fn.number l.path.steps.items l.fn.base (stmt_of l.fn.of)) (stmt g.A.Mark.span_from l.path.steps.items l.fn.base (stmt_of l.fn.of)) (stmt_of l.of) l.number l.place.steps.items l.base (endings_steps l.endings.items) l.fn.out.items l.out.items;
 }
 
 abbrev pub decreases-stmt-loop-endings : goal.decreases-stmt-loop-endings
-decreases-stmt-loop-endings g l = stmt_size (stmt_of l.of.now)
+decreases-stmt-loop-endings g l = stmt_size (stmt_of l.of)
