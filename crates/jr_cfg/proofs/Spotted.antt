@@ -254,7 +254,7 @@ aim_falls (tree.truth m b) x u is = apart (aim_of (tree.truth m b)) x u (λ z. z
 aim_falls (tree.null m) x u is = apart (aim_of (tree.null m)) x u (λ z. z) is
 aim_falls (tree.string m s) x u is = apart (aim_of (tree.string m s)) x u (λ z. z) is
 aim_falls (tree.name m w) x u is = apart (aim_of (tree.name m w)) x u (λ z. z) is
-aim_falls (tree.field m e v) x w is = let same = ap (λ (a : Aim _). part a e) is in let size = ap exp_size same in omega (arith, size)
+aim_falls (tree.field m e v) x w is = let same = ap (λ (a : Aim _). part e a) is in let size = ap exp_size same in omega (arith, size)
 aim_falls (tree.super_field m w) x u is = apart (aim_of (tree.super_field m w)) x u (λ z. z) is
 aim_falls (tree.this m) x u is = apart (aim_of (tree.this m)) x u (λ z. z) is
 aim_falls (tree.class_literal m t) x u is = apart (aim_of (tree.class_literal m t)) x u (λ z. z) is

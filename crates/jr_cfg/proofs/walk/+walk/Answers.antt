@@ -892,4 +892,4 @@ exprs-returns g t c =
     let G = given g.F.Facts.decls g.F.Facts.types c.args.here.now in
     let path = c.args.path.now.steps.items in
     let i = c.loop-part.part-index in
-    on_ok_then c.put_rows.result (λ h. arm.left_none T F G path c.args.first c.args.at c.args.parts.now c.args.out.now.items c.loop-part.out.items c.put_nothing.new.out.items c.put_rows.new.out.items c.loop-part.step i _ c.loop-part-test.false c.loop-part.auto.part-index refl c.loop-part.invariant.left (c.in_ok-put_nothing.ensures G) h) (c.put_rows.ensures G.member)
+    on_ok_then c.put_rows.result (λ h. arm.left_none T F G path c.args.first c.args.at c.args.parts.now c.args.out.now.items c.loop-part.out.items c.put_nothing.new.out.items c.put_rows.new.out.items c.loop-part.step i _ c.loop-part-test.false c.loop-part.auto.part-index-end refl c.loop-part.invariant.left (c.in_ok-put_nothing.ensures G) h) (c.put_rows.ensures G.member)

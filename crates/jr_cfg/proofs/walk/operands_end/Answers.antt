@@ -25,7 +25,7 @@ returns g c G path r s start middle a b =
     let T = g.A.Mark.span_from in
     let old = c.args.out.now.items in
     let D = route.divisor_check T c.args.op path c.args.at (expr_of c.args.right.now) in
-    let inside = row_goes G s D middle old c.divisor_check.new.out.items c.put_row.new.out.items b (c.in_ok-divisor_check.ensures G path) (c.in_ok-put_row.ensures G.member) in
-    on_ok_then c.put_row-2.result (λ h. walked_as G (route.seq r (route.seq s D)) (λ g o. sites.operands c.args.op (r g o) (s g o) (D g o)) start c.put_row-2.new.out.items
+    let inside = row_goes G s D middle old c.divisor_check.new.out.items c.put_row-2.new.out.items b (c.in_ok-divisor_check.ensures G path) (c.in_ok-put_row.ensures G.member) in
+    on_ok_then c.put_row-3.result (λ h. walked_as G (route.seq r (route.seq s D)) (λ g o. sites.operands c.args.op (r g o) (s g o) (D g o)) start c.put_row-3.new.out.items
     (λ o. eager_is c.args.op (r G o) (s G o) (D G o) (sym c.is_lazy-may_pass.ensures ∙ c.if-may_pass.false))
-    (row_goes G r (route.seq s D) start middle c.put_row.new.out.items c.put_row-2.new.out.items a inside h)) (c.put_row-2.ensures G.member)
+    (row_goes G r (route.seq s D) start middle c.put_row-2.new.out.items c.put_row-3.new.out.items a inside h)) (c.put_row-3.ensures G.member)
