@@ -1,6 +1,6 @@
 -- Each kind of expression from its parts, where a place and a part are shown as they are; measures;
 -- arguments one by one.
-use Rattle.std.proofs.Common.{◌≡◌, ℕ, zero, suc, ◌+◌, ◌*◌, ◌<◌, ◌≤◌, Bool, true, false, List, [], ◌∷◌, ◌++◌, length, get_or, drop, Option, Some, None, refl, sym, ap, subst, ◌∙◌, append_assoc, add-one, arith}
+use Rattle.std.proofs.Common.{◌≡◌, ℕ, zero, suc, ◌+◌, ◌*◌, ◌<◌, ◌≤◌, Bool, true, false, List, [], ◌∷◌, ◌++◌, length, get_or, drop, Option, Some, refl, sym, ap, subst, ◌∙◌, append_assoc, add-one, arith}
 use Rattle.std.proofs.lemmas.List.{append-nil, drop_all}
 use Rattle.std.specs.declared.boxed.Box.{Box}
 use Rattle.std.specs.Global.{Global}
@@ -14,7 +14,7 @@ use Rattle.jr_ast.specs.View.{expr_of, exprs_of, target_of}
 use Rattle.jr_ast.proofs.Sizes.{exp_size, exps_size, target_size}
 use Rattle.jr_bind_expr.specs.Fits.{FitsExp, FitsTarget, FitsExps}
 use Rattle.jr_bind_expr.proofs.Steps.{left_is}
-use Rattle.jr_cover.specs.Spots.{spot, spot_exp, spot_exps}
+use Rattle.jr_cover.specs.Spots.{spot_exp, spot_exps}
 use Rattle.jr_cfg.specs.Steps.{steps_of, rows}
 use Rattle.jr_cfg.specs.Steps as step
 use Rattle.jr_cfg.specs.StepView.{steps_in}

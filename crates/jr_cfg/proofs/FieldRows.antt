@@ -1,17 +1,16 @@
 -- A field's row is the one that its class has of its name.
 use Rattle.std.proofs.Common.{◌≡◌, ℕ, List, Option, Some, None, length, refl, sym, ap, subst, ◌∙◌}
-use Rattle.std.specs.Prelude.{slice_get, unwrap_or}
+use Rattle.std.specs.Prelude.{unwrap_or}
 use Rattle.jr_table.specs.declared.entries.Entry.{Entry}
-use Rattle.jr_table.specs.declared.entries.Sort.TheVariants as sort
-use Rattle.jr_table.specs.Keys.{ClassKey, FieldKey}
-use Rattle.jr_table.specs.Decls.{Decl, class_decl, field_decl}
+use Rattle.jr_table.specs.Keys.{FieldKey}
+use Rattle.jr_table.specs.Decls.{class_decl, field_decl}
 use Rattle.jr_table.specs.Rows.{Row}
 use Rattle.jr_table.specs.Entries.{IsRowOf, number_of, class_number, class_of, name_of, sort_of, entry_of, entries_of}
 use Rattle.jr_table.specs.Conditions.{AreRows, as_declarer}
 use Rattle.jr_table.specs.Members.{DeclaresField}
 use Rattle.jr_table.specs.Looking.{is_field, own_row}
 use Rattle.jr_table.proofs.MemberLaws.{Says}
-use Rattle.jr_table.proofs.OneEach.{is_field_decl, one_class, one_field}
+use Rattle.jr_table.proofs.OneEach.{is_field_decl, one_class}
 use Rattle.jr_table.proofs.RowLaws.{number_stands, number_none, the_number, entry_stands, row_at}
 use Rattle.jr_table.proofs.Testing.{field_says}
 

@@ -1,20 +1,17 @@
 -- What names do, by what they mean.
-use Rattle.std.proofs.Common.{◌≡◌, ℕ, Bool, true, false, ◌&&◌, List, [], ◌∷◌, ◌++◌, Option, Some, None, is_none, refl, sym, ap, ◌∙◌}
-use Rattle.jr_runs.specs.Keys.{Keys}
+use Rattle.std.proofs.Common.{◌≡◌, ℕ, Bool, true, false, ◌&&◌, List, ◌++◌, Option, Some, is_none, refl, sym, ap, ◌∙◌}
 use Rattle.jr_code.specs.RunKeys.{RunKeys}
 use Rattle.jr_table.specs.Keys.{FieldKey}
 use Rattle.jr_table.specs.Rows.{Row}
-use Rattle.jr_table.specs.Decls.{Decl}
 use Rattle.jr_cover.specs.Facts.{Variable}
 use Rattle.jr_cover.specs.Facts as facts
 use Rattle.jr_cover.specs.Ways.{Way}
 use Rattle.jr_cover.specs.Sites.{Site}
 use Rattle.jr_cfg.specs.Steps.{steps_of}
 use Rattle.jr_cfg.specs.StepView.{steps_in}
-use Rattle.jr_cfg.specs.Meanings.{Meaning, local, field, class, nothing, variable_of, field_variable, is_static_field, is_class}
-use Rattle.jr_cfg.specs.KnownFacts.{Given, Others, meaning_at}
+use Rattle.jr_cfg.specs.Meanings.{Meaning, local, field, class, nothing, variable_of, field_variable, is_class}
+use Rattle.jr_cfg.specs.KnownFacts.{Given, meaning_at}
 use Rattle.jr_cfg.specs.Routes.{Steps}
-use Rattle.jr_cfg.proofs.Walking.{Seen}
 
 -- a static field and one of objects are alike
 pub field_is : (R : Option (Variable RunKeys) → Way (Site RunKeys)) (w : Way (Site RunKeys)) (b : Bool) (k : FieldKey) → w ≡ R (Some (facts.is_static_field k)) → w ≡ R (Some (facts.is_instance_field k)) → w ≡ R (Some (field_variable b k))

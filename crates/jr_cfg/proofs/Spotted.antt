@@ -1,5 +1,5 @@
 -- Expressions as spots have what their trees have. Each lemma is by cases on the kind.
-use Rattle.std.proofs.Common.{◌≡◌, ℕ, suc, ◌+◌, ◌<◌, Bool, true, false, ◌&&◌, List, [], ◌∷◌, ◌++◌, not, is_none, refl, sym, ap, subst, ◌∙◌, arith}
+use Rattle.std.proofs.Common.{◌≡◌, ℕ, ◌<◌, Bool, false, List, [], ◌∷◌, ◌++◌, refl, sym, ap, subst, arith}
 use Rattle.jr_text.specs.declared.spans.Span.{Span}
 use Rattle.jr_ast.specs.Tree as tree
 use Rattle.jr_ast.specs.Marks.{exp_mark}
@@ -10,13 +10,13 @@ use Rattle.jr_cover.specs.Ways as way
 use Rattle.jr_cover.specs.Ways.{Way}
 use Rattle.jr_cover.specs.Sites as sites
 use Rattle.jr_cover.specs.Sites.{Site}
-use Rattle.jr_cover.specs.Spots.{Spot, spot, spot_exp, spot_exps}
+use Rattle.jr_cover.specs.Spots.{spot_exp, spot_exps}
 use Rattle.jr_cfg.specs.Aims.{Aim, named, dotted, on_super, other, aim_of}
 use Rattle.jr_table.specs.Keys.{FieldKey}
-use Rattle.jr_cfg.specs.Meanings.{field, is_class, is_static_field, variable_of}
+use Rattle.jr_cfg.specs.Meanings.{field, is_class, is_static_field}
 use Rattle.jr_cfg.specs.Steps.{steps_of}
 use Rattle.jr_cfg.specs.StepView.{steps_in}
-use Rattle.jr_cfg.specs.KnownFacts.{Given, Others, known_of, meaning_at, place}
+use Rattle.jr_cfg.specs.KnownFacts.{Given, Others, known_of, meaning_at}
 use Rattle.jr_cfg.specs.Routes.{Route, Steps, begins_by, ends_by, spots}
 use Rattle.jr_cfg.specs.Routes as route
 use Rattle.jr_cfg.proofs.Names.{class_only, via, field_is}

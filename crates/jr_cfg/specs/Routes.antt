@@ -1,11 +1,10 @@
 -- The ways of pieces of a member, where marks are spots: by what is known of the member and what
 -- else resolved code needs. A node's parts begin at the byte `at`; `path` leads to the node.
-use Rattle.std.specs.Prelude.{◌≡◌, ℕ, ◌+◌, ◌-◌, suc, List, [], ◌∷◌, ◌++◌, Bool, true, false, not}
+use Rattle.std.specs.Prelude.{◌≡◌, ℕ, ◌-◌, List, [], ◌∷◌, ◌++◌, Bool, true, false, not}
 use Rattle.jr_text.specs.declared.spans.Span.{Span}
 use Rattle.jr_ast.specs.declared.operators.BinOp.{BinOp}
 use Rattle.jr_ast.specs.declared.operators.BinOp.TheVariants as op
 use Rattle.jr_ast.specs.Tree as tree
-use Rattle.jr_ast.specs.StatementTree as statement
 use Rattle.jr_code.specs.RunKeys.{RunKeys}
 use Rattle.jr_cover.specs.Ways as way
 use Rattle.jr_cover.specs.Ways.{Way}
@@ -21,7 +20,7 @@ use Rattle.jr_cover.specs.Sites.{
   stmt_way,
   stmts_way,
 }
-use Rattle.jr_cover.specs.Spots.{Spot, spot_exp, spot_exps, spot_stmt, spot_stmts}
+use Rattle.jr_cover.specs.Spots.{Spot, spot_exp, spot_exps}
 use Rattle.jr_cfg.specs.declared.step.Step as raw
 use Rattle.jr_cfg.specs.Steps.{steps_of}
 use Rattle.jr_cfg.specs.StepView.{steps_in}

@@ -1,4 +1,4 @@
-use Rattle.std.proofs.Common.{◌≡◌, sym, ap, ◌∙◌}
+use Rattle.std.proofs.Common.{sym, ◌∙◌}
 use Rattle.jr_table.specs.Entries.{entries_of}
 use Rattle.jr_table.specs.KeyView.{field_key_of}
 use Rattle.jr_table.specs.Looking.{is_field, own_row}

@@ -1,8 +1,7 @@
-use Rattle.std.proofs.Common.{◌≡◌, ◌-◌, ℕ, Option, sym, ap, ◌∙◌}
+use Rattle.std.proofs.Common.{◌≡◌, ◌-◌, sym, ap, ◌∙◌}
 use Rattle.std.specs.Prelude.{option_map}
 use Rattle.jr_table.specs.KeyView.{decl_of}
 use Rattle.jr_cfg.specs.Meanings as pure
-use Rattle.jr_cfg.specs.KnownFacts.{Given}
 use Rattle.jr_cfg.specs.StepView.{given}
 use Rattle.jr_cfg.proofs.here.meaning_at.Goals as goal
 

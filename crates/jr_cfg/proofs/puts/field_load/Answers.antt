@@ -2,7 +2,7 @@ use Rattle.std.proofs.Common.{◌≡◌, refl, sym, ap, ◌∙◌}
 use Rattle.jr_table.specs.KeyView.{field_key_of}
 use Rattle.jr_cover.specs.Sites as sites
 use Rattle.jr_cfg.specs.Meanings as pure
-use Rattle.jr_cfg.specs.KnownFacts.{Given, Others, meaning_at, place}
+use Rattle.jr_cfg.specs.KnownFacts.{meaning_at, place}
 use Rattle.jr_cfg.specs.StepView.{given, meaning_view}
 use Rattle.jr_cfg.proofs.Walking.{on_ok_then}
 use Rattle.jr_cfg.proofs.Names.{via, field_is}

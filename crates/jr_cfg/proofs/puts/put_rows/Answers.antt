@@ -1,8 +1,5 @@
-use Rattle.std.proofs.Common.{◌≡◌, ◌++◌, ◌+◌, ℕ, List, [], ◌∷◌, sym, ap, subst, ◌∙◌, append_assoc, arith}
+use Rattle.std.proofs.Common.{◌≡◌, ◌++◌, ℕ, [], ◌∷◌, sym, ap, subst, ◌∙◌, append_assoc, arith}
 use Rattle.std.proofs.lemmas.List.{append-nil}
-use Rattle.jr_table.specs.Decls.{MemberKey}
-use Rattle.jr_code.specs.RunKeys.{RunKeys}
-use Rattle.jr_cover.specs.Sites.{Site}
 use Rattle.jr_cfg.specs.Steps as step
 use Rattle.jr_cfg.specs.StepView.{steps_in}
 use Rattle.jr_cfg.proofs.Walking.{Seen, rows_more}

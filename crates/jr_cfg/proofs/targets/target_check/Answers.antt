@@ -1,20 +1,14 @@
-use Rattle.std.proofs.Common.{◌≡◌, ℕ, Bool, true, false, ◌||◌, List, [], ◌∷◌, ◌++◌, not, refl, sym, ap, subst, ◌∙◌}
+use Rattle.std.proofs.Common.{◌≡◌, ℕ, [], ◌∷◌, ◌++◌, sym, ap, ◌∙◌}
 use Rattle.jr_text.specs.declared.spans.Span.{Span}
-use Rattle.jr_ast.specs.Tree as tree
 use Rattle.jr_ast.specs.Marks.{exp_mark}
 use Rattle.jr_ast.specs.View.{expr_of, word_of}
 use Rattle.jr_ast.proofs.Rows.{expr_mark_is}
-use Rattle.jr_bind_expr.specs.Fits.{FitsExp}
 use Rattle.jr_bind_expr.proofs.Steps.{own_fits}
-use Rattle.jr_cover.specs.Sites as sites
-use Rattle.jr_cfg.specs.Aims.{Aim, aim_of, aim_view}
-use Rattle.jr_cfg.specs.Meanings as pure
-use Rattle.jr_cfg.specs.KnownFacts.{Given, Others, known_of, meaning_at, place}
-use Rattle.jr_cfg.specs.StepView.{given, meaning_view}
+use Rattle.jr_cfg.specs.Aims.{aim_view}
+use Rattle.jr_cfg.specs.StepView.{given}
 use Rattle.jr_cfg.specs.Routes.{Walked, begins_by, spots}
 use Rattle.jr_cfg.specs.Routes as route
-use Rattle.jr_cfg.proofs.Walking.{on_ok_then, row_goes, walked_as}
-use Rattle.jr_cfg.proofs.Names.{via}
+use Rattle.jr_cfg.proofs.Walking.{on_ok_then, walked_as}
 use Rattle.jr_cfg.proofs.Spotted as spotted
 use Rattle.jr_cfg.proofs.targets.target_check.Goals as goal
 

@@ -1,20 +1,19 @@
-use Rattle.std.proofs.Common.{◌≡◌, ◌+◌, ◌*◌, ◌<◌, ℕ, List, [], ◌∷◌, ◌++◌, Option, Some, None, ap, sym, refl, subst, ◌∙◌, drop, suc, arith}
+use Rattle.std.proofs.Common.{◌≡◌, ℕ, List, [], ◌∷◌, ◌++◌, Option, ap, sym, refl, subst, ◌∙◌, arith}
 use Rattle.std.specs.Global.{Global}
 use Rattle.std.specs.declared.boxed.Box.{Box}
 use Rattle.jr_text.specs.declared.spans.Span.{Span}
 use Rattle.jr_ast.specs.Tree as tree
 use Rattle.jr_ast.specs.declared.exprs.Expr.{Expr}
-use Rattle.jr_ast.specs.Marks.{exp_mark}
 use Rattle.jr_ast.specs.View.{word_of, type_of, expr_of, exprs_of, target_of, expr_kind, expr_row, held_target}
 use Rattle.jr_ast.proofs.Rows.{expr_kind-Call_to, expr_kind-SuperCall, expr_kind-New, expr_mark_is}
 use Rattle.jr_ast.proofs.Sizes.{exp_size, exps_size, target_size}
-use Rattle.jr_bind_expr.specs.Fits.{FitsExp, FitsTarget, FitsExps}
+use Rattle.jr_bind_expr.specs.Fits.{FitsExp}
 use Rattle.jr_bind_expr.proofs.Steps.{own_fits}
 use Rattle.jr_cover.specs.Sites as sites
 use Rattle.jr_cover.specs.Spots.{spot_exp, spot_exps}
-use Rattle.jr_cfg.specs.Aims.{Aim, aim_of, aim_view}
-use Rattle.jr_cfg.specs.KnownFacts.{Given, Others}
-use Rattle.jr_cfg.specs.StepView.{given, steps_in}
+use Rattle.jr_cfg.specs.Aims.{aim_view}
+use Rattle.jr_cfg.specs.KnownFacts.{Others}
+use Rattle.jr_cfg.specs.StepView.{given}
 use Rattle.jr_cfg.specs.Routes.{Route, Steps, Walked, begins_by}
 use Rattle.jr_cfg.specs.Routes as route
 use Rattle.jr_cfg.proofs.Walking.{on_ok_then, row_goes}

@@ -1,13 +1,9 @@
-use Rattle.std.proofs.Common.{◌≡◌, ℕ, List, [], ◌∷◌, ◌++◌, ap, sym, subst, ◌∙◌}
+use Rattle.std.proofs.Common.{ℕ, ap, subst}
 use Rattle.jr_text.specs.declared.spans.Span.{Span}
-use Rattle.jr_ast.specs.View.{expr_of}
-use Rattle.jr_cover.specs.Ways as way
-use Rattle.jr_cover.specs.Sites as sites
-use Rattle.jr_cfg.specs.KnownFacts.{Given, Others}
 use Rattle.jr_cfg.specs.StepView.{given}
 use Rattle.jr_cfg.specs.Routes.{Route, Walked}
 use Rattle.jr_cfg.specs.Routes as route
-use Rattle.jr_cfg.proofs.Walking.{on_ok_then, row_goes, fork_goes, walked_as, lazy_is, eager_is}
+use Rattle.jr_cfg.proofs.Walking.{on_ok_then}
 use Rattle.jr_cfg.proofs.walk.on_super.Goals as goal
 
 pub returns : goal.returns
