@@ -1,8 +1,0 @@
--- `Walking`: pieces are put behind one another. `Names`: what names do. `Spotted`: expressions as
--- spots have what their trees have. `Arms`: each kind of expression from its parts. `FieldRows`: the
--- row of a field.
-mod Walking
-mod Names
-mod Spotted
-mod Arms
-mod FieldRows
