@@ -363,7 +363,7 @@ stmt-loop-endings-preserved g t c =
     record {
       size = omega (arith, s, fits);
       left = standing.leaves_then T F G (n + locals_in x) (route.Numbered T n path base x) (route.stmt T path base x) (stmt_of l.of.now) l.number l.place.steps.items l.base (endings_steps l.endings.items) old l.out.items l.invariant.left
-          to c.head.new.out.items (endings_steps c.push-2.new.self.items) c.push.new.self.items (standing.one_ending l.endings.items c.push-2.new.self.items to.ending c.in_ok-push-2-in-To.ensures.items) c.in_ok-push-in-To.ensures.items p.1;
+          to c.head.new.out.items (endings_steps c.push-in-To.new.self.items) c.push.new.self.items (standing.one_ending l.endings.items c.push-in-To.new.self.items to.ending c.in_ok-push-in-To-2.ensures.items) c.in_ok-push-in-To.ensures.items p.1;
     }
 
 pub stmt-returns-in-Behind : goal.stmt-returns-in-Behind
