@@ -1,7 +1,7 @@
 -- The locals that statements declare have numbers in text order, from one on.
 use Rattle.std.specs.Prelude.{◌≡◌, ℕ, ◌+◌, suc, List}
 use Rattle.jr_ast.specs.StatementTree as statement
-use Rattle.jr_table.specs.Context.{locals_in, locals_in_else}
+use Rattle.jr_table.specs.Context.{locals_in}
 use Rattle.jr_cover.specs.Spots.{Spot, spot, onto}
 
 module _ {A : Type 0} (begins ends : A → ℕ → ℕ) (number : Spot → ℕ) where

@@ -1,13 +1,12 @@
 -- The ways of statements, where marks are spots, and what a walk over them has come to.
-use Rattle.std.specs.Prelude.{◌≡◌, ℕ, ◌+◌, ◌<◌, List, [], ◌∷◌, ◌++◌, Option, Some, None}
+use Rattle.std.specs.Prelude.{◌≡◌, ℕ, ◌+◌, List, [], ◌∷◌, ◌++◌, Option, Some, None}
 use Rattle.jr_text.specs.declared.spans.Span.{Span}
 use Rattle.jr_ast.specs.Tree as tree
 use Rattle.jr_ast.specs.StatementTree as statement
 use Rattle.jr_ast.specs.View.{stmt_of}
-use Rattle.jr_table.specs.Context.{locals_in, locals_in_else, locals_in_row}
+use Rattle.jr_table.specs.Context.{locals_in, locals_in_else}
 use Rattle.jr_bind_expr.specs.Fits.{FitsStmt}
 use Rattle.jr_cover.specs.Ways as way
-use Rattle.jr_cover.specs.Sites as sites
 use Rattle.jr_cover.specs.Sites.{What, Site, unless, stmt_way, else_way, stmts_way}
 use Rattle.jr_cover.specs.Spots.{spot_stmt, spot_else, spot_stmts}
 use Rattle.jr_code.specs.RunKeys.{RunKeys}
@@ -21,7 +20,7 @@ use Rattle.jr_expr_sites.specs.Steps as step
 use Rattle.jr_expr_sites.specs.StepView.{steps_in}
 use Rattle.jr_expr_sites.specs.KnownFacts.{Given, Others, known_of, place, is_never_null}
 use Rattle.jr_cfg.specs.Numbering.{NumbersStmt, NumbersElse, NumbersStmts}
-use Rattle.jr_expr_sites.specs.Routes.{Route, Steps, Walked, begins_by, ends_by, spots, exp, done, seq, nothing}
+use Rattle.jr_expr_sites.specs.Routes.{Route, Steps, begins_by, ends_by, spots, exp, done, seq}
 
 -- what is put behind the statement that stands last in another
 abbrev pub ending_steps : Ending → List (Step (Site RunKeys))

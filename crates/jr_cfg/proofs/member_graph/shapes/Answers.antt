@@ -1,4 +1,4 @@
-use Rattle.std.proofs.Common.{◌+◌, List, [], ◌∷◌, ◌++◌, map, take, ap, sym, ◌∙◌}
+use Rattle.std.proofs.Common.{List, [], ◌∷◌, ◌++◌, map, take, ap, sym, ◌∙◌}
 use Rattle.std.proofs.lemmas.List.{map-append, map_more, take_all}
 use Rattle.jr_expr_sites.specs.declared.step.Step as raw_step
 use Rattle.jr_expr_sites.specs.Steps.{shape_of}

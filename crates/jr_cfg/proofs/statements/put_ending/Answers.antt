@@ -1,4 +1,4 @@
-use Rattle.std.proofs.Common.{◌≡◌, ◌+◌, [], ◌∷◌, ◌++◌, ap, sym, subst, ◌∙◌, append_assoc}
+use Rattle.std.proofs.Common.{◌≡◌, [], ◌∷◌, ◌++◌, ap, sym, subst, ◌∙◌, append_assoc}
 use Rattle.jr_cfg.specs.declared.statements.Ending.{Ending}
 use Rattle.jr_expr_sites.specs.Steps as step
 use Rattle.jr_expr_sites.specs.StepView.{steps_in}

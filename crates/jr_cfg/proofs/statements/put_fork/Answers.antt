@@ -1,4 +1,4 @@
-use Rattle.std.proofs.Common.{◌+◌, [], ◌∷◌, ◌++◌, ap, ◌∙◌, append_assoc}
+use Rattle.std.proofs.Common.{[], ◌∷◌, ◌++◌, ap, ◌∙◌, append_assoc}
 use Rattle.jr_expr_sites.specs.Steps as step
 use Rattle.jr_expr_sites.specs.StepView.{steps_in}
 use Rattle.jr_expr_sites.proofs.Walking.{on_ok_then, Seen}
