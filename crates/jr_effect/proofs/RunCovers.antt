@@ -1,6 +1,6 @@
 -- The list of a graph's dependences covers what runs do in the member.
 use Rattle.std.proofs.Common.{◌≡◌, ℕ, List, map, Option, Some, None, refl, sym, ap, subst, ◌∙◌}
-use Rattle.std.specs.Prelude.{◌↔◌, Bool, IsTrue, Contains, slice_get, option_map, option_and_then, unwrap_or}
+use Rattle.std.specs.Prelude.{◌↔◌, IsTrue, Contains, slice_get, option_map, option_and_then, unwrap_or}
 use Rattle.jr_table.proofs.SameMaps.{map-map}
 use Rattle.jr_sync.specs.declared.sites.DepKind.TheVariants.{Field, Sync}
 use Rattle.jr_flow.specs.Edges.{EdgeOf}
@@ -8,15 +8,15 @@ use Rattle.jr_dependences.specs.declared.dependence.Dependence.{Dependence}
 use Rattle.jr_dependences.specs.Depends.{DependsIn}
 use Rattle.jr_plans.specs.Numbered.{Numbered}
 use Rattle.jr_runs.specs.Actions.{Event, FieldKind, plain}
-use Rattle.jr_runs.specs.Core.{Program}
 use Rattle.jr_runs.specs.Keys.{Keys}
 use Rattle.jr_runs.specs.Rows.{Rows}
-use Rattle.jr_table.specs.Decls.{MemberKey, field_decl}
+use Rattle.jr_sync.specs.declared.sites.Site as row
+use Rattle.jr_table.specs.Decls.{MemberKey, LocalKey, field_decl}
 use Rattle.jr_table.specs.Entries.{number_of}
 use Rattle.jr_table.specs.Keys.{FieldKey}
 use Rattle.jr_table.specs.Rows.{Row}
 use Rattle.jr_table.proofs.RowLaws.{number_stands, number_none}
-use Rattle.jr_code.specs.RunKeys.{RunKeys, Place}
+use Rattle.jr_code.specs.RunKeys.{RunKeys}
 use Rattle.jr_code.specs.RunRows.{AreRunRows, kind_of_words}
 use Rattle.jr_cover.specs.Dependences.{Cover}
 use Rattle.jr_cover.specs.Sites.{Site}
@@ -24,11 +24,8 @@ use Rattle.jr_cover.specs.Ways.{Way, sites_of, Edge}
 use Rattle.jr_cover.proofs.Cover as cover
 use Rattle.jr_cover.proofs.Depending as depending
 use Rattle.jr_sites.specs.declared.sites.SiteGraph.{SiteGraph}
-use Rattle.jr_sites.specs.declared.sites.PlacedSite as raw
 use Rattle.jr_sites.specs.SiteView.{PlacedSite, placed_of, sites_in}
-use Rattle.jr_cfg.specs.Graphs.{IsGraph}
-use Rattle.jr_expr_sites.specs.KnownFacts.{Given}
-use Rattle.jr_expr_sites.specs.Meanings.{field_kind, row_of}
+use Rattle.jr_expr_sites.specs.Meanings.{field_kind}
 use Rattle.jr_cfg.specs.Placed.{placed, own_local}
 use Rattle.jr_cfg.specs.Seen.{seen}
 use Rattle.jr_effect.specs.Covers.{CoversTrace}
@@ -79,7 +76,7 @@ module _ (of : SiteGraph) (list : List Dependence) (exact : (d : Dependence) →
       (λ d. subst (λ l. Contains list d ↔ DependsIn Same Same l of.graph.edges.items d) shown (exact d))
       (λ p. IsTrue (is_outside p)) _ (depending.covers P.rows (λ p. IsTrue (is_outside p)) w _ (cover.actions_follow_edges X is_outside w P has start answers fuel))
     where
-      view : (FieldKey → FieldKind) → Site RunKeys → _
+      view : (FieldKey → FieldKind) → Site RunKeys → row.Site FieldKey LocalKey
       view kinds s = seen kinds (λ f. f) (own_local g.member) s.what
 
       shown : sites_in of.sites.items ≡ map (view P.rows.field_kind) (sites_of w)
