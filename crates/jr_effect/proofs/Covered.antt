@@ -25,7 +25,7 @@ use Rattle.jr_cover.specs.Sites as sites
 use Rattle.jr_cover.specs.Covering.{site_at}
 use Rattle.jr_cover.specs.Crossing.{IsStore}
 use Rattle.jr_cover.specs.Dependences.{PathBetween, edge, onward, Access, access, access_of, IsWild, OneField, NotAllowed, Related, Stops, Depends}
-use Rattle.jr_effect.specs.Seen.{seen}
+use Rattle.jr_cfg.specs.Seen.{seen}
 use Rattle.jr_effect.specs.Plain.{Same}
 
 pub listed_either : {P Q R S T U : Type 0} → (P → R) → (Q → S) → (R → T) → (S → U) → (P ⊎ Q) → T ⊎ U

@@ -20,7 +20,7 @@ use Rattle.jr_cover.specs.Sites.{Site, Known}
 use Rattle.jr_cover.specs.Covering.{site_at, DoneAt, IsOutside}
 use Rattle.jr_cover.specs.Dependences.{OneFieldActions}
 use Rattle.jr_cover.specs.Members.{HasMember}
-use Rattle.jr_effect.specs.Seen.{seen}
+use Rattle.jr_cfg.specs.Seen.{seen}
 use Rattle.jr_effect.specs.Plain.{Same}
 
 abbrev pub CoversTrace : {K : Keys} → Rows K → (K.place → Type 0) → Way (Site K)

@@ -1,5 +1,5 @@
-pub mod Seen
 pub mod Ties
 pub mod Plain
 pub mod Covers
 pub mod Within
+pub mod MemberCovers

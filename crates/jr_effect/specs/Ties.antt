@@ -8,7 +8,7 @@ use Rattle.jr_runs.specs.Rows.{Rows}
 use Rattle.jr_cover.specs.Ways.{Way, sites_of, Edge}
 use Rattle.jr_cover.specs.Sites.{Site}
 use Rattle.jr_cover.specs.Dependences.{Depends}
-use Rattle.jr_effect.specs.Seen.{seen}
+use Rattle.jr_cfg.specs.Seen.{seen}
 use Rattle.jr_effect.specs.Plain.{Same}
 
 -- The sites of a way depend on one another exactly as the row of sites that they are seen as, where

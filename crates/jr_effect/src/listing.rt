@@ -3,6 +3,7 @@ ghost use Rattle.std.specs.Prelude.{◌≡◌, ◌↔◌, ◌<◌, ◌^◌, IfOk
 ghost use Rattle.jr_sites.specs.SiteView.{sites_in};
 ghost use Rattle.jr_dependences.specs.Listed.{IsBefore};
 ghost use Rattle.jr_dependences.specs.Depends.{DependsIn};
+ghost use Rattle.jr_effect.specs.MemberCovers.{CoversMembers};
 ghost use Rattle.jr_effect.specs.Plain.{Same};
 
 use jr_dependences::{Dependence, dependences_of};
@@ -41,6 +42,7 @@ pub fn dependences(alloc: Global, sites: &SiteGraph) -> Result<Vec<Dependence>, 
     ensures ordered { IfOk result (λ list. AllPairs IsBefore list.items) }
     ensures exact { IfOk result (λ list. (d : Dependence) → (Contains list.items d
         ↔ DependsIn Same Same (sites_in sites.now.sites.items) sites.now.graph.edges.items d)) }
+    ensures cover { IfOk result (λ list. CoversMembers sites.now list.items) }
 {
     let row = bare(alloc, sites.graph.size, &sites.sites)?;
     dependences_of(alloc, &sites.graph, &row)

@@ -5,6 +5,7 @@ use Rattle.jr_table.specs.SameKeys.{same_field, field_decides}
 use Rattle.jr_table.specs.SameDecls.{same_local, local_decides}
 use Rattle.jr_table.specs.KeyView.{field_key_of, local_key_of}
 use Rattle.jr_effect.proofs.Keyed.{depends_keyed}
+use Rattle.jr_effect.proofs.RunCovers.{members_covered}
 use Rattle.jr_effect.proofs.listing.dependences.Goals as goal
 
 pub bare-requires : goal.bare-requires
@@ -27,3 +28,6 @@ returns-clause-exact c =
     c.args.sites.now.graph.edges.items d in
     (λ at. both.0 ((exact d).0 at), λ h. (exact d).1 (both.1 h)))
     c.dependences_of.ensures.exact
+
+pub returns-clause-cover : goal.returns-clause-cover
+returns-clause-cover c = IfOk-weaker c.dependences_of.result _ _ (λ list exact. members_covered c.args.sites.now list.items exact) (returns-clause-exact c)
