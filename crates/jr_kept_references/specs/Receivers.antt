@@ -1,6 +1,6 @@
--- What becomes of `this`, of a field by its simple name and of a call without a target where a local
--- of the new place stands for `this` (JLS 6.5.6.1, 15.11.1, 15.12.1): each is a spot, and a member is
--- asked on the local.
+-- What becomes of `this`, of a field by its simple name and of a call without a target where a
+-- local of the new place stands for `this` (JLS 6.5.6.1, 15.11.1, 15.12.1): each is a spot, and a
+-- member is asked on the local.
 use Rattle.std.specs.Prelude.{◌≡◌, ℕ, List, [], Some}
 use Rattle.jr_ast.specs.Tree as tree
 use Rattle.jr_table.specs.Keys.{ClassKey, FieldKey, MethodKey, Ty, class}
