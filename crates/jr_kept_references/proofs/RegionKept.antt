@@ -98,7 +98,7 @@ module _ {A : Type 0} (tells : A → ℕ → Span) (rows : List Row) (R : Region
       bound = own_kept e ok was only;
     }
 
-  kept_name : (r : Role) (m : A) (v : tree.Word A) (y : tree.Exp A) (x u : Decl) → image_at R.seen c x ≡ Some u → FindsVariable rows (scope_of c) v.text (one x) → ((k : ClassKey) → x ≡ class_decl k → ⊥)
+  pub kept_name : (r : Role) (m : A) (v : tree.Word A) (y : tree.Exp A) (x u : Decl) → image_at R.seen c x ≡ Some u → FindsVariable rows (scope_of c) v.text (one x) → ((k : ClassKey) → x ≡ class_decl k → ⊥)
       → ((k : ClassKey) → u ≡ class_decl k → ⊥) → To u y → Keeps r (tree.name m v) y
   kept_name r m v y x u image finds never not to = kept_bound r y x u image to (tree.name m v) tt finds tt (name_type (λ m b. (tells m b).from) rows c w.one_old w.old x never m v finds)
       (name_no_class (λ m b. (tells m b).from) rows c w.one_old w.old x never m v finds) (name_only (λ m b. (tells m b).from) rows c w.one_old w.old x never m v finds r) not
@@ -114,7 +114,7 @@ module _ {A : Type 0} (tells : A → ℕ → Span) (rows : List Row) (R : Region
   kept_super r m v y x u image finds never not to = kept_bound r y x u image to (tree.super_field m v) tt finds tt (super_field_type (λ m b. (tells m b).from) rows c w.one_old w.old x never m v finds)
       (λ j named. named) (super_field_only (λ m b. (tells m b).from) rows c w.one_old w.old x never m v finds r) not
 
-  kept_call : (r : Role) (m : A) (to2 : tree.Target A) (v : tree.Word A) (args : tree.Exps A) (y : tree.Exp A) (x u : Decl) → image_at R.seen c x ≡ Some u → CallFinds rows c to2 v.text args (one x)
+  pub kept_call : (r : Role) (m : A) (to2 : tree.Target A) (v : tree.Word A) (args : tree.Exps A) (y : tree.Exp A) (x u : Decl) → image_at R.seen c x ≡ Some u → CallFinds rows c to2 v.text args (one x)
       → ((k : ClassKey) → x ≡ class_decl k → ⊥) → ((k : ClassKey) → u ≡ class_decl k → ⊥) → To u y → Keeps r (tree.call m to2 v args) y
   unfolding IsClassName
   kept_call r m to2 v args y x u image finds never not to = kept_bound r y x u image to (tree.call m to2 v args) tt finds tt (call_type (λ m b. (tells m b).from) rows c w.one_old w.old x never m to2 v args finds)

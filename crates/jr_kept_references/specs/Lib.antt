@@ -6,3 +6,4 @@ pub mod Made
 pub mod StatementsAlong
 pub mod RegionPlaces
 pub mod MembersAlong
+pub mod Receivers
