@@ -1,2 +1,0 @@
--- `Cases`: small examples, each a sentence of the rules.
-mod Cases

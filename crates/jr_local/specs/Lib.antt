@@ -1,9 +1,0 @@
-pub mod Bodies
-pub mod Spaces
-pub mod Texts
-pub mod Scopes
-pub mod Crossing
-pub mod Selecting
-pub mod Inlining
-pub mod Extracted
-pub mod Inlined
