@@ -1,5 +1,6 @@
 #!/usr/bin/env python3
-"""Extract and inline local in random programs: shapes.py [--first SEED] [--programs N] [--tries N].
+"""Extract and inline local in random programs: shapes.py [--first SEED] [--programs N] [--tries N];
+with --inlines in programs that are made for copies: a local of operators, read in operators.
 
 Each new text has to read as the tree that is meant: with the declaration and the name, or with
 copies of the initializer, and no pair of parentheses may be one too many. References that are
@@ -109,7 +110,8 @@ def told(files, step):
     """Which class a step falls into."""
     try:
         if step["step"] == "extract_local":
-            after, count = steps.extract(files, step["file"], step["from"], step["to"], step["name"])
+            span = step["from"], step["to"]
+            after, count = steps.extract(files, step["file"], *span, step["name"])
         else:
             after, count = steps.inline(files, step["file"], step["at"])
     except Refused as one:
@@ -140,7 +142,8 @@ def a_step(files, pick):
         return None
     bodies = [member.body for _, member in asked.members()]
     values = [e for body in bodies for _, e in ways_of_list(body)]
-    locals = [at for at, d in asked.notes.declared.items() if d[0] == "local"]
+    read = set(asked.notes.refs.values())
+    locals = [at for at, d in asked.notes.declared.items() if d[0] == "local" and d in read]
     if locals and pick([True, False]):
         return {"step": "inline_local", "file": name, "at": pick(locals)}
     if not values:
@@ -149,14 +152,59 @@ def a_step(files, pick):
     return {"step": "extract_local", "file": name, "from": e.at, "to": e.end, "name": word}
 
 
+class Operators:
+    """Expressions of ints and truths, in which parentheses stand only where they have to."""
+
+    def __init__(self, seed):
+        self.pick = random.Random(seed).choice
+        self.names = {"int": ["a", "b", "1"], "boolean": ["p", "q", "true"]}
+
+    def value(self, type, depth):
+        if depth == 0:
+            return self.pick(self.names[type])
+        ints = lambda: self.value("int", depth - 1)
+        form = self.pick(["two", "two", "two", "sign", "brackets", "call"])
+        if form == "brackets":
+            return "(%s)" % self.value(type, depth - 1)
+        if type == "int" and form == "call":
+            return "k(%s)" % ints()
+        if type == "int":
+            return ints() + self.pick("+-*/%") + ints() if form == "two" else "-(%s)" % ints()
+        if form == "two":
+            return ints() + self.pick(["<", ">", "<=", ">=", "==", "!="]) + ints()
+        truth = self.value(type, depth - 1), self.value(type, depth - 1)
+        return self.pick(["&&", "||"]).join(truth) if form == "call" else "!(%s)" % truth[0]
+
+    def program(self):
+        type, result = self.pick(["int", "int", "boolean"]), self.pick(["int", "boolean"])
+        init = self.value(type, self.pick([1, 1, 2]))
+        self.names[type] = self.names[type] + ["t"] * 3
+        params = "int a,int b,boolean p,boolean q"
+        head = "class A{static int k(int x){return x;}%s m(%s)" % (result, params)
+        return "%s{%s t=%s;return %s;}}" % (head, type, init, self.value(result, self.pick([2, 3])))
+
+
+def inlines(first, count):
+    counts = Counter()
+    for seed in range(first, first + count):
+        files = [("A.java", Operators(seed).program())]
+        at = files[0][1].index(" t=") + 1
+        found = told(files, {"step": "inline_local", "file": "A.java", "at": at})
+        counts["inline_local", found] += 1
+        if found.isupper():
+            print(found, files)
+    return counts
+
+
 def main():
     words = argparse.ArgumentParser()
+    words.add_argument("--inlines", action="store_true")
     words.add_argument("--first", type=int, default=0)
     words.add_argument("--programs", type=int, default=300)
     words.add_argument("--tries", type=int, default=8)
     asked = words.parse_args()
-    counts = Counter()
-    for seed in range(asked.first, asked.first + asked.programs):
+    counts = inlines(asked.first, asked.programs) if asked.inlines else Counter()
+    for seed in () if asked.inlines else range(asked.first, asked.first + asked.programs):
         files, pick = RenamingMaker(seed).files(), random.Random(seed).choice
         for _ in range(asked.tries):
             step = a_step(files, pick)

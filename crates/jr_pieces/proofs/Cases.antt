@@ -1,11 +1,11 @@
 -- Small pieces of code, each a sentence of the rules: the nearest statement, what bars a place, what
 -- is evaluated before it. Marks are numbers and first bytes.
-use Rattle.std.proofs.Common.{◌≡◌, ℕ, false, List, [], ◌∷◌, Some, None, length, refl}
+use Rattle.std.proofs.Common.{◌≡◌, ℕ, false, [], ◌∷◌, Some, None, length, refl}
 use Rattle.jr_ast.specs.declared.operators.BinOp.TheVariants.{And, Add}
 use Rattle.jr_ast.specs.Tree as tree
 use Rattle.jr_ast.specs.StatementTree as statement
-use Rattle.jr_cover.specs.Sites.{What, Site}
-use Rattle.jr_cover_cases.specs.Samples.{K, X, word, name, dot, args, class_type, reading, only, two, at}
+use Rattle.jr_cover.specs.Sites.{What}
+use Rattle.jr_cover_cases.specs.Samples.{X, word, name, dot, args, class_type, reading, only, two, at}
 use Rattle.jr_pieces.specs.Ways.{ExpWay, here, in_front, in_argument, in_created, in_right, in_assigned, in_value, in_change, first_argument, later_argument}
 use Rattle.jr_pieces.specs.Ways.{StmtWay, in_init, in_eval, in_condition, in_then, in_else, in_turning, in_body, in_block, in_lock, in_locked, ListWay, first, later}
 use Rattle.jr_table.specs.Decls.{head}
@@ -15,7 +15,7 @@ use Rattle.jr_pieces.specs.Standings.{Standing, at_list}
 use Rattle.jr_pieces.specs.Nearest.{nearest}
 use Rattle.jr_pieces.specs.Uses.{valued, assigned, stated, exp_use, list_use}
 use Rattle.jr_pieces.specs.Bars.{exp_barred, stmt_barred, list_barred}
-use Rattle.jr_pieces.specs.Before.{exp_before, stmt_before, list_before, list_through, between}
+use Rattle.jr_pieces.specs.Before.{exp_before, stmt_before, list_before, between}
 
 -- ---- what is evaluated before
 

@@ -7,8 +7,8 @@ use Rattle.jr_ast.specs.declared.operators.BinOp.TheVariants.{Or, And, Eq, Ne, L
 use Rattle.jr_ast.specs.Tree as tree
 use Rattle.jr_ast.specs.StatementTree as statement
 use Rattle.jr_runs.specs.Keys.{Keys}
-use Rattle.jr_cover.specs.Ways.{Way, pass, row, sites_of}
-use Rattle.jr_cover.specs.Sites.{What, at_place, Site, Known, unless, exp_way, exps_way, operand_way, operands, stmt_way, else_way, stmts_way}
+use Rattle.jr_cover.specs.Ways.{Way, sites_of}
+use Rattle.jr_cover.specs.Sites.{What, at_place, Site, Known, unless, exp_way, exps_way, operand_way, operands, stmt_way, stmts_way}
 use Rattle.jr_pieces.specs.Ways.{ExpWay, here, in_front, in_target, in_argument, in_super_argument, in_created, in_paren, in_cast, in_unary, in_bump, in_left, in_right, in_assigned, in_value, in_changed, in_change}
 use Rattle.jr_pieces.specs.Ways.{ExpsWay, first_argument, later_argument, StmtWay, in_init, in_eval, in_condition, in_then, in_else, in_turning, in_body, in_returned, in_block, in_lock, in_locked, ListWay, first, later}
 use Rattle.jr_pieces.specs.Before.{turned, lock_check, entered, exp_before, exps_before, stmt_before, list_before, ExpEvaluated, TargetEvaluated, ExpsEvaluated, StmtEvaluated, ListEvaluated, StandsBehind, WhatComesBeforeStandsInFront}

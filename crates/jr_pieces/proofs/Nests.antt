@@ -1,14 +1,14 @@
 -- Trees that stand in tokens, each of a byte or more, have nested spans.
-use Rattle.std.proofs.Common.{◌≡◌, ◌⊎◌, ℕ, ◌<◌, ◌≤◌, true, false, [], ◌∷◌, ◌++◌, Option, Some, None, refl, sym, ◌∙◌, ap, subst, inl, inr, arith}
+use Rattle.std.proofs.Common.{◌≡◌, ◌⊎◌, ℕ, ◌<◌, ◌≤◌, [], ◌∷◌, ◌++◌, Some, None, refl, sym, ◌∙◌, ap, subst, inl, inr, arith}
 use Rattle.jr_text.specs.declared.spans.Span.{Span}
 use Rattle.jr_ast.specs.declared.operators.BumpOp.TheVariants.{PreInc, PreDec, PostInc, PostDec}
 use Rattle.jr_ast.specs.Tree as tree
 use Rattle.jr_ast.specs.StatementTree as statement
-use Rattle.jr_grammar.specs.Tokens.{Token, Placed}
+use Rattle.jr_grammar.specs.Tokens.{Token}
 use Rattle.jr_grammar.specs.Layout.{spans_from}
 use Rattle.jr_grammar.specs.ExpressionLayout.{exp_layout, args_layout, more_args_layout}
 use Rattle.jr_grammar.specs.StatementLayout.{stmt_layout, stmts_layout}
-use Rattle.jr_grammar.specs.Stands.{Tokens, first_from, last_to, span_of, IsAlone, InOrder, IsNode, Stands}
+use Rattle.jr_grammar.specs.Stands.{Tokens, first_from, last_to, span_of, IsAlone, InOrder, Stands}
 use Rattle.jr_pieces.specs.Finding.{exp_span, stmt_span}
 use Rattle.jr_pieces.specs.Nesting.{Within, ExpNested, PartNested, PartsNested, StmtNested, StepNested, ListNested, Rising, end_from, StandingListsAreNested}
 use Rattle.jr_pieces.proofs.Finds.{from_earlier}

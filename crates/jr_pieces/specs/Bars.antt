@@ -1,12 +1,12 @@
 -- What keeps a place from being straight below: a run may not come there, or may come there again.
--- "A place is straight below a statement list if it is reached from an element of the list through
--- blocks and `synchronized` blocks alone, and stands in an expression statement, a local
--- declaration, a `return`, an `if` condition or a lock expression, and not in a right operand of
--- `&&` or `||`." So it is where no step leads into a branch of `if`, into a condition or body of
--- `while`, or into such an operand; else the innermost construct with such a step is told, by its
--- first byte. From the nearest statement of an expression on, no way meets a list, and so a block
--- or `synchronized` statement holds the expression in its lock alone.
-use Rattle.std.specs.Prelude.{ℕ, Option, Some, None}
+-- Straight below a list stands what its elements lead to through blocks and `synchronized` blocks
+-- alone: an expression that is a statement, an initializer, a returned one, the condition of an
+-- `if`, a lock, but nothing in a right operand of `&&` or `||`. What bars a place is a step into a
+-- branch of `if`, into a condition or body of `while`, or into such an operand; the innermost
+-- construct with such a step is told, by its first byte. From the nearest statement of an
+-- expression on, no way meets a list, and so a block or `synchronized` statement holds the
+-- expression in its lock alone.
+use Rattle.std.specs.Prelude.{ℕ, Option, Some}
 use Rattle.jr_ast.specs.declared.operators.BinOp.{BinOp}
 use Rattle.jr_ast.specs.declared.operators.BinOp.TheVariants.{Or, And}
 use Rattle.jr_ast.specs.Tree as tree

@@ -1,10 +1,10 @@
 -- What is evaluated before an expression, from where its way begins: sites, in evaluation order
 -- (JLS 15.7, 15.12.4, 15.26). Of a list these are those of its elements from the first one on.
-use Rattle.std.specs.Prelude.{◌≡◌, Bool, false, List, [], ◌∷◌, ◌++◌, Option, Some, None}
+use Rattle.std.specs.Prelude.{◌≡◌, false, List, [], ◌++◌, Option, Some, None}
 use Rattle.jr_ast.specs.Tree as tree
 use Rattle.jr_ast.specs.StatementTree as statement
 use Rattle.jr_runs.specs.Keys.{Keys, keys_of}
-use Rattle.jr_cover.specs.Ways.{Way, pass, row, sites_of}
+use Rattle.jr_cover.specs.Ways.{Way, row, sites_of}
 use Rattle.jr_cover.specs.Sites.{
   What,
   Site,
@@ -14,7 +14,6 @@ use Rattle.jr_cover.specs.Sites.{
   is_class_name,
   exp_way,
   receiver_way,
-  exps_way,
   operand_way,
   target_load,
   stmt_way,
@@ -122,11 +121,9 @@ module _ {K : Keys} {A : Type 0} (X : Known K A) {f : tree.Exp A} where
   list_through (first s ss d) = sites_of (stmt_way X s)
   list_through (later s ss d) = sites_of (stmt_way X s) ++ list_through d
 
-  -- What comes between what stands in front of a list and an expression in it. "`between` lists
-  -- first the sites of the statements of t's list after the declaration and before the statement
-  -- that holds the read. Of the statement that holds the read it then lists the sites evaluated
-  -- before the read. Where the read isn't straight below t's list, it lists all sites of that
-  -- statement instead." The first argument is what bars the way.
+  -- What comes between what stands in front of a list and an expression in it: the sites of the
+  -- elements in front of the one that holds it, and then of that one those that come before the
+  -- expression, or all of them where something bars the way, which the first argument says.
   abbrev pub between : {N : Type 0} {b : statement.Stmts A} → Option N → ListWay f b
       → List (Site K)
   between None d = list_before d

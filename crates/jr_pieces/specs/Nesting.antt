@@ -5,7 +5,6 @@ use Rattle.std.specs.Prelude.{◌≡◌, ◌⊎◌, ℕ, ◌<◌, ◌≤◌, [],
 use Rattle.jr_text.specs.declared.spans.Span.{Span}
 use Rattle.jr_ast.specs.Tree as tree
 use Rattle.jr_ast.specs.StatementTree as statement
-use Rattle.jr_ast.specs.Marks.{exp_mark, stmt_mark}
 use Rattle.jr_grammar.specs.Layout.{spans_from}
 use Rattle.jr_grammar.specs.StatementLayout.{stmts_layout}
 use Rattle.jr_grammar.specs.Stands.{Tokens, Stands}
