@@ -14,7 +14,7 @@ use Rattle.jr_images.specs.Regions.{Region}
 use Rattle.jr_images.specs.Spelling.{choosing}
 use Rattle.jr_images.proofs.Chosen.{left_none, right_none, lost_none}
 use Rattle.jr_reference_changes.specs.Fronts.{SimpleBecomes, IsOperandOf, IsFronted, IsClassThere, IsCastOf, IsThis}
-use Rattle.jr_reference_changes.proofs.FrontForms.{OfSuper, OfDotted, AlsoAlone, Leads, variable_front, class_front, super_front, method_front, field_front, call_front, member_class_front}
+use Rattle.jr_reference_changes.proofs.FrontForms.{OfSimple, OfSuper, OfDotted, AlsoAlone, Leads, variable_front, class_front, super_front, method_front, field_front, call_front, member_class_front}
 use Rattle.jr_reference_changes.proofs.FrontTrees.{operand_none, simple_becomes, operand_is, target_is}
 
 module _ {A : Type 0} (tells : A → ℕ → Span) (rows : List Row) (R : Region A) (super_at : Context → ℕ) where
@@ -72,7 +72,7 @@ module _ {A : Type 0} (tells : A → ℕ → Span) (rows : List Row) (R : Region
     along c d r b i (tree.this m) o is none = moved c d r b i (tree.this m) o _ is (m, refl)
     along c d r b i (tree.name m v) o (h, chosen, is) none =
         let own = lost_none o (name_out tells h m b v) is none in
-        let front = elim chosen [ inl f ↦ variable_front at_mark rows R c _ v.text h own f | inr f ↦ class_front at_mark rows R c r _ v.text h own f ] in
+        let front : OfSimple R.seen.images.rows (R.seen.scope c) (front_of h) = elim chosen [ inl f ↦ variable_front at_mark rows R c _ v.text h own f | inr f ↦ class_front at_mark rows R c r _ v.text h own f ] in
         subst (λ (z : Rewritten (tree.Exp A)). SimpleBecomes tells R Chosen c z.tree) (sym is) (simple_becomes tells R Chosen c m (front_of h) (word_to h v) front)
     along c d r b i (tree.super_field m v) o (h, chosen, is) none =
         moved c d r b i (tree.super_field m v) o (super_field_out tells h m b v) is

@@ -1,5 +1,9 @@
--- Lowest first: `Families` (pairs of a rename).
+-- Lowest first: `Families` (pairs of a rename); `FrontForms` (what each choice puts in front of a
+-- word), `FrontTrees` (what the new expression has there), `FrontsAlong`, `FrontsOfStatements`,
+-- `FrontsOfFiles` (old and new trees side by side).
 pub mod Families
 pub mod FrontForms
 pub mod FrontTrees
 pub mod FrontsAlong
+pub mod FrontsOfStatements
+pub mod FrontsOfFiles

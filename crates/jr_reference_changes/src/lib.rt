@@ -4,4 +4,4 @@
 
 mod laws;
 
-pub use laws::families_are_whole;
+pub use laws::{families_are_whole, fronts_stay};
