@@ -29,8 +29,8 @@ HasOwnName (local_decl k) = ⊥
 -- of rows a rename of declaration d to this name, which has these pairs
 pub record RenamesFamily (rows : List Row) (g : Renaming) (d : Decl) (new : List ℕ)
     (pairs : List (Decl × Decl)) : Type 0 where
-  -- each declaration that is renamed with d, and hasn't the name yet, stands in a pair with one that
-  -- has it, which is declared in its place in the new program
+  -- each declaration that is renamed with d, and hasn't the name yet, stands in a pair with one
+  -- that has it, which is declared in its place in the new program
   pub whole : (e : Decl) (j : ℕ) → HasOwnName e → IsRenamedWith rows d e → IsRowOf rows e j
       → name_of e ≢ new → (i : ℕ) × (x : Decl) × (slice_get pairs i ≡ Some (e, x))
       × (name_of x ≡ new) × IsRowOf (rows_to g rows) x j

@@ -9,8 +9,8 @@ pub fn families_are_whole()
 {}
 
 /// In front of each reference of the files that a rename makes stands what stood there, rewritten;
-/// or `this`, `super`, a cast of one of these, or the name of a class (JLS 6.4.2, 6.5). So `x` never
-/// becomes `e().x`.
+/// or `this`, `super`, a cast of one of these, or the name of a class (JLS 6.4.2, 6.5). So `x`
+/// never becomes `e().x`.
 pub fn fronts_stay()
     ensures { FrontsStay }
 {}
