@@ -1,0 +1,4 @@
+pub mod Family
+pub mod Fronts
+pub mod Places
+pub mod PlacesInFiles

@@ -1,0 +1,7 @@
+//! What a rename changes: its references, its declarations and its texts, as sets that a reader can
+//! check. Nothing in it runs.
+#![tactic(auto)]
+
+mod laws;
+
+pub use laws::{families_are_whole, fronts_stay};
