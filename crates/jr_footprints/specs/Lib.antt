@@ -1,3 +1,1 @@
-pub mod Pieces
-pub mod PieceView
-pub mod Leads
+pub mod Footprints

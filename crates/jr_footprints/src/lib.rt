@@ -1,12 +1,11 @@
-//! What pieces of a member do: the sites of an expression, of some statements of a list, and of the
-//! part of a statement in front of an expression in it.
+//! What pieces of a member do: the sites of an expression, and of some statements of a list.
 //!
-//! A footprint is the walk of `jr_expr_sites` and `jr_cfg` started at a piece. `pieces`: the pieces
-//! of a member, by their paths; `footprints`.
+//! A footprint is the walk of `jr_expr_sites` and `jr_cfg` started at a piece, and its sites alone
+//! are kept (`specs/Footprints`).
 #![tactic(auto)]
 
 mod footprints;
-mod pieces;
 
-pub use footprints::footprint;
+pub use footprints::{expr_footprint, stmts_footprint};
+pub use jr_expr_sites::Here;
 pub use jr_sites::PlacedSite;
