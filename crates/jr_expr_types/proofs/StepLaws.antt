@@ -1,15 +1,15 @@
 -- Slots are walked step by step.
-use Rattle.std.proofs.Common.{◌≡◌, ℕ, zero, suc, ◌+◌, ◌-◌, ◌<◌, ◌≤◌, List, [], ◌∷◌, length, drop, Option, Some, None, refl, sym, ap, ◌∙◌, arith}
+use Rattle.std.proofs.Common.{◌≡◌, ℕ, zero, suc, ◌+◌, ◌-◌, ◌<◌, ◌≤◌, List, ◌∷◌, length, drop, Option, Some, None, refl, sym, ap, ◌∙◌, arith}
 use Rattle.std.specs.Prelude.{slice_get, option_and_then}
 use Rattle.std.proofs.lemmas.List.{drop_all}
 use Rattle.jr_table.specs.Keys.{Ty}
 use Rattle.jr_expr_types.specs.Slots.{Slot, last_slot, size_of, skip, part_end, find}
 
-module _ (xs : List Slot) where
-  pub last_get : (end : ℕ) → (end ≡ 0 → ⊥) → slice_get xs (end - 1) ≡ last_slot xs end
-  last_get zero h = absurd (h refl)
-  last_get (suc n) h = let e : suc n - 1 ≡ n = omega arith in ap (slice_get xs) e
+pub last_get : {S : Type 0} (xs : List S) (end : ℕ) → (end ≡ 0 → ⊥) → slice_get xs (end - 1) ≡ last_slot xs end
+last_get xs zero h = absurd (h refl)
+last_get xs (suc n) h = let e : suc n - 1 ≡ n = omega arith in ap (slice_get xs) e
 
+module _ (xs : List Slot) where
   pub next_skip : (count i left next all : ℕ) → i < count → next ≡ left - size_of (last_slot xs left) → skip xs (count - i) left ≡ all → skip xs (count - (i + 1)) next ≡ all
   unfolding skip
   next_skip count i left next all lt is so_far =

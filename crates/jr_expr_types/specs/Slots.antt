@@ -25,7 +25,7 @@ pub record Slot : Type 0 where
   pub type : Option Ty
 
 -- the slot in front of an end
-abbrev pub last_slot : List Slot → (end : ℕ) → Option Slot
+abbrev pub last_slot : {S : Type 0} → List S → (end : ℕ) → Option S
 last_slot slots zero = None
 last_slot slots (suc n) = slice_get slots n
 

@@ -49,7 +49,7 @@ fn value_on(alloc: Global, state: &mut State, at: Span, token: Token<'_>) -> Mad
 {
     match mem::replace(state, State::new(alloc)).step(alloc, at, token)? {
         Some(next) => {
-            *state = next;
+            drop(mem::replace(state, next));
             Ok(true)
         }
         None => Ok(false),
@@ -63,7 +63,7 @@ fn eval_on(alloc: Global, state: &mut State, at: Span, token: Token<'_>) -> Made
 {
     match mem::replace(state, State::new(alloc)).statement_step(alloc, at, token)? {
         Some(next) => {
-            *state = next;
+            drop(mem::replace(state, next));
             Ok(true)
         }
         None => Ok(false),
@@ -114,7 +114,7 @@ impl ListState {
         let list = mem::replace(self, ListState::new(alloc));
         match list.behind(alloc, at, token)? {
             Some(next) => {
-                *self = next;
+                drop(mem::replace(self, next));
                 Ok(true)
             }
             None => Ok(false),

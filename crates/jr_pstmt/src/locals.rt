@@ -129,8 +129,14 @@ fn local_name(
     ensures { IsNextList result (Some (machine.named (on place) (all place) start is_final
         (type_of ty) (expressions.marked at text.now))) }
 {
-    let name = word(alloc, at, text)?;
-    to(place, Mode::Named(start, is_final, ty, name))
+    match word(alloc, at, text) {
+        Ok(name) => to(place, Mode::Named(start, is_final, ty, name)),
+        Err(error) => {
+            drop(place);
+            drop(ty);
+            Err(error)
+        }
+    }
 }
 
 /// A token behind the type, or behind its first word.

@@ -1,7 +1,6 @@
-use Rattle.std.proofs.Common.{map, ◌∙◌}
-use Rattle.jr_expr_types.specs.SlotView.{slot_of}
+use Rattle.std.proofs.Common.{◌∙◌}
 use Rattle.jr_expr_types.proofs.StepLaws.{last_get}
 use Rattle.jr_expr_types.proofs.types.last.Goals as goal
 
 pub returns : goal.returns
-returns c = c.slot_at.ensures ∙ last_get (map slot_of c.args.slots.now) c.args.end c.if-end-eq0.false
+returns c = c.slot_at.ensures ∙ last_get c.args.slots.now c.args.end c.if-end-eq0.false
