@@ -4,7 +4,7 @@
 -- site doesn't matter to edges. `AccessKinds`: kinds of accesses. `Following`: runs follow the graph.
 mod Standing
 mod Limbs
-mod StepLaws
+pub mod StepLaws
 mod NumberAt
 mod BareWays
 mod Bodies

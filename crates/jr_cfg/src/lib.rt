@@ -18,4 +18,4 @@ pub use jr_expr_sites::Here;
 pub use jr_sites::{PlacedSite, SiteGraph};
 pub use member_graph::graph;
 pub use placing::placed_sites;
-pub use statements::stmts;
+pub use statements::{stmt, stmts};

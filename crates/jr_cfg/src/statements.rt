@@ -317,7 +317,7 @@ fn sync<'a, F: Facts, A: Mark>(
 /// Puts the steps of a statement to which the path leads, and whose parent begins at `base`;
 /// `number` is that of the first local that is declared in it. Answers the number of the next one.
 #[cycle(stmt_walk)]
-pub(crate) fn stmt<'a, F: Facts, A: Mark>(
+pub fn stmt<'a, F: Facts, A: Mark>(
     alloc: Global,
     here: &Here<'a, F>,
     path: &Path,
