@@ -16,6 +16,7 @@ use Rattle.jr_rewrite.specs.Rewritten.{Rewritten, within, joined, word_to, varia
 use Rattle.jr_rewrite.specs.Spots.{Asks, level, a_target, Spotted, nowhere, spotted, OrPart}
 use Rattle.jr_rewrite.specs.Rewrites.{Choosing, TransformsExp, TransformsTarget, TransformsRow, TransformsPart, RewritesType}
 use Rattle.jr_rewrite.specs.Along.{OperandAlong}
+use Rattle.jr_rewrite.proofs.ExpressionShapes.{this_is}
 use Rattle.jr_images.specs.Regions.{Region}
 use Rattle.jr_images.specs.Spelling.{spelled, outer_front, outer_type, choosing, FieldChoice, MemberClassChoice, SimpleCallChoice, CallChoice}
 use Rattle.jr_images.proofs.Chosen.{renamed_front, lost_some, left_none, right_none, lost_none}
@@ -169,7 +170,7 @@ module _ {A : Type 0} (tells : A → ℕ → Span) (rows : List Row) (R : Region
     along r b i (tree.truth m n) o is none = moved r b i (tree.truth m n) o _ is (m, refl)
     along r b i (tree.null m) o is none = moved r b i (tree.null m) o _ is (m, refl)
     along r b i (tree.string m s) o is none = moved r b i (tree.string m s) o _ is (m, refl)
-    along r b i (tree.this m) o is none = moved r b i (tree.this m) o _ is (m, refl)
+    along r b i (tree.this m) o made none = moved r b i (tree.this m) o _ (this_is S made) (m, refl)
     along r b i (tree.name m v) o made none = own r b i (tree.name m v) o made none
     along r b i (tree.super_field m v) o made none = own r b i (tree.super_field m v) o made none
     along r b i (tree.field m e v) o (h, p, spells, inner, is) none =

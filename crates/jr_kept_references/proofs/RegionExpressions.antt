@@ -15,9 +15,9 @@ use Rattle.jr_table.specs.Context.{Context, scope_of, WritesType}
 use Rattle.jr_table.specs.Binding.{HasType, IsClassName, HaveTypes, Role, value, left, sign_type, operator_type}
 use Rattle.jr_rewrite.specs.Respellings.{Loss, Choice, front_of}
 use Rattle.jr_rewrite.specs.Rewritten.{Rewritten, within, joined, drops_operand, losses_of, word_out, name_out, field_out, super_field_out, simple_call_out, dotted_call_out, operand_losses, Called}
-use Rattle.jr_rewrite.specs.Spots.{Asks, level, a_target, Spotted, nowhere, spotted, OrPart}
+use Rattle.jr_rewrite.specs.Spots.{Asks, level, a_target, Spotted, nowhere, spotted, OrThis, OrPart}
 use Rattle.jr_rewrite.specs.Rewrites.{Choosing, TransformsExp, TransformsTarget, TransformsRow, TransformsPart}
-use Rattle.jr_images.specs.Regions.{Region, AreTypesNow}
+use Rattle.jr_images.specs.Regions.{itself, Region, AreTypesNow}
 use Rattle.jr_images.specs.Spelling.{choosing}
 use Rattle.jr_images.proofs.Chosen.{left_none, right_none, lost_none}
 use Rattle.jr_kept_references.specs.InRegions.{rows_in, type_in}
@@ -73,7 +73,12 @@ module _ {A : Type 0} (tells : A → ℕ → Span) (rows : List Row) (R : Region
         by : (s : Spotted A) → PartsBecome (λ m b. (tells m b).from) rows R s → OrPart s k c r base e p (TransformsExp tells Chosen S c r base e p) → Gives e p.tree
         by nowhere become inner = by_node inner
         by (spotted s) become (inl inner) = by_node inner
-        by (spotted s) become (inr spot) = become k c d r base e p spot none w.stand
+        by (spotted s) become (inr spot) = become.1 k c d r base e p spot none w.stand
+
+    -- where `this` stays, nothing else stands for it
+    this_stays : (s : Spotted A) → PartsBecome (λ m b. (tells m b).from) rows R s → {N : Type 0} → OrThis s N → (R.receiver ≡ itself) × N
+    this_stays nowhere become h = (become, h)
+    this_stays (spotted s) become h = (become.0 h.0, h.1)
 
     -- what has a type by itself
     plain : (r : Role) (e y : tree.Exp A) → ((t : Ty) → HasType rows c e t → HasType (rows_in R) d y (R.type_now c e t)) → ((k : ClassKey) → IsClassName rows c e k → ⊥)
@@ -89,8 +94,8 @@ module _ {A : Type 0} (tells : A → ℕ → Span) (rows : List Row) (R : Region
       kept r base (tree.null m) o is none = move r _ o _ is (plain r _ _ (λ t h. w.types.own c (tree.null m) t tt h ∙ ap (type_in R) h) (λ k h. h) (λ k h. h) (λ b i at x h. absurd h.1))
       kept r base (tree.string m s) o is none = move r _ o _ is
           (plain r _ _ (λ t h. w.types.own c (tree.string m s) t tt h ∙ ap (type_in R) h ∙ ap class w.images.string) (λ k h. h) (λ k h. h) (λ b i at x h. absurd h.1))
-      kept r base (tree.this m) o is none = move r _ o _ is
-          (plain r _ _ (λ t h. w.types.this c m t w.stays h ∙ ap (λ (s : Scope). class s.class) (sym w.stand.scope)) (λ k h. h) (λ k h. h) (λ b i at x h. absurd h.1))
+      kept r base (tree.this m) o made none = (let here = this_stays S parts made in move r _ o _ here.1
+          (plain r _ _ (λ t h. w.types.this c m t here.0 h ∙ ap (λ (s : Scope). class s.class) (sym w.stand.scope)) (λ k h. h) (λ k h. h) (λ b i at x h. absurd h.1)))
       kept r base (tree.name m v) o (h, inl (inl (k, spells)), is) none = move r (tree.name m v) o (name_out tells h m base v) is (local_kept tells rows R c d w r m v _ h (lost_none o (name_out tells h m base v) is none) k spells)
       kept r base (tree.name m v) o (h, inl (inr (k, spells)), is) none = move r (tree.name m v) o (name_out tells h m base v) is (own_field_kept tells rows R c d w r m v _ h (lost_none o (name_out tells h m base v) is none) k spells)
       kept r base (tree.name m v) o (h, inr spells, is) none = move r (tree.name m v) o (name_out tells h m base v) is (class_kept tells rows R c d w r m v _ h (lost_none o (name_out tells h m base v) is none) r spells)

@@ -10,10 +10,10 @@ use Rattle.jr_table.specs.LookupLaws.{EachHasOne}
 use Rattle.jr_table.specs.Context.{Context, IsTypeOf}
 use Rattle.jr_table.specs.BindingLaws.{IsBound}
 use Rattle.jr_spell.specs.Rebound.{SpellingsRebind, ClassesRebind, AreFronts}
-use Rattle.jr_images.specs.Regions.{IsImageRow, AreImages, image_at, itself, Region, AreTypesNow}
+use Rattle.jr_images.specs.Regions.{IsImageRow, AreImages, image_at, Region, AreTypesNow}
 use Rattle.jr_kept_references.specs.InRegions.{rows_in, class_in, field_in, method_in, ctor_in, type_in, StandsFor, TellsTypes}
 
--- what the laws of lookup, binding and spelling give of the two programs, and the place; `this` stays
+-- what the laws of lookup, binding and spelling give of the two programs, and the place
 pub record RegionWorld (A : Type 0) (rows : List Row) (R : Region A) (c d : Context) : Type 0 where
   pub one_old : EachHasOne rows
   pub one_new : EachHasOne (rows_in R)
@@ -26,7 +26,6 @@ pub record RegionWorld (A : Type 0) (rows : List Row) (R : Region A) (c d : Cont
   pub args : (at : Context) (es : tree.Exps A) (ts : List Ty) → AreTypesNow R at es ts (R.types_now at es ts)
   pub types : TellsTypes rows R
   pub stand : StandsFor R rows c d
-  pub stays : R.receiver ≡ itself
 
 module _ {A : Type 0} (rows : List Row) (R : Region A) (c d : Context) (w : RegionWorld A rows R c d) where
   row_type : (x z : Decl) (j : ℕ) (i : IsRowOf rows x j) (t : Ty) → i.row.type ≡ Some t → ((s : Row) → IsImageRow R.seen.images i.row s → s.decl ≡ z)

@@ -105,7 +105,6 @@ module _ (rows : List Row) (g : Renaming) where
         args = types_now;
         types = tells_types;
         stand = stands_for;
-        stays = refl;
       }
 
       -- a reference that is kept in the region is kept by the rename
@@ -136,4 +135,4 @@ module _ (rows : List Row) (g : Renaming) where
       pub renamed_kept : (tells : A → ℕ → Span) (super_at : Context → ℕ) → IsFair rows g → World A rows g c d → (r : Role) (base : ℕ) (e : tree.Exp A) (o : Rewritten (tree.Exp A))
           → RewritesExp tells (spelling (λ m b. (tells m b).from) rows g super_at) c r base e o → o.losses ≡ [] → (b i : ℕ) → IsKept (λ m b. (tells m b).from) (λ m b. (tells m b).from) g rows c d r b e i o.tree
       renamed_kept tells super_at fair w r base e o made none b i =
-          is_kept (λ m b. (tells m b).from) r b e i o.tree ((kept tells rows (region_of rows g) c d (world_of fair w) super_at nowhere tt r base e o made none).bound b i)
+          is_kept (λ m b. (tells m b).from) r b e i o.tree ((kept tells rows (region_of rows g) c d (world_of fair w) super_at nowhere refl r base e o made none).bound b i)

@@ -23,7 +23,7 @@ use Rattle.jr_table.specs.Binding.{
 }
 use Rattle.jr_rewrite.specs.Rewritten.{Rewritten}
 use Rattle.jr_rewrite.specs.Spots.{Asks, Spotted, nowhere, spotted}
-use Rattle.jr_images.specs.Regions.{image_at, Region}
+use Rattle.jr_images.specs.Regions.{image_at, itself, Region}
 use Rattle.jr_images.specs.Keeping.{WasOnClass}
 use Rattle.jr_kept_references.specs.InRegions.{
   rows_in,
@@ -111,14 +111,16 @@ module _ {A : Type 0} (begins : A → ℕ → ℕ) (rows : List Row) (R : Region
 
 -- ---- spots
 
--- what a spot makes of an expression has the type that the region tells, and is a class's name
--- where the expression was one: a refactoring owes it where it loses nothing
+-- `this` stays only where nothing else stands for it; and what a spot makes of an expression has the
+-- type that the region tells, and is a class's name where the expression was one: a refactoring owes
+-- it where it loses nothing
 abbrev pub PartsBecome : {A : Type 0} (begins : A → ℕ → ℕ) (rows : List Row) → Region A → Spotted A
     → Type 0
-PartsBecome begins rows R nowhere = Unit {0}
-PartsBecome {A} begins rows R (spotted s) = (k : Asks) (c d : Context) (r : Role) (base : ℕ)
-    (e : tree.Exp A) (o : Rewritten (tree.Exp A)) → s.part k c r base e o → o.losses ≡ []
-    → StandsFor R rows c d → Becomes begins rows R c d e o.tree
+PartsBecome begins rows R nowhere = R.receiver ≡ itself
+PartsBecome {A} begins rows R (spotted s) = (s.this_stays → R.receiver ≡ itself)
+    × ((k : Asks) (c d : Context) (r : Role) (base : ℕ) (e : tree.Exp A)
+    (o : Rewritten (tree.Exp A)) → s.part k c r base e o → o.losses ≡ [] → StandsFor R rows c d
+    → Becomes begins rows R c d e o.tree)
 
 -- ---- superclasses
 

@@ -51,6 +51,7 @@ named piece name written = record {
   list = λ n c base xs o. ⊥;
   members = λ base of xs o. ⊥;
   whole = λ base outer x o. ⊥;
+  this_stays = Unit {0};
 }
 
 module _ (C : Choosing Span) (bytes : List ℕ) (moved : tree.Exp Span) (type : tree.TypeName Span) (name written front gap : List ℕ) where
@@ -90,6 +91,7 @@ extraction = record {
   list = λ n c base xs o. Extracts all_stay returning brackets (tree.int (span 27 27)) (codes "t") (codes " t") (codes "int t = ") (codes " ") n c base (span 27 39) xs o;
   members = λ base of xs o. ⊥;
   whole = λ base outer x o. ⊥;
+  this_stays = Unit {0};
 }
 
 abbrev extracted : Rewritten (statement.Stmts Span)
@@ -143,6 +145,7 @@ module _ (C : Choosing Span) (bytes : List ℕ) (init : tree.Exp Span) (name fro
     list = λ n c base xs o. ⊥;
     members = λ base of xs o. ⊥;
     whole = λ base outer x o. ⊥;
+    this_stays = Unit {0};
   }
 
   -- the declaration, with what of its line goes along, is gone
@@ -173,6 +176,7 @@ inlining = record {
   list = λ n c base xs o. Inlines all_stay differing minus_one (codes "t") (codes " ") (span 21 30) n c base xs o;
   members = λ base of xs o. ⊥;
   whole = λ base outer x o. ⊥;
+  this_stays = Unit {0};
 }
 
 abbrev difference : Rewritten (tree.Exp Span)

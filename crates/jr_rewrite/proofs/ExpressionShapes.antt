@@ -12,7 +12,7 @@ use Rattle.jr_table.specs.Binding.{Role, value, left}
 use Rattle.jr_rewrite.specs.Respellings.{Front, same, alone, by_this, by_super, by_cast_this, by_class, by_outer_class, by_cast, Choice, stays, becomes, loses, front_of}
 use Rattle.jr_rewrite.specs.Rewritten.{Rewritten, word_to, operand_to, variable_on, variable_to, super_to, target_of, Called}
 use Rattle.jr_rewrite.specs.Suitable.{Suits, MayStandFor, MayBeCast, SuitsCall, AreSuitable}
-use Rattle.jr_rewrite.specs.Spots.{Asks, level, a_target, a_statement, Takes, Spotted, nowhere, spotted, OrPart}
+use Rattle.jr_rewrite.specs.Spots.{Asks, level, a_target, a_statement, Takes, Spotted, nowhere, spotted, OrThis, OrPart}
 use Rattle.jr_rewrite.specs.Rewrites.{Choosing, TypeOut, TransformsExp, TransformsTarget, TransformsRow, TransformsPart}
 use Rattle.jr_rewrite.specs.Woven.{Weaving}
 use Rattle.jr_rewrite.specs.SuitableSpots.{SpotsSuit}
@@ -187,6 +187,11 @@ or_shaped : {A : Type 0} (tells : A → ℕ → Span) (S : Spotted A) (C : Choos
 or_shaped tells nowhere C W suit k minus c r base e o w h go = go w
 or_shaped tells (spotted s) C W suit k minus c r base e o w h go = elim w [ inl x ↦ go x | inr x ↦ suit.part_shaped k c r base e o x minus h ]
 
+-- where `this` stays
+pub this_is : {A : Type 0} (S : Spotted A) {N : Type 0} → OrThis S N → N
+this_is nowhere h = h
+this_is (spotted s) h = h.1
+
 module _ {A : Type 0} (tells : A → ℕ → Span) (C : Choosing A) where
   -- ---- types
 
@@ -205,7 +210,7 @@ module _ {A : Type 0} (tells : A → ℕ → Span) (C : Choosing A) where
     exp_level c r base (tree.truth m b) o w = ap (λ z. level_of z.tree) w
     exp_level c r base (tree.null m) o w = ap (λ z. level_of z.tree) w
     exp_level c r base (tree.string m s) o w = ap (λ z. level_of z.tree) w
-    exp_level c r base (tree.this m) o w = ap (λ z. level_of z.tree) w
+    exp_level c r base (tree.this m) o w = ap (λ z. level_of z.tree) (this_is S w)
     exp_level c r base (tree.name m v) o w = ap (λ z. level_of z.tree) w.2 ∙ variable_level m (front_of w.0) (word_to w.0 v)
     exp_level c r base (tree.field m e v) o w = ap (λ z. level_of z.tree) w.4 ∙ on_level m (operand_to m (front_of w.0) (Some w.1.tree)) (word_to w.0 v)
     exp_level c r base (tree.super_field m v) o w = ap (λ z. level_of z.tree) w.2 ∙ super_level m (front_of w.0) (word_to w.0 v)
@@ -290,7 +295,7 @@ module _ {A : Type 0} (tells : A → ℕ → Span) (C : Choosing A) where
         exp_shaped minus c r base (tree.truth m b) o w h = subst (λ z. ShapedBehind minus z.tree) (sym w) tt
         exp_shaped minus c r base (tree.null m) o w h = subst (λ z. ShapedBehind minus z.tree) (sym w) tt
         exp_shaped minus c r base (tree.string m s) o w h = subst (λ z. ShapedBehind minus z.tree) (sym w) tt
-        exp_shaped minus c r base (tree.this m) o w h = subst (λ z. ShapedBehind minus z.tree) (sym w) tt
+        exp_shaped minus c r base (tree.this m) o w h = subst (λ z. ShapedBehind minus z.tree) (sym (this_is S w)) tt
         exp_shaped minus c r base (tree.name m v) o w h = subst (λ z. ShapedBehind minus z.tree) (sym w.2) (variable_shaped m minus (front_of w.0) (word_to w.0 v))
         exp_shaped minus c r base (tree.field m e v) o w h =
             let at : ℕ = (tells m base).from in

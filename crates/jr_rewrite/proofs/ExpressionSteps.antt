@@ -21,6 +21,7 @@ use Rattle.jr_rewrite.specs.Spots.{Asks, Spotted, nowhere, spotted, OrPart}
 use Rattle.jr_rewrite.specs.Rewrites.{Choosing, TypeOut, RewritesType, TransformsExp, TransformsTarget, TransformsRow, TransformsPart}
 use Rattle.jr_rewrite.specs.Woven.{Weaving}
 use Rattle.jr_rewrite.specs.SuitableSpots.{SpotsSuit}
+use Rattle.jr_rewrite.proofs.ExpressionShapes.{this_is}
 use Rattle.jr_rewrite.proofs.Steps.{BeginWordLike, IsWordLike, Stepped}
 use Rattle.jr_rewrite.proofs.Stepping.{part_woven, stepped_new, none_steps, both_steps, token_steps, closing_steps, last_steps, end_steps, alone_steps, IsSome, first_some, token_some, rest_some, IsOneWord, one_word, dotted, regrouped, dotted_target}
 use Rattle.jr_rewrite.proofs.WordSteps.{chosen, word_steps, dotted_chosen, dotted_steps, MayBehindDot, qualified_chosen, qualified_dotted, super_chosen, super_dotted}
@@ -229,7 +230,7 @@ module _ {A : Type 0} (tells : A → ℕ → Span) where
       exp_steps c r base (tree.truth m b) o ps w h = subst (λ z. Stepped W false ps z.changes (toks z.tree)) (sym w) (end_steps ps h.parts)
       exp_steps c r base (tree.null m) o ps w h = subst (λ z. Stepped W false ps z.changes (toks z.tree)) (sym w) (end_steps ps h.parts)
       exp_steps c r base (tree.string m s) o ps w h = subst (λ z. Stepped W false ps z.changes (toks z.tree)) (sym w) (end_steps ps h.parts)
-      exp_steps c r base (tree.this m) o ps w h = subst (λ z. Stepped W false ps z.changes (toks z.tree)) (sym w) (end_steps ps h.parts)
+      exp_steps c r base (tree.this m) o ps w h = subst (λ z. Stepped W false ps z.changes (toks z.tree)) (sym (this_is S w)) (end_steps ps h.parts)
       exp_steps c r base (tree.name m v) o ps w h =
           let s : Span = tells v.mark (tells m base).from in
           let suits = fit.expression c r base (tree.name m v) w.0 w.1 in

@@ -4,18 +4,23 @@
 -- is (`jr_lex: Yields`); `Parts`, `Cuts`, `Tiles`, `Skipping`, `Stepping`, `WordSteps`, `NewTokens`
 -- serve these. `ExpressionShapes`, `MemberShapes` keep the side conditions of the grammar.
 -- `Rewriting` has the laws. `Entries`, `Putting`, `Pushing`: the code's changes and edits.
--- `SpotWeaving`, `Moved`: what spots need of texts, and a piece that moves.
+-- `SpotWeaving`, `Moved`: what spots need of texts, and a piece that moves. `WholeLines`: a run that
+-- goes, or is replaced, with its lines (`LastBytes`, `BlankBytes` serve it; `LinesCase`: a small text).
 -- `BareForms`, `Unbared`, `UnbaredMembers`: what stands along a tree stands along each that is equal
 -- but for marks.
 pub mod Parts
 pub mod Cuts
 pub mod Steps
+pub mod LastBytes
 pub mod Tiles
 pub mod Firsts
 pub mod Weaving
 pub mod Skipping
 pub mod Woven
 pub mod SpotWeaving
+pub mod BlankBytes
+pub mod WholeLines
+pub mod LinesCase
 pub mod Moved
 pub mod Entries
 pub mod Stepping

@@ -1,6 +1,6 @@
 -- A piece that moves: its bytes with its own changes are a text by themselves, which is cut into the
 -- tokens of what it becomes.
-use Rattle.std.proofs.Common.{◌≡◌, ℕ, ◌+◌, true, false, List, [], ◌∷◌, ◌++◌, length, take, None, refl, sym, ap, ◌∙◌, subst}
+use Rattle.std.proofs.Common.{◌≡◌, ℕ, ◌+◌, false, List, [], ◌∷◌, ◌++◌, length, take, None, refl, sym, ap, ◌∙◌, subst}
 use Rattle.std.specs.Str.{IsUtf8, chars}
 use Rattle.std.proofs.lemmas.Bool.{false≢true}
 use Rattle.std.proofs.lemmas.List.{append_assoc, append-nil, length-append, take_at}
@@ -23,7 +23,7 @@ use Rattle.jr_splice.specs.Cutting.{own_token}
 use Rattle.jr_splice.proofs.Cut.{own_inside}
 use Rattle.jr_splice.proofs.Gluing.{Glued}
 use Rattle.jr_rewrite.specs.Respellings.{Change}
-use Rattle.jr_rewrite.specs.Woven.{Fronts, IsTile, Tiled, join_changes, with_changes, Weaves}
+use Rattle.jr_rewrite.specs.Woven.{Fronts, IsTile, Tiled, join_changes, with_changes, anything, Weaves}
 use Rattle.jr_rewrite.proofs.Steps.{Stepped, olds, changes, news}
 use Rattle.jr_rewrite.proofs.Weaving.{woven_glued}
 use Rattle.jr_rewrite.proofs.Skipping.{placed_at, placed_token, placed_blank, placed_comment, head_same, tail_same, further, tiled_further}
@@ -189,7 +189,7 @@ moved_glued F bytes pre post items p run more cs ts e tiled placed from s =
     let is_piece : piece ≡ pre ++ a.inside =
     ap (λ n. take n bytes) a.last ∙ ap (take (length (pre ++ a.inside))) (e ∙ ap (λ xs. pre ++ xs) a.whole ∙ sym (append_assoc pre a.inside a.rest)) ∙ take_at (pre ++ a.inside) a.rest (length (pre ++ a.inside)) refl in
     let tokens : placed_of piece a.items ≡ olds s.steps ++ [] = ap (λ b. placed_of b a.items) is_piece ∙ a.placed ∙ sym s.olds_are ∙ sym (append-nil (olds s.steps)) in
-    let woven = steps_weave F piece s.steps None [] [] [] s.flow (λ is pre' post' e' t q here. (rest_woven is piece pre' post' e' t q).woven) a.items pre a.inside is_piece a.tiled tokens tt in
+    let woven = steps_weave F piece s.steps anything [] [] [] s.flow (λ is pre' post' e' t q here. (rest_woven is piece pre' post' e' t q).woven) a.items pre a.inside is_piece a.tiled tokens tt in
     let g : Glued (join_pieces woven.pieces) (news s.steps ++ []) = woven_glued woven in
     let text : with_changes bytes (span_of (p ∷ run)) cs ≡ join_pieces woven.pieces =
     ap (λ c. join_changes p.mark.from piece c) (sym (append-nil (changes s.steps) ∙ s.changes_are)) ∙ ap (λ n. join_changes n piece (changes s.steps ++ [])) from ∙ woven.text_is in

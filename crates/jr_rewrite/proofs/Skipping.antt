@@ -9,12 +9,14 @@ use Rattle.jr_lex.specs.declared.items.ItemKind.TheVariants.{Token as TokenItem,
 use Rattle.jr_lex.specs.declared.items.TokenKind.{TokenKind}
 use Rattle.jr_lex.specs.declared.items.TokenKind.TheVariants.{Word, Keyword, Int, Text, Mark}
 use Rattle.jr_lex.specs.Characters.{is_word_part, first_passes}
+use Rattle.jr_lex.specs.Lexemes.{IsLexeme}
 use Rattle.jr_lex.specs.Near.{IsCut}
 use Rattle.jr_lex.proofs.Seams.{word_stops}
 use Rattle.jr_grammar.specs.Tokens.{Placed, token_of_kind, placed_of}
 use Rattle.jr_grammar.specs.Stands.{Tokens, last_to}
-use Rattle.jr_rewrite.specs.Woven.{Fronts, MayFront, IsTile, Tiled}
+use Rattle.jr_rewrite.specs.Woven.{Fronts, MayFront, IsTile, Tiled, ends_in, is_indent}
 use Rattle.jr_rewrite.proofs.Steps.{IsWord, EndInWord}
+use Rattle.jr_rewrite.proofs.LastBytes.{behind_token}
 
 -- ---- the first item, by its kind
 
@@ -65,6 +67,10 @@ word_fronts {F = F} bytes pre f rest i k e tile h =
     let kind : i.kind ≡ TokenItem Word = e ∙ ap TokenItem (is_word_kind bytes i.span k h) in
     subst (λ n. F n Word) (sym (length-append pre f)) (subst (MayFront F (length pre + length f)) kind tile.fronts)
 
+-- behind a token stands no space and no tab
+pub token_no_indent : {F : Fronts} {at : ℕ} (pre f rest : List ℕ) (i : Item) (k : TokenKind) → i.kind ≡ TokenItem k → IsTile F at i f rest → ends_in is_indent (pre ++ f) ≡ false
+token_no_indent pre f rest i k kind tile = behind_token pre f k tile.is_text (subst (λ x. IsLexeme x (chars f)) kind tile.cut.taken.lexeme)
+
 -- ---- behind a run
 
 pub record Skipped (F : Fronts) (bytes pre : List ℕ) (run more : Tokens) : Type 0 where
@@ -78,9 +84,10 @@ pub record Skipped (F : Fronts) (bytes pre : List ℕ) (run more : Tokens) : Typ
   pub last : last_to run ≡ length front
   pub stops : EndInWord run → first_passes is_word_part (chars rest) ≡ false
   pub fronts : EndInWord run → F (length front) Word
+  pub no_indent : ends_in is_indent front ≡ false
 
 -- from a place further on
-sooner : {F : Fronts} (bytes pre f : List ℕ) (run more : Tokens) → Skipped F bytes (pre ++ f) run more → Skipped F bytes pre run more
+pub sooner : {F : Fronts} (bytes pre f : List ℕ) (run more : Tokens) → Skipped F bytes (pre ++ f) run more → Skipped F bytes pre run more
 sooner bytes pre f run more s = record {
   front = s.front;
   rest = s.rest;
@@ -92,6 +99,7 @@ sooner bytes pre f run more s = record {
   last = s.last;
   stops = s.stops;
   fronts = s.fronts;
+  no_indent = s.no_indent;
 }
 
 one_more : {F : Fronts} (bytes pre : List ℕ) (p q : Placed Span) (run more : Tokens) → Skipped F bytes pre (q ∷ run) more → Skipped F bytes pre (p ∷ q ∷ run) more
@@ -106,6 +114,7 @@ one_more bytes pre p q run more s = record {
   last = s.last;
   stops = s.stops;
   fronts = s.fronts;
+  no_indent = s.no_indent;
 }
 
 -- the first item is the first token of the run
@@ -129,6 +138,7 @@ at_token bytes pre post f rest i is p [] more k e tiled tile kind placed again =
       last = sym mark ∙ to ∙ sym (length-append pre f);
       stops = λ word. word_ends bytes f rest i (length pre) k kind tile (subst (λ (x : Placed Span). IsWord x.token) (sym same) word);
       fronts = λ word. word_fronts bytes pre f rest i k kind tile (subst (λ (x : Placed Span). IsWord x.token) (sym same) word);
+      no_indent = token_no_indent pre f rest i k kind tile;
     }
 at_token bytes pre post f rest i is p (q ∷ run) more k e tiled tile kind placed again =
     one_more bytes pre p q run more (sooner bytes pre f (q ∷ run) more (again q run (tail_same _ _ _ _ placed)))

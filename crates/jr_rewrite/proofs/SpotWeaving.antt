@@ -1,6 +1,6 @@
 -- What spots need of texts: steps weave, one run behind the other weaves, a run is replaced by
 -- lexemes, and lexemes are put in front of a run.
-use Rattle.std.proofs.Common.{◌≡◌, ◌⊎◌, inl, inr, ℕ, ◌-◌, ◌≤◌, take, drop, ◌==◌, false, Bool, List, [], ◌∷◌, ◌++◌, length, Option, Some, None, refl, sym, ap, ◌∙◌, subst, arith}
+use Rattle.std.proofs.Common.{◌≡◌, ◌⊎◌, inl, inr, ℕ, ◌-◌, ◌≤◌, take, drop, ◌==◌, true, false, Bool, List, [], ◌∷◌, ◌++◌, length, Option, Some, None, refl, sym, ap, ◌∙◌, subst, arith}
 use Rattle.std.specs.Prelude.{slice_range}
 use Rattle.std.specs.Str.{IsUtf8, chars}
 use Rattle.std.proofs.lemmas.Bool.{both_ways}
@@ -25,43 +25,43 @@ use Rattle.jr_rewrite.specs.Rewritten.{change}
 use Rattle.jr_splice.specs.Cutting.{chars_in, AreCutBefore, with_token, own_token, tokens_in}
 use Rattle.jr_splice.specs.Parts.{LastIs}
 use Rattle.jr_splice.proofs.Gluing.{Glued, glue, chars_before}
-use Rattle.jr_rewrite.specs.Woven.{Fronts, MayFront, YieldsAt, join_changes, Woven, WovenFrom, Weaves}
+use Rattle.jr_rewrite.specs.Woven.{Fronts, MayFront, YieldsAt, join_changes, Woven, Behind, anything, no_indent, token_to, WovenFrom, Weaves}
 use Rattle.jr_rewrite.proofs.Tiles.{tiled_text}
 use Rattle.jr_rewrite.proofs.Weaving.{woven_glued, kept_glued}
-use Rattle.jr_rewrite.proofs.Steps.{changes, olds, end_of, end_of_some, Stepped}
+use Rattle.jr_rewrite.proofs.Steps.{Suffices, changes, olds, end_of, end_of_some, start, starts_at_end, Stepped}
 use Rattle.jr_rewrite.proofs.Skipping.{skip_run}
-use Rattle.jr_rewrite.proofs.Woven.{to_token, on_token, begins_at, tiled_here, steps_weave}
+use Rattle.jr_rewrite.proofs.Woven.{to_token, on_token, begins_at, tiled_here, stands_so, steps_weave}
 
 -- ---- steps, and one run behind the other
 
--- wherever the last token in front ends
-anywhere : {F : Fronts} {bytes : List ℕ} {more : Tokens} {cs : List Change} {ts : List Token} (ends : Option ℕ) → WovenFrom F bytes more None cs ts → WovenFrom F bytes more ends cs ts
-anywhere ends w items pre post e tiled placed here = w items pre post e tiled placed tt
+-- where enough is known
+pub woven_so : {F : Fronts} {bytes : List ℕ} {more : Tokens} {cs : List Change} {ts : List Token} (known asked : Behind) → Suffices known asked → WovenFrom F bytes more asked cs ts → WovenFrom F bytes more known cs ts
+woven_so known asked s w items pre post e tiled placed here = w items pre post e tiled placed (stands_so known asked pre post s here)
 
 module _ (F : Fronts) (bytes : List ℕ) where
-  stepped_weaves : (loose : Bool) (ends : Option ℕ) (ps : Tokens) (cs : List Change) (ts : List Token) (s : Stepped (Weaves F bytes) loose ps cs ts)
-      → ((more : Tokens) (ds : List Change) (us : List Token) → WovenFrom F bytes more ends ds us → WovenFrom F bytes more (end_of None s.steps) ds us) → Weaves F bytes ps cs ts ends
-  stepped_weaves loose ends ps cs ts s weaker more ds us w =
-      subst (λ x. WovenFrom F bytes (x ++ more) None (cs ++ ds) (ts ++ us)) s.olds_are
-      (subst (λ x. WovenFrom F bytes (olds s.steps ++ more) None (x ++ ds) (ts ++ us)) s.changes_are
-      (subst (λ x. WovenFrom F bytes (olds s.steps ++ more) None (changes s.steps ++ ds) (x ++ us)) s.news_are (steps_weave F bytes s.steps None more ds us s.flow (weaker more ds us w))))
+  stepped_weaves : (loose : Bool) (to : Behind) (ps : Tokens) (cs : List Change) (ts : List Token) (s : Stepped (Weaves F bytes) loose ps cs ts) → Suffices (end_of (start loose) s.steps) to
+      → Weaves F bytes (start loose) ps cs ts to
+  stepped_weaves loose to ps cs ts s enough more ds us w =
+      subst (λ x. WovenFrom F bytes (x ++ more) (start loose) (cs ++ ds) (ts ++ us)) s.olds_are
+      (subst (λ x. WovenFrom F bytes (olds s.steps ++ more) (start loose) (x ++ ds) (ts ++ us)) s.changes_are
+      (subst (λ x. WovenFrom F bytes (olds s.steps ++ more) (start loose) (changes s.steps ++ ds) (x ++ us)) s.news_are
+      (steps_weave F bytes s.steps (start loose) more ds us s.flow (woven_so (end_of (start loose) s.steps) to enough w))))
 
   -- a list
-  pub list_weaves : (loose : Bool) (ps : Tokens) (cs : List Change) (ts : List Token) → Stepped (Weaves F bytes) loose ps cs ts → Weaves F bytes ps cs ts None
-  list_weaves loose ps cs ts s = stepped_weaves loose None ps cs ts s (λ more ds us w. anywhere (end_of None s.steps) w)
+  pub list_weaves : (ps : Tokens) (cs : List Change) (ts : List Token) → Stepped (Weaves F bytes) true ps cs ts → Weaves F bytes no_indent ps cs ts no_indent
+  list_weaves ps cs ts s = stepped_weaves true no_indent ps cs ts s (starts_at_end (Weaves F bytes) true s.steps s.flow)
 
   -- an expression
-  pub part_weaves : (p : Placed Span) (ps : Tokens) (cs : List Change) (ts : List Token) → Stepped (Weaves F bytes) false (p ∷ ps) cs ts → Weaves F bytes (p ∷ ps) cs ts (Some (last_to (p ∷ ps)))
-  part_weaves p ps cs ts s =
-      stepped_weaves false (Some (last_to (p ∷ ps))) (p ∷ ps) cs ts s
-      (λ more ds us w. subst (λ ends. WovenFrom F bytes more ends ds us) (sym (end_of_some (Weaves F bytes) None s.steps p ps s.flow s.tight s.olds_are)) w)
+  pub part_weaves : (p : Placed Span) (ps : Tokens) (cs : List Change) (ts : List Token) → Stepped (Weaves F bytes) false (p ∷ ps) cs ts → Weaves F bytes anything (p ∷ ps) cs ts (token_to (last_to (p ∷ ps)))
+  part_weaves p ps cs ts s = stepped_weaves false (token_to (last_to (p ∷ ps))) (p ∷ ps) cs ts s (end_of_some (Weaves F bytes) anything s.steps p ps s.flow s.tight s.olds_are)
 
   -- one run behind the other
-  pub both_weave : (ps qs : Tokens) (cs ds : List Change) (ts us : List Token) (ends : Option ℕ) → Weaves F bytes ps cs ts None → Weaves F bytes qs ds us ends → Weaves F bytes (ps ++ qs) (cs ++ ds) (ts ++ us) ends
-  both_weave ps qs cs ds ts us ends first rest more es vs w =
-      subst (λ x. WovenFrom F bytes x None ((cs ++ ds) ++ es) ((ts ++ us) ++ vs)) (sym (append_assoc ps qs more))
-      (subst (λ x. WovenFrom F bytes (ps ++ (qs ++ more)) None x ((ts ++ us) ++ vs)) (sym (append_assoc cs ds es))
-      (subst (λ x. WovenFrom F bytes (ps ++ (qs ++ more)) None (cs ++ (ds ++ es)) x) (sym (append_assoc ts us vs)) (first (qs ++ more) (ds ++ es) (us ++ vs) (rest more es vs w))))
+  pub both_weave : (from at between to : Behind) (ps qs : Tokens) (cs ds : List Change) (ts us : List Token) → Suffices at between → Weaves F bytes from ps cs ts at → Weaves F bytes between qs ds us to
+      → Weaves F bytes from (ps ++ qs) (cs ++ ds) (ts ++ us) to
+  both_weave from at between to ps qs cs ds ts us enough first rest more es vs w =
+      subst (λ x. WovenFrom F bytes x from ((cs ++ ds) ++ es) ((ts ++ us) ++ vs)) (sym (append_assoc ps qs more))
+      (subst (λ x. WovenFrom F bytes (ps ++ (qs ++ more)) from x ((ts ++ us) ++ vs)) (sym (append_assoc cs ds es))
+      (subst (λ x. WovenFrom F bytes (ps ++ (qs ++ more)) from (cs ++ (ds ++ es)) x) (sym (append_assoc ts us vs)) (first (qs ++ more) (ds ++ es) (us ++ vs) (woven_so at between enough (rest more es vs w)))))
 
 -- ---- lexemes in front of what comes
 
@@ -102,7 +102,7 @@ pub record MayCome (F : Fronts) (at : ℕ) (ps : List Piece) : Type 0 where
   pub ends : (k : TokenKind) → F at k → (other : List ℕ) → EndsBefore (TokenItem k) (chars_in ps ++ other)
   pub no_dot : (old other : List ℕ) → NoNewDot old (chars_in ps ++ other)
 
-come_yields : {F : Fronts} {at : ℕ} (ps : List Piece) (old other : List ℕ) → MayCome F at ps → YieldsAt F at old (chars_in ps ++ other)
+pub come_yields : {F : Fronts} {at : ℕ} (ps : List Piece) (old other : List ℕ) → MayCome F at ps → YieldsAt F at old (chars_in ps ++ other)
 come_yields {F = F} {at = at} ps old other h = record { cut = by_kind; no_dot = h.no_dot old other }
   where
     by_kind : (k : ItemKind) (front : List ℕ) → MayFront F at k → EndsLine k old (chars_in ps ++ other) → IsCut k front old → (k ≡ Blank) ⊎ IsCut k front (chars_in ps ++ other)
@@ -111,11 +111,11 @@ come_yields {F = F} {at = at} ps old other h = record { cut = by_kind; no_dot = 
     by_kind Comment front may line c = inr (comment_cut front old (chars_in ps ++ other) line c)
 
 -- lexemes are put in place of what stands between two places
-pieces_woven : {F : Fronts} (bytes pre post pre' rest : List ℕ) (ps : List Piece) (old : List ℕ) (cs : List Change) (ts : List Token) → bytes ≡ pre ++ post → bytes ≡ pre' ++ rest
-    → length pre ≤ length pre' → IsUtf8 post → IsUtf8 rest → AreCutBefore ps old → MayCome F (length pre) ps
-    → (w : Woven F bytes pre' rest cs ts) → (g : Glued (join_pieces ps ++ join_pieces w.pieces) (tokens_in ps ++ ts))
+pub put_pieces : {F : Fronts} (bytes pre post pre' rest : List ℕ) (ps : List Piece) (old : List ℕ) (cs : List Change) (ts : List Token) → bytes ≡ pre ++ post → bytes ≡ pre' ++ rest
+    → length pre ≤ length pre' → IsUtf8 post → IsUtf8 rest → AreCutBefore ps old
+    → (w : Woven F bytes pre' rest cs ts) → YieldsAt F (length pre) (chars post) (chars_in ps ++ chars (join_pieces w.pieces)) → (g : Glued (join_pieces ps ++ join_pieces w.pieces) (tokens_in ps ++ ts))
     → Woven F bytes pre post (change (record { from = length pre; to = length pre' }) (join_pieces ps) ∷ cs) (tokens_in ps ++ ts)
-pieces_woven {F = F} bytes pre post pre' rest ps old cs ts e e' l u u' cut come w g =
+put_pieces {F = F} bytes pre post pre' rest ps old cs ts e e' l u u' cut w yields g =
     let new : List ℕ = join_pieces w.pieces in
     let no_wide : length pre - length pre ≡ 0 = omega arith in
     let none : slice_range bytes (length pre) (length pre) ≡ [] = ap (λ n. take n (drop (length pre) bytes)) no_wide in
@@ -125,9 +125,16 @@ pieces_woven {F = F} bytes pre post pre' rest ps old cs ts e e' l u u' cut come 
       fit = (omega arith, l, IsCharBoundary-at_seam bytes pre post e u, IsCharBoundary-at_seam bytes pre' rest e' u', w.fit);
       text_is = ap (λ xs. xs ++ join_pieces ps ++ join_changes (length pre') bytes cs) none ∙ ap (λ xs. join_pieces ps ++ xs) w.text_is ∙ sym g.text_is;
       cut = g.cut;
-      yields = subst (YieldsAt F (length pre) (chars post)) (sym are) (come_yields ps (chars post) (chars new) come);
+      yields = subst (YieldsAt F (length pre) (chars post)) (sym are) yields;
       tokens_are = g.tokens_are;
     }
+
+pieces_woven : {F : Fronts} (bytes pre post pre' rest : List ℕ) (ps : List Piece) (old : List ℕ) (cs : List Change) (ts : List Token) → bytes ≡ pre ++ post → bytes ≡ pre' ++ rest
+    → length pre ≤ length pre' → IsUtf8 post → IsUtf8 rest → AreCutBefore ps old → MayCome F (length pre) ps
+    → (w : Woven F bytes pre' rest cs ts) → (g : Glued (join_pieces ps ++ join_pieces w.pieces) (tokens_in ps ++ ts))
+    → Woven F bytes pre post (change (record { from = length pre; to = length pre' }) (join_pieces ps) ∷ cs) (tokens_in ps ++ ts)
+pieces_woven bytes pre post pre' rest ps old cs ts e e' l u u' cut come w g =
+    put_pieces bytes pre post pre' rest ps old cs ts e e' l u u' cut w (come_yields ps (chars post) (chars (join_pieces w.pieces)) come) g
 
 -- ---- a run is replaced
 
@@ -140,11 +147,11 @@ module _ (F : Fronts) (bytes : List ℕ) where
     pub come : (at : ℕ) → at ≡ first_from run → MayCome F at ps
 
   pub replace_weaves : (p : Placed Span) (run : Tokens) (ps : List Piece) → MayReplace (p ∷ run) ps
-      → Weaves F bytes (p ∷ run) (change (span_of (p ∷ run)) (join_pieces ps) ∷ []) (tokens_in ps) (Some (last_to (p ∷ run)))
+      → Weaves F bytes anything (p ∷ run) (change (span_of (p ∷ run)) (join_pieces ps) ∷ []) (tokens_in ps) (token_to (last_to (p ∷ run)))
   replace_weaves p run ps may more ds us w items pre post e tiled placed here =
       (to_token items bytes pre post p (run ++ more) (change (span_of (p ∷ run)) (join_pieces ps) ∷ ds) (tokens_in ps ++ us) e tiled placed (λ pre' post' t.
       (let s = skip_run (t.item ∷ t.items) bytes pre' post' p run more t.whole (tiled_here bytes pre' post' p (run ++ more) t) t.placed in
-      let behind = w s.after s.front s.rest s.whole s.tiled s.placed s.last in
+      let behind = w s.after s.front s.rest s.whole s.tiled s.placed (s.last, inr s.no_indent) in
       let cut = may.cut s.front s.rest s.whole (sym s.last) in
       let text = tiled_text F (length pre') post' (t.item ∷ t.items) (tiled_here bytes pre' post' p (run ++ more) t) in
       let rest_text = tiled_text F (length s.front) s.rest s.after s.tiled in
@@ -164,9 +171,9 @@ module _ (F : Fronts) (bytes : List ℕ) where
     pub last : LastIs (λ k. (other : List ℕ) → Meets k [] other) ps
     pub come : MayCome F at ps
 
-  pub insert_weaves : (p : Placed Span) (run : Tokens) (ps : List Piece) (cs : List Change) (ts : List Token) (ends : Option ℕ) → MayPrecedeRun p.mark.from ps
-      → Weaves F bytes (p ∷ run) cs ts ends → Weaves F bytes (p ∷ run) (change (record { from = p.mark.from; to = p.mark.from }) (join_pieces ps) ∷ cs) (tokens_in ps ++ ts) ends
-  insert_weaves p run ps cs ts ends may inner more ds us w items pre post e tiled placed here =
+  pub insert_weaves : (p : Placed Span) (run : Tokens) (ps : List Piece) (cs : List Change) (ts : List Token) (to : Behind) → MayPrecedeRun p.mark.from ps
+      → Weaves F bytes anything (p ∷ run) cs ts to → Weaves F bytes anything (p ∷ run) (change (record { from = p.mark.from; to = p.mark.from }) (join_pieces ps) ∷ cs) (tokens_in ps ++ ts) to
+  insert_weaves p run ps cs ts to may inner more ds us w items pre post e tiled placed here =
       let all : List Change = change (record { from = p.mark.from; to = p.mark.from }) (join_pieces ps) ∷ (cs ++ ds) in
       subst (Woven F bytes pre post all) (sym (append_assoc (tokens_in ps) ts us))
       (to_token items bytes pre post p (run ++ more) all (tokens_in ps ++ (ts ++ us)) e tiled placed (λ pre' post' t.
@@ -192,7 +199,7 @@ module _ (F : Fronts) (bytes : List ℕ) where
     pub ends : (front rest : List ℕ) → bytes ≡ front ++ rest → length front ≡ last_to run → (k : TokenKind) → F (first_from run) k → EndsBefore (TokenItem k) (chars rest)
     pub no_dot : (front rest : List ℕ) → bytes ≡ front ++ rest → length front ≡ last_to run → first_passes (λ c. c == 46) (chars rest) ≡ false
 
-  gone_yields : (at to : ℕ) (old rest new : List ℕ) → ((k : TokenKind) → F at k → F to k) → ((k : TokenKind) → F at k → EndsBefore (TokenItem k) rest) → first_passes (λ c. c == 46) rest ≡ false
+  pub gone_yields : (at to : ℕ) (old rest new : List ℕ) → ((k : TokenKind) → F at k → F to k) → ((k : TokenKind) → F at k → EndsBefore (TokenItem k) rest) → first_passes (λ c. c == 46) rest ≡ false
       → YieldsAt F to rest new → YieldsAt F at old new
   gone_yields at to old rest new fronts ends dot y = record { cut = by_kind; no_dot = λ is. absurd (both_ways (first_passes (λ c. c == 46) rest) dot (y.no_dot is)) }
     where
@@ -211,12 +218,12 @@ module _ (F : Fronts) (bytes : List ℕ) where
       let none : slice_range bytes at at ≡ [] = ap (λ n. take n (drop at bytes)) no_wide in
       (λ i. (none i ++ []) ++ e i)
 
-  pub erase_weaves : (p : Placed Span) (run : Tokens) → MayGo (p ∷ run) → Weaves F bytes (p ∷ run) (change (span_of (p ∷ run)) [] ∷ []) [] (Some (last_to (p ∷ run)))
+  pub erase_weaves : (p : Placed Span) (run : Tokens) → MayGo (p ∷ run) → Weaves F bytes anything (p ∷ run) (change (span_of (p ∷ run)) [] ∷ []) [] (token_to (last_to (p ∷ run)))
   erase_weaves p run may more ds us w items pre post e tiled placed here =
       (to_token items bytes pre post p (run ++ more) (change (span_of (p ∷ run)) [] ∷ ds) us e tiled placed (λ pre' post' t.
       (let there = tiled_here bytes pre' post' p (run ++ more) t in
       let s = skip_run (t.item ∷ t.items) bytes pre' post' p run more t.whole there t.placed in
-      let behind = w s.after s.front s.rest s.whole s.tiled s.placed s.last in
+      let behind = w s.after s.front s.rest s.whole s.tiled s.placed (s.last, inr s.no_indent) in
       let text = tiled_text F (length pre') post' (t.item ∷ t.items) there in
       let rest_text = tiled_text F (length s.front) s.rest s.after s.tiled in
       let from : p.mark.from ≡ length pre' = begins_at bytes pre' post' p (run ++ more) t in

@@ -1,12 +1,12 @@
 -- Steps of parts, one behind the other, are steps of the whole.
-use Rattle.std.proofs.Common.{◌≡◌, ℕ, Bool, true, false, Some, None, List, [], ◌∷◌, ◌++◌, refl, sym, ap, ◌∙◌, append_assoc, append-nil}
+use Rattle.std.proofs.Common.{◌≡◌, ℕ, Bool, true, false, List, [], ◌∷◌, ◌++◌, refl, sym, ap, ◌∙◌, append_assoc, append-nil}
 use Rattle.jr_text.specs.declared.spans.Span.{Span}
 use Rattle.jr_lex.specs.declared.items.Symbol.TheVariants.{Dot}
 use Rattle.jr_grammar.specs.Tokens.{Token, word, symbol, Placed}
 use Rattle.jr_grammar.specs.Layout.{Layout, token, node, row, Layouts, done, ◌then◌, laid, all_laid}
 use Rattle.jr_grammar.specs.Stands.{Tokens, last_to, span_of, IsAlone, InOrder, IsNode, Stands, StandInOrder}
 use Rattle.jr_rewrite.specs.Respellings.{Change}
-use Rattle.jr_rewrite.specs.Woven.{Weaving}
+use Rattle.jr_rewrite.specs.Woven.{anything, no_indent, token_to, Weaving}
 use Rattle.jr_rewrite.proofs.Steps.{stay, weave, Stepped, nothing_stepped, joined_stepped, tight_unless}
 
 -- the same for tokens, changes and new tokens that are equal
@@ -94,23 +94,23 @@ rest_some ps h rest = go h.front h.whole
 -- ---- spots
 
 -- an expression, which has tokens
-pub part_woven : {W : Weaving} (ps : Tokens) (cs : List Change) (ts : List Token) → IsSome ps → W ps cs ts (Some (last_to ps)) → Stepped W false ps cs ts
+pub part_woven : {W : Weaving} (ps : Tokens) (cs : List Change) (ts : List Token) → IsSome ps → W anything ps cs ts (token_to (last_to ps)) → Stepped W false ps cs ts
 part_woven ps cs ts some h = record {
-  steps = weave ps cs ts (Some (last_to ps)) ∷ [];
+  steps = weave anything ps cs ts (token_to (last_to ps)) ∷ [];
   olds_are = append-nil ps;
   changes_are = append-nil cs;
   news_are = append-nil ts;
-  flow = (h, tt);
+  flow = (tt, tt, h, tt);
   tight = (some, refl, tt);
 }
 
-pub list_woven : {W : Weaving} (ps : Tokens) (cs : List Change) (ts : List Token) → W ps cs ts None → Stepped W true ps cs ts
+pub list_woven : {W : Weaving} (ps : Tokens) (cs : List Change) (ts : List Token) → W no_indent ps cs ts no_indent → Stepped W true ps cs ts
 list_woven ps cs ts h = record {
-  steps = weave ps cs ts None ∷ [];
+  steps = weave no_indent ps cs ts no_indent ∷ [];
   olds_are = append-nil ps;
   changes_are = append-nil cs;
   news_are = append-nil ts;
-  flow = (h, tt);
+  flow = (tt, tt, h, tt);
   tight = tt;
 }
 

@@ -111,14 +111,11 @@ yields_front (c ∷ cs) old new some dot = record {
   no_dot = λ e. e;
 }
 
-pub keep_woven : {F : Fronts} (bytes pre f rest : List ℕ) (kind : ItemKind) (cs : List Change) (ts : List Token) → bytes ≡ pre ++ (f ++ rest) → IsUtf8 f
-    → IsCut kind (chars f) (chars rest) → MayFront F (length (pre ++ f)) kind
-    → (w : Woven F bytes (pre ++ f) rest cs ts) → EndsLine kind (chars rest) (chars (join_pieces w.pieces))
-    → WovenOn F bytes pre (f ++ rest) cs (with_token (own_token kind f) ts)
-keep_woven bytes pre f rest kind cs ts e u cut fronts w line =
+-- a piece of the text stays in front of what is woven
+pub glued_woven : {F : Fronts} (bytes pre f rest : List ℕ) (cs : List Change) (ts us : List Token) → bytes ≡ pre ++ (f ++ rest) → IsUtf8 f → (chars f ≡ [] → ⊥)
+    → (w : Woven F bytes (pre ++ f) rest cs ts) → Glued (f ++ join_pieces w.pieces) us → WovenOn F bytes pre (f ++ rest) cs us
+glued_woven bytes pre f rest cs ts us e u some w g =
     let new : List ℕ = join_pieces w.pieces in
-    let some : chars f ≡ [] → ⊥ = λ none. no_empty kind (subst (IsLexeme kind) none cut.taken.lexeme) in
-    let g : Glued (f ++ new) (with_token (own_token kind f) ts) = kept_glued kind f (chars rest) new ts u cut (woven_glued w) (w.yields.cut kind (chars f) fronts line cut) in
     let yields : Yields (chars (f ++ rest)) (chars (f ++ new)) =
     subst (λ t. Yields t (chars (f ++ new))) (sym (chars-append f rest u))
     (subst (Yields (chars f ++ chars rest)) (sym (chars-append f new u)) (yields_front (chars f) (chars rest) (chars new) some w.yields.no_dot)) in
@@ -135,6 +132,14 @@ keep_woven bytes pre f rest kind cs ts e u cut fronts w line =
           (subst (λ t. EndsLine k t (chars (f ++ new))) (sym (chars-append f rest u))
           (subst (λ t. EndsLine k (chars f ++ chars rest) t) (sym (chars-append f new u)) (same_line k (chars f) (chars rest) (chars new) some)));
     }
+
+pub keep_woven : {F : Fronts} (bytes pre f rest : List ℕ) (kind : ItemKind) (cs : List Change) (ts : List Token) → bytes ≡ pre ++ (f ++ rest) → IsUtf8 f
+    → IsCut kind (chars f) (chars rest) → MayFront F (length (pre ++ f)) kind
+    → (w : Woven F bytes (pre ++ f) rest cs ts) → EndsLine kind (chars rest) (chars (join_pieces w.pieces))
+    → WovenOn F bytes pre (f ++ rest) cs (with_token (own_token kind f) ts)
+keep_woven bytes pre f rest kind cs ts e u cut fronts w line =
+    glued_woven bytes pre f rest cs ts (with_token (own_token kind f) ts) e u (λ none. no_empty kind (subst (IsLexeme kind) none cut.taken.lexeme)) w
+    (kept_glued kind f (chars rest) (join_pieces w.pieces) ts u cut (woven_glued w) (w.yields.cut kind (chars f) fronts line cut))
 
 -- ---- parts, and perhaps a blank behind them, are put in place of what stands between two places
 

@@ -1,5 +1,5 @@
 -- Steps of a word by itself, and of one behind a dot, as is chosen for it.
-use Rattle.std.proofs.Common.{◌≡◌, ℕ, false, List, [], ◌∷◌, ◌++◌, Some, None, refl, sym, ap, ◌∙◌, subst, append-nil}
+use Rattle.std.proofs.Common.{◌≡◌, ℕ, false, List, [], ◌∷◌, ◌++◌, refl, sym, ap, ◌∙◌, subst, append-nil}
 use Rattle.jr_text.specs.declared.spans.Span.{Span}
 use Rattle.jr_lex.specs.declared.items.Symbol.TheVariants.{OpenParen, CloseParen, Dot}
 use Rattle.jr_lex.specs.Replacing.{IsName}
@@ -8,7 +8,7 @@ use Rattle.jr_grammar.specs.Stands.{Tokens, first_from, last_to, span_of}
 use Rattle.jr_rewrite.specs.Respellings.{Front, same, alone, by_this, by_super, by_cast_this, by_class, by_outer_class, by_cast, Choice, stays, becomes, loses, front_text, cast_text, Change}
 use Rattle.jr_rewrite.specs.Rewritten.{change, from_to, before, behind_to, word_changes, dotted_changes, qualified_changes, super_changes}
 use Rattle.jr_rewrite.specs.Suitable.{AreNames, Suits, MayStandBeforeVariable, MayStandBeforeType}
-use Rattle.jr_rewrite.specs.Woven.{Weaving}
+use Rattle.jr_rewrite.specs.Woven.{anything, token_to, Weaving}
 use Rattle.jr_rewrite.proofs.Parts.{respelled_parts, tokens}
 use Rattle.jr_rewrite.proofs.Steps.{Step, cast, swap, close, olds, BeginAt, BeginWordLike, EndInWord, IsWordLike, IsWord, IsSwap, end_of, end_of_some, flow_append, tight_append, olds-append, changes-append, news-append, Stepped, joined_stepped}
 use Rattle.jr_rewrite.proofs.Stepping.{stepped_as, stepped_new, stay_steps, IsSome, IsOneWord, IsDotted}
@@ -154,7 +154,7 @@ module _ {W : Weaving} (s : Span) (t : List ℕ) (front : Tokens) (d p : Placed 
       let inner : List Step = inside.steps ++ close e.to d p x ∷ [] in
       let front_is : olds inside.steps ≡ some.0 ∷ some.1 = inside.olds_are ∙ some.2 in
       let spanned : e ≡ span_of (some.0 ∷ some.1) = spans ∙ ap span_of some.2 in
-      let ended : end_of None inside.steps ≡ Some e.to = end_of_some W None inside.steps some.0 some.1 inside.flow inside.tight front_is ∙ ap (λ (z : Span). Some z.to) (sym spanned) in
+      let ended : end_of anything inside.steps ≡ token_to e.to = end_of_some W anything inside.steps some.0 some.1 inside.flow inside.tight front_is ∙ ap (λ (z : Span). token_to z.to) (sym spanned) in
       let begins : BeginAt e.from (olds inner) =
       subst (BeginAt e.from) (sym (olds-append inside.steps (close e.to d p x ∷ []) ∙ ap (λ xs. xs ++ (d ∷ p ∷ [])) front_is)) (sym (ap (λ (z : Span). z.from) spanned)) in
       record {
@@ -167,7 +167,7 @@ module _ {W : Weaving} (s : Span) (t : List ℕ) (front : Tokens) (d p : Placed 
         news_are =
             ap (λ xs. symbol OpenParen ∷ symbol OpenParen ∷ word k ∷ symbol CloseParen ∷ xs)
             (news-append inside.steps (close e.to d p x ∷ []) ∙ ap (λ xs. xs ++ (symbol CloseParen ∷ symbol Dot ∷ word x ∷ [])) inside.news_are);
-        flow = (class, begins, flow_append W None inside.steps (close e.to d p x ∷ []) inside.flow (ended, is_word, name, tt));
+        flow = (class, begins, flow_append W anything inside.steps (close e.to d p x ∷ []) inside.flow (ended, is_word, name, tt));
         tight = tight_append inside.steps (close e.to d p x ∷ []) inside.tight tt;
       }
 

@@ -1,5 +1,5 @@
 -- Steps over a text's tokens make a text of the new tokens.
-use Rattle.std.proofs.Common.{◌≡◌, ℕ, ◌+◌, true, false, List, [], ◌∷◌, ◌++◌, length, Option, Some, None, refl, sym, ap, ◌∙◌, subst, arith, inl, inr}
+use Rattle.std.proofs.Common.{◌≡◌, ℕ, ◌+◌, true, false, List, [], ◌∷◌, ◌++◌, length, Some, None, refl, sym, ap, ◌∙◌, subst, arith, inl, inr}
 use Rattle.std.specs.Str.{chars}
 use Rattle.std.proofs.lemmas.List.{append_assoc, append-nil, length-append}
 use Rattle.std.proofs.lemmas.Str.{chars-append}
@@ -27,12 +27,12 @@ use Rattle.jr_splice.specs.Cutting.{with_token, own_token}
 use Rattle.jr_splice.proofs.Cut.{own_inside}
 use Rattle.jr_splice.proofs.Gluing.{Glued}
 use Rattle.jr_rewrite.proofs.Parts.{Part, space, part_is_text, part_has_chars, part_lexeme, join, join_chars, respelled_parts, cast_parts, tokens, respelled_join, cast_join, respelled_lined, cast_lined, close_lined}
-use Rattle.jr_rewrite.specs.Woven.{Fronts, MayFront, YieldsAt, IsTile, Tiled, Woven, EndsHere, WovenFrom, Weaves}
+use Rattle.jr_rewrite.specs.Woven.{Fronts, MayFront, YieldsAt, IsTile, Tiled, Woven, Behind, anything, no_indent, token_to, StandsBehind, WovenFrom, Weaves}
 use Rattle.jr_rewrite.proofs.Tiles.{tiled_text}
 use Rattle.jr_rewrite.proofs.Firsts.{word_first, keyword_first, goes_on, respelled_yields}
-use Rattle.jr_rewrite.proofs.Steps.{Step, stay, cast, swap, close, weave, end_of, olds, changes, news, BeginAt, IsWordLike, IsWord, IsSwap, Flow}
+use Rattle.jr_rewrite.proofs.Steps.{Step, stay, cast, swap, close, weave, end_of, olds, changes, news, BeginAt, IsWordLike, IsWord, IsSwap, Suffices, Flow}
 use Rattle.jr_rewrite.proofs.Weaving.{WovenOn, yields_at, woven_glued, kept_glued, end_woven, keep_woven, put_woven}
-use Rattle.jr_rewrite.proofs.Skipping.{placed_at, placed_token, placed_blank, placed_comment, head_same, tail_same, further, tiled_further, Skipped, skip_run}
+use Rattle.jr_rewrite.proofs.Skipping.{placed_at, placed_token, placed_blank, placed_comment, head_same, tail_same, further, tiled_further, token_no_indent, Skipped, skip_run}
 
 -- ---- up to the first token
 
@@ -41,16 +41,16 @@ fronts_there : {F : Fronts} (pre f : List ℕ) {rest : List ℕ} (i : Item) → 
 fronts_there {F = F} pre f i tile = subst (λ n. MayFront F n i.kind) (sym (length-append pre f)) tile.fronts
 
 -- a lexeme that is no token stays
-gap_woven : {F : Fronts} (bytes pre post f rest : List ℕ) (i : Item) (is : List Item) (cs : List Change) (ts : List Token) → bytes ≡ pre ++ post → post ≡ f ++ rest → IsTile F (length pre) i f rest
+pub gap_woven : {F : Fronts} (bytes pre post f rest : List ℕ) (i : Item) (is : List Item) (cs : List Change) (ts : List Token) → bytes ≡ pre ++ post → post ≡ f ++ rest → IsTile F (length pre) i f rest
     → own_token i.kind f ≡ None → WovenOn F bytes (pre ++ f) rest cs ts → WovenOn F bytes pre post cs ts
 gap_woven {F = F} bytes pre post f rest i is cs ts e g tile none w =
     let kept = keep_woven bytes pre f rest i.kind cs ts (e ∙ ap (λ xs. pre ++ xs) g) tile.is_text tile.cut (fronts_there pre f i tile) w.woven (w.line i.kind) in
     subst (λ p. WovenOn F bytes pre p cs ts) (sym g) (subst (λ o. WovenOn F bytes pre (f ++ rest) cs (with_token o ts)) none kept)
 
-blank_none : (kind : ItemKind) (f : List ℕ) → kind ≡ Blank → own_token kind f ≡ None
+pub blank_none : (kind : ItemKind) (f : List ℕ) → kind ≡ Blank → own_token kind f ≡ None
 blank_none kind f e = ap (λ k. own_token k f) e
 
-comment_none : (kind : ItemKind) (f : List ℕ) → kind ≡ Comment → own_token kind f ≡ None
+pub comment_none : (kind : ItemKind) (f : List ℕ) → kind ≡ Comment → own_token kind f ≡ None
 comment_none kind f e = ap (λ k. own_token k f) e
 
 -- no token is left
@@ -139,6 +139,9 @@ module _ {F : Fronts} (bytes pre post : List ℕ) (p : Placed Span) (ps : Tokens
 
   ends_at : p.mark.to ≡ length (pre ++ t.front)
   ends_at = sym (ap (λ (x : Placed Span). x.mark.to) first_is) ∙ ap (λ (s : Span). s.to) t.tile.place ∙ sym (length-append pre t.front)
+
+  stands_behind : StandsBehind (token_to p.mark.to) (pre ++ t.front) t.rest
+  stands_behind = (ends_at, inr (token_no_indent pre t.front t.rest t.item t.kind t.is t.tile))
 
   whole_behind : bytes ≡ (pre ++ t.front) ++ t.rest
   whole_behind = further bytes pre post t.front t.rest t.whole t.parts
@@ -237,21 +240,29 @@ close_woven {F = F} (i ∷ is) bytes pre post at d q x more cs ts e tiled placed
 
 -- ---- all steps
 
-some_here : (last : Option ℕ) (at n : ℕ) → last ≡ Some at → EndsHere last n → at ≡ n
-some_here last at n e h = subst (λ l. EndsHere l n) e h
+token_here : (last : Behind) (at : ℕ) (pre post : List ℕ) → last ≡ token_to at → StandsBehind last pre post → at ≡ length pre
+token_here last at pre post e h = (subst (λ l. StandsBehind l pre post) e h).0
+
+-- where enough is known, it stands so
+pub stands_so : (known asked : Behind) (pre post : List ℕ) → Suffices known asked → StandsBehind known pre post → StandsBehind asked pre post
+stands_so known anything pre post s h = tt
+stands_so anything no_indent pre post s h = absurd s
+stands_so no_indent no_indent pre post s h = h
+stands_so (token_to n) no_indent pre post s h = h.1
+stands_so known (token_to n) pre post s h = subst (λ l. StandsBehind l pre post) s h
 
 module _ (F : Fronts) (bytes : List ℕ) where
   -- what is woven behind the steps, with the steps in front of it is woven
-  pub steps_weave : (ss : List Step) (last : Option ℕ) (more : Tokens) (ds : List Change) (us : List Token) → Flow (Weaves F bytes) last ss
+  pub steps_weave : (ss : List Step) (last : Behind) (more : Tokens) (ds : List Change) (us : List Token) → Flow (Weaves F bytes) last ss
       → WovenFrom F bytes more (end_of last ss) ds us → WovenFrom F bytes (olds ss ++ more) last (changes ss ++ ds) (news ss ++ us)
   steps_weave [] last more ds us flow behind items pre post e tiled placed here = behind items pre post e tiled placed here
   steps_weave (stay p ∷ ss) last more ds us flow behind items pre post e tiled placed here =
       (to_token items bytes pre post p (olds ss ++ more) (changes ss ++ ds) (p.token ∷ (news ss ++ us)) e tiled placed (λ pre' post' t.
       stay_woven bytes pre' post' p (olds ss ++ more) t (changes ss ++ ds) (news ss ++ us)
-      (steps_weave ss (Some p.mark.to) more ds us flow behind t.items (pre' ++ t.front) t.rest (whole_behind bytes pre' post' p (olds ss ++ more) t) (tiled_behind bytes pre' post' p (olds ss ++ more) t)
-      (behind_are bytes pre' post' p (olds ss ++ more) t) (ends_at bytes pre' post' p (olds ss ++ more) t)))).woven
+      (steps_weave ss (token_to p.mark.to) more ds us flow behind t.items (pre' ++ t.front) t.rest (whole_behind bytes pre' post' p (olds ss ++ more) t) (tiled_behind bytes pre' post' p (olds ss ++ more) t)
+      (behind_are bytes pre' post' p (olds ss ++ more) t) (stands_behind bytes pre' post' p (olds ss ++ more) t)))).woven
   steps_weave (cast k at ∷ ss) last more ds us flow behind items pre post e tiled placed here =
-      go (olds ss) refl flow.1 (λ pre' post' items' e' tiled' placed'. steps_weave ss None more ds us flow.2 behind items' pre' post' e' tiled' placed' tt)
+      go (olds ss) refl flow.1 (λ pre' post' items' e' tiled' placed'. steps_weave ss anything more ds us flow.2 behind items' pre' post' e' tiled' placed' tt)
     where
       cs : List Change
       cs = changes ss ++ ds
@@ -277,17 +288,17 @@ module _ (F : Fronts) (bytes : List ℕ) where
       (to_token items bytes pre post p (run ++ rest) (change (span_of (p ∷ run)) (front_text f ++ x) ∷ cs) (tokens (respelled_parts f x) ++ ts) e tiled (placed ∙ ap (λ xs. p ∷ xs) grouped) (λ pre' post' t.
       (let s = skip_run (t.item ∷ t.items) bytes pre' post' p run rest t.whole (tiled_here bytes pre' post' p (run ++ rest) t) t.placed in
       swap_woven bytes pre' post' p run rest t f x cs ts flow.0 s
-      (steps_weave ss (Some (last_to (p ∷ run))) more ds us flow.1 behind s.after s.front s.rest s.whole s.tiled s.placed s.last)))).woven
+      (steps_weave ss (token_to (last_to (p ∷ run))) more ds us flow.1 behind s.after s.front s.rest s.whole s.tiled s.placed (s.last, inr s.no_indent))))).woven
   steps_weave (close at d q x ∷ ss) last more ds us flow behind items pre post e tiled placed here =
       let s = skip_run items bytes pre post d (q ∷ []) (olds ss ++ more) e tiled placed in
-      close_woven items bytes pre post at d q x (olds ss ++ more) (changes ss ++ ds) (news ss ++ us) e tiled placed (some_here last at (length pre) flow.0 here) flow.1 flow.2 s
-      (steps_weave ss (Some q.mark.to) more ds us flow.3 behind s.after s.front s.rest s.whole s.tiled s.placed s.last)
-  steps_weave (weave run cs ts ends ∷ ss) last more ds us flow behind items pre post e tiled placed here =
-      let all = flow.0 (olds ss ++ more) (changes ss ++ ds) (news ss ++ us) (steps_weave ss ends more ds us flow.1 behind) items pre post e tiled (placed ∙ append_assoc run (olds ss) more) tt in
+      close_woven items bytes pre post at d q x (olds ss ++ more) (changes ss ++ ds) (news ss ++ us) e tiled placed (token_here last at pre post flow.0 here) flow.1 flow.2 s
+      (steps_weave ss (token_to q.mark.to) more ds us flow.3 behind s.after s.front s.rest s.whole s.tiled s.placed (s.last, inr s.no_indent))
+  steps_weave (weave f run cs ts b ∷ ss) last more ds us flow behind items pre post e tiled placed here =
+      let all = flow.2 (olds ss ++ more) (changes ss ++ ds) (news ss ++ us) (steps_weave ss b more ds us flow.3 behind) items pre post e tiled (placed ∙ append_assoc run (olds ss) more) (stands_so last f pre post flow.0 here) in
       subst (Woven F bytes pre post ((cs ++ changes ss) ++ ds)) (sym (append_assoc ts (news ss) us))
       (subst (λ c. Woven F bytes pre post c (ts ++ (news ss ++ us))) (sym (append_assoc cs (changes ss) ds)) all)
 
-  pub steps_woven : (ss : List Step) (items : List Item) → Flow (Weaves F bytes) None ss → Tiled F 0 bytes items → placed_of bytes items ≡ olds ss → Woven F bytes [] bytes (changes ss) (news ss)
+  pub steps_woven : (ss : List Step) (items : List Item) → Flow (Weaves F bytes) no_indent ss → Tiled F 0 bytes items → placed_of bytes items ≡ olds ss → Woven F bytes [] bytes (changes ss) (news ss)
   steps_woven ss items flow tiled placed =
-      let all = steps_weave ss None [] [] [] flow (λ is pre post e t p here. (rest_woven is bytes pre post e t p).woven) items [] bytes refl tiled (placed ∙ sym (append-nil (olds ss))) tt in
+      let all = steps_weave ss no_indent [] [] [] flow (λ is pre post e t p here. (rest_woven is bytes pre post e t p).woven) items [] bytes refl tiled (placed ∙ sym (append-nil (olds ss))) (inr refl) in
       subst (λ c. Woven F bytes [] bytes c (news ss)) (append-nil (changes ss)) (subst (Woven F bytes [] bytes (changes ss ++ [])) (append-nil (news ss)) all)

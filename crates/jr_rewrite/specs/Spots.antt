@@ -32,6 +32,8 @@ pub record Spots (A : Type 0) : Type 1 where
       → Rewritten (statement.Stmts A) → Type 0
   pub members : (base : ℕ) → ClassKey → syntax.Members A → Rewritten (syntax.Members A) → Type 0
   pub whole : (base : ℕ) → Option (List ℕ) → syntax.Class A → Rewritten (syntax.Class A) → Type 0
+  -- whether `this` stays where no spot is; where a local stands for it, it is a spot
+  pub this_stays : Type 0
 
 -- all is rewritten node by node, or there are spots
 pub data Spotted (A : Type 0) : Type 1 where
@@ -40,6 +42,10 @@ pub data Spotted (A : Type 0) : Type 1 where
 
 -- node by node, or as a spot has it
 module _ {A : Type 0} where
+  abbrev pub OrThis : Spotted A → (ByNode : Type 0) → Type 0
+  OrThis nowhere ByNode = ByNode
+  OrThis (spotted s) ByNode = s.this_stays × ByNode
+
   abbrev pub OrPart : Spotted A → Asks → Context → Role → (base : ℕ) → tree.Exp A
       → Rewritten (tree.Exp A) → (ByNode : Type 0) → Type 0
   OrPart nowhere k c r base e o ByNode = ByNode

@@ -6,6 +6,10 @@ use Rattle.std.specs.Prelude.{
   ℕ,
   ◌+◌,
   ◌≤◌,
+  Bool,
+  false,
+  ◌==◌,
+  ◌||◌,
   List,
   [],
   ◌∷◌,
@@ -13,9 +17,6 @@ use Rattle.std.specs.Prelude.{
   length,
   take,
   drop,
-  Option,
-  Some,
-  None,
   slice_range,
 }
 use Rattle.std.specs.Str.{IsUtf8, IsCharBoundary, chars}
@@ -101,27 +102,51 @@ pub record Woven (F : Fronts) (bytes pre post : List ℕ) (cs : List Change) (ts
   pub yields : YieldsAt F (length pre) (chars post) (chars (join_pieces pieces))
   pub tokens_are : tokens_in pieces ≡ ts
 
--- the last token in front ends there, if one stands directly in front
-abbrev pub EndsHere : Option ℕ → ℕ → Type 0
-EndsHere None at = Unit {0}
-EndsHere (Some n) at = n ≡ at
+-- ---- what is known of what stands directly in front of a place
 
--- from each place on at which these tokens are left, the text becomes these tokens by these changes
-abbrev pub WovenFrom : Fronts → (bytes : List ℕ) → Tokens → (ends : Option ℕ) → List Change
-    → List Token → Type 0
-WovenFrom F bytes more ends cs ts = (items : List Item) (pre post : List ℕ) → bytes ≡ pre ++ post
-    → Tiled F (length pre) post items → placed_of bytes items ≡ more → EndsHere ends (length pre)
+-- the last, if there is one, passes the test
+abbrev pub ends_in : (ℕ → Bool) → List ℕ → Bool
+ends_in p [] = false
+ends_in p (b ∷ []) = p b
+ends_in p (b ∷ c ∷ bs) = ends_in p (c ∷ bs)
+
+-- a space or a tab, of which indents are made
+abbrev pub is_indent : ℕ → Bool
+is_indent b = (b == 32) || (b == 9)
+
+-- behind no space and no tab, unless nothing comes
+abbrev pub BehindNoIndent : (pre post : List ℕ) → Type 0
+BehindNoIndent pre post = (post ≡ []) ⊎ (ends_in is_indent pre ≡ false)
+
+-- Anything stands there; or no space and no tab, so that an indent that comes is all there; or a
+-- token, which ends at this place.
+pub data Behind : Type 0 where
+  anything : Behind
+  no_indent : Behind
+  token_to : (to : ℕ) → Behind
+
+abbrev pub StandsBehind : Behind → (pre post : List ℕ) → Type 0
+StandsBehind anything pre post = Unit {0}
+StandsBehind no_indent pre post = BehindNoIndent pre post
+StandsBehind (token_to n) pre post = (n ≡ length pre) × BehindNoIndent pre post
+
+-- From each place on at which these tokens are left, and that stands so, the text becomes these
+-- tokens by these changes.
+abbrev pub WovenFrom : Fronts → (bytes : List ℕ) → Tokens → Behind → List Change → List Token
+    → Type 0
+WovenFrom F bytes more from cs ts = (items : List Item) (pre post : List ℕ) → bytes ≡ pre ++ post
+    → Tiled F (length pre) post items → placed_of bytes items ≡ more → StandsBehind from pre post
     → Woven F bytes pre post cs ts
 
 -- ---- a run of tokens that changes
 
--- what is said of a run of tokens, its changes, the tokens that come, and where the last of the old
--- ones ends, if that is where the run ends
+-- what is said of a run of tokens, its changes, the tokens that come, and of how the places stand
+-- where it begins and where it ends
 abbrev pub Weaving : Type 1
-Weaving = Tokens → List Change → List Token → (ends : Option ℕ) → Type 0
+Weaving = (from : Behind) → Tokens → List Change → List Token → (to : Behind) → Type 0
 
 -- Whatever is woven behind the run, with the run in front of it is woven, too.
 abbrev pub Weaves : Fronts → (bytes : List ℕ) → Weaving
-Weaves F bytes run cs ts ends = (more : Tokens) (ds : List Change) (us : List Token)
-    → WovenFrom F bytes more ends ds us
-    → WovenFrom F bytes (run ++ more) None (cs ++ ds) (ts ++ us)
+Weaves F bytes from run cs ts to = (more : Tokens) (ds : List Change) (us : List Token)
+    → WovenFrom F bytes more to ds us
+    → WovenFrom F bytes (run ++ more) from (cs ++ ds) (ts ++ us)
