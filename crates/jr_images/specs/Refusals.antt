@@ -1,18 +1,14 @@
--- Why a rename is refused: each refusal with its fields, in the order in which they are asked. A
--- text that is too long, and rules that the new program breaks, are of the new texts alone.
-use Rattle.std.specs.Prelude.{◌≡◌, ◌≢◌, ℕ, ◌<◌, ◌≤◌, ◌⊎◌, List, ◌∷◌, ◌++◌, Some, slice_get, All}
-use Rattle.jr_table.specs.Keys.{ClassKey, MethodKey}
-use Rattle.jr_table.specs.Decls.{Decl, class_decl, method_decl}
+-- Methods of the prelude that a rename would change, and which of the losses of its files is the
+-- first.
+use Rattle.std.specs.Prelude.{◌≡◌, ℕ, ◌<◌, ◌≤◌, ◌⊎◌, List, ◌∷◌, ◌++◌, Some, slice_get, All}
+use Rattle.jr_table.specs.Decls.{Decl, method_decl}
 use Rattle.jr_table.specs.Rows.{Row}
-use Rattle.jr_table.specs.Entries.{IsRowOf}
-use Rattle.jr_table.specs.Keyed.{DispatchesTo}
 use Rattle.jr_table.specs.ExpressionRules.{IsObjectMethod}
 use Rattle.jr_names.specs.DeclTexts.{decl_text}
 use Rattle.jr_rewrite.specs.Respellings.{Loss}
 use Rattle.jr_rewrite.specs.Rewritten.{Rewritten}
 use Rattle.jr_images.specs.Targets.{IsOfPrelude}
 use Rattle.jr_images.specs.Families.{InFamily}
-use Rattle.jr_images.specs.Images.{Renaming, class_to, method_to, rows_to}
 
 -- ---- methods of the prelude
 
@@ -31,31 +27,6 @@ abbrev pub ChangesPrelude : List Row → Decl → (new text : List ℕ) → Type
 ChangesPrelude rows d new text = HasPreludeMethod rows d text
     ⊎ (((other : List ℕ) → HasPreludeMethod rows d other → ⊥) × IsMethod d × IsObjectMethod new
     × (text ≡ new))
-
--- ---- dispatch
-
--- on an object of the class the method would be dispatched to another method than the old one's
--- image (JLS 15.12.4.4)
-pub record ChangesDispatch (rows : List Row) (g : Renaming) (of : ClassKey) (m : MethodKey) : Type 0
-  where
-    pub was : MethodKey
-    pub now : MethodKey
-    pub old : DispatchesTo rows of m was
-    pub new : DispatchesTo (rows_to g rows) (class_to g of) (method_to g m) now
-    pub changed : now ≢ method_to g was
-
--- the first class, in file and text order, and then the first method
-pub record IsFirstChange (rows : List Row) (g : Renaming) (of : ClassKey) (m : MethodKey) : Type 0
-  where
-    pub changes : ChangesDispatch rows g of m
-    pub class_at : ℕ
-    pub method_at : ℕ
-    pub class_row : IsRowOf rows (class_decl of) class_at
-    pub method_row : IsRowOf rows (method_decl m) method_at
-    pub first_class : (k : ClassKey) (n : MethodKey) (i : ℕ) → ChangesDispatch rows g k n
-        → IsRowOf rows (class_decl k) i → class_at ≤ i
-    pub first_method : (n : MethodKey) (j : ℕ) → ChangesDispatch rows g of n
-        → IsRowOf rows (method_decl n) j → method_at ≤ j
 
 -- ---- lost references
 
