@@ -69,6 +69,9 @@ pub record Transform : Type 1 where
   -- the spots of each file, and which tokens may stand in front of a place of it
   pub spots : (file : ℕ) → Spotted Span
   pub fronts : (file : ℕ) → Fronts
+  -- What has to be among what comes of the files: a spot's relation says what may stand in a place,
+  -- and node by node may stand there, too, so all spots may stay unused.
+  pub Makes : List (Rewritten (syntax.Unit Span)) → Type 0
   -- these are the copied and made references that are lost, in the text order of the new trees
   pub AlsoLost : List Lost → Type 0
   -- 18: the pair, if there is one
@@ -98,6 +101,7 @@ pub record Transformed (p : Program Span) (t : Transform) : Type 0 where
   pub files : List (Rewritten (syntax.Unit Span))
   pub rewritten : TransformsFiles (choosing_of p t)
       (declarations_of (λ (m : Span) b. m.from) (units_of p)) t.spots (units_of p) files
+  pub makes : t.Makes files
   pub also_lost : List Lost
   pub also : t.AlsoLost also_lost
 
