@@ -1,6 +1,7 @@
 -- Methods of the prelude that a rename would change, and which of the losses of its files is the
 -- first.
 use Rattle.std.specs.Prelude.{◌≡◌, ℕ, ◌<◌, ◌≤◌, ◌⊎◌, List, ◌∷◌, ◌++◌, Some, slice_get, All}
+use Rattle.jr_table.specs.Keys.{MethodKey}
 use Rattle.jr_table.specs.Decls.{Decl, method_decl}
 use Rattle.jr_table.specs.Rows.{Row}
 use Rattle.jr_table.specs.ExpressionRules.{IsObjectMethod}
