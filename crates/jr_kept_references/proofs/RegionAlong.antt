@@ -4,7 +4,7 @@ use Rattle.std.proofs.Common.{◌≡◌, ℕ, suc, List, [], ◌∷◌, ◌++◌
 use Rattle.std.specs.Prelude.{◌⊎◌, slice_get}
 use Rattle.jr_text.specs.declared.spans.Span.{Span}
 use Rattle.jr_ast.specs.Tree as tree
-use Rattle.jr_grammar.specs.Shape.{primary_level, unsigned_level, sign_level, rank_of}
+use Rattle.jr_grammar.specs.Shape.{unsigned_level, sign_level, rank_of}
 use Rattle.jr_table.specs.Keys.{ClassKey}
 use Rattle.jr_table.specs.Rows.{Row}
 use Rattle.jr_table.specs.Context.{Context, scope_of}
@@ -13,9 +13,8 @@ use Rattle.jr_spell.specs.declared.spellings.Form.{Form}
 use Rattle.jr_spell.specs.declared.spellings.Form.TheVariants.{Asked, OnThis, OnCastOperand, OnClass, OnOuterClass, ClassInFront, OuterClassInFront}
 use Rattle.jr_rewrite.specs.Respellings.{Front, same, alone, by_this, by_class, by_outer_class, by_cast, Choice, front_of}
 use Rattle.jr_rewrite.specs.Rewritten.{Rewritten, within, joined, word_to, variable_on, operand_to, target_of, drops_operand, losses_of, new_word, cast_tree, word_out, field_out, simple_call_out, dotted_call_out, operand_losses, Called}
-use Rattle.jr_rewrite.specs.Spots.{Asks, level, a_target, Spotted, nowhere, spotted, OrPart}
+use Rattle.jr_rewrite.specs.Spots.{Asks, level, a_target, operand_asks, Spotted, nowhere, spotted, OrPart}
 use Rattle.jr_rewrite.specs.Rewrites.{Choosing, TransformsExp, TransformsTarget, TransformsRow, TransformsPart, RewritesType}
-use Rattle.jr_rewrite.specs.Along.{OperandAlong}
 use Rattle.jr_rewrite.proofs.ExpressionShapes.{this_is}
 use Rattle.jr_images.specs.Regions.{Region}
 use Rattle.jr_images.specs.Spelling.{spelled, outer_front, outer_type, choosing, FieldChoice, MemberClassChoice, SimpleCallChoice, CallChoice}
@@ -23,7 +22,7 @@ use Rattle.jr_images.proofs.Chosen.{renamed_front, lost_some, left_none, right_n
 use Rattle.jr_images.proofs.Forms.{two_forms, three_forms, front_forms, four_forms}
 use Rattle.jr_kept_references.specs.InRegions.{class_in, field_in, method_in}
 use Rattle.jr_kept_references.specs.KeptInRegions.{IsTypeKeptIn, IsKeptIn, PartsBecome}
-use Rattle.jr_kept_references.specs.AlongSpots.{SpotStands, AlongSpots, TargetAlong, RowAlong}
+use Rattle.jr_kept_references.specs.AlongSpots.{SpotStands, DottedAlong, AlongSpots, TargetAlong, RowAlong}
 use Rattle.jr_kept_references.proofs.RegionWorlds.{RegionWorld}
 use Rattle.jr_kept_references.proofs.RegionTypes.{written_kept}
 use Rattle.jr_kept_references.proofs.RegionExpressions.{operand_none, kept}
@@ -94,10 +93,12 @@ module _ {A : Type 0} (begins : A → ℕ → ℕ) (rows : List Row) (R : Region
   call_simple at old args h none (k, ts, finds, types, inr (none_binds, (f, found, is))) = absurd (lost_some _ (sym (ap losses_of is) ∙ none))
 
 -- what stands in front of the dot in the new tree
-module _ {A : Type 0} (m : A) (x : tree.Exp A) (Becomes : tree.Exp A → Type 0) where
-  operand_along : (front : Front) → IsDotted front → (drops_operand front ≡ false → Becomes x) → (z : tree.Exp A) × (operand_to m front (Some x) ≡ Some z) × OperandAlong Becomes z
-  operand_along front (inl is) stays = (x, ap (λ (f : Front). operand_to m f (Some x)) is, inl (stays (ap drops_operand is)))
-  operand_along front (inr (inl (k, is))) stays = (cast_tree m k x, ap (λ (f : Front). operand_to m f (Some x)) is, inr (inl (m, m, tree.named m None (new_word m k), x, refl, stays (ap drops_operand is))))
+module _ {A : Type 0} (m : A) (x : tree.Exp A) (Becomes : Asks → tree.Exp A → Type 0) where
+  operand_along : (front : Front) → IsDotted front → (drops_operand front ≡ false → Becomes (operand_asks front) x)
+      → (z : tree.Exp A) × (operand_to m front (Some x) ≡ Some z) × DottedAlong (λ n y. Becomes (level n) y) z
+  operand_along front (inl is) stays = (x, ap (λ (f : Front). operand_to m f (Some x)) is, inl (subst (λ (f : Front). Becomes (operand_asks f) x) is (stays (ap drops_operand is))))
+  operand_along front (inr (inl (k, is))) stays =
+      (cast_tree m k x, ap (λ (f : Front). operand_to m f (Some x)) is, inr (inl (m, m, tree.named m None (new_word m k), x, refl, subst (λ (f : Front). Becomes (operand_asks f) x) is (stays (ap drops_operand is)))))
   operand_along front (inr (inr (inl (k, is)))) stays = (tree.name m (new_word m k), ap (λ (f : Front). operand_to m f (Some x)) is, inr (inr (inl (m, new_word m k, refl))))
   operand_along front (inr (inr (inr (o, k, is)))) stays =
       (tree.field m (tree.name m (new_word m o)) (new_word m k), ap (λ (f : Front). operand_to m f (Some x)) is, inr (inr (inr (m, m, new_word m o, new_word m k, refl))))
@@ -178,9 +179,9 @@ module _ {A : Type 0} (tells : A → ℕ → Span) (rows : List Row) (R : Region
         let last = right_none (operand_losses tells h p.losses) (losses_of h) all in
         let keeps = own r b i (tree.field m e v) o (h, p, spells, inner, is) none in
         let dotted : IsDotted (front_of h) → Side r b i (tree.field m e v) o.tree = λ front.
-        (let part = operand_along m p.tree (λ y. PartSide (level primary_level) left ((tells m b).from) ((tells m i).from) e y) (front_of h) front
+        (let part = operand_along m p.tree (λ k y. PartSide k left ((tells m b).from) ((tells m i).from) e y) (front_of h) front
         (λ stays. (let none_lost = operand_none tells rows R c d w super_at S parts h p.losses all stays in
-        part_side (level primary_level) left ((tells m b).from) ((tells m i).from) e p inner none_lost (λ x. along left ((tells m b).from) ((tells m i).from) e p x none_lost))) in
+        part_side (operand_asks (front_of h)) left ((tells m b).from) ((tells m i).from) e p inner none_lost (λ x. along left ((tells m b).from) ((tells m i).from) e p x none_lost))) in
         let there = ap (λ (z : Rewritten (tree.Exp A)). z.tree) is ∙ field_is m (word_to h v) _ part.0 part.1 in
         inl (m, part.0, word_to h v, there, part.2, subst (λ (y : tree.Exp A). Keeps c d r b (tree.field m e v) i y) there keeps)) in
         let by_itself : r ≡ left → front_of h ≡ alone → Side r b i (tree.field m e v) o.tree = λ role front.
@@ -208,10 +209,10 @@ module _ {A : Type 0} (tells : A → ℕ → Span) (rows : List Row) (R : Region
         let out = is ∙ ap (λ (z : Rewritten (Called tells)). joined (λ (t : Called tells) es. tree.call m t.target t.word es) z q) target in
         let all = lost_none o (joined (λ (t : Called tells) es. tree.call m t.target t.word es) (dotted_call_out tells h m b e x v) q) out none in
         let front = left_none (operand_losses tells h x.losses ++ losses_of h) q.losses all in
-        let part = operand_along m x.tree (λ y. PartSide (level primary_level) left ((tells m b).from) ((tells m i).from) e y) (front_of h)
+        let part = operand_along m x.tree (λ k y. PartSide k left ((tells m b).from) ((tells m i).from) e y) (front_of h)
         (call_dotted (λ m b. (tells m b).from) rows R c _ e v.text args h (right_none (operand_losses tells h x.losses) (losses_of h) front) spells)
         (λ stays. (let none_lost = operand_none tells rows R c d w super_at S parts h x.losses front stays in
-        part_side (level primary_level) left ((tells m b).from) ((tells m i).from) e x inner none_lost (λ y. along left ((tells m b).from) ((tells m i).from) e x y none_lost))) in
+        part_side (operand_asks (front_of h)) left ((tells m b).from) ((tells m i).from) e x inner none_lost (λ y. along left ((tells m b).from) ((tells m i).from) e x y none_lost))) in
         let there = ap (λ (z : Rewritten (tree.Exp A)). z.tree) out in (
           m,
           target_of (operand_to m (front_of h) (Some x.tree)),

@@ -7,7 +7,6 @@ use Rattle.jr_ast.specs.declared.operators.UnOp.{UnOp}
 use Rattle.jr_ast.specs.declared.operators.UnOp.TheVariants as sign
 use Rattle.jr_ast.specs.declared.operators.BinOp.{BinOp}
 use Rattle.jr_ast.specs.declared.operators.BinOp.TheVariants as op
-use Rattle.jr_grammar.specs.Shape.{primary_level}
 use Rattle.jr_table.specs.Keys.{ClassKey, Ty, class}
 use Rattle.jr_table.specs.Rows.{Row}
 use Rattle.jr_table.specs.Scope.{Scope}
@@ -15,7 +14,7 @@ use Rattle.jr_table.specs.Context.{Context, scope_of, WritesType}
 use Rattle.jr_table.specs.Binding.{HasType, IsClassName, HaveTypes, Role, value, left, sign_type, operator_type}
 use Rattle.jr_rewrite.specs.Respellings.{Loss, Choice, front_of}
 use Rattle.jr_rewrite.specs.Rewritten.{Rewritten, within, joined, drops_operand, losses_of, word_out, name_out, field_out, super_field_out, simple_call_out, dotted_call_out, operand_losses, Called}
-use Rattle.jr_rewrite.specs.Spots.{Asks, level, a_target, Spotted, nowhere, spotted, OrThis, OrPart}
+use Rattle.jr_rewrite.specs.Spots.{Asks, level, a_target, operand_asks, Spotted, nowhere, spotted, OrThis, OrPart}
 use Rattle.jr_rewrite.specs.Rewrites.{Choosing, TransformsExp, TransformsTarget, TransformsRow, TransformsPart}
 use Rattle.jr_images.specs.Regions.{itself, Region, AreTypesNow}
 use Rattle.jr_images.specs.Spelling.{choosing}
@@ -101,10 +100,10 @@ module _ {A : Type 0} (tells : A → ℕ → Span) (rows : List Row) (R : Region
       kept r base (tree.name m v) o (h, inr spells, is) none = move r (tree.name m v) o (name_out tells h m base v) is (class_kept tells rows R c d w r m v _ h (lost_none o (name_out tells h m base v) is none) r spells)
       kept r base (tree.field m e v) o (h, p, inl spells, inner, is) none = let all = lost_none o (field_out tells h m base e p v) is none in
           move r (tree.field m e v) o (field_out tells h m base e p v) is (field_kept tells rows R c d w r m e p.tree v _ h (right_none (operand_losses tells h p.losses) (losses_of h) all)
-          (λ stays. of_part (level primary_level) left ((tells m base).from) e p inner (operand_none h p.losses all stays) (λ y. (kept left ((tells m base).from) e p y (operand_none h p.losses all stays)).becomes)) spells)
+          (λ stays. of_part (operand_asks (front_of h)) left ((tells m base).from) e p inner (operand_none h p.losses all stays) (λ y. (kept left ((tells m base).from) e p y (operand_none h p.losses all stays)).becomes)) spells)
       kept r base (tree.field m e v) o (h, p, inr spells, inner, is) none = let all = lost_none o (field_out tells h m base e p v) is none in
           move r (tree.field m e v) o (field_out tells h m base e p v) is (member_class_kept tells rows R c d w r m e p.tree v _ h (right_none (operand_losses tells h p.losses) (losses_of h) all)
-          (λ stays. of_part (level primary_level) left ((tells m base).from) e p inner (operand_none h p.losses all stays) (λ y. (kept left ((tells m base).from) e p y (operand_none h p.losses all stays)).becomes)) r spells)
+          (λ stays. of_part (operand_asks (front_of h)) left ((tells m base).from) e p inner (operand_none h p.losses all stays) (λ y. (kept left ((tells m base).from) e p y (operand_none h p.losses all stays)).becomes)) r spells)
       kept r base (tree.super_field m v) o (h, spells, is) none = move r (tree.super_field m v) o (super_field_out tells h m base v) is (super_field_kept tells rows R c d w r m v _ h (lost_none o (super_field_out tells h m base v) is none) spells)
       kept r base (tree.class_literal m t) o (p, types, is) none = move r (tree.class_literal m t) o _ is
           (plain r _ _ (λ u h. w.types.own c (tree.class_literal m t) u tt h ∙ ap (type_in R) h ∙ ap class w.images.class) (λ k h. h) (λ k h. h) (λ b i. tt))
@@ -119,7 +118,7 @@ module _ {A : Type 0} (tells : A → ℕ → Span) (rows : List Row) (R : Region
           let front = left_none (operand_losses tells h x.losses ++ losses_of h) q.losses all in
           move r (tree.call m (tree.on e) v args) o (joined (λ (t : Called tells) es. tree.call m t.target t.word es) (dotted_call_out tells h m base e x v) q) out
           (call_kept tells rows R c d w r m v args q.tree (λ ts types. kept_row _ args q row (right_none (operand_losses tells h x.losses ++ losses_of h) q.losses all) ts (R.types_now c args ts) (w.args c args ts) types) _ h
-          (right_none (operand_losses tells h x.losses) (losses_of h) front) e x.tree (λ stays. of_part (level primary_level) left ((tells m base).from) e x inner (operand_none h x.losses front stays) (λ y. (kept left ((tells m base).from) e x y (operand_none h x.losses front stays)).becomes)) spells)
+          (right_none (operand_losses tells h x.losses) (losses_of h) front) e x.tree (λ stays. of_part (operand_asks (front_of h)) left ((tells m base).from) e x inner (operand_none h x.losses front stays) (λ y. (kept left ((tells m base).from) e x y (operand_none h x.losses front stays)).becomes)) spells)
       kept r base (tree.super_call m v args) o (h, q, spells, row, is) none =
           let all = lost_none o (joined (λ v es. tree.super_call m v es) (word_out tells h ((tells m base).from) v) q) is none in
           move r (tree.super_call m v args) o (joined (λ v es. tree.super_call m v es) (word_out tells h ((tells m base).from) v) q) is

@@ -8,7 +8,7 @@ use Rattle.jr_table.specs.Context.{Context}
 use Rattle.jr_table.specs.Binding.{Role, value, left}
 use Rattle.jr_rewrite.specs.Rewritten.{Rewritten}
 use Rattle.jr_rewrite.specs.Spots.{Asks, level, a_target, Spotted, nowhere, spotted}
-use Rattle.jr_rewrite.specs.Along.{IsClassWords, OperandAlong}
+use Rattle.jr_rewrite.specs.Along.{IsClassWords}
 
 -- an expression has become what a spot makes of it, without a loss
 abbrev pub SpotStands : {A : Type 0} → Spotted A → Asks → Context → Context → Role → (base : ℕ)
@@ -16,6 +16,14 @@ abbrev pub SpotStands : {A : Type 0} → Spotted A → Asks → Context → Cont
 SpotStands nowhere k c d r b e i y = ⊥
 SpotStands {A} (spotted s) k c d r b e i y =
     (o : Rewritten (tree.Exp A)) × s.part k c r b e o × (o.losses ≡ []) × (y ≡ o.tree)
+
+-- What stands in front of the dot: what e has become, which binds as tightly as a dot asks; or that
+-- cast in parentheses, as tightly as a cast asks; or the words of a class, and e is gone.
+abbrev pub DottedAlong : {B : Type 0} (Becomes : (least : ℕ) → tree.Exp B → Type 0) → tree.Exp B
+    → Type 0
+DottedAlong {B} Becomes y = Becomes primary_level y
+    ⊎ (((k l : B) × (u : tree.TypeName B) × (x : tree.Exp B)
+    × (y ≡ tree.paren k (tree.cast l u x)) × Becomes unsigned_level x) ⊎ IsClassWords y)
 
 -- `P c c' role base x base' y`: reference x, known c, has become y, known c'. The parents begin at
 -- the bases. `T`: the same of a written type. `Q`: the same of a spot, of which so much is asked.
@@ -39,8 +47,8 @@ module _ {A B : Type 0} (begins : A → ℕ → ℕ) (begins' : B → ℕ → �
     -- a class in front of a dot may lose what stood in front of it
     AlongSpots c d r b i (tree.field m e w) y = ((k : B) × (x : tree.Exp B) × (v : tree.Word B)
         × (y ≡ tree.field k x v)
-        × OperandAlong (λ z. AlongSpots c d left (begins m b) (begins' k i) e z
-        ⊎ Q (level primary_level) c d left (begins m b) e (begins' k i) z) x
+        × DottedAlong (λ n z. AlongSpots c d left (begins m b) (begins' k i) e z
+        ⊎ Q (level n) c d left (begins m b) e (begins' k i) z) x
         × P c d r b (tree.field m e w) i (tree.field k x v))
         ⊎ ((k : B) × (v : tree.Word B) × (r ≡ left) × (y ≡ tree.name k v)
         × P c d r b (tree.field m e w) i (tree.name k v))
@@ -92,8 +100,7 @@ module _ {A B : Type 0} (begins : A → ℕ → ℕ) (begins' : B → ℕ → �
         ⊎ (((k : B) × (to ≡ tree.on (tree.this k)))
         ⊎ ((x : tree.Exp B) × (to ≡ tree.on x) × IsClassWords x))
     TargetAlong c d a i (tree.on e) to = (x : tree.Exp B) × (to ≡ tree.on x)
-        × OperandAlong (λ z. AlongSpots c d left a i e z
-        ⊎ Q (level primary_level) c d left a e i z) x
+        × DottedAlong (λ n z. AlongSpots c d left a i e z ⊎ Q (level n) c d left a e i z) x
 
     pub RowAlong : Context → Context → (at at' : ℕ) → tree.Exps A → tree.Exps B → Type 0
     RowAlong c d a i tree.end ys = ys ≡ tree.end

@@ -12,7 +12,7 @@ use Rattle.jr_table.specs.Binding.{Role, value, left}
 use Rattle.jr_rewrite.specs.Respellings.{Front, same, alone, by_this, by_super, by_cast_this, by_class, by_outer_class, by_cast, Choice, stays, becomes, loses, front_of}
 use Rattle.jr_rewrite.specs.Rewritten.{Rewritten, word_to, operand_to, variable_on, variable_to, super_to, target_of, Called}
 use Rattle.jr_rewrite.specs.Suitable.{Suits, MayStandFor, MayBeCast, SuitsCall, AreSuitable}
-use Rattle.jr_rewrite.specs.Spots.{Asks, level, a_target, a_statement, Takes, Spotted, nowhere, spotted, OrThis, OrPart}
+use Rattle.jr_rewrite.specs.Spots.{Asks, level, a_target, a_statement, Takes, operand_asks, Spotted, nowhere, spotted, OrThis, OrPart}
 use Rattle.jr_rewrite.specs.Rewrites.{Choosing, TypeOut, TransformsExp, TransformsTarget, TransformsRow, TransformsPart}
 use Rattle.jr_rewrite.specs.Woven.{Weaving}
 use Rattle.jr_rewrite.specs.SuitableSpots.{SpotsSuit}
@@ -53,22 +53,22 @@ module _ {A : Type 0} (m : A) where
   put_before minus (by_cast k) = tt
 
   -- and where e stood
-  stood_before : (minus : Bool) (f : Front) (old e : tree.Exp A) → MayStandFor old f → IsPrimary e → ShapedBehind minus e → (MayBeCast old → ShapedBehind false e)
+  stood_before : (minus : Bool) (f : Front) (old e : tree.Exp A) → MayStandFor old f → Takes (operand_asks f) e → ShapedBehind minus e → (MayBeCast old → ShapedBehind false e)
       → Before minus (operand_to m f (Some e))
-  stood_before minus same old e may primary shaped alone_too = (primary, shaped)
-  stood_before minus alone old e may primary shaped alone_too = tt
-  stood_before minus by_this old e may primary shaped alone_too = (omega arith, tt)
-  stood_before minus by_super old e may primary shaped alone_too = absurd may
-  stood_before minus (by_cast_this k) old e may primary shaped alone_too = (omega arith, (tt, omega arith, tt))
-  stood_before minus (by_class k) old e may primary shaped alone_too = (omega arith, tt)
-  stood_before minus (by_outer_class o k) old e may primary shaped alone_too = (omega arith, (omega arith, tt))
-  stood_before minus (by_cast k) old e may primary shaped alone_too = (omega arith, (tt, omega (arith, primary), alone_too may))
+  stood_before minus same old e may tight shaped alone_too = (tight, shaped)
+  stood_before minus alone old e may tight shaped alone_too = tt
+  stood_before minus by_this old e may tight shaped alone_too = (omega arith, tt)
+  stood_before minus by_super old e may tight shaped alone_too = absurd may
+  stood_before minus (by_cast_this k) old e may tight shaped alone_too = (omega arith, (tt, omega arith, tt))
+  stood_before minus (by_class k) old e may tight shaped alone_too = (omega arith, tt)
+  stood_before minus (by_outer_class o k) old e may tight shaped alone_too = (omega arith, (omega arith, tt))
+  stood_before minus (by_cast k) old e may tight shaped alone_too = (omega arith, (tt, omega (arith, tight), alone_too may))
 
-  chosen_before : (minus : Bool) (h : Choice) (old e : tree.Exp A) → Suits (MayStandFor old) h → IsPrimary e → ShapedBehind minus e → (MayBeCast old → ShapedBehind false e)
+  chosen_before : (minus : Bool) (h : Choice) (old e : tree.Exp A) → Suits (MayStandFor old) h → Takes (operand_asks (front_of h)) e → ShapedBehind minus e → (MayBeCast old → ShapedBehind false e)
       → Before minus (operand_to m (front_of h) (Some e))
-  chosen_before minus stays old e suits primary shaped alone_too = (primary, shaped)
-  chosen_before minus (loses l) old e suits primary shaped alone_too = (primary, shaped)
-  chosen_before minus (becomes r) old e suits primary shaped alone_too = stood_before minus r.front old e suits.2 primary shaped alone_too
+  chosen_before minus stays old e suits tight shaped alone_too = (tight, shaped)
+  chosen_before minus (loses l) old e suits tight shaped alone_too = (tight, shaped)
+  chosen_before minus (becomes r) old e suits tight shaped alone_too = stood_before minus r.front old e suits.2 tight shaped alone_too
 
   -- a variable with nothing in front of it
   variable_level : (f : Front) (w : tree.Word A) → level_of (variable_to m f None w) ≡ 10
@@ -175,6 +175,17 @@ shaped_alone minus (tree.binary m op x y) may primary h = absurd (binary_looser 
     binary_looser Rem low = omega (arith, low)
 shaped_alone minus (tree.assign m x y) may primary h = absurd (omega (arith, primary))
 shaped_alone minus (tree.compound m op x y) may primary h = absurd (omega (arith, primary))
+
+-- what stood in front of a dot does for what is put in front of the word, too
+primary_takes : {A : Type 0} (f : Front) (e : tree.Exp A) → IsPrimary e → Takes (operand_asks f) e
+primary_takes same e primary = primary
+primary_takes alone e primary = primary
+primary_takes by_this e primary = primary
+primary_takes by_super e primary = primary
+primary_takes (by_cast_this k) e primary = primary
+primary_takes (by_class k) e primary = primary
+primary_takes (by_outer_class o k) e primary = primary
+primary_takes (by_cast k) e primary = omega (arith, primary)
 
 -- what a spot makes of an expression, or the other way
 or_takes : {A : Type 0} (tells : A → ℕ → Span) (S : Spotted A) (C : Choosing A) (W : Weaving) → SpotsSuit tells C W S → {N : Type 0} (k : Asks) (c : Context) (r : Role) (base : ℕ) (e : tree.Exp A)
@@ -301,7 +312,7 @@ module _ {A : Type 0} (tells : A → ℕ → Span) (C : Choosing A) where
             let at : ℕ = (tells m base).from in
             subst (λ z. ShapedBehind minus z.tree) (sym w.4)
             (on_shaped m minus (operand_to m (front_of w.0) (Some w.1.tree)) (word_to w.0 v)
-            (chosen_before m minus w.0 e w.1.tree (fit.expression c r base (tree.field m e v) w.0 w.2) (takes (level 10) c left at e w.1 w.3 h.0) (in_shaped _ minus c left at e w.1 w.3 h.1 (λ x0. exp_shaped minus c left at e w.1 x0 h.1))
+            (chosen_before m minus w.0 e w.1.tree (fit.expression c r base (tree.field m e v) w.0 w.2) (takes (operand_asks (front_of w.0)) c left at e w.1 w.3 (primary_takes (front_of w.0) e h.0)) (in_shaped _ minus c left at e w.1 w.3 h.1 (λ x0. exp_shaped minus c left at e w.1 x0 h.1))
             (λ may. in_shaped _ false c left at e w.1 w.3 (shaped_alone minus e may h.0 h.1) (λ x0. exp_shaped false c left at e w.1 x0 (shaped_alone minus e may h.0 h.1)))))
         exp_shaped minus c r base (tree.super_field m v) o w h = subst (λ z. ShapedBehind minus z.tree) (sym w.2) (super_shaped m minus (front_of w.0) (word_to w.0 v))
         exp_shaped minus c r base (tree.class_literal m t) o w h =
@@ -347,7 +358,7 @@ module _ {A : Type 0} (tells : A → ℕ → Span) (C : Choosing A) where
             let at : ℕ = (tells m base).from in
             subst (λ z. ShapedTarget minus z.tree.target) (sym w.2)
             (target_shaped m minus (operand_to m (front_of h) (Some w.0.tree))
-            (chosen_before m minus h e w.0.tree suits (takes (level 10) c left at e w.0 w.1 shaped.0) (in_shaped _ minus c left at e w.0 w.1 shaped.1 (λ x0. exp_shaped minus c left at e w.0 x0 shaped.1)) (λ may. in_shaped _ false c left at e w.0 w.1 (shaped_alone minus e may shaped.0 shaped.1) (λ x0. exp_shaped false c left at e w.0 x0 (shaped_alone minus e may shaped.0 shaped.1)))))
+            (chosen_before m minus h e w.0.tree suits (takes (operand_asks (front_of h)) c left at e w.0 w.1 (primary_takes (front_of h) e shaped.0)) (in_shaped _ minus c left at e w.0 w.1 shaped.1 (λ x0. exp_shaped minus c left at e w.0 x0 shaped.1)) (λ may. in_shaped _ false c left at e w.0 w.1 (shaped_alone minus e may shaped.0 shaped.1) (λ x0. exp_shaped false c left at e w.0 x0 (shaped_alone minus e may shaped.0 shaped.1)))))
 
         pub row_shaped : (c : Context) (at : ℕ) (es : tree.Exps A) (o : Rewritten (tree.Exps A)) → TransformsRow tells C S c at es o → AllShaped es → AllShaped o.tree
         row_shaped c at tree.end o w h = subst (λ z. AllShaped z.tree) (sym w) tt

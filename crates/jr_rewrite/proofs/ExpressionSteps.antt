@@ -17,7 +17,7 @@ use Rattle.jr_table.specs.Binding.{Role, value, left}
 use Rattle.jr_rewrite.specs.Respellings.{Front, same, alone, by_this, by_super, by_cast_this, by_class, by_outer_class, by_cast, Choice, front_of, text_of}
 use Rattle.jr_rewrite.specs.Rewritten.{Rewritten, word_changes, dotted_changes, super_changes, qualified_changes, word_to, operand_to, variable_on, variable_to, super_to, target_of, qualifier_to, Called}
 use Rattle.jr_rewrite.specs.Suitable.{Suits, MayStandAlone, MayStandBeforeVariable, MayStandBeforeMethod, MayStandBeforeType, MayStandFor, IsPath, SuitsCall, AreSuitable}
-use Rattle.jr_rewrite.specs.Spots.{Asks, Spotted, nowhere, spotted, OrPart}
+use Rattle.jr_rewrite.specs.Spots.{Asks, operand_asks, Spotted, nowhere, spotted, OrPart}
 use Rattle.jr_rewrite.specs.Rewrites.{Choosing, TypeOut, RewritesType, TransformsExp, TransformsTarget, TransformsRow, TransformsPart}
 use Rattle.jr_rewrite.specs.Woven.{Weaving}
 use Rattle.jr_rewrite.specs.SuitableSpots.{SpotsSuit}
@@ -348,7 +348,7 @@ module _ {A : Type 0} (tells : A → ℕ → Span) where
           subst (λ z. Stepped W false ps z.changes (called_toks z.tree)) (sym w.2)
           (stepped_new ps (dotted_changes h (tells (exp_mark e) at) s w.0.changes) (dotted_chosen h v.text ts)
           (target_toks (target_of (operand_to m (front_of h) (Some w.0.tree))) ++ (word (text_of h v.text) ∷ [])) (dotted_call_toks m v e w.0.tree h suits)
-          (dotted_steps s v.text ps d w.0.changes ts (in_part _ c left at e w.0 d.front w.1 d.operand (λ x0. exp_steps c left at e w.0 d.front x0 d.operand)) (MayStandFor e)
+          (dotted_steps s v.text ps d w.0.changes ts (in_part (operand_asks (front_of h)) c left at e w.0 d.front w.1 d.operand (λ x0. exp_steps c left at e w.0 d.front x0 d.operand)) (MayStandFor e)
           (for_dotted e d.front (path_begins at e d.front d.operand)) h (tells (exp_mark e) at) (exp_span at e d.front d.operand) (exp_some at e d.front d.operand) suits))
 
       pub args_steps : (c : Context) (at : ℕ) (es : tree.Exps A) (o : Rewritten (tree.Exps A)) (ps : Tokens) → TransformsRow tells C S c at es o

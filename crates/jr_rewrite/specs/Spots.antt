@@ -4,10 +4,27 @@ use Rattle.std.specs.Prelude.{◌⊎◌, ℕ, ◌≤◌, List, Option}
 use Rattle.jr_ast.specs.Tree as tree
 use Rattle.jr_ast.specs.StatementTree as statement
 use Rattle.jr_ast.specs.MemberTree as syntax
-use Rattle.jr_grammar.specs.Shape.{level_of, IsTarget, IsStatementForm}
+use Rattle.jr_grammar.specs.Shape.{
+  primary_level,
+  unsigned_level,
+  level_of,
+  IsTarget,
+  IsStatementForm,
+}
 use Rattle.jr_table.specs.Keys.{ClassKey}
 use Rattle.jr_table.specs.Binding.{Role}
 use Rattle.jr_table.specs.Context.{Context}
+use Rattle.jr_rewrite.specs.Respellings.{
+  Front,
+  same,
+  alone,
+  by_this,
+  by_super,
+  by_cast_this,
+  by_class,
+  by_outer_class,
+  by_cast,
+}
 use Rattle.jr_rewrite.specs.Rewritten.{Rewritten}
 
 -- what the node around asks of an expression: that it binds so tightly, that it can be assigned, or
@@ -21,6 +38,18 @@ abbrev pub Takes : {A : Type 0} → Asks → tree.Exp A → Type 0
 Takes (level least) e = least ≤ level_of e
 Takes a_target e = IsTarget e
 Takes a_statement e = IsStatementForm e
+
+-- what is asked of what stands in front of a dot, by what is put in front of the word: less of a
+-- cast's operand than of what a dot follows (JLS 15.11, 15.16)
+abbrev pub operand_asks : Front → Asks
+operand_asks same = level primary_level
+operand_asks alone = level primary_level
+operand_asks by_this = level primary_level
+operand_asks by_super = level primary_level
+operand_asks (by_cast_this k) = level primary_level
+operand_asks (by_class k) = level primary_level
+operand_asks (by_outer_class o k) = level primary_level
+operand_asks (by_cast k) = level unsigned_level
 
 -- what becomes of an expression of which so much is asked, which stands so where its parent begins
 -- at base; of the rest of a list of statements, whose next local has a number; of the rest of the
