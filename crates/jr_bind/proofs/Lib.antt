@@ -1,25 +1,7 @@
--- Statements: `StmtArming`, `Bodies`, `Passing`, `LocalSteps`. Declarations: `Declaring`,
--- `Heading`, `ParamSteps`, `Statics`, `Parting` (a whole part). `Bounding` has a member's `Bound`
--- from its log, by `jr_table: parts_are_noted`; `Searching`, `Telling`: references by halves,
--- errors; `MemberFound`: by key. The tree of types: `TypedPassing`, `TypedDeclaring`,
--- `TypedBounds`. Overriding: `Accesses`, `Climbing` (one step upwards), `Above` (what is found
--- class by class is what the relation finds among all rows).
+-- What a log says of a member (`Bounding`, `TypedBounds`), finding by halves (`Searching`), errors in
+-- order (`Telling`), the member of a key (`MemberFound`).
 pub mod Telling
-pub mod StmtArming
-pub mod Passing
-pub mod Bodies
-pub mod Declaring
-pub mod LocalSteps
-pub mod Heading
-pub mod Statics
-pub mod ParamSteps
-pub mod Parting
 pub mod Bounding
 pub mod Searching
 pub mod MemberFound
-pub mod TypedPassing
-pub mod TypedDeclaring
 pub mod TypedBounds
-pub mod Accesses
-pub mod Climbing
-pub mod Above

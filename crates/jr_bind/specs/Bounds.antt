@@ -28,7 +28,7 @@ use Rattle.jr_table.specs.Errors.{
 }
 use Rattle.jr_table.specs.TypesAt.{TypeAt}
 use Rattle.jr_expr_types.specs.Slots.{Slot, find_type}
-use Rattle.jr_bind.specs.PartFits.{FitsPart}
+use Rattle.jr_bind_parts.specs.PartFits.{FitsPart}
 
 -- a reference, by the place of its first byte, and what it means
 pub record Reference : Type 0 where

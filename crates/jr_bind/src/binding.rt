@@ -21,10 +21,10 @@ ghost use Rattle.jr_bind_expr.specs.Logs.{notes_of};
 
 use crate::bounds::Bound;
 use crate::errors::errors_of_log;
-use crate::part_notes::note_part;
 use crate::references::references_of_log;
 use jr_ast::{Class, Member, Unit};
 use jr_bind_expr::Note;
+use jr_bind_parts::part_notes::note_part;
 use jr_expr_types::{Types, paths_lead_to_types, types_are_at};
 use jr_members::{PartRef, WrittenMember, members_are_written, written_members};
 use jr_steps::Steps;

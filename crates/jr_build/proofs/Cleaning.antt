@@ -7,7 +7,7 @@ use Rattle.jr_table.specs.declared.kinds.DeclKind.TheVariants as kind
 use Rattle.jr_table.specs.DeclaredItems.{DeclaredItem}
 use Rattle.jr_table.specs.Faults.{Place, PackageLine, HasFault, IsFirstFault, IsClean, IsUpTo, rank_of}
 use Rattle.jr_build.specs.Builds.{IsCleanBelow}
-use Rattle.jr_build.specs.Places.{IsEarliest}
+use Rattle.jr_build_places.specs.Places.{IsEarliest}
 
 module _ (packages : List (Option PackageLine)) (declarations : List DeclaredItem) where
   -- each rank is of one kind

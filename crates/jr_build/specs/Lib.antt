@@ -1,15 +1,1 @@
-pub mod DeclaredView
-pub mod Places
-pub mod Gathers
-pub mod Fitting
-pub mod Packages
-pub mod KeyIndex
-pub mod DeclarationFaults
-pub mod Hierarchies
-pub mod HierarchyView
-pub mod Superclasses
-pub mod TypeFaults
-pub mod Signatures
-pub mod ExactRows
-pub mod Heads
 pub mod Builds

@@ -17,7 +17,7 @@ use Rattle.jr_rewrite.specs.Rewrites.{Choosing, RewritesExp, RewritesMaybe, Rewr
 use Rattle.jr_expr_types.specs.Slots.{find_type}
 use Rattle.jr_bind.specs.Bounds.{Bound}
 use Rattle.jr_bind_expr.specs.Fits.{FitsType, FitsStmt, FitsElse, FitsStmts}
-use Rattle.jr_bind.proofs.Bodies.{Inside, inside_same, inside_after}
+use Rattle.jr_bind_parts.proofs.Bodies.{Inside, inside_same, inside_after}
 use Rattle.jr_images.specs.Images.{Renaming}
 use Rattle.jr_images.specs.Spelling.{spelling}
 use Rattle.jr_new_bodies.specs.declared.here.Here as raw

@@ -17,7 +17,7 @@ use Rattle.jr_table.specs.Context.{Context, scope_of}
 use Rattle.jr_table.specs.Binding.{TypeRefers, FindsIn, FindsFor, SuperCtorFinds}
 use Rattle.jr_table.specs.HeadRules.{ParamsRefer, MaybeTypeRefers}
 use Rattle.jr_bind_expr.specs.Fits.{FitsType}
-use Rattle.jr_bind.specs.DeclaredTypes.{FitsParams, FitsMaybeType}
+use Rattle.jr_bind_parts.specs.DeclaredTypes.{FitsParams, FitsMaybeType}
 use Rattle.jr_program_laws.specs.FileParts.{begins}
 use Rattle.jr_new_bodies.specs.Known.{IsOne, SuperCtorIsBound}
 use Rattle.jr_new_bodies.proofs.Bound.{type_bound}

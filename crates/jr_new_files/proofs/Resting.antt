@@ -23,7 +23,7 @@ use Rattle.jr_table.specs.declared.rules.Rule.{Rule}
 use Rattle.jr_table.specs.declared.rules.Rule.TheVariants as rule
 use Rattle.jr_expr_types.specs.Slots.{find_type}
 use Rattle.jr_bind.specs.Bounds.{Bound}
-use Rattle.jr_bind.specs.DeclaredTypes.{FitsMaybeType}
+use Rattle.jr_bind_parts.specs.DeclaredTypes.{FitsMaybeType}
 use Rattle.jr_bind.specs.Programs.{Program}
 use Rattle.jr_program_laws.specs.FileParts.{begins}
 use Rattle.jr_program_laws.specs.FoundTypes.{MaybeParentIsFound}

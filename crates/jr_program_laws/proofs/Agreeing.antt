@@ -17,7 +17,7 @@ use Rattle.jr_table.specs.DeclaredItems.{DeclaredClass, DeclaredItem}
 use Rattle.jr_table.specs.Resolving.{DeclaresClass, IsDeclared, IsTopClass, IsPreludeClass, IsPrivateClass, TopParent, IsParent, member_key}
 use Rattle.jr_table.proofs.RowLaws.{number_stands, the_number, entry_stands, row_at, acyclic_rows}
 use Rattle.jr_table.proofs.OneEach.{is_class_decl}
-use Rattle.jr_build.proofs.ClassNumbers.{has_private, any_private}
+use Rattle.jr_build_hierarchy.proofs.ClassNumbers.{has_private, any_private}
 
 -- the classes with rows are those that the declarations declare, and the prelude's
 pub record Agree (rows : List Row) (declarations : List DeclaredItem) : Type 0 where

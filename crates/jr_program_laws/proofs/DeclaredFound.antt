@@ -13,7 +13,7 @@ use Rattle.jr_table.specs.DeclaredItems.{DeclaredItem, member_declarations, decl
 use Rattle.jr_table.specs.ProgramRows.{AreProgramRows}
 use Rattle.jr_table.specs.Faults.{PackageLine, IsClean}
 use Rattle.jr_table.specs.Errors.{Part, class_part, member_part}
-use Rattle.jr_build.proofs.Apart.{In, in_stands}
+use Rattle.jr_build_rows.proofs.Apart.{In, in_stands}
 use Rattle.jr_members.proofs.DeclarationRows.{once, not_reserved}
 use Rattle.jr_members.proofs.UnitsWalked.{are_written}
 use Rattle.jr_program_laws.specs.FoundTypes.{MaybeParentIsFound, DeclaresFound, DeclaredTypesAreFound}

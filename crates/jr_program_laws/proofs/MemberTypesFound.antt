@@ -13,7 +13,7 @@ use Rattle.jr_table.specs.TypeNames.{HasTypeNamed, FindsType}
 use Rattle.jr_table.specs.DeclaredItems.{DeclaredClass, DeclaredItem}
 use Rattle.jr_table.specs.Resolving as meaning
 use Rattle.jr_table.specs.Resolving.{DeclaresClass, IsDeclared, IsTopClass, TopParent, TopMemberType, HasTopMemberType, FindsInTop, TypeWithin, HasMemberType, FindsAround, IsParent, IsPrivateClass, member_key}
-use Rattle.jr_build.proofs.Looks.{key, names_so, top_type, parent_is_top, top_eta, inherits}
+use Rattle.jr_build_hierarchy.proofs.Looks.{key, names_so, top_type, parent_is_top, top_eta, inherits}
 use Rattle.jr_program_laws.proofs.Agreeing.{Agree, TopsAgree, ParentsAgree, ClassRow, parent_number, superclass_row, number_parent, no_outer, outer_row, declares_type, type_declared, own_member, inherited_member, top_row, row_top, inner_row, row_inner, private_row, row_private}
 
 -- the class of a row, and what is said of it

@@ -11,7 +11,7 @@ use Rattle.jr_table.specs.DeclaredItems.{DeclaredClass, DeclaredItem, class_item
 use Rattle.jr_table.specs.Resolving.{DeclaresClass, IsPreludeSubclass, TopParent, IsParent}
 use Rattle.jr_table.specs.ProgramRows.{IsClassRow, AreProgramRows}
 use Rattle.jr_table.specs.Faults.{PackageLine, IsClean}
-use Rattle.jr_build.proofs.Apart.{In, stands_in, in_stands}
+use Rattle.jr_build_rows.proofs.Apart.{In, stands_in, in_stands}
 use Rattle.jr_program_laws.proofs.MeansOnce.{parent_once}
 use Rattle.jr_program_laws.proofs.RowsOfDeclarations.{gives, class_there, prelude_there, prelude_sub_there}
 use Rattle.jr_program_laws.proofs.Agreeing.{Agree, TopsAgree, ParentsAgree}

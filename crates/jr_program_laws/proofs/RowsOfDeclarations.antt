@@ -12,7 +12,7 @@ use Rattle.jr_table.specs.Entries.{is_private_word}
 use Rattle.jr_table.specs.DeclaredItems.{Written, DeclaredClass, Item, class_item, field_item, method_item, ctor_item, DeclaredItem}
 use Rattle.jr_table.specs.Resolving.{IsPreludeClass, IsPreludeSubclass}
 use Rattle.jr_table.specs.ProgramRows.{IsClassRow, IsFieldRow, IsMethodRow, IsCtorRow, unwritten_row, AreRowsOfDeclarations, AreProgramRows}
-use Rattle.jr_build.proofs.Apart.{In, in_left, in_right, in_either}
+use Rattle.jr_build_rows.proofs.Apart.{In, in_left, in_right, in_either}
 
 pub same_row : (x y : Row) → In (x ∷ []) y → x ≡ y
 same_row x y (inl e) = e

@@ -16,11 +16,11 @@ use Rattle.jr_pstmt.specs.CueTests.{is_close_brace}
 use Rattle.jr_pstmt.specs.Inside.{inner, settled}
 use Rattle.jr_pstmt.specs.TypeMachine as T
 use Rattle.jr_pstmt.specs.OwnMachine as Own
-use Rattle.jr_punit.specs.ClassMachine as Classes
-use Rattle.jr_punit.specs.MemberMachine as Members
-use Rattle.jr_punit.specs.UnitMachine as Units
+use Rattle.jr_punit_laws.specs.ClassMachine as Classes
+use Rattle.jr_punit_laws.specs.MemberMachine as Members
+use Rattle.jr_punit_laws.specs.UnitMachine as Units
 use Rattle.jr_punit.specs.UnitView.{is_package}
-use Rattle.jr_punit.specs.OwnView.{begun}
+use Rattle.jr_punit_members.specs.OwnView.{begun}
 use Rattle.jr_punit.specs.declared.class_heads.ClassStart.{ClassStart}
 use Rattle.jr_punit.specs.declared.class_heads.ClassStart.TheVariants as starts
 use Rattle.jr_punit.specs.ClassView.{class_start, closed_at, inner_read, inner_members, top_read, top_members, is_modified, is_class, begins_class, inner_parent, top_parent}

@@ -7,9 +7,9 @@ use Rattle.jr_lex.specs.declared.items.Item.{Item}
 use Rattle.jr_ast.specs.MemberTree.{Unit as UnitTree}
 use Rattle.jr_grammar.specs.Tokens.{Token, token_of, placed_of}
 use Rattle.jr_pexpr.specs.ExpView.{placed}
-use Rattle.jr_punit.specs.Marked.{span_unit_step, span_unit_whole, span_unit_read, span_unit_stop}
-use Rattle.jr_punit.specs.StopPlaces.{byte_of}
-use Rattle.jr_punit.specs.UnitMachine.{State, start}
+use Rattle.jr_punit_laws.specs.Marked.{span_unit_step, span_unit_whole, span_unit_read, span_unit_stop}
+use Rattle.jr_punit_laws.specs.StopPlaces.{byte_of}
+use Rattle.jr_punit_laws.specs.UnitMachine.{State, start}
 use Rattle.jr_punit.proofs.UnitWalks as W
 
 -- what is read from item i on

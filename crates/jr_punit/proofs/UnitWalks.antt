@@ -11,7 +11,7 @@ use Rattle.jr_lex.specs.Places.{IsPlaced, ItemsPlaced}
 use Rattle.jr_grammar.specs.Tokens.{Token, Placed, token_of, placed_of}
 use Rattle.jr_pexpr.specs.ExpView.{placed}
 use Rattle.jr_pexpr.specs.Runs as Runs
-use Rattle.jr_punit.specs.StopPlaces.{byte_of}
+use Rattle.jr_punit_laws.specs.StopPlaces.{byte_of}
 
 -- what stands for the item behind the last
 abbrev pub no_item : Item

@@ -29,16 +29,16 @@ use Rattle.jr_punit.specs.declared.member_state.MemberState.TheVariants as membe
 use Rattle.jr_punit.specs.declared.class_state.ClassState.{ClassState}
 use Rattle.jr_punit.specs.declared.class_state.ClassState.TheVariants as class
 use Rattle.jr_grammar.specs.Tokens.{Token}
-use Rattle.jr_punit.specs.LeadView.{modifiers_view, lead_view}
+use Rattle.jr_punit_members.specs.LeadView.{modifiers_view, lead_view}
 use Rattle.jr_pstmt.specs.TypeStateView.{type_state}
-use Rattle.jr_punit.specs.OwnView.{own_state}
+use Rattle.jr_punit_members.specs.OwnView.{own_state}
 use Rattle.jr_pstmt.specs.Cues.{Cue, a_class, cue_of}
 use Rattle.jr_pexpr.specs.Marked.{join}
 use Rattle.jr_pstmt.specs.TypeMachine as T
 use Rattle.jr_pstmt.specs.OwnMachine as Own
-use Rattle.jr_punit.specs.ClassMachine as Classes
-use Rattle.jr_punit.specs.MemberMachine as Members
-use Rattle.jr_punit.specs.UnitMachine as Units
+use Rattle.jr_punit_laws.specs.ClassMachine as Classes
+use Rattle.jr_punit_laws.specs.MemberMachine as Members
+use Rattle.jr_punit_laws.specs.UnitMachine as Units
 
 -- ---- up to the members, whatever reads these
 

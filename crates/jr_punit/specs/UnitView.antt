@@ -23,7 +23,7 @@ use Rattle.jr_punit.specs.declared.unit_state.UnitState.{UnitState}
 use Rattle.jr_punit.specs.declared.unit_state.UnitState.TheVariants as rust
 use Rattle.jr_punit.specs.ClassView.{class_state}
 use Rattle.jr_pstmt.specs.Cues.{Cue, a_package}
-use Rattle.jr_punit.specs.UnitMachine as machine
+use Rattle.jr_punit_laws.specs.UnitMachine as machine
 
 abbrev pub words_view : Vec (Ident Span) Global → List (Word Span)
 words_view words = map word_of words.items

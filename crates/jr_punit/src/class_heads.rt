@@ -4,21 +4,21 @@ ghost use Rattle.jr_ast.specs.View.{word_of, type_of};
 ghost use Rattle.jr_pexpr.specs.Marked.{join};
 ghost use Rattle.jr_pexpr.specs.TokenView.{token_view};
 ghost use Rattle.jr_pstmt.specs.CueView.{cue_view};
-ghost use Rattle.jr_punit.specs.LeadView.{modifiers_view, lead_view};
+ghost use Rattle.jr_punit_members.specs.LeadView.{modifiers_view, lead_view};
 ghost use Rattle.jr_pstmt.specs.TypeStateView.{type_state};
 ghost use Rattle.jr_ast.specs.MemberTree as tree;
 ghost use Rattle.jr_pstmt.specs.TypeMachine as T;
 ghost use Rattle.jr_pstmt.specs.OwnMachine as Own;
-ghost use Rattle.jr_punit.specs.ClassMachine as machine;
-ghost use Rattle.jr_punit.specs.MemberMachine as Members;
-ghost use Rattle.jr_punit.specs.UnitMachine as Units;
+ghost use Rattle.jr_punit_laws.specs.ClassMachine as machine;
+ghost use Rattle.jr_punit_laws.specs.MemberMachine as Members;
+ghost use Rattle.jr_punit_laws.specs.UnitMachine as Units;
 ghost use Rattle.jr_punit.specs.ClassView.{class_start, IsBegun, inner_named, top_named};
 ghost use Rattle.jr_punit.specs.ClassView.{inner_parent, top_parent};
 
-use crate::leads::{Lead, with_modifier};
 use jr_ast::{Ident, Modifier, TypeRef};
 use jr_pexpr::Token;
 use jr_pstmt::{Cue, Made, TypeState, cue_of, word};
+use jr_punit_members::leads::{Lead, with_modifier};
 use jr_text::Span;
 use std::alloc::Global;
 

@@ -7,17 +7,17 @@ ghost use Rattle.jr_grammar.specs.Tokens.{placed_of, tokens_of};
 ghost use Rattle.jr_grammar.specs.Units.{IsNoUnit};
 ghost use Rattle.jr_grammar.specs.Reads.{Reads};
 ghost use Rattle.jr_pexpr.specs.Parsing.{IsFault};
-ghost use Rattle.jr_punit.specs.Parsing.{AreUnit, IsUnitOf, IsNoUnitAt};
-ghost use Rattle.jr_punit.specs.Marked.{span_unit_read};
-ghost use Rattle.jr_punit.specs.Unread.{IsUnread};
+ghost use Rattle.jr_punit_laws.specs.Parsing.{AreUnit, IsUnitOf, IsNoUnitAt};
+ghost use Rattle.jr_punit_laws.specs.Marked.{span_unit_read};
+ghost use Rattle.jr_punit_laws.specs.Unread.{IsUnread};
 
-use crate::laws::{
-    marked_reads_alike, marks_are_spans, stops_have_places, unit_is_read, unit_stop_is_exact,
-};
 use crate::unit_state::UnitState;
 use jr_ast::Unit;
 use jr_lex::{Item, items_are_placed};
 use jr_pexpr::{ParseFault, token_at};
+use jr_punit_laws::laws::{
+    marked_reads_alike, marks_are_spans, stops_have_places, unit_is_read, unit_stop_is_exact,
+};
 use jr_text::{Span, Text};
 use std::alloc::Global;
 

@@ -7,10 +7,10 @@ ghost use Rattle.jr_pexpr.specs.Marked.{join};
 ghost use Rattle.jr_pexpr.specs.TokenView.{token_view};
 ghost use Rattle.jr_pstmt.specs.CueView.{cue_view};
 ghost use Rattle.jr_pstmt.specs.Cues as pure;
-ghost use Rattle.jr_punit.specs.ClassMachine as Classes;
+ghost use Rattle.jr_punit_laws.specs.ClassMachine as Classes;
 ghost use Rattle.jr_punit.specs.ClassView.{class_state};
 ghost use Rattle.jr_pstmt.specs.InPlace.{GoesTo};
-ghost use Rattle.jr_punit.specs.UnitMachine as machine;
+ghost use Rattle.jr_punit_laws.specs.UnitMachine as machine;
 ghost use Rattle.jr_punit.specs.UnitView.{unit_state, words_view, classes_view};
 ghost use Rattle.jr_punit.specs.UnitView.{is_package as is_package_word, IsNextUnit};
 

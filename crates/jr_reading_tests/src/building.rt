@@ -1,7 +1,7 @@
 //! Programs from their texts.
 ghost use Rattle.std.specs.Prelude.{◌≡◌, length, map};
 ghost use Rattle.jr_ast.specs.View.{unit_of};
-ghost use Rattle.jr_build.specs.Heads.{ClassesHeads, UnitsHeads};
+ghost use Rattle.jr_build_rows.specs.Heads.{ClassesHeads, UnitsHeads};
 
 use jr_ast::Unit;
 use jr_build::{BuildFault, build};

@@ -6,7 +6,7 @@ use Rattle.jr_table.specs.Rows.{Row}
 use Rattle.jr_table.specs.Prelude.{top_key}
 use Rattle.jr_table.specs.Context.{Context}
 use Rattle.jr_table.specs.DeclaredItems.{declarations_of}
-use Rattle.jr_build.proofs.OneRows.{program_once}
+use Rattle.jr_build_rows.proofs.OneRows.{program_once}
 use Rattle.jr_members.proofs.DeclarationRows.{once, not_reserved}
 use Rattle.jr_program_laws.proofs.MeansOnce.{means_once, parent_once}
 use Rattle.jr_images.specs.Families.{AreRenamed}

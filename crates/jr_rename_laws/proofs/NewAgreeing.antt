@@ -16,7 +16,7 @@ use Rattle.jr_table.specs.HeadRules.{TopFinds}
 use Rattle.jr_table.specs.Context.{IsSuperclass}
 use Rattle.jr_table.specs.DeclaredItems.{Written, int, boolean, named, DeclaredClass, DeclaredItem}
 use Rattle.jr_table.specs.Resolving.{DeclaresClass, IsPreludeClass, IsPreludeSubclass, TopNames, TopParent, MemberNames, TypeWithin, HasMemberType, IsParent}
-use Rattle.jr_build.proofs.Looks.{key}
+use Rattle.jr_build_hierarchy.proofs.Looks.{key}
 use Rattle.jr_members.proofs.Meaning.{OneClass, Unreserved}
 use Rattle.jr_images.specs.Images.{Renaming, outer_to, class_to, type_to, decl_to, row_to, rows_to}
 use Rattle.jr_program_laws.proofs.Agreeing.{Agree, TopsAgree, ParentsAgree, ClassRow, one_row, parent_number, superclass_row, inherited_member, type_declared, row_private, outer_row}

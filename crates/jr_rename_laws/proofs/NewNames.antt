@@ -21,7 +21,7 @@ use Rattle.jr_table.specs.DeclaredItems.{Written, int, boolean, named, DeclaredP
 use Rattle.jr_table.specs.Resolving.{Means}
 use Rattle.jr_table.specs.ProgramRows.{AreProgramRows}
 use Rattle.jr_table.specs.Faults.{SameTypes, SameMember, HasItsName}
-use Rattle.jr_build.proofs.Apart.{in_stands}
+use Rattle.jr_build_rows.proofs.Apart.{in_stands}
 use Rattle.jr_images.specs.Images.{Renaming, is_renamed, name_to, outer_to, class_to, type_to, rows_to}
 use Rattle.jr_program_laws.proofs.RowsOfDeclarations.{gives}
 use Rattle.jr_program_laws.proofs.Agreeing.{ClassRow, one_key}

@@ -12,7 +12,7 @@ use Rattle.jr_table.specs.Context.{IsSuperclass}
 use Rattle.jr_table.specs.DeclaredItems.{Written, DeclaredParam, DeclaredClass, DeclaredField, DeclaredMethod, DeclaredCtor, Item, class_item, field_item, method_item, ctor_item, DeclaredItem}
 use Rattle.jr_table.specs.Resolving.{Means}
 use Rattle.jr_table.specs.ProgramRows.{is_access, MeanTypes, MeansResult, IsClassRow, IsFieldRow, IsMethodRow, IsCtorRow, unwritten_row, AreRowsOfDeclarations, AreProgramRows}
-use Rattle.jr_build.proofs.Apart.{In, in_right, in_stands}
+use Rattle.jr_build_rows.proofs.Apart.{In, in_right, in_stands}
 use Rattle.jr_members.proofs.Walking.{map_join}
 use Rattle.jr_images.specs.Images.{Renaming, name_to, class_to, type_to, types_to, decl_to, row_to, rows_to}
 use Rattle.jr_program_laws.proofs.Agreeing.{ClassRow}

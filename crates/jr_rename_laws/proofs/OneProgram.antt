@@ -12,7 +12,7 @@ use Rattle.jr_table.specs.DeclaredItems.{declarations_of}
 use Rattle.jr_table.specs.ProgramRows.{AreProgramRows}
 use Rattle.jr_table.specs.HeadRules.{DeclarationRefers}
 use Rattle.jr_table.specs.Errors.{Part, class_part, member_part, Binds}
-use Rattle.jr_build.proofs.OneRows.{program_once}
+use Rattle.jr_build_rows.proofs.OneRows.{program_once}
 use Rattle.jr_members.specs.WrittenLaws.{IsWritten, MembersAreWritten}
 use Rattle.jr_members.proofs.Anywhere.{classes_found, found_classes}
 use Rattle.jr_bind.specs.Bounds.{Bound}

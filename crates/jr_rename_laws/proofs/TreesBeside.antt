@@ -19,7 +19,7 @@ use Rattle.jr_table.specs.Found.{one}
 use Rattle.jr_table.specs.Context.{Context, scope_of, NamesClass, WritesType}
 use Rattle.jr_table.specs.HeadRules.{plain, is_static_member, TopFinds}
 use Rattle.jr_table.specs.DeclaredItems.{written, words, param_declaration, init_declaration, class_key, member_declarations, DeclaredItem}
-use Rattle.jr_build.specs.Heads.{NamesClass as NamesSuperclass, MayHold, ClassHeads, MemberHeads, MembersHeads, ClassesHeads, UnitsHeads}
+use Rattle.jr_build_rows.specs.Heads.{NamesClass as NamesSuperclass, MayHold, ClassHeads, MemberHeads, MembersHeads, ClassesHeads, UnitsHeads}
 use Rattle.jr_rewrite.specs.Rewritten.{Rewritten}
 use Rattle.jr_rewrite.specs.Rewrites.{Choosing, TypeOut, RewritesType, RewritesParams, RewritesResult, RewritesMember, RewritesParent, RewritesClass, RewritesMembers, RewritesOne, RewritesClasses, RewritesUnits, TransformsClass, TransformsMembers, TransformsOne}
 use Rattle.jr_rewrite.specs.AlongMembers.{mod_words, AlongParams, AlongResult, AlongMember, AlongParent, AlongClass, AlongMembers, AlongOne, AlongClasses, AlongUnits}

@@ -11,7 +11,7 @@ use Rattle.jr_table.specs.Context.{Context}
 use Rattle.jr_table.specs.DeclaredItems.{DeclaredItem, DeclaredClass, class_item, declarations_of}
 use Rattle.jr_table.specs.Resolving.{IsPreludeClass, DeclaresClass, IsParent}
 use Rattle.jr_table.specs.ProgramRows.{AreProgramRows}
-use Rattle.jr_build.proofs.OneRows.{program_once}
+use Rattle.jr_build_rows.proofs.OneRows.{program_once}
 use Rattle.jr_members.proofs.DeclarationRows.{once, not_reserved}
 use Rattle.jr_program_laws.proofs.MeansOnce.{means_once, parent_once}
 use Rattle.jr_members.proofs.Walking.{map_join}

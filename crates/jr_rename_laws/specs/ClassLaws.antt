@@ -10,7 +10,7 @@ use Rattle.jr_table.specs.DeclaredItems.{DeclaredClass, DeclaredItem, declaratio
 use Rattle.jr_table.specs.Resolving.{DeclaresClass, IsParent}
 use Rattle.jr_table.specs.ProgramRows.{AreProgramRows}
 use Rattle.jr_table.specs.Faults.{PackageLine, names_of, IsClean}
-use Rattle.jr_build.specs.Heads.{UnitsHeads}
+use Rattle.jr_build_rows.specs.Heads.{UnitsHeads}
 use Rattle.jr_spell.specs.Binds.{is_dot}
 use Rattle.jr_images.specs.Images.{Renaming, rows_to}
 use Rattle.jr_rename_laws.specs.ImageLaws.{Becomes, AreImages}

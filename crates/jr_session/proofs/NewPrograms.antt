@@ -11,7 +11,7 @@ use Rattle.jr_table.specs.Conditions.{AreRows}
 use Rattle.jr_table.specs.Keyed.{DispatchesTo}
 use Rattle.jr_table.specs.DeclaredItems.{DeclaredItem, declarations_of}
 use Rattle.jr_names.specs.declared.steps.Step.TheVariants as step
-use Rattle.jr_punit.specs.OneReading.{OneReading}
+use Rattle.jr_punit_laws.specs.OneReading.{OneReading}
 use Rattle.jr_bind.specs.Programs.{Program, units_of}
 use Rattle.jr_program_laws.specs.FileParts.{begins}
 use Rattle.jr_rewrite.specs.AlongMembers.{AlongUnits}

@@ -12,7 +12,7 @@ use Rattle.jr_table.specs.Decls.{Decl, class_decl, field_decl, method_decl, cons
 use Rattle.jr_table.specs.Faults.{PackageLine, names_of, IsClean}
 use Rattle.jr_table.specs.ProgramRows.{AreProgramRows}
 use Rattle.jr_table.specs.DeclaredItems.{declarations_of}
-use Rattle.jr_build.specs.Heads.{UnitsHeads}
+use Rattle.jr_build_rows.specs.Heads.{UnitsHeads}
 use Rattle.jr_bind.specs.Programs.{File, Program, units_of}
 use Rattle.jr_program_laws.specs.FileParts.{begins}
 use Rattle.jr_rewrite.specs.Rewritten.{Rewritten}

@@ -10,7 +10,7 @@ use Rattle.jr_table.specs.Decls.{Decl}
 use Rattle.jr_table.specs.Faults.{PackageLine, names_of, IsClean}
 use Rattle.jr_table.specs.ProgramRows.{AreProgramRows}
 use Rattle.jr_table.specs.DeclaredItems.{DeclaredItem, declarations_of}
-use Rattle.jr_punit.specs.OneReading.{OneReading}
+use Rattle.jr_punit_laws.specs.OneReading.{OneReading}
 use Rattle.jr_bind.specs.Programs.{Program, units_of}
 use Rattle.jr_program_laws.specs.FileParts.{begins}
 use Rattle.jr_rewrite.specs.Rewrites.{Choosing, RewritesUnits}

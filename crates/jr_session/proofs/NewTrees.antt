@@ -12,7 +12,7 @@ use Rattle.jr_grammar.specs.Layout.{itself}
 use Rattle.jr_grammar.specs.Reads.{Reads}
 use Rattle.jr_table.specs.Decls.{Decl}
 use Rattle.jr_table.specs.DeclaredItems.{DeclaredItem}
-use Rattle.jr_punit.specs.OneReading.{OneReading}
+use Rattle.jr_punit_laws.specs.OneReading.{OneReading}
 use Rattle.jr_bind.specs.Programs.{File, Program, units_of}
 use Rattle.jr_rewrite.specs.Rewrites.{Choosing, RewritesUnits}
 use Rattle.jr_rewrite.specs.Rewritten.{Rewritten}

@@ -10,7 +10,7 @@ use Rattle.jr_table.specs.Entries.{IsRowOf, params_of}
 use Rattle.jr_table.specs.DeclaredItems.{Written, int, boolean, named, DeclaredParam, DeclaredClass, DeclaredField, DeclaredMethod, DeclaredCtor, Item, class_item, field_item, method_item, ctor_item, DeclaredItem}
 use Rattle.jr_table.specs.Resolving.{Means}
 use Rattle.jr_table.specs.ProgramRows.{MeanTypes, MeansResult, IsClassRow, IsFieldRow, IsMethodRow, IsCtorRow, unwritten_row, AreRowsOfDeclarations, AreProgramRows}
-use Rattle.jr_build.proofs.Apart.{In, in_either, stands_in}
+use Rattle.jr_build_rows.proofs.Apart.{In, in_either, stands_in}
 use Rattle.jr_code.specs.RunRows.{run_type}
 use Rattle.jr_sound_code.proofs.Fitting.{Proper, AllProper, ProperRows}
 

@@ -11,7 +11,7 @@ use Rattle.jr_table.specs.Conditions.{AreRows}
 use Rattle.jr_table.specs.DeclaredItems.{Written, Item, class_item, field_item, method_item, ctor_item, DeclaredItem}
 use Rattle.jr_table.specs.ProgramRows.{unwritten_row, AreRowsOfDeclarations, AreProgramRows}
 use Rattle.jr_table.proofs.RowLaws.{the_number}
-use Rattle.jr_build.proofs.Apart.{In, in_right, in_stands}
+use Rattle.jr_build_rows.proofs.Apart.{In, in_right, in_stands}
 use Rattle.jr_members.specs.Parts.{Placed}
 use Rattle.jr_members.specs.WrittenMembers.{WrittenMember, decl_of_member, row_count, put_member, members_at, written_members}
 use Rattle.jr_members.proofs.Walking as walking

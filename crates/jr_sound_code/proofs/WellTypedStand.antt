@@ -22,7 +22,7 @@ use Rattle.jr_table.specs.DeclaredItems.{DeclaredParam, Item, method_item, Decla
 use Rattle.jr_table.specs.ProgramRows.{MeanTypes, MeansResult, IsMethodRow, AreProgramRows}
 use Rattle.jr_table.specs.Errors.{Part, class_part, member_part, Declares, InClass, InMembers, InInner, InClasses}
 use Rattle.jr_table.specs.declared.rules.Rule.TheVariants as rule
-use Rattle.jr_build.proofs.Apart.{In, in_stands}
+use Rattle.jr_build_rows.proofs.Apart.{In, in_stands}
 use Rattle.jr_members.specs.WrittenMembers.{written_members}
 use Rattle.jr_members.specs.WrittenLaws.{IsWritten, AreWritten}
 use Rattle.jr_members.proofs.Anywhere.{IsAt}

@@ -9,7 +9,7 @@ use Rattle.jr_table.specs.declared.kinds.DeclKind.{DeclKind}
 use Rattle.jr_table.specs.declared.kinds.DeclKind.TheVariants as kind
 use Rattle.jr_table.specs.DeclaredItems.{Item, DeclaredItem, declarations_from, declarations_of, classes_declarations}
 use Rattle.jr_table.specs.Faults.{Place, PackageLine, HasFault}
-use Rattle.jr_build.specs.Packages.{line_of, lines_of}
+use Rattle.jr_build_declared.specs.Packages.{line_of, lines_of}
 use Rattle.jr_program_laws.specs.FileParts.{begins}
 use Rattle.jr_sources.specs.FirstFault.{package_line, package_lines}
 

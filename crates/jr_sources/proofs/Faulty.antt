@@ -8,7 +8,7 @@ use Rattle.jr_lex.specs.declared.items.Item.{Item}
 use Rattle.jr_lex.specs.Depth.{AreWithin}
 use Rattle.jr_lex.specs.Lexes.{Lexes}
 use Rattle.jr_ast.specs.MemberTree.{Unit as UnitTree}
-use Rattle.jr_punit.specs.Parsing.{IsNoUnitAt}
+use Rattle.jr_punit_laws.specs.Parsing.{IsNoUnitAt}
 use Rattle.jr_sources.specs.declared.faults.FaultKind.TheVariants as kind
 use Rattle.jr_sources.specs.declared.faults.ReadingFault.{ReadingFault}
 use Rattle.jr_sources.specs.ReadingFaults.{IsReading}

@@ -13,7 +13,7 @@ use Rattle.jr_table.specs.DeclaredItems.{DeclaredItem, declarations_of}
 use Rattle.jr_table.specs.ProgramRows.{AreProgramRows}
 use Rattle.jr_table.specs.Faults.{PackageLine, IsClean}
 use Rattle.jr_table.specs.declared.rules.Rule.{Rule}
-use Rattle.jr_build.proofs.OneRows.{program_once}
+use Rattle.jr_build_rows.proofs.OneRows.{program_once}
 use Rattle.jr_program_laws.specs.FileParts.{begins, BreaksAt, BeginsToken, InFile}
 use Rattle.jr_program_laws.proofs.MeansOnce.{means_once, parent_once}
 use Rattle.jr_program.proofs.TokenPlaces.{is_placed}

@@ -3,7 +3,7 @@ use Rattle.std.proofs.Common.{ℕ, List, [], ◌∷◌, Option, Some, None, Bool
 use Rattle.jr_ast.specs.Tree as tree
 use Rattle.jr_ast.specs.MemberTree as syntax
 use Rattle.jr_grammar.specs.MemberShape.{IsParent, HoldsClasses, ClassShaped, MemberShaped, MembersShaped, ClassesShaped}
-use Rattle.jr_build.specs.Heads.{NamesClass, MayHold, ClassHeads, MemberHeads, MembersHeads, ClassesHeads}
+use Rattle.jr_build_rows.specs.Heads.{NamesClass, MayHold, ClassHeads, MemberHeads, MembersHeads, ClassesHeads}
 
 parent_named : {A : Type 0} (t : Option (tree.TypeName A)) → IsParent t → NamesClass t
 parent_named None h = tt

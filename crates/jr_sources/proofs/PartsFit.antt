@@ -7,9 +7,9 @@ use Rattle.jr_ast.specs.MemberTree as syntax
 use Rattle.jr_table.specs.Errors.{Part, class_part, member_part}
 use Rattle.jr_members.specs.Fitting.{ClassFits, MembersFit, MemberFits, ClassesFit, UnitsFit}
 use Rattle.jr_bind_expr.specs.Fits.{FitsOuter, FitsNamed, FitsType, FitsExp, FitsTarget, FitsExps, FitsMaybe, FitsStmt, FitsElse, FitsStmts}
-use Rattle.jr_bind.specs.DeclaredTypes.{FitsParams, FitsMaybeType}
-use Rattle.jr_bind.specs.Heads.{FitsHead}
-use Rattle.jr_bind.specs.PartFits.{FitsMaybeArgs, FitsMember, FitsPart}
+use Rattle.jr_bind_parts.specs.DeclaredTypes.{FitsParams, FitsMaybeType}
+use Rattle.jr_bind_parts.specs.Heads.{FitsHead}
+use Rattle.jr_bind_parts.specs.PartFits.{FitsMaybeArgs, FitsMember, FitsPart}
 use Rattle.jr_bind.specs.Bounds.{FitsWhole}
 
 module _ {A : Type 0} (begins : A → ℕ → ℕ) where

@@ -2,7 +2,7 @@
 use Rattle.std.proofs.Common.{◌≡◌, ℕ, List, [], ◌∷◌, sym, subst}
 use Rattle.jr_text.specs.declared.spans.Span.{Span}
 use Rattle.jr_ast.specs.MemberTree.{Unit as UnitTree}
-use Rattle.jr_build.specs.Heads.{UnitsHeads}
+use Rattle.jr_build_rows.specs.Heads.{UnitsHeads}
 use Rattle.jr_sources.specs.FirstFault.{AreRead}
 use Rattle.jr_sources.specs.Sources.{Source}
 use Rattle.jr_sources.proofs.Heads.{classes_heads}

@@ -8,7 +8,7 @@ use Rattle.jr_table.specs.declared.kinds.DeclKind.{DeclKind}
 use Rattle.jr_table.specs.Names.{kind_name}
 use Rattle.jr_table.specs.DeclaredItems.{declarations_of}
 use Rattle.jr_table.specs.Faults.{IsFirstFault}
-use Rattle.jr_build.specs.Packages.{lines_of}
+use Rattle.jr_build_declared.specs.Packages.{lines_of}
 use Rattle.jr_program_laws.specs.FileParts.{begins}
 use Rattle.jr_sources.specs.declared.faults.ReadingFault.{ReadingFault}
 use Rattle.jr_sources.specs.declared.analyses.SourceFault.{SourceFault}

@@ -2,7 +2,7 @@
 use Rattle.std.proofs.Common.{◌≡◌, ℕ, List, [], ◌∷◌, Option, Some, None}
 use Rattle.jr_ast.specs.Tree as tree
 use Rattle.jr_ast.specs.MemberTree as syntax
-use Rattle.jr_build.specs.Fitting.{InitFits, MaybeTypeFits, ParamsFit, MemberFits, ClassFits, MembersFit, ClassesFit, UnitsFit}
+use Rattle.jr_build_declared.specs.Fitting.{InitFits, MaybeTypeFits, ParamsFit, MemberFits, ClassFits, MembersFit, ClassesFit, UnitsFit}
 
 module _ {A : Type 0} (begins : A → ℕ → ℕ) where
   abbrev Fits : A → ℕ → Type 0

@@ -9,7 +9,7 @@ use Rattle.jr_lex.specs.declared.faults.LexFault.TheVariants as lexical
 use Rattle.jr_lex.specs.Lexes.{Lexes, IsFirstFault}
 use Rattle.jr_lex.specs.Depth.{IsFirstBeyond, AreWithin}
 use Rattle.jr_ast.specs.MemberTree.{Unit as UnitTree}
-use Rattle.jr_punit.specs.Parsing.{IsUnitOf, IsNoUnitAt}
+use Rattle.jr_punit_laws.specs.Parsing.{IsUnitOf, IsNoUnitAt}
 use Rattle.jr_sources.specs.declared.faults.FaultKind.{FaultKind}
 use Rattle.jr_sources.specs.declared.faults.FaultKind.TheVariants as kind
 use Rattle.jr_sources.specs.declared.faults.ReadingFault.{ReadingFault}

@@ -6,10 +6,10 @@ use Rattle.jr_table.specs.ProgramRows.{AreProgramRows}
 use Rattle.jr_table.specs.Rows.{Row}
 use Rattle.jr_table.specs.DeclaredItems.{declarations_of}
 use Rattle.jr_build.specs.Builds.{IsFoundFault}
-use Rattle.jr_build.specs.Fitting.{begins_by}
-use Rattle.jr_build.specs.Heads.{AreHeaded}
-use Rattle.jr_build.specs.Packages.{lines_of}
-use Rattle.jr_build.specs.DeclaredView.{declaration_of}
+use Rattle.jr_build_declared.specs.Fitting.{begins_by}
+use Rattle.jr_build_rows.specs.Heads.{AreHeaded}
+use Rattle.jr_build_declared.specs.Packages.{lines_of}
+use Rattle.jr_build_declared.specs.DeclaredView.{declaration_of}
 use Rattle.jr_build.proofs.builds.build.Goals as goal
 
 pub clean_table-requires-clause-headed : goal.clean_table-requires-clause-headed

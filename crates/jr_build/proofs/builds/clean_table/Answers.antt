@@ -8,10 +8,10 @@ use Rattle.jr_table.specs.ProgramRows.{AreProgramRows}
 use Rattle.jr_table.specs.Rows.{Row}
 use Rattle.jr_build.specs.declared.faults.BuildFault.TheVariants as fault
 use Rattle.jr_build.specs.Builds.{IsCleanBelow, IsFoundFault}
-use Rattle.jr_build.specs.ExactRows.{rows_of_declarations}
-use Rattle.jr_build.specs.HierarchyView.{hierarchy_of}
-use Rattle.jr_build.specs.Packages.{lines_of}
-use Rattle.jr_build.specs.DeclaredView.{declaration_of}
+use Rattle.jr_build_rows.specs.ExactRows.{rows_of_declarations}
+use Rattle.jr_build_hierarchy.specs.HierarchyView.{hierarchy_of}
+use Rattle.jr_build_declared.specs.Packages.{lines_of}
+use Rattle.jr_build_declared.specs.DeclaredView.{declaration_of}
 use Rattle.jr_build.proofs.Cleaning.{all_clean, err_clean, err_rows, err_fault, on_ok_any, if_ok_is, if_err_is}
 use Rattle.jr_build.proofs.builds.clean_table.Goals as goal
 

@@ -1,8 +1,8 @@
 use Rattle.std.proofs.Common.{map, sym, ap, subst}
 use Rattle.std.proofs.lemmas.Result.{err_from_is_err_and}
 use Rattle.jr_build.specs.Builds.{IsCleanBelow, IsFoundFault}
-use Rattle.jr_build.specs.HierarchyView.{hierarchy_of}
-use Rattle.jr_build.specs.DeclaredView.{declaration_of}
+use Rattle.jr_build_hierarchy.specs.HierarchyView.{hierarchy_of}
+use Rattle.jr_build_declared.specs.DeclaredView.{declaration_of}
 use Rattle.jr_build.proofs.Cleaning.{err_clean, err_fault}
 use Rattle.jr_build.proofs.builds.no_type_fault.Goals as goal
 

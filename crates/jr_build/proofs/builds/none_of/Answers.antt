@@ -1,6 +1,6 @@
 use Rattle.std.proofs.Common.{Option, Some, None, option_map, ap, sym, subst}
 use Rattle.jr_table.specs.Faults.{HasFault}
-use Rattle.jr_build.specs.Places.{place_of, IsEarliest}
+use Rattle.jr_build_places.specs.Places.{place_of, IsEarliest}
 use Rattle.jr_build.proofs.Cleaning.{next_clean, first_fault}
 use Rattle.jr_build.proofs.builds.none_of.Goals as goal
 

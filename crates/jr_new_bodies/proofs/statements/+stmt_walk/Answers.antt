@@ -10,7 +10,7 @@ use Rattle.jr_ast.specs.View.{word_of, type_of, expr_of, stmt_of, stmts_of, else
 use Rattle.jr_ast.proofs.Rows.{stmt_kind-If, stmt_kind-Block, stmt_kind-Sync}
 use Rattle.jr_ast.proofs.Sizes.{stmt_size, stmts_size, else_size}
 use Rattle.jr_table.specs.Context.{locals_in, locals_in_else}
-use Rattle.jr_bind.proofs.Bodies.{own_fits_stmt}
+use Rattle.jr_bind_parts.proofs.Bodies.{own_fits_stmt}
 use Rattle.jr_new_bodies.specs.OutputView.{gathered}
 use Rattle.jr_new_bodies.specs.Ready.{StmtReady, ElseReady}
 use Rattle.jr_new_bodies.specs.declared.statements.Reached.{Reached}

@@ -8,7 +8,7 @@ use Rattle.jr_table.specs.TypeView.{ty_of}
 use Rattle.jr_scopes.specs.Helds.{held_of}
 use Rattle.jr_new_words.specs.Scopes.{locals_in}
 use Rattle.jr_bind_expr.proofs.Steps.{left_is}
-use Rattle.jr_bind.proofs.ParamSteps.{none_left}
+use Rattle.jr_bind_parts.proofs.ParamSteps.{none_left}
 use Rattle.jr_new_files.specs.Walking.{held_params}
 use Rattle.jr_new_files.proofs.Placing.{Goes, goes_begin, goes_on, goes_typeless, goes_end, stays_beside, then_beside}
 use Rattle.jr_new_files.proofs.beginnings.push_params.Goals as goal

@@ -1,5 +1,5 @@
 use Rattle.std.proofs.Common.{ℕ, sym, ◌∙◌}
-use Rattle.jr_bind.proofs.Statics.{static_here, static_behind, no_static}
+use Rattle.jr_bind_parts.proofs.Statics.{static_here, static_behind, no_static}
 use Rattle.jr_new_files.proofs.words.is_static.Goals as goal
 
 pub returns-then-is_static_word : goal.returns-then-is_static_word

@@ -1,10 +1,10 @@
 use Rattle.std.proofs.Common.{sym, subst}
 use Rattle.jr_ast.specs.View.{word_of}
 use Rattle.jr_pstmt.specs.CueView.{cue_view}
-use Rattle.jr_punit.specs.LeadView.{lead_view}
+use Rattle.jr_punit_members.specs.LeadView.{lead_view}
 use Rattle.jr_pstmt.specs.TypeStateView.{type_state}
 use Rattle.jr_pstmt.specs.OwnMachine as Own
-use Rattle.jr_punit.specs.MemberMachine as Members
+use Rattle.jr_punit_laws.specs.MemberMachine as Members
 use Rattle.jr_punit.specs.ClassView.{IsBegun}
 use Rattle.jr_punit.proofs.ClassSteps.{inner_parent_goes, top_parent_goes}
 use Rattle.jr_punit.proofs.class_heads.from_parent.Goals as goal

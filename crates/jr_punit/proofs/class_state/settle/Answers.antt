@@ -1,9 +1,9 @@
 use Rattle.std.proofs.Common.{◌∙◌, sym, subst}
 use Rattle.jr_ast.specs.View.{members_of}
-use Rattle.jr_punit.specs.ClassMachine as Classes
+use Rattle.jr_punit_laws.specs.ClassMachine as Classes
 use Rattle.jr_punit.specs.ClassView.{member_state}
 use Rattle.jr_pstmt.specs.InPlace.{GoesTo}
-use Rattle.jr_punit.specs.MemberMachine as Members
+use Rattle.jr_punit_laws.specs.MemberMachine as Members
 use Rattle.jr_punit.proofs.ClassSteps.{top_within, top_behind, settles}
 use Rattle.jr_punit.proofs.class_state.settle.Goals as goal
 

@@ -1,7 +1,7 @@
 use Rattle.std.proofs.Common.{◌∙◌, sym, subst}
 use Rattle.jr_ast.specs.View.{members_of}
-use Rattle.jr_punit.specs.ClassMachine as Classes
-use Rattle.jr_punit.specs.OwnView.{own_state}
+use Rattle.jr_punit_laws.specs.ClassMachine as Classes
+use Rattle.jr_punit_members.specs.OwnView.{own_state}
 use Rattle.jr_pstmt.specs.InPlace.{GoesTo}
 use Rattle.jr_pstmt.specs.OwnMachine as Own
 use Rattle.jr_punit.proofs.ClassSteps.{inner_within, inner_behind, settles}

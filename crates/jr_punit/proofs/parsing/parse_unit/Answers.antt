@@ -1,4 +1,4 @@
-use Rattle.jr_punit.proofs.UnitAnswers.{Laws, read_answer, reads_answer, unit_answer, fault_answer, only_read_answer, only_fault_answer}
+use Rattle.jr_punit_laws.proofs.UnitAnswers.{Laws, read_answer, reads_answer, unit_answer, fault_answer, only_read_answer, only_fault_answer}
 use Rattle.jr_punit.proofs.parsing.parse_unit.Goals as goal
 
 pub returns : goal.returns

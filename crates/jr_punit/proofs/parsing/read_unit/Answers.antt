@@ -5,8 +5,8 @@ use Rattle.jr_ast.specs.View.{unit_of}
 use Rattle.jr_ast.specs.MemberTree.{Unit as UnitTree}
 use Rattle.jr_grammar.specs.Tokens.{placed_of}
 use Rattle.jr_pexpr.specs.TokenView.{token_view}
-use Rattle.jr_punit.specs.Marked.{file_of, span_unit_read, span_unit_whole}
-use Rattle.jr_punit.specs.UnitMachine as machine
+use Rattle.jr_punit_laws.specs.Marked.{file_of, span_unit_read, span_unit_whole}
+use Rattle.jr_punit_laws.specs.UnitMachine as machine
 use Rattle.jr_punit.specs.UnitView.{unit_state}
 use Rattle.jr_pstmt.proofs.InPlace.{went, stayed}
 use Rattle.jr_punit.proofs.UnitWalks.{placed_at}

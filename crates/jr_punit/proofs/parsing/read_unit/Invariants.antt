@@ -1,5 +1,5 @@
 use Rattle.std.proofs.Common.{◌≡◌}
-use Rattle.jr_punit.specs.UnitMachine.{start}
+use Rattle.jr_punit_laws.specs.UnitMachine.{start}
 use Rattle.jr_punit.specs.UnitView.{unit_state}
 use Rattle.jr_punit.proofs.UnitParses.{read_on, byte_on}
 use Rattle.jr_punit.proofs.parsing.read_unit.Given as goal

@@ -3,7 +3,7 @@ use Rattle.jr_ast.specs.View.{word_of, class_of}
 use Rattle.jr_pexpr.specs.Marked.{join}
 use Rattle.jr_pexpr.specs.TokenView.{token_view}
 use Rattle.jr_punit.specs.ClassView.{class_state}
-use Rattle.jr_punit.specs.UnitMachine as machine
+use Rattle.jr_punit_laws.specs.UnitMachine as machine
 use Rattle.jr_punit.specs.UnitView.{classes_view}
 use Rattle.jr_pstmt.proofs.InPlace.{went, stayed}
 use Rattle.jr_punit.proofs.unit_state.first_class.Goals as goal

@@ -3,7 +3,7 @@ use Rattle.jr_ast.specs.View.{word_of}
 use Rattle.jr_pexpr.specs.Marked.{join}
 use Rattle.jr_pexpr.specs.TokenView.{token_view}
 use Rattle.jr_pstmt.specs.Cues.{cue_of}
-use Rattle.jr_punit.specs.UnitMachine as machine
+use Rattle.jr_punit_laws.specs.UnitMachine as machine
 use Rattle.jr_punit.specs.UnitView.{IsNextUnit}
 use Rattle.jr_punit.proofs.ClassSteps.{package_is, no_package}
 use Rattle.jr_punit.proofs.unit_state.from_start.Goals as goal

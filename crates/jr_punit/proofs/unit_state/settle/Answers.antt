@@ -1,8 +1,8 @@
 use Rattle.std.proofs.Common.{◌∙◌, sym, subst}
-use Rattle.jr_punit.specs.ClassMachine as Classes
+use Rattle.jr_punit_laws.specs.ClassMachine as Classes
 use Rattle.jr_punit.specs.ClassView.{class_state}
 use Rattle.jr_pstmt.specs.InPlace.{GoesTo}
-use Rattle.jr_punit.specs.UnitMachine as machine
+use Rattle.jr_punit_laws.specs.UnitMachine as machine
 use Rattle.jr_punit.specs.UnitView.{classes_view}
 use Rattle.jr_punit.proofs.ClassSteps.{settles}
 use Rattle.jr_punit.proofs.unit_state.settle.Goals as goal

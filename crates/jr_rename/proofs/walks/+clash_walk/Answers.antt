@@ -4,7 +4,7 @@ use Rattle.jr_ast.specs.declared.stmts.Stmt.{Stmt}
 use Rattle.jr_ast.specs.View.{stmt_of, stmts_of, else_of, stmt_kind, stmt_row, held_else}
 use Rattle.jr_ast.proofs.Rows.{stmt_kind-If, stmt_kind-Block, stmt_kind-Sync}
 use Rattle.jr_ast.proofs.Sizes.{stmt_size, stmts_size, else_size}
-use Rattle.jr_bind.proofs.Bodies.{falls_first, falls_only, falls_list, falls_held}
+use Rattle.jr_bind_parts.proofs.Bodies.{falls_first, falls_only, falls_list, falls_held}
 use Rattle.jr_rename.specs.Walks.{asked_of, walk_of, restored, in_stmt, in_stmts, in_else}
 use Rattle.jr_rename.proofs.Loops.{stmts_go, stmts_end, cut}
 use Rattle.jr_rename.proofs.Measures.{falls_second, falls_within, falls_block, falls_item}

@@ -3,7 +3,7 @@ use Rattle.std.specs.Prelude.{is_ok}
 use Rattle.jr_text.specs.declared.spans.Span.{Span}
 use Rattle.jr_ast.specs.declared.members.Unit.{Unit}
 use Rattle.jr_ast.specs.View.{unit_of}
-use Rattle.jr_build.specs.Heads.{UnitsHeads}
+use Rattle.jr_build_rows.specs.Heads.{UnitsHeads}
 use Rattle.jr_sources.proofs.Heads.{classes_heads}
 use Rattle.jr_run_tests.proofs.members.units_in.Goals as goal
 

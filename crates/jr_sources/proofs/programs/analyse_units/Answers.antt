@@ -6,7 +6,7 @@ use Rattle.jr_table.specs.DeclaredItems.{declarations_of}
 use Rattle.jr_table.specs.Faults.{PackageLine, IsClean, IsFirstFault}
 use Rattle.jr_table.specs.Names.{kind_name}
 use Rattle.jr_build.specs.Builds.{IsFoundFault}
-use Rattle.jr_build.specs.Packages.{lines_of}
+use Rattle.jr_build_declared.specs.Packages.{lines_of}
 use Rattle.jr_build.specs.declared.faults.BuildFault.{BuildFault}
 use Rattle.jr_program_laws.specs.FileParts.{begins}
 use Rattle.jr_sources.proofs.Analysing.{counts}

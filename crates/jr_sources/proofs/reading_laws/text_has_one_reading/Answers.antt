@@ -5,7 +5,7 @@ use Rattle.jr_lex.specs.declared.faults.LexFault.TheVariants as lexical
 use Rattle.jr_lex.specs.declared.items.Item.{Item}
 use Rattle.jr_lex.specs.Depth.{IsFirstBeyond, AreWithin}
 use Rattle.jr_ast.specs.MemberTree.{Unit as UnitTree}
-use Rattle.jr_punit.specs.Parsing.{IsUnitOf, IsNoUnitAt}
+use Rattle.jr_punit_laws.specs.Parsing.{IsUnitOf, IsNoUnitAt}
 use Rattle.jr_sources.specs.declared.faults.ReadingFault.{ReadingFault}
 use Rattle.jr_sources.specs.ReadingFaults.{IsLexical, HasFault, ReadsAs, first_token_at}
 use Rattle.jr_sources.proofs.reading_laws.text_has_one_reading.Goals as goal

@@ -3,7 +3,7 @@ use Rattle.std.proofs.lemmas.Result.{IfOk-weaker}
 use Rattle.jr_lex.specs.declared.items.Item.{Item}
 use Rattle.jr_ast.specs.View.{unit_of}
 use Rattle.jr_pexpr.specs.Parsing.{IsFault}
-use Rattle.jr_punit.specs.Parsing.{IsNoUnitAt}
+use Rattle.jr_punit_laws.specs.Parsing.{IsNoUnitAt}
 use Rattle.jr_sources.proofs.Faulty.{syntax_kept}
 use Rattle.jr_sources.proofs.readings.unit_of_items.Goals as goal
 

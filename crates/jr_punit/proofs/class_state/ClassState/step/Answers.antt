@@ -3,11 +3,11 @@ use Rattle.std.specs.Prelude.{option_map}
 use Rattle.jr_ast.specs.View.{members_of}
 use Rattle.jr_pexpr.specs.Marked.{join}
 use Rattle.jr_pexpr.specs.TokenView.{token_view}
-use Rattle.jr_punit.specs.ClassMachine as Classes
+use Rattle.jr_punit_laws.specs.ClassMachine as Classes
 use Rattle.jr_punit.specs.ClassView.{class_head, top_read, member_state, class_state}
 use Rattle.jr_pstmt.specs.InPlace.{GoesTo}
-use Rattle.jr_punit.specs.UnitMachine as Units
-use Rattle.jr_punit.specs.MemberMachine as Members
+use Rattle.jr_punit_laws.specs.UnitMachine as Units
+use Rattle.jr_punit_laws.specs.MemberMachine as Members
 use Rattle.jr_punit.proofs.ClassSteps.{top_goes}
 use Rattle.jr_punit.proofs.class_state.ClassState.step.Goals as goal
 

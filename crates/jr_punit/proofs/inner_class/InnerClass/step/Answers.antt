@@ -3,13 +3,13 @@ use Rattle.std.specs.Prelude.{option_map, ◌&&◌}
 use Rattle.jr_ast.specs.View.{members_of}
 use Rattle.jr_pexpr.specs.Marked.{join}
 use Rattle.jr_pexpr.specs.TokenView.{token_view}
-use Rattle.jr_punit.specs.ClassMachine as Classes
+use Rattle.jr_punit_laws.specs.ClassMachine as Classes
 use Rattle.jr_punit.specs.ClassView.{class_head, inner_read, inner_class}
 use Rattle.jr_pstmt.specs.CueTests.{is_close_brace}
 use Rattle.jr_pstmt.specs.Cues.{cue_of}
 use Rattle.jr_pstmt.specs.InPlace.{GoesTo}
-use Rattle.jr_punit.specs.MemberMachine as Members
-use Rattle.jr_punit.specs.OwnView.{own_state}
+use Rattle.jr_punit_laws.specs.MemberMachine as Members
+use Rattle.jr_punit_members.specs.OwnView.{own_state}
 use Rattle.jr_pstmt.specs.OwnMachine as Own
 use Rattle.jr_punit.proofs.ClassSteps.{inner_goes}
 use Rattle.jr_punit.proofs.inner_class.InnerClass.step.Goals as goal

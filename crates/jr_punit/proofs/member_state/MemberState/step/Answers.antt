@@ -1,10 +1,10 @@
 use Rattle.std.proofs.Common.{◌∙◌, sym, ap, subst}
 use Rattle.jr_pexpr.specs.Marked.{join}
 use Rattle.jr_pexpr.specs.TokenView.{token_view}
-use Rattle.jr_punit.specs.OwnView.{own_state}
+use Rattle.jr_punit_members.specs.OwnView.{own_state}
 use Rattle.jr_punit.specs.ClassView.{member_state, begins_class}
 use Rattle.jr_pstmt.specs.InPlace.{GoesTo}
-use Rattle.jr_punit.specs.MemberMachine as machine
+use Rattle.jr_punit_laws.specs.MemberMachine as machine
 use Rattle.jr_pstmt.specs.OwnMachine as Own
 use Rattle.jr_punit.proofs.ClassSteps.{own_goes}
 use Rattle.jr_pstmt.proofs.InPlace.{goes_within}

@@ -1,0 +1,12 @@
+pub mod Flow
+pub mod StmtArms
+pub mod DeclaredTypes
+pub mod Heads
+pub mod DeclarationArms
+pub mod Parameters
+pub mod Supers
+pub mod PartFits
+pub mod PartNotes
+pub mod TypedFlow
+pub mod OverrideWords
+pub mod OverrideClashes

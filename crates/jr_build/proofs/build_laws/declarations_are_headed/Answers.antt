@@ -1,5 +1,0 @@
-use Rattle.jr_build.proofs.Heading.{headed}
-use Rattle.jr_build.proofs.build_laws.declarations_are_headed.Goals as goal
-
-pub returns : goal.returns
-returns g c = λ begins us heads. headed begins us heads

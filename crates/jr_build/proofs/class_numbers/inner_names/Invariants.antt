@@ -1,8 +1,0 @@
-use Rattle.jr_index.specs.Names.{named}
-use Rattle.jr_build.specs.HierarchyView.{keys_of}
-use Rattle.jr_build.specs.Superclasses.{HasInner}
-use Rattle.jr_build.proofs.class_numbers.inner_names.Given as goal
-
--- the member classes so far are found
-abbrev pub invariant-loop-number : goal.invariant-loop-number
-invariant-loop-number l = HasInner (keys_of l.keys) l.number (named l.inner)

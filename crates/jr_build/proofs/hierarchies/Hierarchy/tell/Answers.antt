@@ -1,8 +1,0 @@
-use Rattle.std.proofs.Common.{◌≡◌, ap, Some}
-use Rattle.jr_build.specs.HierarchyView.{hierarchy_of}
-use Rattle.jr_build.specs.Hierarchies.{with_parent}
-use Rattle.jr_build.proofs.hierarchies.Hierarchy.tell.Goals as goal
-
-pub returns-in-Some-clause-told : goal.returns-in-Some-clause-told
-unfolding hierarchy_of
-returns-in-Some-clause-told c = ap (with_parent (hierarchy_of c.args.self.now) c.args.number) c.in-Some.ensures

@@ -1,7 +1,0 @@
-use Rattle.std.proofs.Common.{map}
-use Rattle.jr_build.specs.DeclaredView.{declaration_of}
-use Rattle.jr_build.proofs.HierarchyLaws.{knows_tops}
-use Rattle.jr_build.proofs.superclasses.with_tops.Goals as goal
-
-pub returns : goal.returns
-returns c = knows_tops (map declaration_of c.args.declarations.now) c.in_ok-hierarchy.hierarchy c.in_ok-hierarchy-2.field-0 c.in_ok-hierarchy.ensures c.in_ok-hierarchy-2.ensures

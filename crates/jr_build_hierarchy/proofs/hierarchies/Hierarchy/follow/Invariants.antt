@@ -1,0 +1,8 @@
+use Rattle.std.proofs.Common.{map}
+use Rattle.jr_build_declared.specs.DeclaredView.{declaration_of}
+use Rattle.jr_build_hierarchy.specs.HierarchyView.{hierarchy_of}
+use Rattle.jr_build_hierarchy.specs.Superclasses.{KnowsTops}
+use Rattle.jr_build_hierarchy.proofs.hierarchies.Hierarchy.follow.Given as goal
+
+abbrev pub invariant-loop-turn : goal.invariant-loop-turn
+invariant-loop-turn l = KnowsTops (map declaration_of l.declarations) (hierarchy_of l.self)

@@ -1,0 +1,3 @@
+pub mod Hierarchies
+pub mod HierarchyView
+pub mod Superclasses

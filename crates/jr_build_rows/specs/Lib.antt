@@ -1,0 +1,4 @@
+pub mod TypeFaults
+pub mod Signatures
+pub mod ExactRows
+pub mod Heads

@@ -1,5 +1,0 @@
-use Rattle.jr_punit.proofs.ReadsAlike as ReadsAlike
-use Rattle.jr_punit.proofs.laws.marked_reads_alike.Goals as goal
-
-pub returns : goal.returns
-returns c = ReadsAlike.reads_alike

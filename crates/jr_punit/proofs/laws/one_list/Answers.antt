@@ -1,5 +1,0 @@
-use Rattle.jr_punit.proofs.Readings as Readings
-use Rattle.jr_punit.proofs.laws.one_list.Goals as goal
-
-pub returns : goal.returns
-returns c = Readings.one_list

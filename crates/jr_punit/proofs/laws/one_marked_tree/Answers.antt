@@ -1,5 +1,0 @@
-use Rattle.jr_punit.proofs.OneReading as OneReading
-use Rattle.jr_punit.proofs.laws.one_marked_tree.Goals as goal
-
-pub returns : goal.returns
-returns c = OneReading.one_marked_tree (record { statements = c.statement_ignores_marks.ensures; members = c.member_ignores_marks.ensures; units = c.unit_ignores_marks.ensures }) c.marks_are_one.ensures.one

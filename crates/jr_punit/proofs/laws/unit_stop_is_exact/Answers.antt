@@ -1,5 +1,0 @@
-use Rattle.jr_punit.proofs.Readings as Readings
-use Rattle.jr_punit.proofs.laws.unit_stop_is_exact.Goals as goal
-
-pub returns : goal.returns
-returns c = Readings.unit_stop_is_exact

@@ -1,0 +1,5 @@
+use Rattle.jr_punit_laws.proofs.Readings as Readings
+use Rattle.jr_punit_laws.proofs.laws.member_is_longest.Goals as goal
+
+pub returns : goal.returns
+returns c = Readings.member_is_longest

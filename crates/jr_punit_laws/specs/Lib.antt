@@ -1,0 +1,11 @@
+pub mod ClassMachine
+pub mod MemberMachine
+pub mod UnitMachine
+pub mod Machines
+pub mod Exact
+pub mod StopPlaces
+pub mod Marked
+pub mod MarkedAlike
+pub mod OneReading
+pub mod Parsing
+pub mod Unread

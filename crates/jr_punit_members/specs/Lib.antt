@@ -1,0 +1,5 @@
+pub mod ArgView
+pub mod ParamView
+pub mod LeadView
+pub mod HeadView
+pub mod OwnView
