@@ -100,7 +100,19 @@ pub(crate) fn super_call<B: Drop>(
         IsOkAnd args (λ args'. expr_of x.value
         ≡ tree.super_call mark (word_of name') (exprs_of args'.items)))) }
 {
-    in_box(alloc, Expr::super_call(mark, name?, args?))
+    match (name, args) {
+        (Ok(name), Ok(args)) => in_box(alloc, Expr::super_call(mark, name, args)),
+        (Err(error), args) => {
+            drop(mark);
+            drop(args);
+            Err(error)
+        }
+        (Ok(name), Err(error)) => {
+            drop(mark);
+            drop(name);
+            Err(error)
+        }
+    }
 }
 
 /// `new ty(args)`.
@@ -148,7 +160,13 @@ pub(crate) fn unary<B: Drop>(
     ensures { IfOk result (λ x. IsOkAnd of (λ of'.
         expr_of x.value ≡ tree.unary mark op (expr_of of'.value))) }
 {
-    in_box(alloc, Expr::unary(mark, op, of?))
+    match of {
+        Ok(of) => in_box(alloc, Expr::unary(mark, op, of)),
+        Err(error) => {
+            drop(mark);
+            Err(error)
+        }
+    }
 }
 
 /// An increment or a decrement.
@@ -190,7 +208,22 @@ pub(crate) fn assign<B: Drop>(
         IsOkAnd value (λ value'. expr_of x.value
         ≡ tree.assign mark (expr_of to'.value) (expr_of value'.value)))) }
 {
-    in_box(alloc, Expr::assign(mark, to?, value?))
+    let to = match to {
+        Ok(to) => to,
+        Err(error) => {
+            drop(mark);
+            drop(value);
+            return Err(error);
+        }
+    };
+    match value {
+        Ok(value) => in_box(alloc, Expr::assign(mark, to, value)),
+        Err(error) => {
+            drop(mark);
+            drop(to);
+            Err(error)
+        }
+    }
 }
 
 /// `to op= value`.
