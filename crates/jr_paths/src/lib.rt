@@ -7,9 +7,10 @@
 //! replaces that node and nothing else. `with_marks` gives the same tree but for its marks.
 //!
 //! Here are the public calls alone, so that a wrong body is tried at little cost. Below them,
-//! `jr_paths_nodes` has nodes, their children and the ways down, and `jr_paths_copies` the copies of parts. A
-//! write goes from member to member, then from statement to statement, then from expression to
-//! expression: `turns` finds where a path turns from one to the next, and `path_writes` joins them.
+//! `jr_paths_nodes` has nodes, their children and the ways down, and `jr_paths_copies` the copies
+//! of parts. A write goes from member to member, then from statement to statement, then from
+//! expression to expression: `turns` finds where a path turns from one to the next, and
+//! `path_writes` joins them.
 #![tactic(auto)]
 
 mod path_writes;

@@ -4,7 +4,7 @@ ghost use Rattle.std.specs.Result.{IfOk, IsOkAnd};
 ghost use Rattle.jr_ast.specs.Tree as tree;
 ghost use Rattle.jr_ast.specs.View.{word_of, type_of, expr_of, exprs_of, target_of};
 
-use crate::made::Made;
+use crate::made::{Made, both};
 use jr_ast::{BinOp, BumpOp, Expr, Ident, Name, TypeRef, UnOp};
 use std::alloc::Global;
 
@@ -100,16 +100,10 @@ pub(crate) fn super_call<B: Drop>(
         IsOkAnd args (λ args'. expr_of x.value
         ≡ tree.super_call mark (word_of name') (exprs_of args'.items)))) }
 {
-    match (name, args) {
-        (Ok(name), Ok(args)) => in_box(alloc, Expr::super_call(mark, name, args)),
-        (Err(error), args) => {
+    match both(name, args) {
+        Ok((name, args)) => in_box(alloc, Expr::super_call(mark, name, args)),
+        Err(error) => {
             drop(mark);
-            drop(args);
-            Err(error)
-        }
-        (Ok(name), Err(error)) => {
-            drop(mark);
-            drop(name);
             Err(error)
         }
     }
@@ -208,22 +202,8 @@ pub(crate) fn assign<B: Drop>(
         IsOkAnd value (λ value'. expr_of x.value
         ≡ tree.assign mark (expr_of to'.value) (expr_of value'.value)))) }
 {
-    let to = match to {
-        Ok(to) => to,
-        Err(error) => {
-            drop(mark);
-            drop(value);
-            return Err(error);
-        }
-    };
-    match value {
-        Ok(value) => in_box(alloc, Expr::assign(mark, to, value)),
-        Err(error) => {
-            drop(mark);
-            drop(to);
-            Err(error)
-        }
-    }
+    let (to, value) = both(to, value)?;
+    in_box(alloc, Expr::assign(mark, to, value))
 }
 
 /// `to op= value`.

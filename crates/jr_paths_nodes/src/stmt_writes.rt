@@ -6,7 +6,8 @@ ghost use Rattle.jr_ast.specs.View as view;
 ghost use Rattle.jr_paths_nodes.specs.Reaches.{IsWithin};
 ghost use Rattle.jr_paths_nodes.specs.With.{get_from};
 ghost use Rattle.jr_paths_nodes.specs.StmtLent.{lends_stmt_among, lends_held_stmt, lends_held_expr};
-ghost use Rattle.jr_paths_nodes.specs.StmtLent.{lends_stmt_of_stmt, lends_expr_of_stmt, lends_below_stmt};
+ghost use Rattle.jr_paths_nodes.specs.StmtLent.{lends_stmt_of_stmt, lends_expr_of_stmt};
+ghost use Rattle.jr_paths_nodes.specs.StmtLent.{lends_below_stmt};
 
 use crate::reaches::{One, Twice};
 use jr_ast::{Expr, Stmt, StmtKind};
