@@ -1,5 +1,5 @@
 //! What was made, or want of memory.
-ghost use Rattle.std.specs.Prelude.{◌≡◌, ◌×◌, Ok, ◌++◌, ◌∷◌, []};
+ghost use Rattle.std.specs.Prelude.{◌≡◌, Ok, ◌++◌, ◌∷◌, []};
 ghost use Rattle.std.specs.Result.{IfOk, IsOkAnd};
 
 use std::alloc::AllocError;

@@ -86,7 +86,8 @@ pub(crate) fn field<B: Drop>(
         IsOkAnd name (λ name'. expr_of x.value
         ≡ tree.field mark (expr_of of'.value) (word_of name')))) }
 {
-    in_box(alloc, Expr::field(mark, of?, name?))
+    let (of, name) = both(of, name)?;
+    in_box(alloc, Expr::field(mark, of, name))
 }
 
 /// `super.name(args)`.
@@ -100,13 +101,8 @@ pub(crate) fn super_call<B: Drop>(
         IsOkAnd args (λ args'. expr_of x.value
         ≡ tree.super_call mark (word_of name') (exprs_of args'.items)))) }
 {
-    match both(name, args) {
-        Ok((name, args)) => in_box(alloc, Expr::super_call(mark, name, args)),
-        Err(error) => {
-            drop(mark);
-            Err(error)
-        }
-    }
+    let (name, args) = both(name, args)?;
+    in_box(alloc, Expr::super_call(mark, name, args))
 }
 
 /// `new ty(args)`.
@@ -120,7 +116,8 @@ pub(crate) fn create<B: Drop>(
         IsOkAnd args (λ args'. expr_of x.value
         ≡ tree.create mark (type_of ty') (exprs_of args'.items)))) }
 {
-    in_box(alloc, Expr::create(mark, ty?, args?))
+    let (ty, args) = both(ty, args)?;
+    in_box(alloc, Expr::create(mark, ty, args))
 }
 
 /// `(of)`.
@@ -141,7 +138,8 @@ pub(crate) fn cast<B: Drop>(
     ensures { IfOk result (λ x. IsOkAnd ty (λ ty'.
         IsOkAnd of (λ of'. expr_of x.value ≡ tree.cast mark (type_of ty') (expr_of of'.value)))) }
 {
-    in_box(alloc, Expr::cast(mark, ty?, of?))
+    let (ty, of) = both(ty, of)?;
+    in_box(alloc, Expr::cast(mark, ty, of))
 }
 
 /// A unary operator before its operand.
@@ -188,7 +186,8 @@ pub(crate) fn binary<B: Drop>(
         IsOkAnd right (λ right'. expr_of x.value
         ≡ tree.binary mark op (expr_of left'.value) (expr_of right'.value)))) }
 {
-    in_box(alloc, Expr::binary(mark, op, left?, right?))
+    let (left, right) = both(left, right)?;
+    in_box(alloc, Expr::binary(mark, op, left, right))
 }
 
 /// `to = value`.
@@ -218,7 +217,8 @@ pub(crate) fn compound<B: Drop>(
         IsOkAnd value (λ value'. expr_of x.value
         ≡ tree.compound mark op (expr_of to'.value) (expr_of value'.value)))) }
 {
-    in_box(alloc, Expr::compound(mark, op, to?, value?))
+    let (to, value) = both(to, value)?;
+    in_box(alloc, Expr::compound(mark, op, to, value))
 }
 
 /// A string as written, without its quotation marks.

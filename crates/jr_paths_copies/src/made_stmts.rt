@@ -4,7 +4,7 @@ ghost use Rattle.std.specs.Result.{IfOk, IsOkAnd};
 ghost use Rattle.jr_ast.specs.StatementTree as tree;
 ghost use Rattle.jr_ast.specs.View.{word_of, type_of, expr_of, else_of, stmt_of, stmts_of};
 
-use crate::made::Made;
+use crate::made::{Made, both};
 use jr_ast::{Expr, Ident, Stmt, TypeRef};
 use std::alloc::Global;
 
@@ -57,8 +57,7 @@ pub(crate) fn while_loop<B: Drop>(
         IsOkAnd body (λ body'. stmt_of x.value
         ≡ tree.loop mark (expr_of condition'.value) (stmt_of body'.value)))) }
 {
-    let condition = condition?;
-    let body = body?;
+    let (condition, body) = both(condition, body)?;
     in_box(
         alloc,
         Stmt::while_loop(mark, Box::into_inner(condition), body),
@@ -84,8 +83,7 @@ pub(crate) fn sync<B: Drop>(
         IsOkAnd body (λ body'. stmt_of x.value
         ≡ tree.sync mark (expr_of lock'.value) (stmts_of body'.items)))) }
 {
-    let lock = lock?;
-    let body = body?;
+    let (lock, body) = both(lock, body)?;
     in_box(alloc, Stmt::sync(mark, Box::into_inner(lock), body))
 }
 

@@ -5,4 +5,4 @@ use Rattle.jr_paths_copies.proofs.MadeOf.{that_ok}
 use Rattle.jr_paths_copies.proofs.made_exprs.create.Goals as goal
 
 pub returns : goal.returns
-returns g c = IfOk-weaker c.in_box.result _ _ (λ x boxed. that_ok _ c.in_ok-ty.was (that_ok _ c.in_ok-args.was (ap expr_of boxed ∙ c.create.ensures))) c.in_box.ensures
+returns g c = IfOk-weaker c.in_box.result _ _ (λ x boxed. that_ok _ c.in_ok-ty.ensures.0 (that_ok _ c.in_ok-ty.ensures.1 (ap expr_of boxed ∙ c.create.ensures))) c.in_box.ensures
