@@ -1,5 +1,5 @@
 -- Copies with other marks.
-use Rattle.std.proofs.Common.{◌≡◌, ℕ, zero, suc, ◌+◌, ◌*◌, ◌<◌, ◌≤◌, List, [], ◌∷◌, ◌++◌, length, get_or, take, map, refl, sym, ap, ◌∙◌, arith}
+use Rattle.std.proofs.Common.{◌≡◌, ℕ, ◌+◌, ◌<◌, ◌≤◌, List, [], ◌∷◌, ◌++◌, length, get_or, take, map, refl, sym, ap, ◌∙◌}
 use Rattle.std.proofs.lemmas.List.{take_more, take_all, map-append}
 use Rattle.jr_ast.specs.declared.exprs.Expr.{Expr}
 use Rattle.jr_ast.specs.declared.stmts.Stmt.{Stmt}
@@ -10,7 +10,6 @@ use Rattle.jr_ast.specs.MemberTree as member
 use Rattle.jr_ast.specs.View.{expr_of, exprs_of, stmt_of, stmts_of, member_of, members_of}
 use Rattle.jr_ast.specs.Remarked.{map_exp, map_exps, map_target, map_stmt, map_stmts, map_else, map_member, map_members, map_class}
 use Rattle.jr_paths_copies.specs.Same.{Agree}
-use Rattle.jr_ast.proofs.Sizes.{exp_size, exps_size, target_size, stmt_size, stmts_size, else_size, member_size, members_size, class_size}
 
 map-map : {X Y Z : Type 0} (f : Y → Z) (g : X → Y) (xs : List X) → map f (map g xs) ≡ map (λ x. f (g x)) xs
 map-map f g [] = refl
