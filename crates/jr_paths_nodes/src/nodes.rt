@@ -1,5 +1,5 @@
 //! Nodes: the parts of a tree that have a mark.
-ghost use Rattle.std.specs.Prelude.{◌≡◌, ⊤, option_map};
+ghost use Rattle.std.specs.Prelude.{◌≡◌, option_map};
 ghost use Rattle.std.specs.Option.{is_some};
 ghost use Rattle.jr_ast.specs.Nodes as pure;
 ghost use Rattle.jr_ast.specs.View.{expr_of, stmt_of, member_of};
@@ -7,7 +7,6 @@ ghost use Rattle.jr_paths_nodes.specs.NodeView.{node_of};
 
 use crate::children;
 use jr_ast::{Class, Expr, Ident, Member, Modifier, Param, Path, Stmt, TypeRef, Unit};
-use std::alloc::AllocError;
 
 /// A reference to a node of a tree: a part that has a mark. Its children are its parts that have
 /// a mark, numbered from 0 in the order of the text.
@@ -23,15 +22,19 @@ pub enum Node<'a, A> {
     Expr(&'a Expr<A>),
 }
 
-impl<A> Copy for Node<'_, A> {}
-
-impl<A> Clone for Node<'_, A> {
-    ghost is_clone = { λ x y. y ≡ x };
-
-    ghost is_infallible = { λ _. ⊤ };
-
-    fn clone(&self) -> Result<Self, AllocError> {
-        Ok(*self)
+impl<A> Drop for Node<'_, A> {
+    fn drop(self) {
+        match self {
+            Node::Unit(_) => {}
+            Node::Class(_) => {}
+            Node::Modifier(_) => {}
+            Node::Word(_) => {}
+            Node::Type(_) => {}
+            Node::Param(_) => {}
+            Node::Member(_) => {}
+            Node::Stmt(_) => {}
+            Node::Expr(_) => {}
+        }
     }
 }
 

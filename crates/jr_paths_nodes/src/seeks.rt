@@ -1,5 +1,5 @@
 //! The search for the child of a number among the parts of a node.
-ghost use Rattle.std.specs.Prelude.{◌≡◌, ⊤, ◌++◌, List, ◌∷◌, [], map, option_map};
+ghost use Rattle.std.specs.Prelude.{◌≡◌, ◌++◌, List, ◌∷◌, [], map, option_map};
 ghost use Rattle.std.specs.Option.{option_copied};
 ghost use Rattle.jr_ast.specs.Nodes as pure;
 ghost use Rattle.jr_ast.specs.View.{word_of, modifier_of, type_of, param_of, exprs_of, stmts_of};
@@ -9,7 +9,6 @@ ghost use Rattle.jr_paths_nodes.specs.Seeks.{sought};
 
 use crate::nodes::Node;
 use jr_ast::{Class, Expr, Ident, Member, Modifier, Param, Stmt, TypeRef};
-use std::alloc::AllocError;
 
 /// The child is found, or as many parts are still to be passed over.
 pub(crate) enum Seek<'a, A> {
@@ -17,15 +16,12 @@ pub(crate) enum Seek<'a, A> {
     Left(usize),
 }
 
-impl<A> Copy for Seek<'_, A> {}
-
-impl<A> Clone for Seek<'_, A> {
-    ghost is_clone = { λ x y. y ≡ x };
-
-    ghost is_infallible = { λ _. ⊤ };
-
-    fn clone(&self) -> Result<Self, AllocError> {
-        Ok(*self)
+impl<A> Drop for Seek<'_, A> {
+    fn drop(self) {
+        match self {
+            Seek::Found(_) => {}
+            Seek::Left(_) => {}
+        }
     }
 }
 

@@ -92,16 +92,7 @@ fn take_one<L: Ledger>(
         Promises session.old step.now (reply_of reply) session.new) }
 {
     let mut counter = Steps::<L>::new(blank);
-    match session.step(alloc, step, &mut counter) {
-        Ok(reply) => {
-            drop(counter);
-            Ok(reply)
-        }
-        Err(error) => {
-            drop(counter);
-            Err(error)
-        }
-    }
+    session.step(alloc, step, &mut counter)
 }
 
 /// How a run ends whose steps have these replies, once all is written.
