@@ -1,0 +1,2 @@
+pub mod MemberLocals
+pub mod OwnFlags
