@@ -1,2 +1,6 @@
 pub mod MemberLocals
+pub mod Notes
+pub mod NotesView
+pub mod Gathering
+pub mod FlagRows
 pub mod OwnFlags

@@ -1,33 +1,16 @@
 //! The graph of a member's sites, by the flags of its own locals.
-ghost use Rattle.std.specs.Prelude.{◌≡◌, IfOk};
 ghost use Rattle.jr_ast.specs.View.{member_of};
 ghost use Rattle.jr_cfg.specs.Graphs.{IsGraphOfMember, RunsFollowGraph};
 ghost use Rattle.jr_cfg.specs.MemberRoutes.{FitsSites, HasKey};
-ghost use Rattle.jr_member_graphs.specs.OwnFlags.{TellsNeverNull, own, own_flags};
+ghost use Rattle.jr_member_graphs.specs.OwnFlags.{TellsNeverNull, own};
 
+use crate::members::own_flags;
 use jr_ast::Member;
-use jr_cfg::CfgFault;
+use jr_cfg::{CfgFault, graph};
 use jr_sites::SiteGraph;
 use jr_table::{Facts, Table};
 use jr_text::Mark;
-use std::alloc::{AllocError, Global};
-
-/// Which of a member's locals are never null, a flag for each parameter and local in the order of
-/// their numbers. The member's parent begins at the byte `base` of the file. The only fault is want
-/// of memory.
-pub fn own_flags<A: Mark, F: Facts>(
-    _alloc: Global,
-    _table: &Table,
-    member: &Member<A>,
-    base: u32,
-    facts: &F,
-) -> Result<Vec<bool>, AllocError>
-    requires fits { FitsSites A.span_from A.fits_at base (member_of member.now) }
-    ensures exact { IfOk result (λ flags. flags.items ≡ own_flags A.span_from _table.now
-        (F.key facts.now) (F.decls facts.now) (F.types facts.now) base (member_of member.now)) }
-{
-    Err(AllocError)
-}
+use std::alloc::Global;
 
 /// The graph of a member's sites, and of the edges between them (JLS 14, 15.7): which of two actions
 /// of one activation control comes to first. A test for null is a site exactly where the value may
@@ -58,5 +41,5 @@ pub fn member_graph<A: Mark, F: Facts>(
         (member_of member.now) result }
 {
     let flags = own_flags(alloc, table, member, base, facts)?;
-    jr_cfg::graph(alloc, table, member, base, super_at, facts, &flags)
+    graph(alloc, table, member, base, super_at, facts, &flags)
 }
