@@ -49,7 +49,7 @@ module _ {K : Keys} where
   found (sites.reads k) l n e = inr e
   found (sites.writes k) l n e = by (first_or_rest k n l e)
     where
-      by : ((k ≡ n) ⊎ Among l n) → (sites.writes k ≡ sites.writes n) ⊎ Among l n
+      by : ((k ≡ n) ⊎ Among l n) → (◌≡◌ {A = What K} (sites.writes k) (sites.writes n)) ⊎ Among l n
       by (inl same) = inl (ap (λ (j : ℕ). sites.writes j) same)
       by (inr h) = inr h
   found (sites.loads f) l n e = inr e
@@ -78,11 +78,11 @@ module _ {K : Keys} where
 
   written_at : (ss : List (Site K)) (n : ℕ) → Among (written ss) n → At ss n
   written_at [] n e = absurd (false≢true e)
-  written_at (s ∷ ss) n e = by (found s.what (written ss) n e)
+  written_at (s ∷ ss) n e = by (λ h. written_at ss n h) (found s.what (written ss) n e)
     where
-      by : ((s.what ≡ sites.writes n) ⊎ Among (written ss) n) → At (s ∷ ss) n
-      by (inl is) = (zero, s, refl, is)
-      by (inr h) = let a = written_at ss n h in (suc a.0, a.1, a.2, a.3)
+      by : (Among (written ss) n → At ss n) → ((s.what ≡ sites.writes n) ⊎ Among (written ss) n) → At (s ∷ ss) n
+      by rest (inl is) = (zero, s, refl, is)
+      by rest (inr h) = let a = rest h in (suc a.0, a.1, a.2, a.3)
 
   one_same : (s t : Site K) → Some s ≡ Some t → s ≡ t
   one_same s t e = cc
@@ -148,8 +148,9 @@ module _ {A : Type 0} (tells : A → ℕ → Span) (g : Given) (o : Others) (n :
   args_told (Some es) at p i = in_way (exps_way X (spot_exps B E es at p i)) (exps_locals tells M at es) n (exps_written tells g o es at p i)
 
   mutual
-    stmt_told : (s : statement.Stmt A) (base : ℕ) (p : List ℕ) → Among (stmt_notes tells M base s).writes n ↔ StmtAssigns X n (spot_stmt B E s base p)
     unfolding spot_stmt spot_else spot_stmts stmt_notes else_notes stmts_notes
+
+    stmt_told : (s : statement.Stmt A) (base : ℕ) (p : List ℕ) → Among (stmt_notes tells M base s).writes n ↔ StmtAssigns X n (spot_stmt B E s base p)
     stmt_told (statement.local m is_final t w e) base p = exp_told e (B m base) (onto p 2)
     stmt_told (statement.eval m e) base p = exp_told e (B m base) (onto p 0)
     stmt_told (statement.branch m c s other) base p =
@@ -167,12 +168,10 @@ module _ {A : Type 0} (tells : A → ℕ → Span) (g : Given) (o : Others) (n :
     stmt_told (statement.empty m) base p = nowhere n
 
     else_told : (other : statement.Else A) (at : ℕ) (p : List ℕ) → Among (else_notes tells M at other).writes n ↔ ElseAssigns X n (spot_else B E other at p)
-    unfolding spot_stmt spot_else spot_stmts stmt_notes else_notes stmts_notes
     else_told statement.no_else at p = nowhere n
     else_told (statement.otherwise s) at p = stmt_told s at p
 
     stmts_told : (ss : statement.Stmts A) (at : ℕ) (p : List ℕ) (i : ℕ) → Among (stmts_notes tells M at ss).writes n ↔ StmtsAssign X n (spot_stmts B E ss at p i)
-    unfolding spot_stmt spot_else spot_stmts stmt_notes else_notes stmts_notes
     stmts_told statement.end at p i = nowhere n
     stmts_told (statement.more s ss) at p i =
         in_two (stmt_notes tells M at s).writes (stmts_notes tells M at ss).writes n (stmt_told s at (onto p i)) (stmts_told ss at p (suc i))

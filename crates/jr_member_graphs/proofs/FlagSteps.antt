@@ -70,9 +70,9 @@ module _ {K : Keys} {A : Type 0} (F : Facts K A) (a b : ℕ → Bool) where
 
   -- only whether each local itself is assigned matters
   pub flags_same : (xs : List (Option (tree.Exp A))) → ((n : ℕ) → n < length xs → a n ≡ b n) → flags_behind F a [] xs ≡ flags_behind F b [] xs
-  flags_same xs same = all_same [] xs (λ n lt. same n (omega lt))
+  flags_same xs same = all_same [] xs (λ n lt. same n (omega (arith, lt)))
 
-pub nones_length : {X : Type 0} (n : ℕ) → length (nones {X} n) ≡ n
+pub nones_length : {X : Type 0} (n : ℕ) → length (nones {X = X} n) ≡ n
 nones_length zero = refl
 nones_length (suc n) = ap suc (nones_length n)
 
@@ -122,7 +122,7 @@ mark_set k marks lt = record { size = length-set marks k true; marks = λ n with
 -- what is marked so far, of so many locals
 pub record Marks (ns : List ℕ) (count : ℕ) (marks : List Bool) : Type 0 where
   pub size : length marks ≡ count
-  pub marks : MarksLocals ns count marks
+  pub told : MarksLocals ns count marks
 
 unmarked : (count n : ℕ) → marked (replicate count false) n ≡ false
 unmarked zero n = refl
@@ -132,14 +132,14 @@ unmarked (suc count) (suc n) = unmarked count n
 pub marks_begin : (count : ℕ) (marks : List Bool) → marks ≡ replicate count false → Marks [] count marks
 marks_begin count marks e = record {
   size = ap length e ∙ length-replicate count false;
-  marks = λ n lt. ap (λ (l : List Bool). marked l n) e ∙ unmarked count n;
+  told = λ n lt. ap (λ (l : List Bool). marked l n) e ∙ unmarked count n;
 }
 
 pub marks_more : (ns ks more : List ℕ) (count : ℕ) (marks new : List Bool) → more ≡ ns ++ ks → Marks ns count marks → MarksMore ks marks new → Marks more count new
 marks_more ns ks more count marks new longer h m = record {
   size = m.size ∙ h.size;
-  marks = λ n lt.
-      m.marks n (subst (λ (k : ℕ). n < k) (sym h.size) lt) ∙ ap (λ (b : Bool). b || is_among ks n) (h.marks n lt) ∙ sym (list_any-append (nat_eq n) ns ks) ∙ ap (λ (l : List ℕ). is_among l n) (sym longer);
+  told = λ n lt.
+      m.marks n (subst (λ (k : ℕ). n < k) (sym h.size) lt) ∙ ap (λ (b : Bool). b || is_among ks n) (h.told n lt) ∙ sym (list_any-append (nat_eq n) ns ks) ∙ ap (λ (l : List ℕ). is_among l n) (sym longer);
 }
 
 -- ---- what locals begin with
@@ -160,7 +160,7 @@ module _ {A : Type 0} (tells : A → ℕ → Span) where
   -- one initializer more
   pub record OneMore (b : Begin A) (es : List (tree.Exp Spot)) (i : ℕ) : Type 0 where
     pub e : tree.Exp Spot
-    pub more : take (i + 1) es ≡ take i es ++ e ∷ []
+    pub more : take (suc i) es ≡ take i es ++ e ∷ []
     pub spotted : IsSpotted tells b e
 
   pub spotted_at : {Y : Type 0} (f : Y → Begin A) (ys : List Y) (es : List (tree.Exp Spot)) (i : ℕ) (y : Y) → i < length ys → y ≡ get_or ys i y → AreSpotted tells (map f ys) es → OneMore (f y) es i
@@ -177,8 +177,9 @@ module _ {A : Type 0} (tells : A → ℕ → Span) where
     E = ends_by tells
 
     mutual
-      stmt_spotted : (s : statement.Stmt A) (base : ℕ) (p : List ℕ) → AreSpotted tells (stmt_notes tells means base s).begins (stmt_inits (spot_stmt B E s base p))
       unfolding spot_stmt spot_else spot_stmts stmt_notes else_notes stmts_notes stmt_inits else_inits stmts_inits
+
+      stmt_spotted : (s : statement.Stmt A) (base : ℕ) (p : List ℕ) → AreSpotted tells (stmt_notes tells means base s).begins (stmt_inits (spot_stmt B E s base p))
       stmt_spotted (statement.local m f t w e) base p = ((onto p 2, refl), tt)
       stmt_spotted (statement.eval m e) base p = tt
       stmt_spotted (statement.branch m c s other) base p =
@@ -191,12 +192,10 @@ module _ {A : Type 0} (tells : A → ℕ → Span) where
       stmt_spotted (statement.empty m) base p = tt
 
       else_spotted : (other : statement.Else A) (at : ℕ) (p : List ℕ) → AreSpotted tells (else_notes tells means at other).begins (else_inits (spot_else B E other at p))
-      unfolding spot_stmt spot_else spot_stmts stmt_notes else_notes stmts_notes stmt_inits else_inits stmts_inits
       else_spotted statement.no_else at p = tt
       else_spotted (statement.otherwise s) at p = stmt_spotted s at p
 
       pub stmts_spotted : (ss : statement.Stmts A) (at : ℕ) (p : List ℕ) (i : ℕ) → AreSpotted tells (stmts_notes tells means at ss).begins (stmts_inits (spot_stmts B E ss at p i))
-      unfolding spot_stmt spot_else spot_stmts stmt_notes else_notes stmts_notes stmt_inits else_inits stmts_inits
       stmts_spotted statement.end at p i = tt
       stmts_spotted (statement.more s ss) at p i =
           spotted_both (stmt_notes tells means at s).begins (stmts_notes tells means at ss).begins (stmt_inits (spot_stmt B E s at (onto p i))) (stmts_inits (spot_stmts B E ss at p (suc i))) (stmt_spotted s at (onto p i)) (stmts_spotted ss at p (suc i))
@@ -209,8 +208,9 @@ module _ {A : Type 0} (tells : A → ℕ → Span) where
       fit_both (b ∷ bs) cs h k = (h.0, fit_both bs cs h.1 k)
 
       mutual
-        stmt_fits : (s : statement.Stmt A) (base : ℕ) → FitsStmt B Fits base s → AllFit tells Fits (stmt_notes tells means base s).begins
         unfolding FitsStmt FitsElse FitsStmts stmt_notes else_notes stmts_notes
+
+        stmt_fits : (s : statement.Stmt A) (base : ℕ) → FitsStmt B Fits base s → AllFit tells Fits (stmt_notes tells means base s).begins
         stmt_fits (statement.local m f t w e) base h = (h.3, tt)
         stmt_fits (statement.eval m e) base h = tt
         stmt_fits (statement.branch m c s other) base h =
@@ -222,12 +222,10 @@ module _ {A : Type 0} (tells : A → ℕ → Span) where
         stmt_fits (statement.empty m) base h = tt
 
         else_fits : (other : statement.Else A) (at : ℕ) → FitsElse B Fits at other → AllFit tells Fits (else_notes tells means at other).begins
-        unfolding FitsStmt FitsElse FitsStmts stmt_notes else_notes stmts_notes
         else_fits statement.no_else at h = tt
         else_fits (statement.otherwise s) at h = stmt_fits s at h
 
         pub stmts_fit : (ss : statement.Stmts A) (at : ℕ) → FitsStmts B Fits at ss → AllFit tells Fits (stmts_notes tells means at ss).begins
-        unfolding FitsStmt FitsElse FitsStmts stmt_notes else_notes stmts_notes
         stmts_fit statement.end at h = tt
         stmts_fit (statement.more s ss) at h = fit_both (stmt_notes tells means at s).begins (stmts_notes tells means at ss).begins (stmt_fits s at h.0) (stmts_fit ss at h.1)
 

@@ -64,7 +64,7 @@ module _ {K : Keys} where
   unless_written true w l h = record { is = refl }
   unless_written false w l h = h
 
-  check_silent : (b : Bool) (p : K.place) → Written (sites.unless b (at_place {K} p sites.checks)) []
+  check_silent : (b : Bool) (p : K.place) → Written (sites.unless b (at_place {K = K} p sites.checks)) []
   check_silent true p = record { is = refl }
   check_silent false p = record { is = refl }
 
@@ -109,11 +109,11 @@ module _ {K : Keys} where
 
 -- ---- of names
 
-store_written : (rows : List Row) (p : Place) (m : Meaning) → Written {RunKeys} (sites.store_of p (variable_of rows m)) (local_in m)
+store_written : (rows : List Row) (p : Place) (m : Meaning) → Written {K = RunKeys} (sites.store_of p (variable_of rows m)) (local_in m)
 store_written rows p (local n) = record { is = refl }
 store_written rows p (field k) = by (meaning.is_static_field rows k)
   where
-    by : (b : Bool) → Written {RunKeys} (sites.store_of p (Some (field_variable b k))) []
+    by : (b : Bool) → Written {K = RunKeys} (sites.store_of p (Some (field_variable b k))) []
     by true = record { is = refl }
     by false = record { is = refl }
 store_written rows p class = record { is = refl }
@@ -249,8 +249,9 @@ module _ {A : Type 0} (tells : A → ℕ → Span) (g : Given) (o : Others) wher
   divisor_silent of e = check_silent (not (sites.divides of) || sites.is_nonzero e) (X.facts.first (sites.mark_of e))
 
   mutual
-    pub exp_written : (e : tree.Exp A) (base : ℕ) (p : List ℕ) → Written (exp_way X (spot_exp B E e base p)) (exp_locals tells M base e)
     unfolding spot_exp spot_exps exp_locals receiver_locals exps_locals operand_locals
+
+    pub exp_written : (e : tree.Exp A) (base : ℕ) (p : List ℕ) → Written (exp_way X (spot_exp B E e base p)) (exp_locals tells M base e)
     exp_written (tree.number m n) base p = record { is = refl }
     exp_written (tree.truth m b) base p = record { is = refl }
     exp_written (tree.null m) base p = record { is = refl }
@@ -293,12 +294,10 @@ module _ {A : Type 0} (tells : A → ℕ → Span) (g : Given) (o : Others) wher
         (row_second (load_target (spot_exp B E t at (onto p 0))) (row_written (exp_written e at (onto p 1)) (row_second (divisor_silent of (spot_exp B E e at (onto p 1))) (store_target t at (onto p 0)))))
 
     pub exps_written : (es : tree.Exps A) (at : ℕ) (p : List ℕ) (i : ℕ) → Written (exps_way X (spot_exps B E es at p i)) (exps_locals tells M at es)
-    unfolding spot_exp spot_exps exp_locals receiver_locals exps_locals operand_locals
     exps_written tree.end at p i = record { is = refl }
     exps_written (tree.more e es) at p i = row_written (exp_written e at (onto p i)) (exps_written es at p (suc i))
 
     operand_written : (t : tree.Exp A) (base : ℕ) (p : List ℕ) → Written (operand_way X (spot_exp B E t base p)) (operand_locals tells M base t)
-    unfolding spot_exp spot_exps exp_locals receiver_locals exps_locals operand_locals
     operand_written (tree.field m e w) base p = left_written e (B m base) (onto p 0) (exp_written e (B m base) (onto p 0))
     operand_written (tree.name m w) base p = record { is = refl }
     operand_written (tree.super_field m w) base p = record { is = refl }

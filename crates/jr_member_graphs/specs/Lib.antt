@@ -4,3 +4,4 @@ pub mod NotesView
 pub mod Gathering
 pub mod FlagRows
 pub mod OwnFlags
+pub mod NeverNullRuns

@@ -1,5 +1,5 @@
 //! The flags of a member's locals.
-ghost use Rattle.std.specs.Prelude.{◌≡◌, ◌++◌, [], ℕ, IfOk, List};
+ghost use Rattle.std.specs.Prelude.{◌≡◌, ◌+◌, ◌++◌, [], ℕ, IfOk, List};
 ghost use Rattle.jr_ast.specs.View.{args_of, member_of, stmts_of};
 ghost use Rattle.jr_bind_expr.specs.Fits.{FitsStmts};
 ghost use Rattle.jr_cfg.specs.MemberRoutes.{FitsArgs, FitsSites};
@@ -22,6 +22,16 @@ use jr_table::{Facts, Table};
 use jr_text::Mark;
 use std::alloc::{AllocError, Global};
 
+/// How many parameters and locals there are. More than numbers don't fit any memory.
+fn all_locals(params: usize, locals: usize) -> Result<usize, AllocError>
+    ensures { IfOk result (λ n. n ≡ params + locals) }
+{
+    match params.checked_add(locals) {
+        None => Err(AllocError),
+        Some(count) => Ok(count),
+    }
+}
+
 /// Of the locals of a body, behind so many parameters; `steps` are those of what stands in front.
 fn body_flags<'a, F: Facts, A: Mark>(
     alloc: Global,
@@ -41,9 +51,7 @@ fn body_flags<'a, F: Facts, A: Mark>(
 {
     let mut begins = Vec::new(alloc);
     stmts(alloc, here, here.start, body, steps, &mut begins)?;
-    let Some(count) = params.checked_add(begins.len()) else {
-        return Err(AllocError);
-    };
+    let count = all_locals(params, begins.len())?;
     let marks = written_locals(alloc, count, steps)?;
     local_flags(alloc, here, params, &begins, &marks)
 }

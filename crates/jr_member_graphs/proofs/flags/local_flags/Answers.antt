@@ -1,4 +1,4 @@
-use Rattle.std.proofs.Common.{◌≡◌, ◌+◌, List, [], map, length, take, ap, sym, subst, ◌∙◌, arith}
+use Rattle.std.proofs.Common.{◌≡◌, ◌+◌, ℕ, List, [], map, length, take, ap, sym, subst, ◌∙◌, add-one, arith}
 use Rattle.std.proofs.lemmas.List.{take_all, length-map}
 use Rattle.jr_ast.specs.Tree as tree
 use Rattle.jr_cover.specs.Spots.{Spot}
@@ -29,7 +29,7 @@ loop-begin-preserved g c es h =
     let i = l.begin-index in
     let one = steps.spotted_at T begin_of c.args.begins.now es i c.begin-item.result c.loop-begin-test.true c.begin-item.is h in
     let count = c.len.ensures ∙ l.flags.ok.0 in
-    steps.flags_more F (marked c.args.marks.now) c.args.params (take i es) (take (i + 1) es) one.e l.flags.items c.deref.result.now c.push.new.self.items c.is_marked-is_assigned.result c.next_flag-next.result one.more (l.invariant es h) c.deref.ensures.value
+    steps.flags_more F (marked c.args.marks.now) c.args.params (take i es) (take (i + 1) es) one.e l.flags.items c.deref.result.now c.push.new.self.items c.is_marked-is_assigned.result c.next_flag-next.result (ap (λ (n : ℕ). take n es) (add-one i) ∙ one.more) (l.invariant es h) c.deref.ensures.value
     (c.is_marked-is_assigned.ensures ∙ ap (marked c.args.marks.now) count) (c.next_flag-next.ensures one.e one.spotted) c.in_ok-push.ensures.items
 
 pub returns : goal.returns

@@ -25,4 +25,4 @@ loop-step-preserved c key =
 
 pub returns : goal.returns
 returns c key =
-    subst (λ (l : List raw_step.Step). MarksLocals (noted key l) c.args.count c.loop-step.marks.items) (take_all c.loop-step.step-index c.args.steps.now c.loop-step-test.false) (c.loop-step.invariant key).marks
+    subst (λ (l : List raw_step.Step). MarksLocals (noted key l) c.args.count c.loop-step.marks.items) (take_all c.loop-step.step-index c.args.steps.now c.loop-step-test.false) (c.loop-step.invariant key).told

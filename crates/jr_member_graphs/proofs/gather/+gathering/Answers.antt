@@ -23,16 +23,7 @@ use Rattle.jr_member_graphs.proofs.Gathered as gathered
 use Rattle.jr_member_graphs.proofs.gather.+gathering.Goals as goal
 
 pub head-span-at-requires : goal.head-span-at-requires
-unfolding stmt_size stmts_size else_size stmt_kind stmt_row held_else
-head-span-at-requires g t c =
-    let T = g.A.Mark.span_from in
-    let F = g.A.Mark.fits_at in
-    let G = given g.F.Facts.decls g.F.Facts.types c.args.here.now in
-    let base = c.args.base in
-    let m = c.args.of.now.mark in
-    let at = c.span-at.result.from in
-    let start : at ≡ (T m base).from = ap (λ (z : Span). z.from) c.span-at.ensures in
-    gathered.own_fits_stmt (begins_by T) F base c.args.of.now c.requires.fits
+head-span-at-requires g t c = gathered.own_fits_stmt (begins_by g.A.Mark.span_from) g.A.Mark.fits_at c.args.base c.args.of.now c.requires.fits
 
 pub head-local-requires : goal.head-local-requires
 unfolding stmt_size stmts_size else_size stmt_kind stmt_row held_else
@@ -328,30 +319,30 @@ sync-returns g t c =
 
 pub stmt-head-requires : goal.stmt-head-requires
 stmt-head-requires g t c =
-    let l = c.loop-base in
+    let l = c.loop-reached in
     let s = l.invariant.size in
     λ κs o. (omega (arith, s, c.decreases), (o.0, (o.1, l.invariant.left.fits)))
 
-pub stmt-loop-base-init : goal.stmt-loop-base-init
-stmt-loop-base-init g t c = record { size = omega arith; left = record { fits = c.requires.fits; notes = refl } }
+pub stmt-loop-reached-init : goal.stmt-loop-reached-init
+stmt-loop-reached-init g t c = record { size = omega arith; left = record { fits = c.requires.fits; notes = refl } }
 
-pub stmt-loop-base-smaller : goal.stmt-loop-base-smaller
-stmt-loop-base-smaller g t c =
+pub stmt-loop-reached-smaller : goal.stmt-loop-reached-smaller
+stmt-loop-reached-smaller g t c =
     let T = g.A.Mark.span_from in
     let F = g.A.Mark.fits_at in
     let G = given g.F.Facts.decls g.F.Facts.types c.args.here.now in
-    let l = c.loop-base in
+    let l = c.loop-reached in
     let old = notes_in G.member l.steps.items l.begins.items in
     let now = notes_in G.member c.head.new.steps.items c.head.new.begins.items in
     let p = subst (λ (r : Reached g.row.A.Denot). HeadGathered T F (meaning_at G) l.base (stmt_of l.of.now) r old now) c.in-To.is c.in_ok-reached.ensures in
     gathered.last_smaller T (stmt_of c.in-To.last.of.now) (stmt_of l.of.now) p.0
 
-pub stmt-loop-base-preserved : goal.stmt-loop-base-preserved
-stmt-loop-base-preserved g t c =
+pub stmt-loop-reached-preserved : goal.stmt-loop-reached-preserved
+stmt-loop-reached-preserved g t c =
     let T = g.A.Mark.span_from in
     let F = g.A.Mark.fits_at in
     let G = given g.F.Facts.decls g.F.Facts.types c.args.here.now in
-    let l = c.loop-base in
+    let l = c.loop-reached in
     let old = notes_in G.member l.steps.items l.begins.items in
     let now = notes_in G.member c.head.new.steps.items c.head.new.begins.items in
     let p = subst (λ (r : Reached g.row.A.Denot). HeadGathered T F (meaning_at G) l.base (stmt_of l.of.now) r old now) c.in-To.is c.in_ok-reached.ensures in
@@ -364,7 +355,7 @@ stmt-returns-in-Behind g t c =
     let T = g.A.Mark.span_from in
     let F = g.A.Mark.fits_at in
     let G = given g.F.Facts.decls g.F.Facts.types c.args.here.now in
-    let l = c.loop-base in
+    let l = c.loop-reached in
     let old = notes_in G.member l.steps.items l.begins.items in
     let now = notes_in G.member c.head.new.steps.items c.head.new.begins.items in
     let p = subst (λ (r : Reached g.row.A.Denot). HeadGathered T F (meaning_at G) l.base (stmt_of l.of.now) r old now) c.in-Behind.is c.in_ok-reached.ensures in

@@ -29,8 +29,8 @@ invariant-stmts-loop-of g l =
     let G = given g.F.Facts.decls g.F.Facts.types l.here in
     Going g.A.Mark.span_from g.A.Mark.fits_at (meaning_at G) l.at l.body (notes_in G.member l.fn.steps.items l.fn.begins.items) (notes_in G.member l.steps.items l.begins.items) l.of-index
 
-abbrev pub invariant-stmt-loop-base : goal.invariant-stmt-loop-base
-invariant-stmt-loop-base g l =
+abbrev pub invariant-stmt-loop-reached : goal.invariant-stmt-loop-reached
+invariant-stmt-loop-reached g l =
     let G = given g.F.Facts.decls g.F.Facts.types l.here in
     record {
       size : stmt_size (stmt_of l.of) ≤ stmt_size (stmt_of l.fn.of);
@@ -38,5 +38,5 @@ invariant-stmt-loop-base g l =
           (notes_in G.member l.steps.items l.begins.items) l.base (stmt_of l.of);
     }
 
-abbrev pub decreases-stmt-loop-base : goal.decreases-stmt-loop-base
-decreases-stmt-loop-base g l = stmt_size (stmt_of l.of)
+abbrev pub decreases-stmt-loop-reached : goal.decreases-stmt-loop-reached
+decreases-stmt-loop-reached g l = stmt_size (stmt_of l.of)

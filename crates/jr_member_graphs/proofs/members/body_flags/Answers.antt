@@ -49,6 +49,10 @@ returns g c path first =
     let spotted : AreSpotted T notes.begins es = steps.stmts_spotted T (meaning_at G) body at path first in
     let writes : noted G.member c.stmts.new.steps.items ≡ noted G.member c.args.steps.now.items ++ notes.writes = ap (λ (n : Notes g.row.A.Denot). n.writes) c.in_ok-stmts.ensures in
     let all : noted G.member c.deref.result.now ≡ noted G.member c.args.steps.now.items ++ notes.writes = ap (λ (l : List raw_step.Step). noted G.member l) c.deref.ensures.value ∙ writes in
-    let count : c.in-Some.count ≡ length (behind_nones c.args.params es) = ? in
-    let same = steps.flags_same F (marked c.deref-3.result.now) (is_among (noted G.member c.args.steps.now.items ++ notes.writes)) (behind_nones c.args.params es) ? in
-    subst (λ (l : List Bool). IfOk c.local_flags.result (λ v. v.items ≡ l)) same (c.local_flags.ensures es ?)
+    let size : length c.stmts.new.begins.items ≡ length es = sym (length-map c.stmts.new.begins.items begin_of) ∙ ap length is ∙ steps.spotted_length T notes.begins es spotted in
+    let total : c.in_ok-count.count ≡ length (behind_nones c.args.params es) =
+    c.in_ok-count.ensures ∙ ap (λ (n : ℕ). c.args.params + n) (c.len.ensures ∙ c.stmts.new.begins.ok.0 ∙ size) ∙ sym (steps.behind_length c.args.params es) in
+    let same = steps.flags_same F (marked c.deref-3.result.now) (is_among (noted G.member c.args.steps.now.items ++ notes.writes)) (behind_nones c.args.params es)
+    (λ n lt. ap (λ (l : List Bool). marked l n) c.deref-3.ensures.value ∙ c.in_ok-marks.ensures G.member n (subst (λ (k : ℕ). n < k) (sym total) lt) ∙ ap (λ (l : List ℕ). is_among l n) all) in
+    let placed = subst (λ (l : List (raw.Begin g.row.A.Denot)). AreSpotted T (map begin_of l) es) (sym c.deref-2.ensures.value) (subst (λ (l : List (Begin g.row.A.Denot)). AreSpotted T l es) (sym is) spotted) in
+    subst (λ (l : List Bool). IfOk c.local_flags.result (λ v. v.items ≡ l)) same (c.local_flags.ensures es placed)
