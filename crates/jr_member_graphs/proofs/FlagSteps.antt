@@ -72,12 +72,12 @@ module _ {K : Keys} {A : Type 0} (F : Facts K A) (a b : ℕ → Bool) where
   pub flags_same : (xs : List (Option (tree.Exp A))) → ((n : ℕ) → n < length xs → a n ≡ b n) → flags_behind F a [] xs ≡ flags_behind F b [] xs
   flags_same xs same = all_same [] xs (λ n lt. same n (omega (arith, lt)))
 
-pub nones_length : {X : Type 0} (n : ℕ) → length (nones {X = X} n) ≡ n
-nones_length zero = refl
-nones_length (suc n) = ap suc (nones_length n)
+pub nones_length : (X : Type 0) (n : ℕ) → length (nones {X = X} n) ≡ n
+nones_length X zero = refl
+nones_length X (suc n) = ap suc (nones_length X n)
 
 pub behind_length : {X : Type 0} (n : ℕ) (es : List X) → length (behind_nones n es) ≡ n + length es
-behind_length n es = let e = length-append (nones n) (map (λ x. Some x) es) in let f = nones_length {X = _} n in let h = mapped es in e ∙ (λ i. f i + h i)
+behind_length n es = let e = length-append (nones n) (map (λ x. Some x) es) in let f = nones_length _ n in let h = mapped es in e ∙ (λ i. f i + h i)
   where
     mapped : {Y : Type 0} (ys : List Y) → length (map (λ x. Some x) ys) ≡ length ys
     mapped [] = refl

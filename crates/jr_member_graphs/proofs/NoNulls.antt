@@ -51,7 +51,7 @@ no_null_in_runs tells g o base (declared.method m mods t w ps body) numbers boun
     (λ n x d. of_local B E (known_of g o).facts (spot_params B E ps at [] first) (length ps) body at [] (first + length ps) (params_length B E ps at [] first) numbers n x d) bound e h.never_null is_bound r run.0 run.1
   where
     alone : (n : ℕ) → (⊥ ⊎ StmtsAssign (known_of g o) n (spot_stmts (begins_by tells) (ends_by tells) body (begins_by tells m base) [] (suc (length mods + result_count (begins_by tells) (ends_by tells) t) + length ps))) → h.is_assigned n ≡ true
-    alone n (inl no) = absurd no
+    alone n (inl none) = absurd none
     alone n (inr a) = (h.tells n).1 a
 no_null_in_runs tells g o base (declared.constructor m mods w ps args body) numbers bound e h is_bound r run =
     let B = begins_by tells in

@@ -1,5 +1,5 @@
 -- The initializers of a member's locals stand in the order of their numbers.
-use Rattle.std.proofs.Common.{◌≡◌, ◌⊎◌, ℕ, zero, suc, ◌+◌, ◌<◌, List, [], ◌∷◌, ◌++◌, map, length, Option, Some, None, refl, sym, ap, subst, ◌∙◌, inl, inr, length-append, arith}
+use Rattle.std.proofs.Common.{◌≡◌, ◌⊎◌, ℕ, zero, suc, ◌+◌, ◌<◌, List, [], ◌∷◌, ◌++◌, map, length, Option, Some, None, refl, sym, ap, subst, ◌∙◌, inl, inr, ⊎_elim, length-append, arith}
 use Rattle.std.specs.Prelude.{slice_get, unwrap_or}
 use Rattle.jr_ast.specs.Tree as tree
 use Rattle.jr_ast.specs.StatementTree as statement
@@ -23,9 +23,12 @@ in_front [] ys n x e = absurd (not_there x e)
 in_front (z ∷ xs) ys zero x e = e
 in_front (z ∷ xs) ys (suc n) x e = in_front xs ys n x e
 
+further : (k n : ℕ) → suc k + n ≡ suc (k + n)
+further k n = omega arith
+
 behind : {X : Type 0} (xs ys : List X) (n : ℕ) → slice_get (xs ++ ys) (length xs + n) ≡ slice_get ys n
 behind [] ys n = ap (slice_get ys) (omega arith)
-behind (z ∷ xs) ys n = behind xs ys n
+behind (z ∷ xs) ys n = ap (slice_get (z ∷ (xs ++ ys))) (further (length xs) n) ∙ behind xs ys n
 
 -- ---- statements
 
@@ -75,13 +78,11 @@ module _ {A : Type 0} (begins ends : A → ℕ → ℕ) where
       stmt_at : (n : ℕ) (s : statement.Stmt A) (base : ℕ) (p : List ℕ) → NumbersStmt begins ends F.number n s base p → StmtDeclares F k x (spot_stmt begins ends s base p) → At n (stmt_inits (spot_stmt begins ends s base p))
       stmt_at n (statement.local m f t w e) base p numbers h = let number = sym h.0 ∙ numbers in record { index = 0; number = omega (arith, number); there = ap Some (sym h.1) }
       stmt_at n (statement.eval m e) base p numbers h = absurd h
-      stmt_at n (statement.branch m c s other) base p numbers h = by h
-        where
-          by : (StmtDeclares F k x (spot_stmt begins ends s (begins m base) (onto p 1)) ⊎ ElseDeclares F k x (spot_else begins ends other (begins m base) (onto p 2)))
-              → At n (stmt_inits (spot_stmt begins ends s (begins m base) (onto p 1)) ++ else_inits (spot_else begins ends other (begins m base) (onto p 2)))
-          by (inl q) = first_at n (stmt_inits (spot_stmt begins ends s (begins m base) (onto p 1))) (else_inits (spot_else begins ends other (begins m base) (onto p 2))) (stmt_at n s (begins m base) (onto p 1) numbers.0 q)
-          by (inr q) =
-              second_at n (locals_in s) (stmt_inits (spot_stmt begins ends s (begins m base) (onto p 1))) (else_inits (spot_else begins ends other (begins m base) (onto p 2))) (stmt_count s (begins m base) (onto p 1)) (else_at (n + locals_in s) other (begins m base) (onto p 2) numbers.1 q)
+      stmt_at n (statement.branch m c s other) base p numbers h =
+          let at = begins m base in
+          let xs = stmt_inits (spot_stmt begins ends s at (onto p 1)) in
+          let ys = else_inits (spot_else begins ends other at (onto p 2)) in
+          ⊎_elim (λ q. first_at n xs ys (stmt_at n s at (onto p 1) numbers.0 q)) (λ q. second_at n (locals_in s) xs ys (stmt_count s at (onto p 1)) (else_at (n + locals_in s) other at (onto p 2) numbers.1 q)) h
       stmt_at n (statement.loop m c s) base p numbers h = stmt_at n s (begins m base) (onto p 1) numbers h
       stmt_at n (statement.«return» m v) base p numbers h = absurd h
       stmt_at n (statement.block m body) base p numbers h = stmts_at n body (begins m base) p 0 numbers h
@@ -106,11 +107,14 @@ module _ {A : Type 0} where
   nones (x ∷ xs) es zero lt = refl
   nones (x ∷ xs) es (suc n) lt = nones xs es n (omega arith)
 
-  somes : {X : Type 0} (xs : List X) (es : List (tree.Exp A)) (n : ℕ) (e : tree.Exp A) → slice_get es n ≡ Some e → slice_get (map (λ p. None) xs ++ map (λ e. Some e) es) (length xs + n) ≡ Some (Some e)
-  somes [] [] n e h = absurd (not_there e h)
-  somes [] (z ∷ es) zero e h = ap Some h
-  somes [] (z ∷ es) (suc n) e h = somes [] es n e h
-  somes (x ∷ xs) es n e h = somes xs es n e h
+  mapped : (es : List (tree.Exp A)) (n : ℕ) (e : tree.Exp A) → slice_get es n ≡ Some e → slice_get (map (λ x. Some x) es) n ≡ Some (Some e)
+  mapped [] n e h = absurd (not_there e h)
+  mapped (z ∷ es) zero e h = ap Some h
+  mapped (z ∷ es) (suc n) e h = mapped es n e h
+
+  somes : {X : Type 0} (xs : List X) (es : List (tree.Exp A)) (n : ℕ) (e : tree.Exp A) → slice_get es n ≡ Some e → slice_get (map (λ p. None) xs ++ map (λ x. Some x) es) (length xs + n) ≡ Some (Some e)
+  somes [] es n e h = ap (slice_get (map (λ x. Some x) es)) (omega arith) ∙ mapped es n e h
+  somes (x ∷ xs) es n e h = ap (slice_get (None ∷ (map (λ p. None) xs ++ map (λ y. Some y) es))) (further (length xs) n) ∙ somes xs es n e h
 
   pub of_parameter : (params : List (declared.Param A)) (body : statement.Stmts A) (n : ℕ) → n < length params → init_of (body_inits params body) n ≡ None
   of_parameter params body n lt = ap (λ o. unwrap_or o None) (nones params (stmts_inits body) n lt)

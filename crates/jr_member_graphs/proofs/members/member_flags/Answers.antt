@@ -26,8 +26,8 @@ method_flags-requires g c =
     let whole : member_of c.args.member.now ≡ declared.method m (map modifier_of c.in-Method.modifiers.items) (option_map type_of c.in-Method.ret) (word_of c.in-Method.name) (map param_of c.in-Method.params.items) (stmts_of c.in-Method.body.items) = ap (member_kind m) c.in-Method.is in
     let f = subst (λ (x : declared.Member g.row.A.Denot). FitsSites T F base x) whole c.requires.fits in
     record {
-      fits = subst (λ (n : ℕ). FitsStmts (begins_by T) F n (stmts_of c.deref-in-Method.result.now)) (sym start)
-          (subst (λ (xs : List (Stmt g.row.A.Denot)). FitsStmts (begins_by T) F (begins_by T m base) (stmts_of xs)) (sym c.deref-in-Method.ensures.value) f.2);
+      fits = subst (λ (n : ℕ). FitsStmts (begins_by T) F n (stmts_of c.deref.result.now)) (sym start)
+          (subst (λ (xs : List (Stmt g.row.A.Denot)). FitsStmts (begins_by T) F (begins_by T m base) (stmts_of xs)) (sym c.deref.ensures.value) f.2);
     }
 
 pub constructor_flags-requires : goal.constructor_flags-requires
@@ -84,7 +84,7 @@ returns-in-Method g c =
     let first = suc (length mods + result_count (begins_by T) (ends_by T) t) + length ps in
     let n = c.len.result in
     let count : n ≡ length ps = c.len.ensures ∙ c.in-Method.params.ok.0 ∙ sym (length-map c.in-Method.params.items param_of) in
-    let all = ap (λ (xs : List (Stmt g.row.A.Denot)). kind.of_body T G base m at start (λ k. (stmts_notes T (meaning_at G) k (stmts_of xs)).writes) n first at (stmts_of xs)) c.deref-in-Method.ensures.value
+    let all = ap (λ (xs : List (Stmt g.row.A.Denot)). kind.of_body T G base m at start (λ k. (stmts_notes T (meaning_at G) k (stmts_of xs)).writes) n first at (stmts_of xs)) c.deref.ensures.value
     ∙ kind.method_flags T G base m at start mods t (word_of c.in-Method.name) ps body n count ∙ sym (ap (flags_of T G base) whole) in
     subst (λ (l : List Bool). IfOk c.method_flags.result (λ v. v.items ≡ l)) all (c.method_flags.ensures [] first)
 

@@ -31,4 +31,4 @@ returns g c =
     let start : c.span.result.from ≡ begins_by T (member_mark m) base = ap (λ (z : Span). z.from) c.span.ensures ∙ ap (λ (x : g.row.A.Denot). begins_by T x base) (sym (member_mark_is c.args.member.now)) in
     let none : c.deref.result.now ≡ [] = c.deref.ensures.value ∙ c.new-none.ensures.items in
     let same : G ≡ K = (λ i. record { rows = c.args.table.now; member = c.member.ensures i; start = start i; decls = g.F.Facts.decls facts; types = g.F.Facts.types facts; never_null = none i }) in
-    subst (λ (x : Given). IfOk c.member_flags.result (λ v. v.items ≡ flags_of T x base m)) same c.member_flags.ensures
+    record { exact = subst (λ (x : Given). IfOk c.member_flags.result (λ v. v.items ≡ flags_of T x base m)) same c.member_flags.ensures }
