@@ -76,7 +76,7 @@ module _ {A : Type 0} (begins ends : A → ℕ → ℕ) where
       unfolding spot_stmt spot_else spot_stmts stmt_inits else_inits stmts_inits NumbersStmt NumbersElse NumbersStmts
 
       stmt_at : (n : ℕ) (s : statement.Stmt A) (base : ℕ) (p : List ℕ) → NumbersStmt begins ends F.number n s base p → StmtDeclares F k x (spot_stmt begins ends s base p) → At n (stmt_inits (spot_stmt begins ends s base p))
-      stmt_at n (statement.local m f t w e) base p numbers h = let number = sym h.0 ∙ numbers in record { index = 0; number = omega (arith, number); there = ap Some (sym h.1) }
+      stmt_at n (statement.local m f t w e) base p numbers h = let number = sym h.0 ∙ numbers in record { index = 0; number = omega (arith, number); there = ap Some h.1 }
       stmt_at n (statement.eval m e) base p numbers h = absurd h
       stmt_at n (statement.branch m c s other) base p numbers h =
           let at = begins m base in
