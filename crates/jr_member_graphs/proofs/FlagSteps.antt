@@ -1,11 +1,10 @@
 -- Flags that are made one by one, and rows of marks.
-use Rattle.std.proofs.Common.{◌≡◌, ◌⊎◌, ◌≢◌, ℕ, zero, suc, ◌+◌, ◌<◌, ◌≤◌, nat_eq, Bool, true, false, not, ◌||◌, List, [], ◌∷◌, ◌++◌, map, length, get_or, take, Option, Some, None, refl, sym, ap, subst, ◌∙◌, inl, inr, append_assoc, length-append, arith}
+use Rattle.std.proofs.Common.{◌≡◌, ◌⊎◌, ℕ, zero, suc, ◌+◌, ◌<◌, ◌≤◌, nat_eq, Bool, true, false, not, ◌||◌, List, [], ◌∷◌, ◌++◌, map, length, get_or, take, Option, Some, None, refl, sym, ap, subst, ◌∙◌, inl, inr, append_assoc, length-append, arith}
 use Rattle.std.specs.Prelude.{◌&&◌, slice_get, unwrap_or}
 use Rattle.std.proofs.Math.ListN.{set, replicate}
-use Rattle.std.proofs.lemmas.Bool.{cases_eq, cases_lt, eq-eqb, ne_eqb}
+use Rattle.std.proofs.lemmas.Bool.{cases_eq, eq-eqb, ne_eqb}
 use Rattle.std.proofs.lemmas.List.{append-nil, map-append, length-replicate, length-set}
 use Rattle.std.proofs.lemmas.List.Folds.{list_any-append}
-use Rattle.std.proofs.lemmas.Option.{slice_get_past}
 use Rattle.jr_index.proofs.Setting.{set_at, set_there}
 use Rattle.jr_text.specs.declared.spans.Span.{Span}
 use Rattle.jr_ast.specs.Tree as tree
@@ -17,7 +16,7 @@ use Rattle.jr_cover.specs.Spots.{Spot, onto, spot_stmt, spot_else, spot_stmts}
 use Rattle.jr_never_null.specs.Flags.{is_safe, next_flag, flags_behind}
 use Rattle.jr_expr_sites.specs.Meanings.{Meaning}
 use Rattle.jr_expr_sites.specs.Routes.{begins_by, ends_by}
-use Rattle.jr_member_graphs.specs.FlagRows.{is_among, marked, MarksMore, MarksLocals, listed, nones, behind_nones, IsSpotted, AreSpotted, AllFit}
+use Rattle.jr_member_graphs.specs.FlagRows.{is_among, marked, MarksMore, MarksLocals, nones, behind_nones, IsSpotted, AreSpotted, AllFit}
 use Rattle.jr_member_graphs.specs.MemberLocals.{stmt_inits, else_inits, stmts_inits}
 use Rattle.jr_member_graphs.specs.Notes.{Begin, stmt_notes, else_notes, stmts_notes}
 

@@ -1,6 +1,6 @@
 -- What is gathered, put together: each kind of statement from its parts, where a place is shown as it
 -- is; lists of statements one by one.
-use Rattle.std.proofs.Common.{◌≡◌, ℕ, zero, suc, ◌+◌, ◌*◌, ◌<◌, ◌≤◌, Bool, List, [], ◌∷◌, ◌++◌, map, length, get_or, drop, Option, Some, None, refl, sym, ap, subst, ◌∙◌, append_assoc, arith}
+use Rattle.std.proofs.Common.{◌≡◌, ℕ, zero, suc, ◌+◌, ◌*◌, ◌<◌, ◌≤◌, Bool, List, [], ◌∷◌, ◌++◌, map, length, get_or, drop, Option, refl, sym, ap, subst, ◌∙◌, append_assoc, arith}
 use Rattle.std.proofs.lemmas.List.{append-nil, map-append, drop_all}
 use Rattle.jr_text.specs.declared.spans.Span.{Span}
 use Rattle.jr_ast.specs.Tree as tree
@@ -15,16 +15,16 @@ use Rattle.jr_bind_expr.specs.Fits.{FitsExp, FitsMaybe, FitsStmt, FitsElse, Fits
 use Rattle.jr_bind_expr.proofs.Steps.{left_is}
 use Rattle.jr_code.specs.RunKeys.{RunKeys}
 use Rattle.jr_cover.specs.Sites.{Site}
-use Rattle.jr_cover.specs.Ways.{Way, sites_of}
+use Rattle.jr_cover.specs.Ways.{Way}
 use Rattle.jr_expr_sites.specs.KnownFacts.{Given, meaning_at}
 use Rattle.jr_expr_sites.specs.Meanings.{Meaning}
-use Rattle.jr_expr_sites.specs.Routes.{Steps, Walked, Route, begins_by, exp, exps}
+use Rattle.jr_expr_sites.specs.Routes.{Steps, Walked, begins_by, exp, exps}
 use Rattle.jr_expr_sites.specs.Steps.{sites_in, steps_of}
 use Rattle.jr_expr_sites.specs.StepView.{steps_in}
 use Rattle.jr_cfg.specs.StatementRoutes.{IsLast, IsLastOf}
 use Rattle.jr_cfg.proofs.StepLaws.{sites_append, sites_of_steps}
 use Rattle.jr_member_graphs.specs.Gathering.{Leaves, HeadGathered, BranchGathered}
-use Rattle.jr_member_graphs.specs.Notes.{Begin, Notes, none, wrote, both, exp_locals, exps_locals, maybe_locals, stmt_notes, else_notes, stmts_notes}
+use Rattle.jr_member_graphs.specs.Notes.{Notes, none, wrote, both, exp_locals, exps_locals, maybe_locals, stmt_notes, else_notes, stmts_notes}
 use Rattle.jr_member_graphs.specs.NotesView.{written, noted, begin_of, notes_in}
 use Rattle.jr_member_graphs.specs.OwnFlags.{no_others}
 use Rattle.jr_member_graphs.specs.declared.gather.Begin as raw

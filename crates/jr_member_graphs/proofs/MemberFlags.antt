@@ -8,7 +8,7 @@ use Rattle.jr_code.specs.RunKeys.{RunKeys}
 use Rattle.jr_ast.specs.Marks.{member_mark}
 use Rattle.jr_cfg.specs.MemberRoutes.{FitsSites}
 use Rattle.jr_cover.specs.Facts.{Facts}
-use Rattle.jr_cover.specs.Spots.{Spot, onto, spot_param, spot_params, spot_stmts, spot_member, spot_class, spot_members, result_count, args_count}
+use Rattle.jr_cover.specs.Spots.{Spot, spot_params, spot_stmts, spot_member, spot_class, spot_members, result_count, args_count}
 use Rattle.jr_never_null.specs.Flags.{flags_behind}
 use Rattle.jr_expr_sites.specs.KnownFacts.{Given, known_of, meaning_at}
 use Rattle.jr_expr_sites.specs.Meanings.{Meaning}

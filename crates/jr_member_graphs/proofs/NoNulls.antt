@@ -1,5 +1,5 @@
 -- What is never null in a member comes to no null in its runs.
-use Rattle.std.proofs.Common.{◌≡◌, ◌⊎◌, ℕ, suc, ◌+◌, ◌<◌, Bool, true, List, [], length, Option, Some, None, refl, sym, subst, ◌∙◌, inl, inr, arith}
+use Rattle.std.proofs.Common.{◌≡◌, ◌⊎◌, ℕ, suc, ◌+◌, ◌<◌, Bool, true, List, [], length, Option, Some, None, subst, inl, inr}
 use Rattle.jr_text.specs.declared.spans.Span.{Span}
 use Rattle.jr_ast.specs.Tree as tree
 use Rattle.jr_ast.specs.StatementTree as statement
@@ -15,8 +15,8 @@ use Rattle.jr_never_null.specs.Flags.{init_of}
 use Rattle.jr_expr_sites.specs.KnownFacts.{Given, Others, known_of}
 use Rattle.jr_expr_sites.specs.Routes.{begins_by, ends_by}
 use Rattle.jr_cfg.specs.MemberRoutes.{NumbersMember}
-use Rattle.jr_member_graphs.specs.MemberLocals.{body_inits, inits, NeverNullIn}
-use Rattle.jr_member_graphs.specs.NeverNullRuns.{Run, IsRunOf, AllBound, NoNullInRuns}
+use Rattle.jr_member_graphs.specs.MemberLocals.{body_inits, NeverNullIn}
+use Rattle.jr_member_graphs.specs.NeverNullRuns.{Run, AllBound, NoNullInRuns}
 use Rattle.jr_member_graphs.specs.OwnFlags.{spotted}
 use Rattle.jr_member_graphs.proofs.NumberedLocals.{of_parameter, of_local, params_length}
 

@@ -1,6 +1,6 @@
 -- The flags of a member's own locals tell exactly what is never null in it.
-use Rattle.std.proofs.Common.{◌≡◌, ℕ, Bool, true, false, List, [], Option, Some, refl, sym, ap, subst, ◌∙◌}
-use Rattle.std.specs.Prelude.{◌↔◌, ◌<◌, IsTrue}
+use Rattle.std.proofs.Common.{◌≡◌, ℕ, Bool, true, false, List, [], Option, refl, sym, subst, ◌∙◌}
+use Rattle.std.specs.Prelude.{◌↔◌, IsTrue}
 use Rattle.std.proofs.lemmas.Bool.{false≢true, false_from_ne_true}
 use Rattle.jr_text.specs.declared.spans.Span.{Span}
 use Rattle.jr_ast.specs.Tree as tree
@@ -10,10 +10,10 @@ use Rattle.jr_table.specs.Keys.{Ty}
 use Rattle.jr_table.specs.Decls.{MemberKey, Decl}
 use Rattle.jr_table.specs.Rows.{Row}
 use Rattle.jr_code.specs.RunKeys.{RunKeys}
-use Rattle.jr_cover.specs.Facts.{Facts, Variable, is_local}
+use Rattle.jr_cover.specs.Facts.{Facts}
 use Rattle.jr_cover.specs.NeverNullTrees.{NamesLocal, NeverNull, this, create, string, class_literal, paren, local}
 use Rattle.jr_cover.specs.Spots.{Spot}
-use Rattle.jr_never_null.specs.Flags.{is_safe, flags_behind, init_of}
+use Rattle.jr_never_null.specs.Flags.{is_safe, init_of}
 use Rattle.jr_never_null.proofs.Flagging.{flags_tell}
 use Rattle.jr_expr_sites.specs.KnownFacts.{Given, Others, known_of, is_never_null, meaning_at}
 use Rattle.jr_cfg.specs.MemberRoutes.{known}

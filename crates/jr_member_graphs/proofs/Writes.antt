@@ -8,7 +8,6 @@ use Rattle.jr_ast.specs.declared.operators.BinOp.TheVariants as op
 use Rattle.jr_ast.specs.Tree as tree
 use Rattle.jr_runs.specs.Keys.{Keys}
 use Rattle.jr_table.specs.Rows.{Row}
-use Rattle.jr_table.specs.Keys.{FieldKey}
 use Rattle.jr_code.specs.RunKeys.{RunKeys, Place}
 use Rattle.jr_cover.specs.Facts.{Variable, is_local, is_static_field, is_instance_field}
 use Rattle.jr_cover.specs.Ways.{Way, pass, row, fork, sites_of}

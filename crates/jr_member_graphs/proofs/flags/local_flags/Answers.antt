@@ -1,4 +1,4 @@
-use Rattle.std.proofs.Common.{◌≡◌, ◌+◌, ℕ, List, [], map, length, take, ap, sym, subst, ◌∙◌, add-one, arith}
+use Rattle.std.proofs.Common.{◌≡◌, ◌+◌, ℕ, List, [], map, take, ap, ◌∙◌, add-one, arith}
 use Rattle.std.proofs.lemmas.List.{take_all, length-map}
 use Rattle.jr_ast.specs.Tree as tree
 use Rattle.jr_cover.specs.Spots.{Spot}

@@ -1,4 +1,4 @@
-use Rattle.std.proofs.Common.{◌≡◌, Bool, Some, not, ap, sym, ◌∙◌}
+use Rattle.std.proofs.Common.{Bool, not, ap, sym, ◌∙◌}
 use Rattle.std.specs.Prelude.{◌&&◌}
 use Rattle.jr_ast.specs.Tree as tree
 use Rattle.jr_cover.specs.Spots.{Spot}

@@ -1,4 +1,4 @@
-use Rattle.std.proofs.Common.{◌≡◌, List, ◌∷◌, [], ◌++◌, take, ap, subst, ◌∙◌}
+use Rattle.std.proofs.Common.{List, ◌∷◌, [], ◌++◌, take, ap, subst, ◌∙◌}
 use Rattle.std.proofs.lemmas.List.{take_all}
 use Rattle.jr_expr_sites.specs.declared.step.Step as raw_step
 use Rattle.jr_expr_sites.specs.Steps.{sites_in}

@@ -1,4 +1,4 @@
-use Rattle.std.proofs.Common.{◌≡◌, ◌+◌, ◌*◌, ◌≤◌}
+use Rattle.std.proofs.Common.{◌+◌, ◌*◌, ◌≤◌}
 use Rattle.jr_ast.specs.View.{stmt_of, stmts_of, else_of}
 use Rattle.jr_ast.proofs.Sizes.{stmt_size, stmts_size, else_size}
 use Rattle.jr_expr_sites.specs.KnownFacts.{meaning_at}

@@ -1,4 +1,4 @@
-use Rattle.std.proofs.Common.{◌≡◌, Option, ◌++◌, sym, ap, subst, ◌∙◌}
+use Rattle.std.proofs.Common.{Option, ◌++◌, sym, ap, subst, ◌∙◌}
 use Rattle.std.specs.Prelude.{option_map}
 use Rattle.std.proofs.lemmas.List.{append-nil}
 use Rattle.jr_ast.specs.declared.exprs.Expr.{Expr}

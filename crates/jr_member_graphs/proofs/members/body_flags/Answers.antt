@@ -1,16 +1,14 @@
-use Rattle.std.proofs.Common.{◌≡◌, ◌<◌, ◌+◌, ℕ, Bool, List, [], ◌++◌, map, length, ap, sym, subst, ◌∙◌}
+use Rattle.std.proofs.Common.{◌≡◌, ◌<◌, ◌+◌, ℕ, Bool, List, ◌++◌, map, length, ap, sym, subst, ◌∙◌}
 use Rattle.std.specs.Prelude.{IfOk}
 use Rattle.std.proofs.lemmas.List.{length-map}
-use Rattle.jr_ast.specs.Tree as tree
 use Rattle.jr_ast.specs.View.{stmts_of}
-use Rattle.jr_cover.specs.Spots.{Spot, spot_stmts}
-use Rattle.jr_never_null.specs.Flags.{flags_behind}
+use Rattle.jr_cover.specs.Spots.{spot_stmts}
 use Rattle.jr_expr_sites.specs.declared.step.Step as raw_step
 use Rattle.jr_expr_sites.specs.KnownFacts.{known_of, meaning_at}
 use Rattle.jr_expr_sites.specs.Routes.{begins_by, ends_by}
 use Rattle.jr_expr_sites.specs.StepView.{given}
 use Rattle.jr_member_graphs.specs.declared.gather.Begin as raw
-use Rattle.jr_member_graphs.specs.FlagRows.{is_among, marked, behind_nones, AreSpotted, AllFit, MarksLocals}
+use Rattle.jr_member_graphs.specs.FlagRows.{is_among, marked, behind_nones, AreSpotted, AllFit}
 use Rattle.jr_member_graphs.specs.MemberLocals.{stmts_inits}
 use Rattle.jr_member_graphs.specs.Notes.{Begin, Notes, stmts_notes}
 use Rattle.jr_member_graphs.specs.NotesView.{begin_of, noted}

@@ -1,12 +1,11 @@
-use Rattle.std.proofs.Common.{◌≡◌, Bool, List, [], ap, sym, subst, ◌∙◌}
+use Rattle.std.proofs.Common.{◌≡◌, [], ap, sym, subst, ◌∙◌}
 use Rattle.std.specs.Prelude.{IfOk}
 use Rattle.jr_text.specs.declared.spans.Span.{Span}
 use Rattle.jr_ast.specs.View.{member_of}
 use Rattle.jr_ast.specs.Marks.{member_mark}
 use Rattle.jr_ast.proofs.Rows.{member_mark_is}
 use Rattle.jr_table.specs.KeyView.{member_key_of}
-use Rattle.jr_cfg.specs.MemberRoutes.{known, FitsSites}
-use Rattle.jr_ast.specs.MemberTree as declared
+use Rattle.jr_cfg.specs.MemberRoutes.{known}
 use Rattle.jr_expr_sites.specs.KnownFacts.{Given}
 use Rattle.jr_expr_sites.specs.Routes.{begins_by}
 use Rattle.jr_member_graphs.specs.OwnFlags.{flags_of}
