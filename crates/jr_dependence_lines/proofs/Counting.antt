@@ -10,7 +10,7 @@ use Rattle.jr_dependence_lines.specs.Tallies.{Tallies, Puts}
 pub puts_one : (old new : Tally) (text : List ℕ) → new.most ≡ old.most → new.len ≡ old.len + length text → (new.len ≤ old.most → new.lines.items ≡ old.lines.items ++ text ∷ []) → Puts old new (text ∷ [])
 puts_one old new text most len kept before limit there h = record {
   most_is = most ∙ h.most_is;
-  counted = len ∙ ap (λ n. n + length text) h.counted ∙ sum ;
+  counted = len ∙ ap (λ n. n + length text) h.counted ∙ sum;
   kept = λ le.
       let few : new.len ≤ old.most = subst (λ n. new.len ≤ n) (sym h.most_is) le in
       let less : old.len ≤ limit = let is = len in omega (arith, is, le) in
