@@ -73,6 +73,7 @@ pub(crate) fn shown_member(alloc: Global, element: &Value, name: &str) -> Result
 {
     match str_at(element, name) {
         Some(what) if what == "bindings" => Ok(What::Bindings),
+        Some(what) if what == "dependences" => Ok(What::Dependences),
         _ => Err(member_fault(alloc, name)),
     }
 }
