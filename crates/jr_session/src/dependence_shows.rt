@@ -46,8 +46,6 @@ fn analysed_dependences(
     one_answer();
     members_are_written::<Span>();
     analysis.table.keeps_rows();
-    // The items of the file.
-    let _tokens = &readings.tokens[number as usize];
     let written = written_members(alloc, &analysis.table, readings.units.as_slice())?;
     let bounds = analysis.members.as_slice();
     let shown = dependence_lines(
