@@ -6,7 +6,7 @@ use Rattle.jr_ast.specs.Tree as tree
 use Rattle.jr_ast.specs.MemberTree as syntax
 use Rattle.jr_table.specs.Errors.{member_part}
 use Rattle.jr_bind.specs.Bounds.{FitsWhole}
-use Rattle.jr_bind.specs.PartFits.{FitsMaybeArgs}
+use Rattle.jr_bind_parts.specs.PartFits.{FitsMaybeArgs}
 use Rattle.jr_cfg.specs.MemberRoutes.{FitsSites, FitsArgs}
 use Rattle.jr_program_laws.specs.FileParts.{begins}
 use Rattle.jr_dependence_lines.specs.MemberLines.{tells}
