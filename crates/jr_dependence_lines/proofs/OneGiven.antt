@@ -15,11 +15,11 @@ use Rattle.jr_cover.specs.Sites.{Site}
 use Rattle.jr_cover.specs.Ways.{Way}
 use Rattle.jr_expr_sites.specs.KnownFacts.{Given}
 use Rattle.jr_cfg.specs.MemberRoutes as routes
-use Rattle.jr_cfg.proofs.NumberAt.{has_key, has_others}
 use Rattle.jr_member_graphs.specs.OwnFlags.{own}
 use Rattle.jr_program_laws.specs.FileParts.{begins}
 use Rattle.jr_program.proofs.Binding.{with_super}
 use Rattle.jr_dependence_lines.specs.MemberLines.{tells, IsKnown, OfWay, Has}
+use Rattle.jr_dependence_lines.proofs.Numbered.{has_key, has_others}
 
 -- two that are Some of the same are one
 same_options : {X : Type 0} (a b : Option X) → ((x : X) → (a ≡ Some x) ↔ (b ≡ Some x)) → a ≡ b

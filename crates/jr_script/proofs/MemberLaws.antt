@@ -48,8 +48,12 @@ no_text d name e h =
 pub no_offset : (d : Data) (name : List ℕ) → ((n : ℕ) → n ≤ 4294967295 → option_and_then as_u64 (option_and_then as_number (get name d)) ≢ Some n) → ¬ HasColumn d (column name offset)
 no_offset d name none h = none h.2.0 h.2.1 (ap (λ o. option_and_then as_u64 (option_and_then as_number o)) (h.1 ∙ ap Some h.2.2))
 
-pub not_shown : (d : Data) (name : List ℕ) → option_and_then as_str (get name d) ≢ Some (codes "bindings") → ¬ HasColumn d (column name shown)
-not_shown d name other h = other (ap (option_and_then as_str) (h.1 ∙ ap Some h.2))
+pub not_shown : (d : Data) (name : List ℕ) → option_and_then as_str (get name d) ≢ Some (codes "bindings") → option_and_then as_str (get name d) ≢ Some (codes "dependences") → ¬ HasColumn d (column name shown)
+not_shown d name no_bindings no_dependences h = by h.2
+  where
+    by : ((h.0 ≡ string (codes "bindings")) ⊎ (h.0 ≡ string (codes "dependences"))) → ⊥
+    by (inl is) = no_bindings (ap (option_and_then as_str) (h.1 ∙ ap Some is))
+    by (inr is) = no_dependences (ap (option_and_then as_str) (h.1 ∙ ap Some is))
 
 -- ---- the names of an object
 
