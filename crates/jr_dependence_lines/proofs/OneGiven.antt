@@ -5,7 +5,7 @@ use Rattle.jr_text.specs.declared.spans.Span.{Span}
 use Rattle.jr_lex.specs.declared.items.Item.{Item}
 use Rattle.jr_ast.specs.MemberTree.{Member}
 use Rattle.jr_ast.specs.Marks.{member_mark}
-use Rattle.jr_table.specs.Keys.{Ty}
+use Rattle.jr_table.specs.Keys.{FieldKey, Ty}
 use Rattle.jr_table.specs.Decls.{MemberKey, Decl}
 use Rattle.jr_table.specs.Rows.{Row}
 use Rattle.jr_table.specs.Errors.{member_part, Binds}
@@ -41,13 +41,13 @@ module _ (rows : List Row) (items : List Item) (key : MemberKey) (base : ℕ) (x
 
   -- the way of a member: with some numbers for its locals
   module _ (a : ℕ) (g : Given) (k : IsKnown rows items key base x a g) where
-    key_is : g.member ≡ key
+    pub key_is : g.member ≡ key
     key_is = ap (λ (h : Given). h.member) k.is
 
-    some_key : (f : routes.FieldKey) × routes.IsKeyOf g.member f x
+    pub some_key : (f : FieldKey) × routes.IsKeyOf g.member f x
     some_key = has_key g.member x (subst (λ (m : MemberKey). routes.HasKey m x) (sym key_is) k.is_key)
 
-    some_way : Way (Site RunKeys)
+    abbrev pub some_way : Way (Site RunKeys)
     some_way = routes.member tells a base some_key.0 x g (has_others tells base x).0
 
     pub its_way : (P : Way (Site RunKeys) → Type 0) → OfWay rows items key base x a g P → P some_way

@@ -1,5 +1,5 @@
 -- The dependences of a graph are those of the way whose graph it is, and so are their lines.
-use Rattle.std.proofs.Common.{◌≡◌, ◌+◌, ℕ, List, [], ◌∷◌, ◌++◌, length, get_or, map, Option, Some, None, refl, sym, ap, subst, ◌∙◌, arith}
+use Rattle.std.proofs.Common.{◌≡◌, ◌+◌, ℕ, suc, List, [], ◌∷◌, ◌++◌, length, get_or, map, Option, Some, None, refl, sym, ap, subst, ◌∙◌, arith}
 use Rattle.std.specs.Prelude.{◌↔◌, slice_get, option_map, codes, decimal, Contains}
 use Rattle.std.specs.List.{AllZip}
 use Rattle.std.proofs.lemmas.Option.{slice_get-map, get_or_from_slice_get}
@@ -82,7 +82,7 @@ module _ (of : SiteGraph) where
       λ i. first i ∷ rest i
     where
       later : (e : Dependence) → Contains ds e → Contains (d ∷ ds) e
-      later e (k, lt, is) = (k + 1, omega (arith, lt), is)
+      later e (k, lt, is) = (suc k, omega (arith, lt), is)
 
 -- ---- the way
 
@@ -112,7 +112,7 @@ module _ (g : Given) (w : Way (Site RunKeys)) (of : SiteGraph) (is : IsGraph g w
   each_is start (d ∷ ds) begin holds = (line_is start d begin (holds d (0, omega arith, refl)), each_is start ds begin (λ e at. holds e (later e at)))
     where
       later : (e : Dependence) → Contains ds e → Contains (d ∷ ds) e
-      later e (k, lt, is) = (k + 1, omega (arith, lt), is)
+      later e (k, lt, is) = (suc k, omega (arith, lt), is)
 
   pub graph_lines : (start : ℕ) (list : List Dependence) → start ≡ g.start → AreAll of list → AreWayLines g w (map (line_of g.member start of.sites.items) list)
   graph_lines start list begin all = record {
