@@ -13,7 +13,7 @@ loop-dependence-preserved c =
     let head = c.args.texts.now.head.now in
     let places = c.args.texts.now.places.now in
     puts_as c.args.tally.now c.put_line.new.tally _ _
-    (ap (λ (d : Dependence). _ ++ told head places d ∷ []) c.dependence-item.is ∙ sym (map_more (told head places) c.args.list.now c.loop-dependence.dependence-index c.dependence-item.result c.loop-dependence-test.true))
+    (sym (map_more (told head places) c.args.list.now c.loop-dependence.dependence-index _ c.loop-dependence-test.true))
     (puts_then c.args.tally.now c.loop-dependence.tally c.put_line.new.tally _ _ c.loop-dependence.invariant c.in_ok-put_line.ensures)
 
 pub returns : goal.returns
