@@ -65,7 +65,7 @@ fn assert_rows(rt: &impl Abort, alloc: Global, rows: &str, count: u32) {
 fn rows_are_answered(rt: HostRuntime) {
     let alloc = rt.alloc();
     assert_rows(&rt, alloc, words::ROWS, 58);
-    assert_rows(&rt, alloc, scripts::ROWS, 44);
+    assert_rows(&rt, alloc, scripts::ROWS, 45);
     assert_rows(&rt, alloc, shows::ROWS, 37);
     assert_rows(&rt, alloc, rules::ROWS, 155);
     assert_rows(&rt, alloc, runs::SCRIPTS, 11);

@@ -1,0 +1,152 @@
+-- Lines of a member, and of members one behind the other.
+use Rattle.std.proofs.Common.{◌≡◌, ◌<◌, ◌≤◌, ◌+◌, ℕ, zero, suc, List, [], ◌∷◌, ◌++◌, length, get_or, map, take, drop, Option, Some, None, Bool, true, false, refl, sym, ap, subst, ◌∙◌, append_assoc, arith, eq-eqb}
+use Rattle.std.specs.Prelude.{slice_get, filter, ◌==◌, Result, Ok, Err, if◌then◌else◌}
+use Rattle.std.specs.List.{AllZip}
+use Rattle.std.proofs.lemmas.Bool.{cond-true, cond-false}
+use Rattle.std.proofs.lemmas.List.{take_more, take-append-drop, drop_more, append-nil, map-append}
+use Rattle.std.proofs.lemmas.List.Elements.{filter-append}
+use Rattle.std.proofs.lemmas.Option.{same_Some}
+use Rattle.jr_text.specs.declared.spans.Span.{Span}
+use Rattle.jr_lex.specs.declared.items.Item.{Item}
+use Rattle.jr_ast.specs.MemberTree.{Member}
+use Rattle.jr_ast.specs.Marks.{member_mark}
+use Rattle.jr_table.specs.Decls.{MemberKey}
+use Rattle.jr_table.specs.Rows.{Row}
+use Rattle.jr_table.specs.Errors.{Part, class_part, member_part, part_mark}
+use Rattle.jr_names.specs.DeclTexts.{member_text}
+use Rattle.jr_bind.specs.Bounds.{IsBound, decl_in}
+use Rattle.jr_expr_types.specs.Slots.{find_type}
+use Rattle.jr_expr_sites.specs.KnownFacts.{Given}
+use Rattle.jr_cfg.specs.declared.faults.CfgFault.{CfgFault}
+use Rattle.jr_cfg.specs.declared.faults.CfgFault.TheVariants as fault
+use Rattle.jr_cfg.specs.Graphs.{IsGraphOfMember}
+use Rattle.jr_cfg.specs.MemberRoutes.{HasKey}
+use Rattle.jr_member_graphs.specs.OwnFlags.{own, TellsNeverNull}
+use Rattle.jr_members.specs.WrittenMembers.{WrittenMember}
+use Rattle.jr_program_laws.specs.FileParts.{begins}
+use Rattle.jr_program.specs.declared.bounds.MemberBound.{MemberBound}
+use Rattle.jr_program.specs.Members.{EachOf, IsSuperPlace, IsEachBound, AreEachBound}
+use Rattle.jr_sites.specs.declared.sites.SiteGraph.{SiteGraph}
+use Rattle.jr_dependences.specs.declared.dependence.Dependence.{Dependence}
+use Rattle.jr_dependence_lines.specs.declared.tallies.Tally.{Tally}
+use Rattle.jr_dependence_lines.specs.Lines.{Line, texts_of}
+use Rattle.jr_dependence_lines.specs.MemberLines.{tells, IsKnown, PartHasLines, PartHasFewSites, HasLines, HasFewSites, HasTooManySites, HaveLines, IsFirstLarge, in_file, CanShow, CanShowPart}
+use Rattle.jr_dependence_lines.specs.Tallies.{Puts, PutsGraph, PutsPart, PutsMember, IsBoundMember, place_texts}
+use Rattle.jr_dependence_lines.proofs.Counting.{puts_none, puts_then, puts_as}
+use Rattle.jr_dependence_lines.proofs.OneLines.{lines_few}
+use Rattle.jr_dependence_lines.proofs.WayDependences.{line_of, graph_lines, all_told_is}
+
+-- ---- what binding knows of a member
+
+module _ (rows : List Row) (b : MemberBound) (base : ℕ) (x : Member Span) where
+  abbrev pub own_given : MemberKey → Given
+  own_given key = own tells rows key (decl_in b.bound.references) (find_type b.bound.types) base x
+
+  module _ (items : List Item) (key : MemberKey) (is : IsBoundMember rows items key base x b) where
+    pub known : HasKey key x → TellsNeverNull tells base (own_given key) x → IsKnown rows items key base x b.super_at (own_given key)
+    known has tests = record {
+      is_key = has;
+      place = is.place;
+      decls = decl_in b.bound.references;
+      binds = is.bound.declarations;
+      types = find_type b.bound.types;
+      has = is.bound.types;
+      is = refl;
+      tests = tests;
+    }
+
+    -- the lines of its graph were put
+    pub graph_put : HasKey key x → TellsNeverNull tells base (own_given b.bound.member) x → (graph : SiteGraph) → IsGraphOfMember tells b.super_at base (own_given b.bound.member) x (Ok graph)
+        → (old new : Tally) → PutsGraph (member_text b.bound.member) b.start graph old new → PutsPart rows items key base (member_part x) old new None
+    graph_put has tests graph exact old new put =
+        let same : b.bound.member ≡ key = is.bound.member in
+        let mine : TellsNeverNull tells base (own_given key) x = subst (λ (k : MemberKey). TellsNeverNull tells base (own_given k) x) same tests in
+        let answers : IsGraphOfMember tells b.super_at base (own_given key) x (Ok graph) = subst (λ (k : MemberKey). IsGraphOfMember tells b.super_at base (own_given k) x (Ok graph)) same exact in
+        let list = put.0 in
+        let lines : List Line = map (line_of key b.start graph.sites.items) list in
+        let told = all_told_is graph b.bound.member b.start list (λ d at. (put.1.exact d).0 at) ∙ (λ i. texts_of (map (line_of (same i) b.start graph.sites.items) list)) in (
+          lines,
+          record {
+            super_at = b.super_at;
+            given = own_given key;
+            known = known has mine;
+            holds = λ k o own_key numbers. graph_lines (own_given key) _ graph (answers k o own_key numbers) b.start list is.start put.1;
+          },
+          puts_as old new _ (texts_of lines) told put.2,
+        )
+
+    -- it has too many sites
+    pub sites_told : HasKey key x → TellsNeverNull tells base (own_given b.bound.member) x → (count : ℕ) → IsGraphOfMember tells b.super_at base (own_given b.bound.member) x (Err (fault.TooManySites count))
+        → (old new : Tally) → PutsPart rows items key base (member_part x) old new (Some count)
+    sites_told has tests count exact old new =
+        let same : b.bound.member ≡ key = is.bound.member in
+        record {
+          super_at = b.super_at;
+          given = own_given key;
+          known = known has (subst (λ (k : MemberKey). TellsNeverNull tells base (own_given k) x) same tests);
+          holds = subst (λ (k : MemberKey). IsGraphOfMember tells b.super_at base (own_given k) x (Err (fault.TooManySites count))) same exact;
+        }
+
+-- ---- a written member
+
+pub bound_part : (rows : List Row) (files : List (List Item)) (w : WrittenMember Span) (x : Member Span) → w.part ≡ member_part x → (b : MemberBound) → IsEachBound rows files w b → (items : List Item) → slice_get files w.file ≡ Some items → IsBoundMember rows items w.key w.base x b
+bound_part rows files w x part b is items there =
+    let same : is.items ≡ items = same_Some is.items items (sym is.stands ∙ there) in
+    let place = subst (λ (l : List Item). IsSuperPlace l w.part b.super_at) same is.place in
+    record {
+      place = subst (λ (p : Part Span). IsSuperPlace items p b.super_at) part place;
+      start = is.is.start ∙ ap (λ (p : Part Span). begins (part_mark p) w.base) part;
+      bound = subst (λ (p : Part Span). IsBound begins rows b.super_at w.key w.base p b.bound) part is.is.bound;
+    }
+
+-- ---- several, one behind the other
+
+module _ (rows : List Row) (items : List Item) where
+  pub lines_behind : (ws : List (WrittenMember Span)) (w : WrittenMember Span) (xs ys : List Line) → HaveLines rows items ws xs → HasLines rows items w ys → HaveLines rows items (ws ++ w ∷ []) (xs ++ ys)
+  lines_behind [] w xs ys h own = (ys, [], own, refl, ap (λ l. l ++ ys) h ∙ sym (append-nil ys))
+  lines_behind (v ∷ vs) w xs ys (front, back, its, rest, is) own =
+      (front, back ++ ys, its, lines_behind vs w back ys rest own, ap (λ l. l ++ ys) is ∙ append_assoc front back ys)
+
+  pub all_few : (ws : List (WrittenMember Span)) (xs : List Line) → HaveLines rows items ws xs → EachOf (HasFewSites rows items) ws
+  all_few [] xs h = tt
+  all_few (w ∷ ws) xs (front, back, its, rest, is) = (lines_few rows items w.key w.base w.part front its, all_few ws back rest)
+
+-- ---- those of a file
+
+module _ (file : ℕ) where
+  abbrev IsOf : WrittenMember Span → Bool
+  IsOf w = w.file == file
+
+  one_in : (w : WrittenMember Span) → IsOf w ≡ true → in_file file (w ∷ []) ≡ w ∷ []
+  one_in w is = ap (λ (b : Bool). if b then w ∷ [] else []) is
+
+  one_out : (w : WrittenMember Span) → IsOf w ≡ false → in_file file (w ∷ []) ≡ []
+  one_out w is = ap (λ (b : Bool). if b then w ∷ [] else []) is
+
+  pub more_in : (ws : List (WrittenMember Span)) (n : ℕ) (w : WrittenMember Span) → n < length ws → w ≡ get_or ws n w → IsOf w ≡ true → in_file file (take (n + 1) ws) ≡ in_file file (take n ws) ++ w ∷ []
+  more_in ws n w lt at is =
+      ap (in_file file) (take_more ws n w lt ∙ ap (λ v. take n ws ++ v ∷ []) (sym at)) ∙ filter-append IsOf (take n ws) (w ∷ []) ∙ ap (λ l. in_file file (take n ws) ++ l) (one_in w is)
+
+  pub more_out : (ws : List (WrittenMember Span)) (n : ℕ) (w : WrittenMember Span) → n < length ws → w ≡ get_or ws n w → IsOf w ≡ false → in_file file (take (n + 1) ws) ≡ in_file file (take n ws)
+  more_out ws n w lt at is =
+      ap (in_file file) (take_more ws n w lt ∙ ap (λ v. take n ws ++ v ∷ []) (sym at)) ∙ filter-append IsOf (take n ws) (w ∷ []) ∙ ap (λ l. in_file file (take n ws) ++ l) (one_out w is) ∙ append-nil (in_file file (take n ws))
+
+  pub split_in : (ws : List (WrittenMember Span)) (n : ℕ) (w : WrittenMember Span) → n < length ws → w ≡ get_or ws n w → IsOf w ≡ true → in_file file ws ≡ in_file file (take n ws) ++ w ∷ in_file file (drop (n + 1) ws)
+  split_in ws n w lt at is =
+      let rest : drop n ws ≡ w ∷ drop (n + 1) ws = drop_more ws n w lt ∙ ap (λ v. v ∷ drop (n + 1) ws) (sym at) in
+      ap (in_file file) (sym (take-append-drop n ws) ∙ ap (λ l. take n ws ++ l) rest) ∙ filter-append IsOf (take n ws) (w ∷ drop (n + 1) ws)
+      ∙ ap (λ l. in_file file (take n ws) ++ l) (ap (λ (b : Bool). if b then w ∷ in_file file (drop (n + 1) ws) else in_file file (drop (n + 1) ws)) is)
+
+-- a member and what is bound of it
+pub pair_at : (rows : List Row) (files : List (List Item)) (ws : List (WrittenMember Span)) (bs : List MemberBound) (n : ℕ) (w : WrittenMember Span) (b : MemberBound) → AreEachBound rows files ws bs → n < length bs → w ≡ get_or ws n w → b ≡ get_or bs n b → IsEachBound rows files w b
+pair_at rows files [] [] n w b all lt at there = absurd (omega (arith, lt))
+pair_at rows files [] (c ∷ bs) n w b all lt at there = absurd all
+pair_at rows files (v ∷ ws) [] n w b all lt at there = absurd all
+pair_at rows files (v ∷ ws) (c ∷ bs) zero w b all lt at there = subst (λ z. IsEachBound rows files w z) (sym there) (subst (λ z. IsEachBound rows files z c) (sym at) all.0)
+pair_at rows files (v ∷ ws) (c ∷ bs) (suc n) w b all lt at there = pair_at rows files ws bs n w b all.1 (omega (arith, lt)) at there
+
+pub pair_count : (rows : List Row) (files : List (List Item)) (ws : List (WrittenMember Span)) (bs : List MemberBound) → AreEachBound rows files ws bs → length bs ≡ length ws
+pair_count rows files [] [] all = refl
+pair_count rows files [] (b ∷ bs) all = absurd all
+pair_count rows files (w ∷ ws) [] all = absurd all
+pair_count rows files (w ∷ ws) (b ∷ bs) all = ap suc (pair_count rows files ws bs all.1)
