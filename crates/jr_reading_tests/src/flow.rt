@@ -1,7 +1,6 @@
 //! Paths of small graphs. A row has the number of nodes, the edges, and behind `not by` the stops;
 //! then what is asked: which nodes reach which, or what is the least of some nodes that one reaches.
-ghost use Rattle.std.specs.Prelude.{◌≡◌, IsTrue};
-ghost use Rattle.jr_flow.specs.Edges.{AreBelow};
+ghost use Rattle.std.specs.Prelude.{◌≡◌, ◌↔◌, ◌<◌, All, IsTrue};
 
 use crate::rows::{cut_at, number};
 use jr_flow::{Graph, reachable, reaching, used_after};
@@ -56,19 +55,18 @@ fn edges(rt: &impl Abort, alloc: Global, text: &str) -> Vec<(u32, u32)> {
     all
 }
 
-/// Whether edges lead from node to node.
-fn are_below(size: u32, edges: &[(u32, u32)]) -> bool
-    ensures { IsTrue result → AreBelow size edges.now }
+/// Whether each edge begins at a node.
+fn begin_at_nodes(size: u32, edges: &[(u32, u32)]) -> bool
+    ensures { IsTrue result ↔ All (λ e. e.0 < size) edges.now }
 {
-    for edge in edges {
-        if edge.0 >= size {
-            return false;
-        }
-        if edge.1 >= size {
-            return false;
-        }
-    }
-    true
+    edges.iter().all(|edge| edge.0 < size)
+}
+
+/// Whether each edge ends at a node.
+fn end_at_nodes(size: u32, edges: &[(u32, u32)]) -> bool
+    ensures { IsTrue result ↔ All (λ e. e.1 < size) edges.now }
+{
+    edges.iter().all(|edge| edge.1 < size)
 }
 
 /// The graph of edges that lead from node to node.
@@ -76,7 +74,8 @@ pub(crate) fn graph_of(rt: &impl Abort, alloc: Global, size: u32, text: &str) ->
     ensures { result.size ≡ size }
 {
     let edges = edges(rt, alloc, text);
-    assert!(rt; are_below(size, edges.as_slice()));
+    assert!(rt; begin_at_nodes(size, edges.as_slice()));
+    assert!(rt; end_at_nodes(size, edges.as_slice()));
     Graph { size, edges }
 }
 
