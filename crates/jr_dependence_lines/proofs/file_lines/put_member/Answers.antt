@@ -1,11 +1,13 @@
-use Rattle.std.proofs.Common.{◌≡◌, subst}
+use Rattle.std.proofs.Common.{◌≡◌, Some, sym, subst}
 use Rattle.std.specs.Prelude.{Err}
 use Rattle.jr_ast.specs.View.{member_of}
 use Rattle.jr_table.specs.Decls.{MemberKey}
+use Rattle.jr_table.specs.Errors.{member_part}
 use Rattle.jr_cfg.specs.declared.faults.CfgFault.{CfgFault}
 use Rattle.jr_cfg.specs.Graphs.{IsGraphOfMember}
 use Rattle.jr_cfg.specs.MemberRoutes.{HasKey}
 use Rattle.jr_dependence_lines.specs.MemberLines.{tells}
+use Rattle.jr_dependence_lines.specs.Tallies.{PutsPart}
 use Rattle.jr_dependence_lines.proofs.MemberSteps.{own_given, graph_put, sites_told}
 use Rattle.jr_dependence_lines.proofs.file_lines.put_member.Goals as goal
 
@@ -17,7 +19,8 @@ returns-in-Err-TooManySites c items key is =
     let exact =
     subst (λ (f : CfgFault). IsGraphOfMember tells b.super_at c.args.base (own_given c.args.table.now b c.args.base x b.bound.member) x (Err f)) c.in-Err-TooManySites.field-0-is
     c.in-Err-TooManySites.ensures.exact in
-    sites_told c.args.table.now b c.args.base x items key is has c.in-Err-TooManySites.ensures.tests _ exact c.args.tally.now c.args.tally.now
+    subst (λ n. PutsPart c.args.table.now items key c.args.base (member_part x) c.args.tally.now c.args.tally.now (Some n)) (sym c.in-Err-TooManySites.count-is)
+    (sites_told c.args.table.now b c.args.base x items key is has c.in-Err-TooManySites.ensures.tests c.in-Err-TooManySites.count exact c.args.tally.now c.args.tally.now)
 
 pub returns-in_ok-put_bound-in-Ok : goal.returns-in_ok-put_bound-in-Ok
 returns-in_ok-put_bound-in-Ok c items key is =
