@@ -1,11 +1,10 @@
 -- Lines of a member, and of members one behind the other.
 use Rattle.std.proofs.Common.{◌≡◌, ◌<◌, ◌≤◌, ◌+◌, ℕ, zero, suc, List, [], ◌∷◌, ◌++◌, length, get_or, map, take, drop, Option, Some, None, Bool, true, false, refl, sym, ap, subst, ◌∙◌, append_assoc, arith, eq-eqb}
-use Rattle.std.specs.Prelude.{slice_get, filter, ◌==◌, Result, Ok, Err, if◌then◌else◌}
-use Rattle.std.specs.List.{AllZip}
-use Rattle.std.proofs.lemmas.Bool.{cond-true, cond-false}
+use Rattle.std.specs.Prelude.{slice_get, option_map, filter, ◌==◌, Ok, Err, if◌then◌else◌}
 use Rattle.std.proofs.lemmas.List.{take_more, take-append-drop, drop_more, append-nil, map-append}
 use Rattle.std.proofs.lemmas.List.Elements.{filter-append}
-use Rattle.std.proofs.lemmas.Option.{same_Some}
+use Rattle.std.proofs.lemmas.Bool.{ne_eqb}
+use Rattle.std.proofs.lemmas.Option.{same_Some, slice_get-map, slice_get_read, get_or_from_slice_get}
 use Rattle.jr_text.specs.declared.spans.Span.{Span}
 use Rattle.jr_lex.specs.declared.items.Item.{Item}
 use Rattle.jr_ast.specs.MemberTree.{Member}
@@ -26,10 +25,11 @@ use Rattle.jr_members.specs.WrittenMembers.{WrittenMember}
 use Rattle.jr_program_laws.specs.FileParts.{begins}
 use Rattle.jr_program.specs.declared.bounds.MemberBound.{MemberBound}
 use Rattle.jr_program.specs.Members.{EachOf, IsSuperPlace, IsEachBound, AreEachBound}
+use Rattle.jr_program.proofs.Membership.{each_at}
 use Rattle.jr_sites.specs.declared.sites.SiteGraph.{SiteGraph}
 use Rattle.jr_dependences.specs.declared.dependence.Dependence.{Dependence}
 use Rattle.jr_dependence_lines.specs.declared.tallies.Tally.{Tally}
-use Rattle.jr_dependence_lines.specs.Lines.{Line, texts_of}
+use Rattle.jr_dependence_lines.specs.Lines.{Line, line_text, texts_of}
 use Rattle.jr_dependence_lines.specs.MemberLines.{tells, IsKnown, PartHasLines, PartHasFewSites, HasLines, HasFewSites, HasTooManySites, HaveLines, IsFirstLarge, in_file, CanShow, CanShowPart}
 use Rattle.jr_dependence_lines.specs.Tallies.{Puts, PutsGraph, PutsPart, PutsMember, IsBoundMember, place_texts}
 use Rattle.jr_dependence_lines.proofs.Counting.{puts_none, puts_then, puts_as}
@@ -150,3 +150,45 @@ pair_count rows files [] [] all = refl
 pair_count rows files [] (b ∷ bs) all = absurd all
 pair_count rows files (w ∷ ws) [] all = absurd all
 pair_count rows files (w ∷ ws) (b ∷ bs) all = ap suc (pair_count rows files ws bs all.1)
+
+-- where it stands in a list that is seen in another way
+pub mapped_at : {X Y : Type 0} (f : X → Y) (xs : List X) (n : ℕ) (x : X) → n < length xs → x ≡ get_or xs n x → f x ≡ get_or (map f xs) n (f x)
+mapped_at f xs n x lt at = sym (get_or_from_slice_get (map f xs) n (f x) (f x) (slice_get-map f xs n ∙ ap (option_map f) (slice_get_read xs (length xs) n x refl lt at)))
+
+-- ---- a walk over all members
+
+module _ (rows : List Row) (files : List (List Item)) (ws : List (WrittenMember Span)) (bs : List MemberBound) (each : AreEachBound rows files ws bs) (n : ℕ) (w : WrittenMember Span) (b : MemberBound) (lt : n < length bs)
+    (at : w ≡ get_or ws n w) (there : b ≡ get_or bs n b) where
+  within : n < length ws
+  within = let count = pair_count rows files ws bs each in omega (arith, lt, count)
+
+  pub its_bound : IsEachBound rows files w b
+  its_bound = pair_at rows files ws bs n w b each lt at there
+
+  pub can_part : EachOf CanShow ws → CanShowPart b.bound.member w.base w.part
+  can_part can = subst (λ (k : MemberKey). CanShowPart k w.base w.part) (sym its_bound.is.bound.member) (each_at CanShow ws n w w can within at)
+
+  module _ (file : ℕ) (items : List Item) (lines : List Line) (have : HaveLines rows items (in_file file (take n ws)) lines) (start old new : Tally) where
+    -- it is the first with too many sites
+    pub first_large : w.file ≡ file → (count : ℕ) → PutsMember rows items w old new (Some count) → (key : MemberKey) → key ≡ b.bound.member → IsFirstLarge rows items (in_file file ws) key count
+    first_large of count many key is = record {
+      front = in_file file (take n ws);
+      large = w;
+      back = in_file file (drop (n + 1) ws);
+      split = split_in file ws n w within at (eq-eqb w.file file of);
+      few = all_few rows items (in_file file (take n ws)) lines have;
+      is_key = is ∙ its_bound.is.bound.member;
+      many = many;
+    }
+
+    -- its lines stand behind
+    pub more_lines : w.file ≡ file → Puts start old (texts_of lines) → PutsMember rows items w old new None → (all : List Line) × HaveLines rows items (in_file file (take (n + 1) ws)) all × Puts start new (texts_of all)
+    more_lines of put own = (
+      lines ++ own.0,
+      subst (λ l. HaveLines rows items l (lines ++ own.0)) (sym (more_in file ws n w within at (eq-eqb w.file file of))) (lines_behind rows items (in_file file (take n ws)) w lines own.0 have own.1),
+      puts_as start new _ (texts_of (lines ++ own.0)) (sym (map-append line_text lines own.0)) (puts_then start old new (texts_of lines) (texts_of own.0) put own.2),
+    )
+
+    -- it is of another file
+    pub same_lines : (w.file ≡ file → ⊥) → Puts start old (texts_of lines) → (all : List Line) × HaveLines rows items (in_file file (take (n + 1) ws)) all × Puts start old (texts_of all)
+    same_lines other put = (lines, subst (λ l. HaveLines rows items l lines) (sym (more_out file ws n w within at (ne_eqb w.file file other))) have, put)

@@ -120,9 +120,10 @@ fn put_members<'a>(
         tally.old tally.new) }
 {
     for number in 0..bounds.len() {
-        if written[number].file == file {
+        let member = &written[number];
+        if member.file == file {
             let bound = &bounds[number];
-            if let Some(count) = put_part(alloc, table, &written[number], bound, tally)? {
+            if let Some(count) = put_part(alloc, table, member, bound, tally)? {
                 let member = bound.bound.member();
                 return Ok(Some(Large { member, count }));
             }

@@ -14,5 +14,5 @@ returns c =
     let second = at d.second c.index-texts-dependence-2.result c.index-texts-dependence-2.is c.requires.second in
     on_ok_weaker c.put.result
     (λ h. puts_as c.args.tally.now c.put.new.tally _ (told c.args.texts.now.head.now places d ∷ [])
-    (λ i. (c.args.texts.now.head.now ++ codes " " ++ c.kind_name.ensures i ++ codes " " ++ (c.as_str.ensures ∙ sym first) i ++ codes " " ++ (c.as_str-2.ensures ∙ sym second) i) ∷ []) h)
+    (λ i. (c.args.texts.now.head.now ++ codes " " ++ c.kind_name.ensures i ++ codes " " ++ (c.as_str.ensures ∙ sym c.index-texts-dependence.is ∙ sym first) i ++ codes " " ++ (c.as_str-2.ensures ∙ sym c.index-texts-dependence-2.is ∙ sym second) i) ∷ []) h)
     c.put.ensures
