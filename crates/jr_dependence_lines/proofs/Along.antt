@@ -1,6 +1,6 @@
 -- What depends along edges depends along the same edges that are said otherwise.
-use Rattle.std.proofs.Common.{◌≡◌, ℕ, List}
-use Rattle.std.specs.Prelude.{◌↔◌, slice_get, Some}
+use Rattle.std.proofs.Common.{ℕ, List}
+use Rattle.std.specs.Prelude.{◌↔◌}
 use Rattle.jr_sync.specs.declared.sites.Site.{Site}
 use Rattle.jr_sync.specs.declared.sites.DepKind.{DepKind}
 use Rattle.jr_flow.specs.Paths.{PathBetween, edge, onward}

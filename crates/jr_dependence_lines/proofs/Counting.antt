@@ -1,7 +1,7 @@
 -- Lines are put behind others: they are counted, and kept while they are few.
-use Rattle.std.proofs.Common.{◌≡◌, ◌≤◌, ◌+◌, ℕ, List, [], ◌∷◌, ◌++◌, length, refl, sym, ap, subst, ◌∙◌, append_assoc, arith}
+use Rattle.std.proofs.Common.{◌≡◌, ◌≤◌, ◌+◌, ℕ, List, [], ◌∷◌, ◌++◌, length, sym, ap, subst, ◌∙◌, append_assoc, arith}
 use Rattle.std.proofs.lemmas.List.{append-nil}
-use Rattle.std.proofs.lemmas.List.Sums.{sum_by-append, sum_by_push}
+use Rattle.std.proofs.lemmas.List.Sums.{sum_by_push}
 use Rattle.jr_lines.specs.Lines.{bytes_of}
 use Rattle.jr_dependence_lines.specs.declared.tallies.Tally.{Tally}
 use Rattle.jr_dependence_lines.specs.Tallies.{Tallies, Puts}

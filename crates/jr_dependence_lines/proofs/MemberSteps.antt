@@ -1,6 +1,6 @@
 -- Lines of a member, and of members one behind the other.
-use Rattle.std.proofs.Common.{◌≡◌, ◌<◌, ◌≤◌, ◌+◌, ℕ, zero, suc, List, [], ◌∷◌, ◌++◌, length, get_or, map, take, drop, Option, Some, None, Bool, true, false, refl, sym, ap, subst, ◌∙◌, append_assoc, arith, eq-eqb}
-use Rattle.std.specs.Prelude.{slice_get, option_map, filter, ◌==◌, Ok, Err, if◌then◌else◌}
+use Rattle.std.proofs.Common.{◌≡◌, ◌<◌, ◌+◌, ℕ, zero, suc, List, [], ◌∷◌, ◌++◌, length, get_or, map, take, drop, Some, None, Bool, true, false, refl, sym, ap, subst, ◌∙◌, append_assoc, arith, eq-eqb}
+use Rattle.std.specs.Prelude.{slice_get, option_map, ◌==◌, Ok, Err, if◌then◌else◌}
 use Rattle.std.proofs.lemmas.List.{take_more, take-append-drop, drop_more, append-nil, map-append}
 use Rattle.std.proofs.lemmas.List.Elements.{filter-append}
 use Rattle.std.proofs.lemmas.Bool.{ne_eqb}
@@ -8,15 +8,13 @@ use Rattle.std.proofs.lemmas.Option.{same_Some, slice_get-map, slice_get_read, g
 use Rattle.jr_text.specs.declared.spans.Span.{Span}
 use Rattle.jr_lex.specs.declared.items.Item.{Item}
 use Rattle.jr_ast.specs.MemberTree.{Member}
-use Rattle.jr_ast.specs.Marks.{member_mark}
 use Rattle.jr_table.specs.Decls.{MemberKey}
 use Rattle.jr_table.specs.Rows.{Row}
-use Rattle.jr_table.specs.Errors.{Part, class_part, member_part, part_mark}
+use Rattle.jr_table.specs.Errors.{Part, member_part, part_mark}
 use Rattle.jr_names.specs.DeclTexts.{member_text}
 use Rattle.jr_bind.specs.Bounds.{IsBound, decl_in}
 use Rattle.jr_expr_types.specs.Slots.{find_type}
 use Rattle.jr_expr_sites.specs.KnownFacts.{Given}
-use Rattle.jr_cfg.specs.declared.faults.CfgFault.{CfgFault}
 use Rattle.jr_cfg.specs.declared.faults.CfgFault.TheVariants as fault
 use Rattle.jr_cfg.specs.Graphs.{IsGraphOfMember}
 use Rattle.jr_cfg.specs.MemberRoutes.{HasKey}
@@ -27,12 +25,11 @@ use Rattle.jr_program.specs.declared.bounds.MemberBound.{MemberBound}
 use Rattle.jr_program.specs.Members.{EachOf, IsSuperPlace, IsEachBound, AreEachBound}
 use Rattle.jr_program.proofs.Membership.{each_at}
 use Rattle.jr_sites.specs.declared.sites.SiteGraph.{SiteGraph}
-use Rattle.jr_dependences.specs.declared.dependence.Dependence.{Dependence}
 use Rattle.jr_dependence_lines.specs.declared.tallies.Tally.{Tally}
 use Rattle.jr_dependence_lines.specs.Lines.{Line, line_text, texts_of}
-use Rattle.jr_dependence_lines.specs.MemberLines.{tells, IsKnown, PartHasLines, PartHasFewSites, HasLines, HasFewSites, HasTooManySites, HaveLines, IsFirstLarge, in_file, CanShow, CanShowPart}
-use Rattle.jr_dependence_lines.specs.Tallies.{Puts, PutsGraph, PutsPart, PutsMember, IsBoundMember, place_texts}
-use Rattle.jr_dependence_lines.proofs.Counting.{puts_none, puts_then, puts_as}
+use Rattle.jr_dependence_lines.specs.MemberLines.{tells, IsKnown, HasLines, HasFewSites, HaveLines, IsFirstLarge, in_file, CanShow, CanShowPart}
+use Rattle.jr_dependence_lines.specs.Tallies.{Puts, PutsGraph, PutsPart, PutsMember, IsBoundMember}
+use Rattle.jr_dependence_lines.proofs.Counting.{puts_then, puts_as}
 use Rattle.jr_dependence_lines.proofs.OneLines.{lines_few}
 use Rattle.jr_dependence_lines.proofs.WayDependences.{line_of, graph_lines, all_told_is}
 

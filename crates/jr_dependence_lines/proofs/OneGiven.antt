@@ -1,22 +1,19 @@
 -- What is known of a member is one, and so is what its way has.
-use Rattle.std.proofs.Common.{◌≡◌, ℕ, ◌+◌, List, Option, Some, None, refl, sym, ap, subst, ◌∙◌}
+use Rattle.std.proofs.Common.{◌≡◌, ℕ, List, Option, Some, None, refl, sym, ap, subst, ◌∙◌}
 use Rattle.std.specs.Prelude.{◌↔◌}
 use Rattle.jr_text.specs.declared.spans.Span.{Span}
 use Rattle.jr_lex.specs.declared.items.Item.{Item}
 use Rattle.jr_ast.specs.MemberTree.{Member}
-use Rattle.jr_ast.specs.Marks.{member_mark}
-use Rattle.jr_table.specs.Keys.{FieldKey, Ty}
-use Rattle.jr_table.specs.Decls.{MemberKey, Decl}
+use Rattle.jr_table.specs.Keys.{FieldKey}
+use Rattle.jr_table.specs.Decls.{MemberKey}
 use Rattle.jr_table.specs.Rows.{Row}
-use Rattle.jr_table.specs.Errors.{member_part, Binds}
-use Rattle.jr_table.specs.TypesAt.{TypeAt}
+use Rattle.jr_table.specs.Errors.{member_part}
 use Rattle.jr_code.specs.RunKeys.{RunKeys}
 use Rattle.jr_cover.specs.Sites.{Site}
 use Rattle.jr_cover.specs.Ways.{Way}
 use Rattle.jr_expr_sites.specs.KnownFacts.{Given}
 use Rattle.jr_cfg.specs.MemberRoutes as routes
 use Rattle.jr_member_graphs.specs.OwnFlags.{own}
-use Rattle.jr_program_laws.specs.FileParts.{begins}
 use Rattle.jr_program.proofs.Binding.{with_super}
 use Rattle.jr_dependence_lines.specs.MemberLines.{tells, IsKnown, OfWay, Has}
 use Rattle.jr_dependence_lines.proofs.Numbered.{has_key, has_others}

@@ -1,5 +1,5 @@
 -- Written members have one list of lines, or one first member with too many sites, and never both.
-use Rattle.std.proofs.Common.{◌≡◌, ◌<◌, ◌≤◌, ℕ, List, [], ◌∷◌, ◌++◌, refl, sym, ap, subst, ◌∙◌, arith}
+use Rattle.std.proofs.Common.{◌≡◌, ◌<◌, ◌≤◌, ℕ, List, [], ◌∷◌, ◌++◌, sym, ap, subst, ◌∙◌, arith}
 use Rattle.jr_text.specs.declared.spans.Span.{Span}
 use Rattle.jr_lex.specs.declared.items.Item.{Item}
 use Rattle.jr_table.specs.Decls.{MemberKey}
@@ -10,7 +10,7 @@ use Rattle.jr_members.specs.WrittenMembers.{WrittenMember}
 use Rattle.jr_program.specs.Members.{EachOf}
 use Rattle.jr_dependence_lines.specs.Lines.{Line}
 use Rattle.jr_dependence_lines.specs.LineLaws.{LinesAreOne, LargeIsOne, NeverBoth}
-use Rattle.jr_dependence_lines.specs.MemberLines.{PartHasLines, PartHasFewSites, PartHasTooManySites, HasLines, HasFewSites, HasTooManySites, HaveLines, IsFirstLarge}
+use Rattle.jr_dependence_lines.specs.MemberLines.{PartHasLines, PartHasFewSites, PartHasTooManySites, HasLines, HasFewSites, HasTooManySites, HaveLines}
 use Rattle.jr_dependence_lines.specs.WayLines.{AreWayLines, most_sites}
 use Rattle.jr_dependence_lines.proofs.OneGiven.{both_hold}
 use Rattle.jr_dependence_lines.proofs.OneWay.{one_way_lines}

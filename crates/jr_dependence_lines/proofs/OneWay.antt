@@ -1,6 +1,6 @@
 -- A way has one list of lines.
 use Rattle.std.proofs.Common.{◌≡◌, ◌<◌, ℕ, ◌+◌, List, [], ◌∷◌, refl, sym, ap, subst, ◌∙◌, arith, inl, inr}
-use Rattle.std.specs.Prelude.{◌⊎◌, ◌↔◌, Contains, slice_get}
+use Rattle.std.specs.Prelude.{◌⊎◌}
 use Rattle.std.specs.List.{AllZip}
 use Rattle.std.proofs.lemmas.Option.{same_Some}
 use Rattle.jr_code.specs.RunKeys.{RunKeys}
@@ -11,7 +11,7 @@ use Rattle.jr_dependences.specs.declared.dependence.Dependence.{Dependence}
 use Rattle.jr_dependences.specs.Listed.{rank, IsBefore}
 use Rattle.jr_expr_sites.specs.KnownFacts.{Given}
 use Rattle.jr_dependence_lines.specs.Lines.{Line}
-use Rattle.jr_dependence_lines.specs.WayLines.{sites, StandsAt, IsLineOf, AreWayLines}
+use Rattle.jr_dependence_lines.specs.WayLines.{StandsAt, IsLineOf, AreWayLines}
 use Rattle.jr_dependence_lines.proofs.OneOrder.{one_list}
 
 abbrev Later : Dependence → Dependence → Type 0

@@ -1,5 +1,5 @@
 -- The dependences of a graph are those of the way whose graph it is, and so are their lines.
-use Rattle.std.proofs.Common.{◌≡◌, ◌+◌, ℕ, suc, List, [], ◌∷◌, ◌++◌, length, get_or, map, Option, Some, None, refl, sym, ap, subst, ◌∙◌, arith}
+use Rattle.std.proofs.Common.{◌≡◌, ◌+◌, ℕ, suc, List, [], ◌∷◌, ◌++◌, get_or, map, Option, Some, None, refl, sym, ap, subst, ◌∙◌, arith}
 use Rattle.std.specs.Prelude.{◌↔◌, slice_get, option_map, codes, decimal, Contains}
 use Rattle.std.specs.List.{AllZip}
 use Rattle.std.proofs.lemmas.Option.{slice_get-map, get_or_from_slice_get}
@@ -10,7 +10,7 @@ use Rattle.jr_names.specs.DeclTexts.{member_text}
 use Rattle.jr_code.specs.RunKeys.{RunKeys}
 use Rattle.jr_flow.specs.Edges.{EdgeOf}
 use Rattle.jr_cover.specs.Sites.{Site}
-use Rattle.jr_cover.specs.Ways.{Way, sites_of, Edge}
+use Rattle.jr_cover.specs.Ways.{Way, Edge}
 use Rattle.jr_sites.specs.declared.sites.PlacedSite as raw
 use Rattle.jr_sites.specs.declared.sites.SiteGraph.{SiteGraph}
 use Rattle.jr_sites.specs.SiteView.{PlacedSite, site_of, placed_of, sites_in}
@@ -20,10 +20,9 @@ use Rattle.jr_dependences.specs.KindNames.{kind_name}
 use Rattle.jr_dependences.proofs.Mapped.{from_mapped}
 use Rattle.jr_effect.specs.Plain.{Same}
 use Rattle.jr_cfg.specs.Graphs.{IsGraph}
-use Rattle.jr_cfg.specs.Placed.{placed}
 use Rattle.jr_expr_sites.specs.KnownFacts.{Given}
 use Rattle.jr_dependence_lines.specs.Lines.{Line, line_text, texts_of}
-use Rattle.jr_dependence_lines.specs.WayLines.{sites, bare_sites, DependsOn, StandsAt, IsLineOf, AreWayLines}
+use Rattle.jr_dependence_lines.specs.WayLines.{bare_sites, DependsOn, StandsAt, IsLineOf, AreWayLines}
 use Rattle.jr_dependence_lines.specs.Tallies.{told, all_told, place_texts, AreAll}
 use Rattle.jr_dependence_lines.proofs.Along.{depends_along}
 

@@ -28,7 +28,6 @@ use Rattle.jr_table.specs.Errors.{Part, member_part}
 use Rattle.jr_table.specs.KeyView.{member_key_of}
 use Rattle.jr_table.specs.Rows.{Row}
 use Rattle.jr_bind.specs.Bounds.{IsBound}
-use Rattle.jr_flow.specs.Edges.{EdgeOf}
 use Rattle.jr_dependences.specs.declared.dependence.Dependence.{Dependence}
 use Rattle.jr_dependences.specs.Depends.{DependsIn}
 use Rattle.jr_dependences.specs.KindNames.{kind_name}

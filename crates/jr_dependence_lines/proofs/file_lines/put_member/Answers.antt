@@ -1,4 +1,4 @@
-use Rattle.std.proofs.Common.{◌≡◌, Some, sym, subst}
+use Rattle.std.proofs.Common.{Some, sym, subst}
 use Rattle.std.specs.Prelude.{Err}
 use Rattle.jr_ast.specs.View.{member_of}
 use Rattle.jr_table.specs.Decls.{MemberKey}

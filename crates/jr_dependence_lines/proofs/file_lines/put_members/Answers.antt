@@ -1,4 +1,4 @@
-use Rattle.std.proofs.Common.{◌≡◌, ◌<◌, ◌≤◌, ◌+◌, ℕ, zero, suc, List, [], ◌∷◌, Some, get_or, length, map, take, refl, sym, ap, subst, ◌∙◌, arith}
+use Rattle.std.proofs.Common.{◌≡◌, ◌<◌, ◌+◌, ℕ, zero, suc, List, [], ◌∷◌, Some, get_or, length, map, take, refl, sym, ap, subst, ◌∙◌, arith}
 use Rattle.std.specs.Prelude.{slice_get}
 use Rattle.std.proofs.lemmas.List.{length-map, take_all}
 use Rattle.jr_lex.specs.declared.items.Item.{Item}
@@ -12,7 +12,6 @@ use Rattle.jr_dependence_lines.specs.declared.tallies.Tally.{Tally}
 use Rattle.jr_dependence_lines.specs.Lines.{Line, texts_of}
 use Rattle.jr_dependence_lines.specs.MemberLines.{HaveLines, in_file}
 use Rattle.jr_dependence_lines.specs.Tallies.{Puts, PutsMember}
-use Rattle.jr_dependence_lines.proofs.Counting.{puts_none}
 use Rattle.jr_dependence_lines.proofs.MemberSteps.{pair_count, mapped_at, its_bound, can_part, first_large, more_lines, same_lines}
 use Rattle.jr_dependence_lines.proofs.file_lines.put_members.Goals as goal
 use Rattle.jr_dependence_lines.proofs.file_lines.put_members.Goals.{then-member-file+in_ok-count+in_default, else-member-file}

@@ -1,8 +1,8 @@
-use Rattle.std.proofs.Common.{◌≡◌, ◌<◌, ◌≤◌, ◌++◌, All, [], List, length, map, sym, ap, subst, ◌∙◌, arith}
+use Rattle.std.proofs.Common.{◌≡◌, ◌<◌, ◌++◌, All, [], List, length, map, sym, ap, subst, ◌∙◌, arith}
 use Rattle.std.proofs.lemmas.List.{length-map, map-append}
 use Rattle.jr_sites.specs.declared.sites.PlacedSite.{PlacedSite}
 use Rattle.jr_dependences.specs.declared.dependence.Dependence.{Dependence}
-use Rattle.jr_dependences.specs.Listed.{IsOn, IsListed}
+use Rattle.jr_dependences.specs.Listed.{IsOn}
 use Rattle.jr_dependence_lines.specs.Tallies.{told, all_told}
 use Rattle.jr_dependence_lines.proofs.Counting.{puts_none, puts_then, puts_as}
 use Rattle.jr_dependence_lines.proofs.Listing.{Holds, none_listed, more_listed, all_within, all_listed, listed_keyed}

@@ -1,6 +1,5 @@
-use Rattle.std.proofs.Common.{◌≡◌, ◌∷◌, ◌++◌, [], List, sym, ap, ◌∙◌}
+use Rattle.std.proofs.Common.{sym, ap}
 use Rattle.std.proofs.lemmas.List.{map_more, take_all}
-use Rattle.jr_dependences.specs.declared.dependence.Dependence.{Dependence}
 use Rattle.jr_dependence_lines.specs.Tallies.{told, all_told}
 use Rattle.jr_dependence_lines.proofs.Counting.{puts_none, puts_then, puts_as}
 use Rattle.jr_dependence_lines.proofs.member_lines.put_lines.Goals as goal
