@@ -1,5 +1,5 @@
--- The lines of the dependences in written members: those of each member, by what it is bound to, and
--- those of several, one behind the other.
+-- The lines of the dependences in written members: those of each member, by what it is bound to,
+-- and those of several, one behind the other.
 use Rattle.std.specs.Prelude.{
   ◌≡◌,
   ◌==◌,

@@ -1,5 +1,5 @@
--- Lines that are counted, and kept while they are few. Only private clauses cite this, but for what a
--- call answers.
+-- Lines that are counted, and kept while they are few. Only private clauses cite this, but for what
+-- a call answers.
 use Rattle.std.specs.Prelude.{
   ◌≡◌,
   ◌↔◌,

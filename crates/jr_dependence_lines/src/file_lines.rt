@@ -47,8 +47,8 @@ fn put_bound(
     put_graph(alloc, head.as_str(), bound.start, graph, tally)
 }
 
-// Puts the lines of a member whose parent begins at `base`, or tells how many sites it has, if these
-// are too many.
+// Puts the lines of a member whose parent begins at `base`, or tells how many sites it has, if
+// these are too many.
 fn put_member(
     alloc: Global,
     table: &Table,
@@ -140,10 +140,10 @@ fn too_many_sites(large: &Large<'_>) -> Result<Shown, AllocError>
     Ok(Shown::TooManySites { member, count })
 }
 
-/// The lines of the dependences in the file of the number, behind so many bytes, and of no more than
-/// `most` bytes with these. `written` are a program's members, `bounds` what binding knows of them,
-/// one each in the same order. Each member of the file gets its graph made, one after another in text
-/// order; its lines are counted before they are kept.
+/// The lines of the dependences in the file of the number, behind so many bytes, and of no more
+/// than `most` bytes with these. `written` are a program's members, `bounds` what binding knows of
+/// them, one each in the same order. Each member of the file gets its graph made, one after another
+/// in text order; its lines are counted before they are kept.
 ///
 /// `TooManySites` exactly where a member has more than 1,000 sites, with the first such. Where 64
 /// bits don't count the bytes the answer is want of memory.

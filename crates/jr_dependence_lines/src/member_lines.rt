@@ -1,5 +1,5 @@
 //! The lines of one member, by its graph.
-ghost use Rattle.std.specs.Prelude.{◌≡◌, ◌<◌, ◌+◌, ◌^◌, ◌∷◌, [], ℕ, List, All, length, map, decimal};
+ghost use Rattle.std.specs.Prelude.{◌≡◌, ◌<◌, ◌+◌, ◌∷◌, [], List, All, length, decimal};
 ghost use Rattle.std.specs.Prelude.{IfOk, OnOk, string_bytes};
 ghost use Rattle.jr_dependences.specs.declared.dependence.Dependence as pure;
 ghost use Rattle.jr_dependence_lines.specs.Tallies.{AreAll, Puts, PutsGraph, all_told};

@@ -1,7 +1,7 @@
 //! The members of an object, one by one.
 
-ghost use Rattle.std.specs.Prelude.{◌≡◌, ◌↔◌, map, Some, IfOk, IfErr, OnOk, IsTrue, Contains, option_map};
-ghost use Rattle.std.specs.Prelude.{option_and_then};
+ghost use Rattle.std.specs.Prelude.{◌≡◌, ◌↔◌, map, Some, IfOk, IfErr, OnOk, IsTrue, Contains};
+ghost use Rattle.std.specs.Prelude.{option_and_then, option_map};
 ghost use Rattle.serde_json.specs.Data.{object, string};
 ghost use Rattle.serde_json.specs.Find.{get, as_number, as_str, as_u64};
 ghost use Rattle.serde_json.specs.View.{view, members_view};

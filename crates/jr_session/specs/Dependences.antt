@@ -15,8 +15,8 @@ use Rattle.jr_dependence_lines.specs.MemberLines.{HaveLines, IsFirstLarge, in_fi
 use Rattle.jr_sources.specs.Sources.{Source}
 use Rattle.jr_sources.specs.FirstFault.{AreProgram}
 
--- The sources have no fault: these are their rows, and of the file of this number the tokens and the
--- members, in text order.
+-- The sources have no fault: these are their rows, and of the file of this number the tokens and
+-- the members, in text order.
 pub record AreMembersOf (sources : List Source) (file : ℕ) (rows : List Row) (items : List Item)
     (members : List (WrittenMember Span)) : Type 0 where
   pub units : List (syntax.Unit Span)
