@@ -1,6 +1,6 @@
 //! The lines of a file's members.
 ghost use Rattle.std.specs.Prelude.{◌≡◌, List, Some, map, slice_get, IfOk, OnOk};
-ghost use Rattle.jr_lex.specs.declared.Item.{Item};
+ghost use Rattle.jr_lex.specs.declared.items.Item.{Item};
 ghost use Rattle.jr_ast.specs.View.{member_of};
 ghost use Rattle.jr_names.specs.DeclTexts.{member_text};
 ghost use Rattle.jr_table.specs.Decls as keys;
