@@ -1,5 +1,6 @@
 //! Paths of small graphs. A row has the number of nodes, the edges, and behind `not by` the stops;
-//! then what is asked: which nodes reach which, or what is the least of some nodes that one reaches.
+//! then what is asked: which nodes reach which, or what is the least of some nodes that one
+//! reaches.
 ghost use Rattle.std.specs.Prelude.{◌≡◌, ◌↔◌, ◌<◌, All, IsTrue};
 
 use crate::rows::{cut_at, number};
