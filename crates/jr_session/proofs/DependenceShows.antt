@@ -1,13 +1,12 @@
 -- Shown dependences: from what was analysed, and no others.
-use Rattle.std.proofs.Common.{◌≡◌, ℕ, List, map, refl, sym, ap, subst, ◌∙◌}
-use Rattle.std.specs.Prelude.{slice_get, Some, Contains}
+use Rattle.std.proofs.Common.{◌≡◌, ℕ, List, refl, sym, ap, subst, ◌∙◌}
+use Rattle.std.specs.Prelude.{slice_get, Some}
 use Rattle.std.proofs.lemmas.Option.{same_Some}
 use Rattle.jr_text.specs.declared.spans.Span.{Span}
 use Rattle.jr_lex.specs.declared.items.Item.{Item}
 use Rattle.jr_lex.specs.Lexes.{Lexes}
 use Rattle.jr_ast.specs.MemberTree.{Unit as UnitTree}
 use Rattle.jr_table.specs.Decls.{MemberKey}
-use Rattle.jr_table.specs.KeyView.{member_key_of}
 use Rattle.jr_table.specs.Rows.{Row}
 use Rattle.jr_table.specs.DeclaredItems.{declarations_of}
 use Rattle.jr_table.specs.ProgramRows.{AreProgramRows}
@@ -15,7 +14,7 @@ use Rattle.jr_members.specs.WrittenMembers.{WrittenMember, written_members}
 use Rattle.jr_program_laws.specs.FileParts.{begins}
 use Rattle.jr_dependence_lines.specs.declared.file_lines.Shown.{Shown}
 use Rattle.jr_dependence_lines.specs.declared.file_lines.Shown.TheVariants as shows
-use Rattle.jr_dependence_lines.specs.Lines.{Line, texts_of}
+use Rattle.jr_dependence_lines.specs.Lines.{texts_of}
 use Rattle.jr_dependence_lines.specs.LineLaws.{LinesAreOne, LargeIsOne, NeverBoth}
 use Rattle.jr_dependence_lines.specs.MemberLines.{HaveLines, IsFirstLarge, in_file}
 use Rattle.jr_dependence_lines.specs.Tallies.{IsShown}

@@ -12,7 +12,7 @@ use Rattle.jr_session.specs.declared.changes.Earlier.{Earlier}
 use Rattle.jr_sources.specs.declared.analyses.SourceFault.{SourceFault}
 use Rattle.jr_sources.specs.Analysed.{IsAnalysis, IsSourceFault, CostsBinding}
 use Rattle.jr_sources.specs.FirstFault.{IsFirstFaultOf}
-use Rattle.jr_session.specs.Dependences.{AreDependenceTexts, IsLargeMember}
+use Rattle.jr_session.specs.Dependences.{IsLargeMember}
 use Rattle.jr_session.specs.Shows.{AreShownTexts, shown_limit}
 use Rattle.jr_sources.specs.ReadingLaws.{HasOneReading}
 use Rattle.jr_session.specs.Refusing.{MeetsLarge}

@@ -1,12 +1,12 @@
 -- Written members can be asked for their dependences: the key of a field is one of fields.
-use Rattle.std.proofs.Common.{◌≡◌, ℕ, List, [], ◌∷◌, refl, sym, subst, inl, inr}
+use Rattle.std.proofs.Common.{◌≡◌, ℕ, List, [], ◌∷◌, subst, inl, inr}
 use Rattle.std.specs.Prelude.{Option, None, Some, Contains}
 use Rattle.jr_text.specs.declared.spans.Span.{Span}
 use Rattle.jr_ast.specs.MemberTree as syntax
 use Rattle.jr_table.specs.Keys.{ClassKey}
 use Rattle.jr_table.specs.Decls.{MemberKey}
 use Rattle.jr_table.specs.DeclaredItems.{DeclaredItem, declarations_of}
-use Rattle.jr_table.specs.Errors.{Part, class_part, member_part, Declares, InClass, InMembers, InInner, InClasses}
+use Rattle.jr_table.specs.Errors.{Part, member_part, Declares, InClass, InMembers, InInner, InClasses}
 use Rattle.jr_table.specs.Rows.{Row}
 use Rattle.jr_members.specs.WrittenMembers.{WrittenMember}
 use Rattle.jr_members.specs.WrittenLaws.{AreWritten}

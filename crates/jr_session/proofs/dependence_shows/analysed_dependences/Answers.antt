@@ -1,12 +1,8 @@
-use Rattle.std.proofs.Common.{◌≡◌, ◌<◌, ◌≤◌, ◌^◌, List, length, map, sym, ap, subst, ◌∙◌, arith}
-use Rattle.std.specs.Prelude.{slice_get, Some}
-use Rattle.std.proofs.lemmas.List.{length-map}
+use Rattle.std.proofs.Common.{◌≡◌, ◌≤◌, length, map, sym, ap, subst, ◌∙◌, arith}
 use Rattle.std.proofs.lemmas.Result.{IfOk-weaker}
-use Rattle.jr_text.specs.declared.spans.Span.{Span}
-use Rattle.jr_ast.specs.MemberTree.{Unit as UnitTree}
 use Rattle.jr_ast.specs.View.{unit_of}
 use Rattle.jr_members.specs.PartView.{written_of}
-use Rattle.jr_members.specs.WrittenMembers.{WrittenMember, written_members}
+use Rattle.jr_members.specs.WrittenMembers.{written_members}
 use Rattle.jr_program.specs.Members.{EachOf, AreEachBound}
 use Rattle.jr_program_laws.specs.FileParts.{begins}
 use Rattle.jr_dependence_lines.specs.MemberLines.{CanShow, in_file}
