@@ -1,8 +1,9 @@
 #!/usr/bin/env python3
 """Random programs, put to a second reading of the rules, to javac and to the built program.
 
-bindings.py [--jref BINARY] [--javac] [--kind bindings|declarations|sessions|renamings]
-    [--first SEED] [--programs N] [--examples N]
+bindings.py [--jref BINARY] [--javac]
+    [--kind bindings|dependences|declarations|sessions|renamings] [--first SEED] [--programs N]
+    [--examples N]
 
 The reading says for each file its lines, or the fault of the program. With --jref the program's
 report has to be that, byte for byte. With --javac each program is sound here exactly where javac
@@ -21,6 +22,7 @@ from declarations import DeclarationMaker
 from programs import Maker
 from reading.binding import first_error, lines
 from reading.program import Program, SourceFault
+from reading.sites import lines as dependence_lines
 from sessions import RenamingMaker, SessionMaker, replies
 
 HERE = os.path.dirname(os.path.abspath(__file__))
@@ -56,8 +58,8 @@ REFUSED_BY_JAVAC = {
 }
 
 
-def lines_or_fault(files):
-    """The lines of each file, or the first fault's text."""
+def lines_or_fault(files, lines=lines):
+    """The lines of each file, of bindings or other ones, or the first fault's text."""
     try:
         program = Program(files)
     except SourceFault as fault:
@@ -65,15 +67,15 @@ def lines_or_fault(files):
     return program, [lines(program, name) for name, _ in files]
 
 
-def shows(files):
-    """The script that shows each file, and the replies that are wanted."""
-    program, shown = lines_or_fault(files)
+def shows(files, what="bindings"):
+    """The script that shows this of each file, and the replies that are wanted."""
+    program, shown = lines_or_fault(files, lines if what == "bindings" else dependence_lines)
     if program is None:
         refused = {"number": 4, "refusal": shown, "reply": "refused"}
         replies = [refused for _ in files]
     else:
         replies = [{"lines": one, "reply": "shown"} for one in shown]
-    return [{"step": "show", "file": name, "what": "bindings"} for name, _ in files], replies
+    return [{"step": "show", "file": name, "what": what} for name, _ in files], replies
 
 
 def report(replies):
@@ -199,7 +201,7 @@ def main():
     words = argparse.ArgumentParser()
     words.add_argument("--jref")
     words.add_argument("--javac", action="store_true")
-    kinds = ["bindings", "declarations", "sessions", "renamings"]
+    kinds = ["bindings", "dependences", "declarations", "sessions", "renamings"]
     words.add_argument("--kind", default="bindings", choices=kinds)
     words.add_argument("--first", type=int, default=0)
     words.add_argument("--programs", type=int, default=1000)
@@ -212,9 +214,10 @@ def main():
         programs = [maker(seed).session() for seed in seeds]
         wanted = [(files, steps, *replies(files, steps)) for files, steps in programs]
     else:
-        maker = Maker if words.kind == "bindings" else DeclarationMaker
+        maker = DeclarationMaker if words.kind == "declarations" else Maker
+        what = "dependences" if words.kind == "dependences" else "bindings"
         programs = [maker(seed).files() for seed in seeds]
-        wanted = [(files, *shows(files), files) for files in programs]
+        wanted = [(files, *shows(files, what), files) for files in programs]
     if words.jref:
         against_jref(os.path.abspath(words.jref), wanted, seen)
     if words.javac and words.kind not in ("sessions", "renamings"):

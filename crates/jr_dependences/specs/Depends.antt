@@ -27,10 +27,14 @@ module _ {K L : Type 0} (SameField : K → K → Type 0) (SameLocal : L → L �
   Stops Anti a n = ⊥
   Stops Output a n = ⊥
 
-  abbrev pub Depends : (edges : List (ℕ × ℕ)) → DepKind → (first second : ℕ) → Type 0
-  Depends edges kind first second = (a b : Site K L) × (slice_get sites first ≡ Some a)
+  -- E: which site can be met directly behind which
+  abbrev pub DependsAlong : (E : ℕ → ℕ → Type 0) → DepKind → (first second : ℕ) → Type 0
+  DependsAlong E kind first second = (a b : Site K L) × (slice_get sites first ≡ Some a)
       × (slice_get sites second ≡ Some b) × Related SameField SameLocal kind a b
-      × PathBetween (EdgeOf edges) (Stops kind a) first second
+      × PathBetween E (Stops kind a) first second
+
+  abbrev pub Depends : (edges : List (ℕ × ℕ)) → DepKind → (first second : ℕ) → Type 0
+  Depends edges kind first second = DependsAlong (EdgeOf edges) kind first second
 
   abbrev pub DependsIn : (edges : List (ℕ × ℕ)) → Dependence → Type 0
   DependsIn edges d = Depends edges d.kind d.first d.second

@@ -1,6 +1,7 @@
 -- What is known of paths from a first site.
-use Rattle.std.specs.Prelude.{◌≡◌, ℕ, List, slice_get, Option, Some, None}
+use Rattle.std.specs.Prelude.{◌≡◌, ℕ, Bool, true, false, List, slice_get, Option, Some, None}
 use Rattle.jr_sync.specs.declared.sites.Site.{Site}
+use Rattle.jr_sync.specs.declared.sites.Site.TheVariants.{Read, Write, Access, Check, Call, Loop}
 use Rattle.jr_sync.specs.declared.sites.DepKind.{DepKind}
 use Rattle.jr_sync.specs.declared.sites.DepKind.TheVariants.{Order, Field, Sync, Flow, Anti, Output}
 use Rattle.jr_sync.specs.Sites.{written_of}
@@ -11,6 +12,20 @@ use Rattle.jr_flow.specs.Nodes.{IsReached, TellsNodes}
 use Rattle.jr_flow.specs.Pairs.{Comes, Tells}
 use Rattle.jr_flow.specs.Paths.{Path, PathBetween}
 use Rattle.jr_dependences.specs.Depends.{WritesAgain}
+
+-- it reads or writes a local
+abbrev pub is_local : {K L : Type 0} → Site K L → Bool
+is_local (Read l) = true
+is_local (Write l) = true
+is_local (Access kind f) = false
+is_local Check = false
+is_local Call = false
+is_local Loop = false
+
+-- whether the site at a place is one
+abbrev pub IsOfLocal : {K L : Type 0} → List (Site K L) → ℕ → Bool → Type 0
+IsOfLocal {K} {L} sites first local = (a : Site K L) → slice_get sites first ≡ Some a
+    → is_local a ≡ local
 
 -- For Flow the first site's own search is asked, if it is a write; for other kinds all paths.
 abbrev pub LeadsFlow : Option Reached → (second : ℕ) → Type 0

@@ -1,3 +1,4 @@
 pub mod Depends
 pub mod Known
 pub mod Listed
+pub mod KindNames

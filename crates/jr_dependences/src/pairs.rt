@@ -1,7 +1,8 @@
 //! How one site depends on another.
-ghost use Rattle.std.specs.Prelude.{ℕ, ◌↔◌, ◌<◌, List, OnOk, IsTrue, length, map};
+ghost use Rattle.std.specs.Prelude.{◌≡◌, ℕ, ◌↔◌, ◌<◌, List, true, false, OnOk, IsTrue};
+ghost use Rattle.std.specs.Prelude.{length, map};
 ghost use Rattle.jr_dependences.specs.Depends.{DependsIn};
-ghost use Rattle.jr_dependences.specs.Known.{Leads, KnowsPaths};
+ghost use Rattle.jr_dependences.specs.Known.{Leads, KnowsPaths, is_local, IsOfLocal};
 ghost use Rattle.jr_dependences.specs.Listed.{IsBetween, IsOf, Adds};
 
 use crate::Dependence;
@@ -75,7 +76,64 @@ fn push_kind<K: Eq, L: Eq>(
     Ok(())
 }
 
-/// Puts the dependences of one site on another, in the order of kinds.
+/// Whether the site is of a local.
+fn is_local<K, L>(site: &Site<K, L>) -> bool
+    ensures { result ≡ is_local site.now }
+{
+    match site {
+        Site::Read(_) | Site::Write(_) => true,
+        Site::Access(_, _) | Site::Check | Site::Call | Site::Loop => false,
+    }
+}
+
+/// Puts the dependences on a site of a local: others than of locals there are none.
+fn push_of_local<K: Eq, L: Eq>(
+    reach: &Reach,
+    flow: &Option<Reached>,
+    sites: &[&Site<K, L>],
+    first: u32,
+    second: u32,
+    list: &mut Vec<Dependence>,
+) -> Result<(), AllocError>
+    requires first { first < length sites.now }
+    requires second { second < length sites.now }
+    requires site { IsOfLocal (map (λ s. s.now) sites.now) first true }
+    ensures { (edges : List (ℕ × ℕ)) → KnowsPaths (λ x y. IsTrue (K.eq x y))
+        (λ x y. IsTrue (L.eq x y)) (map (λ s. s.now) sites.now) edges first reach.now flow.now
+        → OnOk result (Adds (IsBetween first second)
+        (DependsIn (λ x y. IsTrue (K.eq x y)) (λ x y. IsTrue (L.eq x y))
+        (map (λ s. s.now) sites.now) edges) list.old.items list.new.items) }
+{
+    push_kind(reach, flow, sites, DepKind::Flow, first, second, list)?;
+    push_kind(reach, flow, sites, DepKind::Anti, first, second, list)?;
+    push_kind(reach, flow, sites, DepKind::Output, first, second, list)
+}
+
+/// Puts the dependences on another site: of locals there are none.
+fn push_of_other<K: Eq, L: Eq>(
+    reach: &Reach,
+    flow: &Option<Reached>,
+    sites: &[&Site<K, L>],
+    first: u32,
+    second: u32,
+    list: &mut Vec<Dependence>,
+) -> Result<(), AllocError>
+    requires first { first < length sites.now }
+    requires second { second < length sites.now }
+    requires site { IsOfLocal (map (λ s. s.now) sites.now) first false }
+    ensures { (edges : List (ℕ × ℕ)) → KnowsPaths (λ x y. IsTrue (K.eq x y))
+        (λ x y. IsTrue (L.eq x y)) (map (λ s. s.now) sites.now) edges first reach.now flow.now
+        → OnOk result (Adds (IsBetween first second)
+        (DependsIn (λ x y. IsTrue (K.eq x y)) (λ x y. IsTrue (L.eq x y))
+        (map (λ s. s.now) sites.now) edges) list.old.items list.new.items) }
+{
+    push_kind(reach, flow, sites, DepKind::Order, first, second, list)?;
+    push_kind(reach, flow, sites, DepKind::Field, first, second, list)?;
+    push_kind(reach, flow, sites, DepKind::Sync, first, second, list)
+}
+
+/// Puts the dependences of one site on another, in the order of kinds. Where no path leads from the
+/// one to the other there are none.
 pub(crate) fn push_pair<K: Eq, L: Eq>(
     reach: &Reach,
     flow: &Option<Reached>,
@@ -92,10 +150,12 @@ pub(crate) fn push_pair<K: Eq, L: Eq>(
         (DependsIn (λ x y. IsTrue (K.eq x y)) (λ x y. IsTrue (L.eq x y))
         (map (λ s. s.now) sites.now) edges) list.old.items list.new.items) }
 {
-    push_kind(reach, flow, sites, DepKind::Order, first, second, list)?;
-    push_kind(reach, flow, sites, DepKind::Field, first, second, list)?;
-    push_kind(reach, flow, sites, DepKind::Sync, first, second, list)?;
-    push_kind(reach, flow, sites, DepKind::Flow, first, second, list)?;
-    push_kind(reach, flow, sites, DepKind::Anti, first, second, list)?;
-    push_kind(reach, flow, sites, DepKind::Output, first, second, list)
+    if !Reach::comes(reach, first, second) {
+        return Ok(());
+    }
+    if is_local(sites[first as usize]) {
+        push_of_local(reach, flow, sites, first, second, list)
+    } else {
+        push_of_other(reach, flow, sites, first, second, list)
+    }
 }

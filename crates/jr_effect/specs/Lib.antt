@@ -3,4 +3,3 @@ pub mod Plain
 pub mod Covers
 pub mod Within
 pub mod MemberCovers
-pub mod WalkFlags

@@ -2,7 +2,6 @@
 //! classes, fields, methods and constructors, `L` places, `G` and `H` names of fields and locals.
 ghost use Rattle.jr_effect.specs.Covers.{ListsCover};
 ghost use Rattle.jr_effect.specs.Ties.{RowsDependAsWays};
-ghost use Rattle.jr_effect.specs.WalkFlags.{FlagsTellTheWalk};
 ghost use Rattle.jr_effect.specs.Within.{PiecesStandInTheirWays};
 
 use jr_cover::actions_are_covered;
@@ -25,10 +24,4 @@ pub fn lists_cover<C, F, M, N, L, A, G, H>()
 /// piece passes. `S` is sites.
 pub fn pieces_stand_in_their_ways<S>()
     ensures { PiecesStandInTheirWays S }
-{}
-
-/// Where flags of locals are made of a member's initializers and of what is assigned, the walk over
-/// the member takes exactly those expressions for never null that the rules say.
-pub fn flags_tell_the_walk()
-    ensures { FlagsTellTheWalk }
 {}

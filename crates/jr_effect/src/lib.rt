@@ -1,10 +1,10 @@
 //! What pieces of a member do, and which of its sites depend on which.
 //!
-//! [`dependences`] lists the latter, by the lower half `jr_dependences`; [`is_plain`] is whether
-//! sites read locals alone. `specs/Ties`: the dependences of a row of sites are those of the way
-//! that it comes from; `specs/Covers`: so the list covers what runs do; `specs/MemberCovers`: of
-//! each program with a member that has the graph; `specs/Within`: how many sites stand in front of a
-//! piece; `specs/WalkFlags`: which flags of locals the walk over a member needs.
+//! [`dependences`] lists the latter, by the lower half `jr_dependences`, which takes sites as
+//! [`bare`] makes them; [`is_plain`] is whether sites read locals alone. `specs/Ties`: the
+//! dependences of a row of sites are those of the way that it comes from; `specs/Covers`: so the
+//! list covers what runs do; `specs/MemberCovers`: of each program with a member that has the graph;
+//! `specs/Within`: how many sites stand in front of a piece.
 #![tactic(auto)]
 
 mod laws;
@@ -12,6 +12,6 @@ mod listing;
 mod plain;
 
 pub use jr_dependences::Dependence;
-pub use laws::{flags_tell_the_walk, lists_cover, pieces_stand_in_their_ways, rows_depend_as_ways};
-pub use listing::dependences;
+pub use laws::{lists_cover, pieces_stand_in_their_ways, rows_depend_as_ways};
+pub use listing::{bare, dependences};
 pub use plain::is_plain;

@@ -15,7 +15,7 @@ use std::alloc::{AllocError, Global};
 type OwnSite = Site<FieldKey, LocalKey>;
 
 /// The sites of a row, without their places; `count` is how many there are.
-fn bare<'a>(
+pub fn bare<'a>(
     alloc: Global,
     count: u32,
     sites: &'a [PlacedSite],

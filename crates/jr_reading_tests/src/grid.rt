@@ -14,7 +14,8 @@ pub(crate) const ROWS: &'static str = "
 ~grid Still => behind
 ";
 
-fn kind_of(name: &str) -> Kind {
+/// The kind of this name; any other is `Still`.
+pub(crate) fn kind_of(name: &str) -> Kind {
     match name {
         "Load" => Kind::Load,
         "Store" => Kind::Store,

@@ -8,7 +8,8 @@
 //! second time, and each crate of tests proves anew how the trees that it holds are dropped.
 //!
 //! `edits`, `layouts`, `grid`, `numbers`: what edits make of a text, where bytes go, the reordering
-//! grid, numbers by name.
+//! grid, numbers by name. `flow`, `depending`: paths of graphs, what of sites may change places and
+//! what depends on what.
 //! `lexing`, `limits`, `faults`: items and texts of each size up to the limits. `samples`, `trees`,
 //! `paths`, `deepest`, `drops`: trees made by hand, paths and copies, the stack that the deepest
 //! trees take, what a drop frees. `reading`, `expressions` with `shown`, `units`, `printing`: texts
@@ -23,6 +24,8 @@ mod builds;
 #[cfg(test)]
 mod deepest;
 #[cfg(test)]
+mod depending;
+#[cfg(test)]
 mod drops;
 #[cfg(test)]
 mod edits;
@@ -30,6 +33,8 @@ mod edits;
 mod expressions;
 #[cfg(test)]
 mod faults;
+#[cfg(test)]
+mod flow;
 #[cfg(test)]
 mod grid;
 #[cfg(test)]

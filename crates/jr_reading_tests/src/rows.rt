@@ -2,8 +2,10 @@
 //! line without ` => ` is a remark.
 use crate::building::table_of;
 use crate::builds::{self, field_types, superclasses};
+use crate::depending::{self, cross, depend};
 use crate::edits::{self, cut, edit};
 use crate::expressions::{self, read_expression, read_whole};
+use crate::flow::{self, reach, used};
 use crate::grid::{self, moves_behind};
 use crate::layouts::{self, end_of_class, gap};
 use crate::lexing::{self, identify, lex_text, too_deep};
@@ -43,6 +45,10 @@ fn answer_of_text(rt: &impl Abort, alloc: Global, kind: &str, asked: &str) -> St
         "gap" => gap(rt, alloc, asked),
         "end" => end_of_class(rt, alloc, asked),
         "grid" => moves_behind(rt, alloc, asked),
+        "reach" => reach(rt, alloc, asked),
+        "used" => used(rt, alloc, asked),
+        "cross" => cross(rt, alloc, asked),
+        "depend" => depend(rt, alloc, asked),
         "lex" => lex_text(rt, alloc, asked),
         "identifier" => identify(rt, alloc, asked),
         "depth" => too_deep(rt, alloc, asked),
@@ -88,6 +94,9 @@ fn rows_about_texts(rt: HostRuntime) {
     assert_rows(&rt, rt.alloc(), "", edits::ROWS, 11);
     assert_rows(&rt, rt.alloc(), "", layouts::ROWS, 18);
     assert_rows(&rt, rt.alloc(), "", grid::ROWS, 7);
+    assert_rows(&rt, rt.alloc(), "", flow::ROWS, 18);
+    assert_rows(&rt, rt.alloc(), "", depending::PAIRS, 32);
+    assert_rows(&rt, rt.alloc(), "", depending::LISTS, 16);
     assert_rows(&rt, rt.alloc(), "", lexing::ROWS, 79);
     assert_rows(&rt, rt.alloc(), "", expressions::ROWS, 103);
     assert_rows(&rt, rt.alloc(), "", units::ROWS, 82);

@@ -1,5 +1,6 @@
 //! Steps over the deepest texts of each kind that the limits allow: each has to do with the stack
 //! that a program is given.
+use crate::dependences::tell_dependences;
 use crate::memory::{put, put_times, text_of};
 use crate::rows::{assert_same, cut_at, number};
 use crate::runs::run_over;
@@ -32,7 +33,28 @@ const NESTS: &'static str = "
 ~1@1*L=L|148*&&L@@1*;
 ";
 
-fn put_pieces(rt: &impl Abort, text: &mut String, pieces: &str) {
+/// Nests of which dependences are shown. Of those whose other parts have no sites: whether each way
+/// meets the middle's write of L (`met`) or may leave it out (`skipped`). Of the others: how many
+/// sites the method has, which are too many.
+const WITH_SITES: &'static str = "
+~98@75*if(true)|1*{@L=F;@1*} => skipped
+~10@50*if(true)|1*{@L=F;@1*}|50*else; => skipped
+~98@5*if(true)|1*{@L=F;@1*}|5*else; => skipped
+~500@1*if(true);else @L=F;@ => skipped
+~1@1*L=F==|97*(@true@97*)|1*; => met
+~1@1*L=F==(|97*(C)@null==null@1*); => met
+~1@1*L=F==|295*!@true@1*; => met
+~1@1*L=F|148*&&true@@1*; => met
+~98@75*if(L)|1*{@L=F;@1*} => 7360
+~98@75*while(true)|1*{@L=F;@1*} => 7360
+~98@74*if(L)|1*synchronized(P)|1*{@L=F;@1*} => 7654
+~98@5*if(true);else |74*while(true)|1*{@L=F;@1*} => 7262
+~11@1*P=|98*M(|1*P|98*)|1*;@@ => 1108
+~6@1*P=P|59*.M(P)|1*;@@ => 1082
+~7@149*L=|1*L;@@ => 1058
+";
+
+pub(crate) fn put_pieces(rt: &impl Abort, text: &mut String, pieces: &str) {
     for piece in pieces.split('|') {
         let (times, piece) = cut_at(piece, "*");
         put_times(rt, text, piece, number(rt, times) as usize);
@@ -106,12 +128,79 @@ fn assert_nested(rt: &impl Abort, alloc: Global, row: &str) {
     assert_renamed(rt, alloc, text, "rename A.java 35 D", "L", "D");
 }
 
+/// The last two places at which a name stands.
+fn last_two(text: &str, name: char) -> (usize, usize) {
+    let mut two = (0, 0);
+    for (at, other) in text.char_indices() {
+        if other == name {
+            two = (two.1, at);
+        }
+    }
+    two
+}
+
+/// A dependence of the method's sites at two bytes.
+fn put_line(rt: &impl Abort, text: &mut String, kind: &str, first: usize, second: usize) {
+    write!(text, ";C.M(C) {kind} {first} {second}").expect(rt, "memory");
+}
+
+/// The dependences of a nest whose parts have no sites: of the front's load of F and write of L, at
+/// 37 and 35, of the middle's, and of the back's call, read of L, check and store of F.
+fn dependences(rt: &impl Abort, alloc: Global, text: &str, is_met: bool) -> String {
+    let (write, read) = last_two(text, 'L');
+    let (load, store) = last_two(text, 'F');
+    let (_, call) = last_two(text, 'M');
+    let mut lines = String::new(alloc);
+    put_line(rt, &mut lines, "Order", 37, call);
+    put_line(rt, &mut lines, "Order", 37, store);
+    put_line(rt, &mut lines, "Field", 37, store);
+    put_line(rt, &mut lines, "Output", 35, write);
+    if !is_met {
+        put_line(rt, &mut lines, "Flow", 35, read);
+    }
+    put_line(rt, &mut lines, "Order", load, call);
+    put_line(rt, &mut lines, "Order", load, store);
+    put_line(rt, &mut lines, "Field", load, store);
+    put_line(rt, &mut lines, "Flow", write, read);
+    put_line(rt, &mut lines, "Order", call, store);
+    put_line(rt, &mut lines, "Order", call, store);
+    put_line(rt, &mut lines, "Order", store, store);
+    lines
+}
+
+/// What a show of the dependences is to tell, with `;` in front of each line.
+fn expected_of(rt: &impl Abort, alloc: Global, text: &str, expected: &str) -> String {
+    match expected {
+        "met" => dependences(rt, alloc, text, true),
+        "skipped" => dependences(rt, alloc, text, false),
+        count => {
+            let mut refusal = text_of(rt, alloc, ";24 TooManySites C.M(C) ");
+            put(rt, &mut refusal, count);
+            refusal
+        }
+    }
+}
+
+fn assert_dependences(rt: &impl Abort, alloc: Global, nest: &str, expected: &str) {
+    let text = nested(rt, alloc, nest);
+    let expected = expected_of(rt, alloc, text.as_str(), expected);
+    let mut told = text_of(rt, alloc, ";");
+    let shown = tell_dependences(rt, alloc, text.as_str(), "");
+    put(rt, &mut told, shown.as_str());
+    assert_same(rt, told.as_str(), expected.as_str());
+}
+
 fn assert_all(rt: &impl Abort, alloc: Global, rows: &str, count: u32) {
     let mut seen = 0u32;
     for row in rows.split('~') {
         if let Some(row) = row.strip_suffix("\n") {
             if row != "" {
-                assert_nested(rt, alloc, row);
+                let (nest, expected) = cut_at(row, " => ");
+                if expected == "" {
+                    assert_nested(rt, alloc, nest);
+                } else {
+                    assert_dependences(rt, alloc, nest, expected);
+                }
                 seen = seen.wrapping_add(1);
             }
         }
@@ -122,4 +211,5 @@ fn assert_all(rt: &impl Abort, alloc: Global, rows: &str, count: u32) {
 #[test]
 fn deepest_texts(rt: HostRuntime) {
     assert_all(&rt, rt.alloc(), NESTS, 14);
+    assert_all(&rt, rt.alloc(), WITH_SITES, 15);
 }

@@ -2,12 +2,14 @@
 //! in a crate of their own, so that the crates which they test are proved once.
 //!
 //! Questions and answers stand in texts, a row a line, which one loop reads (`rows`): what words
-//! mean, what scripts are read as, shows, runs and renames (`words`, `scripts`, `shows`, `runs`,
-//! `renames`, `renaming`, `kinds`, `rules`, `endings`). Beside the rows: files that are fetched and
-//! stored, texts of reports and faults, sessions, want of memory (`files`, `reports`, `faults`,
-//! `sessions`, `memory`); `members` binds one member by its key.
+//! mean, what scripts are read as, shows, runs and renames (`words`, `scripts`, `shows`,
+//! `dependences`, `runs`, `renames`, `renaming`, `kinds`, `rules`, `endings`). Beside the rows: files
+//! that are fetched and stored, texts of reports and faults, sessions, want of memory (`files`,
+//! `reports`, `faults`, `sessions`, `memory`); `members` binds one member by its key.
 #![tactic(auto)]
 
+#[cfg(test)]
+mod dependences;
 #[cfg(test)]
 mod depths;
 #[cfg(test)]

@@ -1,5 +1,6 @@
 //! Tables of rows in one text, a row a line: `~`, what is asked, ` => ` and what is expected. A
 //! line without ` => ` is a remark.
+use crate::dependences::{self, show_among, show_dependences, show_many};
 use crate::endings::{self, end_by};
 use crate::kinds::{self, run_kind};
 use crate::renaming::{self, run_back, run_renamed, run_two};
@@ -36,6 +37,9 @@ fn answer(rt: &impl Abort, alloc: Global, asked: &str) -> String {
         "words" => meaning(rt, alloc, asked),
         "script" => read(rt, alloc, asked.as_bytes()),
         "show" => show_all(rt, alloc, asked),
+        "depends" => show_dependences(rt, alloc, asked),
+        "among" => show_among(rt, alloc, asked),
+        "many" => show_many(rt, alloc, asked),
         "one" => run_one(rt, alloc, asked),
         "bad" => run_bad(rt, alloc, asked),
         "edits" => run_edits(rt, alloc, asked),
@@ -65,7 +69,7 @@ fn assert_rows(rt: &impl Abort, alloc: Global, rows: &str, count: u32) {
 fn rows_are_answered(rt: HostRuntime) {
     let alloc = rt.alloc();
     assert_rows(&rt, alloc, words::ROWS, 58);
-    assert_rows(&rt, alloc, scripts::ROWS, 44);
+    assert_rows(&rt, alloc, scripts::ROWS, 46);
     assert_rows(&rt, alloc, shows::ROWS, 37);
     assert_rows(&rt, alloc, rules::ROWS, 155);
     assert_rows(&rt, alloc, runs::SCRIPTS, 11);
@@ -77,4 +81,8 @@ fn rows_are_answered(rt: HostRuntime) {
     assert_rows(&rt, alloc, renaming::BACK, 2);
     assert_rows(&rt, alloc, kinds::ROWS, 66);
     assert_rows(&rt, alloc, endings::ROWS, 11);
+    assert_rows(&rt, alloc, dependences::ROWS, 64);
+    assert_rows(&rt, alloc, dependences::AMONG, 79);
+    assert_rows(&rt, alloc, dependences::MANY, 12);
+    assert_rows(&rt, alloc, dependences::SCRIPTS, 3);
 }

@@ -18,6 +18,7 @@ pub(crate) const ROWS: &'static str = "
     [{\"step\":\"edit\",\"file\":\"\",\"from\":0,\"to\":4294967295,\"text\":\"\\u00e9\\n\"}] => \
     edit  0 4294967295 é\n;
 ~script [{\"step\":\"show\",\"file\":\"A.java\",\"what\":\"bindings\"}] => show A.java bindings;
+~script [{\"step\":\"show\",\"what\":\"dependences\",\"file\":\"A\"}] => show A dependences;
 ~script [{\"name\":\"b\",\"step\":\"rename\",\"at\":4294967295,\"file\":\"A.java\"}] => \
     rename A.java 4294967295 b;
 ~# The last of two equal names stays, and an escaped name is the name.
@@ -64,7 +65,9 @@ pub(crate) const ROWS: &'static str = "
 ~script [{\"step\":\"rename\",\"file\":\"A\",\"at\":-1,\"name\":\"b\"}] => NotAScript 0 at
 ~script [{\"step\":\"rename\",\"file\":\"A\",\"at\":0,\"new\":\"b\"}] => NotAScript 0 name
 ~script [{\"step\":\"show\",\"what\":\"bindings\"}] => NotAScript 0 file
-~script [{\"step\":\"show\",\"file\":\"A\",\"what\":\"dependences\"}] => NotAScript 0 what
+~script [{\"step\":\"show\",\"file\":\"A\",\"what\":\"sites\"}] => NotAScript 0 what
+~script [{\"step\":\"show\",\"file\":\"A\",\"what\":[\"dependences\"]}] => \
+    NotAScript 0 what
 ~# The first surplus member in byte order, whatever the order of the text.
 ~script [{\"step\":\"undo\",\"x\":1}] => NotAScript 0 x
 ~script [{\"step\":\"undo\",\"b\":1,\"\":2,\"a\":3,\"B\":4}] => NotAScript 0\x20

@@ -14,16 +14,16 @@ use std::marker::Brand;
 use std::process::Abort;
 use std::sync::ledger::{Blank, Ledger};
 
-fn text_of(rt: &impl Abort, alloc: Global, text: &str) -> Text {
+pub(crate) fn text_of(rt: &impl Abort, alloc: Global, text: &str) -> Text {
     Text::new(alloc, text.as_bytes()).expect(rt, "a text")
 }
 
-fn name_of(rt: &impl Abort, alloc: Global, name: &str) -> Name {
+pub(crate) fn name_of(rt: &impl Abort, alloc: Global, name: &str) -> Name {
     Name::new(alloc, name).expect(rt, "memory")
 }
 
 // Two files.
-fn files(
+pub(crate) fn files(
     rt: &impl Abort,
     alloc: Global,
     first: (&str, Text),
@@ -39,7 +39,7 @@ fn files(
     files
 }
 
-fn show(rt: &impl Abort, alloc: Global, name: &str) -> Step
+pub(crate) fn show(rt: &impl Abort, alloc: Global, name: &str) -> Step
     ensures { IsServed result }
 {
     let file = name_of(rt, alloc, name);
@@ -82,7 +82,7 @@ fn put_refusal(rt: &impl Abort, text: &mut String, refusal: &Refusal) {
 }
 
 // What a step is answered, behind what earlier ones were.
-fn put_step<L: Ledger>(
+pub(crate) fn put_step<L: Ledger>(
     rt: &impl Abort,
     alloc: Global,
     session: &mut Session,

@@ -48,8 +48,26 @@ no_text d name e h =
 pub no_offset : (d : Data) (name : List ℕ) → ((n : ℕ) → n ≤ 4294967295 → option_and_then as_u64 (option_and_then as_number (get name d)) ≢ Some n) → ¬ HasColumn d (column name offset)
 no_offset d name none h = none h.2.0 h.2.1 (ap (λ o. option_and_then as_u64 (option_and_then as_number o)) (h.1 ∙ ap Some h.2.2))
 
-pub not_shown : (d : Data) (name : List ℕ) → option_and_then as_str (get name d) ≢ Some (codes "bindings") → ¬ HasColumn d (column name shown)
-not_shown d name other h = other (ap (option_and_then as_str) (h.1 ∙ ap Some h.2))
+none : (s : List ℕ) → Some s ≡ None → ⊥
+none s e = cc
+
+pub no_shown : (d : Data) (name : List ℕ) → option_and_then as_str (get name d) ≡ None → ¬ HasColumn d (column name shown)
+no_shown d name e h = by h.2
+  where
+    by : ((h.0 ≡ string (codes "bindings")) ⊎ (h.0 ≡ string (codes "dependences"))) → ⊥
+    by (inl is) = none (codes "bindings") (sym (ap (option_and_then as_str) (h.1 ∙ ap Some is)) ∙ e)
+    by (inr is) = none (codes "dependences") (sym (ap (option_and_then as_str) (h.1 ∙ ap Some is)) ∙ e)
+
+-- a word that is neither
+pub not_shown : (d : Data) (name word : List ℕ) → get name d ≡ Some (string word) → word ≢ codes "bindings" → word ≢ codes "dependences" → ¬ HasColumn d (column name shown)
+not_shown d name word there no_bindings no_dependences h = by h.2
+  where
+    word_of : (s : List ℕ) → h.0 ≡ string s → word ≡ s
+    word_of s is = let both : Some (string word) ≡ Some (string s) = sym there ∙ h.1 ∙ ap Some is in cc
+
+    by : ((h.0 ≡ string (codes "bindings")) ⊎ (h.0 ≡ string (codes "dependences"))) → ⊥
+    by (inl is) = no_bindings (word_of (codes "bindings") is)
+    by (inr is) = no_dependences (word_of (codes "dependences") is)
 
 -- ---- the names of an object
 

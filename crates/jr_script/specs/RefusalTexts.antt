@@ -10,7 +10,8 @@ use Rattle.jr_names.specs.Refusals.{clash, override_changed, lost_binding, would
 use Rattle.jr_names.specs.Refusals.{lost_dependence, bad_span, too_long, nothing_to_undo}
 use Rattle.jr_names.specs.Refusals.{nothing_to_redo, report_full, too_many_sites}
 use Rattle.jr_names.specs.RefusalNames.{refusal_name}
-use Rattle.jr_script.specs.Texts.{at_text, place_text, found_text, dep_kind_text, site_at_text}
+use Rattle.jr_dependences.specs.KindNames.{kind_name}
+use Rattle.jr_script.specs.Texts.{at_text, place_text, found_text, site_at_text}
 
 -- the fields in their order; a file and a place in it are one, and a word stands before what was
 -- found and between two sites
@@ -34,7 +35,7 @@ fields_of files (lost_binding reference declaration found) =
     place_text files reference ∷ decl_text declaration ∷ codes "found" ∷ found_text found ∷ []
 fields_of files (would_not_compile at rule) = place_text files at ∷ rule ∷ []
 fields_of files (lost_dependence kind first second) =
-    dep_kind_text kind ∷ site_at_text files first ∷ codes "before" ∷ site_at_text files second ∷ []
+    kind_name kind ∷ site_at_text files first ∷ codes "before" ∷ site_at_text files second ∷ []
 fields_of files (bad_span from to) = decimal from ∷ decimal to ∷ []
 fields_of files (too_long len) = decimal len ∷ []
 fields_of files nothing_to_undo = []

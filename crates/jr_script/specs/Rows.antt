@@ -1,5 +1,5 @@
 -- The table of the steps that a script may ask for: a row a word.
-use Rattle.std.specs.Prelude.{◌≡◌, ℕ, ◌≤◌, List, [], ◌∷◌, map, codes}
+use Rattle.std.specs.Prelude.{◌≡◌, ◌⊎◌, ℕ, ◌≤◌, List, [], ◌∷◌, map, codes}
 use Rattle.serde_json.specs.Data.{Data, string, number, unsigned}
 
 -- what stands at a member: any string, an offset, or what is shown
@@ -8,12 +8,13 @@ pub data Kind : Type 0 where
   offset : Kind
   shown : Kind
 
--- An offset is a whole number that isn't negative, as `serde_json` keeps it. Of what may be shown,
--- `bindings` is built.
+-- An offset is a whole number that isn't negative, as `serde_json` keeps it. Bindings are shown, or
+-- dependences.
 abbrev pub IsOf : Kind → Data → Type 0
 IsOf text value = (s : List ℕ) × (value ≡ string s)
 IsOf offset value = (n : ℕ) × (n ≤ 4294967295) × (value ≡ number (unsigned n))
-IsOf shown value = value ≡ string (codes "bindings")
+IsOf shown value =
+    (value ≡ string (codes "bindings")) ⊎ (value ≡ string (codes "dependences"))
 
 -- a member of a row
 pub record Column : Type 0 where

@@ -4,8 +4,6 @@ use Rattle.jr_text.specs.declared.spans.Place.{Place}
 use Rattle.jr_sync.specs.declared.kinds.Kind.{Kind}
 use Rattle.jr_sync.specs.declared.kinds.Kind.TheVariants.{Load, Store, VolatileLoad, VolatileStore}
 use Rattle.jr_sync.specs.declared.kinds.Kind.TheVariants.{Enter, Exit, Still}
-use Rattle.jr_sync.specs.declared.sites.DepKind.{DepKind}
-use Rattle.jr_sync.specs.declared.sites.DepKind.TheVariants as dep
 use Rattle.jr_sync.specs.declared.sites.Site.{Site}
 use Rattle.jr_sync.specs.declared.sites.Site.TheVariants.{Read, Write, Access, Check, Call, Loop}
 use Rattle.jr_table.specs.Keys.{FieldKey}
@@ -37,14 +35,6 @@ kind_text VolatileStore = codes "VolatileStore"
 kind_text Enter = codes "Enter"
 kind_text Exit = codes "Exit"
 kind_text Still = codes "Still"
-
-abbrev pub dep_kind_text : DepKind → List ℕ
-dep_kind_text dep.Order = codes "Order"
-dep_kind_text dep.Field = codes "Field"
-dep_kind_text dep.Sync = codes "Sync"
-dep_kind_text dep.Flow = codes "Flow"
-dep_kind_text dep.Anti = codes "Anti"
-dep_kind_text dep.Output = codes "Output"
 
 -- an access's kind and, where there is one, a space and the field
 abbrev pub access_text : Kind → Option FieldKey → List ℕ

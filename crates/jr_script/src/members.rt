@@ -1,8 +1,8 @@
 //! The members of an object, one by one.
 
-ghost use Rattle.std.specs.Prelude.{◌≡◌, ◌↔◌, map, IfOk, IfErr, OnOk, IsTrue, Contains, option_map};
-ghost use Rattle.std.specs.Prelude.{option_and_then};
-ghost use Rattle.serde_json.specs.Data.{object};
+ghost use Rattle.std.specs.Prelude.{◌≡◌, ◌↔◌, map, Some, IfOk, IfErr, OnOk, IsTrue, Contains};
+ghost use Rattle.std.specs.Prelude.{option_and_then, option_map};
+ghost use Rattle.serde_json.specs.Data.{object, string};
 ghost use Rattle.serde_json.specs.Find.{get, as_number, as_str, as_u64};
 ghost use Rattle.serde_json.specs.View.{view, members_view};
 ghost use Rattle.jr_script.specs.Rows.{column, text, offset, shown};
@@ -72,8 +72,23 @@ pub(crate) fn shown_member(alloc: Global, element: &Value, name: &str) -> Result
     ensures fault { IfErr result (Tells (IsMissing (view element.now) (column name.now shown))) }
 {
     match str_at(element, name) {
-        Some(what) if what == "bindings" => Ok(What::Bindings),
-        _ => Err(member_fault(alloc, name)),
+        Some(word) => shown_word(alloc, element, name, word),
+        None => Err(member_fault(alloc, name)),
+    }
+}
+
+// The same, by the word that stands there.
+fn shown_word(alloc: Global, element: &Value, name: &str, word: &str) -> Result<What, StepFault>
+    requires { get name.now (view element.now) ≡ Some (string word.now) }
+    ensures ok { IfOk result (λ what. HasCell (view element.now) (shown_at name.now what)) }
+    ensures fault { IfErr result (Tells (IsMissing (view element.now) (column name.now shown))) }
+{
+    if word == "bindings" {
+        Ok(What::Bindings)
+    } else if word == "dependences" {
+        Ok(What::Dependences)
+    } else {
+        Err(member_fault(alloc, name))
     }
 }
 

@@ -4,14 +4,16 @@ ghost use Rattle.std.specs.Prelude.{◌≡◌, ◌<◌, [], ◌∷◌, length, c
 ghost use Rattle.jr_table.specs.TypeView.{class_key_of};
 ghost use Rattle.jr_table.specs.KeyView.{decl_of, local_key_of, member_key_of, method_key_of};
 ghost use Rattle.jr_table.specs.FoundView.{found_of};
+ghost use Rattle.jr_dependences.specs.KindNames as kinds;
 ghost use Rattle.jr_names.specs.DeclTexts as decls;
 ghost use Rattle.jr_names.specs.RefusalView.{refusal_of};
 ghost use Rattle.jr_names.specs.SiteView.{site_at_of};
 ghost use Rattle.jr_script.specs.Texts as texts;
 ghost use Rattle.jr_script.specs.RefusalTexts as refusals;
 
-use crate::texts::{at_text, dep_kind_text, found_text, place_text, site_at_text};
+use crate::texts::{at_text, found_text, place_text, site_at_text};
 use jr_ast::Name;
+use jr_dependences::kind_name;
 use jr_names::{Refusal, SiteAt, class_text, decl_text, local_text, member_text, method_text};
 use jr_sync::DepKind;
 use jr_table::{ClassKey, Decl, Found, LocalKey, MemberKey, MethodKey};
@@ -214,12 +216,12 @@ fn dependence_fields(
     requires first { first.now.place.file < length files.now }
     requires second { second.now.place.file < length files.now }
     ensures { IfOk result (λ text. string_bytes text ≡ refusals.spaced
-        (texts.dep_kind_text kind
+        (kinds.kind_name kind
         ∷ texts.site_at_text files.now (site_at_of first.now)
         ∷ codes "before"
         ∷ texts.site_at_text files.now (site_at_of second.now) ∷ [])) }
 {
-    let kind = dep_kind_text(kind);
+    let kind = kind_name(kind);
     let first = site_at_text(alloc, files, first)?;
     let second = site_at_text(alloc, files, second)?;
     format!(in alloc; " {kind} {first} before {second}")

@@ -9,7 +9,7 @@ ghost use Rattle.jr_script.specs.Texts as texts;
 
 use jr_ast::Name;
 use jr_names::{SiteAt, decl_text, field_text, local_text};
-use jr_sync::{DepKind, Kind, Site};
+use jr_sync::{Kind, Site};
 use jr_table::{Decl, FieldKey, Found, LocalKey};
 use jr_text::Place;
 use std::alloc::{AllocError, Global};
@@ -78,19 +78,6 @@ fn kind_text(kind: Kind) -> &'static str
         Kind::Enter => "Enter",
         Kind::Exit => "Exit",
         Kind::Still => "Still",
-    }
-}
-
-pub(crate) fn dep_kind_text(kind: DepKind) -> &'static str
-    ensures { result.now ≡ texts.dep_kind_text kind }
-{
-    match kind {
-        DepKind::Order => "Order",
-        DepKind::Field => "Field",
-        DepKind::Sync => "Sync",
-        DepKind::Flow => "Flow",
-        DepKind::Anti => "Anti",
-        DepKind::Output => "Output",
     }
 }
 

@@ -1,6 +1,6 @@
 -- States: `Histories`, `Places`, `KeptLaws`, `StateLaws`, `LengthLaws`, `EditLaws`, `Exchanging`,
 -- `Turning`, `SessionSteps`, `StepCases`, `StepFiles`, `RefusalCases`, `Telling` (the places that a
--- refusal tells). Shows: `ShownLines`, `ShowSteps`, `Showing`. A refactoring: `Making`, `Planning`,
+-- refusal tells). Shows: `ShownLines`, `ShownMembers`, `DependenceShows`, `ShownOnce`, `ShowSteps`, `Showing`. A refactoring: `Making`, `Planning`,
 -- `Trying`, `Staying`, `Refactored`, `RefactoredFiles`; a rename: `RenameSteps`, `NewTables`,
 -- `NewTells`. One answer: `OneAnswer` (edits, undoing, redoing), `OneFault`, `OneWrong`,
 -- `OneRefactoring`, `RenameRequest`, `OneStep`; `PlanReasons`, `FirstReason`. Promises: `KeptPrograms`
@@ -25,6 +25,9 @@ pub mod OneStep
 pub mod PlanReasons
 pub mod FirstReason
 pub mod ShownLines
+pub mod ShownMembers
+pub mod DependenceShows
+pub mod ShownOnce
 pub mod ShowSteps
 pub mod Showing
 pub mod Exchanging

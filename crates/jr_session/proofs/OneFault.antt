@@ -5,7 +5,8 @@ use Rattle.std.proofs.lemmas.Bool.{cases_order}
 use Rattle.std.proofs.lemmas.Option.{same_Some}
 use Rattle.jr_text.specs.declared.spans.Span.{Span}
 use Rattle.jr_ast.specs.MemberTree.{Unit as UnitTree}
-use Rattle.jr_names.specs.Refusals.{Refusal, no_such_file, source_error, report_full}
+use Rattle.jr_names.specs.declared.steps.What.{What}
+use Rattle.jr_names.specs.Refusals.{Refusal, no_such_file, source_error, report_full, too_many_sites}
 use Rattle.jr_table.specs.declared.kinds.DeclKind.{DeclKind}
 use Rattle.jr_table.specs.Faults.{Place, PackageLine, HasFault as HasDeclFault, IsFirstFault, IsUpTo, rank_of as kind_rank}
 use Rattle.jr_table.specs.Names.{kind_name}
@@ -23,7 +24,7 @@ use Rattle.jr_sources.specs.FirstFault.{package_lines, IsFileFault, IsDeclaratio
 use Rattle.jr_session.specs.Refusing.{IsFirstRefusal, rank_of}
 use Rattle.jr_session.specs.StepLaws.{HasOneShow}
 use Rattle.jr_sources.proofs.Analysing.{read_once, source_read}
-use Rattle.jr_session.proofs.ShowSteps.{the_show, MayRefuseShow, show_refusals, would_once}
+use Rattle.jr_session.proofs.ShowSteps.{the_show, MayRefuseShow, show_refusals, would_once, large_once}
 
 -- ---- of declarations
 
@@ -90,25 +91,34 @@ module _ (reading : HasOneReading) (ss : List Source) where
 
 -- ---- of a show
 
-module _ (reading : HasOneReading) (once : HasOneShow) (s : State) (file : List ℕ) (differ : Differ s.files) where
-  ranked : (q r : Refusal) → q ≡ r → rank_of (the_show file) q ≡ rank_of (the_show file) r
-  ranked q r e = ap (rank_of (the_show file)) e
+module _ (reading : HasOneReading) (once : HasOneShow) (s : State) (file : List ℕ) (of : What) (differ : Differ s.files) where
+  ranked : (q r : Refusal) → q ≡ r → rank_of (the_show file of) q ≡ rank_of (the_show file of) r
+  ranked q r e = ap (rank_of (the_show file of)) e
 
-  same_refusal : (q r : Refusal) → rank_of (the_show file) q ≤ rank_of (the_show file) r → rank_of (the_show file) r ≤ rank_of (the_show file) q → MayRefuseShow s file q → MayRefuseShow s file r → q ≡ r
+  same_refusal : (q r : Refusal) → rank_of (the_show file of) q ≤ rank_of (the_show file of) r → rank_of (the_show file of) r ≤ rank_of (the_show file of) q → MayRefuseShow s file of q → MayRefuseShow s file of r → q ≡ r
   same_refusal q r le ge (inl g) (inl h) = g.0 ∙ sym h.0
   same_refusal q r le ge (inl g) (inr (inl h)) = let a = ranked q (no_such_file file) g.0 in let b = ranked r (source_error h.0 h.1 h.2) h.3 in absurd (omega arith)
-  same_refusal q r le ge (inl g) (inr (inr h)) = let a = ranked q (no_such_file file) g.0 in let b = ranked r (report_full h.0) h.1 in absurd (omega arith)
+  same_refusal q r le ge (inl g) (inr (inr (inl h))) = let a = ranked q (no_such_file file) g.0 in let b = ranked r (too_many_sites h.0 h.1) h.2 in absurd (omega arith)
+  same_refusal q r le ge (inl g) (inr (inr (inr h))) = let a = ranked q (no_such_file file) g.0 in let b = ranked r (report_full h.0) h.1 in absurd (omega arith)
   same_refusal q r le ge (inr (inl g)) (inl h) = let a = ranked q (source_error g.0 g.1 g.2) g.3 in let b = ranked r (no_such_file file) h.0 in absurd (omega arith)
   same_refusal q r le ge (inr (inl g)) (inr (inl h)) =
       let same = one_first reading s.files g.0 h.0 g.1 h.1 g.2 h.2 g.4 h.4 in
       g.3 ∙ (λ i. source_error (same.0 i) (same.1 i) (same.2 i)) ∙ sym h.3
-  same_refusal q r le ge (inr (inl g)) (inr (inr h)) = let a = ranked q (source_error g.0 g.1 g.2) g.3 in let b = ranked r (report_full h.0) h.1 in absurd (omega arith)
-  same_refusal q r le ge (inr (inr g)) (inl h) = let a = ranked q (report_full g.0) g.1 in let b = ranked r (no_such_file file) h.0 in absurd (omega arith)
-  same_refusal q r le ge (inr (inr g)) (inr (inl h)) = let a = ranked q (report_full g.0) g.1 in let b = ranked r (source_error h.0 h.1 h.2) h.3 in absurd (omega arith)
-  same_refusal q r le ge (inr (inr g)) (inr (inr h)) =
-      let lines = would_once s file differ once g.2.0 h.2.0 g.2.1 h.2.1 in
+  same_refusal q r le ge (inr (inl g)) (inr (inr (inl h))) = let a = ranked q (source_error g.0 g.1 g.2) g.3 in let b = ranked r (too_many_sites h.0 h.1) h.2 in absurd (omega arith)
+  same_refusal q r le ge (inr (inl g)) (inr (inr (inr h))) = let a = ranked q (source_error g.0 g.1 g.2) g.3 in let b = ranked r (report_full h.0) h.1 in absurd (omega arith)
+  same_refusal q r le ge (inr (inr (inl g))) (inl h) = let a = ranked q (too_many_sites g.0 g.1) g.2 in let b = ranked r (no_such_file file) h.0 in absurd (omega arith)
+  same_refusal q r le ge (inr (inr (inl g))) (inr (inl h)) = let a = ranked q (too_many_sites g.0 g.1) g.2 in let b = ranked r (source_error h.0 h.1 h.2) h.3 in absurd (omega arith)
+  same_refusal q r le ge (inr (inr (inl g))) (inr (inr (inl h))) =
+      let same = large_once s file of differ once g.0 h.0 g.1 h.1 g.3 h.3 in
+      g.2 ∙ (λ i. too_many_sites (same.0 i) (same.1 i)) ∙ sym h.2
+  same_refusal q r le ge (inr (inr (inl g))) (inr (inr (inr h))) = let a = ranked q (too_many_sites g.0 g.1) g.2 in let b = ranked r (report_full h.0) h.1 in absurd (omega arith)
+  same_refusal q r le ge (inr (inr (inr g))) (inl h) = let a = ranked q (report_full g.0) g.1 in let b = ranked r (no_such_file file) h.0 in absurd (omega arith)
+  same_refusal q r le ge (inr (inr (inr g))) (inr (inl h)) = let a = ranked q (report_full g.0) g.1 in let b = ranked r (source_error h.0 h.1 h.2) h.3 in absurd (omega arith)
+  same_refusal q r le ge (inr (inr (inr g))) (inr (inr (inl h))) = let a = ranked q (report_full g.0) g.1 in let b = ranked r (too_many_sites h.0 h.1) h.2 in absurd (omega arith)
+  same_refusal q r le ge (inr (inr (inr g))) (inr (inr (inr h))) =
+      let lines = would_once s file of differ once g.2.0 h.2.0 g.2.1 h.2.1 in
       let len : g.0 ≡ h.0 = g.2.3 ∙ ap (λ (ls : List (List ℕ)). s.shown + bytes_of ls) lines ∙ sym h.2.3 in
       g.1 ∙ ap report_full len ∙ sym h.1
 
-  pub one_show_refusal : (q r : Refusal) → IsFirstRefusal s (the_show file) q → IsFirstRefusal s (the_show file) r → q ≡ r
-  one_show_refusal q r g h = same_refusal q r (g.first r h.applies) (h.first q g.applies) (show_refusals s file q g.applies) (show_refusals s file r h.applies)
+  pub one_show_refusal : (q r : Refusal) → IsFirstRefusal s (the_show file of) q → IsFirstRefusal s (the_show file of) r → q ≡ r
+  one_show_refusal q r g h = same_refusal q r (g.first r h.applies) (h.first q g.applies) (show_refusals s file of q g.applies) (show_refusals s file of r h.applies)

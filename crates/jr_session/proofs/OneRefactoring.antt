@@ -8,11 +8,10 @@ use Rattle.jr_text.specs.Edits.{Entry}
 use Rattle.jr_text.specs.Texts.{text_limit}
 use Rattle.jr_grammar.specs.Layout.{itself}
 use Rattle.jr_sync.specs.declared.sites.DepKind.{DepKind}
-use Rattle.jr_table.specs.Decls.{Decl}
 use Rattle.jr_names.specs.Refusals.{Refusal, no_such_file, bad_place, bad_name, source_error, would_not_compile, too_long, lost_dependence}
 use Rattle.jr_names.specs.Sites.{SiteAt}
 use Rattle.jr_bind.specs.Programs.{File, Program, IsProgram}
-use Rattle.jr_plan.specs.Reasons.{IsRefused, IsPlanned, HasOnePlan}
+use Rattle.jr_plan.specs.Reasons.{IsRefused, HasOnePlan}
 use Rattle.jr_program_laws.specs.PlaceLaws.{PartsArePlaced}
 use Rattle.jr_members.specs.WrittenLaws.{MembersAreWritten}
 use Rattle.jr_sources.specs.BindingErrors.{IsFirstWrong}

@@ -3,7 +3,7 @@ use Rattle.std.proofs.Common.{◌≡◌, ◌⊎◌, ℕ, ◌+◌, List, refl, sy
 use Rattle.jr_text.specs.declared.spans.Span.{Span}
 use Rattle.jr_names.specs.declared.steps.Step.{Step}
 use Rattle.jr_names.specs.declared.steps.Step.TheVariants as step
-use Rattle.jr_names.specs.declared.steps.What.TheVariants as what
+use Rattle.jr_names.specs.declared.steps.What.{What}
 use Rattle.jr_names.specs.Replies.{Reply, edited, refactored, shown, undone, redone, refused}
 use Rattle.jr_names.specs.Refusals.{Refusal}
 use Rattle.jr_lines.specs.Lines.{bytes_of}
@@ -41,17 +41,17 @@ both s of done Done r q t u one same (inl g) (inr h) = absurd (h.1 g.0 g.2.appli
 both s of done Done r q t u one same (inr g) (inl h) = absurd (g.1 h.0 h.2.applies)
 both s of done Done r q t u one same (inr g) (inr h) = (g.0 ∙ sym h.0, same g.2 h.2)
 
-edit_not_show : (file text name : List ℕ) (from to : ℕ) → step.Edit file from to text ≡ step.Show name what.Bindings → ⊥
-edit_not_show file text name from to e = cc
+edit_not_show : (file text name : List ℕ) (of : What) (from to : ℕ) → step.Edit file from to text ≡ step.Show name of → ⊥
+edit_not_show file text name of from to e = cc
 
-undo_not_show : (name : List ℕ) → step.Undo ≡ step.Show name what.Bindings → ⊥
-undo_not_show name e = cc
+undo_not_show : (name : List ℕ) (of : What) → step.Undo ≡ step.Show name of → ⊥
+undo_not_show name of e = cc
 
 undo_not_redo : step.Undo ≡ step.Redo → ⊥
 undo_not_redo e = cc
 
-redo_not_show : (name : List ℕ) → step.Redo ≡ step.Show name what.Bindings → ⊥
-redo_not_show name e = cc
+redo_not_show : (name : List ℕ) (of : What) → step.Redo ≡ step.Show name of → ⊥
+redo_not_show name of e = cc
 
 redo_not_undo : step.Redo ≡ step.Undo → ⊥
 redo_not_undo e = cc
@@ -59,7 +59,7 @@ redo_not_undo e = cc
 edit_answers : (s : State) (file text : List ℕ) (from to : ℕ) (r : Reply) (t : State) → Steps s (step.Edit file from to text) r t → Answers s (step.Edit file from to text) edited (λ u. IsEdited s (step.Edit file from to text) u) r t
 edit_answers s file text from to edited t h = inr (refl, h.0, h.1)
 edit_answers s file text from to (refactored a b) t h = absurd h.1
-edit_answers s file text from to (shown a) t h = absurd (edit_not_show file text h.1.shows.file from to h.1.shows.is)
+edit_answers s file text from to (shown a) t h = absurd (edit_not_show file text h.1.shows.shows.file h.1.shows.shown from to h.1.shows.shows.is)
 edit_answers s file text from to undone t h = absurd (edit_not_undo file text from to h.1.0)
 edit_answers s file text from to redone t h = absurd (edit_not_redo file text from to h.1.0)
 edit_answers s file text from to (refused x) t h = inl (x, refl, h.0, h.1)
@@ -67,7 +67,7 @@ edit_answers s file text from to (refused x) t h = inl (x, refl, h.0, h.1)
 undo_answers : (s : State) (r : Reply) (t : State) → Steps s step.Undo r t → Answers s step.Undo undone (λ u. IsUndone s u) r t
 undo_answers s edited t h = absurd (undo_no_edit h.1.edit.file h.1.text h.1.span.from h.1.span.to h.1.edit.is)
 undo_answers s (refactored a b) t h = absurd h.1
-undo_answers s (shown a) t h = absurd (undo_not_show h.1.shows.file h.1.shows.is)
+undo_answers s (shown a) t h = absurd (undo_not_show h.1.shows.shows.file h.1.shows.shown h.1.shows.shows.is)
 undo_answers s undone t h = inr (refl, h.0, h.1.1)
 undo_answers s redone t h = absurd (undo_not_redo h.1.0)
 undo_answers s (refused x) t h = inl (x, refl, h.0, h.1)
@@ -75,7 +75,7 @@ undo_answers s (refused x) t h = inl (x, refl, h.0, h.1)
 redo_answers : (s : State) (r : Reply) (t : State) → Steps s step.Redo r t → Answers s step.Redo redone (λ u. IsRedone s u) r t
 redo_answers s edited t h = absurd (redo_no_edit h.1.edit.file h.1.text h.1.span.from h.1.span.to h.1.edit.is)
 redo_answers s (refactored a b) t h = absurd h.1
-redo_answers s (shown a) t h = absurd (redo_not_show h.1.shows.file h.1.shows.is)
+redo_answers s (shown a) t h = absurd (redo_not_show h.1.shows.shows.file h.1.shows.shown h.1.shows.shows.is)
 redo_answers s undone t h = absurd (redo_not_undo h.1.0)
 redo_answers s redone t h = inr (refl, h.0, h.1.1)
 redo_answers s (refused x) t h = inl (x, refl, h.0, h.1)
@@ -86,17 +86,17 @@ redo_answers s (refused x) t h = inl (x, refl, h.0, h.1)
 abbrev more_shown : State → ℕ → State
 more_shown s count = record { files = s.files; undo = s.undo; redo = s.redo; shown = s.shown + count }
 
-abbrev Shows : State → (file : List ℕ) → Reply → State → Type 0
-Shows s file r t = ((x : Refusal) × (r ≡ refused x) × IsFirstRefusal s (the_show file) x × (t ≡ s))
-    ⊎ ((lines : List (List ℕ)) × (r ≡ shown lines) × IsGranted s (the_show file) × IsShown s (the_show file) lines t)
+abbrev Shows : State → (file : List ℕ) → What → Reply → State → Type 0
+Shows s file of r t = ((x : Refusal) × (r ≡ refused x) × IsFirstRefusal s (the_show file of) x × (t ≡ s))
+    ⊎ ((lines : List (List ℕ)) × (r ≡ shown lines) × IsGranted s (the_show file of) × IsShown s (the_show file of) lines t)
 
-show_answers : (s : State) (file : List ℕ) (r : Reply) (t : State) → Steps s (the_show file) r t → Shows s file r t
-show_answers s file edited t h = absurd (no_edit file h.1.edit.file h.1.text h.1.span.from h.1.span.to h.1.edit.is)
-show_answers s file (refactored a b) t h = absurd h.1
-show_answers s file (shown lines) t h = inr (lines, refl, h.0, h.1)
-show_answers s file undone t h = absurd (no_undo file h.1.0)
-show_answers s file redone t h = absurd (no_redo file h.1.0)
-show_answers s file (refused x) t h = inl (x, refl, h.0, h.1)
+show_answers : (s : State) (file : List ℕ) (of : What) (r : Reply) (t : State) → Steps s (the_show file of) r t → Shows s file of r t
+show_answers s file of edited t h = absurd (no_edit file h.1.edit.file h.1.text of h.1.span.from h.1.span.to h.1.edit.is)
+show_answers s file of (refactored a b) t h = absurd h.1
+show_answers s file of (shown lines) t h = inr (lines, refl, h.0, h.1)
+show_answers s file of undone t h = absurd (no_undo file of h.1.0)
+show_answers s file of redone t h = absurd (no_redo file of h.1.0)
+show_answers s file of (refused x) t h = inl (x, refl, h.0, h.1)
 
 -- ---- a refactoring
 
@@ -113,8 +113,8 @@ the_rename file at new = step.Rename file at new
 rename_not_edit : (file other text new : List ℕ) (at from to : ℕ) → the_rename file at new ≡ step.Edit other from to text → ⊥
 rename_not_edit file other text new at from to e = cc
 
-rename_not_show : (file other new : List ℕ) (at : ℕ) → the_rename file at new ≡ step.Show other what.Bindings → ⊥
-rename_not_show file other new at e = cc
+rename_not_show : (file other new : List ℕ) (of : What) (at : ℕ) → the_rename file at new ≡ step.Show other of → ⊥
+rename_not_show file other new of at e = cc
 
 rename_not_undo : (file new : List ℕ) (at : ℕ) → the_rename file at new ≡ step.Undo → ⊥
 rename_not_undo file new at e = cc
@@ -125,7 +125,7 @@ rename_not_redo file new at e = cc
 pub rename_answers : (s : State) (file : List ℕ) (at : ℕ) (new : List ℕ) (r : Reply) (t : State) → Steps s (the_rename file at new) r t → Answered s (rename file at new) r t
 rename_answers s file at new edited t h = absurd (rename_not_edit file h.1.edit.file h.1.text new at h.1.span.from h.1.span.to h.1.edit.is)
 rename_answers s file at new (refactored names respelled) t h = inr (names, respelled, refl, h.1)
-rename_answers s file at new (shown a) t h = absurd (rename_not_show file h.1.shows.file new at h.1.shows.is)
+rename_answers s file at new (shown a) t h = absurd (rename_not_show file h.1.shows.shows.file new h.1.shows.shown at h.1.shows.shows.is)
 rename_answers s file at new undone t h = absurd (rename_not_undo file new at h.1.0)
 rename_answers s file at new redone t h = absurd (rename_not_redo file new at h.1.0)
 rename_answers s file at new (refused x) t h = inl (x, refl, h.0, h.1)
@@ -140,13 +140,13 @@ module _ (reading : HasOneReading) (items_once : OneItems) (placed : PartsArePla
       (g.2 ∙ (λ i. refactored (same.0 i) (same.1 i)) ∙ sym h.2, same.2)
 
 module _ (reading : HasOneReading) (once : HasOneShow) where
-  module _ (s : State) (file : List ℕ) (differ : Differ s.files) where
-    both_shown : (r q : Reply) (t u : State) → Shows s file r t → Shows s file q u → (r ≡ q) × (t ≡ u)
-    both_shown r q t u (inl g) (inl h) = (g.1 ∙ ap refused (one_show_refusal reading once s file differ g.0 h.0 g.2 h.2) ∙ sym h.1, g.3 ∙ sym h.3)
+  module _ (s : State) (file : List ℕ) (of : What) (differ : Differ s.files) where
+    both_shown : (r q : Reply) (t u : State) → Shows s file of r t → Shows s file of q u → (r ≡ q) × (t ≡ u)
+    both_shown r q t u (inl g) (inl h) = (g.1 ∙ ap refused (one_show_refusal reading once s file of differ g.0 h.0 g.2 h.2) ∙ sym h.1, g.3 ∙ sym h.3)
     both_shown r q t u (inl g) (inr h) = absurd (h.2 g.0 g.2.applies)
     both_shown r q t u (inr g) (inl h) = absurd (g.2 h.0 h.2.applies)
     both_shown r q t u (inr g) (inr h) =
-        let lines : g.0 ≡ h.0 = would_once s file differ once g.0 h.0 g.3.shows h.3.shows in
+        let lines : g.0 ≡ h.0 = would_once s file of differ once g.0 h.0 g.3.shows h.3.shows in
         (g.1 ∙ ap shown lines ∙ sym h.1, g.3.becomes ∙ ap (λ (ls : List (List ℕ)). more_shown s (bytes_of ls)) lines ∙ sym h.3.becomes)
 
   -- ---- any step
@@ -156,8 +156,7 @@ module _ (reading : HasOneReading) (once : HasOneShow) where
         both s (step.Edit file from to text) edited (λ v. IsEdited s (step.Edit file from to text) v) r q t u (one_refusal s file from to text differ) (one_edited s file from to text differ t u) (edit_answers s file text from to r t g) (edit_answers s file text from to q u h)
     one_answer s step.Undo r q t u differ is g h = both s step.Undo undone (λ v. IsUndone s v) r q t u (one_undo_refusal s) (one_undone s t u) (undo_answers s r t g) (undo_answers s q u h)
     one_answer s step.Redo r q t u differ is g h = both s step.Redo redone (λ v. IsRedone s v) r q t u (one_redo_refusal s) (one_redone s t u) (redo_answers s r t g) (redo_answers s q u h)
-    one_answer s (step.Show file what.Bindings) r q t u differ is g h = both_shown s file differ r q t u (show_answers s file r t g) (show_answers s file q u h)
-    one_answer s (step.Show file what.Dependences) r q t u differ is g h = absurd is
+    one_answer s (step.Show file of) r q t u differ is g h = both_shown s file of differ r q t u (show_answers s file of r t g) (show_answers s file of q u h)
     one_answer s (step.Rename file at new) r q t u differ is g h =
         both_refactored reading items_once placed law s (rename file at new) (rename_once plan_once file at new) differ r q t u (rename_answers s file at new r t g) (rename_answers s file at new q u h)
     one_answer s (step.ExtractLocal a b c d) r q t u differ is g h = absurd is

@@ -19,7 +19,6 @@ use Rattle.jr_plan.specs.Renaming.{renaming}
 use Rattle.jr_plan.specs.Transforms.{Lost}
 use Rattle.jr_sources.specs.Sources.{Source, IsFile, HasName, names_of}
 use Rattle.jr_sources.specs.Whole.{files_of, IsProgramOf}
-use Rattle.jr_grammar.specs.Layout.{itself}
 use Rattle.jr_session.specs.NewTexts.{with_edits}
 use Rattle.jr_session.proofs.Telling.{TellsIn}
 use Rattle.jr_plan.proofs.Rename.{rewrite_back, all_kept_lost}

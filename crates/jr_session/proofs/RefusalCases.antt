@@ -1,6 +1,7 @@
 -- Which refusals may apply to an edit, to an undoing, and to a redoing.
 use Rattle.std.proofs.Common.{◌≡◌, ◌⊎◌, ℕ, List, [], refl, ap, subst, inl, inr}
 use Rattle.jr_names.specs.declared.steps.Step.TheVariants as step
+use Rattle.jr_names.specs.declared.steps.What.{What}
 use Rattle.jr_names.specs.declared.steps.What.TheVariants as what
 use Rattle.jr_names.specs.Refusals.{Refusal, no_such_file, bad_place, bad_name, source_error, bad_target, prelude_method, conditional, has_return, two_results, many_targets, may_be_null, recursive, assigned, clash, override_changed, lost_binding, would_not_compile, lost_dependence, bad_span, too_long, nothing_to_undo, nothing_to_redo, report_full, too_many_sites}
 use Rattle.jr_sources.specs.Sources.{LacksFile}
@@ -27,8 +28,8 @@ bad_edit s file text from to f t h =
     by : f ≡ from → t ≡ to → CutsBadly s (step.Edit file from to text) f t → MayRefuseEdit s file from to text (bad_span f t)
     by p q c = inr (inl (λ i. bad_span (p i) (q i), subst (λ (n : ℕ). CutsBadly s (step.Edit file from to text) from n) q (subst (λ (n : ℕ). CutsBadly s (step.Edit file from to text) n t) p c)))
 
-no_show : (file text shown : List ℕ) (from to : ℕ) → step.Edit file from to text ≡ step.Show shown what.Bindings → ⊥
-no_show file text shown from to e = cc
+no_show : (file text shown : List ℕ) (of : What) (from to : ℕ) → step.Edit file from to text ≡ step.Show shown of → ⊥
+no_show file text shown of from to e = cc
 
 pub no_undo : (file text : List ℕ) (from to : ℕ) → step.Edit file from to text ≡ step.Undo → ⊥
 no_undo file text from to e = cc
@@ -59,16 +60,16 @@ edit_refusals s file text from to (bad_span f t) h = bad_edit s file text from t
 edit_refusals s file text from to (too_long len) h = inr (inr (len, refl, h))
 edit_refusals s file text from to nothing_to_undo h = absurd (no_undo file text from to h.0)
 edit_refusals s file text from to nothing_to_redo h = absurd (no_redo file text from to h.0)
-edit_refusals s file text from to (report_full a) h = absurd (no_show file text h.1.file from to h.1.is)
-edit_refusals s file text from to (too_many_sites a b) h = absurd h
+edit_refusals s file text from to (report_full a) h = absurd (no_show file text h.1.shows.file h.1.shown from to h.1.shows.is)
+edit_refusals s file text from to (too_many_sites a b) h = absurd (no_show file text h.shows.file what.Dependences from to h.shows.is)
 
 -- ---- undoing
 
 pub undo_no_edit : (file text : List ℕ) (from to : ℕ) → step.Undo ≡ step.Edit file from to text → ⊥
 undo_no_edit file text from to e = cc
 
-undo_no_show : (shown : List ℕ) → step.Undo ≡ step.Show shown what.Bindings → ⊥
-undo_no_show shown e = cc
+undo_no_show : (shown : List ℕ) (of : What) → step.Undo ≡ step.Show shown of → ⊥
+undo_no_show shown of e = cc
 
 undo_no_other : step.Undo ≡ step.Redo → ⊥
 undo_no_other e = cc
@@ -96,16 +97,16 @@ undo_refusals s (bad_span f t) h = absurd (undo_no_edit h.edit.file h.text f t h
 undo_refusals s (too_long len) h = absurd (undo_no_edit h.1.edit.file h.1.text h.1.span.from h.1.span.to h.1.edit.is)
 undo_refusals s nothing_to_undo h = (refl, h.1)
 undo_refusals s nothing_to_redo h = absurd (undo_no_other h.0)
-undo_refusals s (report_full a) h = absurd (undo_no_show h.1.file h.1.is)
-undo_refusals s (too_many_sites a b) h = absurd h
+undo_refusals s (report_full a) h = absurd (undo_no_show h.1.shows.file h.1.shown h.1.shows.is)
+undo_refusals s (too_many_sites a b) h = absurd (undo_no_show h.shows.file what.Dependences h.shows.is)
 
 -- ---- redoing
 
 pub redo_no_edit : (file text : List ℕ) (from to : ℕ) → step.Redo ≡ step.Edit file from to text → ⊥
 redo_no_edit file text from to e = cc
 
-redo_no_show : (shown : List ℕ) → step.Redo ≡ step.Show shown what.Bindings → ⊥
-redo_no_show shown e = cc
+redo_no_show : (shown : List ℕ) (of : What) → step.Redo ≡ step.Show shown of → ⊥
+redo_no_show shown of e = cc
 
 redo_no_other : step.Redo ≡ step.Undo → ⊥
 redo_no_other e = cc
@@ -133,5 +134,5 @@ redo_refusals s (bad_span f t) h = absurd (redo_no_edit h.edit.file h.text f t h
 redo_refusals s (too_long len) h = absurd (redo_no_edit h.1.edit.file h.1.text h.1.span.from h.1.span.to h.1.edit.is)
 redo_refusals s nothing_to_undo h = absurd (redo_no_other h.0)
 redo_refusals s nothing_to_redo h = (refl, h.1)
-redo_refusals s (report_full a) h = absurd (redo_no_show h.1.file h.1.is)
-redo_refusals s (too_many_sites a b) h = absurd h
+redo_refusals s (report_full a) h = absurd (redo_no_show h.1.shows.file h.1.shown h.1.shows.is)
+redo_refusals s (too_many_sites a b) h = absurd (redo_no_show h.shows.file what.Dependences h.shows.is)

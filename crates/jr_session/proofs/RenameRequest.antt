@@ -1,5 +1,5 @@
 -- A rename as a request: it is planned in one way.
-use Rattle.std.proofs.Common.{◌≡◌, ◌⊎◌, ℕ, List, [], ◌∷◌, inl, inr}
+use Rattle.std.proofs.Common.{◌≡◌, ℕ, List, [], ◌∷◌, inl, inr}
 use Rattle.jr_text.specs.Edits.{Entry}
 use Rattle.jr_rename_laws.specs.OnePlan.{PlanIsOne}
 use Rattle.jr_rename_laws.specs.PlanLaws.{IsPlanIn}

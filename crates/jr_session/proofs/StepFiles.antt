@@ -65,7 +65,7 @@ refusal_tells s step (too_long len) applies = tt
 refusal_tells s step nothing_to_undo applies = tt
 refusal_tells s step nothing_to_redo applies = tt
 refusal_tells s step (report_full len) applies = tt
-refusal_tells s step (too_many_sites member count) applies = absurd applies
+refusal_tells s step (too_many_sites member count) applies = tt
 
 step_refusal : (s : State) (step : Step) (r : Refusal) → Refuses s step r → TellsIn (length s.files) r
 step_refusal s (Rename file at new) r h = refused_places s (rename file at new) (rename_tells s file at new) r h

@@ -2,7 +2,7 @@
 use Rattle.std.proofs.Common.{◌≡◌, ℕ, List, [], ◌∷◌, ◌++◌, refl, sym, ap, ◌∙◌}
 use Rattle.jr_text.specs.Edits.{Entry}
 use Rattle.jr_names.specs.declared.steps.Step.TheVariants as step
-use Rattle.jr_names.specs.declared.steps.What.TheVariants as what
+use Rattle.jr_names.specs.declared.steps.What.{What}
 use Rattle.jr_names.specs.Replies.{Reply, edited, refactored, shown, undone, redone, refused}
 use Rattle.jr_sources.specs.Sources.{Source, names_of, texts_of}
 use Rattle.jr_session.specs.NewTexts.{with_edits}
@@ -19,8 +19,8 @@ use Rattle.jr_session.proofs.RefusalCases.{undo_refusals, undo_no_edit}
 rename_no_edit : (file new f text : List ℕ) (at from to : ℕ) → step.Rename file at new ≡ step.Edit f from to text → ⊥
 rename_no_edit file new f text at from to e = cc
 
-rename_no_show : (file new f : List ℕ) (at : ℕ) → step.Rename file at new ≡ step.Show f what.Bindings → ⊥
-rename_no_show file new f at e = cc
+rename_no_show : (file new f : List ℕ) (of : What) (at : ℕ) → step.Rename file at new ≡ step.Show f of → ⊥
+rename_no_show file new f of at e = cc
 
 rename_no_undo : (file new : List ℕ) (at : ℕ) → step.Rename file at new ≡ step.Undo → ⊥
 rename_no_undo file new at e = cc
@@ -31,7 +31,7 @@ rename_no_redo file new at e = cc
 pub renamed_of : (s t : State) (file : List ℕ) (at : ℕ) (new : List ℕ) (reply : Reply) → Steps s (step.Rename file at new) reply t → IsDone reply → (names : List (List ℕ)) × (n : ℕ) × Refactors s (rename file at new) names n t
 renamed_of s t file at new edited h done = absurd (rename_no_edit file new h.1.edit.file h.1.text at h.1.span.from h.1.span.to h.1.edit.is)
 renamed_of s t file at new (refactored names n) h done = (names, n, h.1)
-renamed_of s t file at new (shown lines) h done = absurd (rename_no_show file new h.1.shows.file at h.1.shows.is)
+renamed_of s t file at new (shown lines) h done = absurd (rename_no_show file new h.1.shows.shows.file h.1.shows.shown at h.1.shows.shows.is)
 renamed_of s t file at new undone h done = absurd (rename_no_undo file new at h.1.0)
 renamed_of s t file at new redone h done = absurd (rename_no_redo file new at h.1.0)
 renamed_of s t file at new (refused r) h done = absurd (done r refl)
@@ -76,8 +76,8 @@ same_sources (x ∷ ss) (y ∷ ts) n t =
 
 -- ---- the undoing
 
-undo_no_show : (file : List ℕ) → step.Undo ≡ step.Show file what.Bindings → ⊥
-undo_no_show file e = cc
+undo_no_show : (file : List ℕ) (of : What) → step.Undo ≡ step.Show file of → ⊥
+undo_no_show file of e = cc
 
 undo_no_redo : step.Undo ≡ step.Redo → ⊥
 undo_no_redo e = cc
@@ -105,7 +105,7 @@ module _ (s t : State) (ask : Request) (names : List (List ℕ)) (n : ℕ) (is :
   pub undone_after : (u : State) (answer : Reply) → Steps t step.Undo answer u → IsTakenBack s t answer u
   undone_after u edited h = absurd (undo_no_edit h.1.edit.file h.1.text h.1.span.from h.1.span.to h.1.edit.is)
   undone_after u (refactored names n) h = absurd h.1
-  undone_after u (shown lines) h = absurd (undo_no_show h.1.shows.file h.1.shows.is)
+  undone_after u (shown lines) h = absurd (undo_no_show h.1.shows.shows.file h.1.shows.shown h.1.shows.shows.is)
   undone_after u undone h = back u h.1.1
   undone_after u redone h = absurd (undo_no_redo h.1.0)
   undone_after u (refused r) h = absurd (last_there s.undo (texts_of s.files) (sym undo_is ∙ (undo_refusals t r h.0.applies).1))

@@ -6,6 +6,8 @@ pub mod Turns
 pub mod Splicing
 pub mod Beginning
 pub mod Lines
+pub mod Dependences
+pub mod Shows
 pub mod Refusing
 pub mod Stepping
 pub mod Serving

@@ -4,8 +4,10 @@ use Rattle.std.specs.Prelude.{◌≡◌, ℕ, ◌+◌, ◌*◌, ◌<◌, ◌≤�
 use Rattle.jr_text.specs.declared.spans.Span.{Span}
 use Rattle.jr_text.specs.Spans.{CanCut}
 use Rattle.jr_text.specs.Splices.{replaced}
+use Rattle.jr_table.specs.Decls.{MemberKey}
 use Rattle.jr_names.specs.declared.steps.Step.{Step}
 use Rattle.jr_names.specs.declared.steps.Step.TheVariants as step
+use Rattle.jr_names.specs.declared.steps.What.{What}
 use Rattle.jr_names.specs.declared.steps.What.TheVariants as what
 use Rattle.jr_names.specs.Refusals.{
   Refusal,
@@ -43,7 +45,8 @@ use Rattle.jr_session.specs.Refactored.{RefusesRefactoring}
 use Rattle.jr_session.specs.Requests.{Asks, refactors, nothing}
 use Rattle.jr_sources.specs.FirstFault.{IsFirstFaultOf}
 use Rattle.jr_lines.specs.Lines.{bytes_of}
-use Rattle.jr_session.specs.Lines.{AreLineTexts}
+use Rattle.jr_session.specs.Dependences.{IsLargeMember}
+use Rattle.jr_session.specs.Shows.{AreShownTexts, shown_limit}
 
 -- ---- steps
 
@@ -102,20 +105,27 @@ pub record WouldMake (s : State) (of : Step) (texts : List (List ℕ)) : Type 0 
   pub edit : IsEdit s of number old span text
   pub makes : texts ≡ texts_of (with_text s.files number (replaced old span text))
 
--- the lines that a show gives
-pub record WouldShow (s : State) (of : Step) (lines : List (List ℕ)) : Type 0 where
+-- the step shows this of the file of the number
+pub record IsShowOf (s : State) (of : Step) (shown : What) (number : ℕ) : Type 0 where
   pub file : List ℕ
-  pub is : of ≡ step.Show file what.Bindings
-  pub number : ℕ
+  pub is : of ≡ step.Show file shown
   pub text : List ℕ
   pub stands : IsFile s.files number file text
-  pub lines_are : AreLineTexts s.files number lines
+
+-- the lines that a show gives
+pub record WouldShow (s : State) (of : Step) (lines : List (List ℕ)) : Type 0 where
+  pub shown : What
+  pub number : ℕ
+  pub shows : IsShowOf s of shown number
+  pub lines_are : AreShownTexts s.files number shown lines
+
+-- a show of dependences meets a member with so many sites, which are too many: the first
+pub record MeetsLarge (s : State) (of : Step) (member : MemberKey) (count : ℕ) : Type 0 where
+  pub number : ℕ
+  pub shows : IsShowOf s of what.Dependences number
+  pub large : IsLargeMember s.files number member count
 
 -- ---- the table of refusals
-
--- how many bytes a session shows at most
-abbrev pub shown_limit : ℕ
-shown_limit = 8388608
 
 abbrev pub Applies : State → Step → Refusal → Type 0
 Applies s of (no_such_file name) = IsOfFile of name × LacksFile s.files name
@@ -127,7 +137,8 @@ Applies s of nothing_to_undo = (of ≡ step.Undo) × (s.undo ≡ [])
 Applies s of nothing_to_redo = (of ≡ step.Redo) × (s.redo ≡ [])
 Applies s of (report_full len) = (lines : List (List ℕ)) × WouldShow s of lines
     × (shown_limit < s.shown + bytes_of lines) × (len ≡ s.shown + bytes_of lines)
--- those of refactorings, and of shown dependences
+Applies s of (too_many_sites member count) = MeetsLarge s of member count
+-- those of refactorings
 Applies s of (bad_place file at) = ⊥
 Applies s of (bad_name name) = ⊥
 Applies s of (bad_target at need) = ⊥
@@ -144,7 +155,6 @@ Applies s of (override_changed class method) = ⊥
 Applies s of (lost_binding reference declaration found) = ⊥
 Applies s of (would_not_compile at rule) = ⊥
 Applies s of (lost_dependence kind first second) = ⊥
-Applies s of (too_many_sites member count) = ⊥
 
 -- ---- the first
 
@@ -153,13 +163,14 @@ is_edit (step.Edit file from to text) = true
 is_edit _ = false
 
 -- In the order of their numbers, but that a refactoring's new texts are measured before they are
--- read, directly behind 16.
+-- read, directly behind 16, and that sites are counted before lines, directly behind 4.
 abbrev pub rank_of : Step → Refusal → ℕ
 rank_of of (too_long len) = of_length (is_edit of)
   where
     of_length : Bool → ℕ
     of_length true = 40
     of_length false = 33
+rank_of of (too_many_sites member count) = 9
 rank_of of r = 2 * refusal_number r
 
 pub record IsFirstRefusal (s : State) (of : Step) (r : Refusal) : Type 0 where

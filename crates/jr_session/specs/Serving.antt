@@ -1,8 +1,6 @@
 -- Which steps a session answers, and which of its refusals want no memory.
 use Rattle.jr_names.specs.declared.steps.Step.{Step}
 use Rattle.jr_names.specs.declared.steps.Step.TheVariants as step
-use Rattle.jr_names.specs.declared.steps.What.{What}
-use Rattle.jr_names.specs.declared.steps.What.TheVariants as what
 use Rattle.jr_names.specs.Refusals.{
   Refusal,
   no_such_file,
@@ -31,14 +29,10 @@ use Rattle.jr_names.specs.Refusals.{
   too_many_sites,
 }
 
-abbrev pub IsShownWhat : What → Type 0
-IsShownWhat what.Bindings = Unit {0}
-IsShownWhat what.Dependences = ⊥
-
 -- the steps that are answered; a script names no others
 abbrev pub IsServed : Step → Type 0
 IsServed (step.Edit file from to text) = Unit {0}
-IsServed (step.Show file of) = IsShownWhat of
+IsServed (step.Show file of) = Unit {0}
 IsServed step.Undo = Unit {0}
 IsServed step.Redo = Unit {0}
 IsServed (step.Rename file at new) = Unit {0}

@@ -1,7 +1,6 @@
 -- What is known of the table of new sources before they are analysed. Only private clauses cite
 -- this.
 use Rattle.std.specs.Prelude.{◌≡◌, List, Option, Some}
-use Rattle.jr_text.specs.Edits.{Entry}
 use Rattle.jr_rename.specs.declared.afters.After.{After}
 use Rattle.jr_rename.specs.declared.afters.After.TheVariants as after
 use Rattle.jr_sources.specs.declared.analyses.Analysis.{Analysis}

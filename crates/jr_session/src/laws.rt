@@ -4,6 +4,7 @@ ghost use Rattle.jr_session.specs.Promises.{StepsKeepPrograms};
 ghost use Rattle.jr_session.specs.StepLaws.{HasOneAnswer, HasOneShow, RenamesAreRefusedFirst};
 
 use jr_cursor::one_is_target;
+use jr_dependence_lines::lines_are_one;
 use jr_dispatch::dispatch_is_kept;
 use jr_images::rows_are_named;
 use jr_kept_runs::renames_keep_runs;
@@ -29,6 +30,7 @@ pub fn step_has_one_answer()
     text_has_one_reading();
     one_answer();
     lines_are_told();
+    lines_are_one();
     parts_are_placed();
     members_are_written::<Span>();
     plan_is_one();

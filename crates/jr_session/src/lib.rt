@@ -8,7 +8,7 @@
 //! which says that it is what reading and analysing from scratch give; no public clause mentions it.
 //!
 //! `steps` sends a step to the call that answers it. `sessions`, `begins`, `edits`, `shows`,
-//! `renames`. `changes`: what a step changed, for undoing. `splices`: what an edit would make of a
+//! `dependence_shows`, `renames`. `changes`: what a step changed, for undoing. `splices`: what an edit would make of a
 //! file. `turns`: files get other texts with their readings, the last first, and the old ones go on
 //! two lists; each step takes the room for the lists first, so that nothing fails once it has
 //! begun. `plans` analyses and plans; `refactorings` makes the edits, whatever planned them;
@@ -20,6 +20,7 @@
 
 mod begins;
 mod changes;
+mod dependence_shows;
 mod edits;
 mod laws;
 mod made;

@@ -8,7 +8,7 @@ ghost use Rattle.jr_names.specs.declared.steps.What.TheVariants.{Bindings};
 ghost use Rattle.jr_lines.specs.Lines.{bytes_of};
 ghost use Rattle.jr_sources.specs.Analysed.{IsKeptAnalysis, IsFilled};
 ghost use Rattle.jr_session.specs.Lines.{AreLineTexts};
-ghost use Rattle.jr_session.specs.Refusing.{shown_limit};
+ghost use Rattle.jr_session.specs.Shows.{shown_limit};
 ghost use Rattle.jr_sources.specs.KeptReadings.{AreReadings};
 ghost use Rattle.jr_sources.specs.Sources.{AreSources, HasName, texts_of};
 ghost use Rattle.jr_session.specs.Stepping as pure;

@@ -68,7 +68,7 @@ impl Session {
             Step::Redo => self.redo(alloc),
             Step::Show { file, what } => match what {
                 What::Bindings => self.show(alloc, file, steps),
-                What::Dependences => unreachable!(),
+                What::Dependences => self.show_dependences(alloc, file, steps),
             },
             Step::Rename { file, at, name } => self.rename(alloc, file, *at, name, steps),
             Step::ExtractLocal { .. } => unreachable!(),

@@ -1,13 +1,11 @@
 -- The steps of a script are those that a session answers.
-use Rattle.std.proofs.Common.{◌≡◌, ◌<◌, ◌≤◌, ℕ, zero, suc, refl, sym, ap, arith, List, [], ◌∷◌, length, All, Contains, slice_index_or, codes}
+use Rattle.std.proofs.Common.{◌≡◌, ◌<◌, ◌≤◌, ℕ, zero, suc, refl, sym, ap, arith, List, [], ◌∷◌, length, All, Contains}
 use Rattle.std.specs.List.{AllZip}
-use Rattle.serde_json.specs.Data.{Data, string}
-use Rattle.jr_names.specs.declared.steps.What.{What}
-use Rattle.jr_names.specs.declared.steps.What.TheVariants.{Bindings, Dependences}
+use Rattle.serde_json.specs.Data.{Data}
 use Rattle.jr_names.specs.declared.steps.Step.{Step}
 use Rattle.jr_names.specs.declared.steps.Step.TheVariants.{Edit, Rename, ExtractLocal, ExtractMethod, InlineLocal, InlineMethod, PullUp, MoveStatic, MoveInstance, Show, Undo, Redo}
 use Rattle.jr_script.specs.Rows.{Row, rows}
-use Rattle.jr_script.specs.Steps.{Means, text_at, word_of}
+use Rattle.jr_script.specs.Steps.{Means, word_of}
 use Rattle.jr_session.specs.Serving.{IsServed}
 
 -- the words of all rows have six letters at most
@@ -22,21 +20,9 @@ few_letters r (suc (suc (suc (suc (suc k)))), below, is) = absurd (omega (arith,
 unbuilt : (d : Data) (s : Step) (n : ℕ) → Means d s → length (word_of s) ≡ n → 6 < n → ⊥
 unbuilt d s n means long more = let few = few_letters _ means.built in omega (arith, few, long, more)
 
-abbrev text_in : Data → List ℕ
-text_in (string s) = s
-text_in _ = []
-
-abbrev first_of : List ℕ → ℕ
-first_of [] = 0
-first_of (x ∷ xs) = x
-
-not_dependences : string (codes "dependences") ≡ string (codes "bindings") → ⊥
-not_dependences e = let letters : 100 ≡ 98 = ap (λ d. first_of (text_in d)) e in absurd (omega (arith, letters))
-
 pub means_served : (d : Data) (s : Step) → Means d s → IsServed s
 means_served d (Edit file from to text) means = tt
-means_served d (Show file Bindings) means = tt
-means_served d (Show file Dependences) means = absurd (not_dependences (means.cells 1 (text_at [] []) (omega arith)).1)
+means_served d (Show file of) means = tt
 means_served d Undo means = tt
 means_served d Redo means = tt
 means_served d (Rename file at new) means = tt

@@ -1,11 +1,24 @@
-use Rattle.std.proofs.Common.{map}
+use Rattle.std.proofs.Common.{map, true, false, sym, ◌∙◌}
 use Rattle.std.specs.Prelude.{IsTrue}
-use Rattle.jr_dependences.specs.Depends.{DependsIn}
-use Rattle.jr_dependences.proofs.Asking.{six_kinds}
+use Rattle.std.proofs.lemmas.Bool.{iff_false}
+use Rattle.jr_dependences.proofs.Pointing.{item_at}
+use Rattle.jr_dependences.proofs.Sorting.{none_between, is_of_local}
 use Rattle.jr_dependences.proofs.pairs.push_pair.Goals as goal
 
-pub returns : goal.returns
-returns g c edges known =
-    six_kinds (DependsIn (λ x y. IsTrue (g.K.PartialEq.eq x y)) (λ x y. IsTrue (g.L.PartialEq.eq x y)) (map (λ s. s.now) c.args.sites.now) edges) c.args.first c.args.second c.args.list.now.items c.push_kind.new.list.items c.push_kind-2.new.list.items c.push_kind-3.new.list.items
-    c.push_kind-4.new.list.items c.push_kind-5.new.list.items c.push_kind-6.new.list.items (c.in_ok-push_kind.ensures edges known) (c.in_ok-push_kind-2.ensures edges known)
-    (c.in_ok-push_kind-3.ensures edges known) (c.in_ok-push_kind-4.ensures edges known) (c.in_ok-push_kind-5.ensures edges known) c.push_kind-6.result (c.push_kind-6.ensures edges known)
+pub returns-then-not-comes : goal.returns-then-not-comes
+returns-then-not-comes g c edges known =
+    none_between (λ x y. IsTrue (g.K.PartialEq.eq x y)) (λ x y. IsTrue (g.L.PartialEq.eq x y)) (map (λ s. s.now) c.args.sites.now) edges c.args.first c.args.second c.args.reach.now c.args.flow.now known (iff_false c.comes.ensures c.if-not-comes.true) c.args.list.now.items
+
+pub push_of_local-requires-clause-site : goal.push_of_local-requires-clause-site
+push_of_local-requires-clause-site g c =
+    is_of_local (map (λ s. s.now) c.args.sites.now) c.args.first c.index-sites-first.result.now true (item_at (λ s. s.now) c.args.sites.now c.args.first c.index-sites-first.result c.index-sites-first.result c.requires.first c.index-sites-first.is) (sym c.is_local.ensures ∙ c.if-is_local.true)
+
+pub push_of_other-requires-clause-site : goal.push_of_other-requires-clause-site
+push_of_other-requires-clause-site g c =
+    is_of_local (map (λ s. s.now) c.args.sites.now) c.args.first c.index-sites-first.result.now false (item_at (λ s. s.now) c.args.sites.now c.args.first c.index-sites-first.result c.index-sites-first.result c.requires.first c.index-sites-first.is) (sym c.is_local.ensures ∙ c.if-is_local.false)
+
+pub returns-then-is_local : goal.returns-then-is_local
+returns-then-is_local g c edges known = c.push_of_local.ensures edges known
+
+pub returns-else-is_local : goal.returns-else-is_local
+returns-else-is_local g c edges known = c.push_of_other.ensures edges known

@@ -1,0 +1,12 @@
+use Rattle.std.proofs.Common.{◌≡◌, ap, ◌∙◌}
+use Rattle.std.proofs.lemmas.Result.{on_ok_weaker}
+use Rattle.jr_dependence_lines.specs.Tallies.{all_told, place_texts}
+use Rattle.jr_dependence_lines.proofs.Counting.{puts_as}
+use Rattle.jr_dependence_lines.proofs.member_lines.put_graph.Goals as goal
+
+pub returns : goal.returns
+returns c =
+    let places : c.as_slice.result.now ≡ place_texts c.args.start c.args.of.now.sites.items = c.as_slice.ensures.value ∙ c.in_ok-names.ensures ∙ ap (place_texts c.args.start) c.deref.ensures.value in
+    on_ok_weaker c.put_dependences.result
+    (λ h. (h.0, h.1, puts_as c.args.tally.now c.put_dependences.new.tally _ _ (λ i. all_told c.args.head.now (places i) h.0) h.2))
+    c.put_dependences.ensures

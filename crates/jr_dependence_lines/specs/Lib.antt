@@ -1,0 +1,5 @@
+pub mod Lines
+pub mod WayLines
+pub mod MemberLines
+pub mod Tallies
+pub mod LineLaws

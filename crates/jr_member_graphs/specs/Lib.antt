@@ -1,0 +1,7 @@
+pub mod MemberLocals
+pub mod Notes
+pub mod NotesView
+pub mod Gathering
+pub mod FlagRows
+pub mod OwnFlags
+pub mod NeverNullRuns
