@@ -6,7 +6,7 @@ use Rattle.std.proofs.lemmas.List.{take-take, take-append-drop}
 use Rattle.std.specs.Option.{IsSome, is_some}
 use Rattle.jr_ast.specs.Nodes.{Node, node_at, child_of}
 use Rattle.jr_paths.specs.PathKinds.{IsLast}
-use Rattle.jr_paths.proofs.WithLaws.{at_append}
+use Rattle.jr_paths_nodes.proofs.WithLaws.{at_append}
 
 near_or_far : (k i : ℕ) → (k ≤ i) ⊎ (i < k)
 near_or_far zero i = inl (omega arith)

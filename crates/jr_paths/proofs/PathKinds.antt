@@ -5,8 +5,8 @@ use Rattle.jr_ast.specs.StatementTree as statement
 use Rattle.jr_ast.specs.MemberTree as declared
 use Rattle.jr_ast.specs.Nodes.{Node, unit, class, modifier, word, type, param, member, stmt, exp, node_at, child_of, as_exp, as_stmt, as_member, exp_at, stmt_at}
 use Rattle.jr_paths.specs.PathKinds.{NoMember, NoStmt}
-use Rattle.jr_paths.proofs.Levels.{child_under, low_exp, low_stmt}
-use Rattle.jr_paths.proofs.PathSplits.{class_child, unit_child}
+use Rattle.jr_paths_nodes.proofs.Levels.{child_under, low_exp, low_stmt}
+use Rattle.jr_paths_nodes.proofs.PathSplits.{class_child, unit_child}
 
 module _ {A : Type 0} where
   pub no_member_below : (n c : Node A) (i : ℕ) (q : List ℕ) → child_of n i ≡ Some c → NoMember n (i ∷ q) → NoMember c q

@@ -6,8 +6,8 @@ use Rattle.std.specs.Option.{IsSome}
 use Rattle.jr_ast.specs.MemberTree as declared
 use Rattle.jr_ast.specs.Nodes.{Node, unit, class, node_at, child_of, as_class, member_at}
 use Rattle.jr_paths.specs.PathKinds.{IsLast}
-use Rattle.jr_paths.proofs.WithLaws.{at_append}
-use Rattle.jr_paths.proofs.PathSplits.{unit_member}
+use Rattle.jr_paths_nodes.proofs.WithLaws.{at_append}
+use Rattle.jr_paths_nodes.proofs.PathSplits.{unit_member}
 
 length-take-bound : {X : Type 0} (count : ℕ) (xs : List X) → length (take count xs) ≤ count
 length-take-bound zero xs = omega arith

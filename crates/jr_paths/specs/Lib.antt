@@ -1,10 +1,6 @@
-pub mod NodeView
-pub mod Seeks
-pub mod Same
-pub mod With
-pub mod Reaches
-pub mod Lent
-pub mod StmtLent
+-- What callers' clauses cite of the lower crates is passed on.
+pub use Rattle.jr_paths_nodes.specs.NodeView
+pub use Rattle.jr_paths_nodes.specs.With
+pub use Rattle.jr_paths_copies.specs.Same
 pub mod PathKinds
 pub mod PathLent
-pub mod MemberLent

@@ -18,7 +18,7 @@ use Rattle.jr_ast.specs.contracts.members.MemberKind as member_kind
 use Rattle.jr_ast.specs.MemberTree as declared
 use Rattle.jr_ast.specs.View as view
 use Rattle.jr_ast.specs.Nodes as pure
-use Rattle.jr_paths.specs.With.{with_node}
+use Rattle.jr_paths_nodes.specs.With.{with_node}
 
 module _ (A : RattleType) where
   abbrev pub lends_expr_below_stmt : MutBor (StmtKind A.Denot) → List ℕ

@@ -9,12 +9,12 @@ ghost use Rattle.jr_paths.specs.PathLent.{lends_stmt_below_member, lends_expr_be
 ghost use Rattle.jr_paths.specs.PathLent.{lends_expr_below_stmt, lends_member_below_unit};
 ghost use Rattle.jr_paths.specs.PathLent.{lends_member_at, lends_stmt_at, lends_expr_at};
 
-use crate::expr_writes::ExprLevel;
-use crate::member_writes::{ClassLevel, class_of_unit, expr_of_member, stmt_of_member};
-use crate::reaches::Far;
-use crate::stmt_writes::{StmtLevel, expr_of_stmt};
 use crate::turns::turns_of;
 use jr_ast::{Expr, Member, MemberKind, Path, Stmt, StmtKind, Unit};
+use jr_paths_nodes::{
+    ClassLevel, ExprLevel, Far, StmtLevel, class_of_unit, expr_of_member, expr_of_stmt,
+    stmt_of_member,
+};
 
 /// The expression to which the steps lead from the statement, where they pass no statement.
 fn expr_below_stmt<'k, A>(kind: &'k mut StmtKind<A>, steps: &[u32]) -> Option<&'k mut Expr<A>>

@@ -4,8 +4,8 @@ ghost use Rattle.jr_ast.specs.MemberTree as tree;
 ghost use Rattle.jr_ast.specs.Nodes as pure;
 ghost use Rattle.jr_ast.specs.View.{expr_of, stmt_of, member_of, unit_of};
 
-use crate::nodes::Node;
 use jr_ast::{Expr, Member, Path, Stmt, Unit};
+use jr_paths_nodes::Node;
 
 /// What paths lead to that begin at a unit.
 ///

@@ -4,8 +4,8 @@ ghost use Rattle.jr_ast.specs.Nodes as pure;
 ghost use Rattle.jr_ast.specs.View.{unit_of};
 ghost use Rattle.jr_paths.specs.PathKinds.{IsLast};
 
-use crate::nodes::Node;
 use jr_ast::Unit;
+use jr_paths_nodes::Node;
 
 /// After how many steps a path stands at its last member and at its last statement; 0 for none.
 #[derive(Drop)]

@@ -3,8 +3,8 @@ use Rattle.std.specs.Option.{ghost_name_of}
 use Rattle.jr_ast.specs.View as view
 use Rattle.jr_ast.specs.Nodes as pure
 use Rattle.jr_ast.specs.declared.exprs.ExprKind.TheViews as views
-use Rattle.jr_paths.proofs.Lending.{on_none, on_that, on_some_also, on_some_with}
-use Rattle.jr_paths.proofs.Halves.{one_step, one_exp, one_write, exp_child, first_step, rest_within, first_then, first_same, member_inject, empty_exp_member}
+use Rattle.jr_paths_nodes.proofs.Lending.{on_none, on_that, on_some_also, on_some_with}
+use Rattle.jr_paths_nodes.proofs.Halves.{one_step, one_exp, one_write, exp_child, first_step, rest_within, first_then, first_same, member_inject, empty_exp_member}
 use Rattle.jr_paths.proofs.Firsts.{exp_first_of_member, no_exp_first_of_member}
 use Rattle.jr_paths.proofs.path_writes.expr_below_member.Goals as goal
 

@@ -2,8 +2,8 @@ use Rattle.std.proofs.Common.{◌≤◌, ◌-◌, length, take, drop, get_or, re
 use Rattle.std.specs.Option.{ghost_name_of}
 use Rattle.jr_ast.specs.View as view
 use Rattle.jr_ast.specs.Nodes as pure
-use Rattle.jr_paths.proofs.Lending.{on_none, on_that, on_some_also}
-use Rattle.jr_paths.proofs.Halves.{first_step, rest_short, first_then, first_same}
+use Rattle.jr_paths_nodes.proofs.Lending.{on_none, on_that, on_some_also}
+use Rattle.jr_paths_nodes.proofs.Halves.{first_step, rest_short, first_then, first_same}
 use Rattle.jr_paths.proofs.Turning.{class_child, unit_inject, empty_member, member_first, no_member_first}
 use Rattle.jr_paths.proofs.path_writes.member_below_unit.Goals as goal
 

@@ -3,8 +3,8 @@ use Rattle.std.specs.Option.{ghost_name_of}
 use Rattle.jr_ast.specs.View as view
 use Rattle.jr_ast.specs.Nodes as pure
 use Rattle.jr_ast.specs.declared.stmts.StmtKind.TheViews as views
-use Rattle.jr_paths.proofs.Lending.{on_none, on_that, on_some_also, on_some_with}
-use Rattle.jr_paths.proofs.Halves.{one_step, one_stmt, one_write, stmt_child, first_step, rest_within, first_then, first_same, member_inject, empty_stmt_member}
+use Rattle.jr_paths_nodes.proofs.Lending.{on_none, on_that, on_some_also, on_some_with}
+use Rattle.jr_paths_nodes.proofs.Halves.{one_step, one_stmt, one_write, stmt_child, first_step, rest_within, first_then, first_same, member_inject, empty_stmt_member}
 use Rattle.jr_paths.proofs.Firsts.{stmt_first_of_member, no_stmt_first_of_member}
 use Rattle.jr_paths.proofs.path_writes.stmt_below_member.Goals as goal
 

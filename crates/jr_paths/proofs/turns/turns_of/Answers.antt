@@ -1,7 +1,7 @@
 use Rattle.std.proofs.Common.{inl, inr, refl, ap, sym, option_map, option_and_then, ◌∙◌, arith}
 use Rattle.std.specs.Option.{is_some}
 use Rattle.jr_ast.specs.Nodes as pure
-use Rattle.jr_paths.specs.NodeView.{node_of}
+use Rattle.jr_paths_nodes.specs.NodeView.{node_of}
 use Rattle.jr_ast.specs.View.{unit_of}
 use Rattle.jr_paths.proofs.LastSteps.{last_start, last_step, last_ends, last_whole, step_node, none_beyond}
 use Rattle.jr_paths.proofs.turns.turns_of.Goals as goal

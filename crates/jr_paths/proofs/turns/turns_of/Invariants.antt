@@ -1,6 +1,6 @@
 use Rattle.std.proofs.Common.{◌≡◌, take, Some}
 use Rattle.jr_ast.specs.Nodes as pure
-use Rattle.jr_paths.specs.NodeView.{node_of}
+use Rattle.jr_paths_nodes.specs.NodeView.{node_of}
 use Rattle.jr_ast.specs.View.{unit_of}
 use Rattle.jr_paths.specs.PathKinds.{IsLast}
 use Rattle.jr_paths.proofs.turns.turns_of.Given as goal

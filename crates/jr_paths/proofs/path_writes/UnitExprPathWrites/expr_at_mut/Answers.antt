@@ -5,8 +5,8 @@ use Rattle.jr_ast.specs.Nodes as pure
 use Rattle.jr_paths.specs.PathKinds.{NoMember, NoStmt}
 use Rattle.jr_ast.specs.declared.members.MemberKind.TheViews as member_views
 use Rattle.jr_ast.specs.declared.stmts.StmtKind.TheViews as stmt_views
-use Rattle.jr_paths.proofs.Lending.{on_none, on_that, on_some_also}
-use Rattle.jr_paths.proofs.Halves.{joined, node_of_member, node_of_stmt, write_join, same_join}
+use Rattle.jr_paths_nodes.proofs.Lending.{on_none, on_that, on_some_also}
+use Rattle.jr_paths_nodes.proofs.Halves.{joined, node_of_member, node_of_stmt, write_join, same_join}
 use Rattle.jr_paths.proofs.PathKinds.{unit_no_exp}
 use Rattle.jr_paths.proofs.Turning.{unit_inject, none_at_all, at_below, none_below, between}
 use Rattle.jr_paths.proofs.path_writes.UnitExprPathWrites.expr_at_mut.Goals as goal

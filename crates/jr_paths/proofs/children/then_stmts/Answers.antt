@@ -1,7 +1,0 @@
-use Rattle.std.proofs.Common.{[], ◌∷◌, ap, ◌∙◌, append-nil}
-use Rattle.std.specs.List.{slice_get}
-use Rattle.jr_paths.specs.NodeView.{node_of}
-use Rattle.jr_paths.proofs.children.then_stmts.Goals as goal
-
-pub returns : goal.returns
-returns g c = c.end.ensures ∙ c.stmts.ensures [] ∙ c.then.ensures _ ∙ ap (λ l. slice_get (node_of c.args.first ∷ l) c.args.number) (append-nil _)

@@ -1,5 +1,0 @@
-use Rattle.jr_paths.proofs.WithChildren as children
-use Rattle.jr_paths.proofs.laws.one_child_is_replaced.Goals as goal
-
-pub returns : goal.returns
-returns g c = children.one_child_replaced

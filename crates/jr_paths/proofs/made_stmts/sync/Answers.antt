@@ -1,9 +1,0 @@
-use Rattle.std.proofs.Common.{ap, ◌∙◌}
-use Rattle.std.proofs.lemmas.Result.{IfOk-weaker}
-use Rattle.jr_ast.specs.StatementTree as tree
-use Rattle.jr_ast.specs.View.{stmt_of, stmts_of, expr_of}
-use Rattle.jr_paths.proofs.MadeOf.{that_ok}
-use Rattle.jr_paths.proofs.made_stmts.sync.Goals as goal
-
-pub returns : goal.returns
-returns g c = IfOk-weaker c.in_box.result _ _ (λ x boxed. that_ok _ c.in_ok-lock.was (that_ok _ c.in_ok-body.was (ap stmt_of boxed ∙ c.sync.ensures ∙ ap (λ e. tree.sync c.args.mark (expr_of e) (stmts_of c.in_ok-body.body.items)) c.into_inner.ensures))) c.in_box.ensures

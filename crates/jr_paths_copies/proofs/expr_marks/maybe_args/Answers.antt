@@ -1,0 +1,11 @@
+use Rattle.std.proofs.Common.{Some, option_map, ap, sym, ◌∙◌}
+use Rattle.jr_ast.specs.View.{exprs_of, args_of}
+use Rattle.jr_ast.specs.Remarked as maps
+use Rattle.jr_paths_copies.proofs.expr_marks.maybe_args.Goals as goal
+
+pub returns-in-None : goal.returns-in-None
+returns-in-None g c = λ h k agree. sym (ap (λ o. option_map (maps.map_exps k) (args_of o)) c.in-None.is)
+
+pub returns-in_ok-copy-in-Some : goal.returns-in_ok-copy-in-Some
+returns-in_ok-copy-in-Some g c = λ h k agree.
+    ap Some (c.in_ok-copy-in-Some.ensures h k agree ∙ ap (λ xs. maps.map_exps k (exprs_of xs)) c.deref.ensures.value) ∙ sym (ap (λ o. option_map (maps.map_exps k) (args_of o)) c.in-Some.is)

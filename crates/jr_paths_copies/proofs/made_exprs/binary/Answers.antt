@@ -1,0 +1,8 @@
+use Rattle.std.proofs.Common.{ap, ◌∙◌}
+use Rattle.std.proofs.lemmas.Result.{IfOk-weaker}
+use Rattle.jr_ast.specs.View.{expr_of}
+use Rattle.jr_paths_copies.proofs.MadeOf.{that_ok}
+use Rattle.jr_paths_copies.proofs.made_exprs.binary.Goals as goal
+
+pub returns : goal.returns
+returns g c = IfOk-weaker c.in_box.result _ _ (λ x boxed. that_ok _ c.in_ok-left.ensures.0 (that_ok _ c.in_ok-left.ensures.1 (ap expr_of boxed ∙ c.binary.ensures))) c.in_box.ensures
