@@ -96,5 +96,5 @@ put_last : with_made_local (room [] (local_of member 1) (codes "t") int) (record
 put_last = refl
 
 -- the initializer of a declaration that is put in front of `int s = ..;` doesn't see s
-pub not_yet_in_scope : kept_locals (earlier [] (local_of member 1) (codes "t") int) (named 0 ∷ otherwise_named 1 ∷ []) ≡ named 0 ∷ []
+not_yet_in_scope : kept_locals (earlier [] (local_of member 1) (codes "t") int) (named 0 ∷ otherwise_named 1 ∷ []) ≡ named 0 ∷ []
 not_yet_in_scope = refl

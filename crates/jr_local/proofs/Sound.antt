@@ -86,11 +86,12 @@ module _ (rows : List Row) (to : LocalKey → Option LocalKey) (locals_to : List
   -- a made one among them
   within_to : (m : ScopeLocal) → ((k : LocalKey) → to k ≢ Some m.key) → (ls : List Local) → LocalsTo (seen_by rows to locals_to HasMade) c ls (with_made_local to m (map scope_local ls))
   within_to m h [] = made h (none refl refl)
-  within_to m h (l ∷ ls) = by (is_from m.key.member m.key.number l.key)
+  within_to m h (l ∷ ls) = by (is_from m.key.member m.key.number l.key) (within_to m h ls)
     where
-      by : (b : Bool) → LocalsTo (seen_by rows to locals_to HasMade) c (l ∷ ls) (if b then m ∷ kept_locals to (map scope_local (l ∷ ls)) else put_kept l.name (to l.key) (with_made_local to m (map scope_local ls)))
-      by true = made h (all_to (l ∷ ls))
-      by false = one_to l ls (to l.key) (with_made_local to m (map scope_local ls)) refl (within_to m h ls)
+      by : (b : Bool) → LocalsTo (seen_by rows to locals_to HasMade) c ls (with_made_local to m (map scope_local ls))
+          → LocalsTo (seen_by rows to locals_to HasMade) c (l ∷ ls) (if b then m ∷ kept_locals to (map scope_local (l ∷ ls)) else put_kept l.name (to l.key) (with_made_local to m (map scope_local ls)))
+      by true t = made h (all_to (l ∷ ls))
+      by false t = one_to l ls (to l.key) (with_made_local to m (map scope_local ls)) refl t
 
 -- ---- types
 

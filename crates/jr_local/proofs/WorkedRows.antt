@@ -1,33 +1,32 @@
 -- Worked examples, each a small class: which sites stand in front of an expression or between a
 -- declaration and a read, what bars it, and which text comes of it.
-use Rattle.std.proofs.Common.{◌≡◌, ◌≢◌, ◌⊎◌, ℕ, ◌≤◌, Bool, true, false, List, [], ◌∷◌, ◌++◌, Option, Some, None, codes, refl, inl, inr, arith}
+use Rattle.std.proofs.Common.{◌≡◌, ℕ, ◌+◌, Bool, true, false, List, [], ◌∷◌, ◌++◌, Some, None, codes, refl, inl, inr, arith}
 use Rattle.jr_text.specs.declared.spans.Span.{Span}
 use Rattle.jr_text.specs.declared.spans.Place.{Place}
 use Rattle.jr_text.specs.Splices.{splice}
 use Rattle.jr_lex.specs.declared.items.Item.{Item}
 use Rattle.jr_lex.specs.declared.items.ItemKind.TheVariants.{Token as TokenItem}
 use Rattle.jr_lex.specs.declared.items.TokenKind.{TokenKind}
-use Rattle.jr_lex.specs.declared.items.TokenKind.TheVariants.{Word, Keyword as KeywordKind, Mark}
+use Rattle.jr_lex.specs.declared.items.TokenKind.TheVariants.{Word, Mark}
 use Rattle.jr_lex.specs.declared.items.Symbol.TheVariants as symbol
 use Rattle.jr_ast.specs.declared.operators.BinOp.TheVariants.{Add, Lt}
 use Rattle.jr_ast.specs.declared.operators.ModWord.TheVariants.{Volatile}
 use Rattle.jr_ast.specs.Tree as tree
 use Rattle.jr_ast.specs.StatementTree as statement
 use Rattle.jr_grammar.specs.Shape.{rank_of}
-use Rattle.jr_sync.specs.declared.kinds.Kind.TheVariants.{Load, Store, VolatileLoad, VolatileStore, Enter, Exit}
+use Rattle.jr_sync.specs.declared.kinds.Kind.TheVariants.{Load, Store, VolatileLoad, Enter, Exit}
 use Rattle.jr_sync.specs.declared.sites.Site.TheVariants.{Read, Access, Check}
-use Rattle.jr_table.specs.Keys.{ClassKey, FieldKey, MethodKey, Ty, int, class}
-use Rattle.jr_table.specs.Decls.{MemberKey, method, LocalKey, Decl, class_decl, field_decl, local_decl}
+use Rattle.jr_table.specs.Keys.{ClassKey, FieldKey, Ty, int, class}
+use Rattle.jr_table.specs.Decls.{MemberKey, method, Decl, field_decl, local_decl}
 use Rattle.jr_table.specs.Rows.{Row}
 use Rattle.jr_table.specs.Entries.{number_of}
 use Rattle.jr_table.specs.HeadRules.{plain}
 use Rattle.jr_names.specs.Sites.{SiteAt}
-use Rattle.jr_bind.specs.Bounds.{Reference, Bound}
+use Rattle.jr_bind.specs.Bounds.{Reference}
 use Rattle.jr_bind.specs.Programs.{Program}
 use Rattle.jr_code.specs.RunKeys.{RunKeys}
 use Rattle.jr_cover.specs.Ways.{sites_of}
 use Rattle.jr_cover.specs.Sites.{Site, Known, exp_way}
-use Rattle.jr_rewrite.specs.Respellings.{Change}
 use Rattle.jr_rewrite.specs.Rewritten.{Rewritten, plain as unchanged, change}
 use Rattle.jr_rewrite.specs.Spots.{level}
 use Rattle.jr_rewrite.specs.Edited.{entries_of}
@@ -38,7 +37,7 @@ use Rattle.jr_local.specs.Bodies.{begins, Body}
 use Rattle.jr_local.specs.BodyFacts.{known}
 use Rattle.jr_local.specs.Crossing.{site_at}
 use Rattle.jr_local.specs.Extracted.{put_name, put_declaration}
-use Rattle.jr_local.specs.Inlined.{Copy, Becomes, put, copied_text, in_parentheses}
+use Rattle.jr_local.specs.Inlined.{Copy, Becomes, put, in_parentheses}
 
 -- ---- a class with its fields, and one of its methods
 
@@ -221,10 +220,10 @@ abbrev beside_sign : List Item
 beside_sign = item (Mark symbol.Equals) 60 61 ∷ item Word 61 62 ∷ item (Mark symbol.Plus) 62 63 ∷ item Word 63 64 ∷ item (Mark symbol.Semicolon) 64 65 ∷ []
 
 -- the left operand of a sum may be a sum, the right one is put in parentheses
-left_copy : Rewritten (tree.Exp Span)
+abbrev left_copy : Rewritten (tree.Exp Span)
 left_copy = put adding beside_sign (span 44 47) (copy_at 61) sum (codes "i+1")
 
-right_copy : Rewritten (tree.Exp Span)
+abbrev right_copy : Rewritten (tree.Exp Span)
 right_copy = put adding beside_sign (span 44 47) (copy_at 63) (in_parentheses (copy_at 63)) (codes "(i+1)")
 
 left_becomes : Becomes adding beside_sign (span 44 47) (level (rank_of Add)) (copy_at 61) left_copy
@@ -233,6 +232,6 @@ left_becomes = inl (omega arith, refl)
 right_becomes : Becomes adding beside_sign (span 44 47) (level (1 + rank_of Add)) (copy_at 63) right_copy
 right_becomes = inr (λ le. omega (arith, le), refl)
 
-pub both_copied : splice adding (entries_of (change (span 38 48) [] ∷ (left_copy.changes ++ right_copy.changes)))
+both_copied : splice adding (entries_of (change (span 38 48) [] ∷ (left_copy.changes ++ right_copy.changes)))
     ≡ codes "class A{int g;int h;void m(A p,int i){p.g=1;this.h=i+1+(i+1);}}"
 both_copied = refl

@@ -1,5 +1,5 @@
--- What binding says of the nodes of a body, by their spans, as far as their sites ask for it. No two
--- expressions of a body have one span, and no two words.
+-- What binding says of the nodes of a body, by their spans, as far as their sites ask for it. No
+-- two expressions of a body have one span, and no two words.
 use Rattle.std.specs.Prelude.{
   ◌≡◌,
   ◌↔◌,

@@ -36,7 +36,7 @@ use Rattle.jr_sync.specs.declared.sites.DepKind.{DepKind}
 use Rattle.jr_table.specs.Keys.{Ty, int, boolean, void, null, class}
 use Rattle.jr_table.specs.Decls.{LocalKey, class_decl}
 use Rattle.jr_table.specs.Rows.{Row}
-use Rattle.jr_table.specs.Binding.{Role, value}
+use Rattle.jr_table.specs.Binding.{value}
 use Rattle.jr_table.specs.Lookup.{FindsTypeNamed}
 use Rattle.jr_table.specs.Context.{Context, local_key, locals_in, after}
 use Rattle.jr_names.specs.Sites.{SiteAt}

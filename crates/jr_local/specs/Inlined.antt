@@ -1,5 +1,5 @@
--- What inline local makes of a program: a spot in the list of the declaration, from which this goes,
--- and a spot at each read of the local, where a copy of its initializer comes.
+-- What inline local makes of a program: a spot in the list of the declaration, from which this
+-- goes, and a spot at each read of the local, where a copy of its initializer comes.
 use Rattle.std.specs.Prelude.{
   ◌≡◌,
   ◌≢◌,

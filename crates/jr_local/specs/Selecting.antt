@@ -18,7 +18,7 @@ use Rattle.jr_ast.specs.Marks.{exp_mark}
 use Rattle.jr_table.specs.Keys.{ClassKey, Ty, void, null}
 use Rattle.jr_table.specs.Decls.{LocalKey, local_decl}
 use Rattle.jr_table.specs.Scope.{ScopeLocal}
-use Rattle.jr_table.specs.Context.{Context, scope_of}
+use Rattle.jr_table.specs.Context.{scope_of}
 use Rattle.jr_table.specs.Binding.{HasType, IsClassName}
 use Rattle.jr_names.specs.Refusals.{Refusal, bad_target, conditional, clash}
 use Rattle.jr_bind.specs.Programs.{Program}
@@ -67,8 +67,8 @@ module _ {p : Program Span} {file from to : ℕ} (x : Selected p file from to) w
   abbrev pub bar : Option ℕ
   bar = stmt_barred begins element.at.base None element.way
 
-  -- The locals whose names are taken there, in the order of their numbers: those in scope, and those
-  -- that the statement or one behind it in its list declares, nested lists included.
+  -- The locals whose names are taken there, in the order of their numbers: those in scope, and
+  -- those that the statement or one behind it in its list declares, nested lists included.
   abbrev pub taken : List ScopeLocal
   taken = (scope_of element.at.context).locals
       ++ declared_in_list x.body.key element.at.next held_list

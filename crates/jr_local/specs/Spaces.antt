@@ -1,5 +1,5 @@
--- Spaces between neighbours: one stands between a text that is put in and a token directly beside it
--- where the two would be read as other tokens (JLS 3.2).
+-- Spaces between neighbours: one stands between a text that is put in and a token directly beside
+-- it where the two would be read as other tokens (JLS 3.2).
 use Rattle.std.specs.Prelude.{
   ℕ,
   nat_eq,

@@ -2,9 +2,9 @@
 //! of a program, as refactorings of jr_plan. It has definitions and laws alone so far.
 //!
 //! `specs/Selecting`, `Inlining`: what is found, and the refusals of each, the first that applies.
-//! `specs/Extracted`, `Inlined`: regions (`Scopes`), spots, what is lost, and the pair of sites that
-//! may not change places (`Crossing`, by what `BodyFacts` says of a body's nodes). `Spaces`: spaces
-//! between neighbours. `Soundness`: what holds of the regions (`regions_are_sound`).
+//! `specs/Extracted`, `Inlined`: regions (`Scopes`), spots, what is lost, and the pair of sites
+//! that may not change places (`Crossing`, by what `BodyFacts` says of a body's nodes). `Spaces`:
+//! spaces between neighbours. `Soundness`: what holds of the regions (`regions_are_sound`).
 #![tactic(auto)]
 
 mod laws;
