@@ -1,0 +1,6 @@
+pub mod Steps
+pub mod Sought
+pub mod StepView
+pub mod StatementSteps
+pub mod SoughtStatements
+pub mod StatementView

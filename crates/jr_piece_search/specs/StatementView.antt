@@ -1,0 +1,20 @@
+-- The pure values that those of the search among statements stand for.
+use Rattle.jr_ast.specs.View.{expr_of, stmt_of, stmts_of}
+use Rattle.jr_piece_search.specs.declared.statement_steps.Inward.{Inward}
+use Rattle.jr_piece_search.specs.declared.statement_steps.Inward.TheVariants as variant
+use Rattle.jr_piece_search.specs.declared.statement_steps.ChosenStmt.{ChosenStmt}
+use Rattle.jr_piece_search.specs.StatementSteps as pure
+use Rattle.jr_piece_search.specs.StepView.{use_of}
+
+abbrev pub inward_of : Inward → pure.Inward
+inward_of variant.Nowhere = pure.nowhere
+inward_of (variant.Expr i u again e) = pure.to_exp i (use_of u) again (expr_of e.now)
+inward_of (variant.Stmt i s) = pure.to_stmt i (stmt_of s.now)
+inward_of (variant.List i b) = pure.to_list i (stmts_of b.now)
+
+abbrev pub chosen_of : ChosenStmt → pure.Chosen
+chosen_of x = record {
+  number = x.number;
+  stmt = stmt_of x.of.now;
+  list = stmts_of x.list.now;
+}
