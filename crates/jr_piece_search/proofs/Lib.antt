@@ -1,6 +1,9 @@
--- `Leading`: the part into which a search goes leads on to each way of it, a search by spans goes
--- the same way, and the part is smaller. `Going`: how far a search has come. `Choosing`: tests of
--- spans, and the loop over arguments.
+-- `Leading`, `StatementLeading`: the part into which a search goes leads on to each way of it, a
+-- search by spans goes the same way, and the part is smaller. `Going`: how far a search within an
+-- expression has come. `Choosing`, `ChoosingStatements`: tests of spans, and the loops over
+-- arguments and elements.
 pub mod Leading
 pub mod Going
 pub mod Choosing
+pub mod ChoosingStatements
+pub mod StatementLeading

@@ -32,6 +32,10 @@ pub record Chosen : Type 0 where
   pub stmt : statement.Stmt Span
   pub list : statement.Stmts Span
 
+abbrev pub in_return : Option (tree.Exp Span) → Inward
+in_return None = nowhere
+in_return (Some e) = to_exp 0 valued false e
+
 module _ (s : Span) where
   abbrev pub in_branches : (yes other : statement.Stmt Span) → Inward
   in_branches x y = if is_behind itself s (stmt_mark x) then to_stmt 2 y else to_stmt 1 x
@@ -48,10 +52,6 @@ module _ (s : Span) where
   abbrev pub in_while : tree.Exp Span → statement.Stmt Span → Inward
   in_while c x =
       if is_behind itself s (exp_mark c) then to_stmt 1 x else to_exp 0 valued true c
-
-  abbrev pub in_return : Option (tree.Exp Span) → Inward
-  in_return None = nowhere
-  in_return (Some e) = to_exp 0 valued false e
 
   abbrev pub in_sync : tree.Exp Span → statement.Stmts Span → Inward
   in_sync e b =

@@ -1,5 +1,5 @@
 //! Where a search by a span goes from a statement, and from a list of statements.
-ghost use Rattle.std.specs.Prelude.{◌≡◌, ◌≤◌, false, length, drop, option_map, IfOk};
+ghost use Rattle.std.specs.Prelude.{◌≡◌, ◌≤◌, false, length, drop, option_map, IfOk, ⊤};
 ghost use Rattle.jr_ast.specs.Marks.{stmt_mark};
 ghost use Rattle.jr_ast.specs.View.{else_of, expr_of, stmt_of, stmts_of};
 ghost use Rattle.jr_grammar.specs.Layout.{itself};
