@@ -62,7 +62,7 @@ behind_nothing : (o : Option (List ℕ)) → o ≡ behind [] o
 behind_nothing None = refl
 behind_nothing (Some q) = refl
 
-behind_onto : (p : List ℕ) (i : ℕ) (o : Option (List ℕ)) → behind p (onto i o) ≡ behind (p ++ i ∷ []) o
+pub behind_onto : (p : List ℕ) (i : ℕ) (o : Option (List ℕ)) → behind p (onto i o) ≡ behind (p ++ i ∷ []) o
 behind_onto p i None = refl
 behind_onto p i (Some q) = ap (λ (x : List ℕ). Some x) (sym (append_assoc p (i ∷ []) q))
 

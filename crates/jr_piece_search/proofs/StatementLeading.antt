@@ -1,6 +1,6 @@
 -- Of where a search goes from a statement and from a list: its ways are ways of the whole, and a
 -- search by spans goes there.
-use Rattle.std.proofs.Common.{◌≡◌, ℕ, suc, ◌+◌, ◌<◌, ◌≤◌, Bool, true, false, List, [], ◌∷◌, Option, Some, None, if◌then◌else◌, refl, ap, sym, ◌∙◌, arith}
+use Rattle.std.proofs.Common.{◌≡◌, ℕ, suc, ◌<◌, ◌≤◌, Bool, true, false, List, ◌∷◌, Option, Some, None, if◌then◌else◌, refl, arith}
 use Rattle.jr_text.specs.declared.spans.Span.{Span}
 use Rattle.jr_ast.specs.Tree as tree
 use Rattle.jr_ast.specs.StatementTree as statement
@@ -11,7 +11,7 @@ use Rattle.jr_pieces.specs.Ways.{ExpWay, StmtWay, in_init, in_eval, in_condition
 use Rattle.jr_pieces.specs.Standings.{Standing, inside, behind, in_other}
 use Rattle.jr_pieces.specs.Nearest.{or_element, element_within, nearest}
 use Rattle.jr_pieces.specs.Finding.{onto, is_behind, find_exp, find_stmt, find_list, exp_path, stmt_path, list_path}
-use Rattle.jr_pieces.specs.Uses.{Use, valued, stated, exp_use, stmt_use, list_use}
+use Rattle.jr_pieces.specs.Uses.{Use, valued, exp_use, stmt_use, list_use}
 use Rattle.jr_pieces.specs.Bars.{exp_barred, stmt_barred, list_barred}
 use Rattle.jr_piece_search.specs.StatementSteps.{Inward, nowhere, to_exp, to_stmt, to_list, Chosen, in_branches, behind_test, in_return, inward, choose}
 use Rattle.jr_piece_search.specs.Sought.{begins}

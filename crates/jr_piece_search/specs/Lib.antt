@@ -3,4 +3,5 @@ pub mod Sought
 pub mod StepView
 pub mod StatementSteps
 pub mod SoughtStatements
+pub mod Turning
 pub mod StatementView

@@ -18,7 +18,7 @@ pub struct InExpr<'a> {
 }
 
 /// Behind a step into a part of a node that begins at the byte.
-fn barred(bars: Bars, lazy: bool, at: u32) -> Bars
+pub(crate) fn step_bars(bars: Bars, lazy: bool, at: u32) -> Bars
     ensures { bars_of result ≡ barred (bars_of bars) lazy at }
 {
     if lazy {
@@ -60,7 +60,7 @@ pub fn in_expr<'a>(
             Some(into) => {
                 path.push(into.number)?;
                 usage = into.usage;
-                bars = barred(bars, into.lazy, of.mark.from);
+                bars = step_bars(bars, into.lazy, of.mark.from);
                 of = into.part;
             }
         }

@@ -43,5 +43,5 @@ loop-of-preserved c =
     let old = c.args.path.now.items in
     let other : same_span (exp_mark (expr_of l.of.now)) s ≡ false = ap (λ (m : Span). same_span m s) (expr_mark_is l.of.now) ∙ sym c.is_span.ensures ∙ c.if-is_span.false in
     let g = goes s u b e old (use_of l.usage) (bars_of l.bars) (expr_of l.of.now) l.path.items x l.invariant other (sym c.in_ok-step.ensures ∙ ap (option_map step_of) c.in-Some.is) in
-    same_place s u b e old x.usage (barred (bars_of l.bars) x.lazy (exp_mark (expr_of l.of.now)).from) (bars_of c.barred-bars.result) x.part (l.path.items ++ x.number ∷ []) _
-    (c.barred-bars.ensures ∙ ap (λ (m : Span). barred (bars_of l.bars) x.lazy m.from) (sym (expr_mark_is l.of.now))) c.in_ok-push-in-Some.ensures.items g
+    same_place s u b e old x.usage (barred (bars_of l.bars) x.lazy (exp_mark (expr_of l.of.now)).from) (bars_of c.step_bars-bars.result) x.part (l.path.items ++ x.number ∷ []) _
+    (c.step_bars-bars.ensures ∙ ap (λ (m : Span). barred (bars_of l.bars) x.lazy m.from) (sym (expr_mark_is l.of.now))) c.in_ok-push-in-Some.ensures.items g
