@@ -5,3 +5,5 @@ pub mod StatementSteps
 pub mod SoughtStatements
 pub mod Turning
 pub mod StatementView
+pub mod Ends
+pub mod EndView
