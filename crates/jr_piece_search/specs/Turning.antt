@@ -28,7 +28,11 @@ with_list b x = record { value = x.value; usage = x.usage; bars = x.bars; list =
 abbrev pub ToElement : (outer : Option ℕ) → (old new : List ℕ) → Turn → Option Chosen → Type 0
 ToElement outer old new t None = t ≡ ended None
 ToElement outer old new t (Some w) = (new ≡ old ++ w.number ∷ [])
-    × (t ≡ at (record { bars = record { outer = outer; own = None }; list = w.list; stmt = w.stmt }))
+    × (t ≡ at (record {
+      bars = record { outer = outer; own = None };
+      list = w.list;
+      stmt = w.stmt;
+    }))
 
 module _ (s : Span) where
   abbrev pub Turned : Place → (old new : List ℕ) → Turn → Inward → Type 0

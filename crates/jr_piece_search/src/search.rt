@@ -154,8 +154,8 @@ fn to_part<'a>(
 
 /// The next turn.
 fn turn_from<'a>(span: &Span, place: Place<'a>, path: &mut Vec<u32>) -> Result<Turn<'a>, AllocError>
-    ensures { IfOk result (λ t. TurnsFrom span.now (place_of place.entry) path.old.items path.new.items
-        (turn_of t)) }
+    ensures { IfOk result (λ t. TurnsFrom span.now (place_of place.entry) path.old.items
+        path.new.items (turn_of t)) }
 {
     match inward_stmt(span, place.of) {
         Inward::Nowhere => Ok(Turn::Ended(None)),
