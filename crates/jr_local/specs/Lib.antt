@@ -1,0 +1,11 @@
+pub mod Bodies
+pub mod BodyFacts
+pub mod Spaces
+pub mod Texts
+pub mod Scopes
+pub mod Soundness
+pub mod Crossing
+pub mod Selecting
+pub mod Inlining
+pub mod Extracted
+pub mod Inlined

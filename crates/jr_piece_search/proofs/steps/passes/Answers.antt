@@ -1,0 +1,9 @@
+use Rattle.std.proofs.Common.{ap, sym}
+use Rattle.jr_text.specs.declared.spans.Span.{Span}
+use Rattle.jr_grammar.specs.Layout.{itself}
+use Rattle.jr_ast.proofs.Rows.{expr_mark_is}
+use Rattle.jr_pieces.specs.Finding.{is_behind}
+use Rattle.jr_piece_search.proofs.steps.passes.Goals as goal
+
+pub returns : goal.returns
+returns c = ap (λ (m : Span). is_behind itself c.args.span.now m) (sym (expr_mark_is c.args.part.now))
