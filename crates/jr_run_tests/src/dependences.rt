@@ -364,11 +364,11 @@ fn tell_lines(rt: &impl Abort, alloc: Global, told: &str) -> String {
 
 /// What a run of a show of A.java tells; a store, which would be the fourth call of the shelf,
 /// would fail.
-pub(crate) fn tell_dependences(
+pub(crate) fn tell_dependences<'a>(
     rt: &impl Abort,
     alloc: Global,
-    first: &str,
-    second: &str,
+    first: &'a str,
+    second: &'a str,
 ) -> String {
     let script: &str = SCRIPT;
     let held = [
