@@ -4,23 +4,14 @@
 For a kit whose `rt ci` keeps what passed. `linkfrom.py` takes libraries from gates that still run; a gate's copy goes at
 its end, and what it built last with it. Lowest crate first, since a kept library's name is the sum of those below it.
 """
-import importlib.machinery
-import importlib.util
 import os
 import shutil
 import sys
 
+sys.path.insert(0, os.path.dirname(os.path.abspath(__file__)))
+sys.dont_write_bytecode = True
 
-def load_kit():
-    command = os.path.realpath(shutil.which("rattle") or sys.exit("rattle is not on the path"))
-    loader = importlib.machinery.SourceFileLoader("kit_rt", os.path.join(os.path.dirname(command), "rt"))
-    made = importlib.util.module_from_spec(importlib.util.spec_from_loader("kit_rt", loader))
-    sys.modules["kit_rt"] = made
-    loader.exec_module(made)
-    return made
-
-
-KIT = load_kit()
+from clones import KIT
 
 
 def is_had(crate, kept):
