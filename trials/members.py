@@ -1,12 +1,14 @@
 #!/usr/bin/env python3
-"""Move static, move instance and pull up by the definitions against given cases: members.py FILE..
+"""Refactorings of members by the definitions against given cases: members.py FILE.jsonl..
 
-Takes the cases of the command run whose only step is one of these three. Prints each in which the
-reply or the stored text differs.
+Takes the cases of the command run whose only step moves, extracts or inlines a method, or pulls a member up.
+Prints each in which the reply or the stored text differs.
 """
 import json
 import sys
 
+from reading.extracting import extract_method
+from reading.inlining import inline_method
 from reading.members import move_instance, move_static, pull_up
 from reading.renaming import Refused
 
@@ -15,6 +17,10 @@ STEPS = {
     "move_instance": lambda files, s: move_instance(
         files, s["file"], s["at"], s["class"], s["name"]
     ),
+    "extract_method": lambda files, s: extract_method(
+        files, s["file"], s["from"], s["to"], s["name"]
+    ),
+    "inline_method": lambda files, s: inline_method(files, s["file"], s["at"]),
     "pull_up": lambda files, s: pull_up(files, s["file"], s["at"]),
 }
 

@@ -11,78 +11,15 @@ import re
 import sys
 
 from crossings import lists_of, members, within
+from reading.extracting import PieceSites, used_behind
 from reading.program import Program
-from reading.sites import Sites
-from reading.ways import PASS, edges, edges_around, row, size, sites_of
-
-
-class Pieces(Sites):
-    """Sites of members, in whose ways a piece is one part."""
-
-    statements_in = None  # a list, and the numbers of its first and behind its last statement
-    expression = None
-    piece = None
-
-    def statements(self, body):
-        if self.statements_in is None or body is not self.statements_in[0]:
-            return super().statements(body)
-        _, begin, end = self.statements_in
-        before, held, behind = body[:begin], body[begin:end], body[end:]
-        self.piece = row(*map(self.statement, held), PASS)
-        return row(*map(self.statement, before), self.piece, *map(self.statement, behind), PASS)
-
-    def value(self, e):
-        if e is not self.expression:
-            return super().value(e)
-        self.expression = None
-        self.piece = self.value(e)
-        return self.piece
-
-
-def begin_of(n, w, piece):
-    """The number of the piece's first site, where the way's sites have the numbers from n on."""
-    if w is piece:
-        return n
-    parts = {"row": (1, 2), "fork": (1, 2), "turns": (2, 3), "inside": (2,)}.get(w[0], ())
-    n += w[0] in ("turns", "inside")
-    for part in parts:
-        found = begin_of(n, w[part], piece)
-        if found is not None:
-            return found
-        n += size(w[part])
-    return None
-
-
-def used_behind(way, piece):
-    """The locals that the piece writes and that are used behind it, by number."""
-    sites, first = sites_of(way), begin_of(0, way, piece)
-    inside = range(first, first + size(piece))
-    written = {sites[i][2] for i in inside if sites[i][1] == "writes"}
-    after = {}
-    for i, j in edges(0, way):
-        after.setdefault(i, set()).add(j)
-    leads = {j for i, j in edges_around(0, way, piece) if i in inside}
-    return sorted(x for x in written if comes(sites, after, leads, x))
-
-
-def comes(sites, after, work, x):
-    """Whether from one of these sites a read of x is met before a write."""
-    found, work = set(), list(work)
-    while work:
-        j = work.pop()
-        if sites[j][1:] == ("reads", x):
-            return True
-        if j not in found and sites[j][1:] != ("writes", x):
-            found.add(j)
-            work.extend(after.get(j, ()))
-    return False
 
 
 def used_in(files, step):
     """The member, and the numbers of the locals; None where no piece has just this span."""
     program = Program(files)
     file = [name for name, _ in files].index(step["file"])
-    sites = Pieces(program, file)
+    sites = PieceSites(program, file, None, None)
     span = step["from"], step["to"]
     for tree in program.units[file].classes:
         for decl, member in all_members(program, tree):

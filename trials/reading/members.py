@@ -2,14 +2,11 @@
 refusal (JLS 6.4, 8.2, 8.4.8)."""
 import copy
 
-from .binding import Binding
 from .locals import Asked
 from .lookup import NONE, Local, Place
 from .program import PRELUDE, Row, decl_text, is_class, type_text
-from .renaming import (
-    Refused, changed_override, is_identifier, limits, scopes, spliced, would_compile,
-)
-from .spelling import Spelling, found_text
+from .receivers import Copied, Moving, end_step, words_of_type
+from .renaming import Refused, changed_override, is_identifier, scopes, spliced
 from .tokens import tokens_of
 from .trees import MODIFIERS
 
@@ -51,7 +48,7 @@ def is_of_body(decl, key):
     return decl[1] == key or decl[1][0] is not None and (None, decl[1][0]) == key
 
 
-class Kept(Spelling):
+class Kept(Moving):
     """The spellings of a file in the new program; what is moved stands in another class."""
 
     def __init__(self, program, file, to, step):
@@ -61,76 +58,12 @@ class Kept(Spelling):
     def is_moved(self, place):
         return place.member == self.step.decl
 
+    def this_type(self, place):
+        return self.step.to
+
     def after(self, place):
         new = super().after(place)
         return new._replace(cls=self.step.to) if self.is_moved(place) else new
-
-    # types now: `this` has the class that the text stands in
-
-    def type_now(self, place, e):
-        while e.kind == "paren":
-            e = e.of
-        if e.kind == "this" and self.is_moved(place):
-            return self.step.to
-        return self.type_of(place, e)
-
-    def types_after(self, place, e):
-        if not hasattr(e, "args"):
-            return None
-        return tuple(self.type_now(place, arg) for arg in e.args)
-
-    def spell_on_value(self, place, new, e):
-        decl, types = self.value_found(place, e)[1], self.types_after(place, e)
-        operand, key, text = self.type_now(place, e.on), decl[1], e.name.text
-        asked = NONE
-        if is_class(operand):
-            asked = self.member(self.new, new, operand, e, text, types)
-        above = is_class(operand) and self.p.is_subclass(operand, key)
-        key = self.to.decl(decl)[1]
-        if asked == self.one(decl):
-            self.put(e.name, decl)
-        elif above and self.names_type(new, key) and (
-            self.member(self.new, new, key, e, text, types) == self.one(decl)
-        ):
-            self.cast(e, key, text)
-        else:
-            self.lost.append((e.name.at, decl, asked))
-
-    def spell_simple_call(self, place, new, e):
-        decl, types = self.call_found(place, e)[1], self.types_after(place, e)
-        text, to = e.name.text, self.to.decl(decl)
-        asked, key = self.new.simple_method(new, text, types), to[1]
-        if asked == ("one", to):
-            return
-        texts = []
-        if self.new.p.has_word(to, "static"):
-            if self.new.method(new, key, text, types) == ("one", to):
-                texts = [front + "." + text for front in self.class_fronts(new, key)]
-        elif not new.static and self.new.method(new, new.cls, text, types) == ("one", to):
-            texts = ["this." + text]
-        self.take(texts, e.name.at, e.name, decl, asked)
-
-    def expression_words(self, place, role, e):
-        super().expression_words(place, role, e)
-        if e.kind == "create":
-            decl, new = self.creation_found(place, e)[1], self.after(place)
-            asked = self.new.ctor(new, decl[1], self.types_after(place, e))
-            if asked != self.one(decl):
-                self.lost.append((e.at, decl, asked))
-
-    # made references
-
-    def spell_class(self, place, key, made_lost):
-        """A made class as a type."""
-        asked = self.new.type(place, key[1])
-        if asked == ("one", ("class", key)):
-            return key[1]
-        outer = self.outer_spelling(place, key)
-        if outer is None:
-            made_lost.append((("class", key), asked))
-            return key[1]
-        self.respelled["class Outer.K"] += 1
-        return outer
 
 
 class KeptStatic(Kept):
@@ -174,15 +107,21 @@ class Delegated(Kept):
 
     in_body = False
 
+    def __init__(self, program, file, to, step):
+        self.receiver = step.name
+        super().__init__(program, file, to, step)
+
     def is_moved(self, place):
         return super().is_moved(place) and self.in_body
+
+    def this_type(self, place):
+        return place.cls
 
     def after(self, place):
         new = super().after(place)
         if not self.is_moved(place):
             return new
-        old = self.step.decl[1]
-        first = Local(self.step.name, 0, False, old, False)
+        first = Local(self.step.name, 0, False, self.step.key, False)
         locals = [first] + [one._replace(number=one.number + 1) for one in new.locals]
         return new._replace(static=True, member=self.step.new, locals=locals)
 
@@ -191,62 +130,10 @@ class Delegated(Kept):
             return ("one", ("local", self.step.new, decl[2] + 1))
         return super().one(decl)
 
-    def type_now(self, place, e):
-        return self.type_of(place, e)
-
     def walk_list(self, place, body):
         was, self.in_body = self.in_body, self.in_body or body is self.step.member.body
         super().walk_list(place, body)
         self.in_body = was
-
-    def expression_words(self, place, role, e):
-        if not self.is_moved(place):
-            super().expression_words(place, role, e)
-        elif e.kind == "this":
-            self.edits.append((e.at, e.end, self.step.name))
-        elif self.is_of_this(place, role, e):
-            Binding.expression_words(self, place, role, e)
-            self.spell_on_receiver(place, self.after(place), role, e)
-        else:
-            super().expression_words(place, role, e)
-
-    def is_of_this(self, place, role, e):
-        """Whether a reference is by way of `this`, written or not."""
-        if e.kind in ("super_field", "super_call"):
-            return True
-        if e.kind == "name":
-            find = self.left if role == "left" else self.variable
-            decl = find(place, e.name.text)[1]
-            return decl[0] == "field" and not self.p.has_word(decl, "static")
-        if e.kind == "call" and e.on is None:
-            return not self.p.has_word(self.call_found(place, e)[1], "static")
-        return False
-
-    def spell_on_receiver(self, place, new, role, e):
-        found = self.left(place, e.name.text) if role == "left" else self.value_found(place, e)
-        decl, types, text = found[1], self.types_after(place, e), e.name.text
-        key, old, kind = decl[1], self.step.decl[1], decl[0]
-        by_super = e.kind == "super_field"
-        asked = NONE
-        cast = "((%s) %s).%s" % (key[1], self.step.name, text)
-        fits = self.names_type(new, key)
-        on_class = self.member(self.new, new, key, e, text, types)
-        if e.kind == "super_call":
-            self.lost.append((e.name.at, decl, NONE))
-            return
-        if by_super:
-            asked = on_class if fits else NONE
-            text = cast
-        else:
-            asked = self.member(self.new, new, old, e, text, types)
-            text = self.step.name + "." + text
-        if asked == self.one(decl):
-            self.edits.append((e.at, self.end_of(e.name), text))
-        elif fits and self.p.is_subclass(old, key) and on_class == self.one(decl):
-            self.respelled["%s ((K) e).x" % kind] += 1
-            self.edits.append((e.at, self.end_of(e.name), cast))
-        else:
-            self.lost.append((e.name.at, decl, asked))
 
 
 class Step(Asked):
@@ -334,21 +221,6 @@ class Step(Asked):
         inner = [(a - start, b - start, put) for a, b, put in edits if start <= a and b <= end]
         return spliced(self.source_of(self.file)[start:end].decode("utf-8"), inner)
 
-    def finish(self, walks, edits, made_lost, copied_lost=()):
-        every = []
-        for number, walk in enumerate(walks):
-            every += [(number, at, 0, i, d, f) for i, (at, d, f) in enumerate(walk.lost)]
-        every += [(self.file, at, 1, i, d, f) for i, (at, d, f) in enumerate(copied_lost)]
-        every += [(self.file, self.places[0], 2, i, d, f) for i, (d, f) in enumerate(made_lost)]
-        if every:
-            file, at, _, _, decl, found = min(every, key=lambda one: one[:4])
-            words = self.files[file][0], at, decl_text(decl), found_text(found)
-            raise Refused(16, "LostBinding %s:%d %s found %s" % words)
-        after = [(one, spliced(text, put)) for (one, text), put in zip(self.files, edits)]
-        limits(after)
-        would_compile(after)
-        return after, sum(sum(walk.respelled.values()) for walk in walks)
-
 
 def moved_row(step, without):
     old = step.program.row(step.decl)
@@ -358,7 +230,7 @@ def moved_row(step, without):
 
 def go_elsewhere(step, without, spellings):
     """Move static and pull up behind their own refusals: the member goes to the end of a class."""
-    member, source = step.member, step.source_of(step.file)
+    member = step.member
     row = moved_row(step, without)
     step.new = row.decl
     to = NewRows(step.program, {step.decl: step.new}, step.decl, row)
@@ -372,12 +244,12 @@ def go_elsewhere(step, without, spellings):
     inner += step.dropped(without)
     if "synchronized" in without and "synchronized" in member.modifiers:
         place = Place(step.to, step.new, True, [], None)
-        lock = own.spell_class(place, step.key, made_lost)
+        lock = own.made_type(place, step.key, made_lost)
         brace = step.brace() + 1
         inner.append((brace, brace, " synchronized (%s.class) {" % lock))
         inner.append((member.end - 1, member.end - 1, "} "))
     text = step.piece(inner, member.at, member.end)
-    step.source = source
+    step.source = step.source_of(step.file)
     start, end = step.removal(member.at, member.end)
     edits = [list(walk.edits) for walk in walks]
     edits[step.file] = [
@@ -385,7 +257,7 @@ def go_elsewhere(step, without, spellings):
     ]
     edits[step.file].append((start, end, ""))
     edits[step.to_file].append(step.put_at_end(text))
-    return step.finish(walks, edits, made_lost)
+    return end_step(step, list(enumerate(walks)), edits, [], made_lost)
 
 
 def move_static(files, file_name, at, class_text):
@@ -412,30 +284,6 @@ def pull_up(files, file_name, at):
 
 
 # move instance
-
-
-class Copied(Spelling):
-    """The types of the old head in the class of the new one."""
-
-    def __init__(self, around, place):
-        self.__dict__.update(around.__dict__)
-        self.new_place = place
-        self.edits, self.lost = [], []
-
-    def after(self, place):
-        return self.new_place
-
-
-def type_copied(step, copied, place, type):
-    if type is None:
-        return "void"
-    if type.kind != "named":
-        return type.kind
-    copied.edits = []
-    copied.type_words(place, type)
-    words = [type.name] if type.outer is None else [type.outer, type.name]
-    start, end = words[0].at, words[-1].at + len(words[-1].text.encode("utf-8"))
-    return "".join(step.piece(copied.edits, start, end).split())
 
 
 def refuse_clash_of_head(step, name):
@@ -475,15 +323,14 @@ def move_instance(files, file_name, at, class_text, name):
     brace = step.brace()
     body = step.piece([e for e in own.edits if brace <= e[0]], brace, member.end)
     delegate, delegate_lost = delegate_text(step, own)
-    head, head_lost, copied = head_text(step, own, words)
+    head, head_lost, copied_lost = head_text(step, own, words)
     in_order = (step.file, member.at) < (step.to_file, step.class_end())
     made_lost = delegate_lost + head_lost if in_order else head_lost + delegate_lost
     edits = [list(walk.edits) for walk in walks]
     edits[step.file] = [e for e in own.edits if not (brace <= e[0] and e[1] <= member.end)]
     edits[step.file].append((brace, member.end, delegate))
     edits[step.to_file].append(step.put_at_end(head + " " + body))
-    own.respelled.update(copied.respelled - own.respelled)
-    return step.finish(walks, edits, made_lost, copied.lost)
+    return end_step(step, list(enumerate(walks)), edits, copied_lost, made_lost)
 
 
 def delegate_text(step, own):
@@ -524,17 +371,23 @@ def param_locals(step):
 
 
 def head_text(step, own, words):
+    """The head of the new method; its lost made references; its lost copied ones."""
     place = Place(step.to, step.new, True, [], None)
     old_place = Place(step.key, step.decl, False, [], None)
-    copied = Copied(own, place)
-    copied.respelled = copy.copy(own.respelled)
-    lost = []
-    result = type_copied(step, copied, old_place, step.member.type)
-    first = own.spell_class(place, step.key, lost) + " " + step.name
-    params = [first]
+    copied, lost, source = Copied(own, place), [], step.source_of(step.file)
+
+    def words_of(type):
+        copied.edits = []
+        if type is not None:
+            copied.type_words(old_place, type)
+        return words_of_type(source, type, copied.edits)
+
+    result = words_of(step.member.type)
+    params = [own.made_type(place, step.key, lost) + " " + step.name]
     for param in step.member.params:
-        text = type_copied(step, copied, old_place, param.type) + " " + param.name.text
+        text = words_of(param.type) + " " + param.name.text
         params.append("final " + text if param.final else text)
+    own.respelled.update(copied.respelled)
     name = step.member.name.text
     head = "%s %s %s(%s)" % (" ".join(words), result, name, ", ".join(params))
-    return head, lost, copied
+    return head, lost, [(step.file, *one) for one in copied.lost]
