@@ -16,9 +16,10 @@ use Rattle.jr_table.specs.Binding.{Role, value, left, statement, variable, type,
 use Rattle.jr_table.specs.Meanings.{find_left, find_left_of, own_superclass, field_found, call_found, target_found, ctor_found, created_class, types_of}
 use Rattle.jr_table.proofs.Typing.{left_iff, left_of_iff, own_super_iff}
 use Rattle.jr_rewrite.specs.Respellings.{Choice}
-use Rattle.jr_images.specs.Images.{Renaming}
-use Rattle.jr_images.specs.Words.{InFront, WordsStand}
-use Rattle.jr_images.specs.Spelling as spells
+use Rattle.jr_new_words.specs.Mappings.{Mapping}
+use Rattle.jr_images.specs.Words.{InFront}
+use Rattle.jr_new_words.specs.Spelled.{WordsStand}
+use Rattle.jr_new_words.specs.Spelled as spells
 use Rattle.jr_new_words.specs.Chosen.{unmarked, ChoosesOf, VariableIsChosen, ClassIsChosen, FieldIsChosen, StaticFieldIsChosen, MemberClassIsChosen, SuperFieldIsChosen, SimpleCallIsChosen, CallIsChosen, StaticCallIsChosen, SuperCallIsChosen, CreationIsChosen, SuperCtorIsChosen, TypeIsChosen, QualifierIsChosen, QualifiedTypeIsChosen}
 use Rattle.jr_new_bodies.specs.Known.{IsOne, NameIsBound, NameSpells, DottedIsBound, DottedSpells, SuperFieldIsBound, CallIsBound, SuperCallIsBound, CreationIsBound, SuperCtorIsBound, TypeNameIsBound, InnerNameIsBound, IsValueOf, NoField, Creates}
 use Rattle.jr_new_bodies.proofs.Sorts.{found_variable, found_field, found_type, found_inner, found_method, found_call, found_ctor}
@@ -41,7 +42,7 @@ some_here (Some x) P h none = refl
 pub of_some : {X Y : Type 0} (f : X → Y) (o : Option X) (x : X) (P : Option Y → Type 0) → o ≡ Some x → P (option_map f o) → P (Some (f x))
 of_some f o x P is h = subst (λ p. P (option_map f p)) is h
 
-module _ (rows : List Row) (are : AreRows rows) (keys : KeysAreFound rows) (g : Renaming) (c : Context) where
+module _ (rows : List Row) (are : AreRows rows) (keys : KeysAreFound rows) (g : Mapping) (c : Context) where
   -- ---- simple names
 
   pub no_variable : (name : List ℕ) (at : ℕ) (d : Decl) → VariableIsChosen rows g c at name None → FindsVariable rows (scope_of c) name (one d) → ⊥

@@ -5,12 +5,12 @@ ghost use Rattle.jr_ast.specs.View.{expr_of, exprs_of, type_of};
 ghost use Rattle.jr_table.specs.TypeView.{class_key_of};
 ghost use Rattle.jr_table.specs.Binding.{IsClassName, HaveTypes, left};
 ghost use Rattle.jr_bind_expr.specs.Fits.{FitsExp};
-ghost use Rattle.jr_images.specs.Spelling as spells;
+ghost use Rattle.jr_new_words.specs.Spelled as spells;
 ghost use Rattle.jr_new_words.specs.ChoiceView.{choice_of};
 ghost use Rattle.jr_new_words.specs.Chosen.{unmarked};
 ghost use Rattle.jr_new_words.specs.Chosen as chosen;
 ghost use Rattle.jr_new_bodies.specs.Known as pure;
-ghost use Rattle.jr_new_bodies.specs.Known.{rows_of, naming_of, context_of, IsKnown, IsValueOf};
+ghost use Rattle.jr_new_bodies.specs.Known.{rows_of, mapping_of, context_of, IsKnown, IsValueOf};
 ghost use Rattle.jr_new_bodies.specs.Known.{ExpReady, SoundExp, RefersExp, TypesRow};
 ghost use Rattle.jr_new_bodies.specs.Known.{TypesCreation};
 
@@ -41,7 +41,7 @@ pub(crate) fn simple_call_choice<A: Mark>(
     requires bound { pure.CallIsBound (λ m b. (A.span_from m b).from) (rows_of here.now)
         (context_of here.now) no_target name.now (exprs_of args.now) }
     ensures { IfOk result (λ h. spells.SimpleCallSpells (λ m b. (A.span_from m b).from)
-        (rows_of here.now) (naming_of here.now) (context_of here.now) at name.now
+        (rows_of here.now) (mapping_of here.now) (context_of here.now) at name.now
         (exprs_of args.now) (choice_of h)) }
 {
     lookups_are_exact();
@@ -72,7 +72,7 @@ fn value_call<A: Mark>(
     requires bound { pure.CallIsBound (λ m b. (A.span_from m b).from) (rows_of here.now)
         (context_of here.now) (on (expr_of part.now)) name.now (exprs_of args.now) }
     ensures { IfOk result (λ h. spells.CallSpells (λ m b. (A.span_from m b).from)
-        (rows_of here.now) (naming_of here.now) (context_of here.now) at (expr_of part.now)
+        (rows_of here.now) (mapping_of here.now) (context_of here.now) at (expr_of part.now)
         name.now (exprs_of args.now) (choice_of h)) }
 {
     lookups_are_exact();
@@ -108,7 +108,7 @@ fn class_call<A: Mark>(
     requires bound { pure.CallIsBound (λ m b. (A.span_from m b).from) (rows_of here.now)
         (context_of here.now) (on (expr_of part.now)) name.now (exprs_of args.now) }
     ensures { IfOk result (λ h. spells.CallSpells (λ m b. (A.span_from m b).from)
-        (rows_of here.now) (naming_of here.now) (context_of here.now) at (expr_of part.now)
+        (rows_of here.now) (mapping_of here.now) (context_of here.now) at (expr_of part.now)
         name.now (exprs_of args.now) (choice_of h)) }
 {
     lookups_are_exact();
@@ -140,7 +140,7 @@ fn typed_call<A: Mark>(
     requires bound { pure.CallIsBound (λ m b. (A.span_from m b).from) (rows_of here.now)
         (context_of here.now) (on (expr_of part.now)) name.now (exprs_of args.now) }
     ensures { IfOk result (λ h. spells.CallSpells (λ m b. (A.span_from m b).from)
-        (rows_of here.now) (naming_of here.now) (context_of here.now) at (expr_of part.now)
+        (rows_of here.now) (mapping_of here.now) (context_of here.now) at (expr_of part.now)
         name.now (exprs_of args.now) (choice_of h)) }
 {
     lookups_are_exact();
@@ -174,7 +174,7 @@ pub(crate) fn call_choice<A: Mark>(
     requires bound { pure.CallIsBound (λ m b. (A.span_from m b).from) (rows_of here.now)
         (context_of here.now) (on (expr_of part.now)) name.now (exprs_of args.now) }
     ensures { IfOk result (λ h. spells.CallSpells (λ m b. (A.span_from m b).from)
-        (rows_of here.now) (naming_of here.now) (context_of here.now) at (expr_of part.now)
+        (rows_of here.now) (mapping_of here.now) (context_of here.now) at (expr_of part.now)
         name.now (exprs_of args.now) (choice_of h)) }
 {
     lookups_are_exact();
@@ -200,7 +200,7 @@ pub(crate) fn super_call_choice<A: Mark>(
     requires bound { pure.SuperCallIsBound (λ m b. (A.span_from m b).from) (rows_of here.now)
         (context_of here.now) name.now (exprs_of args.now) }
     ensures { IfOk result (λ h. spells.SuperCallSpells (λ m b. (A.span_from m b).from)
-        (rows_of here.now) (naming_of here.now) (context_of here.now) at name.now
+        (rows_of here.now) (mapping_of here.now) (context_of here.now) at name.now
         (exprs_of args.now) (choice_of h)) }
 {
     lookups_are_exact();
@@ -230,7 +230,7 @@ fn typed_creation<A: Mark>(
     requires bound { pure.CreationIsBound (λ m b. (A.span_from m b).from) (rows_of here.now)
         (context_of here.now) (type_of ty.now) (exprs_of args.now) }
     ensures { IfOk result (λ h. pure.Creates (λ m b. (A.span_from m b).from) (rows_of here.now)
-        (naming_of here.now) (context_of here.now) at (type_of ty.now) (exprs_of args.now)
+        (mapping_of here.now) (context_of here.now) at (type_of ty.now) (exprs_of args.now)
         (choice_of h)) }
 {
     lookups_are_exact();
@@ -265,7 +265,7 @@ pub(crate) fn creation_choice<A: Mark>(
     requires bound { pure.CreationIsBound (λ m b. (A.span_from m b).from) (rows_of here.now)
         (context_of here.now) (type_of ty.now) (exprs_of args.now) }
     ensures { IfOk result (λ h. pure.Creates (λ m b. (A.span_from m b).from) (rows_of here.now)
-        (naming_of here.now) (context_of here.now) at (type_of ty.now) (exprs_of args.now)
+        (mapping_of here.now) (context_of here.now) at (type_of ty.now) (exprs_of args.now)
         (choice_of h)) }
 {
     lookups_are_exact();
@@ -291,7 +291,7 @@ pub fn super_ctor_choice<A: Mark>(
     requires bound { pure.SuperCtorIsBound (rows_of here.now) (context_of here.now)
         (exprs_of args.now) }
     ensures { IfOk result (λ h. spells.SuperCtorSpells (λ m b. (A.span_from m b).from)
-        (rows_of here.now) (naming_of here.now) at (context_of here.now) (exprs_of args.now)
+        (rows_of here.now) (mapping_of here.now) at (context_of here.now) (exprs_of args.now)
         (choice_of h)) }
 {
     lookups_are_exact();
@@ -312,7 +312,7 @@ pub(crate) fn type_choice(
 ) -> Result<Choice, AllocError>
     requires known { IsKnown here.now }
     requires bound { pure.TypeNameIsBound (rows_of here.now) (context_of here.now) name.now }
-    ensures { IfOk result (λ h. chosen.TypeIsChosen (rows_of here.now) (naming_of here.now)
+    ensures { IfOk result (λ h. chosen.TypeIsChosen (rows_of here.now) (mapping_of here.now)
         (context_of here.now) at name.now (pure.just (choice_of h))) }
 {
     lookups_are_exact();
@@ -330,7 +330,7 @@ pub(crate) fn qualifier_choice(
 ) -> Result<Choice, AllocError>
     requires known { IsKnown here.now }
     requires bound { pure.TypeNameIsBound (rows_of here.now) (context_of here.now) name.now }
-    ensures { IfOk result (λ h. chosen.QualifierIsChosen (rows_of here.now) (naming_of here.now)
+    ensures { IfOk result (λ h. chosen.QualifierIsChosen (rows_of here.now) (mapping_of here.now)
         (context_of here.now) at name.now (pure.just (choice_of h))) }
 {
     lookups_are_exact();
@@ -352,7 +352,7 @@ pub(crate) fn inner_type_choice(
     requires bound { pure.InnerNameIsBound (rows_of here.now) (context_of here.now) outer.now
         name.now }
     ensures { IfOk result (λ h. chosen.QualifiedTypeIsChosen (rows_of here.now)
-        (naming_of here.now) (context_of here.now) at outer.now name.now
+        (mapping_of here.now) (context_of here.now) at outer.now name.now
         (pure.just (choice_of h))) }
 {
     lookups_are_exact();

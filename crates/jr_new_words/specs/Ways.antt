@@ -28,10 +28,10 @@ use Rattle.jr_table.specs.Binding.{FindsIn}
 use Rattle.jr_spell.specs.declared.references.RefForm.{RefForm}
 use Rattle.jr_spell.specs.declared.references.RefForm.TheVariants as ref
 use Rattle.jr_spell.specs.References.{Reference, Operand}
-use Rattle.jr_rewrite.specs.Respellings.{Choice}
-use Rattle.jr_images.specs.Images.{Renaming, name_to, decl_to, rows_to, scope_to}
+use Rattle.jr_rewrite.specs.Respellings.{Choice, loses}
 use Rattle.jr_images.specs.Words.{InFront, named_class, FindsBehind}
 use Rattle.jr_images.specs.Spelling.{operand_of, dotted}
+use Rattle.jr_new_words.specs.Mappings.{Mapping, name_to, decl_to, rows_to, scope_to}
 use Rattle.jr_new_words.specs.FrontView.{in_front_of}
 use Rattle.jr_new_words.specs.declared.ways.Way as raw
 use Rattle.jr_new_words.specs.declared.ways.Way.TheVariants as variant
@@ -249,7 +249,12 @@ module _ (rows : List Row) (s : Scope) where
 
 -- ---- what is chosen
 
-module _ (rows : List Row) (g : Renaming) (c : Context) where
+-- of a declaration, where there is one
+abbrev pub OfDecl : Option Decl → (Kept : Decl → Type 0) → (Gone : Type 0) → Type 0
+OfDecl (Some d) Kept Gone = Kept d
+OfDecl None Kept Gone = Gone
+
+module _ (rows : List Row) (g : Mapping) (c : Context) where
   -- of a declaration with this image
   abbrev pub SpellsTo : (image : Decl) → Way → List Ty → (at : ℕ) → (old : List ℕ) → Decl
       → Choice → Type 0
@@ -257,8 +262,15 @@ module _ (rows : List Row) (g : Renaming) (c : Context) where
       (asked (reference_by w (name_in i (name_to g d old)) ts) i (name_in i (name_to g d old)))
       at old d (Finds (rows_to g rows) (scope_to g c) w (name_in i (name_to g d old)) ts) h
 
+  -- of one that is gone: it is lost, with what its name finds
+  abbrev pub Gone : Way → List Ty → (at : ℕ) → (old : List ℕ) → Decl → Choice → Type 0
+  Gone w ts at old d h = (f : Found)
+      × Finds (rows_to g rows) (scope_to g c) w (name_to g d old) ts f
+      × (h ≡ loses (record { at = at; declaration = d; found = f }))
+
   abbrev pub SpellsBy : Way → List Ty → (at : ℕ) → (old : List ℕ) → Decl → Choice → Type 0
-  SpellsBy w ts at old d h = SpellsTo (decl_to g d) w ts at old d h
+  SpellsBy w ts at old d h =
+      OfDecl (decl_to g d) (λ i. SpellsTo i w ts at old d h) (Gone w ts at old d h)
 
   -- where the way leads to such declarations
   abbrev pub IsChosenFor : Way → List Ty → (at : ℕ) → (old : List ℕ) → Decl → Option Choice

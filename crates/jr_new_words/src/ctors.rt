@@ -1,16 +1,16 @@
 //! Creations, and written `super(..)` (JLS 15.9.3, 8.8.7.1).
 ghost use Rattle.std.specs.Prelude.{◌≡◌, IfOk, option_map};
 ghost use Rattle.jr_table.specs.TypeView.{class_key_of};
-ghost use Rattle.jr_new_words.specs.Scopes.{IsKept, rows_of, naming_of, context_of};
+ghost use Rattle.jr_new_words.specs.Scopes.{IsKept, rows_of, mapping_of, context_of};
 ghost use Rattle.jr_new_words.specs.ChoiceView.{choice_of};
 ghost use Rattle.jr_new_words.specs.Chosen as chosen;
 
 use crate::choices::Choice;
+use crate::mappings::{class_to, types_to};
 use crate::scopes::Scopes;
 use crate::taking::chosen;
 use crate::ways::Way;
 use jr_ast::Name;
-use jr_images::{class_to, types_to};
 use jr_table::{ClassKey, Tys};
 use std::alloc::{AllocError, Global};
 
@@ -23,11 +23,11 @@ pub fn creation(
     args: &Tys,
 ) -> Result<Option<Choice>, AllocError>
     requires { IsKept scopes.now }
-    ensures { IfOk result (λ o. chosen.CreationIsChosen (rows_of scopes.now) (naming_of scopes.now)
+    ensures { IfOk result (λ o. chosen.CreationIsChosen (rows_of scopes.now) (mapping_of scopes.now)
         (context_of scopes.now) at (class_key_of class.now) args.now (option_map choice_of o)) }
 {
     let none = Name::new(alloc, "")?;
-    let g = scopes.programs.name;
+    let g = &scopes.programs.keys;
     let images = types_to(alloc, g, args)?;
     let on = class_to(g, class)?;
     chosen(
@@ -50,11 +50,11 @@ pub fn super_ctor(
     args: &Tys,
 ) -> Result<Option<Choice>, AllocError>
     requires { IsKept scopes.now }
-    ensures { IfOk result (λ o. chosen.SuperCtorIsChosen (rows_of scopes.now) (naming_of scopes.now)
+    ensures { IfOk result (λ o. chosen.SuperCtorIsChosen (rows_of scopes.now) (mapping_of scopes.now)
         (context_of scopes.now) at args.now (option_map choice_of o)) }
 {
     let none = Name::new(alloc, "")?;
-    let images = types_to(alloc, scopes.programs.name, args)?;
+    let images = types_to(alloc, &scopes.programs.keys, args)?;
     chosen(
         alloc,
         scopes,

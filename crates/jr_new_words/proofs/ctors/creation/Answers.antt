@@ -3,9 +3,9 @@ use Rattle.std.proofs.lemmas.Result.{IfOk-weaker}
 use Rattle.std.specs.Prelude.{option_map}
 use Rattle.jr_table.specs.Decls.{constructor_decl}
 use Rattle.jr_table.specs.TypeView.{class_key_of}
-use Rattle.jr_images.specs.Images.{class_to, types_to}
+use Rattle.jr_new_words.specs.Mappings.{class_to, types_to}
 use Rattle.jr_new_words.specs.ChoiceView.{choice_of}
-use Rattle.jr_new_words.specs.Scopes.{rows_of, naming_of, context_of}
+use Rattle.jr_new_words.specs.Scopes.{rows_of, mapping_of, context_of}
 use Rattle.jr_new_words.specs.Ways.{ctor_of, IsChosenBy}
 use Rattle.jr_new_words.proofs.DeclKinds.{ctor_decls}
 use Rattle.jr_new_words.proofs.ChosenBy.{asked_so, of_kind}
@@ -15,7 +15,7 @@ pub returns : goal.returns
 returns c =
     let s = c.args.scopes.now in
     let rows = rows_of s in
-    let g = naming_of s in
+    let g = mapping_of s in
     let x = context_of s in
     let ts = c.args.args.now in
     let at = c.args.at in

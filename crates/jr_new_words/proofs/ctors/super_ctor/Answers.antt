@@ -2,9 +2,9 @@ use Rattle.std.proofs.Common.{ℕ, List, [], refl, subst}
 use Rattle.std.proofs.lemmas.Result.{IfOk-weaker}
 use Rattle.std.specs.Prelude.{option_map}
 use Rattle.jr_table.specs.Decls.{constructor_decl}
-use Rattle.jr_images.specs.Images.{types_to}
+use Rattle.jr_new_words.specs.Mappings.{types_to}
 use Rattle.jr_new_words.specs.ChoiceView.{choice_of}
-use Rattle.jr_new_words.specs.Scopes.{rows_of, naming_of, context_of}
+use Rattle.jr_new_words.specs.Scopes.{rows_of, mapping_of, context_of}
 use Rattle.jr_new_words.specs.Ways.{ctor_above, IsChosenBy}
 use Rattle.jr_new_words.proofs.DeclKinds.{ctor_decls}
 use Rattle.jr_new_words.proofs.ChosenBy.{asked_so, of_kind}
@@ -14,7 +14,7 @@ pub returns : goal.returns
 returns c =
     let s = c.args.scopes.now in
     let rows = rows_of s in
-    let g = naming_of s in
+    let g = mapping_of s in
     let x = context_of s in
     let ts = c.args.args.now in
     let at = c.args.at in
