@@ -19,8 +19,8 @@ use crate::here::Here;
 use crate::meanings::{Before, before_dot, types, value_at};
 use jr_ast::{Expr, Name, Path, TypeRef};
 use jr_new_words::{
-    Choice, call, creation, qualified_type, qualifier, simple_call, simple_type, static_call,
-    super_call, super_ctor,
+    Choice, call, class_type_to, creation, qualified_type, qualifier, simple_call, simple_type,
+    static_call, super_call, super_ctor, types_to,
 };
 use jr_table::{ClassKey, Tys, lookups_are_exact, types_are_exact};
 use jr_text::Mark;
@@ -49,7 +49,8 @@ pub(crate) fn simple_call_choice<A: Mark>(
     here.scopes.programs.before.keeps_rows();
     let types = types(alloc, here, path, 1, args)?;
     let types = types.unwrap();
-    let choice = simple_call(alloc, &here.scopes, at, name, &types)?;
+    let images = types_to(alloc, &here.scopes.programs.keys, &types)?;
+    let choice = simple_call(alloc, &here.scopes, at, name, &types, &images)?;
     Ok(choice.unwrap())
 }
 
@@ -79,7 +80,9 @@ fn value_call<A: Mark>(
     types_are_exact::<A>();
     here.scopes.programs.before.keeps_rows();
     let _count = args.len();
-    let choice = call(alloc, &here.scopes, at, class, name, types)?;
+    let images = types_to(alloc, &here.scopes.programs.keys, types)?;
+    let now = class_type_to(&here.scopes.programs.keys, class)?;
+    let choice = call(alloc, &here.scopes, at, class, &now, name, types, &images)?;
     Ok(choice.unwrap())
 }
 
@@ -116,7 +119,8 @@ fn class_call<A: Mark>(
     here.scopes.programs.before.keeps_rows();
     let _count = args.len();
     let words = words_stand(here, base, part, class)?;
-    let choice = static_call(alloc, &here.scopes, at, words, class, name, types)?;
+    let images = types_to(alloc, &here.scopes.programs.keys, types)?;
+    let choice = static_call(alloc, &here.scopes, at, words, class, name, types, &images)?;
     Ok(choice.unwrap())
 }
 
@@ -208,7 +212,8 @@ pub(crate) fn super_call_choice<A: Mark>(
     here.scopes.programs.before.keeps_rows();
     let types = types(alloc, here, path, 1, args)?;
     let types = types.unwrap();
-    let choice = super_call(alloc, &here.scopes, at, name, &types)?;
+    let images = types_to(alloc, &here.scopes.programs.keys, &types)?;
+    let choice = super_call(alloc, &here.scopes, at, name, &types, &images)?;
     Ok(choice.unwrap())
 }
 
@@ -241,7 +246,8 @@ fn typed_creation<A: Mark>(
     match value_at(here, path) {
         Before::Class(_) => unreachable!(),
         Before::Value(class) => {
-            let choice = creation(alloc, &here.scopes, at, class, types)?;
+            let images = types_to(alloc, &here.scopes.programs.keys, types)?;
+            let choice = creation(alloc, &here.scopes, at, class, types, &images)?;
             Ok(choice.unwrap())
         }
         Before::Neither => unreachable!(),
@@ -299,7 +305,8 @@ pub fn super_ctor_choice<A: Mark>(
     here.scopes.programs.before.keeps_rows();
     let types = types(alloc, here, path, first, args)?;
     let types = types.unwrap();
-    let choice = super_ctor(alloc, &here.scopes, at, &types)?;
+    let images = types_to(alloc, &here.scopes.programs.keys, &types)?;
+    let choice = super_ctor(alloc, &here.scopes, at, &types, &images)?;
     Ok(choice.unwrap())
 }
 

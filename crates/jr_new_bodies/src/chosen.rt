@@ -17,8 +17,8 @@ use crate::here::{Here, Role};
 use crate::meanings::{Before, before_dot, front, named_class};
 use jr_ast::{Expr, Name, Path};
 use jr_new_words::{
-    Choice, InFront, field, first_word, left_class, member_class, next_word, static_field,
-    super_field, variable,
+    Choice, InFront, class_type_to, field, first_word, left_class, member_class, next_word,
+    static_field, super_field, variable,
 };
 use jr_table::{ClassKey, lookups_are_exact, types_are_exact};
 use jr_text::{Mark, Span};
@@ -200,7 +200,8 @@ fn on_value<A: Mark>(
 {
     lookups_are_exact();
     here.scopes.programs.before.keeps_rows();
-    let choice = field(alloc, &here.scopes, at, class, name)?;
+    let now = class_type_to(&here.scopes.programs.keys, class)?;
+    let choice = field(alloc, &here.scopes, at, class, &now, name)?;
     Ok(choice.unwrap())
 }
 

@@ -25,7 +25,7 @@ use Rattle.jr_images.specs.Words.{InFront, class_name, FindsBehind}
 use Rattle.jr_new_words.specs.Mappings.{KeyMapping, Mapping, decl_by, numbered_key, name_to, decl_to}
 use Rattle.jr_new_words.specs.declared.scopes.Scopes as raw
 use Rattle.jr_new_words.specs.Scopes.{rows_of, mapping_of, rows_to, context_of, place_to, IsKept}
-use Rattle.jr_new_words.specs.Ways.{Way, local, own_field, field_on, field_through, field_above, method_named, method_on, method_through, method_above, ctor_of, ctor_above, type_named, type_behind, is_class, is_field, is_method, is_ctor, leads_to, name_in, reference_by, Finds, OfDecl, SpellsTo, Gone, IsChosenBy}
+use Rattle.jr_new_words.specs.Ways.{Way, local, own_field, field_on, field_through, field_on_none, field_above, method_named, method_on, method_through, method_on_none, method_above, ctor_of, ctor_above, type_named, type_behind, is_class, is_field, is_method, is_ctor, leads_to, name_in, reference_by, Finds, OfDecl, SpellsTo, Gone, IsChosenBy}
 use Rattle.jr_new_words.specs.StayingBy.{FindsAt, FindsBy, IsField, IsMethod, IsClass, IsCtor, Serves, StaysBy}
 use Rattle.jr_new_words.proofs.Kept.{moved, moved_old}
 use Rattle.jr_new_words.proofs.OneEach.{bare_finds}
@@ -113,10 +113,12 @@ module _ (x : KeyMapping) (name : List ℕ) where
   leads rows e own_field h = absurd h
   leads rows e (field_on c) h = old_field e h.0
   leads rows e (field_through w c) h = old_field e h.1
+  leads rows e (field_on_none t) h = absurd h
   leads rows e field_above h = absurd h
   leads rows e method_named h = old_method e h
   leads rows e (method_on c) h = old_method e h.0
   leads rows e (method_through w c) h = old_method e h.1
+  leads rows e (method_on_none t) h = absurd h
   leads rows e method_above h = absurd h
   leads rows e (ctor_of c) h = old_ctor e h
   leads rows e ctor_above h = absurd h
@@ -204,6 +206,7 @@ module _ (rows : List Row) (s : Scope) (name : List ℕ) (ts : List Ty) where
         let found : FindsFieldIn rows s c name (one d) = subst (λ (v : InFront). FindsBehind v (λ o. FindsFieldIn rows s o name) (one d)) front f in
         subst (λ (v : InFront). IsTakenBy (field_through v c) d) (sym front)
         (subst (IsTakenBy (field_through (class_name c) c)) (sym is) (field_class c k named (subst (λ e. FindsFieldIn rows s c name (one e)) is found) (subst (λ e. IsInstanceDecl rows e → ⊥) is rest)))
+    taken (field_on_none t) h f = absurd h
     taken field_above h f = absurd h
     taken method_named (k, is, named) f = subst (IsTakenBy method_named) (sym is) (method_simple k named (subst (λ e. FindsMethodNamed rows s name ts (one e)) is f))
     taken (method_on c) ((k, is, named), rest) f =
@@ -212,6 +215,7 @@ module _ (rows : List Row) (s : Scope) (name : List ℕ) (ts : List Ty) where
         let found : FindsMethodOf rows s c name ts (one d) = subst (λ (v : InFront). FindsBehind v (λ o. FindsMethodOf rows s o name ts) (one d)) front f in
         subst (λ (v : InFront). IsTakenBy (method_through v c) d) (sym front)
         (subst (IsTakenBy (method_through (class_name c) c)) (sym is) (method_class c k named (subst (λ e. FindsMethodOf rows s c name ts (one e)) is found) (subst (λ e. IsInstanceDecl rows e → ⊥) is rest)))
+    taken (method_on_none t) h f = absurd h
     taken method_above h f = absurd h
     taken (ctor_of c) (k, is, none) f = subst (IsTakenBy (ctor_of c)) (sym is) (ctor c k (subst (λ e. FindsCtorOf rows s c ts (one e)) is f))
     taken ctor_above h f = absurd h
@@ -223,10 +227,12 @@ module _ (rows : List Row) (s : Scope) (name : List ℕ) (ts : List Ty) where
     named_so own_field h = absurd h
     named_so (field_on c) ((k, is, named), rest) = ap (λ e. name_in e x) is ∙ named
     named_so (field_through w c) (leading, (k, is, named), rest) = ap (λ e. name_in e x) is ∙ named
+    named_so (field_on_none t) h = absurd h
     named_so field_above h = absurd h
     named_so method_named (k, is, named) = ap (λ e. name_in e x) is ∙ named
     named_so (method_on c) ((k, is, named), rest) = ap (λ e. name_in e x) is ∙ named
     named_so (method_through w c) (leading, (k, is, named), rest) = ap (λ e. name_in e x) is ∙ named
+    named_so (method_on_none t) h = absurd h
     named_so method_above h = absurd h
     named_so (ctor_of c) (k, is, none) = ap (λ e. name_in e x) is ∙ sym none
     named_so ctor_above h = absurd h
@@ -239,10 +245,12 @@ no_local rows local name k h = h
 no_local rows own_field name k h = h
 no_local rows (field_on c) name k ((f, is, named), rest) = cc
 no_local rows (field_through w c) name k (front, (f, is, named), rest) = cc
+no_local rows (field_on_none t) name k h = h
 no_local rows field_above name k h = h
 no_local rows method_named name k (f, is, named) = cc
 no_local rows (method_on c) name k ((f, is, named), rest) = cc
 no_local rows (method_through w c) name k (front, (f, is, named), rest) = cc
+no_local rows (method_on_none t) name k h = h
 no_local rows method_above name k h = h
 no_local rows (ctor_of c) name k (f, is, none) = cc
 no_local rows ctor_above name k h = h

@@ -1,6 +1,6 @@
 -- What is chosen for one reference, by `jr_images: Spelling`: where the old lookup finds one
 -- declaration, its choice; and where it finds none, none. Operands and arguments go by their old
--- types, trees by their words.
+-- types and by those that they have now, trees by their words.
 use Rattle.std.specs.Prelude.{ℕ, List, [], Option, Some, None}
 use Rattle.jr_table.specs.Keys.{ClassKey, FieldKey, MethodKey, CtorKey, Ty}
 use Rattle.jr_table.specs.Decls.{
@@ -31,7 +31,7 @@ use Rattle.jr_spell.specs.declared.references.RefForm.TheVariants as ref
 use Rattle.jr_spell.specs.References.{Reference}
 use Rattle.jr_rewrite.specs.Respellings.{Choice}
 use Rattle.jr_images.specs.Spelling as spelling
-use Rattle.jr_images.specs.Spelling.{operand_of, reference, behind_words, dotted}
+use Rattle.jr_images.specs.Spelling.{operand_of, on_type, FindsOn, reference, behind_words, dotted}
 use Rattle.jr_images.specs.Words.{InFront, FindsBehind}
 use Rattle.jr_new_words.specs.Mappings.{
   Mapping,
@@ -39,7 +39,6 @@ use Rattle.jr_new_words.specs.Mappings.{
   field_to,
   method_to,
   ctor_to,
-  types_to,
   rows_to,
   scope_to,
   region_of,
@@ -94,17 +93,17 @@ module _ (rows : List Row) (g : Mapping) (c : Context) where
 
   -- ---- fields
 
-  -- on a value of class k
-  abbrev pub FieldSpells : (at : ℕ) → (k : ClassKey) → (old : List ℕ) → FieldKey → Choice → Type 0
-  FieldSpells at k old f h = Spells at old (field_to g f).name (field_decl f)
-      (field_decl (field_to g f))
-      (reference ref.FieldOn (field_to g f).name (operand_of (class_to g k)) [])
-      (FindsFieldIn (rows_to g rows) (scope_to g c) (class_to g k) (field_to g f).name) h
+  -- on a value of class k, which now is of type t
+  abbrev pub FieldSpells : (at : ℕ) → Ty → (old : List ℕ) → FieldKey → Choice → Type 0
+  FieldSpells at t old f h = Spells at old (field_to g f).name (field_decl f)
+      (field_decl (field_to g f)) (reference ref.FieldOn (field_to g f).name (on_type t) [])
+      (FindsOn t (λ k. FindsFieldIn (rows_to g rows) (scope_to g c) k (field_to g f).name)) h
 
-  abbrev pub FieldIsChosen : (at : ℕ) → (k : ClassKey) → (old : List ℕ) → Option Choice → Type 0
-  FieldIsChosen at k old o = ChoosesOf
+  abbrev pub FieldIsChosen : (at : ℕ) → (k : ClassKey) → Ty → (old : List ℕ) → Option Choice
+      → Type 0
+  FieldIsChosen at k t old o = ChoosesOf
       (λ (f : FieldKey). FindsFieldIn rows (scope_of c) k old (one (field_decl f)))
-      (FieldSpells at k old) o
+      (FieldSpells at t old) o
 
   -- through class k, whose words stand so in the new program
   abbrev pub StaticFieldSpells : (at : ℕ) → InFront → (k : ClassKey) → (old : List ℕ)
@@ -158,87 +157,83 @@ module _ (rows : List Row) (g : Mapping) (c : Context) where
       (λ k x. FindsFieldIn rows (scope_of c) k old x) (one (field_decl f)))
       (SuperFieldSpells at old) o
 
-  -- ---- calls, with arguments of these old types
+  -- ---- calls, with arguments that had the types ts, and now have us
 
   abbrev pub SimpleCallSpells : (at : ℕ) → (old : List ℕ) → List Ty → MethodKey → Choice → Type 0
-  SimpleCallSpells at old ts q h = Spells at old (method_to g q).name (method_decl q)
-      (method_decl (method_to g q))
-      (reference ref.MethodSimple (method_to g q).name None (types_to g ts))
-      (FindsMethodNamed (rows_to g rows) (scope_to g c) (method_to g q).name (types_to g ts)) h
+  SimpleCallSpells at old us q h = Spells at old (method_to g q).name (method_decl q)
+      (method_decl (method_to g q)) (reference ref.MethodSimple (method_to g q).name None us)
+      (FindsMethodNamed (rows_to g rows) (scope_to g c) (method_to g q).name us) h
 
-  abbrev pub SimpleCallIsChosen : (at : ℕ) → (old : List ℕ) → List Ty → Option Choice → Type 0
-  SimpleCallIsChosen at old ts o = ChoosesOf
-      (λ (q : MethodKey). FindsMethodNamed rows (scope_of c) old ts (one (method_decl q)))
-      (SimpleCallSpells at old ts) o
-
-  abbrev pub CallSpells : (at : ℕ) → (k : ClassKey) → (old : List ℕ) → List Ty → MethodKey
-      → Choice → Type 0
-  CallSpells at k old ts q h = Spells at old (method_to g q).name (method_decl q)
-      (method_decl (method_to g q))
-      (reference ref.MethodOn (method_to g q).name (operand_of (class_to g k)) (types_to g ts))
-      (FindsMethodOf (rows_to g rows) (scope_to g c) (class_to g k) (method_to g q).name
-      (types_to g ts)) h
-
-  abbrev pub CallIsChosen : (at : ℕ) → (k : ClassKey) → (old : List ℕ) → List Ty → Option Choice
+  abbrev pub SimpleCallIsChosen : (at : ℕ) → (old : List ℕ) → (ts us : List Ty) → Option Choice
       → Type 0
-  CallIsChosen at k old ts o = ChoosesOf
+  SimpleCallIsChosen at old ts us o = ChoosesOf
+      (λ (q : MethodKey). FindsMethodNamed rows (scope_of c) old ts (one (method_decl q)))
+      (SimpleCallSpells at old us) o
+
+  -- on a value of class k, which now is of type t
+  abbrev pub CallSpells : (at : ℕ) → Ty → (old : List ℕ) → List Ty → MethodKey → Choice → Type 0
+  CallSpells at t old us q h = Spells at old (method_to g q).name (method_decl q)
+      (method_decl (method_to g q)) (reference ref.MethodOn (method_to g q).name (on_type t) us)
+      (FindsOn t (λ k. FindsMethodOf (rows_to g rows) (scope_to g c) k (method_to g q).name us)) h
+
+  abbrev pub CallIsChosen : (at : ℕ) → (k : ClassKey) → Ty → (old : List ℕ) → (ts us : List Ty)
+      → Option Choice → Type 0
+  CallIsChosen at k t old ts us o = ChoosesOf
       (λ (q : MethodKey). FindsMethodOf rows (scope_of c) k old ts (one (method_decl q)))
-      (CallSpells at k old ts) o
+      (CallSpells at t old us) o
 
   abbrev pub StaticCallSpells : (at : ℕ) → InFront → (k : ClassKey) → (old : List ℕ)
       → List Ty → MethodKey → Choice → Type 0
-  StaticCallSpells at w k old ts q h = Spells at old (method_to g q).name (method_decl q)
-      (method_decl (method_to g q))
-      (behind_words w (reference ref.ThroughClass (method_to g q).name
-      (operand_of (class_to g k)) (types_to g ts)))
-      (FindsBehind w (λ o. FindsMethodOf (rows_to g rows) (scope_to g c) o (method_to g q).name
-      (types_to g ts))) h
+  StaticCallSpells at w k old us q h = Spells at old (method_to g q).name (method_decl q)
+      (method_decl (method_to g q)) (behind_words w
+      (reference ref.ThroughClass (method_to g q).name (operand_of (class_to g k)) us))
+      (FindsBehind w
+      (λ o. FindsMethodOf (rows_to g rows) (scope_to g c) o (method_to g q).name us)) h
 
   abbrev pub StaticCallIsChosen : (at : ℕ) → InFront → (k : ClassKey) → (old : List ℕ)
-      → List Ty → Option Choice → Type 0
-  StaticCallIsChosen at w k old ts o = ChoosesOf
+      → (ts us : List Ty) → Option Choice → Type 0
+  StaticCallIsChosen at w k old ts us o = ChoosesOf
       (λ (q : MethodKey). FindsMethodOf rows (scope_of c) k old ts (one (method_decl q)))
-      (StaticCallSpells at w k old ts) o
+      (StaticCallSpells at w k old us) o
 
   abbrev pub SuperCallSpells : (at : ℕ) → (old : List ℕ) → List Ty → MethodKey → Choice → Type 0
-  SuperCallSpells at old ts q h = Spells at old (method_to g q).name (method_decl q)
-      (method_decl (method_to g q))
-      (reference ref.AsAsked (method_to g q).name None (types_to g ts))
+  SuperCallSpells at old us q h = Spells at old (method_to g q).name (method_decl q)
+      (method_decl (method_to g q)) (reference ref.AsAsked (method_to g q).name None us)
       (FindsIn (IsSuperclass (rows_to g rows) (scope_to g c).class)
-      (λ k x. FindsMethodOf (rows_to g rows) (scope_to g c) k (method_to g q).name (types_to g ts)
-      x)) h
+      (λ k x. FindsMethodOf (rows_to g rows) (scope_to g c) k (method_to g q).name us x)) h
 
-  abbrev pub SuperCallIsChosen : (at : ℕ) → (old : List ℕ) → List Ty → Option Choice → Type 0
-  SuperCallIsChosen at old ts o = ChoosesOf
+  abbrev pub SuperCallIsChosen : (at : ℕ) → (old : List ℕ) → (ts us : List Ty) → Option Choice
+      → Type 0
+  SuperCallIsChosen at old ts us o = ChoosesOf
       (λ (q : MethodKey). FindsIn (IsSuperclass rows (scope_of c).class)
       (λ k x. FindsMethodOf rows (scope_of c) k old ts x) (one (method_decl q)))
-      (SuperCallSpells at old ts) o
+      (SuperCallSpells at old us) o
 
   -- ---- constructors
 
   abbrev pub CreationSpells : (at : ℕ) → (k : ClassKey) → List Ty → CtorKey → Choice → Type 0
-  CreationSpells at k ts q h = Spells at [] [] (constructor_decl q)
+  CreationSpells at k us q h = Spells at [] [] (constructor_decl q)
       (constructor_decl (ctor_to g q))
-      (reference ref.AsAsked [] (operand_of (class_to g k)) (types_to g ts))
-      (FindsCtorOf (rows_to g rows) (scope_to g c) (class_to g k) (types_to g ts)) h
+      (reference ref.AsAsked [] (operand_of (class_to g k)) us)
+      (FindsCtorOf (rows_to g rows) (scope_to g c) (class_to g k) us) h
 
-  abbrev pub CreationIsChosen : (at : ℕ) → (k : ClassKey) → List Ty → Option Choice → Type 0
-  CreationIsChosen at k ts o = ChoosesOf
+  abbrev pub CreationIsChosen : (at : ℕ) → (k : ClassKey) → (ts us : List Ty) → Option Choice
+      → Type 0
+  CreationIsChosen at k ts us o = ChoosesOf
       (λ (q : CtorKey). FindsCtorOf rows (scope_of c) k ts (one (constructor_decl q)))
-      (CreationSpells at k ts) o
+      (CreationSpells at k us) o
 
   abbrev pub SuperCtorSpells : (at : ℕ) → List Ty → CtorKey → Choice → Type 0
-  SuperCtorSpells at ts q h = Spells at [] [] (constructor_decl q)
-      (constructor_decl (ctor_to g q))
-      (reference ref.AsAsked [] None (types_to g ts))
+  SuperCtorSpells at us q h = Spells at [] [] (constructor_decl q)
+      (constructor_decl (ctor_to g q)) (reference ref.AsAsked [] None us)
       (FindsIn (IsSuperclass (rows_to g rows) (scope_to g c).class)
-      (λ k x. FindsCtorOf (rows_to g rows) (scope_to g c) k (types_to g ts) x)) h
+      (λ k x. FindsCtorOf (rows_to g rows) (scope_to g c) k us x)) h
 
-  abbrev pub SuperCtorIsChosen : (at : ℕ) → List Ty → Option Choice → Type 0
-  SuperCtorIsChosen at ts o = ChoosesOf
+  abbrev pub SuperCtorIsChosen : (at : ℕ) → (ts us : List Ty) → Option Choice → Type 0
+  SuperCtorIsChosen at ts us o = ChoosesOf
       (λ (q : CtorKey). FindsIn (IsSuperclass rows (scope_of c).class)
       (λ k x. FindsCtorOf rows (scope_of c) k ts x) (one (constructor_decl q)))
-      (SuperCtorSpells at ts) o
+      (SuperCtorSpells at us) o
 
   -- ---- classes as types
 

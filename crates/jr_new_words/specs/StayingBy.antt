@@ -26,10 +26,12 @@ use Rattle.jr_new_words.specs.Ways.{
   local,
   own_field,
   field_on,
+  field_on_none,
   field_through,
   field_above,
   method_named,
   method_on,
+  method_on_none,
   method_through,
   method_above,
   ctor_of,
@@ -72,11 +74,13 @@ Serves rows own_field name d = ⊥
 Serves rows (field_on k) name d = IsField name d × (IsStaticDecl rows d → ⊥)
 Serves rows (field_through w k) name d =
     (w ≡ class_name k) × IsField name d × (IsInstanceDecl rows d → ⊥)
+Serves rows (field_on_none t) name d = ⊥
 Serves rows field_above name d = ⊥
 Serves rows method_named name d = IsMethod name d
 Serves rows (method_on k) name d = IsMethod name d × (IsStaticDecl rows d → ⊥)
 Serves rows (method_through w k) name d =
     (w ≡ class_name k) × IsMethod name d × (IsInstanceDecl rows d → ⊥)
+Serves rows (method_on_none t) name d = ⊥
 Serves rows method_above name d = ⊥
 Serves rows (ctor_of k) name d = IsCtor name d
 Serves rows ctor_above name d = ⊥

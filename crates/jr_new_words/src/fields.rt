@@ -1,6 +1,6 @@
 //! Fields behind a dot and behind `super` (JLS 15.11).
 ghost use Rattle.std.specs.Prelude.{IfOk, option_map};
-ghost use Rattle.jr_table.specs.TypeView.{class_key_of};
+ghost use Rattle.jr_table.specs.TypeView.{class_key_of, ty_of};
 ghost use Rattle.jr_new_words.specs.Scopes.{IsKept, rows_of, mapping_of, context_of};
 ghost use Rattle.jr_new_words.specs.ChoiceView.{choice_of};
 ghost use Rattle.jr_new_words.specs.FrontView.{in_front_of};
@@ -12,25 +12,27 @@ use crate::fronts::InFront;
 use crate::mappings::class_to;
 use crate::scopes::Scopes;
 use crate::taking::chosen;
-use crate::ways::Way;
+use crate::ways::{Way, field_on_type};
 use jr_ast::Name;
-use jr_table::ClassKey;
+use jr_table::{ClassKey, Ty};
 use std::alloc::{AllocError, Global};
 
-/// The choice for a field on a value of the class.
+/// The choice for a field on a value of the class, which now is of the type.
 pub fn field(
     alloc: Global,
     scopes: &Scopes<'_>,
     at: u32,
     class: &ClassKey,
+    now: &Ty,
     name: &Name,
 ) -> Result<Option<Choice>, AllocError>
     requires { IsKept scopes.now }
     ensures { IfOk result (λ o. chosen.FieldIsChosen (rows_of scopes.now) (mapping_of scopes.now)
-        (context_of scopes.now) at (class_key_of class.now) name.now (option_map choice_of o)) }
+        (context_of scopes.now) at (class_key_of class.now) (ty_of now.now) name.now
+        (option_map choice_of o)) }
 {
-    let on = class_to(&scopes.programs.keys, class)?;
     let none = no_types(alloc)?;
+    let to = field_on_type(now);
     chosen(
         alloc,
         scopes,
@@ -38,7 +40,7 @@ pub fn field(
         name,
         &Way::FieldOn(class),
         &none,
-        &Way::FieldOn(&on),
+        &to,
         &none,
     )
 }

@@ -51,7 +51,7 @@ pub use ctors::{creation, super_ctor};
 pub use declaring::{local_choice, member_choice};
 pub use fields::{field, static_field, super_field};
 pub use fronts::InFront;
-pub use mappings::KeyMapping;
+pub use mappings::{KeyMapping, class_type_to, types_to};
 pub use numbers::{LocalMapping, MadeLocal, Renumbering};
 pub use programs::{Programs, Tables, tables_of};
 pub use scopes::Scopes;

@@ -1,7 +1,8 @@
 //! What becomes of the keys of a program.
 ghost use Rattle.std.specs.Prelude.{◌≡◌, IfOk, if◌then◌else◌};
 ghost use Rattle.jr_table.specs.Decls.{local_decl};
-ghost use Rattle.jr_table.specs.TypeView.{class_key_of};
+ghost use Rattle.jr_table.specs.TypeView.{class_key_of, ty_of};
+ghost use Rattle.jr_table.specs.Keys.{class};
 ghost use Rattle.jr_table.specs.KeyView.{member_key_of, decl_of};
 ghost use Rattle.jr_scopes.specs.Helds.{key_of};
 ghost use Rattle.jr_rewrite.specs.Rewrites.{declared_by};
@@ -10,7 +11,7 @@ ghost use Rattle.jr_new_words.specs.MappingView.{keys_of};
 
 use jr_ast::Name;
 use jr_images::NewName;
-use jr_table::{ClassKey, Decl, MemberKey, Tys};
+use jr_table::{ClassKey, Decl, MemberKey, Ty, Tys};
 use std::alloc::{AllocError, Global};
 
 /// What becomes of the keys of declarations.
@@ -33,6 +34,15 @@ pub(crate) fn class_to(keys: &KeyMapping<'_>, key: &ClassKey) -> Result<ClassKey
         KeyMapping::Same => key.copy(),
         KeyMapping::Renamed(name) => jr_images::class_to(name, key),
     }
+}
+
+/// The same, as a type.
+pub fn class_type_to(keys: &KeyMapping<'_>, key: &ClassKey) -> Result<Ty, AllocError>
+    ensures { IfOk result (λ t. ty_of t
+        ≡ pure.type_by (keys_of keys.now) (class (class_key_of key.now))) }
+{
+    let key = class_to(keys, key)?;
+    Ok(Ty::Class(key))
 }
 
 /// The image of a member.
@@ -65,7 +75,7 @@ pub(crate) fn keyed_to(
 }
 
 /// The images of types.
-pub(crate) fn types_to(alloc: Global, keys: &KeyMapping<'_>, types: &Tys) -> Result<Tys, AllocError>
+pub fn types_to(alloc: Global, keys: &KeyMapping<'_>, types: &Tys) -> Result<Tys, AllocError>
     ensures { IfOk result (λ ts. ts ≡ pure.types_by (keys_of keys.now) types.now) }
 {
     match *keys {
