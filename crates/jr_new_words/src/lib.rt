@@ -2,12 +2,13 @@
 //! reference at a time, given by what its name is looked up with. The walk over trees stands above
 //! it; it knows none.
 //!
-//! `mappings`, `numbers`: what becomes of keys and locals. `programs`: the old table, the new one, the keys. `scopes`:
-//! what is known at a place in both programs. A call a form of reference looks the old declaration up and answers its choice, or
-//! none where the lookup finds no such declaration: `variables`, `fields`, `calls`, `ctors`,
-//! `types`, `classes` (in front of a dot), `superclasses`, `declaring` (declared names). `choices`:
-//! what comes of a word, with owned texts. `fronts`, `class_words`, `values`: what the words in
-//! front of a dot find in the new program, looked up as they are.
+//! `mappings`, `numbers`: what becomes of keys and locals. `programs`: the old table, the new one,
+//! the keys. `scopes`: what is known at a place in both programs. A call a form of reference looks
+//! the old declaration up and answers its choice, or none where the lookup finds no such
+//! declaration: `variables`, `fields`, `calls`, `ctors`, `types`, `classes` (in front of a dot),
+//! `superclasses`, `declaring` (declared names). `choices`: what comes of a word, with owned texts.
+//! `fronts`, `class_words`, `values`: what the words in front of a dot find in the new program,
+//! looked up as they are.
 //!
 //! All forms but classes in front of a dot go one way: `ways` says how a name is looked up and how
 //! its image is asked; `taking` looks it up the one way (`looking`), takes the image of what is

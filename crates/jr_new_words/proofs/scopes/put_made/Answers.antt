@@ -1,6 +1,5 @@
-use Rattle.std.proofs.Common.{List, [], ◌++◌, map, take, length, sym, ap, ◌∙◌, take_all}
+use Rattle.std.proofs.Common.{◌++◌, map, sym, ap, ◌∙◌, take_all}
 use Rattle.std.proofs.lemmas.List.{append-nil}
-use Rattle.jr_scopes.specs.Helds.{held_of}
 use Rattle.jr_scopes.specs.Tracked.{locals_of, helds_of}
 use Rattle.jr_new_words.specs.MappingView.{made_of}
 use Rattle.jr_new_words.specs.Scopes.{made_held}

@@ -1,4 +1,4 @@
-use Rattle.std.proofs.Common.{Option, Some, None, sym, subst}
+use Rattle.std.proofs.Common.{Option, sym, subst}
 use Rattle.std.specs.Prelude.{IfOk, option_map}
 use Rattle.jr_table.specs.declared.decls.Decl as raw
 use Rattle.jr_table.specs.KeyView.{decl_of}

@@ -1,6 +1,6 @@
-use Rattle.std.proofs.Common.{◌≡◌, ℕ, Option, Some, None, sym, ap, ◌∙◌}
+use Rattle.std.proofs.Common.{ℕ, Option, Some, sym, ap, ◌∙◌}
 use Rattle.std.specs.Prelude.{option_map}
-use Rattle.jr_table.specs.Decls.{LocalKey, MemberKey, Decl, local_decl}
+use Rattle.jr_table.specs.Decls.{LocalKey, Decl, local_decl}
 use Rattle.jr_table.specs.KeyView.{local_key_of}
 use Rattle.jr_new_words.specs.Mappings.{numbered_key}
 use Rattle.jr_new_words.specs.MappingView.{keys_of, numbers_of}

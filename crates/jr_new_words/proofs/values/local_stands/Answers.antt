@@ -1,4 +1,4 @@
-use Rattle.std.proofs.Common.{◌≡◌, refl, sym, ap, subst, ◌∙◌}
+use Rattle.std.proofs.Common.{◌≡◌, sym, ap, subst, ◌∙◌}
 use Rattle.std.specs.Result.{IfOk}
 use Rattle.jr_table.specs.KeyView.{local_key_of}
 use Rattle.jr_table.specs.Decls.{LocalKey, MemberKey, local_decl}

@@ -1,4 +1,4 @@
-use Rattle.std.proofs.Common.{◌≡◌, ℕ, Some, None, ap, sym, ◌∙◌}
+use Rattle.std.proofs.Common.{◌≡◌, Some, None, ap, sym, ◌∙◌}
 use Rattle.jr_table.specs.Decls.{class_decl}
 use Rattle.jr_table.specs.TypeView.{class_key_of}
 use Rattle.jr_new_words.specs.Valued.{of_decl}

@@ -1,4 +1,4 @@
-use Rattle.std.proofs.Common.{◌≡◌, List, [], map, None, refl, ap, sym, subst, ◌∙◌}
+use Rattle.std.proofs.Common.{map, None, ap, sym, ◌∙◌}
 use Rattle.jr_table.specs.KeyView.{member_key_of}
 use Rattle.jr_scopes.specs.Helds.{held_of, local_of}
 use Rattle.jr_new_words.specs.MappingView.{keys_of, numbers_of}

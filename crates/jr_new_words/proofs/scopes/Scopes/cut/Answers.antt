@@ -1,8 +1,7 @@
-use Rattle.std.proofs.Common.{ℕ, ◌≤◌, List, map, length, take, sym, ap, subst, ◌∙◌, arith}
+use Rattle.std.proofs.Common.{◌≤◌, List, map, length, sym, ap, subst, ◌∙◌, arith}
 use Rattle.std.proofs.lemmas.List.{length-take-le}
 use Rattle.jr_scopes.specs.Helds.{Held, held_of}
 use Rattle.jr_scopes.specs.Tracked.{locals_of}
-use Rattle.jr_new_words.specs.Mappings.{LocalMapping}
 use Rattle.jr_new_words.specs.Scopes.{mapping_of, member_of, IsDeep, AreDepths}
 use Rattle.jr_new_words.proofs.Growing.{take_new, cut_depths, map_take}
 use Rattle.jr_new_words.proofs.Oks.{on_both, on_one}

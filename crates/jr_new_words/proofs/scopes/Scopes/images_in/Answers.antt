@@ -1,7 +1,6 @@
-use Rattle.std.proofs.Common.{Some, sym, ap, subst, ◌∙◌, arith}
-use Rattle.jr_new_words.specs.declared.numbers.LocalMapping.{LocalMapping}
+use Rattle.std.proofs.Common.{ap, arith}
 use Rattle.jr_new_words.specs.MappingView.{numbers_of}
-use Rattle.jr_new_words.specs.Scopes.{mapping_of, member_of, locals_in, IsDeep, AreDepths}
+use Rattle.jr_new_words.specs.Scopes.{mapping_of, member_of, locals_in}
 use Rattle.jr_new_words.proofs.Growing.{count_all}
 use Rattle.jr_new_words.proofs.scopes.Scopes.images_in.Goals as goal
 

@@ -1,4 +1,4 @@
-use Rattle.std.proofs.Common.{map, length, sym, ap, ◌∙◌, arith}
+use Rattle.std.proofs.Common.{length, sym, arith}
 use Rattle.std.proofs.lemmas.List.{take_all, length-map}
 use Rattle.jr_scopes.specs.Helds.{held_of}
 use Rattle.jr_scopes.specs.Tracked.{locals_of}
