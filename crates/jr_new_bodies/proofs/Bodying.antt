@@ -18,11 +18,11 @@ use Rattle.jr_expr_types.specs.Slots.{find_type}
 use Rattle.jr_bind.specs.Bounds.{Bound}
 use Rattle.jr_bind_expr.specs.Fits.{FitsType, FitsStmt, FitsElse, FitsStmts}
 use Rattle.jr_bind_parts.proofs.Bodies.{Inside, inside_same, inside_after}
-use Rattle.jr_images.specs.Images.{Renaming}
-use Rattle.jr_images.specs.Spelling.{spelling}
+use Rattle.jr_new_words.specs.Mappings.{Mapping}
+use Rattle.jr_new_words.specs.Spelled.{spelling}
 use Rattle.jr_new_bodies.specs.declared.here.Here as raw
 use Rattle.jr_new_bodies.specs.Effects.{Effect, both, effect_of, Gathers}
-use Rattle.jr_new_bodies.specs.Known.{rows_of, naming_of, context_of, IsKnown, ExpReady, TypeIsBound}
+use Rattle.jr_new_bodies.specs.Known.{rows_of, mapping_of, context_of, IsKnown, ExpReady, TypeIsBound}
 use Rattle.jr_new_bodies.specs.Walks.{choosing, ExpGathers}
 use Rattle.jr_new_bodies.specs.Bodies.{MaybeGathers, StmtGathers, ElseGathers, StmtsGather}
 use Rattle.jr_new_bodies.specs.Ready.{SoundElse, RefersElse, TypesElse, ExpReadyIn, StmtsReadyIn, MaybeReady, StmtReady, ElseReady, StmtsReady, BranchReady, TurnsReady, SyncReady}
@@ -38,18 +38,18 @@ pub moved_back : (P : List Row → Bound → ℕ → Context → Type 0) (h i : 
 moved_back P h i c goes x =
     subst (λ d. P (rows_of i) i.bound.now i.from d) (sym goes.context) (subst (λ n. P (rows_of i) i.bound.now n c) (sym goes.from_is) (subst (λ b. P (rows_of i) b h.from c) (sym goes.bound) (subst (λ r. P r h.bound.now h.from c) (sym goes.rows) x)))
 
--- what is said of the rows and the renaming alone
-pub moved : (P : List Row → Renaming → Context → Type 0) (h i : raw.Here) (c : Context) → Goes h i c → P (rows_of i) (naming_of i) (context_of i) → P (rows_of h) (naming_of h) c
-moved P h i c goes x = subst (λ r. P r (naming_of h) c) goes.rows (subst (λ g. P (rows_of i) g c) goes.naming (subst (λ d. P (rows_of i) (naming_of i) d) goes.context x))
+-- what is said of the rows and the mapping alone
+pub moved : (P : List Row → Mapping → Context → Type 0) (h i : raw.Here) (c : Context) → Goes h i c → P (rows_of i) (mapping_of i) (context_of i) → P (rows_of h) (mapping_of h) c
+moved P h i c goes x = subst (λ r. P r (mapping_of h) c) goes.rows (subst (λ g. P (rows_of i) g c) goes.mapping (subst (λ d. P (rows_of i) (mapping_of i) d) goes.context x))
 
 pub then_goes : (h i j : raw.Here) (c d : Context) → Goes h i c → Goes i j d → Goes h j d
-then_goes h i j c d a b = record { known = b.known; context = b.context; rows = b.rows ∙ a.rows; naming = b.naming ∙ a.naming; bound = b.bound ∙ a.bound; from_is = b.from_is ∙ a.from_is }
+then_goes h i j c d a b = record { known = b.known; context = b.context; rows = b.rows ∙ a.rows; mapping = b.mapping ∙ a.mapping; bound = b.bound ∙ a.bound; from_is = b.from_is ∙ a.from_is }
 
 pub goes_as : (h i : raw.Here) (c d : Context) → Goes h i c → c ≡ d → Goes h i d
-goes_as h i c d a e = record { known = a.known; context = a.context ∙ e; rows = a.rows; naming = a.naming; bound = a.bound; from_is = a.from_is }
+goes_as h i c d a e = record { known = a.known; context = a.context ∙ e; rows = a.rows; mapping = a.mapping; bound = a.bound; from_is = a.from_is }
 
 pub stays_here : (h : raw.Here) → IsKnown h → Goes h h (context_of h)
-stays_here h known = record { known = known; context = refl; rows = refl; naming = refl; bound = refl; from_is = refl }
+stays_here h known = record { known = known; context = refl; rows = refl; mapping = refl; bound = refl; from_is = refl }
 
 module _ {A : Type 0} (tells : A → ℕ → Span) (h : raw.Here) (n base : ℕ) (m : A) where
   abbrev pub at : ℕ
@@ -187,7 +187,7 @@ module _ {A : Type 0} (tells : A → ℕ → Span) (Fits : A → ℕ → Type 0)
   pub record Going (next : ℕ) (i : raw.Here) (step : ℕ) (now : Effect) (rest : statement.Stmts A) : Type 0 where
     pub known : IsKnown i
     pub rows : rows_of i ≡ rows_of h
-    pub naming : naming_of i ≡ naming_of h
+    pub mapping : mapping_of i ≡ mapping_of h
     pub bound : i.bound.now ≡ h.bound.now
     pub from_is : i.from ≡ h.from
     pub inside : Inside (context_of h) (context_of i)
@@ -200,7 +200,7 @@ module _ {A : Type 0} (tells : A → ℕ → Span) (Fits : A → ℕ → Type 0)
   going_start first known ready = record {
     known = known;
     rows = refl;
-    naming = refl;
+    mapping = refl;
     bound = refl;
     from_is = refl;
     inside = inside_same (context_of h);
@@ -229,7 +229,7 @@ module _ {A : Type 0} (tells : A → ℕ → Span) (Fits : A → ℕ → Type 0)
       record {
         known = p.goes.known;
         rows = p.goes.rows ∙ g.rows;
-        naming = p.goes.naming ∙ g.naming;
+        mapping = p.goes.mapping ∙ g.mapping;
         bound = p.goes.bound ∙ g.bound;
         from_is = p.goes.from_is ∙ g.from_is;
         inside = subst (λ (d : Context). Inside (context_of h) d) (sym p.goes.context) (inside_after next (context_of h) (context_of i) x g.inside);
@@ -238,8 +238,8 @@ module _ {A : Type 0} (tells : A → ℕ → Span) (Fits : A → ℕ → Type 0)
             (moved_back (λ rs b f d. StmtsReadyIn tells Fits rs b f (next + locals_in x) d path (step + 1) at rest) i j (after next (context_of i) x) p.goes (rest_ready next i step x rest g.ready));
         gives = λ s new y.
             g.gives s new (gathers_joined (λ z zs. statement.more z zs) (RewritesStmt tells (choosing tells h s) next (context_of i) at x) (RewritesStmts tells (choosing tells h s) (next + locals_in x) (after next (context_of i) x) at rest) now then_it new
-            (subst (λ rs. Gathers (RewritesStmt tells (spelling (λ m b. (tells m b).from) rs (naming_of h) s) next (context_of i) at x) now then_it) g.rows
-            (subst (λ k. Gathers (RewritesStmt tells (spelling (λ m b. (tells m b).from) (rows_of i) k s) next (context_of i) at x) now then_it) g.naming (p.gives s)))
+            (subst (λ rs. Gathers (RewritesStmt tells (spelling (λ m b. (tells m b).from) rs (mapping_of h) s) next (context_of i) at x) now then_it) g.rows
+            (subst (λ k. Gathers (RewritesStmt tells (spelling (λ m b. (tells m b).from) (rows_of i) k s) next (context_of i) at x) now then_it) g.mapping (p.gives s)))
             (subst (λ k. Gathers (RewritesStmts tells (choosing tells h s) k (after next (context_of i) x) at rest) then_it new) n
             (subst (λ d. Gathers (RewritesStmts tells (choosing tells h s) after_it d at rest) then_it new) p.goes.context y)));
       }
@@ -264,7 +264,7 @@ module _ {A : Type 0} (tells : A → ℕ → Span) (Fits : A → ℕ → Type 0)
             own = (ap (λ m. own_key m own) g.inside.member_is ∙ sym is) k;
           });
           rows = cuts.rows ∙ g.rows;
-          naming = cuts.naming ∙ g.naming;
+          mapping = cuts.mapping ∙ g.mapping;
           bound = cuts.bound ∙ g.bound;
           from_is = cuts.from_is ∙ g.from_is;
         };
@@ -308,7 +308,7 @@ module _ {A : Type 0} (tells : A → ℕ → Span) (number : ℕ) (h : raw.Here)
             own = (ap (λ m. own_key m own) inside.member_is ∙ sym is) k;
           });
           rows = cuts.rows ∙ p.goes.rows;
-          naming = cuts.naming ∙ p.goes.naming;
+          mapping = cuts.mapping ∙ p.goes.mapping;
           bound = cuts.bound ∙ p.goes.bound;
           from_is = cuts.from_is ∙ p.goes.from_is;
         };

@@ -3,7 +3,7 @@
 use Rattle.std.proofs.Common.{◌≡◌, ◌≢◌, ℕ, List, [], Option, Some, None, refl, sym, ap, subst, ◌∙◌, inl, inr}
 use Rattle.std.specs.Prelude.{◌⊎◌, IsSome, option_map}
 use Rattle.jr_ast.specs.Tree as tree
-use Rattle.jr_table.specs.Keys.{ClassKey, FieldKey, MethodKey, CtorKey, Ty, class}
+use Rattle.jr_table.specs.Keys.{ClassKey, FieldKey, MethodKey, CtorKey, Ty, void, class}
 use Rattle.jr_table.specs.Decls.{LocalKey, Decl, class_decl, field_decl, method_decl, constructor_decl, local_decl}
 use Rattle.jr_table.specs.Rows.{Row}
 use Rattle.jr_table.specs.Conditions.{AreRows}
@@ -16,9 +16,10 @@ use Rattle.jr_table.specs.Binding.{Role, value, left, statement, variable, type,
 use Rattle.jr_table.specs.Meanings.{find_left, find_left_of, own_superclass, field_found, call_found, target_found, ctor_found, created_class, types_of}
 use Rattle.jr_table.proofs.Typing.{left_iff, left_of_iff, own_super_iff}
 use Rattle.jr_rewrite.specs.Respellings.{Choice}
-use Rattle.jr_images.specs.Images.{Renaming}
-use Rattle.jr_images.specs.Words.{InFront, WordsStand}
-use Rattle.jr_images.specs.Spelling as spells
+use Rattle.jr_new_words.specs.Mappings.{Mapping, type_to, types_to}
+use Rattle.jr_images.specs.Words.{InFront}
+use Rattle.jr_new_words.specs.Spelled.{WordsStand}
+use Rattle.jr_new_words.specs.Spelled as spells
 use Rattle.jr_new_words.specs.Chosen.{unmarked, ChoosesOf, VariableIsChosen, ClassIsChosen, FieldIsChosen, StaticFieldIsChosen, MemberClassIsChosen, SuperFieldIsChosen, SimpleCallIsChosen, CallIsChosen, StaticCallIsChosen, SuperCallIsChosen, CreationIsChosen, SuperCtorIsChosen, TypeIsChosen, QualifierIsChosen, QualifiedTypeIsChosen}
 use Rattle.jr_new_bodies.specs.Known.{IsOne, NameIsBound, NameSpells, DottedIsBound, DottedSpells, SuperFieldIsBound, CallIsBound, SuperCallIsBound, CreationIsBound, SuperCtorIsBound, TypeNameIsBound, InnerNameIsBound, IsValueOf, NoField, Creates}
 use Rattle.jr_new_bodies.proofs.Sorts.{found_variable, found_field, found_type, found_inner, found_method, found_call, found_ctor}
@@ -41,7 +42,7 @@ some_here (Some x) P h none = refl
 pub of_some : {X Y : Type 0} (f : X → Y) (o : Option X) (x : X) (P : Option Y → Type 0) → o ≡ Some x → P (option_map f o) → P (Some (f x))
 of_some f o x P is h = subst (λ p. P (option_map f p)) is h
 
-module _ (rows : List Row) (are : AreRows rows) (keys : KeysAreFound rows) (g : Renaming) (c : Context) where
+module _ (rows : List Row) (are : AreRows rows) (keys : KeysAreFound rows) (g : Mapping) (c : Context) where
   -- ---- simple names
 
   pub no_variable : (name : List ℕ) (at : ℕ) (d : Decl) → VariableIsChosen rows g c at name None → FindsVariable rows (scope_of c) name (one d) → ⊥
@@ -76,8 +77,8 @@ module _ (rows : List Row) (are : AreRows rows) (keys : KeysAreFound rows) (g : 
     on_value : (k : ClassKey) → IsValueOf rows c e k → IsOn rows c e k
     on_value k h = inr h
 
-    pub field_there : (role : Role) (k : ClassKey) (at : ℕ) → IsValueOf rows c e k → DottedIsBound begins rows c role e name → FieldIsChosen rows g c at k name None → ⊥
-    field_there role k at on bound none =
+    pub field_there : (role : Role) (k : ClassKey) (t : Ty) (at : ℕ) → IsValueOf rows c e k → DottedIsBound begins rows c role e name → FieldIsChosen rows g c at k t name None → ⊥
+    field_there role k t at on bound none =
         let o = the_one (find_field_in rows (scope_of c) k name) (FindsFieldIn rows (scope_of c) k name) (keys.field_in (scope_of c) k name) (λ f h. by role bound f (inl (k, on_value k on, h))) in
         let d = found_field rows (scope_of c) k name o.0 o.1 in
         none d.0 (subst (λ x. FindsFieldIn rows (scope_of c) k name (one x)) d.1 o.1)
@@ -87,7 +88,7 @@ module _ (rows : List Row) (are : AreRows rows) (keys : KeysAreFound rows) (g : 
         by left bound f h = bound variable f (inr (on.0, refl, h))
         by statement bound f h = bound variable f (refl, h)
 
-    pub field_chosen : (role : Role) (k : ClassKey) (at : ℕ) (h : Choice) → IsValueOf rows c e k → FieldIsChosen rows g c at k name (Some h) → DottedSpells begins rows g c role at e name h
+    pub field_chosen : (role : Role) (k : ClassKey) (at : ℕ) (h : Choice) → IsValueOf rows c e k → FieldIsChosen rows g c at k (type_to g (class k)) name (Some h) → DottedSpells begins rows g c role at e name h
     field_chosen role k at h on (f, finds, chosen) = inl (f, inl (k, on_value k on, finds), inr (on.0, (k, on.1, chosen)))
 
     pub class_field_chosen : (role : Role) (k : ClassKey) (w : InFront) (at : ℕ) (h : Choice) → IsClassName rows c e k → WordsStand rows g c e k w
@@ -169,33 +170,33 @@ module _ (rows : List Row) (are : AreRows rows) (keys : KeysAreFound rows) (g : 
     unfolding TargetFinds
     call_types_there e k on bound none = not_one (bound nothing (inl (k, on, inr (none, refl))))
 
-    pub simple_there : (ts : List Ty) (at : ℕ) → HaveTypes rows c args ts → CallIsBound begins rows c tree.no_target name args → SimpleCallIsChosen rows g c at name ts None → ⊥
+    pub simple_there : (ts us : List Ty) (at : ℕ) → HaveTypes rows c args ts → CallIsBound begins rows c tree.no_target name args → SimpleCallIsChosen rows g c at name ts us None → ⊥
     unfolding TargetFinds
-    simple_there ts at have bound none =
+    simple_there ts us at have bound none =
         let o = the_one (find_method_named rows (scope_of c) name ts) (FindsMethodNamed rows (scope_of c) name ts) (keys.method_named (scope_of c) name ts) (λ f h. bound f (inl (ts, have, h))) in
         let m = found_call rows (scope_of c) name ts o.0 o.1 in
         none m.0 (subst (λ x. FindsMethodNamed rows (scope_of c) name ts (one x)) m.1 o.1)
 
-    pub simple_chosen : (ts : List Ty) (at : ℕ) (h : Choice) → HaveTypes rows c args ts → SimpleCallIsChosen rows g c at name ts (Some h) → spells.SimpleCallSpells begins rows g c at name args h
+    pub simple_chosen : (ts : List Ty) (at : ℕ) (h : Choice) → HaveTypes rows c args ts → SimpleCallIsChosen rows g c at name ts (types_to g ts) (Some h) → spells.SimpleCallSpells begins rows g c at name args h
     unfolding TargetFinds
     simple_chosen ts at h have (q, finds, chosen) = (q, ts, inl (ts, have, finds), have, chosen)
 
-    pub call_there : (e : tree.Exp A) (k : ClassKey) (ts : List Ty) (at : ℕ) → IsOn rows c e k → HaveTypes rows c args ts → CallIsBound begins rows c (tree.on e) name args → CallIsChosen rows g c at k name ts None → ⊥
+    pub call_there : (e : tree.Exp A) (k : ClassKey) (t : Ty) (ts us : List Ty) (at : ℕ) → IsOn rows c e k → HaveTypes rows c args ts → CallIsBound begins rows c (tree.on e) name args → CallIsChosen rows g c at k t name ts us None → ⊥
     unfolding TargetFinds
-    call_there e k ts at on have bound none =
+    call_there e k t ts us at on have bound none =
         let o = the_one (find_method_of rows (scope_of c) k name ts) (FindsMethodOf rows (scope_of c) k name ts) (keys.method_of (scope_of c) k name ts) (λ f h. bound f (inl (k, on, inl (ts, have, h)))) in
         let m = found_method rows (scope_of c) k name ts o.0 o.1 in
         none m.0 (subst (λ x. FindsMethodOf rows (scope_of c) k name ts (one x)) m.1 o.1)
 
-    pub static_call_there : (e : tree.Exp A) (w : InFront) (k : ClassKey) (ts : List Ty) (at : ℕ) → IsOn rows c e k → HaveTypes rows c args ts → CallIsBound begins rows c (tree.on e) name args → StaticCallIsChosen rows g c at w k name ts None → ⊥
-    static_call_there e w k ts at on have bound none = call_there e k ts at on have bound none
+    pub static_call_there : (e : tree.Exp A) (w : InFront) (k : ClassKey) (ts us : List Ty) (at : ℕ) → IsOn rows c e k → HaveTypes rows c args ts → CallIsBound begins rows c (tree.on e) name args → StaticCallIsChosen rows g c at w k name ts us None → ⊥
+    static_call_there e w k ts us at on have bound none = call_there e k void ts us at on have bound none
 
-    pub call_chosen : (e : tree.Exp A) (k : ClassKey) (ts : List Ty) (at : ℕ) (h : Choice) → IsValueOf rows c e k → HaveTypes rows c args ts → CallIsChosen rows g c at k name ts (Some h) → spells.CallSpells begins rows g c at e name args h
+    pub call_chosen : (e : tree.Exp A) (k : ClassKey) (ts : List Ty) (at : ℕ) (h : Choice) → IsValueOf rows c e k → HaveTypes rows c args ts → CallIsChosen rows g c at k (type_to g (class k)) name ts (types_to g ts) (Some h) → spells.CallSpells begins rows g c at e name args h
     unfolding TargetFinds
     call_chosen e k ts at h on have (q, finds, chosen) = (q, ts, inl (k, inr on, inl (ts, have, finds)), have, inr (on.0, (k, on.1, chosen)))
 
     pub static_call_chosen : (e : tree.Exp A) (k : ClassKey) (w : InFront) (ts : List Ty) (at : ℕ) (h : Choice) → IsClassName rows c e k → WordsStand rows g c e k w → HaveTypes rows c args ts
-        → StaticCallIsChosen rows g c at w k name ts (Some h) → spells.CallSpells begins rows g c at e name args h
+        → StaticCallIsChosen rows g c at w k name ts (types_to g ts) (Some h) → spells.CallSpells begins rows g c at e name args h
     unfolding TargetFinds
     static_call_chosen e k w ts at h on words have (q, finds, chosen) = (q, ts, inl (k, inl on, inl (ts, have, finds)), have, inl (k, on, (w, words, chosen)))
 
@@ -232,15 +233,15 @@ module _ (rows : List Row) (are : AreRows rows) (keys : KeysAreFound rows) (g : 
         → ((ts : List Ty) → HaveTypes rows c args ts → ⊥) → ⊥
     super_types_there exact bound none = let h = super_is exact bound in none h.1 h.3
 
-    pub super_call_there : (exact : Decided (call_found rows c (own_superclass rows c) name (types_of rows c args)) (SuperCallFinds rows c name args)) → (ts : List Ty) (at : ℕ) → HaveTypes rows c args ts
-        → SuperCallIsBound begins rows c name args → SuperCallIsChosen rows g c at name ts None → ⊥
-    super_call_there exact ts at have bound none =
+    pub super_call_there : (exact : Decided (call_found rows c (own_superclass rows c) name (types_of rows c args)) (SuperCallFinds rows c name args)) → (ts us : List Ty) (at : ℕ) → HaveTypes rows c args ts
+        → SuperCallIsBound begins rows c name args → SuperCallIsChosen rows g c at name ts us None → ⊥
+    super_call_there exact ts us at have bound none =
         let k = super_is exact bound in
         let o = the_one (find_method_of rows (scope_of c) k.0 name ts) (FindsMethodOf rows (scope_of c) k.0 name ts) (keys.method_of (scope_of c) k.0 name ts) (λ f h. bound f (inl (k.0, k.2, inl (ts, have, h)))) in
         let m = found_method rows (scope_of c) k.0 name ts o.0 o.1 in
         none m.0 (inl (k.0, k.2, subst (λ x. FindsMethodOf rows (scope_of c) k.0 name ts (one x)) m.1 o.1))
 
-    pub super_call_chosen : (ts : List Ty) (at : ℕ) (h : Choice) → HaveTypes rows c args ts → SuperCallIsChosen rows g c at name ts (Some h) → spells.SuperCallSpells begins rows g c at name args h
+    pub super_call_chosen : (ts : List Ty) (at : ℕ) (h : Choice) → HaveTypes rows c args ts → SuperCallIsChosen rows g c at name ts (types_to g ts) (Some h) → spells.SuperCallSpells begins rows g c at name args h
     super_call_chosen ts at h have (q, finds, chosen) = (q, ts, by finds, have, chosen)
       where
         by : FindsIn (IsSuperclass rows (scope_of c).class) (λ k x. FindsMethodOf rows (scope_of c) k name ts x) (one (method_decl q)) → SuperCallFinds rows c name args (one (method_decl q))
@@ -271,13 +272,13 @@ module _ (rows : List Row) (are : AreRows rows) (keys : KeysAreFound rows) (g : 
     pub creation_types : (t : tree.TypeName A) → Decided (ctor_found rows c (created_class rows c t) (types_of rows c args)) (CreationFinds rows c t args) → CreationIsBound begins rows c t args → ((ts : List Ty) → HaveTypes rows c args ts → ⊥) → ⊥
     creation_types t exact bound none = let h = creation_is t exact bound in none h.2 h.4
 
-    pub creation_there : (t : tree.TypeName A) (k : ClassKey) (ts : List Ty) (at : ℕ) → WritesType rows (scope_of c) t (class k) → HaveTypes rows c args ts → CreationIsBound begins rows c t args → CreationIsChosen rows g c at k ts None → ⊥
-    creation_there t k ts at is have bound none =
+    pub creation_there : (t : tree.TypeName A) (k : ClassKey) (ts us : List Ty) (at : ℕ) → WritesType rows (scope_of c) t (class k) → HaveTypes rows c args ts → CreationIsBound begins rows c t args → CreationIsChosen rows g c at k ts us None → ⊥
+    creation_there t k ts us at is have bound none =
         let o = the_one (find_ctor_of rows (scope_of c) k ts) (FindsCtorOf rows (scope_of c) k ts) (keys.ctor_of (scope_of c) k ts) (λ f h. bound f (inl (k, is, inl (ts, have, h)))) in
         let m = found_ctor rows (scope_of c) k ts o.0 o.1 in
         none m.0 (subst (λ x. FindsCtorOf rows (scope_of c) k ts (one x)) m.1 o.1)
 
-    pub creation_chosen : (t : tree.TypeName A) (k : ClassKey) (ts : List Ty) (at : ℕ) (h : Choice) → WritesType rows (scope_of c) t (class k) → HaveTypes rows c args ts → CreationIsChosen rows g c at k ts (Some h) → Creates begins rows g c at t args h
+    pub creation_chosen : (t : tree.TypeName A) (k : ClassKey) (ts : List Ty) (at : ℕ) (h : Choice) → WritesType rows (scope_of c) t (class k) → HaveTypes rows c args ts → CreationIsChosen rows g c at k ts (types_to g ts) (Some h) → Creates begins rows g c at t args h
     creation_chosen t k ts at h is have (q, finds, chosen) = (k, q, ts, is, inl (k, is, inl (ts, have, finds)), have, chosen)
 
     ctor_is : (k : Option ClassKey) → ((j : ClassKey) → (k ≡ Some j) → IsSuperclass rows (scope_of c).class j) → ((j : ClassKey) → IsSuperclass rows (scope_of c).class j → k ≡ Some j)
@@ -291,14 +292,14 @@ module _ (rows : List Row) (are : AreRows rows) (keys : KeysAreFound rows) (g : 
     pub super_ctor_types : SuperCtorIsBound rows c args → ((ts : List Ty) → HaveTypes rows c args ts → ⊥) → ⊥
     super_ctor_types bound none = let k = superclass_is bound in nothing_one (bound nothing (inl (k.0, k.1, inr (none, refl))))
 
-    pub super_ctor_there : (ts : List Ty) (at : ℕ) → HaveTypes rows c args ts → SuperCtorIsBound rows c args → SuperCtorIsChosen rows g c at ts None → ⊥
-    super_ctor_there ts at have bound none =
+    pub super_ctor_there : (ts us : List Ty) (at : ℕ) → HaveTypes rows c args ts → SuperCtorIsBound rows c args → SuperCtorIsChosen rows g c at ts us None → ⊥
+    super_ctor_there ts us at have bound none =
         let k = superclass_is bound in
         let o = the_one (find_ctor_of rows (scope_of c) k.0 ts) (FindsCtorOf rows (scope_of c) k.0 ts) (keys.ctor_of (scope_of c) k.0 ts) (λ f h. bound f (inl (k.0, k.1, inl (ts, have, h)))) in
         let m = found_ctor rows (scope_of c) k.0 ts o.0 o.1 in
         none m.0 (inl (k.0, k.1, subst (λ x. FindsCtorOf rows (scope_of c) k.0 ts (one x)) m.1 o.1))
 
-    pub super_ctor_chosen : (ts : List Ty) (at : ℕ) (h : Choice) → HaveTypes rows c args ts → SuperCtorIsChosen rows g c at ts (Some h) → spells.SuperCtorSpells begins rows g at c args h
+    pub super_ctor_chosen : (ts : List Ty) (at : ℕ) (h : Choice) → HaveTypes rows c args ts → SuperCtorIsChosen rows g c at ts (types_to g ts) (Some h) → spells.SuperCtorSpells begins rows g at c args h
     super_ctor_chosen ts at h have (q, finds, chosen) = (q, ts, by finds, have, chosen)
       where
         by : FindsIn (IsSuperclass rows (scope_of c).class) (λ k x. FindsCtorOf rows (scope_of c) k ts x) (one (constructor_decl q)) → SuperCtorFinds rows c args (one (constructor_decl q))

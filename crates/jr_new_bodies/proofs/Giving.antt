@@ -14,14 +14,14 @@ use Rattle.jr_rewrite.specs.Rewritten.{Rewritten, plain, within, joined, count_o
 use Rattle.jr_rewrite.specs.Puts.{before_changes, behind_changes, super_parts, class_changes, drops_class}
 use Rattle.jr_rewrite.specs.Rewrites.{RewritesType, RewritesExp, RewritesRow, with_losses, TransformsExp, TransformsTarget, TransformsRow}
 use Rattle.jr_rewrite.proofs.Putting.{dotted_is_parts, super_is_parts, qualified_is_parts}
-use Rattle.jr_images.specs.Images.{Renaming}
-use Rattle.jr_images.specs.Spelling.{VariableSpells, ClassSpells, spelling}
+use Rattle.jr_new_words.specs.Mappings.{Mapping}
+use Rattle.jr_new_words.specs.Spelled.{VariableSpells, ClassSpells, spelling}
 use Rattle.jr_new_words.specs.Chosen.{unmarked}
 use Rattle.jr_new_bodies.specs.declared.here.Here as raw
 use Rattle.jr_new_bodies.specs.Effects.{Effect, no_effect, both, effect_of, Gathers}
 use Rattle.jr_new_bodies.specs.OutputView as out
 use Rattle.jr_new_bodies.specs.OutputView.{in_front, behind, left_of, put_behind, behind_super, class_left, put_class, qualified}
-use Rattle.jr_new_bodies.specs.Known.{rows_of, naming_of, context_of, NameSpells}
+use Rattle.jr_new_bodies.specs.Known.{rows_of, mapping_of, context_of, NameSpells}
 use Rattle.jr_new_bodies.specs.Walks.{choosing, ExpGathers, DottedGathers, RowGathers, TypeGathers, PairGathers, CastGathers, SimpleGathers, SuperGathers, FieldGathers, CalledGathers, CallOnGathers, TargetGathers, CallGathers, SuperCalledGathers, SuperCallGathers, CreatedGathers, CreateGathers, NamedGathers}
 use Rattle.jr_new_bodies.proofs.Joining.{none_both, both_none, both_assoc, gathers_none, gathers_within, gathers_joined}
 
@@ -100,13 +100,13 @@ super_is (becomes r) node word = λ i. record { changes = super_is_parts r node 
 
 -- ---- expressions
 
-class_spells : {A : Type 0} (begins : A → ℕ → ℕ) (rows : List Row) (g : Renaming) (c : Context) (r : Role) (at : ℕ) (name : List ℕ) (h : Choice)
+class_spells : {A : Type 0} (begins : A → ℕ → ℕ) (rows : List Row) (g : Mapping) (c : Context) (r : Role) (at : ℕ) (name : List ℕ) (h : Choice)
     → ClassSpells unmarked rows g c r at name h → ClassSpells begins rows g c r at name h
 class_spells begins rows g c value at name h x = absurd x
 class_spells begins rows g c left at name h x = x
 class_spells begins rows g c statement at name h x = absurd x
 
-name_spells : {A : Type 0} (begins : A → ℕ → ℕ) (rows : List Row) (g : Renaming) (c : Context) (r : Role) (at : ℕ) (name : List ℕ) (h : Choice)
+name_spells : {A : Type 0} (begins : A → ℕ → ℕ) (rows : List Row) (g : Mapping) (c : Context) (r : Role) (at : ℕ) (name : List ℕ) (h : Choice)
     → NameSpells rows g c r at name h → VariableSpells begins rows g c at name h ⊎ ClassSpells begins rows g c r at name h
 name_spells begins rows g c r at name h (inl x) = inl x
 name_spells begins rows g c r at name h (inr x) = inr (class_spells begins rows g c r at name h x)
@@ -141,7 +141,7 @@ module _ {A : Type 0} (tells : A → ℕ → Span) (h : raw.Here) where
 
   pub name_gives : (role : Role) (base : ℕ) (m : A) (w : tree.Word A) (old new : Effect) → SimpleGathers tells h role (begins m base) w old new → ExpGathers tells h role base (tree.name m w) old new
   unfolding TransformsExp TransformsTarget TransformsRow
-  name_gives role base m w old new (c, chosen, is) = λ s. (name_out tells c m base w, (c, name_spells begins (rows_of h) (naming_of h) (context_of h) role (begins w.mark (begins m base)) w.text c chosen, refl), is)
+  name_gives role base m w old new (c, chosen, is) = λ s. (name_out tells c m base w, (c, name_spells begins (rows_of h) (mapping_of h) (context_of h) role (begins w.mark (begins m base)) w.text c chosen, refl), is)
 
   pub field_gives : (role : Role) (base : ℕ) (m : A) (e : tree.Exp A) (w : tree.Word A) (old new : Effect) → FieldGathers tells h role (begins m base) e w old new → ExpGathers tells h role base (tree.field m e w) old new
   unfolding TransformsExp TransformsTarget TransformsRow

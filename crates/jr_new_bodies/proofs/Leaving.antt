@@ -7,7 +7,7 @@ use Rattle.jr_ast.proofs.Sizes.{stmt_size, stmts_size, else_size}
 use Rattle.jr_table.specs.Context.{Context, after, locals_in, locals_in_else, locals_in_row}
 use Rattle.jr_table.specs.Binding.{value}
 use Rattle.jr_rewrite.specs.Rewrites.{RewritesStmt}
-use Rattle.jr_images.specs.Spelling.{spelling}
+use Rattle.jr_new_words.specs.Spelled.{spelling}
 use Rattle.jr_new_bodies.specs.declared.here.Here as raw
 use Rattle.jr_new_bodies.specs.Known.{context_of, IsKnown}
 use Rattle.jr_new_bodies.specs.Walks.{choosing, ExpGathers}

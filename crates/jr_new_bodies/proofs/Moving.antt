@@ -1,5 +1,5 @@
 -- How places change.
-use Rattle.std.proofs.Common.{◌≡◌, ℕ, List, [], ◌∷◌, ◌++◌, length, take, map, Option, Some, None, Bool, true, refl, sym, ap, ◌∙◌}
+use Rattle.std.proofs.Common.{◌≡◌, ℕ, List, [], ◌∷◌, ◌++◌, length, take, map, Option, Some, None, Bool, true, refl, sym, ap, subst, ◌∙◌}
 use Rattle.std.proofs.lemmas.List.{map-append, take-map, length-map}
 use Rattle.std.specs.Prelude.{option_map}
 use Rattle.jr_ast.specs.Tree as tree
@@ -9,9 +9,10 @@ use Rattle.jr_scopes.specs.Helds.{Held, key_of}
 use Rattle.jr_scopes.specs.Helds as helds
 use Rattle.jr_new_words.specs.declared.scopes.Scopes.{Scopes}
 use Rattle.jr_new_words.specs.Scopes as scopes
-use Rattle.jr_new_words.specs.Scopes.{IsKept, AreBeside, locals_in, member_of}
+use Rattle.jr_new_words.specs.Mappings.{Mapping}
+use Rattle.jr_new_words.specs.Scopes.{IsKept, IsDeep, AreBeside, locals_in, member_of}
 use Rattle.jr_new_bodies.specs.declared.here.Here as raw
-use Rattle.jr_new_bodies.specs.Known.{context_of}
+use Rattle.jr_new_bodies.specs.Known.{context_of, mapping_of}
 use Rattle.jr_new_bodies.specs.Moves.{Goes, IsHeld, cut, without_own}
 
 -- what is known at a place of scopes beside another
@@ -26,7 +27,7 @@ beside_context s u b hs are own is = λ i. record {
 }
 
 beside_then : (s t u : Scopes) → AreBeside s t → AreBeside t u → AreBeside s u
-beside_then s t u a b = record { rows = b.rows ∙ a.rows; naming = b.naming ∙ a.naming; member = b.member ∙ a.member; is_static = b.is_static ∙ a.is_static }
+beside_then s t u a b = record { rows = b.rows ∙ a.rows; mapping = b.mapping ∙ a.mapping; member = b.member ∙ a.member; is_static = b.is_static ∙ a.is_static }
 
 local_is : {A : Type 0} (k : MemberKey) (n : ℕ) (f : Bool) (t : tree.TypeName A) (w : tree.Word A) (h : Held) → IsHeld n f t w h
     → helds.local_of k h ≡ record { name = w.text; key = key_of k n; is_final = f; type = local_type t; has_init = true }
@@ -34,7 +35,7 @@ local_is k n f t w h is = λ i. record { name = is.name i; key = key_of k (is.nu
 
 goes_to : (h : raw.Here) (u : Scopes) (c : Context) → AreBeside h.scopes u → IsKept u → scopes.context_of u ≡ c
     → Goes h (record { scopes = u; bound = h.bound; from = h.from }) c
-goes_to h u c b kept is = record { known = kept; context = is; rows = b.rows; naming = b.naming; bound = refl; from_is = refl }
+goes_to h u c b kept is = record { known = kept; context = is; rows = b.rows; mapping = b.mapping; bound = refl; from_is = refl }
 
 module _ (h : raw.Here) where
   pub declared : {A : Type 0} (t u : Scopes) (n : ℕ) (f : Bool) (ty : tree.TypeName A) (w : tree.Word A) (hd : Held)
@@ -68,6 +69,11 @@ module _ (h : raw.Here) where
   pub depth_is : length (locals_in h.scopes) ≡ length (context_of h).locals
   unfolding scopes.context_of
   depth_is = sym (length-map (locals_in h.scopes) (helds.local_of (member_of h.scopes)))
+
+  -- another place of the region, where no more locals are taken away
+  pub deep_there : (i : raw.Here) (depth : ℕ) → IsKept h.scopes → mapping_of i ≡ mapping_of h → depth ≡ length (context_of h).locals → IsDeep (mapping_of i).locals depth
+  deep_there i depth kept is e =
+      subst (λ (g : Mapping). IsDeep g.locals depth) (sym is) (subst (IsDeep (mapping_of h).locals) (depth_is ∙ sym e) kept.deep)
 
   pub own_is : (context_of h).own ≡ option_map (key_of (context_of h).member) h.scopes.own
   unfolding scopes.context_of

@@ -20,8 +20,10 @@ use Rattle.jr_table.proofs.Typing.{left_iff, left_of_iff}
 use Rattle.jr_bind_expr.specs.Fits.{FitsExp}
 use Rattle.jr_new_bodies.specs.declared.here.Here as raw
 use Rattle.jr_ast.proofs.Sizes.{exp_size}
-use Rattle.jr_images.specs.Images.{Renaming}
-use Rattle.jr_images.specs.Words.{InFront, FirstStands, NextStands, WordsStand}
+use Rattle.jr_new_words.specs.Mappings.{Mapping}
+use Rattle.jr_images.specs.Words.{InFront}
+use Rattle.jr_new_words.specs.Mappings.{FirstStands, NextStands}
+use Rattle.jr_new_words.specs.Spelled.{WordsStand}
 use Rattle.jr_new_bodies.specs.Known.{rows_of, found_at, SoundExp, RefersExp}
 use Rattle.jr_new_bodies.specs.MeaningView.{class_in, last_word, front, IsNamed}
 use Rattle.jr_new_bodies.proofs.Sorts.{found_field}
@@ -224,7 +226,7 @@ front_smaller (tree.binary m op x y) p is = absurd cc
 front_smaller (tree.assign m x y) p is = absurd cc
 front_smaller (tree.compound m op x y) p is = absurd cc
 
-module _ {A : Type 0} (rows : List Row) (g : Renaming) (c : Context) (k : ClassKey) (w : InFront) where
+module _ {A : Type 0} (rows : List Row) (g : Mapping) (c : Context) (k : ClassKey) (w : InFront) where
   -- the first word
   pub first_stands : (e : tree.Exp A) → front e ≡ None → FirstStands rows g c k w → WordsStand rows g c e k w
   first_stands (tree.field m e x) none stands = absurd cc

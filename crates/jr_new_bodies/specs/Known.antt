@@ -55,9 +55,10 @@ use Rattle.jr_expr_types.specs.Slots.{find_type}
 use Rattle.jr_bind.specs.Bounds.{Bound, decl_in}
 use Rattle.jr_bind_expr.specs.Fits.{FitsExp, FitsTarget, FitsExps, FitsType}
 use Rattle.jr_spell.specs.declared.references.RefForm.TheVariants as ref
-use Rattle.jr_images.specs.Images.{Renaming, class_to, types_to, rows_to, scope_to}
-use Rattle.jr_images.specs.Spelling as spells
+use Rattle.jr_images.specs.Spelling.{reference, operand_of}
+use Rattle.jr_new_words.specs.Spelled as spells
 use Rattle.jr_rewrite.specs.Respellings.{Choice}
+use Rattle.jr_new_words.specs.Mappings.{Mapping, class_to, ctor_to, types_to, rows_to, scope_to}
 use Rattle.jr_new_words.specs.Scopes as scopes
 use Rattle.jr_new_words.specs.Chosen.{unmarked}
 use Rattle.jr_new_bodies.specs.declared.here.Here as raw
@@ -67,8 +68,8 @@ use Rattle.jr_new_bodies.specs.declared.here.Role.TheVariants as roles
 abbrev pub rows_of : raw.Here → List Row
 rows_of h = scopes.rows_of h.scopes
 
-abbrev pub naming_of : raw.Here → Renaming
-naming_of h = scopes.naming_of h.scopes
+abbrev pub mapping_of : raw.Here → Mapping
+mapping_of h = scopes.mapping_of h.scopes
 
 abbrev pub context_of : raw.Here → Context
 context_of h = scopes.context_of h.scopes
@@ -225,12 +226,12 @@ role_of roles.Value = value
 role_of roles.Left = left
 role_of roles.Statement = whole
 
-module _ (rows : List Row) (g : Renaming) (c : Context) where
+module _ (rows : List Row) (g : Mapping) (c : Context) where
   abbrev pub NameSpells : Role → (at : ℕ) → List ℕ → Choice → Type 0
   NameSpells role at name h = spells.VariableSpells unmarked rows g c at name h
       ⊎ spells.ClassSpells unmarked rows g c role at name h
 
-module _ {A : Type 0} (begins : A → ℕ → ℕ) (rows : List Row) (g : Renaming) (c : Context) where
+module _ {A : Type 0} (begins : A → ℕ → ℕ) (rows : List Row) (g : Mapping) (c : Context) where
   abbrev pub DottedSpells : Role → (at : ℕ) → tree.Exp A → List ℕ → Choice → Type 0
   DottedSpells role at e name h = spells.FieldSpells begins rows g c at e name h
       ⊎ spells.MemberClassSpells begins rows g c role at e name h
@@ -263,13 +264,13 @@ abbrev pub just : Choice → Option Choice
 just h = Some h
 
 -- what is chosen for the constructor of a creation that begins at `at`
-module _ {A : Type 0} (begins : A → ℕ → ℕ) (rows : List Row) (g : Renaming) (c : Context) where
+module _ {A : Type 0} (begins : A → ℕ → ℕ) (rows : List Row) (g : Mapping) (c : Context) where
   abbrev pub Creates : (at : ℕ) → tree.TypeName A → tree.Exps A → Choice → Type 0
   Creates at t args h = (k : ClassKey) × (q : CtorKey) × (ts : List Ty)
       × WritesType rows (scope_of c) t (class k)
       × CreationFinds rows c t args (one (constructor_decl q)) × HaveTypes rows c args ts
       × spells.Spells begins rows g (scope_to g c) at [] [] (constructor_decl q)
-      (spells.reference ref.AsAsked [] (spells.operand_of (class_to g k)) (types_to g ts))
+      (constructor_decl (ctor_to g q)) (reference ref.AsAsked [] (operand_of (class_to g k)) (types_to g ts))
       (FindsCtorOf (rows_to g rows) (scope_to g c) (class_to g k) (types_to g ts)) h
 
 -- the names of a class as a type

@@ -14,7 +14,7 @@ use Rattle.jr_table.specs.Context.{
 use Rattle.jr_scopes.specs.Helds.{Held, key_of}
 use Rattle.jr_new_bodies.specs.declared.here.Here as raw
 use Rattle.jr_new_bodies.specs.Effects.{Effect}
-use Rattle.jr_new_bodies.specs.Known.{rows_of, naming_of, context_of, IsKnown}
+use Rattle.jr_new_bodies.specs.Known.{rows_of, mapping_of, context_of, IsKnown}
 use Rattle.jr_table.specs.Binding.{value}
 use Rattle.jr_new_bodies.specs.Walks.{ExpGathers}
 use Rattle.jr_new_bodies.specs.Bodies.{StmtGathers, StmtsGather}
@@ -24,7 +24,7 @@ pub record Goes (old new : raw.Here) (c : Context) : Type 0 where
   pub known : IsKnown new
   pub context : context_of new ≡ c
   pub rows : rows_of new ≡ rows_of old
-  pub naming : naming_of new ≡ naming_of old
+  pub mapping : mapping_of new ≡ mapping_of old
   pub bound : new.bound.now ≡ old.bound.now
   pub from_is : new.from ≡ old.from
 

@@ -1,5 +1,5 @@
 -- What a walk gathers of each part of a tree at a place: exactly what a rewriting of it gives, as
--- `jr_rename: spelling` chooses, wherever a written `super(..)` stands.
+-- `jr_new_words: spelling` chooses, wherever a written `super(..)` stands.
 use Rattle.std.specs.Prelude.{◌≡◌, ℕ, Option, Some, None}
 use Rattle.jr_text.specs.declared.spans.Span.{Span}
 use Rattle.jr_ast.specs.Tree as tree
@@ -14,7 +14,7 @@ use Rattle.jr_rewrite.specs.Rewrites.{
   RewritesExp,
   RewritesRow,
 }
-use Rattle.jr_images.specs.Spelling.{
+use Rattle.jr_new_words.specs.Spelled.{
   spelling,
   SuperFieldSpells,
   SimpleCallSpells,
@@ -32,7 +32,7 @@ use Rattle.jr_new_bodies.specs.Effects.{Effect, both, effect_of, Gathers}
 use Rattle.jr_new_bodies.specs.OutputView.{alone, behind_super, in_front, behind, lost, qualified}
 use Rattle.jr_new_bodies.specs.Known.{
   rows_of,
-  naming_of,
+  mapping_of,
   context_of,
   NameSpells,
   DottedSpells,
@@ -44,7 +44,7 @@ module _ {A : Type 0} (tells : A → ℕ → Span) (h : raw.Here) where
   begins m b = (tells m b).from
 
   abbrev pub choosing : (Context → ℕ) → Choosing A
-  choosing s = spelling (λ m b. (tells m b).from) (rows_of h) (naming_of h) s
+  choosing s = spelling (λ m b. (tells m b).from) (rows_of h) (mapping_of h) s
 
   abbrev pub ExpGathers : Role → (base : ℕ) → tree.Exp A → (old new : Effect) → Type 0
   ExpGathers role base e old new = (s : Context → ℕ)
@@ -80,13 +80,13 @@ module _ {A : Type 0} (tells : A → ℕ → Span) (h : raw.Here) where
   -- a simple name
   abbrev pub SimpleGathers : Role → (at : ℕ) → tree.Word A → (old new : Effect) → Type 0
   SimpleGathers role at w old new = (c : Choice)
-      × NameSpells (rows_of h) (naming_of h) (context_of h) role (begins w.mark at) w.text c
+      × NameSpells (rows_of h) (mapping_of h) (context_of h) role (begins w.mark at) w.text c
       × (new ≡ both old (alone c (tells w.mark at)))
 
   -- a field behind `super`, in a node of this span
   abbrev pub SuperGathers : (node : Span) → tree.Word A → (old new : Effect) → Type 0
   SuperGathers node w old new = (c : Choice)
-      × SuperFieldSpells unmarked (rows_of h) (naming_of h) (context_of h)
+      × SuperFieldSpells unmarked (rows_of h) (mapping_of h) (context_of h)
       (begins w.mark node.from) w.text c
       × (new ≡ both old (behind_super c node (tells w.mark node.from)))
 
@@ -94,21 +94,21 @@ module _ {A : Type 0} (tells : A → ℕ → Span) (h : raw.Here) where
   abbrev pub FieldGathers : Role → (at : ℕ) → tree.Exp A → tree.Word A → (old new : Effect)
       → Type 0
   FieldGathers role at e w old new = (c : Choice)
-      × DottedSpells begins (rows_of h) (naming_of h) (context_of h) role (begins w.mark at) e
+      × DottedSpells begins (rows_of h) (mapping_of h) (context_of h) role (begins w.mark at) e
       w.text c
       × DottedGathers c at (tells w.mark at) e old new
 
   -- the word of a call without a target; that of a call on an operand, with the operand; both
   abbrev pub CalledGathers : (at : ℕ) → tree.Word A → tree.Exps A → (old new : Effect) → Type 0
   CalledGathers at w args old new = (c : Choice)
-      × SimpleCallSpells begins (rows_of h) (naming_of h) (context_of h) (begins w.mark at)
+      × SimpleCallSpells begins (rows_of h) (mapping_of h) (context_of h) (begins w.mark at)
       w.text args c
       × (new ≡ both old (alone c (tells w.mark at)))
 
   abbrev pub CallOnGathers : (at : ℕ) → tree.Exp A → tree.Word A → tree.Exps A
       → (old new : Effect) → Type 0
   CallOnGathers at e w args old new = (c : Choice)
-      × CallSpells begins (rows_of h) (naming_of h) (context_of h) (begins w.mark at) e w.text
+      × CallSpells begins (rows_of h) (mapping_of h) (context_of h) (begins w.mark at) e w.text
       args c
       × DottedGathers c at (tells w.mark at) e old new
 
@@ -126,7 +126,7 @@ module _ {A : Type 0} (tells : A → ℕ → Span) (h : raw.Here) where
   abbrev pub SuperCalledGathers : (at : ℕ) → tree.Word A → tree.Exps A → (old new : Effect)
       → Type 0
   SuperCalledGathers at w args old new = (c : Choice)
-      × SuperCallSpells begins (rows_of h) (naming_of h) (context_of h) (begins w.mark at)
+      × SuperCallSpells begins (rows_of h) (mapping_of h) (context_of h) (begins w.mark at)
       w.text args c
       × (new ≡ both old (alone c (tells w.mark at)))
 
@@ -138,7 +138,7 @@ module _ {A : Type 0} (tells : A → ℕ → Span) (h : raw.Here) where
   abbrev pub CreatedGathers : (at : ℕ) → tree.TypeName A → tree.Exps A → (old new : Effect)
       → Type 0
   CreatedGathers at t args old new = (c : Choice) × (mid : Effect)
-      × Creates begins (rows_of h) (naming_of h) (context_of h) at t args c
+      × Creates begins (rows_of h) (mapping_of h) (context_of h) at t args c
       × (mid ≡ both old (lost c)) × TypeGathers at t mid new
 
   abbrev pub CreateGathers : (at : ℕ) → tree.TypeName A → tree.Exps A → (old new : Effect)
@@ -150,11 +150,11 @@ module _ {A : Type 0} (tells : A → ℕ → Span) (h : raw.Here) where
   abbrev pub NamedGathers : (at : ℕ) → Option (tree.Word A) → tree.Word A → (old new : Effect)
       → Type 0
   NamedGathers at None w old new = (c : Choice)
-      × TypeIsChosen (rows_of h) (naming_of h) (context_of h) (begins w.mark at) w.text (Some c)
+      × TypeIsChosen (rows_of h) (mapping_of h) (context_of h) (begins w.mark at) w.text (Some c)
       × (new ≡ both old (alone c (tells w.mark at)))
   NamedGathers at (Some v) w old new = (p : Choice) × (c : Choice)
-      × QualifierIsChosen (rows_of h) (naming_of h) (context_of h) (begins v.mark at) v.text
+      × QualifierIsChosen (rows_of h) (mapping_of h) (context_of h) (begins v.mark at) v.text
       (Some p)
-      × QualifiedTypeIsChosen (rows_of h) (naming_of h) (context_of h) (begins w.mark at) v.text
+      × QualifiedTypeIsChosen (rows_of h) (mapping_of h) (context_of h) (begins w.mark at) v.text
       w.text (Some c)
       × (new ≡ both old (qualified p c (tells v.mark at) (tells w.mark at)))

@@ -5,12 +5,12 @@ ghost use Rattle.jr_ast.specs.View.{expr_of, exprs_of, type_of};
 ghost use Rattle.jr_table.specs.TypeView.{class_key_of};
 ghost use Rattle.jr_table.specs.Binding.{IsClassName, HaveTypes, left};
 ghost use Rattle.jr_bind_expr.specs.Fits.{FitsExp};
-ghost use Rattle.jr_images.specs.Spelling as spells;
+ghost use Rattle.jr_new_words.specs.Spelled as spells;
 ghost use Rattle.jr_new_words.specs.ChoiceView.{choice_of};
 ghost use Rattle.jr_new_words.specs.Chosen.{unmarked};
 ghost use Rattle.jr_new_words.specs.Chosen as chosen;
 ghost use Rattle.jr_new_bodies.specs.Known as pure;
-ghost use Rattle.jr_new_bodies.specs.Known.{rows_of, naming_of, context_of, IsKnown, IsValueOf};
+ghost use Rattle.jr_new_bodies.specs.Known.{rows_of, mapping_of, context_of, IsKnown, IsValueOf};
 ghost use Rattle.jr_new_bodies.specs.Known.{ExpReady, SoundExp, RefersExp, TypesRow};
 ghost use Rattle.jr_new_bodies.specs.Known.{TypesCreation};
 
@@ -19,8 +19,8 @@ use crate::here::Here;
 use crate::meanings::{Before, before_dot, types, value_at};
 use jr_ast::{Expr, Name, Path, TypeRef};
 use jr_new_words::{
-    Choice, call, creation, qualified_type, qualifier, simple_call, simple_type, static_call,
-    super_call, super_ctor,
+    Choice, call, class_type_to, creation, qualified_type, qualifier, simple_call, simple_type,
+    static_call, super_call, super_ctor, types_to,
 };
 use jr_table::{ClassKey, Tys, lookups_are_exact, types_are_exact};
 use jr_text::Mark;
@@ -41,7 +41,7 @@ pub(crate) fn simple_call_choice<A: Mark>(
     requires bound { pure.CallIsBound (λ m b. (A.span_from m b).from) (rows_of here.now)
         (context_of here.now) no_target name.now (exprs_of args.now) }
     ensures { IfOk result (λ h. spells.SimpleCallSpells (λ m b. (A.span_from m b).from)
-        (rows_of here.now) (naming_of here.now) (context_of here.now) at name.now
+        (rows_of here.now) (mapping_of here.now) (context_of here.now) at name.now
         (exprs_of args.now) (choice_of h)) }
 {
     lookups_are_exact();
@@ -49,7 +49,8 @@ pub(crate) fn simple_call_choice<A: Mark>(
     here.scopes.programs.before.keeps_rows();
     let types = types(alloc, here, path, 1, args)?;
     let types = types.unwrap();
-    let choice = simple_call(alloc, &here.scopes, at, name, &types)?;
+    let images = types_to(alloc, &here.scopes.programs.keys, &types)?;
+    let choice = simple_call(alloc, &here.scopes, at, name, &types, &images)?;
     Ok(choice.unwrap())
 }
 
@@ -72,14 +73,16 @@ fn value_call<A: Mark>(
     requires bound { pure.CallIsBound (λ m b. (A.span_from m b).from) (rows_of here.now)
         (context_of here.now) (on (expr_of part.now)) name.now (exprs_of args.now) }
     ensures { IfOk result (λ h. spells.CallSpells (λ m b. (A.span_from m b).from)
-        (rows_of here.now) (naming_of here.now) (context_of here.now) at (expr_of part.now)
+        (rows_of here.now) (mapping_of here.now) (context_of here.now) at (expr_of part.now)
         name.now (exprs_of args.now) (choice_of h)) }
 {
     lookups_are_exact();
     types_are_exact::<A>();
     here.scopes.programs.before.keeps_rows();
     let _count = args.len();
-    let choice = call(alloc, &here.scopes, at, class, name, types)?;
+    let images = types_to(alloc, &here.scopes.programs.keys, types)?;
+    let now = class_type_to(&here.scopes.programs.keys, class)?;
+    let choice = call(alloc, &here.scopes, at, class, &now, name, types, &images)?;
     Ok(choice.unwrap())
 }
 
@@ -108,7 +111,7 @@ fn class_call<A: Mark>(
     requires bound { pure.CallIsBound (λ m b. (A.span_from m b).from) (rows_of here.now)
         (context_of here.now) (on (expr_of part.now)) name.now (exprs_of args.now) }
     ensures { IfOk result (λ h. spells.CallSpells (λ m b. (A.span_from m b).from)
-        (rows_of here.now) (naming_of here.now) (context_of here.now) at (expr_of part.now)
+        (rows_of here.now) (mapping_of here.now) (context_of here.now) at (expr_of part.now)
         name.now (exprs_of args.now) (choice_of h)) }
 {
     lookups_are_exact();
@@ -116,7 +119,8 @@ fn class_call<A: Mark>(
     here.scopes.programs.before.keeps_rows();
     let _count = args.len();
     let words = words_stand(here, base, part, class)?;
-    let choice = static_call(alloc, &here.scopes, at, words, class, name, types)?;
+    let images = types_to(alloc, &here.scopes.programs.keys, types)?;
+    let choice = static_call(alloc, &here.scopes, at, words, class, name, types, &images)?;
     Ok(choice.unwrap())
 }
 
@@ -140,7 +144,7 @@ fn typed_call<A: Mark>(
     requires bound { pure.CallIsBound (λ m b. (A.span_from m b).from) (rows_of here.now)
         (context_of here.now) (on (expr_of part.now)) name.now (exprs_of args.now) }
     ensures { IfOk result (λ h. spells.CallSpells (λ m b. (A.span_from m b).from)
-        (rows_of here.now) (naming_of here.now) (context_of here.now) at (expr_of part.now)
+        (rows_of here.now) (mapping_of here.now) (context_of here.now) at (expr_of part.now)
         name.now (exprs_of args.now) (choice_of h)) }
 {
     lookups_are_exact();
@@ -174,7 +178,7 @@ pub(crate) fn call_choice<A: Mark>(
     requires bound { pure.CallIsBound (λ m b. (A.span_from m b).from) (rows_of here.now)
         (context_of here.now) (on (expr_of part.now)) name.now (exprs_of args.now) }
     ensures { IfOk result (λ h. spells.CallSpells (λ m b. (A.span_from m b).from)
-        (rows_of here.now) (naming_of here.now) (context_of here.now) at (expr_of part.now)
+        (rows_of here.now) (mapping_of here.now) (context_of here.now) at (expr_of part.now)
         name.now (exprs_of args.now) (choice_of h)) }
 {
     lookups_are_exact();
@@ -200,7 +204,7 @@ pub(crate) fn super_call_choice<A: Mark>(
     requires bound { pure.SuperCallIsBound (λ m b. (A.span_from m b).from) (rows_of here.now)
         (context_of here.now) name.now (exprs_of args.now) }
     ensures { IfOk result (λ h. spells.SuperCallSpells (λ m b. (A.span_from m b).from)
-        (rows_of here.now) (naming_of here.now) (context_of here.now) at name.now
+        (rows_of here.now) (mapping_of here.now) (context_of here.now) at name.now
         (exprs_of args.now) (choice_of h)) }
 {
     lookups_are_exact();
@@ -208,7 +212,8 @@ pub(crate) fn super_call_choice<A: Mark>(
     here.scopes.programs.before.keeps_rows();
     let types = types(alloc, here, path, 1, args)?;
     let types = types.unwrap();
-    let choice = super_call(alloc, &here.scopes, at, name, &types)?;
+    let images = types_to(alloc, &here.scopes.programs.keys, &types)?;
+    let choice = super_call(alloc, &here.scopes, at, name, &types, &images)?;
     Ok(choice.unwrap())
 }
 
@@ -230,7 +235,7 @@ fn typed_creation<A: Mark>(
     requires bound { pure.CreationIsBound (λ m b. (A.span_from m b).from) (rows_of here.now)
         (context_of here.now) (type_of ty.now) (exprs_of args.now) }
     ensures { IfOk result (λ h. pure.Creates (λ m b. (A.span_from m b).from) (rows_of here.now)
-        (naming_of here.now) (context_of here.now) at (type_of ty.now) (exprs_of args.now)
+        (mapping_of here.now) (context_of here.now) at (type_of ty.now) (exprs_of args.now)
         (choice_of h)) }
 {
     lookups_are_exact();
@@ -241,7 +246,8 @@ fn typed_creation<A: Mark>(
     match value_at(here, path) {
         Before::Class(_) => unreachable!(),
         Before::Value(class) => {
-            let choice = creation(alloc, &here.scopes, at, class, types)?;
+            let images = types_to(alloc, &here.scopes.programs.keys, types)?;
+            let choice = creation(alloc, &here.scopes, at, class, types, &images)?;
             Ok(choice.unwrap())
         }
         Before::Neither => unreachable!(),
@@ -265,7 +271,7 @@ pub(crate) fn creation_choice<A: Mark>(
     requires bound { pure.CreationIsBound (λ m b. (A.span_from m b).from) (rows_of here.now)
         (context_of here.now) (type_of ty.now) (exprs_of args.now) }
     ensures { IfOk result (λ h. pure.Creates (λ m b. (A.span_from m b).from) (rows_of here.now)
-        (naming_of here.now) (context_of here.now) at (type_of ty.now) (exprs_of args.now)
+        (mapping_of here.now) (context_of here.now) at (type_of ty.now) (exprs_of args.now)
         (choice_of h)) }
 {
     lookups_are_exact();
@@ -291,7 +297,7 @@ pub fn super_ctor_choice<A: Mark>(
     requires bound { pure.SuperCtorIsBound (rows_of here.now) (context_of here.now)
         (exprs_of args.now) }
     ensures { IfOk result (λ h. spells.SuperCtorSpells (λ m b. (A.span_from m b).from)
-        (rows_of here.now) (naming_of here.now) at (context_of here.now) (exprs_of args.now)
+        (rows_of here.now) (mapping_of here.now) at (context_of here.now) (exprs_of args.now)
         (choice_of h)) }
 {
     lookups_are_exact();
@@ -299,7 +305,8 @@ pub fn super_ctor_choice<A: Mark>(
     here.scopes.programs.before.keeps_rows();
     let types = types(alloc, here, path, first, args)?;
     let types = types.unwrap();
-    let choice = super_ctor(alloc, &here.scopes, at, &types)?;
+    let images = types_to(alloc, &here.scopes.programs.keys, &types)?;
+    let choice = super_ctor(alloc, &here.scopes, at, &types, &images)?;
     Ok(choice.unwrap())
 }
 
@@ -312,7 +319,7 @@ pub(crate) fn type_choice(
 ) -> Result<Choice, AllocError>
     requires known { IsKnown here.now }
     requires bound { pure.TypeNameIsBound (rows_of here.now) (context_of here.now) name.now }
-    ensures { IfOk result (λ h. chosen.TypeIsChosen (rows_of here.now) (naming_of here.now)
+    ensures { IfOk result (λ h. chosen.TypeIsChosen (rows_of here.now) (mapping_of here.now)
         (context_of here.now) at name.now (pure.just (choice_of h))) }
 {
     lookups_are_exact();
@@ -330,7 +337,7 @@ pub(crate) fn qualifier_choice(
 ) -> Result<Choice, AllocError>
     requires known { IsKnown here.now }
     requires bound { pure.TypeNameIsBound (rows_of here.now) (context_of here.now) name.now }
-    ensures { IfOk result (λ h. chosen.QualifierIsChosen (rows_of here.now) (naming_of here.now)
+    ensures { IfOk result (λ h. chosen.QualifierIsChosen (rows_of here.now) (mapping_of here.now)
         (context_of here.now) at name.now (pure.just (choice_of h))) }
 {
     lookups_are_exact();
@@ -352,7 +359,7 @@ pub(crate) fn inner_type_choice(
     requires bound { pure.InnerNameIsBound (rows_of here.now) (context_of here.now) outer.now
         name.now }
     ensures { IfOk result (λ h. chosen.QualifiedTypeIsChosen (rows_of here.now)
-        (naming_of here.now) (context_of here.now) at outer.now name.now
+        (mapping_of here.now) (context_of here.now) at outer.now name.now
         (pure.just (choice_of h))) }
 {
     lookups_are_exact();

@@ -4,21 +4,21 @@ ghost use Rattle.jr_ast.specs.View.{expr_of};
 ghost use Rattle.jr_table.specs.TypeView.{class_key_of};
 ghost use Rattle.jr_table.specs.Binding.{IsClassName, left};
 ghost use Rattle.jr_bind_expr.specs.Fits.{FitsExp};
-ghost use Rattle.jr_images.specs.Spelling as spells;
-ghost use Rattle.jr_images.specs.Words.{WordsStand};
+ghost use Rattle.jr_new_words.specs.Spelled as spells;
+ghost use Rattle.jr_new_words.specs.Spelled.{WordsStand};
 ghost use Rattle.jr_new_words.specs.ChoiceView.{choice_of};
 ghost use Rattle.jr_new_words.specs.FrontView.{in_front_of};
 ghost use Rattle.jr_new_words.specs.Chosen.{VariableIsChosen, unmarked};
 ghost use Rattle.jr_new_bodies.specs.Known as pure;
-ghost use Rattle.jr_new_bodies.specs.Known.{rows_of, naming_of, context_of, role_of, IsKnown};
+ghost use Rattle.jr_new_bodies.specs.Known.{rows_of, mapping_of, context_of, role_of, IsKnown};
 ghost use Rattle.jr_new_bodies.specs.Known.{ExpReady, SoundExp, RefersExp};
 
 use crate::here::{Here, Role};
 use crate::meanings::{Before, before_dot, front, named_class};
 use jr_ast::{Expr, Name, Path};
 use jr_new_words::{
-    Choice, InFront, field, first_word, left_class, member_class, next_word, static_field,
-    super_field, variable,
+    Choice, InFront, class_type_to, field, first_word, left_class, member_class, next_word,
+    static_field, super_field, variable,
 };
 use jr_table::{ClassKey, lookups_are_exact, types_are_exact};
 use jr_text::{Mark, Span};
@@ -35,9 +35,9 @@ fn class_choice(
     requires known { IsKnown here.now }
     requires bound { pure.NameIsBound (rows_of here.now) (context_of here.now)
         (role_of role) name.now }
-    requires none { VariableIsChosen (rows_of here.now) (naming_of here.now)
+    requires none { VariableIsChosen (rows_of here.now) (mapping_of here.now)
         (context_of here.now) at name.now None }
-    ensures { IfOk result (λ h. pure.NameSpells (rows_of here.now) (naming_of here.now)
+    ensures { IfOk result (λ h. pure.NameSpells (rows_of here.now) (mapping_of here.now)
         (context_of here.now) (role_of role) at name.now (choice_of h)) }
 {
     lookups_are_exact();
@@ -63,7 +63,7 @@ pub(crate) fn name_choice(
     requires known { IsKnown here.now }
     requires bound { pure.NameIsBound (rows_of here.now) (context_of here.now)
         (role_of role) name.now }
-    ensures { IfOk result (λ h. pure.NameSpells (rows_of here.now) (naming_of here.now)
+    ensures { IfOk result (λ h. pure.NameSpells (rows_of here.now) (mapping_of here.now)
         (context_of here.now) (role_of role) at name.now (choice_of h)) }
 {
     let found = variable(alloc, &here.scopes, at, name)?;
@@ -88,7 +88,7 @@ pub(crate) fn words_stand<'a, A: Mark>(
         left base (expr_of of.now) }
     requires class { IsClassName (rows_of here.now) (context_of here.now) (expr_of of.now)
         (class_key_of class.now) }
-    ensures { IfOk result (λ w. WordsStand (rows_of here.now) (naming_of here.now)
+    ensures { IfOk result (λ w. WordsStand (rows_of here.now) (mapping_of here.now)
         (context_of here.now) (expr_of of.now) (class_key_of class.now) (in_front_of w)) }
 {
     lookups_are_exact();
@@ -129,7 +129,7 @@ fn through_class<A: Mark>(
     requires bound { pure.DottedIsBound (λ m b. (A.span_from m b).from) (rows_of here.now)
         (context_of here.now) (role_of role) (expr_of part.now) name.now }
     ensures { IfOk result (λ h. pure.DottedSpells (λ m b. (A.span_from m b).from)
-        (rows_of here.now) (naming_of here.now) (context_of here.now) (role_of role) at
+        (rows_of here.now) (mapping_of here.now) (context_of here.now) (role_of role) at
         (expr_of part.now) name.now (choice_of h)) }
 {
     lookups_are_exact();
@@ -156,14 +156,14 @@ fn inner_choice<A: Mark>(
     requires known { IsKnown here.now }
     requires class { IsClassName (rows_of here.now) (context_of here.now) (expr_of part.now)
         (class_key_of class.now) }
-    requires words { WordsStand (rows_of here.now) (naming_of here.now) (context_of here.now)
+    requires words { WordsStand (rows_of here.now) (mapping_of here.now) (context_of here.now)
         (expr_of part.now) (class_key_of class.now) (in_front_of words.now) }
     requires bound { pure.DottedIsBound (λ m b. (A.span_from m b).from) (rows_of here.now)
         (context_of here.now) (role_of role) (expr_of part.now) name.now }
     requires none { pure.NoField (rows_of here.now) (context_of here.now)
         (class_key_of class.now) name.now }
     ensures { IfOk result (λ h. pure.DottedSpells (λ m b. (A.span_from m b).from)
-        (rows_of here.now) (naming_of here.now) (context_of here.now) (role_of role) at
+        (rows_of here.now) (mapping_of here.now) (context_of here.now) (role_of role) at
         (expr_of part.now) name.now (choice_of h)) }
 {
     lookups_are_exact();
@@ -195,12 +195,13 @@ fn on_value<A: Mark>(
     requires bound { pure.DottedIsBound (λ m b. (A.span_from m b).from) (rows_of here.now)
         (context_of here.now) (role_of role) (expr_of part.now) name.now }
     ensures { IfOk result (λ h. pure.DottedSpells (λ m b. (A.span_from m b).from)
-        (rows_of here.now) (naming_of here.now) (context_of here.now) (role_of role) at
+        (rows_of here.now) (mapping_of here.now) (context_of here.now) (role_of role) at
         (expr_of part.now) name.now (choice_of h)) }
 {
     lookups_are_exact();
     here.scopes.programs.before.keeps_rows();
-    let choice = field(alloc, &here.scopes, at, class, name)?;
+    let now = class_type_to(&here.scopes.programs.keys, class)?;
+    let choice = field(alloc, &here.scopes, at, class, &now, name)?;
     Ok(choice.unwrap())
 }
 
@@ -221,7 +222,7 @@ pub(crate) fn dotted_choice<A: Mark>(
     requires bound { pure.DottedIsBound (λ m b. (A.span_from m b).from) (rows_of here.now)
         (context_of here.now) (role_of role) (expr_of part.now) name.now }
     ensures { IfOk result (λ h. pure.DottedSpells (λ m b. (A.span_from m b).from)
-        (rows_of here.now) (naming_of here.now) (context_of here.now) (role_of role) at
+        (rows_of here.now) (mapping_of here.now) (context_of here.now) (role_of role) at
         (expr_of part.now) name.now (choice_of h)) }
 {
     lookups_are_exact();
@@ -244,7 +245,7 @@ pub(crate) fn super_field_choice(
     requires bound { pure.SuperFieldIsBound (rows_of here.now) (context_of here.now)
         name.now }
     ensures { IfOk result (λ h. spells.SuperFieldSpells unmarked (rows_of here.now)
-        (naming_of here.now) (context_of here.now) at name.now (choice_of h)) }
+        (mapping_of here.now) (context_of here.now) at name.now (choice_of h)) }
 {
     lookups_are_exact();
     types_are_exact::<Span>();

@@ -1,4 +1,4 @@
-//! What a rename makes of a body: one walk over its expressions and statements that gathers the
+//! What becomes of a body: one walk over its expressions and statements that gathers the
 //! changes of the text, how many references are respelled, and those that are lost. It binds
 //! nothing again, and knows no members.
 //!

@@ -41,7 +41,7 @@ pub(crate) fn local_word<A: Mark>(
     let word = name.mark.span(at);
     let choice = local_choice(
         alloc,
-        here.scopes.programs.name,
+        &here.scopes.programs.keys,
         here.scopes.member,
         number,
         &name.name,

@@ -4,7 +4,8 @@ ghost use Rattle.jr_ast.specs.View.{word_of, type_of};
 ghost use Rattle.jr_table.specs.Context.{in_own, local_of, local_type, outer_text};
 ghost use Rattle.jr_scopes.specs.Helds.{held_of};
 ghost use Rattle.jr_scopes.specs.Helds.{type_of as held_type_of};
-ghost use Rattle.jr_new_bodies.specs.Known.{context_of, IsKnown};
+ghost use Rattle.jr_new_words.specs.Scopes.{IsDeep};
+ghost use Rattle.jr_new_bodies.specs.Known.{context_of, mapping_of, IsKnown};
 ghost use Rattle.jr_new_bodies.specs.Moves as pure;
 ghost use Rattle.jr_new_bodies.specs.Moves.{Goes};
 
@@ -100,6 +101,7 @@ pub(crate) fn cut_back(
     own: Option<u32>,
 ) -> Result<(), AllocError>
     requires known { IsKnown here.old }
+    requires deep { IsDeep (mapping_of here.old).locals depth }
     ensures { IfOk result (λ _. Goes here.old here.new
         (pure.cut depth own (context_of here.old))) }
 {

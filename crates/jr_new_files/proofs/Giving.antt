@@ -18,11 +18,11 @@ use Rattle.jr_bind_expr.proofs.Steps.{left_is}
 use Rattle.jr_rewrite.specs.Respellings.{Choice, stays, becomes, loses}
 use Rattle.jr_rewrite.specs.Rewritten.{Rewritten, within, joined}
 use Rattle.jr_rewrite.specs.Rewrites.{declared_by, DeclaredOut, RewritesType, RewritesParams, RewritesHead, with_losses}
-use Rattle.jr_images.specs.Images.{Renaming}
+use Rattle.jr_new_words.specs.Mappings.{Mapping}
 use Rattle.jr_new_bodies.specs.Effects.{Effect, both, effect_of, Gathers}
 use Rattle.jr_new_bodies.specs.OutputView.{lost}
 use Rattle.jr_new_bodies.proofs.Joining.{gathers_none, gathers_within, both_assoc, both_none}
-use Rattle.jr_images.specs.Spelling.{SuperCtorSpells, spelling}
+use Rattle.jr_new_words.specs.Spelled.{SuperCtorSpells, spelling}
 use Rattle.jr_new_files.specs.Files.{PartGives}
 use Rattle.jr_program_laws.specs.FileParts.{begins}
 use Rattle.jr_new_bodies.specs.declared.here.Here as raw_here
@@ -37,7 +37,7 @@ use Rattle.jr_new_files.specs.PartEffects.{choosing, WordGathers, TypeGathers, R
 pub chain : (a m c p q : Effect) → m ≡ both a p → c ≡ both m q → c ≡ both a (both p q)
 chain a m c p q e f = f ∙ ap (λ x. both x q) e ∙ both_assoc a p q
 
-module _ (rows : List Row) (g : Renaming) where
+module _ (rows : List Row) (g : Mapping) where
   pub result_none : (k : MemberKey) (at : ℕ) (e : Effect) → ResultGathers rows g k at None e e
   result_none k at e = λ s. gathers_none None e
 
@@ -135,7 +135,7 @@ module _ (rows : List Row) (g : Renaming) where
 
 module _ (h : raw_here.Here) (n : ℕ) (args : tree.Exps Span) where
   -- whatever is found by another place, unless it is lost
-  pub not_lost : (c : Choice) (e : Effect) → is_lost c ≡ false → SuperCtorSpells begins (here.rows_of h) (here.naming_of h) 0 (here.context_of h) args c → CallGathers h n args e e
+  pub not_lost : (c : Choice) (e : Effect) → is_lost c ≡ false → SuperCtorSpells begins (here.rows_of h) (here.mapping_of h) 0 (here.context_of h) args c → CallGathers h n args e e
   not_lost (loses l) e kept spells = absurd cc
   not_lost stays e kept (q, ts, finds, have, inl taken) = (stays, (q, ts, finds, have, inl taken), sym (both_none e))
   not_lost stays e kept (q, ts, finds, have, inr (none, (f, found, is))) = absurd cc
@@ -146,13 +146,13 @@ module _ (h : raw_here.Here) (n : ℕ) (args : tree.Exps Span) where
   super_gives at old mid new (c, spells, is) row = λ s stands.
       let q = row s in (
         with_losses itself (gathers.choosing itself h s) c (within (λ (xs : tree.Exps Span). Some xs) q.0),
-        (c, q.0, subst (λ (i : ℕ). SuperCtorSpells begins (here.rows_of h) (here.naming_of h) i (here.context_of h) args c) (sym stands) spells, q.1, refl),
+        (c, q.0, subst (λ (i : ℕ). SuperCtorSpells begins (here.rows_of h) (here.mapping_of h) i (here.context_of h) args c) (sym stands) spells, q.1, refl),
         chain old mid new (lost c) (effect_of q.0) is q.2,
       )
 
 -- ---- a whole part
 
-pub parts_add : (p : Program Span) (g : Renaming) (k : MemberKey) (base : ℕ) (part : Part Span) (old new : Effect) → PartGathers p p.rows g k base part old new
+pub parts_add : (p : Program Span) (g : Mapping) (k : MemberKey) (base : ℕ) (part : Part Span) (old new : Effect) → PartGathers p p.rows g k base part old new
     → (e : Effect) × PartGives itself (spelling begins p.rows g (λ (c : Context). p.super_at c.member)) k base part e × (new ≡ both old e)
 parts_add p g k base (class_part c) old new x =
     let o = x (λ (c : Context). p.super_at c.member) in (effect_of o.0, (o.0, o.1, refl), o.2)

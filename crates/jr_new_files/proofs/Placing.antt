@@ -18,8 +18,8 @@ use Rattle.jr_table.specs.Binding.{value}
 use Rattle.jr_scopes.specs.Helds.{Held, local_of, key_of}
 use Rattle.jr_bind.specs.Bounds.{Bound}
 use Rattle.jr_rewrite.specs.Rewrites.{RewritesType, RewritesMaybe, RewritesStmts, RewritesSuper}
-use Rattle.jr_images.specs.Images.{Renaming}
-use Rattle.jr_images.specs.Spelling.{spelling}
+use Rattle.jr_new_words.specs.Mappings.{Mapping}
+use Rattle.jr_new_words.specs.Spelled.{spelling}
 use Rattle.jr_new_bodies.specs.Effects.{Effect, Gathers}
 use Rattle.jr_new_words.specs.declared.scopes.Scopes as raw_scopes
 use Rattle.jr_new_words.specs.Scopes.{context_of, locals_in, member_of, AreBeside}
@@ -31,7 +31,7 @@ use Rattle.jr_new_bodies.specs.Ready.{ExpReadyIn, StmtsReadyIn, MaybeReady, Stmt
 use Rattle.jr_new_bodies.specs.Bodies.{MaybeGathers, StmtsGather}
 use Rattle.jr_new_files.specs.declared.beginnings.Walked as raw
 use Rattle.jr_grammar.specs.Layout.{itself}
-use Rattle.jr_new_files.specs.Walking.{key_of as key_in, rows_of, naming_of, CanWalk, Begins, held_param, held_params}
+use Rattle.jr_new_files.specs.Walking.{key_of as key_in, rows_of, mapping_of, CanWalk, Begins, held_param, held_params}
 use Rattle.jr_new_files.specs.Ready.{Anywhere, TypeReady, InitReady, BodyReady, SuperReady}
 use Rattle.jr_new_files.specs.PartEffects.{TypeGathers, InitGathers, BodyGathers, SuperGathers}
 use Rattle.jr_new_files.specs.Supers.{WrittenReady, WrittenGathers}
@@ -44,14 +44,14 @@ module _ (w : raw.Walked) (h : raw_here.Here) (c : Context) (at_place : Begins w
       (subst (λ b. P (here.rows_of h) b w.from c) (sym at_place.bound) (subst (λ r. P r w.bound.now w.from c) (sym at_place.rows) x)))
 
   -- and back, of the rows and the renaming alone
-  pub back : (P : List Row → Renaming → Context → Type 0) → P (here.rows_of h) (here.naming_of h) (here.context_of h) → P (rows_of w) (naming_of w) c
+  pub back : (P : List Row → Mapping → Context → Type 0) → P (here.rows_of h) (here.mapping_of h) (here.context_of h) → P (rows_of w) (mapping_of w) c
   back P x =
-      subst (λ r. P r (naming_of w) c) at_place.rows (subst (λ g. P (here.rows_of h) g c) at_place.naming (subst (λ d. P (here.rows_of h) (here.naming_of h) d) at_place.context x))
+      subst (λ r. P r (mapping_of w) c) at_place.rows (subst (λ g. P (here.rows_of h) g c) at_place.mapping (subst (λ d. P (here.rows_of h) (here.mapping_of h) d) at_place.context x))
 
   pub type_there : (at : ℕ) (t : tree.TypeName Span) → TypeReady (rows_of w) c at t → here.TypeIsBound begins (here.rows_of h) (here.context_of h) at t
   type_there at t ready = there (λ r b n d. here.TypeIsBound begins r d at t) ready.1
 
-  pub type_back : (at : ℕ) (t : tree.TypeName Span) (old new : Effect) → gathers.TypeGathers itself h at t old new → TypeGathers (rows_of w) (naming_of w) c at t old new
+  pub type_back : (at : ℕ) (t : tree.TypeName Span) (old new : Effect) → gathers.TypeGathers itself h at t old new → TypeGathers (rows_of w) (mapping_of w) c at t old new
   type_back at t old new x = λ s. back (λ r g d. Gathers (RewritesType itself (spelling begins r g s) d at t) old new) (x s)
 
   pub init_there : (path : List ℕ) → path ≡ [] → (step at : ℕ) (e : Option (tree.Exp Span)) → InitReady (rows_of w) w.bound.now w.from c step at e → MaybeReady itself Anywhere h path step at e
@@ -59,7 +59,7 @@ module _ (w : raw.Walked) (h : raw_here.Here) (c : Context) (at_place : Begins w
   init_there path none step at (Some e) ready =
       subst (λ (p : List ℕ). MaybeReady itself Anywhere h p step at (Some e)) (sym none) (there (λ r b n d. ExpReadyIn itself Anywhere r b n d value (step ∷ []) at e) ready)
 
-  pub init_back : (at : ℕ) (e : Option (tree.Exp Span)) (old new : Effect) → MaybeGathers itself h at e old new → InitGathers (rows_of w) (naming_of w) c at e old new
+  pub init_back : (at : ℕ) (e : Option (tree.Exp Span)) (old new : Effect) → MaybeGathers itself h at e old new → InitGathers (rows_of w) (mapping_of w) c at e old new
   init_back at e old new x = λ s. back (λ r g d. Gathers (RewritesMaybe itself (spelling begins r g s) d at e) old new) (x s)
 
   pub body_there : (path : List ℕ) → path ≡ [] → (number first at : ℕ) (xs : statement.Stmts Span) → BodyReady (rows_of w) w.bound.now w.from c number first at xs
@@ -67,14 +67,14 @@ module _ (w : raw.Walked) (h : raw_here.Here) (c : Context) (at_place : Begins w
   body_there path none number first at xs ready =
       subst (λ (p : List ℕ). StmtsReady itself Anywhere h number p first at xs) (sym none) (there (λ r b n d. StmtsReadyIn itself Anywhere r b n number d [] first at xs) ready)
 
-  pub body_back : (number at : ℕ) (xs : statement.Stmts Span) (old new : Effect) → StmtsGather itself h number at xs old new → BodyGathers (rows_of w) (naming_of w) c number at xs old new
+  pub body_back : (number at : ℕ) (xs : statement.Stmts Span) (old new : Effect) → StmtsGather itself h number at xs old new → BodyGathers (rows_of w) (mapping_of w) c number at xs old new
   body_back number at xs old new x = λ s. back (λ r g d. Gathers (RewritesStmts itself (spelling begins r g s) number d at xs) old new) (x s)
 
   pub super_there : (path : List ℕ) → path ≡ [] → (first at : ℕ) (args : tree.Exps Span) → SuperReady (rows_of w) w.bound.now w.from c first at args → WrittenReady h path first at args
   super_there path none first at args ready =
       subst (λ (p : List ℕ). WrittenReady h p first at args) (sym none) (there (λ r b n d. SuperReady r b n d first at args) ready)
 
-  pub super_back : (n at : ℕ) (args : tree.Exps Span) (old new : Effect) → WrittenGathers h n at args old new → SuperGathers (rows_of w) (naming_of w) c n at args old new
+  pub super_back : (n at : ℕ) (args : tree.Exps Span) (old new : Effect) → WrittenGathers h n at args old new → SuperGathers (rows_of w) (mapping_of w) c n at args old new
   super_back n at args old new x = λ s is. back (λ r g d. Gathers (RewritesSuper itself (spelling begins r g s) d at (Some args)) old new) (x s (ap s at_place.context ∙ is))
 
 -- ---- a place where the member begins
@@ -130,10 +130,10 @@ module _ (whole : List Held) where
   goes_begin held none = ap (λ (xs : List Held). xs ++ whole) none
 
 pub stays_beside : (s : raw_scopes.Scopes) → AreBeside s s
-stays_beside s = record { rows = refl; naming = refl; member = refl; is_static = refl }
+stays_beside s = record { rows = refl; mapping = refl; member = refl; is_static = refl }
 
 pub then_beside : (s t u : raw_scopes.Scopes) → AreBeside s t → AreBeside t u → AreBeside s u
-then_beside s t u a b = record { rows = b.rows ∙ a.rows; naming = b.naming ∙ a.naming; member = b.member ∙ a.member; is_static = b.is_static ∙ a.is_static }
+then_beside s t u a b = record { rows = b.rows ∙ a.rows; mapping = b.mapping ∙ a.mapping; member = b.member ∙ a.member; is_static = b.is_static ∙ a.is_static }
 
 -- ---- numbers of parts
 

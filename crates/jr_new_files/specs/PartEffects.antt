@@ -30,14 +30,14 @@ use Rattle.jr_rewrite.specs.Rewrites.{
   RewritesHead,
   RewritesMember,
 }
-use Rattle.jr_images.specs.Images.{Renaming}
-use Rattle.jr_images.specs.Spelling.{spelling}
+use Rattle.jr_new_words.specs.Mappings.{Mapping}
+use Rattle.jr_new_words.specs.Spelled.{spelling}
 use Rattle.jr_new_words.specs.Chosen.{TopParentIsChosen}
 use Rattle.jr_new_bodies.specs.Effects.{Effect, both, Gathers}
 use Rattle.jr_new_bodies.specs.OutputView.{alone}
 use Rattle.jr_grammar.specs.Layout.{itself}
 
-module _ (rows : List Row) (g : Renaming) where
+module _ (rows : List Row) (g : Mapping) where
   abbrev pub choosing : (Context → ℕ) → Choosing Span
   choosing s = spelling begins rows g s
 
@@ -156,13 +156,13 @@ module _ (rows : List Row) (g : Renaming) where
       × BodyGathers (with_parameters k false ps) (length ps) at body b new
 
 -- a member, where written `super(..)` stand as the program says
-abbrev pub MemberGathers : Program Span → List Row → Renaming → MemberKey → (base : ℕ)
+abbrev pub MemberGathers : Program Span → List Row → Mapping → MemberKey → (base : ℕ)
     → syntax.Member Span → (old new : Effect) → Type 0
 MemberGathers p rows g k base x old new = Gathers (RewritesMember itself
     (spelling begins rows g (λ (c : Context). p.super_at c.member)) k base x) old new
 
 -- a part of a file
-abbrev pub PartGathers : Program Span → List Row → Renaming → MemberKey → (base : ℕ) → Part Span
+abbrev pub PartGathers : Program Span → List Row → Mapping → MemberKey → (base : ℕ) → Part Span
     → (old new : Effect) → Type 0
 PartGathers p rows g k base (class_part c) old new =
     HeadGathers rows g (class_of_member k) base c old new

@@ -6,13 +6,13 @@ use Rattle.jr_table.specs.Context.{Context}
 use Rattle.jr_program_laws.specs.FileParts.{begins}
 use Rattle.jr_rewrite.specs.Respellings.{Choice, stays, becomes, loses}
 use Rattle.jr_rewrite.specs.Rewrites.{RewritesSuper}
-use Rattle.jr_images.specs.Spelling.{SuperCtorSpells}
+use Rattle.jr_new_words.specs.Spelled.{SuperCtorSpells}
 use Rattle.jr_new_bodies.specs.Effects.{Effect, both, Gathers}
 use Rattle.jr_new_bodies.specs.OutputView.{lost}
 use Rattle.jr_new_bodies.specs.declared.here.Here as raw
 use Rattle.jr_new_bodies.specs.Known.{
   rows_of,
-  naming_of,
+  mapping_of,
   context_of,
   RowReady,
   TypesRow,
@@ -34,7 +34,7 @@ CallReady h path first args =
 
 abbrev pub CallGathers : raw.Here → (super_at : ℕ) → tree.Exps Span → (old new : Effect) → Type 0
 CallGathers h n args old new = (c : Choice)
-    × SuperCtorSpells begins (rows_of h) (naming_of h) n (context_of h) args c
+    × SuperCtorSpells begins (rows_of h) (mapping_of h) n (context_of h) args c
     × (new ≡ both old (lost c))
 
 -- with its arguments, in a member that begins at `at`

@@ -8,8 +8,9 @@ use Rattle.jr_table.specs.KeyView.{member_key_of}
 use Rattle.jr_table.specs.Rows.{Row}
 use Rattle.jr_table.specs.Context.{Context, known}
 use Rattle.jr_scopes.specs.Helds.{Held}
-use Rattle.jr_images.specs.Images.{Renaming}
-use Rattle.jr_new_words.specs.Scopes.{rows_in, renaming_in, AreImages}
+use Rattle.jr_new_words.specs.Mappings.{Mapping}
+use Rattle.jr_new_words.specs.MappingView.{mapping_in}
+use Rattle.jr_new_words.specs.Scopes.{AreTables}
 use Rattle.jr_new_bodies.specs.declared.here.Here as raw_here
 use Rattle.jr_new_bodies.specs.Known as here
 use Rattle.jr_new_files.specs.declared.beginnings.Walked as raw
@@ -18,20 +19,20 @@ abbrev pub key_of : raw.Walked → MemberKey
 key_of w = member_key_of w.key.now
 
 abbrev pub rows_of : raw.Walked → List Row
-rows_of w = rows_in w.programs
+rows_of w = w.programs.before.now
 
-abbrev pub naming_of : raw.Walked → Renaming
-naming_of w = renaming_in w.programs
+abbrev pub mapping_of : raw.Walked → Mapping
+mapping_of w = mapping_in w.programs
 
 abbrev pub CanWalk : raw.Walked → Type 0
-CanWalk w = AreImages w.programs
+CanWalk w = AreTables w.programs
 
 -- a place of the member, where this is known
 pub record Begins (w : raw.Walked) (h : raw_here.Here) (c : Context) : Type 0 where
   pub known : here.IsKnown h
   pub context : here.context_of h ≡ c
   pub rows : here.rows_of h ≡ rows_of w
-  pub naming : here.naming_of h ≡ naming_of w
+  pub mapping : here.mapping_of h ≡ mapping_of w
   pub bound : h.bound.now ≡ w.bound.now
   pub from_is : h.from ≡ w.from
 

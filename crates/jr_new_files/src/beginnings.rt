@@ -11,7 +11,7 @@ ghost use Rattle.jr_new_files.specs.Walking.{key_of, CanWalk, Begins, held_param
 use jr_ast::{Param, Path};
 use jr_bind::Bound;
 use jr_new_bodies::{Here, next};
-use jr_new_words::{Programs, Scopes};
+use jr_new_words::{Scopes, Tables};
 use jr_scopes::{Held, HeldType};
 use jr_table::{MemberKey, Ty};
 use jr_text::Span;
@@ -20,7 +20,7 @@ use std::alloc::{AllocError, Global};
 /// A member that is walked: its key, what binding knows of it, and its first byte.
 #[derive(Drop)]
 pub(crate) struct Walked<'a> {
-    pub programs: Programs<'a>,
+    pub programs: Tables<'a>,
     pub key: &'a MemberKey,
     pub bound: &'a Bound,
     pub from: u32,

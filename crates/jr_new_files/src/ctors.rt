@@ -6,7 +6,7 @@ ghost use Rattle.jr_table.specs.HeadRules.{plain, with_parameters};
 ghost use Rattle.jr_table.specs.Rows.{Row};
 ghost use Rattle.jr_table.specs.TypesAt.{count_super};
 ghost use Rattle.jr_new_bodies.specs.OutputView.{gathered};
-ghost use Rattle.jr_new_files.specs.Walking.{key_of, rows_of, naming_of, CanWalk};
+ghost use Rattle.jr_new_files.specs.Walking.{key_of, rows_of, mapping_of, CanWalk};
 ghost use Rattle.jr_new_files.specs.Ready as ready;
 ghost use Rattle.jr_new_files.specs.PartEffects as gives;
 
@@ -31,7 +31,7 @@ fn ctor_head(
     requires walked { CanWalk of.now }
     requires ready { ready.ParamsReady (rows_of of.now) (plain (key_of of.now) false)
         (map param_of params.now) }
-    ensures { IfOk result (λ _. (at : ℕ) → gives.CtorHeadGathers (rows_of of.now) (naming_of of.now)
+    ensures { IfOk result (λ _. (at : ℕ) → gives.CtorHeadGathers (rows_of of.now) (mapping_of of.now)
         (key_of of.now) at (word_of name.now) (map param_of params.now) (gathered out.old)
         (gathered out.new)) }
 {
@@ -58,7 +58,7 @@ fn super_part<'a, V: View<Span>>(
         (exprs_of args.now) }
     requires stands { ready.IsFirstSuper (V.program view.now) file span
         ((V.program view.now).super_at (key_of of.now)) }
-    ensures { IfOk result (λ _. gives.SuperGathers (rows_of of.now) (naming_of of.now)
+    ensures { IfOk result (λ _. gives.SuperGathers (rows_of of.now) (mapping_of of.now)
         (with_parameters (key_of of.now) true (map param_of params.now))
         ((V.program view.now).super_at (key_of of.now)) span.from (exprs_of args.now)
         (gathered out.old) (gathered out.new)) }
@@ -89,7 +89,7 @@ fn maybe_super<'a, V: View<Span>>(
         (args_of args.now) }
     requires stands { ready.IsMaybeSuper (V.program view.now) file span (args_of args.now)
         ((V.program view.now).super_at (key_of of.now)) }
-    ensures { IfOk result (λ _. gives.MaybeSuperGathers (rows_of of.now) (naming_of of.now)
+    ensures { IfOk result (λ _. gives.MaybeSuperGathers (rows_of of.now) (mapping_of of.now)
         (with_parameters (key_of of.now) true (map param_of params.now))
         ((V.program view.now).super_at (key_of of.now)) span.from (args_of args.now)
         (gathered out.old) (gathered out.new)) }
@@ -141,7 +141,7 @@ pub(crate) fn ctor<'a, V: View<Span>>(
         (stmts_of statements.now) }
     requires stands { ready.IsMaybeSuper (V.program view.now) file span (args_of args.now)
         ((V.program view.now).super_at (key_of of.now)) }
-    ensures { IfOk result (λ _. gives.CtorGathers (rows_of of.now) (naming_of of.now)
+    ensures { IfOk result (λ _. gives.CtorGathers (rows_of of.now) (mapping_of of.now)
         (key_of of.now) ((V.program view.now).super_at (key_of of.now)) span.from
         (word_of name.now) (map param_of params.now) (args_of args.now) (stmts_of statements.now)
         (gathered out.old) (gathered out.new)) }

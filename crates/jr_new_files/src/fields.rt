@@ -3,7 +3,7 @@ ghost use Rattle.std.specs.Prelude.{◌+◌, false, length, IfOk, map, option_ma
 ghost use Rattle.jr_ast.specs.View.{word_of, type_of, expr_of, modifier_of};
 ghost use Rattle.jr_table.specs.HeadRules.{plain};
 ghost use Rattle.jr_new_bodies.specs.OutputView.{gathered};
-ghost use Rattle.jr_new_files.specs.Walking.{key_of, rows_of, naming_of, CanWalk};
+ghost use Rattle.jr_new_files.specs.Walking.{key_of, rows_of, mapping_of, CanWalk};
 ghost use Rattle.jr_new_files.specs.Ready.{TypeReady, InitReady, FieldReady};
 ghost use Rattle.jr_new_files.specs.PartEffects.{TypeGathers, InitGathers, FieldGathers};
 
@@ -24,7 +24,7 @@ fn class_type(
 ) -> Result<(), AllocError>
     requires walked { CanWalk of.now }
     requires ready { TypeReady (rows_of of.now) (plain (key_of of.now) false) at (type_of ty.now) }
-    ensures { IfOk result (λ _. TypeGathers (rows_of of.now) (naming_of of.now)
+    ensures { IfOk result (λ _. TypeGathers (rows_of of.now) (mapping_of of.now)
         (plain (key_of of.now) false) at (type_of ty.now) (gathered out.old) (gathered out.new)) }
 {
     let here = plain_here(alloc, of, false)?;
@@ -44,7 +44,7 @@ pub(crate) fn declared_type(
 ) -> Result<(), AllocError>
     requires walked { CanWalk of.now }
     requires ready { TypeReady (rows_of of.now) (plain (key_of of.now) false) at (type_of ty.now) }
-    ensures { IfOk result (λ _. TypeGathers (rows_of of.now) (naming_of of.now)
+    ensures { IfOk result (λ _. TypeGathers (rows_of of.now) (mapping_of of.now)
         (plain (key_of of.now) false) at (type_of ty.now) (gathered out.old) (gathered out.new)) }
 {
     match &ty.kind {
@@ -67,7 +67,7 @@ fn written_initializer(
     requires walked { CanWalk of.now }
     requires ready { InitReady (rows_of of.now) of.now.bound.now of.now.from
         (plain (key_of of.now) is_static) step at (option_map expr_of init.now) }
-    ensures { IfOk result (λ _. InitGathers (rows_of of.now) (naming_of of.now)
+    ensures { IfOk result (λ _. InitGathers (rows_of of.now) (mapping_of of.now)
         (plain (key_of of.now) is_static) at (option_map expr_of init.now) (gathered out.old)
         (gathered out.new)) }
 {
@@ -91,7 +91,7 @@ fn initializer(
     requires walked { CanWalk of.now }
     requires ready { InitReady (rows_of of.now) of.now.bound.now of.now.from
         (plain (key_of of.now) is_static) step at (option_map expr_of init.now) }
-    ensures { IfOk result (λ _. InitGathers (rows_of of.now) (naming_of of.now)
+    ensures { IfOk result (λ _. InitGathers (rows_of of.now) (mapping_of of.now)
         (plain (key_of of.now) is_static) at (option_map expr_of init.now) (gathered out.old)
         (gathered out.new)) }
 {
@@ -115,7 +115,7 @@ pub(crate) fn field(
     requires walked { CanWalk of.now }
     requires ready { FieldReady (rows_of of.now) of.now.bound.now of.now.from (key_of of.now) at
         (map modifier_of modifiers.now) (type_of ty.now) (option_map expr_of init.now) }
-    ensures { IfOk result (λ _. FieldGathers (rows_of of.now) (naming_of of.now) (key_of of.now) at
+    ensures { IfOk result (λ _. FieldGathers (rows_of of.now) (mapping_of of.now) (key_of of.now) at
         (map modifier_of modifiers.now) (type_of ty.now) (word_of name.now)
         (option_map expr_of init.now) (gathered out.old) (gathered out.new)) }
 {

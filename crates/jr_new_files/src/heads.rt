@@ -5,7 +5,7 @@ ghost use Rattle.jr_table.specs.TypeView.{class_key_of};
 ghost use Rattle.jr_table.specs.KeyView.{member_key_of};
 ghost use Rattle.jr_table.specs.Entries as entries;
 ghost use Rattle.jr_new_bodies.specs.OutputView.{gathered};
-ghost use Rattle.jr_new_files.specs.Walking.{key_of, rows_of, naming_of, CanWalk};
+ghost use Rattle.jr_new_files.specs.Walking.{key_of, rows_of, mapping_of, CanWalk};
 ghost use Rattle.jr_new_files.specs.Ready as ready;
 ghost use Rattle.jr_new_files.specs.PartEffects as gives;
 
@@ -14,7 +14,7 @@ use crate::fields::declared_type;
 use crate::words::member_word;
 use jr_ast::{Class, Ident, Name, TypeKind, TypeRef};
 use jr_new_bodies::{Output, put_alone};
-use jr_new_words::{Programs, top_parent};
+use jr_new_words::{Tables, top_parent};
 use jr_table::{ClassKey, MemberKey};
 use jr_text::Span;
 use std::alloc::{AllocError, Global};
@@ -40,7 +40,7 @@ fn top_name(
 ) -> Result<(), AllocError>
     requires walked { CanWalk of.now }
     requires ready { ready.TopNameReady (rows_of of.now) name.now.name }
-    ensures { IfOk result (λ _. gives.TopNameGathers (rows_of of.now) (naming_of of.now)
+    ensures { IfOk result (λ _. gives.TopNameGathers (rows_of of.now) (mapping_of of.now)
         name.now.mark name.now.name (gathered out.old) (gathered out.new)) }
 {
     let choice = top_parent(alloc, &of.programs, name.mark.from, &name.name)?;
@@ -57,7 +57,7 @@ fn parent_of_top(
 ) -> Result<(), AllocError>
     requires walked { CanWalk of.now }
     requires ready { ready.TopReady (rows_of of.now) (type_of ty.now) }
-    ensures { IfOk result (λ _. gives.TopParentGathers (rows_of of.now) (naming_of of.now) at
+    ensures { IfOk result (λ _. gives.TopParentGathers (rows_of of.now) (mapping_of of.now) at
         (type_of ty.now) (gathered out.old) (gathered out.new)) }
 {
     match &ty.kind {
@@ -84,16 +84,16 @@ fn parent_of_inner(
 ) -> Result<(), AllocError>
     requires walked { CanWalk of.now }
     requires ready { ready.ParentReady (rows_of of.now) (Some outer.now) at (type_of ty.now) }
-    ensures { IfOk result (λ _. gives.ParentGathers (rows_of of.now) (naming_of of.now)
+    ensures { IfOk result (λ _. gives.ParentGathers (rows_of of.now) (mapping_of of.now)
         (Some outer.now) at (type_of ty.now) (gathered out.old) (gathered out.new)) }
 {
     let name = Name::new(alloc, outer.as_str())?;
     let key = MemberKey::Head(ClassKey { outer: None, name });
     let around = Walked {
-        programs: Programs {
+        programs: Tables {
             before: of.programs.before,
             after: of.programs.after,
-            name: of.programs.name,
+            keys: of.programs.keys,
         },
         key: &key,
         bound: of.bound,
@@ -117,7 +117,7 @@ fn parent(
     requires walked { CanWalk of.now }
     requires ready { ready.ParentReady (rows_of of.now) outer.now at
         (type_of ty.now) }
-    ensures { IfOk result (λ _. gives.ParentGathers (rows_of of.now) (naming_of of.now)
+    ensures { IfOk result (λ _. gives.ParentGathers (rows_of of.now) (mapping_of of.now)
         outer.now at (type_of ty.now) (gathered out.old)
         (gathered out.new)) }
 {
@@ -139,7 +139,7 @@ fn maybe_parent(
     requires walked { CanWalk of.now }
     requires ready { ready.MaybeParentReady (rows_of of.now) outer.now at
         (option_map type_of ty.now) }
-    ensures { IfOk result (λ _. gives.MaybeParentGathers (rows_of of.now) (naming_of of.now)
+    ensures { IfOk result (λ _. gives.MaybeParentGathers (rows_of of.now) (mapping_of of.now)
         outer.now at (option_map type_of ty.now) (gathered out.old)
         (gathered out.new)) }
 {
@@ -159,7 +159,7 @@ pub(crate) fn head(
 ) -> Result<(), AllocError>
     requires walked { CanWalk of.now }
     requires ready { ready.HeadReady (rows_of of.now) (key_of of.now) (class_of class.now) }
-    ensures { IfOk result (λ _. (base : ℕ) → gives.HeadGathers (rows_of of.now) (naming_of of.now)
+    ensures { IfOk result (λ _. (base : ℕ) → gives.HeadGathers (rows_of of.now) (mapping_of of.now)
         (entries.class_of_member (key_of of.now)) base (class_of class.now) (gathered out.old)
         (gathered out.new)) }
 {

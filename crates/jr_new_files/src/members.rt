@@ -2,7 +2,7 @@
 ghost use Rattle.std.specs.Prelude.{◌<◌, ℕ, length, IfOk};
 ghost use Rattle.jr_ast.specs.View.{member_of};
 ghost use Rattle.jr_new_bodies.specs.OutputView.{gathered};
-ghost use Rattle.jr_new_files.specs.Walking.{key_of, rows_of, naming_of, CanWalk};
+ghost use Rattle.jr_new_files.specs.Walking.{key_of, rows_of, mapping_of, CanWalk};
 ghost use Rattle.jr_new_files.specs.Ready.{MemberReady, HasSuperAt};
 ghost use Rattle.jr_new_files.specs.PartEffects.{MemberGathers};
 
@@ -32,7 +32,7 @@ pub(crate) fn member<'a, V: View<Span>>(
     requires stands { HasSuperAt (V.program view.now) file (member_of member.now)
         ((V.program view.now).super_at (key_of of.now)) }
     ensures { IfOk result (λ _. (base : ℕ) → MemberGathers (V.program view.now) (rows_of of.now)
-        (naming_of of.now) (key_of of.now) base (member_of member.now) (gathered out.old)
+        (mapping_of of.now) (key_of of.now) base (member_of member.now) (gathered out.old)
         (gathered out.new)) }
 {
     let span = member.mark;

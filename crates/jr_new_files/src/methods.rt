@@ -5,7 +5,7 @@ ghost use Rattle.jr_table.specs.HeadRules.{plain, with_parameters};
 ghost use Rattle.jr_table.specs.Rows.{Row};
 ghost use Rattle.jr_table.specs.TypesAt.{count_type};
 ghost use Rattle.jr_new_bodies.specs.OutputView.{gathered};
-ghost use Rattle.jr_new_files.specs.Walking.{key_of, rows_of, naming_of, CanWalk};
+ghost use Rattle.jr_new_files.specs.Walking.{key_of, rows_of, mapping_of, CanWalk};
 ghost use Rattle.jr_new_files.specs.Ready as ready;
 ghost use Rattle.jr_new_files.specs.PartEffects as gives;
 
@@ -28,7 +28,7 @@ fn result_type(
     requires walked { CanWalk of.now }
     requires ready { ready.ResultReady (rows_of of.now) (plain (key_of of.now) false) at
         (option_map type_of ty.now) }
-    ensures { IfOk result (λ _. gives.ResultGathers (rows_of of.now) (naming_of of.now)
+    ensures { IfOk result (λ _. gives.ResultGathers (rows_of of.now) (mapping_of of.now)
         (key_of of.now) at (option_map type_of ty.now) (gathered out.old) (gathered out.new)) }
 {
     match ty {
@@ -48,7 +48,7 @@ fn parameter(
     requires walked { CanWalk of.now }
     requires ready { ready.TypeReady (rows_of of.now) (plain (key_of of.now) false)
         (param_of param.now).mark.from (param_of param.now).type }
-    ensures { IfOk result (λ _. gives.ParamGathers (rows_of of.now) (naming_of of.now)
+    ensures { IfOk result (λ _. gives.ParamGathers (rows_of of.now) (mapping_of of.now)
         (key_of of.now) number (param_of param.now) (gathered out.old) (gathered out.new)) }
 {
     declared_type(alloc, of, param.mark.from, &param.ty, out)?;
@@ -65,7 +65,7 @@ pub(crate) fn parameters(
     requires walked { CanWalk of.now }
     requires ready { ready.ParamsReady (rows_of of.now) (plain (key_of of.now) false)
         (map param_of params.now) }
-    ensures { IfOk result (λ _. (at : ℕ) → gives.ParamsGather (rows_of of.now) (naming_of of.now)
+    ensures { IfOk result (λ _. (at : ℕ) → gives.ParamsGather (rows_of of.now) (mapping_of of.now)
         (key_of of.now) 0 at (map param_of params.now) (gathered out.old) (gathered out.new)) }
 {
     let mut number = 0;
@@ -91,7 +91,7 @@ fn method_head(
         (option_map type_of ret.now) }
     requires params { ready.ParamsReady (rows_of of.now) (plain (key_of of.now) false)
         (map param_of params.now) }
-    ensures { IfOk result (λ _. gives.MethodHeadGathers (rows_of of.now) (naming_of of.now)
+    ensures { IfOk result (λ _. gives.MethodHeadGathers (rows_of of.now) (mapping_of of.now)
         (key_of of.now) at (option_map type_of ret.now) (word_of name.now)
         (map param_of params.now) (gathered out.old) (gathered out.new)) }
 {
@@ -116,7 +116,7 @@ pub(crate) fn body<'a>(
     requires ready { ready.BodyReady (rows_of of.now) of.now.bound.now of.now.from
         (with_parameters (key_of of.now) is_static (map param_of params.now))
         (length (map param_of params.now)) first at (stmts_of statements.now) }
-    ensures { IfOk result (λ _. gives.BodyGathers (rows_of of.now) (naming_of of.now)
+    ensures { IfOk result (λ _. gives.BodyGathers (rows_of of.now) (mapping_of of.now)
         (with_parameters (key_of of.now) is_static (map param_of params.now))
         (length (map param_of params.now)) at (stmts_of statements.now) (gathered out.old)
         (gathered out.new)) }
@@ -173,7 +173,7 @@ pub(crate) fn method<'a>(
     requires ready { ready.MethodReady (rows_of of.now) of.now.bound.now of.now.from (key_of of.now)
         at (map modifier_of modifiers.now) (option_map type_of ret.now) (map param_of params.now)
         (stmts_of statements.now) }
-    ensures { IfOk result (λ _. gives.MethodGathers (rows_of of.now) (naming_of of.now)
+    ensures { IfOk result (λ _. gives.MethodGathers (rows_of of.now) (mapping_of of.now)
         (key_of of.now) at (map modifier_of modifiers.now) (option_map type_of ret.now)
         (word_of name.now) (map param_of params.now) (stmts_of statements.now) (gathered out.old)
         (gathered out.new)) }

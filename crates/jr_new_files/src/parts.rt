@@ -6,7 +6,7 @@ ghost use Rattle.jr_bind.specs.Programs.{units_of};
 ghost use Rattle.jr_program_laws.specs.FileParts.{begins};
 ghost use Rattle.jr_new_words.specs.Scopes.{rows_in, renaming_in, AreImages};
 ghost use Rattle.jr_new_bodies.specs.OutputView.{gathered};
-ghost use Rattle.jr_new_files.specs.Walking.{key_of, rows_of, naming_of, CanWalk};
+ghost use Rattle.jr_new_files.specs.Walking.{key_of, rows_of, mapping_of, CanWalk};
 ghost use Rattle.jr_new_files.specs.Ready as ready;
 ghost use Rattle.jr_new_files.specs.PartEffects as gives;
 ghost use Rattle.jr_new_files.specs.Parts.{PartAdds};
@@ -17,7 +17,7 @@ use crate::members::member;
 use jr_bind::{Bound, View};
 use jr_members::{PartRef, WrittenMember, members_are_written};
 use jr_new_bodies::Output;
-use jr_new_words::Programs;
+use jr_new_words::{Programs, tables_of};
 use jr_program::first_byte;
 use jr_program_laws::{declared_types_are_found, parts_are_placed};
 use jr_table::lookups_are_exact;
@@ -38,7 +38,7 @@ fn walk<'a, V: View<Span>>(
     requires ready { ready.PartReady (V.program view.now) file (rows_of of.now) of.now.bound.now
         of.now.from (key_of of.now) (part_of part.now) }
     ensures { IfOk result (λ _. (base : ℕ) → gives.PartGathers (V.program view.now) (rows_of of.now)
-        (naming_of of.now) (key_of of.now) base (part_of part.now) (gathered out.old)
+        (mapping_of of.now) (key_of of.now) base (part_of part.now) (gathered out.old)
         (gathered out.new)) }
 {
     match part {
@@ -73,11 +73,7 @@ pub(crate) fn part<V: View<Span>>(
     lookups_are_exact();
     declared_types_are_found::<Span>();
     let walked = Walked {
-        programs: Programs {
-            before: programs.before,
-            after: programs.after,
-            name: programs.name,
-        },
+        programs: tables_of(programs),
         key: &of.key,
         bound: view.bound(number),
         from: first_byte(&of.part),

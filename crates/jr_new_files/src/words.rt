@@ -6,7 +6,7 @@ ghost use Rattle.jr_table.specs.Entries as entries;
 ghost use Rattle.jr_table.specs.HeadRules.{is_static_member};
 ghost use Rattle.jr_rewrite.specs.Rewrites.{declared_by};
 ghost use Rattle.jr_new_bodies.specs.OutputView.{gathered};
-ghost use Rattle.jr_new_files.specs.Walking.{key_of, rows_of, naming_of};
+ghost use Rattle.jr_new_files.specs.Walking.{key_of, rows_of, mapping_of};
 ghost use Rattle.jr_new_files.specs.PartEffects.{WordGathers};
 
 use crate::beginnings::Walked;
@@ -46,10 +46,10 @@ pub(crate) fn member_word(
     name: &Ident<Span>,
     out: &mut Output,
 ) -> Result<(), AllocError>
-    ensures { IfOk result (λ _. WordGathers (rows_of of.now) (naming_of of.now)
+    ensures { IfOk result (λ _. WordGathers (rows_of of.now) (mapping_of of.now)
         (declared_by (key_of of.now)) (word_of name.now) (gathered out.old) (gathered out.new)) }
 {
-    let choice = member_choice(alloc, of.programs.name, of.key, &name.name)?;
+    let choice = member_choice(alloc, &of.programs.keys, of.key, &name.name)?;
     put_alone(alloc, name.mark, choice, out)
 }
 
@@ -61,10 +61,10 @@ pub(crate) fn param_word(
     name: &Ident<Span>,
     out: &mut Output,
 ) -> Result<(), AllocError>
-    ensures { IfOk result (λ _. WordGathers (rows_of of.now) (naming_of of.now)
+    ensures { IfOk result (λ _. WordGathers (rows_of of.now) (mapping_of of.now)
         (local_decl (record { member = key_of of.now; number = number })) (word_of name.now)
         (gathered out.old) (gathered out.new)) }
 {
-    let choice = local_choice(alloc, of.programs.name, of.key, number, &name.name)?;
+    let choice = local_choice(alloc, &of.programs.keys, of.key, number, &name.name)?;
     put_alone(alloc, name.mark, choice, out)
 }

@@ -1,19 +1,20 @@
 -- What is chosen by a way, as what is chosen of one kind of declaration.
 use Rattle.std.proofs.Common.{◌≡◌, ℕ, List, [], Some, None, true, false, sym, ap, subst, ◌∙◌, inl, inr}
-use Rattle.std.specs.Prelude.{Option}
+use Rattle.std.specs.Prelude.{Option, option_map}
 use Rattle.jr_table.specs.Keys.{ClassKey, Ty}
-use Rattle.jr_table.specs.Decls.{Decl, class_decl, field_decl, local_decl}
+use Rattle.jr_table.specs.Decls.{LocalKey, Decl, class_decl, field_decl, local_decl}
 use Rattle.jr_table.specs.Rows.{Row}
 use Rattle.jr_table.specs.Found.{Found, one}
 use Rattle.jr_table.specs.Lookup.{FindsVariable, FindsTypeNamed}
 use Rattle.jr_table.specs.Context.{Context, scope_of}
 use Rattle.jr_rewrite.specs.Respellings.{Choice}
-use Rattle.jr_images.specs.Images.{Renaming, class_to}
+use Rattle.jr_images.specs.Spelling.{OfImage}
+use Rattle.jr_new_words.specs.Mappings.{Mapping, class_to, local_to}
 use Rattle.jr_new_words.specs.Chosen.{ChoosesOf, VariableIsChosen, QualifiedTypeIsChosen}
-use Rattle.jr_new_words.specs.Ways.{Way, local, own_field, type_behind, leads_to, is_local, is_field, Finds, SpellsBy, IsChosenFor, IsChosenBy}
+use Rattle.jr_new_words.specs.Ways.{Way, local, own_field, type_behind, leads_to, is_local, is_field, Finds, OfDecl, SpellsTo, Gone, SpellsBy, IsChosenFor, IsChosenBy}
 use Rattle.jr_new_words.proofs.DeclKinds.{local_decls, field_decls}
 
-module _ (rows : List Row) (g : Renaming) (c : Context) (at : ℕ) (old : List ℕ) where
+module _ (rows : List Row) (g : Mapping) (c : Context) (at : ℕ) (old : List ℕ) where
   -- the one declaration that is found, and its choice
   pub found_by : (from to : Way) (types images : List Ty) → ((a b : Found) → Finds rows (scope_of c) from old types a → Finds rows (scope_of c) from old types b → a ≡ b)
       → (d : Decl) → Finds rows (scope_of c) from old types (one d) → (o : Option Choice)
@@ -59,12 +60,23 @@ module _ (rows : List Row) (g : Renaming) (c : Context) (at : ℕ) (old : List �
 
   -- ---- variables
 
+  -- with the local's image in place of the declaration's
+  of_local : (Kept : Decl → Type 0) (Lost : Type 0) (o : Option LocalKey) → OfDecl (option_map (λ (l : LocalKey). local_decl l) o) Kept Lost → OfImage o (λ i. Kept (local_decl i)) Lost
+  of_local Kept Lost (Some i) x = x
+  of_local Kept Lost None x = x
+
   module _ (each : (a b : Found) → FindsVariable rows (scope_of c) old a → FindsVariable rows (scope_of c) old b → a ≡ b)
       (d : Decl) (finds : FindsVariable rows (scope_of c) old (one d)) where
     pub a_local : is_local d ≡ true → (o : Option Choice) → IsChosenFor rows g c local [] at old d o → VariableIsChosen rows g c at old o
     a_local is (Some h) (kind, spells) =
         let k = local_decls d kind in
-        inl (k.0, (subst (λ d. FindsVariable rows (scope_of c) old (one d)) k.1 finds, subst (λ d. SpellsBy rows g c local [] at old d h) k.1 spells))
+        inl (
+          k.0,
+          (
+            subst (λ d. FindsVariable rows (scope_of c) old (one d)) k.1 finds,
+            of_local (λ i. SpellsTo rows g c i local [] at old (local_decl k.0) h) (Gone rows g c local [] at old (local_decl k.0) h) (local_to g k.0) (subst (λ d. SpellsBy rows g c local [] at old d h) k.1 spells),
+          ),
+        )
     a_local is None never = let f : true ≡ false = sym is ∙ never in absurd cc
 
     pub no_local : is_local d ≡ false → (o : Option Choice) → IsChosenFor rows g c own_field [] at old d o → VariableIsChosen rows g c at old o

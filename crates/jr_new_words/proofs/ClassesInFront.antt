@@ -9,16 +9,16 @@ use Rattle.jr_table.specs.Context.{Context}
 use Rattle.jr_spell.specs.declared.references.RefForm.TheVariants as ref
 use Rattle.jr_spell.specs.declared.spellings.Form.TheVariants.{Asked}
 use Rattle.jr_rewrite.specs.Respellings.{Choice}
-use Rattle.jr_images.specs.Images.{Renaming, class_to, rows_to, scope_to}
-use Rattle.jr_images.specs.Words.{InFront, class_name, named_class, neither, StandsSo, IsValueOf}
+use Rattle.jr_images.specs.Words.{InFront, class_name, named_class, neither}
 use Rattle.jr_images.specs.Spelling.{renamed, reference, behind_words}
+use Rattle.jr_new_words.specs.Mappings.{Mapping, class_to, rows_to, scope_to, StandsSo, IsValueOf}
 use Rattle.jr_new_words.specs.Taking.{asked, SpellsAt, operand_if, TakesInFront, TakesByName, LosesByName}
 
 -- the asked words are the class's name
 pub asked_takes : (rows : List Row) (s : Scope) (w : InFront) (k : ClassKey) (old : List ℕ) (h : Choice) → w ≡ class_name k → h ≡ renamed old k.name → TakesInFront rows s w None k old (Some h)
 asked_takes rows s w k old h is e = (Asked, record { place = 0; stands = refl; binds = (ap named_class is, tt); first = λ i f below at b. omega arith }, e)
 
-module _ (rows : List Row) (g : Renaming) (c : Context) (at : ℕ) (old : List ℕ) (k : ClassKey) (on : Option ClassKey) where
+module _ (rows : List Row) (g : Mapping) (c : Context) (at : ℕ) (old : List ℕ) (k : ClassKey) (on : Option ClassKey) where
   -- what is chosen for class k, whose image is m, and which finds so by its name; behind a class, or
   -- not
   abbrev pub InFrontSpells : (Finds : List ℕ → Found → Type 0) → (m : ClassKey) → Choice → Type 0
@@ -36,7 +36,7 @@ module _ (rows : List Row) (g : Renaming) (c : Context) (at : ℕ) (old : List �
       → InFrontSpells Finds (class_to g k) h
   in_front_lost Finds m h e (w, stands, none) loss = of_image Finds m h e (w, stands, inr (none, loss))
 
-module _ (rows : List Row) (g : Renaming) (c : Context) where
+module _ (rows : List Row) (g : Mapping) (c : Context) where
   -- what is no one declaration stands for nothing
   pub stands_neither : (f : Found) → ((d : Decl) → f ≡ one d → ⊥) → StandsSo rows g c f neither
   stands_neither f never = ((λ b e. never (class_decl b) e), (λ b v. by f b v never))

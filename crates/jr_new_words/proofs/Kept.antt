@@ -5,29 +5,35 @@ use Rattle.jr_table.specs.Decls.{MemberKey}
 use Rattle.jr_table.specs.Rows.{Row}
 use Rattle.jr_table.specs.Scope.{Scope, ScopeLocal, last_named}
 use Rattle.jr_lookup.specs.ScopeView as view
-use Rattle.jr_table.specs.Context.{scope_of, scope_local}
+use Rattle.jr_table.specs.Context.{Local, scope_of, scope_local}
 use Rattle.jr_scopes.specs.Helds.{Held, key_of, local_of, last_number}
 use Rattle.jr_scopes.specs.Tracked.{helds_of}
-use Rattle.jr_images.specs.Images.{Renaming, member_to, scope_local_to}
+use Rattle.jr_new_words.specs.Mappings.{KeyMapping, LocalMapping, all_stay, renumbered, image_local, locals_by, seen_local, seen_image, seen_locals_by, member_to}
 use Rattle.jr_new_words.specs.declared.scopes.Scopes as raw
-use Rattle.jr_new_words.specs.Scopes.{rows_to, naming_of, member_of, locals_in, context_of, place_to, seen, seen_to, IsKept}
+use Rattle.jr_new_words.specs.Scopes.{rows_to, mapping_of, member_of, locals_in, context_of, place_to, seen, IsKept}
 use Rattle.jr_new_words.specs.Near.{if_found, if_maybe_found}
 use Rattle.jr_new_words.proofs.NearLocals.{last_is, Sound, none_yet, sound_step, still_found, now_found}
 
-locals_to : (g : Renaming) (k : MemberKey) (hs : List Held) → map (scope_local_to g) (map (local_of k) hs) ≡ map (seen_to g k) hs
-locals_to g k [] = refl
-locals_to g k (h ∷ hs) = ap (λ ls. seen_to g k h ∷ ls) (locals_to g k hs)
+seen_images : (x : KeyMapping) (ls : List Local) → map (seen_image x) ls ≡ map seen_local (map (λ (l : Local). image_local x l.key.number l) ls)
+seen_images x [] = refl
+seen_images x (l ∷ ls) = ap (λ zs. seen_image x l ∷ zs) (seen_images x ls)
+
+-- lookup sees the locals of the new place
+seen_is : (x : KeyMapping) (y : LocalMapping) (k : MemberKey) (ls : List Local) → seen_locals_by x y k ls ≡ map seen_local (locals_by x y k ls)
+seen_is x all_stay k ls = seen_images x ls
+seen_is x (renumbered r) k ls = refl
 
 locals_seen : (k : MemberKey) (hs : List Held) → map scope_local (map (local_of k) hs) ≡ map (seen k) hs
 locals_seen k [] = refl
 locals_seen k (h ∷ hs) = ap (λ ls. seen k h ∷ ls) (locals_seen k hs)
 
 -- the local that a name finds, in the new program
-pub image_last : (s : raw.Scopes) → IsKept s → (q : List ℕ) → last_named q (place_to s).locals ≡ option_map (key_of (member_to (naming_of s) (member_of s))) (last_number q (helds_of s.renamed))
+pub image_last : (s : raw.Scopes) → IsKept s → (q : List ℕ) → last_named q (place_to s).locals ≡ option_map (key_of (member_to (mapping_of s) (member_of s))) (last_number q (helds_of s.renamed))
 unfolding context_of
 image_last s kept q =
-    ap (last_named q) (locals_to (naming_of s) (member_of s) (locals_in s) ∙ sym kept.renamed)
-    ∙ last_is (member_to (naming_of s) (member_of s)) q (helds_of s.renamed)
+    ap (last_named q) (seen_is (mapping_of s).keys (mapping_of s).locals (member_of s) (map (local_of (member_of s)) (locals_in s)) ∙ ap (map seen_local) (sym kept.renamed)
+    ∙ locals_seen (member_to (mapping_of s) (member_of s)) (helds_of s.renamed))
+    ∙ last_is (member_to (mapping_of s) (member_of s)) q (helds_of s.renamed)
 
 -- and in the old one
 pub own_last : (s : raw.Scopes) (q : List ℕ) → last_named q (scope_of (context_of s)).locals ≡ option_map (key_of (member_of s)) (last_number q (locals_in s))

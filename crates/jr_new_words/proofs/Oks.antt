@@ -12,3 +12,7 @@ on_both (Err e) P Q R f p q = tt
 pub on_any : {T E : Type 0} (r : Result T E) (P : Type 0) → P → OnOk r P
 on_any (Ok x) P p = p
 on_any (Err e) P p = tt
+
+pub on_one : {T E : Type 0} (r : Result T E) (P Q : Type 0) → (P → Q) → OnOk r P → OnOk r Q
+on_one (Ok x) P Q f p = f p
+on_one (Err e) P Q f p = tt

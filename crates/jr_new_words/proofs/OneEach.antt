@@ -9,7 +9,7 @@ use Rattle.jr_table.specs.Scope.{Scope}
 use Rattle.jr_table.specs.Lookup.{FindsVariable, FindsTypeNamed, FindsTypeOf, FindsFieldIn, FindsMethodOf, FindsCtorOf}
 use Rattle.jr_table.specs.LookupLaws.{EachHasOne}
 use Rattle.jr_images.specs.Words.{InFront, class_name, value_of, neither, FindsBehind}
-use Rattle.jr_new_words.specs.Ways.{Way, local, own_field, field_on, field_through, field_above, method_named, method_on, method_through, method_above, ctor_of, ctor_above, type_named, type_behind, is_simple, Finds}
+use Rattle.jr_new_words.specs.Ways.{Way, local, own_field, field_on, field_through, field_on_none, field_above, method_named, method_on, method_through, method_on_none, method_above, ctor_of, ctor_above, type_named, type_behind, is_simple, Finds}
 use Rattle.jr_new_words.proofs.Above.{in_one, super_one}
 
 -- behind what stands in front of a dot
@@ -27,10 +27,12 @@ module _ (rows : List Row) (s : Scope) where
   one_each are each own_field name ts = each.variable s name
   one_each are each (field_on k) name ts = each.field_in s k name
   one_each are each (field_through w k) name ts = behind_one w (λ o. FindsFieldIn rows s o name) (λ o. each.field_in s o name)
+  one_each are each (field_on_none t) name ts = λ a b x y. x ∙ sym y
   one_each are each field_above name ts = super_one rows are s.class (λ k x. FindsFieldIn rows s k name x) (λ k. each.field_in s k name)
   one_each are each method_named name ts = each.method_named s name ts
   one_each are each (method_on k) name ts = each.method_of s k name ts
   one_each are each (method_through w k) name ts = behind_one w (λ o. FindsMethodOf rows s o name ts) (λ o. each.method_of s o name ts)
+  one_each are each (method_on_none t) name ts = λ a b x y. x ∙ sym y
   one_each are each method_above name ts = super_one rows are s.class (λ k x. FindsMethodOf rows s k name ts x) (λ k. each.method_of s k name ts)
   one_each are each (ctor_of k) name ts = each.ctor_of s k ts
   one_each are each ctor_above name ts = super_one rows are s.class (λ k x. FindsCtorOf rows s k ts x) (λ k. each.ctor_of s k ts)
@@ -44,10 +46,12 @@ module _ (rows : List Row) (s : Scope) where
   simple_finds own_field e name ts f h = h
   simple_finds (field_on k) e name ts f h = absurd cc
   simple_finds (field_through w k) e name ts f h = absurd cc
+  simple_finds (field_on_none t) e name ts f h = absurd cc
   simple_finds field_above e name ts f h = absurd cc
   simple_finds method_named e name ts f h = absurd cc
   simple_finds (method_on k) e name ts f h = absurd cc
   simple_finds (method_through w k) e name ts f h = absurd cc
+  simple_finds (method_on_none t) e name ts f h = absurd cc
   simple_finds method_above e name ts f h = absurd cc
   simple_finds (ctor_of k) e name ts f h = absurd cc
   simple_finds ctor_above e name ts f h = absurd cc
@@ -63,10 +67,12 @@ module _ (rows : List Row) (s : Scope) where
   bare_finds own_field e name ts f h = absurd cc
   bare_finds (field_on k) e name ts f h = h
   bare_finds (field_through w k) e name ts f h = h
+  bare_finds (field_on_none t) e name ts f h = h
   bare_finds field_above e name ts f h = h
   bare_finds method_named e name ts f h = h
   bare_finds (method_on k) e name ts f h = h
   bare_finds (method_through w k) e name ts f h = h
+  bare_finds (method_on_none t) e name ts f h = h
   bare_finds method_above e name ts f h = h
   bare_finds (ctor_of k) e name ts f h = h
   bare_finds ctor_above e name ts f h = h

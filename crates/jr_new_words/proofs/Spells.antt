@@ -6,11 +6,11 @@ use Rattle.jr_table.specs.Rows.{Row}
 use Rattle.jr_table.specs.Context.{Context}
 use Rattle.jr_spell.specs.References.{Reference}
 use Rattle.jr_rewrite.specs.Respellings.{Choice}
-use Rattle.jr_images.specs.Images.{Renaming, name_to, rows_to, scope_to}
+use Rattle.jr_new_words.specs.Mappings.{Mapping, name_to, rows_to, scope_to}
 use Rattle.jr_new_words.specs.Taking.{asked, SpellsAt}
 use Rattle.jr_new_words.specs.Ways.{Way, name_in, reference_by, Finds, SpellsTo}
 
-module _ (rows : List Row) (g : Renaming) (c : Context) (image : Decl) (w : Way) (ts : List Ty) (at : ℕ) (old : List ℕ) (d : Decl) where
+module _ (rows : List Row) (g : Mapping) (c : Context) (image : Decl) (w : Way) (ts : List Ty) (at : ℕ) (old : List ℕ) (d : Decl) where
   abbrev pub asked_name : List ℕ
   asked_name = name_in image (name_to g d old)
 

@@ -7,7 +7,7 @@ use Rattle.std.proofs.lemmas.Option.{slice_get-map}
 use Rattle.jr_table.specs.declared.answers.Answer.{Answer}
 use Rattle.jr_table.specs.declared.answers.Answer.TheVariants as number
 use Rattle.jr_table.specs.Keys.{ClassKey, FieldKey, MethodKey, CtorKey, Ty}
-use Rattle.jr_table.specs.Decls.{Decl, class_decl, field_decl, method_decl, constructor_decl, local_decl}
+use Rattle.jr_table.specs.Decls.{LocalKey, Decl, class_decl, field_decl, method_decl, constructor_decl, local_decl}
 use Rattle.jr_table.specs.Rows.{Row}
 use Rattle.jr_table.specs.Conditions.{AreRows}
 use Rattle.jr_table.specs.Entries.{IsRowOf, entry_of, entries_of, is_static_word}
@@ -21,15 +21,15 @@ use Rattle.jr_spell.specs.declared.spellings.Form.TheVariants.{Asked}
 use Rattle.jr_spell.specs.Binds.{ThroughClass, is_dot, has_dot, front_word, last_word}
 use Rattle.jr_spell.specs.Taken.{IsTaken}
 use Rattle.jr_rewrite.specs.Respellings.{stays}
-use Rattle.jr_images.specs.Images.{Renaming, name_to, decl_to}
 use Rattle.jr_images.specs.Words.{InFront, class_name, FindsBehind}
+use Rattle.jr_new_words.specs.Mappings.{KeyMapping, Mapping, decl_by, numbered_key, name_to, decl_to}
 use Rattle.jr_new_words.specs.declared.scopes.Scopes as raw
-use Rattle.jr_new_words.specs.Scopes.{rows_of, naming_of, rows_to, context_of, place_to, IsKept}
-use Rattle.jr_new_words.specs.Ways.{Way, local, own_field, field_on, field_through, field_above, method_named, method_on, method_through, method_above, ctor_of, ctor_above, type_named, type_behind, is_class, is_field, is_method, is_ctor, leads_to, name_in, reference_by, Finds, IsChosenBy}
+use Rattle.jr_new_words.specs.Scopes.{rows_of, mapping_of, rows_to, context_of, place_to, IsKept}
+use Rattle.jr_new_words.specs.Ways.{Way, local, own_field, field_on, field_through, field_on_none, field_above, method_named, method_on, method_through, method_on_none, method_above, ctor_of, ctor_above, type_named, type_behind, is_class, is_field, is_method, is_ctor, leads_to, name_in, reference_by, Finds, OfDecl, SpellsTo, Gone, IsChosenBy}
 use Rattle.jr_new_words.specs.StayingBy.{FindsAt, FindsBy, IsField, IsMethod, IsClass, IsCtor, Serves, StaysBy}
 use Rattle.jr_new_words.proofs.Kept.{moved, moved_old}
 use Rattle.jr_new_words.proofs.OneEach.{bare_finds}
-use Rattle.jr_new_words.proofs.Unchanged.{decl_image, stays_so}
+use Rattle.jr_new_words.proofs.Unchanged.{stays_so}
 
 -- ---- the row that is found
 
@@ -79,48 +79,46 @@ module _ (rows : List Row) (j : ℕ) (d : Decl) where
 
 -- ---- the declaration whose image it is
 
-old_decl : (g : Renaming) (o : Option Decl) (d : Decl) → option_map (decl_to g) o ≡ Some d → (e : Decl) × (o ≡ Some e) × (decl_to g e ≡ d)
-old_decl g None d e = absurd cc
-old_decl g (Some x) d e = (x, refl, cc)
-
-module _ (g : Renaming) (name : List ℕ) where
-  old_field : (e : Decl) → IsField name (decl_to g e) → is_field e ≡ true
+module _ (x : KeyMapping) (name : List ℕ) where
+  old_field : (e : Decl) → IsField name (decl_by x e) → is_field e ≡ true
   old_field (field_decl k) h = refl
   old_field (class_decl k) (f, is, named) = absurd cc
   old_field (method_decl k) (f, is, named) = absurd cc
   old_field (constructor_decl k) (f, is, named) = absurd cc
   old_field (local_decl k) (f, is, named) = absurd cc
 
-  old_method : (e : Decl) → IsMethod name (decl_to g e) → is_method e ≡ true
+  old_method : (e : Decl) → IsMethod name (decl_by x e) → is_method e ≡ true
   old_method (method_decl k) h = refl
   old_method (class_decl k) (f, is, named) = absurd cc
   old_method (field_decl k) (f, is, named) = absurd cc
   old_method (constructor_decl k) (f, is, named) = absurd cc
   old_method (local_decl k) (f, is, named) = absurd cc
 
-  old_class : (e : Decl) → IsClass name (decl_to g e) → is_class e ≡ true
+  old_class : (e : Decl) → IsClass name (decl_by x e) → is_class e ≡ true
   old_class (class_decl k) h = refl
   old_class (method_decl k) (f, is, named, word) = absurd cc
   old_class (field_decl k) (f, is, named, word) = absurd cc
   old_class (constructor_decl k) (f, is, named, word) = absurd cc
   old_class (local_decl k) (f, is, named, word) = absurd cc
 
-  old_ctor : (e : Decl) → IsCtor name (decl_to g e) → is_ctor e ≡ true
+  old_ctor : (e : Decl) → IsCtor name (decl_by x e) → is_ctor e ≡ true
   old_ctor (constructor_decl k) h = refl
   old_ctor (class_decl k) (f, is, named) = absurd cc
   old_ctor (method_decl k) (f, is, named) = absurd cc
   old_ctor (field_decl k) (f, is, named) = absurd cc
   old_ctor (local_decl k) (f, is, named) = absurd cc
 
-  leads : (rows : List Row) (e : Decl) (w : Way) → Serves rows w name (decl_to g e) → leads_to w e ≡ true
+  leads : (rows : List Row) (e : Decl) (w : Way) → Serves rows w name (decl_by x e) → leads_to w e ≡ true
   leads rows e local h = absurd h
   leads rows e own_field h = absurd h
   leads rows e (field_on c) h = old_field e h.0
   leads rows e (field_through w c) h = old_field e h.1
+  leads rows e (field_on_none t) h = absurd h
   leads rows e field_above h = absurd h
   leads rows e method_named h = old_method e h
   leads rows e (method_on c) h = old_method e h.0
   leads rows e (method_through w c) h = old_method e h.1
+  leads rows e (method_on_none t) h = absurd h
   leads rows e method_above h = absurd h
   leads rows e (ctor_of c) h = old_ctor e h
   leads rows e ctor_above h = absurd h
@@ -208,6 +206,7 @@ module _ (rows : List Row) (s : Scope) (name : List ℕ) (ts : List Ty) where
         let found : FindsFieldIn rows s c name (one d) = subst (λ (v : InFront). FindsBehind v (λ o. FindsFieldIn rows s o name) (one d)) front f in
         subst (λ (v : InFront). IsTakenBy (field_through v c) d) (sym front)
         (subst (IsTakenBy (field_through (class_name c) c)) (sym is) (field_class c k named (subst (λ e. FindsFieldIn rows s c name (one e)) is found) (subst (λ e. IsInstanceDecl rows e → ⊥) is rest)))
+    taken (field_on_none t) h f = absurd h
     taken field_above h f = absurd h
     taken method_named (k, is, named) f = subst (IsTakenBy method_named) (sym is) (method_simple k named (subst (λ e. FindsMethodNamed rows s name ts (one e)) is f))
     taken (method_on c) ((k, is, named), rest) f =
@@ -216,6 +215,7 @@ module _ (rows : List Row) (s : Scope) (name : List ℕ) (ts : List Ty) where
         let found : FindsMethodOf rows s c name ts (one d) = subst (λ (v : InFront). FindsBehind v (λ o. FindsMethodOf rows s o name ts) (one d)) front f in
         subst (λ (v : InFront). IsTakenBy (method_through v c) d) (sym front)
         (subst (IsTakenBy (method_through (class_name c) c)) (sym is) (method_class c k named (subst (λ e. FindsMethodOf rows s c name ts (one e)) is found) (subst (λ e. IsInstanceDecl rows e → ⊥) is rest)))
+    taken (method_on_none t) h f = absurd h
     taken method_above h f = absurd h
     taken (ctor_of c) (k, is, none) f = subst (IsTakenBy (ctor_of c)) (sym is) (ctor c k (subst (λ e. FindsCtorOf rows s c ts (one e)) is f))
     taken ctor_above h f = absurd h
@@ -227,38 +227,69 @@ module _ (rows : List Row) (s : Scope) (name : List ℕ) (ts : List Ty) where
     named_so own_field h = absurd h
     named_so (field_on c) ((k, is, named), rest) = ap (λ e. name_in e x) is ∙ named
     named_so (field_through w c) (leading, (k, is, named), rest) = ap (λ e. name_in e x) is ∙ named
+    named_so (field_on_none t) h = absurd h
     named_so field_above h = absurd h
     named_so method_named (k, is, named) = ap (λ e. name_in e x) is ∙ named
     named_so (method_on c) ((k, is, named), rest) = ap (λ e. name_in e x) is ∙ named
     named_so (method_through w c) (leading, (k, is, named), rest) = ap (λ e. name_in e x) is ∙ named
+    named_so (method_on_none t) h = absurd h
     named_so method_above h = absurd h
     named_so (ctor_of c) (k, is, none) = ap (λ e. name_in e x) is ∙ sym none
     named_so ctor_above h = absurd h
     named_so type_named (k, is, named, word) = ap (λ e. name_in e x) is ∙ named
     named_so (type_behind outer) h = absurd h
 
+-- no local is asked so
+no_local : (rows : List Row) (w : Way) (name : List ℕ) (k : LocalKey) → Serves rows w name (local_decl k) → ⊥
+no_local rows local name k h = h
+no_local rows own_field name k h = h
+no_local rows (field_on c) name k ((f, is, named), rest) = cc
+no_local rows (field_through w c) name k (front, (f, is, named), rest) = cc
+no_local rows (field_on_none t) name k h = h
+no_local rows field_above name k h = h
+no_local rows method_named name k (f, is, named) = cc
+no_local rows (method_on c) name k ((f, is, named), rest) = cc
+no_local rows (method_through w c) name k (front, (f, is, named), rest) = cc
+no_local rows (method_on_none t) name k h = h
+no_local rows method_above name k h = h
+no_local rows (ctor_of c) name k (f, is, none) = cc
+no_local rows ctor_above name k h = h
+no_local rows type_named name k (f, is, named, word) = cc
+no_local rows (type_behind outer) name k h = h
+
+-- so that none is gone
+kept_decl : (rows : List Row) (g : Mapping) (w : Way) (name : List ℕ) (e : Decl) → Serves rows w name (decl_by g.keys e) → decl_to g e ≡ Some (decl_by g.keys e)
+kept_decl rows g w name (class_decl k) h = refl
+kept_decl rows g w name (field_decl k) h = refl
+kept_decl rows g w name (method_decl k) h = refl
+kept_decl rows g w name (constructor_decl k) h = refl
+kept_decl rows g w name (local_decl k) h = absurd (no_local rows w name (numbered_key g.keys k k.number) h)
+
 pub chosen_by : (s : raw.Scopes) → IsKept s → (from to : Way) (name : List ℕ) (types images : List Ty) (at : ℕ) → StaysBy s from types to images name
-    → IsChosenBy (rows_of s) (naming_of s) (context_of s) from types to images at name (Some stays)
+    → IsChosenBy (rows_of s) (mapping_of s) (context_of s) from types to images at name (Some stays)
 chosen_by s kept from to name types images at h =
-    let g = naming_of s in
-    let j = h.number in
-    let d = h.serves.0 in
-    let new_at : decl_at (rows_to s) j ≡ Some d = moved s kept (λ rows x. decl_at rows j ≡ Some d) h.serves.1 in
-    let old = old_decl g (decl_at (rows_of s) j) d (sym (decl_image g (rows_of s) j) ∙ new_at) in
+    let g = mapping_of s in
+    let i = h.number in
+    let t = h.there in
+    let j = t.image in
+    let d = t.serves.0 in
+    let new_at : decl_at (rows_to s) j ≡ Some d = moved s kept (λ rows x. decl_at rows j ≡ Some d) t.serves.1 in
+    let old = t.becomes d t.serves.1 in
     let e = old.0 in
-    let image = decl_to g e in
+    let image = decl_by g.keys e in
     let image_at : decl_at (rows_to s) j ≡ Some image = new_at ∙ ap Some (sym old.2) in
-    let serves : Serves (rows_to s) to name image = subst (λ (x : Decl). Serves (rows_to s) to name x) (sym old.2) (moved s kept (λ rows x. Serves rows to name d) h.serves.2) in
-    let before = moved_old s kept (λ x. FindsBy (rows_of s) x from name types j) h.before in
-    let after = moved s kept (λ rows x. FindsBy rows x to name images j) h.after in
+    let serves : Serves (rows_to s) to name image = subst (λ (x : Decl). Serves (rows_to s) to name x) (sym old.2) (moved s kept (λ rows x. Serves rows to name d) t.serves.2) in
+    let before = moved_old s kept (λ x. FindsBy (rows_of s) x from name types i) h.before in
+    let after = moved s kept (λ rows x. FindsBy rows x to name images j) t.after in
     let there = bare_finds (rows_of s) (scope_of (context_of s)) from before.0 name types (one e) (before.1 e old.1) in
     let here = bare_finds (rows_to s) (place_to s) to after.0 name images (one image) (after.1 image image_at) in
     let x = name_to g e name in (
       e,
-      (leads g name (rows_to s) e to serves, there),
-      inl (
-        Asked,
-        taken (rows_to s) (place_to s) name images image x to serves here,
-        stays_so name (name_in image x) (named_so (rows_to s) (place_to s) name images image x to serves),
-      ),
+      (leads g.keys name (rows_to s) e to serves, there),
+      subst (λ (o : Option Decl). OfDecl o (λ i. SpellsTo (rows_of s) g (context_of s) i to images at name e stays) (Gone (rows_of s) g (context_of s) to images at name e stays)) (sym (kept_decl (rows_to s) g to name e serves))
+          (inl (
+            Asked,
+            taken (rows_to s) (place_to s) name images image x to serves here,
+            stays_so name (name_in image x) (named_so (rows_to s) (place_to s) name images image x to serves),
+          )),
     )

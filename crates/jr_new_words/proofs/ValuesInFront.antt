@@ -5,29 +5,29 @@ use Rattle.std.proofs.lemmas.Bool.{cases_order}
 use Rattle.std.proofs.lemmas.Bool.Decides.{Decides-eqb}
 use Rattle.std.proofs.lemmas.Option.{same_Some, slice_get-map}
 use Rattle.jr_table.specs.Keys.{ClassKey, FieldKey, Ty, int, boolean, void, null, class}
-use Rattle.jr_table.specs.Decls.{MemberKey, LocalKey, Decl, class_decl, field_decl, local_decl}
+use Rattle.jr_table.specs.Decls.{MemberKey, LocalKey, class_decl, field_decl, local_decl}
 use Rattle.jr_table.specs.Rows.{Row}
 use Rattle.jr_table.specs.Conditions.{AreRows}
 use Rattle.jr_table.specs.Entries.{IsRowOf, number_of}
 use Rattle.jr_table.specs.Found.{Found, one, nothing}
-use Rattle.jr_table.specs.Lookup.{FindsTypeNamed, FindsTypeOf, decl_at}
+use Rattle.jr_table.specs.Lookup.{FindsTypeNamed, FindsTypeOf}
 use Rattle.jr_table.specs.LookupLaws.{EachHasOne}
 use Rattle.jr_table.specs.Context.{Context, Local, written, IsLocalType, NamesClass, scope_of}
 use Rattle.jr_scopes.specs.Helds.{Held, key_of, local_of, or_later, numbered}
-use Rattle.jr_images.specs.Images.{Renaming, class_to, member_to, decl_to, rows_to}
-use Rattle.jr_images.specs.Words.{InFront, class_name, value_of, neither, HasImage, StandsSo}
+use Rattle.jr_images.specs.Images.{Renaming}
+use Rattle.jr_images.specs.Words.{InFront, class_name, value_of, neither, HasImage}
+use Rattle.jr_new_words.specs.Mappings.{KeyMapping, same_keys, renamed, LocalMapping, all_stay, renumbered, image_local, Mapping, HasClass, HasClassBy, IsLast, class_to, locals_to, rows_to, StandsSo}
 use Rattle.jr_new_words.specs.Ways.{type_named, type_behind}
-use Rattle.jr_new_words.specs.Valued.{of_type, of_decl, IsValue, WritesFound}
+use Rattle.jr_new_words.specs.Valued.{of_type, IsValue, WritesFound}
 use Rattle.jr_new_words.proofs.OneEach.{one_each}
 use Rattle.jr_new_words.proofs.Parents.{row_stands, the_number}
-use Rattle.jr_new_words.proofs.Unchanged.{decl_image}
 
 class_is : (k t : ClassKey) → class k ≡ class t → t ≡ k
 class_is k t e = cc
 
 -- ---- the image of a class
 
-module _ (rows : List Row) (g : Renaming) where
+module _ (rows : List Row) (g : Mapping) where
   -- another property of the same classes
   pub value_along : (H J : ClassKey → Type 0) → ((t : ClassKey) → H t → J t) → ((t : ClassKey) → J t → H t) → (w : InFront) → IsValue rows g H w → IsValue rows g J w
   value_along H J to from (class_name b) v = v
@@ -43,15 +43,9 @@ module _ (rows : List Row) (g : Renaming) where
       let e : None ≡ Some j = none ∙ ap (λ (x : ClassKey). number_of rows (class_decl x)) (sym is) ∙ found in
       cc
 
-  declared_at : (d : Decl) (j : ℕ) → IsRowOf rows d j → decl_at rows j ≡ Some d
-  declared_at d j i = ap (option_map (λ (r : Row). r.decl)) i.stands ∙ ap Some i.declares
-
-  pub row_value : (k : ClassKey) (j : ℕ) → Some j ≡ number_of rows (class_decl k) → (w : InFront) → w ≡ of_decl (decl_at (rows_to g rows) j) → IsValue rows g (λ t. t ≡ k) w
-  row_value k j has w is =
-      let row = row_stands rows (class_decl k) j (sym has) in
-      let image : decl_at (rows_to g rows) j ≡ Some (class_decl (class_to g k)) = decl_image g rows j ∙ ap (option_map (decl_to g)) (declared_at (class_decl k) j row) in
-      let same : w ≡ value_of (class_to g k) = is ∙ ap of_decl image in
-      subst (IsValue rows g (λ t. t ≡ k)) (sym same) (k, j, refl, row, refl)
+  -- of a class that has a row
+  pub row_value : (k : ClassKey) (j : ℕ) → Some j ≡ number_of rows (class_decl k) → (w : InFront) → w ≡ value_of (class_to g k) → IsValue rows g (λ t. t ≡ k) w
+  row_value k j has w same = subst (IsValue rows g (λ t. t ≡ k)) (sym same) (k, j, refl, row_stands rows (class_decl k) j (sym has), refl)
 
   -- of what is found
   pub found_class : (f : Found) (k : ClassKey) → f ≡ one (class_decl k) → (w : InFront) → IsValue rows g (λ t. t ≡ k) w → IsValue rows g (λ t. f ≡ one (class_decl t)) w
@@ -150,53 +144,118 @@ module _ (rows : List Row) (g : Renaming) (c : Context) where
       by (inr (inl less)) = absurd (x.last y.number m less y.stands y.is)
       by (inr (inr less)) = absurd (y.last x.number l less x.stands x.is)
 
-module _ (rows : List Row) (g : Renaming) (c : Context) (m : MemberKey) (hs : List Held) (are : c.locals ≡ map (local_of m) hs) where
-  mapped : (l : Local) (o : Option Held) → option_map (local_of m) o ≡ Some l → (x : Held) × (o ≡ Some x) × (local_of m x ≡ l)
-  mapped l None e = absurd cc
-  mapped l (Some x) e = (x, refl, same_Some (local_of m x) l e)
+module _ (ls : List Local) where
+  one_last : (k : LocalKey) (l m : Local) → IsLast ls k l → IsLast ls k m → l ≡ m
+  one_last k l m x y = by (cases_order x.number y.number)
+    where
+      by : (x.number ≡ y.number) ⊎ ((x.number < y.number) ⊎ (y.number < x.number)) → l ≡ m
+      by (inl e) = same_Some l m (sym x.stands ∙ ap (slice_get ls) e ∙ y.stands)
+      by (inr (inl less)) = absurd (x.last y.number m less y.stands y.is)
+      by (inr (inr less)) = absurd (y.last x.number l less x.stands x.is)
 
+mapped : {X Y : Type 0} (f : X → Y) (y : Y) (o : Option X) → option_map f o ≡ Some y → (x : X) × (o ≡ Some x) × (f x ≡ y)
+mapped f y None e = absurd cc
+mapped f y (Some x) e = (x, refl, same_Some (f x) y e)
+
+-- of which class a local is, by how keys and locals are mapped
+module _ (rows : List Row) (c : Context) (k : LocalKey) (b : ClassKey) (new : List Row) where
+  abbrev mapping : KeyMapping → LocalMapping → Mapping
+  mapping x y = record { keys = x; locals = y; new = new }
+
+  abbrev image : Renaming → Local → Local
+  image g l = image_local (renamed g) l.key.number l
+
+  -- the local whose image it is
+  before : (g : Renaming) (i : ℕ) (m : Local) → slice_get (map (image g) c.locals) i ≡ Some m → (l : Local) × (slice_get c.locals i ≡ Some l) × (image g l ≡ m)
+  before g i m at = mapped (image g) m (slice_get c.locals i) (sym (slice_get-map (image g) c.locals i) ∙ at)
+
+  behind : (g : Renaming) (i : ℕ) (l : Local) → slice_get c.locals i ≡ Some l → slice_get (map (image g) c.locals) i ≡ Some (image g l)
+  behind g i l at = slice_get-map (image g) c.locals i ∙ ap (option_map (image g)) at
+
+  to_class : (x : KeyMapping) (y : LocalMapping) → HasClass rows (mapping x y) c k b → HasClassBy x y rows (mapping x y) c k b
+  to_class same_keys y h = h
+  to_class (renamed g) (renumbered r) h = h
+  to_class (renamed g) all_stay (m, t, j, last, type, row, is) =
+      let l = before g last.number m last.stands in (
+        l.0,
+        t,
+        j,
+        record {
+          number = last.number;
+          stands = l.1;
+          is = ap (λ (z : Local). z.key) l.2 ∙ last.is;
+          last = λ i other less at e. last.last i (image g other) less (behind g i other at) e;
+        },
+        subst (λ (z : Local). IsLocalType rows (scope_of c) z.type (class t)) (sym l.2) type,
+        row,
+        is,
+      )
+
+  of_class : (x : KeyMapping) (y : LocalMapping) → HasClassBy x y rows (mapping x y) c k b → HasClass rows (mapping x y) c k b
+  of_class same_keys y h = h
+  of_class (renamed g) (renumbered r) h = h
+  of_class (renamed g) all_stay (l, t, j, last, type, row, is) = (
+    image g l,
+    t,
+    j,
+    record {
+      number = last.number;
+      stands = behind g last.number l last.stands;
+      is = last.is;
+      last = λ i other less at e. let z = before g i other at in last.last i z.0 less z.1 (ap (λ (z : Local). z.key) z.2 ∙ e);
+    },
+    type,
+    row,
+    is,
+  )
+
+-- the locals of the new place are those of a member
+module _ (rows : List Row) (g : Mapping) (c : Context) (m : MemberKey) (hs : List Held) (are : locals_to g c ≡ map (local_of m) hs) where
   -- a local in scope is one of the member's
-  held_at : (i : ℕ) (l : Local) → slice_get c.locals i ≡ Some l → (x : Held) × (slice_get hs i ≡ Some x) × (local_of m x ≡ l)
-  held_at i l at = mapped l (slice_get hs i) (sym (slice_get-map (local_of m) hs i) ∙ ap (λ ls. slice_get ls i) (sym are) ∙ at)
+  held_at : (i : ℕ) (l : Local) → slice_get (locals_to g c) i ≡ Some l → (x : Held) × (slice_get hs i ≡ Some x) × (local_of m x ≡ l)
+  held_at i l at = mapped (local_of m) l (slice_get hs i) (sym (slice_get-map (local_of m) hs i) ∙ ap (λ ls. slice_get ls i) (sym are) ∙ at)
 
-  has_image : (n : ℕ) (h : Held) → Last n hs h → HasImage rows g c (key_of (member_to g m) n) (local_of m h)
+  has_image : (n : ℕ) (h : Held) → Last n hs h → IsLast (locals_to g c) (key_of m n) (local_of m h)
   has_image n h l = record {
     number = l.place;
     stands = ap (λ ls. slice_get ls l.place) are ∙ slice_get-map (local_of m) hs l.place ∙ ap (option_map (local_of m)) l.stands;
-    is = ap (λ (k : ℕ). key_of (member_to g m) k) l.numbers;
+    is = ap (key_of m) l.numbers;
     last = λ i other less at e. let x = held_at i other at in l.later i x.0 less x.1 (ap (λ (o : Local). o.key.number) x.2 ∙ ap (λ (k : LocalKey). k.number) e);
   }
 
-  pub local_value : (n : ℕ) (h : Held) → numbered n hs ≡ Some h → (w : InFront) → IsValue rows g (λ t. IsLocalType rows (scope_of c) h.type (class t)) w
-      → StandsSo rows g c (one (local_decl (key_of (member_to g m) n))) w
-  local_value n h e (class_name b) v = absurd v
-  local_value n h e (value_of b) (t, j, type, row, is) = (local_of m h, t, j, has_image n h (last_of_number n hs h e), type, row, is)
-  local_value n h e neither never = (
-    λ b q. cc,
-    λ b (l, t, j, image, type, row, is).
-        never t j (subst (λ (x : Local). IsLocalType rows (scope_of c) x.type (class t)) (has_one rows g c (key_of (member_to g m) n) l (local_of m h) image (has_image n h (last_of_number n hs h e))) type) row,
-  )
+  abbrev has_class : (k : LocalKey) (b : ClassKey) → HasClassBy g.keys g.locals rows g c k b → HasClass rows g c k b
+  has_class k b v = of_class rows c k b g.new g.keys g.locals v
 
-  pub no_local : (n : ℕ) → numbered n hs ≡ None → StandsSo rows g c (one (local_decl (key_of (member_to g m) n))) neither
-  no_local n none = (
-    λ b q. cc,
-    λ b (l, t, j, image, type, row, is).
-        let x = held_at image.number l image.stands in
-        missing n hs none image.number x.0 x.1 (ap (λ (o : Local). o.key.number) x.2 ∙ ap (λ (k : LocalKey). k.number) image.is),
-  )
+  pub local_value : (n : ℕ) (h : Held) → numbered n hs ≡ Some h → (w : InFront) → IsValue rows g (λ t. IsLocalType rows (scope_of c) h.type (class t)) w
+      → StandsSo rows g c (one (local_decl (key_of m n))) w
+  local_value n h e (class_name b) v = absurd v
+  local_value n h e (value_of b) (t, j, type, row, is) = to_class rows c (key_of m n) b g.new g.keys g.locals (local_of m h, t, j, has_image n h (last_of_number n hs h e), type, row, is)
+  local_value n h e neither never = (λ b q. cc, λ b v. by b (has_class (key_of m n) b v))
+    where
+      by : (b : ClassKey) → HasClass rows g c (key_of m n) b → ⊥
+      by b (l, t, j, image, type, row, is) =
+          never t j (subst (λ (x : Local). IsLocalType rows (scope_of c) x.type (class t)) (one_last (locals_to g c) (key_of m n) l (local_of m h) image (has_image n h (last_of_number n hs h e))) type) row
+
+  pub no_local : (n : ℕ) → numbered n hs ≡ None → StandsSo rows g c (one (local_decl (key_of m n))) neither
+  no_local n none = (λ b q. cc, λ b v. by b (has_class (key_of m n) b v))
+    where
+      by : (b : ClassKey) → HasClass rows g c (key_of m n) b → ⊥
+      by b (l, t, j, image, type, row, is) =
+          let x = held_at image.number l image.stands in
+          missing n hs none image.number x.0 x.1 (ap (λ (o : Local). o.key.number) x.2 ∙ ap (λ (k : LocalKey). k.number) image.is)
 
   -- of another member
-  pub foreign : (k : LocalKey) → (k.member ≡ member_to g m → ⊥) → StandsSo rows g c (one (local_decl k)) neither
-  foreign k other = (
-    λ b q. cc,
-    λ b (l, t, j, image, type, row, is).
-        let x = held_at image.number l image.stands in
-        other (ap (λ (q : LocalKey). q.member) (sym image.is) ∙ ap (λ (o : Local). member_to g o.key.member) (sym x.2)),
-  )
+  pub foreign : (k : LocalKey) → (k.member ≡ m → ⊥) → StandsSo rows g c (one (local_decl k)) neither
+  foreign k other = (λ b q. cc, λ b v. by b (has_class k b v))
+    where
+      by : (b : ClassKey) → HasClass rows g c k b → ⊥
+      by b (l, t, j, image, type, row, is) =
+          let x = held_at image.number l image.stands in
+          other (ap (λ (q : LocalKey). q.member) (sym image.is) ∙ ap (λ (o : Local). o.key.member) (sym x.2))
 
 -- ---- fields
 
-module _ (rows : List Row) (g : Renaming) (c : Context) (are : AreRows (rows_to g rows)) (q : FieldKey) (j : ℕ) (row : Row) (stands : slice_get (rows_to g rows) j ≡ Some row) (is : row.decl ≡ field_decl q)
+module _ (rows : List Row) (g : Mapping) (c : Context) (are : AreRows (rows_to g rows)) (q : FieldKey) (j : ℕ) (row : Row) (stands : slice_get (rows_to g rows) j ≡ Some row) (is : row.decl ≡ field_decl q)
   where
     own : IsRowOf (rows_to g rows) (field_decl q) j
     own = record { row = row; stands = stands; declares = is }

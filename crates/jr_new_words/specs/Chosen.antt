@@ -1,6 +1,6 @@
 -- What is chosen for one reference, by `jr_images: Spelling`: where the old lookup finds one
 -- declaration, its choice; and where it finds none, none. Operands and arguments go by their old
--- types, trees by their words.
+-- types and by those that they have now, trees by their words.
 use Rattle.std.specs.Prelude.{ℕ, List, [], Option, Some, None}
 use Rattle.jr_table.specs.Keys.{ClassKey, FieldKey, MethodKey, CtorKey, Ty}
 use Rattle.jr_table.specs.Decls.{
@@ -30,20 +30,22 @@ use Rattle.jr_table.specs.HeadRules.{TopFinds}
 use Rattle.jr_spell.specs.declared.references.RefForm.TheVariants as ref
 use Rattle.jr_spell.specs.References.{Reference}
 use Rattle.jr_rewrite.specs.Respellings.{Choice}
-use Rattle.jr_images.specs.Images.{
-  Renaming,
-  name_to,
+use Rattle.jr_images.specs.Spelling as spelling
+use Rattle.jr_images.specs.Spelling.{operand_of, on_type, FindsOn, reference, behind_words, dotted}
+use Rattle.jr_images.specs.Words.{InFront, FindsBehind}
+use Rattle.jr_new_words.specs.Mappings.{
+  Mapping,
   class_to,
   field_to,
   method_to,
-  types_to,
+  ctor_to,
   rows_to,
   scope_to,
+  region_of,
+  FindsNext,
+  FirstStands,
+  NextStands,
 }
-use Rattle.jr_images.specs.Regions.{region_of}
-use Rattle.jr_images.specs.Spelling as spelling
-use Rattle.jr_images.specs.Spelling.{operand_of, reference, behind_words, dotted}
-use Rattle.jr_images.specs.Words.{InFront, FindsBehind, FindsNext, FirstStands, NextStands}
 
 -- trees don't come into what is said here
 abbrev pub unmarked : ℕ → ℕ → ℕ
@@ -55,31 +57,22 @@ abbrev pub ChoosesOf : {K : Type 0} → (Finds : K → Type 0) → (Spells : K �
 ChoosesOf {K} Finds Spells (Some h) = (k : K) × Finds k × Spells k h
 ChoosesOf {K} Finds Spells None = (k : K) → Finds k → ⊥
 
-module _ (rows : List Row) (g : Renaming) (c : Context) where
-  abbrev pub Spells : (at : ℕ) → (old new : List ℕ) → Decl → Reference
+module _ (rows : List Row) (g : Mapping) (c : Context) where
+  abbrev pub Spells : (at : ℕ) → (old new : List ℕ) → (d image : Decl) → Reference
       → (Finds : Found → Type 0) → Choice → Type 0
-  Spells at old new d r Finds h =
-      spelling.Spells unmarked rows g (scope_to g c) at old new d r Finds h
+  Spells at old new d i r Finds h = spelling.TakenChoice unmarked rows (region_of rows g)
+      (scope_to g c) at old new d i r Finds h
 
   abbrev pub SpellsLeft : (at : ℕ) → (old : List ℕ) → ClassKey → (Leads : Type 0)
       → (Finds : Found → Type 0) → Choice → Type 0
-  SpellsLeft at old k Leads Finds h = spelling.SpellsLeft unmarked rows g at old k Leads Finds h
+  SpellsLeft at old k Leads Finds h =
+      spelling.LeftChoice unmarked rows (region_of rows g) at old k Leads Finds h
 
   -- ---- simple names
 
-  -- of a local that is found
-  abbrev pub LocalSpells : (at : ℕ) → (old : List ℕ) → LocalKey → Choice → Type 0
-  LocalSpells at old k h = Spells at old (name_to g (local_decl k) old) (local_decl k)
-      (reference ref.AsAsked (name_to g (local_decl k) old) None [])
-      (FindsVariable (rows_to g rows) (scope_to g c) (name_to g (local_decl k) old)) h
-
-  abbrev pub OwnFieldSpells : (at : ℕ) → (old : List ℕ) → FieldKey → Choice → Type 0
-  OwnFieldSpells at old k h = Spells at old (field_to g k).name (field_decl k)
-      (reference ref.FieldSimple (field_to g k).name None [])
-      (FindsVariable (rows_to g rows) (scope_to g c) (field_to g k).name) h
-
   abbrev pub VariableIsChosen : (at : ℕ) → (old : List ℕ) → Option Choice → Type 0
-  VariableIsChosen at old (Some h) = spelling.VariableSpells unmarked rows g c at old h
+  VariableIsChosen at old (Some h) =
+      spelling.VariableChoice unmarked rows (region_of rows g) c at old h
   VariableIsChosen at old None =
       ((k : LocalKey) → FindsVariable rows (scope_of c) old (one (local_decl k)) → ⊥)
       × ((k : FieldKey) → FindsVariable rows (scope_of c) old (one (field_decl k)) → ⊥)
@@ -88,31 +81,35 @@ module _ (rows : List Row) (g : Renaming) (c : Context) where
   abbrev pub ClassSpells : (at : ℕ) → (old : List ℕ) → ClassKey → Choice → Type 0
   ClassSpells at old k h = (w : InFront) × FirstStands rows g c k w
       × Spells at old (class_to g k).name (class_decl k)
+      (class_decl (class_to g k))
       (behind_words w (reference ref.ClassInFront (class_to g k).name None []))
       (FindsLeft (rows_to g rows) (scope_to g c) (class_to g k).name) h
 
   abbrev pub ClassIsChosen : (at : ℕ) → (old : List ℕ) → Option Choice → Type 0
-  ClassIsChosen at old (Some h) = spelling.ClassSpells unmarked rows g c left at old h
+  ClassIsChosen at old (Some h) =
+      spelling.ClassChoice unmarked rows (region_of rows g) c left at old h
   ClassIsChosen at old None = (k : ClassKey) → FindsVariable rows (scope_of c) old nothing
       → FindsTypeNamed rows (scope_of c) old (one (class_decl k)) → ⊥
 
   -- ---- fields
 
-  -- on a value of class k
-  abbrev pub FieldSpells : (at : ℕ) → (k : ClassKey) → (old : List ℕ) → FieldKey → Choice → Type 0
-  FieldSpells at k old f h = Spells at old (field_to g f).name (field_decl f)
-      (reference ref.FieldOn (field_to g f).name (operand_of (class_to g k)) [])
-      (FindsFieldIn (rows_to g rows) (scope_to g c) (class_to g k) (field_to g f).name) h
+  -- on a value of class k, which now is of type t
+  abbrev pub FieldSpells : (at : ℕ) → Ty → (old : List ℕ) → FieldKey → Choice → Type 0
+  FieldSpells at t old f h = Spells at old (field_to g f).name (field_decl f)
+      (field_decl (field_to g f)) (reference ref.FieldOn (field_to g f).name (on_type t) [])
+      (FindsOn t (λ k. FindsFieldIn (rows_to g rows) (scope_to g c) k (field_to g f).name)) h
 
-  abbrev pub FieldIsChosen : (at : ℕ) → (k : ClassKey) → (old : List ℕ) → Option Choice → Type 0
-  FieldIsChosen at k old o = ChoosesOf
+  abbrev pub FieldIsChosen : (at : ℕ) → (k : ClassKey) → Ty → (old : List ℕ) → Option Choice
+      → Type 0
+  FieldIsChosen at k t old o = ChoosesOf
       (λ (f : FieldKey). FindsFieldIn rows (scope_of c) k old (one (field_decl f)))
-      (FieldSpells at k old) o
+      (FieldSpells at t old) o
 
   -- through class k, whose words stand so in the new program
   abbrev pub StaticFieldSpells : (at : ℕ) → InFront → (k : ClassKey) → (old : List ℕ)
       → FieldKey → Choice → Type 0
   StaticFieldSpells at w k old f h = Spells at old (field_to g f).name (field_decl f)
+      (field_decl (field_to g f))
       (behind_words w
       (reference ref.ThroughClass (field_to g f).name (operand_of (class_to g k)) []))
       (FindsBehind w
@@ -130,6 +127,7 @@ module _ (rows : List Row) (g : Renaming) (c : Context) where
       → (old : List ℕ) → ClassKey → Choice → Type 0
   MemberClassBehind at v on old m h = (w : InFront) × NextStands rows g c v m w
       × Spells at old (class_to g m).name (class_decl m)
+      (class_decl (class_to g m))
       (behind_words w (reference ref.ClassInFront (class_to g m).name (operand_of on) []))
       (FindsNext rows g c v (class_to g m).name) h
 
@@ -148,6 +146,7 @@ module _ (rows : List Row) (g : Renaming) (c : Context) where
   -- behind `super`
   abbrev pub SuperFieldSpells : (at : ℕ) → (old : List ℕ) → FieldKey → Choice → Type 0
   SuperFieldSpells at old f h = Spells at old (field_to g f).name (field_decl f)
+      (field_decl (field_to g f))
       (reference ref.FieldSuper (field_to g f).name None [])
       (FindsIn (IsSuperclass (rows_to g rows) (scope_to g c).class)
       (λ k x. FindsFieldIn (rows_to g rows) (scope_to g c) k (field_to g f).name x)) h
@@ -158,86 +157,89 @@ module _ (rows : List Row) (g : Renaming) (c : Context) where
       (λ k x. FindsFieldIn rows (scope_of c) k old x) (one (field_decl f)))
       (SuperFieldSpells at old) o
 
-  -- ---- calls, with arguments of these old types
+  -- ---- calls, with arguments that had the types ts, and now have us
 
   abbrev pub SimpleCallSpells : (at : ℕ) → (old : List ℕ) → List Ty → MethodKey → Choice → Type 0
-  SimpleCallSpells at old ts q h = Spells at old (method_to g q).name (method_decl q)
-      (reference ref.MethodSimple (method_to g q).name None (types_to g ts))
-      (FindsMethodNamed (rows_to g rows) (scope_to g c) (method_to g q).name (types_to g ts)) h
+  SimpleCallSpells at old us q h = Spells at old (method_to g q).name (method_decl q)
+      (method_decl (method_to g q)) (reference ref.MethodSimple (method_to g q).name None us)
+      (FindsMethodNamed (rows_to g rows) (scope_to g c) (method_to g q).name us) h
 
-  abbrev pub SimpleCallIsChosen : (at : ℕ) → (old : List ℕ) → List Ty → Option Choice → Type 0
-  SimpleCallIsChosen at old ts o = ChoosesOf
-      (λ (q : MethodKey). FindsMethodNamed rows (scope_of c) old ts (one (method_decl q)))
-      (SimpleCallSpells at old ts) o
-
-  abbrev pub CallSpells : (at : ℕ) → (k : ClassKey) → (old : List ℕ) → List Ty → MethodKey
-      → Choice → Type 0
-  CallSpells at k old ts q h = Spells at old (method_to g q).name (method_decl q)
-      (reference ref.MethodOn (method_to g q).name (operand_of (class_to g k)) (types_to g ts))
-      (FindsMethodOf (rows_to g rows) (scope_to g c) (class_to g k) (method_to g q).name
-      (types_to g ts)) h
-
-  abbrev pub CallIsChosen : (at : ℕ) → (k : ClassKey) → (old : List ℕ) → List Ty → Option Choice
+  abbrev pub SimpleCallIsChosen : (at : ℕ) → (old : List ℕ) → (ts us : List Ty) → Option Choice
       → Type 0
-  CallIsChosen at k old ts o = ChoosesOf
+  SimpleCallIsChosen at old ts us o = ChoosesOf
+      (λ (q : MethodKey). FindsMethodNamed rows (scope_of c) old ts (one (method_decl q)))
+      (SimpleCallSpells at old us) o
+
+  -- on a value of class k, which now is of type t
+  abbrev pub CallSpells : (at : ℕ) → Ty → (old : List ℕ) → List Ty → MethodKey → Choice → Type 0
+  CallSpells at t old us q h = Spells at old (method_to g q).name (method_decl q)
+      (method_decl (method_to g q)) (reference ref.MethodOn (method_to g q).name (on_type t) us)
+      (FindsOn t (λ k. FindsMethodOf (rows_to g rows) (scope_to g c) k (method_to g q).name us)) h
+
+  abbrev pub CallIsChosen : (at : ℕ) → (k : ClassKey) → Ty → (old : List ℕ) → (ts us : List Ty)
+      → Option Choice → Type 0
+  CallIsChosen at k t old ts us o = ChoosesOf
       (λ (q : MethodKey). FindsMethodOf rows (scope_of c) k old ts (one (method_decl q)))
-      (CallSpells at k old ts) o
+      (CallSpells at t old us) o
 
   abbrev pub StaticCallSpells : (at : ℕ) → InFront → (k : ClassKey) → (old : List ℕ)
       → List Ty → MethodKey → Choice → Type 0
-  StaticCallSpells at w k old ts q h = Spells at old (method_to g q).name (method_decl q)
-      (behind_words w (reference ref.ThroughClass (method_to g q).name
-      (operand_of (class_to g k)) (types_to g ts)))
-      (FindsBehind w (λ o. FindsMethodOf (rows_to g rows) (scope_to g c) o (method_to g q).name
-      (types_to g ts))) h
+  StaticCallSpells at w k old us q h = Spells at old (method_to g q).name (method_decl q)
+      (method_decl (method_to g q)) (behind_words w
+      (reference ref.ThroughClass (method_to g q).name (operand_of (class_to g k)) us))
+      (FindsBehind w
+      (λ o. FindsMethodOf (rows_to g rows) (scope_to g c) o (method_to g q).name us)) h
 
   abbrev pub StaticCallIsChosen : (at : ℕ) → InFront → (k : ClassKey) → (old : List ℕ)
-      → List Ty → Option Choice → Type 0
-  StaticCallIsChosen at w k old ts o = ChoosesOf
+      → (ts us : List Ty) → Option Choice → Type 0
+  StaticCallIsChosen at w k old ts us o = ChoosesOf
       (λ (q : MethodKey). FindsMethodOf rows (scope_of c) k old ts (one (method_decl q)))
-      (StaticCallSpells at w k old ts) o
+      (StaticCallSpells at w k old us) o
 
   abbrev pub SuperCallSpells : (at : ℕ) → (old : List ℕ) → List Ty → MethodKey → Choice → Type 0
-  SuperCallSpells at old ts q h = Spells at old (method_to g q).name (method_decl q)
-      (reference ref.AsAsked (method_to g q).name None (types_to g ts))
+  SuperCallSpells at old us q h = Spells at old (method_to g q).name (method_decl q)
+      (method_decl (method_to g q)) (reference ref.AsAsked (method_to g q).name None us)
       (FindsIn (IsSuperclass (rows_to g rows) (scope_to g c).class)
-      (λ k x. FindsMethodOf (rows_to g rows) (scope_to g c) k (method_to g q).name (types_to g ts)
-      x)) h
+      (λ k x. FindsMethodOf (rows_to g rows) (scope_to g c) k (method_to g q).name us x)) h
 
-  abbrev pub SuperCallIsChosen : (at : ℕ) → (old : List ℕ) → List Ty → Option Choice → Type 0
-  SuperCallIsChosen at old ts o = ChoosesOf
+  abbrev pub SuperCallIsChosen : (at : ℕ) → (old : List ℕ) → (ts us : List Ty) → Option Choice
+      → Type 0
+  SuperCallIsChosen at old ts us o = ChoosesOf
       (λ (q : MethodKey). FindsIn (IsSuperclass rows (scope_of c).class)
       (λ k x. FindsMethodOf rows (scope_of c) k old ts x) (one (method_decl q)))
-      (SuperCallSpells at old ts) o
+      (SuperCallSpells at old us) o
 
   -- ---- constructors
 
   abbrev pub CreationSpells : (at : ℕ) → (k : ClassKey) → List Ty → CtorKey → Choice → Type 0
-  CreationSpells at k ts q h = Spells at [] [] (constructor_decl q)
-      (reference ref.AsAsked [] (operand_of (class_to g k)) (types_to g ts))
-      (FindsCtorOf (rows_to g rows) (scope_to g c) (class_to g k) (types_to g ts)) h
+  CreationSpells at k us q h = Spells at [] [] (constructor_decl q)
+      (constructor_decl (ctor_to g q))
+      (reference ref.AsAsked [] (operand_of (class_to g k)) us)
+      (FindsCtorOf (rows_to g rows) (scope_to g c) (class_to g k) us) h
 
-  abbrev pub CreationIsChosen : (at : ℕ) → (k : ClassKey) → List Ty → Option Choice → Type 0
-  CreationIsChosen at k ts o = ChoosesOf
+  abbrev pub CreationIsChosen : (at : ℕ) → (k : ClassKey) → (ts us : List Ty) → Option Choice
+      → Type 0
+  CreationIsChosen at k ts us o = ChoosesOf
       (λ (q : CtorKey). FindsCtorOf rows (scope_of c) k ts (one (constructor_decl q)))
-      (CreationSpells at k ts) o
+      (CreationSpells at k us) o
 
   abbrev pub SuperCtorSpells : (at : ℕ) → List Ty → CtorKey → Choice → Type 0
-  SuperCtorSpells at ts q h = Spells at [] [] (constructor_decl q)
-      (reference ref.AsAsked [] None (types_to g ts))
+  SuperCtorSpells at us q h = Spells at [] [] (constructor_decl q)
+      (constructor_decl (ctor_to g q)) (reference ref.AsAsked [] None us)
       (FindsIn (IsSuperclass (rows_to g rows) (scope_to g c).class)
-      (λ k x. FindsCtorOf (rows_to g rows) (scope_to g c) k (types_to g ts) x)) h
+      (λ k x. FindsCtorOf (rows_to g rows) (scope_to g c) k us x)) h
 
-  abbrev pub SuperCtorIsChosen : (at : ℕ) → List Ty → Option Choice → Type 0
-  SuperCtorIsChosen at ts o = ChoosesOf
+  abbrev pub SuperCtorIsChosen : (at : ℕ) → (ts us : List Ty) → Option Choice → Type 0
+  SuperCtorIsChosen at ts us o = ChoosesOf
       (λ (q : CtorKey). FindsIn (IsSuperclass rows (scope_of c).class)
       (λ k x. FindsCtorOf rows (scope_of c) k ts x) (one (constructor_decl q)))
-      (SuperCtorSpells at ts) o
+      (SuperCtorSpells at us) o
 
   -- ---- classes as types
 
   abbrev pub TypeSpells : (at : ℕ) → (old : List ℕ) → ClassKey → Choice → Type 0
   TypeSpells at old k h = Spells at old (class_to g k).name (class_decl k)
+      (class_decl (class_to g k))
       (reference ref.ClassName (class_to g k).name None [])
       (FindsTypeNamed (rows_to g rows) (scope_to g c) (class_to g k).name) h
 
@@ -249,6 +251,7 @@ module _ (rows : List Row) (g : Renaming) (c : Context) where
   -- of class k, which stands behind the name of class o
   abbrev pub QualifiedTypeSpells : (at : ℕ) → (old : List ℕ) → (o k : ClassKey) → Choice → Type 0
   QualifiedTypeSpells at old o k h = Spells at old (class_to g k).name (class_decl k)
+      (class_decl (class_to g k))
       (reference ref.ClassName (dotted (class_to g o).name (class_to g k).name) None [])
       (spelling.QualifiedThere unmarked rows (region_of rows g) (scope_to g c)
       (class_to g o).name (class_to g k).name)
@@ -276,13 +279,13 @@ module _ (rows : List Row) (g : Renaming) (c : Context) where
       (QualifierSpells at old) o
 
 -- the superclass of a top-level class
-abbrev pub TopParentSpells : List Row → Renaming → (at : ℕ) → (old : List ℕ) → ClassKey → Choice
+abbrev pub TopParentSpells : List Row → Mapping → (at : ℕ) → (old : List ℕ) → ClassKey → Choice
     → Type 0
-TopParentSpells rows g at old k h = spelling.SpellsLeft unmarked rows g at old k
+TopParentSpells rows g at old k h = spelling.LeftChoice unmarked rows (region_of rows g) at old k
     (TopFinds (rows_to g rows) (class_to g k).name (one (class_decl (class_to g k))))
     (TopFinds (rows_to g rows) (class_to g k).name) h
 
-abbrev pub TopParentIsChosen : List Row → Renaming → (at : ℕ) → (old : List ℕ) → Option Choice
+abbrev pub TopParentIsChosen : List Row → Mapping → (at : ℕ) → (old : List ℕ) → Option Choice
     → Type 0
 TopParentIsChosen rows g at old o = ChoosesOf
     (λ (k : ClassKey). TopFinds rows old (one (class_decl k))) (TopParentSpells rows g at old) o

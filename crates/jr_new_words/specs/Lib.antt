@@ -1,3 +1,6 @@
+pub mod Mappings
+pub mod MappingView
+pub mod Spelled
 pub mod Scopes
 pub mod ChoiceView
 pub mod FrontView

@@ -1,5 +1,5 @@
--- When a name that is looked up one way and asked the other finds one row in both programs, which
--- has that name in both.
+-- When a name that is looked up one way and asked the other finds a row in the old program, and in
+-- the new one the image of what it declares, which has that name.
 use Rattle.std.specs.Prelude.{◌≡◌, ℕ, List, [], length, Some, false}
 use Rattle.std.specs.List.{position_or_len}
 use Rattle.jr_table.specs.Keys.{ClassKey, FieldKey, MethodKey, CtorKey, Ty}
@@ -19,15 +19,19 @@ use Rattle.jr_lookup.specs.ScopeView.{scope_of}
 use Rattle.jr_spell.specs.Binds.{is_dot}
 use Rattle.jr_images.specs.Words.{class_name}
 use Rattle.jr_new_words.specs.declared.scopes.Scopes as raw
+use Rattle.jr_new_words.specs.Mappings.{BecomesAt}
+use Rattle.jr_new_words.specs.MappingView.{keys_of}
 use Rattle.jr_new_words.specs.Ways.{
   Way,
   local,
   own_field,
   field_on,
+  field_on_none,
   field_through,
   field_above,
   method_named,
   method_on,
+  method_on_none,
   method_through,
   method_above,
   ctor_of,
@@ -70,11 +74,13 @@ Serves rows own_field name d = ⊥
 Serves rows (field_on k) name d = IsField name d × (IsStaticDecl rows d → ⊥)
 Serves rows (field_through w k) name d =
     (w ≡ class_name k) × IsField name d × (IsInstanceDecl rows d → ⊥)
+Serves rows (field_on_none t) name d = ⊥
 Serves rows field_above name d = ⊥
 Serves rows method_named name d = IsMethod name d
 Serves rows (method_on k) name d = IsMethod name d × (IsStaticDecl rows d → ⊥)
 Serves rows (method_through w k) name d =
     (w ≡ class_name k) × IsMethod name d × (IsInstanceDecl rows d → ⊥)
+Serves rows (method_on_none t) name d = ⊥
 Serves rows method_above name d = ⊥
 Serves rows (ctor_of k) name d = IsCtor name d
 Serves rows ctor_above name d = ⊥
@@ -85,9 +91,17 @@ Serves rows (type_behind outer) name d = ⊥
 abbrev pub ServesAt : List Row → Way → (name : List ℕ) → ℕ → Type 0
 ServesAt rows w name j = (d : Decl) × (decl_at rows j ≡ Some d) × Serves rows w name d
 
+-- the image of what the row declares is found in the new program, and has the name
+pub record FindsImage (s : raw.Scopes) (to : Way) (images : List Ty) (name : List ℕ) (number : ℕ)
+    : Type 0 where
+  pub image : ℕ
+  pub after : FindsBy s.programs.after.now (scope_of s.after) to name images image
+  pub becomes : BecomesAt (keys_of s.programs.keys) s.programs.before.now s.programs.after.now
+      number image
+  pub serves : ServesAt s.programs.after.now to name image
+
 pub record StaysBy (s : raw.Scopes) (from : Way) (types : List Ty) (to : Way) (images : List Ty)
     (name : List ℕ) : Type 0 where
   pub number : ℕ
   pub before : FindsBy s.programs.before.now (scope_of s.before) from name types number
-  pub after : FindsBy s.programs.after.now (scope_of s.after) to name images number
-  pub serves : ServesAt s.programs.after.now to name number
+  pub there : FindsImage s to images name number

@@ -13,8 +13,8 @@ use Rattle.jr_spell.specs.References.{Reference, Operand}
 use Rattle.jr_spell.specs.ReferenceView.{reference_of}
 use Rattle.jr_spell.specs.Taken.{IsTaken, NoneBinds}
 use Rattle.jr_rewrite.specs.Respellings.{Choice, loses}
-use Rattle.jr_images.specs.Images.{Renaming, rows_to, scope_to}
-use Rattle.jr_images.specs.Words.{InFront, StandsSo}
+use Rattle.jr_images.specs.Words.{InFront}
+use Rattle.jr_new_words.specs.Mappings.{Mapping, rows_to, scope_to, StandsSo}
 use Rattle.jr_images.specs.Spelling.{spelled, renamed, reference, operand_of, behind_words}
 use Rattle.jr_new_words.specs.declared.asking.Asked as raw
 
@@ -58,7 +58,7 @@ TakesInFront rows s w on k old o =
     (class_decl k) k.name) old o
 
 -- by the words that its name finds
-abbrev pub TakesByName : List Row → Renaming → Context → (Finds : List ℕ → Found → Type 0)
+abbrev pub TakesByName : List Row → Mapping → Context → (Finds : List ℕ → Found → Type 0)
     → (on : Option ClassKey) → (image : ClassKey) → (old : List ℕ) → Option Choice → Type 0
 TakesByName rows g c Finds on k old o = (w : InFront)
     × ((f : Found) × Finds k.name f × StandsSo rows g c f w)

@@ -16,8 +16,8 @@ use Rattle.jr_table.specs.Found.{Found, one}
 use Rattle.jr_table.specs.Lookup.{FindsTypeNamed, FindsTypeOf}
 use Rattle.jr_table.specs.Context.{Context, scope_of}
 use Rattle.jr_table.specs.Binding.{FindsIn}
-use Rattle.jr_images.specs.Images.{Renaming, class_to}
 use Rattle.jr_images.specs.Words.{InFront, class_name, value_of, neither}
+use Rattle.jr_new_words.specs.Mappings.{Mapping, class_to}
 
 -- of this type
 abbrev pub of_type : Option Ty → InFront
@@ -38,7 +38,7 @@ of_decl (Some (constructor_decl k)) = neither
 of_decl (Some (local_decl k)) = neither
 
 -- of the image of the class that has the property, where it has a row
-abbrev pub IsValue : List Row → Renaming → (Has : ClassKey → Type 0) → InFront → Type 0
+abbrev pub IsValue : List Row → Mapping → (Has : ClassKey → Type 0) → InFront → Type 0
 IsValue rows g Has (class_name b) = ⊥
 IsValue rows g Has (value_of b) =
     (t : ClassKey) × (j : ℕ) × Has t × IsRowOf rows (class_decl t) j × (b ≡ class_to g t)

@@ -6,12 +6,13 @@ ghost use Rattle.jr_table.specs.Found.{Found, nothing};
 ghost use Rattle.jr_table.specs.Lookup.{find_field_in, FindsLeft, FindsLeftOf};
 ghost use Rattle.jr_table.specs.Lookup as lookup;
 ghost use Rattle.jr_lookup.specs.ScopeView.{scope_of};
-ghost use Rattle.jr_images.specs.Words as words;
+ghost use Rattle.jr_images.specs.Words.{class_name, value_of};
+ghost use Rattle.jr_new_words.specs.Mappings as words;
 ghost use Rattle.jr_new_words.specs.FrontView.{in_front_of};
 ghost use Rattle.jr_new_words.specs.Scopes.{
   IsKept,
   rows_of,
-  naming_of,
+  mapping_of,
   context_of,
   rows_to,
   place_to,
@@ -19,11 +20,11 @@ ghost use Rattle.jr_new_words.specs.Scopes.{
 ghost use Rattle.jr_new_words.specs.Staying.{without_locals};
 
 use crate::fronts::InFront;
+use crate::mappings::class_to;
 use crate::scopes::Scopes;
 use crate::staying::row_decl;
 use crate::values::{number_stands, row_stands};
 use jr_ast::Name;
-use jr_images::class_to;
 use jr_lookup::{Scope, field_at, field_in_at, member_type_at, type_at};
 use jr_table::{Answer, ClassKey, Table, lookups_are_exact};
 use std::alloc::AllocError;
@@ -102,7 +103,7 @@ fn field_answer(table: &Table, scope: &Scope, class: &ClassKey, name: &Name) -> 
 
 fn answer_stands<'a>(scopes: &Scopes<'a>, answer: Answer) -> Result<InFront<'a>, AllocError>
     requires { IsKept scopes.now }
-    ensures { IfOk result (λ w. words.StandsSo (rows_of scopes.now) (naming_of scopes.now)
+    ensures { IfOk result (λ w. words.StandsSo (rows_of scopes.now) (mapping_of scopes.now)
         (context_of scopes.now) (lookup.shown (rows_to scopes.now) answer) (in_front_of w)) }
 {
     match answer {
@@ -122,8 +123,8 @@ fn field_stands<'a>(
 ) -> Result<InFront<'a>, AllocError>
     requires { IsKept scopes.now }
     ensures { IfOk result (λ w. (f : Found) × words.FindsNext (rows_of scopes.now)
-        (naming_of scopes.now) (context_of scopes.now) (words.value_of (class_key_of class.now))
-        name.now f × words.StandsSo (rows_of scopes.now) (naming_of scopes.now)
+        (mapping_of scopes.now) (context_of scopes.now) (value_of (class_key_of class.now))
+        name.now f × words.StandsSo (rows_of scopes.now) (mapping_of scopes.now)
         (context_of scopes.now) f (in_front_of w)) }
 {
     let table = scopes.programs.after;
@@ -140,8 +141,8 @@ fn member_stands<'a>(
 ) -> Result<InFront<'a>, AllocError>
     requires { IsKept scopes.now }
     ensures { IfOk result (λ w. (f : Found) × words.FindsNext (rows_of scopes.now)
-        (naming_of scopes.now) (context_of scopes.now) (words.class_name (class_key_of class.now))
-        name.now f × words.StandsSo (rows_of scopes.now) (naming_of scopes.now)
+        (mapping_of scopes.now) (context_of scopes.now) (class_name (class_key_of class.now))
+        name.now f × words.StandsSo (rows_of scopes.now) (mapping_of scopes.now)
         (context_of scopes.now) f (in_front_of w)) }
 {
     let table = scopes.programs.after;
@@ -152,7 +153,7 @@ fn member_stands<'a>(
 pub(crate) fn first_named<'a>(scopes: &Scopes<'a>, name: &Name) -> Result<InFront<'a>, AllocError>
     requires { IsKept scopes.now }
     ensures { IfOk result (λ w. (f : Found) × FindsLeft (rows_to scopes.now) (place_to scopes.now)
-        name.now f × words.StandsSo (rows_of scopes.now) (naming_of scopes.now)
+        name.now f × words.StandsSo (rows_of scopes.now) (mapping_of scopes.now)
         (context_of scopes.now) f (in_front_of w)) }
 {
     let table = scopes.programs.after;
@@ -172,8 +173,8 @@ pub(crate) fn next_named<'a>(
 ) -> Result<InFront<'a>, AllocError>
     requires { IsKept scopes.now }
     ensures { IfOk result (λ w. (f : Found) × words.FindsNext (rows_of scopes.now)
-        (naming_of scopes.now) (context_of scopes.now) (in_front_of front.now) name.now f
-        × words.StandsSo (rows_of scopes.now) (naming_of scopes.now) (context_of scopes.now) f
+        (mapping_of scopes.now) (context_of scopes.now) (in_front_of front.now) name.now f
+        × words.StandsSo (rows_of scopes.now) (mapping_of scopes.now) (context_of scopes.now) f
         (in_front_of w)) }
 {
     match *front {
@@ -188,10 +189,10 @@ pub(crate) fn next_named<'a>(
 /// What the new name of a class finds as the first word in front of a dot.
 pub fn first_word<'a>(scopes: &Scopes<'a>, class: &ClassKey) -> Result<InFront<'a>, AllocError>
     requires { IsKept scopes.now }
-    ensures { IfOk result (λ w. words.FirstStands (rows_of scopes.now) (naming_of scopes.now)
+    ensures { IfOk result (λ w. words.FirstStands (rows_of scopes.now) (mapping_of scopes.now)
         (context_of scopes.now) (class_key_of class.now) (in_front_of w)) }
 {
-    let image = class_to(scopes.programs.name, class)?;
+    let image = class_to(&scopes.programs.keys, class)?;
     first_named(scopes, &image.name)
 }
 
@@ -202,10 +203,10 @@ pub fn next_word<'a>(
     class: &ClassKey,
 ) -> Result<InFront<'a>, AllocError>
     requires { IsKept scopes.now }
-    ensures { IfOk result (λ w. words.NextStands (rows_of scopes.now) (naming_of scopes.now)
+    ensures { IfOk result (λ w. words.NextStands (rows_of scopes.now) (mapping_of scopes.now)
         (context_of scopes.now) (in_front_of front.now) (class_key_of class.now)
         (in_front_of w)) }
 {
-    let image = class_to(scopes.programs.name, class)?;
+    let image = class_to(&scopes.programs.keys, class)?;
     next_named(scopes, front, &image.name)
 }

@@ -9,17 +9,16 @@ ghost use Rattle.jr_table.specs.Lookup.{FindsVariable, FindsFieldIn, FindsLeft, 
 ghost use Rattle.jr_table.specs.HeadRules.{TopFinds};
 ghost use Rattle.jr_table.specs.Context.{scope_of};
 ghost use Rattle.jr_new_words.specs.Scopes.{
-  AreImages,
+  AreTables,
   IsKept,
-  rows_in,
-  renaming_in,
   rows_of,
-  naming_of,
+  mapping_of,
   context_of,
   rows_to,
   place_to,
 };
-ghost use Rattle.jr_images.specs.Words.{FindsNext};
+ghost use Rattle.jr_new_words.specs.Mappings.{FindsNext};
+ghost use Rattle.jr_new_words.specs.MappingView.{mapping_in};
 ghost use Rattle.jr_new_words.specs.FrontView.{in_front_of};
 ghost use Rattle.jr_new_words.specs.ChoiceView.{choice_of};
 ghost use Rattle.jr_new_words.specs.Taking.{
@@ -39,11 +38,11 @@ use crate::class_words::{first_named, next_named};
 use crate::finding::{class_found, is_class, is_nothing, something};
 use crate::fronts::{InFront, names_class};
 use crate::looking::{variable_of, variable_to};
-use crate::programs::Programs;
+use crate::mappings::class_to;
+use crate::programs::Tables;
 use crate::scopes::Scopes;
 use crate::taking::{forget_asked, forget_decl};
 use jr_ast::Name;
-use jr_images::class_to;
 use jr_lookup::{field_of, member_type, type_named};
 use jr_table::{ClassKey, Decl, Found, Table, lookups_are_exact};
 use std::alloc::{AllocError, Global};
@@ -165,7 +164,7 @@ fn left_in(scopes: &Scopes<'_>, class: &ClassKey, name: &Name) -> Result<Found, 
 /// The same behind words that stand so.
 fn next_found(scopes: &Scopes<'_>, front: &InFront<'_>, name: &Name) -> Result<Found, AllocError>
     requires { IsKept scopes.now }
-    ensures { IfOk result (λ f. FindsNext (rows_of scopes.now) (naming_of scopes.now)
+    ensures { IfOk result (λ f. FindsNext (rows_of scopes.now) (mapping_of scopes.now)
         (context_of scopes.now) (in_front_of front.now) name.now (found_of f)) }
 {
     match *front {
@@ -183,7 +182,7 @@ fn first_taken(
     image: &ClassKey,
 ) -> Result<Option<Choice>, AllocError>
     requires { IsKept scopes.now }
-    ensures { IfOk result (λ o. TakesByName (rows_of scopes.now) (naming_of scopes.now)
+    ensures { IfOk result (λ o. TakesByName (rows_of scopes.now) (mapping_of scopes.now)
         (context_of scopes.now) (FindsLeft (rows_to scopes.now) (place_to scopes.now)) None
         (class_key_of image.now) old.now (option_map choice_of o)) }
 {
@@ -216,10 +215,10 @@ fn leading(
     key: &ClassKey,
 ) -> Result<Choice, AllocError>
     requires { IsKept scopes.now }
-    ensures { IfOk result (λ h. chosen.ClassSpells (rows_of scopes.now) (naming_of scopes.now)
+    ensures { IfOk result (λ h. chosen.ClassSpells (rows_of scopes.now) (mapping_of scopes.now)
         (context_of scopes.now) at old.now (class_key_of key.now) (choice_of h)) }
 {
-    let image = class_to(scopes.programs.name, key)?;
+    let image = class_to(&scopes.programs.keys, key)?;
     let first = first_taken(alloc, scopes, old, &image)?;
     match first {
         Some(choice) => Ok(choice),
@@ -236,7 +235,7 @@ fn type_by_name(
     requires kept { IsKept scopes.now }
     requires free { FindsVariable (rows_of scopes.now) (scope_of (context_of scopes.now)) name.now
         nothing }
-    ensures { IfOk result (λ o. chosen.ClassIsChosen (rows_of scopes.now) (naming_of scopes.now)
+    ensures { IfOk result (λ o. chosen.ClassIsChosen (rows_of scopes.now) (mapping_of scopes.now)
         (context_of scopes.now) at name.now (option_map choice_of o)) }
 {
     let table = scopes.programs.before;
@@ -257,7 +256,7 @@ pub fn left_class(
     name: &Name,
 ) -> Result<Option<Choice>, AllocError>
     requires { IsKept scopes.now }
-    ensures { IfOk result (λ o. chosen.ClassIsChosen (rows_of scopes.now) (naming_of scopes.now)
+    ensures { IfOk result (λ o. chosen.ClassIsChosen (rows_of scopes.now) (mapping_of scopes.now)
         (context_of scopes.now) at name.now (option_map choice_of o)) }
 {
     scopes.programs.before.keeps_rows();
@@ -280,8 +279,8 @@ fn next_taken(
     image: &ClassKey,
 ) -> Result<Option<Choice>, AllocError>
     requires { IsKept scopes.now }
-    ensures { IfOk result (λ o. TakesByName (rows_of scopes.now) (naming_of scopes.now)
-        (context_of scopes.now) (FindsNext (rows_of scopes.now) (naming_of scopes.now)
+    ensures { IfOk result (λ o. TakesByName (rows_of scopes.now) (mapping_of scopes.now)
+        (context_of scopes.now) (FindsNext (rows_of scopes.now) (mapping_of scopes.now)
         (context_of scopes.now) (in_front_of front.now)) (Some (class_key_of on.now))
         (class_key_of image.now) old.now (option_map choice_of o)) }
 {
@@ -299,7 +298,7 @@ fn next_lost(
 ) -> Result<Choice, AllocError>
     requires { IsKept scopes.now }
     ensures { IfOk result (λ h. LosesByName (FindsNext (rows_of scopes.now)
-        (naming_of scopes.now) (context_of scopes.now) (in_front_of front.now)
+        (mapping_of scopes.now) (context_of scopes.now) (in_front_of front.now)
         (class_key_of image.now).name) at (class_key_of key.now) (choice_of h)) }
 {
     let found = next_found(scopes, front, &image.name)?;
@@ -318,10 +317,10 @@ fn leading_behind(
 ) -> Result<Choice, AllocError>
     requires { IsKept scopes.now }
     ensures { IfOk result (λ h. chosen.MemberClassBehind (rows_of scopes.now)
-        (naming_of scopes.now) (context_of scopes.now) at (in_front_of front.now)
+        (mapping_of scopes.now) (context_of scopes.now) at (in_front_of front.now)
         (class_key_of on.now) old.now (class_key_of key.now) (choice_of h)) }
 {
-    let image = class_to(scopes.programs.name, key)?;
+    let image = class_to(&scopes.programs.keys, key)?;
     let first = next_taken(alloc, scopes, front, old, on, &image)?;
     match first {
         Some(choice) => Ok(choice),
@@ -341,10 +340,10 @@ fn leading_in(
 ) -> Result<Choice, AllocError>
     requires { IsKept scopes.now }
     ensures { IfOk result (λ h. chosen.MemberClassSpells (rows_of scopes.now)
-        (naming_of scopes.now) (context_of scopes.now) at (in_front_of front.now)
+        (mapping_of scopes.now) (context_of scopes.now) at (in_front_of front.now)
         (class_key_of class.now) old.now (class_key_of key.now) (choice_of h)) }
 {
-    let on = class_to(scopes.programs.name, class)?;
+    let on = class_to(&scopes.programs.keys, class)?;
     leading_behind(alloc, scopes, at, &on, front, old, key)
 }
 
@@ -360,7 +359,7 @@ fn member_by_name(
     requires free { FindsFieldIn (rows_of scopes.now) (scope_of (context_of scopes.now))
         (class_key_of class.now) name.now nothing }
     ensures { IfOk result (λ o. chosen.MemberClassIsChosen (rows_of scopes.now)
-        (naming_of scopes.now) (context_of scopes.now) at (in_front_of front.now)
+        (mapping_of scopes.now) (context_of scopes.now) at (in_front_of front.now)
         (class_key_of class.now) name.now (option_map choice_of o)) }
 {
     let table = scopes.programs.before;
@@ -385,7 +384,7 @@ pub fn member_class(
 ) -> Result<Option<Choice>, AllocError>
     requires { IsKept scopes.now }
     ensures { IfOk result (λ o. chosen.MemberClassIsChosen (rows_of scopes.now)
-        (naming_of scopes.now) (context_of scopes.now) at (in_front_of front.now)
+        (mapping_of scopes.now) (context_of scopes.now) at (in_front_of front.now)
         (class_key_of class.now) name.now (option_map choice_of o)) }
 {
     let table = scopes.programs.before;
@@ -409,13 +408,13 @@ fn qualifying(
     key: &ClassKey,
 ) -> Result<Choice, AllocError>
     requires { IsKept scopes.now }
-    ensures { IfOk result (λ h. chosen.QualifierSpells (rows_of scopes.now) (naming_of scopes.now)
+    ensures { IfOk result (λ h. chosen.QualifierSpells (rows_of scopes.now) (mapping_of scopes.now)
         (context_of scopes.now) at old.now (class_key_of key.now) (choice_of h)) }
 {
     let table = scopes.programs.after;
     table.keeps_rows();
     lookups_are_exact();
-    let image = class_to(scopes.programs.name, key)?;
+    let image = class_to(&scopes.programs.keys, key)?;
     let found = type_named(table, &scopes.after, &image.name)?;
     renamed_or_lost(alloc, at, old, key, &image, found)
 }
@@ -429,7 +428,7 @@ pub fn qualifier(
 ) -> Result<Option<Choice>, AllocError>
     requires { IsKept scopes.now }
     ensures { IfOk result (λ o. chosen.QualifierIsChosen (rows_of scopes.now)
-        (naming_of scopes.now) (context_of scopes.now) at name.now (option_map choice_of o)) }
+        (mapping_of scopes.now) (context_of scopes.now) at name.now (option_map choice_of o)) }
 {
     let table = scopes.programs.before;
     table.keeps_rows();
@@ -457,34 +456,34 @@ fn top_found(alloc: Global, table: &Table, name: &Name) -> Result<Found, AllocEr
 
 fn superclass_choice(
     alloc: Global,
-    programs: &Programs<'_>,
+    tables: &Tables<'_>,
     at: u32,
     old: &Name,
     key: &ClassKey,
 ) -> Result<Choice, AllocError>
-    requires { AreImages programs.now }
-    ensures { IfOk result (λ h. chosen.TopParentSpells (rows_in programs.now)
-        (renaming_in programs.now) at old.now (class_key_of key.now) (choice_of h)) }
+    requires { AreTables tables.now }
+    ensures { IfOk result (λ h. chosen.TopParentSpells tables.now.before.now
+        (mapping_in tables.now) at old.now (class_key_of key.now) (choice_of h)) }
 {
-    let image = class_to(programs.name, key)?;
-    let found = top_found(alloc, programs.after, &image.name)?;
+    let image = class_to(&tables.keys, key)?;
+    let found = top_found(alloc, tables.after, &image.name)?;
     renamed_or_lost(alloc, at, old, key, &image, found)
 }
 
 /// The choice for the superclass of a top-level class.
 pub fn top_parent(
     alloc: Global,
-    programs: &Programs<'_>,
+    tables: &Tables<'_>,
     at: u32,
     name: &Name,
 ) -> Result<Option<Choice>, AllocError>
-    requires { AreImages programs.now }
-    ensures { IfOk result (λ o. chosen.TopParentIsChosen (rows_in programs.now)
-        (renaming_in programs.now) at name.now (option_map choice_of o)) }
+    requires { AreTables tables.now }
+    ensures { IfOk result (λ o. chosen.TopParentIsChosen tables.now.before.now
+        (mapping_in tables.now) at name.now (option_map choice_of o)) }
 {
-    let found = top_found(alloc, programs.before, name)?;
+    let found = top_found(alloc, tables.before, name)?;
     match class_found(&found) {
         None => Ok(None),
-        Some(key) => Ok(Some(superclass_choice(alloc, programs, at, name, key)?)),
+        Some(key) => Ok(Some(superclass_choice(alloc, tables, at, name, key)?)),
     }
 }

@@ -1,16 +1,16 @@
 //! Creations, and written `super(..)` (JLS 15.9.3, 8.8.7.1).
 ghost use Rattle.std.specs.Prelude.{◌≡◌, IfOk, option_map};
 ghost use Rattle.jr_table.specs.TypeView.{class_key_of};
-ghost use Rattle.jr_new_words.specs.Scopes.{IsKept, rows_of, naming_of, context_of};
+ghost use Rattle.jr_new_words.specs.Scopes.{IsKept, rows_of, mapping_of, context_of};
 ghost use Rattle.jr_new_words.specs.ChoiceView.{choice_of};
 ghost use Rattle.jr_new_words.specs.Chosen as chosen;
 
 use crate::choices::Choice;
+use crate::mappings::class_to;
 use crate::scopes::Scopes;
 use crate::taking::chosen;
 use crate::ways::Way;
 use jr_ast::Name;
-use jr_images::{class_to, types_to};
 use jr_table::{ClassKey, Tys};
 use std::alloc::{AllocError, Global};
 
@@ -21,15 +21,15 @@ pub fn creation(
     at: u32,
     class: &ClassKey,
     args: &Tys,
+    images: &Tys,
 ) -> Result<Option<Choice>, AllocError>
     requires { IsKept scopes.now }
-    ensures { IfOk result (λ o. chosen.CreationIsChosen (rows_of scopes.now) (naming_of scopes.now)
-        (context_of scopes.now) at (class_key_of class.now) args.now (option_map choice_of o)) }
+    ensures { IfOk result (λ o. chosen.CreationIsChosen (rows_of scopes.now) (mapping_of scopes.now)
+        (context_of scopes.now) at (class_key_of class.now) args.now images.now
+        (option_map choice_of o)) }
 {
     let none = Name::new(alloc, "")?;
-    let g = scopes.programs.name;
-    let images = types_to(alloc, g, args)?;
-    let on = class_to(g, class)?;
+    let on = class_to(&scopes.programs.keys, class)?;
     chosen(
         alloc,
         scopes,
@@ -38,7 +38,7 @@ pub fn creation(
         &Way::CtorOf(class),
         args,
         &Way::CtorOf(&on),
-        &images,
+        images,
     )
 }
 
@@ -48,13 +48,13 @@ pub fn super_ctor(
     scopes: &Scopes<'_>,
     at: u32,
     args: &Tys,
+    images: &Tys,
 ) -> Result<Option<Choice>, AllocError>
     requires { IsKept scopes.now }
-    ensures { IfOk result (λ o. chosen.SuperCtorIsChosen (rows_of scopes.now) (naming_of scopes.now)
-        (context_of scopes.now) at args.now (option_map choice_of o)) }
+    ensures { IfOk result (λ o. chosen.SuperCtorIsChosen (rows_of scopes.now) (mapping_of scopes.now)
+        (context_of scopes.now) at args.now images.now (option_map choice_of o)) }
 {
     let none = Name::new(alloc, "")?;
-    let images = types_to(alloc, scopes.programs.name, args)?;
     chosen(
         alloc,
         scopes,
@@ -63,6 +63,6 @@ pub fn super_ctor(
         &Way::CtorAbove,
         args,
         &Way::CtorAbove,
-        &images,
+        images,
     )
 }

@@ -1,13 +1,14 @@
-//! How each reference of a program is spelled where declarations get another name: the choice for
-//! one reference at a time, given by what its name is looked up with. The walk over trees stands
-//! above it; it knows none.
+//! How each kept reference of a program is spelled in what becomes of it: the choice for one
+//! reference at a time, given by what its name is looked up with. The walk over trees stands above
+//! it; it knows none.
 //!
-//! `programs`: the old table, the new one, the names. `scopes`: what is known at a place in both
-//! programs. A call a form of reference looks the old declaration up and answers its choice, or
-//! none where the lookup finds no such declaration: `variables`, `fields`, `calls`, `ctors`,
-//! `types`, `classes` (in front of a dot), `superclasses`, `declaring` (declared names). `choices`:
-//! what comes of a word, with owned texts. `fronts`, `class_words`, `values`: what the words in
-//! front of a dot find in the new program, looked up as they are.
+//! `mappings`, `numbers`: what becomes of keys and locals. `programs`: the old table, the new one,
+//! the keys. `scopes`: what is known at a place in both programs. A call a form of reference looks
+//! the old declaration up and answers its choice, or none where the lookup finds no such
+//! declaration: `variables`, `fields`, `calls`, `ctors`, `types`, `classes` (in front of a dot),
+//! `superclasses`, `declaring` (declared names). `choices`: what comes of a word, with owned texts.
+//! `fronts`, `class_words`, `values`: what the words in front of a dot find in the new program,
+//! looked up as they are.
 //!
 //! All forms but classes in front of a dot go one way: `ways` says how a name is looked up and how
 //! its image is asked; `taking` looks it up the one way (`looking`), takes the image of what is
@@ -29,7 +30,9 @@ mod fields;
 mod finding;
 mod fronts;
 mod looking;
+mod mappings;
 mod nearby;
+mod numbers;
 mod programs;
 mod scopes;
 mod staying;
@@ -49,7 +52,9 @@ pub use ctors::{creation, super_ctor};
 pub use declaring::{local_choice, member_choice};
 pub use fields::{field, static_field, super_field};
 pub use fronts::InFront;
-pub use programs::Programs;
+pub use mappings::{KeyMapping, class_type_to, types_to};
+pub use numbers::{LocalMapping, MadeLocal, Renumbering};
+pub use programs::{Programs, Tables, tables_of};
 pub use scopes::Scopes;
 pub use types::{qualified_type, simple_type};
 pub use variables::variable;

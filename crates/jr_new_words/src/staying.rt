@@ -1,5 +1,5 @@
-//! Simple names that find the same variable in both programs, which keeps its name: found by
-//! numbers, without memory.
+//! Simple names that find a variable and its image, which has the same name: found by numbers,
+//! without memory.
 ghost use Rattle.std.specs.Prelude.{◌≡◌, ◌↔◌, ℕ, IsTrue, IfSome, Some, None, option_map};
 ghost use Rattle.jr_table.specs.Keys.{FieldKey};
 ghost use Rattle.jr_table.specs.Decls.{field_decl};
@@ -10,11 +10,29 @@ ghost use Rattle.jr_lookup.specs.ScopeView.{scope_of};
 ghost use Rattle.jr_scopes.specs.Helds.{last_number};
 ghost use Rattle.jr_scopes.specs.Tracked.{helds_of};
 ghost use Rattle.jr_rewrite.specs.Respellings as respellings;
-ghost use Rattle.jr_new_words.specs.Scopes.{IsKept, rows_of, naming_of, context_of};
+ghost use Rattle.jr_new_words.specs.Mappings.{BecomesAt};
+ghost use Rattle.jr_new_words.specs.MappingView.{keys_of};
+ghost use Rattle.jr_new_words.specs.Scopes.{
+  AreTables,
+  IsKept,
+  rows_of,
+  mapping_of,
+  context_of,
+};
 ghost use Rattle.jr_new_words.specs.Chosen as chosen;
-ghost use Rattle.jr_new_words.specs.Staying.{FindsRow, DeclaresField, LocalStays, FieldStays};
+ghost use Rattle.jr_new_words.specs.Staying.{
+  FindsRow,
+  DeclareOne,
+  DeclaresField,
+  FindsLocal,
+  LocalStays,
+  FieldStays,
+};
 
-use crate::scopes::{Scopes, is_renamed_local};
+use crate::mappings::{KeyMapping, is_renamed_local};
+use crate::numbers::number_if_kept;
+use crate::programs::Tables;
+use crate::scopes::Scopes;
 use jr_ast::Name;
 use jr_lookup::{Scope, field_at};
 use jr_table::{Answer, Decl, Table, lookups_are_exact};
@@ -85,31 +103,81 @@ pub(crate) fn is_number(found: Option<u32>, number: u32) -> bool
     }
 }
 
-/// Whether the name finds the field of this row, and the field has the name.
-fn finds_field(table: &Table, scope: &Scope, name: &Name, number: u32) -> bool
-    ensures { IsTrue result → FindsRow table.now (scope_of scope.now) name.now number
-        × DeclaresField table.now name.now number }
+/// Whether the row declares this.
+fn declares(table: &Table, number: u32, decl: &Decl) -> bool
+    ensures { IsTrue result → decl_at table.now number ≡ Some (decl_of decl.now) }
 {
-    if is_number(field_row(table, scope, name), number) {
-        declares_field(table, name, number)
+    match row_decl(table, number) {
+        None => false,
+        Some(other) => *other == *decl,
+    }
+}
+
+/// Whether both rows declare the same.
+fn declare_one(tables: &Tables<'_>, before: u32, after: u32) -> bool
+    ensures { IsTrue result → DeclareOne tables.now.before.now tables.now.after.now before
+        after }
+{
+    match row_decl(tables.before, before) {
+        None => false,
+        Some(decl) => declares(tables.after, after, decl),
+    }
+}
+
+/// Whether what the one row declares becomes what the other declares.
+pub(crate) fn becomes(tables: &Tables<'_>, before: u32, after: u32) -> bool
+    requires { AreTables tables.now }
+    ensures { IsTrue result → BecomesAt (keys_of tables.now.keys) tables.now.before.now
+        tables.now.after.now before after }
+{
+    match tables.keys {
+        KeyMapping::Same => declare_one(tables, before, after),
+        KeyMapping::Renamed(_) => before == after,
+    }
+}
+
+/// Whether the one row's field becomes the other's, which has the name.
+fn becomes_field(tables: &Tables<'_>, name: &Name, before: u32, after: u32) -> bool
+    requires { AreTables tables.now }
+    ensures { IsTrue result → BecomesAt (keys_of tables.now.keys) tables.now.before.now
+        tables.now.after.now before after × DeclaresField tables.now.after.now name.now after }
+{
+    if becomes(tables, before, after) {
+        declares_field(tables.after, name, after)
     } else {
         false
     }
 }
 
-/// Whether the name finds the field of the same row in both programs, and the field has the name
-/// in the new one, where no local has it there.
+/// Whether the name finds the image of this row's field in the new program, where no local has it
+/// there, and the image has the name.
+fn finds_image(scopes: &Scopes<'_>, name: &Name, number: u32) -> bool
+    requires kept { IsKept scopes.now }
+    requires free { last_number name.now (helds_of scopes.now.renamed) ≡ None }
+    requires finds { FindsRow scopes.now.programs.before.now (scope_of scopes.now.before)
+        name.now number }
+    ensures { IsTrue result → FieldStays scopes.now name.now }
+{
+    match field_row(scopes.programs.after, &scopes.after, name) {
+        None => false,
+        Some(image) => becomes_field(&scopes.programs, name, number, image),
+    }
+}
+
+/// Whether the name finds a field and its image, which has the name, where no local has it in the
+/// new program.
 fn field_agrees(scopes: &Scopes<'_>, name: &Name) -> bool
-    requires { last_number name.now (helds_of scopes.now.renamed) ≡ None }
+    requires kept { IsKept scopes.now }
+    requires free { last_number name.now (helds_of scopes.now.renamed) ≡ None }
     ensures { IsTrue result → FieldStays scopes.now name.now }
 {
     match field_row(scopes.programs.before, &scopes.before, name) {
         None => false,
-        Some(number) => finds_field(scopes.programs.after, &scopes.after, name, number),
+        Some(number) => finds_image(scopes, name, number),
     }
 }
 
-/// Whether the name finds the same field in both programs, which has the name in the new one.
+/// Whether the name finds a field and its image, which has the name.
 fn field_stays(scopes: &Scopes<'_>, name: &Name) -> bool
     requires { IsKept scopes.now }
     ensures { IsTrue result → FieldStays scopes.now name.now }
@@ -120,24 +188,35 @@ fn field_stays(scopes: &Scopes<'_>, name: &Name) -> bool
     }
 }
 
+/// Whether the name finds the image of the local of this number in the new program.
+fn finds_local(scopes: &Scopes<'_>, name: &Name, number: u32) -> bool
+    requires { IsKept scopes.now }
+    ensures { IsTrue result → FindsLocal scopes.now name.now number }
+{
+    match number_if_kept(&scopes.numbers, number) {
+        None => false,
+        Some(to) => is_number(scopes.renamed.number_named(name), to),
+    }
+}
+
 /// Whether the local of this number keeps its name, and the name finds it in the new program.
 fn local_stays(scopes: &Scopes<'_>, name: &Name, number: u32) -> bool
     requires { IsKept scopes.now }
     ensures { IsTrue result → LocalStays scopes.now name.now number }
 {
-    if is_renamed_local(scopes.programs.name, scopes.member, number) {
+    if is_renamed_local(&scopes.programs.keys, scopes.member, number) {
         false
     } else {
-        is_number(scopes.renamed.number_named(name), number)
+        finds_local(scopes, name, number)
     }
 }
 
-/// Whether a simple name finds the same variable in both programs, which keeps its name: so that
-/// the reference stays as it is.
+/// Whether a simple name finds a variable and its image, which has the same name: so that the
+/// reference stays as it is.
 pub(crate) fn stays(scopes: &Scopes<'_>, name: &Name) -> bool
     requires { IsKept scopes.now }
     ensures { IsTrue result → (at : ℕ) → chosen.VariableIsChosen (rows_of scopes.now)
-        (naming_of scopes.now) (context_of scopes.now) at name.now (Some respellings.stays) }
+        (mapping_of scopes.now) (context_of scopes.now) at name.now (Some respellings.stays) }
 {
     scopes.programs.before.keeps_rows();
     scopes.programs.after.keeps_rows();

@@ -1,4 +1,4 @@
-//! Declarations that are found by the same number in both programs, and keep their name: no key is
+//! Declarations whose images are found by their names: by the numbers of rows, so that no key is
 //! copied.
 ghost use Rattle.std.specs.Prelude.{◌≡◌, [], length, IsTrue, IfOk, IfSome, Some};
 ghost use Rattle.std.specs.List.{position_or_len};
@@ -12,12 +12,16 @@ ghost use Rattle.jr_lookup.specs.ScopeView.{scope_of};
 ghost use Rattle.jr_spell.specs.Binds.{is_dot};
 ghost use Rattle.jr_images.specs.Words.{class_name, FindsBehind};
 ghost use Rattle.jr_new_words.specs.FrontView.{in_front_of};
+ghost use Rattle.jr_new_words.specs.Mappings.{BecomesAt};
+ghost use Rattle.jr_new_words.specs.MappingView.{keys_of};
+ghost use Rattle.jr_new_words.specs.Scopes.{AreTables, IsKept};
 ghost use Rattle.jr_new_words.specs.Ways as pure;
 ghost use Rattle.jr_new_words.specs.StayingBy as kept;
 
 use crate::fronts::{InFront, names_class};
+use crate::programs::Tables;
 use crate::scopes::Scopes;
-use crate::staying::{is_number, one_row, row_decl};
+use crate::staying::{becomes, one_row, row_decl};
 use crate::ways::Way;
 use jr_ast::Name;
 use jr_lookup::{Scope, call_at, ctor_at, field_in_at, method_at, type_at};
@@ -173,7 +177,9 @@ fn row_by(
         Way::TypeNamed => Ok(type_row(table, scope, name)),
         Way::Local => Ok(None),
         Way::OwnField => Ok(None),
+        Way::FieldOnNone(_) => Ok(None),
         Way::FieldAbove => Ok(None),
+        Way::MethodOnNone(_) => Ok(None),
         Way::MethodAbove => Ok(None),
         Way::CtorAbove => Ok(None),
         Way::TypeBehind(_) => Ok(None),
@@ -395,7 +401,9 @@ fn serves(table: &Table, way: &Way<'_>, decl: &Decl, name: &Name, number: u32) -
         Way::TypeNamed => is_class(decl, name),
         Way::Local => false,
         Way::OwnField => false,
+        Way::FieldOnNone(_) => false,
         Way::FieldAbove => false,
+        Way::MethodOnNone(_) => false,
         Way::MethodAbove => false,
         Way::CtorAbove => false,
         Way::TypeBehind(_) => false,
@@ -414,39 +422,45 @@ fn serves_at(table: &Table, way: &Way<'_>, name: &Name, number: u32) -> bool
 
 // ---- both
 
-/// Whether it is this row, which declares what has the name and can be asked this way.
-fn serves_found(table: &Table, way: &Way<'_>, name: &Name, found: Option<u32>, number: u32) -> bool
-    ensures { IsTrue result → (found ≡ Some number)
-        × kept.ServesAt table.now (pure.way_of way.now) name.now number }
+/// Whether what the one row declares becomes what the other declares, which has the name and can
+/// be asked this way.
+fn image_serves(tables: &Tables<'_>, way: &Way<'_>, name: &Name, before: u32, after: u32) -> bool
+    requires { AreTables tables.now }
+    ensures { IsTrue result → BecomesAt (keys_of tables.now.keys) tables.now.before.now
+        tables.now.after.now before after
+        × kept.ServesAt tables.now.after.now (pure.way_of way.now) name.now after }
 {
-    if is_number(found, number) {
-        serves_at(table, way, name, number)
+    if becomes(tables, before, after) {
+        serves_at(tables.after, way, name, after)
     } else {
         false
     }
 }
 
-/// Whether a name finds this row the way, and the row declares what has the name and can be asked
-/// so.
-fn finds_and_serves(
+/// Whether a name finds the image of what this row declares the way in the new program, where it
+/// has the name and can be asked so.
+fn finds_image(
     alloc: Global,
-    table: &Table,
-    scope: &Scope,
+    scopes: &Scopes<'_>,
     way: &Way<'_>,
     name: &Name,
     args: &Tys,
     number: u32,
 ) -> Result<bool, AllocError>
-    ensures { IfOk result (λ b. IsTrue b → kept.FindsBy table.now (scope_of scope.now)
-        (pure.way_of way.now) name.now args.now number
-        × kept.ServesAt table.now (pure.way_of way.now) name.now number) }
+    requires { IsKept scopes.now }
+    ensures { IfOk result (λ b. IsTrue b → kept.FindsImage scopes.now (pure.way_of way.now)
+        args.now name.now number) }
 {
-    let found = row_by(alloc, table, scope, way, name, args)?;
-    Ok(serves_found(table, way, name, found, number))
+    let after = scopes.programs.after;
+    let found = row_by(alloc, after, &scopes.after, way, name, args)?;
+    match found {
+        None => Ok(false),
+        Some(image) => Ok(image_serves(&scopes.programs, way, name, number, image)),
+    }
 }
 
-/// Whether what a name finds the one way is declared by the row that it finds the other way in the
-/// new program, where it has the name.
+/// Whether a name finds a declaration the one way, and the other way in the new program its image,
+/// which has the name.
 pub(crate) fn stays_by(
     alloc: Global,
     scopes: &Scopes<'_>,
@@ -456,6 +470,7 @@ pub(crate) fn stays_by(
     to: &Way<'_>,
     images: &Tys,
 ) -> Result<bool, AllocError>
+    requires { IsKept scopes.now }
     ensures { IfOk result (λ b. IsTrue b → kept.StaysBy scopes.now (pure.way_of from.now)
         types.now (pure.way_of to.now) images.now name.now) }
 {
@@ -463,9 +478,6 @@ pub(crate) fn stays_by(
     let found = row_by(alloc, before, &scopes.before, from, name, types)?;
     match found {
         None => Ok(false),
-        Some(number) => {
-            let after = scopes.programs.after;
-            finds_and_serves(alloc, after, &scopes.after, to, name, images, number)
-        }
+        Some(number) => finds_image(alloc, scopes, to, name, images, number),
     }
 }

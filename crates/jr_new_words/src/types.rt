@@ -5,18 +5,18 @@ ghost use Rattle.jr_table.specs.Decls.{class_decl};
 ghost use Rattle.jr_table.specs.Found.{one};
 ghost use Rattle.jr_table.specs.Lookup.{FindsTypeNamed};
 ghost use Rattle.jr_table.specs.Context.{scope_of};
-ghost use Rattle.jr_new_words.specs.Scopes.{IsKept, rows_of, naming_of, context_of};
+ghost use Rattle.jr_new_words.specs.Scopes.{IsKept, rows_of, mapping_of, context_of};
 ghost use Rattle.jr_new_words.specs.ChoiceView.{choice_of};
 ghost use Rattle.jr_new_words.specs.Chosen as chosen;
 
 use crate::asking::no_types;
 use crate::choices::Choice;
 use crate::finding::class_found;
+use crate::mappings::class_to;
 use crate::scopes::Scopes;
 use crate::taking::chosen;
 use crate::ways::Way;
 use jr_ast::Name;
-use jr_images::class_to;
 use jr_lookup::type_named;
 use jr_table::{ClassKey, lookups_are_exact};
 use std::alloc::{AllocError, Global};
@@ -29,7 +29,7 @@ pub fn simple_type(
     name: &Name,
 ) -> Result<Option<Choice>, AllocError>
     requires { IsKept scopes.now }
-    ensures { IfOk result (λ o. chosen.TypeIsChosen (rows_of scopes.now) (naming_of scopes.now)
+    ensures { IfOk result (λ o. chosen.TypeIsChosen (rows_of scopes.now) (mapping_of scopes.now)
         (context_of scopes.now) at name.now (option_map choice_of o)) }
 {
     let none = no_types(alloc)?;
@@ -58,13 +58,13 @@ fn member_by_name(
     requires finds { FindsTypeNamed (rows_of scopes.now) (scope_of (context_of scopes.now))
         outer.now (one (class_decl (class_key_of class.now))) }
     ensures { IfOk result (λ o. chosen.QualifiedTypeIsChosen (rows_of scopes.now)
-        (naming_of scopes.now) (context_of scopes.now) at outer.now name.now
+        (mapping_of scopes.now) (context_of scopes.now) at outer.now name.now
         (option_map choice_of o)) }
 {
     scopes.programs.before.keeps_rows();
     lookups_are_exact();
     let none = no_types(alloc)?;
-    let image = class_to(scopes.programs.name, class)?;
+    let image = class_to(&scopes.programs.keys, class)?;
     let to = Way::TypeBehind(&image.name);
     chosen(
         alloc,
@@ -88,7 +88,7 @@ pub fn qualified_type(
 ) -> Result<Option<Choice>, AllocError>
     requires { IsKept scopes.now }
     ensures { IfOk result (λ o. chosen.QualifiedTypeIsChosen (rows_of scopes.now)
-        (naming_of scopes.now) (context_of scopes.now) at outer.now name.now
+        (mapping_of scopes.now) (context_of scopes.now) at outer.now name.now
         (option_map choice_of o)) }
 {
     let table = scopes.programs.before;

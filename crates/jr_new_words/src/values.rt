@@ -1,9 +1,10 @@
 //! How what is found in the new program stands in front of a dot: a class, or a variable whose
 //! type is a class (JLS 6.5.2).
-ghost use Rattle.std.specs.Prelude.{◌≡◌, IfOk, Some, option_map, slice_get};
+ghost use Rattle.std.specs.Prelude.{◌≡◌, ℕ, IfOk, Some, option_map, slice_get};
 ghost use Rattle.jr_table.specs.Keys.{class};
 ghost use Rattle.jr_table.specs.Decls.{class_decl, local_decl};
 ghost use Rattle.jr_table.specs.Found.{one};
+ghost use Rattle.jr_table.specs.Entries.{IsRowOf};
 ghost use Rattle.jr_table.specs.Lookup.{decl_at, shown_one};
 ghost use Rattle.jr_table.specs.TypeView.{class_key_of, ty_of};
 ghost use Rattle.jr_table.specs.KeyView.{decl_of, local_key_of};
@@ -11,14 +12,14 @@ ghost use Rattle.jr_table.specs.RowView.{row_of};
 ghost use Rattle.jr_table.specs.FoundView.{found_of};
 ghost use Rattle.jr_table.specs.Context.{IsLocalType, written, scope_of};
 ghost use Rattle.jr_scopes.specs.Helds.{held_of, key_of};
-ghost use Rattle.jr_images.specs.Images.{member_to};
-ghost use Rattle.jr_images.specs.Words.{StandsSo};
+ghost use Rattle.jr_images.specs.Words.{value_of};
+ghost use Rattle.jr_new_words.specs.Mappings.{class_to, member_to, StandsSo};
 ghost use Rattle.jr_new_words.specs.FrontView.{in_front_of};
 ghost use Rattle.jr_new_words.specs.Valued as valued;
 ghost use Rattle.jr_new_words.specs.Scopes.{
   IsKept,
   rows_of,
-  naming_of,
+  mapping_of,
   member_of,
   context_of,
   rows_to,
@@ -27,6 +28,7 @@ ghost use Rattle.jr_new_words.specs.Scopes.{
 use crate::finding::class_found;
 use crate::fronts::InFront;
 use crate::looking::type_behind;
+use crate::mappings::KeyMapping;
 use crate::scopes::Scopes;
 use crate::staying::row_decl;
 use jr_ast::Name;
@@ -63,22 +65,47 @@ fn decl_value(decl: &Decl) -> InFront<'_>
     }
 }
 
+/// A value of a class that has a row in both programs.
+fn same_value<'a>(table: &'a Table, class: &ClassKey) -> InFront<'a>
+    requires { (i : ℕ) × IsRowOf table.now (class_decl (class_key_of class.now)) i }
+    ensures { in_front_of result ≡ value_of (class_key_of class.now) }
+{
+    table.keeps_rows();
+    match table.class_number(class) {
+        None => InFront::Neither,
+        Some(number) => row_value(table, number),
+    }
+}
+
+/// A value of the image of the class that has this row.
+fn image_value<'a>(scopes: &Scopes<'a>, class: &ClassKey, number: u32) -> InFront<'a>
+    requires kept { IsKept scopes.now }
+    requires row { IsRowOf (rows_of scopes.now) (class_decl (class_key_of class.now)) number }
+    ensures { in_front_of result
+        ≡ value_of (class_to (mapping_of scopes.now) (class_key_of class.now)) }
+{
+    match scopes.programs.keys {
+        KeyMapping::Same => same_value(scopes.programs.after, class),
+        KeyMapping::Renamed(_) => row_value(scopes.programs.after, number),
+    }
+}
+
 /// A value of the image of a class that has a row.
 fn class_value<'a>(scopes: &Scopes<'a>, class: &ClassKey) -> InFront<'a>
     requires { IsKept scopes.now }
-    ensures { valued.IsValue (rows_of scopes.now) (naming_of scopes.now)
+    ensures { valued.IsValue (rows_of scopes.now) (mapping_of scopes.now)
         (λ t. t ≡ class_key_of class.now) (in_front_of result) }
 {
     scopes.programs.before.keeps_rows();
     match scopes.programs.before.class_number(class) {
         None => InFront::Neither,
-        Some(number) => row_value(scopes.programs.after, number),
+        Some(number) => image_value(scopes, class, number),
     }
 }
 
 fn type_value<'a>(scopes: &Scopes<'a>, ty: &Ty) -> InFront<'a>
     requires { IsKept scopes.now }
-    ensures { valued.IsValue (rows_of scopes.now) (naming_of scopes.now)
+    ensures { valued.IsValue (rows_of scopes.now) (mapping_of scopes.now)
         (λ t. ty_of ty.now ≡ class t) (in_front_of result) }
 {
     match ty {
@@ -111,7 +138,7 @@ fn written_class(
 
 fn found_value<'a>(scopes: &Scopes<'a>, found: &Found) -> InFront<'a>
     requires { IsKept scopes.now }
-    ensures { valued.IsValue (rows_of scopes.now) (naming_of scopes.now)
+    ensures { valued.IsValue (rows_of scopes.now) (mapping_of scopes.now)
         (λ t. found_of found.now ≡ one (class_decl t)) (in_front_of result) }
 {
     match class_found(found) {
@@ -126,7 +153,7 @@ fn named_value<'a>(
     name: &Name,
 ) -> Result<InFront<'a>, AllocError>
     requires { IsKept scopes.now }
-    ensures { IfOk result (λ w. valued.IsValue (rows_of scopes.now) (naming_of scopes.now)
+    ensures { IfOk result (λ w. valued.IsValue (rows_of scopes.now) (mapping_of scopes.now)
         (λ t. IsLocalType (rows_of scopes.now) (scope_of (context_of scopes.now))
         (written (option_map (λ n. n.now) outer.entry) name.now) (class t)) (in_front_of w)) }
 {
@@ -141,7 +168,7 @@ fn named_value<'a>(
 /// A value of the type that a local is declared with.
 fn held_value<'a>(scopes: &Scopes<'a>, held: &Held<'_>) -> Result<InFront<'a>, AllocError>
     requires { IsKept scopes.now }
-    ensures { IfOk result (λ w. valued.IsValue (rows_of scopes.now) (naming_of scopes.now)
+    ensures { IfOk result (λ w. valued.IsValue (rows_of scopes.now) (mapping_of scopes.now)
         (λ t. IsLocalType (rows_of scopes.now) (scope_of (context_of scopes.now))
         (held_of held.now).type (class t)) (in_front_of w)) }
 {
@@ -156,11 +183,11 @@ fn held_value<'a>(scopes: &Scopes<'a>, held: &Held<'_>) -> Result<InFront<'a>, A
 /// How the image of the member's local of this number stands.
 pub(crate) fn number_stands<'a>(scopes: &Scopes<'a>, number: u32) -> Result<InFront<'a>, AllocError>
     requires { IsKept scopes.now }
-    ensures { IfOk result (λ w. StandsSo (rows_of scopes.now) (naming_of scopes.now)
+    ensures { IfOk result (λ w. StandsSo (rows_of scopes.now) (mapping_of scopes.now)
         (context_of scopes.now) (one (local_decl (key_of
-        (member_to (naming_of scopes.now) (member_of scopes.now)) number))) (in_front_of w)) }
+        (member_to (mapping_of scopes.now) (member_of scopes.now)) number))) (in_front_of w)) }
 {
-    match scopes.locals.held_numbered(number) {
+    match scopes.renamed.held_numbered(number) {
         None => Ok(InFront::Neither),
         Some(held) => held_value(scopes, held),
     }
@@ -169,7 +196,7 @@ pub(crate) fn number_stands<'a>(scopes: &Scopes<'a>, number: u32) -> Result<InFr
 /// How a local stands, by its key. No program has a row of one.
 fn local_stands<'a>(scopes: &Scopes<'a>, key: &LocalKey) -> Result<InFront<'a>, AllocError>
     requires { IsKept scopes.now }
-    ensures { IfOk result (λ w. StandsSo (rows_of scopes.now) (naming_of scopes.now)
+    ensures { IfOk result (λ w. StandsSo (rows_of scopes.now) (mapping_of scopes.now)
         (context_of scopes.now) (one (local_decl (local_key_of key.now))) (in_front_of w)) }
 {
     if key.member == scopes.image {
@@ -205,7 +232,7 @@ fn declared_stands<'a>(
 ) -> Result<InFront<'a>, AllocError>
     requires kept { IsKept scopes.now }
     requires row { slice_get (rows_to scopes.now) number ≡ Some (row_of row.now) }
-    ensures { IfOk result (λ w. StandsSo (rows_of scopes.now) (naming_of scopes.now)
+    ensures { IfOk result (λ w. StandsSo (rows_of scopes.now) (mapping_of scopes.now)
         (context_of scopes.now) (one (decl_of row.now.decl)) (in_front_of w)) }
 {
     scopes.programs.after.keeps_rows();
@@ -222,7 +249,7 @@ fn declared_stands<'a>(
 /// How what the row of this number declares stands.
 pub(crate) fn row_stands<'a>(scopes: &Scopes<'a>, number: u32) -> Result<InFront<'a>, AllocError>
     requires { IsKept scopes.now }
-    ensures { IfOk result (λ w. StandsSo (rows_of scopes.now) (naming_of scopes.now)
+    ensures { IfOk result (λ w. StandsSo (rows_of scopes.now) (mapping_of scopes.now)
         (context_of scopes.now) (shown_one one (decl_at (rows_to scopes.now) number))
         (in_front_of w)) }
 {

@@ -4,7 +4,7 @@ ghost use Rattle.jr_table.specs.Found.{one};
 ghost use Rattle.jr_table.specs.KeyView.{decl_of};
 ghost use Rattle.jr_table.specs.Lookup.{FindsVariable};
 ghost use Rattle.jr_table.specs.Context.{scope_of};
-ghost use Rattle.jr_new_words.specs.Scopes.{IsKept, rows_of, naming_of, context_of};
+ghost use Rattle.jr_new_words.specs.Scopes.{IsKept, rows_of, mapping_of, context_of};
 ghost use Rattle.jr_new_words.specs.ChoiceView.{choice_of};
 ghost use Rattle.jr_new_words.specs.Chosen as chosen;
 
@@ -32,7 +32,7 @@ fn by_decl(
     requires finds { FindsVariable (rows_of scopes.now) (scope_of (context_of scopes.now)) name.now
         (one (decl_of decl.now)) }
     ensures { IfOk result (λ o. chosen.VariableIsChosen (rows_of scopes.now)
-        (naming_of scopes.now) (context_of scopes.now) at name.now (option_map choice_of o)) }
+        (mapping_of scopes.now) (context_of scopes.now) at name.now (option_map choice_of o)) }
 {
     scopes.programs.before.keeps_rows();
     lookups_are_exact();
@@ -53,7 +53,7 @@ fn by_lookup(
 ) -> Result<Option<Choice>, AllocError>
     requires { IsKept scopes.now }
     ensures { IfOk result (λ o. chosen.VariableIsChosen (rows_of scopes.now)
-        (naming_of scopes.now) (context_of scopes.now) at name.now (option_map choice_of o)) }
+        (mapping_of scopes.now) (context_of scopes.now) at name.now (option_map choice_of o)) }
 {
     scopes.programs.before.keeps_rows();
     lookups_are_exact();
@@ -73,7 +73,7 @@ pub fn variable(
 ) -> Result<Option<Choice>, AllocError>
     requires { IsKept scopes.now }
     ensures { IfOk result (λ o. chosen.VariableIsChosen (rows_of scopes.now)
-        (naming_of scopes.now) (context_of scopes.now) at name.now (option_map choice_of o)) }
+        (mapping_of scopes.now) (context_of scopes.now) at name.now (option_map choice_of o)) }
 {
     if stays(scopes, name) {
         Ok(Some(Choice::Stays))

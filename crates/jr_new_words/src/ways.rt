@@ -1,9 +1,9 @@
 //! The ways in which references lead to their declarations.
 ghost use Rattle.std.specs.Prelude.{◌≡◌, IfOk, option_map, Some};
-ghost use Rattle.jr_table.specs.TypeView.{class_key_of};
+ghost use Rattle.jr_table.specs.TypeView.{class_key_of, ty_of};
 ghost use Rattle.jr_table.specs.KeyView.{decl_of};
 ghost use Rattle.jr_spell.specs.ReferenceView as view;
-ghost use Rattle.jr_images.specs.Spelling.{operand_of, dotted};
+ghost use Rattle.jr_images.specs.Spelling.{operand_of, on_type, dotted};
 ghost use Rattle.jr_new_words.specs.Ways as pure;
 
 use crate::fronts::{InFront, named_copy};
@@ -18,8 +18,9 @@ pub(crate) enum Way<'a> {
     /// A variable by its simple name.
     Local,
     OwnField,
-    /// On a value of the class.
+    /// On a value of the class, and on one of a type that is no class.
     FieldOn(&'a ClassKey),
+    FieldOnNone(&'a Ty),
     /// Through the class, whose words stand so.
     FieldThrough(InFront<'a>, &'a ClassKey),
     /// Behind `super`.
@@ -27,6 +28,7 @@ pub(crate) enum Way<'a> {
     /// A call without a target.
     MethodNamed,
     MethodOn(&'a ClassKey),
+    MethodOnNone(&'a Ty),
     MethodThrough(InFront<'a>, &'a ClassKey),
     MethodAbove,
     /// A creation of the class, and `super(..)`.
@@ -45,10 +47,12 @@ pub(crate) fn is_simple(way: &Way<'_>) -> bool
         Way::Local => true,
         Way::OwnField => true,
         Way::FieldOn(_) => false,
+        Way::FieldOnNone(_) => false,
         Way::FieldThrough(_, _) => false,
         Way::FieldAbove => false,
         Way::MethodNamed => false,
         Way::MethodOn(_) => false,
+        Way::MethodOnNone(_) => false,
         Way::MethodThrough(_, _) => false,
         Way::MethodAbove => false,
         Way::CtorOf(_) => false,
@@ -126,10 +130,12 @@ pub(crate) fn leads_to(way: &Way<'_>, decl: &Decl) -> bool
         Way::Local => is_local(decl),
         Way::OwnField => is_field(decl),
         Way::FieldOn(_) => is_field(decl),
+        Way::FieldOnNone(_) => is_field(decl),
         Way::FieldThrough(_, _) => is_field(decl),
         Way::FieldAbove => is_field(decl),
         Way::MethodNamed => is_method(decl),
         Way::MethodOn(_) => is_method(decl),
+        Way::MethodOnNone(_) => is_method(decl),
         Way::MethodThrough(_, _) => is_method(decl),
         Way::MethodAbove => is_method(decl),
         Way::CtorOf(_) => is_ctor(decl),
@@ -147,10 +153,12 @@ pub(crate) fn form_of(way: &Way<'_>) -> RefForm
         Way::Local => RefForm::AsAsked,
         Way::OwnField => RefForm::FieldSimple,
         Way::FieldOn(_) => RefForm::FieldOn,
+        Way::FieldOnNone(_) => RefForm::FieldOn,
         Way::FieldThrough(_, _) => RefForm::ThroughClass,
         Way::FieldAbove => RefForm::FieldSuper,
         Way::MethodNamed => RefForm::MethodSimple,
         Way::MethodOn(_) => RefForm::MethodOn,
+        Way::MethodOnNone(_) => RefForm::MethodOn,
         Way::MethodThrough(_, _) => RefForm::ThroughClass,
         Way::MethodAbove => RefForm::AsAsked,
         Way::CtorOf(_) => RefForm::AsAsked,
@@ -177,10 +185,12 @@ pub(crate) fn text_by(alloc: Global, way: &Way<'_>, name: &str) -> Result<Name, 
         Way::Local => Name::new(alloc, name),
         Way::OwnField => Name::new(alloc, name),
         Way::FieldOn(_) => Name::new(alloc, name),
+        Way::FieldOnNone(_) => Name::new(alloc, name),
         Way::FieldThrough(_, _) => Name::new(alloc, name),
         Way::FieldAbove => Name::new(alloc, name),
         Way::MethodNamed => Name::new(alloc, name),
         Way::MethodOn(_) => Name::new(alloc, name),
+        Way::MethodOnNone(_) => Name::new(alloc, name),
         Way::MethodThrough(_, _) => Name::new(alloc, name),
         Way::MethodAbove => Name::new(alloc, name),
         Way::CtorOf(_) => Name::new(alloc, name),
@@ -200,6 +210,41 @@ pub(crate) fn on(alloc: Global, class: &ClassKey) -> Result<Option<Operand>, All
     Ok(Some(Operand { ty, text }))
 }
 
+/// An operand of a type.
+fn on_type(alloc: Global, ty: &Ty) -> Result<Option<Operand>, AllocError>
+    ensures { IfOk result (λ o. option_map view.operand_of o ≡ on_type (ty_of ty.now)) }
+{
+    let text = Name::new(alloc, "")?;
+    let ty = ty.copy()?;
+    Ok(Some(Operand { ty, text }))
+}
+
+/// How a field of a value of a type is looked up and asked.
+pub(crate) fn field_on_type(ty: &Ty) -> Way<'_>
+    ensures { pure.way_of result ≡ pure.field_on_type (ty_of ty.now) }
+{
+    match ty {
+        Ty::Class(class) => Way::FieldOn(class),
+        Ty::Int => Way::FieldOnNone(ty),
+        Ty::Boolean => Way::FieldOnNone(ty),
+        Ty::Void => Way::FieldOnNone(ty),
+        Ty::Null => Way::FieldOnNone(ty),
+    }
+}
+
+/// And a method.
+pub(crate) fn method_on_type(ty: &Ty) -> Way<'_>
+    ensures { pure.way_of result ≡ pure.method_on_type (ty_of ty.now) }
+{
+    match ty {
+        Ty::Class(class) => Way::MethodOn(class),
+        Ty::Int => Way::MethodOnNone(ty),
+        Ty::Boolean => Way::MethodOnNone(ty),
+        Ty::Void => Way::MethodOnNone(ty),
+        Ty::Null => Way::MethodOnNone(ty),
+    }
+}
+
 /// What stands in front of the dot.
 pub(crate) fn operand_by(alloc: Global, way: &Way<'_>) -> Result<Option<Operand>, AllocError>
     ensures { IfOk result (λ o.
@@ -209,10 +254,12 @@ pub(crate) fn operand_by(alloc: Global, way: &Way<'_>) -> Result<Option<Operand>
         Way::Local => Ok(None),
         Way::OwnField => Ok(None),
         Way::FieldOn(class) => on(alloc, class),
+        Way::FieldOnNone(ty) => on_type(alloc, ty),
         Way::FieldThrough(_, class) => on(alloc, class),
         Way::FieldAbove => Ok(None),
         Way::MethodNamed => Ok(None),
         Way::MethodOn(class) => on(alloc, class),
+        Way::MethodOnNone(ty) => on_type(alloc, ty),
         Way::MethodThrough(_, class) => on(alloc, class),
         Way::MethodAbove => Ok(None),
         Way::CtorOf(class) => on(alloc, class),
@@ -231,10 +278,12 @@ pub(crate) fn front_by(way: &Way<'_>) -> Result<Option<ClassKey>, AllocError>
         Way::Local => Ok(None),
         Way::OwnField => Ok(None),
         Way::FieldOn(_) => Ok(None),
+        Way::FieldOnNone(_) => Ok(None),
         Way::FieldThrough(front, _) => named_copy(&front),
         Way::FieldAbove => Ok(None),
         Way::MethodNamed => Ok(None),
         Way::MethodOn(_) => Ok(None),
+        Way::MethodOnNone(_) => Ok(None),
         Way::MethodThrough(front, _) => named_copy(&front),
         Way::MethodAbove => Ok(None),
         Way::CtorOf(_) => Ok(None),

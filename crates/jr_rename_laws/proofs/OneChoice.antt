@@ -29,7 +29,7 @@ use Rattle.jr_rewrite.specs.Respellings.{Choice, loses}
 use Rattle.jr_images.specs.Images.{Renaming, class_to, types_to, rows_to, scope_to}
 use Rattle.jr_images.specs.Words.{InFront, class_name, value_of, neither, FindsNext}
 use Rattle.jr_images.specs.Spelling.{renamed, spelled, reference, operand_of, behind_words, OnOperand, VariableSpells, ClassSpells, FieldSpells, MemberClassSpells, SuperFieldSpells, SimpleCallSpells, CallSpells, SuperCallSpells, ExpSpells, CreationSpells, SuperCtorSpells, TypeSpells, QualifierSpells, ParentSpells, ParentQualifierSpells, spelling}
-use Rattle.jr_new_words.specs.Ways.{Way, local, own_field, field_on, field_through, field_above, method_named, method_on, method_through, method_above, ctor_of, ctor_above, type_named, type_behind, name_in, reference_by, Finds}
+use Rattle.jr_new_words.specs.Ways.{Way, local, own_field, field_on, field_through, field_on_none, field_above, method_named, method_on, method_through, method_on_none, method_above, ctor_of, ctor_above, type_named, type_behind, name_in, reference_by, Finds}
 use Rattle.jr_new_words.specs.Taking.{Asked, asked, SpellsAt}
 use Rattle.jr_new_words.proofs.OneEach.{behind_one}
 use Rattle.jr_bind.specs.SuperPlaces.{writes_super}
@@ -105,10 +105,12 @@ module _ (rows : List Row) (fit : AreRows rows) (each : EachHasOne rows) where
   finds_once s own_field name ts = each.variable s name
   finds_once s (field_on k) name ts = each.field_in s k name
   finds_once s (field_through w k) name ts = behind_one w (λ o f. FindsFieldIn rows s o name f) (λ o. each.field_in s o name)
+  finds_once s (field_on_none t) name ts = λ a b x y. x ∙ sym y
   finds_once s field_above name ts = in_once (IsSuperclass rows s.class) (λ k f. FindsFieldIn rows s k name f) (superclass_once s.class) (λ k. each.field_in s k name)
   finds_once s method_named name ts = each.method_named s name ts
   finds_once s (method_on k) name ts = each.method_of s k name ts
   finds_once s (method_through w k) name ts = behind_one w (λ o f. FindsMethodOf rows s o name ts f) (λ o. each.method_of s o name ts)
+  finds_once s (method_on_none t) name ts = λ a b x y. x ∙ sym y
   finds_once s method_above name ts = in_once (IsSuperclass rows s.class) (λ k f. FindsMethodOf rows s k name ts f) (superclass_once s.class) (λ k. each.method_of s k name ts)
   finds_once s (ctor_of k) name ts = each.ctor_of s k ts
   finds_once s ctor_above name ts = in_once (IsSuperclass rows s.class) (λ k f. FindsCtorOf rows s k ts f) (superclass_once s.class) (λ k. each.ctor_of s k ts)

@@ -12,8 +12,9 @@ use Rattle.jr_bind_expr.proofs.Steps.{own_fits}
 use Rattle.jr_new_words.specs.ChoiceView.{choice_of}
 use Rattle.jr_new_words.specs.FrontView.{in_front_of}
 use Rattle.jr_new_words.specs.Chosen as chosen
+use Rattle.jr_new_words.specs.Mappings.{type_to, types_to}
 use Rattle.jr_new_bodies.specs.declared.here.Role.{Role}
-use Rattle.jr_new_bodies.specs.Known.{rows_of, naming_of, context_of, role_of, NameIsBound, NameSpells, DottedIsBound, DottedSpells}
+use Rattle.jr_new_bodies.specs.Known.{rows_of, mapping_of, context_of, role_of, NameIsBound, NameSpells, DottedIsBound, DottedSpells}
 use Rattle.jr_new_bodies.specs.MeaningView.{AreTypes}
 use Rattle.jr_new_bodies.proofs.Choices as choices
 use Rattle.jr_new_bodies.proofs.Choices.{some_where, some_here, of_some}
@@ -24,23 +25,23 @@ pub unwrap-requires : goal.unwrap-requires
 unwrap-requires g c =
     let h = c.args.here.now in
     let rows = rows_of h in
-    let n = naming_of h in
+    let n = mapping_of h in
     let x = context_of h in
     let are = c.keeps_rows.ensures in
     let keys = c.lookups_are_exact.ensures.keys rows are in
     let B = λ (k : g.row.A.Denot) (b : ℕ). (g.A.Mark.span_from k b).from in
     let exact = c.types_are_exact.ensures.bound rows are keys x in
-    some_where choice_of c.in_ok-choice.choice (λ o. chosen.StaticCallIsChosen rows n x c.args.at (in_front_of c.in_ok-words.words) (class_key_of c.args.class.now) c.args.name.now c.args.types.now o) c.in_ok-choice.ensures (choices.static_call_there rows are keys n x B c.args.name.now (exprs_of c.args.args.now) (expr_of c.args.part.now) (in_front_of c.in_ok-words.words) (class_key_of c.args.class.now) c.args.types.now c.args.at (inl c.requires.class) c.requires.types c.requires.bound)
+    some_where choice_of c.in_ok-choice.choice (λ o. chosen.StaticCallIsChosen rows n x c.args.at (in_front_of c.in_ok-words.words) (class_key_of c.args.class.now) c.args.name.now c.args.types.now c.in_ok-images.images o) c.in_ok-choice.ensures (choices.static_call_there rows are keys n x B c.args.name.now (exprs_of c.args.args.now) (expr_of c.args.part.now) (in_front_of c.in_ok-words.words) (class_key_of c.args.class.now) c.args.types.now c.in_ok-images.images c.args.at (inl c.requires.class) c.requires.types c.requires.bound)
 
 pub returns : goal.returns
 returns g c =
     let h = c.args.here.now in
     let rows = rows_of h in
-    let n = naming_of h in
+    let n = mapping_of h in
     let x = context_of h in
     let are = c.keeps_rows.ensures in
     let keys = c.lookups_are_exact.ensures.keys rows are in
     let B = λ (k : g.row.A.Denot) (b : ℕ). (g.A.Mark.span_from k b).from in
     let exact = c.types_are_exact.ensures.bound rows are keys x in
-    let made = of_some choice_of c.in_ok-choice.choice c.unwrap.result (λ o. chosen.StaticCallIsChosen rows n x c.args.at (in_front_of c.in_ok-words.words) (class_key_of c.args.class.now) c.args.name.now c.args.types.now o) c.unwrap.ensures c.in_ok-choice.ensures in
-    choices.static_call_chosen rows are keys n x B c.args.name.now (exprs_of c.args.args.now) (expr_of c.args.part.now) (class_key_of c.args.class.now) (in_front_of c.in_ok-words.words) c.args.types.now c.args.at (choice_of c.unwrap.result) c.requires.class c.in_ok-words.ensures c.requires.types made
+    let made = of_some choice_of c.in_ok-choice.choice c.unwrap.result (λ o. chosen.StaticCallIsChosen rows n x c.args.at (in_front_of c.in_ok-words.words) (class_key_of c.args.class.now) c.args.name.now c.args.types.now c.in_ok-images.images o) c.unwrap.ensures c.in_ok-choice.ensures in
+    choices.static_call_chosen rows are keys n x B c.args.name.now (exprs_of c.args.args.now) (expr_of c.args.part.now) (class_key_of c.args.class.now) (in_front_of c.in_ok-words.words) c.args.types.now c.args.at (choice_of c.unwrap.result) c.requires.class c.in_ok-words.ensures c.requires.types (subst (λ us. chosen.StaticCallIsChosen rows n x c.args.at (in_front_of c.in_ok-words.words) (class_key_of c.args.class.now) c.args.name.now c.args.types.now us (Some (choice_of c.unwrap.result))) c.in_ok-images.ensures made)

@@ -11,8 +11,9 @@ use Rattle.jr_table.specs.Binding.{value, left, statement, variable}
 use Rattle.jr_bind_expr.proofs.Steps.{own_fits}
 use Rattle.jr_new_words.specs.ChoiceView.{choice_of}
 use Rattle.jr_new_words.specs.Chosen as chosen
+use Rattle.jr_new_words.specs.Mappings.{type_to, types_to}
 use Rattle.jr_new_bodies.specs.declared.here.Role.{Role}
-use Rattle.jr_new_bodies.specs.Known.{rows_of, naming_of, context_of, role_of, NameIsBound, NameSpells, DottedIsBound, DottedSpells}
+use Rattle.jr_new_bodies.specs.Known.{rows_of, mapping_of, context_of, role_of, NameIsBound, NameSpells, DottedIsBound, DottedSpells}
 use Rattle.jr_new_bodies.specs.MeaningView.{AreTypes}
 use Rattle.jr_new_bodies.proofs.Choices as choices
 use Rattle.jr_new_bodies.proofs.Choices.{some_where, some_here, of_some}
@@ -23,7 +24,7 @@ pub unwrap-types-requires : goal.unwrap-types-requires
 unwrap-types-requires g c =
     let h = c.args.here.now in
     let rows = rows_of h in
-    let n = naming_of h in
+    let n = mapping_of h in
     let x = context_of h in
     let are = c.keeps_rows.ensures in
     let keys = c.lookups_are_exact.ensures.keys rows are in
@@ -35,25 +36,25 @@ pub unwrap-requires : goal.unwrap-requires
 unwrap-requires g c =
     let h = c.args.here.now in
     let rows = rows_of h in
-    let n = naming_of h in
+    let n = mapping_of h in
     let x = context_of h in
     let are = c.keeps_rows.ensures in
     let keys = c.lookups_are_exact.ensures.keys rows are in
     let B = λ (k : g.row.A.Denot) (b : ℕ). (g.A.Mark.span_from k b).from in
     let exact = c.types_are_exact.ensures.bound rows are keys x in
     let have = subst (AreTypes rows x (exprs_of c.args.args.now)) c.unwrap-types.ensures c.in_ok-types.ensures in
-    some_where choice_of c.in_ok-choice.choice (λ o. chosen.SimpleCallIsChosen rows n x c.args.at c.args.name.now c.unwrap-types.result o) c.in_ok-choice.ensures (choices.simple_there rows are keys n x B c.args.name.now (exprs_of c.args.args.now) c.unwrap-types.result c.args.at have c.requires.bound)
+    some_where choice_of c.in_ok-choice.choice (λ o. chosen.SimpleCallIsChosen rows n x c.args.at c.args.name.now c.unwrap-types.result c.in_ok-images.images o) c.in_ok-choice.ensures (choices.simple_there rows are keys n x B c.args.name.now (exprs_of c.args.args.now) c.unwrap-types.result c.in_ok-images.images c.args.at have c.requires.bound)
 
 pub returns : goal.returns
 returns g c =
     let h = c.args.here.now in
     let rows = rows_of h in
-    let n = naming_of h in
+    let n = mapping_of h in
     let x = context_of h in
     let are = c.keeps_rows.ensures in
     let keys = c.lookups_are_exact.ensures.keys rows are in
     let B = λ (k : g.row.A.Denot) (b : ℕ). (g.A.Mark.span_from k b).from in
     let exact = c.types_are_exact.ensures.bound rows are keys x in
     let have = subst (AreTypes rows x (exprs_of c.args.args.now)) c.unwrap-types.ensures c.in_ok-types.ensures in
-    let made = of_some choice_of c.in_ok-choice.choice c.unwrap.result (λ o. chosen.SimpleCallIsChosen rows n x c.args.at c.args.name.now c.unwrap-types.result o) c.unwrap.ensures c.in_ok-choice.ensures in
-    choices.simple_chosen rows are keys n x B c.args.name.now (exprs_of c.args.args.now) c.unwrap-types.result c.args.at (choice_of c.unwrap.result) have made
+    let made = of_some choice_of c.in_ok-choice.choice c.unwrap.result (λ o. chosen.SimpleCallIsChosen rows n x c.args.at c.args.name.now c.unwrap-types.result c.in_ok-images.images o) c.unwrap.ensures c.in_ok-choice.ensures in
+    choices.simple_chosen rows are keys n x B c.args.name.now (exprs_of c.args.args.now) c.unwrap-types.result c.args.at (choice_of c.unwrap.result) have (subst (λ us. chosen.SimpleCallIsChosen rows n x c.args.at c.args.name.now c.unwrap-types.result us (Some (choice_of c.unwrap.result))) c.in_ok-images.ensures made)

@@ -12,7 +12,7 @@ use Rattle.jr_bind_expr.proofs.Steps.{own_fits}
 use Rattle.jr_new_words.specs.ChoiceView.{choice_of}
 use Rattle.jr_new_words.specs.Chosen as chosen
 use Rattle.jr_new_bodies.specs.declared.here.Role.{Role}
-use Rattle.jr_new_bodies.specs.Known.{rows_of, naming_of, context_of, role_of, NameIsBound, NameSpells, DottedIsBound, DottedSpells}
+use Rattle.jr_new_bodies.specs.Known.{rows_of, mapping_of, context_of, role_of, NameIsBound, NameSpells, DottedIsBound, DottedSpells}
 use Rattle.jr_new_bodies.specs.MeaningView.{AreTypes}
 use Rattle.jr_new_bodies.proofs.Choices as choices
 use Rattle.jr_new_bodies.proofs.Choices.{some_where, some_here, of_some}
@@ -23,7 +23,7 @@ pub class_call-requires : goal.class_call-requires
 class_call-requires g c =
     let h = c.args.here.now in
     let rows = rows_of h in
-    let n = naming_of h in
+    let n = mapping_of h in
     let x = context_of h in
     let are = c.keeps_rows.ensures in
     let keys = c.lookups_are_exact.ensures.keys rows are in
@@ -34,7 +34,7 @@ pub value_call-requires : goal.value_call-requires
 value_call-requires g c =
     let h = c.args.here.now in
     let rows = rows_of h in
-    let n = naming_of h in
+    let n = mapping_of h in
     let x = context_of h in
     let are = c.keeps_rows.ensures in
     let keys = c.lookups_are_exact.ensures.keys rows are in
@@ -45,7 +45,7 @@ pub unreachable-requires : goal.unreachable-requires
 unreachable-requires g c =
     let h = c.args.here.now in
     let rows = rows_of h in
-    let n = naming_of h in
+    let n = mapping_of h in
     let x = context_of h in
     let are = c.keeps_rows.ensures in
     let keys = c.lookups_are_exact.ensures.keys rows are in

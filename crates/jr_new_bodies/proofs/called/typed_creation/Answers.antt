@@ -11,8 +11,9 @@ use Rattle.jr_table.specs.Binding.{value, left, statement, variable}
 use Rattle.jr_bind_expr.proofs.Steps.{own_fits}
 use Rattle.jr_new_words.specs.ChoiceView.{choice_of}
 use Rattle.jr_new_words.specs.Chosen as chosen
+use Rattle.jr_new_words.specs.Mappings.{type_to, types_to}
 use Rattle.jr_new_bodies.specs.declared.here.Role.{Role}
-use Rattle.jr_new_bodies.specs.Known.{rows_of, naming_of, context_of, role_of, NameIsBound, NameSpells, DottedIsBound, DottedSpells}
+use Rattle.jr_new_bodies.specs.Known.{rows_of, mapping_of, context_of, role_of, NameIsBound, NameSpells, DottedIsBound, DottedSpells}
 use Rattle.jr_new_bodies.specs.MeaningView.{AreTypes}
 use Rattle.jr_new_bodies.proofs.Choices as choices
 use Rattle.jr_new_bodies.proofs.Choices.{some_where, some_here, of_some}
@@ -23,7 +24,7 @@ pub unwrap-requires : goal.unwrap-requires
 unwrap-requires g c =
     let h = c.args.here.now in
     let rows = rows_of h in
-    let n = naming_of h in
+    let n = mapping_of h in
     let x = context_of h in
     let are = c.keeps_rows.ensures in
     let keys = c.lookups_are_exact.ensures.keys rows are in
@@ -32,13 +33,13 @@ unwrap-requires g c =
     let have = c.requires.types in
     let path = c.args.path.now.steps.items in
     let writes = writes_is h x path (type_of c.args.ty.now) (exprs_of c.args.args.now) c.requires.created (class_key_of c.in-Value.class.now) c.in-Value.ensures in
-    some_where choice_of c.in_ok-choice-in-Value.choice (λ o. chosen.CreationIsChosen rows n x c.args.at (class_key_of c.in-Value.class.now) c.args.types.now o) c.in_ok-choice-in-Value.ensures (choices.creation_there rows are keys n x B (exprs_of c.args.args.now) (type_of c.args.ty.now) (class_key_of c.in-Value.class.now) c.args.types.now c.args.at writes have c.requires.bound)
+    some_where choice_of c.in_ok-choice-in-Value.choice (λ o. chosen.CreationIsChosen rows n x c.args.at (class_key_of c.in-Value.class.now) c.args.types.now c.in_ok-images-in-Value.images o) c.in_ok-choice-in-Value.ensures (choices.creation_there rows are keys n x B (exprs_of c.args.args.now) (type_of c.args.ty.now) (class_key_of c.in-Value.class.now) c.args.types.now c.in_ok-images-in-Value.images c.args.at writes have c.requires.bound)
 
 pub returns : goal.returns
 returns g c =
     let h = c.args.here.now in
     let rows = rows_of h in
-    let n = naming_of h in
+    let n = mapping_of h in
     let x = context_of h in
     let are = c.keeps_rows.ensures in
     let keys = c.lookups_are_exact.ensures.keys rows are in
@@ -47,8 +48,8 @@ returns g c =
     let have = c.requires.types in
     let path = c.args.path.now.steps.items in
     let writes = writes_is h x path (type_of c.args.ty.now) (exprs_of c.args.args.now) c.requires.created (class_key_of c.in-Value.class.now) c.in-Value.ensures in
-    let made = of_some choice_of c.in_ok-choice-in-Value.choice c.unwrap.result (λ o. chosen.CreationIsChosen rows n x c.args.at (class_key_of c.in-Value.class.now) c.args.types.now o) c.unwrap.ensures c.in_ok-choice-in-Value.ensures in
-    choices.creation_chosen rows are keys n x B (exprs_of c.args.args.now) (type_of c.args.ty.now) (class_key_of c.in-Value.class.now) c.args.types.now c.args.at (choice_of c.unwrap.result) writes have made
+    let made = of_some choice_of c.in_ok-choice-in-Value.choice c.unwrap.result (λ o. chosen.CreationIsChosen rows n x c.args.at (class_key_of c.in-Value.class.now) c.args.types.now c.in_ok-images-in-Value.images o) c.unwrap.ensures c.in_ok-choice-in-Value.ensures in
+    choices.creation_chosen rows are keys n x B (exprs_of c.args.args.now) (type_of c.args.ty.now) (class_key_of c.in-Value.class.now) c.args.types.now c.args.at (choice_of c.unwrap.result) writes have (subst (λ us. chosen.CreationIsChosen rows n x c.args.at (class_key_of c.in-Value.class.now) c.args.types.now us (Some (choice_of c.unwrap.result))) c.in_ok-images-in-Value.ensures made)
 
 pub unreachable-requires : goal.unreachable-requires
 unreachable-requires g c =
@@ -58,7 +59,7 @@ pub unreachable-requires-in-Neither : goal.unreachable-requires-in-Neither
 unreachable-requires-in-Neither g c =
     let h = c.args.here.now in
     let rows = rows_of h in
-    let n = naming_of h in
+    let n = mapping_of h in
     let x = context_of h in
     let are = c.keeps_rows.ensures in
     let keys = c.lookups_are_exact.ensures.keys rows are in

@@ -9,7 +9,7 @@ use Rattle.jr_ast.proofs.Sizes.{exp_size}
 use Rattle.jr_table.specs.TypeView.{class_key_of}
 use Rattle.jr_bind_expr.proofs.Steps.{own_fits}
 use Rattle.jr_new_words.specs.FrontView.{in_front_of}
-use Rattle.jr_new_bodies.specs.Known.{rows_of, naming_of, context_of}
+use Rattle.jr_new_bodies.specs.Known.{rows_of, mapping_of, context_of}
 use Rattle.jr_new_bodies.proofs.Naming.{front_ready, front_smaller, first_stands, next_stands, front_named}
 use Rattle.jr_new_bodies.proofs.chosen.+words_stand.Goals as goal
 
@@ -42,7 +42,7 @@ words_stand-requires g t c =
 pub returns-in-None : goal.returns-in-None
 returns-in-None g t c =
     let h = c.args.here.now in
-    IfOk-weaker c.first_word.result _ _ (λ w stands. first_stands (rows_of h) (naming_of h) (context_of h) (class_key_of c.args.class.now) (in_front_of w) (expr_of c.args.of.now) (sym c.in-None.ensures) stands) c.first_word.ensures
+    IfOk-weaker c.first_word.result _ _ (λ w stands. first_stands (rows_of h) (mapping_of h) (context_of h) (class_key_of c.args.class.now) (in_front_of w) (expr_of c.args.of.now) (sym c.in-None.ensures) stands) c.first_word.ensures
 
 pub unreachable-requires : goal.unreachable-requires
 unreachable-requires g t c =
@@ -53,4 +53,4 @@ pub returns-in_ok-words-in-Some-named_class : goal.returns-in_ok-words-in-Some-n
 returns-in_ok-words-in-Some-named_class g t c =
     let h = c.args.here.now in
     let words = c.in_ok-words-in-Some-named_class in
-    IfOk-weaker c.next_word.result _ _ (λ w stands. next_stands (rows_of h) (naming_of h) (context_of h) (class_key_of c.args.class.now) (in_front_of w) (expr_of c.args.of.now) (expr_of c.in-Some.part.now) (sym c.in-Some.ensures) (class_key_of c.in-Some-named_class.outer.now) c.in-Some-named_class.ensures (in_front_of words.words) words.ensures stands) c.next_word.ensures
+    IfOk-weaker c.next_word.result _ _ (λ w stands. next_stands (rows_of h) (mapping_of h) (context_of h) (class_key_of c.args.class.now) (in_front_of w) (expr_of c.args.of.now) (expr_of c.in-Some.part.now) (sym c.in-Some.ensures) (class_key_of c.in-Some-named_class.outer.now) c.in-Some-named_class.ensures (in_front_of words.words) words.ensures stands) c.next_word.ensures

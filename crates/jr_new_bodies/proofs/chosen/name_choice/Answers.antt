@@ -12,7 +12,7 @@ use Rattle.jr_bind_expr.proofs.Steps.{own_fits}
 use Rattle.jr_new_words.specs.ChoiceView.{choice_of}
 use Rattle.jr_new_words.specs.Chosen as chosen
 use Rattle.jr_new_bodies.specs.declared.here.Role.{Role}
-use Rattle.jr_new_bodies.specs.Known.{rows_of, naming_of, context_of, role_of, NameIsBound, NameSpells, DottedIsBound, DottedSpells}
+use Rattle.jr_new_bodies.specs.Known.{rows_of, mapping_of, context_of, role_of, NameIsBound, NameSpells, DottedIsBound, DottedSpells}
 use Rattle.jr_new_bodies.specs.MeaningView.{AreTypes}
 use Rattle.jr_new_bodies.proofs.Choices as choices
 use Rattle.jr_new_bodies.proofs.Choices.{some_where, some_here, of_some}
@@ -23,7 +23,7 @@ pub class_choice-requires-clause-none : goal.class_choice-requires-clause-none
 class_choice-requires-clause-none c =
     let h = c.args.here.now in
     let rows = rows_of h in
-    let n = naming_of h in
+    let n = mapping_of h in
     let x = context_of h in
     subst (λ o. chosen.VariableIsChosen rows n x c.args.at c.args.name.now (option_map choice_of o)) c.in-None.is c.in_ok-found.ensures
 
@@ -31,6 +31,6 @@ pub returns-in-Some : goal.returns-in-Some
 returns-in-Some c =
     let h = c.args.here.now in
     let rows = rows_of h in
-    let n = naming_of h in
+    let n = mapping_of h in
     let x = context_of h in
     inl (subst (λ o. chosen.VariableIsChosen rows n x c.args.at c.args.name.now (option_map choice_of o)) c.in-Some.is c.in_ok-found.ensures)

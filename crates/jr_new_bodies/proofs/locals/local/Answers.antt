@@ -6,7 +6,7 @@ use Rattle.jr_new_bodies.specs.OutputView.{gathered}
 use Rattle.jr_new_bodies.specs.Known.{context_of}
 use Rattle.jr_new_bodies.specs.Effects.{Gathers}
 use Rattle.jr_rewrite.specs.Rewrites.{RewritesExp}
-use Rattle.jr_images.specs.Spelling.{spelling}
+use Rattle.jr_new_words.specs.Spelled.{spelling}
 use Rattle.jr_new_bodies.specs.Ready.{ExpReadyIn}
 use Rattle.jr_new_bodies.specs.Moves.{without_own}
 use Rattle.jr_new_bodies.proofs.Bodying.{moved, moved_back}
@@ -41,7 +41,7 @@ returns g c =
             known = last.known;
             context = last.context ∙ ap without_own declared.context;
             rows = last.rows ∙ declared.rows;
-            naming = last.naming ∙ declared.naming;
+            mapping = last.mapping ∙ declared.mapping;
             bound = last.bound ∙ declared.bound;
             from_is = last.from_is ∙ declared.from_is;
           };

@@ -19,6 +19,7 @@ use Rattle.jr_new_bodies.specs.Bodies.{StmtGathers}
 use Rattle.jr_new_bodies.specs.Lasts.{Leaves, IsLastOf, BranchPasses, HeadPasses}
 use Rattle.jr_new_bodies.proofs.Leaving as leaving
 use Rattle.jr_new_bodies.proofs.Limbs as limb
+use Rattle.jr_new_bodies.proofs.Moving.{deep_there}
 use Rattle.jr_new_bodies.proofs.Bodying as body
 use Rattle.jr_new_bodies.proofs.statements.+stmt_walk.Goals as goal
 
@@ -294,7 +295,8 @@ stmts-loop-of-preserved g t c =
 
 pub stmts-cut_back-requires : goal.stmts-cut_back-requires
 stmts-cut_back-requires g t c =
-    record { known = c.loop-of.invariant.going.known }
+    let l = c.loop-of in
+    record { known = l.invariant.going.known; deep = deep_there c.args.here.now l.here c.depth-depth.result c.requires.known l.invariant.going.mapping l.invariant.depth }
 
 pub stmts-returns : goal.stmts-returns
 stmts-returns g t c =
@@ -451,6 +453,17 @@ inner-loop-place-preserved g t c =
       size = omega (arith, s, fits);
       left = subst (λ (q : List ℕ). Leaves T F h (n + locals_in x) (λ new. StmtGathers T h n c.args.base x old new) (stmt_of to.of.now) to.number q to.at c.head.new.here (gathered c.head.new.out)) (sym c.in_ok-push-in-To.ensures.items)
           (leaving.leaves_then T F h (n + locals_in x) (λ new. StmtGathers T h n c.args.base x old new) (stmt_of l.of.now) l.number l.place.steps.items l.base l.here (gathered l.out) l.invariant.left (stmt_of to.of.now) to.number (l.place.steps.items ++ to.step ∷ []) to.at c.head.new.here (gathered c.head.new.out) p.1);
+    }
+
+pub inner-cut_back-requires : goal.inner-cut_back-requires
+inner-cut_back-requires g t c =
+    let T = g.A.Mark.span_from in
+    let F = g.A.Mark.fits_at in
+    let l = c.loop-place in
+    let p = subst (λ (r : Reached g.row.A.Denot). HeadPasses T F l.number l.here l.place.steps.items l.base (stmt_of l.of.now) r c.head.new.here (gathered l.out) (gathered c.head.new.out)) c.in-Behind.is c.in_ok-number.ensures in
+    record {
+      known = p.goes.known;
+      deep = deep_there c.args.here.now c.head.new.here c.depth-depth.result c.requires.known (p.goes.mapping ∙ l.invariant.left.goes.mapping) l.invariant.depth;
     }
 
 pub inner-returns-in-Behind : goal.inner-returns-in-Behind

@@ -9,11 +9,11 @@ use Rattle.jr_table.specs.Binding.{value, left}
 use Rattle.jr_bind_expr.specs.Fits.{FitsNamed, FitsType}
 use Rattle.jr_new_words.specs.ChoiceView.{choice_of}
 use Rattle.jr_new_words.specs.Chosen as chosen
-use Rattle.jr_images.specs.Spelling as spells
+use Rattle.jr_new_words.specs.Spelled as spells
 use Rattle.jr_new_bodies.specs.Effects.{Effect, both}
 use Rattle.jr_new_bodies.specs.OutputView as out
 use Rattle.jr_new_bodies.specs.OutputView.{gathered}
-use Rattle.jr_new_bodies.specs.Known.{rows_of, naming_of, context_of, role_of, NamedIsBound, NameSpells, TypeIsBound}
+use Rattle.jr_new_bodies.specs.Known.{rows_of, mapping_of, context_of, role_of, NamedIsBound, NameSpells, TypeIsBound}
 use Rattle.jr_new_bodies.specs.Walks.{NamedGathers, TypeGathers}
 use Rattle.jr_new_bodies.proofs.Bound.{named_bound}
 use Rattle.jr_new_bodies.proofs.Giving as gives
@@ -27,7 +27,7 @@ simple_class-requires-clause-fits g c =
     let B = λ (k : g.row.A.Denot) (b : ℕ). (g.A.Mark.span_from k b).from in
     let h = c.args.here.now in
     let rows = rows_of h in
-    let n = naming_of h in
+    let n = mapping_of h in
     let x = context_of h in
     let old = gathered c.args.out.now in
     (subst (λ (o : Option (Ident g.row.A.Denot)). FitsNamed F c.args.at (option_map word_of o) (word_of c.args.name.now)) c.in-None.is c.requires.fits).1
@@ -39,7 +39,7 @@ simple_class-requires-clause-bound g c =
     let B = λ (k : g.row.A.Denot) (b : ℕ). (g.A.Mark.span_from k b).from in
     let h = c.args.here.now in
     let rows = rows_of h in
-    let n = naming_of h in
+    let n = mapping_of h in
     let x = context_of h in
     let old = gathered c.args.out.now in
     subst (λ (o : Option (Ident g.row.A.Denot)). NamedIsBound rows x (option_map word_of o) (word_of c.args.name.now)) c.in-None.is c.requires.bound
@@ -51,7 +51,7 @@ inner_class-requires-clause-fits_outer g c =
     let B = λ (k : g.row.A.Denot) (b : ℕ). (g.A.Mark.span_from k b).from in
     let h = c.args.here.now in
     let rows = rows_of h in
-    let n = naming_of h in
+    let n = mapping_of h in
     let x = context_of h in
     let old = gathered c.args.out.now in
     (subst (λ (o : Option (Ident g.row.A.Denot)). FitsNamed F c.args.at (option_map word_of o) (word_of c.args.name.now)) c.in-Some.is c.requires.fits).0
@@ -63,7 +63,7 @@ inner_class-requires-clause-fits g c =
     let B = λ (k : g.row.A.Denot) (b : ℕ). (g.A.Mark.span_from k b).from in
     let h = c.args.here.now in
     let rows = rows_of h in
-    let n = naming_of h in
+    let n = mapping_of h in
     let x = context_of h in
     let old = gathered c.args.out.now in
     (subst (λ (o : Option (Ident g.row.A.Denot)). FitsNamed F c.args.at (option_map word_of o) (word_of c.args.name.now)) c.in-Some.is c.requires.fits).1
@@ -75,7 +75,7 @@ inner_class-requires-clause-first g c =
     let B = λ (k : g.row.A.Denot) (b : ℕ). (g.A.Mark.span_from k b).from in
     let h = c.args.here.now in
     let rows = rows_of h in
-    let n = naming_of h in
+    let n = mapping_of h in
     let x = context_of h in
     let old = gathered c.args.out.now in
     (subst (λ (o : Option (Ident g.row.A.Denot)). NamedIsBound rows x (option_map word_of o) (word_of c.args.name.now)) c.in-Some.is c.requires.bound).0
@@ -87,7 +87,7 @@ inner_class-requires-clause-bound g c =
     let B = λ (k : g.row.A.Denot) (b : ℕ). (g.A.Mark.span_from k b).from in
     let h = c.args.here.now in
     let rows = rows_of h in
-    let n = naming_of h in
+    let n = mapping_of h in
     let x = context_of h in
     let old = gathered c.args.out.now in
     (subst (λ (o : Option (Ident g.row.A.Denot)). NamedIsBound rows x (option_map word_of o) (word_of c.args.name.now)) c.in-Some.is c.requires.bound).1
@@ -99,7 +99,7 @@ returns-in-None g c =
     let B = λ (k : g.row.A.Denot) (b : ℕ). (g.A.Mark.span_from k b).from in
     let h = c.args.here.now in
     let rows = rows_of h in
-    let n = naming_of h in
+    let n = mapping_of h in
     let x = context_of h in
     let old = gathered c.args.out.now in
     subst (λ (o : Option (Ident g.row.A.Denot)). IfOk c.simple_class.result (λ _. NamedGathers T h c.args.at (option_map word_of o) (word_of c.args.name.now) old (gathered c.simple_class.new.out))) (sym c.in-None.is) c.simple_class.ensures
@@ -111,7 +111,7 @@ returns-in-Some g c =
     let B = λ (k : g.row.A.Denot) (b : ℕ). (g.A.Mark.span_from k b).from in
     let h = c.args.here.now in
     let rows = rows_of h in
-    let n = naming_of h in
+    let n = mapping_of h in
     let x = context_of h in
     let old = gathered c.args.out.now in
     subst (λ (o : Option (Ident g.row.A.Denot)). IfOk c.inner_class.result (λ _. NamedGathers T h c.args.at (option_map word_of o) (word_of c.args.name.now) old (gathered c.inner_class.new.out))) (sym c.in-Some.is) c.inner_class.ensures

@@ -9,11 +9,11 @@ use Rattle.jr_table.specs.Binding.{value, left}
 use Rattle.jr_bind_expr.specs.Fits.{FitsNamed, FitsType}
 use Rattle.jr_new_words.specs.ChoiceView.{choice_of}
 use Rattle.jr_new_words.specs.Chosen as chosen
-use Rattle.jr_images.specs.Spelling as spells
+use Rattle.jr_new_words.specs.Spelled as spells
 use Rattle.jr_new_bodies.specs.Effects.{Effect, both}
 use Rattle.jr_new_bodies.specs.OutputView as out
 use Rattle.jr_new_bodies.specs.OutputView.{gathered}
-use Rattle.jr_new_bodies.specs.Known.{rows_of, naming_of, context_of, role_of, NamedIsBound, NameSpells, TypeIsBound}
+use Rattle.jr_new_bodies.specs.Known.{rows_of, mapping_of, context_of, role_of, NamedIsBound, NameSpells, TypeIsBound}
 use Rattle.jr_new_bodies.specs.Walks.{NamedGathers, TypeGathers}
 use Rattle.jr_new_bodies.proofs.Bound.{named_bound}
 use Rattle.jr_new_bodies.proofs.Giving as gives
@@ -27,7 +27,7 @@ span-at-requires g c =
     let B = λ (k : g.row.A.Denot) (b : ℕ). (g.A.Mark.span_from k b).from in
     let h = c.args.here.now in
     let rows = rows_of h in
-    let n = naming_of h in
+    let n = mapping_of h in
     let x = context_of h in
     let old = gathered c.args.out.now in
     (subst (FitsType B F c.args.base) (ap (type_kind c.args.of.now.mark) c.in-Named.is) c.requires.fits).0
@@ -39,7 +39,7 @@ class_name-requires-clause-fits g c =
     let B = λ (k : g.row.A.Denot) (b : ℕ). (g.A.Mark.span_from k b).from in
     let h = c.args.here.now in
     let rows = rows_of h in
-    let n = naming_of h in
+    let n = mapping_of h in
     let x = context_of h in
     let old = gathered c.args.out.now in
     subst (λ (k : ℕ). FitsNamed F k (option_map word_of c.in-Named.outer) (word_of c.in-Named.name)) (sym (ap (λ (z : Span). z.from) c.span-at.ensures)) (subst (FitsType B F c.args.base) (ap (type_kind c.args.of.now.mark) c.in-Named.is) c.requires.fits).1
@@ -51,7 +51,7 @@ class_name-requires-clause-bound g c =
     let B = λ (k : g.row.A.Denot) (b : ℕ). (g.A.Mark.span_from k b).from in
     let h = c.args.here.now in
     let rows = rows_of h in
-    let n = naming_of h in
+    let n = mapping_of h in
     let x = context_of h in
     let old = gathered c.args.out.now in
     named_bound B rows x c.args.base c.args.of.now.mark (option_map word_of c.in-Named.outer) (word_of c.in-Named.name) (subst (TypeIsBound B rows x c.args.base) (ap (type_kind c.args.of.now.mark) c.in-Named.is) c.requires.bound)
@@ -63,7 +63,7 @@ returns-in-Int g c =
     let B = λ (k : g.row.A.Denot) (b : ℕ). (g.A.Mark.span_from k b).from in
     let h = c.args.here.now in
     let rows = rows_of h in
-    let n = naming_of h in
+    let n = mapping_of h in
     let x = context_of h in
     let old = gathered c.args.out.now in
     subst (λ u. TypeGathers T h c.args.base u old old) (sym (ap (type_kind c.args.of.now.mark) c.in-Int.is)) (gives.int_gives T h c.args.base c.args.of.now.mark old)
@@ -75,7 +75,7 @@ returns-in-Boolean g c =
     let B = λ (k : g.row.A.Denot) (b : ℕ). (g.A.Mark.span_from k b).from in
     let h = c.args.here.now in
     let rows = rows_of h in
-    let n = naming_of h in
+    let n = mapping_of h in
     let x = context_of h in
     let old = gathered c.args.out.now in
     subst (λ u. TypeGathers T h c.args.base u old old) (sym (ap (type_kind c.args.of.now.mark) c.in-Boolean.is)) (gives.boolean_gives T h c.args.base c.args.of.now.mark old)
@@ -87,7 +87,7 @@ returns-in-Named g c =
     let B = λ (k : g.row.A.Denot) (b : ℕ). (g.A.Mark.span_from k b).from in
     let h = c.args.here.now in
     let rows = rows_of h in
-    let n = naming_of h in
+    let n = mapping_of h in
     let x = context_of h in
     let old = gathered c.args.out.now in
     let new = gathered c.class_name.new.out in

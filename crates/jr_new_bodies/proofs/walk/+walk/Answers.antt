@@ -13,10 +13,10 @@ use Rattle.jr_ast.proofs.Sizes.{exp_size, exps_size, target_size}
 use Rattle.jr_table.specs.Binding.{value, left}
 use Rattle.jr_bind_expr.proofs.Steps.{own_fits, left_is}
 use Rattle.jr_new_words.specs.ChoiceView.{choice_of}
-use Rattle.jr_images.specs.Spelling as spells
+use Rattle.jr_new_words.specs.Spelled as spells
 use Rattle.jr_new_bodies.specs.Effects.{Effect}
 use Rattle.jr_new_bodies.specs.OutputView.{gathered}
-use Rattle.jr_new_bodies.specs.Known.{role_of, rows_of, naming_of, context_of, DottedSpells, ExpReady, RowReady, TargetReady, TypesRow, TypesCreation, CallIsBound, first_of}
+use Rattle.jr_new_bodies.specs.Known.{role_of, rows_of, mapping_of, context_of, DottedSpells, ExpReady, RowReady, TargetReady, TypesRow, TypesCreation, CallIsBound, first_of}
 use Rattle.jr_new_bodies.specs.Walks.{ExpGathers, RowGathers, TargetGathers, CallOnGathers, DottedGathers}
 use Rattle.jr_new_bodies.proofs.Arms as arm
 use Rattle.jr_new_bodies.proofs.Arms.{falls_one, falls_two, falls_target}
@@ -662,7 +662,7 @@ field-returns g t c =
     let ch = choice_of c.in_ok-choice.choice in
     IfOk-weaker c.operand_and_word.result _ _ (λ _ x. (
       ch,
-      subst (λ (k : ℕ). DottedSpells B (rows_of h) (naming_of h) (context_of h) (role_of c.args.role) k (expr_of c.args.part.now) w.text ch) (ap (λ (z : Span). z.from) c.span-word.ensures) c.in_ok-choice.ensures,
+      subst (λ (k : ℕ). DottedSpells B (rows_of h) (mapping_of h) (context_of h) (role_of c.args.role) k (expr_of c.args.part.now) w.text ch) (ap (λ (z : Span). z.from) c.span-word.ensures) c.in_ok-choice.ensures,
       subst (λ (s : Span). DottedGathers T h ch c.args.at s (expr_of c.args.part.now) (gathered c.args.out.now) (gathered c.operand_and_word.new.out)) c.span-word.ensures x,
     )) c.operand_and_word.ensures
 
@@ -683,7 +683,7 @@ call_on-returns g t c =
     let ch = choice_of c.in_ok-choice.choice in
     IfOk-weaker c.operand_and_word.result _ _ (λ _ x. (
       ch,
-      subst (λ (k : ℕ). spells.CallSpells B (rows_of h) (naming_of h) (context_of h) k (expr_of c.args.part.now) w.text (exprs_of c.args.args.now) ch) (ap (λ (z : Span). z.from) c.span-word.ensures) c.in_ok-choice.ensures,
+      subst (λ (k : ℕ). spells.CallSpells B (rows_of h) (mapping_of h) (context_of h) k (expr_of c.args.part.now) w.text (exprs_of c.args.args.now) ch) (ap (λ (z : Span). z.from) c.span-word.ensures) c.in_ok-choice.ensures,
       subst (λ (s : Span). DottedGathers T h ch c.args.at s (expr_of c.args.part.now) (gathered c.args.out.now) (gathered c.operand_and_word.new.out)) c.span-word.ensures x,
     )) c.operand_and_word.ensures
 

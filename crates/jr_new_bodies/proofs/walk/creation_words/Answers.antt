@@ -9,11 +9,11 @@ use Rattle.jr_table.specs.Binding.{value, left}
 use Rattle.jr_bind_expr.specs.Fits.{FitsNamed, FitsType}
 use Rattle.jr_new_words.specs.ChoiceView.{choice_of}
 use Rattle.jr_new_words.specs.Chosen as chosen
-use Rattle.jr_images.specs.Spelling as spells
+use Rattle.jr_new_words.specs.Spelled as spells
 use Rattle.jr_new_bodies.specs.Effects.{Effect, both}
 use Rattle.jr_new_bodies.specs.OutputView as out
 use Rattle.jr_new_bodies.specs.OutputView.{gathered}
-use Rattle.jr_new_bodies.specs.Known.{rows_of, naming_of, context_of, role_of, NamedIsBound, NameSpells, TypeIsBound}
+use Rattle.jr_new_bodies.specs.Known.{rows_of, mapping_of, context_of, role_of, NamedIsBound, NameSpells, TypeIsBound}
 use Rattle.jr_new_bodies.specs.Walks.{NamedGathers, TypeGathers}
 use Rattle.jr_new_bodies.proofs.Bound.{named_bound}
 use Rattle.jr_new_bodies.proofs.Giving as gives
@@ -27,7 +27,7 @@ returns g c =
     let B = λ (k : g.row.A.Denot) (b : ℕ). (g.A.Mark.span_from k b).from in
     let h = c.args.here.now in
     let rows = rows_of h in
-    let n = naming_of h in
+    let n = mapping_of h in
     let x = context_of h in
     let old = gathered c.args.out.now in
     let ch = choice_of c.in_ok-choice.choice in

@@ -25,7 +25,7 @@ returns-in-Ok c =
       known = kept;
       context = context_with old new (key_of c.args.of.now) c.args.is_static ps first.context beside own (IfOk-at_ok _ c.in-Ok.is put.locals ∙ ap (λ (ts : List Ty). held_params 0 ps ts) c.param_types.ensures);
       rows = beside.rows ∙ first.rows;
-      naming = beside.naming ∙ first.naming;
+      mapping = beside.mapping ∙ first.mapping;
       bound = refl;
       from_is = refl;
     }

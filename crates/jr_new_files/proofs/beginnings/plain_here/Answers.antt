@@ -6,7 +6,7 @@ returns c = record {
   known = c.in_ok-scopes.ensures.kept;
   context = c.in_ok-scopes.ensures.context;
   rows = c.in_ok-scopes.ensures.rows;
-  naming = c.in_ok-scopes.ensures.naming;
+  mapping = c.in_ok-scopes.ensures.mapping;
   bound = refl;
   from_is = refl;
 }

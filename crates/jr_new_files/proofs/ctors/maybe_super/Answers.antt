@@ -6,7 +6,7 @@ use Rattle.jr_ast.specs.declared.exprs.Expr.{Expr}
 use Rattle.jr_ast.specs.View.{param_of, exprs_of, args_of}
 use Rattle.jr_table.specs.HeadRules.{with_parameters}
 use Rattle.jr_new_bodies.specs.OutputView.{gathered}
-use Rattle.jr_new_files.specs.Walking.{key_of, rows_of, naming_of}
+use Rattle.jr_new_files.specs.Walking.{key_of, rows_of, mapping_of}
 use Rattle.jr_new_files.specs.Ready.{MaybeSuperReady, IsMaybeSuper}
 use Rattle.jr_new_files.specs.PartEffects.{MaybeSuperGathers}
 use Rattle.jr_new_files.proofs.Giving.{super_none}
@@ -31,7 +31,7 @@ returns-in-None g c =
     let n = (g.V.View.program c.args.view.now).super_at (key_of w) in
     let x = with_parameters (key_of w) true (map param_of c.args.params.now) in
     let old = gathered c.args.out.now in
-    subst (λ (o : Option (tree.Exps Span)). MaybeSuperGathers (rows_of w) (naming_of w) x n c.args.span.from o old old) (sym (ap args_of c.in-None.is)) (super_none (rows_of w) (naming_of w) x n c.args.span.from old)
+    subst (λ (o : Option (tree.Exps Span)). MaybeSuperGathers (rows_of w) (mapping_of w) x n c.args.span.from o old old) (sym (ap args_of c.in-None.is)) (super_none (rows_of w) (mapping_of w) x n c.args.span.from old)
 
 pub returns-in-Some : goal.returns-in-Some
 returns-in-Some g c =
@@ -40,4 +40,4 @@ returns-in-Some g c =
     let x = with_parameters (key_of w) true (map param_of c.args.params.now) in
     let old = gathered c.args.out.now in
     let is : args_of c.args.args.now ≡ Some (exprs_of c.deref.result.now) = ap args_of c.in-Some.is ∙ ap (λ (es : List (Expr Span)). Some (exprs_of es)) (sym c.deref.ensures.value) in
-    IfOk-weaker c.super_part.result _ _ (λ _ y. subst (λ (o : Option (tree.Exps Span)). MaybeSuperGathers (rows_of w) (naming_of w) x n c.args.span.from o old (gathered c.super_part.new.out)) (sym is) y) c.super_part.ensures
+    IfOk-weaker c.super_part.result _ _ (λ _ y. subst (λ (o : Option (tree.Exps Span)). MaybeSuperGathers (rows_of w) (mapping_of w) x n c.args.span.from o old (gathered c.super_part.new.out)) (sym is) y) c.super_part.ensures

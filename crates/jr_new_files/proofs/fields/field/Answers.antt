@@ -6,7 +6,7 @@ use Rattle.jr_ast.specs.View.{expr_of, modifier_of}
 use Rattle.jr_table.specs.HeadRules.{plain, is_static_member}
 use Rattle.jr_program_laws.specs.FileParts.{begins}
 use Rattle.jr_new_bodies.specs.OutputView.{gathered}
-use Rattle.jr_new_files.specs.Walking.{key_of, rows_of, naming_of}
+use Rattle.jr_new_files.specs.Walking.{key_of, rows_of, mapping_of}
 use Rattle.jr_new_files.specs.Ready.{InitReady}
 use Rattle.jr_new_files.specs.PartEffects.{InitGathers}
 use Rattle.jr_new_files.proofs.fields.field.Goals as goal
@@ -34,5 +34,5 @@ returns c =
       gathered c.member_word.new.out,
       c.in_ok-declared_type.ensures,
       c.in_ok-member_word.ensures,
-      subst (λ (b : Bool). InitGathers (rows_of w) (naming_of w) (plain (key_of w) b) c.args.at init (gathered c.member_word.new.out) (gathered c.initializer.new.out)) c.is_static.ensures x,
+      subst (λ (b : Bool). InitGathers (rows_of w) (mapping_of w) (plain (key_of w) b) c.args.at init (gathered c.member_word.new.out) (gathered c.initializer.new.out)) c.is_static.ensures x,
     )) c.initializer.ensures

@@ -12,7 +12,7 @@ use Rattle.jr_table.specs.Entries as entries
 use Rattle.jr_table.specs.TypeView.{class_key_of}
 use Rattle.jr_rewrite.specs.Rewrites.{declared_by}
 use Rattle.jr_new_bodies.specs.OutputView.{gathered}
-use Rattle.jr_new_files.specs.Walking.{key_of, rows_of, naming_of}
+use Rattle.jr_new_files.specs.Walking.{key_of, rows_of, mapping_of}
 use Rattle.jr_new_files.specs.Ready.{HeadReady, MaybeParentReady}
 use Rattle.jr_new_files.specs.PartEffects.{HeadGathers, WordGathers, MaybeParentGathers}
 use Rattle.jr_new_files.proofs.Giving.{head_gives}
@@ -35,9 +35,9 @@ returns c =
     let old = gathered c.args.out.now in
     let mid = gathered c.member_word.new.out in
     let new = gathered c.maybe_parent.new.out in
-    let word : WordGathers (rows_of w) (naming_of w) (declared_by (key_of w)) (word_of out.name) old mid = c.in_ok-member_word.ensures in
-    IfOk-weaker c.maybe_parent.result _ _ (λ _ x. λ base. subst (λ (y : syntax.Class Span). HeadGathers (rows_of w) (naming_of w) (entries.class_of_member (key_of w)) base y old new) (sym (class_of-out _ c.args.class.now))
-    (subst (λ (j : ClassKey). HeadGathers (rows_of w) (naming_of w) j base (syntax.class out.mark (map modifier_of out.modifiers.items) (word_of out.name) (option_map type_of out.parent) (members_of out.members.items)) old new) (sym of_head)
-    (head_gives (rows_of w) (naming_of w) k out.mark (map modifier_of out.modifiers.items) (word_of out.name) (option_map type_of out.parent) (members_of out.members.items) old mid new named
-    (subst (λ (d : Decl). WordGathers (rows_of w) (naming_of w) d (word_of out.name) old mid) (ap (λ (l : MemberKey). declared_by l) is) word)
-    (subst (λ (j : ClassKey). MaybeParentGathers (rows_of w) (naming_of w) j.outer out.mark.from (option_map type_of out.parent) mid new) (c.class_of_member-key.ensures ∙ of_head) x) base))) c.maybe_parent.ensures
+    let word : WordGathers (rows_of w) (mapping_of w) (declared_by (key_of w)) (word_of out.name) old mid = c.in_ok-member_word.ensures in
+    IfOk-weaker c.maybe_parent.result _ _ (λ _ x. λ base. subst (λ (y : syntax.Class Span). HeadGathers (rows_of w) (mapping_of w) (entries.class_of_member (key_of w)) base y old new) (sym (class_of-out _ c.args.class.now))
+    (subst (λ (j : ClassKey). HeadGathers (rows_of w) (mapping_of w) j base (syntax.class out.mark (map modifier_of out.modifiers.items) (word_of out.name) (option_map type_of out.parent) (members_of out.members.items)) old new) (sym of_head)
+    (head_gives (rows_of w) (mapping_of w) k out.mark (map modifier_of out.modifiers.items) (word_of out.name) (option_map type_of out.parent) (members_of out.members.items) old mid new named
+    (subst (λ (d : Decl). WordGathers (rows_of w) (mapping_of w) d (word_of out.name) old mid) (ap (λ (l : MemberKey). declared_by l) is) word)
+    (subst (λ (j : ClassKey). MaybeParentGathers (rows_of w) (mapping_of w) j.outer out.mark.from (option_map type_of out.parent) mid new) (c.class_of_member-key.ensures ∙ of_head) x) base))) c.maybe_parent.ensures

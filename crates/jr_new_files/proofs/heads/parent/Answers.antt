@@ -3,7 +3,7 @@ use Rattle.std.proofs.lemmas.Result.{IfOk-weaker}
 use Rattle.std.specs.Prelude.{option_map}
 use Rattle.jr_ast.specs.View.{type_of}
 use Rattle.jr_new_bodies.specs.OutputView.{gathered}
-use Rattle.jr_new_files.specs.Walking.{rows_of, naming_of}
+use Rattle.jr_new_files.specs.Walking.{rows_of, mapping_of}
 use Rattle.jr_new_files.specs.Ready.{ParentReady}
 use Rattle.jr_new_files.specs.PartEffects.{ParentGathers}
 use Rattle.jr_new_files.proofs.heads.parent.Goals as goal
@@ -21,9 +21,9 @@ parent_of_inner-requires c =
 pub returns-in-None : goal.returns-in-None
 returns-in-None c =
     let w = c.args.of.now in
-    IfOk-weaker c.parent_of_top.result _ _ (λ _ x. subst (λ (o : Option (List ℕ)). ParentGathers (rows_of w) (naming_of w) o c.args.at (type_of c.args.ty.now) (gathered c.args.out.now) (gathered c.parent_of_top.new.out)) (sym c.in-None.is) x) c.parent_of_top.ensures
+    IfOk-weaker c.parent_of_top.result _ _ (λ _ x. subst (λ (o : Option (List ℕ)). ParentGathers (rows_of w) (mapping_of w) o c.args.at (type_of c.args.ty.now) (gathered c.args.out.now) (gathered c.parent_of_top.new.out)) (sym c.in-None.is) x) c.parent_of_top.ensures
 
 pub returns-in-Some : goal.returns-in-Some
 returns-in-Some c =
     let w = c.args.of.now in
-    IfOk-weaker c.parent_of_inner.result _ _ (λ _ x. subst (λ (o : Option (List ℕ)). ParentGathers (rows_of w) (naming_of w) o c.args.at (type_of c.args.ty.now) (gathered c.args.out.now) (gathered c.parent_of_inner.new.out)) (sym c.in-Some.is) x) c.parent_of_inner.ensures
+    IfOk-weaker c.parent_of_inner.result _ _ (λ _ x. subst (λ (o : Option (List ℕ)). ParentGathers (rows_of w) (mapping_of w) o c.args.at (type_of c.args.ty.now) (gathered c.args.out.now) (gathered c.parent_of_inner.new.out)) (sym c.in-Some.is) x) c.parent_of_inner.ensures

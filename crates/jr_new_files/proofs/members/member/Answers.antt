@@ -8,7 +8,7 @@ use Rattle.jr_ast.specs.declared.parts.Modifier.{Modifier}
 use Rattle.jr_ast.specs.declared.stmts.Stmt.{Stmt}
 use Rattle.jr_ast.specs.View.{word_of, modifier_of, type_of, param_of, expr_of, args_of, stmts_of, class_of, member_of, member_kind}
 use Rattle.jr_new_bodies.specs.OutputView.{gathered}
-use Rattle.jr_new_files.specs.Walking.{key_of, rows_of, naming_of}
+use Rattle.jr_new_files.specs.Walking.{key_of, rows_of, mapping_of}
 use Rattle.jr_new_files.specs.Ready.{MemberReady, HasSuperAt}
 use Rattle.jr_new_files.specs.PartEffects.{MemberGathers}
 use Rattle.jr_new_files.proofs.Giving.{field_gives, method_gives, ctor_gives}
@@ -48,7 +48,7 @@ returns-in-Field g c =
     let new = gathered c.field.new.out in
     let m = c.args.member.now.mark in
     let whole : member_of c.args.member.now ≡ syntax.field m (map modifier_of c.deref.result.now) (type_of c.in-Field.ty) (word_of c.in-Field.name) (option_map expr_of c.in-Field.init) = ap (member_kind m) c.in-Field.is ∙ ap (λ (ms : List (Modifier Span)). syntax.field m (map modifier_of ms) (type_of c.in-Field.ty) (word_of c.in-Field.name) (option_map expr_of c.in-Field.init)) (sym c.deref.ensures.value) in
-    IfOk-weaker c.field.result _ _ (λ _ x. λ base. subst (λ (y : syntax.Member Span). MemberGathers p (rows_of w) (naming_of w) (key_of w) base y old new) (sym whole) (field_gives (rows_of w) (naming_of w) p (key_of w) m (map modifier_of c.deref.result.now) (type_of c.in-Field.ty) (word_of c.in-Field.name) (option_map expr_of c.in-Field.init) old new x base)) c.field.ensures
+    IfOk-weaker c.field.result _ _ (λ _ x. λ base. subst (λ (y : syntax.Member Span). MemberGathers p (rows_of w) (mapping_of w) (key_of w) base y old new) (sym whole) (field_gives (rows_of w) (mapping_of w) p (key_of w) m (map modifier_of c.deref.result.now) (type_of c.in-Field.ty) (word_of c.in-Field.name) (option_map expr_of c.in-Field.init) old new x base)) c.field.ensures
 
 pub returns-in-Method : goal.returns-in-Method
 unfolding member_kind
@@ -59,7 +59,7 @@ returns-in-Method g c =
     let new = gathered c.method.new.out in
     let m = c.args.member.now.mark in
     let whole : member_of c.args.member.now ≡ syntax.method m (map modifier_of c.deref-in-Method.result.now) (option_map type_of c.in-Method.ret) (word_of c.in-Method.name) (map param_of c.deref-in-Method-2.result.now) (stmts_of c.deref-in-Method-3.result.now) = ap (member_kind m) c.in-Method.is ∙ (λ i. syntax.method m (map modifier_of (sym c.deref-in-Method.ensures.value i)) (option_map type_of c.in-Method.ret) (word_of c.in-Method.name) (map param_of (sym c.deref-in-Method-2.ensures.value i)) (stmts_of (sym c.deref-in-Method-3.ensures.value i))) in
-    IfOk-weaker c.method.result _ _ (λ _ x. λ base. subst (λ (y : syntax.Member Span). MemberGathers p (rows_of w) (naming_of w) (key_of w) base y old new) (sym whole) (method_gives (rows_of w) (naming_of w) p (key_of w) m (map modifier_of c.deref-in-Method.result.now) (option_map type_of c.in-Method.ret) (word_of c.in-Method.name) (map param_of c.deref-in-Method-2.result.now) (stmts_of c.deref-in-Method-3.result.now) old new x base)) c.method.ensures
+    IfOk-weaker c.method.result _ _ (λ _ x. λ base. subst (λ (y : syntax.Member Span). MemberGathers p (rows_of w) (mapping_of w) (key_of w) base y old new) (sym whole) (method_gives (rows_of w) (mapping_of w) p (key_of w) m (map modifier_of c.deref-in-Method.result.now) (option_map type_of c.in-Method.ret) (word_of c.in-Method.name) (map param_of c.deref-in-Method-2.result.now) (stmts_of c.deref-in-Method-3.result.now) old new x base)) c.method.ensures
 
 pub returns-in-Ctor : goal.returns-in-Ctor
 unfolding member_kind
@@ -70,7 +70,7 @@ returns-in-Ctor g c =
     let new = gathered c.ctor.new.out in
     let m = c.args.member.now.mark in
     let whole : member_of c.args.member.now ≡ syntax.constructor m (map modifier_of c.deref-in-Ctor.result.now) (word_of c.in-Ctor.name) (map param_of c.deref-in-Ctor-2.result.now) (args_of c.in-Ctor.parent_args) (stmts_of c.deref-in-Ctor-3.result.now) = ap (member_kind m) c.in-Ctor.is ∙ (λ i. syntax.constructor m (map modifier_of (sym c.deref-in-Ctor.ensures.value i)) (word_of c.in-Ctor.name) (map param_of (sym c.deref-in-Ctor-2.ensures.value i)) (args_of c.in-Ctor.parent_args) (stmts_of (sym c.deref-in-Ctor-3.ensures.value i))) in
-    IfOk-weaker c.ctor.result _ _ (λ _ x. λ base. subst (λ (y : syntax.Member Span). MemberGathers p (rows_of w) (naming_of w) (key_of w) base y old new) (sym whole) (ctor_gives (rows_of w) (naming_of w) p (key_of w) m (map modifier_of c.deref-in-Ctor.result.now) (word_of c.in-Ctor.name) (map param_of c.deref-in-Ctor-2.result.now) (args_of c.in-Ctor.parent_args) (stmts_of c.deref-in-Ctor-3.result.now) old new x base)) c.ctor.ensures
+    IfOk-weaker c.ctor.result _ _ (λ _ x. λ base. subst (λ (y : syntax.Member Span). MemberGathers p (rows_of w) (mapping_of w) (key_of w) base y old new) (sym whole) (ctor_gives (rows_of w) (mapping_of w) p (key_of w) m (map modifier_of c.deref-in-Ctor.result.now) (word_of c.in-Ctor.name) (map param_of c.deref-in-Ctor-2.result.now) (args_of c.in-Ctor.parent_args) (stmts_of c.deref-in-Ctor-3.result.now) old new x base)) c.ctor.ensures
 
 pub returns-in-Inner : goal.returns-in-Inner
 unfolding member_kind

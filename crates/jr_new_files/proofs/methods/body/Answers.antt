@@ -4,7 +4,7 @@ use Rattle.std.proofs.lemmas.Result.{IfOk-at_ok}
 use Rattle.jr_ast.specs.View.{param_of, stmts_of}
 use Rattle.jr_table.specs.HeadRules.{with_parameters}
 use Rattle.jr_new_bodies.specs.OutputView.{gathered}
-use Rattle.jr_new_files.specs.Walking.{key_of, rows_of, naming_of}
+use Rattle.jr_new_files.specs.Walking.{key_of, rows_of, mapping_of}
 use Rattle.jr_new_files.specs.Ready.{BodyReady}
 use Rattle.jr_new_files.specs.PartEffects.{BodyGathers}
 use Rattle.jr_new_files.proofs.Placing.{body_there, body_back}
@@ -31,4 +31,4 @@ returns-in-Ok c =
     let old = gathered c.args.out.now in
     let passes = IfOk-at_ok _ c.in-Ok.is c.stmts-walked.ensures in
     let new = gathered c.stmts-walked.new.out in
-    subst (λ (n : ℕ). BodyGathers (rows_of w) (naming_of w) x n c.args.at body old new) number (body_back w c.in_ok-here.here x c.in_ok-here.ensures c.in_ok-number.number c.args.at body old new passes.gives)
+    subst (λ (n : ℕ). BodyGathers (rows_of w) (mapping_of w) x n c.args.at body old new) number (body_back w c.in_ok-here.here x c.in_ok-here.ensures c.in_ok-number.number c.args.at body old new passes.gives)

@@ -4,7 +4,7 @@ use Rattle.jr_ast.specs.View.{param_of, stmts_of, modifier_of}
 use Rattle.jr_table.specs.HeadRules.{with_parameters, is_static_member}
 use Rattle.jr_program_laws.specs.FileParts.{begins}
 use Rattle.jr_new_bodies.specs.OutputView.{gathered}
-use Rattle.jr_new_files.specs.Walking.{key_of, rows_of, naming_of}
+use Rattle.jr_new_files.specs.Walking.{key_of, rows_of, mapping_of}
 use Rattle.jr_new_files.specs.Ready.{BodyReady}
 use Rattle.jr_new_files.specs.PartEffects.{BodyGathers}
 use Rattle.jr_new_files.proofs.methods.method.Goals as goal
@@ -31,5 +31,5 @@ returns c =
     IfOk-weaker c.body.result _ _ (λ _ x. (
       gathered c.method_head.new.out,
       c.in_ok-method_head.ensures,
-      subst (λ (b : Bool). BodyGathers (rows_of w) (naming_of w) (with_parameters (key_of w) b ps) (length ps) c.args.at xs (gathered c.method_head.new.out) (gathered c.body.new.out)) c.is_static.ensures x,
+      subst (λ (b : Bool). BodyGathers (rows_of w) (mapping_of w) (with_parameters (key_of w) b ps) (length ps) c.args.at xs (gathered c.method_head.new.out) (gathered c.body.new.out)) c.is_static.ensures x,
     )) c.body.ensures

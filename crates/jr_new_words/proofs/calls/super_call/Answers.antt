@@ -2,19 +2,14 @@ use Rattle.std.proofs.Common.{refl}
 use Rattle.std.proofs.lemmas.Result.{IfOk-weaker}
 use Rattle.std.specs.Prelude.{option_map}
 use Rattle.jr_table.specs.Decls.{method_decl}
-use Rattle.jr_images.specs.Images.{types_to}
 use Rattle.jr_new_words.specs.ChoiceView.{choice_of}
-use Rattle.jr_new_words.specs.Scopes.{rows_of, naming_of, context_of}
+use Rattle.jr_new_words.specs.Scopes.{rows_of, mapping_of, context_of}
 use Rattle.jr_new_words.specs.Ways.{method_above}
 use Rattle.jr_new_words.proofs.DeclKinds.{method_decls}
-use Rattle.jr_new_words.proofs.ChosenBy.{asked_so, of_kind}
+use Rattle.jr_new_words.proofs.ChosenBy.{of_kind}
 use Rattle.jr_new_words.proofs.calls.super_call.Goals as goal
 
 pub returns : goal.returns
 returns c =
     let s = c.args.scopes.now in
-    let rows = rows_of s in
-    let g = naming_of s in
-    let x = context_of s in
-    IfOk-weaker c.chosen.result _ _ (λ o h. of_kind rows g x c.args.at c.args.name.now method_decl method_above method_above c.args.args.now (types_to g c.args.args.now) method_decls (λ k. refl) (option_map choice_of o)
-    (asked_so rows g x c.args.at c.args.name.now method_above _ c.args.args.now _ method_above _ (types_to g c.args.args.now) refl refl c.in_ok-images.ensures (option_map choice_of o) h)) c.chosen.ensures
+    IfOk-weaker c.chosen.result _ _ (λ o h. of_kind (rows_of s) (mapping_of s) (context_of s) c.args.at c.args.name.now method_decl method_above method_above c.args.args.now c.args.images.now method_decls (λ k. refl) (option_map choice_of o) h) c.chosen.ensures

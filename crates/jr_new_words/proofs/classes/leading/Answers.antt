@@ -4,7 +4,7 @@ use Rattle.std.proofs.lemmas.Result.{IfOk-weaker}
 use Rattle.jr_table.specs.TypeView.{class_key_of}
 use Rattle.jr_table.specs.Lookup.{FindsLeft}
 use Rattle.jr_new_words.specs.ChoiceView.{choice_of}
-use Rattle.jr_new_words.specs.Scopes.{rows_of, naming_of, context_of, rows_to, place_to}
+use Rattle.jr_new_words.specs.Scopes.{rows_of, mapping_of, context_of, rows_to, place_to}
 use Rattle.jr_new_words.specs.Taking.{TakesByName}
 use Rattle.jr_new_words.proofs.ClassesInFront.{in_front_taken, in_front_lost}
 use Rattle.jr_new_words.proofs.classes.leading.Goals as goal
@@ -13,7 +13,7 @@ pub returns-in-Some : goal.returns-in-Some
 returns-in-Some c =
     let s = c.args.scopes.now in
     let rows = rows_of s in
-    let g = naming_of s in
+    let g = mapping_of s in
     let x = context_of s in
     let old = c.args.old.now in
     let m = class_key_of c.in_ok-image.image in
@@ -25,7 +25,7 @@ pub returns : goal.returns
 returns c =
     let s = c.args.scopes.now in
     let rows = rows_of s in
-    let g = naming_of s in
+    let g = mapping_of s in
     let x = context_of s in
     let old = c.args.old.now in
     let m = class_key_of c.in_ok-image.image in

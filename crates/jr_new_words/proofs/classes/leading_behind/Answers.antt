@@ -2,10 +2,10 @@ use Rattle.std.proofs.Common.{Some, subst}
 use Rattle.std.specs.Prelude.{option_map}
 use Rattle.std.proofs.lemmas.Result.{IfOk-weaker}
 use Rattle.jr_table.specs.TypeView.{class_key_of}
-use Rattle.jr_images.specs.Words.{FindsNext}
+use Rattle.jr_new_words.specs.Mappings.{FindsNext}
 use Rattle.jr_new_words.specs.ChoiceView.{choice_of}
 use Rattle.jr_new_words.specs.FrontView.{in_front_of}
-use Rattle.jr_new_words.specs.Scopes.{rows_of, naming_of, context_of}
+use Rattle.jr_new_words.specs.Scopes.{rows_of, mapping_of, context_of}
 use Rattle.jr_new_words.specs.Taking.{TakesByName}
 use Rattle.jr_new_words.proofs.ClassesInFront.{in_front_taken, in_front_lost}
 use Rattle.jr_new_words.proofs.classes.leading_behind.Goals as goal
@@ -14,7 +14,7 @@ pub returns-in-Some : goal.returns-in-Some
 returns-in-Some c =
     let s = c.args.scopes.now in
     let rows = rows_of s in
-    let g = naming_of s in
+    let g = mapping_of s in
     let x = context_of s in
     let old = c.args.old.now in
     let on = Some (class_key_of c.args.on.now) in
@@ -27,7 +27,7 @@ pub returns : goal.returns
 returns c =
     let s = c.args.scopes.now in
     let rows = rows_of s in
-    let g = naming_of s in
+    let g = mapping_of s in
     let x = context_of s in
     let old = c.args.old.now in
     let on = Some (class_key_of c.args.on.now) in

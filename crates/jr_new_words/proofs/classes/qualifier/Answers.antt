@@ -6,7 +6,7 @@ use Rattle.jr_table.specs.Keys.{ClassKey}
 use Rattle.jr_table.specs.Lookup.{FindsTypeNamed}
 use Rattle.jr_table.specs.TypeView.{class_key_of}
 use Rattle.jr_new_words.specs.Chosen.{QualifierSpells}
-use Rattle.jr_new_words.specs.Scopes.{context_of, naming_of, rows_of}
+use Rattle.jr_new_words.specs.Scopes.{context_of, mapping_of, rows_of}
 use Rattle.jr_new_words.proofs.Founds.{class_is, no_class}
 use Rattle.jr_new_words.proofs.Kept.{moved_old}
 use Rattle.jr_new_words.proofs.Finds.{chooses, chooses_none}
@@ -19,7 +19,7 @@ returns-in-None c =
     let o = scope_of (context_of s) in
     let f = found_of c.in_ok-found.found in
     let finds = moved_old s c.requires (λ S. FindsTypeNamed rows S c.args.name.now f) c.in_ok-found.ensures in
-    chooses_none (λ (k : ClassKey). one (class_decl k)) (λ x. FindsTypeNamed rows o c.args.name.now x) (QualifierSpells rows (naming_of s) (context_of s) c.args.at c.args.name.now) f finds ((c.lookups_are_exact.ensures.one rows c.keeps_rows.ensures).type_named o c.args.name.now) (no_class f c.in-None.ensures)
+    chooses_none (λ (k : ClassKey). one (class_decl k)) (λ x. FindsTypeNamed rows o c.args.name.now x) (QualifierSpells rows (mapping_of s) (context_of s) c.args.at c.args.name.now) f finds ((c.lookups_are_exact.ensures.one rows c.keeps_rows.ensures).type_named o c.args.name.now) (no_class f c.in-None.ensures)
 
 pub returns : goal.returns
 returns c =
@@ -29,4 +29,4 @@ returns c =
     let f = found_of c.in_ok-found.found in
     let finds = moved_old s c.requires (λ S. FindsTypeNamed rows S c.args.name.now f) c.in_ok-found.ensures in
     let k = class_key_of c.in-Some.key.now in
-    chooses (λ (k : ClassKey). one (class_decl k)) (λ x. FindsTypeNamed rows o c.args.name.now x) (QualifierSpells rows (naming_of s) (context_of s) c.args.at c.args.name.now) f finds k (class_is f k c.in-Some.ensures) _ c.in_ok-qualifying-in-Some.ensures
+    chooses (λ (k : ClassKey). one (class_decl k)) (λ x. FindsTypeNamed rows o c.args.name.now x) (QualifierSpells rows (mapping_of s) (context_of s) c.args.at c.args.name.now) f finds k (class_is f k c.in-Some.ensures) _ c.in_ok-qualifying-in-Some.ensures

@@ -7,9 +7,9 @@ use Rattle.jr_table.specs.Lookup.{FindsTypeNamed}
 use Rattle.jr_table.specs.LookupLaws.{EachHasOne}
 use Rattle.jr_table.specs.Rows.{Row}
 use Rattle.jr_table.specs.TypeView.{class_key_of}
-use Rattle.jr_images.specs.Images.{class_to}
+use Rattle.jr_new_words.specs.Mappings.{class_to}
 use Rattle.jr_new_words.specs.ChoiceView.{choice_of}
-use Rattle.jr_new_words.specs.Scopes.{naming_of, place_to, rows_to}
+use Rattle.jr_new_words.specs.Scopes.{mapping_of, place_to, rows_to}
 use Rattle.jr_new_words.proofs.Kept.{moved}
 use Rattle.jr_new_words.proofs.Leading.{image_is, leads}
 use Rattle.jr_new_words.proofs.classes.qualifying.Goals as goal
@@ -19,7 +19,7 @@ returns c =
     let s = c.args.scopes.now in
     let R = rows_to s in
     let S = place_to s in
-    let g = naming_of s in
+    let g = mapping_of s in
     let at = c.args.at in
     let old = c.args.old.now in
     let k = class_key_of c.args.key.now in

@@ -3,10 +3,10 @@ use Rattle.std.proofs.lemmas.Result.{IfOk-weaker}
 use Rattle.std.specs.Prelude.{option_map, []}
 use Rattle.jr_table.specs.Decls.{field_decl}
 use Rattle.jr_table.specs.TypeView.{class_key_of}
-use Rattle.jr_images.specs.Images.{class_to}
+use Rattle.jr_new_words.specs.Mappings.{class_to}
 use Rattle.jr_new_words.specs.ChoiceView.{choice_of}
 use Rattle.jr_new_words.specs.FrontView.{in_front_of}
-use Rattle.jr_new_words.specs.Scopes.{rows_of, naming_of, context_of}
+use Rattle.jr_new_words.specs.Scopes.{rows_of, mapping_of, context_of}
 use Rattle.jr_new_words.specs.Ways.{field_on, field_through}
 use Rattle.jr_new_words.proofs.DeclKinds.{field_decls}
 use Rattle.jr_new_words.proofs.ChosenBy.{asked_so, of_kind}
@@ -16,7 +16,7 @@ pub returns : goal.returns
 returns c =
     let s = c.args.scopes.now in
     let rows = rows_of s in
-    let g = naming_of s in
+    let g = mapping_of s in
     let x = context_of s in
     let k = class_key_of c.args.class.now in
     IfOk-weaker c.chosen.result _ _ (λ o h. of_kind rows g x c.args.at c.args.name.now field_decl (field_on k) (field_through (in_front_of c.args.words) (class_to g k)) [] [] field_decls (λ k. refl) (option_map choice_of o)

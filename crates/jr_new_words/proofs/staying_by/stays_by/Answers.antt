@@ -10,4 +10,4 @@ pub returns-in-Some : goal.returns-in-Some
 returns-in-Some c =
     let s = c.args.scopes.now in
     let before = subst (λ (o : Option ℕ). IfSome o (FindsBy s.programs.before.now (scope_of s.before) (way_of c.args.from.now) c.args.name.now c.args.types.now)) c.in-Some.is c.in_ok-found.ensures in
-    IfOk-weaker c.finds_and_serves.result _ _ (λ b h t. record { number = c.in-Some.number; before = before; after = (h t).0; serves = (h t).1 }) c.finds_and_serves.ensures
+    IfOk-weaker c.finds_image.result _ _ (λ b h t. record { number = c.in-Some.number; before = before; there = h t }) c.finds_image.ensures

@@ -1,12 +1,21 @@
-use Rattle.std.proofs.Common.{subst}
+use Rattle.std.proofs.Common.{Option, subst}
 use Rattle.std.proofs.lemmas.Result.{IfOk-weaker}
+use Rattle.jr_table.specs.Decls.{Decl}
 use Rattle.jr_table.specs.KeyView.{decl_of}
 use Rattle.jr_new_words.specs.ChoiceView.{choice_of}
-use Rattle.jr_new_words.specs.Scopes.{rows_of, naming_of, context_of}
-use Rattle.jr_new_words.specs.Ways.{way_of, SpellsTo}
+use Rattle.jr_new_words.specs.Scopes.{rows_of, mapping_of, context_of}
+use Rattle.jr_new_words.specs.Ways.{way_of, OfDecl, SpellsTo, Gone}
 use Rattle.jr_new_words.proofs.taking.choice_by.Goals as goal
 
 pub returns : goal.returns
 returns c =
     let s = c.args.scopes.now in
-    IfOk-weaker c.taken_to-choice.result _ _ (λ h x. subst (λ i. SpellsTo (rows_of s) (naming_of s) (context_of s) i (way_of c.args.way.now) c.args.args.now c.args.at c.args.old.now (decl_of c.args.declaration.now) (choice_of h)) c.in_ok-image.ensures x) c.taken_to-choice.ensures
+    let rows = rows_of s in
+    let g = mapping_of s in
+    let x = context_of s in
+    let w = way_of c.args.way.now in
+    let ts = c.args.args.now in
+    let at = c.args.at in
+    let old = c.args.old.now in
+    let d = decl_of c.args.declaration.now in
+    IfOk-weaker c.by_image-choice.result _ _ (λ h z. subst (λ (o : Option Decl). OfDecl o (λ i. SpellsTo rows g x i w ts at old d (choice_of h)) (Gone rows g x w ts at old d (choice_of h))) c.in_ok-image.ensures z) c.by_image-choice.ensures

@@ -6,7 +6,7 @@ use Rattle.jr_table.specs.KeyView.{decl_of}
 use Rattle.jr_table.specs.FoundView.{found_of}
 use Rattle.jr_table.specs.Context.{scope_of}
 use Rattle.jr_new_words.specs.ChoiceView.{choice_of}
-use Rattle.jr_new_words.specs.Scopes.{rows_of, naming_of, context_of}
+use Rattle.jr_new_words.specs.Scopes.{rows_of, mapping_of, context_of}
 use Rattle.jr_new_words.specs.Ways.{way_of, Finds}
 use Rattle.jr_new_words.proofs.Founds.{decl_is, no_decl}
 use Rattle.jr_new_words.proofs.OneEach.{one_each}
@@ -39,4 +39,4 @@ returns c =
     let each = one_each rows o are (c.lookups_are_exact.ensures.one rows are) from name ts in
     let d = decl_of c.in-Some.declaration.now in
     let finds = subst (Finds rows o from name ts) (decl_is f d c.in-Some.ensures) c.in_ok-found.ensures in
-    IfOk-weaker c.chosen_for.result _ _ (λ x h. found_by rows (naming_of s) (context_of s) c.args.at name from (way_of c.args.to.now) ts c.args.images.now each d finds (option_map choice_of x) h) c.chosen_for.ensures
+    IfOk-weaker c.chosen_for.result _ _ (λ x h. found_by rows (mapping_of s) (context_of s) c.args.at name from (way_of c.args.to.now) ts c.args.images.now each d finds (option_map choice_of x) h) c.chosen_for.ensures

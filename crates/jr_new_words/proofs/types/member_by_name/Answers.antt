@@ -5,9 +5,9 @@ use Rattle.jr_table.specs.Keys.{ClassKey}
 use Rattle.jr_table.specs.Decls.{class_decl}
 use Rattle.jr_table.specs.TypeView.{class_key_of}
 use Rattle.jr_table.specs.Context.{scope_of}
-use Rattle.jr_images.specs.Images.{class_to}
+use Rattle.jr_new_words.specs.Mappings.{class_to}
 use Rattle.jr_new_words.specs.ChoiceView.{choice_of}
-use Rattle.jr_new_words.specs.Scopes.{rows_of, naming_of, context_of}
+use Rattle.jr_new_words.specs.Scopes.{rows_of, mapping_of, context_of}
 use Rattle.jr_new_words.specs.Ways.{type_behind}
 use Rattle.jr_new_words.proofs.DeclKinds.{class_decls}
 use Rattle.jr_new_words.proofs.OneEach.{one_class}
@@ -18,7 +18,7 @@ pub returns : goal.returns
 returns c =
     let s = c.args.scopes.now in
     let rows = rows_of s in
-    let g = naming_of s in
+    let g = mapping_of s in
     let x = context_of s in
     let at = c.args.at in
     let old = c.args.name.now in

@@ -1,31 +1,44 @@
-use Rattle.std.proofs.Common.{map, ap, ◌∙◌}
-use Rattle.jr_scopes.specs.Helds.{held_of, key_of}
+use Rattle.std.proofs.Common.{List, map, length, sym, ap, subst, ◌∙◌, arith}
+use Rattle.std.proofs.lemmas.List.{length-append}
+use Rattle.jr_scopes.specs.Helds.{Held, held_of}
 use Rattle.jr_scopes.specs.Tracked.{locals_of}
-use Rattle.jr_images.specs.Images.{member_to}
-use Rattle.jr_new_words.specs.Scopes.{naming_of, member_of}
-use Rattle.jr_new_words.proofs.Growing.{push_image, map_push}
-use Rattle.jr_new_words.proofs.Oks.{on_both, on_any}
+use Rattle.jr_new_words.specs.Scopes.{mapping_of, member_of, AreDepths}
+use Rattle.jr_new_words.proofs.Growing.{push_new, put_depths, count_new, deeper, map_push}
+use Rattle.jr_new_words.proofs.Oks.{on_both, on_one}
 use Rattle.jr_new_words.proofs.scopes.Scopes.push.Goals as goal
 
 pub returns-clause-kept : goal.returns-clause-kept
 returns-clause-kept c =
     let s = c.args.self.now in
+    let m = mapping_of s in
+    let k = member_of s in
+    let hs = locals_of s.locals in
+    let rs = locals_of s.renamed in
+    let held = c.args.held in
     let kept = c.requires in
-    on_both c.push-2.result _ _ _ (λ locals tracked. record {
+    let puts = c.in_ok-put_depth.ensures in
+    let image = c.in_ok-put_image.ensures in
+    let count = count_new m k rs hs c.len.result c.len.ensures kept.renamed in
+    on_both c.push.result _ _ _ (λ locals tracked.
+    let are = ap (map held_of) locals ∙ map_push held_of hs held in
+    let size = ap length are ∙ length-append (map held_of hs) _ in
+    record {
       rows = kept.rows;
+      images = kept.images;
       class = kept.class;
       no_locals = kept.no_locals;
       image = kept.image;
       image_class = kept.image_class;
       image_static = kept.image_static;
       image_locals = kept.image_locals;
-      tracked = c.in_ok-push.ensures.tracked;
-      renamed_tracked = tracked;
-      renamed = push_image (naming_of s) (member_of s) (locals_of s.renamed) (locals_of s.locals) _ _ _ _ locals c.in_ok-push.ensures.locals
-          (λ i. record { name = c.local_name-name.ensures i; key = key_of (member_to (naming_of s) (member_of s)) c.args.held.number }) kept.renamed;
-    }) c.push-2.ensures.locals c.push-2.ensures.tracked
+      tracked = tracked;
+      renamed_tracked = image.tracked;
+      renamed = push_new m k rs hs _ _ c.in_ok-image.image held image.locals locals c.in_ok-image.ensures kept.deep kept.renamed;
+      deep = deeper m.locals (length (map held_of hs)) _ (omega (arith, size)) kept.deep;
+      depths = subst (λ (zs : List Held). AreDepths m m.locals k zs c.put_depth.new.depths.items) (sym are) (put_depths m k m.locals (map held_of hs) (held_of held) s.depths.items c.put_depth.new.depths.items c.len.result puts count kept.depths);
+    }) c.push.ensures.locals c.push.ensures.tracked
 
 pub returns-clause-locals : goal.returns-clause-locals
 returns-clause-locals c =
     let s = c.args.self.now in
-    on_any c.push-2.result _ (ap (map held_of) c.in_ok-push.ensures.locals ∙ map_push held_of (locals_of s.locals) c.args.held)
+    on_one c.push.result _ _ (λ locals. ap (map held_of) locals ∙ map_push held_of (locals_of s.locals) c.args.held) c.push.ensures.locals
