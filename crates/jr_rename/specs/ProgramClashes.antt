@@ -2,15 +2,15 @@
 use Rattle.std.specs.Prelude.{ℕ, List}
 use Rattle.jr_text.specs.declared.spans.Span.{Span}
 use Rattle.jr_table.specs.Decls.{Decl}
-use Rattle.jr_members.specs.Fitting.{begins_by}
 use Rattle.jr_bind.specs.Programs.{Program, units_of}
+use Rattle.jr_program_laws.specs.FileParts.{begins}
 use Rattle.jr_images.specs.Clashes.{ClashesWith, IsClear}
 
-module _ {A : Type 0} (tells : A → ℕ → Span) (p : Program A) (target : Decl) (new : List ℕ) where
+module _ (p : Program Span) (target : Decl) (new : List ℕ) where
   -- with this one
   abbrev pub ClashesIn : Decl → Type 0
-  ClashesIn d = ClashesWith (begins_by tells) p.rows (units_of p) target new d
+  ClashesIn d = ClashesWith begins p.rows (units_of p) target new d
 
   -- with none
   abbrev pub IsClearIn : Type 0
-  IsClearIn = IsClear (begins_by tells) p.rows (units_of p) target new
+  IsClearIn = IsClear begins p.rows (units_of p) target new

@@ -1,11 +1,12 @@
 //! The local or parameter with which one collides that gets a name.
 ghost use Rattle.std.specs.Prelude.{◌≡◌, map, IfOk};
 ghost use Rattle.std.specs.Prelude.{option_map};
-ghost use Rattle.jr_members.specs.Fitting.{begins_by};
 ghost use Rattle.jr_members.specs.PartView.{part_of, written_of};
 ghost use Rattle.jr_table.specs.Decls as decls;
 ghost use Rattle.jr_table.specs.KeyView.{decl_of, member_key_of, local_key_of};
-ghost use Rattle.jr_bind.specs.Programs.{members_of, units_of};
+ghost use Rattle.jr_bind.specs.Programs.{units_of};
+ghost use Rattle.jr_program_laws.specs.FileParts.{begins};
+ghost use Rattle.jr_new_files.specs.FileEffects.{members_of};
 ghost use Rattle.jr_rename.specs.Answered.{Tells};
 ghost use Rattle.jr_rename.specs.LocalAnswers as pure;
 ghost use Rattle.jr_rename.specs.Walks.{asked_of, walk_of};
@@ -15,7 +16,7 @@ use jr_ast::Name;
 use jr_bind::{View, member_of_key};
 use jr_members::{PartRef, WrittenMember, members_are_written};
 use jr_table::{Decl, LocalKey, MemberKey};
-use jr_text::Mark;
+use jr_text::Span;
 use std::alloc::{AllocError, Global};
 
 /// Behind the whole part.
@@ -79,21 +80,20 @@ fn answer_in<A>(
 }
 
 /// With what a local or parameter collides that gets the name.
-pub(crate) fn local_clash<A: Mark, V: View<A>>(
+pub(crate) fn local_clash<V: View<Span>>(
     alloc: Global,
     view: &V,
-    members: &[WrittenMember<'_, A>],
+    members: &[WrittenMember<'_, Span>],
     target: &LocalKey,
     new: &Name,
 ) -> Result<Option<Decl>, AllocError>
-    requires members { map written_of members.now
-        ≡ members_of A.span_from A.fits_at (V.program view.now) }
-    ensures { IfOk result (λ o. Tells (begins_by A.span_from) (V.program view.now).rows
+    requires members { map written_of members.now ≡ members_of (V.program view.now) }
+    ensures { IfOk result (λ o. Tells begins (V.program view.now).rows
         (units_of (V.program view.now)) (decls.local_decl (local_key_of target.now)) new.now
         (option_map decl_of o)) }
 {
     view.keeps_program();
-    members_are_written::<A>();
+    members_are_written::<Span>();
     let found = member_of_key(members, &target.member);
     match found {
         None => Ok(None),

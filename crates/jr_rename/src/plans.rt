@@ -72,6 +72,15 @@ fn plan_among<V: View<Span>>(
     }
 }
 
+/// One value, behind which another is let go. Where both have types with variants of their own, the
+/// proof of the function around goes through all of them.
+fn kept<T, G: Drop>(value: T, gone: G) -> T
+    ensures { result ≡ value.entry }
+{
+    drop(gone);
+    value
+}
+
 /// What a rename of the declaration that the identifier at the byte of a file names does: the edits
 /// of each file, what declarations become, and how many references are spelled otherwise than with
 /// another name alone. Or why it is refused, by the first that applies: there is no declaration
@@ -98,6 +107,5 @@ pub fn plan_at<V: View<Span>>(
 {
     let members = all_members(alloc, view)?;
     let outcome = plan_among(alloc, view, members.as_slice(), file, at, new, after);
-    drop(members);
-    outcome
+    kept(outcome, members)
 }

@@ -1,5 +1,9 @@
-use Rattle.std.proofs.Common.{map, ap, ◌∙◌}
+use Rattle.std.proofs.Common.{map, sym, ap, subst, ◌∙◌}
+use Rattle.std.specs.Prelude.{IfOk}
 use Rattle.jr_members.specs.PartView.{written_of}
+use Rattle.jr_names.specs.ReplyView.{outcome_of}
+use Rattle.jr_rename.specs.Afters.{IsAfter}
+use Rattle.jr_rename.specs.Plans.{Plans}
 use Rattle.jr_rename.proofs.plans.plan_at.Goals as goal
 
 pub plan_among-outcome-requires-clause-members : goal.plan_among-outcome-requires-clause-members
@@ -15,7 +19,12 @@ pub plan_among-outcome-requires-clause-blank : goal.plan_among-outcome-requires-
 plan_among-outcome-requires-clause-blank g c = c.requires.blank
 
 pub returns-clause-plan : goal.returns-clause-plan
-returns-clause-plan g c = c.plan_among-outcome.ensures.plan
+returns-clause-plan g c =
+    let p = g.V.View.program c.args.view.now in
+    subst (λ r. IfOk r (λ o. Plans p c.args.file c.args.at c.args.new.now (outcome_of o))) (sym c.kept.ensures) c.plan_among-outcome.ensures.plan
 
 pub returns-clause-after : goal.returns-clause-after
-returns-clause-after g c = c.plan_among-outcome.ensures.after
+returns-clause-after g c =
+    let p = g.V.View.program c.args.view.now in
+    let told = c.plan_among-outcome.new.after in
+    subst (λ r. IfOk r (λ o. IsAfter p c.args.file c.args.at c.args.new.now (outcome_of o) told)) (sym c.kept.ensures) c.plan_among-outcome.ensures.after
