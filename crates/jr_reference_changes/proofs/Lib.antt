@@ -1,7 +1,7 @@
 -- Lowest first: `Families` (pairs of a rename); `FrontForms` (what each choice puts in front of a
 -- word), `FrontTrees` (what the new expression has there), `FrontsAlong`, `FrontsOfStatements`,
 -- `FrontsOfFiles` (old and new trees side by side); `PlacesJoined` (places of wholes by those of
--- parts), `PlacesOfExpressions`, `PlacesOfStatements`, `PlacesOfFiles`.
+-- parts), `PlacesOfExpressions`, `PlacesOfStatements`, `PlacesOfFiles`, `PlannedPlaces` (of a plan).
 pub mod Families
 pub mod FrontForms
 pub mod FrontTrees
@@ -9,6 +9,8 @@ pub mod FrontsAlong
 pub mod FrontsOfStatements
 pub mod FrontsOfFiles
 pub mod PlacesJoined
+pub mod PlacesApart
 pub mod PlacesOfExpressions
 pub mod PlacesOfStatements
 pub mod PlacesOfFiles
+pub mod PlannedPlaces

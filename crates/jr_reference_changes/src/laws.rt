@@ -1,6 +1,14 @@
 //! Laws of each plan of a rename.
 ghost use Rattle.jr_reference_changes.specs.Family.{FamiliesAreWhole};
 ghost use Rattle.jr_reference_changes.specs.Fronts.{FrontsStay};
+ghost use Rattle.jr_reference_changes.specs.PlacesInFiles.{PlansAreOfPlaces};
+
+use jr_grammar::marks_are_one;
+use jr_images::rows_are_named;
+use jr_lex::items_are_placed;
+use jr_rename_laws::renamings_stay_fair;
+use jr_table::{lookups_are_exact, types_are_exact};
+use jr_text::Span;
 
 /// The pairs of a planned rename give the new name to each declaration of the family that is
 /// renamed, and to no other (JLS 8.4.8.1).
@@ -14,3 +22,17 @@ pub fn families_are_whole()
 pub fn fronts_stay()
     ensures { FrontsStay }
 {}
+
+/// The edits of each file of a planned rename are exactly those of the references and declared
+/// names that stay in it, each as it is chosen there; it counts the respelled among these, and loses
+/// those that no spelling binds. None of them stands twice.
+pub fn plans_are_of_places()
+    ensures { PlansAreOfPlaces }
+{
+    items_are_placed();
+    marks_are_one();
+    rows_are_named::<Span>();
+    renamings_stay_fair::<Span>();
+    lookups_are_exact();
+    types_are_exact::<Span>();
+}

@@ -54,9 +54,9 @@ mod NewClean
 mod Whole
 mod Constructors
 pub mod Alike
-mod OneRewriting
+pub mod OneRewriting
 mod WordsOnce
-mod OneChoice
+pub mod OneChoice
 pub mod OneProgram
 mod OneClash
 pub mod OneRefusal

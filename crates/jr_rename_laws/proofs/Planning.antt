@@ -31,7 +31,7 @@ use Rattle.jr_plan.proofs.Rename.{rewrite_back}
 use Rattle.jr_rename_laws.specs.PlanLaws.{IsPlanIn, IsNewText, IsNoClass}
 
 -- each unit is rewritten
-one_unit : (C : Choosing Span) (declarations : List DeclaredItem) (us : List (UnitTree Span)) (os : List (Rewritten (UnitTree Span))) → RewritesUnits itself C declarations us os → (i : ℕ) (u : UnitTree Span) → slice_get us i ≡ Some u → (o : Rewritten (UnitTree Span)) × (slice_get os i ≡ Some o) × RewritesUnit itself C declarations u o
+pub one_unit : (C : Choosing Span) (declarations : List DeclaredItem) (us : List (UnitTree Span)) (os : List (Rewritten (UnitTree Span))) → RewritesUnits itself C declarations us os → (i : ℕ) (u : UnitTree Span) → slice_get us i ≡ Some u → (o : Rewritten (UnitTree Span)) × (slice_get os i ≡ Some o) × RewritesUnit itself C declarations u o
 one_unit C declarations [] os h i u e = absurd (none-some u e)
 one_unit C declarations (v ∷ us) os (o, ps, r, rest, are) zero u e = (o, ap (λ (l : List (Rewritten (UnitTree Span))). slice_get l 0) are, subst (λ (x : UnitTree Span). RewritesUnit itself C declarations x o) (same_Some v u e) r)
 one_unit C declarations (v ∷ us) os (o, ps, r, rest, are) (suc i) u e =
