@@ -1,5 +1,5 @@
 //! Laws of each plan of a rename.
-ghost use Rattle.jr_reference_changes.specs.Family.{FamiliesAreWhole};
+ghost use Rattle.jr_reference_changes.specs.Family.{FamiliesAreKept, FamiliesAreWhole};
 ghost use Rattle.jr_reference_changes.specs.Fronts.{FrontsStay};
 ghost use Rattle.jr_reference_changes.specs.PlacesInFiles.{PlansAreOfPlaces};
 
@@ -15,6 +15,15 @@ use jr_text::Span;
 pub fn families_are_whole()
     ensures { FamiliesAreWhole }
 {}
+
+/// Methods override one another in a program, and are connected by overriding, exactly where their
+/// images do in the program that a planned rename makes (JLS 8.4.8.1).
+pub fn families_are_kept()
+    ensures { FamiliesAreKept }
+{
+    rows_are_named::<Span>();
+    renamings_stay_fair::<Span>();
+}
 
 /// In front of each reference of the files that a rename makes stands what stood there, rewritten;
 /// or `this`, `super`, a cast of one of these, or the name of a class (JLS 6.4.2, 6.5). So `x`

@@ -16,7 +16,7 @@ use Rattle.jr_images.specs.Images.{Renaming, member_to}
 use Rattle.jr_images.specs.Keeping.{IsKept, IsWritten, IsSuperKept, IsParentKept}
 use Rattle.jr_plan.specs.Renaming.{IsFound, renaming}
 use Rattle.jr_rename_laws.specs.ImageLaws.{AreImages}
-use Rattle.jr_reference_changes.specs.Family.{RenamesFamily}
+use Rattle.jr_reference_changes.specs.Family.{RenamesFamily, KeepsFamilies}
 use Rattle.jr_reference_changes.specs.Fronts.{AreFronted}
 use Rattle.jr_reference_changes.specs.PlacesInFiles.{AreOfPlaces}
 use Rattle.jr_kept_runs.specs.KeysTo.{keys_to}
@@ -44,6 +44,8 @@ pub record KeepsNames (p : Program Span) (d : Decl) (g : Renaming) (new : List â
   pub fronts : AreFronted p g files
   -- each declaration of the renamed family gets the name, and no other gets another name
   pub family : RenamesFamily p.rows g d new pairs
+  -- methods of p override one another exactly where their images do in q
+  pub families : KeepsFamilies p.rows g q.rows
   -- the edits of each file are exactly those of the references and declared names that stay in it,
   -- and it counts the respelled among these
   pub places : AreOfPlaces p g files edits

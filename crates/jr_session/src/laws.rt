@@ -13,7 +13,9 @@ use jr_lines::lines_are_told;
 use jr_members::members_are_written;
 use jr_program_laws::parts_are_placed;
 use jr_punit::one_reading;
-use jr_reference_changes::{families_are_whole, fronts_stay, plans_are_of_places};
+use jr_reference_changes::{
+    families_are_kept, families_are_whole, fronts_stay, plans_are_of_places,
+};
 use jr_rename_laws::{
     classes_give_images, constructors_give_images, plan_is_one, plans_become, plans_keep_programs,
     renamings_stay_fair, rewriting_is_one,
@@ -58,10 +60,10 @@ pub fn renames_are_refused_first()
 /// refactoring states, and what a call runs is the image of what it ran. Each of the two programs
 /// has resolved code, just one and well typed. Each byte that lies in no edit's span is as before,
 /// and an undoing right behind the step gives back every byte of every file. Of a rename, each
-/// reference is bound to the image of what it was bound to (JLS 6), whatever is renamed, and in
-/// front of it stands what stood there, `this`, `super`, a cast or a class; the renamed family is
-/// complete; edits are those of the references and declared names that stay; and the resolved
-/// programs are exactly alike.
+/// reference is bound to the image of what it was bound to (JLS 6), whatever is renamed; in front
+/// of it stands what stood there, `this`, `super`, a cast or a class; the renamed family is
+/// complete, and methods override one another where their images do (JLS 8.4.8.1); edits are those
+/// of the references and declared names that stay; and the resolved programs are exactly alike.
 pub fn accepted_refactorings_keep_programs()
     ensures { StepsKeepPrograms }
 {
@@ -75,6 +77,7 @@ pub fn accepted_refactorings_keep_programs()
     renames_keep_runs();
     fronts_stay();
     families_are_whole();
+    families_are_kept();
     plans_are_of_places();
     programs_have_code();
     sound_programs_are_well_typed();
