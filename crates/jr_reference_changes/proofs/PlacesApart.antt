@@ -18,7 +18,7 @@ use Rattle.jr_reference_changes.proofs.PlacesJoined.{OneEach, in_either, in_left
 
 -- ---- where a place's own word begins
 
-pub word_from : tree.Exp Span → ℕ
+abbrev pub word_from : tree.Exp Span → ℕ
 word_from (tree.name m w) = w.mark.from
 word_from (tree.field m e w) = w.mark.from
 word_from (tree.super_field m w) = w.mark.from
@@ -26,16 +26,16 @@ word_from (tree.call m to w args) = w.mark.from
 word_from (tree.super_call m w args) = w.mark.from
 word_from _ = 0
 
-pub type_from : tree.TypeName Span → ℕ
+abbrev pub type_from : tree.TypeName Span → ℕ
 type_from (tree.named m o w) = w.mark.from
 type_from _ = 0
 
-pub qualifier_from : tree.TypeName Span → ℕ
+abbrev pub qualifier_from : tree.TypeName Span → ℕ
 qualifier_from (tree.named m (Some o) w) = o.mark.from
 qualifier_from _ = 0
 
 -- that of a `super(..)` isn't known by a mark: its constructor begins there
-pub place_from : Place Span → ℕ
+abbrev pub place_from : Place Span → ℕ
 place_from (of_expression c r b e) = word_from e
 place_from (of_creation c b e) = (exp_mark e).from
 place_from (of_super k b ps args) = b
@@ -45,7 +45,7 @@ place_from (of_parent_qualifier o b t) = qualifier_from t
 place_from (of_parent o b t) = type_from t
 place_from (of_declared d at w) = w.mark.from
 
-pub is_super : Place Span → Bool
+abbrev pub is_super : Place Span → Bool
 is_super (of_expression c r b e) = false
 is_super (of_creation c b e) = false
 is_super (of_super k b ps args) = true
@@ -99,13 +99,13 @@ module _ (Kind : Place Span → Type 0) (a b ps : Tokens) (w : ps ≡ a ++ b) (x
   back_within : Apart Kind b ys → (s : Place Span) (h : Choice) → In (with_choice s h) ys → Kind s × StartsIn ps (place_from s)
   back_within g s h i = ((g.within s h i).0, subst (λ (qs : Tokens). StartsIn qs (place_from s)) (sym w) (in_back a b (place_from s) (g.within s h i).1))
 
-  front_apart : Apart Kind a xs → Apart Kind ps xs
+  pub front_apart : Apart Kind a xs → Apart Kind ps xs
   front_apart f = record { within = front_within f; once = f.once }
 
-  back_apart : Apart Kind b ys → Apart Kind ps ys
+  pub back_apart : Apart Kind b ys → Apart Kind ps ys
   back_apart g = record { within = back_within g; once = g.once }
 
-  both_apart : Rising ps → Apart Kind a xs → Apart Kind b ys → Apart Kind ps (xs ++ ys)
+  pub both_apart : Rising ps → Apart Kind a xs → Apart Kind b ys → Apart Kind ps (xs ++ ys)
   both_apart rising f g = record {
     within = λ s h i. elim (in_either (with_choice s h) xs ys i) [ inl l ↦ front_within f s h l | inr r ↦ back_within g s h r ];
     once = once_both xs ys f.once g.once (λ s h k l r. never s (f.within s h l).1 (g.within s k r).1);

@@ -115,25 +115,25 @@ module _ {A : Type 0} (tells : A → ℕ → Span) (C : Choosing A) where
   abbrev pub Chosen : Type 0
   Chosen = Place A × Choice
 
-  losses_both : (xs ys : List Chosen) → losses_all tells C (xs ++ ys) ≡ losses_all tells C xs ++ losses_all tells C ys
+  pub losses_both : (xs ys : List Chosen) → losses_all tells C (xs ++ ys) ≡ losses_all tells C xs ++ losses_all tells C ys
   losses_both [] ys = refl
   losses_both (x ∷ xs) ys = ap (λ (z : List Loss). losses_of x.1 ++ z) (losses_both xs ys) ∙ sym (append_assoc (losses_of x.1) (losses_all tells C xs) (losses_all tells C ys))
 
-  count_both : (xs ys : List Chosen) → count_all tells C (xs ++ ys) ≡ count_all tells C xs + count_all tells C ys
+  pub count_both : (xs ys : List Chosen) → count_all tells C (xs ++ ys) ≡ count_all tells C xs + count_all tells C ys
   count_both [] ys = omega arith
   count_both (x ∷ xs) ys = let rest = count_both xs ys in omega (arith, rest)
 
-  edit_either : (y : Change) (xs ys : List Chosen) → IsEditOf tells C (xs ++ ys) y → IsEditOf tells C xs y ⊎ IsEditOf tells C ys y
+  pub edit_either : (y : Change) (xs ys : List Chosen) → IsEditOf tells C (xs ++ ys) y → IsEditOf tells C xs y ⊎ IsEditOf tells C ys y
   edit_either y [] ys i = inr i
   edit_either y (x ∷ xs) ys (inl e) = inl (inl e)
   edit_either y (x ∷ xs) ys (inr i) = elim (edit_either y xs ys i) [ inl a ↦ inl (inr a) | inr b ↦ inr b ]
 
-  edit_left : (y : Change) (xs ys : List Chosen) → IsEditOf tells C xs y → IsEditOf tells C (xs ++ ys) y
+  pub edit_left : (y : Change) (xs ys : List Chosen) → IsEditOf tells C xs y → IsEditOf tells C (xs ++ ys) y
   edit_left y [] ys i = absurd i
   edit_left y (x ∷ xs) ys (inl e) = inl e
   edit_left y (x ∷ xs) ys (inr i) = inr (edit_left y xs ys i)
 
-  edit_right : (y : Change) (xs ys : List Chosen) → IsEditOf tells C ys y → IsEditOf tells C (xs ++ ys) y
+  pub edit_right : (y : Change) (xs ys : List Chosen) → IsEditOf tells C ys y → IsEditOf tells C (xs ++ ys) y
   edit_right y [] ys i = i
   edit_right y (x ∷ xs) ys i = inr (edit_right y xs ys i)
 
@@ -187,10 +187,10 @@ module _ {A : Type 0} (tells : A → ℕ → Span) (C : Choosing A) where
   OneEach = (s : Place A) (h k : Choice) → IsChosen tells C s h → IsChosen tells C s k → h ≡ k
 
   module _ (one : OneEach) (s : Place A) (h : Choice) (chosen : IsChosen tells C s h) where
-    of_it : (x : Place A) (k : Choice) → (x ≡ s) × IsChosen tells C x k → with_choice s h ≡ with_choice x k
+    pub of_it : (x : Place A) (k : Choice) → (x ≡ s) × IsChosen tells C x k → with_choice s h ≡ with_choice x k
     of_it x k (is, other) = λ i. (sym is i, one s h k chosen (subst (λ (z : Place A). IsChosen tells C z k) is other) i)
 
-    is_it : (x : Place A) (k : Choice) → with_choice s h ≡ with_choice x k → (x ≡ s) × IsChosen tells C x k
+    pub is_it : (x : Place A) (k : Choice) → with_choice s h ≡ with_choice x k → (x ≡ s) × IsChosen tells C x k
     is_it x k e = (sym (ap (λ (z : Chosen). z.0) e), subst (λ (z : Chosen). IsChosen tells C z.0 z.1) e chosen)
 
     unfoldable pub own_places : {T : Type 0} (o : Rewritten T) → o.losses ≡ losses_of h → o.respelled ≡ count_at tells C s h → o.changes ≡ edits_at tells C s h → IsOfPlaces tells C (λ x. x ≡ s) o
