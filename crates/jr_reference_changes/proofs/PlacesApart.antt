@@ -152,7 +152,7 @@ module _ (C : Choosing Span) where
       apart = λ ps rising h. back_apart Kind h.front h.back ps h.whole [] x.places.all (x.apart h.back (rising_back h.front h.back (subst Rising h.whole rising)) h.rest);
     }
 
-    pub only : {M : Tokens → Type 0} {P : Place Span → Type 0} {o : Rewritten T} → Placed Kind L P o → Placed Kind (InOrder L M) P o
+    unfoldable pub only : {M : Tokens → Type 0} {P : Place Span → Type 0} {o : Rewritten T} → Placed Kind L P o → Placed Kind (InOrder L M) P o
     only x = record {
       places = x.places;
       apart = λ ps rising h. front_apart Kind h.front h.back ps h.whole x.places.all [] (x.apart h.front (rising_front h.front h.back (subst Rising h.whole rising)) h.first);

@@ -148,7 +148,7 @@ module _ (C : Choosing Span) (one : OneEach itself C) where
         split ts l = assoc ts (record { front = l.parts.front; back = l.parts.back; whole = l.parts.whole; first = l.parts.first; rest = assoc l.parts.back (assoc l.parts.back l.parts.rest) })
 
         super_ctor : Any (Stands (member_layout (syntax.constructor m mods w ps (Some args) body))) (λ s. (D s ⊎ P s) ⊎ (((s ≡ it) ⊎ R s) ⊎ S s)) (joined with_parts (pair v q) (pair called z))
-        unfolding pass join joined_places own_places
+        unfolding pass only join joined_places own_places
         super_ctor = record {
           places = joined_places itself C (λ s. D s ⊎ P s) (λ s. ((s ≡ it) ⊎ R s) ⊎ S s) with_parts (pair v q) (pair called z) modified.places
               (joined_places itself C (λ s. (s ≡ it) ⊎ R s) S both called z
