@@ -14,6 +14,7 @@ use Rattle.jr_rewrite.specs.Respellings.{Choice, Change}
 use Rattle.jr_rewrite.specs.Rewritten.{Rewritten, plain, within, joined, losses_of}
 use Rattle.jr_rewrite.specs.Rewrites.{Choosing}
 use Rattle.jr_reference_changes.specs.Places.{Place, with_choice, StandOnce, In, of_expression, of_creation, of_super, of_qualifier, of_type, of_parent_qualifier, of_parent, of_declared, IsChosen, edits_at, count_at, IsOfPlaces}
+use Rattle.jr_reference_changes.proofs.NameTokens.{OnNames, front_names, back_names}
 use Rattle.jr_reference_changes.proofs.PlacesJoined.{OneEach, in_either, in_left, in_right, plain_places, moved_places, alike_places, within_places, joined_places, own_places, behind_places}
 
 -- ---- where a place's own word begins
@@ -87,118 +88,37 @@ once_between (z ∷ xs) ys x f never = (ahead, once_between xs ys x f.1 (λ h i.
 
 -- ---- over some tokens
 
--- each begins where one of these does, and none stands twice
-pub record Apart (Kind : Place Span → Type 0) (ps : Tokens) (xs : ChosenPlaces) : Type 0 where
-  pub within : (s : Place Span) (h : Choice) → In (with_choice s h) xs → Kind s × StartsIn ps (place_from s)
-  pub once : StandOnce xs
-
-module _ (Kind : Place Span → Type 0) (a b ps : Tokens) (w : ps ≡ a ++ b) (xs ys : ChosenPlaces) where
-  front_within : Apart Kind a xs → (s : Place Span) (h : Choice) → In (with_choice s h) xs → Kind s × StartsIn ps (place_from s)
-  front_within f s h i = ((f.within s h i).0, subst (λ (qs : Tokens). StartsIn qs (place_from s)) (sym w) (in_front a b (place_from s) (f.within s h i).1))
-
-  back_within : Apart Kind b ys → (s : Place Span) (h : Choice) → In (with_choice s h) ys → Kind s × StartsIn ps (place_from s)
-  back_within g s h i = ((g.within s h i).0, subst (λ (qs : Tokens). StartsIn qs (place_from s)) (sym w) (in_back a b (place_from s) (g.within s h i).1))
-
-  pub front_apart : Apart Kind a xs → Apart Kind ps xs
-  front_apart f = record { within = front_within f; once = f.once }
-
-  pub back_apart : Apart Kind b ys → Apart Kind ps ys
-  back_apart g = record { within = back_within g; once = g.once }
-
-  pub both_apart : Rising ps → Apart Kind a xs → Apart Kind b ys → Apart Kind ps (xs ++ ys)
-  both_apart rising f g = record {
-    within = λ s h i. elim (in_either (with_choice s h) xs ys i) [ inl l ↦ front_within f s h l | inr r ↦ back_within g s h r ];
-    once = once_both xs ys f.once g.once (λ s h k l r. never s (f.within s h l).1 (g.within s k r).1);
-  }
-    where
-      never : (s : Place Span) → StartsIn a (place_from s) → StartsIn b (place_from s) → ⊥
-      never s l r = let less = before a b (subst Rising w rising) (place_from s) (place_from s) l r in omega arith
-
--- ---- over whatever tokens stand so
-
 module _ (C : Choosing Span) where
-  pub record Placed (Kind : Place Span → Type 0) (L : Tokens → Type 0) (P : Place Span → Type 0) {T : Type 0} (o : Rewritten T) : Type 0 where
-    pub places : IsOfPlaces itself C P o
-    pub apart : (ps : Tokens) → Rising ps → L ps → Apart Kind ps places.all
+  -- each begins where one of these does, none stands twice, and their edits lie on names
+  pub record Apart (Kind : Place Span → Type 0) (ps : Tokens) (xs : ChosenPlaces) : Type 0 where
+    pub within : (s : Place Span) (h : Choice) → In (with_choice s h) xs → Kind s × StartsIn ps (place_from s)
+    pub once : StandOnce xs
+    pub names : (s : Place Span) (h : Choice) → In (with_choice s h) xs → (y : Change) → In y (edits_at itself C s h) → OnNames ps y.span
 
-  module _ {Kind : Place Span → Type 0} {L : Tokens → Type 0} {T : Type 0} where
-    pub plain_placed : (t : T) → Placed Kind L (λ s. ⊥) (plain t)
-    unfolding plain_places
-    plain_placed t = record { places = plain_places itself C t; apart = λ ps rising l. record { within = λ s h i. absurd i; once = tt } }
-
-    pub moved_placed : (P : Place Span → Type 0) (o p : Rewritten T) → o ≡ p → Placed Kind L P p → Placed Kind L P o
-    unfolding moved_places
-    moved_placed P o p is x = record { places = moved_places itself C P o p is x.places; apart = x.apart }
-
-    pub alike_placed : (P Q : Place Span → Type 0) (o : Rewritten T) → ((s : Place Span) → P s ↔ Q s) → Placed Kind L P o → Placed Kind L Q o
-    unfolding alike_places
-    alike_placed P Q o alike x = record { places = alike_places itself C P Q o alike x.places; apart = x.apart }
-
-    pub within_placed : {U : Type 0} (P : Place Span → Type 0) (f : T → U) (o : Rewritten T) → Placed Kind L P o → Placed Kind L P (within f o)
-    unfolding within_places
-    within_placed P f o x = record { places = within_places itself C P f o x.places; apart = x.apart }
-
-    pub weaker : (P : Place Span → Type 0) (o : Rewritten T) → Placed Kind L P o → Placed AnyPlace L P o
-    weaker P o x = record { places = x.places; apart = λ ps rising l. record { within = λ s h i. (tt, ((x.apart ps rising l).within s h i).1); once = (x.apart ps rising l).once } }
-
-    -- the tokens told in other words
-    pub turn : {M : Tokens → Type 0} (P : Place Span → Type 0) (o : Rewritten T) → ((ps : Tokens) → M ps → L ps) → Placed Kind L P o → Placed Kind M P o
-    turn P o to x = record { places = x.places; apart = λ ps rising m. x.apart ps rising (to ps m) }
-
-    -- what stands in front, behind, and around
-    unfoldable pub pass : {M : Tokens → Type 0} {P : Place Span → Type 0} {o : Rewritten T} → Placed Kind L P o → Placed Kind (InOrder M L) P o
-    pass x = record {
-      places = x.places;
-      apart = λ ps rising h. back_apart Kind h.front h.back ps h.whole [] x.places.all (x.apart h.back (rising_back h.front h.back (subst Rising h.whole rising)) h.rest);
+  module _ (Kind : Place Span → Type 0) (a b ps : Tokens) (w : ps ≡ a ++ b) (rising : Rising ps) (xs ys : ChosenPlaces) where
+    pub front_apart : Apart Kind a xs → Apart Kind ps xs
+    front_apart f = record {
+      within = λ s h i. ((f.within s h i).0, subst (λ (qs : Tokens). StartsIn qs (place_from s)) (sym w) (in_front a b (place_from s) (f.within s h i).1));
+      once = f.once;
+      names = λ s h i y e. front_names a b ps w rising y.span (f.names s h i y e);
     }
 
-    unfoldable pub only : {M : Tokens → Type 0} {P : Place Span → Type 0} {o : Rewritten T} → Placed Kind L P o → Placed Kind (InOrder L M) P o
-    only x = record {
-      places = x.places;
-      apart = λ ps rising h. front_apart Kind h.front h.back ps h.whole x.places.all [] (x.apart h.front (rising_front h.front h.back (subst Rising h.whole rising)) h.first);
+    pub back_apart : Apart Kind b ys → Apart Kind ps ys
+    back_apart g = record {
+      within = λ s h i. ((g.within s h i).0, subst (λ (qs : Tokens). StartsIn qs (place_from s)) (sym w) (in_back a b (place_from s) (g.within s h i).1));
+      once = g.once;
+      names = λ s h i y e. back_names a b ps w rising y.span (g.names s h i y e);
     }
 
-    pub node : {m : Span} {P : Place Span → Type 0} {o : Rewritten T} → Placed Kind L P o → Placed Kind (IsNode m L) P o
-    node x = record { places = x.places; apart = λ ps rising h. x.apart ps rising h.parts }
-
-  module _ {Kind : Place Span → Type 0} {L M : Tokens → Type 0} {T U V : Type 0} where
-    unfoldable pub join : (P Q : Place Span → Type 0) (f : T → U → V) (o : Rewritten T) (p : Rewritten U) → Placed Kind L P o → Placed Kind M Q p → Placed Kind (InOrder L M) (λ s. P s ⊎ Q s) (joined f o p)
-    unfolding joined_places
-    join P Q f o p x y = record {
-      places = joined_places itself C P Q f o p x.places y.places;
-      apart = λ ps rising h.
-          let two = subst Rising h.whole rising in
-          both_apart Kind h.front h.back ps h.whole x.places.all y.places.all rising (x.apart h.front (rising_front h.front h.back two) h.first) (y.apart h.back (rising_back h.front h.back two) h.rest);
+    pub both_apart : Apart Kind a xs → Apart Kind b ys → Apart Kind ps (xs ++ ys)
+    both_apart f g = record {
+      within = λ s h i. elim (in_either (with_choice s h) xs ys i) [ inl l ↦ (front_apart f).within s h l | inr r ↦ (back_apart g).within s h r ];
+      once = once_both xs ys f.once g.once (λ s h k l r. never s (f.within s h l).1 (g.within s k r).1);
+      names = λ s h i y e. elim (in_either (with_choice s h) xs ys i) [ inl l ↦ front_names a b ps w rising y.span (f.names s h l y e) | inr r ↦ back_names a b ps w rising y.span (g.names s h r y e) ];
     }
-
-  -- ---- one place
-
-  module _ (one : OneEach itself C) (s : Place Span) (h : Choice) (chosen : IsChosen itself C s h) (worded : HasWord s) where
-    alone_apart : (ps : Tokens) → StartsIn ps (place_from s) → Apart HasWord ps (with_choice s h ∷ [])
-    alone_apart ps starts = record { within = λ x k i. elim i [ inl e ↦ at x (ap (λ (z : Place Span × Choice). z.0) e) | inr j ↦ absurd j ]; once = (λ k i. i, tt) }
       where
-        at : (x : Place Span) → s ≡ x → HasWord x × StartsIn ps (place_from x)
-        at x e = subst (λ (z : Place Span). HasWord z × StartsIn ps (place_from z)) e (worded, starts)
-
-    pub own_placed : {L : Tokens → Type 0} {T : Type 0} (o : Rewritten T) → ((ps : Tokens) → L ps → StartsIn ps (place_from s)) → o.losses ≡ losses_of h → o.respelled ≡ count_at itself C s h → o.changes ≡ edits_at itself C s h → Placed HasWord L (λ x. x ≡ s) o
-    unfolding own_places
-    own_placed o starts ls n cs = record { places = own_places itself C one s h chosen o ls n cs; apart = λ ps rising l. alone_apart ps (starts ps l) }
-
-    -- behind what stands in front of a dot, which it drops or keeps
-    pub behind_placed : {L M : Tokens → Type 0} {T U : Type 0} (P : Place Span → Type 0) (Keeps : Type 0) (p : Rewritten T) (o : Rewritten U) (inner : Placed HasWord L P p) → ((ps : Tokens) → M ps → StartsIn ps (place_from s))
-        → (drop : Bool) → (drop ≡ false → Keeps) → (drop ≡ true → Keeps → ⊥) → o.losses ≡ (if drop then [] else p.losses) ++ losses_of h → o.respelled ≡ (if drop then 0 else p.respelled) + count_at itself C s h
-        → (drop ≡ false → (y : Change) → In y o.changes ↔ (In y p.changes ⊎ In y (edits_at itself C s h))) → (drop ≡ true → o.changes ≡ edits_at itself C s h) → Placed HasWord (InOrder L M) (λ x. (Keeps × P x) ⊎ (x ≡ s)) o
-    unfolding behind_places
-    behind_placed P Keeps p o inner starts true gives never ls n kept gone = record {
-      places = behind_places itself C one s h chosen P Keeps p o inner.places true gives never ls n kept gone;
-      apart = λ ps rising l. back_apart HasWord l.front l.back ps l.whole [] (with_choice s h ∷ []) (alone_apart l.back (starts l.back l.rest));
-    }
-    behind_placed P Keeps p o inner starts false gives never ls n kept gone = record {
-      places = behind_places itself C one s h chosen P Keeps p o inner.places false gives never ls n kept gone;
-      apart = λ ps rising l.
-          let two = subst Rising l.whole rising in
-          both_apart HasWord l.front l.back ps l.whole inner.places.all (with_choice s h ∷ []) rising (inner.apart l.front (rising_front l.front l.back two) l.first) (alone_apart l.back (starts l.back l.rest));
-    }
+        never : (s : Place Span) → StartsIn a (place_from s) → StartsIn b (place_from s) → ⊥
+        never s l r = let less = before a b (subst Rising w rising) (place_from s) (place_from s) l r in omega arith
 
 -- ---- where tokens begin
 
@@ -214,6 +134,125 @@ back_starts at f ps h = subst (λ (qs : Tokens). StartsIn qs at) (sym h.whole) (
 pub front_starts : {L M : Tokens → Type 0} (at : ℕ) → ((ps : Tokens) → L ps → StartsIn ps at) → (ps : Tokens) → InOrder L M ps → StartsIn ps at
 front_starts at f ps h = subst (λ (qs : Tokens). StartsIn qs at) (sym h.whole) (in_front h.front h.back at (f h.front h.first))
 
+-- ---- over whatever tokens stand so
+
+module _ (C : Choosing Span) where
+  pub record Placed (Kind : Place Span → Type 0) (L : Tokens → Type 0) (P : Place Span → Type 0) {T : Type 0} (o : Rewritten T) : Type 0 where
+    pub places : IsOfPlaces itself C P o
+    pub apart : (ps : Tokens) → Rising ps → L ps → Apart C Kind ps places.all
+
+  module _ {Kind : Place Span → Type 0} {L : Tokens → Type 0} {T : Type 0} where
+    pub plain_placed : (t : T) → Placed Kind L (λ s. ⊥) (plain t)
+    unfolding plain_places
+    plain_placed t = record { places = plain_places itself C t; apart = λ ps rising l. record { within = λ s h i. absurd i; once = tt; names = λ s h i. absurd i } }
+
+    pub moved_placed : (P : Place Span → Type 0) (o p : Rewritten T) → o ≡ p → Placed Kind L P p → Placed Kind L P o
+    unfolding moved_places
+    moved_placed P o p is x = record { places = moved_places itself C P o p is x.places; apart = x.apart }
+
+    pub alike_placed : (P Q : Place Span → Type 0) (o : Rewritten T) → ((s : Place Span) → P s ↔ Q s) → Placed Kind L P o → Placed Kind L Q o
+    unfolding alike_places
+    alike_placed P Q o alike x = record { places = alike_places itself C P Q o alike x.places; apart = x.apart }
+
+    pub within_placed : {U : Type 0} (P : Place Span → Type 0) (f : T → U) (o : Rewritten T) → Placed Kind L P o → Placed Kind L P (within f o)
+    unfolding within_places
+    within_placed P f o x = record { places = within_places itself C P f o x.places; apart = x.apart }
+
+    pub weaker : (P : Place Span → Type 0) (o : Rewritten T) → Placed Kind L P o → Placed AnyPlace L P o
+    weaker P o x = record { places = x.places; apart = λ ps rising l. record { within = λ s h i. (tt, ((x.apart ps rising l).within s h i).1); once = (x.apart ps rising l).once; names = (x.apart ps rising l).names } }
+
+    -- the tokens told in other words
+    pub turn : {M : Tokens → Type 0} (P : Place Span → Type 0) (o : Rewritten T) → ((ps : Tokens) → M ps → L ps) → Placed Kind L P o → Placed Kind M P o
+    turn P o to x = record { places = x.places; apart = λ ps rising m. x.apart ps rising (to ps m) }
+
+    -- what stands in front, behind, and around
+    unfoldable pub pass : {M : Tokens → Type 0} {P : Place Span → Type 0} {o : Rewritten T} → Placed Kind L P o → Placed Kind (InOrder M L) P o
+    pass x = record {
+      places = x.places;
+      apart = λ ps rising h. back_apart C Kind h.front h.back ps h.whole rising [] x.places.all (x.apart h.back (rising_back h.front h.back (subst Rising h.whole rising)) h.rest);
+    }
+
+    unfoldable pub only : {M : Tokens → Type 0} {P : Place Span → Type 0} {o : Rewritten T} → Placed Kind L P o → Placed Kind (InOrder L M) P o
+    only x = record {
+      places = x.places;
+      apart = λ ps rising h. front_apart C Kind h.front h.back ps h.whole rising x.places.all [] (x.apart h.front (rising_front h.front h.back (subst Rising h.whole rising)) h.first);
+    }
+
+    pub node : {m : Span} {P : Place Span → Type 0} {o : Rewritten T} → Placed Kind L P o → Placed Kind (IsNode m L) P o
+    node x = record { places = x.places; apart = λ ps rising h. x.apart ps rising h.parts }
+
+  module _ {Kind : Place Span → Type 0} {L M : Tokens → Type 0} {T U V : Type 0} where
+    unfoldable pub join : (P Q : Place Span → Type 0) (f : T → U → V) (o : Rewritten T) (p : Rewritten U) → Placed Kind L P o → Placed Kind M Q p → Placed Kind (InOrder L M) (λ s. P s ⊎ Q s) (joined f o p)
+    unfolding joined_places
+    join P Q f o p x y = record {
+      places = joined_places itself C P Q f o p x.places y.places;
+      apart = λ ps rising h.
+          let two = subst Rising h.whole rising in
+          both_apart C Kind h.front h.back ps h.whole rising x.places.all y.places.all (x.apart h.front (rising_front h.front h.back two) h.first) (y.apart h.back (rising_back h.front h.back two) h.rest);
+    }
+
+  -- ---- one place
+
+  module _ (one : OneEach itself C) (s : Place Span) (h : Choice) (chosen : IsChosen itself C s h) (worded : HasWord s) where
+    alone_apart : (ps : Tokens) → StartsIn ps (place_from s) → ((y : Change) → In y (edits_at itself C s h) → OnNames ps y.span) → Apart C HasWord ps (with_choice s h ∷ [])
+    alone_apart ps starts lie = record {
+      within = λ x k i. elim i [ inl e ↦ at x (ap (λ (z : Place Span × Choice). z.0) e) | inr j ↦ absurd j ];
+      once = (λ k i. i, tt);
+      names = λ x k i. elim i [ inl e ↦ on x k e | inr j ↦ absurd j ];
+    }
+      where
+        at : (x : Place Span) → s ≡ x → HasWord x × StartsIn ps (place_from x)
+        at x e = subst (λ (z : Place Span). HasWord z × StartsIn ps (place_from z)) e (worded, starts)
+
+        on : (x : Place Span) (k : Choice) → with_choice s h ≡ with_choice x k → (y : Change) → In y (edits_at itself C x k) → OnNames ps y.span
+        on x k e = subst (λ (z : Place Span × Choice). (y : Change) → In y (edits_at itself C z.0 z.1) → OnNames ps y.span) e lie
+
+    -- its edits lie on names
+    abbrev Lie : Tokens → Type 0
+    Lie ps = (y : Change) → In y (edits_at itself C s h) → OnNames ps y.span
+
+    pub own_placed : {L : Tokens → Type 0} {T : Type 0} (o : Rewritten T) → ((ps : Tokens) → L ps → StartsIn ps (place_from s)) → ((ps : Tokens) → Rising ps → L ps → Lie ps) → o.losses ≡ losses_of h → o.respelled ≡ count_at itself C s h → o.changes ≡ edits_at itself C s h
+        → Placed HasWord L (λ x. x ≡ s) o
+    unfolding own_places
+    own_placed o starts lie ls n cs = record { places = own_places itself C one s h chosen o ls n cs; apart = λ ps rising l. alone_apart ps (starts ps l) (lie ps rising l) }
+
+    -- what stands in front, with it
+    with_behind : {L M : Tokens → Type 0} {P : Place Span → Type 0} {T : Type 0} {p : Rewritten T} (ps : Tokens) → Rising ps → (l : InOrder L M ps) → (inner : Placed HasWord L P p) → StartsIn l.back (place_from s) → Lie ps → Apart C HasWord ps (inner.places.all ++ with_choice s h ∷ [])
+    with_behind ps rising l inner starts lie = record {
+      within = λ x k i. elim (in_either (with_choice x k) inner.places.all (with_choice s h ∷ []) i) [ inl a ↦ (front.within x k a) | inr b ↦ (own.within x k b) ];
+      once = once_both inner.places.all (with_choice s h ∷ []) front.once own.once (λ x k j a b. never x (first.within x k a).1 (elim b [ inl e ↦ ap (λ (z : Place Span × Choice). z.0) e | inr n ↦ absurd n ]));
+      names = λ x k i y e. elim (in_either (with_choice x k) inner.places.all (with_choice s h ∷ []) i) [ inl a ↦ front.names x k a y e | inr b ↦ own.names x k b y e ];
+    }
+      where
+        two : Rising (l.front ++ l.back)
+        two = subst Rising l.whole rising
+
+        first : Apart C HasWord l.front inner.places.all
+        first = inner.apart l.front (rising_front l.front l.back two) l.first
+
+        front : Apart C HasWord ps inner.places.all
+        front = front_apart C HasWord l.front l.back ps l.whole rising inner.places.all [] first
+
+        own : Apart C HasWord ps (with_choice s h ∷ [])
+        own = alone_apart ps (subst (λ (qs : Tokens). StartsIn qs (place_from s)) (sym l.whole) (in_back l.front l.back (place_from s) starts)) lie
+
+        never : (x : Place Span) → StartsIn l.front (place_from x) → s ≡ x → ⊥
+        never x there e = let less = before l.front l.back two (place_from x) (place_from x) there (subst (λ (z : Place Span). StartsIn l.back (place_from z)) e starts) in omega arith
+
+    -- behind what stands in front of a dot, which it drops or keeps
+    pub behind_placed : {L M : Tokens → Type 0} {T U : Type 0} (P : Place Span → Type 0) (Keeps : Type 0) (p : Rewritten T) (o : Rewritten U) (inner : Placed HasWord L P p) → ((ps : Tokens) → M ps → StartsIn ps (place_from s)) → ((ps : Tokens) → Rising ps → InOrder L M ps → Lie ps)
+        → (drop : Bool) → (drop ≡ false → Keeps) → (drop ≡ true → Keeps → ⊥) → o.losses ≡ (if drop then [] else p.losses) ++ losses_of h → o.respelled ≡ (if drop then 0 else p.respelled) + count_at itself C s h
+        → (drop ≡ false → (y : Change) → In y o.changes ↔ (In y p.changes ⊎ In y (edits_at itself C s h))) → (drop ≡ true → o.changes ≡ edits_at itself C s h) → Placed HasWord (InOrder L M) (λ x. (Keeps × P x) ⊎ (x ≡ s)) o
+    unfolding behind_places
+    behind_placed P Keeps p o inner starts lie true gives never ls n kept gone = record {
+      places = behind_places itself C one s h chosen P Keeps p o inner.places true gives never ls n kept gone;
+      apart = λ ps rising l. alone_apart ps (back_starts (place_from s) starts ps l) (lie ps rising l);
+    }
+    behind_placed P Keeps p o inner starts lie false gives never ls n kept gone = record {
+      places = behind_places itself C one s h chosen P Keeps p o inner.places false gives never ls n kept gone;
+      apart = λ ps rising l. with_behind ps rising l inner (starts l.back l.rest) (lie ps rising l);
+    }
+
 -- three one behind the other
 pub assoc : {L M N : Tokens → Type 0} (ps : Tokens) → InOrder L (InOrder M N) ps → InOrder (InOrder L M) N ps
 assoc ps h = record {
@@ -222,6 +261,15 @@ assoc ps h = record {
   whole = h.whole ∙ ap (λ (qs : Tokens). h.front ++ qs) h.rest.whole ∙ sym (append_assoc h.front h.rest.front h.rest.back);
   first = record { front = h.front; back = h.rest.front; whole = refl; first = h.first; rest = h.rest.first };
   rest = h.rest.rest;
+}
+
+pub unassoc : {L M N : Tokens → Type 0} (ps : Tokens) → InOrder (InOrder L M) N ps → InOrder L (InOrder M N) ps
+unassoc ps h = record {
+  front = h.first.front;
+  back = h.first.back ++ h.back;
+  whole = h.whole ∙ ap (λ (qs : Tokens). qs ++ h.back) h.first.whole ∙ append_assoc h.first.front h.first.back h.back;
+  first = h.first.first;
+  rest = record { front = h.first.back; back = h.back; whole = refl; first = h.first.rest; rest = h.rest };
 }
 
 -- the first token of a node, which begins where the node does
@@ -246,24 +294,36 @@ leads_start ps h = subst (StartsIn ps) (sym h.from) (starts_first ps (subst Fill
 
 -- ---- a `super(..)` among places that have words
 
-module _ (front back : ChosenPlaces) (s : Place Span × Choice) (is : is_super s.0 ≡ true) (a b ps : Tokens) (w : ps ≡ a ++ b) (rising : Rising ps) (f : Apart HasWord a front) (g : Apart HasWord b back) (starts : StartsIn ps (place_from s.0)) where
-  all : Apart HasWord ps (front ++ back)
-  all = both_apart HasWord a b ps w front back rising f g
+module _ (C : Choosing Span) (front back : ChosenPlaces) (s : Place Span × Choice) (is : is_super s.0 ≡ true) (none : edits_at itself C s.0 s.1 ≡ []) (a b ps : Tokens) (w : ps ≡ a ++ b) (rising : Rising ps) (f : Apart C HasWord a front) (g : Apart C HasWord b back) (starts : StartsIn ps (place_from s.0)) where
+  all : Apart C HasWord ps (front ++ back)
+  all = both_apart C HasWord a b ps w rising front back f g
+
+  first : Apart C HasWord ps front
+  first = front_apart C HasWord a b ps w rising front back f
+
+  last : Apart C HasWord ps back
+  last = back_apart C HasWord a b ps w rising front back g
 
   not_it : (h : Choice) → In (with_choice s.0 h) (front ++ back) → ⊥
-  not_it h i = let no = (all.within s.0 h i).0 in absurd (never (is_super s.0) is no)
+  not_it h i = let no = (all.within s.0 h i).0 in never (is_super s.0) is no
     where
       never : (x : Bool) → x ≡ true → x ≡ false → ⊥
       never true e k = cc
       never false e k = cc
 
-  pub with_super : Apart AnyPlace ps (front ++ s ∷ back)
+  pub with_super : Apart C AnyPlace ps (front ++ s ∷ back)
   with_super = record {
     within = λ x h i. (tt, there x h (in_either (with_choice x h) front (s ∷ back) i));
     once = once_between front back s all.once not_it;
+    names = λ x h i. lie x h (in_either (with_choice x h) front (s ∷ back) i);
   }
     where
       there : (x : Place Span) (h : Choice) → In (with_choice x h) front ⊎ In (with_choice x h) (s ∷ back) → StartsIn ps (place_from x)
-      there x h (inl i) = (front_within HasWord a b ps w front back f x h i).1
+      there x h (inl i) = (first.within x h i).1
       there x h (inr (inl e)) = subst (λ (z : Place Span). StartsIn ps (place_from z)) (ap (λ (z : Place Span × Choice). z.0) e) starts
-      there x h (inr (inr i)) = (back_within HasWord a b ps w front back g x h i).1
+      there x h (inr (inr i)) = (last.within x h i).1
+
+      lie : (x : Place Span) (h : Choice) → In (with_choice x h) front ⊎ In (with_choice x h) (s ∷ back) → (y : Change) → In y (edits_at itself C x h) → OnNames ps y.span
+      lie x h (inl i) = first.names x h i
+      lie x h (inr (inl e)) = λ y i. absurd (subst (λ (ys : List Change). In y ys) none (subst (λ (z : Place Span × Choice). In y (edits_at itself C z.0 z.1)) (sym e) i))
+      lie x h (inr (inr i)) = last.names x h i

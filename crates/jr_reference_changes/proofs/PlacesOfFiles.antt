@@ -26,11 +26,12 @@ use Rattle.jr_rewrite.specs.Rewrites.{Choosing, declared_by, with_losses, Rewrit
 use Rattle.jr_reference_changes.specs.Places.{Place, with_choice, of_super, of_parent, of_parent_qualifier, of_declared, WrittenStays, ExpStays, RowStays}
 use Rattle.jr_reference_changes.specs.PlacesInFiles.{MaybeStays, StmtsStays, ParamsStay, ResultStays, SuperStays, MemberStays, ParentStays, KeyedStays, ClassStays, MembersStay, OneStays, ClassesStay, UnitStays}
 use Rattle.jr_reference_changes.proofs.PlacesJoined.{both, OneEach, joined_places, own_places}
+use Rattle.jr_rewrite.specs.Suitable.{AreSuitable}
 use Rattle.jr_reference_changes.proofs.PlacesApart.{HasWord, AnyPlace, Placed, plain_placed, moved_placed, alike_placed, within_placed, weaker, turn, pass, only, node, join, assoc, with_super}
 use Rattle.jr_reference_changes.proofs.PlacesOfExpressions.{type_places, written_places, exp_places, args_places}
 use Rattle.jr_reference_changes.proofs.PlacesOfStatements.{pair, declared_places, stmts_places}
 
-module _ (C : Choosing Span) (one : OneEach itself C) where
+module _ (C : Choosing Span) (one : OneEach itself C) (suits : AreSuitable C) where
   abbrev Of : {T : Type 0} → (L : Tokens → Type 0) → (Place Span → Type 0) → Rewritten T → Type 0
   Of {T} L P o = Placed C HasWord L P {T = T} o
 
@@ -57,25 +58,25 @@ module _ (C : Choosing Span) (one : OneEach itself C) where
   more_params_places k n b [] o is = moved_placed C _ o _ is (plain_placed C [])
   more_params_places k n b (p ∷ ps) o (t, v, q, types, declared, made, is) =
       let d : Decl = local_decl (record { member = k; number = n }) in
-      let own = param_places k n b p t v (written_places C one (no_locals k false) p.mark.from p.type t types) (declared_places C one d p.mark.from p.name v declared) in
+      let own = param_places k n b p t v (written_places C one suits (no_locals k false) p.mark.from p.type t types) (declared_places C one suits d p.mark.from p.name v declared) in
       moved_placed C _ o _ is (pass C (join C (ParamStays k n b p) (ParamsStay itself C k (suc n) b ps) (λ x xs. x ∷ xs) (joined (param_of p) t v) q own (only C (more_params_places k (suc n) b ps q made))))
 
   params_places : (k : MemberKey) (n b : ℕ) (ps : List (syntax.Param Span)) (o : Rewritten (List (syntax.Param Span))) → RewritesParams itself C k n b ps o → Of (Stands (params_layout ps)) (ParamsStay itself C k n b ps) o
   params_places k n b [] o is = moved_placed C _ o _ is (plain_placed C [])
   params_places k n b (p ∷ ps) o (t, v, q, types, declared, made, is) =
       let d : Decl = local_decl (record { member = k; number = n }) in
-      let own = param_places k n b p t v (written_places C one (no_locals k false) p.mark.from p.type t types) (declared_places C one d p.mark.from p.name v declared) in
+      let own = param_places k n b p t v (written_places C one suits (no_locals k false) p.mark.from p.type t types) (declared_places C one suits d p.mark.from p.name v declared) in
       moved_placed C _ o _ is (join C (ParamStays k n b p) (ParamsStay itself C k (suc n) b ps) (λ x xs. x ∷ xs) (joined (param_of p) t v) q own (only C (more_params_places k (suc n) b ps q made)))
 
   result_places : (k : MemberKey) (b : ℕ) (t : Option (tree.TypeName Span)) (o : Rewritten (Option (tree.TypeName Span))) → RewritesResult itself C k b t o → Of (Stands (result_layout t)) (ResultStays itself C k b t) o
   result_places k b None o is = moved_placed C _ o _ is (plain_placed C None)
-  result_places k b (Some t) o (p, made, is) = moved_placed C _ o _ is (only C (within_placed C (WrittenStays itself C (no_locals k false) b t) (λ (u : tree.TypeName Span). Some u) p (written_places C one (no_locals k false) b t p made)))
+  result_places k b (Some t) o (p, made, is) = moved_placed C _ o _ is (only C (within_placed C (WrittenStays itself C (no_locals k false) b t) (λ (u : tree.TypeName Span). Some u) p (written_places C one suits (no_locals k false) b t p made)))
 
   init_places : (k : MemberKey) (mods : List (syntax.Modifier Span)) (b : ℕ) (e : Option (tree.Exp Span)) (o : Rewritten (Option (tree.Exp Span))) → RewritesMaybe itself C (no_locals k (is_static_member begins mods)) b e o
       → Of (Stands (init_layout e)) (MaybeStays itself C (no_locals k (is_static_member begins mods)) b e) o
   init_places k mods b None o is = moved_placed C _ o _ is (plain_placed C None)
   init_places k mods b (Some e) o (p, made, is) =
-      moved_placed C _ o _ is (pass C (only C (within_placed C (ExpStays itself C (no_locals k (is_static_member begins mods)) value b e) (λ (x : tree.Exp Span). Some x) p (exp_places C one (no_locals k (is_static_member begins mods)) value b e p made))))
+      moved_placed C _ o _ is (pass C (only C (within_placed C (ExpStays itself C (no_locals k (is_static_member begins mods)) value b e) (λ (x : tree.Exp Span). Some x) p (exp_places C one suits (no_locals k (is_static_member begins mods)) value b e p made))))
 
   -- ---- constructors
 
@@ -156,7 +157,7 @@ module _ (C : Choosing Span) (one : OneEach itself C) where
           apart = λ ts rising l.
               let t = split ts l in
               let two = subst Rising t.whole rising in
-              with_super modified.places.all rest.places.all (with_choice it h) refl t.front t.back ts t.whole rising (modified.apart t.front (rising_front t.front t.back two) t.first) (rest.apart t.back (rising_back t.front t.back two) t.rest)
+              with_super C modified.places.all rest.places.all (with_choice it h) refl refl t.front t.back ts t.whole rising (modified.apart t.front (rising_front t.front t.back two) t.first) (rest.apart t.back (rising_back t.front t.back two) t.rest)
               (subst (StartsIn ts) (sym (ap (λ (s : Span). s.from) l.mark)) (starts_first ts ((member_fills (syntax.constructor m mods w ps (Some args) body)).fills ts l)));
         }
 
@@ -167,7 +168,7 @@ module _ (C : Choosing Span) (one : OneEach itself C) where
       let W : Place Span → Type 0 = WrittenStays itself C (no_locals k false) m.from t in
       let D : Place Span → Type 0 = λ s. s ≡ of_declared (declared_by k) m.from w in
       let I : Place Span → Type 0 = MaybeStays itself C (no_locals k (is_static_member begins mods)) m.from init in
-      let front : Of (InOrder (Stands (type_layout t)) (Stands (word_layout w))) (λ s. W s ⊎ D s) (pair p v) = join C W D both p v (written_places C one (no_locals k false) m.from t p types) (declared_places C one (declared_by k) m.from w v declared) in
+      let front : Of (InOrder (Stands (type_layout t)) (Stands (word_layout w))) (λ s. W s ⊎ D s) (pair p v) = join C W D both p v (written_places C one suits (no_locals k false) m.from t p types) (declared_places C one suits (declared_by k) m.from w v declared) in
       let whole : Rewritten (syntax.Member Span) = joined (λ (u : tree.TypeName Span × tree.Word Span) x. syntax.field m mods u.0 u.1 x) (pair p v) q in
       moved_placed C _ o whole is (weaker C _ whole (node C (pass C (turn C (λ s. (W s ⊎ D s) ⊎ I s) whole assoc
       (join C (λ s. W s ⊎ D s) I (λ (u : tree.TypeName Span × tree.Word Span) x. syntax.field m mods u.0 u.1 x) (pair p v) q front (only C (init_places k mods m.from init q made)))))))
@@ -176,19 +177,19 @@ module _ (C : Choosing Span) (one : OneEach itself C) where
       let D : Place Span → Type 0 = λ s. s ≡ of_declared (declared_by k) m.from w in
       let P : Place Span → Type 0 = ParamsStay itself C k 0 m.from ps in
       let S : Place Span → Type 0 = StmtsStays itself C (length ps) (with_parameters k (is_static_member begins mods) ps) m.from body in
-      let front : Of (InOrder (Stands (result_layout t)) (Stands (word_layout w))) (λ s. W s ⊎ D s) (pair p v) = join C W D both p v (result_places k m.from t p result) (declared_places C one (declared_by k) m.from w v declared) in
-      let back = join C P S both q z (params_places k 0 m.from ps q params) (pass C (pass C (only C (stmts_places C one (length ps) (with_parameters k (is_static_member begins mods) ps) m.from body z made)))) in
+      let front : Of (InOrder (Stands (result_layout t)) (Stands (word_layout w))) (λ s. W s ⊎ D s) (pair p v) = join C W D both p v (result_places k m.from t p result) (declared_places C one suits (declared_by k) m.from w v declared) in
+      let back = join C P S both q z (params_places k 0 m.from ps q params) (pass C (pass C (only C (stmts_places C one suits (length ps) (with_parameters k (is_static_member begins mods) ps) m.from body z made)))) in
       let whole : Rewritten (syntax.Member Span) = joined (λ (u : Option (tree.TypeName Span) × tree.Word Span) (x : List (syntax.Param Span) × statement.Stmts Span). syntax.method m mods u.0 u.1 x.0 x.1) (pair p v) (pair q z) in
       moved_placed C _ o whole is (weaker C _ whole (node C (pass C (turn C (λ s. (W s ⊎ D s) ⊎ (P s ⊎ S s)) whole assoc
       (join C (λ s. W s ⊎ D s) (λ s. P s ⊎ S s) (λ (u : Option (tree.TypeName Span) × tree.Word Span) (x : List (syntax.Param Span) × statement.Stmts Span). syntax.method m mods u.0 u.1 x.0 x.1) (pair p v) (pair q z) front (pass C back))))))
   member_places k b (syntax.constructor m mods w ps None body) o (v, q, p, z, declared, params, none, made, is) =
-      let named = declared_places C one (declared_by k) m.from w v declared in
-      let statements = stmts_places C one (length ps) (with_parameters k false ps) m.from body z made in
+      let named = declared_places C one suits (declared_by k) m.from w v declared in
+      let statements = stmts_places C one suits (length ps) (with_parameters k false ps) m.from body z made in
       moved_placed C _ o _ is (weaker C _ _ (plain_ctor k m mods w ps body v q z named (params_places k 0 m.from ps q params) statements p (moved_placed C (λ s. ⊥) p _ none (plain_placed C None))))
   member_places k b (syntax.constructor m mods w ps (Some args) body) o (v, q, p, z, declared, params, (h, r, chosen, row, called), made, is) =
-      let named = declared_places C one (declared_by k) m.from w v declared in
-      let statements = stmts_places C one (length ps) (with_parameters k false ps) m.from body z made in
-      let ctor = super_ctor k m mods w ps body v q z named (params_places k 0 m.from ps q params) statements args h chosen r (args_places C one (with_parameters k true ps) m.from args r row) in
+      let named = declared_places C one suits (declared_by k) m.from w v declared in
+      let statements = stmts_places C one suits (length ps) (with_parameters k false ps) m.from body z made in
+      let ctor = super_ctor k m mods w ps body v q z named (params_places k 0 m.from ps q params) statements args h chosen r (args_places C one suits (with_parameters k true ps) m.from args r row) in
       moved_placed C _ o _ is
       (subst (λ (x : Rewritten (Option (tree.Exps Span))). Any (Stands (member_layout (syntax.constructor m mods w ps (Some args) body))) (MemberStays itself C k b (syntax.constructor m mods w ps (Some args) body))
       (joined (λ (u : tree.Word Span × List (syntax.Param Span)) (y : Option (tree.Exps Span) × statement.Stmts Span). syntax.constructor m mods u.0 u.1 y.0 y.1) (pair v q) (pair x z))) (sym called) ctor)
@@ -200,7 +201,7 @@ module _ (C : Choosing Span) (one : OneEach itself C) where
   parent_places outer b None o is = moved_placed C _ o _ is (plain_placed C None)
   parent_places outer b (Some t) o (p, made, is) = moved_placed C _ o _ is
       (pass C (only C (within_placed C (ParentStays itself C outer b (Some t)) (λ (u : tree.TypeName Span). Some u) p
-      (type_places C one (of_parent outer b t) (of_parent_qualifier outer b t) b t p (λ h. refl) (λ h. refl) (λ h. refl) (λ h. refl) refl refl refl refl made))))
+      (type_places C one suits (of_parent outer b t) (of_parent_qualifier outer b t) b t p (λ h. refl) (λ h. refl) (λ h. refl) (λ h. refl) refl refl refl refl made))))
 
   module _ (declarations : List DeclaredItem) (once : (b : ℕ) (of : ClassKey) (x : syntax.Member Span) (j k : MemberKey) → Declares begins declarations b of x j → Declares begins declarations b of x k → j ≡ k) where
     keyed_places : (b : ℕ) (of : ClassKey) (x : syntax.Member Span) (o : Rewritten (syntax.Member Span)) (k : MemberKey) → Declares begins declarations b of x k → RewritesMember itself C k b x o → Any (Stands (member_layout x)) (KeyedStays itself C declarations b of x) o
@@ -218,7 +219,7 @@ module _ (C : Choosing Span) (one : OneEach itself C) where
           let H : Place Span → Type 0 = ParentStays itself C outer m.from t in
           let M : Place Span → Type 0 = MembersStay itself C declarations m.from k ms in
           let head : Any (InOrder (Stands (word_layout w)) (Stands (extends_layout t))) (λ s. D s ⊎ H s) p = moved_placed C (λ s. D s ⊎ H s) p (pair v u) word
-          (weaker C _ (pair v u) (join C D H both v u (declared_places C one (class_decl k) m.from w v declared) (parent_places outer m.from t u parent))) in
+          (weaker C _ (pair v u) (join C D H both v u (declared_places C one suits (class_decl k) m.from w v declared) (parent_places outer m.from t u parent))) in
           let whole : Rewritten (syntax.Class Span) = joined (λ (u : tree.Word Span × Option (tree.TypeName Span)) xs. syntax.class m mods u.0 u.1 xs) p z in
           moved_placed C _ o whole is (node C (pass C (pass C (turn C (λ s. (D s ⊎ H s) ⊎ M s) whole assoc
           (join C (λ s. D s ⊎ H s) M (λ (u : tree.Word Span × Option (tree.TypeName Span)) xs. syntax.class m mods u.0 u.1 xs) p z head (pass C (only C (members_places m.from k ms z members))))))))

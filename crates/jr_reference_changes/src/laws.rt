@@ -1,11 +1,12 @@
 //! Laws of each plan of a rename.
 ghost use Rattle.jr_reference_changes.specs.Family.{FamiliesAreKept, FamiliesAreWhole};
 ghost use Rattle.jr_reference_changes.specs.Fronts.{FrontsStay};
+ghost use Rattle.jr_reference_changes.specs.Names.{PlansChangeNames};
 ghost use Rattle.jr_reference_changes.specs.PlacesInFiles.{PlansAreOfPlaces};
 
 use jr_grammar::marks_are_one;
 use jr_images::rows_are_named;
-use jr_lex::items_are_placed;
+use jr_lex::{items_are_placed, one_answer};
 use jr_rename_laws::renamings_stay_fair;
 use jr_table::{lookups_are_exact, types_are_exact};
 use jr_text::Span;
@@ -38,6 +39,20 @@ pub fn fronts_stay()
 pub fn plans_are_of_places()
     ensures { PlansAreOfPlaces }
 {
+    items_are_placed();
+    marks_are_one();
+    rows_are_named::<Span>();
+    renamings_stay_fair::<Span>();
+    lookups_are_exact();
+    types_are_exact::<Span>();
+}
+
+/// What a planned rename changes of a text is names: each item that an edit's span meets lies within
+/// it, and is a word, `super`, a dot, a blank or a comment (JLS 6.2, 3.5).
+pub fn plans_change_names()
+    ensures { PlansChangeNames }
+{
+    one_answer();
     items_are_placed();
     marks_are_one();
     rows_are_named::<Span>();

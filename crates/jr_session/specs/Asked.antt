@@ -18,6 +18,7 @@ use Rattle.jr_plan.specs.Renaming.{IsFound, renaming}
 use Rattle.jr_rename_laws.specs.ImageLaws.{AreImages}
 use Rattle.jr_reference_changes.specs.Family.{RenamesFamily, KeepsFamilies}
 use Rattle.jr_reference_changes.specs.Fronts.{AreFronted}
+use Rattle.jr_reference_changes.specs.Names.{AreOnNames}
 use Rattle.jr_reference_changes.specs.PlacesInFiles.{AreOfPlaces}
 use Rattle.jr_kept_runs.specs.KeysTo.{keys_to}
 use Rattle.jr_kept_runs.specs.KeepsRuns.{KeepsRuns}
@@ -49,6 +50,9 @@ pub record KeepsNames (p : Program Span) (d : Decl) (g : Renaming) (new : List â
   -- the edits of each file are exactly those of the references and declared names that stay in it,
   -- and it counts the respelled among these
   pub places : AreOfPlaces p g files edits
+  -- each item of a text that an edit's span meets lies within it, and is a word, `super`, a dot, a
+  -- blank or a comment
+  pub names : AreOnNames p edits
   -- The two resolved programs are exactly alike: each method and constructor, on a receiver and
   -- arguments of its types, has in q exactly the images of its runs in p, whole ones with the same
   -- end and bounded ones, both ways.

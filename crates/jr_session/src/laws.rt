@@ -14,7 +14,7 @@ use jr_members::members_are_written;
 use jr_program_laws::parts_are_placed;
 use jr_punit::one_reading;
 use jr_reference_changes::{
-    families_are_kept, families_are_whole, fronts_stay, plans_are_of_places,
+    families_are_kept, families_are_whole, fronts_stay, plans_are_of_places, plans_change_names,
 };
 use jr_rename_laws::{
     classes_give_images, constructors_give_images, plan_is_one, plans_become, plans_keep_programs,
@@ -63,7 +63,8 @@ pub fn renames_are_refused_first()
 /// reference is bound to the image of what it was bound to (JLS 6), whatever is renamed; in front
 /// of it stands what stood there, `this`, `super`, a cast or a class; the renamed family is
 /// complete, and methods override one another where their images do (JLS 8.4.8.1); edits are those
-/// of the references and declared names that stay; and the resolved programs are exactly alike.
+/// of the references and declared names that stay, and lie on names; and the resolved programs are
+/// exactly alike.
 pub fn accepted_refactorings_keep_programs()
     ensures { StepsKeepPrograms }
 {
@@ -79,6 +80,7 @@ pub fn accepted_refactorings_keep_programs()
     families_are_whole();
     families_are_kept();
     plans_are_of_places();
+    plans_change_names();
     programs_have_code();
     sound_programs_are_well_typed();
     untouched_bytes_move();
