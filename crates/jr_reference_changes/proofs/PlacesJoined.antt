@@ -115,29 +115,29 @@ module _ {A : Type 0} (tells : A → ℕ → Span) (C : Choosing A) where
   abbrev pub Chosen : Type 0
   Chosen = Place A × Choice
 
-  losses_both : (xs ys : List Chosen) → losses_all tells C (xs ++ ys) ≡ losses_all tells C xs ++ losses_all tells C ys
+  pub losses_both : (xs ys : List Chosen) → losses_all tells C (xs ++ ys) ≡ losses_all tells C xs ++ losses_all tells C ys
   losses_both [] ys = refl
   losses_both (x ∷ xs) ys = ap (λ (z : List Loss). losses_of x.1 ++ z) (losses_both xs ys) ∙ sym (append_assoc (losses_of x.1) (losses_all tells C xs) (losses_all tells C ys))
 
-  count_both : (xs ys : List Chosen) → count_all tells C (xs ++ ys) ≡ count_all tells C xs + count_all tells C ys
+  pub count_both : (xs ys : List Chosen) → count_all tells C (xs ++ ys) ≡ count_all tells C xs + count_all tells C ys
   count_both [] ys = omega arith
   count_both (x ∷ xs) ys = let rest = count_both xs ys in omega (arith, rest)
 
-  edit_either : (y : Change) (xs ys : List Chosen) → IsEditOf tells C (xs ++ ys) y → IsEditOf tells C xs y ⊎ IsEditOf tells C ys y
+  pub edit_either : (y : Change) (xs ys : List Chosen) → IsEditOf tells C (xs ++ ys) y → IsEditOf tells C xs y ⊎ IsEditOf tells C ys y
   edit_either y [] ys i = inr i
   edit_either y (x ∷ xs) ys (inl e) = inl (inl e)
   edit_either y (x ∷ xs) ys (inr i) = elim (edit_either y xs ys i) [ inl a ↦ inl (inr a) | inr b ↦ inr b ]
 
-  edit_left : (y : Change) (xs ys : List Chosen) → IsEditOf tells C xs y → IsEditOf tells C (xs ++ ys) y
+  pub edit_left : (y : Change) (xs ys : List Chosen) → IsEditOf tells C xs y → IsEditOf tells C (xs ++ ys) y
   edit_left y [] ys i = absurd i
   edit_left y (x ∷ xs) ys (inl e) = inl e
   edit_left y (x ∷ xs) ys (inr i) = inr (edit_left y xs ys i)
 
-  edit_right : (y : Change) (xs ys : List Chosen) → IsEditOf tells C ys y → IsEditOf tells C (xs ++ ys) y
+  pub edit_right : (y : Change) (xs ys : List Chosen) → IsEditOf tells C ys y → IsEditOf tells C (xs ++ ys) y
   edit_right y [] ys i = i
   edit_right y (x ∷ xs) ys i = inr (edit_right y xs ys i)
 
-  pub plain_places : {T : Type 0} (t : T) → IsOfPlaces tells C (λ s. ⊥) (plain t)
+  unfoldable pub plain_places : {T : Type 0} (t : T) → IsOfPlaces tells C (λ s. ⊥) (plain t)
   plain_places t = record {
     all = [];
     are = λ s h. (λ i. absurd i, λ x. absurd x.0);
@@ -146,10 +146,16 @@ module _ {A : Type 0} (tells : A → ℕ → Span) (C : Choosing A) where
     edits = λ y. (λ i. i, λ i. i);
   }
 
-  pub moved_places : {T : Type 0} (P : Place A → Type 0) (o p : Rewritten T) → o ≡ p → IsOfPlaces tells C P p → IsOfPlaces tells C P o
-  moved_places {T} P o p is places = subst (λ (z : Rewritten T). IsOfPlaces tells C P z) (sym is) places
+  unfoldable pub moved_places : {T : Type 0} (P : Place A → Type 0) (o p : Rewritten T) → o ≡ p → IsOfPlaces tells C P p → IsOfPlaces tells C P o
+  moved_places {T} P o p is x = record {
+    all = x.all;
+    are = x.are;
+    losses = ap (λ (z : Rewritten T). z.losses) is ∙ x.losses;
+    respelled = ap (λ (z : Rewritten T). z.respelled) is ∙ x.respelled;
+    edits = λ y. subst (λ (cs : List Change). In y cs ↔ IsEditOf tells C x.all y) (sym (ap (λ (z : Rewritten T). z.changes) is)) (x.edits y);
+  }
 
-  pub alike_places : {T : Type 0} (P Q : Place A → Type 0) (o : Rewritten T) → ((s : Place A) → P s ↔ Q s) → IsOfPlaces tells C P o → IsOfPlaces tells C Q o
+  unfoldable pub alike_places : {T : Type 0} (P Q : Place A → Type 0) (o : Rewritten T) → ((s : Place A) → P s ↔ Q s) → IsOfPlaces tells C P o → IsOfPlaces tells C Q o
   alike_places P Q o alike x = record {
     all = x.all;
     are = λ s h. (λ i. ((alike s).0 ((x.are s h).0 i).0, ((x.are s h).0 i).1), λ u. (x.are s h).1 ((alike s).1 u.0, u.1));
@@ -158,10 +164,10 @@ module _ {A : Type 0} (tells : A → ℕ → Span) (C : Choosing A) where
     edits = x.edits;
   }
 
-  pub within_places : {T U : Type 0} (P : Place A → Type 0) (f : T → U) (o : Rewritten T) → IsOfPlaces tells C P o → IsOfPlaces tells C P (within f o)
+  unfoldable pub within_places : {T U : Type 0} (P : Place A → Type 0) (f : T → U) (o : Rewritten T) → IsOfPlaces tells C P o → IsOfPlaces tells C P (within f o)
   within_places P f o x = record { all = x.all; are = x.are; losses = x.losses; respelled = x.respelled; edits = x.edits }
 
-  pub joined_places : {T U V : Type 0} (P Q : Place A → Type 0) (f : T → U → V) (o : Rewritten T) (p : Rewritten U) → IsOfPlaces tells C P o → IsOfPlaces tells C Q p → IsOfPlaces tells C (λ s. P s ⊎ Q s) (joined f o p)
+  unfoldable pub joined_places : {T U V : Type 0} (P Q : Place A → Type 0) (f : T → U → V) (o : Rewritten T) (p : Rewritten U) → IsOfPlaces tells C P o → IsOfPlaces tells C Q p → IsOfPlaces tells C (λ s. P s ⊎ Q s) (joined f o p)
   joined_places P Q f o p x z = record {
     all = x.all ++ z.all;
     are = λ s h. (
@@ -181,13 +187,13 @@ module _ {A : Type 0} (tells : A → ℕ → Span) (C : Choosing A) where
   OneEach = (s : Place A) (h k : Choice) → IsChosen tells C s h → IsChosen tells C s k → h ≡ k
 
   module _ (one : OneEach) (s : Place A) (h : Choice) (chosen : IsChosen tells C s h) where
-    of_it : (x : Place A) (k : Choice) → (x ≡ s) × IsChosen tells C x k → with_choice s h ≡ with_choice x k
+    pub of_it : (x : Place A) (k : Choice) → (x ≡ s) × IsChosen tells C x k → with_choice s h ≡ with_choice x k
     of_it x k (is, other) = λ i. (sym is i, one s h k chosen (subst (λ (z : Place A). IsChosen tells C z k) is other) i)
 
-    is_it : (x : Place A) (k : Choice) → with_choice s h ≡ with_choice x k → (x ≡ s) × IsChosen tells C x k
+    pub is_it : (x : Place A) (k : Choice) → with_choice s h ≡ with_choice x k → (x ≡ s) × IsChosen tells C x k
     is_it x k e = (sym (ap (λ (z : Chosen). z.0) e), subst (λ (z : Chosen). IsChosen tells C z.0 z.1) e chosen)
 
-    pub own_places : {T : Type 0} (o : Rewritten T) → o.losses ≡ losses_of h → o.respelled ≡ count_at tells C s h → o.changes ≡ edits_at tells C s h → IsOfPlaces tells C (λ x. x ≡ s) o
+    unfoldable pub own_places : {T : Type 0} (o : Rewritten T) → o.losses ≡ losses_of h → o.respelled ≡ count_at tells C s h → o.changes ≡ edits_at tells C s h → IsOfPlaces tells C (λ x. x ≡ s) o
     own_places o ls n cs = record {
       all = with_choice s h ∷ [];
       are = λ x k. (λ i. elim i [ inl e ↦ is_it x k e | inr i ↦ absurd i ], λ u. inl (of_it x k u));
@@ -201,7 +207,7 @@ module _ {A : Type 0} (tells : A → ℕ → Span) (C : Choosing A) where
       abbrev Behind : Place A → Type 0
       Behind x = (Keeps × P x) ⊎ (x ≡ s)
 
-      pub behind_places : (drop : Bool) → (drop ≡ false → Keeps) → (drop ≡ true → Keeps → ⊥) → o.losses ≡ (if drop then [] else p.losses) ++ losses_of h → o.respelled ≡ (if drop then 0 else p.respelled) + count_at tells C s h
+      unfoldable pub behind_places : (drop : Bool) → (drop ≡ false → Keeps) → (drop ≡ true → Keeps → ⊥) → o.losses ≡ (if drop then [] else p.losses) ++ losses_of h → o.respelled ≡ (if drop then 0 else p.respelled) + count_at tells C s h
           → (drop ≡ false → (y : Change) → In y o.changes ↔ (In y p.changes ⊎ In y (edits_at tells C s h))) → (drop ≡ true → o.changes ≡ edits_at tells C s h) → IsOfPlaces tells C Behind o
       behind_places true gives never ls n kept gone = record {
         all = with_choice s h ∷ [];

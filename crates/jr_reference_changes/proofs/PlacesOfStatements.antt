@@ -2,66 +2,79 @@
 use Rattle.std.proofs.Common.{◌≡◌, ℕ, ◌+◌, Option, Some, None, refl}
 use Rattle.std.specs.Prelude.{◌⊎◌}
 use Rattle.jr_text.specs.declared.spans.Span.{Span}
+use Rattle.jr_lex.specs.declared.items.Symbol.TheVariants.{CloseParen}
 use Rattle.jr_ast.specs.Tree as tree
 use Rattle.jr_ast.specs.StatementTree as statement
+use Rattle.jr_grammar.specs.Layout.{itself}
+use Rattle.jr_grammar.specs.Tokens.{symbol}
+use Rattle.jr_grammar.specs.Stands.{Tokens, IsAlone, InOrder, Stands}
+use Rattle.jr_grammar.specs.ExpressionLayout.{word_layout, type_layout, exp_layout}
+use Rattle.jr_grammar.specs.StatementLayout.{stmt_layout, else_layout, stmts_layout}
 use Rattle.jr_table.specs.Decls.{Decl, local_decl}
 use Rattle.jr_table.specs.Context.{Context, local_of, local_key, in_own, after, locals_in}
 use Rattle.jr_table.specs.Binding.{value}
 use Rattle.jr_table.specs.Binding as role
 use Rattle.jr_rewrite.specs.Rewritten.{Rewritten, joined, word_out}
-use Rattle.jr_rewrite.specs.Rewrites.{Choosing, DeclaredOut, RewritesMaybe, RewritesStmt, RewritesElse, RewritesStmts, TransformsStmt, TransformsElse, TransformsStmts}
-use Rattle.jr_reference_changes.specs.Places.{Place, of_declared, WrittenStays, ExpStays, IsOfPlaces}
-use Rattle.jr_reference_changes.specs.PlacesInFiles.{MaybeStays, StmtStays, ElseStays, StmtsStays}
-use Rattle.jr_reference_changes.proofs.PlacesJoined.{both, OneEach, plain_places, moved_places, within_places, joined_places, own_places}
+use Rattle.jr_rewrite.specs.Rewrites.{Choosing, DeclaredOut, RewritesStmt, RewritesElse, RewritesStmts, TransformsStmt, TransformsElse, TransformsStmts}
+use Rattle.jr_reference_changes.specs.Places.{Place, of_declared, WrittenStays, ExpStays}
+use Rattle.jr_reference_changes.specs.PlacesInFiles.{StmtStays, ElseStays, StmtsStays}
+use Rattle.jr_reference_changes.proofs.PlacesJoined.{both, OneEach}
+use Rattle.jr_rewrite.specs.Suitable.{AreSuitable}
+use Rattle.jr_reference_changes.proofs.PlaceNames.{word_lies}
+use Rattle.jr_reference_changes.proofs.PlacesApart.{HasWord, Placed, plain_placed, moved_placed, within_placed, turn, pass, only, node, join, own_placed, word_starts, assoc}
 use Rattle.jr_reference_changes.proofs.PlacesOfExpressions.{written_places, exp_places}
 
-module _ {A : Type 0} (tells : A → ℕ → Span) (C : Choosing A) (one : OneEach tells C) where
-  abbrev Of : {T : Type 0} → (Place A → Type 0) → Rewritten T → Type 0
-  Of {T} P o = IsOfPlaces tells C {T = T} P o
+-- what is rewritten of two parts, as a pair
+abbrev pub pair : {T U : Type 0} → Rewritten T → Rewritten U → Rewritten (T × U)
+pair p q = joined (λ u v. (u, v)) p q
 
-  abbrev at_mark : A → ℕ → ℕ
-  at_mark m b = (tells m b).from
+module _ (C : Choosing Span) (one : OneEach itself C) (suits : AreSuitable C) where
+  abbrev Of : {T : Type 0} → (L : Tokens → Type 0) → (Place Span → Type 0) → Rewritten T → Type 0
+  Of {T} L P o = Placed C HasWord L P {T = T} o
 
   -- a declared name
-  pub declared_places : (d : Decl) (at : ℕ) (w : tree.Word A) (o : Rewritten (tree.Word A)) → DeclaredOut tells C d at w o → Of (λ s. s ≡ of_declared d at w) o
-  declared_places d at w o (h, chosen, is) = moved_places tells C _ o (word_out tells h at w) is (own_places tells C one (of_declared d at w) h chosen (word_out tells h at w) refl refl refl)
-
-  pub maybe_places : (c : Context) (b : ℕ) (e : Option (tree.Exp A)) (o : Rewritten (Option (tree.Exp A))) → RewritesMaybe tells C c b e o → Of (MaybeStays tells C c b e) o
-  maybe_places c b None o is = moved_places tells C _ o _ is (plain_places tells C None)
-  maybe_places c b (Some e) o (p, made, is) = moved_places tells C _ o _ is (within_places tells C (ExpStays tells C c value b e) (λ (x : tree.Exp A). Some x) p (exp_places tells C one c value b e p made))
+  pub declared_places : (d : Decl) (at : ℕ) (w : tree.Word Span) (o : Rewritten (tree.Word Span)) → DeclaredOut itself C d at w o → Of (Stands (word_layout w)) (λ s. s ≡ of_declared d at w) o
+  declared_places d at w o (h, chosen, is) = moved_placed C _ o (word_out itself h at w) is (own_placed C one (of_declared d at w) h chosen refl (word_out itself h at w) (word_starts w) (λ ps rising l. word_lies w h ps l) refl refl refl)
 
   mutual
     unfolding TransformsStmt TransformsElse TransformsStmts StmtStays ElseStays StmtsStays
 
-    pub stmt_places : (n : ℕ) (c : Context) (b : ℕ) (x : statement.Stmt A) (q : Rewritten (statement.Stmt A)) → RewritesStmt tells C n c b x q → Of (StmtStays tells C n c b x) q
+    pub stmt_places : (n : ℕ) (c : Context) (b : ℕ) (x : statement.Stmt Span) (q : Rewritten (statement.Stmt Span)) → RewritesStmt itself C n c b x q → Of (Stands (stmt_layout x)) (StmtStays itself C n c b x) q
     stmt_places n c b (statement.local m f t w e) q (p, v, z, types, declared, inner, is) =
-        let W : Place A → Type 0 = WrittenStays tells C c (at_mark m b) t in
-        let D : Place A → Type 0 = λ s. s ≡ of_declared (local_decl (local_key c n)) (at_mark m b) w in
-        let E : Place A → Type 0 = ExpStays tells C (in_own c (local_of c n f t w)) value (at_mark m b) e in
-        let front = joined_places tells C W D both p v (written_places tells C one c (at_mark m b) t p types) (declared_places (local_decl (local_key c n)) (at_mark m b) w v declared) in
-        moved_places tells C _ q (joined (λ (u : tree.TypeName A × tree.Word A) x. statement.local m f u.0 u.1 x) (joined (λ u z. (u, z)) p v) z) is
-        (joined_places tells C (λ s. W s ⊎ D s) E (λ (u : tree.TypeName A × tree.Word A) x. statement.local m f u.0 u.1 x) (joined (λ u z. (u, z)) p v) z front (exp_places tells C one (in_own c (local_of c n f t w)) value (at_mark m b) e z inner))
-    stmt_places n c b (statement.eval m e) q (p, inner, is) = moved_places tells C _ q _ is (within_places tells C (ExpStays tells C c role.statement (at_mark m b) e) (λ x. statement.eval m x) p (exp_places tells C one c role.statement (at_mark m b) e p inner))
+        let W : Place Span → Type 0 = WrittenStays itself C c m.from t in
+        let D : Place Span → Type 0 = λ s. s ≡ of_declared (local_decl (local_key c n)) m.from w in
+        let E : Place Span → Type 0 = ExpStays itself C (in_own c (local_of c n f t w)) value m.from e in
+        let front : Of (InOrder (Stands (type_layout t)) (Stands (word_layout w))) (λ s. W s ⊎ D s) (pair p v) = join C W D both p v (written_places C one suits c m.from t p types) (declared_places (local_decl (local_key c n)) m.from w v declared) in
+        let whole : Rewritten (statement.Stmt Span) = joined (λ (u : tree.TypeName Span × tree.Word Span) x. statement.local m f u.0 u.1 x) (pair p v) z in
+        moved_placed C _ q whole is
+        (node C (pass C (turn C (λ s. (W s ⊎ D s) ⊎ E s) whole assoc
+        (join C (λ s. W s ⊎ D s) E (λ (u : tree.TypeName Span × tree.Word Span) x. statement.local m f u.0 u.1 x) (pair p v) z front (pass C (only C (exp_places C one suits (in_own c (local_of c n f t w)) value m.from e z inner)))))))
+    stmt_places n c b (statement.eval m e) q (p, inner, is) = moved_placed C _ q _ is (node C (only C (within_placed C (ExpStays itself C c role.statement m.from e) (λ x. statement.eval m x) p (exp_places C one suits c role.statement m.from e p inner))))
     stmt_places n c b (statement.branch m e x other) q (p, y, z, inner, one_side, other_side, is) =
-        let E : Place A → Type 0 = ExpStays tells C c value (at_mark m b) e in
-        let X : Place A → Type 0 = StmtStays tells C n c (at_mark m b) x in
-        let O : Place A → Type 0 = ElseStays tells C (n + locals_in x) c (at_mark m b) other in
-        let front = joined_places tells C E X both p y (exp_places tells C one c value (at_mark m b) e p inner) (stmt_places n c (at_mark m b) x y one_side) in
-        moved_places tells C _ q (joined (λ (u : tree.Exp A × statement.Stmt A) v. statement.branch m u.0 u.1 v) (joined (λ u v. (u, v)) p y) z) is
-        (joined_places tells C (λ s. E s ⊎ X s) O (λ (u : tree.Exp A × statement.Stmt A) v. statement.branch m u.0 u.1 v) (joined (λ u v. (u, v)) p y) z front (else_places (n + locals_in x) c (at_mark m b) other z other_side))
-    stmt_places n c b (statement.loop m e x) q (p, y, inner, body, is) = moved_places tells C _ q _ is
-        (joined_places tells C (ExpStays tells C c value (at_mark m b) e) (StmtStays tells C n c (at_mark m b) x) (λ u v. statement.loop m u v) p y (exp_places tells C one c value (at_mark m b) e p inner) (stmt_places n c (at_mark m b) x y body))
-    stmt_places n c b (statement.return m e) q (p, inner, is) = moved_places tells C _ q _ is (within_places tells C (MaybeStays tells C c (at_mark m b) e) (λ x. statement.return m x) p (maybe_places c (at_mark m b) e p inner))
-    stmt_places n c b (statement.block m body) q (p, inner, is) = moved_places tells C _ q _ is (within_places tells C (StmtsStays tells C n c (at_mark m b) body) (λ x. statement.block m x) p (stmts_places n c (at_mark m b) body p inner))
-    stmt_places n c b (statement.sync m e body) q (p, y, inner, rest, is) = moved_places tells C _ q _ is
-        (joined_places tells C (ExpStays tells C c value (at_mark m b) e) (StmtsStays tells C n c (at_mark m b) body) (λ u v. statement.sync m u v) p y (exp_places tells C one c value (at_mark m b) e p inner) (stmts_places n c (at_mark m b) body y rest))
-    stmt_places n c b (statement.empty m) q is = moved_places tells C _ q _ is (plain_places tells C (statement.empty m))
+        let E : Place Span → Type 0 = ExpStays itself C c value m.from e in
+        let X : Place Span → Type 0 = StmtStays itself C n c m.from x in
+        let O : Place Span → Type 0 = ElseStays itself C (n + locals_in x) c m.from other in
+        let front : Of (InOrder (InOrder (Stands (exp_layout e)) (IsAlone (symbol CloseParen))) (Stands (stmt_layout x))) (λ s. E s ⊎ X s) (pair p y) = join C E X both p y (only C (exp_places C one suits c value m.from e p inner)) (stmt_places n c m.from x y one_side) in
+        let whole : Rewritten (statement.Stmt Span) = joined (λ (u : tree.Exp Span × statement.Stmt Span) v. statement.branch m u.0 u.1 v) (pair p y) z in
+        moved_placed C _ q whole is
+        (node C (pass C (pass C (turn C (λ s. (E s ⊎ X s) ⊎ O s) whole (λ ps h. assoc ps (assoc ps h))
+        (join C (λ s. E s ⊎ X s) O (λ (u : tree.Exp Span × statement.Stmt Span) v. statement.branch m u.0 u.1 v) (pair p y) z front (only C (else_places (n + locals_in x) c m.from other z other_side)))))))
+    stmt_places n c b (statement.loop m e x) q (p, y, inner, body, is) = moved_placed C _ q _ is
+        (node C (pass C (pass C (join C (ExpStays itself C c value m.from e) (StmtStays itself C n c m.from x) (λ u v. statement.loop m u v) p y (exp_places C one suits c value m.from e p inner) (pass C (only C (stmt_places n c m.from x y body)))))))
+    stmt_places n c b (statement.return m None) q (p, inner, is) = moved_placed C _ q _ is (within_placed C (λ s. ⊥) (λ x. statement.return m x) p (moved_placed C (λ s. ⊥) p _ inner (plain_placed C None)))
+    stmt_places n c b (statement.return m (Some e)) q (p, (o, inner, some), is) = moved_placed C _ q _ is
+        (node C (pass C (only C (within_placed C (ExpStays itself C c value m.from e) (λ x. statement.return m x) p (moved_placed C (ExpStays itself C c value m.from e) p _ some
+        (within_placed C (ExpStays itself C c value m.from e) (λ (x : tree.Exp Span). Some x) o (exp_places C one suits c value m.from e o inner)))))))
+    stmt_places n c b (statement.block m body) q (p, inner, is) = moved_placed C _ q _ is (node C (pass C (only C (within_placed C (StmtsStays itself C n c m.from body) (λ x. statement.block m x) p (stmts_places n c m.from body p inner)))))
+    stmt_places n c b (statement.sync m e body) q (p, y, inner, rest, is) = moved_placed C _ q _ is
+        (node C (pass C (pass C (join C (ExpStays itself C c value m.from e) (StmtsStays itself C n c m.from body) (λ u v. statement.sync m u v) p y (exp_places C one suits c value m.from e p inner) (pass C (pass C (only C (stmts_places n c m.from body y rest))))))))
+    stmt_places n c b (statement.empty m) q is = moved_placed C _ q _ is (plain_placed C (statement.empty m))
 
-    else_places : (n : ℕ) (c : Context) (b : ℕ) (x : statement.Else A) (q : Rewritten (statement.Else A)) → RewritesElse tells C n c b x q → Of (ElseStays tells C n c b x) q
-    else_places n c b statement.no_else q is = moved_places tells C _ q _ is (plain_places tells C statement.no_else)
-    else_places n c b (statement.otherwise x) q (p, inner, is) = moved_places tells C _ q _ is (within_places tells C (StmtStays tells C n c b x) (λ y. statement.otherwise y) p (stmt_places n c b x p inner))
+    else_places : (n : ℕ) (c : Context) (b : ℕ) (x : statement.Else Span) (q : Rewritten (statement.Else Span)) → RewritesElse itself C n c b x q → Of (Stands (else_layout x)) (ElseStays itself C n c b x) q
+    else_places n c b statement.no_else q is = moved_placed C _ q _ is (plain_placed C statement.no_else)
+    else_places n c b (statement.otherwise x) q (p, inner, is) = moved_placed C _ q _ is (pass C (only C (within_placed C (StmtStays itself C n c b x) (λ y. statement.otherwise y) p (stmt_places n c b x p inner))))
 
-    pub stmts_places : (n : ℕ) (c : Context) (b : ℕ) (xs : statement.Stmts A) (q : Rewritten (statement.Stmts A)) → RewritesStmts tells C n c b xs q → Of (StmtsStays tells C n c b xs) q
-    stmts_places n c b statement.end q is = moved_places tells C _ q _ is (plain_places tells C statement.end)
-    stmts_places n c b (statement.more x xs) q (p, z, inner, rest, is) = moved_places tells C _ q _ is
-        (joined_places tells C (StmtStays tells C n c b x) (StmtsStays tells C (n + locals_in x) (after n c x) b xs) (λ y ys. statement.more y ys) p z (stmt_places n c b x p inner) (stmts_places (n + locals_in x) (after n c x) b xs z rest))
+    pub stmts_places : (n : ℕ) (c : Context) (b : ℕ) (xs : statement.Stmts Span) (q : Rewritten (statement.Stmts Span)) → RewritesStmts itself C n c b xs q → Of (Stands (stmts_layout xs)) (StmtsStays itself C n c b xs) q
+    stmts_places n c b statement.end q is = moved_placed C _ q _ is (plain_placed C statement.end)
+    stmts_places n c b (statement.more x xs) q (p, z, inner, rest, is) = moved_placed C _ q _ is
+        (join C (StmtStays itself C n c b x) (StmtsStays itself C (n + locals_in x) (after n c x) b xs) (λ y ys. statement.more y ys) p z (stmt_places n c b x p inner) (only C (stmts_places (n + locals_in x) (after n c x) b xs z rest)))

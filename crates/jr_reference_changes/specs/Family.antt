@@ -1,7 +1,8 @@
 -- The renamed family is complete: which declarations a rename's pairs give the new name.
-use Rattle.std.specs.Prelude.{◌≡◌, ◌≢◌, ℕ, List, Some, slice_get}
+use Rattle.std.specs.Prelude.{◌≡◌, ◌≢◌, ◌↔◌, ℕ, List, Some, slice_get}
 use Rattle.jr_text.specs.declared.spans.Span.{Span}
 use Rattle.jr_text.specs.Edits.{Entry}
+use Rattle.jr_table.specs.Keys.{MethodKey}
 use Rattle.jr_table.specs.Decls.{
   Decl,
   class_decl,
@@ -12,9 +13,10 @@ use Rattle.jr_table.specs.Decls.{
 }
 use Rattle.jr_table.specs.Rows.{Row}
 use Rattle.jr_table.specs.Entries.{IsRowOf, name_of}
+use Rattle.jr_table.specs.Keyed.{Overrides}
 use Rattle.jr_bind.specs.Programs.{Program}
-use Rattle.jr_images.specs.Families.{IsRenamedWith}
-use Rattle.jr_images.specs.Images.{Renaming, decl_to, rows_to}
+use Rattle.jr_images.specs.Families.{InFamily, IsRenamedWith}
+use Rattle.jr_images.specs.Images.{Renaming, method_to, decl_to, rows_to}
 use Rattle.jr_rename_laws.specs.PlanLaws.{IsPlanIn}
 
 -- it has a name of its own and a row: a constructor's name is its class's (JLS 8.8), and a local
@@ -47,3 +49,22 @@ FamiliesAreWhole = (p : Program Span) (text : List ℕ) (file at : ℕ) (new : L
     (edits : List (List Entry)) (renaming : List (Decl × Decl)) (respelled : ℕ)
     → (is : IsPlanIn p text file at new edits renaming respelled)
     → RenamesFamily p.rows is.planned.found.g is.planned.found.target new renaming
+
+-- ---- in the new program
+
+-- methods of these rows override one another, and are connected by overriding, exactly where their
+-- images do and are so in the new ones (JLS 8.4.8.1)
+pub record KeepsFamilies (rows : List Row) (g : Renaming) (news : List Row) : Type 0 where
+  pub overrides : (m n : MethodKey) (j k : ℕ) → IsRowOf rows (method_decl m) j
+      → IsRowOf rows (method_decl n) k
+      → Overrides rows m n ↔ Overrides news (method_to g m) (method_to g n)
+  pub connects : (m n : MethodKey) (j k : ℕ) → IsRowOf rows (method_decl m) j
+      → IsRowOf rows (method_decl n) k
+      → InFamily rows m n ↔ InFamily news (method_to g m) (method_to g n)
+
+-- whatever rename is planned
+abbrev pub FamiliesAreKept : Type 0
+FamiliesAreKept = (p : Program Span) (text : List ℕ) (file at : ℕ) (new : List ℕ)
+    (edits : List (List Entry)) (renaming : List (Decl × Decl)) (respelled : ℕ)
+    → (is : IsPlanIn p text file at new edits renaming respelled)
+    → KeepsFamilies p.rows is.planned.found.g (rows_to is.planned.found.g p.rows)

@@ -4,6 +4,7 @@ use Rattle.std.specs.Prelude.{◌≡◌, ◌⊎◌, ℕ, List, [], Some, None}
 use Rattle.jr_text.specs.declared.spans.Span.{Span}
 use Rattle.jr_text.specs.Edits.{Entry}
 use Rattle.jr_ast.specs.Tree as tree
+use Rattle.jr_ast.specs.MemberTree.{Unit as UnitTree}
 use Rattle.jr_grammar.specs.Layout.{itself}
 use Rattle.jr_table.specs.Keys.{ClassKey}
 use Rattle.jr_table.specs.Decls.{Decl}
@@ -18,7 +19,7 @@ use Rattle.jr_spell.specs.Binds.{LeadsTo}
 use Rattle.jr_rewrite.specs.Rewritten.{Rewritten}
 use Rattle.jr_rewrite.specs.Rewrites.{Choosing, RewritesExp}
 use Rattle.jr_rewrite.specs.AlongMembers.{AlongUnits}
-use Rattle.jr_images.specs.Images.{member_to}
+use Rattle.jr_images.specs.Images.{Renaming, member_to}
 use Rattle.jr_images.specs.Regions.{Region}
 use Rattle.jr_images.specs.RenameLaws.{trees_of}
 use Rattle.jr_plan.specs.Transforms.{choosing_of}
@@ -82,13 +83,17 @@ module _ {A : Type 0} (tells : A → ℕ → Span) (R : Region A) (C : Choosing 
       × IsOperandOf c (tells m b).from e x
   IsFronted c r b _ y = Unit {0}
 
--- so it is at each place of the files that a rename makes
+-- so it is at each place of the files, side by side with those that a rename makes of them
+abbrev pub AreFronted : (p : Program Span) → (g : Renaming) → (files : List (Rewritten (UnitTree Span)))
+    → Type 0
+AreFronted p g files = AlongUnits begins begins (λ c d r b e i y.
+    IsFronted itself (rename_of p g).region (choosing_of p (rename_of p g)) c r b e y)
+    (λ c d b t i u. Unit {0}) (λ c d es ys. Unit {0}) (λ o b t i u. Unit {0}) (member_to g)
+    (declarations_of begins (units_of p)) (units_of p) (trees_of files)
+
+-- whatever rename is planned
 abbrev pub FrontsStay : Type 0
 FrontsStay = (p : Program Span) (text : List ℕ) (file at : ℕ) (new : List ℕ)
     (edits : List (List Entry)) (renaming : List (Decl × Decl)) (respelled : ℕ)
     → (is : IsPlanIn p text file at new edits renaming respelled)
-    → AlongUnits begins begins (λ c d r b e i y.
-    IsFronted itself (rename_of p is.planned.found.g).region
-    (choosing_of p (rename_of p is.planned.found.g)) c r b e y) (λ c d b t i u. Unit {0})
-    (λ c d es ys. Unit {0}) (λ o b t i u. Unit {0}) (member_to is.planned.found.g)
-    (declarations_of begins (units_of p)) (units_of p) (trees_of is.planned.becomes.files)
+    → AreFronted p is.planned.found.g is.planned.becomes.files

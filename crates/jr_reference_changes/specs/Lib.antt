@@ -2,3 +2,4 @@ pub mod Family
 pub mod Fronts
 pub mod Places
 pub mod PlacesInFiles
+pub mod Names

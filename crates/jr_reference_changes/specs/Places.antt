@@ -27,10 +27,11 @@ use Rattle.jr_rewrite.specs.Rewrites.{Choosing}
 
 -- where a reference or a declared name stands, with what is known there
 pub data Place (A : Type 0) : Type 0 where
-  -- the reference of an expression itself, and the constructors of a creation and of `super(..)`
+  -- the reference of an expression itself, and the constructors of a creation and of the
+  -- `super(..)` in a constructor that begins there
   of_expression : Context → Role → (base : ℕ) → tree.Exp A → Place A
   of_creation : Context → (base : ℕ) → tree.Exp A → Place A
-  of_super : MemberKey → List (syntax.Param A) → tree.Exps A → Place A
+  of_super : MemberKey → (base : ℕ) → List (syntax.Param A) → tree.Exps A → Place A
   -- a class as a type: the one in front of its dot, and its own name
   of_qualifier : Context → (base : ℕ) → tree.TypeName A → Place A
   of_type : Context → (base : ℕ) → tree.TypeName A → Place A
@@ -47,6 +48,11 @@ In x (y ∷ ys) = (y ≡ x) ⊎ In x ys
 abbrev pub with_choice : {A : Type 0} → Place A → Choice → Place A × Choice
 with_choice s h = (s, h)
 
+-- no place stands twice
+abbrev pub StandOnce : {A : Type 0} → List (Place A × Choice) → Type 0
+StandOnce [] = Unit {0}
+StandOnce (x ∷ xs) = ((h : Choice) → In (with_choice x.0 h) xs → ⊥) × StandOnce xs
+
 module _ {A : Type 0} (tells : A → ℕ → Span) (C : Choosing A) where
   abbrev pub begins : A → ℕ → ℕ
   begins m base = (tells m base).from
@@ -56,7 +62,7 @@ module _ {A : Type 0} (tells : A → ℕ → Span) (C : Choosing A) where
   abbrev pub IsChosen : Place A → Choice → Type 0
   IsChosen (of_expression c r b e) h = C.expression c r b e h
   IsChosen (of_creation c b e) h = C.creation c b e h
-  IsChosen (of_super k ps args) h = C.super_call (with_parameters k true ps) args h
+  IsChosen (of_super k b ps args) h = C.super_call (with_parameters k true ps) args h
   IsChosen (of_qualifier c b t) h = C.qualifier c b t h
   IsChosen (of_type c b t) h = C.type c b t h
   IsChosen (of_parent_qualifier o b t) h = C.parent_qualifier o b t h
@@ -101,7 +107,7 @@ module _ {A : Type 0} (tells : A → ℕ → Span) (C : Choosing A) where
   abbrev pub edits_at : Place A → Choice → List Change
   edits_at (of_expression c r b e) h = expression_edits b e h
   edits_at (of_creation c b e) h = []
-  edits_at (of_super k ps args) h = []
+  edits_at (of_super k b ps args) h = []
   edits_at (of_qualifier c b t) h = qualifier_edits b t h
   edits_at (of_type c b t) h = type_edits b t h
   edits_at (of_parent_qualifier o b t) h = qualifier_edits b t h
@@ -111,7 +117,7 @@ module _ {A : Type 0} (tells : A → ℕ → Span) (C : Choosing A) where
   -- one if it is respelled; a constructor has no word of its own
   abbrev pub count_at : Place A → Choice → ℕ
   count_at (of_creation c b e) h = 0
-  count_at (of_super k ps args) h = 0
+  count_at (of_super k b ps args) h = 0
   count_at _ h = count_of h
 
   -- ---- which stay

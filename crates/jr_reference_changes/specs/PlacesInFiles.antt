@@ -34,11 +34,13 @@ use Rattle.jr_bind.specs.Programs.{Program, units_of}
 use Rattle.jr_rewrite.specs.Rewritten.{Rewritten}
 use Rattle.jr_rewrite.specs.Edited.{entries_of}
 use Rattle.jr_rewrite.specs.Rewrites.{Choosing, declared_by}
+use Rattle.jr_images.specs.Images.{Renaming}
 use Rattle.jr_plan.specs.Transforms.{choosing_of}
 use Rattle.jr_plan.specs.Renaming.{rename_of}
 use Rattle.jr_rename_laws.specs.PlanLaws.{IsPlanIn}
 use Rattle.jr_reference_changes.specs.Places.{
   Place,
+  StandOnce,
   of_super,
   of_parent,
   of_parent_qualifier,
@@ -104,7 +106,7 @@ module _ {A : Type 0} (tells : A → ℕ → Span) (C : Choosing A) where
       → Place A → Type 0
   SuperStays k ps b None s = ⊥
   SuperStays k ps b (Some args) s =
-      (s ≡ of_super k ps args) ⊎ RowStays tells C (with_parameters k true ps) b args s
+      (s ≡ of_super k b ps args) ⊎ RowStays tells C (with_parameters k true ps) b args s
 
   -- the member of this key, which is no class
   abbrev pub MemberStays : MemberKey → (base : ℕ) → syntax.Member A → Place A → Type 0
@@ -164,15 +166,31 @@ module _ {A : Type 0} (tells : A → ℕ → Span) (C : Choosing A) where
     abbrev pub UnitStays : syntax.Unit A → Place A → Type 0
     UnitStays u s = ClassesStay (begins u.mark 0) u.classes s
 
--- each file of a planned rename is rewritten at the places that stay in it, and nowhere else
+-- ---- renames
+
+-- the files of a program, in their order, as a rename of these declarations makes them, and the
+-- edits of each
+module _ (p : Program Span) (g : Renaming) (files : List (Rewritten (syntax.Unit Span)))
+    (edits : List (List Entry)) where
+  abbrev pub chosen : Choosing Span
+  chosen = choosing_of p (rename_of p g)
+
+  -- the file is rewritten at the places that stay in it, and nowhere else
+  pub record IsOfItsPlaces (number : ℕ) (u : syntax.Unit Span) : Type 0 where
+    pub file : Rewritten (syntax.Unit Span)
+    pub made : slice_get files number ≡ Some file
+    pub edits_are : slice_get edits number ≡ Some (entries_of file.changes)
+    pub of_places : IsOfPlaces itself chosen (UnitStays itself chosen
+        (declarations_of (begins itself chosen) (units_of p)) u) file
+    pub once : StandOnce of_places.all
+
+  abbrev pub AreOfPlaces : Type 0
+  AreOfPlaces = (number : ℕ) (u : syntax.Unit Span) → slice_get (units_of p) number ≡ Some u
+      → IsOfItsPlaces number u
+
+-- whatever rename is planned
 abbrev pub PlansAreOfPlaces : Type 0
 PlansAreOfPlaces = (p : Program Span) (text : List ℕ) (file at : ℕ) (new : List ℕ)
     (edits : List (List Entry)) (renaming : List (Decl × Decl)) (respelled : ℕ)
     → (is : IsPlanIn p text file at new edits renaming respelled)
-    → (i : ℕ) (u : syntax.Unit Span) → slice_get (units_of p) i ≡ Some u
-    → (o : Rewritten (syntax.Unit Span)) × (slice_get is.planned.becomes.files i ≡ Some o)
-    × (slice_get edits i ≡ Some (entries_of o.changes))
-    × IsOfPlaces itself (choosing_of p (rename_of p is.planned.found.g)) (UnitStays itself
-    (choosing_of p (rename_of p is.planned.found.g))
-    (declarations_of (begins itself (choosing_of p (rename_of p is.planned.found.g))) (units_of p))
-    u) o
+    → AreOfPlaces p is.planned.found.g is.planned.becomes.files edits

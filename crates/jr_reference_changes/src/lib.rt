@@ -4,4 +4,6 @@
 
 mod laws;
 
-pub use laws::{families_are_whole, fronts_stay};
+pub use laws::{
+    families_are_kept, families_are_whole, fronts_stay, plans_are_of_places, plans_change_names,
+};

@@ -53,7 +53,7 @@ module _ (s t : State) (ask : Request) (names : List (List ℕ)) (n : ℕ) (is :
     pub rows : q.rows ≡ (images_by ask plan.p plan.text plan.number plan.planned.found).rows
     pub dispatch : (of : ClassKey) (m was : MethodKey) → DispatchesTo plan.p.rows of m was
         → DispatchesTo q.rows ((images_by ask plan.p plan.text plan.number plan.planned.found).class_to of) ((images_by ask plan.p plan.text plan.number plan.planned.found).method_to m) ((images_by ask plan.p plan.text plan.number plan.planned.found).method_to was)
-    pub own : ask.Keeps plan.p plan.text plan.number plan.planned.found q
+    pub own : ask.Keeps plan.p plan.text plan.number plan.planned.found plan.planned.becomes.files is.edits plan.renaming q
     pub fit : (i : ℕ) (old : Source) → slice_get s.files i ≡ Some old → (e : List Entry) × (slice_get is.edits i ≡ Some e) × AreEdits e × FitsIn old.text e
 
   files_are : t.files ≡ news

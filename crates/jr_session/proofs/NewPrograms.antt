@@ -25,6 +25,10 @@ use Rattle.jr_images.specs.TextLaws.{RowsAreNamed, NamesHaveNoDot}
 use Rattle.jr_rename_laws.specs.PlanLaws.{IsPlanIn, NewTextsRead, ReferencesStay, NewProgramsAreImages}
 use Rattle.jr_rename_laws.specs.ClassLaws.{BuiltRowsAreImages, ConstructorsGiveImages}
 use Rattle.jr_dispatch.specs.Kept.{DispatchIsKept}
+use Rattle.jr_reference_changes.specs.Family.{KeepsFamilies, FamiliesAreWhole, FamiliesAreKept}
+use Rattle.jr_reference_changes.specs.Fronts.{FrontsStay}
+use Rattle.jr_reference_changes.specs.Names.{PlansChangeNames}
+use Rattle.jr_reference_changes.specs.PlacesInFiles.{PlansAreOfPlaces}
 use Rattle.jr_kept_runs.specs.Laws.{RenamesKeepRuns}
 use Rattle.jr_sources.specs.Whole.{IsProgramOf}
 use Rattle.jr_session.specs.NewTexts.{with_edits}
@@ -72,6 +76,7 @@ module _ (g : Renaming) (rows : List Row) (declarations : List DeclaredItem) whe
 -- ---- the law
 
 module _ (one : OneReading Span) (named : RowsAreNamed Span) (dots : NamesHaveNoDot) (plans : PlansBecome Span) (read : NewTextsRead) (references : ReferencesStay) (images : NewProgramsAreImages) (built : BuiltRowsAreImages Span Span) (ctors : ConstructorsGiveImages Span Span) (dispatch : DispatchIsKept) (runs : RenamesKeepRuns)
+    (fronts : FrontsStay) (family : FamiliesAreWhole) (families : FamiliesAreKept) (places : PlansAreOfPlaces) (on_names : PlansChangeNames)
     (s t : State) (file : List ℕ) (at : ℕ) (new : List ℕ) (names : List (List ℕ)) (n : ℕ) (is : Refactors s (rename file at new) names n t)
   where
     abbrev step_plan : IsPlan s (rename file at new) is.edits n
@@ -99,11 +104,16 @@ module _ (one : OneReading Span) (named : RowsAreNamed Span) (dots : NamesHaveNo
     new_images : (q.rows ≡ rows_to g p.rows) × AreImages itself begins [] p.rows (units_of p) g (units_of q)
     new_images = new_rows s.files p before step_plan.text step_plan.number at new is.edits step_plan.renaming n plan named dots plans images built ctors (with_edits s.files is.edits) q is.whole.program trees
 
-    names_kept : KeepsNames p g q
+    names_kept : KeepsNames p plan.planned.found.target g new plan.planned.becomes.files is.edits step_plan.renaming q
     names_kept = record {
       images = new_images.1;
       references = units_bare g p.rows (declarations_of begins (units_of p)) (units_of p) (trees_of plan.planned.becomes.files) (units_of q) (trees ∙ sym (trees_bare plan.planned.becomes.files))
           (references p step_plan.text step_plan.number at new is.edits step_plan.renaming n plan);
+      fronts = fronts p step_plan.text step_plan.number at new is.edits step_plan.renaming n plan;
+      family = family p step_plan.text step_plan.number at new is.edits step_plan.renaming n plan;
+      families = subst (λ (rows : List Row). KeepsFamilies p.rows g rows) (sym new_images.0) (families p step_plan.text step_plan.number at new is.edits step_plan.renaming n plan);
+      places = places p step_plan.text step_plan.number at new is.edits step_plan.renaming n plan;
+      names = on_names p step_plan.text step_plan.number at new is.edits step_plan.renaming n plan;
       runs = runs p q step_plan.text step_plan.number at new is.edits step_plan.renaming n plan trees new_images.0 new_images.1;
     }
 
@@ -122,9 +132,9 @@ module _ (one : OneReading Span) (named : RowsAreNamed Span) (dots : NamesHaveNo
 
 -- ---- all steps
 
-pub steps_keep : OneReading Span → RowsAreNamed Span → NamesHaveNoDot → PlansBecome Span → NewTextsRead → ReferencesStay → NewProgramsAreImages → BuiltRowsAreImages Span Span → ConstructorsGiveImages Span Span → DispatchIsKept → RenamesKeepRuns → HasOneCodeEach → UntouchedBytesMove → StepsKeepPrograms
-steps_keep one named dots plans read references images built ctors dispatch runs coded move s t (step.Rename file at new) reply h =
+pub steps_keep : OneReading Span → RowsAreNamed Span → NamesHaveNoDot → PlansBecome Span → NewTextsRead → ReferencesStay → NewProgramsAreImages → BuiltRowsAreImages Span Span → ConstructorsGiveImages Span Span → DispatchIsKept → RenamesKeepRuns → FrontsStay → FamiliesAreWhole → FamiliesAreKept → PlansAreOfPlaces → PlansChangeNames → HasOneCodeEach → UntouchedBytesMove → StepsKeepPrograms
+steps_keep one named dots plans read references images built ctors dispatch runs fronts family families places on_names coded move s t (step.Rename file at new) reply h =
     λ done.
     (let r = renamed_of s t file at new reply h done in
-    keeps_program s t (rename file at new) r.0 r.1 r.2 coded move (shown one named dots plans read references images built ctors dispatch runs s t file at new r.0 r.1 r.2))
-steps_keep one named dots plans read references images built ctors dispatch runs coded move s t of reply h = tt
+    keeps_program s t (rename file at new) r.0 r.1 r.2 coded move (shown one named dots plans read references images built ctors dispatch runs fronts family families places on_names s t file at new r.0 r.1 r.2))
+steps_keep one named dots plans read references images built ctors dispatch runs fronts family families places on_names coded move s t of reply h = tt

@@ -89,7 +89,7 @@ pub record KeepsProgram (s : State) (ask : Request) (t : State) : Type 0 where
       ((images_by ask p text number plan.found).method_to m)
       ((images_by ask p text number plan.found).method_to was)
   -- what the refactoring promises besides: of references, of places, of runs
-  pub own : ask.Keeps p text number plan.found q
+  pub own : ask.Keeps p text number plan.found plan.becomes.files edits renaming q
   -- each of the two is a resolved program, just one
   pub code_before : HasOneCode p
   pub code_behind : HasOneCode q

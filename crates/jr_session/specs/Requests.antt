@@ -1,8 +1,12 @@
 -- What a step asks of a refactoring, and whether that can be asked at all.
 use Rattle.std.specs.Prelude.{◌≡◌, ℕ, ◌≤◌, ◌⊎◌, List, [], ◌∷◌, Option, Some, None}
 use Rattle.jr_text.specs.declared.spans.Span.{Span}
+use Rattle.jr_text.specs.Edits.{Entry}
+use Rattle.jr_ast.specs.MemberTree.{Unit as UnitTree}
 use Rattle.jr_lex.specs.Replacing.{IsName}
+use Rattle.jr_table.specs.Decls.{Decl}
 use Rattle.jr_bind.specs.Programs.{Program}
+use Rattle.jr_rewrite.specs.Rewritten.{Rewritten}
 use Rattle.jr_images.specs.Regions.{Images}
 use Rattle.jr_plan.specs.Reasons.{images_in}
 use Rattle.jr_plan.specs.Transforms.{Refactoring}
@@ -17,9 +21,11 @@ pub record Request : Type 1 where
   pub name : Option (List ℕ)
   -- the refactoring of a program in which the file, of this number, has this text
   pub refactoring : Program Span → (text : List ℕ) → (number : ℕ) → Refactoring
-  -- what it promises besides of the program behind it, where it finds this
+  -- what it promises besides of the program behind it, where it finds this, makes these files by
+  -- these edits, and renames these pairs
   pub Keeps : (p : Program Span) → (text : List ℕ) → (number : ℕ)
-      → (refactoring p text number).Found → (q : Program Span) → Type 0
+      → (refactoring p text number).Found → (files : List (Rewritten (UnitTree Span)))
+      → (edits : List (List Entry)) → (pairs : List (Decl × Decl)) → (q : Program Span) → Type 0
 
 -- what becomes of keys and rows, where it finds this
 abbrev pub images_by : (ask : Request) → (p : Program Span) → (text : List ℕ) → (number : ℕ)

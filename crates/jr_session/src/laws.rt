@@ -13,6 +13,9 @@ use jr_lines::lines_are_told;
 use jr_members::members_are_written;
 use jr_program_laws::parts_are_placed;
 use jr_punit::one_reading;
+use jr_reference_changes::{
+    families_are_kept, families_are_whole, fronts_stay, plans_are_of_places, plans_change_names,
+};
 use jr_rename_laws::{
     classes_give_images, constructors_give_images, plan_is_one, plans_become, plans_keep_programs,
     renamings_stay_fair, rewriting_is_one,
@@ -57,8 +60,11 @@ pub fn renames_are_refused_first()
 /// refactoring states, and what a call runs is the image of what it ran. Each of the two programs
 /// has resolved code, just one and well typed. Each byte that lies in no edit's span is as before,
 /// and an undoing right behind the step gives back every byte of every file. Of a rename, each
-/// reference is bound to the image of what it was bound to (JLS 6), whatever is renamed, and the
-/// resolved programs are exactly alike.
+/// reference is bound to the image of what it was bound to (JLS 6), whatever is renamed; in front
+/// of it stands what stood there, `this`, `super`, a cast or a class; the renamed family is
+/// complete, and methods override one another where their images do (JLS 8.4.8.1); edits are those
+/// of the references and declared names that stay, and lie on names; and the resolved programs are
+/// exactly alike.
 pub fn accepted_refactorings_keep_programs()
     ensures { StepsKeepPrograms }
 {
@@ -70,6 +76,11 @@ pub fn accepted_refactorings_keep_programs()
     plans_keep_programs();
     dispatch_is_kept();
     renames_keep_runs();
+    fronts_stay();
+    families_are_whole();
+    families_are_kept();
+    plans_are_of_places();
+    plans_change_names();
     programs_have_code();
     sound_programs_are_well_typed();
     untouched_bytes_move();

@@ -56,6 +56,7 @@ impl Session {
             (put_back self.old.files changes.items) names.items respelled (reply_of reply)
             self.new) }
         ensures err { OnErr result (self.new ≡ self.old) }
+        ensures kept { IsKeptAnalysis self.new.files analysed.new }
         ensures work { CostsBinding (put_back self.old.files changes.items) steps.old steps.new }
     {
         text_has_one_reading();
@@ -87,7 +88,7 @@ impl Session {
     /// the sources that have the new texts.
     ///
     /// `after` tells of the table of the sources that have the new texts, and `analysed` is what
-    /// was analysed of the old ones, which is of no use then.
+    /// was analysed of the old ones, which stays where no new text is tried.
     ///
     /// Want of memory leaves the session as it was, and so does a refusal.
     pub(crate) fn refactor<L: Ledger>(
@@ -105,6 +106,7 @@ impl Session {
         ensures step { IfOk result (λ reply.
             IsRefactoredBy self.old edits.now respelled (reply_of reply) self.new) }
         ensures err { OnErr result (self.new ≡ self.old) }
+        ensures kept { IsKeptAnalysis self.new.files analysed.new }
         ensures work { CostsRefactoring self.old.files edits.now steps.old steps.new }
     {
         match new_texts(alloc, &self.sources, edits.as_slice())? {

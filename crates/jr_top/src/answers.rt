@@ -1,5 +1,5 @@
 //! What a rename in a file puts: the session of the one file takes the one step.
-ghost use Rattle.std.specs.Prelude.{◌≡◌, [], ◌∷◌, true, false, IfOk, string_bytes};
+ghost use Rattle.std.specs.Prelude.{◌≡◌, [], ◌∷◌, true, false, Ok, IfOk, string_bytes};
 ghost use Rattle.jr_names.specs.RefusalView.{refusal_of};
 ghost use Rattle.jr_names.specs.ReplyView.{reply_of};
 ghost use Rattle.jr_script.specs.RefusalTexts.{ArePlacesIn, places_of};
@@ -12,7 +12,7 @@ ghost use Rattle.jr_top.specs.Lines.{refusal_line as line_of};
 ghost use Rattle.jr_top.specs.Renames.{IsAnswered, IsPutFor, opened};
 
 use crate::lines::refusal_line;
-use crate::replies::take_step;
+use crate::replies::{take_step, without};
 use jr_ast::Name;
 use jr_names::{Refusal, Reply, Step};
 use jr_session::Session;
@@ -40,13 +40,8 @@ pub(crate) fn answer_of(
     let mut session = begin_with(alloc, file, source)?;
     let reply = rename_in(alloc, &mut session, file, at, name)?;
     let answer = answer_to(alloc, file, &session, &reply);
-    forget_reply(reply);
-    answer
+    without(reply, answer)
 }
-
-// Lets a reply go. Where it is let go within another function, that function's proof goes through
-// its variants.
-fn forget_reply(_reply: Reply) {}
 
 // The one file, under its name.
 fn one_file(alloc: Global, file: &str, source: Text) -> Result<Vec<(String, Text)>, AllocError>
@@ -64,9 +59,16 @@ fn begin_with(alloc: Global, file: &str, source: Text) -> Result<Session, AllocE
     ensures { IfOk result (λ session. session ≡ opened file.now source) }
 {
     let files = one_file(alloc, file, source)?;
-    match Session::begin(alloc, files) {
-        Ok(session) => Ok(session),
-        // It is one file, of no more bytes than a text has: what is left is want of memory.
+    // It is one file, of no more bytes than a text has: what is left is want of memory.
+    or_memory(Session::begin(alloc, files))
+}
+
+// Any fault is told as want of memory.
+fn or_memory<T, E>(made: Result<T, E>) -> Result<T, AllocError>
+    ensures { IfOk result (λ value. made ≡ Ok value) }
+{
+    match made {
+        Ok(value) => Ok(value),
         Err(fault) => {
             drop(fault);
             Err(AllocError)
@@ -87,13 +89,14 @@ fn rename_in(
     ensures promises { IfOk result (λ reply.
         Promises session.old (Step.Rename file.now at name.now) (reply_of reply) session.new) }
 {
-    let step = rename_step(alloc, file, at, name)?;
-    let reply = take_step(alloc, session, &step);
-    forget_step(step);
-    reply
+    match rename_step(alloc, file, at, name) {
+        Err(error) => Err(error),
+        Ok(step) => {
+            let reply = take_step(alloc, session, &step);
+            without(step, reply)
+        }
+    }
 }
-
-fn forget_step(_step: Step) {}
 
 fn rename_step(alloc: Global, file: &str, at: u32, name: &str) -> Result<Step, AllocError>
     ensures { IfOk result (λ step. step ≡ Step.Rename file.now at name.now) }

@@ -42,10 +42,25 @@ fn take_counted<L: Ledger>(
     ensures { IfOk result (λ replies.
         Follow session.old steps.now (map reply_of replies.items) session.new) }
 {
-    let mut replies = Vec::with_capacity(alloc, steps.len())?;
     let mut counter = Steps::<L>::new(blank);
+    let replies = take_all(alloc, session, steps, &mut counter);
+    without(counter, replies)
+}
+
+// The same, with this counter.
+fn take_all<L: Ledger>(
+    alloc: Global,
+    session: &mut Session,
+    steps: &[Step],
+    counter: &mut Steps<L>,
+) -> Result<Vec<Reply>, AllocError>
+    requires { All IsServed steps.now }
+    ensures { IfOk result (λ replies.
+        Follow session.old steps.now (map reply_of replies.items) session.new) }
+{
+    let mut replies = Vec::with_capacity(alloc, steps.len())?;
     for step in steps {
-        let reply = session.step(alloc, step, &mut counter)?;
+        let reply = session.step(alloc, step, counter)?;
         push_reply(&mut replies, reply)?;
     }
     Ok(replies)
@@ -92,7 +107,16 @@ fn take_one<L: Ledger>(
         Promises session.old step.now (reply_of reply) session.new) }
 {
     let mut counter = Steps::<L>::new(blank);
-    session.step(alloc, step, &mut counter)
+    let reply = session.step(alloc, step, &mut counter);
+    without(counter, reply)
+}
+
+/// What is wanted, where what it was made with is let go. Where that is done within another
+/// function, that function's proof goes through the variants of both.
+pub(crate) fn without<X, T>(_spent: X, wanted: T) -> T
+    ensures { result ≡ wanted }
+{
+    wanted
 }
 
 /// How a run ends whose steps have these replies, once all is written.

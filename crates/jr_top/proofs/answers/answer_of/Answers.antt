@@ -23,4 +23,4 @@ pub returns : goal.returns
 returns c =
     let steps = subst (λ (s : State). Steps s (Rename c.args.file.now c.args.at c.args.name.now) (reply_of c.in_ok-reply.reply) c.rename_in.new.session) c.in_ok-session.ensures c.in_ok-reply.ensures.step in
     let promise = subst (λ (s : State). Promises s (Rename c.args.file.now c.args.at c.args.name.now) (reply_of c.in_ok-reply.reply) c.rename_in.new.session) c.in_ok-session.ensures c.in_ok-reply.ensures.promises in
-    IfOk-weaker c.answer_to-answer.result _ _ (λ answer put. answered c.args.file.now c.args.source c.args.at c.args.name.now (reply_of c.in_ok-reply.reply) c.rename_in.new.session steps promise answer.refused (string_bytes answer.output) put) c.answer_to-answer.ensures
+    rw c.without.ensures (IfOk-weaker c.answer_to-answer.result _ _ (λ answer put. answered c.args.file.now c.args.source c.args.at c.args.name.now (reply_of c.in_ok-reply.reply) c.rename_in.new.session steps promise answer.refused (string_bytes answer.output) put) c.answer_to-answer.ensures)

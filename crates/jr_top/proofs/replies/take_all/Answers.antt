@@ -1,6 +1,6 @@
 use Rattle.std.proofs.Common.{◌<◌, length, rules, take}
 use Rattle.jr_top.proofs.Following.{follow_step}
-use Rattle.jr_top.proofs.replies.take_counted.Goals as goal
+use Rattle.jr_top.proofs.replies.take_all.Goals as goal
 
 pub loop-step-preserved : goal.loop-step-preserved
 loop-step-preserved g c =
