@@ -14,9 +14,9 @@ use Rattle.jr_lex.specs.declared.items.Keyword.TheVariants.{Super}
 use Rattle.jr_lex.specs.declared.items.Symbol.TheVariants.{Dot}
 use Rattle.jr_lex.specs.Lexes.{Lexes}
 use Rattle.jr_lex.specs.Places.{end_of, ItemsPlaced}
-use Rattle.jr_grammar.specs.Tokens.{Token, Placed, keyword, symbol, token_of_kind, token_of, with_placed, placed_of}
+use Rattle.jr_grammar.specs.Tokens.{Token, Placed, token_of_kind, token_of, with_placed, placed_of}
 use Rattle.jr_grammar.specs.Stands.{Tokens}
-use Rattle.jr_reference_changes.specs.Names.{IsOfName, Meet, IsOnNames}
+use Rattle.jr_reference_changes.specs.Names.{IsOfName, IsOnNames}
 use Rattle.jr_reference_changes.proofs.NameTokens.{IsNameToken, Has, Bounds, OnNames}
 
 -- ---- items that are tokens

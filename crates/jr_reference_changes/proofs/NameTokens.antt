@@ -1,5 +1,5 @@
 -- Spans that lie on tokens of names: words, `super` and dots.
-use Rattle.std.proofs.Common.{◌≡◌, ℕ, ◌<◌, ◌≤◌, List, [], ◌∷◌, ◌++◌, Some, None, refl, sym, ap, subst, ◌∙◌, inl, inr, arith}
+use Rattle.std.proofs.Common.{◌≡◌, ℕ, ◌≤◌, List, [], ◌∷◌, ◌++◌, refl, sym, ap, subst, ◌∙◌, inl, inr, arith}
 use Rattle.std.specs.Prelude.{◌⊎◌}
 use Rattle.jr_text.specs.declared.spans.Span.{Span}
 use Rattle.jr_lex.specs.declared.items.Keyword.TheVariants.{Super}
@@ -9,9 +9,9 @@ use Rattle.jr_ast.specs.Tree as tree
 use Rattle.jr_ast.specs.Marks.{exp_mark}
 use Rattle.jr_grammar.specs.Tokens.{Token, Placed, word, keyword, symbol}
 use Rattle.jr_grammar.specs.Stands.{Tokens, first_from, last_to, span_of, IsAlone, InOrder, IsNode, Stands, StandInOrder}
-use Rattle.jr_grammar.specs.Layout.{Layouts, done}
+use Rattle.jr_grammar.specs.Layout.{done}
 use Rattle.jr_grammar.specs.ExpressionLayout.{word_layout, exp_layout}
-use Rattle.jr_program_laws.proofs.TokenOrder.{StartsIn, Rising, in_back, rising_back, from_first, Filled}
+use Rattle.jr_program_laws.proofs.TokenOrder.{StartsIn, Rising, in_back, rising_back, Filled}
 use Rattle.jr_rewrite.specs.Suitable.{IsPath}
 use Rattle.jr_reference_changes.specs.Names.{Meet}
 

@@ -1,23 +1,23 @@
 -- What a choice changes of a word, and of what stands in front of it, lies on tokens of names.
-use Rattle.std.proofs.Common.{◌≡◌, ℕ, ◌≤◌, List, [], ◌∷◌, ◌++◌, Some, None, refl, sym, ap, subst, ◌∙◌, inl, inr, arith}
+use Rattle.std.proofs.Common.{◌≡◌, ℕ, ◌≤◌, List, [], ◌∷◌, ◌++◌, refl, sym, ap, subst, inl, inr, arith}
 use Rattle.std.specs.Prelude.{◌⊎◌}
 use Rattle.jr_text.specs.declared.spans.Span.{Span}
 use Rattle.jr_lex.specs.declared.items.Keyword.TheVariants.{Super}
 use Rattle.jr_lex.specs.declared.items.Symbol.TheVariants.{Dot}
 use Rattle.jr_ast.specs.Tree as tree
 use Rattle.jr_ast.specs.Marks.{exp_mark}
-use Rattle.jr_grammar.specs.Layout.{itself, Layouts, done, token, ◌then◌}
+use Rattle.jr_grammar.specs.Layout.{itself, done, token, ◌then◌}
 use Rattle.jr_grammar.specs.Tokens.{Placed, keyword, symbol}
-use Rattle.jr_grammar.specs.Stands.{Tokens, first_from, last_to, span_of, IsAlone, InOrder, IsNode, Stands, StandInOrder}
+use Rattle.jr_grammar.specs.Stands.{Tokens, first_from, last_to, InOrder, IsNode, Stands, StandInOrder}
 use Rattle.jr_grammar.specs.ExpressionLayout.{word_layout, exp_layout}
-use Rattle.jr_program_laws.proofs.TokenOrder.{StartsIn, Rising, rising_front, rising_back, from_first, Filled}
+use Rattle.jr_program_laws.proofs.TokenOrder.{Rising, rising_front, from_first, Filled}
 use Rattle.jr_program_laws.proofs.Filling.{Fills, alone_fills, front_fills, exp_fills}
 use Rattle.jr_rewrite.specs.Respellings.{Front, same, alone, by_this, by_super, by_cast_this, by_class, by_outer_class, by_cast, Choice, stays, becomes, loses, Change}
 use Rattle.jr_rewrite.specs.Rewritten.{word_changes, super_changes, dotted_changes, qualified_changes, before, behind_to, from_to}
 use Rattle.jr_rewrite.specs.Suitable.{IsPath, Suits, MayStandFor}
 use Rattle.jr_reference_changes.specs.Names.{Meet}
 use Rattle.jr_reference_changes.specs.Places.{In}
-use Rattle.jr_reference_changes.proofs.NameTokens.{IsNameToken, Has, Bounds, OnNames, bounds_front, bounds_back, has_either, has_starts, front_names, back_names, AllNames, all_names, first_bounds, last_bounds, Named, alone_named, order_named, done_named, node_named, word_named, dot_named, super_named, path_named, exp_node}
+use Rattle.jr_reference_changes.proofs.NameTokens.{IsNameToken, Has, Bounds, OnNames, bounds_front, bounds_back, has_either, has_starts, front_names, back_names, AllNames, all_names, first_bounds, last_bounds, order_named, done_named, node_named, word_named, dot_named, super_named, path_named, exp_node}
 
 -- ---- where nodes are bound
 

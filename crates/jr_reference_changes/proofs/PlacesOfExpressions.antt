@@ -6,10 +6,9 @@ use Rattle.jr_ast.specs.declared.operators.BumpOp.TheVariants.{PreInc, PreDec, P
 use Rattle.jr_ast.specs.Tree as tree
 use Rattle.jr_ast.specs.Marks.{exp_mark}
 use Rattle.jr_lex.specs.declared.items.Keyword.TheVariants.{New}
-use Rattle.jr_lex.specs.declared.items.Symbol.TheVariants.{Dot}
 use Rattle.jr_grammar.specs.Layout.{itself}
-use Rattle.jr_grammar.specs.Tokens.{keyword, symbol}
-use Rattle.jr_grammar.specs.Stands.{Tokens, IsAlone, InOrder, Stands, StandInOrder}
+use Rattle.jr_grammar.specs.Tokens.{keyword}
+use Rattle.jr_grammar.specs.Stands.{Tokens, InOrder, Stands}
 use Rattle.jr_grammar.specs.ExpressionLayout.{word_layout, type_layout, exp_layout, target_layout, args_layout, more_args_layout}
 use Rattle.jr_program_laws.proofs.TokenOrder.{StartsIn, Rising}
 use Rattle.jr_table.specs.Context.{Context}

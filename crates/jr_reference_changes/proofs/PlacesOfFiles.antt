@@ -9,7 +9,7 @@ use Rattle.jr_ast.specs.MemberTree as syntax
 use Rattle.jr_grammar.specs.Layout.{itself, token, done, ◌then◌}
 use Rattle.jr_grammar.specs.Tokens.{symbol}
 use Rattle.jr_grammar.specs.Stands.{Tokens, IsAlone, InOrder, Stands, StandInOrder}
-use Rattle.jr_grammar.specs.ExpressionLayout.{word_layout, type_layout, exp_layout, args_layout}
+use Rattle.jr_grammar.specs.ExpressionLayout.{word_layout, type_layout, args_layout}
 use Rattle.jr_grammar.specs.StatementLayout.{stmts_layout}
 use Rattle.jr_grammar.specs.MemberLayout.{modifiers_layout, param_layout, params_layout, more_params_layout, init_layout, result_layout, parent_call_layout, extends_layout, class_layout, member_layout, members_layout, classes_layout, unit_layouts}
 use Rattle.jr_table.specs.Keys.{ClassKey}
@@ -22,9 +22,9 @@ use Rattle.jr_program_laws.proofs.TokenOrder.{StartsIn, Rising, rising_front, ri
 use Rattle.jr_program_laws.proofs.Filling.{member_fills}
 use Rattle.jr_rewrite.specs.Respellings.{Choice}
 use Rattle.jr_rewrite.specs.Rewritten.{Rewritten, within, joined, losses_of}
-use Rattle.jr_rewrite.specs.Rewrites.{Choosing, declared_by, with_losses, RewritesMaybe, RewritesParams, RewritesResult, RewritesSuper, RewritesMember, RewritesParent, RewritesOne, RewritesMembers, RewritesClass, RewritesClasses, RewritesUnit, TransformsClass, TransformsMembers, TransformsOne}
+use Rattle.jr_rewrite.specs.Rewrites.{Choosing, declared_by, with_losses, RewritesMaybe, RewritesParams, RewritesResult, RewritesMember, RewritesParent, RewritesOne, RewritesMembers, RewritesClass, RewritesClasses, RewritesUnit, TransformsClass, TransformsMembers, TransformsOne}
 use Rattle.jr_reference_changes.specs.Places.{Place, with_choice, of_super, of_parent, of_parent_qualifier, of_declared, WrittenStays, ExpStays, RowStays}
-use Rattle.jr_reference_changes.specs.PlacesInFiles.{MaybeStays, StmtsStays, ParamsStay, ResultStays, SuperStays, MemberStays, ParentStays, KeyedStays, ClassStays, MembersStay, OneStays, ClassesStay, UnitStays}
+use Rattle.jr_reference_changes.specs.PlacesInFiles.{MaybeStays, StmtsStays, ParamsStay, ResultStays, MemberStays, ParentStays, KeyedStays, ClassStays, MembersStay, OneStays, ClassesStay, UnitStays}
 use Rattle.jr_reference_changes.proofs.PlacesJoined.{both, OneEach, joined_places, own_places}
 use Rattle.jr_rewrite.specs.Suitable.{AreSuitable}
 use Rattle.jr_reference_changes.proofs.PlacesApart.{HasWord, AnyPlace, Placed, plain_placed, moved_placed, alike_placed, within_placed, weaker, turn, pass, only, node, join, assoc, with_super}

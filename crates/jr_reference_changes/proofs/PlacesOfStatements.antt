@@ -1,5 +1,5 @@
 -- The places of a statement that is rewritten.
-use Rattle.std.proofs.Common.{◌≡◌, ℕ, ◌+◌, Option, Some, None, refl}
+use Rattle.std.proofs.Common.{◌≡◌, ℕ, ◌+◌, Some, None, refl}
 use Rattle.std.specs.Prelude.{◌⊎◌}
 use Rattle.jr_text.specs.declared.spans.Span.{Span}
 use Rattle.jr_lex.specs.declared.items.Symbol.TheVariants.{CloseParen}

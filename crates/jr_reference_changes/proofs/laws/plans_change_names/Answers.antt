@@ -4,7 +4,6 @@ use Rattle.std.proofs.lemmas.Option.{slice_get-map, same_Some}
 use Rattle.jr_text.specs.declared.spans.Span.{Span}
 use Rattle.jr_text.specs.Edits.{Entry}
 use Rattle.jr_lex.specs.declared.items.Item.{Item}
-use Rattle.jr_ast.specs.MemberTree.{Unit as UnitTree}
 use Rattle.jr_grammar.specs.Layout.{Layouts}
 use Rattle.jr_grammar.specs.MemberLayout.{unit_layouts}
 use Rattle.jr_grammar.specs.Stands.{StandInOrder}
