@@ -1,0 +1,2 @@
+-- `Keys`: keys that stay.
+pub mod Keys
