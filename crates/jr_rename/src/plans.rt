@@ -72,10 +72,10 @@ fn plan_among<V: View<Span>>(
     }
 }
 
-/// One value, behind which another is let go. Where both have types with variants of their own, the
-/// proof of the function around goes through all of them.
+/// The value, behind which the other is let go. A function that lets it go itself, and knows both
+/// types, is proved by their variants.
 fn kept<T, G: Drop>(value: T, gone: G) -> T
-    ensures { result ≡ value.entry }
+    ensures { result ≡ value }
 {
     drop(gone);
     value
