@@ -12,7 +12,7 @@ ghost use Rattle.jr_top.specs.Lines.{refusal_line as line_of};
 ghost use Rattle.jr_top.specs.Renames.{IsAnswered, IsPutFor, opened};
 
 use crate::lines::refusal_line;
-use crate::replies::{take_step, without};
+use crate::replies::{kept, take_step};
 use jr_ast::Name;
 use jr_names::{Refusal, Reply, Step};
 use jr_session::Session;
@@ -40,7 +40,7 @@ pub(crate) fn answer_of(
     let mut session = begin_with(alloc, file, source)?;
     let reply = rename_in(alloc, &mut session, file, at, name)?;
     let answer = answer_to(alloc, file, &session, &reply);
-    without(reply, answer)
+    kept(answer, reply)
 }
 
 // The one file, under its name.
@@ -64,8 +64,8 @@ fn begin_with(alloc: Global, file: &str, source: Text) -> Result<Session, AllocE
 }
 
 // Any fault is told as want of memory.
-fn or_memory<T, E>(made: Result<T, E>) -> Result<T, AllocError>
-    ensures { IfOk result (λ value. made ≡ Ok value) }
+fn or_memory<T, E: Drop>(made: Result<T, E>) -> Result<T, AllocError>
+    ensures { IfOk result (λ value. made.entry ≡ Ok value) }
 {
     match made {
         Ok(value) => Ok(value),
@@ -93,7 +93,7 @@ fn rename_in(
         Err(error) => Err(error),
         Ok(step) => {
             let reply = take_step(alloc, session, &step);
-            without(step, reply)
+            kept(reply, step)
         }
     }
 }

@@ -44,7 +44,7 @@ fn take_counted<L: Ledger>(
 {
     let mut counter = Steps::<L>::new(blank);
     let replies = take_all(alloc, session, steps, &mut counter);
-    without(counter, replies)
+    kept(replies, counter)
 }
 
 // The same, with this counter.
@@ -108,15 +108,16 @@ fn take_one<L: Ledger>(
 {
     let mut counter = Steps::<L>::new(blank);
     let reply = session.step(alloc, step, &mut counter);
-    without(counter, reply)
+    kept(reply, counter)
 }
 
-/// What is wanted, where what it was made with is let go. Where that is done within another
-/// function, that function's proof goes through the variants of both.
-pub(crate) fn without<X, T>(_spent: X, wanted: T) -> T
-    ensures { result ≡ wanted }
+/// One value, behind which another is let go. Where both have types with variants of their own, the
+/// proof of the function around goes through all of them.
+pub(crate) fn kept<T, G: Drop>(value: T, gone: G) -> T
+    ensures { result ≡ value.entry }
 {
-    wanted
+    drop(gone);
+    value
 }
 
 /// How a run ends whose steps have these replies, once all is written.
