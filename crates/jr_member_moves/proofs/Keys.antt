@@ -1,10 +1,8 @@
 -- Keys of what doesn't move stay.
-use Rattle.std.proofs.Common.{◌≡◌, ◌≢◌, Bool, true, false, Decides, refl}
-use Rattle.jr_table.specs.Keys.{ClassKey, FieldKey}
-use Rattle.jr_table.specs.Decls.{MemberKey, field}
+use Rattle.std.proofs.Common.{◌≡◌, Bool, true, false, Decides, refl, if◌then◌else◌}
+use Rattle.jr_table.specs.Decls.{field}
 use Rattle.jr_table.specs.SameDecls.{same_member, member_decides}
 use Rattle.jr_member_moves.specs.Laws.{OthersStay}
-use Rattle.jr_member_moves.specs.Places.{field_moved}
 
 pub others_stay : OthersStay
 others_stay moved to k other =

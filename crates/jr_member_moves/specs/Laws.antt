@@ -1,11 +1,10 @@
 -- What holds of the keys of a member that goes to another class.
-use Rattle.std.specs.Prelude.{◌≡◌, ◌≢◌, ℕ, List}
+use Rattle.std.specs.Prelude.{◌≡◌, ◌≢◌, ℕ}
 use Rattle.jr_text.specs.declared.spans.Span.{Span}
 use Rattle.jr_table.specs.Keys.{ClassKey, FieldKey}
 use Rattle.jr_table.specs.Decls.{MemberKey, field}
 use Rattle.jr_names.specs.Refusals.{Refusal}
 use Rattle.jr_bind.specs.Programs.{Program}
-use Rattle.jr_plan.specs.Transforms.{Refactoring}
 use Rattle.jr_member_moves.specs.Places.{field_moved}
 use Rattle.jr_member_moves.specs.Moves.{pull_up}
 

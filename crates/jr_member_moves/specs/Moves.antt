@@ -1,32 +1,9 @@
 -- What a program becomes where a member goes to the end of its superclass: a spot in the list of
 -- members from which it goes, and a spot at the class to which it comes; and pull up.
-use Rattle.std.specs.Prelude.{
-  ◌≡◌,
-  ◌⊎◌,
-  ℕ,
-  ◌+◌,
-  ◌-◌,
-  nat_eq,
-  Bool,
-  true,
-  false,
-  not,
-  ◌&&◌,
-  List,
-  [],
-  ◌∷◌,
-  ◌++◌,
-  map,
-  Option,
-  Some,
-  None,
-  slice_get,
-  Contains,
-}
+use Rattle.std.specs.Prelude.{◌≡◌, ◌⊎◌, ℕ, ◌+◌, ◌-◌, nat_eq, Bool, true, false, ◌&&◌, List, [], ◌∷◌, ◌++◌, map, Option, Some, slice_get, Contains}
 use Rattle.std.specs.List.{list_any}
 use Rattle.jr_text.specs.declared.spans.Span.{Span}
 use Rattle.jr_lex.specs.declared.items.Item.{Item}
-use Rattle.jr_lex.specs.declared.items.TokenKind.{TokenKind}
 use Rattle.jr_lex.specs.declared.items.TokenKind.TheVariants.{Mark}
 use Rattle.jr_lex.specs.declared.items.Symbol.TheVariants.{CloseBrace, Semicolon}
 use Rattle.jr_lex.specs.Lexes.{Lexes}
@@ -37,8 +14,7 @@ use Rattle.jr_ast.specs.MemberTree as syntax
 use Rattle.jr_grammar.specs.Layout.{itself}
 use Rattle.jr_layout.specs.Layouts.{IsRemoval, IsClassEnd}
 use Rattle.jr_table.specs.Keys.{ClassKey, class}
-use Rattle.jr_table.specs.Decls.{MemberKey, head}
-use Rattle.jr_table.specs.Rows.{Row}
+use Rattle.jr_table.specs.Decls.{head}
 use Rattle.jr_table.specs.DeclaredItems.{DeclaredItem, declarations_of, class_key}
 use Rattle.jr_table.specs.HeadRules.{plain as no_locals}
 use Rattle.jr_table.specs.Context.{Context}
@@ -46,7 +22,7 @@ use Rattle.jr_table.specs.Errors.{class_part}
 use Rattle.jr_members.specs.WrittenMembers.{WrittenMember, written_members}
 use Rattle.jr_bind.specs.Programs.{Program, units_of}
 use Rattle.jr_rewrite.specs.Respellings.{Loss, Change}
-use Rattle.jr_rewrite.specs.Rewritten.{Rewritten, plain, joined, change}
+use Rattle.jr_rewrite.specs.Rewritten.{Rewritten, plain, change}
 use Rattle.jr_rewrite.specs.Spots.{Spots, Spotted, nowhere, spotted}
 use Rattle.jr_rewrite.specs.Rewrites.{
   Choosing,
@@ -123,14 +99,14 @@ module _ (p : Program Span) (file at : ℕ) (x : Declared p file at) (to : Class
   -- the old class as it is written in the new one, where the body has its monitor
   abbrev pub WritesLock : Rewritten (tree.TypeName Span) → Type 0
   WritesLock o = WritesType p.rows within (no_locals x.member.key true) at
-      (mark_of x.tree) (class (class_of x)) o
+      (mark_of x.declaration) (class (class_of x)) o
 
   abbrev pub LocksIf : Bool → List Item → (lock : Rewritten (tree.TypeName Span))
       → (inner all : List Change) → Type 0
   LocksIf true items lock inner all =
-      WritesLock lock × IsWrapped items (mark_of x.tree) lock.tree inner all
+      WritesLock lock × IsWrapped items (mark_of x.declaration) lock.tree inner all
   LocksIf false items lock inner all =
-      (lock ≡ plain (tree.int (mark_of x.tree))) × (inner ≡ all)
+      (lock ≡ plain (tree.int (mark_of x.declaration))) × (inner ≡ all)
 
   abbrev pub tree_if : Bool → (lock : tree.TypeName Span) → syntax.Member Span
       → syntax.Member Span
@@ -141,12 +117,12 @@ module _ (p : Program Span) (file at : ℕ) (x : Declared p file at) (to : Class
   -- monitor, and all changes within its bytes.
   pub record Moved (text : List ℕ) (items : List Item) : Type 0 where
     pub piece : Rewritten (syntax.Member Span)
-    pub moves : TransformsMember itself (choices within) nowhere x.member.key x.member.base x.tree
+    pub moves : TransformsMember itself (choices within) nowhere x.member.key x.member.base x.declaration
         piece
     pub lock : Rewritten (tree.TypeName Span)
     pub dropped : List Change
     pub inner : List Change
-    pub drop : AreDropped text drops (modifiers_of x.tree) dropped
+    pub drop : AreDropped text drops (modifiers_of x.declaration) dropped
     pub locks : LocksIf is_locked items lock piece.changes inner
 
   module _ {text : List ℕ} {items : List Item} (m : Moved text items) where
@@ -154,7 +130,7 @@ module _ (p : Program Span) (file at : ℕ) (x : Declared p file at) (to : Class
     moved_tree = tree_if is_locked m.lock.tree m.piece.tree
 
     abbrev pub moved_text : List ℕ
-    moved_text = with_changes text (mark_of x.tree) (m.dropped ++ m.inner)
+    moved_text = with_changes text (mark_of x.declaration) (m.dropped ++ m.inner)
 
   -- ---- the spots
 
@@ -165,7 +141,7 @@ module _ (p : Program Span) (file at : ℕ) (x : Declared p file at) (to : Class
       abbrev pub Goes : (rest : Spotted Span) → (base : ℕ) → ClassKey → syntax.Members Span
           → Rewritten (syntax.Members Span) → Type 0
       Goes rest base of syntax.end o = ⊥
-      Goes rest base of (syntax.more y ys) o = (of ≡ class_of x) × (y ≡ x.tree)
+      Goes rest base of (syntax.more y ys) o = (of ≡ class_of x) × (y ≡ x.declaration)
           × (q : Rewritten (syntax.Members Span))
           × TransformsMembers itself (choices around) rest declarations base of ys q
           × (o ≡ record {
@@ -244,8 +220,8 @@ pub record IsWritten (p : Program Span) (k : ClassKey) : Type 0 where
   pub class : WrittenMember Span
   pub written : slice_get (written_members begins p.rows (units_of p)) number ≡ Some class
   pub is : class.key ≡ head k
-  pub tree : syntax.Class Span
-  pub part : class.part ≡ class_part tree
+  pub declaration : syntax.Class Span
+  pub part : class.part ≡ class_part declaration
 
 abbrev pub class_mark : syntax.Class Span → Span
 class_mark (syntax.class m mods w t ms) = m
@@ -266,9 +242,9 @@ module _ (p : Program Span) (file at : ℕ) where
     pub is_other_text : HasText p written.class.file other_text
     pub moved : Moved p file at declared superclass.key text items
     pub gone : Span
-    pub is_gone : IsRemoval text (mark_of declared.tree) gone
+    pub is_gone : IsRemoval text (mark_of declared.declaration) gone
     pub put : List ℕ
-    pub is_put : IsClassEnd other_text ((class_mark written.tree).to - 1)
+    pub is_put : IsClassEnd other_text ((class_mark written.declaration).to - 1)
         (moved_text p file at declared superclass.key moved) put
 
   module _ (f : Found) where
@@ -276,7 +252,7 @@ module _ (p : Program Span) (file at : ℕ) where
     key = f.superclass.key
 
     abbrev pub put_change : Change
-    put_change = change (at_byte ((class_mark f.written.tree).to - 1)) f.put
+    put_change = change (at_byte ((class_mark f.written.declaration).to - 1)) f.put
 
     abbrev pub spots_of : ℕ → Spotted Span
     spots_of n = spots_if p file at f.declared key f.moved f.gone put_change
@@ -292,7 +268,7 @@ module _ (p : Program Span) (file at : ℕ) where
     abbrev pub Fronted : ℕ → Fronts
     Fronted n byte k = EndsToken p n byte k
         ⊎ (((n ≡ file) × (byte ≡ f.gone.to) × EndsToken p n f.gone.from k)
-        ⊎ ((n ≡ f.written.class.file) × (byte ≡ (class_mark f.written.tree).to - 1)
+        ⊎ ((n ≡ f.written.class.file) × (byte ≡ (class_mark f.written.declaration).to - 1)
         × ((k ≡ Mark Semicolon) ⊎ (k ≡ Mark CloseBrace))))
 
   -- never 18: nothing that a member does changes places

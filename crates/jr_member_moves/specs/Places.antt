@@ -1,47 +1,17 @@
 -- What is seen of the new program where a field or method goes to the body of another class: keys,
 -- rows, and the scopes of places in the member and of all others.
-use Rattle.std.specs.Prelude.{
-  ◌≡◌,
-  Bool,
-  true,
-  false,
-  not,
-  ◌||◌,
-  List,
-  [],
-  ◌∷◌,
-  ◌++◌,
-  map,
-  filter,
-  Option,
-  Some,
-  None,
-  if◌then◌else◌,
-}
+use Rattle.std.specs.Prelude.{ℕ, Bool, true, false, not, ◌||◌, List, [], ◌∷◌, map, filter, Option, Some, None, if◌then◌else◌}
 use Rattle.std.specs.List.{list_any}
 use Rattle.jr_text.specs.declared.spans.Span.{Span}
 use Rattle.jr_ast.specs.declared.operators.ModWord.{ModWord}
 use Rattle.jr_ast.specs.Tree as tree
 use Rattle.jr_table.specs.Keys.{ClassKey, FieldKey, MethodKey, Ty, class}
-use Rattle.jr_table.specs.Decls.{
-  MemberKey,
-  head,
-  field,
-  method,
-  constructor,
-  LocalKey,
-  Decl,
-  class_decl,
-  field_decl,
-  method_decl,
-  constructor_decl,
-  local_decl,
-}
+use Rattle.jr_table.specs.Decls.{MemberKey, field, method, LocalKey, Decl, class_decl, field_decl, method_decl, constructor_decl, local_decl}
 use Rattle.jr_table.specs.SameKeys.{same_name, same_class}
 use Rattle.jr_table.specs.SameDecls.{same_member, same_decl}
 use Rattle.jr_table.specs.Rows.{Row}
 use Rattle.jr_table.specs.Entries.{class_of_member}
-use Rattle.jr_table.specs.Scope.{Scope, ScopeLocal}
+use Rattle.jr_table.specs.Scope.{ScopeLocal}
 use Rattle.jr_table.specs.Context.{Context, scope_of}
 use Rattle.jr_members.specs.WrittenMembers.{decl_of_member}
 use Rattle.jr_images.specs.Regions.{Images, Seen, Region, image_of_member, itself}
@@ -66,12 +36,15 @@ module _ (moved : MemberKey) (to : ClassKey) where
 
 -- ---- rows
 
+-- a class of this outer class is a member of the class that has this outer class and name
+abbrev pub is_inside : (outer : Option (List ℕ)) → (name : List ℕ) → Option (List ℕ) → Bool
+is_inside (Some o) name of = false
+is_inside None name None = false
+is_inside None name (Some o) = same_name o name
+
 -- a member class of the class
 abbrev pub is_member_class : (of k : ClassKey) → Bool
-is_member_class (record { outer = Some o; name = n }) k = false
-is_member_class (record { outer = None; name = n }) (record { outer = Some o; name = m }) =
-    same_name o n
-is_member_class (record { outer = None; name = n }) (record { outer = None; name = m }) = false
+is_member_class of k = is_inside of.outer of.name k.outer
 
 abbrev pub class_of_decl : Decl → ClassKey
 class_of_decl (class_decl k) = k

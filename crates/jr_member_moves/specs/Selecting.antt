@@ -1,24 +1,6 @@
 -- The field or method that an identifier declares, the superclass to which it is pulled up, and why
 -- that is refused by itself.
-use Rattle.std.specs.Prelude.{
-  ◌≡◌,
-  ◌≢◌,
-  ◌⊎◌,
-  ℕ,
-  ◌<◌,
-  ◌≤◌,
-  Bool,
-  true,
-  false,
-  ◌||◌,
-  ◌&&◌,
-  List,
-  Option,
-  Some,
-  None,
-  codes,
-  slice_get,
-}
+use Rattle.std.specs.Prelude.{◌≡◌, ◌⊎◌, ℕ, ◌<◌, ◌≤◌, Bool, true, false, ◌||◌, ◌&&◌, List, Option, Some, None, codes, slice_get}
 use Rattle.std.specs.List.{list_any}
 use Rattle.jr_text.specs.declared.spans.Span.{Span}
 use Rattle.jr_ast.specs.Tree as tree
@@ -27,9 +9,9 @@ use Rattle.jr_table.specs.Keys.{ClassKey}
 use Rattle.jr_table.specs.Decls.{MemberKey, head, field, method, constructor, Decl, class_decl}
 use Rattle.jr_table.specs.SameDecls.{same_decl}
 use Rattle.jr_table.specs.Rows.{Row}
-use Rattle.jr_table.specs.Entries.{IsRowOf, class_of_member, is_static_word}
+use Rattle.jr_table.specs.Entries.{class_of_member, is_static_word}
 use Rattle.jr_table.specs.Context.{IsSuperclass}
-use Rattle.jr_table.specs.Errors.{Part, member_part}
+use Rattle.jr_table.specs.Errors.{member_part}
 use Rattle.jr_names.specs.Refusals.{Refusal, bad_target, clash}
 use Rattle.jr_members.specs.WrittenMembers.{WrittenMember, written_members, decl_of_member}
 use Rattle.jr_bind.specs.Programs.{Program, units_of}
@@ -56,10 +38,10 @@ pub record Declared (p : Program Span) (file at : ℕ) : Type 0 where
   pub member : WrittenMember Span
   pub written : slice_get (written_members begins p.rows (units_of p)) number ≡ Some member
   pub in_file : member.file ≡ file
-  pub tree : syntax.Member Span
-  pub is : member.part ≡ member_part tree
+  pub declaration : syntax.Member Span
+  pub is : member.part ≡ member_part declaration
   pub word : tree.Word Span
-  pub named : word_of tree ≡ Some word
+  pub named : word_of declaration ≡ Some word
   pub behind : word.mark.from ≤ at
   pub inside : at < word.mark.to
   pub row : Row
