@@ -4,7 +4,6 @@ use Rattle.jr_names.specs.ReplyView.{reply_of}
 use Rattle.jr_session.specs.declared.made.Made.TheVariants as makes
 use Rattle.jr_names.specs.Refusals.{too_long}
 use Rattle.jr_names.specs.Replies.{refused}
-use Rattle.jr_sources.specs.Analysed.{IsKeptAnalysis}
 use Rattle.jr_sources.specs.Sources.{Source}
 use Rattle.jr_session.specs.Making.{IsMade}
 use Rattle.jr_session.specs.Refactoring.{IsRefactoredBy}
@@ -13,16 +12,6 @@ use Rattle.jr_session.specs.States.{State}
 use Rattle.jr_session.proofs.Refactored.{made_long, made_tried}
 use Rattle.jr_session.proofs.StateLaws.{state_of}
 use Rattle.jr_session.proofs.sessions.Session.refactor.Goals as goal
-
-pub invariant_of-self-in-TooLong : goal.invariant_of-self-in-TooLong
-invariant_of-self-in-TooLong g c =
-    let kept : IsKeptAnalysis c.self.inside.sources c.args.analysed.now = subst (λ (s : State). IsKeptAnalysis s.files c.args.analysed.now) (sym c.self.view_is) c.requires.analysed in
-    record {
-      readings = c.self.invariant.readings;
-      undo = c.self.invariant.undo;
-      redo = c.self.invariant.redo;
-      analysed = subst (IsKeptAnalysis c.self.inside.sources) (sym c.take.ensures.value) kept;
-    }
 
 pub returns-in-TooLong-clause-step : goal.returns-in-TooLong-clause-step
 returns-in-TooLong-clause-step g c =
