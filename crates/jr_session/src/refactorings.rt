@@ -56,7 +56,6 @@ impl Session {
             (put_back self.old.files changes.items) names.items respelled (reply_of reply)
             self.new) }
         ensures err { OnErr result (self.new ≡ self.old) }
-        ensures kept { IsKeptAnalysis self.new.files analysed.new }
         ensures work { CostsBinding (put_back self.old.files changes.items) steps.old steps.new }
     {
         text_has_one_reading();
@@ -88,7 +87,8 @@ impl Session {
     /// the sources that have the new texts.
     ///
     /// `after` tells of the table of the sources that have the new texts, and `analysed` is what
-    /// was analysed of the old ones, which stays where no new text is tried.
+    /// was analysed of the old ones: it is kept again where the new texts aren't tried, and of no
+    /// use then.
     ///
     /// Want of memory leaves the session as it was, and so does a refusal.
     pub(crate) fn refactor<L: Ledger>(
@@ -106,11 +106,13 @@ impl Session {
         ensures step { IfOk result (λ reply.
             IsRefactoredBy self.old edits.now respelled (reply_of reply) self.new) }
         ensures err { OnErr result (self.new ≡ self.old) }
-        ensures kept { IsKeptAnalysis self.new.files analysed.new }
         ensures work { CostsRefactoring self.old.files edits.now steps.old steps.new }
     {
         match new_texts(alloc, &self.sources, edits.as_slice())? {
-            Made::TooLong { len } => Ok(Reply::Refused(Refusal::TooLong { len })),
+            Made::TooLong { len } => {
+                self.analysed = analysed.take();
+                Ok(Reply::Refused(Refusal::TooLong { len }))
+            }
             Made::Changes { changes, names } => {
                 self.change_all(alloc, changes, names, respelled, after, analysed, steps)
             }

@@ -1,10 +1,8 @@
 //! A rename: asked, planned, made, and bound again.
-ghost use Rattle.std.specs.Prelude.{◌≡◌, List, IfOk, OnErr};
+ghost use Rattle.std.specs.Prelude.{◌≡◌, IfOk, OnErr};
 ghost use Rattle.jr_names.specs.ReplyView.{reply_of};
 ghost use Rattle.jr_rename.specs.declared.afters.After.TheVariants.{Unknown};
 ghost use Rattle.jr_names.specs.declared.steps.Step.TheVariants.{Rename};
-ghost use Rattle.jr_sources.specs.Analysed.{IsKeptAnalysis};
-ghost use Rattle.jr_sources.specs.Sources.{Source};
 ghost use Rattle.jr_session.specs.Refactoring.{AsksFor};
 ghost use Rattle.jr_session.specs.Stepping as pure;
 ghost use Rattle.jr_session.specs.Work.{IsWithinWork};
@@ -20,7 +18,6 @@ use jr_rename_laws::plans_keep_programs;
 use jr_sources::{Analysis, forget_known, refusal_of_request, text_has_one_reading};
 use jr_steps::Steps;
 use std::alloc::{AllocError, Global};
-use std::mem;
 use std::sync::ledger::Ledger;
 
 // Lets go what isn't taken.
@@ -34,17 +31,6 @@ fn forget(after: After) {
 }
 
 fn forget_analysis(_analysed: Option<Analysis>) {}
-
-// What was analysed takes the place of what is kept, if it is still there.
-fn restore(kept: &mut Option<Analysis>, analysed: Option<Analysis>)
-    ensures { (sources : List Source) → IsKeptAnalysis sources kept.old
-        → IsKeptAnalysis sources analysed → IsKeptAnalysis sources kept.new }
-{
-    match analysed {
-        None => {}
-        Some(analysis) => forget_analysis(mem::replace(kept, Some(analysis))),
-    }
-}
 
 impl Session {
     /// What the identifier at the byte of the file declares or is bound to gets the name, wherever
@@ -135,7 +121,7 @@ impl Session {
             Planned::Edits { edits, respelled } => {
                 let mut analysed = self.analysed.take();
                 let reply = self.refactor(alloc, &edits, respelled, after, &mut analysed, steps);
-                restore(&mut self.analysed, analysed);
+                forget_analysis(analysed);
                 reply
             }
         }

@@ -2,17 +2,22 @@ use Rattle.std.proofs.Common.{List, sym, subst}
 use Rattle.std.proofs.lemmas.Result.{IfOk-weaker}
 use Rattle.jr_names.specs.ReplyView.{reply_of}
 use Rattle.jr_session.specs.declared.made.Made.TheVariants as makes
+use Rattle.jr_names.specs.Refusals.{too_long}
+use Rattle.jr_names.specs.Replies.{refused}
 use Rattle.jr_sources.specs.Sources.{Source}
 use Rattle.jr_session.specs.Making.{IsMade}
+use Rattle.jr_session.specs.Refactoring.{IsRefactoredBy}
 use Rattle.jr_session.specs.TableTells.{TellsTable}
 use Rattle.jr_session.specs.States.{State}
 use Rattle.jr_session.proofs.Refactored.{made_long, made_tried}
+use Rattle.jr_session.proofs.StateLaws.{state_of}
 use Rattle.jr_session.proofs.sessions.Session.refactor.Goals as goal
 
 pub returns-in-TooLong-clause-step : goal.returns-in-TooLong-clause-step
 returns-in-TooLong-clause-step g c =
     let made : IsMade c.self.inside.sources c.args.edits.now (makes.TooLong c.in-TooLong.len) = subst (λ es. IsMade c.self.inside.sources es (makes.TooLong c.in-TooLong.len)) c.as_slice.ensures (subst (IsMade c.self.inside.sources c.as_slice.result.now) c.in-TooLong.is c.in_ok-len.ensures) in
-    made_long c.args.self.now c.args.edits.now c.args.respelled c.in-TooLong.len (subst (λ (s : State). IsMade s.files c.args.edits.now (makes.TooLong c.in-TooLong.len)) c.self.view_is made)
+    let now : State = state_of c.self.inside.sources c.self.inside.undo.items c.self.inside.redo.items c.self.inside.shown in
+    subst (λ (s : State). IsRefactoredBy s c.args.edits.now c.args.respelled (refused (too_long c.in-TooLong.len)) now) c.self.view_is (made_long now c.args.edits.now c.args.respelled c.in-TooLong.len made)
 
 pub returns-in-Changes-clause-step : goal.returns-in-Changes-clause-step
 returns-in-Changes-clause-step g c =
