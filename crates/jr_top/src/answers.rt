@@ -65,7 +65,7 @@ fn begin_with(alloc: Global, file: &str, source: Text) -> Result<Session, AllocE
 
 // Any fault is told as want of memory.
 fn or_memory<T, E: Drop>(made: Result<T, E>) -> Result<T, AllocError>
-    ensures { IfOk result (λ value. made.entry ≡ Ok value) }
+    ensures { IfOk result (λ value. made ≡ Ok value) }
 {
     match made {
         Ok(value) => Ok(value),

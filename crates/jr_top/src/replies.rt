@@ -114,7 +114,7 @@ fn take_one<L: Ledger>(
 /// One value, behind which another is let go. Where both have types with variants of their own, the
 /// proof of the function around goes through all of them.
 pub(crate) fn kept<T, G: Drop>(value: T, gone: G) -> T
-    ensures { result ≡ value.entry }
+    ensures { result ≡ value }
 {
     drop(gone);
     value
