@@ -1,8 +1,8 @@
 -- A run that moves in front of another text: it is cut into the tokens that it becomes.
-use Rattle.std.proofs.Common.{◌≡◌, ℕ, suc, ◌+◌, ◌-◌, ◌≤◌, List, [], ◌∷◌, ◌++◌, length, take, drop, refl, sym, ap, ◌∙◌, subst, arith}
+use Rattle.std.proofs.Common.{◌≡◌, ℕ, suc, zero, ◌+◌, ◌-◌, ◌≤◌, true, List, [], ◌∷◌, ◌++◌, length, take, drop, refl, sym, ap, ◌∙◌, subst, arith}
 use Rattle.std.specs.Prelude.{slice_range}
 use Rattle.std.specs.Str.{chars}
-use Rattle.std.proofs.lemmas.Str.{chars-nil}
+use Rattle.std.proofs.lemmas.Str.{chars-nil, chars-append}
 use Rattle.std.proofs.lemmas.List.{append_assoc, append-nil, length-append, length-drop, take_at, take-append-le}
 use Rattle.jr_text.specs.declared.spans.Span.{Span}
 use Rattle.jr_lex.specs.declared.items.Item.{Item}
@@ -12,7 +12,8 @@ use Rattle.jr_lex.specs.declared.items.TokenKind.{TokenKind}
 use Rattle.jr_lex.specs.declared.items.TokenKind.TheVariants.{Word, Keyword, Int, Text, Mark}
 use Rattle.jr_lex.specs.Lexes.{span_of as between}
 use Rattle.jr_lex.specs.Lexemes.{IsLexeme}
-use Rattle.jr_lex.specs.Beside.{EndsBefore, join_pieces, items_from}
+use Rattle.jr_lex.specs.Beside.{EndsBefore, token_beside, join_pieces, items_from}
+use Rattle.jr_lex.proofs.BesideLaws.{lets_end}
 use Rattle.jr_lex.proofs.ScanMeaning.{no_empty}
 use Rattle.jr_grammar.specs.Tokens.{Token, Placed, token_of_kind, placed_of, kinds}
 use Rattle.jr_grammar.specs.Stands.{Tokens, last_to, span_of}
@@ -31,7 +32,7 @@ use Rattle.jr_moved_texts.proofs.Tiling.{pieces_tiled, EndsIn, tiled_before, pla
 -- ---- changes in front of more text
 
 drop_front : (n : ℕ) (xs ys : List ℕ) → n ≤ length xs → drop n (xs ++ ys) ≡ drop n xs ++ ys
-drop_front 0 xs ys h = refl
+drop_front zero xs ys h = refl
 drop_front (suc n) [] ys h = absurd (omega (arith, h))
 drop_front (suc n) (x ∷ xs) ys h = drop_front n xs ys (omega (arith, h))
 
@@ -56,14 +57,14 @@ changes_front at bytes new (c ∷ cs) h =
 
 -- ---- the last item of a run
 
-kind_there : (bytes : List ℕ) (s : Span) (k : TokenKind) → kind_of (token_of_kind bytes s k) ≡ k
+pub kind_there : (bytes : List ℕ) (s : Span) (k : TokenKind) → kind_of (token_of_kind bytes s k) ≡ k
 kind_there bytes s Word = refl
 kind_there bytes s (Keyword k) = refl
 kind_there bytes s (Int n) = refl
 kind_there bytes s Text = refl
 kind_there bytes s (Mark m) = refl
 
-no_tokens : (q : Placed Span) (qs : Tokens) → (let none : Tokens = [] in none ≡ q ∷ qs) → ⊥
+pub no_tokens : (q : Placed Span) (qs : Tokens) → (let none : Tokens = [] in none ≡ q ∷ qs) → ⊥
 no_tokens q qs e = cc
 
 ends_in : (bytes : List ℕ) (items : List Item) (at : ℕ) (inside : List ℕ) (k : TokenKind) (q : Placed Span) (qs : Tokens) → Tiled anywhere at inside items
@@ -79,7 +80,8 @@ ends_in bytes (i ∷ []) at inside k q qs tiled placed last ends = by_kind i.kin
         one (r ∷ rs) same h = absurd (no_tokens r rs (tail_same _ _ _ _ same))
     by_kind Blank e = absurd (no_tokens q qs (sym (placed_blank bytes i [] e) ∙ placed))
     by_kind Comment e = absurd (no_tokens q qs (sym (placed_comment bytes i [] e) ∙ placed))
-ends_in bytes (i ∷ j ∷ is) at inside k q qs tiled placed last ends = by_kind i.kind refl
+ends_in bytes (i ∷ j ∷ is) at inside k q qs tiled placed last ends =
+    by_kind i.kind refl (λ p ps same to h. ends_in bytes (j ∷ is) (at + length tiled.0) tiled.1 k p ps tiled.4 same to h)
   where
     f : List ℕ
     f = tiled.0
@@ -91,33 +93,75 @@ ends_in bytes (i ∷ j ∷ is) at inside k q qs tiled placed last ends = by_kind
     total = ap length tiled.2 ∙ length-append f r
 
     Again : Type 0
-    Again = (p : Placed Span) (ps : Tokens) → placed_of bytes (j ∷ is) ≡ p ∷ ps → last_to (p ∷ ps) ≡ at + length inside → EndsWith k (p ∷ ps) → EndsIn k (j ∷ is)
+    Again = (p : Placed Span) (ps : Tokens) → placed_of bytes (j ∷ is) ≡ p ∷ ps → last_to (p ∷ ps) ≡ at + length tiled.0 + length tiled.1 → EndsWith k (p ∷ ps) → EndsIn k (j ∷ is)
 
-    again : Again
-    again p ps same to h = ends_in bytes (j ∷ is) (at + length f) r k p ps tiled.4 same (omega (arith, to, total)) h
+    some_bytes : (bs : List ℕ) → (chars bs ≡ [] → ⊥) → bs ≡ [] → ⊥
+    some_bytes bs h e = h (ap chars e ∙ chars-nil)
 
-    by_kind : (of : ItemKind) → i.kind ≡ of → EndsIn k (j ∷ is)
-    by_kind Blank e = again q qs (sym (placed_blank bytes i (j ∷ is) e) ∙ placed) last ends
-    by_kind Comment e = again q qs (sym (placed_comment bytes i (j ∷ is) e) ∙ placed) last ends
-    by_kind (TokenItem of) e = some qs (sym (placed_token bytes i (j ∷ is) of e) ∙ placed) last ends
+    short : (r a b : List ℕ) → r ≡ a ++ b → (a ≡ [] → ⊥) → length r ≡ 0 → ⊥
+    short r [] b e h l = h refl
+    short r (x ∷ a) b e h l = omega (arith, ap length e, l)
+
+    some : Again → (of : TokenKind) (rs : Tokens) → placed_at bytes i of ∷ placed_of bytes (j ∷ is) ≡ q ∷ rs → last_to (q ∷ rs) ≡ at + length inside → EndsWith k (q ∷ rs) → EndsIn k (j ∷ is)
+    some again of (p ∷ rs) same to h = again p rs (tail_same _ _ _ _ same) (omega (arith, to, total)) h
+    some again of [] same to h =
+        let here : q.mark.to ≡ at + length f = sym (ap (λ (x : Placed Span). x.mark.to) (head_same _ _ _ _ same)) ∙ ap (λ (s : Span). s.to) tiled.3.place in
+        absurd (short r tiled.4.0 tiled.4.1 tiled.4.2 (some_bytes tiled.4.0 (some_lexeme tiled.4.3)) (omega (arith, here, to, total)))
+
+    by_kind : (of : ItemKind) → i.kind ≡ of → Again → EndsIn k (j ∷ is)
+    by_kind Blank e again = again q qs (sym (placed_blank bytes i (j ∷ is) e) ∙ placed) (omega (arith, last, total)) ends
+    by_kind Comment e again = again q qs (sym (placed_comment bytes i (j ∷ is) e) ∙ placed) (omega (arith, last, total)) ends
+    by_kind (TokenItem of) e again = some again of qs (sym (placed_token bytes i (j ∷ is) of e) ∙ placed) last ends
+
+-- ---- the first item of a run
+
+-- tokens begin where the text does, or behind it
+pub not_before : (bytes : List ℕ) (items : List Item) (at : ℕ) (inside : List ℕ) (q : Placed Span) (qs : Tokens) → Tiled anywhere at inside items → placed_of bytes items ≡ q ∷ qs → at ≤ q.mark.from
+not_before bytes [] at inside q qs tiled placed = absurd (no_tokens q qs placed)
+not_before bytes (i ∷ is) at inside q qs tiled placed = by_kind i.kind refl (λ same. not_before bytes is (at + length tiled.0) tiled.1 q qs tiled.4 same)
+  where
+    Again : Type 0
+    Again = placed_of bytes is ≡ q ∷ qs → at + length tiled.0 ≤ q.mark.from
+
+    by_kind : (of : ItemKind) → i.kind ≡ of → Again → at ≤ q.mark.from
+    by_kind (TokenItem of) e again =
+        let same : placed_at bytes i of ≡ q = head_same _ _ _ _ (sym (placed_token bytes i is of e) ∙ placed) in
+        let here : q.mark.from ≡ at = sym (ap (λ (x : Placed Span). x.mark.from) same) ∙ ap (λ (s : Span). s.from) tiled.3.place in
+        omega (arith, here)
+    by_kind Blank e again = omega (arith, again (sym (placed_blank bytes i is e) ∙ placed))
+    by_kind Comment e again = omega (arith, again (sym (placed_comment bytes i is e) ∙ placed))
+
+-- where a token may stand directly in front of the first of a run, it ends there
+begins_with : (bytes : List ℕ) (items : List Item) (at : ℕ) (inside new : List ℕ) (q : Placed Span) (qs : Tokens) → Tiled anywhere at inside items → placed_of bytes items ≡ q ∷ qs → q.mark.from ≡ at
+    → (k : TokenKind) → token_beside k (kind_of q.token) ≡ true → EndsBefore (TokenItem k) (chars (inside ++ new))
+begins_with bytes [] at inside new q qs tiled placed from k h = absurd (no_tokens q qs placed)
+begins_with bytes (i ∷ is) at inside new q qs tiled placed from k h = by_kind i.kind refl
+  where
+    far : length tiled.0 ≡ 0 → ⊥
+    far none = some_lexeme tiled.3 (empty tiled.0 none)
       where
-        some : (rs : Tokens) → placed_at bytes i of ∷ placed_of bytes (j ∷ is) ≡ q ∷ rs → last_to (q ∷ rs) ≡ at + length inside → EndsWith k (q ∷ rs) → EndsIn k (j ∷ is)
-        some (p ∷ rs) same to h = again p rs (tail_same _ _ _ _ same) to h
-        some [] same to h =
-            let here : q.mark.to ≡ at + length f = sym (ap (λ (x : Placed Span). x.mark.to) (head_same _ _ _ _ same)) ∙ ap (λ (s : Span). s.to) tiled.3.place in
-            absurd (short r tiled.4.0 tiled.4.1 tiled.4.2 (some_bytes tiled.4.0 (some_lexeme tiled.4.3)) (omega (arith, here, to, total)))
-          where
-            some_bytes : (bs : List ℕ) → (chars bs ≡ [] → ⊥) → bs ≡ [] → ⊥
-            some_bytes bs h e = h (ap chars e ∙ chars-nil)
+        empty : (bs : List ℕ) → length bs ≡ 0 → chars bs ≡ []
+        empty [] l = chars-nil
+        empty (b ∷ bs) l = absurd (omega (arith, l))
 
-            short : (r a b : List ℕ) → r ≡ a ++ b → (a ≡ [] → ⊥) → length r ≡ 0 → ⊥
-            short r [] b e h l = h refl
-            short r (x ∷ a) b e h l = omega (arith, ap length e, l)
+    behind : placed_of bytes is ≡ q ∷ qs → ⊥
+    behind same = far (omega (arith, from, not_before bytes is (at + length tiled.0) tiled.1 q qs tiled.4 same))
+
+    by_kind : (of : ItemKind) → i.kind ≡ of → EndsBefore (TokenItem k) (chars (inside ++ new))
+    by_kind (TokenItem of) e =
+        let same : placed_at bytes i of ≡ q = head_same _ _ _ _ (sym (placed_token bytes i is of e) ∙ placed) in
+        let is_of : kind_of q.token ≡ of = sym (ap (λ (x : Placed Span). kind_of x.token) same) ∙ kind_there bytes i.span of in
+        let lexeme : IsLexeme (TokenItem of) (chars tiled.0) = subst (λ x. IsLexeme x (chars tiled.0)) e tiled.3.cut.taken.lexeme in
+        let text : chars (inside ++ new) ≡ chars tiled.0 ++ chars (tiled.1 ++ new) =
+        ap chars (ap (λ b. b ++ new) tiled.2 ∙ append_assoc tiled.0 tiled.1 new) ∙ chars-append tiled.0 (tiled.1 ++ new) tiled.3.is_text in
+        subst (EndsBefore (TokenItem k)) (sym text) (lets_end (TokenItem k) (TokenItem of) (chars tiled.0) (chars (tiled.1 ++ new)) (ap (token_beside k) (sym is_of) ∙ h) lexeme)
+    by_kind Blank e = absurd (behind (sym (placed_blank bytes i is e) ∙ placed))
+    by_kind Comment e = absurd (behind (sym (placed_comment bytes i is e) ∙ placed))
 
 -- ---- the run
 
 pub runs_move : RunsMove
-runs_move bytes p run cs ts k new us stands ends s g before =
+runs_move bytes p run cs ts k new us stands ends no_dot s g before =
     let pre : List ℕ = stands.pre in
     let a : RunAlone anywhere pre stands.post (p ∷ run) = run_alone anywhere bytes stands.items pre stands.post p run stands.more stands.whole stands.tiled stands.placed in
     let old : List ℕ = a.inside in
@@ -128,7 +172,7 @@ runs_move bytes p run cs ts k new us stands ends s g before =
     let last_item : EndsIn k a.items = ends_in short a.items (length pre) old k p run a.tiled a.placed last ends in
     let others : List Item = items_from (length pre + length old) g.pieces in
     let new_tiled : Tiled anywhere (length pre + length old) new others = subst (λ b. Tiled anywhere (length pre + length old) b others) g.text_is (pieces_tiled g.pieces g.cut (length pre + length old)) in
-    let tiled : Tiled anywhere (length pre) (old ++ new) (a.items ++ others) = tiled_before (length pre) old a.items k new others a.tiled last_item before new_tiled in
+    let tiled : Tiled anywhere (length pre) (old ++ new) (a.items ++ others) = tiled_before (length pre) old a.items k new others a.tiled last_item no_dot before new_tiled in
     let long : List ℕ = pre ++ (old ++ new) in
     let more : Tokens = placed_of long others in
     let grouped : short ++ new ≡ long = append_assoc pre old new in
@@ -153,10 +197,8 @@ runs_move bytes p run cs ts k new us stands ends s g before =
     ∙ w.text_is in
     let glued : Glued (join_pieces w.pieces) (ts ++ us) = subst (Glued (join_pieces w.pieces)) (λ i. s.news_are i ++ others_are i) (woven_glued w) in
     record {
-      front = pre;
-      inside = old;
-      is = is;
-      stands = sym stands.from;
+      old = chars (old ++ new);
       glued = subst (λ t. Glued t (ts ++ us)) (sym text) glued;
       yields = subst (λ t. YieldsAt anywhere p.mark.from (chars (old ++ new)) (chars t)) (sym text) (subst (λ n. YieldsAt anywhere n (chars (old ++ new)) (chars (join_pieces w.pieces))) (sym stands.from) w.yields);
+      begins = begins_with short a.items (length pre) old new p run a.tiled a.placed stands.from;
     }

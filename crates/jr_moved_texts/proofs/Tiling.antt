@@ -1,9 +1,9 @@
 -- Lexemes as items with their bytes; a run of items in front of another text; tokens that stay.
-use Rattle.std.proofs.Common.{◌≡◌, ℕ, ◌+◌, ◌==◌, false, true, List, [], ◌∷◌, ◌++◌, length, map, Option, Some, None, refl, sym, ap, ◌∙◌, subst, arith}
+use Rattle.std.proofs.Common.{◌≡◌, ◌≢◌, ℕ, ◌+◌, ◌==◌, false, true, List, [], ◌∷◌, ◌++◌, length, map, Option, Some, None, refl, sym, ap, ◌∙◌, subst, arith}
 use Rattle.std.specs.Str.{IsUtf8, chars}
-use Rattle.std.proofs.lemmas.Bool.{both_ways, false≢true, or_parts}
+use Rattle.std.proofs.lemmas.Bool.{both_ways, false≢true}
 use Rattle.std.proofs.lemmas.List.{append_assoc, append-nil, length-append}
-use Rattle.std.proofs.lemmas.Str.{chars-append, chars-nil}
+use Rattle.std.proofs.lemmas.Str.{chars-append}
 use Rattle.jr_text.specs.declared.spans.Span.{Span}
 use Rattle.jr_lex.specs.declared.items.Item.{Item}
 use Rattle.jr_lex.specs.declared.items.ItemKind.{ItemKind}
@@ -12,18 +12,18 @@ use Rattle.jr_lex.specs.declared.items.TokenKind.{TokenKind}
 use Rattle.jr_lex.specs.declared.items.TokenKind.TheVariants.{Word, Keyword, Int, Text, Mark}
 use Rattle.jr_lex.specs.declared.items.Symbol.{Symbol}
 use Rattle.jr_lex.specs.declared.items.Symbol.TheVariants as symbol
-use Rattle.jr_lex.specs.Characters.{is_digit, is_word_start, first_passes}
+use Rattle.jr_lex.specs.Characters.{is_word_start, first_passes}
 use Rattle.jr_lex.specs.Words.{IsWord as IsWordText}
 use Rattle.jr_lex.specs.Symbols.{symbol_text}
 use Rattle.jr_lex.specs.Lexemes.{IsLexeme}
 use Rattle.jr_lex.specs.Lexes.{span_of as between}
 use Rattle.jr_lex.specs.Replacing.{item_of}
-use Rattle.jr_lex.specs.Beside.{Piece, join_pieces, items_from, EndsBefore, goes_on}
-use Rattle.jr_lex.specs.Near.{IsCut, NoNewDot}
+use Rattle.jr_lex.specs.Beside.{Piece, join_pieces, items_from}
+use Rattle.jr_lex.specs.Near.{IsCut}
 use Rattle.jr_lex.proofs.ScanMeaning.{no_empty}
 use Rattle.jr_lex.proofs.FirstLaws.{other-start}
 use Rattle.jr_lex.proofs.WordLaws.{keyword-IsWord}
-use Rattle.jr_lex.proofs.OneLexeme.{lexeme_cut, cut_near}
+use Rattle.jr_lex.proofs.OneLexeme.{cut_near}
 use Rattle.jr_lex.proofs.Yields.{near_run, same_line}
 use Rattle.jr_grammar.specs.Tokens.{Token, Placed, token_of, placed_of, with_placed, kinds}
 use Rattle.jr_grammar.specs.Stands.{Tokens, last_to}
@@ -35,7 +35,7 @@ use Rattle.jr_rewrite.proofs.Tiles.{tiled_text}
 use Rattle.jr_rewrite.proofs.Skipping.{tiled_further}
 use Rattle.jr_rewrite.proofs.Steps.{Step, stay, cast, swap, close, weave, olds, changes, news, Flow}
 use Rattle.jr_rewrite.proofs.Woven.{rest_woven, steps_weave}
-use Rattle.jr_moved_texts.specs.Moved.{anywhere, nowhere_weaves}
+use Rattle.jr_moved_texts.specs.Moved.{anywhere, nowhere_weaves, EndsThere}
 
 stands_anywhere : (at : ℕ) (k : ItemKind) → MayFront anywhere at k
 stands_anywhere at (TokenItem k) = tt
@@ -63,48 +63,41 @@ EndsIn k (i ∷ []) = i.kind ≡ TokenItem k
 EndsIn k (i ∷ j ∷ is) = EndsIn k (j ∷ is)
 
 -- a lexeme of one dot is that symbol
-dot_token : (k : TokenKind) (other : List ℕ) → IsLexeme (TokenItem k) (46 ∷ []) → EndsBefore (TokenItem k) other → first_passes (λ c. c == 46) other ≡ false
-dot_token Word other h ends = absurd (both_ways (is_word_start 46) (other-start 46 refl) h.is_word.0)
-dot_token (Keyword k) other h ends = absurd (both_ways (is_word_start 46) (other-start 46 refl) (subst IsWordText (sym h) (keyword-IsWord k)).0)
-dot_token (Int n) other h ends = absurd (false≢true h.0)
-dot_token Text other h ends = absurd (quote h.content h.quotes)
+dot_token : (k : TokenKind) → IsLexeme (TokenItem k) (46 ∷ []) → k ≡ Mark symbol.Dot
+dot_token Word h = absurd (both_ways (is_word_start 46) (other-start 46 refl) h.is_word.0)
+dot_token (Keyword k) h = absurd (both_ways (is_word_start 46) (other-start 46 refl) (subst IsWordText (sym h) (keyword-IsWord k)).0)
+dot_token (Int n) h = absurd (false≢true h.0)
+dot_token Text h = absurd (quote h.content h.quotes)
   where
     quote : (content : List ℕ) → 46 ∷ [] ≡ 34 ∷ (content ++ 34 ∷ []) → ⊥
     quote content e = cc
-dot_token (Mark s) other h ends = by_symbol s h other ends
+dot_token (Mark s) h = by_symbol s h
   where
-    by_symbol : (s : Symbol) → 46 ∷ [] ≡ symbol_text s → (other : List ℕ) → first_passes (goes_on s) other ≡ false → first_passes (λ c. c == 46) other ≡ false
-    by_symbol symbol.Dot e [] h = refl
-    by_symbol symbol.Dot e (c ∷ cs) h = (or_parts (is_digit c) (c == 46) h).1
-    by_symbol symbol.Ellipsis e other h = absurd (omega (arith, ap length e))
-    by_symbol symbol.OpenParen e other h = absurd (false≢true (sym (ap (first_passes (λ c. c == 46)) e)))
-    by_symbol _ e other h = absurd (false≢true (sym (ap (first_passes (λ c. c == 46)) e)))
-
-no_text : (f r : List ℕ) → IsUtf8 f → (chars f ≡ [] → ⊥) → f ++ r ≡ [] → ⊥
-no_text [] r u some e = some chars-nil
-no_text (c ∷ f) r u some e = cc
+    by_symbol : (s : Symbol) → 46 ∷ [] ≡ symbol_text s → Mark s ≡ Mark symbol.Dot
+    by_symbol symbol.Dot e = refl
+    by_symbol symbol.Ellipsis e = absurd (omega (arith, ap length e))
+    by_symbol symbol.OpenParen e = absurd (false≢true (sym (ap (first_passes (λ c. c == 46)) e)))
+    by_symbol _ e = absurd (false≢true (sym (ap (first_passes (λ c. c == 46)) e)))
 
 pub some_lexeme : {at : ℕ} {i : Item} {f r : List ℕ} → IsTile anywhere at i f r → chars f ≡ [] → ⊥
 some_lexeme {i = i} t none = no_empty i.kind (subst (IsLexeme i.kind) none t.cut.taken.lexeme)
 
--- where the characters that are left are one dot, a dot isn't what comes
-no_dot_left : (at : ℕ) (bytes : List ℕ) (items : List Item) (k : TokenKind) (other : List ℕ) → Tiled anywhere at bytes items → EndsIn k items → EndsBefore (TokenItem k) other → chars bytes ≡ 46 ∷ [] → first_passes (λ c. c == 46) other ≡ false
-no_dot_left at bytes [] k other tiled last ends e = absurd last
-no_dot_left at bytes (i ∷ []) k other tiled last ends e =
-    let whole : chars bytes ≡ chars tiled.0 = ap chars (tiled.2 ∙ ap (λ r. tiled.0 ++ r) tiled.4 ∙ append-nil tiled.0) in
-    dot_token k other (subst (λ c. IsLexeme (TokenItem k) c) (sym whole ∙ e) (subst (λ x. IsLexeme x (chars tiled.0)) last tiled.3.cut.taken.lexeme)) ends
-no_dot_left at bytes (i ∷ j ∷ is) k other tiled last ends e =
-    absurd (two (chars tiled.0) (chars tiled.1) (some_lexeme tiled.3) more (sym (ap chars tiled.2 ∙ chars-append tiled.0 tiled.1 tiled.3.is_text) ∙ e))
-  where
-    more : chars tiled.1 ≡ [] → ⊥
-    more none =
-        let rest = tiled.4 in
-        front_some (chars rest.0) (chars rest.1) (some_lexeme rest.3) (sym (ap chars rest.2 ∙ chars-append rest.0 rest.1 rest.3.is_text) ∙ none)
-      where
-        front_some : (a b : List ℕ) → (a ≡ [] → ⊥) → a ++ b ≡ [] → ⊥
-        front_some [] b h e = h refl
-        front_some (c ∷ a) b h e = cc
+front_some : (a b : List ℕ) → (a ≡ [] → ⊥) → a ++ b ≡ [] → ⊥
+front_some [] b h e = h refl
+front_some (c ∷ a) b h e = cc
 
+some_left : (at : ℕ) (bs : List ℕ) (j : Item) (js : List Item) → Tiled anywhere at bs (j ∷ js) → chars bs ≡ [] → ⊥
+some_left at bs j js t none = front_some (chars t.0) (chars t.1) (some_lexeme t.3) (sym (ap chars t.2 ∙ chars-append t.0 t.1 t.3.is_text) ∙ none)
+
+-- the characters that are left aren't one dot
+no_dot_left : (at : ℕ) (bytes : List ℕ) (items : List Item) (k : TokenKind) → Tiled anywhere at bytes items → EndsIn k items → k ≢ Mark symbol.Dot → chars bytes ≡ 46 ∷ [] → ⊥
+no_dot_left at bytes [] k tiled last no_dot e = last
+no_dot_left at bytes (i ∷ []) k tiled last no_dot e =
+    let whole : chars bytes ≡ chars tiled.0 = ap chars (tiled.2 ∙ ap (λ r. tiled.0 ++ r) tiled.4 ∙ append-nil tiled.0) in
+    no_dot (dot_token k (subst (IsLexeme (TokenItem k)) (sym whole ∙ e) (subst (λ x. IsLexeme x (chars tiled.0)) last tiled.3.cut.taken.lexeme)))
+no_dot_left at bytes (i ∷ j ∷ is) k tiled last no_dot e =
+    two (chars tiled.0) (chars tiled.1) (some_lexeme tiled.3) (some_left (at + length tiled.0) tiled.1 j is tiled.4) (sym (ap chars tiled.2 ∙ chars-append tiled.0 tiled.1 tiled.3.is_text) ∙ e)
+  where
     two : (a b : List ℕ) → (a ≡ [] → ⊥) → (b ≡ [] → ⊥) → a ++ b ≡ 46 ∷ [] → ⊥
     two [] b h g e = h refl
     two (n ∷ []) [] h g e = g refl
@@ -113,31 +106,32 @@ no_dot_left at bytes (i ∷ j ∷ is) k other tiled last ends e =
 
 -- ---- items in front of another text
 
-pub tiled_before : (at : ℕ) (bytes : List ℕ) (items : List Item) (k : TokenKind) (new : List ℕ) (others : List Item) → Tiled anywhere at bytes items → EndsIn k items → EndsBefore (TokenItem k) (chars new)
+pub tiled_before : (at : ℕ) (bytes : List ℕ) (items : List Item) (k : TokenKind) (new : List ℕ) (others : List Item) → Tiled anywhere at bytes items → EndsIn k items → k ≢ Mark symbol.Dot → EndsThere k (chars new)
     → Tiled anywhere (at + length bytes) new others → Tiled anywhere at (bytes ++ new) (items ++ others)
-tiled_before at bytes [] k new others tiled last ends more = absurd last
-tiled_before at bytes (i ∷ []) k new others tiled last ends more =
-    let whole : bytes ≡ tiled.0 = tiled.2 ∙ ap (λ r. tiled.0 ++ r) tiled.4 ∙ append-nil tiled.0 in (
+tiled_before at bytes [] k new others tiled last no_dot ends more = absurd last
+tiled_before at bytes (i ∷ []) k new others tiled last no_dot ends more =
+    let whole : bytes ≡ tiled.0 = tiled.2 ∙ ap (λ r. tiled.0 ++ r) tiled.4 ∙ append-nil tiled.0 in
+    let lexeme : IsLexeme (TokenItem k) (chars tiled.0) = subst (λ x. IsLexeme x (chars tiled.0)) last tiled.3.cut.taken.lexeme in (
       tiled.0,
       new,
       ap (λ b. b ++ new) whole,
       record {
         place = tiled.3.place;
         is_text = tiled.3.is_text;
-        cut = lexeme_cut i.kind (chars tiled.0) (chars new) tiled.3.cut.taken.lexeme (subst (λ x. EndsBefore x (chars new)) (sym last) ends);
+        cut = subst (λ x. IsCut x (chars tiled.0) (chars new)) (sym last) (ends (chars tiled.0) lexeme);
         fronts = tiled.3.fronts;
       },
       subst (λ b. Tiled anywhere (at + length b) new others) whole more,
     )
-tiled_before at bytes (i ∷ j ∷ is) k new others tiled last ends more =
+tiled_before at bytes (i ∷ j ∷ is) k new others tiled last no_dot ends more =
     let f : List ℕ = tiled.0 in
     let r : List ℕ = tiled.1 in
     let long : at + length bytes ≡ at + length f + length r = omega (arith, ap length tiled.2, length-append f r) in
-    let behind = tiled_before (at + length f) r (j ∷ is) k new others tiled.4 last ends (subst (λ n. Tiled anywhere n new others) long more) in
+    let behind = tiled_before (at + length f) r (j ∷ is) k new others tiled.4 last no_dot ends (subst (λ n. Tiled anywhere n new others) long more) in
     let some : chars r ≡ [] → ⊥ = some_left (at + length f) r j is tiled.4 in
-    let text : chars (r ++ new) ≡ chars r ++ chars new = chars-append r new (left_text (at + length f) r (j ∷ is) tiled.4) in
+    let text : chars (r ++ new) ≡ chars r ++ chars new = chars-append r new (tiled_text anywhere (at + length f) r (j ∷ is) tiled.4) in
     let cut : IsCut i.kind (chars f) (chars r ++ []) = subst (IsCut i.kind (chars f)) (sym (append-nil (chars r))) tiled.3.cut in
-    let near = near_run (chars r) [] (chars new) some (λ dot e. absurd (both_ways (first_passes (λ c. c == 46) (chars new)) (no_dot_left (at + length f) r (j ∷ is) k (chars new) tiled.4 last ends dot) e)) in (
+    let near = near_run (chars r) [] (chars new) some (λ dot. absurd (no_dot_left (at + length f) r (j ∷ is) k tiled.4 last no_dot dot)) in (
       f,
       r ++ new,
       ap (λ b. b ++ new) tiled.2 ∙ append_assoc f r new,
@@ -149,16 +143,6 @@ tiled_before at bytes (i ∷ j ∷ is) k new others tiled last ends more =
       },
       behind,
     )
-  where
-    left_text : (at : ℕ) (bs : List ℕ) (xs : List Item) → Tiled anywhere at bs xs → IsUtf8 bs
-    left_text at bs xs t = tiled_text anywhere at bs xs t
-
-    some_left : (at : ℕ) (bs : List ℕ) (j : Item) (js : List Item) → Tiled anywhere at bs (j ∷ js) → chars bs ≡ [] → ⊥
-    some_left at bs j js t none = front_some (chars t.0) (chars t.1) (some_lexeme t.3) (sym (ap chars t.2 ∙ chars-append t.0 t.1 t.3.is_text) ∙ none)
-      where
-        front_some : (a b : List ℕ) → (a ≡ [] → ⊥) → a ++ b ≡ [] → ⊥
-        front_some [] b h e = h refl
-        front_some (c ∷ a) b h e = cc
 
 -- ---- tokens of items
 
@@ -210,7 +194,7 @@ pieces_kinds (p ∷ ps) pre =
 
 -- ---- what stays
 
-stays : Tokens → List Step
+abbrev stays : Tokens → List Step
 stays [] = []
 stays (p ∷ ps) = stay p ∷ stays ps
 
